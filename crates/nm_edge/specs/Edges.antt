@@ -1,0 +1,34 @@
+-- Edges and sides.
+use Rattle.std.specs.Prelude.{◌≡◌, ℕ, ◌==◌, Bool, true, false, ◌&&◌, not}
+use Rattle.nm_edge.specs.declared.edge.Side.{Side}
+use Rattle.nm_edge.specs.declared.edge.Side.TheVariants.{Left, Right}
+
+-- an edge: the slot that it leads to, 0 for none, and its two marks
+pub record Edge : Type 0 where
+  pub slot : ℕ
+  pub flag : Bool
+  pub tag : Bool
+
+-- a null edge has no mark
+pub record IsEdge (e : Edge) : Type 0 where
+  pub flag : e.slot ≡ 0 → e.flag ≡ false
+  pub tag : e.slot ≡ 0 → e.tag ≡ false
+
+-- the unmarked edge to a slot
+abbrev pub to : ℕ → Edge
+to s = record { slot = s; flag = false; tag = false }
+
+-- it leads to that slot and has no mark
+abbrev pub is_to : Edge → ℕ → Bool
+is_to e s = (e.slot == s) && (not e.flag && not e.tag)
+
+-- with its tag; a null edge is never marked
+abbrev pub tagged : Edge → Edge
+tagged e = record { slot = e.slot; flag = e.flag; tag = not (e.slot == 0) }
+
+abbrev pub untagged : Edge → Edge
+untagged e = record { slot = e.slot; flag = e.flag; tag = false }
+
+abbrev pub other : Side → Side
+other Left = Right
+other Right = Left
