@@ -1,0 +1,10 @@
+pub mod Maps
+pub mod Memory
+pub mod Ledgers
+pub mod Knowledge
+pub mod Learning
+pub mod Step
+pub mod Runs
+pub mod Paths
+pub mod Reports
+pub mod Schedules

@@ -1,0 +1,79 @@
+-- A whole run, as it is told: each outcome, and at the end each worker's ledger, the epoch and how many slots above 5 stand where.
+use Rattle.std.specs.Prelude.{ℕ, zero, suc, ◌+◌, ◌-◌, ◌==◌, Bool, true, false, List, [], ◌∷◌, ◌++◌, map, length, filter, sum_by, Option, Some, None, if◌then◌else◌, is_some, Result}
+use Rattle.std.specs.List.{range_with_len}
+use Rattle.nm_edge.specs.Layouts.{Layout}
+use Rattle.nm_edge.specs.declared.edge.Side.TheVariants.{Left, Right}
+use Rattle.nm_core.specs.declared.event.Event.{Event}
+use Rattle.nm_core.specs.declared.reply.Reply.{Reply}
+use Rattle.nm_core.specs.declared.reply.Refused.{Refused}
+use Rattle.nm_core.specs.declared.ledger.Ledger.{Ledger}
+use Rattle.nm_core.specs.Maps.{or_else}
+use Rattle.nm_core.specs.Memory.{Memory, child}
+use Rattle.nm_core.specs.Ledgers.{held, queue_of}
+use Rattle.nm_core.specs.Knowledge.{Knowledge}
+use Rattle.nm_core.specs.Runs.{State, start, after, outcomes}
+
+-- ---- ledgers by origin
+
+-- the first of these workers, numbered from w on, that holds the ledger of an origin
+abbrev pub holder_from : ℕ → List Knowledge → ℕ → Option ℕ
+holder_from w [] origin = None
+holder_from w (k ∷ ks) origin = if is_some (held k.ledgers origin) then Some w else holder_from (w + 1) ks origin
+
+abbrev pub holder : State → ℕ → Option ℕ
+holder s origin = holder_from 0 s.workers origin
+
+-- the ledger of an origin, whoever of these holds it
+abbrev pub ledger_among : List Knowledge → ℕ → Option Ledger
+ledger_among [] origin = None
+ledger_among (k ∷ ks) origin = or_else (held k.ledgers origin) (ledger_among ks origin)
+
+abbrev pub ledger_of : State → ℕ → Option Ledger
+ledger_of s origin = ledger_among s.workers origin
+
+-- ---- counts
+
+-- the slots of the tree below a slot, that slot first, at most fuel deep
+abbrev pub tree_slots : ℕ → Memory → ℕ → List ℕ
+tree_slots zero m s = []
+tree_slots (suc fuel) m s = elim (s == 0) [ true ↦ [] | false ↦ s ∷ tree_slots fuel m (child m s Left) ++ tree_slots fuel m (child m s Right) ]
+
+abbrev pub is_free : Bool → Bool
+is_free b = b
+
+abbrev pub queued_in : Knowledge → ℕ
+queued_in k = sum_by (λ l. length (queue_of l)) k.ledgers
+
+-- how many slots above 5 are in the pool, private, reached and queued
+pub record Counts : Type 0 where
+  pub pool : ℕ
+  pub private : ℕ
+  pub reached : ℕ
+  pub queued : ℕ
+
+abbrev pub counts : State → Counts
+counts s = record {
+  pool = length (filter is_free s.memory.pool);
+  private = sum_by (λ k. length k.drafts) s.workers;
+  reached = length (tree_slots s.layout.nodes s.memory 1) - 5;
+  queued = sum_by queued_in s.workers;
+}
+
+-- ---- the report
+
+pub record Report : Type 0 where
+  pub outcomes : List (Result Reply Refused)
+  pub ledgers : List (Option Ledger)
+  pub epoch : ℕ
+  pub counts : Counts
+
+abbrev pub report_of : List (Result Reply Refused) → State → Report
+report_of os s = record {
+  outcomes = os;
+  ledgers = map (ledger_of s) (range_with_len 0 s.layout.workers);
+  epoch = s.memory.epoch;
+  counts = counts s;
+}
+
+unfoldable pub report : Layout → List (ℕ × Event) → Report
+report L ts = report_of (outcomes (start L) ts) (after (start L) ts)

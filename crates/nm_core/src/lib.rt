@@ -1,0 +1,33 @@
+//! The pure core: every word of the tree and what every worker knows as plain data, moved by one event at a time.
+#![tactic(auto)]
+
+mod event;
+mod knowledge;
+mod ledger;
+mod memory;
+mod reply;
+
+pub use event::{Event, Field};
+pub use knowledge::{Brief, Draft, Seen};
+pub use ledger::{Ledger, Ledgers, Nodes, Queue, Queued};
+pub use memory::Node;
+pub use reply::{Refused, Reply};
+
+ghost use Rattle.std.specs.Prelude.{◌≡◌, Some};
+ghost use Rattle.nm_core.specs.Schedules.{IsAsWorked};
+ghost use Rattle.nm_core.specs.Schedules as worked;
+
+/// The definitions, played on the worked schedules, say what the schedules say: each outcome, each ledger, the epoch and the counts.
+pub fn worked_schedules()
+    ensures held_back { IsAsWorked worked.held_back }
+    ensures two_scanners { IsAsWorked worked.two_scanners }
+    ensures stale_announcement { IsAsWorked worked.stale_announcement }
+    ensures lost_pin { IsAsWorked worked.lost_pin }
+    ensures words_and_places { IsAsWorked worked.words_and_places }
+    ensures long_chain { IsAsWorked worked.long_chain }
+    ensures both_flagged { IsAsWorked worked.both_flagged }
+    ensures helping { IsAsWorked worked.helping }
+    ensures order_and_age { IsAsWorked worked.order_and_age }
+    ensures refusals { IsAsWorked worked.refusals }
+    ensures joining { IsAsWorked worked.joining }
+{}
