@@ -1,5 +1,5 @@
 -- What one worker's splices cut off, by origin: what was freed of it, and what waits.
-use Rattle.std.specs.Prelude.{ℕ, ◌==◌, Bool, List, [], ◌∷◌, ◌++◌, map, if◌then◌else◌, slice_index_or, slice_set, Option, Some, None, is_some, is_none, option_map}
+use Rattle.std.specs.Prelude.{ℕ, ◌==◌, Bool, List, [], ◌∷◌, ◌++◌, map, drop, if◌then◌else◌, slice_index_or, slice_set, Option, Some, None, is_some, is_none, option_map}
 use Rattle.nm_edge.specs.declared.node.NodeId.{NodeId}
 use Rattle.nm_core.specs.declared.ledger.Queued.{Queued}
 use Rattle.nm_core.specs.declared.ledger.Ledger.{Ledger}
@@ -65,13 +65,9 @@ labelled e l = record { retired = l.retired; freed = l.freed; queue = map (with_
 abbrev pub label : ℕ → List (Option Ledger) → List (Option Ledger)
 label e ls = map (option_map (labelled e)) ls
 
-abbrev pub behind_front : List Queued → List Queued
-behind_front [] = []
-behind_front (e ∷ es) = es
-
 -- the node at the front is freed
 abbrev pub with_freed : NodeId → Ledger → Ledger
-with_freed n l = record { retired = l.retired; freed = l.freed ++ n ∷ []; queue = behind_front l.queue }
+with_freed n l = record { retired = l.retired; freed = l.freed ++ n ∷ []; queue = drop 1 l.queue }
 
 -- the node is freed by the first held queue whose front it is
 abbrev pub free : List (Option Ledger) → NodeId → List (Option Ledger)

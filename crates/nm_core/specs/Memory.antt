@@ -1,5 +1,5 @@
 -- The shared words, as what they mean.
-use Rattle.std.specs.Prelude.{ℕ, ◌-◌, ◌^◌, Bool, true, false, List, ◌∷◌, replicate, slice_index_or, slice_set, Option, None}
+use Rattle.std.specs.Prelude.{ℕ, ◌-◌, ◌^◌, ◌==◌, Bool, true, false, ◌&&◌, List, ◌∷◌, replicate, slice_index_or, slice_set, Option, None}
 use Rattle.nm_edge.specs.Edges.{Edge, to}
 use Rattle.nm_edge.specs.Layouts.{Layout}
 use Rattle.nm_edge.specs.declared.edge.Side.{Side}
@@ -35,6 +35,10 @@ edge m s side = edge_of (node m s) side
 abbrev pub child : Memory → ℕ → Side → ℕ
 child m s side = (edge m s side).slot
 
+-- a node is a leaf where both its edges are null
+abbrev pub is_leaf : Node → Bool
+is_leaf n = (n.left.slot == 0) && (n.right.slot == 0)
+
 -- what a worker announces: an epoch, or nothing while it is idle
 abbrev pub note : Memory → ℕ → Option ℕ
 note m w = slice_index_or m.notes w None
@@ -47,15 +51,6 @@ abbrev pub named : Memory → ℕ → NodeId
 named m s = record { slot = s; birth = (node m s).birth }
 
 -- ---- writing one word
-
-abbrev pub put_epoch : Memory → ℕ → Memory
-put_epoch m e = record m { epoch = e }
-
-abbrev pub put_note : Memory → ℕ → Option ℕ → Memory
-put_note m w n = record m { notes = slice_set m.notes w n }
-
-abbrev pub put_pool : Memory → ℕ → Bool → Memory
-put_pool m s b = record m { pool = slice_set m.pool s b }
 
 abbrev pub put_node : Memory → ℕ → Node → Memory
 put_node m s n = record m { nodes = slice_set m.nodes s n }

@@ -38,12 +38,6 @@ abbrev pub tree_slots : ℕ → Memory → ℕ → List ℕ
 tree_slots zero m s = []
 tree_slots (suc fuel) m s = elim (s == 0) [ true ↦ [] | false ↦ s ∷ tree_slots fuel m (child m s Left) ++ tree_slots fuel m (child m s Right) ]
 
-abbrev pub is_free : Bool → Bool
-is_free b = b
-
-abbrev pub queued_in : Knowledge → ℕ
-queued_in k = sum_by (λ l. length (queue_of l)) k.ledgers
-
 -- how many slots above 5 are in the pool, private, reached and queued
 pub record Counts : Type 0 where
   pub pool : ℕ
@@ -53,10 +47,10 @@ pub record Counts : Type 0 where
 
 abbrev pub counts : State → Counts
 counts s = record {
-  pool = length (filter is_free s.memory.pool);
+  pool = length (filter (λ free. free) s.memory.pool);
   private = sum_by (λ k. length k.drafts) s.workers;
   reached = length (tree_slots s.layout.nodes s.memory 1) - 5;
-  queued = sum_by queued_in s.workers;
+  queued = sum_by (λ k. sum_by (λ l. length (queue_of l)) k.ledgers) s.workers;
 }
 
 -- ---- the report

@@ -1,5 +1,5 @@
 -- One event of one worker: whether it is refused, what it answers, and what it writes.
-use Rattle.std.specs.Prelude.{ℕ, zero, suc, ◌+◌, ◌^◌, ◌==◌, nat_lt, nat_le, Bool, true, false, not, ◌&&◌, ◌||◌, List, [], ◌∷◌, map, if◌then◌else◌, Option, Some, None, is_some, is_none, unwrap_or}
+use Rattle.std.specs.Prelude.{ℕ, zero, suc, ◌+◌, ◌^◌, ◌==◌, nat_lt, nat_le, Bool, true, false, not, ◌&&◌, ◌||◌, List, [], ◌∷◌, map, slice_set, if◌then◌else◌, Option, Some, None, is_some, is_none, unwrap_or}
 use Rattle.std.specs.List.{list_all, enumerate_from}
 use Rattle.nm_edge.specs.Edges.{Edge, to, is_to, other, tagged, untagged}
 use Rattle.nm_edge.specs.Layouts.{Layout}
@@ -17,7 +17,7 @@ use Rattle.nm_core.specs.declared.memory.Node.{Node}
 use Rattle.nm_core.specs.declared.ledger.Queued.{Queued}
 use Rattle.nm_core.specs.declared.knowledge.Draft.{Draft}
 use Rattle.nm_core.specs.Maps.{is_number}
-use Rattle.nm_core.specs.Memory.{Memory, node, edge, edge_of, note, in_pool, named, put_epoch, put_note, put_pool, put_node, put_edge, with_edge}
+use Rattle.nm_core.specs.Memory.{Memory, node, edge, edge_of, note, in_pool, named, put_node, put_edge, with_edge}
 use Rattle.nm_core.specs.declared.ledger.Ledger.{Ledger}
 use Rattle.nm_core.specs.Ledgers.{front_of, entry_of}
 use Rattle.nm_core.specs.Knowledge.{Knowledge, knows, is_private, draft_of, read, is_flagged, is_tagged, knows_leaf, way, cut_by, beside}
@@ -210,12 +210,12 @@ kept (Some e) = untagged e
 
 unfoldable pub write : Memory → Knowledge → ℕ → Event → Memory
 write m k w Sight = m
-write m k w Announce = put_note m w (Some (unwrap_or k.now.seen 0))
-write m k w Leave = put_note m w None
+write m k w Announce = record m { notes = slice_set m.notes w (Some (unwrap_or k.now.seen 0)) }
+write m k w Leave = record m { notes = slice_set m.notes w None }
 write m k w (Scan u) = m
-write m k w Advance = if is_number k.now.seen m.epoch then put_epoch m (m.epoch + 1) else m
-write m k w (Claim s) = put_pool m s false
-write m k w (Give s) = put_pool m s true
+write m k w Advance = if is_number k.now.seen m.epoch then record m { epoch = m.epoch + 1 } else m
+write m k w (Claim s) = record m { pool = slice_set m.pool s false }
+write m k w (Give s) = record m { pool = slice_set m.pool s true }
 write m k w (Look s f) = m
 write m k w (Fill s f v) = put_node m s (filled (node m s) f v)
 write m k w (Link p side leaf new) = exchanged m p side leaf (to new)

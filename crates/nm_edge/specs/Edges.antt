@@ -1,5 +1,5 @@
 -- Edges and sides.
-use Rattle.std.specs.Prelude.{◌≡◌, ℕ, ◌==◌, Bool, true, false, ◌&&◌, not}
+use Rattle.std.specs.Prelude.{◌≡◌, ℕ, ◌+◌, ◌*◌, ◌==◌, Bool, true, false, ◌&&◌, not, if◌then◌else◌}
 use Rattle.nm_edge.specs.declared.edge.Side.{Side}
 use Rattle.nm_edge.specs.declared.edge.Side.TheVariants.{Left, Right}
 
@@ -13,6 +13,10 @@ pub record Edge : Type 0 where
 pub record IsEdge (e : Edge) : Type 0 where
   pub flag : e.slot ≡ 0 → e.flag ≡ false
   pub tag : e.slot ≡ 0 → e.tag ≡ false
+
+-- the word of an edge: four times its slot, 2 for its tag and 1 for its flag
+abbrev pub word_of : Edge → ℕ
+word_of e = 4 * e.slot + (if e.tag then 2 else 0) + (if e.flag then 1 else 0)
 
 -- the unmarked edge to a slot
 abbrev pub to : ℕ → Edge
