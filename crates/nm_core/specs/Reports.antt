@@ -1,17 +1,16 @@
--- A whole run, as it is told: each outcome, and at the end each worker's ledger, the epoch and how many slots above 5 stand where.
-use Rattle.std.specs.Prelude.{ℕ, zero, suc, ◌+◌, ◌-◌, ◌==◌, Bool, true, false, List, [], ◌∷◌, ◌++◌, map, length, filter, sum_by, Option, Some, None, if◌then◌else◌, is_some, Result}
+-- A whole run, as it is told: each event with its outcome, and at the end each worker's ledger, the epoch and how many slots above 5 stand where.
+use Rattle.std.specs.Prelude.{ℕ, zero, suc, ◌+◌, ◌-◌, ◌==◌, Bool, true, false, List, [], ◌∷◌, ◌++◌, map, length, filter, sum_by, Option, Some, None, if◌then◌else◌, is_some}
 use Rattle.std.specs.List.{range_with_len}
 use Rattle.nm_edge.specs.Layouts.{Layout}
 use Rattle.nm_edge.specs.declared.edge.Side.TheVariants.{Left, Right}
 use Rattle.nm_core.specs.declared.event.Event.{Event}
-use Rattle.nm_core.specs.declared.reply.Reply.{Reply}
-use Rattle.nm_core.specs.declared.reply.Refused.{Refused}
+use Rattle.nm_core.specs.declared.trace.Turn.{Turn}
 use Rattle.nm_core.specs.declared.ledger.Ledger.{Ledger}
 use Rattle.nm_core.specs.Maps.{or_else}
 use Rattle.nm_core.specs.Memory.{Memory, child}
 use Rattle.nm_core.specs.Ledgers.{held, queue_of}
 use Rattle.nm_core.specs.Knowledge.{Knowledge}
-use Rattle.nm_core.specs.Runs.{State, start, after, outcomes}
+use Rattle.nm_core.specs.Runs.{State, start, after, trace}
 
 -- ---- ledgers by origin
 
@@ -56,18 +55,18 @@ counts s = record {
 -- ---- the report
 
 pub record Report : Type 0 where
-  pub outcomes : List (Result Reply Refused)
+  pub trace : List Turn
   pub ledgers : List (Option Ledger)
   pub epoch : ℕ
   pub counts : Counts
 
-abbrev pub report_of : List (Result Reply Refused) → State → Report
-report_of os s = record {
-  outcomes = os;
+abbrev pub report_of : List Turn → State → Report
+report_of turns s = record {
+  trace = turns;
   ledgers = map (ledger_of s) (range_with_len 0 s.layout.workers);
   epoch = s.memory.epoch;
   counts = counts s;
 }
 
 unfoldable pub report : Layout → List (ℕ × Event) → Report
-report L ts = report_of (outcomes (start L) ts) (after (start L) ts)
+report L ts = report_of (trace (start L) ts) (after (start L) ts)

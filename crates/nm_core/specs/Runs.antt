@@ -8,6 +8,7 @@ use Rattle.nm_core.specs.declared.reply.Reply.{Reply}
 use Rattle.nm_core.specs.declared.reply.Reply.TheVariants.{Joined}
 use Rattle.nm_core.specs.declared.reply.Refused.{Refused}
 use Rattle.nm_core.specs.declared.reply.Refused.TheVariants.{NoWorker, NotReady}
+use Rattle.nm_core.specs.declared.trace.Turn.{Turn}
 use Rattle.nm_core.specs.Memory.{Memory, opening}
 use Rattle.nm_core.specs.Knowledge.{Knowledge, newcomer}
 use Rattle.nm_core.specs.Learning.{learn}
@@ -84,9 +85,10 @@ unfoldable pub after : State → List (ℕ × Event) → State
 after s [] = s
 after s (t ∷ ts) = after (next s t) ts
 
-unfoldable pub outcomes : State → List (ℕ × Event) → List (Result Reply Refused)
-outcomes s [] = []
-outcomes s (t ∷ ts) = outcome s t ∷ outcomes (next s t) ts
+-- each event with its outcome
+unfoldable pub trace : State → List (ℕ × Event) → List Turn
+trace s [] = []
+trace s (t ∷ ts) = record { worker = t.0; event = t.1; outcome = outcome s t } ∷ trace (next s t) ts
 
 -- a state to which some events lead from the opening of some layout
 pub record IsReachable (s : State) : Type 0 where

@@ -6,12 +6,14 @@ mod knowledge;
 mod ledger;
 mod memory;
 mod reply;
+mod trace;
 
 pub use event::{Event, Field};
 pub use knowledge::{Brief, Draft, Seen};
 pub use ledger::{Ledger, Ledgers, Nodes, Queue, Queued};
 pub use memory::Node;
 pub use reply::{Refused, Reply};
+pub use trace::{RunError, Trace, Turn};
 
 ghost use Rattle.std.specs.Prelude.{◌≡◌, Some};
 ghost use Rattle.nm_core.specs.Schedules.{IsAsWorked};
