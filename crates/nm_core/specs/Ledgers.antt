@@ -4,6 +4,7 @@ use Rattle.nm_edge.specs.declared.node.NodeId.{NodeId}
 use Rattle.nm_core.specs.declared.ledger.Queued.{Queued}
 use Rattle.nm_core.specs.declared.ledger.Ledger.{Ledger}
 use Rattle.nm_core.specs.Maps.{or_else}
+pub use Rattle.nm_core.specs.Queues.{front_at, entry_at, unlabelled, with_label}
 
 -- nothing was cut yet
 abbrev pub fresh_ledger : Ledger
@@ -14,16 +15,6 @@ abbrev pub held : List (Option Ledger) → ℕ → Option Ledger
 held ls origin = slice_index_or ls origin None
 
 -- ---- the queues
-
--- the entry at the front of a queue, where it is of this slot
-abbrev pub front_at : List Queued → ℕ → Option Queued
-front_at [] s = None
-front_at (e ∷ es) s = if e.node.slot == s then Some e else None
-
--- the first entry of a slot
-abbrev pub entry_at : List Queued → ℕ → Option Queued
-entry_at [] s = None
-entry_at (e ∷ es) s = if e.node.slot == s then Some e else entry_at es s
 
 abbrev pub queue_of : Option Ledger → List Queued
 queue_of None = []
@@ -45,19 +36,12 @@ entry_of ls s = or_else (front_of ls s) (first_of ls s)
 
 -- ---- changes
 
-abbrev pub unlabelled : NodeId → Queued
-unlabelled n = record { node = n; label = None }
-
 -- nodes that were cut enter the queue without a label
 abbrev pub with_cut : List NodeId → Ledger → Ledger
 with_cut ns l = record { retired = l.retired ++ ns; freed = l.freed; queue = l.queue ++ map unlabelled ns }
 
 abbrev pub retire : List (Option Ledger) → ℕ → List NodeId → List (Option Ledger)
 retire ls origin ns = slice_set ls origin (option_map (with_cut ns) (held ls origin))
-
--- an entry without a label gets this one
-abbrev pub with_label : ℕ → Queued → Queued
-with_label e x = if is_none x.label then record { node = x.node; label = Some e } else x
 
 abbrev pub labelled : ℕ → Ledger → Ledger
 labelled e l = record { retired = l.retired; freed = l.freed; queue = map (with_label e) l.queue }

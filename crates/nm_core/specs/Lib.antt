@@ -1,5 +1,6 @@
 pub mod Maps
 pub mod Memory
+pub mod Queues
 pub mod Ledgers
 pub mod Knowledge
 pub mod Learning

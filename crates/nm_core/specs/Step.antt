@@ -147,8 +147,8 @@ sighted (Some a) e = if a == e then Pinned e else Missed e
 
 -- a worker that announces and isn't pinned is pinned by reading what it announces
 abbrev pub confirmed : Option ℕ → Option ℕ → ℕ → Reply
-confirmed (Some p) note e = Saw e
-confirmed None note e = sighted note e
+confirmed (Some p) announced e = Saw e
+confirmed None announced e = sighted announced e
 
 abbrev pub reply_sight : Knowledge → ℕ → Reply
 reply_sight k e = if k.now.unlabelled then Labelled e else confirmed k.now.pin k.now.note e

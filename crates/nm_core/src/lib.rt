@@ -4,14 +4,19 @@
 mod event;
 mod knowledge;
 mod ledger;
+mod ledgers;
 mod memory;
+mod queue;
 mod reply;
+mod slot_map;
 mod trace;
 
 pub use event::{Event, Field};
 pub use knowledge::{Brief, Draft, Seen};
-pub use ledger::{Ledger, Ledgers, Nodes, Queue, Queued};
+pub use ledger::{Ledger, Nodes, Queued};
+pub use ledgers::Ledgers;
 pub use memory::Node;
+pub use queue::Queue;
 pub use reply::{Refused, Reply};
 pub use trace::{RunError, Trace, Turn};
 

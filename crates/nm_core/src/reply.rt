@@ -1,5 +1,6 @@
 //! What workers are answered.
-use crate::ledger::{Ledgers, Nodes};
+use crate::ledger::Nodes;
+use crate::ledgers::Ledgers;
 use nm_edge::{Edge, NodeId};
 
 /// What an event that was allowed answers.

@@ -1,0 +1,135 @@
+//! The ledgers that one worker holds.
+ghost use Rattle.std.specs.Prelude.{◌≡◌, ◌<◌, length, map, option_map, replicate, slice_set, Some, None, IfOk, OnOk, OnErr};
+ghost use Rattle.std.specs.Option.{option_copied};
+ghost use Rattle.nm_core.specs.Ledgers.{fresh_ledger, held, queue_of, labelled, front_at, entry_at, front_of, first_of, entry_of, retire, label as with_labels};
+
+use crate::ledger::{Ledger, Queued};
+use nm_edge::NodeId;
+use std::alloc::{AllocError, Global};
+use std::marker::Model;
+
+/// The ledgers that a worker holds, by origin: the worker whose splices cut the nodes.
+#[derive(Debug, Drop)]
+pub struct Ledgers {
+    by_origin: Vec<Option<Ledger>>,
+}
+
+impl Model for Ledgers {
+    ghost use Rattle.std.specs.Prelude.{List, Option};
+    ghost use Rattle.nm_core.specs.declared.ledger.Ledger.{Ledger};
+
+    ghost Value = { List (Option Ledger) };
+
+    ghost view = { λ l. l.by_origin.items };
+}
+
+impl Ledgers {
+    /// None, for so many origins.
+    pub fn none(alloc: Global, origins: usize) -> Result<Ledgers, AllocError>
+        ensures { IfOk result (λ ledgers. ledgers ≡ replicate origins None) }
+    {
+        let mut by_origin = Vec::with_capacity(alloc, origins)?;
+        for _ in 0..origins {
+            by_origin.push(None)?;
+        }
+        Ok(Ledgers { by_origin })
+    }
+
+    /// The ledger of a worker that has cut nothing, among so many.
+    pub fn own(alloc: Global, origins: usize, origin: usize) -> Result<Ledgers, AllocError>
+        requires { origin < origins }
+        ensures { IfOk result (λ ledgers. ledgers ≡ slice_set (replicate origins None) origin (Some fresh_ledger)) }
+    {
+        let mut ledgers = Ledgers::none(alloc, origins)?;
+        ledgers.by_origin[origin] = Some(Ledger::new(alloc));
+        Ok(ledgers)
+    }
+
+    /// The ledger of an origin, if it is held.
+    pub fn get(&self, origin: u32) -> Option<&Ledger>
+        ensures { option_copied result ≡ held self.now origin }
+    {
+        self.by_origin.get(origin as usize)?.as_ref()
+    }
+
+    /// The first front of a queue that is of this slot.
+    pub fn front(&self, slot: u32) -> Option<Queued>
+        ensures { result ≡ front_of self.now slot }
+    {
+        for ledger in &self.by_origin {
+            if let Some(front) = front_in(ledger, slot) {
+                return Some(front);
+            }
+        }
+        None
+    }
+
+    /// The first entry of a slot in a queue.
+    fn first(&self, slot: u32) -> Option<Queued>
+        ensures { result ≡ first_of self.now slot }
+    {
+        for ledger in &self.by_origin {
+            if let Some(entry) = entry_in(ledger, slot) {
+                return Some(entry);
+            }
+        }
+        None
+    }
+
+    /// The entry of a slot: a front, where there is one.
+    pub fn find(&self, slot: u32) -> Option<Queued>
+        ensures { result ≡ entry_of self.now slot }
+    {
+        if let Some(front) = self.front(slot) {
+            return Some(front);
+        }
+        self.first(slot)
+    }
+
+    /// Nodes of this origin were cut, and wait for their label.
+    pub fn retire(&mut self, origin: usize, nodes: &[NodeId]) -> Result<(), AllocError>
+        requires { origin < length self.old }
+        ensures ok { OnOk result (self.new ≡ retire self.old origin nodes.now) }
+        ensures err { OnErr result (self.new ≡ self.old) }
+    {
+        let Some(ledger) = &mut self.by_origin[origin] else {
+            return Ok(());
+        };
+        ledger.retire(nodes)
+    }
+
+    /// Gives each entry without a label this one.
+    pub fn label(&mut self, label: u64)
+        ensures { self.new ≡ with_labels label self.old }
+    {
+        for ledger in self.by_origin.iter_mut() {
+            label_in(ledger, label);
+        }
+    }
+}
+
+fn front_in(ledger: &Option<Ledger>, slot: u32) -> Option<Queued>
+    ensures { result ≡ front_at (queue_of ledger.now) slot }
+{
+    match ledger {
+        Some(ledger) => ledger.queue.front(slot),
+        None => None,
+    }
+}
+
+fn entry_in(ledger: &Option<Ledger>, slot: u32) -> Option<Queued>
+    ensures { result ≡ entry_at (queue_of ledger.now) slot }
+{
+    match ledger {
+        Some(ledger) => ledger.queue.find(slot),
+        None => None,
+    }
+}
+
+fn label_in(ledger: &mut Option<Ledger>, label: u64)
+    ensures { ledger.new ≡ option_map (labelled label) ledger.old }
+{
+    if let Some(ledger) = ledger {
+        ledger.label(label);
+    }
+}

@@ -1,0 +1,134 @@
+//! The queue of retired nodes of one origin.
+ghost use Rattle.std.specs.Prelude.{◌≡◌, ◌++◌, ◌≤◌, [], length, map, take, drop, IfOk, OnOk, OnErr};
+ghost use Rattle.nm_core.specs.Queues.{front_at, entry_at, unlabelled, with_label};
+
+use crate::ledger::Queued;
+use nm_edge::NodeId;
+use std::alloc::{AllocError, Global};
+use std::marker::Model;
+
+/// Retired nodes that wait, in the order in which they were cut.
+#[derive(Debug, Drop)]
+pub struct Queue {
+    entries: Vec<Queued>,
+    // how many entries have left at the front
+    departed: usize,
+    // how many entries have had their label since they came
+    labelled: usize,
+}
+
+impl Model for Queue {
+    ghost use Rattle.std.specs.Prelude.{List, drop};
+    ghost use Rattle.nm_core.specs.declared.ledger.Queued.{Queued};
+    ghost use Rattle.nm_core.specs.Queues.{IsQueue};
+
+    ghost Value = { List Queued };
+
+    ghost view = { λ q. drop q.departed q.entries.items };
+
+    ghost invariant = { λ q. IsQueue q.entries.items q.departed q.labelled };
+}
+
+impl Queue {
+    /// The empty queue. Takes no memory.
+    pub fn new(alloc: Global) -> Queue
+        ensures { result ≡ [] }
+    {
+        Queue {
+            entries: Vec::new(alloc),
+            departed: 0,
+            labelled: 0,
+        }
+    }
+
+    /// The entries in order, the front first.
+    pub fn as_slice(&self) -> &[Queued]
+        ensures { result.now ≡ self.now }
+    {
+        &self.entries[self.departed..]
+    }
+
+    // The front, where it is of this slot.
+    pub(crate) fn front(&self, slot: u32) -> Option<Queued>
+        ensures { result ≡ front_at self.now slot }
+    {
+        match self.as_slice() {
+            [front, ..] if front.node.slot == slot => Some(*front),
+            _ => None,
+        }
+    }
+
+    // The first entry of a slot.
+    pub(crate) fn find(&self, slot: u32) -> Option<Queued>
+        ensures { result ≡ entry_at self.now slot }
+    {
+        for entry in self.as_slice() {
+            if entry.node.slot == slot {
+                return Some(*entry);
+            }
+        }
+        None
+    }
+
+    // Takes the front away.
+    pub(crate) fn pop(&mut self)
+        ensures { self.new ≡ drop 1 self.old }
+    {
+        if self.departed < self.entries.len() {
+            self.departed += 1;
+        }
+    }
+
+    // Puts nodes at the end, without a label.
+    pub(crate) fn append(&mut self, nodes: &[NodeId]) -> Result<(), AllocError>
+        ensures ok { OnOk result (self.new ≡ self.old ++ map unlabelled nodes.now) }
+        ensures err { OnErr result (self.new ≡ self.old) }
+    {
+        append_unlabelled(&mut self.entries, nodes)
+    }
+
+    // Gives each entry without a label this one.
+    pub(crate) fn label(&mut self, label: u64)
+        ensures { self.new ≡ map (with_label label) self.old }
+    {
+        label_from(&mut self.entries, self.labelled, label);
+        self.labelled = self.entries.len();
+    }
+
+    pub(crate) fn clone_in(&self, alloc: Global) -> Result<Queue, AllocError>
+        ensures { IfOk result (λ queue. queue ≡ self.now) }
+    {
+        Ok(Queue {
+            entries: Vec::from_slice(alloc, self.as_slice())?,
+            departed: 0,
+            labelled: 0,
+        })
+    }
+}
+
+fn append_unlabelled(entries: &mut Vec<Queued>, nodes: &[NodeId]) -> Result<(), AllocError>
+    ensures ok { OnOk result (entries.new.items ≡ entries.old.items ++ map unlabelled nodes.now) }
+    ensures err { OnErr result (entries.new.items ≡ entries.old.items) }
+{
+    entries.reserve(nodes.len())?;
+    for node in nodes {
+        entries
+            .push(Queued {
+                node: *node,
+                label: None,
+            })
+            .unwrap();
+    }
+    Ok(())
+}
+
+// Labels the entries from an index on; those before it have a label.
+fn label_from(entries: &mut Vec<Queued>, from: usize, label: u64)
+    requires fits { from ≤ length entries.old.items }
+    requires stays { map (with_label label) (take from entries.old.items) ≡ take from entries.old.items }
+    ensures { entries.new.items ≡ map (with_label label) entries.old.items }
+{
+    for index in from..entries.len() {
+        entries[index] = entries[index].with_label(label);
+    }
+}
