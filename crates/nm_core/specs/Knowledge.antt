@@ -14,7 +14,7 @@ use Rattle.nm_core.specs.Maps.{get, has, is_number}
 -- the epochs of a worker; by worker, whether it was scanned at the epoch last read; the known nodes; the private slots;
 -- the ledgers that it holds, by origin; and whether it has resigned
 pub record Knowledge : Type 0 where
-  pub now : Brief
+  pub brief : Brief
   pub scanned : List Bool
   pub known : List (ℕ × Seen)
   pub drafts : List (ℕ × Draft)
@@ -32,7 +32,7 @@ unfilled = record { looked = None; birth = None; key = None; left = None; right 
 -- worker w, which has done nothing yet, holds its own ledger alone
 abbrev pub newcomer : Layout → ℕ → Knowledge
 newcomer L w = record {
-  now = record { seen = None; note = None; pin = None; unlabelled = false };
+  brief = record { seen = None; note = None; pin = None; unlabelled = false };
   scanned = replicate L.workers false;
   known = [];
   drafts = [];

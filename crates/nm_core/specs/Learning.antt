@@ -24,24 +24,33 @@ forgotten marks = replicate (length marks) false
 
 -- the epoch was read: scans at another one are forgotten
 abbrev pub saw : Knowledge → ℕ → Knowledge
-saw k e = record k { now = record k.now { seen = Some e }; scanned = if is_number k.now.seen e then k.scanned else forgotten k.scanned }
+saw k e = record k { brief = record k.brief { seen = Some e }; scanned = if is_number k.brief.seen e then k.scanned else forgotten k.scanned }
 
 abbrev pub labelled : Knowledge → ℕ → Knowledge
-labelled k e = record k { now = record k.now { unlabelled = false }; ledgers = label e k.ledgers }
+labelled k e = record k { brief = record k.brief { unlabelled = false }; ledgers = label e k.ledgers }
 
 -- slots 1 and 2 are known
 abbrev pub rooted : List (ℕ × Seen)
 rooted = (1, unread) ∷ (2, unread) ∷ []
 
 abbrev pub pinned : Knowledge → ℕ → Knowledge
-pinned k e = record k { now = record k.now { pin = Some e }; known = rooted }
+pinned k e = record k { brief = record k.brief { pin = Some e }; known = rooted }
+
+abbrev pub learn_sight : Knowledge → Reply → Knowledge
+learn_sight k (Saw e) = saw k e
+learn_sight k (Labelled e) = labelled (saw k e) e
+learn_sight k (Pinned e) = pinned (saw k e) e
+learn_sight k (Missed e) = saw k e
+learn_sight k _ = k
 
 -- a worker that is idle, or announces the epoch last read, counts as scanned; any other does no more
-abbrev pub scanned : Knowledge → ℕ → Bool → Knowledge
-scanned k u counts = record k { scanned = slice_set k.scanned u counts }
+abbrev pub learn_scan : Knowledge → ℕ → Reply → Knowledge
+learn_scan k u Idle = record k { scanned = slice_set k.scanned u true }
+learn_scan k u (In e) = record k { scanned = slice_set k.scanned u (is_number k.brief.seen e) }
+learn_scan k u _ = k
 
 abbrev pub moved : Knowledge → ℕ → Knowledge
-moved k e = record k { now = record k.now { seen = Some e }; scanned = forgotten k.scanned }
+moved k e = record k { brief = record k.brief { seen = Some e }; scanned = forgotten k.scanned }
 
 -- a slot is known from now on, if it is one
 abbrev pub met : List (ℕ × Seen) → ℕ → List (ℕ × Seen)
@@ -84,7 +93,7 @@ flag_to leaf = record { slot = leaf; flag = true; tag = false }
 
 -- worker w cut these nodes
 abbrev pub cutting : ℕ → Knowledge → List NodeId → Knowledge
-cutting w k ns = record k { now = record k.now { unlabelled = true }; ledgers = retire k.ledgers w ns }
+cutting w k ns = record k { brief = record k.brief { unlabelled = true }; ledgers = retire k.ledgers w ns }
 
 -- the heir of a worker takes over its ledgers, each under its origin
 abbrev pub inheriting : Knowledge → List (Option Ledger) → Knowledge
@@ -95,14 +104,10 @@ resigned k = record k { ledgers = replicate (length k.ledgers) None; gone = true
 
 -- what worker w knows after an event with its reply. A join stands in both logs, and the own number tells the leaver from the heir
 unfoldable pub learn : ℕ → Knowledge → Event → Reply → Knowledge
-learn w k Sight (Saw e) = saw k e
-learn w k Sight (Labelled e) = labelled (saw k e) e
-learn w k Sight (Pinned e) = pinned (saw k e) e
-learn w k Sight (Missed e) = saw k e
-learn w k Announce (Announced e) = record k { now = record k.now { note = Some e } }
-learn w k Leave Departed = record k { now = record k.now { note = None; pin = None }; known = [] }
-learn w k (Scan u) Idle = scanned k u true
-learn w k (Scan u) (In e) = scanned k u (is_number k.now.seen e)
+learn w k Sight r = learn_sight k r
+learn w k Announce (Announced e) = record k { brief = record k.brief { note = Some e } }
+learn w k Leave Departed = record k { brief = record k.brief { note = None; pin = None }; known = [] }
+learn w k (Scan u) r = learn_scan k u r
 learn w k Advance (Moved e) = moved k e
 learn w k Advance (Behind e) = moved k e
 learn w k (Claim s) (Claimed t) = record k { drafts = put k.drafts s unfilled }

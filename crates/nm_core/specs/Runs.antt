@@ -37,7 +37,7 @@ is_no_worker s w = nat_le s.layout.workers w || (of s w).gone
 abbrev pub join_refusal : State → ℕ → ℕ → Option Refused
 join_refusal s w v = first (
     ((v == w) || is_no_worker s v) refuses NoWorker
-    ∷ (not (length (of s v).drafts == 0) || (of s v).now.unlabelled) refuses NotReady ∷ [])
+    ∷ (not (length (of s v).drafts == 0) || (of s v).brief.unlabelled) refuses NotReady ∷ [])
 
 abbrev pub refusal_of : State → ℕ → Event → Option Refused
 refusal_of s w (Join v) = join_refusal s w v

@@ -95,22 +95,22 @@ is_frozen L k s p keep = is_some (way L.nodes k s p) && (is_tagged (read k p kee
 -- (A join is judged by what both workers know: see Runs.)
 unfoldable pub refusal : Layout → Memory → Knowledge → ℕ → Event → Option Refused
 refusal L m k w Sight = None
-refusal L m k w Announce = first ((is_none k.now.seen || is_some k.now.pin) refuses NotReady ∷ [])
-refusal L m k w Leave = first (k.now.unlabelled refuses NotReady ∷ [])
-refusal L m k w (Scan u) = first (nat_le L.workers u refuses NoWorker ∷ is_none k.now.seen refuses NotReady ∷ [])
+refusal L m k w Announce = first ((is_none k.brief.seen || is_some k.brief.pin) refuses NotReady ∷ [])
+refusal L m k w Leave = first (k.brief.unlabelled refuses NotReady ∷ [])
+refusal L m k w (Scan u) = first (nat_le L.workers u refuses NoWorker ∷ is_none k.brief.seen refuses NotReady ∷ [])
 refusal L m k w Advance = first (
-    (is_none k.now.seen || (not (others_scanned w k.scanned) || is_held_back k.now.pin k.now.seen)) refuses NotReady
-    ∷ is_number k.now.seen last_number refuses Spent ∷ [])
+    (is_none k.brief.seen || (not (others_scanned w k.scanned) || is_held_back k.brief.pin k.brief.seen)) refuses NotReady
+    ∷ is_number k.brief.seen last_number refuses Spent ∷ [])
 refusal L m k w (Claim s) = first (outside 6 L.nodes s refuses NoSlot ∷ [])
 refusal L m k w (Give s) = first (
     outside 6 L.nodes s refuses NoSlot
     ∷ (not (is_private k s) && is_none (entry_of k.ledgers s)) refuses NotPrivate
-    ∷ (not (is_private k s) && (is_none k.now.seen || has_no_label (entry_of k.ledgers s))) refuses NotReady
+    ∷ (not (is_private k s) && (is_none k.brief.seen || has_no_label (entry_of k.ledgers s))) refuses NotReady
     ∷ (not (is_private k s) && is_none (front_of k.ledgers s)) refuses NotFront
-    ∷ (not (is_private k s) && is_young (front_of k.ledgers s) k.now.seen) refuses TooYoung ∷ [])
+    ∷ (not (is_private k s) && is_young (front_of k.ledgers s) k.brief.seen) refuses TooYoung ∷ [])
 refusal L m k w (Look s f) = first (
     outside 1 L.nodes s refuses NoSlot
-    ∷ (not (is_private k s) && is_none k.now.pin) refuses NotPinned
+    ∷ (not (is_private k s) && is_none k.brief.pin) refuses NotPinned
     ∷ (not (is_private k s) && not (knows k s)) refuses NotHeld ∷ [])
 refusal L m k w (Fill s f v) = first (
     (outside 6 L.nodes s || (is_edge f && nat_lt L.nodes v)) refuses NoSlot
@@ -119,22 +119,22 @@ refusal L m k w (Fill s f v) = first (
     ∷ (is_birth f && ((node m s).birth == last_number)) refuses Spent ∷ [])
 refusal L m k w (Link p side leaf new) = first (
     (outside 1 L.nodes p || (outside 1 L.nodes leaf || outside 6 L.nodes new)) refuses NoSlot
-    ∷ is_none k.now.pin refuses NotPinned
+    ∷ is_none k.brief.pin refuses NotPinned
     ∷ not (knows k p && (knows k leaf && knows_leaf k leaf)) refuses NotHeld
     ∷ not (is_private k new) refuses NotPrivate
     ∷ not (is_linkable k new leaf) refuses NotReady ∷ [])
 refusal L m k w (Flag p side leaf) = first (
     (outside 1 L.nodes p || outside 6 L.nodes leaf) refuses NoSlot
-    ∷ is_none k.now.pin refuses NotPinned
+    ∷ is_none k.brief.pin refuses NotPinned
     ∷ not (knows k p && (knows k leaf && knows_leaf k leaf)) refuses NotHeld ∷ [])
 refusal L m k w (Tag p side) = first (
     outside 1 L.nodes p refuses NoSlot
-    ∷ is_none k.now.pin refuses NotPinned
+    ∷ is_none k.brief.pin refuses NotPinned
     ∷ not (knows k p) refuses NotHeld
     ∷ not (is_flagged (read k p (other side))) refuses NotFrozen ∷ [])
 refusal L m k w (Splice a side s p keep) = first (
     (outside 1 L.nodes a || (outside 6 L.nodes s || outside 6 L.nodes p)) refuses NoSlot
-    ∷ is_none k.now.pin refuses NotPinned
+    ∷ is_none k.brief.pin refuses NotPinned
     ∷ not (knows k a && knows k s) refuses NotHeld
     ∷ not (is_frozen L k s p keep) refuses NotFrozen ∷ [])
 refusal L m k w (Join v) = None
@@ -151,7 +151,7 @@ confirmed (Some p) announced e = Saw e
 confirmed None announced e = sighted announced e
 
 abbrev pub reply_sight : Knowledge → ℕ → Reply
-reply_sight k e = if k.now.unlabelled then Labelled e else confirmed k.now.pin k.now.note e
+reply_sight k e = if k.brief.unlabelled then Labelled e else confirmed k.brief.pin k.brief.note e
 
 abbrev pub reply_scan : Option ℕ → Reply
 reply_scan None = Idle
@@ -179,10 +179,10 @@ node_linked k new = record { slot = new; birth = unwrap_or (draft_of k new).birt
 
 unfoldable pub reply : Layout → Memory → Knowledge → Event → Reply
 reply L m k Sight = reply_sight k m.epoch
-reply L m k Announce = Announced (unwrap_or k.now.seen 0)
+reply L m k Announce = Announced (unwrap_or k.brief.seen 0)
 reply L m k Leave = Departed
 reply L m k (Scan u) = reply_scan (note m u)
-reply L m k Advance = if is_number k.now.seen m.epoch then Moved (m.epoch + 1) else Behind m.epoch
+reply L m k Advance = if is_number k.brief.seen m.epoch then Moved (m.epoch + 1) else Behind m.epoch
 reply L m k (Claim s) = if in_pool m s then Claimed s else Taken
 reply L m k (Give s) = if is_private k s then Returned s else Freed (node_of (front_of k.ledgers s))
 reply L m k (Look s f) = reply_look (node m s) f
@@ -210,10 +210,10 @@ kept (Some e) = untagged e
 
 unfoldable pub write : Memory → Knowledge → ℕ → Event → Memory
 write m k w Sight = m
-write m k w Announce = record m { notes = slice_set m.notes w (Some (unwrap_or k.now.seen 0)) }
+write m k w Announce = record m { notes = slice_set m.notes w (Some (unwrap_or k.brief.seen 0)) }
 write m k w Leave = record m { notes = slice_set m.notes w None }
 write m k w (Scan u) = m
-write m k w Advance = if is_number k.now.seen m.epoch then record m { epoch = m.epoch + 1 } else m
+write m k w Advance = if is_number k.brief.seen m.epoch then record m { epoch = m.epoch + 1 } else m
 write m k w (Claim s) = record m { pool = slice_set m.pool s false }
 write m k w (Give s) = record m { pool = slice_set m.pool s true }
 write m k w (Look s f) = m

@@ -1,4 +1,8 @@
-//! What one worker knows.
+//! What one worker knows, by parts.
+
+ghost use Rattle.std.specs.Prelude.{◌≡◌};
+ghost use Rattle.nm_core.specs.Knowledge.{unread, unfilled};
+
 use nm_edge::Edge;
 
 /// The epochs of a worker.
@@ -30,4 +34,32 @@ pub struct Draft {
     pub key: Option<u64>,
     pub left: Option<u32>,
     pub right: Option<u32>,
+}
+
+impl Seen {
+    /// Nothing is known yet but that the node is there.
+    pub fn unread() -> Seen
+        ensures { result ≡ unread }
+    {
+        Seen {
+            left: None,
+            right: None,
+            birth: None,
+        }
+    }
+}
+
+impl Draft {
+    /// Nothing was looked at or filled in yet.
+    pub fn unfilled() -> Draft
+        ensures { result ≡ unfilled }
+    {
+        Draft {
+            looked: None,
+            birth: None,
+            key: None,
+            left: None,
+            right: None,
+        }
+    }
 }

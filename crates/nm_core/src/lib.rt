@@ -10,6 +10,7 @@ mod queue;
 mod reply;
 mod slot_map;
 mod trace;
+mod worker;
 
 pub use event::{Event, Field};
 pub use knowledge::{Brief, Draft, Seen};
