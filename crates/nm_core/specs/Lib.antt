@@ -6,6 +6,7 @@ pub mod Knowledge
 pub mod Learning
 pub mod Step
 pub mod Runs
+pub mod Answers
 pub mod Paths
 pub mod Reports
 pub mod Schedules

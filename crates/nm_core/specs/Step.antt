@@ -100,7 +100,7 @@ refusal L m k w Leave = first (k.brief.unlabelled refuses NotReady ∷ [])
 refusal L m k w (Scan u) = first (nat_le L.workers u refuses NoWorker ∷ is_none k.brief.seen refuses NotReady ∷ [])
 refusal L m k w Advance = first (
     (is_none k.brief.seen || (not (others_scanned w k.scanned) || is_held_back k.brief.pin k.brief.seen)) refuses NotReady
-    ∷ is_number k.brief.seen last_number refuses Spent ∷ [])
+    ∷ nat_le last_number (unwrap_or k.brief.seen 0) refuses Spent ∷ [])
 refusal L m k w (Claim s) = first (outside 6 L.nodes s refuses NoSlot ∷ [])
 refusal L m k w (Give s) = first (
     outside 6 L.nodes s refuses NoSlot

@@ -1,16 +1,21 @@
 //! The pure core: every word of the tree and what every worker knows as plain data, moved by one event at a time.
 #![tactic(auto)]
 
+mod epochs;
 mod event;
 mod knowledge;
 mod ledger;
 mod ledgers;
+mod machine;
 mod memory;
 mod queue;
 mod reply;
 mod slot_map;
 mod trace;
 mod worker;
+
+/// The greatest epoch and the greatest birth, 2^62.
+pub const LAST_NUMBER: u64 = 1 << 62;
 
 pub use event::{Event, Field};
 pub use knowledge::{Brief, Draft, Seen};

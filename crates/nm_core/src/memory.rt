@@ -1,5 +1,16 @@
-//! The shared words, as plain data.
-use nm_edge::Edge;
+//! The words of nodes and of the pool, as plain data.
+ghost use Rattle.std.specs.Prelude.{◌≡◌, IfOk};
+ghost use Rattle.nm_core.specs.Memory.{blank, leaf, fork, edge_of, with_edge, opening};
+
+use nm_edge::{Edge, Layout, Side};
+use std::alloc::{AllocError, Global};
+
+/// The sentinel keys, above all keys of the set.
+const INFINITY_0: u64 = u64::MAX - 2;
+
+const INFINITY_1: u64 = u64::MAX - 1;
+
+const INFINITY_2: u64 = u64::MAX;
 
 /// The four words of a node.
 #[derive(Clone, Copy, Debug, PartialEq, Eq)]
@@ -8,4 +19,80 @@ pub struct Node {
     pub left: Edge,
     pub right: Edge,
     pub birth: u64,
+}
+
+impl Node {
+    /// A slot that was never put to use.
+    fn blank() -> Node
+        ensures { result ≡ blank }
+    {
+        Node::leaf(0)
+    }
+
+    /// A fixed leaf.
+    fn leaf(key: u64) -> Node
+        ensures { result ≡ leaf key }
+    {
+        Node::fork(key, 0, 0)
+    }
+
+    /// A fixed internal node.
+    fn fork(key: u64, left: u32, right: u32) -> Node
+        ensures { result ≡ fork key left right }
+    {
+        Node {
+            key,
+            left: Edge::to(left),
+            right: Edge::to(right),
+            birth: 0,
+        }
+    }
+
+    /// The edge on a side.
+    pub fn edge(self, side: Side) -> Edge
+        ensures { result ≡ edge_of self side }
+    {
+        match side {
+            Side::Left => self.left,
+            Side::Right => self.right,
+        }
+    }
+
+    /// The node with another edge on a side.
+    pub fn with_edge(self, side: Side, edge: Edge) -> Node
+        ensures { result ≡ with_edge self side edge }
+    {
+        match side {
+            Side::Left => Node { left: edge, ..self },
+            Side::Right => Node {
+                right: edge,
+                ..self
+            },
+        }
+    }
+}
+
+/// By slot, the nodes of the empty tree, and those of the pool.
+pub fn opening_nodes(alloc: Global, layout: Layout) -> Result<Vec<Node>, AllocError>
+    ensures { IfOk result (λ nodes. nodes.items ≡ (opening layout).nodes) }
+{
+    let slots = layout.nodes() as usize + 1;
+    let mut nodes = Vec::with_capacity(alloc, slots)?;
+    nodes.push(Node::blank())?;
+    nodes.push(Node::fork(INFINITY_2, 2, 5))?;
+    nodes.push(Node::fork(INFINITY_1, 3, 4))?;
+    nodes.push(Node::leaf(INFINITY_0))?;
+    nodes.push(Node::leaf(INFINITY_1))?;
+    nodes.push(Node::leaf(INFINITY_2))?;
+    nodes.resize(slots, Node::blank())?;
+    Ok(nodes)
+}
+
+/// By slot, whether it is in the pool: all above the fixed ones.
+pub fn opening_pool(alloc: Global, layout: Layout) -> Result<Vec<bool>, AllocError>
+    ensures { IfOk result (λ pool. pool.items ≡ (opening layout).pool) }
+{
+    let mut pool = vec![in alloc; false; 6]?;
+    pool.resize(layout.nodes() as usize + 1, true)?;
+    Ok(pool)
 }

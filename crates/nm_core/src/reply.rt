@@ -2,6 +2,7 @@
 use crate::ledger::Nodes;
 use crate::ledgers::Ledgers;
 use nm_edge::{Edge, NodeId};
+use std::alloc::AllocError;
 
 /// What an event that was allowed answers.
 #[derive(Debug, Drop)]
@@ -81,4 +82,15 @@ pub enum Refused {
     Spent,
     /// A growth was refused, and no other reason holds.
     NoMemory,
+}
+
+impl From<AllocError> for Refused {
+    ghost use Rattle.std.specs.Prelude.{◌≡◌};
+    ghost use Rattle.nm_core.specs.declared.reply.Refused.TheVariants.{NoMemory};
+
+    ghost from_gives = { λ _ e. e ≡ NoMemory };
+
+    fn from(_: AllocError) -> Refused {
+        Refused::NoMemory
+    }
 }

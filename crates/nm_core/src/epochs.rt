@@ -1,0 +1,102 @@
+//! The steps on the global epoch and the announcements.
+ghost use Rattle.std.specs.Prelude.{◌≡◌, ◌<◌, length, OnOk, OnErr};
+ghost use Rattle.nm_core.specs.declared.event.Event.TheVariants as event;
+ghost use Rattle.nm_core.specs.Runs.{refusal_of, reply_of, applied};
+ghost use Rattle.nm_core.specs.Answers.{IsAnswer, IsShaped};
+
+use crate::LAST_NUMBER;
+use crate::machine::Machine;
+use crate::reply::{Refused, Reply};
+
+impl Machine {
+    #[tactic(auto, unfolding(crate::specs::Step::refusal, crate::specs::Step::reply, crate::specs::Step::write, crate::specs::Learning::learn, crate::specs::Runs::applied))]
+    pub fn sight(&mut self, worker: usize) -> Result<Reply, Refused>
+        requires { worker < length self.old.workers }
+        ensures outcome { IsAnswer (refusal_of self.old worker event.Sight) (reply_of self.old worker event.Sight) result }
+        ensures ok { OnOk result (self.new ≡ applied self.old worker event.Sight) }
+        ensures err { OnErr result (self.new ≡ self.old) }
+    {
+        let epoch = self.epoch;
+        let worker = &mut self.workers[worker];
+        let reply = worker.sight(epoch)?;
+        Ok(reply)
+    }
+
+    #[tactic(auto, unfolding(crate::specs::Step::refusal, crate::specs::Step::reply, crate::specs::Step::write, crate::specs::Learning::learn, crate::specs::Runs::applied))]
+    pub fn announce(&mut self, worker: usize) -> Result<Reply, Refused>
+        requires shaped { IsShaped self.old }
+        requires is_there { worker < length self.old.workers }
+        ensures outcome { IsAnswer (refusal_of self.old worker event.Announce) (reply_of self.old worker event.Announce) result }
+        ensures ok { OnOk result (self.new ≡ applied self.old worker event.Announce) }
+        ensures err { OnErr result (self.new ≡ self.old) }
+    {
+        let brief = self.workers[worker].brief();
+        let (Some(epoch), None) = (brief.seen, brief.pin) else {
+            return Err(Refused::NotReady);
+        };
+        self.notes[worker] = Some(epoch);
+        self.workers[worker].announce(epoch);
+        Ok(Reply::Announced(epoch))
+    }
+
+    #[tactic(auto, unfolding(crate::specs::Step::refusal, crate::specs::Step::reply, crate::specs::Step::write, crate::specs::Learning::learn, crate::specs::Runs::applied))]
+    pub fn leave(&mut self, worker: usize) -> Result<Reply, Refused>
+        requires shaped { IsShaped self.old }
+        requires is_there { worker < length self.old.workers }
+        ensures outcome { IsAnswer (refusal_of self.old worker event.Leave) (reply_of self.old worker event.Leave) result }
+        ensures ok { OnOk result (self.new ≡ applied self.old worker event.Leave) }
+        ensures err { OnErr result (self.new ≡ self.old) }
+    {
+        if self.workers[worker].brief().unlabelled {
+            return Err(Refused::NotReady);
+        }
+        self.notes[worker] = None;
+        self.workers[worker].leave();
+        Ok(Reply::Departed)
+    }
+
+    #[tactic(auto, unfolding(crate::specs::Step::refusal, crate::specs::Step::reply, crate::specs::Step::write, crate::specs::Learning::learn, crate::specs::Runs::applied))]
+    pub fn scan(&mut self, worker: usize, other: u32) -> Result<Reply, Refused>
+        requires shaped { IsShaped self.old }
+        requires is_there { worker < length self.old.workers }
+        ensures outcome { IsAnswer (refusal_of self.old worker (event.Scan other)) (reply_of self.old worker (event.Scan other)) result }
+        ensures ok { OnOk result (self.new ≡ applied self.old worker (event.Scan other)) }
+        ensures err { OnErr result (self.new ≡ self.old) }
+    {
+        if other >= self.layout.workers() {
+            return Err(Refused::NoWorker);
+        }
+        if self.workers[worker].brief().seen.is_none() {
+            return Err(Refused::NotReady);
+        }
+        let note = self.notes[other as usize];
+        Ok(self.workers[worker].scan(other as usize, note))
+    }
+
+    #[tactic(auto, unfolding(crate::specs::Step::refusal, crate::specs::Step::reply, crate::specs::Step::write, crate::specs::Learning::learn, crate::specs::Runs::applied))]
+    pub fn advance(&mut self, worker: usize) -> Result<Reply, Refused>
+        requires { worker < length self.old.workers }
+        ensures outcome { IsAnswer (refusal_of self.old worker event.Advance) (reply_of self.old worker event.Advance) result }
+        ensures ok { OnOk result (self.new ≡ applied self.old worker event.Advance) }
+        ensures err { OnErr result (self.new ≡ self.old) }
+    {
+        let brief = self.workers[worker].brief();
+        let seen = brief.seen.ok_or(Refused::NotReady)?;
+        if !self.workers[worker].has_scanned_others(worker) {
+            return Err(Refused::NotReady);
+        }
+        if brief.pin.is_some_and(|pin| pin != seen) {
+            return Err(Refused::NotReady);
+        }
+        if seen >= LAST_NUMBER {
+            return Err(Refused::Spent);
+        }
+        if seen != self.epoch {
+            self.workers[worker].moved(self.epoch);
+            return Ok(Reply::Behind(self.epoch));
+        }
+        self.epoch += 1;
+        self.workers[worker].moved(self.epoch);
+        Ok(Reply::Moved(self.epoch))
+    }
+}
