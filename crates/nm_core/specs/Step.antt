@@ -91,6 +91,14 @@ is_linkable k new leaf =
 abbrev pub is_frozen : Layout → Knowledge → ℕ → ℕ → Side → Bool
 is_frozen L k s p keep = is_some (way L.nodes k s p) && (is_tagged (read k p keep) && is_flagged (read k p (other keep)))
 
+-- what a slot that is not private must be to be given back
+abbrev pub free_checks : Knowledge → ℕ → List Check
+free_checks k s =
+    is_none (entry_of k.ledgers s) refuses NotPrivate
+    ∷ (is_none k.brief.seen || has_no_label (entry_of k.ledgers s)) refuses NotReady
+    ∷ is_none (front_of k.ledgers s) refuses NotFront
+    ∷ is_young (front_of k.ledgers s) k.brief.seen refuses TooYoung ∷ []
+
 -- the least refusal that holds, by the worker's own knowledge and, of memory, one birth word.
 -- (A join is judged by what both workers know: see Runs.)
 unfoldable pub refusal : Layout → Memory → Knowledge → ℕ → Event → Option Refused
@@ -102,12 +110,7 @@ refusal L m k w Advance = first (
     (is_none k.brief.seen || (not (others_scanned w k.scanned) || is_held_back k.brief.pin k.brief.seen)) refuses NotReady
     ∷ nat_le last_number (unwrap_or k.brief.seen 0) refuses Spent ∷ [])
 refusal L m k w (Claim s) = first (outside 6 L.nodes s refuses NoSlot ∷ [])
-refusal L m k w (Give s) = first (
-    outside 6 L.nodes s refuses NoSlot
-    ∷ (not (is_private k s) && is_none (entry_of k.ledgers s)) refuses NotPrivate
-    ∷ (not (is_private k s) && (is_none k.brief.seen || has_no_label (entry_of k.ledgers s))) refuses NotReady
-    ∷ (not (is_private k s) && is_none (front_of k.ledgers s)) refuses NotFront
-    ∷ (not (is_private k s) && is_young (front_of k.ledgers s) k.brief.seen) refuses TooYoung ∷ [])
+refusal L m k w (Give s) = first (outside 6 L.nodes s refuses NoSlot ∷ (if is_private k s then [] else free_checks k s))
 refusal L m k w (Look s f) = first (
     outside 1 L.nodes s refuses NoSlot
     ∷ (not (is_private k s) && is_none k.brief.pin) refuses NotPinned

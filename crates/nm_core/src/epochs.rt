@@ -1,4 +1,6 @@
 //! The steps on the global epoch and the announcements.
+#![tactic(auto, unfolding(crate::specs::Step::refusal, crate::specs::Step::reply, crate::specs::Step::write, crate::specs::Learning::learn, crate::specs::Runs::applied))]
+
 ghost use Rattle.std.specs.Prelude.{◌≡◌, ◌<◌, length, OnOk, OnErr};
 ghost use Rattle.nm_core.specs.declared.event.Event.TheVariants as event;
 ghost use Rattle.nm_core.specs.Runs.{refusal_of, reply_of, applied};
@@ -9,7 +11,6 @@ use crate::machine::Machine;
 use crate::reply::{Refused, Reply};
 
 impl Machine {
-    #[tactic(auto, unfolding(crate::specs::Step::refusal, crate::specs::Step::reply, crate::specs::Step::write, crate::specs::Learning::learn, crate::specs::Runs::applied))]
     pub fn sight(&mut self, worker: usize) -> Result<Reply, Refused>
         requires { worker < length self.old.workers }
         ensures outcome { IsAnswer (refusal_of self.old worker event.Sight) (reply_of self.old worker event.Sight) result }
@@ -22,7 +23,6 @@ impl Machine {
         Ok(reply)
     }
 
-    #[tactic(auto, unfolding(crate::specs::Step::refusal, crate::specs::Step::reply, crate::specs::Step::write, crate::specs::Learning::learn, crate::specs::Runs::applied))]
     pub fn announce(&mut self, worker: usize) -> Result<Reply, Refused>
         requires shaped { IsShaped self.old }
         requires is_there { worker < length self.old.workers }
@@ -39,7 +39,6 @@ impl Machine {
         Ok(Reply::Announced(epoch))
     }
 
-    #[tactic(auto, unfolding(crate::specs::Step::refusal, crate::specs::Step::reply, crate::specs::Step::write, crate::specs::Learning::learn, crate::specs::Runs::applied))]
     pub fn leave(&mut self, worker: usize) -> Result<Reply, Refused>
         requires shaped { IsShaped self.old }
         requires is_there { worker < length self.old.workers }
@@ -55,7 +54,6 @@ impl Machine {
         Ok(Reply::Departed)
     }
 
-    #[tactic(auto, unfolding(crate::specs::Step::refusal, crate::specs::Step::reply, crate::specs::Step::write, crate::specs::Learning::learn, crate::specs::Runs::applied))]
     pub fn scan(&mut self, worker: usize, other: u32) -> Result<Reply, Refused>
         requires shaped { IsShaped self.old }
         requires is_there { worker < length self.old.workers }
@@ -73,7 +71,6 @@ impl Machine {
         Ok(self.workers[worker].scan(other as usize, note))
     }
 
-    #[tactic(auto, unfolding(crate::specs::Step::refusal, crate::specs::Step::reply, crate::specs::Step::write, crate::specs::Learning::learn, crate::specs::Runs::applied))]
     pub fn advance(&mut self, worker: usize) -> Result<Reply, Refused>
         requires { worker < length self.old.workers }
         ensures outcome { IsAnswer (refusal_of self.old worker event.Advance) (reply_of self.old worker event.Advance) result }

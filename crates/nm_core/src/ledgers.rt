@@ -1,7 +1,8 @@
 //! The ledgers that one worker holds.
-ghost use Rattle.std.specs.Prelude.{◌≡◌, ◌<◌, length, map, option_map, replicate, slice_set, Some, None, IfOk, OnOk, OnErr};
+ghost use Rattle.std.specs.Prelude.{◌≡◌, ◌<◌, length, map, option_map, is_some, position, replicate, slice_set, Some, None, IfOk, OnOk, OnErr};
 ghost use Rattle.std.specs.Option.{option_copied};
-ghost use Rattle.nm_core.specs.Ledgers.{fresh_ledger, held, queue_of, labelled, front_at, entry_at, front_of, first_of, entry_of, retire, label as with_labels};
+ghost use Rattle.nm_core.specs.Maps.{or_else};
+ghost use Rattle.nm_core.specs.Ledgers.{fresh_ledger, held, queue_of, labelled, with_freed, free, taken_over, front_at, entry_at, front_of, first_of, entry_of, retire, label as with_labels};
 
 use crate::ledger::{Ledger, Queued};
 use nm_edge::NodeId;
@@ -98,6 +99,46 @@ impl Ledgers {
         ledger.retire(nodes)
     }
 
+    // The first origin whose queue has its front at this slot.
+    fn origin_of_front(&self, slot: u32) -> Option<usize>
+        ensures { result ≡ position (λ l. is_some (front_at (queue_of l) slot)) self.now }
+    {
+        self.by_origin
+            .iter()
+            .position(|ledger| front_in(ledger, slot).is_some())
+    }
+
+    /// The node at the front of a queue was freed.
+    pub fn free(&mut self, node: NodeId) -> Result<(), AllocError>
+        ensures ok { OnOk result (self.new ≡ free self.old node) }
+        ensures err { OnErr result (self.new ≡ self.old) }
+    {
+        let Some(origin) = self.origin_of_front(node.slot) else {
+            return Ok(());
+        };
+        free_in(&mut self.by_origin[origin], node)
+    }
+
+    /// Takes over the ledgers that another held, each under its origin.
+    pub fn take_over(&mut self, passed: Ledgers)
+        requires { length passed ≡ length self.old }
+        ensures { self.new ≡ taken_over self.old passed }
+    {
+        let mut passed = passed.by_origin;
+        take_over_all(&mut self.by_origin, &mut passed);
+    }
+
+    /// A copy.
+    pub fn clone_in(&self, alloc: Global) -> Result<Ledgers, AllocError>
+        ensures { IfOk result (λ ledgers. ledgers ≡ self.now) }
+    {
+        let mut by_origin = Vec::with_capacity(alloc, self.by_origin.len())?;
+        for ledger in &self.by_origin {
+            by_origin.push(clone_of(ledger, alloc)?)?;
+        }
+        Ok(Ledgers { by_origin })
+    }
+
     /// Gives each entry without a label this one.
     pub fn label(&mut self, label: u64)
         ensures { self.new ≡ with_labels label self.old }
@@ -131,5 +172,41 @@ fn label_in(ledger: &mut Option<Ledger>, label: u64)
 {
     if let Some(ledger) = ledger {
         ledger.label(label);
+    }
+}
+
+fn free_in(ledger: &mut Option<Ledger>, node: NodeId) -> Result<(), AllocError>
+    ensures ok { OnOk result (ledger.new ≡ option_map (with_freed node) ledger.old) }
+    ensures err { OnErr result (ledger.new ≡ ledger.old) }
+{
+    match ledger {
+        Some(ledger) => ledger.free(node),
+        None => Ok(()),
+    }
+}
+
+fn clone_of(ledger: &Option<Ledger>, alloc: Global) -> Result<Option<Ledger>, AllocError>
+    ensures { IfOk result (λ copy. copy ≡ ledger.now) }
+{
+    match ledger {
+        Some(ledger) => Ok(Some(ledger.clone_in(alloc)?)),
+        None => Ok(None),
+    }
+}
+
+fn take_over_all(ledgers: &mut Vec<Option<Ledger>>, passed: &mut Vec<Option<Ledger>>)
+    requires { length passed.old.items ≡ length ledgers.old.items }
+    ensures { ledgers.new.items ≡ taken_over ledgers.old.items passed.old.items }
+{
+    for origin in 0..ledgers.len() {
+        pass_to(&mut ledgers[origin], &mut passed[origin]);
+    }
+}
+
+fn pass_to(ledger: &mut Option<Ledger>, passed: &mut Option<Ledger>)
+    ensures { ledger.new ≡ or_else passed.old ledger.old }
+{
+    if passed.is_some() {
+        *ledger = passed.take();
     }
 }
