@@ -8,3 +8,4 @@ pub mod Runs
 pub mod Paths
 pub mod Reports
 pub mod Schedules
+pub mod Laws

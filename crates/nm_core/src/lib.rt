@@ -3,6 +3,7 @@
 
 mod event;
 mod knowledge;
+mod laws;
 mod ledger;
 mod memory;
 mod reply;
@@ -10,6 +11,7 @@ mod trace;
 
 pub use event::{Event, Field};
 pub use knowledge::{Brief, Draft, Seen};
+pub use laws::pins_stay_near;
 pub use ledger::{Ledger, Ledgers, Nodes, Queue, Queued};
 pub use memory::Node;
 pub use reply::{Refused, Reply};

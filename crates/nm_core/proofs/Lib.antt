@@ -1,0 +1,6 @@
+pub mod Steps
+pub mod Sizes
+pub mod Numbers
+pub mod Learned
+pub mod Epochs
+pub mod Pins
