@@ -43,10 +43,13 @@ learn_sight k (Pinned e) = pinned (saw k e) e
 learn_sight k (Missed e) = saw k e
 learn_sight k _ = k
 
+abbrev pub scanned : Knowledge → ℕ → Bool → Knowledge
+scanned k u counts = record k { scanned = slice_set k.scanned u counts }
+
 -- a worker that is idle, or announces the epoch last read, counts as scanned; any other does no more
 abbrev pub learn_scan : Knowledge → ℕ → Reply → Knowledge
-learn_scan k u Idle = record k { scanned = slice_set k.scanned u true }
-learn_scan k u (In e) = record k { scanned = slice_set k.scanned u (is_number k.brief.seen e) }
+learn_scan k u Idle = scanned k u true
+learn_scan k u (In e) = scanned k u (is_number k.brief.seen e)
 learn_scan k u _ = k
 
 abbrev pub moved : Knowledge → ℕ → Knowledge

@@ -10,3 +10,4 @@ pub mod Answers
 pub mod Paths
 pub mod Reports
 pub mod Schedules
+pub mod Laws

@@ -53,7 +53,7 @@ reply_of s w e = reply s.layout s.memory (of s w) e
 
 -- a worker learns from its own events alone, but for a join, which both workers learn of
 abbrev pub taught : State → ℕ → Event → Reply → List Knowledge
-taught s w (Join v) r = slice_set (slice_set s.workers v (learn v (of s v) (Join v) r)) w (learn w (of s w) (Join v) r)
+taught s w (Join v) r = slice_set (slice_set s.workers w (learn w (of s w) (Join v) r)) v (learn v (of s v) (Join v) r)
 taught s w e r = slice_set s.workers w (learn w (of s w) e r)
 
 -- the state after an event that is allowed

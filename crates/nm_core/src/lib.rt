@@ -1,9 +1,10 @@
 //! The pure core: every word of the tree and what every worker knows as plain data, moved by one event at a time.
 #![tactic(auto)]
 
-mod epochs;
+mod epoch_steps;
 mod event;
 mod knowledge;
+mod laws;
 mod ledger;
 mod ledgers;
 mod machine;
@@ -19,6 +20,7 @@ pub const LAST_NUMBER: u64 = 1 << 62;
 
 pub use event::{Event, Field};
 pub use knowledge::{Brief, Draft, Seen};
+pub use laws::pins_stay_near;
 pub use ledger::{Ledger, Nodes, Queued};
 pub use ledgers::Ledgers;
 pub use memory::Node;
