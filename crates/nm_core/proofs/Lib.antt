@@ -1,3 +1,5 @@
+pub mod Tables
+pub mod Meeting
 pub mod Labels
 pub mod Origins
 pub mod Steps

@@ -76,6 +76,9 @@ abbrev pub look_private : Knowledge → ℕ → Field → Reply → Knowledge
 look_private k s Birth (BirthIs b) = record k { drafts = put k.drafts s (record (draft_of k s) { looked = Some b }) }
 look_private k s _ _ = k
 
+abbrev pub looked : Knowledge → ℕ → Field → Reply → Knowledge
+looked k s f r = if is_private k s then look_private k s f r else look_known k s f r
+
 -- a field was stored. A birth that was looked at before the birth was stored is forgotten
 abbrev pub filled_in : Draft → Field → ℕ → Draft
 filled_in d Key v = record d { key = Some v }
@@ -116,7 +119,7 @@ learn w k Advance (Behind e) = moved k e
 learn w k (Claim s) (Claimed t) = record k { drafts = put k.drafts s unfilled }
 learn w k (Give s) (Returned t) = record k { drafts = without k.drafts s }
 learn w k (Give s) (Freed n) = record k { ledgers = free k.ledgers n }
-learn w k (Look s f) r = if is_private k s then look_private k s f r else look_known k s f r
+learn w k (Look s f) r = looked k s f r
 learn w k (Fill s f v) Filled = record k { drafts = put k.drafts s (filled_in (draft_of k s) f v) }
 learn w k (Link p side leaf new) (Linked n) = linked k leaf new
 learn w k (Link p side leaf new) (Lost e) = read_edge k p side e

@@ -1,4 +1,7 @@
 //! What workers do, one atomic step at a time.
+ghost use Rattle.std.specs.Prelude.{◌≡◌};
+ghost use Rattle.nm_core.specs.Step.{is_edge};
+
 use nm_edge::Side;
 
 /// A field of a node.
@@ -7,6 +10,15 @@ pub enum Field {
     Key,
     Edge(Side),
     Birth,
+}
+
+impl Field {
+    /// Whether it is an edge.
+    pub fn is_edge(self) -> bool
+        ensures { result ≡ is_edge self }
+    {
+        matches!(self, Field::Edge(_))
+    }
 }
 
 /// One atomic step of a worker: one load, store, `fetch_or` or exchange of one word, with what the worker learns by it.

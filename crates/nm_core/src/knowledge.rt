@@ -1,9 +1,12 @@
 //! What one worker knows, by parts.
 
-ghost use Rattle.std.specs.Prelude.{◌≡◌};
-ghost use Rattle.nm_core.specs.Knowledge.{unread, unfilled};
+ghost use Rattle.std.specs.Prelude.{◌≡◌, ◌<◌, ◌^◌, true};
+ghost use Rattle.nm_core.specs.Knowledge.{unread, unfilled, read_on};
+ghost use Rattle.nm_core.specs.Learning.{with_read, filled_in};
+ghost use Rattle.nm_core.specs.Step.{is_edge, is_early};
 
-use nm_edge::Edge;
+use crate::event::Field;
+use nm_edge::{Edge, Side};
 
 /// The epochs of a worker.
 #[derive(Clone, Copy, Debug, PartialEq, Eq)]
@@ -47,6 +50,32 @@ impl Seen {
             birth: None,
         }
     }
+
+    /// The last word read of the edge on a side.
+    pub fn on(self, side: Side) -> Option<Edge>
+        ensures { result ≡ read_on self side }
+    {
+        match side {
+            Side::Left => self.left,
+            Side::Right => self.right,
+        }
+    }
+
+    /// The edge on a side was read.
+    pub fn with_read(self, side: Side, edge: Edge) -> Seen
+        ensures { result ≡ with_read self side edge }
+    {
+        match side {
+            Side::Left => Seen {
+                left: Some(edge),
+                ..self
+            },
+            Side::Right => Seen {
+                right: Some(edge),
+                ..self
+            },
+        }
+    }
 }
 
 impl Draft {
@@ -60,6 +89,42 @@ impl Draft {
             key: None,
             left: None,
             right: None,
+        }
+    }
+
+    /// Whether the birth may not be stored over this word, or another field not before the birth.
+    pub fn is_early(self, field: Field, value: u64, birth: u64) -> bool
+        ensures { result ≡ is_early self field value birth }
+    {
+        match field {
+            Field::Birth => self.birth.is_some() || birth.checked_add(1) != Some(value),
+            _ => self.birth.is_none(),
+        }
+    }
+
+    /// The draft with a field stored.
+    pub fn filled_in(self, field: Field, value: u64) -> Draft
+        requires { is_edge field ≡ true → value < 2 ^ 32 }
+        ensures { result ≡ filled_in self field value }
+    {
+        match field {
+            Field::Key => Draft {
+                key: Some(value),
+                ..self
+            },
+            Field::Edge(Side::Left) => Draft {
+                left: Some(value as u32),
+                ..self
+            },
+            Field::Edge(Side::Right) => Draft {
+                right: Some(value as u32),
+                ..self
+            },
+            Field::Birth => Draft {
+                looked: None,
+                birth: Some(value),
+                ..self
+            },
         }
     }
 }

@@ -1,5 +1,5 @@
 //! What a worker's splices cut off: the nodes that it retired, those of them that were freed, and the queue of the rest.
-ghost use Rattle.std.specs.Prelude.{◌≡◌, ◌++◌, [], ◌∷◌, length, take, IfOk, OnOk, OnErr};
+ghost use Rattle.std.specs.Prelude.{◌≡◌, ◌+◌, ◌++◌, nat_lt, unwrap_or, [], ◌∷◌, length, take, IfOk, OnOk, OnErr};
 ghost use Rattle.nm_core.specs.Queues.{with_label};
 ghost use Rattle.nm_core.specs.Ledgers.{fresh_ledger, with_cut, labelled, with_freed};
 
@@ -17,6 +17,14 @@ pub struct Queued {
 }
 
 impl Queued {
+    /// Whether its label and 2 more are above the epoch that was seen, or it has no label and the epoch is below 2.
+    pub fn is_young(self, seen: u64) -> bool
+        ensures { result ≡ nat_lt seen (unwrap_or self.label 0 + 2) }
+    {
+        let label = self.label.unwrap_or(0);
+        seen < 2 || seen - 2 < label
+    }
+
     /// The entry with this label, unless it has one.
     pub fn with_label(self, label: u64) -> Queued
         ensures { result ≡ with_label label self }

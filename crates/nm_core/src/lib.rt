@@ -9,6 +9,7 @@ mod ledger;
 mod ledgers;
 mod machine;
 mod memory;
+mod pool_steps;
 mod queue;
 mod reply;
 mod slot_map;

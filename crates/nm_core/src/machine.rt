@@ -1,11 +1,12 @@
 //! All words of the tree, and what each worker knows.
-ghost use Rattle.std.specs.Prelude.{◌≡◌, ◌+◌, ◌<◌, ◌≤◌, length, IfOk, OnOk, OnErr};
-ghost use Rattle.nm_core.specs.Memory.{opening};
+ghost use Rattle.std.specs.Prelude.{◌≡◌, IfOk};
+ghost use Rattle.nm_core.specs.Memory.{named};
+ghost use Rattle.nm_core.specs.Step.{outside};
 ghost use Rattle.nm_core.specs.Runs.{start};
 
 use crate::memory::{self, Node};
 use crate::worker::Worker;
-use nm_edge::Layout;
+use nm_edge::{Layout, NodeId};
 use std::alloc::{AllocError, Global};
 use std::marker::Model;
 
@@ -53,5 +54,23 @@ impl Machine {
         ensures { result ≡ self.now.memory.epoch }
     {
         self.epoch
+    }
+
+    /// Whether a slot is not one of `least` to the number of nodes.
+    pub fn is_outside(&self, least: u32, slot: u32) -> bool
+        ensures { result ≡ outside least self.now.layout.nodes slot }
+    {
+        slot < least || self.layout.nodes() < slot
+    }
+
+    /// A slot with the birth that it has now.
+    pub fn named(&self, slot: u32) -> NodeId
+        ensures { result ≡ named self.now.memory slot }
+    {
+        let birth = match self.nodes.get(slot as usize) {
+            Some(node) => node.birth,
+            None => 0,
+        };
+        NodeId { slot, birth }
     }
 }

@@ -1,7 +1,9 @@
 //! The words of nodes and of the pool, as plain data.
-ghost use Rattle.std.specs.Prelude.{◌≡◌, IfOk};
+ghost use Rattle.std.specs.Prelude.{◌≡◌, ◌<◌, ◌^◌, true, IfOk};
+ghost use Rattle.nm_core.specs.Step.{filled, is_edge};
 ghost use Rattle.nm_core.specs.Memory.{blank, leaf, fork, edge_of, with_edge, opening};
 
+use crate::event::Field;
 use nm_edge::{Edge, Layout, Side};
 use std::alloc::{AllocError, Global};
 
@@ -66,6 +68,23 @@ impl Node {
             Side::Left => Node { left: edge, ..self },
             Side::Right => Node {
                 right: edge,
+                ..self
+            },
+        }
+    }
+}
+
+impl Node {
+    /// The node with a field stored; an edge is stored unmarked.
+    pub fn filled(self, field: Field, value: u64) -> Node
+        requires { is_edge field ≡ true → value < 2 ^ 32 }
+        ensures { result ≡ filled self field value }
+    {
+        match field {
+            Field::Key => Node { key: value, ..self },
+            Field::Edge(side) => self.with_edge(side, Edge::to(value as u32)),
+            Field::Birth => Node {
+                birth: value,
                 ..self
             },
         }

@@ -1,14 +1,20 @@
 //! What one worker knows, and how its events add to it.
-ghost use Rattle.std.specs.Prelude.{◌≡◌, ◌<◌, length, [], Some, None, IfOk, OnOk, OnErr};
-ghost use Rattle.nm_core.specs.Knowledge.{newcomer};
-ghost use Rattle.nm_core.specs.Learning.{saw, labelled, pinned, rooted, moved, learn_sight, learn_scan};
-ghost use Rattle.nm_core.specs.Step.{reply_sight, reply_scan, others_scanned};
+ghost use Rattle.std.specs.Prelude.{◌≡◌, ◌≢◌, ◌<◌, ◌==◌, true, false, not, length, [], Some, None, IfOk, IfErr, OnOk, OnErr};
+ghost use Rattle.nm_core.specs.declared.event.Field.TheVariants.{Birth};
+ghost use Rattle.nm_core.specs.declared.reply.Reply.TheVariants.{BirthIs};
+ghost use Rattle.nm_core.specs.Maps.{put, without};
+ghost use Rattle.nm_core.specs.Ledgers.{front_of, free};
+ghost use Rattle.nm_core.specs.Knowledge.{newcomer, unfilled, knows, is_private, seen_of, draft_of, read, is_null, knows_leaf};
+ghost use Rattle.nm_core.specs.Learning.{saw, labelled, pinned, rooted, moved, learn_sight, learn_scan, looked, met, read_edge};
+ghost use Rattle.nm_core.specs.Step.{reply_sight, reply_scan, reply_look, others_scanned, node_of, first, free_checks};
 
+use crate::event::Field;
 use crate::knowledge::{Brief, Draft, Seen};
 use crate::ledgers::Ledgers;
-use crate::reply::Reply;
+use crate::memory::Node;
+use crate::reply::{Refused, Reply};
 use crate::slot_map::SlotMap;
-use nm_edge::Layout;
+use nm_edge::{Edge, Layout, NodeId, Side};
 use std::alloc::{AllocError, Global};
 use std::marker::Model;
 
@@ -167,6 +173,175 @@ impl Worker {
     }
 }
 
+impl Worker {
+    /// Whether a node is known.
+    pub fn knows(&self, slot: u32) -> bool
+        ensures { result ≡ knows self.now slot }
+    {
+        self.known.contains(slot)
+    }
+
+    /// Whether a slot is private.
+    pub fn is_private(&self, slot: u32) -> bool
+        ensures { result ≡ is_private self.now slot }
+    {
+        self.drafts.contains(slot)
+    }
+
+    /// Whether it has private slots.
+    pub fn has_private(&self) -> bool
+        ensures { result ≡ not (length self.now.drafts == 0) }
+    {
+        !self.drafts.is_empty()
+    }
+
+    // What is known of a node.
+    fn seen(&self, slot: u32) -> Seen
+        ensures { result ≡ seen_of self.now slot }
+    {
+        match self.known.get(slot) {
+            Some(seen) => seen,
+            None => Seen::unread(),
+        }
+    }
+
+    /// What was filled into a private slot.
+    pub fn draft(&self, slot: u32) -> Draft
+        ensures { result ≡ draft_of self.now slot }
+    {
+        self.drafts.get(slot).unwrap_or(Draft::unfilled())
+    }
+
+    /// The last word read of an edge.
+    pub fn read(&self, slot: u32, side: Side) -> Option<Edge>
+        ensures { result ≡ read self.now slot side }
+    {
+        self.seen(slot).on(side)
+    }
+
+    /// Whether an edge of the node was read as null.
+    pub fn knows_leaf(&self, slot: u32) -> bool
+        ensures { result ≡ knows_leaf self.now slot }
+    {
+        is_null(self.read(slot, Side::Left)) || is_null(self.read(slot, Side::Right))
+    }
+
+    /// A slot was claimed.
+    pub fn claim(&mut self, slot: u32) -> Result<(), AllocError>
+        ensures ok { OnOk result (self.new ≡ record self.old { drafts = put self.old.drafts slot unfilled }) }
+        ensures err { OnErr result (self.new ≡ self.old) }
+    {
+        self.drafts.put(slot, Draft::unfilled())
+    }
+
+    /// A private slot was given back.
+    pub fn give(&mut self, slot: u32)
+        ensures { self.new ≡ record self.old { drafts = without self.old.drafts slot } }
+    {
+        self.drafts.remove(slot);
+    }
+
+    /// The node at the front of a queue, where it may be freed.
+    pub fn may_free(&self, slot: u32) -> Result<NodeId, Refused>
+        ensures ok { IfOk result (λ node. node ≡ node_of (front_of self.now.ledgers slot)) }
+        ensures allowed { OnOk result (first (free_checks self.now slot) ≡ None) }
+        ensures refused { IfErr result (λ why. first (free_checks self.now slot) ≡ Some why) }
+        ensures not_memory { IfErr result (λ why. why ≢ Refused.NoMemory) }
+    {
+        let entry = self.ledgers.find(slot).ok_or(Refused::NotPrivate)?;
+        let seen = self.brief.seen.ok_or(Refused::NotReady)?;
+        if entry.label.is_none() {
+            return Err(Refused::NotReady);
+        }
+        let front = self.ledgers.front(slot).ok_or(Refused::NotFront)?;
+        if front.is_young(seen) {
+            return Err(Refused::TooYoung);
+        }
+        Ok(front.node)
+    }
+
+    /// The node at the front of a queue was freed.
+    pub fn free(&mut self, node: NodeId) -> Result<(), AllocError>
+        ensures ok { OnOk result (self.new ≡ record self.old { ledgers = free self.old.ledgers node }) }
+        ensures err { OnErr result (self.new ≡ self.old) }
+    {
+        self.ledgers.free(node)
+    }
+
+    /// A field of a slot was read: of a known node the worker learns an edge or a birth, of a private slot a birth.
+    pub fn look(&mut self, slot: u32, field: Field, node: Node) -> Result<Reply, AllocError>
+        requires { is_private self.old slot ≡ false → knows self.old slot ≡ true }
+        ensures reply { IfOk result (λ reply. reply ≡ reply_look node field) }
+        ensures ok { OnOk result (self.new ≡ looked self.old slot field (reply_look node field)) }
+        ensures err { OnErr result (self.new ≡ self.old) }
+    {
+        match field {
+            Field::Key => Ok(Reply::KeyIs(node.key)),
+            Field::Edge(side) => {
+                let edge = node.edge(side);
+                if !self.is_private(slot) {
+                    self.read_edge(slot, side, edge)?;
+                }
+                Ok(Reply::EdgeIs(edge))
+            }
+            Field::Birth => {
+                self.look_at_birth(slot, node.birth)?;
+                Ok(Reply::BirthIs(node.birth))
+            }
+        }
+    }
+
+    // A birth was read.
+    fn look_at_birth(&mut self, slot: u32, birth: u64) -> Result<(), AllocError>
+        ensures ok { OnOk result (self.new ≡ looked self.old slot Birth (BirthIs birth)) }
+        ensures err { OnErr result (self.new ≡ self.old) }
+    {
+        if self.is_private(slot) {
+            let draft = Draft {
+                looked: Some(birth),
+                ..self.draft(slot)
+            };
+            return self.drafts.put(slot, draft);
+        }
+        let seen = Seen {
+            birth: Some(birth),
+            ..self.seen(slot)
+        };
+        self.known.put(slot, seen)
+    }
+
+    // A slot is known from now on, if it is one.
+    fn meet(&mut self, slot: u32) -> Result<(), AllocError>
+        ensures ok { OnOk result (self.new ≡ record self.old { known = met self.old.known slot }) }
+        ensures err { OnErr result (self.new ≡ self.old) }
+    {
+        if slot == 0 || self.known.contains(slot) {
+            return Ok(());
+        }
+        self.known.put(slot, Seen::unread())
+    }
+
+    /// A field of a private slot was stored.
+    pub fn fill(&mut self, slot: u32, draft: Draft)
+        requires { is_private self.old slot ≡ true }
+        ensures { self.new ≡ record self.old { drafts = put self.old.drafts slot draft } }
+    {
+        self.drafts.replace(slot, draft);
+    }
+
+    // The last word read of an edge of a known node, and its slot is known from now on.
+    fn read_edge(&mut self, slot: u32, side: Side, edge: Edge) -> Result<(), AllocError>
+        requires { knows self.old slot ≡ true }
+        ensures ok { OnOk result (self.new ≡ read_edge self.old slot side edge) }
+        ensures err { OnErr result (self.new ≡ self.old) }
+    {
+        let seen = self.seen(slot).with_read(side, edge);
+        self.meet(edge.slot())?;
+        self.known.replace(slot, seen);
+        Ok(())
+    }
+}
+
 // What a worker knows as it is pinned.
 fn rooted(alloc: Global) -> Result<SlotMap<Seen>, AllocError>
     ensures { IfOk result (λ known. known ≡ rooted) }
@@ -175,6 +350,13 @@ fn rooted(alloc: Global) -> Result<SlotMap<Seen>, AllocError>
     known.put(1, Seen::unread())?;
     known.put(2, Seen::unread())?;
     Ok(known)
+}
+
+// An edge was read, and as null.
+fn is_null(edge: Option<Edge>) -> bool
+    ensures { result ≡ is_null edge }
+{
+    edge.is_some_and(|edge| edge.slot() == 0)
 }
 
 // Each worker but this one is scanned.
