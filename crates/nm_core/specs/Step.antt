@@ -81,11 +81,13 @@ is_early d _ v b = is_none d.birth
 abbrev pub is_leaf_draft : Knowledge → ℕ → Bool
 is_leaf_draft k s = is_private k s && (is_some (draft_of k s).key && (is_number (draft_of k s).left 0 && is_number (draft_of k s).right 0))
 
+-- filled as an internal node over the leaf
+abbrev pub is_fork_over : Draft → ℕ → Bool
+is_fork_over d leaf = is_some d.key && (is_number d.left leaf || is_number d.right leaf)
+
 -- a private slot that is filled as an internal node, over the leaf and a private leaf
 abbrev pub is_linkable : Knowledge → ℕ → ℕ → Bool
-is_linkable k new leaf =
-    is_some (draft_of k new).key && ((is_number (draft_of k new).left leaf || is_number (draft_of k new).right leaf)
-    && is_leaf_draft k (unwrap_or (beside (draft_of k new) leaf) 0))
+is_linkable k new leaf = is_fork_over (draft_of k new) leaf && is_leaf_draft k (unwrap_or (beside (draft_of k new) leaf) 0)
 
 -- a chain of known tagged edges with flagged twins, from s to p and on by the edge on keep
 abbrev pub is_frozen : Layout → Knowledge → ℕ → ℕ → Side → Bool

@@ -1,9 +1,9 @@
 //! What one worker knows, by parts.
 
 ghost use Rattle.std.specs.Prelude.{◌≡◌, ◌<◌, ◌^◌, true};
-ghost use Rattle.nm_core.specs.Knowledge.{unread, unfilled, read_on};
+ghost use Rattle.nm_core.specs.Knowledge.{unread, unfilled, read_on, beside};
 ghost use Rattle.nm_core.specs.Learning.{with_read, filled_in};
-ghost use Rattle.nm_core.specs.Step.{is_edge, is_early};
+ghost use Rattle.nm_core.specs.Step.{is_edge, is_early, is_fork_over};
 
 use crate::event::Field;
 use nm_edge::{Edge, Side};
@@ -89,6 +89,24 @@ impl Draft {
             key: None,
             left: None,
             right: None,
+        }
+    }
+
+    /// Whether it is filled as an internal node over this leaf.
+    pub fn is_fork_over(self, leaf: u32) -> bool
+        ensures { result ≡ is_fork_over self leaf }
+    {
+        self.key.is_some() && (self.left == Some(leaf) || self.right == Some(leaf))
+    }
+
+    /// Of the two filled edges the one that does not lead to the leaf.
+    pub fn beside(self, leaf: u32) -> Option<u32>
+        ensures { result ≡ beside self leaf }
+    {
+        if self.left == Some(leaf) {
+            self.right
+        } else {
+            self.left
         }
     }
 

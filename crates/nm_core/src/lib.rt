@@ -14,6 +14,7 @@ mod queue;
 mod reply;
 mod slot_map;
 mod trace;
+mod tree_steps;
 mod worker;
 
 /// The greatest epoch and the greatest birth, 2^62.

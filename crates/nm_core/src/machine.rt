@@ -1,12 +1,12 @@
 //! All words of the tree, and what each worker knows.
-ghost use Rattle.std.specs.Prelude.{◌≡◌, IfOk};
-ghost use Rattle.nm_core.specs.Memory.{named};
+ghost use Rattle.std.specs.Prelude.{◌≡◌, ◌<◌, length, IfOk};
+ghost use Rattle.nm_core.specs.Memory.{named, put_edge};
 ghost use Rattle.nm_core.specs.Step.{outside};
 ghost use Rattle.nm_core.specs.Runs.{start};
 
 use crate::memory::{self, Node};
 use crate::worker::Worker;
-use nm_edge::{Layout, NodeId};
+use nm_edge::{Edge, Layout, NodeId, Side};
 use std::alloc::{AllocError, Global};
 use std::marker::Model;
 
@@ -72,5 +72,14 @@ impl Machine {
             None => 0,
         };
         NodeId { slot, birth }
+    }
+
+    /// Stores an edge.
+    pub fn put_edge(&mut self, slot: u32, side: Side, edge: Edge)
+        requires { slot < length self.old.memory.nodes }
+        ensures { self.new ≡ record self.old { memory = put_edge self.old.memory slot side edge } }
+    {
+        let slot = slot as usize;
+        self.nodes[slot] = self.nodes[slot].with_edge(side, edge);
     }
 }

@@ -1,12 +1,12 @@
 //! What one worker knows, and how its events add to it.
-ghost use Rattle.std.specs.Prelude.{◌≡◌, ◌≢◌, ◌<◌, ◌==◌, true, false, not, length, [], Some, None, IfOk, IfErr, OnOk, OnErr};
+ghost use Rattle.std.specs.Prelude.{◌≡◌, ◌≢◌, ◌<◌, ◌==◌, true, false, not, ◌&&◌, unwrap_or, length, [], Some, None, IfOk, IfErr, OnOk, OnErr};
 ghost use Rattle.nm_core.specs.declared.event.Field.TheVariants.{Birth};
 ghost use Rattle.nm_core.specs.declared.reply.Reply.TheVariants.{BirthIs};
 ghost use Rattle.nm_core.specs.Maps.{put, without};
 ghost use Rattle.nm_core.specs.Ledgers.{front_of, free};
-ghost use Rattle.nm_core.specs.Knowledge.{newcomer, unfilled, knows, is_private, seen_of, draft_of, read, is_null, knows_leaf};
-ghost use Rattle.nm_core.specs.Learning.{saw, labelled, pinned, rooted, moved, learn_sight, learn_scan, looked, met, read_edge};
-ghost use Rattle.nm_core.specs.Step.{reply_sight, reply_scan, reply_look, others_scanned, node_of, first, free_checks};
+ghost use Rattle.nm_core.specs.Knowledge.{newcomer, unfilled, knows, is_private, seen_of, draft_of, beside, read, is_null, is_flagged, is_tagged, knows_leaf};
+ghost use Rattle.nm_core.specs.Learning.{saw, labelled, pinned, rooted, moved, learn_sight, learn_scan, looked, met, read_edge, linked};
+ghost use Rattle.nm_core.specs.Step.{reply_sight, reply_scan, reply_look, others_scanned, node_of, node_linked, is_leaf_draft, is_linkable, first, free_checks};
 
 use crate::event::Field;
 use crate::knowledge::{Brief, Draft, Seen};
@@ -329,8 +329,85 @@ impl Worker {
         self.drafts.replace(slot, draft);
     }
 
-    // The last word read of an edge of a known node, and its slot is known from now on.
-    fn read_edge(&mut self, slot: u32, side: Side, edge: Edge) -> Result<(), AllocError>
+    /// Whether a parent is known, and a leaf known as one.
+    pub fn holds_leaf(&self, parent: u32, leaf: u32) -> bool
+        ensures { result ≡ (knows self.now parent && (knows self.now leaf && knows_leaf self.now leaf)) }
+    {
+        self.knows(parent) && self.knows(leaf) && self.knows_leaf(leaf)
+    }
+
+    /// Whether the edge on a side was last read as flagged.
+    pub fn knows_flagged(&self, slot: u32, side: Side) -> bool
+        ensures { result ≡ is_flagged (read self.now slot side) }
+    {
+        self.read(slot, side).is_some_and(Edge::flag)
+    }
+
+    /// Whether the edge on a side was last read as tagged.
+    pub fn knows_tagged(&self, slot: u32, side: Side) -> bool
+        ensures { result ≡ is_tagged (read self.now slot side) }
+    {
+        self.read(slot, side).is_some_and(Edge::tag)
+    }
+
+    // Whether a private slot is filled as a leaf.
+    fn is_leaf_draft(&self, slot: u32) -> bool
+        ensures { result ≡ is_leaf_draft self.now slot }
+    {
+        let draft = self.draft(slot);
+        self.is_private(slot)
+            && draft.key.is_some()
+            && draft.left == Some(0)
+            && draft.right == Some(0)
+    }
+
+    /// Whether a private slot is filled as an internal node over this leaf and a private leaf.
+    pub fn is_linkable(&self, new: u32, leaf: u32) -> bool
+        ensures { result ≡ is_linkable self.now new leaf }
+    {
+        self.draft(new).is_fork_over(leaf) && self.is_leaf_draft(self.leaf_beside(new, leaf))
+    }
+
+    // Two slots are private no longer.
+    fn publish(&mut self, new: u32, leaf: u32)
+        ensures { self.new ≡ record self.old { drafts = without (without self.old.drafts new) leaf } }
+    {
+        self.drafts.remove(new);
+        self.drafts.remove(leaf);
+    }
+
+    /// A private slot was put into the tree, over this leaf and the private leaf beside it. Answers the new node.
+    pub fn link(&mut self, leaf: u32, new: u32) -> Result<NodeId, AllocError>
+        ensures node { IfOk result (λ node. node ≡ node_linked self.old new) }
+        ensures ok { OnOk result (self.new ≡ linked self.old leaf new) }
+        ensures err { OnErr result (self.new ≡ self.old) }
+    {
+        let node = self.node_drafted(new);
+        let beside = self.leaf_beside(new, leaf);
+        self.meet(new)?;
+        self.publish(new, beside);
+        Ok(node)
+    }
+
+    // The node that a private slot becomes.
+    fn node_drafted(&self, new: u32) -> NodeId
+        ensures { result ≡ node_linked self.now new }
+    {
+        NodeId {
+            slot: new,
+            birth: self.draft(new).birth.unwrap_or(0),
+        }
+    }
+
+    // Of the two filled edges of a private slot, where the one leads that does not lead to this leaf.
+    fn leaf_beside(&self, new: u32, leaf: u32) -> u32
+        ensures { result ≡ unwrap_or (beside (draft_of self.now new) leaf) 0 }
+    {
+        self.draft(new).beside(leaf).unwrap_or(0)
+    }
+
+    /// An edge of a known node was read, and its slot is known from now on.
+    pub fn read_edge(&mut self, slot: u32, side: Side, edge: Edge) -> Result<(), AllocError>
         requires { knows self.old slot ≡ true }
         ensures ok { OnOk result (self.new ≡ read_edge self.old slot side edge) }
         ensures err { OnErr result (self.new ≡ self.old) }

@@ -1,0 +1,142 @@
+//! The steps on the edges of the tree.
+#![tactic(auto, unfolding(crate::specs::Step::refusal, crate::specs::Step::reply, crate::specs::Step::write, crate::specs::Learning::learn, crate::specs::Runs::applied))]
+
+ghost use Rattle.std.specs.Prelude.{◌≡◌, ◌≢◌, ◌<◌, ◌≤◌, true, length, OnOk, OnErr, IfErr};
+ghost use Rattle.nm_core.specs.declared.event.Event.TheVariants as event;
+ghost use Rattle.nm_core.specs.Knowledge.{knows};
+ghost use Rattle.nm_core.specs.Runs.{of, refusal_of, reply_of, applied};
+ghost use Rattle.nm_core.specs.Answers.{IsAnswer, IsRefusedAs, IsShaped};
+
+use crate::machine::Machine;
+use crate::reply::{Refused, Reply};
+use nm_edge::{Edge, Side};
+
+impl Machine {
+    // Whether the exchange may be tried.
+    fn may_link(&self, worker: usize, parent: u32, side: Side, leaf: u32, new: u32) -> Result<(), Refused>
+        requires shaped { IsShaped self.now }
+        requires is_there { worker < length self.now.workers }
+        ensures allowed { OnOk result (refusal_of self.now worker (event.Link parent side leaf new) ≡ None) }
+        ensures refused { IfErr result (IsRefusedAs (refusal_of self.now worker (event.Link parent side leaf new))) }
+        ensures slot { OnOk result (parent ≤ self.now.layout.nodes) }
+        ensures known { OnOk result (knows (of self.now worker) parent ≡ true) }
+    {
+        if self.is_outside(1, parent) || self.is_outside(1, leaf) || self.is_outside(6, new) {
+            return Err(Refused::NoSlot);
+        }
+        let knowledge = &self.workers[worker];
+        if knowledge.brief().pin.is_none() {
+            return Err(Refused::NotPinned);
+        }
+        if !knowledge.holds_leaf(parent, leaf) {
+            return Err(Refused::NotHeld);
+        }
+        if !knowledge.is_private(new) {
+            return Err(Refused::NotPrivate);
+        }
+        if !knowledge.is_linkable(new, leaf) {
+            return Err(Refused::NotReady);
+        }
+        Ok(())
+    }
+
+    pub fn link(&mut self, worker: usize, parent: u32, side: Side, leaf: u32, new: u32) -> Result<Reply, Refused>
+        requires shaped { IsShaped self.old }
+        requires is_there { worker < length self.old.workers }
+        ensures outcome { IsAnswer (refusal_of self.old worker (event.Link parent side leaf new)) (reply_of self.old worker (event.Link parent side leaf new)) result }
+        ensures ok { OnOk result (self.new ≡ applied self.old worker (event.Link parent side leaf new)) }
+        ensures err { OnErr result (self.new ≡ self.old) }
+    {
+        self.may_link(worker, parent, side, leaf, new)?;
+        let edge = self.nodes[parent as usize].edge(side);
+        if !edge.is_to(leaf) {
+            self.workers[worker].read_edge(parent, side, edge)?;
+            return Ok(Reply::Lost(edge));
+        }
+        let node = self.workers[worker].link(leaf, new)?;
+        self.put_edge(parent, side, Edge::to(new));
+        Ok(Reply::Linked(node))
+    }
+
+    // Whether the exchange may be tried.
+    fn may_flag(&self, worker: usize, parent: u32, side: Side, leaf: u32) -> Result<(), Refused>
+        requires shaped { IsShaped self.now }
+        requires is_there { worker < length self.now.workers }
+        ensures allowed { OnOk result (refusal_of self.now worker (event.Flag parent side leaf) ≡ None) }
+        ensures refused { IfErr result (IsRefusedAs (refusal_of self.now worker (event.Flag parent side leaf))) }
+        ensures slot { OnOk result (parent ≤ self.now.layout.nodes) }
+        ensures known { OnOk result (knows (of self.now worker) parent ≡ true) }
+        ensures leaf { OnOk result (leaf ≢ 0) }
+    {
+        if self.is_outside(1, parent) || self.is_outside(6, leaf) {
+            return Err(Refused::NoSlot);
+        }
+        let knowledge = &self.workers[worker];
+        if knowledge.brief().pin.is_none() {
+            return Err(Refused::NotPinned);
+        }
+        if !knowledge.holds_leaf(parent, leaf) {
+            return Err(Refused::NotHeld);
+        }
+        Ok(())
+    }
+
+    pub fn flag(&mut self, worker: usize, parent: u32, side: Side, leaf: u32) -> Result<Reply, Refused>
+        requires shaped { IsShaped self.old }
+        requires is_there { worker < length self.old.workers }
+        ensures outcome { IsAnswer (refusal_of self.old worker (event.Flag parent side leaf)) (reply_of self.old worker (event.Flag parent side leaf)) result }
+        ensures ok { OnOk result (self.new ≡ applied self.old worker (event.Flag parent side leaf)) }
+        ensures err { OnErr result (self.new ≡ self.old) }
+    {
+        self.may_flag(worker, parent, side, leaf)?;
+        let edge = self.nodes[parent as usize].edge(side);
+        if !edge.is_to(leaf) {
+            self.workers[worker].read_edge(parent, side, edge)?;
+            return Ok(Reply::Lost(edge));
+        }
+        let node = self.named(leaf);
+        let flagged = Edge::to(leaf).flagged();
+        self.workers[worker].read_edge(parent, side, flagged)?;
+        self.put_edge(parent, side, flagged);
+        Ok(Reply::Flagged(node))
+    }
+
+    // Whether the exchange may be tried.
+    fn may_tag(&self, worker: usize, parent: u32, side: Side) -> Result<(), Refused>
+        requires shaped { IsShaped self.now }
+        requires is_there { worker < length self.now.workers }
+        ensures allowed { OnOk result (refusal_of self.now worker (event.Tag parent side) ≡ None) }
+        ensures refused { IfErr result (IsRefusedAs (refusal_of self.now worker (event.Tag parent side))) }
+        ensures slot { OnOk result (parent ≤ self.now.layout.nodes) }
+        ensures known { OnOk result (knows (of self.now worker) parent ≡ true) }
+    {
+        if self.is_outside(1, parent) {
+            return Err(Refused::NoSlot);
+        }
+        let knowledge = &self.workers[worker];
+        if knowledge.brief().pin.is_none() {
+            return Err(Refused::NotPinned);
+        }
+        if !knowledge.knows(parent) {
+            return Err(Refused::NotHeld);
+        }
+        if !knowledge.knows_flagged(parent, side.other()) {
+            return Err(Refused::NotFrozen);
+        }
+        Ok(())
+    }
+
+    pub fn tag(&mut self, worker: usize, parent: u32, side: Side) -> Result<Reply, Refused>
+        requires shaped { IsShaped self.old }
+        requires is_there { worker < length self.old.workers }
+        ensures outcome { IsAnswer (refusal_of self.old worker (event.Tag parent side)) (reply_of self.old worker (event.Tag parent side)) result }
+        ensures ok { OnOk result (self.new ≡ applied self.old worker (event.Tag parent side)) }
+        ensures err { OnErr result (self.new ≡ self.old) }
+    {
+        self.may_tag(worker, parent, side)?;
+        let edge = self.nodes[parent as usize].edge(side);
+        self.workers[worker].read_edge(parent, side, edge.tagged())?;
+        self.put_edge(parent, side, edge.tagged());
+        Ok(Reply::Was(edge))
+    }
+}
