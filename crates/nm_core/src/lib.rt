@@ -1,6 +1,7 @@
 //! The pure core: every word of the tree and what every worker knows as plain data, moved by one event at a time.
 #![tactic(auto)]
 
+mod chain;
 mod epoch_steps;
 mod event;
 mod knowledge;

@@ -1,15 +1,17 @@
 //! What one worker knows, and how its events add to it.
-ghost use Rattle.std.specs.Prelude.{◌≡◌, ◌≢◌, ◌<◌, ◌==◌, true, false, not, ◌&&◌, unwrap_or, length, [], Some, None, IfOk, IfErr, OnOk, OnErr};
+ghost use Rattle.std.specs.Prelude.{◌≡◌, ◌≢◌, ◌<◌, ◌==◌, true, false, not, ◌&&◌, unwrap_or, replicate, length, [], Some, None, IfOk, IfErr, OnOk, OnErr};
+ghost use Rattle.std.specs.Option.{option_copied};
 ghost use Rattle.nm_core.specs.declared.event.Field.TheVariants.{Birth};
 ghost use Rattle.nm_core.specs.declared.reply.Reply.TheVariants.{BirthIs};
 ghost use Rattle.nm_core.specs.Maps.{put, without};
-ghost use Rattle.nm_core.specs.Ledgers.{front_of, free};
+ghost use Rattle.nm_core.specs.Ledgers.{held, front_of, free};
 ghost use Rattle.nm_core.specs.Knowledge.{newcomer, unfilled, knows, is_private, seen_of, draft_of, beside, read, is_null, is_flagged, is_tagged, knows_leaf};
-ghost use Rattle.nm_core.specs.Learning.{saw, labelled, pinned, rooted, moved, learn_sight, learn_scan, looked, met, read_edge, linked};
+ghost use Rattle.nm_core.specs.Learning.{saw, labelled, pinned, rooted, moved, learn_sight, learn_scan, looked, met, read_edge, linked, cutting, inheriting, resigned};
 ghost use Rattle.nm_core.specs.Step.{reply_sight, reply_scan, reply_look, others_scanned, node_of, node_linked, is_leaf_draft, is_linkable, first, free_checks};
 
 use crate::event::Field;
 use crate::knowledge::{Brief, Draft, Seen};
+use crate::ledger::Ledger;
 use crate::ledgers::Ledgers;
 use crate::memory::Node;
 use crate::reply::{Refused, Reply};
@@ -17,6 +19,7 @@ use crate::slot_map::SlotMap;
 use nm_edge::{Edge, Layout, NodeId, Side};
 use std::alloc::{AllocError, Global};
 use std::marker::Model;
+use std::mem;
 
 /// The knowledge of one worker.
 #[derive(Drop)]
@@ -387,6 +390,49 @@ impl Worker {
         self.meet(new)?;
         self.publish(new, beside);
         Ok(node)
+    }
+
+    /// Nodes were cut by this worker, of this number, and wait for their label.
+    pub fn retire(&mut self, number: usize, nodes: &[NodeId]) -> Result<(), AllocError>
+        requires { number < length self.old.ledgers }
+        ensures ok { OnOk result (self.new ≡ cutting number self.old nodes.now) }
+        ensures err { OnErr result (self.new ≡ self.old) }
+    {
+        self.ledgers.retire(number, nodes)?;
+        self.brief.unlabelled = true;
+        Ok(())
+    }
+
+    /// A copy of the ledgers that it holds.
+    pub fn ledgers_in(&self, alloc: Global) -> Result<Ledgers, AllocError>
+        ensures { IfOk result (λ ledgers. ledgers ≡ self.now.ledgers) }
+    {
+        self.ledgers.clone_in(alloc)
+    }
+
+    /// The ledger of an origin, if it holds it.
+    pub fn ledger(&self, origin: u32) -> Option<&Ledger>
+        ensures { option_copied result ≡ held self.now.ledgers origin }
+    {
+        self.ledgers.get(origin)
+    }
+
+    /// It resigns, and its ledgers pass to another.
+    pub fn resign(&mut self, none: Ledgers) -> Ledgers
+        requires { none ≡ replicate (length self.old.ledgers) None }
+        ensures ledgers { result ≡ self.old.ledgers }
+        ensures gone { self.new ≡ resigned self.old }
+    {
+        self.gone = true;
+        mem::replace(&mut self.ledgers, none)
+    }
+
+    /// It takes over the ledgers of another.
+    pub fn inherit(&mut self, passed: Ledgers)
+        requires { length passed ≡ length self.old.ledgers }
+        ensures { self.new ≡ inheriting self.old passed }
+    {
+        self.ledgers.take_over(passed);
     }
 
     // The node that a private slot becomes.
