@@ -2,6 +2,7 @@ pub mod Tables
 pub mod Meeting
 pub mod Labels
 pub mod Ways
+pub mod Joining
 pub mod Origins
 pub mod Steps
 pub mod Sizes

@@ -4,6 +4,7 @@
 mod chain;
 mod epoch_steps;
 mod event;
+mod join_steps;
 mod knowledge;
 mod laws;
 mod ledger;

@@ -13,6 +13,7 @@ use std::marker::Model;
 /// All words of the tree, and what each worker knows.
 #[derive(Drop)]
 pub struct Machine {
+    pub alloc: Global,
     pub layout: Layout,
     pub epoch: u64,
     pub notes: Vec<Option<u64>>,
@@ -40,6 +41,7 @@ impl Machine {
             newcomers.push(Worker::new(alloc, layout, number)?)?;
         }
         Ok(Machine {
+            alloc,
             layout,
             epoch: 0,
             notes: vec![in alloc; None; workers as usize]?,

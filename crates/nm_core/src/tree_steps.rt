@@ -1,15 +1,19 @@
 //! The steps on the edges of the tree.
 #![tactic(auto, unfolding(crate::specs::Step::refusal, crate::specs::Step::reply, crate::specs::Step::write, crate::specs::Learning::learn, crate::specs::Runs::applied))]
 
-ghost use Rattle.std.specs.Prelude.{◌≡◌, ◌≢◌, ◌<◌, ◌≤◌, true, length, OnOk, OnErr, IfErr};
+ghost use Rattle.std.specs.Prelude.{◌≡◌, ◌≢◌, ◌<◌, ◌≤◌, true, length, map, is_some, OnOk, OnErr, IfOk, IfErr};
 ghost use Rattle.nm_core.specs.declared.event.Event.TheVariants as event;
-ghost use Rattle.nm_core.specs.Knowledge.{knows};
+ghost use Rattle.nm_core.specs.Memory.{named};
+ghost use Rattle.nm_core.specs.Knowledge.{knows, way};
+ghost use Rattle.nm_core.specs.Step.{cut_nodes};
 ghost use Rattle.nm_core.specs.Runs.{of, refusal_of, reply_of, applied};
 ghost use Rattle.nm_core.specs.Answers.{IsAnswer, IsRefusedAs, IsShaped};
 
+use crate::ledger::Nodes;
 use crate::machine::Machine;
 use crate::reply::{Refused, Reply};
-use nm_edge::{Edge, Side};
+use nm_edge::{Edge, NodeId, Side};
+use std::alloc::AllocError;
 
 impl Machine {
     // Whether the exchange may be tried.
@@ -138,5 +142,72 @@ impl Machine {
         self.workers[worker].read_edge(parent, side, edge.tagged())?;
         self.put_edge(parent, side, edge.tagged());
         Ok(Reply::Was(edge))
+    }
+
+    // Whether the exchange may be tried.
+    fn may_splice(&self, worker: usize, ancestor: u32, side: Side, successor: u32, parent: u32, keep: Side) -> Result<(), Refused>
+        requires shaped { IsShaped self.now }
+        requires is_there { worker < length self.now.workers }
+        ensures allowed { OnOk result (refusal_of self.now worker (event.Splice ancestor side successor parent keep) ≡ None) }
+        ensures refused { IfErr result (IsRefusedAs (refusal_of self.now worker (event.Splice ancestor side successor parent keep))) }
+        ensures slot { OnOk result (ancestor ≤ self.now.layout.nodes) }
+        ensures known { OnOk result (knows (of self.now worker) ancestor ≡ true) }
+        ensures leads { OnOk result (is_some (way self.now.layout.nodes (of self.now worker) successor parent) ≡ true) }
+    {
+        if self.is_outside(1, ancestor) || self.is_outside(6, successor) || self.is_outside(6, parent) {
+            return Err(Refused::NoSlot);
+        }
+        let knowledge = &self.workers[worker];
+        if knowledge.brief().pin.is_none() {
+            return Err(Refused::NotPinned);
+        }
+        if !(knowledge.knows(ancestor) && knowledge.knows(successor)) {
+            return Err(Refused::NotHeld);
+        }
+        if !knowledge.is_frozen(self.layout, successor, parent, keep) {
+            return Err(Refused::NotFrozen);
+        }
+        Ok(())
+    }
+
+    // The nodes of a chain, each by its birth word.
+    fn cut_nodes(&self, worker: usize, successor: u32, parent: u32, keep: Side) -> Result<Vec<NodeId>, AllocError>
+        requires is_there { worker < length self.now.workers }
+        requires leads { is_some (way self.now.layout.nodes (of self.now worker) successor parent) ≡ true }
+        ensures { IfOk result (λ nodes. nodes.items ≡ cut_nodes self.now.layout self.now.memory (of self.now worker) successor parent keep) }
+    {
+        let slots = self.workers[worker].cut(self.alloc, self.layout.nodes(), successor, parent, keep)?;
+        self.names(&slots)
+    }
+
+    // Slots, each with the birth that it has now.
+    fn names(&self, slots: &[u32]) -> Result<Vec<NodeId>, AllocError>
+        ensures { IfOk result (λ nodes. nodes.items ≡ map (named self.now.memory) slots.now) }
+    {
+        let mut nodes = Vec::with_capacity(self.alloc, slots.len())?;
+        for slot in slots {
+            nodes.push(self.named(*slot))?;
+        }
+        Ok(nodes)
+    }
+
+    pub fn splice(&mut self, worker: usize, ancestor: u32, side: Side, successor: u32, parent: u32, keep: Side) -> Result<Reply, Refused>
+        requires shaped { IsShaped self.old }
+        requires is_there { worker < length self.old.workers }
+        ensures outcome { IsAnswer (refusal_of self.old worker (event.Splice ancestor side successor parent keep)) (reply_of self.old worker (event.Splice ancestor side successor parent keep)) result }
+        ensures ok { OnOk result (self.new ≡ applied self.old worker (event.Splice ancestor side successor parent keep)) }
+        ensures err { OnErr result (self.new ≡ self.old) }
+    {
+        self.may_splice(worker, ancestor, side, successor, parent, keep)?;
+        let edge = self.nodes[ancestor as usize].edge(side);
+        if !edge.is_to(successor) {
+            self.workers[worker].read_edge(ancestor, side, edge)?;
+            return Ok(Reply::Lost(edge));
+        }
+        let cut = self.cut_nodes(worker, successor, parent, keep)?;
+        let kept = self.workers[worker].kept(parent, keep);
+        self.workers[worker].retire(worker, &cut)?;
+        self.put_edge(ancestor, side, kept);
+        Ok(Reply::Cut(Nodes::from_vec(cut)))
     }
 }
