@@ -3,6 +3,8 @@ pub mod Meeting
 pub mod Labels
 pub mod Ways
 pub mod Joining
+pub mod Shapes
+pub mod Reaches
 pub mod Origins
 pub mod Steps
 pub mod Sizes

@@ -2,6 +2,7 @@
 #![tactic(auto)]
 
 mod chain;
+mod pure_core;
 mod epoch_steps;
 mod event;
 mod join_steps;
@@ -22,6 +23,7 @@ mod worker;
 /// The greatest epoch and the greatest birth, 2^62.
 pub const LAST_NUMBER: u64 = 1 << 62;
 
+pub use pure_core::{Core, NewError};
 pub use event::{Event, Field};
 pub use knowledge::{Brief, Draft, Seen};
 pub use laws::pins_stay_near;

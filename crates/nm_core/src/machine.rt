@@ -1,10 +1,13 @@
 //! All words of the tree, and what each worker knows.
-ghost use Rattle.std.specs.Prelude.{◌≡◌, ◌<◌, length, IfOk};
+ghost use Rattle.std.specs.Prelude.{◌≡◌, ◌<◌, length, IfOk, OnOk, OnErr};
 ghost use Rattle.nm_core.specs.Memory.{named, put_edge};
 ghost use Rattle.nm_core.specs.Step.{outside};
-ghost use Rattle.nm_core.specs.Runs.{start};
+ghost use Rattle.nm_core.specs.Runs.{start, refused, reply_of, applied};
+ghost use Rattle.nm_core.specs.Answers.{IsAnswer, IsShaped};
 
+use crate::event::Event;
 use crate::memory::{self, Node};
+use crate::reply::{Refused, Reply};
 use crate::worker::Worker;
 use nm_edge::{Edge, Layout, NodeId, Side};
 use std::alloc::{AllocError, Global};
@@ -83,5 +86,37 @@ impl Machine {
     {
         let slot = slot as usize;
         self.nodes[slot] = self.nodes[slot].with_edge(side, edge);
+    }
+
+    /// One event.
+    #[tactic(auto, unfolding(crate::specs::Runs::refused))]
+    pub fn apply(&mut self, worker: u32, event: Event) -> Result<Reply, Refused>
+        requires { IsShaped self.old }
+        ensures outcome { IsAnswer (refused self.old worker event) (reply_of self.old worker event) result }
+        ensures ok { OnOk result (self.new ≡ applied self.old worker event) }
+        ensures err { OnErr result (self.new ≡ self.old) }
+    {
+        if self.is_no_worker(worker) {
+            return Err(Refused::NoWorker);
+        }
+        let number = worker as usize;
+        match event {
+            Event::Sight => self.sight(number),
+            Event::Announce => self.announce(number),
+            Event::Leave => self.leave(number),
+            Event::Scan(other) => self.scan(number, other),
+            Event::Advance => self.advance(number),
+            Event::Claim(slot) => self.claim(number, slot),
+            Event::Give(slot) => self.give(number, slot),
+            Event::Look(slot, field) => self.look(number, slot, field),
+            Event::Fill(slot, field, value) => self.fill(number, slot, field, value),
+            Event::Link(parent, side, leaf, new) => self.link(number, parent, side, leaf, new),
+            Event::Flag(parent, side, leaf) => self.flag(number, parent, side, leaf),
+            Event::Tag(parent, side) => self.tag(number, parent, side),
+            Event::Splice(ancestor, side, successor, parent, keep) => {
+                self.splice(number, ancestor, side, successor, parent, keep)
+            }
+            Event::Join(leaver) => self.join(worker, leaver),
+        }
     }
 }

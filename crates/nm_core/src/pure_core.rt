@@ -1,0 +1,143 @@
+//! The core: the machine from its opening on.
+ghost use Rattle.std.specs.Prelude.{◌≡◌, ◌≢◌, ◌<◌, ◌≤◌, ◌⊎◌, ◌↔◌, IfOk, IfErr, OnOk, OnErr, IsErrOf, take, length};
+ghost use Rattle.std.specs.Option.{option_copied};
+ghost use Rattle.nm_core.specs.Runs.{start, refused, reply_of, applied, next, outcome, after, trace};
+ghost use Rattle.nm_core.specs.Answers.{IsAnswer};
+ghost use Rattle.nm_edge.specs.Layouts.{IsLayout};
+ghost use Rattle.nm_core.specs.Laws.{PinsAreNear};
+
+use crate::event::Event;
+use crate::machine::Machine;
+use crate::reply::{Refused, Reply};
+use crate::trace::{RunError, Trace, Turn};
+use nm_edge::{LEAST_NODES, Layout, LayoutError, MOST_NODES, MOST_WORKERS};
+use std::alloc::{AllocError, Global};
+use std::marker::Model;
+use thiserror::Error;
+
+/// Why a core was not made. Where several reasons hold, the first of this order is answered.
+#[derive(Clone, Copy, Debug, PartialEq, Eq, Error)]
+pub enum NewError {
+    /// Fewer than 7 nodes, or more than 1,048,576.
+    #[error("nodes are not 7 to 1048576")]
+    Nodes,
+    /// No worker, or more than 64.
+    #[error("workers are not 1 to 64")]
+    Workers,
+    /// A growth was refused.
+    #[error("no memory")]
+    NoMemory,
+}
+
+impl From<AllocError> for NewError {
+    ghost use Rattle.std.specs.Prelude.{◌≡◌};
+    ghost use Rattle.nm_core.specs.declared.pure_core.NewError.TheVariants.{NoMemory};
+
+    ghost from_gives = { λ _ e. e ≡ NoMemory };
+
+    fn from(_: AllocError) -> NewError {
+        NewError::NoMemory
+    }
+}
+
+/// All words of the tree, and what each worker knows, as plain data. Its state is one to which some events lead from the opening.
+#[derive(Drop)]
+pub struct Core {
+    machine: Machine,
+}
+
+impl Model for Core {
+    ghost use Rattle.nm_core.specs.Runs.{State, IsReachable};
+
+    ghost Value = { State };
+
+    ghost view = { λ c. c.machine };
+
+    ghost invariant = { λ c. IsReachable c.machine };
+}
+
+fn layout_of(nodes: u32, workers: u32) -> Result<Layout, NewError>
+    ensures layout { IfOk result (λ layout. layout ≡ record { nodes = nodes; workers = workers }) }
+    ensures fits { IfOk result IsLayout }
+    ensures nodes { IsErrOf result NewError.Nodes ↔ ((nodes < LEAST_NODES) ⊎ (MOST_NODES < nodes)) }
+    ensures workers { IsErrOf result NewError.Workers ↔ ((LEAST_NODES ≤ nodes) × (nodes ≤ MOST_NODES) × ((workers < 1) ⊎ (MOST_WORKERS < workers))) }
+    ensures memory { IfErr result (λ e. e ≢ NewError.NoMemory) }
+{
+    match Layout::new(nodes, workers) {
+        Ok(layout) => Ok(layout),
+        Err(LayoutError::Nodes) => Err(NewError::Nodes),
+        Err(LayoutError::Workers) => Err(NewError::Workers),
+    }
+}
+
+impl Core {
+    /// The opening: the empty tree, epoch 0, everybody idle, and every slot above 5 in the pool with birth 0.
+    pub fn new(alloc: Global, nodes: u32, workers: u32) -> Result<Core, NewError>
+        ensures opening { IfOk result (λ core. core ≡ start (record { nodes = nodes; workers = workers })) }
+        ensures nodes { IsErrOf result NewError.Nodes ↔ ((nodes < LEAST_NODES) ⊎ (MOST_NODES < nodes)) }
+        ensures workers { IsErrOf result NewError.Workers ↔ ((LEAST_NODES ≤ nodes) × (nodes ≤ MOST_NODES) × ((workers < 1) ⊎ (MOST_WORKERS < workers))) }
+    {
+        let layout = layout_of(nodes, workers)?;
+        let machine = Machine::new(alloc, layout)?;
+        Ok(Core { machine })
+    }
+
+    /// The global epoch. While a worker is pinned at an epoch, it is that one or the next.
+    pub fn epoch(&self) -> u64
+        ensures epoch { result ≡ self.now.memory.epoch }
+        ensures near { PinsAreNear self.now }
+    {
+        self.machine.epoch()
+    }
+
+    /// One event. Answers its reply, or the first reason in the order of `Refused` for which it is refused; what is refused changes nothing.
+    pub fn apply(&mut self, worker: u32, event: Event) -> Result<Reply, Refused>
+        ensures outcome { IsAnswer (refused self.old worker event) (reply_of self.old worker event) result }
+        ensures ok { OnOk result (self.new ≡ applied self.old worker event) }
+        ensures err { OnErr result (self.new ≡ self.old) }
+    {
+        self.machine.apply(worker, event)
+    }
+
+    // One event and its outcome, or nothing where memory was refused.
+    #[tactic(auto, unfolding(crate::specs::Runs::next, crate::specs::Runs::outcome))]
+    fn settle(&mut self, worker: u32, event: Event) -> Result<Result<Reply, Refused>, AllocError>
+        ensures outcome { IfOk result (λ o. o ≡ outcome self.old (worker, event)) }
+        ensures ok { OnOk result (self.new ≡ next self.old (worker, event)) }
+        ensures err { OnErr result (self.new ≡ self.old) }
+    {
+        match self.apply(worker, event) {
+            Err(Refused::NoMemory) => Err(AllocError),
+            outcome => Ok(outcome),
+        }
+    }
+
+    #[tactic(auto, unfolding(crate::specs::Runs::after, crate::specs::Runs::trace))]
+    /// Applies each event in turn, and goes on after one that is refused. The trace lists worker, event and outcome of each.
+    ///
+    /// Where memory is refused, the first `done` events have been applied and no more.
+    pub fn run(&mut self, events: Vec<(u32, Event)>) -> Result<Trace, RunError>
+        ensures trace { IfOk result (λ t. t ≡ trace self.old events.items) }
+        ensures state { OnOk result (self.new ≡ after self.old events.items) }
+        ensures done { IfErr result (λ e. e.done ≤ length events.items) }
+        ensures done_state { IfErr result (λ e. self.new ≡ after self.old (take e.done events.items)) }
+    {
+        let Ok(mut turns) = Vec::with_capacity(self.machine.alloc, events.len()) else {
+            return Err(RunError { done: 0 });
+        };
+        for (done, turn) in events.iter().enumerate() {
+            let (worker, event) = *turn;
+            let Ok(outcome) = self.settle(worker, event) else {
+                return Err(RunError { done });
+            };
+            turns
+                .push(Turn {
+                    worker,
+                    event,
+                    outcome,
+                })
+                .unwrap();
+        }
+        Ok(Trace::from_turns(turns))
+    }
+}
