@@ -9,3 +9,4 @@ pub mod Paths
 pub mod Reports
 pub mod Schedules
 pub mod Laws
+pub mod Places
