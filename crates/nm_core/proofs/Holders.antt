@@ -5,6 +5,7 @@ use native.Mathlib.Decide.{ℕ_discrete}
 use Rattle.std.proofs.lemmas.Bool.{cond-true, cond-false, eq-eqb, ne_eqb}
 use Rattle.std.proofs.lemmas.List.{length-replicate}
 use Rattle.nm_edge.specs.Layouts.{Layout}
+use Rattle.nm_core.specs.declared.event.Event.{Event}
 use Rattle.nm_core.specs.declared.event.Event.TheVariants.{Join}
 use Rattle.nm_core.specs.declared.reply.Reply.{Reply}
 use Rattle.nm_core.specs.declared.ledger.Ledger.{Ledger}
@@ -36,27 +37,27 @@ is_some_map : (f : Ledger → Ledger) (o : Option Ledger) → is_some (option_ma
 is_some_map f None = refl
 is_some_map f (Some l) = refl
 
-pub still_held : (s : State) (w : ℕ) (r : Reply) (k : Knowledge) → w < length (of s w).ledgers → Change s w r k → (o : ℕ) → is_some (held k.ledgers o) ≡ is_some (held (of s w).ledgers o)
-still_held s w r k inside (Keeps same _ _ _) o = ap (λ ls. is_some (held ls o)) same
-still_held s w r k inside (Labels is _ _) o = ap (λ ls. is_some (held ls o)) is ∙ (ap is_some (held-label s.memory.epoch (of s w).ledgers o) ∙ is_some_map (labelled s.memory.epoch) (held (of s w).ledgers o))
-still_held s w r k inside (Cuts ns is _ _) o = ap (λ ls. is_some (held ls o)) is ∙ elim (ℕ_discrete o w) [
+pub still_held : (s : State) (w : ℕ) (e : Event) (r : Reply) (k : Knowledge) → w < length (of s w).ledgers → Change s w e r k → (o : ℕ) → is_some (held k.ledgers o) ≡ is_some (held (of s w).ledgers o)
+still_held s w e r k inside (Keeps same _ _ _) o = ap (λ ls. is_some (held ls o)) same
+still_held s w e r k inside (Labels is _ _) o = ap (λ ls. is_some (held ls o)) is ∙ (ap is_some (held-label s.memory.epoch (of s w).ledgers o) ∙ is_some_map (labelled s.memory.epoch) (held (of s w).ledgers o))
+still_held s w e r k inside (Cuts ns is _ _ _) o = ap (λ ls. is_some (held ls o)) is ∙ elim (ℕ_discrete o w) [
   | yes e ↦ rw e (ap is_some (held-retire_same (of s w).ledgers w ns inside) ∙ is_some_map (with_cut ns) (held (of s w).ledgers w))
   | no ne ↦ ap is_some (held-retire_other (of s w).ledgers w ns o ne)
 ]
-still_held s w r k inside (Frees x e f _ is _ _) o = ap (λ ls. is_some (held ls o)) is ∙ elim (ℕ_discrete o f.origin) [
+still_held s w e r k inside (Frees x q f _ is _ _) o = ap (λ ls. is_some (held ls o)) is ∙ elim (ℕ_discrete o f.origin) [
   | yes e ↦ rw e (ap is_some f.after ∙ sym (ap is_some f.is_held))
   | no ne ↦ ap is_some (f.others o ne)
 ]
 
-pub still_long : (s : State) (w : ℕ) (r : Reply) (k : Knowledge) → Change s w r k → length k.ledgers ≡ length (of s w).ledgers
-still_long s w r k (Keeps same _ _ _) = ap length same
-still_long s w r k (Labels is _ _) = ap length is ∙ length-label s.memory.epoch (of s w).ledgers
-still_long s w r k (Cuts ns is _ _) = ap length is ∙ length-retire (of s w).ledgers w ns
-still_long s w r k (Frees x e f _ is _ _) = ap length is ∙ length-free (of s w).ledgers e.node
+pub still_long : (s : State) (w : ℕ) (e : Event) (r : Reply) (k : Knowledge) → Change s w e r k → length k.ledgers ≡ length (of s w).ledgers
+still_long s w e r k (Keeps same _ _ _) = ap length same
+still_long s w e r k (Labels is _ _) = ap length is ∙ length-label s.memory.epoch (of s w).ledgers
+still_long s w e r k (Cuts ns is _ _ _) = ap length is ∙ length-retire (of s w).ledgers w ns
+still_long s w e r k (Frees x q f _ is _ _) = ap length is ∙ length-free (of s w).ledgers q.node
 
-pub holders_moved : (s : State) (h : ℕ → ℕ) (w : ℕ) (m : Memory) (r : Reply) (k : Knowledge) → w < length s.workers → w < s.layout.workers → Changed s w r k → Holders s h → Holders (moved s w m k) h
-holders_moved s h w m r k inside worker changed law = record {
-  sizes = each s.layout (λ u x. length x.ledgers ≡ s.layout.workers) s.workers w k inside (still_long s w r k changed.ledgers ∙ law.sizes w) (λ u _. law.sizes u);
+pub holders_moved : (s : State) (h : ℕ → ℕ) (w : ℕ) (m : Memory) (e : Event) (r : Reply) (k : Knowledge) → w < length s.workers → w < s.layout.workers → Changed s w e r k → Holders s h → Holders (moved s w m k) h
+holders_moved s h w m e r k inside worker changed law = record {
+  sizes = each s.layout (λ u x. length x.ledgers ≡ s.layout.workers) s.workers w k inside (still_long s w e r k changed.ledgers ∙ law.sizes w) (λ u _. law.sizes u);
   only = each s.layout (λ u x. (o : ℕ) → is_some (held x.ledgers o) ≡ true → u ≡ h o) s.workers w k inside (λ o i. law.only w o (sym (same o) ∙ i)) (λ u _. law.only u);
   some = λ o lt. each s.layout (λ u x. h o ≡ u → is_some (held x.ledgers o) ≡ true) s.workers w k inside
       (λ e. same o ∙ (ap (λ (y : ℕ). is_some (held (of s y).ledgers o)) (sym e) ∙ law.some o lt)) (λ u _ e. ap (λ (y : ℕ). is_some (held (of s y).ledgers o)) (sym e) ∙ law.some o lt) (h o) refl;
@@ -65,7 +66,7 @@ holders_moved s h w m r k inside worker changed law = record {
 }
   where
     same : (o : ℕ) → is_some (held k.ledgers o) ≡ is_some (held (of s w).ledgers o)
-    same = still_held s w r k (let e = law.sizes w in omega arith) changed.ledgers
+    same = still_held s w e r k (let e = law.sizes w in omega arith) changed.ledgers
 
 -- ---- a join
 

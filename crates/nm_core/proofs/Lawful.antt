@@ -34,7 +34,7 @@ moved_lawful s h w e law ok alone = record {
   staffed = staffed_step s w e law.staffed;
   roomy = roomy_step s w e law.roomy;
   epochs = epoch_step s w e law.staffed law.epochs ok;
-  holders = rw (applied_is s w e alone) (holders_moved s h w (write s.memory (of s w) w e) (reply_of s w e) k inside ok.worker what law.holders);
+  holders = rw (applied_is s w e alone) (holders_moved s h w (write s.memory (of s w) w e) e (reply_of s w e) k inside ok.worker what law.holders);
   drafts = rw (applied_is s w e alone) (each s.layout (λ u x. Ascends x.drafts) s.workers w k inside (what.drafts (law.drafts w)) (λ u _. law.drafts u));
   known = rw (applied_is s w e alone) (each s.layout (λ u x. OnlyPinned x) s.workers w k inside (what.known (law.known w)) (λ u _. law.known u));
   tree = rw (applied_is s w e alone) (rw (picture_moved s w (write s.memory (of s w) w e) k h inside) (tree_step s h law w e ok alone));
@@ -46,7 +46,7 @@ moved_lawful s h w e law ok alone = record {
     inside : w < length s.workers
     inside = let size = law.staffed.workers in let lt = ok.worker in omega arith
 
-    what : Changed s w (reply_of s w e) k
+    what : Changed s w e (reply_of s w e) k
     what = changed s w e ok alone
 
 join_lawful : (s : State) (h : ℕ → ℕ) (w v : ℕ) → Lawful s h → Allowed s w (Join v) → Lawful (applied s w (Join v)) (heirs h w v)

@@ -25,3 +25,5 @@ pub mod TreeSteps
 pub mod Opening
 pub mod Lawful
 pub mod OnePlace
+pub mod Cuts
+pub mod Stays

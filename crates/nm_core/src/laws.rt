@@ -1,5 +1,5 @@
 //! Laws of all runs: each holds whatever the workers do and in whatever order, for every layout and every list of events.
-ghost use Rattle.nm_core.specs.Laws.{PinsStayNear};
+ghost use Rattle.nm_core.specs.Laws.{CutsJust, GoesDown, NamesBirths, NothingElseCuts, OfEachCut, PinsStayNear};
 ghost use Rattle.nm_core.specs.Places.{EachSlotHasOnePlace};
 
 /// While a worker is pinned at an epoch, the global epoch is that one or the next. (The bound of Fraser's epochs.)
@@ -11,4 +11,17 @@ pub fn pins_stay_near()
 /// or one index of the queue of one origin, which one worker holds.
 pub fn each_slot_has_one_place()
     ensures { EachSlotHasOnePlace }
+{}
+
+/// A splice that is won cuts off from the root exactly the nodes of its reply, by the paths before and after it:
+/// from the successor downwards each internal node and then its flagged leaf, each with its birth. (The cleanup of Natarajan and Mittal.)
+pub fn splices_cut_their_nodes()
+    ensures exactly { OfEachCut CutsJust }
+    ensures downwards { OfEachCut GoesDown }
+    ensures births { OfEachCut NamesBirths }
+{}
+
+/// No other event makes a reached node unreached.
+pub fn nothing_else_cuts()
+    ensures { NothingElseCuts }
 {}

@@ -9,17 +9,17 @@ mod memory;
 mod reply;
 mod trace;
 
-ghost use Rattle.std.specs.Prelude.{◌≡◌, Some};
-ghost use Rattle.nm_core.specs.Schedules.{IsAsWorked};
-ghost use Rattle.nm_core.specs.Schedules as worked;
-
 pub use event::{Event, Field};
 pub use knowledge::{Brief, Draft, Seen};
-pub use laws::{each_slot_has_one_place, pins_stay_near};
+pub use laws::{each_slot_has_one_place, nothing_else_cuts, pins_stay_near, splices_cut_their_nodes};
 pub use ledger::{Ledger, Ledgers, Nodes, Queue, Queued};
 pub use memory::Node;
 pub use reply::{Refused, Reply};
 pub use trace::{RunError, Trace, Turn};
+
+ghost use Rattle.std.specs.Prelude.{◌≡◌, Some};
+ghost use Rattle.nm_core.specs.Schedules.{IsAsWorked};
+ghost use Rattle.nm_core.specs.Schedules as worked;
 
 /// The definitions, played on the worked schedules, say what the schedules say: each outcome, each ledger, the epoch and the counts.
 pub fn worked_schedules()
