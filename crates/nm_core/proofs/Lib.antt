@@ -27,3 +27,5 @@ pub mod Lawful
 pub mod OnePlace
 pub mod Cuts
 pub mod Stays
+pub mod Origins
+pub mod Retired

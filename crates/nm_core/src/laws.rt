@@ -1,5 +1,5 @@
 //! Laws of all runs: each holds whatever the workers do and in whatever order, for every layout and every list of events.
-ghost use Rattle.nm_core.specs.Laws.{CutsJust, GoesDown, NamesBirths, NothingElseCuts, OfEachCut, PinsStayNear};
+ghost use Rattle.nm_core.specs.Laws.{CutsJust, EachLedgerHasOneHolder, GoesDown, IsFreedThenQueue, IsTheCuts, NamesBirths, NothingElseCuts, OfEachCut, OfEachLedger, PinsStayNear};
 ghost use Rattle.nm_core.specs.Places.{EachSlotHasOnePlace};
 
 /// While a worker is pinned at an epoch, the global epoch is that one or the next. (The bound of Fraser's epochs.)
@@ -24,4 +24,16 @@ pub fn splices_cut_their_nodes()
 /// No other event makes a reached node unreached.
 pub fn nothing_else_cuts()
     ensures { NothingElseCuts }
+{}
+
+/// Exactly one worker holds the ledger of each origin.
+pub fn each_ledger_has_one_holder()
+    ensures { EachLedgerHasOneHolder }
+{}
+
+/// The ledger is the cuts, whoever holds it: what was retired is what was freed and then the queue, in this order,
+/// and it is the nodes of the replies of the splices that the origin won, in cut order.
+pub fn ledgers_are_the_cuts()
+    ensures split { OfEachLedger IsFreedThenQueue }
+    ensures replies { OfEachLedger IsTheCuts }
 {}
