@@ -1,5 +1,5 @@
 -- Tests of numbers that may be there, and lists that are alike all over.
-use Rattle.std.proofs.Common.{◌≡◌, ℕ, ◌<◌, get_or, set, length, replicate, ◌⊎◌, inl, inr, Bool, true, false, List, sym, ap, ◌∙◌, arith, get_or-set_same, get_or-set_other, true≢false}
+use Rattle.std.proofs.Common.{◌≡◌, ℕ, ◌<◌, get_or, set, length, replicate, ◌⊎◌, inl, inr, Bool, true, false, [], ◌∷◌, ◌==◌, ◌||◌, List, sym, ap, ◌∙◌, arith, get_or-set_same, get_or-set_other, true≢false}
 use Rattle.std.specs.Prelude.{Option, Some, None}
 use Rattle.std.specs.List.{list_all}
 use native.Mathlib.Decide.{ℕ_discrete}
@@ -29,3 +29,8 @@ mark_or marks v b u below h = elim (ℕ_discrete u v) [
   | yes e ↦ inl (e, sym (get_or-set_same marks v b false below) ∙ (ap (λ (x : ℕ). get_or (set marks v b) x false) (sym e) ∙ h))
   | no ne ↦ inr (sym (get_or-set_other marks v u b false ne) ∙ h)
 ]
+
+-- a number is among these
+abbrev pub among : List ℕ → ℕ → Bool
+among [] q = false
+among (x ∷ xs) q = (q == x) || among xs q

@@ -1,5 +1,5 @@
 -- The lists of a state keep their lengths.
-use Rattle.std.proofs.Common.{◌≡◌, ℕ, ◌+◌, length, refl, ◌∙◌, length-set}
+use Rattle.std.proofs.Common.{◌≡◌, ℕ, ◌+◌, ◌-◌, ◌≤◌, true, length, refl, ◌∙◌, arith, length-set}
 use Rattle.std.proofs.lemmas.Bool.{cond_both}
 use Rattle.std.proofs.lemmas.List.{length-replicate}
 use Rattle.std.proofs.lemmas.List.FromFn.{length-map-range_with_len}
@@ -9,7 +9,7 @@ use Rattle.nm_edge.specs.declared.edge.Side.{Side}
 use Rattle.nm_core.specs.declared.event.Event.{Event}
 use Rattle.nm_core.specs.declared.event.Event.TheVariants.{Sight, Announce, Leave, Scan, Advance, Claim, Give, Look, Fill, Link, Flag, Tag, Splice, Join}
 use Rattle.nm_core.specs.Maps.{is_number}
-use Rattle.nm_core.specs.Memory.{Memory, edge, put_edge}
+use Rattle.nm_core.specs.Memory.{Memory, edge, put_edge, blank}
 use Rattle.nm_core.specs.Knowledge.{Knowledge, newcomer}
 use Rattle.nm_core.specs.Step.{exchanged, write}
 use Rattle.nm_core.specs.Runs.{State, of, start, applied}
@@ -64,4 +64,21 @@ pub staffed_start : (L : Layout) → Staffed (start L)
 staffed_start L = record {
   workers = length-map-range_with_len (newcomer L) 0 L.workers;
   notes = length-replicate L.workers _;
+}
+
+-- there is room for each slot, slot 0 included
+pub record Roomy (s : State) : Type 0 where
+  pub nodes : length s.memory.nodes ≡ s.layout.nodes + 1
+  pub pool : length s.memory.pool ≡ s.layout.nodes + 1
+
+pub roomy_step : (s : State) (w : ℕ) (e : Event) → Roomy s → Roomy (applied s w e)
+unfolding applied
+roomy_step s w e roomy =
+    let long = written_as_long s.memory (of s w) w e in
+    record { nodes = long.nodes ∙ roomy.nodes; pool = long.pool ∙ roomy.pool }
+
+pub roomy_start : (L : Layout) → 5 ≤ L.nodes → Roomy (start L)
+roomy_start L enough = record {
+  nodes = let n = length-replicate (L.nodes - 5) blank in omega arith;
+  pool = let n = length-replicate (L.nodes - 5) true in omega arith;
 }

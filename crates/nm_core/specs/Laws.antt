@@ -1,8 +1,21 @@
 -- The laws of all runs, in the subject's own words.
-use Rattle.std.specs.Prelude.{◌≡◌, ℕ, ◌+◌, ◌⊎◌, List, Some}
+use Rattle.std.specs.Prelude.{◌≡◌, ℕ, ◌+◌, ◌<◌, ◌≤◌, ◌==◌, ◌⊎◌, ◌↔◌, true, if◌then◌else◌, List, [], ◌∷◌, ◌++◌, map, Contains, Some, IsSome, Result, Ok}
+use Rattle.nm_edge.specs.Edges.{other}
 use Rattle.nm_edge.specs.Layouts.{Layout}
+use Rattle.nm_edge.specs.declared.edge.Side.{Side}
+use Rattle.nm_edge.specs.declared.node.NodeId.{NodeId}
 use Rattle.nm_core.specs.declared.event.Event.{Event}
-use Rattle.nm_core.specs.Runs.{State, of, start, after}
+use Rattle.nm_core.specs.declared.event.Event.TheVariants.{Splice}
+use Rattle.nm_core.specs.declared.reply.Reply.{Reply}
+use Rattle.nm_core.specs.declared.reply.Reply.TheVariants.{Cut}
+use Rattle.nm_core.specs.declared.reply.Refused.{Refused}
+use Rattle.nm_core.specs.declared.trace.Turn.{Turn}
+use Rattle.nm_core.specs.declared.ledger.Queued.{Queued}
+use Rattle.nm_core.specs.declared.ledger.Ledger.{Ledger}
+use Rattle.nm_core.specs.Ledgers.{held}
+use Rattle.nm_core.specs.Memory.{Memory, edge, child, named}
+use Rattle.nm_core.specs.Paths.{Reached, IsCut}
+use Rattle.nm_core.specs.Runs.{State, of, start, after, trace, next, outcome}
 
 -- ---- epochs
 
@@ -13,3 +26,76 @@ PinsAreNear s = (w e : ℕ) → (of s w).brief.pin ≡ Some e → (s.memory.epoc
 -- in every run, whatever the workers do and in whatever order
 abbrev pub PinsStayNear : Type 0
 PinsStayNear = (L : Layout) (turns : List (ℕ × Event)) → PinsAreNear (after (start L) turns)
+
+-- ---- cuts
+
+abbrev pub slots_of : List NodeId → List ℕ
+slots_of ns = map (λ n. n.slot) ns
+
+-- a splice cuts just the nodes of its reply, by the paths before and after it
+abbrev pub CutsJust : State → ℕ → List NodeId → State → Type 0
+CutsJust before successor ns after = (x : ℕ) → IsCut before.memory after.memory x ↔ Contains (slots_of ns) x
+
+-- from a slot downwards: each internal node and then its flagged leaf, and on by its tagged edge
+abbrev pub IsFrozenChain : Memory → ℕ → List ℕ → Type 0
+IsFrozenChain m s [] = Unit {0}
+IsFrozenChain m s (x ∷ []) = ⊥
+IsFrozenChain m s (x ∷ leaf ∷ rest) = (x ≡ s) × (side : Side) × ((edge m s (other side)).flag ≡ true) × (child m s (other side) ≡ leaf) × ((edge m s side).tag ≡ true) × IsFrozenChain m (child m s side) rest
+
+abbrev pub GoesDown : State → ℕ → List NodeId → State → Type 0
+GoesDown before successor ns after = IsFrozenChain before.memory successor (slots_of ns)
+
+-- each node of the reply has the birth that stands in its slot
+abbrev pub NamesBirths : State → ℕ → List NodeId → State → Type 0
+NamesBirths before successor ns after = ns ≡ map (named before.memory) (slots_of ns)
+
+-- in every run, of every splice that is won: the state before it, its successor, the nodes of its reply and the state after it
+abbrev pub OfEachCut : (State → ℕ → List NodeId → State → Type 0) → Type 0
+OfEachCut P = (L : Layout) → 5 ≤ L.nodes → (turns : List (ℕ × Event)) (w a : ℕ) (side : Side) (successor parent : ℕ) (keep : Side) (ns : List NodeId)
+    → outcome (after (start L) turns) (w, Splice a side successor parent keep) ≡ Ok (Cut ns)
+    → P (after (start L) turns) successor ns (next (after (start L) turns) (w, Splice a side successor parent keep))
+
+-- in every run: an event that does not answer a cut cuts nothing
+abbrev pub NothingElseCuts : Type 0
+NothingElseCuts = (L : Layout) → 5 ≤ L.nodes → (turns : List (ℕ × Event)) (turn : ℕ × Event)
+    → ((ns : List NodeId) → outcome (after (start L) turns) turn ≡ Ok (Cut ns) → ⊥)
+    → (x : ℕ) → Reached (after (start L) turns).memory x → Reached (next (after (start L) turns) turn).memory x
+
+-- ---- ledgers
+
+-- one worker holds the ledger of an origin, and no other
+pub record OneHolder (s : State) (origin : ℕ) : Type 0 where
+  pub holder : ℕ
+  pub is_worker : holder < s.layout.workers
+  pub holds : IsSome (held (of s holder).ledgers origin)
+  pub only : (w : ℕ) → IsSome (held (of s w).ledgers origin) → w ≡ holder
+
+-- in every run, of every origin
+abbrev pub EachLedgerHasOneHolder : Type 0
+EachLedgerHasOneHolder = (L : Layout) (turns : List (ℕ × Event)) (origin : ℕ) → origin < L.workers → OneHolder (after (start L) turns) origin
+
+-- in every run, of the ledger of every origin, whoever holds it then
+abbrev pub OfEachLedger : (State → ℕ → Ledger → List Turn → Type 0) → Type 0
+OfEachLedger P = (L : Layout) (turns : List (ℕ × Event)) (w origin : ℕ) (l : Ledger)
+    → held (of (after (start L) turns) w).ledgers origin ≡ Some l → P (after (start L) turns) origin l (trace (start L) turns)
+
+abbrev pub node_in : Queued → NodeId
+node_in e = e.node
+
+-- what was retired is what was freed and then what waits, in this order
+abbrev pub IsFreedThenQueue : State → ℕ → Ledger → List Turn → Type 0
+IsFreedThenQueue s origin l turns = l.retired ≡ l.freed ++ map node_in l.queue
+
+-- the nodes that an outcome says were cut
+abbrev pub nodes_cut_of : Result Reply Refused → List NodeId
+nodes_cut_of (Ok (Cut ns)) = ns
+nodes_cut_of _ = []
+
+-- the nodes that a worker's splices cut, in the order of the turns and of their replies
+abbrev pub cuts_of : ℕ → List Turn → List NodeId
+cuts_of w [] = []
+cuts_of w (t ∷ ts) = (if t.worker == w then nodes_cut_of t.outcome else []) ++ cuts_of w ts
+
+-- what was retired are the nodes that the origin's splices cut, in this order
+abbrev pub IsTheCuts : State → ℕ → Ledger → List Turn → Type 0
+IsTheCuts s origin l turns = l.retired ≡ cuts_of origin turns

@@ -11,3 +11,4 @@ pub mod Paths
 pub mod Reports
 pub mod Schedules
 pub mod Laws
+pub mod Places

@@ -1,7 +1,39 @@
 //! Laws of all runs: each holds whatever the workers do and in whatever order, for every layout and every list of events.
-ghost use Rattle.nm_core.specs.Laws.{PinsStayNear};
+ghost use Rattle.nm_core.specs.Laws.{CutsJust, EachLedgerHasOneHolder, GoesDown, IsFreedThenQueue, IsTheCuts, NamesBirths, NothingElseCuts, OfEachCut, OfEachLedger, PinsStayNear};
+ghost use Rattle.nm_core.specs.Places.{EachSlotHasOnePlace};
 
 /// While a worker is pinned at an epoch, the global epoch is that one or the next. (The bound of Fraser's epochs.)
 pub fn pins_stay_near()
     ensures { PinsStayNear }
+{}
+
+/// Each slot stands in exactly one place: the pool; one worker's private hands; the end of one path from the root;
+/// or one index of the queue of one origin, which one worker holds.
+pub fn each_slot_has_one_place()
+    ensures { EachSlotHasOnePlace }
+{}
+
+/// A splice that is won cuts off from the root exactly the nodes of its reply, by the paths before and after it:
+/// from the successor downwards each internal node and then its flagged leaf, each with its birth. (The cleanup of Natarajan and Mittal.)
+pub fn splices_cut_their_nodes()
+    ensures exactly { OfEachCut CutsJust }
+    ensures downwards { OfEachCut GoesDown }
+    ensures births { OfEachCut NamesBirths }
+{}
+
+/// No other event makes a reached node unreached.
+pub fn nothing_else_cuts()
+    ensures { NothingElseCuts }
+{}
+
+/// Exactly one worker holds the ledger of each origin.
+pub fn each_ledger_has_one_holder()
+    ensures { EachLedgerHasOneHolder }
+{}
+
+/// The ledger is the cuts, whoever holds it: what was retired is what was freed and then the queue, in this order,
+/// and it is the nodes of the replies of the splices that the origin won, in cut order.
+pub fn ledgers_are_the_cuts()
+    ensures split { OfEachLedger IsFreedThenQueue }
+    ensures replies { OfEachLedger IsTheCuts }
 {}

@@ -2,7 +2,6 @@
 #![tactic(auto)]
 
 mod chain;
-mod pure_core;
 mod epoch_steps;
 mod event;
 mod join_steps;
@@ -13,6 +12,7 @@ mod ledgers;
 mod machine;
 mod memory;
 mod pool_steps;
+mod pure_core;
 mod queue;
 mod reply;
 mod slot_map;
@@ -23,13 +23,16 @@ mod worker;
 /// The greatest epoch and the greatest birth, 2^62.
 pub const LAST_NUMBER: u64 = 1 << 62;
 
-pub use pure_core::{Core, NewError};
 pub use event::{Event, Field};
 pub use knowledge::{Brief, Draft, Seen};
-pub use laws::pins_stay_near;
+pub use laws::{
+    each_ledger_has_one_holder, each_slot_has_one_place, ledgers_are_the_cuts, nothing_else_cuts,
+    pins_stay_near, splices_cut_their_nodes,
+};
 pub use ledger::{Ledger, Nodes, Queued};
 pub use ledgers::Ledgers;
 pub use memory::Node;
+pub use pure_core::{Core, NewError};
 pub use queue::Queue;
 pub use reply::{Refused, Reply};
 pub use trace::{RunError, Trace, Turn};

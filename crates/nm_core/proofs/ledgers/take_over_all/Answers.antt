@@ -4,7 +4,7 @@ use Rattle.std.proofs.lemmas.Grind.{drop_more_same}
 use Rattle.nm_core.specs.declared.ledger.Ledger.{Ledger}
 use Rattle.nm_core.specs.Maps.{or_else}
 use Rattle.nm_core.specs.Ledgers.{taken_over}
-use Rattle.nm_core.proofs.Origins.{taken_more}
+use Rattle.nm_core.proofs.Freeing.{taken_more}
 use Rattle.nm_core.proofs.ledgers.take_over_all.Goals as goal
 
 -- one more origin is taken over, in the list as it stands by now

@@ -2,7 +2,7 @@ use Rattle.std.proofs.Common.{◌≡◌, ◌<◌, ◌≤◌, ℕ, Bool, true, fa
 use Rattle.std.proofs.lemmas.Bool.Decides.{nat_tests}
 use Rattle.std.specs.List.{prefix_len}
 use Rattle.std.specs.Prelude.{position}
-use Rattle.nm_core.proofs.Origins.{free_none, free_some}
+use Rattle.nm_core.proofs.Freeing.{free_none, free_some}
 use Rattle.nm_core.proofs.ledgers.Ledgers.free.Goals as goal
 
 not_below : (m len : ℕ) → cond (nat_lt m len) (Some m) None ≡ None → len ≤ m
