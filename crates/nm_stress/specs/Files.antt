@@ -11,6 +11,19 @@ pub record Fault : Type 0 where
   pub line : ℕ
   pub reason : Reason
 
+-- the number by which a faulty line is reported
+abbrev pub reason_number : Reason → ℕ
+reason_number reason.Long = 1
+reason_number reason.Cut = 2
+reason_number reason.Header = 3
+reason_number reason.Nodes = 4
+reason_number reason.Workers = 5
+reason_number reason.Form = 7
+reason_number reason.Kind = 8
+reason_number reason.Fields = 9
+reason_number reason.Number = 10
+reason_number reason.Worker = 11
+
 -- more than 120 bytes, or a line numbered above 100,001
 abbrev pub is_long : ℕ → List ℕ → Bool
 is_long number line = nat_lt 100001 number || nat_lt 120 (length line)
@@ -78,3 +91,10 @@ HasJudged (Err (run.Line line reason)) = Unit {0}
 HasJudged (Err run.NoMemory) = ⊥
 HasJudged (Err run.Read) = ⊥
 HasJudged (Err run.Write) = Unit {0}
+
+-- the exit status of the program after a run that ended so
+abbrev pub exit_status : RunFault → ℕ
+exit_status (run.Line line reason) = 1
+exit_status run.NoMemory = 3
+exit_status run.Read = 4
+exit_status run.Write = 4

@@ -1,5 +1,6 @@
 //! What can be wrong with a file, and with a run.
-use std::fmt;
+ghost use Rattle.std.specs.Prelude.{◌≡◌};
+
 use thiserror::Error;
 
 /// What is wrong with a line of a file.
@@ -28,8 +29,12 @@ pub enum Reason {
 }
 
 impl Reason {
+    ghost use Rattle.nm_stress.specs.Files.{reason_number};
+
     /// The number by which a faulty line is reported. Of several faults of a line, the one with the least number is answered.
-    pub fn number(self) -> u8 {
+    pub fn number(self) -> u8
+        ensures { result ≡ reason_number self }
+    {
         match self {
             Reason::Long => 1,
             Reason::Cut => 2,
@@ -45,18 +50,11 @@ impl Reason {
     }
 }
 
-impl fmt::Display for Reason {
-    fn fmt<W: fmt::Write>(&self, f: &mut fmt::Formatter<W>) -> fmt::Result {
-        let number = self.number();
-        write!(f, "{number}")
-    }
-}
-
 /// Why a run ended early.
 #[derive(Debug, Drop, Error)]
 pub enum RunFault {
     /// The first faulty line of the file, numbered from 1, and the least reason that it has. Nothing was written.
-    #[error("line {line}: reason {reason}")]
+    #[error("line {line}: reason {}", .reason.number())]
     Line { line: u32, reason: Reason },
     /// Memory was refused. Nothing was written.
     #[error("no memory")]

@@ -1,5 +1,8 @@
-//! Runs a file of events from standard input to standard output.
+//! Plays a file of events from standard input to standard output.
 #![tactic(auto)]
+
+ghost use Rattle.std.specs.Prelude.{◌≡◌, length, OnOk};
+ghost use Rattle.nm_stress.specs.Files.{exit_status};
 
 mod fault;
 mod field;
@@ -14,13 +17,14 @@ mod schedule;
 mod stream;
 
 use clap::error::ErrorKind;
-use clap::{Arg, ArgAction, Command, Error};
+use clap::{Arg, ArgAction, Command};
 use fault::RunFault;
 use run::replay;
 use std::alloc::Global;
 use std::env::Env;
 use std::process::ExitCode;
 use std::{env, io};
+use thiserror::Error;
 
 /// What the command line asks for.
 #[derive(Clone, Copy, Debug, PartialEq, Eq)]
@@ -28,14 +32,27 @@ enum Request {
     Replay,
 }
 
-/// What was wrong with the command line.
-#[derive(Clone, Copy, Debug, PartialEq, Eq)]
+/// Why the command line asks for nothing.
+#[derive(Clone, Copy, Debug, PartialEq, Eq, Error)]
 enum Refusal {
+    #[error("usage: nm_stress COMMAND")]
     Usage,
+    #[error("no memory")]
     NoMemory,
 }
 
-fn refusal_of(error: &Error) -> Refusal {
+impl Refusal {
+    /// The exit status after it.
+    fn status(self) -> u8 {
+        match self {
+            Refusal::Usage => 2,
+            Refusal::NoMemory => 3,
+        }
+    }
+}
+
+/// What an error of clap's comes to.
+fn refusal_of(error: &clap::Error) -> Refusal {
     if error.kind() == ErrorKind::OutOfMemory {
         Refusal::NoMemory
     } else {
@@ -44,7 +61,9 @@ fn refusal_of(error: &Error) -> Refusal {
 }
 
 /// Reads the words of the command line: the program's name and one command.
-fn request_of(alloc: Global, words: &[String]) -> Result<Request, Refusal> {
+fn request_of(alloc: Global, words: &[String]) -> Result<Request, Refusal>
+    ensures { OnOk result (length words.now ≡ 2) }
+{
     if words.len() != 2 {
         return Err(Refusal::Usage);
     }
@@ -81,7 +100,10 @@ fn asked(rt: &(impl Env + AllocGlobal)) -> Result<Request, Refusal> {
     request_of(rt.alloc(), words.as_slice())
 }
 
-fn status_of(fault: &RunFault) -> u8 {
+/// The exit status after a run that ended so.
+fn status_of(fault: &RunFault) -> u8
+    ensures { result ≡ exit_status fault.now }
+{
     match fault {
         RunFault::Line { .. } => 1,
         RunFault::NoMemory => 3,
@@ -92,13 +114,9 @@ fn status_of(fault: &RunFault) -> u8 {
 fn main(rt: HostRuntime) -> ExitCode {
     let request = match asked(&rt) {
         Ok(request) => request,
-        Err(Refusal::Usage) => {
-            let _ = eprintln!(rt; "usage: nm_stress COMMAND");
-            return ExitCode::from(2);
-        }
-        Err(Refusal::NoMemory) => {
-            let _ = eprintln!(rt; "no memory");
-            return ExitCode::from(3);
+        Err(refusal) => {
+            let _ = eprintln!(rt; "{refusal}");
+            return ExitCode::from(refusal.status());
         }
     };
     let result = match request {
