@@ -5,3 +5,4 @@ pub mod EntryLemmas
 pub mod FileLemmas
 pub mod LimitLemmas
 pub mod StreamLemmas
+pub mod ReasonLemmas

@@ -12,9 +12,14 @@ use Rattle.nm_stress.specs.Lines.{number}
 abbrev pub limits_of : List ℕ → List ℕ → Result Limits Reason
 limits_of command version = if bytes_eq command (codes "schedule") && bytes_eq version (codes "1") then Ok (record { nodes = 65536; workers = 32 }) else Err reason.Header
 
+-- whatever is wrong with a number here is a fault of the header
+abbrev pub in_header : Result ℕ Reason → Result ℕ Reason
+in_header (Ok n) = Ok n
+in_header (Err r) = Err reason.Header
+
 -- a number of the header in its one spelling
 abbrev pub count : List ℕ → Result ℕ Reason
-count field = elim (number field) [ Ok n ↦ Ok n | Err _ ↦ Err reason.Header ]
+count field = in_header (number field)
 
 -- not low to high
 abbrev pub not_within : ℕ → ℕ → ℕ → Bool

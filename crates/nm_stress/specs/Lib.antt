@@ -6,3 +6,4 @@ pub mod Files
 pub mod Schedules
 pub mod Replies
 pub mod Output
+pub mod Reasons

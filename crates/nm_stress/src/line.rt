@@ -1,8 +1,10 @@
 //! The lines of a schedule.
-ghost use Rattle.std.specs.Prelude.{◌≡◌, map, take};
-ghost use Rattle.std.specs.List.{list_all};
+ghost use Rattle.std.specs.Prelude.{◌≡◌, ℕ, List, map, take};
+ghost use Rattle.std.specs.List.{find, list_all};
 ghost use Rattle.nm_stress.specs.Lines.{fields};
 ghost use Rattle.nm_stress.specs.Lines as lines;
+ghost use Rattle.nm_stress.specs.Files.{checked};
+ghost use Rattle.nm_stress.specs.Reasons.{reason_of, holds, line_reasons, header_holds, header_reasons};
 ghost use Rattle.nm_stress.specs.Schedules as spec;
 
 use crate::fault::Reason;
@@ -81,3 +83,9 @@ pub fn first_line_of(line: &[u8]) -> Result<Layout, Reason>
 {
     header_of(fields_of(line).as_slice())
 }
+
+/// The reason that is answered for a line is the first that holds of it in the order of their numbers, so the least; and a line is right exactly where none holds.
+pub fn least_reason()
+    ensures first_line { (line : List ℕ) → reason_of (checked 1 line (spec.first_line_of line)) ≡ find (header_holds line) header_reasons }
+    ensures other_line { (workers number : ℕ) (line : List ℕ) → reason_of (checked number line (spec.line_of workers line)) ≡ find (holds workers number line) line_reasons }
+{}
