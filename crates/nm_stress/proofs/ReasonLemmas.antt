@@ -1,0 +1,302 @@
+-- A faulty line is answered with the least of its reasons.
+use Rattle.std.proofs.Common.{◌≡◌, ℕ, suc, ◌≤◌, Bool, true, false, List, [], ◌∷◌, length, Option, Some, None, Result, Ok, Err, refl, ◌∙◌, inl, inr, ◌⊎◌, arith}
+use Rattle.std.specs.Prelude.{is_ok, not, ◌&&◌, ◌||◌, nat_lt, codes, ◌^◌, if◌then◌else◌}
+use Rattle.std.specs.Option.{ok_or}
+use Rattle.std.specs.Str.{bytes_eq}
+use Rattle.std.specs.Str.Parse.{digits_value}
+use Rattle.std.specs.List.{find, list_all}
+use Rattle.std.proofs.lemmas.Bool.{cases_Bool, le-ltb}
+use Rattle.nm_core.specs.declared.event.Event.{Event}
+use Rattle.nm_core.specs.declared.event.Event.TheVariants as event
+use Rattle.nm_core.specs.declared.event.Field.TheVariants as field
+use Rattle.nm_edge.specs.declared.edge.Side.TheVariants as side
+use Rattle.nm_stress.specs.declared.fault.Reason.{Reason}
+use Rattle.nm_stress.specs.declared.fault.Reason.TheVariants as reason
+use Rattle.nm_stress.specs.declared.kind.Kind.{Kind}
+use Rattle.nm_stress.specs.declared.kind.Kind.TheVariants.{Sight, Announce, Leave, Scan, Advance, Claim, Give, Look, Fill, Link, Flag, Tag, Splice}
+use Rattle.nm_stress.specs.Chain.{◌>>=◌}
+use Rattle.nm_stress.specs.Lines.{number, is_numeral, place, fields, is_field}
+use Rattle.nm_stress.specs.Kinds.{word, kinds, kind_of, event_of, node_field, side_of, scan, claim, give, look, fill, link, flag, tag, splice}
+use Rattle.nm_stress.specs.Schedules.{entry_of, with_worker, line_of, first_line_of}
+use Rattle.nm_stress.specs.Headers.{header_of, layout_by, layout_within, count, not_within}
+use Rattle.nm_stress.specs.declared.header.Limits.{Limits}
+use Rattle.nm_stress.specs.Files.{at, checked, is_long}
+use Rattle.nm_stress.specs.Reasons.{has_words, has_numbers, fails_at, holds_of, holds, line_reasons, header_holds_of, header_holds, header_reasons, reason_of}
+
+-- what a function gives: this fault alone, or a value
+abbrev Gives : {X : Type 0} → Reason → Result X Reason → Type 0
+Gives {X} r said = (said ≡ Err r) ⊎ ((x : X) × (said ≡ Ok x))
+
+number_gives : (f : List ℕ) → Gives reason.Number (number f)
+number_gives f =
+    elim (cases_Bool (is_numeral f && nat_lt (digits_value 10 f) (2 ^ 64))) [
+      | inl y ↦ inr (digits_value 10 f, rw y refl)
+      | inr n ↦ inl (rw n refl)
+    ]
+
+place_gives : (f : List ℕ) → Gives reason.Number (place f)
+place_gives f =
+    elim (number_gives f) [
+      | inl e ↦ inl (rw e refl)
+      | inr v ↦ elim (cases_Bool (nat_lt v.0 (2 ^ 32))) [ inl y ↦ inr (v.0, rw (v.1, y) refl) | inr n ↦ inl (rw (v.1, n) refl) ]
+    ]
+
+side_gives : (f : List ℕ) → Gives reason.Fields (side_of f)
+side_gives f =
+    elim (cases_Bool (bytes_eq f (codes "left"))) [
+      | inl y ↦ inr (side.Left, rw y refl)
+      | inr n ↦ elim (cases_Bool (bytes_eq f (codes "right"))) [ inl y ↦ inr (side.Right, rw (n, y) refl) | inr m ↦ inl (rw (n, m) refl) ]
+    ]
+
+field_gives : (f : List ℕ) → Gives reason.Fields (node_field f)
+field_gives f =
+    elim (cases_Bool (bytes_eq f (codes "key"))) [
+      | inl y ↦ inr (field.Key, rw y refl)
+      | inr k ↦ elim (cases_Bool (bytes_eq f (codes "left"))) [
+        | inl y ↦ inr (field.Edge side.Left, rw (k, y) refl)
+        | inr l ↦ elim (cases_Bool (bytes_eq f (codes "right"))) [
+          | inl y ↦ inr (field.Edge side.Right, rw (k, l, y) refl)
+          | inr r ↦ elim (cases_Bool (bytes_eq f (codes "birth"))) [ inl y ↦ inr (field.Birth, rw (k, l, r, y) refl) | inr b ↦ inl (rw (k, l, r, b) refl) ]
+        ]
+      ]
+    ]
+
+found_gives : (o : Option Kind) → Gives reason.Kind (ok_or o reason.Kind)
+found_gives None = inl refl
+found_gives (Some kind) = inr (kind, refl)
+
+-- ---- an event by its arguments
+
+abbrev Says : Bool → Bool → Result Event Reason → Type 0
+Says false n said = said ≡ Err reason.Fields
+Says true false said = said ≡ Err reason.Number
+Says true true said = (e : Event) × (said ≡ Ok e)
+
+and_false : (b : Bool) → (b && false) ≡ false
+and_false true = refl
+and_false false = refl
+
+event_says : (kind : Kind) (fs : List (List ℕ)) → Says (has_words kind fs) (has_numbers kind fs) (event_of kind fs)
+unfolding scan claim give look fill link flag tag splice
+event_says Sight [] = (event.Sight, refl)
+event_says Sight (a ∷ more) = refl
+event_says Announce [] = (event.Announce, refl)
+event_says Announce (a ∷ more) = refl
+event_says Leave [] = (event.Leave, refl)
+event_says Leave (a ∷ more) = refl
+event_says Scan [] = refl
+event_says Scan (a ∷ []) =
+    elim (place_gives a) [
+      | inl e ↦ rw (e) refl
+      | inr xa ↦ rw (xa.1) (event.Scan xa.0, refl)
+    ]
+event_says Scan (a ∷ z ∷ more) = refl
+event_says Advance [] = (event.Advance, refl)
+event_says Advance (a ∷ more) = refl
+event_says Claim [] = refl
+event_says Claim (a ∷ []) =
+    elim (place_gives a) [
+      | inl e ↦ rw (e) refl
+      | inr xa ↦ rw (xa.1) (event.Claim xa.0, refl)
+    ]
+event_says Claim (a ∷ z ∷ more) = refl
+event_says Give [] = refl
+event_says Give (a ∷ []) =
+    elim (place_gives a) [
+      | inl e ↦ rw (e) refl
+      | inr xa ↦ rw (xa.1) (event.Give xa.0, refl)
+    ]
+event_says Give (a ∷ z ∷ more) = refl
+event_says Look [] = refl
+event_says Look (a ∷ []) = refl
+event_says Look (a ∷ b ∷ []) =
+    elim (field_gives b) [
+      | inl e ↦ rw (e) refl
+      | inr xb ↦ elim (place_gives a) [
+        | inl e ↦ rw (xb.1, e) refl
+        | inr xa ↦ rw (xb.1, xa.1) (event.Look xa.0 xb.0, refl)
+      ]
+    ]
+event_says Look (a ∷ b ∷ z ∷ more) = rw (and_false (is_ok (node_field b))) refl
+event_says Fill [] = refl
+event_says Fill (a ∷ []) = refl
+event_says Fill (a ∷ b ∷ []) = rw (and_false (is_ok (node_field b))) refl
+event_says Fill (a ∷ b ∷ c ∷ []) =
+    elim (field_gives b) [
+      | inl e ↦ rw (e) refl
+      | inr xb ↦ elim (place_gives a) [
+        | inl e ↦ rw (xb.1, e) refl
+        | inr xa ↦ elim (number_gives c) [
+          | inl e ↦ rw (xb.1, xa.1, e) refl
+          | inr xc ↦ rw (xb.1, xa.1, xc.1) (event.Fill xa.0 xb.0 xc.0, refl)
+        ]
+      ]
+    ]
+event_says Fill (a ∷ b ∷ c ∷ z ∷ more) = rw (and_false (is_ok (node_field b))) refl
+event_says Link [] = refl
+event_says Link (a ∷ []) = refl
+event_says Link (a ∷ b ∷ []) = rw (and_false (is_ok (side_of b))) refl
+event_says Link (a ∷ b ∷ c ∷ []) = rw (and_false (is_ok (side_of b))) refl
+event_says Link (a ∷ b ∷ c ∷ d ∷ []) =
+    elim (side_gives b) [
+      | inl e ↦ rw (e) refl
+      | inr xb ↦ elim (place_gives a) [
+        | inl e ↦ rw (xb.1, e) refl
+        | inr xa ↦ elim (place_gives c) [
+          | inl e ↦ rw (xb.1, xa.1, e) refl
+          | inr xc ↦ elim (place_gives d) [
+            | inl e ↦ rw (xb.1, xa.1, xc.1, e) refl
+            | inr xd ↦ rw (xb.1, xa.1, xc.1, xd.1) (event.Link xa.0 xb.0 xc.0 xd.0, refl)
+          ]
+        ]
+      ]
+    ]
+event_says Link (a ∷ b ∷ c ∷ d ∷ z ∷ more) = rw (and_false (is_ok (side_of b))) refl
+event_says Flag [] = refl
+event_says Flag (a ∷ []) = refl
+event_says Flag (a ∷ b ∷ []) = rw (and_false (is_ok (side_of b))) refl
+event_says Flag (a ∷ b ∷ c ∷ []) =
+    elim (side_gives b) [
+      | inl e ↦ rw (e) refl
+      | inr xb ↦ elim (place_gives a) [
+        | inl e ↦ rw (xb.1, e) refl
+        | inr xa ↦ elim (place_gives c) [
+          | inl e ↦ rw (xb.1, xa.1, e) refl
+          | inr xc ↦ rw (xb.1, xa.1, xc.1) (event.Flag xa.0 xb.0 xc.0, refl)
+        ]
+      ]
+    ]
+event_says Flag (a ∷ b ∷ c ∷ z ∷ more) = rw (and_false (is_ok (side_of b))) refl
+event_says Tag [] = refl
+event_says Tag (a ∷ []) = refl
+event_says Tag (a ∷ b ∷ []) =
+    elim (side_gives b) [
+      | inl e ↦ rw (e) refl
+      | inr xb ↦ elim (place_gives a) [
+        | inl e ↦ rw (xb.1, e) refl
+        | inr xa ↦ rw (xb.1, xa.1) (event.Tag xa.0 xb.0, refl)
+      ]
+    ]
+event_says Tag (a ∷ b ∷ z ∷ more) = rw (and_false (is_ok (side_of b))) refl
+event_says Splice [] = refl
+event_says Splice (a ∷ []) = refl
+event_says Splice (a ∷ b ∷ []) = rw (and_false (is_ok (side_of b))) refl
+event_says Splice (a ∷ b ∷ c ∷ []) = rw (and_false (is_ok (side_of b))) refl
+event_says Splice (a ∷ b ∷ c ∷ d ∷ []) = rw (and_false (is_ok (side_of b))) refl
+event_says Splice (a ∷ b ∷ c ∷ d ∷ e ∷ []) =
+    elim (side_gives b) [
+      | inl e ↦ rw (e) refl
+      | inr xb ↦ elim (side_gives e) [
+        | inl e ↦ rw (xb.1, e) refl
+        | inr xe ↦ elim (place_gives a) [
+          | inl e ↦ rw (xb.1, xe.1, e) refl
+          | inr xa ↦ elim (place_gives c) [
+            | inl e ↦ rw (xb.1, xe.1, xa.1, e) refl
+            | inr xc ↦ elim (place_gives d) [
+              | inl e ↦ rw (xb.1, xe.1, xa.1, xc.1, e) refl
+              | inr xd ↦ rw (xb.1, xe.1, xa.1, xc.1, xd.1) (event.Splice xa.0 xb.0 xc.0 xd.0 xe.0, refl)
+            ]
+          ]
+        ]
+      ]
+    ]
+event_says Splice (a ∷ b ∷ c ∷ d ∷ e ∷ z ∷ more) = rw (and_false (is_ok (side_of e)), and_false (is_ok (side_of b))) refl
+
+-- ---- a line
+
+-- the reason of a line that is not too long
+abbrev reason_in : {X : Type 0} → Result X Reason → Option Reason
+reason_in (Ok x) = None
+reason_in (Err r) = Some r
+
+reason_at : {X : Type 0} (number : ℕ) (said : Result X Reason) → reason_of (at number said) ≡ reason_in said
+reason_at number (Ok x) = refl
+reason_at number (Err r) = refl
+
+or_true : (b : Bool) → (b || true) ≡ true
+or_true true = refl
+or_true false = refl
+
+-- an event was read, and its worker is judged
+worker_least : (workers : ℕ) (a k : List ℕ) (fs : List (List ℕ)) (kind : Kind) (e : Event) → list_all is_field (a ∷ k ∷ fs) ≡ true → kind_of k ≡ Ok kind → has_words kind fs ≡ true → has_numbers kind fs ≡ true
+    → reason_in (with_worker workers a e) ≡ find (holds_of workers false (a ∷ k ∷ fs)) line_reasons
+worker_least workers a k fs kind e formed is words numbers =
+    let two : nat_lt (length (a ∷ k ∷ fs)) 2 ≡ false = le-ltb (length (a ∷ k ∷ fs)) 2 (omega arith) in
+    elim (place_gives a) [
+      | inl p ↦ rw (formed, two, is, words, numbers, p) refl
+      | inr x ↦ elim (cases_Bool (nat_lt x.0 workers)) [ inl y ↦ rw (formed, two, is, words, numbers, x.1, y) refl | inr n ↦ rw (formed, two, is, words, numbers, x.1, n) refl ]
+    ]
+
+event_least : (workers : ℕ) (a k : List ℕ) (fs : List (List ℕ)) (kind : Kind) (words numbers : Bool) → list_all is_field (a ∷ k ∷ fs) ≡ true → kind_of k ≡ Ok kind → has_words kind fs ≡ words → has_numbers kind fs ≡ numbers → Says words numbers (event_of kind fs)
+    → reason_in (event_of kind fs >>= with_worker workers a) ≡ find (holds_of workers false (a ∷ k ∷ fs)) line_reasons
+event_least workers a k fs kind false numbers formed is words numeric said =
+    let two : nat_lt (length (a ∷ k ∷ fs)) 2 ≡ false = le-ltb (length (a ∷ k ∷ fs)) 2 (omega arith) in
+    rw (said, formed, two, is, words) refl
+event_least workers a k fs kind true false formed is words numeric said =
+    let two : nat_lt (length (a ∷ k ∷ fs)) 2 ≡ false = le-ltb (length (a ∷ k ∷ fs)) 2 (omega arith) in
+    rw (said, formed, two, is, words, numeric, or_true) refl
+event_least workers a k fs kind true true formed is words numeric said =
+    rw (said.1) (worker_least workers a k fs kind said.0 formed is words numeric)
+
+entry_least : (workers : ℕ) (fs : List (List ℕ)) → list_all is_field fs ≡ true → reason_in (entry_of workers fs) ≡ find (holds_of workers false fs) line_reasons
+unfolding entry_of
+entry_least workers [] formed = refl
+entry_least workers (a ∷ []) formed = rw formed refl
+entry_least workers (a ∷ k ∷ fs) formed =
+    let two : nat_lt (length (a ∷ k ∷ fs)) 2 ≡ false = le-ltb (length (a ∷ k ∷ fs)) 2 (omega arith) in
+    elim (found_gives (find (λ kind. bytes_eq k (word kind)) kinds)) [
+      | inl e ↦ rw (e, formed, two) refl
+      | inr x ↦ let e = event_least workers a k fs x.0 (has_words x.0 fs) (has_numbers x.0 fs) formed x.1 refl refl (event_says x.0 fs) in rw (x.1) (rw (x.1) at e)
+    ]
+
+fields_least : (workers : ℕ) (long : Bool) (fs : List (List ℕ)) → reason_in (if long then Err reason.Long else if list_all is_field fs then entry_of workers fs else Err reason.Form) ≡ find (holds_of workers long fs) line_reasons
+fields_least workers true fs = refl
+fields_least workers false fs =
+    elim (cases_Bool (list_all is_field fs)) [
+      | inl y ↦ let e = entry_least workers fs y in rw y (rw y at e)
+      | inr n ↦ rw n refl
+    ]
+
+pub line_least : (workers number : ℕ) (line : List ℕ) → reason_of (checked number line (line_of workers line)) ≡ find (holds workers number line) line_reasons
+line_least workers number line = reason_at number _ ∙ fields_least workers (is_long number line) (fields line)
+
+-- ---- the first line
+
+
+layout_said : (limits : Limits) (nodes workers : List ℕ) → layout_by limits nodes workers ≡ (count nodes >>= λ n. count workers >>= λ w. layout_within limits n w)
+unfolding layout_by
+layout_said limits nodes workers = refl
+
+layout_least : (nodes workers : List ℕ) (command version : List ℕ) → (bytes_eq command (codes "schedule") && bytes_eq version (codes "1")) ≡ true
+    → reason_in (layout_by (record { nodes = 65536; workers = 32 }) nodes workers) ≡ find (header_holds_of false (command ∷ version ∷ nodes ∷ workers ∷ [])) header_reasons
+layout_least nodes workers command version named =
+    elim (number_gives nodes) [
+      | inl e ↦ rw (layout_said, named, e) refl
+      | inr n ↦ elim (number_gives workers) [
+        | inl e ↦ rw (layout_said, named, n.1, e) refl
+        | inr w ↦ elim (cases_Bool (not_within 7 65536 n.0)) [
+          | inl y ↦ rw (layout_said, named, n.1, w.1, y) refl
+          | inr y ↦ elim (cases_Bool (not_within 1 32 w.0)) [ inl z ↦ rw (layout_said, named, n.1, w.1, y, z) refl | inr z ↦ rw (layout_said, named, n.1, w.1, y, z) refl ]
+        ]
+      ]
+    ]
+
+header_least : (fs : List (List ℕ)) → reason_in (header_of fs) ≡ find (header_holds_of false fs) header_reasons
+unfolding header_of
+header_least [] = refl
+header_least (a ∷ []) = refl
+header_least (a ∷ b ∷ []) = refl
+header_least (a ∷ b ∷ c ∷ []) = refl
+header_least (a ∷ b ∷ c ∷ d ∷ []) =
+    elim (cases_Bool (bytes_eq a (codes "schedule") && bytes_eq b (codes "1"))) [
+      | inl y ↦ let e = layout_least c d a b y in rw y (rw y at e)
+      | inr n ↦ rw n refl
+    ]
+header_least (a ∷ b ∷ c ∷ d ∷ e ∷ more) = refl
+
+first_least : (long : Bool) (fs : List (List ℕ)) → reason_in (if long then Err reason.Long else header_of fs) ≡ find (header_holds_of long fs) header_reasons
+first_least true fs = refl
+first_least false fs = header_least fs
+
+pub first_line_least : (line : List ℕ) → reason_of (checked 1 line (first_line_of line)) ≡ find (header_holds line) header_reasons
+first_line_least line = reason_at 1 _ ∙ first_least (is_long 1 line) (fields line)

@@ -1,0 +1,9 @@
+pub mod Chain
+pub mod Lines
+pub mod Kinds
+pub mod Headers
+pub mod Files
+pub mod Schedules
+pub mod Replies
+pub mod Output
+pub mod Reasons

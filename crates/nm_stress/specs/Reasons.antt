@@ -1,0 +1,119 @@
+-- When each reason holds of a line, each for itself.
+use Rattle.std.specs.Prelude.{ℕ, List, [], ◌∷◌, length, drop, codes, slice_index_or, Bool, true, false, not, ◌&&◌, ◌||◌, nat_lt, Option, Some, None, Result, Ok, Err, is_ok}
+use Rattle.std.specs.List.{list_all}
+use Rattle.std.specs.Str.{bytes_eq}
+use Rattle.nm_stress.specs.declared.fault.Reason.{Reason}
+use Rattle.nm_stress.specs.declared.fault.Reason.TheVariants.{Long, Cut, Header, Nodes, Workers, Form, Kind, Fields, Number, Worker}
+use Rattle.nm_stress.specs.declared.kind.Kind.{Kind as KindOf}
+use Rattle.nm_stress.specs.declared.kind.Kind.TheVariants.{Sight, Announce, Leave, Scan, Advance, Claim, Give, Look, Fill, Link, Flag, Tag, Splice}
+use Rattle.nm_stress.specs.Lines.{fields, is_field, number, place}
+use Rattle.nm_stress.specs.Kinds.{kind_of, node_field, side_of}
+use Rattle.nm_stress.specs.Headers.{not_within}
+use Rattle.nm_stress.specs.Files.{Fault, is_long}
+
+-- ---- the arguments of each kind
+
+-- what is asked of an argument: that it is a word of some, or a number in its spelling and range
+pub record Argument : Type 0 where
+  pub is_word : List ℕ → Bool
+  pub is_number : List ℕ → Bool
+
+-- a slot or a worker
+abbrev pub a_place : Argument
+a_place = record { is_word = λ f. true; is_number = λ f. is_ok (place f) }
+
+abbrev pub a_value : Argument
+a_value = record { is_word = λ f. true; is_number = λ f. is_ok (number f) }
+
+abbrev pub a_field : Argument
+a_field = record { is_word = λ f. is_ok (node_field f); is_number = λ f. true }
+
+abbrev pub a_side : Argument
+a_side = record { is_word = λ f. is_ok (side_of f); is_number = λ f. true }
+
+abbrev pub arguments_of : KindOf → List Argument
+arguments_of Sight = []
+arguments_of Announce = []
+arguments_of Leave = []
+arguments_of Scan = a_place ∷ []
+arguments_of Advance = []
+arguments_of Claim = a_place ∷ []
+arguments_of Give = a_place ∷ []
+arguments_of Look = a_place ∷ a_field ∷ []
+arguments_of Fill = a_place ∷ a_field ∷ a_value ∷ []
+arguments_of Link = a_place ∷ a_side ∷ a_place ∷ a_place ∷ []
+arguments_of Flag = a_place ∷ a_side ∷ a_place ∷ []
+arguments_of Tag = a_place ∷ a_side ∷ []
+arguments_of Splice = a_place ∷ a_side ∷ a_place ∷ a_place ∷ a_side ∷ []
+
+-- there are as many fields as arguments, and each passes
+abbrev pub each_passes : (Argument → List ℕ → Bool) → List Argument → List (List ℕ) → Bool
+each_passes passes [] [] = true
+each_passes passes [] (f ∷ fs) = false
+each_passes passes (a ∷ more) [] = false
+each_passes passes (a ∷ more) (f ∷ fs) = passes a f && each_passes passes more fs
+
+abbrev pub has_words : KindOf → List (List ℕ) → Bool
+has_words kind fs = each_passes (λ a f. a.is_word f) (arguments_of kind) fs
+
+abbrev pub has_numbers : KindOf → List (List ℕ) → Bool
+has_numbers kind fs = each_passes (λ a f. a.is_number f) (arguments_of kind) fs
+
+-- ---- a line
+
+-- some test of a value fails, where there is one
+abbrev pub fails_at : {X : Type 0} → (X → Bool) → Result X Reason → Bool
+fails_at test (Ok x) = not (test x)
+fails_at test (Err r) = false
+
+-- the first field, the second, and the others
+abbrev pub worker_field : List (List ℕ) → List ℕ
+worker_field fs = slice_index_or fs 0 []
+
+abbrev pub kind_field : List (List ℕ) → List ℕ
+kind_field fs = slice_index_or fs 1 []
+
+abbrev pub holds_of : ℕ → Bool → List (List ℕ) → Reason → Bool
+holds_of workers long fs Long = long
+holds_of workers long fs Form = not (list_all is_field fs) || nat_lt (length fs) 2
+holds_of workers long fs Kind = not (is_ok (kind_of (kind_field fs)))
+holds_of workers long fs Fields = fails_at (λ kind. has_words kind (drop 2 fs)) (kind_of (kind_field fs))
+holds_of workers long fs Number = not (is_ok (place (worker_field fs))) || fails_at (λ kind. has_numbers kind (drop 2 fs)) (kind_of (kind_field fs))
+holds_of workers long fs Worker = fails_at (λ w. nat_lt w workers) (place (worker_field fs))
+holds_of workers long fs _ = false
+
+-- the reason holds of the line of this number, in a schedule for so many workers
+abbrev pub holds : ℕ → ℕ → List ℕ → Reason → Bool
+holds workers number line = holds_of workers (is_long number line) (fields line)
+
+-- those that a line but the first can have, in the order of their numbers
+abbrev pub line_reasons : List Reason
+line_reasons = Long ∷ Form ∷ Kind ∷ Fields ∷ Number ∷ Worker ∷ []
+
+-- ---- the first line
+
+-- the header of version 1 by its fields, whatever its numbers are
+abbrev pub is_header : List (List ℕ) → Bool
+is_header (command ∷ version ∷ nodes ∷ workers ∷ []) = (bytes_eq command (codes "schedule") && bytes_eq version (codes "1")) && (is_ok (number nodes) && is_ok (number workers))
+is_header _ = false
+
+abbrev pub header_holds_of : Bool → List (List ℕ) → Reason → Bool
+header_holds_of long fs Long = long
+header_holds_of long fs Header = not (is_header fs)
+header_holds_of long fs Nodes = fails_at (λ n. not (not_within 7 65536 n)) (number (slice_index_or fs 2 []))
+header_holds_of long fs Workers = fails_at (λ n. not (not_within 1 32 n)) (number (slice_index_or fs 3 []))
+header_holds_of long fs _ = false
+
+-- the reason holds of the first line
+abbrev pub header_holds : List ℕ → Reason → Bool
+header_holds line = header_holds_of (is_long 1 line) (fields line)
+
+-- those that the first line can have, in the order of their numbers
+abbrev pub header_reasons : List Reason
+header_reasons = Long ∷ Header ∷ Nodes ∷ Workers ∷ []
+
+-- ---- what is answered
+
+abbrev pub reason_of : {X : Type 0} → Result X Fault → Option Reason
+reason_of (Ok x) = None
+reason_of (Err fault) = Some fault.reason

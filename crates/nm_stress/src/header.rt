@@ -1,0 +1,77 @@
+//! The first line of a schedule.
+ghost use Rattle.std.specs.Prelude.{◌≡◌, ◌≤◌, map, IfOk};
+ghost use Rattle.nm_stress.specs.Headers as spec;
+
+use crate::fault::Reason;
+use crate::field::number;
+use nm_edge::{LEAST_NODES, Layout, LayoutError, MOST_NODES, MOST_WORKERS};
+
+/// The sizes that a version of the format allows.
+#[derive(Clone, Copy, Debug, PartialEq, Eq)]
+pub struct Limits {
+    pub nodes: u32,
+    pub workers: u32,
+}
+
+/// The limits of a version of the command's format. The command is `schedule`, and the version is 1.
+fn limits_of(command: &[u8], version: &[u8]) -> Result<Limits, Reason>
+    ensures limits { result ≡ spec.limits_of command.now version.now }
+    ensures few { IfOk result (λ limits. (limits.nodes ≤ MOST_NODES) × (limits.workers ≤ MOST_WORKERS)) }
+{
+    if command == b"schedule".as_slice() && version == b"1".as_slice() {
+        Ok(Limits {
+            nodes: 65_536,
+            workers: 32,
+        })
+    } else {
+        Err(Reason::Header)
+    }
+}
+
+/// A number of the header.
+fn count(field: &[u8]) -> Result<u64, Reason>
+    ensures { result ≡ spec.count field.now }
+{
+    number(field).map_err(|_| Reason::Header)
+}
+
+/// The layout of so many nodes and workers.
+fn layout_within(limits: Limits, nodes: u64, workers: u64) -> Result<Layout, Reason>
+    requires { (limits.nodes ≤ MOST_NODES) × (limits.workers ≤ MOST_WORKERS) }
+    ensures { result ≡ spec.layout_within limits nodes workers }
+{
+    if nodes < u64::from(LEAST_NODES) || u64::from(limits.nodes) < nodes {
+        return Err(Reason::Nodes);
+    }
+    if workers < 1 || u64::from(limits.workers) < workers {
+        return Err(Reason::Workers);
+    }
+    match Layout::new(nodes as u32, workers as u32) {
+        Ok(layout) => Ok(layout),
+        Err(LayoutError::Nodes) => Err(Reason::Nodes),
+        Err(LayoutError::Workers) => Err(Reason::Workers),
+    }
+}
+
+/// The layout of a header by its last two fields.
+#[tactic(auto, unfolding(crate::specs::Headers::layout_by))]
+fn layout_by(limits: Limits, nodes: &[u8], workers: &[u8]) -> Result<Layout, Reason>
+    requires { (limits.nodes ≤ MOST_NODES) × (limits.workers ≤ MOST_WORKERS) }
+    ensures { result ≡ spec.layout_by limits nodes.now workers.now }
+{
+    let nodes = count(nodes)?;
+    let workers = count(workers)?;
+    layout_within(limits, nodes, workers)
+}
+
+/// How many nodes and workers the fields of the first line say.
+#[tactic(auto, unfolding(crate::specs::Headers::header_of))]
+pub fn header_of(fields: &[&[u8]]) -> Result<Layout, Reason>
+    ensures { result ≡ spec.header_of (map (λ f. f.now) fields.now) }
+{
+    let [command, version, nodes, workers] = fields else {
+        return Err(Reason::Header);
+    };
+    let limits = limits_of(command, version)?;
+    layout_by(limits, nodes, workers)
+}

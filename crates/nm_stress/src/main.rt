@@ -1,0 +1,135 @@
+//! Plays a file of events from standard input to standard output.
+#![tactic(auto)]
+
+ghost use Rattle.std.specs.Prelude.{◌≡◌, length, OnOk};
+ghost use Rattle.nm_stress.specs.Files.{exit_status};
+
+mod fault;
+mod field;
+mod header;
+mod kind;
+mod line;
+mod output;
+mod pieces;
+mod reply;
+mod run;
+mod schedule;
+mod stream;
+
+use clap::error::ErrorKind;
+use clap::{Arg, ArgAction, Command};
+use fault::RunFault;
+use run::replay;
+use std::alloc::Global;
+use std::env::Env;
+use std::process::ExitCode;
+use std::{env, io};
+use thiserror::Error;
+
+/// What the command line asks for.
+#[derive(Clone, Copy, Debug, PartialEq, Eq)]
+enum Request {
+    Replay,
+}
+
+/// Why the command line asks for nothing.
+#[derive(Clone, Copy, Debug, PartialEq, Eq, Error)]
+enum Refusal {
+    #[error("usage: nm_stress COMMAND")]
+    Usage,
+    #[error("no memory")]
+    NoMemory,
+}
+
+impl Refusal {
+    /// The exit status after it.
+    fn status(self) -> u8 {
+        match self {
+            Refusal::Usage => 2,
+            Refusal::NoMemory => 3,
+        }
+    }
+}
+
+/// What an error of clap's comes to.
+fn refusal_of(error: &clap::Error) -> Refusal {
+    if error.kind() == ErrorKind::OutOfMemory {
+        Refusal::NoMemory
+    } else {
+        Refusal::Usage
+    }
+}
+
+/// Reads the words of the command line: the program's name and one command.
+fn request_of(alloc: Global, words: &[String]) -> Result<Request, Refusal>
+    ensures { OnOk result (length words.now ≡ 2) }
+{
+    if words.len() != 2 {
+        return Err(Refusal::Usage);
+    }
+    let name = Arg::new(alloc, "command")
+        .required(true)
+        .action(ArgAction::Set);
+    let command = match Command::new(alloc, "nm_stress").arg(name) {
+        Ok(command) => command,
+        Err(_) => return Err(Refusal::NoMemory),
+    };
+    let matches = match command.try_get_matches_from(words) {
+        Ok(matches) => matches,
+        Err(error) => return Err(refusal_of(&error)),
+    };
+    match matches.get_str("command") {
+        Some("replay") => Ok(Request::Replay),
+        _ => Err(Refusal::Usage),
+    }
+}
+
+/// Reads the command line. A word that is no text is as good as a wrong one.
+fn asked(rt: &(impl Env + AllocGlobal)) -> Result<Request, Refusal> {
+    let words = match env::args(rt) {
+        Ok(words) => words,
+        Err(error) if error.kind() == io::ErrorKind::OutOfMemory => {
+            return Err(Refusal::NoMemory);
+        }
+        Err(_) => return Err(Refusal::Usage),
+    };
+    let words: Vec<String> = match words.collect(rt.alloc()) {
+        Ok(words) => words,
+        Err(_) => return Err(Refusal::NoMemory),
+    };
+    request_of(rt.alloc(), words.as_slice())
+}
+
+/// The exit status after a run that ended so.
+fn status_of(fault: &RunFault) -> u8
+    ensures { result ≡ exit_status fault.now }
+{
+    match fault {
+        RunFault::Line { .. } => 1,
+        RunFault::NoMemory => 3,
+        RunFault::Read | RunFault::Write => 4,
+    }
+}
+
+fn main(rt: HostRuntime) -> ExitCode {
+    let request = match asked(&rt) {
+        Ok(request) => request,
+        Err(refusal) => {
+            let _ = eprintln!(rt; "{refusal}");
+            return ExitCode::from(refusal.status());
+        }
+    };
+    let result = match request {
+        Request::Replay => replay(rt.alloc(), &mut rt.reader(), &mut io::writer(&rt)),
+    };
+    match result {
+        Ok(()) => ExitCode::SUCCESS,
+        Err(fault) => {
+            let _ = eprintln!(rt; "{fault}");
+            ExitCode::from(status_of(&fault))
+        }
+    }
+}
+
+#[cfg(test)]
+mod tests;

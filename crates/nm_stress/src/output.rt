@@ -1,0 +1,51 @@
+//! What is written for a schedule.
+ghost use Rattle.std.specs.Prelude.{◌≡◌, ◌++◌, codes, IfOk, OnOk};
+ghost use Rattle.nm_stress.specs.Lines.{parts};
+ghost use Rattle.nm_stress.specs.Replies.{outcome};
+ghost use Rattle.nm_stress.specs.Output as spec;
+
+use crate::pieces::cut;
+use crate::reply::{put_number, put_outcome};
+use nm_core::{Core, Turn};
+use std::alloc::{AllocError, Global};
+
+/// Appends a line of the file with what its event was answered.
+fn put_line(out: &mut Vec<u8>, line: &[u8], turn: &Turn) -> Result<(), AllocError>
+    ensures { OnOk result (out.new.items ≡ out.old.items ++ (line.now ++ codes " = " ++ outcome turn.now.outcome ++ codes "\n")) }
+{
+    out.extend_from_slice(line)?;
+    out.extend_from_slice(b" = ")?;
+    put_outcome(out, &turn.outcome)?;
+    out.extend_from_slice(b"\n")
+}
+
+/// Appends what the last state is told by.
+fn put_last_lines(out: &mut Vec<u8>, core: &Core) -> Result<(), AllocError>
+    ensures { OnOk result (out.new.items ≡ out.old.items ++ spec.last_lines core.now) }
+{
+    put_number(out, b"epoch ", core.epoch())?;
+    out.extend_from_slice(b"\n")
+}
+
+/// Each line with what its event was answered, and then what the last state is told by.
+pub fn text_of(
+    alloc: Global,
+    body: &[u8],
+    turns: &[Turn],
+    core: &Core,
+) -> Result<Vec<u8>, AllocError>
+    ensures { IfOk result (λ v. v.items ≡ spec.lines_with (parts body.now) turns.now ++ spec.last_lines core.now) }
+{
+    let mut out = Vec::new(alloc);
+    let mut rest = Some(body);
+    for turn in turns {
+        let Some(text) = rest else {
+            break;
+        };
+        let (line, after) = cut(text, b'\n');
+        put_line(&mut out, line, turn)?;
+        rest = after;
+    }
+    put_last_lines(&mut out, core)?;
+    Ok(out)
+}
