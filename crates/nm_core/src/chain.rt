@@ -77,7 +77,14 @@ impl Worker {
     }
 
     /// The slots of the chain, from the successor downwards, each internal node and then its flagged leaf.
-    pub fn cut(&self, alloc: Global, fuel: u32, from: u32, to: u32, keep: Side) -> Result<Vec<u32>, AllocError>
+    pub fn cut(
+        &self,
+        alloc: Global,
+        fuel: u32,
+        from: u32,
+        to: u32,
+        keep: Side,
+    ) -> Result<Vec<u32>, AllocError>
         requires { is_some (way fuel self.now from to) ≡ true }
         ensures { IfOk result (λ slots. slots.items ≡ cut_by self.now from (unwrap_or (way fuel self.now from to) []) keep) }
     {

@@ -18,7 +18,7 @@ pub struct Queued {
 
 impl Queued {
     /// Whether its label and 2 more are above the epoch that was seen, or it has no label and the epoch is below 2.
-    pub fn is_young(self, seen: u64) -> bool
+    pub(crate) fn is_young(self, seen: u64) -> bool
         ensures { result ≡ nat_lt seen (unwrap_or self.label 0 + 2) }
     {
         let label = self.label.unwrap_or(0);
@@ -26,7 +26,7 @@ impl Queued {
     }
 
     /// The entry with this label, unless it has one.
-    pub fn with_label(self, label: u64) -> Queued
+    pub(crate) fn with_label(self, label: u64) -> Queued
         ensures { result ≡ with_label label self }
     {
         Queued {
@@ -64,17 +64,18 @@ pub struct Ledger {
 
 impl Nodes {
     /// These nodes. Takes no memory.
-    pub fn from_vec(items: Vec<NodeId>) -> Nodes
-        ensures { result ≡ items.items }
+    pub fn from_vec(nodes: Vec<NodeId>) -> Nodes
+        ensures { result ≡ nodes.items }
     {
-        Nodes { items }
+        Nodes { items: nodes }
     }
 
     /// The nodes as a vector. Takes no memory.
     pub fn into_vec(self) -> Vec<NodeId>
         ensures { result.items ≡ self }
     {
-        self.items
+        let Nodes { items } = self;
+        items
     }
 
     /// The nodes in order.
@@ -115,14 +116,14 @@ impl Nodes {
         ensures { IfOk result (λ nodes. nodes ≡ self.now) }
     {
         Ok(Nodes {
-            items: Vec::from_slice(alloc, self.items.as_slice())?,
+            items: Vec::from_slice(alloc, self.as_slice())?,
         })
     }
 }
 
 impl Ledger {
     /// The ledger of a worker that has cut nothing. Takes no memory.
-    pub fn new(alloc: Global) -> Ledger
+    pub(crate) fn new(alloc: Global) -> Ledger
         ensures { result ≡ fresh_ledger }
     {
         Ledger {
@@ -133,7 +134,7 @@ impl Ledger {
     }
 
     /// Nodes were cut, and wait for their label.
-    pub fn retire(&mut self, nodes: &[NodeId]) -> Result<(), AllocError>
+    pub(crate) fn retire(&mut self, nodes: &[NodeId]) -> Result<(), AllocError>
         ensures ok { OnOk result (self.new ≡ with_cut nodes.now self.old) }
         ensures err { OnErr result (self.new ≡ self.old) }
     {
@@ -147,14 +148,14 @@ impl Ledger {
     }
 
     /// Gives each entry without a label this one.
-    pub fn label(&mut self, label: u64)
+    pub(crate) fn label(&mut self, label: u64)
         ensures { self.new ≡ labelled label self.old }
     {
         self.queue.label(label);
     }
 
     /// The node at the front was freed.
-    pub fn free(&mut self, node: NodeId) -> Result<(), AllocError>
+    pub(crate) fn free(&mut self, node: NodeId) -> Result<(), AllocError>
         ensures ok { OnOk result (self.new ≡ with_freed node self.old) }
         ensures err { OnErr result (self.new ≡ self.old) }
     {
@@ -164,7 +165,7 @@ impl Ledger {
     }
 
     /// A copy.
-    pub fn clone_in(&self, alloc: Global) -> Result<Ledger, AllocError>
+    pub(crate) fn clone_in(&self, alloc: Global) -> Result<Ledger, AllocError>
         ensures { IfOk result (λ ledger. ledger ≡ self.now) }
     {
         Ok(Ledger {

@@ -26,7 +26,7 @@ impl Model for Ledgers {
 
 impl Ledgers {
     /// None, for so many origins.
-    pub fn none(alloc: Global, origins: usize) -> Result<Ledgers, AllocError>
+    pub(crate) fn none(alloc: Global, origins: usize) -> Result<Ledgers, AllocError>
         ensures { IfOk result (λ ledgers. ledgers ≡ replicate origins None) }
     {
         let mut by_origin = Vec::with_capacity(alloc, origins)?;
@@ -37,7 +37,7 @@ impl Ledgers {
     }
 
     /// The ledger of a worker that has cut nothing, among so many.
-    pub fn own(alloc: Global, origins: usize, origin: usize) -> Result<Ledgers, AllocError>
+    pub(crate) fn own(alloc: Global, origins: usize, origin: usize) -> Result<Ledgers, AllocError>
         requires { origin < origins }
         ensures { IfOk result (λ ledgers. ledgers ≡ slice_set (replicate origins None) origin (Some fresh_ledger)) }
     {
@@ -54,7 +54,7 @@ impl Ledgers {
     }
 
     /// The first front of a queue that is of this slot.
-    pub fn front(&self, slot: u32) -> Option<Queued>
+    pub(crate) fn front(&self, slot: u32) -> Option<Queued>
         ensures { result ≡ front_of self.now slot }
     {
         for ledger in &self.by_origin {
@@ -78,7 +78,7 @@ impl Ledgers {
     }
 
     /// The entry of a slot: a front, where there is one.
-    pub fn find(&self, slot: u32) -> Option<Queued>
+    pub(crate) fn find(&self, slot: u32) -> Option<Queued>
         ensures { result ≡ entry_of self.now slot }
     {
         if let Some(front) = self.front(slot) {
@@ -88,7 +88,7 @@ impl Ledgers {
     }
 
     /// Nodes of this origin were cut, and wait for their label.
-    pub fn retire(&mut self, origin: usize, nodes: &[NodeId]) -> Result<(), AllocError>
+    pub(crate) fn retire(&mut self, origin: usize, nodes: &[NodeId]) -> Result<(), AllocError>
         requires { origin < length self.old }
         ensures ok { OnOk result (self.new ≡ retire self.old origin nodes.now) }
         ensures err { OnErr result (self.new ≡ self.old) }
@@ -109,7 +109,7 @@ impl Ledgers {
     }
 
     /// The node at the front of a queue was freed.
-    pub fn free(&mut self, node: NodeId) -> Result<(), AllocError>
+    pub(crate) fn free(&mut self, node: NodeId) -> Result<(), AllocError>
         ensures ok { OnOk result (self.new ≡ free self.old node) }
         ensures err { OnErr result (self.new ≡ self.old) }
     {
@@ -120,7 +120,7 @@ impl Ledgers {
     }
 
     /// Takes over the ledgers that another held, each under its origin.
-    pub fn take_over(&mut self, passed: Ledgers)
+    pub(crate) fn take_over(&mut self, passed: Ledgers)
         requires { length passed ≡ length self.old }
         ensures { self.new ≡ taken_over self.old passed }
     {
@@ -129,7 +129,7 @@ impl Ledgers {
     }
 
     /// A copy.
-    pub fn clone_in(&self, alloc: Global) -> Result<Ledgers, AllocError>
+    pub(crate) fn clone_in(&self, alloc: Global) -> Result<Ledgers, AllocError>
         ensures { IfOk result (λ ledgers. ledgers ≡ self.now) }
     {
         let mut by_origin = Vec::with_capacity(alloc, self.by_origin.len())?;
@@ -140,7 +140,7 @@ impl Ledgers {
     }
 
     /// Gives each entry without a label this one.
-    pub fn label(&mut self, label: u64)
+    pub(crate) fn label(&mut self, label: u64)
         ensures { self.new ≡ with_labels label self.old }
     {
         for ledger in self.by_origin.iter_mut() {

@@ -23,23 +23,21 @@ mod worker;
 /// The greatest epoch and the greatest birth, 2^62.
 pub const LAST_NUMBER: u64 = 1 << 62;
 
+ghost use Rattle.std.specs.Prelude.{◌≡◌, Some};
+ghost use Rattle.nm_core.specs.Schedules.{IsAsWorked};
+ghost use Rattle.nm_core.specs.Schedules as worked;
+
 pub use event::{Event, Field};
-pub use knowledge::{Brief, Draft, Seen};
 pub use laws::{
     each_ledger_has_one_holder, each_slot_has_one_place, ledgers_are_the_cuts, nothing_else_cuts,
     pins_stay_near, splices_cut_their_nodes,
 };
 pub use ledger::{Ledger, Nodes, Queued};
 pub use ledgers::Ledgers;
-pub use memory::Node;
 pub use pure_core::{Core, NewError};
 pub use queue::Queue;
 pub use reply::{Refused, Reply};
 pub use trace::{RunError, Trace, Turn};
-
-ghost use Rattle.std.specs.Prelude.{◌≡◌, Some};
-ghost use Rattle.nm_core.specs.Schedules.{IsAsWorked};
-ghost use Rattle.nm_core.specs.Schedules as worked;
 
 /// The definitions, played on the worked schedules, say what the schedules say: each outcome, each ledger, the epoch and the counts.
 pub fn worked_schedules()
@@ -55,3 +53,6 @@ pub fn worked_schedules()
     ensures refusals { IsAsWorked worked.refusals }
     ensures joining { IsAsWorked worked.joining }
 {}
+
+#[cfg(test)]
+mod tests;

@@ -104,7 +104,13 @@ impl Machine {
         Ok(())
     }
 
-    pub fn fill(&mut self, worker: usize, slot: u32, field: Field, value: u64) -> Result<Reply, Refused>
+    pub fn fill(
+        &mut self,
+        worker: usize,
+        slot: u32,
+        field: Field,
+        value: u64,
+    ) -> Result<Reply, Refused>
         requires shaped { IsShaped self.old }
         requires is_there { worker < length self.old.workers }
         ensures outcome { IsAnswer (refusal_of self.old worker (event.Fill slot field value)) (reply_of self.old worker (event.Fill slot field value)) result }

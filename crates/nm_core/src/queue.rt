@@ -31,7 +31,7 @@ impl Model for Queue {
 
 impl Queue {
     /// The empty queue. Takes no memory.
-    pub fn new(alloc: Global) -> Queue
+    pub(crate) fn new(alloc: Global) -> Queue
         ensures { result ≡ [] }
     {
         Queue {

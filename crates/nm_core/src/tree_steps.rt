@@ -17,7 +17,14 @@ use std::alloc::AllocError;
 
 impl Machine {
     // Whether the exchange may be tried.
-    fn may_link(&self, worker: usize, parent: u32, side: Side, leaf: u32, new: u32) -> Result<(), Refused>
+    fn may_link(
+        &self,
+        worker: usize,
+        parent: u32,
+        side: Side,
+        leaf: u32,
+        new: u32,
+    ) -> Result<(), Refused>
         requires shaped { IsShaped self.now }
         requires is_there { worker < length self.now.workers }
         ensures allowed { OnOk result (refusal_of self.now worker (event.Link parent side leaf new) ≡ None) }
@@ -44,7 +51,14 @@ impl Machine {
         Ok(())
     }
 
-    pub fn link(&mut self, worker: usize, parent: u32, side: Side, leaf: u32, new: u32) -> Result<Reply, Refused>
+    pub fn link(
+        &mut self,
+        worker: usize,
+        parent: u32,
+        side: Side,
+        leaf: u32,
+        new: u32,
+    ) -> Result<Reply, Refused>
         requires shaped { IsShaped self.old }
         requires is_there { worker < length self.old.workers }
         ensures outcome { IsAnswer (refusal_of self.old worker (event.Link parent side leaf new)) (reply_of self.old worker (event.Link parent side leaf new)) result }
@@ -85,7 +99,13 @@ impl Machine {
         Ok(())
     }
 
-    pub fn flag(&mut self, worker: usize, parent: u32, side: Side, leaf: u32) -> Result<Reply, Refused>
+    pub fn flag(
+        &mut self,
+        worker: usize,
+        parent: u32,
+        side: Side,
+        leaf: u32,
+    ) -> Result<Reply, Refused>
         requires shaped { IsShaped self.old }
         requires is_there { worker < length self.old.workers }
         ensures outcome { IsAnswer (refusal_of self.old worker (event.Flag parent side leaf)) (reply_of self.old worker (event.Flag parent side leaf)) result }
@@ -145,7 +165,15 @@ impl Machine {
     }
 
     // Whether the exchange may be tried.
-    fn may_splice(&self, worker: usize, ancestor: u32, side: Side, successor: u32, parent: u32, keep: Side) -> Result<(), Refused>
+    fn may_splice(
+        &self,
+        worker: usize,
+        ancestor: u32,
+        side: Side,
+        successor: u32,
+        parent: u32,
+        keep: Side,
+    ) -> Result<(), Refused>
         requires shaped { IsShaped self.now }
         requires is_there { worker < length self.now.workers }
         ensures allowed { OnOk result (refusal_of self.now worker (event.Splice ancestor side successor parent keep) ≡ None) }
@@ -154,7 +182,10 @@ impl Machine {
         ensures known { OnOk result (knows (of self.now worker) ancestor ≡ true) }
         ensures leads { OnOk result (is_some (way self.now.layout.nodes (of self.now worker) successor parent) ≡ true) }
     {
-        if self.is_outside(1, ancestor) || self.is_outside(6, successor) || self.is_outside(6, parent) {
+        if self.is_outside(1, ancestor)
+            || self.is_outside(6, successor)
+            || self.is_outside(6, parent)
+        {
             return Err(Refused::NoSlot);
         }
         let knowledge = &self.workers[worker];
@@ -171,12 +202,24 @@ impl Machine {
     }
 
     // The nodes of a chain, each by its birth word.
-    fn cut_nodes(&self, worker: usize, successor: u32, parent: u32, keep: Side) -> Result<Vec<NodeId>, AllocError>
+    fn cut_nodes(
+        &self,
+        worker: usize,
+        successor: u32,
+        parent: u32,
+        keep: Side,
+    ) -> Result<Vec<NodeId>, AllocError>
         requires is_there { worker < length self.now.workers }
         requires leads { is_some (way self.now.layout.nodes (of self.now worker) successor parent) ≡ true }
         ensures { IfOk result (λ nodes. nodes.items ≡ cut_nodes self.now.layout self.now.memory (of self.now worker) successor parent keep) }
     {
-        let slots = self.workers[worker].cut(self.alloc, self.layout.nodes(), successor, parent, keep)?;
+        let slots = self.workers[worker].cut(
+            self.alloc,
+            self.layout.nodes(),
+            successor,
+            parent,
+            keep,
+        )?;
         self.names(&slots)
     }
 
@@ -191,7 +234,15 @@ impl Machine {
         Ok(nodes)
     }
 
-    pub fn splice(&mut self, worker: usize, ancestor: u32, side: Side, successor: u32, parent: u32, keep: Side) -> Result<Reply, Refused>
+    pub fn splice(
+        &mut self,
+        worker: usize,
+        ancestor: u32,
+        side: Side,
+        successor: u32,
+        parent: u32,
+        keep: Side,
+    ) -> Result<Reply, Refused>
         requires shaped { IsShaped self.old }
         requires is_there { worker < length self.old.workers }
         ensures outcome { IsAnswer (refusal_of self.old worker (event.Splice ancestor side successor parent keep)) (reply_of self.old worker (event.Splice ancestor side successor parent keep)) result }

@@ -62,21 +62,24 @@ impl Edge {
     pub fn slot(self) -> u32
         ensures { result ≡ self.slot }
     {
-        self.slot
+        let Edge { slot, .. } = self;
+        slot
     }
 
     /// Whether the leaf below it and the node above it are to be removed.
     pub fn flag(self) -> bool
         ensures { result ≡ self.flag }
     {
-        self.flag
+        let Edge { flag, .. } = self;
+        flag
     }
 
     /// Whether the node above it alone is to be removed.
     pub fn tag(self) -> bool
         ensures { result ≡ self.tag }
     {
-        self.tag
+        let Edge { tag, .. } = self;
+        tag
     }
 
     /// Whether it leads to that slot and has no mark: what an exchange of the edge expects.
@@ -113,9 +116,10 @@ impl Edge {
     pub fn untagged(self) -> Edge
         ensures { result ≡ untagged self }
     {
+        let Edge { slot, flag, tag: _ } = self;
         Edge {
-            slot: self.slot,
-            flag: self.flag,
+            slot,
+            flag,
             tag: false,
         }
     }

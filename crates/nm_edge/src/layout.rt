@@ -67,7 +67,8 @@ impl Layout {
         ensures nodes { result ≡ self.nodes }
         ensures fits { IsLayout self }
     {
-        self.nodes
+        let Layout { nodes, .. } = self;
+        nodes
     }
 
     /// How many workers there are, 1 to 64. They are numbered from 0.
@@ -75,6 +76,7 @@ impl Layout {
         ensures workers { result ≡ self.workers }
         ensures fits { IsLayout self }
     {
-        self.workers
+        let Layout { workers, .. } = self;
+        workers
     }
 }

@@ -8,3 +8,6 @@ mod node;
 pub use edge::{Edge, Side};
 pub use layout::{LEAST_NODES, Layout, LayoutError, MOST_NODES, MOST_WORKERS};
 pub use node::NodeId;
+
+#[cfg(test)]
+mod tests;

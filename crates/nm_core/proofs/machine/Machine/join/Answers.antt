@@ -12,5 +12,5 @@ returns-clause-ok c =
     let all = c.requires.shaped.workers in
     let came = c.inherit.ensures ∙ ap (inheriting c.index_mut-2.result.now) c.resign-passed.ensures.ledgers in
     rw (← c.self.view_is)
-        (joined _ c.args.worker c.args.leaver c.in_ok-may_join.ensures.apart c.index_mut.result.now c.index_mut-2.result.now c.resign-passed.new.self c.inherit.new.self
-            (omega arith) (omega arith) c.index_mut.ensures.value c.resign-passed.ensures.gone c.index_mut-2.ensures.value came)
+    (joined _ c.args.worker c.args.leaver c.in_ok-may_join.ensures.apart c.index_mut.result.now c.index_mut-2.result.now c.resign-passed.new.self c.inherit.new.self
+    (omega arith) (omega arith) c.index_mut.ensures.value c.resign-passed.ensures.gone c.index_mut-2.ensures.value came)

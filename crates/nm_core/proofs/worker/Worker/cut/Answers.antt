@@ -8,7 +8,7 @@ pub returns-then-at-to : goal.returns-then-at-to
 returns-then-at-to c =
     let here = way_here (c.args.fuel - c.loop.counter) (c.args.fuel - (c.loop.counter + 1)) c.args.self.now c.loop.at c.args.to (omega arith) c.if-at-to.true in
     rw (c.in_ok-push_both.ensures, c.slot_read.ensures, c.other.ensures)
-        (ap (λ o. c.loop.slots.items ++ cut_by c.args.self.now c.loop.at (unwrap_or o []) c.args.keep) (sym here) ∙ c.loop.invariant.slots)
+    (ap (λ o. c.loop.slots.items ++ cut_by c.args.self.now c.loop.at (unwrap_or o []) c.args.keep) (sym here) ∙ c.loop.invariant.slots)
 
 pub returns-in_default : goal.returns-in_default
 returns-in_default c =

@@ -1,0 +1,219 @@
+use super::*;
+use nm_edge::{NodeId, Side};
+use std::test::Fail;
+
+// A worker that stays pinned holds the epoch back.
+const HELD_BACK: [(u32, Event); 8] = [
+    (1, Event::Sight),
+    (1, Event::Announce),
+    (1, Event::Sight),
+    (0, Event::Sight),
+    (0, Event::Scan(1)),
+    (0, Event::Advance),
+    (0, Event::Scan(1)),
+    (0, Event::Advance),
+];
+
+// One splice cuts a chain of two internal nodes.
+const LONG_CHAIN: [(u32, Event); 57] = [
+    (0, Event::Sight),
+    (0, Event::Announce),
+    (0, Event::Sight),
+    (0, Event::Look(2, Field::Edge(Side::Left))),
+    (0, Event::Look(3, Field::Edge(Side::Left))),
+    (0, Event::Claim(6)),
+    (0, Event::Fill(6, Field::Birth, 1)),
+    (0, Event::Claim(7)),
+    (0, Event::Fill(7, Field::Birth, 1)),
+    (0, Event::Fill(6, Field::Key, 18446744073709551613)),
+    (0, Event::Fill(6, Field::Edge(Side::Left), 7)),
+    (0, Event::Fill(6, Field::Edge(Side::Right), 3)),
+    (0, Event::Fill(7, Field::Key, 10)),
+    (0, Event::Fill(7, Field::Edge(Side::Left), 0)),
+    (0, Event::Fill(7, Field::Edge(Side::Right), 0)),
+    (0, Event::Link(2, Side::Left, 3, 6)),
+    (0, Event::Look(6, Field::Edge(Side::Left))),
+    (0, Event::Look(7, Field::Edge(Side::Left))),
+    (0, Event::Claim(8)),
+    (0, Event::Fill(8, Field::Birth, 1)),
+    (0, Event::Claim(9)),
+    (0, Event::Fill(9, Field::Birth, 1)),
+    (0, Event::Fill(8, Field::Key, 20)),
+    (0, Event::Fill(8, Field::Edge(Side::Left), 7)),
+    (0, Event::Fill(8, Field::Edge(Side::Right), 9)),
+    (0, Event::Fill(9, Field::Key, 20)),
+    (0, Event::Fill(9, Field::Edge(Side::Left), 0)),
+    (0, Event::Fill(9, Field::Edge(Side::Right), 0)),
+    (0, Event::Link(6, Side::Left, 7, 8)),
+    (0, Event::Look(8, Field::Edge(Side::Right))),
+    (0, Event::Look(9, Field::Edge(Side::Left))),
+    (0, Event::Claim(10)),
+    (0, Event::Fill(10, Field::Birth, 1)),
+    (0, Event::Claim(11)),
+    (0, Event::Fill(11, Field::Birth, 1)),
+    (0, Event::Fill(10, Field::Key, 30)),
+    (0, Event::Fill(10, Field::Edge(Side::Left), 9)),
+    (0, Event::Fill(10, Field::Edge(Side::Right), 11)),
+    (0, Event::Fill(11, Field::Key, 30)),
+    (0, Event::Fill(11, Field::Edge(Side::Left), 0)),
+    (0, Event::Fill(11, Field::Edge(Side::Right), 0)),
+    (0, Event::Link(8, Side::Right, 9, 10)),
+    (0, Event::Flag(8, Side::Left, 7)),
+    (0, Event::Tag(8, Side::Right)),
+    (1, Event::Sight),
+    (1, Event::Announce),
+    (1, Event::Sight),
+    (1, Event::Look(2, Field::Edge(Side::Left))),
+    (1, Event::Look(6, Field::Edge(Side::Left))),
+    (1, Event::Look(8, Field::Edge(Side::Left))),
+    (1, Event::Look(8, Field::Edge(Side::Right))),
+    (1, Event::Look(10, Field::Edge(Side::Left))),
+    (1, Event::Look(9, Field::Edge(Side::Left))),
+    (1, Event::Flag(10, Side::Left, 9)),
+    (1, Event::Tag(10, Side::Right)),
+    (1, Event::Splice(6, Side::Left, 8, 10, Side::Right)),
+    (1, Event::Sight),
+];
+
+// Nodes are freed in order, and not too young.
+const ORDER_AND_AGE: [(u32, Event); 37] = [
+    (0, Event::Sight),
+    (0, Event::Announce),
+    (0, Event::Sight),
+    (0, Event::Look(2, Field::Edge(Side::Left))),
+    (0, Event::Look(3, Field::Edge(Side::Left))),
+    (0, Event::Claim(6)),
+    (0, Event::Fill(6, Field::Birth, 1)),
+    (0, Event::Claim(7)),
+    (0, Event::Fill(7, Field::Birth, 1)),
+    (0, Event::Fill(6, Field::Key, 18446744073709551613)),
+    (0, Event::Fill(6, Field::Edge(Side::Left), 7)),
+    (0, Event::Fill(6, Field::Edge(Side::Right), 3)),
+    (0, Event::Fill(7, Field::Key, 10)),
+    (0, Event::Fill(7, Field::Edge(Side::Left), 0)),
+    (0, Event::Fill(7, Field::Edge(Side::Right), 0)),
+    (0, Event::Link(2, Side::Left, 3, 6)),
+    (0, Event::Look(6, Field::Edge(Side::Left))),
+    (0, Event::Look(7, Field::Edge(Side::Left))),
+    (0, Event::Splice(2, Side::Left, 6, 6, Side::Right)),
+    (0, Event::Flag(6, Side::Left, 7)),
+    (0, Event::Tag(6, Side::Right)),
+    (0, Event::Splice(2, Side::Left, 6, 6, Side::Right)),
+    (0, Event::Give(6)),
+    (0, Event::Sight),
+    (0, Event::Give(7)),
+    (0, Event::Give(6)),
+    (0, Event::Leave),
+    (0, Event::Advance),
+    (0, Event::Give(6)),
+    (0, Event::Advance),
+    (0, Event::Give(6)),
+    (0, Event::Give(7)),
+    (0, Event::Give(7)),
+    (0, Event::Claim(6)),
+    (0, Event::Fill(6, Field::Birth, 1)),
+    (0, Event::Fill(6, Field::Birth, 2)),
+    (0, Event::Give(6)),
+];
+
+// The events as a vector.
+fn listed<R: AllocGlobal>(rt: &R, events: &[(u32, Event)]) -> Result<Vec<(u32, Event)>, Fail> {
+    Ok(Vec::from_slice(rt.alloc(), events)?)
+}
+
+// Plays the events on a core. Where memory is refused in between, the rest is played from there on.
+fn play<R: AllocGlobal>(rt: &R, core: &mut Core, events: &[(u32, Event)]) -> Result<(), Fail> {
+    let mut done = 0;
+    for _ in 0..events.len() + 3 {
+        match core.run(listed(rt, &events[done..])?) {
+            Ok(_) => return Ok(()),
+            Err(error) => done += error.done,
+        }
+    }
+    Ok(())
+}
+
+#[test]
+fn a_pin_holds_the_epoch_back(rt: HostRuntime) -> Result<(), Fail> {
+    let mut core = Core::new(rt.alloc(), 7, 2)?;
+    let trace = core.run(listed(&rt, &HELD_BACK)?)?;
+    let turns = trace.as_slice();
+    assert_eq!(rt; turns.len(), 8);
+    assert!(rt; matches!(turns[2].outcome, Ok(Reply::Pinned(0))));
+    assert!(rt; matches!(turns[5].outcome, Ok(Reply::Moved(1))));
+    assert!(rt; matches!(turns[7].outcome, Err(Refused::NotReady)));
+    assert_eq!(rt; turns[7].worker, 0);
+    assert_eq!(rt; turns[7].event, Event::Advance);
+    assert_eq!(rt; core.epoch(), 1);
+    Ok(())
+}
+
+#[test]
+fn a_splice_answers_its_chain(rt: HostRuntime) -> Result<(), Fail> {
+    let mut core = Core::new(rt.alloc(), 16, 2)?;
+    let trace = core.run(listed(&rt, &LONG_CHAIN)?)?;
+    let Ok(Reply::Cut(nodes)) = &trace.as_slice()[55].outcome else {
+        assert!(rt; false, "no cut");
+        return Ok(());
+    };
+    let slots = nodes.as_slice();
+    assert_eq!(rt; slots.len(), 4);
+    for (node, slot) in slots.iter().zip([8u32, 7, 10, 9]) {
+        assert_eq!(rt; *node, NodeId { slot, birth: 1 });
+    }
+    Ok(())
+}
+
+#[test]
+fn a_freed_slot_is_claimed_again(rt: HostRuntime) -> Result<(), Fail> {
+    let mut core = Core::new(rt.alloc(), 7, 1)?;
+    play(&rt, &mut core, &ORDER_AND_AGE)?;
+    assert_eq!(rt; core.epoch(), 2);
+    assert!(rt; matches!(core.apply(0, Event::Claim(6))?, Reply::Claimed(6)));
+    assert!(rt; matches!(core.apply(0, Event::Claim(6))?, Reply::Taken));
+    assert!(rt; matches!(core.apply(1, Event::Sight), Err(Refused::NoWorker)));
+    Ok(())
+}
+
+#[test]
+fn a_worker_resigns(rt: HostRuntime) -> Result<(), Fail> {
+    let mut core = Core::new(rt.alloc(), 7, 2)?;
+    assert!(rt; matches!(core.apply(0, Event::Join(2)), Err(Refused::NoWorker)));
+    assert!(rt; matches!(core.apply(0, Event::Join(0)), Err(Refused::NoWorker)));
+    assert!(rt; matches!(core.apply(1, Event::Claim(6))?, Reply::Claimed(6)));
+    assert!(rt; matches!(core.apply(0, Event::Join(1)), Err(Refused::NotReady)));
+    assert!(rt; matches!(core.apply(1, Event::Give(6))?, Reply::Returned(6)));
+    let Reply::Joined(ledgers) = core.apply(0, Event::Join(1))? else {
+        assert!(rt; false, "not joined");
+        return Ok(());
+    };
+    assert!(rt; ledgers.get(0).is_none());
+    assert!(rt;
+        ledgers
+            .get(1)
+            .is_some_and(|ledger| ledger.queue.as_slice().is_empty())
+    );
+    assert!(rt; matches!(core.apply(1, Event::Sight), Err(Refused::NoWorker)));
+    Ok(())
+}
+
+#[test]
+fn sizes_out_of_range_are_refused(rt: HostRuntime) {
+    assert_eq!(rt; Core::new(rt.alloc(), 6, 65).err(), Some(NewError::Nodes));
+    assert_eq!(rt;
+        Core::new(rt.alloc(), 1_048_577, 1).err(),
+        Some(NewError::Nodes)
+    );
+    assert_eq!(rt; Core::new(rt.alloc(), 7, 0).err(), Some(NewError::Workers));
+    assert_eq!(rt; Core::new(rt.alloc(), 7, 65).err(), Some(NewError::Workers));
+}
+
+#[test]
+fn nodes_are_a_vector(rt: HostRuntime) -> Result<(), Fail> {
+    let node = NodeId { slot: 6, birth: 1 };
+    let nodes = Nodes::from_vec(Vec::from_slice(rt.alloc(), &[node])?);
+    assert_eq!(rt; nodes.as_slice().first(), Some(&node));
+    assert_eq!(rt; nodes.into_vec().len(), 1);
+    assert!(rt; Field::Edge(Side::Left).is_edge());
+    Ok(())
+}

@@ -1,0 +1,29 @@
+use super::*;
+
+#[test]
+fn a_null_edge_is_never_marked(rt: HostRuntime) {
+    assert!(rt; Edge::new(0, true, false).is_none());
+    assert!(rt; Edge::new(0, false, true).is_none());
+    assert_eq!(rt; Edge::new(0, false, false), Some(Edge::to(0)));
+    assert_eq!(rt; Edge::to(0).tagged(), Edge::to(0));
+}
+
+#[test]
+fn marks_are_set_and_taken(rt: HostRuntime) {
+    let edge = Edge::to(9).flagged().tagged();
+    assert_eq!(rt; (edge.slot(), edge.flag(), edge.tag()), (9, true, true));
+    assert_eq!(rt; edge.untagged(), Edge::to(9).flagged());
+    assert!(rt; Edge::to(9).is_to(9));
+    assert!(rt; !edge.is_to(9));
+    assert_eq!(rt; Side::Left.other(), Side::Right);
+}
+
+#[test]
+fn layouts_have_their_limits(rt: HostRuntime) {
+    assert_eq!(rt; Layout::new(6, 65), Err(LayoutError::Nodes));
+    assert_eq!(rt; Layout::new(1_048_577, 65), Err(LayoutError::Nodes));
+    assert_eq!(rt; Layout::new(1_048_576, 65), Err(LayoutError::Workers));
+    assert_eq!(rt; Layout::new(7, 0), Err(LayoutError::Workers));
+    assert_eq!(rt; Layout::new(7, 64).map(Layout::nodes), Ok(7));
+    assert_eq!(rt; Layout::new(7, 64).map(Layout::workers), Ok(64));
+}
