@@ -29,3 +29,7 @@ pub mod Cuts
 pub mod Stays
 pub mod Origins
 pub mod Retired
+pub mod Births
+pub mod Turns
+pub mod CutNodes
+pub mod Once

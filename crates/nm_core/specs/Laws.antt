@@ -1,5 +1,5 @@
 -- The laws of all runs, in the subject's own words.
-use Rattle.std.specs.Prelude.{◌≡◌, ℕ, ◌+◌, ◌<◌, ◌≤◌, ◌==◌, ◌⊎◌, ◌↔◌, true, if◌then◌else◌, List, [], ◌∷◌, ◌++◌, map, Contains, Some, IsSome, Result, Ok}
+use Rattle.std.specs.Prelude.{◌≡◌, ℕ, ◌+◌, ◌<◌, ◌≤◌, ◌==◌, ◌⊎◌, ◌↔◌, true, if◌then◌else◌, List, [], ◌∷◌, ◌++◌, map, slice_get, Contains, Some, IsSome, Result, Ok}
 use Rattle.nm_edge.specs.Edges.{other}
 use Rattle.nm_edge.specs.Layouts.{Layout}
 use Rattle.nm_edge.specs.declared.edge.Side.{Side}
@@ -99,3 +99,12 @@ cuts_of w (t ∷ ts) = (if t.worker == w then nodes_cut_of t.outcome else []) ++
 -- what was retired are the nodes that the origin's splices cut, in this order
 abbrev pub IsTheCuts : State → ℕ → Ledger → List Turn → Type 0
 IsTheCuts s origin l turns = l.retired ≡ cuts_of origin turns
+
+-- no node, a slot with its birth, stands twice over the retired nodes of all ledgers
+abbrev pub NoNodeTwice : State → Type 0
+NoNodeTwice s = (w v origin other i j : ℕ) (l m : Ledger) (n : NodeId) → held (of s w).ledgers origin ≡ Some l → held (of s v).ledgers other ≡ Some m
+    → slice_get l.retired i ≡ Some n → slice_get m.retired j ≡ Some n → (origin ≡ other) × (i ≡ j)
+
+-- in every run
+abbrev pub NoNodeIsCutTwice : Type 0
+NoNodeIsCutTwice = (L : Layout) → 5 ≤ L.nodes → (turns : List (ℕ × Event)) → NoNodeTwice (after (start L) turns)

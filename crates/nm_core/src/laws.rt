@@ -1,5 +1,5 @@
 //! Laws of all runs: each holds whatever the workers do and in whatever order, for every layout and every list of events.
-ghost use Rattle.nm_core.specs.Laws.{CutsJust, EachLedgerHasOneHolder, GoesDown, IsFreedThenQueue, IsTheCuts, NamesBirths, NothingElseCuts, OfEachCut, OfEachLedger, PinsStayNear};
+ghost use Rattle.nm_core.specs.Laws.{CutsJust, EachLedgerHasOneHolder, GoesDown, IsFreedThenQueue, IsTheCuts, NamesBirths, NoNodeIsCutTwice, NothingElseCuts, OfEachCut, OfEachLedger, PinsStayNear};
 ghost use Rattle.nm_core.specs.Places.{EachSlotHasOnePlace};
 
 /// While a worker is pinned at an epoch, the global epoch is that one or the next. (The bound of Fraser's epochs.)
@@ -36,4 +36,9 @@ pub fn each_ledger_has_one_holder()
 pub fn ledgers_are_the_cuts()
     ensures split { OfEachLedger IsFreedThenQueue }
     ensures replies { OfEachLedger IsTheCuts }
+{}
+
+/// No node, a slot with its birth, is retired twice, over the ledgers of all workers.
+pub fn no_node_is_cut_twice()
+    ensures { NoNodeIsCutTwice }
 {}
