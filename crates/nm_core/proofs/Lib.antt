@@ -33,3 +33,4 @@ pub mod Births
 pub mod Turns
 pub mod CutNodes
 pub mod Once
+pub mod Grace

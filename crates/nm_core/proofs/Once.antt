@@ -32,7 +32,7 @@ use Rattle.nm_core.proofs.CutNodes.{cut_nodes_of}
 
 -- ---- where a list is joined
 
-get_left : {X : Type 0} (xs ys : List X) (k : ℕ) (x : X) → k < length xs → slice_get (xs ++ ys) k ≡ Some x → slice_get xs k ≡ Some x
+pub get_left : {X : Type 0} (xs ys : List X) (k : ℕ) (x : X) → k < length xs → slice_get (xs ++ ys) k ≡ Some x → slice_get xs k ≡ Some x
 get_left [] ys k x lt h = absurd (omega arith)
 get_left (z ∷ xs) ys zero x lt h = h
 get_left (z ∷ xs) ys (suc k) x lt h = get_left xs ys k x (omega arith) h
@@ -195,6 +195,17 @@ pub sound_after : (s : State) → IsSound s → (ts : List (ℕ × Event)) → I
 unfolding after
 sound_after s sound [] = sound
 sound_after s sound (t ∷ ts) = sound_after (next s t) (sound_next s sound t) ts
+
+-- what is kept by each turn from sound states is kept by runs
+pub sound_over : (P : State → (ℕ → ℕ) → Type 0)
+    → ((s : State) (h : ℕ → ℕ) → Lawful s h → OnceLaw s h → (t : ℕ × Event) (turn : LawfulTurn s h t) → P s h → P (next s t) turn.holder)
+    → (s : State) (k : IsSound s) (ts : List (ℕ × Event)) → P s k.holder → (last : IsSound (after s ts)) × P (after s ts) last.holder
+unfolding after
+sound_over P keeps s k [] p = (k, p)
+sound_over P keeps s k (t ∷ ts) p =
+    let turn = lawful_turn s k.holder k.law k.once.born t in
+    let now : IsSound (next s t) = record { holder = turn.holder; law = turn.law; once = once_turn s k.holder k.law k.once t turn } in
+    sound_over P keeps (next s t) now ts (keeps s k.holder k.law k.once t turn p)
 
 once_start : (L : Layout) → OnceLaw (start L) (λ o. o)
 once_start L = record {

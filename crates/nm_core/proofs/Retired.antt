@@ -68,7 +68,7 @@ balanced_step s t o before after (Shortened l q rest was queue is _ none _ _) b 
     let c = rw was at b in
     rw is (c ∙ (ap (λ (es : List Queued). l.freed ++ map node_in es) queue ∙ (sym (append_assoc l.freed (q.node ∷ []) (map node_in rest)) ∙ ap (λ (es : List Queued). (l.freed ++ q.node ∷ []) ++ map node_in es) (ap (λ (es : List Queued). drop 1 es) (sym queue)))))
 
-retired_step : (s : State) (t : ℕ × Event) (o : ℕ) (before after : Option Ledger) → OriginStep s t o before after → retired_in after ≡ retired_in before ++ cut_at s t o
+pub retired_step : (s : State) (t : ℕ × Event) (o : ℕ) (before after : Option Ledger) → OriginStep s t o before after → retired_in after ≡ retired_in before ++ cut_at s t o
 retired_step s t o before after (Unchanged is none) = rw (is, none) (sym (append-nil (retired_in before)))
 retired_step s t o before after (Relabelled is none) = rw (is, none) (go before ∙ sym (append-nil (retired_in before)))
   where

@@ -5,9 +5,9 @@ use Rattle.nm_edge.specs.Layouts.{Layout}
 use Rattle.nm_edge.specs.declared.edge.Side.{Side}
 use Rattle.nm_edge.specs.declared.node.NodeId.{NodeId}
 use Rattle.nm_core.specs.declared.event.Event.{Event}
-use Rattle.nm_core.specs.declared.event.Event.TheVariants.{Splice}
+use Rattle.nm_core.specs.declared.event.Event.TheVariants.{Leave, Splice}
 use Rattle.nm_core.specs.declared.reply.Reply.{Reply}
-use Rattle.nm_core.specs.declared.reply.Reply.TheVariants.{Cut}
+use Rattle.nm_core.specs.declared.reply.Reply.TheVariants.{Cut, Departed, Freed}
 use Rattle.nm_core.specs.declared.reply.Refused.{Refused}
 use Rattle.nm_core.specs.declared.trace.Turn.{Turn}
 use Rattle.nm_core.specs.declared.ledger.Queued.{Queued}
@@ -108,3 +108,17 @@ NoNodeTwice s = (w v origin other i j : ℕ) (l m : Ledger) (n : NodeId) → hel
 -- in every run
 abbrev pub NoNodeIsCutTwice : Type 0
 NoNodeIsCutTwice = (L : Layout) → 5 ≤ L.nodes → (turns : List (ℕ × Event)) → NoNodeTwice (after (start L) turns)
+
+-- ---- grace
+
+-- worker w left
+abbrev pub left_by : ℕ → Turn
+left_by w = record { worker = w; event = Leave; outcome = Ok Departed }
+
+-- in every run: where a node is cut by one turn and freed by a later one, each worker that was pinned at the cut, the remover too, left between the two
+abbrev pub GraceHolds : Type 0
+GraceHolds = (L : Layout) → 5 ≤ L.nodes → (before : List (ℕ × Event)) (cut : ℕ × Event) (between : List (ℕ × Event)) (free : ℕ × Event) (ns : List NodeId) (n : NodeId) (w e : ℕ)
+    → outcome (after (start L) before) cut ≡ Ok (Cut ns) → Contains ns n
+    → outcome (after (next (after (start L) before) cut) between) free ≡ Ok (Freed n)
+    → (of (after (start L) before) w).now.pin ≡ Some e
+    → Contains (trace (next (after (start L) before) cut) between) (left_by w)

@@ -1,5 +1,5 @@
 //! Laws of all runs: each holds whatever the workers do and in whatever order, for every layout and every list of events.
-ghost use Rattle.nm_core.specs.Laws.{CutsJust, EachLedgerHasOneHolder, GoesDown, IsFreedThenQueue, IsTheCuts, NamesBirths, NoNodeIsCutTwice, NothingElseCuts, OfEachCut, OfEachLedger, PinsStayNear};
+ghost use Rattle.nm_core.specs.Laws.{CutsJust, EachLedgerHasOneHolder, GoesDown, GraceHolds, IsFreedThenQueue, IsTheCuts, NamesBirths, NoNodeIsCutTwice, NothingElseCuts, OfEachCut, OfEachLedger, PinsStayNear};
 ghost use Rattle.nm_core.specs.Places.{EachSlotHasOnePlace};
 
 /// While a worker is pinned at an epoch, the global epoch is that one or the next. (The bound of Fraser's epochs.)
@@ -41,4 +41,10 @@ pub fn ledgers_are_the_cuts()
 /// No node, a slot with its birth, is retired twice, over the ledgers of all workers.
 pub fn no_node_is_cut_twice()
     ensures { NoNodeIsCutTwice }
+{}
+
+/// Grace: where a node is cut by one event and freed by a later one, whoever frees it, no worker that was pinned at the cut,
+/// the remover included, is pinned still without having left in between. (The promise of epoch-based reclamation.)
+pub fn grace_holds()
+    ensures { GraceHolds }
 {}
