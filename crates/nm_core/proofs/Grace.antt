@@ -172,7 +172,7 @@ labelled_not_below e m (x ∷ xs) zero q le at was = rw (← ap (λ (y : Queued)
     go (Some l) is = subst (λ (b : Bool). IsNotBelow e (cond b (record { node = x.node; label = Some m }) x).label) (sym (ap is_none is)) (was x refl)
 labelled_not_below e m (x ∷ xs) (suc j) q le at was = labelled_not_below e m xs j q le at was
 
-unlabelled_at : (ns : List NodeId) (i : ℕ) (q : Queued) → slice_get (map unlabelled ns) i ≡ Some q → q.label ≡ None
+pub unlabelled_at : (ns : List NodeId) (i : ℕ) (q : Queued) → slice_get (map unlabelled ns) i ≡ Some q → q.label ≡ None
 unlabelled_at [] i q at = absurd (none-some q at)
 unlabelled_at (n ∷ ns) zero q at = ap (λ (y : Queued). y.label) (sym (same_Some (unlabelled n) q at))
 unlabelled_at (n ∷ ns) (suc i) q at = unlabelled_at ns i q at

@@ -34,3 +34,4 @@ pub mod Turns
 pub mod CutNodes
 pub mod Once
 pub mod Grace
+pub mod Labels

@@ -207,7 +207,7 @@ sound_over P keeps s k (t ∷ ts) p =
     let now : IsSound (next s t) = record { holder = turn.holder; law = turn.law; once = once_turn s k.holder k.law k.once t turn } in
     sound_over P keeps (next s t) now ts (keeps s k.holder k.law k.once t turn p)
 
-once_start : (L : Layout) → OnceLaw (start L) (λ o. o)
+pub once_start : (L : Layout) → OnceLaw (start L) (λ o. o)
 once_start L = record {
   balanced = λ o. (at_first o).0;
   born = λ w. rw (all_new L w) (λ x d h. absurd (none-some d h));
@@ -226,8 +226,11 @@ once_start L = record {
     nothing : (o k : ℕ) (n : NodeId) → slice_get (retired_in (ledger_at (start L) (λ o. o) o)) k ≡ Some n → ⊥
     nothing o k n at = none-some n (sym (ap (λ ns. slice_get ns k) (at_first o).1) ∙ at)
 
+abbrev pub sound_start : (L : Layout) → 5 ≤ L.nodes → IsSound (start L)
+sound_start L enough = record { holder = λ o. o; law = opening_lawful L enough; once = once_start L }
+
 pub sound : (L : Layout) → 5 ≤ L.nodes → (turns : List (ℕ × Event)) → IsSound (after (start L) turns)
-sound L enough turns = sound_after (start L) (record { holder = λ o. o; law = opening_lawful L enough; once = once_start L }) turns
+sound L enough turns = sound_after (start L) (sound_start L enough) turns
 
 pub sound_once : (s : State) → IsSound s → NoNodeTwice s
 sound_once s k w v o p i j l m n is is' at at' = k.once.once o p i j n (ap (λ x. slice_get (retired_in x) i) (held_by w o l is) ∙ at) (ap (λ x. slice_get (retired_in x) j) (held_by v p m is') ∙ at')

@@ -10,3 +10,4 @@ pub mod Reports
 pub mod Schedules
 pub mod Laws
 pub mod Places
+pub mod Lawful

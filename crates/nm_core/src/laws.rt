@@ -1,5 +1,6 @@
 //! Laws of all runs: each holds whatever the workers do and in whatever order, for every layout and every list of events.
 ghost use Rattle.nm_core.specs.Laws.{CutsJust, EachLedgerHasOneHolder, GoesDown, GraceHolds, IsFreedThenQueue, IsTheCuts, NamesBirths, NoNodeIsCutTwice, NothingElseCuts, OfEachCut, OfEachLedger, PinsStayNear};
+ghost use Rattle.nm_core.specs.Lawful.{BriefsAreRight, LabelsDoNotFall, NoLabelIsAboveTheEpoch, OfEachState};
 ghost use Rattle.nm_core.specs.Places.{EachSlotHasOnePlace};
 
 /// While a worker is pinned at an epoch, the global epoch is that one or the next. (The bound of Fraser's epochs.)
@@ -47,4 +48,12 @@ pub fn no_node_is_cut_twice()
 /// the remover included, is pinned still without having left in between. (The promise of epoch-based reclamation.)
 pub fn grace_holds()
     ensures { GraceHolds }
+{}
+
+/// Labels in a queue do not fall, unlabelled entries are last, and no label is above the epoch.
+/// Only a worker's own queue has unlabelled entries, and its brief tells whether there are any.
+pub fn labels_are_in_order()
+    ensures rising { OfEachState LabelsDoNotFall }
+    ensures below { OfEachState NoLabelIsAboveTheEpoch }
+    ensures told { OfEachState BriefsAreRight }
 {}
