@@ -35,3 +35,4 @@ pub mod CutNodes
 pub mod Once
 pub mod Grace
 pub mod Labels
+pub mod EachState

@@ -1,6 +1,6 @@
 //! Laws of all runs: each holds whatever the workers do and in whatever order, for every layout and every list of events.
 ghost use Rattle.nm_core.specs.Laws.{CutsJust, EachLedgerHasOneHolder, GoesDown, GraceHolds, IsFreedThenQueue, IsTheCuts, NamesBirths, NoNodeIsCutTwice, NothingElseCuts, OfEachCut, OfEachLedger, PinsStayNear};
-ghost use Rattle.nm_core.specs.Lawful.{BriefsAreRight, LabelsDoNotFall, NoLabelIsAboveTheEpoch, OfEachState};
+ghost use Rattle.nm_core.specs.Lawful.{BriefsAreRight, EpochsAgree, FlaggedEdgesLeadToLeaves, LabelsDoNotFall, NoLabelIsAboveTheEpoch, OfEachState, OnlyThePinnedKnow, QueuedNodesAreFrozen, ReachIsGuarded, ReachIsShared, TaggedEdgesHaveFlaggedTwins};
 ghost use Rattle.nm_core.specs.Places.{EachSlotHasOnePlace};
 
 /// While a worker is pinned at an epoch, the global epoch is that one or the next. (The bound of Fraser's epochs.)
@@ -56,4 +56,25 @@ pub fn labels_are_in_order()
     ensures rising { OfEachState LabelsDoNotFall }
     ensures below { OfEachState NoLabelIsAboveTheEpoch }
     ensures told { OfEachState BriefsAreRight }
+{}
+
+/// Frozen edges: an internal node in a queue has both edges marked; of a node that is reached or queued a tagged edge's twin is flagged;
+/// of a node that is reached, or that a worker can come to, a flagged edge leads to a leaf. (The marks of Natarajan and Mittal.)
+pub fn frozen_edges_stay_frozen()
+    ensures queued { OfEachState QueuedNodesAreFrozen }
+    ensures twins { OfEachState TaggedEdgesHaveFlaggedTwins }
+    ensures leaves { OfEachState FlaggedEdgesLeadToLeaves }
+{}
+
+/// What a worker can come to from the nodes that it knows, under its pin, is neither in the pool nor private to anyone,
+/// and where it is queued with a label, the pin is no later than the label.
+pub fn pinned_workers_are_safe()
+    ensures pinned { OfEachState OnlyThePinnedKnow }
+    ensures shared { OfEachState ReachIsShared }
+    ensures guarded { OfEachState ReachIsGuarded }
+{}
+
+/// Announcements, pins, sights and scans agree with the epoch.
+pub fn epochs_agree()
+    ensures { OfEachState EpochsAgree }
 {}
