@@ -16,7 +16,7 @@ use Rattle.nm_core.specs.Knowledge.{knows, read, is_flagged, is_tagged, way, cut
 use Rattle.nm_core.specs.Paths.{follow, at, IsCut}
 use Rattle.nm_core.specs.Step.{outside, is_frozen, refusal, reply, write, exchanged, kept, cut_nodes}
 use Rattle.nm_core.specs.Runs.{State, of, start, after, next, outcome, refused, answered, unless_refused, applied}
-use Rattle.nm_core.specs.Laws.{slots_of, CutsJust, IsFrozenChain, GoesDown, NamesBirths, OfEachCut}
+use Rattle.nm_core.specs.Laws.{OfEachState, slots_of, CutsJust, IsFrozenChain, GoesDown, NamesBirths, OfEachCut}
 use Rattle.nm_core.proofs.Numbers.{among}
 use Rattle.nm_core.proofs.Steps.{Allowed, allowed, passed, third, fourth}
 use Rattle.nm_core.proofs.Trees.{same_follow}
@@ -144,7 +144,7 @@ named_again : (m : Memory) (xs : List ℕ) → map (named m) xs ≡ map (named m
 named_again m [] = refl
 named_again m (x ∷ xs) = ap (λ (ns : List NodeId). named m x ∷ ns) (named_again m xs)
 
-pub cuts_just : OfEachCut CutsJust
+pub cuts_just : OfEachState (OfEachCut CutsJust)
 unfolding applied write
 cuts_just L enough turns w a d x p keep ns is y =
     let s = after (start L) turns in
@@ -157,14 +157,14 @@ cuts_just L enough turns w a d x p keep ns is y =
       (λ c. rw new_memory (cut_there s l.holder l.law w a d x p keep k y (contains_among _ y c))),
     )
 
-pub cuts_go_down : OfEachCut GoesDown
+pub cuts_go_down : OfEachState (OfEachCut GoesDown)
 cuts_go_down L enough turns w a d x p keep ns is =
     let s = after (start L) turns in
     let won = won_splice s w a d x p keep ns is in
     let l = lawful L enough turns in
     rw (← won.nodes) (goes_down s l.holder l.law w a d x p keep (shown s l.holder l.law w a d x p keep won.ok won.won))
 
-pub cuts_name_births : OfEachCut NamesBirths
+pub cuts_name_births : OfEachState (OfEachCut NamesBirths)
 cuts_name_births L enough turns w a d x p keep ns is =
     let s = after (start L) turns in
     let won = won_splice s w a d x p keep ns is in

@@ -13,7 +13,8 @@ use Rattle.nm_core.specs.Ledgers.{held, queue_of}
 use Rattle.nm_core.specs.Paths.{Reached}
 use Rattle.nm_core.specs.Places.{slot_of}
 use Rattle.nm_core.specs.Runs.{State, of, start, after}
-use Rattle.nm_core.specs.Lawful.{OfEachState, IsQueued, IsWaiting, CanReach, QueuedNodesAreFrozen, TaggedEdgesHaveFlaggedTwins, FlaggedEdgesLeadToLeaves, OnlyThePinnedKnow, ReachIsShared, ReachIsGuarded, EpochsAgree}
+use Rattle.nm_core.specs.Laws.{OfEachState}
+use Rattle.nm_core.specs.Lawful.{IsQueued, IsWaiting, CanReach, QueuedNodesAreFrozen, TaggedEdgesHaveFlaggedTwins, FlaggedEdgesLeadToLeaves, OnlyThePinnedKnow, ReachIsShared, ReachIsGuarded, EpochsAgree}
 use Rattle.nm_core.proofs.Pictures.{InReach, IsLive, nowhere_else, reached_live}
 use Rattle.nm_core.proofs.Pictures.Spot.{InPool, PrivateTo, InQueue}
 use Rattle.nm_core.proofs.Views.{picture, is_late, label_below, held_queue}

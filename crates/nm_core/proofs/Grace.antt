@@ -23,7 +23,7 @@ use Rattle.nm_core.specs.Knowledge.{Knowledge}
 use Rattle.nm_core.specs.Learning.{learn}
 use Rattle.nm_core.specs.Step.{exchanged, reply_sight, confirmed, reply_scan, reply, write}
 use Rattle.nm_core.specs.Runs.{State, of, start, after, next, trace, outcome, answered, refused, reply_of, applied, unless_refused}
-use Rattle.nm_core.specs.Laws.{nodes_cut_of, node_in, left_by, GraceHolds}
+use Rattle.nm_core.specs.Laws.{OfEachState, nodes_cut_of, node_in, left_by, GraceHolds}
 use Rattle.nm_core.proofs.Steps.{each, Allowed, allowed}
 use Rattle.nm_core.proofs.Sizes.{Staffed}
 use Rattle.nm_core.proofs.Epochs.{alike_claim, alike_give, alike_look, alike_fill, alike_link, alike_flag, alike_tag, alike_splice, other_worker}
@@ -336,7 +336,7 @@ no_grace_lost s h law once e n o k x since after' w f u p pin low = clash f.entr
         let near = law.epochs.pins u p pin in
         omega arith
 
-pub grace_holds : GraceHolds
+pub grace_holds : OfEachState GraceHolds
 grace_holds L enough before cut between free ns n w e is there freed pin = go (left_or_pinned (next s cut) (staffed_next s cut k.law.staffed) between w e pinned)
   where
     s : State

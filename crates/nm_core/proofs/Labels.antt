@@ -19,7 +19,8 @@ use Rattle.nm_core.specs.Memory.{named}
 use Rattle.nm_core.specs.Ledgers.{held, queue_of, unlabelled, with_label, labelled, with_cut, taken_over}
 use Rattle.nm_core.specs.Knowledge.{Knowledge, newcomer, way, cut_by}
 use Rattle.nm_core.specs.Runs.{State, of, start, after, next, refused, reply_of, applied, unless_refused, join_refusal, is_no_worker}
-use Rattle.nm_core.specs.Lawful.{MayPrecede, BriefsAreRight, LabelsDoNotFall, NoLabelIsAboveTheEpoch, OfEachState}
+use Rattle.nm_core.specs.Lawful.{MayPrecede, BriefsAreRight, LabelsDoNotFall, NoLabelIsAboveTheEpoch}
+use Rattle.nm_core.specs.Laws.{OfEachState}
 use Rattle.nm_core.proofs.Steps.{each, Allowed, allowed, second}
 use Rattle.nm_core.proofs.Epochs.{other_worker}
 use Rattle.nm_core.proofs.Pins.{all_new}

@@ -36,3 +36,4 @@ pub mod Once
 pub mod Grace
 pub mod Labels
 pub mod EachState
+pub mod Reachable

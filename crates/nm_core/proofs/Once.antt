@@ -16,7 +16,7 @@ use Rattle.nm_core.specs.Maps.{get}
 use Rattle.nm_core.specs.Ledgers.{held, queue_of, labelled}
 use Rattle.nm_core.specs.Runs.{State, of, start, after, next, outcome, IsReachable}
 use Rattle.nm_core.specs.Places.{slot_of}
-use Rattle.nm_core.specs.Laws.{node_in, NoNodeTwice, NoNodeIsCutTwice}
+use Rattle.nm_core.specs.Laws.{OfEachState, node_in, NoNodeTwice}
 use Rattle.nm_core.proofs.Changes.{IsWon}
 use Rattle.nm_core.proofs.Pins.{all_new}
 use Rattle.nm_core.proofs.Pictures.{IsLive, IsOnPath, reached_live, path_not_queued}
@@ -238,7 +238,7 @@ sound_once s k w v o p i j l m n is is' at at' = k.once.once o p i j n (ap (λ x
     held_by : (w o : ℕ) (l : Ledger) → held (of s w).ledgers o ≡ Some l → ledger_at s k.holder o ≡ Some l
     held_by w o l is = ap (λ (y : ℕ). held (of s y).ledgers o) (sym (k.law.holders.only w o (ap is_some is))) ∙ is
 
-pub no_node_is_cut_twice : NoNodeIsCutTwice
+pub no_node_is_cut_twice : OfEachState NoNodeTwice
 no_node_is_cut_twice L enough turns = sound_once (after (start L) turns) (sound L enough turns)
 
 -- the same of a state that can be reached

@@ -19,7 +19,7 @@ use Rattle.nm_core.specs.Laws.{EachLedgerHasOneHolder, OfEachLedger, node_in, Is
 use Rattle.nm_core.proofs.Origins.{OriginStep, cut_at, ledger_at, Manned, manned_start, the_ledger, over_runs}
 use Rattle.nm_core.proofs.Origins.OriginStep.{Unchanged, Relabelled, Extended, Shortened}
 
-same_layout : (s : State) (w : ℕ) (e : Event) → (applied s w e).layout ≡ s.layout
+pub same_layout : (s : State) (w : ℕ) (e : Event) → (applied s w e).layout ≡ s.layout
 unfolding applied
 same_layout s w e = refl
 

@@ -1,19 +1,13 @@
 -- What every state keeps beside places and pins: labels in order, frozen edges, and what a pinned worker can come to.
 use Rattle.std.specs.Prelude.{◌≡◌, ◌≢◌, ℕ, ◌≤◌, ◌⊎◌, true, false, ◌||◌, List, Option, Some, None, slice_get, slice_index_or}
 use Rattle.nm_edge.specs.Edges.{other}
-use Rattle.nm_edge.specs.Layouts.{Layout}
 use Rattle.nm_edge.specs.declared.edge.Side.{Side}
-use Rattle.nm_core.specs.declared.event.Event.{Event}
 use Rattle.nm_core.specs.declared.ledger.Queued.{Queued}
 use Rattle.nm_core.specs.Memory.{node, edge, child, note, in_pool, is_leaf}
 use Rattle.nm_core.specs.Ledgers.{held, queue_of}
 use Rattle.nm_core.specs.Knowledge.{knows, is_private}
 use Rattle.nm_core.specs.Paths.{follow, Reached}
-use Rattle.nm_core.specs.Runs.{State, of, start, after}
-
--- in every run, of every state
-abbrev pub OfEachState : (State → Type 0) → Type 0
-OfEachState P = (L : Layout) → 5 ≤ L.nodes → (turns : List (ℕ × Event)) → P (after (start L) turns)
+use Rattle.nm_core.specs.Runs.{State, of}
 
 -- ---- labels
 

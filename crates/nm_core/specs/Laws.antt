@@ -12,10 +12,14 @@ use Rattle.nm_core.specs.declared.reply.Refused.{Refused}
 use Rattle.nm_core.specs.declared.trace.Turn.{Turn}
 use Rattle.nm_core.specs.declared.ledger.Queued.{Queued}
 use Rattle.nm_core.specs.declared.ledger.Ledger.{Ledger}
-use Rattle.nm_core.specs.Ledgers.{held}
 use Rattle.nm_core.specs.Memory.{Memory, edge, child, named}
+use Rattle.nm_core.specs.Ledgers.{held}
 use Rattle.nm_core.specs.Paths.{Reached, IsCut}
 use Rattle.nm_core.specs.Runs.{State, of, start, after, trace, next, outcome}
+
+-- in every run, of every state
+abbrev pub OfEachState : (State → Type 0) → Type 0
+OfEachState P = (L : Layout) → 5 ≤ L.nodes → (turns : List (ℕ × Event)) → P (after (start L) turns)
 
 -- ---- epochs
 
@@ -49,17 +53,14 @@ GoesDown before successor ns after = IsFrozenChain before.memory successor (slot
 abbrev pub NamesBirths : State → ℕ → List NodeId → State → Type 0
 NamesBirths before successor ns after = ns ≡ map (named before.memory) (slots_of ns)
 
--- in every run, of every splice that is won: the state before it, its successor, the nodes of its reply and the state after it
-abbrev pub OfEachCut : (State → ℕ → List NodeId → State → Type 0) → Type 0
-OfEachCut P = (L : Layout) → 5 ≤ L.nodes → (turns : List (ℕ × Event)) (w a : ℕ) (side : Side) (successor parent : ℕ) (keep : Side) (ns : List NodeId)
-    → outcome (after (start L) turns) (w, Splice a side successor parent keep) ≡ Ok (Cut ns)
-    → P (after (start L) turns) successor ns (next (after (start L) turns) (w, Splice a side successor parent keep))
+-- of every splice that is won in a state: that state, its successor, the nodes of its reply and the state after it
+abbrev pub OfEachCut : (State → ℕ → List NodeId → State → Type 0) → State → Type 0
+OfEachCut P s = (w a : ℕ) (side : Side) (successor parent : ℕ) (keep : Side) (ns : List NodeId)
+    → outcome s (w, Splice a side successor parent keep) ≡ Ok (Cut ns) → P s successor ns (next s (w, Splice a side successor parent keep))
 
--- in every run: an event that does not answer a cut cuts nothing
-abbrev pub NothingElseCuts : Type 0
-NothingElseCuts = (L : Layout) → 5 ≤ L.nodes → (turns : List (ℕ × Event)) (turn : ℕ × Event)
-    → ((ns : List NodeId) → outcome (after (start L) turns) turn ≡ Ok (Cut ns) → ⊥)
-    → (x : ℕ) → Reached (after (start L) turns).memory x → Reached (next (after (start L) turns) turn).memory x
+-- a turn that does not answer a cut cuts nothing
+abbrev pub NothingElseCuts : State → Type 0
+NothingElseCuts s = (turn : ℕ × Event) → ((ns : List NodeId) → outcome s turn ≡ Ok (Cut ns) → ⊥) → (x : ℕ) → Reached s.memory x → Reached (next s turn).memory x
 
 -- ---- ledgers
 
@@ -105,9 +106,10 @@ abbrev pub NoNodeTwice : State → Type 0
 NoNodeTwice s = (w v origin other i j : ℕ) (l m : Ledger) (n : NodeId) → held (of s w).ledgers origin ≡ Some l → held (of s v).ledgers other ≡ Some m
     → slice_get l.retired i ≡ Some n → slice_get m.retired j ≡ Some n → (origin ≡ other) × (i ≡ j)
 
--- in every run
-abbrev pub NoNodeIsCutTwice : Type 0
-NoNodeIsCutTwice = (L : Layout) → 5 ≤ L.nodes → (turns : List (ℕ × Event)) → NoNodeTwice (after (start L) turns)
+-- over a run, what an origin's ledger retired grows by the nodes that its splices cut in that run, whoever holds it
+abbrev pub RetiredGrowsByTheCuts : State → Type 0
+RetiredGrowsByTheCuts s = (turns : List (ℕ × Event)) (w v origin : ℕ) (l m : Ledger) → held (of s w).ledgers origin ≡ Some l → held (of (after s turns) v).ledgers origin ≡ Some m
+    → m.retired ≡ l.retired ++ cuts_of origin (trace s turns)
 
 -- ---- grace
 
@@ -115,10 +117,10 @@ NoNodeIsCutTwice = (L : Layout) → 5 ≤ L.nodes → (turns : List (ℕ × Even
 abbrev pub left_by : ℕ → Turn
 left_by w = record { worker = w; event = Leave; outcome = Ok Departed }
 
--- in every run: where a node is cut by one turn and freed by a later one, each worker that was pinned at the cut, the remover too, left between the two
-abbrev pub GraceHolds : Type 0
-GraceHolds = (L : Layout) → 5 ≤ L.nodes → (before : List (ℕ × Event)) (cut : ℕ × Event) (between : List (ℕ × Event)) (free : ℕ × Event) (ns : List NodeId) (n : NodeId) (w e : ℕ)
-    → outcome (after (start L) before) cut ≡ Ok (Cut ns) → Contains ns n
-    → outcome (after (next (after (start L) before) cut) between) free ≡ Ok (Freed n)
-    → (of (after (start L) before) w).now.pin ≡ Some e
-    → Contains (trace (next (after (start L) before) cut) between) (left_by w)
+-- where a node is cut by one turn and freed by a later one, each worker that was pinned at the cut, the remover too, left between the two
+abbrev pub GraceHolds : State → Type 0
+GraceHolds s = (cut : ℕ × Event) (between : List (ℕ × Event)) (free : ℕ × Event) (ns : List NodeId) (n : NodeId) (w e : ℕ)
+    → outcome s cut ≡ Ok (Cut ns) → Contains ns n
+    → outcome (after (next s cut) between) free ≡ Ok (Freed n)
+    → (of s w).now.pin ≡ Some e
+    → Contains (trace (next s cut) between) (left_by w)
