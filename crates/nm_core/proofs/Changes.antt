@@ -50,7 +50,7 @@ pub data Change (s : State) (w : ℕ) (e : Event) (r : Reply) (k : Knowledge) : 
   Keeps : k.ledgers ≡ (of s w).ledgers → k.brief.unlabelled ≡ (of s w).brief.unlabelled → ((ns : List NodeId) → r ≡ Cut ns → ⊥) → ((n : NodeId) → r ≡ Freed n → ⊥) → Change s w e r k
   Labels : k.ledgers ≡ label s.memory.epoch (of s w).ledgers → k.brief.unlabelled ≡ false → r ≡ Labelled s.memory.epoch → Change s w e r k
   Cuts : (ns : List NodeId) → k.ledgers ≡ retire (of s w).ledgers w ns → k.brief.unlabelled ≡ true → r ≡ Cut ns → IsWon s w e ns → Change s w e r k
-  Frees : (x : ℕ) (q : Queued) → Front (of s w).ledgers x q q.node → Ripe (of s w).brief.seen q → k.ledgers ≡ free (of s w).ledgers q.node → k.brief.unlabelled ≡ (of s w).brief.unlabelled → r ≡ Freed q.node → Change s w e r k
+  Frees : (x : ℕ) (q : Queued) → Front (of s w).ledgers x q q.node → Ripe (of s w).brief.seen q → k.ledgers ≡ free (of s w).ledgers q.node → k.brief.unlabelled ≡ (of s w).brief.unlabelled → r ≡ Freed q.node → e ≡ Give x → Change s w e r k
 
 -- nodes are known only while a worker is pinned
 abbrev pub OnlyPinned : Knowledge → Type 0
@@ -169,7 +169,7 @@ module _ (s : State) (w : ℕ) where
   give_frees x ok out =
       let f = freeable x ok out in
       rw (learn_freed w (of s w) x (node_of (front_of (of s w).ledgers x))) (rw f.1 (record {
-        ledgers = Frees x f.0 (front (of s w).ledgers x f.0 f.0.node (front_slot (of s w).ledgers x f.0 f.1) f.1) f.2 refl refl refl;
+        ledgers = Frees x f.0 (front (of s w).ledgers x f.0 f.0.node (front_slot (of s w).ledgers x f.0 f.1) f.1) f.2 refl refl refl refl;
         drafts = λ a. a;
         known = λ o. o;
         gone = refl;

@@ -16,7 +16,7 @@ use Rattle.nm_core.specs.Knowledge.{knows, read, is_flagged, is_tagged, way, cut
 use Rattle.nm_core.specs.Paths.{follow, at, IsCut}
 use Rattle.nm_core.specs.Step.{outside, is_frozen, refusal, reply, write, exchanged, kept, cut_nodes}
 use Rattle.nm_core.specs.Runs.{State, of, start, after, next, outcome, refused, answered, unless_refused, applied}
-use Rattle.nm_core.specs.Laws.{slots_of, CutsJust, IsFrozenChain, GoesDown, NamesBirths, OfEachCut}
+use Rattle.nm_core.specs.Laws.{OfEachState, slots_of, CutsJust, IsFrozenChain, GoesDown, NamesBirths, OfEachCut}
 use Rattle.nm_core.proofs.Numbers.{among}
 use Rattle.nm_core.proofs.Steps.{Allowed, allowed, passed, third, fourth}
 use Rattle.nm_core.proofs.Trees.{same_follow}
@@ -40,11 +40,11 @@ among_contains xs x h = let k = among_at xs x h in (k.0, slice_get_within xs k.0
 -- ---- a splice that is won
 
 -- a splice whose outcome is a cut was allowed and won
-record Won (s : State) (w a : ℕ) (d : Side) (x p : ℕ) (keep : Side) (ns : List NodeId) : Type 0 where
-  ok : Allowed s w (Splice a d x p keep)
-  won : is_to (edge s.memory a d) x ≡ true
-  nodes : cut_nodes s.layout s.memory (of s w) x p keep ≡ ns
-  next_is : next s (w, Splice a d x p keep) ≡ applied s w (Splice a d x p keep)
+pub record Won (s : State) (w a : ℕ) (d : Side) (x p : ℕ) (keep : Side) (ns : List NodeId) : Type 0 where
+  pub ok : Allowed s w (Splice a d x p keep)
+  pub won : is_to (edge s.memory a d) x ≡ true
+  pub nodes : cut_nodes s.layout s.memory (of s w) x p keep ≡ ns
+  pub next_is : next s (w, Splice a d x p keep) ≡ applied s w (Splice a d x p keep)
 
 same_ok : (r q : Reply) → ◌≡◌ {A = Result Reply Refused} (Ok r) (Ok q) → r ≡ q
 same_ok r q h = cc
@@ -52,7 +52,7 @@ same_ok r q h = cc
 same_cut : (ns ms : List NodeId) → Cut ns ≡ Cut ms → ns ≡ ms
 same_cut ns ms h = cc
 
-won_splice : (s : State) (w a : ℕ) (d : Side) (x p : ℕ) (keep : Side) (ns : List NodeId) → outcome s (w, Splice a d x p keep) ≡ Ok (Cut ns) → Won s w a d x p keep ns
+pub won_splice : (s : State) (w a : ℕ) (d : Side) (x p : ℕ) (keep : Side) (ns : List NodeId) → outcome s (w, Splice a d x p keep) ≡ Ok (Cut ns) → Won s w a d x p keep ns
 unfolding outcome next reply
 won_splice s w a d x p keep ns h = go (refused s w (Splice a d x p keep)) refl h
   where
@@ -70,16 +70,16 @@ won_splice s w a d x p keep ns h = go (refused s w (Splice a d x p keep)) refl h
     go (Some r) is h = absurd (differ r h)
 
 -- what the splice has shown, by the picture of the state
-record Shown (s : State) (h : ℕ → ℕ) (w a : ℕ) (d : Side) (x p : ℕ) (keep : Side) : Type 0 where
-  sides : List Side
-  found : way s.layout.nodes (of s w) x p ≡ Some sides
-  tag : is_tagged (read (of s w) p keep) ≡ true
-  flag : is_flagged (read (of s w) p (other keep)) ≡ true
-  inside : a < length s.memory.nodes
-  is : edge s.memory a d ≡ to x
-  splice : IsSplice s.layout.nodes (picture s h) w (length (held_queue (of s (h w)) w)) a d (sides ++ keep ∷ []) (kept (read (of s w) p keep))
+pub record Shown (s : State) (h : ℕ → ℕ) (w a : ℕ) (d : Side) (x p : ℕ) (keep : Side) : Type 0 where
+  pub sides : List Side
+  pub found : way s.layout.nodes (of s w) x p ≡ Some sides
+  pub tag : is_tagged (read (of s w) p keep) ≡ true
+  pub flag : is_flagged (read (of s w) p (other keep)) ≡ true
+  pub inside : a < length s.memory.nodes
+  pub is : edge s.memory a d ≡ to x
+  pub splice : IsSplice s.layout.nodes (picture s h) w (length (held_queue (of s (h w)) w)) a d (sides ++ keep ∷ []) (kept (read (of s w) p keep))
 
-shown : (s : State) (h : ℕ → ℕ) → Lawful s h → (w a : ℕ) (d : Side) (x p : ℕ) (keep : Side) → Allowed s w (Splice a d x p keep) → is_to (edge s.memory a d) x ≡ true → Shown s h w a d x p keep
+pub shown : (s : State) (h : ℕ → ℕ) → Lawful s h → (w a : ℕ) (d : Side) (x p : ℕ) (keep : Side) → Allowed s w (Splice a d x p keep) → is_to (edge s.memory a d) x ≡ true → Shown s h w a d x p keep
 unfolding refusal
 shown s h law w a d x p keep ok won = by (way s.layout.nodes (of s w) x p) refl (and_parts (is_some (way s.layout.nodes (of s w) x p)) (is_tagged (read (of s w) p keep) && is_flagged (read (of s w) p (other keep))) frozen)
   where
@@ -112,10 +112,10 @@ shown s h law w a d x p keep ok won = by (way s.layout.nodes (of s w) x p) refl 
 
 module _ (s : State) (h : ℕ → ℕ) (law : Lawful s h) (w a : ℕ) (d : Side) (x p : ℕ) (keep : Side) (k : Shown s h w a d x p keep) where
   -- the slots of the reply are those of the way
-  slots_are : slots_of (cut_nodes s.layout s.memory (of s w) x p keep) ≡ nodes_cut (below (picture s h)) x (k.sides ++ keep ∷ [])
+  pub slots_are : slots_of (cut_nodes s.layout s.memory (of s w) x p keep) ≡ nodes_cut (below (picture s h)) x (k.sides ++ keep ∷ [])
   slots_are = named_slots s.memory (cut_by (of s w) x (unwrap_or (way s.layout.nodes (of s w) x p) []) keep) ∙ cut_is s.layout.nodes s.memory (of s) h w x p keep k.sides k.found k.flag law.tree
 
-  from_successor : nodes_cut (below (picture s h)) (edge s.memory a d).slot (k.sides ++ keep ∷ []) ≡ nodes_cut (below (picture s h)) x (k.sides ++ keep ∷ [])
+  pub from_successor : nodes_cut (below (picture s h)) (edge s.memory a d).slot (k.sides ++ keep ∷ []) ≡ nodes_cut (below (picture s h)) x (k.sides ++ keep ∷ [])
   from_successor = ap (λ (z : ℕ). nodes_cut (below (picture s h)) z (k.sides ++ keep ∷ [])) (ap (λ (e : Edge). e.slot) k.is)
 
   -- the paths after the splice
@@ -144,7 +144,7 @@ named_again : (m : Memory) (xs : List ℕ) → map (named m) xs ≡ map (named m
 named_again m [] = refl
 named_again m (x ∷ xs) = ap (λ (ns : List NodeId). named m x ∷ ns) (named_again m xs)
 
-pub cuts_just : OfEachCut CutsJust
+pub cuts_just : OfEachState (OfEachCut CutsJust)
 unfolding applied write
 cuts_just L enough turns w a d x p keep ns is y =
     let s = after (start L) turns in
@@ -157,14 +157,14 @@ cuts_just L enough turns w a d x p keep ns is y =
       (λ c. rw new_memory (cut_there s l.holder l.law w a d x p keep k y (contains_among _ y c))),
     )
 
-pub cuts_go_down : OfEachCut GoesDown
+pub cuts_go_down : OfEachState (OfEachCut GoesDown)
 cuts_go_down L enough turns w a d x p keep ns is =
     let s = after (start L) turns in
     let won = won_splice s w a d x p keep ns is in
     let l = lawful L enough turns in
     rw (← won.nodes) (goes_down s l.holder l.law w a d x p keep (shown s l.holder l.law w a d x p keep won.ok won.won))
 
-pub cuts_name_births : OfEachCut NamesBirths
+pub cuts_name_births : OfEachState (OfEachCut NamesBirths)
 cuts_name_births L enough turns w a d x p keep ns is =
     let s = after (start L) turns in
     let won = won_splice s w a d x p keep ns is in

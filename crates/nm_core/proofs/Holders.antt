@@ -44,7 +44,7 @@ still_held s w e r k inside (Cuts ns is _ _ _) o = ap (λ ls. is_some (held ls o
   | yes e ↦ rw e (ap is_some (held-retire_same (of s w).ledgers w ns inside) ∙ is_some_map (with_cut ns) (held (of s w).ledgers w))
   | no ne ↦ ap is_some (held-retire_other (of s w).ledgers w ns o ne)
 ]
-still_held s w e r k inside (Frees x q f _ is _ _) o = ap (λ ls. is_some (held ls o)) is ∙ elim (ℕ_discrete o f.origin) [
+still_held s w e r k inside (Frees x q f _ is _ _ _) o = ap (λ ls. is_some (held ls o)) is ∙ elim (ℕ_discrete o f.origin) [
   | yes e ↦ rw e (ap is_some f.after ∙ sym (ap is_some f.is_held))
   | no ne ↦ ap is_some (f.others o ne)
 ]
@@ -53,7 +53,7 @@ pub still_long : (s : State) (w : ℕ) (e : Event) (r : Reply) (k : Knowledge) �
 still_long s w e r k (Keeps same _ _ _) = ap length same
 still_long s w e r k (Labels is _ _) = ap length is ∙ length-label s.memory.epoch (of s w).ledgers
 still_long s w e r k (Cuts ns is _ _ _) = ap length is ∙ length-retire (of s w).ledgers w ns
-still_long s w e r k (Frees x q f _ is _ _) = ap length is ∙ length-free (of s w).ledgers q.node
+still_long s w e r k (Frees x q f _ is _ _ _) = ap length is ∙ length-free (of s w).ledgers q.node
 
 pub holders_moved : (s : State) (h : ℕ → ℕ) (w : ℕ) (m : Memory) (e : Event) (r : Reply) (k : Knowledge) → w < length s.workers → w < s.layout.workers → Changed s w e r k → Holders s h → Holders (moved s w m k) h
 holders_moved s h w m e r k inside worker changed law = record {

@@ -29,7 +29,7 @@ unfolding applied
 applied_is s w (Join v) alone = absurd (alone v refl)
 applied_is s w e alone = refl
 
-moved_lawful : (s : State) (h : ℕ → ℕ) (w : ℕ) (e : Event) → Lawful s h → Allowed s w e → ((v : ℕ) → e ≡ Join v → ⊥) → Lawful (applied s w e) h
+pub moved_lawful : (s : State) (h : ℕ → ℕ) (w : ℕ) (e : Event) → Lawful s h → Allowed s w e → ((v : ℕ) → e ≡ Join v → ⊥) → Lawful (applied s w e) h
 moved_lawful s h w e law ok alone = record {
   staffed = staffed_step s w e law.staffed;
   roomy = roomy_step s w e law.roomy;
@@ -49,7 +49,7 @@ moved_lawful s h w e law ok alone = record {
     what : Changed s w e (reply_of s w e) k
     what = changed s w e ok alone
 
-join_lawful : (s : State) (h : ℕ → ℕ) (w v : ℕ) → Lawful s h → Allowed s w (Join v) → Lawful (applied s w (Join v)) (heirs h w v)
+pub join_lawful : (s : State) (h : ℕ → ℕ) (w v : ℕ) → Lawful s h → Allowed s w (Join v) → Lawful (applied s w (Join v)) (heirs h w v)
 unfolding applied write
 join_lawful s h w v law ok = record {
   staffed = staffed_step s w (Join v) law.staffed;
@@ -83,19 +83,19 @@ lawful_step s w e lawful ok = go (join_or_not e)
     go (IsNone alone) = record { holder = lawful.holder; law = moved_lawful s lawful.holder w e lawful.law ok alone }
     go (IsJoin v is) = record { holder = heirs lawful.holder w v; law = subst (λ (x : Event). Lawful (applied s w x) (heirs lawful.holder w v)) (sym is) (join_lawful s lawful.holder w v lawful.law (subst (λ (x : Event). Allowed s w x) is ok)) }
 
-pub lawful_start : (L : Layout) → 5 ≤ L.nodes → IsLawful (start L)
-lawful_start L enough = record {
-  holder = λ o. o;
-  law = record {
-    staffed = staffed_start L;
-    roomy = roomy_start L enough;
-    epochs = epoch_start L;
-    holders = holders_start L;
-    drafts = λ w. rw (all_new L w) tt;
-    known = λ w. rw (all_new L w) (λ x h. absurd (true≢false (sym h)));
-    tree = tree_start L enough;
-  };
+pub opening_lawful : (L : Layout) → 5 ≤ L.nodes → Lawful (start L) (λ o. o)
+opening_lawful L enough = record {
+  staffed = staffed_start L;
+  roomy = roomy_start L enough;
+  epochs = epoch_start L;
+  holders = holders_start L;
+  drafts = λ w. rw (all_new L w) tt;
+  known = λ w. rw (all_new L w) (λ x h. absurd (true≢false (sym h)));
+  tree = tree_start L enough;
 }
+
+pub lawful_start : (L : Layout) → 5 ≤ L.nodes → IsLawful (start L)
+lawful_start L enough = record { holder = λ o. o; law = opening_lawful L enough }
 
 pub lawful : (L : Layout) → 5 ≤ L.nodes → (turns : List (ℕ × Event)) → IsLawful (after (start L) turns)
 lawful L enough turns = by_steps IsLawful lawful_step turns (start L) (lawful_start L enough)

@@ -1,6 +1,6 @@
 pub mod Tables
-pub mod Labels
 pub mod Freeing
+pub mod QueueLabels
 pub mod Numbers
 pub mod Steps
 pub mod Sizes
@@ -36,3 +36,11 @@ pub mod Cuts
 pub mod Stays
 pub mod Origins
 pub mod Retired
+pub mod Births
+pub mod Turns
+pub mod CutNodes
+pub mod Once
+pub mod Labels
+pub mod Grace
+pub mod EachState
+pub mod Reachable

@@ -4,7 +4,8 @@ use Rattle.std.specs.Prelude.{Option, Some, None, is_some, option_map, slice_get
 use Rattle.std.proofs.lemmas.Option.{none-some}
 use Rattle.nm_core.specs.declared.ledger.Ledger.{Ledger}
 use Rattle.nm_core.specs.Ledgers.{held, queue_of}
-use Rattle.nm_core.specs.Places.{Place, slot_of, StandsAt, OnePlace, EachSlotInOnePlace, EachSlotHasOnePlace}
+use Rattle.nm_core.specs.Places.{Place, slot_of, StandsAt, OnePlace, EachSlotInOnePlace}
+use Rattle.nm_core.specs.Laws.{OfEachState}
 use Rattle.nm_core.specs.Places.Place.{InPool, PrivateTo, OnPath, InQueue}
 use Rattle.nm_core.specs.Runs.{State, of, start, after, IsReachable}
 use Rattle.nm_core.proofs.Holders.{Holders}
@@ -46,7 +47,7 @@ module _ (s : State) (h : ℕ → ℕ) (holders : Holders s h) (x : ℕ) where
 pub lawful_places : (s : State) → IsLawful s → EachSlotInOnePlace s
 lawful_places s l x some inside = one_place s l.holder l.law.holders x (l.law.tree.places x some inside)
 
-pub each_slot_has_one_place : EachSlotHasOnePlace
+pub each_slot_has_one_place : OfEachState EachSlotInOnePlace
 each_slot_has_one_place L enough turns = lawful_places (after (start L) turns) (lawful L enough turns)
 
 -- the same of a state that can be reached

@@ -37,7 +37,7 @@ edge_six L x d = ap (λ (n : Node). edge_of n d) (repeated (L.nodes - 5) x blank
     plain Right = refl
 
 -- nothing waits in a newcomer's queues
-new_queue : (L : Layout) (u o : ℕ) → held_queue (newcomer L u) o ≡ []
+pub new_queue : (L : Layout) (u o : ℕ) → held_queue (newcomer L u) o ≡ []
 new_queue L u o = elim (ℕ_discrete o u) [
   | yes e ↦ rw e (elim (cases_lt u L.workers) [
     | inl below ↦ ap queue_of (get_or-set_same (replicate L.workers None) u (Some fresh_ledger) None (let e = length-replicate {A = Option Ledger} L.workers None in omega arith))

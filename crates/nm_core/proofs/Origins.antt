@@ -6,7 +6,7 @@ use Rattle.std.proofs.lemmas.Bool.{cond_both, cond-true, cond-false, eq-eqb, ne_
 use Rattle.nm_edge.specs.Layouts.{Layout}
 use Rattle.nm_edge.specs.declared.node.NodeId.{NodeId}
 use Rattle.nm_core.specs.declared.event.Event.{Event}
-use Rattle.nm_core.specs.declared.event.Event.TheVariants.{Join}
+use Rattle.nm_core.specs.declared.event.Event.TheVariants.{Give, Join}
 use Rattle.nm_core.specs.declared.reply.Reply.{Reply}
 use Rattle.nm_core.specs.declared.reply.Reply.TheVariants.{Cut, Freed}
 use Rattle.nm_core.specs.declared.reply.Refused.{Refused}
@@ -24,7 +24,7 @@ use Rattle.nm_core.proofs.Steps.{each, moved, Allowed, allowed, by_step}
 use Rattle.nm_core.proofs.Sizes.{Staffed, staffed_step, staffed_start}
 use Rattle.nm_core.proofs.Epochs.{other_worker}
 use Rattle.nm_core.proofs.Held.{held-label, held-retire_same, held-retire_other, held-taken_over}
-use Rattle.nm_core.proofs.Changes.{Ripe, Change, Changed, changed}
+use Rattle.nm_core.proofs.Changes.{Ripe, IsWon, Change, Changed, changed}
 use Rattle.nm_core.proofs.Changes.Change.{Keeps, Labels, Cuts, Frees}
 use Rattle.nm_core.proofs.Holders.{Holders, heirs, Joins, joins, by_worker, holders_moved, holders_joined, holders_start}
 use Rattle.nm_core.proofs.Lawful.{applied_is, JoinOrNot, join_or_not}
@@ -42,8 +42,8 @@ cut_at s t o = cond (t.0 == o) (nodes_cut_of (outcome s t)) []
 pub data OriginStep (s : State) (t : ℕ × Event) (o : ℕ) (before after : Option Ledger) : Type 0 where
   Unchanged : after ≡ before → cut_at s t o ≡ [] → OriginStep s t o before after
   Relabelled : after ≡ option_map (labelled s.memory.epoch) before → cut_at s t o ≡ [] → OriginStep s t o before after
-  Extended : (l : Ledger) (ns : List NodeId) → before ≡ Some l → after ≡ Some (with_cut ns l) → o ≡ t.0 → cut_at s t o ≡ ns → outcome s t ≡ Ok (Cut ns) → OriginStep s t o before after
-  Shortened : (l : Ledger) (q : Queued) (rest : List Queued) → before ≡ Some l → l.queue ≡ q ∷ rest → after ≡ Some (with_freed q.node l) → Ripe (of s t.0).brief.seen q → cut_at s t o ≡ [] → outcome s t ≡ Ok (Freed q.node) → OriginStep s t o before after
+  Extended : (l : Ledger) (ns : List NodeId) → before ≡ Some l → after ≡ Some (with_cut ns l) → o ≡ t.0 → cut_at s t o ≡ ns → outcome s t ≡ Ok (Cut ns) → IsWon s t.0 t.1 ns → OriginStep s t o before after
+  Shortened : (l : Ledger) (q : Queued) (rest : List Queued) → before ≡ Some l → l.queue ≡ q ∷ rest → after ≡ Some (with_freed q.node l) → Ripe (of s t.0).brief.seen q → cut_at s t o ≡ [] → outcome s t ≡ Ok (Freed q.node) → t.1 ≡ Give q.node.slot → OriginStep s t o before after
 
 -- who holds what, after a turn, and what became of each ledger
 pub record Turned (s : State) (h : ℕ → ℕ) (t : ℕ × Event) : Type 0 where
@@ -52,7 +52,7 @@ pub record Turned (s : State) (h : ℕ → ℕ) (t : ℕ × Event) : Type 0 wher
   pub step : (o : ℕ) → OriginStep s t o (ledger_at s h o) (ledger_at (next s t) holder o)
 
 -- an outcome that is no cut
-uncut : (s : State) (t : ℕ × Event) (o : ℕ) → nodes_cut_of (outcome s t) ≡ [] → cut_at s t o ≡ []
+pub uncut : (s : State) (t : ℕ × Event) (o : ℕ) → nodes_cut_of (outcome s t) ≡ [] → cut_at s t o ≡ []
 uncut s t o none = cond_both (t.0 == o) (nodes_cut_of (outcome s t)) [] (λ ns. ns ≡ []) (λ _. none) (λ _. refl)
 
 no_cut : (r : Reply) → ((ns : List NodeId) → r ≡ Cut ns → ⊥) → nodes_cut_of (Ok r) ≡ []
@@ -60,7 +60,7 @@ no_cut (Cut ns) none = absurd (none ns refl)
 no_cut r none = refl
 
 -- a join changes no ledger
-ledger_joined : (s : State) (h : ℕ → ℕ) (w v : ℕ) (t : State) → Joins s t w v → v ≢ w → Holders s h → (o : ℕ) → ledger_at t (heirs h w v) o ≡ ledger_at s h o
+pub ledger_joined : (s : State) (h : ℕ → ℕ) (w v : ℕ) (t : State) → Joins s t w v → v ≢ w → Holders s h → (o : ℕ) → ledger_at t (heirs h w v) o ≡ ledger_at s h o
 ledger_joined s h w v t j ne holders o = elim (ℕ_discrete (h o) v) [
   | yes e ↦ ap (λ (y : ℕ). held (of t y).ledgers o) (cond-true (eqb (h o) v) w (h o) (eq-eqb (h o) v e)) ∙ (ap (λ k. held k.ledgers o) j.heir ∙ (taken ∙ (from_leaver (held (of s v).ledgers o) (held (of s w).ledgers o) refl e ∙ ap (λ (y : ℕ). held (of s y).ledgers o) (sym e))))
   | no far ↦ ap (λ (y : ℕ). held (of t y).ledgers o) (cond-false (eqb (h o) v) w (h o) (ne_eqb (h o) v far))
@@ -86,7 +86,7 @@ module _ (s : State) (h : ℕ → ℕ) (holders : Holders s h) (w : ℕ) (e : Ev
   moved_ledger : (m : Memory) (k : Knowledge) (o : ℕ) → w < length s.workers → (P : Option Ledger → Type 0) → (h o ≡ w → P (held k.ledgers o)) → (h o ≢ w → P (ledger_at s h o)) → P (ledger_at (moved s w m k) h o)
   moved_ledger m k o inside P own others = each s.layout (λ u x. h o ≡ u → P (held x.ledgers o)) s.workers w k inside own (λ u ne i. subst (λ (y : ℕ). P (held (of s y).ledgers o)) i (others (λ z. ne (sym i ∙ z)))) (h o) refl
 
-  step_of : (k : Knowledge) (m : Memory) → w < length s.workers → Change s w e (reply_of s w e) k → (o : ℕ) → OriginStep s (w, e) o (ledger_at s h o) (ledger_at (moved s w m k) h o)
+  pub step_of : (k : Knowledge) (m : Memory) → w < length s.workers → Change s w e (reply_of s w e) k → (o : ℕ) → OriginStep s (w, e) o (ledger_at s h o) (ledger_at (moved s w m k) h o)
   step_of k m inside (Keeps same _ un _) o = moved_ledger m k o inside (λ x. OriginStep s (w, e) o (ledger_at s h o) x)
       (λ own. Unchanged (ap (λ ls. held ls o) same ∙ ap (λ (y : ℕ). held (of s y).ledgers o) (sym own)) none) (λ _. Unchanged refl none)
     where
@@ -97,7 +97,7 @@ module _ (s : State) (h : ℕ → ℕ) (holders : Holders s h) (w : ℕ) (e : Ev
     where
       none : cut_at s (w, e) o ≡ []
       none = uncut s (w, e) o (ap nodes_cut_of (is_outcome ∙ ap (λ (x : Reply). Ok x) r))
-  step_of k m inside (Cuts ns is _ r _) o = moved_ledger m k o inside (λ x. OriginStep s (w, e) o (ledger_at s h o) x) own (λ ne. others (λ z. ne (ap h z ∙ mine)))
+  step_of k m inside (Cuts ns is _ r won) o = moved_ledger m k o inside (λ x. OriginStep s (w, e) o (ledger_at s h o) x) own (λ ne. others (λ z. ne (ap h z ∙ mine)))
     where
       cut_is : outcome s (w, e) ≡ Ok (Cut ns)
       cut_is = is_outcome ∙ ap (λ (x : Reply). Ok x) r
@@ -121,8 +121,8 @@ module _ (s : State) (h : ℕ → ℕ) (holders : Holders s h) (w : ℕ) (e : Ev
           go None i some same = absurd (true≢false (sym some))
           go (Some l) i some same = Extended l ns i
               (ap (λ (y : ℕ). held k.ledgers y) same ∙ (ap (λ ls. held ls w) is ∙ (held-retire_same (of s w).ledgers w ns place ∙ ap (option_map (with_cut ns)) (ap (λ (y : ℕ). held (of s w).ledgers y) (sym same) ∙ (sym (ap (λ (y : ℕ). held (of s y).ledgers o) is_w) ∙ i)))))
-              same (cond-true (w == o) (nodes_cut_of (outcome s (w, e))) [] (eq-eqb w o (sym same)) ∙ ap nodes_cut_of cut_is) cut_is
-  step_of k m inside (Frees x q f ripe is _ r) o = moved_ledger m k o inside (λ y. OriginStep s (w, e) o (ledger_at s h o) y) own (λ _. Unchanged refl none)
+              same (cond-true (w == o) (nodes_cut_of (outcome s (w, e))) [] (eq-eqb w o (sym same)) ∙ ap nodes_cut_of cut_is) cut_is won
+  step_of k m inside (Frees x q f ripe is _ r give) o = moved_ledger m k o inside (λ y. OriginStep s (w, e) o (ledger_at s h o) y) own (λ _. Unchanged refl none)
     where
       free_is : outcome s (w, e) ≡ Ok (Freed q.node)
       free_is = is_outcome ∙ ap (λ (y : Reply). Ok y) r
@@ -133,7 +133,7 @@ module _ (s : State) (h : ℕ → ℕ) (holders : Holders s h) (w : ℕ) (e : Ev
       own : h o ≡ w → OriginStep s (w, e) o (ledger_at s h o) (held k.ledgers o)
       own is_w = elim (ℕ_discrete o f.origin) [
         | yes same ↦ Shortened f.ledger q f.rest (ap (λ (y : ℕ). held (of s y).ledgers o) is_w ∙ (ap (λ (y : ℕ). held (of s w).ledgers y) same ∙ f.is_held)) f.queue
-            (ap (λ ls. held ls o) is ∙ (ap (λ (y : ℕ). held (free (of s w).ledgers q.node) y) same ∙ f.after)) ripe none free_is
+            (ap (λ ls. held ls o) is ∙ (ap (λ (y : ℕ). held (free (of s w).ledgers q.node) y) same ∙ f.after)) ripe none free_is (give ∙ ap Give (sym f.slot))
         | no ne ↦ Unchanged (ap (λ ls. held ls o) is ∙ (f.others o ne ∙ ap (λ (y : ℕ). held (of s y).ledgers o) (sym is_w))) none
       ]
 

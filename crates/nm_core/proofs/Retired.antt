@@ -19,7 +19,7 @@ use Rattle.nm_core.specs.Laws.{EachLedgerHasOneHolder, OfEachLedger, node_in, Is
 use Rattle.nm_core.proofs.Origins.{OriginStep, cut_at, ledger_at, Manned, manned_start, the_ledger, over_runs}
 use Rattle.nm_core.proofs.Origins.OriginStep.{Unchanged, Relabelled, Extended, Shortened}
 
-same_layout : (s : State) (w : ℕ) (e : Event) → (applied s w e).layout ≡ s.layout
+pub same_layout : (s : State) (w : ℕ) (e : Event) → (applied s w e).layout ≡ s.layout
 unfolding applied
 same_layout s w e = refl
 
@@ -31,12 +31,12 @@ layout_after L turns = by_steps (λ s. s.layout ≡ L) (λ s w e is _. kept s w 
     kept s w e is = same_layout s w e ∙ is
 
 -- what an origin's ledger retired; nothing, where there is none
-abbrev retired_in : Option Ledger → List NodeId
+abbrev pub retired_in : Option Ledger → List NodeId
 retired_in None = []
 retired_in (Some l) = l.retired
 
 -- of a ledger that there is
-abbrev Balanced : Option Ledger → Type 0
+abbrev pub Balanced : Option Ledger → Type 0
 Balanced None = Unit {0}
 Balanced (Some l) = l.retired ≡ l.freed ++ map node_in l.queue
 
@@ -54,28 +54,38 @@ nodes_cut_too [] [] = refl
 nodes_cut_too [] (n ∷ ns) = ap (λ (ms : List NodeId). n ∷ ms) (nodes_cut_too [] ns)
 nodes_cut_too (e ∷ q) ns = ap (λ (ms : List NodeId). e.node ∷ ms) (nodes_cut_too q ns)
 
-keeps_told : (s : State) (t : ℕ × Event) (o : ℕ) (before after : Option Ledger) (told : List NodeId) → OriginStep s t o before after → Told o before told → Told o after (told ++ cut_at s t o)
-keeps_told s t o before after told (Unchanged is none) p = rw (is, none, append-nil told) p
-keeps_told s t o before after told (Relabelled is none) p = rw (is, none, append-nil told) (go before p)
+pub balanced_step : (s : State) (t : ℕ × Event) (o : ℕ) (before after : Option Ledger) → OriginStep s t o before after → Balanced before → Balanced after
+balanced_step s t o before after (Unchanged is none) b = rw is b
+balanced_step s t o before after (Relabelled is none) b = rw is (go before b)
   where
-    go : (x : Option Ledger) → Told o x told → Told o (option_map (labelled s.memory.epoch) x) told
-    go None p = record { balanced = tt; retired = p.retired }
-    go (Some l) p = record { balanced = p.balanced ∙ ap (λ (ns : List NodeId). l.freed ++ ns) (sym (nodes_labelled s.memory.epoch l.queue)); retired = p.retired }
-keeps_told s t o before after told (Extended l ns was is _ cut _) p =
-    let q = rw was at p in
-    rw (is, cut) (record {
-      balanced = ap (λ (ms : List NodeId). ms ++ ns) q.balanced ∙ (append_assoc l.freed (map node_in l.queue) ns ∙ ap (λ (ms : List NodeId). l.freed ++ ms) (sym (nodes_cut_too l.queue ns)));
-      retired = ap (λ (ms : List NodeId). ms ++ ns) q.retired;
-    })
-keeps_told s t o before after told (Shortened l q rest was queue is _ none _) p =
-    let b = rw was at p in
-    rw (is, none, append-nil told) (record {
-      balanced = b.balanced ∙ (ap (λ (es : List Queued). l.freed ++ map node_in es) queue ∙ (sym (append_assoc l.freed (q.node ∷ []) (map node_in rest)) ∙ ap (λ (es : List Queued). (l.freed ++ q.node ∷ []) ++ map node_in es) (ap (λ (es : List Queued). drop 1 es) (sym queue))));
-      retired = b.retired;
-    })
+    go : (x : Option Ledger) → Balanced x → Balanced (option_map (labelled s.memory.epoch) x)
+    go None b = tt
+    go (Some l) b = b ∙ ap (λ (ns : List NodeId). l.freed ++ ns) (sym (nodes_labelled s.memory.epoch l.queue))
+balanced_step s t o before after (Extended l ns was is _ cut _ _) b =
+    let c = rw was at b in
+    rw is (ap (λ (ms : List NodeId). ms ++ ns) c ∙ (append_assoc l.freed (map node_in l.queue) ns ∙ ap (λ (ms : List NodeId). l.freed ++ ms) (sym (nodes_cut_too l.queue ns))))
+balanced_step s t o before after (Shortened l q rest was queue is _ none _ _) b =
+    let c = rw was at b in
+    rw is (c ∙ (ap (λ (es : List Queued). l.freed ++ map node_in es) queue ∙ (sym (append_assoc l.freed (q.node ∷ []) (map node_in rest)) ∙ ap (λ (es : List Queued). (l.freed ++ q.node ∷ []) ++ map node_in es) (ap (λ (es : List Queued). drop 1 es) (sym queue)))))
+
+pub retired_step : (s : State) (t : ℕ × Event) (o : ℕ) (before after : Option Ledger) → OriginStep s t o before after → retired_in after ≡ retired_in before ++ cut_at s t o
+retired_step s t o before after (Unchanged is none) = rw (is, none) (sym (append-nil (retired_in before)))
+retired_step s t o before after (Relabelled is none) = rw (is, none) (go before ∙ sym (append-nil (retired_in before)))
+  where
+    go : (x : Option Ledger) → retired_in (option_map (labelled s.memory.epoch) x) ≡ retired_in x
+    go None = refl
+    go (Some l) = refl
+retired_step s t o before after (Extended l ns was is _ cut _ _) = rw (is, was, cut) refl
+retired_step s t o before after (Shortened l q rest was queue is _ none _ _) = rw (is, was, none) (sym (append-nil l.retired))
+
+keeps_told : (s : State) (t : ℕ × Event) (o : ℕ) (before after : Option Ledger) (told : List NodeId) → OriginStep s t o before after → Told o before told → Told o after (told ++ cut_at s t o)
+keeps_told s t o before after told step p = record {
+  balanced = balanced_step s t o before after step p.balanced;
+  retired = retired_step s t o before after step ∙ ap (λ (ns : List NodeId). ns ++ cut_at s t o) p.retired;
+}
 
 -- at first each ledger is fresh
-fresh_at_start : (L : Layout) (o : ℕ) (l : Ledger) → held (of (start L) o).ledgers o ≡ Some l → l ≡ fresh_ledger
+pub fresh_at_start : (L : Layout) (o : ℕ) (l : Ledger) → held (of (start L) o).ledgers o ≡ Some l → l ≡ fresh_ledger
 fresh_at_start L o l is = elim (cases_lt o L.workers) [
   | inl below ↦ same_Some l fresh_ledger (sym new ∙ get_or-set_same (replicate L.workers None) o (Some fresh_ledger) None (let e = length-replicate {A = Option Ledger} L.workers None in omega arith))
   | inr past ↦ absurd (none-some l (sym (ap (λ ls. held ls o) (set_past (replicate L.workers None) o (Some fresh_ledger) (let e = length-replicate {A = Option Ledger} L.workers None in omega arith)) ∙ none_held L.workers o) ∙ new))

@@ -21,7 +21,7 @@ use Rattle.nm_core.specs.Learning.{learn, linked as linked_in, flag_to}
 use Rattle.nm_core.specs.Paths.{follow, Reached}
 use Rattle.nm_core.specs.Step.{outside, is_edge, refusal, reply, write, filled as filled_node, kept, cut_nodes, node_linked}
 use Rattle.nm_core.specs.Runs.{State, of, start, after, next, outcome, refused, answered, unless_refused, applied, reply_of}
-use Rattle.nm_core.specs.Laws.{NothingElseCuts}
+use Rattle.nm_core.specs.Laws.{OfEachState, NothingElseCuts}
 use Rattle.nm_core.proofs.Steps.{Allowed, allowed, passed, second}
 use Rattle.nm_core.proofs.Tables.{get-without, ascends-without}
 use Rattle.nm_core.proofs.Learned.{learn_linked}
@@ -148,7 +148,7 @@ module _ (s : State) (h : ℕ → ℕ) (law : Lawful s h) (w : ℕ) where
       by false i = r
   write_stays (Join v) ok uncut y r = r
 
-pub nothing_else_cuts : NothingElseCuts
+pub nothing_else_cuts : OfEachState NothingElseCuts
 unfolding next outcome applied
 nothing_else_cuts L enough turns t uncut y r = go (refused (after (start L) turns) t.0 t.1) refl uncut
   where

@@ -1,21 +1,25 @@
 -- The laws of all runs, in the subject's own words.
-use Rattle.std.specs.Prelude.{◌≡◌, ℕ, ◌+◌, ◌<◌, ◌≤◌, ◌==◌, ◌⊎◌, ◌↔◌, true, if◌then◌else◌, List, [], ◌∷◌, ◌++◌, map, Contains, Some, IsSome, Result, Ok}
+use Rattle.std.specs.Prelude.{◌≡◌, ℕ, ◌+◌, ◌<◌, ◌≤◌, ◌==◌, ◌⊎◌, ◌↔◌, true, if◌then◌else◌, List, [], ◌∷◌, ◌++◌, map, slice_get, Contains, Some, IsSome, Result, Ok}
 use Rattle.nm_edge.specs.Edges.{other}
 use Rattle.nm_edge.specs.Layouts.{Layout}
 use Rattle.nm_edge.specs.declared.edge.Side.{Side}
 use Rattle.nm_edge.specs.declared.node.NodeId.{NodeId}
 use Rattle.nm_core.specs.declared.event.Event.{Event}
-use Rattle.nm_core.specs.declared.event.Event.TheVariants.{Splice}
+use Rattle.nm_core.specs.declared.event.Event.TheVariants.{Leave, Splice}
 use Rattle.nm_core.specs.declared.reply.Reply.{Reply}
-use Rattle.nm_core.specs.declared.reply.Reply.TheVariants.{Cut}
+use Rattle.nm_core.specs.declared.reply.Reply.TheVariants.{Cut, Departed, Freed}
 use Rattle.nm_core.specs.declared.reply.Refused.{Refused}
 use Rattle.nm_core.specs.declared.trace.Turn.{Turn}
 use Rattle.nm_core.specs.declared.ledger.Queued.{Queued}
 use Rattle.nm_core.specs.declared.ledger.Ledger.{Ledger}
-use Rattle.nm_core.specs.Ledgers.{held}
 use Rattle.nm_core.specs.Memory.{Memory, edge, child, named}
+use Rattle.nm_core.specs.Ledgers.{held}
 use Rattle.nm_core.specs.Paths.{Reached, IsCut}
 use Rattle.nm_core.specs.Runs.{State, of, start, after, trace, next, outcome}
+
+-- in every run, of every state
+abbrev pub OfEachState : (State → Type 0) → Type 0
+OfEachState P = (L : Layout) → 5 ≤ L.nodes → (turns : List (ℕ × Event)) → P (after (start L) turns)
 
 -- ---- epochs
 
@@ -49,17 +53,14 @@ GoesDown before successor ns after = IsFrozenChain before.memory successor (slot
 abbrev pub NamesBirths : State → ℕ → List NodeId → State → Type 0
 NamesBirths before successor ns after = ns ≡ map (named before.memory) (slots_of ns)
 
--- in every run, of every splice that is won: the state before it, its successor, the nodes of its reply and the state after it
-abbrev pub OfEachCut : (State → ℕ → List NodeId → State → Type 0) → Type 0
-OfEachCut P = (L : Layout) → 5 ≤ L.nodes → (turns : List (ℕ × Event)) (w a : ℕ) (side : Side) (successor parent : ℕ) (keep : Side) (ns : List NodeId)
-    → outcome (after (start L) turns) (w, Splice a side successor parent keep) ≡ Ok (Cut ns)
-    → P (after (start L) turns) successor ns (next (after (start L) turns) (w, Splice a side successor parent keep))
+-- of every splice that is won in a state: that state, its successor, the nodes of its reply and the state after it
+abbrev pub OfEachCut : (State → ℕ → List NodeId → State → Type 0) → State → Type 0
+OfEachCut P s = (w a : ℕ) (side : Side) (successor parent : ℕ) (keep : Side) (ns : List NodeId)
+    → outcome s (w, Splice a side successor parent keep) ≡ Ok (Cut ns) → P s successor ns (next s (w, Splice a side successor parent keep))
 
--- in every run: an event that does not answer a cut cuts nothing
-abbrev pub NothingElseCuts : Type 0
-NothingElseCuts = (L : Layout) → 5 ≤ L.nodes → (turns : List (ℕ × Event)) (turn : ℕ × Event)
-    → ((ns : List NodeId) → outcome (after (start L) turns) turn ≡ Ok (Cut ns) → ⊥)
-    → (x : ℕ) → Reached (after (start L) turns).memory x → Reached (next (after (start L) turns) turn).memory x
+-- a turn that does not answer a cut cuts nothing
+abbrev pub NothingElseCuts : State → Type 0
+NothingElseCuts s = (turn : ℕ × Event) → ((ns : List NodeId) → outcome s turn ≡ Ok (Cut ns) → ⊥) → (x : ℕ) → Reached s.memory x → Reached (next s turn).memory x
 
 -- ---- ledgers
 
@@ -99,3 +100,27 @@ cuts_of w (t ∷ ts) = (if t.worker == w then nodes_cut_of t.outcome else []) ++
 -- what was retired are the nodes that the origin's splices cut, in this order
 abbrev pub IsTheCuts : State → ℕ → Ledger → List Turn → Type 0
 IsTheCuts s origin l turns = l.retired ≡ cuts_of origin turns
+
+-- no node, a slot with its birth, stands twice over the retired nodes of all ledgers
+abbrev pub NoNodeTwice : State → Type 0
+NoNodeTwice s = (w v origin other i j : ℕ) (l m : Ledger) (n : NodeId) → held (of s w).ledgers origin ≡ Some l → held (of s v).ledgers other ≡ Some m
+    → slice_get l.retired i ≡ Some n → slice_get m.retired j ≡ Some n → (origin ≡ other) × (i ≡ j)
+
+-- over a run, what an origin's ledger retired grows by the nodes that its splices cut in that run, whoever holds it
+abbrev pub RetiredGrowsByTheCuts : State → Type 0
+RetiredGrowsByTheCuts s = (turns : List (ℕ × Event)) (w v origin : ℕ) (l m : Ledger) → held (of s w).ledgers origin ≡ Some l → held (of (after s turns) v).ledgers origin ≡ Some m
+    → m.retired ≡ l.retired ++ cuts_of origin (trace s turns)
+
+-- ---- grace
+
+-- worker w left
+abbrev pub left_by : ℕ → Turn
+left_by w = record { worker = w; event = Leave; outcome = Ok Departed }
+
+-- where a node is cut by one turn and freed by a later one, each worker that was pinned at the cut, the remover too, left between the two
+abbrev pub GraceHolds : State → Type 0
+GraceHolds s = (cut : ℕ × Event) (between : List (ℕ × Event)) (free : ℕ × Event) (ns : List NodeId) (n : NodeId) (w e : ℕ)
+    → outcome s cut ≡ Ok (Cut ns) → Contains ns n
+    → outcome (after (next s cut) between) free ≡ Ok (Freed n)
+    → (of s w).brief.pin ≡ Some e
+    → Contains (trace (next s cut) between) (left_by w)

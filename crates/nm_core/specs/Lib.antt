@@ -12,3 +12,4 @@ pub mod Reports
 pub mod Schedules
 pub mod Laws
 pub mod Places
+pub mod Lawful

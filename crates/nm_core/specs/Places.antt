@@ -1,14 +1,12 @@
 -- The place where each slot stands.
 use Rattle.std.specs.Prelude.{◌≡◌, ◌≢◌, ℕ, ◌≤◌, true, List, Some, option_map, slice_get}
-use Rattle.nm_edge.specs.Layouts.{Layout}
 use Rattle.nm_edge.specs.declared.edge.Side.{Side}
-use Rattle.nm_core.specs.declared.event.Event.{Event}
 use Rattle.nm_core.specs.declared.ledger.Queued.{Queued}
 use Rattle.nm_core.specs.Memory.{in_pool}
 use Rattle.nm_core.specs.Ledgers.{held, queue_of}
 use Rattle.nm_core.specs.Knowledge.{is_private}
 use Rattle.nm_core.specs.Paths.{at}
-use Rattle.nm_core.specs.Runs.{State, of, start, after}
+use Rattle.nm_core.specs.Runs.{State, of}
 
 -- where a slot may stand: in the pool; private to a worker; at the end of a path from the root;
 -- or in a worker's hands, at an index of the queue of an origin
@@ -36,7 +34,3 @@ pub record OnePlace (s : State) (x : ℕ) : Type 0 where
 -- of every slot
 abbrev pub EachSlotInOnePlace : State → Type 0
 EachSlotInOnePlace s = (x : ℕ) → x ≢ 0 → x ≤ s.layout.nodes → OnePlace s x
-
--- in every run
-abbrev pub EachSlotHasOnePlace : Type 0
-EachSlotHasOnePlace = (L : Layout) → 5 ≤ L.nodes → (turns : List (ℕ × Event)) → EachSlotInOnePlace (after (start L) turns)

@@ -1,6 +1,7 @@
 //! Laws of all runs: each holds whatever the workers do and in whatever order, for every layout and every list of events.
-ghost use Rattle.nm_core.specs.Laws.{CutsJust, EachLedgerHasOneHolder, GoesDown, IsFreedThenQueue, IsTheCuts, NamesBirths, NothingElseCuts, OfEachCut, OfEachLedger, PinsStayNear};
-ghost use Rattle.nm_core.specs.Places.{EachSlotHasOnePlace};
+ghost use Rattle.nm_core.specs.Lawful.{BriefsAreRight, EpochsAgree, FlaggedEdgesLeadToLeaves, LabelsDoNotFall, NoLabelIsAboveTheEpoch, OnlyThePinnedKnow, QueuedNodesAreFrozen, ReachIsGuarded, ReachIsShared, TaggedEdgesHaveFlaggedTwins};
+ghost use Rattle.nm_core.specs.Laws.{CutsJust, EachLedgerHasOneHolder, GoesDown, GraceHolds, IsFreedThenQueue, IsTheCuts, NamesBirths, NoNodeTwice, NothingElseCuts, OfEachCut, OfEachLedger, OfEachState, PinsStayNear, RetiredGrowsByTheCuts};
+ghost use Rattle.nm_core.specs.Places.{EachSlotInOnePlace};
 
 /// While a worker is pinned at an epoch, the global epoch is that one or the next. (The bound of Fraser's epochs.)
 pub fn pins_stay_near()
@@ -10,20 +11,20 @@ pub fn pins_stay_near()
 /// Each slot stands in exactly one place: the pool; one worker's private hands; the end of one path from the root;
 /// or one index of the queue of one origin, which one worker holds.
 pub fn each_slot_has_one_place()
-    ensures { EachSlotHasOnePlace }
+    ensures { OfEachState EachSlotInOnePlace }
 {}
 
 /// A splice that is won cuts off from the root exactly the nodes of its reply, by the paths before and after it:
 /// from the successor downwards each internal node and then its flagged leaf, each with its birth. (The cleanup of Natarajan and Mittal.)
 pub fn splices_cut_their_nodes()
-    ensures exactly { OfEachCut CutsJust }
-    ensures downwards { OfEachCut GoesDown }
-    ensures births { OfEachCut NamesBirths }
+    ensures exactly { OfEachState (OfEachCut CutsJust) }
+    ensures downwards { OfEachState (OfEachCut GoesDown) }
+    ensures births { OfEachState (OfEachCut NamesBirths) }
 {}
 
 /// No other event makes a reached node unreached.
 pub fn nothing_else_cuts()
-    ensures { NothingElseCuts }
+    ensures { OfEachState NothingElseCuts }
 {}
 
 /// Exactly one worker holds the ledger of each origin.
@@ -32,8 +33,49 @@ pub fn each_ledger_has_one_holder()
 {}
 
 /// The ledger is the cuts, whoever holds it: what was retired is what was freed and then the queue, in this order,
-/// and it is the nodes of the replies of the splices that the origin won, in cut order.
+/// and it is the nodes of the replies of the splices that the origin won, in cut order, since the opening and from any state on.
 pub fn ledgers_are_the_cuts()
     ensures split { OfEachLedger IsFreedThenQueue }
     ensures replies { OfEachLedger IsTheCuts }
+    ensures growing { OfEachState RetiredGrowsByTheCuts }
+{}
+
+/// No node, a slot with its birth, is retired twice, over the ledgers of all workers.
+pub fn no_node_is_cut_twice()
+    ensures { OfEachState NoNodeTwice }
+{}
+
+/// Grace: where a node is cut by one event and freed by a later one, whoever frees it, no worker that was pinned at the cut,
+/// the remover included, is pinned still without having left in between. (The promise of epoch-based reclamation.)
+pub fn grace_holds()
+    ensures { OfEachState GraceHolds }
+{}
+
+/// Labels in a queue do not fall, unlabelled entries are last, and no label is above the epoch.
+/// Only a worker's own queue has unlabelled entries, and its brief tells whether there are any.
+pub fn labels_are_in_order()
+    ensures rising { OfEachState LabelsDoNotFall }
+    ensures below { OfEachState NoLabelIsAboveTheEpoch }
+    ensures told { OfEachState BriefsAreRight }
+{}
+
+/// Frozen edges: an internal node in a queue has both edges marked; of a node that is reached or queued a tagged edge's twin is flagged;
+/// of a node that is reached, or that a worker can come to, a flagged edge leads to a leaf. (The marks of Natarajan and Mittal.)
+pub fn frozen_edges_stay_frozen()
+    ensures queued { OfEachState QueuedNodesAreFrozen }
+    ensures twins { OfEachState TaggedEdgesHaveFlaggedTwins }
+    ensures leaves { OfEachState FlaggedEdgesLeadToLeaves }
+{}
+
+/// What a worker can come to from the nodes that it knows, under its pin, is neither in the pool nor private to anyone,
+/// and where it is queued with a label, the pin is no later than the label.
+pub fn pinned_workers_are_safe()
+    ensures pinned { OfEachState OnlyThePinnedKnow }
+    ensures shared { OfEachState ReachIsShared }
+    ensures guarded { OfEachState ReachIsGuarded }
+{}
+
+/// Announcements, pins, sights and scans agree with the epoch.
+pub fn epochs_agree()
+    ensures { OfEachState EpochsAgree }
 {}

@@ -1,7 +1,7 @@
 use Rattle.std.proofs.Common.{ap, ◌∙◌, sym, drop, map}
 use Rattle.std.proofs.lemmas.List.{drop-map}
 use Rattle.nm_core.specs.Queues.{with_label}
-use Rattle.nm_core.proofs.Labels.{all_labelled}
+use Rattle.nm_core.proofs.QueueLabels.{all_labelled}
 use Rattle.nm_core.proofs.queue.Queue.label.Goals as goal
 
 pub invariant_of-self : goal.invariant_of-self
