@@ -6,13 +6,19 @@ use Rattle.nm_edge.specs.Layouts.{Layout, IsLayout}
 use Rattle.nm_core.specs.declared.event.Event.{Event}
 use Rattle.nm_core.specs.declared.reply.Refused.{Refused}
 use Rattle.nm_core.specs.declared.reply.Reply.{Reply}
+use Rattle.nm_core.specs.declared.trace.Turn.{Turn}
 use Rattle.nm_core.specs.Answers.{IsAnswer}
-use Rattle.nm_core.specs.Runs.{State, start, refused, applied, unless_refused, next, after, IsReachable}
+use Rattle.nm_core.specs.Runs.{State, start, refused, applied, unless_refused, next, outcome, after, trace, IsReachable}
 
 pub after-append : (s : State) (ts us : List (ℕ × Event)) → after s (ts ++ us) ≡ after (after s ts) us
 unfolding after
 after-append s [] us = refl
 after-append s (t ∷ ts) us = after-append (next s t) ts us
+
+pub trace-append : (s : State) (ts us : List (ℕ × Event)) → trace s (ts ++ us) ≡ trace s ts ++ trace (after s ts) us
+unfolding after trace
+trace-append s [] us = refl
+trace-append s (t ∷ ts) us = ap (λ (rest : List Turn). record { worker = t.0; event = t.1; outcome = outcome s t } ∷ rest) (trace-append (next s t) ts us)
 
 pub reachable_start : (L : Layout) → IsLayout L → IsReachable (start L)
 unfolding after

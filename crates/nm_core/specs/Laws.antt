@@ -21,6 +21,14 @@ use Rattle.nm_core.specs.Runs.{State, of, start, after, trace, next, outcome}
 abbrev pub OfEachState : (State → Type 0) → Type 0
 OfEachState P = (L : Layout) → 5 ≤ L.nodes → (turns : List (ℕ × Event)) → P (after (start L) turns)
 
+-- ---- runs
+
+abbrev pub StatesJoin : Type 0
+StatesJoin = (s : State) (ts us : List (ℕ × Event)) → after s (ts ++ us) ≡ after (after s ts) us
+
+abbrev pub TracesJoin : Type 0
+TracesJoin = (s : State) (ts us : List (ℕ × Event)) → trace s (ts ++ us) ≡ trace s ts ++ trace (after s ts) us
+
 -- ---- epochs
 
 -- while a worker is pinned at e, the epoch is e or e + 1

@@ -1,6 +1,7 @@
 //! Laws of all runs: each holds whatever the workers do and in whatever order, for every layout and every list of events.
 ghost use Rattle.nm_core.specs.Lawful.{BriefsAreRight, EpochsAgree, FlaggedEdgesLeadToLeaves, LabelsDoNotFall, NoLabelIsAboveTheEpoch, OnlyThePinnedKnow, QueuedNodesAreFrozen, ReachIsGuarded, ReachIsShared, TaggedEdgesHaveFlaggedTwins};
 ghost use Rattle.nm_core.specs.Laws.{CutsJust, EachLedgerHasOneHolder, GoesDown, GraceHolds, IsFreedThenQueue, IsTheCuts, NamesBirths, NoNodeTwice, NothingElseCuts, OfEachCut, OfEachLedger, OfEachState, PinsStayNear, RetiredGrowsByTheCuts};
+ghost use Rattle.nm_core.specs.Laws.{StatesJoin, TracesJoin};
 ghost use Rattle.nm_core.specs.Places.{EachSlotInOnePlace};
 
 /// While a worker is pinned at an epoch, the global epoch is that one or the next. (The bound of Fraser's epochs.)
@@ -78,4 +79,10 @@ pub fn pinned_workers_are_safe()
 /// Announcements, pins, sights and scans agree with the epoch.
 pub fn epochs_agree()
     ensures { OfEachState EpochsAgree }
+{}
+
+/// A run of some events and then of the others is one run of all: it leads to the same state, and its trace is theirs, one behind the other.
+pub fn runs_can_be_split()
+    ensures state { StatesJoin }
+    ensures trace { TracesJoin }
 {}
