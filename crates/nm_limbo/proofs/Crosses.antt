@@ -11,5 +11,5 @@ use denote.Param.Send.{IsSend, IsSync, Common, AllSend, owning_send, struct_send
 use Rattle.core.specs.declared.alloc.Allocator.{Ghosts}
 use Rattle.std_alloc.proofs.SendSync.{FreesAnywhere, quiet}
 use Rattle.circular_buffer.specs.Ownership.{cells_own, cells_lent, slots, slots_lent}
-use Rattle.nm_limbo.specs.Ownership.{places_of, next_of, first_of, places_own, links_own, deeds_own, chain_owns, chain_lent}
+use Rattle.nm_limbo.specs.Ownership.{places_of, next_of, places_own, links_own, deeds_own, chain_owns, chain_lent}
 use Rattle.nm_limbo.specs.contracts.chain.Chain as Chain

@@ -3,6 +3,7 @@
 --     block_seen               and are seen behind a `&`
 --     places_grow, deeds_grow  a block joins the list at the end
 --     last_out, last_in        the last link is taken out, and put back as it leads on to one more block
+--     pointer_out, pointer_in, stale      a link is its cell, and the cell is room
 use mathlib.Core.Path.{◌≡◌, refl, sym, ap, subst, ◌∙◌}
 use Prim.Native.Nat.{ℕ, zero, suc, ◌+◌, ◌-◌, ◌*◌, ◌<◌, ◌≤◌}
 use native.Mathlib.Omega.{arith}
@@ -10,21 +11,26 @@ use mathlib.Core.List.{List, [], ◌∷◌, ◌++◌}
 use lib.ListN.{length, take, drop, set, get_or, length-drop}
 use lib.Seq.{drop-drop, take-set-lt, take-set-le, drop-set-lt, drop-set-add, take_all, take-append-le, drop-append-le}
 use seplogic.Ra.Ura.{Ura}
-use mir.Syntax.{Ty}
-use base.Logic.{SProp, ent, sep, emp, via, fst∗, snd∗, id⊢}
-use base.Fml.{Fml, Lft, ftrue, fsep}
+use base.Fraction.{full_share}
+use mir.Syntax.{Ty, ty_ptr}
+use mir.Val.{Val}
+use base.Logic.{ent, sep, fst∗, id⊢}
+use base.Fml.{Fml, Lft, ftrue, fsep, feq, fat, froom}
 use types.Logic.{Logic, sem}
-use types.Kit.{‵, ◌⊛◌, ◌$◌, ◌∵◌, !, qed, by, move, keep, drop as skip, use1, use2, use3, split, fsplit, fjoin, rewrite, done}
+use types.Kit.{Item, Goal, Step, step, ‵, some, ◌⊛◌, ◌$◌, ◌∵◌, !, qed, move, use1, use2, use3, pick, split, fsplit, fjoin, feq_i, feq_l, rewrite, done}
+use denote.Memory.{part_at}
 use denote.RattleType.{RattleType}
-use denote.RawPtr.{Ptr, null_ptr}
-use denote.Steps.{nothing}
+use denote.RawPtr.{Ptr, RawPtr, null_ptr, ptr_val}
+use denote.Steps.{only}
+use borrow.Table.OneValue.{part_in, part_out}
 use Rattle.std.specs.Prelude.{Option}
 use Rattle.core.proofs.mem.Param.{El, R, el_x}
 use Rattle.core.proofs.alloc.Calls.{Al}
 use Rattle.core.proofs.slots.Leases.{P}
 use Rattle.circular_buffer.specs.Ownership.{cells_own, cells_lent}
 use Rattle.circular_buffer.proofs.Memory.{Place}
-use Rattle.nm_limbo.specs.Ownership.{first_of, link_owns, links_own, places_of, deed_owns, deeds_own, places_own, chain_lent}
+use Rattle.nm_limbo.specs.Blocks.{first_of}
+use Rattle.nm_limbo.specs.Ownership.{link_owns, links_own, places_of, deed_owns, deeds_own, places_own, chain_lent}
 use Rattle.nm_limbo.specs.contracts.chain.Chain as Chain
 
 module _ (E : El) (Z : Al) where
@@ -35,8 +41,17 @@ module _ (E : El) (Z : Al) where
 abbrev pub nth : List Ptr → ℕ → Ptr
 nth ps k = get_or ps k null_ptr
 
+pub first_nth : (ps : List Ptr) → first_of ps ≡ nth ps 0
+first_nth [] = refl
+first_nth (p ∷ ps) = refl
+
+-- the blocks after the first
+pub past_first : (ps : List Ptr) → 0 < length ps → (rest : List Ptr) × (ps ≡ first_of ps ∷ rest)
+past_first [] lt = absurd (omega arith)
+past_first (p ∷ ps) lt = (ps, refl)
+
 module _ (E : El) where
-  abbrev Cells : Ptr → List (Place E) → Fml
+  abbrev pub Cells : Ptr → List (Place E) → Fml
   Cells p cs = cells_own (R E) (places_of (R E) p) cs
 
   -- the places of the blocks but for the k-th
@@ -46,7 +61,7 @@ module _ (E : El) where
   Others (suc k) (p ∷ ps) cs = fsep (Cells p (take 32 cs)) (Others k ps (drop 32 cs))
 
 module _ (E : El) {M : Type 1} {𝓤 : Ura M} (𝓛 : Logic 𝓤) where
-  abbrev Own : List Ptr → List (Place E) → Fml
+  abbrev pub Own : List Ptr → List (Place E) → Fml
   Own = places_own (R E)
 
   pub block_out : (k : ℕ) (ps : List Ptr) (cs : List (Place E)) (at : ℕ) → k < length ps → at ≡ 32 * k
@@ -122,3 +137,21 @@ module _ {M : Type 1} {𝓤 : Ura M} (𝓛 : Logic 𝓤) where
   last_in zero (p ∷ q ∷ ps) t e = absurd (omega arith)
   last_in (suc n) (p ∷ q ∷ ps) t e = qed 𝓛 (‵ (link_owns (nth (q ∷ ps) n) t) ∷ ‵ (link_owns t null_ptr) ∷ ‵ (Upto (p ∷ q ∷ ps)) ∷ []) ∵ move ! (2 ∷ []) $ fsplit ! $ move ! (2 ∷ 3 ∷ 1 ∷ []) $
       use3 𝓛 (‵ (links_own ((q ∷ ps) ++ t ∷ []))) (last_in n (q ∷ ps) t (omega arith)) $ move ! (1 ∷ 0 ∷ []) $ fjoin ! $ done !
+
+-- the cell of a link
+abbrev pub pointer : ℕ → ℕ → Ptr → Fml
+pointer b o p = fat full_share ty_ptr b o (ptr_val p)
+
+module _ {M : Type 1} {𝓤 : Ura M} {𝓛 : Logic 𝓤} {K : Type 0} {Γ : List (Item 𝓤)} {G : Goal 𝓤 𝓛.H} where
+  pub pointer_out : K → (p : Ptr) (b o : ℕ) → Step K 𝓛 (‵ (pointer b o p) ∷ Γ) G (‵ (part_at RawPtr full_share p b o) ∷ Γ) G
+  pointer_out t p b o = use1 𝓛 (‵ (pointer b o p)) (qed 𝓛 (‵ (part_at RawPtr full_share p b o) ∷ []) {P = sem 𝓛 (pointer b o p)} (
+      use1 𝓛 (some (λ (v : Val). ‵ (fat full_share ty_ptr b o v) ⊛ ‵ (feq (List Val) (v ∷ []) (ptr_val p ∷ [])))) (part_out 𝓛 RawPtr refl full_share p b o) $ pick ! (λ v. split ! $ move ! (1 ∷ []) $ feq_l ! (λ e.
+      rewrite ! 0 (λ (w : Val). ‵ (fat full_share ty_ptr b o w)) (ap only e) refl $ done !))))
+
+  pub pointer_in : K → (p : Ptr) (b o : ℕ) → Step K 𝓛 (‵ (part_at RawPtr full_share p b o) ∷ Γ) G (‵ (pointer b o p) ∷ Γ) G
+  pointer_in t p b o = step (λ s.
+      feq_i t (List Val) (ptr_val p ∷ []) (ptr_val p ∷ []) refl $ move t (1 ∷ 0 ∷ []) $ use2 𝓛 (‵ (part_at RawPtr full_share p b o)) (part_in 𝓛 RawPtr refl full_share p b o (ptr_val p)) $ s)
+
+  -- a link's cell, whatever it holds, is room
+  pub stale : K → (p : Ptr) (b o : ℕ) → Step K 𝓛 (‵ (froom ty_ptr b o) ∷ Γ) G (‵ (pointer b o p) ∷ Γ) G
+  stale t p b o = use1 𝓛 (‵ (froom ty_ptr b o)) (𝓛.laws.at_room ty_ptr b o (ptr_val p))

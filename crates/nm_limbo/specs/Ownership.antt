@@ -8,17 +8,13 @@ use prog.Memory.{size, align, up}
 use denote.RattleType.{RattleType}
 use denote.Memory.{lone}
 use denote.Sharing.{nothing, beside}
-use denote.RawPtr.{Ptr, RawPtr, null_ptr, lies_at, room_for, ◌+ₚ◌}
+use denote.RawPtr.{Ptr, RawPtr, lies_at, room_for, ◌+ₚ◌}
 use Rattle.circular_buffer.specs.Ownership.{cells_own, cells_lent}
+use Rattle.nm_limbo.specs.Blocks.{first_of}
 
 -- where the link lies in the block at p
 abbrev pub next_of : Ptr → Ptr
 next_of p = p +ₚ 0
-
--- where the first of the blocks lies
-abbrev pub first_of : List Ptr → Ptr
-first_of [] = null_ptr
-first_of (p ∷ ps) = p
 
 -- the block at p leads on to the one at q
 abbrev pub link_owns : Ptr → Ptr → Fml
