@@ -37,6 +37,13 @@ impl<T, A: Allocator> Chain<T, A> {
         Chain { mark: PhantomData }
     }
 
+    /// Ends a chain of no block. No other code can let one go, so none forgets a block.
+    pub(crate) fn destroy_empty(self)
+        requires { self.blocks ≡ [] }
+    {
+        let Chain { mark: _ } = self;
+    }
+
     /// Makes the block the only one.
     pub(crate) fn link_first(&mut self, room: Room<T>, deed: Deed<T, A>)
         requires { (self.old.blocks ≡ []) × (deed.at ≡ room.ptr) × (deed.alloc ≡ self.old.alloc) }

@@ -1,0 +1,130 @@
+-- `new` makes a chain of no block, which owns nothing. Assumes `Logic`.
+use mathlib.Core.Path.{◌≡◌, refl, sym, ap, subst, ◌∙◌}
+use Prim.Native.Nat.{ℕ, zero, suc, ◌+◌, ◌-◌, ◌*◌, ◌<◌, ◌≤◌, ◌^◌}
+use native.Mathlib.Omega.{arith}
+use mathlib.Core.List.{List, [], ◌∷◌, ◌++◌}
+use lib.Dec.{lit<}
+use lib.ListN.{length, set, get_or, take, drop, replicate, length-set, length-take, length-drop}
+use lib.Seq.{get_or-take, get_or-drop}
+use seplogic.Ra.Ura.{Ura}
+use base.Fraction.{full_share}
+use mir.Syntax.{Fn, named, w64, ty_ptr}
+use mir.MapTy.{inst_fn}
+use mir.Val.{Val, vptr, vint, vunit, vstruct, vcons, vnil}
+use base.Logic.{SProp, ent, sep, emp, never, via, fst∗, snd∗, id⊢}
+use base.Fml.{Lft, GName, Share, Fml, ftrue, fsep, fat, froom, flft, fobs, fbor}
+use prog.Wp.{Env, Calls, Loops, WpFn, Tables}
+use types.Logic.{Logic, sem}
+use contract.Monad.{fact}
+use contract.Running.{tables, tables_of}
+use sound.WpLaws.{WpFn-mono}
+use types.Kit.{Item, ⋆, ‵, raw, some, given, ◌⊛◌, at_ret, ◌$◌, ◌∵◌, !, qed, by, move, keep, drop as skip, use0, use1, use2, use3, pick, learn, split, join, group, rewrite, fsplit, fsplit3, fjoin, fjoin3, feq_i, feq_l, flt_i, flt_l, suffices, frame, done}
+use types.Part.{whole, sub, agg, look_in}
+use types.Run.{from, init, store, load, look, stop, fld, hop, lit, unit_lit, size_lit, of_opd, addr, bin, and_then, no_more, assigns, assigns_last, first, blocks, exec, returns, enter}
+use types.ByLocal.{alloc_all, pass_all, free_all, look_at, look_in_at, get, get_in, through, take_at, give_at, sets, sets_last, is, env}
+use types.SemTy.{Body as Borrowed}
+use denote.Exit.{yes, no}
+use denote.RattleType.{RattleType, owns}
+use denote.Memory.{mem, hidden_shr, part_at}
+use denote.Param.{layout}
+use denote.RawPtr.{Ptr, RawPtr, null_ptr, block_ptr, ptr_val, in_a_block, room_for}
+use denote.Ref.{Bor, ShrRef, MutBor, MutRef}
+use denote.Builtin.{RefOf, RefMutOf, unit, usize}
+use denote.Signature.{plain}
+use denote.Opens.{hide, unhide}
+use denote.Steps.{nothing, opens, closes}
+use denote.Struct.Struct.{as_fields}
+use denote.Struct.Tuple.{Tuple}
+use denote.Triple.Carry.{spared}
+use denote.Triple.Clauses.{Clauses, Ended, closing}
+use denote.Triple.Entry.{on_entry}
+use denote.Triple.Spec.{Meets, triple_of}
+use denote.Triple.Table.{entered, run_framed}
+use denote.Triple.Walked.{says, needs, Stays, stay_dropped, stay_ref, walk_of, ends_at, Goes-dropped, Goes-ref, walk_Meets}
+use Rattle.std_alloc.proofs.VecSteps.Shapes.{after}
+use Rattle.std_alloc.proofs.RcSteps.{Good, Ptr-Good, word, word-Good}
+use Rattle.std_alloc.proofs.RawLayout.{as_raw, as_written}
+use Rattle.std.specs.Prelude.{Some, None}
+use Rattle.core.proofs.mem.Param.{El, R, el_x, elτ}
+use Rattle.core.proofs.ptr.Rows.{times_below, one_below}
+use Rattle.core.proofs.alloc.Calls.{Al, token, Goes-blank}
+use Rattle.core.proofs.slots.Leases.{args, P}
+use Rattle.circular_buffer.specs.Places.{IsFilled}
+use Rattle.circular_buffer.specs.Ownership.{slot, slots, slot_lent, cells_own, cells_lent}
+use Rattle.circular_buffer.proofs.Memory.{sz, Place, Mark, mark, mark_made, mark_had, word_had, word_made, says_both, value_out, value_in, tells, three_val, three_of, filled_within, Besides, slot_out, slot_in, slot_seen}
+use Rattle.nm_limbo.specs.Blocks.{first_of, IsFirst, IsLast, IsEmptyAt}
+use Rattle.nm_limbo.specs.Ownership.{chain_owns, next_of, link_owns, links_own, places_offset, places_of, places_own, room_owns, deed_owns, deeds_own, chain_lent}
+use Rattle.nm_limbo.proofs.Blocks.{Bp, Rm, Dd}
+use Rattle.nm_limbo.proofs.Memory.{Ch, Cells, Own, nth, first_nth, past_first, Others, block_out, block_in, first_seen, places_grow, deeds_grow, Upto, last_out, last_in, pointer, pointer_out, pointer_in, stale}
+use Rattle.nm_limbo.specs.contracts.chain.Chain.new.Key.{name as #self}
+use Rattle.nm_limbo.proofs.chain.Chain.new.Statement as stated
+use Rattle.nm_limbo.proofs.chain.Chain.new.Code as code
+
+module _ (E : El) (Z : Al) where
+  abbrev function : Fn
+  function = inst_fn (args E Z) code.function
+
+  abbrev ended : Ended
+  ended = record { signature = record { lifetimes = 1; outlives = []; params = RefOf (0 ∷ []) tt (plain (λ _. P E Z)) (λ _. tt) ∷ []; result = plain (λ _. Ch E Z) }; kept = (yes, tt) }
+
+  abbrev stayed : Stays ended.signature.params ended.kept
+  stayed = (stay_dropped (RefOf (0 ∷ []) tt (plain (λ _. P E Z)) (λ _. tt)) yes, tt)
+
+  abbrev Gives0 : Z.row.Denot → (Ch E Z).Denot → Type 0
+  Gives0 a r = (r.blocks ≡ []) × (r.slots ≡ []) × (r.alloc ≡ a)
+
+  abbrev spec : {M : Type 1} {𝓤 : Ura M} (𝓛 : Logic 𝓤) → Clauses 𝓤 ended
+  spec {𝓤 = 𝓤} 𝓛 κs a = record { ghost = Unit {0}; requires = λ _. emp 𝓤; ensures = λ _ r w. fact 𝓤 (Gives0 a.0.now r) }
+
+module _ (E : El) (Z : Al) {M : Type 1} {𝓤 : Ura M} (𝓛 : Logic 𝓤) (C : Calls 𝓤 𝓛.H) (Λ : Loops 𝓤 𝓛.H) (κ : Lft) (q : Share) (rb ro : ℕ) (a : Z.row.Denot) (us0 : List Val) where
+  open 𝓛 use {H, A}
+
+  abbrev self : Bor Z.row.Denot
+  self = record { ref_ptr = (rb, ro); now = a }
+
+  abbrev bound : (walk_of 𝓛 (ended E Z) (stayed E Z) (spec E Z 𝓛)).Ghost
+  bound = (((κ, tt), (q, tt), tt, (self, tt), (us0, tt)), tt)
+
+  abbrev Post : Val → SProp 𝓤
+  Post = (walk_of 𝓛 (ended E Z) (stayed E Z) (spec E Z 𝓛)).post bound
+
+  exits : (r : (Ch E Z).Denot) (v : Val) → Gives0 E Z a r → ent 𝓤 (⋆ 𝓛 (‵ (flft κ q) ∷ ‵ ((Ch E Z).own_val r (v ∷ [])) ∷ [])) (Post v)
+  exits r v g0 =
+      qed 𝓛 (‵ (flft κ q) ∷ ‵ ((Ch E Z).own_val r (v ∷ [])) ∷ []) ∵
+      suffices ! _ (ends_at 𝓛 (ended E Z) (stayed E Z) (spec E Z 𝓛) bound v r (tt, tt) (tt, tt)) $ says ! g0 $
+      nothing ! $ move ! (1 ∷ 0 ∷ []) $ join ! $ frame ! $ nothing ! $ nothing ! $ fjoin ! $ done !
+
+  abbrev Had : List (Item 𝓤)
+  Had = ‵ (flft κ q) ∷ []
+
+  walk : ent 𝓤 (⋆ 𝓛 Had) (WpFn 𝓤 H C Λ (function E Z) (vptr rb ro ∷ []) Post)
+  walk =
+      let out : (Ch E Z).Denot = record { mark = record {}; blocks = []; slots = []; alloc = a } in
+      qed 𝓛 Had ∵ enter ! C Λ (function E Z) (vptr rb ro ∷ []) _ $ alloc_all ! (λ l. pass_all ! refl ((tt, tt), tt) $
+      let En : Env 𝓤 H = env (function E Z).locals l in
+      sets ! (agg ! (no_more !)) refl (tt, tt) $ sets ! (agg ! (and_then ! (get ! refl) (no_more !))) refl (tt, (tt, tt)) $
+      nothing ! $ nothing ! $ nothing ! $ fjoin3 ! $ use0 𝓛 (‵ ((Mark E).own_val (tt, tt) (mark ∷ []))) (mark_made E 𝓛) $ fjoin ! $
+      returns ! (look_at ! 0 refl) $ free_all ! refl $ keep ! (1 ∷ 0 ∷ []) $ by ! (exits out mark (refl, refl, refl)))
+
+  entry : ent 𝓤 (on_entry 𝓛 (ended E Z).signature (κ, tt) (q, tt) (self, tt) (us0, tt)) (WpFn 𝓤 H C Λ (function E Z) (us0 ++ []) Post)
+  entry =
+      qed 𝓛 ((‵ (flft κ q) ⊛ ‵ ftrue) ∷ ‵ (owns (ShrRef (named 0) κ (P E Z) ∷ []) (self, tt) (us0, tt)) ∷ []) ∵
+      split ! $ move ! (2 ∷ []) $ fsplit ! $ fsplit ! $ feq_l ! (λ e0. keep ! (2 ∷ []) $
+      by ! (subst (λ (ws : List Val). ent 𝓤 (⋆ 𝓛 Had) (WpFn 𝓤 H C Λ (function E Z) (ws ++ []) Post)) (sym e0) walk))
+
+meets : (E : El) (Z : Al) {M : Type 1} {𝓤 : Ura M} (𝓛 : Logic 𝓤) (𝓣 : Tables 𝓤 𝓛.H)
+    → Meets 𝓛 (ended E Z).signature (WpFn 𝓤 𝓛.H 𝓣.C 𝓣.Λ (function E Z)) (closing 𝓛 (ended E Z) (spec E Z 𝓛))
+meets E Z {𝓤 = 𝓤} 𝓛 𝓣 =
+    walk_Meets 𝓛 (ended E Z) (stayed E Z) (Goes-dropped 𝓛 1 (RefOf (0 ∷ []) tt (plain (λ _. P E Z)) (λ _. tt)) yes (λ κs x f. refl), tt) (spec E Z 𝓛) (WpFn 𝓤 𝓛.H 𝓣.C 𝓣.Λ (function E Z)) (WpFn-mono 𝓤 𝓛.H 𝓛.laws 𝓣 (function E Z))
+    (λ z. via 𝓤 _ (fst∗ 𝓤 _ (emp 𝓤)) (entry E Z 𝓛 𝓣.C 𝓣.Λ z.0.0.0 z.0.1.0 z.0.3.0.ref_ptr.0 z.0.3.0.ref_ptr.1 z.0.3.0.now z.0.4.0))
+
+pub new_spec : {M : Type 1} → stated.statement M
+unfolding tables_of
+new_spec 𝓤 𝓛 𝓜 𝓡 wired X W LX LW g d dd met md y =
+    let E : El = record { row = X; laws = LX } in
+    let Z : Al = record { row = W; laws = LW; g = g; d = d; drops = dd } in
+    let 𝓣 : Tables 𝓤 𝓛.H = tables_of 𝓤 𝓛.H 𝓜 (tables 𝓤 𝓛.H 𝓜 𝓡 𝓡.env) in
+    let k = #self (args E Z) in
+    spared 𝓛 (ended E Z).signature (𝓡.run (𝓡.env k)) (run_framed 𝓤 𝓛.H 𝓜 𝓡 (𝓡.env k)) 2 (X.lives, (W.lives, tt)) (closing 𝓛 (ended E Z) (spec E Z 𝓛))
+    (entered 𝓤 𝓛.H (triple_of 𝓛 (ended E Z).signature (closing 𝓛 (ended E Z) (spec E Z 𝓛))) 𝓣.C 𝓣.Λ k (function E Z) (code.unfolded 𝓤 𝓛.H 𝓜 𝓡 wired (X, (W, tt)) d dd) (meets E Z 𝓛 𝓣))
+    ((y.0.0, y.0.1, tt, y.0.3, y.0.4), y.1)
