@@ -44,22 +44,28 @@ impl<T, A: Allocator> Chain<T, A> {
         let Chain { mark: _ } = self;
     }
 
-    /// Makes the block the only one.
-    pub(crate) fn link_first(&mut self, room: Room<T>, deed: Deed<T, A>)
+    /// Makes the block the only one, and returns where it lies.
+    pub(crate) fn link_first(&mut self, room: Room<T>, deed: Deed<T, A>) -> BlockPtr<T>
         requires { (self.old.blocks ≡ []) × (deed.at ≡ room.ptr) × (deed.alloc ≡ self.old.alloc) }
-        ensures { (self.new.blocks ≡ room.ptr ∷ []) × (self.new.slots ≡ replicate 32 None) × (self.new.alloc ≡ self.old.alloc) }
+        ensures { (result.ptr ≡ room.ptr) × (self.new.blocks ≡ room.ptr ∷ []) × (self.new.slots ≡ replicate 32 None) × (self.new.alloc ≡ self.old.alloc) }
     {
         let Room { ptr } = room;
         let Deed { mark: _ } = deed;
         unsafe {
             (*ptr).next = ptr::null_mut();
         }
+        BlockPtr { ptr }
     }
 
-    /// Links the block in after the last.
-    pub(crate) fn link_last(&mut self, last: BlockPtr<T>, room: Room<T>, deed: Deed<T, A>)
+    /// Links the block in after the last, and returns where it lies.
+    pub(crate) fn link_last(
+        &mut self,
+        last: BlockPtr<T>,
+        room: Room<T>,
+        deed: Deed<T, A>,
+    ) -> BlockPtr<T>
         requires { IsLast self.old.blocks last.ptr × (length self.old.slots ≡ 32 * length self.old.blocks) × (deed.at ≡ room.ptr) × (deed.alloc ≡ self.old.alloc) }
-        ensures { (self.new.blocks ≡ self.old.blocks ++ room.ptr ∷ []) × (self.new.slots ≡ self.old.slots ++ replicate 32 None) × (self.new.alloc ≡ self.old.alloc) }
+        ensures { (result.ptr ≡ room.ptr) × (self.new.blocks ≡ self.old.blocks ++ room.ptr ∷ []) × (self.new.slots ≡ self.old.slots ++ replicate 32 None) × (self.new.alloc ≡ self.old.alloc) }
     {
         let Room { ptr } = room;
         let Deed { mark: _ } = deed;
@@ -68,6 +74,7 @@ impl<T, A: Allocator> Chain<T, A> {
             (*ptr).next = ptr::null_mut();
             (*last).next = ptr;
         }
+        BlockPtr { ptr }
     }
 
     /// Takes the first block out, and returns it with the pointer to the one that is first then.

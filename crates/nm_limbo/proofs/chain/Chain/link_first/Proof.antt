@@ -65,7 +65,7 @@ module _ (E : El) (Z : Al) where
   function = inst_fn (args E Z) code.function
 
   abbrev Out : RattleType
-  Out = unit
+  Out = Bp E
 
   abbrev ended : Ended
   ended = record { signature = record { lifetimes = 1; outlives = []; params = RefMutOf (0 ∷ []) tt (plain (λ _. Ch E Z)) (λ _. tt) ∷ plain (λ _. Rm E) ∷ plain (λ _. Dd E Z) ∷ []; result = plain (λ _. Out) }; kept = (yes, (no, (no, tt))) }
@@ -77,7 +77,7 @@ module _ (E : El) (Z : Al) where
   Asks d room deed = (d.blocks ≡ []) × (deed.at ≡ room.ptr) × (deed.alloc ≡ d.alloc)
 
   abbrev Gives0 : (Ch E Z).Denot → (Rm E).Denot → (Dd E Z).Denot → (Out).Denot → (Ch E Z).Denot → Type 0
-  Gives0 d room deed r new = (new.blocks ≡ room.ptr ∷ []) × (new.slots ≡ replicate 32 None) × (new.alloc ≡ d.alloc)
+  Gives0 d room deed r new = (r.ptr ≡ room.ptr) × (new.blocks ≡ room.ptr ∷ []) × (new.slots ≡ replicate 32 None) × (new.alloc ≡ d.alloc)
 
   abbrev spec : {M : Type 1} {𝓤 : Ura M} (𝓛 : Logic 𝓤) → Clauses 𝓤 ended
   spec {𝓤 = 𝓤} 𝓛 κs a = record { ghost = Unit {0}; requires = λ _. fact 𝓤 (Asks a.0.now a.1.0 a.1.1.0); ensures = λ _ r w. fact 𝓤 (Gives0 a.0.now a.1.0 a.1.1.0 r w.0.now) }
@@ -116,15 +116,15 @@ module _ (E : El) (Z : Al) {M : Type 1} {𝓤 : Ura M} (𝓛 : Logic 𝓤) (C : 
       -- [the room of its link; its places; its deed; the mark; ..]
       sets ! (is ! (of_opd ! (get_in ! (fld ! refl (stop !)) (sub ! 0 refl (whole !)))) (ap ptr_val e)) refl (tt, tt) $ first ! $ blocks ! $
       assigns_last ! (of_opd ! (lit ! tt)) (through ! refl (fld ! refl (stop !))) (init ! 0 refl (Ptr-Good null_ptr)) $
-      exec ! C Λ En (after 2 (function E Z).body) (at_ret En Post) $ sets ! (of_opd ! (unit_lit !)) refl (tt, tt) $
+      exec ! C Λ En (after 2 (function E Z).body) (at_ret En Post) $ sets ! (is ! (agg ! (and_then ! (get ! refl) (no_more !))) (ap word (sym e))) refl (word-Good [] p) $
       pointer_in ! null_ptr b (o + 0) $ rewrite ! 0 (λ (a : Ptr). ‵ (link_owns a null_ptr)) (sym e) refl $ nothing ! $ move ! (1 ∷ 0 ∷ []) $ fjoin ! $
       -- [the links; its places; its deed; the mark; ..]
       move ! (1 ∷ []) $ rewrite ! 0 (λ (a : Ptr). ‵ (Cells E a none)) (sym e) refl $ nothing ! $ move ! (1 ∷ 0 ∷ []) $ fjoin ! $
       move ! (2 ∷ []) $ nothing ! $ move ! (1 ∷ 0 ∷ []) $ fjoin ! $
       -- [the deeds; the places; the links; the mark; its cell; the open borrow; obs; auth]
       move ! (1 ∷ 2 ∷ 0 ∷ []) $ fjoin3 ! $ move ! (1 ∷ 0 ∷ []) $ fjoin ! $ move ! (1 ∷ 0 ∷ []) $ closes ! tt (Ch E Z) new vs rb ro $
-      returns ! (look_at ! 0 refl) $ free_all ! refl $ keep ! (0 ∷ 1 ∷ 2 ∷ []) $ feq_i ! (List Val) (vunit ∷ []) (vunit ∷ []) refl $ move ! (1 ∷ 2 ∷ 3 ∷ 0 ∷ []) $
-      by ! (exits passed tt vunit new (refl, refl, refl)))))
+      returns ! (look_at ! 0 refl) $ free_all ! refl $ keep ! (0 ∷ 1 ∷ 2 ∷ []) $ word_made ! p $ move ! (1 ∷ 2 ∷ 3 ∷ 0 ∷ []) $
+      by ! (exits passed (record { ptr = p }) (word p) new (refl, refl, refl, refl)))))
 
   entry : Asks E Z d room deed → ent 𝓤 (on_entry 𝓛 (ended E Z).signature (κ, tt) (q, tt) (self, (room, (deed, tt))) (us0, (us1, (us2, tt)))) (WpFn 𝓤 H C Λ (function E Z) (us0 ++ (us1 ++ (us2 ++ ([])))) Post)
   entry asked =

@@ -65,7 +65,7 @@ module _ (E : El) (Z : Al) where
   function = inst_fn (args E Z) code.function
 
   abbrev Out : RattleType
-  Out = unit
+  Out = Bp E
 
   abbrev ended : Ended
   ended = record { signature = record { lifetimes = 1; outlives = []; params = RefMutOf (0 ∷ []) tt (plain (λ _. Ch E Z)) (λ _. tt) ∷ plain (λ _. Bp E) ∷ plain (λ _. Rm E) ∷ plain (λ _. Dd E Z) ∷ []; result = plain (λ _. Out) }; kept = (yes, (no, (no, (no, tt)))) }
@@ -77,7 +77,7 @@ module _ (E : El) (Z : Al) where
   Asks d last room deed = IsLast d.blocks last.ptr × (length d.slots ≡ 32 * length d.blocks) × (deed.at ≡ room.ptr) × (deed.alloc ≡ d.alloc)
 
   abbrev Gives0 : (Ch E Z).Denot → (Bp E).Denot → (Rm E).Denot → (Dd E Z).Denot → (Out).Denot → (Ch E Z).Denot → Type 0
-  Gives0 d last room deed r new = (new.blocks ≡ d.blocks ++ room.ptr ∷ []) × (new.slots ≡ d.slots ++ replicate 32 None) × (new.alloc ≡ d.alloc)
+  Gives0 d last room deed r new = (r.ptr ≡ room.ptr) × (new.blocks ≡ d.blocks ++ room.ptr ∷ []) × (new.slots ≡ d.slots ++ replicate 32 None) × (new.alloc ≡ d.alloc)
 
   abbrev spec : {M : Type 1} {𝓤 : Ura M} (𝓛 : Logic 𝓤) → Clauses 𝓤 ended
   spec {𝓤 = 𝓤} 𝓛 κs a = record { ghost = Unit {0}; requires = λ _. fact 𝓤 (Asks a.0.now a.1.0 a.1.1.0 a.1.1.1.0); ensures = λ _ r w. fact 𝓤 (Gives0 a.0.now a.1.0 a.1.1.0 a.1.1.1.0 r w.0.now) }
@@ -123,7 +123,7 @@ module _ (E : El) (Z : Al) {M : Type 1} {𝓤 : Ura M} (𝓛 : Logic 𝓤) (C : 
       sets ! (is ! (of_opd ! (get_in ! (fld ! refl (stop !)) (sub ! 0 refl (whole !)))) (ap ptr_val (asked.0.1 ∙ el))) refl (tt, tt) $ first ! $ blocks ! $
       assigns ! (of_opd ! (lit ! tt)) (through ! refl (fld ! refl (stop !))) (init ! 0 refl (Ptr-Good null_ptr)) $
       assigns_last ! (of_opd ! (get ! refl)) (through ! refl (fld ! refl (stop !))) (store ! 2 refl (tt, tt)) $
-      exec ! C Λ En (after 3 (function E Z).body) (at_ret En Post) $ sets ! (of_opd ! (unit_lit !)) refl (tt, tt) $
+      exec ! C Λ En (after 3 (function E Z).body) (at_ret En Post) $ sets ! (is ! (agg ! (and_then ! (get ! refl) (no_more !))) (ap word (sym e))) refl (word-Good [] p) $
       pointer_in ! null_ptr b (o + 0) $ rewrite ! 0 (λ (a : Ptr). ‵ (link_owns a null_ptr)) (sym e) refl $
       move ! (2 ∷ []) $ pointer_in ! (block_ptr b o) lb (lo + 0) $ rewrite ! 0 (λ (a : Ptr × Ptr). ‵ (link_owns a.0 a.1)) (λ i. (sym el i, sym e i)) refl $
       -- [the last link; the new link; the new places; the other links; the deeds; the places; the mark; ..]
@@ -133,8 +133,8 @@ module _ (E : El) (Z : Al) {M : Type 1} {𝓤 : Ura M} (𝓛 : Logic 𝓤) (C : 
       use2 𝓛 (‵ (Own E 𝓛 new.blocks new.slots)) (places_grow E 𝓛 d.blocks d.slots p none asked.1 refl) $
       -- [the places; the links; the deeds; the mark; its cell; the open borrow; obs; auth]
       fjoin3 ! $ move ! (1 ∷ 0 ∷ []) $ fjoin ! $ move ! (1 ∷ 0 ∷ []) $ closes ! tt (Ch E Z) new vs rb ro $
-      returns ! (look_at ! 0 refl) $ free_all ! refl $ keep ! (0 ∷ 1 ∷ 2 ∷ []) $ feq_i ! (List Val) (vunit ∷ []) (vunit ∷ []) refl $ move ! (1 ∷ 2 ∷ 3 ∷ 0 ∷ []) $
-      by ! (exits passed tt vunit new (refl, refl, refl))))))
+      returns ! (look_at ! 0 refl) $ free_all ! refl $ keep ! (0 ∷ 1 ∷ 2 ∷ []) $ word_made ! p $ move ! (1 ∷ 2 ∷ 3 ∷ 0 ∷ []) $
+      by ! (exits passed (record { ptr = p }) (word p) new (refl, refl, refl, refl))))))
 
   entry : Asks E Z d last room deed → ent 𝓤 (on_entry 𝓛 (ended E Z).signature (κ, tt) (q, tt) (self, (last, (room, (deed, tt)))) (us0, (us1, (us2, (us3, tt))))) (WpFn 𝓤 H C Λ (function E Z) (us0 ++ (us1 ++ (us2 ++ (us3 ++ ([]))))) Post)
   entry asked =
