@@ -2,24 +2,25 @@
 ghost use Rattle.std.specs.Prelude.{◌≡◌, ℕ, ◌*◌, ◌^◌, ◌<◌, IfOk, ⊤};
 ghost use Rattle.std.specs.Mem.{type_size};
 ghost use base.Fml.{ftrue};
-ghost use denote.RawPtr.{Ptr};
+ghost use denote.RawPtr.{Ptr, null_ptr};
 ghost use Rattle.nm_limbo.specs.Ownership.{room_owns, deed_owns};
 
 use std::alloc::{AllocError, Allocator};
 use std::marker::{Model, PhantomData, Send, Sync};
 use std::mem::{align_of, size_of};
+use std::ptr;
 
 /// The number of items that a block has room for.
-pub(crate) const BLOCK_LEN: usize = 32;
+pub(crate) const BLOCK_LEN: u32 = 32;
 
 /// A block as it lies in memory: the link to the next block, and a place for each item. No value of it is made.
-pub(crate) struct Block<T> {
+pub struct Block<T> {
     pub(crate) next: *mut Block<T>,
-    pub(crate) places: [T; BLOCK_LEN],
+    pub(crate) places: [T; BLOCK_LEN as usize],
 }
 
 /// Where a block lies. It owns nothing.
-pub(crate) struct BlockPtr<T> {
+pub struct BlockPtr<T> {
     pub(crate) ptr: *mut Block<T>,
 }
 
@@ -34,6 +35,17 @@ impl<T> Clone for BlockPtr<T> {
 }
 
 impl<T> Copy for BlockPtr<T> {}
+
+impl<T> BlockPtr<T> {
+    /// Where no block lies.
+    pub(crate) fn null() -> BlockPtr<T>
+        ensures { result.ptr ≡ null_ptr }
+    {
+        BlockPtr {
+            ptr: ptr::null_mut(),
+        }
+    }
+}
 
 unsafe impl<T> Send for BlockPtr<T> {}
 

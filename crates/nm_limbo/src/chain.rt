@@ -12,7 +12,7 @@ use std::ptr;
 
 /// The owner of the blocks of a list, and of the items in their places. It takes no space: the list holds the
 /// pointers to the first block and to the last.
-pub(crate) struct Chain<T, A: Allocator> {
+pub struct Chain<T, A: Allocator> {
     mark: PhantomData<*const (T, A)>,
     ghost blocks: { List Ptr },
     ghost slots: { List (Option T) },
