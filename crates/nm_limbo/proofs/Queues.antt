@@ -78,9 +78,11 @@ first_item (x ∷ xs) lt = (x, xs, refl)
 -- with the item x at the front, q is what a clause sees before the pop, and r after it
 popped_gives : {X : Type 0} (q r : BlockQueue X) (x : X) (ys : List X) (spare blocks more : ℕ) → q ≡ block_queue (x ∷ ys) spare blocks → r ≡ block_queue ys (spare + more) blocks
     → freed (popped q) ≡ more → IsPopped q r x
-popped_gives q r x ys spare blocks more was is gives =
-    (ap (λ w. w.items) was ∙ ap (λ zs. x ∷ zs) (sym (ap (λ w. w.items) is)), ap (λ w. w.blocks) is ∙ sym (ap (λ w. w.blocks) was),
-     ap (λ w. w.spare) is ∙ (λ i. sym (ap (λ w. w.spare) was) i + sym gives i))
+popped_gives q r x ys spare blocks more was is gives = (
+  ap (λ w. w.items) was ∙ ap (λ zs. x ∷ zs) (sym (ap (λ w. w.items) is)),
+  ap (λ w. w.blocks) is ∙ sym (ap (λ w. w.blocks) was),
+  ap (λ w. w.spare) is ∙ (λ i. sym (ap (λ w. w.spare) was) i + sym gives i),
+)
 
 module _ {X A : Type 0} where
   -- what lies in the blocks says which queue they are
@@ -88,9 +90,10 @@ module _ {X A : Type 0} where
       → IsQueue used empty p n a × (queue_of used empty p n ≡ block_queue xs (s + length empty.slots) (used.blocks + empty.blocks))
   queue_made used empty p n xs s a is count =
       let items : xs ≡ somes used.slots = sym (ap somes is.laid_out ∙ somes_laid p xs s) in
-      let left : s ≡ length used.slots - (p + n) = omega (arith, is.whole) in
-      ((count ∙ ap length items, subst (λ ys. IsLaid used empty p ys (length used.slots - (p + n)) a) items (subst (λ k. IsLaid used empty p xs k a) left is)),
-       (λ i. block_queue (sym items i) (sym left i + length empty.slots) (used.blocks + empty.blocks)))
+      let left : s ≡ length used.slots - (p + n) = omega (arith, is.whole) in (
+        (count ∙ ap length items, subst (λ ys. IsLaid used empty p ys (length used.slots - (p + n)) a) items (subst (λ k. IsLaid used empty p xs k a) left is)),
+        (λ i. block_queue (sym items i) (sym left i + length empty.slots) (used.blocks + empty.blocks)),
+      )
 
   pub used_up : (used empty : BlockList X A) (p : ℕ) (xs : List X) (s : ℕ) (a : A) → IsLaid used empty p xs s a → popped (block_queue xs (s + length empty.slots) (used.blocks + empty.blocks)) ≡ p
   used_up used empty p xs s a is = omega (arith, is.whole, is.places.0, is.places.1)
@@ -150,17 +153,19 @@ module _ {X A : Type 0} where
         → free ≡ block_list (empty.slots ++ replicate 32 None) (empty.blocks + 1) empty.alloc
         → IsLaid used free p xs s a × (s + length free.slots ≡ s + length empty.slots + 32)
     grown xs free is fits ef =
-        let more = ap (λ l. l.blocks) ef in let longer = ap (λ l. length l.slots) ef ∙ length-append empty.slots (replicate 32 None) in
-        (record {
-          alloc = (is.alloc.0, ap (λ l. l.alloc) ef ∙ is.alloc.1);
-          places = (is.places.0, omega (arith, is.places.1));
-          small = omega arith;
-          front = is.front;
-          back = is.back;
-          whole = is.whole;
-          laid_out = is.laid_out;
-          free = ap (λ l. l.slots) ef ∙ ap (λ cs. cs ++ replicate 32 None) is.free ∙ replicate-append-replicate (length empty.slots) 32 None ∙ ap (λ k. replicate k None) (sym longer);
-        }, omega arith)
+        let more = ap (λ l. l.blocks) ef in let longer = ap (λ l. length l.slots) ef ∙ length-append empty.slots (replicate 32 None) in (
+          record {
+            alloc = (is.alloc.0, ap (λ l. l.alloc) ef ∙ is.alloc.1);
+            places = (is.places.0, omega (arith, is.places.1));
+            small = omega arith;
+            front = is.front;
+            back = is.back;
+            whole = is.whole;
+            laid_out = is.laid_out;
+            free = ap (λ l. l.slots) ef ∙ ap (λ cs. cs ++ replicate 32 None) is.free ∙ replicate-append-replicate (length empty.slots) 32 None ∙ ap (λ k. replicate k None) (sym longer);
+          },
+          omega arith,
+        )
 
     -- the blocks in use are full, and the first of the others is one more
     pub opened : (xs : List X) (new free : BlockList X A) → IsLaid used empty p xs s a → s ≡ 0 → 0 < empty.blocks
@@ -169,17 +174,20 @@ module _ {X A : Type 0} where
     opened xs new free is full some ef en =
         let more = ap (λ l. l.blocks) en in let fewer = ap (λ l. l.blocks) ef in
         let long = ap (λ l. length l.slots) en ∙ length-append used.slots (replicate 32 None) in let short = ap (λ l. length l.slots) ef ∙ length-drop 32 empty.slots in
-        let sum : s + 32 ≡ 32 = omega arith in
-        (record {
-          alloc = (ap (λ l. l.alloc) en ∙ is.alloc.0, ap (λ l. l.alloc) ef ∙ is.alloc.1);
-          places = (omega (arith, is.places.0), omega (arith, is.places.1));
-          small = omega (arith, is.small);
-          front = is.front;
-          back = omega arith;
-          whole = omega (arith, is.whole);
-          laid_out = ap (λ l. l.slots) en ∙ ap (λ cs. cs ++ replicate 32 None) is.laid_out ∙ laid_grow p xs s 32 ∙ ap (laid p xs) sum;
-          free = ap (λ l. l.slots) ef ∙ drop_empty empty.slots 32 is.free ∙ ap (λ cs. replicate (length cs) None) (sym (ap (λ l. l.slots) ef));
-        }, omega (arith, is.places.1), omega arith)
+        let sum : s + 32 ≡ 32 = omega arith in (
+          record {
+            alloc = (ap (λ l. l.alloc) en ∙ is.alloc.0, ap (λ l. l.alloc) ef ∙ is.alloc.1);
+            places = (omega (arith, is.places.0), omega (arith, is.places.1));
+            small = omega (arith, is.small);
+            front = is.front;
+            back = omega arith;
+            whole = omega (arith, is.whole);
+            laid_out = ap (λ l. l.slots) en ∙ ap (λ cs. cs ++ replicate 32 None) is.laid_out ∙ laid_grow p xs s 32 ∙ ap (laid p xs) sum;
+            free = ap (λ l. l.slots) ef ∙ drop_empty empty.slots 32 is.free ∙ ap (λ cs. replicate (length cs) None) (sym (ap (λ l. l.slots) ef));
+          },
+          omega (arith, is.places.1),
+          omega arith,
+        )
 
     pub first_empty : (xs : List X) → IsLaid used empty p xs s a → 0 < empty.blocks → take 32 empty.slots ≡ replicate 32 None
     first_empty xs is some = take_empty empty.slots 32 is.free (omega (arith, is.places.1))
@@ -226,9 +234,11 @@ module _ {X A : Type 0} where
     pop_within is some view at lt er =
         let f = fronted is some view at in let made = queue_made read empty (p + 1) (n - 1) f.0 left a (popped_within used empty p left a x f.0 read f.1 lt er) (omega (arith, f.2)) in
         let sum : left + length empty.slots ≡ left + length empty.slots + 0 = omega arith in
-        let blocks : read.blocks + empty.blocks ≡ used.blocks + empty.blocks = ap (λ l. l.blocks + empty.blocks) er in
-        (made.0, λ now. popped_gives q r x f.0 (left + length empty.slots) (used.blocks + empty.blocks) 0 f.3
-          (now ∙ made.1 ∙ (λ i. block_queue f.0 (sum i) (blocks i))) (freed_none (popped q) (omega (arith, f.4))))
+        let blocks : read.blocks + empty.blocks ≡ used.blocks + empty.blocks = ap (λ l. l.blocks + empty.blocks) er in (
+          made.0,
+          λ now. popped_gives q r x f.0 (left + length empty.slots) (used.blocks + empty.blocks) 0 f.3
+              (now ∙ made.1 ∙ (λ i. block_queue f.0 (sum i) (blocks i))) (freed_none (popped q) (omega (arith, f.4))),
+        )
 
     pub pop_last : (new free : BlockList X A) → IsQueue used empty p n a → 0 < n → queue_of used empty p n ≡ q → get_or used.slots p None ≡ Some x → p ≡ 31
         → read ≡ block_list (set used.slots p None) used.blocks used.alloc → new ≡ block_list (drop 32 read.slots) (read.blocks - 1) read.alloc
@@ -240,9 +250,11 @@ module _ {X A : Type 0} where
         let more = ap (λ l. l.blocks) ef in let was = ap (λ l. l.blocks) er in let now = ap (λ l. l.blocks) en in let some = f.1.whole in let places = f.1.places.0 in
         let longer = ap (λ l. length l.slots) ef ∙ length-append empty.slots (replicate 32 None) in
         let sum : left + length free.slots ≡ left + length empty.slots + 32 = omega arith in
-        let blocks : new.blocks + free.blocks ≡ used.blocks + empty.blocks = omega arith in
-        (made.0, λ now. popped_gives q r x f.0 (left + length empty.slots) (used.blocks + empty.blocks) 32 f.3
-          (now ∙ made.1 ∙ (λ i. block_queue f.0 (sum i) (blocks i))) (freed_block (popped q) (f.4 ∙ last)))
+        let blocks : new.blocks + free.blocks ≡ used.blocks + empty.blocks = omega arith in (
+          made.0,
+          λ now. popped_gives q r x f.0 (left + length empty.slots) (used.blocks + empty.blocks) 32 f.3
+              (now ∙ made.1 ∙ (λ i. block_queue f.0 (sum i) (blocks i))) (freed_block (popped q) (f.4 ∙ last)),
+        )
 
   -- the place after the items is in the last of the blocks in use
   abbrev pub IsReady : BlockList X A → BlockList X A → ℕ → ℕ → A → BlockQueue X → Type 0

@@ -17,3 +17,6 @@ pub use chain::Chain;
 #[doc(hidden)]
 pub use list::BlockList;
 pub use queue::{BlockQueue, NoMemory};
+
+#[cfg(test)]
+mod tests;

@@ -9,6 +9,7 @@ pop_block-room-requires g c =
 
 pub loop-self-preserved : goal.loop-self-preserved
 loop-self-preserved g c =
-    let left = c.pop_block-room.ensures.list in
-    (ap (λ l. l.alloc) left ∙ c.loop-self.invariant.0,
-     subst (λ cs. cs ≡ replicate (length cs) None) (sym (ap (λ l. l.slots) left)) (drop_empty c.loop-self.self.slots 32 c.loop-self.invariant.1))
+    let left = c.pop_block-room.ensures.list in (
+      ap (λ l. l.alloc) left ∙ c.loop-self.invariant.0,
+      subst (λ cs. cs ≡ replicate (length cs) None) (sym (ap (λ l. l.slots) left)) (drop_empty c.loop-self.self.slots 32 c.loop-self.invariant.1),
+    )
