@@ -1,7 +1,7 @@
 -- What `allocate` and `deallocate` share: a block is cut into its link and its places, and made of them again. Assumes `Logic`.
 use Prim.Native.Nat.{ℕ, ◌+◌, ◌*◌, ◌<◌, ◌^◌}
 use mathlib.Core.List.{List, [], ◌∷◌}
-use lib.ListN.{length, replicate, length-replicate}
+use lib.ListN.{length, replicate}
 use seplogic.Ra.Ura.{Ura}
 use mir.Syntax.{Ty, Tys, Sym, ty_ptr, ty_array, ty_struct, tcons, tnil}
 use base.Logic.{SProp, ent, sep, wand, apply∗}
@@ -18,9 +18,9 @@ use Rattle.core.proofs.mem.Param.{El, R, el_x, elτ}
 use Rattle.core.proofs.alloc.Calls.{Al}
 use Rattle.core.proofs.slots.Leases.{P}
 use Rattle.std_alloc.proofs.RawLayout.{as_written}
-use Rattle.circular_buffer.specs.Ownership.{slots, cells_own}
+use Rattle.circular_buffer.specs.Ownership.{slots}
 use Rattle.circular_buffer.proofs.Memory.{sz, of_room, to_room}
-use Rattle.nm_limbo.specs.Ownership.{block_type, places_offset, places_of, room_owns}
+use Rattle.nm_limbo.specs.Ownership.{block_type, places_offset, room_owns}
 use Rattle.nm_limbo.specs.contracts.block.Block as Block
 use Rattle.nm_limbo.specs.contracts.block.BlockPtr as BlockPtr
 use Rattle.nm_limbo.specs.contracts.block.Room as Room

@@ -1,6 +1,6 @@
 -- What holds of a list of blocks once its first block is out, and of empty places.
-use Rattle.std.proofs.Common.{◌≡◌, ℕ, ◌+◌, ◌-◌, ◌*◌, ◌<◌, ◌≤◌, List, [], ◌∷◌, length, suc, take, drop, replicate, get_or, refl, sym, ap, ◌∙◌, subst, arith}
-use Rattle.std.proofs.lemmas.List.{length-drop, take-replicate, drop-replicate, length-replicate}
+use Rattle.std.proofs.Common.{◌≡◌, ℕ, ◌-◌, ◌<◌, ◌≤◌, List, [], ◌∷◌, length, suc, take, drop, replicate, get_or, sym, ap, ◌∙◌, subst, arith}
+use Rattle.std.proofs.lemmas.List.{length-drop, take-replicate, drop-replicate}
 use Rattle.std.specs.Prelude.{Option, None}
 use denote.RawPtr.{Ptr, null_ptr}
 use Rattle.nm_limbo.specs.Blocks.{first_of, IsLast}

@@ -4,8 +4,8 @@
 --     places_grow, deeds_grow  a block joins the list at the end
 --     last_out, last_in        the last link is taken out, and put back as it leads on to one more block
 --     pointer_out, pointer_in, stale      a link is its cell, and the cell is room
-use mathlib.Core.Path.{◌≡◌, refl, sym, ap, subst, ◌∙◌}
-use Prim.Native.Nat.{ℕ, zero, suc, ◌+◌, ◌-◌, ◌*◌, ◌<◌, ◌≤◌}
+use mathlib.Core.Path.{◌≡◌, refl, sym, ap, ◌∙◌}
+use Prim.Native.Nat.{ℕ, zero, suc, ◌+◌, ◌*◌, ◌<◌, ◌≤◌}
 use native.Mathlib.Omega.{arith}
 use mathlib.Core.List.{List, [], ◌∷◌, ◌++◌}
 use lib.ListN.{length, take, drop, set, get_or, length-drop}
@@ -23,8 +23,7 @@ use denote.RattleType.{RattleType}
 use denote.RawPtr.{Ptr, RawPtr, null_ptr, ptr_val}
 use denote.Steps.{only}
 use borrow.Table.OneValue.{part_in, part_out}
-use Rattle.std.specs.Prelude.{Option}
-use Rattle.core.proofs.mem.Param.{El, R, el_x}
+use Rattle.core.proofs.mem.Param.{El, R}
 use Rattle.core.proofs.alloc.Calls.{Al}
 use Rattle.core.proofs.slots.Leases.{P}
 use Rattle.circular_buffer.specs.Ownership.{cells_own, cells_lent}

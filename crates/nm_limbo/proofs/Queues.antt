@@ -1,5 +1,5 @@
 -- The places of a queue's blocks: what a push, a pop and one more block make of them.
-use Rattle.std.proofs.Common.{◌≡◌, ℕ, zero, suc, ◌+◌, ◌-◌, ◌*◌, ◌^◌, ◌<◌, ◌≤◌, ◌==◌, cond, List, [], ◌∷◌, ◌++◌, map, length, take, drop, replicate, set, get_or, refl, sym, ap, ◌∙◌, subst, append_assoc, arith}
+use Rattle.std.proofs.Common.{◌≡◌, ℕ, zero, suc, ◌+◌, ◌-◌, ◌*◌, ◌^◌, ◌<◌, ◌==◌, cond, List, [], ◌∷◌, ◌++◌, map, length, take, drop, replicate, set, get_or, refl, sym, ap, ◌∙◌, subst, append_assoc, arith}
 use Rattle.std.proofs.lemmas.List.{length-append, length-set, length-drop, length-map, length-replicate, map-append, replicate-append-replicate}
 use lib.Seq.{set_at, get_or_at, take_at, drop_at}
 use Rattle.std.specs.Prelude.{Option, Some, None}

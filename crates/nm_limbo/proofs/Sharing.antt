@@ -1,5 +1,4 @@
 -- A `&` to the blocks of a list is made where one to an item is. Assumes `Logic`.
-use Prim.Native.Nat.{ℕ}
 use Rattle.std.specs.Prelude.{List, [], ◌∷◌, Option, take, drop}
 use seplogic.Ra.Ura.{Ura}
 use base.Fml.{Lft, Fml, Incl, ftrue, fsep}

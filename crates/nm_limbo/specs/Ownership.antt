@@ -1,10 +1,10 @@
 -- What the parts of a list of blocks own and lend, at items of the row R.
-use Rattle.std.specs.Prelude.{ℕ, ◌+◌, List, [], ◌∷◌, take, drop, replicate, Option, Some, None}
+use Rattle.std.specs.Prelude.{ℕ, List, [], ◌∷◌, take, drop, replicate, Option, None}
 use base.Fraction.{full_share}
 use base.Fml.{Lft, Fml, ftrue, fsep, fwand}
 use mir.Syntax.{Ty, ty_ptr, ty_array, ty_struct, tcons, tnil}
 use mir.Raw.{raw}
-use prog.Memory.{size, align, up}
+use prog.Memory.{align, up}
 use denote.RattleType.{RattleType}
 use denote.Memory.{lone}
 use denote.Sharing.{nothing, beside}

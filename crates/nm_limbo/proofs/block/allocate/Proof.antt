@@ -8,7 +8,7 @@ use seplogic.Ra.Ura.{Ura}
 use mir.Syntax.{Fn, Body, named}
 use mir.MapTy.{inst_fn}
 use mir.Val.{Val, vptr, vstruct, vcons, vnil}
-use base.Logic.{SProp, ent, sep, emp, via, fst∗}
+use base.Logic.{SProp, ent}
 use base.Fml.{Lft, Share, ftrue, flft}
 use prog.Wp.{Env, Calls, Loops, WpFn, Tables}
 use types.Logic.{Logic}

@@ -1,15 +1,15 @@
 -- `deallocate` makes the block of its empty fields, and hands it back with the allocator's token. Assumes `Logic`.
-use mathlib.Core.Path.{◌≡◌, refl, sym, ap, subst, ◌∙◌}
+use mathlib.Core.Path.{◌≡◌, refl, sym, ap, subst}
 use Prim.Native.Nat.{ℕ}
 use mathlib.Core.List.{List, [], ◌∷◌, ◌++◌}
 use seplogic.Ra.Ura.{Ura}
 use mir.Syntax.{Fn, named}
 use mir.MapTy.{inst_fn}
-use mir.Val.{Val, vptr, vunit, vstruct}
-use base.Logic.{SProp, ent, sep, via, fst∗}
+use mir.Val.{Val, vptr, vunit}
+use base.Logic.{SProp, ent, fst∗}
 use base.Fml.{Lft, Share, ftrue, froom, flft}
 use prog.Wp.{Env, Calls, Loops, WpFn, Tables}
-use types.Logic.{Logic, sem}
+use types.Logic.{Logic}
 use contract.Monad.{fact}
 use contract.Running.{tables, tables_of}
 use sound.WpLaws.{WpFn-mono}
@@ -20,8 +20,7 @@ use types.ByLocal.{alloc_all, pass_all, free_all, look_at, get, get_in, sets, is
 use denote.Exit.{yes, no}
 use denote.RattleType.{owns}
 use denote.Memory.{hidden_shr}
-use denote.Param.{layout}
-use denote.RawPtr.{Ptr, null_ptr, ptr_val, in_a_block}
+use denote.RawPtr.{Ptr, ptr_val, in_a_block}
 use denote.Ref.{Bor, ShrRef}
 use denote.Builtin.{RefOf}
 use denote.Signature.{plain}
@@ -34,7 +33,6 @@ use denote.Triple.Walked.{needs, Stays, stay_dropped, walk_of, ends_at, Goes-dro
 use Rattle.core.proofs.alloc.Calls.{Goes-blank}
 use Rattle.std_alloc.proofs.VecSteps.Shapes.{after}
 use Rattle.std_alloc.proofs.RcSteps.{word, word-Good}
-use Rattle.std_alloc.proofs.Pairs.{pair_val, pair_Typed}
 use base.Logic.{never}
 use Rattle.core.proofs.mem.Param.{El, R}
 use Rattle.core.proofs.slots.Leases.{args, P}
@@ -51,7 +49,6 @@ use prog.Routine.{Routine}
 use contract.Monad.{Fun}
 use contract.BorrowLft.{◌⊑◌}
 use sound.WpLaws.{FmC, fm_of}
-use types.Kit.{fpick}
 use types.Run.{size_word, align_word}
 use types.ByLocal.{lands_last}
 use denote.Triple.Statement.{Triple}
@@ -59,7 +56,6 @@ use denote.Triple.Call.{calls_at_last}
 use Rattle.core.proofs.alloc.Calls.{Al, second, token, gives_key, Gives, at_gives, Gives-goes, Gives-Gives}
 use Rattle.nm_limbo.proofs.Blocks.{Rm, Dd, written, block, block_glue}
 use Rattle.nm_limbo.specs.contracts.block.deallocate as F
-use mir.Val.{of_list}
 use Rattle.nm_limbo.specs.contracts.block.deallocate.Key.{name as #self}
 use Rattle.nm_limbo.proofs.block.deallocate.Statement as stated
 use Rattle.nm_limbo.proofs.block.deallocate.Code as code

@@ -1,37 +1,32 @@
 -- `unlink_first` takes the first block out, as room for its fields and the right to free it. Assumes `Logic`.
 use mathlib.Core.Path.{◌≡◌, refl, sym, ap, subst, ◌∙◌}
-use Prim.Native.Nat.{ℕ, zero, suc, ◌+◌, ◌-◌, ◌*◌, ◌<◌, ◌≤◌, ◌^◌}
-use native.Mathlib.Omega.{arith}
+use Prim.Native.Nat.{ℕ, ◌+◌}
 use mathlib.Core.List.{List, [], ◌∷◌, ◌++◌}
-use lib.Dec.{lit<}
-use lib.ListN.{length, set, get_or, take, drop, replicate, length-set, length-take, length-drop}
-use lib.Seq.{get_or-take, get_or-drop}
+use lib.ListN.{take, drop, replicate}
 use seplogic.Ra.Ura.{Ura}
-use base.Fraction.{full_share}
-use mir.Syntax.{Fn, named, w64, ty_ptr}
+use mir.Syntax.{Fn, named, ty_ptr}
 use mir.MapTy.{inst_fn}
-use mir.Val.{Val, vptr, vint, vunit, vstruct, vcons, vnil}
-use base.Logic.{SProp, ent, sep, emp, never, via, fst∗, snd∗, id⊢}
-use base.Fml.{Lft, GName, Share, Fml, ftrue, fsep, fat, froom, flft, fobs, fbor}
+use mir.Val.{Val, vptr}
+use base.Logic.{SProp, ent, sep, never, id⊢}
+use base.Fml.{Lft, GName, Share, ftrue, flft, fobs, fbor}
 use prog.Wp.{Env, Calls, Loops, WpFn, Tables}
-use types.Logic.{Logic, sem}
+use types.Logic.{Logic}
 use contract.Monad.{fact}
 use contract.Running.{tables, tables_of}
 use sound.WpLaws.{WpFn-mono}
-use types.Kit.{Item, ⋆, ‵, raw, some, given, ◌⊛◌, at_ret, ◌$◌, ◌∵◌, !, qed, by, move, keep, drop as skip, use0, use1, use2, use3, pick, learn, split, join, group, rewrite, fsplit, fsplit3, fjoin, fjoin3, feq_i, feq_l, flt_i, flt_l, suffices, frame, done}
-use types.Part.{whole, sub, agg, look_in}
-use types.Run.{from, init, store, load, look, stop, fld, hop, lit, unit_lit, size_lit, of_opd, addr, bin, and_then, no_more, assigns, assigns_last, first, blocks, exec, returns, enter}
-use types.ByLocal.{alloc_all, pass_all, free_all, look_at, look_in_at, get, get_in, through, take_at, give_at, sets, sets_last, is, env}
+use types.Kit.{Item, ⋆, ‵, ◌⊛◌, at_ret, ◌$◌, ◌∵◌, !, qed, by, move, keep, use0, use3, split, join, rewrite, fsplit, fsplit3, fjoin, fjoin3, feq_i, feq_l, suffices, frame, done}
+use types.Part.{whole, sub, agg}
+use types.Run.{load, look, stop, fld, of_opd, and_then, no_more, first, blocks, exec, returns, enter}
+use types.ByLocal.{alloc_all, pass_all, free_all, look_at, get, get_in, through, sets, sets_last, is, env}
 use types.SemTy.{Body as Borrowed}
 use denote.Exit.{yes, no}
 use denote.RattleType.{RattleType, owns}
-use denote.Memory.{mem, hidden_shr, part_at}
+use denote.Memory.{mem}
 use denote.Param.{layout}
-use denote.RawPtr.{Ptr, RawPtr, null_ptr, block_ptr, ptr_val, in_a_block, room_for}
-use denote.Ref.{Bor, ShrRef, MutBor, MutRef}
-use denote.Builtin.{RefOf, RefMutOf, unit, usize}
+use denote.RawPtr.{Ptr, ptr_val, in_a_block, room_for}
+use denote.Ref.{MutBor, MutRef}
+use denote.Builtin.{RefMutOf}
 use denote.Signature.{plain}
-use denote.Opens.{hide, unhide}
 use denote.Steps.{nothing, opens, closes}
 use denote.Struct.Struct.{as_fields}
 use denote.Struct.Tuple.{Tuple}
@@ -40,22 +35,18 @@ use denote.Triple.Clauses.{Clauses, Ended, closing}
 use denote.Triple.Entry.{on_entry}
 use denote.Triple.Spec.{Meets, triple_of}
 use denote.Triple.Table.{entered, run_framed}
-use denote.Triple.Walked.{says, needs, Stays, stay_dropped, stay_ref, walk_of, ends_at, Goes-dropped, Goes-ref, walk_Meets}
+use denote.Triple.Walked.{needs, Stays, stay_dropped, stay_ref, walk_of, ends_at, Goes-dropped, Goes-ref, walk_Meets}
 use Rattle.std_alloc.proofs.VecSteps.Shapes.{after}
 use Rattle.std_alloc.proofs.RcSteps.{Good, Ptr-Good, word, word-Good}
-use Rattle.std_alloc.proofs.RawLayout.{as_raw, as_written}
-use Rattle.std.specs.Prelude.{Some, None}
-use Rattle.core.proofs.mem.Param.{El, R, el_x, elτ}
-use Rattle.core.proofs.ptr.Rows.{times_below, one_below}
-use Rattle.core.proofs.alloc.Calls.{Al, token, Goes-blank}
-use Rattle.core.proofs.slots.Leases.{args, P}
-use Rattle.circular_buffer.specs.Places.{IsFilled}
-use Rattle.circular_buffer.specs.Ownership.{slot, slots, slot_lent, cells_own, cells_lent}
-use Rattle.circular_buffer.proofs.Memory.{sz, Place, Mark, mark, mark_made, mark_had, word_had, word_made, says_both, value_out, value_in, tells, three_val, three_of, filled_within, Besides, slot_out, slot_in, slot_seen}
-use Rattle.nm_limbo.specs.Blocks.{first_of, IsFirst, IsLast, IsEmptyAt}
-use Rattle.nm_limbo.specs.Ownership.{chain_owns, next_of, link_owns, links_own, places_offset, places_of, places_own, room_owns, deed_owns, deeds_own, chain_lent}
+use Rattle.std.specs.Prelude.{None}
+use Rattle.core.proofs.mem.Param.{El, R}
+use Rattle.core.proofs.alloc.Calls.{Al, token}
+use Rattle.core.proofs.slots.Leases.{args}
+use Rattle.circular_buffer.proofs.Memory.{Place, Mark, mark, mark_made, word_had, word_made, says_both, three_val, three_of}
+use Rattle.nm_limbo.specs.Blocks.{first_of, IsFirst}
+use Rattle.nm_limbo.specs.Ownership.{chain_owns, next_of, link_owns}
 use Rattle.nm_limbo.proofs.Blocks.{Bp, Rm, Dd}
-use Rattle.nm_limbo.proofs.Memory.{Ch, Cells, Own, nth, first_nth, past_first, Others, block_out, block_in, first_seen, places_grow, deeds_grow, Upto, last_out, last_in, pointer, pointer_out, pointer_in, stale}
+use Rattle.nm_limbo.proofs.Memory.{Ch, Cells, past_first, pointer_out, stale}
 use Rattle.nm_limbo.specs.contracts.chain.Chain.unlink_first.Key.{name as #self}
 use Rattle.nm_limbo.proofs.chain.Chain.unlink_first.Statement as stated
 use Rattle.nm_limbo.proofs.chain.Chain.unlink_first.Code as code

@@ -1,4 +1,4 @@
-use Rattle.std.proofs.Common.{◌≡◌, ◌+◌, ◌<◌, ◌^◌, length, sym, ap, ◌∙◌, arith}
+use Rattle.std.proofs.Common.{◌+◌, ◌<◌, ◌^◌, length, ap, arith}
 use Rattle.nm_limbo.specs.Queue.{items_in, left_in}
 use Rattle.nm_limbo.proofs.Queues.{grown, queue_made}
 use Rattle.nm_limbo.proofs.queue.BlockQueue.add_block.Goals as goal

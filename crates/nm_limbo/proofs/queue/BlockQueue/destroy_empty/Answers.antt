@@ -1,4 +1,4 @@
-use Rattle.std.proofs.Common.{◌≡◌, [], ◌+◌, length, replicate, None, sym, ap, ◌∙◌, arith}
+use Rattle.std.proofs.Common.{◌≡◌, [], ◌+◌, length, replicate, None, ap, ◌∙◌, arith}
 use Rattle.std.proofs.lemmas.List.{replicate-append-replicate}
 use Rattle.nm_limbo.specs.Queue.{items_in, left_in, laid}
 use Rattle.nm_limbo.proofs.queue.BlockQueue.destroy_empty.Goals as goal

@@ -1,4 +1,4 @@
-use Rattle.std.proofs.Common.{◌≡◌, ◌∷◌, get_or, None, Some, sym, ap, ◌∙◌, subst, slice_get, arith}
+use Rattle.std.proofs.Common.{sym, ap, ◌∙◌, subst, slice_get, arith}
 use Rattle.nm_limbo.specs.Queue.{items_in, left_in, IsLaid}
 use Rattle.nm_limbo.proofs.Queues.{first_item, item_at}
 use Rattle.nm_limbo.proofs.queue.BlockQueue.front.Goals as goal

@@ -1,4 +1,4 @@
-use Rattle.std.proofs.Common.{◌≡◌, ◌<◌, ◌^◌, sym, ap, ◌∙◌, subst, arith}
+use Rattle.std.proofs.Common.{◌≡◌, ◌<◌, sym, ap, ◌∙◌, subst, arith}
 use Rattle.nm_limbo.specs.Queue.{items_in, left_in, IsLaid}
 use Rattle.nm_limbo.proofs.Queues.{first_item, item_at, used_up_first, pop_within, pop_last}
 use Rattle.nm_limbo.proofs.queue.BlockQueue.pop.Goals as goal

@@ -1,4 +1,4 @@
-use Rattle.std.proofs.Common.{◌≡◌, ◌+◌, ◌-◌, ◌*◌, refl, sym, ap, subst, arith}
+use Rattle.std.proofs.Common.{◌≡◌, ◌+◌, ◌-◌, ◌*◌, refl, sym, subst, arith}
 use Rattle.nm_limbo.proofs.Queues.{IsReady, ready, ready_full, full_requires, place_in, push_made}
 use Rattle.nm_limbo.proofs.queue.BlockQueue.push_reserved.Goals as goal
 use Rattle.nm_limbo.proofs.queue.BlockQueue.push_reserved.Goals.{then-filled-blocks, else-filled-blocks}
