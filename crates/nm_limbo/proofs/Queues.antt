@@ -1,5 +1,5 @@
 -- The places of a queue's blocks: what a push, a pop and one more block make of them.
-use Rattle.std.proofs.Common.{◌≡◌, ℕ, zero, suc, ◌+◌, ◌-◌, ◌*◌, ◌^◌, ◌<◌, ◌==◌, cond, List, [], ◌∷◌, ◌++◌, map, length, take, drop, replicate, set, get_or, refl, sym, ap, ◌∙◌, subst, append_assoc, arith}
+use Rattle.std.proofs.Common.{◌≡◌, ◌≤◌, ℕ, zero, suc, ◌+◌, ◌-◌, ◌*◌, ◌^◌, ◌<◌, ◌==◌, cond, List, [], ◌∷◌, ◌++◌, map, length, take, drop, replicate, set, get_or, slice_get, refl, sym, ap, ◌∙◌, subst, append_assoc, arith}
 use Rattle.std.proofs.lemmas.List.{length-append, length-set, length-drop, length-map, length-replicate, map-append, replicate-append-replicate}
 use lib.Seq.{set_at, get_or_at, take_at, drop_at}
 use Rattle.std.specs.Prelude.{Option, Some, None}
@@ -212,6 +212,15 @@ module _ {X A : Type 0} where
           free = is.free;
         }
 
+  -- where there are items, the first lies after the used-up places
+  pub front_at : (used empty : BlockList X A) (p n : ℕ) (a : A) (q : BlockQueue X) → IsQueue used empty p n a → 0 < n → queue_of used empty p n ≡ q
+      → (p < 32) × ((x : X) × (get_or used.slots p None ≡ Some x)) × ((x : X) → get_or used.slots p None ≡ Some x → Some x ≡ slice_get q.items 0)
+  front_at used empty p n a q is some view =
+      let e = first_item (items_in used) (omega (arith, is.0)) in let s = left_in used p n in
+      let at = item_at used empty p s a e.0 e.1 (subst (λ xs. IsLaid used empty p xs s a) e.2 is.1) in
+      let first : slice_get q.items 0 ≡ Some e.0 = ap (λ xs. slice_get xs 0) (sym (ap (λ w. w.items) view) ∙ e.2) in
+      (omega (arith, is.1.front), (e.0, at), λ x found. sym found ∙ at ∙ sym first)
+
   module _ (used empty : BlockList X A) (p n : ℕ) (a : A) (q r : BlockQueue X) (x : X) (read : BlockList X A) where
     abbrev left : ℕ
     left = left_in used p n
@@ -227,6 +236,14 @@ module _ {X A : Type 0} where
         let now = subst (λ xs. IsLaid used empty p xs left a) cut is.1 in
         let was : q ≡ block_queue (x ∷ e.1) (left + length empty.slots) (used.blocks + empty.blocks) = sym view ∙ ap (λ xs. block_queue xs (left + length empty.slots) (used.blocks + empty.blocks)) cut in
         (e.1, now, omega (arith, is.0), was, ap popped was ∙ used_up used empty p (x ∷ e.1) left a now)
+
+    -- what moving the front block requires, once its last item is out
+    pub pop_last_requires : IsQueue used empty p n a → 0 < n → queue_of used empty p n ≡ q → get_or used.slots p None ≡ Some x → p ≡ 31
+        → read ≡ block_list (set used.slots p None) used.blocks used.alloc
+        → (0 < read.blocks) × (take 32 read.slots ≡ replicate 32 None) × (empty.alloc ≡ read.alloc) × (empty.blocks < 2 ^ 31)
+    pop_last_requires is some view at last er =
+        let f = fronted is some view at in let blocks = ap (λ l. l.blocks) er in
+        (omega (arith, f.1.whole, f.1.places.0), used_up_first used empty p left a x f.0 read f.1 last er, is.1.alloc.1 ∙ sym (ap (λ l. l.alloc) er ∙ is.1.alloc.0), omega (arith, is.1.small))
 
     pub pop_within : IsQueue used empty p n a → 0 < n → queue_of used empty p n ≡ q → get_or used.slots p None ≡ Some x → p < 31
         → read ≡ block_list (set used.slots p None) used.blocks used.alloc
@@ -302,3 +319,11 @@ module _ {X A : Type 0} where
         let made = queue_made new empty p (n + 1) (q.items ++ x ∷ []) is.0 a (pushed used empty p (suc is.0) a q.items is.0 k x new is.1 refl (omega (arith, is.2)) e) (omega (arith, is.2)) in
         let spare : is.0 + length empty.slots ≡ q.spare - 1 = omega (arith, is.3) in let same : new.blocks + empty.blocks ≡ q.blocks = omega (arith, is.4) in
         (made.0, made.1 ∙ (λ i. block_queue (q.items ++ x ∷ []) (spare i) (same i)))
+
+    -- one more block, where few items and few spare places call for it
+    pub block_added : (free : BlockList X A) → IsQueue used empty p n a → queue_of used empty p n ≡ q → q.spare < 1024 → length q.items ≤ 2097152
+        → free ≡ block_list (empty.slots ++ replicate 32 None) (empty.blocks + 1) empty.alloc → IsQueue used free p n a
+    block_added free is view spare items ef =
+        let s = seen is view in let left = ap (λ w. w.spare) view in
+        let few : used.blocks + empty.blocks + 1 < 2 ^ 20 = omega (arith, s.0.front, s.0.whole, s.0.places.0, s.0.places.1) in
+        (queue_made used free p n q.items rest a (grown used empty p rest a q.items free s.0 few ef).0 s.1).0

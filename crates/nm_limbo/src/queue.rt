@@ -9,7 +9,7 @@ use std::marker::Model;
 use std_alloc::room::may_hold;
 use thiserror::Error;
 
-/// There was no memory for a block.
+/// There was no memory for a block, or its items are too large for one: 2 ^ 63 bytes or more for 32 of them.
 #[derive(Clone, Copy, Debug, Error, PartialEq, Eq)]
 #[error("there is no memory for a block of the queue")]
 pub struct NoMemory;
@@ -17,7 +17,9 @@ pub struct NoMemory;
 /// A queue of items in blocks of 32 places each.
 ///
 /// The places of the blocks, in order, are those of the popped items of the front block, at most 31; those of the
-/// items, from the front; and the spare ones. `reserve` alone takes memory.
+/// items, from the front; and the spare ones. `reserve` alone takes memory, and an item stays at its place until it is
+/// popped. A drop drops each item and frees each block. A queue may cross threads where its items and its allocator
+/// may.
 pub struct BlockQueue<T, A: Allocator = Global> {
     // The blocks from the front one to the last that holds or held an item, and then the empty ones.
     used: BlockList<T, A>,
@@ -41,7 +43,7 @@ impl<T, A: Allocator> Model for BlockQueue<T, A> {
 }
 
 impl<T, A: Allocator> BlockQueue<T, A> {
-    /// Returns an empty queue with no block. It takes no memory; `reserve` takes it from `alloc`.
+    /// Returns an empty queue with no block. It takes no memory: `reserve` takes it, from `alloc`.
     pub fn new(alloc: A) -> Self
         ensures { result ≡ block_queue [] 0 0 }
     {
@@ -56,7 +58,8 @@ impl<T, A: Allocator> BlockQueue<T, A> {
 
     /// Returns the number of items.
     pub fn len(&self) -> u32
-        ensures { result ≡ length self.now.items }
+        ensures len { result ≡ length self.now.items }
+        ensures balanced { IsBalanced self.now }
     {
         self.len
     }
@@ -70,7 +73,8 @@ impl<T, A: Allocator> BlockQueue<T, A> {
 
     /// Returns the number of items that can be pushed before more is reserved.
     pub fn spare(&self) -> u32
-        ensures { result ≡ self.now.spare }
+        ensures spare { result ≡ self.now.spare }
+        ensures balanced { IsBalanced self.now }
     {
         BLOCK_LEN * self.used.blocks() - (self.popped + self.len) + BLOCK_LEN * self.empty.blocks()
     }
@@ -83,11 +87,13 @@ impl<T, A: Allocator> BlockQueue<T, A> {
         self.used.blocks() + self.empty.blocks()
     }
 
-    /// Takes memory until `n` items can be pushed: the fewest blocks that are enough.
+    /// Takes memory until `n` items, at most 1,024, can be pushed: the fewest blocks that are enough. The queue has at
+    /// most 2,097,152 items.
     ///
     /// # Errors
     ///
-    /// `NoMemory` if a block is refused. The blocks got before it stay, and the items are the same.
+    /// `NoMemory` if a block is refused, and fewer than `n` items can be pushed. The blocks got before it stay. Either
+    /// way the items are the same.
     pub fn reserve(&mut self, n: u32) -> Result<(), NoMemory>
         requires { (n ≤ 1024) × (length self.old.items ≤ 2097152) }
         ensures grown { IsGrown self.old self.new }
@@ -115,7 +121,7 @@ impl<T, A: Allocator> BlockQueue<T, A> {
         Ok(())
     }
 
-    /// Appends the item. It takes no memory.
+    /// Appends the item, at a place that is spare. It takes no memory.
     pub fn push_reserved(&mut self, item: T)
         requires { 0 < self.old.spare }
         ensures { self.new ≡ block_queue (self.old.items ++ item ∷ []) (self.old.spare - 1) self.old.blocks }
@@ -129,7 +135,7 @@ impl<T, A: Allocator> BlockQueue<T, A> {
         self.len += 1;
     }
 
-    /// Returns the item at the front.
+    /// Returns the item at the front, or `None` where there is none.
     pub fn front(&self) -> Option<&T>
         ensures { option_copied result ≡ slice_get self.now.items 0 }
     {
@@ -139,8 +145,8 @@ impl<T, A: Allocator> BlockQueue<T, A> {
         Some(self.used.get(self.popped))
     }
 
-    /// Takes the item at the front out. A block whose last place this uses up goes to the end, for use again: 32
-    /// places more are spare then.
+    /// Takes the item at the front out, or returns `None` where there is none. A block whose last place this uses up
+    /// goes to the end, for use again: its 32 places are spare then. No other place becomes spare.
     pub fn pop(&mut self) -> Option<T>
         ensures { MatchOption result ((self.old.items ≡ []) × (self.new ≡ self.old)) (IsPopped self.old self.new) }
     {

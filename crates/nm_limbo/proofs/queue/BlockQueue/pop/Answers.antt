@@ -1,26 +1,17 @@
-use Rattle.std.proofs.Common.{◌≡◌, ◌<◌, sym, ap, ◌∙◌, subst, arith}
-use Rattle.nm_limbo.specs.Queue.{items_in, left_in, IsLaid}
-use Rattle.nm_limbo.proofs.Queues.{first_item, item_at, used_up_first, pop_within, pop_last}
+use Rattle.std.proofs.Common.{◌<◌, arith}
+use Rattle.nm_limbo.proofs.Queues.{front_at, pop_within, pop_last, pop_last_requires}
 use Rattle.nm_limbo.proofs.queue.BlockQueue.pop.Goals as goal
 use Rattle.nm_limbo.proofs.queue.BlockQueue.pop.Goals.{then-self-eq-BLOCK_LEN, else-self-eq-BLOCK_LEN}
 
 pub read-item-requires : goal.read-item-requires
 read-item-requires g c =
-    let q = c.self.inside in let is = c.self.invariant.1 in let s = left_in q.used q.popped q.len in
-    let e = first_item (items_in q.used) (omega (arith, c.self.invariant.0)) in
-    (omega (arith, is.front), (e.0, item_at q.used q.empty q.popped s q.alloc e.0 e.1 (subst (λ xs. IsLaid q.used q.empty q.popped xs s q.alloc) e.2 is)))
+    let q = c.self.inside in let at = front_at q.used q.empty q.popped q.len q.alloc c.args.self.now c.self.invariant (omega arith) c.self.view_is in (at.0, at.1)
 
 pub take_block-requires : goal.take_block-requires
 take_block-requires g c =
-    let q = c.self.inside in let is = c.self.invariant.1 in let s = left_in q.used q.popped q.len in
-    let e = first_item (items_in q.used) (omega (arith, c.self.invariant.0)) in
-    let read = c.read-item.ensures.list in let blocks = ap (λ l. l.blocks) read in
-    let last : q.popped ≡ 31 = omega (arith, c.if-self-eq-BLOCK_LEN.true) in (
-      omega (arith, is.whole, is.places.0),
-      used_up_first q.used q.empty q.popped s q.alloc e.0 e.1 c.read-item.new.self (subst (λ xs. IsLaid q.used q.empty q.popped xs s q.alloc) e.2 is) last read,
-      is.alloc.1 ∙ sym (ap (λ l. l.alloc) read ∙ is.alloc.0),
-      omega (arith, is.small),
-    )
+    let q = c.self.inside in let read = c.read-item in let now = c.args.self.now in
+    pop_last_requires q.used q.empty q.popped q.len q.alloc now now read.result read.new.self c.self.invariant (omega arith) c.self.view_is read.ensures.item
+    (omega (arith, c.if-self-eq-BLOCK_LEN.true)) read.ensures.list
 
 pub invariant_of-self : goal.invariant_of-self
 invariant_of-self g c =
