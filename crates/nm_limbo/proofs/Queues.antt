@@ -6,7 +6,7 @@ use Rattle.std.specs.Prelude.{Option, Some, None}
 use Rattle.circular_buffer.specs.Places.{somes}
 use Rattle.nm_limbo.specs.Blocks.{IsEmptyAt}
 use Rattle.nm_limbo.specs.List.{BlockList, block_list}
-use Rattle.nm_limbo.specs.Queue.{BlockQueue, block_queue, popped, laid, items_in, left_in, queue_of, IsPopped, IsLaid, IsQueue}
+use Rattle.nm_limbo.specs.Queue.{BlockQueue, block_queue, popped, laid, items_in, left_in, queue_of, IsBalanced, IsPopped, IsLaid, IsQueue}
 use Rattle.nm_limbo.proofs.Lists.{take_empty, drop_empty}
 
 module _ {X : Type 0} where
@@ -97,6 +97,10 @@ module _ {X A : Type 0} where
 
   pub used_up : (used empty : BlockList X A) (p : ℕ) (xs : List X) (s : ℕ) (a : A) → IsLaid used empty p xs s a → popped (block_queue xs (s + length empty.slots) (used.blocks + empty.blocks)) ≡ p
   used_up used empty p xs s a is = omega (arith, is.whole, is.places.0, is.places.1)
+
+  pub queue_balanced : (used empty : BlockList X A) (p n : ℕ) (a : A) (q : BlockQueue X) → IsQueue used empty p n a → queue_of used empty p n ≡ q → IsBalanced q
+  queue_balanced used empty p n a q is view =
+      let l = is.1 in let all : IsBalanced (queue_of used empty p n) = (omega (arith, l.whole, l.places.0, l.places.1), omega (arith, l.whole, l.places.0, l.places.1, l.front)) in subst IsBalanced view all
 
   module _ (used empty : BlockList X A) (p : ℕ) (s : ℕ) (a : A) where
     -- a pop of the first item

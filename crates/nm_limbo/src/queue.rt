@@ -97,6 +97,7 @@ impl<T, A: Allocator> BlockQueue<T, A> {
     pub fn reserve(&mut self, n: u32) -> Result<(), NoMemory>
         requires { (n ≤ 1024) × (length self.old.items ≤ 2097152) }
         ensures grown { IsGrown self.old self.new }
+        ensures balanced { IsBalanced self.new }
         ensures ok { OnOk result (HasLeast self.old self.new n) }
         ensures refused { IfErr result (λ _. self.new.spare < n) }
     {
@@ -124,7 +125,8 @@ impl<T, A: Allocator> BlockQueue<T, A> {
     /// Appends the item, at a place that is spare. It takes no memory.
     pub fn push_reserved(&mut self, item: T)
         requires { 0 < self.old.spare }
-        ensures { self.new ≡ block_queue (self.old.items ++ item ∷ []) (self.old.spare - 1) self.old.blocks }
+        ensures queue { self.new ≡ block_queue (self.old.items ++ item ∷ []) (self.old.spare - 1) self.old.blocks }
+        ensures balanced { IsBalanced self.new }
     {
         let filled = self.popped + self.len;
         if filled == BLOCK_LEN * self.used.blocks() {
@@ -148,7 +150,8 @@ impl<T, A: Allocator> BlockQueue<T, A> {
     /// Takes the item at the front out, or returns `None` where there is none. A block whose last place this uses up
     /// goes to the end, for use again: its 32 places are spare then. No other place becomes spare.
     pub fn pop(&mut self) -> Option<T>
-        ensures { MatchOption result ((self.old.items ≡ []) × (self.new ≡ self.old)) (IsPopped self.old self.new) }
+        ensures popped { MatchOption result ((self.old.items ≡ []) × (self.new ≡ self.old)) (IsPopped self.old self.new) }
+        ensures balanced { IsBalanced self.new }
     {
         if self.len == 0 {
             return None;

@@ -1,5 +1,5 @@
-use Rattle.std.proofs.Common.{◌<◌, arith}
-use Rattle.nm_limbo.proofs.Queues.{front_at, pop_within, pop_last, pop_last_requires}
+use Rattle.std.proofs.Common.{◌+◌, ◌-◌, ◌<◌, sym, arith}
+use Rattle.nm_limbo.proofs.Queues.{front_at, pop_within, pop_last, pop_last_requires, queue_balanced}
 use Rattle.nm_limbo.proofs.queue.BlockQueue.pop.Goals as goal
 use Rattle.nm_limbo.proofs.queue.BlockQueue.pop.Goals.{then-self-eq-BLOCK_LEN, else-self-eq-BLOCK_LEN}
 
@@ -31,9 +31,11 @@ returns g c =
     elim c.if-self-eq-BLOCK_LEN.branch [
       | then-self-eq-BLOCK_LEN w ↦
           let moved = w.take_block in
-          (pop_last q.used q.empty q.popped q.len q.alloc now new read.result read.new.self moved.new.from moved.new.self c.self.invariant some c.self.view_is read.ensures.item
-          (omega (arith, w.if-self-eq-BLOCK_LEN.true)) read.ensures.list moved.ensures.from moved.ensures.list).1 w.self-is
+          let out = pop_last q.used q.empty q.popped q.len q.alloc now new read.result read.new.self moved.new.from moved.new.self c.self.invariant some c.self.view_is read.ensures.item
+          (omega (arith, w.if-self-eq-BLOCK_LEN.true)) read.ensures.list moved.ensures.from moved.ensures.list in
+          record { popped = out.1 w.self-is; balanced = queue_balanced moved.new.from moved.new.self 0 (q.len - 1) q.alloc new out.0 (sym w.self-is) }
       | else-self-eq-BLOCK_LEN w ↦
-          (pop_within q.used q.empty q.popped q.len q.alloc now new read.result read.new.self c.self.invariant some c.self.view_is read.ensures.item
-          (omega (arith, w.if-self-eq-BLOCK_LEN.false, c.self.invariant.1.front)) read.ensures.list).1 w.self-is
+          let out = pop_within q.used q.empty q.popped q.len q.alloc now new read.result read.new.self c.self.invariant some c.self.view_is read.ensures.item
+          (omega (arith, w.if-self-eq-BLOCK_LEN.false, c.self.invariant.1.front)) read.ensures.list in
+          record { popped = out.1 w.self-is; balanced = queue_balanced read.new.self q.empty (q.popped + 1) (q.len - 1) q.alloc new out.0 (sym w.self-is) }
     ]

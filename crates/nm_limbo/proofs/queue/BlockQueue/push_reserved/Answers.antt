@@ -1,6 +1,6 @@
 use Rattle.std.proofs.Common.{◌≡◌, ◌∷◌, [], ◌++◌, ◌+◌, ◌-◌, ◌*◌, refl, sym, subst, arith}
 use Rattle.nm_limbo.specs.Queue.{block_queue, queue_of, IsQueue}
-use Rattle.nm_limbo.proofs.Queues.{IsReady, ready, ready_full, full_requires, place_in, push_made}
+use Rattle.nm_limbo.proofs.Queues.{IsReady, ready, ready_full, full_requires, place_in, push_made, queue_balanced}
 use Rattle.nm_limbo.proofs.queue.BlockQueue.push_reserved.Given.{Over}
 use Rattle.nm_limbo.proofs.queue.BlockQueue.push_reserved.Goals as goal
 use Rattle.nm_limbo.proofs.queue.BlockQueue.push_reserved.Goals.{then-filled-blocks, else-filled-blocks}
@@ -28,5 +28,9 @@ written g c =
 pub invariant_of-self : goal.invariant_of-self
 invariant_of-self g c = (written g c).0
 
-pub returns : goal.returns
-returns g c = (written g c).1
+pub returns-clause-queue : goal.returns-clause-queue
+returns-clause-queue g c = (written g c).1
+
+pub returns-clause-balanced : goal.returns-clause-balanced
+returns-clause-balanced g c =
+    let j = c.if-filled-blocks.self-inside in queue_balanced c.write.new.self j.empty j.popped (j.len + 1) j.alloc _ (written g c).0 refl
