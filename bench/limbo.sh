@@ -1,0 +1,8 @@
+#!/bin/sh
+# Passes 10,000,000 items, or as many as the argument says, through a BlockQueue and through a VecDeque that hold 900
+# items throughout, three times over, and prints the times. Fails where the queue took more than twice the deque's time.
+set -e
+cd "$(dirname "$0")/../crates/limbo_bench"
+rt run -- "${1:-10000000}" 2>&1 | awk '
+    / percent$/ { print; percent = $(NF - 1); if (least == "" || percent < least) least = percent }
+    END { if (least == "") { print "no time was printed"; exit 1 } exit least > 200 }'

@@ -1,0 +1,20 @@
+-- Where the blocks of a list lie, and which of their places are empty.
+use Rattle.std.specs.Prelude.{◌≡◌, ℕ, ◌-◌, ◌<◌, List, [], ◌∷◌, length, get_or, Option, None}
+use denote.RawPtr.{Ptr, null_ptr}
+
+-- where the first of the blocks lies
+abbrev pub first_of : List Ptr → Ptr
+first_of [] = null_ptr
+first_of (p ∷ ps) = p
+
+-- the first of the blocks lies at p
+abbrev pub IsFirst : List Ptr → Ptr → Type 0
+IsFirst ps p = (0 < length ps) × (p ≡ first_of ps)
+
+-- the last of the blocks lies at p
+abbrev pub IsLast : List Ptr → Ptr → Type 0
+IsLast ps p = (0 < length ps) × (p ≡ get_or ps (length ps - 1) null_ptr)
+
+-- the i-th place is there, and holds nothing
+abbrev pub IsEmptyAt : {X : Type 0} → List (Option X) → ℕ → Type 0
+IsEmptyAt cs i = (i < length cs) × (get_or cs i None ≡ None)

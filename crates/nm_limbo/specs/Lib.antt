@@ -1,0 +1,4 @@
+pub mod Blocks
+pub mod List
+pub mod Ownership
+pub mod Queue

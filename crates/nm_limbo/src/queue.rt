@@ -1,0 +1,191 @@
+//! `BlockQueue`. A clause sees a queue as its `items`, and the numbers `spare` and `blocks`.
+ghost use Rattle.std.specs.Prelude.{◌≡◌, ◌+◌, ◌-◌, ◌<◌, ◌≤◌, ◌==◌, [], ◌∷◌, ◌++◌, length, option_copied, slice_get, IfErr, MatchOption, OnOk};
+ghost use Rattle.nm_limbo.specs.Queue.{block_queue, IsBalanced, IsGrown, HasLeast, IsPopped};
+
+use crate::block::{BLOCK_LEN, allocate};
+use crate::list::BlockList;
+use std::alloc::{Allocator, Global};
+use std::marker::Model;
+use std_alloc::room::may_hold;
+use thiserror::Error;
+
+/// There was no memory for a block, or its items are too large for one: 2 ^ 63 bytes or more for 32 of them.
+#[derive(Clone, Copy, Debug, Error, PartialEq, Eq)]
+#[error("there is no memory for a block of the queue")]
+pub struct NoMemory;
+
+/// A queue of items in blocks of 32 places each.
+///
+/// The places of the blocks, in order, are those of the popped items of the front block, at most 31; those of the
+/// items, from the front; and the spare ones. `reserve` alone takes memory, and an item stays at its place until it is
+/// popped. A drop drops each item and frees each block. A queue may cross threads where its items and its allocator
+/// may.
+pub struct BlockQueue<T, A: Allocator = Global> {
+    // The blocks from the front one to the last that holds or held an item, and then the empty ones.
+    used: BlockList<T, A>,
+    empty: BlockList<T, A>,
+    // The places of the front block whose items are popped.
+    popped: u32,
+    len: u32,
+    alloc: A,
+}
+
+impl<T, A: Allocator> Model for BlockQueue<T, A> {
+    ghost use Rattle.nm_limbo.specs.Queue.{BlockQueue, block_queue_code, queue_of, IsQueue};
+
+    ghost Value = { BlockQueue T };
+
+    ghost coded = { block_queue_code T.code };
+
+    ghost view = { λ q. queue_of q.used q.empty q.popped q.len };
+
+    ghost invariant = { λ q. IsQueue q.used q.empty q.popped q.len q.alloc };
+}
+
+impl<T, A: Allocator> BlockQueue<T, A> {
+    /// Returns an empty queue with no block. It takes no memory: `reserve` takes it, from `alloc`.
+    pub fn new(alloc: A) -> Self
+        ensures { result ≡ block_queue [] 0 0 }
+    {
+        BlockQueue {
+            used: BlockList::new(&alloc),
+            empty: BlockList::new(&alloc),
+            popped: 0,
+            len: 0,
+            alloc,
+        }
+    }
+
+    /// Returns the number of items.
+    pub fn len(&self) -> u32
+        ensures len { result ≡ length self.now.items }
+        ensures balanced { IsBalanced self.now }
+    {
+        self.len
+    }
+
+    /// Returns whether the queue has no item.
+    pub fn is_empty(&self) -> bool
+        ensures { result ≡ (length self.now.items == 0) }
+    {
+        self.len == 0
+    }
+
+    /// Returns the number of items that can be pushed before more is reserved.
+    pub fn spare(&self) -> u32
+        ensures spare { result ≡ self.now.spare }
+        ensures balanced { IsBalanced self.now }
+    {
+        BLOCK_LEN * self.used.blocks() - (self.popped + self.len) + BLOCK_LEN * self.empty.blocks()
+    }
+
+    /// Returns the number of blocks, of 32 places each.
+    pub fn blocks(&self) -> u32
+        ensures blocks { result ≡ self.now.blocks }
+        ensures balanced { IsBalanced self.now }
+    {
+        self.used.blocks() + self.empty.blocks()
+    }
+
+    /// Takes memory until `n` items, at most 1,024, can be pushed: the fewest blocks that are enough. The queue has at
+    /// most 2,097,152 items.
+    ///
+    /// # Errors
+    ///
+    /// `NoMemory` if a block is refused, and fewer than `n` items can be pushed. The blocks got before it stay. Either
+    /// way the items are the same.
+    pub fn reserve(&mut self, n: u32) -> Result<(), NoMemory>
+        requires { (n ≤ 1024) × (length self.old.items ≤ 2097152) }
+        ensures grown { IsGrown self.old self.new }
+        ensures balanced { IsBalanced self.new }
+        ensures ok { OnOk result (HasLeast self.old self.new n) }
+        ensures refused { IfErr result (λ _. self.new.spare < n) }
+    {
+        while self.spare() < n {
+            self.add_block()?;
+        }
+        Ok(())
+    }
+
+    fn add_block(&mut self) -> Result<(), NoMemory>
+        requires { (self.old.spare < 1024) × (length self.old.items ≤ 2097152) }
+        ensures ok { OnOk result (self.new ≡ block_queue self.old.items (self.old.spare + 32) (self.old.blocks + 1)) }
+        ensures refused { IfErr result (λ _. self.new ≡ self.old) }
+    {
+        if !may_hold::<T>(BLOCK_LEN as usize) {
+            return Err(NoMemory);
+        }
+        let Ok((room, deed)) = allocate(&self.alloc) else {
+            return Err(NoMemory);
+        };
+        self.empty.push_block(room, deed);
+        Ok(())
+    }
+
+    /// Appends the item, at a place that is spare. It takes no memory.
+    pub fn push_reserved(&mut self, item: T)
+        requires { 0 < self.old.spare }
+        ensures queue { self.new ≡ block_queue (self.old.items ++ item ∷ []) (self.old.spare - 1) self.old.blocks }
+        ensures balanced { IsBalanced self.new }
+    {
+        let filled = self.popped + self.len;
+        if filled == BLOCK_LEN * self.used.blocks() {
+            self.used.take_block(&mut self.empty);
+        }
+        let index = filled + BLOCK_LEN - BLOCK_LEN * self.used.blocks();
+        self.used.write(index, item);
+        self.len += 1;
+    }
+
+    /// Returns the item at the front, or `None` where there is none.
+    pub fn front(&self) -> Option<&T>
+        ensures { option_copied result ≡ slice_get self.now.items 0 }
+    {
+        if self.len == 0 {
+            return None;
+        }
+        Some(self.used.get(self.popped))
+    }
+
+    /// Takes the item at the front out, or returns `None` where there is none. A block whose last place this uses up
+    /// goes to the end, for use again: its 32 places are spare then. No other place becomes spare.
+    pub fn pop(&mut self) -> Option<T>
+        ensures popped { MatchOption result ((self.old.items ≡ []) × (self.new ≡ self.old)) (IsPopped self.old self.new) }
+        ensures balanced { IsBalanced self.new }
+    {
+        if self.len == 0 {
+            return None;
+        }
+        let item = self.used.read(self.popped);
+        self.len -= 1;
+        self.popped += 1;
+        if self.popped == BLOCK_LEN {
+            self.popped = 0;
+            self.empty.take_block(&mut self.used);
+        }
+        Some(item)
+    }
+
+    fn destroy_empty(self)
+        requires { self.items ≡ [] }
+    {
+        let BlockQueue {
+            used,
+            empty,
+            popped: _,
+            len: _,
+            alloc,
+        } = self;
+        used.free(&alloc);
+        empty.free(&alloc);
+    }
+}
+
+impl<T: Drop, A: Allocator> Drop for BlockQueue<T, A> {
+    fn drop(mut self) {
+        while let Some(item) = self.pop() {
+            drop(item);
+        }
+        self.destroy_empty();
+    }
+}
