@@ -11,8 +11,8 @@ use Rattle.nm_stress.specs.declared.fault.Reason.{Reason}
 use Rattle.nm_stress.specs.Lines.{pieces, parts}
 use Rattle.nm_stress.specs.declared.fault.RunFault.{RunFault}
 use Rattle.nm_stress.specs.declared.fault.RunFault.TheVariants as run
-use Rattle.nm_stress.specs.Files.{Fault, File, Fails, IfLine, is_long, checked, entries_from, file_from}
-use Rattle.nm_stress.specs.Schedules.{schedule_of, line_of, first_line_of}
+use Rattle.nm_stress.specs.Files.{Fault, Fails, IfLine, is_long, checked, entries_from, file_from}
+use Rattle.nm_stress.specs.Schedules.{line_of, first_line_of}
 use Rattle.nm_stress.specs.Output.{output_of, Writes}
 use Rattle.nm_stress.proofs.FileLemmas.{IsFull, pieces_full, step, opens}
 

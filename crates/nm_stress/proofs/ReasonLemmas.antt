@@ -1,6 +1,6 @@
 -- A faulty line is answered with the least of its reasons.
-use Rattle.std.proofs.Common.{◌≡◌, ℕ, suc, ◌≤◌, Bool, true, false, List, [], ◌∷◌, length, Option, Some, None, Result, Ok, Err, refl, ◌∙◌, inl, inr, ◌⊎◌, arith}
-use Rattle.std.specs.Prelude.{is_ok, not, ◌&&◌, ◌||◌, nat_lt, codes, ◌^◌, if◌then◌else◌}
+use Rattle.std.proofs.Common.{◌≡◌, ℕ, Bool, true, false, List, [], ◌∷◌, length, Option, Some, None, Result, Ok, Err, refl, ◌∙◌, inl, inr, ◌⊎◌, arith}
+use Rattle.std.specs.Prelude.{is_ok, ◌&&◌, ◌||◌, nat_lt, codes, ◌^◌, if◌then◌else◌}
 use Rattle.std.specs.Option.{ok_or}
 use Rattle.std.specs.Str.{bytes_eq}
 use Rattle.std.specs.Str.Parse.{digits_value}
@@ -18,10 +18,10 @@ use Rattle.nm_stress.specs.Chain.{◌>>=◌}
 use Rattle.nm_stress.specs.Lines.{number, is_numeral, place, fields, is_field}
 use Rattle.nm_stress.specs.Kinds.{word, kinds, kind_of, event_of, node_field, side_of, scan, claim, give, look, fill, link, flag, tag, splice}
 use Rattle.nm_stress.specs.Schedules.{entry_of, with_worker, line_of, first_line_of}
-use Rattle.nm_stress.specs.Headers.{header_of, layout_by, layout_within, count, not_within}
+use Rattle.nm_stress.specs.Headers.{limits_of, header_of, layout_by, layout_within, count, not_within}
 use Rattle.nm_stress.specs.declared.header.Limits.{Limits}
 use Rattle.nm_stress.specs.Files.{at, checked, is_long}
-use Rattle.nm_stress.specs.Reasons.{has_words, has_numbers, fails_at, holds_of, holds, line_reasons, header_holds_of, header_holds, header_reasons, reason_of}
+use Rattle.nm_stress.specs.Reasons.{has_words, has_numbers, holds_of, holds, line_reasons, header_holds_of, header_holds, header_reasons, reason_of}
 
 -- what a function gives: this fault alone, or a value
 abbrev Gives : {X : Type 0} → Reason → Result X Reason → Type 0
@@ -262,23 +262,29 @@ line_least workers number line = reason_at number _ ∙ fields_least workers (is
 
 -- ---- the first line
 
-
 layout_said : (limits : Limits) (nodes workers : List ℕ) → layout_by limits nodes workers ≡ (count nodes >>= λ n. count workers >>= λ w. layout_within limits n w)
 unfolding layout_by
 layout_said limits nodes workers = refl
 
-layout_least : (nodes workers : List ℕ) (command version : List ℕ) → (bytes_eq command (codes "schedule") && bytes_eq version (codes "1")) ≡ true
-    → reason_in (layout_by (record { nodes = 65536; workers = 32 }) nodes workers) ≡ find (header_holds_of false (command ∷ version ∷ nodes ∷ workers ∷ [])) header_reasons
-layout_least nodes workers command version named =
+layout_least : (command version nodes workers : List ℕ) (limits : Limits) → limits_of command version ≡ Ok limits
+    → reason_in (layout_by limits nodes workers) ≡ find (header_holds_of false (command ∷ version ∷ nodes ∷ workers ∷ [])) header_reasons
+layout_least command version nodes workers limits named =
     elim (number_gives nodes) [
       | inl e ↦ rw (layout_said, named, e) refl
       | inr n ↦ elim (number_gives workers) [
         | inl e ↦ rw (layout_said, named, n.1, e) refl
-        | inr w ↦ elim (cases_Bool (not_within 7 65536 n.0)) [
+        | inr w ↦ elim (cases_Bool (not_within 7 limits.nodes n.0)) [
           | inl y ↦ rw (layout_said, named, n.1, w.1, y) refl
-          | inr y ↦ elim (cases_Bool (not_within 1 32 w.0)) [ inl z ↦ rw (layout_said, named, n.1, w.1, y, z) refl | inr z ↦ rw (layout_said, named, n.1, w.1, y, z) refl ]
+          | inr y ↦ elim (cases_Bool (not_within 1 limits.workers w.0)) [ inl z ↦ rw (layout_said, named, n.1, w.1, y, z) refl | inr z ↦ rw (layout_said, named, n.1, w.1, y, z) refl ]
         ]
       ]
+    ]
+
+limits_gives : (command version : List ℕ) → Gives reason.Header (limits_of command version)
+limits_gives command version =
+    elim (cases_Bool (bytes_eq command (codes "schedule") && bytes_eq version (codes "1"))) [
+      | inl y ↦ inr (record { nodes = 65536; workers = 32 }, rw y refl)
+      | inr n ↦ inl (rw n refl)
     ]
 
 header_least : (fs : List (List ℕ)) → reason_in (header_of fs) ≡ find (header_holds_of false fs) header_reasons
@@ -288,9 +294,9 @@ header_least (a ∷ []) = refl
 header_least (a ∷ b ∷ []) = refl
 header_least (a ∷ b ∷ c ∷ []) = refl
 header_least (a ∷ b ∷ c ∷ d ∷ []) =
-    elim (cases_Bool (bytes_eq a (codes "schedule") && bytes_eq b (codes "1"))) [
-      | inl y ↦ let e = layout_least c d a b y in rw y (rw y at e)
-      | inr n ↦ rw n refl
+    elim (limits_gives a b) [
+      | inl e ↦ rw e refl
+      | inr l ↦ let e = layout_least a b c d l.0 l.1 in rw (l.1) (rw (l.1) at e)
     ]
 header_least (a ∷ b ∷ c ∷ d ∷ e ∷ more) = refl
 

@@ -1,14 +1,14 @@
 -- When each reason holds of a line, each for itself.
-use Rattle.std.specs.Prelude.{ℕ, List, [], ◌∷◌, length, drop, codes, slice_index_or, Bool, true, false, not, ◌&&◌, ◌||◌, nat_lt, Option, Some, None, Result, Ok, Err, is_ok}
+use Rattle.std.specs.Prelude.{ℕ, List, [], ◌∷◌, length, drop, slice_index_or, Bool, true, false, not, ◌&&◌, ◌||◌, nat_lt, Option, Some, None, Result, Ok, Err, is_ok}
 use Rattle.std.specs.List.{list_all}
-use Rattle.std.specs.Str.{bytes_eq}
 use Rattle.nm_stress.specs.declared.fault.Reason.{Reason}
-use Rattle.nm_stress.specs.declared.fault.Reason.TheVariants.{Long, Cut, Header, Nodes, Workers, Form, Kind, Fields, Number, Worker}
+use Rattle.nm_stress.specs.declared.fault.Reason.TheVariants.{Long, Header, Nodes, Workers, Form, Kind, Fields, Number, Worker}
 use Rattle.nm_stress.specs.declared.kind.Kind.{Kind as KindOf}
 use Rattle.nm_stress.specs.declared.kind.Kind.TheVariants.{Sight, Announce, Leave, Scan, Advance, Claim, Give, Look, Fill, Link, Flag, Tag, Splice}
 use Rattle.nm_stress.specs.Lines.{fields, is_field, number, place}
 use Rattle.nm_stress.specs.Kinds.{kind_of, node_field, side_of}
-use Rattle.nm_stress.specs.Headers.{not_within}
+use Rattle.nm_stress.specs.declared.header.Limits.{Limits}
+use Rattle.nm_stress.specs.Headers.{limits_of, not_within}
 use Rattle.nm_stress.specs.Files.{Fault, is_long}
 
 -- ---- the arguments of each kind
@@ -92,16 +92,20 @@ line_reasons = Long ∷ Form ∷ Kind ∷ Fields ∷ Number ∷ Worker ∷ []
 
 -- ---- the first line
 
--- the header of version 1 by its fields, whatever its numbers are
-abbrev pub is_header : List (List ℕ) → Bool
-is_header (command ∷ version ∷ nodes ∷ workers ∷ []) = (bytes_eq command (codes "schedule") && bytes_eq version (codes "1")) && (is_ok (number nodes) && is_ok (number workers))
-is_header _ = false
+-- the limits that the first two of four fields name
+abbrev pub header_limits : List (List ℕ) → Result Limits Reason
+header_limits (command ∷ version ∷ nodes ∷ workers ∷ []) = limits_of command version
+header_limits _ = Err Header
+
+-- a number of the header is above or below what there may be, where it is a number
+abbrev pub is_no_size : ℕ → ℕ → List ℕ → Bool
+is_no_size least most field = fails_at (λ n. not (not_within least most n)) (number field)
 
 abbrev pub header_holds_of : Bool → List (List ℕ) → Reason → Bool
 header_holds_of long fs Long = long
-header_holds_of long fs Header = not (is_header fs)
-header_holds_of long fs Nodes = fails_at (λ n. not (not_within 7 65536 n)) (number (slice_index_or fs 2 []))
-header_holds_of long fs Workers = fails_at (λ n. not (not_within 1 32 n)) (number (slice_index_or fs 3 []))
+header_holds_of long fs Header = not (is_ok (header_limits fs) && (is_ok (number (slice_index_or fs 2 [])) && is_ok (number (slice_index_or fs 3 []))))
+header_holds_of long fs Nodes = fails_at (λ limits. not (is_no_size 7 limits.nodes (slice_index_or fs 2 []))) (header_limits fs)
+header_holds_of long fs Workers = fails_at (λ limits. not (is_no_size 1 limits.workers (slice_index_or fs 3 []))) (header_limits fs)
 header_holds_of long fs _ = false
 
 -- the reason holds of the first line
