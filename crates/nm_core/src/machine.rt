@@ -3,9 +3,12 @@ ghost use Rattle.std.specs.Prelude.{◌≡◌, ◌<◌, length, IfOk, OnOk, OnEr
 ghost use Rattle.nm_core.specs.Memory.{named, put_edge};
 ghost use Rattle.nm_core.specs.Step.{outside};
 ghost use Rattle.nm_core.specs.Runs.{start, refused, reply_of, applied};
+ghost use Rattle.std.specs.Option.{option_copied};
+ghost use Rattle.nm_core.specs.Reports.{holder, ledger_of};
 ghost use Rattle.nm_core.specs.Answers.{IsAnswer, IsShaped};
 
 use crate::event::Event;
+use crate::ledger::Ledger;
 use crate::memory::{self, Node};
 use crate::reply::{Refused, Reply};
 use crate::worker::Worker;
@@ -59,6 +62,31 @@ impl Machine {
         ensures { result ≡ self.now.memory.epoch }
     {
         self.epoch
+    }
+
+    /// The worker that holds the ledger of an origin.
+    pub fn holder(&self, origin: u32) -> Option<u32>
+        requires { IsShaped self.now }
+        ensures { result ≡ holder self.now origin }
+    {
+        for number in 0..self.layout.workers() {
+            if self.workers[number as usize].ledger(origin).is_some() {
+                return Some(number);
+            }
+        }
+        None
+    }
+
+    /// The ledger of an origin, whoever holds it.
+    pub fn ledger(&self, origin: u32) -> Option<&Ledger>
+        ensures { option_copied result ≡ ledger_of self.now origin }
+    {
+        for worker in &self.workers {
+            if let Some(ledger) = worker.ledger(origin) {
+                return Some(ledger);
+            }
+        }
+        None
     }
 
     /// Whether a slot is not one of `least` to the number of nodes.

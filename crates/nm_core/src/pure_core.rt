@@ -2,11 +2,13 @@
 ghost use Rattle.std.specs.Prelude.{◌≡◌, ◌≢◌, ◌<◌, ◌≤◌, ◌⊎◌, ◌↔◌, IfOk, IfErr, OnOk, OnErr, IsErrOf, take, length};
 ghost use Rattle.std.specs.Option.{option_copied};
 ghost use Rattle.nm_core.specs.Runs.{start, refused, reply_of, applied, next, outcome, after, trace};
+ghost use Rattle.nm_core.specs.Reports.{holder, ledger_of};
 ghost use Rattle.nm_core.specs.Answers.{IsAnswer};
 ghost use Rattle.nm_edge.specs.Layouts.{IsLayout};
 ghost use Rattle.nm_core.specs.Laws.{PinsAreNear};
 
 use crate::event::Event;
+use crate::ledger::Ledger;
 use crate::machine::Machine;
 use crate::reply::{Refused, Reply};
 use crate::trace::{RunError, Trace, Turn};
@@ -88,6 +90,21 @@ impl Core {
         ensures near { PinsAreNear self.now }
     {
         self.machine.epoch()
+    }
+
+    /// What a worker's splices cut off, whoever holds its queue; `None` where there is no such worker.
+    pub fn ledger(&self, worker: u32) -> Option<&Ledger>
+        ensures ledger { option_copied result ≡ ledger_of self.now worker }
+    {
+        self.machine.ledger(worker)
+    }
+
+    /// The worker that holds the ledger of an origin: itself, or one to which it resigned, directly or through others.
+    /// `None` where there is no such worker.
+    pub fn holder(&self, origin: u32) -> Option<u32>
+        ensures holder { result ≡ holder self.now origin }
+    {
+        self.machine.holder(origin)
     }
 
     /// One event. Answers its reply, or the first reason in the order of `Refused` for which it is refused; what is refused changes nothing.

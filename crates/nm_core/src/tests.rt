@@ -169,6 +169,12 @@ fn a_freed_slot_is_claimed_again(rt: HostRuntime) -> Result<(), Fail> {
     let mut core = Core::new(rt.alloc(), 7, 1)?;
     play(&rt, &mut core, &ORDER_AND_AGE)?;
     assert_eq!(rt; core.epoch(), 2);
+    assert!(rt; core.ledger(1).is_none());
+    if let Some(ledger) = core.ledger(0) {
+        assert_eq!(rt; ledger.retired.as_slice().len(), 2);
+        assert_eq!(rt; ledger.freed.as_slice().len(), 2);
+        assert!(rt; ledger.queue.as_slice().is_empty());
+    }
     assert!(rt; matches!(core.apply(0, Event::Claim(6))?, Reply::Claimed(6)));
     assert!(rt; matches!(core.apply(0, Event::Claim(6))?, Reply::Taken));
     assert!(rt; matches!(core.apply(1, Event::Sight), Err(Refused::NoWorker)));
@@ -194,6 +200,8 @@ fn a_worker_resigns(rt: HostRuntime) -> Result<(), Fail> {
             .is_some_and(|ledger| ledger.queue.as_slice().is_empty())
     );
     assert!(rt; matches!(core.apply(1, Event::Sight), Err(Refused::NoWorker)));
+    assert_eq!(rt; core.holder(1), Some(0));
+    assert_eq!(rt; core.holder(2), None);
     Ok(())
 }
 
