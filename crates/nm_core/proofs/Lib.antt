@@ -37,3 +37,6 @@ pub mod Grace
 pub mod Labels
 pub mod EachState
 pub mod Reachable
+pub mod Counting
+pub mod TreeCount
+pub mod Counts

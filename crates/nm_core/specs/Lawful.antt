@@ -1,5 +1,5 @@
 -- What every state keeps beside places and pins: labels in order, frozen edges, and what a pinned worker can come to.
-use Rattle.std.specs.Prelude.{◌≡◌, ◌≢◌, ℕ, ◌≤◌, ◌⊎◌, true, false, ◌||◌, List, Option, Some, None, slice_get, slice_index_or}
+use Rattle.std.specs.Prelude.{◌≡◌, ◌≢◌, ℕ, ◌+◌, ◌-◌, ◌≤◌, ◌⊎◌, true, false, ◌||◌, List, Option, Some, None, slice_get, slice_index_or}
 use Rattle.nm_edge.specs.Edges.{other}
 use Rattle.nm_edge.specs.declared.edge.Side.{Side}
 use Rattle.nm_core.specs.declared.ledger.Queued.{Queued}
@@ -7,6 +7,7 @@ use Rattle.nm_core.specs.Memory.{node, edge, child, note, in_pool, is_leaf}
 use Rattle.nm_core.specs.Ledgers.{held, queue_of}
 use Rattle.nm_core.specs.Knowledge.{knows, is_private}
 use Rattle.nm_core.specs.Paths.{follow, Reached}
+use Rattle.nm_core.specs.Reports.{counts}
 use Rattle.nm_core.specs.Runs.{State, of}
 
 -- ---- labels
@@ -83,3 +84,9 @@ pub record EpochsAgree (s : State) : Type 0 where
   pub pinned : (w e : ℕ) → (of s w).now.pin ≡ Some e → (of s w).now.note ≡ Some e
   pub sights : (w e : ℕ) → (of s w).now.seen ≡ Some e → e ≤ s.memory.epoch
   pub scans : (w u e : ℕ) → (of s w).now.seen ≡ Some s.memory.epoch → slice_index_or (of s w).scanned u false ≡ true → (of s u).now.pin ≡ Some e → e ≡ s.memory.epoch
+
+-- ---- counts
+
+-- the places of all slots above 5, as a report counts them, add up
+abbrev pub CountsAddUp : State → Type 0
+CountsAddUp s = (counts s).pool + (counts s).private + (counts s).reached + (counts s).queued ≡ s.layout.nodes - 5

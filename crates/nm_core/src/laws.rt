@@ -1,5 +1,5 @@
 //! Laws of all runs: each holds whatever the workers do and in whatever order, for every layout and every list of events.
-ghost use Rattle.nm_core.specs.Lawful.{BriefsAreRight, EpochsAgree, FlaggedEdgesLeadToLeaves, LabelsDoNotFall, NoLabelIsAboveTheEpoch, OnlyThePinnedKnow, QueuedNodesAreFrozen, ReachIsGuarded, ReachIsShared, TaggedEdgesHaveFlaggedTwins};
+ghost use Rattle.nm_core.specs.Lawful.{BriefsAreRight, CountsAddUp, EpochsAgree, FlaggedEdgesLeadToLeaves, LabelsDoNotFall, NoLabelIsAboveTheEpoch, OnlyThePinnedKnow, QueuedNodesAreFrozen, ReachIsGuarded, ReachIsShared, TaggedEdgesHaveFlaggedTwins};
 ghost use Rattle.nm_core.specs.Laws.{CutsJust, EachLedgerHasOneHolder, GoesDown, GraceHolds, IsFreedThenQueue, IsTheCuts, NamesBirths, NoNodeTwice, NothingElseCuts, OfEachCut, OfEachLedger, OfEachState, PinsStayNear, RetiredGrowsByTheCuts};
 ghost use Rattle.nm_core.specs.Places.{EachSlotInOnePlace};
 
@@ -78,4 +78,9 @@ pub fn pinned_workers_are_safe()
 /// Announcements, pins, sights and scans agree with the epoch.
 pub fn epochs_agree()
     ensures { OfEachState EpochsAgree }
+{}
+
+/// The counts of the slots in the pool, private, reached and queued add up to the nodes above slot 5.
+pub fn counts_add_up()
+    ensures { OfEachState CountsAddUp }
 {}
