@@ -1,8 +1,10 @@
-pub mod Steps
-pub mod Sizes
 pub mod Numbers
+pub mod Lists
+pub mod Counting
 pub mod Tables
 pub mod Held
+pub mod Steps
+pub mod Sizes
 pub mod Learned
 pub mod Epochs
 pub mod Pins
@@ -11,9 +13,9 @@ pub mod CutPaths
 pub mod Pictures
 pub mod Slots
 pub mod Readings
+pub mod Frees
 pub mod Splices
 pub mod Links
-pub mod Frees
 pub mod Views
 pub mod TreeEpochs
 pub mod TreeSlots
@@ -25,6 +27,9 @@ pub mod TreeSteps
 pub mod Opening
 pub mod Lawful
 pub mod OnePlace
+pub mod EachState
+pub mod TreeCount
+pub mod Counts
 pub mod Cuts
 pub mod Stays
 pub mod Origins
@@ -35,8 +40,4 @@ pub mod CutNodes
 pub mod Once
 pub mod Grace
 pub mod Labels
-pub mod EachState
 pub mod Reachable
-pub mod Counting
-pub mod TreeCount
-pub mod Counts

@@ -106,6 +106,10 @@ abbrev pub NoNodeTwice : State → Type 0
 NoNodeTwice s = (w v origin other i j : ℕ) (l m : Ledger) (n : NodeId) → held (of s w).ledgers origin ≡ Some l → held (of s v).ledgers other ≡ Some m
     → slice_get l.retired i ≡ Some n → slice_get m.retired j ≡ Some n → (origin ≡ other) × (i ≡ j)
 
+-- so its freed nodes and then its queue are the nodes that its splices cut, in cut order
+abbrev pub FreedThenQueueAreTheCuts : State → ℕ → Ledger → List Turn → Type 0
+FreedThenQueueAreTheCuts s origin l turns = l.freed ++ map node_in l.queue ≡ cuts_of origin turns
+
 -- over a run, what an origin's ledger retired grows by the nodes that its splices cut in that run, whoever holds it
 abbrev pub RetiredGrowsByTheCuts : State → Type 0
 RetiredGrowsByTheCuts s = (turns : List (ℕ × Event)) (w v origin : ℕ) (l m : Ledger) → held (of s w).ledgers origin ≡ Some l → held (of (after s turns) v).ledgers origin ≡ Some m

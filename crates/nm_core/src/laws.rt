@@ -1,6 +1,6 @@
 //! Laws of all runs: each holds whatever the workers do and in whatever order, for every layout and every list of events.
-ghost use Rattle.nm_core.specs.Lawful.{BriefsAreRight, CountsAddUp, EpochsAgree, FlaggedEdgesLeadToLeaves, LabelsDoNotFall, NoLabelIsAboveTheEpoch, OnlyThePinnedKnow, QueuedNodesAreFrozen, ReachIsGuarded, ReachIsShared, TaggedEdgesHaveFlaggedTwins};
-ghost use Rattle.nm_core.specs.Laws.{CutsJust, EachLedgerHasOneHolder, GoesDown, GraceHolds, IsFreedThenQueue, IsTheCuts, NamesBirths, NoNodeTwice, NothingElseCuts, OfEachCut, OfEachLedger, OfEachState, PinsStayNear, RetiredGrowsByTheCuts};
+ghost use Rattle.nm_core.specs.Lawful.{BriefsAreRight, CountsAddUp, EachReadStands, EpochsAgree, FlaggedEdgesLeadToLeaves, LabelsDoNotFall, NoLabelIsAboveTheEpoch, OnlyThePinnedKnow, QueuedNodesAreFrozen, ReachIsGuarded, ReachIsShared, TaggedEdgesHaveFlaggedTwins};
+ghost use Rattle.nm_core.specs.Laws.{CutsJust, EachLedgerHasOneHolder, FreedThenQueueAreTheCuts, GoesDown, GraceHolds, IsFreedThenQueue, IsTheCuts, NamesBirths, NoNodeTwice, NothingElseCuts, OfEachCut, OfEachLedger, OfEachState, PinsStayNear, RetiredGrowsByTheCuts};
 ghost use Rattle.nm_core.specs.Places.{EachSlotInOnePlace};
 
 /// While a worker is pinned at an epoch, the global epoch is that one or the next. (The bound of Fraser's epochs.)
@@ -37,6 +37,7 @@ pub fn each_ledger_has_one_holder()
 pub fn ledgers_are_the_cuts()
     ensures split { OfEachLedger IsFreedThenQueue }
     ensures replies { OfEachLedger IsTheCuts }
+    ensures whole { OfEachLedger FreedThenQueueAreTheCuts }
     ensures growing { OfEachState RetiredGrowsByTheCuts }
 {}
 
@@ -83,4 +84,9 @@ pub fn epochs_agree()
 /// The counts of the slots in the pool, private, reached and queued add up to the nodes above slot 5.
 pub fn counts_add_up()
     ensures { OfEachState CountsAddUp }
+{}
+
+/// What a worker read of the marks stands: a flag over its slot, a tagged edge, a null edge; and so does a filled edge of a private slot.
+pub fn what_was_read_stands()
+    ensures { OfEachState EachReadStands }
 {}

@@ -11,7 +11,7 @@ mod trace;
 
 pub use event::{Event, Field};
 pub use knowledge::{Brief, Draft, Seen};
-pub use laws::{counts_add_up, each_ledger_has_one_holder, each_slot_has_one_place, epochs_agree, frozen_edges_stay_frozen, grace_holds, labels_are_in_order, ledgers_are_the_cuts, no_node_is_cut_twice, nothing_else_cuts, pinned_workers_are_safe, pins_stay_near, splices_cut_their_nodes};
+pub use laws::{counts_add_up, each_ledger_has_one_holder, each_slot_has_one_place, epochs_agree, frozen_edges_stay_frozen, grace_holds, labels_are_in_order, ledgers_are_the_cuts, no_node_is_cut_twice, nothing_else_cuts, pinned_workers_are_safe, pins_stay_near, splices_cut_their_nodes, what_was_read_stands};
 pub use ledger::{Ledger, Ledgers, Nodes, Queue, Queued};
 pub use memory::Node;
 pub use reply::{Refused, Reply};
