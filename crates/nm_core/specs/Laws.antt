@@ -62,6 +62,11 @@ OfEachCut P s = (w a : ℕ) (side : Side) (successor parent : ℕ) (keep : Side)
 abbrev pub NothingElseCuts : State → Type 0
 NothingElseCuts s = (turn : ℕ × Event) → ((ns : List NodeId) → outcome s turn ≡ Ok (Cut ns) → ⊥) → (x : ℕ) → Reached s.memory x → Reached (next s turn).memory x
 
+-- no event but a splice answers a cut
+abbrev pub OnlySplicesAnswerCuts : State → Type 0
+OnlySplicesAnswerCuts s = (turn : ℕ × Event) (ns : List NodeId) → outcome s turn ≡ Ok (Cut ns)
+    → (a : ℕ) × (side : Side) × (successor : ℕ) × (parent : ℕ) × (keep : Side) × (turn.1 ≡ Splice a side successor parent keep)
+
 -- ---- ledgers
 
 -- one worker holds the ledger of an origin, and no other

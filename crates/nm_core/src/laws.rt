@@ -1,6 +1,6 @@
 //! Laws of all runs: each holds whatever the workers do and in whatever order, for every layout and every list of events.
 ghost use Rattle.nm_core.specs.Lawful.{BriefsAreRight, CountsAddUp, EachReadStands, EpochsAgree, FlaggedEdgesLeadToLeaves, LabelsDoNotFall, NoLabelIsAboveTheEpoch, OnlyThePinnedKnow, QueuedNodesAreFrozen, ReachIsGuarded, ReachIsShared, TaggedEdgesHaveFlaggedTwins};
-ghost use Rattle.nm_core.specs.Laws.{CutsJust, EachLedgerHasOneHolder, FreedThenQueueAreTheCuts, GoesDown, GraceHolds, IsFreedThenQueue, IsTheCuts, NamesBirths, NoNodeTwice, NothingElseCuts, OfEachCut, OfEachLedger, OfEachState, PinsStayNear, RetiredGrowsByTheCuts};
+ghost use Rattle.nm_core.specs.Laws.{CutsJust, EachLedgerHasOneHolder, FreedThenQueueAreTheCuts, GoesDown, GraceHolds, IsFreedThenQueue, IsTheCuts, NamesBirths, NoNodeTwice, NothingElseCuts, OfEachCut, OfEachLedger, OfEachState, OnlySplicesAnswerCuts, PinsStayNear, RetiredGrowsByTheCuts};
 ghost use Rattle.nm_core.specs.Places.{EachSlotInOnePlace};
 
 /// While a worker is pinned at an epoch, the global epoch is that one or the next. (The bound of Fraser's epochs.)
@@ -22,9 +22,10 @@ pub fn splices_cut_their_nodes()
     ensures births { OfEachState (OfEachCut NamesBirths) }
 {}
 
-/// No other event makes a reached node unreached.
+/// No other event makes a reached node unreached, and no event but a splice answers a cut.
 pub fn nothing_else_cuts()
-    ensures { OfEachState NothingElseCuts }
+    ensures others { OfEachState NothingElseCuts }
+    ensures splices { OfEachState OnlySplicesAnswerCuts }
 {}
 
 /// Exactly one worker holds the ledger of each origin.
