@@ -14,10 +14,12 @@ use Rattle.nm_core.specs.Paths.{Reached}
 use Rattle.nm_core.specs.Places.{slot_of}
 use Rattle.nm_core.specs.Runs.{State, of, start, after}
 use Rattle.nm_core.specs.Laws.{OfEachState}
-use Rattle.nm_core.specs.Lawful.{IsQueued, IsWaiting, CanReach, QueuedNodesAreFrozen, TaggedEdgesHaveFlaggedTwins, FlaggedEdgesLeadToLeaves, OnlyThePinnedKnow, ReachIsShared, ReachIsGuarded, EpochsAgree}
+use Rattle.nm_core.specs.declared.knowledge.Draft.{Draft}
+use Rattle.nm_core.specs.Knowledge.{draft_of}
+use Rattle.nm_core.specs.Lawful.{EachReadStands, filled_on, IsQueued, IsWaiting, CanReach, QueuedNodesAreFrozen, TaggedEdgesHaveFlaggedTwins, FlaggedEdgesLeadToLeaves, OnlyThePinnedKnow, ReachIsShared, ReachIsGuarded, EpochsAgree}
 use Rattle.nm_core.proofs.Pictures.{InReach, IsLive, nowhere_else, reached_live}
 use Rattle.nm_core.proofs.Pictures.Spot.{InPool, PrivateTo, InQueue}
-use Rattle.nm_core.proofs.Views.{picture, is_late, label_below, held_queue}
+use Rattle.nm_core.proofs.Views.{drafted_on, picture, is_late, label_below, held_queue}
 use Rattle.nm_core.proofs.Lawful.{IsLawful, lawful}
 
 leaf_of : (m : Memory) (x : ℕ) → ((f : Side) → child m x f ≡ 0) → is_leaf (node m x) ≡ true
@@ -93,7 +95,23 @@ module _ (s : State) (k : IsLawful s) where
   only_the_pinned_know : OnlyThePinnedKnow s
   only_the_pinned_know w x h = k.law.known w x h
 
+  reads_stand : EachReadStands s
+  reads_stand w = record {
+    known = k.law.tree.reads w;
+    flags = k.law.tree.flag_read w;
+    tags = k.law.tree.tag_read w;
+    nulls = k.law.tree.null_read w;
+    drafts = λ x side v is. (k.law.tree.drafts w x side v (same (draft_of (of s w) x) side ∙ is)).1;
+  }
+    where
+      same : (d : Draft) (side : Side) → drafted_on d side ≡ filled_on d side
+      same d Left = refl
+      same d Right = refl
+
 -- ---- in every run
+
+pub each_read_stands : OfEachState EachReadStands
+each_read_stands L enough turns = reads_stand (after (start L) turns) (lawful L enough turns)
 
 pub each_queue_frozen : OfEachState QueuedNodesAreFrozen
 each_queue_frozen L enough turns = queued_nodes_are_frozen (after (start L) turns) (lawful L enough turns)

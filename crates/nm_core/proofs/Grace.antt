@@ -38,7 +38,8 @@ use Rattle.nm_core.proofs.Origins.{OriginStep, ledger_at, cut_at, staffed_next}
 use Rattle.nm_core.proofs.Origins.OriginStep.{Unchanged, Relabelled, Extended, Shortened}
 use Rattle.nm_core.proofs.Retired.{retired_in, retired_step}
 use Rattle.nm_core.proofs.Turns.{LawfulTurn, lawful_turn}
-use Rattle.nm_core.proofs.Once.{IsSound, OnceLaw, get_left, get_right, sound, once_turn, sound_over}
+use Rattle.nm_core.proofs.Lists.{get_left, get_right, get_stays}
+use Rattle.nm_core.proofs.Once.{IsSound, OnceLaw, sound, once_turn, sound_over}
 
 -- ---- a pin stays until its worker leaves
 
@@ -262,11 +263,6 @@ record Since (e n o k : ℕ) (x : NodeId) (s : State) (h : ℕ → ℕ) : Type 0
   epoch : e ≤ s.memory.epoch
   guard : IsGuarded e n (ledger_at s h o)
   stands : slice_get (retired_in (ledger_at s h o)) k ≡ Some x
-
-get_stays : {X : Type 0} (xs ys : List X) (k : ℕ) (x : X) → slice_get xs k ≡ Some x → slice_get (xs ++ ys) k ≡ Some x
-get_stays [] ys k x h = absurd (none-some x h)
-get_stays (z ∷ xs) ys zero x h = h
-get_stays (z ∷ xs) ys (suc k) x h = get_stays xs ys k x h
 
 since_step : (e n o k : ℕ) (x : NodeId) (s : State) (h : ℕ → ℕ) → Lawful s h → OnceLaw s h → (t : ℕ × Event) (turn : LawfulTurn s h t) → Since e n o k x s h → Since e n o k x (next s t) turn.holder
 since_step e n o k x s h law once t turn was = record {

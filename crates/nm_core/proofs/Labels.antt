@@ -38,7 +38,8 @@ use Rattle.nm_core.proofs.Origins.{OriginStep, ledger_at}
 use Rattle.nm_core.proofs.Origins.OriginStep.{Unchanged, Relabelled, Extended, Shortened}
 use Rattle.nm_core.proofs.Retired.{fresh_at_start}
 use Rattle.nm_core.proofs.Turns.{LawfulTurn}
-use Rattle.nm_core.proofs.Once.{IsSound, OnceLaw, get_left, get_right, sound_over, sound_start}
+use Rattle.nm_core.proofs.Lists.{get_left, get_right}
+use Rattle.nm_core.proofs.Once.{IsSound, OnceLaw, sound_over, sound_start}
 use Rattle.nm_core.proofs.Grace.{epoch_grows, unlabelled_at}
 
 -- ---- one queue

@@ -1,7 +1,9 @@
+pub mod Numbers
+pub mod Lists
+pub mod Counting
 pub mod Tables
 pub mod Freeing
 pub mod QueueLabels
-pub mod Numbers
 pub mod Steps
 pub mod Sizes
 pub mod Learned
@@ -18,9 +20,9 @@ pub mod CutPaths
 pub mod Pictures
 pub mod Slots
 pub mod Readings
+pub mod Frees
 pub mod Splices
 pub mod Links
-pub mod Frees
 pub mod Views
 pub mod TreeEpochs
 pub mod TreeSlots
@@ -32,6 +34,9 @@ pub mod TreeSteps
 pub mod Opening
 pub mod Lawful
 pub mod OnePlace
+pub mod EachState
+pub mod TreeCount
+pub mod Counts
 pub mod Cuts
 pub mod Stays
 pub mod Origins
@@ -42,5 +47,4 @@ pub mod CutNodes
 pub mod Once
 pub mod Labels
 pub mod Grace
-pub mod EachState
 pub mod Reachable

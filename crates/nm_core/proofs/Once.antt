@@ -1,5 +1,5 @@
 -- No node is cut twice: what was cut has a birth below its slot's, until the slot is free again.
-use Rattle.std.proofs.Common.{◌≡◌, ℕ, zero, suc, ◌-◌, ◌<◌, ◌≤◌, ◌⊎◌, inl, inr, true, List, [], ◌∷◌, ◌++◌, length, map, refl, sym, ap, subst, ◌∙◌, arith, true≢false, length-append}
+use Rattle.std.proofs.Common.{◌≡◌, ℕ, ◌-◌, ◌<◌, ◌≤◌, ◌⊎◌, inl, inr, true, List, [], ◌∷◌, ◌++◌, length, map, refl, sym, ap, subst, ◌∙◌, arith, true≢false, length-append}
 use Rattle.std.specs.Prelude.{Option, Some, None, option_map, slice_get, is_some, Result, Ok}
 use Rattle.std.proofs.lemmas.Bool.{cases_lt, cases_order}
 use Rattle.std.proofs.lemmas.Option.{none-some, same_Some, slice_get-map}
@@ -17,6 +17,7 @@ use Rattle.nm_core.specs.Ledgers.{held, queue_of, labelled}
 use Rattle.nm_core.specs.Runs.{State, of, start, after, next, outcome, IsReachable}
 use Rattle.nm_core.specs.Places.{slot_of}
 use Rattle.nm_core.specs.Laws.{OfEachState, node_in, NoNodeTwice}
+use Rattle.nm_core.proofs.Lists.{get_left, get_right}
 use Rattle.nm_core.proofs.Changes.{IsWon}
 use Rattle.nm_core.proofs.Pins.{all_new}
 use Rattle.nm_core.proofs.Pictures.{IsLive, IsOnPath, reached_live, path_not_queued}
@@ -29,18 +30,6 @@ use Rattle.nm_core.proofs.Retired.{retired_in, Balanced, fresh_at_start, balance
 use Rattle.nm_core.proofs.Births.{word, Unborn, BornFirst}
 use Rattle.nm_core.proofs.Turns.{IsIdle, LawfulTurn, lawful_turn}
 use Rattle.nm_core.proofs.CutNodes.{cut_nodes_of}
-
--- ---- where a list is joined
-
-pub get_left : {X : Type 0} (xs ys : List X) (k : ℕ) (x : X) → k < length xs → slice_get (xs ++ ys) k ≡ Some x → slice_get xs k ≡ Some x
-get_left [] ys k x lt h = absurd (omega arith)
-get_left (z ∷ xs) ys zero x lt h = h
-get_left (z ∷ xs) ys (suc k) x lt h = get_left xs ys k x (omega arith) h
-
-pub get_right : {X : Type 0} (xs ys : List X) (k : ℕ) → length xs ≤ k → slice_get (xs ++ ys) k ≡ slice_get ys (k - length xs)
-get_right [] ys k le = let e : k ≡ k - 0 = omega arith in ap (slice_get ys) e
-get_right (z ∷ xs) ys zero le = absurd (omega arith)
-get_right (z ∷ xs) ys (suc k) le = let e : k - length xs ≡ suc k - suc (length xs) = omega arith in get_right xs ys k (omega arith) ∙ ap (slice_get ys) e
 
 -- ---- the law
 

@@ -1,6 +1,6 @@
 -- No event but a splice that is won cuts anything.
 use Rattle.std.proofs.Common.{◌≡◌, ℕ, ◌+◌, ◌<◌, ◌≤◌, eqb, Bool, true, false, cond, not, ◌||◌, ◌&&◌, List, length, refl, sym, ap, ◌∙◌, arith, true≢false}
-use Rattle.std.specs.Prelude.{Option, Some, None, is_some, unwrap_or, nat_lt, Result, Ok}
+use Rattle.std.specs.Prelude.{Option, Some, None, is_some, unwrap_or, nat_lt, Result, Ok, Err}
 use Rattle.std.proofs.lemmas.Bool.{cond_both, cond-true, eqb-true, and_parts, or_parts, not-false, false_from_ne_true}
 use Rattle.nm_edge.specs.Edges.{Edge, to, is_to, tagged}
 use Rattle.nm_edge.specs.declared.edge.Side.{Side}
@@ -11,7 +11,7 @@ use Rattle.nm_core.specs.declared.event.Field.TheVariants.{Key, Edge as EdgeOn, 
 use Rattle.nm_core.specs.declared.event.Event.{Event}
 use Rattle.nm_core.specs.declared.event.Event.TheVariants.{Sight, Announce, Leave, Scan, Advance, Claim, Give, Look, Fill, Link, Flag, Tag, Splice, Join}
 use Rattle.nm_core.specs.declared.reply.Reply.{Reply}
-use Rattle.nm_core.specs.declared.reply.Reply.TheVariants.{Linked, Cut, Lost}
+use Rattle.nm_core.specs.declared.reply.Reply.TheVariants.{Cut, Freed, Joined, Labelled, Linked, Lost}
 use Rattle.nm_core.specs.declared.reply.Refused.{Refused}
 use Rattle.nm_core.specs.declared.reply.Refused.TheVariants.{NoSlot, NotPrivate}
 use Rattle.nm_core.specs.Maps.{get, without, is_number}
@@ -21,7 +21,7 @@ use Rattle.nm_core.specs.Learning.{learn, linked as linked_in, flag_to}
 use Rattle.nm_core.specs.Paths.{follow, Reached}
 use Rattle.nm_core.specs.Step.{outside, is_edge, refusal, reply, write, filled as filled_node, kept, cut_nodes, node_linked}
 use Rattle.nm_core.specs.Runs.{State, of, start, after, next, outcome, refused, answered, unless_refused, applied, reply_of}
-use Rattle.nm_core.specs.Laws.{OfEachState, NothingElseCuts}
+use Rattle.nm_core.specs.Laws.{OnlySplicesAnswerCuts, OfEachState, NothingElseCuts}
 use Rattle.nm_core.proofs.Steps.{Allowed, allowed, passed, second}
 use Rattle.nm_core.proofs.Tables.{get-without, ascends-without}
 use Rattle.nm_core.proofs.Learned.{learn_linked}
@@ -32,7 +32,10 @@ use Rattle.nm_core.proofs.Splices.{live_on_path}
 use Rattle.nm_core.proofs.Views.{picture, view, with_worker, edge_put, queue_rows}
 use Rattle.nm_core.proofs.TreeSlots.{is_to-true, node_put_edges}
 use Rattle.nm_core.proofs.TreeSteps.{Lawful, tree_step, high_from}
-use Rattle.nm_core.proofs.Lawful.{IsLawful, lawful}
+use Rattle.nm_core.proofs.Changes.{Change, changed}
+use Rattle.nm_core.proofs.Changes.Change.{Keeps, Labels, Cuts, Frees}
+use Rattle.nm_core.proofs.Lawful.JoinOrNot.{IsJoin, IsNone}
+use Rattle.nm_core.proofs.Lawful.{JoinOrNot, join_or_not, IsLawful, lawful}
 
 same_slots : (m n : Memory) → ((x : ℕ) (d : Side) → (edge n x d).slot ≡ (edge m x d).slot) → (y : ℕ) → Reached m y → Reached n y
 same_slots m n same y r = record { path = r.path; ends = same_follow _ _ same 1 r.path ∙ r.ends; is_slot = r.is_slot }
@@ -159,3 +162,44 @@ nothing_else_cuts L enough turns t uncut y r = go (refused (after (start L) turn
         → Reached (unless_refused o (after (start L) turns) (applied (after (start L) turns) t.0 t.1)).memory y
     go None is uncut = write_stays (after (start L) turns) l.holder l.law t.0 t.1 (allowed (after (start L) turns) t.0 t.1 is) (λ ns i. uncut ns (ap (λ (q : Reply). Ok q) i)) y r
     go (Some x) is uncut = r
+
+-- ---- no other event answers a cut
+
+cut_is_splice : (s : State) (t : ℕ × Event) (ns : List NodeId) → outcome s t ≡ Ok (Cut ns) → (a : ℕ) × (side : Side) × (successor : ℕ) × (parent : ℕ) × (keep : Side) × (t.1 ≡ Splice a side successor parent keep)
+unfolding outcome
+cut_is_splice s t ns is = go (refused s t.0 t.1) refl is
+  where
+    differ : (r : Refused) → ◌≡◌ {A = Result Reply Refused} (Err r) (Ok (Cut ns)) → ⊥
+    differ r e = cc
+
+    same_reply : (r q : Reply) → ◌≡◌ {A = Result Reply Refused} (Ok r) (Ok q) → r ≡ q
+    same_reply r q e = cc
+
+    by : (k : Knowledge) → reply_of s t.0 t.1 ≡ Cut ns → Change s t.0 t.1 (reply_of s t.0 t.1) k → (a : ℕ) × (side : Side) × (successor : ℕ) × (parent : ℕ) × (keep : Side) × (t.1 ≡ Splice a side successor parent keep)
+    by k r (Keeps _ _ un _) = absurd (un ns r)
+    by k r (Labels _ _ q) = absurd (no (sym q ∙ r))
+      where
+        no : Labelled s.memory.epoch ≡ Cut ns → ⊥
+        no e = cc
+    by k r (Cuts ms _ _ q won) = (won.ancestor, won.side, won.successor, won.parent, won.keep, won.is)
+    by k r (Frees x y f _ _ _ q _) = absurd (no (sym q ∙ r))
+      where
+        no : Freed y.node ≡ Cut ns → ⊥
+        no e = cc
+
+    no_join : (v : ℕ) → t.1 ≡ Join v → reply_of s t.0 t.1 ≡ Cut ns → ⊥
+    no_join v e r = no (sym (ap (reply_of s t.0) e) ∙ r)
+      where
+        no : Joined (of s v).ledgers ≡ Cut ns → ⊥
+        no e = cc
+
+    go : (o : Option Refused) → refused s t.0 t.1 ≡ o → ◌≡◌ {A = Result Reply Refused} (answered o (reply_of s t.0 t.1)) (Ok (Cut ns)) → (a : ℕ) × (side : Side) × (successor : ℕ) × (parent : ℕ) × (keep : Side) × (t.1 ≡ Splice a side successor parent keep)
+    go (Some r) i is = absurd (differ r is)
+    go None i is = on (join_or_not t.1)
+      where
+        on : JoinOrNot t.1 → (a : ℕ) × (side : Side) × (successor : ℕ) × (parent : ℕ) × (keep : Side) × (t.1 ≡ Splice a side successor parent keep)
+        on (IsJoin v e) = absurd (no_join v e (same_reply _ _ is))
+        on (IsNone alone) = by _ (same_reply _ _ is) (changed s t.0 t.1 (allowed s t.0 t.1 i) alone).ledgers
+
+pub only_splices_answer_cuts : OfEachState OnlySplicesAnswerCuts
+only_splices_answer_cuts L enough turns t ns is = cut_is_splice (after (start L) turns) t ns is

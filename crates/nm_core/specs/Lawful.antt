@@ -1,12 +1,15 @@
 -- What every state keeps beside places and pins: labels in order, frozen edges, and what a pinned worker can come to.
-use Rattle.std.specs.Prelude.{◌≡◌, ◌≢◌, ℕ, ◌≤◌, ◌⊎◌, true, false, ◌||◌, List, Option, Some, None, slice_get, slice_index_or}
-use Rattle.nm_edge.specs.Edges.{other}
+use Rattle.std.specs.Prelude.{◌≡◌, ◌≢◌, ℕ, ◌+◌, ◌-◌, ◌≤◌, ◌⊎◌, true, false, ◌||◌, List, Option, Some, None, slice_get, slice_index_or}
+use Rattle.nm_edge.specs.Edges.{Edge, to, other}
 use Rattle.nm_edge.specs.declared.edge.Side.{Side}
+use Rattle.nm_edge.specs.declared.edge.Side.TheVariants.{Left, Right}
+use Rattle.nm_core.specs.declared.knowledge.Draft.{Draft}
 use Rattle.nm_core.specs.declared.ledger.Queued.{Queued}
 use Rattle.nm_core.specs.Memory.{node, edge, child, note, in_pool, is_leaf}
 use Rattle.nm_core.specs.Ledgers.{held, queue_of}
-use Rattle.nm_core.specs.Knowledge.{knows, is_private}
+use Rattle.nm_core.specs.Knowledge.{knows, is_private, draft_of, read}
 use Rattle.nm_core.specs.Paths.{follow, Reached}
+use Rattle.nm_core.specs.Reports.{counts}
 use Rattle.nm_core.specs.Runs.{State, of}
 
 -- ---- labels
@@ -83,3 +86,27 @@ pub record EpochsAgree (s : State) : Type 0 where
   pub pinned : (w e : ℕ) → (of s w).brief.pin ≡ Some e → (of s w).brief.note ≡ Some e
   pub sights : (w e : ℕ) → (of s w).brief.seen ≡ Some e → e ≤ s.memory.epoch
   pub scans : (w u e : ℕ) → (of s w).brief.seen ≡ Some s.memory.epoch → slice_index_or (of s w).scanned u false ≡ true → (of s u).brief.pin ≡ Some e → e ≡ s.memory.epoch
+
+-- ---- counts
+
+-- the places of all slots above 5, as a report counts them, add up
+abbrev pub CountsAddUp : State → Type 0
+CountsAddUp s = (counts s).pool + (counts s).private + (counts s).reached + (counts s).queued ≡ s.layout.nodes - 5
+
+-- ---- what a worker read stands
+
+abbrev pub filled_on : Draft → Side → Option ℕ
+filled_on d Left = d.left
+filled_on d Right = d.right
+
+-- a word that was read is of a known node; a flag that was read stands, over the same slot; a tagged edge that was read is that edge still,
+-- and a null edge null still; and a filled edge of a private slot is so
+pub record ReadsStand (s : State) (w : ℕ) : Type 0 where
+  pub known : (x : ℕ) (side : Side) (e : Edge) → read (of s w) x side ≡ Some e → knows (of s w) x ≡ true
+  pub flags : (x : ℕ) (side : Side) (e : Edge) → read (of s w) x side ≡ Some e → e.flag ≡ true → ((edge s.memory x side).flag ≡ true) × (child s.memory x side ≡ e.slot)
+  pub tags : (x : ℕ) (side : Side) (e : Edge) → read (of s w) x side ≡ Some e → e.tag ≡ true → edge s.memory x side ≡ e
+  pub nulls : (x : ℕ) (side : Side) (e : Edge) → read (of s w) x side ≡ Some e → e.slot ≡ 0 → child s.memory x side ≡ 0
+  pub drafts : (x : ℕ) (side : Side) (v : ℕ) → filled_on (draft_of (of s w) x) side ≡ Some v → edge s.memory x side ≡ to v
+
+abbrev pub EachReadStands : State → Type 0
+EachReadStands s = (w : ℕ) → ReadsStand s w

@@ -70,6 +70,11 @@ OfEachCut P s = (w a : ℕ) (side : Side) (successor parent : ℕ) (keep : Side)
 abbrev pub NothingElseCuts : State → Type 0
 NothingElseCuts s = (turn : ℕ × Event) → ((ns : List NodeId) → outcome s turn ≡ Ok (Cut ns) → ⊥) → (x : ℕ) → Reached s.memory x → Reached (next s turn).memory x
 
+-- no event but a splice answers a cut
+abbrev pub OnlySplicesAnswerCuts : State → Type 0
+OnlySplicesAnswerCuts s = (turn : ℕ × Event) (ns : List NodeId) → outcome s turn ≡ Ok (Cut ns)
+    → (a : ℕ) × (side : Side) × (successor : ℕ) × (parent : ℕ) × (keep : Side) × (turn.1 ≡ Splice a side successor parent keep)
+
 -- ---- ledgers
 
 -- one worker holds the ledger of an origin, and no other
@@ -113,6 +118,10 @@ IsTheCuts s origin l turns = l.retired ≡ cuts_of origin turns
 abbrev pub NoNodeTwice : State → Type 0
 NoNodeTwice s = (w v origin other i j : ℕ) (l m : Ledger) (n : NodeId) → held (of s w).ledgers origin ≡ Some l → held (of s v).ledgers other ≡ Some m
     → slice_get l.retired i ≡ Some n → slice_get m.retired j ≡ Some n → (origin ≡ other) × (i ≡ j)
+
+-- so its freed nodes and then its queue are the nodes that its splices cut, in cut order
+abbrev pub FreedThenQueueAreTheCuts : State → ℕ → Ledger → List Turn → Type 0
+FreedThenQueueAreTheCuts s origin l turns = l.freed ++ map node_in l.queue ≡ cuts_of origin turns
 
 -- over a run, what an origin's ledger retired grows by the nodes that its splices cut in that run, whoever holds it
 abbrev pub RetiredGrowsByTheCuts : State → Type 0

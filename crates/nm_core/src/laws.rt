@@ -1,6 +1,6 @@
 //! Laws of all runs: each holds whatever the workers do and in whatever order, for every layout and every list of events.
-ghost use Rattle.nm_core.specs.Lawful.{BriefsAreRight, EpochsAgree, FlaggedEdgesLeadToLeaves, LabelsDoNotFall, NoLabelIsAboveTheEpoch, OnlyThePinnedKnow, QueuedNodesAreFrozen, ReachIsGuarded, ReachIsShared, TaggedEdgesHaveFlaggedTwins};
-ghost use Rattle.nm_core.specs.Laws.{CutsJust, EachLedgerHasOneHolder, GoesDown, GraceHolds, IsFreedThenQueue, IsTheCuts, NamesBirths, NoNodeTwice, NothingElseCuts, OfEachCut, OfEachLedger, OfEachState, PinsStayNear, RetiredGrowsByTheCuts};
+ghost use Rattle.nm_core.specs.Lawful.{BriefsAreRight, CountsAddUp, EachReadStands, EpochsAgree, FlaggedEdgesLeadToLeaves, LabelsDoNotFall, NoLabelIsAboveTheEpoch, OnlyThePinnedKnow, QueuedNodesAreFrozen, ReachIsGuarded, ReachIsShared, TaggedEdgesHaveFlaggedTwins};
+ghost use Rattle.nm_core.specs.Laws.{CutsJust, EachLedgerHasOneHolder, FreedThenQueueAreTheCuts, GoesDown, GraceHolds, IsFreedThenQueue, IsTheCuts, NamesBirths, NoNodeTwice, NothingElseCuts, OfEachCut, OfEachLedger, OfEachState, OnlySplicesAnswerCuts, PinsStayNear, RetiredGrowsByTheCuts};
 ghost use Rattle.nm_core.specs.Laws.{StatesJoin, TracesJoin};
 ghost use Rattle.nm_core.specs.Places.{EachSlotInOnePlace};
 
@@ -23,9 +23,10 @@ pub fn splices_cut_their_nodes()
     ensures births { OfEachState (OfEachCut NamesBirths) }
 {}
 
-/// No other event makes a reached node unreached.
+/// No other event makes a reached node unreached, and no event but a splice answers a cut.
 pub fn nothing_else_cuts()
-    ensures { OfEachState NothingElseCuts }
+    ensures others { OfEachState NothingElseCuts }
+    ensures splices { OfEachState OnlySplicesAnswerCuts }
 {}
 
 /// Exactly one worker holds the ledger of each origin.
@@ -38,6 +39,7 @@ pub fn each_ledger_has_one_holder()
 pub fn ledgers_are_the_cuts()
     ensures split { OfEachLedger IsFreedThenQueue }
     ensures replies { OfEachLedger IsTheCuts }
+    ensures whole { OfEachLedger FreedThenQueueAreTheCuts }
     ensures growing { OfEachState RetiredGrowsByTheCuts }
 {}
 
@@ -85,4 +87,14 @@ pub fn epochs_agree()
 pub fn runs_can_be_split()
     ensures state { StatesJoin }
     ensures trace { TracesJoin }
+{}
+
+/// The counts of the slots in the pool, private, reached and queued add up to the nodes above slot 5.
+pub fn counts_add_up()
+    ensures { OfEachState CountsAddUp }
+{}
+
+/// What a worker read of the marks stands: a flag over its slot, a tagged edge, a null edge; and so does a filled edge of a private slot.
+pub fn what_was_read_stands()
+    ensures { OfEachState EachReadStands }
 {}

@@ -1,5 +1,8 @@
-use Rattle.nm_core.proofs.Stays.{nothing_else_cuts as every_run}
+use Rattle.nm_core.proofs.Stays.{nothing_else_cuts, only_splices_answer_cuts}
 use Rattle.nm_core.proofs.laws.nothing_else_cuts.Goals as goal
 
-pub returns : goal.returns
-returns c = every_run
+pub returns-clause-others : goal.returns-clause-others
+returns-clause-others c = nothing_else_cuts
+
+pub returns-clause-splices : goal.returns-clause-splices
+returns-clause-splices c = only_splices_answer_cuts
