@@ -6,6 +6,7 @@ use Rattle.nm_core.specs.declared.event.Event.{Event}
 use Rattle.nm_core.specs.Runs.{State, start, after, trace, next, IsReachable}
 use Rattle.nm_core.specs.Laws.{OfEachState, RetiredGrowsByTheCuts, cuts_of}
 use Rattle.nm_core.proofs.Steps.{by_steps}
+use Rattle.nm_core.proofs.Reaches.{after-append}
 use Rattle.nm_core.proofs.Lawful.{IsLawful, lawful}
 use Rattle.nm_core.proofs.Origins.{ledger_at, cut_at, Manned, the_ledger, over_runs}
 use Rattle.nm_core.proofs.Retired.{retired_in, retired_step, same_layout}
@@ -16,16 +17,11 @@ of_reachable P law s r = subst P r.leads (law s.layout (let enough = r.fits.leas
 pub layout_kept : (s : State) (ts : List (ℕ × Event)) → (after s ts).layout ≡ s.layout
 layout_kept s ts = by_steps (λ t. t.layout ≡ s.layout) (λ t w e is _. same_layout t w e ∙ is) ts s refl
 
-pub after_append : (s : State) (xs ys : List (ℕ × Event)) → after s (xs ++ ys) ≡ after (after s xs) ys
-unfolding after
-after_append s [] ys = refl
-after_append s (x ∷ xs) ys = after_append (next s x) xs ys
-
 pub reachable_after : (s : State) → IsReachable s → (ts : List (ℕ × Event)) → IsReachable (after s ts)
 reachable_after s r ts = record {
   fits = rw (layout_kept s ts) r.fits;
   events = r.events ++ ts;
-  leads = ap (λ (L : Layout). after (start L) (r.events ++ ts)) (layout_kept s ts) ∙ (after_append (start s.layout) r.events ts ∙ ap (λ (t : State). after t ts) r.leads);
+  leads = ap (λ (L : Layout). after (start L) (r.events ++ ts)) (layout_kept s ts) ∙ (after-append (start s.layout) r.events ts ∙ ap (λ (t : State). after t ts) r.leads);
 }
 
 -- ---- what was retired, over a run from any state

@@ -14,8 +14,6 @@ fresh_ledger = record { retired = []; freed = []; queue = [] }
 abbrev pub held : List (Option Ledger) → ℕ → Option Ledger
 held ls origin = slice_index_or ls origin None
 
--- ---- the queues
-
 abbrev pub queue_of : Option Ledger → List Queued
 queue_of None = []
 queue_of (Some l) = l.queue
@@ -33,8 +31,6 @@ first_of (l ∷ ls) s = or_else (entry_at (queue_of l) s) (first_of ls s)
 -- the entry of a slot: a front, where there is one
 abbrev pub entry_of : List (Option Ledger) → ℕ → Option Queued
 entry_of ls s = or_else (front_of ls s) (first_of ls s)
-
--- ---- changes
 
 -- nodes that were cut enter the queue without a label
 abbrev pub with_cut : List NodeId → Ledger → Ledger

@@ -15,8 +15,6 @@ pub record Memory : Type 0 where
   pub nodes : List Node
   pub pool : List Bool
 
--- ---- reading
-
 -- a slot that was never put to use, or is none
 abbrev pub blank : Node
 blank = record { key = 0; left = to 0; right = to 0; birth = 0 }
@@ -50,8 +48,6 @@ in_pool m s = slice_index_or m.pool s false
 abbrev pub named : Memory → ℕ → NodeId
 named m s = record { slot = s; birth = (node m s).birth }
 
--- ---- writing one word
-
 abbrev pub put_node : Memory → ℕ → Node → Memory
 put_node m s n = record m { nodes = slice_set m.nodes s n }
 
@@ -61,8 +57,6 @@ with_edge n Right e = record n { right = e }
 
 abbrev pub put_edge : Memory → ℕ → Side → Edge → Memory
 put_edge m s side e = put_node m s (with_edge (node m s) side e)
-
--- ---- the opening
 
 abbrev pub infinity_0 : ℕ
 infinity_0 = 2 ^ 64 - 3
