@@ -40,4 +40,5 @@ pub mod CutNodes
 pub mod Once
 pub mod Grace
 pub mod Labels
+pub mod KnownBirths
 pub mod Reachable
