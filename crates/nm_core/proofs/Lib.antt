@@ -47,4 +47,5 @@ pub mod CutNodes
 pub mod Once
 pub mod Labels
 pub mod Grace
+pub mod KnownBirths
 pub mod Reachable

@@ -7,7 +7,7 @@ use Rattle.nm_core.specs.declared.knowledge.Draft.{Draft}
 use Rattle.nm_core.specs.declared.ledger.Queued.{Queued}
 use Rattle.nm_core.specs.Memory.{node, edge, child, note, in_pool, is_leaf}
 use Rattle.nm_core.specs.Ledgers.{held, queue_of}
-use Rattle.nm_core.specs.Knowledge.{knows, is_private, draft_of, read}
+use Rattle.nm_core.specs.Knowledge.{knows, is_private, seen_of, draft_of, read}
 use Rattle.nm_core.specs.Paths.{follow, Reached}
 use Rattle.nm_core.specs.Reports.{counts}
 use Rattle.nm_core.specs.Runs.{State, of}
@@ -110,3 +110,13 @@ pub record ReadsStand (s : State) (w : ℕ) : Type 0 where
 
 abbrev pub EachReadStands : State → Type 0
 EachReadStands s = (w : ℕ) → ReadsStand s w
+
+-- a birth that was read or looked at, and the birth and the key of a private slot that were stored, stand in memory
+pub record BirthsStand (s : State) (w : ℕ) : Type 0 where
+  pub seen : (x b : ℕ) → (seen_of (of s w) x).birth ≡ Some b → (node s.memory x).birth ≡ b
+  pub looked : (x b : ℕ) → (draft_of (of s w) x).looked ≡ Some b → (node s.memory x).birth ≡ b
+  pub stored : (x b : ℕ) → (draft_of (of s w) x).birth ≡ Some b → (node s.memory x).birth ≡ b
+  pub key : (x v : ℕ) → (draft_of (of s w) x).key ≡ Some v → (node s.memory x).key ≡ v
+
+abbrev pub EachBirthStands : State → Type 0
+EachBirthStands s = (w : ℕ) → BirthsStand s w

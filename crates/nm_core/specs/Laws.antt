@@ -114,14 +114,14 @@ cuts_of w (t ∷ ts) = (if t.worker == w then nodes_cut_of t.outcome else []) ++
 abbrev pub IsTheCuts : State → ℕ → Ledger → List Turn → Type 0
 IsTheCuts s origin l turns = l.retired ≡ cuts_of origin turns
 
+-- so its freed nodes and then its queue are the nodes that its splices cut, in cut order
+abbrev pub FreedThenQueueAreTheCuts : State → ℕ → Ledger → List Turn → Type 0
+FreedThenQueueAreTheCuts s origin l turns = l.freed ++ map node_in l.queue ≡ cuts_of origin turns
+
 -- no node, a slot with its birth, stands twice over the retired nodes of all ledgers
 abbrev pub NoNodeTwice : State → Type 0
 NoNodeTwice s = (w v origin other i j : ℕ) (l m : Ledger) (n : NodeId) → held (of s w).ledgers origin ≡ Some l → held (of s v).ledgers other ≡ Some m
     → slice_get l.retired i ≡ Some n → slice_get m.retired j ≡ Some n → (origin ≡ other) × (i ≡ j)
-
--- so its freed nodes and then its queue are the nodes that its splices cut, in cut order
-abbrev pub FreedThenQueueAreTheCuts : State → ℕ → Ledger → List Turn → Type 0
-FreedThenQueueAreTheCuts s origin l turns = l.freed ++ map node_in l.queue ≡ cuts_of origin turns
 
 -- over a run, what an origin's ledger retired grows by the nodes that its splices cut in that run, whoever holds it
 abbrev pub RetiredGrowsByTheCuts : State → Type 0

@@ -1,5 +1,5 @@
-//! Laws of all runs: each holds whatever the workers do and in whatever order, for every layout and every list of events.
-ghost use Rattle.nm_core.specs.Lawful.{BriefsAreRight, CountsAddUp, EachReadStands, EpochsAgree, FlaggedEdgesLeadToLeaves, LabelsDoNotFall, NoLabelIsAboveTheEpoch, OnlyThePinnedKnow, QueuedNodesAreFrozen, ReachIsGuarded, ReachIsShared, TaggedEdgesHaveFlaggedTwins};
+//! Laws of all runs: each holds whatever the workers do and in whatever order, for every layout of at least 5 nodes and every list of events.
+ghost use Rattle.nm_core.specs.Lawful.{BriefsAreRight, CountsAddUp, EachBirthStands, EachReadStands, EpochsAgree, FlaggedEdgesLeadToLeaves, LabelsDoNotFall, NoLabelIsAboveTheEpoch, OnlyThePinnedKnow, QueuedNodesAreFrozen, ReachIsGuarded, ReachIsShared, TaggedEdgesHaveFlaggedTwins};
 ghost use Rattle.nm_core.specs.Laws.{CutsJust, EachLedgerHasOneHolder, FreedThenQueueAreTheCuts, GoesDown, GraceHolds, IsFreedThenQueue, IsTheCuts, NamesBirths, NoNodeTwice, NothingElseCuts, OfEachCut, OfEachLedger, OfEachState, OnlySplicesAnswerCuts, PinsStayNear, RetiredGrowsByTheCuts};
 ghost use Rattle.nm_core.specs.Laws.{StatesJoin, TracesJoin};
 ghost use Rattle.nm_core.specs.Places.{EachSlotInOnePlace};
@@ -94,7 +94,9 @@ pub fn counts_add_up()
     ensures { OfEachState CountsAddUp }
 {}
 
-/// What a worker read of the marks stands: a flag over its slot, a tagged edge, a null edge; and so does a filled edge of a private slot.
+/// What a worker knows of words that do not change stands: a flag that it read over its slot, a tagged edge, a null edge, and a birth;
+/// and so do the edges, the birth and the key that it stored in a private slot.
 pub fn what_was_read_stands()
-    ensures { OfEachState EachReadStands }
+    ensures marks { OfEachState EachReadStands }
+    ensures births { OfEachState EachBirthStands }
 {}
