@@ -1,11 +1,13 @@
-//! What the words of the tree hold: edges, the two sides of a node, nodes by slot and birth, and the sizes of a tree.
+//! What the words of the tree hold: keys, edges, the two sides of a node, nodes by slot and birth, and the sizes of a tree.
 #![tactic(auto)]
 
 mod edge;
+mod key;
 mod layout;
 mod node;
 
 pub use edge::{Edge, Side};
+pub use key::{Key, MOST_KEY};
 pub use layout::{LEAST_NODES, Layout, LayoutError, MOST_NODES, MOST_WORKERS};
 pub use node::NodeId;
 

@@ -27,3 +27,15 @@ fn layouts_have_their_limits(rt: HostRuntime) {
     assert_eq!(rt; Layout::new(7, 64).map(Layout::nodes), Ok(7));
     assert_eq!(rt; Layout::new(7, 64).map(Layout::workers), Ok(64));
 }
+
+#[test]
+fn keys_have_a_limit(rt: HostRuntime) {
+    assert_eq!(rt;
+        Key::new(18_446_744_073_709_551_612).map(Key::get),
+        Some(18_446_744_073_709_551_612)
+    );
+    assert_eq!(rt; Key::new(0).map(Key::get), Some(0));
+    assert!(rt; Key::new(18_446_744_073_709_551_613).is_none());
+    assert!(rt; Key::new(u64::MAX).is_none());
+    assert!(rt; Key::new(9) < Key::new(10));
+}
