@@ -3,11 +3,13 @@
 
 mod edge;
 mod key;
+mod laws;
 mod layout;
 mod node;
 
 pub use edge::{Edge, Side};
 pub use key::{Key, MOST_KEY};
+pub use laws::{packing_gives_the_word, unpacking_gives_the_edge};
 pub use layout::{LEAST_NODES, Layout, LayoutError, MOST_NODES, MOST_WORKERS};
 pub use node::NodeId;
 

@@ -19,6 +19,29 @@ fn marks_are_set_and_taken(rt: HostRuntime) {
 }
 
 #[test]
+fn edges_are_words(rt: HostRuntime) {
+    assert_eq!(rt; Edge::to(9).pack(), 36);
+    assert_eq!(rt; Edge::to(9).flagged().pack(), 37);
+    assert_eq!(rt; Edge::to(9).tagged().pack(), 38);
+    assert_eq!(rt;
+        Edge::to(u32::MAX).flagged().tagged().pack(),
+        17_179_869_183
+    );
+    assert_eq!(rt; Edge::unpack(37), Some(Edge::to(9).flagged()));
+    assert_eq!(rt; Edge::unpack(0), Some(Edge::to(0)));
+    assert_eq!(rt;
+        Edge::unpack(17_179_869_183),
+        Some(Edge::to(u32::MAX).flagged().tagged())
+    );
+    assert!(rt; Edge::unpack(1).is_none());
+    assert!(rt; Edge::unpack(2).is_none());
+    assert!(rt; Edge::unpack(3).is_none());
+    assert!(rt; Edge::unpack(17_179_869_184).is_none());
+    unpacking_gives_the_edge();
+    packing_gives_the_word();
+}
+
+#[test]
 fn layouts_have_their_limits(rt: HostRuntime) {
     assert_eq!(rt; Layout::new(6, 65), Err(LayoutError::Nodes));
     assert_eq!(rt; Layout::new(1_048_577, 65), Err(LayoutError::Nodes));
