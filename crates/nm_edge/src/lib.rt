@@ -9,8 +9,10 @@ mod node;
 
 pub use edge::{Edge, Side};
 pub use key::{Key, MOST_KEY};
-pub use laws::{packing_gives_the_word, unpacking_gives_the_edge};
-pub use layout::{LEAST_NODES, Layout, LayoutError, MOST_NODES, MOST_WORKERS};
+pub use laws::{
+    fields_are_apart, packing_gives_the_word, pool_places_are_apart, unpacking_gives_the_edge,
+};
+pub use layout::{LEAST_NODES, Layout, LayoutError, MOST_NODES, MOST_WORKERS, PoolPlace};
 pub use node::NodeId;
 
 #[cfg(test)]
