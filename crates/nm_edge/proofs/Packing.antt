@@ -1,7 +1,7 @@
 -- An edge and its word: each gives the other.
-use Rattle.std.proofs.Common.{◌≡◌, ℕ, zero, suc, ◌+◌, ◌*◌, ◌/◌, ◌%◌, ◌^◌, ◌<◌, ◌==◌, Bool, true, false, if◌then◌else◌, Option, Some, None, IfSome, refl, ◌∙◌, arith}
+use Rattle.std.proofs.Common.{◌≡◌, ℕ, zero, suc, ◌*◌, ◌/◌, ◌%◌, ◌^◌, ◌<◌, ◌==◌, Bool, true, false, if◌then◌else◌, Some, None, IfSome, arith}
 use Rattle.std.proofs.lemmas.Bool.Decides.{nat_tests}
-use Rattle.nm_edge.specs.Edges.{Edge, IsEdge, UnpackingGivesTheEdge, PackingGivesTheWord, edge_in, is_word, unpacked, word_of}
+use Rattle.nm_edge.specs.Edges.{UnpackingGivesTheEdge, PackingGivesTheWord, edge_in, is_word, word_of}
 
 record Parts (s : ℕ) (f t : Bool) (w : ℕ) : Type 0 where
   pub slot : w / 4 ≡ s

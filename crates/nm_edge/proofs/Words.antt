@@ -1,25 +1,22 @@
 -- The words of a tree: different fields have different words, and different slots different bits.
-use Rattle.std.proofs.Common.{◌≡◌, ◌≢◌, ℕ, ◌+◌, ◌-◌, ◌*◌, ◌/◌, ◌%◌, ◌^◌, ◌<◌, ◌≤◌, refl, ap, sym, ◌∙◌, arith}
-use Rattle.std.specs.Prelude.{bit_and}
+use Rattle.std.proofs.Common.{◌≡◌, ℕ, ◌+◌, ◌-◌, ◌/◌, ◌%◌, ◌^◌, ◌≤◌, refl, ap, arith}
 use Rattle.std.proofs.lemmas.Nat.{pow_apart, pow_below}
-use Rattle.nm_edge.specs.declared.edge.Side.{Side}
 use Rattle.nm_edge.specs.declared.edge.Side.TheVariants.{Left, Right}
-use Rattle.nm_edge.specs.Layouts.{Layout}
-use Rattle.nm_edge.specs.Words.{Field, at_epoch, at_note, at_key, at_edge, at_birth, at_row, IsSlot, IsField, word, words, pool_place, FieldsAreApart, FieldsAreWithin, PoolMasksAreApart, PoolPlacesAreApart, PoolPlacesAreRows}
+use Rattle.nm_edge.specs.Words.{at_epoch, at_note, at_key, at_edge, at_birth, at_row, FieldsAreApart, FieldsAreWithin, PoolMasksAreApart, PoolPlacesAreApart, PoolPlacesAreRows}
 
 pub fields_apart : FieldsAreApart
 fields_apart L at_epoch at_epoch f g e = refl
 fields_apart L (at_note v) (at_note w) f g e = ap at_note (omega (arith, e))
-fields_apart L (at_key s) (at_key t) f g e = ap at_key (omega (arith, e, f.0, g.0))
+fields_apart L (at_key s) (at_key t) f g e = ap at_key (omega (arith, e))
 fields_apart L (at_edge s Left) (at_edge t Left) f g e = ap (λ (n : ℕ). at_edge n Left) (omega (arith, e, f.0, g.0))
 fields_apart L (at_edge s Right) (at_edge t Right) f g e = ap (λ (n : ℕ). at_edge n Right) (omega (arith, e, f.0, g.0))
 fields_apart L (at_birth s) (at_birth t) f g e = ap at_birth (omega (arith, e, f.0, g.0))
 fields_apart L (at_row q) (at_row r) f g e = ap at_row (omega (arith, e))
-fields_apart L (at_edge s Left) _ f g e = absurd (omega (arith, e, f, g))
-fields_apart L (at_edge s Right) _ f g e = absurd (omega (arith, e, f, g))
-fields_apart L _ (at_edge t Left) f g e = absurd (omega (arith, e, f, g))
-fields_apart L _ (at_edge t Right) f g e = absurd (omega (arith, e, f, g))
-fields_apart L _ _ f g e = absurd (omega (arith, e, f, g))
+fields_apart L (at_edge s Left) _ f g e = absurd (omega (arith, e))
+fields_apart L (at_edge s Right) _ f g e = absurd (omega (arith, e))
+fields_apart L _ (at_edge t Left) f g e = absurd (omega (arith, e))
+fields_apart L _ (at_edge t Right) f g e = absurd (omega (arith, e))
+fields_apart L _ _ f g e = absurd (omega (arith, e))
 
 pub fields_within : FieldsAreWithin
 fields_within L at_epoch f = omega arith

@@ -3,7 +3,7 @@ use Rattle.std.specs.Prelude.{◌≡◌, ◌≢◌, ℕ, ◌+◌, ◌-◌, ◌*�
 use Rattle.nm_edge.specs.declared.edge.Side.{Side}
 use Rattle.nm_edge.specs.declared.edge.Side.TheVariants.{Left, Right}
 use Rattle.nm_edge.specs.declared.layout.PoolPlace.{PoolPlace}
-use Rattle.nm_edge.specs.Layouts.{Layout, IsLayout}
+use Rattle.nm_edge.specs.Layouts.{Layout}
 
 -- the fields of a tree, a word each: the epoch; a worker's note; of each slot its key, two edges and birth;
 -- and the rows of the pool, of 64 slots each

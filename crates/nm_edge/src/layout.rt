@@ -1,7 +1,7 @@
 //! The sizes of a tree.
 ghost use Rattle.std.specs.Prelude.{◌≡◌, ◌<◌, ◌⊎◌, ◌↔◌, IfOk, IfErr, IsErrOf};
 ghost use Rattle.nm_edge.specs.Layouts.{IsLayout};
-ghost use Rattle.nm_edge.specs.Words.{IsSlot, at_birth, at_edge, at_epoch, at_key, at_note, pool_place, pool_word, slot_word, word, words};
+ghost use Rattle.nm_edge.specs.Words.{IsSlot, at_birth, at_edge, at_epoch, at_key, at_note, pool_place, pool_word, word, words};
 
 use crate::edge::Side;
 use std::marker::Model;
@@ -35,6 +35,9 @@ impl Model for Layout {
 
     ghost invariant = { λ l. IsLayout (record { nodes = l.nodes; workers = l.workers }) };
 }
+
+/// The number of the epoch's word.
+const EPOCH_WORD: u32 = 0;
 
 /// How many slots one word of the pool tells of, a bit each.
 const SLOTS_OF_A_ROW: u32 = 64;
@@ -108,7 +111,7 @@ impl Layout {
     pub fn epoch(self) -> u32
         ensures { result ≡ word self at_epoch }
     {
-        0
+        EPOCH_WORD
     }
 
     /// The number of the word of a worker's note. Workers are numbered from 0.
@@ -119,12 +122,13 @@ impl Layout {
         1 + worker
     }
 
-    /// The number of the word of a slot's key.
+    /// The number of the word of a slot's key, the first of its four. Slots are numbered from 1.
     pub fn key(self, slot: u32) -> u32
         requires { IsSlot self slot }
-        ensures { result ≡ word self (at_key slot) }
+        ensures word { result ≡ word self (at_key slot) }
+        ensures fits { IsLayout self }
     {
-        self.slot_word(slot)
+        1 + self.workers + WORDS_OF_A_NODE * (slot - 1)
     }
 
     /// The number of the word of a slot's edge at that side.
@@ -133,8 +137,8 @@ impl Layout {
         ensures { result ≡ word self (at_edge slot side) }
     {
         match side {
-            Side::Left => self.slot_word(slot) + 1,
-            Side::Right => self.slot_word(slot) + 2,
+            Side::Left => self.key(slot) + 1,
+            Side::Right => self.key(slot) + 2,
         }
     }
 
@@ -143,7 +147,7 @@ impl Layout {
         requires { IsSlot self slot }
         ensures { result ≡ word self (at_birth slot) }
     {
-        self.slot_word(slot) + 3
+        self.key(slot) + 3
     }
 
     /// The place of a slot in the pool.
@@ -155,15 +159,6 @@ impl Layout {
             word: self.pool_word() + (slot - 1) / SLOTS_OF_A_ROW,
             mask: 1 << ((slot - 1) % SLOTS_OF_A_ROW),
         }
-    }
-
-    /// The number of the first of a slot's four words.
-    fn slot_word(self, slot: u32) -> u32
-        requires { IsSlot self slot }
-        ensures word { result ≡ slot_word self slot }
-        ensures fits { IsLayout self }
-    {
-        1 + self.workers + WORDS_OF_A_NODE * (slot - 1)
     }
 
     /// The number of the first word of the pool.

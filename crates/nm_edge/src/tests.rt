@@ -62,3 +62,58 @@ fn keys_have_a_limit(rt: HostRuntime) {
     assert!(rt; Key::new(u64::MAX).is_none());
     assert!(rt; Key::new(9) < Key::new(10));
 }
+
+#[test]
+fn fields_have_words(rt: HostRuntime) {
+    let Ok(layout) = Layout::new(135, 2) else {
+        unreachable!()
+    };
+    assert_eq!(rt; layout.words(), 546);
+    assert_eq!(rt; layout.epoch(), 0);
+    assert_eq!(rt; (layout.note(0), layout.note(1)), (1, 2));
+    assert_eq!(rt; (layout.key(1), layout.birth(1)), (3, 6));
+    assert_eq!(rt;
+        (layout.edge(1, Side::Left), layout.edge(1, Side::Right)),
+        (4, 5)
+    );
+    assert_eq!(rt; (layout.key(135), layout.birth(135)), (539, 542));
+    fields_are_apart();
+}
+
+#[test]
+fn slots_have_places_in_the_pool(rt: HostRuntime) {
+    let Ok(layout) = Layout::new(135, 2) else {
+        unreachable!()
+    };
+    assert_eq!(rt;
+        layout.pool(6),
+        PoolPlace {
+            word: 543,
+            mask: 32
+        }
+    );
+    assert_eq!(rt;
+        layout.pool(64),
+        PoolPlace {
+            word: 543,
+            mask: 9_223_372_036_854_775_808
+        }
+    );
+    assert_eq!(rt; layout.pool(65), PoolPlace { word: 544, mask: 1 });
+    assert_eq!(rt;
+        layout.pool(135),
+        PoolPlace {
+            word: 545,
+            mask: 64
+        }
+    );
+    pool_places_are_apart();
+}
+
+#[test]
+fn the_largest_layout_has_its_words(rt: HostRuntime) {
+    assert_eq!(rt;
+        Layout::new(1_048_576, 64).map(Layout::words),
+        Ok(4_210_753)
+    );
+}
