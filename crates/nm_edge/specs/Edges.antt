@@ -1,5 +1,5 @@
 -- Edges and sides.
-use Rattle.std.specs.Prelude.{◌≡◌, ℕ, ◌+◌, ◌*◌, ◌==◌, Bool, true, false, ◌&&◌, not, if◌then◌else◌}
+use Rattle.std.specs.Prelude.{◌≡◌, ℕ, ◌+◌, ◌*◌, ◌/◌, ◌%◌, ◌^◌, ◌<◌, ◌==◌, nat_lt, nat_le, Bool, false, ◌&&◌, ◌||◌, not, if◌then◌else◌, Option, Some, None, IfSome}
 use Rattle.nm_edge.specs.declared.edge.Side.{Side}
 use Rattle.nm_edge.specs.declared.edge.Side.TheVariants.{Left, Right}
 
@@ -36,3 +36,22 @@ untagged e = record { slot = e.slot; flag = e.flag; tag = false }
 abbrev pub other : Side → Side
 other Left = Right
 other Right = Left
+
+-- the edge in a word
+abbrev pub edge_in : ℕ → Edge
+edge_in w = record { slot = w / 4; flag = w % 2 == 1; tag = w / 2 % 2 == 1 }
+
+-- words of edges: their slots are below 2^32, and a null edge has no mark
+abbrev pub is_word : ℕ → Bool
+is_word w = nat_lt (w / 4) (2 ^ 32) && ((w == 0) || nat_le 4 w)
+
+abbrev pub unpacked : ℕ → Option Edge
+unpacked w = if is_word w then Some (edge_in w) else None
+
+-- an edge that is packed is found again
+abbrev pub UnpackingGivesTheEdge : Type 0
+UnpackingGivesTheEdge = (e : Edge) → IsEdge e → e.slot < 2 ^ 32 → unpacked (word_of e) ≡ Some e
+
+-- what a word gives has that word
+abbrev pub PackingGivesTheWord : Type 0
+PackingGivesTheWord = (w : ℕ) → IfSome (unpacked w) (λ e. word_of e ≡ w)

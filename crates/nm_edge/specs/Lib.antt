@@ -1,2 +1,4 @@
 pub mod Edges
+pub mod Keys
 pub mod Layouts
+pub mod Words

@@ -1,6 +1,6 @@
 //! Edges: where a node's child stands, and the two marks that freeze an edge.
-ghost use Rattle.std.specs.Prelude.{◌≡◌, ◌≢◌, ◌⊎◌, ◌↔◌, IfSome, IsNone, true};
-ghost use Rattle.nm_edge.specs.Edges.{to, is_to, other, tagged, untagged};
+ghost use Rattle.std.specs.Prelude.{◌≡◌, ◌≢◌, ◌/◌, ◌^◌, ◌<◌, ◌≤◌, ◌⊎◌, ◌↔◌, IfSome, IsNone, true};
+ghost use Rattle.nm_edge.specs.Edges.{IsEdge, to, is_to, other, tagged, unpacked, untagged, word_of};
 
 use std::marker::Model;
 
@@ -122,6 +122,24 @@ impl Edge {
             flag,
             tag: false,
         }
+    }
+
+    /// The word of the edge, below 2^34: four times its slot, 2 for its tag and 1 for its flag.
+    pub fn pack(self) -> u64
+        ensures { result ≡ word_of self }
+    {
+        let Edge { slot, flag, tag } = self;
+        4 * u64::from(slot) + 2 * u64::from(tag) + u64::from(flag)
+    }
+
+    /// The edge of a word; `None` exactly where the slot would be above 2^32 - 1, or a null edge would have a mark.
+    pub fn unpack(word: u64) -> Option<Edge>
+        ensures edge { result ≡ unpacked word }
+        ensures fits { IfSome result IsEdge }
+        ensures none { IsNone result ↔ ((2 ^ 32 ≤ word / 4) ⊎ ((word ≡ 1) ⊎ (word ≡ 2) ⊎ (word ≡ 3))) }
+    {
+        let slot = u32::try_from(word / 4).ok()?;
+        Edge::new(slot, word % 2 == 1, word / 2 % 2 == 1)
     }
 }
 

@@ -1,7 +1,9 @@
 //! The sizes of a tree.
 ghost use Rattle.std.specs.Prelude.{◌≡◌, ◌<◌, ◌⊎◌, ◌↔◌, IfOk, IfErr, IsErrOf};
 ghost use Rattle.nm_edge.specs.Layouts.{IsLayout};
+ghost use Rattle.nm_edge.specs.Words.{IsSlot, at_birth, at_edge, at_epoch, at_key, at_note, pool_place, pool_word, word, words};
 
+use crate::edge::Side;
 use std::marker::Model;
 use thiserror::Error;
 
@@ -32,6 +34,24 @@ impl Model for Layout {
     ghost inverse = { λ l. record { nodes = l.nodes; workers = l.workers } };
 
     ghost invariant = { λ l. IsLayout (record { nodes = l.nodes; workers = l.workers }) };
+}
+
+/// The number of the epoch's word.
+const EPOCH_WORD: u32 = 0;
+
+/// How many slots one word of the pool tells of, a bit each.
+const SLOTS_OF_A_ROW: u32 = 64;
+
+/// How many words a node has: its key, its left and right edge, and its birth.
+const WORDS_OF_A_NODE: u32 = 4;
+
+/// The place of a slot in the pool: one bit of one word.
+#[derive(Clone, Copy, Debug, PartialEq, Eq)]
+pub struct PoolPlace {
+    /// The number of the word.
+    pub word: u32,
+    /// The word with this bit alone: a power of two.
+    pub mask: u64,
 }
 
 /// Why there is no such layout. Where both hold, `Nodes` is answered.
@@ -78,5 +98,74 @@ impl Layout {
     {
         let Layout { workers, .. } = self;
         workers
+    }
+
+    /// How many words there are: one for the epoch, one a worker, four a node, and one for each 64 slots of the pool, in this order.
+    pub fn words(self) -> u32
+        ensures { result ≡ words self }
+    {
+        self.pool_word() + self.nodes.div_ceil(SLOTS_OF_A_ROW)
+    }
+
+    /// The number of the epoch's word, 0.
+    pub fn epoch(self) -> u32
+        ensures { result ≡ word self at_epoch }
+    {
+        EPOCH_WORD
+    }
+
+    /// The number of the word of a worker's note. Workers are numbered from 0.
+    pub fn note(self, worker: u32) -> u32
+        requires { worker < self.workers }
+        ensures { result ≡ word self (at_note worker) }
+    {
+        1 + worker
+    }
+
+    /// The number of the word of a slot's key, the first of its four. Slots are numbered from 1.
+    pub fn key(self, slot: u32) -> u32
+        requires { IsSlot self slot }
+        ensures word { result ≡ word self (at_key slot) }
+        ensures fits { IsLayout self }
+    {
+        1 + self.workers + WORDS_OF_A_NODE * (slot - 1)
+    }
+
+    /// The number of the word of a slot's edge at that side.
+    pub fn edge(self, slot: u32, side: Side) -> u32
+        requires { IsSlot self slot }
+        ensures { result ≡ word self (at_edge slot side) }
+    {
+        match side {
+            Side::Left => self.key(slot) + 1,
+            Side::Right => self.key(slot) + 2,
+        }
+    }
+
+    /// The number of the word of a slot's birth.
+    pub fn birth(self, slot: u32) -> u32
+        requires { IsSlot self slot }
+        ensures { result ≡ word self (at_birth slot) }
+    {
+        self.key(slot) + 3
+    }
+
+    /// The place of a slot in the pool.
+    pub fn pool(self, slot: u32) -> PoolPlace
+        requires { IsSlot self slot }
+        ensures { result ≡ pool_place self slot }
+    {
+        PoolPlace {
+            word: self.pool_word() + (slot - 1) / SLOTS_OF_A_ROW,
+            mask: 1 << ((slot - 1) % SLOTS_OF_A_ROW),
+        }
+    }
+
+    /// The number of the first word of the pool.
+    fn pool_word(self) -> u32
+        ensures word { result ≡ pool_word self }
+        ensures fits { IsLayout self }
+    {
+        1 + self.workers + WORDS_OF_A_NODE * self.nodes
     }
 }

@@ -1,0 +1,46 @@
+-- The words of a tree: different fields have different words, and different slots different bits.
+use Rattle.std.proofs.Common.{◌≡◌, ℕ, ◌+◌, ◌-◌, ◌/◌, ◌%◌, ◌^◌, ◌≤◌, refl, ap, arith}
+use Rattle.std.proofs.lemmas.Nat.{pow_apart, pow_below}
+use Rattle.nm_edge.specs.declared.edge.Side.TheVariants.{Left, Right}
+use Rattle.nm_edge.specs.Words.{at_epoch, at_note, at_key, at_edge, at_birth, at_row, FieldsAreApart, FieldsAreWithin, PoolMasksAreApart, PoolPlacesAreApart, PoolPlacesAreRows}
+
+pub fields_apart : FieldsAreApart
+fields_apart L at_epoch at_epoch f g e = refl
+fields_apart L (at_note v) (at_note w) f g e = ap at_note (omega (arith, e))
+fields_apart L (at_key s) (at_key t) f g e = ap at_key (omega (arith, e))
+fields_apart L (at_edge s Left) (at_edge t Left) f g e = ap (λ (n : ℕ). at_edge n Left) (omega (arith, e, f.0, g.0))
+fields_apart L (at_edge s Right) (at_edge t Right) f g e = ap (λ (n : ℕ). at_edge n Right) (omega (arith, e, f.0, g.0))
+fields_apart L (at_birth s) (at_birth t) f g e = ap at_birth (omega (arith, e, f.0, g.0))
+fields_apart L (at_row q) (at_row r) f g e = ap at_row (omega (arith, e))
+fields_apart L (at_edge s Left) _ f g e = absurd (omega (arith, e))
+fields_apart L (at_edge s Right) _ f g e = absurd (omega (arith, e))
+fields_apart L _ (at_edge t Left) f g e = absurd (omega (arith, e))
+fields_apart L _ (at_edge t Right) f g e = absurd (omega (arith, e))
+fields_apart L _ _ f g e = absurd (omega (arith, e))
+
+pub fields_within : FieldsAreWithin
+fields_within L at_epoch f = omega arith
+fields_within L (at_note w) f = omega (arith, f)
+fields_within L (at_key s) f = omega (arith, f.0, f.1)
+fields_within L (at_edge s Left) f = omega (arith, f.0, f.1)
+fields_within L (at_edge s Right) f = omega (arith, f.0, f.1)
+fields_within L (at_birth s) f = omega (arith, f.0, f.1)
+fields_within L (at_row r) f = omega (arith, f)
+
+pub places_are_rows : PoolPlacesAreRows
+places_are_rows L s h = omega (arith, h.0, h.1)
+
+-- slots of one row have different bits
+bits_apart : (b s t : ℕ) → 1 ≤ s → 1 ≤ t → b + (s - 1) / 64 ≡ b + (t - 1) / 64 → (s - 1) % 64 ≡ (t - 1) % 64 → s ≡ t
+bits_apart b s t hs ht row bit = omega (arith, row, bit)
+
+pub masks_apart : PoolMasksAreApart
+masks_apart L s t hs ht apart row =
+    pow_apart ((s - 1) % 64) ((t - 1) % 64) (λ same. apart (bits_apart _ s t hs.0 ht.0 row same))
+
+powers_apart : (i j : ℕ) → 2 ^ i ≡ 2 ^ j → i ≡ j
+powers_apart i j e = grind (arith, pow_below, e)
+
+pub places_apart : PoolPlacesAreApart
+places_apart L s t hs ht e =
+    bits_apart _ s t hs.0 ht.0 (λ i. (e i).word) (powers_apart _ _ (λ i. (e i).mask))

@@ -1,0 +1,79 @@
+-- The words of a tree: the number of each field's word, and the place of each slot in the pool.
+use Rattle.std.specs.Prelude.{◌≡◌, ◌≢◌, ℕ, ◌+◌, ◌-◌, ◌*◌, ◌/◌, ◌%◌, ◌^◌, ◌<◌, ◌≤◌, bit_and, ⊤}
+use Rattle.nm_edge.specs.declared.edge.Side.{Side}
+use Rattle.nm_edge.specs.declared.edge.Side.TheVariants.{Left, Right}
+use Rattle.nm_edge.specs.declared.layout.PoolPlace.{PoolPlace}
+use Rattle.nm_edge.specs.Layouts.{Layout}
+
+-- the fields of a tree, a word each: the epoch; a worker's note; of each slot its key, two edges and birth;
+-- and the rows of the pool, of 64 slots each
+pub data Field : Type 0 where
+  at_epoch : Field
+  at_note : ℕ → Field
+  at_key : ℕ → Field
+  at_edge : ℕ → Side → Field
+  at_birth : ℕ → Field
+  at_row : ℕ → Field
+
+-- slots are numbered from 1
+abbrev pub IsSlot : Layout → ℕ → Type 0
+IsSlot L s = (1 ≤ s) × (s ≤ L.nodes)
+
+-- how many rows the pool has
+abbrev pub rows : Layout → ℕ
+rows L = (L.nodes + 63) / 64
+
+-- workers are numbered from 0, and so are rows
+abbrev pub IsField : Layout → Field → Type 0
+IsField L at_epoch = ⊤
+IsField L (at_note w) = w < L.workers
+IsField L (at_key s) = IsSlot L s
+IsField L (at_edge s _) = IsSlot L s
+IsField L (at_birth s) = IsSlot L s
+IsField L (at_row r) = r < rows L
+
+-- the first word of a slot's four
+abbrev pub slot_word : Layout → ℕ → ℕ
+slot_word L s = 1 + L.workers + 4 * (s - 1)
+
+-- the first word of the pool
+abbrev pub pool_word : Layout → ℕ
+pool_word L = 1 + L.workers + 4 * L.nodes
+
+-- the number of a field's word
+abbrev pub word : Layout → Field → ℕ
+word L at_epoch = 0
+word L (at_note w) = 1 + w
+word L (at_key s) = slot_word L s
+word L (at_edge s Left) = slot_word L s + 1
+word L (at_edge s Right) = slot_word L s + 2
+word L (at_birth s) = slot_word L s + 3
+word L (at_row r) = pool_word L + r
+
+-- how many words there are
+abbrev pub words : Layout → ℕ
+words L = pool_word L + rows L
+
+-- the row of a slot, and its bit there
+abbrev pub pool_place : Layout → ℕ → PoolPlace
+pool_place L s = record { word = word L (at_row ((s - 1) / 64)); mask = 2 ^ ((s - 1) % 64) }
+
+-- ---- laws
+
+abbrev pub FieldsAreApart : Type 0
+FieldsAreApart = (L : Layout) (f g : Field) → IsField L f → IsField L g → word L f ≡ word L g → f ≡ g
+
+abbrev pub FieldsAreWithin : Type 0
+FieldsAreWithin = (L : Layout) (f : Field) → IsField L f → word L f < words L
+
+-- the word of a slot's place in the pool is a row
+abbrev pub PoolPlacesAreRows : Type 0
+PoolPlacesAreRows = (L : Layout) (s : ℕ) → IsSlot L s → IsField L (at_row ((s - 1) / 64))
+
+-- two places in one word share no bit
+abbrev pub PoolMasksAreApart : Type 0
+PoolMasksAreApart = (L : Layout) (s t : ℕ) → IsSlot L s → IsSlot L t → s ≢ t → (pool_place L s).word ≡ (pool_place L t).word
+    → bit_and (pool_place L s).mask (pool_place L t).mask ≡ 0
+
+abbrev pub PoolPlacesAreApart : Type 0
+PoolPlacesAreApart = (L : Layout) (s t : ℕ) → IsSlot L s → IsSlot L t → pool_place L s ≡ pool_place L t → s ≡ t

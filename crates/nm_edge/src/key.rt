@@ -1,0 +1,49 @@
+//! The keys of the set.
+ghost use Rattle.std.specs.Prelude.{◌≡◌, SomeIff};
+ghost use Rattle.nm_edge.specs.Keys.{IsKey};
+
+use std::marker::Model;
+
+/// The greatest key of the set, 2^64 - 4.
+pub const MOST_KEY: u64 = u64::MAX - 3;
+
+/// A key of the set: a whole number from 0 to 2^64 - 4. A contract sees it as the number.
+///
+/// The three greatest words, 2^64 - 3 to 2^64 - 1, are the keys of the fixed nodes, above each key of the set
+/// (the infinite keys of Natarajan and Mittal).
+#[derive(Clone, Copy, Debug, PartialEq, Eq, PartialOrd, Ord)]
+pub struct Key(u64);
+
+impl Model for Key {
+    ghost use Rattle.std.specs.Prelude.{ℕ};
+    ghost use Rattle.nm_edge.specs.Keys.{IsKey};
+
+    ghost Value = { ℕ };
+
+    ghost view = { λ k. k.0 };
+
+    ghost inverse = { λ n. record { 0 = n } };
+
+    ghost invariant = { λ k. IsKey k.0 };
+}
+
+impl Key {
+    /// The key of that number; `None` exactly above 2^64 - 4.
+    pub fn new(number: u64) -> Option<Key>
+        ensures { SomeIff result (IsKey number) number }
+    {
+        if number > MOST_KEY {
+            return None;
+        }
+        Some(Key(number))
+    }
+
+    /// The number of the key, 0 to 2^64 - 4.
+    pub fn get(self) -> u64
+        ensures number { result ≡ self }
+        ensures fits { IsKey result }
+    {
+        let Key(number) = self;
+        number
+    }
+}
