@@ -123,11 +123,11 @@ fn listed<R: AllocGlobal>(rt: &R, events: &[(u32, Event)]) -> Result<Vec<(u32, E
 
 // Plays the events on a core. Where memory is refused in between, the rest is played from there on.
 fn play<R: AllocGlobal>(rt: &R, core: &mut Core, events: &[(u32, Event)]) -> Result<(), Fail> {
-    let mut done = 0;
+    let mut rest = events;
     for _ in 0..events.len() + 3 {
-        match core.run(listed(rt, &events[done..])?) {
+        match core.run(listed(rt, rest)?) {
             Ok(_) => return Ok(()),
-            Err(error) => done += error.done,
+            Err(error) => rest = rest.get(error.done..).unwrap_or_default(),
         }
     }
     Ok(())
@@ -152,7 +152,9 @@ fn a_pin_holds_the_epoch_back(rt: HostRuntime) -> Result<(), Fail> {
 fn a_splice_answers_its_chain(rt: HostRuntime) -> Result<(), Fail> {
     let mut core = Core::new(rt.alloc(), 16, 2)?;
     let trace = core.run(listed(&rt, &LONG_CHAIN)?)?;
-    let Ok(Reply::Cut(nodes)) = &trace.as_slice()[55].outcome else {
+    let turns = trace.as_slice();
+    assert_eq!(rt; turns.len(), 57);
+    let Ok(Reply::Cut(nodes)) = &turns[55].outcome else {
         assert!(rt; false, "no cut");
         return Ok(());
     };
