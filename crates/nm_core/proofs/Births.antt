@@ -11,7 +11,7 @@ use Rattle.nm_edge.specs.declared.edge.Side.TheVariants.{Left, Right}
 use Rattle.nm_core.specs.declared.event.Field.{Field}
 use Rattle.nm_core.specs.declared.event.Field.TheVariants.{Key, Edge as EdgeOn, Birth}
 use Rattle.nm_core.specs.declared.event.Event.{Event}
-use Rattle.nm_core.specs.declared.event.Event.TheVariants.{Sight, Announce, Leave, Scan, Advance, Claim, Give, Look, Fill, Link, Flag, Tag, Splice, Join}
+use Rattle.nm_core.specs.declared.event.Event.TheVariants.{Sight, SightFor, Announce, Leave, LeaveWith, Scan, Advance, Claim, Give, Look, Fill, Link, Flag, Tag, Splice, Join}
 use Rattle.nm_core.specs.declared.reply.Reply.{Reply}
 use Rattle.nm_core.specs.declared.reply.Reply.TheVariants.{Saw, Labelled, Pinned, Missed, Announced, Departed, Idle, In, Moved, Behind, Claimed, Taken, Returned, Freed, Linked, Flagged, Was, Cut, Lost}
 use Rattle.nm_core.specs.declared.reply.Refused.TheVariants.{NoSlot, NotPinned, NotHeld, NotPrivate, NotReady}
@@ -26,7 +26,7 @@ use Rattle.nm_core.specs.Step.{outside, is_edge, is_early, is_fork_over, is_link
 use Rattle.nm_core.specs.Runs.{State, of, refusal_of, reply_of}
 use Rattle.nm_core.proofs.Steps.{Allowed, passed, second, third, fifth}
 use Rattle.nm_core.proofs.Tables.{get-put, get-without, Ascends, ascends-without}
-use Rattle.nm_core.proofs.Learned.{learn_claimed, learn_taken, learn_returned, learn_freed, learn_look, learn_filled, learn_linked, learn_link_lost}
+use Rattle.nm_core.proofs.Learned.{learn_sight_for, learn_leave_with, learn_claimed, learn_taken, learn_returned, learn_freed, learn_look, learn_filled, learn_linked, learn_link_lost}
 use Rattle.nm_core.proofs.TreeSlots.{put_pool}
 use Rattle.nm_core.proofs.TreeSteps.{Lawful, high_from}
 
@@ -323,8 +323,10 @@ module _ (s : State) (h : ℕ → ℕ) (law : Lawful s h) (w : ℕ) (born : Born
 
       go : (e : Event) → refusal_of s w e ≡ None → ((v : ℕ) → e ≡ Join v → ⊥) → Aged s w (write s.memory (of s w) w e) (learn w (of s w) e (reply_of s w e))
       go Sight ok alone = same_aged s w _ _ (λ y. refl) (λ y. refl) (drafts_sight w (of s w) _)
+      go (SightFor op key) ok alone = same_aged s w _ _ (λ y. refl) (λ y. refl) (ap (λ (l : Knowledge). l.drafts) (learn_sight_for w (of s w) op key _) ∙ drafts_sight w (of s w) _)
       go Announce ok alone = same_aged s w _ _ (λ y. refl) (λ y. refl) (drafts_announce w (of s w) _)
       go Leave ok alone = same_aged s w _ _ (λ y. refl) (λ y. refl) (drafts_leave w (of s w) _)
+      go (LeaveWith answer) ok alone = same_aged s w _ _ (λ y. refl) (λ y. refl) (ap (λ (l : Knowledge). l.drafts) (learn_leave_with w (of s w) answer) ∙ drafts_leave w (of s w) _)
       go (Scan u) ok alone = same_aged s w _ _ (λ y. refl) (λ y. refl) (drafts_scan w (of s w) u _)
       go Advance ok alone = cond_both (is_number (of s w).brief.seen s.memory.epoch) (record s.memory { epoch = s.memory.epoch + 1 }) s.memory (λ m. Aged s w m (learn w (of s w) Advance (reply_of s w Advance)))
           (λ _. same_aged s w _ _ (λ y. refl) (λ y. refl) (drafts_advance w (of s w) _)) (λ _. same_aged s w _ _ (λ y. refl) (λ y. refl) (drafts_advance w (of s w) _))

@@ -8,7 +8,7 @@ use Rattle.nm_edge.specs.declared.node.NodeId.{NodeId}
 use Rattle.nm_core.specs.declared.event.Field.{Field}
 use Rattle.nm_core.specs.declared.event.Field.TheVariants.{Key, Edge as EdgeOn, Birth}
 use Rattle.nm_core.specs.declared.event.Event.{Event}
-use Rattle.nm_core.specs.declared.event.Event.TheVariants.{Sight, Announce, Leave, Scan, Advance, Claim, Give, Look, Fill, Link, Flag, Tag, Splice, Join}
+use Rattle.nm_core.specs.declared.event.Event.TheVariants.{Sight, SightFor, Announce, Leave, LeaveWith, Scan, Advance, Claim, Give, Look, Fill, Link, Flag, Tag, Splice, Join}
 use Rattle.nm_core.specs.declared.reply.Reply.{Reply}
 use Rattle.nm_core.specs.declared.reply.Reply.TheVariants.{Labelled, Pinned, Missed, Moved, Behind, Claimed, Taken, Returned, Freed, Linked, Flagged, Cut, Lost}
 use Rattle.nm_core.specs.declared.reply.Refused.TheVariants.{NoSlot, NotPinned, NotPrivate, NotReady, NotFront, TooYoung}
@@ -24,7 +24,7 @@ use Rattle.nm_core.specs.Runs.{State, of, refusal_of, reply_of}
 use Rattle.nm_core.proofs.Steps.{Allowed, passed, second, third, fourth, fifth}
 use Rattle.nm_core.proofs.Tables.{Ascends, ascends-put, ascends-without}
 use Rattle.nm_core.proofs.Held.{Front, front, front_slot, entry_is_front}
-use Rattle.nm_core.proofs.Learned.{learn_saw, learn_labelled, learn_pinned, learn_missed, learn_announced, learn_departed, learn_idle, learn_in, learn_moved, learn_behind, learn_claimed, learn_taken, learn_returned, learn_freed, learn_look, learn_filled, learn_linked, learn_link_lost, learn_flagged, learn_flag_lost, learn_was, learn_cut, learn_splice_lost}
+use Rattle.nm_core.proofs.Learned.{learn_sight_for, learn_leave_with, learn_saw, learn_labelled, learn_pinned, learn_missed, learn_announced, learn_departed, learn_idle, learn_in, learn_moved, learn_behind, learn_claimed, learn_taken, learn_returned, learn_freed, learn_look, learn_filled, learn_linked, learn_link_lost, learn_flagged, learn_flag_lost, learn_was, learn_cut, learn_splice_lost}
 
 -- an entry whose label and 2 more are no greater than the epoch that was seen
 pub record Ripe (seen : Option ℕ) (e : Queued) : Type 0 where
@@ -91,15 +91,15 @@ module _ (s : State) (w : ℕ) where
     gone = gone;
   }
 
-  sight_changed : Changed s w Sight (reply_sight (of s w) s.memory.epoch) (learn w (of s w) Sight (reply_sight (of s w) s.memory.epoch))
-  sight_changed = cond_both (of s w).brief.unlabelled (Labelled s.memory.epoch) (confirmed (of s w).brief.pin (of s w).brief.note s.memory.epoch) (λ r. Changed s w Sight r (learn w (of s w) Sight r))
+  sight_changed : (e : Event) → Changed s w e (reply_sight (of s w) s.memory.epoch) (learn w (of s w) Sight (reply_sight (of s w) s.memory.epoch))
+  sight_changed e = cond_both (of s w).brief.unlabelled (Labelled s.memory.epoch) (confirmed (of s w).brief.pin (of s w).brief.note s.memory.epoch) (λ r. Changed s w e r (learn w (of s w) Sight r))
       (λ _. rw (learn_labelled w (of s w) s.memory.epoch) (record { ledgers = Labels refl refl refl; drafts = λ a. a; known = λ o. o; gone = refl }))
       (λ _. by (of s w).brief.pin (of s w).brief.note)
     where
-      by : (p n : Option ℕ) → Changed s w Sight (confirmed p n s.memory.epoch) (learn w (of s w) Sight (confirmed p n s.memory.epoch))
+      by : (p n : Option ℕ) → Changed s w e (confirmed p n s.memory.epoch) (learn w (of s w) Sight (confirmed p n s.memory.epoch))
       by (Some p) n = rw (learn_saw w (of s w) s.memory.epoch) (keeps _ _ _ refl refl refl refl refl refl (λ ns h. cc) (λ n h. cc))
       by None None = rw (learn_saw w (of s w) s.memory.epoch) (keeps _ _ _ refl refl refl refl refl refl (λ ns h. cc) (λ n h. cc))
-      by None (Some a) = cond_both (a == s.memory.epoch) (Pinned s.memory.epoch) (Missed s.memory.epoch) (λ r. Changed s w Sight r (learn w (of s w) Sight r))
+      by None (Some a) = cond_both (a == s.memory.epoch) (Pinned s.memory.epoch) (Missed s.memory.epoch) (λ r. Changed s w e r (learn w (of s w) Sight r))
           (λ _. rw (learn_pinned w (of s w) s.memory.epoch) (record { ledgers = Keeps refl refl (λ ns h. cc) (λ n h. cc); drafts = λ a. a; known = λ _ x _. (s.memory.epoch, refl); gone = refl }))
           (λ _. rw (learn_missed w (of s w) s.memory.epoch) (keeps _ _ _ refl refl refl refl refl refl (λ ns h. cc) (λ n h. cc)))
 
@@ -180,9 +180,11 @@ module _ (s : State) (w : ℕ) where
   changed e ok alone = go e ok.event alone
     where
       go : (e : Event) → refusal_of s w e ≡ None → ((v : ℕ) → e ≡ Join v → ⊥) → Changed s w e (reply_of s w e) (learn w (of s w) e (reply_of s w e))
-      go Sight ok alone = sight_changed
+      go Sight ok alone = sight_changed Sight
+      go (SightFor op key) ok alone = rw (learn_sight_for w (of s w) op key (reply_sight (of s w) s.memory.epoch)) (sight_changed (SightFor op key))
       go Announce ok alone = rw (learn_announced w (of s w) (unwrap_or (of s w).brief.seen 0)) (keeps _ _ _ refl refl refl refl refl refl (λ ns h. cc) (λ n h. cc))
       go Leave ok alone = rw (learn_departed w (of s w)) (record { ledgers = Keeps refl refl (λ ns h. cc) (λ n h. cc); drafts = λ a. a; known = λ _ x h. absurd (true≢false (sym h)); gone = refl })
+      go (LeaveWith answer) ok alone = rw (learn_leave_with w (of s w) answer, learn_departed w (of s w)) (record { ledgers = Keeps refl refl (λ ns h. cc) (λ n h. cc); drafts = λ a. a; known = λ _ x h. absurd (true≢false (sym h)); gone = refl })
       go (Scan u) ok alone = scan_changed u (note s.memory u)
       go Advance ok alone = cond_both (is_number (of s w).brief.seen s.memory.epoch) (Moved (s.memory.epoch + 1)) (Behind s.memory.epoch) (λ r. Changed s w Advance r (learn w (of s w) Advance r))
           (λ _. rw (learn_moved w (of s w) (s.memory.epoch + 1)) (keeps _ _ _ refl refl refl refl refl refl (λ ns h. cc) (λ n h. cc)))

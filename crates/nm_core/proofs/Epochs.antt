@@ -9,7 +9,7 @@ use Rattle.std.proofs.lemmas.Option.{none-some, same_Some}
 use Rattle.nm_edge.specs.Edges.{Edge, is_to}
 use Rattle.nm_edge.specs.declared.edge.Side.{Side}
 use Rattle.nm_core.specs.declared.event.Event.{Event}
-use Rattle.nm_core.specs.declared.event.Event.TheVariants.{Sight, Announce, Leave, Scan, Advance, Claim, Give, Look, Fill, Link, Flag, Tag, Splice, Join}
+use Rattle.nm_core.specs.declared.event.Event.TheVariants.{Sight, SightFor, Announce, Leave, LeaveWith, Scan, Advance, Claim, Give, Look, Fill, Link, Flag, Tag, Splice, Join}
 use Rattle.nm_core.specs.declared.event.Field.{Field}
 use Rattle.nm_core.specs.declared.event.Field.TheVariants.{Edge as EdgeOn, Birth}
 use Rattle.nm_core.specs.declared.reply.Reply.{Reply}
@@ -23,7 +23,7 @@ use Rattle.nm_core.specs.Runs.{State, of, is_no_worker, join_refusal, refusal_of
 use Rattle.nm_core.proofs.Numbers.{number_is, repeated, passes_at, mark_or}
 use Rattle.nm_core.proofs.Steps.{each, both, moved, Allowed, passed, is_worker}
 use Rattle.nm_core.proofs.Sizes.{Staffed}
-use Rattle.nm_core.proofs.Learned.{learn_saw, learn_labelled, learn_pinned, learn_missed, learn_announced, learn_departed, learn_idle, learn_in, learn_moved, learn_behind}
+use Rattle.nm_core.proofs.Learned.{learn_sight_for, learn_leave_with, learn_saw, learn_labelled, learn_pinned, learn_missed, learn_announced, learn_departed, learn_idle, learn_in, learn_moved, learn_behind}
 
 -- the announcements, pins, sights and scans of all workers agree with the epoch
 pub record EpochLaw (s : State) : Type 0 where
@@ -352,10 +352,12 @@ epoch_step s w e staffed law ok = go e ok.event
 
     go : (e : Event) → refusal_of s w e ≡ None → EpochLaw (applied s w e)
     go Sight ok = sight s w inside law
+    go (SightFor op key) ok = rw (learn_sight_for w (of s w) op key (reply_sight (of s w) s.memory.epoch)) (sight s w inside law)
     go Announce ok =
         let free = or_parts (is_none (of s w).brief.seen) (is_some (of s w).brief.pin) (passed _ _ _ ok).0 in
         rw (learn_announced w (of s w) (unwrap_or (of s w).brief.seen 0)) (reannounced s w (Some (unwrap_or (of s w).brief.seen 0)) _ inside place law refl (no_pin _ free.1) refl refl)
     go Leave ok = rw (learn_departed w (of s w)) (reannounced s w None _ inside place law refl refl refl refl)
+    go (LeaveWith answer) ok = rw (learn_leave_with w (of s w) answer, learn_departed w (of s w)) (reannounced s w None _ inside place law refl refl refl refl)
     go (Scan u) ok = scan s w u inside law (leb-false s.layout.workers u (passed _ _ _ ok).0)
     go Advance ok =
         let ready = or_parts (is_none (of s w).brief.seen) (not (others_scanned w (of s w).scanned) || is_held_back (of s w).brief.pin (of s w).brief.seen) (passed _ _ _ ok).0 in

@@ -9,7 +9,7 @@ use Rattle.nm_edge.specs.Edges.{Edge, is_to}
 use Rattle.nm_edge.specs.declared.edge.Side.{Side}
 use Rattle.nm_edge.specs.declared.node.NodeId.{NodeId}
 use Rattle.nm_core.specs.declared.event.Event.{Event}
-use Rattle.nm_core.specs.declared.event.Event.TheVariants.{Sight, Announce, Leave, Scan, Advance, Claim, Give, Look, Fill, Link, Flag, Tag, Splice, Join}
+use Rattle.nm_core.specs.declared.event.Event.TheVariants.{Sight, SightFor, Announce, Leave, LeaveWith, Scan, Advance, Claim, Give, Look, Fill, Link, Flag, Tag, Splice, Join}
 use Rattle.nm_core.specs.declared.reply.Reply.{Reply}
 use Rattle.nm_core.specs.declared.reply.Reply.TheVariants.{Labelled, Departed, Moved, Behind, Cut, Freed, Joined}
 use Rattle.nm_core.specs.declared.reply.Refused.{Refused}
@@ -23,11 +23,11 @@ use Rattle.nm_core.specs.Knowledge.{Knowledge}
 use Rattle.nm_core.specs.Learning.{learn}
 use Rattle.nm_core.specs.Step.{exchanged, reply_sight, confirmed, reply_scan, reply, write}
 use Rattle.nm_core.specs.Runs.{State, of, start, after, next, trace, outcome, answered, refused, reply_of, applied, unless_refused}
-use Rattle.nm_core.specs.Laws.{OfEachState, nodes_cut_of, node_in, left_by, GraceHolds}
+use Rattle.nm_core.specs.Laws.{OfEachState, nodes_cut_of, node_in, IsLeave, left_by, HasLeft, GraceHolds}
 use Rattle.nm_core.proofs.Steps.{each, Allowed, allowed}
 use Rattle.nm_core.proofs.Sizes.{Staffed}
 use Rattle.nm_core.proofs.Epochs.{alike_claim, alike_give, alike_look, alike_fill, alike_link, alike_flag, alike_tag, alike_splice, other_worker}
-use Rattle.nm_core.proofs.Learned.{learn_saw, learn_labelled, learn_announced, learn_idle, learn_in, learn_moved, learn_behind}
+use Rattle.nm_core.proofs.Learned.{learn_sight_for, learn_saw, learn_labelled, learn_announced, learn_idle, learn_in, learn_moved, learn_behind}
 use Rattle.nm_core.proofs.Changes.{Ripe, Change, changed}
 use Rattle.nm_core.proofs.Changes.Change.{Keeps, Labels, Cuts, Frees}
 use Rattle.nm_core.proofs.Holders.{joins, by_worker}
@@ -61,11 +61,13 @@ module _ (w : ℕ) (k : Knowledge) (e : ℕ) (pin : k.brief.pin ≡ Some e) wher
   advance_pin false n m = rw (learn_behind w k m) pin
 
 -- a worker's own event keeps its pin, or is its leave
-own_pin : (s : State) (w : ℕ) (e : Event) (p : ℕ) → ((v : ℕ) → e ≡ Join v → ⊥) → (of s w).brief.pin ≡ Some p → (e ≡ Leave) ⊎ ((learn w (of s w) e (reply_of s w e)).brief.pin ≡ Some p)
+own_pin : (s : State) (w : ℕ) (e : Event) (p : ℕ) → ((v : ℕ) → e ≡ Join v → ⊥) → (of s w).brief.pin ≡ Some p → IsLeave e ⊎ ((learn w (of s w) e (reply_of s w e)).brief.pin ≡ Some p)
 unfolding reply
 own_pin s w Sight p alone pin = inr (sight_pin w (of s w) p pin s.memory.epoch)
+own_pin s w (SightFor op key) p alone pin = inr (rw (learn_sight_for w (of s w) op key (reply_sight (of s w) s.memory.epoch)) (sight_pin w (of s w) p pin s.memory.epoch))
 own_pin s w Announce p alone pin = inr (rw (learn_announced w (of s w) _) pin)
-own_pin s w Leave p alone pin = inl refl
+own_pin s w Leave p alone pin = inl tt
+own_pin s w (LeaveWith answer) p alone pin = inl tt
 own_pin s w (Scan u) p alone pin = inr (scan_pin w (of s w) p pin u (note s.memory u))
 own_pin s w Advance p alone pin = inr (advance_pin w (of s w) p pin (is_number (of s w).brief.seen s.memory.epoch) (s.memory.epoch + 1) s.memory.epoch)
 own_pin s w (Claim x) p alone pin = inr ((alike_claim w (of s w) x _).pin ∙ pin)
@@ -82,15 +84,21 @@ own_pin s w (Join v) p alone pin = absurd (alone v refl)
 abbrev told_as : State → ℕ × Event → Turn
 told_as s t = record { worker = t.0; event = t.1; outcome = outcome s t }
 
-departed : (s : State) (w : ℕ) → reply_of s w Leave ≡ Departed
+is_departed : (s : State) (w : ℕ) (e : Event) → IsLeave e → reply_of s w e ≡ Departed
 unfolding reply
-departed s w = refl
+is_departed s w Leave leave = refl
+is_departed s w (LeaveWith answer) leave = refl
+is_departed s w e leave = elim leave [ ]
 
-pin_turn : (s : State) → Staffed s → (t : ℕ × Event) (u p : ℕ) → (of s u).brief.pin ≡ Some p → (told_as s t ≡ left_by u) ⊎ ((of (next s t) u).brief.pin ≡ Some p)
+-- a turn is worker u's leave
+abbrev IsLeaveOf : ℕ → Turn → Type 0
+IsLeaveOf u t = (e : Event) × IsLeave e × (t ≡ left_by u e)
+
+pin_turn : (s : State) → Staffed s → (t : ℕ × Event) (u p : ℕ) → (of s u).brief.pin ≡ Some p → IsLeaveOf u (told_as s t) ⊎ ((of (next s t) u).brief.pin ≡ Some p)
 unfolding next outcome
 pin_turn s staffed t u p pin = go (refused s t.0 t.1) refl
   where
-    go : (o : Option Refused) → refused s t.0 t.1 ≡ o → (record { worker = t.0; event = t.1; outcome = answered (refused s t.0 t.1) (reply_of s t.0 t.1) } ≡ left_by u) ⊎ ((of (unless_refused (refused s t.0 t.1) s (applied s t.0 t.1)) u).brief.pin ≡ Some p)
+    go : (o : Option Refused) → refused s t.0 t.1 ≡ o → IsLeaveOf u (record { worker = t.0; event = t.1; outcome = answered (refused s t.0 t.1) (reply_of s t.0 t.1) }) ⊎ ((of (unless_refused (refused s t.0 t.1) s (applied s t.0 t.1)) u).brief.pin ≡ Some p)
     go (Some r) is = rw is (inr pin)
     go None is = rw is (by (join_or_not t.1))
       where
@@ -100,7 +108,7 @@ pin_turn s staffed t u p pin = go (refused s t.0 t.1) refl
         inside : t.0 < length s.workers
         inside = let size = staffed.workers in let lt = ok.worker in omega arith
 
-        by : JoinOrNot t.1 → (record { worker = t.0; event = t.1; outcome = Ok (reply_of s t.0 t.1) } ≡ left_by u) ⊎ ((of (applied s t.0 t.1) u).brief.pin ≡ Some p)
+        by : JoinOrNot t.1 → IsLeaveOf u (record { worker = t.0; event = t.1; outcome = Ok (reply_of s t.0 t.1) }) ⊎ ((of (applied s t.0 t.1) u).brief.pin ≡ Some p)
         by (IsJoin v e) = inr (subst (λ (x : Event). Allowed s t.0 x → (of (applied s t.0 x) u).brief.pin ≡ Some p) (sym e)
             (λ ok.
             let there = other_worker s t.0 v ok.event in
@@ -110,26 +118,26 @@ pin_turn s staffed t u p pin = go (refused s t.0 t.1) refl
           | no ne ↦ inr (rw (applied_is s t.0 t.1 alone) (each s.layout (λ y k. y ≢ t.0 → (of s y).brief.pin ≡ Some p → k.brief.pin ≡ Some p) s.workers t.0 _ inside (λ far _. absurd (far refl)) (λ y _ _ z. z) u ne pin))
         ]
           where
-            own : (t.1 ≡ Leave) ⊎ ((learn t.0 (of s t.0) t.1 (reply_of s t.0 t.1)).brief.pin ≡ Some p) → u ≡ t.0 → (record { worker = t.0; event = t.1; outcome = Ok (reply_of s t.0 t.1) } ≡ left_by u) ⊎ ((of (applied s t.0 t.1) u).brief.pin ≡ Some p)
-            own (inl leave) e = inl (λ i. record { worker = sym e i; event = leave i; outcome = Ok ((ap (reply_of s t.0) leave ∙ departed s t.0) i) })
+            own : IsLeave t.1 ⊎ ((learn t.0 (of s t.0) t.1 (reply_of s t.0 t.1)).brief.pin ≡ Some p) → u ≡ t.0 → IsLeaveOf u (record { worker = t.0; event = t.1; outcome = Ok (reply_of s t.0 t.1) }) ⊎ ((of (applied s t.0 t.1) u).brief.pin ≡ Some p)
+            own (inl leave) e = inl (t.1, leave, λ i. record { worker = sym e i; event = t.1; outcome = Ok (is_departed s t.0 t.1 leave i) })
             own (inr same) e = inr (rw (applied_is s t.0 t.1 alone) (each s.layout (λ y k. y ≡ t.0 → k.brief.pin ≡ Some p) s.workers t.0 _ inside (λ _. same) (λ y far z. absurd (far z)) u e))
 
 later : {X : Type 0} (y x : X) (ys : List X) → Contains ys x → Contains (y ∷ ys) x
 later y x ys c = (suc c.0, (let lt = c.1 in omega arith), c.2)
 
 -- over a run a pin stays, or its worker left
-pub left_or_pinned : (s : State) → Staffed s → (ts : List (ℕ × Event)) (u p : ℕ) → (of s u).brief.pin ≡ Some p → Contains (trace s ts) (left_by u) ⊎ ((of (after s ts) u).brief.pin ≡ Some p)
+pub left_or_pinned : (s : State) → Staffed s → (ts : List (ℕ × Event)) (u p : ℕ) → (of s u).brief.pin ≡ Some p → HasLeft u (trace s ts) ⊎ ((of (after s ts) u).brief.pin ≡ Some p)
 unfolding after trace
 left_or_pinned s staffed [] u p pin = inr pin
 left_or_pinned s staffed (t ∷ ts) u p pin = go (pin_turn s staffed t u p pin) (λ still. left_or_pinned (next s t) (staffed_next s t staffed) ts u p still)
   where
-    on : Contains (trace (next s t) ts) (left_by u) ⊎ ((of (after (next s t) ts) u).brief.pin ≡ Some p) → Contains (told_as s t ∷ trace (next s t) ts) (left_by u) ⊎ ((of (after (next s t) ts) u).brief.pin ≡ Some p)
-    on (inl c) = inl (later (told_as s t) (left_by u) (trace (next s t) ts) c)
+    on : HasLeft u (trace (next s t) ts) ⊎ ((of (after (next s t) ts) u).brief.pin ≡ Some p) → HasLeft u (told_as s t ∷ trace (next s t) ts) ⊎ ((of (after (next s t) ts) u).brief.pin ≡ Some p)
+    on (inl c) = inl (c.0, c.1, later (told_as s t) (left_by u c.0) (trace (next s t) ts) c.2)
     on (inr still) = inr still
 
-    go : (told_as s t ≡ left_by u) ⊎ ((of (next s t) u).brief.pin ≡ Some p) → ((of (next s t) u).brief.pin ≡ Some p → Contains (trace (next s t) ts) (left_by u) ⊎ ((of (after (next s t) ts) u).brief.pin ≡ Some p))
-        → Contains (told_as s t ∷ trace (next s t) ts) (left_by u) ⊎ ((of (after (next s t) ts) u).brief.pin ≡ Some p)
-    go (inl leave) rest = inl (0, omega arith, leave)
+    go : IsLeaveOf u (told_as s t) ⊎ ((of (next s t) u).brief.pin ≡ Some p) → ((of (next s t) u).brief.pin ≡ Some p → HasLeft u (trace (next s t) ts) ⊎ ((of (after (next s t) ts) u).brief.pin ≡ Some p))
+        → HasLeft u (told_as s t ∷ trace (next s t) ts) ⊎ ((of (after (next s t) ts) u).brief.pin ≡ Some p)
+    go (inl leave) rest = inl (leave.0, leave.1, (0, omega arith, leave.2))
     go (inr still) rest = on (rest still)
 
 -- ---- the epoch never falls
@@ -367,11 +375,11 @@ grace_holds L enough before cut between free ns n w e is there freed pin = go (l
         no : ◌≡◌ {A = Result Reply Refused} (Ok (Cut ns)) (Ok Departed) → ⊥
         no z = cc
 
-        by : (told_as (after (start L) before) cut ≡ left_by w) ⊎ ((of (next (after (start L) before) cut) w).brief.pin ≡ Some e) → (of (next (after (start L) before) cut) w).brief.pin ≡ Some e
-        by (inl leave) = absurd (no (sym is ∙ ap (λ (y : Turn). y.outcome) leave))
+        by : IsLeaveOf w (told_as (after (start L) before) cut) ⊎ ((of (next (after (start L) before) cut) w).brief.pin ≡ Some e) → (of (next (after (start L) before) cut) w).brief.pin ≡ Some e
+        by (inl leave) = absurd (no (sym is ∙ ap (λ (y : Turn). y.outcome) leave.2))
         by (inr still) = still
 
-    go : Contains (trace (next (after (start L) before) cut) between) (left_by w) ⊎ ((of (after (next (after (start L) before) cut) between) w).brief.pin ≡ Some e) → Contains (trace (next (after (start L) before) cut) between) (left_by w)
+    go : HasLeft w (trace (next (after (start L) before) cut) between) ⊎ ((of (after (next (after (start L) before) cut) between) w).brief.pin ≡ Some e) → HasLeft w (trace (next (after (start L) before) cut) between)
     go (inl left) = left
     go (inr still) = absurd (no_grace_lost (after (next (after (start L) before) cut) between) last.0.holder last.0.law last.0.once _ _ _ _ n last.1 (omega arith) free.0
         (freed_from (after (next (after (start L) before) cut) between) last.0.holder last.0.law free n freed) w e still (k.law.epochs.pins w e pin).0)

@@ -12,7 +12,7 @@ use Rattle.nm_edge.specs.declared.edge.Side.TheVariants.{Left, Right}
 use Rattle.nm_core.specs.declared.event.Field.{Field}
 use Rattle.nm_core.specs.declared.event.Field.TheVariants.{Key, Edge as EdgeOn, Birth}
 use Rattle.nm_core.specs.declared.event.Event.{Event}
-use Rattle.nm_core.specs.declared.event.Event.TheVariants.{Sight, Announce, Leave, Scan, Advance, Claim, Give, Look, Fill, Link, Flag, Tag, Splice, Join}
+use Rattle.nm_core.specs.declared.event.Event.TheVariants.{Sight, SightFor, Announce, Leave, LeaveWith, Scan, Advance, Claim, Give, Look, Fill, Link, Flag, Tag, Splice, Join}
 use Rattle.nm_core.specs.declared.reply.Reply.TheVariants.{Labelled, Pinned, Missed, Moved, Behind, Claimed, Taken, Returned, Freed, Linked, Flagged, Cut, Lost}
 use Rattle.nm_core.specs.declared.reply.Refused.{Refused}
 use Rattle.nm_edge.specs.Layouts.{Layout}
@@ -33,7 +33,7 @@ use Rattle.nm_core.proofs.Tables.{get-put, get-without, ascends-without}
 use Rattle.nm_core.proofs.Steps.{each, Allowed, allowed, passed, second}
 use Rattle.nm_core.proofs.Epochs.{other_worker}
 use Rattle.nm_core.proofs.Pins.{all_new}
-use Rattle.nm_core.proofs.Learned.{learn_saw, learn_labelled, learn_pinned, learn_missed, learn_announced, learn_departed, learn_idle, learn_in, learn_moved, learn_behind, learn_claimed, learn_taken, learn_returned, learn_freed, learn_look, learn_filled, learn_linked, learn_link_lost, learn_flagged, learn_flag_lost, learn_was, learn_cut, learn_splice_lost}
+use Rattle.nm_core.proofs.Learned.{learn_sight_for, learn_leave_with, learn_saw, learn_labelled, learn_pinned, learn_missed, learn_announced, learn_departed, learn_idle, learn_in, learn_moved, learn_behind, learn_claimed, learn_taken, learn_returned, learn_freed, learn_look, learn_filled, learn_linked, learn_link_lost, learn_flagged, learn_flag_lost, learn_was, learn_cut, learn_splice_lost}
 use Rattle.nm_core.proofs.Pictures.{nowhere_else}
 use Rattle.nm_core.proofs.Pictures.Spot.{PrivateTo}
 use Rattle.nm_core.proofs.Views.{picture, seen_met}
@@ -331,8 +331,10 @@ module _ (s : State) (h : ℕ → ℕ) (law : Lawful s h) (w : ℕ) where
     where
       go : (e : Event) → refusal_of s w e ≡ None → ((v : ℕ) → e ≡ Join v → ⊥) → Fits (write s.memory (of s w) w e) (learn w (of s w) e (reply_of s w e))
       go Sight ok alone = sight_fits fits
+      go (SightFor op key) ok alone = rw (learn_sight_for w (of s w) op key (reply_sight (of s w) s.memory.epoch)) (sight_fits fits)
       go Announce ok alone = rw (learn_announced w (of s w) _) (quiet_fits _ _ (λ x. record { birth = refl; key = refl }) (less_known (of s w) _ refl refl) fits)
       go Leave ok alone = rw (learn_departed w (of s w)) (quiet_fits _ _ (λ x. record { birth = refl; key = refl }) (record { seen = λ x b is. absurd (none-some b is); drafts = λ x. inl refl }) fits)
+      go (LeaveWith answer) ok alone = rw (learn_leave_with w (of s w) answer, learn_departed w (of s w)) (quiet_fits _ _ (λ x. record { birth = refl; key = refl }) (record { seen = λ x b is. absurd (none-some b is); drafts = λ x. inl refl }) fits)
       go (Scan u) ok alone = by (note s.memory u)
         where
           by : (o : Option ℕ) → Fits s.memory (learn w (of s w) (Scan u) (reply_scan o))

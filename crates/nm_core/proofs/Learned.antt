@@ -1,18 +1,19 @@
 -- The rows of the table `learn`, one by one. Proofs cite these, and leave the table itself closed.
-use Rattle.std.proofs.Common.{◌≡◌, ℕ, ◌==◌, true, List, [], cond, refl}
+use Rattle.std.proofs.Common.{◌≡◌, ℕ, ◌==◌, Bool, true, List, [], cond, refl}
 use Rattle.std.specs.Prelude.{Option, Some, None}
 use Rattle.nm_edge.specs.Edges.{Edge, tagged}
 use Rattle.nm_edge.specs.declared.edge.Side.{Side}
 use Rattle.nm_edge.specs.declared.node.NodeId.{NodeId}
 use Rattle.nm_core.specs.declared.event.Field.{Field}
-use Rattle.nm_core.specs.declared.event.Event.TheVariants.{Sight, Announce, Leave, Scan, Advance, Claim, Give, Look, Fill, Link, Flag, Tag, Splice, Join}
+use Rattle.nm_core.specs.declared.event.Event.TheVariants.{Sight, SightFor, Announce, Leave, LeaveWith, Scan, Advance, Claim, Give, Look, Fill, Link, Flag, Tag, Splice, Join}
+use Rattle.nm_core.specs.declared.event.Op.{Op}
 use Rattle.nm_core.specs.declared.reply.Reply.{Reply}
 use Rattle.nm_core.specs.declared.reply.Reply.TheVariants.{Saw, Labelled, Pinned, Missed, Announced, Departed, Idle, In, Moved, Behind, Claimed, Taken, Returned, Freed, Filled, Linked, Flagged, Was, Cut, Lost, Joined}
 use Rattle.nm_core.specs.declared.ledger.Ledger.{Ledger}
 use Rattle.nm_core.specs.Maps.{put, without, is_number}
 use Rattle.nm_core.specs.Ledgers.{free}
 use Rattle.nm_core.specs.Knowledge.{Knowledge, unfilled, is_private, draft_of}
-use Rattle.nm_core.specs.Learning.{learn, saw, labelled, pinned, scanned, moved, read_edge, look_known, look_private, filled_in, linked, flag_to, cutting, inheriting, resigned}
+use Rattle.nm_core.specs.Learning.{learn, saw, labelled, pinned, departed, scanned, moved, read_edge, look_known, look_private, filled_in, linked, flag_to, cutting, inheriting, resigned}
 
 module _ (w : ℕ) (k : Knowledge) where
   pub learn_saw : (e : ℕ) → learn w k Sight (Saw e) ≡ saw k e
@@ -35,9 +36,18 @@ module _ (w : ℕ) (k : Knowledge) where
   unfolding learn
   learn_announced e = refl
 
-  pub learn_departed : learn w k Leave Departed ≡ record k { brief = record k.brief { note = None; pin = None }; known = [] }
+  pub learn_departed : learn w k Leave Departed ≡ departed k
   unfolding learn
   learn_departed = refl
+
+  -- a sight for an operation teaches what a sight does, and a leave with an answer what a leave does
+  pub learn_sight_for : (op : Op) (key : ℕ) (r : Reply) → learn w k (SightFor op key) r ≡ learn w k Sight r
+  unfolding learn
+  learn_sight_for op key r = refl
+
+  pub learn_leave_with : (answer : Bool) → learn w k (LeaveWith answer) Departed ≡ learn w k Leave Departed
+  unfolding learn
+  learn_leave_with answer = refl
 
   pub learn_idle : (u : ℕ) → learn w k (Scan u) Idle ≡ scanned k u true
   unfolding learn

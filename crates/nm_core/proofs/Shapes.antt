@@ -10,7 +10,7 @@ use Rattle.nm_edge.specs.declared.node.NodeId.{NodeId}
 use Rattle.nm_core.specs.declared.event.Field.TheVariants.{Key, Edge as EdgeOn, Birth}
 use Rattle.nm_core.specs.declared.event.Field.{Field}
 use Rattle.nm_core.specs.declared.event.Event.{Event}
-use Rattle.nm_core.specs.declared.event.Event.TheVariants.{Sight, Announce, Leave, Scan, Advance, Claim, Give, Look, Fill, Link, Flag, Tag, Splice, Join}
+use Rattle.nm_core.specs.declared.event.Event.TheVariants.{Sight, SightFor, Announce, Leave, LeaveWith, Scan, Advance, Claim, Give, Look, Fill, Link, Flag, Tag, Splice, Join}
 use Rattle.nm_core.specs.declared.reply.Reply.{Reply}
 use Rattle.nm_core.specs.declared.reply.Reply.TheVariants.{Saw, Labelled, Pinned, Missed, Announced, Departed, Idle, In, Moved, Behind, Claimed, Returned, Freed, BirthIs, EdgeIs, Filled, Linked, Flagged, Was, Cut, Lost, Joined}
 use Rattle.nm_core.specs.declared.ledger.Ledger.{Ledger}
@@ -64,8 +64,10 @@ row_look_known n k s _ _ h = h
 pub row_learn : (n w : ℕ) (k : Knowledge) (e : Event) (r : Reply) → IsRow n k → IsRow n (learn w k e r)
 unfolding learn
 row_learn n w k Sight r h = row_sight n k r h
+row_learn n w k (SightFor op key) r h = row_sight n k r h
 row_learn n w k Announce (Announced e) h = record { scanned = h.scanned; ledgers = h.ledgers }
 row_learn n w k Leave Departed h = record { scanned = h.scanned; ledgers = h.ledgers }
+row_learn n w k (LeaveWith answer) Departed h = record { scanned = h.scanned; ledgers = h.ledgers }
 row_learn n w k (Scan u) r h = row_scan n k u r h
 row_learn n w k Advance (Moved e) h = record { scanned = length-replicate _ _ ∙ h.scanned; ledgers = h.ledgers }
 row_learn n w k Advance (Behind e) h = record { scanned = length-replicate _ _ ∙ h.scanned; ledgers = h.ledgers }

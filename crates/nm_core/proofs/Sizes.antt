@@ -7,7 +7,7 @@ use Rattle.nm_edge.specs.Layouts.{Layout}
 use Rattle.nm_edge.specs.Edges.{Edge, is_to}
 use Rattle.nm_edge.specs.declared.edge.Side.{Side}
 use Rattle.nm_core.specs.declared.event.Event.{Event}
-use Rattle.nm_core.specs.declared.event.Event.TheVariants.{Sight, Announce, Leave, Scan, Advance, Claim, Give, Look, Fill, Link, Flag, Tag, Splice, Join}
+use Rattle.nm_core.specs.declared.event.Event.TheVariants.{Sight, SightFor, Announce, Leave, LeaveWith, Scan, Advance, Claim, Give, Look, Fill, Link, Flag, Tag, Splice, Join}
 use Rattle.nm_core.specs.Maps.{is_number}
 use Rattle.nm_core.specs.Memory.{Memory, edge, put_edge, blank}
 use Rattle.nm_core.specs.Knowledge.{Knowledge, newcomer}
@@ -30,8 +30,10 @@ exchange_as_long m p side slot e = cond_both (is_to (edge m p side) slot) (put_e
 pub written_as_long : (m : Memory) (k : Knowledge) (w : ℕ) (e : Event) → AsLong (write m k w e) m
 unfolding write
 written_as_long m k w Sight = as_itself m
+written_as_long m k w (SightFor op key) = as_itself m
 written_as_long m k w Announce = record { notes = length-set _ w _; nodes = refl; pool = refl }
 written_as_long m k w Leave = record { notes = length-set _ w _; nodes = refl; pool = refl }
+written_as_long m k w (LeaveWith answer) = record { notes = length-set _ w _; nodes = refl; pool = refl }
 written_as_long m k w (Scan u) = as_itself m
 written_as_long m k w Advance = cond_both (is_number k.brief.seen m.epoch) (record m { epoch = m.epoch + 1 }) m (λ x. AsLong x m) (λ _. record { notes = refl; nodes = refl; pool = refl }) (λ _. as_itself m)
 written_as_long m k w (Claim s) = record { notes = refl; nodes = refl; pool = length-set _ s _ }

@@ -9,7 +9,7 @@ use Rattle.nm_edge.specs.declared.node.NodeId.{NodeId}
 use Rattle.nm_core.specs.declared.event.Field.{Field}
 use Rattle.nm_core.specs.declared.event.Field.TheVariants.{Key, Edge as EdgeOn, Birth}
 use Rattle.nm_core.specs.declared.event.Event.{Event}
-use Rattle.nm_core.specs.declared.event.Event.TheVariants.{Sight, Announce, Leave, Scan, Advance, Claim, Give, Look, Fill, Link, Flag, Tag, Splice, Join}
+use Rattle.nm_core.specs.declared.event.Event.TheVariants.{Sight, SightFor, Announce, Leave, LeaveWith, Scan, Advance, Claim, Give, Look, Fill, Link, Flag, Tag, Splice, Join}
 use Rattle.nm_core.specs.declared.reply.Reply.{Reply}
 use Rattle.nm_core.specs.declared.reply.Reply.TheVariants.{Cut, Freed, Joined, Labelled, Linked, Lost}
 use Rattle.nm_core.specs.declared.reply.Refused.{Refused}
@@ -122,8 +122,10 @@ module _ (s : State) (h : ℕ → ℕ) (law : Lawful s h) (w : ℕ) where
   write_stays : (e : Event) → Allowed s w e → ((ns : List NodeId) → reply_of s w e ≡ Cut ns → ⊥) → (y : ℕ) → Reached s.memory y → Reached (write s.memory (of s w) w e) y
   unfolding write reply refusal
   write_stays Sight ok uncut y r = r
+  write_stays (SightFor op key) ok uncut y r = r
   write_stays Announce ok uncut y r = record { path = r.path; ends = r.ends; is_slot = r.is_slot }
   write_stays Leave ok uncut y r = record { path = r.path; ends = r.ends; is_slot = r.is_slot }
+  write_stays (LeaveWith answer) ok uncut y r = record { path = r.path; ends = r.ends; is_slot = r.is_slot }
   write_stays (Scan u) ok uncut y r = r
   write_stays Advance ok uncut y r = cond_both (is_number (of s w).brief.seen s.memory.epoch) (record s.memory { epoch = s.memory.epoch + 1 }) s.memory (λ m. Reached m y) (λ _. record { path = r.path; ends = r.ends; is_slot = r.is_slot }) (λ _. r)
   write_stays (Claim x) ok uncut y r = record { path = r.path; ends = r.ends; is_slot = r.is_slot }

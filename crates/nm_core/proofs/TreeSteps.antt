@@ -8,7 +8,7 @@ use Rattle.nm_edge.specs.declared.edge.Side.{Side}
 use Rattle.nm_core.specs.declared.event.Field.{Field}
 use Rattle.nm_core.specs.declared.event.Field.TheVariants.{Edge as EdgeOn}
 use Rattle.nm_core.specs.declared.event.Event.{Event}
-use Rattle.nm_core.specs.declared.event.Event.TheVariants.{Sight, Announce, Leave, Scan, Advance, Claim, Give, Look, Fill, Link, Flag, Tag, Splice, Join}
+use Rattle.nm_core.specs.declared.event.Event.TheVariants.{Sight, SightFor, Announce, Leave, LeaveWith, Scan, Advance, Claim, Give, Look, Fill, Link, Flag, Tag, Splice, Join}
 use Rattle.nm_core.specs.declared.reply.Reply.TheVariants.{Returned, Freed}
 use Rattle.nm_core.specs.declared.reply.Refused.TheVariants.{NoSlot, NotPinned, NotHeld, NotPrivate, NotReady, NotFrozen}
 use Rattle.nm_core.specs.declared.ledger.Queued.{Queued}
@@ -18,14 +18,14 @@ use Rattle.nm_core.specs.Memory.{note}
 use Rattle.nm_core.specs.Ledgers.{held, queue_of, front_of, taken_over}
 use Rattle.nm_core.specs.Knowledge.{knows, is_private, draft_of, read, is_flagged, knows_leaf}
 use Rattle.nm_core.specs.Learning.{learn}
-use Rattle.nm_core.specs.Step.{outside, is_edge, is_frozen, is_linkable, node_of, refusal, reply, write}
+use Rattle.nm_core.specs.Step.{outside, is_edge, is_frozen, is_linkable, node_of, reply_sight, refusal, reply, write}
 use Rattle.nm_core.specs.Runs.{State, of, refusal_of, reply_of}
 use Rattle.nm_core.proofs.Steps.{Allowed, passed, second, third, fourth, fifth}
 use Rattle.nm_core.proofs.Sizes.{Staffed, Roomy}
 use Rattle.nm_core.proofs.Epochs.{EpochLaw}
 use Rattle.nm_core.proofs.Tables.{Ascends}
 use Rattle.nm_core.proofs.Held.{Front, front, front_slot, held-taken_over}
-use Rattle.nm_core.proofs.Learned.{learn_returned, learn_freed}
+use Rattle.nm_core.proofs.Learned.{learn_sight_for, learn_leave_with, learn_returned, learn_freed}
 use Rattle.nm_core.proofs.Changes.{Ripe, OnlyPinned, freeable}
 use Rattle.nm_core.proofs.Holders.{Holders, heirs, Joins, by_worker}
 use Rattle.nm_core.proofs.Pictures.{InReach, TreeLaw}
@@ -83,8 +83,10 @@ module _ (s : State) (h : ℕ → ℕ) (law : Lawful s h) (w : ℕ) where
 
       go : (e : Event) → refusal_of s w e ≡ None → ((v : ℕ) → e ≡ Join v → ⊥) → TreeLaw s.layout.nodes (view (write s.memory (of s w) w e) (with_worker (of s) w (learn w (of s w) e (reply_of s w e))) h)
       go Sight ok alone = sight_view s.layout.nodes s.memory (of s) h w law.tree (λ u p i. (law.epochs.pins u p i).0)
+      go (SightFor op key) ok alone = rw (learn_sight_for w (of s w) op key (reply_sight (of s w) s.memory.epoch)) (sight_view s.layout.nodes s.memory (of s) h w law.tree (λ u p i. (law.epochs.pins u p i).0))
       go Announce ok alone = announce_view s.layout.nodes (write s.memory (of s w) w Announce) (of s) h w law.tree (unwrap_or (of s w).brief.seen 0)
       go Leave ok alone = leave_view s.layout.nodes (write s.memory (of s w) w Leave) (of s) h w law.tree
+      go (LeaveWith answer) ok alone = rw (learn_leave_with w (of s w) answer) (leave_view s.layout.nodes (write s.memory (of s w) w Leave) (of s) h w law.tree)
       go (Scan u) ok alone = scan_view s.layout.nodes s.memory (of s) h w law.tree u (note s.memory u)
       go Advance ok alone = cond_both (is_number (of s w).brief.seen s.memory.epoch) (record s.memory { epoch = s.memory.epoch + 1 }) s.memory
           (λ m. TreeLaw s.layout.nodes (view m (with_worker (of s) w (learn w (of s w) Advance (reply_of s w Advance))) h))

@@ -5,7 +5,7 @@ use Rattle.nm_edge.specs.Layouts.{Layout}
 use Rattle.nm_edge.specs.declared.edge.Side.{Side}
 use Rattle.nm_edge.specs.declared.node.NodeId.{NodeId}
 use Rattle.nm_core.specs.declared.event.Event.{Event}
-use Rattle.nm_core.specs.declared.event.Event.TheVariants.{Leave, Splice}
+use Rattle.nm_core.specs.declared.event.Event.TheVariants.{Leave, LeaveWith, Splice}
 use Rattle.nm_core.specs.declared.reply.Reply.{Reply}
 use Rattle.nm_core.specs.declared.reply.Reply.TheVariants.{Cut, Departed, Freed}
 use Rattle.nm_core.specs.declared.reply.Refused.{Refused}
@@ -130,9 +130,19 @@ RetiredGrowsByTheCuts s = (turns : List (ℕ × Event)) (w v origin : ℕ) (l m 
 
 -- ---- grace
 
--- worker w left
-abbrev pub left_by : ℕ → Turn
-left_by w = record { worker = w; event = Leave; outcome = Ok Departed }
+-- a leave, with an answer or without
+abbrev pub IsLeave : Event → Type 0
+IsLeave Leave = Unit {0}
+IsLeave (LeaveWith answer) = Unit {0}
+IsLeave e = ⊥
+
+-- worker w left by that event
+abbrev pub left_by : ℕ → Event → Turn
+left_by w e = record { worker = w; event = e; outcome = Ok Departed }
+
+-- worker w left in one of these turns
+abbrev pub HasLeft : ℕ → List Turn → Type 0
+HasLeft w turns = (e : Event) × IsLeave e × Contains turns (left_by w e)
 
 -- where a node is cut by one turn and freed by a later one, each worker that was pinned at the cut, the remover too, left between the two
 abbrev pub GraceHolds : State → Type 0
@@ -140,4 +150,4 @@ GraceHolds s = (cut : ℕ × Event) (between : List (ℕ × Event)) (free : ℕ 
     → outcome s cut ≡ Ok (Cut ns) → Contains ns n
     → outcome (after (next s cut) between) free ≡ Ok (Freed n)
     → (of s w).brief.pin ≡ Some e
-    → Contains (trace (next s cut) between) (left_by w)
+    → HasLeft w (trace (next s cut) between)

@@ -7,7 +7,7 @@ use Rattle.nm_edge.specs.declared.node.NodeId.{NodeId}
 use Rattle.nm_core.specs.declared.event.Field.{Field}
 use Rattle.nm_core.specs.declared.event.Field.TheVariants.{Key, Edge as EdgeOn, Birth}
 use Rattle.nm_core.specs.declared.event.Event.{Event}
-use Rattle.nm_core.specs.declared.event.Event.TheVariants.{Sight, Announce, Leave, Scan, Advance, Claim, Give, Look, Fill, Link, Flag, Tag, Splice, Join}
+use Rattle.nm_core.specs.declared.event.Event.TheVariants.{Sight, SightFor, Announce, Leave, LeaveWith, Scan, Advance, Claim, Give, Look, Fill, Link, Flag, Tag, Splice, Join}
 use Rattle.nm_core.specs.declared.reply.Reply.{Reply}
 use Rattle.nm_core.specs.declared.reply.Reply.TheVariants.{Saw, Labelled, Pinned, Missed, Announced, Departed, Idle, In, Moved, Behind, Claimed, Returned, Freed, BirthIs, EdgeIs, Filled, Linked, Flagged, Was, Cut, Lost, Joined}
 use Rattle.nm_core.specs.declared.knowledge.Brief.{Brief}
@@ -42,6 +42,10 @@ learn_sight k (Labelled e) = labelled (saw k e) e
 learn_sight k (Pinned e) = pinned (saw k e) e
 learn_sight k (Missed e) = saw k e
 learn_sight k _ = k
+
+-- the announcement was taken back: all known nodes are forgotten
+abbrev pub departed : Knowledge → Knowledge
+departed k = record k { brief = record k.brief { note = None; pin = None }; known = [] }
 
 abbrev pub scanned : Knowledge → ℕ → Bool → Knowledge
 scanned k u counts = record k { scanned = slice_set k.scanned u counts }
@@ -111,8 +115,10 @@ resigned k = record k { ledgers = replicate (length k.ledgers) None; gone = true
 -- what worker w knows after an event with its reply. A join stands in both logs, and the own number tells the leaver from the heir
 unfoldable pub learn : ℕ → Knowledge → Event → Reply → Knowledge
 learn w k Sight r = learn_sight k r
+learn w k (SightFor op key) r = learn_sight k r
 learn w k Announce (Announced e) = record k { brief = record k.brief { note = Some e } }
-learn w k Leave Departed = record k { brief = record k.brief { note = None; pin = None }; known = [] }
+learn w k Leave Departed = departed k
+learn w k (LeaveWith answer) Departed = departed k
 learn w k (Scan u) r = learn_scan k u r
 learn w k Advance (Moved e) = moved k e
 learn w k Advance (Behind e) = moved k e

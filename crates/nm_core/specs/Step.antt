@@ -8,7 +8,7 @@ use Rattle.nm_edge.specs.declared.node.NodeId.{NodeId}
 use Rattle.nm_core.specs.declared.event.Field.{Field}
 use Rattle.nm_core.specs.declared.event.Field.TheVariants.{Key, Edge as EdgeOn, Birth}
 use Rattle.nm_core.specs.declared.event.Event.{Event}
-use Rattle.nm_core.specs.declared.event.Event.TheVariants.{Sight, Announce, Leave, Scan, Advance, Claim, Give, Look, Fill, Link, Flag, Tag, Splice, Join}
+use Rattle.nm_core.specs.declared.event.Event.TheVariants.{Sight, SightFor, Announce, Leave, LeaveWith, Scan, Advance, Claim, Give, Look, Fill, Link, Flag, Tag, Splice, Join}
 use Rattle.nm_core.specs.declared.reply.Reply.{Reply}
 use Rattle.nm_core.specs.declared.reply.Reply.TheVariants.{Saw, Labelled, Pinned, Missed, Announced, Departed, Idle, In, Moved, Behind, Claimed, Taken, Returned, Freed, KeyIs, BirthIs, EdgeIs, Filled, Linked, Flagged, Was, Cut, Lost, Joined}
 use Rattle.nm_core.specs.declared.reply.Refused.{Refused}
@@ -105,8 +105,10 @@ free_checks k s =
 -- (A join is judged by what both workers know: see Runs.)
 unfoldable pub refusal : Layout → Memory → Knowledge → ℕ → Event → Option Refused
 refusal L m k w Sight = None
+refusal L m k w (SightFor op key) = first ((is_none k.brief.note || is_some k.brief.pin) refuses NotReady ∷ [])
 refusal L m k w Announce = first ((is_none k.brief.seen || is_some k.brief.pin) refuses NotReady ∷ [])
 refusal L m k w Leave = first (k.brief.unlabelled refuses NotReady ∷ [])
+refusal L m k w (LeaveWith answer) = first (k.brief.unlabelled refuses NotReady ∷ [])
 refusal L m k w (Scan u) = first (nat_le L.workers u refuses NoWorker ∷ is_none k.brief.seen refuses NotReady ∷ [])
 refusal L m k w Advance = first (
     (is_none k.brief.seen || (not (others_scanned w k.scanned) || is_held_back k.brief.pin k.brief.seen)) refuses NotReady
@@ -184,8 +186,10 @@ node_linked k new = record { slot = new; birth = unwrap_or (draft_of k new).birt
 
 unfoldable pub reply : Layout → Memory → Knowledge → Event → Reply
 reply L m k Sight = reply_sight k m.epoch
+reply L m k (SightFor op key) = reply_sight k m.epoch
 reply L m k Announce = Announced (unwrap_or k.brief.seen 0)
 reply L m k Leave = Departed
+reply L m k (LeaveWith answer) = Departed
 reply L m k (Scan u) = reply_scan (note m u)
 reply L m k Advance = if is_number k.brief.seen m.epoch then Moved (m.epoch + 1) else Behind m.epoch
 reply L m k (Claim s) = if in_pool m s then Claimed s else Taken
@@ -215,8 +219,10 @@ kept (Some e) = untagged e
 
 unfoldable pub write : Memory → Knowledge → ℕ → Event → Memory
 write m k w Sight = m
+write m k w (SightFor op key) = m
 write m k w Announce = record m { notes = slice_set m.notes w (Some (unwrap_or k.brief.seen 0)) }
 write m k w Leave = record m { notes = slice_set m.notes w None }
+write m k w (LeaveWith answer) = record m { notes = slice_set m.notes w None }
 write m k w (Scan u) = m
 write m k w Advance = if is_number k.brief.seen m.epoch then record m { epoch = m.epoch + 1 } else m
 write m k w (Claim s) = record m { pool = slice_set m.pool s false }

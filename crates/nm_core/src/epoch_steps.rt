@@ -7,8 +7,10 @@ ghost use Rattle.nm_core.specs.Runs.{refusal_of, reply_of, applied};
 ghost use Rattle.nm_core.specs.Answers.{IsAnswer, IsShaped};
 
 use crate::LAST_NUMBER;
+use crate::event::Op;
 use crate::machine::Machine;
 use crate::reply::{Refused, Reply};
+use nm_edge::Key;
 
 impl Machine {
     pub fn sight(&mut self, worker: usize) -> Result<Reply, Refused>
@@ -21,6 +23,20 @@ impl Machine {
         let worker = &mut self.workers[worker];
         let reply = worker.sight(epoch)?;
         Ok(reply)
+    }
+
+    /// As a sight, where it can confirm a pin.
+    pub fn sight_for(&mut self, worker: usize, op: Op, key: Key) -> Result<Reply, Refused>
+        requires { worker < length self.old.workers }
+        ensures outcome { IsAnswer (refusal_of self.old worker (event.SightFor op key)) (reply_of self.old worker (event.SightFor op key)) result }
+        ensures ok { OnOk result (self.new ≡ applied self.old worker (event.SightFor op key)) }
+        ensures err { OnErr result (self.new ≡ self.old) }
+    {
+        let brief = self.workers[worker].brief();
+        if brief.note.is_none() || brief.pin.is_some() {
+            return Err(Refused::NotReady);
+        }
+        self.sight(worker)
     }
 
     pub fn announce(&mut self, worker: usize) -> Result<Reply, Refused>
@@ -52,6 +68,17 @@ impl Machine {
         self.notes[worker] = None;
         self.workers[worker].leave();
         Ok(Reply::Departed)
+    }
+
+    /// As a leave.
+    pub fn leave_with(&mut self, worker: usize, answer: bool) -> Result<Reply, Refused>
+        requires shaped { IsShaped self.old }
+        requires is_there { worker < length self.old.workers }
+        ensures outcome { IsAnswer (refusal_of self.old worker (event.LeaveWith answer)) (reply_of self.old worker (event.LeaveWith answer)) result }
+        ensures ok { OnOk result (self.new ≡ applied self.old worker (event.LeaveWith answer)) }
+        ensures err { OnErr result (self.new ≡ self.old) }
+    {
+        self.leave(worker)
     }
 
     pub fn scan(&mut self, worker: usize, other: u32) -> Result<Reply, Refused>

@@ -2,7 +2,7 @@
 ghost use Rattle.std.specs.Prelude.{◌≡◌};
 ghost use Rattle.nm_core.specs.Step.{is_edge};
 
-use nm_edge::Side;
+use nm_edge::{Key, Side};
 
 /// A field of a node.
 #[derive(Clone, Copy, Debug, PartialEq, Eq)]
@@ -21,15 +21,30 @@ impl Field {
     }
 }
 
+/// An operation of the set on a key.
+#[derive(Clone, Copy, Debug, PartialEq, Eq)]
+pub enum Op {
+    /// Whether the key is in the set.
+    Has,
+    /// Puts the key into the set; false where it was there.
+    Insert,
+    /// Takes the key out of the set; false where it wasn't there.
+    Delete,
+}
+
 /// One atomic step of a worker: one load, store, `fetch_or` or exchange of one word, with what the worker learns by it.
 #[derive(Clone, Copy, Debug, PartialEq, Eq)]
 pub enum Event {
     /// Reads the global epoch, which may confirm a pin or label a cut.
     Sight,
+    /// Reads the global epoch to confirm a pin, for an operation on a key that begins with it.
+    SightFor(Op, Key),
     /// Stores the epoch last read in the worker's own announcement.
     Announce,
     /// Clears the worker's own announcement.
     Leave,
+    /// Clears the worker's own announcement and answers the operation of its pin.
+    LeaveWith(bool),
     /// Reads the announcement of a worker.
     Scan(u32),
     /// Exchanges the global epoch, the one last read for the next.

@@ -27,7 +27,7 @@ ghost use Rattle.std.specs.Prelude.{◌≡◌, Some};
 ghost use Rattle.nm_core.specs.Schedules.{IsAsWorked};
 ghost use Rattle.nm_core.specs.Schedules as worked;
 
-pub use event::{Event, Field};
+pub use event::{Event, Field, Op};
 pub use laws::{
     counts_add_up, each_ledger_has_one_holder, each_slot_has_one_place, epochs_agree,
     frozen_edges_stay_frozen, grace_holds, labels_are_in_order, ledgers_are_the_cuts,

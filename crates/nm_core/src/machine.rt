@@ -130,8 +130,10 @@ impl Machine {
         let number = worker as usize;
         match event {
             Event::Sight => self.sight(number),
+            Event::SightFor(op, key) => self.sight_for(number, op, key),
             Event::Announce => self.announce(number),
             Event::Leave => self.leave(number),
+            Event::LeaveWith(answer) => self.leave_with(number, answer),
             Event::Scan(other) => self.scan(number, other),
             Event::Advance => self.advance(number),
             Event::Claim(slot) => self.claim(number, slot),

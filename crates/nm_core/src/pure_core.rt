@@ -143,14 +143,13 @@ impl Core {
             return Err(RunError { done: 0 });
         };
         for (done, turn) in events.iter().enumerate() {
-            let (worker, event) = *turn;
-            let Ok(outcome) = self.settle(worker, event) else {
+            let Ok(outcome) = self.settle(turn.0, turn.1) else {
                 return Err(RunError { done });
             };
             turns
                 .push(Turn {
-                    worker,
-                    event,
+                    worker: turn.0,
+                    event: turn.1,
                     outcome,
                 })
                 .unwrap();

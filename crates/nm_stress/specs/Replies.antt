@@ -5,7 +5,7 @@ use Rattle.nm_edge.specs.declared.node.NodeId.{NodeId}
 use Rattle.nm_core.specs.declared.reply.Reply.{Reply}
 use Rattle.nm_core.specs.declared.reply.Reply.TheVariants.{Saw, Labelled, Pinned, Missed, Announced, Departed, Idle, In, Moved, Behind, Claimed, Taken, Returned, Freed, KeyIs, BirthIs, EdgeIs, Filled, Linked, Flagged, Was, Cut, Lost, Joined}
 use Rattle.nm_core.specs.declared.reply.Refused.{Refused}
-use Rattle.nm_core.specs.declared.reply.Refused.TheVariants.{NoWorker, NoSlot, NotPinned, NotHeld, NotPrivate, NotReady, NotFront, TooYoung, NotFrozen, Spent, NoMemory}
+use Rattle.nm_core.specs.declared.reply.Refused.TheVariants.{NoWorker, NoSlot, NotPinned, NotHeld, NotPrivate, NotReady, NotFront, TooYoung, NotFrozen, Spent, NotOrdered, NoAnswer, NoMemory}
 
 -- the number of a refusal
 abbrev pub refusal_number : Refused → ℕ
@@ -20,6 +20,8 @@ refusal_number TooYoung = 8
 refusal_number NotFrozen = 9
 refusal_number Spent = 10
 refusal_number NoMemory = 11
+refusal_number NotOrdered = 12
+refusal_number NoAnswer = 13
 
 -- a slot, followed by f where the edge is flagged and t where it is tagged
 abbrev pub edge : Edge → List ℕ

@@ -97,6 +97,8 @@ fn refusal_number(refused: Refused) -> u64
         Refused::NotFrozen => 9,
         Refused::Spent => 10,
         Refused::NoMemory => 11,
+        Refused::NotOrdered => 12,
+        Refused::NoAnswer => 13,
     }
 }
 

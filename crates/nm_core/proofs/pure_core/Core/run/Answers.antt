@@ -10,9 +10,10 @@ unfolding trace
 loop-done-preserved c =
     let step = c.in-Ok-settle.ensures.ok in
     let more = after-more c.args.self.now c.deref-turn-items.result.now c.loop-done.done (0, Sight) (omega arith) in
+    let before = c.loop-done.invariant.state in
     record {
       trace = grind (arith, common_steps);
-      state = rw (more, ← c.loop-done.invariant.state) step;
+      state = grind (arith, common_steps);
       len = grind (arith, common_steps);
       room = grind (arith, common_steps);
     }
