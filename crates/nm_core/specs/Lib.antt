@@ -6,6 +6,9 @@ pub mod Knowledge
 pub mod Learning
 pub mod Step
 pub mod Runs
+pub mod Searches
+pub mod Walks
+pub mod Ordered
 pub mod Answers
 pub mod Paths
 pub mod Reports

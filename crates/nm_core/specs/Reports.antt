@@ -1,5 +1,5 @@
 -- A whole run, as it is told: each event with its outcome, and at the end each worker's ledger, the epoch and how many slots above 5 stand where.
-use Rattle.std.specs.Prelude.{ℕ, zero, suc, ◌+◌, ◌-◌, ◌==◌, Bool, true, false, List, [], ◌∷◌, ◌++◌, map, length, filter, sum_by, Option, Some, None, if◌then◌else◌, is_some}
+use Rattle.std.specs.Prelude.{ℕ, zero, suc, ◌+◌, ◌-◌, ◌==◌, nat_lt, ◌&&◌, Bool, true, false, List, [], ◌∷◌, ◌++◌, map, length, filter, sum_by, Option, Some, None, if◌then◌else◌, is_some}
 use Rattle.std.specs.List.{range_with_len}
 use Rattle.nm_edge.specs.Layouts.{Layout}
 use Rattle.nm_edge.specs.declared.edge.Side.TheVariants.{Left, Right}
@@ -7,10 +7,11 @@ use Rattle.nm_core.specs.declared.event.Event.{Event}
 use Rattle.nm_core.specs.declared.trace.Turn.{Turn}
 use Rattle.nm_core.specs.declared.ledger.Ledger.{Ledger}
 use Rattle.nm_core.specs.Maps.{or_else}
-use Rattle.nm_core.specs.Memory.{Memory, child}
+use Rattle.nm_core.specs.Memory.{Memory, node, child, is_leaf, infinity_0}
 use Rattle.nm_core.specs.Ledgers.{held, queue_of}
 use Rattle.nm_core.specs.Knowledge.{Knowledge}
 use Rattle.nm_core.specs.Runs.{State, start, after, trace}
+use Rattle.nm_core.specs.Ordered.{Configuration, ordered, after_in, trace_in}
 
 -- ---- ledgers by origin
 
@@ -52,6 +53,16 @@ counts s = record {
   queued = sum_by (λ k. sum_by (λ l. length (queue_of l)) k.ledgers) s.workers;
 }
 
+-- ---- the keys of the set
+
+-- a leaf with a key of the set
+abbrev pub has_key : Memory → ℕ → Bool
+has_key m s = is_leaf (node m s) && nat_lt (node m s).key infinity_0
+
+-- the keys of the reached leaves from left to right, without those of the fixed nodes
+abbrev pub keys : State → List ℕ
+keys s = map (λ x. (node s.memory x).key) (filter (has_key s.memory) (tree_slots s.layout.nodes s.memory 1))
+
 -- ---- the report
 
 pub record Report : Type 0 where
@@ -70,3 +81,14 @@ report_of turns s = record {
 
 unfoldable pub report : Layout → List (ℕ × Event) → Report
 report L ts = report_of (trace (start L) ts) (after (start L) ts)
+
+-- the report of an ordered core's run, with the keys at the end
+pub record OrderedReport : Type 0 where
+  pub report : Report
+  pub keys : List ℕ
+
+abbrev pub ordered_report_of : List Turn → Configuration → OrderedReport
+ordered_report_of turns c = record { report = report_of turns c.state; keys = keys c.state }
+
+unfoldable pub ordered_report : Layout → List (ℕ × Event) → OrderedReport
+ordered_report L ts = ordered_report_of (trace_in (ordered L) ts) (after_in (ordered L) ts)

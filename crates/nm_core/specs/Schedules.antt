@@ -5,16 +5,17 @@ use Rattle.nm_edge.specs.Layouts.{Layout}
 use Rattle.nm_edge.specs.declared.node.NodeId.{NodeId}
 use Rattle.nm_edge.specs.declared.edge.Side.TheVariants.{Left, Right}
 use Rattle.nm_core.specs.declared.event.Field.TheVariants.{Key, Edge as EdgeOn, Birth}
+use Rattle.nm_core.specs.declared.event.Op.TheVariants.{Has, Insert, Delete}
 use Rattle.nm_core.specs.declared.event.Event.{Event}
 use Rattle.nm_core.specs.declared.event.Event.TheVariants.{Sight, SightFor, Announce, Leave, LeaveWith, Scan, Advance, Claim, Give, Look, Fill, Link, Flag, Tag, Splice, Join}
 use Rattle.nm_core.specs.declared.reply.Reply.{Reply}
 use Rattle.nm_core.specs.declared.reply.Reply.TheVariants.{Saw, Labelled, Pinned, Missed, Announced, Departed, Idle, In, Moved, Behind, Claimed, Taken, Returned, Freed, KeyIs, BirthIs, EdgeIs, Filled, Linked, Flagged, Was, Cut, Lost, Joined}
 use Rattle.nm_core.specs.declared.reply.Refused.{Refused}
-use Rattle.nm_core.specs.declared.reply.Refused.TheVariants.{NoWorker, NoSlot, NotPinned, NotHeld, NotPrivate, NotReady, NotFront, TooYoung, NotFrozen}
+use Rattle.nm_core.specs.declared.reply.Refused.TheVariants.{NoWorker, NoSlot, NotPinned, NotHeld, NotPrivate, NotReady, NotFront, TooYoung, NotFrozen, NotOrdered, NoAnswer}
 use Rattle.nm_core.specs.declared.trace.Turn.{Turn}
 use Rattle.nm_core.specs.declared.ledger.Queued.{Queued}
 use Rattle.nm_core.specs.declared.ledger.Ledger.{Ledger}
-use Rattle.nm_core.specs.Reports.{Report, Counts, report}
+use Rattle.nm_core.specs.Reports.{Report, Counts, report, ordered_report}
 
 -- a worked schedule
 pub record Worked : Type 0 where
@@ -27,6 +28,10 @@ pub record Worked : Type 0 where
 -- played from the opening, the events have these outcomes, and lead to these ledgers, this epoch and these counts
 abbrev pub IsAsWorked : Worked → Type 0
 IsAsWorked x = report x.layout (map (λ t. (t.worker, t.event)) x.turns) ≡ record { trace = x.turns; ledgers = x.ledgers; epoch = x.epoch; counts = x.counts }
+
+-- the same in an ordered core, with these keys at the end
+abbrev pub IsAsWorkedInOrder : Worked → List ℕ → Type 0
+IsAsWorkedInOrder x keys = ordered_report x.layout (map (λ t. (t.worker, t.event)) x.turns) ≡ record { report = record { trace = x.turns; ledgers = x.ledgers; epoch = x.epoch; counts = x.counts }; keys = keys }
 
 abbrev pub t : ℕ → Event → Result Reply Refused → Turn
 t worker event outcome = record { worker = worker; event = event; outcome = outcome }
@@ -505,4 +510,93 @@ joining = record {
       [];
   epoch = 0;
   counts = record { pool = 2; private = 0; reached = 0; queued = 0 };
+}
+
+-- an insert in an ordered core: no link of a leaf with another key, and no leave without the answer
+abbrev pub insert_in_order : Worked
+insert_in_order = record {
+  layout = record { nodes = 7; workers = 1 };
+  turns =
+      t 0 Sight (Ok (Saw 0)) ∷
+      t 0 Announce (Ok (Announced 0)) ∷
+      t 0 (SightFor Insert 5) (Ok (Pinned 0)) ∷
+      t 0 (Look 2 (EdgeOn Left)) (Ok (EdgeIs (e 3 false false))) ∷
+      t 0 (Look 3 Key) (Ok (KeyIs 18446744073709551613)) ∷
+      t 0 (Look 3 (EdgeOn Left)) (Ok (EdgeIs (e 0 false false))) ∷
+      t 0 (LeaveWith false) (Err NoAnswer) ∷
+      t 0 (Claim 6) (Ok (Claimed 6)) ∷
+      t 0 (Fill 6 Birth 1) (Ok Filled) ∷
+      t 0 (Claim 7) (Ok (Claimed 7)) ∷
+      t 0 (Fill 7 Birth 1) (Ok Filled) ∷
+      t 0 (Fill 6 Key 18446744073709551613) (Ok Filled) ∷
+      t 0 (Fill 6 (EdgeOn Left) 7) (Ok Filled) ∷
+      t 0 (Fill 6 (EdgeOn Right) 3) (Ok Filled) ∷
+      t 0 (Fill 7 Key 4) (Ok Filled) ∷
+      t 0 (Fill 7 (EdgeOn Left) 0) (Ok Filled) ∷
+      t 0 (Fill 7 (EdgeOn Right) 0) (Ok Filled) ∷
+      t 0 (Link 2 Left 3 6) (Err NotOrdered) ∷
+      t 0 (Fill 7 Key 5) (Ok Filled) ∷
+      t 0 (Link 2 Left 3 6) (Ok (Linked (n 6 1))) ∷
+      t 0 Leave (Err NoAnswer) ∷
+      t 0 (LeaveWith false) (Err NoAnswer) ∷
+      t 0 (LeaveWith true) (Ok Departed) ∷
+      [];
+  ledgers = l [] [] [] ∷ [];
+  epoch = 0;
+  counts = record { pool = 0; private = 0; reached = 2; queued = 0 };
+}
+
+-- a delete in an ordered core, which flags one leaf alone, and whose own splice shows the answer
+abbrev pub delete_in_order : Worked
+delete_in_order = record {
+  layout = record { nodes = 7; workers = 1 };
+  turns =
+      t 0 Sight (Ok (Saw 0)) ∷
+      t 0 Announce (Ok (Announced 0)) ∷
+      t 0 (SightFor Insert 5) (Ok (Pinned 0)) ∷
+      t 0 (SightFor Insert 5) (Err NotReady) ∷
+      t 0 (Look 2 (EdgeOn Left)) (Ok (EdgeIs (e 3 false false))) ∷
+      t 0 (Look 3 Key) (Ok (KeyIs 18446744073709551613)) ∷
+      t 0 (Look 3 (EdgeOn Left)) (Ok (EdgeIs (e 0 false false))) ∷
+      t 0 (Claim 6) (Ok (Claimed 6)) ∷
+      t 0 (Fill 6 Birth 1) (Ok Filled) ∷
+      t 0 (Claim 7) (Ok (Claimed 7)) ∷
+      t 0 (Fill 7 Birth 1) (Ok Filled) ∷
+      t 0 (Fill 6 Key 18446744073709551613) (Ok Filled) ∷
+      t 0 (Fill 6 (EdgeOn Left) 7) (Ok Filled) ∷
+      t 0 (Fill 6 (EdgeOn Right) 3) (Ok Filled) ∷
+      t 0 (Fill 7 Key 5) (Ok Filled) ∷
+      t 0 (Fill 7 (EdgeOn Left) 0) (Ok Filled) ∷
+      t 0 (Fill 7 (EdgeOn Right) 0) (Ok Filled) ∷
+      t 0 (Link 2 Left 3 6) (Ok (Linked (n 6 1))) ∷
+      t 0 (LeaveWith true) (Ok Departed) ∷
+      t 0 Announce (Ok (Announced 0)) ∷
+      t 0 (SightFor Delete 5) (Ok (Pinned 0)) ∷
+      t 0 (Look 2 (EdgeOn Left)) (Ok (EdgeIs (e 6 false false))) ∷
+      t 0 (Look 6 Key) (Ok (KeyIs 18446744073709551613)) ∷
+      t 0 (Look 6 (EdgeOn Left)) (Ok (EdgeIs (e 7 false false))) ∷
+      t 0 (Look 7 (EdgeOn Right)) (Ok (EdgeIs (e 0 false false))) ∷
+      t 0 (Flag 6 Left 7) (Err NotOrdered) ∷
+      t 0 (Look 7 Key) (Ok (KeyIs 5)) ∷
+      t 0 (Look 7 (EdgeOn Left)) (Ok (EdgeIs (e 0 false false))) ∷
+      t 0 (Flag 6 Left 7) (Err NotOrdered) ∷
+      t 0 (Look 7 (EdgeOn Right)) (Ok (EdgeIs (e 0 false false))) ∷
+      t 0 (LeaveWith false) (Err NoAnswer) ∷
+      t 0 (Flag 6 Left 7) (Ok (Flagged (n 7 1))) ∷
+      t 0 (Flag 6 Left 7) (Err NotOrdered) ∷
+      t 0 (LeaveWith true) (Err NoAnswer) ∷
+      t 0 (Look 2 (EdgeOn Left)) (Ok (EdgeIs (e 6 false false))) ∷
+      t 0 (Look 6 Key) (Ok (KeyIs 18446744073709551613)) ∷
+      t 0 (Look 6 (EdgeOn Left)) (Ok (EdgeIs (e 7 true false))) ∷
+      t 0 (Look 7 Key) (Ok (KeyIs 5)) ∷
+      t 0 (Look 7 (EdgeOn Right)) (Ok (EdgeIs (e 0 false false))) ∷
+      t 0 (LeaveWith true) (Err NoAnswer) ∷
+      t 0 (Tag 6 Right) (Ok (Was (e 3 false false))) ∷
+      t 0 (Splice 2 Left 6 6 Right) (Ok (Cut (n 6 1 ∷ n 7 1 ∷ []))) ∷
+      t 0 Sight (Ok (Labelled 0)) ∷
+      t 0 (LeaveWith true) (Ok Departed) ∷
+      [];
+  ledgers = l (n 6 1 ∷ n 7 1 ∷ []) [] (q (n 6 1) (Some 0) ∷ q (n 7 1) (Some 0) ∷ []) ∷ [];
+  epoch = 0;
+  counts = record { pool = 0; private = 0; reached = 0; queued = 2 };
 }

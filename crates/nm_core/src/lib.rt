@@ -15,6 +15,7 @@ mod pool_steps;
 mod pure_core;
 mod queue;
 mod reply;
+mod search;
 mod slot_map;
 mod trace;
 mod tree_steps;
@@ -23,8 +24,8 @@ mod worker;
 /// The greatest epoch and the greatest birth, 2^62.
 pub const LAST_NUMBER: u64 = 1 << 62;
 
-ghost use Rattle.std.specs.Prelude.{◌≡◌, Some};
-ghost use Rattle.nm_core.specs.Schedules.{IsAsWorked};
+ghost use Rattle.std.specs.Prelude.{◌≡◌, [], ◌∷◌, Some};
+ghost use Rattle.nm_core.specs.Schedules.{IsAsWorked, IsAsWorkedInOrder};
 ghost use Rattle.nm_core.specs.Schedules as worked;
 
 pub use event::{Event, Field, Op};
@@ -54,6 +55,8 @@ pub fn worked_schedules()
     ensures order_and_age { IsAsWorked worked.order_and_age }
     ensures refusals { IsAsWorked worked.refusals }
     ensures joining { IsAsWorked worked.joining }
+    ensures insert_in_order { IsAsWorkedInOrder worked.insert_in_order (5 ∷ []) }
+    ensures delete_in_order { IsAsWorkedInOrder worked.delete_in_order [] }
 {}
 
 #[cfg(test)]

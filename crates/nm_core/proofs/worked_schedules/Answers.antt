@@ -1,7 +1,9 @@
 -- Each worked schedule, by computation.
 use Rattle.std.proofs.Common.{refl}
-use Rattle.nm_core.specs.Reports.{report}
+use Rattle.nm_core.specs.Reports.{report, ordered_report}
 use Rattle.nm_core.specs.Runs.{trace, after, outcome, next, refused, applied}
+use Rattle.nm_core.specs.Ordered.{trace_in, after_in, outcome_in, next_in, refused_in, applied_in}
+use Rattle.nm_core.specs.Searches.{searched}
 use Rattle.nm_core.specs.Step.{refusal, reply, write}
 use Rattle.nm_core.specs.Learning.{learn}
 use Rattle.nm_core.proofs.worked_schedules.Goals as goal
@@ -49,3 +51,11 @@ returns-clause-refusals c = refl
 pub returns-clause-joining : goal.returns-clause-joining
 unfolding report trace after outcome next refused applied refusal reply write learn
 returns-clause-joining c = refl
+
+pub returns-clause-insert_in_order : goal.returns-clause-insert_in_order
+unfolding ordered_report trace_in after_in outcome_in next_in refused_in applied_in searched refused applied refusal reply write learn
+returns-clause-insert_in_order c = refl
+
+pub returns-clause-delete_in_order : goal.returns-clause-delete_in_order
+unfolding ordered_report trace_in after_in outcome_in next_in refused_in applied_in searched refused applied refusal reply write learn
+returns-clause-delete_in_order c = refl
