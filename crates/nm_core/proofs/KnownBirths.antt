@@ -51,9 +51,9 @@ record Fits (m : Memory) (k : Knowledge) : Type 0 where
   key : (x v : ℕ) → (draft_of k x).key ≡ Some v → (node m x).key ≡ v
 
 -- the words of a node that edges leave alone
-record SameNode (m n : Memory) (x : ℕ) : Type 0 where
-  birth : (node n x).birth ≡ (node m x).birth
-  key : (node n x).key ≡ (node m x).key
+pub record SameNode (m n : Memory) (x : ℕ) : Type 0 where
+  pub birth : (node n x).birth ≡ (node m x).birth
+  pub key : (node n x).key ≡ (node m x).key
 
 node_same : (m : Memory) (p : ℕ) (n : Node) → n.birth ≡ (node m p).birth → n.key ≡ (node m p).key → (x : ℕ) → SameNode m (put_node m p n) x
 node_same m p n birth key x = elim (ℕ_discrete x p) [
@@ -75,7 +75,7 @@ exchange_same : (m : Memory) (p : ℕ) (d : Side) (leaf : ℕ) (e : Edge) (x : �
 exchange_same m p d leaf e x = cond_both (is_to (edge m p d) leaf) (put_edge m p d e) m (λ n. SameNode m n x) (λ _. edge_same m p d e x) (λ _. itself m x)
 
 -- only a fill changes a node's birth or key, of its own slot
-written_same : (m : Memory) (k : Knowledge) (w : ℕ) (e : Event) (x : ℕ) → ((y : ℕ) (f : Field) (v : ℕ) → e ≡ Fill y f v → x ≢ y) → SameNode m (write m k w e) x
+pub written_same : (m : Memory) (k : Knowledge) (w : ℕ) (e : Event) (x : ℕ) → ((y : ℕ) (f : Field) (v : ℕ) → e ≡ Fill y f v → x ≢ y) → SameNode m (write m k w e) x
 unfolding write
 written_same m k w Advance x apart = cond_both (is_number k.brief.seen m.epoch) (record m { epoch = m.epoch + 1 }) m (λ n. SameNode m n x) (λ _. record { birth = refl; key = refl }) (λ _. itself m x)
 written_same m k w (Fill y f v) x apart = record { birth = ap (λ (z : Node). z.birth) (get_or-set_other m.nodes y x (filled (node m y) f v) blank (apart y f v refl)); key = ap (λ (z : Node). z.key) (get_or-set_other m.nodes y x (filled (node m y) f v) blank (apart y f v refl)) }

@@ -16,7 +16,9 @@ pub mod Held
 pub mod Epochs
 pub mod Pins
 pub mod Trees
+pub mod Searching
 pub mod CutPaths
+pub mod OrderedTrees
 pub mod Pictures
 pub mod Slots
 pub mod Readings
@@ -49,4 +51,7 @@ pub mod Once
 pub mod Labels
 pub mod Grace
 pub mod KnownBirths
+pub mod TreeChanges
+pub mod SearchSteps
+pub mod OrderedWalks
 pub mod Reachable

@@ -25,16 +25,16 @@ use Rattle.nm_core.proofs.Views.{view, law_of, with_worker, row, same_row, late_
 use Rattle.nm_core.proofs.TreeSlots.{is_to-true, leaf_known, known_live, lost_view}
 
 -- what a linkable draft shows
-record Linkable (k : Knowledge) (new leaf : ℕ) : Type 0 where
-  far : ℕ
-  side : Side
-  is_far : unwrap_or (beside (draft_of k new) leaf) 0 ≡ far
-  over_leaf : drafted_on (draft_of k new) side ≡ Some leaf
-  over_far : (far ≡ 0) ⊎ (drafted_on (draft_of k new) (other side) ≡ Some far)
-  far_own : is_private k far ≡ true
-  far_null : (f : Side) → drafted_on (draft_of k far) f ≡ Some 0
+pub record Linkable (k : Knowledge) (new leaf : ℕ) : Type 0 where
+  pub far : ℕ
+  pub side : Side
+  pub is_far : unwrap_or (beside (draft_of k new) leaf) 0 ≡ far
+  pub over_leaf : drafted_on (draft_of k new) side ≡ Some leaf
+  pub over_far : (far ≡ 0) ⊎ (drafted_on (draft_of k new) (other side) ≡ Some far)
+  pub far_own : is_private k far ≡ true
+  pub far_null : (f : Side) → drafted_on (draft_of k far) f ≡ Some 0
 
-linkable : (k : Knowledge) (new leaf : ℕ) → is_linkable k new leaf ≡ true → Linkable k new leaf
+pub linkable : (k : Knowledge) (new leaf : ℕ) → is_linkable k new leaf ≡ true → Linkable k new leaf
 linkable k new leaf h = go (is_number (draft_of k new).left leaf) refl (or_cases (is_number (draft_of k new).left leaf) (is_number (draft_of k new).right leaf) over)
   where
     one : (is_fork_over (draft_of k new) leaf ≡ true) × (is_leaf_draft k (unwrap_or (beside (draft_of k new) leaf) 0) ≡ true)
@@ -81,7 +81,7 @@ linkable k new leaf h = go (is_number (draft_of k new).left leaf) refl (or_cases
       far_null = null;
     }
 
-link_shown : (N : ℕ) (m : Memory) (kn : ℕ → Knowledge) (hold : ℕ → ℕ) (w p : ℕ) (d : Side) (leaf new : ℕ) → knows (kn w) p ≡ true → knows (kn w) leaf ≡ true → knows_leaf (kn w) leaf ≡ true → is_private (kn w) new ≡ true
+pub link_shown : (N : ℕ) (m : Memory) (kn : ℕ → Knowledge) (hold : ℕ → ℕ) (w p : ℕ) (d : Side) (leaf new : ℕ) → knows (kn w) p ≡ true → knows (kn w) leaf ≡ true → knows_leaf (kn w) leaf ≡ true → is_private (kn w) new ≡ true
     → (l : Linkable (kn w) new leaf) → edge m p d ≡ to leaf → TreeLaw N (view m kn hold) → IsLink N (view m kn hold) w p d leaf new l.far l.side
 link_shown N m kn hold w p d leaf new known held leafy own l is law = record {
   live = known_live N m kn hold w p law known;
