@@ -13,13 +13,13 @@ use Rattle.nm_core.specs.declared.reply.Refused.{Refused}
 use Rattle.nm_core.specs.declared.reply.Refused.TheVariants.{NotOrdered, NoAnswer}
 use Rattle.nm_core.specs.declared.trace.Turn.{Turn}
 use Rattle.nm_core.specs.declared.knowledge.Draft.{Draft}
-use Rattle.nm_core.specs.declared.search.Call.{Call}
-use Rattle.nm_core.specs.declared.search.Arrival.{Arrival}
+use Rattle.nm_core.specs.declared.walks.Call.{Call}
+use Rattle.nm_core.specs.declared.walks.Arrival.{Arrival}
 use Rattle.nm_core.specs.Maps.{is_number, or_else}
 use Rattle.nm_core.specs.Knowledge.{Knowledge, draft_of, beside}
 use Rattle.nm_core.specs.Step.{first, ◌refuses◌}
-use Rattle.nm_core.specs.Runs.{State, of, start, refused, reply_of, applied, answered}
-use Rattle.nm_core.specs.Searches.{Search, idle, searched, is_by}
+use Rattle.nm_core.specs.Runs.{State, of, start, refusal_of, refused, reply_of, applied, answered}
+use Rattle.nm_core.specs.Searches.{Search, Roomy, told, idle, searched, is_by}
 
 -- ---- what the log shows
 
@@ -64,18 +64,16 @@ forks_over d leaf k None = false
 forks_over d leaf k (Some v) = not (v == k) && is_fork_for d leaf k v
 
 -- a walk ended at the leaf by that edge, and the new nodes put k beside it
-abbrev pub may_link_at : Knowledge → ℕ → ℕ → Side → ℕ → ℕ → Arrival → Bool
-may_link_at k key p side leaf new a = is_by leaf p side a && (a.ended && forks_over (draft_of k new) leaf key a.key)
+abbrev pub may_link_at : Draft → ℕ → ℕ → Side → ℕ → Arrival → Bool
+may_link_at d key p side leaf a = is_by leaf p side a && (a.ended && forks_over d leaf key a.key)
 
-abbrev pub has_key : Knowledge → ℕ → ℕ → Bool
-has_key k slot key = is_number (draft_of k slot).key key
-
-abbrev pub new_leaf : Knowledge → ℕ → ℕ → ℕ
-new_leaf k leaf new = unwrap_or (beside (draft_of k new) leaf) 0
+-- the new leaf, of the two nodes under the new internal node the one beside the leaf
+abbrev pub new_leaf : Knowledge → ℕ → ℕ → Draft
+new_leaf k leaf new = draft_of k (unwrap_or (beside (draft_of k new) leaf) 0)
 
 -- a call to insert links once, where a walk of it ended
 abbrev pub inserts : Knowledge → Search → Op → ℕ → ℕ → Side → ℕ → ℕ → Bool
-inserts k s Insert key p side leaf new = not s.linked && (has_key k (new_leaf k leaf new) key && list_any (may_link_at k key p side leaf new) s.walks)
+inserts k s Insert key p side leaf new = not s.linked && (is_number (new_leaf k leaf new).key key && list_any (may_link_at (draft_of k new) key p side leaf) s.walks)
 inserts k s _ key p side leaf new = false
 
 -- a walk ended by that edge at the leaf, which has key k
@@ -124,12 +122,20 @@ abbrev pub disorder_among : Option (List Search) → Knowledge → ℕ → Event
 disorder_among None k w e = None
 disorder_among (Some ss) k w e = disorder k (search_of ss w) e
 
+-- the least refusal of an event of a worker that is there
+abbrev pub refusal_in : State → List Search → ℕ → Event → Option Refused
+refusal_in s ss w e = or_else (refusal_of s w e) (disorder (of s w) (search_of ss w) e)
+
 abbrev pub disorder_in : Configuration → ℕ → Event → Option Refused
 disorder_in c w e = disorder_among c.searches (of c.state w) w e
 
 -- the least refusal that holds, if one does: a plain core's first
 unfoldable pub refused_in : Configuration → ℕ → Event → Option Refused
 refused_in c w e = or_else (refused c.state w e) (disorder_in c w e)
+
+-- as the code keeps an ordered core
+abbrev pub in_order : State → List Roomy → Configuration
+in_order s ss = record { state = s; searches = Some (told ss) }
 
 abbrev pub learned_from : List Search → ℕ → Event → Reply → List Search
 learned_from ss w e r = slice_set ss w (searched (search_of ss w) e r)

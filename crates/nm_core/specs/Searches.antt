@@ -1,5 +1,5 @@
 -- What one worker's log tells of the operation of its pin: the walks for its key, and what it changed.
-use Rattle.std.specs.Prelude.{◌≡◌, ℕ, ◌==◌, nat_lt, Bool, true, false, not, ◌&&◌, ◌||◌, List, [], ◌∷◌, ◌++◌, map, if◌then◌else◌, Option, Some, None, is_some, is_none}
+use Rattle.std.specs.Prelude.{◌≡◌, ℕ, ◌==◌, nat_lt, ◌<◌, length, slice_index_or, Bool, true, false, not, ◌&&◌, ◌||◌, List, [], ◌∷◌, ◌++◌, map, if◌then◌else◌, Option, Some, None, is_some, is_none}
 use Rattle.std.specs.List.{list_any}
 use Rattle.nm_edge.specs.Edges.{Edge, other}
 use Rattle.nm_edge.specs.declared.edge.Side.{Side}
@@ -13,8 +13,8 @@ use Rattle.nm_core.specs.declared.event.Event.{Event}
 use Rattle.nm_core.specs.declared.event.Event.TheVariants.{Sight, SightFor, Leave, LeaveWith, Look, Link, Flag, Splice}
 use Rattle.nm_core.specs.declared.reply.Reply.{Reply}
 use Rattle.nm_core.specs.declared.reply.Reply.TheVariants.{Pinned, Departed, KeyIs, EdgeIs, Linked, Flagged, Cut}
-use Rattle.nm_core.specs.declared.search.Call.{Call}
-use Rattle.nm_core.specs.declared.search.Arrival.{Arrival}
+use Rattle.nm_core.specs.declared.walks.Call.{Call}
+use Rattle.nm_core.specs.declared.walks.Arrival.{Arrival}
 use Rattle.nm_core.specs.Maps.{is_number}
 
 -- ---- walks
@@ -92,9 +92,14 @@ pub record Search : Type 0 where
 abbrev pub idle : Search
 idle = record { call = None; linked = false; flagged = None; cut = false; walks = []; later = [] }
 
--- a pin was confirmed for a call
-abbrev pub called : Op → ℕ → Search
-called op key = record { call = Some (record { op = op; key = key }); linked = false; flagged = None; cut = false; walks = []; later = [] }
+-- a pin is confirmed for a call, or for none
+abbrev pub begun : Search → Option Call → Reply → Search
+begun s call (Pinned e) = record { call = call; linked = false; flagged = None; cut = false; walks = []; later = [] }
+begun s call _ = s
+
+abbrev pub left : Search → Reply → Search
+left s Departed = idle
+left s _ = s
 
 -- walks after the flag, once there is one
 abbrev pub later_walked : Option NodeId → ℕ → List Arrival → ℕ → Field → Reply → List Arrival
@@ -105,19 +110,53 @@ abbrev pub look_for : Search → Option Call → ℕ → Field → Reply → Sea
 look_for s None slot field r = s
 look_for s (Some c) slot field r = record s { walks = walked c.key s.walks slot field r; later = later_walked s.flagged c.key s.later slot field r }
 
+-- a search as the code keeps it: with how many arrivals its two lists have room for
+pub record Roomy : Type 0 where
+  pub tells : Search
+  pub room : ℕ
+  pub later_room : ℕ
+
+abbrev pub told : List Roomy → List Search
+told ss = map (λ s. s.tells) ss
+
+abbrev pub roomy_of : List Roomy → ℕ → Roomy
+roomy_of ss w = slice_index_or ss w (record { tells = idle; room = 0; later_room = 0 })
+
+-- one more arrival fits into each list
+pub record HasRoom (s : Roomy) : Type 0 where
+  pub walks : length s.tells.walks < s.room
+  pub later : length s.tells.later < s.later_room
+
+-- only a look takes room
+abbrev pub HasRoomFor : Event → Roomy → Type 0
+HasRoomFor (Look slot field) s = HasRoom s
+HasRoomFor e s = Unit {0}
+
 -- the flagged leaf is one of these nodes
 abbrev pub is_flagged_in : Option NodeId → List NodeId → Bool
 is_flagged_in None ns = false
 is_flagged_in (Some n) ns = list_any (is_node n) ns
 
+abbrev pub linked : Search → Reply → Search
+linked s (Linked n) = record s { linked = true }
+linked s _ = s
+
+abbrev pub flagged : Search → Reply → Search
+flagged s (Flagged n) = record s { flagged = Some n }
+flagged s _ = s
+
+abbrev pub spliced : Search → Reply → Search
+spliced s (Cut ns) = record s { cut = s.cut || is_flagged_in s.flagged ns }
+spliced s _ = s
+
 -- how an event with its reply adds to a search
 unfoldable pub searched : Search → Event → Reply → Search
-searched s Sight (Pinned e) = idle
-searched s (SightFor op key) (Pinned e) = called op key
-searched s Leave Departed = idle
-searched s (LeaveWith answer) Departed = idle
+searched s Sight r = begun s None r
+searched s (SightFor op key) r = begun s (Some (record { op = op; key = key })) r
+searched s Leave r = left s r
+searched s (LeaveWith answer) r = left s r
 searched s (Look slot field) r = look_for s s.call slot field r
-searched s (Link p side leaf new) (Linked n) = record s { linked = true }
-searched s (Flag p side leaf) (Flagged n) = record s { flagged = Some n }
-searched s (Splice a side x p keep) (Cut ns) = record s { cut = s.cut || is_flagged_in s.flagged ns }
-searched s _ _ = s
+searched s (Link p side leaf new) r = linked s r
+searched s (Flag p side leaf) r = flagged s r
+searched s (Splice a side x p keep) r = spliced s r
+searched s _ r = s

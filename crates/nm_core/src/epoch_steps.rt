@@ -1,10 +1,10 @@
 //! The steps on the global epoch and the announcements.
 #![tactic(auto, unfolding(crate::specs::Step::refusal, crate::specs::Step::reply, crate::specs::Step::write, crate::specs::Learning::learn, crate::specs::Runs::applied))]
 
-ghost use Rattle.std.specs.Prelude.{◌≡◌, ◌<◌, length, OnOk, OnErr};
+ghost use Rattle.std.specs.Prelude.{◌≡◌, ◌≢◌, ◌<◌, length, None, OnOk, OnErr, IfErr};
 ghost use Rattle.nm_core.specs.declared.event.Event.TheVariants as event;
 ghost use Rattle.nm_core.specs.Runs.{refusal_of, reply_of, applied};
-ghost use Rattle.nm_core.specs.Answers.{IsAnswer, IsShaped};
+ghost use Rattle.nm_core.specs.Answers.{IsAnswer, IsRefusedAs, IsShaped};
 
 use crate::LAST_NUMBER;
 use crate::event::Op;
@@ -55,6 +55,19 @@ impl Machine {
         Ok(Reply::Announced(epoch))
     }
 
+    /// Whether the announcement may be cleared.
+    pub fn may_leave(&self, worker: usize) -> Result<(), Refused>
+        requires { worker < length self.now.workers }
+        ensures allowed { OnOk result (refusal_of self.now worker event.Leave ≡ None) }
+        ensures refused { IfErr result (IsRefusedAs (refusal_of self.now worker event.Leave)) }
+        ensures not_memory { IfErr result (λ why. why ≢ Refused.NoMemory) }
+    {
+        if self.workers[worker].brief().unlabelled {
+            return Err(Refused::NotReady);
+        }
+        Ok(())
+    }
+
     pub fn leave(&mut self, worker: usize) -> Result<Reply, Refused>
         requires shaped { IsShaped self.old }
         requires is_there { worker < length self.old.workers }
@@ -62,9 +75,7 @@ impl Machine {
         ensures ok { OnOk result (self.new ≡ applied self.old worker event.Leave) }
         ensures err { OnErr result (self.new ≡ self.old) }
     {
-        if self.workers[worker].brief().unlabelled {
-            return Err(Refused::NotReady);
-        }
+        self.may_leave(worker)?;
         self.notes[worker] = None;
         self.workers[worker].leave();
         Ok(Reply::Departed)

@@ -4,9 +4,11 @@ ghost use Rattle.std.specs.Prelude.{◌≡◌, ◌<◌, ◌^◌, true};
 ghost use Rattle.nm_core.specs.Knowledge.{unread, unfilled, read_on, beside};
 ghost use Rattle.nm_core.specs.Learning.{with_read, filled_in};
 ghost use Rattle.nm_core.specs.Step.{is_edge, is_early, is_fork_over};
+ghost use Rattle.nm_core.specs.Maps.{is_number};
+ghost use Rattle.nm_core.specs.Ordered.{is_fork_for};
 
 use crate::event::Field;
-use nm_edge::{Edge, Side};
+use nm_edge::{Edge, Key, Side};
 
 /// The epochs of a worker.
 #[derive(Clone, Copy, Debug, PartialEq, Eq)]
@@ -97,6 +99,25 @@ impl Draft {
         ensures { result ≡ is_fork_over self leaf }
     {
         self.key.is_some() && (self.left == Some(leaf) || self.right == Some(leaf))
+    }
+
+    /// Whether this key was stored.
+    pub fn has_key(self, key: Key) -> bool
+        ensures { result ≡ is_number self.key key }
+    {
+        self.key == Some(key.get())
+    }
+
+    /// Whether it is filled as an internal node over a leaf with another key and a new leaf with this one:
+    /// with the greater of both keys, and the lesser leaf on the left.
+    pub fn is_fork_for(self, leaf: u32, key: Key, other: u64) -> bool
+        ensures { result ≡ is_fork_for self leaf key other }
+    {
+        if key.get() < other {
+            self.key == Some(other) && self.right == Some(leaf)
+        } else {
+            self.key == Some(key.get()) && self.left == Some(leaf)
+        }
     }
 
     /// Of the two filled edges the one that does not lead to the leaf.

@@ -1,6 +1,8 @@
 //! The pure core: every word of the tree and what every worker knows as plain data, moved by one event at a time.
 #![tactic(auto)]
 
+mod call;
+mod calls;
 mod chain;
 mod epoch_steps;
 mod event;
@@ -16,10 +18,10 @@ mod pool_steps;
 mod pure_core;
 mod queue;
 mod reply;
-mod search;
 mod slot_map;
 mod trace;
 mod tree_steps;
+mod walks;
 mod worker;
 
 /// The greatest epoch and the greatest birth, 2^62.

@@ -1,9 +1,9 @@
 //! The steps on the pool, and the fields of slots.
 #![tactic(auto, unfolding(crate::specs::Step::refusal, crate::specs::Step::reply, crate::specs::Step::write, crate::specs::Learning::learn, crate::specs::Runs::applied))]
 
-ghost use Rattle.std.specs.Prelude.{◌≡◌, ◌<◌, ◌≤◌, ◌^◌, true, length, OnOk, OnErr, IfErr};
+ghost use Rattle.std.specs.Prelude.{◌≡◌, ◌≢◌, ◌<◌, ◌≤◌, ◌^◌, true, false, None, length, OnOk, OnErr, IfErr};
 ghost use Rattle.nm_core.specs.declared.event.Event.TheVariants as event;
-ghost use Rattle.nm_core.specs.Knowledge.{is_private};
+ghost use Rattle.nm_core.specs.Knowledge.{is_private, knows};
 ghost use Rattle.nm_core.specs.Step.{is_edge};
 ghost use Rattle.nm_core.specs.Runs.{of, refusal_of, reply_of, applied};
 ghost use Rattle.nm_core.specs.Answers.{IsAnswer, IsRefusedAs, IsShaped};
@@ -54,12 +54,15 @@ impl Machine {
         Ok(Reply::Freed(node))
     }
 
-    pub fn look(&mut self, worker: usize, slot: u32, field: Field) -> Result<Reply, Refused>
-        requires shaped { IsShaped self.old }
-        requires is_there { worker < length self.old.workers }
-        ensures outcome { IsAnswer (refusal_of self.old worker (event.Look slot field)) (reply_of self.old worker (event.Look slot field)) result }
-        ensures ok { OnOk result (self.new ≡ applied self.old worker (event.Look slot field)) }
-        ensures err { OnErr result (self.new ≡ self.old) }
+    /// Whether a field of the slot may be read.
+    pub fn may_look(&self, worker: usize, slot: u32, field: Field) -> Result<(), Refused>
+        requires shaped { IsShaped self.now }
+        requires is_there { worker < length self.now.workers }
+        ensures allowed { OnOk result (refusal_of self.now worker (event.Look slot field) ≡ None) }
+        ensures refused { IfErr result (IsRefusedAs (refusal_of self.now worker (event.Look slot field))) }
+        ensures not_memory { IfErr result (λ why. why ≢ Refused.NoMemory) }
+        ensures slot { OnOk result (slot ≤ self.now.layout.nodes) }
+        ensures known { OnOk result (is_private (of self.now worker) slot ≡ false → knows (of self.now worker) slot ≡ true) }
     {
         if self.is_outside(1, slot) {
             return Err(Refused::NoSlot);
@@ -73,6 +76,17 @@ impl Machine {
                 return Err(Refused::NotHeld);
             }
         }
+        Ok(())
+    }
+
+    pub fn look(&mut self, worker: usize, slot: u32, field: Field) -> Result<Reply, Refused>
+        requires shaped { IsShaped self.old }
+        requires is_there { worker < length self.old.workers }
+        ensures outcome { IsAnswer (refusal_of self.old worker (event.Look slot field)) (reply_of self.old worker (event.Look slot field)) result }
+        ensures ok { OnOk result (self.new ≡ applied self.old worker (event.Look slot field)) }
+        ensures err { OnErr result (self.new ≡ self.old) }
+    {
+        self.may_look(worker, slot, field)?;
         let node = self.nodes[slot as usize];
         Ok(self.workers[worker].look(slot, field, node)?)
     }

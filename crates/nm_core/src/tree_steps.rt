@@ -16,8 +16,8 @@ use nm_edge::{Edge, NodeId, Side};
 use std::alloc::AllocError;
 
 impl Machine {
-    // Whether the exchange may be tried.
-    fn may_link(
+    /// Whether the exchange may be tried.
+    pub fn may_link(
         &self,
         worker: usize,
         parent: u32,
@@ -29,6 +29,7 @@ impl Machine {
         requires is_there { worker < length self.now.workers }
         ensures allowed { OnOk result (refusal_of self.now worker (event.Link parent side leaf new) ≡ None) }
         ensures refused { IfErr result (IsRefusedAs (refusal_of self.now worker (event.Link parent side leaf new))) }
+        ensures not_memory { IfErr result (λ why. why ≢ Refused.NoMemory) }
         ensures slot { OnOk result (parent ≤ self.now.layout.nodes) }
         ensures known { OnOk result (knows (of self.now worker) parent ≡ true) }
     {
@@ -76,12 +77,13 @@ impl Machine {
         Ok(Reply::Linked(node))
     }
 
-    // Whether the exchange may be tried.
-    fn may_flag(&self, worker: usize, parent: u32, side: Side, leaf: u32) -> Result<(), Refused>
+    /// Whether the exchange may be tried.
+    pub fn may_flag(&self, worker: usize, parent: u32, side: Side, leaf: u32) -> Result<(), Refused>
         requires shaped { IsShaped self.now }
         requires is_there { worker < length self.now.workers }
         ensures allowed { OnOk result (refusal_of self.now worker (event.Flag parent side leaf) ≡ None) }
         ensures refused { IfErr result (IsRefusedAs (refusal_of self.now worker (event.Flag parent side leaf))) }
+        ensures not_memory { IfErr result (λ why. why ≢ Refused.NoMemory) }
         ensures slot { OnOk result (parent ≤ self.now.layout.nodes) }
         ensures known { OnOk result (knows (of self.now worker) parent ≡ true) }
         ensures leaf { OnOk result (leaf ≢ 0) }

@@ -3,11 +3,12 @@ ghost use Rattle.std.specs.Prelude.{◌≡◌, ◌≢◌, ◌<◌, ◌==◌, ◌
 ghost use Rattle.std.specs.Option.{option_copied};
 ghost use Rattle.nm_core.specs.declared.event.Field.TheVariants.{Birth};
 ghost use Rattle.nm_core.specs.declared.reply.Reply.TheVariants.{BirthIs};
-ghost use Rattle.nm_core.specs.Maps.{put, without};
+ghost use Rattle.nm_core.specs.Maps.{put, without, is_number};
 ghost use Rattle.nm_core.specs.Ledgers.{held, front_of, free};
 ghost use Rattle.nm_core.specs.Knowledge.{newcomer, unfilled, knows, is_private, seen_of, draft_of, beside, read, is_null, is_flagged, is_tagged, knows_leaf};
 ghost use Rattle.nm_core.specs.Learning.{saw, labelled, pinned, rooted, moved, learn_sight, learn_scan, looked, met, read_edge, linked, cutting, inheriting, resigned};
 ghost use Rattle.nm_core.specs.Reports.{in_queues};
+ghost use Rattle.nm_core.specs.Ordered.{new_leaf};
 ghost use Rattle.nm_core.specs.Step.{reply_sight, reply_scan, reply_look, others_scanned, node_of, node_linked, is_leaf_draft, is_linkable, first, free_checks};
 
 use crate::event::Field;
@@ -17,7 +18,7 @@ use crate::ledgers::Ledgers;
 use crate::memory::Node;
 use crate::reply::{Refused, Reply};
 use crate::slot_map::SlotMap;
-use nm_edge::{Edge, Layout, NodeId, Side};
+use nm_edge::{Edge, Key, Layout, NodeId, Side};
 use std::alloc::{AllocError, Global};
 use std::marker::Model;
 use std::mem;
@@ -466,6 +467,13 @@ impl Worker {
         ensures { result ≡ unwrap_or (beside (draft_of self.now new) leaf) 0 }
     {
         self.draft(new).beside(leaf).unwrap_or(0)
+    }
+
+    /// Whether the new leaf, which stands beside this leaf under a new internal node, has this key.
+    pub fn has_new_leaf(&self, new: u32, leaf: u32, key: Key) -> bool
+        ensures { result ≡ is_number (new_leaf self.now leaf new).key key }
+    {
+        self.draft(self.leaf_beside(new, leaf)).has_key(key)
     }
 
     /// An edge of a known node was read, and its slot is known from now on.
