@@ -54,4 +54,5 @@ pub mod KnownBirths
 pub mod TreeChanges
 pub mod SearchSteps
 pub mod OrderedWalks
+pub mod OrderedRuns
 pub mod Reachable

@@ -11,7 +11,7 @@ use Rattle.nm_core.specs.Searches.{side_of}
 use Rattle.nm_core.specs.Intervals.{GoesBy}
 use Rattle.nm_core.proofs.Trees.{Children, Exchanged, rest_after, same_side, same_side-true, follow_none, follow-append, follow_leaf, not_taken, taken, Taken, append_cancel}
 use Rattle.nm_core.proofs.CutPaths.{Splicing, not_back, straight, new_down, below as below_kept, old_path, led, still_alone, down}
-use Rattle.nm_core.proofs.Searching.{Keys, goes-append, goes_first, goes_on, goes_still, went_still, GoesOver, goes_over}
+use Rattle.nm_core.proofs.Searching.{Keys, goes-append, goes_first, goes_on, goes_still, went_still, GoesOver, goes_over, Apart, apart_follow, apart_goes, apart_went}
 
 -- the search for a reached node's key comes to it
 abbrev pub InOrder : Children → Keys → Type 0
@@ -262,8 +262,8 @@ module _ (c c' : Children) (v : Keys) (p : ℕ) (d : Side) (leaf new far : ℕ) 
           by (Old is) = absurd (l.off_new (l.front ++ d ∷ []) (was_leaf ∙ (sym at_leaf ∙ (ap (follow c' new) (sym is) ∙ ends))))
           by (New is) = absurd (l.apart (sym ends ∙ (ap (follow c' new) is ∙ at_far)))
 
-  pub onward_linked : (k z : ℕ) → new ≢ 0 → ((q : List Side) → follow c z q ≡ new → ⊥) → ((q : List Side) → follow c z q ≡ far → ⊥) → Onward c v k z → Onward c' v k z
-  onward_linked k z some off off' onward q r f goes there same = go (rest_after c p d z q) refl
+  pub onward_linked : (k z : ℕ) → new ≢ 0 → ((q : List Side) → follow c z q ≡ new → ⊥) → Onward c v k z → Onward c' v k z
+  onward_linked k z some off onward q r f goes there same = go (rest_after c p d z q) refl
     where
       some_slot : follow c' 1 r ≢ 0
       some_slot e = there (ap (λ (y : ℕ). c' y f) (sym same ∙ e) ∙ null_still f)
@@ -304,3 +304,19 @@ module _ (c c' : Children) (v : Keys) (p : ℕ) (d : Side) (leaf new far : ℕ) 
               rw (path_to_new r at some) (into k [] to_p over.turns tt)
           by (Old is) = absurd (there (ap (λ (x : ℕ). c' x f) (over.ends ∙ (ap (follow c' new) is ∙ at_leaf)) ∙ leaf_still f))
           by (New is) = absurd (there (ap (λ (x : ℕ). c' x f) (over.ends ∙ (ap (follow c' new) is ∙ at_far)) ∙ far_still f))
+
+-- ---- a slot that no path comes to is changed
+
+module _ (c c' : Children) (v v' : Keys) (x : ℕ) (a : Apart c c' v v' x) (off : (q : List Side) → follow c 1 q ≡ x → ⊥) where
+  pub order_apart : InOrder c v → InOrder c' v'
+  order_apart order q there =
+      let same : follow c' 1 q ≡ follow c 1 q = apart_follow c c' v v' x a 1 off q in
+      let keys : v' (follow c 1 q) ≡ v (follow c 1 q) = a.keys (follow c 1 q) (off q) in
+      rw (same, keys) (apart_goes c c' v v' x a (v (follow c 1 q)) 1 off q (order q (rw (← same) there)))
+
+  pub onward_apart : (k z : ℕ) → ((q : List Side) → follow c z q ≡ x → ⊥) → Onward c v k z → Onward c' v' k z
+  onward_apart k z never onward q r f goes there same =
+      let from_z : follow c' z q ≡ follow c z q = apart_follow c c' v v' x a z never q in
+      let from_root : follow c' 1 r ≡ follow c 1 r = apart_follow c c' v v' x a 1 off r in
+      let child : c' (follow c z q) f ≡ c (follow c z q) f = a.edges (follow c z q) f (never q) in
+      apart_goes c c' v v' x a k 1 off r (onward q r f (apart_went c c' v v' x a k z never q goes) (λ e. there (ap (λ (y : ℕ). c' y f) from_z ∙ (child ∙ e))) (sym from_root ∙ (same ∙ from_z)))

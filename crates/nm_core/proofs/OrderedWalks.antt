@@ -7,7 +7,7 @@ use Rattle.std.proofs.lemmas.Bool.{cond_both, cond-true, cond-false, eqb-true, a
 use Rattle.std.proofs.lemmas.Option.{none-some, same_Some, slice_get-map}
 use Rattle.nm_edge.specs.declared.edge.Side.{Side}
 use Rattle.nm_edge.specs.declared.edge.Side.TheVariants.{Left, Right}
-use Rattle.nm_core.specs.declared.search.Arrival.{Arrival}
+use Rattle.nm_core.specs.declared.walks.Arrival.{Arrival}
 use Rattle.nm_core.specs.Paths.{follow}
 use Rattle.nm_core.specs.Searches.{side_of, is_side, turns, is_by, goes_on, is_first, new_arrival, with_arrival, keyed, ended, walk_edge}
 use Rattle.nm_core.specs.Intervals.{GoesBy}
@@ -17,7 +17,7 @@ use Rattle.nm_core.proofs.OrderedTrees.{Onward}
 
 -- ---- lists
 
-any_at : {X : Type 0} (f : X → Bool) (xs : List X) → list_any f xs ≡ true → (i : ℕ) × (x : X) × (slice_get xs i ≡ Some x) × (f x ≡ true)
+pub any_at : {X : Type 0} (f : X → Bool) (xs : List X) → list_any f xs ≡ true → (i : ℕ) × (x : X) × (slice_get xs i ≡ Some x) × (f x ≡ true)
 any_at f [] h = absurd (true≢false (sym h))
 any_at f (x ∷ xs) h = elim (or_cases (f x) (list_any f xs) h) [
   | inl here ↦ (0, x, refl, here)
@@ -49,14 +49,14 @@ still_at (x ∷ xs) z (suc i) y h = still_at xs z i y h
 
 -- ---- sides
 
-is_side-true : (d e : Side) → is_side d e ≡ true → d ≡ e
+pub is_side-true : (d e : Side) → is_side d e ≡ true → d ≡ e
 is_side-true Left Left h = refl
 is_side-true Left Right h = absurd (true≢false (sym h))
 is_side-true Right Left h = absurd (true≢false (sym h))
 is_side-true Right Right h = refl
 
 -- a key that was read turns to that side
-turned : (k : ℕ) (o : Option ℕ) (d : Side) → turns k o d ≡ true → (v : ℕ) × (o ≡ Some v) × (side_of k v ≡ d)
+pub turned : (k : ℕ) (o : Option ℕ) (d : Side) → turns k o d ≡ true → (v : ℕ) × (o ≡ Some v) × (side_of k v ≡ d)
 turned k None d h = absurd (true≢false (sym h))
 turned k (Some v) d h = (v, refl, is_side-true (side_of k v) d h)
 
@@ -171,8 +171,8 @@ arrived c v known k ws x parent d there on from law = cond_both (list_any (is_by
     more a (FromRoot p s) = FromRoot p s
     more a (FromSlot i b at slot turn) = FromSlot i b (still_at ws (new_arrival x parent d) i b at) slot turn
 
--- an edge is looked at. Where it leads to a slot, that slot is known from then on; the root's own search comes to slot 2, and goes on to its left
-pub edge_looked : (c : Children) (v : Keys) (known : ℕ → Bool) (k : ℕ) (ws : List Arrival) (x : ℕ) (d : Side) → (c x d ≢ 0 → known (c x d) ≡ true)
+-- an edge is looked at. Where a walk goes on by it to a slot, that slot is known from then on; the root's own search comes to slot 2, and goes on to its left
+pub edge_looked : (c : Children) (v : Keys) (known : ℕ → Bool) (k : ℕ) (ws : List Arrival) (x : ℕ) (d : Side) → ((is_first x d ≡ true) ⊎ (list_any (goes_on k x d) ws ≡ true) → c x d ≢ 0 → known (c x d) ≡ true)
     → Onward c v k (c 2 Left) → WalkLaw c v known k ws → WalkLaw c v known k (walk_edge k ws x d (c x d))
 edge_looked c v known k ws x d meets first law = cond_both (c x d == 0) (map (ended k x d) ws) (cond (is_first x d || list_any (goes_on k x d) ws) (with_arrival ws (c x d) x d) ws) (WalkLaw c v known k)
     (λ _. ended_law c v known k ws x d law)
@@ -185,7 +185,7 @@ edge_looked c v known k ws x d meets first law = cond_both (c x d == 0) (map (en
         let parts = and_parts (x == 2) (is_side d Left) root in
         let slot : x ≡ 2 = eqb-true x 2 parts.0 in
         let side : d ≡ Left = is_side-true d Left parts.1 in
-        arrived c v known k ws (c x d) x d (meets some) (rw (slot, side) first) (FromRoot slot side) law
+        arrived c v known k ws (c x d) x d (meets (inl root) some) (rw (slot, side) first) (FromRoot slot side) law
     comes some (inr from) =
         let b = any_at (goes_on k x d) ws from in
         let parts = and_parts (b.1.slot == x) (turns k b.1.key d) b.3 in
@@ -194,4 +194,4 @@ edge_looked c v known k ws x d meets first law = cond_both (c x d == 0) (map (en
         let key : v x ≡ n.0 = ap v (sym slot) ∙ law.is_keyed b.0 b.1 n.0 b.2 n.1 in
         let turn : side_of k (v x) ≡ d = ap (side_of k) key ∙ n.2 in
         let on : Onward c v k x = subst (Onward c v k) slot (law.onward b.0 b.1 b.2) in
-        arrived c v known k ws (c x d) x d (meets some) (λ q r f goes there same. on (d ∷ q) r f (turn, goes) there same) (FromSlot b.0 b.1 b.2 slot parts.1) law
+        arrived c v known k ws (c x d) x d (meets (inr from) some) (λ q r f goes there same. on (d ∷ q) r f (turn, goes) there same) (FromSlot b.0 b.1 b.2 slot parts.1) law
