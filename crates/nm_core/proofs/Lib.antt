@@ -56,3 +56,4 @@ pub mod SearchSteps
 pub mod OrderedWalks
 pub mod OrderedRuns
 pub mod Reachable
+pub mod Configurations

@@ -1,5 +1,5 @@
 -- Ordered cores: links and flags only where a walk of the own call ended, and answers that the own log shows.
-use Rattle.std.specs.Prelude.{◌≡◌, ℕ, ◌==◌, nat_lt, Bool, true, false, not, ◌&&◌, ◌||◌, List, [], ◌∷◌, if◌then◌else◌, replicate, slice_index_or, slice_set, Option, Some, None, is_some, is_none, option_map, unwrap_or, Result, Ok, Err}
+use Rattle.std.specs.Prelude.{◌≡◌, ℕ, ◌==◌, nat_lt, Bool, true, false, not, ◌&&◌, ◌||◌, List, [], ◌∷◌, if◌then◌else◌, replicate, filter, map, slice_index_or, slice_set, Option, Some, None, is_some, is_none, option_map, unwrap_or, is_ok, Result, Ok, Err}
 use Rattle.std.specs.List.{list_any}
 use Rattle.nm_edge.specs.Layouts.{Layout, IsLayout}
 use Rattle.nm_edge.specs.declared.edge.Side.{Side}
@@ -18,7 +18,7 @@ use Rattle.nm_core.specs.declared.walks.Arrival.{Arrival}
 use Rattle.nm_core.specs.Maps.{is_number, or_else}
 use Rattle.nm_core.specs.Knowledge.{Knowledge, draft_of, beside}
 use Rattle.nm_core.specs.Step.{first, ◌refuses◌}
-use Rattle.nm_core.specs.Runs.{State, of, start, refusal_of, refused, reply_of, applied, answered}
+use Rattle.nm_core.specs.Runs.{State, of, start, refusal_of, refused, reply_of, applied, answered, after, trace}
 use Rattle.nm_core.specs.Searches.{Search, Roomy, told, idle, searched, is_by}
 
 -- ---- what the log shows
@@ -180,3 +180,24 @@ pub record IsReached (c : Configuration) : Type 0 where
   pub fits : IsLayout c.state.layout
   pub events : List (ℕ × Event)
   pub leads : after_in (opening_of c.state.layout is_ordered) events ≡ c
+
+-- ---- runs of plain cores and of ordered ones
+
+-- a core without searches runs as its state does
+abbrev pub PlainRunsAreRuns : Type 0
+PlainRunsAreRuns = (s : State) (ts : List (ℕ × Event))
+    → (after_in (record { state = s; searches = None }) ts ≡ record { state = after s ts; searches = None }) × (trace_in (record { state = s; searches = None }) ts ≡ trace s ts)
+
+-- the turns that were allowed
+abbrev pub accepted : List Turn → List Turn
+accepted turns = filter (λ t. is_ok t.outcome) turns
+
+abbrev pub turn_of : Turn → ℕ × Event
+turn_of t = (t.worker, t.event)
+
+-- an ordered run is a run: the events that it allows lead from state to state as in a plain run, with the same outcomes
+abbrev pub IsRunOfAccepted : State → List Turn → State → Type 0
+IsRunOfAccepted s turns t = (t ≡ after s (map turn_of (accepted turns))) × (trace s (map turn_of (accepted turns)) ≡ accepted turns)
+
+abbrev pub OrderedRunsAreRuns : Type 0
+OrderedRunsAreRuns = (c : Configuration) (ts : List (ℕ × Event)) → IsRunOfAccepted c.state (trace_in c ts) (after_in c ts).state

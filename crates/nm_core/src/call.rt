@@ -40,9 +40,7 @@ impl Model for Search {
 fn is_among(nodes: &[NodeId], node: NodeId) -> bool
     ensures { result ≡ list_any (is_node node) nodes.now }
 {
-    nodes
-        .iter()
-        .any(|other| node.slot == other.slot && node.birth == other.birth)
+    nodes.iter().any(|other| node.slot == other.slot && node.birth == other.birth)
 }
 
 impl Search {
@@ -238,20 +236,15 @@ impl Search {
     }
 
     /// Whether the operation is an insert that may link here: once, where a walk of it ended.
-    pub fn may_link(
-        &self,
-        worker: &Worker,
-        parent: u32,
-        side: Side,
-        leaf: u32,
-        new: u32,
-    ) -> bool
+    pub fn may_link(&self, worker: &Worker, parent: u32, side: Side, leaf: u32, new: u32) -> bool
         ensures { result ≡ links_in_order worker.now self.now.tells self.now.tells.call parent side leaf new }
     {
-        let Some(Call {
-            op: Op::Insert,
-            key,
-        }) = self.call
+        let Some(
+            Call {
+                op: Op::Insert,
+                key,
+            },
+        ) = self.call
         else {
             return false;
         };
@@ -264,10 +257,12 @@ impl Search {
     pub fn may_flag(&self, parent: u32, side: Side, leaf: u32) -> bool
         ensures { result ≡ flags_in_order self.now.tells self.now.tells.call parent side leaf }
     {
-        let Some(Call {
-            op: Op::Delete,
-            key,
-        }) = self.call
+        let Some(
+            Call {
+                op: Op::Delete,
+                key,
+            },
+        ) = self.call
         else {
             return false;
         };

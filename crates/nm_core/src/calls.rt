@@ -96,12 +96,7 @@ impl Searches {
     }
 
     // Whether an event is in order, and there is room for what a look tells.
-    fn admit(
-        &mut self,
-        machine: &Machine,
-        worker: usize,
-        event: &Event,
-    ) -> Result<(), Refused>
+    fn admit(&mut self, machine: &Machine, worker: usize, event: &Event) -> Result<(), Refused>
         requires shaped { IsShaped machine.now }
         requires is_there { worker < length machine.now.workers }
         requires has { worker < length self.old }

@@ -1,13 +1,15 @@
 //! The core: the machine from its opening on.
 ghost use Rattle.std.specs.Prelude.{◌≡◌, ◌≢◌, ◌<◌, ◌≤◌, ◌⊎◌, ◌↔◌, IfOk, IfErr, OnOk, OnErr, IsErrOf, take, length};
 ghost use Rattle.std.specs.Option.{option_copied};
-ghost use Rattle.nm_core.specs.Runs.{start, refused, reply_of, applied, next, outcome, after, trace};
+ghost use Rattle.nm_core.specs.Runs.{reply_of};
+ghost use Rattle.nm_core.specs.Ordered.{plain, ordered, refused_in, applied_in, next_in, outcome_in, after_in, trace_in};
 ghost use Rattle.nm_core.specs.Reports.{counts, holder, ledger_of};
 ghost use Rattle.nm_core.specs.Answers.{IsAnswer};
 ghost use Rattle.nm_edge.specs.Layouts.{IsLayout};
 ghost use Rattle.nm_core.specs.Laws.{PinsAreNear};
 ghost use Rattle.nm_core.specs.Lawful.{CountsAddUp};
 
+use crate::calls::Searches;
 use crate::event::Event;
 use crate::ledger::Ledger;
 use crate::machine::Machine;
@@ -48,16 +50,19 @@ impl From<AllocError> for NewError {
 #[derive(Drop)]
 pub struct Core {
     machine: Machine,
+    searches: Option<Searches>,
 }
 
 impl Model for Core {
-    ghost use Rattle.nm_core.specs.Runs.{State, IsReachable};
+    ghost use Rattle.std.specs.Prelude.{option_map};
+    ghost use Rattle.nm_core.specs.Searches.{told};
+    ghost use Rattle.nm_core.specs.Ordered.{Configuration, IsReached};
 
-    ghost Value = { State };
+    ghost Value = { Configuration };
 
-    ghost view = { λ c. c.machine };
+    ghost view = { λ c. record { state = c.machine; searches = option_map told c.searches } };
 
-    ghost invariant = { λ c. IsReachable c.machine };
+    ghost invariant = { λ c. IsReached (record { state = c.machine; searches = option_map told c.searches }) };
 }
 
 fn layout_of(nodes: u32, workers: u32) -> Result<Layout, NewError>
@@ -77,26 +82,45 @@ fn layout_of(nodes: u32, workers: u32) -> Result<Layout, NewError>
 impl Core {
     /// The opening: the empty tree, epoch 0, everybody idle, and every slot above 5 in the pool with birth 0.
     pub fn new(alloc: Global, nodes: u32, workers: u32) -> Result<Core, NewError>
-        ensures opening { IfOk result (λ core. core ≡ start (record { nodes = nodes; workers = workers })) }
+        ensures opening { IfOk result (λ core. core ≡ plain (record { nodes = nodes; workers = workers })) }
         ensures nodes { IsErrOf result NewError.Nodes ↔ ((nodes < LEAST_NODES) ⊎ (MOST_NODES < nodes)) }
         ensures workers { IsErrOf result NewError.Workers ↔ ((LEAST_NODES ≤ nodes) × (nodes ≤ MOST_NODES) × ((workers < 1) ⊎ (MOST_WORKERS < workers))) }
     {
         let layout = layout_of(nodes, workers)?;
         let machine = Machine::new(alloc, layout)?;
-        Ok(Core { machine })
+        Ok(Core {
+            machine,
+            searches: None,
+        })
+    }
+
+    /// The opening of an ordered core, where no worker has an operation yet. It refuses as a plain core does, and then
+    /// links and flags that are not where a walk of the worker's own operation ended, and leaves without an answer that its log shows.
+    pub fn ordered(alloc: Global, nodes: u32, workers: u32) -> Result<Core, NewError>
+        ensures opening { IfOk result (λ core. core ≡ ordered (record { nodes = nodes; workers = workers })) }
+        ensures nodes { IsErrOf result NewError.Nodes ↔ ((nodes < LEAST_NODES) ⊎ (MOST_NODES < nodes)) }
+        ensures workers { IsErrOf result NewError.Workers ↔ ((LEAST_NODES ≤ nodes) × (nodes ≤ MOST_NODES) × ((workers < 1) ⊎ (MOST_WORKERS < workers))) }
+    {
+        let layout = layout_of(nodes, workers)?;
+        let machine = Machine::new(alloc, layout)?;
+        let searches = Searches::new(alloc, workers)?;
+        Ok(Core {
+            machine,
+            searches: Some(searches),
+        })
     }
 
     /// The global epoch. While a worker is pinned at an epoch, it is that one or the next.
     pub fn epoch(&self) -> u64
-        ensures epoch { result ≡ self.now.memory.epoch }
-        ensures near { PinsAreNear self.now }
+        ensures epoch { result ≡ self.now.state.memory.epoch }
+        ensures near { PinsAreNear self.now.state }
     {
         self.machine.epoch()
     }
 
     /// What a worker's splices cut off, whoever holds its queue; `None` where there is no such worker.
     pub fn ledger(&self, worker: u32) -> Option<&Ledger>
-        ensures ledger { option_copied result ≡ ledger_of self.now worker }
+        ensures ledger { option_copied result ≡ ledger_of self.now.state worker }
     {
         self.machine.ledger(worker)
     }
@@ -104,7 +128,7 @@ impl Core {
     /// The worker that holds the ledger of an origin: itself, or one to which it resigned, directly or through others.
     /// `None` where there is no such worker.
     pub fn holder(&self, origin: u32) -> Option<u32>
-        ensures holder { result ≡ holder self.now origin }
+        ensures holder { result ≡ holder self.now.state origin }
     {
         self.machine.holder(origin)
     }
@@ -112,26 +136,29 @@ impl Core {
     /// How many of the slots above 5 are in the pool, private to a worker, reached from the root, and queued.
     /// Each is in exactly one of these places, so the four add up to the nodes above slot 5. Takes one pass and no memory.
     pub fn places(&self) -> Places
-        ensures places { result ≡ counts self.now }
-        ensures sum { CountsAddUp self.now }
+        ensures places { result ≡ counts self.now.state }
+        ensures sum { CountsAddUp self.now.state }
     {
         self.machine.places()
     }
 
     /// One event. Answers its reply, or the first reason in the order of `Refused` for which it is refused; what is refused changes nothing.
     pub fn apply(&mut self, worker: u32, event: Event) -> Result<Reply, Refused>
-        ensures outcome { IsAnswer (refused self.old worker event) (reply_of self.old worker event) result }
-        ensures ok { OnOk result (self.new ≡ applied self.old worker event) }
+        ensures outcome { IsAnswer (refused_in self.old worker event) (reply_of self.old.state worker event) result }
+        ensures ok { OnOk result (self.new ≡ applied_in self.old worker event) }
         ensures err { OnErr result (self.new ≡ self.old) }
     {
-        self.machine.apply(worker, event)
+        match &mut self.searches {
+            None => self.machine.apply(worker, event),
+            Some(searches) => searches.apply(&mut self.machine, worker, &event),
+        }
     }
 
     // One event and its outcome, or nothing where memory was refused.
-    #[tactic(auto, unfolding(crate::specs::Runs::next, crate::specs::Runs::outcome))]
+    #[tactic(auto, unfolding(crate::specs::Ordered::next_in, crate::specs::Ordered::outcome_in))]
     fn settle(&mut self, worker: u32, event: Event) -> Result<Result<Reply, Refused>, AllocError>
-        ensures outcome { IfOk result (λ o. o ≡ outcome self.old (worker, event)) }
-        ensures ok { OnOk result (self.new ≡ next self.old (worker, event)) }
+        ensures outcome { IfOk result (λ o. o ≡ outcome_in self.old (worker, event)) }
+        ensures ok { OnOk result (self.new ≡ next_in self.old (worker, event)) }
         ensures err { OnErr result (self.new ≡ self.old) }
     {
         match self.apply(worker, event) {
@@ -140,15 +167,15 @@ impl Core {
         }
     }
 
-    #[tactic(auto, unfolding(crate::specs::Runs::after, crate::specs::Runs::trace))]
+    #[tactic(auto, unfolding(crate::specs::Ordered::after_in, crate::specs::Ordered::trace_in))]
     /// Applies each event in turn, and goes on after one that is refused. The trace lists worker, event and outcome of each.
     ///
     /// Where memory is refused, the first `done` events have been applied and no more.
     pub fn run(&mut self, events: Vec<(u32, Event)>) -> Result<Trace, RunError>
-        ensures trace { IfOk result (λ t. t ≡ trace self.old events.items) }
-        ensures state { OnOk result (self.new ≡ after self.old events.items) }
+        ensures trace { IfOk result (λ t. t ≡ trace_in self.old events.items) }
+        ensures state { OnOk result (self.new ≡ after_in self.old events.items) }
         ensures done { IfErr result (λ e. e.done ≤ length events.items) }
-        ensures done_state { IfErr result (λ e. self.new ≡ after self.old (take e.done events.items)) }
+        ensures done_state { IfErr result (λ e. self.new ≡ after_in self.old (take e.done events.items)) }
     {
         let Ok(mut turns) = Vec::with_capacity(self.machine.alloc, events.len()) else {
             return Err(RunError { done: 0 });
