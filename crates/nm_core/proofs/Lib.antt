@@ -55,5 +55,8 @@ pub mod TreeChanges
 pub mod SearchSteps
 pub mod OrderedWalks
 pub mod OrderedRuns
+pub mod OrderedLinks
+pub mod OrderedSteps
+pub mod OrderedLaws
 pub mod Reachable
 pub mod Configurations

@@ -32,7 +32,7 @@ use Rattle.nm_core.proofs.TreeChanges.TreeChange.{Kept, Filled, Linked, Spliced}
 
 -- ---- the root
 
-left_of : (k n : ℕ) → k < n → side_of k n ≡ Left
+pub left_of : (k n : ℕ) → k < n → side_of k n ≡ Left
 left_of k n lt = cond-true (nat_lt k n) Left Right (lt-ltb k n lt)
 
 -- the fixed nodes above the left edge of slot 2 have the two greatest keys
@@ -59,7 +59,7 @@ module _ (s : State) (h : ℕ → ℕ) (law : Lawful s h) where
       subst (λ (p : List Side). GoesBy c v k 1 p) (sym is) (at_root, (ap (λ (y : ℕ). side_of k (v y)) left ∙ at_second, subst (λ (y : ℕ). GoesBy c v k (c y Left) q) (sym left) goes))
 
   -- private slots are on no path, from the root or from what a worker knows
-  off_root : (w x : ℕ) → is_private (of s w) x ≡ true → (q : List Side) → follow c 1 q ≡ x → ⊥
+  pub off_root : (w x : ℕ) → is_private (of s w) x ≡ true → (q : List Side) → follow c 1 q ≡ x → ⊥
   off_root w x own q is =
       let some : x ≢ 0 = λ z. (let r = law.tree.privates w x own in absurd (omega arith)) in
       true≢false (sym own ∙ (ap (is_private (of s w)) (sym is) ∙ (reached_live s.layout.nodes (picture s h) law.tree q (rw is some)).shared w))

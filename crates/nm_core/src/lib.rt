@@ -13,6 +13,7 @@ mod ledger;
 mod ledgers;
 mod machine;
 mod memory;
+mod order;
 mod places;
 mod pool_steps;
 mod pure_core;
@@ -40,6 +41,7 @@ pub use laws::{
 };
 pub use ledger::{Ledger, Nodes, Queued};
 pub use ledgers::Ledgers;
+pub use order::{trees_are_in_order, walks_stay_in_order};
 pub use places::Places;
 pub use pure_core::{Core, NewError};
 pub use queue::Queue;

@@ -1,0 +1,194 @@
+-- The order of the set, in every ordered run.
+use Rattle.std.proofs.Common.{◌≡◌, ◌≢◌, ℕ, suc, ◌≤◌, ◌==◌, eqb, Bool, true, false, ◌&&◌, List, [], ◌∷◌, ◌++◌, length, refl, sym, ap, subst, ◌∙◌, arith, true≢false}
+use Rattle.std.specs.Prelude.{Option, Some, None, option_map, replicate, All}
+use Rattle.std.proofs.lemmas.Bool.{eqb-true, eqb-false, and_parts, or_cases}
+use Rattle.std.proofs.lemmas.List.{length-replicate}
+use Rattle.std.proofs.lemmas.Option.{none-some, same_Some}
+use Rattle.nm_edge.specs.Edges.{Edge}
+use Rattle.nm_edge.specs.Layouts.{Layout}
+use Rattle.nm_edge.specs.declared.edge.Side.{Side}
+use Rattle.nm_edge.specs.declared.edge.Side.TheVariants.{Left, Right}
+use Rattle.nm_core.specs.declared.event.Event.{Event}
+use Rattle.nm_core.specs.declared.reply.Refused.{Refused}
+use Rattle.nm_core.specs.declared.memory.Node.{Node}
+use Rattle.nm_core.specs.declared.walks.Call.{Call}
+use Rattle.nm_core.specs.declared.walks.Arrival.{Arrival}
+use Rattle.nm_core.specs.Maps.{or_else}
+use Rattle.nm_core.specs.Memory.{Memory, node, child, is_leaf, opening}
+use Rattle.nm_core.specs.Knowledge.{knows}
+use Rattle.nm_core.specs.Paths.{follow, Reached}
+use Rattle.nm_core.specs.Runs.{State, of, start, after, next, applied, refused, unless_refused, reply_of}
+use Rattle.nm_core.specs.Searches.{Search, idle}
+use Rattle.nm_core.specs.Ordered.{Configuration, ordered, search_of, learned_from, disorder, disorder_in, disorder_among, refused_in, applied_in, unless_refused_in, next_in, after_in}
+use Rattle.nm_core.specs.Intervals.{GoesBy, key, InInterval, HasKey, OfEachOrdered, KeysLieInIntervals, LeavesHaveTheirOwnKeys, HasCome, WalksStayInOrder, WalksReadKeys}
+use Rattle.nm_core.proofs.Numbers.{repeated}
+use Rattle.nm_core.proofs.Steps.{allowed}
+use Rattle.nm_core.proofs.Reaches.{after-append}
+use Rattle.nm_core.proofs.Trees.{follow_none}
+use Rattle.nm_core.proofs.Searching.{one_leaf}
+use Rattle.nm_core.proofs.OrderedTrees.{InOrder}
+use Rattle.nm_core.proofs.Lawful.{lawful}
+use Rattle.nm_core.proofs.KnownBirths.{each_birth_stands}
+use Rattle.nm_core.proofs.OrderedWalks.{WalkLaw}
+use Rattle.nm_core.proofs.OrderedSteps.{ForCall, OrderLaw, order_step}
+
+-- ---- the opening
+
+order_start : (L : Layout) → InOrder (child (opening L)) (key (opening L))
+order_start L [] there = tt
+order_start L (Left ∷ []) there = (refl, tt)
+order_start L (Right ∷ []) there = (refl, tt)
+order_start L (Left ∷ Left ∷ []) there = (refl, (refl, tt))
+order_start L (Left ∷ Right ∷ []) there = (refl, (refl, tt))
+order_start L (Left ∷ Left ∷ Left ∷ q) there = absurd (there (follow_none (child (opening L)) (λ d. none d) q))
+  where
+    none : (d : Side) → child (opening L) 0 d ≡ 0
+    none Left = refl
+    none Right = refl
+order_start L (Left ∷ Left ∷ Right ∷ q) there = absurd (there (follow_none (child (opening L)) (λ d. none d) q))
+  where
+    none : (d : Side) → child (opening L) 0 d ≡ 0
+    none Left = refl
+    none Right = refl
+order_start L (Left ∷ Right ∷ Left ∷ q) there = absurd (there (follow_none (child (opening L)) (λ d. none d) q))
+  where
+    none : (d : Side) → child (opening L) 0 d ≡ 0
+    none Left = refl
+    none Right = refl
+order_start L (Left ∷ Right ∷ Right ∷ q) there = absurd (there (follow_none (child (opening L)) (λ d. none d) q))
+  where
+    none : (d : Side) → child (opening L) 0 d ≡ 0
+    none Left = refl
+    none Right = refl
+order_start L (Right ∷ Left ∷ q) there = absurd (there (follow_none (child (opening L)) (λ d. none d) q))
+  where
+    none : (d : Side) → child (opening L) 0 d ≡ 0
+    none Left = refl
+    none Right = refl
+order_start L (Right ∷ Right ∷ q) there = absurd (there (follow_none (child (opening L)) (λ d. none d) q))
+  where
+    none : (d : Side) → child (opening L) 0 d ≡ 0
+    none Left = refl
+    none Right = refl
+
+law_start : (L : Layout) → OrderLaw (start L) (replicate L.workers idle)
+law_start L = record {
+  sized = length-replicate L.workers idle;
+  order = order_start L;
+  fixed = record { root = refl; second = refl };
+  walks = λ u. rw (repeated L.workers u idle) tt;
+}
+
+-- ---- runs
+
+-- a configuration of an ordered core: a run leads to its state, and the order law holds of it
+record IsOrdered (L : Layout) (c : Configuration) : Type 0 where
+  searches : List Search
+  are : c.searches ≡ Some searches
+  events : List (ℕ × Event)
+  leads : c.state ≡ after (start L) events
+  law : OrderLaw c.state searches
+
+neither : (a b : Option Refused) → or_else a b ≡ None → (a ≡ None) × (b ≡ None)
+neither None None h = (refl, refl)
+neither None (Some r) h = absurd (none-some r (sym h))
+neither (Some r) b h = absurd (none-some r (sym h))
+
+ordered_next : (L : Layout) → 5 ≤ L.nodes → (c : Configuration) (t : ℕ × Event) → HasKey t.1 → IsOrdered L c → IsOrdered L (next_in c t)
+unfolding next_in applied_in refused_in after next
+ordered_next L enough c t has o = go (or_else (refused c.state t.0 t.1) (disorder_in c t.0 t.1)) refl
+  where
+    go : (r : Option Refused) → or_else (refused c.state t.0 t.1) (disorder_in c t.0 t.1) ≡ r → IsOrdered L (unless_refused_in r c (record { state = applied c.state t.0 t.1; searches = option_map (λ ss. learned_from ss t.0 t.1 (reply_of c.state t.0 t.1)) c.searches }))
+    go (Some r) is = o
+    go None is =
+        let none = neither (refused c.state t.0 t.1) (disorder_in c t.0 t.1) is in
+        let l = lawful L enough o.events in
+        let in_order : disorder (of c.state t.0) (search_of o.searches t.0) t.1 ≡ None = ap (λ ss. disorder_among ss (of c.state t.0) t.0 t.1) (sym o.are) ∙ none.1 in
+        record {
+          searches = learned_from o.searches t.0 t.1 (reply_of c.state t.0 t.1);
+          are = ap (option_map (λ ss. learned_from ss t.0 t.1 (reply_of c.state t.0 t.1))) o.are;
+          events = o.events ++ t ∷ [];
+          leads = sym (after-append (start L) o.events (t ∷ []) ∙ (ap (λ (s : State). next s t) (sym o.leads) ∙ ap (λ r. unless_refused r c.state (applied c.state t.0 t.1)) none.0));
+          law = order_step c.state l.holder (rw o.leads l.law) t.0 (rw o.leads (each_birth_stands L enough o.events)) o.searches o.law t.1 (allowed c.state t.0 t.1 none.0) in_order has;
+        }
+
+ordered_after : (L : Layout) → 5 ≤ L.nodes → (turns : List (ℕ × Event)) → All (λ t. HasKey t.1) turns → (c : Configuration) → IsOrdered L c → IsOrdered L (after_in c turns)
+unfolding after_in
+ordered_after L enough [] keys c o = o
+ordered_after L enough (t ∷ ts) keys c o = ordered_after L enough ts (λ k d below. keys (suc k) d (omega arith)) (next_in c t) (ordered_next L enough c t (keys 0 t (omega arith)) o)
+
+each_ordered : (L : Layout) → 5 ≤ L.nodes → (turns : List (ℕ × Event)) → All (λ t. HasKey t.1) turns → IsOrdered L (after_in (ordered L) turns)
+unfolding after
+each_ordered L enough turns keys = ordered_after L enough turns keys (ordered L) (record { searches = replicate L.workers idle; are = refl; events = []; leads = refl; law = law_start L })
+
+-- ---- the laws
+
+module _ (L : Layout) (enough : 5 ≤ L.nodes) (c : Configuration) (o : IsOrdered L c) where
+  abbrev m : Memory
+  m = c.state.memory
+
+  in_interval : (k x : ℕ) (r : Reached m x) → GoesBy (child m) (key m) k 1 r.path → InInterval m k x
+  in_interval k x r goes = record { path = r.path; ends = r.ends; goes = goes }
+
+  keys_lie : KeysLieInIntervals c
+  keys_lie x r = in_interval (key m x) x r (subst (λ (y : ℕ). GoesBy (child m) (key m) (key m y) 1 r.path) r.ends (o.law.order r.path (λ z. r.is_slot (sym r.ends ∙ z))))
+
+  leaf_null : (n : Node) → is_leaf n ≡ true → (n.left.slot ≡ 0) × (n.right.slot ≡ 0)
+  leaf_null n leaf = let parts = and_parts (n.left.slot == 0) (n.right.slot == 0) leaf in (eqb-true n.left.slot 0 parts.0, eqb-true n.right.slot 0 parts.1)
+
+  null_at : (x : ℕ) → is_leaf (node m x) ≡ true → (d : Side) → child m x d ≡ 0
+  null_at x leaf Left = (leaf_null (node m x) leaf).0
+  null_at x leaf Right = (leaf_null (node m x) leaf).1
+
+  own_keys : LeavesHaveTheirOwnKeys c
+  unfolding keys_lie in_interval
+  own_keys x y r q leaf leaf' same =
+      let to_x = (keys_lie x r).goes in
+      let to_y : GoesBy (child m) (key m) (key m x) 1 q.path = rw same (keys_lie y q).goes in
+      let path : r.path ≡ q.path = one_leaf (child m) null (key m) (key m x) 1 r.path q.path to_x to_y (λ z. r.is_slot (sym r.ends ∙ z)) (λ z. q.is_slot (sym q.ends ∙ z)) (rw r.ends (null_at x leaf)) (rw q.ends (null_at y leaf')) in
+      sym r.ends ∙ (ap (follow (child m) 1) path ∙ q.ends)
+    where
+      null : (d : Side) → child m 0 d ≡ 0
+      null d = ap (λ (s : State). child s.memory 0 d) o.leads ∙ (let l = lawful L enough o.events in ap (λ (e : Edge). e.slot) (l.law.tree.nothing d))
+
+  -- the law of the walks that came to a slot
+  walk_law : (u k : ℕ) (a : Arrival) (h : HasCome c u k a) → WalkLaw (child m) (key m) (knows (of c.state u)) k (search_of h.searches u).walks
+  walk_law u k a h = subst (λ (n : ℕ). WalkLaw (child m) (key m) (knows (of c.state u)) n (search_of h.searches u).walks) h.is_key (by (search_of h.searches u).call h.is_call all)
+    where
+      same : o.searches ≡ h.searches
+      same = same_Some o.searches h.searches (sym o.are ∙ h.are)
+
+      all : ForCall m (knows (of c.state u)) (search_of h.searches u).call (search_of h.searches u).walks
+      all = subst (λ (ss : List Search). ForCall m (knows (of c.state u)) (search_of ss u).call (search_of ss u).walks) same (o.law.walks u)
+
+      by : (call : Option Call) → call ≡ Some h.call → ForCall m (knows (of c.state u)) call (search_of h.searches u).walks → WalkLaw (child m) (key m) (knows (of c.state u)) h.call.key (search_of h.searches u).walks
+      by None is f = absurd (none-some h.call is)
+      by (Some call) is f = subst (λ (x : Call). WalkLaw (child m) (key m) (knows (of c.state u)) x.key (search_of h.searches u).walks) (same_Some call h.call is) f.1
+
+  stay_in_order : WalksStayInOrder c
+  stay_in_order u k a h r inner = in_interval k a.slot r (go (has_child a.slot inner))
+    where
+      has_child : (x : ℕ) → is_leaf (node m x) ≡ false → (d : Side) × (child m x d ≢ 0)
+      has_child x not_leaf = by ((node m x).left.slot == 0) refl not_leaf
+        where
+          by : (b : Bool) → ((node m x).left.slot == 0) ≡ b → (b && ((node m x).right.slot == 0)) ≡ false → (d : Side) × (child m x d ≢ 0)
+          by false is not_leaf = (Left, eqb-false (node m x).left.slot 0 is)
+          by true is not_leaf = (Right, eqb-false (node m x).right.slot 0 not_leaf)
+
+      go : (d : Side) × (child m a.slot d ≢ 0) → GoesBy (child m) (key m) k 1 r.path
+      go d = (walk_law u k a h).onward h.index a h.is [] r.path d.0 tt d.1 r.ends
+
+  read_keys : WalksReadKeys c
+  read_keys u k n a h is = (walk_law u k a h).is_keyed h.index a n h.is is
+
+pub each_key_lies : OfEachOrdered KeysLieInIntervals
+each_key_lies L enough turns keys = keys_lie L enough (after_in (ordered L) turns) (each_ordered L enough turns keys)
+
+pub each_leaf_has_its_key : OfEachOrdered LeavesHaveTheirOwnKeys
+each_leaf_has_its_key L enough turns keys = own_keys L enough (after_in (ordered L) turns) (each_ordered L enough turns keys)
+
+pub each_walk_stays : OfEachOrdered WalksStayInOrder
+each_walk_stays L enough turns keys = stay_in_order L enough (after_in (ordered L) turns) (each_ordered L enough turns keys)
+
+pub each_walk_reads : OfEachOrdered WalksReadKeys
+each_walk_reads L enough turns keys = read_keys L enough (after_in (ordered L) turns) (each_ordered L enough turns keys)
