@@ -37,6 +37,7 @@ pub mod OnePlace
 pub mod EachState
 pub mod TreeCount
 pub mod Counts
+pub mod FewPlaces
 pub mod Cuts
 pub mod Stays
 pub mod Origins

@@ -6,6 +6,7 @@ use Rattle.nm_edge.specs.declared.edge.Side.TheVariants.{Left, Right}
 use Rattle.nm_core.specs.declared.event.Event.{Event}
 use Rattle.nm_core.specs.declared.trace.Turn.{Turn}
 use Rattle.nm_core.specs.declared.ledger.Ledger.{Ledger}
+use Rattle.nm_core.specs.declared.places.Places.{Places}
 use Rattle.nm_core.specs.Maps.{or_else}
 use Rattle.nm_core.specs.Memory.{Memory, child}
 use Rattle.nm_core.specs.Ledgers.{held, queue_of}
@@ -37,19 +38,25 @@ abbrev pub tree_slots : ℕ → Memory → ℕ → List ℕ
 tree_slots zero m s = []
 tree_slots (suc fuel) m s = elim (s == 0) [ true ↦ [] | false ↦ s ∷ tree_slots fuel m (child m s Left) ++ tree_slots fuel m (child m s Right) ]
 
--- how many slots above 5 are in the pool, private, reached and queued
-pub record Counts : Type 0 where
-  pub pool : ℕ
-  pub private : ℕ
-  pub reached : ℕ
-  pub queued : ℕ
+-- how many slots are private to these workers
+abbrev pub all_private : List Knowledge → ℕ
+all_private ks = sum_by (λ k. length k.drafts) ks
 
-abbrev pub counts : State → Counts
+-- how many entries wait in these queues
+abbrev pub in_queues : List (Option Ledger) → ℕ
+in_queues ls = sum_by (λ l. length (queue_of l)) ls
+
+-- how many entries wait in the queues that these workers hold
+abbrev pub all_queued : List Knowledge → ℕ
+all_queued ks = sum_by (λ k. in_queues k.ledgers) ks
+
+-- how many slots above 5 are in the pool, private, reached and queued
+abbrev pub counts : State → Places
 counts s = record {
   pool = length (filter (λ free. free) s.memory.pool);
-  private = sum_by (λ k. length k.drafts) s.workers;
+  private = all_private s.workers;
   reached = length (tree_slots s.layout.nodes s.memory 1) - 5;
-  queued = sum_by (λ k. sum_by (λ l. length (queue_of l)) k.ledgers) s.workers;
+  queued = all_queued s.workers;
 }
 
 -- ---- the report
@@ -58,7 +65,7 @@ pub record Report : Type 0 where
   pub trace : List Turn
   pub ledgers : List (Option Ledger)
   pub epoch : ℕ
-  pub counts : Counts
+  pub counts : Places
 
 abbrev pub report_of : List Turn → State → Report
 report_of turns s = record {

@@ -14,7 +14,8 @@ use Rattle.nm_core.specs.declared.reply.Refused.TheVariants.{NoWorker, NoSlot, N
 use Rattle.nm_core.specs.declared.trace.Turn.{Turn}
 use Rattle.nm_core.specs.declared.ledger.Queued.{Queued}
 use Rattle.nm_core.specs.declared.ledger.Ledger.{Ledger}
-use Rattle.nm_core.specs.Reports.{Report, Counts, report}
+use Rattle.nm_core.specs.declared.places.Places.{Places}
+use Rattle.nm_core.specs.Reports.{Report, report}
 
 -- a worked schedule
 pub record Worked : Type 0 where
@@ -22,7 +23,7 @@ pub record Worked : Type 0 where
   pub turns : List Turn
   pub ledgers : List (Option Ledger)
   pub epoch : ℕ
-  pub counts : Counts
+  pub counts : Places
 
 -- played from the opening, the events have these outcomes, and lead to these ledgers, this epoch and these counts
 abbrev pub IsAsWorked : Worked → Type 0

@@ -1,7 +1,8 @@
 //! The ledgers that one worker holds.
-ghost use Rattle.std.specs.Prelude.{◌≡◌, ◌<◌, length, map, option_map, is_some, position, replicate, slice_set, Some, None, IfOk, OnOk, OnErr};
+ghost use Rattle.std.specs.Prelude.{◌≡◌, ◌<◌, ◌^◌, length, map, option_map, is_some, position, replicate, slice_set, Some, None, IfOk, OnOk, OnErr};
 ghost use Rattle.std.specs.Option.{option_copied};
 ghost use Rattle.nm_core.specs.Maps.{or_else};
+ghost use Rattle.nm_core.specs.Reports.{in_queues};
 ghost use Rattle.nm_core.specs.Ledgers.{fresh_ledger, held, queue_of, labelled, with_freed, free, taken_over, front_at, entry_at, front_of, first_of, entry_of, retire, label as with_labels};
 
 use crate::ledger::{Ledger, Queued};
@@ -99,6 +100,18 @@ impl Ledgers {
         ledger.retire(nodes)
     }
 
+    /// How many entries wait in its queues.
+    pub(crate) fn waiting(&self) -> usize
+        requires { in_queues self.now < 2 ^ 32 }
+        ensures { result ≡ in_queues self.now }
+    {
+        let mut entries = 0;
+        for ledger in &self.by_origin {
+            entries += waiting_in(ledger);
+        }
+        entries
+    }
+
     // The first origin whose queue has its front at this slot.
     fn origin_of_front(&self, slot: u32) -> Option<usize>
         ensures { result ≡ position (λ l. is_some (front_at (queue_of l) slot)) self.now }
@@ -164,6 +177,15 @@ fn entry_in(ledger: &Option<Ledger>, slot: u32) -> Option<Queued>
     match ledger {
         Some(ledger) => ledger.queue.find(slot),
         None => None,
+    }
+}
+
+fn waiting_in(ledger: &Option<Ledger>) -> usize
+    ensures { result ≡ length (queue_of ledger.now) }
+{
+    match ledger {
+        Some(ledger) => ledger.queue.as_slice().len(),
+        None => 0,
     }
 }
 

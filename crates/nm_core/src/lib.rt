@@ -11,6 +11,7 @@ mod ledger;
 mod ledgers;
 mod machine;
 mod memory;
+mod places;
 mod pool_steps;
 mod pure_core;
 mod queue;
@@ -36,6 +37,7 @@ pub use laws::{
 };
 pub use ledger::{Ledger, Nodes, Queued};
 pub use ledgers::Ledgers;
+pub use places::Places;
 pub use pure_core::{Core, NewError};
 pub use queue::Queue;
 pub use reply::{Refused, Reply};

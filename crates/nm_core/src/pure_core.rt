@@ -2,14 +2,16 @@
 ghost use Rattle.std.specs.Prelude.{◌≡◌, ◌≢◌, ◌<◌, ◌≤◌, ◌⊎◌, ◌↔◌, IfOk, IfErr, OnOk, OnErr, IsErrOf, take, length};
 ghost use Rattle.std.specs.Option.{option_copied};
 ghost use Rattle.nm_core.specs.Runs.{start, refused, reply_of, applied, next, outcome, after, trace};
-ghost use Rattle.nm_core.specs.Reports.{holder, ledger_of};
+ghost use Rattle.nm_core.specs.Reports.{counts, holder, ledger_of};
 ghost use Rattle.nm_core.specs.Answers.{IsAnswer};
 ghost use Rattle.nm_edge.specs.Layouts.{IsLayout};
 ghost use Rattle.nm_core.specs.Laws.{PinsAreNear};
+ghost use Rattle.nm_core.specs.Lawful.{CountsAddUp};
 
 use crate::event::Event;
 use crate::ledger::Ledger;
 use crate::machine::Machine;
+use crate::places::Places;
 use crate::reply::{Refused, Reply};
 use crate::trace::{RunError, Trace, Turn};
 use nm_edge::{LEAST_NODES, Layout, LayoutError, MOST_NODES, MOST_WORKERS};
@@ -105,6 +107,15 @@ impl Core {
         ensures holder { result ≡ holder self.now origin }
     {
         self.machine.holder(origin)
+    }
+
+    /// How many of the slots above 5 are in the pool, private to a worker, reached from the root, and queued.
+    /// Each is in exactly one of these places, so the four add up to the nodes above slot 5. Takes one pass and no memory.
+    pub fn places(&self) -> Places
+        ensures places { result ≡ counts self.now }
+        ensures sum { CountsAddUp self.now }
+    {
+        self.machine.places()
     }
 
     /// One event. Answers its reply, or the first reason in the order of `Refused` for which it is refused; what is refused changes nothing.

@@ -36,6 +36,13 @@ impl<V: Copy> SlotMap<V> {
         self.entries.len() == 0
     }
 
+    /// How many slots it has.
+    pub fn len(&self) -> usize
+        ensures { result ≡ length self.now }
+    {
+        self.entries.len()
+    }
+
     pub fn contains(&self, slot: u32) -> bool
         ensures { result ≡ has self.now slot }
     {

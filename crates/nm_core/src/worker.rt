@@ -1,5 +1,5 @@
 //! What one worker knows, and how its events add to it.
-ghost use Rattle.std.specs.Prelude.{◌≡◌, ◌≢◌, ◌<◌, ◌==◌, true, false, not, ◌&&◌, unwrap_or, replicate, length, [], Some, None, IfOk, IfErr, OnOk, OnErr};
+ghost use Rattle.std.specs.Prelude.{◌≡◌, ◌≢◌, ◌<◌, ◌==◌, ◌^◌, true, false, not, ◌&&◌, unwrap_or, replicate, length, [], Some, None, IfOk, IfErr, OnOk, OnErr};
 ghost use Rattle.std.specs.Option.{option_copied};
 ghost use Rattle.nm_core.specs.declared.event.Field.TheVariants.{Birth};
 ghost use Rattle.nm_core.specs.declared.reply.Reply.TheVariants.{BirthIs};
@@ -7,6 +7,7 @@ ghost use Rattle.nm_core.specs.Maps.{put, without};
 ghost use Rattle.nm_core.specs.Ledgers.{held, front_of, free};
 ghost use Rattle.nm_core.specs.Knowledge.{newcomer, unfilled, knows, is_private, seen_of, draft_of, beside, read, is_null, is_flagged, is_tagged, knows_leaf};
 ghost use Rattle.nm_core.specs.Learning.{saw, labelled, pinned, rooted, moved, learn_sight, learn_scan, looked, met, read_edge, linked, cutting, inheriting, resigned};
+ghost use Rattle.nm_core.specs.Reports.{in_queues};
 ghost use Rattle.nm_core.specs.Step.{reply_sight, reply_scan, reply_look, others_scanned, node_of, node_linked, is_leaf_draft, is_linkable, first, free_checks};
 
 use crate::event::Field;
@@ -76,6 +77,21 @@ impl Worker {
         ensures { result ≡ self.now.gone }
     {
         self.gone
+    }
+
+    /// How many slots are private to it.
+    pub fn private(&self) -> usize
+        ensures { result ≡ length self.now.drafts }
+    {
+        self.drafts.len()
+    }
+
+    /// How many entries wait in the queues that it holds.
+    pub fn waiting(&self) -> usize
+        requires { in_queues self.now.ledgers < 2 ^ 32 }
+        ensures { result ≡ in_queues self.now.ledgers }
+    {
+        self.ledgers.waiting()
     }
 
     // The global epoch was read.

@@ -1,0 +1,13 @@
+use Rattle.nm_core.specs.Lawful.{CountsAddUp}
+use Rattle.nm_core.proofs.Counts.{each_state_adds_up}
+use Rattle.nm_core.proofs.Reachable.{of_reachable}
+use Rattle.nm_core.proofs.pure_core.Core.places.Goals as goal
+
+pub places-requires-clause-fits : goal.places-requires-clause-fits
+places-requires-clause-fits c = c.self.invariant.fits
+
+pub places-requires-clause-sum : goal.places-requires-clause-sum
+places-requires-clause-sum c = of_reachable CountsAddUp each_state_adds_up _ c.self.invariant
+
+pub returns-clause-sum : goal.returns-clause-sum
+returns-clause-sum c = rw (← c.self.view_is) (of_reachable CountsAddUp each_state_adds_up _ c.self.invariant)
