@@ -4,7 +4,8 @@ use Rattle.nm_edge.specs.declared.node.NodeId.{NodeId}
 use Rattle.nm_core.specs.declared.ledger.Queued.{Queued}
 use Rattle.nm_core.specs.declared.ledger.Ledger.{Ledger}
 use Rattle.nm_core.specs.Runs.{State}
-use Rattle.nm_core.specs.Reports.{ledger_of}
+use Rattle.nm_core.specs.Reports.{ledger_of, counts}
+use Rattle.nm_core.specs.declared.places.Places.{Places}
 use Rattle.nm_stress.specs.Replies.{node, spaced_nodes}
 
 -- each node after a space, or a dash where there is none
@@ -50,6 +51,14 @@ workers_lines s (suc n) = workers_lines s n ++ ledger_lines n (ledger_of s n)
 abbrev pub epoch_line : ℕ → List ℕ
 epoch_line e = codes "epoch " ++ decimal e ++ codes "\n"
 
+-- how many slots above 5 are in the pool, private, reached and queued
+unfoldable pub places_line : Places → List ℕ
+places_line p =
+    (codes "places pool " ++ decimal p.pool)
+    ++ ((codes " private " ++ decimal p.private)
+    ++ ((codes " reached " ++ decimal p.reached)
+    ++ ((codes " queued " ++ decimal p.queued) ++ codes "\n")))
+
 -- what a state of so many workers is told by
-abbrev pub last_lines : ℕ → State → List ℕ
-last_lines workers s = workers_lines s workers ++ epoch_line s.memory.epoch
+unfoldable pub last_lines : ℕ → State → List ℕ
+last_lines workers s = workers_lines s workers ++ (epoch_line s.memory.epoch ++ places_line (counts s))

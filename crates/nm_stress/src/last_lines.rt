@@ -3,7 +3,7 @@ ghost use Rattle.std.specs.Prelude.{◌≡◌, ◌++◌, codes, Some, OnOk};
 ghost use Rattle.nm_stress.specs.LastLines as spec;
 
 use crate::reply::{put_node, put_number, put_spaced_nodes};
-use nm_core::{Core, Ledger, Queued};
+use nm_core::{Core, Ledger, Places, Queued};
 use nm_edge::NodeId;
 use std::alloc::AllocError;
 
@@ -109,10 +109,24 @@ fn put_epoch(out: &mut Vec<u8>, epoch: u64) -> Result<(), AllocError>
     out.extend_from_slice(b"\n")
 }
 
+/// Appends the line of how many slots stand where.
+#[tactic(auto, unfolding(crate::specs::LastLines::places_line))]
+fn put_places(out: &mut Vec<u8>, places: Places) -> Result<(), AllocError>
+    ensures { OnOk result (out.new.items ≡ out.old.items ++ spec.places_line places) }
+{
+    put_number(out, b"places pool ", u64::from(places.pool))?;
+    put_number(out, b" private ", u64::from(places.private))?;
+    put_number(out, b" reached ", u64::from(places.reached))?;
+    put_number(out, b" queued ", u64::from(places.queued))?;
+    out.extend_from_slice(b"\n")
+}
+
 /// Appends what the last state is told by, in a tree for so many workers.
+#[tactic(auto, unfolding(crate::specs::LastLines::last_lines))]
 pub fn put_last_lines(out: &mut Vec<u8>, workers: u32, core: &Core) -> Result<(), AllocError>
     ensures { OnOk result (out.new.items ≡ out.old.items ++ spec.last_lines workers core.now) }
 {
     put_ledgers(out, workers, core)?;
-    put_epoch(out, core.epoch())
+    put_epoch(out, core.epoch())?;
+    put_places(out, core.places())
 }
