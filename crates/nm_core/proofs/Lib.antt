@@ -50,3 +50,4 @@ pub mod Labels
 pub mod Grace
 pub mod KnownBirths
 pub mod Reachable
+pub mod LawfulRuns

@@ -15,7 +15,7 @@ use Rattle.nm_core.specs.declared.trace.Turn.{Turn}
 use Rattle.nm_core.specs.declared.ledger.Queued.{Queued}
 use Rattle.nm_core.specs.declared.ledger.Ledger.{Ledger}
 use Rattle.nm_core.specs.declared.places.Places.{Places}
-use Rattle.nm_core.specs.Reports.{Report, report}
+use Rattle.nm_core.specs.Reports.{report}
 
 -- a worked schedule
 pub record Worked : Type 0 where
