@@ -13,3 +13,4 @@ pub mod Schedules
 pub mod Laws
 pub mod Places
 pub mod Lawful
+pub mod Packing
