@@ -1,5 +1,8 @@
 pub mod Numbers
 pub mod Lists
+pub mod Blocks
+pub mod NumberBits
+pub mod PackedReads
 pub mod Counting
 pub mod Tables
 pub mod Freeing
@@ -28,11 +31,15 @@ pub mod TreeEpochs
 pub mod TreeSlots
 pub mod TreeSplice
 pub mod TreeLink
+pub mod EdgeWords
 pub mod Changes
 pub mod Holders
 pub mod TreeSteps
 pub mod Opening
 pub mod Lawful
+pub mod PackedWrites
+pub mod PackedEvents
+pub mod PackedSizes
 pub mod OnePlace
 pub mod EachState
 pub mod TreeCount
@@ -50,4 +57,6 @@ pub mod Labels
 pub mod Grace
 pub mod KnownBirths
 pub mod Reachable
+pub mod LawfulRuns
 pub mod Configurations
+pub mod OrderedRuns

@@ -16,3 +16,5 @@ pub mod Schedules
 pub mod Laws
 pub mod Places
 pub mod Lawful
+pub mod Traces
+pub mod Packing

@@ -13,6 +13,7 @@ mod ledger;
 mod ledgers;
 mod machine;
 mod memory;
+mod packing;
 mod places;
 mod pool_steps;
 mod pure_core;
@@ -40,6 +41,9 @@ pub use laws::{
 };
 pub use ledger::{Ledger, Nodes, Queued};
 pub use ledgers::Ledgers;
+pub use packing::{
+    events_touch_one_word, words_have_room, words_tell_the_memory, writes_change_one_word,
+};
 pub use places::Places;
 pub use pure_core::{Core, NewError};
 pub use queue::Queue;

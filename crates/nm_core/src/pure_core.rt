@@ -8,6 +8,7 @@ ghost use Rattle.nm_core.specs.Answers.{IsAnswer};
 ghost use Rattle.nm_edge.specs.Layouts.{IsLayout};
 ghost use Rattle.nm_core.specs.Laws.{PinsAreNear};
 ghost use Rattle.nm_core.specs.Lawful.{CountsAddUp};
+ghost use Rattle.nm_core.specs.Traces.{IsLawfulRun};
 
 use crate::calls::Searches;
 use crate::event::Event;
@@ -167,13 +168,17 @@ impl Core {
         }
     }
 
-    #[tactic(auto, unfolding(crate::specs::Ordered::after_in, crate::specs::Ordered::trace_in))]
     /// Applies each event in turn, and goes on after one that is refused. The trace lists worker, event and outcome of each.
     ///
+    /// The headline holds of every run: in each state each slot is in one place, each turn cuts exactly the nodes of its outcome,
+    /// the ledgers are the cuts, no node is retired twice, and no node that was cut in the run is freed in it while a worker
+    /// that was pinned at the cut has not left.
     /// Where memory is refused, the first `done` events have been applied and no more.
+    #[tactic(auto, unfolding(crate::specs::Ordered::after_in, crate::specs::Ordered::trace_in))]
     pub fn run(&mut self, events: Vec<(u32, Event)>) -> Result<Trace, RunError>
         ensures trace { IfOk result (λ t. t ≡ trace_in self.old events.items) }
         ensures state { OnOk result (self.new ≡ after_in self.old events.items) }
+        ensures lawful { IfOk result (λ t. IsLawfulRun (λ i. (after_in self.old (take i events.items)).state) t) }
         ensures done { IfErr result (λ e. e.done ≤ length events.items) }
         ensures done_state { IfErr result (λ e. self.new ≡ after_in self.old (take e.done events.items)) }
     {

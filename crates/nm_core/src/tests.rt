@@ -154,6 +154,15 @@ fn a_splice_answers_its_chain(rt: HostRuntime) -> Result<(), Fail> {
     let trace = core.run(listed(&rt, &LONG_CHAIN)?)?;
     let turns = trace.as_slice();
     assert_eq!(rt; turns.len(), 57);
+    assert_eq!(rt;
+        core.places(),
+        Places {
+            pool: 5,
+            private: 0,
+            reached: 2,
+            queued: 4
+        }
+    );
     let Ok(Reply::Cut(nodes)) = &turns[55].outcome else {
         assert!(rt; false, "no cut");
         return Ok(());

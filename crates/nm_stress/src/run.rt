@@ -26,7 +26,13 @@ fn output(alloc: Global, bytes: &[u8]) -> Result<Vec<u8>, RunFault>
         Ok(trace) => trace,
         Err(_) => return Err(RunFault::NoMemory),
     };
-    match text_of(alloc, schedule.body, trace.as_slice(), &core) {
+    match text_of(
+        alloc,
+        schedule.body,
+        trace.as_slice(),
+        layout.workers(),
+        &core,
+    ) {
         Ok(text) => Ok(text),
         Err(_) => Err(RunFault::NoMemory),
     }

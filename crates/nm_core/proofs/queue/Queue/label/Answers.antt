@@ -1,4 +1,4 @@
-use Rattle.std.proofs.Common.{ap, ◌∙◌, sym, drop, map}
+use Rattle.std.proofs.Common.{ap, ◌∙◌, drop, map}
 use Rattle.std.proofs.lemmas.List.{drop-map}
 use Rattle.nm_core.specs.Queues.{with_label}
 use Rattle.nm_core.proofs.QueueLabels.{all_labelled}
