@@ -91,7 +91,7 @@ fn put_ledger(out: &mut Vec<u8>, worker: u32, ledger: &Ledger) -> Result<(), All
 
 /// Appends the lines of each worker by number.
 fn put_ledgers(out: &mut Vec<u8>, workers: u32, core: &Core) -> Result<(), AllocError>
-    ensures { OnOk result (out.new.items ≡ out.old.items ++ spec.workers_lines core.now workers) }
+    ensures { OnOk result (out.new.items ≡ out.old.items ++ spec.workers_lines core.now.state workers) }
 {
     for worker in 0..workers {
         if let Some(ledger) = core.ledger(worker) {
@@ -124,7 +124,7 @@ fn put_places(out: &mut Vec<u8>, places: Places) -> Result<(), AllocError>
 /// Appends what the last state is told by, in a tree for so many workers.
 #[tactic(auto, unfolding(crate::specs::LastLines::last_lines))]
 pub fn put_last_lines(out: &mut Vec<u8>, workers: u32, core: &Core) -> Result<(), AllocError>
-    ensures { OnOk result (out.new.items ≡ out.old.items ++ spec.last_lines workers core.now) }
+    ensures { OnOk result (out.new.items ≡ out.old.items ++ spec.last_lines workers core.now.state) }
 {
     put_ledgers(out, workers, core)?;
     put_epoch(out, core.epoch())?;

@@ -29,7 +29,7 @@ pub fn text_of(
     workers: u32,
     core: &Core,
 ) -> Result<Vec<u8>, AllocError>
-    ensures { IfOk result (λ v. v.items ≡ spec.lines_with (parts body.now) turns.now ++ last_lines workers core.now) }
+    ensures { IfOk result (λ v. v.items ≡ spec.lines_with (parts body.now) turns.now ++ last_lines workers core.now.state) }
 {
     let mut out = Vec::new(alloc);
     let mut rest = Some(body);

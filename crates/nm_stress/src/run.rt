@@ -12,6 +12,7 @@ use std::alloc::Global;
 use std::io::{Read, Write};
 
 /// What is written for the bytes of a file.
+#[tactic(auto, using(crate::proofs::PlainLemmas::plain_trace, crate::proofs::PlainLemmas::plain_state))]
 fn output(alloc: Global, bytes: &[u8]) -> Result<Vec<u8>, RunFault>
     ensures { Gives (λ v. v.items) result (output_of bytes.now) }
 {
