@@ -60,3 +60,4 @@ pub mod Reachable
 pub mod LawfulRuns
 pub mod Configurations
 pub mod OrderedRuns
+pub mod SetKeys

@@ -1,9 +1,9 @@
 //! The core: the machine from its opening on.
 ghost use Rattle.std.specs.Prelude.{◌≡◌, ◌≢◌, ◌<◌, ◌≤◌, ◌⊎◌, ◌↔◌, IfOk, IfErr, OnOk, OnErr, IsErrOf, take, length};
 ghost use Rattle.std.specs.Option.{option_copied};
-ghost use Rattle.nm_core.specs.Runs.{reply_of};
+ghost use Rattle.nm_core.specs.Runs.{start, reply_of};
 ghost use Rattle.nm_core.specs.Ordered.{plain, ordered, refused_in, applied_in, next_in, outcome_in, after_in, trace_in};
-ghost use Rattle.nm_core.specs.Reports.{counts, holder, ledger_of};
+ghost use Rattle.nm_core.specs.Reports.{counts, holder, keys, ledger_of};
 ghost use Rattle.nm_core.specs.Answers.{IsAnswer};
 ghost use Rattle.nm_edge.specs.Layouts.{IsLayout};
 ghost use Rattle.nm_core.specs.Laws.{PinsAreNear};
@@ -17,7 +17,7 @@ use crate::machine::Machine;
 use crate::places::Places;
 use crate::reply::{Refused, Reply};
 use crate::trace::{RunError, Trace, Turn};
-use nm_edge::{LEAST_NODES, Layout, LayoutError, MOST_NODES, MOST_WORKERS};
+use nm_edge::{Key, LEAST_NODES, Layout, LayoutError, MOST_NODES, MOST_WORKERS};
 use std::alloc::{AllocError, Global};
 use std::marker::Model;
 use thiserror::Error;
@@ -80,6 +80,16 @@ fn layout_of(nodes: u32, workers: u32) -> Result<Layout, NewError>
     }
 }
 
+fn opening_machine(alloc: Global, nodes: u32, workers: u32) -> Result<Machine, NewError>
+    ensures opening { IfOk result (λ machine. machine ≡ start (record { nodes = nodes; workers = workers })) }
+    ensures fits { OnOk result (IsLayout (record { nodes = nodes; workers = workers })) }
+    ensures nodes { IsErrOf result NewError.Nodes ↔ ((nodes < LEAST_NODES) ⊎ (MOST_NODES < nodes)) }
+    ensures workers { IsErrOf result NewError.Workers ↔ ((LEAST_NODES ≤ nodes) × (nodes ≤ MOST_NODES) × ((workers < 1) ⊎ (MOST_WORKERS < workers))) }
+{
+    let layout = layout_of(nodes, workers)?;
+    Ok(Machine::new(alloc, layout)?)
+}
+
 impl Core {
     /// The opening: the empty tree, epoch 0, everybody idle, and every slot above 5 in the pool with birth 0.
     pub fn new(alloc: Global, nodes: u32, workers: u32) -> Result<Core, NewError>
@@ -87,8 +97,7 @@ impl Core {
         ensures nodes { IsErrOf result NewError.Nodes ↔ ((nodes < LEAST_NODES) ⊎ (MOST_NODES < nodes)) }
         ensures workers { IsErrOf result NewError.Workers ↔ ((LEAST_NODES ≤ nodes) × (nodes ≤ MOST_NODES) × ((workers < 1) ⊎ (MOST_WORKERS < workers))) }
     {
-        let layout = layout_of(nodes, workers)?;
-        let machine = Machine::new(alloc, layout)?;
+        let machine = opening_machine(alloc, nodes, workers)?;
         Ok(Core {
             machine,
             searches: None,
@@ -102,8 +111,7 @@ impl Core {
         ensures nodes { IsErrOf result NewError.Nodes ↔ ((nodes < LEAST_NODES) ⊎ (MOST_NODES < nodes)) }
         ensures workers { IsErrOf result NewError.Workers ↔ ((LEAST_NODES ≤ nodes) × (nodes ≤ MOST_NODES) × ((workers < 1) ⊎ (MOST_WORKERS < workers))) }
     {
-        let layout = layout_of(nodes, workers)?;
-        let machine = Machine::new(alloc, layout)?;
+        let machine = opening_machine(alloc, nodes, workers)?;
         let searches = Searches::new(alloc, workers)?;
         Ok(Core {
             machine,
@@ -141,6 +149,13 @@ impl Core {
         ensures sum { CountsAddUp self.now.state }
     {
         self.machine.places()
+    }
+
+    /// The keys of the set, from left to right: those of the leaves that paths from the root lead to, without the fixed leaves.
+    pub fn keys(&self) -> Result<Vec<Key>, AllocError>
+        ensures { IfOk result (λ found. found.items ≡ keys self.now.state) }
+    {
+        self.machine.keys()
     }
 
     /// One event. Answers its reply, or the first reason in the order of `Refused` for which it is refused; what is refused changes nothing.
