@@ -6,3 +6,4 @@ pub mod FileLemmas
 pub mod LimitLemmas
 pub mod StreamLemmas
 pub mod ReasonLemmas
+pub mod LedgerLemmas
