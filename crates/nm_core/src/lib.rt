@@ -4,6 +4,7 @@
 mod chain;
 mod epoch_steps;
 mod event;
+mod indices;
 mod join_steps;
 mod knowledge;
 mod laws;
