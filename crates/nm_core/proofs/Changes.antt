@@ -21,7 +21,7 @@ use Rattle.nm_core.specs.Knowledge.{Knowledge, knows, is_private}
 use Rattle.nm_core.specs.Learning.{learn, look_private, look_known}
 use Rattle.nm_core.specs.Step.{outside, first, free_checks, has_no_label, is_young, reply_sight, confirmed, reply_scan, reply_look, node_of, cut_nodes, node_linked, refusal, reply}
 use Rattle.nm_core.specs.Runs.{State, of, refusal_of, reply_of}
-use Rattle.nm_core.proofs.Steps.{Allowed, passed, second, third, fourth, fifth}
+use Rattle.nm_core.proofs.Steps.{Allowed, passed, second, third, fourth}
 use Rattle.nm_core.proofs.Tables.{Ascends, ascends-put, ascends-without}
 use Rattle.nm_core.proofs.Held.{Front, front, front_slot, entry_is_front}
 use Rattle.nm_core.proofs.Learned.{learn_sight_for, learn_leave_with, learn_saw, learn_labelled, learn_pinned, learn_missed, learn_announced, learn_departed, learn_idle, learn_in, learn_moved, learn_behind, learn_claimed, learn_taken, learn_returned, learn_freed, learn_look, learn_filled, learn_linked, learn_link_lost, learn_flagged, learn_flag_lost, learn_was, learn_cut, learn_splice_lost}

@@ -38,7 +38,7 @@ module _ (c : Configuration) (t : ℕ × Event) where
   unfolding next_in
   refused_next r is = ap (λ (o : Option Refused). unless_refused_in o c (applied_in c t.0 t.1)) is
 
-  refused_outcome : (r : Refused) → refused_in c t.0 t.1 ≡ Some r → outcome_in c t ≡ Err r
+  pub refused_outcome : (r : Refused) → refused_in c t.0 t.1 ≡ Some r → outcome_in c t ≡ Err r
   unfolding outcome_in
   refused_outcome r is = ap (λ (o : Option Refused). answered o (reply_of c.state t.0 t.1)) is
 
@@ -46,15 +46,15 @@ module _ (c : Configuration) (t : ℕ × Event) where
   unfolding next_in
   allowed_next is = ap (λ (o : Option Refused). unless_refused_in o c (applied_in c t.0 t.1)) is
 
-  allowed_outcome : refused_in c t.0 t.1 ≡ None → outcome_in c t ≡ Ok (reply_of c.state t.0 t.1)
+  pub allowed_outcome : refused_in c t.0 t.1 ≡ None → outcome_in c t ≡ Ok (reply_of c.state t.0 t.1)
   unfolding outcome_in
   allowed_outcome is = ap (λ (o : Option Refused). answered o (reply_of c.state t.0 t.1)) is
 
-  allowed_state : refused_in c t.0 t.1 ≡ None → next c.state t ≡ (next_in c t).state
+  pub allowed_state : refused_in c t.0 t.1 ≡ None → next c.state t ≡ (next_in c t).state
   unfolding next applied_in
   allowed_state is = ap (λ (o : Option Refused). unless_refused o c.state (applied c.state t.0 t.1)) (allowed_by_state c t.0 t.1 is) ∙ ap (λ (d : Configuration). d.state) (sym (allowed_next is))
 
-  state_outcome : refused_in c t.0 t.1 ≡ None → outcome c.state t ≡ Ok (reply_of c.state t.0 t.1)
+  pub state_outcome : refused_in c t.0 t.1 ≡ None → outcome c.state t ≡ Ok (reply_of c.state t.0 t.1)
   unfolding outcome
   state_outcome is = ap (λ (o : Option Refused). answered o (reply_of c.state t.0 t.1)) (allowed_by_state c t.0 t.1 is)
 

@@ -1,5 +1,5 @@
 -- Counts that add up are below 2^32, each.
-use Rattle.std.proofs.Common.{◌≡◌, ℕ, ◌<◌, ◌^◌, sym, subst, arith}
+use Rattle.std.proofs.Common.{◌≡◌, ◌<◌, ◌^◌, sym, subst, arith}
 use Rattle.nm_edge.specs.Layouts.{IsLayout}
 use Rattle.nm_core.specs.Reports.{counts}
 use Rattle.nm_core.specs.Runs.{State}

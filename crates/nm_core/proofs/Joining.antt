@@ -1,5 +1,5 @@
 -- What a join leaves: the heir with all ledgers, and the leaver gone.
-use Rattle.std.proofs.Common.{◌≡◌, ◌≢◌, ℕ, ◌==◌, ◌<◌, Bool, true, false, List, length, slice_index_or, slice_set, refl, sym, ap, ◌∙◌, rules}
+use Rattle.std.proofs.Common.{◌≡◌, ◌≢◌, ℕ, ◌==◌, ◌<◌, List, length, slice_index_or, slice_set, refl, sym, ap, ◌∙◌}
 use Rattle.std.proofs.lemmas.Bool.{eq-eqb, ne_eqb, cond-true, cond-false}
 use Rattle.std.proofs.lemmas.List.{set_comm, get_or_default, get_or-set_other}
 use Rattle.nm_core.specs.declared.event.Event.TheVariants.{Join}
@@ -7,7 +7,7 @@ use Rattle.nm_core.specs.declared.reply.Reply.TheVariants.{Joined}
 use Rattle.nm_core.specs.Knowledge.{Knowledge, newcomer}
 use Rattle.nm_core.specs.Learning.{learn, inheriting, resigned}
 use Rattle.nm_core.specs.Step.{write}
-use Rattle.nm_core.specs.Runs.{State, of, taught, applied}
+use Rattle.nm_core.specs.Runs.{State, of, applied}
 
 module _ (s : State) (w v : ℕ) (apart : v ≢ w) where
   heir_learns : learn w (of s w) (Join v) (Joined (of s v).ledgers) ≡ inheriting (of s w) (of s v).ledgers

@@ -1,5 +1,5 @@
 -- What is known stays known as more is met.
-use Rattle.std.proofs.Common.{◌≡◌, ℕ, ◌==◌, eqb, Bool, true, false, cond, Option, Some, None, is_some, List, ap, ◌∙◌, refl, sym}
+use Rattle.std.proofs.Common.{◌≡◌, ℕ, ◌==◌, eqb, Bool, true, false, cond, Some, is_some, List, ap, ◌∙◌, refl}
 use Rattle.std.proofs.lemmas.Bool.{cond_both}
 use Rattle.nm_core.specs.declared.knowledge.Seen.{Seen}
 use Rattle.nm_core.specs.Maps.{get, put, has}

@@ -1,5 +1,5 @@
 -- No node is cut twice: what was cut has a birth below its slot's, until the slot is free again.
-use Rattle.std.proofs.Common.{◌≡◌, ℕ, ◌-◌, ◌<◌, ◌≤◌, ◌⊎◌, inl, inr, true, List, [], ◌∷◌, ◌++◌, length, map, refl, sym, ap, subst, ◌∙◌, arith, true≢false, length-append}
+use Rattle.std.proofs.Common.{◌≡◌, ℕ, ◌-◌, ◌<◌, ◌≤◌, ◌⊎◌, inl, inr, true, List, [], ◌∷◌, ◌++◌, length, map, refl, sym, ap, ◌∙◌, arith, true≢false, length-append}
 use Rattle.std.specs.Prelude.{Option, Some, None, option_map, slice_get, is_some, Result, Ok}
 use Rattle.std.proofs.lemmas.Bool.{cases_lt, cases_order}
 use Rattle.std.proofs.lemmas.Option.{none-some, same_Some, slice_get-map}
@@ -14,7 +14,7 @@ use Rattle.nm_core.specs.declared.ledger.Queued.{Queued}
 use Rattle.nm_core.specs.declared.ledger.Ledger.{Ledger}
 use Rattle.nm_core.specs.Maps.{get}
 use Rattle.nm_core.specs.Ledgers.{held, queue_of, labelled}
-use Rattle.nm_core.specs.Runs.{State, of, start, after, next, outcome, IsReachable}
+use Rattle.nm_core.specs.Runs.{State, of, start, after, next, outcome}
 use Rattle.nm_core.specs.Places.{slot_of}
 use Rattle.nm_core.specs.Laws.{OfEachState, node_in, NoNodeTwice}
 use Rattle.nm_core.proofs.Lists.{get_left, get_right}
@@ -229,7 +229,3 @@ sound_once s k w v o p i j l m n is is' at at' = k.once.once o p i j n (ap (λ x
 
 pub no_node_is_cut_twice : OfEachState NoNodeTwice
 no_node_is_cut_twice L enough turns = sound_once (after (start L) turns) (sound L enough turns)
-
--- the same of a state that can be reached
-pub reachable_is_sound : (s : State) → IsReachable s → IsSound s
-reachable_is_sound s r = subst (λ (t : State). IsSound t) r.leads (sound s.layout (let enough = r.fits.least in omega arith) r.events)

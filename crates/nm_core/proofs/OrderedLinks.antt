@@ -30,7 +30,7 @@ use Rattle.nm_core.proofs.Links.{IsLink}
 use Rattle.nm_core.proofs.Numbers.{number_is}
 use Rattle.nm_core.proofs.TreeLink.{Linkable}
 use Rattle.nm_core.proofs.TreeSteps.{Lawful}
-use Rattle.nm_core.proofs.OrderedRuns.{FixedKeys, left_of, off_root}
+use Rattle.nm_core.proofs.OrderedChanges.{FixedKeys, left_of, off_root}
 
 right_of : (k n : ℕ) → (k < n → ⊥) → side_of k n ≡ Right
 right_of k n past = cond-false (nat_lt k n) Left Right (false_from_ne_true (nat_lt k n) (λ h. past (ltb-true k n h)))

@@ -1,132 +1,199 @@
--- Ordered runs: in every state each node's key lies in its interval, and the walks of every call keep their law.
-use Rattle.std.proofs.Common.{◌≡◌, ◌≢◌, ℕ, ◌+◌, ◌-◌, ◌^◌, ◌<◌, ◌≤◌, inl, inr, ◌⊎◌, eqb, ◌==◌, Bool, true, false, cond, not, ◌&&◌, List, [], ◌∷◌, ◌++◌, length, refl, sym, ap, subst, ◌∙◌, arith, true≢false}
-use Rattle.std.specs.Prelude.{Option, Some, None, is_some, unwrap_or, nat_lt, slice_get, Result}
-use Rattle.std.specs.List.{list_any}
-use mathlib.Core.Path.{fun_ext}
-use native.Mathlib.Decide.{ℕ_discrete}
-use Rattle.std.proofs.lemmas.Bool.{cond_both, cond-true, cond-false, lt-ltb, eqb-true, and_parts, not-false, false_from_ne_true}
-use Rattle.std.proofs.lemmas.Option.{none-some, same_Some}
-use Rattle.nm_edge.specs.Edges.{Edge, to, other}
-use Rattle.nm_edge.specs.Keys.{IsKey}
-use Rattle.nm_edge.specs.declared.edge.Side.{Side}
-use Rattle.nm_edge.specs.declared.edge.Side.TheVariants.{Left, Right}
+-- The headline of one run of any core: a turn that is refused may be told as any other refused one, so an ordered run is told as a plain run is.
+use Rattle.std.proofs.Common.{◌≡◌, ℕ, zero, suc, ◌+◌, ◌<◌, ◌≤◌, ◌==◌, Bool, true, false, cond, List, [], ◌∷◌, ◌++◌, length, take, get_or, refl, sym, ap, subst, ◌∙◌, arith}
+use Rattle.std.specs.Prelude.{◌↔◌, Option, Some, None, Result, Ok, Err, Contains, nat_le}
+use Rattle.std.proofs.lemmas.Bool.{le-leb}
+use Rattle.nm_edge.specs.declared.node.NodeId.{NodeId}
 use Rattle.nm_core.specs.declared.event.Event.{Event}
-use Rattle.nm_core.specs.declared.event.Event.TheVariants.{Link}
-use Rattle.nm_core.specs.Memory.{Memory, node, edge, child, infinity_1, infinity_2}
-use Rattle.nm_core.specs.Knowledge.{knows, is_private}
-use Rattle.nm_core.specs.Paths.{follow}
-use Rattle.nm_core.specs.Runs.{State, of}
-use Rattle.nm_core.specs.Searches.{side_of}
-use Rattle.nm_core.specs.Intervals.{GoesBy, key}
-use Rattle.nm_core.proofs.Trees.{Children, Exchanged}
-use Rattle.nm_core.proofs.Searching.{Keys, Apart}
-use Rattle.nm_core.proofs.CutPaths.{Splicing}
-use Rattle.nm_core.proofs.OrderedTrees.{InOrder, Onward, Linking, order_spliced, onward_spliced, order_linked, onward_linked, order_apart, onward_apart}
-use Rattle.nm_core.proofs.Pictures.{IsLive, InReach, TreeLaw, below, alone, reached_live, null_below}
-use Rattle.nm_core.proofs.Views.{picture}
-use Rattle.nm_core.proofs.Links.{IsLink}
-use Rattle.nm_core.proofs.TreeLink.{Linkable}
-use Rattle.nm_core.proofs.TreeSteps.{Lawful}
-use Rattle.nm_core.proofs.TreeChanges.{TreeChange}
-use Rattle.nm_core.proofs.TreeChanges.TreeChange.{Kept, Filled, Linked, Spliced}
+use Rattle.nm_core.specs.declared.event.Event.TheVariants.{Sight}
+use Rattle.nm_core.specs.declared.reply.Reply.{Reply}
+use Rattle.nm_core.specs.declared.reply.Reply.TheVariants.{Cut, Freed, Departed}
+use Rattle.nm_core.specs.declared.reply.Refused.{Refused}
+use Rattle.nm_core.specs.declared.reply.Refused.TheVariants.{NoWorker}
+use Rattle.nm_core.specs.declared.trace.Turn.{Turn}
+use Rattle.nm_core.specs.Runs.{State, of, refused, reply_of, applied, unless_refused, answered, next, outcome, after, trace, refusal_of}
+use Rattle.nm_core.specs.Ordered.{Configuration, refused_in, next_in, outcome_in, after_in, trace_in, IsReached}
+use Rattle.nm_core.specs.Laws.{nodes_cut_of, slots_of, cuts_of, left_by, HasLeft}
+use Rattle.nm_core.specs.Traces.{IsLawfulRun, EachTurnCutsItsNodes, LedgersGrowByTheCuts, GraceInRun}
+use Rattle.nm_core.proofs.LawfulRuns.{lawful_run}
+use Rattle.nm_core.proofs.Configurations.{refused_next, refused_outcome, allowed_state, allowed_outcome, state_outcome, reached_state}
 
--- ---- the root
+-- ---- traces that differ in their refused turns alone
 
-pub left_of : (k n : ℕ) → k < n → side_of k n ≡ Left
-left_of k n lt = cond-true (nat_lt k n) Left Right (lt-ltb k n lt)
+data AlikeTurn (x y : Turn) : Type 0 where
+  Same : x ≡ y → AlikeTurn x y
+  BothRefused : (q r : Refused) → x.outcome ≡ Err q → y.outcome ≡ Err r → AlikeTurn x y
 
--- the fixed nodes above the left edge of slot 2 have the two greatest keys
-pub record FixedKeys (m : Memory) : Type 0 where
-  pub root : key m 1 ≡ infinity_2
-  pub second : key m 2 ≡ infinity_1
+Alike : List Turn → List Turn → Type 0
+Alike [] [] = Unit {0}
+Alike [] (y ∷ ys) = ⊥
+Alike (x ∷ xs) [] = ⊥
+Alike (x ∷ xs) (y ∷ ys) = AlikeTurn x y × Alike xs ys
 
-module _ (s : State) (h : ℕ → ℕ) (law : Lawful s h) where
-  abbrev c : Children
-  c = child s.memory
+no_reply : (q : Refused) (r : Reply) → ◌≡◌ {A = Result Reply Refused} (Err q) (Ok r) → ⊥
+no_reply q r e = cc
 
-  abbrev v : Keys
-  v = key s.memory
+same_cut : (x y : Turn) → AlikeTurn x y → nodes_cut_of x.outcome ≡ nodes_cut_of y.outcome
+same_cut x y (Same e) = ap (λ (t : Turn). nodes_cut_of t.outcome) e
+same_cut x y (BothRefused q r a b) = ap nodes_cut_of a ∙ sym (ap nodes_cut_of b)
 
-  -- where a search for a key of the set has come to slot 2's left edge, it is the root's
-  pub first_onward : (k : ℕ) → IsKey k → FixedKeys s.memory → Onward c v k (c 2 Left)
-  first_onward k small fixed q r f goes there same =
-      let left : c 1 Left ≡ 2 = law.tree.root_left in
-      let path : follow c 1 (Left ∷ Left ∷ q) ≡ follow c (c 2 Left) q = ap (λ (y : ℕ). follow c (c y Left) q) left in
-      let some : follow c 1 r ≢ 0 = λ z. there (ap (λ (y : ℕ). c y f) (sym same ∙ z) ∙ null_below s.layout.nodes (picture s h) law.tree f) in
-      let is : r ≡ Left ∷ Left ∷ q = alone s.layout.nodes (picture s h) law.tree r (Left ∷ Left ∷ q) some (same ∙ sym path) in
-      let at_root : side_of k (v 1) ≡ Left = ap (side_of k) fixed.root ∙ left_of k infinity_2 (omega arith) in
-      let at_second : side_of k (v 2) ≡ Left = ap (side_of k) fixed.second ∙ left_of k infinity_1 (omega arith) in
-      subst (λ (p : List Side). GoesBy c v k 1 p) (sym is) (at_root, (ap (λ (y : ℕ). side_of k (v y)) left ∙ at_second, subst (λ (y : ℕ). GoesBy c v k (c y Left) q) (sym left) goes))
+same_reply : (x y : Turn) (r : Reply) → AlikeTurn x y → y.outcome ≡ Ok r → x.outcome ≡ Ok r
+same_reply x y r (Same e) is = ap (λ (t : Turn). t.outcome) e ∙ is
+same_reply x y r (BothRefused p q a b) is = absurd (no_reply q r (sym b ∙ is))
 
-  -- private slots are on no path, from the root or from what a worker knows
-  pub off_root : (w x : ℕ) → is_private (of s w) x ≡ true → (q : List Side) → follow c 1 q ≡ x → ⊥
-  off_root w x own q is =
-      let some : x ≢ 0 = λ z. (let r = law.tree.privates w x own in absurd (omega arith)) in
-      true≢false (sym own ∙ (ap (is_private (of s w)) (sym is) ∙ (reached_live s.layout.nodes (picture s h) law.tree q (rw is some)).shared w))
+same_turn : (x y t : Turn) (r : Reply) → AlikeTurn x y → t.outcome ≡ Ok r → x ≡ t → y ≡ t
+same_turn x y t r (Same e) is at = sym e ∙ at
+same_turn x y t r (BothRefused p q a b) is at = absurd (no_reply p r (sym a ∙ (ap (λ (t : Turn). t.outcome) at ∙ is)))
 
-  off_known : (u z w x : ℕ) → knows (of s u) z ≡ true → is_private (of s w) x ≡ true → (q : List Side) → follow c z q ≡ x → ⊥
-  off_known u z w x known own q is =
-      let some : x ≢ 0 = λ e. (let r = law.tree.privates w x own in absurd (omega arith)) in
-      true≢false (sym own ∙ (law.tree.guarded u x (record { from = z; known = known; path = q; ends = is; is_slot = some })).shared w)
+same_length : (xs ys : List Turn) → Alike xs ys → length xs ≡ length ys
+unfolding Alike
+same_length [] [] a = refl
+same_length [] (y ∷ ys) a = absurd a
+same_length (x ∷ xs) [] a = absurd a
+same_length (x ∷ xs) (y ∷ ys) a = ap (λ (n : ℕ). suc n) (same_length xs ys a.1)
 
-  -- what an event changes, so that the order outlasts it
-  pub record Outlasts (m : Memory) : Type 0 where
-    pub order : InOrder c v → InOrder (child m) (key m)
-    pub onward : (u z k : ℕ) → knows (of s u) z ≡ true → Onward c v k z → Onward (child m) (key m) k z
-    pub keys : (u z : ℕ) → knows (of s u) z ≡ true → key m z ≡ v z
-    pub fixed : FixedKeys s.memory → FixedKeys m
+alike_take : (i : ℕ) (xs ys : List Turn) → Alike xs ys → Alike (take i xs) (take i ys)
+unfolding Alike
+alike_take zero xs ys a = tt
+alike_take (suc i) [] [] a = tt
+alike_take (suc i) [] (y ∷ ys) a = absurd a
+alike_take (suc i) (x ∷ xs) [] a = absurd a
+alike_take (suc i) (x ∷ xs) (y ∷ ys) a = (a.0, alike_take i xs ys a.1)
 
-  fixed_still : (m : Memory) → ((x : ℕ) → key m x ≡ v x) → FixedKeys s.memory → FixedKeys m
-  fixed_still m same f = record { root = same 1 ∙ f.root; second = same 2 ∙ f.second }
+-- a refused turn cuts nothing, whoever made it
+cut_by_turn : (w : ℕ) (x y : Turn) → AlikeTurn x y → cond (x.worker == w) (nodes_cut_of x.outcome) [] ≡ cond (y.worker == w) (nodes_cut_of y.outcome) []
+cut_by_turn w x y (Same e) = ap (λ (t : Turn). cond (t.worker == w) (nodes_cut_of t.outcome) []) e
+cut_by_turn w x y (BothRefused q r a b) = rw (a, b) (nothing (x.worker == w) ∙ sym (nothing (y.worker == w)))
+  where
+    nothing : (b : Bool) → ◌≡◌ {A = List NodeId} (cond b [] []) []
+    nothing true = refl
+    nothing false = refl
 
-  -- a link asks for the order of its three keys
-  abbrev pub AsksOrder : ℕ → Event → Type 0
-  AsksOrder w e = (p : ℕ) (d : Side) (leaf new : ℕ) → e ≡ Link p d leaf new → (l : Linkable (of s w) new leaf) → IsLink s.layout.nodes (picture s h) w p d leaf new l.far l.side
-      → (c' : Children) → Exchanged c c' p d new → Linking c c' v p d leaf new l.far l.side
+same_cuts : (w : ℕ) (xs ys : List Turn) → Alike xs ys → cuts_of w xs ≡ cuts_of w ys
+unfolding Alike
+same_cuts w [] [] a = refl
+same_cuts w [] (y ∷ ys) a = absurd a
+same_cuts w (x ∷ xs) [] a = absurd a
+same_cuts w (x ∷ xs) (y ∷ ys) a = λ i. cut_by_turn w x y a.0 i ++ same_cuts w xs ys a.1 i
 
-  pub outlasts : (w : ℕ) (e : Event) (m : Memory) → InOrder c v → AsksOrder w e → TreeChange s h w e m → Outlasts m
-  outlasts w e m order asks (Kept children keys) = record {
-    order = λ o. subst (λ (d : Children). InOrder d (key m)) (sym same) (subst (λ (n : Keys). InOrder c n) (sym same_keys) o);
-    onward = λ u z k known o. subst (λ (d : Children). Onward d (key m) k z) (sym same) (subst (λ (n : Keys). Onward c n k z) (sym same_keys) o);
-    keys = λ u z known. keys z;
-    fixed = fixed_still m keys;
-  }
-    where
-      same : child m ≡ c
-      same = fun_ext (λ x. fun_ext (λ d. children x d))
+contains_alike : (xs ys : List Turn) (t : Turn) (r : Reply) → t.outcome ≡ Ok r → Alike xs ys → (i : ℕ) → i < length xs → get_or xs i t ≡ t → get_or ys i t ≡ t
+unfolding Alike
+contains_alike [] ys t r is a i below at = absurd (omega (arith, below))
+contains_alike (x ∷ xs) [] t r is a i below at = absurd a
+contains_alike (x ∷ xs) (y ∷ ys) t r is a zero below at = same_turn x y t r a.0 is at
+contains_alike (x ∷ xs) (y ∷ ys) t r is a (suc i) below at = contains_alike xs ys t r is a.1 i (omega (arith, below)) at
 
-      same_keys : key m ≡ v
-      same_keys = fun_ext keys
-  outlasts w e m order asks (Filled x own apart) = record {
-    order = order_apart c (child m) v (key m) x apart (off_root w x own);
-    onward = λ u z k known. onward_apart c (child m) v (key m) x apart (off_root w x own) k z (off_known u z w x known own);
-    keys = λ u z known. apart.keys z (λ i. off_known u z w x known own [] i);
-    fixed = λ f. record { root = apart.keys 1 (low 1 (omega arith)) ∙ f.root; second = apart.keys 2 (low 2 (omega arith)) ∙ f.second };
-  }
-    where
-      low : (y : ℕ) → y ≤ 5 → y ≢ x
-      low y few i = let r = law.tree.privates w x own in absurd (omega arith)
-  outlasts w e m order asks (Linked p d leaf new is unmarked l link exchanged keys) = record {
-    order = λ o. subst (λ (n : Keys). InOrder (child m) n) (sym same_keys) (order_linked c (child m) v p d leaf new l.far l.side k o);
-    onward = λ u z n known o. subst (λ (y : Keys). Onward (child m) y n z) (sym same_keys) (onward_linked c (child m) v p d leaf new l.far l.side k n z some (off_known u z w new known link.own) o);
-    keys = λ u z known. keys z;
-    fixed = fixed_still m keys;
-  }
-    where
-      k : Linking c (child m) v p d leaf new l.far l.side
-      k = asks p d leaf new is l link (child m) exchanged
+left_alike : (w : ℕ) (xs ys : List Turn) → Alike xs ys → HasLeft w xs → HasLeft w ys
+left_alike w xs ys a left =
+    let at = left.2 in
+    (left.0, left.1, (at.0, subst (λ (n : ℕ). at.0 < n) (same_length xs ys a) at.1, contains_alike xs ys (left_by w left.0) Departed refl a at.0 at.1 at.2))
 
-      some : new ≢ 0
-      some z = let r = law.tree.privates w new link.own in absurd (omega arith)
+-- where the one is split, the other is too
+record Split (xs first : List Turn) (turn : Turn) (rest : List Turn) : Type 0 where
+  before : List Turn
+  here : Turn
+  behind : List Turn
+  all : xs ≡ before ++ here ∷ behind
+  alike_before : Alike before first
+  alike_here : AlikeTurn here turn
+  alike_behind : Alike behind rest
 
-      same_keys : key m ≡ v
-      same_keys = fun_ext keys
-  outlasts w e m order asks (Spliced a d way g some keys) = record {
-    order = λ o. subst (λ (n : Keys). InOrder (child m) n) (sym same_keys) (order_spliced c (child m) v a d way g some o);
-    onward = λ u z n known o. subst (λ (y : Keys). Onward (child m) y n z) (sym same_keys) (onward_spliced c (child m) v a d way g some n z o);
-    keys = λ u z known. keys z;
-    fixed = fixed_still m keys;
-  }
-    where
-      same_keys : key m ≡ v
-      same_keys = fun_ext keys
+split_alike : (xs first : List Turn) (turn : Turn) (rest : List Turn) → Alike xs (first ++ turn ∷ rest) → Split xs first turn rest
+unfolding Alike
+split_alike [] [] turn rest a = absurd a
+split_alike [] (y ∷ ys) turn rest a = absurd a
+split_alike (x ∷ xs) [] turn rest a = record { before = []; here = x; behind = xs; all = refl; alike_before = tt; alike_here = a.0; alike_behind = a.1 }
+split_alike (x ∷ xs) (y ∷ ys) turn rest a =
+    let s = split_alike xs ys turn rest a.1 in
+    record {
+      before = x ∷ s.before;
+      here = s.here;
+      behind = s.behind;
+      all = ap (λ (zs : List Turn). x ∷ zs) s.all;
+      alike_before = (a.0, s.alike_before);
+      alike_here = s.alike_here;
+      alike_behind = s.alike_behind;
+    }
+
+module _ (states : ℕ → State) (xs ys : List Turn) (a : Alike xs ys) (law : IsLawfulRun states xs) where
+  cuts : EachTurnCutsItsNodes states ys
+  cuts first rest turn e x =
+      let s = split_alike xs first turn rest (subst (λ (zs : List Turn). Alike xs zs) e a) in
+      rw (sym (same_cut s.here turn s.alike_here), sym (same_length s.before first s.alike_before)) (law.cuts s.before s.behind s.here s.all x)
+
+  growing : LedgersGrowByTheCuts states ys
+  growing i w v origin l m is is' = law.growing i w v origin l m is is' ∙ ap (λ (ns : List NodeId). l.retired ++ ns) (same_cuts origin (take i xs) (take i ys) (alike_take i xs ys a))
+
+  grace : GraceInRun states ys
+  grace first between rest cut free ns n w e all cuts there frees pin =
+      let s = split_alike xs first cut (between ++ free ∷ rest) (subst (λ (zs : List Turn). Alike xs zs) all a) in
+      let t = split_alike s.behind between free rest s.alike_behind in
+      left_alike w t.before between t.alike_before
+      (law.grace s.before t.before t.behind s.here t.here ns n w e (s.all ∙ ap (λ (zs : List Turn). s.before ++ s.here ∷ zs) t.all)
+      (same_reply s.here cut (Cut ns) s.alike_here cuts) there (same_reply t.here free (Freed n) t.alike_here frees)
+      (subst (λ (i : ℕ). (of (states i) w).brief.pin ≡ Some e) (sym (same_length s.before first s.alike_before)) pin))
+
+  lawful_alike : IsLawfulRun states ys
+  lawful_alike = record { places = law.places; counts = law.counts; cuts = cuts; split = law.split; growing = growing; once = law.once; grace = grace }
+
+-- ---- an ordered run beside a plain one
+
+-- an event of a worker that is not there
+abbrev nobodys : State → ℕ × Event
+nobodys s = (s.layout.workers, Sight)
+
+nobody_refused : (s : State) → refused s s.layout.workers Sight ≡ Some NoWorker
+unfolding refused
+nobody_refused s = rw (le-leb s.layout.workers s.layout.workers (omega arith)) refl
+
+nobody_next : (s : State) → next s (nobodys s) ≡ s
+unfolding next
+nobody_next s = ap (λ (o : Option Refused). unless_refused o s (applied s s.layout.workers Sight)) (nobody_refused s)
+
+nobody_outcome : (s : State) → outcome s (nobodys s) ≡ Err NoWorker
+unfolding outcome
+nobody_outcome s = ap (λ (o : Option Refused). answered o (reply_of s s.layout.workers Sight)) (nobody_refused s)
+
+-- what stands for a turn: one of nobody, where it is refused
+abbrev stands_for : Option Refused → State → ℕ × Event → ℕ × Event
+stands_for None s t = t
+stands_for (Some r) s t = nobodys s
+
+abbrev stand_in : Configuration → ℕ × Event → ℕ × Event
+stand_in c t = stands_for (refused_in c t.0 t.1) c.state t
+
+stand_ins : Configuration → List (ℕ × Event) → List (ℕ × Event)
+stand_ins c [] = []
+stand_ins c (t ∷ ts) = stand_in c t ∷ stand_ins (next_in c t) ts
+
+-- what is left, and how it is told
+record StandsIn (c : Configuration) (t x : ℕ × Event) : Type 0 where
+  leads : next c.state x ≡ (next_in c t).state
+  is_told : AlikeTurn (record { worker = x.0; event = x.1; outcome = outcome c.state x }) (record { worker = t.0; event = t.1; outcome = outcome_in c t })
+
+stands_in : (c : Configuration) (t : ℕ × Event) → StandsIn c t (stand_in c t)
+stands_in c t = go (refused_in c t.0 t.1) refl
+  where
+    go : (o : Option Refused) → refused_in c t.0 t.1 ≡ o → StandsIn c t (stands_for (refused_in c t.0 t.1) c.state t)
+    go (Some r) is = rw is (record {
+      leads = nobody_next c.state ∙ ap (λ (d : Configuration). d.state) (sym (refused_next c t r is));
+      is_told = BothRefused NoWorker r (nobody_outcome c.state) (refused_outcome c t r is);
+    })
+    go None is = rw is (record {
+      leads = allowed_state c t is;
+      is_told = Same (λ i. record { worker = t.0; event = t.1; outcome = (state_outcome c t is ∙ sym (allowed_outcome c t is)) i });
+    })
+
+same_states : (i : ℕ) (c : Configuration) (ts : List (ℕ × Event)) → after c.state (take i (stand_ins c ts)) ≡ (after_in c (take i ts)).state
+unfolding after after_in stand_ins
+same_states zero c ts = refl
+same_states (suc i) c [] = refl
+same_states (suc i) c (t ∷ ts) = ap (λ (s : State). after s (take i (stand_ins (next_in c t) ts))) (stands_in c t).leads ∙ same_states i (next_in c t) ts
+
+alike_traces : (c : Configuration) (ts : List (ℕ × Event)) → Alike (trace c.state (stand_ins c ts)) (trace_in c ts)
+unfolding trace trace_in stand_ins Alike
+alike_traces c [] = tt
+alike_traces c (t ∷ ts) = ((stands_in c t).is_told, subst (λ (s : State). Alike (trace s (stand_ins (next_in c t) ts)) (trace_in (next_in c t) ts)) (sym (stands_in c t).leads) (alike_traces (next_in c t) ts))
+
+pub lawful_run_in : (c : Configuration) → IsReached c → (ts : List (ℕ × Event)) → IsLawfulRun (λ i. (after_in c (take i ts)).state) (trace_in c ts)
+lawful_run_in c r ts = subst (λ (states : ℕ → State). IsLawfulRun states (trace_in c ts)) (λ j i. same_states i c ts j)
+    (lawful_alike (λ i. after c.state (take i (stand_ins c ts))) (trace c.state (stand_ins c ts)) (trace_in c ts) (alike_traces c ts) (lawful_run c.state (reached_state c r) (stand_ins c ts)))

@@ -47,7 +47,7 @@ use Rattle.nm_core.proofs.OrderedTrees.{InOrder, Linking}
 use Rattle.nm_core.proofs.SearchSteps.{StillKnown, SearchStep, search_step}
 use Rattle.nm_core.proofs.SearchSteps.SearchStep.{Same, Looked, Begun, Over}
 use Rattle.nm_core.proofs.OrderedWalks.{WalkLaw, no_walks, walks_last, key_looked, edge_looked, any_at}
-use Rattle.nm_core.proofs.OrderedRuns.{FixedKeys, first_onward, Outlasts, AsksOrder, outlasts}
+use Rattle.nm_core.proofs.OrderedChanges.{FixedKeys, first_onward, Outlasts, AsksOrder, outlasts}
 use Rattle.nm_core.proofs.OrderedLinks.{linking_shown}
 
 -- the walks of a worker's call, by what it knows

@@ -1,9 +1,9 @@
 -- What every run keeps holds of every state that can be reached, and runs lead from such states to such states.
-use Rattle.std.proofs.Common.{◌≡◌, ℕ, List, [], ◌∷◌, ◌++◌, refl, sym, ap, subst, ◌∙◌, arith}
+use Rattle.std.proofs.Common.{◌≡◌, ℕ, List, ◌++◌, refl, sym, ap, subst, ◌∙◌, arith}
 use Rattle.nm_edge.specs.Layouts.{Layout}
 use Rattle.nm_edge.specs.declared.node.NodeId.{NodeId}
 use Rattle.nm_core.specs.declared.event.Event.{Event}
-use Rattle.nm_core.specs.Runs.{State, start, after, trace, next, IsReachable}
+use Rattle.nm_core.specs.Runs.{State, start, after, trace, IsReachable}
 use Rattle.nm_core.specs.Laws.{OfEachState, RetiredGrowsByTheCuts, cuts_of}
 use Rattle.nm_core.proofs.Steps.{by_steps}
 use Rattle.nm_core.proofs.Reaches.{after-append}

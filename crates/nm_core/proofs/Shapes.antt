@@ -1,13 +1,13 @@
 -- Each event keeps the shape of a state: there is a word and a worker for each that the layout has.
-use Rattle.std.proofs.Common.{◌≡◌, ◌≤◌, ◌<◌, ◌+◌, ◌-◌, ◌==◌, ℕ, Bool, true, false, cond, eqb, List, [], ◌∷◌, length, map, replicate, set, get_or, refl, sym, ◌∙◌, ap, subst, arith}
-use Rattle.std.specs.Prelude.{Option, Some, None, All, option_map, is_some}
+use Rattle.std.proofs.Common.{◌≡◌, ◌<◌, ◌-◌, ◌==◌, ℕ, true, cond, eqb, List, [], ◌∷◌, length, replicate, set, refl, ◌∙◌, subst, arith}
+use Rattle.std.specs.Prelude.{Option, None, option_map, is_some}
 use Rattle.std.proofs.lemmas.Bool.{cond_both, or_parts}
 use Rattle.std.proofs.lemmas.List.{length-set, length-replicate, length-map}
 use Rattle.std.proofs.lemmas.List.Elements.{All-set, All-get_or}
 use Rattle.std.proofs.lemmas.List.FromFn.{length-map-range_with_len, get_or-map-range_with_len}
 use Rattle.nm_edge.specs.Layouts.{Layout, IsLayout}
 use Rattle.nm_edge.specs.declared.node.NodeId.{NodeId}
-use Rattle.nm_core.specs.declared.event.Field.TheVariants.{Key, Edge as EdgeOn, Birth}
+use Rattle.nm_core.specs.declared.event.Field.TheVariants.{Edge as EdgeOn, Birth}
 use Rattle.nm_core.specs.declared.event.Field.{Field}
 use Rattle.nm_core.specs.declared.event.Event.{Event}
 use Rattle.nm_core.specs.declared.event.Event.TheVariants.{Sight, SightFor, Announce, Leave, LeaveWith, Scan, Advance, Claim, Give, Look, Fill, Link, Flag, Tag, Splice, Join}
@@ -16,9 +16,9 @@ use Rattle.nm_core.specs.declared.reply.Reply.TheVariants.{Saw, Labelled, Pinned
 use Rattle.nm_core.specs.declared.ledger.Ledger.{Ledger}
 use Rattle.nm_core.specs.Maps.{is_number}
 use Rattle.nm_core.specs.Memory.{blank}
-use Rattle.nm_core.specs.Ledgers.{labelled, queue_of, front_at, free, with_freed, taken_over}
+use Rattle.nm_core.specs.Ledgers.{queue_of, front_at, free, with_freed, taken_over}
 use Rattle.nm_core.specs.Knowledge.{Knowledge, newcomer, is_private}
-use Rattle.nm_core.specs.Learning.{learn, learn_sight, learn_scan, looked, look_private, look_known, forgotten}
+use Rattle.nm_core.specs.Learning.{learn, learn_sight, learn_scan, look_private, look_known, forgotten}
 use Rattle.nm_core.specs.Runs.{State, of, start, is_no_worker, join_refusal, applied, IsReachable}
 use Rattle.nm_core.specs.Answers.{IsShaped, IsRow}
 use Rattle.nm_core.proofs.Steps.{Allowed, passed, by_steps, is_worker}

@@ -1,6 +1,6 @@
 -- How an event that a worker made, with its reply, adds to what it knows. Nothing else does.
 use Rattle.std.specs.Prelude.{ℕ, ◌==◌, Bool, true, false, List, [], ◌∷◌, length, replicate, slice_set, if◌then◌else◌, Option, Some, None, unwrap_or}
-use Rattle.nm_edge.specs.Edges.{Edge, to, tagged}
+use Rattle.nm_edge.specs.Edges.{Edge, tagged}
 use Rattle.nm_edge.specs.declared.edge.Side.{Side}
 use Rattle.nm_edge.specs.declared.edge.Side.TheVariants.{Left, Right}
 use Rattle.nm_edge.specs.declared.node.NodeId.{NodeId}
@@ -10,7 +10,6 @@ use Rattle.nm_core.specs.declared.event.Event.{Event}
 use Rattle.nm_core.specs.declared.event.Event.TheVariants.{Sight, SightFor, Announce, Leave, LeaveWith, Scan, Advance, Claim, Give, Look, Fill, Link, Flag, Tag, Splice, Join}
 use Rattle.nm_core.specs.declared.reply.Reply.{Reply}
 use Rattle.nm_core.specs.declared.reply.Reply.TheVariants.{Saw, Labelled, Pinned, Missed, Announced, Departed, Idle, In, Moved, Behind, Claimed, Returned, Freed, BirthIs, EdgeIs, Filled, Linked, Flagged, Was, Cut, Lost, Joined}
-use Rattle.nm_core.specs.declared.knowledge.Brief.{Brief}
 use Rattle.nm_core.specs.declared.knowledge.Seen.{Seen}
 use Rattle.nm_core.specs.declared.knowledge.Draft.{Draft}
 use Rattle.nm_core.specs.Maps.{put, without, has, is_number}

@@ -1,5 +1,5 @@
 -- What one worker's splices cut off, by origin: what was freed of it, and what waits.
-use Rattle.std.specs.Prelude.{ℕ, ◌==◌, Bool, List, [], ◌∷◌, ◌++◌, map, drop, if◌then◌else◌, slice_index_or, slice_set, Option, Some, None, is_some, is_none, option_map}
+use Rattle.std.specs.Prelude.{ℕ, List, [], ◌∷◌, ◌++◌, map, drop, if◌then◌else◌, slice_index_or, slice_set, Option, Some, None, is_some, option_map}
 use Rattle.nm_edge.specs.declared.node.NodeId.{NodeId}
 use Rattle.nm_core.specs.declared.ledger.Queued.{Queued}
 use Rattle.nm_core.specs.declared.ledger.Ledger.{Ledger}

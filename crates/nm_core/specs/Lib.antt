@@ -17,3 +17,5 @@ pub mod Laws
 pub mod Places
 pub mod Lawful
 pub mod Intervals
+pub mod Traces
+pub mod Packing

@@ -1,6 +1,6 @@
 -- A whole run, as it is told: each event with its outcome, and at the end each worker's ledger, the epoch and how many slots above 5 stand where.
 use Rattle.std.specs.Prelude.{ℕ, zero, suc, ◌+◌, ◌-◌, ◌==◌, nat_lt, ◌&&◌, Bool, true, false, List, [], ◌∷◌, ◌++◌, map, length, filter, sum_by, Option, Some, None, if◌then◌else◌, is_some}
-use Rattle.std.specs.List.{range_with_len}
+use Rattle.std.specs.List.{range_with_len, filter_map}
 use Rattle.nm_edge.specs.Layouts.{Layout}
 use Rattle.nm_edge.specs.declared.edge.Side.TheVariants.{Left, Right}
 use Rattle.nm_core.specs.declared.event.Event.{Event}
@@ -12,6 +12,8 @@ use Rattle.nm_core.specs.Memory.{Memory, node, child, is_leaf, infinity_0}
 use Rattle.nm_core.specs.Ledgers.{held, queue_of}
 use Rattle.nm_core.specs.Knowledge.{Knowledge}
 use Rattle.nm_core.specs.Runs.{State, start, after, trace}
+use Rattle.nm_core.specs.declared.memory.Node.{Node}
+use Rattle.nm_core.specs.declared.keys.Subtree.{Subtree}
 use Rattle.nm_core.specs.Ordered.{Configuration, ordered, after_in, trace_in}
 
 -- ---- ledgers by origin
@@ -62,13 +64,21 @@ counts s = record {
 
 -- ---- the keys of the set
 
--- a leaf with a key of the set
-abbrev pub has_key : Memory → ℕ → Bool
-has_key m s = is_leaf (node m s) && nat_lt (node m s).key infinity_0
+-- the key of a leaf, without those of the fixed leaves
+abbrev pub set_key : Node → Option ℕ
+set_key n = if is_leaf n && nat_lt n.key infinity_0 then Some n.key else None
 
--- the keys of the reached leaves from left to right, without those of the fixed nodes
+-- the keys in the tree below a slot from left to right, at most fuel deep
+abbrev pub keys_below : ℕ → Memory → ℕ → List ℕ
+keys_below fuel m s = filter_map (λ x. set_key (node m x)) (tree_slots fuel m s)
+
+-- the parts of the tree below a slot, the right one first
+abbrev pub below : Memory → ℕ → ℕ → List Subtree
+below m s depth = record { slot = child m s Right; depth = depth } ∷ record { slot = child m s Left; depth = depth } ∷ []
+
+-- the keys of the reached leaves
 abbrev pub keys : State → List ℕ
-keys s = map (λ x. (node s.memory x).key) (filter (has_key s.memory) (tree_slots s.layout.nodes s.memory 1))
+keys s = keys_below s.layout.nodes s.memory 1
 
 -- ---- the report
 

@@ -16,7 +16,7 @@ use Rattle.nm_core.specs.declared.trace.Turn.{Turn}
 use Rattle.nm_core.specs.declared.ledger.Queued.{Queued}
 use Rattle.nm_core.specs.declared.ledger.Ledger.{Ledger}
 use Rattle.nm_core.specs.declared.places.Places.{Places}
-use Rattle.nm_core.specs.Reports.{Report, report, ordered_report}
+use Rattle.nm_core.specs.Reports.{report, ordered_report}
 
 -- a worked schedule
 pub record Worked : Type 0 where

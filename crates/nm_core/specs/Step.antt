@@ -1,5 +1,5 @@
 -- One event of one worker: whether it is refused, what it answers, and what it writes.
-use Rattle.std.specs.Prelude.{ℕ, zero, suc, ◌+◌, ◌^◌, ◌==◌, nat_lt, nat_le, Bool, true, false, not, ◌&&◌, ◌||◌, List, [], ◌∷◌, map, slice_set, if◌then◌else◌, Option, Some, None, is_some, is_none, unwrap_or}
+use Rattle.std.specs.Prelude.{ℕ, ◌+◌, ◌^◌, ◌==◌, nat_lt, nat_le, Bool, true, false, not, ◌&&◌, ◌||◌, List, [], ◌∷◌, map, slice_set, if◌then◌else◌, Option, Some, None, is_some, is_none, unwrap_or}
 use Rattle.std.specs.List.{list_all, enumerate_from}
 use Rattle.nm_edge.specs.Edges.{Edge, to, is_to, other, tagged, untagged}
 use Rattle.nm_edge.specs.Layouts.{Layout}
@@ -18,7 +18,6 @@ use Rattle.nm_core.specs.declared.ledger.Queued.{Queued}
 use Rattle.nm_core.specs.declared.knowledge.Draft.{Draft}
 use Rattle.nm_core.specs.Maps.{is_number}
 use Rattle.nm_core.specs.Memory.{Memory, node, edge, edge_of, note, in_pool, named, put_node, put_edge, with_edge}
-use Rattle.nm_core.specs.declared.ledger.Ledger.{Ledger}
 use Rattle.nm_core.specs.Ledgers.{front_of, entry_of}
 use Rattle.nm_core.specs.Knowledge.{Knowledge, knows, is_private, draft_of, read, is_flagged, is_tagged, knows_leaf, way, cut_by, beside}
 use Rattle.nm_core.specs.Learning.{flag_to}

@@ -2,6 +2,7 @@
 ghost use Rattle.nm_core.specs.Lawful.{BriefsAreRight, CountsAddUp, EachBirthStands, EachReadStands, EpochsAgree, FlaggedEdgesLeadToLeaves, LabelsDoNotFall, NoLabelIsAboveTheEpoch, OnlyThePinnedKnow, QueuedNodesAreFrozen, ReachIsGuarded, ReachIsShared, TaggedEdgesHaveFlaggedTwins};
 ghost use Rattle.nm_core.specs.Laws.{CutsJust, EachLedgerHasOneHolder, FreedThenQueueAreTheCuts, GoesDown, GraceHolds, IsFreedThenQueue, IsTheCuts, NamesBirths, NoNodeTwice, NothingElseCuts, OfEachCut, OfEachLedger, OfEachState, OnlySplicesAnswerCuts, PinsStayNear, RetiredGrowsByTheCuts};
 ghost use Rattle.nm_core.specs.Laws.{StatesJoin, TracesJoin};
+ghost use Rattle.nm_core.specs.Ordered.{OrderedRunsAreRuns, PlainRunsAreRuns};
 ghost use Rattle.nm_core.specs.Places.{EachSlotInOnePlace};
 
 /// While a worker is pinned at an epoch, the global epoch is that one or the next. (The bound of Fraser's epochs.)
@@ -87,6 +88,17 @@ pub fn epochs_agree()
 pub fn runs_can_be_split()
     ensures state { StatesJoin }
     ensures trace { TracesJoin }
+{}
+
+/// An ordered run is a run: the events that an ordered core allows lead from state to state as in a plain run, with the same outcomes.
+/// So every law of runs is one of ordered runs.
+pub fn ordered_runs_are_runs()
+    ensures { OrderedRunsAreRuns }
+{}
+
+/// A core that is not ordered runs as its state does.
+pub fn plain_runs_are_runs()
+    ensures { PlainRunsAreRuns }
 {}
 
 /// The counts of the slots in the pool, private, reached and queued add up to the nodes above slot 5.

@@ -6,7 +6,9 @@ mod calls;
 mod chain;
 mod epoch_steps;
 mod event;
+mod indices;
 mod join_steps;
+mod keys;
 mod knowledge;
 mod laws;
 mod ledger;
@@ -14,6 +16,7 @@ mod ledgers;
 mod machine;
 mod memory;
 mod order;
+mod packing;
 mod places;
 mod pool_steps;
 mod pure_core;
@@ -36,12 +39,16 @@ pub use event::{Event, Field, Op};
 pub use laws::{
     counts_add_up, each_ledger_has_one_holder, each_slot_has_one_place, epochs_agree,
     frozen_edges_stay_frozen, grace_holds, labels_are_in_order, ledgers_are_the_cuts,
-    no_node_is_cut_twice, nothing_else_cuts, pinned_workers_are_safe, pins_stay_near,
-    runs_can_be_split, splices_cut_their_nodes, what_was_read_stands,
+    no_node_is_cut_twice, nothing_else_cuts, ordered_runs_are_runs, pinned_workers_are_safe,
+    pins_stay_near, plain_runs_are_runs, runs_can_be_split, splices_cut_their_nodes,
+    what_was_read_stands,
 };
 pub use ledger::{Ledger, Nodes, Queued};
 pub use ledgers::Ledgers;
 pub use order::{trees_are_in_order, walks_stay_in_order};
+pub use packing::{
+    events_touch_one_word, words_have_room, words_tell_the_memory, writes_change_one_word,
+};
 pub use places::Places;
 pub use pure_core::{Core, NewError};
 pub use queue::Queue;

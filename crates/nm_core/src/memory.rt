@@ -1,10 +1,11 @@
 //! The words of nodes and of the pool, as plain data.
 ghost use Rattle.std.specs.Prelude.{◌≡◌, ◌<◌, ◌^◌, true, IfOk};
 ghost use Rattle.nm_core.specs.Step.{filled, is_edge};
-ghost use Rattle.nm_core.specs.Memory.{blank, leaf, fork, edge_of, with_edge, opening};
+ghost use Rattle.nm_core.specs.Reports.{set_key};
+ghost use Rattle.nm_core.specs.Memory.{blank, is_leaf, leaf, fork, edge_of, with_edge, opening};
 
 use crate::event::Field;
-use nm_edge::{Edge, Layout, Side};
+use nm_edge::{Edge, Key, Layout, Side};
 use std::alloc::{AllocError, Global};
 
 /// The sentinel keys, above all keys of the set.
@@ -25,7 +26,7 @@ pub struct Node {
 
 impl Node {
     /// A slot that was never put to use.
-    fn blank() -> Node
+    pub fn blank() -> Node
         ensures { result ≡ blank }
     {
         Node::leaf(0)
@@ -75,6 +76,21 @@ impl Node {
 }
 
 impl Node {
+    // Whether both edges are null.
+    fn is_leaf(self) -> bool
+        ensures { result ≡ is_leaf self }
+    {
+        self.left.slot() == 0 && self.right.slot() == 0
+    }
+
+    /// The key of the set that it has: the key of a leaf, if it is none of a fixed one.
+    pub fn set_key(self) -> Option<Key>
+        ensures { result ≡ set_key self }
+    {
+        let key = self.key;
+        if self.is_leaf() { Key::new(key) } else { None }
+    }
+
     /// The node with a field stored; an edge is stored unmarked.
     pub fn filled(self, field: Field, value: u64) -> Node
         requires { is_edge field ≡ true → value < 2 ^ 32 }

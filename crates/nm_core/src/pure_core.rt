@@ -1,13 +1,14 @@
 //! The core: the machine from its opening on.
 ghost use Rattle.std.specs.Prelude.{◌≡◌, ◌≢◌, ◌<◌, ◌≤◌, ◌⊎◌, ◌↔◌, IfOk, IfErr, OnOk, OnErr, IsErrOf, take, length};
 ghost use Rattle.std.specs.Option.{option_copied};
-ghost use Rattle.nm_core.specs.Runs.{reply_of};
+ghost use Rattle.nm_core.specs.Runs.{start, reply_of};
 ghost use Rattle.nm_core.specs.Ordered.{plain, ordered, refused_in, applied_in, next_in, outcome_in, after_in, trace_in};
-ghost use Rattle.nm_core.specs.Reports.{counts, holder, ledger_of};
+ghost use Rattle.nm_core.specs.Reports.{counts, holder, keys, ledger_of};
 ghost use Rattle.nm_core.specs.Answers.{IsAnswer};
 ghost use Rattle.nm_edge.specs.Layouts.{IsLayout};
 ghost use Rattle.nm_core.specs.Laws.{PinsAreNear};
 ghost use Rattle.nm_core.specs.Lawful.{CountsAddUp};
+ghost use Rattle.nm_core.specs.Traces.{IsLawfulRun};
 
 use crate::calls::Searches;
 use crate::event::Event;
@@ -16,7 +17,7 @@ use crate::machine::Machine;
 use crate::places::Places;
 use crate::reply::{Refused, Reply};
 use crate::trace::{RunError, Trace, Turn};
-use nm_edge::{LEAST_NODES, Layout, LayoutError, MOST_NODES, MOST_WORKERS};
+use nm_edge::{Key, LEAST_NODES, Layout, LayoutError, MOST_NODES, MOST_WORKERS};
 use std::alloc::{AllocError, Global};
 use std::marker::Model;
 use thiserror::Error;
@@ -79,6 +80,16 @@ fn layout_of(nodes: u32, workers: u32) -> Result<Layout, NewError>
     }
 }
 
+fn opening_machine(alloc: Global, nodes: u32, workers: u32) -> Result<Machine, NewError>
+    ensures opening { IfOk result (λ machine. machine ≡ start (record { nodes = nodes; workers = workers })) }
+    ensures fits { OnOk result (IsLayout (record { nodes = nodes; workers = workers })) }
+    ensures nodes { IsErrOf result NewError.Nodes ↔ ((nodes < LEAST_NODES) ⊎ (MOST_NODES < nodes)) }
+    ensures workers { IsErrOf result NewError.Workers ↔ ((LEAST_NODES ≤ nodes) × (nodes ≤ MOST_NODES) × ((workers < 1) ⊎ (MOST_WORKERS < workers))) }
+{
+    let layout = layout_of(nodes, workers)?;
+    Ok(Machine::new(alloc, layout)?)
+}
+
 impl Core {
     /// The opening: the empty tree, epoch 0, everybody idle, and every slot above 5 in the pool with birth 0.
     pub fn new(alloc: Global, nodes: u32, workers: u32) -> Result<Core, NewError>
@@ -86,8 +97,7 @@ impl Core {
         ensures nodes { IsErrOf result NewError.Nodes ↔ ((nodes < LEAST_NODES) ⊎ (MOST_NODES < nodes)) }
         ensures workers { IsErrOf result NewError.Workers ↔ ((LEAST_NODES ≤ nodes) × (nodes ≤ MOST_NODES) × ((workers < 1) ⊎ (MOST_WORKERS < workers))) }
     {
-        let layout = layout_of(nodes, workers)?;
-        let machine = Machine::new(alloc, layout)?;
+        let machine = opening_machine(alloc, nodes, workers)?;
         Ok(Core {
             machine,
             searches: None,
@@ -101,8 +111,7 @@ impl Core {
         ensures nodes { IsErrOf result NewError.Nodes ↔ ((nodes < LEAST_NODES) ⊎ (MOST_NODES < nodes)) }
         ensures workers { IsErrOf result NewError.Workers ↔ ((LEAST_NODES ≤ nodes) × (nodes ≤ MOST_NODES) × ((workers < 1) ⊎ (MOST_WORKERS < workers))) }
     {
-        let layout = layout_of(nodes, workers)?;
-        let machine = Machine::new(alloc, layout)?;
+        let machine = opening_machine(alloc, nodes, workers)?;
         let searches = Searches::new(alloc, workers)?;
         Ok(Core {
             machine,
@@ -142,6 +151,13 @@ impl Core {
         self.machine.places()
     }
 
+    /// The keys of the set, from left to right: those of the leaves that paths from the root lead to, without the fixed leaves.
+    pub fn keys(&self) -> Result<Vec<Key>, AllocError>
+        ensures { IfOk result (λ found. found.items ≡ keys self.now.state) }
+    {
+        self.machine.keys()
+    }
+
     /// One event. Answers its reply, or the first reason in the order of `Refused` for which it is refused; what is refused changes nothing.
     pub fn apply(&mut self, worker: u32, event: Event) -> Result<Reply, Refused>
         ensures outcome { IsAnswer (refused_in self.old worker event) (reply_of self.old.state worker event) result }
@@ -167,13 +183,17 @@ impl Core {
         }
     }
 
-    #[tactic(auto, unfolding(crate::specs::Ordered::after_in, crate::specs::Ordered::trace_in))]
     /// Applies each event in turn, and goes on after one that is refused. The trace lists worker, event and outcome of each.
     ///
+    /// The headline holds of every run: in each state each slot is in one place, each turn cuts exactly the nodes of its outcome,
+    /// the ledgers are the cuts, no node is retired twice, and no node that was cut in the run is freed in it while a worker
+    /// that was pinned at the cut has not left.
     /// Where memory is refused, the first `done` events have been applied and no more.
+    #[tactic(auto, unfolding(crate::specs::Ordered::after_in, crate::specs::Ordered::trace_in))]
     pub fn run(&mut self, events: Vec<(u32, Event)>) -> Result<Trace, RunError>
         ensures trace { IfOk result (λ t. t ≡ trace_in self.old events.items) }
         ensures state { OnOk result (self.new ≡ after_in self.old events.items) }
+        ensures lawful { IfOk result (λ t. IsLawfulRun (λ i. (after_in self.old (take i events.items)).state) t) }
         ensures done { IfErr result (λ e. e.done ≤ length events.items) }
         ensures done_state { IfErr result (λ e. self.new ≡ after_in self.old (take e.done events.items)) }
     {

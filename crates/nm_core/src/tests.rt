@@ -1,5 +1,5 @@
 use super::*;
-use nm_edge::{NodeId, Side};
+use nm_edge::{Key, NodeId, Side};
 use std::test::Fail;
 
 // A worker that stays pinned holds the epoch back.
@@ -116,6 +116,52 @@ const ORDER_AND_AGE: [(u32, Event); 37] = [
     (0, Event::Give(6)),
 ];
 
+// An insert into the empty tree: at first its new leaf has another key, and it leaves at first without the answer.
+fn inserting(key: Key) -> [(u32, Event); 23] {
+    [
+        (0, Event::Sight),
+        (0, Event::Announce),
+        (0, Event::SightFor(Op::Insert, key)),
+        (0, Event::Look(2, Field::Edge(Side::Left))),
+        (0, Event::Look(3, Field::Key)),
+        (0, Event::Look(3, Field::Edge(Side::Left))),
+        (0, Event::LeaveWith(false)),
+        (0, Event::Claim(6)),
+        (0, Event::Fill(6, Field::Birth, 1)),
+        (0, Event::Claim(7)),
+        (0, Event::Fill(7, Field::Birth, 1)),
+        (0, Event::Fill(6, Field::Key, 18446744073709551613)),
+        (0, Event::Fill(6, Field::Edge(Side::Left), 7)),
+        (0, Event::Fill(6, Field::Edge(Side::Right), 3)),
+        (0, Event::Fill(7, Field::Key, 4)),
+        (0, Event::Fill(7, Field::Edge(Side::Left), 0)),
+        (0, Event::Fill(7, Field::Edge(Side::Right), 0)),
+        (0, Event::Link(2, Side::Left, 3, 6)),
+        (0, Event::Fill(7, Field::Key, key.get())),
+        (0, Event::Link(2, Side::Left, 3, 6)),
+        (0, Event::Leave),
+        (0, Event::LeaveWith(false)),
+        (0, Event::LeaveWith(true)),
+    ]
+}
+
+// A delete of that key, as far as its flag: it tries to flag before a walk of it has ended, and once more afterwards.
+fn deleting(key: Key) -> [(u32, Event); 11] {
+    [
+        (0, Event::Announce),
+        (0, Event::SightFor(Op::Delete, key)),
+        (0, Event::Look(2, Field::Edge(Side::Left))),
+        (0, Event::Look(6, Field::Key)),
+        (0, Event::Look(6, Field::Edge(Side::Left))),
+        (0, Event::Look(7, Field::Edge(Side::Right))),
+        (0, Event::Flag(6, Side::Left, 7)),
+        (0, Event::Look(7, Field::Key)),
+        (0, Event::Look(7, Field::Edge(Side::Right))),
+        (0, Event::Flag(6, Side::Left, 7)),
+        (0, Event::Flag(6, Side::Left, 7)),
+    ]
+}
+
 // The events as a vector.
 fn listed<R: AllocGlobal>(rt: &R, events: &[(u32, Event)]) -> Result<Vec<(u32, Event)>, Fail> {
     Ok(Vec::from_slice(rt.alloc(), events)?)
@@ -154,6 +200,15 @@ fn a_splice_answers_its_chain(rt: HostRuntime) -> Result<(), Fail> {
     let trace = core.run(listed(&rt, &LONG_CHAIN)?)?;
     let turns = trace.as_slice();
     assert_eq!(rt; turns.len(), 57);
+    assert_eq!(rt;
+        core.places(),
+        Places {
+            pool: 5,
+            private: 0,
+            reached: 2,
+            queued: 4
+        }
+    );
     let Ok(Reply::Cut(nodes)) = &turns[55].outcome else {
         assert!(rt; false, "no cut");
         return Ok(());
@@ -216,6 +271,71 @@ fn sizes_out_of_range_are_refused(rt: HostRuntime) {
     );
     assert_eq!(rt; Core::new(rt.alloc(), 7, 0).err(), Some(NewError::Workers));
     assert_eq!(rt; Core::new(rt.alloc(), 7, 65).err(), Some(NewError::Workers));
+}
+
+#[test]
+fn an_insert_is_in_order(rt: HostRuntime) -> Result<(), Fail> {
+    let Some(key) = Key::new(5) else {
+        return Ok(());
+    };
+    let mut core = Core::ordered(rt.alloc(), 7, 1)?;
+    let trace = core.run(listed(&rt, &inserting(key))?)?;
+    let turns = trace.as_slice();
+    assert_eq!(rt; turns.len(), 23);
+    assert!(rt; matches!(turns[2].outcome, Ok(Reply::Pinned(0))));
+    assert!(rt; matches!(turns[6].outcome, Err(Refused::NoAnswer)));
+    assert!(rt; matches!(turns[17].outcome, Err(Refused::NotOrdered)));
+    assert!(rt;
+        matches!(
+            turns[19].outcome,
+            Ok(Reply::Linked(NodeId { slot: 6, birth: 1 }))
+        )
+    );
+    assert!(rt; matches!(turns[20].outcome, Err(Refused::NoAnswer)));
+    assert!(rt; matches!(turns[21].outcome, Err(Refused::NoAnswer)));
+    assert!(rt; matches!(turns[22].outcome, Ok(Reply::Departed)));
+    assert_eq!(rt; core.places().reached, 2);
+    assert_eq!(rt; core.keys()?.as_slice(), [key].as_slice());
+    Ok(())
+}
+
+#[test]
+fn a_delete_is_in_order(rt: HostRuntime) -> Result<(), Fail> {
+    let Some(key) = Key::new(5) else {
+        return Ok(());
+    };
+    let mut core = Core::ordered(rt.alloc(), 7, 1)?;
+    play(&rt, &mut core, &inserting(key))?;
+    let trace = core.run(listed(&rt, &deleting(key))?)?;
+    let turns = trace.as_slice();
+    assert!(rt; matches!(turns[6].outcome, Err(Refused::NotOrdered)));
+    assert!(rt;
+        matches!(
+            turns[9].outcome,
+            Ok(Reply::Flagged(NodeId { slot: 7, birth: 1 }))
+        )
+    );
+    assert!(rt; matches!(turns[10].outcome, Err(Refused::NotOrdered)));
+    assert_eq!(rt; core.keys()?.as_slice(), [key].as_slice());
+    assert!(rt;
+        matches!(
+            core.apply(0, Event::LeaveWith(true)),
+            Err(Refused::NoAnswer)
+        )
+    );
+    assert!(rt; matches!(core.apply(0, Event::Tag(6, Side::Right))?, Reply::Was(_)));
+    let splice = Event::Splice(2, Side::Left, 6, 6, Side::Right);
+    assert!(rt; matches!(core.apply(0, splice)?, Reply::Cut(_)));
+    assert!(rt;
+        matches!(
+            core.apply(0, Event::LeaveWith(true)),
+            Err(Refused::NotReady)
+        )
+    );
+    assert!(rt; matches!(core.apply(0, Event::Sight)?, Reply::Labelled(0)));
+    assert!(rt; matches!(core.apply(0, Event::LeaveWith(true))?, Reply::Departed));
+    assert!(rt; core.keys()?.is_empty());
+    Ok(())
 }
 
 #[test]

@@ -3,8 +3,8 @@ ghost use Rattle.std.specs.Prelude.{◌≡◌};
 
 use crate::event::Event;
 use crate::reply::{Refused, Reply};
-use std::fmt;
 use std::marker::Model;
+use thiserror::Error;
 
 /// One event of a run, with its outcome.
 #[derive(Debug, Drop)]
@@ -45,15 +45,9 @@ impl Trace {
 }
 
 /// Memory was refused in a run.
-#[derive(Clone, Copy, Debug, PartialEq, Eq)]
+#[derive(Clone, Copy, Debug, PartialEq, Eq, Error)]
+#[error("no memory after {done} events")]
 pub struct RunError {
     /// How many events had been applied. No more were.
     pub done: usize,
-}
-
-impl fmt::Display for RunError {
-    fn fmt<W: fmt::Write>(&self, f: &mut fmt::Formatter<W>) -> fmt::Result {
-        let done = self.done;
-        write!(f, "no memory after {done} events")
-    }
 }

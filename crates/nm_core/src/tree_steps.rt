@@ -67,10 +67,10 @@ impl Machine {
         ensures err { OnErr result (self.new ≡ self.old) }
     {
         self.may_link(worker, parent, side, leaf, new)?;
-        let edge = self.nodes[parent as usize].edge(side);
-        if !edge.is_to(leaf) {
-            self.workers[worker].read_edge(parent, side, edge)?;
-            return Ok(Reply::Lost(edge));
+        let found = self.nodes[parent as usize].edge(side);
+        if !found.is_to(leaf) {
+            self.workers[worker].read_edge(parent, side, found)?;
+            return Ok(Reply::Lost(found));
         }
         let node = self.workers[worker].link(leaf, new)?;
         self.put_edge(parent, side, Edge::to(new));

@@ -6,3 +6,5 @@ pub mod FileLemmas
 pub mod LimitLemmas
 pub mod StreamLemmas
 pub mod ReasonLemmas
+pub mod PlainLemmas
+pub mod LedgerLemmas

@@ -282,8 +282,14 @@ layout_least command version nodes workers limits named =
 
 limits_gives : (command version : List ℕ) → Gives reason.Header (limits_of command version)
 limits_gives command version =
-    elim (cases_Bool (bytes_eq command (codes "schedule") && bytes_eq version (codes "1"))) [
-      | inl y ↦ inr (record { nodes = 65536; workers = 32 }, rw y refl)
+    elim (cases_Bool (bytes_eq command (codes "schedule"))) [
+      | inl y ↦ elim (cases_Bool (bytes_eq version (codes "1"))) [
+        | inl first ↦ inr (record { nodes = 65536; workers = 32 }, rw (y, first) refl)
+        | inr not_first ↦ elim (cases_Bool (bytes_eq version (codes "2"))) [
+          | inl second ↦ inr (record { nodes = 1048576; workers = 64 }, rw (y, not_first, second) refl)
+          | inr none ↦ inl (rw (y, not_first, none) refl)
+        ]
+      ]
       | inr n ↦ inl (rw n refl)
     ]
 

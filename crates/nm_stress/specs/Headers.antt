@@ -1,5 +1,5 @@
 -- The first line of a schedule: its version, and how many nodes and workers it is for.
-use Rattle.std.specs.Prelude.{ℕ, List, [], ◌∷◌, codes, Bool, ◌&&◌, ◌||◌, nat_lt, Result, Ok, Err, if◌then◌else◌}
+use Rattle.std.specs.Prelude.{ℕ, List, [], ◌∷◌, codes, Bool, ◌||◌, nat_lt, Result, Ok, Err, if◌then◌else◌}
 use Rattle.std.specs.Str.{bytes_eq}
 use Rattle.nm_edge.specs.Layouts.{Layout}
 use Rattle.nm_stress.specs.declared.fault.Reason.{Reason}
@@ -8,9 +8,16 @@ use Rattle.nm_stress.specs.declared.header.Limits.{Limits}
 use Rattle.nm_stress.specs.Chain.{◌>>=◌}
 use Rattle.nm_stress.specs.Lines.{number}
 
+-- the sizes that a version of the format allows
+abbrev pub limits_by : List ℕ → Result Limits Reason
+limits_by version =
+    if bytes_eq version (codes "1") then Ok (record { nodes = 65536; workers = 32 })
+    else if bytes_eq version (codes "2") then Ok (record { nodes = 1048576; workers = 64 })
+    else Err reason.Header
+
 -- the sizes that a version of the command's format allows
 abbrev pub limits_of : List ℕ → List ℕ → Result Limits Reason
-limits_of command version = if bytes_eq command (codes "schedule") && bytes_eq version (codes "1") then Ok (record { nodes = 65536; workers = 32 }) else Err reason.Header
+limits_of command version = if bytes_eq command (codes "schedule") then limits_by version else Err reason.Header
 
 -- whatever is wrong with a number here is a fault of the header
 abbrev pub in_header : Result ℕ Reason → Result ℕ Reason

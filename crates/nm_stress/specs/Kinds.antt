@@ -34,7 +34,7 @@ word Splice = codes "splice"
 
 -- the kinds that a schedule may have
 abbrev pub kinds : List Kind
-kinds = Sight ∷ Announce ∷ Leave ∷ Scan ∷ Advance ∷ []
+kinds = Sight ∷ Announce ∷ Leave ∷ Scan ∷ Advance ∷ Claim ∷ Give ∷ Look ∷ Fill ∷ Link ∷ Flag ∷ Tag ∷ Splice ∷ []
 
 -- the kind whose word this is
 abbrev pub kind_of : List ℕ → Result Kind Reason

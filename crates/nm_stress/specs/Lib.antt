@@ -5,5 +5,6 @@ pub mod Headers
 pub mod Files
 pub mod Schedules
 pub mod Replies
+pub mod LastLines
 pub mod Output
 pub mod Reasons

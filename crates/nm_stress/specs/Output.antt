@@ -1,13 +1,14 @@
 -- What is written for a file.
-use Rattle.std.specs.Prelude.{ℕ, List, [], ◌∷◌, ◌++◌, drop, codes, decimal, Option, Result, Ok, Err}
+use Rattle.std.specs.Prelude.{ℕ, List, [], ◌∷◌, ◌++◌, drop, codes, Option, Result, Ok, Err}
 use Rattle.std.specs.Io.KnownBytes.{Appends}
 use Rattle.nm_core.specs.declared.trace.Turn.{Turn}
-use Rattle.nm_core.specs.Runs.{State, start, after, trace}
+use Rattle.nm_core.specs.Runs.{start, after, trace}
 use Rattle.nm_stress.specs.Chain.{◌>>=◌}
 use Rattle.nm_stress.specs.Lines.{parts}
 use Rattle.nm_stress.specs.Files.{Fault}
 use Rattle.nm_stress.specs.Schedules.{Schedule, schedule_of}
 use Rattle.nm_stress.specs.Replies.{outcome}
+use Rattle.nm_stress.specs.LastLines.{last_lines}
 
 -- each line with what its event was answered
 abbrev pub lines_with : List (List ℕ) → List Turn → List ℕ
@@ -15,13 +16,9 @@ lines_with [] turns = []
 lines_with (line ∷ lines) [] = []
 lines_with (line ∷ lines) (turn ∷ turns) = line ++ codes " = " ++ outcome turn.outcome ++ codes "\n" ++ lines_with lines turns
 
--- what the last state is told by
-abbrev pub last_lines : State → List ℕ
-last_lines s = codes "epoch " ++ decimal s.memory.epoch ++ codes "\n"
-
 -- what is written for a schedule whose lines from the second on are these
 abbrev pub text_of : Schedule → List (List ℕ) → List ℕ
-text_of s lines = lines_with lines (trace (start s.header) s.entries) ++ last_lines (after (start s.header) s.entries)
+text_of s lines = lines_with lines (trace (start s.header) s.entries) ++ last_lines s.header.workers (after (start s.header) s.entries)
 
 -- what is written for a file, or its first faulty line with the least reason
 abbrev pub output_of : List ℕ → Result (List ℕ) Fault

@@ -13,16 +13,33 @@ pub struct Limits {
     pub workers: u32,
 }
 
-/// The limits of a version of the command's format. The command is `schedule`, and the version is 1.
-fn limits_of(command: &[u8], version: &[u8]) -> Result<Limits, Reason>
-    ensures limits { result ≡ spec.limits_of command.now version.now }
+/// The limits of a version of the format: of 1, 65,536 nodes and 32 workers; of 2, as many as a layout can have.
+fn limits_by(version: &[u8]) -> Result<Limits, Reason>
+    ensures limits { result ≡ spec.limits_by version.now }
     ensures few { IfOk result (λ limits. (limits.nodes ≤ MOST_NODES) × (limits.workers ≤ MOST_WORKERS)) }
 {
-    if command == b"schedule".as_slice() && version == b"1".as_slice() {
+    if version == b"1".as_slice() {
         Ok(Limits {
             nodes: 65_536,
             workers: 32,
         })
+    } else if version == b"2".as_slice() {
+        Ok(Limits {
+            nodes: MOST_NODES,
+            workers: MOST_WORKERS,
+        })
+    } else {
+        Err(Reason::Header)
+    }
+}
+
+/// The limits of a version of the command's format. The command is `schedule`.
+fn limits_of(command: &[u8], version: &[u8]) -> Result<Limits, Reason>
+    ensures limits { result ≡ spec.limits_of command.now version.now }
+    ensures few { IfOk result (λ limits. (limits.nodes ≤ MOST_NODES) × (limits.workers ≤ MOST_WORKERS)) }
+{
+    if command == b"schedule".as_slice() {
+        limits_by(version)
     } else {
         Err(Reason::Header)
     }

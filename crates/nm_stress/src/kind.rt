@@ -27,12 +27,20 @@ pub enum Kind {
 }
 
 /// The kinds that a line of a schedule may have.
-const KINDS: [Kind; 5] = [
+const KINDS: [Kind; 13] = [
     Kind::Sight,
     Kind::Announce,
     Kind::Leave,
     Kind::Scan,
     Kind::Advance,
+    Kind::Claim,
+    Kind::Give,
+    Kind::Look,
+    Kind::Fill,
+    Kind::Link,
+    Kind::Flag,
+    Kind::Tag,
+    Kind::Splice,
 ];
 
 impl Kind {

@@ -8,6 +8,7 @@ mod fault;
 mod field;
 mod header;
 mod kind;
+mod last_lines;
 mod line;
 mod output;
 mod pieces;

@@ -2,10 +2,12 @@
 ghost use Rattle.std.specs.Prelude.{◌≡◌, ◌++◌, codes, IfOk, OnOk};
 ghost use Rattle.nm_stress.specs.Lines.{parts};
 ghost use Rattle.nm_stress.specs.Replies.{outcome};
+ghost use Rattle.nm_stress.specs.LastLines.{last_lines};
 ghost use Rattle.nm_stress.specs.Output as spec;
 
+use crate::last_lines::put_last_lines;
 use crate::pieces::cut;
-use crate::reply::{put_number, put_outcome};
+use crate::reply::put_outcome;
 use nm_core::{Core, Turn};
 use std::alloc::{AllocError, Global};
 
@@ -19,22 +21,15 @@ fn put_line(out: &mut Vec<u8>, line: &[u8], turn: &Turn) -> Result<(), AllocErro
     out.extend_from_slice(b"\n")
 }
 
-/// Appends what the last state is told by.
-fn put_last_lines(out: &mut Vec<u8>, core: &Core) -> Result<(), AllocError>
-    ensures { OnOk result (out.new.items ≡ out.old.items ++ spec.last_lines core.now) }
-{
-    put_number(out, b"epoch ", core.epoch())?;
-    out.extend_from_slice(b"\n")
-}
-
 /// Each line with what its event was answered, and then what the last state is told by.
 pub fn text_of(
     alloc: Global,
     body: &[u8],
     turns: &[Turn],
+    workers: u32,
     core: &Core,
 ) -> Result<Vec<u8>, AllocError>
-    ensures { IfOk result (λ v. v.items ≡ spec.lines_with (parts body.now) turns.now ++ spec.last_lines core.now) }
+    ensures { IfOk result (λ v. v.items ≡ spec.lines_with (parts body.now) turns.now ++ last_lines workers core.now.state) }
 {
     let mut out = Vec::new(alloc);
     let mut rest = Some(body);
@@ -46,6 +41,6 @@ pub fn text_of(
         put_line(&mut out, line, turn)?;
         rest = after;
     }
-    put_last_lines(&mut out, core)?;
+    put_last_lines(&mut out, workers, core)?;
     Ok(out)
 }

@@ -31,11 +31,21 @@ fn put_edge(out: &mut Vec<u8>, word: &[u8], edge: Edge) -> Result<(), AllocError
 }
 
 /// Appends a word, and a node: its slot, a dot and its birth.
-fn put_node(out: &mut Vec<u8>, word: &[u8], node: NodeId) -> Result<(), AllocError>
+pub fn put_node(out: &mut Vec<u8>, word: &[u8], node: NodeId) -> Result<(), AllocError>
     ensures { OnOk result (out.new.items ≡ out.old.items ++ (word.now ++ spec.node node)) }
 {
     put_number(out, word, u64::from(node.slot))?;
     put_number(out, b".", node.birth)
+}
+
+/// Appends the nodes, each after a space.
+pub fn put_spaced_nodes(out: &mut Vec<u8>, nodes: &[NodeId]) -> Result<(), AllocError>
+    ensures { OnOk result (out.new.items ≡ out.old.items ++ spec.spaced_nodes nodes.now) }
+{
+    for node in nodes {
+        put_node(out, b" ", *node)?;
+    }
+    Ok(())
 }
 
 /// Appends `cut` and the nodes, each after a space.
@@ -43,10 +53,7 @@ fn put_cut(out: &mut Vec<u8>, nodes: &[NodeId]) -> Result<(), AllocError>
     ensures { OnOk result (out.new.items ≡ out.old.items ++ (codes "cut" ++ spec.spaced_nodes nodes.now)) }
 {
     out.extend_from_slice(b"cut")?;
-    for node in nodes {
-        put_node(out, b" ", *node)?;
-    }
-    Ok(())
+    put_spaced_nodes(out, nodes)
 }
 
 /// Appends a reply.

@@ -12,6 +12,7 @@ use std::alloc::Global;
 use std::io::{Read, Write};
 
 /// What is written for the bytes of a file.
+#[tactic(auto, using(crate::proofs::PlainLemmas::plain_trace, crate::proofs::PlainLemmas::plain_state))]
 fn output(alloc: Global, bytes: &[u8]) -> Result<Vec<u8>, RunFault>
     ensures { Gives (λ v. v.items) result (output_of bytes.now) }
 {
@@ -26,13 +27,20 @@ fn output(alloc: Global, bytes: &[u8]) -> Result<Vec<u8>, RunFault>
         Ok(trace) => trace,
         Err(_) => return Err(RunFault::NoMemory),
     };
-    match text_of(alloc, schedule.body, trace.as_slice(), &core) {
+    match text_of(
+        alloc,
+        schedule.body,
+        trace.as_slice(),
+        layout.workers(),
+        &core,
+    ) {
         Ok(text) => Ok(text),
         Err(_) => Err(RunFault::NoMemory),
     }
 }
 
-/// Plays the schedule that the reader gives, and writes each of its lines with what the event was answered, and then the last epoch.
+/// Plays the schedule that the reader gives, and writes each of its lines with what the event was answered,
+/// and then what the last state is told by: each worker's ledger, the epoch, and how many slots stand where.
 ///
 /// Everything is read before a line is checked, and nothing is written before all lines are checked and run.
 /// An event that the core refuses is written with the number of the refusal, and is no fault.

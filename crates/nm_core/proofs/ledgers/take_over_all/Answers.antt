@@ -1,4 +1,4 @@
-use Rattle.std.proofs.Common.{◌≡◌, ◌+◌, ◌<◌, ℕ, suc, List, Option, rules, sym, ap, ◌∙◌, ◌++◌, drop, take, slice_index_or, slice_set, length, add-one, add-zero, arith, refl, subst}
+use Rattle.std.proofs.Common.{◌≡◌, ◌+◌, ◌<◌, ℕ, List, Option, rules, sym, ap, ◌∙◌, ◌++◌, drop, take, slice_index_or, slice_set, length, add-one, add-zero, arith}
 use Rattle.std.proofs.lemmas.List.{drop-set-lt, get_or-drop, length-set}
 use Rattle.std.proofs.lemmas.Grind.{drop_more_same}
 use Rattle.nm_core.specs.declared.ledger.Ledger.{Ledger}

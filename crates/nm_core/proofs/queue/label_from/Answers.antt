@@ -1,4 +1,4 @@
-use Rattle.std.proofs.Common.{rules, get_or, refl}
+use Rattle.std.proofs.Common.{rules}
 use Rattle.std.proofs.lemmas.List.Edits.{map_over_more}
 use Rattle.nm_core.specs.Queues.{with_label}
 use Rattle.nm_core.proofs.queue.label_from.Goals as goal

@@ -1,7 +1,5 @@
-use Rattle.std.proofs.Common.{◌≡◌, ◌<◌, ◌≤◌, ℕ, Bool, true, false, cond, Option, Some, None, nat_lt, length, List, rules, sym, ap, ◌∙◌, arith, refl}
+use Rattle.std.proofs.Common.{◌≡◌, ◌<◌, ◌≤◌, ℕ, cond, Some, None, nat_lt, rules, sym, ◌∙◌, arith}
 use Rattle.std.proofs.lemmas.Bool.Decides.{nat_tests}
-use Rattle.std.specs.List.{prefix_len}
-use Rattle.std.specs.Prelude.{position}
 use Rattle.nm_core.proofs.Freeing.{free_none, free_some}
 use Rattle.nm_core.proofs.ledgers.Ledgers.free.Goals as goal
 

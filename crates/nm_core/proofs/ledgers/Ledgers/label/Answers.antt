@@ -1,4 +1,4 @@
-use Rattle.std.proofs.Common.{rules, option_map, ap, sym, ◌∙◌, drop}
+use Rattle.std.proofs.Common.{option_map, ap, sym, ◌∙◌}
 use Rattle.std.proofs.lemmas.List.Edits.{map_over_more}
 use Rattle.nm_core.specs.Ledgers.{labelled}
 use Rattle.nm_core.proofs.ledgers.Ledgers.label.Goals as goal

@@ -1,4 +1,4 @@
-use Rattle.std.proofs.Common.{◌∙◌, sym, ap, length, arith}
+use Rattle.std.proofs.Common.{◌∙◌, ap, length, arith}
 use Rattle.nm_core.specs.Runs.{State}
 use Rattle.nm_core.specs.Learning.{inheriting}
 use Rattle.nm_core.proofs.Joining.{joined}

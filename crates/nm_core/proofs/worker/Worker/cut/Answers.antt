@@ -1,4 +1,4 @@
-use Rattle.std.proofs.Common.{◌≡◌, ◌-◌, ◌+◌, ◌++◌, [], is_some, unwrap_or, sym, ap, ◌∙◌, arith}
+use Rattle.std.proofs.Common.{◌-◌, ◌+◌, ◌++◌, [], is_some, unwrap_or, sym, ap, ◌∙◌, arith}
 use Rattle.std.proofs.lemmas.Bool.{false≢true}
 use Rattle.nm_core.specs.Knowledge.{cut_by}
 use Rattle.nm_core.proofs.Ways.{way_here, way_next, way_end, some_before, cut_before}

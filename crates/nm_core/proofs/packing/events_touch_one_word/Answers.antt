@@ -1,0 +1,8 @@
+use Rattle.nm_core.proofs.PackedEvents.{each_event_touches_one_word, each_turn_changes_one_word}
+use Rattle.nm_core.proofs.packing.events_touch_one_word.Goals as goal
+
+pub returns-clause-touched : goal.returns-clause-touched
+returns-clause-touched c = each_event_touches_one_word
+
+pub returns-clause-most : goal.returns-clause-most
+returns-clause-most c = each_turn_changes_one_word

@@ -1,0 +1,224 @@
+-- A whole memory as its words, one list in the order of the layout, and what each event does to it.
+use Rattle.std.specs.Prelude.{◌≡◌, ℕ, ◌+◌, ◌-◌, ◌*◌, ◌/◌, ◌^◌, ◌<◌, ◌≤◌, ◌==◌, ◌⊎◌, Bool, false, true, List, [], ◌∷◌, ◌++◌, map, flat_map, length, take, drop, if◌then◌else◌, slice_index, slice_set, bit_and, bit_or, Option, Some, None, unwrap_or, All}
+use Rattle.std.specs.List.{range_with_len}
+use Rattle.nm_edge.specs.Edges.{Edge, word_of}
+use Rattle.nm_edge.specs.Layouts.{Layout}
+use Rattle.nm_edge.specs.Words.{Field, at_epoch, at_note, at_key, at_edge, at_birth, at_row, IsField, IsSlot, rows, word, words, pool_place}
+use Rattle.nm_edge.specs.declared.edge.Side.{Side}
+use Rattle.nm_core.specs.declared.event.Event.{Event}
+use Rattle.nm_core.specs.declared.event.Event.TheVariants.{Sight, SightFor, Announce, Leave, LeaveWith, Scan, Advance, Claim, Give, Look, Fill, Link, Flag, Tag, Splice, Join}
+use Rattle.nm_core.specs.declared.event.Field.{Field as NodeField}
+use Rattle.nm_core.specs.declared.event.Field.TheVariants.{Key, Edge as EdgeOn, Birth}
+use Rattle.nm_core.specs.declared.memory.Node.{Node}
+use Rattle.nm_core.specs.Maps.{is_number}
+use Rattle.nm_core.specs.Memory.{Memory, node, edge, note, in_pool, put_node, put_edge, opening}
+use Rattle.nm_core.specs.Knowledge.{Knowledge, read}
+use Rattle.nm_core.specs.Step.{kept, last_number}
+use Rattle.nm_core.specs.Runs.{State, of, start, next, after, refused}
+
+-- its lists are as long as the layout says, slot 0 counted
+pub record Fits (L : Layout) (m : Memory) : Type 0 where
+  pub notes : length m.notes ≡ L.workers
+  pub nodes : length m.nodes ≡ L.nodes + 1
+  pub pool : length m.pool ≡ L.nodes + 1
+
+-- ---- packing
+
+-- the word of a note: 0 of an idle worker, else the epoch that it announces and one more
+abbrev pub note_word : Option ℕ → ℕ
+note_word None = 0
+note_word (Some e) = e + 1
+
+-- the four words of a node
+abbrev pub node_words : Node → List ℕ
+node_words n = n.key ∷ word_of n.left ∷ word_of n.right ∷ n.birth ∷ []
+
+-- the number that these bits are, the lowest first
+abbrev pub number_of : List Bool → ℕ
+number_of [] = 0
+number_of (b ∷ bs) = number_of bs * 2 + (if b then 1 else 0)
+
+-- the word of a row of the pool: slots 64 * r + 1 to 64 * r + 64, as far as there are such
+abbrev pub row_word : Memory → ℕ → ℕ
+row_word m r = number_of (take 64 (drop (64 * r + 1) m.pool))
+
+-- all words: the epoch, the notes, the nodes from slot 1 on, and the rows of the pool
+abbrev pub words_of : Layout → Memory → List ℕ
+words_of L m = m.epoch ∷ (map note_word m.notes ++ (flat_map node_words (drop 1 m.nodes) ++ map (row_word m) (range_with_len 0 (rows L))))
+
+-- the word of one field
+abbrev pub field_word : Memory → Field → ℕ
+field_word m at_epoch = m.epoch
+field_word m (at_note w) = note_word (note m w)
+field_word m (at_key s) = (node m s).key
+field_word m (at_edge s side) = word_of (edge m s side)
+field_word m (at_birth s) = (node m s).birth
+field_word m (at_row r) = row_word m r
+
+-- ---- reading: laws
+
+abbrev pub word_at : Layout → Memory → Field → ℕ
+word_at L m f = slice_index (words_of L m) (word L f)
+
+-- the word of a slot's place in the pool
+abbrev pub pool_word_at : Layout → Memory → ℕ → ℕ
+pool_word_at L m s = slice_index (words_of L m) (pool_place L s).word
+
+abbrev pub EachFieldHasAWord : Type 0
+EachFieldHasAWord = (L : Layout) (m : Memory) → Fits L m → length (words_of L m) ≡ words L
+
+abbrev pub EachWordIsItsField : Type 0
+EachWordIsItsField = (L : Layout) (m : Memory) (f : Field) → Fits L m → IsField L f → word_at L m f ≡ field_word m f
+
+-- a slot's bit is set exactly where the slot is in the pool
+abbrev pub EachBitIsItsSlot : Type 0
+EachBitIsItsSlot = (L : Layout) (m : Memory) (s : ℕ) → Fits L m → IsSlot L s
+    → bit_and (pool_word_at L m s) (pool_place L s).mask ≡ (if in_pool m s then (pool_place L s).mask else 0)
+
+-- bits of a row that are no slot's are 0
+abbrev pub SpareBitsAreZero : Type 0
+SpareBitsAreZero = (L : Layout) (m : Memory) (r i : ℕ) → Fits L m → r < rows L → i < 64 → L.nodes ≤ 64 * r + i
+    → bit_and (word_at L m (at_row r)) (2 ^ i) ≡ 0
+
+abbrev pub StateFits : State → Type 0
+StateFits s = Fits s.layout s.memory
+
+-- the five fixed slots are never in the pool
+abbrev pub FixedBitsAreZero : State → Type 0
+FixedBitsAreZero s = (x : ℕ) → 1 ≤ x → x ≤ 5 → bit_and (pool_word_at s.layout s.memory x) (pool_place s.layout x).mask ≡ 0
+
+-- ---- writing: laws
+
+-- the words with another one for a field
+abbrev pub with_word : Layout → Memory → Field → ℕ → List ℕ
+with_word L m f n = slice_set (words_of L m) (word L f) n
+
+-- the words with another one for a slot's place in the pool
+abbrev pub with_pool_word : Layout → Memory → ℕ → ℕ → List ℕ
+with_pool_word L m s n = slice_set (words_of L m) (pool_place L s).word n
+
+abbrev pub EpochIsOneWord : Type 0
+EpochIsOneWord = (L : Layout) (m : Memory) (e : ℕ) → words_of L (record m { epoch = e }) ≡ with_word L m at_epoch e
+
+abbrev pub NoteIsOneWord : Type 0
+NoteIsOneWord = (L : Layout) (m : Memory) (w : ℕ) (o : Option ℕ) → Fits L m → w < L.workers
+    → words_of L (record m { notes = slice_set m.notes w o }) ≡ with_word L m (at_note w) (note_word o)
+
+abbrev pub KeyIsOneWord : Type 0
+KeyIsOneWord = (L : Layout) (m : Memory) (s key : ℕ) → Fits L m → IsSlot L s
+    → words_of L (put_node m s (record (node m s) { key = key })) ≡ with_word L m (at_key s) key
+
+abbrev pub EdgeIsOneWord : Type 0
+EdgeIsOneWord = (L : Layout) (m : Memory) (s : ℕ) (side : Side) (e : Edge) → Fits L m → IsSlot L s
+    → words_of L (put_edge m s side e) ≡ with_word L m (at_edge s side) (word_of e)
+
+abbrev pub BirthIsOneWord : Type 0
+BirthIsOneWord = (L : Layout) (m : Memory) (s birth : ℕ) → Fits L m → IsSlot L s
+    → words_of L (put_node m s (record (node m s) { birth = birth })) ≡ with_word L m (at_birth s) birth
+
+-- a slot that leaves the pool clears its bit
+abbrev pub TakingClearsABit : Type 0
+TakingClearsABit = (L : Layout) (m : Memory) (s : ℕ) → Fits L m → IsSlot L s
+    → words_of L (record m { pool = slice_set m.pool s false }) ≡ with_pool_word L m s (bit_and (pool_word_at L m s) (2 ^ 64 - 1 - (pool_place L s).mask))
+
+-- a slot that comes to the pool sets its bit
+abbrev pub GivingSetsABit : Type 0
+GivingSetsABit = (L : Layout) (m : Memory) (s : ℕ) → Fits L m → IsSlot L s
+    → words_of L (record m { pool = slice_set m.pool s true }) ≡ with_pool_word L m s (bit_or (pool_word_at L m s) (pool_place L s).mask)
+
+-- ---- events
+
+abbrev pub field_of : ℕ → NodeField → Field
+field_of s Key = at_key s
+field_of s (EdgeOn side) = at_edge s side
+field_of s Birth = at_birth s
+
+abbrev pub row_of : ℕ → Field
+row_of s = at_row ((s - 1) / 64)
+
+-- the field whose word an event reads or writes. (A join touches none, and the epoch stands for it.)
+abbrev pub touched : ℕ → Event → Field
+touched w Sight = at_epoch
+touched w (SightFor op key) = at_epoch
+touched w Announce = at_note w
+touched w Leave = at_note w
+touched w (LeaveWith answer) = at_note w
+touched w (Scan u) = at_note u
+touched w Advance = at_epoch
+touched w (Claim s) = row_of s
+touched w (Give s) = row_of s
+touched w (Look s f) = field_of s f
+touched w (Fill s f v) = field_of s f
+touched w (Link p side leaf new) = at_edge p side
+touched w (Flag p side leaf) = at_edge p side
+touched w (Tag p side) = at_edge p side
+touched w (Splice a side s p keep) = at_edge a side
+touched w (Join v) = at_epoch
+
+-- a field of a node is filled with a number, an edge with the unmarked one to a slot
+abbrev pub filling : NodeField → ℕ → ℕ
+filling (EdgeOn side) v = 4 * v
+filling _ v = v
+
+-- the word that an event leaves, by what its worker knows and the word n that it finds
+abbrev pub left_word : Layout → Knowledge → Event → ℕ → ℕ
+left_word L k Announce n = unwrap_or k.brief.seen 0 + 1
+left_word L k Leave n = 0
+left_word L k (LeaveWith answer) n = 0
+left_word L k Advance n = if is_number k.brief.seen n then n + 1 else n
+left_word L k (Claim s) n = bit_and n (2 ^ 64 - 1 - (pool_place L s).mask)
+left_word L k (Give s) n = bit_or n (pool_place L s).mask
+left_word L k (Fill s f v) n = filling f v
+left_word L k (Link p side leaf new) n = if n == 4 * leaf then 4 * new else n
+left_word L k (Flag p side leaf) n = if n == 4 * leaf then 4 * leaf + 1 else n
+left_word L k (Tag p side) n = bit_or n 2
+left_word L k (Splice a side s p keep) n = if n == 4 * s then word_of (kept (read k p keep)) else n
+left_word L k _ n = n
+
+-- an event that is allowed touches one word of all, and leaves that one as it says
+abbrev pub EventsTouchOneWord : State → Type 0
+EventsTouchOneWord s = (w : ℕ) (e : Event) → refused s w e ≡ None
+    → IsField s.layout (touched w e)
+    × (words_of s.layout (next s (w, e)).memory
+    ≡ with_word s.layout s.memory (touched w e) (left_word s.layout (of s w) e (word_at s.layout s.memory (touched w e))))
+
+-- one list is the other, or it differs from it in one element
+abbrev pub AtMostOne : List ℕ → List ℕ → Type 0
+AtMostOne ns ms = (ms ≡ ns) ⊎ ((i : ℕ) × (n : ℕ) × (i < length ns) × (ms ≡ slice_set ns i n))
+
+-- no turn, refused ones and joins too, changes more than one word
+abbrev pub AtMostOneWordChanges : State → Type 0
+AtMostOneWordChanges s = (turn : ℕ × Event) → AtMostOne (words_of s.layout s.memory) (words_of s.layout (next s turn).memory)
+
+-- ---- sizes
+
+-- the numbers of a memory are those that its words have room for
+pub record InRange (L : Layout) (m : Memory) : Type 0 where
+  pub epoch : m.epoch ≤ last_number
+  pub notes : (w e : ℕ) → note m w ≡ Some e → e ≤ last_number
+  pub births : (s : ℕ) → (node m s).birth ≤ last_number
+  pub edges : (s : ℕ) (side : Side) → (edge m s side).slot ≤ L.nodes
+
+-- where the keys are below 2^64, each word is
+abbrev pub WordsAreBelow : Type 0
+WordsAreBelow = (L : Layout) (m : Memory) (f : Field) → Fits L m → InRange L m → L.nodes < 2 ^ 32 → ((s : ℕ) → (node m s).key < 2 ^ 64)
+    → IsField L f → word_at L m f < 2 ^ 64
+
+abbrev pub StateIsInRange : State → Type 0
+StateIsInRange s = InRange s.layout s.memory
+
+-- a key that is stored is a word
+abbrev pub StoresAWord : Event → Type 0
+StoresAWord (Fill s Key v) = v < 2 ^ 64
+StoresAWord _ = Unit {0}
+
+-- in every run of events whose stored keys are below 2^64
+abbrev pub WordsStayBelow : Type 0
+WordsStayBelow = (L : Layout) → 5 ≤ L.nodes → L.nodes < 2 ^ 32 → (turns : List (ℕ × Event)) → All (λ t. StoresAWord t.1) turns
+    → (f : Field) → IsField L f → word_at L (after (start L) turns).memory f < 2 ^ 64
+
+-- ---- an example
+
+-- the last rows of the opening of 135 nodes and 2 workers: slots 6 to 64, 65 to 128 and 129 to 135 are in the pool
+abbrev pub OpeningOf135 : Type 0
+OpeningOf135 = drop 543 (words_of (record { nodes = 135; workers = 2 }) (opening (record { nodes = 135; workers = 2 }))) ≡ (2 ^ 64 - 32) ∷ (2 ^ 64 - 1) ∷ 127 ∷ []
