@@ -56,4 +56,5 @@ pub mod Once
 pub mod Labels
 pub mod Grace
 pub mod KnownBirths
+pub mod PackedReplies
 pub mod Reachable

@@ -14,3 +14,4 @@ pub mod Laws
 pub mod Places
 pub mod Lawful
 pub mod Packing
+pub mod Told
