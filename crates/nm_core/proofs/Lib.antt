@@ -59,6 +59,7 @@ pub mod Once
 pub mod Labels
 pub mod Grace
 pub mod KnownBirths
+pub mod PackedReplies
 pub mod TreeChanges
 pub mod SearchSteps
 pub mod OrderedWalks

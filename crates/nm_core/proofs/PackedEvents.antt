@@ -66,10 +66,10 @@ module _ (s : State) (h : ℕ → ℕ) (law : Lawful s h) (w : ℕ) where
   fits = fits_of s h law
 
   -- the slots that an event names are there
-  range : (x : ℕ) → outside 6 s.layout.nodes x ≡ false → IsSlot s.layout x
+  pub range : (x : ℕ) → outside 6 s.layout.nodes x ≡ false → IsSlot s.layout x
   range x ok = let r = high_from 6 s.layout.nodes x ok in (omega (arith, r.0), r.1)
 
-  touches_field : (e : Event) → Allowed s w e → IsField s.layout (touched w e)
+  pub touches_field : (e : Event) → Allowed s w e → IsField s.layout (touched w e)
   unfolding refusal
   touches_field e ok' = go e ok'.event
     where

@@ -19,3 +19,4 @@ pub mod Lawful
 pub mod Intervals
 pub mod Traces
 pub mod Packing
+pub mod Told

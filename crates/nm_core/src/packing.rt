@@ -1,6 +1,7 @@
 //! A whole memory as its words, in the order of the layout: what each word tells, and what each write changes.
 ghost use Rattle.nm_core.specs.Laws.{OfEachState};
 ghost use Rattle.nm_core.specs.Packing.{AtMostOneWordChanges, BirthIsOneWord, EachBitIsItsSlot, EachFieldHasAWord, EachWordIsItsField, EdgeIsOneWord, EpochIsOneWord, EventsTouchOneWord, FixedBitsAreZero, GivingSetsABit, KeyIsOneWord, NoteIsOneWord, OpeningOf135, SpareBitsAreZero, StateFits, StateIsInRange, TakingClearsABit, WordsAreBelow, WordsStayBelow};
+ghost use Rattle.nm_core.specs.Told.{RepliesAreTold};
 
 /// Of a memory whose lists are as long as the layout says, there are as many words as the layout has, and the word of each field is that field.
 /// A slot's bit is set exactly where the slot is in the pool; bits that are no slot's are 0.
@@ -28,9 +29,11 @@ pub fn writes_change_one_word()
 {}
 
 /// In every run, an event that is allowed touches the word of one field, which the event names, and what it leaves there
-/// is told by what its worker knows and the word that it finds. No turn, refused ones and joins too, changes more than one word.
+/// is told by what its worker knows and the word that it finds. So is its reply, unless it is a join; of a flag or a splice
+/// where the births of the nodes that it answers are known. No turn, refused ones and joins too, changes more than one word.
 pub fn events_touch_one_word()
     ensures touched { OfEachState EventsTouchOneWord }
+    ensures replies { OfEachState RepliesAreTold }
     ensures most { OfEachState AtMostOneWordChanges }
 {}
 

@@ -63,7 +63,8 @@ impl Queue {
         }
     }
 
-    // The first entry of a slot. A look through the queue is taken only where a slot stands in it twice, which no run leads to.
+    // The first entry of a slot. A look through the queue is taken only where the slot may stand in it twice: no run leads to that,
+    // and it may only seem so once a node could not be noted for want of memory.
     pub(crate) fn find(&self, slot: u32) -> Option<Queued>
         ensures { result ≡ entry_at self.now slot }
     {
