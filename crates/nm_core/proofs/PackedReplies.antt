@@ -9,7 +9,7 @@ use Rattle.nm_edge.specs.Words.{at_note, at_key, at_edge, at_birth, IsField, IsS
 use Rattle.nm_edge.specs.declared.edge.Side.{Side}
 use Rattle.nm_edge.specs.declared.node.NodeId.{NodeId}
 use Rattle.nm_core.specs.declared.event.Event.{Event}
-use Rattle.nm_core.specs.declared.event.Event.TheVariants.{Sight, Announce, Leave, Scan, Advance, Claim, Give, Look, Fill, Link, Flag, Tag, Splice, Join}
+use Rattle.nm_core.specs.declared.event.Event.TheVariants.{Sight, SightFor, Announce, Leave, LeaveWith, Scan, Advance, Claim, Give, Look, Fill, Link, Flag, Tag, Splice, Join}
 use Rattle.nm_core.specs.declared.event.Field.{Field as NodeField}
 use Rattle.nm_core.specs.declared.event.Field.TheVariants.{Key, Edge as EdgeOn, Birth}
 use Rattle.nm_core.specs.declared.reply.Reply.{Reply}
@@ -76,8 +76,10 @@ module _ (s : State) (k : IsLawful s) (births : EachBirthStands s) (w : ℕ) whe
 
       go : (e : Event) → Allowed s w e → IsField s.layout (touched w e) → BirthsAreKnown s.layout (of s w) e → reply_of s w e ≡ told s.layout (of s w) e (word_at s.layout s.memory (touched w e))
       go Sight ok at known = refl
+      go (SightFor op key) ok at known = refl
       go Announce ok at known = refl
       go Leave ok at known = refl
+      go (LeaveWith answer) ok at known = refl
       go (Scan u) ok at known = ap reply_scan (sym (ap noted_in (field_read s.layout s.memory fits (at_note u) at) ∙ noted_word (note s.memory u)))
       go Advance ok at known = refl
       go (Claim x) ok at known = claim_told s.layout s.memory x fits (range s k.holder k.law w x (passed _ _ _ ok.event).0)

@@ -5,7 +5,7 @@ use Rattle.nm_edge.specs.Layouts.{Layout}
 use Rattle.nm_edge.specs.Words.{pool_place}
 use Rattle.nm_edge.specs.declared.node.NodeId.{NodeId}
 use Rattle.nm_core.specs.declared.event.Event.{Event}
-use Rattle.nm_core.specs.declared.event.Event.TheVariants.{Sight, Announce, Leave, Scan, Advance, Claim, Give, Look, Fill, Link, Flag, Tag, Splice, Join}
+use Rattle.nm_core.specs.declared.event.Event.TheVariants.{Sight, SightFor, Announce, Leave, LeaveWith, Scan, Advance, Claim, Give, Look, Fill, Link, Flag, Tag, Splice, Join}
 use Rattle.nm_core.specs.declared.event.Field.{Field}
 use Rattle.nm_core.specs.declared.event.Field.TheVariants.{Key, Edge as EdgeOn, Birth}
 use Rattle.nm_core.specs.declared.reply.Reply.{Reply}
@@ -40,8 +40,10 @@ told_look Birth n = BirthIs n
 -- the reply of an event, by what its worker knows and the word n that it finds. (A join's is told by the leaver.)
 abbrev pub told : Layout → Knowledge → Event → ℕ → Reply
 told L k Sight n = reply_sight k n
+told L k (SightFor op key) n = reply_sight k n
 told L k Announce n = Announced (unwrap_or k.brief.seen 0)
 told L k Leave n = Departed
+told L k (LeaveWith answer) n = Departed
 told L k (Scan u) n = reply_scan (noted_in n)
 told L k Advance n = if is_number k.brief.seen n then Moved (n + 1) else Behind n
 told L k (Claim s) n = if bit_and n (pool_place L s).mask == 0 then Taken else Claimed s
