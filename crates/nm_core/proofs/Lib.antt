@@ -61,3 +61,4 @@ pub mod LawfulRuns
 pub mod Configurations
 pub mod OrderedRuns
 pub mod SetKeys
+pub mod WalksOfLogs
