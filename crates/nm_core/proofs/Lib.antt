@@ -62,3 +62,4 @@ pub mod Configurations
 pub mod OrderedRuns
 pub mod SetKeys
 pub mod WalksOfLogs
+pub mod LogsOfRuns
