@@ -63,3 +63,4 @@ pub mod OrderedRuns
 pub mod SetKeys
 pub mod WalksOfLogs
 pub mod LogsOfRuns
+pub mod SearchesGrow

@@ -1,5 +1,5 @@
 -- Walks in a log: the looks of a search for a key, from the root's child down to a leaf.
-use Rattle.std.specs.Prelude.{◌≡◌, ◌≢◌, ℕ, ◌==◌, Bool, true, false, List, [], ◌∷◌, ◌++◌, if◌then◌else◌, Option, Some, None, Result, Ok, Err, All}
+use Rattle.std.specs.Prelude.{◌≡◌, ◌≢◌, ℕ, ◌==◌, Bool, true, false, List, [], ◌∷◌, ◌++◌, if◌then◌else◌, Option, Some, None, Result, Ok, Err, All, Contains}
 use Rattle.nm_edge.specs.Edges.{Edge}
 use Rattle.nm_edge.specs.declared.edge.Side.{Side}
 use Rattle.nm_edge.specs.declared.edge.Side.TheVariants.{Left}
@@ -96,3 +96,22 @@ pub record IsOfWalk (k : ℕ) (log : List Entry) (a : Arrival) : Type 0 where
 -- of every log, each arrival is that of a walk since the pin was confirmed
 abbrev pub ArrivalsAreWalks : Type 0
 ArrivalsAreWalks = (log : List Entry) (c : Call) → (search_after idle log).call ≡ Some c → All (IsOfWalk c.key (since_pin [] log)) (search_after idle log).walks
+
+-- an arrival stays, with its key and its end once it has them
+pub record GrowsTo (a b : Arrival) : Type 0 where
+  pub slot : b.slot ≡ a.slot
+  pub parent : b.parent ≡ a.parent
+  pub side : b.side ≡ a.side
+  pub key : (v : ℕ) → a.key ≡ Some v → b.key ≡ Some v
+  pub ended : a.ended ≡ true → b.ended ≡ true
+
+-- what a search knows stays
+pub record SearchGrows (s t : Search) : Type 0 where
+  pub call : t.call ≡ s.call
+  pub linked : s.linked ≡ true → t.linked ≡ true
+  pub cut : s.cut ≡ true → t.cut ≡ true
+  pub walks : (a : Arrival) → Contains s.walks a → (b : Arrival) × Contains t.walks b × GrowsTo a b
+
+-- while a pin stands, what its search knows only grows
+abbrev pub SearchesOnlyGrow : Type 0
+SearchesOnlyGrow = (s : Search) (e : Event) (r : Reply) → begins_anew (e, r) ≡ false → SearchGrows s (searched s e r)

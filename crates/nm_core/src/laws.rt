@@ -3,7 +3,7 @@ ghost use Rattle.nm_core.specs.Lawful.{BriefsAreRight, CountsAddUp, EachBirthSta
 ghost use Rattle.nm_core.specs.Laws.{CutsJust, EachLedgerHasOneHolder, FreedThenQueueAreTheCuts, GoesDown, GraceHolds, IsFreedThenQueue, IsTheCuts, NamesBirths, NoNodeTwice, NothingElseCuts, OfEachCut, OfEachLedger, OfEachState, OnlySplicesAnswerCuts, PinsStayNear, RetiredGrowsByTheCuts};
 ghost use Rattle.nm_core.specs.Laws.{StatesJoin, TracesJoin};
 ghost use Rattle.nm_core.specs.Ordered.{OrderedRunsAreRuns, PlainRunsAreRuns, SearchesTellTheLogs};
-ghost use Rattle.nm_core.specs.Walks.{ArrivalsAreWalks};
+ghost use Rattle.nm_core.specs.Walks.{ArrivalsAreWalks, SearchesOnlyGrow};
 ghost use Rattle.nm_core.specs.Places.{EachSlotInOnePlace};
 
 /// While a worker is pinned at an epoch, the global epoch is that one or the next. (The bound of Fraser's epochs.)
@@ -103,6 +103,11 @@ pub fn ordered_runs_are_runs()
 pub fn arrivals_are_walks()
     ensures told { SearchesTellTheLogs }
     ensures walks { ArrivalsAreWalks }
+{}
+
+/// While a pin stands, what its search knows only grows: its operation stays, and so do a link, a cut, and each arrival with its key and its end.
+pub fn searches_only_grow()
+    ensures { SearchesOnlyGrow }
 {}
 
 /// A core that is not ordered runs as its state does.
