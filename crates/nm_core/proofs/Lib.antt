@@ -6,6 +6,7 @@ pub mod PackedReads
 pub mod Counting
 pub mod Tables
 pub mod Freeing
+pub mod QueueIndices
 pub mod QueueLabels
 pub mod Steps
 pub mod Sizes

@@ -6,6 +6,7 @@ mod calls;
 mod chain;
 mod epoch_steps;
 mod event;
+mod indices;
 mod join_steps;
 mod keys;
 mod knowledge;

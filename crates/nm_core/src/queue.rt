@@ -2,7 +2,9 @@
 ghost use Rattle.std.specs.Prelude.{◌≡◌, ◌++◌, ◌≤◌, [], length, map, take, drop, IfOk, OnOk, OnErr};
 ghost use Rattle.nm_core.specs.Queues.{front_at, entry_at, unlabelled, with_label};
 
+use crate::indices::{Indices, index_from};
 use crate::ledger::Queued;
+use crate::slot_map::SlotMap;
 use nm_edge::NodeId;
 use std::alloc::{AllocError, Global};
 use std::marker::Model;
@@ -15,6 +17,8 @@ pub struct Queue {
     departed: usize,
     // how many entries have had their label since they came
     labelled: usize,
+    // where the entries of each slot stand, those that have left too
+    indices: SlotMap<Indices>,
 }
 
 impl Model for Queue {
@@ -26,7 +30,7 @@ impl Model for Queue {
 
     ghost view = { λ q. drop q.departed q.entries.items };
 
-    ghost invariant = { λ q. IsQueue q.entries.items q.departed q.labelled };
+    ghost invariant = { λ q. IsQueue q.entries.items q.departed q.labelled q.indices };
 }
 
 impl Queue {
@@ -38,6 +42,7 @@ impl Queue {
             entries: Vec::new(alloc),
             departed: 0,
             labelled: 0,
+            indices: SlotMap::new(alloc),
         }
     }
 
@@ -58,8 +63,22 @@ impl Queue {
         }
     }
 
-    // The first entry of a slot.
+    // The first entry of a slot. A look through the queue is taken only where a slot stands in it twice, which no run leads to.
     pub(crate) fn find(&self, slot: u32) -> Option<Queued>
+        ensures { result ≡ entry_at self.now slot }
+    {
+        let indices = self.indices.get(slot)?;
+        if indices.has_others_from(self.departed) {
+            return self.first(slot);
+        }
+        if indices.last < self.departed {
+            return None;
+        }
+        entry_at(&self.entries, indices.last, slot)
+    }
+
+    // The first entry of a slot, by a look through the queue.
+    fn first(&self, slot: u32) -> Option<Queued>
         ensures { result ≡ entry_at self.now slot }
     {
         for entry in self.as_slice() {
@@ -84,7 +103,13 @@ impl Queue {
         ensures ok { OnOk result (self.new ≡ self.old ++ map unlabelled nodes.now) }
         ensures err { OnErr result (self.new ≡ self.old) }
     {
-        append_unlabelled(&mut self.entries, nodes)
+        let before = self.entries.len();
+        append_unlabelled(&mut self.entries, nodes)?;
+        if index_from(&mut self.indices, self.entries.as_slice(), before).is_err() {
+            self.entries.truncate(before);
+            return Err(AllocError);
+        }
+        Ok(())
     }
 
     // Gives each entry without a label this one.
@@ -98,11 +123,25 @@ impl Queue {
     pub(crate) fn clone_in(&self, alloc: Global) -> Result<Queue, AllocError>
         ensures { IfOk result (λ queue. queue ≡ self.now) }
     {
+        let entries = Vec::from_slice(alloc, self.as_slice())?;
+        let mut indices = SlotMap::new(alloc);
+        index_from(&mut indices, entries.as_slice(), 0)?;
         Ok(Queue {
-            entries: Vec::from_slice(alloc, self.as_slice())?,
+            entries,
             departed: 0,
             labelled: 0,
+            indices,
         })
+    }
+}
+
+// The entry at an index, where it is of this slot.
+fn entry_at(entries: &[Queued], index: usize, slot: u32) -> Option<Queued>
+    ensures { result ≡ front_at (drop index entries.now) slot }
+{
+    match entries.get(index) {
+        Some(entry) if entry.node.slot == slot => Some(*entry),
+        _ => None,
     }
 }
 

@@ -7,7 +7,7 @@ use std::collections::BTreeMap;
 use std::marker::Model;
 
 /// A finite map from slots, which takes memory only for the slots that it has.
-#[derive(Drop)]
+#[derive(Debug, Drop)]
 pub struct SlotMap<V> {
     entries: BTreeMap<u32, V>,
 }

@@ -7,3 +7,4 @@ pub mod LimitLemmas
 pub mod StreamLemmas
 pub mod ReasonLemmas
 pub mod PlainLemmas
+pub mod LedgerLemmas

@@ -1,5 +1,5 @@
 -- The first line of a schedule: its version, and how many nodes and workers it is for.
-use Rattle.std.specs.Prelude.{ℕ, List, [], ◌∷◌, codes, Bool, ◌&&◌, ◌||◌, nat_lt, Result, Ok, Err, if◌then◌else◌}
+use Rattle.std.specs.Prelude.{ℕ, List, [], ◌∷◌, codes, Bool, ◌||◌, nat_lt, Result, Ok, Err, if◌then◌else◌}
 use Rattle.std.specs.Str.{bytes_eq}
 use Rattle.nm_edge.specs.Layouts.{Layout}
 use Rattle.nm_stress.specs.declared.fault.Reason.{Reason}

@@ -1,5 +1,9 @@
 //! The last lines: the ledger of each worker, the epoch, and how many slots stand where.
-ghost use Rattle.std.specs.Prelude.{◌≡◌, ◌++◌, codes, Some, OnOk};
+ghost use Rattle.std.specs.Prelude.{◌≡◌, ◌<◌, ◌++◌, ℕ, List, codes, Some, IsSome, OnOk};
+ghost use Rattle.nm_edge.specs.Layouts.{Layout};
+ghost use Rattle.nm_core.specs.declared.event.Event.{Event};
+ghost use Rattle.nm_core.specs.Runs.{start, after};
+ghost use Rattle.nm_core.specs.Reports.{ledger_of};
 ghost use Rattle.nm_stress.specs.LastLines as spec;
 
 use crate::reply::{put_node, put_number, put_spaced_nodes};
@@ -130,3 +134,8 @@ pub fn put_last_lines(out: &mut Vec<u8>, workers: u32, core: &Core) -> Result<()
     put_epoch(out, core.epoch())?;
     put_places(out, core.places())
 }
+
+/// Each worker of a tree has a ledger, whatever was done and by whom, so each has its three lines.
+pub fn each_worker_is_told()
+    ensures { (L : Layout) (turns : List (ℕ × Event)) (worker : ℕ) → worker < L.workers → IsSome (ledger_of (after (start L) turns) worker) }
+{}

@@ -39,7 +39,8 @@ fn output(alloc: Global, bytes: &[u8]) -> Result<Vec<u8>, RunFault>
     }
 }
 
-/// Plays the schedule that the reader gives, and writes each of its lines with what the event was answered, and then the last epoch.
+/// Plays the schedule that the reader gives, and writes each of its lines with what the event was answered,
+/// and then what the last state is told by: each worker's ledger, the epoch, and how many slots stand where.
 ///
 /// Everything is read before a line is checked, and nothing is written before all lines are checked and run.
 /// An event that the core refuses is written with the number of the refusal, and is no fault.

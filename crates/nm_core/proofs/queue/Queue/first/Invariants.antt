@@ -1,6 +1,6 @@
 use Rattle.std.proofs.Common.{◌≡◌, drop}
 use Rattle.nm_core.specs.Queues.{entry_at}
-use Rattle.nm_core.proofs.queue.Queue.find.Given as goal
+use Rattle.nm_core.proofs.queue.Queue.first.Given as goal
 
 -- no entry so far is of the slot
 abbrev pub invariant-loop-entry : goal.invariant-loop-entry
