@@ -72,3 +72,6 @@ pub mod LawfulRuns
 pub mod Configurations
 pub mod OrderedRuns
 pub mod SetKeys
+pub mod WalksOfLogs
+pub mod LogsOfRuns
+pub mod SearchesGrow

@@ -1,5 +1,5 @@
 -- Ordered cores: links and flags only where a walk of the own call ended, and answers that the own log shows.
-use Rattle.std.specs.Prelude.{◌≡◌, ℕ, ◌==◌, nat_lt, Bool, true, false, not, ◌&&◌, ◌||◌, List, [], ◌∷◌, if◌then◌else◌, replicate, filter, map, slice_index_or, slice_set, Option, Some, None, is_some, is_none, option_map, unwrap_or, is_ok, Result, Ok, Err}
+use Rattle.std.specs.Prelude.{◌≡◌, ℕ, ◌<◌, ◌==◌, nat_lt, Bool, true, false, not, ◌&&◌, ◌||◌, List, [], ◌∷◌, if◌then◌else◌, replicate, filter, map, slice_index_or, slice_set, Option, Some, None, is_some, is_none, option_map, unwrap_or, is_ok, IfSome, Result, Ok, Err}
 use Rattle.std.specs.List.{list_any}
 use Rattle.nm_edge.specs.Layouts.{Layout, IsLayout}
 use Rattle.nm_edge.specs.declared.edge.Side.{Side}
@@ -19,6 +19,7 @@ use Rattle.nm_core.specs.Maps.{is_number, or_else}
 use Rattle.nm_core.specs.Knowledge.{Knowledge, draft_of, beside}
 use Rattle.nm_core.specs.Step.{first, ◌refuses◌}
 use Rattle.nm_core.specs.Runs.{State, of, start, refusal_of, refused, reply_of, applied, answered, after, trace}
+use Rattle.nm_core.specs.Walks.{log_of, search_after}
 use Rattle.nm_core.specs.Searches.{Search, Roomy, told, idle, searched, is_by}
 
 -- ---- what the log shows
@@ -201,3 +202,10 @@ IsRunOfAccepted s turns t = (t ≡ after s (map turn_of (accepted turns))) × (t
 
 abbrev pub OrderedRunsAreRuns : Type 0
 OrderedRunsAreRuns = (c : Configuration) (ts : List (ℕ × Event)) → IsRunOfAccepted c.state (trace_in c ts) (after_in c ts).state
+
+-- ---- searches and logs
+
+-- in every run of an ordered core, what it keeps of a worker's call is what that worker's log tells
+abbrev pub SearchesTellTheLogs : Type 0
+SearchesTellTheLogs = (L : Layout) (ts : List (ℕ × Event)) (w : ℕ) → w < L.workers
+    → IfSome (after_in (ordered L) ts).searches (λ ss. search_of ss w ≡ search_after idle (log_of w (trace_in (ordered L) ts)))

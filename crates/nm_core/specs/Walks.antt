@@ -1,5 +1,5 @@
 -- Walks in a log: the looks of a search for a key, from the root's child down to a leaf.
-use Rattle.std.specs.Prelude.{◌≡◌, ◌≢◌, ℕ, ◌==◌, List, [], ◌∷◌, ◌++◌, if◌then◌else◌, Option, Some, None, Result, Ok, Err}
+use Rattle.std.specs.Prelude.{◌≡◌, ◌≢◌, ℕ, ◌==◌, Bool, true, false, List, [], ◌∷◌, ◌++◌, if◌then◌else◌, Option, Some, None, Result, Ok, Err, All, Contains}
 use Rattle.nm_edge.specs.Edges.{Edge}
 use Rattle.nm_edge.specs.declared.edge.Side.{Side}
 use Rattle.nm_edge.specs.declared.edge.Side.TheVariants.{Left}
@@ -10,6 +10,8 @@ use Rattle.nm_core.specs.declared.reply.Reply.{Reply}
 use Rattle.nm_core.specs.declared.reply.Reply.TheVariants.{KeyIs, EdgeIs, Pinned, Departed}
 use Rattle.nm_core.specs.declared.reply.Refused.{Refused}
 use Rattle.nm_core.specs.declared.trace.Turn.{Turn}
+use Rattle.nm_core.specs.declared.walks.Call.{Call}
+use Rattle.nm_core.specs.declared.walks.Arrival.{Arrival}
 use Rattle.nm_core.specs.Searches.{Search, idle, searched, side_of}
 
 -- ---- logs
@@ -35,6 +37,19 @@ abbrev pub search_after : Search → List Entry → Search
 search_after s [] = s
 search_after s (e ∷ es) = search_after (searched s e.0 e.1) es
 
+-- a pin is confirmed, or left
+abbrev pub begins_anew : Entry → Bool
+begins_anew (Sight, Pinned n) = true
+begins_anew (SightFor op key, Pinned n) = true
+begins_anew (Leave, Departed) = true
+begins_anew (LeaveWith answer, Departed) = true
+begins_anew _ = false
+
+-- the part of a log since its last pin was confirmed, after a part that is since then already
+abbrev pub since_pin : List Entry → List Entry → List Entry
+since_pin so_far [] = so_far
+since_pin so_far (e ∷ es) = since_pin (if begins_anew e then [] else so_far ++ e ∷ []) es
+
 -- one list is another with some elements left out
 pub data IsPart {X : Type 0} : List X → List X → Type 0 where
   nothing : IsPart [] []
@@ -43,46 +58,60 @@ pub data IsPart {X : Type 0} : List X → List X → Type 0 where
 
 -- ---- walks
 
--- a node that a walk came to: its slot, the key that was read, and then the edge on the walk's side
-pub record Visit : Type 0 where
-  pub slot : ℕ
-  pub key : ℕ
-  pub next : Edge
+-- the looks of a walk for k that came to a slot by a parent's edge on a side: at first at the left edge of slot 2,
+-- and then at the key of each node to which an edge led, and at its edge on k's side
+pub data Leads (k : ℕ) : List Entry → ℕ → ℕ → Side → Type 0 where
+  begins : (e : Edge) → e.slot ≢ 0 → Leads k ((Look 2 (EdgeOn Left), EdgeIs e) ∷ []) e.slot 2 Left
+  leads_on : {looks : List Entry} {slot parent : ℕ} {side : Side} → Leads k looks slot parent side → (v : ℕ) (e : Edge) → e.slot ≢ 0
+      → Leads k (looks ++ (Look slot Key, KeyIs v) ∷ (Look slot (EdgeOn (side_of k v)), EdgeIs e) ∷ []) e.slot slot (side_of k v)
 
-abbrev pub side_at : ℕ → Visit → Side
-side_at k v = side_of k v.key
+-- a walk in a log came to the slot by that edge: its looks are a part of the log, in order, with gaps between them
+pub record WalkComes (k : ℕ) (log : List Entry) (slot parent : ℕ) (side : Side) : Type 0 where
+  pub looks : List Entry
+  pub leads : Leads k looks slot parent side
+  pub is_part : IsPart looks log
 
--- the looks of a walk for k at these nodes: at the key of each, and then at its edge on k's side
-abbrev pub looks : ℕ → List Visit → List Entry
-looks k [] = []
-looks k (v ∷ vs) = (Look v.slot Key, KeyIs v.key) ∷ (Look v.slot (EdgeOn (side_at k v)), EdgeIs v.next) ∷ looks k vs
+-- and then it looked at the slot's key
+pub record WalkReads (k : ℕ) (log : List Entry) (slot parent : ℕ) (side : Side) (key : ℕ) : Type 0 where
+  pub looks : List Entry
+  pub leads : Leads k looks slot parent side
+  pub is_part : IsPart (looks ++ (Look slot Key, KeyIs key) ∷ []) log
 
--- each node is the one to which the edge before it led
-abbrev pub Follows : Edge → List Visit → Type 0
-Follows e [] = Unit {0}
-Follows e (v ∷ vs) = (e.slot ≢ 0) × (v.slot ≡ e.slot) × Follows v.next vs
+-- and then at the slot's edge on k's side, which was null: it ended at that leaf
+pub record WalkEnds (k : ℕ) (log : List Entry) (slot parent : ℕ) (side : Side) (key : ℕ) : Type 0 where
+  pub looks : List Entry
+  pub leads : Leads k looks slot parent side
+  pub null : Edge
+  pub is_null : null.slot ≡ 0
+  pub is_part : IsPart (looks ++ (Look slot Key, KeyIs key) ∷ (Look slot (EdgeOn (side_of k key)), EdgeIs null) ∷ []) log
 
--- the edge that was read last, in a walk that began by this one
-abbrev pub last_edge : Edge → List Visit → Edge
-last_edge e [] = e
-last_edge e (v ∷ vs) = last_edge v.next vs
+-- ---- what a search knows is so
 
--- a part of a log: a look at the left edge of slot 2, and then looks at the nodes to which the edges led, with gaps between them
-pub record Walk (k : ℕ) (log : List Entry) (nodes : List Visit) : Type 0 where
-  pub first : Edge
-  pub follows : Follows first nodes
-  pub is_part : IsPart ((Look 2 (EdgeOn Left), EdgeIs first) ∷ looks k nodes) log
+-- an arrival is one of a walk in the log; where it has a key, a walk looked at it; where it has ended, a walk ended
+pub record IsOfWalk (k : ℕ) (log : List Entry) (a : Arrival) : Type 0 where
+  pub comes : WalkComes k log a.slot a.parent a.side
+  pub reads : (v : ℕ) → a.key ≡ Some v → WalkReads k log a.slot a.parent a.side v
+  pub ends : a.ended ≡ true → (v : ℕ) × (a.key ≡ Some v) × WalkEnds k log a.slot a.parent a.side v
 
--- the parent of the last of the nodes, and the side of the edge that led to it
-abbrev pub last_parent : ℕ → ℕ → Side → List Visit → ℕ × Side
-last_parent k slot side [] = (slot, side)
-last_parent k slot side (v ∷ []) = (slot, side)
-last_parent k slot side (v ∷ vs) = last_parent k v.slot (side_at k v) vs
+-- of every log, each arrival is that of a walk since the pin was confirmed
+abbrev pub ArrivalsAreWalks : Type 0
+ArrivalsAreWalks = (log : List Entry) (c : Call) → (search_after idle log).call ≡ Some c → All (IsOfWalk c.key (since_pin [] log)) (search_after idle log).walks
 
--- a walk for k in the log ends at the leaf, which has that key, by the parent's edge on the side
-pub record WalkEnds (k : ℕ) (log : List Entry) (leaf parent : ℕ) (side : Side) (key : ℕ) : Type 0 where
-  pub nodes : List Visit
-  pub end : Edge
-  pub walk : Walk k log (nodes ++ record { slot = leaf; key = key; next = end } ∷ [])
-  pub null : end.slot ≡ 0
-  pub by : last_parent k 2 Left (nodes ++ record { slot = leaf; key = key; next = end } ∷ []) ≡ (parent, side)
+-- an arrival stays, with its key and its end once it has them
+pub record GrowsTo (a b : Arrival) : Type 0 where
+  pub slot : b.slot ≡ a.slot
+  pub parent : b.parent ≡ a.parent
+  pub side : b.side ≡ a.side
+  pub key : (v : ℕ) → a.key ≡ Some v → b.key ≡ Some v
+  pub ended : a.ended ≡ true → b.ended ≡ true
+
+-- what a search knows stays
+pub record SearchGrows (s t : Search) : Type 0 where
+  pub call : t.call ≡ s.call
+  pub linked : s.linked ≡ true → t.linked ≡ true
+  pub cut : s.cut ≡ true → t.cut ≡ true
+  pub walks : (a : Arrival) → Contains s.walks a → (b : Arrival) × Contains t.walks b × GrowsTo a b
+
+-- while a pin stands, what its search knows only grows
+abbrev pub SearchesOnlyGrow : Type 0
+SearchesOnlyGrow = (s : Search) (e : Event) (r : Reply) → begins_anew (e, r) ≡ false → SearchGrows s (searched s e r)

@@ -2,7 +2,8 @@
 ghost use Rattle.nm_core.specs.Lawful.{BriefsAreRight, CountsAddUp, EachBirthStands, EachReadStands, EpochsAgree, FlaggedEdgesLeadToLeaves, LabelsDoNotFall, NoLabelIsAboveTheEpoch, OnlyThePinnedKnow, QueuedNodesAreFrozen, ReachIsGuarded, ReachIsShared, TaggedEdgesHaveFlaggedTwins};
 ghost use Rattle.nm_core.specs.Laws.{CutsJust, EachLedgerHasOneHolder, FreedThenQueueAreTheCuts, GoesDown, GraceHolds, IsFreedThenQueue, IsTheCuts, NamesBirths, NoNodeTwice, NothingElseCuts, OfEachCut, OfEachLedger, OfEachState, OnlySplicesAnswerCuts, PinsStayNear, RetiredGrowsByTheCuts};
 ghost use Rattle.nm_core.specs.Laws.{StatesJoin, TracesJoin};
-ghost use Rattle.nm_core.specs.Ordered.{OrderedRunsAreRuns, PlainRunsAreRuns};
+ghost use Rattle.nm_core.specs.Ordered.{OrderedRunsAreRuns, PlainRunsAreRuns, SearchesTellTheLogs};
+ghost use Rattle.nm_core.specs.Walks.{ArrivalsAreWalks, SearchesOnlyGrow};
 ghost use Rattle.nm_core.specs.Places.{EachSlotInOnePlace};
 
 /// While a worker is pinned at an epoch, the global epoch is that one or the next. (The bound of Fraser's epochs.)
@@ -94,6 +95,19 @@ pub fn runs_can_be_split()
 /// So every law of runs is one of ordered runs.
 pub fn ordered_runs_are_runs()
     ensures { OrderedRunsAreRuns }
+{}
+
+/// What an ordered core keeps of a worker's operation is what that worker's log tells; and each arrival there is one of a walk for the
+/// operation's key in the log since the pin: a look at the left edge of slot 2, and then looks at the key of each node to which an edge led
+/// and at its edge on the key's side, in order, with gaps between them. Where it has ended, the last edge was null. (The search of Natarajan and Mittal.)
+pub fn arrivals_are_walks()
+    ensures told { SearchesTellTheLogs }
+    ensures walks { ArrivalsAreWalks }
+{}
+
+/// While a pin stands, what its search knows only grows: its operation stays, and so do a link, a cut, and each arrival with its key and its end.
+pub fn searches_only_grow()
+    ensures { SearchesOnlyGrow }
 {}
 
 /// A core that is not ordered runs as its state does.
