@@ -308,6 +308,7 @@ fn a_delete_is_in_order(rt: HostRuntime) -> Result<(), Fail> {
     play(&rt, &mut core, &inserting(key))?;
     let trace = core.run(listed(&rt, &deleting(key))?)?;
     let turns = trace.as_slice();
+    assert_eq!(rt; turns.len(), 11);
     assert!(rt; matches!(turns[6].outcome, Err(Refused::NotOrdered)));
     assert!(rt;
         matches!(
