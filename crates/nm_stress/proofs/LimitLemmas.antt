@@ -160,7 +160,7 @@ same_file header_says line_says p q many =
     both_are _ _ _ _ refl (ap (file_from header_says line_says) (glued 10 p q)) same
 
 same_bytes : (p q : List ℕ) → 12100121 < length p → BothFail (output_of p) (output_of (p ++ q))
-same_bytes p q many = both_then _ _ _ _ (same_file first_line_of (λ layout. line_of layout.workers) p q many)
+same_bytes p q many = both_then _ _ _ _ (same_file first_line_of line_of p q many)
 
 -- what is written for the bytes up to the limit is what is written for all
 pub within_limit : (input : List ℕ) → output_of (take 12100122 input) ≡ output_of input

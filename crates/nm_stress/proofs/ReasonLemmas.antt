@@ -9,6 +9,7 @@ use Rattle.std.proofs.lemmas.Bool.{cases_Bool, le-ltb}
 use Rattle.nm_core.specs.declared.event.Event.{Event}
 use Rattle.nm_core.specs.declared.event.Event.TheVariants as event
 use Rattle.nm_core.specs.declared.event.Field.TheVariants as field
+use Rattle.nm_core.specs.declared.event.Op.TheVariants as op
 use Rattle.nm_edge.specs.declared.edge.Side.TheVariants as side
 use Rattle.nm_stress.specs.declared.fault.Reason.{Reason}
 use Rattle.nm_stress.specs.declared.fault.Reason.TheVariants as reason
@@ -16,12 +17,13 @@ use Rattle.nm_stress.specs.declared.kind.Kind.{Kind}
 use Rattle.nm_stress.specs.declared.kind.Kind.TheVariants.{Sight, Announce, Leave, Scan, Advance, Claim, Give, Look, Fill, Link, Flag, Tag, Splice}
 use Rattle.nm_stress.specs.Chain.{◌>>=◌}
 use Rattle.nm_stress.specs.Lines.{number, is_numeral, place, fields, is_field}
-use Rattle.nm_stress.specs.Kinds.{word, kinds, kind_of, event_of, node_field, side_of, scan, claim, give, look, fill, link, flag, tag, splice}
-use Rattle.nm_stress.specs.Schedules.{entry_of, with_worker, line_of, first_line_of}
-use Rattle.nm_stress.specs.Headers.{limits_of, header_of, layout_by, layout_within, count, not_within}
+use Rattle.nm_stress.specs.Kinds.{word, kinds, kind_of, event_of, node_field, side_of, op_of, answer_of, key, is_key, sight_for, leave_with, scan, claim, give, look, fill, link, flag, tag, splice}
+use Rattle.nm_stress.specs.Schedules.{entry_of, with_worker, worker_of, line_of, first_line_of}
+use Rattle.nm_stress.specs.Headers.{limits_of, header_of, header_by, header_within, count, not_within}
 use Rattle.nm_stress.specs.declared.header.Limits.{Limits}
+use Rattle.nm_stress.specs.declared.header.Header.{Header}
 use Rattle.nm_stress.specs.Files.{at, checked, is_long}
-use Rattle.nm_stress.specs.Reasons.{has_words, has_numbers, holds_of, holds, line_reasons, header_holds_of, header_holds, header_reasons, reason_of}
+use Rattle.nm_stress.specs.Reasons.{has_words, has_numbers, has_key, holds_of, holds, line_reasons, header_holds_of, header_holds, header_reasons, reason_of}
 
 -- what a function gives: this fault alone, or a value
 abbrev Gives : {X : Type 0} → Reason → Result X Reason → Type 0
@@ -67,49 +69,85 @@ found_gives (Some kind) = inr (kind, refl)
 
 -- ---- an event by its arguments
 
-abbrev Says : Bool → Bool → Result Event Reason → Type 0
-Says false n said = said ≡ Err reason.Fields
-Says true false said = said ≡ Err reason.Number
-Says true true said = (e : Event) × (said ≡ Ok e)
+abbrev Says : Bool → Bool → Bool → Result Event Reason → Type 0
+Says false n k said = said ≡ Err reason.Fields
+Says true false k said = said ≡ Err reason.Number
+Says true true false said = said ≡ Err reason.Key
+Says true true true said = (e : Event) × (said ≡ Ok e)
 
 and_false : (b : Bool) → (b && false) ≡ false
 and_false true = refl
 and_false false = refl
 
-event_says : (kind : Kind) (fs : List (List ℕ)) → Says (has_words kind fs) (has_numbers kind fs) (event_of kind fs)
-unfolding scan claim give look fill link flag tag splice
-event_says Sight [] = (event.Sight, refl)
-event_says Sight (a ∷ more) = refl
-event_says Announce [] = (event.Announce, refl)
-event_says Announce (a ∷ more) = refl
-event_says Leave [] = (event.Leave, refl)
-event_says Leave (a ∷ more) = refl
-event_says Scan [] = refl
-event_says Scan (a ∷ []) =
+op_gives : (f : List ℕ) → Gives reason.Fields (op_of f)
+op_gives f =
+    elim (cases_Bool (bytes_eq f (codes "has"))) [
+      | inl y ↦ inr (op.Has, rw y refl)
+      | inr h ↦ elim (cases_Bool (bytes_eq f (codes "insert"))) [
+        | inl y ↦ inr (op.Insert, rw (h, y) refl)
+        | inr i ↦ elim (cases_Bool (bytes_eq f (codes "delete"))) [ inl y ↦ inr (op.Delete, rw (h, i, y) refl) | inr d ↦ inl (rw (h, i, d) refl) ]
+      ]
+    ]
+
+answer_gives : (f : List ℕ) → Gives reason.Fields (answer_of f)
+answer_gives f =
+    elim (cases_Bool (bytes_eq f (codes "true"))) [
+      | inl y ↦ inr (true, rw y refl)
+      | inr n ↦ elim (cases_Bool (bytes_eq f (codes "false"))) [ inl y ↦ inr (false, rw (n, y) refl) | inr m ↦ inl (rw (n, m) refl) ]
+    ]
+
+event_says : (is_ordered : Bool) (kind : Kind) (fs : List (List ℕ)) → Says (has_words is_ordered kind fs) (has_numbers is_ordered kind fs) (has_key is_ordered kind fs) (event_of is_ordered kind fs)
+unfolding sight_for leave_with scan claim give look fill link flag tag splice
+event_says true Sight [] = (event.Sight, refl)
+event_says true Sight (a ∷ []) = rw (and_false (is_ok (op_of a))) refl
+event_says true Sight (a ∷ b ∷ []) =
+    elim (op_gives a) [
+      | inl e ↦ rw e refl
+      | inr xa ↦ elim (number_gives b) [
+        | inl e ↦ rw (xa.1, e) refl
+        | inr xb ↦ elim (cases_Bool (is_key xb.0)) [ inl y ↦ rw (xa.1, xb.1, y) (event.SightFor xa.0 xb.0, refl) | inr n ↦ rw (xa.1, xb.1, n) refl ]
+      ]
+    ]
+event_says true Sight (a ∷ b ∷ z ∷ more) = rw (and_false (is_ok (op_of a))) refl
+event_says false Sight [] = (event.Sight, refl)
+event_says false Sight (a ∷ more) = refl
+event_says is_ordered Announce [] = (event.Announce, refl)
+event_says is_ordered Announce (a ∷ more) = refl
+event_says true Leave [] = (event.Leave, refl)
+event_says true Leave (a ∷ []) =
+    elim (answer_gives a) [
+      | inl e ↦ rw e refl
+      | inr xa ↦ rw (xa.1) (event.LeaveWith xa.0, refl)
+    ]
+event_says true Leave (a ∷ z ∷ more) = rw (and_false (is_ok (answer_of a))) refl
+event_says false Leave [] = (event.Leave, refl)
+event_says false Leave (a ∷ more) = refl
+event_says is_ordered Scan [] = refl
+event_says is_ordered Scan (a ∷ []) =
     elim (place_gives a) [
       | inl e ↦ rw (e) refl
       | inr xa ↦ rw (xa.1) (event.Scan xa.0, refl)
     ]
-event_says Scan (a ∷ z ∷ more) = refl
-event_says Advance [] = (event.Advance, refl)
-event_says Advance (a ∷ more) = refl
-event_says Claim [] = refl
-event_says Claim (a ∷ []) =
+event_says is_ordered Scan (a ∷ z ∷ more) = refl
+event_says is_ordered Advance [] = (event.Advance, refl)
+event_says is_ordered Advance (a ∷ more) = refl
+event_says is_ordered Claim [] = refl
+event_says is_ordered Claim (a ∷ []) =
     elim (place_gives a) [
       | inl e ↦ rw (e) refl
       | inr xa ↦ rw (xa.1) (event.Claim xa.0, refl)
     ]
-event_says Claim (a ∷ z ∷ more) = refl
-event_says Give [] = refl
-event_says Give (a ∷ []) =
+event_says is_ordered Claim (a ∷ z ∷ more) = refl
+event_says is_ordered Give [] = refl
+event_says is_ordered Give (a ∷ []) =
     elim (place_gives a) [
       | inl e ↦ rw (e) refl
       | inr xa ↦ rw (xa.1) (event.Give xa.0, refl)
     ]
-event_says Give (a ∷ z ∷ more) = refl
-event_says Look [] = refl
-event_says Look (a ∷ []) = refl
-event_says Look (a ∷ b ∷ []) =
+event_says is_ordered Give (a ∷ z ∷ more) = refl
+event_says is_ordered Look [] = refl
+event_says is_ordered Look (a ∷ []) = refl
+event_says is_ordered Look (a ∷ b ∷ []) =
     elim (field_gives b) [
       | inl e ↦ rw (e) refl
       | inr xb ↦ elim (place_gives a) [
@@ -117,11 +155,11 @@ event_says Look (a ∷ b ∷ []) =
         | inr xa ↦ rw (xb.1, xa.1) (event.Look xa.0 xb.0, refl)
       ]
     ]
-event_says Look (a ∷ b ∷ z ∷ more) = rw (and_false (is_ok (node_field b))) refl
-event_says Fill [] = refl
-event_says Fill (a ∷ []) = refl
-event_says Fill (a ∷ b ∷ []) = rw (and_false (is_ok (node_field b))) refl
-event_says Fill (a ∷ b ∷ c ∷ []) =
+event_says is_ordered Look (a ∷ b ∷ z ∷ more) = rw (and_false (is_ok (node_field b))) refl
+event_says is_ordered Fill [] = refl
+event_says is_ordered Fill (a ∷ []) = refl
+event_says is_ordered Fill (a ∷ b ∷ []) = rw (and_false (is_ok (node_field b))) refl
+event_says is_ordered Fill (a ∷ b ∷ c ∷ []) =
     elim (field_gives b) [
       | inl e ↦ rw (e) refl
       | inr xb ↦ elim (place_gives a) [
@@ -132,12 +170,12 @@ event_says Fill (a ∷ b ∷ c ∷ []) =
         ]
       ]
     ]
-event_says Fill (a ∷ b ∷ c ∷ z ∷ more) = rw (and_false (is_ok (node_field b))) refl
-event_says Link [] = refl
-event_says Link (a ∷ []) = refl
-event_says Link (a ∷ b ∷ []) = rw (and_false (is_ok (side_of b))) refl
-event_says Link (a ∷ b ∷ c ∷ []) = rw (and_false (is_ok (side_of b))) refl
-event_says Link (a ∷ b ∷ c ∷ d ∷ []) =
+event_says is_ordered Fill (a ∷ b ∷ c ∷ z ∷ more) = rw (and_false (is_ok (node_field b))) refl
+event_says is_ordered Link [] = refl
+event_says is_ordered Link (a ∷ []) = refl
+event_says is_ordered Link (a ∷ b ∷ []) = rw (and_false (is_ok (side_of b))) refl
+event_says is_ordered Link (a ∷ b ∷ c ∷ []) = rw (and_false (is_ok (side_of b))) refl
+event_says is_ordered Link (a ∷ b ∷ c ∷ d ∷ []) =
     elim (side_gives b) [
       | inl e ↦ rw (e) refl
       | inr xb ↦ elim (place_gives a) [
@@ -151,11 +189,11 @@ event_says Link (a ∷ b ∷ c ∷ d ∷ []) =
         ]
       ]
     ]
-event_says Link (a ∷ b ∷ c ∷ d ∷ z ∷ more) = rw (and_false (is_ok (side_of b))) refl
-event_says Flag [] = refl
-event_says Flag (a ∷ []) = refl
-event_says Flag (a ∷ b ∷ []) = rw (and_false (is_ok (side_of b))) refl
-event_says Flag (a ∷ b ∷ c ∷ []) =
+event_says is_ordered Link (a ∷ b ∷ c ∷ d ∷ z ∷ more) = rw (and_false (is_ok (side_of b))) refl
+event_says is_ordered Flag [] = refl
+event_says is_ordered Flag (a ∷ []) = refl
+event_says is_ordered Flag (a ∷ b ∷ []) = rw (and_false (is_ok (side_of b))) refl
+event_says is_ordered Flag (a ∷ b ∷ c ∷ []) =
     elim (side_gives b) [
       | inl e ↦ rw (e) refl
       | inr xb ↦ elim (place_gives a) [
@@ -166,10 +204,10 @@ event_says Flag (a ∷ b ∷ c ∷ []) =
         ]
       ]
     ]
-event_says Flag (a ∷ b ∷ c ∷ z ∷ more) = rw (and_false (is_ok (side_of b))) refl
-event_says Tag [] = refl
-event_says Tag (a ∷ []) = refl
-event_says Tag (a ∷ b ∷ []) =
+event_says is_ordered Flag (a ∷ b ∷ c ∷ z ∷ more) = rw (and_false (is_ok (side_of b))) refl
+event_says is_ordered Tag [] = refl
+event_says is_ordered Tag (a ∷ []) = refl
+event_says is_ordered Tag (a ∷ b ∷ []) =
     elim (side_gives b) [
       | inl e ↦ rw (e) refl
       | inr xb ↦ elim (place_gives a) [
@@ -177,13 +215,13 @@ event_says Tag (a ∷ b ∷ []) =
         | inr xa ↦ rw (xb.1, xa.1) (event.Tag xa.0 xb.0, refl)
       ]
     ]
-event_says Tag (a ∷ b ∷ z ∷ more) = rw (and_false (is_ok (side_of b))) refl
-event_says Splice [] = refl
-event_says Splice (a ∷ []) = refl
-event_says Splice (a ∷ b ∷ []) = rw (and_false (is_ok (side_of b))) refl
-event_says Splice (a ∷ b ∷ c ∷ []) = rw (and_false (is_ok (side_of b))) refl
-event_says Splice (a ∷ b ∷ c ∷ d ∷ []) = rw (and_false (is_ok (side_of b))) refl
-event_says Splice (a ∷ b ∷ c ∷ d ∷ e ∷ []) =
+event_says is_ordered Tag (a ∷ b ∷ z ∷ more) = rw (and_false (is_ok (side_of b))) refl
+event_says is_ordered Splice [] = refl
+event_says is_ordered Splice (a ∷ []) = refl
+event_says is_ordered Splice (a ∷ b ∷ []) = rw (and_false (is_ok (side_of b))) refl
+event_says is_ordered Splice (a ∷ b ∷ c ∷ []) = rw (and_false (is_ok (side_of b))) refl
+event_says is_ordered Splice (a ∷ b ∷ c ∷ d ∷ []) = rw (and_false (is_ok (side_of b))) refl
+event_says is_ordered Splice (a ∷ b ∷ c ∷ d ∷ e ∷ []) =
     elim (side_gives b) [
       | inl e ↦ rw (e) refl
       | inr xb ↦ elim (side_gives e) [
@@ -200,7 +238,7 @@ event_says Splice (a ∷ b ∷ c ∷ d ∷ e ∷ []) =
         ]
       ]
     ]
-event_says Splice (a ∷ b ∷ c ∷ d ∷ e ∷ z ∷ more) = rw (and_false (is_ok (side_of e)), and_false (is_ok (side_of b))) refl
+event_says is_ordered Splice (a ∷ b ∷ c ∷ d ∷ e ∷ z ∷ more) = rw (and_false (is_ok (side_of e)), and_false (is_ok (side_of b))) refl
 
 -- ---- a line
 
@@ -217,65 +255,74 @@ or_true : (b : Bool) → (b || true) ≡ true
 or_true true = refl
 or_true false = refl
 
--- an event was read, and its worker is judged
-worker_least : (workers : ℕ) (a k : List ℕ) (fs : List (List ℕ)) (kind : Kind) (e : Event) → list_all is_field (a ∷ k ∷ fs) ≡ true → kind_of k ≡ Ok kind → has_words kind fs ≡ true → has_numbers kind fs ≡ true
-    → reason_in (with_worker workers a e) ≡ find (holds_of workers false (a ∷ k ∷ fs)) line_reasons
-worker_least workers a k fs kind e formed is words numbers =
+-- what is wrong with a worker, before a key that is too great
+worker_least : (header : Header) (a k : List ℕ) (fs : List (List ℕ)) (kind : Kind) (event : Result Event Reason) → list_all is_field (a ∷ k ∷ fs) ≡ true → kind_of k ≡ Ok kind → has_words header.is_ordered kind fs ≡ true → has_numbers header.is_ordered kind fs ≡ true
+    → (fine : Bool) → has_key header.is_ordered kind fs ≡ fine → Says true true fine event
+    → reason_in (with_worker (worker_of header.layout.workers a) event) ≡ find (holds_of header false (a ∷ k ∷ fs)) line_reasons
+worker_least header a k fs kind event formed is words numbers true key said =
     let two : nat_lt (length (a ∷ k ∷ fs)) 2 ≡ false = le-ltb (length (a ∷ k ∷ fs)) 2 (omega arith) in
     elim (place_gives a) [
-      | inl p ↦ rw (formed, two, is, words, numbers, p) refl
-      | inr x ↦ elim (cases_Bool (nat_lt x.0 workers)) [ inl y ↦ rw (formed, two, is, words, numbers, x.1, y) refl | inr n ↦ rw (formed, two, is, words, numbers, x.1, n) refl ]
+      | inl p ↦ rw (said.1, formed, two, is, words, numbers, p) refl
+      | inr x ↦ elim (cases_Bool (nat_lt x.0 header.layout.workers)) [ inl y ↦ rw (said.1, formed, two, is, words, numbers, key, x.1, y) refl | inr n ↦ rw (said.1, formed, two, is, words, numbers, key, x.1, n) refl ]
+    ]
+worker_least header a k fs kind event formed is words numbers false key said =
+    let two : nat_lt (length (a ∷ k ∷ fs)) 2 ≡ false = le-ltb (length (a ∷ k ∷ fs)) 2 (omega arith) in
+    elim (place_gives a) [
+      | inl p ↦ rw (said, formed, two, is, words, numbers, p) refl
+      | inr x ↦ elim (cases_Bool (nat_lt x.0 header.layout.workers)) [ inl y ↦ rw (said, formed, two, is, words, numbers, key, x.1, y) refl | inr n ↦ rw (said, formed, two, is, words, numbers, key, x.1, n) refl ]
     ]
 
-event_least : (workers : ℕ) (a k : List ℕ) (fs : List (List ℕ)) (kind : Kind) (words numbers : Bool) → list_all is_field (a ∷ k ∷ fs) ≡ true → kind_of k ≡ Ok kind → has_words kind fs ≡ words → has_numbers kind fs ≡ numbers → Says words numbers (event_of kind fs)
-    → reason_in (event_of kind fs >>= with_worker workers a) ≡ find (holds_of workers false (a ∷ k ∷ fs)) line_reasons
-event_least workers a k fs kind false numbers formed is words numeric said =
+event_least : (header : Header) (a k : List ℕ) (fs : List (List ℕ)) (kind : Kind) (event : Result Event Reason) (words numbers : Bool) → list_all is_field (a ∷ k ∷ fs) ≡ true → kind_of k ≡ Ok kind → has_words header.is_ordered kind fs ≡ words → has_numbers header.is_ordered kind fs ≡ numbers
+    → Says words numbers (has_key header.is_ordered kind fs) event
+    → reason_in (with_worker (worker_of header.layout.workers a) event) ≡ find (holds_of header false (a ∷ k ∷ fs)) line_reasons
+event_least header a k fs kind event false numbers formed is words numeric said =
     let two : nat_lt (length (a ∷ k ∷ fs)) 2 ≡ false = le-ltb (length (a ∷ k ∷ fs)) 2 (omega arith) in
     rw (said, formed, two, is, words) refl
-event_least workers a k fs kind true false formed is words numeric said =
+event_least header a k fs kind event true false formed is words numeric said =
     let two : nat_lt (length (a ∷ k ∷ fs)) 2 ≡ false = le-ltb (length (a ∷ k ∷ fs)) 2 (omega arith) in
     rw (said, formed, two, is, words, numeric, or_true) refl
-event_least workers a k fs kind true true formed is words numeric said =
-    rw (said.1) (worker_least workers a k fs kind said.0 formed is words numeric)
+event_least header a k fs kind event true true formed is words numeric said =
+    worker_least header a k fs kind event formed is words numeric (has_key header.is_ordered kind fs) refl said
 
-entry_least : (workers : ℕ) (fs : List (List ℕ)) → list_all is_field fs ≡ true → reason_in (entry_of workers fs) ≡ find (holds_of workers false fs) line_reasons
+entry_least : (header : Header) (fs : List (List ℕ)) → list_all is_field fs ≡ true → reason_in (entry_of header fs) ≡ find (holds_of header false fs) line_reasons
 unfolding entry_of
-entry_least workers [] formed = refl
-entry_least workers (a ∷ []) formed = rw formed refl
-entry_least workers (a ∷ k ∷ fs) formed =
+entry_least header [] formed = refl
+entry_least header (a ∷ []) formed = rw formed refl
+entry_least header (a ∷ k ∷ fs) formed =
     let two : nat_lt (length (a ∷ k ∷ fs)) 2 ≡ false = le-ltb (length (a ∷ k ∷ fs)) 2 (omega arith) in
+    let o = header.is_ordered in
     elim (found_gives (find (λ kind. bytes_eq k (word kind)) kinds)) [
       | inl e ↦ rw (e, formed, two) refl
-      | inr x ↦ let e = event_least workers a k fs x.0 (has_words x.0 fs) (has_numbers x.0 fs) formed x.1 refl refl (event_says x.0 fs) in rw (x.1) (rw (x.1) at e)
+      | inr x ↦ let e = event_least header a k fs x.0 (event_of o x.0 fs) (has_words o x.0 fs) (has_numbers o x.0 fs) formed x.1 refl refl (event_says o x.0 fs) in rw (x.1) (rw (x.1) at e)
     ]
 
-fields_least : (workers : ℕ) (long : Bool) (fs : List (List ℕ)) → reason_in (if long then Err reason.Long else if list_all is_field fs then entry_of workers fs else Err reason.Form) ≡ find (holds_of workers long fs) line_reasons
-fields_least workers true fs = refl
-fields_least workers false fs =
+fields_least : (header : Header) (long : Bool) (fs : List (List ℕ)) → reason_in (if long then Err reason.Long else if list_all is_field fs then entry_of header fs else Err reason.Form) ≡ find (holds_of header long fs) line_reasons
+fields_least header true fs = refl
+fields_least header false fs =
     elim (cases_Bool (list_all is_field fs)) [
-      | inl y ↦ let e = entry_least workers fs y in rw y (rw y at e)
+      | inl y ↦ let e = entry_least header fs y in rw y (rw y at e)
       | inr n ↦ rw n refl
     ]
 
-pub line_least : (workers number : ℕ) (line : List ℕ) → reason_of (checked number line (line_of workers line)) ≡ find (holds workers number line) line_reasons
-line_least workers number line = reason_at number _ ∙ fields_least workers (is_long number line) (fields line)
+pub line_least : (header : Header) (number : ℕ) (line : List ℕ) → reason_of (checked number line (line_of header line)) ≡ find (holds header number line) line_reasons
+line_least header number line = reason_at number _ ∙ fields_least header (is_long number line) (fields line)
 
 -- ---- the first line
 
-layout_said : (limits : Limits) (nodes workers : List ℕ) → layout_by limits nodes workers ≡ (count nodes >>= λ n. count workers >>= λ w. layout_within limits n w)
-unfolding layout_by
-layout_said limits nodes workers = refl
+header_said : (limits : Limits) (nodes workers : List ℕ) → header_by limits nodes workers ≡ (count nodes >>= λ n. count workers >>= λ w. header_within limits n w)
+unfolding header_by
+header_said limits nodes workers = refl
 
-layout_least : (command version nodes workers : List ℕ) (limits : Limits) → limits_of command version ≡ Ok limits
-    → reason_in (layout_by limits nodes workers) ≡ find (header_holds_of false (command ∷ version ∷ nodes ∷ workers ∷ [])) header_reasons
-layout_least command version nodes workers limits named =
+two_least : (command version nodes workers : List ℕ) (limits : Limits) → limits_of command version ≡ Ok limits
+    → reason_in (header_by limits nodes workers) ≡ find (header_holds_of false (command ∷ version ∷ nodes ∷ workers ∷ [])) header_reasons
+two_least command version nodes workers limits named =
     elim (number_gives nodes) [
-      | inl e ↦ rw (layout_said, named, e) refl
+      | inl e ↦ rw (header_said, named, e) refl
       | inr n ↦ elim (number_gives workers) [
-        | inl e ↦ rw (layout_said, named, n.1, e) refl
+        | inl e ↦ rw (header_said, named, n.1, e) refl
         | inr w ↦ elim (cases_Bool (not_within 7 limits.nodes n.0)) [
-          | inl y ↦ rw (layout_said, named, n.1, w.1, y) refl
-          | inr y ↦ elim (cases_Bool (not_within 1 limits.workers w.0)) [ inl z ↦ rw (layout_said, named, n.1, w.1, y, z) refl | inr z ↦ rw (layout_said, named, n.1, w.1, y, z) refl ]
+          | inl y ↦ rw (header_said, named, n.1, w.1, y) refl
+          | inr y ↦ elim (cases_Bool (not_within 1 limits.workers w.0)) [ inl z ↦ rw (header_said, named, n.1, w.1, y, z) refl | inr z ↦ rw (header_said, named, n.1, w.1, y, z) refl ]
         ]
       ]
     ]
@@ -284,10 +331,13 @@ limits_gives : (command version : List ℕ) → Gives reason.Header (limits_of c
 limits_gives command version =
     elim (cases_Bool (bytes_eq command (codes "schedule"))) [
       | inl y ↦ elim (cases_Bool (bytes_eq version (codes "1"))) [
-        | inl first ↦ inr (record { nodes = 65536; workers = 32 }, rw (y, first) refl)
+        | inl first ↦ inr (record { nodes = 65536; workers = 32; is_ordered = false }, rw (y, first) refl)
         | inr not_first ↦ elim (cases_Bool (bytes_eq version (codes "2"))) [
-          | inl second ↦ inr (record { nodes = 1048576; workers = 64 }, rw (y, not_first, second) refl)
-          | inr none ↦ inl (rw (y, not_first, none) refl)
+          | inl second ↦ inr (record { nodes = 1048576; workers = 64; is_ordered = false }, rw (y, not_first, second) refl)
+          | inr not_second ↦ elim (cases_Bool (bytes_eq version (codes "3"))) [
+            | inl third ↦ inr (record { nodes = 1048576; workers = 64; is_ordered = true }, rw (y, not_first, not_second, third) refl)
+            | inr none ↦ inl (rw (y, not_first, not_second, none) refl)
+          ]
         ]
       ]
       | inr n ↦ inl (rw n refl)
@@ -302,7 +352,7 @@ header_least (a ∷ b ∷ c ∷ []) = refl
 header_least (a ∷ b ∷ c ∷ d ∷ []) =
     elim (limits_gives a b) [
       | inl e ↦ rw e refl
-      | inr l ↦ let e = layout_least a b c d l.0 l.1 in rw (l.1) (rw (l.1) at e)
+      | inr l ↦ let e = two_least a b c d l.0 l.1 in rw (l.1) (rw (l.1) at e)
     ]
 header_least (a ∷ b ∷ c ∷ d ∷ e ∷ more) = refl
 

@@ -23,6 +23,7 @@ reason_number reason.Kind = 8
 reason_number reason.Fields = 9
 reason_number reason.Number = 10
 reason_number reason.Worker = 11
+reason_number reason.Key = 12
 
 -- more than 120 bytes, or a line numbered above 100,001
 abbrev pub is_long : ℕ → List ℕ → Bool

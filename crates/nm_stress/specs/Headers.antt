@@ -1,21 +1,22 @@
--- The first line of a schedule: its version, and how many nodes and workers it is for.
-use Rattle.std.specs.Prelude.{ℕ, List, [], ◌∷◌, codes, Bool, ◌||◌, nat_lt, Result, Ok, Err, if◌then◌else◌}
+-- The first line of a schedule: its version, how many nodes and workers it is for, and whether its core is ordered.
+use Rattle.std.specs.Prelude.{ℕ, List, [], ◌∷◌, codes, Bool, true, false, ◌||◌, nat_lt, Result, Ok, Err, if◌then◌else◌}
 use Rattle.std.specs.Str.{bytes_eq}
-use Rattle.nm_edge.specs.Layouts.{Layout}
 use Rattle.nm_stress.specs.declared.fault.Reason.{Reason}
 use Rattle.nm_stress.specs.declared.fault.Reason.TheVariants as reason
 use Rattle.nm_stress.specs.declared.header.Limits.{Limits}
+use Rattle.nm_stress.specs.declared.header.Header.{Header}
 use Rattle.nm_stress.specs.Chain.{◌>>=◌}
 use Rattle.nm_stress.specs.Lines.{number}
 
--- the sizes that a version of the format allows
+-- the sizes that a version of the format allows, and whether an ordered core plays it
 abbrev pub limits_by : List ℕ → Result Limits Reason
 limits_by version =
-    if bytes_eq version (codes "1") then Ok (record { nodes = 65536; workers = 32 })
-    else if bytes_eq version (codes "2") then Ok (record { nodes = 1048576; workers = 64 })
+    if bytes_eq version (codes "1") then Ok (record { nodes = 65536; workers = 32; is_ordered = false })
+    else if bytes_eq version (codes "2") then Ok (record { nodes = 1048576; workers = 64; is_ordered = false })
+    else if bytes_eq version (codes "3") then Ok (record { nodes = 1048576; workers = 64; is_ordered = true })
     else Err reason.Header
 
--- the sizes that a version of the command's format allows
+-- what a version of the command's format allows
 abbrev pub limits_of : List ℕ → List ℕ → Result Limits Reason
 limits_of command version = if bytes_eq command (codes "schedule") then limits_by version else Err reason.Header
 
@@ -33,19 +34,19 @@ abbrev pub not_within : ℕ → ℕ → ℕ → Bool
 not_within low high n = nat_lt n low || nat_lt high n
 
 -- 7 nodes or more, 1 worker or more, and no more than the version allows
-abbrev pub layout_within : Limits → ℕ → ℕ → Result Layout Reason
-layout_within limits nodes workers =
+abbrev pub header_within : Limits → ℕ → ℕ → Result Header Reason
+header_within limits nodes workers =
     if not_within 7 limits.nodes nodes then Err reason.Nodes
     else if not_within 1 limits.workers workers then Err reason.Workers
-    else Ok (record { nodes = nodes; workers = workers })
+    else Ok (record { layout = record { nodes = nodes; workers = workers }; is_ordered = limits.is_ordered })
 
-unfoldable pub layout_by : Limits → List ℕ → List ℕ → Result Layout Reason
-layout_by limits nodes workers = do
+unfoldable pub header_by : Limits → List ℕ → List ℕ → Result Header Reason
+header_by limits nodes workers = do
   nodes ← count nodes
   workers ← count workers
-  layout_within limits nodes workers
+  header_within limits nodes workers
 
 -- the header by its fields
-unfoldable pub header_of : List (List ℕ) → Result Layout Reason
-header_of (command ∷ version ∷ nodes ∷ workers ∷ []) = limits_of command version >>= λ limits. layout_by limits nodes workers
+unfoldable pub header_of : List (List ℕ) → Result Header Reason
+header_of (command ∷ version ∷ nodes ∷ workers ∷ []) = limits_of command version >>= λ limits. header_by limits nodes workers
 header_of _ = Err reason.Header

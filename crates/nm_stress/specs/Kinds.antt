@@ -1,5 +1,5 @@
--- The kinds of event: the word and the arguments of each.
-use Rattle.std.specs.Prelude.{◌≡◌, ℕ, List, [], ◌∷◌, codes, Result, Ok, Err, if◌then◌else◌}
+-- The kinds of event: the word and the arguments of each. In an ordered file a sight and a leave may have arguments.
+use Rattle.std.specs.Prelude.{◌≡◌, ℕ, ◌^◌, ◌-◌, List, [], ◌∷◌, codes, Bool, true, false, nat_le, Result, Ok, Err, if◌then◌else◌}
 use Rattle.std.specs.List.{find}
 use Rattle.std.specs.Option.{ok_or}
 use Rattle.std.specs.Str.{bytes_eq}
@@ -7,6 +7,8 @@ use Rattle.nm_core.specs.declared.event.Event.{Event}
 use Rattle.nm_core.specs.declared.event.Event.TheVariants as event
 use Rattle.nm_core.specs.declared.event.Field.{Field}
 use Rattle.nm_core.specs.declared.event.Field.TheVariants as field
+use Rattle.nm_core.specs.declared.event.Op.{Op}
+use Rattle.nm_core.specs.declared.event.Op.TheVariants as op
 use Rattle.nm_edge.specs.declared.edge.Side.{Side}
 use Rattle.nm_edge.specs.declared.edge.Side.TheVariants as side
 use Rattle.nm_stress.specs.declared.fault.Reason.{Reason}
@@ -56,6 +58,31 @@ side_of given =
     else if bytes_eq given (codes "right") then Ok side.Right
     else Err reason.Fields
 
+-- an operation of the set
+abbrev pub op_of : List ℕ → Result Op Reason
+op_of given =
+    if bytes_eq given (codes "has") then Ok op.Has
+    else if bytes_eq given (codes "insert") then Ok op.Insert
+    else if bytes_eq given (codes "delete") then Ok op.Delete
+    else Err reason.Fields
+
+-- the answer of an operation
+abbrev pub answer_of : List ℕ → Result Bool Reason
+answer_of given =
+    if bytes_eq given (codes "true") then Ok true
+    else if bytes_eq given (codes "false") then Ok false
+    else Err reason.Fields
+
+-- the set has keys up to 2^64 - 4
+abbrev pub is_key : ℕ → Bool
+is_key n = nat_le n (2 ^ 64 - 4)
+
+-- a key of the set
+abbrev pub key : List ℕ → Result ℕ Reason
+key field = do
+  n ← number field
+  if is_key n then Ok n else Err reason.Key
+
 -- so many arguments, and no others
 abbrev pub alone : List (List ℕ) → Event → Result Event Reason
 alone [] event = Ok event
@@ -87,6 +114,30 @@ Says view (Ok x) read = read ≡ Ok (view x)
 Says view (Err e) read = read ≡ Err e
 
 -- the event of each kind by its arguments: a wrong word is fault Fields, before any wrong number
+unfoldable pub sight_for : List (List ℕ) → Result Event Reason
+sight_for arguments = do
+  a ← two arguments
+  op ← op_of a.0
+  key ← key a.1
+  Ok (event.SightFor op key)
+
+unfoldable pub leave_with : List (List ℕ) → Result Event Reason
+leave_with arguments = do
+  a ← one arguments
+  answer ← answer_of a
+  Ok (event.LeaveWith answer)
+
+-- in an ordered file, a sight or a leave with arguments is one of an operation
+abbrev pub is_of_operation : Bool → List (List ℕ) → Bool
+is_of_operation is_ordered [] = false
+is_of_operation is_ordered (a ∷ more) = is_ordered
+
+abbrev pub sight : Bool → List (List ℕ) → Result Event Reason
+sight is_ordered arguments = if is_of_operation is_ordered arguments then sight_for arguments else alone arguments event.Sight
+
+abbrev pub leave : Bool → List (List ℕ) → Result Event Reason
+leave is_ordered arguments = if is_of_operation is_ordered arguments then leave_with arguments else alone arguments event.Leave
+
 unfoldable pub scan : List (List ℕ) → Result Event Reason
 scan arguments = do
   a ← one arguments
@@ -154,18 +205,18 @@ splice arguments = do
   parent ← place a.3
   Ok (event.Splice ancestor end successor parent keep)
 
--- the event of a kind with these arguments
-abbrev pub event_of : Kind → List (List ℕ) → Result Event Reason
-event_of Sight arguments = alone arguments event.Sight
-event_of Announce arguments = alone arguments event.Announce
-event_of Leave arguments = alone arguments event.Leave
-event_of Scan arguments = scan arguments
-event_of Advance arguments = alone arguments event.Advance
-event_of Claim arguments = claim arguments
-event_of Give arguments = give arguments
-event_of Look arguments = look arguments
-event_of Fill arguments = fill arguments
-event_of Link arguments = link arguments
-event_of Flag arguments = flag arguments
-event_of Tag arguments = tag arguments
-event_of Splice arguments = splice arguments
+-- the event of a kind with these arguments, in a file that is ordered or not
+abbrev pub event_of : Bool → Kind → List (List ℕ) → Result Event Reason
+event_of is_ordered Sight arguments = sight is_ordered arguments
+event_of is_ordered Announce arguments = alone arguments event.Announce
+event_of is_ordered Leave arguments = leave is_ordered arguments
+event_of is_ordered Scan arguments = scan arguments
+event_of is_ordered Advance arguments = alone arguments event.Advance
+event_of is_ordered Claim arguments = claim arguments
+event_of is_ordered Give arguments = give arguments
+event_of is_ordered Look arguments = look arguments
+event_of is_ordered Fill arguments = fill arguments
+event_of is_ordered Link arguments = link arguments
+event_of is_ordered Flag arguments = flag arguments
+event_of is_ordered Tag arguments = tag arguments
+event_of is_ordered Splice arguments = splice arguments

@@ -1,11 +1,12 @@
--- What the last state is told by: the ledger of each worker, the epoch, and how many slots stand where.
-use Rattle.std.specs.Prelude.{ℕ, zero, suc, List, [], ◌∷◌, ◌++◌, codes, decimal, Option, Some, None}
+-- What the last state is told by: the ledger of each worker, the epoch, how many slots stand where, and in an ordered file the keys of the set.
+use Rattle.std.specs.Prelude.{ℕ, Bool, true, false, zero, suc, List, [], ◌∷◌, ◌++◌, codes, decimal, Option, Some, None}
 use Rattle.nm_edge.specs.declared.node.NodeId.{NodeId}
 use Rattle.nm_core.specs.declared.ledger.Queued.{Queued}
 use Rattle.nm_core.specs.declared.ledger.Ledger.{Ledger}
 use Rattle.nm_core.specs.Runs.{State}
-use Rattle.nm_core.specs.Reports.{ledger_of, counts}
+use Rattle.nm_core.specs.Reports.{ledger_of, counts, keys}
 use Rattle.nm_core.specs.declared.places.Places.{Places}
+use Rattle.nm_stress.specs.declared.header.Header.{Header}
 use Rattle.nm_stress.specs.Replies.{node, spaced_nodes}
 
 -- each node after a space, or a dash where there is none
@@ -59,6 +60,25 @@ places_line p =
     ++ ((codes " reached " ++ decimal p.reached)
     ++ ((codes " queued " ++ decimal p.queued) ++ codes "\n")))
 
--- what a state of so many workers is told by
-unfoldable pub last_lines : ℕ → State → List ℕ
-last_lines workers s = workers_lines s workers ++ (epoch_line s.memory.epoch ++ places_line (counts s))
+-- each number after a space
+abbrev pub spaced_numbers : List ℕ → List ℕ
+spaced_numbers [] = []
+spaced_numbers (k ∷ ks) = (codes " " ++ decimal k) ++ spaced_numbers ks
+
+-- each number after a space, or a dash where there is none
+abbrev pub numbers : List ℕ → List ℕ
+numbers [] = codes " -"
+numbers (k ∷ ks) = spaced_numbers (k ∷ ks)
+
+-- the keys of the set from left to right
+abbrev pub keys_line : List ℕ → List ℕ
+keys_line ks = codes "keys" ++ (numbers ks ++ codes "\n")
+
+-- the line of the keys, in an ordered file alone
+abbrev pub keys_line_in : Bool → State → List ℕ
+keys_line_in true s = keys_line (keys s)
+keys_line_in false s = []
+
+-- what the last state of a file with that header is told by
+unfoldable pub last_lines : Header → State → List ℕ
+last_lines header s = workers_lines s header.layout.workers ++ (epoch_line s.memory.epoch ++ (places_line (counts s) ++ keys_line_in header.is_ordered s))

@@ -2,7 +2,8 @@
 use Rattle.std.specs.Prelude.{ℕ, List, [], ◌∷◌, ◌++◌, drop, codes, Option, Result, Ok, Err}
 use Rattle.std.specs.Io.KnownBytes.{Appends}
 use Rattle.nm_core.specs.declared.trace.Turn.{Turn}
-use Rattle.nm_core.specs.Runs.{start, after, trace}
+use Rattle.nm_core.specs.Ordered.{Configuration, opening_of, after_in, trace_in}
+use Rattle.nm_stress.specs.declared.header.Header.{Header}
 use Rattle.nm_stress.specs.Chain.{◌>>=◌}
 use Rattle.nm_stress.specs.Lines.{parts}
 use Rattle.nm_stress.specs.Files.{Fault}
@@ -16,9 +17,13 @@ lines_with [] turns = []
 lines_with (line ∷ lines) [] = []
 lines_with (line ∷ lines) (turn ∷ turns) = line ++ codes " = " ++ outcome turn.outcome ++ codes "\n" ++ lines_with lines turns
 
+-- the core that plays a file with that header, at its opening
+abbrev pub opening : Header → Configuration
+opening header = opening_of header.layout header.is_ordered
+
 -- what is written for a schedule whose lines from the second on are these
 abbrev pub text_of : Schedule → List (List ℕ) → List ℕ
-text_of s lines = lines_with lines (trace (start s.header) s.entries) ++ last_lines s.header.workers (after (start s.header) s.entries)
+text_of s lines = lines_with lines (trace_in (opening s.header) s.entries) ++ last_lines s.header (after_in (opening s.header) s.entries).state
 
 -- what is written for a file, or its first faulty line with the least reason
 abbrev pub output_of : List ℕ → Result (List ℕ) Fault

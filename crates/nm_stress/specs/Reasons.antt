@@ -1,13 +1,14 @@
 -- When each reason holds of a line, each for itself.
-use Rattle.std.specs.Prelude.{ℕ, List, [], ◌∷◌, length, drop, slice_index_or, Bool, true, false, not, ◌&&◌, ◌||◌, nat_lt, Option, Some, None, Result, Ok, Err, is_ok}
+use Rattle.std.specs.Prelude.{ℕ, List, [], ◌∷◌, length, drop, slice_index_or, Bool, true, false, not, ◌&&◌, ◌||◌, nat_lt, Option, Some, None, Result, Ok, Err, is_ok, if◌then◌else◌}
 use Rattle.std.specs.List.{list_all}
 use Rattle.nm_stress.specs.declared.fault.Reason.{Reason}
-use Rattle.nm_stress.specs.declared.fault.Reason.TheVariants.{Long, Header, Nodes, Workers, Form, Kind, Fields, Number, Worker}
+use Rattle.nm_stress.specs.declared.fault.Reason.TheVariants.{Long, Header, Nodes, Workers, Form, Kind, Fields, Number, Worker, Key}
 use Rattle.nm_stress.specs.declared.kind.Kind.{Kind as KindOf}
 use Rattle.nm_stress.specs.declared.kind.Kind.TheVariants.{Sight, Announce, Leave, Scan, Advance, Claim, Give, Look, Fill, Link, Flag, Tag, Splice}
 use Rattle.nm_stress.specs.Lines.{fields, is_field, number, place}
-use Rattle.nm_stress.specs.Kinds.{kind_of, node_field, side_of}
+use Rattle.nm_stress.specs.Kinds.{kind_of, node_field, side_of, op_of, answer_of, is_key, is_of_operation}
 use Rattle.nm_stress.specs.declared.header.Limits.{Limits}
+use Rattle.nm_stress.specs.declared.header.Header.{Header as HeaderOf}
 use Rattle.nm_stress.specs.Headers.{limits_of, not_within}
 use Rattle.nm_stress.specs.Files.{Fault, is_long}
 
@@ -31,6 +32,13 @@ a_field = record { is_word = λ f. is_ok (node_field f); is_number = λ f. true 
 abbrev pub a_side : Argument
 a_side = record { is_word = λ f. is_ok (side_of f); is_number = λ f. true }
 
+abbrev pub an_op : Argument
+an_op = record { is_word = λ f. is_ok (op_of f); is_number = λ f. true }
+
+abbrev pub an_answer : Argument
+an_answer = record { is_word = λ f. is_ok (answer_of f); is_number = λ f. true }
+
+-- the arguments of a kind but a sight and a leave
 abbrev pub arguments_of : KindOf → List Argument
 arguments_of Sight = []
 arguments_of Announce = []
@@ -53,11 +61,17 @@ each_passes passes [] (f ∷ fs) = false
 each_passes passes (a ∷ more) [] = false
 each_passes passes (a ∷ more) (f ∷ fs) = passes a f && each_passes passes more fs
 
-abbrev pub has_words : KindOf → List (List ℕ) → Bool
-has_words kind fs = each_passes (λ a f. a.is_word f) (arguments_of kind) fs
+-- what is asked of these arguments of a kind, in a file that is ordered or not
+abbrev pub asked_of : Bool → KindOf → List (List ℕ) → List Argument
+asked_of is_ordered Sight fs = if is_of_operation is_ordered fs then an_op ∷ a_value ∷ [] else []
+asked_of is_ordered Leave fs = if is_of_operation is_ordered fs then an_answer ∷ [] else []
+asked_of is_ordered kind fs = arguments_of kind
 
-abbrev pub has_numbers : KindOf → List (List ℕ) → Bool
-has_numbers kind fs = each_passes (λ a f. a.is_number f) (arguments_of kind) fs
+abbrev pub has_words : Bool → KindOf → List (List ℕ) → Bool
+has_words is_ordered kind fs = each_passes (λ a f. a.is_word f) (asked_of is_ordered kind fs) fs
+
+abbrev pub has_numbers : Bool → KindOf → List (List ℕ) → Bool
+has_numbers is_ordered kind fs = each_passes (λ a f. a.is_number f) (asked_of is_ordered kind fs) fs
 
 -- ---- a line
 
@@ -73,22 +87,28 @@ worker_field fs = slice_index_or fs 0 []
 abbrev pub kind_field : List (List ℕ) → List ℕ
 kind_field fs = slice_index_or fs 1 []
 
-abbrev pub holds_of : ℕ → Bool → List (List ℕ) → Reason → Bool
-holds_of workers long fs Long = long
-holds_of workers long fs Form = not (list_all is_field fs) || nat_lt (length fs) 2
-holds_of workers long fs Kind = not (is_ok (kind_of (kind_field fs)))
-holds_of workers long fs Fields = fails_at (λ kind. has_words kind (drop 2 fs)) (kind_of (kind_field fs))
-holds_of workers long fs Number = not (is_ok (place (worker_field fs))) || fails_at (λ kind. has_numbers kind (drop 2 fs)) (kind_of (kind_field fs))
-holds_of workers long fs Worker = fails_at (λ w. nat_lt w workers) (place (worker_field fs))
-holds_of workers long fs _ = false
+-- the number that a sight names for a key is none of the set's
+abbrev pub has_key : Bool → KindOf → List (List ℕ) → Bool
+has_key is_ordered Sight (op ∷ key ∷ []) = not is_ordered || not (fails_at is_key (number key))
+has_key is_ordered kind fs = true
 
--- the reason holds of the line of this number, in a schedule for so many workers
-abbrev pub holds : ℕ → ℕ → List ℕ → Reason → Bool
-holds workers number line = holds_of workers (is_long number line) (fields line)
+abbrev pub holds_of : HeaderOf → Bool → List (List ℕ) → Reason → Bool
+holds_of header long fs Long = long
+holds_of header long fs Form = not (list_all is_field fs) || nat_lt (length fs) 2
+holds_of header long fs Kind = not (is_ok (kind_of (kind_field fs)))
+holds_of header long fs Fields = fails_at (λ kind. has_words header.is_ordered kind (drop 2 fs)) (kind_of (kind_field fs))
+holds_of header long fs Number = not (is_ok (place (worker_field fs))) || fails_at (λ kind. has_numbers header.is_ordered kind (drop 2 fs)) (kind_of (kind_field fs))
+holds_of header long fs Worker = fails_at (λ w. nat_lt w header.layout.workers) (place (worker_field fs))
+holds_of header long fs Key = fails_at (λ kind. has_key header.is_ordered kind (drop 2 fs)) (kind_of (kind_field fs))
+holds_of header long fs _ = false
+
+-- the reason holds of the line of this number, in a schedule with that header
+abbrev pub holds : HeaderOf → ℕ → List ℕ → Reason → Bool
+holds header number line = holds_of header (is_long number line) (fields line)
 
 -- those that a line but the first can have, in the order of their numbers
 abbrev pub line_reasons : List Reason
-line_reasons = Long ∷ Form ∷ Kind ∷ Fields ∷ Number ∷ Worker ∷ []
+line_reasons = Long ∷ Form ∷ Kind ∷ Fields ∷ Number ∷ Worker ∷ Key ∷ []
 
 -- ---- the first line
 

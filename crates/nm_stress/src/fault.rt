@@ -20,12 +20,14 @@ pub enum Reason {
     Form,
     /// The second field isn't a kind of event.
     Kind,
-    /// Another number of arguments than the kind has, or a word that names no field or side where one is asked.
+    /// Another number of arguments than the kind has, or a word that names none of the fields, sides, operations or answers where one is asked.
     Fields,
     /// A number that isn't in its one spelling, or above its range.
     Number,
     /// The line's worker isn't one of the header's.
     Worker,
+    /// The key of an operation is above those of the set.
+    Key,
 }
 
 impl Reason {
@@ -46,6 +48,7 @@ impl Reason {
             Reason::Fields => 9,
             Reason::Number => 10,
             Reason::Worker => 11,
+            Reason::Key => 12,
         }
     }
 }

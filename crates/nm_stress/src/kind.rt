@@ -5,8 +5,8 @@ ghost use Rattle.nm_stress.specs.Kinds as spec;
 
 use crate::fault::Reason;
 use crate::field::{number, place};
-use nm_core::{Event, Field};
-use nm_edge::Side;
+use nm_core::{Event, Field, Op};
+use nm_edge::{Key, Side};
 
 /// A kind of event.
 #[derive(Clone, Copy, Debug, PartialEq, Eq)]
@@ -65,14 +65,15 @@ impl Kind {
         }
     }
 
-    /// The event of this kind with these arguments. `Fields` comes before `Number`.
-    pub fn event(self, arguments: &[&[u8]]) -> Result<Event, Reason>
-        ensures { result ≡ spec.event_of self (map (λ f. f.now) arguments.now) }
+    /// The event of this kind with these arguments. In an ordered file a sight and a leave may be of an operation.
+    /// `Fields` comes before `Number`, and `Number` before `Key`.
+    pub fn event(self, is_ordered: bool, arguments: &[&[u8]]) -> Result<Event, Reason>
+        ensures { result ≡ spec.event_of is_ordered self (map (λ f. f.now) arguments.now) }
     {
         match self {
-            Kind::Sight => alone(arguments, Event::Sight),
+            Kind::Sight => sight(is_ordered, arguments),
             Kind::Announce => alone(arguments, Event::Announce),
-            Kind::Leave => alone(arguments, Event::Leave),
+            Kind::Leave => leave(is_ordered, arguments),
             Kind::Scan => scan(arguments),
             Kind::Advance => alone(arguments, Event::Advance),
             Kind::Claim => claim(arguments),
@@ -146,6 +147,57 @@ fn five<'a>(
     match arguments {
         [a, b, c, d, e] => Ok((a, b, c, d, e)),
         _ => Err(Reason::Fields),
+    }
+}
+
+#[tactic(auto, unfolding(crate::specs::Kinds::sight_for))]
+fn sight_for(arguments: &[&[u8]]) -> Result<Event, Reason>
+    ensures { result ≡ spec.sight_for (map (λ f. f.now) arguments.now) }
+{
+    let (op, key) = two(arguments)?;
+    let op = op_of(op)?;
+    let key = key_of(key)?;
+    Ok(Event::SightFor(op, key))
+}
+
+#[tactic(auto, unfolding(crate::specs::Kinds::leave_with))]
+fn leave_with(arguments: &[&[u8]]) -> Result<Event, Reason>
+    ensures { result ≡ spec.leave_with (map (λ f. f.now) arguments.now) }
+{
+    let answer = one(arguments)?;
+    let answer = answer_of(answer)?;
+    Ok(Event::LeaveWith(answer))
+}
+
+/// Tests that a sight or a leave is one of an operation.
+fn is_of_operation(is_ordered: bool, arguments: &[&[u8]]) -> bool
+    ensures { result ≡ spec.is_of_operation is_ordered (map (λ f. f.now) arguments.now) }
+{
+    match arguments {
+        [] => false,
+        _ => is_ordered,
+    }
+}
+
+/// A sight, or one of an operation where a file is ordered and arguments are given.
+fn sight(is_ordered: bool, arguments: &[&[u8]]) -> Result<Event, Reason>
+    ensures { result ≡ spec.sight is_ordered (map (λ f. f.now) arguments.now) }
+{
+    if is_of_operation(is_ordered, arguments) {
+        sight_for(arguments)
+    } else {
+        alone(arguments, Event::Sight)
+    }
+}
+
+/// A leave, or one with an answer where a file is ordered and arguments are given.
+fn leave(is_ordered: bool, arguments: &[&[u8]]) -> Result<Event, Reason>
+    ensures { result ≡ spec.leave is_ordered (map (λ f. f.now) arguments.now) }
+{
+    if is_of_operation(is_ordered, arguments) {
+        leave_with(arguments)
+    } else {
+        alone(arguments, Event::Leave)
     }
 }
 
@@ -265,6 +317,45 @@ fn node_field(given: &[u8]) -> Result<Field, Reason>
         b"right" => Ok(Field::Edge(Side::Right)),
         b"birth" => Ok(Field::Birth),
         _ => Err(Reason::Fields),
+    }
+}
+
+/// The operation of the set that a word names.
+fn op_of(given: &[u8]) -> Result<Op, Reason>
+    ensures { result ≡ spec.op_of given.now }
+{
+    if given == b"has".as_slice() {
+        Ok(Op::Has)
+    } else if given == b"insert".as_slice() {
+        Ok(Op::Insert)
+    } else if given == b"delete".as_slice() {
+        Ok(Op::Delete)
+    } else {
+        Err(Reason::Fields)
+    }
+}
+
+/// The answer that a word names.
+fn answer_of(given: &[u8]) -> Result<bool, Reason>
+    ensures { result ≡ spec.answer_of given.now }
+{
+    if given == b"true".as_slice() {
+        Ok(true)
+    } else if given == b"false".as_slice() {
+        Ok(false)
+    } else {
+        Err(Reason::Fields)
+    }
+}
+
+/// The key of the set that a field spells; above those of the set, `Key`.
+fn key_of(field: &[u8]) -> Result<Key, Reason>
+    ensures { result ≡ spec.key field.now }
+{
+    let n = number(field)?;
+    match Key::new(n) {
+        Some(key) => Ok(key),
+        None => Err(Reason::Key),
     }
 }
 

@@ -1,14 +1,15 @@
-//! The last lines: the ledger of each worker, the epoch, and how many slots stand where.
-ghost use Rattle.std.specs.Prelude.{◌≡◌, ◌<◌, ◌++◌, ℕ, List, codes, Some, IsSome, OnOk};
+//! The last lines: the ledger of each worker, the epoch, how many slots stand where, and in an ordered file the keys of the set.
+ghost use Rattle.std.specs.Prelude.{◌≡◌, ◌<◌, ◌++◌, ℕ, Bool, List, codes, Some, IsSome, OnOk};
 ghost use Rattle.nm_edge.specs.Layouts.{Layout};
 ghost use Rattle.nm_core.specs.declared.event.Event.{Event};
-ghost use Rattle.nm_core.specs.Runs.{start, after};
+ghost use Rattle.nm_core.specs.Ordered.{opening_of, after_in};
 ghost use Rattle.nm_core.specs.Reports.{ledger_of};
 ghost use Rattle.nm_stress.specs.LastLines as spec;
 
+use crate::header::Header;
 use crate::reply::{put_node, put_number, put_spaced_nodes};
 use nm_core::{Core, Ledger, Places, Queued};
-use nm_edge::NodeId;
+use nm_edge::{Key, NodeId};
 use std::alloc::AllocError;
 
 /// Appends each node after a space, or a dash where there is none.
@@ -125,17 +126,58 @@ fn put_places(out: &mut Vec<u8>, places: Places) -> Result<(), AllocError>
     out.extend_from_slice(b"\n")
 }
 
-/// Appends what the last state is told by, in a tree for so many workers.
-#[tactic(auto, unfolding(crate::specs::LastLines::last_lines))]
-pub fn put_last_lines(out: &mut Vec<u8>, workers: u32, core: &Core) -> Result<(), AllocError>
-    ensures { OnOk result (out.new.items ≡ out.old.items ++ spec.last_lines workers core.now.state) }
+/// Appends the keys, each after a space.
+fn put_spaced_keys(out: &mut Vec<u8>, keys: &[Key]) -> Result<(), AllocError>
+    ensures { OnOk result (out.new.items ≡ out.old.items ++ spec.spaced_numbers keys.now) }
 {
-    put_ledgers(out, workers, core)?;
-    put_epoch(out, core.epoch())?;
-    put_places(out, core.places())
+    for key in keys {
+        put_number(out, b" ", key.get())?;
+    }
+    Ok(())
 }
 
-/// Each worker of a tree has a ledger, whatever was done and by whom, so each has its three lines.
+/// Appends each key after a space, or a dash where there is none.
+fn put_keys(out: &mut Vec<u8>, keys: &[Key]) -> Result<(), AllocError>
+    ensures { OnOk result (out.new.items ≡ out.old.items ++ spec.numbers keys.now) }
+{
+    if keys.is_empty() {
+        return out.extend_from_slice(b" -");
+    }
+    put_spaced_keys(out, keys)
+}
+
+/// Appends the line of the keys of the set, from left to right.
+fn put_keys_line(out: &mut Vec<u8>, keys: &[Key]) -> Result<(), AllocError>
+    ensures { OnOk result (out.new.items ≡ out.old.items ++ spec.keys_line keys.now) }
+{
+    out.extend_from_slice(b"keys")?;
+    put_keys(out, keys)?;
+    out.extend_from_slice(b"\n")
+}
+
+/// Appends the line of the keys, in an ordered file alone.
+fn put_keys_in(out: &mut Vec<u8>, is_ordered: bool, core: &Core) -> Result<(), AllocError>
+    ensures { OnOk result (out.new.items ≡ out.old.items ++ spec.keys_line_in is_ordered core.now.state) }
+{
+    if !is_ordered {
+        return Ok(());
+    }
+    let keys = core.keys()?;
+    put_keys_line(out, keys.as_slice())
+}
+
+/// Appends what the last state of a file with that header is told by.
+#[tactic(auto, unfolding(crate::specs::LastLines::last_lines))]
+pub fn put_last_lines(out: &mut Vec<u8>, header: &Header, core: &Core) -> Result<(), AllocError>
+    ensures { OnOk result (out.new.items ≡ out.old.items ++ spec.last_lines header.now core.now.state) }
+{
+    put_ledgers(out, header.layout.workers(), core)?;
+    put_epoch(out, core.epoch())?;
+    put_places(out, core.places())?;
+    put_keys_in(out, header.is_ordered, core)
+}
+
+/// Each worker of a tree has a ledger, whatever was done and by whom, in an ordered core or not, so each has its three lines.
 pub fn each_worker_is_told()
-    ensures { (L : Layout) (turns : List (ℕ × Event)) (worker : ℕ) → worker < L.workers → IsSome (ledger_of (after (start L) turns) worker) }
+    ensures { (L : Layout) (is_ordered : Bool) (turns : List (ℕ × Event)) (worker : ℕ) → worker < L.workers → IsSome (ledger_of (after_in (opening_of L is_ordered) turns).state worker) }
 {}

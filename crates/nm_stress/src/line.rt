@@ -4,17 +4,17 @@ ghost use Rattle.std.specs.List.{find, list_all};
 ghost use Rattle.nm_stress.specs.Lines.{fields};
 ghost use Rattle.nm_stress.specs.Lines as lines;
 ghost use Rattle.nm_stress.specs.Files.{checked};
+ghost use Rattle.nm_stress.specs.declared.header.Header.{Header as HeaderOf};
 ghost use Rattle.nm_stress.specs.Reasons.{reason_of, holds, line_reasons, header_holds, header_reasons};
 ghost use Rattle.nm_stress.specs.Schedules as spec;
 
 use crate::fault::Reason;
 use crate::field::{is_field, place};
-use crate::header::header_of;
+use crate::header::{Header, header_of};
 use crate::kind::kind_of;
 use crate::pieces::cut;
 use arrayvec::ArrayVec;
 use nm_core::Event;
-use nm_edge::Layout;
 
 /// Tests that a line is fields with single spaces between.
 fn is_formed(line: &[u8]) -> bool
@@ -48,37 +48,61 @@ fn fields_of(line: &[u8]) -> ArrayVec<&[u8], 8>
     fields
 }
 
+/// The worker that a field spells, one of so many.
+fn worker_of(workers: u32, field: &[u8]) -> Result<u32, Reason>
+    ensures { result ≡ spec.worker_of workers field.now }
+{
+    let worker = place(field)?;
+    if worker < workers {
+        Ok(worker)
+    } else {
+        Err(Reason::Worker)
+    }
+}
+
+/// An event with its worker. What is wrong with the worker comes before a key that is too great, and after all else.
+fn with_worker(
+    worker: Result<u32, Reason>,
+    event: Result<Event, Reason>,
+) -> Result<(u32, Event), Reason>
+    ensures { result ≡ spec.with_worker worker event }
+{
+    match event {
+        Ok(event) => Ok((worker?, event)),
+        Err(Reason::Key) => {
+            worker?;
+            Err(Reason::Key)
+        }
+        Err(reason) => Err(reason),
+    }
+}
+
 /// The worker and the event of a line, by its fields.
 #[tactic(auto, unfolding(crate::specs::Schedules::entry_of))]
-fn entry_of(workers: u32, fields: &[&[u8]]) -> Result<(u32, Event), Reason>
-    ensures { result ≡ spec.entry_of workers (map (λ f. f.now) fields.now) }
+fn entry_of(header: &Header, fields: &[&[u8]]) -> Result<(u32, Event), Reason>
+    ensures { result ≡ spec.entry_of header.now (map (λ f. f.now) fields.now) }
 {
     match fields {
         [worker, kind, arguments @ ..] => {
-            let event = kind_of(kind)?.event(arguments)?;
-            let worker = place(worker)?;
-            if worker < workers {
-                Ok((worker, event))
-            } else {
-                Err(Reason::Worker)
-            }
+            let event = kind_of(kind)?.event(header.is_ordered, arguments);
+            with_worker(worker_of(header.layout.workers(), worker), event)
         }
         _ => Err(Reason::Form),
     }
 }
 
-/// The worker and the event that a line says, in a schedule for so many workers.
-pub fn line_of(workers: u32, line: &[u8]) -> Result<(u32, Event), Reason>
-    ensures { result ≡ spec.line_of workers line.now }
+/// The worker and the event that a line says, in a schedule with that header.
+pub fn line_of(header: &Header, line: &[u8]) -> Result<(u32, Event), Reason>
+    ensures { result ≡ spec.line_of header.now line.now }
 {
     if !is_formed(line) {
         return Err(Reason::Form);
     }
-    entry_of(workers, fields_of(line).as_slice())
+    entry_of(header, fields_of(line).as_slice())
 }
 
-/// How many nodes and workers the first line says.
-pub fn first_line_of(line: &[u8]) -> Result<Layout, Reason>
+/// What the first line says.
+pub fn first_line_of(line: &[u8]) -> Result<Header, Reason>
     ensures { result ≡ spec.first_line_of line.now }
 {
     header_of(fields_of(line).as_slice())
@@ -87,5 +111,5 @@ pub fn first_line_of(line: &[u8]) -> Result<Layout, Reason>
 /// The reason that is answered for a line is the first that holds of it in the order of their numbers, so the least; and a line is right exactly where none holds.
 pub fn least_reason()
     ensures first_line { (line : List ℕ) → reason_of (checked 1 line (spec.first_line_of line)) ≡ find (header_holds line) header_reasons }
-    ensures other_line { (workers number : ℕ) (line : List ℕ) → reason_of (checked number line (spec.line_of workers line)) ≡ find (holds workers number line) line_reasons }
+    ensures other_line { (header : HeaderOf) (number : ℕ) (line : List ℕ) → reason_of (checked number line (spec.line_of header line)) ≡ find (holds header number line) line_reasons }
 {}

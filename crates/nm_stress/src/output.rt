@@ -5,6 +5,7 @@ ghost use Rattle.nm_stress.specs.Replies.{outcome};
 ghost use Rattle.nm_stress.specs.LastLines.{last_lines};
 ghost use Rattle.nm_stress.specs.Output as spec;
 
+use crate::header::Header;
 use crate::last_lines::put_last_lines;
 use crate::pieces::cut;
 use crate::reply::put_outcome;
@@ -26,10 +27,10 @@ pub fn text_of(
     alloc: Global,
     body: &[u8],
     turns: &[Turn],
-    workers: u32,
+    header: &Header,
     core: &Core,
 ) -> Result<Vec<u8>, AllocError>
-    ensures { IfOk result (λ v. v.items ≡ spec.lines_with (parts body.now) turns.now ++ last_lines workers core.now.state) }
+    ensures { IfOk result (λ v. v.items ≡ spec.lines_with (parts body.now) turns.now ++ last_lines header.now core.now.state) }
 {
     let mut out = Vec::new(alloc);
     let mut rest = Some(body);
@@ -41,6 +42,6 @@ pub fn text_of(
         put_line(&mut out, line, turn)?;
         rest = after;
     }
-    put_last_lines(&mut out, workers, core)?;
+    put_last_lines(&mut out, header, core)?;
     Ok(out)
 }

@@ -1,9 +1,10 @@
 //! The commands, from a reader to a writer.
-ghost use Rattle.std.specs.Prelude.{◌≡◌, ◌≢◌, drop, Some, IfSome, OnOk, IfErr, IsOk};
+ghost use Rattle.std.specs.Prelude.{◌≡◌, ◌≢◌, drop, Some, IfSome, IfOk, OnOk, IfErr, IsOk};
 ghost use Rattle.nm_stress.specs.Files.{Gives, IfLine, HasJudged};
-ghost use Rattle.nm_stress.specs.Output.{output_of, Writes};
+ghost use Rattle.nm_stress.specs.Output.{opening, output_of, Writes};
 
 use crate::fault::RunFault;
+use crate::header::Header;
 use crate::output::text_of;
 use crate::schedule::schedule_of;
 use crate::stream::{LIMIT, input_of, write_text};
@@ -11,18 +12,31 @@ use nm_core::{Core, NewError};
 use std::alloc::Global;
 use std::io::{Read, Write};
 
+/// The core that plays a file with that header, at its opening.
+fn core_of(alloc: Global, header: &Header) -> Result<Core, RunFault>
+    ensures opening { IfOk result (λ core. core ≡ opening header.now) }
+    ensures err { IfErr result (λ e. e ≡ RunFault.NoMemory) }
+{
+    let nodes = header.layout.nodes();
+    let workers = header.layout.workers();
+    let made = if header.is_ordered {
+        Core::ordered(alloc, nodes, workers)
+    } else {
+        Core::new(alloc, nodes, workers)
+    };
+    match made {
+        Ok(core) => Ok(core),
+        Err(NewError::NoMemory) => Err(RunFault::NoMemory),
+        Err(NewError::Nodes | NewError::Workers) => unreachable!(),
+    }
+}
+
 /// What is written for the bytes of a file.
-#[tactic(auto, using(crate::proofs::PlainLemmas::plain_trace, crate::proofs::PlainLemmas::plain_state))]
 fn output(alloc: Global, bytes: &[u8]) -> Result<Vec<u8>, RunFault>
     ensures { Gives (λ v. v.items) result (output_of bytes.now) }
 {
     let schedule = schedule_of(alloc, bytes)?;
-    let layout = schedule.layout;
-    let mut core = match Core::new(alloc, layout.nodes(), layout.workers()) {
-        Ok(core) => core,
-        Err(NewError::NoMemory) => return Err(RunFault::NoMemory),
-        Err(NewError::Nodes | NewError::Workers) => unreachable!(),
-    };
+    let mut core = core_of(alloc, &schedule.header)?;
     let trace = match core.run(schedule.events) {
         Ok(trace) => trace,
         Err(_) => return Err(RunFault::NoMemory),
@@ -31,7 +45,7 @@ fn output(alloc: Global, bytes: &[u8]) -> Result<Vec<u8>, RunFault>
         alloc,
         schedule.body,
         trace.as_slice(),
-        layout.workers(),
+        &schedule.header,
         &core,
     ) {
         Ok(text) => Ok(text),
@@ -40,7 +54,8 @@ fn output(alloc: Global, bytes: &[u8]) -> Result<Vec<u8>, RunFault>
 }
 
 /// Plays the schedule that the reader gives, and writes each of its lines with what the event was answered,
-/// and then what the last state is told by: each worker's ledger, the epoch, and how many slots stand where.
+/// and then what the last state is told by: each worker's ledger, the epoch, how many slots stand where,
+/// and in an ordered file the keys of the set.
 ///
 /// Everything is read before a line is checked, and nothing is written before all lines are checked and run.
 /// An event that the core refuses is written with the number of the refusal, and is no fault.

@@ -6,16 +6,16 @@ ghost use Rattle.nm_stress.specs.Files as files;
 ghost use Rattle.nm_stress.specs.Schedules as spec;
 
 use crate::fault::{Reason, RunFault};
+use crate::header::Header;
 use crate::line::{first_line_of, line_of};
 use crate::pieces::cut;
 use nm_core::Event;
-use nm_edge::Layout;
 use std::alloc::Global;
 
 /// What a file of events says, and the bytes after its first line.
 #[derive(Drop)]
 pub struct Schedule<'a> {
-    pub layout: Layout,
+    pub header: Header,
     pub events: Vec<(u32, Event)>,
     pub body: &'a [u8],
 }
@@ -47,34 +47,34 @@ fn cut_off(number: u32, line: &[u8]) -> RunFault
     }
 }
 
-fn layout_at(line: &[u8]) -> Result<Layout, RunFault>
-    ensures { Gives (λ l. l) result (checked 1 line.now (spec.first_line_of line.now)) }
+fn header_at(line: &[u8]) -> Result<Header, RunFault>
+    ensures { Gives (λ h. h) result (checked 1 line.now (spec.first_line_of line.now)) }
 {
     if is_long(1, line) {
         return Err(fault(1, Reason::Long));
     }
     match first_line_of(line) {
-        Ok(layout) => Ok(layout),
+        Ok(header) => Ok(header),
         Err(reason) => Err(fault(1, reason)),
     }
 }
 
-fn event_at(number: u32, workers: u32, line: &[u8]) -> Result<(u32, Event), RunFault>
-    ensures says { Gives (λ e. e) result (checked number line.now (spec.line_of workers line.now)) }
+fn event_at(number: u32, header: &Header, line: &[u8]) -> Result<(u32, Event), RunFault>
+    ensures says { Gives (λ e. e) result (checked number line.now (spec.line_of header.now line.now)) }
     ensures number { OnOk result (number ≤ 100001) }
 {
     if is_long(number, line) {
         return Err(fault(number, Reason::Long));
     }
-    match line_of(workers, line) {
+    match line_of(header, line) {
         Ok(event) => Ok(event),
         Err(reason) => Err(fault(number, reason)),
     }
 }
 
 /// The events of the lines from the second on.
-fn events_of(alloc: Global, workers: u32, body: &[u8]) -> Result<Vec<(u32, Event)>, RunFault>
-    ensures { Gives (λ v. v.items) result (entries_from (spec.line_of workers) 2 (parts body.now)) }
+fn events_of(alloc: Global, header: &Header, body: &[u8]) -> Result<Vec<(u32, Event)>, RunFault>
+    ensures { Gives (λ v. v.items) result (entries_from (spec.line_of header.now) 2 (parts body.now)) }
 {
     let mut events = Vec::new(alloc);
     let mut rest = body;
@@ -87,7 +87,7 @@ fn events_of(alloc: Global, workers: u32, body: &[u8]) -> Result<Vec<(u32, Event
             }
             return Err(cut_off(number, line));
         };
-        let event = event_at(number, workers, line)?;
+        let event = event_at(number, header, line)?;
         events.push(event).map_err(|_| RunFault::NoMemory)?;
         rest = after;
         number += 1;
@@ -96,17 +96,17 @@ fn events_of(alloc: Global, workers: u32, body: &[u8]) -> Result<Vec<(u32, Event
 
 /// What the bytes of a file say.
 pub fn schedule_of(alloc: Global, bytes: &[u8]) -> Result<Schedule<'_>, RunFault>
-    ensures says { Gives (λ s. record { header = s.layout; entries = s.events.items }) result (spec.schedule_of bytes.now) }
+    ensures says { Gives (λ s. record { header = s.header; entries = s.events.items }) result (spec.schedule_of bytes.now) }
     ensures body { IfOk result (λ s. drop 1 (parts bytes.now) ≡ parts s.body.now) }
 {
     let (line, body) = cut(bytes, b'\n');
     let Some(body) = body else {
         return Err(cut_off(1, line));
     };
-    let layout = layout_at(line)?;
-    let events = events_of(alloc, layout.workers(), body)?;
+    let header = header_at(line)?;
+    let events = events_of(alloc, &header, body)?;
     Ok(Schedule {
-        layout,
+        header,
         events,
         body,
     })

@@ -8,7 +8,7 @@ use Rattle.nm_stress.proofs.schedule.events_of.Given as goal
 abbrev pub invariant-loop-after : goal.invariant-loop-after
 invariant-loop-after l = record {
   number : l.number ≤ 100002;
-  told : with_front l.events.items (entries_from (line_of l.workers) l.number (parts l.rest)) ≡ entries_from (line_of l.workers) 2 (parts l.body);
+  told : with_front l.events.items (entries_from (line_of l.header) l.number (parts l.rest)) ≡ entries_from (line_of l.header) 2 (parts l.body);
 }
 
 abbrev pub decreases-loop-after : goal.decreases-loop-after
