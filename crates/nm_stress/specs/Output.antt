@@ -1,7 +1,11 @@
 -- What is written for a file.
-use Rattle.std.specs.Prelude.{ℕ, List, [], ◌∷◌, ◌++◌, drop, codes, Option, Result, Ok, Err}
+use Rattle.std.specs.Prelude.{◌≡◌, ℕ, false, List, [], ◌∷◌, ◌++◌, drop, codes, Option, Result, Ok, Err}
 use Rattle.std.specs.Io.KnownBytes.{Appends}
 use Rattle.nm_core.specs.declared.trace.Turn.{Turn}
+use Rattle.nm_edge.specs.Layouts.{Layout}
+use Rattle.nm_core.specs.declared.event.Event.{Event}
+use Rattle.nm_core.specs.Runs.{State, start, after, trace}
+use Rattle.nm_core.specs.Reports.{counts}
 use Rattle.nm_core.specs.Ordered.{Configuration, opening_of, after_in, trace_in}
 use Rattle.nm_stress.specs.declared.header.Header.{Header}
 use Rattle.nm_stress.specs.Chain.{◌>>=◌}
@@ -9,7 +13,7 @@ use Rattle.nm_stress.specs.Lines.{parts}
 use Rattle.nm_stress.specs.Files.{Fault}
 use Rattle.nm_stress.specs.Schedules.{Schedule, schedule_of}
 use Rattle.nm_stress.specs.Replies.{outcome}
-use Rattle.nm_stress.specs.LastLines.{last_lines}
+use Rattle.nm_stress.specs.LastLines.{workers_lines, epoch_line, places_line, last_lines}
 
 -- each line with what its event was answered
 abbrev pub lines_with : List (List ℕ) → List Turn → List ℕ
@@ -24,6 +28,15 @@ opening header = opening_of header.layout header.is_ordered
 -- what is written for a schedule whose lines from the second on are these
 abbrev pub text_of : Schedule → List (List ℕ) → List ℕ
 text_of s lines = lines_with lines (trace_in (opening s.header) s.entries) ++ last_lines s.header (after_in (opening s.header) s.entries).state
+
+-- what the last state of a file that is not ordered is told by
+abbrev pub plain_lines : ℕ → State → List ℕ
+plain_lines workers s = workers_lines s workers ++ (epoch_line s.memory.epoch ++ places_line (counts s))
+
+-- a file that is not ordered is told by a run of states, without a line of keys
+abbrev pub PlainFilesAreRuns : Type 0
+PlainFilesAreRuns = (L : Layout) (ts : List (ℕ × Event)) (lines : List (List ℕ))
+    → text_of (record { header = record { layout = L; is_ordered = false }; entries = ts }) lines ≡ lines_with lines (trace (start L) ts) ++ plain_lines L.workers (after (start L) ts)
 
 -- what is written for a file, or its first faulty line with the least reason
 abbrev pub output_of : List ℕ → Result (List ℕ) Fault

@@ -38,7 +38,7 @@ an_op = record { is_word = λ f. is_ok (op_of f); is_number = λ f. true }
 abbrev pub an_answer : Argument
 an_answer = record { is_word = λ f. is_ok (answer_of f); is_number = λ f. true }
 
--- the arguments of a kind but a sight and a leave
+-- the arguments of each kind, where it is of no operation
 abbrev pub arguments_of : KindOf → List Argument
 arguments_of Sight = []
 arguments_of Announce = []
@@ -87,7 +87,7 @@ worker_field fs = slice_index_or fs 0 []
 abbrev pub kind_field : List (List ℕ) → List ℕ
 kind_field fs = slice_index_or fs 1 []
 
--- the number that a sight names for a key is none of the set's
+-- what a sight of an operation names for a key is one of the set's, where it is a number
 abbrev pub has_key : Bool → KindOf → List (List ℕ) → Bool
 has_key is_ordered Sight (op ∷ key ∷ []) = not is_ordered || not (fails_at is_key (number key))
 has_key is_ordered kind fs = true

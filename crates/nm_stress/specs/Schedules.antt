@@ -1,4 +1,4 @@
--- A schedule: the sizes of a tree, and events of workers in their order.
+-- A schedule: a header, and events of workers in their order.
 use Rattle.std.specs.Prelude.{ℕ, List, ◌∷◌, Result, Ok, Err, nat_lt, if◌then◌else◌}
 use Rattle.std.specs.List.{list_all}
 use Rattle.nm_core.specs.declared.event.Event.{Event}

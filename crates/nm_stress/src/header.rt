@@ -23,6 +23,17 @@ pub struct Header {
     pub is_ordered: bool,
 }
 
+/// As many nodes and workers as a layout can have.
+fn greatest(is_ordered: bool) -> Limits
+    ensures { result ≡ record { nodes = MOST_NODES; workers = MOST_WORKERS; is_ordered = is_ordered } }
+{
+    Limits {
+        nodes: MOST_NODES,
+        workers: MOST_WORKERS,
+        is_ordered,
+    }
+}
+
 /// The limits of a version of the format: of 1, 65,536 nodes and 32 workers; of 2 and 3, as many as a layout can have. An ordered core plays 3.
 fn limits_by(version: &[u8]) -> Result<Limits, Reason>
     ensures limits { result ≡ spec.limits_by version.now }
@@ -35,17 +46,9 @@ fn limits_by(version: &[u8]) -> Result<Limits, Reason>
             is_ordered: false,
         })
     } else if version == b"2".as_slice() {
-        Ok(Limits {
-            nodes: MOST_NODES,
-            workers: MOST_WORKERS,
-            is_ordered: false,
-        })
+        Ok(greatest(false))
     } else if version == b"3".as_slice() {
-        Ok(Limits {
-            nodes: MOST_NODES,
-            workers: MOST_WORKERS,
-            is_ordered: true,
-        })
+        Ok(greatest(true))
     } else {
         Err(Reason::Header)
     }

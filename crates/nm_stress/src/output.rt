@@ -45,3 +45,8 @@ pub fn text_of(
     put_last_lines(&mut out, header, core)?;
     Ok(out)
 }
+
+/// A file that is not ordered, of version 1 or 2, is told by a run of states, each event answered as a plain core answers it, and has no line of keys.
+pub fn plain_files_are_runs()
+    ensures { spec.PlainFilesAreRuns }
+{}

@@ -30,6 +30,11 @@ fn largest_trees(rt: HostRuntime) {
             64,
             "places pool 1048571 private 0 reached 0 queued 0\n",
         ),
+        (
+            "schedule 3 1048576 64\n",
+            64,
+            "places pool 1048571 private 0 reached 0 queued 0\nkeys -\n",
+        ),
     ] {
         let played = play(&rt, Source::new(header.as_bytes()), Sink::new());
         assert!(rt; played.result.is_ok(), "at {header:?}");
