@@ -1,6 +1,6 @@
 -- The rows of the table `learn`, one by one. Proofs cite these, and leave the table itself closed.
-use Rattle.std.proofs.Common.{◌≡◌, ℕ, ◌==◌, Bool, true, List, [], cond, refl}
-use Rattle.std.specs.Prelude.{Option, Some, None}
+use Rattle.std.proofs.Common.{◌≡◌, ℕ, ◌==◌, Bool, true, List, cond, refl}
+use Rattle.std.specs.Prelude.{Option, Some}
 use Rattle.nm_edge.specs.Edges.{Edge, tagged}
 use Rattle.nm_edge.specs.declared.edge.Side.{Side}
 use Rattle.nm_edge.specs.declared.node.NodeId.{NodeId}

@@ -1,5 +1,5 @@
 -- What an ordered core keeps of a worker's call is what that worker's log tells.
-use Rattle.std.proofs.Common.{◌≡◌, ◌≢◌, ℕ, ◌<◌, ◌==◌, Bool, true, false, cond, List, [], ◌∷◌, ◌++◌, length, replicate, set, get_or, refl, sym, ap, subst, ◌∙◌, length-set, arith, Result, Ok, Err}
+use Rattle.std.proofs.Common.{◌≡◌, ℕ, ◌<◌, ◌==◌, Bool, true, false, cond, List, [], ◌∷◌, ◌++◌, length, replicate, set, get_or, refl, sym, ap, subst, ◌∙◌, length-set, Result, Ok, Err}
 use Rattle.std.specs.Prelude.{Option, Some, None, IfSome, option_map}
 use Rattle.std.proofs.lemmas.Bool.{eqb-true, eqb-false}
 use Rattle.std.proofs.lemmas.List.{get_or-replicate, get_or-set_same, get_or-set_other, length-replicate}
@@ -7,10 +7,9 @@ use Rattle.nm_edge.specs.Layouts.{Layout}
 use Rattle.nm_core.specs.declared.event.Event.{Event}
 use Rattle.nm_core.specs.declared.reply.Reply.{Reply}
 use Rattle.nm_core.specs.declared.reply.Refused.{Refused}
-use Rattle.nm_core.specs.declared.trace.Turn.{Turn}
 use Rattle.nm_core.specs.Searches.{Search, idle, searched}
 use Rattle.nm_core.specs.Walks.{Entry, entry_of, log_of, search_after}
-use Rattle.nm_core.specs.Runs.{State, reply_of}
+use Rattle.nm_core.specs.Runs.{reply_of}
 use Rattle.nm_core.specs.Ordered.{Configuration, ordered, search_of, learned_from, refused_in, applied_in, next_in, outcome_in, after_in, trace_in, SearchesTellTheLogs}
 use Rattle.nm_core.proofs.Configurations.{refused_next, refused_outcome, allowed_next, allowed_outcome}
 

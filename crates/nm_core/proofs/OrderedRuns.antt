@@ -1,6 +1,6 @@
 -- The headline of one run of any core: a turn that is refused may be told as any other refused one, so an ordered run is told as a plain run is.
-use Rattle.std.proofs.Common.{◌≡◌, ℕ, zero, suc, ◌+◌, ◌<◌, ◌≤◌, ◌==◌, Bool, true, false, cond, List, [], ◌∷◌, ◌++◌, length, take, get_or, refl, sym, ap, subst, ◌∙◌, arith}
-use Rattle.std.specs.Prelude.{◌↔◌, Option, Some, None, Result, Ok, Err, Contains, nat_le}
+use Rattle.std.proofs.Common.{◌≡◌, ℕ, zero, suc, ◌<◌, ◌==◌, Bool, true, false, cond, List, [], ◌∷◌, ◌++◌, length, take, get_or, refl, sym, ap, subst, ◌∙◌, arith}
+use Rattle.std.specs.Prelude.{Option, Some, None, Result, Ok, Err}
 use Rattle.std.proofs.lemmas.Bool.{le-leb}
 use Rattle.nm_edge.specs.declared.node.NodeId.{NodeId}
 use Rattle.nm_core.specs.declared.event.Event.{Event}
@@ -10,9 +10,9 @@ use Rattle.nm_core.specs.declared.reply.Reply.TheVariants.{Cut, Freed, Departed}
 use Rattle.nm_core.specs.declared.reply.Refused.{Refused}
 use Rattle.nm_core.specs.declared.reply.Refused.TheVariants.{NoWorker}
 use Rattle.nm_core.specs.declared.trace.Turn.{Turn}
-use Rattle.nm_core.specs.Runs.{State, of, refused, reply_of, applied, unless_refused, answered, next, outcome, after, trace, refusal_of}
+use Rattle.nm_core.specs.Runs.{State, of, refused, reply_of, applied, unless_refused, answered, next, outcome, after, trace}
 use Rattle.nm_core.specs.Ordered.{Configuration, refused_in, next_in, outcome_in, after_in, trace_in, IsReached}
-use Rattle.nm_core.specs.Laws.{nodes_cut_of, slots_of, cuts_of, left_by, HasLeft}
+use Rattle.nm_core.specs.Laws.{nodes_cut_of, cuts_of, left_by, HasLeft}
 use Rattle.nm_core.specs.Traces.{IsLawfulRun, EachTurnCutsItsNodes, LedgersGrowByTheCuts, GraceInRun}
 use Rattle.nm_core.proofs.LawfulRuns.{lawful_run}
 use Rattle.nm_core.proofs.Configurations.{refused_next, refused_outcome, allowed_state, allowed_outcome, state_outcome, reached_state}

@@ -1,21 +1,19 @@
 -- While a pin stands, what its search knows only grows.
-use Rattle.std.proofs.Common.{◌≡◌, ℕ, zero, suc, ◌+◌, ◌<◌, ◌==◌, Bool, true, false, cond, not, ◌&&◌, ◌||◌, List, [], ◌∷◌, ◌++◌, map, length, get_or, true≢false, refl, sym, ap, ◌∙◌, arith}
+use Rattle.std.proofs.Common.{◌≡◌, ℕ, zero, suc, ◌<◌, ◌==◌, Bool, true, false, cond, ◌&&◌, ◌||◌, List, [], ◌∷◌, ◌++◌, map, length, get_or, true≢false, refl, sym, arith}
 use Rattle.std.specs.Prelude.{Option, Some, None, is_none, Contains}
 use Rattle.std.specs.List.{list_any}
 use Rattle.std.proofs.lemmas.Bool.{cond_both, and_parts}
 use Rattle.std.proofs.lemmas.Option.{none-some}
 use Rattle.nm_edge.specs.declared.edge.Side.{Side}
-use Rattle.nm_edge.specs.declared.node.NodeId.{NodeId}
 use Rattle.nm_core.specs.declared.event.Field.{Field}
-use Rattle.nm_core.specs.declared.event.Field.TheVariants.{Key, Edge as EdgeOn, Birth}
-use Rattle.nm_core.specs.declared.event.Event.{Event}
-use Rattle.nm_core.specs.declared.event.Event.TheVariants.{Sight, SightFor, Announce, Leave, LeaveWith, Scan, Advance, Claim, Give, Look, Fill, Link, Flag, Tag, Splice, Join}
+use Rattle.nm_core.specs.declared.event.Field.TheVariants.{Key, Edge as EdgeOn}
+use Rattle.nm_core.specs.declared.event.Event.TheVariants.{Sight, SightFor, Leave, LeaveWith, Look, Link, Flag, Splice}
 use Rattle.nm_core.specs.declared.reply.Reply.{Reply}
 use Rattle.nm_core.specs.declared.reply.Reply.TheVariants.{Pinned, Departed, KeyIs, EdgeIs, Linked, Flagged, Cut}
 use Rattle.nm_core.specs.declared.walks.Call.{Call}
 use Rattle.nm_core.specs.declared.walks.Arrival.{Arrival}
 use Rattle.nm_core.specs.Searches.{Search, is_by, goes_on, is_first, new_arrival, with_arrival, keyed, ended, walk_edge, walked, is_flagged_in, look_for, searched}
-use Rattle.nm_core.specs.Walks.{GrowsTo, SearchGrows, SearchesOnlyGrow, begins_anew}
+use Rattle.nm_core.specs.Walks.{GrowsTo, SearchGrows, SearchesOnlyGrow}
 
 -- ---- lists of arrivals
 

@@ -1,5 +1,5 @@
 -- Ordered cores: links and flags only where a walk of the own call ended, and answers that the own log shows.
-use Rattle.std.specs.Prelude.{◌≡◌, ℕ, ◌<◌, ◌==◌, nat_lt, Bool, true, false, not, ◌&&◌, ◌||◌, List, [], ◌∷◌, if◌then◌else◌, replicate, filter, map, slice_index_or, slice_set, Option, Some, None, is_some, is_none, option_map, unwrap_or, is_ok, IfSome, Result, Ok, Err}
+use Rattle.std.specs.Prelude.{◌≡◌, ℕ, ◌<◌, ◌==◌, nat_lt, Bool, true, false, not, ◌&&◌, ◌||◌, List, [], ◌∷◌, if◌then◌else◌, replicate, filter, map, slice_index_or, slice_set, Option, Some, None, is_some, is_none, option_map, unwrap_or, is_ok, IfSome, Result}
 use Rattle.std.specs.List.{list_any}
 use Rattle.nm_edge.specs.Layouts.{Layout, IsLayout}
 use Rattle.nm_edge.specs.declared.edge.Side.{Side}

@@ -137,7 +137,7 @@ fn inserting(key: Key) -> [(u32, Event); 23] {
         (0, Event::Fill(7, Field::Edge(Side::Left), 0)),
         (0, Event::Fill(7, Field::Edge(Side::Right), 0)),
         (0, Event::Link(2, Side::Left, 3, 6)),
-        (0, Event::Fill(7, Field::Key, key.get())),
+        (0, Event::Fill(7, Field::Key, 5)),
         (0, Event::Link(2, Side::Left, 3, 6)),
         (0, Event::Leave),
         (0, Event::LeaveWith(false)),
@@ -295,18 +295,19 @@ fn an_insert_is_in_order(rt: HostRuntime) -> Result<(), Fail> {
     assert!(rt; matches!(turns[21].outcome, Err(Refused::NoAnswer)));
     assert!(rt; matches!(turns[22].outcome, Ok(Reply::Departed)));
     assert_eq!(rt; core.places().reached, 2);
-    assert_eq!(rt; core.keys()?.as_slice(), [key].as_slice());
+    assert_eq!(rt; core.keys()?.len(), 1);
+    assert!(rt; core.keys()?.iter().all(|key| key.get() == 5));
     Ok(())
 }
 
 #[test]
 fn a_delete_is_in_order(rt: HostRuntime) -> Result<(), Fail> {
-    let Some(key) = Key::new(5) else {
+    let (Some(inserted), Some(deleted)) = (Key::new(5), Key::new(5)) else {
         return Ok(());
     };
     let mut core = Core::ordered(rt.alloc(), 7, 1)?;
-    play(&rt, &mut core, &inserting(key))?;
-    let trace = core.run(listed(&rt, &deleting(key))?)?;
+    play(&rt, &mut core, &inserting(inserted))?;
+    let trace = core.run(listed(&rt, &deleting(deleted))?)?;
     let turns = trace.as_slice();
     assert_eq!(rt; turns.len(), 11);
     assert!(rt; matches!(turns[6].outcome, Err(Refused::NotOrdered)));
@@ -317,7 +318,8 @@ fn a_delete_is_in_order(rt: HostRuntime) -> Result<(), Fail> {
         )
     );
     assert!(rt; matches!(turns[10].outcome, Err(Refused::NotOrdered)));
-    assert_eq!(rt; core.keys()?.as_slice(), [key].as_slice());
+    assert_eq!(rt; core.keys()?.len(), 1);
+    assert!(rt; core.keys()?.iter().all(|key| key.get() == 5));
     assert!(rt;
         matches!(
             core.apply(0, Event::LeaveWith(true)),

@@ -1,4 +1,4 @@
-use Rattle.std.proofs.Common.{rules, get_or, refl}
+use Rattle.std.proofs.Common.{rules}
 use Rattle.std.proofs.lemmas.List.Edits.{map_over_more}
 use Rattle.nm_core.specs.Searches.{keyed}
 use Rattle.nm_core.proofs.walks.put_key.Goals as goal

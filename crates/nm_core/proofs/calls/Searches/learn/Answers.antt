@@ -1,4 +1,4 @@
-use Rattle.std.proofs.Common.{ap, sym, ◌∙◌, map, set, length}
+use Rattle.std.proofs.Common.{ap, sym, ◌∙◌, map, set}
 use Rattle.std.proofs.lemmas.List.{map-set, get_or-map}
 use Rattle.nm_core.specs.Searches.{Search, Roomy, idle, searched}
 use Rattle.nm_core.proofs.calls.Searches.learn.Goals as goal

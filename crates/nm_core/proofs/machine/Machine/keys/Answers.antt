@@ -1,5 +1,4 @@
-use Rattle.std.proofs.Common.{arith, ap, ◌∙◌, ◌++◌, rules}
-use Rattle.std.proofs.lemmas.Grind.{common_steps}
+use Rattle.std.proofs.Common.{ap, ◌∙◌, ◌++◌, rules}
 use Rattle.std.specs.Prelude.{option_to_list}
 use Rattle.nm_core.specs.Runs.{State}
 use Rattle.nm_core.proofs.SetKeys.{none_there, skipped, visited, whole, finished, popped_less, visited_less}
