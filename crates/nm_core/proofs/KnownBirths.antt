@@ -85,6 +85,10 @@ written_same m k w (Tag p d) x apart = edge_same m p d (tagged (edge m p d)) x
 written_same m k w (Splice a d s p keep) x apart = exchange_same m a d s (kept (read k p keep)) x
 written_same m k w e x apart = record { birth = refl; key = refl }
 
+-- a link changes no key
+pub written_keys : (m : Memory) (k : Knowledge) (w p : ℕ) (d : Side) (leaf new x : ℕ) → (node (exchanged m p d leaf (to new)) x).key ≡ (node m x).key
+written_keys m k w p d leaf new x = (exchange_same m p d leaf (to new) x).key
+
 -- ---- knowledge that holds no more births than before
 
 record NoMore (k l : Knowledge) : Type 0 where

@@ -66,12 +66,13 @@ pub mod OrderedWalks
 pub mod OrderedChanges
 pub mod OrderedLinks
 pub mod OrderedSteps
+pub mod SetKeys
+pub mod OrderedKeys
 pub mod OrderedLaws
 pub mod Reachable
 pub mod LawfulRuns
 pub mod Configurations
 pub mod OrderedRuns
-pub mod SetKeys
 pub mod WalksOfLogs
 pub mod LogsOfRuns
 pub mod SearchesGrow

@@ -1,28 +1,23 @@
 -- What each change of the tree leaves of its order: of each node's key in its interval, and of searches that go on from known slots.
-use Rattle.std.proofs.Common.{◌≡◌, ◌≢◌, ℕ, ◌+◌, ◌-◌, ◌^◌, ◌<◌, ◌≤◌, inl, inr, ◌⊎◌, eqb, ◌==◌, Bool, true, false, cond, not, ◌&&◌, List, [], ◌∷◌, ◌++◌, length, refl, sym, ap, subst, ◌∙◌, arith, true≢false}
-use Rattle.std.specs.Prelude.{Option, Some, None, is_some, unwrap_or, nat_lt, slice_get, Result}
-use Rattle.std.specs.List.{list_any}
+use Rattle.std.proofs.Common.{◌≡◌, ◌≢◌, ℕ, ◌<◌, ◌≤◌, true, List, [], ◌∷◌, sym, ap, subst, ◌∙◌, arith, true≢false}
+use Rattle.std.specs.Prelude.{nat_lt}
 use mathlib.Core.Path.{fun_ext}
-use native.Mathlib.Decide.{ℕ_discrete}
-use Rattle.std.proofs.lemmas.Bool.{cond_both, cond-true, cond-false, lt-ltb, eqb-true, and_parts, not-false, false_from_ne_true}
-use Rattle.std.proofs.lemmas.Option.{none-some, same_Some}
-use Rattle.nm_edge.specs.Edges.{Edge, to, other}
+use Rattle.std.proofs.lemmas.Bool.{cond-true, lt-ltb}
 use Rattle.nm_edge.specs.Keys.{IsKey}
 use Rattle.nm_edge.specs.declared.edge.Side.{Side}
 use Rattle.nm_edge.specs.declared.edge.Side.TheVariants.{Left, Right}
 use Rattle.nm_core.specs.declared.event.Event.{Event}
 use Rattle.nm_core.specs.declared.event.Event.TheVariants.{Link}
-use Rattle.nm_core.specs.Memory.{Memory, node, edge, child, infinity_1, infinity_2}
+use Rattle.nm_core.specs.Memory.{Memory, child, infinity_1, infinity_2}
 use Rattle.nm_core.specs.Knowledge.{knows, is_private}
 use Rattle.nm_core.specs.Paths.{follow}
 use Rattle.nm_core.specs.Runs.{State, of}
 use Rattle.nm_core.specs.Searches.{side_of}
 use Rattle.nm_core.specs.Intervals.{GoesBy, key}
 use Rattle.nm_core.proofs.Trees.{Children, Exchanged}
-use Rattle.nm_core.proofs.Searching.{Keys, Apart}
-use Rattle.nm_core.proofs.CutPaths.{Splicing}
+use Rattle.nm_core.proofs.Searching.{Keys}
 use Rattle.nm_core.proofs.OrderedTrees.{InOrder, Onward, Linking, order_spliced, onward_spliced, order_linked, onward_linked, order_apart, onward_apart}
-use Rattle.nm_core.proofs.Pictures.{IsLive, InReach, TreeLaw, below, alone, reached_live, null_below}
+use Rattle.nm_core.proofs.Pictures.{alone, reached_live, null_below}
 use Rattle.nm_core.proofs.Views.{picture}
 use Rattle.nm_core.proofs.Links.{IsLink}
 use Rattle.nm_core.proofs.TreeLink.{Linkable}

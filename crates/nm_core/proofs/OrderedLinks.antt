@@ -1,9 +1,8 @@
 -- A link that is in order: a walk of its call ended at the leaf, so the search for its key comes to the parent, and the new nodes are in order.
 use Rattle.std.proofs.Common.{◌≡◌, ◌≢◌, ℕ, ◌<◌, inl, inr, ◌⊎◌, ◌==◌, Bool, true, false, cond, not, ◌&&◌, List, [], ◌∷◌, ◌++◌, refl, sym, ap, subst, ◌∙◌, arith, true≢false}
-use Rattle.std.specs.Prelude.{Option, Some, None, unwrap_or, nat_lt, slice_get}
+use Rattle.std.specs.Prelude.{Option, Some, None, nat_lt, slice_get}
 use Rattle.std.specs.List.{list_any}
-use Rattle.std.proofs.lemmas.Bool.{cond-true, cond-false, ltb-true, ltb-false, eqb-true, eq-eqb, and_parts, false_from_ne_true}
-use Rattle.std.proofs.lemmas.Option.{same_Some}
+use Rattle.std.proofs.lemmas.Bool.{cond-false, ltb-true, ltb-false, eqb-true, eq-eqb, and_parts, false_from_ne_true}
 use Rattle.nm_edge.specs.Edges.{Edge, to, other}
 use Rattle.nm_edge.specs.Keys.{IsKey}
 use Rattle.nm_edge.specs.declared.edge.Side.{Side}
@@ -12,7 +11,7 @@ use Rattle.nm_core.specs.declared.knowledge.Draft.{Draft}
 use Rattle.nm_core.specs.declared.walks.Arrival.{Arrival}
 use Rattle.nm_core.specs.Maps.{is_number}
 use Rattle.nm_core.specs.Memory.{edge, child, infinity_1}
-use Rattle.nm_core.specs.Knowledge.{knows, draft_of, beside}
+use Rattle.nm_core.specs.Knowledge.{knows, draft_of}
 use Rattle.nm_core.specs.Paths.{follow}
 use Rattle.nm_core.specs.Runs.{State, of}
 use Rattle.nm_core.specs.Lawful.{BirthsStand}
@@ -23,7 +22,7 @@ use Rattle.nm_core.proofs.Trees.{Exchanged, follow-append}
 use Rattle.nm_core.proofs.OrderedTrees.{Linking}
 use Rattle.nm_core.proofs.OrderedWalks.{WalkLaw, CameFrom, any_at, is_side-true, turned}
 use Rattle.nm_core.proofs.OrderedWalks.CameFrom.{FromRoot, FromSlot}
-use Rattle.nm_core.proofs.Pictures.{IsOnPath, TreeLaw, alone, null_below}
+use Rattle.nm_core.proofs.Pictures.{IsOnPath, alone, null_below}
 use Rattle.nm_core.proofs.Splices.{live_on_path, unmarked_not_queued}
 use Rattle.nm_core.proofs.Views.{picture}
 use Rattle.nm_core.proofs.Links.{IsLink}
@@ -43,7 +42,7 @@ module _ (s : State) (h : ℕ → ℕ) (law : Lawful s h) (w : ℕ) (births : Bi
   leads : child s.memory p d ≡ leaf
   leads = ap (λ (e : Edge). e.slot) link.unmarked
 
-  far_key : key s.memory l.far ≡ k
+  pub far_key : key s.memory l.far ≡ k
   far_key = births.key l.far k (number_is (draft_of (of s w) l.far).key k (ap (λ (x : ℕ). is_number (draft_of (of s w) x).key k) (sym l.is_far) ∙ is_far_key))
 
   to_leaf : follow (child s.memory) 1 (on.path ++ d ∷ []) ≡ leaf

@@ -1,43 +1,42 @@
 -- The order law of a state with its searches, and that each event that is in order keeps it.
-use Rattle.std.proofs.Common.{◌≡◌, ◌≢◌, ℕ, ◌<◌, ◌≤◌, inl, inr, ◌⊎◌, eqb, ◌==◌, Bool, true, false, cond, not, ◌&&◌, ◌||◌, List, [], ◌∷◌, length, refl, sym, ap, subst, ◌∙◌, arith, true≢false, get_or-set_same, get_or-set_other}
-use Rattle.std.specs.Prelude.{Option, Some, None, is_some, is_none}
+use Rattle.std.proofs.Common.{◌≡◌, ◌≢◌, ℕ, ◌<◌, ◌≤◌, inl, inr, ◌⊎◌, eqb, ◌==◌, Bool, true, false, cond, not, ◌&&◌, List, [], length, refl, sym, ap, subst, ◌∙◌, arith, true≢false, get_or-set_same, get_or-set_other}
+use Rattle.std.specs.Prelude.{Option, Some, None}
 use Rattle.std.specs.List.{list_any}
 use native.Mathlib.Decide.{ℕ_discrete}
-use Rattle.std.proofs.lemmas.Bool.{cond_both, cond-true, cond-false, eqb-true, eqb-false, eq-eqb, ne_eqb, and_parts, or_parts, not-false, false_from_ne_true}
+use Rattle.std.proofs.lemmas.Bool.{cond_both, cond-true, cond-false, eqb-true, eq-eqb, ne_eqb, and_parts, not-false, false_from_ne_true}
 use Rattle.std.proofs.lemmas.List.{length-set}
-use Rattle.nm_edge.specs.Edges.{Edge}
 use Rattle.nm_edge.specs.Keys.{IsKey}
 use Rattle.nm_edge.specs.declared.edge.Side.{Side}
-use Rattle.nm_edge.specs.declared.edge.Side.TheVariants.{Left, Right}
+use Rattle.nm_edge.specs.declared.edge.Side.TheVariants.{Left}
 use Rattle.nm_core.specs.declared.event.Field.{Field}
 use Rattle.nm_core.specs.declared.event.Field.TheVariants.{Key, Edge as EdgeOn, Birth}
 use Rattle.nm_core.specs.declared.event.Op.{Op}
 use Rattle.nm_core.specs.declared.event.Op.TheVariants.{Has, Insert, Delete}
 use Rattle.nm_core.specs.declared.event.Event.{Event}
-use Rattle.nm_core.specs.declared.event.Event.TheVariants.{SightFor, Look, Link, Join}
+use Rattle.nm_core.specs.declared.event.Event.TheVariants.{Look, Link, Join}
 use Rattle.nm_core.specs.declared.reply.Reply.{Reply}
-use Rattle.nm_core.specs.declared.reply.Refused.{Refused}
-use Rattle.nm_core.specs.declared.reply.Refused.TheVariants.{NoSlot, NotPinned, NotHeld, NotOrdered}
+use Rattle.nm_core.specs.declared.reply.Refused.TheVariants.{NotOrdered}
 use Rattle.nm_core.specs.declared.knowledge.Seen.{Seen}
 use Rattle.nm_core.specs.declared.walks.Call.{Call}
 use Rattle.nm_core.specs.declared.walks.Arrival.{Arrival}
 use Rattle.nm_core.specs.declared.reply.Reply.TheVariants.{EdgeIs}
 use Rattle.nm_core.specs.Maps.{has, put, is_number}
-use Rattle.nm_core.specs.Memory.{Memory, child, edge, node}
-use Rattle.nm_core.specs.Knowledge.{Knowledge, knows, is_private, seen_of, draft_of, unread}
+use Rattle.nm_core.specs.Memory.{Memory, child, edge}
+use Rattle.nm_core.specs.Knowledge.{knows, is_private, seen_of, draft_of, unread}
 use Rattle.nm_core.specs.Learning.{learn, look_known, look_private, met, with_read, resigned, inheriting}
-use Rattle.nm_core.specs.Step.{outside, refusal, reply, write}
-use Rattle.nm_core.specs.Runs.{State, of, refusal_of, reply_of, applied}
+use Rattle.nm_core.specs.Step.{reply, write}
+use Rattle.nm_core.specs.Runs.{State, of, reply_of, applied}
 use Rattle.nm_core.specs.Lawful.{EachBirthStands}
-use Rattle.nm_core.specs.Searches.{Search, idle, searched, walked, look_for, is_first, goes_on, turns, walk_edge, is_side}
+use Rattle.nm_core.specs.Searches.{Search, idle, searched, walked, look_for, is_first, goes_on, turns, is_side}
 use Rattle.nm_core.specs.Ordered.{search_of, learned_from, disorder, inserts, links_in_order, may_link_at, new_leaf}
 use Rattle.nm_core.specs.Intervals.{HasKey, key}
-use Rattle.nm_core.proofs.Steps.{Allowed, passed, third}
+use Rattle.nm_core.proofs.Steps.{Allowed, passed}
 use Rattle.nm_core.proofs.Tables.{has_put_there}
-use Rattle.nm_core.proofs.Learned.{learn_look}
 use Rattle.nm_core.proofs.Epochs.{other_worker}
 use Rattle.nm_core.proofs.Holders.{Joins, joins, by_worker}
-use Rattle.nm_core.proofs.Views.{of_moved, with_worker}
+use Rattle.nm_core.proofs.Trees.{Children, Exchanged}
+use Rattle.nm_core.proofs.Links.{IsLink}
+use Rattle.nm_core.proofs.Views.{picture, of_moved, with_worker}
 use Rattle.nm_core.proofs.TreeLink.{Linkable}
 use Rattle.nm_core.proofs.TreeSteps.{Lawful}
 use Rattle.nm_core.proofs.Lawful.{applied_is, JoinOrNot, join_or_not}
@@ -48,7 +47,7 @@ use Rattle.nm_core.proofs.SearchSteps.{StillKnown, SearchStep, search_step}
 use Rattle.nm_core.proofs.SearchSteps.SearchStep.{Same, Looked, Begun, Over}
 use Rattle.nm_core.proofs.OrderedWalks.{WalkLaw, no_walks, walks_last, key_looked, edge_looked, any_at}
 use Rattle.nm_core.proofs.OrderedChanges.{FixedKeys, first_onward, Outlasts, AsksOrder, outlasts}
-use Rattle.nm_core.proofs.OrderedLinks.{linking_shown}
+use Rattle.nm_core.proofs.OrderedLinks.{far_key, linking_shown}
 
 -- the walks of a worker's call, by what it knows
 abbrev pub ForCall : Memory → (ℕ → Bool) → Option Call → List Arrival → Type 0
@@ -136,21 +135,39 @@ module _ (s : State) (h : ℕ → ℕ) (law : Lawful s h) (w : ℕ) where
 
   -- ---- one event
 
-  -- a link that is in order asks for the order of its keys
-  asks_order : EachBirthStands s → (e : Event) → (S : Search) → disorder (of s w) S e ≡ None → FixedKeys s.memory → ForCall s.memory (knows (of s w)) S.call S.walks → AsksOrder s h law w e
-  asks_order births e S ordered fixed walks p d leaf new is l link c' exchanged = by S.call refl walks (not-false (links_in_order (of s w) S S.call p d leaf new) (passed _ NotOrdered None (subst (λ (x : Event). disorder (of s w) S x ≡ None) is ordered)).0)
+  -- a link that is in order is one of a call to insert, whose key the new leaf has
+  pub record LinkOfCall (S : Search) (p : ℕ) (d : Side) (leaf new : ℕ) (l : Linkable (of s w) new leaf) (c' : Children) : Type 0 where
+    pub call : Call
+    pub is_call : S.call ≡ Some call
+    pub is_op : call.op ≡ Insert
+    pub is_key : key s.memory l.far ≡ call.key
+    pub linking : Linking (child s.memory) c' (key s.memory) p d leaf new l.far l.side
+
+  pub link_of_call : EachBirthStands s → (S : Search) (p : ℕ) (d : Side) (leaf new : ℕ) → disorder (of s w) S (Link p d leaf new) ≡ None → FixedKeys s.memory → ForCall s.memory (knows (of s w)) S.call S.walks → (l : Linkable (of s w) new leaf)
+      → IsLink s.layout.nodes (picture s h) w p d leaf new l.far l.side → (c' : Children) → Exchanged (child s.memory) c' p d new → LinkOfCall S p d leaf new l c'
+  link_of_call births S p d leaf new ordered fixed walks l link c' exchanged = by S.call refl walks (not-false (links_in_order (of s w) S S.call p d leaf new) (passed _ NotOrdered None ordered).0)
     where
-      by : (o : Option Call) → S.call ≡ o → ForCall s.memory (knows (of s w)) o S.walks → links_in_order (of s w) S o p d leaf new ≡ true → Linking (child s.memory) c' (key s.memory) p d leaf new l.far l.side
+      by : (o : Option Call) → S.call ≡ o → ForCall s.memory (knows (of s w)) o S.walks → links_in_order (of s w) S o p d leaf new ≡ true → LinkOfCall S p d leaf new l c'
       by None i walks t = absurd (true≢false (sym t))
-      by (Some call) i walks t = on call.op t
+      by (Some call) i walks t = on call.op refl t
         where
-          on : (op : Op) → inserts (of s w) S op call.key p d leaf new ≡ true → Linking (child s.memory) c' (key s.memory) p d leaf new l.far l.side
-          on Has t = absurd (true≢false (sym t))
-          on Delete t = absurd (true≢false (sym t))
-          on Insert t =
+          on : (op : Op) → call.op ≡ op → inserts (of s w) S op call.key p d leaf new ≡ true → LinkOfCall S p d leaf new l c'
+          on Has is t = absurd (true≢false (sym t))
+          on Delete is t = absurd (true≢false (sym t))
+          on Insert is t =
               let parts = and_parts (not S.linked) (is_number (new_leaf (of s w) leaf new).key call.key && list_any (may_link_at (draft_of (of s w) new) call.key p d leaf) S.walks) t in
               let rest = and_parts (is_number (new_leaf (of s w) leaf new).key call.key) (list_any (may_link_at (draft_of (of s w) new) call.key p d leaf) S.walks) parts.1 in
-              linking_shown s h law w (births w) call.key walks.0 fixed S.walks walks.1 p d leaf new l link rest.0 rest.1 c' exchanged
+              record {
+                call = call;
+                is_call = i;
+                is_op = is;
+                is_key = far_key s h law w (births w) call.key walks.0 fixed S.walks walks.1 p d leaf new l link rest.0;
+                linking = linking_shown s h law w (births w) call.key walks.0 fixed S.walks walks.1 p d leaf new l link rest.0 rest.1 c' exchanged;
+              }
+
+  asks_order : EachBirthStands s → (e : Event) → (S : Search) → disorder (of s w) S e ≡ None → FixedKeys s.memory → ForCall s.memory (knows (of s w)) S.call S.walks → AsksOrder s h law w e
+  asks_order births e S ordered fixed walks p d leaf new is l link c' exchanged =
+      (link_of_call births S p d leaf new (subst (λ (x : Event). disorder (of s w) S x ≡ None) is ordered) fixed walks l link c' exchanged).linking
 
   -- walks outlast an event by which no less is known
   last : (m : Memory) → Outlasts s h law m → (u : ℕ) (known : ℕ → Bool) → StillKnownBy (knows (of s u)) known → (call : Option Call) (ws : List Arrival) → ForCall s.memory (knows (of s u)) call ws → ForCall m known call ws

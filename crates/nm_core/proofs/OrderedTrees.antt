@@ -1,17 +1,16 @@
 -- Trees in order: each node's key lies in its interval, and searches from a slot that a search has come to. Both outlast a splice and a link.
 use Rattle.std.proofs.Common.{◌≡◌, ◌≢◌, ℕ, inl, inr, ◌⊎◌, eqb, Bool, true, false, ◌&&◌, List, [], ◌∷◌, ◌++◌, append-nil, refl, sym, ap, subst, ◌∙◌}
 use Rattle.std.specs.Prelude.{Option, Some, None}
-use Rattle.std.proofs.lemmas.Bool.{eqb-true, and_parts, ne_eqb, eq-eqb, and_left}
-use Rattle.std.proofs.lemmas.Option.{none-some}
+use Rattle.std.proofs.lemmas.Bool.{eqb-true, and_parts, ne_eqb, and_left}
 use Rattle.nm_edge.specs.Edges.{other}
 use Rattle.nm_edge.specs.declared.edge.Side.{Side}
 use Rattle.nm_edge.specs.declared.edge.Side.TheVariants.{Left, Right}
 use Rattle.nm_core.specs.Paths.{follow}
 use Rattle.nm_core.specs.Searches.{side_of}
 use Rattle.nm_core.specs.Intervals.{GoesBy}
-use Rattle.nm_core.proofs.Trees.{Children, Exchanged, rest_after, same_side, same_side-true, follow_none, follow-append, follow_leaf, not_taken, taken, Taken, append_cancel}
-use Rattle.nm_core.proofs.CutPaths.{Splicing, not_back, straight, new_down, below as below_kept, old_path, led, still_alone, down}
-use Rattle.nm_core.proofs.Searching.{Keys, goes-append, goes_first, goes_on, goes_still, went_still, GoesOver, goes_over, Apart, apart_follow, apart_goes, apart_went}
+use Rattle.nm_core.proofs.Trees.{Children, Exchanged, rest_after, same_side, follow_none, follow-append, follow_leaf, not_taken, taken, Taken, append_cancel}
+use Rattle.nm_core.proofs.CutPaths.{Splicing, not_back, straight, new_down, old_path, led, still_alone}
+use Rattle.nm_core.proofs.Searching.{Keys, goes-append, goes_first, goes_on, goes_still, went_still, GoesOver, goes_over, one_leaf, Apart, apart_follow, apart_goes, apart_went}
 
 -- the search for a reached node's key comes to it
 abbrev pub InOrder : Children → Keys → Type 0
@@ -320,3 +319,106 @@ module _ (c c' : Children) (v v' : Keys) (x : ℕ) (a : Apart c c' v v' x) (off 
       let from_root : follow c' 1 r ≡ follow c 1 r = apart_follow c c' v v' x a 1 off r in
       let child : c' (follow c z q) f ≡ c (follow c z q) f = a.edges (follow c z q) f (never q) in
       apart_goes c c' v v' x a k 1 off r (onward q r f (apart_went c c' v v' x a k z never q goes) (λ e. there (ap (λ (y : ℕ). c' y f) from_z ∙ (child ∙ e))) (sym from_root ∙ (same ∙ from_z)))
+
+-- ---- leaves
+
+-- a reached slot without children
+pub record LeafOf (c : Children) (x : ℕ) : Type 0 where
+  pub path : List Side
+  pub ends : follow c 1 path ≡ x
+  pub is_slot : x ≢ 0
+  pub null : (f : Side) → c x f ≡ 0
+
+module _ (c c' : Children) (v : Keys) (p : ℕ) (d : Side) (leaf new far : ℕ) (dl : Side) (l : Linking c c' v p d leaf new far dl) (some : new ≢ 0) (far_slot : far ≢ 0) where
+  -- the old leaf is under the new node
+  old_leaf : LeafOf c' leaf
+  old_leaf = record {
+    path = l.front ++ d ∷ dl ∷ [];
+    ends = leads_on c c' v p d leaf new far dl l (dl ∷ []) ∙ at_leaf c c' v p d leaf new far dl l;
+    is_slot = l.leaf_slot;
+    null = leaf_still c c' v p d leaf new far dl l;
+  }
+
+  -- and so is the new one
+  pub new_leaf : LeafOf c' far
+  new_leaf = record {
+    path = l.front ++ d ∷ other dl ∷ [];
+    ends = leads_on c c' v p d leaf new far dl l (other dl ∷ []) ∙ at_far c c' v p d leaf new far dl l;
+    is_slot = far_slot;
+    null = far_still c c' v p d leaf new far dl l;
+  }
+
+  -- a leaf stays one
+  pub leaf_stays : (x : ℕ) → LeafOf c x → LeafOf c' x
+  leaf_stays x was = go (rest_after c p d 1 was.path) refl
+    where
+      go : (o : Option (List Side)) → rest_after c p d 1 was.path ≡ o → LeafOf c' x
+      go None h = record {
+        path = was.path;
+        ends = not_taken c c' p d new l.exchanged 1 was.path h ∙ was.ends;
+        is_slot = was.is_slot;
+        null = λ f. unless_at c c' p d new x f l.exchanged (not_p c c' v p d leaf new far dl l x was.null) ∙ was.null f;
+      }
+      go (Some r) h = by r refl
+        where
+          t : Taken c c' p d new 1 was.path r
+          t = taken c c' p d new l.exchanged 1 was.path r h
+
+          ends : follow c leaf r ≡ x
+          ends = ap (λ (y : ℕ). follow c y r) (sym (ap (λ (y : ℕ). c y d) t.comes ∙ l.leads)) ∙ (sym (follow-append c 1 t.front (d ∷ r)) ∙ (sym (ap (follow c 1) t.is) ∙ was.ends))
+
+          by : (q : List Side) → q ≡ r → LeafOf c' x
+          by [] i = subst (LeafOf c') (ap (follow c leaf) i ∙ ends) old_leaf
+          by (e ∷ q) i = absurd (was.is_slot (sym ends ∙ (ap (follow c leaf) (sym i) ∙ follow_leaf c l.nothing leaf l.leaf_null e q)))
+
+  -- a leaf was one, but for the new one
+  pub leaf_was : (x : ℕ) → LeafOf c' x → LeafOf c x ⊎ (x ≡ far)
+  leaf_was x now = go (rest_after c p d 1 now.path) refl
+    where
+      back : (y : ℕ) → y ≢ p → (f : Side) → c' y f ≡ 0 → c y f ≡ 0
+      back y ne f none = sym (unless_at c c' p d new y f l.exchanged ne) ∙ none
+
+      apart : x ≢ p
+      apart e = some (sym l.exchanged.here ∙ (ap (λ (y : ℕ). c' y d) (sym e) ∙ now.null d))
+
+      go : (o : Option (List Side)) → rest_after c p d 1 now.path ≡ o → LeafOf c x ⊎ (x ≡ far)
+      go None h = inl (record {
+        path = now.path;
+        ends = sym (not_taken c c' p d new l.exchanged 1 now.path h) ∙ now.ends;
+        is_slot = now.is_slot;
+        null = λ f. back x apart f (now.null f);
+      })
+      go (Some r) h = by (below_new c c' v p d leaf new far dl l r (λ z. now.is_slot (sym now.ends ∙ (ends ∙ z))))
+        where
+          ends : follow c' 1 now.path ≡ follow c' new r
+          ends = (taken c c' p d new l.exchanged 1 now.path r h).leads
+
+          by : Below c c' v p d leaf new far dl l r → LeafOf c x ⊎ (x ≡ far)
+          by (Itself is) =
+              let here : x ≡ new = sym now.ends ∙ (ends ∙ ap (follow c' new) is) in
+              absurd (l.leaf_slot (sym l.over_leaf ∙ (sym (new_still c c' v p d leaf new far dl l dl) ∙ (ap (λ (y : ℕ). c' y dl) (sym here) ∙ now.null dl))))
+          by (Old is) =
+              let here : x ≡ leaf = sym now.ends ∙ (ends ∙ (ap (follow c' new) is ∙ at_leaf c c' v p d leaf new far dl l)) in
+              inl (record { path = l.front ++ d ∷ []; ends = was_leaf c c' v p d leaf new far dl l ∙ sym here; is_slot = now.is_slot; null = λ f. ap (λ (y : ℕ). c y f) here ∙ l.leaf_null f })
+          by (New is) = inr (sym now.ends ∙ (ends ∙ (ap (follow c' new) is ∙ at_far c c' v p d leaf new far dl l)))
+
+  -- the new leaf's key was no leaf's
+  pub key_is_new : InOrder c v → (x : ℕ) → LeafOf c x → v x ≡ v far → ⊥
+  key_is_new order x was same = sides dl (sym l.leaf_side ∙ (ap (λ (n : ℕ). side_of n (v new)) (sym (ap v here) ∙ same) ∙ l.far_side))
+    where
+      to_x : GoesBy c v (v far) 1 was.path
+      to_x = subst (λ (n : ℕ). GoesBy c v n 1 was.path) (ap v was.ends ∙ same) (order was.path (λ z. was.is_slot (sym was.ends ∙ z)))
+
+      to_leaf : GoesBy c v (v far) 1 (l.front ++ d ∷ [])
+      to_leaf = goes-append c v (v far) 1 l.front (d ∷ []) l.comes (ap (λ (y : ℕ). side_of (v far) (v y)) l.at_front ∙ l.turns, tt)
+
+      path : was.path ≡ l.front ++ d ∷ []
+      path = one_leaf c l.nothing v (v far) 1 was.path (l.front ++ d ∷ []) to_x to_leaf (λ z. was.is_slot (sym was.ends ∙ z)) (λ z. l.leaf_slot (sym (was_leaf c c' v p d leaf new far dl l) ∙ z))
+          (rw was.ends was.null) (rw (was_leaf c c' v p d leaf new far dl l) l.leaf_null)
+
+      here : x ≡ leaf
+      here = sym was.ends ∙ (ap (follow c 1) path ∙ was_leaf c c' v p d leaf new far dl l)
+
+      sides : (e : Side) → e ≡ other e → ⊥
+      sides Left h = cc
+      sides Right h = cc

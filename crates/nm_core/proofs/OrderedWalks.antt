@@ -1,16 +1,14 @@
 -- What the walks of a search keep, however the tree is changed: each slot that they came to is known, its key is as it was read,
 -- it was led to in order, and a search that goes on from it comes to its place.
-use Rattle.std.proofs.Common.{◌≡◌, ◌≢◌, ℕ, zero, suc, ◌+◌, ◌<◌, ◌≤◌, inl, inr, ◌⊎◌, eqb, ◌==◌, Bool, true, false, cond, ◌&&◌, ◌||◌, List, [], ◌∷◌, ◌++◌, map, length, refl, sym, ap, subst, ◌∙◌, arith, true≢false}
+use Rattle.std.proofs.Common.{◌≡◌, ◌≢◌, ℕ, zero, suc, inl, inr, ◌⊎◌, ◌==◌, Bool, true, false, cond, ◌&&◌, ◌||◌, List, [], ◌∷◌, ◌++◌, map, refl, sym, ap, subst, ◌∙◌, true≢false}
 use Rattle.std.specs.Prelude.{Option, Some, None, is_none, slice_get}
 use Rattle.std.specs.List.{list_any}
-use Rattle.std.proofs.lemmas.Bool.{cond_both, cond-true, cond-false, eqb-true, and_parts, or_cases, eq-eqb}
-use Rattle.std.proofs.lemmas.Option.{none-some, same_Some, slice_get-map}
+use Rattle.std.proofs.lemmas.Bool.{cond_both, eqb-true, and_parts, or_cases, eq-eqb}
+use Rattle.std.proofs.lemmas.Option.{none-some, same_Some}
 use Rattle.nm_edge.specs.declared.edge.Side.{Side}
 use Rattle.nm_edge.specs.declared.edge.Side.TheVariants.{Left, Right}
 use Rattle.nm_core.specs.declared.walks.Arrival.{Arrival}
-use Rattle.nm_core.specs.Paths.{follow}
 use Rattle.nm_core.specs.Searches.{side_of, is_side, turns, is_by, goes_on, is_first, new_arrival, with_arrival, keyed, ended, walk_edge}
-use Rattle.nm_core.specs.Intervals.{GoesBy}
 use Rattle.nm_core.proofs.Trees.{Children}
 use Rattle.nm_core.proofs.Searching.{Keys}
 use Rattle.nm_core.proofs.OrderedTrees.{Onward}

@@ -41,7 +41,7 @@ pub work_pop : (m : Memory) (all rest : List Subtree) (p : Subtree) → all ≡ 
 unfolding work
 work_pop m all rest p e = ap (work m) e ∙ (work-append m rest (p ∷ []) ∙ omega arith)
 
-no_slots : (d : ℕ) (m : Memory) (x : ℕ) → (x ≡ 0) ⊎ (d ≡ 0) → tree_slots d m x ≡ []
+pub no_slots : (d : ℕ) (m : Memory) (x : ℕ) → (x ≡ 0) ⊎ (d ≡ 0) → tree_slots d m x ≡ []
 no_slots zero m x empty = refl
 no_slots (suc d) m x (inl null) = rw null refl
 no_slots (suc d) m x (inr none) = absurd (omega (arith, none))
@@ -54,7 +54,7 @@ none_there x d (inr null) = inl null
 pub skipped : (m : Memory) (found ks : List ℕ) (all rest : List Subtree) (p : Subtree) → all ≡ rest ++ p ∷ [] → (p.slot ≡ 0) ⊎ (p.depth ≡ 0) → found ++ pending m all ≡ ks → found ++ pending m rest ≡ ks
 skipped m found ks all rest p e empty so = ap (λ ys. found ++ ys) (sym (pending_pop m all rest p e ∙ ap (λ xs. filter_map (λ x. set_key (node m x)) xs ++ pending m rest) (no_slots p.depth m p.slot empty))) ∙ so
 
-tree_fork : (d : ℕ) (m : Memory) (x : ℕ) → x ≢ 0 → tree_slots (suc d) m x ≡ x ∷ tree_slots d m (child m x Left) ++ tree_slots d m (child m x Right)
+pub tree_fork : (d : ℕ) (m : Memory) (x : ℕ) → x ≢ 0 → tree_slots (suc d) m x ≡ x ∷ tree_slots d m (child m x Left) ++ tree_slots d m (child m x Right)
 tree_fork d m x slot = go (x == 0) (ne_eqb x 0 slot)
   where
     go : (b : Bool) → b ≡ false → elim b as (λ _. List ℕ) [ true ↦ [] | false ↦ x ∷ tree_slots d m (child m x Left) ++ tree_slots d m (child m x Right) ] ≡ x ∷ tree_slots d m (child m x Left) ++ tree_slots d m (child m x Right)

@@ -1,13 +1,12 @@
 -- What an event that is allowed does to the tree: nothing that matters, one field of a private slot, a link, or a splice.
 use Rattle.std.proofs.Common.{◌≡◌, ◌≢◌, ℕ, ◌+◌, ◌<◌, List, eqb, Bool, true, false, cond, not, ◌&&◌, ◌||◌, length, refl, sym, ap, ◌∙◌, arith, get_or-set_other}
-use Rattle.std.specs.Prelude.{Option, Some, None, nat_lt}
-use Rattle.std.proofs.lemmas.Bool.{cond_both, cond-true, cond-false, eqb-true, and_parts, or_parts, not-false}
+use Rattle.std.specs.Prelude.{nat_lt}
+use Rattle.std.proofs.lemmas.Bool.{cond_both, cond-false, eqb-true, and_parts, or_parts, not-false}
 use Rattle.nm_edge.specs.Edges.{Edge, to, is_to, tagged}
 use Rattle.nm_edge.specs.declared.edge.Side.{Side}
 use Rattle.nm_edge.specs.declared.edge.Side.TheVariants.{Left, Right}
 use Rattle.nm_core.specs.declared.memory.Node.{Node}
 use Rattle.nm_core.specs.declared.event.Field.{Field}
-use Rattle.nm_core.specs.declared.event.Field.TheVariants.{Key, Edge as EdgeOn, Birth}
 use Rattle.nm_core.specs.declared.event.Event.{Event}
 use Rattle.nm_core.specs.declared.event.Event.TheVariants.{Fill, Link, Flag, Tag, Splice, Advance}
 use Rattle.nm_core.specs.declared.reply.Refused.TheVariants.{NoSlot, NotPrivate}
@@ -22,7 +21,7 @@ use Rattle.nm_core.proofs.Steps.{Allowed, passed, second}
 use Rattle.nm_core.proofs.Trees.{Exchanged, same_side, same_side-true}
 use Rattle.nm_core.proofs.Searching.{Apart}
 use Rattle.nm_core.proofs.CutPaths.{Splicing}
-use Rattle.nm_core.proofs.Slots.{with_edge_at, with_edge-same}
+use Rattle.nm_core.proofs.Slots.{with_edge-same}
 use Rattle.nm_core.proofs.Splices.{splicing, first_slot}
 use Rattle.nm_core.proofs.Links.{IsLink}
 use Rattle.nm_core.proofs.Views.{picture, edge_put}
@@ -30,7 +29,7 @@ use Rattle.nm_core.proofs.TreeSlots.{is_to-true}
 use Rattle.nm_core.proofs.TreeLink.{Linkable, linkable, link_shown}
 use Rattle.nm_core.proofs.TreeSteps.{Lawful, high_from, LinkChecked, link_checked}
 use Rattle.nm_core.proofs.Cuts.{shown}
-use Rattle.nm_core.proofs.KnownBirths.{SameNode, written_same}
+use Rattle.nm_core.proofs.KnownBirths.{written_same}
 
 -- what the memory of a state becomes
 pub data TreeChange (s : State) (h : ℕ → ℕ) (w : ℕ) (e : Event) (m : Memory) : Type 0 where
@@ -59,7 +58,7 @@ module _ (s : State) (h : ℕ → ℕ) (law : Lawful s h) (w : ℕ) where
   within_list : (x : ℕ) (least : ℕ) → outside least s.layout.nodes x ≡ false → x < length s.memory.nodes
   within_list x least inside = let range = high_from least s.layout.nodes x inside in let size = law.roomy.nodes in omega arith
 
-  same_keys : (e : Event) → ((y : ℕ) (f : Field) (v : ℕ) → e ≡ Fill y f v → ⊥) → (x : ℕ) → key (write s.memory (of s w) w e) x ≡ key s.memory x
+  pub same_keys : (e : Event) → ((y : ℕ) (f : Field) (v : ℕ) → e ≡ Fill y f v → ⊥) → (x : ℕ) → key (write s.memory (of s w) w e) x ≡ key s.memory x
   same_keys e unfilled x = (written_same s.memory (of s w) w e x (λ y f v i. absurd (unfilled y f v i))).key
 
   filling : (x : ℕ) (f : Field) (v : ℕ) → Allowed s w (Fill x f v) → TreeChange s h w (Fill x f v) (put_node s.memory x (filled (node s.memory x) f v))
@@ -73,6 +72,27 @@ module _ (s : State) (h : ℕ → ℕ) (law : Lawful s h) (w : ℕ) where
       side y Left same = ap (λ (n : Node). n.left.slot) same
       side y Right same = ap (λ (n : Node). n.right.slot) same
 
+  -- what a link that is won does
+  pub record WonLink (p : ℕ) (d : Side) (leaf new : ℕ) : Type 0 where
+    pub unmarked : edge s.memory p d ≡ to leaf
+    pub drafts : Linkable (of s w) new leaf
+    pub link : IsLink s.layout.nodes (picture s h) w p d leaf new drafts.far drafts.side
+    pub exchanged : Exchanged (child s.memory) (child (put_edge s.memory p d (to new))) p d new
+
+  pub won_link : (p : ℕ) (d : Side) (leaf new : ℕ) → Allowed s w (Link p d leaf new) → is_to (edge s.memory p d) leaf ≡ true → WonLink p d leaf new
+  won_link p d leaf new ok won = record {
+    unmarked = is_to-true (edge s.memory p d) leaf won;
+    drafts = l;
+    link = link_shown s.layout.nodes s.memory (of s) h w p d leaf new c.known c.held c.leafy c.own l (is_to-true (edge s.memory p d) leaf won) law.tree;
+    exchanged = exchanged_put s.memory p d (to new) (let r = law.tree.known w p c.known in let size = law.roomy.nodes in omega arith);
+  }
+    where
+      c : LinkChecked (of s w) p leaf new
+      c = link_checked s w p d leaf new ok.event
+
+      l : Linkable (of s w) new leaf
+      l = linkable (of s w) new leaf c.ready
+
   linking : (p : ℕ) (d : Side) (leaf new : ℕ) → Allowed s w (Link p d leaf new) → TreeChange s h w (Link p d leaf new) (exchanged s.memory p d leaf (to new))
   unfolding write
   linking p d leaf new ok = by (is_to (edge s.memory p d) leaf) refl same_keys'
@@ -80,19 +100,8 @@ module _ (s : State) (h : ℕ → ℕ) (law : Lawful s h) (w : ℕ) where
       same_keys' : (x : ℕ) → key (exchanged s.memory p d leaf (to new)) x ≡ key s.memory x
       same_keys' x = same_keys (Link p d leaf new) (λ y f v i. cc) x
 
-      c : LinkChecked (of s w) p leaf new
-      c = link_checked s w p d leaf new ok.event
-
-      l : Linkable (of s w) new leaf
-      l = linkable (of s w) new leaf c.ready
-
-      inside : p < length s.memory.nodes
-      inside = let r = law.tree.known w p c.known in let size = law.roomy.nodes in omega arith
-
       by : (b : Bool) → is_to (edge s.memory p d) leaf ≡ b → ((x : ℕ) → key (cond b (put_edge s.memory p d (to new)) s.memory) x ≡ key s.memory x) → TreeChange s h w (Link p d leaf new) (cond b (put_edge s.memory p d (to new)) s.memory)
-      by true won keys =
-          let is = is_to-true (edge s.memory p d) leaf won in
-          Linked p d leaf new refl is l (link_shown s.layout.nodes s.memory (of s) h w p d leaf new c.known c.held c.leafy c.own l is law.tree) (exchanged_put s.memory p d (to new) inside) keys
+      by true won keys = let k = won_link p d leaf new ok won in Linked p d leaf new refl k.unmarked k.drafts k.link k.exchanged keys
       by false lost keys = Kept (λ x g. refl) keys
 
   flagging : (p : ℕ) (d : Side) (leaf : ℕ) → Allowed s w (Flag p d leaf) → TreeChange s h w (Flag p d leaf) (exchanged s.memory p d leaf (flag_to leaf))

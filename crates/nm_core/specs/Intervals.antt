@@ -1,16 +1,21 @@
 -- The interval of a node: the keys whose search from the root comes to it; and what ordered runs keep of it.
-use Rattle.std.specs.Prelude.{◌≡◌, ℕ, ◌≤◌, true, false, List, [], ◌∷◌, slice_get, All, Some}
+use Rattle.std.specs.Prelude.{◌≡◌, ◌⊎◌, ◌↔◌, ℕ, ◌<◌, ◌≤◌, true, false, Contains, AllPairs, Ok, List, [], ◌∷◌, slice_get, All, Some}
 use Rattle.nm_edge.specs.Layouts.{Layout}
 use Rattle.nm_edge.specs.declared.edge.Side.{Side}
 use Rattle.nm_edge.specs.Keys.{IsKey}
 use Rattle.nm_core.specs.declared.event.Event.{Event}
-use Rattle.nm_core.specs.declared.event.Event.TheVariants.{SightFor}
+use Rattle.nm_edge.specs.declared.node.NodeId.{NodeId}
+use Rattle.nm_core.specs.declared.event.Op.{Op}
+use Rattle.nm_core.specs.declared.event.Op.TheVariants.{Insert}
+use Rattle.nm_core.specs.declared.event.Event.TheVariants.{SightFor, Link}
+use Rattle.nm_core.specs.declared.reply.Reply.TheVariants.{Linked}
 use Rattle.nm_core.specs.declared.walks.Call.{Call}
 use Rattle.nm_core.specs.declared.walks.Arrival.{Arrival}
-use Rattle.nm_core.specs.Memory.{Memory, node, child, is_leaf}
+use Rattle.nm_core.specs.Memory.{Memory, node, child, is_leaf, infinity_0}
 use Rattle.nm_core.specs.Paths.{at, Reached}
+use Rattle.nm_core.specs.Reports.{keys}
 use Rattle.nm_core.specs.Searches.{Search, side_of}
-use Rattle.nm_core.specs.Ordered.{Configuration, ordered, after_in, search_of}
+use Rattle.nm_core.specs.Ordered.{Configuration, ordered, after_in, next_in, outcome_in, search_of}
 
 -- a search for k goes that way from a slot: at each node to the side of k
 abbrev pub GoesBy : (ℕ → Side → ℕ) → (ℕ → ℕ) → ℕ → ℕ → List Side → Type 0
@@ -61,3 +66,36 @@ WalksStayInOrder c = (u k : ℕ) (a : Arrival) → HasCome c u k a → Reached c
 -- the key that a walk read at a slot is that slot's key now
 abbrev pub WalksReadKeys : Configuration → Type 0
 WalksReadKeys c = (u k n : ℕ) (a : Arrival) → HasCome c u k a → a.key ≡ Some n → key c.state.memory a.slot ≡ n
+
+-- ---- the set
+
+-- a key of the set is that of a reached leaf
+pub record InSet (m : Memory) (k : ℕ) : Type 0 where
+  pub slot : ℕ
+  pub reached : Reached m slot
+  pub leaf : is_leaf (node m slot) ≡ true
+  pub has_key : key m slot ≡ k
+
+-- the operation and the key of the call under a worker's pin
+pub record IsCalled (c : Configuration) (u : ℕ) (op : Op) (k : ℕ) : Type 0 where
+  pub searches : List Search
+  pub are : c.searches ≡ Some searches
+  pub is_call : (search_of searches u).call ≡ Some (record { op = op; key = k })
+
+-- the set gains the key, which was not in it, and nothing else
+pub record Gains (before after : Memory) (k : ℕ) : Type 0 where
+  pub was_not : InSet before k → ⊥
+  pub now : (j : ℕ) → InSet after j ↔ (InSet before j ⊎ (j ≡ k))
+
+-- a link that is won is one of a call to insert, and the set gains that call's key
+abbrev pub LinksInsert : Configuration → Type 0
+LinksInsert c = (w p : ℕ) (side : Side) (leaf new : ℕ) (n : NodeId) → outcome_in c (w, Link p side leaf new) ≡ Ok (Linked n)
+    → (k : ℕ) × IsCalled c w Insert k × Gains c.state.memory (next_in c (w, Link p side leaf new)).state.memory k
+
+-- the keys that a core tells are those of the set, without the sentinels
+abbrev pub KeysTellTheSet : Configuration → Type 0
+KeysTellTheSet c = (k : ℕ) → Contains (keys c.state) k ↔ InSet c.state.memory k × (k < infinity_0)
+
+-- and they ascend
+abbrev pub KeysAscend : Configuration → Type 0
+KeysAscend c = AllPairs (λ j k. j < k) (keys c.state)

@@ -45,7 +45,7 @@ pub use laws::{
 };
 pub use ledger::{Ledger, Nodes, Queued};
 pub use ledgers::Ledgers;
-pub use order::{trees_are_in_order, walks_stay_in_order};
+pub use order::{keys_are_the_set, links_insert, trees_are_in_order, walks_stay_in_order};
 pub use packing::{
     events_touch_one_word, words_have_room, words_tell_the_memory, writes_change_one_word,
 };
