@@ -45,42 +45,22 @@ use Rattle.nm_core.proofs.OrderedSteps.{ForCall, OrderLaw, order_step, LinkOfCal
 
 -- ---- the opening
 
+null_start : (L : Layout) (d : Side) → child (opening L) 0 d ≡ 0
+null_start L Left = refl
+null_start L Right = refl
+
 order_start : (L : Layout) → InOrder (child (opening L)) (key (opening L))
 order_start L [] there = tt
 order_start L (Left ∷ []) there = (refl, tt)
 order_start L (Right ∷ []) there = (refl, tt)
 order_start L (Left ∷ Left ∷ []) there = (refl, (refl, tt))
 order_start L (Left ∷ Right ∷ []) there = (refl, (refl, tt))
-order_start L (Left ∷ Left ∷ Left ∷ q) there = absurd (there (follow_none (child (opening L)) (λ d. none d) q))
-  where
-    none : (d : Side) → child (opening L) 0 d ≡ 0
-    none Left = refl
-    none Right = refl
-order_start L (Left ∷ Left ∷ Right ∷ q) there = absurd (there (follow_none (child (opening L)) (λ d. none d) q))
-  where
-    none : (d : Side) → child (opening L) 0 d ≡ 0
-    none Left = refl
-    none Right = refl
-order_start L (Left ∷ Right ∷ Left ∷ q) there = absurd (there (follow_none (child (opening L)) (λ d. none d) q))
-  where
-    none : (d : Side) → child (opening L) 0 d ≡ 0
-    none Left = refl
-    none Right = refl
-order_start L (Left ∷ Right ∷ Right ∷ q) there = absurd (there (follow_none (child (opening L)) (λ d. none d) q))
-  where
-    none : (d : Side) → child (opening L) 0 d ≡ 0
-    none Left = refl
-    none Right = refl
-order_start L (Right ∷ Left ∷ q) there = absurd (there (follow_none (child (opening L)) (λ d. none d) q))
-  where
-    none : (d : Side) → child (opening L) 0 d ≡ 0
-    none Left = refl
-    none Right = refl
-order_start L (Right ∷ Right ∷ q) there = absurd (there (follow_none (child (opening L)) (λ d. none d) q))
-  where
-    none : (d : Side) → child (opening L) 0 d ≡ 0
-    none Left = refl
-    none Right = refl
+order_start L (Left ∷ Left ∷ Left ∷ q) there = absurd (there (follow_none (child (opening L)) (null_start L) q))
+order_start L (Left ∷ Left ∷ Right ∷ q) there = absurd (there (follow_none (child (opening L)) (null_start L) q))
+order_start L (Left ∷ Right ∷ Left ∷ q) there = absurd (there (follow_none (child (opening L)) (null_start L) q))
+order_start L (Left ∷ Right ∷ Right ∷ q) there = absurd (there (follow_none (child (opening L)) (null_start L) q))
+order_start L (Right ∷ Left ∷ q) there = absurd (there (follow_none (child (opening L)) (null_start L) q))
+order_start L (Right ∷ Right ∷ q) there = absurd (there (follow_none (child (opening L)) (null_start L) q))
 
 law_start : (L : Layout) → OrderLaw (start L) (replicate L.workers idle)
 law_start L = record {

@@ -19,8 +19,9 @@ use Rattle.nm_core.specs.Searches.{side_of, is_side, is_by}
 use Rattle.nm_core.specs.Ordered.{forks_over, is_fork_for, may_link_at, new_leaf}
 use Rattle.nm_core.specs.Intervals.{GoesBy, key}
 use Rattle.nm_core.proofs.Trees.{Exchanged, follow-append}
+use Rattle.nm_core.proofs.Lists.{any_at}
 use Rattle.nm_core.proofs.OrderedTrees.{Linking}
-use Rattle.nm_core.proofs.OrderedWalks.{WalkLaw, CameFrom, any_at, is_side-true, turned}
+use Rattle.nm_core.proofs.OrderedWalks.{WalkLaw, CameFrom, is_side-true, turned}
 use Rattle.nm_core.proofs.OrderedWalks.CameFrom.{FromRoot, FromSlot}
 use Rattle.nm_core.proofs.Pictures.{IsOnPath, alone, null_below}
 use Rattle.nm_core.proofs.Splices.{live_on_path, unmarked_not_queued}

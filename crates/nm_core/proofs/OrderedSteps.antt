@@ -30,6 +30,7 @@ use Rattle.nm_core.specs.Lawful.{EachBirthStands}
 use Rattle.nm_core.specs.Searches.{Search, idle, searched, walked, look_for, is_first, goes_on, turns, is_side}
 use Rattle.nm_core.specs.Ordered.{search_of, learned_from, disorder, inserts, links_in_order, may_link_at, new_leaf}
 use Rattle.nm_core.specs.Intervals.{HasKey, key}
+use Rattle.nm_core.proofs.Lists.{any_at}
 use Rattle.nm_core.proofs.Steps.{Allowed, passed}
 use Rattle.nm_core.proofs.Tables.{has_put_there}
 use Rattle.nm_core.proofs.Epochs.{other_worker}
@@ -45,7 +46,7 @@ use Rattle.nm_core.proofs.TreeChanges.{tree_change}
 use Rattle.nm_core.proofs.OrderedTrees.{InOrder, Linking}
 use Rattle.nm_core.proofs.SearchSteps.{StillKnown, SearchStep, search_step}
 use Rattle.nm_core.proofs.SearchSteps.SearchStep.{Same, Looked, Begun, Over}
-use Rattle.nm_core.proofs.OrderedWalks.{WalkLaw, no_walks, walks_last, key_looked, edge_looked, any_at}
+use Rattle.nm_core.proofs.OrderedWalks.{WalkLaw, no_walks, walks_last, key_looked, edge_looked}
 use Rattle.nm_core.proofs.OrderedChanges.{FixedKeys, first_onward, Outlasts, AsksOrder, outlasts}
 use Rattle.nm_core.proofs.OrderedLinks.{far_key, linking_shown}
 
@@ -184,8 +185,11 @@ module _ (s : State) (h : ℕ → ℕ) (law : Lawful s h) (w : ℕ) where
 
       by : (o : Option Call) → S.call ≡ o → ForCall s.memory (knows (of s w)) o S.walks → ForCall s.memory (knows (of (applied s w (Look x f)) w)) (look_for S o x f (reply_of s w (Look x f))).call (look_for S o x f (reply_of s w (Look x f))).walks
       by None i walks = rw i tt
-      by (Some call) i walks = rw i (walks.0, walks_last (child s.memory) (child s.memory) (key s.memory) (key s.memory) _ (knows (of (applied s w (Look x f)) w)) call.key (walked call.key S.walks x f (reply_of s w (Look x f))) k.own (λ _ _. refl) (λ _ _ o. o)
-          (look_law call.key S.walks x f walks.0 fixed still walks.1))
+      by (Some call) i walks = rw i (
+        walks.0,
+        walks_last (child s.memory) (child s.memory) (key s.memory) (key s.memory) _ (knows (of (applied s w (Look x f)) w)) call.key (walked call.key S.walks x f (reply_of s w (Look x f))) k.own (λ _ _. refl) (λ _ _ o. o)
+            (look_law call.key S.walks x f walks.0 fixed still walks.1),
+      )
 
   walks_step : EachBirthStands s → (ss : List Search) → OrderLaw s ss → (e : Event) → Allowed s w e → disorder (of s w) (search_of ss w) e ≡ None → HasKey e → Outlasts s h law (write s.memory (of s w) w e) → (u : ℕ)
       → ForCall (applied s w e).memory (knows (of (applied s w e) u)) (search_of (learned_from ss w e (reply_of s w e)) u).call (search_of (learned_from ss w e (reply_of s w e)) u).walks

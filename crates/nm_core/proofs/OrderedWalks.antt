@@ -1,6 +1,6 @@
 -- What the walks of a search keep, however the tree is changed: each slot that they came to is known, its key is as it was read,
 -- it was led to in order, and a search that goes on from it comes to its place.
-use Rattle.std.proofs.Common.{◌≡◌, ◌≢◌, ℕ, zero, suc, inl, inr, ◌⊎◌, ◌==◌, Bool, true, false, cond, ◌&&◌, ◌||◌, List, [], ◌∷◌, ◌++◌, map, refl, sym, ap, subst, ◌∙◌, true≢false}
+use Rattle.std.proofs.Common.{◌≡◌, ◌≢◌, ℕ, inl, inr, ◌⊎◌, ◌==◌, Bool, true, false, cond, ◌&&◌, ◌||◌, List, [], ◌∷◌, ◌++◌, map, refl, sym, ap, subst, ◌∙◌, true≢false}
 use Rattle.std.specs.Prelude.{Option, Some, None, is_none, slice_get}
 use Rattle.std.specs.List.{list_any}
 use Rattle.std.proofs.lemmas.Bool.{cond_both, eqb-true, and_parts, or_cases, eq-eqb}
@@ -9,41 +9,10 @@ use Rattle.nm_edge.specs.declared.edge.Side.{Side}
 use Rattle.nm_edge.specs.declared.edge.Side.TheVariants.{Left, Right}
 use Rattle.nm_core.specs.declared.walks.Arrival.{Arrival}
 use Rattle.nm_core.specs.Searches.{side_of, is_side, turns, is_by, goes_on, is_first, new_arrival, with_arrival, keyed, ended, walk_edge}
+use Rattle.nm_core.proofs.Lists.{any_at, mapped_at, map_at, more_at, get_stays}
 use Rattle.nm_core.proofs.Trees.{Children}
 use Rattle.nm_core.proofs.Searching.{Keys}
 use Rattle.nm_core.proofs.OrderedTrees.{Onward}
-
--- ---- lists
-
-pub any_at : {X : Type 0} (f : X → Bool) (xs : List X) → list_any f xs ≡ true → (i : ℕ) × (x : X) × (slice_get xs i ≡ Some x) × (f x ≡ true)
-any_at f [] h = absurd (true≢false (sym h))
-any_at f (x ∷ xs) h = elim (or_cases (f x) (list_any f xs) h) [
-  | inl here ↦ (0, x, refl, here)
-  | inr later ↦ let k = any_at f xs later in (suc k.0, k.1, k.2, k.3)
-]
-
--- of a mapped list, what was there
-mapped_at : {X : Type 0} (f : X → X) (xs : List X) (i : ℕ) (y : X) → slice_get (map f xs) i ≡ Some y → (x : X) × (slice_get xs i ≡ Some x) × (y ≡ f x)
-mapped_at f [] i y h = absurd (none-some y h)
-mapped_at f (x ∷ xs) zero y h = (x, refl, same_Some y (f x) (sym h))
-mapped_at f (x ∷ xs) (suc i) y h = mapped_at f xs i y h
-
-map_at : {X : Type 0} (f : X → X) (xs : List X) (i : ℕ) (x : X) → slice_get xs i ≡ Some x → slice_get (map f xs) i ≡ Some (f x)
-map_at f [] i x h = absurd (none-some x h)
-map_at f (y ∷ xs) zero x h = ap (λ z. Some (f z)) (same_Some y x h)
-map_at f (y ∷ xs) (suc i) x h = map_at f xs i x h
-
--- of a list with one more, what was there or the new one
-more_at : {X : Type 0} (xs : List X) (z : X) (i : ℕ) (y : X) → slice_get (xs ++ z ∷ []) i ≡ Some y → (slice_get xs i ≡ Some y) ⊎ (y ≡ z)
-more_at [] z zero y h = inr (same_Some y z (sym h))
-more_at [] z (suc i) y h = absurd (none-some y h)
-more_at (x ∷ xs) z zero y h = inl h
-more_at (x ∷ xs) z (suc i) y h = more_at xs z i y h
-
-still_at : {X : Type 0} (xs : List X) (z : X) (i : ℕ) (y : X) → slice_get xs i ≡ Some y → slice_get (xs ++ z ∷ []) i ≡ Some y
-still_at [] z i y h = absurd (none-some y h)
-still_at (x ∷ xs) z zero y h = h
-still_at (x ∷ xs) z (suc i) y h = still_at xs z i y h
 
 -- ---- sides
 
@@ -167,7 +136,7 @@ arrived c v known k ws x parent d there on from law = cond_both (list_any (is_by
 
     more : (a : Arrival) → CameFrom k ws a → CameFrom k (ws ++ new_arrival x parent d ∷ []) a
     more a (FromRoot p s) = FromRoot p s
-    more a (FromSlot i b at slot turn) = FromSlot i b (still_at ws (new_arrival x parent d) i b at) slot turn
+    more a (FromSlot i b at slot turn) = FromSlot i b (get_stays ws (new_arrival x parent d ∷ []) i b at) slot turn
 
 -- an edge is looked at. Where a walk goes on by it to a slot, that slot is known from then on; the root's own search comes to slot 2, and goes on to its left
 pub edge_looked : (c : Children) (v : Keys) (known : ℕ → Bool) (k : ℕ) (ws : List Arrival) (x : ℕ) (d : Side) → ((is_first x d ≡ true) ⊎ (list_any (goes_on k x d) ws ≡ true) → c x d ≢ 0 → known (c x d) ≡ true)
