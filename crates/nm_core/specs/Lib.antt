@@ -16,7 +16,4 @@ pub mod Schedules
 pub mod Laws
 pub mod Places
 pub mod Lawful
-pub mod Intervals
 pub mod Traces
-pub mod Packing
-pub mod Told

@@ -15,8 +15,6 @@ mod ledger;
 mod ledgers;
 mod machine;
 mod memory;
-mod order;
-mod packing;
 mod places;
 mod pool_steps;
 mod pure_core;
@@ -45,10 +43,6 @@ pub use laws::{
 };
 pub use ledger::{Ledger, Nodes, Queued};
 pub use ledgers::Ledgers;
-pub use order::{keys_are_the_set, links_insert, trees_are_in_order, walks_stay_in_order};
-pub use packing::{
-    events_touch_one_word, words_have_room, words_tell_the_memory, writes_change_one_word,
-};
 pub use places::Places;
 pub use pure_core::{Core, NewError};
 pub use queue::Queue;

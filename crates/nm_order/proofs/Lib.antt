@@ -1,0 +1,10 @@
+pub mod Searching
+pub mod OrderedTrees
+pub mod TreeChanges
+pub mod SearchSteps
+pub mod OrderedWalks
+pub mod OrderedChanges
+pub mod OrderedLinks
+pub mod OrderedSteps
+pub mod OrderedKeys
+pub mod OrderedLaws
