@@ -1,0 +1,118 @@
+-- The rule: the logs of all workers are a run of the ordered core, and the words are those of its memory.
+use Rattle.std.specs.Prelude.{◌≡◌, ◌<◌, ℕ, zero, suc, Bool, true, false, cond, eqb, ltb, List, [], ◌∷◌, ◌++◌, All}
+use Rattle.std.specs.List.{sum_by, count_by}
+use mathlib.Core.Option.{some}
+use lib.ListN.{get_elem?}
+use Rattle.nm_edge.specs.Layouts.{Layout, IsLayout}
+use Rattle.atomic_table.specs.Table.{State, Me, Step}
+use Rattle.nm_core.specs.declared.event.Event.{Event}
+use Rattle.nm_core.specs.declared.event.Event.TheVariants.{Announce, Leave, LeaveWith, Fill, Join}
+use Rattle.nm_core.specs.declared.reply.Reply.TheVariants.{Joined}
+use Rattle.nm_core.specs.declared.trace.Turn.{Turn}
+use Rattle.nm_core.specs.Knowledge.{Knowledge}
+use Rattle.nm_core.specs.Walks.{Entry}
+use Rattle.nm_core.specs.Ordered.{ordered, after_in, trace_in}
+use Rattle.nm_order.specs.Intervals.{HasKey}
+use Rattle.nm_order.specs.Logs.{part_of, known_by}
+use Rattle.nm_words.specs.Packing.{words_of, word_at, touched}
+use Rattle.nm_words.specs.Told.{told}
+use Rattle.nm_steps.specs.declared.view.Held.{Held}
+use Rattle.nm_steps.specs.declared.view.View.{View}
+
+abbrev pub held : ℕ → List Entry → Held
+held w log = record { number = w; log = log }
+
+-- the logs that a view has; a spent one has none
+abbrev pub holdings : View → List Held
+holdings v = cond v.spent [] (held v.number v.log ∷ v.others)
+
+-- what a view's own worker knows
+abbrev pub knowledge : View → Knowledge
+knowledge v = known_by v.layout v.number v.log
+
+-- how often the number stands in the view
+abbrev pub stands : ℕ → View → ℕ
+stands w v = count_by (λ h. eqb w h.number) (holdings v)
+
+abbrev pub once_below : ℕ → ℕ → ℕ
+once_below w n = cond (ltb w n) 1 0
+
+-- each of these logs is its worker's part of the trace
+abbrev pub LogsAre : Layout → Layout → List Turn → List Held → Type 0
+LogsAre l L t [] = Unit {0}
+LogsAre l L t (h ∷ hs) = (l ≡ L) × (h.log ≡ part_of h.number t) × LogsAre l L t hs
+
+abbrev pub IsShown : Layout → List Turn → View → Type 0
+IsShown L t v = LogsAre v.layout L t (holdings v)
+
+-- some ordered run ends with these words, each worker's part of it is its log, and that log stands in the view of one seat
+pub record Runs (L : Layout) (words : List ℕ) (views : List View) : Type 0 where
+  pub fits : IsLayout L
+  pub turns : List (ℕ × Event)
+  pub keys : All (λ t. HasKey t.1) turns
+  pub words_are : words ≡ words_of L (after_in (ordered L) turns).state.memory
+  pub shown : (i : ℕ) (v : View) → get_elem? views i ≡ some v → IsShown L (trace_in (ordered L) turns) v
+  pub here : (i : ℕ) (v : View) → get_elem? views i ≡ some v → v.spent ≡ false → (knowledge v).gone ≡ false
+  pub once : (w : ℕ) → sum_by (stands w) views ≡ once_below w L.workers
+
+-- ---- how the views begin, are cut and are joined
+
+-- the numbers from k on, n of them
+abbrev pub numbers_from : ℕ → ℕ → List Held
+numbers_from k zero = []
+numbers_from k (suc n) = held k [] ∷ numbers_from (suc k) n
+
+-- a view of these, the first of them its own
+abbrev pub viewing : Layout → List Held → View
+viewing L [] = record { layout = L; spent = true; number = 0; log = []; others = [] }
+viewing L (h ∷ hs) = record { layout = L; spent = false; number = h.number; log = h.log; others = hs }
+
+abbrev pub everybody : Layout → View
+everybody L = viewing L (numbers_from 0 L.workers)
+
+abbrev pub own_alone : View → View
+own_alone v = record v { others = [] }
+
+abbrev pub the_others : View → View
+the_others v = viewing v.layout v.others
+
+abbrev pub nobody : View
+nobody = viewing (record { nodes = 0; workers = 0 }) []
+
+-- the entry of a join: the ledgers that the leaver holds
+abbrev pub passing : View → Entry
+passing w = (Join w.number, Joined (knowledge w).ledgers)
+
+-- the first stands for both, and the join is in both logs
+abbrev pub joined : View → View → View
+joined v w = record v { log = v.log ++ passing w ∷ []; others = v.others ++ held w.number (w.log ++ passing w ∷ []) ∷ w.others }
+
+-- ---- a step
+
+-- an event with the reply that the word n gives enters the log
+abbrev pub logged : View → Event → ℕ → View
+logged v e n = record v { log = v.log ++ (e, told v.layout (knowledge v) e n) ∷ [] }
+
+-- it is a store, which finds nothing
+abbrev pub is_store : Event → Bool
+is_store Announce = true
+is_store Leave = true
+is_store (LeaveWith answer) = true
+is_store (Fill s f v) = true
+is_store _ = false
+
+-- in some run with that log the event finds the word n
+pub record IsFound (L : Layout) (w : ℕ) (log : List Entry) (e : Event) (n : ℕ) : Type 0 where
+  pub fits : IsLayout L
+  pub worker : w < L.workers
+  pub turns : List (ℕ × Event)
+  pub keys : All (λ t. HasKey t.1) turns
+  pub is_part : log ≡ part_of w (trace_in (ordered L) turns)
+  pub word : is_store e ≡ false → n ≡ word_at L (after_in (ordered L) turns).state.memory (touched w e)
+
+-- what a step tells its seat: the event is in its log with its reply, and nothing else changed
+abbrev pub Did : Event → Step Unit → Me Unit View → ℕ → Me Unit View → Type 0
+Did e s me n after = (after ≡ (logged me.0 e n, me.1)) × IsFound me.0.layout me.0.number me.0.log e n
+
+abbrev pub Kept : Layout → State Unit View → Type 0
+Kept L s = Runs L s.words s.views

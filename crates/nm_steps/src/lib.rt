@@ -1,0 +1,6 @@
+//! Running workers that take only steps of the core.
+#![tactic(auto)]
+
+mod view;
+
+pub use view::{Does, Doing, Held, Law, View};

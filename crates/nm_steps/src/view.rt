@@ -1,0 +1,59 @@
+//! What a seat knows, and the rule.
+use atomic_table::{Play, Seat, TableRule};
+use nm_core::{Event, Reply};
+use nm_edge::Layout;
+use std::collections::LinkedList;
+use std::marker::{Brand, PhantomData};
+
+/// A worker's log, oldest entry first. No value of it is made.
+pub struct Held {
+    pub number: u32,
+    pub log: LinkedList<(Event, Reply)>,
+}
+
+/// What a seat knows: the logs of the workers that it stands for, its own apart. No value of it is made.
+pub struct View {
+    pub layout: Layout,
+    pub spent: bool,
+    pub number: u32,
+    pub log: LinkedList<(Event, Reply)>,
+    pub others: LinkedList<Held>,
+}
+
+pub struct Law;
+
+impl TableRule<(), View, Layout> for Law {
+    ghost use Rattle.nm_steps.specs.Rules.{Kept, everybody};
+
+    ghost holds = { Kept };
+
+    ghost first = { everybody };
+}
+
+/// The event that a step is.
+pub trait Doing {
+    ghost use Rattle.nm_core.specs.declared.event.Event.{Event};
+
+    ghost event: { Event };
+}
+
+impl Doing for Brand {
+    ghost use Rattle.nm_core.specs.declared.event.Event.TheVariants.{Sight};
+
+    ghost event = { Sight };
+}
+
+/// What a step tells its seat.
+pub struct Does<D> {
+    of: PhantomData<D>,
+}
+
+impl<D: Doing> Play<(), View> for Does<D> {
+    ghost use Rattle.nm_steps.specs.Rules.{Did};
+
+    ghost then = { Did D.event };
+}
+
+pub(crate) type Words = atomic_table::Shared<(), View, Layout, Law>;
+
+pub(crate) type Place = Seat<(), View>;
