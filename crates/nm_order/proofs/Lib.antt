@@ -8,3 +8,4 @@ pub mod OrderedLinks
 pub mod OrderedSteps
 pub mod OrderedKeys
 pub mod OrderedLaws
+pub mod PartsOfRuns

@@ -1,6 +1,8 @@
 //! Laws of ordered runs: what the calls of an ordered core make of the tree and of the set. Nothing here runs.
 #![tactic(auto)]
 
+mod logs;
 mod order;
 
+pub use logs::logs_tell_what_is_known;
 pub use order::{keys_are_the_set, links_insert, trees_are_in_order, walks_stay_in_order};
