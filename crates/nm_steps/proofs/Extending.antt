@@ -1,6 +1,9 @@
 -- An event that a worker's own log allows makes a run longer by one turn, and changes the one word that it touches.
-use Rattle.std.proofs.Common.{◌≡◌, ℕ, ◌<◌, ◌≤◌, ◌==◌, Bool, true, false, ◌||◌, cond, List, [], ◌∷◌, ◌++◌, refl, sym, ap, ◌∙◌, subst, eq-eqb, arith, Result, Ok, Err}
+use Rattle.std.proofs.Common.{◌≡◌, ℕ, zero, suc, get_or, true≢false, ◌<◌, ◌≤◌, ◌==◌, Bool, true, false, ◌||◌, cond, List, [], ◌∷◌, ◌++◌, refl, sym, ap, ◌∙◌, subst, eq-eqb, arith, Result, Ok, Err}
 use Rattle.std.specs.Prelude.{Option, Some, None, IsSome, IfSome, All, nat_le, slice_set}
+use Rattle.std.proofs.lemmas.List.{append_assoc}
+use Rattle.std.proofs.lemmas.List.Elements.{All-append}
+use Rattle.std.proofs.lemmas.Bool.{leb-true}
 use Rattle.nm_edge.specs.Layouts.{Layout, IsLayout}
 use Rattle.nm_edge.specs.Words.{IsField, word}
 use Rattle.nm_core.specs.declared.event.Event.{Event}
@@ -8,13 +11,14 @@ use Rattle.nm_core.specs.declared.event.Event.TheVariants.{Join, Fill}
 use Rattle.nm_core.specs.declared.event.Field.TheVariants.{Birth}
 use Rattle.nm_core.specs.declared.reply.Reply.{Reply}
 use Rattle.nm_core.specs.declared.reply.Refused.{Refused}
+use Rattle.nm_core.specs.declared.reply.Refused.TheVariants.{NoWorker}
 use Rattle.nm_core.specs.declared.trace.Turn.{Turn}
 use Rattle.nm_core.specs.Maps.{or_else}
 use Rattle.nm_core.specs.Memory.{Memory}
 use Rattle.nm_core.specs.Knowledge.{Knowledge, draft_of}
 use Rattle.nm_core.specs.Step.{refusal}
 use Rattle.nm_core.specs.Runs.{State, of, start, after, next, applied, refused, refusal_of, reply_of}
-use Rattle.nm_core.specs.Lawful.{EachBirthStands}
+use Rattle.nm_core.specs.Lawful.{BirthsStand, EachBirthStands}
 use Rattle.nm_core.specs.Walks.{Entry, entry_of, log_of, search_after}
 use Rattle.nm_core.specs.Searches.{Search, idle}
 use Rattle.nm_core.specs.Ordered.{Configuration, ordered, search_of, disorder, disorder_in, disorder_among, refused_in, next_in, outcome_in, after_in, trace_in}
@@ -23,10 +27,11 @@ use Rattle.nm_core.proofs.KnownBirths.{each_birth_stands}
 use Rattle.nm_core.proofs.LogsOfRuns.{searches_tell}
 use Rattle.nm_core.proofs.Reachable.{layout_kept}
 use Rattle.nm_order.specs.Intervals.{HasKey}
-use Rattle.nm_order.specs.Logs.{part_of, known_by, LogsTellWhatIsKnown}
+use Rattle.nm_order.specs.Logs.{takes_part, part_of, known_by}
+use Rattle.nm_order.proofs.PartsOfRuns.{logs_tell, part_tells_search}
 use Rattle.nm_order.proofs.OrderedLaws.{IsOrdered, each_ordered}
-use Rattle.nm_words.specs.Packing.{words_of, word_at, touched, left_word, with_word}
-use Rattle.nm_words.specs.Told.{told, BirthsAreKnown}
+use Rattle.nm_words.specs.Packing.{words_of, word_at, touched, left_word, with_word, EventsTouchOneWord}
+use Rattle.nm_words.specs.Told.{told, BirthsAreKnown, RepliesAreTold}
 use Rattle.nm_words.proofs.PackedEvents.{each_event_touches_one_word}
 use Rattle.nm_words.proofs.PackedReplies.{each_reply_is_told}
 use Rattle.nm_steps.specs.Steps.{May, HasLooked, IsAsLooked}
@@ -40,7 +45,124 @@ trace_in-append c (t ∷ ts) us = λ i. record { worker = t.0; event = t.1; outc
 
 pub part-append : (w : ℕ) (ts us : List Turn) → part_of w (ts ++ us) ≡ part_of w ts ++ part_of w us
 part-append w [] us = refl
-part-append w (t ∷ ts) us = ap (λ (l : List Entry). own t ++ l) (part-append w ts us) ∙ sym (append_assoc (own t) (part_of w ts) (part_of w us))
+part-append w (t ∷ ts) us =
+    let own : List Entry = cond (takes_part w t.worker t.event) (entry_of t) [] in
+    ap (λ (l : List Entry). own ++ l) (part-append w ts us) ∙ sym (append_assoc own (part_of w ts) (part_of w us))
 
 pub keys-append : (ts : List (ℕ × Event)) (t : ℕ × Event) → All (λ u. HasKey u.1) ts → HasKey t.1 → All (λ u. HasKey u.1) (ts ++ t ∷ [])
-keys-append ts t keys key = search (rules, keys, key)
+keys-append ts t keys key = All-append (λ (u : ℕ × Event). HasKey u.1) ts (t ∷ []) keys one
+  where
+    one : (i : ℕ) (d : ℕ × Event) → i < 1 → HasKey (get_or (t ∷ []) i d).1
+    one zero d below = key
+    one (suc i) d below = absurd (omega arith)
+
+-- ---- one more turn
+
+-- a join aside, what a worker does is judged by what it knows
+plainly : (s : State) (w : ℕ) (e : Event) → BirthsAreKnown s.layout (of s w) e → refusal_of s w e ≡ refusal s.layout s.memory (of s w) w e
+plainly s w (Join v) births = absurd births
+plainly s w e births = refl
+
+-- what was looked at is so
+as_looked : (s : State) (w : ℕ) → BirthsStand s w → (e : Event) → IsAsLooked (of s w) s.memory e
+as_looked s w stand (Fill x Birth v) = stand.looked x
+as_looked s w stand e = tt
+
+there : (s : State) (w : ℕ) (e : Event) → w < s.layout.workers → (of s w).gone ≡ false → refusal_of s w e ≡ None → refused s w e ≡ None
+unfolding refused
+there s w e below here none = go (nat_le s.layout.workers w) (of s w).gone refl here
+  where
+    go : (a b : Bool) → nat_le s.layout.workers w ≡ a → b ≡ false → cond (a || b) (Some NoWorker) (refusal_of s w e) ≡ None
+    go true b is still = absurd (let q : s.layout.workers ≤ w = leb-true s.layout.workers w is in omega (arith, q, below))
+    go false true is still = absurd (true≢false still)
+    go false false is still = none
+
+both_none : (a b : Option Refused) → a ≡ None → b ≡ None → or_else a b ≡ None
+both_none a b p q = rw (p, q) refl
+
+some_is : (o : Option (List Search)) (ss : List Search) (P : List Search → Type 0) → o ≡ Some ss → IfSome o P → P ss
+some_is o ss P is holds = rw is at holds
+
+-- a log is a worker's part of a run, and the worker has not resigned
+pub record IsPartOf (L : Layout) (w : ℕ) (log : List Entry) (turns : List (ℕ × Event)) : Type 0 where
+  pub fits : IsLayout L
+  pub keys : All (λ t. HasKey t.1) turns
+  pub worker : w < L.workers
+  pub is_part : log ≡ part_of w (trace_in (ordered L) turns)
+  pub here : (known_by L w log).gone ≡ false
+
+module _ (L : Layout) (w : ℕ) (log : List Entry) (turns : List (ℕ × Event)) (p : IsPartOf L w log turns) where
+  abbrev c : Configuration
+  c = after_in (ordered L) turns
+
+  abbrev k : Knowledge
+  k = known_by L w log
+
+  enough : 5 ≤ L.nodes
+  enough = let least = p.fits.least in omega arith
+
+  o : IsOrdered L c
+  o = each_ordered L enough turns p.keys
+
+  layout_is : c.state.layout ≡ L
+  layout_is = ap (λ (s : State). s.layout) o.leads ∙ layout_kept (start L) o.events
+
+  knows : of c.state w ≡ k
+  knows = logs_tell L turns w p.worker ∙ ap (known_by L w) (sym p.is_part)
+
+  -- the state's layout and what the worker knows are these
+  as_known : {X : Type 0} (f : Layout → Knowledge → X) → f c.state.layout (of c.state w) ≡ f L k
+  as_known f = ap (λ (l : Layout). f l (of c.state w)) layout_is ∙ ap (f L) knows
+
+  holds_there : (P : Layout → Knowledge → Type 0) → P L k → P c.state.layout (of c.state w)
+  holds_there P holds = subst (λ (l : Layout). P l (of c.state w)) (sym layout_is) (subst (P L) (sym knows) holds)
+
+  search_is : search_of o.searches w ≡ search_after idle log
+  search_is =
+      some_is (c.searches) o.searches (λ ss. search_of ss w ≡ search_after idle (log_of w (trace_in (ordered L) turns))) o.are (searches_tell L turns w p.worker)
+      ∙ (sym (part_tells_search w (trace_in (ordered L) turns) idle) ∙ ap (search_after idle) (sym p.is_part))
+
+  module _ (e : Event) (may : May L w log e) where
+    refusal_none : refusal_of c.state w e ≡ None
+    refusal_none =
+        plainly c.state w e (holds_there (λ l x. BirthsAreKnown l x e) may.births)
+        ∙ (as_known (λ l x. refusal l c.state.memory x w e) ∙ may.allowed c.state.memory (subst (λ (x : Knowledge). IsAsLooked x c.state.memory e) knows (as_looked c.state w (stand w) e)))
+      where
+        stand : EachBirthStands c.state
+        stand = subst EachBirthStands (sym o.leads) (each_birth_stands L enough o.events)
+
+    in_order : disorder_in c w e ≡ None
+    in_order = ap (λ ss. disorder_among ss (of c.state w) w e) o.are ∙ (ap (λ (x : Knowledge). disorder x (search_of o.searches w) e) knows ∙ (ap (λ (x : Search). disorder k x e) search_is ∙ may.ordered))
+
+    no_refusal : refused c.state w e ≡ None
+    no_refusal = there c.state w e (subst (λ (l : Layout). w < l.workers) (sym layout_is) p.worker) (ap (λ (x : Knowledge). x.gone) knows ∙ p.here) refusal_none
+
+    pub accepted : refused_in c w e ≡ None
+    unfolding refused_in
+    accepted = both_none (refused c.state w e) (disorder_in c w e) no_refusal in_order
+
+    abbrev found : ℕ
+    found = word_at L c.state.memory (touched w e)
+
+    touching : IsField c.state.layout (touched w e) × (words_of c.state.layout (next c.state (w, e)).memory ≡ with_word c.state.layout c.state.memory (touched w e) (left_word c.state.layout (of c.state w) e (word_at c.state.layout c.state.memory (touched w e))))
+    touching = subst EventsTouchOneWord (sym o.leads) (each_event_touches_one_word L enough o.events) w e no_refusal
+
+    pub field : IsField L (touched w e)
+    field = subst (λ (l : Layout). IsField l (touched w e)) layout_is touching.0
+
+    -- the words after the event
+    pub words_after : words_of L (after_in (ordered L) (turns ++ (w, e) ∷ [])).state.memory ≡ with_word L c.state.memory (touched w e) (left_word L k e found)
+    unfolding after_in
+    words_after =
+        ap (λ (d : Configuration). words_of L d.state.memory) (after_in-append (ordered L) turns ((w, e) ∷ []))
+        ∙ (ap (λ (s : State). words_of L s.memory) (sym (allowed_state c (w, e) accepted))
+        ∙ (ap (λ (l : Layout). words_of l (next c.state (w, e)).memory) (sym layout_is) ∙ (touching.1 ∙ as_known (λ l x. with_word l c.state.memory (touched w e) (left_word l x e (word_at l c.state.memory (touched w e)))))))
+
+    -- and its reply
+    pub reply_is : reply_of c.state w e ≡ told L k e found
+    reply_is = subst RepliesAreTold (sym o.leads) (each_reply_is_told L enough o.events) w e no_refusal (holds_there (λ l x. BirthsAreKnown l x e) may.births) ∙ as_known (λ l x. told l x e (word_at l c.state.memory (touched w e)))
+
+    -- the trace of one turn more
+    pub trace_after : trace_in (ordered L) (turns ++ (w, e) ∷ []) ≡ trace_in (ordered L) turns ++ record { worker = w; event = e; outcome = Ok (told L k e found) } ∷ []
+    unfolding trace_in
+    trace_after = trace_in-append (ordered L) turns ((w, e) ∷ []) ∙ ap (λ (r : Result Reply Refused). trace_in (ordered L) turns ++ record { worker = w; event = e; outcome = r } ∷ []) (allowed_outcome c (w, e) accepted ∙ ap Ok reply_is)

@@ -1,0 +1,4 @@
+pub mod Counts
+pub mod Presence
+pub mod Extending
+pub mod Keeping

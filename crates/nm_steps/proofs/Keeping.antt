@@ -1,0 +1,211 @@
+-- Each step keeps the rule.
+use Rattle.std.proofs.Common.{◌≡◌, ◌≢◌, ℕ, zero, suc, ◌+◌, ◌<◌, ◌≤◌, ◌==◌, Bool, true, false, cond, eqb, ltb, ◌||◌, List, [], ◌∷◌, ◌++◌, set, refl, sym, ap, ◌∙◌, subst, ⊎_elim, eq-eqb, arith, Result, Ok}
+use Rattle.std.specs.Prelude.{slice_index, slice_set, All}
+use Rattle.std.specs.List.{sum_by, count_by}
+use Rattle.std.proofs.lemmas.List.{append_assoc, append-nil}
+use Rattle.std.proofs.lemmas.List.Sums.{sum_by-cons}
+use Rattle.std.proofs.lemmas.Bool.Decides.{nat_tests}
+use mathlib.Core.Option.{some, none}
+use lib.ListN.{get_elem?}
+use Rattle.atomic_table.specs.Table.{Step, step, Allows, keeps}
+use Rattle.atomic_table.specs.Seated.{TableId}
+use Rattle.atomic_table.specs.declared.shared.Seat.{Seat}
+use Rattle.atomic_table.proofs.Lists.{at_set}
+use Rattle.nm_edge.specs.Layouts.{Layout}
+use Rattle.nm_edge.specs.Words.{word, words}
+use Rattle.nm_core.specs.declared.event.Event.{Event}
+use Rattle.nm_core.specs.declared.event.Event.TheVariants.{Join}
+use Rattle.nm_core.specs.declared.reply.Reply.{Reply}
+use Rattle.nm_core.specs.declared.trace.Turn.{Turn}
+use Rattle.nm_core.specs.Learning.{learn}
+use Rattle.nm_core.specs.Walks.{Entry}
+use Rattle.nm_core.specs.Ordered.{ordered, after_in, trace_in}
+use Rattle.nm_order.specs.Logs.{takes_part, is_leaver, part_of, known_by, known_after}
+use Rattle.nm_words.specs.Packing.{words_of, word_at, touched, left_word}
+use Rattle.nm_words.specs.Told.{told, BirthsAreKnown}
+use Rattle.nm_steps.specs.declared.view.Held.{Held}
+use Rattle.nm_steps.specs.declared.view.View.{View}
+use Rattle.nm_steps.specs.Rules.{held, holdings, knowledge, stands, once_below, LogsAre, IsShown, Runs, Kept, logged, is_store, IsFound, Did}
+use Rattle.nm_steps.specs.Steps.{May, IsReady, Changes, IsBlind}
+use Rattle.nm_steps.proofs.Counts.{at_most_sum, both_at_most_sum, sum_after}
+use Rattle.nm_steps.proofs.Presence.{gone_kept, known_push}
+use Rattle.nm_steps.proofs.Extending.{IsPartOf, part-append, keys-append, words_after, trace_after, field}
+
+pub once_is : (w n : ℕ) → (once_below w n ≤ 1) × (1 ≤ once_below w n → w < n)
+once_is w n = cases (ltb w n) refl
+  where
+    cases : (b : Bool) → ltb w n ≡ b → (cond b 1 0 ≤ 1) × (1 ≤ cond b 1 0 → w < n)
+    cases true e = (omega arith, λ h. grind (arith, nat_tests))
+    cases false e = (omega arith, λ h. absurd (omega arith))
+
+pub live : (v : View) → v.spent ≡ false → holdings v ≡ held v.number v.log ∷ v.others
+live v h = ap (λ (b : Bool). cond b [] (held v.number v.log ∷ v.others)) h
+
+pub stands_live : (v : View) → v.spent ≡ false → stands v.number v ≡ 1 + count_by (λ h. eqb v.number h.number) v.others
+stands_live v h =
+    ap (count_by (λ (x : Held). eqb v.number x.number)) (live v h)
+    ∙ sum_by-cons (λ (x : Held). cond (eqb v.number x.number) 1 0) (held v.number v.log) v.others
+    ∙ ap (λ (b : Bool). cond b 1 0 + count_by (λ (x : Held). eqb v.number x.number) v.others) (eq-eqb v.number v.number refl)
+
+-- ---- the part of a trace with one turn more
+
+-- an event that is no join is in the log of its worker alone
+pub no_leaver : (L : Layout) (w : ℕ) (log : List Entry) (e : Event) → May L w log e → (u : ℕ) → is_leaver u e ≡ false
+no_leaver L w log (Join v) may u = absurd may.births
+no_leaver L w log e may u = refl
+
+abbrev one_turn : ℕ → Event → Reply → Turn
+one_turn w e r = record { worker = w; event = e; outcome = Ok r }
+
+pub part_grows : (u : ℕ) (ts : List Turn) (w : ℕ) (e : Event) (r : Reply) → takes_part u w e ≡ true → part_of u (ts ++ one_turn w e r ∷ []) ≡ part_of u ts ++ (e, r) ∷ []
+part_grows u ts w e r takes = part-append u ts (one_turn w e r ∷ []) ∙ ap (λ (b : Bool). part_of u ts ++ (cond b ((e, r) ∷ []) [] ++ [])) takes
+
+pub part_stays : (u : ℕ) (ts : List Turn) (w : ℕ) (e : Event) (r : Reply) → takes_part u w e ≡ false → part_of u (ts ++ one_turn w e r ∷ []) ≡ part_of u ts
+part_stays u ts w e r apart = part-append u ts (one_turn w e r ∷ []) ∙ (ap (λ (b : Bool). part_of u ts ++ (cond b ((e, r) ∷ []) [] ++ [])) apart ∙ append-nil (part_of u ts))
+
+-- the logs of other numbers are as they were
+pub others_kept : (l L : Layout) (t t' : List Turn) (w : ℕ) → ((u : ℕ) → eqb w u ≡ false → part_of u t' ≡ part_of u t) → (hs : List Held) → count_by (λ h. eqb w h.number) hs ≡ 0 → LogsAre l L t hs → LogsAre l L t' hs
+others_kept l L t t' w same [] c a = tt
+others_kept l L t t' w same (h ∷ hs) c a = cases (eqb w h.number) refl (λ q. others_kept l L t t' w same hs q a.2)
+  where
+    sum : cond (eqb w h.number) 1 0 + count_by (λ h. eqb w h.number) hs ≡ 0
+    sum = sym (sum_by-cons (λ (x : Held). cond (eqb w x.number) 1 0) h hs) ∙ c
+
+    cases : (b : Bool) → eqb w h.number ≡ b → (count_by (λ h. eqb w h.number) hs ≡ 0 → LogsAre l L t' hs) → LogsAre l L t' (h ∷ hs)
+    cases true is rec = absurd (let q : 1 + count_by (λ (x : Held). eqb w x.number) hs ≡ 0 = rw is at sum in omega arith)
+    cases false is rec = (a.0, a.1 ∙ sym (same h.number is), rec (let q : 0 + count_by (λ (x : Held). eqb w x.number) hs ≡ 0 = rw is at sum in omega arith))
+
+-- ---- one step
+
+left_same : (L : Layout) (w : ℕ) (log : List Entry) (e : Event) (r : Reply) → May L w log e → (learn w (known_by L w log) e r).gone ≡ (known_by L w log).gone
+left_same L w log e r may = gone_kept w (known_by L w log) e r (no_leaver L w log e may w)
+
+module _ (L : Layout) (words : List ℕ) (views : List View) (id : ℕ) (v : View) (e : Event) (i : ℕ)
+    (k : Runs L words views) (at : get_elem? views id ≡ some v) (alive : v.spent ≡ false) (layout : v.layout ≡ L)
+    (index : i ≡ word L (touched v.number e)) (may : May L v.number v.log e) where
+  abbrev trace : List Turn
+  trace = trace_in (ordered L) k.turns
+
+  mine : LogsAre v.layout L trace (held v.number v.log ∷ v.others)
+  mine = subst (LogsAre v.layout L trace) (live v alive) (k.shown id v at)
+
+  counted : (sum_by (stands v.number) views ≡ 1) × (v.number < L.workers)
+  counted =
+      let one = once_is v.number L.workers in
+      let here = at_most_sum (stands v.number) views id v at in
+      let all = k.once v.number in
+      let self = stands_live v alive in
+      (omega arith, one.1 (omega arith))
+
+  part : IsPartOf L v.number v.log k.turns
+  part = record { fits = k.fits; keys = k.keys; worker = counted.1; is_part = mine.1; here = subst (λ (l : Layout). (known_by l v.number v.log).gone ≡ false) layout (k.here id v at alive) }
+
+  abbrev more : List (ℕ × Event)
+  more = k.turns ++ (v.number, e) ∷ []
+
+  abbrev found : ℕ
+  found = slice_index words i
+
+  found_is : found ≡ word_at L (after_in (ordered L) k.turns).state.memory (touched v.number e)
+  found_is = λ j. slice_index (k.words_are j) (index j)
+
+  pub is_found : IsFound L v.number v.log e found
+  is_found = record { fits = k.fits; worker = counted.1; turns = k.turns; keys = k.keys; is_part = mine.1; word = λ _. found_is }
+
+  abbrev reply : Reply
+  reply = told v.layout (knowledge v) e found
+
+  abbrev now : View
+  now = logged v e found
+
+  reply_is : told L (known_by L v.number v.log) e (word_at L (after_in (ordered L) k.turns).state.memory (touched v.number e)) ≡ reply
+  reply_is = ap (λ (l : Layout). told l (known_by l v.number v.log) e (word_at L (after_in (ordered L) k.turns).state.memory (touched v.number e))) (sym layout) ∙ ap (told v.layout (knowledge v) e) (sym found_is)
+
+  trace_is : trace_in (ordered L) more ≡ trace ++ one_turn v.number e reply ∷ []
+  trace_is = trace_after L v.number v.log k.turns part e may ∙ ap (λ (r : Reply). trace ++ one_turn v.number e r ∷ []) reply_is
+
+  own_part : part_of v.number (trace_in (ordered L) more) ≡ part_of v.number trace ++ (e, reply) ∷ []
+  own_part = ap (part_of v.number) trace_is ∙ part_grows v.number trace v.number e reply (ap (λ (b : Bool). b || is_leaver v.number e) (eq-eqb v.number v.number refl))
+
+  other_part : (u : ℕ) → eqb v.number u ≡ false → part_of u (trace_in (ordered L) more) ≡ part_of u trace
+  other_part u ne = ap (part_of u) trace_is ∙ part_stays u trace v.number e reply ((λ j. ne j || no_leaver L v.number v.log e may u j))
+
+  shown_own : IsShown L (trace_in (ordered L) more) now
+  shown_own =
+      let self = stands_live v alive in
+      let here = at_most_sum (stands v.number) views id v at in
+      subst (LogsAre v.layout L (trace_in (ordered L) more)) (sym (live now alive)) (
+        mine.0,
+        ap (λ (l : List Entry). l ++ (e, reply) ∷ []) mine.1 ∙ sym own_part,
+        others_kept v.layout L trace (trace_in (ordered L) more) v.number other_part v.others (omega (arith, counted.0)) mine.2,
+      )
+
+  shown_other : (j : ℕ) (u : View) → j ≢ id → get_elem? views j ≡ some u → IsShown L (trace_in (ordered L) more) u
+  shown_other j u ne is =
+      let both = both_at_most_sum (stands v.number) views j id u v ne is at in
+      let self = stands_live v alive in
+      others_kept u.layout L trace (trace_in (ordered L) more) v.number other_part (holdings u) (omega (arith, counted.0)) (k.shown j u is)
+
+  shown_after : (j : ℕ) (u : View) → get_elem? (set views id now) j ≡ some u → IsShown L (trace_in (ordered L) more) u
+  shown_after j u is =
+      ⊎_elim
+      (λ (x : (j ≡ id) × (now ≡ u)). subst (IsShown L (trace_in (ordered L) more)) x.1 shown_own)
+      (λ (x : (j ≢ id) × (get_elem? views j ≡ some u)). shown_other j u x.0 x.1)
+      (at_set views id j now u is)
+
+  here_now : (knowledge now).gone ≡ false
+  here_now =
+      ap (λ (l : Layout). (known_by l v.number now.log).gone) layout
+      ∙ (ap (λ x. x.gone) (known_push v.number L v.log (e, reply)) ∙ (left_same L v.number v.log e reply may ∙ part.here))
+
+  here_after : (j : ℕ) (u : View) → get_elem? (set views id now) j ≡ some u → u.spent ≡ false → (knowledge u).gone ≡ false
+  here_after j u is live_u =
+      ⊎_elim
+      (λ (x : (j ≡ id) × (now ≡ u)). subst (λ (y : View). (knowledge y).gone ≡ false) x.1 here_now)
+      (λ (x : (j ≢ id) × (get_elem? views j ≡ some u)). k.here j u x.1 live_u)
+      (at_set views id j now u is)
+
+  same_stands : (w : ℕ) → stands w now ≡ stands w v
+  same_stands w =
+      ap (count_by (λ (x : Held). eqb w x.number)) (live now alive)
+      ∙ sum_by-cons (λ (x : Held). cond (eqb w x.number) 1 0) (held v.number now.log) v.others
+      ∙ sym (sum_by-cons (λ (x : Held). cond (eqb w x.number) 1 0) (held v.number v.log) v.others)
+      ∙ sym (ap (count_by (λ (x : Held). eqb w x.number)) (live v alive))
+
+  words_now : slice_set words i (left_word v.layout (knowledge v) e found) ≡ words_of L (after_in (ordered L) more).state.memory
+  words_now =
+      ap (λ (l : Layout). slice_set words i (left_word l (known_by l v.number v.log) e found)) layout
+      ∙ ((λ j. slice_set (k.words_are j) (index j) (left_word L (known_by L v.number v.log) e (found_is j))) ∙ sym (words_after L v.number v.log k.turns part e may))
+
+  pub next : Runs L (slice_set words i (left_word v.layout (knowledge v) e found)) (set views id now)
+  next = record {
+    fits = k.fits;
+    turns = more;
+    keys = keys-append k.turns (v.number, e) k.keys may.key;
+    words_are = words_now;
+    shown = shown_after;
+    here = here_after;
+    once = λ w. omega (arith, sum_after (stands w) views id v now at, same_stands w, k.once w);
+  }
+
+abbrev no_step : Step Unit
+no_step = step 0 0 0 0 none
+
+-- THE STEP: an event that the own log allows may be made at its word, by any operation that leaves the word that the event leaves
+pub allows : (L : Layout) (slots id : ℕ) (v : View) (e : Event) (i : ℕ) (f said : ℕ → ℕ)
+    → v.spent ≡ false → v.layout ≡ L → i ≡ word L (touched v.number e) → May L v.number v.log e
+    → ((n : ℕ) → f n ≡ left_word v.layout (knowledge v) e n)
+    → ((n : ℕ) → (told v.layout (knowledge v) e (said n) ≡ told v.layout (knowledge v) e n) × (is_store e ≡ false → said n ≡ n))
+    → Allows (Kept L) slots id (v, []) i f (λ n. Did e no_step (v, []) (said n))
+allows L slots id v e i f said alive layout index may change tell s k homes at small =
+    let n : ℕ = slice_index s.words i in
+    let was = is_found L s.words s.views id v e i k at alive layout index may in (
+      logged v e n,
+      keeps,
+      tt,
+      subst (λ (m : ℕ). Runs L (slice_set s.words i m) (set s.views id (logged v e n))) (sym (change n)) (next L s.words s.views id v e i k at alive layout index may),
+      (
+        (λ j. (record v { log = v.log ++ (e, sym (tell n).0 j) ∷ [] }, [])),
+        subst (λ (l : Layout). IsFound l v.number v.log e (said n)) (sym layout) (record { fits = was.fits; worker = was.worker; turns = was.turns; keys = was.keys; is_part = was.is_part; word = λ h. (tell n).1 h ∙ was.word h }),
+      ),
+    )
