@@ -1,5 +1,5 @@
 -- An event that a worker's own log allows makes a run longer by one turn, and changes the one word that it touches.
-use Rattle.std.proofs.Common.{◌≡◌, ℕ, zero, suc, get_or, true≢false, ◌<◌, ◌≤◌, ◌==◌, Bool, true, false, ◌||◌, cond, List, [], ◌∷◌, ◌++◌, refl, sym, ap, ◌∙◌, subst, eq-eqb, arith, Result, Ok, Err}
+use Rattle.std.proofs.Common.{◌≡◌, ℕ, zero, suc, get_or, true≢false, length, not, ◌≢◌, ne_eqb, ◌<◌, ◌≤◌, ◌==◌, Bool, true, false, ◌||◌, cond, List, [], ◌∷◌, ◌++◌, refl, sym, ap, ◌∙◌, subst, eq-eqb, arith, Result, Ok, Err}
 use Rattle.std.specs.Prelude.{Option, Some, None, IsSome, IfSome, All, nat_le, slice_set}
 use Rattle.std.proofs.lemmas.List.{append_assoc}
 use Rattle.std.proofs.lemmas.List.Elements.{All-append}
@@ -10,18 +10,19 @@ use Rattle.nm_core.specs.declared.event.Event.{Event}
 use Rattle.nm_core.specs.declared.event.Event.TheVariants.{Join, Fill}
 use Rattle.nm_core.specs.declared.event.Field.TheVariants.{Birth}
 use Rattle.nm_core.specs.declared.reply.Reply.{Reply}
+use Rattle.nm_core.specs.declared.reply.Reply.TheVariants.{Joined}
 use Rattle.nm_core.specs.declared.reply.Refused.{Refused}
-use Rattle.nm_core.specs.declared.reply.Refused.TheVariants.{NoWorker}
+use Rattle.nm_core.specs.declared.reply.Refused.TheVariants.{NoWorker, NotReady}
 use Rattle.nm_core.specs.declared.trace.Turn.{Turn}
 use Rattle.nm_core.specs.Maps.{or_else}
 use Rattle.nm_core.specs.Memory.{Memory}
 use Rattle.nm_core.specs.Knowledge.{Knowledge, draft_of}
-use Rattle.nm_core.specs.Step.{refusal}
-use Rattle.nm_core.specs.Runs.{State, of, start, after, next, applied, refused, refusal_of, reply_of}
+use Rattle.nm_core.specs.Step.{first, ◌refuses◌, refusal, write}
+use Rattle.nm_core.specs.Runs.{State, of, start, after, next, applied, refused, refusal_of, reply_of, is_no_worker, join_refusal}
 use Rattle.nm_core.specs.Lawful.{BirthsStand, EachBirthStands}
 use Rattle.nm_core.specs.Walks.{Entry, entry_of, log_of, search_after}
 use Rattle.nm_core.specs.Searches.{Search, idle}
-use Rattle.nm_core.specs.Ordered.{Configuration, ordered, search_of, disorder, disorder_in, disorder_among, refused_in, next_in, outcome_in, after_in, trace_in}
+use Rattle.nm_core.specs.Ordered.{Configuration, ordered, search_of, disorder, disorder_in, disorder_among, refused_in, applied_in, next_in, outcome_in, after_in, trace_in}
 use Rattle.nm_core.proofs.Configurations.{after_in-append, allowed_next, allowed_outcome, allowed_state}
 use Rattle.nm_core.proofs.KnownBirths.{each_birth_stands}
 use Rattle.nm_core.proofs.LogsOfRuns.{searches_tell}
@@ -34,7 +35,7 @@ use Rattle.nm_words.specs.Packing.{words_of, word_at, touched, left_word, with_w
 use Rattle.nm_words.specs.Told.{told, BirthsAreKnown, RepliesAreTold}
 use Rattle.nm_words.proofs.PackedEvents.{each_event_touches_one_word}
 use Rattle.nm_words.proofs.PackedReplies.{each_reply_is_told}
-use Rattle.nm_steps.specs.Steps.{May, HasLooked, IsAsLooked}
+use Rattle.nm_steps.specs.Steps.{May, HasLooked, IsAsLooked, HasEmptyHands}
 
 -- ---- traces
 
@@ -82,6 +83,20 @@ both_none a b p q = rw (p, q) refl
 
 some_is : (o : Option (List Search)) (ss : List Search) (P : List Search → Type 0) → o ≡ Some ss → IfSome o P → P ss
 some_is o ss P is holds = rw is at holds
+
+or_false : (a b : Bool) → a ≡ false → b ≡ false → (a || b) ≡ false
+or_false a b p q = rw (p, q) refl
+
+not_le : (n w : ℕ) → w < n → nat_le n w ≡ false
+not_le n w below = go (nat_le n w) refl
+  where
+    go : (b : Bool) → nat_le n w ≡ b → b ≡ false
+    go true is = absurd (let q : n ≤ w = leb-true n w is in omega (arith, q, below))
+    go false is = refl
+
+-- neither of two tests refuses
+both_pass : (a b : Bool) (r q : Refused) → a ≡ false → b ≡ false → first (a refuses r ∷ b refuses q ∷ []) ≡ None
+both_pass a b r q p h = rw (p, h) refl
 
 -- a log is a worker's part of a run, and the worker has not resigned
 pub record IsPartOf (L : Layout) (w : ℕ) (log : List Entry) (turns : List (ℕ × Event)) : Type 0 where
@@ -166,3 +181,47 @@ module _ (L : Layout) (w : ℕ) (log : List Entry) (turns : List (ℕ × Event))
     pub trace_after : trace_in (ordered L) (turns ++ (w, e) ∷ []) ≡ trace_in (ordered L) turns ++ record { worker = w; event = e; outcome = Ok (told L k e found) } ∷ []
     unfolding trace_in
     trace_after = trace_in-append (ordered L) turns ((w, e) ∷ []) ∙ ap (λ (r : Result Reply Refused). trace_in (ordered L) turns ++ record { worker = w; event = e; outcome = r } ∷ []) (allowed_outcome c (w, e) accepted ∙ ap Ok reply_is)
+
+-- ---- a join
+
+module _ (L : Layout) (u w : ℕ) (heirs leavers : List Entry) (turns : List (ℕ × Event)) (p : IsPartOf L u heirs turns) (q : IsPartOf L w leavers turns)
+    (differ : u ≢ w) (hands : HasEmptyHands (known_by L w leavers)) where
+  abbrev d : Configuration
+  d = after_in (ordered L) turns
+
+  worker_is_there : (v : ℕ) (log : List Entry) → IsPartOf L v log turns → is_no_worker d.state v ≡ false
+  worker_is_there v log p = or_false (nat_le d.state.layout.workers v) (of d.state v).gone (not_le d.state.layout.workers v (subst (λ (l : Layout). v < l.workers) (sym (layout_is L v log turns p)) p.worker)) (ap (λ (x : Knowledge). x.gone) (knows L v log turns p) ∙ p.here)
+
+  join_allowed : join_refusal d.state u w ≡ None
+  join_allowed =
+      both_pass _ _ NoWorker NotReady (or_false (w == u) (is_no_worker d.state w) (ne_eqb w u (λ same. differ (sym same))) (worker_is_there w leavers q))
+      (or_false (not (length (of d.state w).drafts == 0)) (of d.state w).brief.unlabelled
+          (ap (λ (x : Knowledge). not (length x.drafts == 0)) (knows L w leavers turns q) ∙ ap (λ (n : ℕ). not (n == 0)) hands.drafts)
+          (ap (λ (x : Knowledge). x.brief.unlabelled) (knows L w leavers turns q) ∙ hands.labelled))
+
+  join_not_refused : refused d.state u (Join w) ≡ None
+  unfolding refused
+  join_not_refused = ap (λ (b : Bool). cond b (Some NoWorker) (join_refusal d.state u w)) (worker_is_there u heirs p) ∙ join_allowed
+
+  in_any_order : (o : Option (List Search)) → disorder_among o (of d.state u) u (Join w) ≡ None
+  in_any_order None = refl
+  in_any_order (Some ss) = refl
+
+  join_accepted : refused_in d u (Join w) ≡ None
+  unfolding refused_in
+  join_accepted = both_none (refused d.state u (Join w)) (disorder_in d u (Join w)) join_not_refused (in_any_order d.searches)
+
+  same_memory : (next_in d (u, Join w)).state.memory ≡ d.state.memory
+  unfolding applied_in applied write
+  same_memory = ap (λ (x : Configuration). x.state.memory) (allowed_next d (u, Join w) join_accepted)
+
+  -- a join changes no word
+  pub words_after_join : words_of L (after_in (ordered L) (turns ++ (u, Join w) ∷ [])).state.memory ≡ words_of L d.state.memory
+  unfolding after_in
+  words_after_join = ap (λ (x : Configuration). words_of L x.state.memory) (after_in-append (ordered L) turns ((u, Join w) ∷ [])) ∙ ap (words_of L) same_memory
+
+  pub trace_after_join : trace_in (ordered L) (turns ++ (u, Join w) ∷ []) ≡ trace_in (ordered L) turns ++ record { worker = u; event = Join w; outcome = Ok (Joined (known_by L w leavers).ledgers) } ∷ []
+  unfolding trace_in
+  trace_after_join =
+      trace_in-append (ordered L) turns ((u, Join w) ∷ [])
+      ∙ ap (λ (r : Result Reply Refused). trace_in (ordered L) turns ++ record { worker = u; event = Join w; outcome = r } ∷ []) (allowed_outcome d (u, Join w) join_accepted ∙ ap (λ (x : Knowledge). Ok (Joined x.ledgers)) (knows L w leavers turns q))

@@ -1,5 +1,5 @@
 -- Each step keeps the rule.
-use Rattle.std.proofs.Common.{◌≡◌, ◌≢◌, ℕ, zero, suc, ◌+◌, ◌<◌, ◌≤◌, ◌==◌, Bool, true, false, cond, eqb, ltb, ◌||◌, List, [], ◌∷◌, ◌++◌, set, refl, sym, ap, ◌∙◌, subst, ⊎_elim, eq-eqb, arith, Result, Ok}
+use Rattle.std.proofs.Common.{◌≡◌, ◌≢◌, ℕ, zero, suc, ◌+◌, ◌<◌, ◌≤◌, ◌==◌, Bool, true, false, cond, eqb, ltb, ◌||◌, List, [], ◌∷◌, ◌++◌, set, refl, sym, ap, ◌∙◌, subst, ⊎_elim, eq-eqb, true≢false, arith, Result, Ok}
 use Rattle.std.specs.Prelude.{slice_index, slice_set, All}
 use Rattle.std.specs.List.{sum_by, count_by}
 use Rattle.std.proofs.lemmas.List.{append_assoc, append-nil}
@@ -13,6 +13,7 @@ use Rattle.atomic_table.specs.declared.shared.Seat.{Seat}
 use Rattle.atomic_table.proofs.Lists.{at_set}
 use Rattle.nm_edge.specs.Layouts.{Layout}
 use Rattle.nm_edge.specs.Words.{word, words}
+use Rattle.nm_edge.proofs.Words.{fields_within}
 use Rattle.nm_core.specs.declared.event.Event.{Event}
 use Rattle.nm_core.specs.declared.event.Event.TheVariants.{Join}
 use Rattle.nm_core.specs.declared.reply.Reply.{Reply}
@@ -54,7 +55,7 @@ pub no_leaver : (L : Layout) (w : ℕ) (log : List Entry) (e : Event) → May L 
 no_leaver L w log (Join v) may u = absurd may.births
 no_leaver L w log e may u = refl
 
-abbrev one_turn : ℕ → Event → Reply → Turn
+abbrev pub one_turn : ℕ → Event → Reply → Turn
 one_turn w e r = record { worker = w; event = e; outcome = Ok r }
 
 pub part_grows : (u : ℕ) (ts : List Turn) (w : ℕ) (e : Event) (r : Reply) → takes_part u w e ≡ true → part_of u (ts ++ one_turn w e r ∷ []) ≡ part_of u ts ++ (e, r) ∷ []
@@ -209,3 +210,27 @@ allows L slots id v e i f said alive layout index may change tell s k homes at s
         subst (λ (l : Layout). IsFound l v.number v.log e (said n)) (sym layout) (record { fits = was.fits; worker = was.worker; turns = was.turns; keys = was.keys; is_part = was.is_part; word = λ h. (tell n).1 h ∙ was.word h }),
       ),
     )
+
+-- what every operation asks of its caller, where the pass is ready; d is the event that the `Play` names
+asked : (L : Layout) (z : TableId) (slots : ℕ) (it : Seat Unit View) (d e : Event) (i : ℕ) (f said : ℕ → ℕ)
+    → d ≡ e → IsReady L z it e i → Changes e it.me.0 f
+    → ((n : ℕ) → (told it.me.0.layout (knowledge it.me.0) e (said n) ≡ told it.me.0.layout (knowledge it.me.0) e n) × (is_store e ≡ false → said n ≡ n))
+    → (it.table_id ≡ z) × (i < z.words) × Allows (Kept L) slots it.id it.me i f (λ n. Did d no_step it.me (said n))
+asked L z slots it d e i f said pick r change tell = (
+  r.table,
+  subst (λ (k : ℕ). k < z.words) (sym r.word) (subst (λ (k : ℕ). word L (touched it.me.0.number e) < k) (sym r.words) (fields_within L (touched it.me.0.number e) r.within)),
+  subst (λ (x : Event). Allows (Kept L) slots it.id it.me i f (λ n. Did x no_step it.me (said n))) (sym pick)
+      (subst (λ (c : List (ℕ × Unit)). Allows (Kept L) slots it.id (it.me.0, c) i f (λ n. Did e no_step (it.me.0, c) (said n))) (sym r.empty)
+      (allows L slots it.id it.me.0 e i f said r.alive r.layout r.word r.may change tell)),
+)
+
+-- the same where the `Play` is told the word that was found, and where it is told the one stored
+pub asked_plainly : (L : Layout) (z : TableId) (slots : ℕ) (it : Seat Unit View) (d e : Event) (i : ℕ) (f : ℕ → ℕ)
+    → d ≡ e → IsReady L z it e i → Changes e it.me.0 f
+    → (it.table_id ≡ z) × (i < z.words) × Allows (Kept L) slots it.id it.me i f (Did d no_step it.me)
+asked_plainly L z slots it d e i f pick r change = asked L z slots it d e i f (λ n. n) pick r change (λ n. (refl, λ h. refl))
+
+pub asked_blind : (L : Layout) (z : TableId) (slots : ℕ) (it : Seat Unit View) (d e : Event) (i new : ℕ)
+    → d ≡ e → IsReady L z it e i → Changes e it.me.0 (λ _. new) → IsBlind e it.me.0
+    → (it.table_id ≡ z) × (i < z.words) × Allows (Kept L) slots it.id it.me i (λ _. new) (λ _. Did d no_step it.me new)
+asked_blind L z slots it d e i new pick r change blind = asked L z slots it d e i (λ _. new) (λ _. new) pick r change (λ n. (blind.same new n, λ h. absurd (true≢false (sym blind.store ∙ h))))

@@ -2,3 +2,4 @@ pub mod Counts
 pub mod Presence
 pub mod Extending
 pub mod Keeping
+pub mod Cutting

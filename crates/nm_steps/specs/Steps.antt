@@ -1,9 +1,9 @@
 -- What a step asks of its worker, and what it does.
-use Rattle.std.specs.Prelude.{◌≡◌, ◌≤◌, ℕ, suc, true, false, List, [], ◌∷◌, ◌++◌, Option, Some, None, IsSome}
+use Rattle.std.specs.Prelude.{◌≡◌, ◌≤◌, ℕ, suc, true, false, List, [], ◌∷◌, ◌++◌, length, Option, Some, None, IsSome}
 use Rattle.atomic_table.specs.Seated.{TableId}
 use Rattle.atomic_table.specs.declared.shared.Seat.{Seat}
 use Rattle.nm_edge.specs.Layouts.{Layout}
-use Rattle.nm_edge.specs.Words.{word, words}
+use Rattle.nm_edge.specs.Words.{IsField, word, words}
 use Rattle.nm_core.specs.declared.event.Event.{Event}
 use Rattle.nm_core.specs.declared.event.Event.TheVariants.{Fill}
 use Rattle.nm_core.specs.declared.event.Field.TheVariants.{Birth}
@@ -41,6 +41,11 @@ pub record May (L : Layout) (w : ℕ) (log : List Entry) (e : Event) : Type 0 wh
   pub births : BirthsAreKnown L (known_by L w log) e
   pub key : HasKey e
 
+-- no private slot and no unlabelled cut: what a worker that resigns must have
+pub record HasEmptyHands (k : Knowledge) : Type 0 where
+  pub drafts : length k.drafts ≡ 0
+  pub labelled : k.brief.unlabelled ≡ false
+
 -- ---- one operation on one word
 
 -- the pass can do this event, by the word i
@@ -50,6 +55,7 @@ pub record IsReady (L : Layout) (z : TableId) (it : Seat Unit View) (e : Event) 
   pub empty : it.me.1 ≡ []
   pub alive : it.me.0.spent ≡ false
   pub layout : it.me.0.layout ≡ L
+  pub within : IsField L (touched it.me.0.number e)
   pub word : i ≡ word L (touched it.me.0.number e)
   pub may : May L it.me.0.number it.me.0.log e
 

@@ -1,0 +1,322 @@
+-- The rule holds at the start, and where views are cut and joined.
+use Rattle.std.proofs.Common.{◌≡◌, ◌≢◌, ℕ, zero, suc, ◌+◌, ◌-◌, ◌<◌, ◌≤◌, ◌==◌, Bool, true, false, cond, eqb, ltb, ◌||◌, true≢false, List, [], ◌∷◌, ◌++◌, length, set, refl, sym, ap, ◌∙◌, subst, ⊎_elim, ne_eqb, eq-eqb, add-zero, arith, Result, Ok}
+use Rattle.std.specs.Prelude.{Option, Some, None, All}
+use Rattle.std.specs.List.{count_by}
+use Rattle.std.proofs.lemmas.List.Sums.{sum_by-cons, sum_by-append}
+use Rattle.std.proofs.lemmas.Bool.{cond-false, cond-true, eqb-true, or_parts}
+use Rattle.std.proofs.lemmas.Bool.Decides.{nat_tests}
+use mathlib.Core.Option.{some, some-injective, some-ne-none}
+use lib.ListN.{get_elem?}
+use Rattle.atomic_table.specs.Table.{State, Splits, Joins, opening, Final, Seen}
+use Rattle.atomic_table.proofs.Lists.{at_set, at_snoc, set_else}
+use Rattle.nm_edge.specs.Layouts.{Layout, IsLayout}
+use Rattle.nm_core.specs.declared.event.Event.{Event}
+use Rattle.nm_core.specs.declared.event.Event.TheVariants.{Join}
+use Rattle.nm_core.specs.declared.reply.Reply.{Reply}
+use Rattle.nm_core.specs.declared.reply.Reply.TheVariants.{Joined}
+use Rattle.nm_core.specs.declared.trace.Turn.{Turn}
+use Rattle.nm_core.specs.Memory as memory
+use Rattle.nm_core.specs.Knowledge.{Knowledge}
+use Rattle.nm_core.specs.Walks.{Entry}
+use Rattle.nm_core.specs.Ordered.{ordered, after_in, trace_in}
+use Rattle.nm_order.specs.Intervals.{HasKey}
+use Rattle.nm_order.specs.Logs.{takes_part, is_leaver, part_of, known_by}
+use Rattle.nm_words.specs.Packing.{words_of}
+use Rattle.nm_steps.specs.declared.view.Held.{Held}
+use Rattle.nm_steps.specs.declared.view.View.{View}
+use Rattle.nm_steps.specs.Rules.{held, holdings, knowledge, stands, once_below, LogsAre, IsShown, Runs, Kept, numbers_from, viewing, everybody, own_alone, the_others, nobody, passing, joined}
+use Rattle.nm_steps.specs.Steps.{HasEmptyHands}
+use Rattle.nm_steps.proofs.Counts.{sum_after, at_most_sum, both_at_most_sum}
+use Rattle.nm_steps.proofs.Presence.{gone_kept, known_push}
+use Rattle.nm_steps.proofs.Extending.{IsPartOf, keys-append, words_after_join, trace_after_join}
+use Rattle.nm_steps.proofs.Keeping.{live, stands_live, once_is, one_turn, part_grows, part_stays, others_kept}
+
+-- ---- the opening
+
+held_by : (L : Layout) (hs : List Held) → holdings (viewing L hs) ≡ hs
+held_by L [] = refl
+held_by L (h ∷ hs) = refl
+
+layout_of : (L : Layout) (hs : List Held) → (viewing L hs).layout ≡ L
+layout_of L [] = refl
+layout_of L (h ∷ hs) = refl
+
+fresh : (L : Layout) (k n : ℕ) → LogsAre L L [] (numbers_from k n)
+fresh L k zero = tt
+fresh L k (suc n) = (refl, refl, fresh L (suc k) n)
+
+fresh_here : (L : Layout) (k n : ℕ) → (knowledge (viewing L (numbers_from k n))).gone ≡ false
+fresh_here L k zero = refl
+fresh_here L k (suc n) = refl
+
+abbrev times : ℕ → List Held → ℕ
+times w hs = count_by (λ h. eqb w h.number) hs
+
+times-cons : (w : ℕ) (h : Held) (hs : List Held) → times w (h ∷ hs) ≡ cond (eqb w h.number) 1 0 + times w hs
+times-cons w h hs = sum_by-cons (λ (x : Held). cond (eqb w x.number) 1 0) h hs
+
+once_between : (w k n : ℕ) → times w (numbers_from k n) ≡ cond (ltb w k) 0 (cond (ltb w (k + n)) 1 0)
+once_between w k zero = grind (arith, nat_tests)
+once_between w k (suc n) = let e = times-cons w (held k []) (numbers_from (suc k) n) in let r = once_between w (suc k) n in grind (arith, nat_tests, e, r)
+
+pub opens : (L : Layout) (words : List ℕ) → IsLayout L → words ≡ words_of L (memory.opening L) → Kept L (opening words [] (everybody L))
+unfolding after_in trace_in
+opens L words fits e = record {
+  fits = fits;
+  turns = [];
+  keys = λ i d below. absurd (omega arith);
+  words_are = e;
+  shown = first;
+  here = first_here;
+  once = λ w. sum_by-cons (stands w) (everybody L) [] ∙ add-zero (stands w (everybody L)) ∙ (let a : times w (holdings (everybody L)) ≡ cond (ltb w 0) 0 (cond (ltb w (0 + L.workers)) 1 0) = ap (times w) (held_by L (numbers_from 0 L.workers)) ∙ once_between w 0 L.workers in a ∙ under w L.workers);
+}
+  where
+    under : (w n : ℕ) → cond (ltb w 0) 0 (cond (ltb w (0 + n)) 1 0) ≡ once_below w n
+    under w n = grind (arith, nat_tests)
+
+    all : IsShown L [] (everybody L)
+    all = subst (LogsAre (everybody L).layout L []) (sym (held_by L (numbers_from 0 L.workers))) (subst (λ (l : Layout). LogsAre l L [] (numbers_from 0 L.workers)) (sym (layout_of L (numbers_from 0 L.workers))) (fresh L 0 L.workers))
+
+    first_here : (i : ℕ) (v : View) → get_elem? (everybody L ∷ []) i ≡ some v → v.spent ≡ false → (knowledge v).gone ≡ false
+    first_here zero v is alive = subst (λ (x : View). (knowledge x).gone ≡ false) (some-injective _ _ is) (fresh_here L 0 L.workers)
+    first_here (suc i) v is alive = absurd (some-ne-none v (sym is))
+
+    first : (i : ℕ) (v : View) → get_elem? (everybody L ∷ []) i ≡ some v → IsShown L [] v
+    first zero v is = subst (IsShown L []) (some-injective _ _ is) all
+    first (suc i) v is = absurd (some-ne-none v (sym is))
+
+-- ---- cutting
+
+abbrev IsHere : View → Type 0
+IsHere v = v.spent ≡ false → (knowledge v).gone ≡ false
+
+cuts : (L : Layout) (id : ℕ) (v left right : View) → ((t : List Turn) → IsShown L t v → IsShown L t left × IsShown L t right) → (IsHere v → IsHere left × IsHere right) → ((w : ℕ) → stands w left + stands w right ≡ stands w v) → Splits (Kept L) id v left right
+cuts L id v left right keep stay count s k at = record {
+  fits = k.fits;
+  turns = k.turns;
+  keys = k.keys;
+  words_are = k.words_are;
+  shown = each;
+  here = each_here;
+  once = λ w. sum_by-append (stands w) (set s.views id left) (right ∷ []) ∙ omega (arith, sum_by-cons (stands w) right [], sum_after (stands w) s.views id v left at, count w, k.once w);
+}
+  where
+    both : IsShown L (trace_in (ordered L) k.turns) left × IsShown L (trace_in (ordered L) k.turns) right
+    both = keep (trace_in (ordered L) k.turns) (k.shown id v at)
+
+    each : (j : ℕ) (u : View) → get_elem? (set s.views id left ++ right ∷ []) j ≡ some u → IsShown L (trace_in (ordered L) k.turns) u
+    each j u is =
+        ⊎_elim
+        (λ (x : get_elem? (set s.views id left) j ≡ some u).
+        ⊎_elim (λ (y : (j ≡ id) × (left ≡ u)). subst (IsShown L (trace_in (ordered L) k.turns)) y.1 both.0) (λ (y : (j ≢ id) × (get_elem? s.views j ≡ some u)). k.shown j u y.1) (at_set s.views id j left u x))
+        (λ (x : right ≡ u). subst (IsShown L (trace_in (ordered L) k.turns)) x both.1)
+        (at_snoc (set s.views id left) right u j is)
+
+    both_here : IsHere left × IsHere right
+    both_here = stay (k.here id v at)
+
+    each_here : (j : ℕ) (u : View) → get_elem? (set s.views id left ++ right ∷ []) j ≡ some u → IsHere u
+    each_here j u is =
+        ⊎_elim
+        (λ (x : get_elem? (set s.views id left) j ≡ some u).
+        ⊎_elim (λ (y : (j ≡ id) × (left ≡ u)). subst IsHere y.1 both_here.0) (λ (y : (j ≢ id) × (get_elem? s.views j ≡ some u)). k.here j u y.1) (at_set s.views id j left u x))
+        (λ (x : right ≡ u). subst IsHere x both_here.1)
+        (at_snoc (set s.views id left) right u j is)
+
+logs_both : (l m L : Layout) (t : List Turn) (hs gs : List Held) → l ≡ m → LogsAre l L t hs → LogsAre m L t gs → LogsAre l L t (hs ++ gs)
+logs_both l m L t [] gs e a b = subst (λ (x : Layout). LogsAre x L t gs) (sym e) b
+logs_both l m L t (h ∷ hs) gs e a b = (a.0, a.1, logs_both l m L t hs gs e a.2 b)
+
+-- ---- dealing
+
+-- what is left when the numbers below k are dealt
+abbrev pub left_from : Layout → ℕ → View
+left_from L k = viewing L (numbers_from k (L.workers - k))
+
+abbrev with_others : Layout → ℕ → List Held → View
+with_others L k hs = record { layout = L; spent = false; number = k; log = []; others = hs }
+
+left_has : (L : Layout) (k m : ℕ) → m ≡ suc (L.workers - suc k) → viewing L (numbers_from k m) ≡ with_others L k (numbers_from (suc k) (L.workers - suc k))
+left_has L k m e = ap (λ (n : ℕ). viewing L (numbers_from k n)) e
+
+left_is : (L : Layout) (k : ℕ) → k < L.workers → left_from L k ≡ with_others L k (numbers_from (suc k) (L.workers - suc k))
+left_is L k h = left_has L k (L.workers - k) (omega arith)
+
+left_alive : (L : Layout) (k : ℕ) (v : View) → v ≡ left_from L k → k < L.workers → v.spent ≡ false
+left_alive L k v e h = ap (λ (x : View). x.spent) (e ∙ left_is L k h)
+
+-- a worker's view before its first step
+abbrev pub fresh_view : Layout → ℕ → View
+fresh_view L k = viewing L (held k [] ∷ [])
+
+pub left_others : (L : Layout) (k : ℕ) (v : View) → v ≡ left_from L k → k < L.workers → the_others v ≡ left_from L (k + 1)
+left_others L k v e h = ap the_others (e ∙ left_is L k h) ∙ ap (left_from L) (let q : suc k ≡ k + 1 = omega arith in q)
+
+pub left_own : (L : Layout) (k : ℕ) (v : View) → v ≡ left_from L k → k < L.workers → own_alone v ≡ fresh_view L k
+left_own L k v e h = ap own_alone (e ∙ left_is L k h)
+
+-- the own log goes to a seat of its own
+pub deals : (L : Layout) (id k : ℕ) (v : View) → v ≡ left_from L k → k < L.workers → Splits (Kept L) id v (the_others v) (own_alone v)
+deals L id k v is below =
+    let alive = left_alive L k v is below in
+    cuts L id v (the_others v) (own_alone v)
+    (λ t a. let b = subst (LogsAre v.layout L t) (live v alive) a in (
+      subst (LogsAre (the_others v).layout L t) (sym (held_by v.layout v.others)) (subst (λ (l : Layout). LogsAre l L t v.others) (sym (layout_of v.layout v.others)) b.2),
+      subst (LogsAre v.layout L t) (sym (live (own_alone v) alive)) (b.0, b.1, tt),
+    ))
+    (λ h. ((λ _. subst (λ (x : View). (knowledge x).gone ≡ false) (sym (left_others L k v is below)) (fresh_here L (k + 1) (L.workers - (k + 1)))), h))
+    (λ w. omega (arith, ap (times w) (held_by v.layout v.others), ap (times w) (live (own_alone v) alive), ap (times w) (live v alive), times-cons w (held v.number v.log) v.others, times-cons w (held v.number v.log) []))
+
+-- ---- joining
+
+module _ (L : Layout) (id : ℕ) (v : View) (other : ℕ) (w : View) (alive : v.spent ≡ false) (alive' : w.spent ≡ false) (hands : HasEmptyHands (knowledge w)) (s : State Unit View) (k : Kept L s)
+    (at : get_elem? s.views id ≡ some v) (apart : ¬ (other ≡ id)) (at' : get_elem? s.views other ≡ some w) where
+  abbrev before : List Turn
+  before = trace_in (ordered L) k.turns
+
+  first_log : LogsAre v.layout L before (held v.number v.log ∷ v.others)
+  first_log = subst (LogsAre v.layout L before) (live v alive) (k.shown id v at)
+
+  second_log : LogsAre w.layout L before (held w.number w.log ∷ w.others)
+  second_log = subst (LogsAre w.layout L before) (live w alive') (k.shown other w at')
+
+  -- how often a number stands in both together
+  shares : (n : ℕ) → stands n v + stands n w ≤ once_below n L.workers
+  shares n = omega (arith, both_at_most_sum (stands n) s.views id other v w (λ e. apart (sym e)) at at', k.once n)
+
+  own_counts : (stands v.number v ≡ 1 + times v.number v.others) × (stands w.number w ≡ 1 + times w.number w.others)
+  own_counts = (stands_live v alive, stands_live w alive')
+
+  cross : (n : ℕ) → (stands n v ≡ cond (eqb n v.number) 1 0 + times n v.others) × (stands n w ≡ cond (eqb n w.number) 1 0 + times n w.others)
+  cross n = (ap (times n) (live v alive) ∙ times-cons n (held v.number v.log) v.others, ap (times n) (live w alive') ∙ times-cons n (held w.number w.log) w.others)
+
+  ones : (once_below v.number L.workers ≤ 1) × (once_below w.number L.workers ≤ 1)
+  ones = ((once_is v.number L.workers).0, (once_is w.number L.workers).0)
+
+  differ : v.number ≢ w.number
+  differ e =
+      let a = shares v.number in
+      let b : stands v.number w ≡ 1 + times w.number w.others = ap (λ (n : ℕ). stands n w) e ∙ own_counts.1 in
+      absurd (omega (arith, own_counts.0, ones.0))
+
+  numbers : (v.number < L.workers) × (w.number < L.workers)
+  numbers = (
+    (once_is v.number L.workers).1 (omega (arith, shares v.number, own_counts.0)),
+    (once_is w.number L.workers).1 (omega (arith, shares w.number, own_counts.1)),
+  )
+
+  heir : IsPartOf L v.number v.log k.turns
+  heir = record { fits = k.fits; keys = k.keys; worker = numbers.0; is_part = first_log.1; here = subst (λ (l : Layout). (known_by l v.number v.log).gone ≡ false) first_log.0 (k.here id v at alive) }
+
+  leaver : IsPartOf L w.number w.log k.turns
+  leaver = record { fits = k.fits; keys = k.keys; worker = numbers.1; is_part = second_log.1; here = subst (λ (l : Layout). (known_by l w.number w.log).gone ≡ false) second_log.0 (k.here other w at' alive') }
+
+  empty : HasEmptyHands (known_by L w.number w.log)
+  empty = subst (λ (l : Layout). HasEmptyHands (known_by l w.number w.log)) second_log.0 hands
+
+  abbrev more : List (ℕ × Event)
+  more = k.turns ++ (v.number, Join w.number) ∷ []
+
+  abbrev reply : Reply
+  reply = Joined (knowledge w).ledgers
+
+  trace_is : trace_in (ordered L) more ≡ before ++ one_turn v.number (Join w.number) reply ∷ []
+  trace_is =
+      trace_after_join L v.number w.number v.log w.log k.turns heir leaver differ empty
+      ∙ ap (λ (l : Layout). before ++ one_turn v.number (Join w.number) (Joined (known_by l w.number w.log).ledgers) ∷ []) (sym second_log.0)
+
+  heirs_part : part_of v.number (trace_in (ordered L) more) ≡ part_of v.number before ++ passing w ∷ []
+  heirs_part = ap (part_of v.number) trace_is ∙ part_grows v.number before v.number (Join w.number) reply (ap (λ (b : Bool). b || eqb w.number v.number) (eq-eqb v.number v.number refl))
+
+  leavers_part : part_of w.number (trace_in (ordered L) more) ≡ part_of w.number before ++ passing w ∷ []
+  leavers_part = ap (part_of w.number) trace_is ∙ part_grows w.number before v.number (Join w.number) reply (ap (λ (b : Bool). eqb v.number w.number || b) (eq-eqb w.number w.number refl) ∙ or_true (eqb v.number w.number))
+    where
+      or_true : (b : Bool) → (b || true) ≡ true
+      or_true true = refl
+      or_true false = refl
+
+  others_part : (u : ℕ) → eqb v.number u ≡ false → eqb w.number u ≡ false → part_of u (trace_in (ordered L) more) ≡ part_of u before
+  others_part u p q = ap (part_of u) trace_is ∙ part_stays u before v.number (Join w.number) reply (λ i. p i || q i)
+
+  kept_by : (l : Layout) (hs : List Held) → times v.number hs ≡ 0 → times w.number hs ≡ 0 → LogsAre l L before hs → LogsAre l L (trace_in (ordered L) more) hs
+  kept_by l [] a b c = tt
+  kept_by l (h ∷ hs) a b c = cases (eqb v.number h.number) refl (eqb w.number h.number) refl (λ p q. kept_by l hs p q c.2)
+    where
+      one : cond (eqb v.number h.number) 1 0 + times v.number hs ≡ 0
+      one = sym (times-cons v.number h hs) ∙ a
+
+      two : cond (eqb w.number h.number) 1 0 + times w.number hs ≡ 0
+      two = sym (times-cons w.number h hs) ∙ b
+
+      cases : (x : Bool) → eqb v.number h.number ≡ x → (y : Bool) → eqb w.number h.number ≡ y → (times v.number hs ≡ 0 → times w.number hs ≡ 0 → LogsAre l L (trace_in (ordered L) more) hs) → LogsAre l L (trace_in (ordered L) more) (h ∷ hs)
+      cases true is y too rec = absurd (let q : 1 + times v.number hs ≡ 0 = rw is at one in omega arith)
+      cases false is true too rec = absurd (let q : 1 + times w.number hs ≡ 0 = rw too at two in omega arith)
+      cases false is false too rec = (
+        c.0,
+        c.1 ∙ sym (others_part h.number is too),
+        rec (let q : 0 + times v.number hs ≡ 0 = rw is at one in omega arith) (let q : 0 + times w.number hs ≡ 0 = rw too at two in omega arith),
+      )
+
+  together : IsShown L (trace_in (ordered L) more) (joined v w)
+  together =
+      let x = shares v.number in let y = shares w.number in let p = cross v.number in let q = cross w.number in
+      subst (LogsAre v.layout L (trace_in (ordered L) more)) (sym (live (joined v w) alive)) (
+        first_log.0,
+        ap (λ (l : List Entry). l ++ passing w ∷ []) first_log.1 ∙ sym heirs_part,
+        logs_both v.layout w.layout L (trace_in (ordered L) more) v.others (held w.number (w.log ++ passing w ∷ []) ∷ w.others) (first_log.0 ∙ sym second_log.0)
+            (kept_by v.layout v.others (omega (arith, own_counts, ones)) (omega (arith, own_counts, ones)) first_log.2) (
+              second_log.0,
+              ap (λ (l : List Entry). l ++ passing w ∷ []) second_log.1 ∙ sym leavers_part,
+              kept_by w.layout w.others (omega (arith, own_counts, ones)) (omega (arith, own_counts, ones)) second_log.2,
+            ),
+      )
+
+  elsewhere : (j : ℕ) (u : View) → j ≢ id → j ≢ other → get_elem? s.views j ≡ some u → IsShown L (trace_in (ordered L) more) u
+  elsewhere j u ne ne' is =
+      kept_by u.layout (holdings u)
+      (omega (arith, both_at_most_sum (stands v.number) s.views j id u v ne is at, k.once v.number, own_counts.0, ones.0))
+      (omega (arith, both_at_most_sum (stands w.number) s.views j other u w ne' is at', k.once w.number, own_counts.1, ones.1))
+      (k.shown j u is)
+
+  counted : (n : ℕ) → stands n (joined v w) ≡ stands n v + stands n w
+  counted n = omega (
+    arith,
+    cross n,
+    ap (times n) (live (joined v w) alive),
+    times-cons n (held v.number (v.log ++ passing w ∷ [])) (v.others ++ held w.number (w.log ++ passing w ∷ []) ∷ w.others),
+    sum_by-append (λ (h : Held). cond (eqb n h.number) 1 0) v.others (held w.number (w.log ++ passing w ∷ []) ∷ w.others),
+    times-cons n (held w.number (w.log ++ passing w ∷ [])) w.others,
+  )
+
+  at'' : get_elem? (set s.views id (joined v w)) other ≡ some w
+  at'' = set_else s.views id other (joined v w) apart ∙ at'
+
+  here_joined : IsHere (joined v w)
+  here_joined e =
+      ap (λ x. x.gone) (known_push v.number v.layout v.log (passing w))
+      ∙ (gone_kept v.number (knowledge v) (Join w.number) reply (ne_eqb w.number v.number (λ same. differ (sym same))) ∙ k.here id v at alive)
+
+  joint : Runs L s.words (set (set s.views id (joined v w)) other nobody)
+  joint = record {
+    fits = k.fits;
+    turns = more;
+    keys = keys-append k.turns (v.number, Join w.number) k.keys tt;
+    words_are = k.words_are ∙ sym (words_after_join L v.number w.number v.log w.log k.turns heir leaver differ empty);
+    shown = λ j u is.
+        ⊎_elim
+        (λ (x : (j ≡ other) × (nobody ≡ u)). subst (IsShown L (trace_in (ordered L) more)) x.1 tt)
+        (λ (x : (j ≢ other) × (get_elem? (set s.views id (joined v w)) j ≡ some u)).
+        ⊎_elim (λ (y : (j ≡ id) × (joined v w ≡ u)). subst (IsShown L (trace_in (ordered L) more)) y.1 together) (λ (y : (j ≢ id) × (get_elem? s.views j ≡ some u)). elsewhere j u y.0 x.0 y.1) (at_set s.views id j (joined v w) u x.1))
+        (at_set (set s.views id (joined v w)) other j nobody u is);
+    here = λ j u is.
+        ⊎_elim
+        (λ (x : (j ≡ other) × (nobody ≡ u)). subst IsHere x.1 (λ e. absurd (true≢false e)))
+        (λ (x : (j ≢ other) × (get_elem? (set s.views id (joined v w)) j ≡ some u)).
+        ⊎_elim (λ (y : (j ≡ id) × (joined v w ≡ u)). subst IsHere y.1 here_joined) (λ (y : (j ≢ id) × (get_elem? s.views j ≡ some u)). k.here j u y.1) (at_set s.views id j (joined v w) u x.1))
+        (at_set (set s.views id (joined v w)) other j nobody u is);
+    once = λ n. omega (arith, sum_after (stands n) (set s.views id (joined v w)) other w nobody at'', sum_after (stands n) s.views id v (joined v w) at, counted n, k.once n);
+  }
+
+-- the first stands for both, and the join is an event of both
+pub joins : (L : Layout) (id : ℕ) (v : View) (other : ℕ) (w : View) → v.spent ≡ false → w.spent ≡ false → HasEmptyHands (knowledge w) → Joins (Kept L) id v other w (joined v w) nobody
+joins L id v other w alive alive' hands s k at apart at' = joint L id v other w alive alive' hands s k at apart (sym (set_else s.views id other (joined v w) apart) ∙ at')
