@@ -25,7 +25,7 @@ use Rattle.nm_words.specs.Packing.{words_of}
 use Rattle.nm_steps.specs.declared.view.Held.{Held}
 use Rattle.nm_steps.specs.declared.view.View.{View}
 use Rattle.nm_steps.specs.Rules.{held, holdings, knowledge, stands, once_below, LogsAre, IsShown, Runs, Kept, numbers_from, viewing, everybody, own_alone, the_others, nobody, passing, joined}
-use Rattle.nm_steps.specs.Steps.{HasEmptyHands}
+use Rattle.nm_steps.specs.Steps.{HasEmptyHands, Board, Stand, fresh_view, AreFresh, Ends}
 use Rattle.nm_steps.proofs.Counts.{sum_after, at_most_sum, both_at_most_sum}
 use Rattle.nm_steps.proofs.Presence.{gone_kept, known_push}
 use Rattle.nm_steps.proofs.Extending.{IsPartOf, keys-append, words_after_join, trace_after_join}
@@ -144,10 +144,6 @@ left_is L k h = left_has L k (L.workers - k) (omega arith)
 
 left_alive : (L : Layout) (k : ℕ) (v : View) → v ≡ left_from L k → k < L.workers → v.spent ≡ false
 left_alive L k v e h = ap (λ (x : View). x.spent) (e ∙ left_is L k h)
-
--- a worker's view before its first step
-abbrev pub fresh_view : Layout → ℕ → View
-fresh_view L k = viewing L (held k [] ∷ [])
 
 pub left_others : (L : Layout) (k : ℕ) (v : View) → v ≡ left_from L k → k < L.workers → the_others v ≡ left_from L (k + 1)
 left_others L k v e h = ap the_others (e ∙ left_is L k h) ∙ ap (left_from L) (let q : suc k ≡ k + 1 = omega arith in q)
@@ -320,3 +316,14 @@ module _ (L : Layout) (id : ℕ) (v : View) (other : ℕ) (w : View) (alive : v.
 -- the first stands for both, and the join is an event of both
 pub joins : (L : Layout) (id : ℕ) (v : View) (other : ℕ) (w : View) → v.spent ≡ false → w.spent ≡ false → HasEmptyHands (knowledge w) → Joins (Kept L) id v other w (joined v w) nobody
 joins L id v other w alive alive' hands s k at apart at' = joint L id v other w alive alive' hands s k at apart (sym (set_else s.views id other (joined v w) apart) ∙ at')
+
+pub fresh_push : (b : Board) (k n : ℕ) (ps : List Stand) (p : Stand) → AreFresh b k ps → k + length ps ≡ n → p.table ≡ b.table → p.view ≡ fresh_view b.layout n → AreFresh b k (ps ++ p ∷ [])
+fresh_push b k n [] p a e t v = (t, v ∙ ap (fresh_view b.layout) (omega arith), tt)
+fresh_push b k n (q ∷ ps) p a e t v = (a.0, a.1, fresh_push b (suc k) n ps p a.2 (omega arith) t v)
+
+-- ---- the end
+
+pub ended : (L : Layout) (id : ℕ) (v : View) (words : List ℕ) (slots : List Unit) → Final (Seen (Kept L) id v) words slots → Ends L words v
+ended L id v words slots f =
+    let k : Runs L f.0.words f.0.views = f.1.0 in
+    record { fits = k.fits; turns = k.turns; keys = k.keys; words_are = sym f.2 ∙ k.words_are; shown = k.shown id v f.1.1; once = λ w. omega (arith, at_most_sum (stands w) f.0.views id v f.1.1, k.once w) }

@@ -3,3 +3,4 @@ pub mod Presence
 pub mod Extending
 pub mod Keeping
 pub mod Cutting
+pub mod Noting

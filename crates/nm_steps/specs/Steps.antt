@@ -1,25 +1,33 @@
 -- What a step asks of its worker, and what it does.
-use Rattle.std.specs.Prelude.{◌≡◌, ◌≤◌, ℕ, suc, true, false, List, [], ◌∷◌, ◌++◌, length, Option, Some, None, IsSome}
+use Rattle.std.specs.Prelude.{◌≡◌, ◌≤◌, ℕ, suc, true, false, List, [], ◌∷◌, ◌++◌, length, map, Bool, if◌then◌else◌, unwrap_or, Result, Ok, Err, Option, Some, None, IsSome, All}
 use Rattle.atomic_table.specs.Seated.{TableId}
 use Rattle.atomic_table.specs.declared.shared.Seat.{Seat}
-use Rattle.nm_edge.specs.Layouts.{Layout}
+use Rattle.nm_edge.specs.Edges.{Edge}
+use Rattle.nm_edge.specs.declared.edge.Side.{Side}
+use Rattle.nm_edge.specs.declared.node.NodeId.{NodeId}
+use Rattle.nm_edge.specs.Layouts.{Layout, IsLayout}
 use Rattle.nm_edge.specs.Words.{IsField, word, words}
 use Rattle.nm_core.specs.declared.event.Event.{Event}
-use Rattle.nm_core.specs.declared.event.Event.TheVariants.{Fill}
+use Rattle.nm_core.specs.declared.event.Event.TheVariants.{Sight, SightFor, Announce, Leave, LeaveWith, Advance, Fill, Splice}
 use Rattle.nm_core.specs.declared.event.Field.TheVariants.{Birth}
 use Rattle.nm_core.specs.declared.reply.Reply.{Reply}
+use Rattle.nm_core.specs.declared.reply.Reply.TheVariants.{Saw, Labelled, Pinned, Missed, Announced, Departed, Idle, In, Moved, Behind, Claimed, Taken, Returned, Freed, Linked, Flagged, Cut, Lost}
+use Rattle.nm_core.specs.declared.knowledge.Brief.{Brief}
 use Rattle.nm_core.specs.Memory.{Memory, node}
-use Rattle.nm_core.specs.Knowledge.{Knowledge, draft_of}
-use Rattle.nm_core.specs.Step.{refusal}
+use Rattle.nm_core.specs.Ledgers.{front_of}
+use Rattle.nm_core.specs.Knowledge.{Knowledge, draft_of, is_private, way, cut_by}
+use Rattle.nm_core.specs.Step.{refusal, confirmed, node_of, node_linked}
 use Rattle.nm_core.specs.Walks.{Entry, search_after}
 use Rattle.nm_core.specs.Searches.{idle}
-use Rattle.nm_core.specs.Ordered.{disorder}
+use Rattle.nm_core.specs.Ordered.{disorder, ordered, after_in, trace_in}
 use Rattle.nm_order.specs.Intervals.{HasKey}
-use Rattle.nm_order.specs.Logs.{known_by}
-use Rattle.nm_words.specs.Packing.{touched, left_word}
-use Rattle.nm_words.specs.Told.{told, BirthsAreKnown}
+use Rattle.nm_order.specs.Logs.{known_by, IsLogOf}
+use Rattle.nm_words.specs.Packing.{touched, left_word, words_of}
+use Rattle.nm_words.specs.Told.{told, known_as, BirthsAreKnown}
+use Rattle.nm_steps.specs.declared.answers.Sighted.{Sighted}
+use Rattle.nm_steps.specs.declared.answers.Sighted.TheVariants as seeing
 use Rattle.nm_steps.specs.declared.view.View.{View}
-use Rattle.nm_steps.specs.Rules.{knowledge, logged, is_store, IsFound}
+use Rattle.nm_steps.specs.Rules.{held, knowledge, viewing, joined, logged, is_store, stands, once_below, IsShown, IsFound}
 
 -- ---- what a worker's own log allows
 
@@ -60,10 +68,10 @@ pub record IsReady (L : Layout) (z : TableId) (it : Seat Unit View) (e : Event) 
   pub may : May L it.me.0.number it.me.0.log e
 
 -- the event is done, with the reply that this word gives
-pub record IsDone (it then : Seat Unit View) (e : Event) (n : ℕ) : Type 0 where
-  pub table : then.table_id ≡ it.table_id
-  pub seat : then.id ≡ it.id
-  pub me : then.me ≡ (logged it.me.0 e n, it.me.1)
+pub record IsDone (it after : Seat Unit View) (e : Event) (n : ℕ) : Type 0 where
+  pub table : after.table_id ≡ it.table_id
+  pub seat : after.id ≡ it.id
+  pub me : after.me ≡ (logged it.me.0 e n, it.me.1)
   pub found : IsFound it.me.0.layout it.me.0.number it.me.0.log e n
 
 -- the operation leaves the word that the event leaves
@@ -98,3 +106,114 @@ MayStep p e = May p.view.layout p.view.number p.view.log e
 -- what each step function ensures: this event with this reply is in the log, and nothing else changed
 abbrev pub Stepped : Stand → Stand → Event → Reply → Type 0
 Stepped p q e r = q ≡ record p { view = record p.view { log = p.view.log ++ (e, r) ∷ [] } }
+
+-- ---- what a table and a pass keep
+
+-- what a pass keeps of its log: its number and epochs, that the log is its number's part of a run, and that it has not resigned
+pub record Tied (it : Seat Unit View) (number : ℕ) (brief : Brief) : Type 0 where
+  pub empty : it.me.1 ≡ []
+  pub alive : it.me.0.spent ≡ false
+  pub number_is : number ≡ it.me.0.number
+  pub brief_is : brief ≡ (knowledge it.me.0).brief
+  pub fits : IsLayout it.me.0.layout
+  pub log : IsLogOf it.me.0.layout it.me.0.number it.me.0.log
+  pub here : (knowledge it.me.0).gone ≡ false
+
+-- what a table keeps
+pub record Laid (z : TableId) (key L : Layout) : Type 0 where
+  pub key_is : key ≡ L
+  pub words_are : z.words ≡ words L
+  pub no_slots : z.slots ≡ 0
+
+-- ---- making, joining and closing
+
+-- a worker's view before its first step
+abbrev pub fresh_view : Layout → ℕ → View
+fresh_view L k = viewing L (held k [] ∷ [])
+
+-- passes of workers k and on, which have done nothing yet
+abbrev pub AreFresh : Board → ℕ → List Stand → Type 0
+AreFresh b k [] = Unit {0}
+AreFresh b k (p ∷ ps) = (p.table ≡ b.table) × (p.view ≡ fresh_view b.layout k) × AreFresh b (suc k) ps
+
+-- the first pass stands for both
+abbrev pub Joined : Stand → Stand → Stand → Type 0
+Joined p q all = all ≡ record p { view = joined p.view q.view }
+
+-- some ordered run ends with these words, and the view's logs are its parts, each once
+pub record Ends (L : Layout) (words : List ℕ) (view : View) : Type 0 where
+  pub fits : IsLayout L
+  pub turns : List (ℕ × Event)
+  pub keys : All (λ t. HasKey t.1) turns
+  pub words_are : words ≡ words_of L (after_in (ordered L) turns).state.memory
+  pub shown : IsShown L (trace_in (ordered L) turns) view
+  pub once : (w : ℕ) → stands w view ≤ once_below w L.workers
+
+-- ---- replies, by what the step functions answer
+
+abbrev pub sight_reply : Sighted → Reply
+sight_reply (seeing.Saw e) = Saw e
+sight_reply (seeing.Labelled e) = Labelled e
+sight_reply (seeing.Pinned e) = Pinned e
+sight_reply (seeing.Missed e) = Missed e
+
+abbrev pub scan_reply : Option ℕ → Reply
+scan_reply None = Idle
+scan_reply (Some e) = In e
+
+abbrev pub advance_reply : Result ℕ ℕ → Reply
+advance_reply (Ok e) = Moved e
+advance_reply (Err e) = Behind e
+
+abbrev pub claim_reply : ℕ → Bool → Reply
+claim_reply s true = Claimed s
+claim_reply s false = Taken
+
+-- an exchange of an edge, with the reply of a won one
+abbrev pub exchange_reply : Reply → Result Unit Edge → Reply
+exchange_reply won (Ok u) = won
+exchange_reply won (Err e) = Lost e
+
+-- the new node, with the birth that was filled in
+abbrev pub link_reply : View → ℕ → Result Unit Edge → Reply
+link_reply v new r = exchange_reply (Linked (node_linked (knowledge v) new)) r
+
+-- the leaf, with the birth that is known
+abbrev pub flag_reply : View → ℕ → Result Unit Edge → Reply
+flag_reply v leaf r = exchange_reply (Flagged (known_as (knowledge v) leaf)) r
+
+-- the nodes of the known way, each with the birth that is known
+abbrev pub nodes_cut : View → ℕ → ℕ → Side → List NodeId
+nodes_cut v s p keep = map (known_as (knowledge v)) (cut_by (knowledge v) s (unwrap_or (way v.layout.nodes (knowledge v) s p) []) keep)
+
+abbrev pub splice_reply : View → ℕ → ℕ → Side → Result Unit Edge → Reply
+splice_reply v s p keep r = exchange_reply (Cut (nodes_cut v s p keep)) r
+
+-- a private slot is returned, and the front of a queue is freed
+abbrev pub give_reply : View → ℕ → Reply
+give_reply v s = if is_private (knowledge v) s then Returned s else Freed (node_of (front_of (knowledge v).ledgers s))
+
+-- ---- what a pass mirrors
+
+-- what an event with its reply leaves of a worker's epochs
+abbrev pub noted_sight : Brief → Reply → Brief
+noted_sight b (Saw e) = record b { seen = Some e }
+noted_sight b (Labelled e) = record b { seen = Some e; unlabelled = false }
+noted_sight b (Pinned e) = record b { seen = Some e; pin = Some e }
+noted_sight b (Missed e) = record b { seen = Some e }
+noted_sight b _ = b
+
+abbrev pub noted : Brief → Event → Reply → Brief
+noted b Sight r = noted_sight b r
+noted b (SightFor op key) r = noted_sight b r
+noted b Announce (Announced e) = record b { note = Some e }
+noted b Leave Departed = record b { note = None; pin = None }
+noted b (LeaveWith answer) Departed = record b { note = None; pin = None }
+noted b Advance (Moved e) = record b { seen = Some e }
+noted b Advance (Behind e) = record b { seen = Some e }
+noted b (Splice a side s p keep) (Cut ns) = record b { unlabelled = true }
+noted b _ _ = b
+
+-- the reply to a sight of this epoch
+abbrev pub sight_of : Brief → ℕ → Reply
+sight_of b e = if b.unlabelled then Labelled e else confirmed b.pin b.note e

@@ -2,6 +2,13 @@
 #![tactic(auto)]
 
 mod acts;
+mod answers;
+mod closing;
+mod epoch_steps;
+mod pass;
 mod view;
 
+pub use answers::Sighted;
+pub use closing::Words;
+pub use pass::{Pass, Shared};
 pub use view::{Does, Doing, Held, Law, View};

@@ -1,0 +1,158 @@
+-- What a step leaves of a pass: the epochs that it mirrors, and its log, which is a part of a run still.
+use Rattle.std.proofs.Common.{◌≡◌, ℕ, ◌==◌, Bool, true, false, ◌||◌, cond, List, [], ◌∷◌, ◌++◌, refl, sym, ap, subst, ◌∙◌, eq-eqb, true≢false, Result, Ok}
+use Rattle.std.specs.Prelude.{All}
+use Rattle.std.proofs.lemmas.Bool.{cond_both, cond-false, ne_eqb, eqb-false}
+use Rattle.atomic_table.specs.Seated.{TableId}
+use Rattle.atomic_table.specs.declared.shared.Seat.{Seat}
+use Rattle.nm_edge.specs.Layouts.{Layout, IsLayout}
+use Rattle.nm_edge.specs.Words.{word, words}
+use Rattle.nm_core.specs.declared.event.Field.{Field}
+use Rattle.nm_core.specs.declared.event.Field.TheVariants.{Key, Edge as EdgeOn, Birth}
+use Rattle.nm_core.specs.declared.event.Event.{Event}
+use Rattle.nm_core.specs.declared.event.Event.TheVariants.{Sight, SightFor, Announce, Leave, LeaveWith, Scan, Advance, Claim, Give, Look, Fill, Link, Flag, Tag, Splice, Join}
+use Rattle.nm_core.specs.declared.reply.Reply.{Reply}
+use Rattle.nm_core.specs.declared.reply.Reply.TheVariants.{Saw, Labelled, Pinned, Missed, Announced, Departed, Idle, In, Moved, Behind, Claimed, Returned, Freed, BirthIs, EdgeIs, Filled, Linked, Flagged, Was, Cut, Lost, Joined}
+use Rattle.nm_core.specs.declared.knowledge.Brief.{Brief}
+use Rattle.nm_core.specs.Knowledge.{Knowledge, is_private}
+use Rattle.nm_core.specs.Learning.{learn, learn_sight, learn_scan, look_private, look_known, resigned, inheriting}
+use Rattle.nm_core.specs.Step.{refusal}
+use Rattle.nm_core.specs.Walks.{Entry}
+use Rattle.nm_core.specs.Ordered.{ordered, after_in, trace_in}
+use Rattle.nm_order.specs.Logs.{is_leaver, part_of, known_by, IsLogOf}
+use Rattle.nm_words.specs.Packing.{word_at, touched}
+use Rattle.nm_words.specs.Told.{told}
+use Rattle.nm_steps.specs.declared.view.View.{View}
+use Rattle.nm_steps.specs.Rules.{knowledge, logged, is_store, IsFound}
+use Rattle.nm_steps.specs.Steps.{May, IsReady, IsDone, Tied, Laid, noted, noted_sight}
+use Rattle.nm_steps.proofs.Presence.{gone_kept, known_push}
+use Rattle.nm_steps.proofs.Extending.{IsPartOf, keys-append, trace_after, field}
+use Rattle.nm_steps.proofs.Keeping.{no_leaver, part_grows}
+
+-- ---- epochs
+
+brief_sight : (k : Knowledge) (r : Reply) → (learn_sight k r).brief ≡ noted_sight k.brief r
+brief_sight k (Saw e) = refl
+brief_sight k (Labelled e) = refl
+brief_sight k (Pinned e) = refl
+brief_sight k (Missed e) = refl
+brief_sight k _ = refl
+
+brief_scan : (k : Knowledge) (u : ℕ) (r : Reply) → (learn_scan k u r).brief ≡ k.brief
+brief_scan k u Idle = refl
+brief_scan k u (In e) = refl
+brief_scan k u _ = refl
+
+brief_look_private : (k : Knowledge) (s : ℕ) (f : Field) (r : Reply) → (look_private k s f r).brief ≡ k.brief
+brief_look_private k s Birth (BirthIs b) = refl
+brief_look_private k s _ _ = refl
+
+brief_look_known : (k : Knowledge) (s : ℕ) (f : Field) (r : Reply) → (look_known k s f r).brief ≡ k.brief
+brief_look_known k s (EdgeOn side) (EdgeIs e) = refl
+brief_look_known k s Birth (BirthIs b) = refl
+brief_look_known k s _ _ = refl
+
+pub brief_is_noted : (w : ℕ) (k : Knowledge) (e : Event) (r : Reply) → (learn w k e r).brief ≡ noted k.brief e r
+unfolding learn
+brief_is_noted w k Sight r = brief_sight k r
+brief_is_noted w k (SightFor op key) r = brief_sight k r
+brief_is_noted w k Announce (Announced e) = refl
+brief_is_noted w k Leave Departed = refl
+brief_is_noted w k (LeaveWith answer) Departed = refl
+brief_is_noted w k (Scan u) r = brief_scan k u r
+brief_is_noted w k Advance (Moved e) = refl
+brief_is_noted w k Advance (Behind e) = refl
+brief_is_noted w k (Claim s) (Claimed t) = refl
+brief_is_noted w k (Give s) (Returned t) = refl
+brief_is_noted w k (Give s) (Freed m) = refl
+brief_is_noted w k (Look s f) r = cond_both (is_private k s) (look_private k s f r) (look_known k s f r) (λ x. x.brief ≡ k.brief) (λ _. brief_look_private k s f r) (λ _. brief_look_known k s f r)
+brief_is_noted w k (Fill s f v) Filled = refl
+brief_is_noted w k (Link p side leaf new) (Linked m) = refl
+brief_is_noted w k (Link p side leaf new) (Lost e) = refl
+brief_is_noted w k (Flag p side leaf) (Flagged m) = refl
+brief_is_noted w k (Flag p side leaf) (Lost e) = refl
+brief_is_noted w k (Tag p side) (Was e) = refl
+brief_is_noted w k (Splice a side s p keep) (Cut ns) = refl
+brief_is_noted w k (Splice a side s p keep) (Lost e) = refl
+brief_is_noted w k (Join v) (Joined ls) = cond_both (w == v) (resigned k) (inheriting k ls) (λ x. x.brief ≡ k.brief) (λ _. refl) (λ _. refl)
+brief_is_noted w k _ _ = refl
+
+-- ---- logs
+
+-- the reply to a store does not depend on the word
+store_is_blind : (L : Layout) (k : Knowledge) (e : Event) (n m : ℕ) → is_store e ≡ true → told L k e n ≡ told L k e m
+store_is_blind L k Announce n m is = refl
+store_is_blind L k Leave n m is = refl
+store_is_blind L k (LeaveWith answer) n m is = refl
+store_is_blind L k (Fill s f v) n m is = refl
+store_is_blind L k e n m is = absurd (true≢false (sym is))
+
+module _ (L : Layout) (w : ℕ) (log : List Entry) (e : Event) (n : ℕ) (f : IsFound L w log e n) (here : (known_by L w log).gone ≡ false) (may : May L w log e) where
+  part : IsPartOf L w log f.turns
+  part = record { fits = f.fits; keys = f.keys; worker = f.worker; is_part = f.is_part; here = here }
+
+  reply_is : told L (known_by L w log) e (word_at L (after_in (ordered L) f.turns).state.memory (touched w e)) ≡ told L (known_by L w log) e n
+  reply_is = go (is_store e) refl
+    where
+      go : (b : Bool) → is_store e ≡ b → told L (known_by L w log) e (word_at L (after_in (ordered L) f.turns).state.memory (touched w e)) ≡ told L (known_by L w log) e n
+      go true is = store_is_blind L (known_by L w log) e _ n is
+      go false is = ap (told L (known_by L w log) e) (sym (f.word is))
+
+  -- the longer log is a part of a run too
+  pub log_grows : IsLogOf L w (log ++ (e, told L (known_by L w log) e n) ∷ [])
+  log_grows = record {
+    worker = f.worker;
+    turns = f.turns ++ (w, e) ∷ [];
+    keys = keys-append f.turns (w, e) f.keys may.key;
+    is_part =
+        ap (part_of w) (trace_after L w log f.turns part e may)
+        ∙ (part_grows w (trace_in (ordered L) f.turns) w e _ (ap (λ (b : Bool). b || is_leaver w e) (eq-eqb w w refl))
+        ∙ (ap (λ (r : Reply). part_of w (trace_in (ordered L) f.turns) ++ (e, r) ∷ []) reply_is ∙ ap (λ (l : List Entry). l ++ (e, told L (known_by L w log) e n) ∷ []) (sym f.is_part)));
+  }
+
+-- ---- a pass before and after a step
+
+pub ready : (z : TableId) (key L : Layout) (it : Seat Unit View) (number : ℕ) (brief : Brief) (e : Event) (i : ℕ)
+    → Laid z key L → Tied it number brief → it.table_id ≡ z → it.me.0.layout ≡ L → May it.me.0.layout it.me.0.number it.me.0.log e → i ≡ word L (touched number e) → IsReady key z it e i
+ready z key L it number brief e i laid tied table layout may index =
+    let same : it.me.0.layout ≡ key = layout ∙ sym laid.key_is in
+    let k : May key it.me.0.number it.me.0.log e = subst (λ (l : Layout). May l it.me.0.number it.me.0.log e) same may in
+    let here : (known_by key it.me.0.number it.me.0.log).gone ≡ false = subst (λ (l : Layout). (known_by l it.me.0.number it.me.0.log).gone ≡ false) same tied.here in
+    let log : IsLogOf key it.me.0.number it.me.0.log = subst (λ (l : Layout). IsLogOf l it.me.0.number it.me.0.log) same tied.log in
+    let part : IsPartOf key it.me.0.number it.me.0.log log.turns = record { fits = subst IsLayout same tied.fits; keys = log.keys; worker = log.worker; is_part = sym log.is_part; here = here } in
+    record {
+      table = table;
+      words = laid.words_are ∙ ap words (sym laid.key_is);
+      empty = tied.empty;
+      alive = tied.alive;
+      layout = same;
+      within = field key it.me.0.number it.me.0.log log.turns part e k;
+      word = index ∙ (ap (λ (l : Layout). word l (touched number e)) (sym laid.key_is) ∙ ap (λ (w : ℕ). word key (touched w e)) tied.number_is);
+      may = k;
+    }
+
+pub tied_after : (it after : Seat Unit View) (number : ℕ) (brief new : Brief) (e : Event) (n : ℕ) → Tied it number brief → May it.me.0.layout it.me.0.number it.me.0.log e → IsDone it after e n
+    → new ≡ noted brief e (told it.me.0.layout (knowledge it.me.0) e n) → Tied after number new
+tied_after it after number brief new e n tied may done is =
+    let me : after.me.0 ≡ logged it.me.0 e n = ap (λ m. m.0) done.me in
+    let r : Reply = told it.me.0.layout (knowledge it.me.0) e n in
+    record {
+      empty = ap (λ m. m.1) done.me ∙ tied.empty;
+      alive = ap (λ (v : View). v.spent) me ∙ tied.alive;
+      number_is = tied.number_is ∙ sym (ap (λ (v : View). v.number) me);
+      brief_is =
+          is ∙ (ap (λ (b : Brief). noted b e r) tied.brief_is
+          ∙ (sym (brief_is_noted it.me.0.number (knowledge it.me.0) e r)
+          ∙ (sym (ap (λ (k : Knowledge). k.brief) (known_push it.me.0.number it.me.0.layout it.me.0.log (e, r))) ∙ sym (ap (λ (v : View). (knowledge v).brief) me))));
+      fits = subst (λ (v : View). IsLayout v.layout) (sym me) tied.fits;
+      log = subst (λ (v : View). IsLogOf v.layout v.number v.log) (sym me) (log_grows it.me.0.layout it.me.0.number it.me.0.log e n done.found tied.here may);
+      here =
+          ap (λ (v : View). (knowledge v).gone) me
+          ∙ (ap (λ (k : Knowledge). k.gone) (known_push it.me.0.number it.me.0.layout it.me.0.log (e, r))
+          ∙ (gone_kept it.me.0.number (knowledge it.me.0) e r (no_leaver it.me.0.layout it.me.0.number it.me.0.log e may it.me.0.number) ∙ tied.here));
+    }
+
+-- ---- a sight is always allowed
+
+pub may_sight : (L : Layout) (w : ℕ) (log : List Entry) → May L w log Sight
+unfolding refusal
+may_sight L w log = record { looked = tt; allowed = λ m h. refl; ordered = refl; births = tt; key = tt }

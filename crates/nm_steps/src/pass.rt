@@ -1,0 +1,92 @@
+//! The table with its layout, and one worker's seat with what its log says.
+ghost use Rattle.std.specs.Prelude.{◌≡◌, ◌<◌};
+ghost use Rattle.nm_steps.specs.Rules.{knowledge};
+
+use crate::view::{Law, Place, View};
+use atomic_table::Table;
+use nm_core::Brief;
+use nm_edge::Layout;
+use std::alloc::Global;
+use std::marker::Model;
+
+/// The words of a tree, which workers share.
+#[derive(Drop)]
+pub struct Shared {
+    pub(crate) table: Table<(), View, Layout, Law, Global>,
+    pub(crate) layout: Layout,
+}
+
+impl Model for Shared {
+    ghost use Rattle.nm_steps.specs.Steps.{Board, Laid};
+
+    ghost Value = { Board };
+
+    ghost view = { λ s. record { table = s.table.shared.table_id; layout = s.layout } };
+
+    ghost invariant = { λ s. Laid s.table.shared.table_id s.table.shared.key s.layout };
+}
+
+/// One worker: its seat, its number, and what its log says of epochs.
+#[derive(Drop)]
+pub struct Pass {
+    pub(crate) seat: Place,
+    pub(crate) number: u32,
+    pub(crate) brief: Brief,
+}
+
+impl Model for Pass {
+    ghost use Rattle.nm_steps.specs.Steps.{Stand, Tied};
+
+    ghost Value = { Stand };
+
+    ghost view = { λ p. record { table = p.seat.table_id; seat = p.seat.id; view = p.seat.me.0 } };
+
+    ghost invariant = { λ p. Tied p.seat p.number p.brief };
+}
+
+impl Shared {
+    /// The sizes of the tree.
+    pub fn layout(&self) -> Layout
+        ensures { result ≡ self.now.layout }
+    {
+        self.layout
+    }
+}
+
+impl Pass {
+    /// The worker's number, below the number of workers.
+    pub fn number(&self) -> u32
+        ensures number { result ≡ self.now.view.number }
+        ensures below { result < self.now.view.layout.workers }
+    {
+        self.number
+    }
+
+    /// The global epoch last read; `None` before the first sight.
+    pub fn seen(&self) -> Option<u64>
+        ensures { result ≡ (knowledge self.now.view).brief.seen }
+    {
+        self.brief.seen
+    }
+
+    /// The epoch that the worker announces; `None` while it announces none.
+    pub fn note(&self) -> Option<u64>
+        ensures { result ≡ (knowledge self.now.view).brief.note }
+    {
+        self.brief.note
+    }
+
+    /// The epoch at which the worker is pinned; `None` while it is not.
+    pub fn pinned(&self) -> Option<u64>
+        ensures { result ≡ (knowledge self.now.view).brief.pin }
+    {
+        self.brief.pin
+    }
+
+    /// Whether nodes that the worker cut wait for their label.
+    pub fn unlabelled(&self) -> bool
+        ensures { result ≡ (knowledge self.now.view).brief.unlabelled }
+    {
+        self.brief.unlabelled
+    }
+}
