@@ -4,3 +4,4 @@ pub mod Extending
 pub mod Keeping
 pub mod Cutting
 pub mod Noting
+pub mod Asking

@@ -1,6 +1,7 @@
 -- What a step leaves of a pass: the epochs that it mirrors, and its log, which is a part of a run still.
-use Rattle.std.proofs.Common.{◌≡◌, ℕ, ◌==◌, Bool, true, false, ◌||◌, cond, List, [], ◌∷◌, ◌++◌, refl, sym, ap, subst, ◌∙◌, eq-eqb, true≢false, Result, Ok}
-use Rattle.std.specs.Prelude.{All}
+use Rattle.std.proofs.Common.{◌≡◌, ◌≢◌, ℕ, ◌+◌, ◌==◌, Bool, true, false, ◌||◌, cond, List, [], ◌∷◌, ◌++◌, refl, sym, ap, subst, ◌∙◌, eq-eqb, true≢false, Result, Ok}
+use Rattle.std.specs.Prelude.{All, Option, Some, None}
+use Rattle.nm_core.specs.Maps.{is_number}
 use Rattle.std.proofs.lemmas.Bool.{cond_both, cond-false, ne_eqb, eqb-false}
 use Rattle.atomic_table.specs.Seated.{TableId}
 use Rattle.atomic_table.specs.declared.shared.Seat.{Seat}
@@ -156,3 +157,17 @@ tied_after it after number brief new e n tied may done is =
 pub may_sight : (L : Layout) (w : ℕ) (log : List Entry) → May L w log Sight
 unfolding refusal
 may_sight L w log = record { looked = tt; allowed = λ m h. refl; ordered = refl; births = tt; key = tt }
+
+-- ---- moving the epoch on
+
+told_moved : (L : Layout) (k : Knowledge) (seen : ℕ) → k.brief.seen ≡ Some seen → told L k Advance seen ≡ Moved (seen + 1)
+told_moved L k seen is = ap (λ o. cond (is_number o seen) (Moved (seen + 1)) (Behind seen)) is ∙ ap (λ (b : Bool). cond b (Moved (seen + 1)) (Behind seen)) (eq-eqb seen seen refl)
+
+told_behind : (L : Layout) (k : Knowledge) (seen n : ℕ) → k.brief.seen ≡ Some seen → n ≢ seen → told L k Advance n ≡ Behind n
+told_behind L k seen n is other = ap (λ o. cond (is_number o n) (Moved (n + 1)) (Behind n)) is ∙ ap (λ (b : Bool). cond b (Moved (n + 1)) (Behind n)) (ne_eqb seen n (λ e. other (sym e)))
+
+pub noted_moved : (L : Layout) (k : Knowledge) (b : Brief) (seen n : ℕ) → b ≡ k.brief → b.seen ≡ Some seen → n ≡ seen → record b { seen = Some (seen + 1) } ≡ noted b Advance (told L k Advance n)
+noted_moved L k b seen n same is at = sym (ap (λ (m : ℕ). noted b Advance (told L k Advance m)) at ∙ ap (noted b Advance) (told_moved L k seen (sym (ap (λ (x : Brief). x.seen) same) ∙ is)))
+
+pub noted_behind : (L : Layout) (k : Knowledge) (b : Brief) (seen n : ℕ) → b ≡ k.brief → b.seen ≡ Some seen → n ≢ seen → record b { seen = Some n } ≡ noted b Advance (told L k Advance n)
+noted_behind L k b seen n same is other = sym (ap (noted b Advance) (told_behind L k seen n (sym (ap (λ (x : Brief). x.seen) same) ∙ is) other))

@@ -12,7 +12,7 @@ use nm_core::{Brief, Event, Op};
 use nm_edge::Key;
 
 impl Shared {
-    /// Reads the global epoch.
+    /// Reads the global epoch. It confirms a pin where the worker announces that epoch, and labels a cut.
     pub fn sight(&self, pass: &mut Pass) -> Sighted
         requires { IsOf self.now pass.old }
         ensures { Stepped pass.old pass.new Sight (sight_reply result) }
@@ -22,6 +22,90 @@ impl Shared {
         let reply = sighted(pass.brief, found);
         pass.brief = after_sight(pass.brief, reply);
         reply
+    }
+
+    /// Reads the global epoch to confirm a pin, for an operation on a key that begins with it.
+    pub fn sight_for(&self, pass: &mut Pass, op: Op, key: Key) -> Sighted
+        requires own { IsOf self.now pass.old }
+        requires may { MayStep pass.old (SightFor op key) }
+        ensures { Stepped pass.old pass.new (SightFor op key) (sight_reply result) }
+    {
+        let word = self.layout.epoch() as usize;
+        let event = Event::SightFor(op, key);
+        let found = load(&self.table.shared, &mut pass.seat, word, event);
+        let reply = sighted(pass.brief, found);
+        pass.brief = after_sight(pass.brief, reply);
+        reply
+    }
+
+    /// Announces the epoch last read, and answers it.
+    pub fn announce(&self, pass: &mut Pass) -> u64
+        requires own { IsOf self.now pass.old }
+        requires may { MayStep pass.old Announce }
+        ensures { Stepped pass.old pass.new Announce (Announced result) }
+    {
+        let Some(seen) = pass.brief.seen else {
+            unreachable!()
+        };
+        let word = self.layout.note(pass.number) as usize;
+        store(&self.table.shared, &mut pass.seat, word, seen + 1, Event::Announce);
+        pass.brief.note = Some(seen);
+        seen
+    }
+
+    /// Takes the worker's announcement back.
+    pub fn leave(&self, pass: &mut Pass)
+        requires own { IsOf self.now pass.old }
+        requires may { MayStep pass.old Leave }
+        ensures { Stepped pass.old pass.new Leave Departed }
+    {
+        let word = self.layout.note(pass.number) as usize;
+        store(&self.table.shared, &mut pass.seat, word, 0, Event::Leave);
+        pass.brief.note = None;
+        pass.brief.pin = None;
+    }
+
+    /// Takes the worker's announcement back and answers the operation of its pin.
+    pub fn leave_with(&self, pass: &mut Pass, answer: bool)
+        requires own { IsOf self.now pass.old }
+        requires may { MayStep pass.old (LeaveWith answer) }
+        ensures { Stepped pass.old pass.new (LeaveWith answer) Departed }
+    {
+        let word = self.layout.note(pass.number) as usize;
+        store(&self.table.shared, &mut pass.seat, word, 0, Event::LeaveWith(answer));
+        pass.brief.note = None;
+        pass.brief.pin = None;
+    }
+
+    /// Reads a worker's announcement: the epoch, or `None` of an idle worker.
+    pub fn scan(&self, pass: &mut Pass, worker: u32) -> Option<u64>
+        requires own { IsOf self.now pass.old }
+        requires may { MayStep pass.old (Scan worker) }
+        ensures { Stepped pass.old pass.new (Scan worker) (scan_reply result) }
+    {
+        let word = self.layout.note(worker) as usize;
+        let found = load(&self.table.shared, &mut pass.seat, word, Event::Scan(worker));
+        if found == 0 { None } else { Some(found - 1) }
+    }
+
+    /// Moves the global epoch from the one last read to the next: the new one, or the one that was found in the place of the old.
+    pub fn advance(&self, pass: &mut Pass) -> Result<u64, u64>
+        requires own { IsOf self.now pass.old }
+        requires may { MayStep pass.old Advance }
+        ensures { Stepped pass.old pass.new Advance (advance_reply result) }
+    {
+        let Some(seen) = pass.brief.seen else {
+            unreachable!()
+        };
+        let word = self.layout.epoch() as usize;
+        let found = exchange(&self.table.shared, &mut pass.seat, word, seen, seen + 1, Event::Advance);
+        if found == seen {
+            pass.brief.seen = Some(seen + 1);
+            Ok(seen + 1)
+        } else {
+            pass.brief.seen = Some(found);
+            Err(found)
+        }
     }
 }
 

@@ -1,0 +1,6 @@
+use Rattle.std.proofs.Common.{rules, ◌≡◌, sym, ◌∙◌, ap, refl}
+use Rattle.nm_steps.proofs.Noting.{tied_after}
+use Rattle.nm_steps.proofs.pass.Shared.leave.Goals as goal
+
+pub invariant_of-pass : goal.invariant_of-pass
+invariant_of-pass c = tied_after _ _ _ _ _ _ _ c.pass.invariant (rw (← c.pass.view_is) at c.requires.may) c.store.ensures (search rules)
