@@ -1,16 +1,20 @@
 -- What an event that a worker may take tells of its worker and its arguments.
-use Rattle.std.proofs.Common.{◌≡◌, ◌≢◌, ℕ, ◌+◌, ◌<◌, ◌≤◌, ◌==◌, Bool, true, false, not, ◌||◌, cond, List, [], ◌∷◌, refl, sym, ap, subst, ◌∙◌, true≢false, arith}
+use Rattle.std.proofs.Common.{◌≡◌, ◌≢◌, ℕ, ◌+◌, ◌^◌, ◌<◌, ◌≤◌, ◌==◌, Bool, true, false, not, ◌||◌, ◌&&◌, zero, suc, get_or, replicate, cond, List, [], ◌∷◌, refl, sym, ap, subst, ◌∙◌, true≢false, arith}
 use Rattle.std.specs.Prelude.{Option, Some, None, IsSome, is_none, is_some, nat_le, nat_lt, unwrap_or}
 use Rattle.std.proofs.lemmas.Bool.{or_parts, leb-false, ltb-false}
+use Rattle.std.proofs.lemmas.Option.{none-some}
+use Rattle.nm_edge.specs.Edges.{Edge, IsEdge, edge_in, is_word, unpacked, word_of}
 use Rattle.nm_edge.specs.Layouts.{Layout, IsLayout}
-use Rattle.nm_edge.specs.Words.{IsSlot, IsField}
+use Rattle.nm_edge.specs.Words.{IsSlot, IsField, at_edge}
 use Rattle.nm_edge.specs.declared.edge.Side.{Side}
 use Rattle.nm_core.specs.declared.event.Field.{Field}
 use Rattle.nm_core.specs.declared.event.Event.{Event}
 use Rattle.nm_core.specs.declared.event.Event.TheVariants.{Sight, SightFor, Announce, Leave, LeaveWith, Scan, Advance, Claim, Give, Look, Fill, Link, Flag, Tag, Splice, Join}
-use Rattle.nm_core.specs.Memory.{Memory, opening}
-use Rattle.nm_core.specs.Knowledge.{Knowledge}
-use Rattle.nm_core.specs.Step.{refusal, outside, others_scanned, is_held_back, last_number}
+use Rattle.nm_core.specs.declared.event.Field.TheVariants.{Key, Edge as EdgeOn, Birth}
+use Rattle.nm_core.specs.declared.memory.Node.{Node}
+use Rattle.nm_core.specs.Memory.{Memory, edge, blank, opening}
+use Rattle.nm_core.specs.Knowledge.{Knowledge, draft_of}
+use Rattle.nm_core.specs.Step.{refusal, outside, is_edge, others_scanned, is_held_back, last_number}
 use Rattle.nm_core.specs.Runs.{State, of, start}
 use Rattle.nm_core.specs.Walks.{Entry}
 use Rattle.nm_core.specs.Ordered.{ordered, after_in, trace_in}
@@ -20,9 +24,15 @@ use Rattle.nm_core.proofs.EachState.{each_epoch_agrees}
 use Rattle.nm_order.specs.Logs.{part_of, known_by, IsLogOf}
 use Rattle.nm_order.proofs.PartsOfRuns.{logs_tell}
 use Rattle.nm_order.proofs.OrderedLaws.{IsOrdered, each_ordered}
-use Rattle.nm_words.specs.Packing.{StateIsInRange}
+use Rattle.nm_words.specs.Packing.{Fits, InRange, StateFits, StateIsInRange, NullEdgesAreUnmarked, word_at, touched}
+use Rattle.nm_words.proofs.PackedEvents.{each_state_fits}
+use Rattle.nm_words.proofs.PackedReads.{each_word_is_its_field}
+use Rattle.nm_edge.proofs.Packing.{unpacked_word}
+use Rattle.nm_words.proofs.MarkedEdges.{each_null_unmarked}
 use Rattle.nm_words.proofs.PackedSizes.{each_state_in_range}
-use Rattle.nm_steps.specs.Steps.{May}
+use Rattle.nm_core.proofs.Reachable.{layout_kept}
+use Rattle.nm_steps.specs.Rules.{is_store, IsFound}
+use Rattle.nm_steps.specs.Steps.{May, IsAsLooked}
 
 some_of : (o : Option ℕ) → is_none o ≡ false → IsSome o
 some_of None h = absurd (true≢false h)
@@ -53,3 +63,105 @@ module _ (L : Layout) (w : ℕ) (log : List Entry) where
       let range : StateIsInRange (after_in (ordered L) l.turns).state = subst StateIsInRange (sym o.leads) (each_state_in_range L enough o.events) in
       let at : (of (after_in (ordered L) l.turns).state w).brief.seen ≡ Some e = ap (λ (x : Knowledge). x.brief.seen) (logs_tell L l.turns w l.worker ∙ ap (known_by L w) l.is_part) ∙ is in
       let below = agree.sights w e at in let top = range.epoch in omega (arith, below, top)
+
+-- ---- slots
+
+inside : (low n s : ℕ) → outside low n s ≡ false → (low ≤ s) × (s ≤ n)
+inside low n s h = let parts = or_parts (nat_lt s low) (nat_lt n s) h in (ltb-false s low parts.0, ltb-false n s parts.1)
+
+slot_of : (low n s : ℕ) → 1 ≤ low → outside low n s ≡ false → (1 ≤ s) × (s ≤ n)
+slot_of low n s some h = let is = inside low n s h in (let a = is.0 in omega (arith, a, some), is.1)
+
+module _ (L : Layout) (w : ℕ) (log : List Entry) where
+  pub claim_slot : (s : ℕ) → May L w log (Claim s) → IsSlot L s
+  unfolding refusal
+  claim_slot s may = slot_of 6 L.nodes s (omega arith) (passed _ _ _ (may.allowed (opening L) tt)).0
+
+  pub give_slot : (s : ℕ) → May L w log (Give s) → IsSlot L s
+  unfolding refusal
+  give_slot s may = slot_of 6 L.nodes s (omega arith) (passed _ _ _ (may.allowed (opening L) tt)).0
+
+  pub look_slot : (s : ℕ) (f : Field) → May L w log (Look s f) → IsSlot L s
+  unfolding refusal
+  look_slot s f may = slot_of 1 L.nodes s (omega arith) (passed _ _ _ (may.allowed (opening L) tt)).0
+
+  pub link_slot : (p : ℕ) (side : Side) (leaf new : ℕ) → May L w log (Link p side leaf new) → IsSlot L p
+  unfolding refusal
+  link_slot p side leaf new may = slot_of 1 L.nodes p (omega arith) (or_parts (outside 1 L.nodes p) (outside 1 L.nodes leaf || outside 6 L.nodes new) (passed _ _ _ (may.allowed (opening L) tt)).0).0
+
+  pub flag_slot : (p : ℕ) (side : Side) (leaf : ℕ) → May L w log (Flag p side leaf) → IsSlot L p
+  unfolding refusal
+  flag_slot p side leaf may = slot_of 1 L.nodes p (omega arith) (or_parts (outside 1 L.nodes p) (outside 6 L.nodes leaf) (passed _ _ _ (may.allowed (opening L) tt)).0).0
+
+  pub tag_slot : (p : ℕ) (side : Side) → May L w log (Tag p side) → IsSlot L p
+  unfolding refusal
+  tag_slot p side may = slot_of 1 L.nodes p (omega arith) (passed _ _ _ (may.allowed (opening L) tt)).0
+
+  pub splice_slot : (a : ℕ) (side : Side) (s p : ℕ) (keep : Side) → May L w log (Splice a side s p keep) → IsSlot L a
+  unfolding refusal
+  splice_slot a side s p keep may = slot_of 1 L.nodes a (omega arith) (or_parts (outside 1 L.nodes a) (outside 6 L.nodes s || outside 6 L.nodes p) (passed _ _ _ (may.allowed (opening L) tt)).0).0
+
+-- the last of so many nodes and one
+abbrev last_of : ℕ → Node → List Node
+last_of zero n = n ∷ []
+last_of (suc s) n = blank ∷ last_of s n
+
+at_last : (s : ℕ) (n : Node) → get_or (last_of s n) s blank ≡ n
+at_last zero n = refl
+at_last (suc s) n = at_last s n
+
+module _ (L : Layout) (w : ℕ) (log : List Entry) where
+  -- a fill is allowed in a memory in which its slot has the birth that was looked at
+  abbrev looked_at : ℕ → Memory
+  looked_at s = record (opening L) { nodes = last_of s (record blank { birth = unwrap_or (draft_of (known_by L w log) s).looked 0 }) }
+
+  is_as_looked : (s : ℕ) (f : Field) (v : ℕ) → IsAsLooked (known_by L w log) (looked_at s) (Fill s f v)
+  is_as_looked s Key v = tt
+  is_as_looked s (EdgeOn side) v = tt
+  is_as_looked s Birth v = λ b is. ap (λ (n : Node). n.birth) (at_last s _) ∙ ap (λ o. unwrap_or o 0) is
+
+  fill_allowed : (s : ℕ) (f : Field) (v : ℕ) → May L w log (Fill s f v) → (outside 6 L.nodes s || (is_edge f && nat_lt L.nodes v)) ≡ false
+  unfolding refusal
+  fill_allowed s f v may = (passed _ _ _ (may.allowed (looked_at s) (is_as_looked s f v))).0
+
+  pub fill_slot : (s : ℕ) (f : Field) (v : ℕ) → May L w log (Fill s f v) → IsSlot L s
+  fill_slot s f v may = slot_of 6 L.nodes s (omega arith) (or_parts (outside 6 L.nodes s) (is_edge f && nat_lt L.nodes v) (fill_allowed s f v may)).0
+
+  -- the leaf of a flag is a slot
+  pub flag_leaf : (p : ℕ) (side : Side) (leaf : ℕ) → May L w log (Flag p side leaf) → 1 ≤ leaf
+  unfolding refusal
+  flag_leaf p side leaf may = (slot_of 6 L.nodes leaf (omega arith) (or_parts (outside 1 L.nodes p) (outside 6 L.nodes leaf) (passed _ _ _ (may.allowed (opening L) tt)).0).1).0
+
+-- ---- words of edges
+
+-- where an edge's word is found, it is that of an edge
+pub finds_edge : (L : Layout) (w : ℕ) (log : List Entry) (e : Event) (n x : ℕ) (side : Side) → IsFound L w log e n → is_store e ≡ false → touched w e ≡ at_edge x side → IsSlot L x → is_word n ≡ true
+finds_edge L w log e n x side f loads at slot = is_some_true (is_word n) (edge_in n) (edge s.memory x side) (ap unpacked found_is ∙ unpacked_word (edge s.memory x side) marks (let size = range.edges x side in let most = f.fits.most in let below : (edge s.memory x side).slot < 2 ^ 32 = omega (arith, size, most) in below))
+  where
+    enough : 5 ≤ L.nodes
+    enough = let least = f.fits.least in omega arith
+
+    o : IsOrdered L (after_in (ordered L) f.turns)
+    o = each_ordered L enough f.turns f.keys
+
+    s : State
+    s = (after_in (ordered L) f.turns).state
+
+    same : s.layout ≡ L
+    same = ap (λ (t : State). t.layout) o.leads ∙ layout_kept (start L) o.events
+
+    fits : Fits L s.memory
+    fits = subst (λ (l : Layout). Fits l s.memory) same (subst StateFits (sym o.leads) (each_state_fits L enough o.events))
+
+    range : InRange L s.memory
+    range = subst (λ (l : Layout). InRange l s.memory) same (subst StateIsInRange (sym o.leads) (each_state_in_range L enough o.events))
+
+    marks : IsEdge (edge s.memory x side)
+    marks = subst NullEdgesAreUnmarked (sym o.leads) (each_null_unmarked L enough o.events) x side
+
+    found_is : n ≡ word_of (edge s.memory x side)
+    found_is = f.word loads ∙ (ap (word_at L s.memory) at ∙ each_word_is_its_field L s.memory (at_edge x side) fits slot)
+
+    is_some_true : (b : Bool) (e d : Edge) → cond b (Some e) None ≡ Some d → b ≡ true
+    is_some_true true e d h = refl
+    is_some_true false e d h = absurd (none-some d h)

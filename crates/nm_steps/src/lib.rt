@@ -6,6 +6,8 @@ mod answers;
 mod closing;
 mod epoch_steps;
 mod pass;
+mod pool_steps;
+mod tree_steps;
 mod view;
 
 pub use answers::Sighted;

@@ -1,0 +1,13 @@
+use Rattle.std.proofs.Common.{rules, ◌≡◌, sym, ◌∙◌, ap, refl}
+use Rattle.nm_steps.proofs.Asking.{look_slot}
+use Rattle.nm_steps.proofs.Noting.{ready, tied_after}
+use Rattle.nm_steps.proofs.pass.Shared.look_birth.Goals as goal
+
+pub birth-word-requires : goal.birth-word-requires
+birth-word-requires c = let slot = look_slot _ _ _ c.args.slot _ c.requires.may in search (rules, slot)
+
+pub load-requires-clause-ready : goal.load-requires-clause-ready
+load-requires-clause-ready c = ready _ _ _ _ _ _ _ _ c.self.invariant c.pass.invariant (search rules) (search rules) (rw (← c.pass.view_is) at c.requires.may) (search rules)
+
+pub invariant_of-pass : goal.invariant_of-pass
+invariant_of-pass c = tied_after _ _ _ _ _ _ _ c.pass.invariant (rw (← c.pass.view_is) at c.requires.may) c.load.ensures (search rules)

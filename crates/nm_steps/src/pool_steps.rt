@@ -1,0 +1,31 @@
+//! The steps on the pool, one bit of one word each.
+ghost use Rattle.std.specs.Prelude.{◌≡◌};
+ghost use Rattle.nm_core.specs.declared.event.Event.TheVariants.{Claim, Give};
+ghost use Rattle.nm_steps.specs.Steps.{IsOf, MayStep, Stepped, claim_reply, give_reply};
+
+use crate::acts::{clear, mark};
+use crate::pass::{Pass, Shared};
+use nm_core::Event;
+
+impl Shared {
+    /// Takes a slot out of the pool; false where it was not there.
+    pub fn claim(&self, pass: &mut Pass, slot: u32) -> bool
+        requires own { IsOf self.now pass.old }
+        requires may { MayStep pass.old (Claim slot) }
+        ensures { Stepped pass.old pass.new (Claim slot) (claim_reply slot result) }
+    {
+        let place = self.layout.pool(slot);
+        let found = clear(&self.table.shared, &mut pass.seat, place.word as usize, !place.mask, Event::Claim(slot));
+        found & place.mask != 0
+    }
+
+    /// Puts a slot back into the pool: a private one, or the front of a queue that the worker holds.
+    pub fn give(&self, pass: &mut Pass, slot: u32)
+        requires own { IsOf self.now pass.old }
+        requires may { MayStep pass.old (Give slot) }
+        ensures { Stepped pass.old pass.new (Give slot) (give_reply pass.old.view slot) }
+    {
+        let place = self.layout.pool(slot);
+        mark(&self.table.shared, &mut pass.seat, place.word as usize, place.mask, Event::Give(slot));
+    }
+}
