@@ -8,3 +8,5 @@ pub mod OrderedLinks
 pub mod OrderedSteps
 pub mod OrderedKeys
 pub mod OrderedLaws
+pub mod LogParts
+pub mod ArrivalsOfLooks
