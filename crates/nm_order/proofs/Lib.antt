@@ -10,3 +10,5 @@ pub mod OrderedKeys
 pub mod OrderedLaws
 pub mod LogParts
 pub mod ArrivalsOfLooks
+pub mod WalksAfter
+pub mod SearchesOfLogs
