@@ -1,5 +1,5 @@
 -- What one entry of a log does to a list of arrivals: those that were there stay, and a look that goes on with a walk leaves an arrival of it.
-use Rattle.std.proofs.Common.{◌≡◌, ◌≢◌, ℕ, inl, inr, ◌==◌, Bool, true, false, cond, ◌&&◌, ◌||◌, List, [], ◌∷◌, ◌++◌, map, refl, sym, ap, subst, ◌∙◌}
+use Rattle.std.proofs.Common.{◌≡◌, ◌≢◌, ℕ, ◌==◌, Bool, true, false, cond, ◌&&◌, ◌||◌, List, [], ◌∷◌, ◌++◌, map, refl, ap, ◌∙◌}
 use Rattle.std.specs.Prelude.{Option, Some, None, is_none, slice_get, Contains}
 use Rattle.std.specs.List.{list_any}
 use Rattle.std.proofs.lemmas.Bool.{cond-true, cond-false, eqb-true, eq-eqb, ne_eqb, and_parts, and_from}
@@ -9,12 +9,10 @@ use Rattle.std.proofs.lemmas.List.Folds.{list_any_at}
 use Rattle.nm_edge.specs.declared.edge.Side.{Side}
 use Rattle.nm_edge.specs.declared.edge.Side.TheVariants.{Left, Right}
 use Rattle.nm_core.specs.declared.event.Op.TheVariants.{Has}
-use Rattle.nm_core.specs.declared.event.Event.{Event}
 use Rattle.nm_core.specs.declared.event.Event.TheVariants.{Look}
-use Rattle.nm_core.specs.declared.reply.Reply.{Reply}
 use Rattle.nm_core.specs.declared.walks.Arrival.{Arrival}
 use Rattle.nm_core.specs.Searches.{Search, side_of, is_side, turns, is_by, goes_on, is_first, new_arrival, with_arrival, keyed, ended, walk_edge, walked, searched}
-use Rattle.nm_core.specs.Walks.{Entry, GrowsTo, SearchGrows}
+use Rattle.nm_core.specs.Walks.{Entry, GrowsTo}
 use Rattle.nm_core.proofs.Lists.{any_at, map_at}
 use Rattle.nm_core.proofs.SearchesGrow.{only_grow}
 use Rattle.nm_order.specs.WalksToArrivals.{HasArrival}

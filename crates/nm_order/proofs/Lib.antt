@@ -12,3 +12,5 @@ pub mod LogParts
 pub mod ArrivalsOfLooks
 pub mod WalksAfter
 pub mod SearchesOfLogs
+pub mod WalksOfRuns
+pub mod WalkLaws

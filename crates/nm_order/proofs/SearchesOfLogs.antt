@@ -16,10 +16,12 @@ use Rattle.nm_core.specs.declared.reply.Reply.TheVariants.{Pinned, Departed, Lin
 use Rattle.nm_core.specs.declared.walks.Call.{Call}
 use Rattle.nm_core.specs.declared.walks.Arrival.{Arrival}
 use Rattle.nm_core.specs.Searches.{Search, idle, walked, later_walked, look_for, searched}
-use Rattle.nm_core.specs.Walks.{Entry, IsOfWalk, search_after, begins_anew, since_pin}
+use Rattle.nm_core.specs.Walks.{Entry, IsPart, IsOfWalk, search_after, begins_anew, since_pin}
+use Rattle.nm_core.specs.Walks.IsPart.{nothing, skips}
 use Rattle.nm_core.proofs.SearchesGrow.{only_grow}
 use Rattle.nm_core.proofs.WalksOfLogs.{arrivals_are_walks}
 use Rattle.nm_order.specs.WalksToArrivals.{is_won_flag, since_flag}
+use Rattle.nm_order.proofs.LogParts.{part_itself}
 use Rattle.nm_order.proofs.ArrivalsOfLooks.{walked_by}
 use Rattle.nm_order.proofs.WalksAfter.{walks_after, walks_more}
 
@@ -51,11 +53,11 @@ kept false k ws e is = refl
 
 -- an entry that is no look and no flag
 adds_nothing : (s t : Search) (call : Call) (e : Entry) → t.call ≡ Some call → t.walks ≡ s.walks → t.later ≡ s.later → t.flagged ≡ s.flagged → ((ws : List Arrival) → walked_by call.key ws e ≡ ws) → is_won_flag e ≡ false → Adds s t call e
-adds_nothing s t call e same walks later flagged nothing no_flag = record {
+adds_nothing s t call e same walks later flagged quiet unflagged = record {
   same = same;
-  walks = walks ∙ sym (nothing s.walks);
-  later = later ∙ kept (is_some s.flagged) call.key s.later e (nothing s.later);
-  flagged = ap is_some flagged ∙ (or_not (is_some s.flagged) ∙ ap (λ (b : Bool). is_some s.flagged || b) (sym no_flag));
+  walks = walks ∙ sym (quiet s.walks);
+  later = later ∙ kept (is_some s.flagged) call.key s.later e (quiet s.later);
+  flagged = ap is_some flagged ∙ (or_not (is_some s.flagged) ∙ ap (λ (b : Bool). is_some s.flagged || b) (sym unflagged));
 }
 
 adds_look : (s : Search) (call : Call) (slot : ℕ) (f : Field) (r : Reply) (o : Option Call) → s.call ≡ o → o ≡ Some call → Adds s (look_for s o slot f r) call (Look slot f, r)
@@ -127,6 +129,10 @@ no_flag (e ∷ es) none = by (is_won_flag e) none (no_flag es)
     by true none rest = absurd (true≢false none)
     by false none rest = rest none
 
+pub part_since_flag : (es : List Entry) → IsPart (since_flag es) es
+part_since_flag [] = nothing
+part_since_flag (e ∷ es) = skips (cond_both (is_won_flag e) es (since_flag es) (λ xs. IsPart xs es) (λ _. part_itself es) (λ _. part_since_flag es))
+
 -- ---- parts of a log in which no pin is confirmed or left
 
 abbrev pub Stays : List Entry → Type 0
@@ -137,7 +143,7 @@ stays_more : (es : List Entry) (e : Entry) → Stays es → begins_anew e ≡ fa
 stays_more [] e stays is = (is, tt)
 stays_more (x ∷ es) e stays is = (stays.0, stays_more es e stays.1 is)
 
-stays_before : (es more : List Entry) → Stays (es ++ more) → Stays es
+pub stays_before : (es more : List Entry) → Stays (es ++ more) → Stays es
 stays_before [] more stays = tt
 stays_before (e ∷ es) more stays = (stays.0, stays_before es more stays.1)
 

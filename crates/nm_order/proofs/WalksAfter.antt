@@ -3,7 +3,6 @@ use Rattle.std.proofs.Common.{◌≡◌, ℕ, inl, inr, true, List, [], ◌∷�
 use Rattle.std.proofs.lemmas.List.{append-nil}
 use Rattle.std.specs.Prelude.{Some, All, Contains}
 use Rattle.std.proofs.lemmas.Option.{same_Some}
-use Rattle.nm_edge.specs.Edges.{Edge}
 use Rattle.nm_edge.specs.declared.edge.Side.{Side}
 use Rattle.nm_edge.specs.declared.edge.Side.TheVariants.{Left}
 use Rattle.nm_core.specs.declared.event.Field.TheVariants.{Key, Edge as EdgeOn}
@@ -14,7 +13,7 @@ use Rattle.nm_core.specs.Searches.{side_of}
 use Rattle.nm_core.specs.Walks.{Entry, IsPart, Leads, WalkComes, WalkReads, WalkEnds, IsOfWalk}
 use Rattle.nm_core.specs.Walks.Leads.{begins, leads_on}
 use Rattle.nm_order.specs.WalksToArrivals.{HasArrival, ComingsAreArrivals, ReadingsAreArrivals, EndsAreArrivals}
-use Rattle.nm_order.proofs.LogParts.{part_grows, part_ends}
+use Rattle.nm_order.proofs.LogParts.{part_grows, part_within, part_ends}
 use Rattle.nm_order.proofs.ArrivalsOfLooks.{walked_by, still_has, key_read, end_read, first_read, next_read}
 
 -- the arrivals after a part of a log
@@ -32,6 +31,9 @@ ReadingsAre keys k log = (slot parent : ℕ) (side : Side) (v : ℕ) → WalkRea
 
 pub readings_less : (keys : ℕ → ℕ) (k : ℕ) (log more : List Entry) → ReadingsAre keys k (log ++ more) → ReadingsAre keys k log
 readings_less keys k log more are slot parent side v r = are slot parent side v (record { looks = r.looks; leads = r.leads; is_part = part_grows more r.is_part })
+
+pub readings_within : (keys : ℕ → ℕ) (k : ℕ) (part log : List Entry) → IsPart part log → ReadingsAre keys k log → ReadingsAre keys k part
+readings_within keys k part log p are slot parent side v r = are slot parent side v (record { looks = r.looks; leads = r.leads; is_part = part_within p _ r.is_part })
 
 -- ---- what the list has of the log
 
@@ -91,7 +93,7 @@ module _ (k : ℕ) (log : List Entry) (ws : List Arrival) (has : HasWalks k log 
 
 -- ---- a whole log
 
-nothing_comes : (k : ℕ) → HasWalks k [] []
+pub nothing_comes : (k : ℕ) → HasWalks k [] []
 nothing_comes k = record {
   comes = λ slot parent side r. absurd (no_walk r.looks slot parent side r.leads r.is_part);
   reads = λ slot parent side v r. absurd (no_last r.looks (Look slot Key, KeyIs v) [] r.is_part);
