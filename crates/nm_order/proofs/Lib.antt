@@ -14,3 +14,5 @@ pub mod WalksAfter
 pub mod SearchesOfLogs
 pub mod WalksOfRuns
 pub mod WalkLaws
+pub mod FlagsOfEvents
+pub mod FlagsOfRuns

@@ -39,6 +39,7 @@ record Adds (s t : Search) (call : Call) (e : Entry) : Type 0 where
   later : t.later ≡ later_by (is_some s.flagged) call.key s.later e
   flagged : is_some t.flagged ≡ (is_some s.flagged || is_won_flag e)
 
+-- a flag that is not won, and one that is
 or_not : (b : Bool) → b ≡ (b || false)
 or_not true = refl
 or_not false = refl
@@ -47,6 +48,7 @@ or_so : (b : Bool) → true ≡ (b || true)
 or_so true = refl
 or_so false = refl
 
+-- what leaves a list of arrivals leaves the later ones
 kept : (b : Bool) (k : ℕ) (ws : List Arrival) (e : Entry) → walked_by k ws e ≡ ws → ws ≡ later_by b k ws e
 kept true k ws e is = sym is
 kept false k ws e is = refl
@@ -60,6 +62,7 @@ adds_nothing s t call e same walks later flagged quiet unflagged = record {
   flagged = ap is_some flagged ∙ (or_not (is_some s.flagged) ∙ ap (λ (b : Bool). is_some s.flagged || b) (sym unflagged));
 }
 
+-- a look
 adds_look : (s : Search) (call : Call) (slot : ℕ) (f : Field) (r : Reply) (o : Option Call) → s.call ≡ o → o ≡ Some call → Adds s (look_for s o slot f r) call (Look slot f, r)
 adds_look s call slot f r None is some = absurd (none-some call some)
 adds_look s call slot f r (Some c) is some = record {
@@ -73,6 +76,7 @@ adds_look s call slot f r (Some c) is some = record {
     by None = refl
     by (Some n) = refl
 
+-- any entry under the pin
 adds : (s : Search) (call : Call) (e : Event) (r : Reply) → begins_anew (e, r) ≡ false → s.call ≡ Some call → Adds s (searched s e r) call (e, r)
 unfolding searched
 adds s call Sight (Pinned n) stands is = absurd (true≢false stands)
@@ -91,25 +95,26 @@ adds s call (Splice a side x p keep) (Cut ns) stands is = adds_nothing s _ call 
 adds s call e r stands is = adds_nothing s _ call (e, r) is refl refl refl (λ ws. refl) refl
 
 -- where a pin is confirmed or left, nothing is known
-record IsNew (s : Search) : Type 0 where
-  walks : s.walks ≡ []
-  later : s.later ≡ []
-  flagged : s.flagged ≡ None
+pub record IsNew (s : Search) : Type 0 where
+  pub walks : s.walks ≡ []
+  pub later : s.later ≡ []
+  pub flagged : s.flagged ≡ None
 
-begins : (s : Search) (e : Event) (r : Reply) → begins_anew (e, r) ≡ true → IsNew (searched s e r)
+pub begun_anew : (s : Search) (e : Event) (r : Reply) → begins_anew (e, r) ≡ true → IsNew (searched s e r)
 unfolding searched
-begins s Sight (Pinned n) anew = record { walks = refl; later = refl; flagged = refl }
-begins s (SightFor op key) (Pinned n) anew = record { walks = refl; later = refl; flagged = refl }
-begins s Leave Departed anew = record { walks = refl; later = refl; flagged = refl }
-begins s (LeaveWith answer) Departed anew = record { walks = refl; later = refl; flagged = refl }
-begins s e r anew = absurd (true≢false (sym anew))
+begun_anew s Sight (Pinned n) anew = record { walks = refl; later = refl; flagged = refl }
+begun_anew s (SightFor op key) (Pinned n) anew = record { walks = refl; later = refl; flagged = refl }
+begun_anew s Leave Departed anew = record { walks = refl; later = refl; flagged = refl }
+begun_anew s (LeaveWith answer) Departed anew = record { walks = refl; later = refl; flagged = refl }
+begun_anew s e r anew = absurd (true≢false (sym anew))
 
 -- ---- the part behind the flag
 
 abbrev pub has_flag : List Entry → Bool
 has_flag es = list_any is_won_flag es
 
-since_flag_more : (es : List Entry) (e : Entry) → since_flag (es ++ e ∷ []) ≡ cond (has_flag es) (since_flag es ++ e ∷ []) []
+-- it grows with the log once a flag is won
+pub since_flag_more : (es : List Entry) (e : Entry) → since_flag (es ++ e ∷ []) ≡ cond (has_flag es) (since_flag es ++ e ∷ []) []
 since_flag_more [] e = by (is_won_flag e)
   where
     by : (b : Bool) → cond b [] (since_flag []) ≡ []
@@ -121,7 +126,7 @@ since_flag_more (x ∷ es) e = by (is_won_flag x) (since_flag_more es e)
     by true rest = refl
     by false rest = rest
 
-no_flag : (es : List Entry) → has_flag es ≡ false → since_flag es ≡ []
+pub no_flag : (es : List Entry) → has_flag es ≡ false → since_flag es ≡ []
 no_flag [] none = refl
 no_flag (e ∷ es) none = by (is_won_flag e) none (no_flag es)
   where
@@ -129,6 +134,7 @@ no_flag (e ∷ es) none = by (is_won_flag e) none (no_flag es)
     by true none rest = absurd (true≢false none)
     by false none rest = rest none
 
+-- it is a part of the log
 pub part_since_flag : (es : List Entry) → IsPart (since_flag es) es
 part_since_flag [] = nothing
 part_since_flag (e ∷ es) = skips (cond_both (is_won_flag e) es (since_flag es) (λ xs. IsPart xs es) (λ _. part_itself es) (λ _. part_since_flag es))
@@ -179,7 +185,7 @@ knows_more : (s : Search) (log : List Entry) (e : Entry) → KnowsCall s log →
 knows_more s log e knows call is = by (begins_anew e) refl
   where
     by : (b : Bool) → begins_anew e ≡ b → Knows (searched s e.0 e.1) (cond b [] (log ++ e ∷ [])) call
-    by true anew = let new = begins s e.0 e.1 anew in record { walks = new.walks; later = new.later; flagged = ap is_some new.flagged }
+    by true anew = let new = begun_anew s e.0 e.1 anew in record { walks = new.walks; later = new.later; flagged = ap is_some new.flagged }
     by false stands = record {
       walks = a.walks ∙ (ap (λ (ws : List Arrival). walked_by call.key ws e) k.walks ∙ sym (walks_more call.key [] log e));
       later = a.later ∙ ((λ i. later_by (k.flagged i) call.key (k.later i) e) ∙ (behind (has_flag log) refl ∙ sym (ap (walks_after call.key []) (since_flag_more log e))));

@@ -29,6 +29,7 @@ walks_more k ws (x ∷ es) e = walks_more k (walked_by k ws x) es e
 abbrev pub ReadingsAre : (ℕ → ℕ) → ℕ → List Entry → Type 0
 ReadingsAre keys k log = (slot parent : ℕ) (side : Side) (v : ℕ) → WalkReads k log slot parent side v → keys slot ≡ v
 
+-- and so in a part of the log
 pub readings_less : (keys : ℕ → ℕ) (k : ℕ) (log more : List Entry) → ReadingsAre keys k (log ++ more) → ReadingsAre keys k log
 readings_less keys k log more are slot parent side v r = are slot parent side v (record { looks = r.looks; leads = r.leads; is_part = part_grows more r.is_part })
 

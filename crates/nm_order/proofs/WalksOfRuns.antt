@@ -2,6 +2,7 @@
 use Rattle.std.proofs.Common.{◌≡◌, ℕ, zero, suc, ◌<◌, ◌≤◌, inl, inr, ◌==◌, Bool, true, false, cond, List, [], ◌∷◌, ◌++◌, append_assoc, refl, sym, ap, subst, ◌∙◌, arith, Result}
 use Rattle.std.specs.Prelude.{Option, Some, None, IfSome, option_map, replicate, All, Contains, slice_get}
 use Rattle.std.proofs.lemmas.List.{append-nil}
+use Rattle.std.proofs.lemmas.Bool.{eqb-true}
 use Rattle.std.proofs.lemmas.Option.{none-some, slice_get-get_or}
 use Rattle.nm_edge.specs.Layouts.{Layout}
 use Rattle.nm_edge.specs.declared.edge.Side.{Side}
@@ -41,18 +42,18 @@ log-append : (w : ℕ) (ts us : List Turn) → log_of w (ts ++ us) ≡ log_of w 
 log-append w [] us = refl
 log-append w (t ∷ ts) us = ap (λ (rest : List Entry). cond (t.worker == w) (entry_of t) [] ++ rest) (log-append w ts us) ∙ sym (append_assoc (cond (t.worker == w) (entry_of t) []) (log_of w ts) (log_of w us))
 
-search-append : (s : Search) (es fs : List Entry) → search_after s (es ++ fs) ≡ search_after (search_after s es) fs
+pub search-append : (s : Search) (es fs : List Entry) → search_after s (es ++ fs) ≡ search_after (search_after s es) fs
 search-append s [] fs = refl
 search-append s (e ∷ es) fs = search-append (searched s e.0 e.1) es fs
 
-since_pin-append : (so_far es fs : List Entry) → since_pin so_far (es ++ fs) ≡ since_pin (since_pin so_far es) fs
+pub since_pin-append : (so_far es fs : List Entry) → since_pin so_far (es ++ fs) ≡ since_pin (since_pin so_far es) fs
 since_pin-append so_far [] fs = refl
 since_pin-append so_far (e ∷ es) fs = since_pin-append (cond (begins_anew e) [] (so_far ++ e ∷ [])) es fs
 
 -- a worker's log after one more turn: as it was, or longer by that turn
-data LogGrows (c : Configuration) (t : ℕ × Event) (before after : List Entry) : Type 0 where
-  Same : after ≡ before → LogGrows c t before after
-  Longer : refused_in c t.0 t.1 ≡ None → after ≡ before ++ (t.1, reply_of c.state t.0 t.1) ∷ [] → LogGrows c t before after
+pub data LogGrows (w : ℕ) (c : Configuration) (t : ℕ × Event) (before after : List Entry) : Type 0 where
+  Same : after ≡ before → LogGrows w c t before after
+  Longer : t.0 ≡ w → refused_in c t.0 t.1 ≡ None → after ≡ before ++ (t.1, reply_of c.state t.0 t.1) ∷ [] → LogGrows w c t before after
 
 module _ (w : ℕ) (c : Configuration) (ts : List (ℕ × Event)) (t : ℕ × Event) where
   abbrev new : Bool → Result Reply Refused → List Entry
@@ -62,13 +63,13 @@ module _ (w : ℕ) (c : Configuration) (ts : List (ℕ × Event)) (t : ℕ × Ev
   unfolding trace_in
   one_turn = ap (log_of w) (trace_in-append c ts (t ∷ [])) ∙ log-append w (trace_in c ts) (trace_in (after_in c ts) (t ∷ []))
 
-  log_grows : LogGrows (after_in c ts) t (log_of w (trace_in c ts)) (log_of w (trace_in c (ts ++ t ∷ [])))
+  pub log_grows : LogGrows w (after_in c ts) t (log_of w (trace_in c ts)) (log_of w (trace_in c (ts ++ t ∷ [])))
   log_grows = by (t.0 == w) (refused_in (after_in c ts) t.0 t.1) refl refl
     where
-      by : (b : Bool) (o : Option Refused) → (t.0 == w) ≡ b → refused_in (after_in c ts) t.0 t.1 ≡ o → LogGrows (after_in c ts) t (log_of w (trace_in c ts)) (log_of w (trace_in c (ts ++ t ∷ [])))
+      by : (b : Bool) (o : Option Refused) → (t.0 == w) ≡ b → refused_in (after_in c ts) t.0 t.1 ≡ o → LogGrows w (after_in c ts) t (log_of w (trace_in c ts)) (log_of w (trace_in c (ts ++ t ∷ [])))
       by false o here is = Same (one_turn ∙ (ap (λ (b : Bool). log_of w (trace_in c ts) ++ (new b (outcome_in (after_in c ts) t) ++ [])) here ∙ append-nil (log_of w (trace_in c ts))))
       by true (Some r) here is = Same (one_turn ∙ ((λ i. log_of w (trace_in c ts) ++ (new (here i) (refused_outcome (after_in c ts) t r is i) ++ [])) ∙ append-nil (log_of w (trace_in c ts))))
-      by true None here is = Longer is (one_turn ∙ (λ i. log_of w (trace_in c ts) ++ (new (here i) (allowed_outcome (after_in c ts) t is i) ++ [])))
+      by true None here is = Longer (eqb-true t.0 w here) is (one_turn ∙ (λ i. log_of w (trace_in c ts) ++ (new (here i) (allowed_outcome (after_in c ts) t is i) ++ [])))
 
 -- ---- a look at a key
 
@@ -90,7 +91,7 @@ all_before P [] ys all i d below = absurd (omega (arith, below))
 all_before P (x ∷ xs) ys all zero d below = all 0 d (omega arith)
 all_before P (x ∷ xs) ys all (suc i) d below = all_before P xs ys (λ j e lt. all (suc j) e (omega (arith, lt))) i d (omega (arith, below))
 
-has_searches : (ts : List (ℕ × Event)) (c : Configuration) (ss : List Search) → c.searches ≡ Some ss → (known : List Search) × ((after_in c ts).searches ≡ Some known)
+pub has_searches : (ts : List (ℕ × Event)) (c : Configuration) (ss : List Search) → c.searches ≡ Some ss → (known : List Search) × ((after_in c ts).searches ≡ Some known)
 unfolding after_in applied_in
 has_searches [] c ss is = (ss, is)
 has_searches (t ∷ ts) c ss is = let now = by (refused_in c t.0 t.1) refl in has_searches ts (next_in c t) now.0 now.1
@@ -98,6 +99,17 @@ has_searches (t ∷ ts) c ss is = let now = by (refused_in c t.0 t.1) refl in ha
     by : (o : Option Refused) → refused_in c t.0 t.1 ≡ o → (now : List Search) × ((next_in c t).searches ≡ Some now)
     by (Some r) why = (ss, ap (λ (d : Configuration). d.searches) (refused_next c t r why) ∙ is)
     by None why = (learned_from ss t.0 t.1 (reply_of c.state t.0 t.1), ap (λ (d : Configuration). d.searches) (allowed_next c t why) ∙ ap (option_map (λ ss. learned_from ss t.0 t.1 (reply_of c.state t.0 t.1))) is)
+
+-- what a turn keeps holds after each run whose calls are for keys of the set
+pub over_turns : (Q : List (ℕ × Event) → Type 0) → Q [] → ((ts : List (ℕ × Event)) (t : ℕ × Event) → All (λ t. HasKey t.1) (ts ++ t ∷ []) → Q ts → Q (ts ++ t ∷ [])) → (ts : List (ℕ × Event)) → All (λ t. HasKey t.1) ts → Q ts
+over_turns Q first one ts keys = from ts [] keys first
+  where
+    from : (rest ts : List (ℕ × Event)) → All (λ t. HasKey t.1) (ts ++ rest) → Q ts → Q (ts ++ rest)
+    from [] ts keys q = subst Q (sym (append-nil ts)) q
+    from (t ∷ rest) ts keys q =
+        let e : (ts ++ t ∷ []) ++ rest ≡ ts ++ t ∷ rest = append_assoc ts (t ∷ []) rest in
+        let keys' : All (λ t. HasKey t.1) ((ts ++ t ∷ []) ++ rest) = subst (All (λ t. HasKey t.1)) (sym e) keys in
+        subst Q e (from rest (ts ++ t ∷ []) keys' (one ts t (all_before (λ t. HasKey t.1) (ts ++ t ∷ []) rest keys') q))
 
 module _ (L : Layout) (enough : 5 ≤ L.nodes) (w : ℕ) (inside : w < L.workers) where
   abbrev pub log_after : List (ℕ × Event) → List Entry
@@ -181,20 +193,13 @@ module _ (L : Layout) (enough : 5 ≤ L.nodes) (w : ℕ) (inside : w < L.workers
     stand_now : Reads (since_pin [] (log_after (ts ++ t ∷ []))) → StandsNow
     stand_now r = by (log_grows w (ordered L) ts t)
       where
-        by : LogGrows (after_in (ordered L) ts) t (log_after ts) (log_after (ts ++ t ∷ [])) → StandsNow
+        by : LogGrows w (after_in (ordered L) ts) t (log_after ts) (log_after (ts ++ t ∷ [])) → StandsNow
         by (Same e) = as_it_was e r
-        by (Longer allowed e) = one_longer allowed e (begins_anew entry) refl (subst Reads (ap (since_pin []) e ∙ since_pin-append [] (log_after ts) (entry ∷ [])) r)
-
-  keys_from : (rest ts : List (ℕ × Event)) → All (λ t. HasKey t.1) (ts ++ rest) → KeysStand ts → KeysStand (ts ++ rest)
-  keys_from [] ts keys stand = subst KeysStand (sym (append-nil ts)) stand
-  keys_from (t ∷ rest) ts keys stand =
-      let e : (ts ++ t ∷ []) ++ rest ≡ ts ++ t ∷ rest = append_assoc ts (t ∷ []) rest in
-      let keys' : All (λ t. HasKey t.1) ((ts ++ t ∷ []) ++ rest) = subst (All (λ t. HasKey t.1)) (sym e) keys in
-      subst KeysStand e (keys_from rest (ts ++ t ∷ []) keys' (λ call is slot parent side v r. stand_now ts t (all_before (λ t. HasKey t.1) (ts ++ t ∷ []) rest keys') stand call is slot parent side v r))
+        by (Longer own allowed e) = one_longer allowed e (begins_anew entry) refl (subst Reads (ap (since_pin []) e ∙ since_pin-append [] (log_after ts) (entry ∷ [])) r)
 
   pub keys_stand : (ts : List (ℕ × Event)) → All (λ t. HasKey t.1) ts → KeysStand ts
   unfolding trace_in
-  keys_stand ts keys = keys_from ts [] keys (λ call is. absurd (none-some call is))
+  keys_stand = over_turns KeysStand (λ call is. absurd (none-some call is)) (λ ts t keys stand call is slot parent side v r. stand_now ts t keys stand call is slot parent side v r)
 
 -- ---- the laws
 

@@ -5,4 +5,4 @@ mod order;
 mod walks;
 
 pub use order::{keys_are_the_set, links_insert, trees_are_in_order, walks_stay_in_order};
-pub use walks::{walks_after_the_flag, walks_are_arrivals};
+pub use walks::{flags_are_told, flags_stay, walks_after_the_flag, walks_are_arrivals};
