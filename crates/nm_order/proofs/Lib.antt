@@ -8,3 +8,6 @@ pub mod OrderedLinks
 pub mod OrderedSteps
 pub mod OrderedKeys
 pub mod OrderedLaws
+pub mod OnwardSlots
+pub mod OrderedMoments
+pub mod RunMoments

@@ -2,5 +2,7 @@
 #![tactic(auto)]
 
 mod order;
+mod paths;
 
 pub use order::{keys_are_the_set, links_insert, trees_are_in_order, walks_stay_in_order};
+pub use paths::walks_were_reached;
