@@ -11,3 +11,7 @@ pub mod OrderedLaws
 pub mod OnwardSlots
 pub mod OrderedMoments
 pub mod RunMoments
+pub mod OwnTurns
+pub mod OwnExchanges
+pub mod OwnLinks
+pub mod RunExchanges

@@ -1,8 +1,10 @@
 //! Laws of ordered runs: what the calls of an ordered core make of the tree and of the set. Nothing here runs.
 #![tactic(auto)]
 
+mod answers;
 mod order;
 mod paths;
 
+pub use answers::{answers_tell_changes, inserts_are_links};
 pub use order::{keys_are_the_set, links_insert, trees_are_in_order, walks_stay_in_order};
 pub use paths::walks_were_reached;
