@@ -14,4 +14,5 @@ pub mod RunMoments
 pub mod OwnTurns
 pub mod OwnExchanges
 pub mod OwnLinks
+pub mod OwnFlags
 pub mod RunExchanges

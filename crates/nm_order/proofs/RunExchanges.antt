@@ -4,27 +4,29 @@ use Rattle.std.specs.Prelude.{Option, Some, None, is_some, Ok, unwrap_or, All}
 use Rattle.std.proofs.lemmas.Bool.{eq-eqb}
 use Rattle.std.proofs.lemmas.Option.{same_Some}
 use Rattle.nm_edge.specs.Layouts.{Layout}
+use Rattle.nm_edge.specs.declared.node.NodeId.{NodeId}
 use Rattle.nm_core.specs.declared.event.Op.{Op}
 use Rattle.nm_core.specs.declared.event.Op.TheVariants.{Insert, Delete}
 use Rattle.nm_core.specs.declared.event.Event.{Event}
-use Rattle.nm_core.specs.declared.event.Event.TheVariants.{Leave, LeaveWith, Link}
+use Rattle.nm_core.specs.declared.event.Event.TheVariants.{Leave, LeaveWith, Link, Flag}
 use Rattle.nm_core.specs.declared.reply.Reply.{Reply}
-use Rattle.nm_core.specs.declared.reply.Reply.TheVariants.{Departed, Linked}
+use Rattle.nm_core.specs.declared.reply.Reply.TheVariants.{Departed, Linked, Flagged}
 use Rattle.nm_core.specs.declared.walks.Call.{Call}
 use Rattle.nm_core.specs.Runs.{of}
 use Rattle.nm_core.specs.Searches.{Search, idle}
 use Rattle.nm_core.specs.Walks.{Entry, log_of, since_pin}
-use Rattle.nm_core.specs.Ordered.{Configuration, ordered, search_of, disorder, shows, next_in, outcome_in, after_in, trace_in}
-use Rattle.nm_order.specs.Intervals.{HasKey, IsCalled, Gains}
+use Rattle.nm_core.specs.Ordered.{Configuration, ordered, search_of, disorder, shows, has_removed, next_in, outcome_in, after_in, trace_in}
+use Rattle.nm_order.specs.Intervals.{HasKey, IsCalled, Gains, Marks}
 use Rattle.nm_order.specs.Moments.{OfEachOrderedRun, PinStands}
-use Rattle.nm_order.specs.Exchanges.{how_many, is_won_link, is_won_flag, links_told, flags_told, MayAnswer, AnswersTellLinks, AnswersTellFlags, SilentLeavesWonNothing, HasInserted, TrueInsertsHaveInserted}
+use Rattle.nm_order.specs.Exchanges.{how_many, is_won_link, is_won_flag, links_told, flags_told, MayAnswer, AnswersTellLinks, AnswersTellFlags, SilentLeavesWonNothing, HasInserted, TrueInsertsHaveInserted, HasFlagged, TrueDeletesHaveFlagged}
 use Rattle.nm_core.proofs.Numbers.{repeated}
 use Rattle.nm_order.proofs.OrderedLaws.{IsOrdered, each_ordered, each_link_inserts}
+use Rattle.nm_order.proofs.OwnFlags.{each_flag_marks}
 use Rattle.nm_order.proofs.RunMoments.{allowed_entries}
 use Rattle.nm_order.proofs.OwnTurns.{own_search, OwnTurn, own_turn}
 use Rattle.nm_order.proofs.OwnTurns.OwnTurn.{Quiet, Own}
 use Rattle.nm_order.proofs.OwnExchanges.{Counted, counted_after, WonAt, won_in}
-use Rattle.nm_order.proofs.OwnLinks.{has_linked, has_flagged, IsLinkEntry, link_entry, links_once, flags_once, answer_shown, links_shown, flags_shown, silent}
+use Rattle.nm_order.proofs.OwnLinks.{has_linked, has_flagged, IsLinkEntry, link_entry, links_once, IsFlagEntry, flag_entry, flags_once, answer_shown, links_shown, flags_shown, silent}
 
 -- ---- the opening
 
@@ -132,6 +134,43 @@ module _ (L : Layout) (enough : 5 ≤ L.nodes) where
         go (inl first) = absurd (true≢false (sym first.0 ∙ ap (λ (s : Search). s.linked) (idle_first L w)))
         go (inr at) = made at (link_entry at.turn.1 at.reply at.such)
 
+    -- ---- the moment of a delete's flag
+
+    flagged_at : (k : ℕ) → IsCalled (after_in (ordered L) turns) w Delete k → has_flagged (own_search (after_in (ordered L) turns) w) ≡ true → HasFlagged L turns w k
+    flagged_at k called has = go (won_in is_won_flag has_flagged Delete flags_once L enough w turns keys (ordered L) (at_opening L enough) has)
+      where
+        made : (at : WonAt is_won_flag has_flagged Delete flags_once L enough w (ordered L) turns) → IsFlagEntry at.turn.1 at.reply → HasFlagged L turns w k
+        made at l = record {
+          before = at.before;
+          since = at.since;
+          parent = l.parent;
+          side = l.side;
+          leaf = l.leaf;
+          flagged = l.node;
+          is_run = at.is_run ∙ ap (λ (t : ℕ × Event). at.before ++ t ∷ at.since) turn;
+          called = subst (IsCalled (after_in (ordered L) at.before) w Delete) same_key of_call.1;
+          won = won;
+          marks = subst (Marks (after_in (ordered L) at.before).state.memory l.parent l.side l.leaf l.node) same_key of_call.2;
+          stands = subst (λ (t : ℕ × Event). PinStands w (trace_in (next_in (after_in (ordered L) at.before) t) at.since)) turn at.stands;
+        }
+          where
+            turn : at.turn ≡ (w, Flag l.parent l.side l.leaf)
+            turn = λ i. (at.own i, l.is_event i)
+
+            won : outcome_in (after_in (ordered L) at.before) (w, Flag l.parent l.side l.leaf) ≡ Ok (Flagged l.node)
+            won = ap (outcome_in (after_in (ordered L) at.before)) (sym turn) ∙ (at.won ∙ ap (λ (r : Reply). Ok r) l.is_reply)
+
+            of_call : (j : ℕ) × IsCalled (after_in (ordered L) at.before) w Delete j × Marks (after_in (ordered L) at.before).state.memory l.parent l.side l.leaf l.node j
+            of_call = each_flag_marks L enough at.before (first_keys at.before (at.turn ∷ at.since) (subst (λ (ts : List (ℕ × Event)). All (λ t. HasKey t.1) ts) at.is_run keys)) w l.parent l.side l.leaf l.node won
+
+            same_key : of_call.0 ≡ k
+            same_key = ap (λ (c : Call). c.key) (same_Some (record { op = Delete; key = of_call.0 }) (record { op = Delete; key = k })
+                (sym (is_own_call (after_in (ordered L) at.before) w Delete of_call.0 of_call.1) ∙ (sym at.same_call ∙ is_own_call (after_in (ordered L) turns) w Delete k called)))
+
+        go : (has_flagged (own_search (ordered L) w) ≡ true) × PinStands w (trace_in (ordered L) turns) ⊎ WonAt is_won_flag has_flagged Delete flags_once L enough w (ordered L) turns → HasFlagged L turns w k
+        go (inl first) = absurd (true≢false (sym first.0 ∙ ap (λ (s : Search). is_some s.flagged) (idle_first L w)))
+        go (inr at) = made at (flag_entry at.turn.1 at.reply at.such)
+
 pub each_answer_tells_links : OfEachOrderedRun AnswersTellLinks
 each_answer_tells_links L enough turns keys w op k answer may = links_are L enough turns keys w op k answer may
 
@@ -144,3 +183,11 @@ each_silent_leave L enough turns keys w leaves = none_won L enough turns keys w 
 pub each_true_insert : OfEachOrderedRun TrueInsertsHaveInserted
 unfolding shown
 each_true_insert L enough turns keys w k may = linked_at L enough turns keys w k may.called (shown L enough turns keys w Insert k true may)
+
+pub each_true_delete : OfEachOrderedRun TrueDeletesHaveFlagged
+unfolding shown
+each_true_delete L enough turns keys w k may = flagged_at L enough turns keys w k may.called (has_flag (own_search (after_in (ordered L) turns) w).flagged (shown L enough turns keys w Delete k true may))
+  where
+    has_flag : (o : Option NodeId) → has_removed (own_search (after_in (ordered L) turns) w) o ≡ true → is_some o ≡ true
+    has_flag None h = absurd (true≢false (sym h))
+    has_flag (Some n) h = refl

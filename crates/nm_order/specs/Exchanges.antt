@@ -11,7 +11,7 @@ use Rattle.nm_core.specs.declared.reply.Reply.TheVariants.{Departed, Linked, Fla
 use Rattle.nm_core.specs.declared.trace.Turn.{Turn}
 use Rattle.nm_core.specs.Walks.{Entry, log_of, since_pin}
 use Rattle.nm_core.specs.Ordered.{Configuration, ordered, next_in, outcome_in, after_in, trace_in}
-use Rattle.nm_order.specs.Intervals.{IsCalled, Gains}
+use Rattle.nm_order.specs.Intervals.{IsCalled, Gains, Marks}
 use Rattle.nm_order.specs.Moments.{PinStands}
 
 abbrev pub is_won_link : Entry → Bool
@@ -75,3 +75,22 @@ pub record HasInserted (L : Layout) (turns : List (ℕ × Event)) (w k : ℕ) : 
 
 abbrev pub TrueInsertsHaveInserted : Layout → List (ℕ × Event) → Type 0
 TrueInsertsHaveInserted L turns = (w k : ℕ) → MayAnswer (after_in (ordered L) turns) w Insert k true → HasInserted L turns w k
+
+-- ---- the moment of a delete's flag
+
+-- under the pin that stands since, the worker's call to delete k won a flag on the edge to the leaf with key k
+pub record HasFlagged (L : Layout) (turns : List (ℕ × Event)) (w k : ℕ) : Type 0 where
+  pub before : List (ℕ × Event)
+  pub since : List (ℕ × Event)
+  pub parent : ℕ
+  pub side : Side
+  pub leaf : ℕ
+  pub flagged : NodeId
+  pub is_run : turns ≡ before ++ (w, Flag parent side leaf) ∷ since
+  pub called : IsCalled (after_in (ordered L) before) w Delete k
+  pub won : outcome_in (after_in (ordered L) before) (w, Flag parent side leaf) ≡ Ok (Flagged flagged)
+  pub marks : Marks (after_in (ordered L) before).state.memory parent side leaf flagged k
+  pub stands : PinStands w (trace_in (next_in (after_in (ordered L) before) (w, Flag parent side leaf)) since)
+
+abbrev pub TrueDeletesHaveFlagged : Layout → List (ℕ × Event) → Type 0
+TrueDeletesHaveFlagged L turns = (w k : ℕ) → MayAnswer (after_in (ordered L) turns) w Delete k true → HasFlagged L turns w k

@@ -5,6 +5,8 @@ mod answers;
 mod order;
 mod paths;
 
-pub use answers::{answers_tell_changes, inserts_are_links};
-pub use order::{keys_are_the_set, links_insert, trees_are_in_order, walks_stay_in_order};
+pub use answers::{answers_tell_changes, deletes_have_flagged, inserts_are_links};
+pub use order::{
+    flags_mark_leaves, keys_are_the_set, links_insert, trees_are_in_order, walks_stay_in_order,
+};
 pub use paths::walks_were_reached;
