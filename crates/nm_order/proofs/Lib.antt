@@ -16,3 +16,5 @@ pub mod OwnExchanges
 pub mod OwnLinks
 pub mod OwnFlags
 pub mod RunExchanges
+pub mod LoggedWalks
+pub mod RunWalks

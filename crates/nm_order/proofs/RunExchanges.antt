@@ -33,7 +33,7 @@ use Rattle.nm_order.proofs.OwnLinks.{has_linked, has_flagged, IsLinkEntry, link_
 idle_first : (L : Layout) (w : ℕ) → own_search (ordered L) w ≡ idle
 idle_first L w = repeated L.workers w idle
 
-at_opening : (L : Layout) → 5 ≤ L.nodes → IsOrdered L (ordered L)
+pub at_opening : (L : Layout) → 5 ≤ L.nodes → IsOrdered L (ordered L)
 unfolding after_in
 at_opening L enough = each_ordered L enough [] (λ i d below. absurd (omega (arith, below)))
 
@@ -46,7 +46,7 @@ first_keys (t ∷ ts) since keys (suc i) d below = first_keys ts since (λ j e l
 -- ---- an answer
 
 -- the call of a configuration
-is_own_call : (c : Configuration) (w : ℕ) (op : Op) (k : ℕ) → IsCalled c w op k → (own_search c w).call ≡ Some (record { op = op; key = k })
+pub is_own_call : (c : Configuration) (w : ℕ) (op : Op) (k : ℕ) → IsCalled c w op k → (own_search c w).call ≡ Some (record { op = op; key = k })
 is_own_call c w op k called = ap (λ (l : Option (List Search)). (search_of (unwrap_or l []) w).call) called.are ∙ called.is_call
 
 module _ (L : Layout) (enough : 5 ≤ L.nodes) where
