@@ -16,3 +16,13 @@ pub mod WalksOfRuns
 pub mod WalkLaws
 pub mod FlagsOfEvents
 pub mod FlagsOfRuns
+pub mod OnwardSlots
+pub mod OrderedMoments
+pub mod RunMoments
+pub mod OwnTurns
+pub mod OwnExchanges
+pub mod OwnLinks
+pub mod OwnFlags
+pub mod RunExchanges
+pub mod LoggedWalks
+pub mod RunWalks

@@ -73,19 +73,19 @@ law_start L = record {
 -- ---- runs
 
 -- a configuration of an ordered core: a run leads to its state, and the order law holds of it
-record IsOrdered (L : Layout) (c : Configuration) : Type 0 where
-  searches : List Search
-  are : c.searches ≡ Some searches
-  events : List (ℕ × Event)
-  leads : c.state ≡ after (start L) events
-  law : OrderLaw c.state searches
+pub record IsOrdered (L : Layout) (c : Configuration) : Type 0 where
+  pub searches : List Search
+  pub are : c.searches ≡ Some searches
+  pub events : List (ℕ × Event)
+  pub leads : c.state ≡ after (start L) events
+  pub law : OrderLaw c.state searches
 
-neither : (a b : Option Refused) → or_else a b ≡ None → (a ≡ None) × (b ≡ None)
+pub neither : (a b : Option Refused) → or_else a b ≡ None → (a ≡ None) × (b ≡ None)
 neither None None h = (refl, refl)
 neither None (Some r) h = absurd (none-some r (sym h))
 neither (Some r) b h = absurd (none-some r (sym h))
 
-ordered_next : (L : Layout) → 5 ≤ L.nodes → (c : Configuration) (t : ℕ × Event) → HasKey t.1 → IsOrdered L c → IsOrdered L (next_in c t)
+pub ordered_next : (L : Layout) → 5 ≤ L.nodes → (c : Configuration) (t : ℕ × Event) → HasKey t.1 → IsOrdered L c → IsOrdered L (next_in c t)
 unfolding next_in applied_in refused_in after next
 ordered_next L enough c t has o = go (or_else (refused c.state t.0 t.1) (disorder_in c t.0 t.1)) refl
   where
@@ -108,12 +108,12 @@ unfolding after_in
 ordered_after L enough [] keys c o = o
 ordered_after L enough (t ∷ ts) keys c o = ordered_after L enough ts (λ k d below. keys (suc k) d (omega arith)) (next_in c t) (ordered_next L enough c t (keys 0 t (omega arith)) o)
 
-each_ordered : (L : Layout) → 5 ≤ L.nodes → (turns : List (ℕ × Event)) → All (λ t. HasKey t.1) turns → IsOrdered L (after_in (ordered L) turns)
+pub each_ordered : (L : Layout) → 5 ≤ L.nodes → (turns : List (ℕ × Event)) → All (λ t. HasKey t.1) turns → IsOrdered L (after_in (ordered L) turns)
 unfolding after
 each_ordered L enough turns keys = ordered_after L enough turns keys (ordered L) (record { searches = replicate L.workers idle; are = refl; events = []; leads = refl; law = law_start L })
 
 -- the laws of every run hold of its state
-law_of_state : (L : Layout) → 5 ≤ L.nodes → (c : Configuration) → IsOrdered L c → (h : ℕ → ℕ) × Lawful c.state h
+pub law_of_state : (L : Layout) → 5 ≤ L.nodes → (c : Configuration) → IsOrdered L c → (h : ℕ → ℕ) × Lawful c.state h
 law_of_state L enough c o = ((lawful L enough o.events).holder, subst (λ (s : State). Lawful s (lawful L enough o.events).holder) (sym o.leads) (lawful L enough o.events).law)
 
 -- ---- the laws
@@ -147,7 +147,7 @@ module _ (L : Layout) (enough : 5 ≤ L.nodes) (c : Configuration) (o : IsOrdere
       null d = ap (λ (s : State). child s.memory 0 d) o.leads ∙ (let l = lawful L enough o.events in ap (λ (e : Edge). e.slot) (l.law.tree.nothing d))
 
   -- the law of the walks that came to a slot
-  walk_law : (u k : ℕ) (a : Arrival) (h : HasCome c u k a) → WalkLaw (child m) (key m) (knows (of c.state u)) k (search_of h.searches u).walks
+  pub walk_law : (u k : ℕ) (a : Arrival) (h : HasCome c u k a) → WalkLaw (child m) (key m) (knows (of c.state u)) k (search_of h.searches u).walks
   walk_law u k a h = subst (λ (n : ℕ). WalkLaw (child m) (key m) (knows (of c.state u)) n (search_of h.searches u).walks) h.is_key (by (search_of h.searches u).call h.is_call all)
     where
       same : o.searches ≡ h.searches

@@ -1,3 +1,5 @@
 pub mod Intervals
 pub mod WalksToArrivals
 pub mod FlagsOfCalls
+pub mod Moments
+pub mod Exchanges
