@@ -17,7 +17,7 @@ use Rattle.nm_core.specs.Ordered.{ordered, search_of, refused_in, after_in, trac
 use Rattle.nm_core.proofs.SearchesGrow.{only_grow}
 use Rattle.nm_order.specs.Intervals.{HasKey}
 use Rattle.nm_order.specs.WalksToArrivals.{is_won_flag, since_flag, OfEachCall}
-use Rattle.nm_order.specs.FlagsOfCalls.{HasFlagged, FlagsAreTold, NoSecondFlag}
+use Rattle.nm_order.specs.FlagsOfCalls.{HasWonFlag, FlagsAreTold, NoSecondFlag}
 use Rattle.nm_order.proofs.SearchesOfLogs.{has_flag, since_flag_more, begun_anew, knows_log}
 use Rattle.nm_order.proofs.WalksOfRuns.{LogGrows, log_grows, search-append, since_pin-append, has_searches, over_turns, log_after, known_after, is_known, of_each_call}
 use Rattle.nm_order.proofs.WalksOfRuns.LogGrows.{Same, Longer}
@@ -52,11 +52,11 @@ none_won [] none i d below = absurd (omega (arith, below))
 none_won (e ∷ es) none zero d below = (neither_true (is_won_flag e) (has_flag es) none).0
 none_won (e ∷ es) none (suc i) d below = none_won es (neither_true (is_won_flag e) (has_flag es) none).1 i d (omega (arith, below))
 
-first_won : (es : List Entry) → has_flag es ≡ true → (n : NodeId) × HasFlagged es n
+first_won : (es : List Entry) → has_flag es ≡ true → (n : NodeId) × HasWonFlag es n
 first_won [] has = absurd (true≢false (sym has))
 first_won (e ∷ es) has = by (is_won_flag e) refl has (first_won es)
   where
-    by : (b : Bool) → is_won_flag e ≡ b → (b || has_flag es) ≡ true → (has_flag es ≡ true → (n : NodeId) × HasFlagged es n) → (n : NodeId) × HasFlagged (e ∷ es) n
+    by : (b : Bool) → is_won_flag e ≡ b → (b || has_flag es) ≡ true → (has_flag es ≡ true → (n : NodeId) × HasWonFlag es n) → (n : NodeId) × HasWonFlag (e ∷ es) n
     by true won has rest =
         let f : IsWonFlag e.0 e.1 = won_flag e.0 e.1 won in
         let behind : since_flag (e ∷ es) ≡ es = cond-true (is_won_flag e) es (since_flag es) won in
@@ -67,7 +67,7 @@ first_won (e ∷ es) has = by (is_won_flag e) refl has (first_won es)
         (h.0, record { before = e ∷ h.1.before; parent = h.1.parent; side = h.1.side; leaf = h.1.leaf; is = ap (λ (xs : List Entry). e ∷ xs) h.1.is ∙ ap (λ (xs : List Entry). e ∷ (h.1.before ++ (Flag h.1.parent h.1.side h.1.leaf, Flagged h.0) ∷ xs)) (sym behind) })
 
 -- what a log that won one flag leaves
-flag_left : (es : List Entry) (n : NodeId) → has_flag (since_flag es) ≡ false → HasFlagged es n → flag_after None es ≡ Some n
+flag_left : (es : List Entry) (n : NodeId) → has_flag (since_flag es) ≡ false → HasWonFlag es n → flag_after None es ≡ Some n
 unfolding flag_after
 flag_left es n once h = ap (flag_after None) h.is ∙ (flag_after-append None h.before ((Flag h.parent h.side h.leaf, Flagged n) ∷ since_flag es) ∙ flag_stays (Some n) (since_flag es) once)
 
@@ -141,11 +141,11 @@ module _ (L : Layout) (enough : 5 ≤ L.nodes) (w : ℕ) (inside : w < L.workers
   flag_told : (ts : List (ℕ × Event)) → All (λ t. HasKey t.1) ts → (call : Call) → (known ts).call ≡ Some call → FlagsAreTold (since_pin [] (log ts)) (known ts)
   flag_told ts keys call is n = (there, λ h. keeps_log (log ts) call is ∙ flag_left (since_pin [] (log ts)) n (one_flag ts keys call is) h)
     where
-      there : (known ts).flagged ≡ Some n → HasFlagged (since_pin [] (log ts)) n
+      there : (known ts).flagged ≡ Some n → HasWonFlag (since_pin [] (log ts)) n
       there has =
           let first = first_won (since_pin [] (log ts)) (sym (knows_log (log ts) call is).flagged ∙ ap is_some has) in
           let same : first.0 ≡ n = same_Some first.0 n (sym (flag_left (since_pin [] (log ts)) first.0 (one_flag ts keys call is) first.1) ∙ (sym (keeps_log (log ts) call is) ∙ has)) in
-          subst (HasFlagged (since_pin [] (log ts))) same first.1
+          subst (HasWonFlag (since_pin [] (log ts))) same first.1
 
 -- ---- the laws
 

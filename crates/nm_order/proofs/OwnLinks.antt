@@ -20,7 +20,8 @@ use Rattle.nm_core.specs.Knowledge.{Knowledge, draft_of}
 use Rattle.nm_core.specs.Searches.{Search, searched, look_for}
 use Rattle.nm_core.specs.Walks.{begins_anew}
 use Rattle.nm_core.specs.Ordered.{disorder, shows, shows_call, inserts, deletes, links_in_order, flags_in_order, may_link_at, may_flag_at, new_leaf, has_removed}
-use Rattle.nm_order.specs.Exchanges.{is_won_link, is_won_flag, links_told, flags_told}
+use Rattle.nm_order.specs.Exchanges.{is_won_link, links_told, flags_told}
+use Rattle.nm_order.specs.WalksToArrivals.{is_won_flag}
 use Rattle.nm_core.proofs.Steps.{passed}
 use Rattle.nm_order.proofs.OwnExchanges.{IsOnce}
 

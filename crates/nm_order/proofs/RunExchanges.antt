@@ -18,7 +18,8 @@ use Rattle.nm_core.specs.Walks.{Entry, log_of, since_pin}
 use Rattle.nm_core.specs.Ordered.{Configuration, ordered, search_of, disorder, shows, has_removed, next_in, outcome_in, after_in, trace_in}
 use Rattle.nm_order.specs.Intervals.{HasKey, IsCalled, Gains, Marks}
 use Rattle.nm_order.specs.Moments.{OfEachOrderedRun, PinStands}
-use Rattle.nm_order.specs.Exchanges.{how_many, is_won_link, is_won_flag, links_told, flags_told, MayAnswer, AnswersTellLinks, AnswersTellFlags, SilentLeavesWonNothing, HasInserted, TrueInsertsHaveInserted, HasFlagged, TrueDeletesHaveFlagged}
+use Rattle.nm_order.specs.WalksToArrivals.{is_won_flag}
+use Rattle.nm_order.specs.Exchanges.{how_many, is_won_link, links_told, flags_told, MayAnswer, AnswersTellLinks, AnswersTellFlags, SilentLeavesWonNothing, HasInserted, TrueInsertsHaveInserted, HasFlagged, TrueDeletesHaveFlagged}
 use Rattle.nm_core.proofs.Numbers.{repeated}
 use Rattle.nm_order.proofs.OrderedLaws.{IsOrdered, each_ordered, each_link_inserts}
 use Rattle.nm_order.proofs.OwnFlags.{each_flag_marks}

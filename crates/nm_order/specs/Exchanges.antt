@@ -13,14 +13,11 @@ use Rattle.nm_core.specs.Walks.{Entry, log_of, since_pin}
 use Rattle.nm_core.specs.Ordered.{Configuration, ordered, next_in, outcome_in, after_in, trace_in}
 use Rattle.nm_order.specs.Intervals.{IsCalled, Gains, Marks}
 use Rattle.nm_order.specs.Moments.{PinStands}
+use Rattle.nm_order.specs.WalksToArrivals.{is_won_flag}
 
 abbrev pub is_won_link : Entry → Bool
 is_won_link (Link parent side leaf new, Linked n) = true
 is_won_link _ = false
-
-abbrev pub is_won_flag : Entry → Bool
-is_won_flag (Flag parent side leaf, Flagged n) = true
-is_won_flag _ = false
 
 -- how many such entries a worker's log has since its pin was confirmed
 abbrev pub how_many : (Entry → Bool) → ℕ → List Turn → ℕ

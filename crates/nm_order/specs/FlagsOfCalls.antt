@@ -13,7 +13,7 @@ use Rattle.nm_core.specs.Walks.{Entry, begins_anew, GrowsTo}
 use Rattle.nm_order.specs.WalksToArrivals.{is_won_flag, since_flag}
 
 -- the first flag that a log won is one of that node: the log is what was before it, the flag, and the part behind it
-pub record HasFlagged (log : List Entry) (n : NodeId) : Type 0 where
+pub record HasWonFlag (log : List Entry) (n : NodeId) : Type 0 where
   pub before : List Entry
   pub parent : ℕ
   pub side : Side
@@ -22,7 +22,7 @@ pub record HasFlagged (log : List Entry) (n : NodeId) : Type 0 where
 
 -- what is kept as flagged is the node of that flag
 abbrev pub FlagsAreTold : List Entry → Search → Type 0
-FlagsAreTold log s = (n : NodeId) → s.flagged ≡ Some n ↔ HasFlagged log n
+FlagsAreTold log s = (n : NodeId) → s.flagged ≡ Some n ↔ HasWonFlag log n
 
 -- behind the first flag that was won no other is
 abbrev pub NoSecondFlag : List Entry → Type 0
