@@ -9,3 +9,5 @@ pub mod OrderedSteps
 pub mod OrderedKeys
 pub mod OrderedLaws
 pub mod PartsOfRuns
+pub mod KnowledgeStays
+pub mod LastEntries
