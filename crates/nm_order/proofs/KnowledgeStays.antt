@@ -1,7 +1,7 @@
 -- While a pin stands, what its worker knows is only added to: an edge that it reads again is the same in what it had known of it.
-use Rattle.std.proofs.Common.{◌≡◌, ◌≢◌, ℕ, ◌≤◌, ◌⊎◌, inl, inr, eqb, ◌==◌, Bool, true, false, cond, not, ◌&&◌, List, [], refl, sym, ap, ◌∙◌, arith, true≢false}
+use Rattle.std.proofs.Common.{◌≡◌, ◌≢◌, ℕ, ◌≤◌, ◌⊎◌, inl, inr, eqb, ◌==◌, Bool, true, false, cond, not, ◌&&◌, ◌||◌, List, [], refl, sym, ap, ◌∙◌, arith, true≢false}
 use Rattle.std.specs.Prelude.{Option, Some, None, is_none, unwrap_or}
-use Rattle.std.proofs.lemmas.Bool.{cond_both, eqb-true, ne_eqb, and_parts, or_parts, not-false}
+use Rattle.std.proofs.lemmas.Bool.{cond_both, eqb-true, eq-eqb, ne_eqb, and_parts, or_cases, not-false}
 use Rattle.nm_edge.specs.Edges.{Edge, is_to, other, tagged}
 use Rattle.nm_edge.specs.declared.edge.Side.{Side}
 use Rattle.nm_edge.specs.declared.edge.Side.TheVariants.{Left, Right}
@@ -15,7 +15,7 @@ use Rattle.nm_core.specs.declared.reply.Refused.TheVariants.{NoSlot, NotPinned, 
 use Rattle.nm_core.specs.declared.knowledge.Seen.{Seen}
 use Rattle.nm_core.specs.Maps.{get, put}
 use Rattle.nm_core.specs.Memory.{Memory, node, edge, child}
-use Rattle.nm_core.specs.Knowledge.{Knowledge, knows, unread, is_private, seen_of, read, read_on, is_flagged}
+use Rattle.nm_core.specs.Knowledge.{Knowledge, knows, unread, is_private, seen_of, read, read_on, is_flagged, is_null, knows_leaf}
 use Rattle.nm_core.specs.Learning.{learn, learn_sight, learn_scan, look_known, look_private, met, with_read, read_edge, flag_to, resigned, inheriting}
 use Rattle.nm_core.specs.Step.{outside, refusal, reply, reply_exchange}
 use Rattle.nm_core.specs.Runs.{State, of, refusal_of, reply_of}
@@ -70,6 +70,9 @@ module _ (m : Memory) (k : Knowledge) where
     reads = λ x d. inl (rw same refl);
     births = λ x. inl (rw same refl);
   }
+
+  pub itself : Stays m k k
+  itself = quiet k refl refl
 
   with_birth : (n : Seen) (d : Side) (e : Edge) → (with_read n d e).birth ≡ n.birth
   with_birth n Left e = refl
@@ -192,6 +195,36 @@ module _ (m : Memory) (k : Knowledge) where
   learned_stays w (Splice a d x p keep) (Lost e) is stands = renewed a d e (same a d e is)
   learned_stays w (Join v) (Joined ls) is stands = cond_both (eqb w v) (resigned k) (inheriting k ls) (Stays m k) (λ _. quiet _ refl refl) (λ _. quiet _ refl refl)
   learned_stays w e r is stands = quiet _ refl refl
+
+-- ---- a leaf that is known
+
+-- an edge that was read as null is null
+abbrev pub NullsStand : Memory → Knowledge → Type 0
+NullsStand m k = (x : ℕ) (d : Side) (e : Edge) → read k x d ≡ Some e → e.slot ≡ 0 → child m x d ≡ 0
+
+null_stays : (m : Memory) (k l : Knowledge) → NullsStand m k → Stays m k l → (x : ℕ) (d : Side) → is_null (read k x d) ≡ true → is_null (read l x d) ≡ true
+null_stays m k l stand stays x d null = elim (stays.reads x d) [
+  | inl same ↦ ap is_null same ∙ null
+  | inr new ↦ ap is_null new.1 ∙ eq-eqb new.0.slot 0 (new.2.slot ∙ null_child (read k x d) refl null)
+]
+  where
+    null_child : (o : Option Edge) → read k x d ≡ o → is_null o ≡ true → child m x d ≡ 0
+    null_child None is t = absurd (true≢false (sym t))
+    null_child (Some e) is t = stand x d e is (eqb-true e.slot 0 t)
+
+pub leaf_stays : (m : Memory) (k l : Knowledge) → NullsStand m k → Stays m k l → (x : ℕ) → knows_leaf k x ≡ true → knows_leaf l x ≡ true
+leaf_stays m k l stand stays x leaf = elim (or_cases (is_null (read k x Left)) (is_null (read k x Right)) leaf) [
+  | inl left ↦ left_known (is_null (read l x Left)) (is_null (read l x Right)) (null_stays m k l stand stays x Left left)
+  | inr right ↦ right_known (is_null (read l x Left)) (is_null (read l x Right)) (null_stays m k l stand stays x Right right)
+]
+  where
+    left_known : (a b : Bool) → a ≡ true → (a || b) ≡ true
+    left_known true b is = refl
+    left_known false b is = absurd (true≢false (sym is))
+
+    right_known : (a b : Bool) → b ≡ true → (a || b) ≡ true
+    right_known true b is = refl
+    right_known false b is = is
 
 -- ---- the answers of an event that is allowed
 

@@ -143,7 +143,7 @@ pub data PartOf (w u : ℕ) (e : Event) : Type 0 where
   Own : u ≡ w → PartOf w u e
   Resigns : (v : ℕ) → e ≡ Join v → PartOf w u e
 
-part_or : (w u : ℕ) (e : Event) → takes_part w u e ≡ true → PartOf w u e
+pub part_or : (w u : ℕ) (e : Event) → takes_part w u e ≡ true → PartOf w u e
 part_or w u e takes = elim (or_cases (u == w) (is_leaver w e) takes) [
   | inl own ↦ Own (eqb-true u w own)
   | inr leaver ↦ go e leaver

@@ -11,3 +11,4 @@ pub mod OrderedLaws
 pub mod PartsOfRuns
 pub mod KnowledgeStays
 pub mod LastEntries
+pub mod CallWalks
