@@ -190,7 +190,7 @@ none_walked : (m : Memory) (known : ℕ → Bool) (call : Option Call) (ws : Lis
 none_walked m known None ws f = tt
 none_walked m known (Some call) ws f = (f.0, no_walks (child m) (key m) known call.key)
 
-no_ends : (k : Knowledge) → EndsAtLeaves k []
+pub no_ends : (k : Knowledge) → EndsAtLeaves k []
 no_ends k i a at done = absurd (none-some a at)
 
 module _ (s : State) (h : ℕ → ℕ) (law : Lawful s h) (w : ℕ) where

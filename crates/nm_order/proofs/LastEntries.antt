@@ -154,7 +154,10 @@ part_or w u e takes = elim (or_cases (u == w) (is_leaver w e) takes) [
     go e is = absurd (true≢false (sym is))
 
 pub record LastEntry (L : Layout) (w : ℕ) (log : List Entry) (e : Entry) : Type 0 where
+  pub turns : List (ℕ × Event)
+  pub keys : All (λ t. HasKey t.1) turns
   pub before : Configuration
+  pub leads : after_in (ordered L) turns ≡ before
   pub told : ToldBy L w log before
   pub by : ℕ
   pub has_key : HasKey e.0
@@ -167,7 +170,10 @@ last_entry L enough w log e l = go (last_turn w l.turns l.keys (ordered L) log e
   where
     go : LastTurn w (ordered L) l.turns log e → LastEntry L w log e
     go t = subst (λ (e : Entry). LastEntry L w log e) t.is_entry (record {
+      turns = t.before;
+      keys = t.keys;
       before = after_in (ordered L) t.before;
+      leads = refl;
       told = subst (λ (log : List Entry). ToldBy L w log (after_in (ordered L) t.before)) t.is_before (told_by_part L enough w l.worker t.before t.keys);
       by = t.turn.0;
       has_key = t.has_key;

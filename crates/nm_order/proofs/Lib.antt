@@ -12,3 +12,5 @@ pub mod PartsOfRuns
 pub mod KnowledgeStays
 pub mod LastEntries
 pub mod CallWalks
+pub mod FactLaws
+pub mod FactStays

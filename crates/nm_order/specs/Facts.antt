@@ -6,6 +6,7 @@ use Rattle.nm_edge.specs.Layouts.{Layout}
 use Rattle.nm_edge.specs.declared.edge.Side.{Side}
 use Rattle.nm_core.specs.declared.event.Event.{Event}
 use Rattle.nm_core.specs.declared.event.Op.{Op}
+use Rattle.nm_core.specs.declared.walks.Call.{Call}
 use Rattle.nm_core.specs.declared.walks.Arrival.{Arrival}
 use Rattle.nm_core.specs.Memory.{node, edge, child, note, in_pool, is_leaf}
 use Rattle.nm_core.specs.Knowledge.{Knowledge, knows, is_private, seen_of, read, knows_leaf}
@@ -34,10 +35,10 @@ pub data Fact : Type 0 where
   IsBorn : ℕ → ℕ → Fact
   -- the pin is for a call of that operation on that key
   CallIs : Op → ℕ → Fact
-  -- a walk of the call came to a slot by a parent's edge on a side; it read a key there; and it ended there
-  Came : Since → ℕ → ℕ → Side → Fact
-  ReadKey : Since → ℕ → ℕ → Side → ℕ → Fact
-  EndedAt : Since → ℕ → ℕ → Side → ℕ → Fact
+  -- a walk of the call, for a key, came to a slot by a parent's edge on a side; it read a key there; and it ended there
+  Came : Since → ℕ → ℕ → ℕ → Side → Fact
+  ReadKey : Since → ℕ → ℕ → ℕ → Side → ℕ → Fact
+  EndedAt : Since → ℕ → ℕ → ℕ → Side → ℕ → Fact
 
 -- ---- what a log holds
 
@@ -45,8 +46,11 @@ abbrev pub arrivals : Search → Since → List Arrival
 arrivals s ThePin = s.walks
 arrivals s TheFlag = s.later
 
--- an arrival at a slot by a parent's edge on a side
-pub record Arrived (s : Search) (since : Since) (slot parent : ℕ) (side : Side) : Type 0 where
+-- an arrival of a walk for k at a slot, by a parent's edge on a side
+pub record Arrived (s : Search) (since : Since) (k slot parent : ℕ) (side : Side) : Type 0 where
+  pub call : Call
+  pub is_call : s.call ≡ Some call
+  pub is_for : call.key ≡ k
   pub arrival : Arrival
   pub among : Contains (arrivals s since) arrival
   pub is_slot : arrival.slot ≡ slot
@@ -54,16 +58,16 @@ pub record Arrived (s : Search) (since : Since) (slot parent : ℕ) (side : Side
   pub is_side : arrival.side ≡ side
 
 abbrev pub HoldsIn : Knowledge → Search → Fact → Type 0
-HoldsIn k s (IsPinned epoch) = k.brief.pin ≡ Some epoch
-HoldsIn k s (KnowsSlot slot) = knows k slot ≡ true
-HoldsIn k s (KnowsLeaf slot) = knows_leaf k slot ≡ true
-HoldsIn k s (IsTagged slot side to) = (e : Edge) × (read k slot side ≡ Some e) × (e.tag ≡ true) × (e.slot ≡ to)
-HoldsIn k s (IsFlagged slot side to) = (e : Edge) × (read k slot side ≡ Some e) × (e.flag ≡ true) × (e.slot ≡ to)
-HoldsIn k s (IsBorn slot birth) = (seen_of k slot).birth ≡ Some birth
-HoldsIn k s (CallIs op key) = s.call ≡ Some (record { op = op; key = key })
-HoldsIn k s (Came since slot parent side) = Arrived s since slot parent side
-HoldsIn k s (ReadKey since slot parent side key) = (a : Arrived s since slot parent side) × (a.arrival.key ≡ Some key)
-HoldsIn k s (EndedAt since slot parent side key) = (a : Arrived s since slot parent side) × (a.arrival.key ≡ Some key) × (a.arrival.ended ≡ true)
+HoldsIn known s (IsPinned epoch) = known.brief.pin ≡ Some epoch
+HoldsIn known s (KnowsSlot slot) = knows known slot ≡ true
+HoldsIn known s (KnowsLeaf slot) = knows_leaf known slot ≡ true
+HoldsIn known s (IsTagged slot side to) = (e : Edge) × (read known slot side ≡ Some e) × (e.tag ≡ true) × (e.slot ≡ to)
+HoldsIn known s (IsFlagged slot side to) = (e : Edge) × (read known slot side ≡ Some e) × (e.flag ≡ true) × (e.slot ≡ to)
+HoldsIn known s (IsBorn slot birth) = (seen_of known slot).birth ≡ Some birth
+HoldsIn known s (CallIs op key) = s.call ≡ Some (record { op = op; key = key })
+HoldsIn known s (Came since k slot parent side) = Arrived s since k slot parent side
+HoldsIn known s (ReadKey since k slot parent side key) = (a : Arrived s since k slot parent side) × (a.arrival.key ≡ Some key)
+HoldsIn known s (EndedAt since k slot parent side key) = (a : Arrived s since k slot parent side) × (a.arrival.key ≡ Some key) × (a.arrival.ended ≡ true)
 
 -- the log of worker w tells the fact
 abbrev pub Holds : Layout → ℕ → List Entry → Fact → Type 0
@@ -85,9 +89,9 @@ IsTrueIn s w (IsTagged slot side to) = ((edge s.memory slot side).tag ≡ true) 
 IsTrueIn s w (IsFlagged slot side to) = ((edge s.memory slot side).flag ≡ true) × (child s.memory slot side ≡ to)
 IsTrueIn s w (IsBorn slot birth) = (node s.memory slot).birth ≡ birth
 IsTrueIn s w (CallIs op key) = IsKey key
-IsTrueIn s w (Came since slot parent side) = IsShared s slot
-IsTrueIn s w (ReadKey since slot parent side key) = (node s.memory slot).key ≡ key
-IsTrueIn s w (EndedAt since slot parent side key) = (is_leaf (node s.memory slot) ≡ true) × ((node s.memory slot).key ≡ key)
+IsTrueIn s w (Came since k slot parent side) = IsShared s slot
+IsTrueIn s w (ReadKey since k slot parent side key) = (node s.memory slot).key ≡ key
+IsTrueIn s w (EndedAt since k slot parent side key) = (is_leaf (node s.memory slot) ≡ true) × ((node s.memory slot).key ≡ key)
 
 -- in every ordered run, each fact that a worker's part holds is true of the state to which the run leads
 abbrev pub FactsAreTrue : Type 0

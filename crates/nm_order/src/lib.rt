@@ -1,8 +1,10 @@
 //! Laws of ordered runs: what the calls of an ordered core make of the tree and of the set. Nothing here runs.
 #![tactic(auto)]
 
+mod facts;
 mod logs;
 mod order;
 
+pub use facts::{facts_are_true, facts_stay};
 pub use logs::logs_tell_what_is_known;
 pub use order::{keys_are_the_set, links_insert, trees_are_in_order, walks_stay_in_order};
