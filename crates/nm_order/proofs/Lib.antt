@@ -14,3 +14,5 @@ pub mod LastEntries
 pub mod CallWalks
 pub mod FactLaws
 pub mod FactStays
+pub mod ToldLaws
+pub mod ToldClaims

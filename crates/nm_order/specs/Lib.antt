@@ -1,3 +1,4 @@
 pub mod Intervals
 pub mod Logs
 pub mod Facts
+pub mod Told

@@ -1,0 +1,23 @@
+//! What the last entry of a log tells: laws over the log of one worker, of each log that ends with the entry.
+ghost use Rattle.nm_order.specs.Told.{ClaimsAreNew, EdgesStayInside, FlaggedEdgesLeadHigh, LowKeysStandHigh, OfEachEntry, RootLeads, TagsLead, TwinsAreToldFlagged};
+
+/// What an edge that is told must be: flagged where its twin is known tagged; where it is flagged, one to a slot above 5;
+/// in any case one to a slot of the layout; and not null where it is the left edge of slot 2, or was tagged.
+/// (A tag follows the flag of its twin: Natarajan and Mittal, section 3.2.)
+pub fn edges_are_told()
+    ensures twins { OfEachEntry TwinsAreToldFlagged }
+    ensures high { OfEachEntry FlaggedEdgesLeadHigh }
+    ensures inside { OfEachEntry EdgesStayInside }
+    ensures root { OfEachEntry RootLeads }
+    ensures tags { OfEachEntry TagsLead }
+{}
+
+/// A key below the sentinels is read at a slot above 5.
+pub fn low_keys_stand_high()
+    ensures { OfEachEntry LowKeysStandHigh }
+{}
+
+/// A slot that a worker claims is above 5, and one that it neither holds, nor knows, nor has in a queue.
+pub fn claims_are_new()
+    ensures { OfEachEntry ClaimsAreNew }
+{}
