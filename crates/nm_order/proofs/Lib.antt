@@ -16,3 +16,4 @@ pub mod FactLaws
 pub mod FactStays
 pub mod ToldLaws
 pub mod ToldClaims
+pub mod ToldNodes

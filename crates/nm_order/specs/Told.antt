@@ -4,17 +4,18 @@ use Rattle.nm_edge.specs.Edges.{Edge, other}
 use Rattle.nm_edge.specs.Layouts.{Layout}
 use Rattle.nm_edge.specs.declared.edge.Side.{Side}
 use Rattle.nm_edge.specs.declared.edge.Side.TheVariants.{Left}
+use Rattle.nm_edge.specs.declared.node.NodeId.{NodeId}
 use Rattle.nm_core.specs.declared.event.Field.TheVariants.{Key, Edge as EdgeOn}
 use Rattle.nm_core.specs.declared.event.Event.TheVariants.{Claim, Look, Link, Flag, Tag, Splice}
-use Rattle.nm_core.specs.declared.reply.Reply.TheVariants.{Claimed, KeyIs, EdgeIs, Was, Lost}
+use Rattle.nm_core.specs.declared.reply.Reply.TheVariants.{Claimed, Flagged, Cut, KeyIs, EdgeIs, Was, Lost}
 use Rattle.nm_core.specs.declared.ledger.Queued.{Queued}
 use Rattle.nm_core.specs.Memory.{infinity_0}
 use Rattle.nm_core.specs.Knowledge.{is_private, knows}
 use Rattle.nm_core.specs.Ledgers.{held, queue_of}
 use Rattle.nm_core.specs.Walks.{Entry}
 use Rattle.nm_order.specs.Logs.{known_by, IsLogOf}
-use Rattle.nm_order.specs.Facts.{Holds}
-use Rattle.nm_order.specs.Facts.Fact.{KnowsSlot, IsTagged}
+use Rattle.nm_order.specs.Facts.{Fact, Holds}
+use Rattle.nm_order.specs.Facts.Fact.{KnowsSlot, IsTagged, IsFlagged, IsBorn}
 
 -- of every log that ends with an entry
 abbrev pub OfEachEntry : (Layout → ℕ → List Entry → Entry → Type 0) → Type 0
@@ -60,3 +61,21 @@ pub record IsNew (L : Layout) (w : ℕ) (log : List Entry) (x : ℕ) : Type 0 wh
 
 abbrev pub ClaimsAreNew : Layout → ℕ → List Entry → Entry → Type 0
 ClaimsAreNew L w log entry = (x y : ℕ) → entry ≡ (Claim x, Claimed y) → (y ≡ x) × (6 ≤ x) × (x ≤ L.nodes) × IsNew L w log x
+
+-- ---- answers that name nodes
+
+-- the facts of a frozen chain from a slot down to p: each edge on the way is tagged, the one beside it is flagged, and of both nodes the birth is known;
+-- p is left by the edge on keep. With the nodes so known: each slot and then its leaf, downwards
+pub data FrozenTo (holds : Fact → Type 0) (p : ℕ) (keep : Side) : ℕ → List NodeId → Type 0 where
+  ends_there : {leaf birth leaf_birth to : ℕ} → holds (IsTagged p keep to) → holds (IsFlagged p (other keep) leaf) → holds (IsBorn p birth) → holds (IsBorn leaf leaf_birth)
+      → FrozenTo holds p keep p (record { slot = p; birth = birth } ∷ record { slot = leaf; birth = leaf_birth } ∷ [])
+  goes_down : {slot to leaf birth leaf_birth : ℕ} {nodes : List NodeId} (side : Side) → holds (IsTagged slot side to) → holds (IsFlagged slot (other side) leaf) → holds (IsBorn slot birth) → holds (IsBorn leaf leaf_birth)
+      → FrozenTo holds p keep to nodes → FrozenTo holds p keep slot (record { slot = slot; birth = birth } ∷ record { slot = leaf; birth = leaf_birth } ∷ nodes)
+
+-- a splice that is won answers just the nodes of the chain as it was known
+abbrev pub CutsAreAsKnown : Layout → ℕ → List Entry → Entry → Type 0
+CutsAreAsKnown L w log entry = (a s p : ℕ) (side keep : Side) (ns known : List NodeId) → entry ≡ (Splice a side s p keep, Cut ns) → FrozenTo (Holds L w log) p keep s known → ns ≡ known
+
+-- a flag that is won answers the leaf with its birth as it was known
+abbrev pub FlagsAreAsKnown : Layout → ℕ → List Entry → Entry → Type 0
+FlagsAreAsKnown L w log entry = (p leaf birth : ℕ) (side : Side) (n : NodeId) → entry ≡ (Flag p side leaf, Flagged n) → Holds L w log (IsBorn leaf birth) → n ≡ record { slot = leaf; birth = birth }

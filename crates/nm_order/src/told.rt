@@ -1,5 +1,5 @@
 //! What the last entry of a log tells: laws over the log of one worker, of each log that ends with the entry.
-ghost use Rattle.nm_order.specs.Told.{ClaimsAreNew, EdgesStayInside, FlaggedEdgesLeadHigh, LowKeysStandHigh, OfEachEntry, RootLeads, TagsLead, TwinsAreToldFlagged};
+ghost use Rattle.nm_order.specs.Told.{ClaimsAreNew, CutsAreAsKnown, EdgesStayInside, FlaggedEdgesLeadHigh, FlagsAreAsKnown, LowKeysStandHigh, OfEachEntry, RootLeads, TagsLead, TwinsAreToldFlagged};
 
 /// What an edge that is told must be: flagged where its twin is known tagged; where it is flagged, one to a slot above 5;
 /// in any case one to a slot of the layout; and not null where it is the left edge of slot 2, or was tagged.
@@ -20,4 +20,11 @@ pub fn low_keys_stand_high()
 /// A slot that a worker claims is above 5, and one that it neither holds, nor knows, nor has in a queue.
 pub fn claims_are_new()
     ensures { OfEachEntry ClaimsAreNew }
+{}
+
+/// A splice that is won answers just the nodes of the chain as its worker's facts name it, downwards and each with its leaf,
+/// and a flag that is won answers the leaf with the birth that is known of it: what was marked and what was born cannot have changed since.
+pub fn answers_name_what_is_known()
+    ensures cuts { OfEachEntry CutsAreAsKnown }
+    ensures flags { OfEachEntry FlagsAreAsKnown }
 {}
