@@ -17,3 +17,5 @@ pub mod FactStays
 pub mod ToldLaws
 pub mod ToldClaims
 pub mod ToldNodes
+pub mod FlaggedPaths
+pub mod FlaggedSteps
