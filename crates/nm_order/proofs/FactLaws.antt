@@ -38,7 +38,7 @@ use Rattle.nm_order.specs.Facts.Since.{ThePin, TheFlag}
 use Rattle.nm_order.specs.Facts.Fact.{IsPinned, KnowsSlot, KnowsLeaf, IsTagged, IsFlagged, IsBorn, CallIs, Came, ReadKey, EndedAt}
 use Rattle.nm_order.proofs.OrderedSteps.{ForCall}
 use Rattle.nm_order.proofs.OrderedLaws.{IsOrdered, ordered_next, each_ordered, law_of_state}
-use Rattle.nm_order.proofs.PartsOfRuns.{allowed_by_state}
+use Rattle.nm_order.proofs.OrderedInduction.{births_of, each_run_keeps}
 use Rattle.nm_order.proofs.LastEntries.{ToldBy, told_by_part}
 use Rattle.nm_order.proofs.CallWalks.{WalksKept, kept_step, no_ends}
 
@@ -48,55 +48,18 @@ use Rattle.nm_order.proofs.CallWalks.{WalksKept, kept_step, no_ends}
 abbrev pub AllKept : Configuration → Type 0
 AllKept c = (ss : List Search) → c.searches ≡ Some ss → (u : ℕ) → WalksKept c.state ss u
 
--- what a configuration allows is in order
-in_order : (c : Configuration) (w : ℕ) (e : Event) → refused_in c w e ≡ None → disorder_in c w e ≡ None
-unfolding refused_in
-in_order c w e = go (refused c.state w e) (disorder_in c w e)
+kept_start : (L : Layout) (u : ℕ) → WalksKept (start L) (replicate L.workers idle) u
+kept_start L u = by (repeated L.workers u idle)
   where
-    go : (o d : Option Refused) → or_else o d ≡ None → d ≡ None
-    go None d is = is
-    go (Some r) d is = absurd (none-some r (sym is))
-
--- the laws of every run hold of a state to which an ordered run led
-pub births_of : (L : Layout) → 5 ≤ L.nodes → (c : Configuration) → IsOrdered L c → EachBirthStands c.state
-births_of L enough c o = subst (λ (s : State). EachBirthStands s) (sym o.leads) (each_birth_stands L enough o.events)
-
-kept_applied : (L : Layout) → 5 ≤ L.nodes → (c : Configuration) (t : ℕ × Event) → HasKey t.1 → IsOrdered L c → AllKept c → refused_in c t.0 t.1 ≡ None → AllKept (applied_in c t.0 t.1)
-unfolding applied_in
-kept_applied L enough c t has o kept is ss are u =
-    let l = law_of_state L enough c o in
-    subst (λ (ss : List Search). WalksKept (applied c.state t.0 t.1) ss u) (same_Some (learned_from o.searches t.0 t.1 (reply_of c.state t.0 t.1)) ss (sym (ap (option_map (λ ss. learned_from ss t.0 t.1 (reply_of c.state t.0 t.1))) o.are) ∙ are))
-    (kept_step c.state l.0 l.1 t.0 (births_of L enough c o) o.searches o.law (kept o.searches o.are) t.1 (allowed c.state t.0 t.1 (allowed_by_state c t.0 t.1 is))
-    (ap (λ ss. disorder_among ss (of c.state t.0) t.0 t.1) (sym o.are) ∙ in_order c t.0 t.1 is) has u)
-
-kept_next : (L : Layout) → 5 ≤ L.nodes → (c : Configuration) (t : ℕ × Event) → HasKey t.1 → IsOrdered L c → AllKept c → AllKept (next_in c t)
-kept_next L enough c t has o kept = go (refused_in c t.0 t.1) refl
-  where
-    go : (r : Option Refused) → refused_in c t.0 t.1 ≡ r → AllKept (next_in c t)
-    go (Some r) is = subst (λ (d : Configuration). AllKept d) (sym (refused_next c t r is)) kept
-    go None is = subst (λ (d : Configuration). AllKept d) (sym (allowed_next c t is)) (kept_applied L enough c t has o kept is)
-
-kept_after : (L : Layout) → 5 ≤ L.nodes → (turns : List (ℕ × Event)) → All (λ t. HasKey t.1) turns → (c : Configuration) → IsOrdered L c → AllKept c → AllKept (after_in c turns)
-unfolding after_in
-kept_after L enough [] keys c o kept = kept
-kept_after L enough (t ∷ ts) keys c o kept = kept_after L enough ts (λ i d below. keys (suc i) d (omega arith)) (next_in c t) (ordered_next L enough c t (keys 0 t (omega arith)) o) (kept_next L enough c t (keys 0 t (omega arith)) o kept)
-
-kept_start : (L : Layout) → AllKept (ordered L)
-kept_start L ss are u = subst (λ (ss : List Search). WalksKept (start L) ss u) (same_Some (replicate L.workers idle) ss are) (rw' (repeated L.workers u idle))
-  where
-    rw' : search_of (replicate L.workers idle) u ≡ idle → WalksKept (start L) (replicate L.workers idle) u
-    rw' is = record {
-      law = λ since. rw is tt;
-      ends = λ since. rw is (by since);
-    }
+    by : search_of (replicate L.workers idle) u ≡ idle → WalksKept (start L) (replicate L.workers idle) u
+    by is = record { law = λ since. rw is tt; ends = λ since. rw is (none since) }
       where
-        by : (since : Since) (i : ℕ) (a : Arrival) → slice_get (arrivals idle since) i ≡ Some a → a.ended ≡ true → knows_leaf (of (start L) u) a.slot ≡ true
-        by ThePin = no_ends (of (start L) u)
-        by TheFlag = no_ends (of (start L) u)
+        none : (since : Since) (i : ℕ) (a : Arrival) → slice_get (arrivals idle since) i ≡ Some a → a.ended ≡ true → knows_leaf (of (start L) u) a.slot ≡ true
+        none ThePin = no_ends (of (start L) u)
+        none TheFlag = no_ends (of (start L) u)
 
 pub all_kept : (L : Layout) → 5 ≤ L.nodes → (turns : List (ℕ × Event)) → All (λ t. HasKey t.1) turns → AllKept (after_in (ordered L) turns)
-unfolding after_in
-all_kept L enough turns keys = kept_after L enough turns keys (ordered L) (each_ordered L enough [] (λ i d below. absurd (omega (arith, below)))) (kept_start L)
+all_kept L enough turns keys = each_run_keeps (λ s ss. (u : ℕ) → WalksKept s ss u) kept_step L enough (kept_start L) turns keys
 
 -- ---- facts are true
 

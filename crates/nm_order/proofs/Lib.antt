@@ -12,6 +12,7 @@ pub mod PartsOfRuns
 pub mod KnowledgeStays
 pub mod LastEntries
 pub mod CallWalks
+pub mod OrderedInduction
 pub mod FactLaws
 pub mod FactStays
 pub mod ToldLaws
@@ -19,3 +20,4 @@ pub mod ToldClaims
 pub mod ToldNodes
 pub mod FlaggedPaths
 pub mod FlaggedSteps
+pub mod FlaggedLeaves

@@ -36,7 +36,7 @@ use Rattle.nm_order.specs.Told.{FrozenTo, OfEachEntry, CutsAreAsKnown, FlagsAreA
 use Rattle.nm_order.specs.Told.FrozenTo.{ends_there, goes_down}
 use Rattle.nm_order.proofs.LastEntries.{PartOf, LastEntry, last_entry}
 use Rattle.nm_order.proofs.LastEntries.PartOf.{Own, Resigns}
-use Rattle.nm_order.proofs.FactLaws.{births_of}
+use Rattle.nm_order.proofs.OrderedInduction.{births_of}
 use Rattle.nm_order.proofs.ToldLaws.{lawful_before, holds_then, allowed_before}
 
 -- ---- a won flag
