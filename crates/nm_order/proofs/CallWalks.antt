@@ -178,11 +178,11 @@ module _ (s : State) (h : ℕ → ℕ) (law : Lawful s h) (w : ℕ) where
 
 -- ---- an event that is allowed and in order
 
-memory_after : (s : State) (w : ℕ) (e : Event) → (applied s w e).memory ≡ write s.memory (of s w) w e
+pub memory_after : (s : State) (w : ℕ) (e : Event) → (applied s w e).memory ≡ write s.memory (of s w) w e
 unfolding applied
 memory_after s w e = refl
 
-look_writes_nothing : (s : State) (w x : ℕ) (f : Field) → (applied s w (Look x f)).memory ≡ s.memory
+pub look_writes_nothing : (s : State) (w x : ℕ) (f : Field) → (applied s w (Look x f)).memory ≡ s.memory
 unfolding applied write
 look_writes_nothing s w x f = refl
 

@@ -21,3 +21,5 @@ pub mod ToldNodes
 pub mod FlaggedPaths
 pub mod FlaggedSteps
 pub mod FlaggedLeaves
+pub mod LaterFlags
+pub mod LaterFlagLaws

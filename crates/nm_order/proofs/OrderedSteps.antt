@@ -105,7 +105,7 @@ module _ (s : State) (h : ℕ → ℕ) (law : Lawful s h) (w : ℕ) where
   -- ---- a look
 
   -- a slot to which a walk goes is not private, so the look makes its child known
-  looked_known : (x : ℕ) (d : Side) → is_private (of s w) x ≡ false → child s.memory x d ≢ 0 → knows (learn w (of s w) (Look x (EdgeOn d)) (reply_of s w (Look x (EdgeOn d)))) (child s.memory x d) ≡ true
+  pub looked_known : (x : ℕ) (d : Side) → is_private (of s w) x ≡ false → child s.memory x d ≢ 0 → knows (learn w (of s w) (Look x (EdgeOn d)) (reply_of s w (Look x (EdgeOn d)))) (child s.memory x d) ≡ true
   unfolding reply learn
   looked_known x d out some = cond_both (is_private (of s w) x) (look_private (of s w) x (EdgeOn d) (EdgeIs (edge s.memory x d))) (look_known (of s w) x (EdgeOn d) (EdgeIs (edge s.memory x d))) (λ l. knows l (child s.memory x d) ≡ true)
       (λ own. absurd (true≢false (sym own ∙ out)))
@@ -114,7 +114,7 @@ module _ (s : State) (h : ℕ → ℕ) (law : Lawful s h) (w : ℕ) where
   pub known_not_private : (x : ℕ) → knows (of s w) x ≡ true → is_private (of s w) x ≡ false
   known_not_private x known = (law.tree.guarded w x (record { from = x; known = known; path = []; ends = refl; is_slot = λ z. (let r = law.tree.known w x known in absurd (omega arith)) })).shared w
 
-  low_not_private : (x : ℕ) → x ≤ 5 → is_private (of s w) x ≡ false
+  pub low_not_private : (x : ℕ) → x ≤ 5 → is_private (of s w) x ≡ false
   low_not_private x low = false_from_ne_true (is_private (of s w) x) (λ own. let r = law.tree.privates w x own in absurd (omega arith))
 
   pub look_law : (k : ℕ) (ws : List Arrival) (x : ℕ) (f : Field) → IsKey k → FixedKeys s.memory → StillKnown (of s w) (learn w (of s w) (Look x f) (reply_of s w (Look x f)))

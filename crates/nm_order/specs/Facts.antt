@@ -4,6 +4,7 @@ use Rattle.nm_edge.specs.Edges.{Edge}
 use Rattle.nm_edge.specs.Keys.{IsKey}
 use Rattle.nm_edge.specs.Layouts.{Layout}
 use Rattle.nm_edge.specs.declared.edge.Side.{Side}
+use Rattle.nm_edge.specs.declared.node.NodeId.{NodeId}
 use Rattle.nm_core.specs.declared.event.Event.{Event}
 use Rattle.nm_core.specs.declared.event.Op.{Op}
 use Rattle.nm_core.specs.declared.walks.Call.{Call}
@@ -102,3 +103,10 @@ FactsAreTrue = (L : Layout) → 5 ≤ L.nodes → (w : ℕ) (log : List Entry) (
 -- while no pin begins or ends, each fact that a worker's log holds is held by it with one entry more
 abbrev pub FactsStay : Type 0
 FactsStay = (L : Layout) → 5 ≤ L.nodes → (w : ℕ) (log : List Entry) (entry : Entry) → IsLogOf L w (log ++ entry ∷ []) → begins_anew entry ≡ false → (fact : Fact) → Holds L w log fact → Holds L w (log ++ entry ∷ []) fact
+
+-- ---- the leaf that a call flagged
+
+-- where a walk that began after the flag came to the flagged leaf, the edge by which it came is known flagged
+abbrev pub LaterWalksFindTheFlag : Type 0
+LaterWalksFindTheFlag = (L : Layout) → 5 ≤ L.nodes → (w : ℕ) (log : List Entry) → IsLogOf L w log → (n : NodeId) (k parent : ℕ) (side : Side)
+    → (search_after idle log).flagged ≡ Some n → Holds L w log (Came TheFlag k n.slot parent side) → Holds L w log (IsFlagged parent side n.slot)

@@ -1,5 +1,5 @@
 //! Facts that stay: what a worker's log tells it under one pin, as laws over that log alone.
-ghost use Rattle.nm_order.specs.Facts.{FactsAreTrue, FactsStay};
+ghost use Rattle.nm_order.specs.Facts.{FactsAreTrue, FactsStay, LaterWalksFindTheFlag};
 
 /// Each fact that a worker's log holds is true of the memory, whatever the others did since it was learned: marks stand, births stand,
 /// leaves are leaves, keys are those that were read, and what it knows is in nobody's hands.
@@ -11,4 +11,10 @@ pub fn facts_are_true()
 /// Each fact that a worker's log holds is held by it with one entry more, while no pin is confirmed or left.
 pub fn facts_stay()
     ensures { FactsStay }
+{}
+
+/// Where a walk that began after a call's won flag came to the flagged leaf, the edge by which it came was read as flagged, and is so still:
+/// a splice that moves the leaf up copies its flag. (The copied flag of Natarajan and Mittal's cleanup, section 3.2.)
+pub fn later_walks_find_the_flag()
+    ensures { LaterWalksFindTheFlag }
 {}
