@@ -15,6 +15,7 @@ pub mod CallWalks
 pub mod OrderedInduction
 pub mod FactLaws
 pub mod FactStays
+pub mod Sentinels
 pub mod ToldLaws
 pub mod ToldClaims
 pub mod ToldNodes

@@ -31,10 +31,11 @@ use Rattle.nm_core.proofs.KnownBirths.{written_same}
 use Rattle.nm_order.specs.Logs.{known_by, IsLogOf}
 use Rattle.nm_order.specs.Facts.{Fact, HoldsIn, Holds}
 use Rattle.nm_order.specs.Facts.Fact.{KnowsSlot, IsTagged}
-use Rattle.nm_order.specs.Told.{TellsEdge, IsNew, OfEachEntry, TwinsAreToldFlagged, FlaggedEdgesLeadHigh, EdgesStayInside, RootLeads, TagsLead, LowKeysStandHigh, ClaimsAreNew}
+use Rattle.nm_order.specs.Told.{TellsEdge, IsNew, OfEachEntry, TwinsAreToldFlagged, FlaggedEdgesLeadHigh, EdgesStayInside, RootLeads, TagsLead, LowKeysStandHigh, FlaggedEdgesStandHigh, ClaimsAreNew}
 use Rattle.nm_order.specs.Told.TellsEdge.{ByLook, ByLink, ByFlag, ByTag, BySplice}
 use Rattle.nm_order.proofs.OrderedLaws.{IsOrdered, law_of_state}
 use Rattle.nm_order.proofs.PartsOfRuns.{allowed_by_state}
+use Rattle.nm_order.proofs.Sentinels.{sentinels_of, sentinel_is_high, flags_stand_high}
 use Rattle.nm_order.proofs.KnowledgeStays.{Answers, answers}
 use Rattle.nm_order.proofs.LastEntries.{PartOf, LastEntry, last_entry}
 use Rattle.nm_order.proofs.LastEntries.PartOf.{Own, Resigns}
@@ -135,34 +136,7 @@ tags_lead L enough w log entry l x side e is = go (last_entry L enough w log ent
     go : LastEntry L w log entry → e.slot ≢ 0
     go last = (subst (λ (y : Entry). Answers last.before.state.memory y.0 y.1) is (is_answered L enough w log entry last)).1
 
--- ---- keys of the fixed nodes
-
--- the keys of slots 1 to 5 are the sentinels
-SentinelKeys : State → Type 0
-SentinelKeys s = (x : ℕ) → 1 ≤ x → x ≤ 5 → infinity_0 ≤ (node s.memory x).key
-
-sentinels_stay : (s : State) (w : ℕ) (e : Event) → SentinelKeys s → Allowed s w e → SentinelKeys (applied s w e)
-unfolding SentinelKeys applied refusal
-sentinels_stay s w e keys ok x low high = rw (written_same s.memory (of s w) w e x apart).key (keys x low high)
-  where
-    apart : (y : ℕ) (f : Field) (v : ℕ) → e ≡ Fill y f v → x ≢ y
-    apart y f v is same =
-        let filled = subst (λ (g : Event). refusal_of s w g ≡ None) is ok.event in
-        let range = high_from 6 s.layout.nodes y (or_parts (outside 6 s.layout.nodes y) (is_edge f && nat_lt s.layout.nodes v) (passed _ NoSlot _ filled).0).0 in
-        absurd (omega arith)
-
-sentinels_start : (L : Layout) → SentinelKeys (start L)
-unfolding SentinelKeys
-sentinels_start L zero low high = absurd (omega arith)
-sentinels_start L (suc zero) low high = omega arith
-sentinels_start L (suc (suc zero)) low high = omega arith
-sentinels_start L (suc (suc (suc zero))) low high = omega arith
-sentinels_start L (suc (suc (suc (suc zero)))) low high = omega arith
-sentinels_start L (suc (suc (suc (suc (suc zero))))) low high = omega arith
-sentinels_start L (suc (suc (suc (suc (suc (suc n)))))) low high = absurd (omega arith)
-
-sentinels : (L : Layout) (turns : List (ℕ × Event)) → SentinelKeys (after (start L) turns)
-sentinels L turns = by_steps SentinelKeys sentinels_stay turns (start L) (sentinels_start L)
+-- ---- keys
 
 in_range : (s : State) (w x : ℕ) → Allowed s w (Look x Key) → 1 ≤ x
 unfolding refusal
@@ -173,7 +147,6 @@ unfolding reply
 key_told s w x n is = cc
 
 pub low_keys_stand_high : OfEachEntry LowKeysStandHigh
-unfolding SentinelKeys
 low_keys_stand_high L enough w log entry l x n is low = go (last_entry L enough w log entry l)
   where
     go : LastEntry L w log entry → 6 ≤ x
@@ -192,4 +165,14 @@ low_keys_stand_high L enough w log entry l x n is low = go (last_entry L enough 
         read_key last = key_told last.before.state last.by x n (subst (λ (y : Entry). reply_of last.before.state last.by y.0 ≡ y.1) is last.replied)
 
         keys : (last : LastEntry L w log entry) → (1 ≤ x → x ≤ 5 → infinity_0 ≤ n)
-        keys last a b = rw (read_key last) (subst SentinelKeys (sym last.told.is_ordered.leads) (sentinels L last.told.is_ordered.events) x a b)
+        keys last a b = rw (read_key last) (sentinel_is_high last.before.state (sentinels_of L last.before last.told.is_ordered) x a b)
+
+-- ---- the slot that a flagged edge is of
+
+pub flagged_stand_high : OfEachEntry FlaggedEdgesStandHigh
+flagged_stand_high L enough w log entry l x side e tells known flag = go (last_entry L enough w log entry l)
+  where
+    go : LastEntry L w log entry → 6 ≤ x
+    go last =
+        let is : e ≡ edge last.before.state.memory x side = told_edge last.before.state.memory entry x side e (is_answered L enough w log entry last) tells in
+        flags_stand_high L enough last.before last.told.is_ordered w x side (holds_then L enough w log entry last (KnowsSlot x) known) (ap (λ (y : Edge). y.flag) (sym is) ∙ flag)

@@ -37,6 +37,10 @@ TwinsAreToldFlagged L w log entry = (x : ℕ) (side : Side) (e : Edge) (to : ℕ
 abbrev pub FlaggedEdgesLeadHigh : Layout → ℕ → List Entry → Entry → Type 0
 FlaggedEdgesLeadHigh L w log entry = (x : ℕ) (side : Side) (e : Edge) → TellsEdge entry x side e → Holds L w log (KnowsSlot x) → e.flag ≡ true → 6 ≤ e.slot
 
+-- and is an edge of such a slot: none of the fixed nodes has a flagged edge
+abbrev pub FlaggedEdgesStandHigh : Layout → ℕ → List Entry → Entry → Type 0
+FlaggedEdgesStandHigh L w log entry = (x : ℕ) (side : Side) (e : Edge) → TellsEdge entry x side e → Holds L w log (KnowsSlot x) → e.flag ≡ true → 6 ≤ x
+
 -- an edge leads to a slot of the layout
 abbrev pub EdgesStayInside : Layout → ℕ → List Entry → Entry → Type 0
 EdgesStayInside L w log entry = (x : ℕ) (side : Side) (e : Edge) → TellsEdge entry x side e → e.slot ≤ L.nodes
