@@ -1,7 +1,7 @@
 pub mod Counts
 pub mod Presence
 pub mod Extending
+pub mod Asking
 pub mod Keeping
 pub mod Cutting
 pub mod Noting
-pub mod Asking
