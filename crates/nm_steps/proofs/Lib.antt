@@ -6,3 +6,5 @@ pub mod Cutting
 pub mod Noting
 pub mod Asking
 pub mod OpeningWords
+pub mod FreshPasses
+pub mod JoinedPasses

@@ -1,8 +1,8 @@
 -- The words of the empty tree: zeros, the fixed nodes, and then the pool.
-use Rattle.std.proofs.Common.{◌≡◌, ℕ, zero, suc, ◌+◌, ◌-◌, ◌*◌, ◌/◌, ◌<◌, ◌≤◌, Bool, true, false, List, [], ◌∷◌, ◌++◌, length, take, drop, map, set, flat_map, replicate, refl, sym, ap, ◌∙◌, arith, append-nil, length-append, length-set, get_or-set_same}
-use Rattle.std.specs.Prelude.{Option, None, bit_or, slice_index, slice_index_or, slice_set}
+use Rattle.std.proofs.Common.{◌≡◌, ℕ, zero, suc, ◌+◌, ◌-◌, ◌*◌, ◌/◌, ◌<◌, ◌≤◌, Bool, true, false, List, ◌∷◌, ◌++◌, length, take, drop, map, set, flat_map, replicate, refl, sym, ap, ◌∙◌, arith, length-append, length-set, get_or-set_same}
+use Rattle.std.specs.Prelude.{None, bit_or, slice_index, slice_index_or, slice_set}
 use Rattle.std.specs.List.{range_with_len}
-use Rattle.std.proofs.lemmas.List.{drop-replicate, get_or-replicate, get_or_read, length-replicate, replicate-append-replicate}
+use Rattle.std.proofs.lemmas.List.{drop-replicate, get_or-replicate, get_or_read, length-replicate, replicate-append-replicate, set-set}
 use Rattle.std.proofs.lemmas.List.FromFn.{fill_by_all}
 use Rattle.nm_edge.specs.Edges.{Edge, word_of, to}
 use Rattle.nm_edge.specs.Layouts.{Layout}
@@ -58,11 +58,6 @@ untouched_long L = ap (λ (l : List ℕ). length l) (sym (zeros L)) ∙ length-r
 put_fits : (L : Layout) (m : Memory) (s : ℕ) (x : Node) → Fits L m → Fits L (put_node m s x)
 put_fits L m s x fits = record { notes = fits.notes; nodes = length-set m.nodes s x ∙ fits.nodes; pool = fits.pool }
 
-put_again : {X : Type 0} (xs : List X) (i : ℕ) (x y : X) → set (set xs i x) i y ≡ set xs i y
-put_again [] i x y = refl
-put_again (z ∷ xs) zero x y = refl
-put_again (z ∷ xs) (suc i) x y = ap (λ l. z ∷ l) (put_again xs i x y)
-
 module _ (L : Layout) (m : Memory) (s key left right : ℕ) (fits : Fits L m) (slot : IsSlot L s) (birth : (node m s).birth ≡ 0) where
   abbrev first : Node
   first = record (node m s) { key = key }
@@ -92,7 +87,7 @@ module _ (L : Layout) (m : Memory) (s key left right : ℕ) (fits : Fits L m) (s
       ∙ ap (λ b. record { key = key; left = to left; right = to right; birth = b }) birth)
 
   all_put : put_edge lefted s Right (to right) ≡ put_node m s (fork key left right)
-  all_put = ap (λ l. record m { nodes = l }) (ap (λ l. set l s third) (put_again m.nodes s first second) ∙ (put_again m.nodes s second third ∙ ap (set m.nodes s) third_is))
+  all_put = ap (λ l. record m { nodes = l }) (ap (λ l. set l s third) (set-set m.nodes s first second) ∙ (set-set m.nodes s second third ∙ ap (set m.nodes s) third_is))
 
   -- a key and two edges are written
   one_planted : slice_set (slice_set (slice_set (words_of L m) (word L (at_key s)) key) (word L (at_edge s Left)) (word_of (to left))) (word L (at_edge s Right)) (word_of (to right))
@@ -186,3 +181,10 @@ pool_grows L s at mask found ws h k is place bit read =
     ∙ (ap (λ (n : ℕ). slice_set ws (pool_place L s).word (bit_or (slice_index ws (pool_place L s).word) n)) bit
     ∙ (ap (λ (l : List ℕ). slice_set l (pool_place L s).word (bit_or (slice_index l (pool_place L s).word) (pool_place L s).mask)) is
     ∙ (sym (giving_sets_a_bit L (given_below L s) s (given_fits L s h (omega (arith, k))) (omega (arith, h), k)) ∙ ap (words_of L) (given_next L s h k)))))
+
+pub opening_long : (L : Layout) → 6 ≤ L.nodes → length (words_of L (opening L)) ≡ words L
+opening_long L h = each_field_has_a_word L (opening L) (record {
+  notes = length-replicate L.workers None;
+  nodes = omega (arith, length-replicate (L.nodes - 5) blank, h);
+  pool = omega (arith, length-replicate (L.nodes - 5) true, h);
+})

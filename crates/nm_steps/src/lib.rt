@@ -5,6 +5,7 @@ mod acts;
 mod answers;
 mod closing;
 mod epoch_steps;
+mod joining;
 mod making;
 mod pass;
 mod pool_steps;

@@ -1,4 +1,4 @@
-use Rattle.std.proofs.Common.{◌≡◌, ◌+◌, ◌≤◌, ap, arith}
+use Rattle.std.proofs.Common.{◌+◌, ◌≤◌, ap, arith}
 use Rattle.nm_steps.proofs.OpeningWords.{pool_begins, row_within, pool_grows}
 use Rattle.nm_steps.proofs.making.fill_pool.Goals as goal
 
@@ -12,7 +12,7 @@ loop-slot-init c = record {
 pub index_mut-requires : goal.index_mut-requires
 index_mut-requires c =
     let inside : c.loop-slot.slot ≤ c.args.layout.nodes = omega (arith, c.loop-slot-test.true, c.loop-slot.invariant.end) in
-    omega (arith, c.loop-slot.ws.ok.0, row_within c.args.layout c.loop-slot.slot _ _ c.loop-slot.auto.slot inside c.loop-slot.invariant.words_are (ap (λ p. p.word) c.pool-place.ensures))
+    omega (arith, c.loop-slot.tree.ok.0, row_within c.args.layout c.loop-slot.slot _ _ c.loop-slot.auto.slot inside c.loop-slot.invariant.words_are (ap (λ p. p.word) c.pool-place.ensures))
 
 pub loop-slot-preserved : goal.loop-slot-preserved
 loop-slot-preserved c =

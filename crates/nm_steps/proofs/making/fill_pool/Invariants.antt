@@ -8,5 +8,5 @@ abbrev pub invariant-loop-slot : goal.invariant-loop-slot
 invariant-loop-slot l = record {
   end : l.slot-end ≡ l.layout.nodes + 1;
   fits : IsLayout l.layout;
-  words_are : l.ws.items ≡ words_of l.layout (given_below l.layout l.slot);
+  words_are : l.tree.items ≡ words_of l.layout (given_below l.layout l.slot);
 }
