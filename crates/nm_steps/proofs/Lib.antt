@@ -8,3 +8,4 @@ pub mod Asking
 pub mod OpeningWords
 pub mod FreshPasses
 pub mod JoinedPasses
+pub mod Endings

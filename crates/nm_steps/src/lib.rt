@@ -16,3 +16,6 @@ pub use answers::Sighted;
 pub use closing::Words;
 pub use pass::{Pass, Shared};
 pub use view::{Does, Doing, Held, Law, View};
+
+#[cfg(test)]
+mod tests;
