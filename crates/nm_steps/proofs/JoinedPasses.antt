@@ -1,0 +1,31 @@
+-- What a join leaves of a pass.
+use Rattle.std.proofs.Common.{◌≡◌, ℕ, ◌<◌, refl, sym, ap, ◌∙◌, subst, inl}
+use Rattle.atomic_table.specs.declared.shared.Seat.{Seat}
+use Rattle.nm_edge.specs.Layouts.{IsLayout}
+use Rattle.nm_core.specs.declared.event.Event.TheVariants.{Join}
+use Rattle.nm_core.specs.declared.knowledge.Brief.{Brief}
+use Rattle.nm_core.specs.declared.reply.Reply.TheVariants.{Joined}
+use Rattle.nm_core.specs.Knowledge.{Knowledge}
+use Rattle.nm_steps.specs.declared.view.View.{View}
+use Rattle.nm_steps.specs.Rules.{knowledge, joined, passing}
+use Rattle.nm_steps.specs.Steps.{Tied}
+use Rattle.nm_steps.proofs.Noting.{brief_is_noted}
+use Rattle.nm_steps.proofs.Presence.{known_push}
+
+-- the first pass with the joined view: its epochs are as they were, and its log ends with the join
+pub joined_tied : (it after : Seat Unit View) (number : ℕ) (brief : Brief) (w : View) → Tied it number brief → after.me ≡ (joined it.me.0 w, it.me.1) → Tied after number brief
+joined_tied it after number brief w tied me =
+    let view : after.me.0 ≡ joined it.me.0 w = ap (λ m. m.0) me in
+    record {
+      empty = ap (λ m. m.1) me ∙ tied.empty;
+      alive = ap (λ (v : View). v.spent) view ∙ tied.alive;
+      number_is = tied.number_is ∙ sym (ap (λ (v : View). v.number) view);
+      brief_is =
+          tied.brief_is
+          ∙ (sym (brief_is_noted it.me.0.number (knowledge it.me.0) (Join w.number) (Joined (knowledge w).ledgers))
+          ∙ (sym (ap (λ (k : Knowledge). k.brief) (known_push it.me.0.number it.me.0.layout it.me.0.log (passing w))) ∙ sym (ap (λ (v : View). (knowledge v).brief) view)));
+      fits = subst (λ (v : View). IsLayout v.layout) (sym view) tied.fits;
+      worker = subst (λ (v : View). number < v.layout.workers) (sym view) tied.worker;
+      small = tied.small;
+      log = inl (record { before = it.me.0.log; leaver = w.number; ledgers = (knowledge w).ledgers; is = ap (λ (v : View). v.log) view });
+    }

@@ -1,0 +1,18 @@
+use Rattle.std.proofs.Common.{rules, sym, subst, arith}
+use Rattle.nm_steps.specs.Rules.{knowledge}
+use Rattle.nm_steps.specs.Steps.{Stand, HasEmptyHands}
+use Rattle.nm_steps.proofs.Cutting.{joins}
+use Rattle.nm_steps.proofs.JoinedPasses.{joined_tied}
+use Rattle.nm_steps.proofs.pass.Shared.join.Goals as goal
+
+pub join_seat-requires : goal.join_seat-requires
+join_seat-requires c = (
+  search rules,
+  search rules,
+  c.other.invariant.empty,
+  omega (arith, c.self.invariant.words_are),
+  joins _ _ _ _ _ c.pass.invariant.alive c.other.invariant.alive (subst (λ (p : Stand). HasEmptyHands (knowledge p.view)) (sym c.other.view_is) c.requires.hands),
+)
+
+pub invariant_of-result : goal.invariant_of-result
+invariant_of-result c = joined_tied _ _ _ _ c.other.inside.seat.me.0 c.pass.invariant c.join_seat.ensures.2
