@@ -59,7 +59,7 @@ module _ (s : State) (h : ℕ → ℕ) (law : Lawful s h) where
       let some : x ≢ 0 = λ z. (let r = law.tree.privates w x own in absurd (omega arith)) in
       true≢false (sym own ∙ (ap (is_private (of s w)) (sym is) ∙ (reached_live s.layout.nodes (picture s h) law.tree q (rw is some)).shared w))
 
-  off_known : (u z w x : ℕ) → knows (of s u) z ≡ true → is_private (of s w) x ≡ true → (q : List Side) → follow c z q ≡ x → ⊥
+  pub off_known : (u z w x : ℕ) → knows (of s u) z ≡ true → is_private (of s w) x ≡ true → (q : List Side) → follow c z q ≡ x → ⊥
   off_known u z w x known own q is =
       let some : x ≢ 0 = λ e. (let r = law.tree.privates w x own in absurd (omega arith)) in
       true≢false (sym own ∙ (law.tree.guarded u x (record { from = z; known = known; path = q; ends = is; is_slot = some })).shared w)

@@ -76,11 +76,11 @@ module _ (s : State) (h : ℕ → ℕ) (law : Lawful s h) (w : ℕ) where
   inside_list v lt = let size = law.staffed.workers in omega arith
 
   -- what the worker learned is what it knows, and nobody else knows less
-  record Knows (e : Event) : Type 0 where
-    own : StillKnown (learn w (of s w) e (reply_of s w e)) (of (applied s w e) w)
-    others : (u : ℕ) → u ≢ w → StillKnown (of s u) (of (applied s w e) u)
+  pub record Knows (e : Event) : Type 0 where
+    pub own : StillKnown (learn w (of s w) e (reply_of s w e)) (of (applied s w e) w)
+    pub others : (u : ℕ) → u ≢ w → StillKnown (of s u) (of (applied s w e) u)
 
-  knows_after : (e : Event) → Allowed s w e → Knows e
+  pub knows_after : (e : Event) → Allowed s w e → Knows e
   unfolding learn
   knows_after e ok = go (join_or_not e)
     where
@@ -105,19 +105,19 @@ module _ (s : State) (h : ℕ → ℕ) (law : Lawful s h) (w : ℕ) where
   -- ---- a look
 
   -- a slot to which a walk goes is not private, so the look makes its child known
-  looked_known : (x : ℕ) (d : Side) → is_private (of s w) x ≡ false → child s.memory x d ≢ 0 → knows (learn w (of s w) (Look x (EdgeOn d)) (reply_of s w (Look x (EdgeOn d)))) (child s.memory x d) ≡ true
+  pub looked_known : (x : ℕ) (d : Side) → is_private (of s w) x ≡ false → child s.memory x d ≢ 0 → knows (learn w (of s w) (Look x (EdgeOn d)) (reply_of s w (Look x (EdgeOn d)))) (child s.memory x d) ≡ true
   unfolding reply learn
   looked_known x d out some = cond_both (is_private (of s w) x) (look_private (of s w) x (EdgeOn d) (EdgeIs (edge s.memory x d))) (look_known (of s w) x (EdgeOn d) (EdgeIs (edge s.memory x d))) (λ l. knows l (child s.memory x d) ≡ true)
       (λ own. absurd (true≢false (sym own ∙ out)))
       (λ _. has_put_there (met (of s w).known (child s.memory x d)) x (with_read (seen_of (of s w) x) d (edge s.memory x d)) (child s.memory x d) (inr (met_is_known (of s w).known (child s.memory x d) some)))
 
-  known_not_private : (x : ℕ) → knows (of s w) x ≡ true → is_private (of s w) x ≡ false
+  pub known_not_private : (x : ℕ) → knows (of s w) x ≡ true → is_private (of s w) x ≡ false
   known_not_private x known = (law.tree.guarded w x (record { from = x; known = known; path = []; ends = refl; is_slot = λ z. (let r = law.tree.known w x known in absurd (omega arith)) })).shared w
 
-  low_not_private : (x : ℕ) → x ≤ 5 → is_private (of s w) x ≡ false
+  pub low_not_private : (x : ℕ) → x ≤ 5 → is_private (of s w) x ≡ false
   low_not_private x low = false_from_ne_true (is_private (of s w) x) (λ own. let r = law.tree.privates w x own in absurd (omega arith))
 
-  look_law : (k : ℕ) (ws : List Arrival) (x : ℕ) (f : Field) → IsKey k → FixedKeys s.memory → StillKnown (of s w) (learn w (of s w) (Look x f) (reply_of s w (Look x f)))
+  pub look_law : (k : ℕ) (ws : List Arrival) (x : ℕ) (f : Field) → IsKey k → FixedKeys s.memory → StillKnown (of s w) (learn w (of s w) (Look x f) (reply_of s w (Look x f)))
       → WalkLaw (child s.memory) (key s.memory) (knows (of s w)) k ws → WalkLaw (child s.memory) (key s.memory) (knows (learn w (of s w) (Look x f) (reply_of s w (Look x f)))) k (walked k ws x f (reply_of s w (Look x f)))
   unfolding reply
   look_law k ws x Key small fixed still walks = key_looked (child s.memory) (key s.memory) _ k ws x (walks_last (child s.memory) (child s.memory) (key s.memory) (key s.memory) _ _ k ws still (λ _ _. refl) (λ _ _ o. o) walks)
@@ -166,12 +166,12 @@ module _ (s : State) (h : ℕ → ℕ) (law : Lawful s h) (w : ℕ) where
                 linking = linking_shown s h law w (births w) call.key walks.0 fixed S.walks walks.1 p d leaf new l link rest.0 rest.1 c' exchanged;
               }
 
-  asks_order : EachBirthStands s → (e : Event) → (S : Search) → disorder (of s w) S e ≡ None → FixedKeys s.memory → ForCall s.memory (knows (of s w)) S.call S.walks → AsksOrder s h law w e
+  pub asks_order : EachBirthStands s → (e : Event) → (S : Search) → disorder (of s w) S e ≡ None → FixedKeys s.memory → ForCall s.memory (knows (of s w)) S.call S.walks → AsksOrder s h law w e
   asks_order births e S ordered fixed walks p d leaf new is l link c' exchanged =
       (link_of_call births S p d leaf new (subst (λ (x : Event). disorder (of s w) S x ≡ None) is ordered) fixed walks l link c' exchanged).linking
 
   -- walks outlast an event by which no less is known
-  last : (m : Memory) → Outlasts s h law m → (u : ℕ) (known : ℕ → Bool) → StillKnownBy (knows (of s u)) known → (call : Option Call) (ws : List Arrival) → ForCall s.memory (knows (of s u)) call ws → ForCall m known call ws
+  pub last : (m : Memory) → Outlasts s h law m → (u : ℕ) (known : ℕ → Bool) → StillKnownBy (knows (of s u)) known → (call : Option Call) (ws : List Arrival) → ForCall s.memory (knows (of s u)) call ws → ForCall m known call ws
   last m o u known more None ws f = tt
   last m o u known more (Some call) ws f = (f.0, walks_last (child s.memory) (child m) (key s.memory) (key m) (knows (of s u)) known call.key ws more (o.keys u) (λ z k. o.onward u z call.key k) f.1)
 

@@ -106,13 +106,13 @@ module _ (w : ℕ) where
   nothing true log = refl
   nothing false log = refl
 
-  refused_adds : (c : Configuration) (t : ℕ × Event) (ts : List (ℕ × Event)) (r : Refused) → refused_in c t.0 t.1 ≡ Some r → part_of w (trace_in c (t ∷ ts)) ≡ part_of w (trace_in c ts)
+  pub refused_adds : (c : Configuration) (t : ℕ × Event) (ts : List (ℕ × Event)) (r : Refused) → refused_in c t.0 t.1 ≡ Some r → part_of w (trace_in c (t ∷ ts)) ≡ part_of w (trace_in c ts)
   refused_adds c t ts r is = part_from c t ts (Err r) (refused_outcome c t r is) ∙ (nothing (takes_part w t.0 t.1) (part_of w (trace_in (next_in c t) ts)) ∙ ap (λ (d : Configuration). part_of w (trace_in d ts)) (refused_next c t r is))
 
-  others_add : (c : Configuration) (t : ℕ × Event) (ts : List (ℕ × Event)) → refused_in c t.0 t.1 ≡ None → takes_part w t.0 t.1 ≡ false → part_of w (trace_in c (t ∷ ts)) ≡ part_of w (trace_in (next_in c t) ts)
+  pub others_add : (c : Configuration) (t : ℕ × Event) (ts : List (ℕ × Event)) → refused_in c t.0 t.1 ≡ None → takes_part w t.0 t.1 ≡ false → part_of w (trace_in c (t ∷ ts)) ≡ part_of w (trace_in (next_in c t) ts)
   others_add c t ts is none = part_from c t ts (Ok (reply_of c.state t.0 t.1)) (allowed_outcome c t is) ∙ ap (λ (b : Bool). cond b ((t.1, reply_of c.state t.0 t.1) ∷ []) [] ++ part_of w (trace_in (next_in c t) ts)) none
 
-  own_adds : (c : Configuration) (t : ℕ × Event) (ts : List (ℕ × Event)) → refused_in c t.0 t.1 ≡ None → takes_part w t.0 t.1 ≡ true → part_of w (trace_in c (t ∷ ts)) ≡ (t.1, reply_of c.state t.0 t.1) ∷ part_of w (trace_in (next_in c t) ts)
+  pub own_adds : (c : Configuration) (t : ℕ × Event) (ts : List (ℕ × Event)) → refused_in c t.0 t.1 ≡ None → takes_part w t.0 t.1 ≡ true → part_of w (trace_in c (t ∷ ts)) ≡ (t.1, reply_of c.state t.0 t.1) ∷ part_of w (trace_in (next_in c t) ts)
   own_adds c t ts is takes = part_from c t ts (Ok (reply_of c.state t.0 t.1)) (allowed_outcome c t is) ∙ ap (λ (b : Bool). cond b ((t.1, reply_of c.state t.0 t.1) ∷ []) [] ++ part_of w (trace_in (next_in c t) ts)) takes
 
   -- a turn that is allowed leaves the state that follows

@@ -21,7 +21,7 @@ use Rattle.nm_core.proofs.Views.{has_met_there}
 abbrev pub StillKnown : Knowledge → Knowledge → Type 0
 StillKnown k l = (x : ℕ) → knows k x ≡ true → knows l x ≡ true
 
-still_read : (k : Knowledge) (p : ℕ) (d : Side) (e : Edge) → StillKnown k (read_edge k p d e)
+pub still_read : (k : Knowledge) (p : ℕ) (d : Side) (e : Edge) → StillKnown k (read_edge k p d e)
 still_read k p d e x h = has_put_there (met k.known e.slot) p (with_read (seen_of k p) d e) x (inr (has_met_there k.known e.slot x h))
 
 -- a search goes on, or it ends, or a call begins; and it may have looked at a field

@@ -24,10 +24,11 @@ use Rattle.nm_core.proofs.EachState.{each_epoch_agrees}
 use Rattle.nm_order.specs.Logs.{part_of, known_by, IsLogOf}
 use Rattle.nm_order.proofs.PartsOfRuns.{logs_tell}
 use Rattle.nm_order.proofs.OrderedLaws.{IsOrdered, each_ordered}
-use Rattle.nm_words.specs.Packing.{Fits, InRange, StateFits, StateIsInRange, NullEdgesAreUnmarked, word_at, touched}
+use Rattle.nm_words.specs.Packing.{Fits, InRange, StateFits, StateIsInRange, NullEdgesAreUnmarked, word_at, field_of, touched}
 use Rattle.nm_words.proofs.PackedEvents.{each_state_fits}
 use Rattle.nm_words.proofs.PackedReads.{each_word_is_its_field}
 use Rattle.nm_edge.proofs.Packing.{unpacked_word}
+use Rattle.nm_edge.proofs.Words.{places_are_rows}
 use Rattle.nm_words.proofs.MarkedEdges.{each_null_unmarked}
 use Rattle.nm_words.proofs.PackedSizes.{each_state_in_range}
 use Rattle.nm_core.proofs.Reachable.{layout_kept}
@@ -165,3 +166,29 @@ finds_edge L w log e n x side f loads at slot = is_some_true (is_word n) (edge_i
     is_some_true : (b : Bool) (e d : Edge) → cond b (Some e) None ≡ Some d → b ≡ true
     is_some_true true e d h = refl
     is_some_true false e d h = absurd (none-some d h)
+
+-- ---- the word of an event is one of the layout's
+
+module _ (L : Layout) (w : ℕ) (log : List Entry) (own : w < L.workers) where
+  of_node : (s : ℕ) (f : Field) → IsSlot L s → IsField L (field_of s f)
+  of_node s Key slot = slot
+  of_node s (EdgeOn side) slot = slot
+  of_node s Birth slot = slot
+
+  pub within : (e : Event) → May L w log e → IsField L (touched w e)
+  within Sight may = tt
+  within (SightFor op key) may = tt
+  within Announce may = own
+  within Leave may = own
+  within (LeaveWith answer) may = own
+  within (Scan u) may = scan_below L w log u may
+  within Advance may = tt
+  within (Claim s) may = places_are_rows L s (claim_slot L w log s may)
+  within (Give s) may = places_are_rows L s (give_slot L w log s may)
+  within (Look s f) may = of_node s f (look_slot L w log s f may)
+  within (Fill s f v) may = of_node s f (fill_slot L w log s f v may)
+  within (Link p side leaf new) may = link_slot L w log p side leaf new may
+  within (Flag p side leaf) may = flag_slot L w log p side leaf may
+  within (Tag p side) may = tag_slot L w log p side may
+  within (Splice a side s p keep) may = splice_slot L w log a side s p keep may
+  within (Join v) may = absurd may.births

@@ -196,8 +196,8 @@ module _ (L : Layout) (u w : ℕ) (heirs leavers : List Entry) (turns : List (�
   join_allowed =
       both_pass _ _ NoWorker NotReady (or_false (w == u) (is_no_worker d.state w) (ne_eqb w u (λ same. differ (sym same))) (worker_is_there w leavers q))
       (or_false (not (length (of d.state w).drafts == 0)) (of d.state w).brief.unlabelled
-          (ap (λ (x : Knowledge). not (length x.drafts == 0)) (knows L w leavers turns q) ∙ ap (λ (n : ℕ). not (n == 0)) hands.drafts)
-          (ap (λ (x : Knowledge). x.brief.unlabelled) (knows L w leavers turns q) ∙ hands.labelled))
+      (ap (λ (x : Knowledge). not (length x.drafts == 0)) (knows L w leavers turns q) ∙ ap (λ (n : ℕ). not (n == 0)) hands.drafts)
+      (ap (λ (x : Knowledge). x.brief.unlabelled) (knows L w leavers turns q) ∙ hands.labelled))
 
   join_not_refused : refused d.state u (Join w) ≡ None
   unfolding refused

@@ -1,5 +1,5 @@
 -- Passes that have done nothing yet.
-use Rattle.std.proofs.Common.{◌≡◌, ◌-◌, ◌<◌, ℕ, false, [], refl, sym, ap, ◌∙◌, subst, arith}
+use Rattle.std.proofs.Common.{inr, ◌≡◌, ◌-◌, ◌<◌, ℕ, false, [], refl, sym, ap, ◌∙◌, subst, arith}
 use Rattle.std.specs.Prelude.{None}
 use Rattle.atomic_table.specs.declared.shared.Seat.{Seat}
 use Rattle.nm_edge.specs.Layouts.{Layout, IsLayout}
@@ -30,6 +30,8 @@ fresh_tied L it w fits below view empty = record {
   number_is = sym (ap (λ (v : View). v.number) view);
   brief_is = sym (ap (λ (v : View). (knowledge v).brief) view);
   fits = subst (λ (v : View). IsLayout v.layout) (sym view) fits;
-  log = subst (λ (v : View). IsLogOf v.layout v.number v.log) (sym view) (empty_log L w below);
+  worker = subst (λ (v : View). w < v.layout.workers) (sym view) below;
+  small = tt;
+  log = inr (subst (λ (v : View). IsLogOf v.layout v.number v.log) (sym view) (empty_log L w below));
   here = ap (λ (v : View). (knowledge v).gone) view;
 }

@@ -1,5 +1,5 @@
 -- A load that changes nothing keeps the rule, and tells what it says of the seat's log; and what a join leaves of a pass.
-use Rattle.std.proofs.Common.{◌≡◌, ℕ, ◌<◌, false, List, [], ◌∷◌, set, refl, sym, ap, ◌∙◌, subst, arith}
+use Rattle.std.proofs.Common.{inr, ◌≡◌, ℕ, ◌<◌, false, List, [], ◌∷◌, set, refl, sym, ap, ◌∙◌, subst, arith}
 use Rattle.std.proofs.lemmas.List.{set-get_or}
 use mathlib.Core.Option.{some, none}
 use lib.ListN.{get_elem?}
@@ -61,7 +61,9 @@ joined_tied it after number brief w tied me now =
           ∙ (sym (brief_is_noted it.me.0.number (knowledge it.me.0) (Join w.number) (Joined (knowledge w).ledgers))
           ∙ (sym (ap (λ (k : Knowledge). k.brief) (known_push it.me.0.number it.me.0.layout it.me.0.log (passing w))) ∙ sym (ap (λ (v : View). (knowledge v).brief) view)));
       fits = subst (λ (v : View). IsLayout v.layout) (sym view) tied.fits;
-      log = subst (λ (v : View). IsLogOf v.layout v.number v.log) (sym view) now.log;
+      worker = subst (λ (v : View). number < v.layout.workers) (sym view) tied.worker;
+      small = tied.small;
+      log = inr (subst (λ (v : View). IsLogOf v.layout v.number v.log) (sym view) now.log);
       here = ap (λ (v : View). (knowledge v).gone) view ∙ now.here;
     }
 

@@ -1,10 +1,10 @@
 pub mod Counts
 pub mod Presence
 pub mod Extending
+pub mod Asking
 pub mod Keeping
 pub mod Cutting
 pub mod Noting
-pub mod Asking
 pub mod OpeningWords
 pub mod FreshPasses
 pub mod JoinedPasses

@@ -1,6 +1,6 @@
 -- What a step leaves of a pass: the epochs that it mirrors, and its log, which is a part of a run still.
-use Rattle.std.proofs.Common.{◌≡◌, ◌≢◌, ℕ, ◌+◌, ◌==◌, Bool, true, false, ◌||◌, cond, List, [], ◌∷◌, ◌++◌, refl, sym, ap, subst, ◌∙◌, eq-eqb, true≢false, Result, Ok}
-use Rattle.std.specs.Prelude.{All, Option, Some, None}
+use Rattle.std.proofs.Common.{◌≡◌, ◌≢◌, ℕ, ◌<◌, ◌≤◌, inr, ◌+◌, ◌==◌, Bool, true, false, ◌||◌, cond, List, [], ◌∷◌, ◌++◌, refl, sym, ap, subst, ◌∙◌, eq-eqb, true≢false, Result, Ok}
+use Rattle.std.specs.Prelude.{All, Option, Some, None, IfSome}
 use Rattle.nm_core.specs.Maps.{is_number}
 use Rattle.std.proofs.lemmas.Bool.{cond_both, cond-false, ne_eqb, eqb-false}
 use Rattle.atomic_table.specs.Seated.{TableId}
@@ -16,7 +16,7 @@ use Rattle.nm_core.specs.declared.reply.Reply.TheVariants.{Saw, Labelled, Pinned
 use Rattle.nm_core.specs.declared.knowledge.Brief.{Brief}
 use Rattle.nm_core.specs.Knowledge.{Knowledge, is_private}
 use Rattle.nm_core.specs.Learning.{learn, learn_sight, learn_scan, look_private, look_known, resigned, inheriting}
-use Rattle.nm_core.specs.Step.{refusal}
+use Rattle.nm_core.specs.Step.{last_number, refusal}
 use Rattle.nm_core.specs.Walks.{Entry}
 use Rattle.nm_core.specs.Ordered.{ordered, after_in, trace_in}
 use Rattle.nm_order.specs.Logs.{is_leaver, part_of, known_by, IsLogOf}
@@ -26,7 +26,8 @@ use Rattle.nm_steps.specs.declared.view.View.{View}
 use Rattle.nm_steps.specs.Rules.{knowledge, logged, is_store, IsFound}
 use Rattle.nm_steps.specs.Steps.{May, IsReady, IsDone, Tied, Laid, noted, noted_sight}
 use Rattle.nm_steps.proofs.Presence.{gone_kept, known_push}
-use Rattle.nm_steps.proofs.Extending.{IsPartOf, keys-append, trace_after, field}
+use Rattle.nm_steps.proofs.Asking.{within, seen_small}
+use Rattle.nm_steps.proofs.Extending.{IsPartOf, keys-append, trace_after}
 use Rattle.nm_steps.proofs.Keeping.{no_leaver, part_grows}
 
 -- ---- epochs
@@ -112,21 +113,24 @@ module _ (L : Layout) (w : ℕ) (log : List Entry) (e : Event) (n : ℕ) (f : Is
 
 -- ---- a pass before and after a step
 
+-- the epoch last read, if there is one, is no greater than the greatest
+small_seen : (o : Option ℕ) → ((s : ℕ) → o ≡ Some s → s ≤ last_number) → IfSome o (λ e. e ≤ last_number)
+small_seen None small = tt
+small_seen (Some s) small = small s refl
+
 pub ready : (z : TableId) (key L : Layout) (it : Seat Unit View) (number : ℕ) (brief : Brief) (e : Event) (i : ℕ)
     → Laid z key L → Tied it number brief → it.table_id ≡ z → it.me.0.layout ≡ L → May it.me.0.layout it.me.0.number it.me.0.log e → i ≡ word L (touched number e) → IsReady key z it e i
 ready z key L it number brief e i laid tied table layout may index =
     let same : it.me.0.layout ≡ key = layout ∙ sym laid.key_is in
     let k : May key it.me.0.number it.me.0.log e = subst (λ (l : Layout). May l it.me.0.number it.me.0.log e) same may in
-    let here : (known_by key it.me.0.number it.me.0.log).gone ≡ false = subst (λ (l : Layout). (known_by l it.me.0.number it.me.0.log).gone ≡ false) same tied.here in
-    let log : IsLogOf key it.me.0.number it.me.0.log = subst (λ (l : Layout). IsLogOf l it.me.0.number it.me.0.log) same tied.log in
-    let part : IsPartOf key it.me.0.number it.me.0.log log.turns = record { fits = subst IsLayout same tied.fits; keys = log.keys; worker = log.worker; is_part = sym log.is_part; here = here } in
+    let own : it.me.0.number < key.workers = subst (λ (n : ℕ). n < key.workers) tied.number_is (subst (λ (l : Layout). number < l.workers) same tied.worker) in
     record {
       table = table;
       words = laid.words_are ∙ ap words (sym laid.key_is);
       empty = tied.empty;
       alive = tied.alive;
       layout = same;
-      within = field key it.me.0.number it.me.0.log log.turns part e k;
+      within = within key it.me.0.number it.me.0.log own e k;
       word = index ∙ (ap (λ (l : Layout). word l (touched number e)) (sym laid.key_is) ∙ ap (λ (w : ℕ). word key (touched w e)) tied.number_is);
       may = k;
     }
@@ -136,16 +140,20 @@ pub tied_after : (it after : Seat Unit View) (number : ℕ) (brief new : Brief) 
 tied_after it after number brief new e n tied may done is =
     let me : after.me.0 ≡ logged it.me.0 e n = ap (λ m. m.0) done.me in
     let r : Reply = told it.me.0.layout (knowledge it.me.0) e n in
+    let longer : IsLogOf it.me.0.layout it.me.0.number (it.me.0.log ++ (e, r) ∷ []) = log_grows it.me.0.layout it.me.0.number it.me.0.log e n done.found tied.here may in
+    let epochs : new ≡ (known_by it.me.0.layout it.me.0.number (it.me.0.log ++ (e, r) ∷ [])).brief =
+        is ∙ (ap (λ (b : Brief). noted b e r) tied.brief_is
+        ∙ (sym (brief_is_noted it.me.0.number (knowledge it.me.0) e r)
+        ∙ sym (ap (λ (k : Knowledge). k.brief) (known_push it.me.0.number it.me.0.layout it.me.0.log (e, r))))) in
     record {
       empty = ap (λ m. m.1) done.me ∙ tied.empty;
       alive = ap (λ (v : View). v.spent) me ∙ tied.alive;
       number_is = tied.number_is ∙ sym (ap (λ (v : View). v.number) me);
-      brief_is =
-          is ∙ (ap (λ (b : Brief). noted b e r) tied.brief_is
-          ∙ (sym (brief_is_noted it.me.0.number (knowledge it.me.0) e r)
-          ∙ (sym (ap (λ (k : Knowledge). k.brief) (known_push it.me.0.number it.me.0.layout it.me.0.log (e, r))) ∙ sym (ap (λ (v : View). (knowledge v).brief) me))));
+      brief_is = epochs ∙ sym (ap (λ (v : View). (knowledge v).brief) me);
       fits = subst (λ (v : View). IsLayout v.layout) (sym me) tied.fits;
-      log = subst (λ (v : View). IsLogOf v.layout v.number v.log) (sym me) (log_grows it.me.0.layout it.me.0.number it.me.0.log e n done.found tied.here may);
+      worker = subst (λ (v : View). number < v.layout.workers) (sym me) tied.worker;
+      small = small_seen new.seen (λ s at. seen_small it.me.0.layout it.me.0.number (it.me.0.log ++ (e, r) ∷ []) tied.fits longer s (sym (ap (λ (b : Brief). b.seen) epochs) ∙ at));
+      log = inr (subst (λ (v : View). IsLogOf v.layout v.number v.log) (sym me) longer);
       here =
           ap (λ (v : View). (knowledge v).gone) me
           ∙ (ap (λ (k : Knowledge). k.gone) (known_push it.me.0.number it.me.0.layout it.me.0.log (e, r))

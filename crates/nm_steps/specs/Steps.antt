@@ -1,5 +1,5 @@
 -- What a step asks of its worker, and what it does.
-use Rattle.std.specs.Prelude.{◌≡◌, ◌≤◌, ℕ, suc, true, false, List, [], ◌∷◌, ◌++◌, length, map, Bool, if◌then◌else◌, unwrap_or, Result, Ok, Err, Option, Some, None, IsSome, All}
+use Rattle.std.specs.Prelude.{◌≡◌, ◌≤◌, ◌<◌, ◌⊎◌, IfSome, ℕ, suc, true, false, List, [], ◌∷◌, ◌++◌, length, map, Bool, if◌then◌else◌, unwrap_or, Result, Ok, Err, Option, Some, None, IsSome, All}
 use Rattle.atomic_table.specs.Seated.{TableId}
 use Rattle.atomic_table.specs.declared.shared.Seat.{Seat}
 use Rattle.nm_edge.specs.Edges.{Edge}
@@ -8,15 +8,16 @@ use Rattle.nm_edge.specs.declared.node.NodeId.{NodeId}
 use Rattle.nm_edge.specs.Layouts.{Layout, IsLayout}
 use Rattle.nm_edge.specs.Words.{IsField, word, words}
 use Rattle.nm_core.specs.declared.event.Event.{Event}
-use Rattle.nm_core.specs.declared.event.Event.TheVariants.{Sight, SightFor, Announce, Leave, LeaveWith, Advance, Fill, Splice}
+use Rattle.nm_core.specs.declared.event.Event.TheVariants.{Sight, SightFor, Announce, Leave, LeaveWith, Advance, Fill, Splice, Join}
 use Rattle.nm_core.specs.declared.event.Field.TheVariants.{Birth}
 use Rattle.nm_core.specs.declared.reply.Reply.{Reply}
-use Rattle.nm_core.specs.declared.reply.Reply.TheVariants.{Saw, Labelled, Pinned, Missed, Announced, Departed, Idle, In, Moved, Behind, Claimed, Taken, Returned, Freed, Linked, Flagged, Cut, Lost}
+use Rattle.nm_core.specs.declared.reply.Reply.TheVariants.{Saw, Labelled, Pinned, Missed, Announced, Departed, Idle, In, Moved, Behind, Claimed, Taken, Returned, Freed, Linked, Flagged, Cut, Lost, Joined}
 use Rattle.nm_core.specs.declared.knowledge.Brief.{Brief}
+use Rattle.nm_core.specs.declared.ledger.Ledger.{Ledger}
 use Rattle.nm_core.specs.Memory.{Memory, node}
 use Rattle.nm_core.specs.Ledgers.{front_of}
 use Rattle.nm_core.specs.Knowledge.{Knowledge, draft_of, is_private, way, cut_by}
-use Rattle.nm_core.specs.Step.{refusal, confirmed, node_of, node_linked}
+use Rattle.nm_core.specs.Step.{last_number, refusal, confirmed, node_of, node_linked}
 use Rattle.nm_core.specs.Walks.{Entry, search_after}
 use Rattle.nm_core.specs.Searches.{idle}
 use Rattle.nm_core.specs.Ordered.{disorder, ordered, after_in, trace_in}
@@ -109,14 +110,24 @@ Stepped p q e r = q ≡ record p { view = record p.view { log = p.view.log ++ (e
 
 -- ---- what a table and a pass keep
 
--- what a pass keeps of its log: its number and epochs, that the log is its number's part of a run, and that it has not resigned
+-- a log that ends with a join
+pub record EndsWithJoin (log : List Entry) : Type 0 where
+  pub before : List Entry
+  pub leaver : ℕ
+  pub ledgers : List (Option Ledger)
+  pub is : log ≡ before ++ (Join leaver, Joined ledgers) ∷ []
+
+-- what a pass keeps of its log: its number and epochs, that it has not resigned, and that the log is its number's part of a run.
+-- (Of that run a step tells. A join tells nothing, so that the last is kept of a log that ends with one from the next step on.)
 pub record Tied (it : Seat Unit View) (number : ℕ) (brief : Brief) : Type 0 where
   pub empty : it.me.1 ≡ []
   pub alive : it.me.0.spent ≡ false
   pub number_is : number ≡ it.me.0.number
   pub brief_is : brief ≡ (knowledge it.me.0).brief
   pub fits : IsLayout it.me.0.layout
-  pub log : IsLogOf it.me.0.layout it.me.0.number it.me.0.log
+  pub worker : number < it.me.0.layout.workers
+  pub small : IfSome brief.seen (λ e. e ≤ last_number)
+  pub log : EndsWithJoin it.me.0.log ⊎ IsLogOf it.me.0.layout it.me.0.number it.me.0.log
   pub here : (knowledge it.me.0).gone ≡ false
 
 -- what a table keeps
@@ -137,8 +148,8 @@ AreFresh b k [] = Unit {0}
 AreFresh b k (p ∷ ps) = (p.table ≡ b.table) × (p.view ≡ fresh_view b.layout k) × AreFresh b (suc k) ps
 
 -- the first pass stands for both
-abbrev pub Joined : Stand → Stand → Stand → Type 0
-Joined p q all = all ≡ record p { view = joined p.view q.view }
+abbrev pub HasJoined : Stand → Stand → Stand → Type 0
+HasJoined p q all = all ≡ record p { view = joined p.view q.view }
 
 -- some ordered run ends with these words, and the view's logs are its parts, each once
 pub record Ends (L : Layout) (words : List ℕ) (view : View) : Type 0 where

@@ -85,7 +85,14 @@ pub(crate) fn clear(words: &Words, seat: &mut Place, word: usize, mask: u64, eve
     clear_as::<Brand>(words, seat, word, mask, &event)
 }
 
-fn exchange_as<D: Doing>(words: &Words, seat: &mut Place, word: usize, old: u64, new: u64, event: &Event) -> u64
+fn exchange_as<D: Doing>(
+    words: &Words,
+    seat: &mut Place,
+    word: usize,
+    old: u64,
+    new: u64,
+    event: &Event,
+) -> u64
     requires pick { D.event ≡ event.now }
     requires ready { IsReady words.now.key words.now.table_id seat.old event.now word }
     requires changes { Changes event.now seat.old.me.0 (λ n. either (n == old) new n) }
@@ -96,7 +103,14 @@ fn exchange_as<D: Doing>(words: &Words, seat: &mut Place, word: usize, old: u64,
 }
 
 /// Puts the new word in the place of the old one, if that stands there; the word before.
-pub(crate) fn exchange(words: &Words, seat: &mut Place, word: usize, old: u64, new: u64, event: Event) -> u64
+pub(crate) fn exchange(
+    words: &Words,
+    seat: &mut Place,
+    word: usize,
+    old: u64,
+    new: u64,
+    event: Event,
+) -> u64
     requires ready { IsReady words.now.key words.now.table_id seat.old event word }
     requires changes { Changes event seat.old.me.0 (λ n. either (n == old) new n) }
     ensures { IsDone seat.old seat.new event result }

@@ -17,8 +17,9 @@ impl Shared {
         requires { IsOf self.now pass.old }
         ensures { Stepped pass.old pass.new Sight (sight_reply result) }
     {
+        let table = &self.table.shared;
         let word = self.layout.epoch() as usize;
-        let found = load(&self.table.shared, &mut pass.seat, word, Event::Sight);
+        let found = load(table, &mut pass.seat, word, Event::Sight);
         let reply = sighted(pass.brief, found);
         pass.brief = after_sight(pass.brief, reply);
         reply
@@ -30,9 +31,10 @@ impl Shared {
         requires may { MayStep pass.old (SightFor op key) }
         ensures { Stepped pass.old pass.new (SightFor op key) (sight_reply result) }
     {
+        let table = &self.table.shared;
         let word = self.layout.epoch() as usize;
         let event = Event::SightFor(op, key);
-        let found = load(&self.table.shared, &mut pass.seat, word, event);
+        let found = load(table, &mut pass.seat, word, event);
         let reply = sighted(pass.brief, found);
         pass.brief = after_sight(pass.brief, reply);
         reply
@@ -44,11 +46,12 @@ impl Shared {
         requires may { MayStep pass.old Announce }
         ensures { Stepped pass.old pass.new Announce (Announced result) }
     {
+        let table = &self.table.shared;
         let Some(seen) = pass.brief.seen else {
             unreachable!()
         };
         let word = self.layout.note(pass.number) as usize;
-        store(&self.table.shared, &mut pass.seat, word, seen + 1, Event::Announce);
+        store(table, &mut pass.seat, word, seen + 1, Event::Announce);
         pass.brief.note = Some(seen);
         seen
     }
@@ -59,8 +62,9 @@ impl Shared {
         requires may { MayStep pass.old Leave }
         ensures { Stepped pass.old pass.new Leave Departed }
     {
+        let table = &self.table.shared;
         let word = self.layout.note(pass.number) as usize;
-        store(&self.table.shared, &mut pass.seat, word, 0, Event::Leave);
+        store(table, &mut pass.seat, word, 0, Event::Leave);
         pass.brief.note = None;
         pass.brief.pin = None;
     }
@@ -71,8 +75,9 @@ impl Shared {
         requires may { MayStep pass.old (LeaveWith answer) }
         ensures { Stepped pass.old pass.new (LeaveWith answer) Departed }
     {
+        let table = &self.table.shared;
         let word = self.layout.note(pass.number) as usize;
-        store(&self.table.shared, &mut pass.seat, word, 0, Event::LeaveWith(answer));
+        store(table, &mut pass.seat, word, 0, Event::LeaveWith(answer));
         pass.brief.note = None;
         pass.brief.pin = None;
     }
@@ -83,8 +88,9 @@ impl Shared {
         requires may { MayStep pass.old (Scan worker) }
         ensures { Stepped pass.old pass.new (Scan worker) (scan_reply result) }
     {
+        let table = &self.table.shared;
         let word = self.layout.note(worker) as usize;
-        let found = load(&self.table.shared, &mut pass.seat, word, Event::Scan(worker));
+        let found = load(table, &mut pass.seat, word, Event::Scan(worker));
         if found == 0 { None } else { Some(found - 1) }
     }
 
@@ -94,11 +100,12 @@ impl Shared {
         requires may { MayStep pass.old Advance }
         ensures { Stepped pass.old pass.new Advance (advance_reply result) }
     {
+        let table = &self.table.shared;
         let Some(seen) = pass.brief.seen else {
             unreachable!()
         };
         let word = self.layout.epoch() as usize;
-        let found = exchange(&self.table.shared, &mut pass.seat, word, seen, seen + 1, Event::Advance);
+        let found = exchange(table, &mut pass.seat, word, seen, seen + 1, Event::Advance);
         if found == seen {
             pass.brief.seen = Some(seen + 1);
             Ok(seen + 1)

@@ -1,7 +1,7 @@
 //! How two passes become one.
 ghost use Rattle.std.specs.Prelude.{◌≡◌};
 ghost use Rattle.nm_steps.specs.Rules.{knowledge};
-ghost use Rattle.nm_steps.specs.Steps.{IsOf, HasEmptyHands, Joined};
+ghost use Rattle.nm_steps.specs.Steps.{IsOf, HasEmptyHands, HasJoined};
 
 use crate::pass::{Pass, Shared};
 use crate::view::View;
@@ -34,7 +34,7 @@ impl Shared {
         requires first { IsOf self.now pass }
         requires second { IsOf self.now other }
         requires hands { HasEmptyHands (knowledge other.view) }
-        ensures { Joined pass other result }
+        ensures { HasJoined pass other result }
     {
         let Pass {
             mut seat,

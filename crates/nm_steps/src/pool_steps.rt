@@ -14,8 +14,11 @@ impl Shared {
         requires may { MayStep pass.old (Claim slot) }
         ensures { Stepped pass.old pass.new (Claim slot) (claim_reply slot result) }
     {
+        let table = &self.table.shared;
         let place = self.layout.pool(slot);
-        let found = clear(&self.table.shared, &mut pass.seat, place.word as usize, !place.mask, Event::Claim(slot));
+        let word = place.word as usize;
+        let event = Event::Claim(slot);
+        let found = clear(table, &mut pass.seat, word, !place.mask, event);
         found & place.mask != 0
     }
 
@@ -25,7 +28,9 @@ impl Shared {
         requires may { MayStep pass.old (Give slot) }
         ensures { Stepped pass.old pass.new (Give slot) (give_reply pass.old.view slot) }
     {
+        let table = &self.table.shared;
         let place = self.layout.pool(slot);
-        mark(&self.table.shared, &mut pass.seat, place.word as usize, place.mask, Event::Give(slot));
+        let word = place.word as usize;
+        mark(table, &mut pass.seat, word, place.mask, Event::Give(slot));
     }
 }

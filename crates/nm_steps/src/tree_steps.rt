@@ -23,8 +23,9 @@ impl Shared {
         requires may { MayStep pass.old (Look slot KeyOf) }
         ensures { Stepped pass.old pass.new (Look slot KeyOf) (KeyIs result) }
     {
+        let table = &self.table.shared;
         let word = self.layout.key(slot) as usize;
-        load(&self.table.shared, &mut pass.seat, word, Event::Look(slot, Field::Key))
+        load(table, &mut pass.seat, word, Event::Look(slot, Field::Key))
     }
 
     /// Reads an edge of a known node. Its slot is known from then on.
@@ -33,9 +34,10 @@ impl Shared {
         requires may { MayStep pass.old (Look slot (EdgeOn side)) }
         ensures { Stepped pass.old pass.new (Look slot (EdgeOn side)) (EdgeIs result) }
     {
+        let table = &self.table.shared;
         let word = self.layout.edge(slot, side) as usize;
         let event = Event::Look(slot, Field::Edge(side));
-        edge_of(load(&self.table.shared, &mut pass.seat, word, event))
+        edge_of(load(table, &mut pass.seat, word, event))
     }
 
     /// Reads the birth of a known node, or of a private slot.
@@ -44,8 +46,9 @@ impl Shared {
         requires may { MayStep pass.old (Look slot Birth) }
         ensures { Stepped pass.old pass.new (Look slot Birth) (BirthIs result) }
     {
+        let table = &self.table.shared;
         let word = self.layout.birth(slot) as usize;
-        load(&self.table.shared, &mut pass.seat, word, Event::Look(slot, Field::Birth))
+        load(table, &mut pass.seat, word, Event::Look(slot, Field::Birth))
     }
 
     /// Stores the key of a private slot.
@@ -54,9 +57,10 @@ impl Shared {
         requires may { MayStep pass.old (Fill slot KeyOf key) }
         ensures { Stepped pass.old pass.new (Fill slot KeyOf key) Filled }
     {
+        let table = &self.table.shared;
         let word = self.layout.key(slot) as usize;
         let event = Event::Fill(slot, Field::Key, key);
-        store(&self.table.shared, &mut pass.seat, word, key, event);
+        store(table, &mut pass.seat, word, key, event);
     }
 
     /// Stores an edge of a private slot, unmarked.
@@ -65,9 +69,10 @@ impl Shared {
         requires may { MayStep pass.old (Fill slot (EdgeOn side) child) }
         ensures { Stepped pass.old pass.new (Fill slot (EdgeOn side) child) Filled }
     {
+        let table = &self.table.shared;
         let word = self.layout.edge(slot, side) as usize;
         let event = Event::Fill(slot, Field::Edge(side), u64::from(child));
-        store(&self.table.shared, &mut pass.seat, word, word_to(child), event);
+        store(table, &mut pass.seat, word, word_to(child), event);
     }
 
     /// Stores the birth of a private slot: the one that was looked at and 1 more.
@@ -76,22 +81,35 @@ impl Shared {
         requires may { MayStep pass.old (Fill slot Birth birth) }
         ensures { Stepped pass.old pass.new (Fill slot Birth birth) Filled }
     {
+        let table = &self.table.shared;
         let word = self.layout.birth(slot) as usize;
         let event = Event::Fill(slot, Field::Birth, birth);
-        store(&self.table.shared, &mut pass.seat, word, birth, event);
+        store(table, &mut pass.seat, word, birth, event);
     }
 
     /// Puts a private internal node, over the leaf and a private leaf, in the place of the leaf. Lost: the edge that was found.
-    pub fn link(&self, pass: &mut Pass, parent: u32, side: Side, leaf: u32, new: u32) -> Result<(), Edge>
+    pub fn link(
+        &self,
+        pass: &mut Pass,
+        parent: u32,
+        side: Side,
+        leaf: u32,
+        new: u32,
+    ) -> Result<(), Edge>
         requires own { IsOf self.now pass.old }
         requires may { MayStep pass.old (Link parent side leaf new) }
         ensures { Stepped pass.old pass.new (Link parent side leaf new) (link_reply pass.old.view new result) }
     {
+        let table = &self.table.shared;
         let word = self.layout.edge(parent, side) as usize;
         let event = Event::Link(parent, side, leaf, new);
         let old = word_to(leaf);
-        let found = exchange(&self.table.shared, &mut pass.seat, word, old, word_to(new), event);
-        if found == old { Ok(()) } else { Err(edge_of(found)) }
+        let found = exchange(table, &mut pass.seat, word, old, word_to(new), event);
+        if found == old {
+            Ok(())
+        } else {
+            Err(edge_of(found))
+        }
     }
 
     /// Flags the edge to a leaf. Lost: the edge that was found.
@@ -100,11 +118,16 @@ impl Shared {
         requires may { MayStep pass.old (Flag parent side leaf) }
         ensures { Stepped pass.old pass.new (Flag parent side leaf) (flag_reply pass.old.view leaf result) }
     {
+        let table = &self.table.shared;
         let word = self.layout.edge(parent, side) as usize;
         let event = Event::Flag(parent, side, leaf);
         let old = word_to(leaf);
-        let found = exchange(&self.table.shared, &mut pass.seat, word, old, word_flagged(leaf), event);
-        if found == old { Ok(()) } else { Err(edge_of(found)) }
+        let found = exchange(table, &mut pass.seat, word, old, word_flagged(leaf), event);
+        if found == old {
+            Ok(())
+        } else {
+            Err(edge_of(found))
+        }
     }
 
     /// Tags an edge, and answers it as it was.
@@ -113,24 +136,35 @@ impl Shared {
         requires may { MayStep pass.old (Tag parent side) }
         ensures { Stepped pass.old pass.new (Tag parent side) (Was result) }
     {
+        let table = &self.table.shared;
         let word = self.layout.edge(parent, side) as usize;
         let event = Event::Tag(parent, side);
-        edge_of(mark(&self.table.shared, &mut pass.seat, word, TAG, event))
+        edge_of(mark(table, &mut pass.seat, word, TAG, event))
     }
 
     /// Cuts the nodes from the successor down to the parent off, with the flagged leaf beside each: the ancestor's edge leads
     /// from then on where the parent's edge on the side `keep` leads, which is known to be `kept`. Lost: the edge that was found.
-    pub fn splice(&self, pass: &mut Pass, ancestor: u32, side: Side, successor: u32, parent: u32, keep: Side, kept: Edge) -> Result<(), Edge>
+    pub fn splice(
+        &self,
+        pass: &mut Pass,
+        ancestor: u32,
+        side: Side,
+        successor: u32,
+        parent: u32,
+        keep: Side,
+        kept: Edge,
+    ) -> Result<(), Edge>
         requires own { IsOf self.now pass.old }
         requires may { MayStep pass.old (Splice ancestor side successor parent keep) }
         requires kept { read (knowledge pass.old.view) parent keep ≡ Some kept }
         ensures { Stepped pass.old pass.new (Splice ancestor side successor parent keep) (splice_reply pass.old.view successor parent keep result) }
     {
+        let table = &self.table.shared;
         let word = self.layout.edge(ancestor, side) as usize;
         let event = Event::Splice(ancestor, side, successor, parent, keep);
         let old = word_to(successor);
         let new = kept.untagged().pack();
-        let found = exchange(&self.table.shared, &mut pass.seat, word, old, new, event);
+        let found = exchange(table, &mut pass.seat, word, old, new, event);
         if found != old {
             return Err(edge_of(found));
         }

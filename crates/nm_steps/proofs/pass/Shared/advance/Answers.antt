@@ -1,6 +1,7 @@
-use Rattle.std.proofs.Common.{rules, ◌≡◌, sym, ◌∙◌, ap, refl, arith}
+use Rattle.std.proofs.Common.{rules, ◌≡◌, sym, ◌∙◌, ap, refl, arith, ◌≤◌}
 use Rattle.nm_steps.specs.Rules.{knowledge}
-use Rattle.nm_steps.proofs.Asking.{advance_seen, seen_small}
+use Rattle.nm_core.specs.Step.{last_number}
+use Rattle.nm_steps.proofs.Asking.{advance_seen}
 use Rattle.nm_steps.proofs.Noting.{tied_after, noted_moved, noted_behind}
 use Rattle.nm_steps.proofs.pass.Shared.advance.Goals as goal
 
@@ -8,13 +9,13 @@ pub unreachable-requires : goal.unreachable-requires
 unreachable-requires c = absurd (let s = advance_seen _ _ _ (rw (← c.pass.view_is) at c.requires.may) in search (rules, s))
 
 pub overflow_add-seen : goal.overflow_add-seen
-overflow_add-seen c = let small = seen_small _ _ _ c.pass.invariant.fits c.pass.invariant.log c.in-Some.seen (sym (ap (λ b. b.seen) c.pass.invariant.brief_is) ∙ (search rules)) in omega (arith, small)
+overflow_add-seen c = let small : c.in-Some.seen ≤ last_number = search (rules, c.pass.invariant.small) in omega (arith, small)
 
 pub overflow_add-pass : goal.overflow_add-pass
-overflow_add-pass c = let small = seen_small _ _ _ c.pass.invariant.fits c.pass.invariant.log c.in-Some.seen (sym (ap (λ b. b.seen) c.pass.invariant.brief_is) ∙ (search rules)) in omega (arith, small)
+overflow_add-pass c = let small : c.in-Some.seen ≤ last_number = search (rules, c.pass.invariant.small) in omega (arith, small)
 
 pub overflow_add-result : goal.overflow_add-result
-overflow_add-result c = let small = seen_small _ _ _ c.pass.invariant.fits c.pass.invariant.log c.in-Some.seen (sym (ap (λ b. b.seen) c.pass.invariant.brief_is) ∙ (search rules)) in omega (arith, small)
+overflow_add-result c = let small : c.in-Some.seen ≤ last_number = search (rules, c.pass.invariant.small) in omega (arith, small)
 
 pub invariant_of-pass : goal.invariant_of-pass
 invariant_of-pass c = tied_after _ _ _ _ _ _ _ c.pass.invariant (rw (← c.pass.view_is) at c.requires.may) c.exchange-found.ensures (noted_moved c.pass.inside.seat.me.0.layout (knowledge c.pass.inside.seat.me.0) c.pass.inside.brief c.in-Some.seen c.exchange-found.result c.pass.invariant.brief_is (search rules) (search rules))

@@ -1,0 +1,178 @@
+-- What the last entry of a log tells.
+use Rattle.std.proofs.Common.{◌≡◌, ◌≢◌, ℕ, zero, suc, ◌<◌, ◌≤◌, ◌^◌, ◌⊎◌, inl, inr, Bool, true, false, cond, ◌||◌, ◌&&◌, List, [], ◌∷◌, ◌++◌, refl, sym, ap, subst, ◌∙◌, arith, true≢false}
+use Rattle.std.specs.Prelude.{Option, Some, None, slice_get, is_some, nat_lt}
+use Rattle.std.proofs.lemmas.Bool.{cases_lt, cond_both, false_from_ne_true, or_parts, ltb-false}
+use Rattle.std.proofs.lemmas.Option.{none-some}
+use Rattle.nm_edge.specs.Edges.{Edge, other}
+use Rattle.nm_edge.specs.Layouts.{Layout}
+use Rattle.nm_edge.specs.declared.edge.Side.{Side}
+use Rattle.nm_edge.specs.declared.edge.Side.TheVariants.{Left, Right}
+use Rattle.nm_core.specs.declared.event.Field.TheVariants.{Key, Edge as EdgeOn}
+use Rattle.nm_core.specs.declared.event.Field.{Field}
+use Rattle.nm_core.specs.declared.event.Event.{Event}
+use Rattle.nm_core.specs.declared.event.Event.TheVariants.{Claim, Look, Link, Fill, Flag, Tag, Splice, Join}
+use Rattle.nm_core.specs.declared.reply.Reply.{Reply}
+use Rattle.nm_core.specs.declared.reply.Reply.TheVariants.{Claimed, Taken, KeyIs, EdgeIs, Was, Lost}
+use Rattle.nm_core.specs.declared.reply.Refused.TheVariants.{NoSlot}
+use Rattle.nm_core.specs.declared.ledger.Queued.{Queued}
+use Rattle.nm_core.specs.declared.ledger.Ledger.{Ledger}
+use Rattle.nm_core.specs.Memory.{Memory, node, edge, child, in_pool, infinity_0, opening}
+use Rattle.nm_core.specs.Ledgers.{held, queue_of}
+use Rattle.nm_core.specs.Knowledge.{Knowledge, knows, is_private}
+use Rattle.nm_core.specs.Step.{outside, refusal, reply, write, is_edge}
+use Rattle.nm_core.specs.Runs.{State, of, start, after, refusal_of, reply_of, applied}
+use Rattle.nm_core.specs.Walks.{Entry}
+use Rattle.nm_core.specs.Ordered.{Configuration, search_of}
+use Rattle.nm_core.proofs.Steps.{Allowed, allowed, passed, by_steps}
+use Rattle.nm_core.proofs.TreeSteps.{Lawful, high_from}
+use Rattle.nm_core.proofs.Pictures.{IsLive}
+use Rattle.nm_core.proofs.Views.{picture}
+use Rattle.nm_core.proofs.KnownBirths.{written_same}
+use Rattle.nm_order.specs.Logs.{known_by, IsLogOf}
+use Rattle.nm_order.specs.Facts.{Fact, HoldsIn, Holds}
+use Rattle.nm_order.specs.Facts.Fact.{KnowsSlot, IsTagged}
+use Rattle.nm_order.specs.Told.{TellsEdge, IsNew, OfEachEntry, TwinsAreToldFlagged, FlaggedEdgesLeadHigh, EdgesStayInside, RootLeads, TagsLead, LowKeysStandHigh, FlaggedEdgesStandHigh, ClaimsAreNew}
+use Rattle.nm_order.specs.Told.TellsEdge.{ByLook, ByLink, ByFlag, ByTag, BySplice}
+use Rattle.nm_order.proofs.OrderedLaws.{IsOrdered, law_of_state}
+use Rattle.nm_order.proofs.PartsOfRuns.{allowed_by_state}
+use Rattle.nm_order.proofs.Sentinels.{sentinels_of, sentinel_is_high, flags_stand_high}
+use Rattle.nm_order.proofs.KnowledgeStays.{Answers, answers}
+use Rattle.nm_order.proofs.LastEntries.{PartOf, LastEntry, last_entry}
+use Rattle.nm_order.proofs.LastEntries.PartOf.{Own, Resigns}
+use Rattle.nm_order.proofs.FactLaws.{told_holds}
+
+-- ---- the state before the last entry
+
+module _ (L : Layout) (enough : 5 ≤ L.nodes) (w : ℕ) (log : List Entry) (entry : Entry) (last : LastEntry L w log entry) where
+  abbrev pub state : State
+  state = last.before.state
+
+  pub lawful_before : (h : ℕ → ℕ) × Lawful last.before.state h
+  lawful_before = law_of_state L enough last.before last.told.is_ordered
+
+  pub allowed_before : Allowed last.before.state last.by entry.0
+  allowed_before = allowed last.before.state last.by entry.0 (allowed_by_state last.before last.by entry.0 last.is_allowed)
+
+  pub is_answered : Answers last.before.state.memory entry.0 entry.1
+  is_answered = by last.takes
+    where
+      by : PartOf w last.by entry.0 → Answers last.before.state.memory entry.0 entry.1
+      by (Own is) = subst (λ (r : Reply). Answers last.before.state.memory entry.0 r) last.replied (answers last.before.state lawful_before.0 lawful_before.1 last.by entry.0 allowed_before)
+      by (Resigns v is) = subst (λ (e : Event). Answers last.before.state.memory e entry.1) (sym is) tt
+
+  -- what was known then is what the log tells
+  pub known_then : of last.before.state w ≡ known_by L w log
+  known_then = last.told.knows
+
+  pub holds_then : (fact : Fact) → Holds L w log fact → HoldsIn (of last.before.state w) (search_of last.told.is_ordered.searches w) fact
+  holds_then fact holds = told_holds L w log last.before last.told fact holds
+
+told_edge : (m : Memory) (entry : Entry) (x : ℕ) (side : Side) (e : Edge) → Answers m entry.0 entry.1 → TellsEdge entry x side e → e ≡ edge m x side
+told_edge m _ _ _ _ is (ByLook x side e) = is
+told_edge m _ _ _ _ is (ByLink x leaf new side e) = is
+told_edge m _ _ _ _ is (ByFlag x leaf side e) = is
+told_edge m _ _ _ _ is (ByTag x side e) = is.0
+told_edge m _ _ _ _ is (BySplice x s p side keep e) = is
+
+pub live_then : (s : State) (h : ℕ → ℕ) (law : Lawful s h) (w x : ℕ) → knows (of s w) x ≡ true → IsLive (picture s h) x
+live_then s h law w x known = law.tree.guarded w x (record { from = x; known = known; path = []; ends = refl; is_slot = λ z. (let r = law.tree.known w x known in absurd (omega arith)) })
+
+twice_other : (side : Side) → other (other side) ≡ side
+twice_other Left = refl
+twice_other Right = refl
+
+pub twins_are_told : OfEachEntry TwinsAreToldFlagged
+twins_are_told L enough w log entry l x side e to tells holds = go (last_entry L enough w log entry l)
+  where
+    go : LastEntry L w log entry → e.flag ≡ true
+    go last =
+        let s = last.before.state in
+        let law = lawful_before L enough w log entry last in
+        let fact = holds_then L enough w log entry last (IsTagged x (other side) to) holds in
+        let is : edge s.memory x (other side) ≡ fact.0 = law.1.tree.tag_read w x (other side) fact.0 fact.1 fact.2 in
+        let tag : (edge s.memory x (other side)).tag ≡ true = ap (λ (y : Edge). y.tag) is ∙ fact.2 in
+        let flag : (edge s.memory x (other (other side))).flag ≡ true = law.1.tree.frozen x (other side) (live_then s law.0 law.1 w x (law.1.tree.reads w x (other side) fact.0 fact.1)) tag in
+        ap (λ (y : Edge). y.flag) (told_edge s.memory entry x side e (is_answered L enough w log entry last) tells) ∙ (ap (λ (d : Side). (edge s.memory x d).flag) (sym (twice_other side)) ∙ flag)
+
+pub flagged_lead_high : OfEachEntry FlaggedEdgesLeadHigh
+flagged_lead_high L enough w log entry l x side e tells known flag = go (last_entry L enough w log entry l)
+  where
+    go : LastEntry L w log entry → 6 ≤ e.slot
+    go last =
+        let s = last.before.state in
+        let law = lawful_before L enough w log entry last in
+        let is : e ≡ edge s.memory x side = told_edge s.memory entry x side e (is_answered L enough w log entry last) tells in
+        rw is (law.1.tree.flags x side (live_then s law.0 law.1 w x (holds_then L enough w log entry last (KnowsSlot x) known)) (ap (λ (y : Edge). y.flag) (sym is) ∙ flag))
+
+applied_layout : (s : State) (w : ℕ) (e : Event) → (applied s w e).layout ≡ s.layout
+unfolding applied
+applied_layout s w e = refl
+
+pub same_layout : (L : Layout) (turns : List (ℕ × Event)) → (after (start L) turns).layout ≡ L
+same_layout L turns = by_steps (λ s. s.layout ≡ L) step turns (start L) refl
+  where
+    step : (s : State) (w : ℕ) (e : Event) → s.layout ≡ L → Allowed s w e → (applied s w e).layout ≡ L
+    step s w e is ok = applied_layout s w e ∙ is
+
+pub edges_stay_inside : OfEachEntry EdgesStayInside
+edges_stay_inside L enough w log entry l x side e tells = go (last_entry L enough w log entry l)
+  where
+    go : LastEntry L w log entry → e.slot ≤ L.nodes
+    go last =
+        let law = lawful_before L enough w log entry last in
+        let o = last.told.is_ordered in
+        let layout : last.before.state.layout ≡ L = ap (λ (s : State). s.layout) o.leads ∙ same_layout L o.events in
+        rw (told_edge last.before.state.memory entry x side e (is_answered L enough w log entry last) tells) (subst (λ (M : Layout). child last.before.state.memory x side ≤ M.nodes) layout (law.1.tree.within x side))
+
+pub root_leads : OfEachEntry RootLeads
+root_leads L enough w log entry l e tells null = go (last_entry L enough w log entry l)
+  where
+    go : LastEntry L w log entry → ⊥
+    go last = (lawful_before L enough w log entry last).1.tree.second (ap (λ (y : Edge). y.slot) (sym (told_edge last.before.state.memory entry 2 Left e (is_answered L enough w log entry last) tells)) ∙ null)
+
+pub tags_lead : OfEachEntry TagsLead
+tags_lead L enough w log entry l x side e is = go (last_entry L enough w log entry l)
+  where
+    go : LastEntry L w log entry → e.slot ≢ 0
+    go last = (subst (λ (y : Entry). Answers last.before.state.memory y.0 y.1) is (is_answered L enough w log entry last)).1
+
+-- ---- keys
+
+in_range : (s : State) (w x : ℕ) → Allowed s w (Look x Key) → 1 ≤ x
+unfolding refusal
+in_range s w x ok = (high_from 1 s.layout.nodes x (passed (outside 1 s.layout.nodes x) NoSlot _ ok.event).0).0
+
+key_told : (s : State) (w x n : ℕ) → reply_of s w (Look x Key) ≡ KeyIs n → n ≡ (node s.memory x).key
+unfolding reply
+key_told s w x n is = cc
+
+pub low_keys_stand_high : OfEachEntry LowKeysStandHigh
+low_keys_stand_high L enough w log entry l x n is low = go (last_entry L enough w log entry l)
+  where
+    go : LastEntry L w log entry → 6 ≤ x
+    go last = elim (cases_lt 5 x) [
+      | inl high ↦ omega arith
+      | inr fixed ↦ (let k = keys last in let none = positive last in absurd (omega arith))
+    ]
+      where
+        asked : (last : LastEntry L w log entry) → Allowed last.before.state last.by (Look x Key)
+        asked last = subst (λ (e : Event). Allowed last.before.state last.by e) (ap (λ (y : Entry). y.0) is) (allowed_before L enough w log entry last)
+
+        positive : (last : LastEntry L w log entry) → 1 ≤ x
+        positive last = in_range last.before.state last.by x (asked last)
+
+        read_key : (last : LastEntry L w log entry) → n ≡ (node last.before.state.memory x).key
+        read_key last = key_told last.before.state last.by x n (subst (λ (y : Entry). reply_of last.before.state last.by y.0 ≡ y.1) is last.replied)
+
+        keys : (last : LastEntry L w log entry) → (1 ≤ x → x ≤ 5 → infinity_0 ≤ n)
+        keys last a b = rw (read_key last) (sentinel_is_high last.before.state (sentinels_of L last.before last.told.is_ordered) x a b)
+
+-- ---- the slot that a flagged edge is of
+
+pub flagged_stand_high : OfEachEntry FlaggedEdgesStandHigh
+flagged_stand_high L enough w log entry l x side e tells known flag = go (last_entry L enough w log entry l)
+  where
+    go : LastEntry L w log entry → 6 ≤ x
+    go last =
+        let is : e ≡ edge last.before.state.memory x side = told_edge last.before.state.memory entry x side e (is_answered L enough w log entry last) tells in
+        flags_stand_high L enough last.before last.told.is_ordered w x side (holds_then L enough w log entry last (KnowsSlot x) known) (ap (λ (y : Edge). y.flag) (sym is) ∙ flag)

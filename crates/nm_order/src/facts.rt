@@ -1,0 +1,20 @@
+//! Facts that stay: what a worker's log tells it under one pin, as laws over that log alone.
+ghost use Rattle.nm_order.specs.Facts.{FactsAreTrue, FactsStay, LaterWalksFindTheFlag};
+
+/// Each fact that a worker's log holds is true of the memory, whatever the others did since it was learned: marks stand, births stand,
+/// leaves are leaves, keys are those that were read, and what it knows is in nobody's hands.
+/// (Frozen edges never change: Natarajan and Mittal, section 3. No known slot is reused under a pin: Fraser, section 5.2.3.)
+pub fn facts_are_true()
+    ensures { FactsAreTrue }
+{}
+
+/// Each fact that a worker's log holds is held by it with one entry more, while no pin is confirmed or left.
+pub fn facts_stay()
+    ensures { FactsStay }
+{}
+
+/// Where a walk that began after a call's won flag came to the flagged leaf, the edge by which it came was read as flagged, and is so still:
+/// a splice that moves the leaf up copies its flag. (The copied flag of Natarajan and Mittal's cleanup, section 3.2.)
+pub fn later_walks_find_the_flag()
+    ensures { LaterWalksFindTheFlag }
+{}
