@@ -24,3 +24,4 @@ pub mod FlaggedSteps
 pub mod FlaggedLeaves
 pub mod LaterFlags
 pub mod LaterFlagLaws
+pub mod FrozenChains

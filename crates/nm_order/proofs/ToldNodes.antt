@@ -167,7 +167,7 @@ module _ (s : State) (h : ℕ → ℕ) (law : Lawful s h) (w : ℕ) (S : Search)
 
 -- ---- a won splice
 
-frozen_so : (A B : Fact → Type 0) → ((fact : Fact) → A fact → B fact) → {p : ℕ} {keep : Side} {x : ℕ} {ns : List NodeId} → FrozenTo A p keep x ns → FrozenTo B p keep x ns
+pub frozen_so : (A B : Fact → Type 0) → ((fact : Fact) → A fact → B fact) → {p : ℕ} {keep : Side} {x : ℕ} {ns : List NodeId} → FrozenTo A p keep x ns → FrozenTo B p keep x ns
 frozen_so A B f (ends_there tag flag b c) = ends_there (f _ tag) (f _ flag) (f _ b) (f _ c)
 frozen_so A B f (goes_down side tag flag b c rest) = goes_down side (f _ tag) (f _ flag) (f _ b) (f _ c) (frozen_so A B f rest)
 
