@@ -1,16 +1,16 @@
 -- A chain that is frozen by facts is found by the way of a splice: cut at its loops, it has no slot twice, and so it is no longer than the layout has nodes.
-use Rattle.std.proofs.Common.{◌≡◌, ◌≢◌, ℕ, zero, suc, ◌+◌, ◌<◌, ◌≤◌, ◌⊎◌, inl, inr, eqb, ◌==◌, Bool, true, false, cond, not, ◌&&◌, ◌||◌, List, [], ◌∷◌, ◌++◌, length, refl, sym, ap, subst, ◌∙◌, arith, true≢false}
-use Rattle.std.specs.Prelude.{Option, Some, None, is_some}
+use Rattle.std.proofs.Common.{◌≡◌, ◌≢◌, ℕ, zero, suc, ◌<◌, ◌≤◌, inl, inr, eqb, Bool, true, false, cond, not, ◌&&◌, List, [], ◌∷◌, length, refl, sym, ap, subst, ◌∙◌, arith, true≢false}
+use Rattle.std.specs.Prelude.{Some, None, is_some}
 use Rattle.std.specs.List.{list_any, IsDistinct, AllByRecursion}
 use native.Mathlib.Decide.{ℕ_discrete}
-use Rattle.std.proofs.lemmas.Bool.{eqb-true, eq-eqb, ne_eqb, and_from, or_cases, or_parts, false_from_ne_true}
+use Rattle.std.proofs.lemmas.Bool.{eqb-true, ne_eqb, and_from, or_cases, or_parts, false_from_ne_true}
 use Rattle.std.proofs.lemmas.Map.Steps.{length-le_from_distinct_below}
-use Rattle.nm_edge.specs.Edges.{Edge, other}
+use Rattle.nm_edge.specs.Edges.{other}
 use Rattle.nm_edge.specs.Layouts.{Layout}
 use Rattle.nm_edge.specs.declared.edge.Side.{Side}
 use Rattle.nm_edge.specs.declared.edge.Side.TheVariants.{Left, Right}
 use Rattle.nm_edge.specs.declared.node.NodeId.{NodeId}
-use Rattle.nm_core.specs.Memory.{Memory, edge, child}
+use Rattle.nm_core.specs.Memory.{child}
 use Rattle.nm_core.specs.Knowledge.{Knowledge, knows, read, is_flagged, is_tagged, slot_read, leads_on, onward, way}
 use Rattle.nm_core.specs.Step.{is_frozen}
 use Rattle.nm_core.specs.Searches.{Search}
@@ -21,9 +21,9 @@ use Rattle.nm_core.proofs.Ways.{way_here, way_next, some_before}
 use Rattle.nm_core.proofs.Pictures.{IsLive}
 use Rattle.nm_core.proofs.Views.{picture}
 use Rattle.nm_core.proofs.TreeSteps.{Lawful}
-use Rattle.nm_order.specs.Logs.{known_by, IsLogOf}
+use Rattle.nm_order.specs.Logs.{known_by}
 use Rattle.nm_order.specs.Facts.{Fact, HoldsIn, Holds}
-use Rattle.nm_order.specs.Facts.Fact.{IsTagged, IsFlagged, IsBorn}
+use Rattle.nm_order.specs.Facts.Fact.{IsTagged, IsFlagged}
 use Rattle.nm_order.specs.Told.{FrozenTo, FrozenChainsMayBeCut}
 use Rattle.nm_order.specs.Told.FrozenTo.{ends_there, goes_down}
 use Rattle.nm_order.proofs.OrderedLaws.{law_of_state}
