@@ -41,6 +41,7 @@ pub use laws::{
     pins_stay_near, plain_runs_are_runs, runs_can_be_split, searches_only_grow,
     splices_cut_their_nodes, what_was_read_stands,
 };
+pub use knowledge::Brief;
 pub use ledger::{Ledger, Nodes, Queued};
 pub use ledgers::Ledgers;
 pub use places::Places;

@@ -80,7 +80,7 @@ pub record IsOrdered (L : Layout) (c : Configuration) : Type 0 where
   pub leads : c.state ≡ after (start L) events
   pub law : OrderLaw c.state searches
 
-neither : (a b : Option Refused) → or_else a b ≡ None → (a ≡ None) × (b ≡ None)
+pub neither : (a b : Option Refused) → or_else a b ≡ None → (a ≡ None) × (b ≡ None)
 neither None None h = (refl, refl)
 neither None (Some r) h = absurd (none-some r (sym h))
 neither (Some r) b h = absurd (none-some r (sym h))
@@ -147,7 +147,7 @@ module _ (L : Layout) (enough : 5 ≤ L.nodes) (c : Configuration) (o : IsOrdere
       null d = ap (λ (s : State). child s.memory 0 d) o.leads ∙ (let l = lawful L enough o.events in ap (λ (e : Edge). e.slot) (l.law.tree.nothing d))
 
   -- the law of the walks that came to a slot
-  walk_law : (u k : ℕ) (a : Arrival) (h : HasCome c u k a) → WalkLaw (child m) (key m) (knows (of c.state u)) k (search_of h.searches u).walks
+  pub walk_law : (u k : ℕ) (a : Arrival) (h : HasCome c u k a) → WalkLaw (child m) (key m) (knows (of c.state u)) k (search_of h.searches u).walks
   walk_law u k a h = subst (λ (n : ℕ). WalkLaw (child m) (key m) (knows (of c.state u)) n (search_of h.searches u).walks) h.is_key (by (search_of h.searches u).call h.is_call all)
     where
       same : o.searches ≡ h.searches

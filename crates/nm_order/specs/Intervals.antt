@@ -1,17 +1,18 @@
 -- The interval of a node: the keys whose search from the root comes to it; and what ordered runs keep of it.
 use Rattle.std.specs.Prelude.{◌≡◌, ◌⊎◌, ◌↔◌, ℕ, ◌<◌, ◌≤◌, true, false, Contains, AllPairs, Ok, List, [], ◌∷◌, slice_get, All, Some}
+use Rattle.nm_edge.specs.Edges.{to}
 use Rattle.nm_edge.specs.Layouts.{Layout}
 use Rattle.nm_edge.specs.declared.edge.Side.{Side}
 use Rattle.nm_edge.specs.Keys.{IsKey}
 use Rattle.nm_core.specs.declared.event.Event.{Event}
 use Rattle.nm_edge.specs.declared.node.NodeId.{NodeId}
 use Rattle.nm_core.specs.declared.event.Op.{Op}
-use Rattle.nm_core.specs.declared.event.Op.TheVariants.{Insert}
-use Rattle.nm_core.specs.declared.event.Event.TheVariants.{SightFor, Link}
-use Rattle.nm_core.specs.declared.reply.Reply.TheVariants.{Linked}
+use Rattle.nm_core.specs.declared.event.Op.TheVariants.{Insert, Delete}
+use Rattle.nm_core.specs.declared.event.Event.TheVariants.{SightFor, Link, Flag}
+use Rattle.nm_core.specs.declared.reply.Reply.TheVariants.{Linked, Flagged}
 use Rattle.nm_core.specs.declared.walks.Call.{Call}
 use Rattle.nm_core.specs.declared.walks.Arrival.{Arrival}
-use Rattle.nm_core.specs.Memory.{Memory, node, child, is_leaf, infinity_0}
+use Rattle.nm_core.specs.Memory.{Memory, node, edge, child, is_leaf, named, infinity_0}
 use Rattle.nm_core.specs.Paths.{at, Reached}
 use Rattle.nm_core.specs.Reports.{keys}
 use Rattle.nm_core.specs.Searches.{Search, side_of}
@@ -91,6 +92,20 @@ pub record Gains (before after : Memory) (k : ℕ) : Type 0 where
 abbrev pub LinksInsert : Configuration → Type 0
 LinksInsert c = (w p : ℕ) (side : Side) (leaf new : ℕ) (n : NodeId) → outcome_in c (w, Link p side leaf new) ≡ Ok (Linked n)
     → (k : ℕ) × IsCalled c w Insert k × Gains c.state.memory (next_in c (w, Link p side leaf new)).state.memory k
+
+-- a flag was won on the edge to a reached leaf with key k, which was not marked, and names that leaf
+pub record Marks (m : Memory) (parent : ℕ) (side : Side) (leaf : ℕ) (flagged : NodeId) (k : ℕ) : Type 0 where
+  pub parent_reached : Reached m parent
+  pub unmarked : edge m parent side ≡ to leaf
+  pub reached : Reached m leaf
+  pub childless : is_leaf (node m leaf) ≡ true
+  pub has_key : key m leaf ≡ k
+  pub names : flagged ≡ named m leaf
+
+-- a flag that is won is one of a call to delete, and marks the leaf of that call's key
+abbrev pub FlagsMarkLeaves : Configuration → Type 0
+FlagsMarkLeaves c = (w p : ℕ) (side : Side) (leaf : ℕ) (n : NodeId) → outcome_in c (w, Flag p side leaf) ≡ Ok (Flagged n)
+    → (k : ℕ) × IsCalled c w Delete k × Marks c.state.memory p side leaf n k
 
 -- the keys that a core tells are those of the set, without the sentinels
 abbrev pub KeysTellTheSet : Configuration → Type 0

@@ -6,3 +6,4 @@ pub mod PackedWrites
 pub mod PackedEvents
 pub mod PackedSizes
 pub mod PackedReplies
+pub mod MarkedEdges

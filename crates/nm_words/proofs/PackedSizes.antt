@@ -56,7 +56,7 @@ words_below L m f fits range few keys h = rw (field_read L m fits f h) (go f)
 -- ---- in every run
 
 -- a list with one element written still has what it had everywhere, where the new one has it too
-set_keeps : {X : Type 0} (P : X → Type 0) (xs : List X) (i j : ℕ) (x d : X) → P x → P (get_or xs j d) → P (get_or (set xs i x) j d)
+pub set_keeps : {X : Type 0} (P : X → Type 0) (xs : List X) (i j : ℕ) (x d : X) → P x → P (get_or xs j d) → P (get_or (set xs i x) j d)
 set_keeps P [] i j x d new old = old
 set_keeps P (y ∷ xs) zero zero x d new old = new
 set_keeps P (y ∷ xs) zero (suc j) x d new old = old

@@ -1,7 +1,7 @@
 -- A whole memory as its words, one list in the order of the layout, and what each event does to it.
 use Rattle.std.specs.Prelude.{◌≡◌, ℕ, ◌+◌, ◌-◌, ◌*◌, ◌/◌, ◌^◌, ◌<◌, ◌≤◌, ◌==◌, ◌⊎◌, Bool, false, true, List, [], ◌∷◌, ◌++◌, map, flat_map, length, take, drop, if◌then◌else◌, slice_index, slice_set, bit_and, bit_or, Option, Some, None, unwrap_or, All}
 use Rattle.std.specs.List.{range_with_len}
-use Rattle.nm_edge.specs.Edges.{Edge, word_of}
+use Rattle.nm_edge.specs.Edges.{Edge, IsEdge, word_of}
 use Rattle.nm_edge.specs.Layouts.{Layout}
 use Rattle.nm_edge.specs.Words.{Field, at_epoch, at_note, at_key, at_edge, at_birth, at_row, IsField, IsSlot, rows, word, words, pool_place}
 use Rattle.nm_edge.specs.declared.edge.Side.{Side}
@@ -206,6 +206,10 @@ WordsAreBelow = (L : Layout) (m : Memory) (f : Field) → Fits L m → InRange L
 
 abbrev pub StateIsInRange : State → Type 0
 StateIsInRange s = InRange s.layout s.memory
+
+-- no null edge has a mark, so that each edge is found again in its word
+abbrev pub NullEdgesAreUnmarked : State → Type 0
+NullEdgesAreUnmarked s = (x : ℕ) (side : Side) → IsEdge (edge s.memory x side)
 
 -- a key that is stored is a word
 abbrev pub StoresAWord : Event → Type 0

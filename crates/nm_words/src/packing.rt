@@ -1,6 +1,6 @@
 //! A whole memory as its words, in the order of the layout: what each word tells, and what each write changes.
 ghost use Rattle.nm_core.specs.Laws.{OfEachState};
-ghost use Rattle.nm_words.specs.Packing.{AtMostOneWordChanges, BirthIsOneWord, EachBitIsItsSlot, EachFieldHasAWord, EachWordIsItsField, EdgeIsOneWord, EpochIsOneWord, EventsTouchOneWord, FixedBitsAreZero, GivingSetsABit, KeyIsOneWord, NoteIsOneWord, OpeningOf135, SpareBitsAreZero, StateFits, StateIsInRange, TakingClearsABit, WordsAreBelow, WordsStayBelow};
+ghost use Rattle.nm_words.specs.Packing.{AtMostOneWordChanges, BirthIsOneWord, EachBitIsItsSlot, EachFieldHasAWord, EachWordIsItsField, EdgeIsOneWord, EpochIsOneWord, EventsTouchOneWord, FixedBitsAreZero, GivingSetsABit, KeyIsOneWord, NoteIsOneWord, NullEdgesAreUnmarked, OpeningOf135, SpareBitsAreZero, StateFits, StateIsInRange, TakingClearsABit, WordsAreBelow, WordsStayBelow};
 ghost use Rattle.nm_words.specs.Told.{RepliesAreTold};
 
 /// Of a memory whose lists are as long as the layout says, there are as many words as the layout has, and the word of each field is that field.
@@ -37,10 +37,11 @@ pub fn events_touch_one_word()
     ensures most { OfEachState AtMostOneWordChanges }
 {}
 
-/// In every run the epoch, the notes and the births are at most 2^62, and no edge leads to a slot above the last one.
+/// In every run the epoch, the notes and the births are at most 2^62, no edge leads to a slot above the last one, and no null edge has a mark.
 /// Where keys are below 2^64 too, each word is; so each is in every run whose fills store keys below 2^64.
 pub fn words_have_room()
     ensures range { OfEachState StateIsInRange }
+    ensures marks { OfEachState NullEdgesAreUnmarked }
     ensures below { WordsAreBelow }
     ensures runs { WordsStayBelow }
 {}

@@ -1,4 +1,5 @@
 use Rattle.nm_words.proofs.PackedSizes.{each_state_in_range, words_below, words_stay_below}
+use Rattle.nm_words.proofs.MarkedEdges.{each_null_unmarked}
 use Rattle.nm_words.proofs.packing.words_have_room.Goals as goal
 
 pub returns-clause-range : goal.returns-clause-range
@@ -9,3 +10,6 @@ returns-clause-below c = words_below
 
 pub returns-clause-runs : goal.returns-clause-runs
 returns-clause-runs c = words_stay_below
+
+pub returns-clause-marks : goal.returns-clause-marks
+returns-clause-marks c = each_null_unmarked

@@ -1,0 +1,142 @@
+-- One event: an ordered core refuses a second flag of a call, so its flag stays, and the arrivals behind it only grow.
+use Rattle.std.proofs.Common.{◌≡◌, ℕ, Bool, true, false, List, true≢false, refl, sym, ap, subst, ◌∙◌, Result, Ok, Err}
+use Rattle.std.specs.Prelude.{Option, Some, None, is_none, Contains}
+use Rattle.std.specs.List.{list_any}
+use Rattle.std.proofs.lemmas.Bool.{and_parts, not-false}
+use Rattle.std.proofs.lemmas.Option.{none-some}
+use Rattle.nm_edge.specs.declared.edge.Side.{Side}
+use Rattle.nm_edge.specs.declared.node.NodeId.{NodeId}
+use Rattle.nm_core.specs.declared.event.Op.{Op}
+use Rattle.nm_core.specs.declared.event.Op.TheVariants.{Has, Insert, Delete}
+use Rattle.nm_core.specs.declared.event.Event.{Event}
+use Rattle.nm_core.specs.declared.event.Event.TheVariants.{Sight, SightFor, Leave, LeaveWith, Look, Link, Flag, Splice}
+use Rattle.nm_core.specs.declared.event.Field.{Field}
+use Rattle.nm_core.specs.declared.reply.Reply.{Reply}
+use Rattle.nm_core.specs.declared.reply.Reply.TheVariants.{Pinned, Departed, Linked, Flagged, Cut}
+use Rattle.nm_core.specs.declared.reply.Refused.{Refused}
+use Rattle.nm_core.specs.declared.reply.Refused.TheVariants.{NotOrdered}
+use Rattle.nm_core.specs.declared.walks.Call.{Call}
+use Rattle.nm_core.specs.declared.walks.Arrival.{Arrival}
+use Rattle.nm_core.specs.Maps.{or_else}
+use Rattle.nm_core.specs.Runs.{of, refused, reply_of, answered}
+use Rattle.nm_core.specs.Searches.{Search, searched, look_for}
+use Rattle.nm_core.specs.Walks.{Entry, GrowsTo, begins_anew}
+use Rattle.nm_core.specs.Ordered.{Configuration, search_of, may_flag_at, deletes, flags_in_order, disorder, disorder_in, disorder_among, refused_in, outcome_in}
+use Rattle.nm_core.proofs.Steps.{passed}
+use Rattle.nm_order.specs.WalksToArrivals.{is_won_flag}
+use Rattle.nm_order.specs.FlagsOfCalls.{FlagsStay, LaterArrivalsOnlyGrow}
+use Rattle.nm_order.proofs.ArrivalsOfLooks.{grows_by}
+
+-- ---- a second flag is refused
+
+neither : (a b : Option Refused) → or_else a b ≡ None → b ≡ None
+neither None b h = h
+neither (Some r) b h = absurd (none-some r (sym h))
+
+unflagged : (o : Option NodeId) → is_none o ≡ true → o ≡ None
+unflagged None is = refl
+unflagged (Some n) is = absurd (true≢false (sym is))
+
+-- a flag is in order only where the call has none
+flag_in_order : (s : Search) (o : Option Call) (p : ℕ) (side : Side) (leaf : ℕ) → flags_in_order s o p side leaf ≡ true → s.flagged ≡ None
+flag_in_order s None p side leaf is = absurd (true≢false (sym is))
+flag_in_order s (Some call) p side leaf is = by call.op is
+  where
+    by : (op : Op) → deletes s op call.key p side leaf ≡ true → s.flagged ≡ None
+    by Has is = absurd (true≢false (sym is))
+    by Insert is = absurd (true≢false (sym is))
+    by Delete is = unflagged s.flagged (and_parts (is_none s.flagged) (list_any (may_flag_at call.key p side leaf) s.walks) is).0
+
+-- and so it is allowed
+flag_allowed : (c : Configuration) (searches : List Search) → c.searches ≡ Some searches → (w p : ℕ) (side : Side) (leaf : ℕ) → refused_in c w (Flag p side leaf) ≡ None → (search_of searches w).flagged ≡ None
+unfolding refused_in
+flag_allowed c searches are w p side leaf allowed =
+    let s : Search = search_of searches w in
+    let in_order : disorder (of c.state w) s (Flag p side leaf) ≡ None = ap (λ ss. disorder_among ss (of c.state w) w (Flag p side leaf)) (sym are) ∙ neither (refused c.state w (Flag p side leaf)) (disorder_in c w (Flag p side leaf)) allowed in
+    flag_in_order s s.call p side leaf (not-false (flags_in_order s s.call p side leaf) (passed _ NotOrdered None in_order).0)
+
+-- ---- one event
+
+-- the flag that an entry leaves
+abbrev pub flag_by : Option NodeId → Entry → Option NodeId
+flag_by o (Flag p side leaf, Flagged n) = Some n
+flag_by o _ = o
+
+pub flag_added : (s : Search) (e : Event) (r : Reply) → begins_anew (e, r) ≡ false → (searched s e r).flagged ≡ flag_by s.flagged (e, r)
+unfolding searched
+flag_added s Sight (Pinned n) stands = absurd (true≢false stands)
+flag_added s (SightFor op key) (Pinned n) stands = absurd (true≢false stands)
+flag_added s Leave Departed stands = absurd (true≢false stands)
+flag_added s (LeaveWith answer) Departed stands = absurd (true≢false stands)
+flag_added s (Look slot f) r stands = by s.call
+  where
+    by : (o : Option Call) → (look_for s o slot f r).flagged ≡ s.flagged
+    by None = refl
+    by (Some call) = refl
+flag_added s (Link p side leaf new) (Linked n) stands = refl
+flag_added s (Flag p side leaf) (Flagged n) stands = refl
+flag_added s (Splice a side x p keep) (Cut ns) stands = refl
+flag_added s e r stands = refl
+
+-- what is won as a flag
+pub record IsWonFlag (e : Event) (r : Reply) : Type 0 where
+  pub parent : ℕ
+  pub side : Side
+  pub leaf : ℕ
+  pub node : NodeId
+  pub is_flag : e ≡ Flag parent side leaf
+  pub is_won : r ≡ Flagged node
+
+pub won_flag : (e : Event) (r : Reply) → is_won_flag (e, r) ≡ true → IsWonFlag e r
+won_flag (Flag p side leaf) (Flagged n) is = record { parent = p; side = side; leaf = leaf; node = n; is_flag = refl; is_won = refl }
+won_flag e r is = absurd (true≢false (sym is))
+
+pub kept_flag : (o : Option NodeId) (e : Event) (r : Reply) → is_won_flag (e, r) ≡ false → flag_by o (e, r) ≡ o
+kept_flag o (Flag p side leaf) (Flagged n) is = absurd (true≢false is)
+kept_flag o e r is = refl
+
+same_ok : (r q : Reply) → ◌≡◌ {A = Result Reply Refused} (Ok r) (Ok q) → r ≡ q
+same_ok r q h = cc
+
+differ : (x : Refused) (r : Reply) → ◌≡◌ {A = Result Reply Refused} (Err x) (Ok r) → ⊥
+differ x r h = cc
+
+-- a won flag is allowed only where there was none
+pub first_flag : (c : Configuration) (searches : List Search) → c.searches ≡ Some searches → (w : ℕ) (e : Event) (r : Reply) → refused_in c w e ≡ None → is_won_flag (e, r) ≡ true → (search_of searches w).flagged ≡ None
+first_flag c searches are w e r allowed won =
+    let f : IsWonFlag e r = won_flag e r won in
+    flag_allowed c searches are w f.parent f.side f.leaf (subst (λ (x : Event). refused_in c w x ≡ None) f.is_flag allowed)
+
+pub flags_stay : FlagsStay
+unfolding outcome_in
+flags_stay c searches are w e r answers stands n has = flag_added (search_of searches w) e r stands ∙ by (is_won_flag (e, r)) refl
+  where
+    allowed : (o : Option Refused) → refused_in c w e ≡ o → ◌≡◌ {A = Result Reply Refused} (answered o (reply_of c.state w e)) (Ok r) → refused_in c w e ≡ None
+    allowed None is told = is
+    allowed (Some x) is told = absurd (differ x r told)
+
+    by : (b : Bool) → is_won_flag (e, r) ≡ b → flag_by (search_of searches w).flagged (e, r) ≡ Some n
+    by true won = absurd (none-some n (sym (first_flag c searches are w e r (allowed (refused_in c w e) refl answers) won) ∙ has))
+    by false not_won = kept_flag (search_of searches w).flagged e r not_won ∙ has
+
+-- ---- later arrivals
+
+same_arrival : (a : Arrival) → GrowsTo a a
+same_arrival a = record { slot = refl; parent = refl; side = refl; key = λ v is. is; ended = λ is. is }
+
+later_look : (s : Search) (slot : ℕ) (f : Field) (r : Reply) (call : Option Call) (flag : Option NodeId) → s.flagged ≡ flag → (a : Arrival) → Contains s.later a → (b : Arrival) × Contains (look_for s call slot f r).later b × GrowsTo a b
+later_look s slot f r None flag is a there = (a, there, same_arrival a)
+later_look s slot f r (Some call) None is a there = rw is (a, there, same_arrival a)
+later_look s slot f r (Some call) (Some n) is a there = rw is (grows_by call.key s.later (Look slot f, r) a there)
+
+pub later_grows : LaterArrivalsOnlyGrow
+unfolding searched
+later_grows s Sight (Pinned n) stands a there = absurd (true≢false stands)
+later_grows s (SightFor op key) (Pinned n) stands a there = absurd (true≢false stands)
+later_grows s Leave Departed stands a there = absurd (true≢false stands)
+later_grows s (LeaveWith answer) Departed stands a there = absurd (true≢false stands)
+later_grows s (Look slot f) r stands a there = later_look s slot f r s.call s.flagged refl a there
+later_grows s (Link p side leaf new) (Linked n) stands a there = (a, there, same_arrival a)
+later_grows s (Flag p side leaf) (Flagged n) stands a there = (a, there, same_arrival a)
+later_grows s (Splice x side y p keep) (Cut ns) stands a there = (a, there, same_arrival a)
+later_grows s e r stands a there = (a, there, same_arrival a)

@@ -1,0 +1,245 @@
+-- A call wins one link or one flag at most, and its answer tells whether it did.
+use Rattle.std.proofs.Common.{◌≡◌, ℕ, Bool, true, false, cond, not, ◌&&◌, refl, sym, ap, subst, ◌∙◌, true≢false}
+use Rattle.std.specs.Prelude.{Option, Some, None, is_some, is_none}
+use Rattle.std.specs.List.{list_any}
+use Rattle.std.proofs.lemmas.Bool.{and_parts, or_parts, not-false}
+use Rattle.std.proofs.lemmas.Option.{same_Some}
+use Rattle.nm_edge.specs.declared.edge.Side.{Side}
+use Rattle.nm_edge.specs.declared.node.NodeId.{NodeId}
+use Rattle.nm_core.specs.declared.event.Field.{Field}
+use Rattle.nm_core.specs.declared.event.Op.{Op}
+use Rattle.nm_core.specs.declared.event.Op.TheVariants.{Has, Insert, Delete}
+use Rattle.nm_core.specs.declared.event.Event.{Event}
+use Rattle.nm_core.specs.declared.event.Event.TheVariants.{Sight, SightFor, Leave, LeaveWith, Look, Link, Flag, Splice}
+use Rattle.nm_core.specs.declared.reply.Reply.{Reply}
+use Rattle.nm_core.specs.declared.reply.Reply.TheVariants.{Pinned, Departed, Linked, Flagged, Cut}
+use Rattle.nm_core.specs.declared.reply.Refused.TheVariants.{NotOrdered, NoAnswer}
+use Rattle.nm_core.specs.declared.walks.Call.{Call}
+use Rattle.nm_core.specs.Maps.{is_number}
+use Rattle.nm_core.specs.Knowledge.{Knowledge, draft_of}
+use Rattle.nm_core.specs.Searches.{Search, searched, look_for}
+use Rattle.nm_core.specs.Walks.{begins_anew}
+use Rattle.nm_core.specs.Ordered.{disorder, shows, shows_call, inserts, deletes, links_in_order, flags_in_order, may_link_at, may_flag_at, new_leaf, has_removed}
+use Rattle.nm_order.specs.Exchanges.{is_won_link, links_told, flags_told}
+use Rattle.nm_order.specs.WalksToArrivals.{is_won_flag}
+use Rattle.nm_core.proofs.Steps.{passed}
+use Rattle.nm_order.proofs.OwnExchanges.{IsOnce}
+
+-- ---- links
+
+pub record IsLinkEntry (e : Event) (r : Reply) : Type 0 where
+  pub parent : ℕ
+  pub side : Side
+  pub leaf : ℕ
+  pub new : ℕ
+  pub node : NodeId
+  pub is_event : e ≡ Link parent side leaf new
+  pub is_reply : r ≡ Linked node
+
+pub link_entry : (e : Event) (r : Reply) → is_won_link (e, r) ≡ true → IsLinkEntry e r
+link_entry (Link parent side leaf new) (Linked n) such = record { parent = parent; side = side; leaf = leaf; new = new; node = n; is_event = refl; is_reply = refl }
+link_entry e r such = absurd (true≢false (sym such))
+
+abbrev pub has_linked : Search → Bool
+has_linked S = S.linked
+
+look_linked : (S : Search) (o : Option Call) (x : ℕ) (f : Field) (r : Reply) → (look_for S o x f r).linked ≡ S.linked
+look_linked S None x f r = refl
+look_linked S (Some c) x f r = refl
+
+link_anew : (S : Search) (e : Event) (r : Reply) → begins_anew (e, r) ≡ true → has_linked (searched S e r) ≡ false
+unfolding searched
+link_anew S Sight (Pinned n) anew = refl
+link_anew S (SightFor op key) (Pinned n) anew = refl
+link_anew S Leave Departed anew = refl
+link_anew S (LeaveWith answer) Departed anew = refl
+link_anew S e r anew = absurd (true≢false (sym anew))
+
+link_kept : (S : Search) (e : Event) (r : Reply) → begins_anew (e, r) ≡ false → is_won_link (e, r) ≡ false → has_linked (searched S e r) ≡ has_linked S
+unfolding searched
+link_kept S Sight (Pinned n) old plain = absurd (true≢false old)
+link_kept S (SightFor op key) (Pinned n) old plain = absurd (true≢false old)
+link_kept S Leave Departed old plain = absurd (true≢false old)
+link_kept S (LeaveWith answer) Departed old plain = absurd (true≢false old)
+link_kept S (Look x f) r old plain = look_linked S S.call x f r
+link_kept S (Link p d leaf new) (Linked n) old plain = absurd (true≢false plain)
+link_kept S (Flag p d leaf) (Flagged n) old plain = refl
+link_kept S (Splice a d x p keep) (Cut ns) old plain = refl
+link_kept S e r old plain = refl
+
+link_done : (S : Search) (e : Event) (r : Reply) → is_won_link (e, r) ≡ true → has_linked (searched S e r) ≡ true
+unfolding searched
+link_done S (Link p d leaf new) (Linked n) such = refl
+link_done S e r such = absurd (true≢false (sym such))
+
+-- a link in order is of a call to insert that has not linked
+pub record MayLink (S : Search) : Type 0 where
+  pub call : Call
+  pub is_call : S.call ≡ Some call
+  pub is_op : call.op ≡ Insert
+  pub fresh : S.linked ≡ false
+
+pub may_link : (k : Knowledge) (S : Search) (p : ℕ) (d : Side) (leaf new : ℕ) → disorder k S (Link p d leaf new) ≡ None → MayLink S
+may_link k S p d leaf new order = by S.call refl (not-false (links_in_order k S S.call p d leaf new) (passed _ NotOrdered None order).0)
+  where
+    no : (b : Bool) → not b ≡ true → b ≡ false
+    no true h = absurd (true≢false (sym h))
+    no false h = refl
+
+    by : (o : Option Call) → S.call ≡ o → links_in_order k S o p d leaf new ≡ true → MayLink S
+    by None is t = absurd (true≢false (sym t))
+    by (Some call) is t = on call.op refl t
+      where
+        on : (op : Op) → call.op ≡ op → inserts k S op call.key p d leaf new ≡ true → MayLink S
+        on Has i t = absurd (true≢false (sym t))
+        on Delete i t = absurd (true≢false (sym t))
+        on Insert i t = record {
+          call = call;
+          is_call = is;
+          is_op = i;
+          fresh = no S.linked (and_parts (not S.linked) (is_number (new_leaf k leaf new).key call.key && list_any (may_link_at (draft_of k new) call.key p d leaf) S.walks) t).0;
+        }
+
+link_order : (k : Knowledge) (S : Search) (e : Event) (r : Reply) → disorder k S e ≡ None → is_won_link (e, r) ≡ true → MayLink S
+link_order k S e r order such = let l = link_entry e r such in may_link k S l.parent l.side l.leaf l.new (subst (λ (x : Event). disorder k S x ≡ None) l.is_event order)
+
+pub links_once : IsOnce is_won_link has_linked Insert
+links_once = record {
+  anew = link_anew;
+  kept = link_kept;
+  done = link_done;
+  once = λ k S e r order such. (link_order k S e r order such).fresh;
+  of_op = λ k S e r order such call is. let m = link_order k S e r order such in ap (λ (c : Call). c.op) (same_Some call m.call (sym is ∙ m.is_call)) ∙ m.is_op;
+}
+
+-- ---- flags
+
+pub record IsFlagEntry (e : Event) (r : Reply) : Type 0 where
+  pub parent : ℕ
+  pub side : Side
+  pub leaf : ℕ
+  pub node : NodeId
+  pub is_event : e ≡ Flag parent side leaf
+  pub is_reply : r ≡ Flagged node
+
+pub flag_entry : (e : Event) (r : Reply) → is_won_flag (e, r) ≡ true → IsFlagEntry e r
+flag_entry (Flag parent side leaf) (Flagged n) such = record { parent = parent; side = side; leaf = leaf; node = n; is_event = refl; is_reply = refl }
+flag_entry e r such = absurd (true≢false (sym such))
+
+abbrev pub has_flagged : Search → Bool
+has_flagged S = is_some S.flagged
+
+look_flagged : (S : Search) (o : Option Call) (x : ℕ) (f : Field) (r : Reply) → is_some (look_for S o x f r).flagged ≡ is_some S.flagged
+look_flagged S None x f r = refl
+look_flagged S (Some c) x f r = refl
+
+flag_anew : (S : Search) (e : Event) (r : Reply) → begins_anew (e, r) ≡ true → has_flagged (searched S e r) ≡ false
+unfolding searched
+flag_anew S Sight (Pinned n) anew = refl
+flag_anew S (SightFor op key) (Pinned n) anew = refl
+flag_anew S Leave Departed anew = refl
+flag_anew S (LeaveWith answer) Departed anew = refl
+flag_anew S e r anew = absurd (true≢false (sym anew))
+
+flag_kept : (S : Search) (e : Event) (r : Reply) → begins_anew (e, r) ≡ false → is_won_flag (e, r) ≡ false → has_flagged (searched S e r) ≡ has_flagged S
+unfolding searched
+flag_kept S Sight (Pinned n) old plain = absurd (true≢false old)
+flag_kept S (SightFor op key) (Pinned n) old plain = absurd (true≢false old)
+flag_kept S Leave Departed old plain = absurd (true≢false old)
+flag_kept S (LeaveWith answer) Departed old plain = absurd (true≢false old)
+flag_kept S (Look x f) r old plain = look_flagged S S.call x f r
+flag_kept S (Link p d leaf new) (Linked n) old plain = refl
+flag_kept S (Flag p d leaf) (Flagged n) old plain = absurd (true≢false plain)
+flag_kept S (Splice a d x p keep) (Cut ns) old plain = refl
+flag_kept S e r old plain = refl
+
+flag_done : (S : Search) (e : Event) (r : Reply) → is_won_flag (e, r) ≡ true → has_flagged (searched S e r) ≡ true
+unfolding searched
+flag_done S (Flag p d leaf) (Flagged n) such = refl
+flag_done S e r such = absurd (true≢false (sym such))
+
+-- a flag in order is of a call to delete that has not flagged, where a walk of it ended at the leaf, and that had its key
+pub record MayFlag (S : Search) (p : ℕ) (d : Side) (leaf : ℕ) : Type 0 where
+  pub call : Call
+  pub is_call : S.call ≡ Some call
+  pub is_op : call.op ≡ Delete
+  pub fresh : is_some S.flagged ≡ false
+  pub walked : list_any (may_flag_at call.key p d leaf) S.walks ≡ true
+
+pub may_flag : (k : Knowledge) (S : Search) (p : ℕ) (d : Side) (leaf : ℕ) → disorder k S (Flag p d leaf) ≡ None → MayFlag S p d leaf
+may_flag k S p d leaf order = by S.call refl (not-false (flags_in_order S S.call p d leaf) (passed _ NotOrdered None order).0)
+  where
+    no : (o : Option NodeId) → is_none o ≡ true → is_some o ≡ false
+    no None h = refl
+    no (Some n) h = absurd (true≢false (sym h))
+
+    by : (o : Option Call) → S.call ≡ o → flags_in_order S o p d leaf ≡ true → MayFlag S p d leaf
+    by None is t = absurd (true≢false (sym t))
+    by (Some call) is t = on call.op refl t
+      where
+        on : (op : Op) → call.op ≡ op → deletes S op call.key p d leaf ≡ true → MayFlag S p d leaf
+        on Has i t = absurd (true≢false (sym t))
+        on Insert i t = absurd (true≢false (sym t))
+        on Delete i t =
+            let parts = and_parts (is_none S.flagged) (list_any (may_flag_at call.key p d leaf) S.walks) t in
+            record { call = call; is_call = is; is_op = i; fresh = no S.flagged parts.0; walked = parts.1 }
+
+flag_order : (k : Knowledge) (S : Search) (e : Event) (r : Reply) → disorder k S e ≡ None → (such : is_won_flag (e, r) ≡ true) → MayFlag S (flag_entry e r such).parent (flag_entry e r such).side (flag_entry e r such).leaf
+flag_order k S e r order such = let l = flag_entry e r such in may_flag k S l.parent l.side l.leaf (subst (λ (x : Event). disorder k S x ≡ None) l.is_event order)
+
+pub flags_once : IsOnce is_won_flag has_flagged Delete
+flags_once = record {
+  anew = flag_anew;
+  kept = flag_kept;
+  done = flag_done;
+  once = λ k S e r order such. (flag_order k S e r order such).fresh;
+  of_op = λ k S e r order such call is. let m = flag_order k S e r order such in ap (λ (c : Call). c.op) (same_Some call m.call (sym is ∙ m.is_call)) ∙ m.is_op;
+}
+
+-- ---- what an answer shows
+
+-- what the search of a call shows, where it may leave with an answer
+pub answer_shown : (k : Knowledge) (S : Search) (answer : Bool) (call : Call) → S.call ≡ Some call → disorder k S (LeaveWith answer) ≡ None → shows S call.op call.key answer ≡ true
+answer_shown k S answer call is order = ap (λ (o : Option Call). shows_call S o answer) (sym is) ∙ not-false (shows_call S S.call answer) (passed _ NoAnswer None order).0
+
+pub links_shown : (S : Search) (op : Op) (key : ℕ) (answer : Bool) → shows S op key answer ≡ true → (has_linked S ≡ true → op ≡ Insert) → cond (has_linked S) 1 0 ≡ links_told op answer
+links_shown S op key answer shown is_op = by S.linked refl op answer shown (λ i. is_op i)
+  where
+    by : (b : Bool) → S.linked ≡ b → (op : Op) (answer : Bool) → shows S op key answer ≡ true → (S.linked ≡ true → op ≡ Insert) → cond b 1 0 ≡ links_told op answer
+    by true is Insert true shown is_op = refl
+    by true is Insert false shown is_op = absurd (true≢false (sym (and_parts _ (not S.linked) shown).1 ∙ ap not is))
+    by true is Has answer shown is_op = absurd (other (is_op is))
+      where
+        other : Has ≡ Insert → ⊥
+        other h = cc
+    by true is Delete answer shown is_op = absurd (other (is_op is))
+      where
+        other : Delete ≡ Insert → ⊥
+        other h = cc
+    by false is Insert true shown is_op = absurd (true≢false (sym shown ∙ is))
+    by false is Insert false shown is_op = refl
+    by false is Has answer shown is_op = refl
+    by false is Delete answer shown is_op = refl
+
+pub flags_shown : (S : Search) (op : Op) (key : ℕ) (answer : Bool) → shows S op key answer ≡ true → (has_flagged S ≡ true → op ≡ Delete) → cond (has_flagged S) 1 0 ≡ flags_told op answer
+flags_shown S op key answer shown is_op = by S.flagged refl op answer shown (λ i. is_op i)
+  where
+    by : (o : Option NodeId) → S.flagged ≡ o → (op : Op) (answer : Bool) → shows S op key answer ≡ true → (is_some S.flagged ≡ true → op ≡ Delete) → cond (is_some o) 1 0 ≡ flags_told op answer
+    by (Some n) is Delete true shown is_op = refl
+    by (Some n) is Delete false shown is_op = absurd (true≢false (sym (and_parts _ (is_none S.flagged) shown).1 ∙ ap is_none is))
+    by (Some n) is Has answer shown is_op = absurd (other (is_op (ap is_some is)))
+      where
+        other : Has ≡ Delete → ⊥
+        other h = cc
+    by (Some n) is Insert answer shown is_op = absurd (other (is_op (ap is_some is)))
+      where
+        other : Insert ≡ Delete → ⊥
+        other h = cc
+    by None is Delete true shown is_op = absurd (true≢false (sym shown ∙ ap (has_removed S) is))
+    by None is Delete false shown is_op = refl
+    by None is Has answer shown is_op = refl
+    by None is Insert answer shown is_op = refl
+
+-- a search that may leave without an answer has neither linked nor flagged
+pub silent : (k : Knowledge) (S : Search) → disorder k S Leave ≡ None → (S.linked ≡ false) × (is_some S.flagged ≡ false)
+silent k S order = or_parts S.linked (is_some S.flagged) (passed _ NoAnswer None order).0

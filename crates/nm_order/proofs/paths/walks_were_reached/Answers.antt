@@ -1,0 +1,9 @@
+use Rattle.nm_order.proofs.RunMoments.{each_walk_was_reached}
+use Rattle.nm_order.proofs.RunWalks.{each_logged_walk}
+use Rattle.nm_order.proofs.paths.walks_were_reached.Goals as goal
+
+pub returns-clause-arrivals : goal.returns-clause-arrivals
+returns-clause-arrivals c = each_walk_was_reached
+
+pub returns-clause-walks : goal.returns-clause-walks
+returns-clause-walks c = each_logged_walk

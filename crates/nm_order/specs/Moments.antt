@@ -1,0 +1,43 @@
+-- Moments of an ordered run: what was so at some moment since a worker's pin was confirmed.
+use Rattle.std.specs.Prelude.{◌≡◌, ℕ, ◌≤◌, false, List, [], ◌++◌, All}
+use Rattle.std.specs.List.{list_any}
+use Rattle.nm_edge.specs.Layouts.{Layout}
+use Rattle.nm_edge.specs.declared.edge.Side.{Side}
+use Rattle.nm_core.specs.declared.event.Op.{Op}
+use Rattle.nm_core.specs.declared.event.Event.{Event}
+use Rattle.nm_core.specs.declared.trace.Turn.{Turn}
+use Rattle.nm_core.specs.declared.walks.Arrival.{Arrival}
+use Rattle.nm_core.specs.Memory.{node}
+use Rattle.nm_core.specs.Paths.{Reached}
+use Rattle.nm_core.specs.Walks.{log_of, begins_anew, since_pin, WalkComes}
+use Rattle.nm_core.specs.Ordered.{Configuration, ordered, after_in, trace_in}
+use Rattle.nm_order.specs.Intervals.{HasKey, HasCome, IsCalled, InInterval}
+
+-- in every ordered run, of its layout and its turns
+abbrev pub OfEachOrderedRun : (Layout → List (ℕ × Event) → Type 0) → Type 0
+OfEachOrderedRun P = (L : Layout) → 5 ≤ L.nodes → (turns : List (ℕ × Event)) → All (λ t. HasKey t.1) turns → P L turns
+
+-- in these turns the worker confirms no pin and leaves none
+abbrev pub PinStands : ℕ → List Turn → Type 0
+PinStands u turns = list_any begins_anew (log_of u turns) ≡ false
+
+-- at a moment of the run, under a pin for the call that stands since, the slot was reached and the search for the key came to it;
+-- and its node then is its node at the end: the birth is the same
+pub record WasReached (c : Configuration) (turns : List (ℕ × Event)) (u : ℕ) (op : Op) (k x : ℕ) : Type 0 where
+  pub before : List (ℕ × Event)
+  pub since : List (ℕ × Event)
+  pub is_run : turns ≡ before ++ since
+  pub called : IsCalled (after_in c before) u op k
+  pub stands : PinStands u (trace_in (after_in c before) since)
+  pub reached : Reached (after_in c before).state.memory x
+  pub lies : InInterval (after_in c before).state.memory k x
+  pub same_birth : (node (after_in c before).state.memory x).birth ≡ (node (after_in c turns).state.memory x).birth
+
+-- each slot to which a search has come for a standing call was reached since its pin, with the call's key in its interval
+abbrev pub WalksWereReached : Layout → List (ℕ × Event) → Type 0
+WalksWereReached L turns = (u : ℕ) (op : Op) (k : ℕ) (a : Arrival) → IsCalled (after_in (ordered L) turns) u op k → HasCome (after_in (ordered L) turns) u k a → WasReached (ordered L) turns u op k a.slot
+
+-- and so was each slot to which a walk for the call's key came in the log since the pin
+abbrev pub LoggedWalksWereReached : Layout → List (ℕ × Event) → Type 0
+LoggedWalksWereReached L turns = (u : ℕ) (op : Op) (k slot parent : ℕ) (side : Side) → IsCalled (after_in (ordered L) turns) u op k → WalkComes k (since_pin [] (log_of u (trace_in (ordered L) turns))) slot parent side
+    → WasReached (ordered L) turns u op k slot
