@@ -34,6 +34,7 @@ ghost use Rattle.nm_core.specs.Schedules.{IsAsWorked, IsAsWorkedInOrder};
 ghost use Rattle.nm_core.specs.Schedules as worked;
 
 pub use event::{Event, Field, Op};
+pub use knowledge::Brief;
 pub use laws::{
     arrivals_are_walks, counts_add_up, each_ledger_has_one_holder, each_slot_has_one_place,
     epochs_agree, frozen_edges_stay_frozen, grace_holds, labels_are_in_order, ledgers_are_the_cuts,
@@ -41,7 +42,6 @@ pub use laws::{
     pins_stay_near, plain_runs_are_runs, runs_can_be_split, searches_only_grow,
     splices_cut_their_nodes, what_was_read_stands,
 };
-pub use knowledge::Brief;
 pub use ledger::{Ledger, Nodes, Queued};
 pub use ledgers::Ledgers;
 pub use places::Places;

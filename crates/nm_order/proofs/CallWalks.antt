@@ -1,23 +1,19 @@
 -- Of the walks of a call: those since the flag keep the law of the others, and where a walk has ended its worker knows a leaf.
-use Rattle.std.proofs.Common.{◌≡◌, ◌≢◌, ℕ, suc, ◌<◌, ◌≤◌, ◌⊎◌, inl, inr, eqb, ◌==◌, Bool, true, false, cond, ◌&&◌, ◌||◌, List, [], ◌∷◌, ◌++◌, map, length, replicate, refl, sym, ap, subst, ◌∙◌, arith, true≢false, get_or-set_same, get_or-set_other}
-use Rattle.std.specs.Prelude.{Option, Some, None, option_map, slice_get, All, is_none}
+use Rattle.std.proofs.Common.{◌≡◌, ◌≢◌, ℕ, inl, inr, eqb, ◌==◌, Bool, true, false, cond, ◌&&◌, ◌||◌, List, [], ◌∷◌, ◌++◌, map, refl, sym, ap, subst, ◌∙◌, arith, true≢false, get_or-set_same, get_or-set_other}
+use Rattle.std.specs.Prelude.{Option, Some, None, slice_get, is_none}
 use Rattle.std.specs.List.{list_any}
 use native.Mathlib.Decide.{ℕ_discrete}
-use Rattle.std.proofs.lemmas.Bool.{cond_both, cond-true, cond-false, eqb-true, eq-eqb, ne_eqb, and_parts, or_cases}
-use Rattle.std.proofs.lemmas.Option.{none-some, same_Some}
-use Rattle.nm_edge.specs.Edges.{Edge}
-use Rattle.nm_edge.specs.Layouts.{Layout}
+use Rattle.std.proofs.lemmas.Bool.{cond_both, eqb-true, eq-eqb, and_parts}
+use Rattle.std.proofs.lemmas.Option.{none-some}
 use Rattle.nm_edge.specs.declared.edge.Side.{Side}
 use Rattle.nm_edge.specs.declared.edge.Side.TheVariants.{Left, Right}
 use Rattle.nm_edge.specs.declared.node.NodeId.{NodeId}
 use Rattle.nm_core.specs.declared.event.Field.{Field}
 use Rattle.nm_core.specs.declared.event.Field.TheVariants.{Key, Edge as EdgeOn, Birth}
-use Rattle.nm_core.specs.declared.event.Op.{Op}
 use Rattle.nm_core.specs.declared.event.Event.{Event}
 use Rattle.nm_core.specs.declared.event.Event.TheVariants.{Sight, SightFor, Leave, LeaveWith, Look, Link, Flag, Splice, Join}
 use Rattle.nm_core.specs.declared.reply.Reply.{Reply}
-use Rattle.nm_core.specs.declared.reply.Reply.TheVariants.{Pinned, Departed, KeyIs, EdgeIs, Linked, Flagged, Cut}
-use Rattle.nm_core.specs.declared.reply.Refused.{Refused}
+use Rattle.nm_core.specs.declared.reply.Reply.TheVariants.{Pinned, Departed, EdgeIs, Linked, Flagged, Cut}
 use Rattle.nm_core.specs.declared.walks.Call.{Call}
 use Rattle.nm_core.specs.declared.walks.Arrival.{Arrival}
 use Rattle.nm_core.specs.Memory.{Memory, child, edge}
@@ -25,7 +21,7 @@ use Rattle.nm_core.specs.Knowledge.{Knowledge, knows, is_private, read, is_null,
 use Rattle.nm_core.specs.Learning.{learn, look_known, look_private, read_edge}
 use Rattle.nm_core.specs.Step.{reply, write}
 use Rattle.nm_core.specs.Runs.{State, of, reply_of, applied}
-use Rattle.nm_core.specs.Searches.{Search, idle, searched, keyed, ended, goes_on, is_first, is_by, turns, new_arrival, with_arrival, walk_edge, walked, look_for, later_walked}
+use Rattle.nm_core.specs.Searches.{Search, idle, searched, keyed, ended, goes_on, is_first, is_by, turns, new_arrival, with_arrival, walked, look_for, later_walked}
 use Rattle.nm_core.specs.Walks.{begins_anew}
 use Rattle.nm_core.specs.Ordered.{search_of, learned_from, disorder}
 use Rattle.nm_core.specs.Lawful.{EachBirthStands}
@@ -38,14 +34,14 @@ use Rattle.nm_order.specs.Intervals.{HasKey, key}
 use Rattle.nm_order.specs.Facts.{Since, arrivals}
 use Rattle.nm_order.specs.Facts.Since.{ThePin, TheFlag}
 use Rattle.nm_order.proofs.TreeChanges.{tree_change}
-use Rattle.nm_order.proofs.SearchSteps.{StillKnown, search_step}
+use Rattle.nm_order.proofs.SearchSteps.{StillKnown}
 use Rattle.nm_order.specs.Logs.{takes_part}
 use Rattle.nm_order.proofs.PartsOfRuns.{partaking, apart}
 use Rattle.nm_order.proofs.LastEntries.{PartOf, part_or}
 use Rattle.nm_order.proofs.LastEntries.PartOf.{Own, Resigns}
 use Rattle.nm_order.proofs.OrderedWalks.{WalkLaw, no_walks, walks_last}
 use Rattle.nm_order.proofs.OrderedChanges.{FixedKeys, Outlasts, outlasts}
-use Rattle.nm_order.proofs.OrderedSteps.{ForCall, OrderLaw, Knows, knows_after, known_not_private, look_law, last, asks_order, order_step}
+use Rattle.nm_order.proofs.OrderedSteps.{ForCall, OrderLaw, known_not_private, look_law, last, asks_order, order_step}
 use Rattle.nm_order.proofs.KnowledgeStays.{Stays, NullsStand, itself, learned_stays, leaf_stays, answers}
 
 -- ---- how a search goes on while its pin stands

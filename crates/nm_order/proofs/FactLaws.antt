@@ -1,43 +1,31 @@
 -- Facts are true and stay, in every ordered run.
-use Rattle.std.proofs.Common.{◌≡◌, ◌≢◌, ℕ, suc, ◌<◌, ◌≤◌, ◌⊎◌, inl, inr, ◌==◌, Bool, true, false, ◌&&◌, ◌||◌, List, [], ◌∷◌, ◌++◌, replicate, refl, sym, ap, subst, ◌∙◌, arith, true≢false}
-use Rattle.std.specs.Prelude.{Option, Some, None, option_map, slice_get, All, Contains, is_none}
+use Rattle.std.proofs.Common.{◌≡◌, ℕ, ◌≤◌, inl, inr, ◌==◌, true, List, [], replicate, refl, sym, ap, subst, ◌∙◌, arith, true≢false}
+use Rattle.std.specs.Prelude.{Option, Some, None, slice_get, All}
 use Rattle.std.proofs.lemmas.Bool.{eqb-true, eq-eqb, and_from, or_cases}
-use Rattle.std.proofs.lemmas.Option.{none-some, same_Some, slice_get-get_or}
-use Rattle.nm_edge.specs.Edges.{Edge, other}
-use Rattle.nm_edge.specs.Keys.{IsKey}
+use Rattle.std.proofs.lemmas.Option.{slice_get-get_or}
+use Rattle.nm_edge.specs.Edges.{Edge}
 use Rattle.nm_edge.specs.Layouts.{Layout}
 use Rattle.nm_edge.specs.declared.edge.Side.{Side}
 use Rattle.nm_edge.specs.declared.edge.Side.TheVariants.{Left, Right}
-use Rattle.nm_core.specs.declared.event.Op.{Op}
 use Rattle.nm_core.specs.declared.event.Event.{Event}
-use Rattle.nm_core.specs.declared.event.Event.TheVariants.{Join}
-use Rattle.nm_core.specs.declared.reply.Reply.{Reply}
-use Rattle.nm_core.specs.declared.reply.Refused.{Refused}
-use Rattle.nm_core.specs.declared.walks.Call.{Call}
 use Rattle.nm_core.specs.declared.walks.Arrival.{Arrival}
-use Rattle.nm_core.specs.Maps.{or_else}
-use Rattle.nm_core.specs.Memory.{Memory, node, edge, child, is_leaf}
-use Rattle.nm_core.specs.Knowledge.{Knowledge, knows, read, is_null, knows_leaf, seen_of}
-use Rattle.nm_core.specs.Learning.{learn}
-use Rattle.nm_core.specs.Runs.{State, of, start, after, refused, reply_of, applied}
-use Rattle.nm_core.specs.Lawful.{EachBirthStands}
-use Rattle.nm_core.specs.Searches.{Search, idle, searched}
-use Rattle.nm_core.specs.Walks.{Entry, begins_anew, search_after}
-use Rattle.nm_core.specs.Ordered.{Configuration, ordered, search_of, learned_from, disorder, disorder_in, disorder_among, refused_in, applied_in, next_in, after_in, trace_in}
+use Rattle.nm_core.specs.Memory.{Memory, node, child, is_leaf}
+use Rattle.nm_core.specs.Knowledge.{Knowledge, knows, read, is_null, knows_leaf}
+use Rattle.nm_core.specs.Runs.{of, start}
+use Rattle.nm_core.specs.Searches.{Search, idle}
+use Rattle.nm_core.specs.Walks.{Entry}
+use Rattle.nm_core.specs.Ordered.{Configuration, ordered, search_of, after_in}
 use Rattle.nm_core.proofs.Numbers.{repeated}
-use Rattle.nm_core.proofs.Steps.{Allowed, allowed}
 use Rattle.nm_core.proofs.TreeSteps.{Lawful}
 use Rattle.nm_core.proofs.Pictures.{IsLive}
 use Rattle.nm_core.proofs.Views.{picture}
-use Rattle.nm_core.proofs.KnownBirths.{each_birth_stands}
-use Rattle.nm_core.proofs.Configurations.{refused_next, allowed_next}
 use Rattle.nm_order.specs.Intervals.{HasKey}
-use Rattle.nm_order.specs.Logs.{part_of, known_by, IsLogOf}
-use Rattle.nm_order.specs.Facts.{Since, Fact, Arrived, arrivals, HoldsIn, Holds, IsShared, IsTrueIn, FactsAreTrue, FactsStay}
+use Rattle.nm_order.specs.Logs.{known_by}
+use Rattle.nm_order.specs.Facts.{Since, Fact, Arrived, arrivals, HoldsIn, Holds, IsShared, IsTrueIn, FactsAreTrue}
 use Rattle.nm_order.specs.Facts.Since.{ThePin, TheFlag}
 use Rattle.nm_order.specs.Facts.Fact.{IsPinned, KnowsSlot, KnowsLeaf, IsTagged, IsFlagged, IsBorn, CallIs, Came, ReadKey, EndedAt}
 use Rattle.nm_order.proofs.OrderedSteps.{ForCall}
-use Rattle.nm_order.proofs.OrderedLaws.{IsOrdered, ordered_next, each_ordered, law_of_state}
+use Rattle.nm_order.proofs.OrderedLaws.{IsOrdered, law_of_state}
 use Rattle.nm_order.proofs.OrderedInduction.{births_of, each_run_keeps}
 use Rattle.nm_order.proofs.LastEntries.{ToldBy, told_by_part}
 use Rattle.nm_order.proofs.CallWalks.{WalksKept, kept_step, no_ends}

@@ -1,36 +1,33 @@
 -- Each fact that a log holds is held by it with one entry more, while no pin begins or ends.
-use Rattle.std.proofs.Common.{◌≡◌, ℕ, ◌≤◌, ◌⊎◌, inl, inr, Bool, true, false, List, [], ◌∷◌, ◌++◌, refl, sym, ap, subst, ◌∙◌}
+use Rattle.std.proofs.Common.{◌≡◌, ℕ, inl, inr, true, false, List, [], ◌∷◌, ◌++◌, refl, sym, ap, subst, ◌∙◌}
 use Rattle.std.specs.Prelude.{Option, Some, None, Contains}
-use Rattle.nm_edge.specs.Edges.{Edge}
-use Rattle.nm_edge.specs.Layouts.{Layout}
 use Rattle.nm_edge.specs.declared.edge.Side.{Side}
 use Rattle.nm_edge.specs.declared.node.NodeId.{NodeId}
 use Rattle.nm_core.specs.declared.event.Field.{Field}
 use Rattle.nm_core.specs.declared.event.Event.{Event}
-use Rattle.nm_core.specs.declared.event.Event.TheVariants.{Look, Join}
+use Rattle.nm_core.specs.declared.event.Event.TheVariants.{Look}
 use Rattle.nm_core.specs.declared.reply.Reply.{Reply}
 use Rattle.nm_core.specs.declared.walks.Call.{Call}
 use Rattle.nm_core.specs.declared.walks.Arrival.{Arrival}
-use Rattle.nm_core.specs.Memory.{Memory}
-use Rattle.nm_core.specs.Knowledge.{Knowledge, knows}
+use Rattle.nm_core.specs.Knowledge.{Knowledge}
 use Rattle.nm_core.specs.Learning.{learn}
-use Rattle.nm_core.specs.Runs.{State, of, reply_of}
+use Rattle.nm_core.specs.Runs.{State, of}
 use Rattle.nm_core.specs.Searches.{Search, idle, searched, walked, look_for, later_walked}
-use Rattle.nm_core.specs.Walks.{Entry, GrowsTo, begins_anew, search_after}
-use Rattle.nm_core.specs.Ordered.{Configuration, ordered, search_of, after_in}
+use Rattle.nm_core.specs.Walks.{GrowsTo, begins_anew, search_after}
+use Rattle.nm_core.specs.Ordered.{search_of}
 use Rattle.nm_core.proofs.Steps.{allowed}
 use Rattle.nm_core.proofs.SearchesGrow.{only_grow}
 use Rattle.nm_core.proofs.TreeSteps.{Lawful}
-use Rattle.nm_order.specs.Logs.{known_by, IsLogOf}
+use Rattle.nm_order.specs.Logs.{known_by}
 use Rattle.nm_order.specs.Facts.{Since, Fact, Arrived, arrivals, HoldsIn, Holds, IsTrueIn, FactsStay}
 use Rattle.nm_order.specs.Facts.Since.{ThePin, TheFlag}
 use Rattle.nm_order.specs.Facts.Fact.{IsPinned, KnowsSlot, KnowsLeaf, IsTagged, IsFlagged, IsBorn, CallIs, Came, ReadKey, EndedAt}
-use Rattle.nm_order.proofs.OrderedLaws.{IsOrdered, law_of_state}
+use Rattle.nm_order.proofs.OrderedLaws.{law_of_state}
 use Rattle.nm_order.proofs.PartsOfRuns.{allowed_by_state}
-use Rattle.nm_order.proofs.LastEntries.{known_more, search_more, ToldBy, PartOf, LastEntry, last_entry}
+use Rattle.nm_order.proofs.LastEntries.{known_more, search_more, PartOf, LastEntry, last_entry}
 use Rattle.nm_order.proofs.LastEntries.PartOf.{Own, Resigns}
-use Rattle.nm_order.proofs.KnowledgeStays.{Answers, Stays, NullsStand, Renews, learned_stays, leaf_stays, answers}
-use Rattle.nm_order.proofs.CallWalks.{GoesOn, goes_on_so, WalksKept}
+use Rattle.nm_order.proofs.KnowledgeStays.{Answers, Stays, NullsStand, learned_stays, leaf_stays, answers}
+use Rattle.nm_order.proofs.CallWalks.{GoesOn, goes_on_so}
 use Rattle.nm_order.proofs.CallWalks.GoesOn.{Same, Looked}
 use Rattle.nm_order.proofs.FactLaws.{AllKept, all_kept, true_in, told_holds}
 

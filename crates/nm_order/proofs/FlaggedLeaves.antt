@@ -1,35 +1,30 @@
 -- A leaf that a call flagged is led to by flagged edges alone, from the root and from wherever a later walk of the call came.
-use Rattle.std.proofs.Common.{◌≡◌, ◌≢◌, ℕ, ◌+◌, ◌<◌, ◌≤◌, ◌⊎◌, inl, inr, eqb, ◌==◌, Bool, true, false, cond, not, ◌&&◌, ◌||◌, List, [], ◌∷◌, ◌++◌, map, length, refl, sym, ap, subst, ◌∙◌, arith, true≢false, get_or-set_same, get_or-set_other}
+use Rattle.std.proofs.Common.{◌≡◌, ◌≢◌, ℕ, ◌<◌, ◌≤◌, ◌⊎◌, inl, inr, ◌==◌, true, false, cond, ◌&&◌, ◌||◌, List, [], ◌∷◌, ◌++◌, map, length, refl, sym, ap, subst, ◌∙◌, arith, true≢false}
 use Rattle.std.specs.Prelude.{Option, Some, None, is_none, slice_get}
 use Rattle.std.specs.List.{list_any}
-use native.Mathlib.Decide.{ℕ_discrete}
-use Rattle.std.proofs.lemmas.Bool.{cond_both, eqb-true, eqb-false, eq-eqb, and_parts, or_cases, or_parts, not-false, true_from_ne_false}
-use Rattle.std.proofs.lemmas.Option.{none-some, same_Some}
-use Rattle.nm_edge.specs.Edges.{Edge, to, is_to}
+use Rattle.std.proofs.lemmas.Bool.{cond_both, eqb-false, or_cases}
+use Rattle.nm_edge.specs.Edges.{Edge, to}
 use Rattle.nm_edge.specs.declared.edge.Side.{Side}
-use Rattle.nm_edge.specs.declared.edge.Side.TheVariants.{Left, Right}
 use Rattle.nm_edge.specs.declared.node.NodeId.{NodeId}
 use Rattle.nm_core.specs.declared.event.Field.{Field}
-use Rattle.nm_core.specs.declared.event.Field.TheVariants.{Key, Edge as EdgeOn, Birth}
-use Rattle.nm_core.specs.declared.event.Op.{Op}
+use Rattle.nm_core.specs.declared.event.Field.TheVariants.{Key, Edge as EdgeOn}
 use Rattle.nm_core.specs.declared.event.Event.{Event}
 use Rattle.nm_core.specs.declared.event.Event.TheVariants.{Sight, SightFor, Leave, LeaveWith, Look, Link, Flag, Splice}
 use Rattle.nm_core.specs.declared.reply.Reply.{Reply}
-use Rattle.nm_core.specs.declared.reply.Reply.TheVariants.{Pinned, Departed, KeyIs, EdgeIs, Linked, Flagged, Cut, Lost}
+use Rattle.nm_core.specs.declared.reply.Reply.TheVariants.{Pinned, Departed, KeyIs, EdgeIs, Linked, Flagged, Cut}
 use Rattle.nm_core.specs.declared.walks.Call.{Call}
 use Rattle.nm_core.specs.declared.walks.Arrival.{Arrival}
-use Rattle.nm_core.specs.Memory.{Memory, node, edge, child, put_edge, named}
-use Rattle.nm_core.specs.Knowledge.{Knowledge, knows, read}
+use Rattle.nm_core.specs.Memory.{Memory, edge, child, put_edge}
+use Rattle.nm_core.specs.Knowledge.{knows}
 use Rattle.nm_core.specs.Learning.{flag_to}
 use Rattle.nm_core.specs.Paths.{follow}
-use Rattle.nm_core.specs.Searches.{Search, searched, keyed, ended, goes_on, is_first, is_side, is_by, turns, new_arrival, with_arrival, walk_edge, walked, look_for}
+use Rattle.nm_core.specs.Searches.{Search, searched, keyed, ended, goes_on, is_first, is_by, new_arrival, with_arrival, walked, look_for}
 use Rattle.nm_core.specs.Walks.{begins_anew}
-use Rattle.nm_core.proofs.Lists.{mapped_at, more_at, any_at}
+use Rattle.nm_core.proofs.Lists.{mapped_at, more_at}
 use Rattle.nm_core.proofs.Trees.{same_follow, follow-append}
 use Rattle.nm_core.proofs.Pictures.{alone, IsLive, IsOnPath}
 use Rattle.nm_core.proofs.Views.{picture, edge_put}
 use Rattle.nm_core.proofs.Slots.{with_edge-same}
-use Rattle.nm_core.proofs.TreeSlots.{is_to-true}
 use Rattle.nm_core.proofs.Splices.{live_on_path, unmarked_not_queued}
 use Rattle.nm_core.proofs.TreeSteps.{Lawful}
 use Rattle.nm_core.specs.Runs.{State, of}

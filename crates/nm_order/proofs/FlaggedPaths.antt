@@ -1,32 +1,18 @@
 -- Where each edge to a slot that paths come to is flagged, it stays so, whatever happens: a link finds no such edge, and a splice copies the flag.
-use Rattle.std.proofs.Common.{◌≡◌, ◌≢◌, ℕ, zero, suc, ◌<◌, ◌≤◌, ◌⊎◌, inl, inr, eqb, ◌==◌, Bool, true, false, cond, not, ◌&&◌, ◌||◌, List, [], ◌∷◌, ◌++◌, length, refl, sym, ap, subst, ◌∙◌, arith, true≢false, get_or-set_other}
-use Rattle.std.specs.Prelude.{Option, Some, None, nat_lt}
+use Rattle.std.proofs.Common.{◌≡◌, ◌≢◌, ℕ, zero, suc, ◌<◌, eqb, Bool, true, false, cond, ◌&&◌, List, [], ◌∷◌, ◌++◌, length, refl, sym, ap, subst, ◌∙◌, arith}
+use Rattle.std.specs.Prelude.{Option, Some, None}
 use native.Mathlib.Decide.{ℕ_discrete}
-use Rattle.std.proofs.lemmas.Bool.{cond_both, cond-true, cond-false, eqb-true, eq-eqb, and_parts, or_parts, not-false}
+use Rattle.std.proofs.lemmas.Bool.{cond-true, cond-false, eqb-true, and_parts}
 use Rattle.std.proofs.lemmas.Option.{none-some, same_Some}
-use Rattle.nm_edge.specs.Edges.{Edge, to, is_to, other, tagged, untagged}
+use Rattle.nm_edge.specs.Edges.{Edge}
 use Rattle.nm_edge.specs.declared.edge.Side.{Side}
 use Rattle.nm_edge.specs.declared.edge.Side.TheVariants.{Left, Right}
-use Rattle.nm_core.specs.declared.event.Field.{Field}
-use Rattle.nm_core.specs.declared.event.Event.{Event}
-use Rattle.nm_core.specs.declared.event.Event.TheVariants.{Fill, Link, Flag, Tag, Splice, Advance}
-use Rattle.nm_core.specs.declared.reply.Refused.TheVariants.{NoSlot, NotPrivate}
-use Rattle.nm_core.specs.declared.memory.Node.{Node}
-use Rattle.nm_core.specs.Maps.{is_number}
-use Rattle.nm_core.specs.Memory.{Memory, blank, node, edge, edge_of, child, put_edge, put_node}
-use Rattle.nm_core.specs.Knowledge.{Knowledge, is_private, read, is_tagged, slot_read, leads_on, onward, before_way, way}
-use Rattle.nm_core.specs.Learning.{flag_to}
+use Rattle.nm_core.specs.Memory.{Memory, edge, child, put_edge}
+use Rattle.nm_core.specs.Knowledge.{Knowledge, read, is_tagged, slot_read, leads_on, onward, before_way, way}
 use Rattle.nm_core.specs.Paths.{follow}
-use Rattle.nm_core.specs.Step.{outside, is_edge, filled, kept, refusal, write}
-use Rattle.nm_core.specs.Runs.{State, of, refusal_of}
-use Rattle.nm_core.proofs.Steps.{Allowed, passed, second}
-use Rattle.nm_core.proofs.Trees.{Children, same_side, same_side-true, same_side-refl, same_follow, follow-append}
-use Rattle.nm_core.proofs.Views.{picture, edge_put}
-use Rattle.nm_core.proofs.TreeSlots.{is_to-true}
-use Rattle.nm_core.proofs.TreeSteps.{Lawful, high_from}
-use Rattle.nm_core.proofs.Cuts.{Shown, shown}
+use Rattle.nm_core.proofs.Trees.{Children, same_side, same_side-true, same_follow, follow-append}
+use Rattle.nm_core.proofs.Views.{edge_put}
 use Rattle.nm_core.proofs.Ways.{way_here, way_next, way_end}
-use Rattle.nm_order.proofs.TreeChanges.{WonLink, won_link}
 
 -- each edge to slot n that paths from x come to is flagged
 abbrev pub LeadsFlagged : Memory → ℕ → ℕ → Type 0

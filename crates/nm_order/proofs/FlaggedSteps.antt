@@ -1,8 +1,7 @@
 -- Each event keeps each edge flagged that leads to a slot whose edges were all flagged.
-use Rattle.std.proofs.Common.{◌≡◌, ◌≢◌, ℕ, ◌+◌, ◌<◌, ◌≤◌, ◌⊎◌, inl, inr, Bool, true, false, cond, ◌&&◌, ◌||◌, List, [], ◌∷◌, ◌++◌, length, refl, sym, ap, subst, ◌∙◌, arith, true≢false, get_or-set_other}
+use Rattle.std.proofs.Common.{◌≡◌, ◌≢◌, ℕ, ◌+◌, ◌<◌, ◌⊎◌, inl, inr, Bool, true, false, ◌&&◌, ◌||◌, List, [], length, refl, sym, ap, subst, ◌∙◌, arith, true≢false, get_or-set_other}
 use Rattle.std.specs.Prelude.{Option, Some, None, nat_lt}
 use Rattle.std.proofs.lemmas.Bool.{cond_both, or_parts, not-false}
-use Rattle.std.proofs.lemmas.Option.{none-some}
 use Rattle.nm_edge.specs.Edges.{Edge, to, is_to, other, tagged, untagged}
 use Rattle.nm_edge.specs.declared.edge.Side.{Side}
 use Rattle.nm_core.specs.declared.event.Field.{Field}
@@ -12,19 +11,17 @@ use Rattle.nm_core.specs.declared.reply.Refused.TheVariants.{NoSlot, NotPrivate}
 use Rattle.nm_core.specs.declared.memory.Node.{Node}
 use Rattle.nm_core.specs.Maps.{is_number}
 use Rattle.nm_core.specs.Memory.{Memory, blank, node, edge, edge_of, child, put_edge, put_node}
-use Rattle.nm_core.specs.Knowledge.{Knowledge, is_private, read, is_tagged, slot_read}
+use Rattle.nm_core.specs.Knowledge.{is_private, read, is_tagged, slot_read}
 use Rattle.nm_core.specs.Learning.{flag_to}
 use Rattle.nm_core.specs.Paths.{follow}
 use Rattle.nm_core.specs.Step.{outside, is_edge, filled, kept, refusal, write}
-use Rattle.nm_core.specs.Runs.{State, of, refusal_of}
+use Rattle.nm_core.specs.Runs.{State, of}
 use Rattle.nm_core.proofs.Steps.{Allowed, passed, second}
 use Rattle.nm_core.proofs.Trees.{same_side, same_side-true, same_side-false}
-use Rattle.nm_core.proofs.Views.{picture}
 use Rattle.nm_core.proofs.TreeSlots.{is_to-true}
 use Rattle.nm_core.proofs.TreeSteps.{Lawful, high_from}
 use Rattle.nm_core.proofs.Cuts.{Shown, shown}
-use Rattle.nm_core.proofs.Links.{IsLink}
-use Rattle.nm_order.proofs.TreeChanges.{WonLink, won_link}
+use Rattle.nm_order.proofs.TreeChanges.{won_link}
 use Rattle.nm_order.proofs.FlaggedPaths.{LeadsFlagged, On, on_next, on_further, flag_on, closed, marked, filled_apart, way_ends, Put, put_case}
 use Rattle.nm_order.proofs.FlaggedPaths.Put.{Here, There}
 

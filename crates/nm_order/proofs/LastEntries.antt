@@ -1,5 +1,5 @@
 -- A part of an ordered run that ends with an entry: the configuration before the turn of that entry, and what its worker knew then.
-use Rattle.std.proofs.Common.{◌≡◌, ℕ, zero, suc, ◌<◌, ◌≤◌, inl, inr, ◌==◌, Bool, true, false, cond, ◌||◌, List, [], ◌∷◌, ◌++◌, length, refl, sym, ap, subst, ◌∙◌, arith, true≢false}
+use Rattle.std.proofs.Common.{◌≡◌, ℕ, zero, suc, ◌<◌, ◌≤◌, inl, inr, ◌==◌, Bool, true, false, List, [], ◌∷◌, ◌++◌, refl, sym, ap, subst, ◌∙◌, arith, true≢false}
 use Rattle.std.specs.Prelude.{Option, Some, None, IfSome, All}
 use Rattle.std.proofs.lemmas.Bool.{eqb-true, or_cases}
 use Rattle.std.proofs.lemmas.Option.{same_Some}
@@ -15,7 +15,7 @@ use Rattle.nm_core.specs.Searches.{Search, idle, searched}
 use Rattle.nm_core.specs.Walks.{Entry, log_of, search_after}
 use Rattle.nm_core.specs.Ordered.{Configuration, ordered, search_of, refused_in, next_in, after_in, trace_in}
 use Rattle.nm_core.proofs.LogsOfRuns.{searches_tell}
-use Rattle.nm_core.proofs.Configurations.{refused_next, allowed_next}
+use Rattle.nm_core.proofs.Configurations.{refused_next}
 use Rattle.nm_order.specs.Intervals.{HasKey}
 use Rattle.nm_order.specs.Logs.{is_leaver, takes_part, part_of, known_after, known_by, IsLogOf}
 use Rattle.nm_order.proofs.PartsOfRuns.{logs_tell, refused_adds, others_add, own_adds, part_tells_search}

@@ -1,9 +1,8 @@
 -- In every ordered run, the walks after a won flag come to its leaf by flagged edges.
-use Rattle.std.proofs.Common.{◌≡◌, ◌≢◌, ℕ, ◌<◌, ◌≤◌, Bool, true, false, List, [], ◌∷◌, ◌++◌, length, replicate, refl, sym, ap, subst, ◌∙◌, arith, get_or-set_same, get_or-set_other}
-use Rattle.std.specs.Prelude.{Option, Some, None, slice_get}
+use Rattle.std.proofs.Common.{◌≡◌, ℕ, Bool, true, false, List, [], replicate, refl, sym, ap, subst, ◌∙◌, arith, get_or-set_same, get_or-set_other}
+use Rattle.std.specs.Prelude.{Some, None}
 use native.Mathlib.Decide.{ℕ_discrete}
 use Rattle.std.proofs.lemmas.Option.{none-some, same_Some, slice_get-get_or}
-use Rattle.nm_edge.specs.Edges.{Edge}
 use Rattle.nm_edge.specs.Layouts.{Layout}
 use Rattle.nm_edge.specs.declared.edge.Side.{Side}
 use Rattle.nm_edge.specs.declared.node.NodeId.{NodeId}
@@ -12,24 +11,18 @@ use Rattle.nm_core.specs.declared.event.Event.{Event}
 use Rattle.nm_core.specs.declared.event.Event.TheVariants.{Look, Flag}
 use Rattle.nm_core.specs.declared.reply.Reply.{Reply}
 use Rattle.nm_core.specs.declared.reply.Reply.TheVariants.{Flagged}
-use Rattle.nm_core.specs.declared.walks.Arrival.{Arrival}
-use Rattle.nm_core.specs.Memory.{Memory}
 use Rattle.nm_core.specs.Knowledge.{Knowledge, read}
-use Rattle.nm_core.specs.Learning.{learn}
 use Rattle.nm_core.specs.Runs.{State, of, start, reply_of, applied}
-use Rattle.nm_core.specs.Lawful.{EachBirthStands}
 use Rattle.nm_core.specs.Searches.{Search, idle, searched, look_for}
 use Rattle.nm_core.specs.Walks.{Entry, begins_anew, search_after}
-use Rattle.nm_core.specs.Ordered.{Configuration, ordered, search_of, learned_from, disorder, after_in}
+use Rattle.nm_core.specs.Ordered.{ordered, search_of, disorder, after_in}
 use Rattle.nm_core.proofs.Numbers.{repeated}
 use Rattle.nm_core.proofs.Steps.{Allowed}
 use Rattle.nm_core.proofs.TreeSteps.{Lawful}
-use Rattle.nm_order.specs.Intervals.{HasKey}
-use Rattle.nm_order.specs.Logs.{known_by, IsLogOf}
-use Rattle.nm_order.specs.Facts.{Since, Arrived, arrivals, HoldsIn, Holds, LaterWalksFindTheFlag}
+use Rattle.nm_order.specs.Logs.{known_by}
+use Rattle.nm_order.specs.Facts.{Holds, LaterWalksFindTheFlag}
 use Rattle.nm_order.specs.Facts.Since.{TheFlag}
-use Rattle.nm_order.specs.Facts.Fact.{IsFlagged, Came}
-use Rattle.nm_order.proofs.OrderedSteps.{OrderLaw}
+use Rattle.nm_order.specs.Facts.Fact.{IsFlagged}
 use Rattle.nm_order.proofs.OrderedInduction.{IsKept, each_run_keeps}
 use Rattle.nm_order.proofs.LastEntries.{ToldBy, told_by_part}
 use Rattle.nm_order.proofs.KnowledgeStays.{Stays, learned_stays, answers}

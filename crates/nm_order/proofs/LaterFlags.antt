@@ -1,17 +1,15 @@
 -- Where a walk that began after the flag came to the flagged leaf, the edge by which it came was read as flagged.
-use Rattle.std.proofs.Common.{◌≡◌, ◌≢◌, ℕ, ◌+◌, ◌<◌, ◌≤◌, ◌⊎◌, inl, inr, eqb, ◌==◌, Bool, true, false, cond, not, ◌&&◌, ◌||◌, List, [], ◌∷◌, ◌++◌, length, replicate, refl, sym, ap, subst, ◌∙◌, arith, true≢false, get_or-set_same, get_or-set_other}
-use Rattle.std.specs.Prelude.{Option, Some, None, is_none, slice_get, All}
+use Rattle.std.proofs.Common.{◌≡◌, ◌≢◌, ℕ, ◌⊎◌, inl, inr, eqb, ◌==◌, Bool, true, false, cond, not, ◌&&◌, ◌||◌, List, [], ◌∷◌, refl, sym, ap, subst, ◌∙◌, arith, true≢false}
+use Rattle.std.specs.Prelude.{Option, Some, None, is_none}
 use Rattle.std.specs.List.{list_any}
-use native.Mathlib.Decide.{ℕ_discrete}
 use Rattle.std.proofs.lemmas.Bool.{cond_both, cond-true, eqb-true, eq-eqb, and_parts, or_parts, not-false}
-use Rattle.std.proofs.lemmas.Option.{none-some, same_Some, slice_get-get_or}
-use Rattle.nm_edge.specs.Edges.{Edge, to, is_to}
-use Rattle.nm_edge.specs.Layouts.{Layout}
+use Rattle.std.proofs.lemmas.Option.{none-some, same_Some}
+use Rattle.nm_edge.specs.Edges.{Edge, is_to}
 use Rattle.nm_edge.specs.declared.edge.Side.{Side}
-use Rattle.nm_edge.specs.declared.edge.Side.TheVariants.{Left, Right}
+use Rattle.nm_edge.specs.declared.edge.Side.TheVariants.{Left}
 use Rattle.nm_edge.specs.declared.node.NodeId.{NodeId}
 use Rattle.nm_core.specs.declared.event.Field.{Field}
-use Rattle.nm_core.specs.declared.event.Field.TheVariants.{Key, Edge as EdgeOn, Birth}
+use Rattle.nm_core.specs.declared.event.Field.TheVariants.{Edge as EdgeOn}
 use Rattle.nm_core.specs.declared.event.Op.{Op}
 use Rattle.nm_core.specs.declared.event.Op.TheVariants.{Has, Insert, Delete}
 use Rattle.nm_core.specs.declared.event.Event.{Event}
@@ -23,38 +21,25 @@ use Rattle.nm_core.specs.declared.walks.Call.{Call}
 use Rattle.nm_core.specs.declared.walks.Arrival.{Arrival}
 use Rattle.nm_core.specs.Memory.{Memory, edge, child, put_edge, named}
 use Rattle.nm_core.specs.Knowledge.{Knowledge, knows, knows_leaf, is_private, read}
-use Rattle.nm_core.specs.Learning.{learn, look_known, look_private, read_edge, flag_to}
+use Rattle.nm_core.specs.Learning.{learn, look_known, look_private, flag_to}
 use Rattle.nm_core.specs.Paths.{follow}
 use Rattle.nm_core.specs.Step.{outside, refusal, reply, write}
-use Rattle.nm_core.specs.Runs.{State, of, start, reply_of, refusal_of, applied}
-use Rattle.nm_core.specs.Lawful.{EachBirthStands}
-use Rattle.nm_core.specs.Searches.{Search, idle, searched, is_first, is_side, goes_on, turns, walked, look_for, later_walked}
-use Rattle.nm_core.specs.Walks.{Entry, begins_anew, search_after}
-use Rattle.nm_core.specs.Ordered.{Configuration, ordered, search_of, learned_from, disorder, flags_in_order, deletes, may_flag_at, after_in}
-use Rattle.nm_core.proofs.Numbers.{repeated}
+use Rattle.nm_core.specs.Runs.{State, of, reply_of, refusal_of, applied}
+use Rattle.nm_core.specs.Searches.{Search, is_first, is_side, goes_on, turns, walked, look_for, later_walked}
+use Rattle.nm_core.specs.Ordered.{ordered, disorder, flags_in_order, deletes, may_flag_at}
 use Rattle.nm_core.proofs.Lists.{any_at}
 use Rattle.nm_core.proofs.Steps.{Allowed, passed, third}
 use Rattle.nm_core.proofs.Trees.{same_side-refl}
 use Rattle.nm_core.proofs.Views.{read_after}
 use Rattle.nm_core.proofs.TreeSlots.{is_to-true}
 use Rattle.nm_core.proofs.TreeSteps.{Lawful, high_from}
-use Rattle.nm_order.specs.Intervals.{HasKey}
-use Rattle.nm_order.specs.Logs.{known_by, IsLogOf}
-use Rattle.nm_order.specs.Facts.{Since, Arrived, arrivals, HoldsIn, Holds, LaterWalksFindTheFlag}
-use Rattle.nm_order.specs.Facts.Since.{ThePin, TheFlag}
-use Rattle.nm_order.specs.Facts.Fact.{IsFlagged, Came}
-use Rattle.nm_order.proofs.OrderedWalks.{is_side-true}
 use Rattle.nm_order.proofs.OrderedChanges.{off_known, off_root}
-use Rattle.nm_order.proofs.OrderedSteps.{OrderLaw, looked_known, known_not_private, low_not_private}
-use Rattle.nm_order.proofs.OrderedInduction.{IsKept, each_run_keeps}
-use Rattle.nm_order.proofs.LastEntries.{ToldBy, told_by_part}
-use Rattle.nm_order.proofs.KnowledgeStays.{Stays, Answers, learned_stays, answers}
-use Rattle.nm_order.proofs.CallWalks.{GoesOn, goes_on_so, begun_anew, others_stay, own_knows, memory_after, look_writes_nothing}
-use Rattle.nm_order.proofs.CallWalks.GoesOn.{Same, Looked}
+use Rattle.nm_order.proofs.OrderedSteps.{looked_known, known_not_private, low_not_private}
+use Rattle.nm_order.proofs.KnowledgeStays.{Stays, Answers, answers}
+use Rattle.nm_order.proofs.CallWalks.{own_knows, memory_after, look_writes_nothing}
 use Rattle.nm_order.proofs.FlaggedPaths.{LeadsFlagged}
 use Rattle.nm_order.proofs.FlaggedSteps.{leads_flagged_still}
-use Rattle.nm_order.proofs.FlaggedLeaves.{AllPlaces, places_walked, FlagStep, flag_step, anew_unflagged, flag_leads}
-use Rattle.nm_order.proofs.FlaggedLeaves.FlagStep.{SameFlag, NewFlag}
+use Rattle.nm_order.proofs.FlaggedLeaves.{AllPlaces, places_walked, flag_leads}
 
 -- an arrival after the flag of slot n: from its slot flagged edges alone lead to n, and where it is n, it came by an edge known flagged
 pub record LedFlagged (m : Memory) (k : Knowledge) (n x p : ℕ) (d : Side) : Type 0 where

@@ -42,3 +42,4 @@ pub mod FlaggedSteps
 pub mod FlaggedLeaves
 pub mod LaterFlags
 pub mod LaterFlagLaws
+pub mod FrozenChains

@@ -1,6 +1,6 @@
 -- The five fixed nodes: their keys, that the three leaves among them are always reached, and that none of them has a flagged edge.
-use Rattle.std.proofs.Common.{◌≡◌, ◌≢◌, inl, inr, ◌&&◌, ℕ, zero, suc, ◌<◌, ◌≤◌, ◌^◌, Bool, true, false, ◌||◌, List, [], ◌∷◌, refl, sym, ap, subst, ◌∙◌, arith, true≢false}
-use Rattle.std.specs.Prelude.{Some, None, nat_lt, slice_index_or}
+use Rattle.std.proofs.Common.{◌≡◌, ◌≢◌, inl, inr, ◌&&◌, ℕ, zero, suc, ◌≤◌, true, List, [], ◌∷◌, refl, sym, ap, subst, ◌∙◌, arith}
+use Rattle.std.specs.Prelude.{None, nat_lt, slice_index_or}
 use Rattle.std.proofs.lemmas.Bool.{cases_lt, or_parts}
 use Rattle.nm_edge.specs.Edges.{Edge}
 use Rattle.nm_edge.specs.Layouts.{Layout}
@@ -10,12 +10,12 @@ use Rattle.nm_core.specs.declared.event.Field.{Field}
 use Rattle.nm_core.specs.declared.event.Event.{Event}
 use Rattle.nm_core.specs.declared.event.Event.TheVariants.{Fill}
 use Rattle.nm_core.specs.declared.reply.Refused.TheVariants.{NoSlot}
-use Rattle.nm_core.specs.Memory.{Memory, node, edge, child, infinity_0, infinity_1, infinity_2}
+use Rattle.nm_core.specs.Memory.{node, edge, child, infinity_0, infinity_1, infinity_2}
 use Rattle.nm_core.specs.Knowledge.{knows}
 use Rattle.nm_core.specs.Paths.{follow}
 use Rattle.nm_core.specs.Searches.{side_of}
 use Rattle.nm_core.specs.Step.{outside, is_edge, refusal}
-use Rattle.nm_core.specs.Runs.{State, of, start, after, refusal_of, applied}
+use Rattle.nm_core.specs.Runs.{State, of, start, refusal_of, applied}
 use Rattle.nm_core.specs.Ordered.{Configuration}
 use Rattle.nm_core.proofs.Steps.{Allowed, passed, by_steps}
 use Rattle.nm_core.proofs.TreeSteps.{Lawful, high_from}

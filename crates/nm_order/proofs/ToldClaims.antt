@@ -1,12 +1,11 @@
 -- A slot that is claimed was in none of the worker's hands.
-use Rattle.std.proofs.Common.{◌≡◌, ◌≢◌, ℕ, ◌≤◌, Bool, true, false, cond, List, [], ◌∷◌, ◌++◌, refl, sym, ap, subst, ◌∙◌, arith, true≢false}
+use Rattle.std.proofs.Common.{◌≡◌, ◌≢◌, ℕ, ◌≤◌, Bool, true, false, cond, refl, sym, ap, subst, ◌∙◌, arith, true≢false}
 use Rattle.std.specs.Prelude.{Option, Some, None, option_map, slice_get, is_some}
-use Rattle.std.proofs.lemmas.Bool.{cond_both, false_from_ne_true}
+use Rattle.std.proofs.lemmas.Bool.{false_from_ne_true}
 use Rattle.std.proofs.lemmas.Option.{none-some}
 use Rattle.nm_edge.specs.Layouts.{Layout}
 use Rattle.nm_core.specs.declared.event.Event.{Event}
-use Rattle.nm_core.specs.declared.event.Event.TheVariants.{Claim, Join}
-use Rattle.nm_core.specs.declared.reply.Reply.{Reply}
+use Rattle.nm_core.specs.declared.event.Event.TheVariants.{Claim}
 use Rattle.nm_core.specs.declared.reply.Reply.TheVariants.{Claimed, Taken}
 use Rattle.nm_core.specs.declared.reply.Refused.TheVariants.{NoSlot}
 use Rattle.nm_core.specs.declared.ledger.Queued.{Queued}
@@ -23,10 +22,8 @@ use Rattle.nm_core.proofs.TreeSteps.{Lawful, high_from}
 use Rattle.nm_core.proofs.Pictures.{Spot, Stands, nowhere_else}
 use Rattle.nm_core.proofs.Pictures.Spot.{InPool, PrivateTo, InQueue}
 use Rattle.nm_core.proofs.Views.{picture, held_queue}
-use Rattle.nm_order.specs.Logs.{known_by, IsLogOf}
 use Rattle.nm_order.specs.Told.{IsNew, OfEachEntry, ClaimsAreNew}
-use Rattle.nm_order.proofs.LastEntries.{PartOf, LastEntry, last_entry}
-use Rattle.nm_order.proofs.LastEntries.PartOf.{Own, Resigns}
+use Rattle.nm_order.proofs.LastEntries.{LastEntry, last_entry}
 use Rattle.nm_order.proofs.ToldLaws.{lawful_before, allowed_before, live_then, same_layout}
 
 -- a claim that is answered so found the slot in the pool

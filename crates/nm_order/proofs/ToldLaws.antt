@@ -1,39 +1,32 @@
 -- What the last entry of a log tells.
-use Rattle.std.proofs.Common.{◌≡◌, ◌≢◌, ℕ, zero, suc, ◌<◌, ◌≤◌, ◌^◌, ◌⊎◌, inl, inr, Bool, true, false, cond, ◌||◌, ◌&&◌, List, [], ◌∷◌, ◌++◌, refl, sym, ap, subst, ◌∙◌, arith, true≢false}
-use Rattle.std.specs.Prelude.{Option, Some, None, slice_get, is_some, nat_lt}
-use Rattle.std.proofs.lemmas.Bool.{cases_lt, cond_both, false_from_ne_true, or_parts, ltb-false}
-use Rattle.std.proofs.lemmas.Option.{none-some}
+use Rattle.std.proofs.Common.{◌≡◌, ◌≢◌, ℕ, ◌≤◌, inl, inr, true, List, [], refl, sym, ap, subst, ◌∙◌, arith}
+use Rattle.std.proofs.lemmas.Bool.{cases_lt}
 use Rattle.nm_edge.specs.Edges.{Edge, other}
 use Rattle.nm_edge.specs.Layouts.{Layout}
 use Rattle.nm_edge.specs.declared.edge.Side.{Side}
 use Rattle.nm_edge.specs.declared.edge.Side.TheVariants.{Left, Right}
-use Rattle.nm_core.specs.declared.event.Field.TheVariants.{Key, Edge as EdgeOn}
-use Rattle.nm_core.specs.declared.event.Field.{Field}
+use Rattle.nm_core.specs.declared.event.Field.TheVariants.{Key}
 use Rattle.nm_core.specs.declared.event.Event.{Event}
-use Rattle.nm_core.specs.declared.event.Event.TheVariants.{Claim, Look, Link, Fill, Flag, Tag, Splice, Join}
+use Rattle.nm_core.specs.declared.event.Event.TheVariants.{Look}
 use Rattle.nm_core.specs.declared.reply.Reply.{Reply}
-use Rattle.nm_core.specs.declared.reply.Reply.TheVariants.{Claimed, Taken, KeyIs, EdgeIs, Was, Lost}
+use Rattle.nm_core.specs.declared.reply.Reply.TheVariants.{KeyIs}
 use Rattle.nm_core.specs.declared.reply.Refused.TheVariants.{NoSlot}
-use Rattle.nm_core.specs.declared.ledger.Queued.{Queued}
-use Rattle.nm_core.specs.declared.ledger.Ledger.{Ledger}
-use Rattle.nm_core.specs.Memory.{Memory, node, edge, child, in_pool, infinity_0, opening}
-use Rattle.nm_core.specs.Ledgers.{held, queue_of}
-use Rattle.nm_core.specs.Knowledge.{Knowledge, knows, is_private}
-use Rattle.nm_core.specs.Step.{outside, refusal, reply, write, is_edge}
-use Rattle.nm_core.specs.Runs.{State, of, start, after, refusal_of, reply_of, applied}
+use Rattle.nm_core.specs.Memory.{Memory, node, edge, child, infinity_0}
+use Rattle.nm_core.specs.Knowledge.{knows}
+use Rattle.nm_core.specs.Step.{outside, refusal, reply}
+use Rattle.nm_core.specs.Runs.{State, of, start, after, reply_of, applied}
 use Rattle.nm_core.specs.Walks.{Entry}
-use Rattle.nm_core.specs.Ordered.{Configuration, search_of}
+use Rattle.nm_core.specs.Ordered.{search_of}
 use Rattle.nm_core.proofs.Steps.{Allowed, allowed, passed, by_steps}
 use Rattle.nm_core.proofs.TreeSteps.{Lawful, high_from}
 use Rattle.nm_core.proofs.Pictures.{IsLive}
 use Rattle.nm_core.proofs.Views.{picture}
-use Rattle.nm_core.proofs.KnownBirths.{written_same}
-use Rattle.nm_order.specs.Logs.{known_by, IsLogOf}
+use Rattle.nm_order.specs.Logs.{known_by}
 use Rattle.nm_order.specs.Facts.{Fact, HoldsIn, Holds}
 use Rattle.nm_order.specs.Facts.Fact.{KnowsSlot, IsTagged}
-use Rattle.nm_order.specs.Told.{TellsEdge, IsNew, OfEachEntry, TwinsAreToldFlagged, FlaggedEdgesLeadHigh, EdgesStayInside, RootLeads, TagsLead, LowKeysStandHigh, FlaggedEdgesStandHigh, ClaimsAreNew}
+use Rattle.nm_order.specs.Told.{TellsEdge, OfEachEntry, TwinsAreToldFlagged, FlaggedEdgesLeadHigh, EdgesStayInside, RootLeads, TagsLead, LowKeysStandHigh, FlaggedEdgesStandHigh}
 use Rattle.nm_order.specs.Told.TellsEdge.{ByLook, ByLink, ByFlag, ByTag, BySplice}
-use Rattle.nm_order.proofs.OrderedLaws.{IsOrdered, law_of_state}
+use Rattle.nm_order.proofs.OrderedLaws.{law_of_state}
 use Rattle.nm_order.proofs.PartsOfRuns.{allowed_by_state}
 use Rattle.nm_order.proofs.Sentinels.{sentinels_of, sentinel_is_high, flags_stand_high}
 use Rattle.nm_order.proofs.KnowledgeStays.{Answers, answers}

@@ -1,43 +1,40 @@
 -- The nodes that a flag and a splice answer are those that the facts of a log name.
-use Rattle.std.proofs.Common.{length-append, ◌≡◌, ◌≢◌, ℕ, zero, suc, ◌≤◌, eqb, ◌==◌, Bool, true, false, cond, not, ◌&&◌, List, [], ◌∷◌, ◌++◌, length, ◌+◌, map, refl, sym, ap, subst, ◌∙◌, arith, true≢false, Ok}
+use Rattle.std.proofs.Common.{length-append, ◌≡◌, ◌≢◌, ℕ, zero, suc, ◌≤◌, Bool, true, false, cond, not, ◌&&◌, List, [], ◌∷◌, ◌++◌, length, ◌+◌, map, refl, sym, ap, subst, ◌∙◌, arith, true≢false, Ok}
 use Rattle.std.specs.Prelude.{Option, Some, None, unwrap_or}
 use native.Mathlib.Decide.{ℕ_discrete}
-use Rattle.std.proofs.lemmas.Bool.{cond_both, eqb-true, eq-eqb, and_parts}
+use Rattle.std.proofs.lemmas.Bool.{and_parts}
 use Rattle.std.proofs.lemmas.Option.{none-some, same_Some}
 use Rattle.nm_edge.specs.Edges.{Edge, other, is_to}
-use Rattle.nm_edge.specs.Layouts.{Layout}
 use Rattle.nm_edge.specs.declared.edge.Side.{Side}
 use Rattle.nm_edge.specs.declared.edge.Side.TheVariants.{Left, Right}
 use Rattle.nm_edge.specs.declared.node.NodeId.{NodeId}
-use Rattle.nm_core.specs.declared.event.Event.{Event}
 use Rattle.nm_core.specs.declared.event.Event.TheVariants.{Flag, Splice, Join}
 use Rattle.nm_core.specs.declared.reply.Reply.{Reply}
 use Rattle.nm_core.specs.declared.reply.Reply.TheVariants.{Flagged, Cut, Lost}
-use Rattle.nm_core.specs.Memory.{Memory, node, edge, child, named}
-use Rattle.nm_core.specs.Knowledge.{Knowledge, knows, read, is_flagged, is_tagged, slot_read, leads_on, onward, slot_on, before_way, way, cut_by}
+use Rattle.nm_core.specs.Memory.{node, edge, child, named}
+use Rattle.nm_core.specs.Knowledge.{Knowledge, knows, read, is_flagged, is_tagged, slot_read, leads_on, onward, before_way, way, cut_by}
 use Rattle.nm_core.specs.Paths.{follow}
 use Rattle.nm_core.specs.Searches.{Search}
-use Rattle.nm_core.specs.Step.{reply, cut_nodes}
+use Rattle.nm_core.specs.Step.{reply}
 use Rattle.nm_core.specs.Runs.{State, of, outcome, reply_of}
 use Rattle.nm_core.specs.Walks.{Entry}
 use Rattle.nm_core.specs.Ordered.{search_of}
 use Rattle.nm_core.proofs.Trees.{follow-append}
-use Rattle.nm_core.proofs.Pictures.{below, alone, on_path}
+use Rattle.nm_core.proofs.Pictures.{alone, on_path}
 use Rattle.nm_core.proofs.Views.{picture, held_queue}
 use Rattle.nm_core.proofs.TreeSteps.{Lawful}
 use Rattle.nm_core.proofs.Configurations.{state_outcome}
-use Rattle.nm_core.proofs.Cuts.{Won, won_splice, Shown, shown}
+use Rattle.nm_core.proofs.Cuts.{won_splice, shown}
 use Rattle.nm_core.proofs.Splices.{a_on_path}
 use Rattle.nm_core.proofs.Ways.{way_here, way_next, way_end}
-use Rattle.nm_order.specs.Logs.{known_by, IsLogOf}
-use Rattle.nm_order.specs.Facts.{Fact, HoldsIn, Holds, IsTrueIn}
+use Rattle.nm_order.specs.Facts.{Fact, HoldsIn, Holds}
 use Rattle.nm_order.specs.Facts.Fact.{IsTagged, IsFlagged, IsBorn}
 use Rattle.nm_order.specs.Told.{FrozenTo, OfEachEntry, CutsAreAsKnown, FlagsAreAsKnown}
 use Rattle.nm_order.specs.Told.FrozenTo.{ends_there, goes_down}
 use Rattle.nm_order.proofs.LastEntries.{PartOf, LastEntry, last_entry}
 use Rattle.nm_order.proofs.LastEntries.PartOf.{Own, Resigns}
 use Rattle.nm_order.proofs.OrderedInduction.{births_of}
-use Rattle.nm_order.proofs.ToldLaws.{lawful_before, holds_then, allowed_before}
+use Rattle.nm_order.proofs.ToldLaws.{lawful_before, holds_then}
 
 -- ---- a won flag
 
@@ -167,7 +164,7 @@ module _ (s : State) (h : ℕ → ℕ) (law : Lawful s h) (w : ℕ) (S : Search)
 
 -- ---- a won splice
 
-frozen_so : (A B : Fact → Type 0) → ((fact : Fact) → A fact → B fact) → {p : ℕ} {keep : Side} {x : ℕ} {ns : List NodeId} → FrozenTo A p keep x ns → FrozenTo B p keep x ns
+pub frozen_so : (A B : Fact → Type 0) → ((fact : Fact) → A fact → B fact) → {p : ℕ} {keep : Side} {x : ℕ} {ns : List NodeId} → FrozenTo A p keep x ns → FrozenTo B p keep x ns
 frozen_so A B f (ends_there tag flag b c) = ends_there (f _ tag) (f _ flag) (f _ b) (f _ c)
 frozen_so A B f (goes_down side tag flag b c rest) = goes_down side (f _ tag) (f _ flag) (f _ b) (f _ c) (frozen_so A B f rest)
 

@@ -1,11 +1,10 @@
 -- Facts that stay: what a worker's log tells it under one pin, in pieces that no later event of that pin takes back.
-use Rattle.std.specs.Prelude.{◌≡◌, ℕ, ◌≤◌, Bool, true, false, List, [], ◌∷◌, ◌++◌, Some, Contains, All}
+use Rattle.std.specs.Prelude.{◌≡◌, ℕ, ◌≤◌, true, false, List, [], ◌∷◌, ◌++◌, Some, Contains}
 use Rattle.nm_edge.specs.Edges.{Edge}
 use Rattle.nm_edge.specs.Keys.{IsKey}
 use Rattle.nm_edge.specs.Layouts.{Layout}
 use Rattle.nm_edge.specs.declared.edge.Side.{Side}
 use Rattle.nm_edge.specs.declared.node.NodeId.{NodeId}
-use Rattle.nm_core.specs.declared.event.Event.{Event}
 use Rattle.nm_core.specs.declared.event.Op.{Op}
 use Rattle.nm_core.specs.declared.walks.Call.{Call}
 use Rattle.nm_core.specs.declared.walks.Arrival.{Arrival}
@@ -14,9 +13,8 @@ use Rattle.nm_core.specs.Knowledge.{Knowledge, knows, is_private, seen_of, read,
 use Rattle.nm_core.specs.Searches.{Search, idle}
 use Rattle.nm_core.specs.Runs.{State, of}
 use Rattle.nm_core.specs.Walks.{Entry, search_after, begins_anew}
-use Rattle.nm_core.specs.Ordered.{ordered, after_in, trace_in}
-use Rattle.nm_order.specs.Intervals.{HasKey}
-use Rattle.nm_order.specs.Logs.{part_of, known_by, IsLogOf}
+use Rattle.nm_core.specs.Ordered.{ordered, after_in}
+use Rattle.nm_order.specs.Logs.{known_by, IsLogOf}
 
 -- the walks of a call since its pin, or since the flag that it won
 pub data Since : Type 0 where

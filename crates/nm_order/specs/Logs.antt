@@ -6,10 +6,9 @@ use Rattle.nm_core.specs.declared.event.Event.TheVariants.{Join}
 use Rattle.nm_core.specs.declared.trace.Turn.{Turn}
 use Rattle.nm_core.specs.Knowledge.{Knowledge, newcomer}
 use Rattle.nm_core.specs.Learning.{learn}
-use Rattle.nm_core.specs.Walks.{Entry, entry_of, search_after}
-use Rattle.nm_core.specs.Searches.{idle}
+use Rattle.nm_core.specs.Walks.{Entry, entry_of}
 use Rattle.nm_core.specs.Runs.{of}
-use Rattle.nm_core.specs.Ordered.{ordered, search_of, after_in, trace_in}
+use Rattle.nm_core.specs.Ordered.{ordered, after_in, trace_in}
 use Rattle.nm_order.specs.Intervals.{HasKey}
 
 -- it is a join by which worker w resigns

@@ -12,6 +12,7 @@ use Rattle.nm_core.specs.declared.ledger.Queued.{Queued}
 use Rattle.nm_core.specs.Memory.{infinity_0}
 use Rattle.nm_core.specs.Knowledge.{is_private, knows}
 use Rattle.nm_core.specs.Ledgers.{held, queue_of}
+use Rattle.nm_core.specs.Step.{is_frozen}
 use Rattle.nm_core.specs.Walks.{Entry}
 use Rattle.nm_order.specs.Logs.{known_by, IsLogOf}
 use Rattle.nm_order.specs.Facts.{Fact, Holds}
@@ -83,3 +84,7 @@ CutsAreAsKnown L w log entry = (a s p : ℕ) (side keep : Side) (ns known : List
 -- a flag that is won answers the leaf with its birth as it was known
 abbrev pub FlagsAreAsKnown : Layout → ℕ → List Entry → Entry → Type 0
 FlagsAreAsKnown L w log entry = (p leaf birth : ℕ) (side : Side) (n : NodeId) → entry ≡ (Flag p side leaf, Flagged n) → Holds L w log (IsBorn leaf birth) → n ≡ record { slot = leaf; birth = birth }
+
+-- a chain that is frozen by the facts of a log is one that a splice may cut off, by the worker's own knowledge
+abbrev pub FrozenChainsMayBeCut : Type 0
+FrozenChainsMayBeCut = (L : Layout) → 5 ≤ L.nodes → (w : ℕ) (log : List Entry) → IsLogOf L w log → (s p : ℕ) (keep : Side) (nodes : List NodeId) → FrozenTo (Holds L w log) p keep s nodes → is_frozen L (known_by L w log) s p keep ≡ true

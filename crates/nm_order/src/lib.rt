@@ -16,5 +16,8 @@ pub use order::{
     flags_mark_leaves, keys_are_the_set, links_insert, trees_are_in_order, walks_stay_in_order,
 };
 pub use paths::walks_were_reached;
-pub use told::{answers_name_what_is_known, claims_are_new, edges_are_told, low_keys_stand_high};
+pub use told::{
+    answers_name_what_is_known, claims_are_new, edges_are_told, frozen_chains_may_be_cut,
+    low_keys_stand_high,
+};
 pub use walks::{flags_are_told, flags_stay, walks_after_the_flag, walks_are_arrivals};

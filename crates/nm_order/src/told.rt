@@ -1,5 +1,5 @@
 //! What the last entry of a log tells: laws over the log of one worker, of each log that ends with the entry.
-ghost use Rattle.nm_order.specs.Told.{ClaimsAreNew, CutsAreAsKnown, EdgesStayInside, FlaggedEdgesLeadHigh, FlaggedEdgesStandHigh, FlagsAreAsKnown, LowKeysStandHigh, OfEachEntry, RootLeads, TagsLead, TwinsAreToldFlagged};
+ghost use Rattle.nm_order.specs.Told.{ClaimsAreNew, CutsAreAsKnown, EdgesStayInside, FlaggedEdgesLeadHigh, FlaggedEdgesStandHigh, FlagsAreAsKnown, FrozenChainsMayBeCut, LowKeysStandHigh, OfEachEntry, RootLeads, TagsLead, TwinsAreToldFlagged};
 
 /// What an edge that is told must be: flagged where its twin is known tagged; where it is flagged, one of a slot above 5 to a slot above 5;
 /// in any case one to a slot of the layout; and not null where it is the left edge of slot 2, or was tagged.
@@ -28,4 +28,10 @@ pub fn claims_are_new()
 pub fn answers_name_what_is_known()
     ensures cuts { OfEachEntry CutsAreAsKnown }
     ensures flags { OfEachEntry FlagsAreAsKnown }
+{}
+
+/// A chain that a worker's facts say is frozen, by tagged edges from a slot down to another and with a flagged edge beside each,
+/// is one that its own knowledge lets it cut off by a splice. (The chain of Natarajan and Mittal's cleanup, section 3.2.)
+pub fn frozen_chains_may_be_cut()
+    ensures { FrozenChainsMayBeCut }
 {}
