@@ -1,0 +1,8 @@
+//! Slots taken out of the pool and put back.
+#![tactic(auto)]
+
+mod nodes;
+mod slots;
+
+pub use nodes::{claim, give};
+pub use slots::{put, take};
