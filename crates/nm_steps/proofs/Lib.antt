@@ -5,3 +5,7 @@ pub mod Asking
 pub mod Keeping
 pub mod Cutting
 pub mod Noting
+pub mod OpeningWords
+pub mod FreshPasses
+pub mod JoinedPasses
+pub mod Endings
