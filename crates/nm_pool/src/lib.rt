@@ -3,6 +3,8 @@
 
 mod nodes;
 mod slots;
+#[cfg(test)]
+mod tests;
 
 pub use nodes::{claim, give};
 pub use slots::{put, take};
