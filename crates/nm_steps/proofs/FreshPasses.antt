@@ -32,6 +32,5 @@ fresh_tied L it w fits below view empty = record {
   fits = subst (λ (v : View). IsLayout v.layout) (sym view) fits;
   worker = subst (λ (v : View). w < v.layout.workers) (sym view) below;
   small = tt;
-  log = inr (subst (λ (v : View). IsLogOf v.layout v.number v.log) (sym view) (empty_log L w below));
-  here = ap (λ (v : View). (knowledge v).gone) view;
+  log = inr (record { is_part = subst (λ (v : View). IsLogOf v.layout v.number v.log) (sym view) (empty_log L w below); here = ap (λ (v : View). (knowledge v).gone) view });
 }

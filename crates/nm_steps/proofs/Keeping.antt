@@ -111,7 +111,7 @@ module _ (L : Layout) (words : List ℕ) (views : List View) (id : ℕ) (v : Vie
   found_is = λ j. slice_index (k.words_are j) (index j)
 
   pub is_found : IsFound L v.number v.log e found
-  is_found = record { fits = k.fits; worker = counted.1; turns = k.turns; keys = k.keys; is_part = mine.1; word = λ _. found_is }
+  is_found = record { fits = k.fits; worker = counted.1; turns = k.turns; keys = k.keys; is_part = mine.1; here = part.here; word = λ _. found_is }
 
   abbrev reply : Reply
   reply = told v.layout (knowledge v) e found
@@ -207,7 +207,7 @@ allows L slots id v e i f said alive layout index may change tell s k homes at s
       subst (λ (m : ℕ). Runs L (slice_set s.words i m) (set s.views id (logged v e n))) (sym (change n)) (next L s.words s.views id v e i k at alive layout index may),
       (
         (λ j. (record v { log = v.log ++ (e, sym (tell n).0 j) ∷ [] }, [])),
-        subst (λ (l : Layout). IsFound l v.number v.log e (said n)) (sym layout) (record { fits = was.fits; worker = was.worker; turns = was.turns; keys = was.keys; is_part = was.is_part; word = λ h. (tell n).1 h ∙ was.word h }),
+        subst (λ (l : Layout). IsFound l v.number v.log e (said n)) (sym layout) (record { fits = was.fits; worker = was.worker; turns = was.turns; keys = was.keys; is_part = was.is_part; here = was.here; word = λ h. (tell n).1 h ∙ was.word h }),
       ),
     )
 

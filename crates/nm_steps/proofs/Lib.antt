@@ -3,9 +3,9 @@ pub mod Presence
 pub mod Extending
 pub mod Asking
 pub mod Keeping
+pub mod OpeningWords
 pub mod Cutting
 pub mod Noting
-pub mod OpeningWords
 pub mod FreshPasses
 pub mod JoinedPasses
 pub mod Endings

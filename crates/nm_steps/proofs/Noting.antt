@@ -24,7 +24,7 @@ use Rattle.nm_words.specs.Packing.{word_at, touched}
 use Rattle.nm_words.specs.Told.{told}
 use Rattle.nm_steps.specs.declared.view.View.{View}
 use Rattle.nm_steps.specs.Rules.{knowledge, logged, is_store, IsFound}
-use Rattle.nm_steps.specs.Steps.{May, IsReady, IsDone, Tied, Laid, noted, noted_sight}
+use Rattle.nm_steps.specs.Steps.{May, IsReady, IsDone, IsOfRun, Tied, Laid, noted, noted_sight}
 use Rattle.nm_steps.proofs.Presence.{gone_kept, known_push}
 use Rattle.nm_steps.proofs.Asking.{within, seen_small}
 use Rattle.nm_steps.proofs.Extending.{IsPartOf, keys-append, trace_after}
@@ -88,9 +88,9 @@ store_is_blind L k (LeaveWith answer) n m is = refl
 store_is_blind L k (Fill s f v) n m is = refl
 store_is_blind L k e n m is = absurd (true≢false (sym is))
 
-module _ (L : Layout) (w : ℕ) (log : List Entry) (e : Event) (n : ℕ) (f : IsFound L w log e n) (here : (known_by L w log).gone ≡ false) (may : May L w log e) where
+module _ (L : Layout) (w : ℕ) (log : List Entry) (e : Event) (n : ℕ) (f : IsFound L w log e n) (may : May L w log e) where
   part : IsPartOf L w log f.turns
-  part = record { fits = f.fits; keys = f.keys; worker = f.worker; is_part = f.is_part; here = here }
+  part = record { fits = f.fits; keys = f.keys; worker = f.worker; is_part = f.is_part; here = f.here }
 
   reply_is : told L (known_by L w log) e (word_at L (after_in (ordered L) f.turns).state.memory (touched w e)) ≡ told L (known_by L w log) e n
   reply_is = go (is_store e) refl
@@ -140,11 +140,14 @@ pub tied_after : (it after : Seat Unit View) (number : ℕ) (brief new : Brief) 
 tied_after it after number brief new e n tied may done is =
     let me : after.me.0 ≡ logged it.me.0 e n = ap (λ m. m.0) done.me in
     let r : Reply = told it.me.0.layout (knowledge it.me.0) e n in
-    let longer : IsLogOf it.me.0.layout it.me.0.number (it.me.0.log ++ (e, r) ∷ []) = log_grows it.me.0.layout it.me.0.number it.me.0.log e n done.found tied.here may in
+    let longer : IsLogOf it.me.0.layout it.me.0.number (it.me.0.log ++ (e, r) ∷ []) = log_grows it.me.0.layout it.me.0.number it.me.0.log e n done.found may in
     let epochs : new ≡ (known_by it.me.0.layout it.me.0.number (it.me.0.log ++ (e, r) ∷ [])).brief =
         is ∙ (ap (λ (b : Brief). noted b e r) tied.brief_is
         ∙ (sym (brief_is_noted it.me.0.number (knowledge it.me.0) e r)
         ∙ sym (ap (λ (k : Knowledge). k.brief) (known_push it.me.0.number it.me.0.layout it.me.0.log (e, r))))) in
+    let still : (known_by it.me.0.layout it.me.0.number (it.me.0.log ++ (e, r) ∷ [])).gone ≡ false =
+        ap (λ (k : Knowledge). k.gone) (known_push it.me.0.number it.me.0.layout it.me.0.log (e, r))
+        ∙ (gone_kept it.me.0.number (knowledge it.me.0) e r (no_leaver it.me.0.layout it.me.0.number it.me.0.log e may it.me.0.number) ∙ done.found.here) in
     record {
       empty = ap (λ m. m.1) done.me ∙ tied.empty;
       alive = ap (λ (v : View). v.spent) me ∙ tied.alive;
@@ -153,11 +156,7 @@ tied_after it after number brief new e n tied may done is =
       fits = subst (λ (v : View). IsLayout v.layout) (sym me) tied.fits;
       worker = subst (λ (v : View). number < v.layout.workers) (sym me) tied.worker;
       small = small_seen new.seen (λ s at. seen_small it.me.0.layout it.me.0.number (it.me.0.log ++ (e, r) ∷ []) tied.fits longer s (sym (ap (λ (b : Brief). b.seen) epochs) ∙ at));
-      log = inr (subst (λ (v : View). IsLogOf v.layout v.number v.log) (sym me) longer);
-      here =
-          ap (λ (v : View). (knowledge v).gone) me
-          ∙ (ap (λ (k : Knowledge). k.gone) (known_push it.me.0.number it.me.0.layout it.me.0.log (e, r))
-          ∙ (gone_kept it.me.0.number (knowledge it.me.0) e r (no_leaver it.me.0.layout it.me.0.number it.me.0.log e may it.me.0.number) ∙ tied.here));
+      log = inr (subst (λ (v : View). IsOfRun v.layout v.number v.log) (sym me) (record { is_part = longer; here = still }));
     }
 
 -- ---- a sight is always allowed

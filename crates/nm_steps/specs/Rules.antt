@@ -108,6 +108,7 @@ pub record IsFound (L : Layout) (w : ℕ) (log : List Entry) (e : Event) (n : �
   pub turns : List (ℕ × Event)
   pub keys : All (λ t. HasKey t.1) turns
   pub is_part : log ≡ part_of w (trace_in (ordered L) turns)
+  pub here : (known_by L w log).gone ≡ false
   pub word : is_store e ≡ false → n ≡ word_at L (after_in (ordered L) turns).state.memory (touched w e)
 
 -- what a step tells its seat: the event is in its log with its reply, and nothing else changed

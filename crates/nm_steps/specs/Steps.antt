@@ -117,8 +117,13 @@ pub record EndsWithJoin (log : List Entry) : Type 0 where
   pub ledgers : List (Option Ledger)
   pub is : log ≡ before ++ (Join leaver, Joined ledgers) ∷ []
 
--- what a pass keeps of its log: its number and epochs, that it has not resigned, and that the log is its number's part of a run.
--- (Of that run a step tells. A join tells nothing, so that the last is kept of a log that ends with one from the next step on.)
+-- a log is its worker's part of some run, and the worker has not resigned
+pub record IsOfRun (L : Layout) (w : ℕ) (log : List Entry) : Type 0 where
+  pub is_part : IsLogOf L w log
+  pub here : (known_by L w log).gone ≡ false
+
+-- what a pass keeps of its log: its number and epochs, and that the log is of a run.
+-- (Each step tells of the run. A join tells nothing, so of a log that ends with one this is kept from the next step on.)
 pub record Tied (it : Seat Unit View) (number : ℕ) (brief : Brief) : Type 0 where
   pub empty : it.me.1 ≡ []
   pub alive : it.me.0.spent ≡ false
@@ -127,8 +132,7 @@ pub record Tied (it : Seat Unit View) (number : ℕ) (brief : Brief) : Type 0 wh
   pub fits : IsLayout it.me.0.layout
   pub worker : number < it.me.0.layout.workers
   pub small : IfSome brief.seen (λ e. e ≤ last_number)
-  pub log : EndsWithJoin it.me.0.log ⊎ IsLogOf it.me.0.layout it.me.0.number it.me.0.log
-  pub here : (knowledge it.me.0).gone ≡ false
+  pub log : EndsWithJoin it.me.0.log ⊎ IsOfRun it.me.0.layout it.me.0.number it.me.0.log
 
 -- what a table keeps
 pub record Laid (z : TableId) (key L : Layout) : Type 0 where

@@ -1,11 +1,10 @@
 //! How two passes become one.
-ghost use Rattle.std.specs.Prelude.{◌≡◌};
 ghost use Rattle.nm_steps.specs.Rules.{knowledge};
 ghost use Rattle.nm_steps.specs.Steps.{IsOf, HasEmptyHands, HasJoined};
 
 use crate::pass::{Pass, Shared};
 use crate::view::View;
-use atomic_table::{Join, Play};
+use atomic_table::Join;
 
 /// The first view stands for both, and the join is in both logs.
 pub(crate) struct Unite;
@@ -18,18 +17,9 @@ impl Join<View> for Unite {
     ghost spent = { nobody };
 }
 
-/// A load that is no event. It leaves the seat as it is, and tells what the rule says of its log.
-pub(crate) struct Recall;
-
-impl Play<(), View> for Recall {
-    ghost use Rattle.nm_steps.specs.Recalls.{Recalls};
-
-    ghost then = { Recalls };
-}
-
 impl Shared {
     /// The first pass stands for both, and takes over the ledgers that the second one's worker holds. That worker resigns;
-    /// it must have no private slot and no unlabelled cut.
+    /// it must have no private slot and no unlabelled cut. One step, which is in both logs.
     pub fn join(&self, pass: Pass, other: Pass) -> Pass
         requires first { IsOf self.now pass }
         requires second { IsOf self.now other }
@@ -46,9 +36,7 @@ impl Shared {
             number: _,
             brief: _,
         } = other;
-        let word = self.layout.epoch() as usize;
         self.table.shared.join_seat::<Unite>(&mut seat, spent);
-        self.table.shared.load::<Recall>(&mut seat, word);
         Pass {
             seat,
             number,
