@@ -142,12 +142,12 @@ tied_after it after number brief new e n tied may done is =
     let r : Reply = told it.me.0.layout (knowledge it.me.0) e n in
     let longer : IsLogOf it.me.0.layout it.me.0.number (it.me.0.log ++ (e, r) ∷ []) = log_grows it.me.0.layout it.me.0.number it.me.0.log e n done.found may in
     let epochs : new ≡ (known_by it.me.0.layout it.me.0.number (it.me.0.log ++ (e, r) ∷ [])).brief =
-        is ∙ (ap (λ (b : Brief). noted b e r) tied.brief_is
-        ∙ (sym (brief_is_noted it.me.0.number (knowledge it.me.0) e r)
-        ∙ sym (ap (λ (k : Knowledge). k.brief) (known_push it.me.0.number it.me.0.layout it.me.0.log (e, r))))) in
+    is ∙ (ap (λ (b : Brief). noted b e r) tied.brief_is
+    ∙ (sym (brief_is_noted it.me.0.number (knowledge it.me.0) e r)
+    ∙ sym (ap (λ (k : Knowledge). k.brief) (known_push it.me.0.number it.me.0.layout it.me.0.log (e, r))))) in
     let still : (known_by it.me.0.layout it.me.0.number (it.me.0.log ++ (e, r) ∷ [])).gone ≡ false =
-        ap (λ (k : Knowledge). k.gone) (known_push it.me.0.number it.me.0.layout it.me.0.log (e, r))
-        ∙ (gone_kept it.me.0.number (knowledge it.me.0) e r (no_leaver it.me.0.layout it.me.0.number it.me.0.log e may it.me.0.number) ∙ done.found.here) in
+    ap (λ (k : Knowledge). k.gone) (known_push it.me.0.number it.me.0.layout it.me.0.log (e, r))
+    ∙ (gone_kept it.me.0.number (knowledge it.me.0) e r (no_leaver it.me.0.layout it.me.0.number it.me.0.log e may it.me.0.number) ∙ done.found.here) in
     record {
       empty = ap (λ m. m.1) done.me ∙ tied.empty;
       alive = ap (λ (v : View). v.spent) me ∙ tied.alive;
