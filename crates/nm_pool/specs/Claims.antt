@@ -12,11 +12,9 @@ use Rattle.nm_pool.specs.declared.nodes.Tried.{Tried}
 use Rattle.nm_pool.specs.declared.nodes.Tried.TheVariants as tried
 use Rattle.nm_pool.specs.Takes.{Doing, DoneBelow, FoundTaken}
 
--- the slot was claimed, found worn and given back. (No birth is above the greatest.)
-pub record FoundWorn (s : ℕ) (old new : List Entry) : Type 0 where
-  pub birth : ℕ
-  pub greatest : last_number ≤ birth
-  pub entries : new ≡ old ++ (Claim s, Claimed s) ∷ (Look s Birth, BirthIs birth) ∷ (Give s, Returned s) ∷ []
+-- the slot was claimed, found worn, with the greatest birth, and given back
+abbrev pub FoundWorn : Doing
+FoundWorn s old new = new ≡ old ++ (Claim s, Claimed s) ∷ (Look s Birth, BirthIs last_number) ∷ (Give s, Returned s) ∷ []
 
 -- the slot was claimed, and the birth that was found there was raised by one, to that of the node
 pub record MadeNew (n : NodeId) (old new : List Entry) : Type 0 where

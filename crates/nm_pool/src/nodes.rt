@@ -79,7 +79,7 @@ fn try_slot(shared: &Shared, pass: &mut Pass, slot: u32) -> Tried
         return Tried::Taken;
     }
     let birth = shared.look_birth(pass, slot);
-    if birth >= LAST_BIRTH {
+    if birth == LAST_BIRTH {
         put(shared, pass, slot);
         return Tried::Worn;
     }

@@ -24,9 +24,9 @@ put-requires-clause-private c =
     let had : HasDraft (knowledge c.claim.new.pass.view) slot unfilled = claimed_draft c.args.pass.now c.claim.new.pass slot slot (search rules) in
     private_of (knowledge c.look_birth-birth.new.pass.view) slot (looked_at c.look_birth-birth.result) (looked_draft c.claim.new.pass c.look_birth-birth.new.pass slot c.look_birth-birth.result had (search rules))
 
-pub returns-then-birth-ge-LAST_BIRTH-clause-learned :
-    goal.returns-then-birth-ge-LAST_BIRTH-clause-learned
-returns-then-birth-ge-LAST_BIRTH-clause-learned c =
+pub returns-then-birth-eq-LAST_BIRTH-clause-learned :
+    goal.returns-then-birth-eq-LAST_BIRTH-clause-learned
+returns-then-birth-eq-LAST_BIRTH-clause-learned c =
     let slot = c.args.slot in
     let p = c.claim.new.pass in
     let q = c.look_birth-birth.new.pass in
