@@ -10,3 +10,4 @@ pub mod FreshPasses
 pub mod JoinedPasses
 pub mod Endings
 pub mod FoundBirths
+pub mod ClaimedSlots
