@@ -1,19 +1,23 @@
 -- What a worker knows of its slots after a step on the pool or on a private slot.
-use Rattle.std.proofs.Common.{◌≡◌, ℕ, suc, ◌+◌, ◌-◌, ◌≤◌, true, List, refl, ap, ◌∙◌, arith}
-use Rattle.std.specs.Prelude.{Some, None, is_some, unwrap_or}
-use Rattle.std.proofs.lemmas.Bool.{cond-true, eq-eqb}
+use Rattle.std.proofs.Common.{◌≡◌, ◌≢◌, ℕ, suc, ◌+◌, ◌-◌, ◌≤◌, eqb, Bool, true, false, true≢false, cond, List, [], ◌∷◌, refl, sym, ap, ◌∙◌, arith}
+use Rattle.std.specs.Prelude.{Some, None, is_some, unwrap_or, slice_get}
+use Rattle.std.proofs.lemmas.Bool.{cond-true, cond-false, eq-eqb, ne_eqb, eqb-true, false_from_ne_true}
+use Rattle.std.specs.Ordering.{nat_cmp, is_eq}
 use Rattle.nm_core.specs.declared.event.Event.{Event}
 use Rattle.nm_core.specs.declared.event.Event.TheVariants.{Claim, Give, Look, Fill}
 use Rattle.nm_core.specs.declared.event.Field.TheVariants.{Birth}
 use Rattle.nm_core.specs.declared.reply.Reply.{Reply}
 use Rattle.nm_core.specs.declared.reply.Reply.TheVariants.{Claimed, Taken, Returned, BirthIs, Filled}
 use Rattle.nm_core.specs.declared.knowledge.Draft.{Draft}
-use Rattle.nm_core.specs.Maps.{get, put, without}
+use Rattle.nm_core.specs.Maps.{get, put, without, has}
+use Rattle.nm_core.specs.Ledgers.{held, queue_of}
 use Rattle.nm_core.specs.Knowledge.{Knowledge, unfilled, is_private, draft_of}
 use Rattle.nm_core.specs.Learning.{learn, filled_in, look_private, look_known}
 use Rattle.nm_core.specs.Walks.{Entry}
 use Rattle.nm_core.proofs.Learned.{learn_claimed, learn_taken, learn_returned, learn_look, learn_filled}
-use Rattle.nm_core.proofs.Tables.{get-put}
+use Rattle.nm_core.proofs.Tables.{get-put, at_eqb}
+use Rattle.nm_order.specs.Told.{IsNew}
+use Rattle.nm_steps.specs.declared.view.View.{View}
 use Rattle.nm_steps.specs.Rules.{knowledge}
 use Rattle.nm_steps.specs.Steps.{Board, Stand, IsOf, Stepped}
 use Rattle.nm_steps.proofs.Presence.{known_push}
@@ -104,41 +108,84 @@ unborn_is k s b has = ap (λ (d : Draft). d.birth) (draft_is k s (looked_at b) h
 
 -- ---- nothing but slots is learned
 
-learns_none : (k l : Knowledge) → l ≡ k → LearnsSlots k l
-learns_none k l is = record {
+-- what a key has is not changed by the removal of another
+without_other : (m : List (ℕ × Draft)) (s q : ℕ) → q ≢ s → get (without m s) q ≡ get m q
+without_other [] s q ne = refl
+without_other (e ∷ es) s q ne = by (is_eq (nat_cmp s e.0)) (at_eqb s e.0) (without_other es s q ne)
+  where
+    by : (b : Bool) → b ≡ eqb s e.0 → get (without es s) q ≡ get es q → get (cond b es (e ∷ without es s)) q ≡ get (e ∷ es) q
+    by true is later = sym (ap (λ (b : Bool). cond b (Some e.1) (get es q)) (at_eqb q e.0) ∙ cond-false (eqb q e.0) (Some e.1) (get es q) (ne_eqb q e.0 (λ at. ne (at ∙ sym (eqb-true s e.0 (sym is))))))
+    by false is later = ap (cond (is_eq (nat_cmp q e.0)) (Some e.1)) later
+
+put_other : (m : List (ℕ × Draft)) (s : ℕ) (d : Draft) (q : ℕ) → q ≢ s → get (put m s d) q ≡ get m q
+put_other m s d q ne = get-put m s d q ∙ cond-false (eqb q s) (Some d) (get m q) (ne_eqb q s ne)
+
+-- nothing but one slot was learned
+pub record LearnsOf (t : ℕ) (before after : Knowledge) : Type 0 where
+  pub brief : after.brief ≡ before.brief
+  pub scanned : after.scanned ≡ before.scanned
+  pub known : after.known ≡ before.known
+  pub ledgers : after.ledgers ≡ before.ledgers
+  pub gone : after.gone ≡ before.gone
+  pub others : (s : ℕ) → s ≢ t → get after.drafts s ≡ get before.drafts s
+
+learns_drafts : (t : ℕ) (k l : Knowledge) (m : List (ℕ × Draft)) → l ≡ record k { drafts = m } → ((s : ℕ) → s ≢ t → get m s ≡ get k.drafts s) → LearnsOf t k l
+learns_drafts t k l m is others = record {
   brief = ap (λ (x : Knowledge). x.brief) is;
   scanned = ap (λ (x : Knowledge). x.scanned) is;
   known = ap (λ (x : Knowledge). x.known) is;
   ledgers = ap (λ (x : Knowledge). x.ledgers) is;
   gone = ap (λ (x : Knowledge). x.gone) is;
+  others = λ s ne. ap (λ (x : Knowledge). get x.drafts s) is ∙ others s ne;
 }
 
-learns_drafts : (k l : Knowledge) (m : List (ℕ × Draft)) → l ≡ record k { drafts = m } → LearnsSlots k l
-learns_drafts k l m is = record {
-  brief = ap (λ (x : Knowledge). x.brief) is;
-  scanned = ap (λ (x : Knowledge). x.scanned) is;
-  known = ap (λ (x : Knowledge). x.known) is;
-  ledgers = ap (λ (x : Knowledge). x.ledgers) is;
-  gone = ap (λ (x : Knowledge). x.gone) is;
+learns_put : (t : ℕ) (k l : Knowledge) (d : Draft) → l ≡ with_draft k t d → LearnsOf t k l
+learns_put t k l d is = learns_drafts t k l (put k.drafts t d) is (put_other k.drafts t d)
+
+pub learns_claim : (p q : Stand) (s t : ℕ) → Stepped p q (Claim s) (Claimed t) → LearnsOf s (knowledge p.view) (knowledge q.view)
+learns_claim p q s t is = learns_put s (knowledge p.view) (knowledge q.view) _ (after_claimed p q s t is)
+
+pub learns_give : (p q : Stand) (s t : ℕ) → Stepped p q (Give s) (Returned t) → LearnsOf s (knowledge p.view) (knowledge q.view)
+learns_give p q s t is = learns_drafts s (knowledge p.view) (knowledge q.view) _ (after_returned p q s t is) (without_other (knowledge p.view).drafts s)
+
+pub learns_look : (p q : Stand) (s b : ℕ) → is_private (knowledge p.view) s ≡ true → Stepped p q (Look s Birth) (BirthIs b) → LearnsOf s (knowledge p.view) (knowledge q.view)
+learns_look p q s b own is = learns_put s (knowledge p.view) (knowledge q.view) _ (after_look p q s b own is)
+
+pub learns_fill : (p q : Stand) (s v : ℕ) → Stepped p q (Fill s Birth v) Filled → LearnsOf s (knowledge p.view) (knowledge q.view)
+learns_fill p q s v is = learns_put s (knowledge p.view) (knowledge q.view) _ (after_filled p q s v is)
+
+pub of_both : (t : ℕ) (k l m : Knowledge) → LearnsOf t k l → LearnsOf t l m → LearnsOf t k m
+of_both t k l m a b = record {
+  brief = b.brief ∙ a.brief;
+  scanned = b.scanned ∙ a.scanned;
+  known = b.known ∙ a.known;
+  ledgers = b.ledgers ∙ a.ledgers;
+  gone = b.gone ∙ a.gone;
+  others = λ s ne. b.others s ne ∙ a.others s ne;
 }
 
-abbrev Learns : Stand → Stand → Type 0
-Learns p q = LearnsSlots (knowledge p.view) (knowledge q.view)
+-- where that slot was not private before, each private one is kept
+pub learns_of : (t : ℕ) (k l : Knowledge) → is_private k t ≡ false → LearnsOf t k l → LearnsSlots k l
+learns_of t k l new a = record {
+  brief = a.brief;
+  scanned = a.scanned;
+  known = a.known;
+  ledgers = a.ledgers;
+  gone = a.gone;
+  kept = λ s own. a.others s (λ at. true≢false (sym own ∙ (ap (is_private k) at ∙ new)));
+}
 
-pub learns_taken : (p q : Stand) (s : ℕ) → Stepped p q (Claim s) Taken → Learns p q
-learns_taken p q s is = learns_none _ _ (after_taken p q s is)
-
-pub learns_claim : (p q : Stand) (s t : ℕ) → Stepped p q (Claim s) (Claimed t) → Learns p q
-learns_claim p q s t is = learns_drafts _ _ _ (after_claimed p q s t is)
-
-pub learns_give : (p q : Stand) (s t : ℕ) → Stepped p q (Give s) (Returned t) → Learns p q
-learns_give p q s t is = learns_drafts _ _ _ (after_returned p q s t is)
-
-pub learns_look : (p q : Stand) (s b : ℕ) → is_private (knowledge p.view) s ≡ true → Stepped p q (Look s Birth) (BirthIs b) → Learns p q
-learns_look p q s b own is = learns_drafts _ _ _ (after_look p q s b own is)
-
-pub learns_fill : (p q : Stand) (s v : ℕ) → Stepped p q (Fill s Birth v) Filled → Learns p q
-learns_fill p q s v is = learns_drafts _ _ _ (after_filled p q s v is)
+pub learns_taken : (p q : Stand) (s : ℕ) → Stepped p q (Claim s) Taken → LearnsSlots (knowledge p.view) (knowledge q.view)
+learns_taken p q s step =
+    let is : knowledge q.view ≡ knowledge p.view = after_taken p q s step in
+    record {
+      brief = ap (λ (x : Knowledge). x.brief) is;
+      scanned = ap (λ (x : Knowledge). x.scanned) is;
+      known = ap (λ (x : Knowledge). x.known) is;
+      ledgers = ap (λ (x : Knowledge). x.ledgers) is;
+      gone = ap (λ (x : Knowledge). x.gone) is;
+      kept = λ s own. ap (λ (x : Knowledge). get x.drafts s) is;
+    }
 
 pub learns_both : (k l m : Knowledge) → LearnsSlots k l → LearnsSlots l m → LearnsSlots k m
 learns_both k l m a b = record {
@@ -147,4 +194,13 @@ learns_both k l m a b = record {
   known = b.known ∙ a.known;
   ledgers = b.ledgers ∙ a.ledgers;
   gone = b.gone ∙ a.gone;
+  kept = λ s own. b.kept s (ap is_some (a.kept s own) ∙ own) ∙ a.kept s own;
+}
+
+-- a slot that is new to a worker was new before it learned of other slots
+pub new_before : (v u : View) (x : ℕ) → LearnsSlots (knowledge v) (knowledge u) → IsNew u.layout u.number u.log x → IsNew v.layout v.number v.log x
+new_before v u x learned new = record {
+  not_held = false_from_ne_true _ (λ own. true≢false (sym (ap is_some (learned.kept x own) ∙ own) ∙ new.not_held));
+  not_known = sym (ap (λ m. has m x) learned.known) ∙ new.not_known;
+  not_queued = λ origin i e at. new.not_queued origin i e (ap (λ l. slice_get (queue_of (held l origin)) i) learned.ledgers ∙ at);
 }

@@ -1,8 +1,9 @@
 -- What taking slots out of the pool leaves in the log, oldest entry first.
-use Rattle.std.specs.Prelude.{◌≡◌, ℕ, zero, suc, ◌+◌, ◌-◌, ◌≤◌, List, [], ◌∷◌, ◌++◌, Option, Some, None}
+use Rattle.std.specs.Prelude.{◌≡◌, ℕ, zero, suc, ◌+◌, ◌-◌, ◌≤◌, true, List, [], ◌∷◌, ◌++◌, Option, Some, None}
 use Rattle.nm_core.specs.declared.event.Event.TheVariants.{Claim}
 use Rattle.nm_core.specs.declared.reply.Reply.TheVariants.{Claimed, Taken}
-use Rattle.nm_core.specs.Knowledge.{Knowledge}
+use Rattle.nm_core.specs.Maps.{get}
+use Rattle.nm_core.specs.Knowledge.{Knowledge, is_private}
 use Rattle.nm_core.specs.Walks.{Entry}
 use Rattle.nm_steps.specs.Steps.{Stand}
 
@@ -10,13 +11,14 @@ use Rattle.nm_steps.specs.Steps.{Stand}
 abbrev pub IsSamePass : Stand → Stand → Type 0
 IsSamePass p q = q ≡ record p { view = record p.view { log = q.view.log } }
 
--- nothing but private slots was learned
+-- nothing but private slots was learned, and each slot that was private is so still, with what was stored there
 pub record LearnsSlots (before after : Knowledge) : Type 0 where
   pub brief : after.brief ≡ before.brief
   pub scanned : after.scanned ≡ before.scanned
   pub known : after.known ≡ before.known
   pub ledgers : after.ledgers ≡ before.ledgers
   pub gone : after.gone ≡ before.gone
+  pub kept : (s : ℕ) → is_private before s ≡ true → get after.drafts s ≡ get before.drafts s
 
 -- what was done at one slot, by the log before and after it
 abbrev pub Doing : Type 1

@@ -3,6 +3,7 @@ ghost use Rattle.std.specs.Prelude.{◌≡◌, ◌≤◌, ◌<◌, true, Some, I
 ghost use Rattle.nm_core.specs.declared.event.Event.TheVariants.{Give};
 ghost use Rattle.nm_core.specs.declared.reply.Reply.TheVariants.{Returned};
 ghost use Rattle.nm_core.specs.Knowledge.{is_private, draft_of};
+ghost use Rattle.nm_order.specs.Told.{IsNew};
 ghost use Rattle.nm_steps.specs.Rules.{knowledge};
 ghost use Rattle.nm_steps.specs.Steps.{IsOf, Stepped};
 ghost use Rattle.nm_pool.specs.Takes.{IsSamePass, LearnsSlots};
@@ -31,7 +32,7 @@ enum Tried {
 
 /// Takes a slot out of the pool to be a new node: the lowest that it finds there with a birth below 2^62, which it raises by one.
 ///
-/// `Some(node)`: the slot is private to the worker, the birth that was found there and 1 more is stored in it, and each lesser slot
+/// `Some(node)`: the slot is private to the worker, which had it nowhere before; the birth that was found there and 1 more is stored in it, and each lesser slot
 /// above 5 was found taken or worn in this call; a worn one is back in the pool. `None`: each slot above 5 was.
 /// At most three steps a slot.
 ///
@@ -41,7 +42,8 @@ pub fn claim(shared: &Shared, pass: &mut Pass) -> Option<NodeId>
     requires { IsOf shared.now pass.old }
     ensures same { IsSamePass pass.old pass.new }
     ensures part { IsClaim shared.now.layout.nodes pass.old.view.log pass.new.view.log result }
-    ensures new { IfSome result (IsNewNode (knowledge pass.new.view)) }
+    ensures made { IfSome result (IsNewNode (knowledge pass.new.view)) }
+    ensures new { IfSome result (λ node. IsNew pass.old.view.layout pass.old.view.number pass.old.view.log node.slot) }
     ensures learned { LearnsSlots (knowledge pass.old.view) (knowledge pass.new.view) }
 {
     let nodes = shared.layout().nodes();
@@ -72,7 +74,8 @@ fn try_slot(shared: &Shared, pass: &mut Pass, slot: u32) -> Tried
     requires high { slot ≤ shared.now.layout.nodes }
     ensures same { IsSamePass pass.old pass.new }
     ensures part { IsTried slot pass.old.view.log pass.new.view.log result }
-    ensures new { IfGot result (IsNewNode (knowledge pass.new.view)) }
+    ensures made { IfGot result (IsNewNode (knowledge pass.new.view)) }
+    ensures new { IfGot result (λ node. IsNew pass.old.view.layout pass.old.view.number pass.old.view.log node.slot) }
     ensures learned { LearnsSlots (knowledge pass.old.view) (knowledge pass.new.view) }
 {
     if !shared.claim(pass, slot) {

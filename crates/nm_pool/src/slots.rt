@@ -3,6 +3,7 @@ ghost use Rattle.std.specs.Prelude.{◌≡◌, ◌≤◌, ◌<◌, true, IfSome}
 ghost use Rattle.nm_core.specs.declared.event.Event.TheVariants.{Give};
 ghost use Rattle.nm_core.specs.declared.reply.Reply.TheVariants.{Returned};
 ghost use Rattle.nm_core.specs.Knowledge.{is_private};
+ghost use Rattle.nm_order.specs.Told.{IsNew};
 ghost use Rattle.nm_steps.specs.Rules.{knowledge};
 ghost use Rattle.nm_steps.specs.Steps.{IsOf, Stepped};
 ghost use Rattle.nm_pool.specs.Takes.{IsSamePass, IsTake, LearnsSlots};
@@ -11,7 +12,7 @@ use nm_steps::{Pass, Shared};
 
 /// Takes a slot out of the pool: the first that it finds there, from one slot upwards, by one claim each.
 ///
-/// `Some(slot)`: the slot is private to the worker, and each lesser one, from the first on, was found taken in this call.
+/// `Some(slot)`: the slot is private to the worker, which had it nowhere before, and each lesser one, from the first on, was found taken in this call.
 /// `None`: each slot from the first on was. At most one step a slot.
 pub fn take(shared: &Shared, pass: &mut Pass, from: u32) -> Option<u32>
     requires own { IsOf shared.now pass.old }
@@ -19,6 +20,7 @@ pub fn take(shared: &Shared, pass: &mut Pass, from: u32) -> Option<u32>
     ensures same { IsSamePass pass.old pass.new }
     ensures part { IsTake from shared.now.layout.nodes pass.old.view.log pass.new.view.log result }
     ensures private { IfSome result (λ slot. is_private (knowledge pass.new.view) slot ≡ true) }
+    ensures new { IfSome result (IsNew pass.old.view.layout pass.old.view.number pass.old.view.log) }
     ensures learned { LearnsSlots (knowledge pass.old.view) (knowledge pass.new.view) }
 {
     let nodes = shared.layout().nodes();

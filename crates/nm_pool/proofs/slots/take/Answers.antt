@@ -4,7 +4,7 @@ use Rattle.nm_core.specs.Knowledge.{unfilled}
 use Rattle.nm_steps.specs.Rules.{knowledge}
 use Rattle.nm_pool.specs.Takes.{FoundTaken}
 use Rattle.nm_pool.proofs.Allowing.{may_claim}
-use Rattle.nm_pool.proofs.PrivateSlots.{one_more, within_pass, claimed_draft, private_of, learns_taken, learns_claim, learns_both}
+use Rattle.nm_pool.proofs.PrivateSlots.{one_more, within_pass, claimed_draft, private_of, learns_taken, learns_claim, learns_of, learns_both, new_before}
 use Rattle.nm_pool.proofs.slots.take.Goals as goal
 
 pub claim-requires-clause-may : goal.claim-requires-clause-may
@@ -15,8 +15,14 @@ claim-requires-clause-may c =
 pub returns-then-claim-clause-private : goal.returns-then-claim-clause-private
 returns-then-claim-clause-private c = private_of (knowledge c.claim.new.pass.view) c.loop-slot.slot unfilled (claimed_draft c.loop-slot.pass c.claim.new.pass c.loop-slot.slot c.loop-slot.slot (search rules))
 
+pub returns-then-claim-clause-new : goal.returns-then-claim-clause-new
+returns-then-claim-clause-new c = new_before c.args.pass.now.view c.loop-slot.pass.view c.loop-slot.slot c.loop-slot.invariant.learned (c.claim.ensures.new (search rules))
+
 pub returns-then-claim-clause-learned : goal.returns-then-claim-clause-learned
-returns-then-claim-clause-learned c = learns_both _ (knowledge c.loop-slot.pass.view) _ c.loop-slot.invariant.learned (learns_claim c.loop-slot.pass c.claim.new.pass c.loop-slot.slot c.loop-slot.slot (search rules))
+returns-then-claim-clause-learned c =
+    let new = c.claim.ensures.new (search rules) in
+    learns_both _ (knowledge c.loop-slot.pass.view) _ c.loop-slot.invariant.learned
+    (learns_of c.loop-slot.slot (knowledge c.loop-slot.pass.view) (knowledge c.claim.new.pass.view) new.not_held (learns_claim c.loop-slot.pass c.claim.new.pass c.loop-slot.slot c.loop-slot.slot (search rules)))
 
 pub loop-slot-preserved : goal.loop-slot-preserved
 loop-slot-preserved c = record {
