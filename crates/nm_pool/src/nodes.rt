@@ -36,8 +36,8 @@ enum Tried {
 /// above 5 was found taken or worn in this call; a worn one is back in the pool. `None`: each slot above 5 was.
 /// At most three steps a slot.
 ///
-/// That slots are reused, and nodes told apart by a count of uses, is the subject of Fraser's work on epoch-based reclamation
-/// (Practical lock-freedom, 2004, chapter 5).
+/// Slots come back to the pool by epoch-based reclamation (Fraser, Practical lock-freedom, 2004, chapter 5); the births tell apart
+/// the nodes that stood in one slot.
 pub fn claim(shared: &Shared, pass: &mut Pass) -> Option<NodeId>
     requires { IsOf shared.now pass.old }
     ensures same { IsSamePass pass.old pass.new }
