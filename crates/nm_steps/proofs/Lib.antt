@@ -9,3 +9,5 @@ pub mod Noting
 pub mod FreshPasses
 pub mod JoinedPasses
 pub mod Endings
+pub mod FoundBirths
+pub mod ClaimedSlots

@@ -1,6 +1,7 @@
 //! The steps on the pool, one bit of one word each.
-ghost use Rattle.std.specs.Prelude.{◌≡◌};
+ghost use Rattle.std.specs.Prelude.{◌≡◌, true};
 ghost use Rattle.nm_core.specs.declared.event.Event.TheVariants.{Claim, Give};
+ghost use Rattle.nm_order.specs.Told.{IsNew};
 ghost use Rattle.nm_steps.specs.Steps.{IsOf, MayStep, Stepped, claim_reply, give_reply};
 
 use crate::acts::{clear, mark};
@@ -8,11 +9,12 @@ use crate::pass::{Pass, Shared};
 use nm_core::Event;
 
 impl Shared {
-    /// Takes a slot out of the pool; false where it was not there.
+    /// Takes a slot out of the pool; false where it was not there. One that is taken was in none of the worker's hands.
     pub fn claim(&self, pass: &mut Pass, slot: u32) -> bool
         requires own { IsOf self.now pass.old }
         requires may { MayStep pass.old (Claim slot) }
-        ensures { Stepped pass.old pass.new (Claim slot) (claim_reply slot result) }
+        ensures step { Stepped pass.old pass.new (Claim slot) (claim_reply slot result) }
+        ensures new { result ≡ true → IsNew pass.old.view.layout pass.old.view.number pass.old.view.log slot }
     {
         let table = &self.table.shared;
         let place = self.layout.pool(slot);

@@ -5,6 +5,7 @@ ghost use Rattle.nm_core.specs.declared.event.Event.TheVariants.{Look, Fill, Lin
 ghost use Rattle.nm_core.specs.declared.event.Field.TheVariants.{Key as KeyOf, Edge as EdgeOn, Birth};
 ghost use Rattle.nm_core.specs.declared.reply.Reply.TheVariants.{KeyIs, EdgeIs, BirthIs, Filled, Was};
 ghost use Rattle.nm_core.specs.Knowledge.{read};
+ghost use Rattle.nm_core.specs.Step.{last_number};
 ghost use Rattle.nm_steps.specs.Rules.{knowledge};
 ghost use Rattle.nm_steps.specs.Steps.{IsOf, MayStep, Stepped, link_reply, flag_reply, splice_reply};
 
@@ -40,11 +41,12 @@ impl Shared {
         edge_of(load(table, &mut pass.seat, word, event))
     }
 
-    /// Reads the birth of a known node, or of a private slot.
+    /// Reads the birth of a known node, or of a private slot: 2^62 at most.
     pub fn look_birth(&self, pass: &mut Pass, slot: u32) -> u64
         requires own { IsOf self.now pass.old }
         requires may { MayStep pass.old (Look slot Birth) }
-        ensures { Stepped pass.old pass.new (Look slot Birth) (BirthIs result) }
+        ensures step { Stepped pass.old pass.new (Look slot Birth) (BirthIs result) }
+        ensures small { result ≤ last_number }
     {
         let table = &self.table.shared;
         let word = self.layout.birth(slot) as usize;

@@ -1,5 +1,6 @@
 use Rattle.std.proofs.Common.{rules, ◌≡◌, sym, ◌∙◌, ap, refl}
 use Rattle.nm_steps.proofs.Asking.{claim_slot}
+use Rattle.nm_steps.proofs.ClaimedSlots.{claimed_new}
 use Rattle.nm_steps.proofs.Noting.{ready, tied_after}
 use Rattle.nm_steps.proofs.pass.Shared.claim.Goals as goal
 
@@ -11,3 +12,6 @@ clear-found-requires-clause-ready c = ready _ _ _ _ _ _ _ _ c.self.invariant c.p
 
 pub invariant_of-pass : goal.invariant_of-pass
 invariant_of-pass c = tied_after _ _ _ _ _ _ _ c.pass.invariant (rw (← c.pass.view_is) at c.requires.may) c.clear-found.ensures (search rules)
+
+pub returns-clause-new : goal.returns-clause-new
+returns-clause-new c = λ won. rw (← c.pass.view_is) (claimed_new _ _ _ c.args.slot c.clear-found.result c.clear-found.ensures.found (rw (← c.pass.view_is) at c.requires.may) (search rules))

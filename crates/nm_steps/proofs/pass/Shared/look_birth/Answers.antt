@@ -1,5 +1,6 @@
 use Rattle.std.proofs.Common.{rules, ◌≡◌, sym, ◌∙◌, ap, refl}
 use Rattle.nm_steps.proofs.Asking.{look_slot}
+use Rattle.nm_steps.proofs.FoundBirths.{finds_birth}
 use Rattle.nm_steps.proofs.Noting.{ready, tied_after}
 use Rattle.nm_steps.proofs.pass.Shared.look_birth.Goals as goal
 
@@ -11,3 +12,6 @@ load-requires-clause-ready c = ready _ _ _ _ _ _ _ _ c.self.invariant c.pass.inv
 
 pub invariant_of-pass : goal.invariant_of-pass
 invariant_of-pass c = tied_after _ _ _ _ _ _ _ c.pass.invariant (rw (← c.pass.view_is) at c.requires.may) c.load.ensures (search rules)
+
+pub returns-clause-small : goal.returns-clause-small
+returns-clause-small c = finds_birth _ _ _ _ _ c.args.slot c.load.ensures.found refl refl (look_slot _ _ _ c.args.slot _ (rw (← c.pass.view_is) at c.requires.may))

@@ -1,0 +1,59 @@
+-- What claiming new nodes leaves in the log, oldest entry first.
+use Rattle.std.specs.Prelude.{◌≡◌, ℕ, ◌+◌, ◌≤◌, ◌<◌, ◌⊎◌, List, [], ◌∷◌, ◌++◌, Option, Some, None}
+use Rattle.nm_edge.specs.declared.node.NodeId.{NodeId}
+use Rattle.nm_core.specs.declared.event.Event.TheVariants.{Claim, Give, Look, Fill}
+use Rattle.nm_core.specs.declared.event.Field.TheVariants.{Birth}
+use Rattle.nm_core.specs.declared.reply.Reply.TheVariants.{Claimed, Returned, BirthIs, Filled}
+use Rattle.nm_core.specs.Maps.{get}
+use Rattle.nm_core.specs.Knowledge.{Knowledge, unfilled}
+use Rattle.nm_core.specs.Step.{last_number}
+use Rattle.nm_core.specs.Walks.{Entry}
+use Rattle.nm_pool.specs.declared.nodes.Tried.{Tried}
+use Rattle.nm_pool.specs.declared.nodes.Tried.TheVariants as tried
+use Rattle.nm_pool.specs.Takes.{Doing, DoneBelow, FoundTaken}
+
+-- the slot was claimed, found worn, with the greatest birth, and given back
+abbrev pub FoundWorn : Doing
+FoundWorn s old new = new ≡ old ++ (Claim s, Claimed s) ∷ (Look s Birth, BirthIs last_number) ∷ (Give s, Returned s) ∷ []
+
+-- the slot was claimed, and the birth that was found there was raised by one, to that of the node
+pub record MadeNew (n : NodeId) (old new : List Entry) : Type 0 where
+  pub birth : ℕ
+  pub below : birth < last_number
+  pub raised : n.birth ≡ birth + 1
+  pub entries : new ≡ old ++ (Claim n.slot, Claimed n.slot) ∷ (Look n.slot Birth, BirthIs birth) ∷ (Fill n.slot Birth (birth + 1), Filled) ∷ []
+
+abbrev pub PassedOver : Doing
+PassedOver s old new = FoundTaken s old new ⊎ FoundWorn s old new
+
+-- that node was made in the end, and each lesser slot above 5 was passed over
+pub record Claims (nodes : ℕ) (old new : List Entry) (n : NodeId) : Type 0 where
+  pub least : 6 ≤ n.slot
+  pub most : n.slot ≤ nodes
+  pub before : List Entry
+  pub passed : DoneBelow PassedOver 6 n.slot old before
+  pub made : MadeNew n before new
+
+-- what a claim leaves in the log, by its answer
+abbrev pub IsClaim : ℕ → List Entry → List Entry → Option NodeId → Type 0
+IsClaim nodes old new (Some n) = Claims nodes old new n
+IsClaim nodes old new None = DoneBelow PassedOver 6 (nodes + 1) old new
+
+-- its slot is private, its birth is stored there, and nothing else is
+abbrev pub IsNewNode : Knowledge → NodeId → Type 0
+IsNewNode k n = get k.drafts n.slot ≡ Some (record unfilled { birth = Some n.birth })
+
+-- ---- a try of one slot
+
+-- that node was made, at that slot
+abbrev pub IsMadeAt : ℕ → List Entry → List Entry → NodeId → Type 0
+IsMadeAt s old new n = (n.slot ≡ s) × MadeNew n old new
+
+abbrev pub IsTried : ℕ → List Entry → List Entry → Tried → Type 0
+IsTried s old new tried.Taken = FoundTaken s old new
+IsTried s old new tried.Worn = FoundWorn s old new
+IsTried s old new (tried.Got n) = IsMadeAt s old new n
+
+abbrev pub IfGot : Tried → (NodeId → Type 0) → Type 0
+IfGot (tried.Got n) P = P n
+IfGot _ P = Unit {0}

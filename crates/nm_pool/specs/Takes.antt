@@ -1,0 +1,51 @@
+-- What taking slots out of the pool leaves in the log, oldest entry first.
+use Rattle.std.specs.Prelude.{◌≡◌, ℕ, zero, suc, ◌+◌, ◌-◌, ◌≤◌, true, List, [], ◌∷◌, ◌++◌, Option, Some, None}
+use Rattle.nm_core.specs.declared.event.Event.TheVariants.{Claim}
+use Rattle.nm_core.specs.declared.reply.Reply.TheVariants.{Claimed, Taken}
+use Rattle.nm_core.specs.Maps.{get}
+use Rattle.nm_core.specs.Knowledge.{Knowledge, is_private}
+use Rattle.nm_core.specs.Walks.{Entry}
+use Rattle.nm_steps.specs.Steps.{Stand}
+
+-- nothing but the log changed
+abbrev pub IsSamePass : Stand → Stand → Type 0
+IsSamePass p q = q ≡ record p { view = record p.view { log = q.view.log } }
+
+-- nothing but private slots was learned, and each slot that was private is so still, with what was stored there
+pub record LearnsSlots (before after : Knowledge) : Type 0 where
+  pub brief : after.brief ≡ before.brief
+  pub scanned : after.scanned ≡ before.scanned
+  pub known : after.known ≡ before.known
+  pub ledgers : after.ledgers ≡ before.ledgers
+  pub gone : after.gone ≡ before.gone
+  pub kept : (s : ℕ) → is_private before s ≡ true → get after.drafts s ≡ get before.drafts s
+
+-- what was done at one slot, by the log before and after it
+abbrev pub Doing : Type 1
+Doing = ℕ → List Entry → List Entry → Type 0
+
+-- it was done at so many slots one after the other, from a first one upwards
+abbrev pub DoneInTurn : Doing → ℕ → ℕ → List Entry → List Entry → Type 0
+DoneInTurn Done from zero old new = new ≡ old
+DoneInTurn Done from (suc n) old new = (mid : List Entry) × DoneInTurn Done from n old mid × Done (from + n) mid new
+
+-- it was done at each slot from one on and below another, in this order
+abbrev pub DoneBelow : Doing → ℕ → ℕ → List Entry → List Entry → Type 0
+DoneBelow Done from to old new = DoneInTurn Done from (to - from) old new
+
+-- the slot was claimed and found taken
+abbrev pub FoundTaken : Doing
+FoundTaken s old new = new ≡ old ++ (Claim s, Taken) ∷ []
+
+-- that slot was claimed in the end, and each lesser one, from the first on, was found taken
+pub record Takes (from nodes : ℕ) (old new : List Entry) (s : ℕ) : Type 0 where
+  pub least : from ≤ s
+  pub most : s ≤ nodes
+  pub before : List Entry
+  pub taken : DoneBelow FoundTaken from s old before
+  pub claimed : new ≡ before ++ (Claim s, Claimed s) ∷ []
+
+-- what a call that takes a slot leaves in the log, by its answer
+abbrev pub IsTake : ℕ → ℕ → List Entry → List Entry → Option ℕ → Type 0
+IsTake from nodes old new (Some s) = Takes from nodes old new s
+IsTake from nodes old new None = DoneBelow FoundTaken from (nodes + 1) old new

@@ -1,0 +1,94 @@
+//! Slots taken out of the pool to be new nodes, and given back.
+ghost use Rattle.std.specs.Prelude.{◌≡◌, ◌≤◌, ◌<◌, true, Some, IfSome};
+ghost use Rattle.nm_core.specs.declared.event.Event.TheVariants.{Give};
+ghost use Rattle.nm_core.specs.declared.reply.Reply.TheVariants.{Returned};
+ghost use Rattle.nm_core.specs.Knowledge.{is_private, draft_of};
+ghost use Rattle.nm_order.specs.Told.{IsNew};
+ghost use Rattle.nm_steps.specs.Rules.{knowledge};
+ghost use Rattle.nm_steps.specs.Steps.{IsOf, Stepped};
+ghost use Rattle.nm_pool.specs.Takes.{IsSamePass, LearnsSlots};
+ghost use Rattle.nm_pool.specs.Claims.{IsClaim, IsTried, IfGot, IsNewNode};
+
+use crate::slots::put;
+use nm_edge::NodeId;
+use nm_steps::{Pass, Shared};
+
+/// The least slot that is not one of the five fixed ones.
+const FIRST_SLOT: u32 = 6;
+
+/// The greatest birth, 2^62. A slot with it is worn, and is never put to use again.
+const LAST_BIRTH: u64 = 4_611_686_018_427_387_904;
+
+/// What a try of one slot answers.
+#[derive(Clone, Copy)]
+enum Tried {
+    /// It is not in the pool.
+    Taken,
+    /// It has the greatest birth, and is in the pool again.
+    Worn,
+    /// It is private to the worker now, with its birth raised by one.
+    Got(NodeId),
+}
+
+/// Takes a slot out of the pool to be a new node: the lowest that it finds there with a birth below 2^62, which it raises by one.
+///
+/// `Some(node)`: the slot is private to the worker, which had it nowhere before; the birth that was found there and 1 more is stored in it, and each lesser slot
+/// above 5 was found taken or worn in this call; a worn one is back in the pool. `None`: each slot above 5 was.
+/// At most three steps a slot.
+///
+/// Slots come back to the pool by epoch-based reclamation (Fraser, Practical lock-freedom, 2004, chapter 5); the births tell apart
+/// the nodes that stood in one slot.
+pub fn claim(shared: &Shared, pass: &mut Pass) -> Option<NodeId>
+    requires { IsOf shared.now pass.old }
+    ensures same { IsSamePass pass.old pass.new }
+    ensures part { IsClaim shared.now.layout.nodes pass.old.view.log pass.new.view.log result }
+    ensures made { IfSome result (IsNewNode (knowledge pass.new.view)) }
+    ensures new { IfSome result (λ node. IsNew pass.old.view.layout pass.old.view.number pass.old.view.log node.slot) }
+    ensures learned { LearnsSlots (knowledge pass.old.view) (knowledge pass.new.view) }
+{
+    let nodes = shared.layout().nodes();
+    for slot in FIRST_SLOT..nodes + 1 {
+        if let Tried::Got(node) = try_slot(shared, pass, slot) {
+            return Some(node);
+        }
+    }
+    None
+}
+
+/// Gives a private node back to the pool, in one step. Its birth stays, so that the slot's next node has another.
+pub fn give(shared: &Shared, pass: &mut Pass, node: NodeId)
+    requires own { IsOf shared.now pass.old }
+    requires private { is_private (knowledge pass.old.view) node.slot ≡ true }
+    requires birth { (draft_of (knowledge pass.old.view) node.slot).birth ≡ Some node.birth }
+    requires low { 5 < node.slot }
+    requires high { node.slot ≤ shared.now.layout.nodes }
+    ensures { Stepped pass.old pass.new (Give node.slot) (Returned node.slot) }
+{
+    put(shared, pass, node.slot);
+}
+
+/// Takes one slot out of the pool, if it is there, and raises its birth by one, if it is not worn.
+fn try_slot(shared: &Shared, pass: &mut Pass, slot: u32) -> Tried
+    requires own { IsOf shared.now pass.old }
+    requires low { 5 < slot }
+    requires high { slot ≤ shared.now.layout.nodes }
+    ensures same { IsSamePass pass.old pass.new }
+    ensures part { IsTried slot pass.old.view.log pass.new.view.log result }
+    ensures made { IfGot result (IsNewNode (knowledge pass.new.view)) }
+    ensures new { IfGot result (λ node. IsNew pass.old.view.layout pass.old.view.number pass.old.view.log node.slot) }
+    ensures learned { LearnsSlots (knowledge pass.old.view) (knowledge pass.new.view) }
+{
+    if !shared.claim(pass, slot) {
+        return Tried::Taken;
+    }
+    let birth = shared.look_birth(pass, slot);
+    if birth == LAST_BIRTH {
+        put(shared, pass, slot);
+        return Tried::Worn;
+    }
+    shared.fill_birth(pass, slot, birth + 1);
+    Tried::Got(NodeId {
+        slot,
+        birth: birth + 1,
+    })
+}
