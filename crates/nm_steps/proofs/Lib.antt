@@ -5,3 +5,4 @@ pub mod Keeping
 pub mod Cutting
 pub mod Noting
 pub mod Asking
+pub mod Sighting

@@ -16,7 +16,7 @@ use Rattle.nm_core.specs.declared.knowledge.Brief.{Brief}
 use Rattle.nm_core.specs.Memory.{Memory, node}
 use Rattle.nm_core.specs.Ledgers.{front_of}
 use Rattle.nm_core.specs.Knowledge.{Knowledge, draft_of, is_private, way, cut_by}
-use Rattle.nm_core.specs.Step.{refusal, confirmed, node_of, node_linked}
+use Rattle.nm_core.specs.Step.{refusal, last_number, confirmed, node_of, node_linked}
 use Rattle.nm_core.specs.Walks.{Entry, search_after}
 use Rattle.nm_core.specs.Searches.{idle}
 use Rattle.nm_core.specs.Ordered.{disorder, ordered, after_in, trace_in}
@@ -217,3 +217,7 @@ noted b _ _ = b
 -- the reply to a sight of this epoch
 abbrev pub sight_of : Brief → ℕ → Reply
 sight_of b e = if b.unlabelled then Labelled e else confirmed b.pin b.note e
+
+-- what a sight may answer a worker with these epochs
+abbrev pub IsSight : Brief → Reply → Type 0
+IsSight b r = (e : ℕ) × (e ≤ last_number) × (r ≡ sight_of b e)
