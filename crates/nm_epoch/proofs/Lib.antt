@@ -1,0 +1,4 @@
+pub mod Entries
+pub mod Allowed
+pub mod Left
+pub mod Trying
