@@ -6,3 +6,7 @@ pub mod Cutting
 pub mod Noting
 pub mod Asking
 pub mod Sighting
+pub mod OpeningWords
+pub mod FreshPasses
+pub mod JoinedPasses
+pub mod Endings

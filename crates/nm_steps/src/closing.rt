@@ -1,5 +1,6 @@
 //! How a table ends.
 ghost use Rattle.std.specs.Prelude.{◌≡◌, ◌<◌, length, slice_index};
+ghost use Rattle.nm_edge.specs.Words.{words};
 ghost use Rattle.nm_steps.specs.Steps.{IsOf, Ends};
 
 use crate::pass::{Pass, Shared};
@@ -27,7 +28,8 @@ impl Shared {
     /// It takes the table, so that no pass can step any more.
     pub fn close(self, pass: Pass) -> Words
         requires { IsOf self pass }
-        ensures { Ends self.layout result pass.view }
+        ensures ends { Ends self.layout result pass.view }
+        ensures long { length result ≡ words self.layout }
     {
         let Shared { table, layout: _ } = self;
         let Pass {

@@ -1,0 +1,35 @@
+-- Passes that have done nothing yet.
+use Rattle.std.proofs.Common.{◌≡◌, ◌-◌, ◌<◌, ℕ, false, [], refl, sym, ap, ◌∙◌, subst, arith}
+use Rattle.std.specs.Prelude.{None}
+use Rattle.atomic_table.specs.declared.shared.Seat.{Seat}
+use Rattle.nm_edge.specs.Layouts.{Layout, IsLayout}
+use Rattle.nm_core.specs.declared.knowledge.Brief.{Brief}
+use Rattle.nm_core.specs.Ordered.{trace_in}
+use Rattle.nm_order.specs.Logs.{IsLogOf}
+use Rattle.nm_steps.specs.declared.view.View.{View}
+use Rattle.nm_steps.specs.Rules.{knowledge, numbers_from, viewing, everybody}
+use Rattle.nm_steps.specs.Steps.{Tied, fresh_view}
+use Rattle.nm_steps.proofs.Cutting.{left_from}
+
+-- before the first is dealt, all are left
+pub left_all : (L : Layout) (v : View) → v ≡ everybody L → v ≡ left_from L 0
+left_all L v e = e ∙ ap (λ n. viewing L (numbers_from 0 n)) (let same : L.workers ≡ L.workers - 0 = omega arith in same)
+
+-- nothing is a worker's part of the run of no events
+pub empty_log : (L : Layout) (w : ℕ) → w < L.workers → IsLogOf L w []
+unfolding trace_in
+empty_log L w h = record { worker = h; turns = []; keys = λ i d below. absurd (omega arith); is_part = refl }
+
+abbrev pub no_epochs : Brief
+no_epochs = record { seen = None; note = None; pin = None; unlabelled = false }
+
+pub fresh_tied : (L : Layout) (it : Seat Unit View) (w : ℕ) → IsLayout L → w < L.workers → it.me.0 ≡ fresh_view L w → it.me.1 ≡ [] → Tied it w no_epochs
+fresh_tied L it w fits below view empty = record {
+  empty = empty;
+  alive = ap (λ (v : View). v.spent) view;
+  number_is = sym (ap (λ (v : View). v.number) view);
+  brief_is = sym (ap (λ (v : View). (knowledge v).brief) view);
+  fits = subst (λ (v : View). IsLayout v.layout) (sym view) fits;
+  log = subst (λ (v : View). IsLogOf v.layout v.number v.log) (sym view) (empty_log L w below);
+  here = ap (λ (v : View). (knowledge v).gone) view;
+}
