@@ -1,2 +1,3 @@
 pub mod Resting
 pub mod Tries
+pub mod Scans

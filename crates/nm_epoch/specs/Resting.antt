@@ -1,5 +1,5 @@
 -- What a pass's log tells of its epochs and of the call under its pin.
-use Rattle.std.specs.Prelude.{◌≡◌, ℕ, false, [], Option, Some, None, IsSome}
+use Rattle.std.specs.Prelude.{◌≡◌, ◌⊎◌, ℕ, Bool, false, List, [], Option, Some, None, IsSome}
 use Rattle.nm_core.specs.declared.knowledge.Brief.{Brief}
 use Rattle.nm_core.specs.declared.walks.Call.{Call}
 use Rattle.nm_core.specs.Searches.{Search, idle}
@@ -44,3 +44,22 @@ pub record IsTrying (p : Stand) : Type 0 where
   pub unpinned : (epochs p).pin ≡ None
   pub labelled : (epochs p).unlabelled ≡ false
   pub idle : search p ≡ idle
+
+-- it is pinned, or announces nothing: not in the midst of a pin
+abbrev pub IsSettled : Stand → Type 0
+IsSettled p = IsSome (epochs p).pin ⊎ ((epochs p).note ≡ None)
+
+-- its announcement, its pin and its call stay
+pub record Stays (p q : Stand) : Type 0 where
+  pub note : (epochs q).note ≡ (epochs p).note
+  pub pin : (epochs q).pin ≡ (epochs p).pin
+  pub search : search q ≡ search p
+
+-- no cut waits for its label any more, and if it was settled, its announcement, its pin and its call stay
+pub record Settles (p q : Stand) : Type 0 where
+  pub labelled : (epochs q).unlabelled ≡ false
+  pub stays : IsSettled p → Stays p q
+
+-- by worker, whether it was scanned at the epoch last read
+abbrev pub marks : Stand → List Bool
+marks p = (knowledge p.view).scanned

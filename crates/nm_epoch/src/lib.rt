@@ -6,8 +6,11 @@
 
 mod answers;
 mod leaving;
+mod looking;
+mod moving;
 mod pinning;
 
-pub use answers::Moved;
+pub use answers::{Advance, Moved};
 pub use leaving::{label, unpin, unpin_with};
+pub use moving::advance;
 pub use pinning::{pin, pin_for};
