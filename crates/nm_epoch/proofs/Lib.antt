@@ -6,3 +6,4 @@ pub mod Sights
 pub mod Marks
 pub mod Scanning
 pub mod Advances
+pub mod Watched

@@ -19,3 +19,12 @@ pub enum Advance {
     /// The epoch is 2^62, the last one, and no worker holds it back.
     Spent,
 }
+
+/// Which workers are behind the epoch.
+#[derive(Clone, Copy, Debug, PartialEq, Eq)]
+pub struct Behind {
+    /// The epoch read.
+    pub epoch: u64,
+    /// Bit w is set exactly where worker w was found announcing another epoch.
+    pub mask: u64,
+}

@@ -9,8 +9,10 @@ mod leaving;
 mod looking;
 mod moving;
 mod pinning;
+mod watching;
 
-pub use answers::{Advance, Moved};
+pub use answers::{Advance, Behind, Moved};
 pub use leaving::{label, unpin, unpin_with};
 pub use moving::advance;
 pub use pinning::{pin, pin_for};
+pub use watching::behind;
