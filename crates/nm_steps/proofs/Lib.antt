@@ -6,6 +6,7 @@ pub mod Keeping
 pub mod OpeningWords
 pub mod Cutting
 pub mod Noting
+pub mod Sighting
 pub mod FreshPasses
 pub mod JoinedPasses
 pub mod Endings

@@ -232,3 +232,7 @@ noted b _ _ = b
 -- the reply to a sight of this epoch
 abbrev pub sight_of : Brief → ℕ → Reply
 sight_of b e = if b.unlabelled then Labelled e else confirmed b.pin b.note e
+
+-- what a sight may answer a worker with these epochs
+abbrev pub IsSight : Brief → Reply → Type 0
+IsSight b r = (e : ℕ) × (e ≤ last_number) × (r ≡ sight_of b e)

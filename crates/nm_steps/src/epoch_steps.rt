@@ -3,7 +3,7 @@ ghost use Rattle.std.specs.Prelude.{◌≡◌, ◌<◌, Some};
 ghost use Rattle.nm_core.specs.declared.event.Event.TheVariants.{Sight, SightFor, Announce, Leave, LeaveWith, Scan, Advance};
 ghost use Rattle.nm_core.specs.declared.reply.Reply.TheVariants.{Announced, Departed};
 ghost use Rattle.nm_steps.specs.Rules.{knowledge};
-ghost use Rattle.nm_steps.specs.Steps.{IsOf, MayStep, Stepped, sight_reply, scan_reply, advance_reply, sight_of, noted_sight};
+ghost use Rattle.nm_steps.specs.Steps.{IsOf, IsSight, MayStep, Stepped, sight_reply, scan_reply, advance_reply, sight_of, noted_sight};
 
 use crate::acts::{exchange, load, store};
 use crate::answers::Sighted;
@@ -15,7 +15,8 @@ impl Shared {
     /// Reads the global epoch. It confirms a pin where the worker announces that epoch, and labels a cut.
     pub fn sight(&self, pass: &mut Pass) -> Sighted
         requires { IsOf self.now pass.old }
-        ensures { Stepped pass.old pass.new Sight (sight_reply result) }
+        ensures step { Stepped pass.old pass.new Sight (sight_reply result) }
+        ensures reply { IsSight (knowledge pass.old.view).brief (sight_reply result) }
     {
         let table = &self.table.shared;
         let word = self.layout.epoch() as usize;
@@ -29,7 +30,8 @@ impl Shared {
     pub fn sight_for(&self, pass: &mut Pass, op: Op, key: Key) -> Sighted
         requires own { IsOf self.now pass.old }
         requires may { MayStep pass.old (SightFor op key) }
-        ensures { Stepped pass.old pass.new (SightFor op key) (sight_reply result) }
+        ensures step { Stepped pass.old pass.new (SightFor op key) (sight_reply result) }
+        ensures reply { IsSight (knowledge pass.old.view).brief (sight_reply result) }
     {
         let table = &self.table.shared;
         let word = self.layout.epoch() as usize;

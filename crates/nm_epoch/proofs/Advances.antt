@@ -1,0 +1,61 @@
+-- How an advance ends.
+use Rattle.std.proofs.Common.{◌≡◌, ◌<◌, ℕ, false, List, refl, sym, ap, subst, ◌∙◌}
+use Rattle.std.specs.Prelude.{Option, Some, Result, Ok, Err}
+use Rattle.std.proofs.lemmas.Bool.{eqb-false}
+use Rattle.nm_core.specs.declared.event.Event.TheVariants as event
+use Rattle.nm_core.specs.declared.knowledge.Brief.{Brief}
+use Rattle.nm_core.specs.Searches.{searched}
+use Rattle.nm_core.specs.Walks.{Entry}
+use Rattle.nm_steps.specs.Steps.{Stand, Stepped, advance_reply, noted}
+use Rattle.nm_epoch.specs.declared.answers.Advance.TheVariants.{Moved, Held, Lost}
+use Rattle.nm_epoch.specs.Resting.{IsSamePass, Settles, epochs}
+use Rattle.nm_epoch.specs.Scans.{LooksAt, SightThenScans, IsAdvance, IsLooking, lets_pass}
+use Rattle.nm_epoch.proofs.Entries.{epochs_after, search_is}
+use Rattle.nm_epoch.proofs.Scanning.{look_epochs}
+
+-- ---- the last step
+
+noted_advance : (b : Brief) (r : Result ℕ ℕ) → (e : ℕ) × (noted b event.Advance (advance_reply r) ≡ record b { seen = Some e })
+noted_advance b (Ok e) = (e, refl)
+noted_advance b (Err e) = (e, refl)
+
+module _ (p q : Stand) (r : Result ℕ ℕ) (step : Stepped p q event.Advance (advance_reply r)) where
+  after : (e : ℕ) × (epochs q ≡ record (epochs p) { seen = Some e })
+  after = let n = noted_advance (epochs p) r in (n.0, epochs_after p q event.Advance (advance_reply r) step ∙ n.1)
+
+  pin_stays : (epochs q).pin ≡ (epochs p).pin
+  pin_stays = ap (λ (b : Brief). b.pin) after.1
+
+  pub settles_advance : (o : Stand) → Settles o p → Settles o q
+  unfolding searched
+  settles_advance o s = record {
+    labelled = ap (λ (b : Brief). b.unlabelled) after.1 ∙ s.labelled;
+    stays = λ settled. let t = s.stays settled in record {
+      note = ap (λ (b : Brief). b.note) after.1 ∙ t.note;
+      pin = pin_stays ∙ t.pin;
+      search = search_is p q event.Advance (advance_reply r) step ∙ t.search;
+    };
+  }
+
+  all_scanned : (me e m n : ℕ) (old : List Entry) → n ≡ m → IsLooking me e n old p → SightThenScans me (epochs q).pin e m old p.view.log
+  all_scanned me e m n old all h = subst (λ (o : Option ℕ). SightThenScans me o e m old p.view.log) (sym pin_stays) (subst (λ (k : ℕ). SightThenScans me (epochs p).pin e k old p.view.log) all h.part)
+
+pub is_moved : (p q : Stand) (next me e m n : ℕ) (old : List Entry) → Stepped p q event.Advance (advance_reply (Ok next)) → n ≡ m → IsLooking me e n old p → IsAdvance m me (epochs q).pin old q.view.log (Moved next)
+is_moved p q next me e m n old step all h = (e, p.view.log, all_scanned p q (Ok next) step me e m n old all h, ap (λ (x : Stand). x.view.log) step)
+
+pub is_lost : (p q : Stand) (found me e m n : ℕ) (old : List Entry) → Stepped p q event.Advance (advance_reply (Err found)) → n ≡ m → IsLooking me e n old p → IsAdvance m me (epochs q).pin old q.view.log (Lost found)
+is_lost p q found me e m n old step all h = (e, p.view.log, all_scanned p q (Err found) step me e m n old all h, ap (λ (x : Stand). x.view.log) step)
+
+-- ---- held back
+
+pub is_held : (p q : Stand) (at me e m v : ℕ) (found : Option ℕ) (old : List Entry) → IsSamePass p q → LooksAt me (epochs p).pin v found p.view.log q.view.log → found ≡ Some at → lets_pass found e ≡ false → v < m → IsLooking me e v old p
+    → IsAdvance m me (epochs q).pin old q.view.log (Held v at)
+is_held p q at me e m v found old same look is other below h =
+    let pin : (epochs p).pin ≡ (epochs q).pin = sym (ap (λ (b : Brief). b.pin) (look_epochs me v (epochs p).pin found p q same look)) in (
+      e,
+      p.view.log,
+      subst (λ (o : Option ℕ). SightThenScans me o e v old p.view.log) pin h.part,
+      below,
+      λ same_epoch. eqb-false e at (subst (λ (o : Option ℕ). lets_pass o e ≡ false) is other) (sym same_epoch),
+      subst (λ (o : Option ℕ). LooksAt me o v (Some at) p.view.log q.view.log) pin (subst (λ (o : Option ℕ). LooksAt me (epochs p).pin v o p.view.log q.view.log) is look),
+    )

@@ -1,0 +1,24 @@
+-- What one step leaves of a worker's epochs and of its call.
+use Rattle.std.proofs.Common.{◌≡◌, List, [], ◌∷◌, ◌++◌, refl, ap, ◌∙◌}
+use Rattle.nm_core.specs.declared.event.Event.{Event}
+use Rattle.nm_core.specs.declared.reply.Reply.{Reply}
+use Rattle.nm_core.specs.Knowledge.{Knowledge}
+use Rattle.nm_core.specs.Searches.{Search, idle, searched}
+use Rattle.nm_core.specs.Walks.{Entry, search_after}
+use Rattle.nm_steps.specs.Rules.{knowledge}
+use Rattle.nm_steps.specs.Steps.{Stand, Stepped, noted}
+use Rattle.nm_steps.proofs.Presence.{known_push}
+use Rattle.nm_steps.proofs.Noting.{brief_is_noted}
+use Rattle.nm_epoch.specs.Resting.{epochs, search}
+
+search_more : (s : Search) (log : List Entry) (x : Entry) → search_after s (log ++ x ∷ []) ≡ searched (search_after s log) x.0 x.1
+search_more s [] x = refl
+search_more s (y ∷ log) x = search_more (searched s y.0 y.1) log x
+
+pub epochs_after : (p q : Stand) (e : Event) (r : Reply) → Stepped p q e r → epochs q ≡ noted (epochs p) e r
+epochs_after p q e r step =
+    ap (λ (x : Stand). epochs x) step
+    ∙ (ap (λ (k : Knowledge). k.brief) (known_push p.view.number p.view.layout p.view.log (e, r)) ∙ brief_is_noted p.view.number (knowledge p.view) e r)
+
+pub search_is : (p q : Stand) (e : Event) (r : Reply) → Stepped p q e r → search q ≡ searched (search p) e r
+search_is p q e r step = ap (λ (x : Stand). search x) step ∙ search_more idle p.view.log (e, r)

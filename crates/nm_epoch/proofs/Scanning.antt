@@ -1,0 +1,97 @@
+-- What a look at one worker's announcement leaves, and how the looks at all of them go on.
+use Rattle.std.proofs.Common.{◌≡◌, ◌≢◌, ◌⊎◌, ◌+◌, ◌<◌, inl, inr, ⊎_elim, ℕ, suc, Bool, true, false, List, [], ◌∷◌, ◌++◌, length, get_or, set, refl, sym, ap, subst, ◌∙◌, add-one, arith}
+use Rattle.std.specs.Prelude.{Option, Some, slice_set}
+use Rattle.std.proofs.lemmas.List.{get_or-set_same, get_or-set_other}
+use mathlib.Core.Logic.{dite}
+use native.Mathlib.Decide.{ℕ_discrete}
+use Rattle.nm_core.specs.declared.event.Event.{Event}
+use Rattle.nm_core.specs.declared.event.Event.TheVariants.{Scan}
+use Rattle.nm_core.specs.declared.knowledge.Brief.{Brief}
+use Rattle.nm_core.specs.declared.reply.Reply.{Reply}
+use Rattle.nm_core.specs.Searches.{searched}
+use Rattle.nm_core.specs.Walks.{Entry}
+use Rattle.nm_steps.specs.Steps.{Stand, Stepped, scan_reply}
+use Rattle.nm_epoch.specs.Resting.{IsSamePass, Settles, epochs, search, marks}
+use Rattle.nm_epoch.specs.Scans.{IsSightOf, LooksAt, SightThenScans, IsLooking, lets_pass}
+use Rattle.nm_epoch.proofs.Entries.{epochs_after, search_is}
+use Rattle.nm_epoch.proofs.Marks.{one_for_each, marks_after}
+
+-- ---- one look
+
+abbrev with_log : Stand → List Entry → Stand
+with_log p log = record p { view = record p.view { log = log } }
+
+stepped_by : (p q : Stand) (e : Event) (r : Reply) → IsSamePass p q → q.view.log ≡ p.view.log ++ (e, r) ∷ [] → Stepped p q e r
+stepped_by p q e r same more = same ∙ ap (λ (log : List Entry). with_log p log) more
+
+stays_put : (p q : Stand) → IsSamePass p q → q.view.log ≡ p.view.log → q ≡ p
+stays_put p q same none = same ∙ ap (λ (log : List Entry). with_log p log) none
+
+module _ (me v : ℕ) (pin found : Option ℕ) (p q : Stand) (same : IsSamePass p q) (look : LooksAt me pin v found p.view.log q.view.log) where
+  pub look_epochs : epochs q ≡ epochs p
+  look_epochs = ⊎_elim
+      (λ (own : (v ≡ me) × (found ≡ pin) × (q.view.log ≡ p.view.log)). ap (λ (x : Stand). epochs x) (stays_put p q same own.2))
+      (λ (other : (v ≢ me) × (q.view.log ≡ p.view.log ++ (Scan v, scan_reply found) ∷ [])). epochs_after p q (Scan v) (scan_reply found) (stepped_by p q (Scan v) (scan_reply found) same other.1))
+      look
+
+  pub look_search : search q ≡ search p
+  unfolding searched
+  look_search = ⊎_elim
+      (λ (own : (v ≡ me) × (found ≡ pin) × (q.view.log ≡ p.view.log)). ap (λ (x : Stand). search x) (stays_put p q same own.2))
+      (λ (other : (v ≢ me) × (q.view.log ≡ p.view.log ++ (Scan v, scan_reply found) ∷ [])). search_is p q (Scan v) (scan_reply found) (stepped_by p q (Scan v) (scan_reply found) same other.1))
+      look
+
+  look_marks : (e : ℕ) → (epochs p).seen ≡ Some e → ((v ≡ me) × (marks q ≡ marks p)) ⊎ (marks q ≡ slice_set (marks p) v (lets_pass found e))
+  look_marks e seen = ⊎_elim
+      (λ (own : (v ≡ me) × (found ≡ pin) × (q.view.log ≡ p.view.log)). inl (own.0, ap (λ (x : Stand). marks x) (stays_put p q same own.2)))
+      (λ (other : (v ≢ me) × (q.view.log ≡ p.view.log ++ (Scan v, scan_reply found) ∷ [])). inr (marks_after p q v e found (stepped_by p q (Scan v) (scan_reply found) same other.1) seen))
+      look
+
+  -- what a sight settled stays settled
+  pub settles_on : (o : Stand) → Settles o p → Settles o q
+  settles_on o s = record {
+    labelled = ap (λ (b : Brief). b.unlabelled) look_epochs ∙ s.labelled;
+    stays = λ settled. let t = s.stays settled in record {
+      note = ap (λ (b : Brief). b.note) look_epochs ∙ t.note;
+      pin = ap (λ (b : Brief). b.pin) look_epochs ∙ t.pin;
+      search = look_search ∙ t.search;
+    };
+  }
+
+  -- one more is marked
+  marked_on : (e : ℕ) → (epochs p).seen ≡ Some e → lets_pass found e ≡ true → v < length (marks p) → ((u : ℕ) → u < v → (u ≡ me) ⊎ (get_or (marks p) u false ≡ true)) → (u : ℕ) → u < v + 1
+      → (u ≡ me) ⊎ (get_or (marks q) u false ≡ true)
+  marked_on e seen lets below old u most = dite (ℕ_discrete u v)
+      (λ (here : u ≡ v). ⊎_elim (λ (own : (v ≡ me) × (marks q ≡ marks p)). inl (here ∙ own.0))
+      (λ (is : marks q ≡ slice_set (marks p) v (lets_pass found e)). inr (ap (λ (ms : List Bool). get_or ms u false) is ∙ (ap (λ (i : ℕ). get_or (set (marks p) v (lets_pass found e)) i false) here ∙ (get_or-set_same (marks p) v (lets_pass found e) false below ∙ lets))))
+      (look_marks e seen))
+      (λ (ne : u ≢ v). ⊎_elim (λ (own : u ≡ me). inl own)
+      (λ (h : get_or (marks p) u false ≡ true). inr (⊎_elim (λ (x : (v ≡ me) × (marks q ≡ marks p)). ap (λ (ms : List Bool). get_or ms u false) x.1 ∙ h)
+      (λ (is : marks q ≡ slice_set (marks p) v (lets_pass found e)). ap (λ (ms : List Bool). get_or ms u false) is ∙ (get_or-set_other (marks p) v u (lets_pass found e) false ne ∙ h)) (look_marks e seen)))
+      (old u (omega arith)))
+
+-- ---- all looks
+
+pub looking_on : (me e v : ℕ) (found : Option ℕ) (old : List Entry) (p q : Stand) → IsSamePass p q → LooksAt me (epochs p).pin v found p.view.log q.view.log → lets_pass found e ≡ true → v < p.view.layout.workers
+    → IsLooking me e v old p → IsLooking me e (v + 1) old q
+looking_on me e v found old p q same look lets below h =
+    let still : epochs q ≡ epochs p = look_epochs me v (epochs p).pin found p q same look in
+    let pin : (epochs p).pin ≡ (epochs q).pin = sym (ap (λ (b : Brief). b.pin) still) in
+    let sighted = h.part in
+    let more : SightThenScans me (epochs p).pin e (suc v) old q.view.log = (sighted.0, sighted.1, (p.view.log, found, sighted.2, look, lets)) in
+    record {
+      part = subst (λ (o : Option ℕ). SightThenScans me o e (v + 1) old q.view.log) pin (rw (add-one v) more);
+      seen = ap (λ (b : Brief). b.seen) still ∙ h.seen;
+      own = λ less. subst (λ (o : Option ℕ). lets_pass o e ≡ true) pin (dite (ℕ_discrete v me)
+          (λ (here : v ≡ me). ⊎_elim (λ (x : (v ≡ me) × (found ≡ (epochs p).pin) × (q.view.log ≡ p.view.log)). subst (λ (o : Option ℕ). lets_pass o e ≡ true) x.1 lets) (λ (x : (v ≢ me) × (q.view.log ≡ p.view.log ++ (Scan v, scan_reply found) ∷ [])). absurd (x.0 here)) look)
+          (λ (ne : v ≢ me). h.own (omega arith)));
+      marked = marked_on me v (epochs p).pin found p q same look e h.seen lets (rw (one_for_each p) below) h.marked;
+    }
+
+pub looking_from : (me e : ℕ) (old : List Entry) (p : Stand) → IsSightOf e old p.view.log → (epochs p).seen ≡ Some e → IsLooking me e 0 old p
+looking_from me e old p sighted seen = record {
+  part = (p.view.log, sighted, refl);
+  seen = seen;
+  own = λ less. absurd (omega arith);
+  marked = λ v less. absurd (omega arith);
+}

@@ -1,0 +1,128 @@
+-- A try to pin: an announcement, and the sight that confirms it or not.
+use Rattle.std.proofs.Common.{◌≡◌, ℕ, ◌==◌, Bool, false, cond, refl, ap, ◌∙◌}
+use Rattle.std.specs.Prelude.{Option, Some, None, IsSome, is_some}
+use Rattle.std.proofs.lemmas.Bool.{cond_both, eqb-true}
+use Rattle.nm_core.specs.declared.knowledge.Brief.{Brief}
+use Rattle.nm_core.specs.declared.event.Event.TheVariants.{Sight, Announce}
+use Rattle.nm_core.specs.declared.reply.Reply.{Reply}
+use Rattle.nm_core.specs.declared.reply.Reply.TheVariants.{Saw, Labelled, Pinned, Missed, Announced}
+use Rattle.nm_core.specs.Step.{confirmed}
+use Rattle.nm_core.specs.Searches.{Search, idle, searched, begun}
+use Rattle.nm_order.specs.Intervals.{HasKey}
+use Rattle.nm_steps.specs.Steps.{Stand, MayStep, Stepped, IsSight, noted, noted_sight, sight_of}
+use Rattle.nm_steps.proofs.Noting.{may_sight}
+use Rattle.nm_epoch.specs.declared.pinning.Confirming.{Confirming}
+use Rattle.nm_epoch.specs.declared.pinning.Confirming.TheVariants.{Plain, For}
+use Rattle.nm_epoch.specs.Resting.{IsResting, IsPinnedAt, IsTrying, epochs, search}
+use Rattle.nm_epoch.specs.Tries.{confirming, call_of}
+use Rattle.nm_epoch.proofs.Entries.{epochs_after, search_is}
+use Rattle.nm_epoch.proofs.Allowed.{may_sight_for}
+
+-- ---- the confirming sight
+
+noted_confirming : (by : Confirming) (b : Brief) (r : Reply) → noted b (confirming by) r ≡ noted_sight b r
+noted_confirming Plain b r = refl
+noted_confirming (For op key) b r = refl
+
+searched_confirming : (by : Confirming) (s : Search) (r : Reply) → searched s (confirming by) r ≡ begun s (call_of by) r
+unfolding searched
+searched_confirming Plain s r = refl
+searched_confirming (For op key) s r = refl
+
+pub may_confirm : (p : Stand) (by : Confirming) → IsSome (epochs p).note → (epochs p).pin ≡ None → HasKey (confirming by) → MayStep p (confirming by)
+may_confirm p Plain note pin key = may_sight _ _ _
+may_confirm p (For op k) note pin key = may_sight_for p op k note pin key
+
+-- ---- announced
+
+-- it announces a, is not pinned, and has no call
+pub record HasAnnounced (a : ℕ) (p : Stand) : Type 0 where
+  pub note : (epochs p).note ≡ Some a
+  pub unpinned : (epochs p).pin ≡ None
+  pub labelled : (epochs p).unlabelled ≡ false
+  pub idle : search p ≡ idle
+
+pub announced : (p q : Stand) (a : ℕ) → Stepped p q Announce (Announced a) → IsTrying p → HasAnnounced a q
+unfolding searched
+announced p q a step t =
+    let after = epochs_after p q Announce (Announced a) step in
+    record {
+      note = ap (λ (b : Brief). b.note) after;
+      unpinned = ap (λ (b : Brief). b.pin) after ∙ t.unpinned;
+      labelled = ap (λ (b : Brief). b.unlabelled) after ∙ t.labelled;
+      idle = search_is p q Announce (Announced a) step ∙ t.idle;
+    }
+
+some_note : (a : ℕ) (p : Stand) → HasAnnounced a p → IsSome (epochs p).note
+some_note a p h = ap is_some h.note
+
+pub announced_may : (a : ℕ) (p : Stand) (by : Confirming) → HasAnnounced a p → HasKey (confirming by) → MayStep p (confirming by)
+announced_may a p by h key = may_confirm p by (some_note a p h) h.unpinned key
+
+-- so it is pinned, or has missed the epoch
+answer_is : (b : Brief) (a e : ℕ) → b.note ≡ Some a → b.pin ≡ None → b.unlabelled ≡ false → sight_of b e ≡ cond (a == e) (Pinned e) (Missed e)
+answer_is b a e note pin labelled =
+    ap (λ (x : Bool). cond x (Labelled e) (confirmed b.pin b.note e)) labelled
+    ∙ (ap (λ (o : Option ℕ). confirmed o b.note e) pin ∙ ap (λ (o : Option ℕ). confirmed None o e) note)
+
+reply_is : (a : ℕ) (p : Stand) (r : Reply) → HasAnnounced a p → IsSight (epochs p) r → (e : ℕ) × (r ≡ cond (a == e) (Pinned e) (Missed e))
+reply_is a p r h s = (s.0, s.2 ∙ answer_is (epochs p) a s.0 h.note h.unpinned h.labelled)
+
+pub never_saw : (a x : ℕ) (p : Stand) → HasAnnounced a p → IsSight (epochs p) (Saw x) → ⊥
+never_saw a x p h s = let r = reply_is a p (Saw x) h s in cond_both (a == r.0) (Pinned r.0) (Missed r.0) (λ y. Saw x ≡ y → ⊥) (λ _ e. cc) (λ _ e. cc) r.1
+
+pub never_labelled : (a x : ℕ) (p : Stand) → HasAnnounced a p → IsSight (epochs p) (Labelled x) → ⊥
+never_labelled a x p h s = let r = reply_is a p (Labelled x) h s in cond_both (a == r.0) (Pinned r.0) (Missed r.0) (λ y. Labelled x ≡ y → ⊥) (λ _ e. cc) (λ _ e. cc) r.1
+
+-- it is pinned at what it announces
+pinned_there : (a x : ℕ) (p : Stand) → HasAnnounced a p → IsSight (epochs p) (Pinned x) → a ≡ x
+pinned_there a x p h s =
+    let r = reply_is a p (Pinned x) h s in
+    cond_both (a == r.0) (Pinned r.0) (Missed r.0) (λ y. Pinned x ≡ y → a ≡ x) (λ is e. let at = eqb-true a r.0 is in cc) (λ _ e. cc) r.1
+
+-- ---- won and lost
+
+pub won : (p q : Stand) (by : Confirming) (a e : ℕ) → HasAnnounced a p → IsSight (epochs p) (Pinned e) → Stepped p q (confirming by) (Pinned e) → IsPinnedAt e (call_of by) q
+won p q by a e h s step =
+    let after = epochs_after p q (confirming by) (Pinned e) step ∙ noted_confirming by (epochs p) (Pinned e) in
+    record {
+      seen = ap (λ (b : Brief). b.seen) after;
+      note = ap (λ (b : Brief). b.note) after ∙ (h.note ∙ ap (λ (n : ℕ). Some n) (pinned_there a e p h s));
+      pin = ap (λ (b : Brief). b.pin) after;
+      labelled = ap (λ (b : Brief). b.unlabelled) after ∙ h.labelled;
+      begun = search_is p q (confirming by) (Pinned e) step ∙ searched_confirming by (search p) (Pinned e);
+    }
+
+pub lost_seen : (p q : Stand) (by : Confirming) (e : ℕ) → Stepped p q (confirming by) (Missed e) → (epochs q).seen ≡ Some e
+lost_seen p q by e step = ap (λ (b : Brief). b.seen) (epochs_after p q (confirming by) (Missed e) step ∙ noted_confirming by (epochs p) (Missed e))
+
+pub lost : (p q : Stand) (by : Confirming) (a e : ℕ) → HasAnnounced a p → Stepped p q (confirming by) (Missed e) → IsTrying q
+lost p q by a e h step =
+    let after = epochs_after p q (confirming by) (Missed e) step ∙ noted_confirming by (epochs p) (Missed e) in
+    record {
+      seen = ap is_some (lost_seen p q by e step);
+      unpinned = ap (λ (b : Brief). b.pin) after ∙ h.unpinned;
+      labelled = ap (λ (b : Brief). b.unlabelled) after ∙ h.labelled;
+      idle = search_is p q (confirming by) (Missed e) step ∙ (searched_confirming by (search p) (Missed e) ∙ h.idle);
+    }
+
+-- ---- the first sight
+
+pub sees : (p q : Stand) (e : ℕ) → Stepped p q Sight (Saw e) → (epochs q).seen ≡ Some e
+sees p q e step = ap (λ (b : Brief). b.seen) (epochs_after p q Sight (Saw e) step)
+
+pub rests_on : (p q : Stand) (e : ℕ) → IsResting p → Stepped p q Sight (Saw e) → IsResting q
+unfolding searched
+rests_on p q e rests step =
+    let after = epochs_after p q Sight (Saw e) step in
+    record {
+      unpinned = ap (λ (b : Brief). b.pin) after ∙ rests.unpinned;
+      silent = ap (λ (b : Brief). b.note) after ∙ rests.silent;
+      labelled = ap (λ (b : Brief). b.unlabelled) after ∙ rests.labelled;
+      idle = search_is p q Sight (Saw e) step ∙ rests.idle;
+    }
+
+pub tries_on : (p q : Stand) (e : ℕ) → IsResting p → Stepped p q Sight (Saw e) → IsTrying q
+tries_on p q e rests step =
+    let r = rests_on p q e rests step in
+    record { seen = ap is_some (sees p q e step); unpinned = r.unpinned; labelled = r.labelled; idle = r.idle }

@@ -1,0 +1,10 @@
+use Rattle.nm_epoch.specs.Resting.{IsSamePass, Settles}
+use Rattle.nm_epoch.specs.Scans.{IsLooking}
+use Rattle.nm_epoch.proofs.moving.advance.Given as goal
+
+abbrev pub invariant-loop-worker : goal.invariant-loop-worker
+invariant-loop-worker l = record {
+  same : IsSamePass l.fn.pass l.pass;
+  looking : IsLooking l.me l.epoch l.worker l.fn.pass.view.log l.pass;
+  settles : Settles l.fn.pass l.pass;
+}

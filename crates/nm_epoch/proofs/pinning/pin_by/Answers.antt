@@ -1,0 +1,29 @@
+use Rattle.std.proofs.Common.{rules, ap}
+use Rattle.nm_epoch.proofs.Allowed.{may_leave}
+use Rattle.nm_epoch.proofs.Left.{rests_after_leave, seen_after_leave}
+use Rattle.nm_epoch.proofs.Trying.{sees, rests_on, tries_on}
+use Rattle.nm_epoch.proofs.pinning.pin_by.Goals as goal
+
+pub returns-then-tries-eq0-clause-last : goal.returns-then-tries-eq0-clause-last
+returns-then-tries-eq0-clause-last c = sees c.args.pass.now c.sight.new.pass c.in-Saw.first c.in-Saw.ensures.step
+
+pub returns-then-tries-eq0-clause-rests : goal.returns-then-tries-eq0-clause-rests
+returns-then-tries-eq0-clause-rests c = rests_on c.args.pass.now c.sight.new.pass c.in-Saw.first c.requires.rests c.in-Saw.ensures.step
+
+pub loop-round-init : goal.loop-round-init
+loop-round-init c = record {
+  same = search rules;
+  tries = search rules;
+  trying = tries_on c.args.pass.now c.sight.new.pass c.in-Saw.first c.requires.rests c.in-Saw.ensures.step;
+  last = sees c.args.pass.now c.sight.new.pass c.in-Saw.first c.in-Saw.ensures.step;
+}
+
+pub leave-requires-clause-may : goal.leave-requires-clause-may
+leave-requires-clause-may c =
+    let t = c.loop-round.invariant.trying in may_leave c.loop-round.pass t.labelled (ap (λ s. s.linked) t.idle) (ap (λ s. s.flagged) t.idle)
+
+pub returns-clause-last : goal.returns-clause-last
+returns-clause-last c = seen_after_leave c.loop-round.pass c.leave.new.pass c.loop-round.epoch c.leave.ensures c.loop-round.invariant.last
+
+pub returns-clause-rests : goal.returns-clause-rests
+returns-clause-rests c = rests_after_leave c.loop-round.pass c.leave.new.pass c.leave.ensures c.loop-round.invariant.trying.labelled

@@ -1,0 +1,12 @@
+use Rattle.std.proofs.Common.{Some, ◌≡◌}
+use Rattle.nm_epoch.specs.Resting.{IsSamePass, IsTrying, epochs}
+use Rattle.nm_epoch.specs.Tries.{LostTries, looked, confirming}
+use Rattle.nm_epoch.proofs.pinning.pin_by.Given as goal
+
+abbrev pub invariant-loop-round : goal.invariant-loop-round
+invariant-loop-round l = record {
+  same : IsSamePass l.fn.pass l.pass;
+  tries : LostTries (confirming l.by) l._round (looked l.fn.pass.view.log l.first) l.pass.view.log;
+  trying : IsTrying l.pass;
+  last : (epochs l.pass).seen ≡ Some l.epoch;
+}

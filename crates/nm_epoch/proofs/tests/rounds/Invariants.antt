@@ -1,0 +1,10 @@
+use Rattle.std.proofs.Common.{◌≤◌}
+use Rattle.nm_epoch.specs.Resting.{IsResting, IsSamePass}
+use Rattle.nm_epoch.proofs.tests.rounds.Given as goal
+
+abbrev pub invariant-loop-round : goal.invariant-loop-round
+invariant-loop-round l = record {
+  same : IsSamePass l.fn.pass l.pass;
+  rests : IsResting l.pass;
+  few : l.pinned ≤ l._round;
+}

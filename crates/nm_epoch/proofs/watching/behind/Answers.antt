@@ -1,0 +1,20 @@
+use Rattle.std.proofs.Common.{rules, ◌≡◌, ◌+◌, ℕ, ap, sym, ◌∙◌, add-zero, arith}
+use Rattle.nm_epoch.specs.Resting.{epochs}
+use Rattle.nm_epoch.specs.Watches.{bit_of}
+use Rattle.nm_epoch.proofs.Scanning.{settles_on}
+use Rattle.nm_epoch.proofs.Watched.{watching_on, bit_set, bit_clear, shifted}
+use Rattle.nm_epoch.proofs.watching.behind.Goals.{then-is_some, else-is_some}
+use Rattle.nm_epoch.proofs.watching.behind.Goals as goal
+
+pub loop-worker-preserved : goal.loop-worker-preserved
+loop-worker-preserved c =
+    let sum : c.if-is_some.mask ≡ c.loop-worker.mask + bit_of c.loop-worker.worker c.look-found.result c.read-epoch.result = elim c.if-is_some.branch [
+      | then-is_some w ↦ w.mask-is ∙ ap (λ (n : ℕ). c.loop-worker.mask + n) (shifted c.loop-worker.worker (let below = c.loop-worker-test.true in let few = c.workers-workers.ensures.fits.few in omega (arith, below, few, c.workers-workers.ensures.workers)) ∙ sym (bit_set c.elsewhere.result c.look-found.result c.read-epoch.result c.loop-worker.worker c.elsewhere.ensures (sym c.is_some.ensures ∙ w.if-is_some.true)))
+      | else-is_some w ↦ w.mask-is ∙ (sym (add-zero c.loop-worker.mask) ∙ ap (λ (n : ℕ). c.loop-worker.mask + n) (sym (bit_clear c.elsewhere.result c.look-found.result c.read-epoch.result c.loop-worker.worker c.elsewhere.ensures (sym c.is_some.ensures ∙ w.if-is_some.false))))
+    ] in
+    record {
+      same = search rules;
+      watching = watching_on c.number-me.result c.read-epoch.result c.loop-worker.worker c.loop-worker.mask c.if-is_some.mask c.look-found.result c.args.pass.now.view.log c.loop-worker.pass c.look-found.new.pass
+          c.look-found.ensures.same c.look-found.ensures.found sum c.loop-worker.invariant.watching;
+      settles = settles_on c.number-me.result c.loop-worker.worker (epochs c.loop-worker.pass).pin c.look-found.result c.loop-worker.pass c.look-found.new.pass c.look-found.ensures.same c.look-found.ensures.found c.args.pass.now c.loop-worker.invariant.settles;
+    }

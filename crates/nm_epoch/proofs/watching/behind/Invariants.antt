@@ -1,0 +1,10 @@
+use Rattle.nm_epoch.specs.Resting.{IsSamePass, Settles}
+use Rattle.nm_epoch.specs.Watches.{IsWatching}
+use Rattle.nm_epoch.proofs.watching.behind.Given as goal
+
+abbrev pub invariant-loop-worker : goal.invariant-loop-worker
+invariant-loop-worker l = record {
+  same : IsSamePass l.fn.pass l.pass;
+  watching : IsWatching l.me l.epoch l.worker l.mask l.fn.pass.view.log l.pass;
+  settles : Settles l.fn.pass l.pass;
+}

@@ -1,0 +1,4 @@
+pub mod Resting
+pub mod Tries
+pub mod Scans
+pub mod Watches

@@ -1,0 +1,65 @@
+-- What a pass's log tells of its epochs and of the call under its pin.
+use Rattle.std.specs.Prelude.{◌≡◌, ◌⊎◌, ℕ, Bool, false, List, [], Option, Some, None, IsSome}
+use Rattle.nm_core.specs.declared.knowledge.Brief.{Brief}
+use Rattle.nm_core.specs.declared.walks.Call.{Call}
+use Rattle.nm_core.specs.Searches.{Search, idle}
+use Rattle.nm_core.specs.Walks.{search_after}
+use Rattle.nm_steps.specs.Rules.{knowledge}
+use Rattle.nm_steps.specs.Steps.{Stand}
+
+-- nothing but the log changed
+abbrev pub IsSamePass : Stand → Stand → Type 0
+IsSamePass p q = q ≡ record p { view = record p.view { log = q.view.log } }
+
+-- a worker's epochs
+abbrev pub epochs : Stand → Brief
+epochs p = (knowledge p.view).brief
+
+-- what it has found and changed for its call
+abbrev pub search : Stand → Search
+search p = search_after idle p.view.log
+
+-- a call that has only begun
+abbrev pub begun_for : Option Call → Search
+begun_for call = record { call = call; linked = false; flagged = None; cut = false; walks = []; later = [] }
+
+-- it is not pinned and announces nothing, no cut of its waits for a label, and it has no call
+pub record IsResting (p : Stand) : Type 0 where
+  pub unpinned : (epochs p).pin ≡ None
+  pub silent : (epochs p).note ≡ None
+  pub labelled : (epochs p).unlabelled ≡ false
+  pub idle : search p ≡ idle
+
+-- it is pinned at e, the epoch that it announces and read last, for a call that has only begun
+pub record IsPinnedAt (e : ℕ) (call : Option Call) (p : Stand) : Type 0 where
+  pub seen : (epochs p).seen ≡ Some e
+  pub note : (epochs p).note ≡ Some e
+  pub pin : (epochs p).pin ≡ Some e
+  pub labelled : (epochs p).unlabelled ≡ false
+  pub begun : search p ≡ begun_for call
+
+-- it may announce the epoch last read and try to pin it
+pub record IsTrying (p : Stand) : Type 0 where
+  pub seen : IsSome (epochs p).seen
+  pub unpinned : (epochs p).pin ≡ None
+  pub labelled : (epochs p).unlabelled ≡ false
+  pub idle : search p ≡ idle
+
+-- it is pinned, or announces nothing: not in the midst of a pin
+abbrev pub IsSettled : Stand → Type 0
+IsSettled p = IsSome (epochs p).pin ⊎ ((epochs p).note ≡ None)
+
+-- its announcement, its pin and its call stay
+pub record Stays (p q : Stand) : Type 0 where
+  pub note : (epochs q).note ≡ (epochs p).note
+  pub pin : (epochs q).pin ≡ (epochs p).pin
+  pub search : search q ≡ search p
+
+-- no cut waits for its label any more, and if it was settled, its announcement, its pin and its call stay
+pub record Settles (p q : Stand) : Type 0 where
+  pub labelled : (epochs q).unlabelled ≡ false
+  pub stays : IsSettled p → Stays p q
+
+-- by worker, whether it was scanned at the epoch last read
+abbrev pub marks : Stand → List Bool
+marks p = (knowledge p.view).scanned

@@ -1,0 +1,45 @@
+-- What a pin leaves in the log, oldest entry first.
+use Rattle.std.specs.Prelude.{◌≡◌, ◌<◌, ℕ, zero, suc, List, [], ◌∷◌, ◌++◌, Option, Some, None}
+use Rattle.nm_core.specs.declared.event.Event.{Event}
+use Rattle.nm_core.specs.declared.event.Event.TheVariants.{Sight, SightFor, Announce, Leave}
+use Rattle.nm_core.specs.declared.reply.Reply.TheVariants.{Saw, Pinned, Missed, Announced, Departed}
+use Rattle.nm_core.specs.declared.walks.Call.{Call}
+use Rattle.nm_core.specs.Walks.{Entry}
+use Rattle.nm_epoch.specs.declared.pinning.Confirming.{Confirming}
+use Rattle.nm_epoch.specs.declared.pinning.Confirming.TheVariants.{Plain, For}
+
+-- the sight by which a pin is confirmed
+abbrev pub confirming : Confirming → Event
+confirming Plain = Sight
+confirming (For op key) = SightFor op key
+
+-- and the call that begins with it
+abbrev pub call_of : Confirming → Option Call
+call_of Plain = None
+call_of (For op key) = Some (record { op = op; key = key })
+
+-- an announce, followed at once by that sight, which answered `Missed`
+abbrev pub LostTry : Event → List Entry → List Entry → Type 0
+LostTry by old new = (a e : ℕ) × (new ≡ (old ++ (Announce, Announced a) ∷ []) ++ (by, Missed e) ∷ [])
+
+-- an announce, followed at once by that sight, which answered `Pinned e`
+abbrev pub WonTry : Event → ℕ → List Entry → List Entry → Type 0
+WonTry by e old new = (a : ℕ) × (new ≡ (old ++ (Announce, Announced a) ∷ []) ++ (by, Pinned e) ∷ [])
+
+-- so many tries were lost, one behind the other
+abbrev pub LostTries : Event → ℕ → List Entry → List Entry → Type 0
+LostTries by zero old new = new ≡ old
+LostTries by (suc n) old new = (mid : List Entry) × LostTries by n old mid × LostTry by mid new
+
+-- one sight, which found the epoch e
+abbrev pub looked : List Entry → ℕ → List Entry
+looked old e = old ++ (Sight, Saw e) ∷ []
+
+-- one sight, fewer lost tries than there may be, and one that was won
+abbrev pub IsPinned : Event → ℕ → List Entry → List Entry → ℕ → Type 0
+IsPinned by tries old new e = (first n : ℕ) × (mid : List Entry) × (n < tries) × LostTries by n (looked old first) mid × WonTry by e mid new
+
+-- one sight, as many lost tries as there may be, and a leave; with no tries the sight alone
+abbrev pub IsMoved : Event → ℕ → List Entry → List Entry → Type 0
+IsMoved by zero old new = (first : ℕ) × (new ≡ looked old first)
+IsMoved by (suc n) old new = (first : ℕ) × (mid : List Entry) × LostTries by (suc n) (looked old first) mid × (new ≡ mid ++ (Leave, Departed) ∷ [])

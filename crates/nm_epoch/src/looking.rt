@@ -1,0 +1,58 @@
+//! Reading the epoch, and what each worker announces.
+ghost use Rattle.std.specs.Prelude.{◌≡◌, ◌<◌, ◌≤◌, Some, IsSome, MatchOption, true, false};
+ghost use Rattle.nm_core.specs.Step.{last_number};
+ghost use Rattle.nm_steps.specs.Steps.{IsOf, sight_reply};
+ghost use Rattle.nm_epoch.specs.Resting.{IsSamePass, Settles, epochs};
+ghost use Rattle.nm_epoch.specs.Scans.{IsSightOf, LooksAt, epoch_in, lets_pass};
+
+use nm_steps::{Pass, Shared, Sighted};
+
+/// The epoch that a sight found.
+fn epoch_of(sighted: Sighted) -> u64
+    ensures { epoch_in (sight_reply sighted) ≡ Some result }
+{
+    match sighted {
+        Sighted::Saw(epoch)
+        | Sighted::Labelled(epoch)
+        | Sighted::Pinned(epoch)
+        | Sighted::Missed(epoch) => epoch,
+    }
+}
+
+/// Reads the epoch. Where a cut waits for its label, this is the label.
+pub(crate) fn read(shared: &Shared, pass: &mut Pass) -> u64
+    requires { IsOf shared.now pass.old }
+    ensures same { IsSamePass pass.old pass.new }
+    ensures step { IsSightOf result pass.old.view.log pass.new.view.log }
+    ensures seen { (epochs pass.new).seen ≡ Some result }
+    ensures small { result ≤ last_number }
+    ensures settles { Settles pass.old pass.new }
+{
+    epoch_of(shared.sight(pass))
+}
+
+/// What a worker announces; of the own one, `me`, where it is pinned.
+pub(crate) fn look(shared: &Shared, pass: &mut Pass, me: u32, worker: u32) -> Option<u64>
+    requires own { IsOf shared.now pass.old }
+    requires me { me ≡ pass.old.view.number }
+    requires there { worker < shared.now.layout.workers }
+    requires seen { IsSome (epochs pass.old).seen }
+    ensures same { IsSamePass pass.old pass.new }
+    ensures found { LooksAt me (epochs pass.old).pin worker result pass.old.view.log pass.new.view.log }
+{
+    if worker == me {
+        pass.pinned()
+    } else {
+        shared.scan(pass, worker)
+    }
+}
+
+/// The epoch that a worker was found at, where it is another than this one and so holds it back.
+pub(crate) fn elsewhere(found: Option<u64>, epoch: u64) -> Option<u64>
+    ensures { MatchOption result (lets_pass found epoch ≡ true) (λ at. (found ≡ Some at) × (lets_pass found epoch ≡ false)) }
+{
+    match found {
+        Some(at) if at != epoch => Some(at),
+        _ => None,
+    }
+}

@@ -1,0 +1,42 @@
+//! Moving the epoch on.
+ghost use Rattle.nm_steps.specs.Steps.{IsOf};
+ghost use Rattle.nm_epoch.specs.Resting.{IsSamePass, Settles, epochs};
+ghost use Rattle.nm_epoch.specs.Scans.{IsAdvance};
+
+use crate::answers::Advance;
+use crate::looking::{elsewhere, look, read};
+use nm_core::LAST_NUMBER;
+use nm_steps::{Pass, Shared};
+
+/// Moves the epoch on by one, if no worker holds it back. The epoch is read once, and then each worker's announcement in the
+/// order of their numbers; of the own worker its pin counts, with no step. At most as many steps as there are workers, and one.
+///
+/// `Moved`: every worker was found idle or at the epoch read, and the epoch is the next one now. `Held`: this worker, the first
+/// by number, was found at another epoch, this one. `Lost`: no worker held the epoch back, but another moved it on first.
+/// `Spent`: no worker held it back, but it is the last epoch, 2^62.
+///
+/// Where a cut waits for its label, the first step labels it. (Fraser, 2004, chapter 5: the epoch goes on once every worker
+/// that is pinned has been seen at it.)
+pub fn advance(shared: &Shared, pass: &mut Pass) -> Advance
+    requires { IsOf shared.now pass.old }
+    ensures same { IsSamePass pass.old pass.new }
+    ensures part { IsAdvance shared.now.layout.workers pass.old.view.number (epochs pass.new).pin pass.old.view.log pass.new.view.log result }
+    ensures settles { Settles pass.old pass.new }
+{
+    let epoch = read(shared, pass);
+    let me = pass.number();
+    let workers = shared.layout().workers();
+    for worker in 0..workers {
+        let found = look(shared, pass, me, worker);
+        if let Some(at) = elsewhere(found, epoch) {
+            return Advance::Held { worker, epoch: at };
+        }
+    }
+    if epoch == LAST_NUMBER {
+        return Advance::Spent;
+    }
+    match shared.advance(pass) {
+        Ok(next) => Advance::Moved { epoch: next },
+        Err(found) => Advance::Lost { epoch: found },
+    }
+}

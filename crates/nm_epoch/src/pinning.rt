@@ -1,0 +1,118 @@
+//! Pinning an epoch.
+ghost use Rattle.std.specs.Prelude.{◌≡◌, Some, None, IfOk, IfErr, MatchResult};
+ghost use Rattle.nm_core.specs.declared.event.Event.TheVariants.{Sight, SightFor};
+ghost use Rattle.nm_order.specs.Intervals.{HasKey};
+ghost use Rattle.nm_steps.specs.Steps.{IsOf, IsSight, MayStep, Stepped, sight_reply};
+ghost use Rattle.nm_epoch.specs.Resting.{IsSamePass, IsResting, IsPinnedAt, IsTrying, epochs};
+ghost use Rattle.nm_epoch.specs.Tries.{IsPinned, IsMoved, LostTry, WonTry, confirming, call_of};
+
+use crate::answers::Moved;
+use nm_core::Op;
+use nm_edge::Key;
+use nm_steps::{Pass, Shared, Sighted};
+
+/// What a pin is for.
+#[derive(Clone, Copy)]
+enum Confirming {
+    Plain,
+    For(Op, Key),
+}
+
+/// Reads the epoch, to confirm a pin.
+fn confirm(shared: &Shared, pass: &mut Pass, by: &Confirming) -> Sighted
+    requires own { IsOf shared.now pass.old }
+    requires may { MayStep pass.old (confirming by.now) }
+    ensures step { Stepped pass.old pass.new (confirming by.now) (sight_reply result) }
+    ensures reply { IsSight (epochs pass.old) (sight_reply result) }
+{
+    match by {
+        Confirming::Plain => shared.sight(pass),
+        Confirming::For(op, key) => shared.sight_for(pass, *op, *key),
+    }
+}
+
+/// Announces the epoch last read and reads it again: the epoch, at which the worker is pinned now, or the one found in its place.
+fn attempt(shared: &Shared, pass: &mut Pass, by: &Confirming) -> Result<u64, u64>
+    requires own { IsOf shared.now pass.old }
+    requires trying { IsTrying pass.old }
+    requires key { HasKey (confirming by.now) }
+    ensures same { IsSamePass pass.old pass.new }
+    ensures won { IfOk result (λ e. WonTry (confirming by.now) e pass.old.view.log pass.new.view.log) }
+    ensures at { IfOk result (λ e. IsPinnedAt e (call_of by.now) pass.new) }
+    ensures lost { IfErr result (λ e. LostTry (confirming by.now) pass.old.view.log pass.new.view.log) }
+    ensures trying { IfErr result (λ e. IsTrying pass.new) }
+    ensures last { IfErr result (λ e. (epochs pass.new).seen ≡ Some e) }
+{
+    shared.announce(pass);
+    match confirm(shared, pass, by) {
+        Sighted::Pinned(epoch) => Ok(epoch),
+        Sighted::Missed(epoch) => Err(epoch),
+        Sighted::Saw(_) | Sighted::Labelled(_) => unreachable!(),
+    }
+}
+
+fn pin_by(shared: &Shared, pass: &mut Pass, tries: u32, by: &Confirming) -> Result<u64, Moved>
+    requires own { IsOf shared.now pass.old }
+    requires rests { IsResting pass.old }
+    requires key { HasKey (confirming by.now) }
+    ensures same { IsSamePass pass.old pass.new }
+    ensures pinned { IfOk result (λ e. IsPinned (confirming by.now) tries pass.old.view.log pass.new.view.log e) }
+    ensures at { IfOk result (λ e. IsPinnedAt e (call_of by.now) pass.new) }
+    ensures moved { IfErr result (λ m. IsMoved (confirming by.now) tries pass.old.view.log pass.new.view.log) }
+    ensures last { IfErr result (λ m. (epochs pass.new).seen ≡ Some m.epoch) }
+    ensures rests { IfErr result (λ m. IsResting pass.new) }
+{
+    let Sighted::Saw(first) = shared.sight(pass) else {
+        unreachable!()
+    };
+    let mut epoch = first;
+    if tries == 0 {
+        return Err(Moved { epoch });
+    }
+    for _round in 0..tries {
+        match attempt(shared, pass, by) {
+            Ok(pinned) => return Ok(pinned),
+            Err(found) => epoch = found,
+        }
+    }
+    shared.leave(pass);
+    Err(Moved { epoch })
+}
+
+/// Pins the epoch. The epoch is read once, and each try announces the epoch last read and reads it again.
+///
+/// `Ok(epoch)`: the worker is pinned at the epoch that its last sight found, after fewer than `tries` lost tries.
+/// `Err`: the epoch moved on in each of `tries` tries, and the announcement is taken back; with 0 tries the epoch was only
+/// read. At most 2 `tries` + 2 steps.
+///
+/// The epoch is confirmed after it was announced, since it may have moved on before the announcement was there for others to
+/// see (Fraser, 2004, chapter 5).
+pub fn pin(shared: &Shared, pass: &mut Pass, tries: u32) -> Result<u64, Moved>
+    requires own { IsOf shared.now pass.old }
+    requires rests { IsResting pass.old }
+    ensures same { IsSamePass pass.old pass.new }
+    ensures pinned { IfOk result (λ e. IsPinned Sight tries pass.old.view.log pass.new.view.log e) }
+    ensures at { IfOk result (λ e. IsPinnedAt e None pass.new) }
+    ensures moved { IfErr result (λ m. IsMoved Sight tries pass.old.view.log pass.new.view.log) }
+    ensures last { IfErr result (λ m. (epochs pass.new).seen ≡ Some m.epoch) }
+    ensures rests { IfErr result (λ m. IsResting pass.new) }
+{
+    pin_by(shared, pass, tries, &Confirming::Plain)
+}
+
+/// Pins the epoch, as `pin` does, for an operation on a key, which begins with the sight that confirms the pin. At most
+/// 2 `tries` + 2 steps.
+pub fn pin_for(shared: &Shared, pass: &mut Pass, tries: u32, op: Op, key: Key) -> Result<u64, Moved>
+    requires own { IsOf shared.now pass.old }
+    requires rests { IsResting pass.old }
+    ensures same { IsSamePass pass.old pass.new }
+    ensures pinned { IfOk result (λ e. IsPinned (SightFor op key) tries pass.old.view.log pass.new.view.log e) }
+    ensures at { IfOk result (λ e. IsPinnedAt e (Some (record { op = op; key = key })) pass.new) }
+    ensures moved { IfErr result (λ m. IsMoved (SightFor op key) tries pass.old.view.log pass.new.view.log) }
+    ensures last { IfErr result (λ m. (epochs pass.new).seen ≡ Some m.epoch) }
+    ensures rests { IfErr result (λ m. IsResting pass.new) }
+{
+    let _ = key.get();
+    let by = Confirming::For(op, key);
+    pin_by(shared, pass, tries, &by)
+}

@@ -1,0 +1,32 @@
+//! Which workers hold the epoch back.
+ghost use Rattle.nm_steps.specs.Steps.{IsOf};
+ghost use Rattle.nm_epoch.specs.Resting.{IsSamePass, Settles, epochs};
+ghost use Rattle.nm_epoch.specs.Watches.{IsBehind};
+
+use crate::answers::Behind;
+use crate::looking::{elsewhere, look, read};
+use nm_steps::{Pass, Shared};
+
+/// Reads the epoch, and tells which workers hold it back: a worker's bit is set exactly where it was found announcing another
+/// epoch than the one read; the own bit exactly where the own pin is at another. As many steps as there are workers.
+///
+/// A worker that stalls while it is pinned is found so (Fraser, 2004, chapter 5: one such worker holds back all reclamation).
+/// Where a cut waits for its label, the first step labels it.
+pub fn behind(shared: &Shared, pass: &mut Pass) -> Behind
+    requires { IsOf shared.now pass.old }
+    ensures same { IsSamePass pass.old pass.new }
+    ensures part { IsBehind shared.now.layout.workers pass.old.view.number (epochs pass.new).pin pass.old.view.log pass.new.view.log result }
+    ensures settles { Settles pass.old pass.new }
+{
+    let epoch = read(shared, pass);
+    let me = pass.number();
+    let workers = shared.layout().workers();
+    let mut mask = 0;
+    for worker in 0..workers {
+        let found = look(shared, pass, me, worker);
+        if elsewhere(found, epoch).is_some() {
+            mask += 1 << worker;
+        }
+    }
+    Behind { epoch, mask }
+}
