@@ -8,7 +8,8 @@ use Rattle.nm_core.specs.Searches.{searched}
 use Rattle.nm_core.specs.Walks.{Entry}
 use Rattle.nm_steps.specs.Steps.{Stand, Stepped, advance_reply, noted}
 use Rattle.nm_epoch.specs.declared.answers.Advance.TheVariants.{Moved, Held, Lost}
-use Rattle.nm_epoch.specs.Resting.{IsSamePass, Settles, epochs}
+use Rattle.nm_epoch.specs.Resting.{Settles, epochs}
+use Rattle.nm_steps.specs.Steps.{IsSamePass}
 use Rattle.nm_epoch.specs.Scans.{LooksAt, SightThenScans, IsAdvance, IsLooking, lets_pass}
 use Rattle.nm_epoch.proofs.Entries.{epochs_after, search_is}
 use Rattle.nm_epoch.proofs.Scanning.{look_epochs}

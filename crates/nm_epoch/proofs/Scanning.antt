@@ -11,7 +11,8 @@ use Rattle.nm_core.specs.declared.reply.Reply.{Reply}
 use Rattle.nm_core.specs.Searches.{searched}
 use Rattle.nm_core.specs.Walks.{Entry}
 use Rattle.nm_steps.specs.Steps.{Stand, Stepped, scan_reply}
-use Rattle.nm_epoch.specs.Resting.{IsSamePass, Settles, epochs, search, marks}
+use Rattle.nm_epoch.specs.Resting.{Settles, epochs, search, marks}
+use Rattle.nm_steps.specs.Steps.{IsSamePass}
 use Rattle.nm_epoch.specs.Scans.{IsSightOf, LooksAt, SightThenScans, IsLooking, lets_pass}
 use Rattle.nm_epoch.proofs.Entries.{epochs_after, search_is}
 use Rattle.nm_epoch.proofs.Marks.{one_for_each, marks_after}

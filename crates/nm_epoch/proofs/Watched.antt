@@ -6,7 +6,8 @@ use Rattle.std.proofs.lemmas.Nat.{pow_below}
 use Rattle.nm_core.specs.declared.knowledge.Brief.{Brief}
 use Rattle.nm_core.specs.Walks.{Entry}
 use Rattle.nm_steps.specs.Steps.{Stand}
-use Rattle.nm_epoch.specs.Resting.{IsSamePass, epochs}
+use Rattle.nm_epoch.specs.Resting.{epochs}
+use Rattle.nm_steps.specs.Steps.{IsSamePass}
 use Rattle.nm_epoch.specs.Scans.{LooksAt, lets_pass}
 use Rattle.nm_epoch.specs.Watches.{IsWatching, SightThenWatch, bit_of}
 use Rattle.nm_epoch.proofs.Scanning.{look_epochs}

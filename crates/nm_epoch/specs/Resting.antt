@@ -7,10 +7,6 @@ use Rattle.nm_core.specs.Walks.{search_after}
 use Rattle.nm_steps.specs.Rules.{knowledge}
 use Rattle.nm_steps.specs.Steps.{Stand}
 
--- nothing but the log changed
-abbrev pub IsSamePass : Stand → Stand → Type 0
-IsSamePass p q = q ≡ record p { view = record p.view { log = q.view.log } }
-
 -- a worker's epochs
 abbrev pub epochs : Stand → Brief
 epochs p = (knowledge p.view).brief

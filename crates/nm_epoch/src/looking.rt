@@ -2,7 +2,8 @@
 ghost use Rattle.std.specs.Prelude.{◌≡◌, ◌<◌, ◌≤◌, Some, IsSome, MatchOption, true, false};
 ghost use Rattle.nm_core.specs.Step.{last_number};
 ghost use Rattle.nm_steps.specs.Steps.{IsOf, sight_reply};
-ghost use Rattle.nm_epoch.specs.Resting.{IsSamePass, Settles, epochs};
+ghost use Rattle.nm_epoch.specs.Resting.{Settles, epochs};
+ghost use Rattle.nm_steps.specs.Steps.{IsSamePass};
 ghost use Rattle.nm_epoch.specs.Scans.{IsSightOf, LooksAt, epoch_in, lets_pass};
 
 use nm_steps::{Pass, Shared, Sighted};

@@ -1,6 +1,7 @@
 //! Moving the epoch on.
 ghost use Rattle.nm_steps.specs.Steps.{IsOf};
-ghost use Rattle.nm_epoch.specs.Resting.{IsSamePass, Settles, epochs};
+ghost use Rattle.nm_epoch.specs.Resting.{Settles, epochs};
+ghost use Rattle.nm_steps.specs.Steps.{IsSamePass};
 ghost use Rattle.nm_epoch.specs.Scans.{IsAdvance};
 
 use crate::answers::Advance;

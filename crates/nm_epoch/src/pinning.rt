@@ -3,7 +3,8 @@ ghost use Rattle.std.specs.Prelude.{◌≡◌, Some, None, IfOk, IfErr, MatchRes
 ghost use Rattle.nm_core.specs.declared.event.Event.TheVariants.{Sight, SightFor};
 ghost use Rattle.nm_order.specs.Intervals.{HasKey};
 ghost use Rattle.nm_steps.specs.Steps.{IsOf, IsSight, MayStep, Stepped, sight_reply};
-ghost use Rattle.nm_epoch.specs.Resting.{IsSamePass, IsResting, IsPinnedAt, IsTrying, epochs};
+ghost use Rattle.nm_epoch.specs.Resting.{IsResting, IsPinnedAt, IsTrying, epochs};
+ghost use Rattle.nm_steps.specs.Steps.{IsSamePass};
 ghost use Rattle.nm_epoch.specs.Tries.{IsPinned, IsMoved, LostTry, WonTry, confirming, call_of};
 
 use crate::answers::Moved;

@@ -1,6 +1,7 @@
 ghost use Rattle.std.specs.Prelude.{◌≡◌, length};
 ghost use Rattle.nm_steps.specs.Steps.{AreFresh, IsOf};
-ghost use Rattle.nm_epoch.specs.Resting.{IsResting, IsSamePass};
+ghost use Rattle.nm_epoch.specs.Resting.{IsResting};
+ghost use Rattle.nm_steps.specs.Steps.{IsSamePass};
 
 use crate::{Advance, Behind, Moved, advance, behind, pin, unpin};
 use nm_edge::Layout;

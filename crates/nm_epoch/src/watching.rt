@@ -1,6 +1,7 @@
 //! Which workers hold the epoch back.
 ghost use Rattle.nm_steps.specs.Steps.{IsOf};
-ghost use Rattle.nm_epoch.specs.Resting.{IsSamePass, Settles, epochs};
+ghost use Rattle.nm_epoch.specs.Resting.{Settles, epochs};
+ghost use Rattle.nm_steps.specs.Steps.{IsSamePass};
 ghost use Rattle.nm_epoch.specs.Watches.{IsBehind};
 
 use crate::answers::Behind;

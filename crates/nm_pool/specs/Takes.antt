@@ -7,10 +7,6 @@ use Rattle.nm_core.specs.Knowledge.{Knowledge, is_private}
 use Rattle.nm_core.specs.Walks.{Entry}
 use Rattle.nm_steps.specs.Steps.{Stand}
 
--- nothing but the log changed
-abbrev pub IsSamePass : Stand → Stand → Type 0
-IsSamePass p q = q ≡ record p { view = record p.view { log = q.view.log } }
-
 -- nothing but private slots was learned, and each slot that was private is so still, with what was stored there
 pub record LearnsSlots (before after : Knowledge) : Type 0 where
   pub brief : after.brief ≡ before.brief

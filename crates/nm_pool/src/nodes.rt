@@ -6,7 +6,8 @@ ghost use Rattle.nm_core.specs.Knowledge.{is_private, draft_of};
 ghost use Rattle.nm_order.specs.Told.{IsNew};
 ghost use Rattle.nm_steps.specs.Rules.{knowledge};
 ghost use Rattle.nm_steps.specs.Steps.{IsOf, Stepped};
-ghost use Rattle.nm_pool.specs.Takes.{IsSamePass, LearnsSlots};
+ghost use Rattle.nm_pool.specs.Takes.{LearnsSlots};
+ghost use Rattle.nm_steps.specs.Steps.{IsSamePass};
 ghost use Rattle.nm_pool.specs.Claims.{IsClaim, IsTried, IfGot, IsNewNode};
 
 use crate::slots::put;

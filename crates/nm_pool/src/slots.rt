@@ -6,7 +6,8 @@ ghost use Rattle.nm_core.specs.Knowledge.{is_private};
 ghost use Rattle.nm_order.specs.Told.{IsNew};
 ghost use Rattle.nm_steps.specs.Rules.{knowledge};
 ghost use Rattle.nm_steps.specs.Steps.{IsOf, Stepped};
-ghost use Rattle.nm_pool.specs.Takes.{IsSamePass, IsTake, LearnsSlots};
+ghost use Rattle.nm_pool.specs.Takes.{IsTake, LearnsSlots};
+ghost use Rattle.nm_steps.specs.Steps.{IsSamePass};
 
 use nm_steps::{Pass, Shared};
 

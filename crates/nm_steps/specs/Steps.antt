@@ -164,6 +164,10 @@ pub record Ends (L : Layout) (words : List ℕ) (view : View) : Type 0 where
   pub shown : IsShown L (trace_in (ordered L) turns) view
   pub once : (w : ℕ) → stands w view ≤ once_below w L.workers
 
+-- nothing but the log changed
+abbrev pub IsSamePass : Stand → Stand → Type 0
+IsSamePass p q = q ≡ record p { view = record p.view { log = q.view.log } }
+
 -- ---- replies, by what the step functions answer
 
 abbrev pub sight_reply : Sighted → Reply

@@ -1,4 +1,5 @@
-use Rattle.nm_epoch.specs.Resting.{IsSamePass, Settles}
+use Rattle.nm_epoch.specs.Resting.{Settles}
+use Rattle.nm_steps.specs.Steps.{IsSamePass}
 use Rattle.nm_epoch.specs.Scans.{IsLooking}
 use Rattle.nm_epoch.proofs.moving.advance.Given as goal
 

@@ -1,5 +1,6 @@
 use Rattle.std.proofs.Common.{Some, ◌≡◌}
-use Rattle.nm_epoch.specs.Resting.{IsSamePass, IsTrying, epochs}
+use Rattle.nm_epoch.specs.Resting.{IsTrying, epochs}
+use Rattle.nm_steps.specs.Steps.{IsSamePass}
 use Rattle.nm_epoch.specs.Tries.{LostTries, looked, confirming}
 use Rattle.nm_epoch.proofs.pinning.pin_by.Given as goal
 

@@ -1,5 +1,6 @@
 use Rattle.std.proofs.Common.{◌≤◌}
-use Rattle.nm_epoch.specs.Resting.{IsResting, IsSamePass}
+use Rattle.nm_epoch.specs.Resting.{IsResting}
+use Rattle.nm_steps.specs.Steps.{IsSamePass}
 use Rattle.nm_epoch.proofs.tests.rounds.Given as goal
 
 abbrev pub invariant-loop-round : goal.invariant-loop-round

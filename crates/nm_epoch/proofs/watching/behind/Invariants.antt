@@ -1,4 +1,5 @@
-use Rattle.nm_epoch.specs.Resting.{IsSamePass, Settles}
+use Rattle.nm_epoch.specs.Resting.{Settles}
+use Rattle.nm_steps.specs.Steps.{IsSamePass}
 use Rattle.nm_epoch.specs.Watches.{IsWatching}
 use Rattle.nm_epoch.proofs.watching.behind.Given as goal
 

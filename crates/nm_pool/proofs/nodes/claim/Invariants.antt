@@ -1,5 +1,6 @@
 use Rattle.nm_steps.specs.Rules.{knowledge}
-use Rattle.nm_pool.specs.Takes.{IsSamePass, DoneBelow, LearnsSlots}
+use Rattle.nm_pool.specs.Takes.{DoneBelow, LearnsSlots}
+use Rattle.nm_steps.specs.Steps.{IsSamePass}
 use Rattle.nm_pool.specs.Claims.{PassedOver}
 use Rattle.nm_pool.proofs.nodes.claim.Given as goal
 

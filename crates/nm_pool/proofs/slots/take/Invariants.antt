@@ -1,6 +1,7 @@
 use Rattle.std.proofs.Common.{◌≤◌, ◌<◌}
 use Rattle.nm_steps.specs.Rules.{knowledge}
-use Rattle.nm_pool.specs.Takes.{IsSamePass, DoneBelow, FoundTaken, LearnsSlots}
+use Rattle.nm_pool.specs.Takes.{DoneBelow, FoundTaken, LearnsSlots}
+use Rattle.nm_steps.specs.Steps.{IsSamePass}
 use Rattle.nm_pool.proofs.slots.take.Given as goal
 
 abbrev pub invariant-loop-slot : goal.invariant-loop-slot
