@@ -5,7 +5,6 @@ use Rattle.nm_core.specs.declared.reply.Reply.TheVariants.{Claimed, Taken}
 use Rattle.nm_core.specs.Maps.{get}
 use Rattle.nm_core.specs.Knowledge.{Knowledge, is_private}
 use Rattle.nm_core.specs.Walks.{Entry}
-use Rattle.nm_steps.specs.Steps.{Stand}
 
 -- nothing but private slots was learned, and each slot that was private is so still, with what was stored there
 pub record LearnsSlots (before after : Knowledge) : Type 0 where

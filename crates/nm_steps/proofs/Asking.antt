@@ -1,6 +1,6 @@
 -- What an event that a worker may take tells of its worker and its arguments.
-use Rattle.std.proofs.Common.{◌≡◌, ◌≢◌, ℕ, ◌+◌, ◌^◌, ◌<◌, ◌≤◌, ◌==◌, Bool, true, false, not, ◌||◌, ◌&&◌, zero, suc, get_or, replicate, cond, List, [], ◌∷◌, refl, sym, ap, subst, ◌∙◌, true≢false, arith}
-use Rattle.std.specs.Prelude.{Option, Some, None, IsSome, is_none, is_some, nat_le, nat_lt, unwrap_or}
+use Rattle.std.proofs.Common.{◌≡◌, ℕ, ◌^◌, ◌<◌, ◌≤◌, Bool, true, false, not, ◌||◌, ◌&&◌, zero, suc, get_or, cond, List, [], ◌∷◌, refl, sym, ap, subst, ◌∙◌, true≢false, arith}
+use Rattle.std.specs.Prelude.{Option, Some, None, IsSome, is_none, is_some, nat_lt, unwrap_or}
 use Rattle.std.proofs.lemmas.Bool.{or_parts, leb-false, ltb-false}
 use Rattle.std.proofs.lemmas.Option.{none-some}
 use Rattle.nm_edge.specs.Edges.{Edge, IsEdge, edge_in, is_word, unpacked, word_of}
@@ -17,11 +17,11 @@ use Rattle.nm_core.specs.Knowledge.{Knowledge, draft_of}
 use Rattle.nm_core.specs.Step.{refusal, outside, is_edge, others_scanned, is_held_back, last_number}
 use Rattle.nm_core.specs.Runs.{State, of, start}
 use Rattle.nm_core.specs.Walks.{Entry}
-use Rattle.nm_core.specs.Ordered.{ordered, after_in, trace_in}
+use Rattle.nm_core.specs.Ordered.{ordered, after_in}
 use Rattle.nm_core.specs.Lawful.{EpochsAgree}
-use Rattle.nm_core.proofs.Steps.{passed, second}
+use Rattle.nm_core.proofs.Steps.{passed}
 use Rattle.nm_core.proofs.EachState.{each_epoch_agrees}
-use Rattle.nm_order.specs.Logs.{part_of, known_by, IsLogOf}
+use Rattle.nm_order.specs.Logs.{known_by, IsLogOf}
 use Rattle.nm_order.proofs.PartsOfRuns.{logs_tell}
 use Rattle.nm_order.proofs.OrderedLaws.{IsOrdered, each_ordered}
 use Rattle.nm_words.specs.Packing.{Fits, InRange, StateFits, StateIsInRange, NullEdgesAreUnmarked, word_at, field_of, touched}

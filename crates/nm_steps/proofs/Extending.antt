@@ -1,11 +1,11 @@
 -- An event that a worker's own log allows makes a run longer by one turn, and changes the one word that it touches.
-use Rattle.std.proofs.Common.{◌≡◌, ℕ, zero, suc, get_or, true≢false, length, not, ◌≢◌, ne_eqb, ◌<◌, ◌≤◌, ◌==◌, Bool, true, false, ◌||◌, cond, List, [], ◌∷◌, ◌++◌, refl, sym, ap, ◌∙◌, subst, eq-eqb, arith, Result, Ok, Err}
-use Rattle.std.specs.Prelude.{Option, Some, None, IsSome, IfSome, All, nat_le, slice_set}
+use Rattle.std.proofs.Common.{◌≡◌, ℕ, zero, suc, get_or, true≢false, length, not, ◌≢◌, ne_eqb, ◌<◌, ◌≤◌, ◌==◌, Bool, true, false, ◌||◌, cond, List, [], ◌∷◌, ◌++◌, refl, sym, ap, ◌∙◌, subst, arith, Result, Ok}
+use Rattle.std.specs.Prelude.{Option, Some, None, IfSome, All, nat_le}
 use Rattle.std.proofs.lemmas.List.{append_assoc}
 use Rattle.std.proofs.lemmas.List.Elements.{All-append}
 use Rattle.std.proofs.lemmas.Bool.{leb-true}
 use Rattle.nm_edge.specs.Layouts.{Layout, IsLayout}
-use Rattle.nm_edge.specs.Words.{IsField, word}
+use Rattle.nm_edge.specs.Words.{IsField}
 use Rattle.nm_core.specs.declared.event.Event.{Event}
 use Rattle.nm_core.specs.declared.event.Event.TheVariants.{Join, Fill}
 use Rattle.nm_core.specs.declared.event.Field.TheVariants.{Birth}
@@ -15,10 +15,9 @@ use Rattle.nm_core.specs.declared.reply.Refused.{Refused}
 use Rattle.nm_core.specs.declared.reply.Refused.TheVariants.{NoWorker, NotReady}
 use Rattle.nm_core.specs.declared.trace.Turn.{Turn}
 use Rattle.nm_core.specs.Maps.{or_else}
-use Rattle.nm_core.specs.Memory.{Memory}
-use Rattle.nm_core.specs.Knowledge.{Knowledge, draft_of}
+use Rattle.nm_core.specs.Knowledge.{Knowledge}
 use Rattle.nm_core.specs.Step.{first, ◌refuses◌, refusal, write}
-use Rattle.nm_core.specs.Runs.{State, of, start, after, next, applied, refused, refusal_of, reply_of, is_no_worker, join_refusal}
+use Rattle.nm_core.specs.Runs.{State, of, start, next, applied, refused, refusal_of, reply_of, is_no_worker, join_refusal}
 use Rattle.nm_core.specs.Lawful.{BirthsStand, EachBirthStands}
 use Rattle.nm_core.specs.Walks.{Entry, entry_of, log_of, search_after}
 use Rattle.nm_core.specs.Searches.{Search, idle}
@@ -35,7 +34,7 @@ use Rattle.nm_words.specs.Packing.{words_of, word_at, touched, left_word, with_w
 use Rattle.nm_words.specs.Told.{told, BirthsAreKnown, RepliesAreTold}
 use Rattle.nm_words.proofs.PackedEvents.{each_event_touches_one_word}
 use Rattle.nm_words.proofs.PackedReplies.{each_reply_is_told}
-use Rattle.nm_steps.specs.Steps.{May, HasLooked, IsAsLooked, HasEmptyHands}
+use Rattle.nm_steps.specs.Steps.{May, IsAsLooked, HasEmptyHands}
 
 -- ---- traces
 

@@ -1,5 +1,5 @@
 -- What a join leaves of a pass.
-use Rattle.std.proofs.Common.{◌≡◌, ℕ, ◌<◌, refl, sym, ap, ◌∙◌, subst, inl}
+use Rattle.std.proofs.Common.{◌≡◌, ℕ, ◌<◌, sym, ap, ◌∙◌, subst, inl}
 use Rattle.atomic_table.specs.declared.shared.Seat.{Seat}
 use Rattle.nm_edge.specs.Layouts.{IsLayout}
 use Rattle.nm_core.specs.declared.event.Event.TheVariants.{Join}

@@ -1,8 +1,8 @@
 -- Each step keeps the rule.
-use Rattle.std.proofs.Common.{◌≡◌, ◌≢◌, ℕ, zero, suc, ◌+◌, ◌<◌, ◌≤◌, ◌==◌, Bool, true, false, cond, eqb, ltb, ◌||◌, List, [], ◌∷◌, ◌++◌, set, refl, sym, ap, ◌∙◌, subst, ⊎_elim, eq-eqb, true≢false, arith, Result, Ok}
-use Rattle.std.specs.Prelude.{slice_index, slice_set, All}
+use Rattle.std.proofs.Common.{◌≡◌, ◌≢◌, ℕ, ◌+◌, ◌<◌, ◌≤◌, Bool, true, false, cond, eqb, ltb, ◌||◌, List, [], ◌∷◌, ◌++◌, set, refl, sym, ap, ◌∙◌, subst, ⊎_elim, eq-eqb, true≢false, arith, Ok}
+use Rattle.std.specs.Prelude.{slice_index, slice_set}
 use Rattle.std.specs.List.{sum_by, count_by}
-use Rattle.std.proofs.lemmas.List.{append_assoc, append-nil}
+use Rattle.std.proofs.lemmas.List.{append-nil}
 use Rattle.std.proofs.lemmas.List.Sums.{sum_by-cons}
 use Rattle.std.proofs.lemmas.Bool.Decides.{nat_tests}
 use mathlib.Core.Option.{some, none}
@@ -12,7 +12,7 @@ use Rattle.atomic_table.specs.Seated.{TableId}
 use Rattle.atomic_table.specs.declared.shared.Seat.{Seat}
 use Rattle.atomic_table.proofs.Lists.{at_set}
 use Rattle.nm_edge.specs.Layouts.{Layout}
-use Rattle.nm_edge.specs.Words.{word, words}
+use Rattle.nm_edge.specs.Words.{word}
 use Rattle.nm_edge.proofs.Words.{fields_within}
 use Rattle.nm_core.specs.declared.event.Event.{Event}
 use Rattle.nm_core.specs.declared.event.Event.TheVariants.{Join}
@@ -21,16 +21,16 @@ use Rattle.nm_core.specs.declared.trace.Turn.{Turn}
 use Rattle.nm_core.specs.Learning.{learn}
 use Rattle.nm_core.specs.Walks.{Entry}
 use Rattle.nm_core.specs.Ordered.{ordered, after_in, trace_in}
-use Rattle.nm_order.specs.Logs.{takes_part, is_leaver, part_of, known_by, known_after}
+use Rattle.nm_order.specs.Logs.{takes_part, is_leaver, part_of, known_by}
 use Rattle.nm_words.specs.Packing.{words_of, word_at, touched, left_word}
-use Rattle.nm_words.specs.Told.{told, BirthsAreKnown}
+use Rattle.nm_words.specs.Told.{told}
 use Rattle.nm_steps.specs.declared.view.Held.{Held}
 use Rattle.nm_steps.specs.declared.view.View.{View}
 use Rattle.nm_steps.specs.Rules.{held, holdings, knowledge, stands, once_below, LogsAre, IsShown, Runs, Kept, logged, is_store, IsFound, Did}
 use Rattle.nm_steps.specs.Steps.{May, IsReady, Changes, IsBlind}
 use Rattle.nm_steps.proofs.Counts.{at_most_sum, both_at_most_sum, sum_after}
 use Rattle.nm_steps.proofs.Presence.{gone_kept, known_push}
-use Rattle.nm_steps.proofs.Extending.{IsPartOf, part-append, keys-append, words_after, trace_after, field}
+use Rattle.nm_steps.proofs.Extending.{IsPartOf, part-append, keys-append, words_after, trace_after}
 
 pub once_is : (w n : ℕ) → (once_below w n ≤ 1) × (1 ≤ once_below w n → w < n)
 once_is w n = cases (ltb w n) refl

@@ -1,14 +1,14 @@
 -- What a step leaves of a pass: the epochs that it mirrors, and its log, which is a part of a run still.
-use Rattle.std.proofs.Common.{◌≡◌, ◌≢◌, ℕ, ◌<◌, ◌≤◌, inr, ◌+◌, ◌==◌, Bool, true, false, ◌||◌, cond, List, [], ◌∷◌, ◌++◌, refl, sym, ap, subst, ◌∙◌, eq-eqb, true≢false, Result, Ok}
-use Rattle.std.specs.Prelude.{All, Option, Some, None, IfSome}
+use Rattle.std.proofs.Common.{◌≡◌, ◌≢◌, ℕ, ◌<◌, ◌≤◌, inr, ◌+◌, ◌==◌, Bool, true, false, ◌||◌, cond, List, [], ◌∷◌, ◌++◌, refl, sym, ap, subst, ◌∙◌, eq-eqb, true≢false}
+use Rattle.std.specs.Prelude.{Option, Some, None, IfSome}
 use Rattle.nm_core.specs.Maps.{is_number}
-use Rattle.std.proofs.lemmas.Bool.{cond_both, cond-false, ne_eqb, eqb-false}
+use Rattle.std.proofs.lemmas.Bool.{cond_both, ne_eqb}
 use Rattle.atomic_table.specs.Seated.{TableId}
 use Rattle.atomic_table.specs.declared.shared.Seat.{Seat}
 use Rattle.nm_edge.specs.Layouts.{Layout, IsLayout}
 use Rattle.nm_edge.specs.Words.{word, words}
 use Rattle.nm_core.specs.declared.event.Field.{Field}
-use Rattle.nm_core.specs.declared.event.Field.TheVariants.{Key, Edge as EdgeOn, Birth}
+use Rattle.nm_core.specs.declared.event.Field.TheVariants.{Edge as EdgeOn, Birth}
 use Rattle.nm_core.specs.declared.event.Event.{Event}
 use Rattle.nm_core.specs.declared.event.Event.TheVariants.{Sight, SightFor, Announce, Leave, LeaveWith, Scan, Advance, Claim, Give, Look, Fill, Link, Flag, Tag, Splice, Join}
 use Rattle.nm_core.specs.declared.reply.Reply.{Reply}

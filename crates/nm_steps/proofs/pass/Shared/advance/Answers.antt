@@ -1,4 +1,4 @@
-use Rattle.std.proofs.Common.{rules, ◌≡◌, sym, ◌∙◌, ap, refl, arith, ◌≤◌}
+use Rattle.std.proofs.Common.{rules, arith, ◌≤◌}
 use Rattle.nm_steps.specs.Rules.{knowledge}
 use Rattle.nm_core.specs.Step.{last_number}
 use Rattle.nm_steps.proofs.Asking.{advance_seen}

@@ -1,7 +1,7 @@
-use Rattle.std.proofs.Common.{rules, ◌≡◌, sym, ◌∙◌, ap, refl, arith, ◌≤◌}
+use Rattle.std.proofs.Common.{rules, arith, ◌≤◌}
 use Rattle.nm_core.specs.Step.{last_number}
 use Rattle.nm_steps.proofs.Asking.{announce_seen}
-use Rattle.nm_steps.proofs.Noting.{ready, tied_after}
+use Rattle.nm_steps.proofs.Noting.{tied_after}
 use Rattle.nm_steps.proofs.pass.Shared.announce.Goals as goal
 
 pub unreachable-requires : goal.unreachable-requires

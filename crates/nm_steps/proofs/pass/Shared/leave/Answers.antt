@@ -1,4 +1,4 @@
-use Rattle.std.proofs.Common.{rules, ◌≡◌, sym, ◌∙◌, ap, refl}
+use Rattle.std.proofs.Common.{rules}
 use Rattle.nm_steps.proofs.Noting.{tied_after}
 use Rattle.nm_steps.proofs.pass.Shared.leave.Goals as goal
 

@@ -1,4 +1,4 @@
-use Rattle.std.proofs.Common.{rules, ◌≡◌, sym, ◌∙◌, ap, refl}
+use Rattle.std.proofs.Common.{rules}
 use Rattle.nm_steps.proofs.Asking.{look_slot}
 use Rattle.nm_steps.proofs.Noting.{ready, tied_after}
 use Rattle.nm_steps.proofs.pass.Shared.look_key.Goals as goal

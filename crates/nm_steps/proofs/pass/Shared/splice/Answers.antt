@@ -1,4 +1,4 @@
-use Rattle.std.proofs.Common.{rules, ◌≡◌, sym, ◌∙◌, ap, refl}
+use Rattle.std.proofs.Common.{rules, refl}
 use Rattle.nm_steps.proofs.Asking.{splice_slot, finds_edge}
 use Rattle.nm_steps.proofs.Noting.{ready, tied_after}
 use Rattle.nm_steps.proofs.pass.Shared.splice.Goals as goal
