@@ -1,8 +1,10 @@
 ghost use Rattle.std.specs.Prelude.{◌≡◌, ◌≤◌, length};
 ghost use Rattle.nm_steps.specs.Steps.{AreFresh, IsOf};
 
+mod claims;
+
 use crate::{claim, give, put, take};
-use nm_edge::{Layout, NodeId};
+use nm_edge::{LEAST_NODES, Layout, NodeId};
 use nm_steps::{Pass, Shared, Words};
 use std::test::Fail;
 use std::thread::{Threads, join};
@@ -83,6 +85,23 @@ fn a_slot_that_was_put_back_is_found(rt: HostRuntime) -> Result<(), Fail> {
     assert_eq!(rt; take(&shared, &mut pass, 7), Some(7));
     assert_eq!(rt; take(&shared, &mut pass, 7), Some(8));
     assert_eq!(rt; take(&shared, &mut pass, 9), None);
+    Ok(())
+}
+
+#[test]
+fn two_workers_take_from_one_pool(rt: HostRuntime) -> Result<(), Fail> {
+    let layout = Layout::new(LEAST_NODES, 2)?;
+    let (shared, passes) = Shared::new(rt.alloc(), layout)?;
+    let (mut first, mut second) = both(&shared, passes);
+    let Some(slot) = take(&shared, &mut first, 6) else {
+        panic!(rt; "slot 6 is in the pool")
+    };
+    assert_eq!(rt; slot, 6);
+    assert_eq!(rt; take(&shared, &mut second, 6), Some(7));
+    assert_eq!(rt; take(&shared, &mut second, 6), None);
+    assert_eq!(rt; take(&shared, &mut second, 8), None);
+    put(&shared, &mut first, slot);
+    assert_eq!(rt; take(&shared, &mut second, 6), Some(6));
     Ok(())
 }
 

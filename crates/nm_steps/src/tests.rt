@@ -1,6 +1,8 @@
 ghost use Rattle.std.specs.Prelude.{◌≡◌, length};
 ghost use Rattle.nm_steps.specs.Steps.{AreFresh, IsOf};
 
+mod inserting;
+
 use crate::{Pass, Shared};
 use nm_edge::Layout;
 use std::test::Fail;

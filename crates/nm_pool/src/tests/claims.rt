@@ -1,0 +1,151 @@
+//! Passes in threads of their own claim until none is left: together they hold each slot once.
+ghost use Rattle.std.specs.Prelude.{◌≡◌, length};
+ghost use Rattle.nm_steps.specs.Steps.{AreFresh, IsOf};
+
+use super::both;
+use crate::claim;
+use nm_edge::{Layout, NodeId};
+use nm_steps::{Pass, Shared};
+use std::alloc::{AllocError, Global};
+use std::test::Fail;
+use std::thread::{Threads, join};
+
+/// Three rows of the pool: slots 6 to 64, 65 to 128 and 129 to 135.
+const MANY_NODES: u32 = 135;
+
+/// Slots 6 to 12.
+const FEW_NODES: u32 = 12;
+
+/// What a worker claimed, in order.
+type Claimed = Result<Vec<NodeId>, AllocError>;
+
+/// Claims until no slot is left.
+fn claim_all(alloc: Global, shared: &Shared, mut pass: Pass) -> Claimed
+    requires { IsOf shared.now pass }
+{
+    let mut nodes = Vec::new(alloc);
+    for _slot in 0..shared.layout().nodes() {
+        let Some(node) = claim(shared, &mut pass) else {
+            return Ok(nodes);
+        };
+        nodes.push(node)?;
+    }
+    Ok(nodes)
+}
+
+/// Two workers claim until no slot is left, each in a thread of its own.
+fn claim_by_two<R: Threads + Sync>(
+    rt: &R,
+    alloc: Global,
+    shared: &Shared,
+    one: Pass,
+    two: Pass,
+) -> (Claimed, Claimed)
+    requires one { IsOf shared.now one }
+    requires two { IsOf shared.now two }
+{
+    join(
+        rt,
+        move || -> Claimed
+            requires { IsOf shared.now one }
+        { claim_all(alloc, shared, one) },
+        move || -> Claimed
+            requires { IsOf shared.now two }
+        { claim_all(alloc, shared, two) },
+    )
+}
+
+/// What two workers claimed, together.
+fn together(one: Claimed, two: Claimed) -> Claimed {
+    let mut nodes = one?;
+    for node in two? {
+        nodes.push(node)?;
+    }
+    Ok(nodes)
+}
+
+/// Four workers claim until no slot is left, each in a thread of its own: what they claimed, together.
+fn claim_by_four<R: Threads + Sync>(
+    rt: &R,
+    alloc: Global,
+    shared: &Shared,
+    low: (Pass, Pass),
+    high: (Pass, Pass),
+) -> Claimed
+    requires one { IsOf shared.now low.0 }
+    requires two { IsOf shared.now low.1 }
+    requires three { IsOf shared.now high.0 }
+    requires four { IsOf shared.now high.1 }
+{
+    let (one, two) = low;
+    let (three, four) = high;
+    let (by_low, by_high) = join(
+        rt,
+        move || -> (Claimed, Claimed)
+            requires one { IsOf shared.now one }
+            requires two { IsOf shared.now two }
+        { claim_by_two(rt, alloc, shared, one, two) },
+        move || -> (Claimed, Claimed)
+            requires three { IsOf shared.now three }
+            requires four { IsOf shared.now four }
+        { claim_by_two(rt, alloc, shared, three, four) },
+    );
+    together(together(by_low.0, by_low.1), together(by_high.0, by_high.1))
+}
+
+/// The four passes of a table of four workers.
+fn all_four(shared: &Shared, mut passes: Vec<Pass>) -> ((Pass, Pass), (Pass, Pass))
+    requires four { length passes.items ≡ 4 }
+    requires fresh { AreFresh shared.now 0 passes.items }
+    ensures one { IsOf shared.now result.0.0 }
+    ensures two { IsOf shared.now result.0.1 }
+    ensures three { IsOf shared.now result.1.0 }
+    ensures four { IsOf shared.now result.1.1 }
+{
+    let Some(four) = passes.pop() else {
+        unreachable!()
+    };
+    let Some(three) = passes.pop() else {
+        unreachable!()
+    };
+    let Some(two) = passes.pop() else {
+        unreachable!()
+    };
+    let Some(one) = passes.pop() else {
+        unreachable!()
+    };
+    ((one, two), (three, four))
+}
+
+/// Whether these nodes, sorted by slot, stand one each in the slots from 6 on and below an end, each the first of its slot.
+fn stand_in_turn(nodes: &[NodeId], end: u32) -> bool {
+    nodes
+        .iter()
+        .zip(6..end)
+        .all(|(node, slot)| *node == NodeId { slot, birth: 1 })
+}
+
+#[test]
+fn two_threads_claim_every_slot_once(rt: HostRuntime) -> Result<(), Fail> {
+    let layout = Layout::new(MANY_NODES, 2)?;
+    let (shared, passes) = Shared::new(rt.alloc(), layout)?;
+    let (one, two) = both(&shared, passes);
+    let (by_one, by_two) = claim_by_two(&rt, rt.alloc(), &shared, one, two);
+    let mut nodes = together(by_one, by_two)?;
+    nodes.sort_unstable_by_key(|node| node.slot);
+    assert_eq!(rt; nodes.len(), 130);
+    assert!(rt; stand_in_turn(&nodes, MANY_NODES + 1));
+    Ok(())
+}
+
+#[test]
+fn four_threads_claim_every_slot_once(rt: HostRuntime) -> Result<(), Fail> {
+    let layout = Layout::new(FEW_NODES, 4)?;
+    let (shared, passes) = Shared::new(rt.alloc(), layout)?;
+    let (low, high) = all_four(&shared, passes);
+    let mut nodes = claim_by_four(&rt, rt.alloc(), &shared, low, high)?;
+    nodes.sort_unstable_by_key(|node| node.slot);
+    assert_eq!(rt; nodes.len(), 7);
+    assert!(rt; stand_in_turn(&nodes, FEW_NODES + 1));
+    Ok(())
+}

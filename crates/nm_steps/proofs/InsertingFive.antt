@@ -1,0 +1,147 @@
+-- An insert of 5 into the empty tree of one worker, step by step: each step is allowed by the log of those before it.
+use Rattle.std.proofs.Common.{◌≡◌, ℕ, suc, ◌++◌, true, List, [], ◌∷◌, ◌==◌, arith, refl, sym, subst, ap, true≢false, ◌∙◌}
+use Rattle.std.specs.Prelude.{None, take, Result, Ok, Err, is_ok}
+use Rattle.nm_edge.specs.Edges.{Edge, to}
+use Rattle.nm_edge.specs.Layouts.{Layout}
+use Rattle.nm_edge.specs.declared.edge.Side.TheVariants.{Left, Right}
+use Rattle.nm_core.specs.declared.event.Op.TheVariants.{Insert}
+use Rattle.nm_core.specs.declared.event.Event.{Event}
+use Rattle.nm_core.specs.declared.event.Event.TheVariants.{Sight, SightFor, Announce, LeaveWith, Claim, Look, Fill, Link}
+use Rattle.nm_core.specs.declared.event.Field.TheVariants.{Key as KeyOf, Edge as EdgeOn, Birth}
+use Rattle.nm_core.specs.declared.reply.Reply.{Reply}
+use Rattle.nm_core.specs.declared.reply.Reply.TheVariants.{Saw, Pinned, Announced, Departed, Claimed, KeyIs, BirthIs, EdgeIs, Filled, Linked}
+use Rattle.nm_core.specs.Walks.{Entry}
+use Rattle.nm_core.specs.Memory.{node}
+use Rattle.nm_core.specs.declared.reply.Refused.TheVariants.{NotReady, Spent}
+use Rattle.nm_core.specs.Knowledge.{draft_of}
+use Rattle.nm_core.specs.Learning.{learn}
+use Rattle.nm_core.specs.Searches.{searched}
+use Rattle.nm_core.specs.Step.{refusal, first, ◌refuses◌, is_early, last_number}
+use Rattle.nm_order.specs.Logs.{known_by}
+use Rattle.nm_steps.specs.Steps.{Stand, May, MayStep, Stepped, fresh_view, link_reply}
+use Rattle.nm_steps.specs.declared.view.View.{View}
+
+abbrev pub small : Layout
+small = record { nodes = 7; workers = 1 }
+
+abbrev infinity : ℕ
+infinity = 18446744073709551613
+
+abbrev pub inserting : List Entry
+inserting =
+    (Sight, Saw 0)
+    ∷ (Announce, Announced 0)
+    ∷ (SightFor Insert 5, Pinned 0)
+    ∷ (Look 2 (EdgeOn Left), EdgeIs (to 3))
+    ∷ (Look 3 KeyOf, KeyIs infinity)
+    ∷ (Look 3 (EdgeOn Left), EdgeIs (to 0))
+    ∷ (Claim 6, Claimed 6)
+    ∷ (Look 6 Birth, BirthIs 0)
+    ∷ (Fill 6 Birth 1, Filled)
+    ∷ (Claim 7, Claimed 7)
+    ∷ (Look 7 Birth, BirthIs 0)
+    ∷ (Fill 7 Birth 1, Filled)
+    ∷ (Fill 6 KeyOf infinity, Filled)
+    ∷ (Fill 6 (EdgeOn Left) 7, Filled)
+    ∷ (Fill 6 (EdgeOn Right) 3, Filled)
+    ∷ (Fill 7 KeyOf 5, Filled)
+    ∷ (Fill 7 (EdgeOn Left) 0, Filled)
+    ∷ (Fill 7 (EdgeOn Right) 0, Filled)
+    ∷ (Link 2 Left 3 6, Linked (record { slot = 6; birth = 1 }))
+    ∷ (LeaveWith true, Departed) ∷ []
+
+-- the pass has made so many steps of it, and no other
+abbrev pub HasMade : ℕ → Stand → Type 0
+HasMade n p = p.view ≡ record (fresh_view small 0) { log = take n inserting }
+
+-- a step more
+pub one_more : (n : ℕ) (p q : Stand) (e : Event) (r : Reply) → HasMade n p → Stepped p q e r → take n inserting ++ (e, r) ∷ [] ≡ take (suc n) inserting → HasMade (suc n) q
+one_more n p q e r has done same = ap (λ (s : Stand). s.view) done ∙ (ap (λ (v : View). record v { log = v.log ++ (e, r) ∷ [] }) has ∙ ap (λ log. record (fresh_view small 0) { log = log }) same)
+
+-- what its log allows
+pub allowed_next : (n : ℕ) (p : Stand) (e : Event) → HasMade n p → May small 0 (take n inserting) e → MayStep p e
+allowed_next n p e has may = subst (λ (v : View). May v.layout v.number v.log e) (sym has) may
+
+-- ---- each step, by the log before it
+
+pub may_announce : May small 0 (take 1 inserting) (Announce)
+unfolding refusal learn searched
+may_announce = record { looked = tt; allowed = λ m h. refl; ordered = refl; births = tt; key = tt }
+
+pub may_sight_for : May small 0 (take 2 inserting) (SightFor Insert 5)
+unfolding refusal learn searched
+may_sight_for = record { looked = tt; allowed = λ m h. refl; ordered = refl; births = tt; key = omega arith }
+
+pub may_look_edge : May small 0 (take 3 inserting) (Look 2 (EdgeOn Left))
+unfolding refusal learn searched
+may_look_edge = record { looked = tt; allowed = λ m h. refl; ordered = refl; births = tt; key = tt }
+
+pub may_look_key : May small 0 (take 4 inserting) (Look 3 KeyOf)
+unfolding refusal learn searched
+may_look_key = record { looked = tt; allowed = λ m h. refl; ordered = refl; births = tt; key = tt }
+
+pub may_look_edge2 : May small 0 (take 5 inserting) (Look 3 (EdgeOn Left))
+unfolding refusal learn searched
+may_look_edge2 = record { looked = tt; allowed = λ m h. refl; ordered = refl; births = tt; key = tt }
+
+pub may_claim : May small 0 (take 6 inserting) (Claim 6)
+unfolding refusal learn searched
+may_claim = record { looked = tt; allowed = λ m h. refl; ordered = refl; births = tt; key = tt }
+
+pub may_look_birth : May small 0 (take 7 inserting) (Look 6 Birth)
+unfolding refusal learn searched
+may_look_birth = record { looked = tt; allowed = λ m h. refl; ordered = refl; births = tt; key = tt }
+
+pub may_fill_birth : May small 0 (take 8 inserting) (Fill 6 Birth 1)
+unfolding refusal learn searched
+may_fill_birth = record { looked = refl; allowed = λ m h. subst (λ b. first (is_early (draft_of (known_by small 0 (take 8 inserting)) 6) Birth 1 b refuses NotReady ∷ (b == last_number) refuses Spent ∷ []) ≡ None) (sym (h 0 refl)) refl; ordered = refl; births = tt; key = tt }
+
+pub may_claim2 : May small 0 (take 9 inserting) (Claim 7)
+unfolding refusal learn searched
+may_claim2 = record { looked = tt; allowed = λ m h. refl; ordered = refl; births = tt; key = tt }
+
+pub may_look_birth2 : May small 0 (take 10 inserting) (Look 7 Birth)
+unfolding refusal learn searched
+may_look_birth2 = record { looked = tt; allowed = λ m h. refl; ordered = refl; births = tt; key = tt }
+
+pub may_fill_birth2 : May small 0 (take 11 inserting) (Fill 7 Birth 1)
+unfolding refusal learn searched
+may_fill_birth2 = record { looked = refl; allowed = λ m h. subst (λ b. first (is_early (draft_of (known_by small 0 (take 11 inserting)) 7) Birth 1 b refuses NotReady ∷ (b == last_number) refuses Spent ∷ []) ≡ None) (sym (h 0 refl)) refl; ordered = refl; births = tt; key = tt }
+
+pub may_fill_key : May small 0 (take 12 inserting) (Fill 6 KeyOf infinity)
+unfolding refusal learn searched
+may_fill_key = record { looked = tt; allowed = λ m h. refl; ordered = refl; births = tt; key = tt }
+
+pub may_fill_edge : May small 0 (take 13 inserting) (Fill 6 (EdgeOn Left) 7)
+unfolding refusal learn searched
+may_fill_edge = record { looked = tt; allowed = λ m h. refl; ordered = refl; births = tt; key = tt }
+
+pub may_fill_edge2 : May small 0 (take 14 inserting) (Fill 6 (EdgeOn Right) 3)
+unfolding refusal learn searched
+may_fill_edge2 = record { looked = tt; allowed = λ m h. refl; ordered = refl; births = tt; key = tt }
+
+pub may_fill_key2 : May small 0 (take 15 inserting) (Fill 7 KeyOf 5)
+unfolding refusal learn searched
+may_fill_key2 = record { looked = tt; allowed = λ m h. refl; ordered = refl; births = tt; key = tt }
+
+pub may_fill_edge3 : May small 0 (take 16 inserting) (Fill 7 (EdgeOn Left) 0)
+unfolding refusal learn searched
+may_fill_edge3 = record { looked = tt; allowed = λ m h. refl; ordered = refl; births = tt; key = tt }
+
+pub may_fill_edge4 : May small 0 (take 17 inserting) (Fill 7 (EdgeOn Right) 0)
+unfolding refusal learn searched
+may_fill_edge4 = record { looked = tt; allowed = λ m h. refl; ordered = refl; births = tt; key = tt }
+
+pub may_link : May small 0 (take 18 inserting) (Link 2 Left 3 6)
+unfolding refusal learn searched
+may_link = record { looked = tt; allowed = λ m h. refl; ordered = refl; births = tt; key = tt }
+
+pub may_leave_with : May small 0 (take 19 inserting) (LeaveWith true)
+unfolding refusal learn searched
+may_leave_with = record { looked = tt; allowed = λ m h. refl; ordered = refl; births = tt; key = tt }
+
+-- a link that was won answers the new node
+pub won_link : (p q : Stand) (r : Result Unit Edge) → HasMade 18 p → Stepped p q (Link 2 Left 3 6) (link_reply p.view 6 r) → is_ok r ≡ true → Stepped p q (Link 2 Left 3 6) (Linked (record { slot = 6; birth = 1 }))
+unfolding learn
+won_link p q (Ok u) has done ok = done ∙ ap (λ (x : Reply). record p { view = record p.view { log = p.view.log ++ (Link 2 Left 3 6, x) ∷ [] } }) (ap (λ (v : View). link_reply v 6 (Ok u)) has)
+won_link p q (Err e) has done ok = absurd (true≢false (sym ok))
