@@ -7,3 +7,5 @@ pub mod Marks
 pub mod Scanning
 pub mod Advances
 pub mod Watched
+pub mod Fronts
+pub mod Collected
