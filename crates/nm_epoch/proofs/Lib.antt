@@ -9,3 +9,4 @@ pub mod Advances
 pub mod Watched
 pub mod Fronts
 pub mod Collected
+pub mod SeveralQueues

@@ -1,5 +1,5 @@
 -- The nodes that wait, and what collecting frees of them.
-use Rattle.std.specs.Prelude.{◌≡◌, ℕ, ◌+◌, ◌≤◌, nat_le, Bool, false, List, [], ◌∷◌, map, drop, slice_get, Option, Some, None, option_map, if◌then◌else◌}
+use Rattle.std.specs.Prelude.{◌≡◌, ◌≢◌, ℕ, ◌+◌, ◌≤◌, nat_le, Bool, false, List, [], ◌∷◌, ◌++◌, map, drop, slice_get, Option, Some, None, option_map, if◌then◌else◌}
 use Rattle.std.specs.List.{take_while, prefix_len}
 use Rattle.nm_edge.specs.declared.node.NodeId.{NodeId}
 use Rattle.nm_core.specs.declared.event.Event.TheVariants.{Give}
@@ -10,6 +10,7 @@ use Rattle.nm_core.specs.Knowledge.{Knowledge, is_private}
 use Rattle.nm_core.specs.Ledgers.{held, queue_of}
 use Rattle.nm_core.specs.Walks.{Entry as LogEntry}
 use Rattle.nm_epoch.specs.declared.collecting.Entry.{Entry}
+use Rattle.nm_epoch.specs.declared.collecting.HeldQueue.{HeldQueue}
 
 -- an entry with its label, as a ledger has it
 abbrev pub queued : Entry → Queued
@@ -49,3 +50,26 @@ rest_of epoch es = drop (prefix_len (is_ripe epoch) es) es
 -- the entry's slot is given back to the pool, and its node is freed
 abbrev pub freeing : Entry → LogEntry
 freeing e = (Give e.node.slot, Freed e.node)
+
+-- ---- several queues
+
+-- none of these is of that origin
+abbrev pub NoneHas : ℕ → List HeldQueue → Type 0
+NoneHas o [] = Unit {0}
+NoneHas o (h ∷ hs) = (o ≢ h.origin) × NoneHas o hs
+
+-- these are queues of ledgers that the worker holds, each of another origin
+abbrev pub AreHeld : Knowledge → List HeldQueue → Type 0
+AreHeld k [] = Unit {0}
+AreHeld k (h ∷ hs) = IsQueueOf k h.origin h.queue.items × NoneHas h.origin hs × AreHeld k hs
+
+-- what is ripe at the fronts, queue by queue
+abbrev pub ripe_of : ℕ → List HeldQueue → List Entry
+ripe_of epoch [] = []
+ripe_of epoch (h ∷ hs) = ripe_part epoch h.queue.items ++ ripe_of epoch hs
+
+-- each queue has lost what was ripe at its front
+abbrev pub HaveLost : ℕ → List HeldQueue → List HeldQueue → Type 0
+HaveLost epoch [] [] = Unit {0}
+HaveLost epoch (h ∷ hs) (g ∷ gs) = (g.origin ≡ h.origin) × (g.queue.items ≡ rest_of epoch h.queue.items) × HaveLost epoch hs gs
+HaveLost epoch _ _ = ⊥

@@ -1,10 +1,10 @@
 //! Nodes that have waited long enough, back to the pool.
-ghost use Rattle.std.specs.Prelude.{◌≡◌, ◌≢◌, ◌+◌, ◌++◌, nat_le, ℕ, length, map, Some};
+ghost use Rattle.std.specs.Prelude.{◌≡◌, ◌≢◌, ◌+◌, ◌*◌, ◌≤◌, ◌++◌, nat_le, ℕ, length, map, Some};
 ghost use Rattle.nm_core.specs.Ledgers.{held};
 ghost use Rattle.nm_steps.specs.Rules.{knowledge};
 ghost use Rattle.nm_steps.specs.Steps.{IsOf};
 ghost use Rattle.nm_epoch.specs.Resting.{IsSamePass, epochs, search};
-ghost use Rattle.nm_epoch.specs.Collecting.{IsQueueOf, AreApart, ripe_front, ripe_part, rest_of, freeing};
+ghost use Rattle.nm_epoch.specs.Collecting.{IsQueueOf, AreApart, AreHeld, NoneHas, HaveLost, ripe_front, ripe_part, ripe_of, rest_of, freeing};
 
 use nm_edge::NodeId;
 use nm_limbo::BlockQueue;
@@ -76,4 +76,30 @@ pub fn collect_front(shared: &Shared, pass: &mut Pass, queue: &mut HeldQueue, ep
         let _ = queue.queue.pop();
     }
     waiting - queue.queue.len()
+}
+
+/// Frees what is ripe at the front of each of these held queues, one after the other, given the epoch that the worker read last.
+/// Answers how many nodes it freed, by one step each.
+pub fn collect_fronts(shared: &Shared, pass: &mut Pass, queues: &mut [HeldQueue], epoch: u64) -> u64
+    requires own { IsOf shared.now pass.old }
+    requires seen { (epochs pass.old).seen ≡ Some epoch }
+    requires queues { AreHeld (knowledge pass.old.view) queues.old }
+    requires few { length queues.old ≤ 64 }
+    requires apart { AreApart pass.old.view.layout.nodes (knowledge pass.old.view) }
+    ensures same { IsSamePass pass.old pass.new }
+    ensures entries { pass.new.view.log ≡ pass.old.view.log ++ map freeing (ripe_of epoch queues.old) }
+    ensures freed { result ≡ length (ripe_of epoch queues.old) }
+    ensures most { result ≤ 4294967295 * length queues.old }
+    ensures lost { HaveLost epoch queues.old queues.new }
+    ensures queues { AreHeld (knowledge pass.new.view) queues.new }
+    ensures apart { AreApart pass.new.view.layout.nodes (knowledge pass.new.view) }
+    ensures others { (o : ℕ) → NoneHas o queues.old → held (knowledge pass.new.view).ledgers o ≡ held (knowledge pass.old.view).ledgers o }
+    ensures epochs { epochs pass.new ≡ epochs pass.old }
+    ensures search { search pass.new ≡ search pass.old }
+{
+    let Some((first, rest)) = queues.split_first_mut() else {
+        return 0;
+    };
+    let here = collect_front(shared, pass, first, epoch);
+    u64::from(here) + collect_fronts(shared, pass, rest, epoch)
 }
