@@ -8,5 +8,6 @@ pub mod Scanning
 pub mod Advances
 pub mod Watched
 pub mod Fronts
-pub mod Collected
+pub mod OneQueue
 pub mod SeveralQueues
+pub mod Sighted

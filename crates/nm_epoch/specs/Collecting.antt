@@ -9,6 +9,7 @@ use Rattle.nm_core.specs.declared.reply.Reply.TheVariants.{Freed}
 use Rattle.nm_core.specs.Knowledge.{Knowledge, is_private}
 use Rattle.nm_core.specs.Ledgers.{held, queue_of}
 use Rattle.nm_core.specs.Walks.{Entry as LogEntry}
+use Rattle.nm_epoch.specs.Scans.{IsSightOf}
 use Rattle.nm_epoch.specs.declared.collecting.Entry.{Entry}
 use Rattle.nm_epoch.specs.declared.collecting.HeldQueue.{HeldQueue}
 
@@ -73,3 +74,7 @@ abbrev pub HaveLost : ℕ → List HeldQueue → List HeldQueue → Type 0
 HaveLost epoch [] [] = Unit {0}
 HaveLost epoch (h ∷ hs) (g ∷ gs) = (g.origin ≡ h.origin) × (g.queue.items ≡ rest_of epoch h.queue.items) × HaveLost epoch hs gs
 HaveLost epoch _ _ = ⊥
+
+-- what a collection leaves in the log, oldest entry first: one sight of the epoch, and then each ripe node is freed
+abbrev pub IsCollection : ℕ → List HeldQueue → List LogEntry → List LogEntry → Type 0
+IsCollection epoch hs old new = (mid : List LogEntry) × IsSightOf epoch old mid × (new ≡ mid ++ map freeing (ripe_of epoch hs))

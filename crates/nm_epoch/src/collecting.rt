@@ -4,8 +4,9 @@ ghost use Rattle.nm_core.specs.Ledgers.{held};
 ghost use Rattle.nm_steps.specs.Rules.{knowledge};
 ghost use Rattle.nm_steps.specs.Steps.{IsOf};
 ghost use Rattle.nm_epoch.specs.Resting.{IsSamePass, epochs, search};
-ghost use Rattle.nm_epoch.specs.Collecting.{IsQueueOf, AreApart, AreHeld, NoneHas, HaveLost, ripe_front, ripe_part, ripe_of, rest_of, freeing};
+ghost use Rattle.nm_epoch.specs.Collecting.{IsQueueOf, AreApart, AreHeld, NoneHas, HaveLost, ripe_front, ripe_part, ripe_of, rest_of, freeing, IsCollection};
 
+use crate::looking::read;
 use nm_edge::NodeId;
 use nm_limbo::BlockQueue;
 use nm_steps::{Pass, Shared};
@@ -102,4 +103,33 @@ pub fn collect_fronts(shared: &Shared, pass: &mut Pass, queues: &mut [HeldQueue]
     };
     let here = collect_front(shared, pass, first, epoch);
     u64::from(here) + collect_fronts(shared, pass, rest, epoch)
+}
+
+/// What a collection came to.
+#[derive(Clone, Copy, Debug, PartialEq, Eq)]
+pub struct Collected {
+    /// The epoch read.
+    pub epoch: u64,
+    /// The nodes that were freed.
+    pub freed: u64,
+}
+
+/// Reads the epoch, and frees what is ripe at the front of each of these held queues, in their order: one step to read the epoch,
+/// and one a node. Where a cut waits for its label, the first step labels it.
+pub fn collect(shared: &Shared, pass: &mut Pass, queues: &mut [HeldQueue]) -> Collected
+    requires own { IsOf shared.now pass.old }
+    requires queues { AreHeld (knowledge pass.old.view) queues.old }
+    requires few { length queues.old ≤ 64 }
+    requires apart { AreApart pass.old.view.layout.nodes (knowledge pass.old.view) }
+    ensures same { IsSamePass pass.old pass.new }
+    ensures part { IsCollection result.epoch queues.old pass.old.view.log pass.new.view.log }
+    ensures freed { result.freed ≡ length (ripe_of result.epoch queues.old) }
+    ensures lost { HaveLost result.epoch queues.old queues.new }
+    ensures queues { AreHeld (knowledge pass.new.view) queues.new }
+    ensures apart { AreApart pass.new.view.layout.nodes (knowledge pass.new.view) }
+    ensures seen { (epochs pass.new).seen ≡ Some result.epoch }
+{
+    let epoch = read(shared, pass);
+    let freed = collect_fronts(shared, pass, queues, epoch);
+    Collected { epoch, freed }
 }

@@ -1,5 +1,5 @@
 use Rattle.std.proofs.Common.{length, ◌≡◌, ◌≤◌}
-use Rattle.nm_epoch.proofs.Collected.{IsCollecting}
+use Rattle.nm_epoch.proofs.OneQueue.{IsCollecting}
 use Rattle.nm_epoch.proofs.collecting.collect_front.Given as goal
 
 abbrev pub invariant-loop-node : goal.invariant-loop-node
