@@ -1,5 +1,5 @@
 -- How collecting the front of a queue goes on.
-use Rattle.std.proofs.Common.{◌≡◌, ◌≢◌, ℕ, suc, ◌+◌, ◌-◌, ◌≤◌, Bool, true, false, cond, List, [], ◌∷◌, ◌++◌, map, length, drop, refl, sym, ap, subst, ◌∙◌, arith}
+use Rattle.std.proofs.Common.{◌≡◌, ◌≢◌, ℕ, suc, ◌+◌, Bool, true, false, cond, List, [], ◌∷◌, ◌++◌, map, length, drop, refl, sym, ap, subst, ◌∙◌, arith}
 use Rattle.std.specs.Prelude.{Option, Some, None, MatchOption}
 use Rattle.std.specs.List.{prefix_len}
 use Rattle.std.proofs.lemmas.Bool.{leb-true, cond-true}
@@ -16,7 +16,7 @@ use Rattle.nm_limbo.specs.Queue.{BlockQueue, IsPopped}
 use Rattle.nm_steps.specs.Rules.{knowledge}
 use Rattle.nm_steps.specs.Steps.{Stand, MayStep, Stepped, give_reply}
 use Rattle.nm_epoch.specs.declared.collecting.Entry.{Entry}
-use Rattle.nm_epoch.specs.Resting.{IsSamePass, epochs, search}
+use Rattle.nm_epoch.specs.Resting.{IsSamePass, Settles, epochs, search}
 use Rattle.nm_epoch.specs.Collecting.{IsQueueOf, AreApart, is_ripe, ripe_front, ripe_part, rest_of, freeing}
 use Rattle.nm_epoch.proofs.Fronts.{may_free, freed_reply, queue_after, others_after, apart_after, epochs_stay, search_stays}
 
@@ -109,3 +109,10 @@ pub popped_front : (epoch : ℕ) (before after : BlockQueue Entry) (o : Option E
     → (y : Entry) × (before.items ≡ y ∷ after.items)
 popped_front epoch before after None n is ripe = absurd (none-some n (sym (ap (ripe_front epoch) is.0) ∙ ripe))
 popped_front epoch before after (Some y) n is ripe = (y, is.0)
+
+-- what was settled stays so, where epochs and search stay
+pub settled_on : (o p q : Stand) → Settles o p → epochs q ≡ epochs p → search q ≡ search p → Settles o q
+settled_on o p q s same found = record {
+  labelled = ap (λ (b : Brief). b.unlabelled) same ∙ s.labelled;
+  stays = λ settled. let t = s.stays settled in record { note = ap (λ (b : Brief). b.note) same ∙ t.note; pin = ap (λ (b : Brief). b.pin) same ∙ t.pin; search = found ∙ t.search };
+}

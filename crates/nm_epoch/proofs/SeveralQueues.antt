@@ -1,16 +1,13 @@
 -- How collecting goes on from one held queue to those behind it.
-use Rattle.std.proofs.Common.{◌≡◌, ◌≢◌, ℕ, List, [], ◌∷◌, ◌++◌, map, refl, sym, ap, ◌∙◌}
-use Rattle.std.specs.Prelude.{Option, Some, option_map}
+use Rattle.std.proofs.Common.{◌≡◌, ◌≢◌, ℕ, List, [], ◌∷◌, ◌++◌, map, sym, ap, ◌∙◌}
+use Rattle.std.specs.Prelude.{Option, option_map}
 use Rattle.std.proofs.lemmas.List.{append_assoc, map-append}
 use Rattle.nm_core.specs.declared.ledger.Ledger.{Ledger}
 use Rattle.nm_core.specs.Knowledge.{Knowledge}
 use Rattle.nm_core.specs.Ledgers.{held}
 use Rattle.nm_core.specs.Walks.{Entry as LogEntry}
-use Rattle.nm_steps.specs.Rules.{knowledge}
-use Rattle.nm_steps.specs.Steps.{Stand}
 use Rattle.nm_epoch.specs.declared.collecting.Entry.{Entry}
 use Rattle.nm_epoch.specs.declared.collecting.HeldQueue.{HeldQueue}
-use Rattle.nm_epoch.specs.Resting.{IsSamePass}
 use Rattle.nm_epoch.specs.Collecting.{IsQueueOf, AreHeld, NoneHas, HaveLost, freeing}
 
 -- the ledgers of all origins but some stay

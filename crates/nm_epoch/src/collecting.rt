@@ -3,7 +3,7 @@ ghost use Rattle.std.specs.Prelude.{◌≡◌, ◌≢◌, ◌+◌, ◌*◌, ◌�
 ghost use Rattle.nm_core.specs.Ledgers.{held};
 ghost use Rattle.nm_steps.specs.Rules.{knowledge};
 ghost use Rattle.nm_steps.specs.Steps.{IsOf};
-ghost use Rattle.nm_epoch.specs.Resting.{IsSamePass, epochs, search};
+ghost use Rattle.nm_epoch.specs.Resting.{IsSamePass, Settles, epochs, search};
 ghost use Rattle.nm_epoch.specs.Collecting.{IsQueueOf, AreApart, AreHeld, NoneHas, HaveLost, ripe_front, ripe_part, ripe_of, rest_of, freeing, IsCollection};
 
 use crate::looking::read;
@@ -128,6 +128,7 @@ pub fn collect(shared: &Shared, pass: &mut Pass, queues: &mut [HeldQueue]) -> Co
     ensures queues { AreHeld (knowledge pass.new.view) queues.new }
     ensures apart { AreApart pass.new.view.layout.nodes (knowledge pass.new.view) }
     ensures seen { (epochs pass.new).seen ≡ Some result.epoch }
+    ensures settles { Settles pass.old pass.new }
 {
     let epoch = read(shared, pass);
     let freed = collect_fronts(shared, pass, queues, epoch);

@@ -1,5 +1,4 @@
-use Rattle.std.proofs.Common.{rules, ◌≡◌, ◌≢◌, ℕ, suc, List, ◌∷◌, length, ap, subst, arith}
-use Rattle.nm_core.specs.Ledgers.{held}
+use Rattle.std.proofs.Common.{rules, ◌≡◌, suc, List, ◌∷◌, length, ap, subst, arith}
 use Rattle.nm_steps.specs.Rules.{knowledge}
 use Rattle.nm_epoch.specs.declared.collecting.HeldQueue.{HeldQueue}
 use Rattle.nm_epoch.specs.Collecting.{AreHeld}

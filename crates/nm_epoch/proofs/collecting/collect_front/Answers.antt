@@ -1,4 +1,4 @@
-use Rattle.std.proofs.Common.{rules, ◌≡◌, sym, ◌∙◌, Some}
+use Rattle.std.proofs.Common.{◌≡◌, sym, ◌∙◌, Some}
 use Rattle.nm_epoch.specs.Collecting.{ripe_front}
 use Rattle.nm_epoch.proofs.OneQueue.{may_collect, collecting_on, popped_front}
 use Rattle.nm_epoch.proofs.collecting.collect_front.Goals as goal

@@ -1,4 +1,4 @@
-use Rattle.std.proofs.Common.{length, ◌≡◌, ◌≤◌}
+use Rattle.std.proofs.Common.{length, ◌≡◌}
 use Rattle.nm_epoch.proofs.OneQueue.{IsCollecting}
 use Rattle.nm_epoch.proofs.collecting.collect_front.Given as goal
 
