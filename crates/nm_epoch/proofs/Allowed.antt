@@ -21,10 +21,10 @@ use Rattle.nm_epoch.specs.Scans.{IsLooking, lets_pass}
 use Rattle.nm_epoch.proofs.Marks.{one_for_each, all_others}
 
 -- a check that does not fail, with none behind it
-passes : (b : Bool) (r : Refused) → b ≡ false → cond b (Some r) None ≡ None
+pub passes : (b : Bool) (r : Refused) → b ≡ false → cond b (Some r) None ≡ None
 passes b r is = ap (λ (x : Bool). cond x (Some r) None) is
 
-passes_then : (b : Bool) (r : Refused) (o : Option Refused) → b ≡ false → o ≡ None → cond b (Some r) o ≡ None
+pub passes_then : (b : Bool) (r : Refused) (o : Option Refused) → b ≡ false → o ≡ None → cond b (Some r) o ≡ None
 passes_then b r o is rest = ap (λ (x : Bool). cond x (Some r) o) is ∙ rest
 
 -- a value that is there
@@ -32,7 +32,7 @@ is_there : (o : Option ℕ) → IsSome o → is_none o ≡ false
 is_there None h = sym h
 is_there (Some e) h = refl
 
-neither : (a b : Bool) → a ≡ false → b ≡ false → (a || b) ≡ false
+pub neither : (a b : Bool) → a ≡ false → b ≡ false → (a || b) ≡ false
 neither a b x y = ap (λ (c : Bool). c || b) x ∙ y
 
 pub may_announce : (p : Stand) → IsSome (epochs p).seen → (epochs p).pin ≡ None → MayStep p Announce

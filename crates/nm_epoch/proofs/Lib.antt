@@ -7,3 +7,7 @@ pub mod Marks
 pub mod Scanning
 pub mod Advances
 pub mod Watched
+pub mod Fronts
+pub mod OneQueue
+pub mod SeveralQueues
+pub mod Sighted

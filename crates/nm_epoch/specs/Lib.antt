@@ -2,3 +2,4 @@ pub mod Resting
 pub mod Tries
 pub mod Scans
 pub mod Watches
+pub mod Collecting

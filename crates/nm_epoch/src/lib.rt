@@ -5,6 +5,7 @@
 #![tactic(auto)]
 
 mod answers;
+mod collecting;
 mod leaving;
 mod looking;
 mod moving;
@@ -14,6 +15,7 @@ mod tests;
 mod watching;
 
 pub use answers::{Advance, Behind, Moved};
+pub use collecting::{Collected, Entry, HeldQueue, collect, collect_front, collect_fronts};
 pub use leaving::{label, unpin, unpin_with};
 pub use moving::advance;
 pub use pinning::{pin, pin_for};

@@ -1,0 +1,165 @@
+-- The front of a held queue: it may be freed, and what the worker knows then.
+use Rattle.std.proofs.Common.{◌≡◌, ◌≢◌, ℕ, zero, suc, ◌+◌, ◌≤◌, ◌==◌, Bool, true, false, cond, ◌||◌, List, [], ◌∷◌, map, drop, refl, sym, ap, subst, ◌∙◌, arith}
+use Rattle.std.specs.Prelude.{Option, Some, None, is_none, option_map, slice_get, nat_lt}
+use Rattle.std.proofs.lemmas.Bool.{cond-true, cond-false, eq-eqb, eqb-true, le-ltb}
+use Rattle.std.proofs.lemmas.Option.{none-some, same_Some}
+use mathlib.Core.Logic.{dite}
+use native.Mathlib.Decide.{ℕ_discrete}
+use Rattle.nm_core.specs.declared.event.Event.TheVariants.{Give}
+use Rattle.nm_core.specs.declared.ledger.Ledger.{Ledger}
+use Rattle.nm_core.specs.declared.ledger.Queued.{Queued}
+use Rattle.nm_core.specs.declared.reply.Refused.TheVariants.{NoSlot, NotPrivate, NotReady, NotFront, TooYoung}
+use Rattle.nm_core.specs.declared.reply.Reply.TheVariants.{Returned, Freed}
+use Rattle.nm_core.specs.Knowledge.{Knowledge, is_private}
+use Rattle.nm_core.specs.Ledgers.{held, queue_of, front_at, front_of, entry_of, with_freed, free}
+use Rattle.nm_core.specs.Maps.{or_else}
+use Rattle.nm_core.specs.Searches.{searched}
+use Rattle.nm_core.specs.Step.{refusal, outside, first, free_checks, has_no_label, is_young, node_of}
+use Rattle.nm_core.proofs.Held.{Front, front, entry_is_front}
+use Rattle.nm_core.proofs.Learned.{learn_freed}
+use Rattle.nm_steps.specs.Rules.{knowledge}
+use Rattle.nm_steps.specs.Steps.{Stand, MayStep, Stepped, give_reply}
+use Rattle.nm_steps.proofs.Presence.{known_push}
+use Rattle.nm_epoch.specs.declared.collecting.Entry.{Entry}
+use Rattle.nm_epoch.specs.Resting.{epochs, search}
+use Rattle.nm_epoch.specs.Collecting.{queued, IsQueueOf, Waits, AreApart}
+use Rattle.nm_epoch.proofs.Allowed.{passes, passes_then, neither}
+use Rattle.nm_epoch.proofs.Entries.{epochs_after, search_is}
+
+-- ---- lists alone
+
+-- the only front of a slot is the one that a give finds
+front_found : (ls : List (Option Ledger)) (o s : ℕ) (e : Queued) → front_at (queue_of (held ls o)) s ≡ Some e → ((p : ℕ) (f : Queued) → front_at (queue_of (held ls p)) s ≡ Some f → p ≡ o) → front_of ls s ≡ Some e
+front_found [] o s e at alone = absurd (none-some e at)
+front_found (l ∷ ls) zero s e at alone = ap (λ (x : Option Queued). or_else x (front_of ls s)) at
+front_found (l ∷ ls) (suc o) s e at alone = go (front_at (queue_of l) s) refl (front_found ls o s e at (λ p f h. let same : suc p ≡ suc o = alone (suc p) f h in omega (arith, same)))
+  where
+    go : (x : Option Queued) → front_at (queue_of l) s ≡ x → front_of ls s ≡ Some e → or_else x (front_of ls s) ≡ Some e
+    go None is later = later
+    go (Some f) is later = absurd (let same : 0 ≡ suc o = alone 0 f is in omega (arith, same))
+
+front_waits : (q : List Queued) (s : ℕ) (e : Queued) → front_at q s ≡ Some e → (slice_get q 0 ≡ Some e) × (e.node.slot ≡ s)
+front_waits [] s e at = absurd (none-some e at)
+front_waits (x ∷ q) s e at = by (x.node.slot == s) refl at
+  where
+    by : (b : Bool) → (x.node.slot == s) ≡ b → cond b (Some x) None ≡ Some e → (slice_get (x ∷ q) 0 ≡ Some e) × (e.node.slot ≡ s)
+    by true i h = (h, ap (λ (y : Queued). y.node.slot) (sym (same_Some x e h)) ∙ eqb-true _ s i)
+    by false i h = absurd (none-some e h)
+
+abbrev queue_in : Option Ledger → Option (List Queued)
+queue_in h = option_map (λ (l : Ledger). l.queue) h
+
+shown_queue : (h : Option Ledger) (q : List Queued) → queue_in h ≡ Some q → queue_of h ≡ q
+shown_queue None q is = absurd (none-some q is)
+shown_queue (Some l) q is = same_Some l.queue q is
+
+slice_later : (q : List Queued) (e : Queued) (i : ℕ) → slice_get (e ∷ q) (suc i) ≡ slice_get q i
+slice_later q e i = refl
+
+inside : (low n s : ℕ) → low ≤ s → s ≤ n → outside low n s ≡ false
+inside low n s least most = neither (nat_lt s low) (nat_lt n s) (le-ltb s low least) (le-ltb n s most)
+
+-- ---- the front of a held queue
+
+module _ (p : Stand) (o : ℕ) (x : Entry) (es : List Entry) (has : IsQueueOf (knowledge p.view) o (x ∷ es)) (apart : AreApart p.view.layout.nodes (knowledge p.view)) where
+  abbrev k : Knowledge
+  k = knowledge p.view
+
+  abbrev s : ℕ
+  s = x.node.slot
+
+  queue_is : queue_of (held k.ledgers o) ≡ queued x ∷ map queued es
+  queue_is = shown_queue (held k.ledgers o) (queued x ∷ map queued es) has
+
+  at_front : front_at (queue_of (held k.ledgers o)) s ≡ Some (queued x)
+  at_front = ap (λ (q : List Queued). front_at q s) queue_is ∙ cond-true (s == s) (Some (queued x)) None (eq-eqb s s refl)
+
+  waits : Waits k o (queued x)
+  waits = (0, ap (λ (q : List Queued). slice_get q 0) queue_is)
+
+  alone : (j : ℕ) (f : Queued) → front_at (queue_of (held k.ledgers j)) s ≡ Some f → j ≡ o
+  alone j f at = let w = front_waits (queue_of (held k.ledgers j)) s f at in apart.once j o f (queued x) (0, w.0) waits w.1
+
+  found : front_of k.ledgers s ≡ Some (queued x)
+  found = front_found k.ledgers o s (queued x) at_front alone
+
+  entry : entry_of k.ledgers s ≡ Some (queued x)
+  entry = entry_is_front k.ledgers s (queued x) found
+
+  -- it may be freed, once it is ripe
+  pub may_free : (epoch : ℕ) → k.brief.seen ≡ Some epoch → x.label + 2 ≤ epoch → MayStep p (Give s)
+  unfolding refusal
+  may_free epoch seen ripe = record {
+    looked = tt;
+    allowed = λ m h. passes_then (outside 6 p.view.layout.nodes s) NoSlot _ (inside 6 p.view.layout.nodes s (apart.least o (queued x) waits) (apart.most o (queued x) waits))
+        (ap (λ (b : Bool). first (cond b [] (free_checks k s))) (apart.shared o (queued x) waits)
+        ∙ passes_then (is_none (entry_of k.ledgers s)) NotPrivate _ (ap (λ (y : Option Queued). is_none y) entry)
+        (passes_then (is_none k.brief.seen || has_no_label (entry_of k.ledgers s)) NotReady _ (neither (is_none k.brief.seen) (has_no_label (entry_of k.ledgers s)) (ap (λ (y : Option ℕ). is_none y) seen) (ap has_no_label entry))
+        (passes_then (is_none (front_of k.ledgers s)) NotFront _ (ap (λ (y : Option Queued). is_none y) found)
+        (passes (is_young (front_of k.ledgers s) k.brief.seen) TooYoung
+        (ap (λ (y : Option Queued). is_young y k.brief.seen) found ∙ (ap (λ (y : Option ℕ). is_young (Some (queued x)) y) seen ∙ le-ltb epoch (x.label + 2) ripe))))));
+    ordered = refl;
+    births = tt;
+    key = tt;
+  }
+
+  pub freed_reply : give_reply p.view s ≡ Freed x.node
+  freed_reply =
+      cond-false (is_private k s) (Returned s) (Freed (node_of (front_of k.ledgers s))) (apart.shared o (queued x) waits)
+      ∙ ap (λ (y : Option Queued). Freed (node_of y)) found
+
+  -- ---- after the step
+
+  module _ (q : Stand) (step : Stepped p q (Give s) (Freed x.node)) where
+    learned : knowledge q.view ≡ record k { ledgers = free k.ledgers x.node }
+    learned = ap (λ (y : Stand). knowledge y.view) step ∙ (known_push p.view.number p.view.layout p.view.log (Give s, Freed x.node) ∙ learn_freed p.view.number k s x.node)
+
+    ledgers_are : (knowledge q.view).ledgers ≡ free k.ledgers x.node
+    ledgers_are = ap (λ (y : Knowledge). y.ledgers) learned
+
+    f : Front k.ledgers s (queued x) x.node
+    f = front k.ledgers s (queued x) x.node refl found
+
+    origin_is : f.origin ≡ o
+    origin_is = apart.once f.origin o (queued x) (queued x) (0, ap (λ (y : Option Ledger). slice_get (queue_of y) 0) f.is_held ∙ ap (λ (r : List Queued). slice_get r 0) f.queue) waits refl
+
+    held_before : held k.ledgers o ≡ Some f.ledger
+    held_before = subst (λ (j : ℕ). held k.ledgers j ≡ Some f.ledger) origin_is f.is_held
+
+    held_after : held (knowledge q.view).ledgers o ≡ Some (with_freed x.node f.ledger)
+    held_after = ap (λ (ls : List (Option Ledger)). held ls o) ledgers_are ∙ subst (λ (j : ℕ). held (free k.ledgers x.node) j ≡ Some (with_freed x.node f.ledger)) origin_is f.after
+
+    ledger_queue : f.ledger.queue ≡ queued x ∷ map queued es
+    ledger_queue = sym (ap (λ (y : Option Ledger). queue_of y) held_before) ∙ queue_is
+
+    pub queue_after : IsQueueOf (knowledge q.view) o es
+    queue_after = ap (λ (y : Option Ledger). queue_in y) held_after ∙ ap (λ (r : List Queued). Some (drop 1 r)) ledger_queue
+
+    pub others_after : (j : ℕ) → j ≢ o → held (knowledge q.view).ledgers j ≡ held k.ledgers j
+    others_after j ne = ap (λ (ls : List (Option Ledger)). held ls j) ledgers_are ∙ f.others j (λ e. ne (e ∙ origin_is))
+
+    -- what waits has waited before
+    waited_here : (e : Queued) → Waits (knowledge q.view) o e → Waits k o e
+    waited_here e w =
+        let now : queue_of (held (knowledge q.view).ledgers o) ≡ map queued es = ap (λ (y : Option Ledger). queue_of y) held_after ∙ ap (λ (r : List Queued). drop 1 r) ledger_queue in
+        (suc w.0, ap (λ (r : List Queued). slice_get r (suc w.0)) queue_is ∙ (slice_later (map queued es) (queued x) w.0 ∙ (sym (ap (λ (r : List Queued). slice_get r w.0) now) ∙ w.1)))
+
+    waited : (j : ℕ) (e : Queued) → Waits (knowledge q.view) j e → Waits k j e
+    waited j e w = dite (ℕ_discrete j o)
+        (λ (here : j ≡ o). subst (λ (i : ℕ). Waits k i e) (sym here) (waited_here e (subst (λ (i : ℕ). Waits (knowledge q.view) i e) here w)))
+        (λ (ne : j ≢ o). (w.0, sym (ap (λ (y : Option Ledger). slice_get (queue_of y) w.0) (others_after j ne)) ∙ w.1))
+
+    pub apart_after : AreApart q.view.layout.nodes (knowledge q.view)
+    apart_after = record {
+      least = λ j e w. apart.least j e (waited j e w);
+      most = λ j e w. subst (λ (n : ℕ). e.node.slot ≤ n) (sym (ap (λ (y : Stand). y.view.layout.nodes) step)) (apart.most j e (waited j e w));
+      shared = λ j e w. ap (λ (y : Knowledge). is_private y e.node.slot) learned ∙ apart.shared j e (waited j e w);
+      once = λ i j e g a b. apart.once i j e g (waited i e a) (waited j g b);
+    }
+
+    pub epochs_stay : epochs q ≡ epochs p
+    epochs_stay = epochs_after p q (Give s) (Freed x.node) step
+
+    pub search_stays : search q ≡ search p
+    unfolding searched
+    search_stays = search_is p q (Give s) (Freed x.node) step

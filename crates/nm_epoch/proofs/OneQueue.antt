@@ -1,0 +1,118 @@
+-- How collecting the front of a queue goes on.
+use Rattle.std.proofs.Common.{◌≡◌, ◌≢◌, ℕ, suc, ◌+◌, Bool, true, false, cond, List, [], ◌∷◌, ◌++◌, map, length, drop, refl, sym, ap, subst, ◌∙◌, arith}
+use Rattle.std.specs.Prelude.{Option, Some, None, MatchOption}
+use Rattle.std.specs.List.{prefix_len}
+use Rattle.std.proofs.lemmas.Bool.{leb-true, cond-true}
+use Rattle.std.proofs.lemmas.Option.{none-some, same_Some}
+use Rattle.std.proofs.lemmas.List.{append_assoc}
+use Rattle.std.proofs.lemmas.List.Sums.{take_while-cons}
+use Rattle.nm_edge.specs.declared.node.NodeId.{NodeId}
+use Rattle.nm_core.specs.declared.event.Event.TheVariants.{Give}
+use Rattle.nm_core.specs.declared.reply.Reply.TheVariants.{Freed}
+use Rattle.nm_core.specs.declared.knowledge.Brief.{Brief}
+use Rattle.nm_core.specs.Ledgers.{held}
+use Rattle.nm_core.specs.Walks.{Entry as LogEntry}
+use Rattle.nm_limbo.specs.Queue.{BlockQueue, IsPopped}
+use Rattle.nm_steps.specs.Rules.{knowledge}
+use Rattle.nm_steps.specs.Steps.{Stand, MayStep, Stepped, give_reply}
+use Rattle.nm_epoch.specs.declared.collecting.Entry.{Entry}
+use Rattle.nm_epoch.specs.Resting.{IsSamePass, Settles, epochs, search}
+use Rattle.nm_epoch.specs.Collecting.{IsQueueOf, AreApart, is_ripe, ripe_front, ripe_part, rest_of, freeing}
+use Rattle.nm_epoch.proofs.Fronts.{may_free, freed_reply, queue_after, others_after, apart_after, epochs_stay, search_stays}
+
+-- what was freed and what is ripe still is what was ripe at first
+pub record IsCollecting (epoch origin : ℕ) (start : Stand) (all : List Entry) (p : Stand) (now : List Entry) : Type 0 where
+  pub same : IsSamePass start p
+  pub queue : IsQueueOf (knowledge p.view) origin now
+  pub apart : AreApart p.view.layout.nodes (knowledge p.view)
+  pub others : (o : ℕ) → o ≢ origin → held (knowledge p.view).ledgers o ≡ held (knowledge start.view).ledgers o
+  pub epochs_are : epochs p ≡ epochs start
+  pub search_is : search p ≡ search start
+  pub entries : p.view.log ++ map freeing (ripe_part epoch now) ≡ start.view.log ++ map freeing (ripe_part epoch all)
+  pub left : rest_of epoch now ≡ rest_of epoch all
+  pub count : length now + length (ripe_part epoch all) ≡ length all + length (ripe_part epoch now)
+
+pub collecting_from : (epoch origin : ℕ) (p : Stand) (all : List Entry) → IsQueueOf (knowledge p.view) origin all → AreApart p.view.layout.nodes (knowledge p.view) → IsCollecting epoch origin p all p all
+collecting_from epoch origin p all queue apart = record {
+  same = refl;
+  queue = queue;
+  apart = apart;
+  others = λ o ne. refl;
+  epochs_are = refl;
+  search_is = refl;
+  entries = refl;
+  left = refl;
+  count = refl;
+}
+
+-- ---- ripe entries
+
+ripe_node : (b : Bool) (x n : NodeId) → cond b (Some x) None ≡ Some n → (b ≡ true) × (x ≡ n)
+ripe_node true x n h = (refl, same_Some x n h)
+ripe_node false x n h = absurd (none-some n h)
+
+ripe_more : (epoch : ℕ) (x : Entry) (es : List Entry) → is_ripe epoch x ≡ true → ripe_part epoch (x ∷ es) ≡ x ∷ ripe_part epoch es
+ripe_more epoch x es h = take_while-cons (is_ripe epoch) x es ∙ cond-true (is_ripe epoch x) (x ∷ ripe_part epoch es) [] h
+
+rest_more : (epoch : ℕ) (x : Entry) (es : List Entry) → is_ripe epoch x ≡ true → rest_of epoch (x ∷ es) ≡ rest_of epoch es
+rest_more epoch x es h =
+    let one : 1 + prefix_len (is_ripe epoch) es ≡ suc (prefix_len (is_ripe epoch) es) = omega arith in
+    ap (λ (n : ℕ). drop n (x ∷ es)) (cond-true (is_ripe epoch x) (1 + prefix_len (is_ripe epoch) es) 0 h ∙ one)
+
+pub none_ripe : (epoch : ℕ) (now : List Entry) → ripe_front epoch now ≡ None → (ripe_part epoch now ≡ []) × (rest_of epoch now ≡ now)
+none_ripe epoch [] h = (refl, refl)
+none_ripe epoch (x ∷ es) h = by (is_ripe epoch x) refl h
+  where
+    by : (b : Bool) → is_ripe epoch x ≡ b → cond b (Some x.node) None ≡ None → (ripe_part epoch (x ∷ es) ≡ []) × (rest_of epoch (x ∷ es) ≡ x ∷ es)
+    by true is h = absurd (none-some x.node (sym h))
+    by false is h = (rw is refl, rw is refl)
+
+-- ---- one more
+
+pub may_collect : (epoch origin : ℕ) (start p : Stand) (all now : List Entry) (n : NodeId) → IsCollecting epoch origin start all p now → (epochs start).seen ≡ Some epoch → ripe_front epoch now ≡ Some n → MayStep p (Give n.slot)
+may_collect epoch origin start p all [] n c seen ripe = absurd (none-some n ripe)
+may_collect epoch origin start p all (x ∷ es) n c seen ripe =
+    let r = ripe_node (is_ripe epoch x) x.node n ripe in
+    subst (λ (m : NodeId). MayStep p (Give m.slot)) r.1 (may_free p origin x es c.queue c.apart epoch (ap (λ (b : Brief). b.seen) c.epochs_are ∙ seen) (leb-true (x.label + 2) epoch r.0))
+
+collecting_more : (epoch origin : ℕ) (start p q : Stand) (all es : List Entry) (x : Entry) → IsCollecting epoch origin start all p (x ∷ es) → is_ripe epoch x ≡ true → Stepped p q (Give x.node.slot) (Freed x.node) → IsCollecting epoch origin start all q es
+collecting_more epoch origin start p q all es x c ripe step =
+    let log_is : q.view.log ≡ p.view.log ++ freeing x ∷ [] = ap (λ (y : Stand). y.view.log) step in
+    let more : ripe_part epoch (x ∷ es) ≡ x ∷ ripe_part epoch es = ripe_more epoch x es ripe in
+    let longer : length (ripe_part epoch (x ∷ es)) ≡ suc (length (ripe_part epoch es)) = ap (λ (r : List Entry). length r) more in
+    let count : suc (length es) + length (ripe_part epoch all) ≡ length all + length (ripe_part epoch (x ∷ es)) = c.count in
+    record {
+      same = step ∙ (ap (λ (y : Stand). record y { view = record y.view { log = p.view.log ++ freeing x ∷ [] } }) c.same ∙ ap (λ (log : List LogEntry). record start { view = record start.view { log = log } }) (sym log_is));
+      queue = queue_after p origin x es c.queue c.apart q step;
+      apart = apart_after p origin x es c.queue c.apart q step;
+      others = λ o ne. others_after p origin x es c.queue c.apart q step o ne ∙ c.others o ne;
+      epochs_are = epochs_stay p origin x es c.queue c.apart q step ∙ c.epochs_are;
+      search_is = search_stays p origin x es c.queue c.apart q step ∙ c.search_is;
+      entries = ap (λ (log : List LogEntry). log ++ map freeing (ripe_part epoch es)) log_is
+          ∙ (append_assoc p.view.log (freeing x ∷ []) (map freeing (ripe_part epoch es))
+          ∙ (sym (ap (λ (r : List Entry). p.view.log ++ map freeing r) more) ∙ c.entries));
+      left = sym (rest_more epoch x es ripe) ∙ c.left;
+      count = omega (arith, longer, count);
+    }
+
+pub collecting_on : (epoch origin : ℕ) (start p q : Stand) (all now later : List Entry) (y : Entry) (n : NodeId) → IsCollecting epoch origin start all p now → ripe_front epoch now ≡ Some n → Stepped p q (Give n.slot) (give_reply p.view n.slot)
+    → now ≡ y ∷ later → IsCollecting epoch origin start all q later
+collecting_on epoch origin start p q all [] later y n c ripe step is = absurd (none-some n ripe)
+collecting_on epoch origin start p q all (x ∷ es) later y n c ripe step is =
+    let r = ripe_node (is_ripe epoch x) x.node n ripe in
+    let here : Stepped p q (Give x.node.slot) (give_reply p.view x.node.slot) = subst (λ (m : NodeId). Stepped p q (Give m.slot) (give_reply p.view m.slot)) (sym r.1) step in
+    subst (λ (l : List Entry). IsCollecting epoch origin start all q l) (ap (λ (l : List Entry). drop 1 l) is)
+    (collecting_more epoch origin start p q all es x c r.0 (subst (λ reply. Stepped p q (Give x.node.slot) reply) (freed_reply p origin x es c.queue c.apart) here))
+
+-- what is popped is the front
+pub popped_front : (epoch : ℕ) (before after : BlockQueue Entry) (o : Option Entry) (n : NodeId) → MatchOption o ((before.items ≡ []) × (after ≡ before)) (IsPopped before after) → ripe_front epoch before.items ≡ Some n
+    → (y : Entry) × (before.items ≡ y ∷ after.items)
+popped_front epoch before after None n is ripe = absurd (none-some n (sym (ap (ripe_front epoch) is.0) ∙ ripe))
+popped_front epoch before after (Some y) n is ripe = (y, is.0)
+
+-- what was settled stays so, where epochs and search stay
+pub settled_on : (o p q : Stand) → Settles o p → epochs q ≡ epochs p → search q ≡ search p → Settles o q
+settled_on o p q s same found = record {
+  labelled = ap (λ (b : Brief). b.unlabelled) same ∙ s.labelled;
+  stays = λ settled. let t = s.stays settled in record { note = ap (λ (b : Brief). b.note) same ∙ t.note; pin = ap (λ (b : Brief). b.pin) same ∙ t.pin; search = found ∙ t.search };
+}

@@ -1,0 +1,80 @@
+-- The nodes that wait, and what collecting frees of them.
+use Rattle.std.specs.Prelude.{◌≡◌, ◌≢◌, ℕ, ◌+◌, ◌≤◌, nat_le, Bool, false, List, [], ◌∷◌, ◌++◌, map, drop, slice_get, Option, Some, None, option_map, if◌then◌else◌}
+use Rattle.std.specs.List.{take_while, prefix_len}
+use Rattle.nm_edge.specs.declared.node.NodeId.{NodeId}
+use Rattle.nm_core.specs.declared.event.Event.TheVariants.{Give}
+use Rattle.nm_core.specs.declared.ledger.Ledger.{Ledger}
+use Rattle.nm_core.specs.declared.ledger.Queued.{Queued}
+use Rattle.nm_core.specs.declared.reply.Reply.TheVariants.{Freed}
+use Rattle.nm_core.specs.Knowledge.{Knowledge, is_private}
+use Rattle.nm_core.specs.Ledgers.{held, queue_of}
+use Rattle.nm_core.specs.Walks.{Entry as LogEntry}
+use Rattle.nm_epoch.specs.Scans.{IsSightOf}
+use Rattle.nm_epoch.specs.declared.collecting.Entry.{Entry}
+use Rattle.nm_epoch.specs.declared.collecting.HeldQueue.{HeldQueue}
+
+-- an entry with its label, as a ledger has it
+abbrev pub queued : Entry → Queued
+queued e = record { node = e.node; label = Some e.label }
+
+-- the worker holds the ledger of that origin, and these are the entries of its queue, all with labels
+abbrev pub IsQueueOf : Knowledge → ℕ → List Entry → Type 0
+IsQueueOf k origin es = option_map (λ (l : Ledger). l.queue) (held k.ledgers origin) ≡ Some (map queued es)
+
+-- the entry waits in the held queue of that origin
+abbrev pub Waits : Knowledge → ℕ → Queued → Type 0
+Waits k origin e = (i : ℕ) × (slice_get (queue_of (held k.ledgers origin)) i ≡ Some e)
+
+-- each slot that waits is one of the pool's, is not private to the worker, and waits in no second queue
+pub record AreApart (nodes : ℕ) (k : Knowledge) : Type 0 where
+  pub least : (o : ℕ) (e : Queued) → Waits k o e → 6 ≤ e.node.slot
+  pub most : (o : ℕ) (e : Queued) → Waits k o e → e.node.slot ≤ nodes
+  pub shared : (o : ℕ) (e : Queued) → Waits k o e → is_private k e.node.slot ≡ false
+  pub once : (o p : ℕ) (e f : Queued) → Waits k o e → Waits k p f → e.node.slot ≡ f.node.slot → o ≡ p
+
+-- its label is at least two below the epoch
+abbrev pub is_ripe : ℕ → Entry → Bool
+is_ripe epoch e = nat_le (e.label + 2) epoch
+
+-- the node at the front, where it is ripe
+abbrev pub ripe_front : ℕ → List Entry → Option NodeId
+ripe_front epoch [] = None
+ripe_front epoch (e ∷ es) = if is_ripe epoch e then Some e.node else None
+
+-- the longest front of ripe entries, and what is behind it
+abbrev pub ripe_part : ℕ → List Entry → List Entry
+ripe_part epoch es = take_while (is_ripe epoch) es
+
+abbrev pub rest_of : ℕ → List Entry → List Entry
+rest_of epoch es = drop (prefix_len (is_ripe epoch) es) es
+
+-- the entry's slot is given back to the pool, and its node is freed
+abbrev pub freeing : Entry → LogEntry
+freeing e = (Give e.node.slot, Freed e.node)
+
+-- ---- several queues
+
+-- none of these is of that origin
+abbrev pub NoneHas : ℕ → List HeldQueue → Type 0
+NoneHas o [] = Unit {0}
+NoneHas o (h ∷ hs) = (o ≢ h.origin) × NoneHas o hs
+
+-- these are queues of ledgers that the worker holds, each of another origin
+abbrev pub AreHeld : Knowledge → List HeldQueue → Type 0
+AreHeld k [] = Unit {0}
+AreHeld k (h ∷ hs) = IsQueueOf k h.origin h.queue.items × NoneHas h.origin hs × AreHeld k hs
+
+-- what is ripe at the fronts, queue by queue
+abbrev pub ripe_of : ℕ → List HeldQueue → List Entry
+ripe_of epoch [] = []
+ripe_of epoch (h ∷ hs) = ripe_part epoch h.queue.items ++ ripe_of epoch hs
+
+-- each queue has lost what was ripe at its front
+abbrev pub HaveLost : ℕ → List HeldQueue → List HeldQueue → Type 0
+HaveLost epoch [] [] = Unit {0}
+HaveLost epoch (h ∷ hs) (g ∷ gs) = (g.origin ≡ h.origin) × (g.queue.items ≡ rest_of epoch h.queue.items) × HaveLost epoch hs gs
+HaveLost epoch _ _ = ⊥
+
+-- what a collection leaves in the log, oldest entry first: one sight of the epoch, and then each ripe node is freed
+abbrev pub IsCollection : ℕ → List HeldQueue → List LogEntry → List LogEntry → Type 0
+IsCollection epoch hs old new = (mid : List LogEntry) × IsSightOf epoch old mid × (new ≡ mid ++ map freeing (ripe_of epoch hs))

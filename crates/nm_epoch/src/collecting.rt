@@ -1,0 +1,136 @@
+//! Nodes that have waited long enough, back to the pool.
+ghost use Rattle.std.specs.Prelude.{◌≡◌, ◌≢◌, ◌+◌, ◌*◌, ◌≤◌, ◌++◌, nat_le, ℕ, length, map, Some};
+ghost use Rattle.nm_core.specs.Ledgers.{held};
+ghost use Rattle.nm_steps.specs.Rules.{knowledge};
+ghost use Rattle.nm_steps.specs.Steps.{IsOf};
+ghost use Rattle.nm_epoch.specs.Resting.{IsSamePass, Settles, epochs, search};
+ghost use Rattle.nm_epoch.specs.Collecting.{IsQueueOf, AreApart, AreHeld, NoneHas, HaveLost, ripe_front, ripe_part, ripe_of, rest_of, freeing, IsCollection};
+
+use crate::looking::read;
+use nm_edge::NodeId;
+use nm_limbo::BlockQueue;
+use nm_steps::{Pass, Shared};
+
+/// A retired node that waits, with its label: the epoch that its remover read after the cut.
+#[derive(Clone, Copy, Debug, PartialEq, Eq)]
+pub struct Entry {
+    pub node: NodeId,
+    pub label: u64,
+}
+
+/// The nodes that wait of those that one worker's splices cut, oldest first.
+#[derive(Drop)]
+pub struct HeldQueue {
+    /// The worker whose splices cut them.
+    pub origin: u32,
+    pub queue: BlockQueue<Entry>,
+}
+
+/// Whether the label is at least two below the epoch.
+fn is_ripe(label: u64, epoch: u64) -> bool
+    ensures { result ≡ nat_le (label + 2) epoch }
+{
+    2 <= epoch && label <= epoch - 2
+}
+
+/// The node at the front, where it is ripe.
+fn next_ripe(queue: &BlockQueue<Entry>, epoch: u64) -> Option<NodeId>
+    ensures { result ≡ ripe_front epoch queue.now.items }
+{
+    match queue.front() {
+        Some(entry) => {
+            if is_ripe(entry.label, epoch) {
+                Some(entry.node)
+            } else {
+                None
+            }
+        }
+        None => None,
+    }
+}
+
+/// Frees what is ripe at the front of one held queue, given the epoch that the worker read last: the longest front of entries
+/// whose labels are at least two below it. Each is given back to the pool by one step, in order, and leaves the queue. Answers
+/// how many.
+///
+/// Two epochs after the label no worker is pinned that could still come to the node (Fraser, Practical lock-freedom, 2004,
+/// chapter 5).
+pub fn collect_front(shared: &Shared, pass: &mut Pass, queue: &mut HeldQueue, epoch: u64) -> u32
+    requires own { IsOf shared.now pass.old }
+    requires seen { (epochs pass.old).seen ≡ Some epoch }
+    requires queue { IsQueueOf (knowledge pass.old.view) queue.old.origin queue.old.queue.items }
+    requires apart { AreApart pass.old.view.layout.nodes (knowledge pass.old.view) }
+    ensures same { IsSamePass pass.old pass.new }
+    ensures entries { pass.new.view.log ≡ pass.old.view.log ++ map freeing (ripe_part epoch queue.old.queue.items) }
+    ensures freed { result ≡ length (ripe_part epoch queue.old.queue.items) }
+    ensures left { queue.new.queue.items ≡ rest_of epoch queue.old.queue.items }
+    ensures origin { queue.new.origin ≡ queue.old.origin }
+    ensures queue { IsQueueOf (knowledge pass.new.view) queue.new.origin queue.new.queue.items }
+    ensures apart { AreApart pass.new.view.layout.nodes (knowledge pass.new.view) }
+    ensures others { (o : ℕ) → o ≢ queue.old.origin → held (knowledge pass.new.view).ledgers o ≡ held (knowledge pass.old.view).ledgers o }
+    ensures epochs { epochs pass.new ≡ epochs pass.old }
+    ensures search { search pass.new ≡ search pass.old }
+{
+    let waiting = queue.queue.len();
+    while let Some(node) = next_ripe(&queue.queue, epoch) {
+        shared.give(pass, node.slot);
+        let _ = queue.queue.pop();
+    }
+    waiting - queue.queue.len()
+}
+
+/// Frees what is ripe at the front of each of these held queues, one after the other, given the epoch that the worker read last.
+/// Answers how many nodes it freed, by one step each.
+pub fn collect_fronts(shared: &Shared, pass: &mut Pass, queues: &mut [HeldQueue], epoch: u64) -> u64
+    requires own { IsOf shared.now pass.old }
+    requires seen { (epochs pass.old).seen ≡ Some epoch }
+    requires queues { AreHeld (knowledge pass.old.view) queues.old }
+    requires few { length queues.old ≤ 64 }
+    requires apart { AreApart pass.old.view.layout.nodes (knowledge pass.old.view) }
+    ensures same { IsSamePass pass.old pass.new }
+    ensures entries { pass.new.view.log ≡ pass.old.view.log ++ map freeing (ripe_of epoch queues.old) }
+    ensures freed { result ≡ length (ripe_of epoch queues.old) }
+    ensures most { result ≤ 4294967295 * length queues.old }
+    ensures lost { HaveLost epoch queues.old queues.new }
+    ensures queues { AreHeld (knowledge pass.new.view) queues.new }
+    ensures apart { AreApart pass.new.view.layout.nodes (knowledge pass.new.view) }
+    ensures others { (o : ℕ) → NoneHas o queues.old → held (knowledge pass.new.view).ledgers o ≡ held (knowledge pass.old.view).ledgers o }
+    ensures epochs { epochs pass.new ≡ epochs pass.old }
+    ensures search { search pass.new ≡ search pass.old }
+{
+    let Some((first, rest)) = queues.split_first_mut() else {
+        return 0;
+    };
+    let here = collect_front(shared, pass, first, epoch);
+    u64::from(here) + collect_fronts(shared, pass, rest, epoch)
+}
+
+/// What a collection came to.
+#[derive(Clone, Copy, Debug, PartialEq, Eq)]
+pub struct Collected {
+    /// The epoch read.
+    pub epoch: u64,
+    /// The nodes that were freed.
+    pub freed: u64,
+}
+
+/// Reads the epoch, and frees what is ripe at the front of each of these held queues, in their order: one step to read the epoch,
+/// and one a node. Where a cut waits for its label, the first step labels it.
+pub fn collect(shared: &Shared, pass: &mut Pass, queues: &mut [HeldQueue]) -> Collected
+    requires own { IsOf shared.now pass.old }
+    requires queues { AreHeld (knowledge pass.old.view) queues.old }
+    requires few { length queues.old ≤ 64 }
+    requires apart { AreApart pass.old.view.layout.nodes (knowledge pass.old.view) }
+    ensures same { IsSamePass pass.old pass.new }
+    ensures part { IsCollection result.epoch queues.old pass.old.view.log pass.new.view.log }
+    ensures freed { result.freed ≡ length (ripe_of result.epoch queues.old) }
+    ensures lost { HaveLost result.epoch queues.old queues.new }
+    ensures queues { AreHeld (knowledge pass.new.view) queues.new }
+    ensures apart { AreApart pass.new.view.layout.nodes (knowledge pass.new.view) }
+    ensures seen { (epochs pass.new).seen ≡ Some result.epoch }
+    ensures settles { Settles pass.old pass.new }
+{
+    let epoch = read(shared, pass);
+    let freed = collect_fronts(shared, pass, queues, epoch);
+    Collected { epoch, freed }
+}
