@@ -1,6 +1,7 @@
 //! The table with its layout, and one worker's seat with what its log says.
-ghost use Rattle.std.specs.Prelude.{◌≡◌, ◌<◌};
+ghost use Rattle.std.specs.Prelude.{◌≡◌, ◌<◌, ◌⊎◌};
 ghost use Rattle.nm_steps.specs.Rules.{knowledge};
+ghost use Rattle.nm_steps.specs.Steps.{EndsWithJoin, IsOfRun};
 
 use crate::view::{Law, Place, View};
 use atomic_table::Table;
@@ -88,5 +89,13 @@ impl Pass {
         ensures { result ≡ (knowledge self.now.view).brief.unlabelled }
     {
         self.brief.unlabelled
+    }
+
+    /// The pass's log is its number's part of some run of an ordered core, and the worker has not resigned in it: each law of such parts
+    /// holds of it. Of a log that ends with a join this is so from the next step on. It does nothing.
+    pub fn is_of_a_run(&self)
+        ensures { EndsWithJoin self.now.view.log ⊎ IsOfRun self.now.view.layout self.now.view.number self.now.view.log }
+    {
+        let _brief = self.brief;
     }
 }

@@ -37,6 +37,7 @@ fn a_pass_for_each_worker(rt: HostRuntime) -> Result<(), Fail> {
     assert_eq!(rt; passes.len(), 2);
     assert_eq!(rt; passes[0].number(), 0);
     assert_eq!(rt; passes[1].number(), 1);
+    passes[0].is_of_a_run();
     Ok(())
 }
 
