@@ -16,7 +16,8 @@ use Rattle.nm_limbo.specs.Queue.{BlockQueue, IsPopped}
 use Rattle.nm_steps.specs.Rules.{knowledge}
 use Rattle.nm_steps.specs.Steps.{Stand, MayStep, Stepped, give_reply}
 use Rattle.nm_epoch.specs.declared.collecting.Entry.{Entry}
-use Rattle.nm_epoch.specs.Resting.{IsSamePass, Settles, epochs, search}
+use Rattle.nm_epoch.specs.Resting.{Settles, epochs, search}
+use Rattle.nm_steps.specs.Steps.{IsSamePass}
 use Rattle.nm_epoch.specs.Collecting.{IsQueueOf, AreApart, is_ripe, ripe_front, ripe_part, rest_of, freeing}
 use Rattle.nm_epoch.proofs.Fronts.{may_free, freed_reply, queue_after, others_after, apart_after, epochs_stay, search_stays}
 

@@ -19,7 +19,7 @@ use Rattle.nm_steps.specs.Steps.{Stand, Stepped}
 use Rattle.nm_steps.proofs.Presence.{known_push}
 use Rattle.nm_epoch.specs.declared.collecting.Entry.{Entry}
 use Rattle.nm_epoch.specs.declared.collecting.HeldQueue.{HeldQueue}
-use Rattle.nm_epoch.specs.Resting.{IsSamePass}
+use Rattle.nm_steps.specs.Steps.{IsSamePass}
 use Rattle.nm_epoch.specs.Scans.{IsSightOf, epoch_in}
 use Rattle.nm_epoch.specs.Collecting.{queued, IsQueueOf, Waits, AreApart, AreHeld}
 

@@ -3,7 +3,8 @@ ghost use Rattle.std.specs.Prelude.{◌≡◌, ◌≢◌, ◌+◌, ◌*◌, ◌�
 ghost use Rattle.nm_core.specs.Ledgers.{held};
 ghost use Rattle.nm_steps.specs.Rules.{knowledge};
 ghost use Rattle.nm_steps.specs.Steps.{IsOf};
-ghost use Rattle.nm_epoch.specs.Resting.{IsSamePass, Settles, epochs, search};
+ghost use Rattle.nm_epoch.specs.Resting.{Settles, epochs, search};
+ghost use Rattle.nm_steps.specs.Steps.{IsSamePass};
 ghost use Rattle.nm_epoch.specs.Collecting.{IsQueueOf, AreApart, AreHeld, NoneHas, HaveLost, ripe_front, ripe_part, ripe_of, rest_of, freeing, IsCollection};
 
 use crate::looking::read;
