@@ -1,12 +1,13 @@
 -- How an advance ends.
-use Rattle.std.proofs.Common.{◌≡◌, ◌<◌, ℕ, false, List, refl, sym, ap, subst, ◌∙◌}
+use Rattle.std.proofs.Common.{◌≡◌, ◌+◌, ◌<◌, ℕ, false, List, refl, sym, ap, subst, ◌∙◌}
 use Rattle.std.specs.Prelude.{Option, Some, Result, Ok, Err}
 use Rattle.std.proofs.lemmas.Bool.{eqb-false}
+use Rattle.std.proofs.lemmas.Option.{same_Some}
 use Rattle.nm_core.specs.declared.event.Event.TheVariants as event
 use Rattle.nm_core.specs.declared.knowledge.Brief.{Brief}
 use Rattle.nm_core.specs.Searches.{searched}
 use Rattle.nm_core.specs.Walks.{Entry}
-use Rattle.nm_steps.specs.Steps.{Stand, Stepped, advance_reply, noted}
+use Rattle.nm_steps.specs.Steps.{Stand, Stepped, IsAdvanceFrom, advance_reply, noted}
 use Rattle.nm_epoch.specs.declared.answers.Advance.TheVariants.{Moved, Held, Lost}
 use Rattle.nm_epoch.specs.Resting.{Settles, epochs}
 use Rattle.nm_steps.specs.Steps.{IsSamePass}
@@ -41,11 +42,16 @@ module _ (p q : Stand) (r : Result ℕ ℕ) (step : Stepped p q event.Advance (a
   all_scanned : (me e m n : ℕ) (old : List Entry) → n ≡ m → IsLooking me e n old p → SightThenScans me (epochs q).pin e m old p.view.log
   all_scanned me e m n old all h = subst (λ (o : Option ℕ). SightThenScans me o e m old p.view.log) (sym pin_stays) (subst (λ (k : ℕ). SightThenScans me (epochs p).pin e k old p.view.log) all h.part)
 
-pub is_moved : (p q : Stand) (next me e m n : ℕ) (old : List Entry) → Stepped p q event.Advance (advance_reply (Ok next)) → n ≡ m → IsLooking me e n old p → IsAdvance m me (epochs q).pin old q.view.log (Moved next)
-is_moved p q next me e m n old step all h = (e, p.view.log, all_scanned p q (Ok next) step me e m n old all h, ap (λ (x : Stand). x.view.log) step)
+same_epoch : (o : Option ℕ) (s e : ℕ) → o ≡ Some s → o ≡ Some e → s ≡ e
+same_epoch o s e is seen = same_Some s e (sym is ∙ seen)
 
-pub is_lost : (p q : Stand) (found me e m n : ℕ) (old : List Entry) → Stepped p q event.Advance (advance_reply (Err found)) → n ≡ m → IsLooking me e n old p → IsAdvance m me (epochs q).pin old q.view.log (Lost found)
-is_lost p q found me e m n old step all h = (e, p.view.log, all_scanned p q (Err found) step me e m n old all h, ap (λ (x : Stand). x.view.log) step)
+pub is_moved : (p q : Stand) (next me e m n : ℕ) (old : List Entry) → Stepped p q event.Advance (advance_reply (Ok next)) → IsAdvanceFrom (epochs p).seen (Ok next) → n ≡ m → IsLooking me e n old p → IsAdvance m me (epochs q).pin old q.view.log (Moved next)
+is_moved p q next me e m n old step from all h =
+    (e, p.view.log, all_scanned p q (Ok next) step me e m n old all h, from.2 ∙ ap (λ (s : ℕ). s + 1) (same_epoch (epochs p).seen from.0 e from.1 h.seen), ap (λ (x : Stand). x.view.log) step)
+
+pub is_lost : (p q : Stand) (found me e m n : ℕ) (old : List Entry) → Stepped p q event.Advance (advance_reply (Err found)) → IsAdvanceFrom (epochs p).seen (Err found) → n ≡ m → IsLooking me e n old p → IsAdvance m me (epochs q).pin old q.view.log (Lost found)
+is_lost p q found me e m n old step from all h =
+    (e, p.view.log, all_scanned p q (Err found) step me e m n old all h, (λ is. from.2 (is ∙ sym (same_epoch (epochs p).seen from.0 e from.1 h.seen))), ap (λ (x : Stand). x.view.log) step)
 
 -- ---- held back
 

@@ -3,8 +3,6 @@ use Rattle.std.proofs.Common.{◌≡◌, ◌≢◌, ℕ, zero, suc, ◌+◌, ◌
 use Rattle.std.specs.Prelude.{Option, Some, None, is_none, option_map, slice_get, nat_lt}
 use Rattle.std.proofs.lemmas.Bool.{cond-true, cond-false, eq-eqb, eqb-true, le-ltb}
 use Rattle.std.proofs.lemmas.Option.{none-some, same_Some}
-use mathlib.Core.Logic.{dite}
-use native.Mathlib.Decide.{ℕ_discrete}
 use Rattle.nm_core.specs.declared.event.Event.TheVariants.{Give}
 use Rattle.nm_core.specs.declared.ledger.Ledger.{Ledger}
 use Rattle.nm_core.specs.declared.ledger.Queued.{Queued}
@@ -22,7 +20,8 @@ use Rattle.nm_steps.specs.Steps.{Stand, MayStep, Stepped, give_reply}
 use Rattle.nm_steps.proofs.Presence.{known_push}
 use Rattle.nm_epoch.specs.declared.collecting.Entry.{Entry}
 use Rattle.nm_epoch.specs.Resting.{epochs, search}
-use Rattle.nm_epoch.specs.Collecting.{queued, IsQueueOf, Waits, AreApart}
+use Rattle.nm_epoch.specs.Collecting.{queued, IsQueueOf}
+use Rattle.nm_order.specs.Hands.{WaitsAt, AreApart}
 use Rattle.nm_epoch.proofs.Allowed.{passes, passes_then, neither}
 use Rattle.nm_epoch.proofs.Entries.{epochs_after, search_is}
 
@@ -53,15 +52,12 @@ shown_queue : (h : Option Ledger) (q : List Queued) → queue_in h ≡ Some q �
 shown_queue None q is = absurd (none-some q is)
 shown_queue (Some l) q is = same_Some l.queue q is
 
-slice_later : (q : List Queued) (e : Queued) (i : ℕ) → slice_get (e ∷ q) (suc i) ≡ slice_get q i
-slice_later q e i = refl
-
 inside : (low n s : ℕ) → low ≤ s → s ≤ n → outside low n s ≡ false
 inside low n s least most = neither (nat_lt s low) (nat_lt n s) (le-ltb s low least) (le-ltb n s most)
 
 -- ---- the front of a held queue
 
-module _ (p : Stand) (o : ℕ) (x : Entry) (es : List Entry) (has : IsQueueOf (knowledge p.view) o (x ∷ es)) (apart : AreApart p.view.layout.nodes (knowledge p.view)) where
+module _ (p : Stand) (o : ℕ) (x : Entry) (es : List Entry) (has : IsQueueOf (knowledge p.view) o (x ∷ es)) (apart : AreApart p.view.layout (knowledge p.view)) where
   abbrev k : Knowledge
   k = knowledge p.view
 
@@ -74,11 +70,11 @@ module _ (p : Stand) (o : ℕ) (x : Entry) (es : List Entry) (has : IsQueueOf (k
   at_front : front_at (queue_of (held k.ledgers o)) s ≡ Some (queued x)
   at_front = ap (λ (q : List Queued). front_at q s) queue_is ∙ cond-true (s == s) (Some (queued x)) None (eq-eqb s s refl)
 
-  waits : Waits k o (queued x)
-  waits = (0, ap (λ (q : List Queued). slice_get q 0) queue_is)
+  waits : WaitsAt k o 0 (queued x)
+  waits = ap (λ (q : List Queued). slice_get q 0) queue_is
 
   alone : (j : ℕ) (f : Queued) → front_at (queue_of (held k.ledgers j)) s ≡ Some f → j ≡ o
-  alone j f at = let w = front_waits (queue_of (held k.ledgers j)) s f at in apart.once j o f (queued x) (0, w.0) waits w.1
+  alone j f at = let w = front_waits (queue_of (held k.ledgers j)) s f at in (apart.once j o 0 0 f (queued x) w.0 waits w.1).0
 
   found : front_of k.ledgers s ≡ Some (queued x)
   found = front_found k.ledgers o s (queued x) at_front alone
@@ -91,8 +87,8 @@ module _ (p : Stand) (o : ℕ) (x : Entry) (es : List Entry) (has : IsQueueOf (k
   unfolding refusal
   may_free epoch seen ripe = record {
     looked = tt;
-    allowed = λ m h. passes_then (outside 6 p.view.layout.nodes s) NoSlot _ (inside 6 p.view.layout.nodes s (apart.least o (queued x) waits) (apart.most o (queued x) waits))
-        (ap (λ (b : Bool). first (cond b [] (free_checks k s))) (apart.shared o (queued x) waits)
+    allowed = λ m h. passes_then (outside 6 p.view.layout.nodes s) NoSlot _ (let range = apart.waiting o 0 (queued x) waits in inside 6 p.view.layout.nodes s range.0 range.1)
+        (ap (λ (b : Bool). first (cond b [] (free_checks k s))) (apart.shared o 0 (queued x) waits)
         ∙ passes_then (is_none (entry_of k.ledgers s)) NotPrivate _ (ap (λ (y : Option Queued). is_none y) entry)
         (passes_then (is_none k.brief.seen || has_no_label (entry_of k.ledgers s)) NotReady _ (neither (is_none k.brief.seen) (has_no_label (entry_of k.ledgers s)) (ap (λ (y : Option ℕ). is_none y) seen) (ap has_no_label entry))
         (passes_then (is_none (front_of k.ledgers s)) NotFront _ (ap (λ (y : Option Queued). is_none y) found)
@@ -105,7 +101,7 @@ module _ (p : Stand) (o : ℕ) (x : Entry) (es : List Entry) (has : IsQueueOf (k
 
   pub freed_reply : give_reply p.view s ≡ Freed x.node
   freed_reply =
-      cond-false (is_private k s) (Returned s) (Freed (node_of (front_of k.ledgers s))) (apart.shared o (queued x) waits)
+      cond-false (is_private k s) (Returned s) (Freed (node_of (front_of k.ledgers s))) (apart.shared o 0 (queued x) waits)
       ∙ ap (λ (y : Option Queued). Freed (node_of y)) found
 
   -- ---- after the step
@@ -121,7 +117,7 @@ module _ (p : Stand) (o : ℕ) (x : Entry) (es : List Entry) (has : IsQueueOf (k
     f = front k.ledgers s (queued x) x.node refl found
 
     origin_is : f.origin ≡ o
-    origin_is = apart.once f.origin o (queued x) (queued x) (0, ap (λ (y : Option Ledger). slice_get (queue_of y) 0) f.is_held ∙ ap (λ (r : List Queued). slice_get r 0) f.queue) waits refl
+    origin_is = (apart.once f.origin o 0 0 (queued x) (queued x) (ap (λ (y : Option Ledger). slice_get (queue_of y) 0) f.is_held ∙ ap (λ (r : List Queued). slice_get r 0) f.queue) waits refl).0
 
     held_before : held k.ledgers o ≡ Some f.ledger
     held_before = subst (λ (j : ℕ). held k.ledgers j ≡ Some f.ledger) origin_is f.is_held
@@ -137,25 +133,6 @@ module _ (p : Stand) (o : ℕ) (x : Entry) (es : List Entry) (has : IsQueueOf (k
 
     pub others_after : (j : ℕ) → j ≢ o → held (knowledge q.view).ledgers j ≡ held k.ledgers j
     others_after j ne = ap (λ (ls : List (Option Ledger)). held ls j) ledgers_are ∙ f.others j (λ e. ne (e ∙ origin_is))
-
-    -- what waits has waited before
-    waited_here : (e : Queued) → Waits (knowledge q.view) o e → Waits k o e
-    waited_here e w =
-        let now : queue_of (held (knowledge q.view).ledgers o) ≡ map queued es = ap (λ (y : Option Ledger). queue_of y) held_after ∙ ap (λ (r : List Queued). drop 1 r) ledger_queue in
-        (suc w.0, ap (λ (r : List Queued). slice_get r (suc w.0)) queue_is ∙ (slice_later (map queued es) (queued x) w.0 ∙ (sym (ap (λ (r : List Queued). slice_get r w.0) now) ∙ w.1)))
-
-    waited : (j : ℕ) (e : Queued) → Waits (knowledge q.view) j e → Waits k j e
-    waited j e w = dite (ℕ_discrete j o)
-        (λ (here : j ≡ o). subst (λ (i : ℕ). Waits k i e) (sym here) (waited_here e (subst (λ (i : ℕ). Waits (knowledge q.view) i e) here w)))
-        (λ (ne : j ≢ o). (w.0, sym (ap (λ (y : Option Ledger). slice_get (queue_of y) w.0) (others_after j ne)) ∙ w.1))
-
-    pub apart_after : AreApart q.view.layout.nodes (knowledge q.view)
-    apart_after = record {
-      least = λ j e w. apart.least j e (waited j e w);
-      most = λ j e w. subst (λ (n : ℕ). e.node.slot ≤ n) (sym (ap (λ (y : Stand). y.view.layout.nodes) step)) (apart.most j e (waited j e w));
-      shared = λ j e w. ap (λ (y : Knowledge). is_private y e.node.slot) learned ∙ apart.shared j e (waited j e w);
-      once = λ i j e g a b. apart.once i j e g (waited i e a) (waited j g b);
-    }
 
     pub epochs_stay : epochs q ≡ epochs p
     epochs_stay = epochs_after p q (Give s) (Freed x.node) step

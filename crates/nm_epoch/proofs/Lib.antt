@@ -11,3 +11,5 @@ pub mod Fronts
 pub mod OneQueue
 pub mod SeveralQueues
 pub mod Sighted
+pub mod FewQueues
+pub mod Newest

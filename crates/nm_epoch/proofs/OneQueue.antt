@@ -18,14 +18,15 @@ use Rattle.nm_steps.specs.Steps.{Stand, MayStep, Stepped, give_reply}
 use Rattle.nm_epoch.specs.declared.collecting.Entry.{Entry}
 use Rattle.nm_epoch.specs.Resting.{Settles, epochs, search}
 use Rattle.nm_steps.specs.Steps.{IsSamePass}
-use Rattle.nm_epoch.specs.Collecting.{IsQueueOf, AreApart, is_ripe, ripe_front, ripe_part, rest_of, freeing}
-use Rattle.nm_epoch.proofs.Fronts.{may_free, freed_reply, queue_after, others_after, apart_after, epochs_stay, search_stays}
+use Rattle.nm_order.specs.Hands.{AreApart}
+use Rattle.nm_epoch.specs.Collecting.{IsQueueOf, is_ripe, ripe_front, ripe_part, rest_of, freeing}
+use Rattle.nm_epoch.proofs.Fronts.{may_free, freed_reply, queue_after, others_after, epochs_stay, search_stays}
 
 -- what was freed and what is ripe still is what was ripe at first
 pub record IsCollecting (epoch origin : ℕ) (start : Stand) (all : List Entry) (p : Stand) (now : List Entry) : Type 0 where
   pub same : IsSamePass start p
   pub queue : IsQueueOf (knowledge p.view) origin now
-  pub apart : AreApart p.view.layout.nodes (knowledge p.view)
+  pub apart : AreApart p.view.layout (knowledge p.view)
   pub others : (o : ℕ) → o ≢ origin → held (knowledge p.view).ledgers o ≡ held (knowledge start.view).ledgers o
   pub epochs_are : epochs p ≡ epochs start
   pub search_is : search p ≡ search start
@@ -33,7 +34,7 @@ pub record IsCollecting (epoch origin : ℕ) (start : Stand) (all : List Entry) 
   pub left : rest_of epoch now ≡ rest_of epoch all
   pub count : length now + length (ripe_part epoch all) ≡ length all + length (ripe_part epoch now)
 
-pub collecting_from : (epoch origin : ℕ) (p : Stand) (all : List Entry) → IsQueueOf (knowledge p.view) origin all → AreApart p.view.layout.nodes (knowledge p.view) → IsCollecting epoch origin p all p all
+pub collecting_from : (epoch origin : ℕ) (p : Stand) (all : List Entry) → IsQueueOf (knowledge p.view) origin all → AreApart p.view.layout (knowledge p.view) → IsCollecting epoch origin p all p all
 collecting_from epoch origin p all queue apart = record {
   same = refl;
   queue = queue;
@@ -76,8 +77,9 @@ may_collect epoch origin start p all (x ∷ es) n c seen ripe =
     let r = ripe_node (is_ripe epoch x) x.node n ripe in
     subst (λ (m : NodeId). MayStep p (Give m.slot)) r.1 (may_free p origin x es c.queue c.apart epoch (ap (λ (b : Brief). b.seen) c.epochs_are ∙ seen) (leb-true (x.label + 2) epoch r.0))
 
-collecting_more : (epoch origin : ℕ) (start p q : Stand) (all es : List Entry) (x : Entry) → IsCollecting epoch origin start all p (x ∷ es) → is_ripe epoch x ≡ true → Stepped p q (Give x.node.slot) (Freed x.node) → IsCollecting epoch origin start all q es
-collecting_more epoch origin start p q all es x c ripe step =
+collecting_more : (epoch origin : ℕ) (start p q : Stand) (all es : List Entry) (x : Entry) → IsCollecting epoch origin start all p (x ∷ es) → is_ripe epoch x ≡ true → Stepped p q (Give x.node.slot) (Freed x.node)
+    → AreApart q.view.layout (knowledge q.view) → IsCollecting epoch origin start all q es
+collecting_more epoch origin start p q all es x c ripe step apart =
     let log_is : q.view.log ≡ p.view.log ++ freeing x ∷ [] = ap (λ (y : Stand). y.view.log) step in
     let more : ripe_part epoch (x ∷ es) ≡ x ∷ ripe_part epoch es = ripe_more epoch x es ripe in
     let longer : length (ripe_part epoch (x ∷ es)) ≡ suc (length (ripe_part epoch es)) = ap (λ (r : List Entry). length r) more in
@@ -85,7 +87,7 @@ collecting_more epoch origin start p q all es x c ripe step =
     record {
       same = step ∙ (ap (λ (y : Stand). record y { view = record y.view { log = p.view.log ++ freeing x ∷ [] } }) c.same ∙ ap (λ (log : List LogEntry). record start { view = record start.view { log = log } }) (sym log_is));
       queue = queue_after p origin x es c.queue c.apart q step;
-      apart = apart_after p origin x es c.queue c.apart q step;
+      apart = apart;
       others = λ o ne. others_after p origin x es c.queue c.apart q step o ne ∙ c.others o ne;
       epochs_are = epochs_stay p origin x es c.queue c.apart q step ∙ c.epochs_are;
       search_is = search_stays p origin x es c.queue c.apart q step ∙ c.search_is;
@@ -97,13 +99,13 @@ collecting_more epoch origin start p q all es x c ripe step =
     }
 
 pub collecting_on : (epoch origin : ℕ) (start p q : Stand) (all now later : List Entry) (y : Entry) (n : NodeId) → IsCollecting epoch origin start all p now → ripe_front epoch now ≡ Some n → Stepped p q (Give n.slot) (give_reply p.view n.slot)
-    → now ≡ y ∷ later → IsCollecting epoch origin start all q later
-collecting_on epoch origin start p q all [] later y n c ripe step is = absurd (none-some n ripe)
-collecting_on epoch origin start p q all (x ∷ es) later y n c ripe step is =
+    → now ≡ y ∷ later → AreApart q.view.layout (knowledge q.view) → IsCollecting epoch origin start all q later
+collecting_on epoch origin start p q all [] later y n c ripe step is apart = absurd (none-some n ripe)
+collecting_on epoch origin start p q all (x ∷ es) later y n c ripe step is apart =
     let r = ripe_node (is_ripe epoch x) x.node n ripe in
     let here : Stepped p q (Give x.node.slot) (give_reply p.view x.node.slot) = subst (λ (m : NodeId). Stepped p q (Give m.slot) (give_reply p.view m.slot)) (sym r.1) step in
     subst (λ (l : List Entry). IsCollecting epoch origin start all q l) (ap (λ (l : List Entry). drop 1 l) is)
-    (collecting_more epoch origin start p q all es x c r.0 (subst (λ reply. Stepped p q (Give x.node.slot) reply) (freed_reply p origin x es c.queue c.apart) here))
+    (collecting_more epoch origin start p q all es x c r.0 (subst (λ reply. Stepped p q (Give x.node.slot) reply) (freed_reply p origin x es c.queue c.apart) here) apart)
 
 -- what is popped is the front
 pub popped_front : (epoch : ℕ) (before after : BlockQueue Entry) (o : Option Entry) (n : NodeId) → MatchOption o ((before.items ≡ []) × (after ≡ before)) (IsPopped before after) → ripe_front epoch before.items ≡ Some n

@@ -1,13 +1,13 @@
 -- The nodes that wait, and what collecting frees of them.
-use Rattle.std.specs.Prelude.{◌≡◌, ◌≢◌, ℕ, ◌+◌, ◌≤◌, nat_le, Bool, false, List, [], ◌∷◌, ◌++◌, map, drop, slice_get, Option, Some, None, option_map, if◌then◌else◌}
+use Rattle.std.specs.Prelude.{◌≡◌, ◌≢◌, ℕ, ◌+◌, nat_le, Bool, List, [], ◌∷◌, ◌++◌, map, drop, Option, Some, None, option_map, if◌then◌else◌}
 use Rattle.std.specs.List.{take_while, prefix_len}
 use Rattle.nm_edge.specs.declared.node.NodeId.{NodeId}
 use Rattle.nm_core.specs.declared.event.Event.TheVariants.{Give}
 use Rattle.nm_core.specs.declared.ledger.Ledger.{Ledger}
 use Rattle.nm_core.specs.declared.ledger.Queued.{Queued}
 use Rattle.nm_core.specs.declared.reply.Reply.TheVariants.{Freed}
-use Rattle.nm_core.specs.Knowledge.{Knowledge, is_private}
-use Rattle.nm_core.specs.Ledgers.{held, queue_of}
+use Rattle.nm_core.specs.Knowledge.{Knowledge}
+use Rattle.nm_core.specs.Ledgers.{held}
 use Rattle.nm_core.specs.Walks.{Entry as LogEntry}
 use Rattle.nm_epoch.specs.Scans.{IsSightOf}
 use Rattle.nm_epoch.specs.declared.collecting.Entry.{Entry}
@@ -20,17 +20,6 @@ queued e = record { node = e.node; label = Some e.label }
 -- the worker holds the ledger of that origin, and these are the entries of its queue, all with labels
 abbrev pub IsQueueOf : Knowledge → ℕ → List Entry → Type 0
 IsQueueOf k origin es = option_map (λ (l : Ledger). l.queue) (held k.ledgers origin) ≡ Some (map queued es)
-
--- the entry waits in the held queue of that origin
-abbrev pub Waits : Knowledge → ℕ → Queued → Type 0
-Waits k origin e = (i : ℕ) × (slice_get (queue_of (held k.ledgers origin)) i ≡ Some e)
-
--- each slot that waits is one of the pool's, is not private to the worker, and waits in no second queue
-pub record AreApart (nodes : ℕ) (k : Knowledge) : Type 0 where
-  pub least : (o : ℕ) (e : Queued) → Waits k o e → 6 ≤ e.node.slot
-  pub most : (o : ℕ) (e : Queued) → Waits k o e → e.node.slot ≤ nodes
-  pub shared : (o : ℕ) (e : Queued) → Waits k o e → is_private k e.node.slot ≡ false
-  pub once : (o p : ℕ) (e f : Queued) → Waits k o e → Waits k p f → e.node.slot ≡ f.node.slot → o ≡ p
 
 -- its label is at least two below the epoch
 abbrev pub is_ripe : ℕ → Entry → Bool

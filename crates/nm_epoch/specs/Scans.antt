@@ -1,5 +1,5 @@
 -- What a look at all workers' announcements leaves in the log, oldest entry first.
-use Rattle.std.specs.Prelude.{◌≡◌, ◌≢◌, ◌⊎◌, ◌<◌, ◌==◌, ℕ, zero, suc, Bool, true, false, slice_index_or, List, [], ◌∷◌, ◌++◌, Option, Some, None}
+use Rattle.std.specs.Prelude.{◌≡◌, ◌≢◌, ◌+◌, ◌⊎◌, ◌<◌, ◌==◌, ℕ, zero, suc, Bool, true, false, slice_index_or, List, [], ◌∷◌, ◌++◌, Option, Some, None}
 use Rattle.nm_core.specs.declared.event.Event.TheVariants as event
 use Rattle.nm_core.specs.declared.reply.Reply.{Reply}
 use Rattle.nm_core.specs.declared.reply.Reply.TheVariants as reply
@@ -42,8 +42,8 @@ SightThenScans me pin e n old new = (mid : List Entry) × IsSightOf e old mid ×
 
 -- what an advance of worker me, with that pin, among m workers leaves in its log, by its answer
 abbrev pub IsAdvance : ℕ → ℕ → Option ℕ → List Entry → List Entry → Advance → Type 0
-IsAdvance m me pin old new (Moved next) = (e : ℕ) × (mid : List Entry) × SightThenScans me pin e m old mid × (new ≡ mid ++ (event.Advance, reply.Moved next) ∷ [])
-IsAdvance m me pin old new (Lost found) = (e : ℕ) × (mid : List Entry) × SightThenScans me pin e m old mid × (new ≡ mid ++ (event.Advance, reply.Behind found) ∷ [])
+IsAdvance m me pin old new (Moved next) = (e : ℕ) × (mid : List Entry) × SightThenScans me pin e m old mid × (next ≡ e + 1) × (new ≡ mid ++ (event.Advance, reply.Moved next) ∷ [])
+IsAdvance m me pin old new (Lost found) = (e : ℕ) × (mid : List Entry) × SightThenScans me pin e m old mid × (found ≢ e) × (new ≡ mid ++ (event.Advance, reply.Behind found) ∷ [])
 IsAdvance m me pin old new (Held w at) = (e : ℕ) × (mid : List Entry) × SightThenScans me pin e w old mid × (w < m) × (at ≢ e) × LooksAt me pin w (Some at) mid new
 IsAdvance m me pin old new Spent = SightThenScans me pin last_number m old new
 

@@ -1,11 +1,14 @@
 //! Nodes that have waited long enough, back to the pool.
 ghost use Rattle.std.specs.Prelude.{◌≡◌, ◌≢◌, ◌+◌, ◌*◌, ◌≤◌, ◌++◌, nat_le, ℕ, length, map, Some};
+ghost use Rattle.nm_core.specs.declared.event.Event.TheVariants.{Give};
 ghost use Rattle.nm_core.specs.Ledgers.{held};
+ghost use Rattle.nm_order.specs.Hands.{AreApart};
+ghost use Rattle.nm_order.specs.Reads.{HasRead};
 ghost use Rattle.nm_steps.specs.Rules.{knowledge};
-ghost use Rattle.nm_steps.specs.Steps.{IsOf};
+ghost use Rattle.nm_steps.specs.Steps.{IsOf, MayStep, Stepped, give_reply};
 ghost use Rattle.nm_epoch.specs.Resting.{Settles, epochs, search};
 ghost use Rattle.nm_steps.specs.Steps.{IsSamePass};
-ghost use Rattle.nm_epoch.specs.Collecting.{IsQueueOf, AreApart, AreHeld, NoneHas, HaveLost, ripe_front, ripe_part, ripe_of, rest_of, freeing, IsCollection};
+ghost use Rattle.nm_epoch.specs.Collecting.{IsQueueOf, AreHeld, NoneHas, HaveLost, ripe_front, ripe_part, ripe_of, rest_of, freeing, IsCollection};
 
 use crate::looking::read;
 use nm_edge::NodeId;
@@ -50,51 +53,56 @@ fn next_ripe(queue: &BlockQueue<Entry>, epoch: u64) -> Option<NodeId>
     }
 }
 
-/// Frees what is ripe at the front of one held queue, given the epoch that the worker read last: the longest front of entries
-/// whose labels are at least two below it. Each is given back to the pool by one step, in order, and leaves the queue. Answers
-/// how many.
-///
-/// Two epochs after the label no worker is pinned that could still come to the node (Fraser, Practical lock-freedom, 2004,
-/// chapter 5).
-pub fn collect_front(shared: &Shared, pass: &mut Pass, queue: &mut HeldQueue, epoch: u64) -> u32
+/// Frees what waits in a slot: one step.
+fn free(shared: &Shared, pass: &mut Pass, slot: u32)
+    requires own { IsOf shared.now pass.old }
+    requires may { MayStep pass.old (Give slot) }
+    ensures step { Stepped pass.old pass.new (Give slot) (give_reply pass.old.view slot) }
+    ensures apart { AreApart pass.new.view.layout (knowledge pass.new.view) }
+{
+    shared.give(pass, slot);
+    pass.is_of_a_run();
+}
+
+/// Frees what is ripe at the front of one held queue, given the epoch that the worker read last, by one step each: how many.
+fn collect_front(shared: &Shared, pass: &mut Pass, queue: &mut HeldQueue, epoch: u64) -> u32
     requires own { IsOf shared.now pass.old }
     requires seen { (epochs pass.old).seen ≡ Some epoch }
     requires queue { IsQueueOf (knowledge pass.old.view) queue.old.origin queue.old.queue.items }
-    requires apart { AreApart pass.old.view.layout.nodes (knowledge pass.old.view) }
+    requires apart { AreApart pass.old.view.layout (knowledge pass.old.view) }
     ensures same { IsSamePass pass.old pass.new }
     ensures entries { pass.new.view.log ≡ pass.old.view.log ++ map freeing (ripe_part epoch queue.old.queue.items) }
     ensures freed { result ≡ length (ripe_part epoch queue.old.queue.items) }
     ensures left { queue.new.queue.items ≡ rest_of epoch queue.old.queue.items }
     ensures origin { queue.new.origin ≡ queue.old.origin }
     ensures queue { IsQueueOf (knowledge pass.new.view) queue.new.origin queue.new.queue.items }
-    ensures apart { AreApart pass.new.view.layout.nodes (knowledge pass.new.view) }
+    ensures apart { AreApart pass.new.view.layout (knowledge pass.new.view) }
     ensures others { (o : ℕ) → o ≢ queue.old.origin → held (knowledge pass.new.view).ledgers o ≡ held (knowledge pass.old.view).ledgers o }
     ensures epochs { epochs pass.new ≡ epochs pass.old }
     ensures search { search pass.new ≡ search pass.old }
 {
     let waiting = queue.queue.len();
     while let Some(node) = next_ripe(&queue.queue, epoch) {
-        shared.give(pass, node.slot);
+        free(shared, pass, node.slot);
         let _ = queue.queue.pop();
     }
     waiting - queue.queue.len()
 }
 
-/// Frees what is ripe at the front of each of these held queues, one after the other, given the epoch that the worker read last.
-/// Answers how many nodes it freed, by one step each.
-pub fn collect_fronts(shared: &Shared, pass: &mut Pass, queues: &mut [HeldQueue], epoch: u64) -> u64
+/// Frees what is ripe at the front of each of these held queues, one after the other: how many.
+fn collect_fronts(shared: &Shared, pass: &mut Pass, queues: &mut [HeldQueue], epoch: u64) -> u64
     requires own { IsOf shared.now pass.old }
     requires seen { (epochs pass.old).seen ≡ Some epoch }
     requires queues { AreHeld (knowledge pass.old.view) queues.old }
     requires few { length queues.old ≤ 64 }
-    requires apart { AreApart pass.old.view.layout.nodes (knowledge pass.old.view) }
+    requires apart { AreApart pass.old.view.layout (knowledge pass.old.view) }
     ensures same { IsSamePass pass.old pass.new }
     ensures entries { pass.new.view.log ≡ pass.old.view.log ++ map freeing (ripe_of epoch queues.old) }
     ensures freed { result ≡ length (ripe_of epoch queues.old) }
     ensures most { result ≤ 4294967295 * length queues.old }
     ensures lost { HaveLost epoch queues.old queues.new }
     ensures queues { AreHeld (knowledge pass.new.view) queues.new }
-    ensures apart { AreApart pass.new.view.layout.nodes (knowledge pass.new.view) }
+    ensures apart { AreApart pass.new.view.layout (knowledge pass.new.view) }
     ensures others { (o : ℕ) → NoneHas o queues.old → held (knowledge pass.new.view).ledgers o ≡ held (knowledge pass.old.view).ledgers o }
     ensures epochs { epochs pass.new ≡ epochs pass.old }
     ensures search { search pass.new ≡ search pass.old }
@@ -115,23 +123,29 @@ pub struct Collected {
     pub freed: u64,
 }
 
-/// Reads the epoch, and frees what is ripe at the front of each of these held queues, in their order: one step to read the epoch,
-/// and one a node. Where a cut waits for its label, the first step labels it.
+/// Reads the epoch, and frees what is ripe at the front of each of these held queues, in their order: of each exactly the longest
+/// front of entries whose labels are at least two below the epoch. Each node goes back to the pool by one step, and leaves its queue.
+/// One step to read the epoch, and one a node.
+///
+/// The queues are ones of ledgers that the worker holds, by ascending origin if a caller wants them collected so, with all that waits
+/// in them. The epoch is not below any that the worker had read. Where a cut waits for its label, the first step labels it.
+///
+/// Two epochs after the label no worker is pinned that could still come to the node (Fraser, Practical lock-freedom, 2004,
+/// chapter 5).
 pub fn collect(shared: &Shared, pass: &mut Pass, queues: &mut [HeldQueue]) -> Collected
     requires own { IsOf shared.now pass.old }
     requires queues { AreHeld (knowledge pass.old.view) queues.old }
-    requires few { length queues.old ≤ 64 }
-    requires apart { AreApart pass.old.view.layout.nodes (knowledge pass.old.view) }
     ensures same { IsSamePass pass.old pass.new }
     ensures part { IsCollection result.epoch queues.old pass.old.view.log pass.new.view.log }
     ensures freed { result.freed ≡ length (ripe_of result.epoch queues.old) }
     ensures lost { HaveLost result.epoch queues.old queues.new }
     ensures queues { AreHeld (knowledge pass.new.view) queues.new }
-    ensures apart { AreApart pass.new.view.layout.nodes (knowledge pass.new.view) }
+    ensures newest { (epoch : ℕ) → HasRead pass.old.view.log epoch → epoch ≤ result.epoch }
     ensures seen { (epochs pass.new).seen ≡ Some result.epoch }
     ensures settles { Settles pass.old pass.new }
 {
     let epoch = read(shared, pass);
+    pass.is_of_a_run();
     let freed = collect_fronts(shared, pass, queues, epoch);
     Collected { epoch, freed }
 }

@@ -15,7 +15,7 @@ mod tests;
 mod watching;
 
 pub use answers::{Advance, Behind, Moved};
-pub use collecting::{Collected, Entry, HeldQueue, collect, collect_front, collect_fronts};
+pub use collecting::{Collected, Entry, HeldQueue, collect};
 pub use leaving::{label, unpin, unpin_with};
 pub use moving::advance;
 pub use pinning::{pin, pin_for};

@@ -181,3 +181,10 @@ last_entry L enough w log e l = go (last_turn w l.turns l.keys (ordered L) log e
       takes = part_or w t.turn.0 t.turn.1 t.takes;
       replied = refl;
     })
+
+-- and without its last entry a part is a part
+pub log_before : (L : Layout) (w : ℕ) (log : List Entry) (e : Entry) → IsLogOf L w (log ++ e ∷ []) → IsLogOf L w log
+log_before L w log e l = go (last_turn w l.turns l.keys (ordered L) log e l.is_part)
+  where
+    go : LastTurn w (ordered L) l.turns log e → IsLogOf L w log
+    go t = record { worker = l.worker; turns = t.before; keys = t.keys; is_part = t.is_before }

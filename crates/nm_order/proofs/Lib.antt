@@ -43,3 +43,6 @@ pub mod FlaggedLeaves
 pub mod LaterFlags
 pub mod LaterFlagLaws
 pub mod FrozenChains
+pub mod LogInduction
+pub mod HeldSlots
+pub mod ReadEpochs

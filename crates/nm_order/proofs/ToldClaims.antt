@@ -50,7 +50,7 @@ record NotHeld (s : State) (w x : ℕ) : Type 0 where
 
 module _ (s : State) (h : ℕ → ℕ) (law : Lawful s h) (w x : ℕ) where
   -- an entry of a held queue is one of the origin's
-  queued_so : (origin i : ℕ) (e : Queued) → slice_get (queue_of (held (of s w).ledgers origin)) i ≡ Some e → e.node.slot ≡ x → (picture s h).queue origin i ≡ Some x
+  pub queued_so : (origin i : ℕ) (e : Queued) → slice_get (queue_of (held (of s w).ledgers origin)) i ≡ Some e → e.node.slot ≡ x → (picture s h).queue origin i ≡ Some x
   queued_so origin i e at slot = go (held (of s w).ledgers origin) refl
     where
       go : (l : Option Ledger) → held (of s w).ledgers origin ≡ l → (picture s h).queue origin i ≡ Some x

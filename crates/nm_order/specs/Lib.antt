@@ -6,3 +6,5 @@ pub mod Exchanges
 pub mod Logs
 pub mod Facts
 pub mod Told
+pub mod Hands
+pub mod Reads

@@ -3,19 +3,23 @@
 
 mod answers;
 mod facts;
+mod hands;
 mod logs;
 mod order;
 mod paths;
+mod reads;
 mod told;
 mod walks;
 
 pub use answers::{answers_tell_changes, deletes_have_flagged, inserts_are_links};
 pub use facts::{facts_are_true, facts_stay, later_walks_find_the_flag};
+pub use hands::hands_are_apart;
 pub use logs::logs_tell_what_is_known;
 pub use order::{
     flags_mark_leaves, keys_are_the_set, links_insert, trees_are_in_order, walks_stay_in_order,
 };
 pub use paths::walks_were_reached;
+pub use reads::epochs_are_read_in_order;
 pub use told::{
     answers_name_what_is_known, claims_are_new, edges_are_told, frozen_chains_may_be_cut,
     low_keys_stand_high,

@@ -61,8 +61,6 @@ pub fn give(shared: &Shared, pass: &mut Pass, node: NodeId)
     requires own { IsOf shared.now pass.old }
     requires private { is_private (knowledge pass.old.view) node.slot ≡ true }
     requires birth { (draft_of (knowledge pass.old.view) node.slot).birth ≡ Some node.birth }
-    requires low { 5 < node.slot }
-    requires high { node.slot ≤ shared.now.layout.nodes }
     ensures { Stepped pass.old pass.new (Give node.slot) (Returned node.slot) }
 {
     put(shared, pass, node.slot);

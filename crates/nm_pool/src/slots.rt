@@ -37,9 +37,8 @@ pub fn take(shared: &Shared, pass: &mut Pass, from: u32) -> Option<u32>
 pub fn put(shared: &Shared, pass: &mut Pass, slot: u32)
     requires own { IsOf shared.now pass.old }
     requires private { is_private (knowledge pass.old.view) slot ≡ true }
-    requires low { 5 < slot }
-    requires high { slot ≤ shared.now.layout.nodes }
     ensures { Stepped pass.old pass.new (Give slot) (Returned slot) }
 {
+    pass.holds_pooled_slots();
     shared.give(pass, slot);
 }

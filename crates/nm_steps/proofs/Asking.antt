@@ -13,7 +13,7 @@ use Rattle.nm_core.specs.declared.event.Event.TheVariants.{Sight, SightFor, Anno
 use Rattle.nm_core.specs.declared.event.Field.TheVariants.{Key, Edge as EdgeOn, Birth}
 use Rattle.nm_core.specs.declared.memory.Node.{Node}
 use Rattle.nm_core.specs.Memory.{Memory, edge, blank, opening}
-use Rattle.nm_core.specs.Knowledge.{Knowledge, draft_of}
+use Rattle.nm_core.specs.Knowledge.{Knowledge, draft_of, is_private}
 use Rattle.nm_core.specs.Step.{refusal, outside, is_edge, others_scanned, is_held_back, last_number}
 use Rattle.nm_core.specs.Runs.{State, of, start}
 use Rattle.nm_core.specs.Walks.{Entry}
@@ -21,7 +21,9 @@ use Rattle.nm_core.specs.Ordered.{ordered, after_in}
 use Rattle.nm_core.specs.Lawful.{EpochsAgree}
 use Rattle.nm_core.proofs.Steps.{passed}
 use Rattle.nm_core.proofs.EachState.{each_epoch_agrees}
+use Rattle.nm_order.specs.Hands.{IsPooled}
 use Rattle.nm_order.specs.Logs.{known_by, IsLogOf}
+use Rattle.nm_order.proofs.HeldSlots.{hands_are_apart}
 use Rattle.nm_order.proofs.PartsOfRuns.{logs_tell}
 use Rattle.nm_order.proofs.OrderedLaws.{IsOrdered, each_ordered}
 use Rattle.nm_words.specs.Packing.{Fits, InRange, StateFits, StateIsInRange, NullEdgesAreUnmarked, word_at, field_of, touched}
@@ -64,6 +66,10 @@ module _ (L : Layout) (w : ℕ) (log : List Entry) where
       let range : StateIsInRange (after_in (ordered L) l.turns).state = subst StateIsInRange (sym o.leads) (each_state_in_range L enough o.events) in
       let at : (of (after_in (ordered L) l.turns).state w).brief.seen ≡ Some e = ap (λ (x : Knowledge). x.brief.seen) (logs_tell L l.turns w l.worker ∙ ap (known_by L w) l.is_part) ∙ is in
       let below = agree.sights w e at in let top = range.epoch in omega (arith, below, top)
+
+  -- private slots are ones of the pool's range
+  pub private_pooled : IsLayout L → IsLogOf L w log → (x : ℕ) → is_private k x ≡ true → IsPooled L x
+  private_pooled fits l = (hands_are_apart L (let least = fits.least in omega arith) w log l).private
 
 -- ---- slots
 

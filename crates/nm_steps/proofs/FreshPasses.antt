@@ -1,10 +1,12 @@
 -- Passes that have done nothing yet.
-use Rattle.std.proofs.Common.{inr, ◌≡◌, ◌-◌, ◌<◌, ℕ, false, [], refl, sym, ap, ◌∙◌, subst, arith}
+use Rattle.std.proofs.Common.{inr, ◌≡◌, ◌-◌, ◌<◌, ℕ, true, false, true≢false, [], refl, sym, ap, ◌∙◌, subst, arith}
 use Rattle.std.specs.Prelude.{None}
 use Rattle.atomic_table.specs.declared.shared.Seat.{Seat}
 use Rattle.nm_edge.specs.Layouts.{Layout, IsLayout}
 use Rattle.nm_core.specs.declared.knowledge.Brief.{Brief}
+use Rattle.nm_core.specs.Knowledge.{is_private}
 use Rattle.nm_core.specs.Ordered.{trace_in}
+use Rattle.nm_order.specs.Hands.{IsPooled}
 use Rattle.nm_order.specs.Logs.{IsLogOf}
 use Rattle.nm_steps.specs.declared.view.View.{View}
 use Rattle.nm_steps.specs.Rules.{knowledge, numbers_from, viewing, everybody}
@@ -32,5 +34,6 @@ fresh_tied L it w fits below view empty = record {
   fits = subst (λ (v : View). IsLayout v.layout) (sym view) fits;
   worker = subst (λ (v : View). w < v.layout.workers) (sym view) below;
   small = tt;
+  private = subst (λ (v : View). (x : ℕ) → is_private (knowledge v) x ≡ true → IsPooled v.layout x) (sym view) (λ x h. absurd (true≢false (sym h)));
   log = inr (record { is_part = subst (λ (v : View). IsLogOf v.layout v.number v.log) (sym view) (empty_log L w below); here = ap (λ (v : View). (knowledge v).gone) view });
 }

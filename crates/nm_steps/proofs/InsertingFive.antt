@@ -11,7 +11,6 @@ use Rattle.nm_core.specs.declared.event.Field.TheVariants.{Key as KeyOf, Edge as
 use Rattle.nm_core.specs.declared.reply.Reply.{Reply}
 use Rattle.nm_core.specs.declared.reply.Reply.TheVariants.{Saw, Pinned, Announced, Departed, Claimed, KeyIs, BirthIs, EdgeIs, Filled, Linked}
 use Rattle.nm_core.specs.Walks.{Entry}
-use Rattle.nm_core.specs.Memory.{node}
 use Rattle.nm_core.specs.declared.reply.Refused.TheVariants.{NotReady, Spent}
 use Rattle.nm_core.specs.Knowledge.{draft_of}
 use Rattle.nm_core.specs.Learning.{learn}

@@ -13,3 +13,4 @@ pub mod Endings
 pub mod FoundBirths
 pub mod ClaimedSlots
 pub mod InsertingFive
+pub mod AfterSteps

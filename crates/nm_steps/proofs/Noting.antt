@@ -19,6 +19,7 @@ use Rattle.nm_core.specs.Learning.{learn, learn_sight, learn_scan, look_private,
 use Rattle.nm_core.specs.Step.{last_number, refusal}
 use Rattle.nm_core.specs.Walks.{Entry}
 use Rattle.nm_core.specs.Ordered.{ordered, after_in, trace_in}
+use Rattle.nm_order.specs.Hands.{IsPooled}
 use Rattle.nm_order.specs.Logs.{is_leaver, part_of, known_by, IsLogOf}
 use Rattle.nm_words.specs.Packing.{word_at, touched}
 use Rattle.nm_words.specs.Told.{told}
@@ -26,7 +27,7 @@ use Rattle.nm_steps.specs.declared.view.View.{View}
 use Rattle.nm_steps.specs.Rules.{knowledge, logged, is_store, IsFound}
 use Rattle.nm_steps.specs.Steps.{May, IsReady, IsDone, IsOfRun, Tied, Laid, noted, noted_sight}
 use Rattle.nm_steps.proofs.Presence.{gone_kept, known_push}
-use Rattle.nm_steps.proofs.Asking.{within, seen_small}
+use Rattle.nm_steps.proofs.Asking.{within, seen_small, private_pooled}
 use Rattle.nm_steps.proofs.Extending.{IsPartOf, keys-append, trace_after}
 use Rattle.nm_steps.proofs.Keeping.{no_leaver, part_grows}
 
@@ -156,6 +157,8 @@ tied_after it after number brief new e n tied may done is =
       fits = subst (λ (v : View). IsLayout v.layout) (sym me) tied.fits;
       worker = subst (λ (v : View). number < v.layout.workers) (sym me) tied.worker;
       small = small_seen new.seen (λ s at. seen_small it.me.0.layout it.me.0.number (it.me.0.log ++ (e, r) ∷ []) tied.fits longer s (sym (ap (λ (b : Brief). b.seen) epochs) ∙ at));
+      private = subst (λ (v : View). (x : ℕ) → is_private (knowledge v) x ≡ true → IsPooled v.layout x) (sym me)
+          (private_pooled it.me.0.layout it.me.0.number (it.me.0.log ++ (e, r) ∷ []) tied.fits longer);
       log = inr (subst (λ (v : View). IsOfRun v.layout v.number v.log) (sym me) (record { is_part = longer; here = still }));
     }
 

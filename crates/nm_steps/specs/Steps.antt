@@ -1,5 +1,5 @@
 -- What a step asks of its worker, and what it does.
-use Rattle.std.specs.Prelude.{◌≡◌, ◌≤◌, ◌<◌, ◌⊎◌, IfSome, ℕ, suc, true, false, List, [], ◌∷◌, ◌++◌, length, map, Bool, if◌then◌else◌, unwrap_or, Result, Ok, Err, Option, Some, None, IsSome, All}
+use Rattle.std.specs.Prelude.{◌≡◌, ◌≢◌, ◌+◌, ◌≤◌, ◌<◌, ◌⊎◌, IfSome, ℕ, suc, true, false, List, [], ◌∷◌, ◌++◌, length, map, Bool, if◌then◌else◌, unwrap_or, Result, Ok, Err, Option, Some, None, IsSome, All}
 use Rattle.atomic_table.specs.Seated.{TableId}
 use Rattle.atomic_table.specs.declared.shared.Seat.{Seat}
 use Rattle.nm_edge.specs.Edges.{Edge}
@@ -23,6 +23,7 @@ use Rattle.nm_core.specs.Searches.{idle}
 use Rattle.nm_core.specs.Ordered.{disorder, ordered, after_in, trace_in}
 use Rattle.nm_order.specs.Intervals.{HasKey}
 use Rattle.nm_order.specs.Logs.{known_by, IsLogOf}
+use Rattle.nm_order.specs.Hands.{IsPooled}
 use Rattle.nm_words.specs.Packing.{touched, left_word, words_of}
 use Rattle.nm_words.specs.Told.{told, known_as, BirthsAreKnown}
 use Rattle.nm_steps.specs.declared.answers.Sighted.{Sighted}
@@ -122,7 +123,7 @@ pub record IsOfRun (L : Layout) (w : ℕ) (log : List Entry) : Type 0 where
   pub is_part : IsLogOf L w log
   pub here : (known_by L w log).gone ≡ false
 
--- what a pass keeps of its log: its number and epochs, and that the log is of a run.
+-- what a pass keeps of its log: its number and epochs, that its private slots are ones of the pool's range, and that the log is of a run.
 -- (Each step tells of the run. A join tells nothing, so of a log that ends with one this is kept from the next step on.)
 pub record Tied (it : Seat Unit View) (number : ℕ) (brief : Brief) : Type 0 where
   pub empty : it.me.1 ≡ []
@@ -132,6 +133,7 @@ pub record Tied (it : Seat Unit View) (number : ℕ) (brief : Brief) : Type 0 wh
   pub fits : IsLayout it.me.0.layout
   pub worker : number < it.me.0.layout.workers
   pub small : IfSome brief.seen (λ e. e ≤ last_number)
+  pub private : (x : ℕ) → is_private (knowledge it.me.0) x ≡ true → IsPooled it.me.0.layout x
   pub log : EndsWithJoin it.me.0.log ⊎ IsOfRun it.me.0.layout it.me.0.number it.me.0.log
 
 -- what a table keeps
@@ -240,3 +242,8 @@ sight_of b e = if b.unlabelled then Labelled e else confirmed b.pin b.note e
 -- what a sight may answer a worker with these epochs
 abbrev pub IsSight : Brief → Reply → Type 0
 IsSight b r = (e : ℕ) × (e ≤ last_number) × (r ≡ sight_of b e)
+
+-- an advance is won where it found the epoch last read, and then the next one stands; else another was found
+abbrev pub IsAdvanceFrom : Option ℕ → Result ℕ ℕ → Type 0
+IsAdvanceFrom seen (Ok e) = (s : ℕ) × (seen ≡ Some s) × (e ≡ s + 1)
+IsAdvanceFrom seen (Err e) = (s : ℕ) × (seen ≡ Some s) × (e ≢ s)

@@ -3,7 +3,7 @@ ghost use Rattle.std.specs.Prelude.{◌≡◌, ◌<◌, Some};
 ghost use Rattle.nm_core.specs.declared.event.Event.TheVariants.{Sight, SightFor, Announce, Leave, LeaveWith, Scan, Advance};
 ghost use Rattle.nm_core.specs.declared.reply.Reply.TheVariants.{Announced, Departed};
 ghost use Rattle.nm_steps.specs.Rules.{knowledge};
-ghost use Rattle.nm_steps.specs.Steps.{IsOf, IsSight, MayStep, Stepped, sight_reply, scan_reply, advance_reply, sight_of, noted_sight};
+ghost use Rattle.nm_steps.specs.Steps.{IsOf, IsSight, MayStep, Stepped, sight_reply, scan_reply, advance_reply, IsAdvanceFrom, sight_of, noted_sight};
 
 use crate::acts::{exchange, load, store};
 use crate::answers::Sighted;
@@ -100,7 +100,8 @@ impl Shared {
     pub fn advance(&self, pass: &mut Pass) -> Result<u64, u64>
         requires own { IsOf self.now pass.old }
         requires may { MayStep pass.old Advance }
-        ensures { Stepped pass.old pass.new Advance (advance_reply result) }
+        ensures step { Stepped pass.old pass.new Advance (advance_reply result) }
+        ensures from { IsAdvanceFrom (knowledge pass.old.view).brief.seen result }
     {
         let table = &self.table.shared;
         let Some(seen) = pass.brief.seen else {

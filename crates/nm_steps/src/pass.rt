@@ -1,5 +1,8 @@
 //! The table with its layout, and one worker's seat with what its log says.
-ghost use Rattle.std.specs.Prelude.{◌≡◌, ◌<◌, ◌⊎◌};
+ghost use Rattle.std.specs.Prelude.{◌≡◌, ◌<◌, ◌⊎◌, ℕ, true};
+ghost use Rattle.nm_edge.specs.Layouts.{IsLayout};
+ghost use Rattle.nm_core.specs.Knowledge.{is_private};
+ghost use Rattle.nm_order.specs.Hands.{IsPooled};
 ghost use Rattle.nm_steps.specs.Rules.{knowledge};
 ghost use Rattle.nm_steps.specs.Steps.{EndsWithJoin, IsOfRun};
 
@@ -94,7 +97,15 @@ impl Pass {
     /// The pass's log is its number's part of some run of an ordered core, and the worker has not resigned in it: each law of such parts
     /// holds of it. Of a log that ends with a join this is so from the next step on. It does nothing.
     pub fn is_of_a_run(&self)
-        ensures { EndsWithJoin self.now.view.log ⊎ IsOfRun self.now.view.layout self.now.view.number self.now.view.log }
+        ensures run { EndsWithJoin self.now.view.log ⊎ IsOfRun self.now.view.layout self.now.view.number self.now.view.log }
+        ensures fits { IsLayout self.now.view.layout }
+    {
+        let _brief = self.brief;
+    }
+
+    /// Each of the worker's private slots is one of 6 to nodes. It does nothing.
+    pub fn holds_pooled_slots(&self)
+        ensures { (x : ℕ) → is_private (knowledge self.now.view) x ≡ true → IsPooled self.now.view.layout x }
     {
         let _brief = self.brief;
     }

@@ -3,8 +3,8 @@ use Rattle.nm_epoch.specs.Collecting.{ripe_front}
 use Rattle.nm_epoch.proofs.OneQueue.{may_collect, collecting_on, popped_front}
 use Rattle.nm_epoch.proofs.collecting.collect_front.Goals as goal
 
-pub give-requires-clause-may : goal.give-requires-clause-may
-give-requires-clause-may c =
+pub free-requires-clause-may : goal.free-requires-clause-may
+free-requires-clause-may c =
     may_collect c.args.epoch c.args.queue.now.origin c.args.pass.now c.loop-node.pass c.args.queue.now.queue.items c.loop-node.queue.queue.items c.in-Some.node c.loop-node.invariant.collecting c.requires.seen
     (sym c.next_ripe.ensures ∙ c.in-Some.is)
 
@@ -13,7 +13,7 @@ loop-node-preserved c =
     let ripe : ripe_front c.args.epoch c.loop-node.queue.queue.items ≡ Some c.in-Some.node = sym c.next_ripe.ensures ∙ c.in-Some.is in
     let front = popped_front c.args.epoch c.loop-node.queue.queue c.pop.new.self c.pop.result c.in-Some.node c.pop.ensures.popped ripe in
     record {
-      collecting = collecting_on c.args.epoch c.args.queue.now.origin c.args.pass.now c.loop-node.pass c.give.new.pass c.args.queue.now.queue.items c.loop-node.queue.queue.items c.pop.new.self.items front.0 c.in-Some.node
-          c.loop-node.invariant.collecting ripe c.give.ensures front.1;
+      collecting = collecting_on c.args.epoch c.args.queue.now.origin c.args.pass.now c.loop-node.pass c.free.new.pass c.args.queue.now.queue.items c.loop-node.queue.queue.items c.pop.new.self.items front.0 c.in-Some.node
+          c.loop-node.invariant.collecting ripe c.free.ensures.step front.1 c.free.ensures.apart;
       origin = c.loop-node.invariant.origin;
     }

@@ -52,10 +52,10 @@ returns-in-Ok-clause-part c =
     let past = c.loop-worker-test.false in
     let within = c.loop-worker.auto.worker-end in
     subst (λ (me : ℕ). IsAdvance c.args.shared.now.layout.workers me (epochs c.advance.new.pass).pin c.args.pass.now.view.log c.advance.new.pass.view.log (Moved c.in-Ok.next)) own
-    (is_moved c.loop-worker.pass c.advance.new.pass c.in-Ok.next c.number-me.result c.read-epoch.result c.args.shared.now.layout.workers c.loop-worker.worker c.args.pass.now.view.log c.in-Ok.ensures (omega (arith, m, past, within)) c.loop-worker.invariant.looking)
+    (is_moved c.loop-worker.pass c.advance.new.pass c.in-Ok.next c.number-me.result c.read-epoch.result c.args.shared.now.layout.workers c.loop-worker.worker c.args.pass.now.view.log c.in-Ok.ensures.step c.in-Ok.ensures.from (omega (arith, m, past, within)) c.loop-worker.invariant.looking)
 
 pub returns-in-Ok-clause-settles : goal.returns-in-Ok-clause-settles
-returns-in-Ok-clause-settles c = settles_advance c.loop-worker.pass c.advance.new.pass (Ok c.in-Ok.next) c.in-Ok.ensures c.args.pass.now c.loop-worker.invariant.settles
+returns-in-Ok-clause-settles c = settles_advance c.loop-worker.pass c.advance.new.pass (Ok c.in-Ok.next) c.in-Ok.ensures.step c.args.pass.now c.loop-worker.invariant.settles
 
 pub returns-in-Err-clause-part : goal.returns-in-Err-clause-part
 returns-in-Err-clause-part c =
@@ -64,7 +64,7 @@ returns-in-Err-clause-part c =
     let past = c.loop-worker-test.false in
     let within = c.loop-worker.auto.worker-end in
     subst (λ (me : ℕ). IsAdvance c.args.shared.now.layout.workers me (epochs c.advance.new.pass).pin c.args.pass.now.view.log c.advance.new.pass.view.log (Lost c.in-Err.found)) own
-    (is_lost c.loop-worker.pass c.advance.new.pass c.in-Err.found c.number-me.result c.read-epoch.result c.args.shared.now.layout.workers c.loop-worker.worker c.args.pass.now.view.log c.in-Err.ensures (omega (arith, m, past, within)) c.loop-worker.invariant.looking)
+    (is_lost c.loop-worker.pass c.advance.new.pass c.in-Err.found c.number-me.result c.read-epoch.result c.args.shared.now.layout.workers c.loop-worker.worker c.args.pass.now.view.log c.in-Err.ensures.step c.in-Err.ensures.from (omega (arith, m, past, within)) c.loop-worker.invariant.looking)
 
 pub returns-in-Err-clause-settles : goal.returns-in-Err-clause-settles
-returns-in-Err-clause-settles c = settles_advance c.loop-worker.pass c.advance.new.pass (Err c.in-Err.found) c.in-Err.ensures c.args.pass.now c.loop-worker.invariant.settles
+returns-in-Err-clause-settles c = settles_advance c.loop-worker.pass c.advance.new.pass (Err c.in-Err.found) c.in-Err.ensures.step c.args.pass.now c.loop-worker.invariant.settles

@@ -1,4 +1,7 @@
 use Rattle.nm_steps.proofs.pass.Pass.is_of_a_run.Goals as goal
 
-pub returns : goal.returns
-returns c = rw (← c.self.view_is) c.self.invariant.log
+pub returns-clause-run : goal.returns-clause-run
+returns-clause-run c = rw (← c.self.view_is) c.self.invariant.log
+
+pub returns-clause-fits : goal.returns-clause-fits
+returns-clause-fits c = rw (← c.self.view_is) c.self.invariant.fits

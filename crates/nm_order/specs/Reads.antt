@@ -1,0 +1,43 @@
+-- The epochs that a worker reads.
+use Rattle.std.specs.Prelude.{◌≡◌, ℕ, ◌≤◌, List, Option, Some, None, Contains}
+use Rattle.nm_edge.specs.Layouts.{Layout}
+use Rattle.nm_core.specs.declared.event.Event.{Event}
+use Rattle.nm_core.specs.declared.event.Event.TheVariants.{Sight, SightFor, Advance}
+use Rattle.nm_core.specs.declared.reply.Reply.{Reply}
+use Rattle.nm_core.specs.declared.reply.Reply.TheVariants.{Saw, Labelled, Pinned, Missed, Moved, Behind}
+use Rattle.nm_core.specs.Walks.{Entry}
+use Rattle.nm_order.specs.Logs.{known_by, IsLogOf}
+
+abbrev pub sighted : Reply → Option ℕ
+sighted (Saw e) = Some e
+sighted (Labelled e) = Some e
+sighted (Pinned e) = Some e
+sighted (Missed e) = Some e
+sighted _ = None
+
+abbrev pub left_by_advance : Reply → Option ℕ
+left_by_advance (Moved e) = Some e
+left_by_advance (Behind e) = Some e
+left_by_advance _ = None
+
+-- the epoch that an event with its reply tells: a sight the one that it found, an advance the one that stands after it
+abbrev pub epoch_read : Event → Reply → Option ℕ
+epoch_read Sight r = sighted r
+epoch_read (SightFor op key) r = sighted r
+epoch_read Advance r = left_by_advance r
+epoch_read _ r = None
+
+-- an entry of the log tells that epoch
+pub record HasRead (log : List Entry) (epoch : ℕ) : Type 0 where
+  pub entry : Entry
+  pub among : Contains log entry
+  pub tells : epoch_read entry.0 entry.1 ≡ Some epoch
+
+-- what a worker has read last is the greatest epoch that it has read
+pub record ReadLast (log : List Entry) (seen : Option ℕ) (epoch : ℕ) : Type 0 where
+  pub last : ℕ
+  pub is_seen : seen ≡ Some last
+  pub above : epoch ≤ last
+
+abbrev pub EpochsAreReadInOrder : Type 0
+EpochsAreReadInOrder = (L : Layout) → 5 ≤ L.nodes → (w : ℕ) (log : List Entry) → IsLogOf L w log → (epoch : ℕ) → HasRead log epoch → ReadLast log (known_by L w log).brief.seen epoch
