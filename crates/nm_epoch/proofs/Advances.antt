@@ -5,14 +5,18 @@ use Rattle.std.proofs.lemmas.Bool.{eqb-false}
 use Rattle.std.proofs.lemmas.Option.{same_Some}
 use Rattle.nm_core.specs.declared.event.Event.TheVariants as event
 use Rattle.nm_core.specs.declared.knowledge.Brief.{Brief}
+use Rattle.nm_core.specs.Knowledge.{Knowledge}
+use Rattle.nm_core.specs.Learning.{learn}
 use Rattle.nm_core.specs.Searches.{searched}
 use Rattle.nm_core.specs.Walks.{Entry}
+use Rattle.nm_steps.specs.Rules.{knowledge}
 use Rattle.nm_steps.specs.Steps.{Stand, Stepped, IsAdvanceFrom, advance_reply, noted}
 use Rattle.nm_epoch.specs.declared.answers.Advance.TheVariants.{Moved, Held, Lost}
-use Rattle.nm_epoch.specs.Resting.{Settles, epochs}
+use Rattle.nm_epoch.specs.Resting.{Settles, KeepsHands, epochs}
 use Rattle.nm_steps.specs.Steps.{IsSamePass}
 use Rattle.nm_epoch.specs.Scans.{LooksAt, SightThenScans, IsAdvance, IsLooking, lets_pass}
 use Rattle.nm_epoch.proofs.Entries.{epochs_after, search_is}
+use Rattle.nm_epoch.proofs.KeptHands.{is_label, known_after_step, hands_kept, kept_on}
 use Rattle.nm_epoch.proofs.Scanning.{look_epochs}
 
 -- ---- the last step
@@ -20,6 +24,15 @@ use Rattle.nm_epoch.proofs.Scanning.{look_epochs}
 noted_advance : (b : Brief) (r : Result ℕ ℕ) → (e : ℕ) × (noted b event.Advance (advance_reply r) ≡ record b { seen = Some e })
 noted_advance b (Ok e) = (e, refl)
 noted_advance b (Err e) = (e, refl)
+
+advance_known : (w : ℕ) (k : Knowledge) (r : Result ℕ ℕ) → (learn w k event.Advance (advance_reply r)).known ≡ k.known
+unfolding learn
+advance_known w k (Ok e) = refl
+advance_known w k (Err e) = refl
+
+advance_is_silent : (r : Result ℕ ℕ) → is_label (advance_reply r) ≡ false
+advance_is_silent (Ok e) = refl
+advance_is_silent (Err e) = refl
 
 module _ (p q : Stand) (r : Result ℕ ℕ) (step : Stepped p q event.Advance (advance_reply r)) where
   after : (e : ℕ) × (epochs q ≡ record (epochs p) { seen = Some e })
@@ -36,8 +49,12 @@ module _ (p q : Stand) (r : Result ℕ ℕ) (step : Stepped p q event.Advance (a
       note = ap (λ (b : Brief). b.note) after.1 ∙ t.note;
       pin = pin_stays ∙ t.pin;
       search = search_is p q event.Advance (advance_reply r) step ∙ t.search;
+      known = ap (λ (k : Knowledge). k.known) (known_after_step p q event.Advance (advance_reply r) step) ∙ (advance_known p.view.number (knowledge p.view) r ∙ t.known);
     };
   }
+
+  pub advance_keeps : (o : Stand) → KeepsHands o p → KeepsHands o q
+  advance_keeps o h = kept_on o p q h (hands_kept p q event.Advance (advance_reply r) step refl (λ _. advance_is_silent r))
 
   all_scanned : (me e m n : ℕ) (old : List Entry) → n ≡ m → IsLooking me e n old p → SightThenScans me (epochs q).pin e m old p.view.log
   all_scanned me e m n old all h = subst (λ (o : Option ℕ). SightThenScans me o e m old p.view.log) (sym pin_stays) (subst (λ (k : ℕ). SightThenScans me (epochs p).pin e k old p.view.log) all h.part)

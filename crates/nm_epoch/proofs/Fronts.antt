@@ -134,6 +134,12 @@ module _ (p : Stand) (o : ℕ) (x : Entry) (es : List Entry) (has : IsQueueOf (k
     pub others_after : (j : ℕ) → j ≢ o → held (knowledge q.view).ledgers j ≡ held k.ledgers j
     others_after j ne = ap (λ (ls : List (Option Ledger)). held ls j) ledgers_are ∙ f.others j (λ e. ne (e ∙ origin_is))
 
+    pub nodes_stay : (knowledge q.view).known ≡ k.known
+    nodes_stay = ap (λ (y : Knowledge). y.known) learned
+
+    pub private_stay : (knowledge q.view).drafts ≡ k.drafts
+    private_stay = ap (λ (y : Knowledge). y.drafts) learned
+
     pub epochs_stay : epochs q ≡ epochs p
     epochs_stay = epochs_after p q (Give s) (Freed x.node) step
 

@@ -1,15 +1,16 @@
 -- A worker that has left rests, and a label is told once.
-use Rattle.std.proofs.Common.{◌≡◌, ℕ, Bool, false, inl, inr, ap, ◌∙◌}
+use Rattle.std.proofs.Common.{◌≡◌, ℕ, Bool, false, refl, inl, inr, ap, ◌∙◌}
 use Rattle.std.specs.Prelude.{Option, Some, is_some}
 use Rattle.nm_core.specs.declared.knowledge.Brief.{Brief}
 use Rattle.nm_core.specs.declared.event.Event.TheVariants.{Sight, Leave, LeaveWith}
 use Rattle.nm_core.specs.declared.reply.Reply.TheVariants.{Departed, Labelled}
 use Rattle.nm_core.specs.Searches.{Search, searched}
 use Rattle.nm_steps.specs.Steps.{Stand, Stepped, MayStep}
-use Rattle.nm_epoch.specs.Resting.{IsResting, IsPinnedAt, Settles, epochs}
+use Rattle.nm_epoch.specs.Resting.{IsResting, IsPinnedAt, Settles, KeepsHands, epochs}
 use Rattle.nm_core.specs.declared.walks.Call.{Call}
 use Rattle.nm_epoch.proofs.Allowed.{may_leave}
 use Rattle.nm_epoch.proofs.Entries.{epochs_after, search_is}
+use Rattle.nm_epoch.proofs.KeptHands.{hands_kept}
 
 pub rests_after_leave : (p q : Stand) → Stepped p q Leave Departed → (epochs p).unlabelled ≡ false → IsResting q
 unfolding searched
@@ -35,6 +36,13 @@ rests_after_answer p q answer step labelled =
 
 pub labelled_after : (p q : Stand) (e : ℕ) → Stepped p q Sight (Labelled e) → (epochs q).unlabelled ≡ false
 labelled_after p q e step = ap (λ (b : Brief). b.unlabelled) (epochs_after p q Sight (Labelled e) step)
+
+-- what is in its hands stays
+pub leave_keeps : (p q : Stand) → Stepped p q Leave Departed → KeepsHands p q
+leave_keeps p q step = hands_kept p q Leave Departed step refl (λ _. refl)
+
+pub answer_keeps : (p q : Stand) (answer : Bool) → Stepped p q (LeaveWith answer) Departed → KeepsHands p q
+answer_keeps p q answer step = hands_kept p q (LeaveWith answer) Departed step refl (λ _. refl)
 
 -- the epoch last read stays
 pub seen_after_leave : (p q : Stand) (e : ℕ) → Stepped p q Leave Departed → (epochs p).seen ≡ Some e → (epochs q).seen ≡ Some e

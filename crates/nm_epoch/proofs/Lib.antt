@@ -1,4 +1,5 @@
 pub mod Entries
+pub mod KeptHands
 pub mod Allowed
 pub mod Left
 pub mod Trying
@@ -13,3 +14,4 @@ pub mod SeveralQueues
 pub mod Sighted
 pub mod FewQueues
 pub mod Newest
+pub mod Labels

@@ -20,7 +20,7 @@ use Rattle.nm_epoch.specs.Resting.{Settles, epochs, search}
 use Rattle.nm_steps.specs.Steps.{IsSamePass}
 use Rattle.nm_order.specs.Hands.{AreApart}
 use Rattle.nm_epoch.specs.Collecting.{IsQueueOf, is_ripe, ripe_front, ripe_part, rest_of, freeing}
-use Rattle.nm_epoch.proofs.Fronts.{may_free, freed_reply, queue_after, others_after, epochs_stay, search_stays}
+use Rattle.nm_epoch.proofs.Fronts.{may_free, freed_reply, queue_after, others_after, epochs_stay, search_stays, nodes_stay, private_stay}
 
 -- what was freed and what is ripe still is what was ripe at first
 pub record IsCollecting (epoch origin : ℕ) (start : Stand) (all : List Entry) (p : Stand) (now : List Entry) : Type 0 where
@@ -30,6 +30,8 @@ pub record IsCollecting (epoch origin : ℕ) (start : Stand) (all : List Entry) 
   pub others : (o : ℕ) → o ≢ origin → held (knowledge p.view).ledgers o ≡ held (knowledge start.view).ledgers o
   pub epochs_are : epochs p ≡ epochs start
   pub search_is : search p ≡ search start
+  pub nodes : (knowledge p.view).known ≡ (knowledge start.view).known
+  pub private : (knowledge p.view).drafts ≡ (knowledge start.view).drafts
   pub entries : p.view.log ++ map freeing (ripe_part epoch now) ≡ start.view.log ++ map freeing (ripe_part epoch all)
   pub left : rest_of epoch now ≡ rest_of epoch all
   pub count : length now + length (ripe_part epoch all) ≡ length all + length (ripe_part epoch now)
@@ -42,6 +44,8 @@ collecting_from epoch origin p all queue apart = record {
   others = λ o ne. refl;
   epochs_are = refl;
   search_is = refl;
+  nodes = refl;
+  private = refl;
   entries = refl;
   left = refl;
   count = refl;
@@ -91,6 +95,8 @@ collecting_more epoch origin start p q all es x c ripe step apart =
       others = λ o ne. others_after p origin x es c.queue c.apart q step o ne ∙ c.others o ne;
       epochs_are = epochs_stay p origin x es c.queue c.apart q step ∙ c.epochs_are;
       search_is = search_stays p origin x es c.queue c.apart q step ∙ c.search_is;
+      nodes = nodes_stay p origin x es c.queue c.apart q step ∙ c.nodes;
+      private = private_stay p origin x es c.queue c.apart q step ∙ c.private;
       entries = ap (λ (log : List LogEntry). log ++ map freeing (ripe_part epoch es)) log_is
           ∙ (append_assoc p.view.log (freeing x ∷ []) (map freeing (ripe_part epoch es))
           ∙ (sym (ap (λ (r : List Entry). p.view.log ++ map freeing r) more) ∙ c.entries));
@@ -114,8 +120,8 @@ popped_front epoch before after None n is ripe = absurd (none-some n (sym (ap (r
 popped_front epoch before after (Some y) n is ripe = (y, is.0)
 
 -- what was settled stays so, where epochs and search stay
-pub settled_on : (o p q : Stand) → Settles o p → epochs q ≡ epochs p → search q ≡ search p → Settles o q
-settled_on o p q s same found = record {
+pub settled_on : (o p q : Stand) → Settles o p → epochs q ≡ epochs p → search q ≡ search p → (knowledge q.view).known ≡ (knowledge p.view).known → Settles o q
+settled_on o p q s same found nodes = record {
   labelled = ap (λ (b : Brief). b.unlabelled) same ∙ s.labelled;
-  stays = λ settled. let t = s.stays settled in record { note = ap (λ (b : Brief). b.note) same ∙ t.note; pin = ap (λ (b : Brief). b.pin) same ∙ t.pin; search = found ∙ t.search };
+  stays = λ settled. let t = s.stays settled in record { note = ap (λ (b : Brief). b.note) same ∙ t.note; pin = ap (λ (b : Brief). b.pin) same ∙ t.pin; search = found ∙ t.search; known = nodes ∙ t.known };
 }

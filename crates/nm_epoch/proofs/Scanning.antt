@@ -15,6 +15,7 @@ use Rattle.nm_epoch.specs.Resting.{Settles, epochs, search, marks}
 use Rattle.nm_steps.specs.Steps.{IsSamePass}
 use Rattle.nm_epoch.specs.Scans.{IsSightOf, LooksAt, SightThenScans, IsLooking, lets_pass}
 use Rattle.nm_epoch.proofs.Entries.{epochs_after, search_is}
+use Rattle.nm_epoch.proofs.KeptHands.{look_known}
 use Rattle.nm_epoch.proofs.Marks.{one_for_each, marks_after}
 
 -- ---- one look
@@ -56,6 +57,7 @@ module _ (me v : ℕ) (pin found : Option ℕ) (p q : Stand) (same : IsSamePass 
       note = ap (λ (b : Brief). b.note) look_epochs ∙ t.note;
       pin = ap (λ (b : Brief). b.pin) look_epochs ∙ t.pin;
       search = look_search ∙ t.search;
+      known = look_known me v pin found p q same look ∙ t.known;
     };
   }
 

@@ -8,11 +8,15 @@ use Rattle.nm_core.specs.declared.event.Event.TheVariants.{Sight}
 use Rattle.nm_core.specs.declared.reply.Reply.{Reply}
 use Rattle.nm_core.specs.declared.reply.Reply.TheVariants.{Saw, Labelled, Pinned, Missed}
 use Rattle.nm_core.specs.Step.{confirmed}
+use Rattle.nm_core.specs.Knowledge.{Knowledge}
+use Rattle.nm_core.specs.Learning.{learn}
 use Rattle.nm_core.specs.Searches.{Search, searched, begun}
+use Rattle.nm_steps.specs.Rules.{knowledge}
 use Rattle.nm_steps.specs.Steps.{Stand, Stepped, IsSight, noted_sight, sight_of}
 use Rattle.nm_epoch.specs.Resting.{IsSettled, Settles, epochs, search}
 use Rattle.nm_epoch.specs.Scans.{epoch_in}
 use Rattle.nm_epoch.proofs.Entries.{epochs_after, search_is}
+use Rattle.nm_epoch.proofs.KeptHands.{known_after_step}
 
 -- ---- the epoch read
 
@@ -67,6 +71,14 @@ search_kept : (s : Search) (r : Reply) → ((x : ℕ) → r ≡ Pinned x → ⊥
 search_kept s (Pinned x) not' = absurd (not' x refl)
 search_kept s _ not' = refl
 
+known_kept : (w : ℕ) (k : Knowledge) (r : Reply) → ((x : ℕ) → r ≡ Pinned x → ⊥) → (learn w k Sight r).known ≡ k.known
+unfolding learn
+known_kept w k (Pinned x) not' = absurd (not' x refl)
+known_kept w k (Saw x) not' = refl
+known_kept w k (Labelled x) not' = refl
+known_kept w k (Missed x) not' = refl
+known_kept w k _ not' = refl
+
 pub settles : (p q : Stand) (r : Reply) → Stepped p q Sight r → IsSight (epochs p) r → Settles p q
 unfolding searched
 settles p q r step s =
@@ -77,5 +89,6 @@ settles p q r step s =
         note = ap (λ (b : Brief). b.note) after ∙ note_kept (epochs p) r;
         pin = ap (λ (b : Brief). b.pin) after ∙ pin_kept (epochs p) r (never_pinned p r settled s);
         search = search_is p q Sight r step ∙ search_kept (search p) r (never_pinned p r settled s);
+        known = ap (λ (k : Knowledge). k.known) (known_after_step p q Sight r step) ∙ known_kept p.view.number (knowledge p.view) r (never_pinned p r settled s);
       };
     }

@@ -1,5 +1,5 @@
 -- A try to pin: an announcement, and the sight that confirms it or not.
-use Rattle.std.proofs.Common.{◌≡◌, ℕ, ◌==◌, Bool, false, cond, refl, ap, ◌∙◌}
+use Rattle.std.proofs.Common.{◌≡◌, ℕ, ◌==◌, Bool, true, false, cond, refl, ap, ◌∙◌}
 use Rattle.std.specs.Prelude.{Option, Some, None, IsSome, is_some}
 use Rattle.std.proofs.lemmas.Bool.{cond_both, eqb-true}
 use Rattle.nm_core.specs.declared.knowledge.Brief.{Brief}
@@ -7,15 +7,19 @@ use Rattle.nm_core.specs.declared.event.Event.TheVariants.{Sight, Announce}
 use Rattle.nm_core.specs.declared.reply.Reply.{Reply}
 use Rattle.nm_core.specs.declared.reply.Reply.TheVariants.{Saw, Labelled, Pinned, Missed, Announced}
 use Rattle.nm_core.specs.Step.{confirmed}
+use Rattle.nm_core.specs.Knowledge.{Knowledge}
+use Rattle.nm_core.specs.Learning.{learn, rooted}
 use Rattle.nm_core.specs.Searches.{Search, idle, searched, begun}
 use Rattle.nm_order.specs.Intervals.{HasKey}
+use Rattle.nm_steps.specs.Rules.{knowledge}
 use Rattle.nm_steps.specs.Steps.{Stand, MayStep, Stepped, IsSight, noted, noted_sight, sight_of}
 use Rattle.nm_steps.proofs.Noting.{may_sight}
 use Rattle.nm_epoch.specs.declared.pinning.Confirming.{Confirming}
 use Rattle.nm_epoch.specs.declared.pinning.Confirming.TheVariants.{Plain, For}
-use Rattle.nm_epoch.specs.Resting.{IsResting, IsPinnedAt, IsTrying, epochs, search}
+use Rattle.nm_epoch.specs.Resting.{IsResting, IsPinnedAt, IsTrying, KeepsHands, epochs, search}
 use Rattle.nm_epoch.specs.Tries.{confirming, call_of}
 use Rattle.nm_epoch.proofs.Entries.{epochs_after, search_is}
+use Rattle.nm_epoch.proofs.KeptHands.{is_quiet, is_label, known_after_step, hands_kept, kept_on}
 use Rattle.nm_epoch.proofs.Allowed.{may_sight_for}
 
 -- ---- the confirming sight
@@ -32,6 +36,20 @@ searched_confirming (For op key) s r = refl
 pub may_confirm : (p : Stand) (by : Confirming) → IsSome (epochs p).note → (epochs p).pin ≡ None → HasKey (confirming by) → MayStep p (confirming by)
 may_confirm p Plain note pin key = may_sight _ _ _
 may_confirm p (For op k) note pin key = may_sight_for p op k note pin key
+
+-- a pin makes slots 1 and 2 known
+roots_known : (by : Confirming) (w : ℕ) (k : Knowledge) (e : ℕ) → (learn w k (confirming by) (Pinned e)).known ≡ rooted
+unfolding learn
+roots_known Plain w k e = refl
+roots_known (For op key) w k e = refl
+
+pub confirming_is_quiet : (by : Confirming) → is_quiet (confirming by) ≡ true
+confirming_is_quiet Plain = refl
+confirming_is_quiet (For op key) = refl
+
+-- what is in its hands stays over a try
+pub try_keeps : (p q r : Stand) (by : Confirming) (a : ℕ) (answer : Reply) → Stepped p q Announce (Announced a) → Stepped q r (confirming by) answer → is_label answer ≡ false → KeepsHands p r
+try_keeps p q r by a answer first second silent = kept_on p q r (hands_kept p q Announce (Announced a) first refl (λ _. refl)) (hands_kept q r (confirming by) answer second (confirming_is_quiet by) (λ _. silent))
 
 -- ---- announced
 
@@ -91,6 +109,7 @@ won p q by a e h s step =
       pin = ap (λ (b : Brief). b.pin) after;
       labelled = ap (λ (b : Brief). b.unlabelled) after ∙ h.labelled;
       begun = search_is p q (confirming by) (Pinned e) step ∙ searched_confirming by (search p) (Pinned e);
+      known = ap (λ (k : Knowledge). k.known) (known_after_step p q (confirming by) (Pinned e) step) ∙ roots_known by p.view.number (knowledge p.view) e;
     }
 
 pub lost_seen : (p q : Stand) (by : Confirming) (e : ℕ) → Stepped p q (confirming by) (Missed e) → (epochs q).seen ≡ Some e

@@ -7,7 +7,7 @@ use Rattle.nm_core.specs.declared.ledger.Ledger.{Ledger}
 use Rattle.nm_core.specs.declared.ledger.Queued.{Queued}
 use Rattle.nm_core.specs.declared.reply.Reply.TheVariants.{Freed}
 use Rattle.nm_core.specs.Knowledge.{Knowledge}
-use Rattle.nm_core.specs.Ledgers.{held}
+use Rattle.nm_core.specs.Ledgers.{held, unlabelled}
 use Rattle.nm_core.specs.Walks.{Entry as LogEntry}
 use Rattle.nm_epoch.specs.Scans.{IsSightOf}
 use Rattle.nm_epoch.specs.declared.collecting.Entry.{Entry}
@@ -20,6 +20,17 @@ queued e = record { node = e.node; label = Some e.label }
 -- the worker holds the ledger of that origin, and these are the entries of its queue, all with labels
 abbrev pub IsQueueOf : Knowledge → ℕ → List Entry → Type 0
 IsQueueOf k origin es = option_map (λ (l : Ledger). l.queue) (held k.ledgers origin) ≡ Some (map queued es)
+
+-- the worker holds the ledger of that origin, and in its queue these entries wait, and behind them these nodes, which wait for their label
+abbrev pub IsQueueThen : Knowledge → ℕ → List Entry → List NodeId → Type 0
+IsQueueThen k origin es ns = option_map (λ (l : Ledger). l.queue) (held k.ledgers origin) ≡ Some (map queued es ++ map unlabelled ns)
+
+abbrev pub labelled_so : ℕ → NodeId → Entry
+labelled_so epoch n = record { node = n; label = epoch }
+
+-- each node of a held queue that waited for its label has this one now
+abbrev pub TakesLabels : ℕ → Knowledge → Knowledge → Type 0
+TakesLabels epoch k l = (o : ℕ) (es : List Entry) (ns : List NodeId) → IsQueueThen k o es ns → IsQueueOf l o (es ++ map (labelled_so epoch) ns)
 
 -- its label is at least two below the epoch
 abbrev pub is_ripe : ℕ → Entry → Bool

@@ -2,6 +2,7 @@
 use Rattle.std.specs.Prelude.{◌≡◌, ◌⊎◌, ℕ, Bool, false, List, [], Option, Some, None, IsSome}
 use Rattle.nm_core.specs.declared.knowledge.Brief.{Brief}
 use Rattle.nm_core.specs.declared.walks.Call.{Call}
+use Rattle.nm_core.specs.Learning.{rooted}
 use Rattle.nm_core.specs.Searches.{Search, idle}
 use Rattle.nm_core.specs.Walks.{search_after}
 use Rattle.nm_steps.specs.Rules.{knowledge}
@@ -33,6 +34,7 @@ pub record IsPinnedAt (e : ℕ) (call : Option Call) (p : Stand) : Type 0 where
   pub pin : (epochs p).pin ≡ Some e
   pub labelled : (epochs p).unlabelled ≡ false
   pub begun : search p ≡ begun_for call
+  pub known : (knowledge p.view).known ≡ rooted
 
 -- it may announce the epoch last read and try to pin it
 pub record IsTrying (p : Stand) : Type 0 where
@@ -45,16 +47,23 @@ pub record IsTrying (p : Stand) : Type 0 where
 abbrev pub IsSettled : Stand → Type 0
 IsSettled p = IsSome (epochs p).pin ⊎ ((epochs p).note ≡ None)
 
--- its announcement, its pin and its call stay
+-- its announcement, its pin and its call stay, and what it knows of nodes
 pub record Stays (p q : Stand) : Type 0 where
   pub note : (epochs q).note ≡ (epochs p).note
   pub pin : (epochs q).pin ≡ (epochs p).pin
   pub search : search q ≡ search p
+  pub known : (knowledge q.view).known ≡ (knowledge p.view).known
 
--- no cut waits for its label any more, and if it was settled, its announcement, its pin and its call stay
+-- no cut waits for its label any more, and if it was settled, its announcement, its pin and its call stay, and what it knows of nodes
 pub record Settles (p q : Stand) : Type 0 where
   pub labelled : (epochs q).unlabelled ≡ false
   pub stays : IsSettled p → Stays p q
+
+-- its private slots stay as they are, and, where no cut waited for its label, the ledgers that it holds
+pub record KeepsHands (p q : Stand) : Type 0 where
+  pub private : (knowledge q.view).drafts ≡ (knowledge p.view).drafts
+  pub labelled : (epochs p).unlabelled ≡ false → (epochs q).unlabelled ≡ false
+  pub ledgers : (epochs p).unlabelled ≡ false → (knowledge q.view).ledgers ≡ (knowledge p.view).ledgers
 
 -- by worker, whether it was scanned at the epoch last read
 abbrev pub marks : Stand → List Bool

@@ -80,6 +80,8 @@ fn collect_front(shared: &Shared, pass: &mut Pass, queue: &mut HeldQueue, epoch:
     ensures others { (o : ℕ) → o ≢ queue.old.origin → held (knowledge pass.new.view).ledgers o ≡ held (knowledge pass.old.view).ledgers o }
     ensures epochs { epochs pass.new ≡ epochs pass.old }
     ensures search { search pass.new ≡ search pass.old }
+    ensures nodes { (knowledge pass.new.view).known ≡ (knowledge pass.old.view).known }
+    ensures private { (knowledge pass.new.view).drafts ≡ (knowledge pass.old.view).drafts }
 {
     let waiting = queue.queue.len();
     while let Some(node) = next_ripe(&queue.queue, epoch) {
@@ -106,6 +108,8 @@ fn collect_fronts(shared: &Shared, pass: &mut Pass, queues: &mut [HeldQueue], ep
     ensures others { (o : ℕ) → NoneHas o queues.old → held (knowledge pass.new.view).ledgers o ≡ held (knowledge pass.old.view).ledgers o }
     ensures epochs { epochs pass.new ≡ epochs pass.old }
     ensures search { search pass.new ≡ search pass.old }
+    ensures nodes { (knowledge pass.new.view).known ≡ (knowledge pass.old.view).known }
+    ensures private { (knowledge pass.new.view).drafts ≡ (knowledge pass.old.view).drafts }
 {
     let Some((first, rest)) = queues.split_first_mut() else {
         return 0;
@@ -143,6 +147,7 @@ pub fn collect(shared: &Shared, pass: &mut Pass, queues: &mut [HeldQueue]) -> Co
     ensures newest { (epoch : ℕ) → HasRead pass.old.view.log epoch → epoch ≤ result.epoch }
     ensures seen { (epochs pass.new).seen ≡ Some result.epoch }
     ensures settles { Settles pass.old pass.new }
+    ensures private { (knowledge pass.new.view).drafts ≡ (knowledge pass.old.view).drafts }
 {
     let epoch = read(shared, pass);
     pass.is_of_a_run();

@@ -2,8 +2,10 @@
 ghost use Rattle.std.specs.Prelude.{◌≡◌, false, true};
 ghost use Rattle.nm_core.specs.declared.event.Event.TheVariants.{Sight, Leave, LeaveWith};
 ghost use Rattle.nm_core.specs.declared.reply.Reply.TheVariants.{Labelled, Departed};
+ghost use Rattle.nm_steps.specs.Rules.{knowledge};
 ghost use Rattle.nm_steps.specs.Steps.{IsOf, MayStep, Stepped};
-ghost use Rattle.nm_epoch.specs.Resting.{IsResting, epochs};
+ghost use Rattle.nm_epoch.specs.Resting.{IsResting, KeepsHands, epochs};
+ghost use Rattle.nm_epoch.specs.Collecting.{TakesLabels};
 
 use nm_steps::{Pass, Shared, Sighted};
 
@@ -14,6 +16,7 @@ pub fn unpin(shared: &Shared, pass: &mut Pass)
     requires may { MayStep pass.old Leave }
     ensures step { Stepped pass.old pass.new Leave Departed }
     ensures rests { IsResting pass.new }
+    ensures hands { KeepsHands pass.old pass.new }
 {
     shared.leave(pass);
 }
@@ -24,6 +27,7 @@ pub fn unpin_with(shared: &Shared, pass: &mut Pass, answer: bool)
     requires may { MayStep pass.old (LeaveWith answer) }
     ensures step { Stepped pass.old pass.new (LeaveWith answer) Departed }
     ensures rests { IsResting pass.new }
+    ensures hands { KeepsHands pass.old pass.new }
 {
     shared.leave_with(pass, answer);
 }
@@ -35,6 +39,8 @@ pub fn label(shared: &Shared, pass: &mut Pass) -> u64
     requires cut { (epochs pass.old).unlabelled ≡ true }
     ensures step { Stepped pass.old pass.new Sight (Labelled result) }
     ensures labelled { (epochs pass.new).unlabelled ≡ false }
+    ensures private { (knowledge pass.new.view).drafts ≡ (knowledge pass.old.view).drafts }
+    ensures queues { TakesLabels result (knowledge pass.old.view) (knowledge pass.new.view) }
 {
     let Sighted::Labelled(epoch) = shared.sight(pass) else {
         unreachable!()

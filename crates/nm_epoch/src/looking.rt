@@ -2,7 +2,7 @@
 ghost use Rattle.std.specs.Prelude.{◌≡◌, ◌<◌, ◌≤◌, Some, IsSome, MatchOption, true, false};
 ghost use Rattle.nm_core.specs.Step.{last_number};
 ghost use Rattle.nm_steps.specs.Steps.{IsOf, sight_reply};
-ghost use Rattle.nm_epoch.specs.Resting.{Settles, epochs};
+ghost use Rattle.nm_epoch.specs.Resting.{Settles, KeepsHands, epochs};
 ghost use Rattle.nm_steps.specs.Steps.{IsSamePass};
 ghost use Rattle.nm_epoch.specs.Scans.{IsSightOf, LooksAt, epoch_in, lets_pass};
 
@@ -28,6 +28,7 @@ pub(crate) fn read(shared: &Shared, pass: &mut Pass) -> u64
     ensures seen { (epochs pass.new).seen ≡ Some result }
     ensures small { result ≤ last_number }
     ensures settles { Settles pass.old pass.new }
+    ensures hands { KeepsHands pass.old pass.new }
 {
     epoch_of(shared.sight(pass))
 }

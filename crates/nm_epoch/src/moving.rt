@@ -1,6 +1,6 @@
 //! Moving the epoch on.
 ghost use Rattle.nm_steps.specs.Steps.{IsOf};
-ghost use Rattle.nm_epoch.specs.Resting.{Settles, epochs};
+ghost use Rattle.nm_epoch.specs.Resting.{Settles, KeepsHands, epochs};
 ghost use Rattle.nm_steps.specs.Steps.{IsSamePass};
 ghost use Rattle.nm_epoch.specs.Scans.{IsAdvance};
 
@@ -23,6 +23,7 @@ pub fn advance(shared: &Shared, pass: &mut Pass) -> Advance
     ensures same { IsSamePass pass.old pass.new }
     ensures part { IsAdvance shared.now.layout.workers pass.old.view.number (epochs pass.new).pin pass.old.view.log pass.new.view.log result }
     ensures settles { Settles pass.old pass.new }
+    ensures hands { KeepsHands pass.old pass.new }
 {
     let epoch = read(shared, pass);
     let me = pass.number();

@@ -3,7 +3,7 @@ ghost use Rattle.std.specs.Prelude.{◌≡◌, Some, None, IfOk, IfErr, MatchRes
 ghost use Rattle.nm_core.specs.declared.event.Event.TheVariants.{Sight, SightFor};
 ghost use Rattle.nm_order.specs.Intervals.{HasKey};
 ghost use Rattle.nm_steps.specs.Steps.{IsOf, IsSight, MayStep, Stepped, sight_reply};
-ghost use Rattle.nm_epoch.specs.Resting.{IsResting, IsPinnedAt, IsTrying, epochs};
+ghost use Rattle.nm_epoch.specs.Resting.{IsResting, IsPinnedAt, IsTrying, KeepsHands, epochs};
 ghost use Rattle.nm_steps.specs.Steps.{IsSamePass};
 ghost use Rattle.nm_epoch.specs.Tries.{IsPinned, IsMoved, LostTry, WonTry, confirming, call_of};
 
@@ -43,6 +43,7 @@ fn attempt(shared: &Shared, pass: &mut Pass, by: &Confirming) -> Result<u64, u64
     ensures lost { IfErr result (λ e. LostTry (confirming by.now) pass.old.view.log pass.new.view.log) }
     ensures trying { IfErr result (λ e. IsTrying pass.new) }
     ensures last { IfErr result (λ e. (epochs pass.new).seen ≡ Some e) }
+    ensures hands { KeepsHands pass.old pass.new }
 {
     shared.announce(pass);
     match confirm(shared, pass, by) {
@@ -62,6 +63,7 @@ fn pin_by(shared: &Shared, pass: &mut Pass, tries: u32, by: &Confirming) -> Resu
     ensures moved { IfErr result (λ m. IsMoved (confirming by.now) tries pass.old.view.log pass.new.view.log) }
     ensures last { IfErr result (λ m. (epochs pass.new).seen ≡ Some m.epoch) }
     ensures rests { IfErr result (λ m. IsResting pass.new) }
+    ensures hands { KeepsHands pass.old pass.new }
 {
     let Sighted::Saw(first) = shared.sight(pass) else {
         unreachable!()
@@ -97,6 +99,7 @@ pub fn pin(shared: &Shared, pass: &mut Pass, tries: u32) -> Result<u64, Moved>
     ensures moved { IfErr result (λ m. IsMoved Sight tries pass.old.view.log pass.new.view.log) }
     ensures last { IfErr result (λ m. (epochs pass.new).seen ≡ Some m.epoch) }
     ensures rests { IfErr result (λ m. IsResting pass.new) }
+    ensures hands { KeepsHands pass.old pass.new }
 {
     pin_by(shared, pass, tries, &Confirming::Plain)
 }
@@ -112,6 +115,7 @@ pub fn pin_for(shared: &Shared, pass: &mut Pass, tries: u32, op: Op, key: Key) -
     ensures moved { IfErr result (λ m. IsMoved (SightFor op key) tries pass.old.view.log pass.new.view.log) }
     ensures last { IfErr result (λ m. (epochs pass.new).seen ≡ Some m.epoch) }
     ensures rests { IfErr result (λ m. IsResting pass.new) }
+    ensures hands { KeepsHands pass.old pass.new }
 {
     let _ = key.get();
     let by = Confirming::For(op, key);

@@ -1,6 +1,6 @@
 //! Which workers hold the epoch back.
 ghost use Rattle.nm_steps.specs.Steps.{IsOf};
-ghost use Rattle.nm_epoch.specs.Resting.{Settles, epochs};
+ghost use Rattle.nm_epoch.specs.Resting.{Settles, KeepsHands, epochs};
 ghost use Rattle.nm_steps.specs.Steps.{IsSamePass};
 ghost use Rattle.nm_epoch.specs.Watches.{IsBehind};
 
@@ -18,6 +18,7 @@ pub fn behind(shared: &Shared, pass: &mut Pass) -> Behind
     ensures same { IsSamePass pass.old pass.new }
     ensures part { IsBehind shared.now.layout.workers pass.old.view.number (epochs pass.new).pin pass.old.view.log pass.new.view.log result }
     ensures settles { Settles pass.old pass.new }
+    ensures hands { KeepsHands pass.old pass.new }
 {
     let epoch = read(shared, pass);
     let me = pass.number();

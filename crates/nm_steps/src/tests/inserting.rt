@@ -30,6 +30,7 @@ fn insert_five(rt: &impl Abort, shared: &Shared, pass: &mut Pass, five: Key)
     requires layout { shared.now.layout ≡ record { nodes = 7; workers = 1 } }
     requires fresh { pass.old.view ≡ fresh_view (record { nodes = 7; workers = 1 }) 0 }
     requires five { five ≡ 5 }
+    ensures { IsOf shared.now pass.new }
 {
     assert!(rt; shared.sight(pass) == Sighted::Saw(0));
     assert!(rt; shared.announce(pass) == 0);
@@ -53,6 +54,8 @@ fn insert_five(rt: &impl Abort, shared: &Shared, pass: &mut Pass, five: Key)
     shared.leave_with(pass, true);
 }
 
+/// Afterwards the left edge of slot 2 leads to slot 6, which has the key infinity and leads to slots 7 and 3; slot 7 has the key 5;
+/// and both have the birth 1.
 #[test]
 fn an_insert_by_steps(rt: HostRuntime) -> Result<(), Fail> {
     let layout = Layout::new(7, 1)?;
@@ -62,5 +65,13 @@ fn an_insert_by_steps(rt: HostRuntime) -> Result<(), Fail> {
         panic!(rt; "5 is a key")
     };
     insert_five(&rt, &shared, &mut pass, five);
+    let words = shared.close(pass);
+    assert_eq!(rt; words.word(7), 24);
+    assert_eq!(rt; words.word(22), INFINITY);
+    assert_eq!(rt; words.word(23), 28);
+    assert_eq!(rt; words.word(24), 12);
+    assert_eq!(rt; words.word(25), 1);
+    assert_eq!(rt; words.word(26), 5);
+    assert_eq!(rt; words.word(29), 1);
     Ok(())
 }

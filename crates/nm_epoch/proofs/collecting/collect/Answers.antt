@@ -31,4 +31,4 @@ pub returns-clause-newest : goal.returns-clause-newest
 returns-clause-newest c = is_newest c.args.pass.now c.read-epoch.new.pass c.read-epoch.result c.read-epoch.ensures.step c.read-epoch.ensures.seen c.is_of_a_run.ensures.fits c.is_of_a_run.ensures.run
 
 pub returns-clause-settles : goal.returns-clause-settles
-returns-clause-settles c = settled_on c.args.pass.now c.read-epoch.new.pass c.collect_fronts-freed.new.pass c.read-epoch.ensures.settles c.collect_fronts-freed.ensures.epochs c.collect_fronts-freed.ensures.search
+returns-clause-settles c = settled_on c.args.pass.now c.read-epoch.new.pass c.collect_fronts-freed.new.pass c.read-epoch.ensures.settles c.collect_fronts-freed.ensures.epochs c.collect_fronts-freed.ensures.search c.collect_fronts-freed.ensures.nodes

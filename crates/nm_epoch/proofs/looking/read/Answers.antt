@@ -1,5 +1,9 @@
 use Rattle.nm_steps.specs.Steps.{sight_reply}
 use Rattle.nm_epoch.proofs.Sights.{read_seen, settles}
+use Rattle.std.proofs.Common.{refl}
+use Rattle.nm_core.specs.declared.event.Event.TheVariants.{Sight}
+use Rattle.nm_epoch.proofs.KeptHands.{hands_kept, sight_is_silent}
+use Rattle.nm_epoch.specs.Resting.{epochs}
 use Rattle.nm_epoch.proofs.looking.read.Goals as goal
 
 pub returns-clause-seen : goal.returns-clause-seen
@@ -7,3 +11,6 @@ returns-clause-seen c = read_seen c.args.pass.now c.sight.new.pass (sight_reply 
 
 pub returns-clause-settles : goal.returns-clause-settles
 returns-clause-settles c = settles c.args.pass.now c.sight.new.pass (sight_reply c.sight.result) c.sight.ensures.step c.sight.ensures.reply
+
+pub returns-clause-hands : goal.returns-clause-hands
+returns-clause-hands c = hands_kept c.args.pass.now c.sight.new.pass Sight (sight_reply c.sight.result) c.sight.ensures.step refl (sight_is_silent (epochs c.args.pass.now) (sight_reply c.sight.result) c.sight.ensures.reply)

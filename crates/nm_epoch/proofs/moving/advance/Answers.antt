@@ -7,6 +7,8 @@ use Rattle.nm_epoch.specs.Scans.{IsAdvance}
 use Rattle.nm_epoch.proofs.Allowed.{may_advance}
 use Rattle.nm_epoch.proofs.Scanning.{looking_on, settles_on}
 use Rattle.nm_epoch.proofs.Advances.{is_moved, is_lost, is_held, settles_advance}
+use Rattle.nm_epoch.proofs.KeptHands.{kept_on, look_keeps}
+use Rattle.nm_epoch.proofs.Advances.{advance_keeps}
 use Rattle.nm_epoch.proofs.moving.advance.Goals as goal
 
 pub returns-in-Some-clause-part : goal.returns-in-Some-clause-part
@@ -30,6 +32,8 @@ loop-worker-preserved c =
       looking = looking_on c.number-me.result c.read-epoch.result c.loop-worker.worker c.look-found.result c.args.pass.now.view.log c.loop-worker.pass c.look-found.new.pass c.look-found.ensures.same c.look-found.ensures.found
           c.in_default.ensures (let below = c.loop-worker-test.true in omega (arith, m, size, below)) c.loop-worker.invariant.looking;
       settles = settles_on c.number-me.result c.loop-worker.worker (epochs c.loop-worker.pass).pin c.look-found.result c.loop-worker.pass c.look-found.new.pass c.look-found.ensures.same c.look-found.ensures.found c.args.pass.now c.loop-worker.invariant.settles;
+      hands = kept_on c.args.pass.now c.loop-worker.pass c.look-found.new.pass c.loop-worker.invariant.hands
+          (look_keeps c.number-me.result c.loop-worker.worker (epochs c.loop-worker.pass).pin c.look-found.result c.loop-worker.pass c.look-found.new.pass c.look-found.ensures.same c.look-found.ensures.found);
     }
 
 pub advance-requires-clause-may : goal.advance-requires-clause-may
@@ -68,3 +72,13 @@ returns-in-Err-clause-part c =
 
 pub returns-in-Err-clause-settles : goal.returns-in-Err-clause-settles
 returns-in-Err-clause-settles c = settles_advance c.loop-worker.pass c.advance.new.pass (Err c.in-Err.found) c.in-Err.ensures.step c.args.pass.now c.loop-worker.invariant.settles
+
+pub returns-in-Some-clause-hands : goal.returns-in-Some-clause-hands
+returns-in-Some-clause-hands c = kept_on c.args.pass.now c.loop-worker.pass c.look-found.new.pass c.loop-worker.invariant.hands
+    (look_keeps c.number-me.result c.loop-worker.worker (epochs c.loop-worker.pass).pin c.look-found.result c.loop-worker.pass c.look-found.new.pass c.look-found.ensures.same c.look-found.ensures.found)
+
+pub returns-in-Ok-clause-hands : goal.returns-in-Ok-clause-hands
+returns-in-Ok-clause-hands c = advance_keeps c.loop-worker.pass c.advance.new.pass (Ok c.in-Ok.next) c.in-Ok.ensures.step c.args.pass.now c.loop-worker.invariant.hands
+
+pub returns-in-Err-clause-hands : goal.returns-in-Err-clause-hands
+returns-in-Err-clause-hands c = advance_keeps c.loop-worker.pass c.advance.new.pass (Err c.in-Err.found) c.in-Err.ensures.step c.args.pass.now c.loop-worker.invariant.hands

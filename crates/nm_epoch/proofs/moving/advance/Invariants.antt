@@ -1,4 +1,4 @@
-use Rattle.nm_epoch.specs.Resting.{Settles}
+use Rattle.nm_epoch.specs.Resting.{Settles, KeepsHands}
 use Rattle.nm_steps.specs.Steps.{IsSamePass}
 use Rattle.nm_epoch.specs.Scans.{IsLooking}
 use Rattle.nm_epoch.proofs.moving.advance.Given as goal
@@ -8,4 +8,5 @@ invariant-loop-worker l = record {
   same : IsSamePass l.fn.pass l.pass;
   looking : IsLooking l.me l.epoch l.worker l.fn.pass.view.log l.pass;
   settles : Settles l.fn.pass l.pass;
+  hands : KeepsHands l.fn.pass l.pass;
 }

@@ -1,6 +1,9 @@
 use Rattle.std.proofs.Common.{⊎_elim}
 use Rattle.nm_epoch.proofs.Allowed.{may_announce}
 use Rattle.nm_epoch.proofs.Trying.{announced, announced_may, never_saw, never_labelled, won, lost, lost_seen}
+use Rattle.std.proofs.Common.{refl}
+use Rattle.nm_core.specs.declared.reply.Reply.TheVariants.{Pinned, Missed}
+use Rattle.nm_epoch.proofs.Trying.{try_keeps}
 use Rattle.nm_epoch.proofs.pinning.attempt.Goals as goal
 
 pub announce-requires-clause-may : goal.announce-requires-clause-may
@@ -23,3 +26,9 @@ returns-in-Missed-clause-trying c = lost c.announce.new.pass c.confirm.new.pass 
 
 pub returns-in-Missed-clause-last : goal.returns-in-Missed-clause-last
 returns-in-Missed-clause-last c = lost_seen c.announce.new.pass c.confirm.new.pass c.args.by.now c.in-Missed.epoch c.in-Missed.ensures.step
+
+pub returns-in-Pinned-clause-hands : goal.returns-in-Pinned-clause-hands
+returns-in-Pinned-clause-hands c = try_keeps c.args.pass.now c.announce.new.pass c.confirm.new.pass c.args.by.now c.announce.result (Pinned c.in-Pinned.epoch) c.announce.ensures c.in-Pinned.ensures.step refl
+
+pub returns-in-Missed-clause-hands : goal.returns-in-Missed-clause-hands
+returns-in-Missed-clause-hands c = try_keeps c.args.pass.now c.announce.new.pass c.confirm.new.pass c.args.by.now c.announce.result (Missed c.in-Missed.epoch) c.announce.ensures c.in-Missed.ensures.step refl

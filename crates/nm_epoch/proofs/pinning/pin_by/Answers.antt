@@ -1,7 +1,11 @@
-use Rattle.std.proofs.Common.{rules, ap}
+use Rattle.std.proofs.Common.{rules, ap, refl}
 use Rattle.nm_epoch.proofs.Allowed.{may_leave}
 use Rattle.nm_epoch.proofs.Left.{rests_after_leave, seen_after_leave}
 use Rattle.nm_epoch.proofs.Trying.{sees, rests_on, tries_on}
+use Rattle.nm_core.specs.declared.event.Event.TheVariants.{Sight}
+use Rattle.nm_core.specs.declared.reply.Reply.TheVariants.{Saw}
+use Rattle.nm_epoch.proofs.KeptHands.{hands_kept, kept_on}
+use Rattle.nm_epoch.proofs.Left.{leave_keeps}
 use Rattle.nm_epoch.proofs.pinning.pin_by.Goals as goal
 
 pub returns-then-tries-eq0-clause-last : goal.returns-then-tries-eq0-clause-last
@@ -15,6 +19,7 @@ loop-round-init c = record {
   same = search rules;
   tries = search rules;
   trying = tries_on c.args.pass.now c.sight.new.pass c.in-Saw.first c.requires.rests c.in-Saw.ensures.step;
+  hands = hands_kept c.args.pass.now c.sight.new.pass Sight (Saw c.in-Saw.first) c.in-Saw.ensures.step refl (λ _. refl);
   last = sees c.args.pass.now c.sight.new.pass c.in-Saw.first c.in-Saw.ensures.step;
 }
 
@@ -27,3 +32,12 @@ returns-clause-last c = seen_after_leave c.loop-round.pass c.leave.new.pass c.lo
 
 pub returns-clause-rests : goal.returns-clause-rests
 returns-clause-rests c = rests_after_leave c.loop-round.pass c.leave.new.pass c.leave.ensures c.loop-round.invariant.trying.labelled
+
+pub returns-then-tries-eq0-clause-hands : goal.returns-then-tries-eq0-clause-hands
+returns-then-tries-eq0-clause-hands c = hands_kept c.args.pass.now c.sight.new.pass Sight (Saw c.in-Saw.first) c.in-Saw.ensures.step refl (λ _. refl)
+
+pub returns-in-Ok-clause-hands : goal.returns-in-Ok-clause-hands
+returns-in-Ok-clause-hands c = kept_on c.args.pass.now c.loop-round.pass c.attempt.new.pass c.loop-round.invariant.hands c.in-Ok.ensures.hands
+
+pub returns-clause-hands : goal.returns-clause-hands
+returns-clause-hands c = kept_on c.args.pass.now c.loop-round.pass c.leave.new.pass c.loop-round.invariant.hands (leave_keeps c.loop-round.pass c.leave.new.pass c.leave.ensures)

@@ -1,5 +1,5 @@
 use Rattle.std.proofs.Common.{Some, ◌≡◌}
-use Rattle.nm_epoch.specs.Resting.{IsTrying, epochs}
+use Rattle.nm_epoch.specs.Resting.{IsTrying, KeepsHands, epochs}
 use Rattle.nm_steps.specs.Steps.{IsSamePass}
 use Rattle.nm_epoch.specs.Tries.{LostTries, looked, confirming}
 use Rattle.nm_epoch.proofs.pinning.pin_by.Given as goal
@@ -9,5 +9,6 @@ invariant-loop-round l = record {
   same : IsSamePass l.fn.pass l.pass;
   tries : LostTries (confirming l.by) l._round (looked l.fn.pass.view.log l.first) l.pass.view.log;
   trying : IsTrying l.pass;
+  hands : KeepsHands l.fn.pass l.pass;
   last : (epochs l.pass).seen ≡ Some l.epoch;
 }

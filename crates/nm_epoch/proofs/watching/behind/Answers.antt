@@ -4,6 +4,7 @@ use Rattle.nm_epoch.specs.Watches.{bit_of}
 use Rattle.nm_epoch.proofs.Scanning.{settles_on}
 use Rattle.nm_epoch.proofs.Watched.{watching_on, bit_set, bit_clear, shifted}
 use Rattle.nm_epoch.proofs.watching.behind.Goals.{then-is_some, else-is_some}
+use Rattle.nm_epoch.proofs.KeptHands.{kept_on, look_keeps}
 use Rattle.nm_epoch.proofs.watching.behind.Goals as goal
 
 pub loop-worker-preserved : goal.loop-worker-preserved
@@ -17,4 +18,6 @@ loop-worker-preserved c =
       watching = watching_on c.number-me.result c.read-epoch.result c.loop-worker.worker c.loop-worker.mask c.if-is_some.mask c.look-found.result c.args.pass.now.view.log c.loop-worker.pass c.look-found.new.pass
           c.look-found.ensures.same c.look-found.ensures.found sum c.loop-worker.invariant.watching;
       settles = settles_on c.number-me.result c.loop-worker.worker (epochs c.loop-worker.pass).pin c.look-found.result c.loop-worker.pass c.look-found.new.pass c.look-found.ensures.same c.look-found.ensures.found c.args.pass.now c.loop-worker.invariant.settles;
+      hands = kept_on c.args.pass.now c.loop-worker.pass c.look-found.new.pass c.loop-worker.invariant.hands
+          (look_keeps c.number-me.result c.loop-worker.worker (epochs c.loop-worker.pass).pin c.look-found.result c.loop-worker.pass c.look-found.new.pass c.look-found.ensures.same c.look-found.ensures.found);
     }
