@@ -37,6 +37,7 @@ pub mod Sentinels
 pub mod ToldLaws
 pub mod ToldClaims
 pub mod ToldNodes
+pub mod ToldCuts
 pub mod FlaggedPaths
 pub mod FlaggedSteps
 pub mod FlaggedLeaves

@@ -1,5 +1,5 @@
 -- What the last entry of a log tells, by what its worker knew before: laws that a caller may rely on when it looks.
-use Rattle.std.specs.Prelude.{◌≡◌, ◌≢◌, ℕ, ◌<◌, ◌≤◌, true, false, List, [], ◌∷◌, ◌++◌, Some, slice_get}
+use Rattle.std.specs.Prelude.{◌≡◌, ◌≢◌, ℕ, ◌<◌, ◌≤◌, ◌==◌, true, false, List, [], ◌∷◌, ◌++◌, Some, option_map, slice_get, if◌then◌else◌}
 use Rattle.nm_edge.specs.Edges.{Edge, other}
 use Rattle.nm_edge.specs.Layouts.{Layout}
 use Rattle.nm_edge.specs.declared.edge.Side.{Side}
@@ -11,7 +11,7 @@ use Rattle.nm_core.specs.declared.reply.Reply.TheVariants.{Claimed, Flagged, Cut
 use Rattle.nm_core.specs.declared.ledger.Queued.{Queued}
 use Rattle.nm_core.specs.Memory.{infinity_0}
 use Rattle.nm_core.specs.Knowledge.{is_private, knows}
-use Rattle.nm_core.specs.Ledgers.{held, queue_of}
+use Rattle.nm_core.specs.Ledgers.{held, queue_of, with_cut}
 use Rattle.nm_core.specs.Step.{is_frozen}
 use Rattle.nm_core.specs.Walks.{Entry}
 use Rattle.nm_order.specs.Logs.{known_by, IsLogOf}
@@ -80,6 +80,11 @@ pub data FrozenTo (holds : Fact → Type 0) (p : ℕ) (keep : Side) : ℕ → Li
 -- a splice that is won answers just the nodes of the chain as it was known
 abbrev pub CutsAreAsKnown : Layout → ℕ → List Entry → Entry → Type 0
 CutsAreAsKnown L w log entry = (a s p : ℕ) (side keep : Side) (ns known : List NodeId) → entry ≡ (Splice a side s p keep, Cut ns) → FrozenTo (Holds L w log) p keep s known → ns ≡ known
+
+-- the nodes of a splice that is won enter its worker's own queue at the end, without a label; the other ledgers stay
+abbrev pub CutsEnterTheQueue : Layout → ℕ → List Entry → Entry → Type 0
+CutsEnterTheQueue L w log entry = (a s p : ℕ) (side keep : Side) (ns : List NodeId) → entry ≡ (Splice a side s p keep, Cut ns) → (o : ℕ)
+    → held (known_by L w (log ++ entry ∷ [])).ledgers o ≡ (if o == w then option_map (with_cut ns) (held (known_by L w log).ledgers o) else held (known_by L w log).ledgers o)
 
 -- a flag that is won answers the leaf with its birth as it was known
 abbrev pub FlagsAreAsKnown : Layout → ℕ → List Entry → Entry → Type 0

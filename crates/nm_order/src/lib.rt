@@ -21,7 +21,7 @@ pub use order::{
 pub use paths::walks_were_reached;
 pub use reads::epochs_are_read_in_order;
 pub use told::{
-    answers_name_what_is_known, claims_are_new, edges_are_told, frozen_chains_may_be_cut,
-    low_keys_stand_high,
+    answers_name_what_is_known, claims_are_new, cuts_enter_the_queue, edges_are_told,
+    frozen_chains_may_be_cut, low_keys_stand_high,
 };
 pub use walks::{flags_are_told, flags_stay, walks_after_the_flag, walks_are_arrivals};

@@ -1,5 +1,5 @@
 //! What the last entry of a log tells: laws over the log of one worker, of each log that ends with the entry.
-ghost use Rattle.nm_order.specs.Told.{ClaimsAreNew, CutsAreAsKnown, EdgesStayInside, FlaggedEdgesLeadHigh, FlaggedEdgesStandHigh, FlagsAreAsKnown, FrozenChainsMayBeCut, LowKeysStandHigh, OfEachEntry, RootLeads, TagsLead, TwinsAreToldFlagged};
+ghost use Rattle.nm_order.specs.Told.{ClaimsAreNew, CutsAreAsKnown, CutsEnterTheQueue, EdgesStayInside, FlaggedEdgesLeadHigh, FlaggedEdgesStandHigh, FlagsAreAsKnown, FrozenChainsMayBeCut, LowKeysStandHigh, OfEachEntry, RootLeads, TagsLead, TwinsAreToldFlagged};
 
 /// What an edge that is told must be: flagged where its twin is known tagged; where it is flagged, one of a slot above 5 to a slot above 5;
 /// in any case one to a slot of the layout; and not null where it is the left edge of slot 2, or was tagged.
@@ -28,6 +28,12 @@ pub fn claims_are_new()
 pub fn answers_name_what_is_known()
     ensures cuts { OfEachEntry CutsAreAsKnown }
     ensures flags { OfEachEntry FlagsAreAsKnown }
+{}
+
+/// The nodes of a splice that is won enter its worker's own queue at the end, and wait there for their label. The other ledgers that the
+/// worker holds stay as they are. (Retired nodes wait in order; Fraser, section 5.2.3.)
+pub fn cuts_enter_the_queue()
+    ensures { OfEachEntry CutsEnterTheQueue }
 {}
 
 /// A chain that a worker's facts say is frozen, by tagged edges from a slot down to another and with a flagged edge beside each,
