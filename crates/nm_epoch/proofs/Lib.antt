@@ -13,3 +13,6 @@ pub mod SeveralQueues
 pub mod Sighted
 pub mod FewQueues
 pub mod Newest
+pub mod Playing
+pub mod DeletingFive
+pub mod CollectingTwo
