@@ -11,7 +11,7 @@ use Rattle.nm_steps.proofs.Presence.{known_push}
 use Rattle.nm_steps.proofs.Noting.{brief_is_noted}
 use Rattle.nm_epoch.specs.Resting.{epochs, search}
 
-search_more : (s : Search) (log : List Entry) (x : Entry) → search_after s (log ++ x ∷ []) ≡ searched (search_after s log) x.0 x.1
+pub search_more : (s : Search) (log : List Entry) (x : Entry) → search_after s (log ++ x ∷ []) ≡ searched (search_after s log) x.0 x.1
 search_more s [] x = refl
 search_more s (y ∷ log) x = search_more (searched s y.0 y.1) log x
 

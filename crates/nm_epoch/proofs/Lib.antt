@@ -15,3 +15,6 @@ pub mod Sighted
 pub mod FewQueues
 pub mod Newest
 pub mod Labels
+pub mod Playing
+pub mod DeletingFive
+pub mod CollectingTwo

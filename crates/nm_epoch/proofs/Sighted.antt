@@ -35,7 +35,7 @@ shown_labelled e (Some l) es is = ap (λ (q : List Queued). Some (map (with_labe
 -- ---- a sight
 
 -- ledgers stay, or all that wait in them have labels now
-abbrev Sights : Knowledge → Knowledge → Type 0
+abbrev pub Sights : Knowledge → Knowledge → Type 0
 Sights k l = (l.ledgers ≡ k.ledgers) ⊎ ((e : ℕ) × (l.ledgers ≡ label e k.ledgers))
 
 sights : (w : ℕ) (k : Knowledge) (r : Reply) (e : ℕ) → epoch_in r ≡ Some e → Sights k (learn w k Sight r)
@@ -52,7 +52,7 @@ module _ (k l : Knowledge) (s : Sights k l) where
       (λ (more : (e : ℕ) × (l.ledgers ≡ label e k.ledgers)). ap (λ (ls : List (Option Ledger)). option_map (λ (x : Ledger). x.queue) (held ls o)) more.1
       ∙ (ap (λ (h : Option Ledger). option_map (λ (x : Ledger). x.queue) h) (held-label more.0 k.ledgers o) ∙ shown_labelled more.0 (held k.ledgers o) es is)) s
 
-  held_stays : (hs : List HeldQueue) → AreHeld k hs → AreHeld l hs
+  pub held_stays : (hs : List HeldQueue) → AreHeld k hs → AreHeld l hs
   held_stays [] has = tt
   held_stays (h ∷ hs) has = (queue_stays h.origin h.queue.items has.0, has.1, held_stays hs has.2)
 

@@ -3,8 +3,12 @@ ghost use Rattle.nm_steps.specs.Steps.{AreFresh, IsOf};
 ghost use Rattle.nm_epoch.specs.Resting.{IsResting};
 ghost use Rattle.nm_steps.specs.Steps.{IsSamePass};
 
+mod collecting;
+mod deleting;
+
 use crate::{Advance, Behind, Moved, advance, behind, pin, unpin};
 use nm_edge::Layout;
+use nm_pool::{put, take};
 use nm_steps::{Pass, Shared};
 use std::test::Fail;
 use std::thread::{Threads, join};
@@ -121,6 +125,38 @@ fn a_pin_holds_the_epoch_back(rt: HostRuntime) -> Result<(), Fail> {
     unpin(&shared, &mut second);
     assert_eq!(rt; advance(&shared, &mut first), Advance::Moved { epoch: 2 });
     assert_eq!(rt; behind(&shared, &mut second), Behind { epoch: 2, mask: 0 });
+    Ok(())
+}
+
+#[test]
+fn two_workers_pin_and_take(rt: HostRuntime) -> Result<(), Fail> {
+    let layout = Layout::new(NODES, WORKERS)?;
+    let (shared, passes) = Shared::new(rt.alloc(), layout)?;
+    let (mut first, mut second) = both(&shared, passes);
+    let Ok(pinned) = pin(&shared, &mut second, 4) else {
+        panic!(rt; "the epoch moved on by itself")
+    };
+    assert_eq!(rt; pinned, 0);
+    assert_eq!(rt; advance(&shared, &mut first), Advance::Moved { epoch: 1 });
+    assert_eq!(rt;
+        advance(&shared, &mut first),
+        Advance::Held {
+            worker: 1,
+            epoch: 0
+        }
+    );
+    assert_eq!(rt; pin(&shared, &mut first, 0), Err(Moved { epoch: 1 }));
+    unpin(&shared, &mut second);
+    assert_eq!(rt; advance(&shared, &mut first), Advance::Moved { epoch: 2 });
+    let Some(slot) = take(&shared, &mut first, 6) else {
+        panic!(rt; "slot 6 is in the pool")
+    };
+    assert_eq!(rt; slot, 6);
+    assert_eq!(rt; take(&shared, &mut second, 6), Some(7));
+    assert_eq!(rt; take(&shared, &mut second, 6), None);
+    assert_eq!(rt; take(&shared, &mut second, 8), None);
+    put(&shared, &mut first, slot);
+    assert_eq!(rt; take(&shared, &mut second, 6), Some(6));
     Ok(())
 }
 

@@ -1,16 +1,14 @@
 -- An insert of 5 into the empty tree of one worker, step by step: each step is allowed by the log of those before it.
-use Rattle.std.proofs.Common.{◌≡◌, ℕ, suc, ◌++◌, true, List, [], ◌∷◌, ◌==◌, arith, refl, sym, subst, ap, true≢false, ◌∙◌}
+use Rattle.std.proofs.Common.{◌≡◌, ℕ, suc, ◌++◌, true, [], ◌∷◌, ◌==◌, arith, refl, sym, subst, ap, true≢false, ◌∙◌}
 use Rattle.std.specs.Prelude.{None, take, Result, Ok, Err, is_ok}
-use Rattle.nm_edge.specs.Edges.{Edge, to}
-use Rattle.nm_edge.specs.Layouts.{Layout}
+use Rattle.nm_edge.specs.Edges.{Edge}
 use Rattle.nm_edge.specs.declared.edge.Side.TheVariants.{Left, Right}
 use Rattle.nm_core.specs.declared.event.Op.TheVariants.{Insert}
 use Rattle.nm_core.specs.declared.event.Event.{Event}
-use Rattle.nm_core.specs.declared.event.Event.TheVariants.{Sight, SightFor, Announce, LeaveWith, Claim, Look, Fill, Link}
+use Rattle.nm_core.specs.declared.event.Event.TheVariants.{SightFor, Announce, LeaveWith, Claim, Look, Fill, Link}
 use Rattle.nm_core.specs.declared.event.Field.TheVariants.{Key as KeyOf, Edge as EdgeOn, Birth}
 use Rattle.nm_core.specs.declared.reply.Reply.{Reply}
-use Rattle.nm_core.specs.declared.reply.Reply.TheVariants.{Saw, Pinned, Announced, Departed, Claimed, KeyIs, BirthIs, EdgeIs, Filled, Linked}
-use Rattle.nm_core.specs.Walks.{Entry}
+use Rattle.nm_core.specs.declared.reply.Reply.TheVariants.{Linked}
 use Rattle.nm_core.specs.declared.reply.Refused.TheVariants.{NotReady, Spent}
 use Rattle.nm_core.specs.Knowledge.{draft_of}
 use Rattle.nm_core.specs.Learning.{learn}
@@ -18,36 +16,8 @@ use Rattle.nm_core.specs.Searches.{searched}
 use Rattle.nm_core.specs.Step.{refusal, first, ◌refuses◌, is_early, last_number}
 use Rattle.nm_order.specs.Logs.{known_by}
 use Rattle.nm_steps.specs.Steps.{Stand, May, MayStep, Stepped, fresh_view, link_reply}
+use Rattle.nm_steps.specs.Plays.{small, infinity, inserting}
 use Rattle.nm_steps.specs.declared.view.View.{View}
-
-abbrev pub small : Layout
-small = record { nodes = 7; workers = 1 }
-
-abbrev infinity : ℕ
-infinity = 18446744073709551613
-
-abbrev pub inserting : List Entry
-inserting =
-    (Sight, Saw 0)
-    ∷ (Announce, Announced 0)
-    ∷ (SightFor Insert 5, Pinned 0)
-    ∷ (Look 2 (EdgeOn Left), EdgeIs (to 3))
-    ∷ (Look 3 KeyOf, KeyIs infinity)
-    ∷ (Look 3 (EdgeOn Left), EdgeIs (to 0))
-    ∷ (Claim 6, Claimed 6)
-    ∷ (Look 6 Birth, BirthIs 0)
-    ∷ (Fill 6 Birth 1, Filled)
-    ∷ (Claim 7, Claimed 7)
-    ∷ (Look 7 Birth, BirthIs 0)
-    ∷ (Fill 7 Birth 1, Filled)
-    ∷ (Fill 6 KeyOf infinity, Filled)
-    ∷ (Fill 6 (EdgeOn Left) 7, Filled)
-    ∷ (Fill 6 (EdgeOn Right) 3, Filled)
-    ∷ (Fill 7 KeyOf 5, Filled)
-    ∷ (Fill 7 (EdgeOn Left) 0, Filled)
-    ∷ (Fill 7 (EdgeOn Right) 0, Filled)
-    ∷ (Link 2 Left 3 6, Linked (record { slot = 6; birth = 1 }))
-    ∷ (LeaveWith true, Departed) ∷ []
 
 -- the pass has made so many steps of it, and no other
 abbrev pub HasMade : ℕ → Stand → Type 0

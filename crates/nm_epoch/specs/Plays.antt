@@ -1,0 +1,63 @@
+-- Steps that a test makes by the only worker of the smallest tree: it inserts 5, deletes it and moves the epoch on.
+use Rattle.std.specs.Prelude.{◌≡◌, ℕ, true, List, [], ◌∷◌, ◌++◌, take}
+use Rattle.nm_edge.specs.Edges.{to}
+use Rattle.nm_edge.specs.declared.edge.Side.TheVariants.{Left, Right}
+use Rattle.nm_edge.specs.declared.node.NodeId.{NodeId}
+use Rattle.nm_core.specs.declared.event.Op.TheVariants.{Delete}
+use Rattle.nm_core.specs.declared.event.Event.TheVariants.{Sight, SightFor, Announce, LeaveWith, Advance, Look, Flag, Tag, Splice}
+use Rattle.nm_core.specs.declared.event.Field.TheVariants.{Key as KeyOf, Edge as EdgeOn, Birth}
+use Rattle.nm_core.specs.declared.reply.Reply.TheVariants.{Saw, Labelled, Pinned, Announced, Departed, Moved, KeyIs, BirthIs, EdgeIs, Flagged, Was, Cut}
+use Rattle.nm_core.specs.Searches.{idle}
+use Rattle.nm_core.specs.Walks.{Entry as LogEntry, search_after}
+use Rattle.nm_order.specs.Logs.{known_by}
+use Rattle.nm_steps.specs.Plays.{small, infinity, inserting}
+use Rattle.nm_steps.specs.Rules.{knowledge}
+use Rattle.nm_steps.specs.Steps.{Stand}
+use Rattle.nm_epoch.specs.Resting.{search}
+use Rattle.nm_epoch.specs.declared.collecting.Entry.{Entry}
+
+-- the first node of a slot
+abbrev pub first_in : ℕ → NodeId
+first_in slot = record { slot = slot; birth = 1 }
+
+-- it deletes 5 again
+abbrev pub deleting : List LogEntry
+deleting =
+    (Sight, Saw 0)
+    ∷ (Announce, Announced 0)
+    ∷ (SightFor Delete 5, Pinned 0)
+    ∷ (Look 2 (EdgeOn Left), EdgeIs (to 6))
+    ∷ (Look 6 KeyOf, KeyIs infinity)
+    ∷ (Look 6 (EdgeOn Left), EdgeIs (to 7))
+    ∷ (Look 7 KeyOf, KeyIs 5)
+    ∷ (Look 7 (EdgeOn Right), EdgeIs (to 0))
+    ∷ (Look 7 Birth, BirthIs 1)
+    ∷ (Flag 6 Left 7, Flagged (first_in 7))
+    ∷ (Look 6 (EdgeOn Right), EdgeIs (to 3))
+    ∷ (Tag 6 Right, Was (to 3))
+    ∷ (Look 6 Birth, BirthIs 1)
+    ∷ (Splice 2 Left 6 6 Right, Cut (first_in 6 ∷ first_in 7 ∷ []))
+    ∷ (Sight, Labelled 0)
+    ∷ (LeaveWith true, Departed) ∷ []
+
+-- it reads the epoch, to collect what is not ripe yet, and moves it on twice
+abbrev pub moving : List LogEntry
+moving = (Sight, Saw 0) ∷ (Advance, Moved 1) ∷ (Advance, Moved 2) ∷ []
+
+abbrev pub playing : List LogEntry
+playing = inserting ++ deleting ++ moving
+
+-- the pass knows what this log tells
+pub record Knows (log : List LogEntry) (p : Stand) : Type 0 where
+  pub layout : p.view.layout ≡ small
+  pub number : p.view.number ≡ 0
+  pub known : knowledge p.view ≡ known_by small 0 log
+  pub found : search p ≡ search_after idle log
+
+-- it knows what the first n of these steps tell
+abbrev pub HasPlayed : ℕ → Stand → Type 0
+HasPlayed n p = Knows (take n playing) p
+
+-- the two nodes wait, with the label 0
+abbrev pub waiting : List Entry
+waiting = record { node = first_in 6; label = 0 } ∷ record { node = first_in 7; label = 0 } ∷ []
