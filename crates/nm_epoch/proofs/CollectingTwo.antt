@@ -14,7 +14,7 @@ use Rattle.nm_core.specs.Ledgers.{held}
 use Rattle.nm_core.specs.Searches.{searched}
 use Rattle.nm_core.specs.Walks.{Entry as LogEntry}
 use Rattle.nm_order.specs.Logs.{known_by}
-use Rattle.nm_steps.specs.Plays.{small}
+use Rattle.nm_epoch.specs.Plays.{small}
 use Rattle.nm_steps.specs.Rules.{knowledge}
 use Rattle.nm_steps.specs.Steps.{Stand, Stepped, IsSamePass}
 use Rattle.nm_epoch.specs.declared.collecting.Entry.{Entry}

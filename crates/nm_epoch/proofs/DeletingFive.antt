@@ -16,7 +16,7 @@ use Rattle.nm_core.specs.Step.{refusal, node_linked}
 use Rattle.nm_core.specs.declared.reply.Reply.TheVariants.{Linked, Flagged, Cut}
 use Rattle.nm_words.specs.Told.{known_as}
 use Rattle.nm_order.specs.Logs.{known_by}
-use Rattle.nm_steps.specs.Plays.{small}
+use Rattle.nm_epoch.specs.Plays.{small}
 use Rattle.nm_steps.specs.Rules.{knowledge}
 use Rattle.nm_steps.specs.Steps.{Stand, May, link_reply, flag_reply, splice_reply}
 use Rattle.nm_epoch.specs.Plays.{HasPlayed, playing, first_in}

@@ -1,19 +1,15 @@
 -- What one step leaves of a worker's epochs and of its call.
-use Rattle.std.proofs.Common.{◌≡◌, List, [], ◌∷◌, ◌++◌, refl, ap, ◌∙◌}
+use Rattle.std.proofs.Common.{◌≡◌, ap, ◌∙◌}
 use Rattle.nm_core.specs.declared.event.Event.{Event}
 use Rattle.nm_core.specs.declared.reply.Reply.{Reply}
 use Rattle.nm_core.specs.Knowledge.{Knowledge}
-use Rattle.nm_core.specs.Searches.{Search, idle, searched}
-use Rattle.nm_core.specs.Walks.{Entry, search_after}
+use Rattle.nm_core.specs.Searches.{idle, searched}
 use Rattle.nm_steps.specs.Rules.{knowledge}
 use Rattle.nm_steps.specs.Steps.{Stand, Stepped, noted}
 use Rattle.nm_steps.proofs.Presence.{known_push}
 use Rattle.nm_steps.proofs.Noting.{brief_is_noted}
+use Rattle.nm_order.proofs.LastEntries.{search_more}
 use Rattle.nm_epoch.specs.Resting.{epochs, search}
-
-pub search_more : (s : Search) (log : List Entry) (x : Entry) → search_after s (log ++ x ∷ []) ≡ searched (search_after s log) x.0 x.1
-search_more s [] x = refl
-search_more s (y ∷ log) x = search_more (searched s y.0 y.1) log x
 
 pub epochs_after : (p q : Stand) (e : Event) (r : Reply) → Stepped p q e r → epochs q ≡ noted (epochs p) e r
 epochs_after p q e r step =

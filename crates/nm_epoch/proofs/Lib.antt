@@ -16,5 +16,6 @@ pub mod FewQueues
 pub mod Newest
 pub mod Labels
 pub mod Playing
+pub mod InsertingFive
 pub mod DeletingFive
 pub mod CollectingTwo

@@ -15,16 +15,15 @@ use Rattle.nm_core.specs.Walks.{Entry, search_after}
 use Rattle.nm_order.specs.Intervals.{HasKey}
 use Rattle.nm_order.specs.Logs.{known_by}
 use Rattle.nm_words.specs.Told.{BirthsAreKnown}
-use Rattle.nm_steps.specs.Plays.{small}
+use Rattle.nm_epoch.specs.Plays.{small}
 use Rattle.nm_steps.specs.Rules.{knowledge}
 use Rattle.nm_steps.specs.Steps.{Stand, May, MayStep, Stepped, HasLooked, IsAsLooked, exchange_reply}
 use Rattle.nm_steps.proofs.Presence.{known_push}
 use Rattle.nm_epoch.specs.Plays.{Knows}
 use Rattle.nm_epoch.specs.Resting.{search}
-use Rattle.nm_epoch.proofs.Entries.{search_is, search_more}
-
-known_after_step : (p q : Stand) (e : Event) (r : Reply) → Stepped p q e r → knowledge q.view ≡ learn p.view.number (knowledge p.view) e r
-known_after_step p q e r step = ap (λ (s : Stand). knowledge s.view) step ∙ known_push p.view.number p.view.layout p.view.log (e, r)
+use Rattle.nm_order.proofs.LastEntries.{search_more}
+use Rattle.nm_epoch.proofs.Entries.{search_is}
+use Rattle.nm_epoch.proofs.KeptHands.{known_after_step}
 
 -- a step more
 pub knows_more : (log : List Entry) (p q : Stand) (e : Event) (r : Reply) → Knows log p → Stepped p q e r → Knows (log ++ (e, r) ∷ []) q

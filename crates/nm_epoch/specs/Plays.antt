@@ -1,20 +1,51 @@
 -- Steps that a test makes by the only worker of the smallest tree: it inserts 5, deletes it and moves the epoch on.
 use Rattle.std.specs.Prelude.{◌≡◌, ℕ, true, List, [], ◌∷◌, ◌++◌, take}
 use Rattle.nm_edge.specs.Edges.{to}
+use Rattle.nm_edge.specs.Layouts.{Layout}
 use Rattle.nm_edge.specs.declared.edge.Side.TheVariants.{Left, Right}
 use Rattle.nm_edge.specs.declared.node.NodeId.{NodeId}
-use Rattle.nm_core.specs.declared.event.Op.TheVariants.{Delete}
-use Rattle.nm_core.specs.declared.event.Event.TheVariants.{Sight, SightFor, Announce, LeaveWith, Advance, Look, Flag, Tag, Splice}
+use Rattle.nm_core.specs.declared.event.Op.TheVariants.{Insert, Delete}
+use Rattle.nm_core.specs.declared.event.Event.TheVariants.{Sight, SightFor, Announce, LeaveWith, Advance, Claim, Look, Fill, Link, Flag, Tag, Splice}
 use Rattle.nm_core.specs.declared.event.Field.TheVariants.{Key as KeyOf, Edge as EdgeOn, Birth}
-use Rattle.nm_core.specs.declared.reply.Reply.TheVariants.{Saw, Labelled, Pinned, Announced, Departed, Moved, KeyIs, BirthIs, EdgeIs, Flagged, Was, Cut}
+use Rattle.nm_core.specs.declared.reply.Reply.TheVariants.{Saw, Labelled, Pinned, Announced, Departed, Moved, Claimed, KeyIs, BirthIs, EdgeIs, Filled, Linked, Flagged, Was, Cut}
 use Rattle.nm_core.specs.Searches.{idle}
 use Rattle.nm_core.specs.Walks.{Entry as LogEntry, search_after}
 use Rattle.nm_order.specs.Logs.{known_by}
-use Rattle.nm_steps.specs.Plays.{small, infinity, inserting}
 use Rattle.nm_steps.specs.Rules.{knowledge}
 use Rattle.nm_steps.specs.Steps.{Stand}
 use Rattle.nm_epoch.specs.Resting.{search}
 use Rattle.nm_epoch.specs.declared.collecting.Entry.{Entry}
+
+abbrev pub small : Layout
+small = record { nodes = 7; workers = 1 }
+
+-- the least key that is not one of the set
+abbrev pub infinity : ℕ
+infinity = 18446744073709551613
+
+-- it inserts 5 into the empty tree
+abbrev pub inserting : List LogEntry
+inserting =
+    (Sight, Saw 0)
+    ∷ (Announce, Announced 0)
+    ∷ (SightFor Insert 5, Pinned 0)
+    ∷ (Look 2 (EdgeOn Left), EdgeIs (to 3))
+    ∷ (Look 3 KeyOf, KeyIs infinity)
+    ∷ (Look 3 (EdgeOn Left), EdgeIs (to 0))
+    ∷ (Claim 6, Claimed 6)
+    ∷ (Look 6 Birth, BirthIs 0)
+    ∷ (Fill 6 Birth 1, Filled)
+    ∷ (Claim 7, Claimed 7)
+    ∷ (Look 7 Birth, BirthIs 0)
+    ∷ (Fill 7 Birth 1, Filled)
+    ∷ (Fill 6 KeyOf infinity, Filled)
+    ∷ (Fill 6 (EdgeOn Left) 7, Filled)
+    ∷ (Fill 6 (EdgeOn Right) 3, Filled)
+    ∷ (Fill 7 KeyOf 5, Filled)
+    ∷ (Fill 7 (EdgeOn Left) 0, Filled)
+    ∷ (Fill 7 (EdgeOn Right) 0, Filled)
+    ∷ (Link 2 Left 3 6, Linked (record { slot = 6; birth = 1 }))
+    ∷ (LeaveWith true, Departed) ∷ []
 
 -- the first node of a slot
 abbrev pub first_in : ℕ → NodeId

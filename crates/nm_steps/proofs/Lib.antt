@@ -12,5 +12,4 @@ pub mod JoinedPasses
 pub mod Endings
 pub mod FoundBirths
 pub mod ClaimedSlots
-pub mod InsertingFive
 pub mod AfterSteps

@@ -1,4 +1,3 @@
 pub mod Rules
 pub mod Steps
 pub mod Openings
-pub mod Plays

@@ -1,8 +1,6 @@
 ghost use Rattle.std.specs.Prelude.{◌≡◌, length};
 ghost use Rattle.nm_steps.specs.Steps.{AreFresh, IsOf};
 
-mod inserting;
-
 use crate::{Pass, Shared};
 use nm_edge::Layout;
 use std::test::Fail;
@@ -38,6 +36,7 @@ fn a_pass_for_each_worker(rt: HostRuntime) -> Result<(), Fail> {
     assert_eq!(rt; passes[0].number(), 0);
     assert_eq!(rt; passes[1].number(), 1);
     passes[0].is_of_a_run();
+    passes[0].holds_pooled_slots();
     Ok(())
 }
 

@@ -1,10 +1,11 @@
 //! Nodes that were cut wait for two epochs, and then they are free.
 ghost use Rattle.std.specs.Prelude.{◌≡◌, length, IfOk};
-ghost use Rattle.nm_steps.specs.Plays.{small};
+ghost use Rattle.nm_epoch.specs.Plays.{small};
 ghost use Rattle.nm_steps.specs.Steps.{AreFresh, IsOf};
 ghost use Rattle.nm_epoch.specs.Plays.{HasPlayed, first_in, waiting};
 
-use super::deleting::insert_and_delete;
+use super::deleting::delete_five;
+use super::inserting::{insert_five, only};
 use crate::{Collected, Entry, HeldQueue, collect};
 use nm_edge::{Key, Layout, NodeId};
 use nm_limbo::{BlockQueue, NoMemory};
@@ -13,20 +14,6 @@ use nm_steps::{Pass, Shared};
 use std::alloc::Global;
 use std::process::Abort;
 use std::test::Fail;
-
-/// The pass of the only worker.
-fn only(shared: &Shared, mut passes: Vec<Pass>) -> Pass
-    requires small { shared.now.layout ≡ small }
-    requires one { length passes.items ≡ 1 }
-    requires fresh { AreFresh shared.now 0 passes.items }
-    ensures own { IsOf shared.now result }
-    ensures fresh { HasPlayed 0 result }
-{
-    let Some(pass) = passes.pop() else {
-        unreachable!()
-    };
-    pass
-}
 
 /// Moves the epoch on twice.
 fn move_twice(rt: &impl Abort, shared: &Shared, pass: &mut Pass)
@@ -68,7 +55,8 @@ fn what_is_ripe_is_collected(rt: HostRuntime) -> Result<(), Fail> {
     let Some(five) = Key::new(5) else {
         panic!(rt; "5 is a key")
     };
-    insert_and_delete(&rt, &shared, &mut pass, five);
+    insert_five(&rt, &shared, &mut pass, five);
+    delete_five(&rt, &shared, &mut pass, five);
     let mut queues = [cut_nodes(rt.alloc())?];
     let young = collect(&shared, &mut pass, &mut queues);
     assert_eq!(rt; young, Collected { epoch: 0, freed: 0 });

@@ -3,11 +3,11 @@ use Rattle.std.specs.Prelude.{take}
 use Rattle.nm_edge.specs.declared.edge.Side.TheVariants.{Left}
 use Rattle.nm_core.specs.declared.event.Event.TheVariants.{LeaveWith, Link}
 use Rattle.nm_core.specs.declared.reply.Reply.TheVariants.{Departed, Linked}
-use Rattle.nm_steps.proofs.InsertingFive.{may_link, may_leave_with}
+use Rattle.nm_epoch.proofs.InsertingFive.{may_link, may_leave_with}
 use Rattle.nm_epoch.specs.Plays.{HasPlayed, playing, first_in}
 use Rattle.nm_epoch.proofs.DeletingFive.{won_link}
 use Rattle.nm_epoch.proofs.Playing.{knows_more, allowed_then, replied}
-use Rattle.nm_epoch.proofs.tests.deleting.link_five.Goals as goal
+use Rattle.nm_epoch.proofs.tests.inserting.link_five.Goals as goal
 
 pub link-requires-clause-may : goal.link-requires-clause-may
 link-requires-clause-may g c =

@@ -1,37 +1,18 @@
 -- An insert of 5 into the empty tree of one worker, step by step: each step is allowed by the log of those before it.
-use Rattle.std.proofs.Common.{◌≡◌, ℕ, suc, ◌++◌, true, [], ◌∷◌, ◌==◌, arith, refl, sym, subst, ap, true≢false, ◌∙◌}
-use Rattle.std.specs.Prelude.{None, take, Result, Ok, Err, is_ok}
-use Rattle.nm_edge.specs.Edges.{Edge}
+use Rattle.std.proofs.Common.{◌≡◌, true, [], ◌∷◌, ◌==◌, arith, refl, sym, subst}
+use Rattle.std.specs.Prelude.{None, take}
 use Rattle.nm_edge.specs.declared.edge.Side.TheVariants.{Left, Right}
 use Rattle.nm_core.specs.declared.event.Op.TheVariants.{Insert}
-use Rattle.nm_core.specs.declared.event.Event.{Event}
 use Rattle.nm_core.specs.declared.event.Event.TheVariants.{SightFor, Announce, LeaveWith, Claim, Look, Fill, Link}
 use Rattle.nm_core.specs.declared.event.Field.TheVariants.{Key as KeyOf, Edge as EdgeOn, Birth}
-use Rattle.nm_core.specs.declared.reply.Reply.{Reply}
-use Rattle.nm_core.specs.declared.reply.Reply.TheVariants.{Linked}
 use Rattle.nm_core.specs.declared.reply.Refused.TheVariants.{NotReady, Spent}
 use Rattle.nm_core.specs.Knowledge.{draft_of}
 use Rattle.nm_core.specs.Learning.{learn}
 use Rattle.nm_core.specs.Searches.{searched}
 use Rattle.nm_core.specs.Step.{refusal, first, ◌refuses◌, is_early, last_number}
 use Rattle.nm_order.specs.Logs.{known_by}
-use Rattle.nm_steps.specs.Steps.{Stand, May, MayStep, Stepped, fresh_view, link_reply}
-use Rattle.nm_steps.specs.Plays.{small, infinity, inserting}
-use Rattle.nm_steps.specs.declared.view.View.{View}
-
--- the pass has made so many steps of it, and no other
-abbrev pub HasMade : ℕ → Stand → Type 0
-HasMade n p = p.view ≡ record (fresh_view small 0) { log = take n inserting }
-
--- a step more
-pub one_more : (n : ℕ) (p q : Stand) (e : Event) (r : Reply) → HasMade n p → Stepped p q e r → take n inserting ++ (e, r) ∷ [] ≡ take (suc n) inserting → HasMade (suc n) q
-one_more n p q e r has done same = ap (λ (s : Stand). s.view) done ∙ (ap (λ (v : View). record v { log = v.log ++ (e, r) ∷ [] }) has ∙ ap (λ log. record (fresh_view small 0) { log = log }) same)
-
--- what its log allows
-pub allowed_next : (n : ℕ) (p : Stand) (e : Event) → HasMade n p → May small 0 (take n inserting) e → MayStep p e
-allowed_next n p e has may = subst (λ (v : View). May v.layout v.number v.log e) (sym has) may
-
--- ---- each step, by the log before it
+use Rattle.nm_steps.specs.Steps.{May}
+use Rattle.nm_epoch.specs.Plays.{small, infinity, inserting}
 
 pub may_announce : May small 0 (take 1 inserting) (Announce)
 unfolding refusal learn searched
@@ -108,9 +89,3 @@ may_link = record { looked = tt; allowed = λ m h. refl; ordered = refl; births 
 pub may_leave_with : May small 0 (take 19 inserting) (LeaveWith true)
 unfolding refusal learn searched
 may_leave_with = record { looked = tt; allowed = λ m h. refl; ordered = refl; births = tt; key = tt }
-
--- a link that was won answers the new node
-pub won_link : (p q : Stand) (r : Result Unit Edge) → HasMade 18 p → Stepped p q (Link 2 Left 3 6) (link_reply p.view 6 r) → is_ok r ≡ true → Stepped p q (Link 2 Left 3 6) (Linked (record { slot = 6; birth = 1 }))
-unfolding learn
-won_link p q (Ok u) has done ok = done ∙ ap (λ (x : Reply). record p { view = record p.view { log = p.view.log ++ (Link 2 Left 3 6, x) ∷ [] } }) (ap (λ (v : View). link_reply v 6 (Ok u)) has)
-won_link p q (Err e) has done ok = absurd (true≢false (sym ok))

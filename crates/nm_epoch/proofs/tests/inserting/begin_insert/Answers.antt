@@ -7,10 +7,10 @@ use Rattle.nm_core.specs.declared.event.Event.TheVariants.{Sight, SightFor, Anno
 use Rattle.nm_core.specs.declared.event.Field.TheVariants.{Key as KeyOf, Edge as EdgeOn}
 use Rattle.nm_core.specs.declared.reply.Reply.TheVariants.{Saw, Pinned, Announced, KeyIs, EdgeIs}
 use Rattle.nm_steps.specs.Steps.{MayStep}
-use Rattle.nm_steps.proofs.InsertingFive.{may_announce, may_sight_for, may_look_edge, may_look_key, may_look_edge2}
+use Rattle.nm_epoch.proofs.InsertingFive.{may_announce, may_sight_for, may_look_edge, may_look_key, may_look_edge2}
 use Rattle.nm_epoch.specs.Plays.{HasPlayed, playing}
 use Rattle.nm_epoch.proofs.Playing.{knows_more, allowed_then}
-use Rattle.nm_epoch.proofs.tests.deleting.begin_insert.Goals as goal
+use Rattle.nm_epoch.proofs.tests.inserting.begin_insert.Goals as goal
 
 pub announce-requires-clause-may : goal.announce-requires-clause-may
 announce-requires-clause-may g c =

@@ -3,10 +3,10 @@ use Rattle.nm_edge.specs.declared.edge.Side.TheVariants.{Left, Right}
 use Rattle.nm_core.specs.declared.event.Event.TheVariants.{Fill}
 use Rattle.nm_core.specs.declared.event.Field.TheVariants.{Key as KeyOf, Edge as EdgeOn}
 use Rattle.nm_core.specs.declared.reply.Reply.TheVariants.{Filled}
-use Rattle.nm_steps.proofs.InsertingFive.{may_fill_key, may_fill_edge, may_fill_edge2, may_fill_key2, may_fill_edge3, may_fill_edge4}
+use Rattle.nm_epoch.proofs.InsertingFive.{may_fill_key, may_fill_edge, may_fill_edge2, may_fill_key2, may_fill_edge3, may_fill_edge4}
 use Rattle.nm_epoch.specs.Plays.{HasPlayed, playing}
 use Rattle.nm_epoch.proofs.Playing.{knows_more, allowed_then}
-use Rattle.nm_epoch.proofs.tests.deleting.fill_two.Goals as goal
+use Rattle.nm_epoch.proofs.tests.inserting.fill_two.Goals as goal
 
 pub fill_key-requires-clause-may : goal.fill_key-requires-clause-may
 fill_key-requires-clause-may c =

@@ -3,10 +3,10 @@ use Rattle.std.specs.Prelude.{take}
 use Rattle.nm_core.specs.declared.event.Event.TheVariants.{Claim, Look, Fill}
 use Rattle.nm_core.specs.declared.event.Field.TheVariants.{Birth}
 use Rattle.nm_core.specs.declared.reply.Reply.TheVariants.{Claimed, BirthIs, Filled}
-use Rattle.nm_steps.proofs.InsertingFive.{may_claim, may_look_birth, may_fill_birth, may_claim2, may_look_birth2, may_fill_birth2}
+use Rattle.nm_epoch.proofs.InsertingFive.{may_claim, may_look_birth, may_fill_birth, may_claim2, may_look_birth2, may_fill_birth2}
 use Rattle.nm_epoch.specs.Plays.{HasPlayed, playing}
 use Rattle.nm_epoch.proofs.Playing.{knows_more, allowed_then}
-use Rattle.nm_epoch.proofs.tests.deleting.claim_two.Goals as goal
+use Rattle.nm_epoch.proofs.tests.inserting.claim_two.Goals as goal
 
 pub claim-requires-clause-may : goal.claim-requires-clause-may
 claim-requires-clause-may g c =
