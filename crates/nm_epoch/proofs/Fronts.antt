@@ -48,7 +48,7 @@ front_waits (x ∷ q) s e at = by (x.node.slot == s) refl at
 abbrev queue_in : Option Ledger → Option (List Queued)
 queue_in h = option_map (λ (l : Ledger). l.queue) h
 
-shown_queue : (h : Option Ledger) (q : List Queued) → queue_in h ≡ Some q → queue_of h ≡ q
+pub shown_queue : (h : Option Ledger) (q : List Queued) → queue_in h ≡ Some q → queue_of h ≡ q
 shown_queue None q is = absurd (none-some q is)
 shown_queue (Some l) q is = same_Some l.queue q is
 

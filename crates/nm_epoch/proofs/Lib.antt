@@ -14,6 +14,8 @@ pub mod SeveralQueues
 pub mod Sighted
 pub mod FewQueues
 pub mod Newest
+pub mod Steps
+pub mod FewFreed
 pub mod Labels
 pub mod Playing
 pub mod InsertingFive

@@ -144,6 +144,7 @@ pub fn collect(shared: &Shared, pass: &mut Pass, queues: &mut [HeldQueue]) -> Co
     ensures freed { result.freed ≡ length (ripe_of result.epoch queues.old) }
     ensures lost { HaveLost result.epoch queues.old queues.new }
     ensures queues { AreHeld (knowledge pass.new.view) queues.new }
+    ensures steps { length pass.new.view.log ≤ length pass.old.view.log + shared.now.layout.nodes }
     ensures newest { (epoch : ℕ) → HasRead pass.old.view.log epoch → epoch ≤ result.epoch }
     ensures seen { (epochs pass.new).seen ≡ Some result.epoch }
     ensures settles { Settles pass.old pass.new }

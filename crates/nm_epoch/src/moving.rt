@@ -1,4 +1,5 @@
 //! Moving the epoch on.
+ghost use Rattle.std.specs.Prelude.{◌≡◌, ◌+◌, ◌≤◌, ◌<◌, length};
 ghost use Rattle.nm_steps.specs.Steps.{IsOf};
 ghost use Rattle.nm_epoch.specs.Resting.{Settles, KeepsHands, epochs};
 ghost use Rattle.nm_steps.specs.Steps.{IsSamePass};
@@ -24,9 +25,23 @@ pub fn advance(shared: &Shared, pass: &mut Pass) -> Advance
     ensures part { IsAdvance shared.now.layout.workers pass.old.view.number (epochs pass.new).pin pass.old.view.log pass.new.view.log result }
     ensures settles { Settles pass.old pass.new }
     ensures hands { KeepsHands pass.old pass.new }
+    ensures steps { length pass.new.view.log ≤ length pass.old.view.log + (shared.now.layout.workers + 1) }
+{
+    let me = pass.number();
+    move_on(shared, pass, me)
+}
+
+/// Moves the epoch on, by the worker of that number.
+fn move_on(shared: &Shared, pass: &mut Pass, me: u32) -> Advance
+    requires own { IsOf shared.now pass.old }
+    requires me { me ≡ pass.old.view.number }
+    requires there { me < shared.now.layout.workers }
+    ensures same { IsSamePass pass.old pass.new }
+    ensures part { IsAdvance shared.now.layout.workers me (epochs pass.new).pin pass.old.view.log pass.new.view.log result }
+    ensures settles { Settles pass.old pass.new }
+    ensures hands { KeepsHands pass.old pass.new }
 {
     let epoch = read(shared, pass);
-    let me = pass.number();
     let workers = shared.layout().workers();
     for worker in 0..workers {
         let found = look(shared, pass, me, worker);

@@ -1,5 +1,5 @@
 //! Pinning an epoch.
-ghost use Rattle.std.specs.Prelude.{◌≡◌, Some, None, IfOk, IfErr, MatchResult};
+ghost use Rattle.std.specs.Prelude.{◌≡◌, ◌+◌, ◌*◌, ◌≤◌, length, Some, None, IfOk, IfErr, MatchResult};
 ghost use Rattle.nm_core.specs.declared.event.Event.TheVariants.{Sight, SightFor};
 ghost use Rattle.nm_order.specs.Intervals.{HasKey};
 ghost use Rattle.nm_steps.specs.Steps.{IsOf, IsSight, MayStep, Stepped, sight_reply};
@@ -100,6 +100,7 @@ pub fn pin(shared: &Shared, pass: &mut Pass, tries: u32) -> Result<u64, Moved>
     ensures last { IfErr result (λ m. (epochs pass.new).seen ≡ Some m.epoch) }
     ensures rests { IfErr result (λ m. IsResting pass.new) }
     ensures hands { KeepsHands pass.old pass.new }
+    ensures steps { length pass.new.view.log ≤ length pass.old.view.log + (3 * tries + 1) }
 {
     pin_by(shared, pass, tries, &Confirming::Plain)
 }
@@ -116,6 +117,7 @@ pub fn pin_for(shared: &Shared, pass: &mut Pass, tries: u32, op: Op, key: Key) -
     ensures last { IfErr result (λ m. (epochs pass.new).seen ≡ Some m.epoch) }
     ensures rests { IfErr result (λ m. IsResting pass.new) }
     ensures hands { KeepsHands pass.old pass.new }
+    ensures steps { length pass.new.view.log ≤ length pass.old.view.log + (3 * tries + 1) }
 {
     let _ = key.get();
     let by = Confirming::For(op, key);

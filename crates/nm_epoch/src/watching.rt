@@ -1,4 +1,5 @@
 //! Which workers hold the epoch back.
+ghost use Rattle.std.specs.Prelude.{◌+◌, ◌≤◌, length};
 ghost use Rattle.nm_steps.specs.Steps.{IsOf};
 ghost use Rattle.nm_epoch.specs.Resting.{Settles, KeepsHands, epochs};
 ghost use Rattle.nm_steps.specs.Steps.{IsSamePass};
@@ -19,6 +20,7 @@ pub fn behind(shared: &Shared, pass: &mut Pass) -> Behind
     ensures part { IsBehind shared.now.layout.workers pass.old.view.number (epochs pass.new).pin pass.old.view.log pass.new.view.log result }
     ensures settles { Settles pass.old pass.new }
     ensures hands { KeepsHands pass.old pass.new }
+    ensures steps { length pass.new.view.log ≤ length pass.old.view.log + shared.now.layout.workers }
 {
     let epoch = read(shared, pass);
     let me = pass.number();

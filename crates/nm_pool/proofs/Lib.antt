@@ -1,2 +1,3 @@
 pub mod Allowing
 pub mod PrivateSlots
+pub mod Steps

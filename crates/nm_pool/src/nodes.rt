@@ -1,5 +1,5 @@
 //! Slots taken out of the pool to be new nodes, and given back.
-ghost use Rattle.std.specs.Prelude.{◌≡◌, ◌≤◌, ◌<◌, true, Some, IfSome};
+ghost use Rattle.std.specs.Prelude.{◌≡◌, ◌+◌, ◌*◌, ◌≤◌, ◌<◌, true, Some, length, IfSome};
 ghost use Rattle.nm_core.specs.declared.event.Event.TheVariants.{Give};
 ghost use Rattle.nm_core.specs.declared.reply.Reply.TheVariants.{Returned};
 ghost use Rattle.nm_core.specs.Knowledge.{is_private, draft_of};
@@ -40,6 +40,19 @@ enum Tried {
 /// Slots come back to the pool by epoch-based reclamation (Fraser, Practical lock-freedom, 2004, chapter 5); the births tell apart
 /// the nodes that stood in one slot.
 pub fn claim(shared: &Shared, pass: &mut Pass) -> Option<NodeId>
+    requires { IsOf shared.now pass.old }
+    ensures same { IsSamePass pass.old pass.new }
+    ensures part { IsClaim shared.now.layout.nodes pass.old.view.log pass.new.view.log result }
+    ensures made { IfSome result (IsNewNode (knowledge pass.new.view)) }
+    ensures new { IfSome result (λ node. IsNew pass.old.view.layout pass.old.view.number pass.old.view.log node.slot) }
+    ensures learned { LearnsSlots (knowledge pass.old.view) (knowledge pass.new.view) }
+    ensures steps { length pass.new.view.log ≤ length pass.old.view.log + 3 * shared.now.layout.nodes }
+{
+    claim_first(shared, pass)
+}
+
+/// The first slot that is found in the pool and is not worn.
+fn claim_first(shared: &Shared, pass: &mut Pass) -> Option<NodeId>
     requires { IsOf shared.now pass.old }
     ensures same { IsSamePass pass.old pass.new }
     ensures part { IsClaim shared.now.layout.nodes pass.old.view.log pass.new.view.log result }

@@ -1,5 +1,5 @@
 //! Slots taken out of the pool and put back, whatever their births.
-ghost use Rattle.std.specs.Prelude.{◌≡◌, ◌≤◌, ◌<◌, true, IfSome};
+ghost use Rattle.std.specs.Prelude.{◌≡◌, ◌+◌, ◌≤◌, ◌<◌, true, length, IfSome};
 ghost use Rattle.nm_core.specs.declared.event.Event.TheVariants.{Give};
 ghost use Rattle.nm_core.specs.declared.reply.Reply.TheVariants.{Returned};
 ghost use Rattle.nm_core.specs.Knowledge.{is_private};
@@ -16,6 +16,20 @@ use nm_steps::{Pass, Shared};
 /// `Some(slot)`: the slot is private to the worker, which had it nowhere before, and each lesser one, from the first on, was found taken in this call.
 /// `None`: each slot from the first on was. At most one step a slot.
 pub fn take(shared: &Shared, pass: &mut Pass, from: u32) -> Option<u32>
+    requires own { IsOf shared.now pass.old }
+    requires from { 5 < from }
+    ensures same { IsSamePass pass.old pass.new }
+    ensures part { IsTake from shared.now.layout.nodes pass.old.view.log pass.new.view.log result }
+    ensures private { IfSome result (λ slot. is_private (knowledge pass.new.view) slot ≡ true) }
+    ensures new { IfSome result (IsNew pass.old.view.layout pass.old.view.number pass.old.view.log) }
+    ensures learned { LearnsSlots (knowledge pass.old.view) (knowledge pass.new.view) }
+    ensures steps { length pass.new.view.log ≤ length pass.old.view.log + shared.now.layout.nodes }
+{
+    take_first(shared, pass, from)
+}
+
+/// The first slot that is found in the pool, from one slot upwards.
+fn take_first(shared: &Shared, pass: &mut Pass, from: u32) -> Option<u32>
     requires own { IsOf shared.now pass.old }
     requires from { 5 < from }
     ensures same { IsSamePass pass.old pass.new }

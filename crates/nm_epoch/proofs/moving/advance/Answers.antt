@@ -1,84 +1,18 @@
-use Rattle.std.proofs.Common.{rules, ◌≡◌, ◌<◌, ℕ, ap, sym, subst, ◌∙◌, arith, Ok, Err}
+use Rattle.std.proofs.Common.{◌<◌, subst}
 use Rattle.nm_edge.specs.Layouts.{Layout}
-use Rattle.nm_steps.specs.Steps.{Stand}
-use Rattle.nm_epoch.specs.declared.answers.Advance.TheVariants.{Moved, Held, Lost}
 use Rattle.nm_epoch.specs.Resting.{epochs}
 use Rattle.nm_epoch.specs.Scans.{IsAdvance}
-use Rattle.nm_epoch.proofs.Allowed.{may_advance}
-use Rattle.nm_epoch.proofs.Scanning.{looking_on, settles_on}
-use Rattle.nm_epoch.proofs.Advances.{is_moved, is_lost, is_held, settles_advance}
-use Rattle.nm_epoch.proofs.KeptHands.{kept_on, look_keeps}
-use Rattle.nm_epoch.proofs.Advances.{advance_keeps}
+use Rattle.nm_epoch.proofs.Steps.{advance_steps}
 use Rattle.nm_epoch.proofs.moving.advance.Goals as goal
 
-pub returns-in-Some-clause-part : goal.returns-in-Some-clause-part
-returns-in-Some-clause-part c =
-    let m : c.workers-workers.result ≡ c.args.shared.now.layout.workers = c.workers-workers.ensures.workers ∙ ap (λ (l : Layout). l.workers) c.layout.ensures in
-    let own : c.number-me.result ≡ c.args.pass.now.view.number = c.number-me.ensures.number ∙ ap (λ (p : Stand). p.view.number) c.read-epoch.ensures.same in
-    subst (λ (me : ℕ). IsAdvance c.args.shared.now.layout.workers me (epochs c.look-found.new.pass).pin c.args.pass.now.view.log c.look-found.new.pass.view.log (Held c.loop-worker.worker c.in-Some.at)) own
-    (is_held c.loop-worker.pass c.look-found.new.pass c.in-Some.at c.number-me.result c.read-epoch.result c.args.shared.now.layout.workers c.loop-worker.worker c.look-found.result c.args.pass.now.view.log
-    c.look-found.ensures.same c.look-found.ensures.found c.in-Some.ensures.0 c.in-Some.ensures.1 (let below = c.loop-worker-test.true in omega (arith, m, below)) c.loop-worker.invariant.looking)
+pub move_on-requires-clause-there : goal.move_on-requires-clause-there
+move_on-requires-clause-there c = subst (λ (L : Layout). c.number-me.result < L.workers) c.requires.layout c.number-me.ensures.below
 
-pub returns-in-Some-clause-settles : goal.returns-in-Some-clause-settles
-returns-in-Some-clause-settles c =
-    settles_on c.number-me.result c.loop-worker.worker (epochs c.loop-worker.pass).pin c.look-found.result c.loop-worker.pass c.look-found.new.pass c.look-found.ensures.same c.look-found.ensures.found c.args.pass.now c.loop-worker.invariant.settles
+pub returns-clause-part : goal.returns-clause-part
+returns-clause-part c =
+    subst (λ me. IsAdvance c.args.shared.now.layout.workers me (epochs c.move_on.new.pass).pin c.args.pass.now.view.log c.move_on.new.pass.view.log c.move_on.result) c.number-me.ensures.number c.move_on.ensures.part
 
-pub loop-worker-preserved : goal.loop-worker-preserved
-loop-worker-preserved c =
-    let m : c.workers-workers.result ≡ c.args.shared.now.layout.workers = c.workers-workers.ensures.workers ∙ ap (λ (l : Layout). l.workers) c.layout.ensures in
-    let size : c.loop-worker.pass.view.layout.workers ≡ c.args.shared.now.layout.workers = ap (λ (p : Stand). p.view.layout.workers) c.loop-worker.invariant.same ∙ ap (λ (l : Layout). l.workers) c.requires.layout in
-    record {
-      same = search rules;
-      looking = looking_on c.number-me.result c.read-epoch.result c.loop-worker.worker c.look-found.result c.args.pass.now.view.log c.loop-worker.pass c.look-found.new.pass c.look-found.ensures.same c.look-found.ensures.found
-          c.in_default.ensures (let below = c.loop-worker-test.true in omega (arith, m, size, below)) c.loop-worker.invariant.looking;
-      settles = settles_on c.number-me.result c.loop-worker.worker (epochs c.loop-worker.pass).pin c.look-found.result c.loop-worker.pass c.look-found.new.pass c.look-found.ensures.same c.look-found.ensures.found c.args.pass.now c.loop-worker.invariant.settles;
-      hands = kept_on c.args.pass.now c.loop-worker.pass c.look-found.new.pass c.loop-worker.invariant.hands
-          (look_keeps c.number-me.result c.loop-worker.worker (epochs c.loop-worker.pass).pin c.look-found.result c.loop-worker.pass c.look-found.new.pass c.look-found.ensures.same c.look-found.ensures.found);
-    }
-
-pub advance-requires-clause-may : goal.advance-requires-clause-may
-advance-requires-clause-may c =
-    let m : c.workers-workers.result ≡ c.args.shared.now.layout.workers = c.workers-workers.ensures.workers ∙ ap (λ (l : Layout). l.workers) c.layout.ensures in
-    let size : c.loop-worker.pass.view.layout.workers ≡ c.args.shared.now.layout.workers = ap (λ (p : Stand). p.view.layout.workers) c.loop-worker.invariant.same ∙ ap (λ (l : Layout). l.workers) c.requires.layout in
-    let own : c.number-me.result ≡ c.args.pass.now.view.number = c.number-me.ensures.number ∙ ap (λ (p : Stand). p.view.number) c.read-epoch.ensures.same in
-    let there : c.number-me.result < c.args.pass.now.view.layout.workers = subst (λ (n : ℕ). c.number-me.result < n) (ap (λ (p : Stand). p.view.layout.workers) c.read-epoch.ensures.same) c.number-me.ensures.below in
-    let layout : c.args.pass.now.view.layout.workers ≡ c.args.shared.now.layout.workers = ap (λ (l : Layout). l.workers) c.requires.layout in
-    let past = c.loop-worker-test.false in
-    let within = c.loop-worker.auto.worker-end in
-    let all : c.loop-worker.worker ≡ c.workers-workers.result = omega arith in
-    may_advance c.number-me.result c.read-epoch.result c.loop-worker.worker c.args.pass.now.view.log c.loop-worker.pass (own ∙ sym (ap (λ (p : Stand). p.view.number) c.loop-worker.invariant.same))
-    (omega (arith, there, layout, all, m)) (omega (arith, all, m, size)) (let small = c.read-epoch.ensures.small in let other = c.if-epoch-eq-LAST_NUMBER.false in omega (arith, small, other)) c.loop-worker.invariant.looking
-
-pub returns-in-Ok-clause-part : goal.returns-in-Ok-clause-part
-returns-in-Ok-clause-part c =
-    let m : c.workers-workers.result ≡ c.args.shared.now.layout.workers = c.workers-workers.ensures.workers ∙ ap (λ (l : Layout). l.workers) c.layout.ensures in
-    let own : c.number-me.result ≡ c.args.pass.now.view.number = c.number-me.ensures.number ∙ ap (λ (p : Stand). p.view.number) c.read-epoch.ensures.same in
-    let past = c.loop-worker-test.false in
-    let within = c.loop-worker.auto.worker-end in
-    subst (λ (me : ℕ). IsAdvance c.args.shared.now.layout.workers me (epochs c.advance.new.pass).pin c.args.pass.now.view.log c.advance.new.pass.view.log (Moved c.in-Ok.next)) own
-    (is_moved c.loop-worker.pass c.advance.new.pass c.in-Ok.next c.number-me.result c.read-epoch.result c.args.shared.now.layout.workers c.loop-worker.worker c.args.pass.now.view.log c.in-Ok.ensures.step c.in-Ok.ensures.from (omega (arith, m, past, within)) c.loop-worker.invariant.looking)
-
-pub returns-in-Ok-clause-settles : goal.returns-in-Ok-clause-settles
-returns-in-Ok-clause-settles c = settles_advance c.loop-worker.pass c.advance.new.pass (Ok c.in-Ok.next) c.in-Ok.ensures.step c.args.pass.now c.loop-worker.invariant.settles
-
-pub returns-in-Err-clause-part : goal.returns-in-Err-clause-part
-returns-in-Err-clause-part c =
-    let m : c.workers-workers.result ≡ c.args.shared.now.layout.workers = c.workers-workers.ensures.workers ∙ ap (λ (l : Layout). l.workers) c.layout.ensures in
-    let own : c.number-me.result ≡ c.args.pass.now.view.number = c.number-me.ensures.number ∙ ap (λ (p : Stand). p.view.number) c.read-epoch.ensures.same in
-    let past = c.loop-worker-test.false in
-    let within = c.loop-worker.auto.worker-end in
-    subst (λ (me : ℕ). IsAdvance c.args.shared.now.layout.workers me (epochs c.advance.new.pass).pin c.args.pass.now.view.log c.advance.new.pass.view.log (Lost c.in-Err.found)) own
-    (is_lost c.loop-worker.pass c.advance.new.pass c.in-Err.found c.number-me.result c.read-epoch.result c.args.shared.now.layout.workers c.loop-worker.worker c.args.pass.now.view.log c.in-Err.ensures.step c.in-Err.ensures.from (omega (arith, m, past, within)) c.loop-worker.invariant.looking)
-
-pub returns-in-Err-clause-settles : goal.returns-in-Err-clause-settles
-returns-in-Err-clause-settles c = settles_advance c.loop-worker.pass c.advance.new.pass (Err c.in-Err.found) c.in-Err.ensures.step c.args.pass.now c.loop-worker.invariant.settles
-
-pub returns-in-Some-clause-hands : goal.returns-in-Some-clause-hands
-returns-in-Some-clause-hands c = kept_on c.args.pass.now c.loop-worker.pass c.look-found.new.pass c.loop-worker.invariant.hands
-    (look_keeps c.number-me.result c.loop-worker.worker (epochs c.loop-worker.pass).pin c.look-found.result c.loop-worker.pass c.look-found.new.pass c.look-found.ensures.same c.look-found.ensures.found)
-
-pub returns-in-Ok-clause-hands : goal.returns-in-Ok-clause-hands
-returns-in-Ok-clause-hands c = advance_keeps c.loop-worker.pass c.advance.new.pass (Ok c.in-Ok.next) c.in-Ok.ensures.step c.args.pass.now c.loop-worker.invariant.hands
-
-pub returns-in-Err-clause-hands : goal.returns-in-Err-clause-hands
-returns-in-Err-clause-hands c = advance_keeps c.loop-worker.pass c.advance.new.pass (Err c.in-Err.found) c.in-Err.ensures.step c.args.pass.now c.loop-worker.invariant.hands
+pub returns-clause-steps : goal.returns-clause-steps
+returns-clause-steps c =
+    advance_steps c.number-me.result (epochs c.move_on.new.pass).pin c.args.shared.now.layout.workers c.args.pass.now.view.log c.move_on.new.pass.view.log c.move_on.result
+    (subst (λ (L : Layout). c.number-me.result < L.workers) c.requires.layout c.number-me.ensures.below) c.move_on.ensures.part

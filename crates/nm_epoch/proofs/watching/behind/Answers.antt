@@ -5,6 +5,9 @@ use Rattle.nm_epoch.proofs.Scanning.{settles_on}
 use Rattle.nm_epoch.proofs.Watched.{watching_on, bit_set, bit_clear, shifted}
 use Rattle.nm_epoch.proofs.watching.behind.Goals.{then-is_some, else-is_some}
 use Rattle.nm_epoch.proofs.KeptHands.{kept_on, look_keeps}
+use Rattle.nm_steps.specs.Steps.{Stand}
+use Rattle.nm_edge.specs.Layouts.{Layout}
+use Rattle.nm_epoch.proofs.Steps.{watch_steps}
 use Rattle.nm_epoch.proofs.watching.behind.Goals as goal
 
 pub loop-worker-preserved : goal.loop-worker-preserved
@@ -21,3 +24,14 @@ loop-worker-preserved c =
       hands = kept_on c.args.pass.now c.loop-worker.pass c.look-found.new.pass c.loop-worker.invariant.hands
           (look_keeps c.number-me.result c.loop-worker.worker (epochs c.loop-worker.pass).pin c.look-found.result c.loop-worker.pass c.look-found.new.pass c.look-found.ensures.same c.look-found.ensures.found);
     }
+
+pub returns-clause-steps : goal.returns-clause-steps
+returns-clause-steps c =
+    let m : c.workers-workers.result ≡ c.args.shared.now.layout.workers = c.workers-workers.ensures.workers ∙ ap (λ (l : Layout). l.workers) c.layout.ensures in
+    let layout : c.args.pass.now.view.layout.workers ≡ c.args.shared.now.layout.workers = ap (λ (l : Layout). l.workers) c.requires.layout in
+    let size : c.read-epoch.new.pass.view.layout.workers ≡ c.args.pass.now.view.layout.workers = ap (λ (p : Stand). p.view.layout.workers) c.read-epoch.ensures.same in
+    let below = c.number-me.ensures.below in
+    let past = c.loop-worker-test.false in
+    let within = c.loop-worker.auto.worker-end in
+    let all = watch_steps c.number-me.result (epochs c.loop-worker.pass).pin c.read-epoch.result c.loop-worker.worker c.loop-worker.mask c.args.pass.now.view.log c.loop-worker.pass.view.log (omega (arith, below, size, layout, m, past, within)) c.loop-worker.invariant.watching.part in
+    omega (arith, all, m, past, within)

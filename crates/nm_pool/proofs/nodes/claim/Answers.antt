@@ -1,17 +1,5 @@
-use Rattle.std.proofs.Common.{rules, arith}
-use Rattle.nm_steps.specs.Rules.{knowledge}
-use Rattle.nm_pool.specs.Claims.{PassedOver}
-use Rattle.nm_pool.proofs.PrivateSlots.{one_more, learns_both}
+use Rattle.nm_pool.proofs.Steps.{claim_steps}
 use Rattle.nm_pool.proofs.nodes.claim.Goals as goal
 
-pub loop-slot-preserved : goal.loop-slot-preserved
-loop-slot-preserved c =
-    let slot = c.loop-slot.slot in
-    let mid = c.loop-slot.pass.view in
-    let new = c.try_slot.new.pass.view in
-    let over : PassedOver slot mid.log new.log = search rules in
-    record {
-      same = search rules;
-      passed = one_more PassedOver 6 slot c.args.pass.now.view.log mid.log new.log (omega arith) c.loop-slot.invariant.passed over;
-      learned = learns_both (knowledge c.args.pass.now.view) (knowledge mid) (knowledge new) c.loop-slot.invariant.learned c.try_slot.ensures.learned;
-    }
+pub returns-clause-steps : goal.returns-clause-steps
+returns-clause-steps c = claim_steps c.args.shared.now.layout.nodes c.args.pass.now.view.log c.claim_first.new.pass.view.log c.claim_first.result c.claim_first.ensures.part

@@ -2,7 +2,7 @@ use Rattle.std.proofs.Common.{◌≤◌, ◌<◌}
 use Rattle.nm_steps.specs.Rules.{knowledge}
 use Rattle.nm_pool.specs.Takes.{DoneBelow, FoundTaken, LearnsSlots}
 use Rattle.nm_steps.specs.Steps.{IsSamePass}
-use Rattle.nm_pool.proofs.slots.take.Given as goal
+use Rattle.nm_pool.proofs.slots.take_first.Given as goal
 
 abbrev pub invariant-loop-slot : goal.invariant-loop-slot
 invariant-loop-slot l = record {

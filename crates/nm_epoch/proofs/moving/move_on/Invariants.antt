@@ -1,7 +1,7 @@
 use Rattle.nm_epoch.specs.Resting.{Settles, KeepsHands}
 use Rattle.nm_steps.specs.Steps.{IsSamePass}
 use Rattle.nm_epoch.specs.Scans.{IsLooking}
-use Rattle.nm_epoch.proofs.moving.advance.Given as goal
+use Rattle.nm_epoch.proofs.moving.move_on.Given as goal
 
 abbrev pub invariant-loop-worker : goal.invariant-loop-worker
 invariant-loop-worker l = record {

@@ -2,7 +2,7 @@ use Rattle.nm_steps.specs.Rules.{knowledge}
 use Rattle.nm_pool.specs.Takes.{DoneBelow, LearnsSlots}
 use Rattle.nm_steps.specs.Steps.{IsSamePass}
 use Rattle.nm_pool.specs.Claims.{PassedOver}
-use Rattle.nm_pool.proofs.nodes.claim.Given as goal
+use Rattle.nm_pool.proofs.nodes.claim_first.Given as goal
 
 abbrev pub invariant-loop-slot : goal.invariant-loop-slot
 invariant-loop-slot l = record {

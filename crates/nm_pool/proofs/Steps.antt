@@ -1,0 +1,48 @@
+-- How many steps claims take at most.
+use Rattle.std.proofs.Common.{◌≡◌, inl, inr, ℕ, zero, suc, ◌+◌, ◌*◌, ◌-◌, ◌≤◌, ◌<◌, List, ◌++◌, length, ap, ◌∙◌, arith}
+use Rattle.std.specs.Prelude.{Option, Some, None}
+use Rattle.std.proofs.lemmas.List.{length-append}
+use Rattle.nm_edge.specs.declared.node.NodeId.{NodeId}
+use Rattle.nm_core.specs.Walks.{Entry}
+use Rattle.nm_pool.specs.Takes.{Doing, DoneInTurn, FoundTaken, IsTake}
+use Rattle.nm_pool.specs.Claims.{PassedOver, IsClaim}
+
+-- what is done at one slot takes so many steps at most
+abbrev TakesFew : ℕ → Doing → Type 0
+TakesFew most Done = (s : ℕ) (old new : List Entry) → Done s old new → length new ≤ length old + most
+
+longer : (old new more : List Entry) → new ≡ old ++ more → length new ≡ length old + length more
+longer old new more is = ap (λ (log : List Entry). length log) is ∙ length-append old more
+
+few_in_turn : (most : ℕ) (Done : Doing) → TakesFew most Done → (from n : ℕ) (old new : List Entry) → DoneInTurn Done from n old new → length new ≤ length old + most * n
+few_in_turn most Done few from zero old new done = let same : length new ≡ length old = ap (λ (log : List Entry). length log) done in omega (arith, same)
+few_in_turn most Done few from (suc n) old new done =
+    let before = few_in_turn most Done few from n old done.0 done.1 in
+    let last = few (from + n) done.0 new done.2 in
+    let more : most * suc n ≡ most + most * n = omega arith in
+    omega (arith, before, last, more)
+
+one_if_taken : TakesFew 1 FoundTaken
+one_if_taken s old new is = let l = longer old new _ is in omega (arith, l)
+
+three_at_most : TakesFew 3 PassedOver
+three_at_most s old new (inl taken) = let l = longer old new _ taken in omega (arith, l)
+three_at_most s old new (inr worn) = let l = longer old new _ worn in omega (arith, l)
+
+pub take_steps : (from nodes : ℕ) (old new : List Entry) (o : Option ℕ) → 5 < from → IsTake from nodes old new o → length new ≤ length old + nodes
+take_steps from nodes old new None high is = let few = few_in_turn 1 FoundTaken one_if_taken from (nodes + 1 - from) old new is in omega (arith, few, high)
+take_steps from nodes old new (Some s) high t =
+    let few = few_in_turn 1 FoundTaken one_if_taken from (s - from) old t.before t.taken in
+    let l = longer t.before new _ t.claimed in
+    let least = t.least in
+    let most = t.most in
+    omega (arith, few, l, least, most, high)
+
+pub claim_steps : (nodes : ℕ) (old new : List Entry) (o : Option NodeId) → IsClaim nodes old new o → length new ≤ length old + 3 * nodes
+claim_steps nodes old new None is = let few = few_in_turn 3 PassedOver three_at_most 6 (nodes + 1 - 6) old new is in omega (arith, few)
+claim_steps nodes old new (Some n) c =
+    let few = few_in_turn 3 PassedOver three_at_most 6 (n.slot - 6) old c.before c.passed in
+    let l = longer c.before new _ c.made.entries in
+    let least = c.least in
+    let most = c.most in
+    omega (arith, few, l, least, most)
