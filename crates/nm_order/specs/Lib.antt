@@ -8,3 +8,4 @@ pub mod Facts
 pub mod Told
 pub mod Hands
 pub mod Reads
+pub mod Taught

@@ -8,6 +8,7 @@ mod logs;
 mod order;
 mod paths;
 mod reads;
+mod taught;
 mod told;
 mod walks;
 
@@ -20,6 +21,7 @@ pub use order::{
 };
 pub use paths::walks_were_reached;
 pub use reads::epochs_are_read_in_order;
+pub use taught::{entries_teach_facts, looks_take_walks_on};
 pub use told::{
     answers_name_what_is_known, claims_are_new, cuts_enter_the_queue, edges_are_told,
     frozen_chains_may_be_cut, low_keys_stand_high,
