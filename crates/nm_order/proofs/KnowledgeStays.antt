@@ -55,7 +55,7 @@ pub record Stays (m : Memory) (k l : Knowledge) : Type 0 where
   pub births : (x : ℕ) → ((seen_of l x).birth ≡ (seen_of k x).birth) ⊎ ((seen_of l x).birth ≡ Some (node m x).birth)
 
 -- what is known of a slot after one slot's words were put down
-seen_put : (m : List (ℕ × Seen)) (s : ℕ) (n : Seen) (x : ℕ) → seen_in (put m s n) x ≡ cond (eqb x s) n (seen_in m x)
+pub seen_put : (m : List (ℕ × Seen)) (s : ℕ) (n : Seen) (x : ℕ) → seen_in (put m s n) x ≡ cond (eqb x s) n (seen_in m x)
 seen_put m s n x = ap (λ o. unwrap_or o unread) (get-put m s n x) ∙ go (eqb x s)
   where
     go : (b : Bool) → unwrap_or (cond b (Some n) (get m x)) unread ≡ cond b n (seen_in m x)
