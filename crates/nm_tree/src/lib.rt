@@ -1,0 +1,6 @@
+//! The set: an external search tree that threads share without locks (Natarajan and Mittal, PPoPP 2014).
+#![tactic(auto)]
+
+mod looking;
+
+pub use looking::{look_birth, look_edge, look_key};
