@@ -47,3 +47,4 @@ pub mod FrozenChains
 pub mod LogInduction
 pub mod HeldSlots
 pub mod ReadEpochs
+pub mod TaughtWalks
