@@ -48,3 +48,4 @@ pub mod LogInduction
 pub mod HeldSlots
 pub mod ReadEpochs
 pub mod TaughtFacts
+pub mod TaughtWalks

@@ -28,16 +28,16 @@ use Rattle.nm_order.proofs.WalksAfter.{walks_after, walks_more}
 -- ---- one entry
 
 -- the arrivals of the walks behind a flag, once there is one
-abbrev later_by : Bool → ℕ → List Arrival → Entry → List Arrival
+abbrev pub later_by : Bool → ℕ → List Arrival → Entry → List Arrival
 later_by true k ws e = walked_by k ws e
 later_by false k ws e = ws
 
 -- under a pin, what an entry adds
-record Adds (s t : Search) (call : Call) (e : Entry) : Type 0 where
-  same : t.call ≡ Some call
-  walks : t.walks ≡ walked_by call.key s.walks e
-  later : t.later ≡ later_by (is_some s.flagged) call.key s.later e
-  flagged : is_some t.flagged ≡ (is_some s.flagged || is_won_flag e)
+pub record Adds (s t : Search) (call : Call) (e : Entry) : Type 0 where
+  pub same : t.call ≡ Some call
+  pub walks : t.walks ≡ walked_by call.key s.walks e
+  pub later : t.later ≡ later_by (is_some s.flagged) call.key s.later e
+  pub flagged : is_some t.flagged ≡ (is_some s.flagged || is_won_flag e)
 
 -- a flag that is not won, and one that is
 or_not : (b : Bool) → b ≡ (b || false)
@@ -77,7 +77,7 @@ adds_look s call slot f r (Some c) is some = record {
     by (Some n) = refl
 
 -- any entry under the pin
-adds : (s : Search) (call : Call) (e : Event) (r : Reply) → begins_anew (e, r) ≡ false → s.call ≡ Some call → Adds s (searched s e r) call (e, r)
+pub adds : (s : Search) (call : Call) (e : Event) (r : Reply) → begins_anew (e, r) ≡ false → s.call ≡ Some call → Adds s (searched s e r) call (e, r)
 unfolding searched
 adds s call Sight (Pinned n) stands is = absurd (true≢false stands)
 adds s call (SightFor op key) (Pinned n) stands is = absurd (true≢false stands)

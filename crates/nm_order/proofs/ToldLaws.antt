@@ -22,7 +22,7 @@ use Rattle.nm_core.proofs.TreeSteps.{Lawful, high_from}
 use Rattle.nm_core.proofs.Pictures.{IsLive}
 use Rattle.nm_core.proofs.Views.{picture}
 use Rattle.nm_order.specs.Logs.{known_by}
-use Rattle.nm_order.specs.Facts.{Fact, HoldsIn, Holds}
+use Rattle.nm_order.specs.Facts.{Fact, HoldsIn, Holds, IsTrueIn}
 use Rattle.nm_order.specs.Facts.Fact.{KnowsSlot, IsTagged}
 use Rattle.nm_order.specs.Told.{TellsEdge, OfEachEntry, TwinsAreToldFlagged, FlaggedEdgesLeadHigh, EdgesStayInside, RootLeads, TagsLead, LowKeysStandHigh, FlaggedEdgesStandHigh}
 use Rattle.nm_order.specs.Told.TellsEdge.{ByLook, ByLink, ByFlag, ByTag, BySplice}
@@ -32,7 +32,7 @@ use Rattle.nm_order.proofs.Sentinels.{sentinels_of, sentinel_is_high, flags_stan
 use Rattle.nm_order.proofs.KnowledgeStays.{Answers, answers}
 use Rattle.nm_order.proofs.LastEntries.{PartOf, LastEntry, last_entry}
 use Rattle.nm_order.proofs.LastEntries.PartOf.{Own, Resigns}
-use Rattle.nm_order.proofs.FactLaws.{told_holds}
+use Rattle.nm_order.proofs.FactLaws.{AllKept, all_kept, true_in, told_holds}
 
 -- ---- the state before the last entry
 
@@ -59,6 +59,13 @@ module _ (L : Layout) (enough : 5 ≤ L.nodes) (w : ℕ) (log : List Entry) (ent
 
   pub holds_then : (fact : Fact) → Holds L w log fact → HoldsIn (of last.before.state w) (search_of last.told.is_ordered.searches w) fact
   holds_then fact holds = told_holds L w log last.before last.told fact holds
+
+  -- and true of that state
+  pub true_then : (fact : Fact) → Holds L w log fact → IsTrueIn last.before.state w fact
+  true_then fact holds = true_in L enough last.before last.told.is_ordered w (kept last.told.is_ordered.searches last.told.is_ordered.are w) fact (holds_then fact holds)
+    where
+      kept : AllKept last.before
+      kept = subst AllKept last.leads (all_kept L enough last.turns last.keys)
 
 told_edge : (m : Memory) (entry : Entry) (x : ℕ) (side : Side) (e : Edge) → Answers m entry.0 entry.1 → TellsEdge entry x side e → e ≡ edge m x side
 told_edge m _ _ _ _ is (ByLook x side e) = is
@@ -135,7 +142,7 @@ in_range : (s : State) (w x : ℕ) → Allowed s w (Look x Key) → 1 ≤ x
 unfolding refusal
 in_range s w x ok = (high_from 1 s.layout.nodes x (passed (outside 1 s.layout.nodes x) NoSlot _ ok.event).0).0
 
-key_told : (s : State) (w x n : ℕ) → reply_of s w (Look x Key) ≡ KeyIs n → n ≡ (node s.memory x).key
+pub key_told : (s : State) (w x n : ℕ) → reply_of s w (Look x Key) ≡ KeyIs n → n ≡ (node s.memory x).key
 unfolding reply
 key_told s w x n is = cc
 
