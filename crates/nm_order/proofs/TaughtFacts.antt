@@ -1,19 +1,15 @@
 -- What an entry teaches of edges and births, and what a pin for a call knows at once.
-use Rattle.std.proofs.Common.{◌≡◌, ◌≢◌, ℕ, ◌≤◌, inl, inr, eqb, ◌==◌, Bool, true, false, not, cond, ◌&&◌, ◌||◌, List, [], ◌∷◌, ◌++◌, refl, sym, ap, subst, ◌∙◌, arith, true≢false}
-use Rattle.std.specs.Prelude.{Option, Some, None}
+use Rattle.std.proofs.Common.{◌≡◌, ◌≢◌, ℕ, ◌≤◌, inl, inr, eqb, ◌==◌, Bool, true, false, not, cond, ◌&&◌, ◌||◌, List, [], ◌∷◌, ◌++◌, refl, sym, ap, subst, ◌∙◌}
+use Rattle.std.specs.Prelude.{Option, Some}
 use Rattle.std.proofs.lemmas.Bool.{cond_both, cond-true, cond-false, eqb-true, eq-eqb, ne_eqb, and_from}
 use Rattle.nm_edge.specs.Edges.{Edge, tagged}
 use Rattle.nm_edge.specs.Layouts.{Layout}
 use Rattle.nm_edge.specs.declared.edge.Side.{Side}
 use Rattle.nm_edge.specs.declared.edge.Side.TheVariants.{Left, Right}
-use Rattle.nm_edge.specs.declared.node.NodeId.{NodeId}
-use Rattle.nm_core.specs.declared.event.Event.{Event}
-use Rattle.nm_core.specs.declared.event.Event.TheVariants.{Sight, SightFor, Look, Flag, Tag}
+use Rattle.nm_core.specs.declared.event.Event.TheVariants.{SightFor, Look, Tag}
 use Rattle.nm_core.specs.declared.event.Field.TheVariants.{Edge as EdgeOn, Birth}
-use Rattle.nm_core.specs.declared.event.Op.{Op}
 use Rattle.nm_core.specs.declared.knowledge.Seen.{Seen}
-use Rattle.nm_core.specs.declared.reply.Reply.{Reply}
-use Rattle.nm_core.specs.declared.reply.Reply.TheVariants.{Pinned, BirthIs, EdgeIs, Flagged, Was}
+use Rattle.nm_core.specs.declared.reply.Reply.TheVariants.{Pinned, BirthIs, EdgeIs, Was}
 use Rattle.nm_core.specs.Knowledge.{Knowledge, knows, is_private, seen_of, read, knows_leaf, is_null, unread}
 use Rattle.nm_core.specs.Learning.{learn, look_known, look_private, met, read_edge, with_read, flag_to, pinned, saw}
 use Rattle.nm_core.specs.Maps.{has, put}
@@ -25,7 +21,6 @@ use Rattle.nm_core.proofs.Trees.{same_side, same_side-refl}
 use Rattle.nm_core.proofs.Views.{read_after, read_birth}
 use Rattle.nm_order.specs.Logs.{known_by, IsLogOf}
 use Rattle.nm_order.specs.Facts.{Holds}
-use Rattle.nm_order.specs.Facts.Fact.{KnowsSlot, IsTagged}
 use Rattle.nm_order.specs.Taught.{EdgeLearned, EdgesAreLearned, TagsAreLearned, FlagsAreLearned, BirthsAreLearned, PinsAreLearned}
 use Rattle.nm_order.specs.Told.{TellsEdge, OfEachEntry}
 use Rattle.nm_order.specs.Told.TellsEdge.{ByLook, ByLink, ByFlag, ByTag, BySplice}

@@ -1,5 +1,5 @@
 -- What the last entry of a log teaches: facts that the log holds from then on.
-use Rattle.std.specs.Prelude.{◌≡◌, ◌≢◌, ℕ, true, List, [], ◌∷◌, ◌++◌, Some, IsSome}
+use Rattle.std.specs.Prelude.{◌≡◌, ◌≢◌, ℕ, true, List, [], ◌∷◌, ◌++◌, IsSome}
 use Rattle.nm_edge.specs.Edges.{Edge}
 use Rattle.nm_edge.specs.Layouts.{Layout}
 use Rattle.nm_edge.specs.declared.edge.Side.{Side}
@@ -7,8 +7,8 @@ use Rattle.nm_edge.specs.declared.edge.Side.TheVariants.{Left}
 use Rattle.nm_edge.specs.declared.node.NodeId.{NodeId}
 use Rattle.nm_core.specs.declared.event.Field.TheVariants.{Key, Edge as EdgeOn, Birth}
 use Rattle.nm_core.specs.declared.event.Op.{Op}
-use Rattle.nm_core.specs.declared.event.Event.TheVariants.{SightFor, Look, Link, Flag, Tag}
-use Rattle.nm_core.specs.declared.reply.Reply.TheVariants.{Pinned, KeyIs, BirthIs, EdgeIs, Linked, Flagged, Was}
+use Rattle.nm_core.specs.declared.event.Event.TheVariants.{SightFor, Look, Flag, Tag}
+use Rattle.nm_core.specs.declared.reply.Reply.TheVariants.{Pinned, KeyIs, BirthIs, EdgeIs, Flagged, Was}
 use Rattle.nm_core.specs.Searches.{idle, side_of}
 use Rattle.nm_core.specs.Walks.{Entry, search_after}
 use Rattle.nm_order.specs.Facts.{Since, Fact, Holds}

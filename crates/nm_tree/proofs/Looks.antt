@@ -1,5 +1,5 @@
 -- A look at a known node is allowed under a pin, and its log goes on.
-use Rattle.std.proofs.Common.{◌≡◌, ◌≢◌, ℕ, ◌≤◌, ◌⊎◌, inl, inr, Bool, true, false, not, cond, ◌&&◌, ◌||◌, List, [], ◌∷◌, ◌++◌, refl, sym, ap, subst, ◌∙◌, arith}
+use Rattle.std.proofs.Common.{◌≡◌, ℕ, ◌≤◌, Bool, true, false, not, cond, ◌&&◌, ◌||◌, List, [], ◌∷◌, ◌++◌, refl, sym, ap, subst, ◌∙◌, arith}
 use Rattle.std.specs.Prelude.{Option, Some, None, is_none, nat_lt}
 use Rattle.std.proofs.lemmas.Bool.{le-ltb, cond-false}
 use Rattle.nm_edge.specs.Edges.{Edge}
@@ -10,7 +10,6 @@ use Rattle.nm_core.specs.declared.event.Event.{Event}
 use Rattle.nm_core.specs.declared.event.Event.TheVariants.{Look}
 use Rattle.nm_core.specs.declared.event.Field.{Field}
 use Rattle.nm_core.specs.declared.event.Field.TheVariants.{Key as KeyOf, Edge as EdgeOn, Birth}
-use Rattle.nm_core.specs.declared.reply.Refused.{Refused}
 use Rattle.nm_core.specs.declared.reply.Refused.TheVariants.{NoSlot, NotPinned, NotHeld}
 use Rattle.nm_core.specs.declared.reply.Reply.{Reply}
 use Rattle.nm_core.specs.declared.reply.Reply.TheVariants.{KeyIs, EdgeIs, BirthIs}
@@ -26,19 +25,18 @@ use Rattle.nm_order.proofs.PartsOfRuns.{logs_tell}
 use Rattle.nm_steps.proofs.Presence.{known_push}
 use Rattle.nm_core.specs.Step.{outside, refusal}
 use Rattle.nm_core.specs.Walks.{Entry, begins_anew, search_after}
-use Rattle.nm_order.specs.Facts.{Since, Fact, Holds}
-use Rattle.nm_order.specs.Facts.Fact.{IsPinned, KnowsSlot, IsBorn, IsTagged, Came, ReadKey, EndedAt}
+use Rattle.nm_order.specs.Facts.{Fact, Holds}
+use Rattle.nm_order.specs.Facts.Fact.{KnowsSlot, KnowsLeaf, IsBorn, IsTagged, IsFlagged, Came, ReadKey, EndedAt}
 use Rattle.nm_order.specs.Logs.{part_of, known_by, IsLogOf}
-use Rattle.nm_order.specs.Taught.{Walks}
 use Rattle.nm_order.specs.Told.TellsEdge.{ByLook}
 use Rattle.nm_order.proofs.FactStays.{facts_stay}
 use Rattle.nm_order.proofs.LastEntries.{ToldBy, told_by_part, search_more}
-use Rattle.nm_order.proofs.OrderedLaws.{law_of_state, each_ordered}
+use Rattle.nm_order.proofs.OrderedLaws.{law_of_state}
 use Rattle.nm_order.proofs.TaughtFacts.{edges_are_learned, births_are_learned}
 use Rattle.nm_order.proofs.TaughtWalks.{walks_begin, walks_learn_keys, walks_go_on, walks_end}
 use Rattle.nm_order.proofs.ToldLaws.{same_layout, twins_are_told, flagged_lead_high, flagged_stand_high, edges_stay_inside, root_leads, low_keys_stand_high}
 use Rattle.nm_steps.specs.Rules.{knowledge}
-use Rattle.nm_steps.specs.Steps.{Stand, MayStep, Stepped, IsOfRun}
+use Rattle.nm_steps.specs.Steps.{Stand, MayStep, Stepped}
 use Rattle.nm_steps.proofs.AfterSteps.{TellsRun, run_after, is_join}
 use Rattle.nm_tree.specs.Telling.{Tells, IsInRun, GoesOn, OnlyLooks, IsPinnedSomewhere, KeyTold, EdgeTold}
 
@@ -136,15 +134,20 @@ module _ (p q : Stand) (x : ℕ) (fits : IsLayout q.view.layout) (tells : TellsR
       let told = ByLook x side e in
       let roots = λ (at : x ≡ 2) (left : side ≡ Left). root_leads L low w log entry grows e (rw (at, left) (ByLook 2 Left e)) in
       record {
-        learned = record { leads = λ some. after _ (learned.leads some); leaf = λ null. after _ (learned.leaf null); tagged = λ tag. after _ (learned.tagged tag); flagged = λ flag. after _ (learned.flagged flag) };
+        learned = record {
+          leads = λ some. after (KnowsSlot e.slot) (learned.leads some);
+          leaf = λ null. after (KnowsLeaf x) (learned.leaf null);
+          tagged = λ tag. after (IsTagged x side e.slot) (learned.tagged tag);
+          flagged = λ flag. after (IsFlagged x side e.slot) (learned.flagged flag);
+        };
         twin = λ to tag. twins_are_told L low w log entry grows x side e to told tag;
         within = edges_stay_inside L low w log entry grows x side e told;
         high = flagged_lead_high L low w log entry grows x side e told known;
         owner = flagged_stand_high L low w log entry grows x side e told known;
         root = roots;
-        begins = λ since k walks at left. after _ (walks_begin L low w log entry grows since k e walks (rw (at, left) refl) (roots at left));
-        goes = λ since k parent v up read on some. subst (λ (d : Side). Tells q (Came since k e.slot x d)) (sym on) (after _ (walks_go_on L low w log entry grows since k x parent v up e read (rw on refl) some));
-        ends = λ since k parent v up read on null. after _ (walks_end L low w log entry grows since k x parent v up e read (rw on refl) null);
+        begins = λ since k walks at left. after (Came since k e.slot 2 Left) (walks_begin L low w log entry grows since k e walks (rw (at, left) refl) (roots at left));
+        goes = λ since k parent v up read on some. subst (λ (d : Side). Tells q (Came since k e.slot x d)) (sym on) (after (Came since k e.slot x (side_of k v)) (walks_go_on L low w log entry grows since k x parent v up e read (rw on refl) some));
+        ends = λ since k parent v up read on null. after (EndedAt since k x parent up v) (walks_end L low w log entry grows since k x parent v up e read (rw on refl) null);
       }
 
 -- ---- what a look leaves

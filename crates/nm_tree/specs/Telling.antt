@@ -8,7 +8,7 @@ use Rattle.nm_core.specs.Memory.{infinity_0}
 use Rattle.nm_core.specs.Searches.{idle, side_of}
 use Rattle.nm_core.specs.Walks.{search_after}
 use Rattle.nm_order.specs.Facts.{Since, Fact, Holds}
-use Rattle.nm_order.specs.Facts.Fact.{IsPinned, KnowsSlot, KnowsLeaf, IsTagged, IsFlagged, Came, ReadKey, EndedAt}
+use Rattle.nm_order.specs.Facts.Fact.{IsPinned, IsTagged, Came, ReadKey, EndedAt}
 use Rattle.nm_order.specs.Taught.{Walks, EdgeLearned}
 use Rattle.nm_steps.specs.Rules.{knowledge}
 use Rattle.nm_steps.specs.Steps.{Stand, IsOfRun}
