@@ -2,5 +2,9 @@
 #![tactic(auto)]
 
 mod looking;
+mod spot;
+mod walking;
 
 pub use looking::{look_birth, look_edge, look_key};
+pub use spot::{Chain, ChainEdge, End, Spot};
+pub use walking::{find, seek};
