@@ -1,3 +1,4 @@
 pub mod Looks
 pub mod Standing
 pub mod GoingOn
+pub mod LookUps

@@ -2,9 +2,13 @@
 #![tactic(auto)]
 
 mod looking;
+mod lookup;
 mod spot;
+#[cfg(test)]
+mod tests;
 mod walking;
 
 pub use looking::{look_birth, look_edge, look_key};
+pub use lookup::{Busy, has};
 pub use spot::{Chain, ChainEdge, End, Spot};
 pub use walking::{find, seek};
