@@ -77,7 +77,7 @@ told_edge m _ _ _ _ is (BySplice x s p side keep e) = is
 pub live_then : (s : State) (h : ℕ → ℕ) (law : Lawful s h) (w x : ℕ) → knows (of s w) x ≡ true → IsLive (picture s h) x
 live_then s h law w x known = law.tree.guarded w x (record { from = x; known = known; path = []; ends = refl; is_slot = λ z. (let r = law.tree.known w x known in absurd (omega arith)) })
 
-twice_other : (side : Side) → other (other side) ≡ side
+pub twice_other : (side : Side) → other (other side) ≡ side
 twice_other Left = refl
 twice_other Right = refl
 

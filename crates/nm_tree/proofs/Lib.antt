@@ -2,3 +2,4 @@ pub mod Looks
 pub mod Standing
 pub mod GoingOn
 pub mod LookUps
+pub mod Freezing

@@ -1,3 +1,4 @@
 pub mod Telling
 pub mod Walks
 pub mod Calls
+pub mod Cleanups

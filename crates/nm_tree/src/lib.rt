@@ -1,6 +1,7 @@
 //! The set: an external search tree that threads share without locks (Natarajan and Mittal, PPoPP 2014).
 #![tactic(auto)]
 
+mod cutting;
 mod looking;
 mod lookup;
 mod spot;
@@ -8,6 +9,7 @@ mod spot;
 mod tests;
 mod walking;
 
+pub use cutting::{Kept, choose, freeze};
 pub use looking::{look_birth, look_edge, look_key};
 pub use lookup::{Busy, has};
 pub use spot::{Chain, ChainEdge, End, Spot};
