@@ -2,5 +2,7 @@
 #![tactic(auto)]
 
 mod looking;
+mod marking;
 
 pub use looking::{look_birth, look_edge, look_key};
+pub use marking::tag;

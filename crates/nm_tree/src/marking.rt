@@ -1,0 +1,29 @@
+//! Marks and cuts: tags and flags of edges, and splices that cut frozen chains off, as far as the worker's own log allows them.
+ghost use Rattle.std.specs.Prelude.{ℕ};
+ghost use Rattle.nm_edge.specs.Edges.{other};
+ghost use Rattle.nm_core.specs.declared.event.Event.TheVariants.{Tag};
+ghost use Rattle.nm_core.specs.declared.reply.Reply.TheVariants.{Was};
+ghost use Rattle.nm_order.specs.Facts.Fact.{KnowsSlot, IsFlagged};
+ghost use Rattle.nm_steps.specs.Steps.{IsOf, Stepped};
+ghost use Rattle.nm_tree.specs.Telling.{Tells, GoesOn, OnlyLooks, IsInRun, IsPinnedSomewhere};
+ghost use Rattle.nm_tree.specs.Marking.{TagTold};
+
+use nm_edge::{Edge, Side};
+use nm_steps::{Pass, Shared};
+
+/// Tags an edge of a known node whose other edge is known to be flagged, and answers the edge as it was. It is never null.
+pub fn tag(shared: &Shared, pass: &mut Pass, parent: u32, side: Side) -> Edge
+    requires own { IsOf shared.now pass.old }
+    requires run { IsInRun pass.old }
+    requires pinned { IsPinnedSomewhere pass.old }
+    requires known { Tells pass.old (KnowsSlot parent) }
+    requires beside { (to : ℕ) × Tells pass.old (IsFlagged parent (other side) to) }
+    ensures step { Stepped pass.old pass.new (Tag parent side) (Was result) }
+    ensures on { GoesOn pass.old pass.new }
+    ensures only { OnlyLooks pass.old pass.new }
+    ensures told { TagTold pass.old pass.new parent side result }
+{
+    let edge = shared.tag(pass, parent, side);
+    pass.is_of_a_run();
+    edge
+}
