@@ -1,12 +1,12 @@
 //! Marks and cuts: tags and flags of edges, and splices that cut frozen chains off, as far as the worker's own log allows them.
-ghost use Rattle.std.specs.Prelude.{ℕ};
+ghost use Rattle.std.specs.Prelude.{ℕ, IfOk, IfErr};
 ghost use Rattle.nm_edge.specs.Edges.{other};
 ghost use Rattle.nm_core.specs.declared.event.Event.TheVariants.{Tag};
 ghost use Rattle.nm_core.specs.declared.reply.Reply.TheVariants.{Was};
-ghost use Rattle.nm_order.specs.Facts.Fact.{KnowsSlot, IsFlagged};
+ghost use Rattle.nm_order.specs.Facts.Fact.{KnowsSlot, IsFlagged, IsBorn};
 ghost use Rattle.nm_steps.specs.Steps.{IsOf, Stepped};
 ghost use Rattle.nm_tree.specs.Telling.{Tells, GoesOn, OnlyLooks, IsInRun, IsPinnedSomewhere};
-ghost use Rattle.nm_tree.specs.Marking.{TagTold};
+ghost use Rattle.nm_tree.specs.Marking.{TagTold, IsToBeFlagged, OnlyFlags, FlagWon, FlagLost};
 
 use nm_edge::{Edge, Side};
 use nm_steps::{Pass, Shared};
@@ -26,4 +26,27 @@ pub fn tag(shared: &Shared, pass: &mut Pass, parent: u32, side: Side) -> Edge
     let edge = shared.tag(pass, parent, side);
     pass.is_of_a_run();
     edge
+}
+
+/// Flags the edge to a leaf that the call to delete has found: the leaf is to be removed, and the call has deleted its key.
+/// Lost: the edge that was found, and the call has flagged nothing still.
+pub fn flag(
+    shared: &Shared,
+    pass: &mut Pass,
+    parent: u32,
+    side: Side,
+    leaf: u32,
+) -> Result<(), Edge>
+    requires own { IsOf shared.now pass.old }
+    requires run { IsInRun pass.old }
+    requires pinned { IsPinnedSomewhere pass.old }
+    requires found { IsToBeFlagged pass.old parent side leaf }
+    ensures won { IfOk result (λ _. (b : ℕ) → Tells pass.old (IsBorn leaf b) → FlagWon pass.old pass.new parent side (record { slot = leaf; birth = b })) }
+    ensures lost { IfErr result (λ e. FlagLost pass.old pass.new parent side leaf e) }
+    ensures on { GoesOn pass.old pass.new }
+    ensures only { OnlyFlags pass.old pass.new }
+{
+    let won = shared.flag(pass, parent, side, leaf);
+    pass.is_of_a_run();
+    won
 }
