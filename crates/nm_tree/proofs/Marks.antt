@@ -147,6 +147,7 @@ ends_there key p leaf side a slot parent by ended is =
     (and_from (a.parent == p) (is_side a.side side) (eq-eqb a.parent p parent) (ap (λ (d : Side). is_side d side) by ∙ same_side side)))
     (and_from a.ended (is_number a.key key) ended (ap (λ o. is_number o key) is ∙ eq-eqb key key refl))
 
+-- so the flag is in order
 in_order : (p : Stand) (x : ℕ) (side : Side) (leaf : ℕ) → IsToBeFlagged p x side leaf → flags_in_order (search_after idle p.view.log) (search_after idle p.view.log).call x side leaf ≡ true
 in_order p x side leaf f =
     let s : Search = search_after idle p.view.log in

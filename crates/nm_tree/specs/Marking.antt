@@ -1,20 +1,22 @@
 -- What tags, flags and splices add to what a pass's log tells.
-use Rattle.std.specs.Prelude.{◌≡◌, ◌≢◌, ℕ, ◌≤◌, true, Some, None}
+use Rattle.std.specs.Prelude.{◌≡◌, ◌≢◌, ℕ, ◌≤◌, ◌==◌, true, ◌||◌, List, Some, None, option_map, if◌then◌else◌}
 use Rattle.nm_edge.specs.Edges.{Edge, other, tagged}
 use Rattle.nm_edge.specs.declared.edge.Side.{Side}
 use Rattle.nm_edge.specs.declared.node.NodeId.{NodeId}
 use Rattle.nm_core.specs.declared.event.Op.TheVariants.{Delete}
-use Rattle.nm_core.specs.declared.event.Event.TheVariants.{Flag}
-use Rattle.nm_core.specs.declared.reply.Reply.TheVariants.{Flagged, Lost}
+use Rattle.nm_core.specs.declared.event.Event.TheVariants.{Flag, Splice}
+use Rattle.nm_core.specs.declared.reply.Reply.TheVariants.{Flagged, Cut, Lost}
 use Rattle.nm_core.specs.Knowledge.{read}
-use Rattle.nm_core.specs.Searches.{idle}
+use Rattle.nm_core.specs.Ledgers.{held, with_cut}
+use Rattle.nm_core.specs.Searches.{idle, is_flagged_in}
 use Rattle.nm_core.specs.Walks.{search_after}
 use Rattle.nm_order.specs.Facts.Since.{ThePin}
 use Rattle.nm_order.specs.Facts.Fact.{KnowsSlot, KnowsLeaf, IsTagged, IsFlagged, IsBorn, CallIs, EndedAt}
 use Rattle.nm_order.specs.Taught.{EdgeLearned}
+use Rattle.nm_order.specs.Told.{FrozenTo}
 use Rattle.nm_steps.specs.Rules.{knowledge}
 use Rattle.nm_steps.specs.Steps.{Stand, Stepped}
-use Rattle.nm_tree.specs.Telling.{Tells}
+use Rattle.nm_tree.specs.Telling.{Tells, OnlyLooks}
 
 -- ---- a tag
 
@@ -74,3 +76,36 @@ pub record FlagLost (p q : Stand) (parent : ℕ) (side : Side) (leaf : ℕ) (e :
   pub step : Stepped p q (Flag parent side leaf) (Lost e)
   pub found : EdgeFound p q parent side e
   pub flagged : (search_after idle q.view.log).flagged ≡ (search_after idle p.view.log).flagged
+
+-- ---- a splice
+
+-- what a splice cuts: a chain from the successor down to the parent that the facts freeze, below a known ancestor;
+-- the parent is left by its edge on one side, which was read as this one
+pub record IsToBeCut (p : Stand) (ancestor successor parent : ℕ) (keep : Side) (kept : Edge) : Type 0 where
+  pub knows_ancestor : Tells p (KnowsSlot ancestor)
+  pub successor_high : 6 ≤ successor
+  pub parent_high : 6 ≤ parent
+  pub nodes : List NodeId
+  pub frozen : FrozenTo (Tells p) parent keep successor nodes
+  pub is_read : read (knowledge p.view) parent keep ≡ Some kept
+
+-- private slots, the call, and what it linked and flagged, are as before
+pub record OnlyCuts (p q : Stand) : Type 0 where
+  pub private : (knowledge q.view).drafts ≡ (knowledge p.view).drafts
+  pub call : (search_after idle q.view.log).call ≡ (search_after idle p.view.log).call
+  pub linked : (search_after idle q.view.log).linked ≡ (search_after idle p.view.log).linked
+  pub flagged : (search_after idle q.view.log).flagged ≡ (search_after idle p.view.log).flagged
+
+-- the splice is won: these nodes enter the own queue at the end, without a label, and wait for one;
+-- and where the leaf that the call flagged is one of them, the call has cut it
+pub record SpliceWon (p q : Stand) (ancestor : ℕ) (side : Side) (successor parent : ℕ) (keep : Side) (ns : List NodeId) : Type 0 where
+  pub step : Stepped p q (Splice ancestor side successor parent keep) (Cut ns)
+  pub queues : (o : ℕ) → held (knowledge q.view).ledgers o ≡ (if o == p.view.number then option_map (with_cut ns) (held (knowledge p.view).ledgers o) else held (knowledge p.view).ledgers o)
+  pub epochs : (knowledge q.view).brief ≡ record (knowledge p.view).brief { unlabelled = true }
+  pub cut : (search_after idle q.view.log).cut ≡ ((search_after idle p.view.log).cut || is_flagged_in (search_after idle p.view.log).flagged ns)
+
+-- it is lost: another edge of the ancestor was found
+pub record SpliceLost (p q : Stand) (ancestor : ℕ) (side : Side) (successor parent : ℕ) (keep : Side) (e : Edge) : Type 0 where
+  pub step : Stepped p q (Splice ancestor side successor parent keep) (Lost e)
+  pub found : EdgeFound p q ancestor side e
+  pub only : OnlyLooks p q

@@ -5,4 +5,4 @@ mod looking;
 mod marking;
 
 pub use looking::{look_birth, look_edge, look_key};
-pub use marking::{flag, tag};
+pub use marking::{flag, splice, tag};

@@ -1,12 +1,14 @@
 //! Marks and cuts: tags and flags of edges, and splices that cut frozen chains off, as far as the worker's own log allows them.
-ghost use Rattle.std.specs.Prelude.{ℕ, IfOk, IfErr};
+ghost use Rattle.std.specs.Prelude.{ℕ, List, IfOk, IfErr};
 ghost use Rattle.nm_edge.specs.Edges.{other};
+ghost use Rattle.nm_edge.specs.declared.node.NodeId.{NodeId};
 ghost use Rattle.nm_core.specs.declared.event.Event.TheVariants.{Tag};
 ghost use Rattle.nm_core.specs.declared.reply.Reply.TheVariants.{Was};
 ghost use Rattle.nm_order.specs.Facts.Fact.{KnowsSlot, IsFlagged, IsBorn};
+ghost use Rattle.nm_order.specs.Told.{FrozenTo};
 ghost use Rattle.nm_steps.specs.Steps.{IsOf, Stepped};
 ghost use Rattle.nm_tree.specs.Telling.{Tells, GoesOn, OnlyLooks, IsInRun, IsPinnedSomewhere};
-ghost use Rattle.nm_tree.specs.Marking.{TagTold, IsToBeFlagged, OnlyFlags, FlagWon, FlagLost};
+ghost use Rattle.nm_tree.specs.Marking.{TagTold, IsToBeFlagged, OnlyFlags, FlagWon, FlagLost, IsToBeCut, OnlyCuts, SpliceWon, SpliceLost};
 
 use nm_edge::{Edge, Side};
 use nm_steps::{Pass, Shared};
@@ -47,6 +49,33 @@ pub fn flag(
     ensures only { OnlyFlags pass.old pass.new }
 {
     let won = shared.flag(pass, parent, side, leaf);
+    pass.is_of_a_run();
+    won
+}
+
+/// Cuts a frozen chain off, from the successor down to the parent, with the flagged leaf beside each of its nodes: the ancestor's edge
+/// leads from then on where the parent's edge on the side `keep` leads, which was read as `kept`. The nodes wait for their label.
+/// Lost: the edge that was found.
+pub fn splice(
+    shared: &Shared,
+    pass: &mut Pass,
+    ancestor: u32,
+    side: Side,
+    successor: u32,
+    parent: u32,
+    keep: Side,
+    kept: Edge,
+) -> Result<(), Edge>
+    requires own { IsOf shared.now pass.old }
+    requires run { IsInRun pass.old }
+    requires pinned { IsPinnedSomewhere pass.old }
+    requires frozen { IsToBeCut pass.old ancestor successor parent keep kept }
+    ensures won { IfOk result (λ _. (ns : List NodeId) → FrozenTo (Tells pass.old) parent keep successor ns → SpliceWon pass.old pass.new ancestor side successor parent keep ns) }
+    ensures lost { IfErr result (λ e. SpliceLost pass.old pass.new ancestor side successor parent keep e) }
+    ensures on { GoesOn pass.old pass.new }
+    ensures only { OnlyCuts pass.old pass.new }
+{
+    let won = shared.splice(pass, ancestor, side, successor, parent, keep, kept);
     pass.is_of_a_run();
     won
 }
