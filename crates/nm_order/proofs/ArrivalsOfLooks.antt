@@ -32,7 +32,7 @@ mapped_there f xs x there = let at = at_place xs x there in contained (map f xs)
 pub any_there : {X : Type 0} (f : X → Bool) (xs : List X) (x : X) → Contains xs x → f x ≡ true → list_any f xs ≡ true
 any_there f xs x there is = list_any_at f xs there.0 x there.1 (ap f there.2 ∙ is)
 
-same_side : (d : Side) → is_side d d ≡ true
+pub same_side : (d : Side) → is_side d d ≡ true
 same_side Left = refl
 same_side Right = refl
 

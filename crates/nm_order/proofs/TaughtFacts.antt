@@ -35,7 +35,7 @@ met_itself m s some = cond_both (s == 0) m (cond (has m s) m (put m s unread)) (
     (λ _. cond_both (has m s) m (put m s unread) (λ l. has l s ≡ true) (λ there. there) (λ _. has_put_there m s unread s (inl refl)))
 
 module _ (k : Knowledge) (x : ℕ) (side : Side) (e : Edge) where
-  is_read : read (read_edge k x side e) x side ≡ Some e
+  pub is_read : read (read_edge k x side e) x side ≡ Some e
   is_read = read_after k x side e x side ∙ cond-true (eqb x x && same_side side side) (Some e) (read k x side) (and_from (eqb x x) (same_side side side) (eq-eqb x x refl) (same_side-refl side))
 
   leads_known : e.slot ≢ 0 → knows (read_edge k x side e) e.slot ≡ true

@@ -59,39 +59,40 @@ flags_are_as_known L enough w log entry l p leaf birth side n is born = go (last
 
 -- ---- the chain of a won splice
 
+module _ (k : Knowledge) (S : Search) where
+  pub flag_known : (x : ℕ) (d : Side) (y : ℕ) → HoldsIn k S (IsFlagged x d y) → (is_flagged (read k x d) ≡ true) × (slot_read (read k x d) ≡ y)
+  flag_known x d y f = (ap is_flagged f.1 ∙ f.2, ap slot_read f.1 ∙ f.3)
+
+  pub tag_known : (x : ℕ) (d : Side) (y : ℕ) → HoldsIn k S (IsTagged x d y) → slot_read (read k x d) ≡ y
+  tag_known x d y f = ap slot_read f.1 ∙ f.3
+
+  -- where the way goes on, it goes by the side whose twin is known flagged
+  pub onward_is : (x : ℕ) (d g : Side) (y : ℕ) → HoldsIn k S (IsFlagged x (other d) y) → onward k x ≡ Some g → g ≡ d
+  onward_is x d g y flag is = by d g flag (led (leads_on k x Left) (leads_on k x Right) refl refl is)
+    where
+      led : (a b : Bool) → leads_on k x Left ≡ a → leads_on k x Right ≡ b → cond a (Some Left) (cond b (Some Right) None) ≡ Some g → leads_on k x g ≡ true
+      led true b i j e = subst (λ (c : Side). leads_on k x c ≡ true) (same_Some Left g e) i
+      led false true i j e = subst (λ (c : Side). leads_on k x c ≡ true) (same_Some Right g e) j
+      led false false i j e = absurd (none-some g e)
+
+      unflagged : (g : Side) → leads_on k x g ≡ true → is_flagged (read k x g) ≡ true → ⊥
+      unflagged g lead flag =
+          let one = and_parts (is_tagged (read k x g)) (is_flagged (read k x (other g)) && not (is_flagged (read k x g))) lead in
+          let two = and_parts (is_flagged (read k x (other g))) (not (is_flagged (read k x g))) one.1 in
+          true≢false (sym two.1 ∙ ap not flag)
+
+      by : (d g : Side) → HoldsIn k S (IsFlagged x (other d) y) → leads_on k x g ≡ true → g ≡ d
+      by Left Left flag lead = refl
+      by Right Right flag lead = refl
+      by Left Right flag lead = absurd (unflagged Right lead (flag_known x Right y flag).0)
+      by Right Left flag lead = absurd (unflagged Left lead (flag_known x Left y flag).0)
+
 module _ (s : State) (h : ℕ → ℕ) (law : Lawful s h) (w : ℕ) (S : Search) (births : (x b : ℕ) → HoldsIn (of s w) S (IsBorn x b) → (node s.memory x).birth ≡ b) where
   abbrev k : Knowledge
   k = of s w
 
   holds : Fact → Type 0
   holds fact = HoldsIn (of s w) S fact
-
-  flag_known : (x : ℕ) (d : Side) (y : ℕ) → HoldsIn (of s w) S (IsFlagged x d y) → (is_flagged (read (of s w) x d) ≡ true) × (slot_read (read (of s w) x d) ≡ y)
-  flag_known x d y f = (ap is_flagged f.1 ∙ f.2, ap slot_read f.1 ∙ f.3)
-
-  tag_known : (x : ℕ) (d : Side) (y : ℕ) → HoldsIn (of s w) S (IsTagged x d y) → slot_read (read (of s w) x d) ≡ y
-  tag_known x d y f = ap slot_read f.1 ∙ f.3
-
-  -- where the way goes on, it goes by the side whose twin is known flagged
-  onward_is : (x : ℕ) (d g : Side) (y : ℕ) → HoldsIn (of s w) S (IsFlagged x (other d) y) → onward (of s w) x ≡ Some g → g ≡ d
-  onward_is x d g y flag is = by d g flag (led (leads_on (of s w) x Left) (leads_on (of s w) x Right) refl refl is)
-    where
-      led : (a b : Bool) → leads_on (of s w) x Left ≡ a → leads_on (of s w) x Right ≡ b → cond a (Some Left) (cond b (Some Right) None) ≡ Some g → leads_on (of s w) x g ≡ true
-      led true b i j e = subst (λ (c : Side). leads_on (of s w) x c ≡ true) (same_Some Left g e) i
-      led false true i j e = subst (λ (c : Side). leads_on (of s w) x c ≡ true) (same_Some Right g e) j
-      led false false i j e = absurd (none-some g e)
-
-      unflagged : (g : Side) → leads_on (of s w) x g ≡ true → is_flagged (read (of s w) x g) ≡ true → ⊥
-      unflagged g lead flag =
-          let one = and_parts (is_tagged (read (of s w) x g)) (is_flagged (read (of s w) x (other g)) && not (is_flagged (read (of s w) x g))) lead in
-          let two = and_parts (is_flagged (read (of s w) x (other g))) (not (is_flagged (read (of s w) x g))) one.1 in
-          true≢false (sym two.1 ∙ ap not flag)
-
-      by : (d g : Side) → HoldsIn (of s w) S (IsFlagged x (other d) y) → leads_on (of s w) x g ≡ true → g ≡ d
-      by Left Left flag lead = refl
-      by Right Right flag lead = refl
-      by Left Right flag lead = absurd (unflagged Right lead (flag_known x Right y flag).0)
-      by Right Left flag lead = absurd (unflagged Left lead (flag_known x Left y flag).0)
 
   -- a chain as it is known goes down to p
   path_of : {p : ℕ} {keep : Side} {x : ℕ} {ns : List NodeId} → FrozenTo holds p keep x ns → List Side
@@ -112,7 +113,7 @@ module _ (s : State) (h : ℕ → ℕ) (law : Lawful s h) (w : ℕ) (S : Search)
 
   pair_is : (x y b c : ℕ) (d : Side) (rest : List NodeId) → HoldsIn (of s w) S (IsFlagged x d y) → HoldsIn (of s w) S (IsBorn x b) → HoldsIn (of s w) S (IsBorn y c)
       → named s.memory x ∷ named s.memory (slot_read (read (of s w) x d)) ∷ rest ≡ record { slot = x; birth = b } ∷ record { slot = y; birth = c } ∷ rest
-  pair_is x y b c d rest flag born leaf_born = ap (λ (z : ℕ). named s.memory x ∷ named s.memory z ∷ rest) (flag_known x d y flag).1 ∙ (λ i. name_is x b born i ∷ name_is y c leaf_born i ∷ rest)
+  pair_is x y b c d rest flag born leaf_born = ap (λ (z : ℕ). named s.memory x ∷ named s.memory z ∷ rest) (flag_known (of s w) S x d y flag).1 ∙ (λ i. name_is x b born i ∷ name_is y c leaf_born i ∷ rest)
 
   longer : (q : List Side) (d : Side) (r : List Side) → q ≡ q ++ d ∷ r → ⊥
   longer q d r same = by (length q) (length-append q (d ∷ r)) (ap length same)
@@ -152,14 +153,14 @@ module _ (s : State) (h : ℕ → ℕ) (law : Lawful s h) (w : ℕ) (S : Search)
       met : Recurs → (o : Option (List Side)) → way fuel (of s w) to p ≡ o → before_way (Some side) o ≡ Some sides → map (named s.memory) (cut_by (of s w) slot sides keep) ≡ record { slot = slot; birth = birth } ∷ record { slot = leaf; birth = leaf_birth } ∷ nodes
       met recurs None found e = absurd (none-some sides e)
       met recurs (Some r) found e = subst (λ (d : List Side). map (named s.memory) (cut_by (of s w) slot d keep) ≡ record { slot = slot; birth = birth } ∷ record { slot = leaf; birth = leaf_birth } ∷ nodes) (same_Some (side ∷ r) sides e)
-          (ap (λ (y : ℕ). named s.memory slot ∷ named s.memory (slot_read (read (of s w) slot (other side))) ∷ map (named s.memory) (cut_by (of s w) y r keep)) (tag_known slot side to tag)
+          (ap (λ (y : ℕ). named s.memory slot ∷ named s.memory (slot_read (read (of s w) slot (other side))) ∷ map (named s.memory) (cut_by (of s w) y r keep)) (tag_known (of s w) S slot side to tag)
           ∙ (ap (λ (ms : List NodeId). named s.memory slot ∷ named s.memory (slot_read (read (of s w) slot (other side))) ∷ ms) (then recurs r found) ∙ pair_is slot leaf birth leaf_birth (other side) nodes flag b c))
 
       on : Recurs → slot ≢ p → (o : Option Side) → onward (of s w) slot ≡ o → map (named s.memory) (cut_by (of s w) slot sides keep) ≡ record { slot = slot; birth = birth } ∷ record { slot = leaf; birth = leaf_birth } ∷ nodes
       on recurs ne None goes = absurd (none-some sides (sym (way_end (suc fuel) fuel (of s w) slot p (omega arith) ne goes) ∙ is))
       on recurs ne (Some g) goes =
-          let d : g ≡ side = onward_is slot side g leaf flag goes in
-          met recurs (way fuel (of s w) to p) refl (ap (λ (y : ℕ). before_way (Some side) (way fuel (of s w) y p)) (sym (tag_known slot side to tag))
+          let d : g ≡ side = onward_is (of s w) S slot side g leaf flag goes in
+          met recurs (way fuel (of s w) to p) refl (ap (λ (y : ℕ). before_way (Some side) (way fuel (of s w) y p)) (sym (tag_known (of s w) S slot side to tag))
           ∙ (sym (way_next (suc fuel) fuel (of s w) slot p side (omega arith) ne (goes ∙ ap Some d)) ∙ is))
 
 -- ---- a won splice

@@ -1,3 +1,4 @@
+pub mod Marking
 pub mod Telling
 pub mod Walks
 pub mod Calls

@@ -8,9 +8,11 @@ mod spot;
 #[cfg(test)]
 mod tests;
 mod walking;
+mod marking;
 
 pub use cutting::{Kept, choose, freeze};
 pub use looking::{look_birth, look_edge, look_key};
 pub use lookup::{Busy, has};
 pub use spot::{Chain, ChainEdge, End, Spot};
 pub use walking::{find, seek};
+pub use marking::{flag, splice, tag};
