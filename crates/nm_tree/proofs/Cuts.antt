@@ -36,7 +36,10 @@ use Rattle.nm_steps.proofs.AfterSteps.{TellsRun}
 use Rattle.nm_tree.specs.Telling.{Tells, IsInRun, IsPinnedSomewhere}
 use Rattle.nm_tree.specs.Marking.{IsToBeCut, OnlyCuts, SpliceWon, SpliceLost}
 use Rattle.nm_tree.proofs.Looks.{enough, known_inside, inside, grown}
-use Rattle.nm_tree.proofs.Marks.{passes, neither, slot_inside, known_is, search_is, only_reads, edge_found}
+use Rattle.nm_epoch.proofs.Allowed.{passes_then, neither}
+use Rattle.nm_epoch.proofs.Entries.{search_is}
+use Rattle.nm_epoch.proofs.KeptHands.{known_after_step}
+use Rattle.nm_tree.proofs.Marks.{slot_inside, only_reads, edge_found}
 
 -- ---- the births of a frozen chain
 
@@ -121,12 +124,12 @@ may_splice p a side s x keep kept run pin f =
     let frozen = frozen_chains_may_be_cut L (enough L run.fits) p.view.number p.view.log run.run.is_part s x keep f.nodes f.frozen in
     record {
       looked = tt;
-      allowed = λ m h. passes (outside 1 n a || (outside 6 n s || outside 6 n x)) NoSlot _
+      allowed = λ m h. passes_then (outside 1 n a || (outside 6 n s || outside 6 n x)) NoSlot _
           (neither (outside 1 n a) (outside 6 n s || outside 6 n x) (slot_inside p a run f.knows_ancestor)
           (neither (outside 6 n s) (outside 6 n x) (inside 6 n s f.successor_high below.1) (inside 6 n x f.parent_high last.1)))
-          (passes (is_none k.brief.pin) NotPinned _ (ap is_none pin.1)
-          (passes (not (knows k a && knows k s)) NotHeld _ (ap not (and_from (knows k a) (knows k s) f.knows_ancestor first))
-          (passes (not (is_frozen L k s x keep)) NotFrozen None (ap not frozen) refl)));
+          (passes_then (is_none k.brief.pin) NotPinned _ (ap is_none pin.1)
+          (passes_then (not (knows k a && knows k s)) NotHeld _ (ap not (and_from (knows k a) (knows k s) f.knows_ancestor first))
+          (passes_then (not (is_frozen L k s x keep)) NotFrozen None (ap not frozen) refl)));
       ordered = refl;
       births = births_known k S L s x keep f.nodes f.frozen frozen;
       key = tt;
@@ -145,7 +148,7 @@ module _ (p q : Stand) (a : ℕ) (side : Side) (s x : ℕ) (keep : Side) (fits :
       record {
         step = step;
         queues = λ o. ap (λ (y : Stand). held (knowledge y.view).ledgers o) step ∙ cuts_enter L low w p.view.log (Splice a side s x keep, Cut ns) grows a s x side keep ns refl o;
-        epochs = ap (λ (k : Knowledge). k.brief) (known_is p q (Splice a side s x keep) (Cut ns) step ∙ learn_cut w (knowledge p.view) a side s x keep ns);
+        epochs = ap (λ (k : Knowledge). k.brief) (known_after_step p q (Splice a side s x keep) (Cut ns) step ∙ learn_cut w (knowledge p.view) a side s x keep ns);
         cut = ap (λ (S : Search). S.cut) (search_is p q (Splice a side s x keep) (Cut ns) step);
       }
 
@@ -166,14 +169,14 @@ module _ (p q : Stand) (a : ℕ) (side : Side) (s x : ℕ) (keep : Side) (fits :
   splices_lost (Err e) step known = record {
     step = step;
     found = edge_found p q (Splice a side s x keep) (Lost e) a side e (BySplice a s x side keep e) step refl fits tells known;
-    only = only_reads p q a side e (known_is p q (Splice a side s x keep) (Lost e) step ∙ learn_splice_lost p.view.number (knowledge p.view) a side s x keep e) (search_is p q (Splice a side s x keep) (Lost e) step);
+    only = only_reads p q a side e (known_after_step p q (Splice a side s x keep) (Lost e) step ∙ learn_splice_lost p.view.number (knowledge p.view) a side s x keep e) (search_is p q (Splice a side s x keep) (Lost e) step);
   }
 
 pub only_cuts : (p q : Stand) (a : ℕ) (side : Side) (s x : ℕ) (keep : Side) (r : Result Unit Edge) → Stepped p q (Splice a side s x keep) (splice_reply p.view s x keep r) → OnlyCuts p q
 unfolding searched
 only_cuts p q a side s x keep (Ok u) step =
     let ns : List NodeId = nodes_cut p.view s x keep in
-    let k = known_is p q (Splice a side s x keep) (Cut ns) step ∙ learn_cut p.view.number (knowledge p.view) a side s x keep ns in
+    let k = known_after_step p q (Splice a side s x keep) (Cut ns) step ∙ learn_cut p.view.number (knowledge p.view) a side s x keep ns in
     let S = search_is p q (Splice a side s x keep) (Cut ns) step in
     record {
       private = ap (λ (y : Knowledge). y.drafts) k;
@@ -182,6 +185,6 @@ only_cuts p q a side s x keep (Ok u) step =
       flagged = ap (λ (y : Search). y.flagged) S;
     }
 only_cuts p q a side s x keep (Err e) step =
-    let k = known_is p q (Splice a side s x keep) (Lost e) step ∙ learn_splice_lost p.view.number (knowledge p.view) a side s x keep e in
+    let k = known_after_step p q (Splice a side s x keep) (Lost e) step ∙ learn_splice_lost p.view.number (knowledge p.view) a side s x keep e in
     let all = only_reads p q a side e k (search_is p q (Splice a side s x keep) (Lost e) step) in
     record { private = all.private; call = all.call; linked = all.linked; flagged = all.flagged }

@@ -1,5 +1,5 @@
 -- Marks: what a pass is to know before it tags or flags an edge, and what it knows behind it.
-use Rattle.std.proofs.Common.{◌≡◌, ℕ, ◌==◌, Bool, true, false, not, cond, ◌&&◌, ◌||◌, List, refl, sym, ap, subst, ◌∙◌}
+use Rattle.std.proofs.Common.{◌≡◌, ℕ, ◌==◌, true, false, not, ◌&&◌, ◌||◌, List, refl, sym, ap, subst, ◌∙◌}
 use Rattle.std.specs.Prelude.{Option, Some, None, is_none, is_some, unwrap_or, Result, Ok, Err, IfOk, IfErr}
 use Rattle.std.specs.List.{list_any}
 use Rattle.std.proofs.lemmas.Bool.{and_from, eq-eqb}
@@ -9,13 +9,12 @@ use Rattle.nm_edge.specs.declared.edge.Side.{Side}
 use Rattle.nm_edge.specs.declared.node.NodeId.{NodeId}
 use Rattle.nm_core.specs.declared.event.Event.{Event}
 use Rattle.nm_core.specs.declared.event.Event.TheVariants.{Flag, Tag}
-use Rattle.nm_core.specs.declared.reply.Refused.{Refused}
 use Rattle.nm_core.specs.declared.reply.Refused.TheVariants.{NoSlot, NotPinned, NotHeld, NotFrozen, NotOrdered}
 use Rattle.nm_core.specs.declared.reply.Reply.{Reply}
 use Rattle.nm_core.specs.declared.reply.Reply.TheVariants.{Flagged, Lost, Was}
 use Rattle.nm_core.specs.declared.walks.Arrival.{Arrival}
 use Rattle.nm_core.specs.Knowledge.{Knowledge, knows, knows_leaf, read, is_flagged}
-use Rattle.nm_core.specs.Learning.{learn, read_edge}
+use Rattle.nm_core.specs.Learning.{read_edge}
 use Rattle.nm_core.specs.Maps.{is_number}
 use Rattle.nm_core.specs.Ordered.{ended_at, may_flag_at, flags_in_order}
 use Rattle.nm_core.specs.Searches.{Search, idle, searched, is_by, is_side}
@@ -26,39 +25,26 @@ use Rattle.nm_order.specs.Facts.Fact.{KnowsSlot, KnowsLeaf, IsTagged, IsFlagged,
 use Rattle.nm_order.specs.Told.{TellsEdge}
 use Rattle.nm_order.specs.Told.TellsEdge.{ByFlag, ByTag}
 use Rattle.nm_order.proofs.ArrivalsOfLooks.{any_there, same_side}
-use Rattle.nm_order.proofs.LastEntries.{search_more}
 use Rattle.nm_order.proofs.TaughtFacts.{edges_are_learned, flags_are_learned, tags_are_learned, is_read}
 use Rattle.nm_order.proofs.ToldLaws.{edges_stay_inside, flagged_lead_high, flagged_stand_high, tags_lead, twins_are_told}
 use Rattle.nm_words.specs.Told.{known_as}
 use Rattle.nm_steps.specs.Rules.{knowledge}
 use Rattle.nm_steps.specs.Steps.{Stand, MayStep, Stepped, flag_reply}
 use Rattle.nm_steps.proofs.AfterSteps.{TellsRun, is_join}
-use Rattle.nm_steps.proofs.Presence.{known_push}
 use Rattle.nm_tree.specs.Telling.{Tells, IsInRun, OnlyLooks, IsPinnedSomewhere}
 use Rattle.nm_tree.specs.Marking.{TagTold, EdgeFound, IsToBeFlagged, OnlyFlags, FlagWon, FlagLost}
+use Rattle.nm_epoch.proofs.Allowed.{passes_then, neither}
+use Rattle.nm_epoch.proofs.Entries.{search_is}
+use Rattle.nm_epoch.proofs.KeptHands.{known_after_step}
 use Rattle.nm_tree.proofs.Looks.{enough, known_inside, inside, grown, told_after}
 
 -- ---- checks
-
--- a check that does not fail, before others of which none does
-pub passes : (b : Bool) (r : Refused) (rest : Option Refused) → b ≡ false → rest ≡ None → cond b (Some r) rest ≡ None
-passes b r rest is none_fails = ap (λ (x : Bool). cond x (Some r) rest) is ∙ none_fails
-
-pub neither : (a b : Bool) → a ≡ false → b ≡ false → (a || b) ≡ false
-neither a b x y = ap (λ (c : Bool). c || b) x ∙ y
 
 -- a known slot is in the layout
 pub slot_inside : (p : Stand) (x : ℕ) → IsInRun p → Tells p (KnowsSlot x) → outside 1 p.view.layout.nodes x ≡ false
 slot_inside p x run known = let range = known_inside p.view.layout p.view.number p.view.log run.fits run.run.is_part x known in inside 1 p.view.layout.nodes x range.0 range.1
 
 -- ---- what a step leaves
-
--- what is known after a step, and its search
-pub known_is : (p q : Stand) (e : Event) (r : Reply) → Stepped p q e r → knowledge q.view ≡ learn p.view.number (knowledge p.view) e r
-known_is p q e r step = ap (λ (y : Stand). knowledge y.view) step ∙ known_push p.view.number p.view.layout p.view.log (e, r)
-
-pub search_is : (p q : Stand) (e : Event) (r : Reply) → Stepped p q e r → search_after idle q.view.log ≡ searched (search_after idle p.view.log) e r
-search_is p q e r step = ap (λ (y : Stand). search_after idle y.view.log) step ∙ search_more idle p.view.log (e, r)
 
 -- an edge was read, and nothing else
 pub only_reads : (p q : Stand) (x : ℕ) (side : Side) (e : Edge) → knowledge q.view ≡ read_edge (knowledge p.view) x side e → search_after idle q.view.log ≡ search_after idle p.view.log → OnlyLooks p q
@@ -103,10 +89,10 @@ may_tag p x side run pin known flag =
     let k : Knowledge = knowledge p.view in
     record {
       looked = tt;
-      allowed = λ m h. passes (outside 1 p.view.layout.nodes x) NoSlot _ (slot_inside p x run known)
-          (passes (is_none k.brief.pin) NotPinned _ (ap is_none pin.1)
-          (passes (not (knows k x)) NotHeld _ (ap not known)
-          (passes (not (is_flagged (read k x (other side)))) NotFrozen None (ap not (ap is_flagged flag.1.1 ∙ flag.1.2)) refl)));
+      allowed = λ m h. passes_then (outside 1 p.view.layout.nodes x) NoSlot _ (slot_inside p x run known)
+          (passes_then (is_none k.brief.pin) NotPinned _ (ap is_none pin.1)
+          (passes_then (not (knows k x)) NotHeld _ (ap not known)
+          (passes_then (not (is_flagged (read k x (other side)))) NotFrozen None (ap not (ap is_flagged flag.1.1 ∙ flag.1.2)) refl)));
       ordered = refl;
       births = tt;
       key = tt;
@@ -126,7 +112,7 @@ module _ (p q : Stand) (x : ℕ) (side : Side) (e : Edge) (step : Stepped p q (T
       let lead = tags_lead L low w log entry grows x side e refl in
       record {
         marked = after (IsTagged x side e.slot) (tags_are_learned L low w log entry grows x side e refl);
-        is_read = ap (λ (k : Knowledge). read k x side) (known_is p q (Tag x side) (Was e) step ∙ learn_was w (knowledge p.view) x side e) ∙ is_read (knowledge p.view) x side (tagged e);
+        is_read = ap (λ (k : Knowledge). read k x side) (known_after_step p q (Tag x side) (Was e) step ∙ learn_was w (knowledge p.view) x side e) ∙ is_read (knowledge p.view) x side (tagged e);
         not_null = lead;
         leads = after (KnowsSlot e.slot) (learned.leads lead);
         within = edges_stay_inside L low w log entry grows x side e (ByTag x side e);
@@ -135,7 +121,7 @@ module _ (p q : Stand) (x : ℕ) (side : Side) (e : Edge) (step : Stepped p q (T
 
   pub only_tags : OnlyLooks p q
   unfolding searched
-  only_tags = only_reads p q x side (tagged e) (known_is p q (Tag x side) (Was e) step ∙ learn_was p.view.number (knowledge p.view) x side e) (search_is p q (Tag x side) (Was e) step)
+  only_tags = only_reads p q x side (tagged e) (known_after_step p q (Tag x side) (Was e) step ∙ learn_was p.view.number (knowledge p.view) x side e) (search_is p q (Tag x side) (Was e) step)
 
 -- ---- a flag
 
@@ -165,11 +151,11 @@ may_flag p x side leaf run pin f =
     let s : Search = search_after idle p.view.log in
     record {
       looked = tt;
-      allowed = λ m h. passes (outside 1 n x || outside 6 n leaf) NoSlot _ (neither (outside 1 n x) (outside 6 n leaf) (slot_inside p x run f.knows_parent) (inside 6 n leaf f.high range.1))
-          (passes (is_none k.brief.pin) NotPinned _ (ap is_none pin.1)
-          (passes (not (knows k x && (knows k leaf && knows_leaf k leaf))) NotHeld None
+      allowed = λ m h. passes_then (outside 1 n x || outside 6 n leaf) NoSlot _ (neither (outside 1 n x) (outside 6 n leaf) (slot_inside p x run f.knows_parent) (inside 6 n leaf f.high range.1))
+          (passes_then (is_none k.brief.pin) NotPinned _ (ap is_none pin.1)
+          (passes_then (not (knows k x && (knows k leaf && knows_leaf k leaf))) NotHeld None
           (ap not (and_from (knows k x) (knows k leaf && knows_leaf k leaf) f.knows_parent (and_from (knows k leaf) (knows_leaf k leaf) f.knows_leaf f.is_leaf))) refl));
-      ordered = passes (not (flags_in_order s s.call x side leaf)) NotOrdered None (ap not (in_order p x side leaf f)) refl;
+      ordered = passes_then (not (flags_in_order s s.call x side leaf)) NotOrdered None (ap not (in_order p x side leaf f)) refl;
       births = ap is_some f.born.1;
       key = tt;
     }
@@ -206,7 +192,7 @@ pub only_flags : (p q : Stand) (x : ℕ) (side : Side) (leaf : ℕ) (r : Result 
 unfolding searched
 only_flags p q x side leaf (Ok u) step =
     let n : NodeId = known_as (knowledge p.view) leaf in
-    let k = known_is p q (Flag x side leaf) (Flagged n) step ∙ learn_flagged p.view.number (knowledge p.view) x side leaf n in
+    let k = known_after_step p q (Flag x side leaf) (Flagged n) step ∙ learn_flagged p.view.number (knowledge p.view) x side leaf n in
     let s = search_is p q (Flag x side leaf) (Flagged n) step in
     record {
       epochs = ap (λ (y : Knowledge). y.brief) k;
@@ -217,6 +203,6 @@ only_flags p q x side leaf (Ok u) step =
       cut = ap (λ (y : Search). y.cut) s;
     }
 only_flags p q x side leaf (Err e) step =
-    let k = known_is p q (Flag x side leaf) (Lost e) step ∙ learn_flag_lost p.view.number (knowledge p.view) x side leaf e in
+    let k = known_after_step p q (Flag x side leaf) (Lost e) step ∙ learn_flag_lost p.view.number (knowledge p.view) x side leaf e in
     let all = only_reads p q x side e k (search_is p q (Flag x side leaf) (Lost e) step) in
     record { epochs = all.epochs; private = all.private; ledgers = all.ledgers; call = all.call; linked = all.linked; cut = all.cut }

@@ -4,15 +4,15 @@
 mod cutting;
 mod looking;
 mod lookup;
+mod marking;
 mod spot;
 #[cfg(test)]
 mod tests;
 mod walking;
-mod marking;
 
 pub use cutting::{Kept, choose, freeze};
 pub use looking::{look_birth, look_edge, look_key};
 pub use lookup::{Busy, has};
+pub use marking::{flag, splice, tag};
 pub use spot::{Chain, ChainEdge, End, Spot};
 pub use walking::{find, seek};
-pub use marking::{flag, splice, tag};
