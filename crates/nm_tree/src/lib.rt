@@ -2,5 +2,7 @@
 #![tactic(auto)]
 
 mod looking;
+mod making;
 
 pub use looking::{look_birth, look_edge, look_key};
+pub use making::fill;
