@@ -40,13 +40,13 @@ use Rattle.nm_steps.specs.Steps.{Stand, MayStep, Stepped}
 use Rattle.nm_steps.proofs.AfterSteps.{TellsRun, run_after, is_join}
 use Rattle.nm_tree.specs.Telling.{Tells, IsInRun, GoesOn, OnlyLooks, IsPinnedSomewhere, KeyTold, EdgeTold}
 
-enough : (L : Layout) → IsLayout L → 5 ≤ L.nodes
+pub enough : (L : Layout) → IsLayout L → 5 ≤ L.nodes
 enough L fits = let least = fits.least in omega arith
 
 -- ---- a look is allowed
 
 -- a known slot is one of the layout
-known_inside : (L : Layout) (w : ℕ) (log : List Entry) → IsLayout L → IsLogOf L w log → (x : ℕ) → knows (known_by L w log) x ≡ true → (1 ≤ x) × (x ≤ L.nodes)
+pub known_inside : (L : Layout) (w : ℕ) (log : List Entry) → IsLayout L → IsLogOf L w log → (x : ℕ) → knows (known_by L w log) x ≡ true → (1 ≤ x) × (x ≤ L.nodes)
 known_inside L w log fits l x known = go (told_by_part L (enough L fits) w l.worker l.turns l.keys)
   where
     go : ToldBy L w (part_of w (trace_in (ordered L) l.turns)) (after_in (ordered L) l.turns) → (1 ≤ x) × (x ≤ L.nodes)
@@ -56,7 +56,7 @@ known_inside L w log fits l x known = go (told_by_part L (enough L fits) w l.wor
         let layout : c.state.layout ≡ L = ap (λ (s : State). s.layout) told.is_ordered.leads ∙ same_layout L told.is_ordered.events in
         subst (λ (M : Layout). (1 ≤ x) × (x ≤ M.nodes)) layout (law.1.tree.known w x (ap (λ (k : Knowledge). knows k x) (told.knows ∙ ap (known_by L w) l.is_part) ∙ known))
 
-inside : (low n s : ℕ) → low ≤ s → s ≤ n → outside low n s ≡ false
+pub inside : (low n s : ℕ) → low ≤ s → s ≤ n → outside low n s ≡ false
 inside low n s least most = ap (λ (b : Bool). b || nat_lt n s) (le-ltb s low least) ∙ le-ltb n s most
 
 -- the checks of a look, one after the other
@@ -84,12 +84,12 @@ may_look p x f run pin known =
 -- ---- the log goes on
 
 -- the log after a step is a part of a run, with that entry at its end
-grown : (p q : Stand) (e : Event) (r : Reply) → Stepped p q e r → is_join e ≡ false → IsLayout q.view.layout → TellsRun q → IsLogOf p.view.layout p.view.number (p.view.log ++ (e, r) ∷ [])
+pub grown : (p q : Stand) (e : Event) (r : Reply) → Stepped p q e r → is_join e ≡ false → IsLayout q.view.layout → TellsRun q → IsLogOf p.view.layout p.view.number (p.view.log ++ (e, r) ∷ [])
 grown p q e r step other fits tells =
     subst (λ (s : Stand). IsLogOf s.view.layout s.view.number s.view.log) step (run_after p q e r (ap (λ (s : Stand). s.view.log) step) other tells).is_part
 
 -- a fact of the longer log is one of the pass after the step
-told_after : (p q : Stand) (e : Event) (r : Reply) → Stepped p q e r → (fact : Fact) → Holds p.view.layout p.view.number (p.view.log ++ (e, r) ∷ []) fact → Tells q fact
+pub told_after : (p q : Stand) (e : Event) (r : Reply) → Stepped p q e r → (fact : Fact) → Holds p.view.layout p.view.number (p.view.log ++ (e, r) ∷ []) fact → Tells q fact
 told_after p q e r step fact holds = subst (λ (s : Stand). Tells s fact) (sym step) holds
 
 pub goes_on : (p q : Stand) (e : Event) (r : Reply) → Stepped p q e r → is_join e ≡ false → begins_anew (e, r) ≡ false → IsLayout q.view.layout → TellsRun q → GoesOn p q

@@ -31,7 +31,8 @@ use Rattle.nm_steps.specs.Steps.{Stand, MayStep, Stepped}
 use Rattle.nm_steps.proofs.AfterSteps.{TellsRun, run_after, is_join}
 use Rattle.nm_steps.proofs.Presence.{known_push}
 use Rattle.nm_tree.specs.Telling.{IsInRun, GoesOn}
-use Rattle.nm_tree.specs.Making.{draft, KeepsOthers, OnlyMakes}
+use Rattle.nm_tree.specs.Making.{draft, IsFilled, KeepsOthers, OnlyMakes, with_node}
+use Rattle.nm_tree.proofs.Looks.{inside}
 
 -- ---- drafts
 
@@ -73,10 +74,10 @@ pub both_make : (p q r : Stand) → OnlyMakes p q → OnlyMakes q r → OnlyMake
 both_make p q r a b = record { epochs = b.epochs ∙ a.epochs; known = b.known ∙ a.known; ledgers = b.ledgers ∙ a.ledgers; search = b.search ∙ a.search }
 
 -- what is known after a step
-after_step : (p q : Stand) (e : Event) (r : Reply) → Stepped p q e r → knowledge q.view ≡ learn p.view.number (knowledge p.view) e r
+pub after_step : (p q : Stand) (e : Event) (r : Reply) → Stepped p q e r → knowledge q.view ≡ learn p.view.number (knowledge p.view) e r
 after_step p q e r step = ap (λ (s : Stand). knowledge s.view) step ∙ known_push p.view.number p.view.layout p.view.log (e, r)
 
-search_then : (p q : Stand) (e : Event) (r : Reply) → Stepped p q e r → search_after idle q.view.log ≡ searched (search_after idle p.view.log) e r
+pub search_then : (p q : Stand) (e : Event) (r : Reply) → Stepped p q e r → search_after idle q.view.log ≡ searched (search_after idle p.view.log) e r
 search_then p q e r step = ap (λ (s : Stand). search_after idle s.view.log) step ∙ search_more idle p.view.log (e, r)
 
 -- a step that changes drafts alone
@@ -99,11 +100,8 @@ pub record Fillable (p : Stand) (s : ℕ) : Type 0 where
 pub fillable : (p : Stand) (s : ℕ) → IsSome (draft p s).birth → ((x : ℕ) → is_private (knowledge p.view) x ≡ true → IsPooled p.view.layout x) → Fillable p s
 fillable p s born pooled = let range = pooled s (private_from_birth p s born) in record { least = range.0; most = range.1; born = born }
 
-inside : (low n s : ℕ) → low ≤ s → s ≤ n → outside low n s ≡ false
-inside low n s least most = ap (λ (b : Bool). b || nat_lt n s) (le-ltb s low least) ∙ le-ltb n s most
-
 -- a check that passes, and those that follow
-passes : (b : Bool) (r : Refused) (o : Option Refused) → b ≡ false → o ≡ None → cond b (Some r) o ≡ None
+pub passes : (b : Bool) (r : Refused) (o : Option Refused) → b ≡ false → o ≡ None → cond b (Some r) o ≡ None
 passes b r o is rest = cond-false b (Some r) o is ∙ rest
 
 not_none : {X : Type 0} (o : Option X) → is_some o ≡ true → is_none o ≡ false
@@ -167,3 +165,25 @@ module _ (p q : Stand) (s : ℕ) (f : Field) (v : ℕ) (step : Stepped p q (Fill
     most = subst (λ (x : Stand). s ≤ x.view.layout.nodes) (sym step) had.most;
     born = ap (λ (d : Draft). is_some d.birth) filled_draft ∙ (ap is_some same ∙ had.born);
   }
+
+-- the slot is filled, with the birth that it has
+pub is_filled : (p q : Stand) (s birth key left right : ℕ) → (draft p s).birth ≡ Some birth → get (knowledge q.view).drafts s ≡ Some (with_node (draft p s) key left right) → IsFilled q s birth key left right
+is_filled p q s birth key left right born is =
+    let d : draft q s ≡ with_node (draft p s) key left right = get_draft q s (with_node (draft p s) key left right) is in
+    record {
+      has_birth = ap (λ (x : Draft). x.birth) d ∙ born;
+      has_key = ap (λ (x : Draft). x.key) d;
+      has_left = ap (λ (x : Draft). x.left) d;
+      has_right = ap (λ (x : Draft). x.right) d;
+    }
+
+-- and is so after a step that leaves it
+pub is_filled_still : (p q : Stand) (s birth key left right : ℕ) → get (knowledge q.view).drafts s ≡ get (knowledge p.view).drafts s → IsFilled p s birth key left right → IsFilled q s birth key left right
+is_filled_still p q s birth key left right same f =
+    let d : draft q s ≡ draft p s = ap (λ o. unwrap_or o unfilled) same in
+    record {
+      has_birth = ap (λ (x : Draft). x.birth) d ∙ f.has_birth;
+      has_key = ap (λ (x : Draft). x.key) d ∙ f.has_key;
+      has_left = ap (λ (x : Draft). x.left) d ∙ f.has_left;
+      has_right = ap (λ (x : Draft). x.right) d ∙ f.has_right;
+    }

@@ -1,16 +1,23 @@
 -- What a pass's private slots have, and what the steps that make nodes leave.
-use Rattle.std.specs.Prelude.{◌≡◌, ◌≢◌, ℕ, List, [], ◌∷◌, ◌++◌, Some}
+use Rattle.std.specs.Prelude.{◌≡◌, ◌≢◌, ◌⊎◌, ℕ, ◌<◌, true, false, List, [], ◌∷◌, ◌++◌, Some}
+use Rattle.nm_edge.specs.Edges.{Edge}
+use Rattle.nm_edge.specs.declared.edge.Side.{Side}
 use Rattle.nm_edge.specs.declared.edge.Side.TheVariants.{Left, Right}
-use Rattle.nm_core.specs.declared.event.Event.TheVariants.{Fill}
+use Rattle.nm_core.specs.declared.event.Event.TheVariants.{Fill, Link}
 use Rattle.nm_core.specs.declared.event.Field.TheVariants.{Key as KeyOf, Edge as EdgeOn}
+use Rattle.nm_core.specs.declared.event.Op.TheVariants.{Insert}
 use Rattle.nm_core.specs.declared.knowledge.Draft.{Draft}
-use Rattle.nm_core.specs.declared.reply.Reply.TheVariants.{Filled}
-use Rattle.nm_core.specs.Knowledge.{draft_of}
+use Rattle.nm_core.specs.declared.reply.Reply.TheVariants.{Filled, Linked, Lost}
+use Rattle.nm_core.specs.Knowledge.{draft_of, is_private}
 use Rattle.nm_core.specs.Maps.{get}
 use Rattle.nm_core.specs.Searches.{idle}
 use Rattle.nm_core.specs.Walks.{Entry, search_after}
+use Rattle.nm_order.specs.Facts.Since.{ThePin}
+use Rattle.nm_order.specs.Facts.Fact.{CallIs, EndedAt}
+use Rattle.nm_order.specs.Taught.{EdgeLearned}
 use Rattle.nm_steps.specs.Rules.{knowledge}
-use Rattle.nm_steps.specs.Steps.{Stand}
+use Rattle.nm_steps.specs.Steps.{Stand, Stepped}
+use Rattle.nm_tree.specs.Telling.{Tells, OnlyLooks}
 
 -- ---- what private slots have
 
@@ -50,3 +57,39 @@ fills slot key left right = (Fill slot KeyOf key, Filled) ∷ (Fill slot (EdgeOn
 -- the key and both edges were stored, and nothing else changed
 abbrev pub HasFilled : Stand → Stand → ℕ → ℕ → ℕ → ℕ → Type 0
 HasFilled p q slot key left right = q ≡ record p { view = record p.view { log = p.view.log ++ fills slot key left right } }
+
+-- ---- linking a new node
+
+-- two private slots are filled to put a key beside a leaf that has another: one as a leaf with the key, and one as the internal node
+-- over both, with the greater of both keys; the leaf with the lesser one is on the left
+pub record IsFork (p : Stand) (key other leaf new fresh : ℕ) : Type 0 where
+  pub new_birth : ℕ
+  pub fresh_birth : ℕ
+  pub apart : new ≢ fresh
+  pub as_leaf : IsFilled p fresh fresh_birth key 0 0
+  pub as_fork : ((key < other) × IsFilled p new new_birth other fresh leaf) ⊎ ((other < key) × IsFilled p new new_birth key leaf fresh)
+
+-- the call is to insert a key and has not linked yet, a walk of it ended at the leaf, by that edge, and the new nodes put the key beside the leaf
+pub record Inserts (p : Stand) (parent : ℕ) (side : Side) (leaf new fresh : ℕ) : Type 0 where
+  pub key : ℕ
+  pub other : ℕ
+  pub call : Tells p (CallIs Insert key)
+  pub not_linked : (search_after idle p.view.log).linked ≡ false
+  pub ended : Tells p (EndedAt ThePin key leaf parent side other)
+  pub fork : IsFork p key other leaf new fresh
+
+-- the link is won: the call has linked, and both slots are private no longer
+pub record HasLinked (p q : Stand) (parent : ℕ) (side : Side) (leaf new fresh : ℕ) : Type 0 where
+  pub step : (birth : ℕ) → (draft p new).birth ≡ Some birth → Stepped p q (Link parent side leaf new) (Linked (record { slot = new; birth = birth }))
+  pub new_given : is_private (knowledge q.view) new ≡ false
+  pub fresh_given : is_private (knowledge q.view) fresh ≡ false
+  pub others : (s : ℕ) → s ≢ new → s ≢ fresh → get (knowledge q.view).drafts s ≡ get (knowledge p.view).drafts s
+  pub epochs : (knowledge q.view).brief ≡ (knowledge p.view).brief
+  pub ledgers : (knowledge q.view).ledgers ≡ (knowledge p.view).ledgers
+  pub search : search_after idle q.view.log ≡ record (search_after idle p.view.log) { linked = true }
+
+-- the link is lost: the edge that was found is read
+pub record HasLost (p q : Stand) (parent : ℕ) (side : Side) (leaf new : ℕ) (e : Edge) : Type 0 where
+  pub step : Stepped p q (Link parent side leaf new) (Lost e)
+  pub learned : EdgeLearned (Tells q) parent side e
+  pub only : OnlyLooks p q
