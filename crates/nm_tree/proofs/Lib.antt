@@ -1,3 +1,4 @@
+pub mod Claiming
 pub mod Linking
 pub mod Looks
 pub mod Makes

@@ -1,5 +1,5 @@
 -- What the step that links a new node asks, and what it leaves.
-use Rattle.std.proofs.Common.{◌≡◌, ◌≢◌, ℕ, ◌<◌, ◌≤◌, inl, inr, ◌==◌, eqb, Bool, true, false, not, cond, ◌&&◌, ◌||◌, List, refl, sym, ap, subst, ◌∙◌, arith}
+use Rattle.std.proofs.Common.{◌≡◌, ℕ, ◌<◌, inl, inr, ◌==◌, Bool, true, false, not, cond, ◌&&◌, ◌||◌, refl, sym, ap, subst, ◌∙◌, arith}
 use Rattle.std.specs.Prelude.{Option, Some, None, is_some, is_none, unwrap_or, nat_lt, Result, Ok, Err, IfOk, IfErr}
 use Rattle.std.specs.List.{list_any}
 use Rattle.std.proofs.lemmas.Bool.{cond-true, cond-false, cond_both, eq-eqb, ne_eqb, and_from, lt-ltb, le-ltb}
@@ -17,21 +17,18 @@ use Rattle.nm_core.specs.declared.walks.Call.{Call}
 use Rattle.nm_core.specs.Knowledge.{Knowledge, knows, is_private, draft_of, knows_leaf, beside}
 use Rattle.nm_core.specs.Learning.{linked, read_edge}
 use Rattle.nm_core.specs.Maps.{get, without, is_number}
-use Rattle.nm_core.specs.Ordered.{disorder, links_in_order, may_link_at, forks_over, new_leaf, ordered, after_in, trace_in}
+use Rattle.nm_core.specs.Ordered.{disorder, links_in_order, may_link_at, forks_over, new_leaf}
 use Rattle.nm_core.specs.Searches.{Search, idle, searched, is_by, is_side}
 use Rattle.nm_core.specs.Step.{refusal, outside, is_leaf_draft, is_fork_over, is_linkable, node_linked}
 use Rattle.nm_core.specs.Walks.{Entry, begins_anew, search_after}
 use Rattle.nm_core.proofs.Learned.{learn_linked, learn_link_lost}
 use Rattle.nm_core.proofs.Numbers.{number_is}
-use Rattle.nm_core.proofs.Tables.{Ascends, get-without, ascends-without}
+use Rattle.nm_core.proofs.Tables.{Ascends, ascends-without}
 use Rattle.nm_order.specs.Facts.{Arrived}
 use Rattle.nm_order.specs.Facts.Since.{ThePin}
 use Rattle.nm_order.specs.Facts.Fact.{KnowsSlot, KnowsLeaf, IsTagged, IsFlagged}
 use Rattle.nm_order.specs.Hands.{IsPooled}
-use Rattle.nm_order.specs.Logs.{part_of, known_by, IsLogOf}
 use Rattle.nm_order.specs.Told.TellsEdge.{ByLink}
-use Rattle.nm_order.proofs.LastEntries.{ToldBy, told_by_part}
-use Rattle.nm_order.proofs.OrderedLaws.{law_of_state}
 use Rattle.nm_order.proofs.TaughtFacts.{edges_are_learned}
 use Rattle.nm_steps.specs.Rules.{knowledge}
 use Rattle.nm_steps.specs.Steps.{Stand, MayStep, Stepped, link_reply}
@@ -39,7 +36,7 @@ use Rattle.nm_steps.proofs.AfterSteps.{TellsRun}
 use Rattle.nm_tree.specs.Telling.{Tells, IsInRun, GoesOn, IsPinnedSomewhere}
 use Rattle.nm_tree.specs.Making.{draft, IsFork, Inserts, HasLinked, HasLost}
 use Rattle.nm_tree.proofs.Looks.{enough, known_inside, inside, grown, told_after, goes_on}
-use Rattle.nm_tree.proofs.Makes.{private_from_birth, passes, after_step, search_then}
+use Rattle.nm_tree.proofs.Makes.{private_from_birth, drafts_ascend, without_it, without_another, passes, after_step, search_then}
 
 -- ---- what the drafts of the new nodes show
 
@@ -164,33 +161,6 @@ module _ (p : Stand) (parent : ℕ) (side : Side) (leaf new fresh : ℕ) (i : In
 
 -- ---- what a link leaves
 
--- private slots stand in order
-drafts_ascend : (p : Stand) → IsInRun p → Ascends (knowledge p.view).drafts
-drafts_ascend p run = go (told_by_part L low w l.worker l.turns l.keys)
-  where
-    L : Layout
-    L = p.view.layout
-
-    w : ℕ
-    w = p.view.number
-
-    l : IsLogOf p.view.layout p.view.number p.view.log
-    l = run.run.is_part
-
-    low : 5 ≤ p.view.layout.nodes
-    low = enough p.view.layout run.fits
-
-    go : ToldBy L w (part_of w (trace_in (ordered L) l.turns)) (after_in (ordered L) l.turns) → Ascends (knowledge p.view).drafts
-    go told =
-        let law = law_of_state L low (after_in (ordered L) l.turns) told.is_ordered in
-        subst (λ (x : Knowledge). Ascends x.drafts) (told.knows ∙ ap (known_by L w) l.is_part) (law.1.drafts w)
-
-without_it : (m : List (ℕ × Draft)) (s : ℕ) → Ascends m → get (without m s) s ≡ None
-without_it m s order = get-without m s s order ∙ cond-true (eqb s s) None (get m s) (eq-eqb s s refl)
-
-without_another : (m : List (ℕ × Draft)) (s x : ℕ) → Ascends m → x ≢ s → get (without m s) x ≡ get m x
-without_another m s x order ne = get-without m s x order ∙ cond-false (eqb x s) None (get m x) (ne_eqb x s ne)
-
 module _ (p q : Stand) (parent : ℕ) (side : Side) (leaf new fresh : ℕ) where
   stands_anew : (r : Result Unit Edge) → begins_anew (Link parent side leaf new, link_reply p.view new r) ≡ false
   stands_anew (Ok u) = refl
@@ -206,7 +176,7 @@ module _ (p q : Stand) (parent : ℕ) (side : Side) (leaf new fresh : ℕ) where
       let n : NodeId = node_linked k new in
       let at : knowledge q.view ≡ linked k leaf new = after_step p q (Link parent side leaf new) (Linked n) step ∙ learn_linked p.view.number k parent side leaf new n in
       let drafts_now : (knowledge q.view).drafts ≡ without (without k.drafts new) fresh = ap (λ (x : Knowledge). x.drafts) at ∙ ap (without (without k.drafts new)) (is_fresh p parent side leaf new fresh i) in
-      let order : Ascends k.drafts = drafts_ascend p run in
+      let order : Ascends k.drafts = drafts_ascend p.view.layout (enough p.view.layout run.fits) p.view.number p.view.log run.run.is_part in
       let later : Ascends (without k.drafts new) = ascends-without k.drafts new order in
       record {
         step = λ birth is. subst (λ (b : ℕ). Stepped p q (Link parent side leaf new) (Linked (record { slot = new; birth = b }))) (ap (λ (o : Option ℕ). unwrap_or o 0) is) step;

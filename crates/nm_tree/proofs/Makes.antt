@@ -1,8 +1,8 @@
 -- What the steps that make nodes ask and leave.
-use Rattle.std.proofs.Common.{◌≡◌, ℕ, ◌≤◌, eqb, Bool, true, false, true≢false, not, cond, ◌&&◌, ◌||◌, List, refl, sym, ap, subst, ◌∙◌}
+use Rattle.std.proofs.Common.{◌≡◌, ◌≢◌, ℕ, ◌≤◌, eqb, Bool, true, false, true≢false, not, cond, ◌&&◌, ◌||◌, List, refl, sym, ap, subst, ◌∙◌}
 use Rattle.std.specs.Prelude.{Option, Some, None, IsSome, is_some, is_none, unwrap_or, nat_lt}
 use Rattle.std.proofs.lemmas.Bool.{le-ltb, cond-true, cond-false, eq-eqb, ne_eqb}
-use Rattle.nm_edge.specs.Layouts.{IsLayout}
+use Rattle.nm_edge.specs.Layouts.{Layout, IsLayout}
 use Rattle.nm_edge.specs.declared.edge.Side.{Side}
 use Rattle.nm_core.specs.declared.event.Event.{Event}
 use Rattle.nm_core.specs.declared.event.Event.TheVariants.{Fill}
@@ -16,16 +16,19 @@ use Rattle.nm_core.specs.declared.reply.Reply.{Reply}
 use Rattle.nm_core.specs.declared.reply.Reply.TheVariants.{Filled}
 use Rattle.nm_core.specs.Knowledge.{Knowledge, unfilled, is_private, read, seen_of, knows_leaf}
 use Rattle.nm_core.specs.Learning.{learn, filled_in}
-use Rattle.nm_core.specs.Maps.{get, put, has}
+use Rattle.nm_core.specs.Maps.{get, put, without, has}
+use Rattle.nm_core.specs.Ordered.{ordered, after_in, trace_in}
 use Rattle.nm_core.specs.Searches.{Search, idle, searched}
 use Rattle.nm_core.specs.Step.{refusal, outside}
-use Rattle.nm_core.specs.Walks.{search_after}
+use Rattle.nm_core.specs.Walks.{Entry, search_after}
 use Rattle.nm_core.proofs.Learned.{learn_filled}
-use Rattle.nm_core.proofs.Tables.{get-put}
+use Rattle.nm_core.proofs.Tables.{Ascends, get-put, get-without}
 use Rattle.nm_order.specs.Facts.{Fact, HoldsIn}
 use Rattle.nm_order.specs.Facts.Fact.{IsPinned, KnowsSlot, KnowsLeaf, IsTagged, IsFlagged, IsBorn, CallIs, Came, ReadKey, EndedAt}
 use Rattle.nm_order.specs.Hands.{IsPooled}
-use Rattle.nm_order.proofs.LastEntries.{search_more}
+use Rattle.nm_order.specs.Logs.{part_of, known_by, IsLogOf}
+use Rattle.nm_order.proofs.LastEntries.{ToldBy, told_by_part, search_more}
+use Rattle.nm_order.proofs.OrderedLaws.{law_of_state}
 use Rattle.nm_steps.specs.Rules.{knowledge}
 use Rattle.nm_steps.specs.Steps.{Stand, MayStep, Stepped}
 use Rattle.nm_steps.proofs.AfterSteps.{TellsRun, run_after, is_join}
@@ -45,6 +48,28 @@ private_from_birth p s born = go (get (knowledge p.view).drafts s) born
     go : (o : Option Draft) → is_some (unwrap_or o unfilled).birth ≡ true → is_some o ≡ true
     go None h = absurd (true≢false (sym h))
     go (Some d) h = refl
+
+-- private slots stand in order
+pub drafts_ascend : (L : Layout) → 5 ≤ L.nodes → (w : ℕ) (log : List Entry) → IsLogOf L w log → Ascends (known_by L w log).drafts
+drafts_ascend L low w log l = go (told_by_part L low w l.worker l.turns l.keys)
+  where
+    go : ToldBy L w (part_of w (trace_in (ordered L) l.turns)) (after_in (ordered L) l.turns) → Ascends (known_by L w log).drafts
+    go told =
+        let law = law_of_state L low (after_in (ordered L) l.turns) told.is_ordered in
+        subst (λ (x : Knowledge). Ascends x.drafts) (told.knows ∙ ap (known_by L w) l.is_part) (law.1.drafts w)
+
+-- what a map has without a slot, and what it has at another than one that is taken out or put in
+pub without_it : (m : List (ℕ × Draft)) (s : ℕ) → Ascends m → get (without m s) s ≡ None
+without_it m s order = get-without m s s order ∙ cond-true (eqb s s) None (get m s) (eq-eqb s s refl)
+
+pub without_another : (m : List (ℕ × Draft)) (s x : ℕ) → Ascends m → x ≢ s → get (without m s) x ≡ get m x
+without_another m s x order ne = get-without m s x order ∙ cond-false (eqb x s) None (get m x) (ne_eqb x s ne)
+
+pub put_another : (m : List (ℕ × Draft)) (s : ℕ) (d : Draft) (x : ℕ) → x ≢ s → get (put m s d) x ≡ get m x
+put_another m s d x ne = get-put m s d x ∙ cond-false (eqb x s) (Some d) (get m x) (ne_eqb x s ne)
+
+pub put_there : (m : List (ℕ × Draft)) (s : ℕ) (d : Draft) → get (put m s d) s ≡ Some d
+put_there m s d = get-put m s d s ∙ cond-true (eqb s s) (Some d) (get m s) (eq-eqb s s refl)
 
 -- ---- steps on private slots leave every fact
 
@@ -81,7 +106,7 @@ pub search_then : (p q : Stand) (e : Event) (r : Reply) → Stepped p q e r → 
 search_then p q e r step = ap (λ (s : Stand). search_after idle s.view.log) step ∙ search_more idle p.view.log (e, r)
 
 -- a step that changes drafts alone
-makes : (p q : Stand) (m : List (ℕ × Draft)) → knowledge q.view ≡ record (knowledge p.view) { drafts = m } → search_after idle q.view.log ≡ search_after idle p.view.log → OnlyMakes p q
+pub makes : (p q : Stand) (m : List (ℕ × Draft)) → knowledge q.view ≡ record (knowledge p.view) { drafts = m } → search_after idle q.view.log ≡ search_after idle p.view.log → OnlyMakes p q
 makes p q m is search = record {
   epochs = ap (λ (x : Knowledge). x.brief) is;
   known = ap (λ (x : Knowledge). x.known) is;
@@ -144,7 +169,7 @@ module _ (p q : Stand) (s : ℕ) (f : Field) (v : ℕ) (step : Stepped p q (Fill
   pub filled_there : get (knowledge q.view).drafts s ≡ Some (filled_in (draft p s) f v)
   filled_there =
       ap (λ (k : Knowledge). get k.drafts s) filled_known
-      ∙ (get-put (knowledge p.view).drafts s (filled_in (draft p s) f v) s ∙ cond-true (eqb s s) (Some (filled_in (draft p s) f v)) (get (knowledge p.view).drafts s) (eq-eqb s s refl))
+      ∙ put_there (knowledge p.view).drafts s (filled_in (draft p s) f v)
 
   pub filled_draft : draft q s ≡ filled_in (draft p s) f v
   filled_draft = get_draft q s (filled_in (draft p s) f v) filled_there
@@ -152,7 +177,7 @@ module _ (p q : Stand) (s : ℕ) (f : Field) (v : ℕ) (step : Stepped p q (Fill
   pub filled_others : KeepsOthers s p q
   filled_others x ne =
       ap (λ (k : Knowledge). get k.drafts x) filled_known
-      ∙ (get-put (knowledge p.view).drafts s (filled_in (draft p s) f v) x ∙ cond-false (eqb x s) (Some (filled_in (draft p s) f v)) (get (knowledge p.view).drafts x) (ne_eqb x s ne))
+      ∙ put_another (knowledge p.view).drafts s (filled_in (draft p s) f v) x ne
 
   pub only_filled : OnlyMakes p q
   unfolding searched

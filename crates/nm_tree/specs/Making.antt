@@ -1,8 +1,9 @@
 -- What a pass's private slots have, and what the steps that make nodes leave.
-use Rattle.std.specs.Prelude.{◌≡◌, ◌≢◌, ◌⊎◌, ℕ, ◌<◌, true, false, List, [], ◌∷◌, ◌++◌, Some}
+use Rattle.std.specs.Prelude.{◌≡◌, ◌≢◌, ◌⊎◌, ℕ, ◌<◌, true, false, List, [], ◌∷◌, ◌++◌, Option, Some, IfSome}
 use Rattle.nm_edge.specs.Edges.{Edge}
 use Rattle.nm_edge.specs.declared.edge.Side.{Side}
 use Rattle.nm_edge.specs.declared.edge.Side.TheVariants.{Left, Right}
+use Rattle.nm_edge.specs.declared.node.NodeId.{NodeId}
 use Rattle.nm_core.specs.declared.event.Event.TheVariants.{Fill, Link}
 use Rattle.nm_core.specs.declared.event.Field.TheVariants.{Key as KeyOf, Edge as EdgeOn}
 use Rattle.nm_core.specs.declared.event.Op.TheVariants.{Insert}
@@ -37,6 +38,10 @@ pub record IsFilled (p : Stand) (slot birth key left right : ℕ) : Type 0 where
 -- each other slot is private with what was stored there, or is not private, as it was
 abbrev pub KeepsOthers : ℕ → Stand → Stand → Type 0
 KeepsOthers slot p q = (s : ℕ) → s ≢ slot → get (knowledge q.view).drafts s ≡ get (knowledge p.view).drafts s
+
+-- each slot but a claimed one
+abbrev pub KeepsAllBut : Option NodeId → Stand → Stand → Type 0
+KeepsAllBut claimed p q = (s : ℕ) → IfSome claimed (λ node. s ≢ node.slot) → get (knowledge q.view).drafts s ≡ get (knowledge p.view).drafts s
 
 -- nothing but private slots has changed
 pub record OnlyMakes (p q : Stand) : Type 0 where

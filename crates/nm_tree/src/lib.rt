@@ -5,4 +5,4 @@ mod looking;
 mod making;
 
 pub use looking::{look_birth, look_edge, look_key};
-pub use making::{fill, link};
+pub use making::{claim, fill, give, link};
