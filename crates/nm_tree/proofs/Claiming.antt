@@ -22,15 +22,16 @@ use Rattle.nm_core.proofs.Tables.{Ascends}
 use Rattle.nm_order.specs.Logs.{known_by, IsLogOf}
 use Rattle.nm_order.proofs.LastEntries.{known_more, search_more, log_before}
 use Rattle.nm_order.proofs.ToldClaims.{claims_are_new}
-use Rattle.nm_pool.specs.Claims.{FoundWorn, MadeNew, PassedOver, IsClaim}
+use Rattle.nm_order.specs.Told.{IsNew}
+use Rattle.nm_pool.specs.Claims.{IsNewNode, FoundWorn, MadeNew, PassedOver, IsClaim}
 use Rattle.nm_pool.specs.Takes.{DoneInTurn, FoundTaken, LearnsSlots}
 use Rattle.nm_steps.specs.Rules.{knowledge}
 use Rattle.nm_steps.specs.Steps.{Stand, Stepped, IsSamePass}
 use Rattle.nm_steps.proofs.AfterSteps.{TellsRun, run_after, is_join}
 use Rattle.nm_tree.specs.Telling.{IsInRun}
-use Rattle.nm_tree.specs.Making.{KeepsOthers, KeepsAllBut, OnlyMakes}
+use Rattle.nm_tree.specs.Making.{draft, KeepsOthers, KeepsAllBut, OnlyMakes}
 use Rattle.nm_tree.proofs.Looks.{enough}
-use Rattle.nm_tree.proofs.Makes.{drafts_ascend, without_it, without_another, put_there, put_another, makes, after_step, search_then}
+use Rattle.nm_tree.proofs.Makes.{get_draft, drafts_ascend, without_it, without_another, put_there, put_another, makes, after_step, search_then}
 
 -- ---- the call's search is as it was
 
@@ -284,3 +285,13 @@ module _ (p q : Stand) (s : ℕ) (step : Stepped p q (Give s) (Returned s)) wher
 
     pub given_others : KeepsOthers s p q
     given_others x ne = ap (λ (k : Knowledge). get k.drafts x) returned ∙ without_another (knowledge p.view).drafts s x order ne
+
+-- ---- what a claimed node has
+
+-- its birth is stored
+pub new_birth : (p : Stand) (n : NodeId) → IsNewNode (knowledge p.view) n → (draft p n.slot).birth ≡ Some n.birth
+new_birth p n made = ap (λ (d : Draft). d.birth) (get_draft p n.slot (record unfilled { birth = Some n.birth }) made)
+
+-- it is another than each slot that was private before
+pub new_apart : (p : Stand) (x y : ℕ) → IsNew p.view.layout p.view.number p.view.log x → is_private (knowledge p.view) y ≡ true → x ≢ y
+new_apart p x y new own at = true≢false (sym own ∙ (ap (is_private (knowledge p.view)) (sym at) ∙ new.not_held))

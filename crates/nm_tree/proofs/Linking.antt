@@ -34,7 +34,7 @@ use Rattle.nm_steps.specs.Rules.{knowledge}
 use Rattle.nm_steps.specs.Steps.{Stand, MayStep, Stepped, link_reply}
 use Rattle.nm_steps.proofs.AfterSteps.{TellsRun}
 use Rattle.nm_tree.specs.Telling.{Tells, IsInRun, GoesOn, IsPinnedSomewhere}
-use Rattle.nm_tree.specs.Making.{draft, IsFork, Inserts, HasLinked, HasLost}
+use Rattle.nm_tree.specs.Making.{draft, IsFork, IsInserting, HasLinked, HasLost}
 use Rattle.nm_tree.proofs.Looks.{enough, known_inside, inside, grown, told_after, goes_on}
 use Rattle.nm_tree.proofs.Makes.{private_from_birth, drafts_ascend, without_it, without_another, passes, after_step, search_then}
 
@@ -89,7 +89,7 @@ same_side : (side : Side) → is_side side side ≡ true
 same_side Left = refl
 same_side Right = refl
 
-module _ (p : Stand) (parent : ℕ) (side : Side) (leaf new fresh : ℕ) (i : Inserts p parent side leaf new fresh) where
+module _ (p : Stand) (parent : ℕ) (side : Side) (leaf new fresh : ℕ) (i : IsInserting p parent side leaf new fresh) where
   abbrev k : Knowledge
   k = knowledge p.view
 
@@ -169,7 +169,7 @@ module _ (p q : Stand) (parent : ℕ) (side : Side) (leaf new fresh : ℕ) where
   pub link_goes_on : (r : Result Unit Edge) → Stepped p q (Link parent side leaf new) (link_reply p.view new r) → IsLayout q.view.layout → TellsRun q → GoesOn p q
   link_goes_on r step fits tells = goes_on p q (Link parent side leaf new) (link_reply p.view new r) step refl (stands_anew r) fits tells
 
-  pub link_won : IsInRun p → Inserts p parent side leaf new fresh → Stepped p q (Link parent side leaf new) (Linked (node_linked (knowledge p.view) new)) → HasLinked p q parent side leaf new fresh
+  pub link_won : IsInRun p → IsInserting p parent side leaf new fresh → Stepped p q (Link parent side leaf new) (Linked (node_linked (knowledge p.view) new)) → HasLinked p q parent side leaf new fresh
   unfolding searched
   link_won run i step =
       let k : Knowledge = knowledge p.view in
@@ -219,7 +219,7 @@ module _ (p q : Stand) (parent : ℕ) (side : Side) (leaf new fresh : ℕ) where
       }
 
   -- by what the step answers
-  pub if_won : (r : Result Unit Edge) → IsInRun p → Inserts p parent side leaf new fresh → Stepped p q (Link parent side leaf new) (link_reply p.view new r) → IfOk r (λ _. HasLinked p q parent side leaf new fresh)
+  pub if_won : (r : Result Unit Edge) → IsInRun p → IsInserting p parent side leaf new fresh → Stepped p q (Link parent side leaf new) (link_reply p.view new r) → IfOk r (λ _. HasLinked p q parent side leaf new fresh)
   if_won (Ok u) run i step = link_won run i step
   if_won (Err e) run i step = tt
 

@@ -42,6 +42,9 @@ use Rattle.nm_tree.proofs.Looks.{inside}
 pub get_draft : (p : Stand) (s : ℕ) (d : Draft) → get (knowledge p.view).drafts s ≡ Some d → draft p s ≡ d
 get_draft p s d is = ap (λ o. unwrap_or o unfilled) is
 
+pub same_draft : (p q : Stand) (s : ℕ) → get (knowledge q.view).drafts s ≡ get (knowledge p.view).drafts s → draft q s ≡ draft p s
+same_draft p q s is = ap (λ o. unwrap_or o unfilled) is
+
 pub private_from_birth : (p : Stand) (s : ℕ) → IsSome (draft p s).birth → is_private (knowledge p.view) s ≡ true
 private_from_birth p s born = go (get (knowledge p.view).drafts s) born
   where
@@ -205,7 +208,7 @@ is_filled p q s birth key left right born is =
 -- and is so after a step that leaves it
 pub is_filled_still : (p q : Stand) (s birth key left right : ℕ) → get (knowledge q.view).drafts s ≡ get (knowledge p.view).drafts s → IsFilled p s birth key left right → IsFilled q s birth key left right
 is_filled_still p q s birth key left right same f =
-    let d : draft q s ≡ draft p s = ap (λ o. unwrap_or o unfilled) same in
+    let d : draft q s ≡ draft p s = same_draft p q s same in
     record {
       has_birth = ap (λ (x : Draft). x.birth) d ∙ f.has_birth;
       has_key = ap (λ (x : Draft). x.key) d ∙ f.has_key;

@@ -39,7 +39,7 @@ pub record IsFilled (p : Stand) (slot birth key left right : ℕ) : Type 0 where
 abbrev pub KeepsOthers : ℕ → Stand → Stand → Type 0
 KeepsOthers slot p q = (s : ℕ) → s ≢ slot → get (knowledge q.view).drafts s ≡ get (knowledge p.view).drafts s
 
--- each slot but a claimed one
+-- so does each slot but the claimed one, if one was claimed
 abbrev pub KeepsAllBut : Option NodeId → Stand → Stand → Type 0
 KeepsAllBut claimed p q = (s : ℕ) → IfSome claimed (λ node. s ≢ node.slot) → get (knowledge q.view).drafts s ≡ get (knowledge p.view).drafts s
 
@@ -75,7 +75,7 @@ pub record IsFork (p : Stand) (key other leaf new fresh : ℕ) : Type 0 where
   pub as_fork : ((key < other) × IsFilled p new new_birth other fresh leaf) ⊎ ((other < key) × IsFilled p new new_birth key leaf fresh)
 
 -- the call is to insert a key and has not linked yet, a walk of it ended at the leaf, by that edge, and the new nodes put the key beside the leaf
-pub record Inserts (p : Stand) (parent : ℕ) (side : Side) (leaf new fresh : ℕ) : Type 0 where
+pub record IsInserting (p : Stand) (parent : ℕ) (side : Side) (leaf new fresh : ℕ) : Type 0 where
   pub key : ℕ
   pub other : ℕ
   pub call : Tells p (CallIs Insert key)

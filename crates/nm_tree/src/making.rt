@@ -12,7 +12,7 @@ ghost use Rattle.nm_pool.specs.Takes.{LearnsSlots};
 ghost use Rattle.nm_steps.specs.Rules.{knowledge};
 ghost use Rattle.nm_steps.specs.Steps.{IsOf, IsSamePass, Stepped};
 ghost use Rattle.nm_tree.specs.Telling.{Tells, GoesOn, IsInRun, IsPinnedSomewhere};
-ghost use Rattle.nm_tree.specs.Making.{draft, KeepsOthers, KeepsAllBut, OnlyMakes, with_node, HasFilled, Inserts, HasLinked, HasLost};
+ghost use Rattle.nm_tree.specs.Making.{draft, KeepsOthers, KeepsAllBut, OnlyMakes, with_node, HasFilled, IsInserting, HasLinked, HasLost};
 
 use nm_edge::{Edge, NodeId, Side};
 use nm_steps::{Pass, Shared};
@@ -75,7 +75,9 @@ pub fn fill(shared: &Shared, pass: &mut Pass, slot: u32, key: u64, left: u32, ri
     pass.is_of_a_run();
 }
 
-/// Puts the new node in the place of the leaf that the parent's edge leads to. The node is over that leaf and a new one, `fresh`. Lost: the edge that was found.
+/// Puts a new internal node, over the leaf and the new leaf `fresh`, in the place of the leaf. Lost: the edge that was found.
+///
+/// Only a call to insert the key of `fresh` may do so, once, by the edge by which a walk of it came to the leaf and ended there.
 pub fn link(
     shared: &Shared,
     pass: &mut Pass,
@@ -91,7 +93,7 @@ pub fn link(
     requires parent { Tells pass.old (KnowsSlot parent) }
     requires known { Tells pass.old (KnowsSlot leaf) }
     requires leaf { Tells pass.old (KnowsLeaf leaf) }
-    requires inserts { Inserts pass.old parent side leaf new fresh }
+    requires inserts { IsInserting pass.old parent side leaf new fresh }
     ensures on { GoesOn pass.old pass.new }
     ensures won { IfOk result (λ _. HasLinked pass.old pass.new parent side leaf new fresh) }
     ensures lost { IfErr result (HasLost pass.old pass.new parent side leaf new) }
