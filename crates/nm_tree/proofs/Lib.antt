@@ -1,7 +1,10 @@
-pub mod Cuts
 pub mod Looks
 pub mod Standing
 pub mod GoingOn
 pub mod LookUps
 pub mod Freezing
 pub mod Marks
+pub mod Cuts
+pub mod Makes
+pub mod Linking
+pub mod Claiming

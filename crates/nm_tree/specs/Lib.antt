@@ -1,4 +1,5 @@
 pub mod Marking
+pub mod Making
 pub mod Telling
 pub mod Walks
 pub mod Calls

@@ -4,6 +4,7 @@
 mod cutting;
 mod looking;
 mod lookup;
+mod making;
 mod marking;
 mod spot;
 #[cfg(test)]
@@ -13,6 +14,7 @@ mod walking;
 pub use cutting::{Kept, choose, freeze};
 pub use looking::{look_birth, look_edge, look_key};
 pub use lookup::{Busy, has};
+pub use making::{claim, fill, give, link};
 pub use marking::{flag, splice, tag};
 pub use spot::{Chain, ChainEdge, End, Spot};
 pub use walking::{find, seek};
