@@ -131,8 +131,9 @@ pub struct Collected {
 /// front of entries whose labels are at least two below the epoch. Each node goes back to the pool by one step, and leaves its queue.
 /// One step to read the epoch, and one a node.
 ///
-/// The queues are ones of ledgers that the worker holds, by ascending origin if a caller wants them collected so, with all that waits
-/// in them. The epoch is not below any that the worker had read. Where a cut waits for its label, the first step labels it.
+/// The queues are those of ledgers that the worker holds, each of another origin, with all that waits in them. They are gone through as
+/// they stand: by ascending origin where they stand so. The epoch is not below any that the worker had read. Where a cut waits for its
+/// label, the first step labels it.
 ///
 /// Two epochs after the label no worker is pinned that could still come to the node (Fraser, Practical lock-freedom, 2004,
 /// chapter 5).
