@@ -30,8 +30,8 @@ pub fn tag(shared: &Shared, pass: &mut Pass, parent: u32, side: Side) -> Edge
     edge
 }
 
-/// Flags the edge to a leaf that the call to delete has found: the leaf is to be removed, and the call has deleted its key.
-/// Lost: the edge that was found, and the call has flagged nothing still.
+/// Flags the edge to a leaf that the call to delete has found. Won: the call has flagged that leaf, which a cleanup is to cut
+/// off. Lost: the edge that was found, and the call has flagged nothing still.
 pub fn flag(
     shared: &Shared,
     pass: &mut Pass,
