@@ -1,51 +1,27 @@
 //! The core: the machine from its opening on.
-ghost use Rattle.std.specs.Prelude.{◌≡◌, ◌≢◌, ◌<◌, ◌≤◌, ◌⊎◌, ◌↔◌, IfOk, IfErr, OnOk, OnErr, IsErrOf, take, length};
+ghost use Rattle.std.specs.Prelude.{◌≡◌, ◌≢◌, ◌<◌, ◌≤◌, ◌⊎◌, ◌↔◌, IfOk, IfErr, OnOk, OnErr, IsErrOf, IsSome, None, All, take, length};
 ghost use Rattle.std.specs.Option.{option_copied};
-ghost use Rattle.nm_core.specs.Runs.{start, reply_of};
-ghost use Rattle.nm_core.specs.Ordered.{plain, ordered, refused_in, applied_in, next_in, outcome_in, after_in, trace_in};
-ghost use Rattle.nm_core.specs.Reports.{counts, holder, keys, ledger_of};
-ghost use Rattle.nm_core.specs.Answers.{IsAnswer};
+ghost use Rattle.nm_model.specs.Runs.{start, reply_of};
+ghost use Rattle.nm_model.specs.Ordered.{plain, ordered, HasKey, IsReached, refused_in, applied_in, next_in, outcome_in, after_in, trace_in};
+ghost use Rattle.nm_model.specs.Reports.{counts, holder, keys, ledger_of};
+ghost use Rattle.nm_model.specs.Answers.{IsAnswer};
 ghost use Rattle.nm_edge.specs.Layouts.{IsLayout};
-ghost use Rattle.nm_core.specs.Laws.{PinsAreNear};
-ghost use Rattle.nm_core.specs.Lawful.{CountsAddUp};
-ghost use Rattle.nm_core.specs.Traces.{IsLawfulRun};
+ghost use Rattle.nm_model.specs.Laws.{PinsAreNear};
+ghost use Rattle.nm_model.specs.Lawful.{CountsAddUp};
+ghost use Rattle.nm_model.specs.Traces.{IsLawfulRun};
+ghost use Rattle.nm_order.specs.Intervals.{KeysAscend, KeysTellTheSet};
+ghost use Rattle.nm_core.specs.Pasts.{HasHistoriesBehind, HasPast, StaysInOrder};
+ghost use Rattle.nm_core.specs.Stops.{WouldBeAllowed, played};
 
-use crate::calls::Searches;
-use crate::event::Event;
-use crate::ledger::Ledger;
-use crate::machine::Machine;
-use crate::places::Places;
-use crate::reply::{Refused, Reply};
-use crate::trace::{RunError, Trace, Turn};
 use nm_edge::{Key, LEAST_NODES, Layout, LayoutError, MOST_NODES, MOST_WORKERS};
+use nm_machine::{Machine, Searches};
+use nm_model::event::Event;
+use nm_model::ledger::Ledger;
+use nm_model::reply::{Refused, Reply};
+use nm_model::trace::{RunError, Trace, Turn};
+use nm_model::{NewError, Places};
 use std::alloc::{AllocError, Global};
 use std::marker::Model;
-use thiserror::Error;
-
-/// Why a core was not made. Where several reasons hold, the first of this order is answered.
-#[derive(Clone, Copy, Debug, PartialEq, Eq, Error)]
-pub enum NewError {
-    /// Fewer than 7 nodes, or more than 1,048,576.
-    #[error("nodes are not 7 to 1048576")]
-    Nodes,
-    /// No worker, or more than 64.
-    #[error("workers are not 1 to 64")]
-    Workers,
-    /// A growth was refused.
-    #[error("no memory")]
-    NoMemory,
-}
-
-impl From<AllocError> for NewError {
-    ghost use Rattle.std.specs.Prelude.{◌≡◌};
-    ghost use Rattle.nm_core.specs.declared.pure_core.NewError.TheVariants.{NoMemory};
-
-    ghost from_gives = { λ _ e. e ≡ NoMemory };
-
-    fn from(_: AllocError) -> NewError {
-        NewError::NoMemory
-    }
-}
 
 /// All words of the tree, and what each worker knows, as plain data. Its state is one to which some events lead from the opening.
 #[derive(Drop)]
@@ -56,8 +32,8 @@ pub struct Core {
 
 impl Model for Core {
     ghost use Rattle.std.specs.Prelude.{option_map};
-    ghost use Rattle.nm_core.specs.Searches.{told};
-    ghost use Rattle.nm_core.specs.Ordered.{Configuration, IsReached};
+    ghost use Rattle.nm_model.specs.Searches.{told};
+    ghost use Rattle.nm_model.specs.Ordered.{Configuration, IsReached};
 
     ghost Value = { Configuration };
 
@@ -90,6 +66,15 @@ fn opening_machine(alloc: Global, nodes: u32, workers: u32) -> Result<Machine, N
     Ok(Machine::new(alloc, layout)?)
 }
 
+// The call of an event is for a key of the set: the type of its key says so.
+fn read_key(event: &Event)
+    ensures { HasKey event.now }
+{
+    if let Event::SightFor(_, key) = event {
+        key.get();
+    }
+}
+
 impl Core {
     /// The opening: the empty tree, epoch 0, everybody idle, and every slot above 5 in the pool with birth 0.
     pub fn new(alloc: Global, nodes: u32, workers: u32) -> Result<Core, NewError>
@@ -119,6 +104,14 @@ impl Core {
         })
     }
 
+    /// The core came from its opening by some events, whose calls are for keys of the set: so each law of all runs is one of this core,
+    /// and of an ordered core each law of ordered runs. It does nothing.
+    pub fn is_of_a_run(&self)
+        ensures { IsReached self.now }
+    {
+        let _machine = &self.machine;
+    }
+
     /// The global epoch. While a worker is pinned at an epoch, it is that one or the next.
     pub fn epoch(&self) -> u64
         ensures epoch { result ≡ self.now.state.memory.epoch }
@@ -127,17 +120,19 @@ impl Core {
         self.machine.epoch()
     }
 
-    /// What a worker's splices cut off, whoever holds its queue; `None` where there is no such worker.
+    /// What a worker's splices cut off, whoever holds its queue; `None` exactly where there is no such worker.
     pub fn ledger(&self, worker: u32) -> Option<&Ledger>
         ensures ledger { option_copied result ≡ ledger_of self.now.state worker }
+        ensures none { (ledger_of self.now.state worker ≡ None) ↔ (self.now.state.layout.workers ≤ worker) }
     {
         self.machine.ledger(worker)
     }
 
     /// The worker that holds the ledger of an origin: itself, or one to which it resigned, directly or through others.
-    /// `None` where there is no such worker.
+    /// `None` exactly where there is no such worker.
     pub fn holder(&self, origin: u32) -> Option<u32>
         ensures holder { result ≡ holder self.now.state origin }
+        ensures none { (result ≡ None) ↔ (self.now.state.layout.workers ≤ origin) }
     {
         self.machine.holder(origin)
     }
@@ -151,9 +146,12 @@ impl Core {
         self.machine.places()
     }
 
-    /// The keys of the set, from left to right: those of the leaves that paths from the root lead to, without the fixed leaves.
+    /// The keys of the set, from left to right: exactly those of the leaves that paths from the root lead to, without the fixed leaves.
+    /// Of an ordered core each stands there once, and they ascend.
     pub fn keys(&self) -> Result<Vec<Key>, AllocError>
-        ensures { IfOk result (λ found. found.items ≡ keys self.now.state) }
+        ensures keys { IfOk result (λ found. found.items ≡ keys self.now.state) }
+        ensures set { KeysTellTheSet self.now }
+        ensures ascend { IsSome self.now.searches → KeysAscend self.now }
     {
         self.machine.keys()
     }
@@ -163,7 +161,9 @@ impl Core {
         ensures outcome { IsAnswer (refused_in self.old worker event) (reply_of self.old.state worker event) result }
         ensures ok { OnOk result (self.new ≡ applied_in self.old worker event) }
         ensures err { OnErr result (self.new ≡ self.old) }
+        ensures key { HasKey event }
     {
+        read_key(&event);
         match &mut self.searches {
             None => self.machine.apply(worker, event),
             Some(searches) => searches.apply(&mut self.machine, worker, &event),
@@ -171,11 +171,13 @@ impl Core {
     }
 
     // One event and its outcome, or nothing where memory was refused.
-    #[tactic(auto, unfolding(crate::specs::Ordered::next_in, crate::specs::Ordered::outcome_in))]
+    #[tactic(auto, unfolding(nm_model::specs::Ordered::next_in, nm_model::specs::Ordered::outcome_in))]
     fn settle(&mut self, worker: u32, event: Event) -> Result<Result<Reply, Refused>, AllocError>
         ensures outcome { IfOk result (λ o. o ≡ outcome_in self.old (worker, event)) }
         ensures ok { OnOk result (self.new ≡ next_in self.old (worker, event)) }
         ensures err { OnErr result (self.new ≡ self.old) }
+        ensures allowed { OnErr result (refused_in self.old worker event ≡ None) }
+        ensures key { HasKey event }
     {
         match self.apply(worker, event) {
             Err(Refused::NoMemory) => Err(AllocError),
@@ -183,20 +185,19 @@ impl Core {
         }
     }
 
-    /// Applies each event in turn, and goes on after one that is refused. The trace lists worker, event and outcome of each.
-    ///
-    /// The headline holds of every run: in each state each slot is in one place, each turn cuts exactly the nodes of its outcome,
-    /// the ledgers are the cuts, no node is retired twice, and no node that was cut in the run is freed in it while a worker
-    /// that was pinned at the cut has not left.
-    /// Where memory is refused, the first `done` events have been applied and no more.
-    #[tactic(auto, unfolding(crate::specs::Ordered::after_in, crate::specs::Ordered::trace_in))]
-    pub fn run(&mut self, events: Vec<(u32, Event)>) -> Result<Trace, RunError>
-        ensures trace { IfOk result (λ t. t ≡ trace_in self.old events.items) }
-        ensures state { OnOk result (self.new ≡ after_in self.old events.items) }
-        ensures lawful { IfOk result (λ t. IsLawfulRun (λ i. (after_in self.old (take i events.items)).state) t) }
-        ensures done { IfErr result (λ e. e.done ≤ length events.items) }
-        ensures done_state { IfErr result (λ e. self.new ≡ after_in self.old (take e.done events.items)) }
+    // Applies each event in turn, and notes its outcome.
+    #[tactic(auto, unfolding(nm_model::specs::Ordered::after_in, nm_model::specs::Ordered::trace_in))]
+    fn play(&mut self, events: &[(u32, Event)]) -> Result<Trace, RunError>
+        ensures trace { IfOk result (λ t. t ≡ trace_in self.old events.now) }
+        ensures state { OnOk result (self.new ≡ after_in self.old events.now) }
+        ensures done { IfErr result (λ e. e.done < length events.now) }
+        ensures done_state { IfErr result (λ e. self.new ≡ after_in self.old (take e.done events.now)) }
+        ensures why { IfErr result (λ e. (e.done ≡ 0) ⊎ WouldBeAllowed self.old events.now e.done) }
+        ensures keys { All (λ t. HasKey t.1) (played events.now result) }
     {
+        if events.is_empty() {
+            return Ok(Trace::from_turns(Vec::new(self.machine.alloc)));
+        }
         let Ok(mut turns) = Vec::with_capacity(self.machine.alloc, events.len()) else {
             return Err(RunError { done: 0 });
         };
@@ -213,5 +214,30 @@ impl Core {
                 .unwrap();
         }
         Ok(Trace::from_turns(turns))
+    }
+
+    /// Applies each event in turn, and goes on after one that is refused. The trace lists worker, event and outcome of each.
+    ///
+    /// The headline holds of every run: in each state each slot is in one place, each turn cuts exactly the nodes of its outcome,
+    /// the ledgers are the cuts, what was freed of them is what gives freed, no node is retired twice, and no node that was cut in
+    /// the run is freed in it while a worker that was pinned at the cut has not left.
+    /// An ordered core stays in order, and its whole run, from its opening on, is a history of one plain set (it is linearizable;
+    /// see `runs_are_histories` of `nm_order`).
+    ///
+    /// Where memory is refused, the first `done` events have been applied and no more, and the next is one that the core would have
+    /// allowed; or `done` is 0, and no event was tried.
+    pub fn run(&mut self, events: Vec<(u32, Event)>) -> Result<Trace, RunError>
+        ensures trace { IfOk result (λ t. t ≡ trace_in self.old events.items) }
+        ensures state { OnOk result (self.new ≡ after_in self.old events.items) }
+        ensures lawful { IfOk result (λ t. IsLawfulRun (λ i. (after_in self.old (take i events.items)).state) t) }
+        ensures past { HasPast self.old }
+        ensures histories { HasHistoriesBehind self.old (played events.items result) }
+        ensures order { StaysInOrder self.old (played events.items result) }
+        ensures done { IfErr result (λ e. e.done < length events.items) }
+        ensures done_state { IfErr result (λ e. self.new ≡ after_in self.old (take e.done events.items)) }
+        ensures why { IfErr result (λ e. (e.done ≡ 0) ⊎ WouldBeAllowed self.old events.items e.done) }
+    {
+        self.is_of_a_run();
+        self.play(&events)
     }
 }

@@ -1,5 +1,6 @@
 use super::*;
 use nm_edge::{Key, NodeId, Side};
+use nm_model::Nodes;
 use std::test::Fail;
 
 // A worker that stays pinned holds the epoch back.

@@ -16,6 +16,9 @@ pub const MOST_NODES: u32 = 1_048_576;
 /// The greatest number of workers.
 pub const MOST_WORKERS: u32 = 64;
 
+/// The least slot that is not one of the five fixed ones: the slots from here on are claimed and given back.
+pub const FIRST_SLOT: u32 = 6;
+
 /// How many nodes a tree has room for, the five fixed ones counted, and how many workers share it.
 #[derive(Clone, Copy, Debug, PartialEq, Eq)]
 pub struct Layout {

@@ -8,12 +8,14 @@ mod layout;
 mod node;
 
 pub use edge::{Edge, Side};
-pub use key::{Key, MOST_KEY};
+pub use key::{INFINITY_0, INFINITY_1, INFINITY_2, Key, MOST_KEY};
 pub use laws::{
     fields_are_apart, packing_gives_the_word, pool_places_are_apart, unpacking_gives_the_edge,
 };
-pub use layout::{LEAST_NODES, Layout, LayoutError, MOST_NODES, MOST_WORKERS, PoolPlace};
-pub use node::NodeId;
+pub use layout::{
+    FIRST_SLOT, LEAST_NODES, Layout, LayoutError, MOST_NODES, MOST_WORKERS, PoolPlace,
+};
+pub use node::{LAST_NUMBER, NodeId};
 
 #[cfg(test)]
 mod tests;

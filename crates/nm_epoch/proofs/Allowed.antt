@@ -4,15 +4,15 @@ use Rattle.std.proofs.Common.{◌<◌, ◌≡◌, ◌⊎◌, ℕ, List, Bool, tr
 use Rattle.std.specs.Prelude.{Option, Some, None, IsSome, is_none, is_some, nat_le, unwrap_or, slice_index_or}
 use Rattle.nm_edge.specs.Keys.{IsKey}
 use Rattle.nm_edge.specs.Layouts.{Layout}
-use Rattle.nm_core.specs.declared.walks.Call.{Call}
-use Rattle.nm_core.specs.Walks.{Entry, search_after}
-use Rattle.nm_core.specs.declared.event.Op.{Op}
-use Rattle.nm_core.specs.declared.event.Event.TheVariants.{Announce, Advance, Leave, LeaveWith, Scan, SightFor}
-use Rattle.nm_core.specs.declared.reply.Refused.{Refused}
-use Rattle.nm_core.specs.Searches.{Search, idle}
-use Rattle.nm_core.specs.Memory.{opening}
-use Rattle.nm_core.specs.Step.{refusal, is_held_back, last_number, others_scanned}
-use Rattle.nm_core.proofs.Steps.{passed}
+use Rattle.nm_model.specs.declared.walks.Call.{Call}
+use Rattle.nm_model.specs.Walks.{Entry, search_after}
+use Rattle.nm_model.specs.declared.event.Op.{Op}
+use Rattle.nm_model.specs.declared.event.Event.TheVariants.{Announce, Advance, Leave, LeaveWith, Scan, SightFor}
+use Rattle.nm_model.specs.declared.reply.Refused.{Refused}
+use Rattle.nm_model.specs.Searches.{Search, idle}
+use Rattle.nm_model.specs.Memory.{opening}
+use Rattle.nm_model.specs.Step.{refusal, is_held_back, last_number, others_scanned}
+use Rattle.nm_laws.proofs.Steps.{passed}
 use Rattle.nm_steps.specs.declared.view.View.{View}
 use Rattle.nm_steps.specs.Rules.{knowledge}
 use Rattle.nm_steps.specs.Steps.{Stand, MayStep, fresh_view}

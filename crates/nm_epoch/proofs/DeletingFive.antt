@@ -6,14 +6,14 @@ use Rattle.nm_edge.specs.Edges.{Edge, to, tagged}
 use Rattle.nm_edge.specs.Layouts.{Layout}
 use Rattle.nm_edge.specs.declared.node.NodeId.{NodeId}
 use Rattle.nm_edge.specs.declared.edge.Side.TheVariants.{Left, Right}
-use Rattle.nm_core.specs.declared.event.Op.TheVariants.{Delete}
-use Rattle.nm_core.specs.declared.event.Event.TheVariants.{SightFor, Announce, LeaveWith, Advance, Look, Flag, Tag, Splice}
-use Rattle.nm_core.specs.declared.event.Field.TheVariants.{Key as KeyOf, Edge as EdgeOn, Birth}
-use Rattle.nm_core.specs.Knowledge.{Knowledge, read, seen_of, way, cut_by}
-use Rattle.nm_core.specs.Learning.{learn}
-use Rattle.nm_core.specs.Searches.{searched}
-use Rattle.nm_core.specs.Step.{refusal, node_linked}
-use Rattle.nm_core.specs.declared.reply.Reply.TheVariants.{Linked, Flagged, Cut}
+use Rattle.nm_model.specs.declared.event.Op.TheVariants.{Delete}
+use Rattle.nm_model.specs.declared.event.Event.TheVariants.{SightFor, Announce, LeaveWith, Advance, Look, Flag, Tag, Splice}
+use Rattle.nm_model.specs.declared.event.Field.TheVariants.{Key as KeyOf, Edge as EdgeOn, Birth}
+use Rattle.nm_model.specs.Knowledge.{Knowledge, read, seen_of, way, cut_by}
+use Rattle.nm_model.specs.Learning.{learn}
+use Rattle.nm_model.specs.Searches.{searched}
+use Rattle.nm_model.specs.Step.{refusal, node_linked}
+use Rattle.nm_model.specs.declared.reply.Reply.TheVariants.{Linked, Flagged, Cut}
 use Rattle.nm_words.specs.Told.{known_as}
 use Rattle.nm_order.specs.Logs.{known_by}
 use Rattle.nm_epoch.specs.Plays.{small}
@@ -22,81 +22,81 @@ use Rattle.nm_steps.specs.Steps.{Stand, May, link_reply, flag_reply, splice_repl
 use Rattle.nm_epoch.specs.Plays.{HasPlayed, playing, first_in}
 use Rattle.nm_epoch.proofs.Playing.{is_won}
 
-pub may_announce_again : May small 0 (take 21 playing) (Announce)
+pub may_announce_again : May small 0 (take 22 playing) (Announce)
 unfolding refusal learn searched
 may_announce_again = record { looked = tt; allowed = λ m h. refl; ordered = refl; births = tt; key = tt }
 
-pub may_sight_again : May small 0 (take 22 playing) (SightFor Delete 5)
+pub may_sight_again : May small 0 (take 23 playing) (SightFor Delete 5)
 unfolding refusal learn searched
 may_sight_again = record { looked = tt; allowed = λ m h. refl; ordered = refl; births = tt; key = omega arith }
 
-pub may_look_below : May small 0 (take 23 playing) (Look 2 (EdgeOn Left))
+pub may_look_below : May small 0 (take 24 playing) (Look 2 (EdgeOn Left))
 unfolding refusal learn searched
 may_look_below = record { looked = tt; allowed = λ m h. refl; ordered = refl; births = tt; key = tt }
 
-pub may_look_key_six : May small 0 (take 24 playing) (Look 6 KeyOf)
+pub may_look_key_six : May small 0 (take 25 playing) (Look 6 KeyOf)
 unfolding refusal learn searched
 may_look_key_six = record { looked = tt; allowed = λ m h. refl; ordered = refl; births = tt; key = tt }
 
-pub may_look_left : May small 0 (take 25 playing) (Look 6 (EdgeOn Left))
+pub may_look_left : May small 0 (take 26 playing) (Look 6 (EdgeOn Left))
 unfolding refusal learn searched
 may_look_left = record { looked = tt; allowed = λ m h. refl; ordered = refl; births = tt; key = tt }
 
-pub may_look_key_seven : May small 0 (take 26 playing) (Look 7 KeyOf)
+pub may_look_key_seven : May small 0 (take 27 playing) (Look 7 KeyOf)
 unfolding refusal learn searched
 may_look_key_seven = record { looked = tt; allowed = λ m h. refl; ordered = refl; births = tt; key = tt }
 
-pub may_look_right : May small 0 (take 27 playing) (Look 7 (EdgeOn Right))
+pub may_look_right : May small 0 (take 28 playing) (Look 7 (EdgeOn Right))
 unfolding refusal learn searched
 may_look_right = record { looked = tt; allowed = λ m h. refl; ordered = refl; births = tt; key = tt }
 
-pub may_look_birth_seven : May small 0 (take 28 playing) (Look 7 Birth)
+pub may_look_birth_seven : May small 0 (take 29 playing) (Look 7 Birth)
 unfolding refusal learn searched
 may_look_birth_seven = record { looked = tt; allowed = λ m h. refl; ordered = refl; births = tt; key = tt }
 
-pub may_flag : May small 0 (take 29 playing) (Flag 6 Left 7)
+pub may_flag : May small 0 (take 30 playing) (Flag 6 Left 7)
 unfolding refusal learn searched
 may_flag = record { looked = tt; allowed = λ m h. refl; ordered = refl; births = refl; key = tt }
 
-pub may_look_beside : May small 0 (take 30 playing) (Look 6 (EdgeOn Right))
+pub may_look_beside : May small 0 (take 31 playing) (Look 6 (EdgeOn Right))
 unfolding refusal learn searched
 may_look_beside = record { looked = tt; allowed = λ m h. refl; ordered = refl; births = tt; key = tt }
 
-pub may_tag : May small 0 (take 31 playing) (Tag 6 Right)
+pub may_tag : May small 0 (take 32 playing) (Tag 6 Right)
 unfolding refusal learn searched
 may_tag = record { looked = tt; allowed = λ m h. refl; ordered = refl; births = tt; key = tt }
 
-pub may_look_birth_six : May small 0 (take 32 playing) (Look 6 Birth)
+pub may_look_birth_six : May small 0 (take 33 playing) (Look 6 Birth)
 unfolding refusal learn searched
 may_look_birth_six = record { looked = tt; allowed = λ m h. refl; ordered = refl; births = tt; key = tt }
 
 -- what it knows before it cuts
 abbrev cutting : Knowledge
-cutting = known_by small 0 (take 33 playing)
+cutting = known_by small 0 (take 34 playing)
 
-pub may_splice : May small 0 (take 33 playing) (Splice 2 Left 6 6 Right)
+pub may_splice : May small 0 (take 34 playing) (Splice 2 Left 6 6 Right)
 unfolding refusal learn searched
 may_splice = record { looked = tt; allowed = λ m h. refl; ordered = refl; births = All-cons (λ x. is_some (seen_of cutting x).birth ≡ true) 6 (7 ∷ []) refl (All-cons (λ x. is_some (seen_of cutting x).birth ≡ true) 7 [] refl (All-nil (λ x. is_some (seen_of cutting x).birth ≡ true))); key = tt }
 
-pub may_leave_again : May small 0 (take 35 playing) (LeaveWith true)
+pub may_leave_again : May small 0 (take 36 playing) (LeaveWith true)
 unfolding refusal learn searched
 may_leave_again = record { looked = tt; allowed = λ m h. refl; ordered = refl; births = tt; key = tt }
 
-pub may_advance_first : May small 0 (take 37 playing) (Advance)
+pub may_advance_first : May small 0 (take 38 playing) (Advance)
 unfolding refusal learn searched
 may_advance_first = record { looked = tt; allowed = λ m h. refl; ordered = refl; births = tt; key = tt }
 
-pub may_advance_again : May small 0 (take 38 playing) (Advance)
+pub may_advance_again : May small 0 (take 39 playing) (Advance)
 unfolding refusal learn searched
 may_advance_again = record { looked = tt; allowed = λ m h. refl; ordered = refl; births = tt; key = tt }
 
 -- ---- what was won
 
-pub won_link : (p : Stand) (r : Result Unit Edge) → HasPlayed 18 p → is_ok r ≡ true → link_reply p.view 6 r ≡ Linked (first_in 6)
+pub won_link : (p : Stand) (r : Result Unit Edge) → HasPlayed 19 p → is_ok r ≡ true → link_reply p.view 6 r ≡ Linked (first_in 6)
 unfolding learn
 won_link p r has ok = is_won (Linked (node_linked (knowledge p.view) 6)) r ok ∙ ap (λ (k : Knowledge). Linked (node_linked k 6)) has.known
 
-pub won_flag : (p : Stand) (r : Result Unit Edge) → HasPlayed 29 p → is_ok r ≡ true → flag_reply p.view 7 r ≡ Flagged (first_in 7)
+pub won_flag : (p : Stand) (r : Result Unit Edge) → HasPlayed 30 p → is_ok r ≡ true → flag_reply p.view 7 r ≡ Flagged (first_in 7)
 unfolding learn
 won_flag p r has ok = is_won (Flagged (known_as (knowledge p.view) 7)) r ok ∙ ap (λ (k : Knowledge). Flagged (known_as k 7)) has.known
 
@@ -104,13 +104,13 @@ won_flag p r has ok = is_won (Flagged (known_as (knowledge p.view) 7)) r ok ∙ 
 abbrev cut_there : Layout → Knowledge → List NodeId
 cut_there L k = map (known_as k) (cut_by k 6 (unwrap_or (way L.nodes k 6 6) []) Right)
 
-pub won_splice : (p : Stand) (r : Result Unit Edge) → HasPlayed 33 p → is_ok r ≡ true → splice_reply p.view 6 6 Right r ≡ Cut (first_in 6 ∷ first_in 7 ∷ [])
+pub won_splice : (p : Stand) (r : Result Unit Edge) → HasPlayed 34 p → is_ok r ≡ true → splice_reply p.view 6 6 Right r ≡ Cut (first_in 6 ∷ first_in 7 ∷ [])
 unfolding learn
 won_splice p r has ok =
     is_won (Cut (cut_there p.view.layout (knowledge p.view))) r ok
     ∙ (ap (λ (L : Layout). Cut (cut_there L (knowledge p.view))) has.layout ∙ ap (λ (k : Knowledge). Cut (cut_there small k)) has.known)
 
 -- the edge that is kept is known as it was tagged
-pub reads_tagged : (p : Stand) → HasPlayed 33 p → read (knowledge p.view) 6 Right ≡ Some (tagged (to 3))
+pub reads_tagged : (p : Stand) → HasPlayed 34 p → read (knowledge p.view) 6 Right ≡ Some (tagged (to 3))
 unfolding learn
 reads_tagged p has = ap (λ (k : Knowledge). read k 6 Right) has.known

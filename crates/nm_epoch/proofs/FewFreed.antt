@@ -8,10 +8,11 @@ use Rattle.std.proofs.lemmas.List.Sums.{take_while-cons}
 use Rattle.std.proofs.lemmas.Map.Steps.{length-le_from_distinct_below}
 use Rattle.std.proofs.lemmas.Option.{slice_get-map}
 use Rattle.nm_edge.specs.Layouts.{Layout}
-use Rattle.nm_core.specs.declared.ledger.Queued.{Queued}
-use Rattle.nm_core.specs.Knowledge.{Knowledge}
-use Rattle.nm_core.specs.Ledgers.{held}
-use Rattle.nm_core.specs.Walks.{Entry as LogEntry}
+use Rattle.nm_limbo.specs.Queue.{block_queue}
+use Rattle.nm_model.specs.declared.ledger.Queued.{Queued}
+use Rattle.nm_model.specs.Knowledge.{Knowledge}
+use Rattle.nm_model.specs.Ledgers.{held}
+use Rattle.nm_model.specs.Walks.{Entry as LogEntry}
 use Rattle.nm_order.specs.Hands.{WaitsAt, AreApart, IsPooled}
 use Rattle.nm_epoch.specs.declared.collecting.Entry.{Entry}
 use Rattle.nm_epoch.specs.declared.collecting.HeldQueue.{HeldQueue}
@@ -121,6 +122,15 @@ module _ (L : Layout) (k : Knowledge) (apart : AreApart L k) where
           | inr later ↦ let most = below (all_slots hs) all q later in omega (arith, most)
         ]
       ]
+
+-- the queue of one origin alone
+pub few_waiting : (L : Layout) (k : Knowledge) (o : ℕ) (es : List Entry) → AreApart L k → 1 ≤ L.nodes → IsQueueOf k o es → length es + 1 ≤ L.nodes
+unfolding all_slots
+few_waiting L k o es apart some has =
+    let few : length (slots es ++ []) + 1 ≤ L.nodes = few_slots L k apart (record { origin = o; queue = block_queue es 0 0 } ∷ []) some (has, tt, tt) in
+    let sum = length-append (slots es) [] in
+    let same = length-map es (λ (e : Entry). e.node.slot) in
+    omega (arith, few, sum, same)
 
 -- ---- steps
 

@@ -7,10 +7,10 @@ use Rattle.std.proofs.lemmas.List.{length-map}
 use Rattle.std.proofs.lemmas.Map.Steps.{length-le_from_distinct_below}
 use Rattle.std.proofs.lemmas.Option.{none-some}
 use Rattle.nm_edge.specs.Layouts.{Layout}
-use Rattle.nm_core.specs.declared.ledger.Ledger.{Ledger}
-use Rattle.nm_core.specs.declared.ledger.Queued.{Queued}
-use Rattle.nm_core.specs.Knowledge.{Knowledge}
-use Rattle.nm_core.specs.Ledgers.{held}
+use Rattle.nm_model.specs.declared.ledger.Ledger.{Ledger}
+use Rattle.nm_model.specs.declared.ledger.Queued.{Queued}
+use Rattle.nm_model.specs.Knowledge.{Knowledge}
+use Rattle.nm_model.specs.Ledgers.{held}
 use Rattle.nm_order.specs.Hands.{AreApart}
 use Rattle.nm_epoch.specs.declared.collecting.HeldQueue.{HeldQueue}
 use Rattle.nm_epoch.specs.Collecting.{AreHeld, NoneHas}

@@ -1,26 +1,27 @@
 -- The front of a held queue: it may be freed, and what the worker knows then.
 use Rattle.std.proofs.Common.{◌≡◌, ◌≢◌, ℕ, zero, suc, ◌+◌, ◌≤◌, ◌==◌, Bool, true, false, cond, ◌||◌, List, [], ◌∷◌, map, drop, refl, sym, ap, subst, ◌∙◌, arith}
-use Rattle.std.specs.Prelude.{Option, Some, None, is_none, option_map, slice_get, nat_lt}
+use Rattle.std.specs.Prelude.{Option, Some, None, is_some, is_none, option_map, slice_get, nat_lt}
 use Rattle.std.proofs.lemmas.Bool.{cond-true, cond-false, eq-eqb, eqb-true, le-ltb}
 use Rattle.std.proofs.lemmas.Option.{none-some, same_Some}
-use Rattle.nm_core.specs.declared.event.Event.TheVariants.{Give}
-use Rattle.nm_core.specs.declared.ledger.Ledger.{Ledger}
-use Rattle.nm_core.specs.declared.ledger.Queued.{Queued}
-use Rattle.nm_core.specs.declared.reply.Refused.TheVariants.{NoSlot, NotPrivate, NotReady, NotFront, TooYoung}
-use Rattle.nm_core.specs.declared.reply.Reply.TheVariants.{Returned, Freed}
-use Rattle.nm_core.specs.Knowledge.{Knowledge, is_private}
-use Rattle.nm_core.specs.Ledgers.{held, queue_of, front_at, front_of, entry_of, with_freed, free}
-use Rattle.nm_core.specs.Maps.{or_else}
-use Rattle.nm_core.specs.Searches.{searched}
-use Rattle.nm_core.specs.Step.{refusal, outside, first, free_checks, has_no_label, is_young, node_of}
-use Rattle.nm_core.proofs.Held.{Front, front, entry_is_front}
-use Rattle.nm_core.proofs.Learned.{learn_freed}
+use Rattle.nm_edge.specs.declared.node.NodeId.{NodeId}
+use Rattle.nm_model.specs.declared.event.Event.TheVariants.{Give}
+use Rattle.nm_model.specs.declared.ledger.Ledger.{Ledger}
+use Rattle.nm_model.specs.declared.ledger.Queued.{Queued}
+use Rattle.nm_model.specs.declared.reply.Refused.TheVariants.{NoSlot, NotPrivate, NotReady, NotFront, TooYoung}
+use Rattle.nm_model.specs.declared.reply.Reply.TheVariants.{Returned, Freed}
+use Rattle.nm_model.specs.Knowledge.{Knowledge, is_private}
+use Rattle.nm_model.specs.Ledgers.{held, queue_of, front_at, front_of, entry_of, with_freed, free}
+use Rattle.nm_model.specs.Maps.{or_else}
+use Rattle.nm_model.specs.Searches.{searched}
+use Rattle.nm_model.specs.Step.{refusal, outside, first, free_checks, has_no_label, is_young, node_of}
+use Rattle.nm_laws.proofs.Held.{Front, front, entry_is_front}
+use Rattle.nm_laws.proofs.Learned.{learn_freed}
 use Rattle.nm_steps.specs.Rules.{knowledge}
 use Rattle.nm_steps.specs.Steps.{Stand, MayStep, Stepped, give_reply}
 use Rattle.nm_steps.proofs.Presence.{known_push}
 use Rattle.nm_epoch.specs.declared.collecting.Entry.{Entry}
 use Rattle.nm_epoch.specs.Resting.{epochs, search}
-use Rattle.nm_epoch.specs.Collecting.{queued, IsQueueOf}
+use Rattle.nm_epoch.specs.Collecting.{queued, IsQueueOf, KeepsRetired}
 use Rattle.nm_order.specs.Hands.{WaitsAt, AreApart}
 use Rattle.nm_epoch.proofs.Allowed.{passes, passes_then, neither}
 use Rattle.nm_epoch.proofs.Entries.{epochs_after, search_is}
@@ -51,6 +52,22 @@ queue_in h = option_map (λ (l : Ledger). l.queue) h
 pub shown_queue : (h : Option Ledger) (q : List Queued) → queue_in h ≡ Some q → queue_of h ≡ q
 shown_queue None q is = absurd (none-some q is)
 shown_queue (Some l) q is = same_Some l.queue q is
+
+-- a node that is freed was retired, and stays so
+abbrev retired_in : Option Ledger → Option (List NodeId)
+retired_in h = option_map (λ (l : Ledger). l.retired) h
+
+retired_by : (b : Bool) (l : Option Ledger) (ls : List (Option Ledger)) (n : NodeId) → ((j : ℕ) → retired_in (held (free ls n) j) ≡ retired_in (held ls j))
+    → (j : ℕ) → retired_in (held (cond b (option_map (with_freed n) l ∷ ls) (l ∷ free ls n)) j) ≡ retired_in (held (l ∷ ls) j)
+retired_by true None ls n later zero = refl
+retired_by true (Some l) ls n later zero = refl
+retired_by true l ls n later (suc j) = refl
+retired_by false l ls n later zero = refl
+retired_by false l ls n later (suc j) = later j
+
+retired_freed : (ls : List (Option Ledger)) (n : NodeId) (j : ℕ) → retired_in (held (free ls n) j) ≡ retired_in (held ls j)
+retired_freed [] n j = refl
+retired_freed (l ∷ ls) n j = retired_by (is_some (front_at (queue_of l) n.slot)) l ls n (retired_freed ls n) j
 
 inside : (low n s : ℕ) → low ≤ s → s ≤ n → outside low n s ≡ false
 inside low n s least most = neither (nat_lt s low) (nat_lt n s) (le-ltb s low least) (le-ltb n s most)
@@ -133,6 +150,9 @@ module _ (p : Stand) (o : ℕ) (x : Entry) (es : List Entry) (has : IsQueueOf (k
 
     pub others_after : (j : ℕ) → j ≢ o → held (knowledge q.view).ledgers j ≡ held k.ledgers j
     others_after j ne = ap (λ (ls : List (Option Ledger)). held ls j) ledgers_are ∙ f.others j (λ e. ne (e ∙ origin_is))
+
+    pub retired_stays : KeepsRetired k (knowledge q.view)
+    retired_stays j = ap (λ (ls : List (Option Ledger)). retired_in (held ls j)) ledgers_are ∙ retired_freed k.ledgers x.node j
 
     pub nodes_stay : (knowledge q.view).known ≡ k.known
     nodes_stay = ap (λ (y : Knowledge). y.known) learned

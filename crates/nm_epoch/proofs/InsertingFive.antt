@@ -2,14 +2,14 @@
 use Rattle.std.proofs.Common.{◌≡◌, true, [], ◌∷◌, ◌==◌, arith, refl, sym, subst}
 use Rattle.std.specs.Prelude.{None, take}
 use Rattle.nm_edge.specs.declared.edge.Side.TheVariants.{Left, Right}
-use Rattle.nm_core.specs.declared.event.Op.TheVariants.{Insert}
-use Rattle.nm_core.specs.declared.event.Event.TheVariants.{SightFor, Announce, LeaveWith, Claim, Look, Fill, Link}
-use Rattle.nm_core.specs.declared.event.Field.TheVariants.{Key as KeyOf, Edge as EdgeOn, Birth}
-use Rattle.nm_core.specs.declared.reply.Refused.TheVariants.{NotReady, Spent}
-use Rattle.nm_core.specs.Knowledge.{draft_of}
-use Rattle.nm_core.specs.Learning.{learn}
-use Rattle.nm_core.specs.Searches.{searched}
-use Rattle.nm_core.specs.Step.{refusal, first, ◌refuses◌, is_early, last_number}
+use Rattle.nm_model.specs.declared.event.Op.TheVariants.{Insert}
+use Rattle.nm_model.specs.declared.event.Event.TheVariants.{SightFor, Announce, LeaveWith, Claim, Look, Fill, Link}
+use Rattle.nm_model.specs.declared.event.Field.TheVariants.{Key as KeyOf, Edge as EdgeOn, Birth}
+use Rattle.nm_model.specs.declared.reply.Refused.TheVariants.{NotReady, Spent}
+use Rattle.nm_model.specs.Knowledge.{draft_of}
+use Rattle.nm_model.specs.Learning.{learn}
+use Rattle.nm_model.specs.Searches.{searched}
+use Rattle.nm_model.specs.Step.{refusal, first, ◌refuses◌, is_early, last_number}
 use Rattle.nm_order.specs.Logs.{known_by}
 use Rattle.nm_steps.specs.Steps.{May}
 use Rattle.nm_epoch.specs.Plays.{small, infinity, inserting}
@@ -70,7 +70,7 @@ pub may_fill_edge2 : May small 0 (take 14 inserting) (Fill 6 (EdgeOn Right) 3)
 unfolding refusal learn searched
 may_fill_edge2 = record { looked = tt; allowed = λ m h. refl; ordered = refl; births = tt; key = tt }
 
-pub may_fill_key2 : May small 0 (take 15 inserting) (Fill 7 KeyOf 5)
+pub may_fill_key2 : May small 0 (take 15 inserting) (Fill 7 KeyOf 4)
 unfolding refusal learn searched
 may_fill_key2 = record { looked = tt; allowed = λ m h. refl; ordered = refl; births = tt; key = tt }
 
@@ -82,10 +82,14 @@ pub may_fill_edge4 : May small 0 (take 17 inserting) (Fill 7 (EdgeOn Right) 0)
 unfolding refusal learn searched
 may_fill_edge4 = record { looked = tt; allowed = λ m h. refl; ordered = refl; births = tt; key = tt }
 
-pub may_link : May small 0 (take 18 inserting) (Link 2 Left 3 6)
+pub may_fill_key3 : May small 0 (take 18 inserting) (Fill 7 KeyOf 5)
+unfolding refusal learn searched
+may_fill_key3 = record { looked = tt; allowed = λ m h. refl; ordered = refl; births = tt; key = tt }
+
+pub may_link : May small 0 (take 19 inserting) (Link 2 Left 3 6)
 unfolding refusal learn searched
 may_link = record { looked = tt; allowed = λ m h. refl; ordered = refl; births = tt; key = tt }
 
-pub may_leave_with : May small 0 (take 19 inserting) (LeaveWith true)
+pub may_leave_with : May small 0 (take 20 inserting) (LeaveWith true)
 unfolding refusal learn searched
 may_leave_with = record { looked = tt; allowed = λ m h. refl; ordered = refl; births = tt; key = tt }

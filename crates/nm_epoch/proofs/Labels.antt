@@ -3,14 +3,14 @@ use Rattle.std.proofs.Common.{◌≡◌, ℕ, List, [], ◌∷◌, ◌++◌, map
 use Rattle.std.specs.Prelude.{Option, Some, None, option_map}
 use Rattle.std.proofs.lemmas.Option.{none-some, same_Some}
 use Rattle.nm_edge.specs.declared.node.NodeId.{NodeId}
-use Rattle.nm_core.specs.declared.event.Event.TheVariants.{Sight}
-use Rattle.nm_core.specs.declared.ledger.Ledger.{Ledger}
-use Rattle.nm_core.specs.declared.ledger.Queued.{Queued}
-use Rattle.nm_core.specs.declared.reply.Reply.TheVariants.{Labelled}
-use Rattle.nm_core.specs.Knowledge.{Knowledge}
-use Rattle.nm_core.specs.Ledgers.{held, labelled, unlabelled, with_label}
-use Rattle.nm_core.proofs.Held.{held-label}
-use Rattle.nm_core.proofs.Learned.{learn_labelled}
+use Rattle.nm_model.specs.declared.event.Event.TheVariants.{Sight}
+use Rattle.nm_model.specs.declared.ledger.Ledger.{Ledger}
+use Rattle.nm_model.specs.declared.ledger.Queued.{Queued}
+use Rattle.nm_model.specs.declared.reply.Reply.TheVariants.{Labelled}
+use Rattle.nm_model.specs.Knowledge.{Knowledge}
+use Rattle.nm_model.specs.Ledgers.{held, labelled, unlabelled, with_label}
+use Rattle.nm_laws.proofs.Held.{held-label}
+use Rattle.nm_laws.proofs.Learned.{learn_labelled}
 use Rattle.nm_steps.specs.Rules.{knowledge}
 use Rattle.nm_steps.specs.Steps.{Stand, Stepped}
 use Rattle.nm_epoch.specs.declared.collecting.Entry.{Entry}

@@ -1,13 +1,13 @@
 -- A worker that has left rests, and a label is told once.
 use Rattle.std.proofs.Common.{◌≡◌, ℕ, Bool, false, refl, inl, inr, ap, ◌∙◌}
 use Rattle.std.specs.Prelude.{Option, Some, is_some}
-use Rattle.nm_core.specs.declared.knowledge.Brief.{Brief}
-use Rattle.nm_core.specs.declared.event.Event.TheVariants.{Sight, Leave, LeaveWith}
-use Rattle.nm_core.specs.declared.reply.Reply.TheVariants.{Departed, Labelled}
-use Rattle.nm_core.specs.Searches.{Search, searched}
+use Rattle.nm_model.specs.declared.knowledge.Brief.{Brief}
+use Rattle.nm_model.specs.declared.event.Event.TheVariants.{Sight, Leave, LeaveWith}
+use Rattle.nm_model.specs.declared.reply.Reply.TheVariants.{Departed, Labelled}
+use Rattle.nm_model.specs.Searches.{Search, searched}
 use Rattle.nm_steps.specs.Steps.{Stand, Stepped, MayStep}
 use Rattle.nm_epoch.specs.Resting.{IsResting, IsPinnedAt, Settles, KeepsHands, epochs}
-use Rattle.nm_core.specs.declared.walks.Call.{Call}
+use Rattle.nm_model.specs.declared.walks.Call.{Call}
 use Rattle.nm_epoch.proofs.Allowed.{may_leave}
 use Rattle.nm_epoch.proofs.Entries.{epochs_after, search_is}
 use Rattle.nm_epoch.proofs.KeptHands.{hands_kept}

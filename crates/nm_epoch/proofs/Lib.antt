@@ -2,6 +2,7 @@ pub mod Entries
 pub mod KeptHands
 pub mod Allowed
 pub mod Left
+pub mod Unpinned
 pub mod Trying
 pub mod Sights
 pub mod Marks

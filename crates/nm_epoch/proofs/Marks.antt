@@ -3,15 +3,15 @@ use Rattle.std.proofs.Common.{◌≡◌, ◌⊎◌, ◌+◌, ◌<◌, ◌==◌, 
 use Rattle.std.specs.Prelude.{Option, Some, None, slice_set}
 use Rattle.std.specs.List.{list_all, enumerate_from}
 use Rattle.std.proofs.lemmas.List.{length-set, length-replicate}
-use Rattle.nm_core.specs.declared.event.Event.TheVariants.{Scan}
-use Rattle.nm_core.specs.Maps.{is_number}
-use Rattle.nm_core.specs.Knowledge.{Knowledge, newcomer}
-use Rattle.nm_core.specs.Learning.{learn}
-use Rattle.nm_core.specs.Answers.{IsRow}
-use Rattle.nm_core.specs.Step.{others_scanned}
-use Rattle.nm_core.specs.Walks.{Entry}
-use Rattle.nm_core.proofs.Learned.{learn_idle, learn_in}
-use Rattle.nm_core.proofs.Shapes.{row_learn}
+use Rattle.nm_model.specs.declared.event.Event.TheVariants.{Scan}
+use Rattle.nm_model.specs.Maps.{is_number}
+use Rattle.nm_model.specs.Knowledge.{Knowledge, newcomer}
+use Rattle.nm_model.specs.Learning.{learn}
+use Rattle.nm_model.specs.Answers.{IsRow}
+use Rattle.nm_model.specs.Step.{others_scanned}
+use Rattle.nm_model.specs.Walks.{Entry}
+use Rattle.nm_laws.proofs.Learned.{learn_idle, learn_in}
+use Rattle.nm_laws.proofs.Shapes.{row_learn}
 use Rattle.nm_order.specs.Logs.{known_after}
 use Rattle.nm_steps.specs.Rules.{knowledge}
 use Rattle.nm_steps.specs.Steps.{Stand, Stepped, scan_reply}

@@ -7,11 +7,11 @@ use Rattle.std.proofs.lemmas.Option.{none-some, same_Some}
 use Rattle.std.proofs.lemmas.List.{append_assoc}
 use Rattle.std.proofs.lemmas.List.Sums.{take_while-cons}
 use Rattle.nm_edge.specs.declared.node.NodeId.{NodeId}
-use Rattle.nm_core.specs.declared.event.Event.TheVariants.{Give}
-use Rattle.nm_core.specs.declared.reply.Reply.TheVariants.{Freed}
-use Rattle.nm_core.specs.declared.knowledge.Brief.{Brief}
-use Rattle.nm_core.specs.Ledgers.{held}
-use Rattle.nm_core.specs.Walks.{Entry as LogEntry}
+use Rattle.nm_model.specs.declared.event.Event.TheVariants.{Give}
+use Rattle.nm_model.specs.declared.reply.Reply.TheVariants.{Freed}
+use Rattle.nm_model.specs.declared.knowledge.Brief.{Brief}
+use Rattle.nm_model.specs.Ledgers.{held}
+use Rattle.nm_model.specs.Walks.{Entry as LogEntry}
 use Rattle.nm_limbo.specs.Queue.{BlockQueue, IsPopped}
 use Rattle.nm_steps.specs.Rules.{knowledge}
 use Rattle.nm_steps.specs.Steps.{Stand, MayStep, Stepped, give_reply}
@@ -19,8 +19,8 @@ use Rattle.nm_epoch.specs.declared.collecting.Entry.{Entry}
 use Rattle.nm_epoch.specs.Resting.{Settles, epochs, search}
 use Rattle.nm_steps.specs.Steps.{IsSamePass}
 use Rattle.nm_order.specs.Hands.{AreApart}
-use Rattle.nm_epoch.specs.Collecting.{IsQueueOf, is_ripe, ripe_front, ripe_part, rest_of, freeing}
-use Rattle.nm_epoch.proofs.Fronts.{may_free, freed_reply, queue_after, others_after, epochs_stay, search_stays, nodes_stay, private_stay}
+use Rattle.nm_epoch.specs.Collecting.{IsQueueOf, KeepsRetired, is_ripe, ripe_front, ripe_part, rest_of, freeing}
+use Rattle.nm_epoch.proofs.Fronts.{may_free, freed_reply, queue_after, others_after, retired_stays, epochs_stay, search_stays, nodes_stay, private_stay}
 
 -- what was freed and what is ripe still is what was ripe at first
 pub record IsCollecting (epoch origin : ℕ) (start : Stand) (all : List Entry) (p : Stand) (now : List Entry) : Type 0 where
@@ -28,6 +28,7 @@ pub record IsCollecting (epoch origin : ℕ) (start : Stand) (all : List Entry) 
   pub queue : IsQueueOf (knowledge p.view) origin now
   pub apart : AreApart p.view.layout (knowledge p.view)
   pub others : (o : ℕ) → o ≢ origin → held (knowledge p.view).ledgers o ≡ held (knowledge start.view).ledgers o
+  pub retired : KeepsRetired (knowledge start.view) (knowledge p.view)
   pub epochs_are : epochs p ≡ epochs start
   pub search_is : search p ≡ search start
   pub nodes : (knowledge p.view).known ≡ (knowledge start.view).known
@@ -42,6 +43,7 @@ collecting_from epoch origin p all queue apart = record {
   queue = queue;
   apart = apart;
   others = λ o ne. refl;
+  retired = λ o. refl;
   epochs_are = refl;
   search_is = refl;
   nodes = refl;
@@ -93,6 +95,7 @@ collecting_more epoch origin start p q all es x c ripe step apart =
       queue = queue_after p origin x es c.queue c.apart q step;
       apart = apart;
       others = λ o ne. others_after p origin x es c.queue c.apart q step o ne ∙ c.others o ne;
+      retired = λ o. retired_stays p origin x es c.queue c.apart q step o ∙ c.retired o;
       epochs_are = epochs_stay p origin x es c.queue c.apart q step ∙ c.epochs_are;
       search_is = search_stays p origin x es c.queue c.apart q step ∙ c.search_is;
       nodes = nodes_stay p origin x es c.queue c.apart q step ∙ c.nodes;

@@ -2,10 +2,10 @@
 use Rattle.std.proofs.Common.{◌≡◌, ◌≢◌, ℕ, List, [], ◌∷◌, ◌++◌, map, sym, ap, ◌∙◌}
 use Rattle.std.specs.Prelude.{Option, option_map}
 use Rattle.std.proofs.lemmas.List.{append_assoc, map-append}
-use Rattle.nm_core.specs.declared.ledger.Ledger.{Ledger}
-use Rattle.nm_core.specs.Knowledge.{Knowledge}
-use Rattle.nm_core.specs.Ledgers.{held}
-use Rattle.nm_core.specs.Walks.{Entry as LogEntry}
+use Rattle.nm_model.specs.declared.ledger.Ledger.{Ledger}
+use Rattle.nm_model.specs.Knowledge.{Knowledge}
+use Rattle.nm_model.specs.Ledgers.{held}
+use Rattle.nm_model.specs.Walks.{Entry as LogEntry}
 use Rattle.nm_epoch.specs.declared.collecting.Entry.{Entry}
 use Rattle.nm_epoch.specs.declared.collecting.HeldQueue.{HeldQueue}
 use Rattle.nm_epoch.specs.Collecting.{IsQueueOf, AreHeld, NoneHas, HaveLost, freeing}

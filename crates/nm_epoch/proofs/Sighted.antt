@@ -1,26 +1,31 @@
 -- A sight leaves what waits as it is, where it has its labels.
-use Rattle.std.proofs.Common.{◌≡◌, ℕ, ◌⊎◌, inl, inr, ⊎_elim, List, [], ◌∷◌, map, refl, ap, ◌∙◌}
+use Rattle.std.proofs.Common.{◌≡◌, ℕ, ◌⊎◌, ◌==◌, inl, inr, ⊎_elim, Bool, true, false, cond, List, [], ◌∷◌, map, refl, sym, ap, ◌∙◌}
 use Rattle.std.specs.Prelude.{Option, Some, None, option_map}
+use Rattle.std.proofs.lemmas.Bool.{cond_both}
 use Rattle.std.proofs.lemmas.Option.{none-some, same_Some}
-use Rattle.nm_core.specs.declared.event.Event.TheVariants.{Sight}
-use Rattle.nm_core.specs.declared.ledger.Ledger.{Ledger}
-use Rattle.nm_core.specs.declared.ledger.Queued.{Queued}
-use Rattle.nm_core.specs.declared.reply.Reply.{Reply}
-use Rattle.nm_core.specs.declared.reply.Reply.TheVariants.{Saw, Labelled, Pinned, Missed}
-use Rattle.nm_core.specs.Knowledge.{Knowledge}
-use Rattle.nm_core.specs.Learning.{learn}
-use Rattle.nm_core.specs.Ledgers.{held, label, labelled, with_label}
-use Rattle.nm_core.proofs.Held.{held-label}
-use Rattle.nm_core.proofs.Learned.{learn_saw, learn_labelled, learn_pinned, learn_missed}
-use Rattle.nm_core.specs.Walks.{Entry as LogEntry}
+use Rattle.nm_model.specs.declared.event.Event.TheVariants.{Sight}
+use Rattle.nm_model.specs.declared.ledger.Ledger.{Ledger}
+use Rattle.nm_model.specs.declared.ledger.Queued.{Queued}
+use Rattle.nm_model.specs.declared.reply.Reply.{Reply}
+use Rattle.nm_model.specs.declared.reply.Reply.TheVariants.{Saw, Labelled, Pinned, Missed}
+use Rattle.nm_model.specs.Knowledge.{Knowledge}
+use Rattle.nm_model.specs.declared.knowledge.Brief.{Brief}
+use Rattle.nm_model.specs.Learning.{learn, learn_sight}
+use Rattle.nm_model.specs.Step.{confirmed}
+use Rattle.nm_model.specs.Ledgers.{held, label, labelled, with_label}
+use Rattle.nm_laws.proofs.Held.{held-label}
+use Rattle.nm_laws.proofs.Learned.{learn_saw, learn_labelled, learn_pinned, learn_missed}
+use Rattle.nm_model.specs.Walks.{Entry as LogEntry}
 use Rattle.nm_steps.specs.Rules.{knowledge}
-use Rattle.nm_steps.specs.Steps.{Stand, Stepped}
+use Rattle.nm_steps.specs.Steps.{Stand, Stepped, IsSight, sight_of}
 use Rattle.nm_steps.proofs.Presence.{known_push}
 use Rattle.nm_epoch.specs.declared.collecting.Entry.{Entry}
 use Rattle.nm_epoch.specs.declared.collecting.HeldQueue.{HeldQueue}
 use Rattle.nm_steps.specs.Steps.{IsSamePass}
 use Rattle.nm_epoch.specs.Scans.{IsSightOf, epoch_in}
-use Rattle.nm_epoch.specs.Collecting.{queued, IsQueueOf, AreHeld}
+use Rattle.nm_epoch.specs.Collecting.{queued, IsQueueOf, AreHeld, KeepsRetired, ledgers_seen, retired_of}
+use Rattle.nm_epoch.specs.Resting.{epochs}
+use Rattle.nm_epoch.proofs.KeptHands.{known_after_step}
 
 -- ---- labels that are there stay
 
@@ -67,3 +72,45 @@ module _ (p q : Stand) (e : ℕ) (same : IsSamePass p q) (sight : IsSightOf e p.
 
   pub held_seen : (hs : List HeldQueue) → AreHeld (knowledge p.view) hs → AreHeld (knowledge q.view) hs
   held_seen hs has = held_stays (knowledge p.view) (knowledge q.view) seen_so hs has
+
+-- what was retired is so still
+label_retires : (e : ℕ) (h : Option Ledger) → option_map (λ (l : Ledger). l.retired) (option_map (labelled e) h) ≡ option_map (λ (l : Ledger). l.retired) h
+label_retires e None = refl
+label_retires e (Some l) = refl
+
+pub seen_retires : (p q : Stand) (e : ℕ) → (knowledge q.view).ledgers ≡ ledgers_seen e (knowledge p.view) → KeepsRetired (knowledge p.view) (knowledge q.view)
+seen_retires p q e is o = ap (λ (ls : List (Option Ledger)). option_map (λ (l : Ledger). l.retired) (held ls o)) is ∙ by (knowledge p.view).brief.unlabelled
+  where
+    by : (u : Bool) → option_map (λ (l : Ledger). l.retired) (held (cond u (label e (knowledge p.view).ledgers) (knowledge p.view).ledgers) o) ≡ retired_of (knowledge p.view) o
+    by true = ap (λ (h : Option Ledger). option_map (λ (l : Ledger). l.retired) h) (held-label e (knowledge p.view).ledgers o) ∙ label_retires e (held (knowledge p.view).ledgers o)
+    by false = refl
+
+-- ---- what a sight leaves of the ledgers, by whether a cut waited for its label
+
+confirmed_keeps : (k : Knowledge) (pin announced : Option ℕ) (e : ℕ) → (learn_sight k (confirmed pin announced e)).ledgers ≡ k.ledgers
+confirmed_keeps k (Some p) announced e = refl
+confirmed_keeps k None None e = refl
+confirmed_keeps k None (Some a) e = cond_both (a == e) (Pinned e) (Missed e) (λ r. (learn_sight k r).ledgers ≡ k.ledgers) (λ _. refl) (λ _. refl)
+
+ledgers_by : (u : Bool) (k : Knowledge) (e : ℕ) → (learn_sight k (cond u (Labelled e) (confirmed k.brief.pin k.brief.note e))).ledgers ≡ cond u (label e k.ledgers) k.ledgers
+ledgers_by true k e = refl
+ledgers_by false k e = confirmed_keeps k k.brief.pin k.brief.note e
+
+after_sight : (w : ℕ) (k : Knowledge) (e : ℕ) → (learn w k Sight (sight_of k.brief e)).ledgers ≡ ledgers_seen e k
+unfolding learn
+after_sight w k e = ledgers_by k.brief.unlabelled k e
+
+found_there : (pin announced : Option ℕ) (e : ℕ) → epoch_in (confirmed pin announced e) ≡ Some e
+found_there (Some p) announced e = refl
+found_there None None e = refl
+found_there None (Some a) e = cond_both (a == e) (Pinned e) (Missed e) (λ r. epoch_in r ≡ Some e) (λ _. refl) (λ _. refl)
+
+epoch_found : (b : Brief) (e : ℕ) → epoch_in (sight_of b e) ≡ Some e
+epoch_found b e = cond_both b.unlabelled (Labelled e) (confirmed b.pin b.note e) (λ r. epoch_in r ≡ Some e) (λ _. refl) (λ _. found_there b.pin b.note e)
+
+pub ledgers_after : (p q : Stand) (r : Reply) (e : ℕ) → Stepped p q Sight r → IsSight (epochs p) r → epoch_in r ≡ Some e → (knowledge q.view).ledgers ≡ ledgers_seen e (knowledge p.view)
+ledgers_after p q r e step sight is =
+    let same : sight.0 ≡ e = same_Some sight.0 e (sym (epoch_found (epochs p) sight.0) ∙ (sym (ap epoch_in sight.2) ∙ is)) in
+    ap (λ (k : Knowledge). k.ledgers) (known_after_step p q Sight r step)
+    ∙ (ap (λ (x : Reply). (learn p.view.number (knowledge p.view) Sight x).ledgers) sight.2
+    ∙ (after_sight p.view.number (knowledge p.view) sight.0 ∙ ap (λ (n : ℕ). ledgers_seen n (knowledge p.view)) same))

@@ -2,14 +2,14 @@
 use Rattle.std.proofs.Common.{◌≡◌, ℕ, ◌==◌, Bool, true, false, cond, refl, ap, ◌∙◌}
 use Rattle.std.specs.Prelude.{Option, Some, None, IsSome, is_some}
 use Rattle.std.proofs.lemmas.Bool.{cond_both, eqb-true}
-use Rattle.nm_core.specs.declared.knowledge.Brief.{Brief}
-use Rattle.nm_core.specs.declared.event.Event.TheVariants.{Sight, Announce}
-use Rattle.nm_core.specs.declared.reply.Reply.{Reply}
-use Rattle.nm_core.specs.declared.reply.Reply.TheVariants.{Saw, Labelled, Pinned, Missed, Announced}
-use Rattle.nm_core.specs.Step.{confirmed}
-use Rattle.nm_core.specs.Knowledge.{Knowledge}
-use Rattle.nm_core.specs.Learning.{learn, rooted}
-use Rattle.nm_core.specs.Searches.{Search, idle, searched, begun}
+use Rattle.nm_model.specs.declared.knowledge.Brief.{Brief}
+use Rattle.nm_model.specs.declared.event.Event.TheVariants.{Sight, Announce}
+use Rattle.nm_model.specs.declared.reply.Reply.{Reply}
+use Rattle.nm_model.specs.declared.reply.Reply.TheVariants.{Saw, Labelled, Pinned, Missed, Announced}
+use Rattle.nm_model.specs.Step.{confirmed}
+use Rattle.nm_model.specs.Knowledge.{Knowledge}
+use Rattle.nm_model.specs.Learning.{learn, rooted}
+use Rattle.nm_model.specs.Searches.{Search, idle, searched, begun}
 use Rattle.nm_order.specs.Intervals.{HasKey}
 use Rattle.nm_steps.specs.Rules.{knowledge}
 use Rattle.nm_steps.specs.Steps.{Stand, MayStep, Stepped, IsSight, noted, noted_sight, sight_of}

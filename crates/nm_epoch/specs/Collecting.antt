@@ -2,13 +2,13 @@
 use Rattle.std.specs.Prelude.{◌≡◌, ◌≢◌, ℕ, ◌+◌, nat_le, Bool, List, [], ◌∷◌, ◌++◌, map, drop, Option, Some, None, option_map, if◌then◌else◌}
 use Rattle.std.specs.List.{take_while, prefix_len}
 use Rattle.nm_edge.specs.declared.node.NodeId.{NodeId}
-use Rattle.nm_core.specs.declared.event.Event.TheVariants.{Give}
-use Rattle.nm_core.specs.declared.ledger.Ledger.{Ledger}
-use Rattle.nm_core.specs.declared.ledger.Queued.{Queued}
-use Rattle.nm_core.specs.declared.reply.Reply.TheVariants.{Freed}
-use Rattle.nm_core.specs.Knowledge.{Knowledge}
-use Rattle.nm_core.specs.Ledgers.{held, unlabelled}
-use Rattle.nm_core.specs.Walks.{Entry as LogEntry}
+use Rattle.nm_model.specs.declared.event.Event.TheVariants.{Give}
+use Rattle.nm_model.specs.declared.ledger.Ledger.{Ledger}
+use Rattle.nm_model.specs.declared.ledger.Queued.{Queued}
+use Rattle.nm_model.specs.declared.reply.Reply.TheVariants.{Freed}
+use Rattle.nm_model.specs.Knowledge.{Knowledge}
+use Rattle.nm_model.specs.Ledgers.{held, label, unlabelled}
+use Rattle.nm_model.specs.Walks.{Entry as LogEntry}
 use Rattle.nm_epoch.specs.Scans.{IsSightOf}
 use Rattle.nm_epoch.specs.declared.collecting.Entry.{Entry}
 use Rattle.nm_epoch.specs.declared.collecting.HeldQueue.{HeldQueue}
@@ -74,6 +74,22 @@ abbrev pub HaveLost : ℕ → List HeldQueue → List HeldQueue → Type 0
 HaveLost epoch [] [] = Unit {0}
 HaveLost epoch (h ∷ hs) (g ∷ gs) = (g.origin ≡ h.origin) × (g.queue.items ≡ rest_of epoch h.queue.items) × HaveLost epoch hs gs
 HaveLost epoch _ _ = ⊥
+
+-- the ledgers that a sight of this epoch leaves: where a cut waited for its label, it has this one
+abbrev pub ledgers_seen : ℕ → Knowledge → List (Option Ledger)
+ledgers_seen epoch k = if k.brief.unlabelled then label epoch k.ledgers else k.ledgers
+
+-- the ledgers of all origins of which none of these queues is are as that sight left them
+abbrev pub KeepsOthers : ℕ → List HeldQueue → Knowledge → Knowledge → Type 0
+KeepsOthers epoch hs k l = (o : ℕ) → NoneHas o hs → held l.ledgers o ≡ held (ledgers_seen epoch k) o
+
+-- what was retired, of an origin whose ledger is held
+abbrev pub retired_of : Knowledge → ℕ → Option (List NodeId)
+retired_of k o = option_map (λ (l : Ledger). l.retired) (held k.ledgers o)
+
+-- nothing was retired
+abbrev pub KeepsRetired : Knowledge → Knowledge → Type 0
+KeepsRetired k l = (o : ℕ) → retired_of l o ≡ retired_of k o
 
 -- what a collection leaves in the log, oldest entry first: one sight of the epoch, and then each ripe node is freed
 abbrev pub IsCollection : ℕ → List HeldQueue → List LogEntry → List LogEntry → Type 0

@@ -4,12 +4,12 @@ use Rattle.nm_edge.specs.Edges.{to}
 use Rattle.nm_edge.specs.Layouts.{Layout}
 use Rattle.nm_edge.specs.declared.edge.Side.TheVariants.{Left, Right}
 use Rattle.nm_edge.specs.declared.node.NodeId.{NodeId}
-use Rattle.nm_core.specs.declared.event.Op.TheVariants.{Insert, Delete}
-use Rattle.nm_core.specs.declared.event.Event.TheVariants.{Sight, SightFor, Announce, LeaveWith, Advance, Claim, Look, Fill, Link, Flag, Tag, Splice}
-use Rattle.nm_core.specs.declared.event.Field.TheVariants.{Key as KeyOf, Edge as EdgeOn, Birth}
-use Rattle.nm_core.specs.declared.reply.Reply.TheVariants.{Saw, Labelled, Pinned, Announced, Departed, Moved, Claimed, KeyIs, BirthIs, EdgeIs, Filled, Linked, Flagged, Was, Cut}
-use Rattle.nm_core.specs.Searches.{idle}
-use Rattle.nm_core.specs.Walks.{Entry as LogEntry, search_after}
+use Rattle.nm_model.specs.declared.event.Op.TheVariants.{Insert, Delete}
+use Rattle.nm_model.specs.declared.event.Event.TheVariants.{Sight, SightFor, Announce, LeaveWith, Advance, Claim, Look, Fill, Link, Flag, Tag, Splice}
+use Rattle.nm_model.specs.declared.event.Field.TheVariants.{Key as KeyOf, Edge as EdgeOn, Birth}
+use Rattle.nm_model.specs.declared.reply.Reply.TheVariants.{Saw, Labelled, Pinned, Announced, Departed, Moved, Claimed, KeyIs, BirthIs, EdgeIs, Filled, Linked, Flagged, Was, Cut}
+use Rattle.nm_model.specs.Searches.{idle}
+use Rattle.nm_model.specs.Walks.{Entry as LogEntry, search_after}
 use Rattle.nm_order.specs.Logs.{known_by}
 use Rattle.nm_steps.specs.Rules.{knowledge}
 use Rattle.nm_steps.specs.Steps.{Stand}
@@ -23,7 +23,7 @@ small = record { nodes = 7; workers = 1 }
 abbrev pub infinity : ℕ
 infinity = 18446744073709551613
 
--- it inserts 5 into the empty tree
+-- it inserts 5 into the empty tree, after it has stored another key first: the accepted steps of the worked insert
 abbrev pub inserting : List LogEntry
 inserting =
     (Sight, Saw 0)
@@ -41,9 +41,10 @@ inserting =
     ∷ (Fill 6 KeyOf infinity, Filled)
     ∷ (Fill 6 (EdgeOn Left) 7, Filled)
     ∷ (Fill 6 (EdgeOn Right) 3, Filled)
-    ∷ (Fill 7 KeyOf 5, Filled)
+    ∷ (Fill 7 KeyOf 4, Filled)
     ∷ (Fill 7 (EdgeOn Left) 0, Filled)
     ∷ (Fill 7 (EdgeOn Right) 0, Filled)
+    ∷ (Fill 7 KeyOf 5, Filled)
     ∷ (Link 2 Left 3 6, Linked (record { slot = 6; birth = 1 }))
     ∷ (LeaveWith true, Departed) ∷ []
 

@@ -1,10 +1,10 @@
 -- What a pass's log tells of its epochs and of the call under its pin.
 use Rattle.std.specs.Prelude.{◌≡◌, ◌⊎◌, ℕ, Bool, false, List, [], Option, Some, None, IsSome}
-use Rattle.nm_core.specs.declared.knowledge.Brief.{Brief}
-use Rattle.nm_core.specs.declared.walks.Call.{Call}
-use Rattle.nm_core.specs.Learning.{rooted}
-use Rattle.nm_core.specs.Searches.{Search, idle}
-use Rattle.nm_core.specs.Walks.{search_after}
+use Rattle.nm_model.specs.declared.knowledge.Brief.{Brief}
+use Rattle.nm_model.specs.declared.walks.Call.{Call}
+use Rattle.nm_model.specs.Learning.{rooted}
+use Rattle.nm_model.specs.Searches.{Search, idle}
+use Rattle.nm_model.specs.Walks.{search_after}
 use Rattle.nm_steps.specs.Rules.{knowledge}
 use Rattle.nm_steps.specs.Steps.{Stand}
 
@@ -19,6 +19,11 @@ search p = search_after idle p.view.log
 -- a call that has only begun
 abbrev pub begun_for : Option Call → Search
 begun_for call = record { call = call; linked = false; flagged = None; cut = false; walks = []; later = [] }
+
+-- it is not pinned and announces nothing
+pub record IsUnpinned (p : Stand) : Type 0 where
+  pub unpinned : (epochs p).pin ≡ None
+  pub silent : (epochs p).note ≡ None
 
 -- it is not pinned and announces nothing, no cut of its waits for a label, and it has no call
 pub record IsResting (p : Stand) : Type 0 where

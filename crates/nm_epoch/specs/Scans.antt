@@ -1,10 +1,10 @@
 -- What a look at all workers' announcements leaves in the log, oldest entry first.
 use Rattle.std.specs.Prelude.{◌≡◌, ◌≢◌, ◌+◌, ◌⊎◌, ◌<◌, ◌==◌, ℕ, zero, suc, Bool, true, false, slice_index_or, List, [], ◌∷◌, ◌++◌, Option, Some, None}
-use Rattle.nm_core.specs.declared.event.Event.TheVariants as event
-use Rattle.nm_core.specs.declared.reply.Reply.{Reply}
-use Rattle.nm_core.specs.declared.reply.Reply.TheVariants as reply
-use Rattle.nm_core.specs.Step.{last_number}
-use Rattle.nm_core.specs.Walks.{Entry}
+use Rattle.nm_model.specs.declared.event.Event.TheVariants as event
+use Rattle.nm_model.specs.declared.reply.Reply.{Reply}
+use Rattle.nm_model.specs.declared.reply.Reply.TheVariants as reply
+use Rattle.nm_model.specs.Step.{last_number}
+use Rattle.nm_model.specs.Walks.{Entry}
 use Rattle.nm_steps.specs.Steps.{Stand, scan_reply}
 use Rattle.nm_epoch.specs.Resting.{epochs, marks}
 use Rattle.nm_epoch.specs.declared.answers.Advance.{Advance}

@@ -1,10 +1,10 @@
 -- What a pin leaves in the log, oldest entry first.
 use Rattle.std.specs.Prelude.{◌≡◌, ◌<◌, ℕ, zero, suc, List, [], ◌∷◌, ◌++◌, Option, Some, None}
-use Rattle.nm_core.specs.declared.event.Event.{Event}
-use Rattle.nm_core.specs.declared.event.Event.TheVariants.{Sight, SightFor, Announce, Leave}
-use Rattle.nm_core.specs.declared.reply.Reply.TheVariants.{Saw, Pinned, Missed, Announced, Departed}
-use Rattle.nm_core.specs.declared.walks.Call.{Call}
-use Rattle.nm_core.specs.Walks.{Entry}
+use Rattle.nm_model.specs.declared.event.Event.{Event}
+use Rattle.nm_model.specs.declared.event.Event.TheVariants.{Sight, SightFor, Announce, Leave}
+use Rattle.nm_model.specs.declared.reply.Reply.TheVariants.{Saw, Pinned, Missed, Announced, Departed}
+use Rattle.nm_model.specs.declared.walks.Call.{Call}
+use Rattle.nm_model.specs.Walks.{Entry}
 use Rattle.nm_epoch.specs.declared.pinning.Confirming.{Confirming}
 use Rattle.nm_epoch.specs.declared.pinning.Confirming.TheVariants.{Plain, For}
 

@@ -1,6 +1,6 @@
 -- What a look at who is behind the epoch leaves in the log, oldest entry first.
 use Rattle.std.specs.Prelude.{◌≡◌, ◌+◌, ◌^◌, ◌<◌, ℕ, zero, suc, List, Option, Some, if◌then◌else◌}
-use Rattle.nm_core.specs.Walks.{Entry}
+use Rattle.nm_model.specs.Walks.{Entry}
 use Rattle.nm_steps.specs.Steps.{Stand}
 use Rattle.nm_epoch.specs.declared.answers.Behind.{Behind}
 use Rattle.nm_epoch.specs.Resting.{epochs}

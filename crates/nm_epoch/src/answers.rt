@@ -1,7 +1,9 @@
 //! What calls on the epoch answer.
+use thiserror::Error;
 
 /// Each try to pin was lost: the epoch had moved on before it was read again.
-#[derive(Clone, Copy, Debug, PartialEq, Eq)]
+#[derive(Clone, Copy, Debug, PartialEq, Eq, Error)]
+#[error("the epoch moved on to {epoch} in each try to pin it")]
 pub struct Moved {
     /// The epoch last read.
     pub epoch: u64,

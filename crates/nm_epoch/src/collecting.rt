@@ -1,17 +1,17 @@
 //! Nodes that have waited long enough, back to the pool.
 ghost use Rattle.std.specs.Prelude.{◌≡◌, ◌≢◌, ◌+◌, ◌*◌, ◌≤◌, ◌++◌, nat_le, ℕ, length, map, Some};
-ghost use Rattle.nm_core.specs.declared.event.Event.TheVariants.{Give};
-ghost use Rattle.nm_core.specs.Ledgers.{held};
+ghost use Rattle.nm_model.specs.declared.event.Event.TheVariants.{Give};
+ghost use Rattle.nm_model.specs.Ledgers.{held};
 ghost use Rattle.nm_order.specs.Hands.{AreApart};
 ghost use Rattle.nm_order.specs.Reads.{HasRead};
 ghost use Rattle.nm_steps.specs.Rules.{knowledge};
-ghost use Rattle.nm_steps.specs.Steps.{IsOf, MayStep, Stepped, give_reply};
+ghost use Rattle.nm_steps.specs.Steps.{IsInRun, IsOf, MayStep, Stepped, give_reply};
 ghost use Rattle.nm_epoch.specs.Resting.{Settles, epochs, search};
 ghost use Rattle.nm_steps.specs.Steps.{IsSamePass};
-ghost use Rattle.nm_epoch.specs.Collecting.{IsQueueOf, AreHeld, NoneHas, HaveLost, ripe_front, ripe_part, ripe_of, rest_of, freeing, IsCollection};
+ghost use Rattle.nm_epoch.specs.Collecting.{IsQueueOf, AreHeld, KeepsRetired, NoneHas, HaveLost, KeepsOthers, ripe_front, ripe_part, ripe_of, rest_of, freeing, IsCollection};
 
 use crate::looking::read;
-use nm_edge::NodeId;
+use nm_edge::{MOST_WORKERS, NodeId};
 use nm_limbo::BlockQueue;
 use nm_steps::{Pass, Shared};
 
@@ -58,10 +58,10 @@ fn free(shared: &Shared, pass: &mut Pass, slot: u32)
     requires own { IsOf shared.now pass.old }
     requires may { MayStep pass.old (Give slot) }
     ensures step { Stepped pass.old pass.new (Give slot) (give_reply pass.old.view slot) }
+    ensures run { IsInRun pass.new }
     ensures apart { AreApart pass.new.view.layout (knowledge pass.new.view) }
 {
     shared.give(pass, slot);
-    pass.is_of_a_run();
 }
 
 /// Frees what is ripe at the front of one held queue, given the epoch that the worker read last, by one step each: how many.
@@ -70,7 +70,9 @@ fn collect_front(shared: &Shared, pass: &mut Pass, queue: &mut HeldQueue, epoch:
     requires seen { (epochs pass.old).seen ≡ Some epoch }
     requires queue { IsQueueOf (knowledge pass.old.view) queue.old.origin queue.old.queue.items }
     requires apart { AreApart pass.old.view.layout (knowledge pass.old.view) }
+    requires run { IsInRun pass.old }
     ensures same { IsSamePass pass.old pass.new }
+    ensures run { IsInRun pass.new }
     ensures entries { pass.new.view.log ≡ pass.old.view.log ++ map freeing (ripe_part epoch queue.old.queue.items) }
     ensures freed { result ≡ length (ripe_part epoch queue.old.queue.items) }
     ensures left { queue.new.queue.items ≡ rest_of epoch queue.old.queue.items }
@@ -78,6 +80,7 @@ fn collect_front(shared: &Shared, pass: &mut Pass, queue: &mut HeldQueue, epoch:
     ensures queue { IsQueueOf (knowledge pass.new.view) queue.new.origin queue.new.queue.items }
     ensures apart { AreApart pass.new.view.layout (knowledge pass.new.view) }
     ensures others { (o : ℕ) → o ≢ queue.old.origin → held (knowledge pass.new.view).ledgers o ≡ held (knowledge pass.old.view).ledgers o }
+    ensures retired { KeepsRetired (knowledge pass.old.view) (knowledge pass.new.view) }
     ensures epochs { epochs pass.new ≡ epochs pass.old }
     ensures search { search pass.new ≡ search pass.old }
     ensures nodes { (knowledge pass.new.view).known ≡ (knowledge pass.old.view).known }
@@ -96,9 +99,11 @@ fn collect_fronts(shared: &Shared, pass: &mut Pass, queues: &mut [HeldQueue], ep
     requires own { IsOf shared.now pass.old }
     requires seen { (epochs pass.old).seen ≡ Some epoch }
     requires queues { AreHeld (knowledge pass.old.view) queues.old }
-    requires few { length queues.old ≤ 64 }
+    requires few { length queues.old ≤ MOST_WORKERS }
     requires apart { AreApart pass.old.view.layout (knowledge pass.old.view) }
+    requires run { IsInRun pass.old }
     ensures same { IsSamePass pass.old pass.new }
+    ensures run { IsInRun pass.new }
     ensures entries { pass.new.view.log ≡ pass.old.view.log ++ map freeing (ripe_of epoch queues.old) }
     ensures freed { result ≡ length (ripe_of epoch queues.old) }
     ensures most { result ≤ 4294967295 * length queues.old }
@@ -106,6 +111,7 @@ fn collect_fronts(shared: &Shared, pass: &mut Pass, queues: &mut [HeldQueue], ep
     ensures queues { AreHeld (knowledge pass.new.view) queues.new }
     ensures apart { AreApart pass.new.view.layout (knowledge pass.new.view) }
     ensures others { (o : ℕ) → NoneHas o queues.old → held (knowledge pass.new.view).ledgers o ≡ held (knowledge pass.old.view).ledgers o }
+    ensures retired { KeepsRetired (knowledge pass.old.view) (knowledge pass.new.view) }
     ensures epochs { epochs pass.new ≡ epochs pass.old }
     ensures search { search pass.new ≡ search pass.old }
     ensures nodes { (knowledge pass.new.view).known ≡ (knowledge pass.old.view).known }
@@ -133,7 +139,7 @@ pub struct Collected {
 ///
 /// The queues are those of ledgers that the worker holds, each of another origin, with all that waits in them. They are gone through as
 /// they stand: by ascending origin where they stand so. The epoch is not below any that the worker had read. Where a cut waits for its
-/// label, the first step labels it.
+/// label, the first step labels it. The ledgers that the worker holds of other origins stay as they are, but for that label.
 ///
 /// Two epochs after the label no worker is pinned that could still come to the node (Fraser, Practical lock-freedom, 2004,
 /// chapter 5).
@@ -141,10 +147,13 @@ pub fn collect(shared: &Shared, pass: &mut Pass, queues: &mut [HeldQueue]) -> Co
     requires own { IsOf shared.now pass.old }
     requires queues { AreHeld (knowledge pass.old.view) queues.old }
     ensures same { IsSamePass pass.old pass.new }
+    ensures run { IsInRun pass.new }
     ensures part { IsCollection result.epoch queues.old pass.old.view.log pass.new.view.log }
     ensures freed { result.freed ≡ length (ripe_of result.epoch queues.old) }
     ensures lost { HaveLost result.epoch queues.old queues.new }
     ensures queues { AreHeld (knowledge pass.new.view) queues.new }
+    ensures others { KeepsOthers result.epoch queues.old (knowledge pass.old.view) (knowledge pass.new.view) }
+    ensures retired { KeepsRetired (knowledge pass.old.view) (knowledge pass.new.view) }
     ensures steps { length pass.new.view.log ≤ length pass.old.view.log + shared.now.layout.nodes }
     ensures newest { (epoch : ℕ) → HasRead pass.old.view.log epoch → epoch ≤ result.epoch }
     ensures seen { (epochs pass.new).seen ≡ Some result.epoch }
@@ -152,7 +161,6 @@ pub fn collect(shared: &Shared, pass: &mut Pass, queues: &mut [HeldQueue]) -> Co
     ensures private { (knowledge pass.new.view).drafts ≡ (knowledge pass.old.view).drafts }
 {
     let epoch = read(shared, pass);
-    pass.is_of_a_run();
     let freed = collect_fronts(shared, pass, queues, epoch);
     Collected { epoch, freed }
 }

@@ -1,9 +1,11 @@
 //! Reading the epoch, and what each worker announces.
 ghost use Rattle.std.specs.Prelude.{◌≡◌, ◌<◌, ◌≤◌, Some, IsSome, MatchOption, true, false};
-ghost use Rattle.nm_core.specs.Step.{last_number};
-ghost use Rattle.nm_steps.specs.Steps.{IsOf, sight_reply};
+ghost use Rattle.nm_model.specs.Step.{last_number};
+ghost use Rattle.nm_steps.specs.Steps.{IsInRun, IsOf, sight_reply};
 ghost use Rattle.nm_epoch.specs.Resting.{Settles, KeepsHands, epochs};
 ghost use Rattle.nm_steps.specs.Steps.{IsSamePass};
+ghost use Rattle.nm_steps.specs.Rules.{knowledge};
+ghost use Rattle.nm_epoch.specs.Collecting.{ledgers_seen};
 ghost use Rattle.nm_epoch.specs.Scans.{IsSightOf, LooksAt, epoch_in, lets_pass};
 
 use nm_steps::{Pass, Shared, Sighted};
@@ -24,9 +26,11 @@ fn epoch_of(sighted: Sighted) -> u64
 pub(crate) fn read(shared: &Shared, pass: &mut Pass) -> u64
     requires { IsOf shared.now pass.old }
     ensures same { IsSamePass pass.old pass.new }
+    ensures run { IsInRun pass.new }
     ensures step { IsSightOf result pass.old.view.log pass.new.view.log }
     ensures seen { (epochs pass.new).seen ≡ Some result }
     ensures small { result ≤ last_number }
+    ensures ledgers { (knowledge pass.new.view).ledgers ≡ ledgers_seen result (knowledge pass.old.view) }
     ensures settles { Settles pass.old pass.new }
     ensures hands { KeepsHands pass.old pass.new }
 {
@@ -40,6 +44,7 @@ pub(crate) fn look(shared: &Shared, pass: &mut Pass, me: u32, worker: u32) -> Op
     requires there { worker < shared.now.layout.workers }
     requires seen { IsSome (epochs pass.old).seen }
     ensures same { IsSamePass pass.old pass.new }
+    ensures run { IsInRun pass.old → IsInRun pass.new }
     ensures found { LooksAt me (epochs pass.old).pin worker result pass.old.view.log pass.new.view.log }
 {
     if worker == me {

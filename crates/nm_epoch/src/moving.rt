@@ -1,13 +1,13 @@
 //! Moving the epoch on.
 ghost use Rattle.std.specs.Prelude.{◌≡◌, ◌+◌, ◌≤◌, ◌<◌, length};
-ghost use Rattle.nm_steps.specs.Steps.{IsOf};
+ghost use Rattle.nm_steps.specs.Steps.{IsInRun, IsOf};
 ghost use Rattle.nm_epoch.specs.Resting.{Settles, KeepsHands, epochs};
 ghost use Rattle.nm_steps.specs.Steps.{IsSamePass};
 ghost use Rattle.nm_epoch.specs.Scans.{IsAdvance};
 
 use crate::answers::Advance;
 use crate::looking::{elsewhere, look, read};
-use nm_core::LAST_NUMBER;
+use nm_edge::LAST_NUMBER;
 use nm_steps::{Pass, Shared};
 
 /// Moves the epoch on by one, if no worker holds it back. The epoch is read once, and then each worker's announcement in the
@@ -22,6 +22,7 @@ use nm_steps::{Pass, Shared};
 pub fn advance(shared: &Shared, pass: &mut Pass) -> Advance
     requires { IsOf shared.now pass.old }
     ensures same { IsSamePass pass.old pass.new }
+    ensures run { IsInRun pass.new }
     ensures part { IsAdvance shared.now.layout.workers pass.old.view.number (epochs pass.new).pin pass.old.view.log pass.new.view.log result }
     ensures settles { Settles pass.old pass.new }
     ensures hands { KeepsHands pass.old pass.new }
@@ -37,6 +38,7 @@ fn move_on(shared: &Shared, pass: &mut Pass, me: u32) -> Advance
     requires me { me ≡ pass.old.view.number }
     requires there { me < shared.now.layout.workers }
     ensures same { IsSamePass pass.old pass.new }
+    ensures run { IsInRun pass.new }
     ensures part { IsAdvance shared.now.layout.workers me (epochs pass.new).pin pass.old.view.log pass.new.view.log result }
     ensures settles { Settles pass.old pass.new }
     ensures hands { KeepsHands pass.old pass.new }

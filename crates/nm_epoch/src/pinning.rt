@@ -1,15 +1,15 @@
 //! Pinning an epoch.
 ghost use Rattle.std.specs.Prelude.{◌≡◌, ◌+◌, ◌*◌, ◌≤◌, length, Some, None, IfOk, IfErr, MatchResult};
-ghost use Rattle.nm_core.specs.declared.event.Event.TheVariants.{Sight, SightFor};
+ghost use Rattle.nm_model.specs.declared.event.Event.TheVariants.{Sight, SightFor};
 ghost use Rattle.nm_order.specs.Intervals.{HasKey};
-ghost use Rattle.nm_steps.specs.Steps.{IsOf, IsSight, MayStep, Stepped, sight_reply};
-ghost use Rattle.nm_epoch.specs.Resting.{IsResting, IsPinnedAt, IsTrying, KeepsHands, epochs};
+ghost use Rattle.nm_steps.specs.Steps.{IsInRun, IsOf, IsSight, MayStep, Stepped, sight_reply};
+ghost use Rattle.nm_epoch.specs.Resting.{IsResting, IsUnpinned, IsPinnedAt, IsTrying, KeepsHands, epochs};
 ghost use Rattle.nm_steps.specs.Steps.{IsSamePass};
 ghost use Rattle.nm_epoch.specs.Tries.{IsPinned, IsMoved, LostTry, WonTry, confirming, call_of};
 
 use crate::answers::Moved;
-use nm_core::Op;
 use nm_edge::Key;
+use nm_model::Op;
 use nm_steps::{Pass, Shared, Sighted};
 
 /// What a pin is for.
@@ -24,6 +24,7 @@ fn confirm(shared: &Shared, pass: &mut Pass, by: &Confirming) -> Sighted
     requires own { IsOf shared.now pass.old }
     requires may { MayStep pass.old (confirming by.now) }
     ensures step { Stepped pass.old pass.new (confirming by.now) (sight_reply result) }
+    ensures run { IsInRun pass.new }
     ensures reply { IsSight (epochs pass.old) (sight_reply result) }
 {
     match by {
@@ -38,6 +39,7 @@ fn attempt(shared: &Shared, pass: &mut Pass, by: &Confirming) -> Result<u64, u64
     requires trying { IsTrying pass.old }
     requires key { HasKey (confirming by.now) }
     ensures same { IsSamePass pass.old pass.new }
+    ensures run { IsInRun pass.new }
     ensures won { IfOk result (λ e. WonTry (confirming by.now) e pass.old.view.log pass.new.view.log) }
     ensures at { IfOk result (λ e. IsPinnedAt e (call_of by.now) pass.new) }
     ensures lost { IfErr result (λ e. LostTry (confirming by.now) pass.old.view.log pass.new.view.log) }
@@ -53,11 +55,13 @@ fn attempt(shared: &Shared, pass: &mut Pass, by: &Confirming) -> Result<u64, u64
     }
 }
 
+/// Reads the epoch, and then tries so often to pin it.
 fn pin_by(shared: &Shared, pass: &mut Pass, tries: u32, by: &Confirming) -> Result<u64, Moved>
     requires own { IsOf shared.now pass.old }
-    requires rests { IsResting pass.old }
+    requires unpinned { IsUnpinned pass.old }
     requires key { HasKey (confirming by.now) }
     ensures same { IsSamePass pass.old pass.new }
+    ensures run { IsInRun pass.new }
     ensures pinned { IfOk result (λ e. IsPinned (confirming by.now) tries pass.old.view.log pass.new.view.log e) }
     ensures at { IfOk result (λ e. IsPinnedAt e (call_of by.now) pass.new) }
     ensures moved { IfErr result (λ m. IsMoved (confirming by.now) tries pass.old.view.log pass.new.view.log) }
@@ -86,14 +90,17 @@ fn pin_by(shared: &Shared, pass: &mut Pass, tries: u32, by: &Confirming) -> Resu
 ///
 /// `Ok(epoch)`: the worker is pinned at the epoch that its last sight found, after fewer than `tries` lost tries.
 /// `Err`: the epoch moved on in each of `tries` tries, and the announcement is taken back; with 0 tries the epoch was only
-/// read. At most 2 `tries` + 2 steps.
+/// read. At most 3 `tries` + 1 steps.
+///
+/// The worker must not be pinned and must announce nothing. It has no call then, and no cut of its waits for a label.
 ///
 /// The epoch is confirmed after it was announced, since it may have moved on before the announcement was there for others to
 /// see (Fraser, 2004, chapter 5).
 pub fn pin(shared: &Shared, pass: &mut Pass, tries: u32) -> Result<u64, Moved>
     requires own { IsOf shared.now pass.old }
-    requires rests { IsResting pass.old }
+    requires unpinned { IsUnpinned pass.old }
     ensures same { IsSamePass pass.old pass.new }
+    ensures run { IsInRun pass.new }
     ensures pinned { IfOk result (λ e. IsPinned Sight tries pass.old.view.log pass.new.view.log e) }
     ensures at { IfOk result (λ e. IsPinnedAt e None pass.new) }
     ensures moved { IfErr result (λ m. IsMoved Sight tries pass.old.view.log pass.new.view.log) }
@@ -106,11 +113,12 @@ pub fn pin(shared: &Shared, pass: &mut Pass, tries: u32) -> Result<u64, Moved>
 }
 
 /// Pins the epoch, as `pin` does, for an operation on a key, which begins with the sight that confirms the pin. At most
-/// 2 `tries` + 2 steps.
+/// 3 `tries` + 1 steps.
 pub fn pin_for(shared: &Shared, pass: &mut Pass, tries: u32, op: Op, key: Key) -> Result<u64, Moved>
     requires own { IsOf shared.now pass.old }
-    requires rests { IsResting pass.old }
+    requires unpinned { IsUnpinned pass.old }
     ensures same { IsSamePass pass.old pass.new }
+    ensures run { IsInRun pass.new }
     ensures pinned { IfOk result (λ e. IsPinned (SightFor op key) tries pass.old.view.log pass.new.view.log e) }
     ensures at { IfOk result (λ e. IsPinnedAt e (Some (record { op = op; key = key })) pass.new) }
     ensures moved { IfErr result (λ m. IsMoved (SightFor op key) tries pass.old.view.log pass.new.view.log) }

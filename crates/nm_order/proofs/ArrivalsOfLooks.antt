@@ -8,13 +8,13 @@ use Rattle.std.proofs.lemmas.List.Elements.{Contains-push}
 use Rattle.std.proofs.lemmas.List.Folds.{list_any_at}
 use Rattle.nm_edge.specs.declared.edge.Side.{Side}
 use Rattle.nm_edge.specs.declared.edge.Side.TheVariants.{Left, Right}
-use Rattle.nm_core.specs.declared.event.Op.TheVariants.{Has}
-use Rattle.nm_core.specs.declared.event.Event.TheVariants.{Look}
-use Rattle.nm_core.specs.declared.walks.Arrival.{Arrival}
-use Rattle.nm_core.specs.Searches.{Search, side_of, is_side, turns, is_by, goes_on, is_first, new_arrival, with_arrival, keyed, ended, walk_edge, walked, searched}
-use Rattle.nm_core.specs.Walks.{Entry, GrowsTo}
-use Rattle.nm_core.proofs.Lists.{any_at, map_at}
-use Rattle.nm_core.proofs.SearchesGrow.{only_grow}
+use Rattle.nm_model.specs.declared.event.Op.TheVariants.{Has}
+use Rattle.nm_model.specs.declared.event.Event.TheVariants.{Look}
+use Rattle.nm_model.specs.declared.walks.Arrival.{Arrival}
+use Rattle.nm_model.specs.Searches.{Search, side_of, is_side, turns, is_by, goes_on, is_first, new_arrival, with_arrival, keyed, ended, walk_edge, walked, searched}
+use Rattle.nm_model.specs.Walks.{Entry, GrowsTo}
+use Rattle.nm_model.proofs.Lists.{any_at, map_at}
+use Rattle.nm_laws.proofs.SearchesGrow.{only_grow}
 use Rattle.nm_order.specs.WalksToArrivals.{HasArrival}
 use Rattle.nm_order.proofs.OrderedWalks.{is_side-true}
 

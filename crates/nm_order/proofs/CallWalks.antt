@@ -8,28 +8,28 @@ use Rattle.std.proofs.lemmas.Option.{none-some}
 use Rattle.nm_edge.specs.declared.edge.Side.{Side}
 use Rattle.nm_edge.specs.declared.edge.Side.TheVariants.{Left, Right}
 use Rattle.nm_edge.specs.declared.node.NodeId.{NodeId}
-use Rattle.nm_core.specs.declared.event.Field.{Field}
-use Rattle.nm_core.specs.declared.event.Field.TheVariants.{Key, Edge as EdgeOn, Birth}
-use Rattle.nm_core.specs.declared.event.Event.{Event}
-use Rattle.nm_core.specs.declared.event.Event.TheVariants.{Sight, SightFor, Leave, LeaveWith, Look, Link, Flag, Splice, Join}
-use Rattle.nm_core.specs.declared.reply.Reply.{Reply}
-use Rattle.nm_core.specs.declared.reply.Reply.TheVariants.{Pinned, Departed, EdgeIs, Linked, Flagged, Cut}
-use Rattle.nm_core.specs.declared.walks.Call.{Call}
-use Rattle.nm_core.specs.declared.walks.Arrival.{Arrival}
-use Rattle.nm_core.specs.Memory.{Memory, child, edge}
-use Rattle.nm_core.specs.Knowledge.{Knowledge, knows, is_private, read, is_null, knows_leaf}
-use Rattle.nm_core.specs.Learning.{learn, look_known, look_private, read_edge}
-use Rattle.nm_core.specs.Step.{reply, write}
-use Rattle.nm_core.specs.Runs.{State, of, reply_of, applied}
-use Rattle.nm_core.specs.Searches.{Search, idle, searched, keyed, ended, goes_on, is_first, is_by, turns, new_arrival, with_arrival, walked, look_for, later_walked}
-use Rattle.nm_core.specs.Walks.{begins_anew}
-use Rattle.nm_core.specs.Ordered.{search_of, learned_from, disorder}
-use Rattle.nm_core.specs.Lawful.{EachBirthStands}
-use Rattle.nm_core.proofs.Lists.{mapped_at, more_at}
-use Rattle.nm_core.proofs.Steps.{Allowed}
-use Rattle.nm_core.proofs.TreeSteps.{Lawful}
-use Rattle.nm_core.proofs.Views.{read_after}
-use Rattle.nm_core.proofs.Trees.{same_side-refl}
+use Rattle.nm_model.specs.declared.event.Field.{Field}
+use Rattle.nm_model.specs.declared.event.Field.TheVariants.{Key, Edge as EdgeOn, Birth}
+use Rattle.nm_model.specs.declared.event.Event.{Event}
+use Rattle.nm_model.specs.declared.event.Event.TheVariants.{Sight, SightFor, Leave, LeaveWith, Look, Link, Flag, Splice, Join}
+use Rattle.nm_model.specs.declared.reply.Reply.{Reply}
+use Rattle.nm_model.specs.declared.reply.Reply.TheVariants.{Pinned, Departed, EdgeIs, Linked, Flagged, Cut}
+use Rattle.nm_model.specs.declared.walks.Call.{Call}
+use Rattle.nm_model.specs.declared.walks.Arrival.{Arrival}
+use Rattle.nm_model.specs.Memory.{Memory, child, edge}
+use Rattle.nm_model.specs.Knowledge.{Knowledge, knows, is_private, read, is_null, knows_leaf}
+use Rattle.nm_model.specs.Learning.{learn, look_known, look_private, read_edge}
+use Rattle.nm_model.specs.Step.{reply, write}
+use Rattle.nm_model.specs.Runs.{State, of, reply_of, applied}
+use Rattle.nm_model.specs.Searches.{Search, idle, searched, keyed, ended, goes_on, is_first, is_by, turns, new_arrival, with_arrival, walked, look_for, later_walked}
+use Rattle.nm_model.specs.Walks.{begins_anew}
+use Rattle.nm_model.specs.Ordered.{search_of, learned_from, disorder}
+use Rattle.nm_model.specs.Lawful.{EachBirthStands}
+use Rattle.nm_model.proofs.Lists.{mapped_at, more_at}
+use Rattle.nm_laws.proofs.Steps.{Allowed}
+use Rattle.nm_laws.proofs.TreeSteps.{Lawful}
+use Rattle.nm_laws.proofs.Views.{read_after}
+use Rattle.nm_laws.proofs.Trees.{same_side-refl}
 use Rattle.nm_order.specs.Intervals.{HasKey, key}
 use Rattle.nm_order.specs.Facts.{Since, arrivals}
 use Rattle.nm_order.specs.Facts.Since.{ThePin, TheFlag}

@@ -1,33 +1,33 @@
 -- Facts are true and stay, in every ordered run.
-use Rattle.std.proofs.Common.{◌≡◌, ℕ, ◌≤◌, inl, inr, ◌==◌, true, List, [], replicate, refl, sym, ap, subst, ◌∙◌, arith, true≢false}
-use Rattle.std.specs.Prelude.{Option, Some, None, slice_get, All}
-use Rattle.std.proofs.lemmas.Bool.{eqb-true, eq-eqb, and_from, or_cases}
+use Rattle.std.proofs.Common.{◌≡◌, ℕ, ◌≤◌, true, List, [], replicate, refl, sym, ap, subst, ◌∙◌, arith}
+use Rattle.std.specs.Prelude.{Some, slice_get, All}
 use Rattle.std.proofs.lemmas.Option.{slice_get-get_or}
 use Rattle.nm_edge.specs.Edges.{Edge}
 use Rattle.nm_edge.specs.Layouts.{Layout}
 use Rattle.nm_edge.specs.declared.edge.Side.{Side}
-use Rattle.nm_edge.specs.declared.edge.Side.TheVariants.{Left, Right}
-use Rattle.nm_core.specs.declared.event.Event.{Event}
-use Rattle.nm_core.specs.declared.walks.Arrival.{Arrival}
-use Rattle.nm_core.specs.Memory.{Memory, node, child, is_leaf}
-use Rattle.nm_core.specs.Knowledge.{Knowledge, knows, read, is_null, knows_leaf}
-use Rattle.nm_core.specs.Runs.{of, start}
-use Rattle.nm_core.specs.Searches.{Search, idle}
-use Rattle.nm_core.specs.Walks.{Entry}
-use Rattle.nm_core.specs.Ordered.{Configuration, ordered, search_of, after_in}
-use Rattle.nm_core.proofs.Numbers.{repeated}
-use Rattle.nm_core.proofs.TreeSteps.{Lawful}
-use Rattle.nm_core.proofs.Pictures.{IsLive}
-use Rattle.nm_core.proofs.Views.{picture}
+use Rattle.nm_model.specs.declared.event.Event.{Event}
+use Rattle.nm_model.specs.declared.walks.Arrival.{Arrival}
+use Rattle.nm_model.specs.Memory.{Memory, node, is_leaf}
+use Rattle.nm_model.specs.Knowledge.{Knowledge, knows, knows_leaf}
+use Rattle.nm_model.specs.Runs.{of, start}
+use Rattle.nm_model.specs.Searches.{Search, idle}
+use Rattle.nm_model.specs.Walks.{Entry}
+use Rattle.nm_model.specs.Ordered.{Configuration, ordered, search_of, after_in, trace_in}
+use Rattle.nm_model.proofs.Numbers.{repeated}
+use Rattle.nm_laws.proofs.TreeSteps.{Lawful}
+use Rattle.nm_laws.proofs.Pictures.{IsLive}
+use Rattle.nm_laws.proofs.Views.{picture}
 use Rattle.nm_order.specs.Intervals.{HasKey}
-use Rattle.nm_order.specs.Logs.{known_by}
-use Rattle.nm_order.specs.Facts.{Since, Fact, Arrived, arrivals, HoldsIn, Holds, IsShared, IsTrueIn, FactsAreTrue}
+use Rattle.nm_order.specs.Logs.{known_by, part_of}
+use Rattle.nm_laws.proofs.EachState.{known_leaves}
+use Rattle.nm_order.specs.Facts.{Since, Fact, Arrived, arrivals, HoldsIn, Holds, IsShared, IsTrueIn, FactsAreTrue, FlaggedSlotsStandHigh}
 use Rattle.nm_order.specs.Facts.Since.{ThePin, TheFlag}
-use Rattle.nm_order.specs.Facts.Fact.{IsPinned, KnowsSlot, KnowsLeaf, IsTagged, IsFlagged, IsBorn, CallIs, Came, ReadKey, EndedAt}
+use Rattle.nm_order.specs.Facts.Fact.{IsPinned, KnowsSlot, KnowsLeaf, IsTagged, IsFlagged, IsFrozen, IsBorn, CallIs, Came, ReadKey, EndedAt}
 use Rattle.nm_order.proofs.OrderedSteps.{ForCall}
 use Rattle.nm_order.proofs.OrderedLaws.{IsOrdered, law_of_state}
 use Rattle.nm_order.proofs.OrderedInduction.{births_of, each_run_keeps}
 use Rattle.nm_order.proofs.LastEntries.{ToldBy, told_by_part}
+use Rattle.nm_order.proofs.Sentinels.{flags_stand_high}
 use Rattle.nm_order.proofs.CallWalks.{WalksKept, kept_step, no_ends}
 
 -- ---- the law of a call's walks, in every ordered run
@@ -68,18 +68,9 @@ module _ (L : Layout) (enough : 5 ≤ L.nodes) (c : Configuration) (o : IsOrdere
   shared : (x : ℕ) → knows (of c.state w) x ≡ true → IsShared c.state x
   shared x known = let l = live x known in record { not_pooled = l.pooled; not_private = l.shared }
 
-  null_read : (x : ℕ) (d : Side) (e : Option Edge) → read (of c.state w) x d ≡ e → is_null e ≡ true → (child m x d ≡ 0) × (knows (of c.state w) x ≡ true)
-  null_read x d None is null = absurd (true≢false (sym null))
-  null_read x d (Some e) is null = (law.tree.null_read w x d e is (eqb-true e.slot 0 null), law.tree.reads w x d e is)
-
-  leaf_from : (x : ℕ) → child m x Left ≡ 0 → child m x Right ≡ 0 → is_leaf (node m x) ≡ true
-  leaf_from x left right = and_from ((node m x).left.slot == 0) ((node m x).right.slot == 0) (eq-eqb _ 0 left) (eq-eqb _ 0 right)
-
-  leaf_is : (x : ℕ) → knows_leaf (of c.state w) x ≡ true → is_leaf (node m x) ≡ true
-  leaf_is x leaf = elim (or_cases (is_null (read (of c.state w) x Left)) (is_null (read (of c.state w) x Right)) leaf) [
-    | inl left ↦ (let n = null_read x Left _ refl left in leaf_from x n.0 (law.tree.twins x Left (live x n.1) n.0))
-    | inr right ↦ (let n = null_read x Right _ refl right in leaf_from x (law.tree.twins x Right (live x n.1) n.0) n.0)
-  ]
+  pub leaf_is : (x : ℕ) → knows_leaf (of c.state w) x ≡ true → is_leaf (node m x) ≡ true
+  unfolding holder law
+  leaf_is x leaf = known_leaves c.state (record { holder = holder; law = law }) w x leaf
 
   abbrev search : Search
   search = search_of o.searches w
@@ -109,6 +100,7 @@ module _ (L : Layout) (enough : 5 ≤ L.nodes) (c : Configuration) (o : IsOrdere
   true_in kept (KnowsLeaf x) holds = leaf_is x holds
   true_in kept (IsTagged x d to) holds = let is = law.tree.tag_read w x d holds.0 holds.1 holds.2 in (ap (λ (e : Edge). e.tag) is ∙ holds.2, ap (λ (e : Edge). e.slot) is ∙ holds.3)
   true_in kept (IsFlagged x d to) holds = let is = law.tree.flag_read w x d holds.0 holds.1 holds.2 in (is.0, is.1 ∙ holds.3)
+  true_in kept (IsFrozen x d e) holds = (law.tree.tag_read w x d e holds.0 holds.1, holds.1)
   true_in kept (IsBorn x b) holds = (births_of L enough c o w).seen x b holds
   true_in kept (CallIs op k) holds = (subst (λ call. ForCall c.state.memory (knows (of c.state w)) call (search_of o.searches w).walks) holds (kept.law ThePin)).0
   true_in kept (Came since k x p d) holds = shared x (arrived kept since k x p d holds).known
@@ -123,3 +115,16 @@ pub facts_are_true : FactsAreTrue
 facts_are_true L enough w log l fact holds =
     let t : ToldBy L w log (after_in (ordered L) l.turns) = subst (λ (log : List Entry). ToldBy L w log (after_in (ordered L) l.turns)) l.is_part (told_by_part L enough w l.worker l.turns l.keys) in
     true_in L enough (after_in (ordered L) l.turns) t.is_ordered w (all_kept L enough l.turns l.keys t.is_ordered.searches t.is_ordered.are w) fact (told_holds L w log (after_in (ordered L) l.turns) t fact holds)
+
+-- ---- flagged edges
+
+pub flagged_slots_stand_high : FlaggedSlotsStandHigh
+flagged_slots_stand_high L enough w log l x to side holds = go (told_by_part L enough w l.worker l.turns l.keys)
+  where
+    go : ToldBy L w (part_of w (trace_in (ordered L) l.turns)) (after_in (ordered L) l.turns) → 6 ≤ x
+    go told =
+        let c : Configuration = after_in (ordered L) l.turns in
+        let t : ToldBy L w log c = subst (λ (log : List Entry). ToldBy L w log (after_in (ordered L) l.turns)) l.is_part told in
+        let law = law_of_state L enough c t.is_ordered in
+        let fact = told_holds L w log c t (IsFlagged x side to) holds in
+        flags_stand_high L enough c t.is_ordered w x side (law.1.tree.reads w x side fact.0 fact.1) (law.1.tree.flag_read w x side fact.0 fact.1 fact.2).0

@@ -1,27 +1,28 @@
 -- Each fact that a log holds is held by it with one entry more, while no pin begins or ends.
 use Rattle.std.proofs.Common.{◌≡◌, ℕ, inl, inr, true, false, List, [], ◌∷◌, ◌++◌, refl, sym, ap, subst, ◌∙◌}
 use Rattle.std.specs.Prelude.{Option, Some, None, Contains}
+use Rattle.nm_edge.specs.Edges.{Edge}
 use Rattle.nm_edge.specs.declared.edge.Side.{Side}
 use Rattle.nm_edge.specs.declared.node.NodeId.{NodeId}
-use Rattle.nm_core.specs.declared.event.Field.{Field}
-use Rattle.nm_core.specs.declared.event.Event.{Event}
-use Rattle.nm_core.specs.declared.event.Event.TheVariants.{Look}
-use Rattle.nm_core.specs.declared.reply.Reply.{Reply}
-use Rattle.nm_core.specs.declared.walks.Call.{Call}
-use Rattle.nm_core.specs.declared.walks.Arrival.{Arrival}
-use Rattle.nm_core.specs.Knowledge.{Knowledge}
-use Rattle.nm_core.specs.Learning.{learn}
-use Rattle.nm_core.specs.Runs.{State, of}
-use Rattle.nm_core.specs.Searches.{Search, idle, searched, walked, look_for, later_walked}
-use Rattle.nm_core.specs.Walks.{GrowsTo, begins_anew, search_after}
-use Rattle.nm_core.specs.Ordered.{search_of}
-use Rattle.nm_core.proofs.Steps.{allowed}
-use Rattle.nm_core.proofs.SearchesGrow.{only_grow}
-use Rattle.nm_core.proofs.TreeSteps.{Lawful}
+use Rattle.nm_model.specs.declared.event.Field.{Field}
+use Rattle.nm_model.specs.declared.event.Event.{Event}
+use Rattle.nm_model.specs.declared.event.Event.TheVariants.{Look}
+use Rattle.nm_model.specs.declared.reply.Reply.{Reply}
+use Rattle.nm_model.specs.declared.walks.Call.{Call}
+use Rattle.nm_model.specs.declared.walks.Arrival.{Arrival}
+use Rattle.nm_model.specs.Knowledge.{Knowledge}
+use Rattle.nm_model.specs.Learning.{learn}
+use Rattle.nm_model.specs.Runs.{State, of}
+use Rattle.nm_model.specs.Searches.{Search, idle, searched, walked, look_for, later_walked}
+use Rattle.nm_model.specs.Walks.{GrowsTo, begins_anew, search_after}
+use Rattle.nm_model.specs.Ordered.{search_of}
+use Rattle.nm_laws.proofs.Steps.{allowed}
+use Rattle.nm_laws.proofs.SearchesGrow.{only_grow}
+use Rattle.nm_laws.proofs.TreeSteps.{Lawful}
 use Rattle.nm_order.specs.Logs.{known_by}
 use Rattle.nm_order.specs.Facts.{Since, Fact, Arrived, arrivals, HoldsIn, Holds, IsTrueIn, FactsStay}
 use Rattle.nm_order.specs.Facts.Since.{ThePin, TheFlag}
-use Rattle.nm_order.specs.Facts.Fact.{IsPinned, KnowsSlot, KnowsLeaf, IsTagged, IsFlagged, IsBorn, CallIs, Came, ReadKey, EndedAt}
+use Rattle.nm_order.specs.Facts.Fact.{IsPinned, KnowsSlot, KnowsLeaf, IsTagged, IsFlagged, IsFrozen, IsBorn, CallIs, Came, ReadKey, EndedAt}
 use Rattle.nm_order.proofs.OrderedLaws.{law_of_state}
 use Rattle.nm_order.proofs.PartsOfRuns.{allowed_by_state}
 use Rattle.nm_order.proofs.LastEntries.{known_more, search_more, PartOf, LastEntry, last_entry}
@@ -93,6 +94,10 @@ module _ (s : State) (w : ℕ) (S : Search) (l : Knowledge) (T : Search) (stays 
   held_still (IsFlagged x d to) holds is = elim (stays.reads x d) [
     | inl same ↦ (holds.0, same ∙ holds.1, holds.2, holds.3)
     | inr new ↦ (new.0, new.1, new.2.flag is.0, new.2.slot ∙ is.1)
+  ]
+  held_still (IsFrozen x d e) holds is = elim (stays.reads x d) [
+    | inl same ↦ (same ∙ holds.0, holds.1)
+    | inr new ↦ (new.1 ∙ ap Some (new.2.frozen (ap (λ (y : Edge). y.tag) is.0 ∙ is.1) ∙ is.0), holds.1)
   ]
   held_still (IsBorn x b) holds is = elim (stays.births x) [
     | inl same ↦ same ∙ holds

@@ -6,28 +6,28 @@ use Rattle.std.proofs.lemmas.Bool.{cond_both, eqb-false, or_cases}
 use Rattle.nm_edge.specs.Edges.{Edge, to}
 use Rattle.nm_edge.specs.declared.edge.Side.{Side}
 use Rattle.nm_edge.specs.declared.node.NodeId.{NodeId}
-use Rattle.nm_core.specs.declared.event.Field.{Field}
-use Rattle.nm_core.specs.declared.event.Field.TheVariants.{Key, Edge as EdgeOn}
-use Rattle.nm_core.specs.declared.event.Event.{Event}
-use Rattle.nm_core.specs.declared.event.Event.TheVariants.{Sight, SightFor, Leave, LeaveWith, Look, Link, Flag, Splice}
-use Rattle.nm_core.specs.declared.reply.Reply.{Reply}
-use Rattle.nm_core.specs.declared.reply.Reply.TheVariants.{Pinned, Departed, KeyIs, EdgeIs, Linked, Flagged, Cut}
-use Rattle.nm_core.specs.declared.walks.Call.{Call}
-use Rattle.nm_core.specs.declared.walks.Arrival.{Arrival}
-use Rattle.nm_core.specs.Memory.{Memory, edge, child, put_edge}
-use Rattle.nm_core.specs.Knowledge.{knows}
-use Rattle.nm_core.specs.Learning.{flag_to}
-use Rattle.nm_core.specs.Paths.{follow}
-use Rattle.nm_core.specs.Searches.{Search, searched, keyed, ended, goes_on, is_first, is_by, new_arrival, with_arrival, walked, look_for}
-use Rattle.nm_core.specs.Walks.{begins_anew}
-use Rattle.nm_core.proofs.Lists.{mapped_at, more_at}
-use Rattle.nm_core.proofs.Trees.{same_follow, follow-append}
-use Rattle.nm_core.proofs.Pictures.{alone, IsLive, IsOnPath}
-use Rattle.nm_core.proofs.Views.{picture, edge_put}
-use Rattle.nm_core.proofs.Slots.{with_edge-same}
-use Rattle.nm_core.proofs.Splices.{live_on_path, unmarked_not_queued}
-use Rattle.nm_core.proofs.TreeSteps.{Lawful}
-use Rattle.nm_core.specs.Runs.{State, of}
+use Rattle.nm_model.specs.declared.event.Field.{Field}
+use Rattle.nm_model.specs.declared.event.Field.TheVariants.{Key, Edge as EdgeOn}
+use Rattle.nm_model.specs.declared.event.Event.{Event}
+use Rattle.nm_model.specs.declared.event.Event.TheVariants.{Sight, SightFor, Leave, LeaveWith, Look, Link, Flag, Splice}
+use Rattle.nm_model.specs.declared.reply.Reply.{Reply}
+use Rattle.nm_model.specs.declared.reply.Reply.TheVariants.{Pinned, Departed, KeyIs, EdgeIs, Linked, Flagged, Cut}
+use Rattle.nm_model.specs.declared.walks.Call.{Call}
+use Rattle.nm_model.specs.declared.walks.Arrival.{Arrival}
+use Rattle.nm_model.specs.Memory.{Memory, edge, child, put_edge}
+use Rattle.nm_model.specs.Knowledge.{knows}
+use Rattle.nm_model.specs.Learning.{flag_to}
+use Rattle.nm_model.specs.Paths.{follow}
+use Rattle.nm_model.specs.Searches.{Search, searched, keyed, ended, goes_on, is_first, is_by, new_arrival, with_arrival, walked, look_for}
+use Rattle.nm_model.specs.Walks.{begins_anew}
+use Rattle.nm_model.proofs.Lists.{mapped_at, more_at}
+use Rattle.nm_laws.proofs.Trees.{same_follow, follow-append}
+use Rattle.nm_laws.proofs.Pictures.{alone, IsLive, IsOnPath}
+use Rattle.nm_laws.proofs.Views.{picture, edge_put}
+use Rattle.nm_laws.proofs.Slots.{with_edge-same}
+use Rattle.nm_laws.proofs.Splices.{live_on_path, unmarked_not_queued}
+use Rattle.nm_laws.proofs.TreeSteps.{Lawful}
+use Rattle.nm_model.specs.Runs.{State, of}
 use Rattle.nm_order.proofs.FlaggedPaths.{LeadsFlagged, Put, put_case}
 use Rattle.nm_order.proofs.FlaggedPaths.Put.{Here, There}
 
@@ -92,7 +92,7 @@ put_here m p d e inside = edge_put m p d e inside p d ∙ with_edge-same (edge m
 
 -- ---- a flag that is won is on the one edge that leads to its leaf
 
-last_of : (q r : List Side) (g d : Side) → q ++ g ∷ [] ≡ r ++ d ∷ [] → (q ≡ r) × (g ≡ d)
+pub last_of : (q r : List Side) (g d : Side) → q ++ g ∷ [] ≡ r ++ d ∷ [] → (q ≡ r) × (g ≡ d)
 last_of [] [] g d is = (refl, cc)
 last_of [] (x ∷ r) g d is = absurd (short r (tails is))
   where

@@ -7,12 +7,12 @@ use Rattle.std.proofs.lemmas.Option.{none-some, same_Some}
 use Rattle.nm_edge.specs.Edges.{Edge}
 use Rattle.nm_edge.specs.declared.edge.Side.{Side}
 use Rattle.nm_edge.specs.declared.edge.Side.TheVariants.{Left, Right}
-use Rattle.nm_core.specs.Memory.{Memory, edge, child, put_edge}
-use Rattle.nm_core.specs.Knowledge.{Knowledge, read, is_tagged, slot_read, leads_on, onward, before_way, way}
-use Rattle.nm_core.specs.Paths.{follow}
-use Rattle.nm_core.proofs.Trees.{Children, same_side, same_side-true, same_follow, follow-append}
-use Rattle.nm_core.proofs.Views.{edge_put}
-use Rattle.nm_core.proofs.Ways.{way_here, way_next, way_end}
+use Rattle.nm_model.specs.Memory.{Memory, edge, child, put_edge}
+use Rattle.nm_model.specs.Knowledge.{Knowledge, read, is_tagged, slot_read, leads_on, onward, before_way, way}
+use Rattle.nm_model.specs.Paths.{follow}
+use Rattle.nm_laws.proofs.Trees.{Children, same_side, same_side-true, same_follow, follow-append}
+use Rattle.nm_laws.proofs.Views.{edge_put}
+use Rattle.nm_model.proofs.Ways.{way_here, way_next, way_end}
 
 -- each edge to slot n that paths from x come to is flagged
 abbrev pub LeadsFlagged : Memory → ℕ → ℕ → Type 0

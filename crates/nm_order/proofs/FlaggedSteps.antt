@@ -4,23 +4,23 @@ use Rattle.std.specs.Prelude.{Option, Some, None, nat_lt}
 use Rattle.std.proofs.lemmas.Bool.{cond_both, or_parts, not-false}
 use Rattle.nm_edge.specs.Edges.{Edge, to, is_to, other, tagged, untagged}
 use Rattle.nm_edge.specs.declared.edge.Side.{Side}
-use Rattle.nm_core.specs.declared.event.Field.{Field}
-use Rattle.nm_core.specs.declared.event.Event.{Event}
-use Rattle.nm_core.specs.declared.event.Event.TheVariants.{Fill, Link, Flag, Tag, Splice, Advance}
-use Rattle.nm_core.specs.declared.reply.Refused.TheVariants.{NoSlot, NotPrivate}
-use Rattle.nm_core.specs.declared.memory.Node.{Node}
-use Rattle.nm_core.specs.Maps.{is_number}
-use Rattle.nm_core.specs.Memory.{Memory, blank, node, edge, edge_of, child, put_edge, put_node}
-use Rattle.nm_core.specs.Knowledge.{is_private, read, is_tagged, slot_read}
-use Rattle.nm_core.specs.Learning.{flag_to}
-use Rattle.nm_core.specs.Paths.{follow}
-use Rattle.nm_core.specs.Step.{outside, is_edge, filled, kept, refusal, write}
-use Rattle.nm_core.specs.Runs.{State, of}
-use Rattle.nm_core.proofs.Steps.{Allowed, passed, second}
-use Rattle.nm_core.proofs.Trees.{same_side, same_side-true, same_side-false}
-use Rattle.nm_core.proofs.TreeSlots.{is_to-true}
-use Rattle.nm_core.proofs.TreeSteps.{Lawful, high_from}
-use Rattle.nm_core.proofs.Cuts.{Shown, shown}
+use Rattle.nm_model.specs.declared.event.Field.{Field}
+use Rattle.nm_model.specs.declared.event.Event.{Event}
+use Rattle.nm_model.specs.declared.event.Event.TheVariants.{Fill, Link, Flag, Tag, Splice, Advance}
+use Rattle.nm_model.specs.declared.reply.Refused.TheVariants.{NoSlot, NotPrivate}
+use Rattle.nm_model.specs.declared.memory.Node.{Node}
+use Rattle.nm_model.specs.Maps.{is_number}
+use Rattle.nm_model.specs.Memory.{Memory, blank, node, edge, edge_of, child, put_edge, put_node}
+use Rattle.nm_model.specs.Knowledge.{is_private, read, is_tagged, slot_read}
+use Rattle.nm_model.specs.Learning.{flag_to}
+use Rattle.nm_model.specs.Paths.{follow}
+use Rattle.nm_model.specs.Step.{outside, is_edge, filled, kept, refusal, write}
+use Rattle.nm_model.specs.Runs.{State, of}
+use Rattle.nm_laws.proofs.Steps.{Allowed, passed, second}
+use Rattle.nm_laws.proofs.Trees.{same_side, same_side-true, same_side-false}
+use Rattle.nm_laws.proofs.TreeSlots.{is_to-true}
+use Rattle.nm_laws.proofs.TreeSteps.{Lawful, high_from}
+use Rattle.nm_laws.proofs.Cuts.{Shown, shown}
 use Rattle.nm_order.proofs.TreeChanges.{won_link}
 use Rattle.nm_order.proofs.FlaggedPaths.{LeadsFlagged, On, on_next, on_further, flag_on, closed, marked, filled_apart, way_ends, Put, put_case}
 use Rattle.nm_order.proofs.FlaggedPaths.Put.{Here, There}

@@ -6,23 +6,23 @@ use Rattle.std.proofs.lemmas.Bool.{and_parts, not-false}
 use Rattle.std.proofs.lemmas.Option.{none-some}
 use Rattle.nm_edge.specs.declared.edge.Side.{Side}
 use Rattle.nm_edge.specs.declared.node.NodeId.{NodeId}
-use Rattle.nm_core.specs.declared.event.Op.{Op}
-use Rattle.nm_core.specs.declared.event.Op.TheVariants.{Has, Insert, Delete}
-use Rattle.nm_core.specs.declared.event.Event.{Event}
-use Rattle.nm_core.specs.declared.event.Event.TheVariants.{Sight, SightFor, Leave, LeaveWith, Look, Link, Flag, Splice}
-use Rattle.nm_core.specs.declared.event.Field.{Field}
-use Rattle.nm_core.specs.declared.reply.Reply.{Reply}
-use Rattle.nm_core.specs.declared.reply.Reply.TheVariants.{Pinned, Departed, Linked, Flagged, Cut}
-use Rattle.nm_core.specs.declared.reply.Refused.{Refused}
-use Rattle.nm_core.specs.declared.reply.Refused.TheVariants.{NotOrdered}
-use Rattle.nm_core.specs.declared.walks.Call.{Call}
-use Rattle.nm_core.specs.declared.walks.Arrival.{Arrival}
-use Rattle.nm_core.specs.Maps.{or_else}
-use Rattle.nm_core.specs.Runs.{of, refused, reply_of, answered}
-use Rattle.nm_core.specs.Searches.{Search, searched, look_for}
-use Rattle.nm_core.specs.Walks.{Entry, GrowsTo, begins_anew}
-use Rattle.nm_core.specs.Ordered.{Configuration, search_of, may_flag_at, deletes, flags_in_order, disorder, disorder_in, disorder_among, refused_in, outcome_in}
-use Rattle.nm_core.proofs.Steps.{passed}
+use Rattle.nm_model.specs.declared.event.Op.{Op}
+use Rattle.nm_model.specs.declared.event.Op.TheVariants.{Has, Insert, Delete}
+use Rattle.nm_model.specs.declared.event.Event.{Event}
+use Rattle.nm_model.specs.declared.event.Event.TheVariants.{Sight, SightFor, Leave, LeaveWith, Look, Link, Flag, Splice}
+use Rattle.nm_model.specs.declared.event.Field.{Field}
+use Rattle.nm_model.specs.declared.reply.Reply.{Reply}
+use Rattle.nm_model.specs.declared.reply.Reply.TheVariants.{Pinned, Departed, Linked, Flagged, Cut}
+use Rattle.nm_model.specs.declared.reply.Refused.{Refused}
+use Rattle.nm_model.specs.declared.reply.Refused.TheVariants.{NotOrdered}
+use Rattle.nm_model.specs.declared.walks.Call.{Call}
+use Rattle.nm_model.specs.declared.walks.Arrival.{Arrival}
+use Rattle.nm_model.specs.Maps.{or_else}
+use Rattle.nm_model.specs.Runs.{of, refused, reply_of, answered}
+use Rattle.nm_model.specs.Searches.{Search, searched, look_for}
+use Rattle.nm_model.specs.Walks.{Entry, GrowsTo, begins_anew}
+use Rattle.nm_model.specs.Ordered.{Configuration, search_of, may_flag_at, deletes, flags_in_order, disorder, disorder_in, disorder_among, refused_in, outcome_in}
+use Rattle.nm_laws.proofs.Steps.{passed}
 use Rattle.nm_order.specs.WalksToArrivals.{is_won_flag}
 use Rattle.nm_order.specs.FlagsOfCalls.{FlagsStay, LaterArrivalsOnlyGrow}
 use Rattle.nm_order.proofs.ArrivalsOfLooks.{grows_by}

@@ -6,15 +6,15 @@ use Rattle.std.proofs.lemmas.List.Folds.{list_any-append}
 use Rattle.std.proofs.lemmas.Option.{none-some, same_Some}
 use Rattle.nm_edge.specs.Layouts.{Layout}
 use Rattle.nm_edge.specs.declared.node.NodeId.{NodeId}
-use Rattle.nm_core.specs.declared.event.Event.{Event}
-use Rattle.nm_core.specs.declared.event.Event.TheVariants.{Flag}
-use Rattle.nm_core.specs.declared.reply.Reply.TheVariants.{Flagged}
-use Rattle.nm_core.specs.declared.walks.Call.{Call}
-use Rattle.nm_core.specs.Runs.{reply_of}
-use Rattle.nm_core.specs.Searches.{Search, idle, searched}
-use Rattle.nm_core.specs.Walks.{Entry, search_after, begins_anew, since_pin}
-use Rattle.nm_core.specs.Ordered.{ordered, search_of, refused_in, after_in, trace_in}
-use Rattle.nm_core.proofs.SearchesGrow.{only_grow}
+use Rattle.nm_model.specs.declared.event.Event.{Event}
+use Rattle.nm_model.specs.declared.event.Event.TheVariants.{Flag}
+use Rattle.nm_model.specs.declared.reply.Reply.TheVariants.{Flagged}
+use Rattle.nm_model.specs.declared.walks.Call.{Call}
+use Rattle.nm_model.specs.Runs.{reply_of}
+use Rattle.nm_model.specs.Searches.{Search, idle, searched}
+use Rattle.nm_model.specs.Walks.{Entry, search_after, begins_anew, since_pin}
+use Rattle.nm_model.specs.Ordered.{ordered, search_of, refused_in, after_in, trace_in}
+use Rattle.nm_laws.proofs.SearchesGrow.{only_grow}
 use Rattle.nm_order.specs.Intervals.{HasKey}
 use Rattle.nm_order.specs.WalksToArrivals.{is_won_flag, since_flag, OfEachCall}
 use Rattle.nm_order.specs.FlagsOfCalls.{HasWonFlag, FlagsAreTold, NoSecondFlag}

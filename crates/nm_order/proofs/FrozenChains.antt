@@ -10,17 +10,17 @@ use Rattle.nm_edge.specs.Layouts.{Layout}
 use Rattle.nm_edge.specs.declared.edge.Side.{Side}
 use Rattle.nm_edge.specs.declared.edge.Side.TheVariants.{Left, Right}
 use Rattle.nm_edge.specs.declared.node.NodeId.{NodeId}
-use Rattle.nm_core.specs.Memory.{child}
-use Rattle.nm_core.specs.Knowledge.{Knowledge, knows, read, is_flagged, is_tagged, slot_read, leads_on, onward, way}
-use Rattle.nm_core.specs.Step.{is_frozen}
-use Rattle.nm_core.specs.Searches.{Search}
-use Rattle.nm_core.specs.Runs.{State, of}
-use Rattle.nm_core.specs.Walks.{Entry}
-use Rattle.nm_core.specs.Ordered.{ordered, search_of, after_in}
-use Rattle.nm_core.proofs.Ways.{way_here, way_next, some_before}
-use Rattle.nm_core.proofs.Pictures.{IsLive}
-use Rattle.nm_core.proofs.Views.{picture}
-use Rattle.nm_core.proofs.TreeSteps.{Lawful}
+use Rattle.nm_model.specs.Memory.{child}
+use Rattle.nm_model.specs.Knowledge.{Knowledge, knows, read, is_flagged, is_tagged, slot_read, leads_on, onward, way}
+use Rattle.nm_model.specs.Step.{is_frozen}
+use Rattle.nm_model.specs.Searches.{Search}
+use Rattle.nm_model.specs.Runs.{State, of}
+use Rattle.nm_model.specs.Walks.{Entry}
+use Rattle.nm_model.specs.Ordered.{ordered, search_of, after_in}
+use Rattle.nm_model.proofs.Ways.{way_here, way_next, some_before}
+use Rattle.nm_laws.proofs.Pictures.{IsLive}
+use Rattle.nm_laws.proofs.Views.{picture}
+use Rattle.nm_laws.proofs.TreeSteps.{Lawful}
 use Rattle.nm_order.specs.Logs.{known_by}
 use Rattle.nm_order.specs.Facts.{Fact, HoldsIn, Holds}
 use Rattle.nm_order.specs.Facts.Fact.{IsTagged, IsFlagged}

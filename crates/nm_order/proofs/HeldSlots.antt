@@ -5,16 +5,16 @@ use Rattle.std.proofs.lemmas.Bool.{false_from_ne_true}
 use Rattle.std.proofs.lemmas.List.{get_or_past}
 use Rattle.std.proofs.lemmas.Bool.{cases_lt}
 use Rattle.nm_edge.specs.Layouts.{Layout}
-use Rattle.nm_core.specs.declared.ledger.Ledger.{Ledger}
-use Rattle.nm_core.specs.declared.ledger.Queued.{Queued}
-use Rattle.nm_core.specs.Ledgers.{held}
-use Rattle.nm_core.specs.Knowledge.{Knowledge, is_private}
-use Rattle.nm_core.specs.Runs.{State, of}
-use Rattle.nm_core.specs.Ordered.{Configuration, ordered, after_in, trace_in}
-use Rattle.nm_core.proofs.TreeSteps.{Lawful}
-use Rattle.nm_core.proofs.Pictures.{Spot, Stands, nowhere_else}
-use Rattle.nm_core.proofs.Pictures.Spot.{PrivateTo, InQueue}
-use Rattle.nm_core.proofs.Views.{picture}
+use Rattle.nm_model.specs.declared.ledger.Ledger.{Ledger}
+use Rattle.nm_model.specs.declared.ledger.Queued.{Queued}
+use Rattle.nm_model.specs.Ledgers.{held}
+use Rattle.nm_model.specs.Knowledge.{Knowledge, is_private}
+use Rattle.nm_model.specs.Runs.{State, of}
+use Rattle.nm_model.specs.Ordered.{Configuration, ordered, after_in, trace_in}
+use Rattle.nm_laws.proofs.TreeSteps.{Lawful}
+use Rattle.nm_laws.proofs.Pictures.{Spot, Stands, nowhere_else}
+use Rattle.nm_laws.proofs.Pictures.Spot.{PrivateTo, InQueue}
+use Rattle.nm_laws.proofs.Views.{picture}
 use Rattle.nm_order.specs.Logs.{part_of, known_by}
 use Rattle.nm_order.specs.Hands.{WaitsAt, IsPooled, AreApart, HandsAreApart}
 use Rattle.nm_order.proofs.OrderedLaws.{law_of_state}

@@ -5,27 +5,27 @@ use Rattle.std.proofs.lemmas.Bool.{cond_both, eqb-true, eq-eqb, ne_eqb, and_part
 use Rattle.nm_edge.specs.Edges.{Edge, is_to, other, tagged}
 use Rattle.nm_edge.specs.declared.edge.Side.{Side}
 use Rattle.nm_edge.specs.declared.edge.Side.TheVariants.{Left, Right}
-use Rattle.nm_core.specs.declared.event.Field.{Field}
-use Rattle.nm_core.specs.declared.event.Field.TheVariants.{Key, Edge as EdgeOn, Birth}
-use Rattle.nm_core.specs.declared.event.Event.{Event}
-use Rattle.nm_core.specs.declared.event.Event.TheVariants.{Sight, SightFor, Announce, Leave, LeaveWith, Scan, Advance, Claim, Give, Look, Fill, Link, Flag, Tag, Splice, Join}
-use Rattle.nm_core.specs.declared.reply.Reply.{Reply}
-use Rattle.nm_core.specs.declared.reply.Reply.TheVariants.{Saw, Labelled, Pinned, Missed, Announced, Departed, Idle, In, Moved, Behind, Claimed, Returned, Freed, BirthIs, EdgeIs, Filled, Linked, Flagged, Was, Cut, Lost, Joined}
-use Rattle.nm_core.specs.declared.reply.Refused.TheVariants.{NoSlot, NotPinned, NotHeld, NotFrozen}
-use Rattle.nm_core.specs.declared.knowledge.Seen.{Seen}
-use Rattle.nm_core.specs.Maps.{get, put}
-use Rattle.nm_core.specs.Memory.{Memory, node, edge, child}
-use Rattle.nm_core.specs.Knowledge.{Knowledge, knows, unread, is_private, seen_of, read, read_on, is_flagged, is_null, knows_leaf}
-use Rattle.nm_core.specs.Learning.{learn, learn_sight, learn_scan, look_known, look_private, met, with_read, read_edge, flag_to, resigned, inheriting}
-use Rattle.nm_core.specs.Step.{outside, refusal, reply, reply_exchange}
-use Rattle.nm_core.specs.Runs.{State, of, refusal_of, reply_of}
-use Rattle.nm_core.specs.Walks.{begins_anew}
-use Rattle.nm_core.proofs.Steps.{Allowed, third, fourth}
-use Rattle.nm_core.proofs.Tables.{get-put, has_put_there}
-use Rattle.nm_core.proofs.Trees.{same_side, same_side-true}
-use Rattle.nm_core.proofs.Pictures.{IsLive}
-use Rattle.nm_core.proofs.Views.{picture, seen_in, seen_met, has_met_there, read_after, read_birth}
-use Rattle.nm_core.proofs.TreeSteps.{Lawful}
+use Rattle.nm_model.specs.declared.event.Field.{Field}
+use Rattle.nm_model.specs.declared.event.Field.TheVariants.{Key, Edge as EdgeOn, Birth}
+use Rattle.nm_model.specs.declared.event.Event.{Event}
+use Rattle.nm_model.specs.declared.event.Event.TheVariants.{Sight, SightFor, Announce, Leave, LeaveWith, Scan, Advance, Claim, Give, Look, Fill, Link, Flag, Tag, Splice, Join}
+use Rattle.nm_model.specs.declared.reply.Reply.{Reply}
+use Rattle.nm_model.specs.declared.reply.Reply.TheVariants.{Saw, Labelled, Pinned, Missed, Announced, Departed, Idle, In, Moved, Behind, Claimed, Returned, Freed, BirthIs, EdgeIs, Filled, Linked, Flagged, Was, Cut, Lost, Joined}
+use Rattle.nm_model.specs.declared.reply.Refused.TheVariants.{NoSlot, NotPinned, NotHeld, NotFrozen}
+use Rattle.nm_model.specs.declared.knowledge.Seen.{Seen}
+use Rattle.nm_model.specs.Maps.{get, put}
+use Rattle.nm_model.specs.Memory.{Memory, node, edge, child}
+use Rattle.nm_model.specs.Knowledge.{Knowledge, knows, unread, is_private, seen_of, read, read_on, is_flagged, is_null, knows_leaf}
+use Rattle.nm_model.specs.Learning.{learn, learn_sight, learn_scan, look_known, look_private, met, with_read, read_edge, flag_to, resigned, inheriting}
+use Rattle.nm_model.specs.Step.{outside, refusal, reply, reply_exchange}
+use Rattle.nm_model.specs.Runs.{State, of, refusal_of, reply_of}
+use Rattle.nm_model.specs.Walks.{begins_anew}
+use Rattle.nm_laws.proofs.Steps.{Allowed, third, fourth}
+use Rattle.nm_model.proofs.Tables.{get-put, has_put_there}
+use Rattle.nm_laws.proofs.Trees.{same_side, same_side-true}
+use Rattle.nm_laws.proofs.Pictures.{IsLive}
+use Rattle.nm_laws.proofs.Views.{picture, seen_in, seen_met, has_met_there, read_after, read_birth}
+use Rattle.nm_laws.proofs.TreeSteps.{Lawful}
 use Rattle.nm_order.proofs.SearchSteps.{StillKnown, still_read}
 
 -- ---- what an answer says of the memory
@@ -46,6 +46,7 @@ pub record Renews (old new : Edge) : Type 0 where
   pub slot : new.slot ≡ old.slot
   pub flag : old.flag ≡ true → new.flag ≡ true
   pub tag : old.tag ≡ true → new.tag ≡ true
+  pub frozen : old.tag ≡ true → new ≡ old
 
 -- the pin stands and what is known grows: each word is the one that was known, or renews the one in memory
 pub record Stays (m : Memory) (k l : Knowledge) : Type 0 where
@@ -98,7 +99,7 @@ module _ (m : Memory) (k : Knowledge) where
       birth x false is = ap (λ (n : Seen). n.birth) (seen_met k.known e.slot x)
 
   same : (p : ℕ) (d : Side) (e : Edge) → e ≡ edge m p d → Renews (edge m p d) e
-  same p d e is = rw is (record { slot = refl; flag = λ h. h; tag = λ h. h })
+  same p d e is = rw is (record { slot = refl; flag = λ h. h; tag = λ h. h; frozen = λ h. refl })
 
   flagged : (p : ℕ) (d : Side) (leaf : ℕ) → is_to (edge m p d) leaf ≡ true → Renews (edge m p d) (flag_to leaf)
   flagged p d leaf is =
@@ -108,10 +109,14 @@ module _ (m : Memory) (k : Knowledge) where
         slot = sym (eqb-true (edge m p d).slot leaf parts.0);
         flag = λ _. refl;
         tag = λ h. absurd (true≢false (sym marks.1 ∙ ap not h));
+        frozen = λ h. absurd (true≢false (sym marks.1 ∙ ap not h));
       }
 
   tagged_on : (p : ℕ) (d : Side) (e : Edge) → (e ≡ edge m p d) × (e.slot ≢ 0) → Renews (edge m p d) (tagged e)
-  tagged_on p d e is = rw (← is.0) (record { slot = refl; flag = λ h. h; tag = λ _. ap not (ne_eqb e.slot 0 is.1) })
+  tagged_on p d e is = rw (← is.0) (record { slot = refl; flag = λ h. h; tag = λ _. ap not (ne_eqb e.slot 0 is.1); frozen = λ h. ap (λ (b : Bool). with_tag b) (ap not (ne_eqb e.slot 0 is.1) ∙ sym h) })
+    where
+      with_tag : Bool → Edge
+      with_tag b = record { slot = e.slot; flag = e.flag; tag = b }
 
   born : (p b : ℕ) → b ≡ (node m p).birth → Stays m k (read_birth k p b)
   born p b is = record {

@@ -4,18 +4,18 @@ use Rattle.std.specs.Prelude.{Option, Some, None, IfSome, All}
 use Rattle.std.proofs.lemmas.Bool.{eqb-true, or_cases}
 use Rattle.std.proofs.lemmas.Option.{same_Some}
 use Rattle.nm_edge.specs.Layouts.{Layout}
-use Rattle.nm_core.specs.declared.event.Event.{Event}
-use Rattle.nm_core.specs.declared.event.Event.TheVariants.{Join}
-use Rattle.nm_core.specs.declared.reply.Reply.{Reply}
-use Rattle.nm_core.specs.declared.reply.Refused.{Refused}
-use Rattle.nm_core.specs.Knowledge.{Knowledge}
-use Rattle.nm_core.specs.Learning.{learn}
-use Rattle.nm_core.specs.Runs.{of, reply_of}
-use Rattle.nm_core.specs.Searches.{Search, idle, searched}
-use Rattle.nm_core.specs.Walks.{Entry, log_of, search_after}
-use Rattle.nm_core.specs.Ordered.{Configuration, ordered, search_of, refused_in, next_in, after_in, trace_in}
-use Rattle.nm_core.proofs.LogsOfRuns.{searches_tell}
-use Rattle.nm_core.proofs.Configurations.{refused_next}
+use Rattle.nm_model.specs.declared.event.Event.{Event}
+use Rattle.nm_model.specs.declared.event.Event.TheVariants.{Join}
+use Rattle.nm_model.specs.declared.reply.Reply.{Reply}
+use Rattle.nm_model.specs.declared.reply.Refused.{Refused}
+use Rattle.nm_model.specs.Knowledge.{Knowledge}
+use Rattle.nm_model.specs.Learning.{learn}
+use Rattle.nm_model.specs.Runs.{of, reply_of}
+use Rattle.nm_model.specs.Searches.{Search, idle, searched}
+use Rattle.nm_model.specs.Walks.{Entry, log_of, search_after}
+use Rattle.nm_model.specs.Ordered.{Configuration, ordered, search_of, refused_in, next_in, after_in, trace_in}
+use Rattle.nm_laws.proofs.LogsOfRuns.{searches_tell}
+use Rattle.nm_laws.proofs.Configurations.{refused_next}
 use Rattle.nm_order.specs.Intervals.{HasKey}
 use Rattle.nm_order.specs.Logs.{is_leaver, takes_part, part_of, known_after, known_by, IsLogOf}
 use Rattle.nm_order.proofs.PartsOfRuns.{logs_tell, refused_adds, others_add, own_adds, part_tells_search}
@@ -58,15 +58,17 @@ told_by_part L enough w below turns keys =
 -- ---- the turn of the last entry
 
 -- the turns before that of the last entry, which is allowed and has that reply
-record LastTurn (w : ℕ) (c : Configuration) (ts : List (ℕ × Event)) (log : List Entry) (e : Entry) : Type 0 where
-  before : List (ℕ × Event)
-  keys : All (λ t. HasKey t.1) before
-  is_before : part_of w (trace_in c before) ≡ log
-  turn : ℕ × Event
-  has_key : HasKey turn.1
-  is_allowed : refused_in (after_in c before) turn.0 turn.1 ≡ None
-  takes : takes_part w turn.0 turn.1 ≡ true
-  is_entry : (turn.1, reply_of (after_in c before).state turn.0 turn.1) ≡ e
+pub record LastTurn (w : ℕ) (c : Configuration) (ts : List (ℕ × Event)) (log : List Entry) (e : Entry) : Type 0 where
+  pub before : List (ℕ × Event)
+  pub since : List (ℕ × Event)
+  pub keys : All (λ t. HasKey t.1) before
+  pub is_before : part_of w (trace_in c before) ≡ log
+  pub turn : ℕ × Event
+  pub is_run : ts ≡ before ++ turn ∷ since
+  pub has_key : HasKey turn.1
+  pub is_allowed : refused_in (after_in c before) turn.0 turn.1 ≡ None
+  pub takes : takes_part w turn.0 turn.1 ≡ true
+  pub is_entry : (turn.1, reply_of (after_in c before).state turn.0 turn.1) ≡ e
 
 head_is : (x y : Entry) (xs ys : List Entry) → x ∷ xs ≡ y ∷ ys → (x ≡ y) × (xs ≡ ys)
 head_is x y xs ys h = (cc, cc)
@@ -82,6 +84,8 @@ module _ (w : ℕ) where
   unfolding after_in
   behind c t ts log more e has adds l = record {
     before = t ∷ l.before;
+    since = l.since;
+    is_run = ap (λ (us : List (ℕ × Event)). t ∷ us) l.is_run;
     keys = all_and (λ (t : ℕ × Event). HasKey t.1) t l.before has l.keys;
     is_before = adds l.before ∙ ap (λ (xs : List Entry). more ++ xs) l.is_before;
     turn = l.turn;
@@ -91,7 +95,7 @@ module _ (w : ℕ) where
     is_entry = l.is_entry;
   }
 
-  last_turn : (ts : List (ℕ × Event)) → All (λ t. HasKey t.1) ts → (c : Configuration) (log : List Entry) (e : Entry) → part_of w (trace_in c ts) ≡ log ++ e ∷ [] → LastTurn w c ts log e
+  pub last_turn : (ts : List (ℕ × Event)) → All (λ t. HasKey t.1) ts → (c : Configuration) (log : List Entry) (e : Entry) → part_of w (trace_in c ts) ≡ log ++ e ∷ [] → LastTurn w c ts log e
   unfolding after_in trace_in
   last_turn [] keys c [] e is = absurd (go is)
     where
@@ -120,6 +124,8 @@ module _ (w : ℕ) where
           own : takes_part w t.0 t.1 ≡ true → (log : List Entry) → (t.1, r) ∷ part_of w (trace_in (next_in c t) ts) ≡ log ++ e ∷ [] → LastTurn w c (t ∷ ts) log e
           own takes [] same = record {
             before = [];
+            since = ts;
+            is_run = refl;
             keys = λ i d below. absurd (omega (arith, below));
             is_before = refl;
             turn = t;

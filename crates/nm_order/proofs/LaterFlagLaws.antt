@@ -6,19 +6,19 @@ use Rattle.std.proofs.lemmas.Option.{none-some, same_Some, slice_get-get_or}
 use Rattle.nm_edge.specs.Layouts.{Layout}
 use Rattle.nm_edge.specs.declared.edge.Side.{Side}
 use Rattle.nm_edge.specs.declared.node.NodeId.{NodeId}
-use Rattle.nm_core.specs.declared.event.Field.{Field}
-use Rattle.nm_core.specs.declared.event.Event.{Event}
-use Rattle.nm_core.specs.declared.event.Event.TheVariants.{Look, Flag}
-use Rattle.nm_core.specs.declared.reply.Reply.{Reply}
-use Rattle.nm_core.specs.declared.reply.Reply.TheVariants.{Flagged}
-use Rattle.nm_core.specs.Knowledge.{Knowledge, read}
-use Rattle.nm_core.specs.Runs.{State, of, start, reply_of, applied}
-use Rattle.nm_core.specs.Searches.{Search, idle, searched, look_for}
-use Rattle.nm_core.specs.Walks.{Entry, begins_anew, search_after}
-use Rattle.nm_core.specs.Ordered.{ordered, search_of, disorder, after_in}
-use Rattle.nm_core.proofs.Numbers.{repeated}
-use Rattle.nm_core.proofs.Steps.{Allowed}
-use Rattle.nm_core.proofs.TreeSteps.{Lawful}
+use Rattle.nm_model.specs.declared.event.Field.{Field}
+use Rattle.nm_model.specs.declared.event.Event.{Event}
+use Rattle.nm_model.specs.declared.event.Event.TheVariants.{Look, Flag}
+use Rattle.nm_model.specs.declared.reply.Reply.{Reply}
+use Rattle.nm_model.specs.declared.reply.Reply.TheVariants.{Flagged}
+use Rattle.nm_model.specs.Knowledge.{Knowledge, read}
+use Rattle.nm_model.specs.Runs.{State, of, start, reply_of, applied}
+use Rattle.nm_model.specs.Searches.{Search, idle, searched, look_for}
+use Rattle.nm_model.specs.Walks.{Entry, begins_anew, search_after}
+use Rattle.nm_model.specs.Ordered.{ordered, search_of, disorder, after_in}
+use Rattle.nm_model.proofs.Numbers.{repeated}
+use Rattle.nm_laws.proofs.Steps.{Allowed}
+use Rattle.nm_laws.proofs.TreeSteps.{Lawful}
 use Rattle.nm_order.specs.Logs.{known_by}
 use Rattle.nm_order.specs.Facts.{Holds, LaterWalksFindTheFlag}
 use Rattle.nm_order.specs.Facts.Since.{TheFlag}
@@ -78,16 +78,16 @@ module _ (s : State) (h : ℕ → ℕ) (law : Lawful s h) (w : ℕ) (S : Search)
 
 -- ---- every ordered run
 
-abbrev EachFlagKept : State → List Search → Type 0
+abbrev pub EachFlagKept : State → List Search → Type 0
 EachFlagKept s ss = (u : ℕ) → FlagKept s.memory (of s u) (search_of ss u)
 
-flags_step : IsKept EachFlagKept
+pub flags_step : IsKept EachFlagKept
 flags_step s h law w births ss l kept e ok ordered has u = elim (ℕ_discrete u w) [
   | yes is ↦ rw (is, get_or-set_same ss w (searched (search_of ss w) e (reply_of s w e)) idle (let size = l.sized in let lt = ok.worker in omega arith)) (own_step s h law w (search_of ss w) (kept w) e ok ordered)
   | no ne ↦ rw (get_or-set_other ss w u (searched (search_of ss w) e (reply_of s w e)) idle ne) (kept_still s h law w e ok u (of (applied s w e) u) (others_stay s h law w e ok u ne) (search_of ss u) (search_of ss u) refl refl (kept u))
 ]
 
-flags_start : (L : Layout) → EachFlagKept (start L) (replicate L.workers idle)
+pub flags_start : (L : Layout) → EachFlagKept (start L) (replicate L.workers idle)
 flags_start L u = rw (repeated L.workers u idle) (unflagged (start L).memory (of (start L) u) idle refl refl)
 
 pub later_walks_find : LaterWalksFindTheFlag

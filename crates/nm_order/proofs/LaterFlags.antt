@@ -8,31 +8,31 @@ use Rattle.nm_edge.specs.Edges.{Edge, is_to}
 use Rattle.nm_edge.specs.declared.edge.Side.{Side}
 use Rattle.nm_edge.specs.declared.edge.Side.TheVariants.{Left}
 use Rattle.nm_edge.specs.declared.node.NodeId.{NodeId}
-use Rattle.nm_core.specs.declared.event.Field.{Field}
-use Rattle.nm_core.specs.declared.event.Field.TheVariants.{Edge as EdgeOn}
-use Rattle.nm_core.specs.declared.event.Op.{Op}
-use Rattle.nm_core.specs.declared.event.Op.TheVariants.{Has, Insert, Delete}
-use Rattle.nm_core.specs.declared.event.Event.{Event}
-use Rattle.nm_core.specs.declared.event.Event.TheVariants.{Look, Flag}
-use Rattle.nm_core.specs.declared.reply.Reply.{Reply}
-use Rattle.nm_core.specs.declared.reply.Reply.TheVariants.{EdgeIs, Flagged, Lost}
-use Rattle.nm_core.specs.declared.reply.Refused.TheVariants.{NoSlot, NotPinned, NotHeld, NotOrdered}
-use Rattle.nm_core.specs.declared.walks.Call.{Call}
-use Rattle.nm_core.specs.declared.walks.Arrival.{Arrival}
-use Rattle.nm_core.specs.Memory.{Memory, edge, child, put_edge, named}
-use Rattle.nm_core.specs.Knowledge.{Knowledge, knows, knows_leaf, is_private, read}
-use Rattle.nm_core.specs.Learning.{learn, look_known, look_private, flag_to}
-use Rattle.nm_core.specs.Paths.{follow}
-use Rattle.nm_core.specs.Step.{outside, refusal, reply, write}
-use Rattle.nm_core.specs.Runs.{State, of, reply_of, refusal_of, applied}
-use Rattle.nm_core.specs.Searches.{Search, is_first, is_side, goes_on, turns, walked, look_for, later_walked}
-use Rattle.nm_core.specs.Ordered.{ordered, disorder, flags_in_order, deletes, may_flag_at}
-use Rattle.nm_core.proofs.Lists.{any_at}
-use Rattle.nm_core.proofs.Steps.{Allowed, passed, third}
-use Rattle.nm_core.proofs.Trees.{same_side-refl}
-use Rattle.nm_core.proofs.Views.{read_after}
-use Rattle.nm_core.proofs.TreeSlots.{is_to-true}
-use Rattle.nm_core.proofs.TreeSteps.{Lawful, high_from}
+use Rattle.nm_model.specs.declared.event.Field.{Field}
+use Rattle.nm_model.specs.declared.event.Field.TheVariants.{Edge as EdgeOn}
+use Rattle.nm_model.specs.declared.event.Op.{Op}
+use Rattle.nm_model.specs.declared.event.Op.TheVariants.{Has, Insert, Delete}
+use Rattle.nm_model.specs.declared.event.Event.{Event}
+use Rattle.nm_model.specs.declared.event.Event.TheVariants.{Look, Flag}
+use Rattle.nm_model.specs.declared.reply.Reply.{Reply}
+use Rattle.nm_model.specs.declared.reply.Reply.TheVariants.{EdgeIs, Flagged, Lost}
+use Rattle.nm_model.specs.declared.reply.Refused.TheVariants.{NoSlot, NotPinned, NotHeld, NotOrdered}
+use Rattle.nm_model.specs.declared.walks.Call.{Call}
+use Rattle.nm_model.specs.declared.walks.Arrival.{Arrival}
+use Rattle.nm_model.specs.Memory.{Memory, edge, child, put_edge, named}
+use Rattle.nm_model.specs.Knowledge.{Knowledge, knows, knows_leaf, is_private, read}
+use Rattle.nm_model.specs.Learning.{learn, look_known, look_private, flag_to}
+use Rattle.nm_model.specs.Paths.{follow}
+use Rattle.nm_model.specs.Step.{outside, refusal, reply, write}
+use Rattle.nm_model.specs.Runs.{State, of, reply_of, refusal_of, applied}
+use Rattle.nm_model.specs.Searches.{Search, is_first, is_side, goes_on, turns, walked, look_for, later_walked}
+use Rattle.nm_model.specs.Ordered.{ordered, disorder, flags_in_order, deletes, may_flag_at}
+use Rattle.nm_model.proofs.Lists.{any_at}
+use Rattle.nm_laws.proofs.Steps.{Allowed, passed, third}
+use Rattle.nm_laws.proofs.Trees.{same_side-refl}
+use Rattle.nm_laws.proofs.Views.{read_after}
+use Rattle.nm_laws.proofs.TreeSlots.{is_to-true}
+use Rattle.nm_laws.proofs.TreeSteps.{Lawful, high_from}
 use Rattle.nm_order.proofs.OrderedChanges.{off_known, off_root}
 use Rattle.nm_order.proofs.OrderedSteps.{looked_known, known_not_private, low_not_private}
 use Rattle.nm_order.proofs.KnowledgeStays.{Stays, Answers, answers}
@@ -107,7 +107,7 @@ flag_found s w p leaf d n is = go (is_to (edge s.memory p d) leaf) refl is
         differ : Lost (edge s.memory p d) ≡ Flagged n → ⊥
         differ e = cc
 
-flag_asks : (s : State) (w p leaf : ℕ) (d : Side) → refusal_of s w (Flag p d leaf) ≡ None → (outside 6 s.layout.nodes leaf ≡ false) × (knows (of s w) p ≡ true) × (knows (of s w) leaf ≡ true)
+pub flag_asks : (s : State) (w p leaf : ℕ) (d : Side) → refusal_of s w (Flag p d leaf) ≡ None → (outside 6 s.layout.nodes leaf ≡ false) × (knows (of s w) p ≡ true) × (knows (of s w) leaf ≡ true)
 unfolding refusal
 flag_asks s w p leaf d ok =
     let first = outside 1 s.layout.nodes p || outside 6 s.layout.nodes leaf in

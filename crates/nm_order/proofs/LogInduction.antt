@@ -2,7 +2,7 @@
 use Rattle.std.proofs.Common.{ℕ, List, [], ◌∷◌, ◌++◌, sym, subst}
 use Rattle.std.proofs.lemmas.List.{append-nil, append_assoc}
 use Rattle.nm_edge.specs.Layouts.{Layout}
-use Rattle.nm_core.specs.Walks.{Entry}
+use Rattle.nm_model.specs.Walks.{Entry}
 use Rattle.nm_order.specs.Logs.{IsLogOf}
 use Rattle.nm_order.proofs.LastEntries.{log_before}
 

@@ -1,7 +1,7 @@
 -- Parts of a log: of one that is part of a longer log, whether its last entry is the log's last.
 use Rattle.std.proofs.Common.{◌≡◌, ◌⊎◌, inl, inr, List, [], ◌∷◌, ◌++◌, refl}
-use Rattle.nm_core.specs.Walks.{IsPart}
-use Rattle.nm_core.specs.Walks.IsPart.{nothing, takes, skips}
+use Rattle.nm_model.specs.Walks.{IsPart}
+use Rattle.nm_model.specs.Walks.IsPart.{nothing, takes, skips}
 
 module _ {X : Type 0} where
   pub part_of_nothing : (ys : List X) → IsPart [] ys

@@ -7,19 +7,19 @@ use Rattle.std.proofs.lemmas.Option.{none-some, same_Some, slice_get-get_or, sli
 use Rattle.nm_edge.specs.Edges.{Edge}
 use Rattle.nm_edge.specs.declared.edge.Side.{Side}
 use Rattle.nm_edge.specs.declared.edge.Side.TheVariants.{Left, Right}
-use Rattle.nm_core.specs.declared.event.Field.{Field}
-use Rattle.nm_core.specs.declared.event.Field.TheVariants.{Key, Edge as EdgeOn}
-use Rattle.nm_core.specs.declared.event.Event.TheVariants.{Look}
-use Rattle.nm_core.specs.declared.reply.Reply.{Reply}
-use Rattle.nm_core.specs.declared.reply.Reply.TheVariants.{KeyIs, EdgeIs}
-use Rattle.nm_core.specs.declared.walks.Call.{Call}
-use Rattle.nm_core.specs.declared.walks.Arrival.{Arrival}
-use Rattle.nm_core.specs.Searches.{Search, searched, side_of, is_side, turns, is_by, goes_on, is_first, new_arrival, with_arrival, keyed, walk_edge, walked, look_for}
-use Rattle.nm_core.specs.Walks.{Entry, IsPart, Leads, begins_anew, GrowsTo, SearchGrows}
-use Rattle.nm_core.specs.Walks.IsPart.{nothing, takes, skips}
-use Rattle.nm_core.specs.Walks.Leads.{begins, leads_on}
-use Rattle.nm_core.proofs.Lists.{any_at, map_at, get_right}
-use Rattle.nm_core.proofs.SearchesGrow.{only_grow}
+use Rattle.nm_model.specs.declared.event.Field.{Field}
+use Rattle.nm_model.specs.declared.event.Field.TheVariants.{Key, Edge as EdgeOn}
+use Rattle.nm_model.specs.declared.event.Event.TheVariants.{Look}
+use Rattle.nm_model.specs.declared.reply.Reply.{Reply}
+use Rattle.nm_model.specs.declared.reply.Reply.TheVariants.{KeyIs, EdgeIs}
+use Rattle.nm_model.specs.declared.walks.Call.{Call}
+use Rattle.nm_model.specs.declared.walks.Arrival.{Arrival}
+use Rattle.nm_model.specs.Searches.{Search, searched, side_of, is_side, turns, is_by, goes_on, is_first, new_arrival, with_arrival, keyed, walk_edge, walked, look_for}
+use Rattle.nm_model.specs.Walks.{Entry, IsPart, Leads, begins_anew, GrowsTo, SearchGrows}
+use Rattle.nm_model.specs.Walks.IsPart.{nothing, takes, skips}
+use Rattle.nm_model.specs.Walks.Leads.{begins, leads_on}
+use Rattle.nm_model.proofs.Lists.{any_at, map_at, get_right}
+use Rattle.nm_laws.proofs.SearchesGrow.{only_grow}
 use Rattle.nm_order.proofs.OrderedWalks.{is_side-true}
 
 -- ---- parts of a log with one entry more

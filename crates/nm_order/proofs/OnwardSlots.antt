@@ -3,19 +3,19 @@
 use Rattle.std.proofs.Common.{◌≡◌, ◌≢◌, ℕ, List, [], ◌∷◌, ◌++◌, append-nil, refl, sym, ap, subst, ◌∙◌}
 use Rattle.std.specs.Prelude.{Option, Some, None}
 use Rattle.nm_edge.specs.declared.edge.Side.{Side}
-use Rattle.nm_core.specs.Paths.{follow}
-use Rattle.nm_core.specs.Searches.{side_of}
+use Rattle.nm_model.specs.Paths.{follow}
+use Rattle.nm_model.specs.Searches.{side_of}
 use Rattle.nm_order.specs.Intervals.{GoesBy}
-use Rattle.nm_core.proofs.Trees.{Children, Exchanged, rest_after, follow-append, not_taken, taken, Taken, append_cancel}
+use Rattle.nm_laws.proofs.Trees.{Children, Exchanged, rest_after, follow-append, not_taken, taken, Taken, append_cancel}
 use Rattle.nm_order.proofs.Searching.{Keys, goes-append, goes_still, went_still, GoesOver, goes_over, Apart, apart_follow, apart_went}
 use Rattle.nm_order.proofs.OrderedTrees.{Onward}
 
--- of each slot to which a search for k comes that goes on from z, and of its birth
-abbrev pub EachOnward : Children → Keys → (ℕ → ℕ) → ℕ → (ℕ → ℕ → Type 0) → ℕ → Type 0
+-- of each slot to which a search for k comes that goes on from z, and of what lasts of it
+abbrev pub EachOnward : {B : Type 0} → Children → Keys → (ℕ → B) → ℕ → (ℕ → B → Type 0) → ℕ → Type 0
 EachOnward c v b k W z = (q : List Side) → GoesBy c v k z q → follow c z q ≢ 0 → W (follow c z q) (b (follow c z q))
 
--- of each slot to which the search for k comes from the root, and of its birth
-abbrev pub EachNow : Children → Keys → (ℕ → ℕ) → ℕ → (ℕ → ℕ → Type 0) → Type 0
+-- of each slot to which the search for k comes from the root, and of what lasts of it
+abbrev pub EachNow : {B : Type 0} → Children → Keys → (ℕ → B) → ℕ → (ℕ → B → Type 0) → Type 0
 EachNow c v b k W = EachOnward c v b k W 1
 
 -- the path to a node does not go on by its edge
@@ -33,12 +33,12 @@ straight_to c c' alone p d t x front at some = go (rest_after c p d 1 front) ref
         let same : front ≡ k.front = alone front k.front (λ z. some (sym at ∙ z)) (at ∙ sym k.comes) in
         absurd (nil_cons r (append_cancel front [] (d ∷ r) (append-nil front ∙ (k.is ∙ ap (λ (y : List Side). y ++ d ∷ r) (sym same)))))
 
-module _ (c c' : Children) (v v' : Keys) (b b' : ℕ → ℕ) (k : ℕ) (W W' : ℕ → ℕ → Type 0) (grows : (y n : ℕ) → W y n → W' y n) (z : ℕ) (births : (q : List Side) → follow c z q ≢ 0 → b' (follow c z q) ≡ b (follow c z q)) where
+module _ {B : Type 0} (c c' : Children) (v v' : Keys) (b b' : ℕ → B) (k : ℕ) (W W' : ℕ → B → Type 0) (grows : (y : ℕ) (n : B) → W y n → W' y n) (z : ℕ) (lasts : (q : List Side) → follow c z q ≢ 0 → b' (follow c z q) ≡ b (follow c z q)) where
   -- a slot to which the old search came too
   came : (q : List Side) → follow c' z q ≡ follow c z q → GoesBy c v k z q → follow c' z q ≢ 0 → EachOnward c v b k W z → W' (follow c' z q) (b' (follow c' z q))
   came q same goes some each =
       let there : follow c z q ≢ 0 = λ e. some (same ∙ e) in
-      rw (same, births q there) (grows (follow c z q) (b (follow c z q)) (each q goes there))
+      rw (same, lasts q there) (grows (follow c z q) (b (follow c z q)) (each q goes there))
 
   -- an edge is exchanged under a node that is reached
   pub each_exchanged : (p : ℕ) (d : Side) (t : ℕ) (x : Exchanged c c' p d t) → v' ≡ v → (front : List Side) → follow c 1 front ≡ p → rest_after c p d 1 front ≡ None → c p d ≢ 0 → Onward c v k z → EachNow c' v' b' k W'

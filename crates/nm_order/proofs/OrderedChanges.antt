@@ -6,22 +6,22 @@ use Rattle.std.proofs.lemmas.Bool.{cond-true, lt-ltb}
 use Rattle.nm_edge.specs.Keys.{IsKey}
 use Rattle.nm_edge.specs.declared.edge.Side.{Side}
 use Rattle.nm_edge.specs.declared.edge.Side.TheVariants.{Left, Right}
-use Rattle.nm_core.specs.declared.event.Event.{Event}
-use Rattle.nm_core.specs.declared.event.Event.TheVariants.{Link}
-use Rattle.nm_core.specs.Memory.{Memory, child, infinity_1, infinity_2}
-use Rattle.nm_core.specs.Knowledge.{knows, is_private}
-use Rattle.nm_core.specs.Paths.{follow}
-use Rattle.nm_core.specs.Runs.{State, of}
-use Rattle.nm_core.specs.Searches.{side_of}
+use Rattle.nm_model.specs.declared.event.Event.{Event}
+use Rattle.nm_model.specs.declared.event.Event.TheVariants.{Link}
+use Rattle.nm_model.specs.Memory.{Memory, child, infinity_1, infinity_2}
+use Rattle.nm_model.specs.Knowledge.{knows, is_private}
+use Rattle.nm_model.specs.Paths.{follow}
+use Rattle.nm_model.specs.Runs.{State, of}
+use Rattle.nm_model.specs.Searches.{side_of}
 use Rattle.nm_order.specs.Intervals.{GoesBy, key}
-use Rattle.nm_core.proofs.Trees.{Children, Exchanged}
+use Rattle.nm_laws.proofs.Trees.{Children, Exchanged}
 use Rattle.nm_order.proofs.Searching.{Keys}
 use Rattle.nm_order.proofs.OrderedTrees.{InOrder, Onward, Linking, order_spliced, onward_spliced, order_linked, onward_linked, order_apart, onward_apart}
-use Rattle.nm_core.proofs.Pictures.{alone, reached_live, null_below}
-use Rattle.nm_core.proofs.Views.{picture}
-use Rattle.nm_core.proofs.Links.{IsLink}
-use Rattle.nm_core.proofs.TreeLink.{Linkable}
-use Rattle.nm_core.proofs.TreeSteps.{Lawful}
+use Rattle.nm_laws.proofs.Pictures.{alone, reached_live, null_below}
+use Rattle.nm_laws.proofs.Views.{picture}
+use Rattle.nm_laws.proofs.Links.{IsLink}
+use Rattle.nm_laws.proofs.TreeLink.{Linkable}
+use Rattle.nm_laws.proofs.TreeSteps.{Lawful}
 use Rattle.nm_order.proofs.TreeChanges.{TreeChange}
 use Rattle.nm_order.proofs.TreeChanges.TreeChange.{Kept, Filled, Linked, Spliced}
 
@@ -116,7 +116,7 @@ module _ (s : State) (h : ℕ → ℕ) (law : Lawful s h) where
 
       same_keys : key m ≡ v
       same_keys = fun_ext keys
-  outlasts w e m order asks (Spliced a d way g some keys) = record {
+  outlasts w e m order asks (Spliced a d way g some target keys) = record {
     order = λ o. subst (λ (n : Keys). InOrder (child m) n) (sym same_keys) (order_spliced c (child m) v a d way g some o);
     onward = λ u z n known o. subst (λ (y : Keys). Onward (child m) y n z) (sym same_keys) (onward_spliced c (child m) v a d way g some n z o);
     keys = λ u z known. keys z;

@@ -3,17 +3,17 @@ use Rattle.std.proofs.Common.{◌≡◌, ℕ, suc, ◌≤◌, List, [], ◌∷�
 use Rattle.std.specs.Prelude.{Option, Some, None, option_map, All}
 use Rattle.std.proofs.lemmas.Option.{none-some, same_Some}
 use Rattle.nm_edge.specs.Layouts.{Layout}
-use Rattle.nm_core.specs.declared.event.Event.{Event}
-use Rattle.nm_core.specs.declared.reply.Refused.{Refused}
-use Rattle.nm_core.specs.Maps.{or_else}
-use Rattle.nm_core.specs.Runs.{State, of, start, refused, reply_of, applied}
-use Rattle.nm_core.specs.Lawful.{EachBirthStands}
-use Rattle.nm_core.specs.Searches.{Search, idle}
-use Rattle.nm_core.specs.Ordered.{Configuration, ordered, search_of, learned_from, disorder, disorder_in, disorder_among, refused_in, applied_in, next_in, after_in}
-use Rattle.nm_core.proofs.Steps.{Allowed, allowed}
-use Rattle.nm_core.proofs.TreeSteps.{Lawful}
-use Rattle.nm_core.proofs.KnownBirths.{each_birth_stands}
-use Rattle.nm_core.proofs.Configurations.{refused_next, allowed_next}
+use Rattle.nm_model.specs.declared.event.Event.{Event}
+use Rattle.nm_model.specs.declared.reply.Refused.{Refused}
+use Rattle.nm_model.specs.Maps.{or_else}
+use Rattle.nm_model.specs.Runs.{State, of, start, refused, reply_of, applied}
+use Rattle.nm_model.specs.Lawful.{EachBirthStands}
+use Rattle.nm_model.specs.Searches.{Search, idle}
+use Rattle.nm_model.specs.Ordered.{Configuration, ordered, search_of, learned_from, disorder, disorder_in, disorder_among, refused_in, applied_in, next_in, after_in}
+use Rattle.nm_laws.proofs.Steps.{Allowed, allowed}
+use Rattle.nm_laws.proofs.TreeSteps.{Lawful}
+use Rattle.nm_laws.proofs.KnownBirths.{each_birth_stands}
+use Rattle.nm_laws.proofs.Configurations.{refused_next, allowed_next}
 use Rattle.nm_order.specs.Intervals.{HasKey}
 use Rattle.nm_order.proofs.OrderedSteps.{OrderLaw}
 use Rattle.nm_order.proofs.OrderedLaws.{IsOrdered, ordered_next, each_ordered, law_of_state}

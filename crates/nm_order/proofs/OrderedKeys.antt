@@ -8,16 +8,16 @@ use Rattle.std.proofs.lemmas.Option.{none-some, same_Some, slice_get-get_or}
 use Rattle.std.proofs.lemmas.List.Elements.{filter_map-append}
 use Rattle.nm_edge.specs.declared.edge.Side.{Side}
 use Rattle.nm_edge.specs.declared.edge.Side.TheVariants.{Left, Right}
-use Rattle.nm_core.specs.Memory.{Memory, node, child, is_leaf, infinity_0}
-use Rattle.nm_core.specs.Paths.{follow}
-use Rattle.nm_core.specs.Reports.{tree_slots, set_key, keys_below}
-use Rattle.nm_core.specs.Searches.{side_of}
+use Rattle.nm_model.specs.Memory.{Memory, node, child, is_leaf, infinity_0}
+use Rattle.nm_model.specs.Paths.{follow}
+use Rattle.nm_model.specs.Reports.{tree_slots, set_key, keys_below}
+use Rattle.nm_model.specs.Searches.{side_of}
 use Rattle.nm_order.specs.Intervals.{GoesBy, key}
-use Rattle.nm_core.proofs.Counting.{times, times_apart}
-use Rattle.nm_core.proofs.Trees.{follow-append}
+use Rattle.nm_model.proofs.Counting.{times, times_apart}
+use Rattle.nm_laws.proofs.Trees.{follow-append}
 use Rattle.nm_order.proofs.Searching.{goes_on}
 use Rattle.nm_order.proofs.OrderedTrees.{InOrder}
-use Rattle.nm_core.proofs.SetKeys.{tree_fork, no_slots}
+use Rattle.nm_model.proofs.SetKeys.{tree_fork, no_slots}
 
 -- ---- rising lists
 

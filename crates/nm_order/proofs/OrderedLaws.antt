@@ -1,6 +1,6 @@
 -- The order of the set, in every ordered run.
 use Rattle.std.proofs.Common.{◌≡◌, ◌≢◌, ℕ, suc, ◌<◌, ◌≤◌, inl, inr, ◌⊎◌, ◌==◌, Bool, true, false, cond, ◌&&◌, List, [], ◌∷◌, ◌++◌, refl, sym, ap, subst, ◌∙◌, arith, true≢false}
-use Rattle.std.specs.Prelude.{Contains, Option, Some, None, Result, Ok, Err, option_map, replicate, All}
+use Rattle.std.specs.Prelude.{◌↔◌, Contains, Option, Some, None, Result, Ok, Err, option_map, replicate, All}
 use Rattle.std.proofs.lemmas.Bool.{eqb-true, eqb-false, eq-eqb, and_parts, and_from}
 use Rattle.std.proofs.lemmas.List.{length-replicate}
 use Rattle.std.proofs.lemmas.Option.{none-some, same_Some, slice_get-get_or, slice_get_within, get_or_from_slice_get}
@@ -8,44 +8,44 @@ use Rattle.nm_edge.specs.Edges.{Edge, to, is_to}
 use Rattle.nm_edge.specs.Layouts.{Layout}
 use Rattle.nm_edge.specs.declared.edge.Side.{Side}
 use Rattle.nm_edge.specs.declared.edge.Side.TheVariants.{Left, Right}
-use Rattle.nm_core.specs.declared.event.Op.{Op}
-use Rattle.nm_core.specs.declared.event.Op.TheVariants.{Insert}
-use Rattle.nm_core.specs.declared.event.Event.{Event}
-use Rattle.nm_core.specs.declared.event.Event.TheVariants.{Link}
-use Rattle.nm_core.specs.declared.reply.Reply.{Reply}
-use Rattle.nm_core.specs.declared.reply.Reply.TheVariants.{Linked, Lost}
-use Rattle.nm_core.specs.declared.reply.Refused.{Refused}
-use Rattle.nm_core.specs.declared.memory.Node.{Node}
-use Rattle.nm_core.specs.declared.walks.Call.{Call}
-use Rattle.nm_core.specs.declared.walks.Arrival.{Arrival}
-use Rattle.nm_core.specs.Maps.{or_else}
-use Rattle.nm_core.specs.Memory.{Memory, node, edge, child, is_leaf, opening, put_edge, infinity_0}
-use Rattle.nm_core.specs.Knowledge.{knows}
-use Rattle.nm_core.specs.Step.{reply, write, node_linked}
-use Rattle.nm_core.specs.Paths.{follow, Reached}
-use Rattle.nm_core.specs.Runs.{State, of, start, after, next, applied, refused, unless_refused, reply_of, answered}
-use Rattle.nm_core.specs.Reports.{keys}
-use Rattle.nm_core.specs.Searches.{Search, idle}
-use Rattle.nm_core.specs.Ordered.{Configuration, ordered, search_of, learned_from, disorder, disorder_in, disorder_among, refused_in, applied_in, unless_refused_in, next_in, outcome_in, after_in}
+use Rattle.nm_model.specs.declared.event.Op.{Op}
+use Rattle.nm_model.specs.declared.event.Op.TheVariants.{Insert}
+use Rattle.nm_model.specs.declared.event.Event.{Event}
+use Rattle.nm_model.specs.declared.event.Event.TheVariants.{Link}
+use Rattle.nm_model.specs.declared.reply.Reply.{Reply}
+use Rattle.nm_model.specs.declared.reply.Reply.TheVariants.{Linked, Lost}
+use Rattle.nm_model.specs.declared.reply.Refused.{Refused}
+use Rattle.nm_model.specs.declared.memory.Node.{Node}
+use Rattle.nm_model.specs.declared.walks.Call.{Call}
+use Rattle.nm_model.specs.declared.walks.Arrival.{Arrival}
+use Rattle.nm_model.specs.Maps.{or_else}
+use Rattle.nm_model.specs.Memory.{Memory, node, edge, child, is_leaf, opening, put_edge, infinity_0}
+use Rattle.nm_model.specs.Knowledge.{knows}
+use Rattle.nm_model.specs.Step.{reply, write, node_linked}
+use Rattle.nm_model.specs.Paths.{follow, Reached}
+use Rattle.nm_model.specs.Runs.{State, of, start, after, next, applied, refused, unless_refused, reply_of, answered}
+use Rattle.nm_model.specs.Reports.{keys}
+use Rattle.nm_model.specs.Searches.{Search, idle}
+use Rattle.nm_model.specs.Ordered.{Configuration, ordered, search_of, learned_from, disorder, disorder_in, disorder_among, refused_in, applied_in, unless_refused_in, next_in, outcome_in, after_in}
 use Rattle.nm_order.specs.Intervals.{GoesBy, key, InInterval, HasKey, OfEachOrdered, KeysLieInIntervals, LeavesHaveTheirOwnKeys, HasCome, WalksStayInOrder, WalksReadKeys, InSet, IsCalled, Gains, LinksInsert, KeysTellTheSet, KeysAscend}
-use Rattle.nm_core.proofs.Numbers.{repeated}
-use Rattle.nm_core.proofs.Steps.{Allowed, allowed}
-use Rattle.nm_core.proofs.Reaches.{after-append}
-use Rattle.nm_core.proofs.Trees.{follow_none}
+use Rattle.nm_model.proofs.Numbers.{repeated}
+use Rattle.nm_laws.proofs.Steps.{Allowed, allowed}
+use Rattle.nm_laws.proofs.Reaches.{after-append}
+use Rattle.nm_laws.proofs.Trees.{follow_none}
 use Rattle.nm_order.proofs.Searching.{one_leaf}
 use Rattle.nm_order.proofs.OrderedTrees.{InOrder, LeafOf, new_leaf, leaf_stays, leaf_was, key_is_new}
-use Rattle.nm_core.proofs.TreeSteps.{Lawful}
-use Rattle.nm_core.proofs.Lawful.{lawful}
-use Rattle.nm_core.proofs.KnownBirths.{each_birth_stands, written_keys}
+use Rattle.nm_laws.proofs.TreeSteps.{Lawful}
+use Rattle.nm_laws.proofs.Lawful.{lawful}
+use Rattle.nm_laws.proofs.KnownBirths.{each_birth_stands, written_keys}
 use Rattle.nm_order.proofs.TreeChanges.{WonLink, won_link}
 use Rattle.nm_order.proofs.OrderedWalks.{WalkLaw}
 use Rattle.nm_order.proofs.OrderedKeys.{Under, under, found, keys_ascend}
-use Rattle.nm_core.proofs.TreeCount.{reached_once}
+use Rattle.nm_laws.proofs.TreeCount.{reached_once}
 use Rattle.nm_order.proofs.OrderedSteps.{ForCall, OrderLaw, order_step, LinkOfCall, link_of_call}
 
 -- ---- the opening
 
-null_start : (L : Layout) (d : Side) → child (opening L) 0 d ≡ 0
+pub null_start : (L : Layout) (d : Side) → child (opening L) 0 d ≡ 0
 null_start L Left = refl
 null_start L Right = refl
 
@@ -125,7 +125,7 @@ module _ (L : Layout) (enough : 5 ≤ L.nodes) (c : Configuration) (o : IsOrdere
   in_interval : (k x : ℕ) (r : Reached m x) → GoesBy (child m) (key m) k 1 r.path → InInterval m k x
   in_interval k x r goes = record { path = r.path; ends = r.ends; goes = goes }
 
-  keys_lie : KeysLieInIntervals c
+  pub keys_lie : KeysLieInIntervals c
   keys_lie x r = in_interval (key m x) x r (subst (λ (y : ℕ). GoesBy (child m) (key m) (key m y) 1 r.path) r.ends (o.law.order r.path (λ z. r.is_slot (sym r.ends ∙ z))))
 
   leaf_null : (n : Node) → is_leaf n ≡ true → (n.left.slot ≡ 0) × (n.right.slot ≡ 0)
@@ -135,16 +135,17 @@ module _ (L : Layout) (enough : 5 ≤ L.nodes) (c : Configuration) (o : IsOrdere
   null_at x leaf Left = (leaf_null (node m x) leaf).0
   null_at x leaf Right = (leaf_null (node m x) leaf).1
 
-  own_keys : LeavesHaveTheirOwnKeys c
-  unfolding keys_lie in_interval
-  own_keys x y r q leaf leaf' same =
-      let to_x = (keys_lie x r).goes in
-      let to_y : GoesBy (child m) (key m) (key m x) 1 q.path = rw same (keys_lie y q).goes in
-      let path : r.path ≡ q.path = one_leaf (child m) null (key m) (key m x) 1 r.path q.path to_x to_y (λ z. r.is_slot (sym r.ends ∙ z)) (λ z. q.is_slot (sym q.ends ∙ z)) (rw r.ends (null_at x leaf)) (rw q.ends (null_at y leaf')) in
-      sym r.ends ∙ (ap (follow (child m) 1) path ∙ q.ends)
+  -- one leaf at most has a key in its interval
+  pub one_leaf_for : (k x y : ℕ) → InInterval c.state.memory k x → InInterval c.state.memory k y → x ≢ 0 → y ≢ 0 → is_leaf (node c.state.memory x) ≡ true → is_leaf (node c.state.memory y) ≡ true → x ≡ y
+  one_leaf_for k x y p q some some' leaf leaf' =
+      let path : p.path ≡ q.path = one_leaf (child m) null (key m) k 1 p.path q.path p.goes q.goes (λ z. some (sym p.ends ∙ z)) (λ z. some' (sym q.ends ∙ z)) (rw p.ends (null_at x leaf)) (rw q.ends (null_at y leaf')) in
+      sym p.ends ∙ (ap (follow (child m) 1) path ∙ q.ends)
     where
       null : (d : Side) → child m 0 d ≡ 0
       null d = ap (λ (s : State). child s.memory 0 d) o.leads ∙ (let l = lawful L enough o.events in ap (λ (e : Edge). e.slot) (l.law.tree.nothing d))
+
+  pub own_keys : LeavesHaveTheirOwnKeys c
+  own_keys x y r q leaf leaf' same = one_leaf_for (key m x) x y (keys_lie x r) (rw same (keys_lie y q)) r.is_slot q.is_slot leaf leaf'
 
   -- the law of the walks that came to a slot
   pub walk_law : (u k : ℕ) (a : Arrival) (h : HasCome c u k a) → WalkLaw (child m) (key m) (knows (of c.state u)) k (search_of h.searches u).walks
@@ -173,7 +174,7 @@ module _ (L : Layout) (enough : 5 ≤ L.nodes) (c : Configuration) (o : IsOrdere
       go : (d : Side) × (child m a.slot d ≢ 0) → GoesBy (child m) (key m) k 1 r.path
       go d = (walk_law u k a h).onward h.index a h.is [] r.path d.0 tt d.1 r.ends
 
-  read_keys : WalksReadKeys c
+  pub read_keys : WalksReadKeys c
   read_keys u k n a h is = (walk_law u k a h).is_keyed h.index a n h.is is
 
 -- ---- a link that is won
@@ -276,24 +277,24 @@ module _ (L : Layout) (enough : 5 ≤ L.nodes) (c : Configuration) (o : IsOrdere
 
 -- ---- the keys that are told
 
-module _ (L : Layout) (enough : 5 ≤ L.nodes) (c : Configuration) (o : IsOrdered L c) where
-  keys_tell : KeysTellTheSet c
-  keys_tell k = (told, set)
+module _ (s : State) (h : ℕ → ℕ) (law : Lawful s h) where
+  -- of a core that is ordered or not, the keys that are told are those of the reached leaves
+  pub keys_of_state : (k : ℕ) → Contains (keys s) k ↔ InSet s.memory k × (k < infinity_0)
+  keys_of_state k = (told, set)
     where
-      m : Memory
-      m = c.state.memory
-
-      told : Contains (keys c.state) k → InSet c.state.memory k × (k < infinity_0)
+      told : Contains (keys s) k → InSet s.memory k × (k < infinity_0)
       told there =
-          let u : Under c.state.memory 1 k = under c.state.memory c.state.layout.nodes 1 k (there.0, slice_get-get_or (keys c.state) there.0 k there.1 ∙ ap (λ (n : ℕ). Some n) there.2) in
-          (record { slot = follow (child c.state.memory) 1 u.path; reached = record { path = u.path; ends = refl; is_slot = u.is_slot }; leaf = u.leaf; has_key = u.has_key }, u.low)
+          let u : Under s.memory 1 k = under s.memory s.layout.nodes 1 k (there.0, slice_get-get_or (keys s) there.0 k there.1 ∙ ap (λ (n : ℕ). Some n) there.2) in
+          (record { slot = follow (child s.memory) 1 u.path; reached = record { path = u.path; ends = refl; is_slot = u.is_slot }; leaf = u.leaf; has_key = u.has_key }, u.low)
 
-      set : InSet c.state.memory k × (k < infinity_0) → Contains (keys c.state) k
-      set s =
-          let l = law_of_state L enough c o in
-          let once = reached_once c.state l.0 l.1.tree s.0.slot (record { path = s.0.reached.path; ends = s.0.reached.ends; is_slot = s.0.reached.is_slot }) in
-          let i = found c.state.memory c.state.layout.nodes 1 s.0.slot k (λ z. absurd (omega (arith, once, z))) s.0.leaf s.0.has_key s.1 in
-          (i.0, slice_get_within (keys c.state) i.0 k i.1, get_or_from_slice_get (keys c.state) i.0 k k i.1)
+      set : InSet s.memory k × (k < infinity_0) → Contains (keys s) k
+      set x =
+          let once = reached_once s h law.tree x.0.slot (record { path = x.0.reached.path; ends = x.0.reached.ends; is_slot = x.0.reached.is_slot }) in
+          let i = found s.memory s.layout.nodes 1 x.0.slot k (λ z. absurd (omega (arith, once, z))) x.0.leaf x.0.has_key x.1 in
+          (i.0, slice_get_within (keys s) i.0 k i.1, get_or_from_slice_get (keys s) i.0 k k i.1)
+
+keys_tell : (L : Layout) (enough : 5 ≤ L.nodes) (c : Configuration) (o : IsOrdered L c) → KeysTellTheSet c
+keys_tell L enough c o k = let l = law_of_state L enough c o in keys_of_state c.state l.0 l.1 k
 
 pub each_key_lies : OfEachOrdered KeysLieInIntervals
 each_key_lies L enough turns keys = keys_lie L enough (after_in (ordered L) turns) (each_ordered L enough turns keys)

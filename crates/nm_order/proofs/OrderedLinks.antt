@@ -7,29 +7,29 @@ use Rattle.nm_edge.specs.Edges.{Edge, to, other}
 use Rattle.nm_edge.specs.Keys.{IsKey}
 use Rattle.nm_edge.specs.declared.edge.Side.{Side}
 use Rattle.nm_edge.specs.declared.edge.Side.TheVariants.{Left, Right}
-use Rattle.nm_core.specs.declared.knowledge.Draft.{Draft}
-use Rattle.nm_core.specs.declared.walks.Arrival.{Arrival}
-use Rattle.nm_core.specs.Maps.{is_number}
-use Rattle.nm_core.specs.Memory.{edge, child, infinity_1}
-use Rattle.nm_core.specs.Knowledge.{knows, draft_of}
-use Rattle.nm_core.specs.Paths.{follow}
-use Rattle.nm_core.specs.Runs.{State, of}
-use Rattle.nm_core.specs.Lawful.{BirthsStand}
-use Rattle.nm_core.specs.Searches.{side_of, is_side, is_by}
-use Rattle.nm_core.specs.Ordered.{forks_over, is_fork_for, may_link_at, new_leaf}
+use Rattle.nm_model.specs.declared.knowledge.Draft.{Draft}
+use Rattle.nm_model.specs.declared.walks.Arrival.{Arrival}
+use Rattle.nm_model.specs.Maps.{is_number}
+use Rattle.nm_model.specs.Memory.{edge, child, infinity_1}
+use Rattle.nm_model.specs.Knowledge.{knows, draft_of}
+use Rattle.nm_model.specs.Paths.{follow}
+use Rattle.nm_model.specs.Runs.{State, of}
+use Rattle.nm_model.specs.Lawful.{BirthsStand}
+use Rattle.nm_model.specs.Searches.{side_of, is_side, is_by}
+use Rattle.nm_model.specs.Ordered.{forks_over, is_fork_for, may_link_at, new_leaf}
 use Rattle.nm_order.specs.Intervals.{GoesBy, key}
-use Rattle.nm_core.proofs.Trees.{Exchanged, follow-append}
-use Rattle.nm_core.proofs.Lists.{any_at}
+use Rattle.nm_laws.proofs.Trees.{Exchanged, follow-append}
+use Rattle.nm_model.proofs.Lists.{any_at}
 use Rattle.nm_order.proofs.OrderedTrees.{Linking}
 use Rattle.nm_order.proofs.OrderedWalks.{WalkLaw, CameFrom, is_side-true, turned}
 use Rattle.nm_order.proofs.OrderedWalks.CameFrom.{FromRoot, FromSlot}
-use Rattle.nm_core.proofs.Pictures.{IsOnPath, alone, null_below}
-use Rattle.nm_core.proofs.Splices.{live_on_path, unmarked_not_queued}
-use Rattle.nm_core.proofs.Views.{picture}
-use Rattle.nm_core.proofs.Links.{IsLink}
-use Rattle.nm_core.proofs.Numbers.{number_is}
-use Rattle.nm_core.proofs.TreeLink.{Linkable}
-use Rattle.nm_core.proofs.TreeSteps.{Lawful}
+use Rattle.nm_laws.proofs.Pictures.{IsOnPath, alone, null_below}
+use Rattle.nm_laws.proofs.Splices.{live_on_path, unmarked_not_queued}
+use Rattle.nm_laws.proofs.Views.{picture}
+use Rattle.nm_laws.proofs.Links.{IsLink}
+use Rattle.nm_model.proofs.Numbers.{number_is}
+use Rattle.nm_laws.proofs.TreeLink.{Linkable}
+use Rattle.nm_laws.proofs.TreeSteps.{Lawful}
 use Rattle.nm_order.proofs.OrderedChanges.{FixedKeys, left_of, off_root}
 
 right_of : (k n : ℕ) → (k < n → ⊥) → side_of k n ≡ Right

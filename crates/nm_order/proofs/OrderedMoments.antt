@@ -1,42 +1,43 @@
 -- What holds of each slot to which the walks of standing calls can go on, where it holds of each slot that a call's search comes to now:
 -- each event that is in order keeps it.
-use Rattle.std.proofs.Common.{◌≡◌, ◌≢◌, ℕ, inl, inr, ◌⊎◌, ◌==◌, Bool, true, false, cond, not, ◌&&◌, ◌||◌, List, [], ◌∷◌, ◌++◌, map, refl, sym, ap, subst, ◌∙◌, arith, true≢false, get_or-set_same, get_or-set_other}
+use Rattle.std.proofs.Common.{◌≡◌, ◌≢◌, ℕ, inl, inr, ◌⊎◌, eqb, ◌==◌, Bool, true, false, cond, not, ◌&&◌, ◌||◌, List, [], ◌∷◌, ◌++◌, map, refl, sym, ap, subst, ◌∙◌, arith, true≢false, get_or-set_same, get_or-set_other}
 use Rattle.std.specs.Prelude.{Option, Some, None, is_none, nat_lt, slice_get}
 use Rattle.std.specs.List.{list_any}
 use native.Mathlib.Decide.{ℕ_discrete}
 use mathlib.Core.Path.{fun_ext}
-use Rattle.std.proofs.lemmas.Bool.{cond_both, eqb-true, and_parts, or_cases, not-false}
+use Rattle.std.proofs.lemmas.Bool.{cond_both, eqb-true, and_parts, ne_eqb, or_cases, not-false}
 use Rattle.std.proofs.lemmas.Option.{none-some, same_Some}
 use Rattle.nm_edge.specs.Edges.{Edge}
 use Rattle.nm_edge.specs.Keys.{IsKey}
 use Rattle.nm_edge.specs.declared.edge.Side.{Side}
-use Rattle.nm_edge.specs.declared.edge.Side.TheVariants.{Left}
-use Rattle.nm_core.specs.declared.event.Field.{Field}
-use Rattle.nm_core.specs.declared.event.Field.TheVariants.{Key, Edge as EdgeOn}
-use Rattle.nm_core.specs.declared.event.Event.{Event}
-use Rattle.nm_core.specs.declared.event.Event.TheVariants.{Sight, SightFor, Leave, LeaveWith, Fill, Look}
-use Rattle.nm_core.specs.declared.reply.Reply.{Reply}
-use Rattle.nm_core.specs.declared.reply.Reply.TheVariants.{Pinned, Departed, KeyIs, EdgeIs}
-use Rattle.nm_core.specs.declared.reply.Refused.TheVariants.{NoSlot, NotPrivate}
-use Rattle.nm_core.specs.declared.walks.Call.{Call}
-use Rattle.nm_core.specs.declared.walks.Arrival.{Arrival}
-use Rattle.nm_core.specs.Memory.{Memory, node, child, edge, infinity_1, infinity_2}
-use Rattle.nm_core.specs.Knowledge.{knows, is_private}
-use Rattle.nm_core.specs.Paths.{follow}
-use Rattle.nm_core.specs.Step.{outside, is_edge, refusal, reply, write}
-use Rattle.nm_core.specs.Runs.{State, of, reply_of, applied}
-use Rattle.nm_core.specs.Searches.{Search, idle, searched, side_of, is_side, turns, is_by, is_first, goes_on, new_arrival, with_arrival, keyed, ended, walked, look_for}
-use Rattle.nm_core.specs.Walks.{begins_anew}
-use Rattle.nm_core.specs.Ordered.{search_of, learned_from}
+use Rattle.nm_edge.specs.declared.edge.Side.TheVariants.{Left, Right}
+use Rattle.nm_model.specs.declared.event.Field.{Field}
+use Rattle.nm_model.specs.declared.event.Field.TheVariants.{Key, Edge as EdgeOn}
+use Rattle.nm_model.specs.declared.event.Event.{Event}
+use Rattle.nm_model.specs.declared.event.Event.TheVariants.{Sight, SightFor, Leave, LeaveWith, Fill, Look}
+use Rattle.nm_model.specs.declared.reply.Reply.{Reply}
+use Rattle.nm_model.specs.declared.reply.Reply.TheVariants.{Pinned, Departed, KeyIs, EdgeIs}
+use Rattle.nm_model.specs.declared.reply.Refused.TheVariants.{NoSlot, NotPrivate}
+use Rattle.nm_model.specs.declared.walks.Call.{Call}
+use Rattle.nm_model.specs.declared.walks.Arrival.{Arrival}
+use Rattle.nm_model.specs.Memory.{Memory, node, child, edge, is_leaf, infinity_1, infinity_2}
+use Rattle.nm_model.specs.Knowledge.{knows, is_private}
+use Rattle.nm_model.specs.Paths.{follow}
+use Rattle.nm_model.specs.Step.{outside, is_edge, refusal, reply, write}
+use Rattle.nm_model.specs.Runs.{State, of, reply_of, applied}
+use Rattle.nm_model.specs.Searches.{Search, idle, searched, side_of, is_side, turns, is_by, is_first, goes_on, new_arrival, with_arrival, keyed, ended, walked, look_for}
+use Rattle.nm_model.specs.Walks.{begins_anew}
+use Rattle.nm_model.specs.Ordered.{search_of, learned_from}
 use Rattle.nm_order.specs.Intervals.{GoesBy, key}
-use Rattle.nm_core.proofs.Lists.{any_at, mapped_at, more_at}
-use Rattle.nm_core.proofs.Steps.{Allowed, second}
-use Rattle.nm_core.proofs.KnownBirths.{written_same}
-use Rattle.nm_core.proofs.CutPaths.{straight}
-use Rattle.nm_core.proofs.Pictures.{IsOnPath, alone}
-use Rattle.nm_core.proofs.Splices.{live_on_path, unmarked_not_queued}
-use Rattle.nm_core.proofs.Views.{picture}
-use Rattle.nm_core.proofs.TreeSteps.{Lawful}
+use Rattle.nm_model.proofs.Lists.{any_at, mapped_at, more_at}
+use Rattle.nm_laws.proofs.Steps.{Allowed, second}
+use Rattle.nm_laws.proofs.KnownBirths.{SameNode, written_same}
+use Rattle.nm_laws.proofs.Trees.{Exchanged, same_side, same_side-true}
+use Rattle.nm_laws.proofs.CutPaths.{straight}
+use Rattle.nm_laws.proofs.Pictures.{IsOnPath, alone}
+use Rattle.nm_laws.proofs.Splices.{live_on_path, unmarked_not_queued}
+use Rattle.nm_laws.proofs.Views.{picture}
+use Rattle.nm_laws.proofs.TreeSteps.{Lawful}
 use Rattle.nm_order.proofs.OrderedTrees.{Onward}
 use Rattle.nm_order.proofs.TreeChanges.{TreeChange, tree_change}
 use Rattle.nm_order.proofs.TreeChanges.TreeChange.{Kept, Filled, Linked, Spliced}
@@ -47,13 +48,19 @@ use Rattle.nm_order.proofs.OrderedChanges.{FixedKeys, left_of, off_known}
 use Rattle.nm_order.proofs.OrderedSteps.{ForCall, OrderLaw}
 use Rattle.nm_order.proofs.OnwardSlots.{EachOnward, EachNow, straight_to, each_exchanged, each_apart, each_same}
 
-abbrev pub birth : Memory → ℕ → ℕ
-birth m x = (node m x).birth
+-- what of a node stays while somebody can come to it: its birth, its key, and whether it is a leaf
+pub record Lasting : Type 0 where
+  pub birth : ℕ
+  pub key : ℕ
+  pub leaf : Bool
 
--- of each worker's call, each slot to which its walks can go on, and that slot's birth
-abbrev pub MomentLaw : State → List Search → (ℕ → Call → ℕ → ℕ → Type 0) → Type 0
+abbrev pub lasting : Memory → ℕ → Lasting
+lasting m x = record { birth = (node m x).birth; key = (node m x).key; leaf = is_leaf (node m x) }
+
+-- of each worker's call, each slot to which its walks can go on, and what lasts of that slot
+abbrev pub MomentLaw : State → List Search → (ℕ → Call → ℕ → Lasting → Type 0) → Type 0
 MomentLaw s ss W = (u : ℕ) (call : Call) → (search_of ss u).call ≡ Some call → (i : ℕ) (a : Arrival) → slice_get (search_of ss u).walks i ≡ Some a
-    → EachOnward (child s.memory) (key s.memory) (birth s.memory) call.key (W u call) a.slot
+    → EachOnward (child s.memory) (key s.memory) (lasting s.memory) call.key (W u call) a.slot
 
 -- ---- what a look adds
 
@@ -103,43 +110,80 @@ module _ (s : State) (h : ℕ → ℕ) (law : Lawful s h) (w : ℕ) where
       by : Allowed s w (Fill y f v) → is_private (of s w) y ≡ true
       by ok = not-false (is_private (of s w) y) (second (outside 6 s.layout.nodes y || (is_edge f && nat_lt s.layout.nodes v)) (not (is_private (of s w) y)) NoSlot NotPrivate _ ok.event)
 
-  module _ (e : Event) (m : Memory) (births : (x : ℕ) → (is_private (of s w) x ≡ true → ⊥) → birth m x ≡ birth s.memory x) (u z : ℕ) (known : knows (of s u) z ≡ true) (k : ℕ) (onward : Onward (child s.memory) (key s.memory) k z)
-      (W W' : ℕ → ℕ → Type 0) (grows : (y n : ℕ) → W y n → W' y n) (now : EachNow (child m) (key m) (birth m) k W') where
-    births_on : (q : List Side) → follow (child s.memory) z q ≢ 0 → birth m (follow (child s.memory) z q) ≡ birth s.memory (follow (child s.memory) z q)
-    births_on q some = births (follow (child s.memory) z q) (λ own. off_known s h law u z w (follow (child s.memory) z q) known own q refl)
+  -- what lasts of a slot that the worker does not hold
+  pub lasting_stays : (e : Event) → Allowed s w e → (x : ℕ) → (is_private (of s w) x ≡ true → ⊥) → lasting (write s.memory (of s w) w e) x ≡ lasting s.memory x
+  lasting_stays e ok x free = λ i. record { birth = same.birth i; key = same.key i; leaf = leaf (tree_change s h law w e ok) i }
+    where
+      m' : Memory
+      m' = write s.memory (of s w) w e
+
+      same : SameNode s.memory (write s.memory (of s w) w e) x
+      same = written_same s.memory (of s w) w e x (λ y f v is i. free (rw i (fills_own e ok y f v is)))
+
+      -- both edges lead where they led
+      unmoved : child m' x Left ≡ child s.memory x Left → child m' x Right ≡ child s.memory x Right → is_leaf (node m' x) ≡ is_leaf (node s.memory x)
+      unmoved left right = λ i. (left i == 0) && (right i == 0)
+
+      -- one edge is exchanged, which led to a slot before and leads to one after
+      moved : (p : ℕ) (d : Side) (t : ℕ) → Exchanged (child s.memory) (child m') p d t → child s.memory p d ≢ 0 → t ≢ 0 → is_leaf (node m' x) ≡ is_leaf (node s.memory x)
+      moved p d t ex was now = λ i. nulls Left i && nulls Right i
+        where
+          nulls : (f : Side) → (child m' x f == 0) ≡ (child s.memory x f == 0)
+          nulls f = by (eqb x p && same_side d f) refl
+            where
+              by : (b : Bool) → (eqb x p && same_side d f) ≡ b → (child m' x f == 0) ≡ (child s.memory x f == 0)
+              by false other = ap (λ (n : ℕ). n == 0) (ex.others x f other)
+              by true here =
+                  let parts = and_parts (eqb x p) (same_side d f) here in
+                  let at : x ≡ p = eqb-true x p parts.0 in
+                  let side : d ≡ f = same_side-true d f parts.1 in
+                  let after : child m' x f ≡ t = ap (λ (y : ℕ). child m' y f) at ∙ (ap (child m' p) (sym side) ∙ ex.here) in
+                  let before : child s.memory x f ≡ child s.memory p d = ap (λ (y : ℕ). child s.memory y f) at ∙ ap (child s.memory p) (sym side) in
+                  ne_eqb (child m' x f) 0 (λ z. now (sym after ∙ z)) ∙ sym (ne_eqb (child s.memory x f) 0 (λ z. was (sym before ∙ z)))
+
+      leaf : TreeChange s h w e (write s.memory (of s w) w e) → is_leaf (node m' x) ≡ is_leaf (node s.memory x)
+      leaf (Kept children keys) = unmoved (children x Left) (children x Right)
+      leaf (Filled y own apart) = unmoved (apart.edges x Left (λ i. free (rw i own))) (apart.edges x Right (λ i. free (rw i own)))
+      leaf (Linked p d old new is unmarked l link exchanged keys) = moved p d new exchanged (λ z. link.leaf_slot (sym (ap (λ (y : Edge). y.slot) unmarked) ∙ z)) (λ z. let r = law.tree.privates w new link.own in absurd (omega arith))
+      leaf (Spliced a d way g some target keys) = moved a d (follow (child s.memory) (child s.memory a d) way) g.exchanged some target
+
+  module _ (e : Event) (m : Memory) (stays : (x : ℕ) → (is_private (of s w) x ≡ true → ⊥) → lasting m x ≡ lasting s.memory x) (u z : ℕ) (known : knows (of s u) z ≡ true) (k : ℕ) (onward : Onward (child s.memory) (key s.memory) k z)
+      (W W' : ℕ → Lasting → Type 0) (grows : (y : ℕ) (n : Lasting) → W y n → W' y n) (now : EachNow (child m) (key m) (lasting m) k W') where
+    lasts_on : (q : List Side) → follow (child s.memory) z q ≢ 0 → lasting m (follow (child s.memory) z q) ≡ lasting s.memory (follow (child s.memory) z q)
+    lasts_on q some = stays (follow (child s.memory) z q) (λ own. off_known s h law u z w (follow (child s.memory) z q) known own q refl)
 
     -- what holds of each slot to which a search can go on from a known one, outlasts the event
-    pub each_outlasts : TreeChange s h w e m → EachOnward (child s.memory) (key s.memory) (birth s.memory) k W z → EachOnward (child m) (key m) (birth m) k W' z
+    pub each_outlasts : TreeChange s h w e m → EachOnward (child s.memory) (key s.memory) (lasting s.memory) k W z → EachOnward (child m) (key m) (lasting m) k W' z
     each_outlasts (Kept children keys) each =
-        each_same (child s.memory) (child m) (key s.memory) (key m) (birth s.memory) (birth m) k W W' grows z births_on (fun_ext (λ x. fun_ext (λ d. children x d))) (fun_ext keys) each
+        each_same (child s.memory) (child m) (key s.memory) (key m) (lasting s.memory) (lasting m) k W W' grows z lasts_on (fun_ext (λ x. fun_ext (λ d. children x d))) (fun_ext keys) each
     each_outlasts (Filled x own apart) each =
-        each_apart (child s.memory) (child m) (key s.memory) (key m) (birth s.memory) (birth m) k W W' grows z births_on x apart (off_known s h law u z w x known own) each
+        each_apart (child s.memory) (child m) (key s.memory) (key m) (lasting s.memory) (lasting m) k W W' grows z lasts_on x apart (off_known s h law u z w x known own) each
     each_outlasts (Linked p d leaf new is unmarked l link exchanged keys) each =
         let on : IsOnPath (picture s h) p = live_on_path s.layout.nodes (picture s h) p law.tree link.live link.is_slot link.inside (unmarked_not_queued s.layout.nodes (picture s h) p d leaf law.tree link.unmarked link.leaf_slot) in
-        each_exchanged (child s.memory) (child m) (key s.memory) (key m) (birth s.memory) (birth m) k W W' grows z births_on p d new exchanged (fun_ext keys) on.path on.ends
+        each_exchanged (child s.memory) (child m) (key s.memory) (key m) (lasting s.memory) (lasting m) k W W' grows z lasts_on p d new exchanged (fun_ext keys) on.path on.ends
         (straight_to (child s.memory) (child m) (alone s.layout.nodes (picture s h) law.tree) p d new exchanged on.path on.ends link.is_slot)
         (λ e. link.leaf_slot (sym (ap (λ (y : Edge). y.slot) unmarked) ∙ e)) onward now each
-    each_outlasts (Spliced a d way g some keys) each =
-        each_exchanged (child s.memory) (child m) (key s.memory) (key m) (birth s.memory) (birth m) k W W' grows z births_on a d (follow (child s.memory) (child s.memory a d) way) g.exchanged (fun_ext keys) g.front g.at_front
+    each_outlasts (Spliced a d way g some target keys) each =
+        each_exchanged (child s.memory) (child m) (key s.memory) (key m) (lasting s.memory) (lasting m) k W W' grows z lasts_on a d (follow (child s.memory) (child s.memory a d) way) g.exchanged (fun_ext keys) g.front g.at_front
         (straight (child s.memory) (child m) a d way g) some onward now each
 
   -- ---- a look
 
   -- a search that goes on from slot 2's left edge is the root's
-  first_each : (k : ℕ) → IsKey k → FixedKeys s.memory → (W : ℕ → ℕ → Type 0) → EachNow (child s.memory) (key s.memory) (birth s.memory) k W → EachOnward (child s.memory) (key s.memory) (birth s.memory) k W (child s.memory 2 Left)
+  first_each : (k : ℕ) → IsKey k → FixedKeys s.memory → (W : ℕ → Lasting → Type 0) → EachNow (child s.memory) (key s.memory) (lasting s.memory) k W → EachOnward (child s.memory) (key s.memory) (lasting s.memory) k W (child s.memory 2 Left)
   first_each k small fixed W now q goes some =
       let left : child s.memory 1 Left ≡ 2 = law.tree.root_left in
       let at_root : side_of k (key s.memory 1) ≡ Left = ap (side_of k) fixed.root ∙ left_of k infinity_2 (omega arith) in
       let at_second : side_of k (key s.memory 2) ≡ Left = ap (side_of k) fixed.second ∙ left_of k infinity_1 (omega arith) in
       let path : follow (child s.memory) 1 (Left ∷ Left ∷ q) ≡ follow (child s.memory) (child s.memory 2 Left) q = ap (λ (y : ℕ). follow (child s.memory) (child s.memory y Left) q) left in
       let from_root : GoesBy (child s.memory) (key s.memory) k 1 (Left ∷ Left ∷ q) = (at_root, (ap (λ (y : ℕ). side_of k (key s.memory y)) left ∙ at_second, subst (λ (y : ℕ). GoesBy (child s.memory) (key s.memory) k (child s.memory y Left) q) (sym left) goes)) in
-      subst (λ (y : ℕ). W y (birth s.memory y)) path (now (Left ∷ Left ∷ q) from_root (λ z. some (sym path ∙ z)))
+      subst (λ (y : ℕ). W y (lasting s.memory y)) path (now (Left ∷ Left ∷ q) from_root (λ z. some (sym path ∙ z)))
 
-  look_each : (k : ℕ) (ws : List Arrival) (x : ℕ) (f : Field) → IsKey k → FixedKeys s.memory → WalkLaw (child s.memory) (key s.memory) (knows (of s w)) k ws → (W : ℕ → ℕ → Type 0) → EachNow (child s.memory) (key s.memory) (birth s.memory) k W
-      → ((i : ℕ) (a : Arrival) → slice_get ws i ≡ Some a → EachOnward (child s.memory) (key s.memory) (birth s.memory) k W a.slot)
-      → (i : ℕ) (a : Arrival) → slice_get (walked k ws x f (reply_of s w (Look x f))) i ≡ Some a → EachOnward (child s.memory) (key s.memory) (birth s.memory) k W a.slot
+  pub look_each : (k : ℕ) (ws : List Arrival) (x : ℕ) (f : Field) → IsKey k → FixedKeys s.memory → WalkLaw (child s.memory) (key s.memory) (knows (of s w)) k ws → (W : ℕ → Lasting → Type 0) → EachNow (child s.memory) (key s.memory) (lasting s.memory) k W
+      → ((i : ℕ) (a : Arrival) → slice_get ws i ≡ Some a → EachOnward (child s.memory) (key s.memory) (lasting s.memory) k W a.slot)
+      → (i : ℕ) (a : Arrival) → slice_get (walked k ws x f (reply_of s w (Look x f))) i ≡ Some a → EachOnward (child s.memory) (key s.memory) (lasting s.memory) k W a.slot
   unfolding reply
-  look_each k ws x f small fixed walks W now old = walked_each (EachOnward (child s.memory) (key s.memory) (birth s.memory) k W) k ws x f (reply_of s w (Look x f)) old new
+  look_each k ws x f small fixed walks W now old = walked_each (EachOnward (child s.memory) (key s.memory) (lasting s.memory) k W) k ws x f (reply_of s w (Look x f)) old new
     where
       at_edge : (d : Side) (e : Edge) → EdgeIs (edge s.memory x d) ≡ EdgeIs e → edge s.memory x d ≡ e
       at_edge d e h = cc
@@ -147,10 +191,10 @@ module _ (s : State) (h : ℕ → ℕ) (law : Lawful s h) (w : ℕ) where
       read : (f : Field) (d : Side) (e : Edge) → f ≡ EdgeOn d → reply_of s w (Look x f) ≡ EdgeIs e → child s.memory x d ≡ e.slot
       read f d e is r = ap (λ (y : Edge). y.slot) (at_edge d e (sym (ap (λ (g : Field). reply_of s w (Look x g)) is) ∙ r))
 
-      new : (d : Side) (e : Edge) → f ≡ EdgeOn d → reply_of s w (Look x f) ≡ EdgeIs e → (is_first x d ≡ true) ⊎ (list_any (goes_on k x d) ws ≡ true) → EachOnward (child s.memory) (key s.memory) (birth s.memory) k W e.slot
-      new d e is r from = subst (EachOnward (child s.memory) (key s.memory) (birth s.memory) k W) (read f d e is r) (go from)
+      new : (d : Side) (e : Edge) → f ≡ EdgeOn d → reply_of s w (Look x f) ≡ EdgeIs e → (is_first x d ≡ true) ⊎ (list_any (goes_on k x d) ws ≡ true) → EachOnward (child s.memory) (key s.memory) (lasting s.memory) k W e.slot
+      new d e is r from = subst (EachOnward (child s.memory) (key s.memory) (lasting s.memory) k W) (read f d e is r) (go from)
         where
-          go : (is_first x d ≡ true) ⊎ (list_any (goes_on k x d) ws ≡ true) → EachOnward (child s.memory) (key s.memory) (birth s.memory) k W (child s.memory x d)
+          go : (is_first x d ≡ true) ⊎ (list_any (goes_on k x d) ws ≡ true) → EachOnward (child s.memory) (key s.memory) (lasting s.memory) k W (child s.memory x d)
           go (inl root) =
               let parts = and_parts (x == 2) (is_side d Left) root in
               rw (eqb-true x 2 parts.0, is_side-true d Left parts.1) (first_each k small fixed W now)
@@ -160,46 +204,46 @@ module _ (s : State) (h : ℕ → ℕ) (law : Lawful s h) (w : ℕ) where
               let slot : b.1.slot ≡ x = eqb-true b.1.slot x parts.0 in
               let n = turned k b.1.key d parts.1 in
               let turn : side_of k (key s.memory x) ≡ d = ap (λ (y : ℕ). side_of k (key s.memory y)) (sym slot) ∙ (ap (side_of k) (walks.is_keyed b.0 b.1 n.0 b.2 n.1) ∙ n.2) in
-              λ q goes some. subst (EachOnward (child s.memory) (key s.memory) (birth s.memory) k W) slot (old b.0 b.1 b.2) (d ∷ q) (turn, goes) some
+              λ q goes some. subst (EachOnward (child s.memory) (key s.memory) (lasting s.memory) k W) slot (old b.0 b.1 b.2) (d ∷ q) (turn, goes) some
 
   -- ---- one event
 
-  module _ (ss : List Search) (l : OrderLaw s ss) (e : Event) (ok : Allowed s w e) (W W' : ℕ → Call → ℕ → ℕ → Type 0) where
+  module _ (ss : List Search) (l : OrderLaw s ss) (e : Event) (ok : Allowed s w e) (W W' : ℕ → Call → ℕ → Lasting → Type 0) where
     -- what has been stays, unless the worker's pin is another; and what is now has been
     abbrev pub Stays : Type 0
-    Stays = (u : ℕ) (call : Call) (y n : ℕ) → (u ≡ w → begins_anew (e, reply_of s w e) ≡ false) → W u call y n → W' u call y n
+    Stays = (u : ℕ) (call : Call) (y : ℕ) (n : Lasting) → (u ≡ w → begins_anew (e, reply_of s w e) ≡ false) → W u call y n → W' u call y n
 
     abbrev pub IsSoNow : Type 0
-    IsSoNow = (u : ℕ) (call : Call) → (search_of (learned_from ss w e (reply_of s w e)) u).call ≡ Some call → EachNow (child (write s.memory (of s w) w e)) (key (write s.memory (of s w) w e)) (birth (write s.memory (of s w) w e)) call.key (W' u call)
+    IsSoNow = (u : ℕ) (call : Call) → (search_of (learned_from ss w e (reply_of s w e)) u).call ≡ Some call → EachNow (child (write s.memory (of s w) w e)) (key (write s.memory (of s w) w e)) (lasting (write s.memory (of s w) w e)) call.key (W' u call)
 
     module _ (stays : Stays) (so_now : IsSoNow) (before : MomentLaw s ss W) where
       abbrev m' : Memory
       m' = write s.memory (of s w) w e
 
-      births_stay : (x : ℕ) → (is_private (of s w) x ≡ true → ⊥) → birth (write s.memory (of s w) w e) x ≡ birth s.memory x
-      births_stay x free = (written_same s.memory (of s w) w e x (λ y f v is i. free (rw i (fills_own e ok y f v is)))).birth
+      lasts : (x : ℕ) → (is_private (of s w) x ≡ true → ⊥) → lasting (write s.memory (of s w) w e) x ≡ lasting s.memory x
+      lasts x free = lasting_stays e ok x free
 
       -- of a call that goes on, with the walks that it had
-      still : (u : ℕ) (call : Call) → (search_of ss u).call ≡ Some call → (u ≡ w → begins_anew (e, reply_of s w e) ≡ false) → EachNow (child m') (key m') (birth m') call.key (W' u call)
-          → (i : ℕ) (a : Arrival) → slice_get (search_of ss u).walks i ≡ Some a → EachOnward (child m') (key m') (birth m') call.key (W' u call) a.slot
+      still : (u : ℕ) (call : Call) → (search_of ss u).call ≡ Some call → (u ≡ w → begins_anew (e, reply_of s w e) ≡ false) → EachNow (child m') (key m') (lasting m') call.key (W' u call)
+          → (i : ℕ) (a : Arrival) → slice_get (search_of ss u).walks i ≡ Some a → EachOnward (child m') (key m') (lasting m') call.key (W' u call) a.slot
       still u call is stands now i a at =
           let walks = (call_walks s.memory (knows (of s u)) (search_of ss u).call (search_of ss u).walks call is (l.walks u)).1 in
-          each_outlasts e m' births_stay u a.slot (walks.is_known i a at) call.key (walks.onward i a at) (W u call) (W' u call) (λ y n. stays u call y n stands) now (tree_change s h law w e ok) (before u call is i a at)
+          each_outlasts e m' lasts u a.slot (walks.is_known i a at) call.key (walks.onward i a at) (W u call) (W' u call) (λ y n. stays u call y n stands) now (tree_change s h law w e ok) (before u call is i a at)
 
       other : (u : ℕ) → u ≢ w → (search_of (learned_from ss w e (reply_of s w e)) u ≡ search_of ss u) → (call : Call) → (search_of (learned_from ss w e (reply_of s w e)) u).call ≡ Some call
-          → (i : ℕ) (a : Arrival) → slice_get (search_of (learned_from ss w e (reply_of s w e)) u).walks i ≡ Some a → EachOnward (child m') (key m') (birth m') call.key (W' u call) a.slot
+          → (i : ℕ) (a : Arrival) → slice_get (search_of (learned_from ss w e (reply_of s w e)) u).walks i ≡ Some a → EachOnward (child m') (key m') (lasting m') call.key (W' u call) a.slot
       other u ne same call is i a at =
           still u call (sym (ap (λ (S : Search). S.call) same) ∙ is) (λ z. absurd (ne z)) (so_now u call is) i a (sym (ap (λ (S : Search). slice_get S.walks i) same) ∙ at)
 
       -- of a call whose walks had a look
-      looked : (x : ℕ) (f : Field) → e ≡ Look x f → begins_anew (e, reply_of s w e) ≡ false → (call : Call) → EachNow (child m') (key m') (birth m') call.key (W' w call) → (o : Option Call) → (search_of ss w).call ≡ o
-          → (look_for (search_of ss w) o x f (reply_of s w e)).call ≡ Some call → (i : ℕ) (a : Arrival) → slice_get (look_for (search_of ss w) o x f (reply_of s w e)).walks i ≡ Some a → EachOnward (child m') (key m') (birth m') call.key (W' w call) a.slot
+      looked : (x : ℕ) (f : Field) → e ≡ Look x f → begins_anew (e, reply_of s w e) ≡ false → (call : Call) → EachNow (child m') (key m') (lasting m') call.key (W' w call) → (o : Option Call) → (search_of ss w).call ≡ o
+          → (look_for (search_of ss w) o x f (reply_of s w e)).call ≡ Some call → (i : ℕ) (a : Arrival) → slice_get (look_for (search_of ss w) o x f (reply_of s w e)).walks i ≡ Some a → EachOnward (child m') (key m') (lasting m') call.key (W' w call) a.slot
       unfolding write
       looked x f is stands call now None none here i a at = absurd (none-some call (sym none ∙ here))
       looked x f is stands call now (Some c) some here i a at =
-          subst (λ (n : Memory). EachOnward (child n) (key n) (birth n) call.key (W' w call) a.slot) (sym written)
-          (look_each call.key (search_of ss w).walks x f walks.0 l.fixed walks.1 (W' w call) (subst (λ (n : Memory). EachNow (child n) (key n) (birth n) call.key (W' w call)) written now)
-          (λ j b was q goes there. stays w call (follow (child s.memory) b.slot q) (birth s.memory (follow (child s.memory) b.slot q)) (λ _. stands) (before w call here j b was q goes there))
+          subst (λ (n : Memory). EachOnward (child n) (key n) (lasting n) call.key (W' w call) a.slot) (sym written)
+          (look_each call.key (search_of ss w).walks x f walks.0 l.fixed walks.1 (W' w call) (subst (λ (n : Memory). EachNow (child n) (key n) (lasting n) call.key (W' w call)) written now)
+          (λ j b was q goes there. stays w call (follow (child s.memory) b.slot q) (lasting s.memory (follow (child s.memory) b.slot q)) (λ _. stands) (before w call here j b was q goes there))
           i a (ap (λ (y : Call). slice_get (walked y.key (search_of ss w).walks x f (reply_of s w (Look x f))) i) (sym same) ∙ (ap (λ (r : Reply). slice_get (walked c.key (search_of ss w).walks x f r) i) (sym replied) ∙ at)))
         where
           same : c ≡ call
@@ -215,13 +259,13 @@ module _ (s : State) (h : ℕ → ℕ) (law : Lawful s h) (w : ℕ) where
           replied = ap (reply_of s w) is
 
       own : (search_of (learned_from ss w e (reply_of s w e)) w ≡ searched (search_of ss w) e (reply_of s w e)) → (call : Call) → (search_of (learned_from ss w e (reply_of s w e)) w).call ≡ Some call
-          → (i : ℕ) (a : Arrival) → slice_get (search_of (learned_from ss w e (reply_of s w e)) w).walks i ≡ Some a → EachOnward (child m') (key m') (birth m') call.key (W' w call) a.slot
+          → (i : ℕ) (a : Arrival) → slice_get (search_of (learned_from ss w e (reply_of s w e)) w).walks i ≡ Some a → EachOnward (child m') (key m') (lasting m') call.key (W' w call) a.slot
       own same call is i a at = go (begins_anew (e, reply_of s w e)) refl
         where
           r : Reply
           r = reply_of s w e
 
-          now : EachNow (child (write s.memory (of s w) w e)) (key (write s.memory (of s w) w e)) (birth (write s.memory (of s w) w e)) call.key (W' w call)
+          now : EachNow (child (write s.memory (of s w) w e)) (key (write s.memory (of s w) w e)) (lasting (write s.memory (of s w) w e)) call.key (W' w call)
           now = so_now w call is
 
           is_call : (searched (search_of ss w) e (reply_of s w e)).call ≡ Some call
@@ -233,14 +277,14 @@ module _ (s : State) (h : ℕ → ℕ) (law : Lawful s h) (w : ℕ) where
           no_walk : (searched (search_of ss w) e (reply_of s w e)).walks ≡ [] → ⊥
           no_walk none = none-some a (sym (ap (λ (ws : List Arrival). slice_get ws i) none) ∙ is_at)
 
-          on : begins_anew (e, reply_of s w e) ≡ false → SearchStep (search_of ss w) w (of s w) e (reply_of s w e) → EachOnward (child (write s.memory (of s w) w e)) (key (write s.memory (of s w) w e)) (birth (write s.memory (of s w) w e)) call.key (W' w call) a.slot
+          on : begins_anew (e, reply_of s w e) ≡ false → SearchStep (search_of ss w) w (of s w) e (reply_of s w e) → EachOnward (child (write s.memory (of s w) w e)) (key (write s.memory (of s w) w e)) (lasting (write s.memory (of s w) w e)) call.key (W' w call) a.slot
           on stands (Same calls walks known) = still w call (sym calls ∙ is_call) (λ _. stands) now i a (sym (ap (λ (ws : List Arrival). slice_get ws i) walks) ∙ is_at)
           on stands (Looked x f look becomes known) =
               looked x f look stands call now (search_of ss w).call refl (sym (ap (λ (S : Search). S.call) becomes) ∙ is_call) i a (sym (ap (λ (S : Search). slice_get S.walks i) becomes) ∙ is_at)
           on stands (Begun op n sight begun none) = absurd (no_walk none)
           on stands (Over none) = absurd (none-some call (sym none ∙ is_call))
 
-          go : (b : Bool) → begins_anew (e, reply_of s w e) ≡ b → EachOnward (child (write s.memory (of s w) w e)) (key (write s.memory (of s w) w e)) (birth (write s.memory (of s w) w e)) call.key (W' w call) a.slot
+          go : (b : Bool) → begins_anew (e, reply_of s w e) ≡ b → EachOnward (child (write s.memory (of s w) w e)) (key (write s.memory (of s w) w e)) (lasting (write s.memory (of s w) w e)) call.key (W' w call) a.slot
           go true anew = absurd (no_walk (no_walks_yet (search_of ss w) e (reply_of s w e) anew))
           go false stands = on stands (search_step (search_of ss w) w (of s w) e (reply_of s w e))
 
@@ -253,5 +297,5 @@ module _ (s : State) (h : ℕ → ℕ) (law : Lawful s h) (w : ℕ) where
       ]
         where
           by_own : u ≡ w → (call : Call) → (search_of (learned_from ss w e (reply_of s w e)) u).call ≡ Some call → (i : ℕ) (a : Arrival) → slice_get (search_of (learned_from ss w e (reply_of s w e)) u).walks i ≡ Some a
-              → EachOnward (child (write s.memory (of s w) w e)) (key (write s.memory (of s w) w e)) (birth (write s.memory (of s w) w e)) call.key (W' u call) a.slot
+              → EachOnward (child (write s.memory (of s w) w e)) (key (write s.memory (of s w) w e)) (lasting (write s.memory (of s w) w e)) call.key (W' u call) a.slot
           by_own same = rw same (own (get_or-set_same ss w (searched (search_of ss w) e (reply_of s w e)) idle (let size = l.sized in let lt = ok.worker in omega arith)))

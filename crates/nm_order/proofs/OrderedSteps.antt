@@ -8,40 +8,40 @@ use Rattle.std.proofs.lemmas.List.{length-set}
 use Rattle.nm_edge.specs.Keys.{IsKey}
 use Rattle.nm_edge.specs.declared.edge.Side.{Side}
 use Rattle.nm_edge.specs.declared.edge.Side.TheVariants.{Left}
-use Rattle.nm_core.specs.declared.event.Field.{Field}
-use Rattle.nm_core.specs.declared.event.Field.TheVariants.{Key, Edge as EdgeOn, Birth}
-use Rattle.nm_core.specs.declared.event.Op.{Op}
-use Rattle.nm_core.specs.declared.event.Op.TheVariants.{Has, Insert, Delete}
-use Rattle.nm_core.specs.declared.event.Event.{Event}
-use Rattle.nm_core.specs.declared.event.Event.TheVariants.{Look, Link, Join}
-use Rattle.nm_core.specs.declared.reply.Reply.{Reply}
-use Rattle.nm_core.specs.declared.reply.Refused.TheVariants.{NotOrdered}
-use Rattle.nm_core.specs.declared.knowledge.Seen.{Seen}
-use Rattle.nm_core.specs.declared.walks.Call.{Call}
-use Rattle.nm_core.specs.declared.walks.Arrival.{Arrival}
-use Rattle.nm_core.specs.declared.reply.Reply.TheVariants.{EdgeIs}
-use Rattle.nm_core.specs.Maps.{has, put, is_number}
-use Rattle.nm_core.specs.Memory.{Memory, child, edge}
-use Rattle.nm_core.specs.Knowledge.{knows, is_private, seen_of, draft_of, unread}
-use Rattle.nm_core.specs.Learning.{learn, look_known, look_private, met, with_read, resigned, inheriting}
-use Rattle.nm_core.specs.Step.{reply, write}
-use Rattle.nm_core.specs.Runs.{State, of, reply_of, applied}
-use Rattle.nm_core.specs.Lawful.{EachBirthStands}
-use Rattle.nm_core.specs.Searches.{Search, idle, searched, walked, look_for, is_first, goes_on, turns, is_side}
-use Rattle.nm_core.specs.Ordered.{search_of, learned_from, disorder, inserts, links_in_order, may_link_at, new_leaf}
+use Rattle.nm_model.specs.declared.event.Field.{Field}
+use Rattle.nm_model.specs.declared.event.Field.TheVariants.{Key, Edge as EdgeOn, Birth}
+use Rattle.nm_model.specs.declared.event.Op.{Op}
+use Rattle.nm_model.specs.declared.event.Op.TheVariants.{Has, Insert, Delete}
+use Rattle.nm_model.specs.declared.event.Event.{Event}
+use Rattle.nm_model.specs.declared.event.Event.TheVariants.{Look, Link, Join}
+use Rattle.nm_model.specs.declared.reply.Reply.{Reply}
+use Rattle.nm_model.specs.declared.reply.Refused.TheVariants.{NotOrdered}
+use Rattle.nm_model.specs.declared.knowledge.Seen.{Seen}
+use Rattle.nm_model.specs.declared.walks.Call.{Call}
+use Rattle.nm_model.specs.declared.walks.Arrival.{Arrival}
+use Rattle.nm_model.specs.declared.reply.Reply.TheVariants.{EdgeIs}
+use Rattle.nm_model.specs.Maps.{has, put, is_number}
+use Rattle.nm_model.specs.Memory.{Memory, child, edge}
+use Rattle.nm_model.specs.Knowledge.{knows, is_private, seen_of, draft_of, unread}
+use Rattle.nm_model.specs.Learning.{learn, look_known, look_private, met, with_read, resigned, inheriting}
+use Rattle.nm_model.specs.Step.{reply, write}
+use Rattle.nm_model.specs.Runs.{State, of, reply_of, applied}
+use Rattle.nm_model.specs.Lawful.{EachBirthStands}
+use Rattle.nm_model.specs.Searches.{Search, idle, searched, walked, look_for, is_first, goes_on, turns, is_side}
+use Rattle.nm_model.specs.Ordered.{search_of, learned_from, disorder, inserts, links_in_order, may_link_at, new_leaf}
 use Rattle.nm_order.specs.Intervals.{HasKey, key}
-use Rattle.nm_core.proofs.Lists.{any_at}
-use Rattle.nm_core.proofs.Steps.{Allowed, passed}
-use Rattle.nm_core.proofs.Tables.{has_put_there}
-use Rattle.nm_core.proofs.Epochs.{other_worker}
-use Rattle.nm_core.proofs.Holders.{Joins, joins, by_worker}
-use Rattle.nm_core.proofs.Trees.{Children, Exchanged}
-use Rattle.nm_core.proofs.Links.{IsLink}
-use Rattle.nm_core.proofs.Views.{picture, of_moved, with_worker}
-use Rattle.nm_core.proofs.TreeLink.{Linkable}
-use Rattle.nm_core.proofs.TreeSteps.{Lawful}
-use Rattle.nm_core.proofs.Lawful.{applied_is, JoinOrNot, join_or_not}
-use Rattle.nm_core.proofs.Lawful.JoinOrNot.{IsJoin, IsNone}
+use Rattle.nm_model.proofs.Lists.{any_at}
+use Rattle.nm_laws.proofs.Steps.{Allowed, passed}
+use Rattle.nm_model.proofs.Tables.{has_put_there}
+use Rattle.nm_laws.proofs.Epochs.{other_worker}
+use Rattle.nm_laws.proofs.Holders.{Joins, joins, by_worker}
+use Rattle.nm_laws.proofs.Trees.{Children, Exchanged}
+use Rattle.nm_laws.proofs.Links.{IsLink}
+use Rattle.nm_laws.proofs.Views.{picture, of_moved, with_worker}
+use Rattle.nm_laws.proofs.TreeLink.{Linkable}
+use Rattle.nm_laws.proofs.TreeSteps.{Lawful}
+use Rattle.nm_laws.proofs.Lawful.{applied_is, JoinOrNot, join_or_not}
+use Rattle.nm_laws.proofs.Lawful.JoinOrNot.{IsJoin, IsNone}
 use Rattle.nm_order.proofs.TreeChanges.{tree_change}
 use Rattle.nm_order.proofs.OrderedTrees.{InOrder, Linking}
 use Rattle.nm_order.proofs.SearchSteps.{StillKnown, SearchStep, search_step}

@@ -5,11 +5,11 @@ use Rattle.std.proofs.lemmas.Bool.{eqb-true, and_parts, ne_eqb, and_left}
 use Rattle.nm_edge.specs.Edges.{other}
 use Rattle.nm_edge.specs.declared.edge.Side.{Side}
 use Rattle.nm_edge.specs.declared.edge.Side.TheVariants.{Left, Right}
-use Rattle.nm_core.specs.Paths.{follow}
-use Rattle.nm_core.specs.Searches.{side_of}
+use Rattle.nm_model.specs.Paths.{follow}
+use Rattle.nm_model.specs.Searches.{side_of}
 use Rattle.nm_order.specs.Intervals.{GoesBy}
-use Rattle.nm_core.proofs.Trees.{Children, Exchanged, rest_after, same_side, follow_none, follow-append, follow_leaf, not_taken, taken, Taken, append_cancel}
-use Rattle.nm_core.proofs.CutPaths.{Splicing, not_back, straight, new_down, old_path, led, still_alone}
+use Rattle.nm_laws.proofs.Trees.{Children, Exchanged, rest_after, same_side, follow_none, follow-append, follow_leaf, not_taken, taken, Taken, append_cancel}
+use Rattle.nm_laws.proofs.CutPaths.{Splicing, not_back, straight, new_down, old_path, led, still_alone}
 use Rattle.nm_order.proofs.Searching.{Keys, goes-append, goes_first, goes_on, goes_still, went_still, GoesOver, goes_over, one_leaf, Apart, apart_follow, apart_goes, apart_went}
 
 -- the search for a reached node's key comes to it

@@ -5,18 +5,18 @@ use Rattle.std.specs.Prelude.{filter, Some, None, Ok, All}
 use Rattle.std.specs.List.{list_any}
 use Rattle.std.proofs.lemmas.List.Elements.{filter-append}
 use Rattle.nm_edge.specs.Layouts.{Layout}
-use Rattle.nm_core.specs.declared.event.Op.{Op}
-use Rattle.nm_core.specs.declared.event.Event.{Event}
-use Rattle.nm_core.specs.declared.reply.Reply.{Reply}
-use Rattle.nm_core.specs.declared.walks.Call.{Call}
-use Rattle.nm_core.specs.Knowledge.{Knowledge}
-use Rattle.nm_core.specs.Runs.{of}
-use Rattle.nm_core.specs.Searches.{Search, searched}
-use Rattle.nm_core.specs.Walks.{Entry, log_of, begins_anew, since_pin}
-use Rattle.nm_core.specs.Ordered.{Configuration, disorder, next_in, outcome_in, after_in, trace_in}
+use Rattle.nm_model.specs.declared.event.Op.{Op}
+use Rattle.nm_model.specs.declared.event.Event.{Event}
+use Rattle.nm_model.specs.declared.reply.Reply.{Reply}
+use Rattle.nm_model.specs.declared.walks.Call.{Call}
+use Rattle.nm_model.specs.Knowledge.{Knowledge}
+use Rattle.nm_model.specs.Runs.{of}
+use Rattle.nm_model.specs.Searches.{Search, searched}
+use Rattle.nm_model.specs.Walks.{Entry, log_of, begins_anew, since_pin}
+use Rattle.nm_model.specs.Ordered.{Configuration, disorder, next_in, outcome_in, after_in, trace_in}
 use Rattle.nm_order.specs.Intervals.{HasKey}
 use Rattle.nm_order.specs.Moments.{PinStands}
-use Rattle.nm_core.proofs.SearchesGrow.{only_grow}
+use Rattle.nm_laws.proofs.SearchesGrow.{only_grow}
 use Rattle.nm_order.proofs.OrderedLaws.{IsOrdered, ordered_next}
 use Rattle.nm_order.proofs.RunMoments.{entries, stands_behind}
 use Rattle.nm_order.proofs.OwnTurns.{own_search, OwnTurn, own_turn, call_stays}

@@ -7,32 +7,32 @@ use Rattle.nm_edge.specs.Layouts.{Layout}
 use Rattle.nm_edge.specs.declared.edge.Side.{Side}
 use Rattle.nm_edge.specs.declared.edge.Side.TheVariants.{Left, Right}
 use Rattle.nm_edge.specs.declared.node.NodeId.{NodeId}
-use Rattle.nm_core.specs.declared.event.Op.{Op}
-use Rattle.nm_core.specs.declared.event.Op.TheVariants.{Delete}
-use Rattle.nm_core.specs.declared.event.Event.TheVariants.{Flag}
-use Rattle.nm_core.specs.declared.reply.Reply.{Reply}
-use Rattle.nm_core.specs.declared.reply.Reply.TheVariants.{Flagged, Lost}
-use Rattle.nm_core.specs.declared.reply.Refused.{Refused}
-use Rattle.nm_core.specs.declared.reply.Refused.TheVariants.{NoSlot, NotPinned, NotHeld}
-use Rattle.nm_core.specs.declared.walks.Arrival.{Arrival}
-use Rattle.nm_core.specs.Maps.{is_number, or_else}
-use Rattle.nm_core.specs.Memory.{node, edge, child, is_leaf, named}
-use Rattle.nm_core.specs.Knowledge.{knows, knows_leaf}
-use Rattle.nm_core.specs.Paths.{Reached}
-use Rattle.nm_core.specs.Step.{outside, refusal, reply}
-use Rattle.nm_core.specs.Runs.{State, of, refused, answered}
-use Rattle.nm_core.specs.Searches.{is_by, is_side}
-use Rattle.nm_core.specs.Ordered.{Configuration, ordered, search_of, disorder, disorder_among, disorder_in, may_flag_at, ended_at, refused_in, outcome_in, after_in}
+use Rattle.nm_model.specs.declared.event.Op.{Op}
+use Rattle.nm_model.specs.declared.event.Op.TheVariants.{Delete}
+use Rattle.nm_model.specs.declared.event.Event.TheVariants.{Flag}
+use Rattle.nm_model.specs.declared.reply.Reply.{Reply}
+use Rattle.nm_model.specs.declared.reply.Reply.TheVariants.{Flagged, Lost}
+use Rattle.nm_model.specs.declared.reply.Refused.{Refused}
+use Rattle.nm_model.specs.declared.reply.Refused.TheVariants.{NoSlot, NotPinned, NotHeld}
+use Rattle.nm_model.specs.declared.walks.Arrival.{Arrival}
+use Rattle.nm_model.specs.Maps.{is_number, or_else}
+use Rattle.nm_model.specs.Memory.{node, edge, child, is_leaf, named}
+use Rattle.nm_model.specs.Knowledge.{knows, knows_leaf}
+use Rattle.nm_model.specs.Paths.{Reached}
+use Rattle.nm_model.specs.Step.{outside, refusal, reply}
+use Rattle.nm_model.specs.Runs.{State, of, refused, answered}
+use Rattle.nm_model.specs.Searches.{is_by, is_side}
+use Rattle.nm_model.specs.Ordered.{Configuration, ordered, search_of, disorder, disorder_among, disorder_in, may_flag_at, ended_at, refused_in, outcome_in, after_in}
 use Rattle.nm_order.specs.Intervals.{key, IsCalled, Marks, FlagsMarkLeaves, OfEachOrdered}
-use Rattle.nm_core.proofs.Lists.{any_at}
-use Rattle.nm_core.proofs.Numbers.{number_is}
-use Rattle.nm_core.proofs.Steps.{Allowed, allowed, passed, third}
-use Rattle.nm_core.proofs.Trees.{follow-append}
-use Rattle.nm_core.proofs.Pictures.{IsOnPath}
-use Rattle.nm_core.proofs.Splices.{live_on_path, unmarked_not_queued}
-use Rattle.nm_core.proofs.TreeSlots.{is_to-true, known_live, leaf_known}
-use Rattle.nm_core.proofs.TreeSteps.{Lawful, high_from}
-use Rattle.nm_core.proofs.Views.{picture}
+use Rattle.nm_model.proofs.Lists.{any_at}
+use Rattle.nm_model.proofs.Numbers.{number_is}
+use Rattle.nm_laws.proofs.Steps.{Allowed, allowed, passed, third}
+use Rattle.nm_laws.proofs.Trees.{follow-append}
+use Rattle.nm_laws.proofs.Pictures.{IsOnPath}
+use Rattle.nm_laws.proofs.Splices.{live_on_path, unmarked_not_queued}
+use Rattle.nm_laws.proofs.TreeSlots.{is_to-true, known_live, leaf_known}
+use Rattle.nm_laws.proofs.TreeSteps.{Lawful, high_from}
+use Rattle.nm_laws.proofs.Views.{picture}
 use Rattle.nm_order.proofs.OrderedMoments.{call_walks}
 use Rattle.nm_order.proofs.OrderedLaws.{IsOrdered, neither, each_ordered, law_of_state}
 use Rattle.nm_order.proofs.OwnLinks.{MayFlag, may_flag}

@@ -6,23 +6,23 @@ use Rattle.std.proofs.lemmas.Bool.{and_parts, or_parts, not-false}
 use Rattle.std.proofs.lemmas.Option.{same_Some}
 use Rattle.nm_edge.specs.declared.edge.Side.{Side}
 use Rattle.nm_edge.specs.declared.node.NodeId.{NodeId}
-use Rattle.nm_core.specs.declared.event.Field.{Field}
-use Rattle.nm_core.specs.declared.event.Op.{Op}
-use Rattle.nm_core.specs.declared.event.Op.TheVariants.{Has, Insert, Delete}
-use Rattle.nm_core.specs.declared.event.Event.{Event}
-use Rattle.nm_core.specs.declared.event.Event.TheVariants.{Sight, SightFor, Leave, LeaveWith, Look, Link, Flag, Splice}
-use Rattle.nm_core.specs.declared.reply.Reply.{Reply}
-use Rattle.nm_core.specs.declared.reply.Reply.TheVariants.{Pinned, Departed, Linked, Flagged, Cut}
-use Rattle.nm_core.specs.declared.reply.Refused.TheVariants.{NotOrdered, NoAnswer}
-use Rattle.nm_core.specs.declared.walks.Call.{Call}
-use Rattle.nm_core.specs.Maps.{is_number}
-use Rattle.nm_core.specs.Knowledge.{Knowledge, draft_of}
-use Rattle.nm_core.specs.Searches.{Search, searched, look_for}
-use Rattle.nm_core.specs.Walks.{begins_anew}
-use Rattle.nm_core.specs.Ordered.{disorder, shows, shows_call, inserts, deletes, links_in_order, flags_in_order, may_link_at, may_flag_at, new_leaf, has_removed}
+use Rattle.nm_model.specs.declared.event.Field.{Field}
+use Rattle.nm_model.specs.declared.event.Op.{Op}
+use Rattle.nm_model.specs.declared.event.Op.TheVariants.{Has, Insert, Delete}
+use Rattle.nm_model.specs.declared.event.Event.{Event}
+use Rattle.nm_model.specs.declared.event.Event.TheVariants.{Sight, SightFor, Leave, LeaveWith, Look, Link, Flag, Splice}
+use Rattle.nm_model.specs.declared.reply.Reply.{Reply}
+use Rattle.nm_model.specs.declared.reply.Reply.TheVariants.{Pinned, Departed, Linked, Flagged, Cut}
+use Rattle.nm_model.specs.declared.reply.Refused.TheVariants.{NotOrdered, NoAnswer}
+use Rattle.nm_model.specs.declared.walks.Call.{Call}
+use Rattle.nm_model.specs.Maps.{is_number}
+use Rattle.nm_model.specs.Knowledge.{Knowledge, draft_of}
+use Rattle.nm_model.specs.Searches.{Search, searched, look_for}
+use Rattle.nm_model.specs.Walks.{begins_anew}
+use Rattle.nm_model.specs.Ordered.{disorder, shows, shows_call, inserts, deletes, links_in_order, flags_in_order, may_link_at, may_flag_at, new_leaf, has_removed}
 use Rattle.nm_order.specs.Exchanges.{is_won_link, links_told, flags_told}
 use Rattle.nm_order.specs.WalksToArrivals.{is_won_flag}
-use Rattle.nm_core.proofs.Steps.{passed}
+use Rattle.nm_laws.proofs.Steps.{passed}
 use Rattle.nm_order.proofs.OwnExchanges.{IsOnce}
 
 -- ---- links

@@ -5,18 +5,18 @@ use Rattle.std.specs.List.{list_any}
 use Rattle.std.proofs.lemmas.Bool.{eqb-true, eqb-false, or_parts}
 use Rattle.std.proofs.lemmas.List.Folds.{list_any-append}
 use Rattle.nm_edge.specs.Layouts.{Layout}
-use Rattle.nm_core.specs.declared.event.Event.{Event}
-use Rattle.nm_core.specs.declared.reply.Reply.{Reply}
-use Rattle.nm_core.specs.declared.reply.Refused.{Refused}
-use Rattle.nm_core.specs.Runs.{of, reply_of, refused}
-use Rattle.nm_core.specs.Searches.{Search, idle, searched}
-use Rattle.nm_core.specs.Walks.{log_of, begins_anew}
-use Rattle.nm_core.specs.Ordered.{Configuration, search_of, learned_from, disorder, disorder_among, disorder_in, refused_in, applied_in, next_in, outcome_in, after_in, trace_in}
+use Rattle.nm_model.specs.declared.event.Event.{Event}
+use Rattle.nm_model.specs.declared.reply.Reply.{Reply}
+use Rattle.nm_model.specs.declared.reply.Refused.{Refused}
+use Rattle.nm_model.specs.Runs.{of, reply_of, refused}
+use Rattle.nm_model.specs.Searches.{Search, idle, searched}
+use Rattle.nm_model.specs.Walks.{log_of, begins_anew}
+use Rattle.nm_model.specs.Ordered.{Configuration, search_of, learned_from, disorder, disorder_among, disorder_in, refused_in, applied_in, next_in, outcome_in, after_in, trace_in}
 use Rattle.nm_order.specs.Intervals.{HasKey}
 use Rattle.nm_order.specs.Moments.{PinStands}
-use Rattle.nm_core.proofs.Steps.{Allowed, allowed}
-use Rattle.nm_core.proofs.Configurations.{refused_next, refused_outcome, allowed_next, allowed_outcome}
-use Rattle.nm_core.proofs.SearchesGrow.{only_grow}
+use Rattle.nm_laws.proofs.Steps.{Allowed, allowed}
+use Rattle.nm_laws.proofs.Configurations.{refused_next, refused_outcome, allowed_next, allowed_outcome}
+use Rattle.nm_laws.proofs.SearchesGrow.{only_grow}
 use Rattle.nm_order.proofs.OrderedLaws.{IsOrdered, neither, ordered_next}
 use Rattle.nm_order.proofs.RunMoments.{entries, refused_entries, allowed_entries}
 

@@ -2,29 +2,29 @@
 use Rattle.std.proofs.Common.{◌≡◌, ◌≢◌, ℕ, ◌<◌, inl, inr, eqb, ◌==◌, Bool, true, false, cond, ◌||◌, List, [], ◌∷◌, ◌++◌, length, refl, sym, ap, subst, ◌∙◌, arith, true≢false, Result, Ok, Err}
 use Rattle.std.specs.Prelude.{Option, Some, None}
 use Rattle.std.proofs.lemmas.Bool.{eqb-true, eqb-false, eq-eqb, ne_eqb, cond-true, cond-false, or_cases, or_parts}
-use Rattle.nm_core.specs.declared.event.Event.{Event}
-use Rattle.nm_core.specs.declared.event.Event.TheVariants.{Join}
-use Rattle.nm_core.specs.declared.reply.Reply.{Reply}
-use Rattle.nm_core.specs.declared.reply.Refused.{Refused}
-use Rattle.nm_core.specs.declared.trace.Turn.{Turn}
-use Rattle.nm_core.specs.Knowledge.{Knowledge}
-use Rattle.nm_core.specs.Learning.{learn, resigned, inheriting}
-use Rattle.nm_core.specs.Step.{write}
-use Rattle.nm_core.specs.Runs.{State, of, reply_of, refused, applied}
-use Rattle.nm_core.specs.Searches.{Search, searched}
-use Rattle.nm_core.specs.Walks.{Entry, entry_of, log_of, search_after}
-use Rattle.nm_core.specs.Maps.{or_else}
-use Rattle.nm_core.specs.Ordered.{Configuration, ordered, disorder_in, refused_in, applied_in, next_in, outcome_in, after_in, trace_in}
-use Rattle.nm_core.proofs.Steps.{Allowed, allowed}
-use Rattle.nm_core.proofs.Sizes.{Staffed, staffed_step, staffed_start}
-use Rattle.nm_core.proofs.Epochs.{other_worker}
-use Rattle.nm_core.proofs.Pins.{all_new}
-use Rattle.nm_core.proofs.Holders.{joins}
-use Rattle.nm_core.proofs.Views.{of_moved}
-use Rattle.nm_core.proofs.Lawful.{applied_is, JoinOrNot, join_or_not}
-use Rattle.nm_core.proofs.Lawful.JoinOrNot.{IsJoin, IsNone}
-use Rattle.nm_core.proofs.Learned.{learn_joined}
-use Rattle.nm_core.proofs.Configurations.{refused_next, refused_outcome, allowed_next, allowed_outcome}
+use Rattle.nm_model.specs.declared.event.Event.{Event}
+use Rattle.nm_model.specs.declared.event.Event.TheVariants.{Join}
+use Rattle.nm_model.specs.declared.reply.Reply.{Reply}
+use Rattle.nm_model.specs.declared.reply.Refused.{Refused}
+use Rattle.nm_model.specs.declared.trace.Turn.{Turn}
+use Rattle.nm_model.specs.Knowledge.{Knowledge}
+use Rattle.nm_model.specs.Learning.{learn, resigned, inheriting}
+use Rattle.nm_model.specs.Step.{write}
+use Rattle.nm_model.specs.Runs.{State, of, reply_of, refused, applied}
+use Rattle.nm_model.specs.Searches.{Search, searched}
+use Rattle.nm_model.specs.Walks.{Entry, entry_of, log_of, search_after}
+use Rattle.nm_model.specs.Maps.{or_else}
+use Rattle.nm_model.specs.Ordered.{Configuration, ordered, disorder_in, refused_in, applied_in, next_in, outcome_in, after_in, trace_in}
+use Rattle.nm_laws.proofs.Steps.{Allowed, allowed}
+use Rattle.nm_laws.proofs.Sizes.{Staffed, staffed_step, staffed_start}
+use Rattle.nm_laws.proofs.Epochs.{other_worker}
+use Rattle.nm_laws.proofs.Pins.{all_new}
+use Rattle.nm_laws.proofs.Holders.{joins}
+use Rattle.nm_laws.proofs.Views.{of_moved}
+use Rattle.nm_laws.proofs.Lawful.{applied_is, JoinOrNot, join_or_not}
+use Rattle.nm_laws.proofs.Lawful.JoinOrNot.{IsJoin, IsNone}
+use Rattle.nm_laws.proofs.Learned.{learn_joined}
+use Rattle.nm_laws.proofs.Configurations.{refused_next, refused_outcome, allowed_next, allowed_outcome}
 use Rattle.nm_order.specs.Logs.{is_leaver, takes_part, part_of, known_after, LogsTellWhatIsKnown}
 
 -- ---- one event

@@ -5,22 +5,22 @@ use Rattle.std.proofs.lemmas.Bool.{eq-eqb}
 use Rattle.std.proofs.lemmas.Option.{same_Some}
 use Rattle.nm_edge.specs.Layouts.{Layout}
 use Rattle.nm_edge.specs.declared.node.NodeId.{NodeId}
-use Rattle.nm_core.specs.declared.event.Op.{Op}
-use Rattle.nm_core.specs.declared.event.Op.TheVariants.{Insert, Delete}
-use Rattle.nm_core.specs.declared.event.Event.{Event}
-use Rattle.nm_core.specs.declared.event.Event.TheVariants.{Leave, LeaveWith, Link, Flag}
-use Rattle.nm_core.specs.declared.reply.Reply.{Reply}
-use Rattle.nm_core.specs.declared.reply.Reply.TheVariants.{Departed, Linked, Flagged}
-use Rattle.nm_core.specs.declared.walks.Call.{Call}
-use Rattle.nm_core.specs.Runs.{of}
-use Rattle.nm_core.specs.Searches.{Search, idle}
-use Rattle.nm_core.specs.Walks.{Entry, log_of, since_pin}
-use Rattle.nm_core.specs.Ordered.{Configuration, ordered, search_of, disorder, shows, has_removed, next_in, outcome_in, after_in, trace_in}
+use Rattle.nm_model.specs.declared.event.Op.{Op}
+use Rattle.nm_model.specs.declared.event.Op.TheVariants.{Insert, Delete}
+use Rattle.nm_model.specs.declared.event.Event.{Event}
+use Rattle.nm_model.specs.declared.event.Event.TheVariants.{Leave, LeaveWith, Link, Flag}
+use Rattle.nm_model.specs.declared.reply.Reply.{Reply}
+use Rattle.nm_model.specs.declared.reply.Reply.TheVariants.{Departed, Linked, Flagged}
+use Rattle.nm_model.specs.declared.walks.Call.{Call}
+use Rattle.nm_model.specs.Runs.{of}
+use Rattle.nm_model.specs.Searches.{Search, idle}
+use Rattle.nm_model.specs.Walks.{Entry, log_of, since_pin}
+use Rattle.nm_model.specs.Ordered.{Configuration, ordered, search_of, disorder, shows, has_removed, next_in, outcome_in, after_in, trace_in}
 use Rattle.nm_order.specs.Intervals.{HasKey, IsCalled, Gains, Marks}
 use Rattle.nm_order.specs.Moments.{OfEachOrderedRun, PinStands}
 use Rattle.nm_order.specs.WalksToArrivals.{is_won_flag}
 use Rattle.nm_order.specs.Exchanges.{how_many, is_won_link, links_told, flags_told, MayAnswer, AnswersTellLinks, AnswersTellFlags, SilentLeavesWonNothing, HasInserted, TrueInsertsHaveInserted, HasFlagged, TrueDeletesHaveFlagged}
-use Rattle.nm_core.proofs.Numbers.{repeated}
+use Rattle.nm_model.proofs.Numbers.{repeated}
 use Rattle.nm_order.proofs.OrderedLaws.{IsOrdered, each_ordered, each_link_inserts}
 use Rattle.nm_order.proofs.OwnFlags.{each_flag_marks}
 use Rattle.nm_order.proofs.RunMoments.{allowed_entries}
@@ -39,7 +39,7 @@ unfolding after_in
 at_opening L enough = each_ordered L enough [] (λ i d below. absurd (omega (arith, below)))
 
 -- the keys of a first part of a run
-first_keys : (before since : List (ℕ × Event)) → All (λ t. HasKey t.1) (before ++ since) → All (λ t. HasKey t.1) before
+pub first_keys : (before since : List (ℕ × Event)) → All (λ t. HasKey t.1) (before ++ since) → All (λ t. HasKey t.1) before
 first_keys [] since keys i d below = absurd (omega (arith, below))
 first_keys (t ∷ ts) since keys zero d below = keys 0 d (omega arith)
 first_keys (t ∷ ts) since keys (suc i) d below = first_keys ts since (λ j e less. keys (suc j) e (omega arith)) i d (omega arith)
@@ -80,10 +80,10 @@ module _ (L : Layout) (enough : 5 ≤ L.nodes) where
     })
 
     module _ (op : Op) (k : ℕ) (answer : Bool) (may : MayAnswer (after_in (ordered L) turns) w op k answer) where
-      is_call : (own_search (after_in (ordered L) turns) w).call ≡ Some (record { op = op; key = k })
+      pub is_call : (own_search (after_in (ordered L) turns) w).call ≡ Some (record { op = op; key = k })
       is_call = is_own_call (after_in (ordered L) turns) w op k may.called
 
-      shown : shows (own_search (after_in (ordered L) turns) w) op k answer ≡ true
+      pub shown : shows (own_search (after_in (ordered L) turns) w) op k answer ≡ true
       shown = answer_shown (of (after_in (ordered L) turns).state w) (own_search (after_in (ordered L) turns) w) answer (record { op = op; key = k }) is_call (order_of (after_in (ordered L) turns) end w (LeaveWith answer) Departed may.leaves)
 
       links_are : how_many is_won_link w (trace_in (ordered L) turns) ≡ links_told op answer
@@ -99,7 +99,7 @@ module _ (L : Layout) (enough : 5 ≤ L.nodes) where
 
     -- ---- the moment of an insert
 
-    linked_at : (k : ℕ) → IsCalled (after_in (ordered L) turns) w Insert k → (own_search (after_in (ordered L) turns) w).linked ≡ true → HasInserted L turns w k
+    pub linked_at : (k : ℕ) → IsCalled (after_in (ordered L) turns) w Insert k → (own_search (after_in (ordered L) turns) w).linked ≡ true → HasInserted L turns w k
     linked_at k called has = go (won_in is_won_link has_linked Insert links_once L enough w turns keys (ordered L) (at_opening L enough) has)
       where
         made : (at : WonAt is_won_link has_linked Insert links_once L enough w (ordered L) turns) → IsLinkEntry at.turn.1 at.reply → HasInserted L turns w k

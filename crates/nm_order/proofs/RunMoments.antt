@@ -6,25 +6,25 @@ use Rattle.std.proofs.lemmas.Bool.{eqb-true}
 use Rattle.std.proofs.lemmas.Option.{none-some, same_Some}
 use Rattle.std.proofs.lemmas.List.Folds.{list_any-append}
 use Rattle.nm_edge.specs.Layouts.{Layout}
-use Rattle.nm_core.specs.declared.event.Event.{Event}
-use Rattle.nm_core.specs.declared.reply.Reply.{Reply}
-use Rattle.nm_core.specs.declared.reply.Refused.{Refused}
-use Rattle.nm_core.specs.declared.walks.Call.{Call}
-use Rattle.nm_core.specs.Memory.{node, child}
-use Rattle.nm_core.specs.Paths.{follow, Reached}
-use Rattle.nm_core.specs.Step.{write}
-use Rattle.nm_core.specs.Runs.{of, reply_of, applied, refused}
-use Rattle.nm_core.specs.Searches.{Search, idle}
-use Rattle.nm_core.specs.Walks.{Entry, entry_of, log_of, begins_anew}
-use Rattle.nm_core.specs.Ordered.{Configuration, ordered, search_of, learned_from, disorder_in, refused_in, applied_in, next_in, outcome_in, after_in, trace_in}
+use Rattle.nm_model.specs.declared.event.Event.{Event}
+use Rattle.nm_model.specs.declared.reply.Reply.{Reply}
+use Rattle.nm_model.specs.declared.reply.Refused.{Refused}
+use Rattle.nm_model.specs.declared.walks.Call.{Call}
+use Rattle.nm_model.specs.Memory.{child}
+use Rattle.nm_model.specs.Paths.{follow, Reached}
+use Rattle.nm_model.specs.Step.{write}
+use Rattle.nm_model.specs.Runs.{of, reply_of, applied, refused}
+use Rattle.nm_model.specs.Searches.{Search, idle}
+use Rattle.nm_model.specs.Walks.{Entry, entry_of, log_of, begins_anew}
+use Rattle.nm_model.specs.Ordered.{Configuration, ordered, search_of, learned_from, disorder_in, refused_in, applied_in, next_in, outcome_in, after_in, trace_in}
 use Rattle.nm_order.specs.Intervals.{HasKey, IsCalled, InInterval, key}
 use Rattle.nm_order.specs.Moments.{OfEachOrderedRun, PinStands, WasReached, WalksWereReached}
-use Rattle.nm_core.proofs.Numbers.{repeated}
-use Rattle.nm_core.proofs.Steps.{allowed}
-use Rattle.nm_core.proofs.Configurations.{refused_next, refused_outcome, allowed_next, allowed_outcome}
-use Rattle.nm_order.proofs.OrderedMoments.{birth, MomentLaw, moment_step}
+use Rattle.nm_model.proofs.Numbers.{repeated}
+use Rattle.nm_laws.proofs.Steps.{allowed}
+use Rattle.nm_laws.proofs.Configurations.{refused_next, refused_outcome, allowed_next, allowed_outcome}
+use Rattle.nm_order.proofs.OrderedMoments.{Lasting, lasting, MomentLaw, moment_step}
 use Rattle.nm_order.proofs.OnwardSlots.{EachNow}
-use Rattle.nm_core.proofs.TreeSteps.{Lawful}
+use Rattle.nm_laws.proofs.TreeSteps.{Lawful}
 use Rattle.nm_order.proofs.OrderedLaws.{IsOrdered, neither, ordered_next, each_ordered, law_of_state, walk_law}
 
 -- ---- turns and logs
@@ -50,15 +50,15 @@ allowed_entries u c t r is = ap (λ (o : Result Reply Refused). cond (t.0 == u) 
 
 -- ---- moments
 
--- the slot is reached, and in the interval, with that birth, in a configuration under that call
-record IsAt (c : Configuration) (u : ℕ) (call : Call) (x n : ℕ) : Type 0 where
+-- the slot is reached, and in the interval, and this lasts of it, in a configuration under that call
+record IsAt (c : Configuration) (u : ℕ) (call : Call) (x : ℕ) (n : Lasting) : Type 0 where
   called : IsCalled c u call.op call.key
   reached : Reached c.state.memory x
   lies : InInterval c.state.memory call.key x
-  is_birth : (node c.state.memory x).birth ≡ n
+  lasts : lasting c.state.memory x ≡ n
 
 -- it was so at a moment of a run, and the pin stands since
-record WasAt (c : Configuration) (turns : List (ℕ × Event)) (u : ℕ) (call : Call) (x n : ℕ) : Type 0 where
+record WasAt (c : Configuration) (turns : List (ℕ × Event)) (u : ℕ) (call : Call) (x : ℕ) (n : Lasting) : Type 0 where
   before : List (ℕ × Event)
   since : List (ℕ × Event)
   is_run : turns ≡ before ++ since
@@ -66,27 +66,27 @@ record WasAt (c : Configuration) (turns : List (ℕ × Event)) (u : ℕ) (call :
   stands : PinStands u (trace_in (after_in c before) since)
 
 -- it was so before the run, and the pin stands since, or in it
-abbrev Past : Configuration → List (ℕ × Event) → (ℕ → Call → ℕ → ℕ → Type 0) → ℕ → Call → ℕ → ℕ → Type 0
+abbrev Past : Configuration → List (ℕ × Event) → (ℕ → Call → ℕ → Lasting → Type 0) → ℕ → Call → ℕ → Lasting → Type 0
 Past c turns W u call x n = (W u call x n × PinStands u (trace_in c turns)) ⊎ WasAt c turns u call x n
 
 -- the same for one turn
-abbrev OneTurn : Configuration → ℕ × Event → (ℕ → Call → ℕ → ℕ → Type 0) → ℕ → Call → ℕ → ℕ → Type 0
+abbrev OneTurn : Configuration → ℕ × Event → (ℕ → Call → ℕ → Lasting → Type 0) → ℕ → Call → ℕ → Lasting → Type 0
 OneTurn c t W u call x n = (W u call x n × (list_any begins_anew (entries u c t) ≡ false)) ⊎ IsAt (next_in c t) u call x n
 
-abbrev Moments : Configuration → (ℕ → Call → ℕ → ℕ → Type 0) → Type 0
+abbrev Moments : Configuration → (ℕ → Call → ℕ → Lasting → Type 0) → Type 0
 Moments c W = (ss : List Search) → c.searches ≡ Some ss → MomentLaw c.state ss W
 
-weaker : (c : Configuration) (W V : ℕ → Call → ℕ → ℕ → Type 0) → ((u : ℕ) (call : Call) (x n : ℕ) → W u call x n → V u call x n) → Moments c W → Moments c V
+weaker : (c : Configuration) (W V : ℕ → Call → ℕ → Lasting → Type 0) → ((u : ℕ) (call : Call) (x : ℕ) (n : Lasting) → W u call x n → V u call x n) → Moments c W → Moments c V
 weaker c W V more law ss are u call is i a at q goes some = more u call _ _ (law ss are u call is i a at q goes some)
 
-behind : (c : Configuration) (t : ℕ × Event) (ts : List (ℕ × Event)) (W : ℕ → Call → ℕ → ℕ → Type 0) (u : ℕ) (call : Call) (x n : ℕ) → Past (next_in c t) ts (OneTurn c t W) u call x n → Past c (t ∷ ts) W u call x n
+behind : (c : Configuration) (t : ℕ × Event) (ts : List (ℕ × Event)) (W : ℕ → Call → ℕ → Lasting → Type 0) (u : ℕ) (call : Call) (x : ℕ) (n : Lasting) → Past (next_in c t) ts (OneTurn c t W) u call x n → Past c (t ∷ ts) W u call x n
 unfolding after_in
 behind c t ts W u call x n (inl (inl was, stands)) = inl (was.0, stands_behind u c t ts was.1 stands)
 behind c t ts W u call x n (inl (inr now, stands)) = inr (record { before = t ∷ []; since = ts; is_run = refl; was = now; stands = stands })
 behind c t ts W u call x n (inr was) = inr (record { before = t ∷ was.before; since = was.since; is_run = ap (λ (l : List (ℕ × Event)). t ∷ l) was.is_run; was = was.was; stands = was.stands })
 
 module _ (L : Layout) (enough : 5 ≤ L.nodes) where
-  turn_moments : (c : Configuration) (t : ℕ × Event) → IsOrdered L c → (W : ℕ → Call → ℕ → ℕ → Type 0) → Moments c W → Moments (next_in c t) (OneTurn c t W)
+  turn_moments : (c : Configuration) (t : ℕ × Event) → IsOrdered L c → (W : ℕ → Call → ℕ → Lasting → Type 0) → Moments c W → Moments (next_in c t) (OneTurn c t W)
   unfolding refused_in applied_in applied
   turn_moments c t o W law = go (refused_in c t.0 t.1) refl
     where
@@ -109,7 +109,7 @@ module _ (L : Layout) (enough : 5 ≤ L.nodes) where
           learned : (applied_in c t.0 t.1).searches ≡ Some (learned_from o.searches t.0 t.1 (reply_of c.state t.0 t.1))
           learned = ap (option_map (λ ss. learned_from ss t.0 t.1 (reply_of c.state t.0 t.1))) o.are
 
-          stays : (u : ℕ) (call : Call) (y n : ℕ) → (u ≡ t.0 → begins_anew (t.1, reply_of c.state t.0 t.1) ≡ false) → W u call y n → OneTurn c t W u call y n
+          stays : (u : ℕ) (call : Call) (y : ℕ) (n : Lasting) → (u ≡ t.0 → begins_anew (t.1, reply_of c.state t.0 t.1) ≡ false) → W u call y n → OneTurn c t W u call y n
           stays u call y n stands was = inl (was, ap (list_any begins_anew) (allowed_entries u c t (reply_of c.state t.0 t.1) (allowed_outcome c t why)) ∙ by (t.0 == u) refl)
             where
               by : (b : Bool) → (t.0 == u) ≡ b → list_any begins_anew (cond b ((t.1, reply_of c.state t.0 t.1) ∷ []) []) ≡ false
@@ -117,21 +117,21 @@ module _ (L : Layout) (enough : 5 ≤ L.nodes) where
               by false here = refl
 
           so_now : (u : ℕ) (call : Call) → (search_of (learned_from o.searches t.0 t.1 (reply_of c.state t.0 t.1)) u).call ≡ Some call
-              → EachNow (child (write c.state.memory (of c.state t.0) t.0 t.1)) (key (write c.state.memory (of c.state t.0) t.0 t.1)) (birth (write c.state.memory (of c.state t.0) t.0 t.1)) call.key (OneTurn c t W u call)
+              → EachNow (child (write c.state.memory (of c.state t.0) t.0 t.1)) (key (write c.state.memory (of c.state t.0) t.0 t.1)) (lasting (write c.state.memory (of c.state t.0) t.0 t.1)) call.key (OneTurn c t W u call)
           so_now u call is q goes some =
               let end : ℕ = follow (child (write c.state.memory (of c.state t.0) t.0 t.1)) 1 q in
-              inr (subst (λ (d : Configuration). IsAt d u call end (birth (write c.state.memory (of c.state t.0) t.0 t.1) end)) (sym (allowed_next c t why)) (record {
+              inr (subst (λ (d : Configuration). IsAt d u call end (lasting (write c.state.memory (of c.state t.0) t.0 t.1) end)) (sym (allowed_next c t why)) (record {
                 called = record { searches = learned_from o.searches t.0 t.1 (reply_of c.state t.0 t.1); are = learned; is_call = is };
                 reached = record { path = q; ends = refl; is_slot = some };
                 lies = record { path = q; ends = refl; goes = goes };
-                is_birth = refl;
+                lasts = refl;
               }))
 
       go : (x : Option Refused) → refused_in c t.0 t.1 ≡ x → Moments (next_in c t) (OneTurn c t W)
       go (Some x) why = subst (λ (d : Configuration). Moments d (OneTurn c t W)) (sym (refused_next c t x why)) (weaker c W (OneTurn c t W) (λ u call y n was. inl (was, none x why u)) law)
       go None why = subst (λ (d : Configuration). Moments d (OneTurn c t W)) (sym (allowed_next c t why)) (at_allowed why)
 
-  moments_after : (turns : List (ℕ × Event)) → All (λ t. HasKey t.1) turns → (c : Configuration) → IsOrdered L c → (W : ℕ → Call → ℕ → ℕ → Type 0) → Moments c W → Moments (after_in c turns) (Past c turns W)
+  moments_after : (turns : List (ℕ × Event)) → All (λ t. HasKey t.1) turns → (c : Configuration) → IsOrdered L c → (W : ℕ → Call → ℕ → Lasting → Type 0) → Moments c W → Moments (after_in c turns) (Past c turns W)
   unfolding after_in trace_in
   moments_after [] keys c o W law = weaker c W (Past c [] W) (λ u call x n was. inl (was, refl)) law
   moments_after (t ∷ ts) keys c o W law =
@@ -165,7 +165,7 @@ each_walk_was_reached L enough turns keys u op k a called come = by (moments_aft
     some z = let known = (walk_law L enough (after_in (ordered L) turns) end u k a come).is_known come.index a come.is in
         let r = (law_of_state L enough (after_in (ordered L) turns) end).1.tree.known u a.slot known in absurd (omega arith)
 
-    by : Past (ordered L) turns (λ u call x n. ⊥) u (record { op = op; key = k }) a.slot (birth (after_in (ordered L) turns).state.memory a.slot) → WasReached (ordered L) turns u op k a.slot
+    by : Past (ordered L) turns (λ u call x n. ⊥) u (record { op = op; key = k }) a.slot (lasting (after_in (ordered L) turns).state.memory a.slot) → WasReached (ordered L) turns u op k a.slot
     by (inl none) = absurd none.0
     by (inr was) = record {
       before = was.before;
@@ -175,5 +175,7 @@ each_walk_was_reached L enough turns keys u op k a called come = by (moments_aft
       stands = was.stands;
       reached = was.was.reached;
       lies = was.was.lies;
-      same_birth = was.was.is_birth;
+      same_birth = ap (λ (n : Lasting). n.birth) was.was.lasts;
+      same_key = ap (λ (n : Lasting). n.key) was.was.lasts;
+      same_kind = ap (λ (n : Lasting). n.leaf) was.was.lasts;
     }

@@ -2,20 +2,20 @@
 use Rattle.std.proofs.Common.{◌≡◌, ℕ, suc, ◌≤◌, cond, List, [], ◌∷◌, ◌++◌, refl, sym, ap, subst, ◌∙◌, arith}
 use Rattle.std.specs.Prelude.{Option, Some, None, Result, Ok, Err, slice_get, unwrap_or, All}
 use Rattle.nm_edge.specs.Layouts.{Layout}
-use Rattle.nm_core.specs.declared.event.Event.{Event}
-use Rattle.nm_core.specs.declared.reply.Reply.{Reply}
-use Rattle.nm_core.specs.declared.reply.Reply.TheVariants.{KeyIs}
-use Rattle.nm_core.specs.declared.reply.Refused.{Refused}
-use Rattle.nm_core.specs.declared.walks.Call.{Call}
-use Rattle.nm_core.specs.Knowledge.{knows}
-use Rattle.nm_core.specs.Step.{reply}
-use Rattle.nm_core.specs.Runs.{of, reply_of}
-use Rattle.nm_core.specs.Searches.{Search}
-use Rattle.nm_core.specs.Walks.{Entry, log_of, begins_anew, since_pin}
-use Rattle.nm_core.specs.Ordered.{Configuration, ordered, search_of, refused_in, next_in, outcome_in, after_in, trace_in}
+use Rattle.nm_model.specs.declared.event.Event.{Event}
+use Rattle.nm_model.specs.declared.reply.Reply.{Reply}
+use Rattle.nm_model.specs.declared.reply.Reply.TheVariants.{KeyIs}
+use Rattle.nm_model.specs.declared.reply.Refused.{Refused}
+use Rattle.nm_model.specs.declared.walks.Call.{Call}
+use Rattle.nm_model.specs.Knowledge.{knows}
+use Rattle.nm_model.specs.Step.{reply}
+use Rattle.nm_model.specs.Runs.{of, reply_of}
+use Rattle.nm_model.specs.Searches.{Search}
+use Rattle.nm_model.specs.Walks.{Entry, log_of, begins_anew, since_pin}
+use Rattle.nm_model.specs.Ordered.{Configuration, ordered, search_of, refused_in, next_in, outcome_in, after_in, trace_in}
 use Rattle.nm_order.specs.Intervals.{HasKey, key}
 use Rattle.nm_order.specs.Moments.{OfEachOrderedRun, WasReached, LoggedWalksWereReached}
-use Rattle.nm_core.proofs.Configurations.{refused_outcome, allowed_outcome}
+use Rattle.nm_laws.proofs.Configurations.{refused_outcome, allowed_outcome}
 use Rattle.nm_order.proofs.OrderedMoments.{call_walks}
 use Rattle.nm_order.proofs.OrderedLaws.{IsOrdered, ordered_next}
 use Rattle.nm_order.proofs.RunMoments.{entries, each_walk_was_reached}
@@ -25,7 +25,7 @@ use Rattle.nm_order.proofs.RunExchanges.{at_opening, is_own_call}
 use Rattle.nm_order.proofs.LoggedWalks.{Arrives, CoversCall, SameKeys, nothing_logged, covers_step}
 
 -- an event that is allowed is answered by its reply
-reply_is : (c : Configuration) (t : ℕ × Event) (r : Reply) → outcome_in c t ≡ Ok r → reply_of c.state t.0 t.1 ≡ r
+pub reply_is : (c : Configuration) (t : ℕ × Event) (r : Reply) → outcome_in c t ≡ Ok r → reply_of c.state t.0 t.1 ≡ r
 reply_is c t r is = go (refused_in c t.0 t.1) refl
   where
     differ : (x : Refused) → ◌≡◌ {A = Result Reply Refused} (Err x) (Ok r) → ⊥

@@ -4,18 +4,18 @@ use Rattle.std.specs.Prelude.{Some, None}
 use Rattle.std.proofs.lemmas.Bool.{cond_both}
 use Rattle.nm_edge.specs.Edges.{Edge, tagged}
 use Rattle.nm_edge.specs.declared.edge.Side.{Side}
-use Rattle.nm_core.specs.declared.event.Field.{Field}
-use Rattle.nm_core.specs.declared.event.Field.TheVariants.{Edge as EdgeOn, Birth}
-use Rattle.nm_core.specs.declared.event.Op.{Op}
-use Rattle.nm_core.specs.declared.event.Event.{Event}
-use Rattle.nm_core.specs.declared.event.Event.TheVariants.{Sight, SightFor, Announce, Leave, LeaveWith, Scan, Advance, Claim, Give, Look, Fill, Link, Flag, Tag, Splice, Join}
-use Rattle.nm_core.specs.declared.reply.Reply.{Reply}
-use Rattle.nm_core.specs.declared.reply.Reply.TheVariants.{Saw, Labelled, Pinned, Missed, Announced, Departed, Idle, In, Moved, Behind, Claimed, Returned, Freed, EdgeIs, BirthIs, Filled, Linked, Flagged, Was, Cut, Lost, Joined}
-use Rattle.nm_core.specs.Knowledge.{Knowledge, knows, is_private, seen_of}
-use Rattle.nm_core.specs.Learning.{learn, learn_scan, look_known, look_private, read_edge, flag_to, with_read, met, resigned, inheriting}
-use Rattle.nm_core.specs.Searches.{Search, searched, look_for}
-use Rattle.nm_core.proofs.Tables.{has_put_there}
-use Rattle.nm_core.proofs.Views.{has_met_there}
+use Rattle.nm_model.specs.declared.event.Field.{Field}
+use Rattle.nm_model.specs.declared.event.Field.TheVariants.{Edge as EdgeOn, Birth}
+use Rattle.nm_model.specs.declared.event.Op.{Op}
+use Rattle.nm_model.specs.declared.event.Event.{Event}
+use Rattle.nm_model.specs.declared.event.Event.TheVariants.{Sight, SightFor, Announce, Leave, LeaveWith, Scan, Advance, Claim, Give, Look, Fill, Link, Flag, Tag, Splice, Join}
+use Rattle.nm_model.specs.declared.reply.Reply.{Reply}
+use Rattle.nm_model.specs.declared.reply.Reply.TheVariants.{Saw, Labelled, Pinned, Missed, Announced, Departed, Idle, In, Moved, Behind, Claimed, Returned, Freed, EdgeIs, BirthIs, Filled, Linked, Flagged, Was, Cut, Lost, Joined}
+use Rattle.nm_model.specs.Knowledge.{Knowledge, knows, is_private, seen_of}
+use Rattle.nm_model.specs.Learning.{learn, learn_scan, look_known, look_private, read_edge, flag_to, with_read, met, resigned, inheriting}
+use Rattle.nm_model.specs.Searches.{Search, searched, look_for}
+use Rattle.nm_model.proofs.Tables.{has_put_there}
+use Rattle.nm_laws.proofs.Views.{has_met_there}
 
 -- what was known is known
 abbrev pub StillKnown : Knowledge → Knowledge → Type 0

@@ -7,19 +7,19 @@ use Rattle.std.proofs.lemmas.List.{append-nil}
 use Rattle.std.proofs.lemmas.List.Folds.{list_any-append}
 use Rattle.std.proofs.lemmas.Option.{none-some, same_Some}
 use Rattle.nm_edge.specs.declared.node.NodeId.{NodeId}
-use Rattle.nm_core.specs.declared.event.Op.TheVariants.{Has}
-use Rattle.nm_core.specs.declared.event.Event.{Event}
-use Rattle.nm_core.specs.declared.event.Event.TheVariants.{Sight, SightFor, Leave, LeaveWith, Look, Link, Flag, Splice}
-use Rattle.nm_core.specs.declared.event.Field.{Field}
-use Rattle.nm_core.specs.declared.reply.Reply.{Reply}
-use Rattle.nm_core.specs.declared.reply.Reply.TheVariants.{Pinned, Departed, Linked, Flagged, Cut}
-use Rattle.nm_core.specs.declared.walks.Call.{Call}
-use Rattle.nm_core.specs.declared.walks.Arrival.{Arrival}
-use Rattle.nm_core.specs.Searches.{Search, idle, walked, later_walked, look_for, searched}
-use Rattle.nm_core.specs.Walks.{Entry, IsPart, IsOfWalk, search_after, begins_anew, since_pin}
-use Rattle.nm_core.specs.Walks.IsPart.{nothing, skips}
-use Rattle.nm_core.proofs.SearchesGrow.{only_grow}
-use Rattle.nm_core.proofs.WalksOfLogs.{arrivals_are_walks}
+use Rattle.nm_model.specs.declared.event.Op.TheVariants.{Has}
+use Rattle.nm_model.specs.declared.event.Event.{Event}
+use Rattle.nm_model.specs.declared.event.Event.TheVariants.{Sight, SightFor, Leave, LeaveWith, Look, Link, Flag, Splice}
+use Rattle.nm_model.specs.declared.event.Field.{Field}
+use Rattle.nm_model.specs.declared.reply.Reply.{Reply}
+use Rattle.nm_model.specs.declared.reply.Reply.TheVariants.{Pinned, Departed, Linked, Flagged, Cut}
+use Rattle.nm_model.specs.declared.walks.Call.{Call}
+use Rattle.nm_model.specs.declared.walks.Arrival.{Arrival}
+use Rattle.nm_model.specs.Searches.{Search, idle, walked, later_walked, look_for, searched}
+use Rattle.nm_model.specs.Walks.{Entry, IsPart, IsOfWalk, search_after, begins_anew, since_pin}
+use Rattle.nm_model.specs.Walks.IsPart.{nothing, skips}
+use Rattle.nm_laws.proofs.SearchesGrow.{only_grow}
+use Rattle.nm_laws.proofs.WalksOfLogs.{arrivals_are_walks}
 use Rattle.nm_order.specs.WalksToArrivals.{is_won_flag, since_flag}
 use Rattle.nm_order.proofs.LogParts.{part_itself}
 use Rattle.nm_order.proofs.ArrivalsOfLooks.{walked_by}

@@ -4,10 +4,10 @@ use Rattle.std.specs.Prelude.{Some, None}
 use Rattle.std.proofs.lemmas.Bool.{eqb-true, and_parts}
 use Rattle.std.proofs.lemmas.Option.{none-some, same_Some}
 use Rattle.nm_edge.specs.declared.edge.Side.{Side}
-use Rattle.nm_core.specs.Paths.{follow}
-use Rattle.nm_core.specs.Searches.{side_of}
+use Rattle.nm_model.specs.Paths.{follow}
+use Rattle.nm_model.specs.Searches.{side_of}
 use Rattle.nm_order.specs.Intervals.{GoesBy}
-use Rattle.nm_core.proofs.Trees.{Children, Exchanged, rest_after, same_side, same_side-true, follow_none}
+use Rattle.nm_laws.proofs.Trees.{Children, Exchanged, rest_after, same_side, same_side-true, follow_none}
 
 abbrev pub Keys : Type 0
 Keys = ℕ → ℕ

@@ -6,24 +6,24 @@ use Rattle.nm_edge.specs.Edges.{Edge}
 use Rattle.nm_edge.specs.Layouts.{Layout}
 use Rattle.nm_edge.specs.declared.edge.Side.{Side}
 use Rattle.nm_edge.specs.declared.edge.Side.TheVariants.{Left, Right}
-use Rattle.nm_core.specs.declared.event.Field.{Field}
-use Rattle.nm_core.specs.declared.event.Event.{Event}
-use Rattle.nm_core.specs.declared.event.Event.TheVariants.{Fill}
-use Rattle.nm_core.specs.declared.reply.Refused.TheVariants.{NoSlot}
-use Rattle.nm_core.specs.Memory.{node, edge, child, infinity_0, infinity_1, infinity_2}
-use Rattle.nm_core.specs.Knowledge.{knows}
-use Rattle.nm_core.specs.Paths.{follow}
-use Rattle.nm_core.specs.Searches.{side_of}
-use Rattle.nm_core.specs.Step.{outside, is_edge, refusal}
-use Rattle.nm_core.specs.Runs.{State, of, start, refusal_of, applied}
-use Rattle.nm_core.specs.Ordered.{Configuration}
-use Rattle.nm_core.proofs.Steps.{Allowed, passed, by_steps}
-use Rattle.nm_core.proofs.TreeSteps.{Lawful, high_from}
-use Rattle.nm_core.proofs.Trees.{follow_none}
-use Rattle.nm_core.proofs.Pictures.{Spot, Stands, Once, IsLive}
-use Rattle.nm_core.proofs.Pictures.Spot.{InPool, PrivateTo, OnPath, InQueue}
-use Rattle.nm_core.proofs.Views.{picture}
-use Rattle.nm_core.proofs.KnownBirths.{written_same}
+use Rattle.nm_model.specs.declared.event.Field.{Field}
+use Rattle.nm_model.specs.declared.event.Event.{Event}
+use Rattle.nm_model.specs.declared.event.Event.TheVariants.{Fill}
+use Rattle.nm_model.specs.declared.reply.Refused.TheVariants.{NoSlot}
+use Rattle.nm_model.specs.Memory.{node, edge, child, infinity_0, infinity_1, infinity_2}
+use Rattle.nm_model.specs.Knowledge.{knows}
+use Rattle.nm_model.specs.Paths.{follow}
+use Rattle.nm_model.specs.Searches.{side_of}
+use Rattle.nm_model.specs.Step.{outside, is_edge, refusal}
+use Rattle.nm_model.specs.Runs.{State, of, start, refusal_of, applied}
+use Rattle.nm_model.specs.Ordered.{Configuration}
+use Rattle.nm_laws.proofs.Steps.{Allowed, passed, by_steps}
+use Rattle.nm_laws.proofs.TreeSteps.{Lawful, high_from}
+use Rattle.nm_laws.proofs.Trees.{follow_none}
+use Rattle.nm_laws.proofs.Pictures.{Spot, Stands, Once, IsLive}
+use Rattle.nm_laws.proofs.Pictures.Spot.{InPool, PrivateTo, OnPath, InQueue}
+use Rattle.nm_laws.proofs.Views.{picture}
+use Rattle.nm_laws.proofs.KnownBirths.{written_same}
 use Rattle.nm_order.specs.Intervals.{GoesBy, key}
 use Rattle.nm_order.proofs.OrderedLaws.{IsOrdered, law_of_state}
 

@@ -6,22 +6,22 @@ use Rattle.nm_edge.specs.Edges.{Edge, tagged}
 use Rattle.nm_edge.specs.Layouts.{Layout}
 use Rattle.nm_edge.specs.declared.edge.Side.{Side}
 use Rattle.nm_edge.specs.declared.edge.Side.TheVariants.{Left, Right}
-use Rattle.nm_core.specs.declared.event.Event.TheVariants.{SightFor, Look, Tag}
-use Rattle.nm_core.specs.declared.event.Field.TheVariants.{Edge as EdgeOn, Birth}
-use Rattle.nm_core.specs.declared.knowledge.Seen.{Seen}
-use Rattle.nm_core.specs.declared.reply.Reply.TheVariants.{Pinned, BirthIs, EdgeIs, Was}
-use Rattle.nm_core.specs.Knowledge.{Knowledge, knows, is_private, seen_of, read, knows_leaf, is_null, unread}
-use Rattle.nm_core.specs.Learning.{learn, look_known, look_private, met, read_edge, with_read, flag_to, pinned, saw}
-use Rattle.nm_core.specs.Maps.{has, put}
-use Rattle.nm_core.specs.Searches.{Search, idle, searched}
-use Rattle.nm_core.specs.Walks.{Entry, search_after}
-use Rattle.nm_core.proofs.Learned.{learn_look, learn_link_lost, learn_flagged, learn_flag_lost, learn_was, learn_splice_lost, learn_sight_for, learn_pinned}
-use Rattle.nm_core.proofs.Tables.{has_put_there}
-use Rattle.nm_core.proofs.Trees.{same_side, same_side-refl}
-use Rattle.nm_core.proofs.Views.{read_after, read_birth}
+use Rattle.nm_model.specs.declared.event.Event.TheVariants.{SightFor, Look, Tag}
+use Rattle.nm_model.specs.declared.event.Field.TheVariants.{Edge as EdgeOn, Birth}
+use Rattle.nm_model.specs.declared.knowledge.Seen.{Seen}
+use Rattle.nm_model.specs.declared.reply.Reply.TheVariants.{Pinned, BirthIs, EdgeIs, Was}
+use Rattle.nm_model.specs.Knowledge.{Knowledge, knows, is_private, seen_of, read, knows_leaf, is_null, unread}
+use Rattle.nm_model.specs.Learning.{learn, look_known, look_private, met, read_edge, with_read, flag_to, pinned, saw}
+use Rattle.nm_model.specs.Maps.{has, put}
+use Rattle.nm_model.specs.Searches.{Search, idle, searched}
+use Rattle.nm_model.specs.Walks.{Entry, search_after}
+use Rattle.nm_laws.proofs.Learned.{learn_look, learn_link_lost, learn_flagged, learn_flag_lost, learn_was, learn_splice_lost, learn_sight_for, learn_pinned}
+use Rattle.nm_model.proofs.Tables.{has_put_there}
+use Rattle.nm_laws.proofs.Trees.{same_side, same_side-refl}
+use Rattle.nm_laws.proofs.Views.{read_after, read_birth}
 use Rattle.nm_order.specs.Logs.{known_by, IsLogOf}
 use Rattle.nm_order.specs.Facts.{Holds}
-use Rattle.nm_order.specs.Taught.{EdgeLearned, EdgesAreLearned, TagsAreLearned, FlagsAreLearned, BirthsAreLearned, PinsAreLearned}
+use Rattle.nm_order.specs.Taught.{EdgeLearned, EdgesAreLearned, TagsAreLearned, TagsFreeze, FlagsAreLearned, BirthsAreLearned, PinsAreLearned}
 use Rattle.nm_order.specs.Told.{TellsEdge, OfEachEntry}
 use Rattle.nm_order.specs.Told.TellsEdge.{ByLook, ByLink, ByFlag, ByTag, BySplice}
 use Rattle.nm_order.proofs.KnowledgeStays.{seen_put}
@@ -123,6 +123,12 @@ tags_are_learned L enough w log entry l x side e is =
     let now : known_by L w (log ++ entry ∷ []) ≡ read_edge (known_by L w log) x side (tagged e) =
     becomes L enough w log entry l ∙ (ap (λ (y : Entry). learn w (known_by L w log) y.0 y.1) is ∙ learn_was w (known_by L w log) x side e) in
     (tagged e, ap (λ (k : Knowledge). read k x side) now ∙ is_read (known_by L w log) x side (tagged e), is_tagged e (tags_lead L enough w log entry l x side e is), refl)
+
+pub tags_freeze : OfEachEntry TagsFreeze
+tags_freeze L enough w log entry l x side e is =
+    let now : known_by L w (log ++ entry ∷ []) ≡ read_edge (known_by L w log) x side (tagged e) =
+    becomes L enough w log entry l ∙ (ap (λ (y : Entry). learn w (known_by L w log) y.0 y.1) is ∙ learn_was w (known_by L w log) x side e) in
+    (ap (λ (k : Knowledge). read k x side) now ∙ is_read (known_by L w log) x side (tagged e), is_tagged e (tags_lead L enough w log entry l x side e is))
 
 pub flags_are_learned : OfEachEntry FlagsAreLearned
 flags_are_learned L enough w log entry l p leaf side n is =

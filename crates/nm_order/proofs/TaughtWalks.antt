@@ -4,16 +4,16 @@ use Rattle.std.specs.Prelude.{Some, IsSome, Contains}
 use Rattle.nm_edge.specs.Layouts.{Layout}
 use Rattle.nm_edge.specs.declared.edge.Side.{Side}
 use Rattle.nm_edge.specs.declared.edge.Side.TheVariants.{Left}
-use Rattle.nm_core.specs.declared.event.Field.{Field}
-use Rattle.nm_core.specs.declared.event.Field.TheVariants.{Key, Edge as EdgeOn}
-use Rattle.nm_core.specs.declared.event.Event.TheVariants.{Look}
-use Rattle.nm_core.specs.declared.reply.Reply.{Reply}
-use Rattle.nm_core.specs.declared.reply.Reply.TheVariants.{KeyIs, EdgeIs}
-use Rattle.nm_core.specs.declared.walks.Call.{Call}
-use Rattle.nm_core.specs.declared.walks.Arrival.{Arrival}
-use Rattle.nm_core.specs.Runs.{reply_of}
-use Rattle.nm_core.specs.Searches.{Search, idle, side_of, walked, searched}
-use Rattle.nm_core.specs.Walks.{Entry, search_after, since_pin}
+use Rattle.nm_model.specs.declared.event.Field.{Field}
+use Rattle.nm_model.specs.declared.event.Field.TheVariants.{Key, Edge as EdgeOn}
+use Rattle.nm_model.specs.declared.event.Event.TheVariants.{Look}
+use Rattle.nm_model.specs.declared.reply.Reply.{Reply}
+use Rattle.nm_model.specs.declared.reply.Reply.TheVariants.{KeyIs, EdgeIs}
+use Rattle.nm_model.specs.declared.walks.Call.{Call}
+use Rattle.nm_model.specs.declared.walks.Arrival.{Arrival}
+use Rattle.nm_model.specs.Runs.{reply_of}
+use Rattle.nm_model.specs.Searches.{Search, idle, side_of, walked, searched}
+use Rattle.nm_model.specs.Walks.{Entry, search_after, since_pin}
 use Rattle.nm_order.specs.WalksToArrivals.{HasArrival}
 use Rattle.nm_order.specs.Facts.{Since, Arrived, arrivals}
 use Rattle.nm_order.specs.Facts.Since.{ThePin, TheFlag}

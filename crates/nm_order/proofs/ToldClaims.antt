@@ -4,24 +4,24 @@ use Rattle.std.specs.Prelude.{Option, Some, None, option_map, slice_get, is_some
 use Rattle.std.proofs.lemmas.Bool.{false_from_ne_true}
 use Rattle.std.proofs.lemmas.Option.{none-some}
 use Rattle.nm_edge.specs.Layouts.{Layout}
-use Rattle.nm_core.specs.declared.event.Event.{Event}
-use Rattle.nm_core.specs.declared.event.Event.TheVariants.{Claim}
-use Rattle.nm_core.specs.declared.reply.Reply.TheVariants.{Claimed, Taken}
-use Rattle.nm_core.specs.declared.reply.Refused.TheVariants.{NoSlot}
-use Rattle.nm_core.specs.declared.ledger.Queued.{Queued}
-use Rattle.nm_core.specs.declared.ledger.Ledger.{Ledger}
-use Rattle.nm_core.specs.Memory.{in_pool}
-use Rattle.nm_core.specs.Ledgers.{held, queue_of}
-use Rattle.nm_core.specs.Places.{slot_of}
-use Rattle.nm_core.specs.Knowledge.{Knowledge, knows, is_private}
-use Rattle.nm_core.specs.Step.{outside, refusal, reply}
-use Rattle.nm_core.specs.Runs.{State, of, reply_of}
-use Rattle.nm_core.specs.Walks.{Entry}
-use Rattle.nm_core.proofs.Steps.{Allowed, passed}
-use Rattle.nm_core.proofs.TreeSteps.{Lawful, high_from}
-use Rattle.nm_core.proofs.Pictures.{Spot, Stands, nowhere_else}
-use Rattle.nm_core.proofs.Pictures.Spot.{InPool, PrivateTo, InQueue}
-use Rattle.nm_core.proofs.Views.{picture, held_queue}
+use Rattle.nm_model.specs.declared.event.Event.{Event}
+use Rattle.nm_model.specs.declared.event.Event.TheVariants.{Claim}
+use Rattle.nm_model.specs.declared.reply.Reply.TheVariants.{Claimed, Taken}
+use Rattle.nm_model.specs.declared.reply.Refused.TheVariants.{NoSlot}
+use Rattle.nm_model.specs.declared.ledger.Queued.{Queued}
+use Rattle.nm_model.specs.declared.ledger.Ledger.{Ledger}
+use Rattle.nm_model.specs.Memory.{in_pool}
+use Rattle.nm_model.specs.Ledgers.{held, queue_of}
+use Rattle.nm_model.specs.Places.{slot_of}
+use Rattle.nm_model.specs.Knowledge.{Knowledge, knows, is_private}
+use Rattle.nm_model.specs.Step.{outside, refusal, reply}
+use Rattle.nm_model.specs.Runs.{State, of, reply_of}
+use Rattle.nm_model.specs.Walks.{Entry}
+use Rattle.nm_laws.proofs.Steps.{Allowed, passed}
+use Rattle.nm_laws.proofs.TreeSteps.{Lawful, high_from}
+use Rattle.nm_laws.proofs.Pictures.{Spot, Stands, nowhere_else}
+use Rattle.nm_laws.proofs.Pictures.Spot.{InPool, PrivateTo, InQueue}
+use Rattle.nm_laws.proofs.Views.{picture, held_queue}
 use Rattle.nm_order.specs.Told.{IsNew, OfEachEntry, ClaimsAreNew}
 use Rattle.nm_order.proofs.LastEntries.{LastEntry, last_entry}
 use Rattle.nm_order.proofs.ToldLaws.{lawful_before, allowed_before, live_then, same_layout}

@@ -5,16 +5,16 @@ use native.Mathlib.Decide.{ℕ_discrete}
 use Rattle.std.proofs.lemmas.Bool.{cond-true, cond-false, eq-eqb, ne_eqb}
 use Rattle.nm_edge.specs.Layouts.{Layout}
 use Rattle.nm_edge.specs.declared.node.NodeId.{NodeId}
-use Rattle.nm_core.specs.declared.event.Event.TheVariants.{Splice}
-use Rattle.nm_core.specs.declared.ledger.Ledger.{Ledger}
-use Rattle.nm_core.specs.declared.reply.Reply.TheVariants.{Cut}
-use Rattle.nm_core.specs.Knowledge.{Knowledge}
-use Rattle.nm_core.specs.Learning.{learn}
-use Rattle.nm_core.specs.Ledgers.{held, retire, with_cut}
-use Rattle.nm_core.specs.Runs.{State}
-use Rattle.nm_core.specs.Walks.{Entry}
-use Rattle.nm_core.proofs.Held.{held-retire_same, held-retire_other}
-use Rattle.nm_core.proofs.Learned.{learn_cut}
+use Rattle.nm_model.specs.declared.event.Event.TheVariants.{Splice}
+use Rattle.nm_model.specs.declared.ledger.Ledger.{Ledger}
+use Rattle.nm_model.specs.declared.reply.Reply.TheVariants.{Cut}
+use Rattle.nm_model.specs.Knowledge.{Knowledge}
+use Rattle.nm_model.specs.Learning.{learn}
+use Rattle.nm_model.specs.Ledgers.{held, retire, with_cut}
+use Rattle.nm_model.specs.Runs.{State}
+use Rattle.nm_model.specs.Walks.{Entry}
+use Rattle.nm_laws.proofs.Held.{held-retire_same, held-retire_other}
+use Rattle.nm_laws.proofs.Learned.{learn_cut}
 use Rattle.nm_order.specs.Logs.{known_by}
 use Rattle.nm_order.specs.Told.{OfEachEntry, CutsEnterTheQueue}
 use Rattle.nm_order.proofs.LastEntries.{known_more, LastEntry, last_entry}

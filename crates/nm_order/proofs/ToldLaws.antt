@@ -5,26 +5,26 @@ use Rattle.nm_edge.specs.Edges.{Edge, other}
 use Rattle.nm_edge.specs.Layouts.{Layout}
 use Rattle.nm_edge.specs.declared.edge.Side.{Side}
 use Rattle.nm_edge.specs.declared.edge.Side.TheVariants.{Left, Right}
-use Rattle.nm_core.specs.declared.event.Field.TheVariants.{Key}
-use Rattle.nm_core.specs.declared.event.Event.{Event}
-use Rattle.nm_core.specs.declared.event.Event.TheVariants.{Look}
-use Rattle.nm_core.specs.declared.reply.Reply.{Reply}
-use Rattle.nm_core.specs.declared.reply.Reply.TheVariants.{KeyIs}
-use Rattle.nm_core.specs.declared.reply.Refused.TheVariants.{NoSlot}
-use Rattle.nm_core.specs.Memory.{Memory, node, edge, child, infinity_0}
-use Rattle.nm_core.specs.Knowledge.{knows}
-use Rattle.nm_core.specs.Step.{outside, refusal, reply}
-use Rattle.nm_core.specs.Runs.{State, of, start, after, reply_of, applied}
-use Rattle.nm_core.specs.Walks.{Entry}
-use Rattle.nm_core.specs.Ordered.{search_of}
-use Rattle.nm_core.proofs.Steps.{Allowed, allowed, passed, by_steps}
-use Rattle.nm_core.proofs.TreeSteps.{Lawful, high_from}
-use Rattle.nm_core.proofs.Pictures.{IsLive}
-use Rattle.nm_core.proofs.Views.{picture}
+use Rattle.nm_model.specs.declared.event.Field.TheVariants.{Key}
+use Rattle.nm_model.specs.declared.event.Event.{Event}
+use Rattle.nm_model.specs.declared.event.Event.TheVariants.{Look}
+use Rattle.nm_model.specs.declared.reply.Reply.{Reply}
+use Rattle.nm_model.specs.declared.reply.Reply.TheVariants.{KeyIs}
+use Rattle.nm_model.specs.declared.reply.Refused.TheVariants.{NoSlot}
+use Rattle.nm_model.specs.Memory.{Memory, node, edge, child, infinity_0}
+use Rattle.nm_model.specs.Knowledge.{knows}
+use Rattle.nm_model.specs.Step.{outside, refusal, reply}
+use Rattle.nm_model.specs.Runs.{State, of, start, after, reply_of, applied}
+use Rattle.nm_model.specs.Walks.{Entry}
+use Rattle.nm_model.specs.Ordered.{search_of}
+use Rattle.nm_laws.proofs.Steps.{Allowed, allowed, passed, by_steps}
+use Rattle.nm_laws.proofs.TreeSteps.{Lawful, high_from}
+use Rattle.nm_laws.proofs.Pictures.{IsLive}
+use Rattle.nm_laws.proofs.Views.{picture}
 use Rattle.nm_order.specs.Logs.{known_by}
 use Rattle.nm_order.specs.Facts.{Fact, HoldsIn, Holds, IsTrueIn}
-use Rattle.nm_order.specs.Facts.Fact.{KnowsSlot, IsTagged}
-use Rattle.nm_order.specs.Told.{TellsEdge, OfEachEntry, TwinsAreToldFlagged, FlaggedEdgesLeadHigh, EdgesStayInside, RootLeads, TagsLead, LowKeysStandHigh, FlaggedEdgesStandHigh}
+use Rattle.nm_order.specs.Facts.Fact.{KnowsSlot, IsTagged, IsFlagged}
+use Rattle.nm_order.specs.Told.{TellsEdge, OfEachEntry, TwinsAreToldFlagged, FlagsAreTold, FlaggedEdgesLeadHigh, EdgesStayInside, RootLeads, TagsLead, LowKeysStandHigh, FlaggedEdgesStandHigh}
 use Rattle.nm_order.specs.Told.TellsEdge.{ByLook, ByLink, ByFlag, ByTag, BySplice}
 use Rattle.nm_order.proofs.OrderedLaws.{law_of_state}
 use Rattle.nm_order.proofs.PartsOfRuns.{allowed_by_state}
@@ -93,6 +93,15 @@ twins_are_told L enough w log entry l x side e to tells holds = go (last_entry L
         let tag : (edge s.memory x (other side)).tag ≡ true = ap (λ (y : Edge). y.tag) is ∙ fact.2 in
         let flag : (edge s.memory x (other (other side))).flag ≡ true = law.1.tree.frozen x (other side) (live_then s law.0 law.1 w x (law.1.tree.reads w x (other side) fact.0 fact.1)) tag in
         ap (λ (y : Edge). y.flag) (told_edge s.memory entry x side e (is_answered L enough w log entry last) tells) ∙ (ap (λ (d : Side). (edge s.memory x d).flag) (sym (twice_other side)) ∙ flag)
+
+pub flags_are_told : OfEachEntry FlagsAreTold
+flags_are_told L enough w log entry l x side e to tells holds = go (last_entry L enough w log entry l)
+  where
+    go : LastEntry L w log entry → (e.flag ≡ true) × (e.slot ≡ to)
+    go last =
+        let is : e ≡ edge last.before.state.memory x side = told_edge last.before.state.memory entry x side e (is_answered L enough w log entry last) tells in
+        let now = true_then L enough w log entry last (IsFlagged x side to) holds in
+        (ap (λ (y : Edge). y.flag) is ∙ now.0, ap (λ (y : Edge). y.slot) is ∙ now.1)
 
 pub flagged_lead_high : OfEachEntry FlaggedEdgesLeadHigh
 flagged_lead_high L enough w log entry l x side e tells known flag = go (last_entry L enough w log entry l)

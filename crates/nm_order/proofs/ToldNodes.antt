@@ -8,25 +8,25 @@ use Rattle.nm_edge.specs.Edges.{Edge, other, is_to}
 use Rattle.nm_edge.specs.declared.edge.Side.{Side}
 use Rattle.nm_edge.specs.declared.edge.Side.TheVariants.{Left, Right}
 use Rattle.nm_edge.specs.declared.node.NodeId.{NodeId}
-use Rattle.nm_core.specs.declared.event.Event.TheVariants.{Flag, Splice, Join}
-use Rattle.nm_core.specs.declared.reply.Reply.{Reply}
-use Rattle.nm_core.specs.declared.reply.Reply.TheVariants.{Flagged, Cut, Lost}
-use Rattle.nm_core.specs.Memory.{node, edge, child, named}
-use Rattle.nm_core.specs.Knowledge.{Knowledge, knows, read, is_flagged, is_tagged, slot_read, leads_on, onward, before_way, way, cut_by}
-use Rattle.nm_core.specs.Paths.{follow}
-use Rattle.nm_core.specs.Searches.{Search}
-use Rattle.nm_core.specs.Step.{reply}
-use Rattle.nm_core.specs.Runs.{State, of, outcome, reply_of}
-use Rattle.nm_core.specs.Walks.{Entry}
-use Rattle.nm_core.specs.Ordered.{search_of}
-use Rattle.nm_core.proofs.Trees.{follow-append}
-use Rattle.nm_core.proofs.Pictures.{alone, on_path}
-use Rattle.nm_core.proofs.Views.{picture, held_queue}
-use Rattle.nm_core.proofs.TreeSteps.{Lawful}
-use Rattle.nm_core.proofs.Configurations.{state_outcome}
-use Rattle.nm_core.proofs.Cuts.{won_splice, shown}
-use Rattle.nm_core.proofs.Splices.{a_on_path}
-use Rattle.nm_core.proofs.Ways.{way_here, way_next, way_end}
+use Rattle.nm_model.specs.declared.event.Event.TheVariants.{Flag, Splice, Join}
+use Rattle.nm_model.specs.declared.reply.Reply.{Reply}
+use Rattle.nm_model.specs.declared.reply.Reply.TheVariants.{Flagged, Cut, Lost}
+use Rattle.nm_model.specs.Memory.{node, edge, child, named}
+use Rattle.nm_model.specs.Knowledge.{Knowledge, knows, read, is_flagged, is_tagged, slot_read, leads_on, onward, before_way, way, cut_by}
+use Rattle.nm_model.specs.Paths.{follow}
+use Rattle.nm_model.specs.Searches.{Search}
+use Rattle.nm_model.specs.Step.{reply}
+use Rattle.nm_model.specs.Runs.{State, of, outcome, reply_of}
+use Rattle.nm_model.specs.Walks.{Entry}
+use Rattle.nm_model.specs.Ordered.{search_of}
+use Rattle.nm_laws.proofs.Trees.{follow-append}
+use Rattle.nm_laws.proofs.Pictures.{alone, on_path}
+use Rattle.nm_laws.proofs.Views.{picture, held_queue}
+use Rattle.nm_laws.proofs.TreeSteps.{Lawful}
+use Rattle.nm_laws.proofs.Configurations.{state_outcome}
+use Rattle.nm_laws.proofs.Cuts.{won_splice, shown}
+use Rattle.nm_laws.proofs.Splices.{a_on_path}
+use Rattle.nm_model.proofs.Ways.{way_here, way_next, way_end}
 use Rattle.nm_order.specs.Facts.{Fact, HoldsIn, Holds}
 use Rattle.nm_order.specs.Facts.Fact.{IsTagged, IsFlagged, IsBorn}
 use Rattle.nm_order.specs.Told.{FrozenTo, OfEachEntry, CutsAreAsKnown, FlagsAreAsKnown}

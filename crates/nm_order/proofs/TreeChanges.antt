@@ -5,31 +5,32 @@ use Rattle.std.proofs.lemmas.Bool.{cond_both, cond-false, eqb-true, and_parts, o
 use Rattle.nm_edge.specs.Edges.{Edge, to, is_to, tagged}
 use Rattle.nm_edge.specs.declared.edge.Side.{Side}
 use Rattle.nm_edge.specs.declared.edge.Side.TheVariants.{Left, Right}
-use Rattle.nm_core.specs.declared.memory.Node.{Node}
-use Rattle.nm_core.specs.declared.event.Field.{Field}
-use Rattle.nm_core.specs.declared.event.Event.{Event}
-use Rattle.nm_core.specs.declared.event.Event.TheVariants.{Fill, Link, Flag, Tag, Splice, Advance}
-use Rattle.nm_core.specs.declared.reply.Refused.TheVariants.{NoSlot, NotPrivate}
-use Rattle.nm_core.specs.Maps.{is_number}
-use Rattle.nm_core.specs.Memory.{Memory, blank, node, edge, child, put_edge, put_node}
-use Rattle.nm_core.specs.Knowledge.{is_private, read}
-use Rattle.nm_core.specs.Learning.{flag_to}
-use Rattle.nm_core.specs.Step.{outside, is_edge, exchanged, filled, kept, refusal, write}
-use Rattle.nm_core.specs.Runs.{State, of}
+use Rattle.nm_model.specs.declared.memory.Node.{Node}
+use Rattle.nm_model.specs.declared.event.Field.{Field}
+use Rattle.nm_model.specs.declared.event.Event.{Event}
+use Rattle.nm_model.specs.declared.event.Event.TheVariants.{Fill, Link, Flag, Tag, Splice, Advance}
+use Rattle.nm_model.specs.declared.reply.Refused.TheVariants.{NoSlot, NotPrivate}
+use Rattle.nm_model.specs.Maps.{is_number}
+use Rattle.nm_model.specs.Memory.{Memory, blank, node, edge, child, put_edge, put_node}
+use Rattle.nm_model.specs.Knowledge.{is_private, read}
+use Rattle.nm_model.specs.Learning.{flag_to}
+use Rattle.nm_model.specs.Step.{outside, is_edge, exchanged, filled, kept, refusal, write}
+use Rattle.nm_model.specs.Paths.{follow}
+use Rattle.nm_model.specs.Runs.{State, of}
 use Rattle.nm_order.specs.Intervals.{key}
-use Rattle.nm_core.proofs.Steps.{Allowed, passed, second}
-use Rattle.nm_core.proofs.Trees.{Exchanged, same_side, same_side-true}
+use Rattle.nm_laws.proofs.Steps.{Allowed, passed, second}
+use Rattle.nm_laws.proofs.Trees.{Exchanged, same_side, same_side-true}
 use Rattle.nm_order.proofs.Searching.{Apart}
-use Rattle.nm_core.proofs.CutPaths.{Splicing}
-use Rattle.nm_core.proofs.Slots.{with_edge-same}
-use Rattle.nm_core.proofs.Splices.{splicing, first_slot}
-use Rattle.nm_core.proofs.Links.{IsLink}
-use Rattle.nm_core.proofs.Views.{picture, edge_put}
-use Rattle.nm_core.proofs.TreeSlots.{is_to-true}
-use Rattle.nm_core.proofs.TreeLink.{Linkable, linkable, link_shown}
-use Rattle.nm_core.proofs.TreeSteps.{Lawful, high_from, LinkChecked, link_checked}
-use Rattle.nm_core.proofs.Cuts.{shown}
-use Rattle.nm_core.proofs.KnownBirths.{written_same}
+use Rattle.nm_laws.proofs.CutPaths.{Splicing}
+use Rattle.nm_laws.proofs.Slots.{with_edge-same}
+use Rattle.nm_laws.proofs.Splices.{splicing, first_slot}
+use Rattle.nm_laws.proofs.Links.{IsLink}
+use Rattle.nm_laws.proofs.Views.{picture, edge_put}
+use Rattle.nm_laws.proofs.TreeSlots.{is_to-true}
+use Rattle.nm_laws.proofs.TreeLink.{Linkable, linkable, link_shown}
+use Rattle.nm_laws.proofs.TreeSteps.{Lawful, high_from, LinkChecked, link_checked}
+use Rattle.nm_laws.proofs.Cuts.{shown}
+use Rattle.nm_laws.proofs.KnownBirths.{written_same}
 
 -- what the memory of a state becomes
 pub data TreeChange (s : State) (h : ℕ → ℕ) (w : ℕ) (e : Event) (m : Memory) : Type 0 where
@@ -37,7 +38,8 @@ pub data TreeChange (s : State) (h : ℕ → ℕ) (w : ℕ) (e : Event) (m : Mem
   Filled : (x : ℕ) → is_private (of s w) x ≡ true → Apart (child s.memory) (child m) (key s.memory) (key m) x → TreeChange s h w e m
   Linked : (p : ℕ) (d : Side) (leaf new : ℕ) → e ≡ Link p d leaf new → edge s.memory p d ≡ to leaf → (l : Linkable (of s w) new leaf) → IsLink s.layout.nodes (picture s h) w p d leaf new l.far l.side
       → Exchanged (child s.memory) (child m) p d new → ((x : ℕ) → key m x ≡ key s.memory x) → TreeChange s h w e m
-  Spliced : (a : ℕ) (d : Side) (way : List Side) → Splicing (child s.memory) (child m) a d way → child s.memory a d ≢ 0 → ((x : ℕ) → key m x ≡ key s.memory x) → TreeChange s h w e m
+  Spliced : (a : ℕ) (d : Side) (way : List Side) → Splicing (child s.memory) (child m) a d way → child s.memory a d ≢ 0
+      → follow (child s.memory) (child s.memory a d) way ≢ 0 → ((x : ℕ) → key m x ≡ key s.memory x) → TreeChange s h w e m
 
 -- an edge is exchanged
 exchanged_put : (m : Memory) (p : ℕ) (d : Side) (e : Edge) → p < length m.nodes → Exchanged (child m) (child (put_edge m p d e)) p d e.slot
@@ -137,7 +139,7 @@ module _ (s : State) (h : ℕ → ℕ) (law : Lawful s h) (w : ℕ) where
             is_slot = all.is_slot;
             frozen = all.frozen;
             exchanged = rw (← k.splice.leads) (exchanged_put s.memory a d (kept (read (of s w) p keep)) k.inside);
-          }) (first_slot s.layout.nodes (picture s h) w _ a d _ (kept (read (of s w) p keep)) law.tree k.splice) keys
+          }) (first_slot s.layout.nodes (picture s h) w _ a d _ (kept (read (of s w) p keep)) law.tree k.splice) (λ z. k.splice.some (k.splice.leads ∙ z)) keys
       by false lost keys = Kept (λ y g. refl) keys
 
   pub tree_change : (e : Event) → Allowed s w e → TreeChange s h w e (write s.memory (of s w) w e)

@@ -2,12 +2,12 @@
 use Rattle.std.proofs.Common.{◌≡◌, ℕ, ◌<◌, ◌≤◌, List, [], sym, subst}
 use Rattle.std.specs.Prelude.{Some, All}
 use Rattle.nm_edge.specs.Layouts.{Layout}
-use Rattle.nm_core.specs.declared.event.Event.{Event}
-use Rattle.nm_core.specs.declared.walks.Call.{Call}
-use Rattle.nm_core.specs.Searches.{Search}
-use Rattle.nm_core.specs.Ordered.{ordered, after_in}
-use Rattle.nm_core.specs.Walks.{Entry, IsOfWalk, since_pin}
-use Rattle.nm_core.proofs.WalksOfLogs.{arrivals_are_walks}
+use Rattle.nm_model.specs.declared.event.Event.{Event}
+use Rattle.nm_model.specs.declared.walks.Call.{Call}
+use Rattle.nm_model.specs.Searches.{Search}
+use Rattle.nm_model.specs.Ordered.{ordered, after_in}
+use Rattle.nm_model.specs.Walks.{Entry, IsOfWalk, since_pin}
+use Rattle.nm_laws.proofs.WalksOfLogs.{arrivals_are_walks}
 use Rattle.nm_order.specs.Intervals.{key, HasKey}
 use Rattle.nm_order.specs.WalksToArrivals.{since_flag, ComingsAreArrivals, ReadingsAreArrivals, EndsAreArrivals, OfEachCall}
 use Rattle.nm_order.proofs.WalksAfter.{HasWalks, readings_within, walks_are_there, comings, readings, ends}

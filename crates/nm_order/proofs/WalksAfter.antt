@@ -5,13 +5,13 @@ use Rattle.std.specs.Prelude.{Some, All, Contains}
 use Rattle.std.proofs.lemmas.Option.{same_Some}
 use Rattle.nm_edge.specs.declared.edge.Side.{Side}
 use Rattle.nm_edge.specs.declared.edge.Side.TheVariants.{Left}
-use Rattle.nm_core.specs.declared.event.Field.TheVariants.{Key, Edge as EdgeOn}
-use Rattle.nm_core.specs.declared.event.Event.TheVariants.{Look}
-use Rattle.nm_core.specs.declared.reply.Reply.TheVariants.{KeyIs, EdgeIs}
-use Rattle.nm_core.specs.declared.walks.Arrival.{Arrival}
-use Rattle.nm_core.specs.Searches.{side_of}
-use Rattle.nm_core.specs.Walks.{Entry, IsPart, Leads, WalkComes, WalkReads, WalkEnds, IsOfWalk}
-use Rattle.nm_core.specs.Walks.Leads.{begins, leads_on}
+use Rattle.nm_model.specs.declared.event.Field.TheVariants.{Key, Edge as EdgeOn}
+use Rattle.nm_model.specs.declared.event.Event.TheVariants.{Look}
+use Rattle.nm_model.specs.declared.reply.Reply.TheVariants.{KeyIs, EdgeIs}
+use Rattle.nm_model.specs.declared.walks.Arrival.{Arrival}
+use Rattle.nm_model.specs.Searches.{side_of}
+use Rattle.nm_model.specs.Walks.{Entry, IsPart, Leads, WalkComes, WalkReads, WalkEnds, IsOfWalk}
+use Rattle.nm_model.specs.Walks.Leads.{begins, leads_on}
 use Rattle.nm_order.specs.WalksToArrivals.{HasArrival, ComingsAreArrivals, ReadingsAreArrivals, EndsAreArrivals}
 use Rattle.nm_order.proofs.LogParts.{part_grows, part_within, part_ends}
 use Rattle.nm_order.proofs.ArrivalsOfLooks.{walked_by, still_has, key_read, end_read, first_read, next_read}

@@ -6,24 +6,24 @@ use Rattle.std.proofs.lemmas.Bool.{eqb-true}
 use Rattle.std.proofs.lemmas.Option.{none-some, slice_get-get_or}
 use Rattle.nm_edge.specs.Layouts.{Layout}
 use Rattle.nm_edge.specs.declared.edge.Side.{Side}
-use Rattle.nm_core.specs.declared.event.Field.TheVariants.{Key}
-use Rattle.nm_core.specs.declared.event.Event.{Event}
-use Rattle.nm_core.specs.declared.event.Event.TheVariants.{Look}
-use Rattle.nm_core.specs.declared.reply.Reply.{Reply}
-use Rattle.nm_core.specs.declared.reply.Reply.TheVariants.{KeyIs}
-use Rattle.nm_core.specs.declared.reply.Refused.{Refused}
-use Rattle.nm_core.specs.declared.trace.Turn.{Turn}
-use Rattle.nm_core.specs.declared.walks.Call.{Call}
-use Rattle.nm_core.specs.declared.walks.Arrival.{Arrival}
-use Rattle.nm_core.specs.Memory.{node}
-use Rattle.nm_core.specs.Step.{reply, write}
-use Rattle.nm_core.specs.Runs.{reply_of, applied}
-use Rattle.nm_core.specs.Searches.{Search, idle, searched}
-use Rattle.nm_core.specs.Walks.{Entry, WalkReads, entry_of, log_of, search_after, begins_anew, since_pin, SearchGrows}
-use Rattle.nm_core.specs.Ordered.{Configuration, ordered, search_of, learned_from, refused_in, applied_in, next_in, outcome_in, after_in, trace_in}
-use Rattle.nm_core.proofs.Configurations.{refused_next, refused_outcome, allowed_next, allowed_outcome, after_in-append}
-use Rattle.nm_core.proofs.LogsOfRuns.{searches_tell}
-use Rattle.nm_core.proofs.SearchesGrow.{only_grow}
+use Rattle.nm_model.specs.declared.event.Field.TheVariants.{Key}
+use Rattle.nm_model.specs.declared.event.Event.{Event}
+use Rattle.nm_model.specs.declared.event.Event.TheVariants.{Look}
+use Rattle.nm_model.specs.declared.reply.Reply.{Reply}
+use Rattle.nm_model.specs.declared.reply.Reply.TheVariants.{KeyIs}
+use Rattle.nm_model.specs.declared.reply.Refused.{Refused}
+use Rattle.nm_model.specs.declared.trace.Turn.{Turn}
+use Rattle.nm_model.specs.declared.walks.Call.{Call}
+use Rattle.nm_model.specs.declared.walks.Arrival.{Arrival}
+use Rattle.nm_model.specs.Memory.{node}
+use Rattle.nm_model.specs.Step.{reply, write}
+use Rattle.nm_model.specs.Runs.{reply_of, applied}
+use Rattle.nm_model.specs.Searches.{Search, idle, searched}
+use Rattle.nm_model.specs.Walks.{Entry, WalkReads, entry_of, log_of, search_after, begins_anew, since_pin, SearchGrows}
+use Rattle.nm_model.specs.Ordered.{Configuration, ordered, search_of, learned_from, refused_in, applied_in, next_in, outcome_in, after_in, trace_in}
+use Rattle.nm_laws.proofs.Configurations.{refused_next, refused_outcome, allowed_next, allowed_outcome, after_in-append}
+use Rattle.nm_laws.proofs.LogsOfRuns.{searches_tell}
+use Rattle.nm_laws.proofs.SearchesGrow.{only_grow}
 use Rattle.nm_order.specs.Intervals.{key, HasKey}
 use Rattle.nm_order.specs.WalksToArrivals.{HasArrival, OfEachCall}
 use Rattle.nm_order.proofs.OrderedLaws.{each_walk_reads}

@@ -3,14 +3,14 @@ use Rattle.std.specs.Prelude.{◌≡◌, ℕ, Bool, true, false, List, [], ◌�
 use Rattle.nm_edge.specs.Layouts.{Layout}
 use Rattle.nm_edge.specs.declared.edge.Side.{Side}
 use Rattle.nm_edge.specs.declared.node.NodeId.{NodeId}
-use Rattle.nm_core.specs.declared.event.Op.{Op}
-use Rattle.nm_core.specs.declared.event.Op.TheVariants.{Insert, Delete}
-use Rattle.nm_core.specs.declared.event.Event.{Event}
-use Rattle.nm_core.specs.declared.event.Event.TheVariants.{Leave, LeaveWith, Link, Flag}
-use Rattle.nm_core.specs.declared.reply.Reply.TheVariants.{Departed, Linked, Flagged}
-use Rattle.nm_core.specs.declared.trace.Turn.{Turn}
-use Rattle.nm_core.specs.Walks.{Entry, log_of, since_pin}
-use Rattle.nm_core.specs.Ordered.{Configuration, ordered, next_in, outcome_in, after_in, trace_in}
+use Rattle.nm_model.specs.declared.event.Op.{Op}
+use Rattle.nm_model.specs.declared.event.Op.TheVariants.{Insert, Delete}
+use Rattle.nm_model.specs.declared.event.Event.{Event}
+use Rattle.nm_model.specs.declared.event.Event.TheVariants.{Leave, LeaveWith, Link, Flag}
+use Rattle.nm_model.specs.declared.reply.Reply.TheVariants.{Departed, Linked, Flagged}
+use Rattle.nm_model.specs.declared.trace.Turn.{Turn}
+use Rattle.nm_model.specs.Walks.{Entry, log_of, since_pin}
+use Rattle.nm_model.specs.Ordered.{Configuration, ordered, next_in, outcome_in, after_in, trace_in}
 use Rattle.nm_order.specs.Intervals.{IsCalled, Gains, Marks}
 use Rattle.nm_order.specs.Moments.{PinStands}
 use Rattle.nm_order.specs.WalksToArrivals.{is_won_flag}

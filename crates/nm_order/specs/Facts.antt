@@ -5,15 +5,15 @@ use Rattle.nm_edge.specs.Keys.{IsKey}
 use Rattle.nm_edge.specs.Layouts.{Layout}
 use Rattle.nm_edge.specs.declared.edge.Side.{Side}
 use Rattle.nm_edge.specs.declared.node.NodeId.{NodeId}
-use Rattle.nm_core.specs.declared.event.Op.{Op}
-use Rattle.nm_core.specs.declared.walks.Call.{Call}
-use Rattle.nm_core.specs.declared.walks.Arrival.{Arrival}
-use Rattle.nm_core.specs.Memory.{node, edge, child, note, in_pool, is_leaf}
-use Rattle.nm_core.specs.Knowledge.{Knowledge, knows, is_private, seen_of, read, knows_leaf}
-use Rattle.nm_core.specs.Searches.{Search, idle}
-use Rattle.nm_core.specs.Runs.{State, of}
-use Rattle.nm_core.specs.Walks.{Entry, search_after, begins_anew}
-use Rattle.nm_core.specs.Ordered.{ordered, after_in}
+use Rattle.nm_model.specs.declared.event.Op.{Op}
+use Rattle.nm_model.specs.declared.walks.Call.{Call}
+use Rattle.nm_model.specs.declared.walks.Arrival.{Arrival}
+use Rattle.nm_model.specs.Memory.{node, edge, child, note, in_pool, is_leaf}
+use Rattle.nm_model.specs.Knowledge.{Knowledge, knows, is_private, seen_of, read, knows_leaf}
+use Rattle.nm_model.specs.Searches.{Search, idle}
+use Rattle.nm_model.specs.Runs.{State, of}
+use Rattle.nm_model.specs.Walks.{Entry, search_after, begins_anew}
+use Rattle.nm_model.specs.Ordered.{ordered, after_in}
 use Rattle.nm_order.specs.Logs.{known_by, IsLogOf}
 
 -- the walks of a call since its pin, or since the flag that it won
@@ -30,6 +30,8 @@ pub data Fact : Type 0 where
   -- the edge of a slot on a side is tagged, and leads to another slot; is flagged, and leads to another
   IsTagged : ℕ → Side → ℕ → Fact
   IsFlagged : ℕ → Side → ℕ → Fact
+  -- the edge of a slot on a side is tagged, and is this one, with this flag too
+  IsFrozen : ℕ → Side → Edge → Fact
   -- a slot has that birth
   IsBorn : ℕ → ℕ → Fact
   -- the pin is for a call of that operation on that key
@@ -62,6 +64,7 @@ HoldsIn known s (KnowsSlot slot) = knows known slot ≡ true
 HoldsIn known s (KnowsLeaf slot) = knows_leaf known slot ≡ true
 HoldsIn known s (IsTagged slot side to) = (e : Edge) × (read known slot side ≡ Some e) × (e.tag ≡ true) × (e.slot ≡ to)
 HoldsIn known s (IsFlagged slot side to) = (e : Edge) × (read known slot side ≡ Some e) × (e.flag ≡ true) × (e.slot ≡ to)
+HoldsIn known s (IsFrozen slot side e) = (read known slot side ≡ Some e) × (e.tag ≡ true)
 HoldsIn known s (IsBorn slot birth) = (seen_of known slot).birth ≡ Some birth
 HoldsIn known s (CallIs op key) = s.call ≡ Some (record { op = op; key = key })
 HoldsIn known s (Came since k slot parent side) = Arrived s since k slot parent side
@@ -86,6 +89,7 @@ IsTrueIn s w (KnowsSlot slot) = IsShared s slot
 IsTrueIn s w (KnowsLeaf slot) = is_leaf (node s.memory slot) ≡ true
 IsTrueIn s w (IsTagged slot side to) = ((edge s.memory slot side).tag ≡ true) × (child s.memory slot side ≡ to)
 IsTrueIn s w (IsFlagged slot side to) = ((edge s.memory slot side).flag ≡ true) × (child s.memory slot side ≡ to)
+IsTrueIn s w (IsFrozen slot side e) = (edge s.memory slot side ≡ e) × (e.tag ≡ true)
 IsTrueIn s w (IsBorn slot birth) = (node s.memory slot).birth ≡ birth
 IsTrueIn s w (CallIs op key) = IsKey key
 IsTrueIn s w (Came since k slot parent side) = IsShared s slot
@@ -101,6 +105,12 @@ FactsAreTrue = (L : Layout) → 5 ≤ L.nodes → (w : ℕ) (log : List Entry) (
 -- while no pin begins or ends, each fact that a worker's log holds is held by it with one entry more
 abbrev pub FactsStay : Type 0
 FactsStay = (L : Layout) → 5 ≤ L.nodes → (w : ℕ) (log : List Entry) (entry : Entry) → IsLogOf L w (log ++ entry ∷ []) → begins_anew entry ≡ false → (fact : Fact) → Holds L w log fact → Holds L w (log ++ entry ∷ []) fact
+
+-- ---- flagged edges
+
+-- a slot of which a worker knows a flagged edge is one of the pool's range: none of the fixed nodes has one
+abbrev pub FlaggedSlotsStandHigh : Type 0
+FlaggedSlotsStandHigh = (L : Layout) → 5 ≤ L.nodes → (w : ℕ) (log : List Entry) → IsLogOf L w log → (x to : ℕ) (side : Side) → Holds L w log (IsFlagged x side to) → 6 ≤ x
 
 -- ---- the leaf that a call flagged
 

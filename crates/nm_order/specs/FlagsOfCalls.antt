@@ -2,14 +2,14 @@
 use Rattle.std.specs.Prelude.{◌≡◌, ◌↔◌, ℕ, false, List, ◌∷◌, ◌++◌, Some, Ok, All, Contains}
 use Rattle.nm_edge.specs.declared.edge.Side.{Side}
 use Rattle.nm_edge.specs.declared.node.NodeId.{NodeId}
-use Rattle.nm_core.specs.declared.event.Event.{Event}
-use Rattle.nm_core.specs.declared.event.Event.TheVariants.{Flag}
-use Rattle.nm_core.specs.declared.reply.Reply.{Reply}
-use Rattle.nm_core.specs.declared.reply.Reply.TheVariants.{Flagged}
-use Rattle.nm_core.specs.declared.walks.Arrival.{Arrival}
-use Rattle.nm_core.specs.Searches.{Search, searched}
-use Rattle.nm_core.specs.Ordered.{Configuration, search_of, outcome_in}
-use Rattle.nm_core.specs.Walks.{Entry, begins_anew, GrowsTo}
+use Rattle.nm_model.specs.declared.event.Event.{Event}
+use Rattle.nm_model.specs.declared.event.Event.TheVariants.{Flag}
+use Rattle.nm_model.specs.declared.reply.Reply.{Reply}
+use Rattle.nm_model.specs.declared.reply.Reply.TheVariants.{Flagged}
+use Rattle.nm_model.specs.declared.walks.Arrival.{Arrival}
+use Rattle.nm_model.specs.Searches.{Search, searched}
+use Rattle.nm_model.specs.Ordered.{Configuration, search_of, outcome_in}
+use Rattle.nm_model.specs.Walks.{Entry, begins_anew, GrowsTo}
 use Rattle.nm_order.specs.WalksToArrivals.{is_won_flag, since_flag}
 
 -- the first flag that a log won is one of that node: the log is what was before it, the flag, and the part behind it

@@ -1,10 +1,12 @@
 -- What a worker has in its hands, as its log tells it: private slots, and the queues of the ledgers that it holds.
-use Rattle.std.specs.Prelude.{◌≡◌, ℕ, ◌<◌, ◌≤◌, false, true, List, Some, IsSome, slice_get}
+use Rattle.std.specs.Prelude.{◌≡◌, ℕ, ◌<◌, ◌≤◌, false, true, List, ◌++◌, map, Some, None, IsSome, slice_get}
 use Rattle.nm_edge.specs.Layouts.{Layout}
-use Rattle.nm_core.specs.declared.ledger.Queued.{Queued}
-use Rattle.nm_core.specs.Knowledge.{Knowledge, is_private}
-use Rattle.nm_core.specs.Ledgers.{held, queue_of}
-use Rattle.nm_core.specs.Walks.{Entry}
+use Rattle.nm_model.specs.declared.ledger.Ledger.{Ledger}
+use Rattle.nm_model.specs.declared.ledger.Queued.{Queued}
+use Rattle.nm_model.specs.Knowledge.{Knowledge, is_private}
+use Rattle.nm_model.specs.Laws.{node_in}
+use Rattle.nm_model.specs.Ledgers.{held, queue_of}
+use Rattle.nm_model.specs.Walks.{Entry}
 use Rattle.nm_order.specs.Logs.{known_by, IsLogOf}
 
 -- the entry waits at that index of the queue of an origin, whose ledger the worker holds
@@ -26,3 +28,15 @@ pub record AreApart (L : Layout) (k : Knowledge) : Type 0 where
 -- the hands of each worker, as its part of any ordered run tells them
 abbrev pub HandsAreApart : Type 0
 HandsAreApart = (L : Layout) → 5 ≤ L.nodes → (w : ℕ) (log : List Entry) → IsLogOf L w log → AreApart L (known_by L w log)
+
+-- ---- the ledgers that it holds
+
+-- of each ledger that worker w holds, what was retired is what was freed and then what waits, in this order; and an entry without a label waits
+-- in the own queue alone, after a cut that its brief tells of
+pub record LedgersAreKept (w : ℕ) (k : Knowledge) : Type 0 where
+  pub split : (o : ℕ) (l : Ledger) → held k.ledgers o ≡ Some l → l.retired ≡ l.freed ++ map node_in l.queue
+  pub labelled : (o i : ℕ) (e : Queued) → WaitsAt k o i e → e.label ≡ None → (o ≡ w) × (k.brief.unlabelled ≡ true)
+
+-- the ledgers of each worker, as its part of any ordered run tells them
+abbrev pub HeldLedgersAreKept : Type 0
+HeldLedgersAreKept = (L : Layout) → 5 ≤ L.nodes → (w : ℕ) (log : List Entry) → IsLogOf L w log → LedgersAreKept w (known_by L w log)

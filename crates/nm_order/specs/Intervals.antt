@@ -3,20 +3,20 @@ use Rattle.std.specs.Prelude.{◌≡◌, ◌⊎◌, ◌↔◌, ℕ, ◌<◌, ◌
 use Rattle.nm_edge.specs.Edges.{to}
 use Rattle.nm_edge.specs.Layouts.{Layout}
 use Rattle.nm_edge.specs.declared.edge.Side.{Side}
-use Rattle.nm_edge.specs.Keys.{IsKey}
-use Rattle.nm_core.specs.declared.event.Event.{Event}
+use Rattle.nm_model.specs.declared.event.Event.{Event}
 use Rattle.nm_edge.specs.declared.node.NodeId.{NodeId}
-use Rattle.nm_core.specs.declared.event.Op.{Op}
-use Rattle.nm_core.specs.declared.event.Op.TheVariants.{Insert, Delete}
-use Rattle.nm_core.specs.declared.event.Event.TheVariants.{SightFor, Link, Flag}
-use Rattle.nm_core.specs.declared.reply.Reply.TheVariants.{Linked, Flagged}
-use Rattle.nm_core.specs.declared.walks.Call.{Call}
-use Rattle.nm_core.specs.declared.walks.Arrival.{Arrival}
-use Rattle.nm_core.specs.Memory.{Memory, node, edge, child, is_leaf, named, infinity_0}
-use Rattle.nm_core.specs.Paths.{at, Reached}
-use Rattle.nm_core.specs.Reports.{keys}
-use Rattle.nm_core.specs.Searches.{Search, side_of}
-use Rattle.nm_core.specs.Ordered.{Configuration, ordered, after_in, next_in, outcome_in, search_of}
+use Rattle.nm_model.specs.declared.event.Op.{Op}
+use Rattle.nm_model.specs.declared.event.Op.TheVariants.{Insert, Delete}
+use Rattle.nm_model.specs.declared.event.Event.TheVariants.{Link, Flag}
+use Rattle.nm_model.specs.declared.reply.Reply.TheVariants.{Linked, Flagged}
+use Rattle.nm_model.specs.declared.walks.Call.{Call}
+use Rattle.nm_model.specs.declared.walks.Arrival.{Arrival}
+use Rattle.nm_model.specs.Memory.{Memory, node, edge, child, is_leaf, named, infinity_0}
+use Rattle.nm_model.specs.Paths.{at, Reached}
+use Rattle.nm_model.specs.Reports.{keys}
+use Rattle.nm_model.specs.Searches.{Search, side_of}
+use Rattle.nm_model.specs.Ordered.{Configuration, ordered, after_in, next_in, outcome_in, search_of}
+pub use Rattle.nm_model.specs.Ordered.{HasKey}
 
 -- a search for k goes that way from a slot: at each node to the side of k
 abbrev pub GoesBy : (ℕ → Side → ℕ) → (ℕ → ℕ) → ℕ → ℕ → List Side → Type 0
@@ -31,11 +31,6 @@ pub record InInterval (m : Memory) (k x : ℕ) : Type 0 where
   pub path : List Side
   pub ends : at m path ≡ x
   pub goes : GoesBy (child m) (key m) k 1 path
-
--- calls are for keys of the set
-abbrev pub HasKey : Event → Type 0
-HasKey (SightFor op k) = IsKey k
-HasKey _ = Unit {0}
 
 -- in every ordered run, of what it leads to
 abbrev pub OfEachOrdered : (Configuration → Type 0) → Type 0

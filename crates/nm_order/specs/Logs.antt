@@ -1,14 +1,14 @@
 -- The part of each worker in a run, and what it tells of that worker's knowledge.
 use Rattle.std.specs.Prelude.{◌≡◌, ℕ, ◌<◌, ◌==◌, Bool, false, ◌||◌, List, [], ◌∷◌, ◌++◌, if◌then◌else◌, All}
 use Rattle.nm_edge.specs.Layouts.{Layout}
-use Rattle.nm_core.specs.declared.event.Event.{Event}
-use Rattle.nm_core.specs.declared.event.Event.TheVariants.{Join}
-use Rattle.nm_core.specs.declared.trace.Turn.{Turn}
-use Rattle.nm_core.specs.Knowledge.{Knowledge, newcomer}
-use Rattle.nm_core.specs.Learning.{learn}
-use Rattle.nm_core.specs.Walks.{Entry, entry_of}
-use Rattle.nm_core.specs.Runs.{of}
-use Rattle.nm_core.specs.Ordered.{ordered, after_in, trace_in}
+use Rattle.nm_model.specs.declared.event.Event.{Event}
+use Rattle.nm_model.specs.declared.event.Event.TheVariants.{Join}
+use Rattle.nm_model.specs.declared.trace.Turn.{Turn}
+use Rattle.nm_model.specs.Knowledge.{Knowledge, newcomer}
+use Rattle.nm_model.specs.Learning.{learn}
+use Rattle.nm_model.specs.Walks.{Entry, entry_of}
+use Rattle.nm_model.specs.Runs.{of}
+use Rattle.nm_model.specs.Ordered.{ordered, after_in, trace_in}
 use Rattle.nm_order.specs.Intervals.{HasKey}
 
 -- it is a join by which worker w resigns

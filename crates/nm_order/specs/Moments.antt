@@ -3,14 +3,14 @@ use Rattle.std.specs.Prelude.{◌≡◌, ℕ, ◌≤◌, false, List, [], ◌++�
 use Rattle.std.specs.List.{list_any}
 use Rattle.nm_edge.specs.Layouts.{Layout}
 use Rattle.nm_edge.specs.declared.edge.Side.{Side}
-use Rattle.nm_core.specs.declared.event.Op.{Op}
-use Rattle.nm_core.specs.declared.event.Event.{Event}
-use Rattle.nm_core.specs.declared.trace.Turn.{Turn}
-use Rattle.nm_core.specs.declared.walks.Arrival.{Arrival}
-use Rattle.nm_core.specs.Memory.{node}
-use Rattle.nm_core.specs.Paths.{Reached}
-use Rattle.nm_core.specs.Walks.{log_of, begins_anew, since_pin, WalkComes}
-use Rattle.nm_core.specs.Ordered.{Configuration, ordered, after_in, trace_in}
+use Rattle.nm_model.specs.declared.event.Op.{Op}
+use Rattle.nm_model.specs.declared.event.Event.{Event}
+use Rattle.nm_model.specs.declared.trace.Turn.{Turn}
+use Rattle.nm_model.specs.declared.walks.Arrival.{Arrival}
+use Rattle.nm_model.specs.Memory.{node, is_leaf}
+use Rattle.nm_model.specs.Paths.{Reached}
+use Rattle.nm_model.specs.Walks.{log_of, begins_anew, since_pin, WalkComes}
+use Rattle.nm_model.specs.Ordered.{Configuration, ordered, after_in, trace_in}
 use Rattle.nm_order.specs.Intervals.{HasKey, HasCome, IsCalled, InInterval}
 
 -- in every ordered run, of its layout and its turns
@@ -22,7 +22,7 @@ abbrev pub PinStands : ℕ → List Turn → Type 0
 PinStands u turns = list_any begins_anew (log_of u turns) ≡ false
 
 -- at a moment of the run, under a pin for the call that stands since, the slot was reached and the search for the key came to it;
--- and its node then is its node at the end: the birth is the same
+-- and its node then is its node at the end: birth and key are the same, and it is a leaf where it was one
 pub record WasReached (c : Configuration) (turns : List (ℕ × Event)) (u : ℕ) (op : Op) (k x : ℕ) : Type 0 where
   pub before : List (ℕ × Event)
   pub since : List (ℕ × Event)
@@ -32,6 +32,8 @@ pub record WasReached (c : Configuration) (turns : List (ℕ × Event)) (u : ℕ
   pub reached : Reached (after_in c before).state.memory x
   pub lies : InInterval (after_in c before).state.memory k x
   pub same_birth : (node (after_in c before).state.memory x).birth ≡ (node (after_in c turns).state.memory x).birth
+  pub same_key : (node (after_in c before).state.memory x).key ≡ (node (after_in c turns).state.memory x).key
+  pub same_kind : is_leaf (node (after_in c before).state.memory x) ≡ is_leaf (node (after_in c turns).state.memory x)
 
 -- each slot to which a search has come for a standing call was reached since its pin, with the call's key in its interval
 abbrev pub WalksWereReached : Layout → List (ℕ × Event) → Type 0

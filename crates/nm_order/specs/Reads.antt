@@ -1,11 +1,11 @@
 -- The epochs that a worker reads.
 use Rattle.std.specs.Prelude.{◌≡◌, ℕ, ◌≤◌, List, Option, Some, None, Contains}
 use Rattle.nm_edge.specs.Layouts.{Layout}
-use Rattle.nm_core.specs.declared.event.Event.{Event}
-use Rattle.nm_core.specs.declared.event.Event.TheVariants.{Sight, SightFor, Advance}
-use Rattle.nm_core.specs.declared.reply.Reply.{Reply}
-use Rattle.nm_core.specs.declared.reply.Reply.TheVariants.{Saw, Labelled, Pinned, Missed, Moved, Behind}
-use Rattle.nm_core.specs.Walks.{Entry}
+use Rattle.nm_model.specs.declared.event.Event.{Event}
+use Rattle.nm_model.specs.declared.event.Event.TheVariants.{Sight, SightFor, Advance}
+use Rattle.nm_model.specs.declared.reply.Reply.{Reply}
+use Rattle.nm_model.specs.declared.reply.Reply.TheVariants.{Saw, Labelled, Pinned, Missed, Moved, Behind}
+use Rattle.nm_model.specs.Walks.{Entry}
 use Rattle.nm_order.specs.Logs.{known_by, IsLogOf}
 
 abbrev pub sighted : Reply → Option ℕ

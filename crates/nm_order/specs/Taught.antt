@@ -1,19 +1,19 @@
 -- What the last entry of a log teaches: facts that the log holds from then on.
 use Rattle.std.specs.Prelude.{◌≡◌, ◌≢◌, ℕ, true, List, [], ◌∷◌, ◌++◌, IsSome}
-use Rattle.nm_edge.specs.Edges.{Edge}
+use Rattle.nm_edge.specs.Edges.{Edge, tagged}
 use Rattle.nm_edge.specs.Layouts.{Layout}
 use Rattle.nm_edge.specs.declared.edge.Side.{Side}
 use Rattle.nm_edge.specs.declared.edge.Side.TheVariants.{Left}
 use Rattle.nm_edge.specs.declared.node.NodeId.{NodeId}
-use Rattle.nm_core.specs.declared.event.Field.TheVariants.{Key, Edge as EdgeOn, Birth}
-use Rattle.nm_core.specs.declared.event.Op.{Op}
-use Rattle.nm_core.specs.declared.event.Event.TheVariants.{SightFor, Look, Flag, Tag}
-use Rattle.nm_core.specs.declared.reply.Reply.TheVariants.{Pinned, KeyIs, BirthIs, EdgeIs, Flagged, Was}
-use Rattle.nm_core.specs.Searches.{idle, side_of}
-use Rattle.nm_core.specs.Walks.{Entry, search_after}
+use Rattle.nm_model.specs.declared.event.Field.TheVariants.{Key, Edge as EdgeOn, Birth}
+use Rattle.nm_model.specs.declared.event.Op.{Op}
+use Rattle.nm_model.specs.declared.event.Event.TheVariants.{SightFor, Look, Flag, Tag}
+use Rattle.nm_model.specs.declared.reply.Reply.TheVariants.{Pinned, KeyIs, BirthIs, EdgeIs, Flagged, Was}
+use Rattle.nm_model.specs.Searches.{idle, side_of}
+use Rattle.nm_model.specs.Walks.{Entry, search_after}
 use Rattle.nm_order.specs.Facts.{Since, Fact, Holds}
 use Rattle.nm_order.specs.Facts.Since.{ThePin, TheFlag}
-use Rattle.nm_order.specs.Facts.Fact.{IsPinned, KnowsSlot, KnowsLeaf, IsTagged, IsFlagged, IsBorn, CallIs, Came, ReadKey, EndedAt}
+use Rattle.nm_order.specs.Facts.Fact.{IsPinned, KnowsSlot, KnowsLeaf, IsTagged, IsFlagged, IsFrozen, IsBorn, CallIs, Came, ReadKey, EndedAt}
 use Rattle.nm_order.specs.Told.{TellsEdge}
 
 -- ---- edges and nodes
@@ -32,6 +32,10 @@ EdgesAreLearned L w log entry = (x : ℕ) (side : Side) (e : Edge) → TellsEdge
 -- an edge that was tagged is known as tagged
 abbrev pub TagsAreLearned : Layout → ℕ → List Entry → Entry → Type 0
 TagsAreLearned L w log entry = (x : ℕ) (side : Side) (e : Edge) → entry ≡ (Tag x side, Was e) → Holds L w (log ++ entry ∷ []) (IsTagged x side e.slot)
+
+-- and is just the one that was there, with the tag
+abbrev pub TagsFreeze : Layout → ℕ → List Entry → Entry → Type 0
+TagsFreeze L w log entry = (x : ℕ) (side : Side) (e : Edge) → entry ≡ (Tag x side, Was e) → Holds L w (log ++ entry ∷ []) (IsFrozen x side (tagged e))
 
 -- an edge whose flag was won is known as flagged
 abbrev pub FlagsAreLearned : Layout → ℕ → List Entry → Entry → Type 0

@@ -5,15 +5,15 @@ use Rattle.nm_edge.specs.Layouts.{Layout}
 use Rattle.nm_edge.specs.declared.edge.Side.{Side}
 use Rattle.nm_edge.specs.declared.edge.Side.TheVariants.{Left}
 use Rattle.nm_edge.specs.declared.node.NodeId.{NodeId}
-use Rattle.nm_core.specs.declared.event.Field.TheVariants.{Key, Edge as EdgeOn}
-use Rattle.nm_core.specs.declared.event.Event.TheVariants.{Claim, Look, Link, Flag, Tag, Splice}
-use Rattle.nm_core.specs.declared.reply.Reply.TheVariants.{Claimed, Flagged, Cut, KeyIs, EdgeIs, Was, Lost}
-use Rattle.nm_core.specs.declared.ledger.Queued.{Queued}
-use Rattle.nm_core.specs.Memory.{infinity_0}
-use Rattle.nm_core.specs.Knowledge.{is_private, knows}
-use Rattle.nm_core.specs.Ledgers.{held, queue_of, with_cut}
-use Rattle.nm_core.specs.Step.{is_frozen}
-use Rattle.nm_core.specs.Walks.{Entry}
+use Rattle.nm_model.specs.declared.event.Field.TheVariants.{Key, Edge as EdgeOn}
+use Rattle.nm_model.specs.declared.event.Event.TheVariants.{Claim, Look, Link, Flag, Tag, Splice}
+use Rattle.nm_model.specs.declared.reply.Reply.TheVariants.{Claimed, Flagged, Cut, KeyIs, EdgeIs, Was, Lost}
+use Rattle.nm_model.specs.declared.ledger.Queued.{Queued}
+use Rattle.nm_model.specs.Memory.{infinity_0}
+use Rattle.nm_model.specs.Knowledge.{is_private, knows}
+use Rattle.nm_model.specs.Ledgers.{held, queue_of, with_cut}
+use Rattle.nm_model.specs.Step.{is_frozen}
+use Rattle.nm_model.specs.Walks.{Entry}
 use Rattle.nm_order.specs.Logs.{known_by, IsLogOf}
 use Rattle.nm_order.specs.Facts.{Fact, Holds}
 use Rattle.nm_order.specs.Facts.Fact.{KnowsSlot, IsTagged, IsFlagged, IsBorn}
@@ -33,6 +33,10 @@ pub data TellsEdge : Entry → ℕ → Side → Edge → Type 0 where
 -- where an edge is known tagged, its twin is told as flagged
 abbrev pub TwinsAreToldFlagged : Layout → ℕ → List Entry → Entry → Type 0
 TwinsAreToldFlagged L w log entry = (x : ℕ) (side : Side) (e : Edge) (to : ℕ) → TellsEdge entry x side e → Holds L w log (IsTagged x (other side) to) → e.flag ≡ true
+
+-- where an edge is known flagged, it is told as flagged and leads there still
+abbrev pub FlagsAreTold : Layout → ℕ → List Entry → Entry → Type 0
+FlagsAreTold L w log entry = (x : ℕ) (side : Side) (e : Edge) (to : ℕ) → TellsEdge entry x side e → Holds L w log (IsFlagged x side to) → (e.flag ≡ true) × (e.slot ≡ to)
 
 -- a flagged edge of a known slot leads to a slot of the pool's range
 abbrev pub FlaggedEdgesLeadHigh : Layout → ℕ → List Entry → Entry → Type 0

@@ -2,14 +2,14 @@
 use Rattle.std.specs.Prelude.{◌≡◌, ◌↔◌, ℕ, ◌<◌, ◌≤◌, Bool, true, false, List, [], ◌∷◌, if◌then◌else◌, Some, All, Contains}
 use Rattle.nm_edge.specs.Layouts.{Layout}
 use Rattle.nm_edge.specs.declared.edge.Side.{Side}
-use Rattle.nm_core.specs.declared.event.Event.{Event}
-use Rattle.nm_core.specs.declared.event.Event.TheVariants.{Flag}
-use Rattle.nm_core.specs.declared.reply.Reply.TheVariants.{Flagged}
-use Rattle.nm_core.specs.declared.walks.Call.{Call}
-use Rattle.nm_core.specs.declared.walks.Arrival.{Arrival}
-use Rattle.nm_core.specs.Searches.{Search}
-use Rattle.nm_core.specs.Ordered.{ordered, after_in, trace_in, search_of}
-use Rattle.nm_core.specs.Walks.{Entry, log_of, since_pin, WalkComes, WalkReads, WalkEnds}
+use Rattle.nm_model.specs.declared.event.Event.{Event}
+use Rattle.nm_model.specs.declared.event.Event.TheVariants.{Flag}
+use Rattle.nm_model.specs.declared.reply.Reply.TheVariants.{Flagged}
+use Rattle.nm_model.specs.declared.walks.Call.{Call}
+use Rattle.nm_model.specs.declared.walks.Arrival.{Arrival}
+use Rattle.nm_model.specs.Searches.{Search}
+use Rattle.nm_model.specs.Ordered.{ordered, after_in, trace_in, search_of}
+use Rattle.nm_model.specs.Walks.{Entry, log_of, since_pin, WalkComes, WalkReads, WalkEnds}
 use Rattle.nm_order.specs.Intervals.{HasKey}
 
 -- ---- the part of a log behind its flag

@@ -1,5 +1,5 @@
 //! Facts that stay: what a worker's log tells it under one pin, as laws over that log alone.
-ghost use Rattle.nm_order.specs.Facts.{FactsAreTrue, FactsStay, LaterWalksFindTheFlag};
+ghost use Rattle.nm_order.specs.Facts.{FactsAreTrue, FactsStay, FlaggedSlotsStandHigh, LaterWalksFindTheFlag};
 
 /// Each fact that a worker's log holds is true of the memory, whatever the others did since it was learned: marks stand, births stand,
 /// leaves are leaves, keys are those that were read, and what it knows is in nobody's hands.
@@ -11,6 +11,11 @@ pub fn facts_are_true()
 /// Each fact that a worker's log holds is held by it with one entry more, while no pin is confirmed or left.
 pub fn facts_stay()
     ensures { FactsStay }
+{}
+
+/// A slot of which a worker knows a flagged edge is above 5: none of the fixed nodes has a flagged edge.
+pub fn flagged_slots_stand_high()
+    ensures { FlaggedSlotsStandHigh }
 {}
 
 /// Where a walk that began after a call's won flag came to the flagged leaf, the edge by which it came was read as flagged, and is so still:

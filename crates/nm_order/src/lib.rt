@@ -4,6 +4,7 @@
 mod answers;
 mod facts;
 mod hands;
+mod history;
 mod logs;
 mod order;
 mod paths;
@@ -14,13 +15,18 @@ mod walks;
 
 pub use answers::{answers_tell_changes, deletes_have_flagged, inserts_are_links};
 pub use facts::{facts_are_true, facts_stay, later_walks_find_the_flag};
-pub use hands::hands_are_apart;
+pub use hands::{hands_are_apart, held_ledgers_are_kept, unpinned_workers_have_no_call};
+pub use history::{
+    answers_were_legal, deletes_are_cuts, flagged_leaves_are_pending, logged_answers_have_moments,
+    runs_are_histories, totals_agree,
+};
 pub use logs::logs_tell_what_is_known;
 pub use order::{
-    flags_mark_leaves, keys_are_the_set, links_insert, trees_are_in_order, walks_stay_in_order,
+    flags_mark_leaves, keys_are_the_set, links_insert, links_name_new_nodes, trees_are_in_order,
+    walks_stay_in_order,
 };
 pub use paths::walks_were_reached;
-pub use reads::epochs_are_read_in_order;
+pub use reads::{epochs_are_read_in_order, pins_are_told};
 pub use taught::{entries_teach_facts, looks_take_walks_on};
 pub use told::{
     answers_name_what_is_known, claims_are_new, cuts_enter_the_queue, edges_are_told,

@@ -1,5 +1,5 @@
 //! What the last entry of a log teaches: laws over the log of one worker, of each log that ends with the entry.
-ghost use Rattle.nm_order.specs.Taught.{BirthsAreLearned, EdgesAreLearned, FlagsAreLearned, PinsAreLearned, TagsAreLearned, WalksBegin, WalksEnd, WalksGoOn, WalksLearnKeys};
+ghost use Rattle.nm_order.specs.Taught.{BirthsAreLearned, EdgesAreLearned, FlagsAreLearned, PinsAreLearned, TagsAreLearned, TagsFreeze, WalksBegin, WalksEnd, WalksGoOn, WalksLearnKeys};
 ghost use Rattle.nm_order.specs.Told.{OfEachEntry};
 
 /// What an entry teaches of edges and births, and what a pin for a call knows at once, as facts that the log holds from then on.
@@ -7,6 +7,7 @@ ghost use Rattle.nm_order.specs.Told.{OfEachEntry};
 pub fn entries_teach_facts()
     ensures edges { OfEachEntry EdgesAreLearned }
     ensures tags { OfEachEntry TagsAreLearned }
+    ensures freeze { OfEachEntry TagsFreeze }
     ensures flags { OfEachEntry FlagsAreLearned }
     ensures births { OfEachEntry BirthsAreLearned }
     ensures pins { OfEachEntry PinsAreLearned }

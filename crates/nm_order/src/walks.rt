@@ -1,6 +1,6 @@
 //! Laws of ordered runs on walks: what the core keeps of a worker's call is all that the worker's log tells of its walks.
 ghost use Rattle.std.specs.Prelude.{All};
-ghost use Rattle.nm_core.specs.Walks.{IsOfWalk};
+ghost use Rattle.nm_model.specs.Walks.{IsOfWalk};
 ghost use Rattle.nm_order.specs.FlagsOfCalls.{FlagsAreTold, FlagsStay, LaterArrivalsOnlyGrow, NoSecondFlag};
 ghost use Rattle.nm_order.specs.WalksToArrivals.{ComingsAreArrivals, EndsAreArrivals, OfEachCall, ReadingsAreArrivals, since_flag};
 

@@ -3,14 +3,14 @@ use Rattle.std.proofs.Common.{◌≡◌, ℕ, ◌+◌, ◌≤◌, ◌<◌, ◌==
 use Rattle.std.specs.Prelude.{Option, Some, None, is_some, is_none, nat_lt}
 use Rattle.std.proofs.lemmas.Bool.{cond-false, le-ltb, eq-eqb, ne_eqb}
 use Rattle.nm_edge.specs.Layouts.{Layout}
-use Rattle.nm_core.specs.declared.event.Event.TheVariants.{Claim, Give, Look, Fill}
-use Rattle.nm_core.specs.declared.event.Field.TheVariants.{Birth}
-use Rattle.nm_core.specs.declared.reply.Refused.{Refused}
-use Rattle.nm_core.specs.declared.reply.Refused.TheVariants.{NoSlot, NotPinned, NotHeld, NotPrivate, NotReady, Spent}
-use Rattle.nm_core.specs.Memory.{node}
-use Rattle.nm_core.specs.Knowledge.{Knowledge, knows, is_private, draft_of}
-use Rattle.nm_core.specs.Step.{refusal, outside, last_number, free_checks, first, is_early}
-use Rattle.nm_core.specs.Walks.{Entry}
+use Rattle.nm_model.specs.declared.event.Event.TheVariants.{Claim, Give, Look, Fill}
+use Rattle.nm_model.specs.declared.event.Field.TheVariants.{Birth}
+use Rattle.nm_model.specs.declared.reply.Refused.{Refused}
+use Rattle.nm_model.specs.declared.reply.Refused.TheVariants.{NoSlot, NotPinned, NotHeld, NotPrivate, NotReady, Spent}
+use Rattle.nm_model.specs.Memory.{node}
+use Rattle.nm_model.specs.Knowledge.{Knowledge, knows, is_private, draft_of}
+use Rattle.nm_model.specs.Step.{refusal, outside, last_number, free_checks, first, is_early}
+use Rattle.nm_model.specs.Walks.{Entry}
 use Rattle.nm_order.specs.Logs.{known_by}
 use Rattle.nm_steps.specs.Steps.{May}
 

@@ -3,19 +3,19 @@ use Rattle.std.proofs.Common.{◌≡◌, ◌≢◌, ℕ, suc, ◌+◌, ◌-◌, 
 use Rattle.std.specs.Prelude.{Some, None, is_some, unwrap_or, slice_get}
 use Rattle.std.proofs.lemmas.Bool.{cond-true, cond-false, eq-eqb, ne_eqb, eqb-true, false_from_ne_true}
 use Rattle.std.specs.Ordering.{nat_cmp, is_eq}
-use Rattle.nm_core.specs.declared.event.Event.{Event}
-use Rattle.nm_core.specs.declared.event.Event.TheVariants.{Claim, Give, Look, Fill}
-use Rattle.nm_core.specs.declared.event.Field.TheVariants.{Birth}
-use Rattle.nm_core.specs.declared.reply.Reply.{Reply}
-use Rattle.nm_core.specs.declared.reply.Reply.TheVariants.{Claimed, Taken, Returned, BirthIs, Filled}
-use Rattle.nm_core.specs.declared.knowledge.Draft.{Draft}
-use Rattle.nm_core.specs.Maps.{get, put, without, has}
-use Rattle.nm_core.specs.Ledgers.{held, queue_of}
-use Rattle.nm_core.specs.Knowledge.{Knowledge, unfilled, is_private, draft_of}
-use Rattle.nm_core.specs.Learning.{learn, filled_in, look_private, look_known}
-use Rattle.nm_core.specs.Walks.{Entry}
-use Rattle.nm_core.proofs.Learned.{learn_claimed, learn_taken, learn_returned, learn_look, learn_filled}
-use Rattle.nm_core.proofs.Tables.{get-put, at_eqb}
+use Rattle.nm_model.specs.declared.event.Event.{Event}
+use Rattle.nm_model.specs.declared.event.Event.TheVariants.{Claim, Give, Look, Fill}
+use Rattle.nm_model.specs.declared.event.Field.TheVariants.{Birth}
+use Rattle.nm_model.specs.declared.reply.Reply.{Reply}
+use Rattle.nm_model.specs.declared.reply.Reply.TheVariants.{Claimed, Taken, Returned, BirthIs, Filled}
+use Rattle.nm_model.specs.declared.knowledge.Draft.{Draft}
+use Rattle.nm_model.specs.Maps.{get, put, without, has}
+use Rattle.nm_model.specs.Ledgers.{held, queue_of}
+use Rattle.nm_model.specs.Knowledge.{Knowledge, unfilled, is_private, draft_of}
+use Rattle.nm_model.specs.Learning.{learn, filled_in, look_private, look_known}
+use Rattle.nm_model.specs.Walks.{Entry}
+use Rattle.nm_laws.proofs.Learned.{learn_claimed, learn_taken, learn_returned, learn_look, learn_filled}
+use Rattle.nm_model.proofs.Tables.{get-put, at_eqb}
 use Rattle.nm_order.specs.Told.{IsNew}
 use Rattle.nm_steps.specs.declared.view.View.{View}
 use Rattle.nm_steps.specs.Rules.{knowledge}

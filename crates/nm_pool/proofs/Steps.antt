@@ -3,7 +3,7 @@ use Rattle.std.proofs.Common.{◌≡◌, inl, inr, ℕ, zero, suc, ◌+◌, ◌*
 use Rattle.std.specs.Prelude.{Option, Some, None}
 use Rattle.std.proofs.lemmas.List.{length-append}
 use Rattle.nm_edge.specs.declared.node.NodeId.{NodeId}
-use Rattle.nm_core.specs.Walks.{Entry}
+use Rattle.nm_model.specs.Walks.{Entry}
 use Rattle.nm_pool.specs.Takes.{Doing, DoneInTurn, FoundTaken, IsTake}
 use Rattle.nm_pool.specs.Claims.{PassedOver, IsClaim}
 

@@ -1,13 +1,13 @@
 -- What claiming new nodes leaves in the log, oldest entry first.
 use Rattle.std.specs.Prelude.{◌≡◌, ℕ, ◌+◌, ◌≤◌, ◌<◌, ◌⊎◌, List, [], ◌∷◌, ◌++◌, Option, Some, None}
 use Rattle.nm_edge.specs.declared.node.NodeId.{NodeId}
-use Rattle.nm_core.specs.declared.event.Event.TheVariants.{Claim, Give, Look, Fill}
-use Rattle.nm_core.specs.declared.event.Field.TheVariants.{Birth}
-use Rattle.nm_core.specs.declared.reply.Reply.TheVariants.{Claimed, Returned, BirthIs, Filled}
-use Rattle.nm_core.specs.Maps.{get}
-use Rattle.nm_core.specs.Knowledge.{Knowledge, unfilled}
-use Rattle.nm_core.specs.Step.{last_number}
-use Rattle.nm_core.specs.Walks.{Entry}
+use Rattle.nm_model.specs.declared.event.Event.TheVariants.{Claim, Give, Look, Fill}
+use Rattle.nm_model.specs.declared.event.Field.TheVariants.{Birth}
+use Rattle.nm_model.specs.declared.reply.Reply.TheVariants.{Claimed, Returned, BirthIs, Filled}
+use Rattle.nm_model.specs.Maps.{get}
+use Rattle.nm_model.specs.Knowledge.{Knowledge, unfilled}
+use Rattle.nm_model.specs.Step.{last_number}
+use Rattle.nm_model.specs.Walks.{Entry}
 use Rattle.nm_pool.specs.declared.nodes.Tried.{Tried}
 use Rattle.nm_pool.specs.declared.nodes.Tried.TheVariants as tried
 use Rattle.nm_pool.specs.Takes.{Doing, DoneBelow, FoundTaken}

@@ -1,10 +1,10 @@
 -- What taking slots out of the pool leaves in the log, oldest entry first.
 use Rattle.std.specs.Prelude.{◌≡◌, ℕ, zero, suc, ◌+◌, ◌-◌, ◌≤◌, true, List, [], ◌∷◌, ◌++◌, Option, Some, None}
-use Rattle.nm_core.specs.declared.event.Event.TheVariants.{Claim}
-use Rattle.nm_core.specs.declared.reply.Reply.TheVariants.{Claimed, Taken}
-use Rattle.nm_core.specs.Maps.{get}
-use Rattle.nm_core.specs.Knowledge.{Knowledge, is_private}
-use Rattle.nm_core.specs.Walks.{Entry}
+use Rattle.nm_model.specs.declared.event.Event.TheVariants.{Claim}
+use Rattle.nm_model.specs.declared.reply.Reply.TheVariants.{Claimed, Taken}
+use Rattle.nm_model.specs.Maps.{get}
+use Rattle.nm_model.specs.Knowledge.{Knowledge, is_private, unfilled}
+use Rattle.nm_model.specs.Walks.{Entry}
 
 -- nothing but private slots was learned, and each slot that was private is so still, with what was stored there
 pub record LearnsSlots (before after : Knowledge) : Type 0 where
@@ -14,6 +14,10 @@ pub record LearnsSlots (before after : Knowledge) : Type 0 where
   pub ledgers : after.ledgers ≡ before.ledgers
   pub gone : after.gone ≡ before.gone
   pub kept : (s : ℕ) → is_private before s ≡ true → get after.drafts s ≡ get before.drafts s
+
+-- the slot is private, and nothing is stored there: it has no birth yet
+abbrev pub IsUnborn : Knowledge → ℕ → Type 0
+IsUnborn k s = get k.drafts s ≡ Some unfilled
 
 -- what was done at one slot, by the log before and after it
 abbrev pub Doing : Type 1

@@ -1,24 +1,18 @@
 //! Slots taken out of the pool to be new nodes, and given back.
 ghost use Rattle.std.specs.Prelude.{◌≡◌, ◌+◌, ◌*◌, ◌≤◌, ◌<◌, true, Some, length, IfSome};
-ghost use Rattle.nm_core.specs.declared.event.Event.TheVariants.{Give};
-ghost use Rattle.nm_core.specs.declared.reply.Reply.TheVariants.{Returned};
-ghost use Rattle.nm_core.specs.Knowledge.{is_private, draft_of};
+ghost use Rattle.nm_model.specs.declared.event.Event.TheVariants.{Give};
+ghost use Rattle.nm_model.specs.declared.reply.Reply.TheVariants.{Returned};
+ghost use Rattle.nm_model.specs.Knowledge.{is_private, draft_of};
 ghost use Rattle.nm_order.specs.Told.{IsNew};
 ghost use Rattle.nm_steps.specs.Rules.{knowledge};
-ghost use Rattle.nm_steps.specs.Steps.{IsOf, Stepped};
+ghost use Rattle.nm_steps.specs.Steps.{IsInRun, IsOf, Stepped};
 ghost use Rattle.nm_pool.specs.Takes.{LearnsSlots};
 ghost use Rattle.nm_steps.specs.Steps.{IsSamePass};
 ghost use Rattle.nm_pool.specs.Claims.{IsClaim, IsTried, IfGot, IsNewNode};
 
 use crate::slots::put;
-use nm_edge::NodeId;
+use nm_edge::{FIRST_SLOT, LAST_NUMBER, NodeId};
 use nm_steps::{Pass, Shared};
-
-/// The least slot that is not one of the five fixed ones.
-const FIRST_SLOT: u32 = 6;
-
-/// The greatest birth, 2^62. A slot with it is worn, and is never put to use again.
-const LAST_BIRTH: u64 = 4_611_686_018_427_387_904;
 
 /// What a try of one slot answers.
 #[derive(Clone, Copy)]
@@ -42,6 +36,7 @@ enum Tried {
 pub fn claim(shared: &Shared, pass: &mut Pass) -> Option<NodeId>
     requires { IsOf shared.now pass.old }
     ensures same { IsSamePass pass.old pass.new }
+    ensures run { IsInRun pass.new }
     ensures part { IsClaim shared.now.layout.nodes pass.old.view.log pass.new.view.log result }
     ensures made { IfSome result (IsNewNode (knowledge pass.new.view)) }
     ensures new { IfSome result (λ node. IsNew pass.old.view.layout pass.old.view.number pass.old.view.log node.slot) }
@@ -55,6 +50,7 @@ pub fn claim(shared: &Shared, pass: &mut Pass) -> Option<NodeId>
 fn claim_first(shared: &Shared, pass: &mut Pass) -> Option<NodeId>
     requires { IsOf shared.now pass.old }
     ensures same { IsSamePass pass.old pass.new }
+    ensures run { IsInRun pass.new }
     ensures part { IsClaim shared.now.layout.nodes pass.old.view.log pass.new.view.log result }
     ensures made { IfSome result (IsNewNode (knowledge pass.new.view)) }
     ensures new { IfSome result (λ node. IsNew pass.old.view.layout pass.old.view.number pass.old.view.log node.slot) }
@@ -74,7 +70,8 @@ pub fn give(shared: &Shared, pass: &mut Pass, node: NodeId)
     requires own { IsOf shared.now pass.old }
     requires private { is_private (knowledge pass.old.view) node.slot ≡ true }
     requires birth { (draft_of (knowledge pass.old.view) node.slot).birth ≡ Some node.birth }
-    ensures { Stepped pass.old pass.new (Give node.slot) (Returned node.slot) }
+    ensures step { Stepped pass.old pass.new (Give node.slot) (Returned node.slot) }
+    ensures run { IsInRun pass.new }
 {
     put(shared, pass, node.slot);
 }
@@ -85,6 +82,7 @@ fn try_slot(shared: &Shared, pass: &mut Pass, slot: u32) -> Tried
     requires low { 5 < slot }
     requires high { slot ≤ shared.now.layout.nodes }
     ensures same { IsSamePass pass.old pass.new }
+    ensures run { IsInRun pass.new }
     ensures part { IsTried slot pass.old.view.log pass.new.view.log result }
     ensures made { IfGot result (IsNewNode (knowledge pass.new.view)) }
     ensures new { IfGot result (λ node. IsNew pass.old.view.layout pass.old.view.number pass.old.view.log node.slot) }
@@ -94,7 +92,7 @@ fn try_slot(shared: &Shared, pass: &mut Pass, slot: u32) -> Tried
         return Tried::Taken;
     }
     let birth = shared.look_birth(pass, slot);
-    if birth == LAST_BIRTH {
+    if birth == LAST_NUMBER {
         put(shared, pass, slot);
         return Tried::Worn;
     }

@@ -1,14 +1,14 @@
 -- What a pass's log is after a step: a part of a run, since it does not end with a join.
 use Rattle.std.proofs.Common.{◌≡◌, ◌⊎◌, inl, inr, Bool, true, false, List, [], ◌∷◌, ◌++◌, refl, sym, ap, subst, ◌∙◌, arith, true≢false}
 use Rattle.nm_edge.specs.Layouts.{IsLayout}
-use Rattle.nm_core.specs.declared.event.Event.{Event}
-use Rattle.nm_core.specs.declared.event.Event.TheVariants.{Join}
-use Rattle.nm_core.specs.declared.reply.Reply.{Reply}
-use Rattle.nm_core.specs.Walks.{Entry}
+use Rattle.nm_model.specs.declared.event.Event.{Event}
+use Rattle.nm_model.specs.declared.event.Event.TheVariants.{Join}
+use Rattle.nm_model.specs.declared.reply.Reply.{Reply}
+use Rattle.nm_model.specs.Walks.{Entry}
 use Rattle.nm_order.specs.Hands.{AreApart}
 use Rattle.nm_order.proofs.HeldSlots.{hands_are_apart}
 use Rattle.nm_steps.specs.Rules.{knowledge}
-use Rattle.nm_steps.specs.Steps.{Stand, EndsWithJoin, IsOfRun}
+use Rattle.nm_steps.specs.Steps.{Stand, EndsWithJoin, IsInRun, IsOfRun}
 
 abbrev pub is_join : Event → Bool
 is_join (Join v) = true
@@ -35,6 +35,10 @@ TellsRun p = EndsWithJoin p.view.log ⊎ IsOfRun p.view.layout p.view.number p.v
 pub run_after : (p q : Stand) (e : Event) (r : Reply) → q.view.log ≡ p.view.log ++ (e, r) ∷ [] → is_join e ≡ false → TellsRun q → IsOfRun q.view.layout q.view.number q.view.log
 run_after p q e r step other (inl ends) = absurd (not_joined p.view.log e r other (subst EndsWithJoin step ends))
 run_after p q e r step other (inr run) = run
+
+-- the hands of a pass in a run are apart
+pub apart_in_run : (p : Stand) → IsInRun p → AreApart p.view.layout (knowledge p.view)
+apart_in_run p run = hands_are_apart p.view.layout (let least = run.fits.least in omega arith) p.view.number p.view.log run.run.is_part
 
 -- its hands are apart
 pub apart_after : (p q : Stand) (e : Event) (r : Reply) → q.view.log ≡ p.view.log ++ (e, r) ∷ [] → is_join e ≡ false → IsLayout q.view.layout → TellsRun q → AreApart q.view.layout (knowledge q.view)

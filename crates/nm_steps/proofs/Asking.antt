@@ -7,20 +7,20 @@ use Rattle.nm_edge.specs.Edges.{Edge, IsEdge, edge_in, is_word, unpacked, word_o
 use Rattle.nm_edge.specs.Layouts.{Layout, IsLayout}
 use Rattle.nm_edge.specs.Words.{IsSlot, IsField, at_edge}
 use Rattle.nm_edge.specs.declared.edge.Side.{Side}
-use Rattle.nm_core.specs.declared.event.Field.{Field}
-use Rattle.nm_core.specs.declared.event.Event.{Event}
-use Rattle.nm_core.specs.declared.event.Event.TheVariants.{Sight, SightFor, Announce, Leave, LeaveWith, Scan, Advance, Claim, Give, Look, Fill, Link, Flag, Tag, Splice, Join}
-use Rattle.nm_core.specs.declared.event.Field.TheVariants.{Key, Edge as EdgeOn, Birth}
-use Rattle.nm_core.specs.declared.memory.Node.{Node}
-use Rattle.nm_core.specs.Memory.{Memory, edge, blank, opening}
-use Rattle.nm_core.specs.Knowledge.{Knowledge, draft_of, is_private}
-use Rattle.nm_core.specs.Step.{refusal, outside, is_edge, others_scanned, is_held_back, last_number}
-use Rattle.nm_core.specs.Runs.{State, of, start}
-use Rattle.nm_core.specs.Walks.{Entry}
-use Rattle.nm_core.specs.Ordered.{ordered, after_in}
-use Rattle.nm_core.specs.Lawful.{EpochsAgree}
-use Rattle.nm_core.proofs.Steps.{passed}
-use Rattle.nm_core.proofs.EachState.{each_epoch_agrees}
+use Rattle.nm_model.specs.declared.event.Field.{Field}
+use Rattle.nm_model.specs.declared.event.Event.{Event}
+use Rattle.nm_model.specs.declared.event.Event.TheVariants.{Sight, SightFor, Announce, Leave, LeaveWith, Scan, Advance, Claim, Give, Look, Fill, Link, Flag, Tag, Splice, Join}
+use Rattle.nm_model.specs.declared.event.Field.TheVariants.{Key, Edge as EdgeOn, Birth}
+use Rattle.nm_model.specs.declared.memory.Node.{Node}
+use Rattle.nm_model.specs.Memory.{Memory, edge, blank, opening}
+use Rattle.nm_model.specs.Knowledge.{Knowledge, draft_of, is_private}
+use Rattle.nm_model.specs.Step.{refusal, outside, is_edge, others_scanned, is_held_back, last_number}
+use Rattle.nm_model.specs.Runs.{State, of, start}
+use Rattle.nm_model.specs.Walks.{Entry}
+use Rattle.nm_model.specs.Ordered.{ordered, after_in}
+use Rattle.nm_model.specs.Lawful.{EpochsAgree}
+use Rattle.nm_laws.proofs.Steps.{passed}
+use Rattle.nm_laws.proofs.EachState.{each_epoch_agrees}
 use Rattle.nm_order.specs.Hands.{IsPooled}
 use Rattle.nm_order.specs.Logs.{known_by, IsLogOf}
 use Rattle.nm_order.proofs.HeldSlots.{hands_are_apart}
@@ -33,7 +33,7 @@ use Rattle.nm_edge.proofs.Packing.{unpacked_word}
 use Rattle.nm_edge.proofs.Words.{places_are_rows}
 use Rattle.nm_words.proofs.MarkedEdges.{each_null_unmarked}
 use Rattle.nm_words.proofs.PackedSizes.{each_state_in_range}
-use Rattle.nm_core.proofs.Reachable.{layout_kept}
+use Rattle.nm_laws.proofs.Reachable.{layout_kept}
 use Rattle.nm_steps.specs.Rules.{is_store, IsFound}
 use Rattle.nm_steps.specs.Steps.{May, IsAsLooked}
 

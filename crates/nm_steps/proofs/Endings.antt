@@ -2,11 +2,11 @@
 use Rattle.std.proofs.Common.{◌≡◌, ◌≤◌, ℕ, List, length, sym, ap, ◌∙◌, subst, arith}
 use Rattle.nm_edge.specs.Layouts.{Layout}
 use Rattle.nm_edge.specs.Words.{words}
-use Rattle.nm_core.specs.Runs.{State, start}
-use Rattle.nm_core.specs.Ordered.{Configuration, ordered, after_in}
+use Rattle.nm_model.specs.Runs.{State, start}
+use Rattle.nm_model.specs.Ordered.{Configuration, ordered, after_in}
 use Rattle.nm_order.proofs.OrderedLaws.{each_ordered}
 use Rattle.nm_order.proofs.OrderedLaws.{IsOrdered}
-use Rattle.nm_core.proofs.Reachable.{layout_kept}
+use Rattle.nm_laws.proofs.Reachable.{layout_kept}
 use Rattle.nm_words.specs.Packing.{Fits, StateFits}
 use Rattle.nm_words.proofs.PackedEvents.{each_state_fits}
 use Rattle.nm_words.proofs.PackedReads.{each_field_has_a_word}

@@ -6,26 +6,26 @@ use Rattle.std.proofs.lemmas.List.Elements.{All-append}
 use Rattle.std.proofs.lemmas.Bool.{leb-true}
 use Rattle.nm_edge.specs.Layouts.{Layout, IsLayout}
 use Rattle.nm_edge.specs.Words.{IsField}
-use Rattle.nm_core.specs.declared.event.Event.{Event}
-use Rattle.nm_core.specs.declared.event.Event.TheVariants.{Join, Fill}
-use Rattle.nm_core.specs.declared.event.Field.TheVariants.{Birth}
-use Rattle.nm_core.specs.declared.reply.Reply.{Reply}
-use Rattle.nm_core.specs.declared.reply.Reply.TheVariants.{Joined}
-use Rattle.nm_core.specs.declared.reply.Refused.{Refused}
-use Rattle.nm_core.specs.declared.reply.Refused.TheVariants.{NoWorker, NotReady}
-use Rattle.nm_core.specs.declared.trace.Turn.{Turn}
-use Rattle.nm_core.specs.Maps.{or_else}
-use Rattle.nm_core.specs.Knowledge.{Knowledge}
-use Rattle.nm_core.specs.Step.{first, ◌refuses◌, refusal, write}
-use Rattle.nm_core.specs.Runs.{State, of, start, next, applied, refused, refusal_of, reply_of, is_no_worker, join_refusal}
-use Rattle.nm_core.specs.Lawful.{BirthsStand, EachBirthStands}
-use Rattle.nm_core.specs.Walks.{Entry, entry_of, log_of, search_after}
-use Rattle.nm_core.specs.Searches.{Search, idle}
-use Rattle.nm_core.specs.Ordered.{Configuration, ordered, search_of, disorder, disorder_in, disorder_among, refused_in, applied_in, next_in, outcome_in, after_in, trace_in}
-use Rattle.nm_core.proofs.Configurations.{after_in-append, allowed_next, allowed_outcome, allowed_state}
-use Rattle.nm_core.proofs.KnownBirths.{each_birth_stands}
-use Rattle.nm_core.proofs.LogsOfRuns.{searches_tell}
-use Rattle.nm_core.proofs.Reachable.{layout_kept}
+use Rattle.nm_model.specs.declared.event.Event.{Event}
+use Rattle.nm_model.specs.declared.event.Event.TheVariants.{Join, Fill}
+use Rattle.nm_model.specs.declared.event.Field.TheVariants.{Birth}
+use Rattle.nm_model.specs.declared.reply.Reply.{Reply}
+use Rattle.nm_model.specs.declared.reply.Reply.TheVariants.{Joined}
+use Rattle.nm_model.specs.declared.reply.Refused.{Refused}
+use Rattle.nm_model.specs.declared.reply.Refused.TheVariants.{NoWorker, NotReady}
+use Rattle.nm_model.specs.declared.trace.Turn.{Turn}
+use Rattle.nm_model.specs.Maps.{or_else}
+use Rattle.nm_model.specs.Knowledge.{Knowledge}
+use Rattle.nm_model.specs.Step.{first, ◌refuses◌, refusal, write}
+use Rattle.nm_model.specs.Runs.{State, of, start, next, applied, refused, refusal_of, reply_of, is_no_worker, join_refusal}
+use Rattle.nm_model.specs.Lawful.{BirthsStand, EachBirthStands}
+use Rattle.nm_model.specs.Walks.{Entry, entry_of, log_of, search_after}
+use Rattle.nm_model.specs.Searches.{Search, idle}
+use Rattle.nm_model.specs.Ordered.{Configuration, ordered, search_of, disorder, disorder_in, disorder_among, refused_in, applied_in, next_in, outcome_in, after_in, trace_in}
+use Rattle.nm_laws.proofs.Configurations.{after_in-append, allowed_next, allowed_outcome, allowed_state}
+use Rattle.nm_laws.proofs.KnownBirths.{each_birth_stands}
+use Rattle.nm_laws.proofs.LogsOfRuns.{searches_tell}
+use Rattle.nm_laws.proofs.Reachable.{layout_kept}
 use Rattle.nm_order.specs.Intervals.{HasKey}
 use Rattle.nm_order.specs.Logs.{takes_part, part_of, known_by}
 use Rattle.nm_order.proofs.PartsOfRuns.{logs_tell, part_tells_search}

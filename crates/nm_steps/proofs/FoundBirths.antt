@@ -2,13 +2,13 @@
 use Rattle.std.proofs.Common.{◌≡◌, ℕ, ◌≤◌, false, List, sym, ap, subst, ◌∙◌, arith}
 use Rattle.nm_edge.specs.Layouts.{Layout}
 use Rattle.nm_edge.specs.Words.{IsSlot, at_birth}
-use Rattle.nm_core.specs.declared.event.Event.{Event}
-use Rattle.nm_core.specs.Memory.{node}
-use Rattle.nm_core.specs.Step.{last_number}
-use Rattle.nm_core.specs.Runs.{State, start}
-use Rattle.nm_core.specs.Walks.{Entry}
-use Rattle.nm_core.specs.Ordered.{ordered, after_in}
-use Rattle.nm_core.proofs.Reachable.{layout_kept}
+use Rattle.nm_model.specs.declared.event.Event.{Event}
+use Rattle.nm_model.specs.Memory.{node}
+use Rattle.nm_model.specs.Step.{last_number}
+use Rattle.nm_model.specs.Runs.{State, start}
+use Rattle.nm_model.specs.Walks.{Entry}
+use Rattle.nm_model.specs.Ordered.{ordered, after_in}
+use Rattle.nm_laws.proofs.Reachable.{layout_kept}
 use Rattle.nm_order.proofs.OrderedLaws.{IsOrdered, each_ordered}
 use Rattle.nm_words.specs.Packing.{Fits, InRange, StateFits, StateIsInRange, word_at, touched}
 use Rattle.nm_words.proofs.PackedEvents.{each_state_fits}

@@ -3,9 +3,9 @@ use Rattle.std.proofs.Common.{inr, ◌≡◌, ◌-◌, ◌<◌, ℕ, true, false
 use Rattle.std.specs.Prelude.{None}
 use Rattle.atomic_table.specs.declared.shared.Seat.{Seat}
 use Rattle.nm_edge.specs.Layouts.{Layout, IsLayout}
-use Rattle.nm_core.specs.declared.knowledge.Brief.{Brief}
-use Rattle.nm_core.specs.Knowledge.{is_private}
-use Rattle.nm_core.specs.Ordered.{trace_in}
+use Rattle.nm_model.specs.declared.knowledge.Brief.{Brief}
+use Rattle.nm_model.specs.Knowledge.{is_private}
+use Rattle.nm_model.specs.Ordered.{trace_in}
 use Rattle.nm_order.specs.Hands.{IsPooled}
 use Rattle.nm_order.specs.Logs.{IsLogOf}
 use Rattle.nm_steps.specs.declared.view.View.{View}

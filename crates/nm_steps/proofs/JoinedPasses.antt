@@ -4,14 +4,14 @@ use Rattle.std.specs.Prelude.{Option}
 use Rattle.std.proofs.lemmas.Bool.{cond_both}
 use Rattle.atomic_table.specs.declared.shared.Seat.{Seat}
 use Rattle.nm_edge.specs.Layouts.{IsLayout}
-use Rattle.nm_core.specs.declared.event.Event.TheVariants.{Join}
-use Rattle.nm_core.specs.declared.knowledge.Brief.{Brief}
-use Rattle.nm_core.specs.declared.reply.Reply.TheVariants.{Joined}
-use Rattle.nm_core.specs.declared.knowledge.Draft.{Draft}
-use Rattle.nm_core.specs.declared.ledger.Ledger.{Ledger}
-use Rattle.nm_core.specs.Knowledge.{Knowledge, is_private}
-use Rattle.nm_core.specs.Learning.{learn, resigned, inheriting}
-use Rattle.nm_core.specs.Maps.{has}
+use Rattle.nm_model.specs.declared.event.Event.TheVariants.{Join}
+use Rattle.nm_model.specs.declared.knowledge.Brief.{Brief}
+use Rattle.nm_model.specs.declared.reply.Reply.TheVariants.{Joined}
+use Rattle.nm_model.specs.declared.knowledge.Draft.{Draft}
+use Rattle.nm_model.specs.declared.ledger.Ledger.{Ledger}
+use Rattle.nm_model.specs.Knowledge.{Knowledge, is_private}
+use Rattle.nm_model.specs.Learning.{learn, resigned, inheriting}
+use Rattle.nm_model.specs.Maps.{has}
 use Rattle.nm_order.specs.Hands.{IsPooled}
 use Rattle.nm_steps.specs.declared.view.View.{View}
 use Rattle.nm_steps.specs.Rules.{knowledge, joined, passing}

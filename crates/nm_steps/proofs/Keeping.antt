@@ -14,13 +14,13 @@ use Rattle.atomic_table.proofs.Lists.{at_set}
 use Rattle.nm_edge.specs.Layouts.{Layout}
 use Rattle.nm_edge.specs.Words.{word}
 use Rattle.nm_edge.proofs.Words.{fields_within}
-use Rattle.nm_core.specs.declared.event.Event.{Event}
-use Rattle.nm_core.specs.declared.event.Event.TheVariants.{Join}
-use Rattle.nm_core.specs.declared.reply.Reply.{Reply}
-use Rattle.nm_core.specs.declared.trace.Turn.{Turn}
-use Rattle.nm_core.specs.Learning.{learn}
-use Rattle.nm_core.specs.Walks.{Entry}
-use Rattle.nm_core.specs.Ordered.{ordered, after_in, trace_in}
+use Rattle.nm_model.specs.declared.event.Event.{Event}
+use Rattle.nm_model.specs.declared.event.Event.TheVariants.{Join}
+use Rattle.nm_model.specs.declared.reply.Reply.{Reply}
+use Rattle.nm_model.specs.declared.trace.Turn.{Turn}
+use Rattle.nm_model.specs.Learning.{learn}
+use Rattle.nm_model.specs.Walks.{Entry}
+use Rattle.nm_model.specs.Ordered.{ordered, after_in, trace_in}
 use Rattle.nm_order.specs.Logs.{takes_part, is_leaver, part_of, known_by}
 use Rattle.nm_words.specs.Packing.{words_of, word_at, touched, left_word}
 use Rattle.nm_words.specs.Told.{told}
@@ -213,7 +213,7 @@ allows L slots id v e i f said alive layout index may change tell s k homes at s
 
 -- what every operation asks of its caller, where the pass is ready; d is the event that the `Play` names
 asked : (L : Layout) (z : TableId) (slots : ℕ) (it : Seat Unit View) (d e : Event) (i : ℕ) (f said : ℕ → ℕ)
-    → d ≡ e → IsReady L z it e i → Changes e it.me.0 f
+    → d ≡ e → IsReady (record { table = z; layout = L }) it e i → Changes e it.me.0 f
     → ((n : ℕ) → (told it.me.0.layout (knowledge it.me.0) e (said n) ≡ told it.me.0.layout (knowledge it.me.0) e n) × (is_store e ≡ false → said n ≡ n))
     → (it.table_id ≡ z) × (i < z.words) × Allows (Kept L) slots it.id it.me i f (λ n. Did d no_step it.me (said n))
 asked L z slots it d e i f said pick r change tell = (
@@ -226,11 +226,11 @@ asked L z slots it d e i f said pick r change tell = (
 
 -- the same where the `Play` is told the word that was found, and where it is told the one stored
 pub asked_plainly : (L : Layout) (z : TableId) (slots : ℕ) (it : Seat Unit View) (d e : Event) (i : ℕ) (f : ℕ → ℕ)
-    → d ≡ e → IsReady L z it e i → Changes e it.me.0 f
+    → d ≡ e → IsReady (record { table = z; layout = L }) it e i → Changes e it.me.0 f
     → (it.table_id ≡ z) × (i < z.words) × Allows (Kept L) slots it.id it.me i f (Did d no_step it.me)
 asked_plainly L z slots it d e i f pick r change = asked L z slots it d e i f (λ n. n) pick r change (λ n. (refl, λ h. refl))
 
 pub asked_blind : (L : Layout) (z : TableId) (slots : ℕ) (it : Seat Unit View) (d e : Event) (i new : ℕ)
-    → d ≡ e → IsReady L z it e i → Changes e it.me.0 (λ _. new) → IsBlind e it.me.0
+    → d ≡ e → IsReady (record { table = z; layout = L }) it e i → Changes e it.me.0 (λ _. new) → IsBlind e it.me.0
     → (it.table_id ≡ z) × (i < z.words) × Allows (Kept L) slots it.id it.me i (λ _. new) (λ _. Did d no_step it.me new)
 asked_blind L z slots it d e i new pick r change blind = asked L z slots it d e i (λ _. new) (λ _. new) pick r change (λ n. (blind.same new n, λ h. absurd (true≢false (sym blind.store ∙ h))))

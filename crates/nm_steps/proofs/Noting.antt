@@ -1,31 +1,31 @@
 -- What a step leaves of a pass: the epochs that it mirrors, and its log, which is a part of a run still.
 use Rattle.std.proofs.Common.{◌≡◌, ◌≢◌, ℕ, ◌<◌, ◌≤◌, inr, ◌+◌, ◌==◌, Bool, true, false, ◌||◌, cond, List, [], ◌∷◌, ◌++◌, refl, sym, ap, subst, ◌∙◌, eq-eqb, true≢false}
 use Rattle.std.specs.Prelude.{Option, Some, None, IfSome}
-use Rattle.nm_core.specs.Maps.{is_number}
+use Rattle.nm_model.specs.Maps.{is_number}
 use Rattle.std.proofs.lemmas.Bool.{cond_both, ne_eqb}
 use Rattle.atomic_table.specs.Seated.{TableId}
 use Rattle.atomic_table.specs.declared.shared.Seat.{Seat}
 use Rattle.nm_edge.specs.Layouts.{Layout, IsLayout}
 use Rattle.nm_edge.specs.Words.{word, words}
-use Rattle.nm_core.specs.declared.event.Field.{Field}
-use Rattle.nm_core.specs.declared.event.Field.TheVariants.{Edge as EdgeOn, Birth}
-use Rattle.nm_core.specs.declared.event.Event.{Event}
-use Rattle.nm_core.specs.declared.event.Event.TheVariants.{Sight, SightFor, Announce, Leave, LeaveWith, Scan, Advance, Claim, Give, Look, Fill, Link, Flag, Tag, Splice, Join}
-use Rattle.nm_core.specs.declared.reply.Reply.{Reply}
-use Rattle.nm_core.specs.declared.reply.Reply.TheVariants.{Saw, Labelled, Pinned, Missed, Announced, Departed, Idle, In, Moved, Behind, Claimed, Returned, Freed, BirthIs, EdgeIs, Filled, Linked, Flagged, Was, Cut, Lost, Joined}
-use Rattle.nm_core.specs.declared.knowledge.Brief.{Brief}
-use Rattle.nm_core.specs.Knowledge.{Knowledge, is_private}
-use Rattle.nm_core.specs.Learning.{learn, learn_sight, learn_scan, look_private, look_known, resigned, inheriting}
-use Rattle.nm_core.specs.Step.{last_number, refusal}
-use Rattle.nm_core.specs.Walks.{Entry}
-use Rattle.nm_core.specs.Ordered.{ordered, after_in, trace_in}
+use Rattle.nm_model.specs.declared.event.Field.{Field}
+use Rattle.nm_model.specs.declared.event.Field.TheVariants.{Edge as EdgeOn, Birth}
+use Rattle.nm_model.specs.declared.event.Event.{Event}
+use Rattle.nm_model.specs.declared.event.Event.TheVariants.{Sight, SightFor, Announce, Leave, LeaveWith, Scan, Advance, Claim, Give, Look, Fill, Link, Flag, Tag, Splice, Join}
+use Rattle.nm_model.specs.declared.reply.Reply.{Reply}
+use Rattle.nm_model.specs.declared.reply.Reply.TheVariants.{Saw, Labelled, Pinned, Missed, Announced, Departed, Idle, In, Moved, Behind, Claimed, Returned, Freed, BirthIs, EdgeIs, Filled, Linked, Flagged, Was, Cut, Lost, Joined}
+use Rattle.nm_model.specs.declared.knowledge.Brief.{Brief}
+use Rattle.nm_model.specs.Knowledge.{Knowledge, is_private}
+use Rattle.nm_model.specs.Learning.{learn, learn_sight, learn_scan, look_private, look_known, resigned, inheriting}
+use Rattle.nm_model.specs.Step.{last_number, refusal}
+use Rattle.nm_model.specs.Walks.{Entry}
+use Rattle.nm_model.specs.Ordered.{ordered, after_in, trace_in}
 use Rattle.nm_order.specs.Hands.{IsPooled}
 use Rattle.nm_order.specs.Logs.{is_leaver, part_of, known_by, IsLogOf}
 use Rattle.nm_words.specs.Packing.{word_at, touched}
 use Rattle.nm_words.specs.Told.{told}
 use Rattle.nm_steps.specs.declared.view.View.{View}
 use Rattle.nm_steps.specs.Rules.{knowledge, logged, is_store, IsFound}
-use Rattle.nm_steps.specs.Steps.{May, IsReady, IsDone, IsOfRun, Tied, Laid, noted, noted_sight}
+use Rattle.nm_steps.specs.Steps.{Stand, May, IsReady, IsDone, IsOfRun, IsInRun, Tied, Laid, noted, noted_sight}
 use Rattle.nm_steps.proofs.Presence.{gone_kept, known_push}
 use Rattle.nm_steps.proofs.Asking.{within, seen_small, private_pooled}
 use Rattle.nm_steps.proofs.Extending.{IsPartOf, keys-append, trace_after}
@@ -112,6 +112,13 @@ module _ (L : Layout) (w : ℕ) (log : List Entry) (e : Event) (n : ℕ) (f : Is
         ∙ (ap (λ (r : Reply). part_of w (trace_in (ordered L) f.turns) ++ (e, r) ∷ []) reply_is ∙ ap (λ (l : List Entry). l ++ (e, told L (known_by L w log) e n) ∷ []) (sym f.is_part)));
   }
 
+  -- and its worker has not resigned in it
+  pub run_grows : IsOfRun L w (log ++ (e, told L (known_by L w log) e n) ∷ [])
+  run_grows = record {
+    is_part = log_grows;
+    here = ap (λ (k : Knowledge). k.gone) (known_push w L log (e, told L (known_by L w log) e n)) ∙ (gone_kept w (known_by L w log) e (told L (known_by L w log) e n) (no_leaver L w log e may w) ∙ f.here);
+  }
+
 -- ---- a pass before and after a step
 
 -- the epoch last read, if there is one, is no greater than the greatest
@@ -120,20 +127,36 @@ small_seen None small = tt
 small_seen (Some s) small = small s refl
 
 pub ready : (z : TableId) (key L : Layout) (it : Seat Unit View) (number : ℕ) (brief : Brief) (e : Event) (i : ℕ)
-    → Laid z key L → Tied it number brief → it.table_id ≡ z → it.me.0.layout ≡ L → May it.me.0.layout it.me.0.number it.me.0.log e → i ≡ word L (touched number e) → IsReady key z it e i
-ready z key L it number brief e i laid tied table layout may index =
-    let same : it.me.0.layout ≡ key = layout ∙ sym laid.key_is in
-    let k : May key it.me.0.number it.me.0.log e = subst (λ (l : Layout). May l it.me.0.number it.me.0.log e) same may in
-    let own : it.me.0.number < key.workers = subst (λ (n : ℕ). n < key.workers) tied.number_is (subst (λ (l : Layout). number < l.workers) same tied.worker) in
+    → Laid z key L → Tied it number brief → it.table_id ≡ z → it.me.0.layout ≡ L → May it.me.0.layout it.me.0.number it.me.0.log e → i ≡ word L (touched number e) → IsReady (record { table = z; layout = L }) it e i
+ready z key L it number brief e i laid tied table same may index =
+    let k : May L it.me.0.number it.me.0.log e = subst (λ (l : Layout). May l it.me.0.number it.me.0.log e) same may in
+    let own : it.me.0.number < L.workers = subst (λ (n : ℕ). n < L.workers) tied.number_is (subst (λ (l : Layout). number < l.workers) same tied.worker) in
     record {
       table = table;
-      words = laid.words_are ∙ ap words (sym laid.key_is);
+      words = laid.words_are;
       empty = tied.empty;
       alive = tied.alive;
       layout = same;
-      within = within key it.me.0.number it.me.0.log own e k;
-      word = index ∙ (ap (λ (l : Layout). word l (touched number e)) (sym laid.key_is) ∙ ap (λ (w : ℕ). word key (touched w e)) tied.number_is);
+      within = within L it.me.0.number it.me.0.log own e k;
+      word = index ∙ ap (λ (w : ℕ). word L (touched w e)) tied.number_is;
       may = k;
+    }
+
+-- the layout that the table was made for is the one of its rule
+pub ready_by_key : (z : TableId) (key L : Layout) (it : Seat Unit View) (e : Event) (i : ℕ) → Laid z key L → IsReady (record { table = z; layout = L }) it e i → IsReady (record { table = z; layout = key }) it e i
+ready_by_key z key L it e i laid r = subst (λ (l : Layout). IsReady (record { table = z; layout = l }) it e i) (sym laid.key_is) r
+
+-- a pass as clauses see it
+abbrev pub standing : Seat Unit View → Stand
+standing it = record { table = it.table_id; seat = it.id; view = it.me.0 }
+
+-- after a step its log is of a run
+pub in_run_after : (it after : Seat Unit View) (number : ℕ) (brief : Brief) (e : Event) (n : ℕ) → Tied it number brief → May it.me.0.layout it.me.0.number it.me.0.log e → IsDone it after e n → IsInRun (standing after)
+in_run_after it after number brief e n tied may done =
+    let me : after.me.0 ≡ logged it.me.0 e n = ap (λ m. m.0) done.me in
+    record {
+      fits = subst (λ (v : View). IsLayout v.layout) (sym me) tied.fits;
+      run = subst (λ (v : View). IsOfRun v.layout v.number v.log) (sym me) (run_grows it.me.0.layout it.me.0.number it.me.0.log e n done.found may);
     }
 
 pub tied_after : (it after : Seat Unit View) (number : ℕ) (brief new : Brief) (e : Event) (n : ℕ) → Tied it number brief → May it.me.0.layout it.me.0.number it.me.0.log e → IsDone it after e n
@@ -146,9 +169,6 @@ tied_after it after number brief new e n tied may done is =
     is ∙ (ap (λ (b : Brief). noted b e r) tied.brief_is
     ∙ (sym (brief_is_noted it.me.0.number (knowledge it.me.0) e r)
     ∙ sym (ap (λ (k : Knowledge). k.brief) (known_push it.me.0.number it.me.0.layout it.me.0.log (e, r))))) in
-    let still : (known_by it.me.0.layout it.me.0.number (it.me.0.log ++ (e, r) ∷ [])).gone ≡ false =
-    ap (λ (k : Knowledge). k.gone) (known_push it.me.0.number it.me.0.layout it.me.0.log (e, r))
-    ∙ (gone_kept it.me.0.number (knowledge it.me.0) e r (no_leaver it.me.0.layout it.me.0.number it.me.0.log e may it.me.0.number) ∙ done.found.here) in
     record {
       empty = ap (λ m. m.1) done.me ∙ tied.empty;
       alive = ap (λ (v : View). v.spent) me ∙ tied.alive;
@@ -159,7 +179,7 @@ tied_after it after number brief new e n tied may done is =
       small = small_seen new.seen (λ s at. seen_small it.me.0.layout it.me.0.number (it.me.0.log ++ (e, r) ∷ []) tied.fits longer s (sym (ap (λ (b : Brief). b.seen) epochs) ∙ at));
       private = subst (λ (v : View). (x : ℕ) → is_private (knowledge v) x ≡ true → IsPooled v.layout x) (sym me)
           (private_pooled it.me.0.layout it.me.0.number (it.me.0.log ++ (e, r) ∷ []) tied.fits longer);
-      log = inr (subst (λ (v : View). IsOfRun v.layout v.number v.log) (sym me) (record { is_part = longer; here = still }));
+      log = inr (in_run_after it after number brief e n tied may done).run;
     }
 
 -- ---- a sight is always allowed

@@ -1,8 +1,8 @@
 -- How the words of the empty tree come to be, from zeros on.
 use Rattle.std.specs.Prelude.{◌≡◌, ℕ, ◌+◌, ◌-◌, false, true, List, ◌++◌, replicate, None}
 use Rattle.nm_edge.specs.Layouts.{Layout}
-use Rattle.nm_core.specs.declared.memory.Node.{Node}
-use Rattle.nm_core.specs.Memory.{Memory, node, blank, put_node, opening}
+use Rattle.nm_model.specs.declared.memory.Node.{Node}
+use Rattle.nm_model.specs.Memory.{Memory, node, blank, put_node, opening}
 use Rattle.nm_words.specs.Packing.{Fits, words_of}
 
 -- nothing was written yet: every slot is blank, and none is in the pool

@@ -7,20 +7,20 @@ use Rattle.nm_edge.specs.declared.edge.Side.{Side}
 use Rattle.nm_edge.specs.declared.node.NodeId.{NodeId}
 use Rattle.nm_edge.specs.Layouts.{Layout, IsLayout}
 use Rattle.nm_edge.specs.Words.{IsField, word, words}
-use Rattle.nm_core.specs.declared.event.Event.{Event}
-use Rattle.nm_core.specs.declared.event.Event.TheVariants.{Sight, SightFor, Announce, Leave, LeaveWith, Advance, Fill, Splice, Join}
-use Rattle.nm_core.specs.declared.event.Field.TheVariants.{Birth}
-use Rattle.nm_core.specs.declared.reply.Reply.{Reply}
-use Rattle.nm_core.specs.declared.reply.Reply.TheVariants.{Saw, Labelled, Pinned, Missed, Announced, Departed, Idle, In, Moved, Behind, Claimed, Taken, Returned, Freed, Linked, Flagged, Cut, Lost, Joined}
-use Rattle.nm_core.specs.declared.knowledge.Brief.{Brief}
-use Rattle.nm_core.specs.declared.ledger.Ledger.{Ledger}
-use Rattle.nm_core.specs.Memory.{Memory, node}
-use Rattle.nm_core.specs.Ledgers.{front_of}
-use Rattle.nm_core.specs.Knowledge.{Knowledge, draft_of, is_private, way, cut_by}
-use Rattle.nm_core.specs.Step.{last_number, refusal, confirmed, node_of, node_linked}
-use Rattle.nm_core.specs.Walks.{Entry, search_after}
-use Rattle.nm_core.specs.Searches.{idle}
-use Rattle.nm_core.specs.Ordered.{disorder, ordered, after_in, trace_in}
+use Rattle.nm_model.specs.declared.event.Event.{Event}
+use Rattle.nm_model.specs.declared.event.Event.TheVariants.{Sight, SightFor, Announce, Leave, LeaveWith, Advance, Fill, Splice, Join}
+use Rattle.nm_model.specs.declared.event.Field.TheVariants.{Birth}
+use Rattle.nm_model.specs.declared.reply.Reply.{Reply}
+use Rattle.nm_model.specs.declared.reply.Reply.TheVariants.{Saw, Labelled, Pinned, Missed, Announced, Departed, Idle, In, Moved, Behind, Claimed, Taken, Returned, Freed, Linked, Flagged, Cut, Lost, Joined}
+use Rattle.nm_model.specs.declared.knowledge.Brief.{Brief}
+use Rattle.nm_model.specs.declared.ledger.Ledger.{Ledger}
+use Rattle.nm_model.specs.Memory.{Memory, node}
+use Rattle.nm_model.specs.Ledgers.{front_of}
+use Rattle.nm_model.specs.Knowledge.{Knowledge, draft_of, is_private, way, cut_by}
+use Rattle.nm_model.specs.Step.{last_number, refusal, confirmed, node_of, node_linked}
+use Rattle.nm_model.specs.Walks.{Entry, search_after}
+use Rattle.nm_model.specs.Searches.{idle}
+use Rattle.nm_model.specs.Ordered.{disorder, ordered, after_in, trace_in}
 use Rattle.nm_order.specs.Intervals.{HasKey}
 use Rattle.nm_order.specs.Logs.{known_by, IsLogOf}
 use Rattle.nm_order.specs.Hands.{IsPooled}
@@ -56,18 +56,29 @@ pub record HasEmptyHands (k : Knowledge) : Type 0 where
   pub drafts : length k.drafts ≡ 0
   pub labelled : k.brief.unlabelled ≡ false
 
+-- ---- what clauses see of a table and of a pass
+
+pub record Board : Type 0 where
+  pub table : TableId
+  pub layout : Layout
+
+pub record Stand : Type 0 where
+  pub table : TableId
+  pub seat : ℕ
+  pub view : View
+
 -- ---- one operation on one word
 
--- the pass can do this event, by the word i
-pub record IsReady (L : Layout) (z : TableId) (it : Seat Unit View) (e : Event) (i : ℕ) : Type 0 where
-  pub table : it.table_id ≡ z
-  pub words : z.words ≡ words L
+-- the pass of this seat can do this event, by the word i
+pub record IsReady (b : Board) (it : Seat Unit View) (e : Event) (i : ℕ) : Type 0 where
+  pub table : it.table_id ≡ b.table
+  pub words : b.table.words ≡ words b.layout
   pub empty : it.me.1 ≡ []
   pub alive : it.me.0.spent ≡ false
-  pub layout : it.me.0.layout ≡ L
-  pub within : IsField L (touched it.me.0.number e)
-  pub word : i ≡ word L (touched it.me.0.number e)
-  pub may : May L it.me.0.number it.me.0.log e
+  pub layout : it.me.0.layout ≡ b.layout
+  pub within : IsField b.layout (touched it.me.0.number e)
+  pub word : i ≡ word b.layout (touched it.me.0.number e)
+  pub may : May b.layout it.me.0.number it.me.0.log e
 
 -- the event is done, with the reply that this word gives
 pub record IsDone (it after : Seat Unit View) (e : Event) (n : ℕ) : Type 0 where
@@ -85,16 +96,7 @@ pub record IsBlind (e : Event) (v : View) : Type 0 where
   pub store : is_store e ≡ true
   pub same : (n m : ℕ) → told v.layout (knowledge v) e n ≡ told v.layout (knowledge v) e m
 
--- ---- what clauses see
-
-pub record Board : Type 0 where
-  pub table : TableId
-  pub layout : Layout
-
-pub record Stand : Type 0 where
-  pub table : TableId
-  pub seat : ℕ
-  pub view : View
+-- ---- a pass and its steps
 
 -- the pass is one of this table's
 pub record IsOf (b : Board) (p : Stand) : Type 0 where
@@ -122,6 +124,11 @@ pub record EndsWithJoin (log : List Entry) : Type 0 where
 pub record IsOfRun (L : Layout) (w : ℕ) (log : List Entry) : Type 0 where
   pub is_part : IsLogOf L w log
   pub here : (known_by L w log).gone ≡ false
+
+-- the pass's log is its worker's part of a run, in a layout that there is, and the worker has not resigned
+pub record IsInRun (p : Stand) : Type 0 where
+  pub fits : IsLayout p.view.layout
+  pub run : IsOfRun p.view.layout p.view.number p.view.log
 
 -- what a pass keeps of its log: its number and epochs, that its private slots are ones of the pool's range, and that the log is of a run.
 -- (Each step tells of the run. A join tells nothing, so of a log that ends with one this is kept from the next step on.)

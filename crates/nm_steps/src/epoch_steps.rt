@@ -1,26 +1,25 @@
 //! The steps on the epoch and on notes.
 ghost use Rattle.std.specs.Prelude.{◌≡◌, ◌<◌, Some};
-ghost use Rattle.nm_core.specs.declared.event.Event.TheVariants.{Sight, SightFor, Announce, Leave, LeaveWith, Scan, Advance};
-ghost use Rattle.nm_core.specs.declared.reply.Reply.TheVariants.{Announced, Departed};
+ghost use Rattle.nm_model.specs.declared.event.Event.TheVariants.{Sight, SightFor, Announce, Leave, LeaveWith, Scan, Advance};
+ghost use Rattle.nm_model.specs.declared.reply.Reply.TheVariants.{Announced, Departed};
 ghost use Rattle.nm_steps.specs.Rules.{knowledge};
-ghost use Rattle.nm_steps.specs.Steps.{IsOf, IsSight, MayStep, Stepped, sight_reply, scan_reply, advance_reply, IsAdvanceFrom, sight_of, noted_sight};
+ghost use Rattle.nm_steps.specs.Steps.{IsOf, IsInRun, IsSight, MayStep, Stepped, sight_reply, scan_reply, advance_reply, IsAdvanceFrom, sight_of, noted_sight};
 
-use crate::acts::{exchange, load, store};
 use crate::answers::Sighted;
 use crate::pass::{Pass, Shared};
-use nm_core::{Brief, Event, Op};
 use nm_edge::Key;
+use nm_model::{Brief, Event, Op};
 
 impl Shared {
     /// Reads the global epoch. It confirms a pin where the worker announces that epoch, and labels a cut.
     pub fn sight(&self, pass: &mut Pass) -> Sighted
         requires { IsOf self.now pass.old }
         ensures step { Stepped pass.old pass.new Sight (sight_reply result) }
+        ensures run { IsInRun pass.new }
         ensures reply { IsSight (knowledge pass.old.view).brief (sight_reply result) }
     {
-        let table = &self.table.shared;
         let word = self.layout.epoch() as usize;
-        let found = load(table, &mut pass.seat, word, Event::Sight);
+        let found = self.load(&mut pass.seat, word, Event::Sight);
         let reply = sighted(pass.brief, found);
         pass.brief = after_sight(pass.brief, reply);
         reply
@@ -31,12 +30,12 @@ impl Shared {
         requires own { IsOf self.now pass.old }
         requires may { MayStep pass.old (SightFor op key) }
         ensures step { Stepped pass.old pass.new (SightFor op key) (sight_reply result) }
+        ensures run { IsInRun pass.new }
         ensures reply { IsSight (knowledge pass.old.view).brief (sight_reply result) }
     {
-        let table = &self.table.shared;
         let word = self.layout.epoch() as usize;
         let event = Event::SightFor(op, key);
-        let found = load(table, &mut pass.seat, word, event);
+        let found = self.load(&mut pass.seat, word, event);
         let reply = sighted(pass.brief, found);
         pass.brief = after_sight(pass.brief, reply);
         reply
@@ -46,14 +45,14 @@ impl Shared {
     pub fn announce(&self, pass: &mut Pass) -> u64
         requires own { IsOf self.now pass.old }
         requires may { MayStep pass.old Announce }
-        ensures { Stepped pass.old pass.new Announce (Announced result) }
+        ensures step { Stepped pass.old pass.new Announce (Announced result) }
+        ensures run { IsInRun pass.new }
     {
-        let table = &self.table.shared;
         let Some(seen) = pass.brief.seen else {
             unreachable!()
         };
         let word = self.layout.note(pass.number) as usize;
-        store(table, &mut pass.seat, word, seen + 1, Event::Announce);
+        self.store(&mut pass.seat, word, seen + 1, Event::Announce);
         pass.brief.note = Some(seen);
         seen
     }
@@ -62,11 +61,11 @@ impl Shared {
     pub fn leave(&self, pass: &mut Pass)
         requires own { IsOf self.now pass.old }
         requires may { MayStep pass.old Leave }
-        ensures { Stepped pass.old pass.new Leave Departed }
+        ensures step { Stepped pass.old pass.new Leave Departed }
+        ensures run { IsInRun pass.new }
     {
-        let table = &self.table.shared;
         let word = self.layout.note(pass.number) as usize;
-        store(table, &mut pass.seat, word, 0, Event::Leave);
+        self.store(&mut pass.seat, word, 0, Event::Leave);
         pass.brief.note = None;
         pass.brief.pin = None;
     }
@@ -75,11 +74,11 @@ impl Shared {
     pub fn leave_with(&self, pass: &mut Pass, answer: bool)
         requires own { IsOf self.now pass.old }
         requires may { MayStep pass.old (LeaveWith answer) }
-        ensures { Stepped pass.old pass.new (LeaveWith answer) Departed }
+        ensures step { Stepped pass.old pass.new (LeaveWith answer) Departed }
+        ensures run { IsInRun pass.new }
     {
-        let table = &self.table.shared;
         let word = self.layout.note(pass.number) as usize;
-        store(table, &mut pass.seat, word, 0, Event::LeaveWith(answer));
+        self.store(&mut pass.seat, word, 0, Event::LeaveWith(answer));
         pass.brief.note = None;
         pass.brief.pin = None;
     }
@@ -88,11 +87,11 @@ impl Shared {
     pub fn scan(&self, pass: &mut Pass, worker: u32) -> Option<u64>
         requires own { IsOf self.now pass.old }
         requires may { MayStep pass.old (Scan worker) }
-        ensures { Stepped pass.old pass.new (Scan worker) (scan_reply result) }
+        ensures step { Stepped pass.old pass.new (Scan worker) (scan_reply result) }
+        ensures run { IsInRun pass.new }
     {
-        let table = &self.table.shared;
         let word = self.layout.note(worker) as usize;
-        let found = load(table, &mut pass.seat, word, Event::Scan(worker));
+        let found = self.load(&mut pass.seat, word, Event::Scan(worker));
         if found == 0 { None } else { Some(found - 1) }
     }
 
@@ -101,14 +100,14 @@ impl Shared {
         requires own { IsOf self.now pass.old }
         requires may { MayStep pass.old Advance }
         ensures step { Stepped pass.old pass.new Advance (advance_reply result) }
+        ensures run { IsInRun pass.new }
         ensures from { IsAdvanceFrom (knowledge pass.old.view).brief.seen result }
     {
-        let table = &self.table.shared;
         let Some(seen) = pass.brief.seen else {
             unreachable!()
         };
         let word = self.layout.epoch() as usize;
-        let found = exchange(table, &mut pass.seat, word, seen, seen + 1, Event::Advance);
+        let found = self.exchange(&mut pass.seat, word, seen, seen + 1, Event::Advance);
         if found == seen {
             pass.brief.seen = Some(seen + 1);
             Ok(seen + 1)

@@ -1,22 +1,31 @@
 //! The table with its layout, and one worker's seat with what its log says.
+//!
+//! The table is a private field: the modules below this one alone reach it, and every other one steps by the five operations of `acts`,
+//! each of which is one operation on one word.
 ghost use Rattle.std.specs.Prelude.{◌≡◌, ◌<◌, ◌⊎◌, ℕ, true};
 ghost use Rattle.nm_edge.specs.Layouts.{IsLayout};
-ghost use Rattle.nm_core.specs.Knowledge.{is_private};
+ghost use Rattle.nm_model.specs.Knowledge.{is_private};
 ghost use Rattle.nm_order.specs.Hands.{IsPooled};
 ghost use Rattle.nm_steps.specs.Rules.{knowledge};
 ghost use Rattle.nm_steps.specs.Steps.{EndsWithJoin, IsOfRun};
 
+mod acts;
+mod closing;
+mod joining;
+mod making;
+
 use crate::view::{Law, Place, View};
 use atomic_table::Table;
-use nm_core::Brief;
+pub use closing::Words;
 use nm_edge::Layout;
+use nm_model::Brief;
 use std::alloc::Global;
 use std::marker::Model;
 
 /// The words of a tree, which workers share.
 #[derive(Drop)]
 pub struct Shared {
-    pub(crate) table: Table<(), View, Layout, Law, Global>,
+    table: Table<(), View, Layout, Law, Global>,
     pub(crate) layout: Layout,
 }
 

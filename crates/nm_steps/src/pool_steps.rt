@@ -1,12 +1,11 @@
 //! The steps on the pool, one bit of one word each.
 ghost use Rattle.std.specs.Prelude.{◌≡◌, true};
-ghost use Rattle.nm_core.specs.declared.event.Event.TheVariants.{Claim, Give};
+ghost use Rattle.nm_model.specs.declared.event.Event.TheVariants.{Claim, Give};
 ghost use Rattle.nm_order.specs.Told.{IsNew};
-ghost use Rattle.nm_steps.specs.Steps.{IsOf, MayStep, Stepped, claim_reply, give_reply};
+ghost use Rattle.nm_steps.specs.Steps.{IsOf, IsInRun, MayStep, Stepped, claim_reply, give_reply};
 
-use crate::acts::{clear, mark};
 use crate::pass::{Pass, Shared};
-use nm_core::Event;
+use nm_model::Event;
 
 impl Shared {
     /// Takes a slot out of the pool; false where it was not there. One that is taken was in none of the worker's hands.
@@ -14,13 +13,13 @@ impl Shared {
         requires own { IsOf self.now pass.old }
         requires may { MayStep pass.old (Claim slot) }
         ensures step { Stepped pass.old pass.new (Claim slot) (claim_reply slot result) }
+        ensures run { IsInRun pass.new }
         ensures new { result ≡ true → IsNew pass.old.view.layout pass.old.view.number pass.old.view.log slot }
     {
-        let table = &self.table.shared;
         let place = self.layout.pool(slot);
         let word = place.word as usize;
         let event = Event::Claim(slot);
-        let found = clear(table, &mut pass.seat, word, !place.mask, event);
+        let found = self.clear(&mut pass.seat, word, !place.mask, event);
         found & place.mask != 0
     }
 
@@ -28,11 +27,11 @@ impl Shared {
     pub fn give(&self, pass: &mut Pass, slot: u32)
         requires own { IsOf self.now pass.old }
         requires may { MayStep pass.old (Give slot) }
-        ensures { Stepped pass.old pass.new (Give slot) (give_reply pass.old.view slot) }
+        ensures step { Stepped pass.old pass.new (Give slot) (give_reply pass.old.view slot) }
+        ensures run { IsInRun pass.new }
     {
-        let table = &self.table.shared;
         let place = self.layout.pool(slot);
         let word = place.word as usize;
-        mark(table, &mut pass.seat, word, place.mask, Event::Give(slot));
+        self.mark(&mut pass.seat, word, place.mask, Event::Give(slot));
     }
 }

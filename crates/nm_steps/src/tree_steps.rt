@@ -1,18 +1,17 @@
 //! The steps on nodes: looks, fills, and the exchanges and marks of edges.
 ghost use Rattle.std.specs.Prelude.{◌≡◌, ◌≤◌, ◌+◌, ◌*◌, true, Some};
 ghost use Rattle.nm_edge.specs.Edges.{edge_in, is_word};
-ghost use Rattle.nm_core.specs.declared.event.Event.TheVariants.{Look, Fill, Link, Flag, Tag, Splice};
-ghost use Rattle.nm_core.specs.declared.event.Field.TheVariants.{Key as KeyOf, Edge as EdgeOn, Birth};
-ghost use Rattle.nm_core.specs.declared.reply.Reply.TheVariants.{KeyIs, EdgeIs, BirthIs, Filled, Was};
-ghost use Rattle.nm_core.specs.Knowledge.{read};
-ghost use Rattle.nm_core.specs.Step.{last_number};
+ghost use Rattle.nm_model.specs.declared.event.Event.TheVariants.{Look, Fill, Link, Flag, Tag, Splice};
+ghost use Rattle.nm_model.specs.declared.event.Field.TheVariants.{Key as KeyOf, Edge as EdgeOn, Birth};
+ghost use Rattle.nm_model.specs.declared.reply.Reply.TheVariants.{KeyIs, EdgeIs, BirthIs, Filled, Was};
+ghost use Rattle.nm_model.specs.Knowledge.{read};
+ghost use Rattle.nm_model.specs.Step.{last_number};
 ghost use Rattle.nm_steps.specs.Rules.{knowledge};
-ghost use Rattle.nm_steps.specs.Steps.{IsOf, MayStep, Stepped, link_reply, flag_reply, splice_reply};
+ghost use Rattle.nm_steps.specs.Steps.{IsOf, IsInRun, MayStep, Stepped, link_reply, flag_reply, splice_reply};
 
-use crate::acts::{exchange, load, mark, store};
 use crate::pass::{Pass, Shared};
-use nm_core::{Event, Field};
 use nm_edge::{Edge, Side};
+use nm_model::{Event, Field};
 
 /// The tag's bit of an edge's word.
 const TAG: u64 = 2;
@@ -22,23 +21,23 @@ impl Shared {
     pub fn look_key(&self, pass: &mut Pass, slot: u32) -> u64
         requires own { IsOf self.now pass.old }
         requires may { MayStep pass.old (Look slot KeyOf) }
-        ensures { Stepped pass.old pass.new (Look slot KeyOf) (KeyIs result) }
+        ensures step { Stepped pass.old pass.new (Look slot KeyOf) (KeyIs result) }
+        ensures run { IsInRun pass.new }
     {
-        let table = &self.table.shared;
         let word = self.layout.key(slot) as usize;
-        load(table, &mut pass.seat, word, Event::Look(slot, Field::Key))
+        self.load(&mut pass.seat, word, Event::Look(slot, Field::Key))
     }
 
     /// Reads an edge of a known node. Its slot is known from then on.
     pub fn look_edge(&self, pass: &mut Pass, slot: u32, side: Side) -> Edge
         requires own { IsOf self.now pass.old }
         requires may { MayStep pass.old (Look slot (EdgeOn side)) }
-        ensures { Stepped pass.old pass.new (Look slot (EdgeOn side)) (EdgeIs result) }
+        ensures step { Stepped pass.old pass.new (Look slot (EdgeOn side)) (EdgeIs result) }
+        ensures run { IsInRun pass.new }
     {
-        let table = &self.table.shared;
         let word = self.layout.edge(slot, side) as usize;
         let event = Event::Look(slot, Field::Edge(side));
-        edge_of(load(table, &mut pass.seat, word, event))
+        edge_of(self.load(&mut pass.seat, word, event))
     }
 
     /// Reads the birth of a known node, or of a private slot: 2^62 at most.
@@ -46,47 +45,47 @@ impl Shared {
         requires own { IsOf self.now pass.old }
         requires may { MayStep pass.old (Look slot Birth) }
         ensures step { Stepped pass.old pass.new (Look slot Birth) (BirthIs result) }
+        ensures run { IsInRun pass.new }
         ensures small { result ≤ last_number }
     {
-        let table = &self.table.shared;
         let word = self.layout.birth(slot) as usize;
-        load(table, &mut pass.seat, word, Event::Look(slot, Field::Birth))
+        self.load(&mut pass.seat, word, Event::Look(slot, Field::Birth))
     }
 
     /// Stores the key of a private slot.
     pub fn fill_key(&self, pass: &mut Pass, slot: u32, key: u64)
         requires own { IsOf self.now pass.old }
         requires may { MayStep pass.old (Fill slot KeyOf key) }
-        ensures { Stepped pass.old pass.new (Fill slot KeyOf key) Filled }
+        ensures step { Stepped pass.old pass.new (Fill slot KeyOf key) Filled }
+        ensures run { IsInRun pass.new }
     {
-        let table = &self.table.shared;
         let word = self.layout.key(slot) as usize;
         let event = Event::Fill(slot, Field::Key, key);
-        store(table, &mut pass.seat, word, key, event);
+        self.store(&mut pass.seat, word, key, event);
     }
 
     /// Stores an edge of a private slot, unmarked.
     pub fn fill_edge(&self, pass: &mut Pass, slot: u32, side: Side, child: u32)
         requires own { IsOf self.now pass.old }
         requires may { MayStep pass.old (Fill slot (EdgeOn side) child) }
-        ensures { Stepped pass.old pass.new (Fill slot (EdgeOn side) child) Filled }
+        ensures step { Stepped pass.old pass.new (Fill slot (EdgeOn side) child) Filled }
+        ensures run { IsInRun pass.new }
     {
-        let table = &self.table.shared;
         let word = self.layout.edge(slot, side) as usize;
         let event = Event::Fill(slot, Field::Edge(side), u64::from(child));
-        store(table, &mut pass.seat, word, word_to(child), event);
+        self.store(&mut pass.seat, word, word_to(child), event);
     }
 
     /// Stores the birth of a private slot: the one that was looked at and 1 more.
     pub fn fill_birth(&self, pass: &mut Pass, slot: u32, birth: u64)
         requires own { IsOf self.now pass.old }
         requires may { MayStep pass.old (Fill slot Birth birth) }
-        ensures { Stepped pass.old pass.new (Fill slot Birth birth) Filled }
+        ensures step { Stepped pass.old pass.new (Fill slot Birth birth) Filled }
+        ensures run { IsInRun pass.new }
     {
-        let table = &self.table.shared;
         let word = self.layout.birth(slot) as usize;
         let event = Event::Fill(slot, Field::Birth, birth);
-        store(table, &mut pass.seat, word, birth, event);
+        self.store(&mut pass.seat, word, birth, event);
     }
 
     /// Puts a private internal node, over the leaf and a private leaf, in the place of the leaf. Lost: the edge that was found.
@@ -100,13 +99,13 @@ impl Shared {
     ) -> Result<(), Edge>
         requires own { IsOf self.now pass.old }
         requires may { MayStep pass.old (Link parent side leaf new) }
-        ensures { Stepped pass.old pass.new (Link parent side leaf new) (link_reply pass.old.view new result) }
+        ensures step { Stepped pass.old pass.new (Link parent side leaf new) (link_reply pass.old.view new result) }
+        ensures run { IsInRun pass.new }
     {
-        let table = &self.table.shared;
         let word = self.layout.edge(parent, side) as usize;
         let event = Event::Link(parent, side, leaf, new);
         let old = word_to(leaf);
-        let found = exchange(table, &mut pass.seat, word, old, word_to(new), event);
+        let found = self.exchange(&mut pass.seat, word, old, word_to(new), event);
         if found == old {
             Ok(())
         } else {
@@ -118,13 +117,13 @@ impl Shared {
     pub fn flag(&self, pass: &mut Pass, parent: u32, side: Side, leaf: u32) -> Result<(), Edge>
         requires own { IsOf self.now pass.old }
         requires may { MayStep pass.old (Flag parent side leaf) }
-        ensures { Stepped pass.old pass.new (Flag parent side leaf) (flag_reply pass.old.view leaf result) }
+        ensures step { Stepped pass.old pass.new (Flag parent side leaf) (flag_reply pass.old.view leaf result) }
+        ensures run { IsInRun pass.new }
     {
-        let table = &self.table.shared;
         let word = self.layout.edge(parent, side) as usize;
         let event = Event::Flag(parent, side, leaf);
         let old = word_to(leaf);
-        let found = exchange(table, &mut pass.seat, word, old, word_flagged(leaf), event);
+        let found = self.exchange(&mut pass.seat, word, old, word_flagged(leaf), event);
         if found == old {
             Ok(())
         } else {
@@ -136,12 +135,12 @@ impl Shared {
     pub fn tag(&self, pass: &mut Pass, parent: u32, side: Side) -> Edge
         requires own { IsOf self.now pass.old }
         requires may { MayStep pass.old (Tag parent side) }
-        ensures { Stepped pass.old pass.new (Tag parent side) (Was result) }
+        ensures step { Stepped pass.old pass.new (Tag parent side) (Was result) }
+        ensures run { IsInRun pass.new }
     {
-        let table = &self.table.shared;
         let word = self.layout.edge(parent, side) as usize;
         let event = Event::Tag(parent, side);
-        edge_of(mark(table, &mut pass.seat, word, TAG, event))
+        edge_of(self.mark(&mut pass.seat, word, TAG, event))
     }
 
     /// Cuts the nodes from the successor down to the parent off, with the flagged leaf beside each: the ancestor's edge leads
@@ -159,14 +158,14 @@ impl Shared {
         requires own { IsOf self.now pass.old }
         requires may { MayStep pass.old (Splice ancestor side successor parent keep) }
         requires kept { read (knowledge pass.old.view) parent keep ≡ Some kept }
-        ensures { Stepped pass.old pass.new (Splice ancestor side successor parent keep) (splice_reply pass.old.view successor parent keep result) }
+        ensures step { Stepped pass.old pass.new (Splice ancestor side successor parent keep) (splice_reply pass.old.view successor parent keep result) }
+        ensures run { IsInRun pass.new }
     {
-        let table = &self.table.shared;
         let word = self.layout.edge(ancestor, side) as usize;
         let event = Event::Splice(ancestor, side, successor, parent, keep);
         let old = word_to(successor);
         let new = kept.untagged().pack();
-        let found = exchange(table, &mut pass.seat, word, old, new, event);
+        let found = self.exchange(&mut pass.seat, word, old, new, event);
         if found != old {
             return Err(edge_of(found));
         }

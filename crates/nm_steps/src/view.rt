@@ -1,7 +1,7 @@
 //! What a seat knows, and the rule.
 use atomic_table::{Play, Seat, TableRule};
-use nm_core::{Event, Reply};
 use nm_edge::Layout;
+use nm_model::{Event, Reply};
 use std::collections::LinkedList;
 use std::marker::{Brand, PhantomData};
 
@@ -32,13 +32,13 @@ impl TableRule<(), View, Layout> for Law {
 
 /// The event that a step is.
 pub trait Doing {
-    ghost use Rattle.nm_core.specs.declared.event.Event.{Event};
+    ghost use Rattle.nm_model.specs.declared.event.Event.{Event};
 
     ghost event: { Event };
 }
 
 impl Doing for Brand {
-    ghost use Rattle.nm_core.specs.declared.event.Event.TheVariants.{Sight};
+    ghost use Rattle.nm_model.specs.declared.event.Event.TheVariants.{Sight};
 
     ghost event = { Sight };
 }

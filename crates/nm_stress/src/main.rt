@@ -1,26 +1,13 @@
-//! Plays a file of events from standard input to standard output.
+//! The program: a command word, standard input and standard output.
 #![tactic(auto)]
 
 ghost use Rattle.std.specs.Prelude.{◌≡◌, length, OnOk};
-ghost use Rattle.nm_stress.specs.Files.{exit_status};
-
-mod fault;
-mod field;
-mod header;
-mod kind;
-mod last_lines;
-mod line;
-mod output;
-mod pieces;
-mod reply;
-mod run;
-mod schedule;
-mod stream;
+ghost use Rattle.nm_files.specs.Files.{exit_status};
 
 use clap::error::ErrorKind;
 use clap::{Arg, ArgAction, Command};
-use fault::RunFault;
-use run::replay;
+use nm_files::fault::RunFault;
+use nm_replay::replay;
 use std::alloc::Global;
 use std::env::Env;
 use std::process::ExitCode;

@@ -1,6 +1,3 @@
-pub mod Marking
-pub mod Making
-pub mod Telling
-pub mod Walks
-pub mod Calls
-pub mod Cleanups
+pub mod Workers
+pub mod Answers
+pub mod Plays

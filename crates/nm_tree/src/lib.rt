@@ -1,20 +1,20 @@
-//! The set: an external search tree that threads share without locks (Natarajan and Mittal, PPoPP 2014).
+//! The set: whole numbers that threads share without locks.
+//!
+//! The tree is the external search tree of Natarajan and Mittal (PPoPP 2014); its removed nodes are used again by epochs (Fraser,
+//! Practical lock-freedom, 2004). Open a `Tree`, give each thread one of its `Worker`s, and call `has`, `insert` and `delete` on the shared tree.
 #![tactic(auto)]
 
-mod cutting;
-mod looking;
+mod changes;
+mod epochs;
+mod fault;
 mod lookup;
-mod making;
-mod marking;
-mod spot;
 #[cfg(test)]
 mod tests;
-mod walking;
+mod tree;
+mod worker;
 
-pub use cutting::{Kept, choose, freeze};
-pub use looking::{look_birth, look_edge, look_key};
-pub use lookup::{Busy, has};
-pub use making::{claim, fill, give, link};
-pub use marking::{flag, splice, tag};
-pub use spot::{Chain, ChainEdge, End, Spot};
-pub use walking::{find, seek};
+pub use fault::{Fault, PinFault};
+pub use nm_epoch::{Advance, Behind, Collected};
+pub use nm_model::NewError;
+pub use tree::Tree;
+pub use worker::{Counts, Worker};

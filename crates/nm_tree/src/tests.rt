@@ -1,125 +1,154 @@
-ghost use Rattle.std.specs.Prelude.{◌≡◌, length};
-ghost use Rattle.nm_steps.specs.Steps.{AreFresh, IsOf, IsSamePass};
-ghost use Rattle.nm_epoch.specs.Resting.{IsResting};
+//! Calls in one thread, each answer compared, and two workers in threads of their own.
+ghost use Rattle.std.specs.Prelude.{◌≡◌, length, IfOk};
+ghost use Rattle.nm_steps.specs.Steps.{IsOf};
+ghost use Rattle.nm_tree.specs.Plays.{IsReady};
+ghost use Rattle.nm_tree.specs.Workers.{AreNew};
 
-use crate::{Busy, has};
-use nm_edge::{Key, Layout};
-use nm_epoch::advance;
-use nm_steps::{Pass, Shared};
+use crate::{Advance, Collected, Counts, Fault, PinFault, Tree, Worker};
+use nm_edge::Key;
+use std::process::Abort;
 use std::test::Fail;
-use std::thread::{Threads, join};
 
-const NODES: u32 = 7;
+mod plays;
+mod threads;
 
-const WORKERS: u32 = 2;
-
-const ROUNDS: u64 = 1000;
-
-/// The two passes of a table of two workers.
-fn both(shared: &Shared, mut passes: Vec<Pass>) -> (Pass, Pass)
-    requires two { length passes.items ≡ 2 }
-    requires fresh { AreFresh shared.now 0 passes.items }
-    ensures first { IsOf shared.now result.0 }
-    ensures first_rests { IsResting result.0 }
-    ensures second { IsOf shared.now result.1 }
-    ensures second_rests { IsResting result.1 }
-{
-    let Some(second) = passes.pop() else {
-        unreachable!()
-    };
-    let Some(first) = passes.pop() else {
-        unreachable!()
-    };
-    (first, second)
+/// A call of a worker.
+#[derive(Clone, Copy)]
+enum Call {
+    Has(u64),
+    Insert(u64),
+    Delete(u64),
+    Finish,
+    Pin,
+    Unpin,
+    Advance,
+    Collect,
 }
 
-#[test]
-fn the_empty_tree_has_no_key(rt: HostRuntime) -> Result<(), Fail> {
-    let (shared, passes) = Shared::new(rt.alloc(), Layout::new(NODES, WORKERS)?)?;
-    let (mut first, mut second) = both(&shared, passes);
-    let Some(five) = Key::new(5) else {
-        panic!(rt; "5 is a key")
-    };
-    let Some(greatest) = Key::new(u64::MAX - 3) else {
-        panic!(rt; "the greatest key")
-    };
-    assert_eq!(rt; has(&shared, &mut first, five, 4), Ok(false));
-    assert_eq!(rt; has(&shared, &mut first, greatest, 1), Ok(false));
-    assert_eq!(rt; has(&shared, &mut second, five, 1), Ok(false));
-    assert_eq!(rt; has(&shared, &mut second, five, 0), Err(Busy));
-    Ok(())
+/// What it answered.
+#[derive(Clone, Copy, Debug, PartialEq, Eq)]
+enum Answer {
+    Is(bool),
+    Not(Fault),
+    Pinned(u64),
+    NotPinned(PinFault),
+    Left,
+    Moved(Advance),
+    Freed(Collected),
+    /// It is held, or not held, so that the call is not made.
+    Refused,
 }
 
-/// Looks a key up and moves the epoch on: whether it was found.
-fn round(shared: &Shared, pass: &mut Pass, key: Key) -> bool
-    requires own { IsOf shared.now pass.old }
-    requires rests { IsResting pass.old }
-    ensures same { IsSamePass pass.old pass.new }
-    ensures rests { IsResting pass.new }
-{
-    let found = has(shared, pass, key, 4);
-    let _ = advance(shared, pass);
-    found == Ok(true)
-}
-
-/// So many rounds: how often the key was found.
-fn rounds(shared: &Shared, mut pass: Pass, key: Key) -> (Pass, u64)
-    requires own { IsOf shared.now pass }
-    requires rests { IsResting pass }
-    ensures own { IsOf shared.now result.0 }
-    ensures rests { IsResting result.0 }
-{
-    let mut times = 0;
-    for _round in 0..ROUNDS {
-        if round(shared, &mut pass, key) {
-            times += 1;
-        }
+fn told(outcome: Result<bool, Fault>) -> Answer {
+    match outcome {
+        Ok(is) => Answer::Is(is),
+        Err(fault) => Answer::Not(fault),
     }
-    (pass, times)
 }
 
-#[test]
-fn two_threads_look_a_key_up(rt: HostRuntime) -> Result<(), Fail> {
-    let (shared, passes) = Shared::new(rt.alloc(), Layout::new(NODES, WORKERS)?)?;
-    let (first, second) = both(&shared, passes);
-    let Some(five) = Key::new(5) else {
-        panic!(rt; "5 is a key")
-    };
-    let ((mut first, one), (second, two)) = by_two(&rt, &shared, first, second, five);
-    assert_eq!(rt; one, 0);
-    assert_eq!(rt; two, 0);
-    assert_eq!(rt; second.number(), 1);
-    assert_eq!(rt; has(&shared, &mut first, five, 1), Ok(false));
-    Ok(())
-}
-
-fn by_two<R: Threads + Sync>(
-    rt: &R,
-    shared: &Shared,
-    one: Pass,
-    two: Pass,
-    key: Key,
-) -> ((Pass, u64), (Pass, u64))
-    requires one { IsOf shared.now one }
-    requires one_rests { IsResting one }
-    requires two { IsOf shared.now two }
-    requires two_rests { IsResting two }
-    ensures one { IsOf shared.now result.0.0 }
-    ensures one_rests { IsResting result.0.0 }
-    ensures two { IsOf shared.now result.1.0 }
+/// A call for a key of the set.
+fn make_keyed(tree: &Tree, worker: &mut Worker, call: Call, key: Key, tries: u32) -> Answer
+    requires own { IsOf tree.now worker.old.pass }
+    ensures own { IsOf tree.now worker.new.pass }
 {
-    join(
-        rt,
-        move || -> (Pass, u64)
-            requires own { IsOf shared.now one }
-            requires rests { IsResting one }
-            ensures own { IsOf shared.entry.now result.0 }
-            ensures rests { IsResting result.0 }
-        { rounds(shared, one, key) },
-        move || -> (Pass, u64)
-            requires own { IsOf shared.now two }
-            requires rests { IsResting two }
-            ensures { IsOf shared.entry.now result.0 }
-        { rounds(shared, two, key) },
-    )
+    if worker.held().is_some() {
+        return Answer::Refused;
+    }
+    match call {
+        Call::Insert(_) => told(tree.insert(worker, key, tries)),
+        Call::Delete(_) => told(tree.delete(worker, key, tries)),
+        _ => told(tree.has(worker, key, tries)),
+    }
+}
+
+/// A call for no key.
+fn make_plain(tree: &Tree, worker: &mut Worker, call: Call, tries: u32) -> Answer
+    requires own { IsOf tree.now worker.old.pass }
+    ensures own { IsOf tree.now worker.new.pass }
+{
+    match call {
+        Call::Finish => told(tree.finish(worker, tries)),
+        Call::Pin => pin(tree, worker, tries),
+        Call::Unpin => unpin(tree, worker),
+        Call::Advance => Answer::Moved(tree.advance(worker)),
+        _ => Answer::Freed(tree.collect(worker)),
+    }
+}
+
+fn pin(tree: &Tree, worker: &mut Worker, tries: u32) -> Answer
+    requires own { IsOf tree.now worker.old.pass }
+    ensures own { IsOf tree.now worker.new.pass }
+{
+    if worker.held().is_some() {
+        return Answer::Refused;
+    }
+    match tree.pin(worker, tries) {
+        Ok(epoch) => Answer::Pinned(epoch),
+        Err(fault) => Answer::NotPinned(fault),
+    }
+}
+
+fn unpin(tree: &Tree, worker: &mut Worker) -> Answer
+    requires own { IsOf tree.now worker.old.pass }
+    ensures own { IsOf tree.now worker.new.pass }
+{
+    if worker.held().is_none() {
+        return Answer::Refused;
+    }
+    tree.unpin(worker);
+    Answer::Left
+}
+
+/// A call, and what it answered.
+fn make(rt: &impl Abort, tree: &Tree, worker: &mut Worker, call: Call, tries: u32) -> Answer
+    requires own { IsOf tree.now worker.old.pass }
+    ensures own { IsOf tree.now worker.new.pass }
+{
+    match call {
+        Call::Has(number) | Call::Insert(number) | Call::Delete(number) => {
+            let Some(key) = Key::new(number) else {
+                panic!(rt; "{number} is no key")
+            };
+            make_keyed(tree, worker, call, key, tries)
+        }
+        _ => make_plain(tree, worker, call, tries),
+    }
+}
+
+/// A tree and its two workers.
+fn two_of(rt: &(impl Abort + AllocGlobal), nodes: u32) -> Result<(Tree, Worker, Worker), Fail>
+    ensures { IfOk result (λ r. IsReady r.0 r.1 × IsReady r.0 r.2) }
+{
+    let (tree, mut workers) = Tree::new(rt.alloc(), nodes, 2)?;
+    let Some(second) = workers.pop() else {
+        unreachable!()
+    };
+    let Some(first) = workers.pop() else {
+        unreachable!()
+    };
+    Ok((tree, first, second))
+}
+
+/// Makes these calls of workers 0 and 1 one behind the other, and compares what each answered.
+fn play(
+    rt: &impl Abort,
+    tree: &Tree,
+    first: &mut Worker,
+    second: &mut Worker,
+    tries: u32,
+    calls: &[(u32, Call, Answer)],
+)
+    requires first { IsOf tree.now first.old.pass }
+    requires second { IsOf tree.now second.old.pass }
+    ensures first { IsOf tree.now first.new.pass }
+    ensures second { IsOf tree.now second.new.pass }
+{
+    for (number, call, want) in calls {
+        let answer = if *number == 0 {
+            make(rt, tree, first, *call, tries)
+        } else {
+            make(rt, tree, second, *call, tries)
+        };
+        assert_eq!(rt; answer, *want);
+    }
 }

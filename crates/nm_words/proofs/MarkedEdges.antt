@@ -6,21 +6,21 @@ use Rattle.nm_edge.specs.Edges.{Edge, IsEdge, to, is_to, other, tagged, untagged
 use Rattle.nm_edge.specs.Layouts.{Layout}
 use Rattle.nm_edge.specs.declared.edge.Side.{Side}
 use Rattle.nm_edge.specs.declared.edge.Side.TheVariants.{Left, Right}
-use Rattle.nm_core.specs.declared.event.Field.{Field}
-use Rattle.nm_core.specs.declared.event.Field.TheVariants.{Key, Edge as EdgeOn, Birth}
-use Rattle.nm_core.specs.declared.event.Event.{Event}
-use Rattle.nm_core.specs.declared.event.Event.TheVariants.{Sight, SightFor, Announce, Leave, LeaveWith, Scan, Advance, Claim, Give, Look, Fill, Link, Flag, Tag, Splice, Join}
-use Rattle.nm_core.specs.declared.memory.Node.{Node}
-use Rattle.nm_core.specs.Maps.{is_number}
-use Rattle.nm_core.specs.Memory.{Memory, node, edge, edge_of, blank, put_node, put_edge, with_edge}
-use Rattle.nm_core.specs.Knowledge.{Knowledge, knows, read, is_flagged, is_tagged, knows_leaf}
-use Rattle.nm_core.specs.Learning.{flag_to}
-use Rattle.nm_core.specs.Step.{outside, filled, exchanged, kept, refusal, write}
-use Rattle.nm_core.specs.Runs.{State, of, start, applied, refusal_of}
-use Rattle.nm_core.specs.Laws.{OfEachState}
-use Rattle.nm_core.proofs.Numbers.{repeated}
-use Rattle.nm_core.proofs.Steps.{Allowed, by_steps, passed, second, third, fourth}
-use Rattle.nm_core.proofs.Lawful.{IsLawful, lawful_step, lawful_start}
+use Rattle.nm_model.specs.declared.event.Field.{Field}
+use Rattle.nm_model.specs.declared.event.Field.TheVariants.{Key, Edge as EdgeOn, Birth}
+use Rattle.nm_model.specs.declared.event.Event.{Event}
+use Rattle.nm_model.specs.declared.event.Event.TheVariants.{Sight, SightFor, Announce, Leave, LeaveWith, Scan, Advance, Claim, Give, Look, Fill, Link, Flag, Tag, Splice, Join}
+use Rattle.nm_model.specs.declared.memory.Node.{Node}
+use Rattle.nm_model.specs.Maps.{is_number}
+use Rattle.nm_model.specs.Memory.{Memory, node, edge, edge_of, blank, put_node, put_edge, with_edge}
+use Rattle.nm_model.specs.Knowledge.{Knowledge, knows, read, is_flagged, is_tagged, knows_leaf}
+use Rattle.nm_model.specs.Learning.{flag_to}
+use Rattle.nm_model.specs.Step.{outside, filled, exchanged, kept, refusal, write}
+use Rattle.nm_model.specs.Runs.{State, of, start, applied, refusal_of}
+use Rattle.nm_model.specs.Laws.{OfEachState}
+use Rattle.nm_model.proofs.Numbers.{repeated}
+use Rattle.nm_laws.proofs.Steps.{Allowed, by_steps, passed, second, third, fourth}
+use Rattle.nm_laws.proofs.Lawful.{IsLawful, lawful_step, lawful_start}
 use Rattle.nm_words.specs.Packing.{NullEdgesAreUnmarked}
 use Rattle.nm_words.proofs.PackedSizes.{set_keeps}
 

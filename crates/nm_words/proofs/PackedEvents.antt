@@ -8,24 +8,24 @@ use Rattle.nm_edge.specs.Layouts.{Layout}
 use Rattle.nm_edge.specs.Words.{at_epoch, at_edge, IsField, IsSlot, word, pool_place}
 use Rattle.nm_edge.specs.declared.edge.Side.{Side}
 use Rattle.nm_edge.proofs.Words.{fields_within, places_are_rows}
-use Rattle.nm_core.specs.declared.event.Event.{Event}
-use Rattle.nm_core.specs.declared.event.Event.TheVariants.{Sight, SightFor, Announce, Leave, LeaveWith, Scan, Advance, Claim, Give, Look, Fill, Link, Flag, Tag, Splice, Join}
-use Rattle.nm_core.specs.declared.event.Field.{Field as NodeField}
-use Rattle.nm_core.specs.declared.event.Field.TheVariants.{Key, Edge as EdgeOn, Birth}
-use Rattle.nm_core.specs.declared.reply.Refused.{Refused}
-use Rattle.nm_core.specs.declared.reply.Refused.TheVariants.{NoSlot, NotPinned, NotHeld, NotFrozen}
-use Rattle.nm_core.specs.Maps.{is_number}
-use Rattle.nm_core.specs.Memory.{Memory, node, edge, child, put_node, with_edge}
-use Rattle.nm_core.specs.Knowledge.{knows, read, is_flagged}
-use Rattle.nm_core.specs.Step.{outside, is_edge, exchanged, filled, kept, refusal, write}
-use Rattle.nm_core.specs.Runs.{State, of, start, refusal_of, refused, applied, unless_refused, next, after}
-use Rattle.nm_core.specs.Laws.{OfEachState}
+use Rattle.nm_model.specs.declared.event.Event.{Event}
+use Rattle.nm_model.specs.declared.event.Event.TheVariants.{Sight, SightFor, Announce, Leave, LeaveWith, Scan, Advance, Claim, Give, Look, Fill, Link, Flag, Tag, Splice, Join}
+use Rattle.nm_model.specs.declared.event.Field.{Field as NodeField}
+use Rattle.nm_model.specs.declared.event.Field.TheVariants.{Key, Edge as EdgeOn, Birth}
+use Rattle.nm_model.specs.declared.reply.Refused.{Refused}
+use Rattle.nm_model.specs.declared.reply.Refused.TheVariants.{NoSlot, NotPinned, NotHeld, NotFrozen}
+use Rattle.nm_model.specs.Maps.{is_number}
+use Rattle.nm_model.specs.Memory.{Memory, node, edge, child, put_node, with_edge}
+use Rattle.nm_model.specs.Knowledge.{knows, read, is_flagged}
+use Rattle.nm_model.specs.Step.{outside, is_edge, exchanged, filled, kept, refusal, write}
+use Rattle.nm_model.specs.Runs.{State, of, start, refusal_of, refused, applied, unless_refused, next, after}
+use Rattle.nm_model.specs.Laws.{OfEachState}
 use Rattle.nm_words.specs.Packing.{Fits, words_of, word_at, field_of, touched, filling, left_word, with_word, AtMostOne, StateFits, FixedBitsAreZero, EventsTouchOneWord, AtMostOneWordChanges}
-use Rattle.nm_core.proofs.Steps.{Allowed, allowed, passed, third, fourth}
-use Rattle.nm_core.proofs.Pictures.{InReach}
-use Rattle.nm_core.proofs.Views.{picture}
-use Rattle.nm_core.proofs.TreeSteps.{Lawful, high_from}
-use Rattle.nm_core.proofs.Lawful.{IsLawful, lawful}
+use Rattle.nm_laws.proofs.Steps.{Allowed, allowed, passed, third, fourth}
+use Rattle.nm_laws.proofs.Pictures.{InReach}
+use Rattle.nm_laws.proofs.Views.{picture}
+use Rattle.nm_laws.proofs.TreeSteps.{Lawful, high_from}
+use Rattle.nm_laws.proofs.Lawful.{IsLawful, lawful}
 use Rattle.nm_words.proofs.EdgeWords.{word_to, word_flagged, word_is_to, word_tagged}
 use Rattle.nm_words.proofs.PackedReads.{all_words, field_read, each_bit_is_its_slot}
 use Rattle.nm_words.proofs.PackedWrites.{note_written, key_written, edge_written, birth_written, taking_clears_a_bit, giving_sets_a_bit}

@@ -7,8 +7,8 @@ use Rattle.std.proofs.lemmas.List.FromFn.{length-map-range_with_len, get_or-map-
 use Rattle.nm_edge.specs.Layouts.{Layout}
 use Rattle.nm_edge.specs.Words.{Field, at_epoch, at_note, at_key, at_edge, at_birth, at_row, IsField, IsSlot, rows, word, words}
 use Rattle.nm_edge.specs.declared.edge.Side.TheVariants.{Left, Right}
-use Rattle.nm_core.specs.declared.memory.Node.{Node}
-use Rattle.nm_core.specs.Memory.{Memory, node, blank, in_pool}
+use Rattle.nm_model.specs.declared.memory.Node.{Node}
+use Rattle.nm_model.specs.Memory.{Memory, node, blank, in_pool}
 use Rattle.nm_words.specs.Packing.{Fits, note_word, node_words, row_word, words_of, field_word, word_at, EachFieldHasAWord, EachWordIsItsField, EachBitIsItsSlot, SpareBitsAreZero}
 use Rattle.nm_words.proofs.Blocks.{blocks_length, blocks_read, first_read, second_read, third_read, whole_length}
 use Rattle.nm_words.proofs.NumberBits.{told}

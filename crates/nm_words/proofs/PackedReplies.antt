@@ -8,23 +8,23 @@ use Rattle.nm_edge.specs.Layouts.{Layout}
 use Rattle.nm_edge.specs.Words.{at_note, at_key, at_edge, at_birth, IsField, IsSlot, pool_place}
 use Rattle.nm_edge.specs.declared.edge.Side.{Side}
 use Rattle.nm_edge.specs.declared.node.NodeId.{NodeId}
-use Rattle.nm_core.specs.declared.event.Event.{Event}
-use Rattle.nm_core.specs.declared.event.Event.TheVariants.{Sight, SightFor, Announce, Leave, LeaveWith, Scan, Advance, Claim, Give, Look, Fill, Link, Flag, Tag, Splice, Join}
-use Rattle.nm_core.specs.declared.event.Field.{Field as NodeField}
-use Rattle.nm_core.specs.declared.event.Field.TheVariants.{Key, Edge as EdgeOn, Birth}
-use Rattle.nm_core.specs.declared.reply.Reply.{Reply}
-use Rattle.nm_core.specs.declared.reply.Reply.TheVariants.{Claimed, Taken, KeyIs, BirthIs, EdgeIs, Flagged, Was, Cut, Lost}
-use Rattle.nm_core.specs.Memory.{Memory, node, edge, note, in_pool, named}
-use Rattle.nm_core.specs.Knowledge.{seen_of, way, cut_by}
-use Rattle.nm_core.specs.Step.{reply, reply_look, reply_scan, reply_exchange, refusal}
-use Rattle.nm_core.specs.Runs.{State, of, start, reply_of, after}
-use Rattle.nm_core.specs.Laws.{OfEachState}
-use Rattle.nm_core.specs.Lawful.{EachBirthStands}
+use Rattle.nm_model.specs.declared.event.Event.{Event}
+use Rattle.nm_model.specs.declared.event.Event.TheVariants.{Sight, SightFor, Announce, Leave, LeaveWith, Scan, Advance, Claim, Give, Look, Fill, Link, Flag, Tag, Splice, Join}
+use Rattle.nm_model.specs.declared.event.Field.{Field as NodeField}
+use Rattle.nm_model.specs.declared.event.Field.TheVariants.{Key, Edge as EdgeOn, Birth}
+use Rattle.nm_model.specs.declared.reply.Reply.{Reply}
+use Rattle.nm_model.specs.declared.reply.Reply.TheVariants.{Claimed, Taken, KeyIs, BirthIs, EdgeIs, Flagged, Was, Cut, Lost}
+use Rattle.nm_model.specs.Memory.{Memory, node, edge, note, in_pool, named}
+use Rattle.nm_model.specs.Knowledge.{seen_of, way, cut_by}
+use Rattle.nm_model.specs.Step.{reply, reply_look, reply_scan, reply_exchange, refusal}
+use Rattle.nm_model.specs.Runs.{State, of, start, reply_of, after}
+use Rattle.nm_model.specs.Laws.{OfEachState}
+use Rattle.nm_model.specs.Lawful.{EachBirthStands}
 use Rattle.nm_words.specs.Packing.{Fits, note_word, word_at, pool_word_at, touched, field_of}
 use Rattle.nm_words.specs.Told.{noted_in, known_as, BirthsAreKnown, told, told_look, RepliesAreTold}
-use Rattle.nm_core.proofs.Steps.{Allowed, allowed, passed}
-use Rattle.nm_core.proofs.Lawful.{IsLawful, lawful}
-use Rattle.nm_core.proofs.KnownBirths.{each_birth_stands}
+use Rattle.nm_laws.proofs.Steps.{Allowed, allowed, passed}
+use Rattle.nm_laws.proofs.Lawful.{IsLawful, lawful}
+use Rattle.nm_laws.proofs.KnownBirths.{each_birth_stands}
 use Rattle.nm_words.proofs.EdgeWords.{word_is_to, word_edge_in}
 use Rattle.nm_words.proofs.PackedReads.{field_read, each_bit_is_its_slot}
 use Rattle.nm_words.proofs.PackedEvents.{fits_of, touches_field, range}

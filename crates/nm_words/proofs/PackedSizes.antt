@@ -8,25 +8,25 @@ use Rattle.nm_edge.specs.Layouts.{Layout}
 use Rattle.nm_edge.specs.Words.{Field, at_epoch, at_note, at_key, at_edge, at_birth, at_row}
 use Rattle.nm_edge.specs.declared.edge.Side.{Side}
 use Rattle.nm_edge.specs.declared.edge.Side.TheVariants.{Left, Right}
-use Rattle.nm_core.specs.declared.event.Event.{Event}
-use Rattle.nm_core.specs.declared.event.Event.TheVariants.{Sight, SightFor, Announce, Leave, LeaveWith, Scan, Advance, Claim, Give, Look, Fill, Link, Flag, Tag, Splice, Join}
-use Rattle.nm_core.specs.declared.event.Field.{Field as NodeField}
-use Rattle.nm_core.specs.declared.event.Field.TheVariants.{Key, Edge as EdgeOn, Birth}
-use Rattle.nm_core.specs.declared.memory.Node.{Node}
-use Rattle.nm_core.specs.declared.reply.Refused.{Refused}
-use Rattle.nm_core.specs.declared.reply.Refused.TheVariants.{NoSlot, NotPrivate, NotReady, Spent}
-use Rattle.nm_core.specs.Maps.{is_number}
-use Rattle.nm_core.specs.Memory.{Memory, blank, node, edge, note, put_node, put_edge}
-use Rattle.nm_core.specs.Knowledge.{Knowledge, is_private, draft_of}
-use Rattle.nm_core.specs.Step.{last_number, outside, is_edge, is_early, is_held_back, others_scanned, exchanged, filled, refusal, write}
-use Rattle.nm_core.specs.Runs.{State, of, start, refusal_of, refused, applied, unless_refused, next, after}
-use Rattle.nm_core.specs.Laws.{OfEachState}
+use Rattle.nm_model.specs.declared.event.Event.{Event}
+use Rattle.nm_model.specs.declared.event.Event.TheVariants.{Sight, SightFor, Announce, Leave, LeaveWith, Scan, Advance, Claim, Give, Look, Fill, Link, Flag, Tag, Splice, Join}
+use Rattle.nm_model.specs.declared.event.Field.{Field as NodeField}
+use Rattle.nm_model.specs.declared.event.Field.TheVariants.{Key, Edge as EdgeOn, Birth}
+use Rattle.nm_model.specs.declared.memory.Node.{Node}
+use Rattle.nm_model.specs.declared.reply.Refused.{Refused}
+use Rattle.nm_model.specs.declared.reply.Refused.TheVariants.{NoSlot, NotPrivate, NotReady, Spent}
+use Rattle.nm_model.specs.Maps.{is_number}
+use Rattle.nm_model.specs.Memory.{Memory, blank, node, edge, note, put_node, put_edge}
+use Rattle.nm_model.specs.Knowledge.{Knowledge, is_private, draft_of}
+use Rattle.nm_model.specs.Step.{last_number, outside, is_edge, is_early, is_held_back, others_scanned, exchanged, filled, refusal, write}
+use Rattle.nm_model.specs.Runs.{State, of, start, refusal_of, refused, applied, unless_refused, next, after}
+use Rattle.nm_model.specs.Laws.{OfEachState}
 use Rattle.nm_words.specs.Packing.{Fits, InRange, note_word, field_word, StoresAWord, WordsStayBelow, StateIsInRange, WordsAreBelow}
-use Rattle.nm_core.proofs.Numbers.{number_is, repeated}
-use Rattle.nm_core.proofs.Steps.{Allowed, second, third, fourth, by_steps}
-use Rattle.nm_core.proofs.Lawful.{IsLawful, lawful_start, lawful_step}
+use Rattle.nm_model.proofs.Numbers.{number_is, repeated}
+use Rattle.nm_laws.proofs.Steps.{Allowed, second, third, fourth, by_steps}
+use Rattle.nm_laws.proofs.Lawful.{IsLawful, lawful_start, lawful_step}
 use Rattle.nm_words.proofs.NumberBits.{number_below}
-use Rattle.nm_core.proofs.Reachable.{layout_kept}
+use Rattle.nm_laws.proofs.Reachable.{layout_kept}
 use Rattle.nm_words.proofs.PackedReads.{field_read}
 use Rattle.nm_words.proofs.PackedEvents.{each_state_fits}
 

@@ -7,12 +7,12 @@ use Rattle.nm_edge.specs.Edges.{word_of}
 use Rattle.nm_edge.specs.Layouts.{Layout}
 use Rattle.nm_edge.specs.Words.{at_note, at_key, at_edge, at_birth, IsSlot, rows, word, pool_place}
 use Rattle.nm_edge.specs.declared.edge.Side.TheVariants.{Left, Right}
-use Rattle.nm_core.specs.declared.memory.Node.{Node}
-use Rattle.nm_core.specs.Memory.{Memory, node, blank, put_node}
+use Rattle.nm_model.specs.declared.memory.Node.{Node}
+use Rattle.nm_model.specs.Memory.{Memory, node, blank, put_node}
 use Rattle.nm_words.specs.Packing.{Fits, note_word, node_words, number_of, row_word, words_of, pool_word_at, with_pool_word, EpochIsOneWord, NoteIsOneWord, KeyIsOneWord, EdgeIsOneWord, BirthIsOneWord, TakingClearsABit, GivingSetsABit}
 use Rattle.nm_words.proofs.Blocks.{blocks_written, first_written, second_written, third_written, one_changed, window_written, window_before, window_behind}
 use Rattle.nm_words.proofs.NumberBits.{given, cleared}
-use Rattle.nm_core.proofs.TreeSlots.{put_pool}
+use Rattle.nm_laws.proofs.TreeSlots.{put_pool}
 use Rattle.nm_words.proofs.PackedReads.{noted, fours, rowed, four_words, noted_length, nodes_length, fours_length, slot_of, in_row, row_read}
 
 pub epoch_written : EpochIsOneWord

@@ -5,16 +5,16 @@ use Rattle.nm_edge.specs.Edges.{Edge, IsEdge, word_of}
 use Rattle.nm_edge.specs.Layouts.{Layout}
 use Rattle.nm_edge.specs.Words.{Field, at_epoch, at_note, at_key, at_edge, at_birth, at_row, IsField, IsSlot, rows, word, words, pool_place}
 use Rattle.nm_edge.specs.declared.edge.Side.{Side}
-use Rattle.nm_core.specs.declared.event.Event.{Event}
-use Rattle.nm_core.specs.declared.event.Event.TheVariants.{Sight, SightFor, Announce, Leave, LeaveWith, Scan, Advance, Claim, Give, Look, Fill, Link, Flag, Tag, Splice, Join}
-use Rattle.nm_core.specs.declared.event.Field.{Field as NodeField}
-use Rattle.nm_core.specs.declared.event.Field.TheVariants.{Key, Edge as EdgeOn, Birth}
-use Rattle.nm_core.specs.declared.memory.Node.{Node}
-use Rattle.nm_core.specs.Maps.{is_number}
-use Rattle.nm_core.specs.Memory.{Memory, node, edge, note, in_pool, put_node, put_edge, opening}
-use Rattle.nm_core.specs.Knowledge.{Knowledge, read}
-use Rattle.nm_core.specs.Step.{kept, last_number}
-use Rattle.nm_core.specs.Runs.{State, of, start, next, after, refused}
+use Rattle.nm_model.specs.declared.event.Event.{Event}
+use Rattle.nm_model.specs.declared.event.Event.TheVariants.{Sight, SightFor, Announce, Leave, LeaveWith, Scan, Advance, Claim, Give, Look, Fill, Link, Flag, Tag, Splice, Join}
+use Rattle.nm_model.specs.declared.event.Field.{Field as NodeField}
+use Rattle.nm_model.specs.declared.event.Field.TheVariants.{Key, Edge as EdgeOn, Birth}
+use Rattle.nm_model.specs.declared.memory.Node.{Node}
+use Rattle.nm_model.specs.Maps.{is_number}
+use Rattle.nm_model.specs.Memory.{Memory, node, edge, note, in_pool, put_node, put_edge, opening}
+use Rattle.nm_model.specs.Knowledge.{Knowledge, read}
+use Rattle.nm_model.specs.Step.{kept, last_number}
+use Rattle.nm_model.specs.Runs.{State, of, start, next, after, refused}
 
 -- its lists are as long as the layout says, slot 0 counted
 pub record Fits (L : Layout) (m : Memory) : Type 0 where

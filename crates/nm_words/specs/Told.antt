@@ -4,17 +4,17 @@ use Rattle.nm_edge.specs.Edges.{edge_in}
 use Rattle.nm_edge.specs.Layouts.{Layout}
 use Rattle.nm_edge.specs.Words.{pool_place}
 use Rattle.nm_edge.specs.declared.node.NodeId.{NodeId}
-use Rattle.nm_core.specs.declared.event.Event.{Event}
-use Rattle.nm_core.specs.declared.event.Event.TheVariants.{Sight, SightFor, Announce, Leave, LeaveWith, Scan, Advance, Claim, Give, Look, Fill, Link, Flag, Tag, Splice, Join}
-use Rattle.nm_core.specs.declared.event.Field.{Field}
-use Rattle.nm_core.specs.declared.event.Field.TheVariants.{Key, Edge as EdgeOn, Birth}
-use Rattle.nm_core.specs.declared.reply.Reply.{Reply}
-use Rattle.nm_core.specs.declared.reply.Reply.TheVariants.{Announced, Departed, Moved, Behind, Claimed, Taken, Returned, Freed, KeyIs, BirthIs, EdgeIs, Filled, Linked, Flagged, Was, Cut, Lost, Joined}
-use Rattle.nm_core.specs.Maps.{is_number}
-use Rattle.nm_core.specs.Ledgers.{front_of}
-use Rattle.nm_core.specs.Knowledge.{Knowledge, is_private, seen_of, way, cut_by}
-use Rattle.nm_core.specs.Step.{reply_sight, reply_scan, node_of, node_linked}
-use Rattle.nm_core.specs.Runs.{State, of, refused, reply_of}
+use Rattle.nm_model.specs.declared.event.Event.{Event}
+use Rattle.nm_model.specs.declared.event.Event.TheVariants.{Sight, SightFor, Announce, Leave, LeaveWith, Scan, Advance, Claim, Give, Look, Fill, Link, Flag, Tag, Splice, Join}
+use Rattle.nm_model.specs.declared.event.Field.{Field}
+use Rattle.nm_model.specs.declared.event.Field.TheVariants.{Key, Edge as EdgeOn, Birth}
+use Rattle.nm_model.specs.declared.reply.Reply.{Reply}
+use Rattle.nm_model.specs.declared.reply.Reply.TheVariants.{Announced, Departed, Moved, Behind, Claimed, Taken, Returned, Freed, KeyIs, BirthIs, EdgeIs, Filled, Linked, Flagged, Was, Cut, Lost, Joined}
+use Rattle.nm_model.specs.Maps.{is_number}
+use Rattle.nm_model.specs.Ledgers.{front_of}
+use Rattle.nm_model.specs.Knowledge.{Knowledge, is_private, seen_of, way, cut_by}
+use Rattle.nm_model.specs.Step.{reply_sight, reply_scan, node_of, node_linked}
+use Rattle.nm_model.specs.Runs.{State, of, refused, reply_of}
 use Rattle.nm_words.specs.Packing.{word_at, touched}
 
 -- what a note's word says

@@ -1,5 +1,5 @@
 //! A whole memory as its words, in the order of the layout: what each word tells, and what each write changes.
-ghost use Rattle.nm_core.specs.Laws.{OfEachState};
+ghost use Rattle.nm_model.specs.Laws.{OfEachState};
 ghost use Rattle.nm_words.specs.Packing.{AtMostOneWordChanges, BirthIsOneWord, EachBitIsItsSlot, EachFieldHasAWord, EachWordIsItsField, EdgeIsOneWord, EpochIsOneWord, EventsTouchOneWord, FixedBitsAreZero, GivingSetsABit, KeyIsOneWord, NoteIsOneWord, NullEdgesAreUnmarked, OpeningOf135, SpareBitsAreZero, StateFits, StateIsInRange, TakingClearsABit, WordsAreBelow, WordsStayBelow};
 ghost use Rattle.nm_words.specs.Told.{RepliesAreTold};
 

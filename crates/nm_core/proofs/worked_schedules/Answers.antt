@@ -1,11 +1,11 @@
 -- Each worked schedule, by computation.
 use Rattle.std.proofs.Common.{refl}
-use Rattle.nm_core.specs.Reports.{report, ordered_report}
-use Rattle.nm_core.specs.Runs.{trace, after, outcome, next, refused, applied}
-use Rattle.nm_core.specs.Ordered.{trace_in, after_in, outcome_in, next_in, refused_in, applied_in}
-use Rattle.nm_core.specs.Searches.{searched}
-use Rattle.nm_core.specs.Step.{refusal, reply, write}
-use Rattle.nm_core.specs.Learning.{learn}
+use Rattle.nm_model.specs.Reports.{report, ordered_report}
+use Rattle.nm_model.specs.Runs.{trace, after, outcome, next, refused, applied}
+use Rattle.nm_model.specs.Ordered.{trace_in, after_in, outcome_in, next_in, refused_in, applied_in}
+use Rattle.nm_model.specs.Searches.{searched}
+use Rattle.nm_model.specs.Step.{refusal, reply, write}
+use Rattle.nm_model.specs.Learning.{learn}
 use Rattle.nm_core.proofs.worked_schedules.Goals as goal
 
 pub returns-clause-held_back : goal.returns-clause-held_back

@@ -18,9 +18,9 @@ use std::test::Fail;
 /// Moves the epoch on twice.
 fn move_twice(rt: &impl Abort, shared: &Shared, pass: &mut Pass)
     requires own { IsOf shared.now pass.old }
-    requires before { HasPlayed 37 pass.old }
+    requires before { HasPlayed 38 pass.old }
     ensures own { IsOf shared.now pass.new }
-    ensures after { HasPlayed 39 pass.new }
+    ensures after { HasPlayed 40 pass.new }
 {
     assert!(rt; shared.advance(pass) == Ok(1));
     assert!(rt; shared.advance(pass) == Ok(2));

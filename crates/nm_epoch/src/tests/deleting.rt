@@ -3,9 +3,8 @@ ghost use Rattle.std.specs.Prelude.{◌≡◌};
 ghost use Rattle.nm_steps.specs.Steps.{IsOf};
 ghost use Rattle.nm_epoch.specs.Plays.{HasPlayed};
 
-use super::inserting::INFINITY;
-use nm_core::Op;
-use nm_edge::{Edge, Key, Side};
+use nm_edge::{Edge, INFINITY_0, Key, Side};
+use nm_model::Op;
 use nm_steps::{Pass, Shared, Sighted};
 use std::process::Abort;
 
@@ -13,9 +12,9 @@ use std::process::Abort;
 fn begin_delete(rt: &impl Abort, shared: &Shared, pass: &mut Pass, five: Key)
     requires own { IsOf shared.now pass.old }
     requires five { five ≡ 5 }
-    requires before { HasPlayed 20 pass.old }
+    requires before { HasPlayed 21 pass.old }
     ensures own { IsOf shared.now pass.new }
-    ensures after { HasPlayed 23 pass.new }
+    ensures after { HasPlayed 24 pass.new }
 {
     assert!(rt; shared.sight(pass) == Sighted::Saw(0));
     assert!(rt; shared.announce(pass) == 0);
@@ -25,12 +24,12 @@ fn begin_delete(rt: &impl Abort, shared: &Shared, pass: &mut Pass, five: Key)
 /// Walks to the leaf with 5.
 fn find_five(rt: &impl Abort, shared: &Shared, pass: &mut Pass)
     requires own { IsOf shared.now pass.old }
-    requires before { HasPlayed 23 pass.old }
+    requires before { HasPlayed 24 pass.old }
     ensures own { IsOf shared.now pass.new }
-    ensures after { HasPlayed 28 pass.new }
+    ensures after { HasPlayed 29 pass.new }
 {
     assert!(rt; shared.look_edge(pass, 2, Side::Left) == Edge::to(6));
-    assert!(rt; shared.look_key(pass, 6) == INFINITY);
+    assert!(rt; shared.look_key(pass, 6) == INFINITY_0);
     assert!(rt; shared.look_edge(pass, 6, Side::Left) == Edge::to(7));
     assert!(rt; shared.look_key(pass, 7) == 5);
     assert!(rt; shared.look_edge(pass, 7, Side::Right) == Edge::to(0));
@@ -39,9 +38,9 @@ fn find_five(rt: &impl Abort, shared: &Shared, pass: &mut Pass)
 /// Flags the edge to the leaf, and tags its twin.
 fn freeze_two(rt: &impl Abort, shared: &Shared, pass: &mut Pass)
     requires own { IsOf shared.now pass.old }
-    requires before { HasPlayed 28 pass.old }
+    requires before { HasPlayed 29 pass.old }
     ensures own { IsOf shared.now pass.new }
-    ensures after { HasPlayed 32 pass.new }
+    ensures after { HasPlayed 33 pass.new }
 {
     assert!(rt; shared.look_birth(pass, 7) == 1);
     assert!(rt; shared.flag(pass, 6, Side::Left, 7).is_ok());
@@ -52,9 +51,9 @@ fn freeze_two(rt: &impl Abort, shared: &Shared, pass: &mut Pass)
 /// Cuts the two nodes off, labels them, and answers.
 fn cut_two(rt: &impl Abort, shared: &Shared, pass: &mut Pass)
     requires own { IsOf shared.now pass.old }
-    requires before { HasPlayed 32 pass.old }
+    requires before { HasPlayed 33 pass.old }
     ensures own { IsOf shared.now pass.new }
-    ensures after { HasPlayed 36 pass.new }
+    ensures after { HasPlayed 37 pass.new }
 {
     assert!(rt; shared.look_birth(pass, 6) == 1);
     let kept = Edge::to(3).tagged();
@@ -71,9 +70,9 @@ fn cut_two(rt: &impl Abort, shared: &Shared, pass: &mut Pass)
 pub(super) fn delete_five(rt: &impl Abort, shared: &Shared, pass: &mut Pass, five: Key)
     requires own { IsOf shared.now pass.old }
     requires five { five ≡ 5 }
-    requires before { HasPlayed 20 pass.old }
+    requires before { HasPlayed 21 pass.old }
     ensures own { IsOf shared.now pass.new }
-    ensures after { HasPlayed 36 pass.new }
+    ensures after { HasPlayed 37 pass.new }
 {
     begin_delete(rt, shared, pass, five);
     find_five(rt, shared, pass);

@@ -3,14 +3,11 @@ ghost use Rattle.std.specs.Prelude.{◌≡◌, length};
 ghost use Rattle.nm_steps.specs.Steps.{AreFresh, IsOf};
 ghost use Rattle.nm_epoch.specs.Plays.{HasPlayed, small};
 
-use nm_core::Op;
-use nm_edge::{Edge, Key, Layout, Side};
+use nm_edge::{Edge, INFINITY_0, Key, Layout, Side};
+use nm_model::Op;
 use nm_steps::{Pass, Shared, Sighted};
 use std::process::Abort;
 use std::test::Fail;
-
-/// The least key that is not one of the set.
-pub(super) const INFINITY: u64 = u64::MAX - 2;
 
 /// The pass of the only worker.
 pub(super) fn only(shared: &Shared, mut passes: Vec<Pass>) -> Pass
@@ -38,7 +35,7 @@ fn begin_insert(rt: &impl Abort, shared: &Shared, pass: &mut Pass, five: Key)
     assert!(rt; shared.announce(pass) == 0);
     assert!(rt; shared.sight_for(pass, Op::Insert, five) == Sighted::Pinned(0));
     assert!(rt; shared.look_edge(pass, 2, Side::Left) == Edge::to(3));
-    assert!(rt; shared.look_key(pass, 3) == INFINITY);
+    assert!(rt; shared.look_key(pass, 3) == INFINITY_0);
     assert!(rt; shared.look_edge(pass, 3, Side::Left) == Edge::to(0));
 }
 
@@ -57,27 +54,28 @@ fn claim_two(rt: &impl Abort, shared: &Shared, pass: &mut Pass)
     shared.fill_birth(pass, 7, 1);
 }
 
-/// Fills them: a leaf with 5, and an internal node over it and the old leaf.
+/// Fills them: an internal node over the old leaf and a leaf with 4, which is then one with 5, the key of the call.
 fn fill_two(shared: &Shared, pass: &mut Pass)
     requires own { IsOf shared.now pass.old }
     requires before { HasPlayed 12 pass.old }
     ensures own { IsOf shared.now pass.new }
-    ensures after { HasPlayed 18 pass.new }
+    ensures after { HasPlayed 19 pass.new }
 {
-    shared.fill_key(pass, 6, INFINITY);
+    shared.fill_key(pass, 6, INFINITY_0);
     shared.fill_edge(pass, 6, Side::Left, 7);
     shared.fill_edge(pass, 6, Side::Right, 3);
-    shared.fill_key(pass, 7, 5);
+    shared.fill_key(pass, 7, 4);
     shared.fill_edge(pass, 7, Side::Left, 0);
     shared.fill_edge(pass, 7, Side::Right, 0);
+    shared.fill_key(pass, 7, 5);
 }
 
 /// Links them, and answers.
 fn link_five(rt: &impl Abort, shared: &Shared, pass: &mut Pass)
     requires own { IsOf shared.now pass.old }
-    requires before { HasPlayed 18 pass.old }
+    requires before { HasPlayed 19 pass.old }
     ensures own { IsOf shared.now pass.new }
-    ensures after { HasPlayed 20 pass.new }
+    ensures after { HasPlayed 21 pass.new }
 {
     assert!(rt; shared.link(pass, 2, Side::Left, 3, 6).is_ok());
     shared.leave_with(pass, true);
@@ -89,7 +87,7 @@ pub(super) fn insert_five(rt: &impl Abort, shared: &Shared, pass: &mut Pass, fiv
     requires five { five ≡ 5 }
     requires before { HasPlayed 0 pass.old }
     ensures own { IsOf shared.now pass.new }
-    ensures after { HasPlayed 20 pass.new }
+    ensures after { HasPlayed 21 pass.new }
 {
     begin_insert(rt, shared, pass, five);
     claim_two(rt, shared, pass);
@@ -109,7 +107,7 @@ fn an_insert_by_steps(rt: HostRuntime) -> Result<(), Fail> {
     insert_five(&rt, &shared, &mut pass, five);
     let words = shared.close(pass);
     assert_eq!(rt; words.word(7), 24);
-    assert_eq!(rt; words.word(22), INFINITY);
+    assert_eq!(rt; words.word(22), INFINITY_0);
     assert_eq!(rt; words.word(23), 28);
     assert_eq!(rt; words.word(24), 12);
     assert_eq!(rt; words.word(25), 1);

@@ -15,5 +15,6 @@ loop-node-preserved c =
     record {
       collecting = collecting_on c.args.epoch c.args.queue.now.origin c.args.pass.now c.loop-node.pass c.free.new.pass c.args.queue.now.queue.items c.loop-node.queue.queue.items c.pop.new.self.items front.0 c.in-Some.node
           c.loop-node.invariant.collecting ripe c.free.ensures.step front.1 c.free.ensures.apart;
+      run = c.free.ensures.run;
       origin = c.loop-node.invariant.origin;
     }

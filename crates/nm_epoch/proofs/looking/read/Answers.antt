@@ -1,7 +1,8 @@
 use Rattle.nm_steps.specs.Steps.{sight_reply}
 use Rattle.nm_epoch.proofs.Sights.{read_seen, settles}
+use Rattle.nm_epoch.proofs.Sighted.{ledgers_after}
 use Rattle.std.proofs.Common.{refl}
-use Rattle.nm_core.specs.declared.event.Event.TheVariants.{Sight}
+use Rattle.nm_model.specs.declared.event.Event.TheVariants.{Sight}
 use Rattle.nm_epoch.proofs.KeptHands.{hands_kept, sight_is_silent}
 use Rattle.nm_epoch.specs.Resting.{epochs}
 use Rattle.nm_epoch.proofs.looking.read.Goals as goal
@@ -14,3 +15,6 @@ returns-clause-settles c = settles c.args.pass.now c.sight.new.pass (sight_reply
 
 pub returns-clause-hands : goal.returns-clause-hands
 returns-clause-hands c = hands_kept c.args.pass.now c.sight.new.pass Sight (sight_reply c.sight.result) c.sight.ensures.step refl (sight_is_silent (epochs c.args.pass.now) (sight_reply c.sight.result) c.sight.ensures.reply)
+
+pub returns-clause-ledgers : goal.returns-clause-ledgers
+returns-clause-ledgers c = ledgers_after c.args.pass.now c.sight.new.pass (sight_reply c.sight.result) c.epoch_of.result c.sight.ensures.step c.sight.ensures.reply c.epoch_of.ensures

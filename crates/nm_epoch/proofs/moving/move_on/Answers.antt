@@ -27,6 +27,7 @@ loop-worker-preserved c =
       same = search rules;
       looking = looking_on c.args.me c.read-epoch.result c.loop-worker.worker c.look-found.result c.args.pass.now.view.log c.loop-worker.pass c.look-found.new.pass c.look-found.ensures.same c.look-found.ensures.found
           c.in_default.ensures (let below = c.loop-worker-test.true in omega (arith, m, size, below)) c.loop-worker.invariant.looking;
+      run = c.look-found.ensures.run c.loop-worker.invariant.run;
       settles = settles_on c.args.me c.loop-worker.worker (epochs c.loop-worker.pass).pin c.look-found.result c.loop-worker.pass c.look-found.new.pass c.look-found.ensures.same c.look-found.ensures.found c.args.pass.now c.loop-worker.invariant.settles;
       hands = kept_on c.args.pass.now c.loop-worker.pass c.look-found.new.pass c.loop-worker.invariant.hands
           (look_keeps c.args.me c.loop-worker.worker (epochs c.loop-worker.pass).pin c.look-found.result c.loop-worker.pass c.look-found.new.pass c.look-found.ensures.same c.look-found.ensures.found);
@@ -72,3 +73,6 @@ returns-in-Ok-clause-hands c = advance_keeps c.loop-worker.pass c.advance.new.pa
 
 pub returns-in-Err-clause-hands : goal.returns-in-Err-clause-hands
 returns-in-Err-clause-hands c = advance_keeps c.loop-worker.pass c.advance.new.pass (Err c.in-Err.found) c.in-Err.ensures.step c.args.pass.now c.loop-worker.invariant.hands
+
+pub returns-in-Some-clause-run : goal.returns-in-Some-clause-run
+returns-in-Some-clause-run c = c.look-found.ensures.run c.loop-worker.invariant.run

@@ -1,5 +1,5 @@
 use Rattle.nm_epoch.specs.Resting.{Settles, KeepsHands}
-use Rattle.nm_steps.specs.Steps.{IsSamePass}
+use Rattle.nm_steps.specs.Steps.{IsInRun, IsSamePass}
 use Rattle.nm_epoch.specs.Scans.{IsLooking}
 use Rattle.nm_epoch.proofs.moving.move_on.Given as goal
 
@@ -7,6 +7,7 @@ abbrev pub invariant-loop-worker : goal.invariant-loop-worker
 invariant-loop-worker l = record {
   same : IsSamePass l.fn.pass l.pass;
   looking : IsLooking l.me l.epoch l.worker l.fn.pass.view.log l.pass;
+  run : IsInRun l.pass;
   settles : Settles l.fn.pass l.pass;
   hands : KeepsHands l.fn.pass l.pass;
 }

@@ -1,4 +1,4 @@
-use Rattle.nm_core.specs.declared.event.Event.TheVariants.{SightFor}
+use Rattle.nm_model.specs.declared.event.Event.TheVariants.{SightFor}
 use Rattle.nm_epoch.proofs.Steps.{pin_steps}
 use Rattle.nm_epoch.proofs.pinning.pin_for.Goals as goal
 

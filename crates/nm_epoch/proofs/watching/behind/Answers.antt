@@ -20,6 +20,7 @@ loop-worker-preserved c =
       same = search rules;
       watching = watching_on c.number-me.result c.read-epoch.result c.loop-worker.worker c.loop-worker.mask c.if-is_some.mask c.look-found.result c.args.pass.now.view.log c.loop-worker.pass c.look-found.new.pass
           c.look-found.ensures.same c.look-found.ensures.found sum c.loop-worker.invariant.watching;
+      run = c.look-found.ensures.run c.loop-worker.invariant.run;
       settles = settles_on c.number-me.result c.loop-worker.worker (epochs c.loop-worker.pass).pin c.look-found.result c.loop-worker.pass c.look-found.new.pass c.look-found.ensures.same c.look-found.ensures.found c.args.pass.now c.loop-worker.invariant.settles;
       hands = kept_on c.args.pass.now c.loop-worker.pass c.look-found.new.pass c.loop-worker.invariant.hands
           (look_keeps c.number-me.result c.loop-worker.worker (epochs c.loop-worker.pass).pin c.look-found.result c.loop-worker.pass c.look-found.new.pass c.look-found.ensures.same c.look-found.ensures.found);

@@ -1,4 +1,4 @@
-use Rattle.nm_order.proofs.ToldLaws.{twins_are_told, flagged_lead_high, flagged_stand_high, edges_stay_inside, root_leads, tags_lead}
+use Rattle.nm_order.proofs.ToldLaws.{twins_are_told, flags_are_told, flagged_lead_high, flagged_stand_high, edges_stay_inside, root_leads, tags_lead}
 use Rattle.nm_order.proofs.told.edges_are_told.Goals as goal
 
 pub returns-clause-twins : goal.returns-clause-twins
@@ -18,3 +18,6 @@ returns-clause-root c = root_leads
 
 pub returns-clause-tags : goal.returns-clause-tags
 returns-clause-tags c = tags_lead
+
+pub returns-clause-flags : goal.returns-clause-flags
+returns-clause-flags c = flags_are_told

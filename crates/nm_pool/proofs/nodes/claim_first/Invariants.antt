@@ -1,12 +1,14 @@
+use Rattle.std.proofs.Common.{◌≡◌, ◌⊎◌}
 use Rattle.nm_steps.specs.Rules.{knowledge}
 use Rattle.nm_pool.specs.Takes.{DoneBelow, LearnsSlots}
-use Rattle.nm_steps.specs.Steps.{IsSamePass}
+use Rattle.nm_steps.specs.Steps.{IsInRun, IsSamePass}
 use Rattle.nm_pool.specs.Claims.{PassedOver}
 use Rattle.nm_pool.proofs.nodes.claim_first.Given as goal
 
 abbrev pub invariant-loop-slot : goal.invariant-loop-slot
 invariant-loop-slot l = record {
   same : IsSamePass l.fn.pass l.pass;
+  run : (l.slot ≡ 6) ⊎ IsInRun l.pass;
   passed : DoneBelow PassedOver 6 l.slot l.fn.pass.view.log l.pass.view.log;
   learned : LearnsSlots (knowledge l.fn.pass.view) (knowledge l.pass.view);
 }

@@ -1,5 +1,5 @@
 use Rattle.std.proofs.Common.{rules, ◌+◌, arith}
-use Rattle.nm_core.specs.Knowledge.{unfilled}
+use Rattle.nm_model.specs.Knowledge.{unfilled}
 use Rattle.nm_steps.specs.Rules.{knowledge}
 use Rattle.nm_pool.proofs.Allowing.{may_claim, may_look, may_raise}
 use Rattle.nm_pool.proofs.PrivateSlots.{HasDraft, looked_at, within_pass, claimed_draft, looked_draft, filled_draft, private_of, looked_is, unborn_is, learns_taken, learns_claim, learns_look, learns_give, learns_fill, learns_of, of_both}
@@ -24,9 +24,9 @@ put-requires-clause-private c =
     let had : HasDraft (knowledge c.claim.new.pass.view) slot unfilled = claimed_draft c.args.pass.now c.claim.new.pass slot slot (search rules) in
     private_of (knowledge c.look_birth-birth.new.pass.view) slot (looked_at c.look_birth-birth.result) (looked_draft c.claim.new.pass c.look_birth-birth.new.pass slot c.look_birth-birth.result had (search rules))
 
-pub returns-then-birth-eq-LAST_BIRTH-clause-learned :
-    goal.returns-then-birth-eq-LAST_BIRTH-clause-learned
-returns-then-birth-eq-LAST_BIRTH-clause-learned c =
+pub returns-then-birth-eq-LAST_NUMBER-clause-learned :
+    goal.returns-then-birth-eq-LAST_NUMBER-clause-learned
+returns-then-birth-eq-LAST_NUMBER-clause-learned c =
     let slot = c.args.slot in
     let p = c.claim.new.pass in
     let q = c.look_birth-birth.new.pass in

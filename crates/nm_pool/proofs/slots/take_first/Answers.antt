@@ -1,6 +1,6 @@
 use Rattle.std.proofs.Common.{rules, ◌≡◌, ap, ◌∙◌, arith}
 use Rattle.nm_edge.specs.Layouts.{Layout}
-use Rattle.nm_core.specs.Knowledge.{unfilled}
+use Rattle.nm_model.specs.Knowledge.{unfilled}
 use Rattle.nm_steps.specs.Rules.{knowledge}
 use Rattle.nm_pool.specs.Takes.{FoundTaken}
 use Rattle.nm_pool.proofs.Allowing.{may_claim}
@@ -27,7 +27,11 @@ returns-then-claim-clause-learned c =
 pub loop-slot-preserved : goal.loop-slot-preserved
 loop-slot-preserved c = record {
   same = search rules;
+  run = λ was. c.claim.ensures.run;
   within = λ later. omega arith;
   taken = one_more FoundTaken c.args.from c.loop-slot.slot c.args.pass.now.view.log c.loop-slot.pass.view.log c.claim.new.pass.view.log (omega arith) c.loop-slot.invariant.taken (search rules);
   learned = learns_both _ (knowledge c.loop-slot.pass.view) _ c.loop-slot.invariant.learned (learns_taken c.loop-slot.pass c.claim.new.pass c.loop-slot.slot (search rules));
 }
+
+pub returns-then-claim-clause-unborn : goal.returns-then-claim-clause-unborn
+returns-then-claim-clause-unborn c = claimed_draft c.loop-slot.pass c.claim.new.pass c.loop-slot.slot c.loop-slot.slot (search rules)

@@ -1,4 +1,4 @@
-use Rattle.nm_core.proofs.Configurations.{reached_ordered}
+use Rattle.nm_laws.proofs.Configurations.{reached_ordered}
 use Rattle.nm_core.proofs.pure_core.Core.ordered.Goals as goal
 
 pub invariant_of-result : goal.invariant_of-result

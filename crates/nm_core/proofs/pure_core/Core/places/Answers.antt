@@ -1,7 +1,7 @@
-use Rattle.nm_core.specs.Lawful.{CountsAddUp}
-use Rattle.nm_core.proofs.Counts.{each_state_adds_up}
-use Rattle.nm_core.proofs.Reachable.{of_reachable}
-use Rattle.nm_core.proofs.Configurations.{reached_state}
+use Rattle.nm_model.specs.Lawful.{CountsAddUp}
+use Rattle.nm_laws.proofs.Counts.{each_state_adds_up}
+use Rattle.nm_laws.proofs.Reachable.{of_reachable}
+use Rattle.nm_laws.proofs.Configurations.{reached_state}
 use Rattle.nm_core.proofs.pure_core.Core.places.Goals as goal
 
 pub places-requires-clause-fits : goal.places-requires-clause-fits

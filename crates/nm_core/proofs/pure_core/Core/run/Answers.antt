@@ -1,29 +1,29 @@
-use Rattle.std.proofs.Common.{◌≡◌, ℕ, List, [], ◌++◌, drop, append-nil, sym, ap, ◌∙◌, arith}
-use Rattle.std.proofs.lemmas.Grind.{common_steps}
-use Rattle.std.proofs.lemmas.List.{drop_all}
-use Rattle.nm_core.specs.declared.event.Event.{Event}
-use Rattle.nm_core.specs.declared.event.Event.TheVariants.{Sight}
-use Rattle.nm_core.specs.Ordered.{trace_in}
-use Rattle.nm_core.proofs.Configurations.{after_in-more}
-use Rattle.nm_core.proofs.OrderedRuns.{lawful_run_in}
+use Rattle.std.proofs.Common.{◌≡◌, List, take, Result, Ok, Err, IfOk}
+use Rattle.nm_model.specs.declared.trace.RunError.{RunError}
+use Rattle.nm_model.specs.declared.trace.Turn.{Turn}
+use Rattle.nm_model.specs.Ordered.{after_in, trace_in}
+use Rattle.nm_model.specs.Traces.{IsLawfulRun}
+use Rattle.nm_laws.proofs.OrderedRuns.{lawful_run_in}
+use Rattle.nm_core.proofs.Reached.{has_past, histories_behind, stays_in_order}
+use Rattle.nm_core.specs.Stops.{played}
 use Rattle.nm_core.proofs.pure_core.Core.run.Goals as goal
 
-pub loop-done-preserved : goal.loop-done-preserved
-unfolding trace_in
-loop-done-preserved c =
-    let step = c.in-Ok-settle.ensures.ok in
-    let more = after_in-more c.args.self.now c.deref-turn-items.result.now c.loop-done.done (0, Sight) (omega arith) in
-    let before = c.loop-done.invariant.state in
-    record {
-      trace = grind (arith, common_steps);
-      state = grind (arith, common_steps);
-      len = grind (arith, common_steps);
-      room = grind (arith, common_steps);
-    }
-
 pub returns-clause-lawful : goal.returns-clause-lawful
-unfolding trace_in
-returns-clause-lawful c =
-    let done : drop c.loop-done.done c.deref-turn-items.result.now ≡ [] = drop_all c.loop-done.done c.deref-turn-items.result.now (omega arith) in
-    let all : c.from_turns.result ≡ trace_in c.args.self.now c.args.events.items = c.from_turns.ensures ∙ (sym (append-nil _) ∙ (ap (λ (ts : List (ℕ × Event)). c.loop-done.turns.items ++ trace_in c.loop-done.self ts) (sym done) ∙ (c.loop-done.invariant.trace ∙ ap (λ (ts : List (ℕ × Event)). trace_in c.args.self.now ts) c.deref-turn-items.ensures.value))) in
-    rw all (rw (← c.self.view_is) (lawful_run_in _ c.self.invariant c.args.events.items))
+returns-clause-lawful c = go c.play.result (rw c.deref.ensures.value at c.play.ensures.trace)
+  where
+    go : (r : Result (List Turn) RunError) → IfOk r (λ t. t ≡ trace_in c.args.self.now c.args.events.items) → IfOk r (λ t. IsLawfulRun (λ i. (after_in c.args.self.now (take i c.args.events.items)).state) t)
+    go (Ok t) is = rw is (lawful_run_in c.args.self.now c.is_of_a_run.ensures c.args.events.items)
+    go (Err e) is = tt
+
+pub returns-clause-past : goal.returns-clause-past
+returns-clause-past c = has_past c.args.self.now c.is_of_a_run.ensures
+
+pub returns-clause-histories : goal.returns-clause-histories
+returns-clause-histories c =
+    let same = c.deref.ensures.value in
+    histories_behind c.args.self.now c.is_of_a_run.ensures (played c.args.events.items c.play.result) (rw same at c.play.ensures.keys)
+
+pub returns-clause-order : goal.returns-clause-order
+returns-clause-order c =
+    let same = c.deref.ensures.value in
+    stays_in_order c.args.self.now c.is_of_a_run.ensures (played c.args.events.items c.play.result) (rw same at c.play.ensures.keys)

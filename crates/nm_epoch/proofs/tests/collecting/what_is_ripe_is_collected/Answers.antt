@@ -19,5 +19,5 @@ collect-ripe-requires-clause-queues g c =
     let held = c.in_ok-cut_nodes in
     let young = c.collect-young in
     let zero : young.result.epoch ≡ 0 = search rules in
-    let before : HasPlayed 37 young.new.pass = none_is_ripe c.delete_five.new.pass young.new.pass held.field-0 young.result.epoch c.delete_five.ensures.after held.ensures.waiting zero young.ensures.same young.ensures.part young.ensures.settles in
+    let before : HasPlayed 38 young.new.pass = none_is_ripe c.delete_five.new.pass young.new.pass held.field-0 young.result.epoch c.delete_five.ensures.after held.ensures.waiting zero young.ensures.same young.ensures.part young.ensures.settles in
     still_held young.new.pass c.move_twice.new.pass young.new.queues before c.move_twice.ensures.after young.ensures.queues

@@ -1,8 +1,8 @@
 use Rattle.std.proofs.Common.{rules, sym, subst}
 use Rattle.std.specs.Prelude.{take}
-use Rattle.nm_core.specs.declared.event.Op.TheVariants.{Delete}
-use Rattle.nm_core.specs.declared.event.Event.TheVariants.{Sight, SightFor, Announce}
-use Rattle.nm_core.specs.declared.reply.Reply.TheVariants.{Saw, Pinned, Announced}
+use Rattle.nm_model.specs.declared.event.Op.TheVariants.{Delete}
+use Rattle.nm_model.specs.declared.event.Event.TheVariants.{Sight, SightFor, Announce}
+use Rattle.nm_model.specs.declared.reply.Reply.TheVariants.{Saw, Pinned, Announced}
 use Rattle.nm_steps.specs.Steps.{MayStep}
 use Rattle.nm_epoch.specs.Plays.{HasPlayed, playing}
 use Rattle.nm_epoch.proofs.DeletingFive.{may_announce_again, may_sight_again}
@@ -11,18 +11,18 @@ use Rattle.nm_epoch.proofs.tests.deleting.begin_delete.Goals as goal
 
 pub announce-requires-clause-may : goal.announce-requires-clause-may
 announce-requires-clause-may g c =
-    let s1 : HasPlayed 21 c.sight.new.pass = knows_more (take 20 playing) c.args.pass.now c.sight.new.pass Sight (Saw 0) c.requires.before (search rules) in
-    allowed_then (take 21 playing) c.sight.new.pass Announce s1 may_announce_again
+    let s1 : HasPlayed 22 c.sight.new.pass = knows_more (take 21 playing) c.args.pass.now c.sight.new.pass Sight (Saw 0) c.requires.before (search rules) in
+    allowed_then (take 22 playing) c.sight.new.pass Announce s1 may_announce_again
 
 pub sight_for-requires-clause-may : goal.sight_for-requires-clause-may
 sight_for-requires-clause-may g c =
-    let s1 : HasPlayed 21 c.sight.new.pass = knows_more (take 20 playing) c.args.pass.now c.sight.new.pass Sight (Saw 0) c.requires.before (search rules) in
-    let s2 : HasPlayed 22 c.announce.new.pass = knows_more (take 21 playing) c.sight.new.pass c.announce.new.pass Announce (Announced 0) s1 (search rules) in
-    subst (λ f. MayStep c.announce.new.pass (SightFor Delete f)) (sym c.requires.five) (allowed_then (take 22 playing) c.announce.new.pass (SightFor Delete 5) s2 may_sight_again)
+    let s1 : HasPlayed 22 c.sight.new.pass = knows_more (take 21 playing) c.args.pass.now c.sight.new.pass Sight (Saw 0) c.requires.before (search rules) in
+    let s2 : HasPlayed 23 c.announce.new.pass = knows_more (take 22 playing) c.sight.new.pass c.announce.new.pass Announce (Announced 0) s1 (search rules) in
+    subst (λ f. MayStep c.announce.new.pass (SightFor Delete f)) (sym c.requires.five) (allowed_then (take 23 playing) c.announce.new.pass (SightFor Delete 5) s2 may_sight_again)
 
 pub returns-clause-after : goal.returns-clause-after
 returns-clause-after g c =
-    let s1 : HasPlayed 21 c.sight.new.pass = knows_more (take 20 playing) c.args.pass.now c.sight.new.pass Sight (Saw 0) c.requires.before (search rules) in
-    let s2 : HasPlayed 22 c.announce.new.pass = knows_more (take 21 playing) c.sight.new.pass c.announce.new.pass Announce (Announced 0) s1 (search rules) in
-    let s3 : HasPlayed 23 c.sight_for.new.pass = knows_more (take 22 playing) c.announce.new.pass c.sight_for.new.pass (SightFor Delete 5) (Pinned 0) s2 (search rules) in
+    let s1 : HasPlayed 22 c.sight.new.pass = knows_more (take 21 playing) c.args.pass.now c.sight.new.pass Sight (Saw 0) c.requires.before (search rules) in
+    let s2 : HasPlayed 23 c.announce.new.pass = knows_more (take 22 playing) c.sight.new.pass c.announce.new.pass Announce (Announced 0) s1 (search rules) in
+    let s3 : HasPlayed 24 c.sight_for.new.pass = knows_more (take 23 playing) c.announce.new.pass c.sight_for.new.pass (SightFor Delete 5) (Pinned 0) s2 (search rules) in
     s3

@@ -2,10 +2,10 @@ use Rattle.std.proofs.Common.{rules, sym, subst}
 use Rattle.std.specs.Prelude.{take}
 use Rattle.nm_edge.specs.Edges.{to}
 use Rattle.nm_edge.specs.declared.edge.Side.TheVariants.{Left}
-use Rattle.nm_core.specs.declared.event.Op.TheVariants.{Insert}
-use Rattle.nm_core.specs.declared.event.Event.TheVariants.{Sight, SightFor, Announce, Look}
-use Rattle.nm_core.specs.declared.event.Field.TheVariants.{Key as KeyOf, Edge as EdgeOn}
-use Rattle.nm_core.specs.declared.reply.Reply.TheVariants.{Saw, Pinned, Announced, KeyIs, EdgeIs}
+use Rattle.nm_model.specs.declared.event.Op.TheVariants.{Insert}
+use Rattle.nm_model.specs.declared.event.Event.TheVariants.{Sight, SightFor, Announce, Look}
+use Rattle.nm_model.specs.declared.event.Field.TheVariants.{Key as KeyOf, Edge as EdgeOn}
+use Rattle.nm_model.specs.declared.reply.Reply.TheVariants.{Saw, Pinned, Announced, KeyIs, EdgeIs}
 use Rattle.nm_steps.specs.Steps.{MayStep}
 use Rattle.nm_epoch.proofs.InsertingFive.{may_announce, may_sight_for, may_look_edge, may_look_key, may_look_edge2}
 use Rattle.nm_epoch.specs.Plays.{HasPlayed, playing}

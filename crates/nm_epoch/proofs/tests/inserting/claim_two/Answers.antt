@@ -1,8 +1,8 @@
 use Rattle.std.proofs.Common.{rules}
 use Rattle.std.specs.Prelude.{take}
-use Rattle.nm_core.specs.declared.event.Event.TheVariants.{Claim, Look, Fill}
-use Rattle.nm_core.specs.declared.event.Field.TheVariants.{Birth}
-use Rattle.nm_core.specs.declared.reply.Reply.TheVariants.{Claimed, BirthIs, Filled}
+use Rattle.nm_model.specs.declared.event.Event.TheVariants.{Claim, Look, Fill}
+use Rattle.nm_model.specs.declared.event.Field.TheVariants.{Birth}
+use Rattle.nm_model.specs.declared.reply.Reply.TheVariants.{Claimed, BirthIs, Filled}
 use Rattle.nm_epoch.proofs.InsertingFive.{may_claim, may_look_birth, may_fill_birth, may_claim2, may_look_birth2, may_fill_birth2}
 use Rattle.nm_epoch.specs.Plays.{HasPlayed, playing}
 use Rattle.nm_epoch.proofs.Playing.{knows_more, allowed_then}
@@ -27,14 +27,14 @@ pub claim-requires-2-clause-may : goal.claim-requires-2-clause-may
 claim-requires-2-clause-may g c =
     let s1 : HasPlayed 7 c.claim.new.pass = knows_more (take 6 playing) c.args.pass.now c.claim.new.pass (Claim 6) (Claimed 6) c.requires.before (search rules) in
     let s2 : HasPlayed 8 c.look_birth.new.pass = knows_more (take 7 playing) c.claim.new.pass c.look_birth.new.pass (Look 6 Birth) (BirthIs 0) s1 (search rules) in
-    let s3 : HasPlayed 9 c.fill_birth.new.pass = knows_more (take 8 playing) c.look_birth.new.pass c.fill_birth.new.pass (Fill 6 Birth 1) Filled s2 c.fill_birth.ensures in
+    let s3 : HasPlayed 9 c.fill_birth.new.pass = knows_more (take 8 playing) c.look_birth.new.pass c.fill_birth.new.pass (Fill 6 Birth 1) Filled s2 c.fill_birth.ensures.step in
     allowed_then (take 9 playing) c.fill_birth.new.pass (Claim 7) s3 may_claim2
 
 pub look_birth-requires-2-clause-may : goal.look_birth-requires-2-clause-may
 look_birth-requires-2-clause-may g c =
     let s1 : HasPlayed 7 c.claim.new.pass = knows_more (take 6 playing) c.args.pass.now c.claim.new.pass (Claim 6) (Claimed 6) c.requires.before (search rules) in
     let s2 : HasPlayed 8 c.look_birth.new.pass = knows_more (take 7 playing) c.claim.new.pass c.look_birth.new.pass (Look 6 Birth) (BirthIs 0) s1 (search rules) in
-    let s3 : HasPlayed 9 c.fill_birth.new.pass = knows_more (take 8 playing) c.look_birth.new.pass c.fill_birth.new.pass (Fill 6 Birth 1) Filled s2 c.fill_birth.ensures in
+    let s3 : HasPlayed 9 c.fill_birth.new.pass = knows_more (take 8 playing) c.look_birth.new.pass c.fill_birth.new.pass (Fill 6 Birth 1) Filled s2 c.fill_birth.ensures.step in
     let s4 : HasPlayed 10 c.claim-2.new.pass = knows_more (take 9 playing) c.fill_birth.new.pass c.claim-2.new.pass (Claim 7) (Claimed 7) s3 (search rules) in
     allowed_then (take 10 playing) c.claim-2.new.pass (Look 7 Birth) s4 may_look_birth2
 
@@ -42,7 +42,7 @@ pub fill_birth-requires-2-clause-may : goal.fill_birth-requires-2-clause-may
 fill_birth-requires-2-clause-may g c =
     let s1 : HasPlayed 7 c.claim.new.pass = knows_more (take 6 playing) c.args.pass.now c.claim.new.pass (Claim 6) (Claimed 6) c.requires.before (search rules) in
     let s2 : HasPlayed 8 c.look_birth.new.pass = knows_more (take 7 playing) c.claim.new.pass c.look_birth.new.pass (Look 6 Birth) (BirthIs 0) s1 (search rules) in
-    let s3 : HasPlayed 9 c.fill_birth.new.pass = knows_more (take 8 playing) c.look_birth.new.pass c.fill_birth.new.pass (Fill 6 Birth 1) Filled s2 c.fill_birth.ensures in
+    let s3 : HasPlayed 9 c.fill_birth.new.pass = knows_more (take 8 playing) c.look_birth.new.pass c.fill_birth.new.pass (Fill 6 Birth 1) Filled s2 c.fill_birth.ensures.step in
     let s4 : HasPlayed 10 c.claim-2.new.pass = knows_more (take 9 playing) c.fill_birth.new.pass c.claim-2.new.pass (Claim 7) (Claimed 7) s3 (search rules) in
     let s5 : HasPlayed 11 c.look_birth-2.new.pass = knows_more (take 10 playing) c.claim-2.new.pass c.look_birth-2.new.pass (Look 7 Birth) (BirthIs 0) s4 (search rules) in
     allowed_then (take 11 playing) c.look_birth-2.new.pass (Fill 7 Birth 1) s5 may_fill_birth2
@@ -51,8 +51,8 @@ pub returns-clause-after : goal.returns-clause-after
 returns-clause-after g c =
     let s1 : HasPlayed 7 c.claim.new.pass = knows_more (take 6 playing) c.args.pass.now c.claim.new.pass (Claim 6) (Claimed 6) c.requires.before (search rules) in
     let s2 : HasPlayed 8 c.look_birth.new.pass = knows_more (take 7 playing) c.claim.new.pass c.look_birth.new.pass (Look 6 Birth) (BirthIs 0) s1 (search rules) in
-    let s3 : HasPlayed 9 c.fill_birth.new.pass = knows_more (take 8 playing) c.look_birth.new.pass c.fill_birth.new.pass (Fill 6 Birth 1) Filled s2 c.fill_birth.ensures in
+    let s3 : HasPlayed 9 c.fill_birth.new.pass = knows_more (take 8 playing) c.look_birth.new.pass c.fill_birth.new.pass (Fill 6 Birth 1) Filled s2 c.fill_birth.ensures.step in
     let s4 : HasPlayed 10 c.claim-2.new.pass = knows_more (take 9 playing) c.fill_birth.new.pass c.claim-2.new.pass (Claim 7) (Claimed 7) s3 (search rules) in
     let s5 : HasPlayed 11 c.look_birth-2.new.pass = knows_more (take 10 playing) c.claim-2.new.pass c.look_birth-2.new.pass (Look 7 Birth) (BirthIs 0) s4 (search rules) in
-    let s6 : HasPlayed 12 c.fill_birth-2.new.pass = knows_more (take 11 playing) c.look_birth-2.new.pass c.fill_birth-2.new.pass (Fill 7 Birth 1) Filled s5 c.fill_birth-2.ensures in
+    let s6 : HasPlayed 12 c.fill_birth-2.new.pass = knows_more (take 11 playing) c.look_birth-2.new.pass c.fill_birth-2.new.pass (Fill 7 Birth 1) Filled s5 c.fill_birth-2.ensures.step in
     s6

@@ -1,9 +1,9 @@
 use Rattle.std.specs.Prelude.{take}
 use Rattle.nm_edge.specs.declared.edge.Side.TheVariants.{Left, Right}
-use Rattle.nm_core.specs.declared.event.Event.TheVariants.{Fill}
-use Rattle.nm_core.specs.declared.event.Field.TheVariants.{Key as KeyOf, Edge as EdgeOn}
-use Rattle.nm_core.specs.declared.reply.Reply.TheVariants.{Filled}
-use Rattle.nm_epoch.proofs.InsertingFive.{may_fill_key, may_fill_edge, may_fill_edge2, may_fill_key2, may_fill_edge3, may_fill_edge4}
+use Rattle.nm_model.specs.declared.event.Event.TheVariants.{Fill}
+use Rattle.nm_model.specs.declared.event.Field.TheVariants.{Key as KeyOf, Edge as EdgeOn}
+use Rattle.nm_model.specs.declared.reply.Reply.TheVariants.{Filled}
+use Rattle.nm_epoch.proofs.InsertingFive.{may_fill_key, may_fill_edge, may_fill_edge2, may_fill_key2, may_fill_edge3, may_fill_edge4, may_fill_key3}
 use Rattle.nm_epoch.specs.Plays.{HasPlayed, playing}
 use Rattle.nm_epoch.proofs.Playing.{knows_more, allowed_then}
 use Rattle.nm_epoch.proofs.tests.inserting.fill_two.Goals as goal
@@ -14,45 +14,56 @@ fill_key-requires-clause-may c =
 
 pub fill_edge-requires-clause-may : goal.fill_edge-requires-clause-may
 fill_edge-requires-clause-may c =
-    let s1 : HasPlayed 13 c.fill_key.new.pass = knows_more (take 12 playing) c.args.pass.now c.fill_key.new.pass (Fill 6 KeyOf 18446744073709551613) Filled c.requires.before c.fill_key.ensures in
+    let s1 : HasPlayed 13 c.fill_key.new.pass = knows_more (take 12 playing) c.args.pass.now c.fill_key.new.pass (Fill 6 KeyOf 18446744073709551613) Filled c.requires.before c.fill_key.ensures.step in
     allowed_then (take 13 playing) c.fill_key.new.pass (Fill 6 (EdgeOn Left) 7) s1 may_fill_edge
 
 pub fill_edge-requires-2-clause-may : goal.fill_edge-requires-2-clause-may
 fill_edge-requires-2-clause-may c =
-    let s1 : HasPlayed 13 c.fill_key.new.pass = knows_more (take 12 playing) c.args.pass.now c.fill_key.new.pass (Fill 6 KeyOf 18446744073709551613) Filled c.requires.before c.fill_key.ensures in
-    let s2 : HasPlayed 14 c.fill_edge.new.pass = knows_more (take 13 playing) c.fill_key.new.pass c.fill_edge.new.pass (Fill 6 (EdgeOn Left) 7) Filled s1 c.fill_edge.ensures in
+    let s1 : HasPlayed 13 c.fill_key.new.pass = knows_more (take 12 playing) c.args.pass.now c.fill_key.new.pass (Fill 6 KeyOf 18446744073709551613) Filled c.requires.before c.fill_key.ensures.step in
+    let s2 : HasPlayed 14 c.fill_edge.new.pass = knows_more (take 13 playing) c.fill_key.new.pass c.fill_edge.new.pass (Fill 6 (EdgeOn Left) 7) Filled s1 c.fill_edge.ensures.step in
     allowed_then (take 14 playing) c.fill_edge.new.pass (Fill 6 (EdgeOn Right) 3) s2 may_fill_edge2
 
 pub fill_key-requires-2-clause-may : goal.fill_key-requires-2-clause-may
 fill_key-requires-2-clause-may c =
-    let s1 : HasPlayed 13 c.fill_key.new.pass = knows_more (take 12 playing) c.args.pass.now c.fill_key.new.pass (Fill 6 KeyOf 18446744073709551613) Filled c.requires.before c.fill_key.ensures in
-    let s2 : HasPlayed 14 c.fill_edge.new.pass = knows_more (take 13 playing) c.fill_key.new.pass c.fill_edge.new.pass (Fill 6 (EdgeOn Left) 7) Filled s1 c.fill_edge.ensures in
-    let s3 : HasPlayed 15 c.fill_edge-2.new.pass = knows_more (take 14 playing) c.fill_edge.new.pass c.fill_edge-2.new.pass (Fill 6 (EdgeOn Right) 3) Filled s2 c.fill_edge-2.ensures in
-    allowed_then (take 15 playing) c.fill_edge-2.new.pass (Fill 7 KeyOf 5) s3 may_fill_key2
+    let s1 : HasPlayed 13 c.fill_key.new.pass = knows_more (take 12 playing) c.args.pass.now c.fill_key.new.pass (Fill 6 KeyOf 18446744073709551613) Filled c.requires.before c.fill_key.ensures.step in
+    let s2 : HasPlayed 14 c.fill_edge.new.pass = knows_more (take 13 playing) c.fill_key.new.pass c.fill_edge.new.pass (Fill 6 (EdgeOn Left) 7) Filled s1 c.fill_edge.ensures.step in
+    let s3 : HasPlayed 15 c.fill_edge-2.new.pass = knows_more (take 14 playing) c.fill_edge.new.pass c.fill_edge-2.new.pass (Fill 6 (EdgeOn Right) 3) Filled s2 c.fill_edge-2.ensures.step in
+    allowed_then (take 15 playing) c.fill_edge-2.new.pass (Fill 7 KeyOf 4) s3 may_fill_key2
 
 pub fill_edge-requires-3-clause-may : goal.fill_edge-requires-3-clause-may
 fill_edge-requires-3-clause-may c =
-    let s1 : HasPlayed 13 c.fill_key.new.pass = knows_more (take 12 playing) c.args.pass.now c.fill_key.new.pass (Fill 6 KeyOf 18446744073709551613) Filled c.requires.before c.fill_key.ensures in
-    let s2 : HasPlayed 14 c.fill_edge.new.pass = knows_more (take 13 playing) c.fill_key.new.pass c.fill_edge.new.pass (Fill 6 (EdgeOn Left) 7) Filled s1 c.fill_edge.ensures in
-    let s3 : HasPlayed 15 c.fill_edge-2.new.pass = knows_more (take 14 playing) c.fill_edge.new.pass c.fill_edge-2.new.pass (Fill 6 (EdgeOn Right) 3) Filled s2 c.fill_edge-2.ensures in
-    let s4 : HasPlayed 16 c.fill_key-2.new.pass = knows_more (take 15 playing) c.fill_edge-2.new.pass c.fill_key-2.new.pass (Fill 7 KeyOf 5) Filled s3 c.fill_key-2.ensures in
+    let s1 : HasPlayed 13 c.fill_key.new.pass = knows_more (take 12 playing) c.args.pass.now c.fill_key.new.pass (Fill 6 KeyOf 18446744073709551613) Filled c.requires.before c.fill_key.ensures.step in
+    let s2 : HasPlayed 14 c.fill_edge.new.pass = knows_more (take 13 playing) c.fill_key.new.pass c.fill_edge.new.pass (Fill 6 (EdgeOn Left) 7) Filled s1 c.fill_edge.ensures.step in
+    let s3 : HasPlayed 15 c.fill_edge-2.new.pass = knows_more (take 14 playing) c.fill_edge.new.pass c.fill_edge-2.new.pass (Fill 6 (EdgeOn Right) 3) Filled s2 c.fill_edge-2.ensures.step in
+    let s4 : HasPlayed 16 c.fill_key-2.new.pass = knows_more (take 15 playing) c.fill_edge-2.new.pass c.fill_key-2.new.pass (Fill 7 KeyOf 4) Filled s3 c.fill_key-2.ensures.step in
     allowed_then (take 16 playing) c.fill_key-2.new.pass (Fill 7 (EdgeOn Left) 0) s4 may_fill_edge3
 
 pub fill_edge-requires-4-clause-may : goal.fill_edge-requires-4-clause-may
 fill_edge-requires-4-clause-may c =
-    let s1 : HasPlayed 13 c.fill_key.new.pass = knows_more (take 12 playing) c.args.pass.now c.fill_key.new.pass (Fill 6 KeyOf 18446744073709551613) Filled c.requires.before c.fill_key.ensures in
-    let s2 : HasPlayed 14 c.fill_edge.new.pass = knows_more (take 13 playing) c.fill_key.new.pass c.fill_edge.new.pass (Fill 6 (EdgeOn Left) 7) Filled s1 c.fill_edge.ensures in
-    let s3 : HasPlayed 15 c.fill_edge-2.new.pass = knows_more (take 14 playing) c.fill_edge.new.pass c.fill_edge-2.new.pass (Fill 6 (EdgeOn Right) 3) Filled s2 c.fill_edge-2.ensures in
-    let s4 : HasPlayed 16 c.fill_key-2.new.pass = knows_more (take 15 playing) c.fill_edge-2.new.pass c.fill_key-2.new.pass (Fill 7 KeyOf 5) Filled s3 c.fill_key-2.ensures in
-    let s5 : HasPlayed 17 c.fill_edge-3.new.pass = knows_more (take 16 playing) c.fill_key-2.new.pass c.fill_edge-3.new.pass (Fill 7 (EdgeOn Left) 0) Filled s4 c.fill_edge-3.ensures in
+    let s1 : HasPlayed 13 c.fill_key.new.pass = knows_more (take 12 playing) c.args.pass.now c.fill_key.new.pass (Fill 6 KeyOf 18446744073709551613) Filled c.requires.before c.fill_key.ensures.step in
+    let s2 : HasPlayed 14 c.fill_edge.new.pass = knows_more (take 13 playing) c.fill_key.new.pass c.fill_edge.new.pass (Fill 6 (EdgeOn Left) 7) Filled s1 c.fill_edge.ensures.step in
+    let s3 : HasPlayed 15 c.fill_edge-2.new.pass = knows_more (take 14 playing) c.fill_edge.new.pass c.fill_edge-2.new.pass (Fill 6 (EdgeOn Right) 3) Filled s2 c.fill_edge-2.ensures.step in
+    let s4 : HasPlayed 16 c.fill_key-2.new.pass = knows_more (take 15 playing) c.fill_edge-2.new.pass c.fill_key-2.new.pass (Fill 7 KeyOf 4) Filled s3 c.fill_key-2.ensures.step in
+    let s5 : HasPlayed 17 c.fill_edge-3.new.pass = knows_more (take 16 playing) c.fill_key-2.new.pass c.fill_edge-3.new.pass (Fill 7 (EdgeOn Left) 0) Filled s4 c.fill_edge-3.ensures.step in
     allowed_then (take 17 playing) c.fill_edge-3.new.pass (Fill 7 (EdgeOn Right) 0) s5 may_fill_edge4
+
+pub fill_key-requires-3-clause-may : goal.fill_key-requires-3-clause-may
+fill_key-requires-3-clause-may c =
+    let s1 : HasPlayed 13 c.fill_key.new.pass = knows_more (take 12 playing) c.args.pass.now c.fill_key.new.pass (Fill 6 KeyOf 18446744073709551613) Filled c.requires.before c.fill_key.ensures.step in
+    let s2 : HasPlayed 14 c.fill_edge.new.pass = knows_more (take 13 playing) c.fill_key.new.pass c.fill_edge.new.pass (Fill 6 (EdgeOn Left) 7) Filled s1 c.fill_edge.ensures.step in
+    let s3 : HasPlayed 15 c.fill_edge-2.new.pass = knows_more (take 14 playing) c.fill_edge.new.pass c.fill_edge-2.new.pass (Fill 6 (EdgeOn Right) 3) Filled s2 c.fill_edge-2.ensures.step in
+    let s4 : HasPlayed 16 c.fill_key-2.new.pass = knows_more (take 15 playing) c.fill_edge-2.new.pass c.fill_key-2.new.pass (Fill 7 KeyOf 4) Filled s3 c.fill_key-2.ensures.step in
+    let s5 : HasPlayed 17 c.fill_edge-3.new.pass = knows_more (take 16 playing) c.fill_key-2.new.pass c.fill_edge-3.new.pass (Fill 7 (EdgeOn Left) 0) Filled s4 c.fill_edge-3.ensures.step in
+    let s6 : HasPlayed 18 c.fill_edge-4.new.pass = knows_more (take 17 playing) c.fill_edge-3.new.pass c.fill_edge-4.new.pass (Fill 7 (EdgeOn Right) 0) Filled s5 c.fill_edge-4.ensures.step in
+    allowed_then (take 18 playing) c.fill_edge-4.new.pass (Fill 7 KeyOf 5) s6 may_fill_key3
 
 pub returns-clause-after : goal.returns-clause-after
 returns-clause-after c =
-    let s1 : HasPlayed 13 c.fill_key.new.pass = knows_more (take 12 playing) c.args.pass.now c.fill_key.new.pass (Fill 6 KeyOf 18446744073709551613) Filled c.requires.before c.fill_key.ensures in
-    let s2 : HasPlayed 14 c.fill_edge.new.pass = knows_more (take 13 playing) c.fill_key.new.pass c.fill_edge.new.pass (Fill 6 (EdgeOn Left) 7) Filled s1 c.fill_edge.ensures in
-    let s3 : HasPlayed 15 c.fill_edge-2.new.pass = knows_more (take 14 playing) c.fill_edge.new.pass c.fill_edge-2.new.pass (Fill 6 (EdgeOn Right) 3) Filled s2 c.fill_edge-2.ensures in
-    let s4 : HasPlayed 16 c.fill_key-2.new.pass = knows_more (take 15 playing) c.fill_edge-2.new.pass c.fill_key-2.new.pass (Fill 7 KeyOf 5) Filled s3 c.fill_key-2.ensures in
-    let s5 : HasPlayed 17 c.fill_edge-3.new.pass = knows_more (take 16 playing) c.fill_key-2.new.pass c.fill_edge-3.new.pass (Fill 7 (EdgeOn Left) 0) Filled s4 c.fill_edge-3.ensures in
-    let s6 : HasPlayed 18 c.fill_edge-4.new.pass = knows_more (take 17 playing) c.fill_edge-3.new.pass c.fill_edge-4.new.pass (Fill 7 (EdgeOn Right) 0) Filled s5 c.fill_edge-4.ensures in
-    s6
+    let s1 : HasPlayed 13 c.fill_key.new.pass = knows_more (take 12 playing) c.args.pass.now c.fill_key.new.pass (Fill 6 KeyOf 18446744073709551613) Filled c.requires.before c.fill_key.ensures.step in
+    let s2 : HasPlayed 14 c.fill_edge.new.pass = knows_more (take 13 playing) c.fill_key.new.pass c.fill_edge.new.pass (Fill 6 (EdgeOn Left) 7) Filled s1 c.fill_edge.ensures.step in
+    let s3 : HasPlayed 15 c.fill_edge-2.new.pass = knows_more (take 14 playing) c.fill_edge.new.pass c.fill_edge-2.new.pass (Fill 6 (EdgeOn Right) 3) Filled s2 c.fill_edge-2.ensures.step in
+    let s4 : HasPlayed 16 c.fill_key-2.new.pass = knows_more (take 15 playing) c.fill_edge-2.new.pass c.fill_key-2.new.pass (Fill 7 KeyOf 4) Filled s3 c.fill_key-2.ensures.step in
+    let s5 : HasPlayed 17 c.fill_edge-3.new.pass = knows_more (take 16 playing) c.fill_key-2.new.pass c.fill_edge-3.new.pass (Fill 7 (EdgeOn Left) 0) Filled s4 c.fill_edge-3.ensures.step in
+    let s6 : HasPlayed 18 c.fill_edge-4.new.pass = knows_more (take 17 playing) c.fill_edge-3.new.pass c.fill_edge-4.new.pass (Fill 7 (EdgeOn Right) 0) Filled s5 c.fill_edge-4.ensures.step in
+    let s7 : HasPlayed 19 c.fill_key-3.new.pass = knows_more (take 18 playing) c.fill_edge-4.new.pass c.fill_key-3.new.pass (Fill 7 KeyOf 5) Filled s6 c.fill_key-3.ensures.step in
+    s7

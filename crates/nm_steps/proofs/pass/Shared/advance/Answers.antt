@@ -1,8 +1,8 @@
 use Rattle.std.proofs.Common.{rules, arith, ◌≤◌}
 use Rattle.nm_steps.specs.Rules.{knowledge}
-use Rattle.nm_core.specs.Step.{last_number}
+use Rattle.nm_model.specs.Step.{last_number}
 use Rattle.nm_steps.proofs.Asking.{advance_seen}
-use Rattle.nm_steps.proofs.Noting.{tied_after, noted_moved, noted_behind}
+use Rattle.nm_steps.proofs.Noting.{in_run_after, tied_after, noted_moved, noted_behind}
 use Rattle.nm_steps.proofs.pass.Shared.advance.Goals as goal
 
 pub unreachable-requires : goal.unreachable-requires
@@ -22,3 +22,9 @@ invariant_of-pass c = tied_after _ _ _ _ _ _ _ c.pass.invariant (rw (← c.pass.
 
 pub invariant_of-pass-else-found-seen : goal.invariant_of-pass-else-found-seen
 invariant_of-pass-else-found-seen c = tied_after _ _ _ _ _ _ _ c.pass.invariant (rw (← c.pass.view_is) at c.requires.may) c.exchange-found.ensures (noted_behind c.pass.inside.seat.me.0.layout (knowledge c.pass.inside.seat.me.0) c.pass.inside.brief c.in-Some.seen c.exchange-found.result c.pass.invariant.brief_is (search rules) (search rules))
+
+pub returns-then-found-seen-clause-run : goal.returns-then-found-seen-clause-run
+returns-then-found-seen-clause-run c = in_run_after _ _ _ _ _ _ c.pass.invariant (rw (← c.pass.view_is) at c.requires.may) c.exchange-found.ensures
+
+pub returns-else-found-seen-clause-run : goal.returns-else-found-seen-clause-run
+returns-else-found-seen-clause-run c = in_run_after _ _ _ _ _ _ c.pass.invariant (rw (← c.pass.view_is) at c.requires.may) c.exchange-found.ensures

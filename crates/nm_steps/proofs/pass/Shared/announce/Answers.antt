@@ -1,7 +1,7 @@
 use Rattle.std.proofs.Common.{rules, arith, ◌≤◌}
-use Rattle.nm_core.specs.Step.{last_number}
+use Rattle.nm_model.specs.Step.{last_number}
 use Rattle.nm_steps.proofs.Asking.{announce_seen}
-use Rattle.nm_steps.proofs.Noting.{tied_after}
+use Rattle.nm_steps.proofs.Noting.{in_run_after, tied_after}
 use Rattle.nm_steps.proofs.pass.Shared.announce.Goals as goal
 
 pub unreachable-requires : goal.unreachable-requires
@@ -12,3 +12,6 @@ overflow_add-seen c = let small : c.in-Some.seen ≤ last_number = search (rules
 
 pub invariant_of-pass : goal.invariant_of-pass
 invariant_of-pass c = tied_after _ _ _ _ _ _ _ c.pass.invariant (rw (← c.pass.view_is) at c.requires.may) c.store.ensures (search rules)
+
+pub returns-clause-run : goal.returns-clause-run
+returns-clause-run c = in_run_after _ _ _ _ _ _ c.pass.invariant (rw (← c.pass.view_is) at c.requires.may) c.store.ensures

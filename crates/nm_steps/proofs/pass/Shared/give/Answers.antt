@@ -1,13 +1,16 @@
 use Rattle.std.proofs.Common.{rules}
 use Rattle.nm_steps.proofs.Asking.{give_slot}
-use Rattle.nm_steps.proofs.Noting.{ready, tied_after}
+use Rattle.nm_steps.proofs.Noting.{ready, in_run_after, tied_after}
 use Rattle.nm_steps.proofs.pass.Shared.give.Goals as goal
 
 pub pool-place-requires : goal.pool-place-requires
 pool-place-requires c = let slot = give_slot _ _ _ c.args.slot c.requires.may in search (rules, slot)
 
 pub mark-requires-clause-ready : goal.mark-requires-clause-ready
-mark-requires-clause-ready c = ready _ _ _ _ _ _ _ _ c.self.invariant c.pass.invariant (search rules) (search rules) (rw (← c.pass.view_is) at c.requires.may) (search rules)
+mark-requires-clause-ready c = rw (← c.self.view_is) (ready _ _ _ _ _ _ _ _ c.self.invariant c.pass.invariant (search rules) (search rules) (rw (← c.pass.view_is) at c.requires.may) (search rules))
 
 pub invariant_of-pass : goal.invariant_of-pass
 invariant_of-pass c = tied_after _ _ _ _ _ _ _ c.pass.invariant (rw (← c.pass.view_is) at c.requires.may) c.mark.ensures (search rules)
+
+pub returns-clause-run : goal.returns-clause-run
+returns-clause-run c = in_run_after _ _ _ _ _ _ c.pass.invariant (rw (← c.pass.view_is) at c.requires.may) c.mark.ensures

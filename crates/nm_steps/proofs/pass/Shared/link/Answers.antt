@@ -1,16 +1,19 @@
 use Rattle.std.proofs.Common.{rules, refl}
 use Rattle.nm_steps.proofs.Asking.{link_slot, finds_edge}
-use Rattle.nm_steps.proofs.Noting.{ready, tied_after}
+use Rattle.nm_steps.proofs.Noting.{ready, in_run_after, tied_after}
 use Rattle.nm_steps.proofs.pass.Shared.link.Goals as goal
 
 pub edge-word-requires : goal.edge-word-requires
 edge-word-requires c = let slot = link_slot _ _ _ c.args.parent c.args.side c.args.leaf c.args.new c.requires.may in search (rules, slot)
 
 pub exchange-found-requires-clause-ready : goal.exchange-found-requires-clause-ready
-exchange-found-requires-clause-ready c = ready _ _ _ _ _ _ _ _ c.self.invariant c.pass.invariant (search rules) (search rules) (rw (← c.pass.view_is) at c.requires.may) (search rules)
+exchange-found-requires-clause-ready c = rw (← c.self.view_is) (ready _ _ _ _ _ _ _ _ c.self.invariant c.pass.invariant (search rules) (search rules) (rw (← c.pass.view_is) at c.requires.may) (search rules))
 
 pub edge_of-requires : goal.edge_of-requires
 edge_of-requires c = finds_edge _ _ _ _ _ c.args.parent c.args.side c.exchange-found.ensures.found refl refl (link_slot _ _ _ c.args.parent c.args.side c.args.leaf c.args.new (rw (← c.pass.view_is) at c.requires.may))
 
 pub invariant_of-pass : goal.invariant_of-pass
 invariant_of-pass c = tied_after _ _ _ _ _ _ _ c.pass.invariant (rw (← c.pass.view_is) at c.requires.may) c.exchange-found.ensures (search rules)
+
+pub returns-clause-run : goal.returns-clause-run
+returns-clause-run c = in_run_after _ _ _ _ _ _ c.pass.invariant (rw (← c.pass.view_is) at c.requires.may) c.exchange-found.ensures

@@ -1,15 +1,18 @@
 use Rattle.std.proofs.Common.{rules}
-use Rattle.nm_steps.proofs.Noting.{ready, tied_after}
+use Rattle.nm_steps.proofs.Noting.{ready, in_run_after, tied_after}
 use Rattle.nm_steps.specs.Rules.{knowledge}
 use Rattle.nm_steps.specs.Steps.{sight_reply}
 use Rattle.nm_steps.proofs.Sighting.{sight_answers}
 use Rattle.nm_steps.proofs.pass.Shared.sight_for.Goals as goal
 
 pub load-found-requires-clause-ready : goal.load-found-requires-clause-ready
-load-found-requires-clause-ready c = ready _ _ _ _ _ _ _ _ c.self.invariant c.pass.invariant (search rules) (search rules) (rw (← c.pass.view_is) at c.requires.may) c.epoch-word.ensures
+load-found-requires-clause-ready c = rw (← c.self.view_is) (ready _ _ _ _ _ _ _ _ c.self.invariant c.pass.invariant (search rules) (search rules) (rw (← c.pass.view_is) at c.requires.may) c.epoch-word.ensures)
 
 pub invariant_of-pass : goal.invariant_of-pass
 invariant_of-pass c = tied_after _ _ _ _ _ _ _ c.pass.invariant (rw (← c.pass.view_is) at c.requires.may) c.load-found.ensures (search rules)
 
 pub returns-clause-reply : goal.returns-clause-reply
 returns-clause-reply c = sight_answers _ _ c.pass.inside.brief c.after_sight-pass-inside.result (knowledge c.args.pass.now.view).brief (sight_reply c.sighted-reply.result) c.load-found.result (tied_after _ _ _ _ c.after_sight-pass-inside.result _ _ c.pass.invariant (rw (← c.pass.view_is) at c.requires.may) c.load-found.ensures (search rules)) c.after_sight-pass-inside.ensures c.sighted-reply.ensures (search rules)
+
+pub returns-clause-run : goal.returns-clause-run
+returns-clause-run c = in_run_after _ _ _ _ _ _ c.pass.invariant (rw (← c.pass.view_is) at c.requires.may) c.load-found.ensures

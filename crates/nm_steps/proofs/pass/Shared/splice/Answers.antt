@@ -1,13 +1,13 @@
 use Rattle.std.proofs.Common.{rules, refl}
 use Rattle.nm_steps.proofs.Asking.{splice_slot, finds_edge}
-use Rattle.nm_steps.proofs.Noting.{ready, tied_after}
+use Rattle.nm_steps.proofs.Noting.{ready, in_run_after, tied_after}
 use Rattle.nm_steps.proofs.pass.Shared.splice.Goals as goal
 
 pub edge-word-requires : goal.edge-word-requires
 edge-word-requires c = let slot = splice_slot _ _ _ c.args.ancestor c.args.side c.args.successor c.args.parent c.args.keep c.requires.may in search (rules, slot)
 
 pub exchange-found-requires-clause-ready : goal.exchange-found-requires-clause-ready
-exchange-found-requires-clause-ready c = ready _ _ _ _ _ _ _ _ c.self.invariant c.pass.invariant (search rules) (search rules) (rw (← c.pass.view_is) at c.requires.may) (search rules)
+exchange-found-requires-clause-ready c = rw (← c.self.view_is) (ready _ _ _ _ _ _ _ _ c.self.invariant c.pass.invariant (search rules) (search rules) (rw (← c.pass.view_is) at c.requires.may) (search rules))
 
 pub edge_of-requires : goal.edge_of-requires
 edge_of-requires c = finds_edge _ _ _ _ _ c.args.ancestor c.args.side c.exchange-found.ensures.found refl refl (splice_slot _ _ _ c.args.ancestor c.args.side c.args.successor c.args.parent c.args.keep (rw (← c.pass.view_is) at c.requires.may))
@@ -17,3 +17,9 @@ invariant_of-pass c = tied_after _ _ _ _ _ _ _ c.pass.invariant (rw (← c.pass.
 
 pub invariant_of-pass-2 : goal.invariant_of-pass-2
 invariant_of-pass-2 c = tied_after _ _ _ _ _ _ _ c.pass.invariant (rw (← c.pass.view_is) at c.requires.may) c.exchange-found.ensures (search rules)
+
+pub returns-clause-run : goal.returns-clause-run
+returns-clause-run c = in_run_after _ _ _ _ _ _ c.pass.invariant (rw (← c.pass.view_is) at c.requires.may) c.exchange-found.ensures
+
+pub returns-then-found-old-clause-run : goal.returns-then-found-old-clause-run
+returns-then-found-old-clause-run c = in_run_after _ _ _ _ _ _ c.pass.invariant (rw (← c.pass.view_is) at c.requires.may) c.exchange-found.ensures

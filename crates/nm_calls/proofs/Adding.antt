@@ -1,0 +1,223 @@
+-- What the parts of a call add to a log: how many won links, flags and splices, and at most how many entries.
+use Rattle.std.proofs.Common.{◌≡◌, ◌≤◌, ◌<◌, ◌⊎◌, inl, inr, ℕ, zero, suc, ◌+◌, ◌*◌, ◌-◌, Bool, List, [], ◌∷◌, ◌++◌, length, refl, ap, ◌∙◌, arith}
+use Rattle.std.specs.Prelude.{filter, Option, Some, None}
+use Rattle.std.proofs.Math.Nat.{suc-mul, mul-add, mul-le-mul_left, mul-le-mul_right}
+use Rattle.std.proofs.lemmas.List.{length-append}
+use Rattle.std.proofs.lemmas.List.Elements.{filter-append}
+use Rattle.nm_edge.specs.Edges.{Edge, other}
+use Rattle.nm_edge.specs.declared.edge.Side.{Side}
+use Rattle.nm_edge.specs.declared.node.NodeId.{NodeId}
+use Rattle.nm_model.specs.declared.event.Event.{Event}
+use Rattle.nm_model.specs.declared.event.Op.{Op}
+use Rattle.nm_model.specs.declared.event.Event.TheVariants.{SightFor}
+use Rattle.nm_model.specs.Searches.{side_of}
+use Rattle.nm_model.specs.Walks.{Entry}
+use Rattle.nm_order.specs.Exchanges.{is_won_link}
+use Rattle.nm_order.specs.WalksToArrivals.{is_won_flag}
+use Rattle.nm_epoch.specs.Tries.{LostTry, LostTries, IsPinned, IsMoved}
+use Rattle.nm_pool.specs.Takes.{DoneInTurn}
+use Rattle.nm_pool.specs.Claims.{PassedOver, IsClaim}
+use Rattle.nm_calls.specs.declared.cutting.Kept.{Kept}
+use Rattle.nm_calls.specs.declared.spot.ChainEdge.{ChainEdge}
+use Rattle.nm_calls.specs.declared.spot.End.{End}
+use Rattle.nm_calls.specs.declared.spot.Spot.{Spot}
+use Rattle.nm_calls.specs.Walks.{Walks, Ends, IsTooLong, IsBroken, Seeks, Finds}
+use Rattle.nm_calls.specs.Calls.{LostWalks}
+use Rattle.nm_calls.specs.Cleanups.{Chooses, FreezesOne, Freezes, Prepares, CutsOff, CleanupLost, CleanupWon}
+use Rattle.nm_calls.specs.Won.{is_won_splice, won_links, won_flags, won_splices, capped, HasWon}
+
+-- between a log and a later one so many links, flags and splices were won, in at most so many steps
+pub record Adds (l f s n : ℕ) (old new : List Entry) : Type 0 where
+  pub links : won_links new ≡ won_links old + l
+  pub flags : won_flags new ≡ won_flags old + f
+  pub splices : won_splices new ≡ won_splices old + s
+  pub steps : length new ≤ length old + n
+
+how_many : (p : Entry → Bool) (old more new : List Entry) → new ≡ old ++ more → length (filter p new) ≡ length (filter p old) + length (filter p more)
+how_many p old more new is = ap (λ (log : List Entry). length (filter p log)) is ∙ (ap (λ (log : List Entry). length log) (filter-append p old more) ∙ length-append (filter p old) (filter p more))
+
+pub adds_none : (old new : List Entry) → new ≡ old → Adds 0 0 0 0 old new
+adds_none old new is =
+    let a : won_links new ≡ won_links old = ap won_links is in
+    let b : won_flags new ≡ won_flags old = ap won_flags is in
+    let c : won_splices new ≡ won_splices old = ap won_splices is in
+    let d : length new ≡ length old = ap (λ (log : List Entry). length log) is in
+    record { links = omega (arith, a); flags = omega (arith, b); splices = omega (arith, c); steps = omega (arith, d) }
+
+pub adds_these : (more old new : List Entry) → new ≡ old ++ more → Adds (won_links more) (won_flags more) (won_splices more) (length more) old new
+adds_these more old new is =
+    let d : length new ≡ length old + length more = ap (λ (log : List Entry). length log) is ∙ length-append old more in
+    record {
+      links = how_many is_won_link old more new is;
+      flags = how_many is_won_flag old more new is;
+      splices = how_many is_won_splice old more new is;
+      steps = omega (arith, d);
+    }
+
+pub adds_then : {l f s n m g t k : ℕ} (old mid new : List Entry) → Adds l f s n old mid → Adds m g t k mid new → Adds (l + m) (f + g) (s + t) (n + k) old new
+adds_then {l} {f} {s} {n} {m} {g} {t} {k} old mid new a b =
+    let la = a.links in
+    let lb = b.links in
+    let fa = a.flags in
+    let fb = b.flags in
+    let sa = a.splices in
+    let sb = b.splices in
+    let na = a.steps in
+    let nb = b.steps in
+    record { links = omega (arith, la, lb); flags = omega (arith, fa, fb); splices = omega (arith, sa, sb); steps = omega (arith, na, nb) }
+
+-- the same behind a part that won neither a link nor a flag
+pub adds_after : {l f s n t k : ℕ} (old mid new : List Entry) → Adds 0 0 s n old mid → Adds l f t k mid new → Adds l f (s + t) (n + k) old new
+adds_after {l} {f} {s} {n} {t} {k} old mid new a b =
+    let la = a.links in
+    let lb = b.links in
+    let fa = a.flags in
+    let fb = b.flags in
+    let sa = a.splices in
+    let sb = b.splices in
+    let na = a.steps in
+    let nb = b.steps in
+    record { links = omega (arith, la, lb); flags = omega (arith, fa, fb); splices = omega (arith, sa, sb); steps = omega (arith, na, nb) }
+
+-- in more steps
+pub adds_in : {l f s n : ℕ} (m : ℕ) (old new : List Entry) → n ≤ m → Adds l f s n old new → Adds l f s m old new
+adds_in m old new le a = let steps = a.steps in record { links = a.links; flags = a.flags; splices = a.splices; steps = omega (arith, le, steps) }
+
+pub has_won : {l f s n : ℕ} (old new : List Entry) → Adds l f s n old new → HasWon old new l f
+has_won old new a = record { links = a.links; flags = a.flags }
+
+pub cuts_none : {l f n : ℕ} (old new : List Entry) → Adds l f 0 n old new → won_splices new ≡ won_splices old
+cuts_none old new a = let s = a.splices in omega (arith, s)
+
+-- a counter of splices stays right where none was won
+pub counts_on : {l f n : ℕ} (count : ℕ) (old new : List Entry) → Adds l f 0 n old new → count ≡ capped (won_splices old) → count ≡ capped (won_splices new)
+counts_on count old new a is = is ∙ ap capped (let s = a.splices in omega (arith, s))
+
+-- ---- products
+
+pub mul_below : (s t n : ℕ) → s < t → s * n + n ≤ t * n
+mul_below s t n lt = let one = suc-mul s n in let all = mul-le-mul_right n lt in omega (arith, one, all)
+
+-- the steps of a try, those of walks and exchanges and of one cleanup
+abbrev pub most : ℕ → ℕ
+most nodes = 2 * nodes + 204
+
+-- a call stays within its bound
+pub within_call : (nodes tries a b m : ℕ) → b ≤ a + m → m ≤ tries * most nodes + 2 * tries + 6 * nodes + 10 → b ≤ a + tries * (4 * nodes + 8 * 64) + 6 * nodes + 10
+within_call nodes tries a b m le few =
+    let two = mul-add tries (most nodes) 2 in
+    let all = mul-le-mul_left tries (let le : most nodes + 2 ≤ 4 * nodes + 8 * 64 = omega arith in le) in
+    omega (arith, two, all, le, few)
+
+-- ---- walks
+
+pub walk_adds : (k n : ℕ) (old new : List Entry) (s : Spot) (c : List ChainEdge) → Walks k n old new s c → Adds 0 0 0 (1 + 2 * n) old new
+walk_adds k zero old new s c w = adds_these _ old new w.3
+walk_adds k (suc n) old new s c w =
+    let above = walk_adds k n old w.0 w.1 w.2 w.4 in
+    let first = adds_these _ w.0 _ refl in
+    let second = adds_these _ _ new w.6 in
+    adds_in (1 + 2 * suc n) old new (omega arith) (adds_then old w.0 new above (adds_then w.0 _ new first second))
+
+pub end_adds : (nodes k : ℕ) (old new : List Entry) (s : Spot) (c : List ChainEdge) (key : ℕ) → Ends nodes k old new s c key → Adds 0 0 0 (2 * nodes) old new
+end_adds nodes k old new s c key e =
+    let few = e.3 in
+    let above = walk_adds k e.0 old e.1 s c e.4 in
+    let first = adds_these _ e.1 _ refl in
+    let second = adds_these _ _ new e.6 in
+    adds_in (2 * nodes) old new (omega (arith, few)) (adds_then old e.1 new above (adds_then e.1 _ new first second))
+
+pub long_adds : (nodes k : ℕ) (old new : List Entry) → IsTooLong nodes k old new → Adds 0 0 0 (2 * nodes) old new
+long_adds nodes k old new e = let all = e.4 in adds_in (2 * nodes) old new (omega (arith, all)) (walk_adds k e.0 old new e.1 e.2 e.3)
+
+pub broken_adds : (nodes k : ℕ) (old new : List Entry) → IsBroken nodes k old new → Adds 0 0 0 (2 * nodes) old new
+broken_adds nodes k old new (inl long) = long_adds nodes k old new long
+broken_adds nodes k old new (inr e) =
+    let few = e.6 in
+    let above = walk_adds k e.0 old e.1 e.2 e.3 e.7 in
+    let first = adds_these _ e.1 _ refl in
+    let second = adds_these _ _ new e.8 in
+    adds_in (2 * nodes) old new (omega (arith, few)) (adds_then old e.1 new above (adds_then e.1 _ new first second))
+
+pub finds_adds : (nodes k : ℕ) (old new : List Entry) (r : Option ℕ) → Finds nodes k old new r → Adds 0 0 0 (2 * nodes) old new
+finds_adds nodes k old new None h = long_adds nodes k old new h
+finds_adds nodes k old new (Some key) h = end_adds nodes k old new h.0 h.1 key h.2
+
+pub seeks_adds : (nodes k : ℕ) (old new : List Entry) (c : List ChainEdge) (r : Option End) → Seeks nodes k old new c r → Adds 0 0 0 (2 * nodes) old new
+seeks_adds nodes k old new c None h = broken_adds nodes k old new h
+seeks_adds nodes k old new c (Some r) h = end_adds nodes k old new r.spot c r.key h.0
+
+pub lost_walks_add : (nodes k t : ℕ) (old new : List Entry) → LostWalks nodes k t old new → Adds 0 0 0 (t * most nodes) old new
+lost_walks_add nodes k zero old new h = adds_in _ old new (omega arith) (adds_none old new h)
+lost_walks_add nodes k (suc t) old new h =
+    let more = suc-mul t (most nodes) in
+    adds_in _ old new (omega (arith, more)) (adds_then old h.0 new (lost_walks_add nodes k t old h.0 h.1) (long_adds nodes k h.0 new h.2))
+
+-- ---- pins
+
+lost_try_adds : (op : Op) (key : ℕ) (old new : List Entry) → LostTry (SightFor op key) old new → Adds 0 0 0 2 old new
+lost_try_adds op key old new h = adds_then old _ new (adds_these _ old _ refl) (adds_these _ _ new h.2)
+
+lost_tries_add : (op : Op) (key n : ℕ) (old new : List Entry) → LostTries (SightFor op key) n old new → Adds 0 0 0 (2 * n) old new
+lost_tries_add op key zero old new h = adds_none old new h
+lost_tries_add op key (suc n) old new h =
+    adds_in (2 * suc n) old new (omega arith) (adds_then old h.0 new (lost_tries_add op key n old h.0 h.1) (lost_try_adds op key h.0 new h.2))
+
+pub pin_adds : (op : Op) (key tries : ℕ) (old new : List Entry) (e : ℕ) → IsPinned (SightFor op key) tries old new e → Adds 0 0 0 (2 * tries + 1) old new
+pin_adds op key tries old new e h =
+    let few = h.3 in
+    let first = adds_these _ old _ refl in
+    let lost = lost_tries_add op key h.1 _ h.2 h.4 in
+    let won = adds_then h.2 _ new (adds_these _ h.2 _ refl) (adds_these _ _ new h.5.1) in
+    adds_in (2 * tries + 1) old new (omega (arith, few)) (adds_then old _ new first (adds_then _ h.2 new lost won))
+
+pub moved_adds : (op : Op) (key tries : ℕ) (old new : List Entry) → IsMoved (SightFor op key) tries old new → Adds 0 0 0 (2 * tries + 2) old new
+moved_adds op key zero old new h = adds_in 2 old new (omega arith) (adds_these _ old new h.1)
+moved_adds op key (suc n) old new h =
+    let first = adds_these _ old _ refl in
+    let lost = lost_tries_add op key (suc n) _ h.1 h.2 in
+    adds_in (2 * suc n + 2) old new (omega arith) (adds_then old _ new first (adds_then _ h.1 new lost (adds_these _ h.1 new h.3)))
+
+-- ---- claims
+
+passed_adds : (s : ℕ) (old new : List Entry) → PassedOver s old new → Adds 0 0 0 3 old new
+passed_adds s old new (inl taken) = adds_in 3 old new (omega arith) (adds_these _ old new taken)
+passed_adds s old new (inr worn) = adds_these _ old new worn
+
+passed_all : (from n : ℕ) (old new : List Entry) → DoneInTurn PassedOver from n old new → Adds 0 0 0 (3 * n) old new
+passed_all from zero old new h = adds_none old new h
+passed_all from (suc n) old new h = adds_in (3 * suc n) old new (omega arith) (adds_then old h.0 new (passed_all from n old h.0 h.1) (passed_adds (from + n) h.0 new h.2))
+
+pub claim_adds : (nodes : ℕ) (old new : List Entry) (r : Option NodeId) → IsClaim nodes old new r → Adds 0 0 0 (3 * nodes) old new
+claim_adds nodes old new (Some n) h =
+    let least = h.least in
+    let most = h.most in
+    adds_in (3 * nodes) old new (omega (arith, least, most)) (adds_then old h.before new (passed_all 6 (n.slot - 6) old h.before h.passed) (adds_these _ h.before new h.made.entries))
+claim_adds nodes old new None h = adds_in (3 * nodes) old new (omega arith) (passed_all 6 (nodes + 1 - 6) old new h)
+
+-- ---- cleanups
+
+pub choice_adds : (s : Spot) (r : Option Kept) (old new : List Entry) → Chooses s old new r → Adds 0 0 0 2 old new
+choice_adds s r old new h = adds_then old _ new (adds_these _ old _ refl) (adds_these _ _ new h.2)
+
+one_adds : (slot : ℕ) (side : Side) (old new : List Entry) → FreezesOne slot side old new → Adds 0 0 0 3 old new
+one_adds slot side old new h = adds_then old _ new (adds_these _ old _ refl) (adds_then _ _ new (adds_these _ _ _ refl) (adds_these _ _ new h.3))
+
+chain_adds : (parent : ℕ) (keep : Side) (c : List ChainEdge) (old new : List Entry) → Freezes parent keep c old new → Adds 0 0 0 (3 * length c + 3) old new
+chain_adds parent keep [] old new h = one_adds parent keep old new h
+chain_adds parent keep (l ∷ c) old new h = adds_in (3 * suc (length c) + 3) old new (omega arith) (adds_then old h.0 new (one_adds l.slot l.side old h.0 h.1) (chain_adds parent keep c h.0 new h.2))
+
+prepared_adds : (s : Spot) (c : List ChainEdge) (k : Kept) (old new : List Entry) → Prepares s c k old new → Adds 0 0 0 (3 * length c + 6) old new
+prepared_adds s c k old new h =
+    adds_in (3 * length c + 6) old new (omega arith)
+    (adds_then old h.0 new (choice_adds s (Some k) old h.0 h.2) (adds_then h.0 _ new (adds_these _ h.0 _ refl) (chain_adds s.parent k.side c _ new h.3)))
+
+pub cut_adds : (s : Spot) (c : List ChainEdge) (ns : List NodeId) (old new : List Entry) → CutsOff s c ns old new → Adds 0 0 1 (3 * length c + 7) old new
+cut_adds s c ns old new h = adds_in (3 * length c + 7) old new (omega arith) (adds_then old h.1 new (prepared_adds s c h.0 old h.1 h.2) (adds_these _ h.1 new h.3))
+
+pub cleaned_adds : (s : Spot) (c : List ChainEdge) (ns : List NodeId) (epoch : ℕ) (old new : List Entry) → CleanupWon s c ns epoch old new → Adds 0 0 1 (3 * length c + 8) old new
+cleaned_adds s c ns epoch old new h = adds_in (3 * length c + 8) old new (omega arith) (adds_then old h.0 new (cut_adds s c ns old h.0 h.1) (adds_these _ h.0 new h.2))
+
+pub not_cleaned_adds : (s : Spot) (c : List ChainEdge) (old new : List Entry) → CleanupLost s c old new → Adds 0 0 0 (3 * length c + 8) old new
+not_cleaned_adds s c old new (inl none') = adds_in (3 * length c + 8) old new (omega arith) (choice_adds s None old new none')
+not_cleaned_adds s c old new (inr h) = adds_in (3 * length c + 8) old new (omega arith) (adds_then old h.1 new (prepared_adds s c h.0 old h.1 h.3) (adds_these _ h.1 new h.4))

@@ -1,0 +1,170 @@
+-- Two new nodes, filled and linked.
+use Rattle.std.proofs.Common.{◌≡◌, ◌≢◌, ◌<◌, ◌≤◌, ◌⊎◌, List, inl, inr, ℕ, Bool, true, false, cond, refl, sym, ap, subst, ◌∙◌, arith}
+use Rattle.std.specs.Prelude.{Option, Some, None, nat_lt, unwrap_or}
+use Rattle.std.proofs.lemmas.Bool.{ltb-true, ltb-false}
+use native.Mathlib.Decide.{ℕ_discrete}
+use Rattle.nm_edge.specs.Edges.{Edge}
+use Rattle.nm_edge.specs.Layouts.{Layout}
+use Rattle.nm_calls.specs.declared.spot.ChainEdge.{ChainEdge}
+use Rattle.nm_calls.specs.Walks.{HasEnded, HasFound}
+use Rattle.nm_model.specs.declared.event.Op.TheVariants.{Insert}
+use Rattle.nm_model.specs.declared.knowledge.Draft.{Draft}
+use Rattle.nm_model.specs.Knowledge.{unfilled}
+use Rattle.nm_model.specs.Maps.{get}
+use Rattle.nm_model.specs.Searches.{Search}
+use Rattle.nm_order.specs.Facts.Since.{ThePin}
+use Rattle.nm_order.specs.Facts.Fact.{KnowsSlot, KnowsLeaf, CallIs, EndedAt}
+use Rattle.nm_steps.specs.Rules.{knowledge}
+use Rattle.nm_steps.specs.Steps.{Board, Stand, IsSamePass}
+use Rattle.nm_epoch.specs.Resting.{search}
+use Rattle.nm_calls.specs.declared.growing.Fork.{Fork}
+use Rattle.nm_calls.specs.declared.growing.Inner.{Inner}
+use Rattle.nm_calls.specs.declared.spot.End.{End}
+use Rattle.nm_calls.specs.Telling.{Tells, GoesOn, OnlyLooks}
+use Rattle.nm_calls.specs.Making.{draft, with_node, IsFilled, IsInserting, KeepsOthers, OnlyMakes}
+use Rattle.nm_calls.specs.Leaving.{EndedWith, IsAnswer}
+use Rattle.nm_calls.proofs.KeptLedgers.{ledgers_then}
+use Rattle.nm_calls.specs.Inserts.{IsReady, IfReady, HoldsFork, HasFork, OnlyTries, HasGrown, HasNotGrown, inner_of, MayGrow}
+
+-- a filled slot, and one that stayed so while another was filled
+filled_so : (p q : Stand) (s birth key left right : ℕ) → (draft p s).birth ≡ Some birth → get (knowledge q.view).drafts s ≡ Some (with_node (draft p s) key left right) → IsFilled q s birth key left right
+filled_so p q s birth key left right born is =
+    let d : draft q s ≡ with_node (draft p s) key left right = ap (λ (o : Option Draft). unwrap_or o unfilled) is in
+    record {
+      has_birth = ap (λ (x : Draft). x.birth) d ∙ born;
+      has_key = ap (λ (x : Draft). x.key) d;
+      has_left = ap (λ (x : Draft). x.left) d;
+      has_right = ap (λ (x : Draft). x.right) d;
+    }
+
+same_draft : (p q : Stand) (s : ℕ) → get (knowledge q.view).drafts s ≡ get (knowledge p.view).drafts s → draft q s ≡ draft p s
+same_draft p q s is = ap (λ (o : Option Draft). unwrap_or o unfilled) is
+
+filled_still : (p q : Stand) (s birth key left right : ℕ) → get (knowledge q.view).drafts s ≡ get (knowledge p.view).drafts s → IsFilled p s birth key left right → IsFilled q s birth key left right
+filled_still p q s birth key left right is f =
+    let d = same_draft p q s is in
+    record {
+      has_birth = ap (λ (x : Draft). x.birth) d ∙ f.has_birth;
+      has_key = ap (λ (x : Draft). x.key) d ∙ f.has_key;
+      has_left = ap (λ (x : Draft). x.left) d ∙ f.has_left;
+      has_right = ap (λ (x : Draft). x.right) d ∙ f.has_right;
+    }
+
+-- the internal node that a fork asks for
+as_fork : (q : Stand) (key other leaf new fresh birth : ℕ) (i : Inner) → i ≡ inner_of key other leaf fresh → other ≢ key → IsFilled q new birth i.key i.left i.right
+    → ((key < other) × IsFilled q new birth other fresh leaf) ⊎ ((other < key) × IsFilled q new birth key leaf fresh)
+as_fork q key other leaf new fresh birth i is ne f = go (nat_lt key other) refl
+  where
+    node : Bool → Inner
+    node b = cond {A = Inner} b (record { key = other; left = fresh; right = leaf }) (record { key = key; left = leaf; right = fresh })
+
+    go : (b : Bool) → nat_lt key other ≡ b → ((key < other) × IsFilled q new birth other fresh leaf) ⊎ ((other < key) × IsFilled q new birth key leaf fresh)
+    go true less = let at : i ≡ node true = is ∙ ap node less in inl (ltb-true key other less, subst (λ (j : Inner). IsFilled q new birth j.key j.left j.right) at f)
+    go false more = let at : i ≡ node false = is ∙ ap node more in let least = ltb-false key other more in inr (omega (arith, ne, least), subst (λ (j : Inner). IsFilled q new birth j.key j.left j.right) at f)
+
+pub inserting : (p r q : Stand) (key : ℕ) (e : End) (f : Fork) (i : Inner) → MayGrow p key e f → i ≡ inner_of key e.key e.spot.edge.slot f.fresh.slot
+    → GoesOn p r → OnlyMakes p r → get (knowledge r.view).drafts f.new.slot ≡ Some (with_node (draft p f.new.slot) i.key i.left i.right) → KeepsOthers f.new.slot p r
+    → GoesOn r q → OnlyMakes r q → get (knowledge q.view).drafts f.fresh.slot ≡ Some (with_node (draft r f.fresh.slot) key 0 0) → KeepsOthers f.fresh.slot r q
+    → IsInserting q e.spot.parent e.spot.side e.spot.edge.slot f.new.slot f.fresh.slot
+inserting p r q key e f i may is on only new others on' only' fresh others' = record {
+  key = key;
+  other = e.key;
+  call = on'.keeps (CallIs Insert key) (on.keeps (CallIs Insert key) may.call);
+  not_linked = ap (λ (s : Search). s.linked) only'.search ∙ (ap (λ (s : Search). s.linked) only.search ∙ may.unlinked);
+  ended = on'.keeps (EndedAt ThePin key e.spot.edge.slot e.spot.parent e.spot.side e.key) (on.keeps (EndedAt ThePin key e.spot.edge.slot e.spot.parent e.spot.side e.key) may.ended);
+  fork = record {
+    new_birth = f.new.birth;
+    fresh_birth = f.fresh.birth;
+    apart = may.ready.apart;
+    as_leaf = filled_so r q f.fresh.slot f.fresh.birth key 0 0 (ap (λ (d : Draft). d.birth) (same_draft p r f.fresh.slot (others f.fresh.slot (λ same. may.ready.apart (sym same)))) ∙ may.ready.fresh_birth) fresh;
+    as_fork = as_fork q key e.key e.spot.edge.slot f.new.slot f.fresh.slot f.new.birth i is may.other
+        (filled_still r q f.new.slot f.new.birth i.key i.left i.right (others' f.new.slot may.ready.apart) (filled_so p r f.new.slot f.new.birth i.key i.left i.right may.ready.new_birth new));
+  };
+}
+
+-- ---- the new nodes over steps
+
+ready_kept : (p q : Stand) (f : Fork) → IsSamePass p q → (knowledge q.view).drafts ≡ (knowledge p.view).drafts → IsReady p f → IsReady q f
+ready_kept p q f same is r =
+    let at = λ (s : ℕ). same_draft p q s (ap (λ m. get m s) is) in
+    let low : q.view.layout ≡ p.view.layout = ap (λ (x : Stand). x.view.layout) same in
+    record {
+      apart = r.apart;
+      new_birth = ap (λ (d : Draft). d.birth) (at f.new.slot) ∙ r.new_birth;
+      fresh_birth = ap (λ (d : Draft). d.birth) (at f.fresh.slot) ∙ r.fresh_birth;
+      new_within = subst (λ (L : Layout). f.new.slot ≤ L.nodes) (sym low) r.new_within;
+      fresh_within = subst (λ (L : Layout). f.fresh.slot ≤ L.nodes) (sym low) r.fresh_within;
+    }
+
+-- they stay where no private slot changes
+pub kept_fork : (o p q : Stand) (f : Option Fork) → IsSamePass p q → (knowledge q.view).drafts ≡ (knowledge p.view).drafts → HasFork o p f → HasFork o q f
+kept_fork o p q None same is h = λ s. ap (λ m. get m s) is ∙ h s
+kept_fork o p q (Some f) same is h = record {
+  ready = ready_kept p q f same is h.ready;
+  others = λ s a b. ap (λ m. get m s) is ∙ h.others s a b;
+  new_was = h.new_was;
+  fresh_was = h.fresh_was;
+}
+
+-- a lost link leaves them
+pub lost_fork : (o p q : Stand) (key : ℕ) (e : End) (f : Fork) (x : Edge) → HoldsFork o p f → HasNotGrown p q key e f x → HoldsFork o q f
+lost_fork o p q key e f x h lost = record {
+  ready = lost.ready;
+  others = λ s a b. lost.others s a b ∙ h.others s a b;
+  new_was = h.new_was;
+  fresh_was = h.fresh_was;
+}
+
+-- and a won one takes them
+pub linked_fork : (o p q : Stand) (key : ℕ) (e : End) (f : Fork) → HoldsFork o p f → HasGrown p q key e f → HasFork o q None
+linked_fork o p q key e f h won s = elim (ℕ_discrete s f.new.slot) [
+  | yes at ↦ rw at (won.new_given ∙ sym h.new_was)
+  | no ne ↦ elim (ℕ_discrete s f.fresh.slot) [
+    | yes at ↦ rw at (won.fresh_given ∙ sym h.fresh_was)
+    | no other ↦ won.others s ne other ∙ h.others s ne other
+  ]
+]
+
+pub held_fork : (o p : Stand) (f : Option Fork) (made : Fork) → f ≡ Some made → HasFork o p f → HoldsFork o p made
+held_fork o p f made is h = subst (λ (g : Option Fork). HasFork o p g) is h
+
+-- ---- a link may be tried where a walk has ended
+
+pub may_grow : (b : Board) (p r q : Stand) (key : ℕ) (e : End) (c : List ChainEdge) (made : Fork) → q.view.layout ≡ b.layout → Tells p (CallIs Insert key) → (search p).linked ≡ false → GoesOn p r → OnlyLooks p r
+    → HasEnded (Tells r) b.layout.nodes e.spot c → HasFound p r key e.spot.edge.slot e.spot.parent e.spot.side e.key → e.key ≢ key → GoesOn r q → OnlyMakes r q → IsReady q made → MayGrow q key e made
+may_grow b p r q key e c made layout call unlinked on only ended found other on' only' ready = record {
+  call = on'.keeps (CallIs Insert key) (on.keeps (CallIs Insert key) call);
+  unlinked = ap (λ (s : Search). s.linked) only'.search ∙ (only.linked ∙ unlinked);
+  parent = on'.keeps (KnowsSlot e.spot.parent) ended.at.parent;
+  known = on'.keeps (KnowsSlot e.spot.edge.slot) ended.at.node;
+  leaf = on'.keeps (KnowsLeaf e.spot.edge.slot) ended.leaf;
+  within = subst (λ (L : Layout). e.spot.edge.slot ≤ L.nodes) (sym layout) ended.within;
+  ended = on'.keeps (EndedAt ThePin key e.spot.edge.slot e.spot.parent e.spot.side e.key) (found ThePin (Insert, call));
+  other = other;
+  ready = ready;
+}
+
+-- ---- from try to try
+
+pub if_ready : (o p : Stand) (f : Option Fork) → HasFork o p f → IfReady p f
+if_ready o p None h = tt
+if_ready o p (Some f) h = h.ready
+
+-- all is given back, and then private slots stay
+pub none_left : (o p q : Stand) → (knowledge q.view).drafts ≡ (knowledge p.view).drafts → HasFork o p None → HasFork o q None
+none_left o p q is h s = ap (λ m. get m s) is ∙ h s
+
+pub tries_then : (o p q : Stand) → IsSamePass o p → OnlyTries o p → OnlyTries p q → OnlyTries o q
+tries_then o p q same a b = record {
+  note = b.note ∙ a.note;
+  pin = b.pin ∙ a.pin;
+  labelled = λ none'. b.labelled (a.labelled none');
+  call = b.call ∙ a.call;
+  flagged = b.flagged ∙ a.flagged;
+  ledgers = ledgers_then o p q same a.ledgers b.ledgers;
+}
+
+-- the answer of an insert whose key was found
+pub found_answer : (p q : Stand) (k : ℕ) → GoesOn p q → (search q).linked ≡ (search p).linked → (search p).linked ≡ false → Tells p (CallIs Insert k) → ((leaf : ℕ) × EndedWith p ThePin k leaf k) → IsAnswer q false
+found_answer p q k on linked unlinked call ended =
+    (Insert, k, on.keeps (CallIs Insert k) call, ((ended.0, (ended.1.0, ended.1.1, on.keeps (EndedAt ThePin k ended.0 ended.1.0 ended.1.1 k) ended.1.2)), linked ∙ unlinked))

@@ -1,0 +1,138 @@
+-- A flagged leaf is cut off: by a cleanup that names it, or since a walk behind the flag ended elsewhere.
+use Rattle.std.proofs.Common.{◌≡◌, ◌≢◌, ◌<◌, ◌≤◌, inl, inr, ℕ, ◌+◌, Bool, true, false, List, [], ◌∷◌, ◌++◌, sym, ap, subst, ◌∙◌}
+use Rattle.std.specs.Prelude.{Option, Some, None, is_some, Result, Ok, Err}
+use Rattle.nm_edge.specs.declared.edge.Side.{Side}
+use Rattle.nm_edge.specs.declared.node.NodeId.{NodeId}
+use Rattle.nm_model.specs.declared.event.Event.TheVariants.{Look, Flag}
+use Rattle.nm_model.specs.declared.event.Field.TheVariants.{Birth}
+use Rattle.nm_model.specs.declared.event.Op.TheVariants.{Delete}
+use Rattle.nm_model.specs.declared.reply.Reply.TheVariants.{BirthIs, Flagged}
+use Rattle.nm_model.specs.Memory.{infinity_0}
+use Rattle.nm_model.specs.Walks.{Entry}
+use Rattle.nm_model.specs.Searches.{is_flagged_in}
+use Rattle.nm_order.specs.Facts.Since.{ThePin, TheFlag}
+use Rattle.nm_order.specs.Facts.Fact.{KnowsSlot, KnowsLeaf, IsFlagged, IsBorn, CallIs, Came, EndedAt}
+use Rattle.nm_order.proofs.LaterFlagLaws.{later_walks_find}
+use Rattle.nm_steps.specs.Steps.{Stand, IsSamePass}
+use Rattle.nm_epoch.specs.Resting.{epochs, search}
+use Rattle.nm_epoch.specs.declared.collecting.Entry.{Entry as Waiting}
+use Rattle.nm_calls.specs.declared.deleting.Missed.{Missed}
+use Rattle.nm_calls.specs.declared.deleting.Missed.TheVariants as missed
+use Rattle.nm_calls.specs.declared.deleting.Removal.{Removal}
+use Rattle.nm_calls.specs.declared.deleting.Removal.TheVariants as removal
+use Rattle.nm_calls.specs.declared.spot.ChainEdge.{ChainEdge}
+use Rattle.nm_calls.specs.declared.spot.End.{End}
+use Rattle.nm_calls.specs.declared.spot.Spot.{Spot}
+use Rattle.nm_calls.specs.Telling.{Tells, IsInRun, GoesOn, OnlyLooks, IsPinnedSomewhere}
+use Rattle.nm_calls.specs.Walks.{HasEnded, HasFound}
+use Rattle.nm_calls.specs.Marking.{IsToBeFlagged, FlagWon}
+use Rattle.nm_calls.specs.Leaving.{ShowsAnswer}
+use Rattle.nm_calls.specs.Cleanups.{HasCleaned, OnlyCleans, CleanupLost}
+use Rattle.nm_calls.specs.Deletes.{IsRemoving, MayFlag, HasFlagged, leaf_of, OnlyInjects, IsRemoval, RemovalAfter, PinsForDelete, DeleteDid}
+use Rattle.nm_calls.proofs.GoingOn.{pinned_still}
+use Rattle.nm_calls.proofs.KeptLedgers.{ledgers_then}
+use Rattle.nm_calls.proofs.Looks.{enough}
+use Rattle.nm_calls.proofs.WholeCleanups.{right_true}
+
+-- a walk behind the flag ended at another leaf
+pub elsewhere_shows : (p q : Stand) (k : ℕ) (n : NodeId) (leaf parent v : ℕ) (side : Side) → IsRemoving p k n → (search q).flagged ≡ (search p).flagged → HasFound p q k leaf parent side v → leaf ≢ n.slot → ShowsAnswer q Delete k true
+elsewhere_shows p q k n leaf parent v side r flagged found other =
+    (n, flagged ∙ r.flagged, inr (leaf, v, other, (parent, side, found TheFlag (Delete, r.call, ap is_some r.flagged))))
+
+-- a walk behind the flag that ends at the flagged leaf came there by a flagged edge
+pub found_flagged : (p q : Stand) (k : ℕ) (n : NodeId) (leaf parent v : ℕ) (side : Side) → IsRemoving p k n → IsInRun q → (search q).flagged ≡ (search p).flagged → HasFound p q k leaf parent side v → leaf ≡ n.slot → Tells q (IsFlagged parent side n.slot)
+found_flagged p q k n leaf parent v side r run flagged found is =
+    let ended = found TheFlag (Delete, r.call, ap is_some r.flagged) in
+    later_walks_find q.view.layout (enough q.view.layout run.fits) q.view.number q.view.log run.run.is_part n k parent side (flagged ∙ r.flagged) (subst (λ (x : ℕ). Tells q (Came TheFlag k x parent side)) is ended.0)
+
+-- a cleanup at the flagged edge cut the leaf off
+pub cleanup_shows : (p q : Stand) (s : Spot) (c : List ChainEdge) (es fs : List Waiting) (k : ℕ) (n : NodeId) → HasCleaned s c p q es fs → (search p).flagged ≡ Some n → (search q).flagged ≡ (search p).flagged → Tells p (IsFlagged s.parent s.side n.slot) → Tells p (IsBorn n.slot n.birth) → ShowsAnswer q Delete k true
+cleanup_shows p q s c es fs k n cleaned flagged same edge born =
+    (n, same ∙ flagged, inl (cleaned.cut ∙ right_true (search p).cut (is_flagged_in (search p).flagged cleaned.nodes) (ap (λ (o : Option NodeId). is_flagged_in o cleaned.nodes) flagged ∙ cleaned.leaf n.slot n.birth edge born)))
+
+-- ---- from try to try
+
+pub cleans_then : (o p q : Stand) → IsSamePass o p → OnlyCleans o p → OnlyCleans p q → OnlyCleans o q
+cleans_then o p q same a b = record {
+  note = b.note ∙ a.note;
+  pin = b.pin ∙ a.pin;
+  labelled = λ none'. b.labelled (a.labelled none');
+  private = b.private ∙ a.private;
+  call = b.call ∙ a.call;
+  linked = b.linked ∙ a.linked;
+  flagged = b.flagged ∙ a.flagged;
+  ledgers = ledgers_then o p q same a.ledgers b.ledgers;
+}
+
+pub removing_on : (p q : Stand) (k : ℕ) (n : NodeId) → IsRemoving p k n → GoesOn p q → OnlyCleans p q → IsRemoving q k n
+removing_on p q k n r on only = record {
+  run = on.run;
+  pinned = pinned_still p q on r.pinned;
+  root = on.keeps (KnowsSlot 1) r.root;
+  known = on.keeps (KnowsSlot 2) r.known;
+  call = on.keeps (CallIs Delete k) r.call;
+  flagged = only.flagged ∙ r.flagged;
+  born = on.keeps (IsBorn n.slot n.birth) r.born;
+  labelled = only.labelled r.labelled;
+}
+
+-- ---- a flag
+
+pub to_be_flagged : (p q : Stand) (k : ℕ) (r : End) (b : ℕ) → MayFlag p k r → GoesOn p q → OnlyLooks p q → Tells q (IsBorn r.spot.edge.slot b) → IsToBeFlagged q r.spot.parent r.spot.side r.spot.edge.slot
+to_be_flagged p q k r b may on only born = record {
+  knows_parent = on.keeps (KnowsSlot r.spot.parent) may.parent;
+  knows_leaf = on.keeps (KnowsSlot r.spot.edge.slot) may.known;
+  is_leaf = on.keeps (KnowsLeaf r.spot.edge.slot) may.leaf;
+  high = may.high;
+  born = (b, born);
+  key = k;
+  call = on.keeps (CallIs Delete k) may.call;
+  ended = on.keeps (EndedAt ThePin k r.spot.edge.slot r.spot.parent r.spot.side k) may.ended;
+  unflagged = only.flagged ∙ may.unflagged;
+}
+
+pub has_flagged : (o p q : Stand) (r : End) (b : ℕ) → p.view.log ≡ o.view.log ++ (Look r.spot.edge.slot Birth, BirthIs b) ∷ [] → Tells p (IsBorn r.spot.edge.slot b) → GoesOn p q → FlagWon p q r.spot.parent r.spot.side (leaf_of r b) → HasFlagged o q r b
+has_flagged o p q r b looked born on won = record {
+  part = ap (λ (x : Stand). x.view.log) won.step ∙ ap (λ (log : List Entry). log ++ (Flag r.spot.parent r.spot.side r.spot.edge.slot, Flagged (leaf_of r b)) ∷ []) looked;
+  flagged = won.flagged;
+  edge = won.known;
+  born = on.keeps (IsBorn r.spot.edge.slot b) born;
+}
+
+pub may_flag_there : (p q : Stand) (k nodes : ℕ) (r : End) (c : List ChainEdge) → Tells p (CallIs Delete k) → (search p).flagged ≡ None → k < infinity_0 → GoesOn p q → OnlyLooks p q → HasEnded (Tells q) nodes r.spot c
+    → (r.key < infinity_0 → 6 ≤ r.spot.edge.slot) → HasFound p q k r.spot.edge.slot r.spot.parent r.spot.side r.key → r.key ≡ k → MayFlag q k r
+may_flag_there p q k nodes r c call unflagged low on only ended high found is = record {
+  parent = ended.at.parent;
+  known = ended.at.node;
+  leaf = ended.leaf;
+  high = high (subst (λ (n : ℕ). n < infinity_0) (sym is) low);
+  call = on.keeps (CallIs Delete k) call;
+  ended = subst (λ (n : ℕ). Tells q (EndedAt ThePin k r.spot.edge.slot r.spot.parent r.spot.side n)) is (found ThePin (Delete, call));
+  unflagged = only.flagged ∙ unflagged;
+}
+
+-- ---- a flag that was won
+
+pub removing_from : (p q : Stand) (k : ℕ) (n : NodeId) → IsPinnedSomewhere p → Tells p (KnowsSlot 1) → Tells p (KnowsSlot 2) → Tells p (CallIs Delete k) → (epochs p).unlabelled ≡ false → GoesOn p q → OnlyInjects p q
+    → (search q).flagged ≡ Some n → Tells q (IsBorn n.slot n.birth) → IsRemoving q k n
+removing_from p q k n pin root known call labelled on only flagged born = record {
+  run = on.run;
+  pinned = pinned_still p q on pin;
+  root = on.keeps (KnowsSlot 1) root;
+  known = on.keeps (KnowsSlot 2) known;
+  call = on.keeps (CallIs Delete k) call;
+  flagged = flagged;
+  born = born;
+  labelled = only.labelled labelled;
+}
+
+pub removal_after : (nodes k : ℕ) (r : End) (c : List ChainEdge) (b left t : ℕ) (old mid new : List Entry) (m : Removal) → left ≡ t + 1 → CleanupLost r.spot c old mid → IsRemoval nodes k (leaf_of r b) t mid new m → RemovalAfter nodes k r c b left old new m
+removal_after nodes k r c b left t old mid new removal.Removed is lost h = inr (t, mid, is, lost, h)
+removal_after nodes k r c b left t old mid new removal.Refused is lost h = inr (t, mid, is, lost, h)
+removal_after nodes k r c b left t old mid new removal.Spent is lost h = inr (t, mid, is, lost, h)
+
+pub delete_did : (nodes tries k : ℕ) (old new : List Entry) (r : Result Bool Missed) → PinsForDelete nodes tries k old new r → DeleteDid nodes tries k old new r
+delete_did nodes tries k old new (Ok b) h = h
+delete_did nodes tries k old new (Err missed.Busy) h = inr (inr h)
+delete_did nodes tries k old new (Err missed.NoMemory) h = inr h
+delete_did nodes tries k old new (Err (missed.Unfinished n)) h = h

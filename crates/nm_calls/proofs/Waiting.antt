@@ -1,0 +1,36 @@
+-- No more nodes wait than there are nodes, so there may be room for more.
+use Rattle.std.proofs.Common.{◌≡◌, ◌≤◌, ℕ, List, length, arith, sym, ap, subst, ◌∙◌}
+use Rattle.nm_edge.specs.Layouts.{Layout, IsLayout}
+use Rattle.nm_order.proofs.HeldSlots.{hands_are_apart}
+use Rattle.nm_steps.specs.Rules.{knowledge}
+use Rattle.nm_steps.specs.Steps.{Board, Stand, IsOf, IsSamePass}
+use Rattle.nm_epoch.specs.Collecting.{IsQueueOf}
+use Rattle.nm_epoch.specs.declared.collecting.Entry.{Entry as Waiting}
+use Rattle.nm_epoch.proofs.FewFreed.{few_waiting}
+use Rattle.nm_calls.specs.Telling.{IsInRun}
+use Rattle.nm_calls.proofs.Looks.{enough}
+
+few_of_nodes : (p : Stand) (es : List Waiting) → IsInRun p → IsQueueOf (knowledge p.view) p.view.number es → length es ≤ p.view.layout.nodes
+few_of_nodes p es run queue =
+    let low = enough p.view.layout run.fits in
+    let few = few_waiting p.view.layout (knowledge p.view) p.view.number es (hands_are_apart p.view.layout low p.view.number p.view.log run.run.is_part) (omega (arith, low)) queue in
+    omega (arith, few)
+
+-- the queue may grow
+pub may_grow_more : (p : Stand) (es : List Waiting) → IsInRun p → IsQueueOf (knowledge p.view) p.view.number es → length es ≤ 2097152
+may_grow_more p es run queue =
+    let few = few_of_nodes p es run queue in
+    let most = run.fits.most in
+    omega (arith, few, most)
+
+-- it does not outgrow the table
+pub few_in_table : (b : Board) (o p : Stand) (es : List Waiting) → IsOf b o → IsSamePass o p → IsInRun p → IsQueueOf (knowledge p.view) p.view.number es → length es ≤ b.layout.nodes
+few_in_table b o p es own same run queue =
+    let layout : p.view.layout ≡ b.layout = ap (λ (s : Stand). s.view.layout) same ∙ own.layout in
+    subst (λ (L : Layout). length es ≤ L.nodes) layout (few_of_nodes p es run queue)
+
+pub may_grow_first : (b : Board) (p : Stand) (es : List Waiting) → IsOf b p → IsLayout p.view.layout → length es ≤ b.layout.nodes → length es ≤ 2097152
+may_grow_first b p es own fits few =
+    let nodes = ap (λ (L : Layout). L.nodes) own.layout in
+    let most = fits.most in
+    omega (arith, nodes, few, most)

@@ -1,0 +1,30 @@
+use Rattle.std.proofs.Common.{ap}
+use Rattle.nm_steps.specs.Steps.{Stand}
+use Rattle.nm_calls.specs.Deletes.{leaf_of}
+use Rattle.nm_calls.proofs.Removals.{removing_from, removing_on}
+use Rattle.nm_calls.proofs.deleting.delete_pinned.Goals as goal
+
+pub remove_after-requires-clause-removing : goal.remove_after-requires-clause-removing
+remove_after-requires-clause-removing c =
+    let shows = c.in-Flagged.ensures.shows in
+    removing_from c.args.pass.now c.inject.new.pass c.args.key (leaf_of c.in-Flagged.end c.in-Flagged.birth) c.requires.pinned c.requires.root c.requires.known c.requires.call c.requires.labelled c.inject.ensures.on c.inject.ensures.only shows.0 shows.2
+
+pub returns-in-Refused-clause-part : goal.returns-in-Refused-clause-part
+returns-in-Refused-clause-part c = (c.inject.new.chain.items, c.inject.new.pass.view.log, c.in-Refused.ensures.part, ap (λ (x : Stand). x.view.log) c.leave.ensures.step)
+
+pub returns-in-Spent-clause-part : goal.returns-in-Spent-clause-part
+returns-in-Spent-clause-part c = (c.inject.new.chain.items, c.inject.new.pass.view.log, c.in-Spent.ensures.part, ap (λ (x : Stand). x.view.log) c.leave-in-Spent.ensures.step)
+
+pub returns-in-Refused-remove_after-clause-after : goal.returns-in-Refused-remove_after-clause-after
+returns-in-Refused-remove_after-clause-after c =
+    let shows = c.in-Flagged.ensures.shows in
+    let n = leaf_of c.in-Flagged.end c.in-Flagged.birth in
+    let there = removing_from c.args.pass.now c.inject.new.pass c.args.key n c.requires.pinned c.requires.root c.requires.known c.requires.call c.requires.labelled c.inject.ensures.on c.inject.ensures.only shows.0 shows.2 in
+    rw c.leaf_at-leaf.ensures (removing_on c.inject.new.pass c.remove_after.new.pass c.args.key n there c.remove_after.ensures.on c.remove_after.ensures.only)
+
+pub returns-in-Spent-remove_after-clause-after : goal.returns-in-Spent-remove_after-clause-after
+returns-in-Spent-remove_after-clause-after c =
+    let shows = c.in-Flagged.ensures.shows in
+    let n = leaf_of c.in-Flagged.end c.in-Flagged.birth in
+    let there = removing_from c.args.pass.now c.inject.new.pass c.args.key n c.requires.pinned c.requires.root c.requires.known c.requires.call c.requires.labelled c.inject.ensures.on c.inject.ensures.only shows.0 shows.2 in
+    rw c.leaf_at-leaf.ensures (removing_on c.inject.new.pass c.remove_after.new.pass c.args.key n there c.remove_after.ensures.on c.remove_after.ensures.only)

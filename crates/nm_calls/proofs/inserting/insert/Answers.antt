@@ -1,0 +1,35 @@
+use Rattle.std.proofs.Common.{rules, subst}
+use Rattle.nm_model.specs.declared.event.Op.TheVariants.{Insert}
+use Rattle.nm_calls.specs.Inserts.{Finishes}
+use Rattle.nm_calls.proofs.Adding.{has_won, counts_on, pin_adds, moved_adds}
+use Rattle.nm_calls.proofs.AddingInserts.{insert_did, insert_wins, insert_steps}
+use Rattle.nm_calls.proofs.Waiting.{may_grow_first, few_in_table}
+use Rattle.nm_calls.proofs.inserting.insert.Goals as goal
+
+pub returns-clause-did : goal.returns-clause-did
+returns-clause-did c =
+    let a = c.pin_for.new.pass.view.log in
+    let new = c.insert_pinned.new.pass.view.log in
+    insert_did c.args.shared.now.layout.nodes c.args.tries c.args.key c.args.pass.now.view.log new c.insert_pinned.result
+    (a, c.in-Ok._epoch, c.in-Ok.ensures.pinned, subst (λ k. Finishes c.args.shared.now.layout.nodes c.args.tries k a new c.insert_pinned.result) c.get.ensures.number c.insert_pinned.ensures.part)
+
+pub returns-in_default-clause-won : goal.returns-in_default-clause-won
+returns-in_default-clause-won c = has_won _ _ (moved_adds Insert c.args.key c.args.tries c.args.pass.now.view.log c.pin_for.new.pass.view.log c.in_default.ensures.moved)
+
+pub returns-in_default-clause-counted : goal.returns-in_default-clause-counted
+returns-in_default-clause-counted c = counts_on _ _ _ (moved_adds Insert c.args.key c.args.tries c.args.pass.now.view.log c.pin_for.new.pass.view.log c.in_default.ensures.moved) c.requires.counted
+
+pub insert_pinned-requires-clause-counted : goal.insert_pinned-requires-clause-counted
+insert_pinned-requires-clause-counted c = counts_on _ _ _ (pin_adds Insert c.args.key c.args.tries c.args.pass.now.view.log c.pin_for.new.pass.view.log c.in-Ok._epoch c.in-Ok.ensures.pinned) c.requires.counted
+
+pub returns-clause-won : goal.returns-clause-won
+returns-clause-won c = insert_wins c.args.shared.now.layout.nodes c.args.tries c.args.key c.args.pass.now.view.log c.pin_for.new.pass.view.log c.insert_pinned.new.pass.view.log c.in-Ok._epoch c.in-Ok.ensures.pinned c.insert_pinned.result (subst (λ k. Finishes c.args.shared.now.layout.nodes c.args.tries k c.pin_for.new.pass.view.log c.insert_pinned.new.pass.view.log c.insert_pinned.result) c.get.ensures.number c.insert_pinned.ensures.part)
+
+pub returns-clause-steps : goal.returns-clause-steps
+returns-clause-steps c = insert_steps c.args.shared.now.layout.nodes c.args.tries c.args.key c.args.pass.now.view.log c.pin_for.new.pass.view.log c.insert_pinned.new.pass.view.log c.in-Ok._epoch c.in-Ok.ensures.pinned c.insert_pinned.result (subst (λ k. Finishes c.args.shared.now.layout.nodes c.args.tries k c.pin_for.new.pass.view.log c.insert_pinned.new.pass.view.log c.insert_pinned.result) c.get.ensures.number c.insert_pinned.ensures.part)
+
+pub make_room-requires : goal.make_room-requires
+make_room-requires c = record { few = may_grow_first c.args.shared.now c.args.pass.now c.args.queue.now.items c.requires.own c.is_of_a_run.ensures.fits c.requires.few }
+
+pub returns-clause-few : goal.returns-clause-few
+returns-clause-few c = few_in_table c.args.shared.now c.args.pass.now c.insert_pinned.new.pass c.insert_pinned.new.queue.items c.requires.own (search rules) c.insert_pinned.ensures.run c.insert_pinned.ensures.queue

@@ -1,0 +1,63 @@
+use Rattle.std.proofs.Common.{rules, add-one, ap, subst, ◌∙◌}
+use Rattle.std.specs.Prelude.{Option}
+use Rattle.nm_model.specs.declared.event.Op.TheVariants.{Insert}
+use Rattle.nm_model.specs.Searches.{Search}
+use Rattle.nm_order.specs.Facts.Fact.{KnowsSlot, CallIs}
+use Rattle.nm_calls.specs.declared.growing.Fork.{Fork}
+use Rattle.nm_calls.specs.Inserts.{HasFork}
+use Rattle.nm_calls.proofs.GoingOn.{goes_then}
+use Rattle.nm_calls.proofs.Forks.{if_ready, none_left, tries_then, found_answer}
+use Rattle.nm_calls.proofs.Waiting.{may_grow_more}
+use Rattle.nm_calls.proofs.inserting.insert_pinned.Goals as goal
+
+pub returns-then-not-make_room-clause-private : goal.returns-then-not-make_room-clause-private
+returns-then-not-make_room-clause-private c =
+    none_left c.args.pass.now c.give_back.new.pass c.leave.new.pass c.leave.ensures.hands.private (c.give_back.ensures.given c.args.pass.now c.loop-round.invariant.has)
+
+pub try_insert-requires-clause-root : goal.try_insert-requires-clause-root
+try_insert-requires-clause-root c = c.loop-round.invariant.on.keeps (KnowsSlot 1) c.requires.root
+
+pub try_insert-requires-clause-known : goal.try_insert-requires-clause-known
+try_insert-requires-clause-known c = c.loop-round.invariant.on.keeps (KnowsSlot 2) c.requires.known
+
+pub give_back-requires-in-Found-clause-ready : goal.give_back-requires-in-Found-clause-ready
+give_back-requires-in-Found-clause-ready c = if_ready c.args.pass.now c.try_insert.new.pass c.try_insert.new.fork (c.try_insert.ensures.has c.args.pass.now c.loop-round.invariant.has)
+
+pub answer-requires-clause-shown : goal.answer-requires-clause-shown
+answer-requires-clause-shown c =
+    let shows = c.in-Found.ensures.shows in
+    found_answer c.try_insert.new.pass c.give_back-in-Found.new.pass c.args.key c.give_back-in-Found.ensures.on (ap (λ (s : Search). s.linked) c.give_back-in-Found.ensures.only.search) (shows.1 ∙ c.loop-round.invariant.unlinked)
+    (c.try_insert.ensures.on.keeps (CallIs Insert c.args.key) (c.loop-round.invariant.on.keeps (CallIs Insert c.args.key) c.requires.call)) shows.0
+
+pub returns-in-Found-clause-private : goal.returns-in-Found-clause-private
+returns-in-Found-clause-private c =
+    none_left c.args.pass.now c.give_back-in-Found.new.pass c.answer.new.pass c.answer.ensures.hands.private (c.give_back-in-Found.ensures.given c.args.pass.now (c.try_insert.ensures.has c.args.pass.now c.loop-round.invariant.has))
+
+pub returns-in-Linked-clause-private : goal.returns-in-Linked-clause-private
+returns-in-Linked-clause-private c =
+    none_left c.args.pass.now c.try_insert.new.pass c.answer-in-Linked.new.pass c.answer-in-Linked.ensures.hands.private
+    (subst (λ (f : Option Fork). HasFork c.args.pass.now c.try_insert.new.pass f) c.in-Linked.ensures.part.4 (c.try_insert.ensures.has c.args.pass.now c.loop-round.invariant.has))
+
+pub returns-in-Full-clause-private : goal.returns-in-Full-clause-private
+returns-in-Full-clause-private c =
+    none_left c.args.pass.now c.try_insert.new.pass c.leave-in-Full.new.pass c.leave-in-Full.ensures.hands.private
+    (subst (λ (f : Option Fork). HasFork c.args.pass.now c.try_insert.new.pass f) c.in-Full.ensures.part.6 (c.try_insert.ensures.has c.args.pass.now c.loop-round.invariant.has))
+
+pub loop-round-preserved : goal.loop-round-preserved
+loop-round-preserved c = record {
+  same = search rules;
+  lost = rw add-one (c.loop-round.fork, c.loop-round.pass.view.log, c.loop-round.invariant.lost, c.in-Lost.ensures.part);
+  on = goes_then c.args.pass.now c.loop-round.pass c.try_insert.new.pass c.loop-round.invariant.on c.try_insert.ensures.on;
+  only = tries_then c.args.pass.now c.loop-round.pass c.try_insert.new.pass c.loop-round.invariant.same c.loop-round.invariant.only c.try_insert.ensures.only;
+  unlinked = c.in-Lost.ensures.shows ∙ c.loop-round.invariant.unlinked;
+  has = c.try_insert.ensures.has c.args.pass.now c.loop-round.invariant.has;
+  queue = c.try_insert.ensures.queue;
+  counted = c.try_insert.ensures.counted;
+}
+
+pub returns-clause-private : goal.returns-clause-private
+returns-clause-private c =
+    none_left c.args.pass.now c.give_back-2.new.pass c.leave-2.new.pass c.leave-2.ensures.hands.private (c.give_back-2.ensures.given c.args.pass.now c.loop-round.invariant.has)
+
+pub make_room-requires : goal.make_room-requires
+make_room-requires c = record { few = may_grow_more c.loop-round.pass c.loop-round.queue.items c.loop-round.invariant.on.run c.loop-round.invariant.queue }

@@ -1,0 +1,21 @@
+use Rattle.std.proofs.Common.{◌≡◌, false}
+use Rattle.nm_steps.specs.Rules.{knowledge}
+use Rattle.nm_steps.specs.Steps.{IsSamePass}
+use Rattle.nm_epoch.specs.Collecting.{IsQueueOf}
+use Rattle.nm_epoch.specs.Resting.{search}
+use Rattle.nm_calls.specs.Telling.{GoesOn}
+use Rattle.nm_calls.specs.Won.{capped, won_splices}
+use Rattle.nm_calls.specs.Inserts.{HasFork, LostInserts, OnlyTries}
+use Rattle.nm_calls.proofs.inserting.insert_pinned.Given as goal
+
+abbrev pub invariant-loop-round : goal.invariant-loop-round
+invariant-loop-round l = record {
+  same : IsSamePass l.fn.pass l.pass;
+  lost : LostInserts l.shared.layout.nodes l.key l._round l.fork l.fn.pass.view.log l.pass.view.log;
+  on : GoesOn l.fn.pass l.pass;
+  only : OnlyTries l.fn.pass l.pass;
+  unlinked : (search l.pass).linked ≡ false;
+  has : HasFork l.fn.pass l.pass l.fork;
+  queue : IsQueueOf (knowledge l.pass.view) l.pass.view.number l.queue.items;
+  counted : l.splices ≡ capped (won_splices l.pass.view.log);
+}

@@ -1,0 +1,127 @@
+use Rattle.std.proofs.Common.{◌≡◌, ◌+◌, ◌*◌, length, refl, ap, ◌∙◌, arith}
+use Rattle.std.proofs.Math.Nat.{mul-le-mul_right}
+use Rattle.std.specs.Prelude.{Some}
+use Rattle.nm_model.specs.declared.knowledge.Brief.{Brief}
+use Rattle.nm_model.specs.declared.event.Op.TheVariants.{Has}
+use Rattle.nm_model.specs.Searches.{Search}
+use Rattle.nm_order.specs.Facts.Fact.{KnowsSlot, CallIs}
+use Rattle.nm_order.specs.Facts.Since.{ThePin}
+use Rattle.nm_steps.specs.Steps.{Stand}
+use Rattle.nm_epoch.proofs.Allowed.{may_leave}
+use Rattle.nm_calls.proofs.GoingOn.{only_then, pinned_still}
+use Rattle.nm_calls.proofs.LookUps.{is_pinned, knows_second, call_is, may_answer, missed}
+use Rattle.nm_calls.proofs.Adding.{Adds, most, adds_then, adds_these, has_won, cuts_none, within_call, mul_below, pin_adds, moved_adds, lost_walks_add, finds_adds}
+use Rattle.nm_calls.proofs.lookup.has.Goals as goal
+
+pub find-requires-clause-pinned : goal.find-requires-clause-pinned
+find-requires-clause-pinned c = pinned_still c.pin_for.new.pass c.loop-walk.pass c.loop-walk.invariant.on (is_pinned c.pin_for.new.pass c.in-Ok._epoch Has c.args.key c.in-Ok.ensures.at)
+
+pub find-requires-clause-known : goal.find-requires-clause-known
+find-requires-clause-known c = c.loop-walk.invariant.on.keeps (KnowsSlot 2) (knows_second c.pin_for.new.pass c.in-Ok._epoch Has c.args.key c.in-Ok.ensures.at)
+
+pub unpin_with-requires-clause-may : goal.unpin_with-requires-clause-may
+unpin_with-requires-clause-may c =
+    let a = c.pin_for.new.pass in
+    let p = c.loop-walk.pass in
+    let q = c.find.new.pass in
+    let at = c.in-Ok.ensures.at in
+    let only = only_then a p q c.loop-walk.invariant.only c.in-Some.ensures.only in
+    let found = c.in-Some.ensures.found in
+    let ended = found.3 ThePin (Has, rw c.get.ensures.number (c.loop-walk.invariant.on.keeps (CallIs Has c.args.key) (call_is a c.in-Ok._epoch Has c.args.key at))) in
+    may_answer q c.args.key c.in-Some.found found.0 found.1 found.2 _ (ap (λ (b : Brief). b.unlabelled) only.epochs ∙ at.labelled) (only.call ∙ ap (λ (s : Search). s.call) at.begun) (rw (← c.get.ensures.number) ended) (rw c.get-in-Some.ensures.number refl)
+
+pub unpin-requires-clause-may : goal.unpin-requires-clause-may
+unpin-requires-clause-may c =
+    let at = c.in-Ok.ensures.at in
+    let only = c.loop-walk.invariant.only in
+    may_leave c.loop-walk.pass (ap (λ (b : Brief). b.unlabelled) only.epochs ∙ at.labelled) (only.linked ∙ ap (λ (s : Search). s.linked) at.begun) (only.flagged ∙ ap (λ (s : Search). s.flagged) at.begun)
+
+pub returns-clause-missed : goal.returns-clause-missed
+returns-clause-missed c =
+    let past = c.loop-walk-test.false in
+    let within = c.loop-walk.auto._walk-end in
+    let all : c.loop-walk._walk ≡ c.args.tries = omega (arith, past, within) in
+    missed c.args.shared.now.layout.nodes c.args.tries c.args.key c.args.pass.now.view.log c.pin_for.new.pass.view.log c.loop-walk.pass.view.log c.unpin.new.pass.view.log c.in-Ok._epoch c.if-tries-eq0.false c.in-Ok.ensures.pinned
+    (rw (← all) c.loop-walk.invariant.lost) (ap (λ (s : Stand). s.view.log) c.unpin.ensures.step)
+
+pub returns-in_default-clause-won : goal.returns-in_default-clause-won
+returns-in_default-clause-won c = has_won _ _ (moved_adds Has c.args.key c.args.tries c.args.pass.now.view.log c.pin_for.new.pass.view.log c.in_default.ensures.moved)
+
+pub returns-in_default-clause-uncut : goal.returns-in_default-clause-uncut
+returns-in_default-clause-uncut c = cuts_none _ _ (moved_adds Has c.args.key c.args.tries c.args.pass.now.view.log c.pin_for.new.pass.view.log c.in_default.ensures.moved)
+
+pub returns-in-Some-clause-won : goal.returns-in-Some-clause-won
+returns-in-Some-clause-won c =
+    let nodes = c.args.shared.now.layout.nodes in
+    let old = c.args.pass.now.view.log in
+    let a = c.pin_for.new.pass.view.log in
+    let p = c.loop-walk.pass.view.log in
+    let q = c.find.new.pass.view.log in
+    let new = c.unpin_with.new.pass.view.log in
+    has_won old new
+    (adds_then old a new (pin_adds Has c.args.key c.args.tries old a c.in-Ok._epoch c.in-Ok.ensures.pinned)
+    (adds_then a p new (lost_walks_add nodes c.args.key c.loop-walk._walk a p c.loop-walk.invariant.lost)
+    (adds_then p q new (finds_adds nodes c.get.result p q (Some c.in-Some.found) c.in-Some.ensures.walk) (adds_these _ q new (ap (λ (s : Stand). s.view.log) c.unpin_with.ensures.step)))))
+
+pub returns-in-Some-clause-uncut : goal.returns-in-Some-clause-uncut
+returns-in-Some-clause-uncut c =
+    let nodes = c.args.shared.now.layout.nodes in
+    let old = c.args.pass.now.view.log in
+    let a = c.pin_for.new.pass.view.log in
+    let p = c.loop-walk.pass.view.log in
+    let q = c.find.new.pass.view.log in
+    let new = c.unpin_with.new.pass.view.log in
+    cuts_none old new
+    (adds_then old a new (pin_adds Has c.args.key c.args.tries old a c.in-Ok._epoch c.in-Ok.ensures.pinned)
+    (adds_then a p new (lost_walks_add nodes c.args.key c.loop-walk._walk a p c.loop-walk.invariant.lost)
+    (adds_then p q new (finds_adds nodes c.get.result p q (Some c.in-Some.found) c.in-Some.ensures.walk) (adds_these _ q new (ap (λ (s : Stand). s.view.log) c.unpin_with.ensures.step)))))
+
+pub returns-in-Some-clause-steps : goal.returns-in-Some-clause-steps
+returns-in-Some-clause-steps c =
+    let nodes = c.args.shared.now.layout.nodes in
+    let old = c.args.pass.now.view.log in
+    let a = c.pin_for.new.pass.view.log in
+    let p = c.loop-walk.pass.view.log in
+    let q = c.find.new.pass.view.log in
+    let new = c.unpin_with.new.pass.view.log in
+    let pin = (pin_adds Has c.args.key c.args.tries old a c.in-Ok._epoch c.in-Ok.ensures.pinned).steps in
+    let lost = (lost_walks_add nodes c.args.key c.loop-walk._walk a p c.loop-walk.invariant.lost).steps in
+    let walk = c.find.ensures.steps in
+    let last = (adds_these _ q new (ap (λ (s : Stand). s.view.log) c.unpin_with.ensures.step)).steps in
+    let few = mul_below c.loop-walk._walk c.args.tries (most nodes) c.loop-walk-test.true in
+    within_call nodes c.args.tries (length old) (length new) (2 * c.args.tries + c.args.tries * most nodes + 10) (omega (arith, pin, lost, walk, last, few)) (omega arith)
+
+pub returns-clause-won : goal.returns-clause-won
+returns-clause-won c =
+    let nodes = c.args.shared.now.layout.nodes in
+    let old = c.args.pass.now.view.log in
+    let a = c.pin_for.new.pass.view.log in
+    let p = c.loop-walk.pass.view.log in
+    let new = c.unpin.new.pass.view.log in
+    has_won old new
+    (adds_then old a new (pin_adds Has c.args.key c.args.tries old a c.in-Ok._epoch c.in-Ok.ensures.pinned)
+    (adds_then a p new (lost_walks_add nodes c.args.key c.loop-walk._walk a p c.loop-walk.invariant.lost) (adds_these _ p new (ap (λ (s : Stand). s.view.log) c.unpin.ensures.step))))
+
+pub returns-clause-uncut : goal.returns-clause-uncut
+returns-clause-uncut c =
+    let nodes = c.args.shared.now.layout.nodes in
+    let old = c.args.pass.now.view.log in
+    let a = c.pin_for.new.pass.view.log in
+    let p = c.loop-walk.pass.view.log in
+    let new = c.unpin.new.pass.view.log in
+    cuts_none old new
+    (adds_then old a new (pin_adds Has c.args.key c.args.tries old a c.in-Ok._epoch c.in-Ok.ensures.pinned)
+    (adds_then a p new (lost_walks_add nodes c.args.key c.loop-walk._walk a p c.loop-walk.invariant.lost) (adds_these _ p new (ap (λ (s : Stand). s.view.log) c.unpin.ensures.step))))
+
+pub returns-clause-steps : goal.returns-clause-steps
+returns-clause-steps c =
+    let nodes = c.args.shared.now.layout.nodes in
+    let old = c.args.pass.now.view.log in
+    let a = c.pin_for.new.pass.view.log in
+    let p = c.loop-walk.pass.view.log in
+    let new = c.unpin.new.pass.view.log in
+    let pin = (pin_adds Has c.args.key c.args.tries old a c.in-Ok._epoch c.in-Ok.ensures.pinned).steps in
+    let lost = (lost_walks_add nodes c.args.key c.loop-walk._walk a p c.loop-walk.invariant.lost).steps in
+    let last = (adds_these _ p new (ap (λ (s : Stand). s.view.log) c.unpin.ensures.step)).steps in
+    let few = mul-le-mul_right (most nodes) c.loop-walk.auto._walk-end in
+    within_call nodes c.args.tries (length old) (length new) (2 * c.args.tries + c.args.tries * most nodes + 10) (omega (arith, pin, lost, last, few)) (omega arith)

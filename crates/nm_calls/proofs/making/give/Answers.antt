@@ -1,0 +1,16 @@
+use Rattle.std.proofs.Common.{refl}
+use Rattle.nm_calls.proofs.Looks.{goes_on}
+use Rattle.nm_calls.proofs.Claiming.{only_given, is_given, given_others}
+use Rattle.nm_calls.proofs.making.give.Goals as goal
+
+pub returns-clause-on : goal.returns-clause-on
+returns-clause-on c = goes_on c.args.pass.now c.give.new.pass _ _ c.give.ensures.step refl refl c.is_of_a_run.ensures.fits c.is_of_a_run.ensures.run
+
+pub returns-clause-given : goal.returns-clause-given
+returns-clause-given c = is_given c.args.pass.now c.give.new.pass c.args.node.slot c.give.ensures.step c.requires.run
+
+pub returns-clause-others : goal.returns-clause-others
+returns-clause-others c = given_others c.args.pass.now c.give.new.pass c.args.node.slot c.give.ensures.step c.requires.run
+
+pub returns-clause-only : goal.returns-clause-only
+returns-clause-only c = only_given c.args.pass.now c.give.new.pass c.args.node.slot c.give.ensures.step

@@ -1,0 +1,17 @@
+use Rattle.std.proofs.Common.{◌≤◌, length}
+use Rattle.nm_steps.specs.Steps.{IsSamePass}
+use Rattle.nm_calls.specs.Telling.{Tells, GoesOn, OnlyLooks}
+use Rattle.nm_calls.specs.Walks.{Walks, IsAt, HasCome}
+use Rattle.nm_calls.proofs.walking.seek.Given as goal
+
+abbrev pub invariant-loop-below : goal.invariant-loop-below
+invariant-loop-below l = record {
+  same : IsSamePass l.fn.pass l.pass;
+  walk : Walks l.key l._below l.fn.pass.view.log l.pass.view.log l.spot l.chain.items;
+  at : IsAt (Tells l.pass) l.spot l.chain.items;
+  within : l.spot.edge.slot ≤ l.shared.layout.nodes;
+  short : length l.chain.items ≤ 63;
+  on : GoesOn l.fn.pass l.pass;
+  only : OnlyLooks l.fn.pass l.pass;
+  come : HasCome l.fn.pass l.pass l.key l.spot;
+}

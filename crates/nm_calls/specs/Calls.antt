@@ -1,0 +1,40 @@
+-- What a look-up leaves in the log.
+use Rattle.std.specs.Prelude.{◌≡◌, ◌⊎◌, ◌<◌, ◌==◌, ℕ, zero, suc, Bool, List, [], ◌∷◌, ◌++◌}
+use Rattle.nm_model.specs.declared.event.Event.TheVariants.{SightFor, Leave, LeaveWith}
+use Rattle.nm_model.specs.declared.event.Op.TheVariants.{Has}
+use Rattle.nm_model.specs.declared.reply.Reply.TheVariants.{Departed}
+use Rattle.nm_model.specs.Walks.{Entry}
+use Rattle.nm_epoch.specs.Tries.{IsPinned, IsMoved}
+use Rattle.nm_calls.specs.declared.spot.ChainEdge.{ChainEdge}
+use Rattle.nm_calls.specs.declared.spot.Spot.{Spot}
+use Rattle.nm_calls.specs.Walks.{Ends, IsTooLong}
+
+-- so many walks in a row were broken off
+abbrev pub LostWalks : ℕ → ℕ → ℕ → List Entry → List Entry → Type 0
+LostWalks nodes k zero old new = new ≡ old
+LostWalks nodes k (suc t) old new = (mid : List Entry) × LostWalks nodes k t old mid × IsTooLong nodes k mid new
+
+-- a pin for the look-up, fewer broken walks than there may be tries, a walk whose leaf has key k exactly where the answer is true,
+-- and a leave with the answer
+pub record HasDid (nodes tries k : ℕ) (old new : List Entry) (answer : Bool) : Type 0 where
+  pub pinned : List Entry
+  pub epoch : ℕ
+  pub pin : IsPinned (SightFor Has k) tries old pinned epoch
+  pub broken : ℕ
+  pub few : broken < tries
+  pub begun : List Entry
+  pub lost : LostWalks nodes k broken pinned begun
+  pub ended : List Entry
+  pub spot : Spot
+  pub chain : List ChainEdge
+  pub key : ℕ
+  pub walk : Ends nodes k begun ended spot chain key
+  pub answers : answer ≡ (key == k)
+  pub leaves : new ≡ ended ++ (LeaveWith answer, Departed) ∷ []
+
+-- no step, where there may be no try; or each try of the pin was lost; or a pin, as many broken walks, and a leave
+abbrev pub HasMissed : ℕ → ℕ → ℕ → List Entry → List Entry → Type 0
+HasMissed nodes zero k old new = new ≡ old
+HasMissed nodes (suc t) k old new =
+    IsMoved (SightFor Has k) (suc t) old new
+    ⊎ ((a z : List Entry) × (epoch : ℕ) × IsPinned (SightFor Has k) (suc t) old a epoch × LostWalks nodes k (suc t) a z × (new ≡ z ++ (Leave, Departed) ∷ []))

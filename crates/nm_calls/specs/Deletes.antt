@@ -1,0 +1,193 @@
+-- Deletes: what each part of them leaves.
+use Rattle.std.specs.Prelude.{◌≡◌, ◌≢◌, ◌⊎◌, ℕ, zero, suc, ◌+◌, ◌<◌, List, [], ◌∷◌, ◌++◌, ◌≤◌, length, false, true, Bool, Some, None, Result, Ok, Err}
+use Rattle.nm_edge.specs.Edges.{Edge}
+use Rattle.nm_edge.specs.declared.node.NodeId.{NodeId}
+use Rattle.nm_model.specs.declared.event.Event.TheVariants.{SightFor, Leave, LeaveWith, Look, Flag}
+use Rattle.nm_model.specs.declared.event.Field.TheVariants.{Birth}
+use Rattle.nm_model.specs.declared.event.Op.TheVariants.{Delete}
+use Rattle.nm_model.specs.declared.reply.Reply.{Reply}
+use Rattle.nm_model.specs.declared.reply.Reply.TheVariants.{Departed, BirthIs, Flagged, Lost}
+use Rattle.nm_model.specs.Walks.{Entry}
+use Rattle.nm_order.specs.Facts.Since.{ThePin}
+use Rattle.nm_order.specs.Facts.Fact.{KnowsSlot, KnowsLeaf, IsFlagged, IsBorn, CallIs, EndedAt}
+use Rattle.nm_steps.specs.Rules.{knowledge}
+use Rattle.nm_steps.specs.Steps.{Stand}
+use Rattle.nm_epoch.specs.Resting.{IsResting, epochs, search}
+use Rattle.nm_epoch.specs.Tries.{IsPinned, IsMoved}
+use Rattle.nm_calls.specs.declared.deleting.Injected.{Injected}
+use Rattle.nm_calls.specs.declared.deleting.Injected.TheVariants as injected
+use Rattle.nm_calls.specs.declared.deleting.Injection.{Injection}
+use Rattle.nm_calls.specs.declared.deleting.Injection.TheVariants as injection
+use Rattle.nm_calls.specs.declared.deleting.Missed.{Missed}
+use Rattle.nm_calls.specs.declared.deleting.Missed.TheVariants as missed
+use Rattle.nm_calls.specs.declared.deleting.Removal.{Removal}
+use Rattle.nm_calls.specs.declared.deleting.Removal.TheVariants as removal
+use Rattle.nm_calls.specs.declared.spot.ChainEdge.{ChainEdge}
+use Rattle.nm_calls.specs.declared.spot.End.{End}
+use Rattle.nm_calls.specs.Telling.{Tells, IsInRun, IsPinnedSomewhere}
+use Rattle.nm_calls.specs.Walks.{Seeks, IsBroken, IsAt}
+use Rattle.nm_calls.specs.Leaving.{ShowsAnswer}
+use Rattle.nm_calls.specs.Cleanups.{CleanupWon, CleanupLost, IsAmong, KeepsLedgers}
+use Rattle.nm_calls.specs.Inserts.{Helps}
+
+-- ---- a try to flag
+
+-- a walk that ended at a leaf with key k, a look at the leaf's birth, and a flag of the edge that led there, which was answered so
+pub record TriesFlag (nodes k : ℕ) (r : End) (c : List ChainEdge) (birth : ℕ) (reply : Reply) (old new : List Entry) : Type 0 where
+  pub ended : List Entry
+  pub walk : Seeks nodes k old ended c (Some r)
+  pub same : r.key ≡ k
+  pub entries : new ≡ (ended ++ (Look r.spot.edge.slot Birth, BirthIs birth) ∷ []) ++ (Flag r.spot.parent r.spot.side r.spot.edge.slot, reply) ∷ []
+
+abbrev pub leaf_of : End → ℕ → NodeId
+leaf_of r b = record { slot = r.spot.edge.slot; birth = b }
+
+-- by what it came to, with the chain of the walk
+abbrev pub IsFlagTry : ℕ → ℕ → List ChainEdge → List Entry → List Entry → Injected → Type 0
+IsFlagTry nodes k c old new injected.Absent = (r : End) × Seeks nodes k old new c (Some r) × (r.key ≢ k)
+IsFlagTry nodes k c old new (injected.Flagged r b) = TriesFlag nodes k r c b (Flagged (leaf_of r b)) old new
+IsFlagTry nodes k c old new injected.Lost = IsBroken nodes k old new
+    ⊎ ((r : End) × (b : ℕ) × (e : Edge) × (mid : List Entry) × TriesFlag nodes k r c b (Lost e) old mid × Helps r c e mid new)
+
+-- ---- cleanup mode
+
+-- the call has flagged the leaf, and it may go on to remove it
+pub record IsRemoving (p : Stand) (k : ℕ) (n : NodeId) : Type 0 where
+  pub run : IsInRun p
+  pub pinned : IsPinnedSomewhere p
+  pub root : Tells p (KnowsSlot 1)
+  pub known : Tells p (KnowsSlot 2)
+  pub call : Tells p (CallIs Delete k)
+  pub flagged : (search p).flagged ≡ Some n
+  pub born : Tells p (IsBorn n.slot n.birth)
+  pub labelled : (epochs p).unlabelled ≡ false
+
+-- a walk to another leaf, or a won cleanup by a walk that ended at the flagged leaf, whose splice cut that leaf
+abbrev pub Removes : ℕ → ℕ → NodeId → List Entry → List Entry → Type 0
+Removes nodes k n old new = (r : End) × (c : List ChainEdge) × ((Seeks nodes k old new c (Some r) × (r.spot.edge.slot ≢ n.slot))
+    ⊎ ((mid : List Entry) × (ns : List NodeId) × (epoch : ℕ) × Seeks nodes k old mid c (Some r) × (r.spot.edge.slot ≡ n.slot) × CleanupWon r.spot c ns epoch mid new × IsAmong n ns))
+
+-- a walk that was broken off, or a lost cleanup by a walk that ended at the flagged leaf
+abbrev pub RemovesNothing : ℕ → ℕ → NodeId → List Entry → List Entry → Type 0
+RemovesNothing nodes k n old new = IsBroken nodes k old new
+    ⊎ ((r : End) × (c : List ChainEdge) × (mid : List Entry) × Seeks nodes k old mid c (Some r) × (r.spot.edge.slot ≡ n.slot) × CleanupLost r.spot c mid new)
+
+-- so many such tries were lost, one behind the other
+abbrev pub LostRemovals : ℕ → ℕ → NodeId → ℕ → List Entry → List Entry → Type 0
+LostRemovals nodes k n zero old new = new ≡ old
+LostRemovals nodes k n (suc t) old new = (mid : List Entry) × LostRemovals nodes k n t old mid × RemovesNothing nodes k n mid new
+
+-- up to so many tries, by what they came to
+abbrev pub IsRemoval : ℕ → ℕ → NodeId → ℕ → List Entry → List Entry → Removal → Type 0
+IsRemoval nodes k n tries old new removal.Removed = (t : ℕ) × (mid : List Entry) × (t < tries) × LostRemovals nodes k n t old mid × Removes nodes k n mid new
+IsRemoval nodes k n tries old new removal.Refused = (t : ℕ) × (t < tries) × LostRemovals nodes k n t old new
+IsRemoval nodes k n tries old new removal.Spent = LostRemovals nodes k n tries old new
+
+-- the leaf is known to be cut off once it is removed
+abbrev pub IfRemoved : Removal → Type 0 → Type 0
+IfRemoved removal.Removed P = P
+IfRemoved _ P = Unit {0}
+
+-- ---- what flagging leaves
+
+-- the call may flag the leaf at which its walk ended
+pub record MayFlag (p : Stand) (k : ℕ) (r : End) : Type 0 where
+  pub parent : Tells p (KnowsSlot r.spot.parent)
+  pub known : Tells p (KnowsSlot r.spot.edge.slot)
+  pub leaf : Tells p (KnowsLeaf r.spot.edge.slot)
+  pub high : 6 ≤ r.spot.edge.slot
+  pub call : Tells p (CallIs Delete k)
+  pub ended : Tells p (EndedAt ThePin k r.spot.edge.slot r.spot.parent r.spot.side k)
+  pub unflagged : (search p).flagged ≡ None
+
+abbrev pub looks_and_flags : End → ℕ → Reply → List Entry → List Entry
+looks_and_flags r b reply old = (old ++ (Look r.spot.edge.slot Birth, BirthIs b) ∷ []) ++ (Flag r.spot.parent r.spot.side r.spot.edge.slot, reply) ∷ []
+
+-- the flag is won: the leaf is the one that the call flagged, and the edge to it is known as flagged
+pub record HasFlagged (p q : Stand) (r : End) (b : ℕ) : Type 0 where
+  pub part : q.view.log ≡ looks_and_flags r b (Flagged (leaf_of r b)) p.view.log
+  pub flagged : (search q).flagged ≡ Some (leaf_of r b)
+  pub edge : Tells q (IsFlagged r.spot.parent r.spot.side r.spot.edge.slot)
+  pub born : Tells q (IsBorn r.spot.edge.slot b)
+
+pub record HasNotFlagged (p q : Stand) (r : End) (e : Edge) : Type 0 where
+  pub birth : ℕ
+  pub part : q.view.log ≡ looks_and_flags r birth (Lost e) p.view.log
+  pub flagged : (search q).flagged ≡ (search p).flagged
+
+-- the pin, private slots, the call with what it linked, and ledgers but for the nodes that were cut
+pub record OnlyInjects (p q : Stand) : Type 0 where
+  pub note : (epochs q).note ≡ (epochs p).note
+  pub pin : (epochs q).pin ≡ (epochs p).pin
+  pub labelled : (epochs p).unlabelled ≡ false → (epochs q).unlabelled ≡ false
+  pub private : (knowledge q.view).drafts ≡ (knowledge p.view).drafts
+  pub call : (search q).call ≡ (search p).call
+  pub linked : (search q).linked ≡ (search p).linked
+  pub ledgers : KeepsLedgers p q
+
+-- what the call shows after a try to flag; and where it has flagged, what a cleanup at that spot asks
+abbrev pub ShowsFlag : ℕ → List ChainEdge → Stand → Stand → Injected → Type 0
+ShowsFlag k c p q injected.Absent = ShowsAnswer q Delete k false
+ShowsFlag k c p q (injected.Flagged r b) = ((search q).flagged ≡ Some (leaf_of r b)) × Tells q (IsFlagged r.spot.parent r.spot.side r.spot.edge.slot) × Tells q (IsBorn r.spot.edge.slot b) × IsAt (Tells q) r.spot c × (length c ≤ 63)
+ShowsFlag k c p q injected.Lost = (search q).flagged ≡ (search p).flagged
+
+-- ---- the tries to flag
+
+abbrev pub LostFlags : ℕ → ℕ → ℕ → List Entry → List Entry → Type 0
+LostFlags nodes k zero old new = new ≡ old
+LostFlags nodes k (suc t) old new = (c : List ChainEdge) × (mid : List Entry) × LostFlags nodes k t old mid × IsFlagTry nodes k c mid new injected.Lost
+
+-- up to so many tries, by what they came to; with a flag that was won, how many are left
+abbrev pub IsInjection : ℕ → ℕ → ℕ → List ChainEdge → List Entry → List Entry → Injection → Type 0
+IsInjection nodes k tries c old new injection.Absent = (t : ℕ) × (mid : List Entry) × (t < tries) × LostFlags nodes k t old mid × IsFlagTry nodes k c mid new injected.Absent
+IsInjection nodes k tries c old new (injection.Flagged r b left) = (t : ℕ) × (mid : List Entry) × (t + (left + 1) ≡ tries) × LostFlags nodes k t old mid × IsFlagTry nodes k c mid new (injected.Flagged r b)
+IsInjection nodes k tries c old new injection.Refused = (t : ℕ) × (t < tries) × LostFlags nodes k t old new
+IsInjection nodes k tries c old new injection.Spent = LostFlags nodes k tries old new
+
+abbrev pub ShowsInjection : ℕ → List ChainEdge → Stand → Injection → Type 0
+ShowsInjection k c q injection.Absent = ShowsAnswer q Delete k false
+ShowsInjection k c q (injection.Flagged r b left) = ((search q).flagged ≡ Some (leaf_of r b)) × Tells q (IsFlagged r.spot.parent r.spot.side r.spot.edge.slot) × Tells q (IsBorn r.spot.edge.slot b) × IsAt (Tells q) r.spot c × (length c ≤ 63)
+ShowsInjection k c q _ = (search q).flagged ≡ None
+
+-- ---- the tries to remove, the first of which is a cleanup by the walk of the flag
+
+abbrev pub RemovalAfter : ℕ → ℕ → End → List ChainEdge → ℕ → ℕ → List Entry → List Entry → Removal → Type 0
+RemovalAfter nodes k r c b left old new removal.Removed = ((left ≢ 0) × (ns : List NodeId) × (epoch : ℕ) × CleanupWon r.spot c ns epoch old new × IsAmong (leaf_of r b) ns)
+    ⊎ ((t : ℕ) × (mid : List Entry) × (left ≡ t + 1) × CleanupLost r.spot c old mid × IsRemoval nodes k (leaf_of r b) t mid new removal.Removed)
+RemovalAfter nodes k r c b left old new removal.Refused = ((left ≢ 0) × (new ≡ old)) ⊎ ((t : ℕ) × (mid : List Entry) × (left ≡ t + 1) × CleanupLost r.spot c old mid × IsRemoval nodes k (leaf_of r b) t mid new removal.Refused)
+RemovalAfter nodes k r c b left old new removal.Spent = ((left ≡ 0) × (new ≡ old)) ⊎ ((t : ℕ) × (mid : List Entry) × (left ≡ t + 1) × CleanupLost r.spot c old mid × IsRemoval nodes k (leaf_of r b) t mid new removal.Spent)
+
+-- ---- the whole call
+
+-- what a flag that was won leads to
+abbrev pub FlagsThen : ℕ → ℕ → ℕ → NodeId → List Entry → List Entry → Removal → Type 0
+FlagsThen nodes tries k n old new m = (r : End) × (c : List ChainEdge) × (b left : ℕ) × (mid : List Entry) × (n ≡ leaf_of r b) × IsInjection nodes k tries c old mid (injection.Flagged r b left) × RemovalAfter nodes k r c b left mid new m
+
+-- from the pin on, by the answer
+abbrev pub DeleteFinishes : ℕ → ℕ → ℕ → List Entry → List Entry → Result Bool Missed → Type 0
+DeleteFinishes nodes tries k old new (Ok true) = (n : NodeId) × (mid : List Entry) × FlagsThen nodes tries k n old mid removal.Removed × (new ≡ mid ++ (LeaveWith true, Departed) ∷ [])
+DeleteFinishes nodes tries k old new (Ok false) = (c : List ChainEdge) × (mid : List Entry) × IsInjection nodes k tries c old mid injection.Absent × (new ≡ mid ++ (LeaveWith false, Departed) ∷ [])
+DeleteFinishes nodes tries k old new (Err missed.Busy) = (c : List ChainEdge) × (mid : List Entry) × IsInjection nodes k tries c old mid injection.Spent × (new ≡ mid ++ (Leave, Departed) ∷ [])
+DeleteFinishes nodes tries k old new (Err missed.NoMemory) = (c : List ChainEdge) × (mid : List Entry) × IsInjection nodes k tries c old mid injection.Refused × (new ≡ mid ++ (Leave, Departed) ∷ [])
+DeleteFinishes nodes tries k old new (Err (missed.Unfinished n)) = FlagsThen nodes tries k n old new removal.Refused ⊎ FlagsThen nodes tries k n old new removal.Spent
+
+abbrev pub PinsForDelete : ℕ → ℕ → ℕ → List Entry → List Entry → Result Bool Missed → Type 0
+PinsForDelete nodes tries k old new r = (pinned : List Entry) × (epoch : ℕ) × IsPinned (SightFor Delete k) tries old pinned epoch × DeleteFinishes nodes tries k pinned new r
+
+abbrev pub DeleteDid : ℕ → ℕ → ℕ → List Entry → List Entry → Result Bool Missed → Type 0
+DeleteDid nodes tries k old new (Err missed.Busy) =
+    ((tries ≡ 0) × (new ≡ old)) ⊎ ((tries ≢ 0) × IsMoved (SightFor Delete k) tries old new) ⊎ PinsForDelete nodes tries k old new (Err missed.Busy)
+DeleteDid nodes tries k old new (Err missed.NoMemory) = ((tries ≢ 0) × (new ≡ old)) ⊎ PinsForDelete nodes tries k old new (Err missed.NoMemory)
+DeleteDid nodes tries k old new r = PinsForDelete nodes tries k old new r
+
+-- the worker rests, or stays pinned for the leaf that it flagged
+abbrev pub AfterDelete : ℕ → Stand → Result Bool Missed → Type 0
+AfterDelete k q (Ok b) = IsResting q
+AfterDelete k q (Err missed.Busy) = IsResting q
+AfterDelete k q (Err missed.NoMemory) = IsResting q
+AfterDelete k q (Err (missed.Unfinished n)) = IsRemoving q k n
+
+-- tries to remove, and a leave with the answer true; or each was lost, or the room of one was refused
+abbrev pub FinishDid : ℕ → ℕ → NodeId → ℕ → List Entry → List Entry → Bool → Type 0
+FinishDid nodes k n tries old new true = (mid : List Entry) × IsRemoval nodes k n tries old mid removal.Removed × (new ≡ mid ++ (LeaveWith true, Departed) ∷ [])
+FinishDid nodes k n tries old new false = IsRemoval nodes k n tries old new removal.Refused ⊎ IsRemoval nodes k n tries old new removal.Spent

@@ -1,0 +1,197 @@
+-- Inserts: the two new nodes that a call keeps over its tries, and what each part of it leaves.
+use Rattle.std.specs.Prelude.{◌≡◌, ◌≢◌, ◌≤◌, ◌⊎◌, ℕ, zero, suc, ◌<◌, ◌==◌, nat_lt, Bool, true, false, ◌&&◌, ◌||◌, if◌then◌else◌, List, [], ◌∷◌, ◌++◌, Option, Some, None, Result, Ok, Err}
+use Rattle.nm_edge.specs.Edges.{Edge}
+use Rattle.nm_edge.specs.declared.node.NodeId.{NodeId}
+use Rattle.nm_model.specs.declared.event.Event.TheVariants.{SightFor, Leave, LeaveWith, Give, Link}
+use Rattle.nm_model.specs.declared.event.Op.TheVariants.{Insert}
+use Rattle.nm_model.specs.declared.reply.Reply.{Reply}
+use Rattle.nm_model.specs.declared.reply.Reply.TheVariants.{Departed, Returned, Linked, Lost}
+use Rattle.nm_model.specs.Maps.{get}
+use Rattle.nm_model.specs.Walks.{Entry}
+use Rattle.nm_order.specs.Facts.Since.{ThePin}
+use Rattle.nm_order.specs.Facts.Fact.{KnowsSlot, KnowsLeaf, CallIs, EndedAt}
+use Rattle.nm_order.specs.Taught.{EdgeLearned}
+use Rattle.nm_pool.specs.Claims.{IsClaim}
+use Rattle.nm_steps.specs.Rules.{knowledge}
+use Rattle.nm_steps.specs.Steps.{Stand}
+use Rattle.nm_epoch.specs.Resting.{epochs, search}
+use Rattle.nm_calls.specs.declared.growing.Fork.{Fork}
+use Rattle.nm_calls.specs.declared.growing.Inner.{Inner}
+use Rattle.nm_epoch.specs.Tries.{IsPinned, IsMoved}
+use Rattle.nm_calls.specs.declared.inserting.Fault.{Fault}
+use Rattle.nm_calls.specs.declared.inserting.Fault.TheVariants as fault
+use Rattle.nm_calls.specs.declared.inserting.Attempt.{Attempt}
+use Rattle.nm_calls.specs.declared.inserting.Attempt.TheVariants as attempt
+use Rattle.nm_calls.specs.declared.spot.ChainEdge.{ChainEdge}
+use Rattle.nm_calls.specs.declared.spot.End.{End}
+use Rattle.nm_calls.specs.Telling.{Tells}
+use Rattle.nm_calls.specs.Making.{draft, fills}
+use Rattle.nm_calls.specs.Walks.{Seeks, IsBroken}
+use Rattle.nm_calls.specs.Leaving.{EndedWith}
+use Rattle.nm_calls.specs.Cleanups.{CleanupWon, CleanupLost, KeepsLedgers}
+
+-- ---- two private nodes
+
+-- both are private, with their births
+pub record IsReady (p : Stand) (f : Fork) : Type 0 where
+  pub apart : f.new.slot ≢ f.fresh.slot
+  pub new_birth : (draft p f.new.slot).birth ≡ Some f.new.birth
+  pub fresh_birth : (draft p f.fresh.slot).birth ≡ Some f.fresh.birth
+  pub new_within : f.new.slot ≤ p.view.layout.nodes
+  pub fresh_within : f.fresh.slot ≤ p.view.layout.nodes
+
+-- each slot but these is private as it was
+abbrev pub KeepsBut : Fork → Stand → Stand → Type 0
+KeepsBut f o p = (s : ℕ) → s ≢ f.new.slot → s ≢ f.fresh.slot → get (knowledge p.view).drafts s ≡ get (knowledge o.view).drafts s
+
+-- the private slots are those that there were, and with them two new nodes, if the call has made them
+pub record HoldsFork (o p : Stand) (f : Fork) : Type 0 where
+  pub ready : IsReady p f
+  pub others : KeepsBut f o p
+  pub new_was : get (knowledge o.view).drafts f.new.slot ≡ None
+  pub fresh_was : get (knowledge o.view).drafts f.fresh.slot ≡ None
+
+abbrev pub HasFork : Stand → Stand → Option Fork → Type 0
+HasFork o p None = (s : ℕ) → get (knowledge p.view).drafts s ≡ get (knowledge o.view).drafts s
+HasFork o p (Some f) = HoldsFork o p f
+
+abbrev pub IfReady : Stand → Option Fork → Type 0
+IfReady p None = Unit {0}
+IfReady p (Some f) = IsReady p f
+
+-- both nodes are given back, if there are any
+abbrev pub Returns : Option Fork → List Entry → List Entry → Type 0
+Returns None old new = new ≡ old
+Returns (Some f) old new = new ≡ (old ++ (Give f.new.slot, Returned f.new.slot) ∷ []) ++ (Give f.fresh.slot, Returned f.fresh.slot) ∷ []
+
+-- the internal node is claimed first and the leaf second; where one of the two claims answers nothing, the other slot is returned
+abbrev pub ClaimsFork : ℕ → List Entry → List Entry → Option Fork → Type 0
+ClaimsFork nodes old new (Some f) = (mid : List Entry) × IsClaim nodes old mid (Some f.new) × IsClaim nodes mid new (Some f.fresh)
+ClaimsFork nodes old new None = IsClaim nodes old new None
+    ⊎ ((n : NodeId) × (mid : List Entry) × (all : List Entry) × IsClaim nodes old mid (Some n) × IsClaim nodes mid all None × (new ≡ all ++ (Give n.slot, Returned n.slot) ∷ []))
+
+-- ---- a link of both
+
+-- the new internal node has the greater key, and the leaf with the lesser one is on its left
+abbrev pub inner_of : ℕ → ℕ → ℕ → ℕ → Inner
+inner_of key other leaf fresh = if nat_lt key other then record { key = other; left = fresh; right = leaf } else record { key = key; left = leaf; right = fresh }
+
+-- the call may put its key beside the leaf at which its walk ended
+pub record MayGrow (p : Stand) (key : ℕ) (r : End) (f : Fork) : Type 0 where
+  pub call : Tells p (CallIs Insert key)
+  pub unlinked : (search p).linked ≡ false
+  pub parent : Tells p (KnowsSlot r.spot.parent)
+  pub known : Tells p (KnowsSlot r.spot.edge.slot)
+  pub leaf : Tells p (KnowsLeaf r.spot.edge.slot)
+  pub within : r.spot.edge.slot ≤ p.view.layout.nodes
+  pub ended : Tells p (EndedAt ThePin key r.spot.edge.slot r.spot.parent r.spot.side r.key)
+  pub other : r.key ≢ key
+  pub ready : IsReady p f
+
+-- both nodes were filled, and a link of them was tried at the edge by which the walk ended
+abbrev pub Grows : ℕ → End → Fork → Reply → List Entry → List Entry → Type 0
+Grows key r f reply old new = (i : Inner) × (i ≡ inner_of key r.key r.spot.edge.slot f.fresh.slot)
+    × (new ≡ ((old ++ fills f.new.slot i.key i.left i.right) ++ fills f.fresh.slot key 0 0) ++ (Link r.spot.parent r.spot.side r.spot.edge.slot f.new.slot, reply) ∷ [])
+
+-- the worker's epochs and queues, and its call, are as they were
+pub record KeepsCall (p q : Stand) : Type 0 where
+  pub epochs : epochs q ≡ epochs p
+  pub ledgers : (knowledge q.view).ledgers ≡ (knowledge p.view).ledgers
+  pub call : (search q).call ≡ (search p).call
+  pub flagged : (search q).flagged ≡ (search p).flagged
+
+pub record HasGrown (p q : Stand) (key : ℕ) (r : End) (f : Fork) : Type 0 where
+  pub part : Grows key r f (Linked f.new) p.view.log q.view.log
+  pub linked : (search q).linked ≡ true
+  pub others : KeepsBut f p q
+  pub new_given : get (knowledge q.view).drafts f.new.slot ≡ None
+  pub fresh_given : get (knowledge q.view).drafts f.fresh.slot ≡ None
+
+pub record HasNotGrown (p q : Stand) (key : ℕ) (r : End) (f : Fork) (e : Edge) : Type 0 where
+  pub part : Grows key r f (Lost e) p.view.log q.view.log
+  pub linked : (search q).linked ≡ (search p).linked
+  pub others : KeepsBut f p q
+  pub ready : IsReady q f
+  pub learned : EdgeLearned (Tells q) r.spot.parent r.spot.side e
+
+-- ---- one try
+
+-- the edge that a lost exchange found leads to the same leaf, and is marked
+abbrev pub asks_help : End → Edge → Bool
+asks_help r e = (e.slot == r.spot.edge.slot) && (e.flag || e.tag)
+
+-- then a cleanup by that walk, won or lost; else no step
+abbrev pub Helps : End → List ChainEdge → Edge → List Entry → List Entry → Type 0
+Helps r c e old new = ((asks_help r e ≡ true) × (((ns : List NodeId) × (epoch : ℕ) × CleanupWon r.spot c ns epoch old new) ⊎ CleanupLost r.spot c old new)) ⊎ ((asks_help r e ≡ false) × (new ≡ old))
+
+-- the nodes that were there are taken, or two are claimed
+abbrev pub Readies : ℕ → Option Fork → Fork → List Entry → List Entry → Type 0
+Readies nodes None g old new = ClaimsFork nodes old new (Some g)
+Readies nodes (Some f) g old new = (g ≡ f) × (new ≡ old)
+
+abbrev pub IsReadied : ℕ → Option Fork → Option Fork → Option Fork → List Entry → List Entry → Type 0
+IsReadied nodes f g (Some h) old new = (g ≡ Some h) × Readies nodes f h old new
+IsReadied nodes f g None old new = (f ≡ None) × (g ≡ None) × ClaimsFork nodes old new None
+
+-- a walk that ended at a leaf with another key, and a link of two new nodes there that was answered so
+pub record TriesLink (nodes k : ℕ) (f : Option Fork) (made : Fork) (r : End) (c : List ChainEdge) (reply : Reply) (old new : List Entry) : Type 0 where
+  pub ended : List Entry
+  pub walk : Seeks nodes k old ended c (Some r)
+  pub other : r.key ≢ k
+  pub claimed : List Entry
+  pub readies : Readies nodes f made ended claimed
+  pub grows : Grows k r made reply claimed new
+
+-- a try of an insert of k, by what it came to; f are the new nodes before it, and g those after it
+abbrev pub IsTry : ℕ → ℕ → Option Fork → Option Fork → List Entry → List Entry → Attempt → Type 0
+IsTry nodes k f g old new attempt.Found = (r : End) × (c : List ChainEdge) × Seeks nodes k old new c (Some r) × (r.key ≡ k) × (g ≡ f)
+IsTry nodes k f g old new attempt.Linked = (made : Fork) × (r : End) × (c : List ChainEdge) × TriesLink nodes k f made r c (Linked made.new) old new × (g ≡ None)
+IsTry nodes k f g old new attempt.Full = (r : End) × (c : List ChainEdge) × (mid : List Entry) × Seeks nodes k old mid c (Some r) × (r.key ≢ k) × (f ≡ None) × (g ≡ None) × ClaimsFork nodes mid new None
+IsTry nodes k f g old new attempt.Lost = (IsBroken nodes k old new × (g ≡ f))
+    ⊎ ((made : Fork) × (r : End) × (c : List ChainEdge) × (e : Edge) × (mid : List Entry) × TriesLink nodes k f made r c (Lost e) old mid × (g ≡ Some made) × Helps r c e mid new)
+
+-- what a try leaves: the pin, the call and what it flagged, and ledgers but for the nodes that it cut
+pub record OnlyTries (p q : Stand) : Type 0 where
+  pub note : (epochs q).note ≡ (epochs p).note
+  pub pin : (epochs q).pin ≡ (epochs p).pin
+  pub labelled : (epochs p).unlabelled ≡ false → (epochs q).unlabelled ≡ false
+  pub call : (search q).call ≡ (search p).call
+  pub flagged : (search q).flagged ≡ (search p).flagged
+  pub ledgers : KeepsLedgers p q
+
+-- what the call shows after it
+abbrev pub ShowsTry : ℕ → Stand → Stand → Attempt → Type 0
+ShowsTry k p q attempt.Found = ((leaf : ℕ) × EndedWith q ThePin k leaf k) × ((search q).linked ≡ (search p).linked)
+ShowsTry k p q attempt.Linked = (search q).linked ≡ true
+ShowsTry k p q _ = (search q).linked ≡ (search p).linked
+
+-- ---- the whole call
+
+-- so many tries were lost, one behind the other; f are the new nodes behind them
+abbrev pub LostInserts : ℕ → ℕ → ℕ → Option Fork → List Entry → List Entry → Type 0
+LostInserts nodes k zero f old new = (f ≡ None) × (new ≡ old)
+LostInserts nodes k (suc n) g old new = (f : Option Fork) × (mid : List Entry) × LostInserts nodes k n f old mid × IsTry nodes k f g mid new attempt.Lost
+
+-- fewer lost tries than there may be, and then one that came to this
+abbrev pub EndsBy : ℕ → ℕ → ℕ → Option Fork → Attempt → List Entry → List Entry → Type 0
+EndsBy nodes tries k g a old new = (n : ℕ) × (f : Option Fork) × (mid : List Entry) × (n < tries) × LostInserts nodes k n f old mid × IsTry nodes k f g mid new a
+
+-- from the pin on, by the answer
+abbrev pub Finishes : ℕ → ℕ → ℕ → List Entry → List Entry → Result Bool Fault → Type 0
+Finishes nodes tries k old new (Ok true) = (mid : List Entry) × EndsBy nodes tries k None attempt.Linked old mid × (new ≡ mid ++ (LeaveWith true, Departed) ∷ [])
+Finishes nodes tries k old new (Ok false) = (f : Option Fork) × (mid back : List Entry) × EndsBy nodes tries k f attempt.Found old mid × Returns f mid back × (new ≡ back ++ (LeaveWith false, Departed) ∷ [])
+Finishes nodes tries k old new (Err fault.Full) = (mid : List Entry) × EndsBy nodes tries k None attempt.Full old mid × (new ≡ mid ++ (Leave, Departed) ∷ [])
+Finishes nodes tries k old new (Err fault.Busy) = (f : Option Fork) × (mid back : List Entry) × LostInserts nodes k tries f old mid × Returns f mid back × (new ≡ back ++ (Leave, Departed) ∷ [])
+Finishes nodes tries k old new (Err fault.NoMemory) =
+    (n : ℕ) × (f : Option Fork) × (mid back : List Entry) × (n < tries) × LostInserts nodes k n f old mid × Returns f mid back × (new ≡ back ++ (Leave, Departed) ∷ [])
+
+abbrev pub PinsThen : ℕ → ℕ → ℕ → List Entry → List Entry → Result Bool Fault → Type 0
+PinsThen nodes tries k old new r = (pinned : List Entry) × (epoch : ℕ) × IsPinned (SightFor Insert k) tries old pinned epoch × Finishes nodes tries k pinned new r
+
+-- Busy: there may be no try, and there was no step; or each try of the pin was lost; or each try was. NoMemory: room was refused before the first step,
+-- or before a later try
+abbrev pub InsertDid : ℕ → ℕ → ℕ → List Entry → List Entry → Result Bool Fault → Type 0
+InsertDid nodes tries k old new (Err fault.Busy) =
+    ((tries ≡ 0) × (new ≡ old)) ⊎ ((tries ≢ 0) × IsMoved (SightFor Insert k) tries old new) ⊎ PinsThen nodes tries k old new (Err fault.Busy)
+InsertDid nodes tries k old new (Err fault.NoMemory) = ((tries ≢ 0) × (new ≡ old)) ⊎ PinsThen nodes tries k old new (Err fault.NoMemory)
+InsertDid nodes tries k old new r = PinsThen nodes tries k old new r

@@ -1,0 +1,39 @@
+-- Which answers a log shows, and what a label leaves.
+use Rattle.std.specs.Prelude.{◌≡◌, ◌≢◌, ◌⊎◌, ℕ, Bool, true, false, Some, None}
+use Rattle.nm_edge.specs.declared.edge.Side.{Side}
+use Rattle.nm_edge.specs.declared.node.NodeId.{NodeId}
+use Rattle.nm_model.specs.declared.event.Op.{Op}
+use Rattle.nm_model.specs.declared.event.Op.TheVariants.{Has, Insert, Delete}
+use Rattle.nm_order.specs.Facts.{Since}
+use Rattle.nm_order.specs.Facts.Since.{ThePin, TheFlag}
+use Rattle.nm_order.specs.Facts.Fact.{CallIs, EndedAt}
+use Rattle.nm_steps.specs.Rules.{knowledge}
+use Rattle.nm_steps.specs.Steps.{Stand}
+use Rattle.nm_epoch.specs.Resting.{epochs, search}
+use Rattle.nm_calls.specs.Telling.{Tells}
+
+-- a walk of the call for k ended at a leaf with key v
+abbrev pub EndedWith : Stand → Since → ℕ → ℕ → ℕ → Type 0
+EndedWith p since k leaf v = (parent : ℕ) × (side : Side) × Tells p (EndedAt since k leaf parent side v)
+
+-- what the log of a call of that operation on k shows of an answer
+abbrev pub ShowsAnswer : Stand → Op → ℕ → Bool → Type 0
+ShowsAnswer p Has k true = (leaf : ℕ) × EndedWith p ThePin k leaf k
+ShowsAnswer p Has k false = (leaf v : ℕ) × (v ≢ k) × EndedWith p ThePin k leaf v
+ShowsAnswer p Insert k true = (search p).linked ≡ true
+ShowsAnswer p Insert k false = ((leaf : ℕ) × EndedWith p ThePin k leaf k) × ((search p).linked ≡ false)
+ShowsAnswer p Delete k true = (n : NodeId) × ((search p).flagged ≡ Some n) × (((search p).cut ≡ true) ⊎ ((leaf v : ℕ) × (leaf ≢ n.slot) × EndedWith p TheFlag k leaf v))
+ShowsAnswer p Delete k false = ((leaf v : ℕ) × (v ≢ k) × EndedWith p ThePin k leaf v) × ((search p).flagged ≡ None)
+
+abbrev pub IsAnswer : Stand → Bool → Type 0
+IsAnswer p answer = (op : Op) × (k : ℕ) × Tells p (CallIs op k) × ShowsAnswer p op k answer
+
+-- nothing has changed but the label of the cut, and the epoch that was read
+pub record OnlyLabels (epoch : ℕ) (p q : Stand) : Type 0 where
+  pub seen : (epochs q).seen ≡ Some epoch
+  pub note : (epochs q).note ≡ (epochs p).note
+  pub pin : (epochs q).pin ≡ (epochs p).pin
+  pub labelled : (epochs q).unlabelled ≡ false
+  pub private : (knowledge q.view).drafts ≡ (knowledge p.view).drafts
+  pub known : (knowledge q.view).known ≡ (knowledge p.view).known
+  pub search : search q ≡ search p

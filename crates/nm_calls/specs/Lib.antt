@@ -1,0 +1,12 @@
+pub mod Marking
+pub mod Making
+pub mod Telling
+pub mod Walks
+pub mod Calls
+pub mod Won
+pub mod Fresh
+pub mod Plays
+pub mod Cleanups
+pub mod Leaving
+pub mod Inserts
+pub mod Deletes

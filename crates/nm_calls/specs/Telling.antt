@@ -1,0 +1,56 @@
+-- What a pass's log tells, in facts that stay, and what a look adds to them.
+use Rattle.std.specs.Prelude.{◌≡◌, ◌≢◌, ℕ, ◌<◌, ◌≤◌, true}
+use Rattle.nm_edge.specs.Edges.{Edge, other}
+use Rattle.nm_edge.specs.declared.edge.Side.{Side}
+use Rattle.nm_edge.specs.declared.edge.Side.TheVariants.{Left}
+use Rattle.nm_model.specs.Memory.{infinity_0}
+use Rattle.nm_model.specs.Searches.{idle, side_of}
+use Rattle.nm_model.specs.Walks.{search_after}
+use Rattle.nm_order.specs.Facts.{Since, Fact, Holds}
+use Rattle.nm_order.specs.Facts.Fact.{IsPinned, IsTagged, IsFlagged, Came, ReadKey, EndedAt}
+use Rattle.nm_order.specs.Taught.{Walks, EdgeLearned}
+use Rattle.nm_steps.specs.Rules.{knowledge}
+use Rattle.nm_steps.specs.Steps.{Stand}
+pub use Rattle.nm_steps.specs.Steps.{IsInRun}
+
+-- the pass's log tells the fact
+abbrev pub Tells : Stand → Fact → Type 0
+Tells p fact = Holds p.view.layout p.view.number p.view.log fact
+
+abbrev pub IsPinnedSomewhere : Stand → Type 0
+IsPinnedSomewhere p = (epoch : ℕ) × Tells p (IsPinned epoch)
+
+-- it is in a run still, and tells each fact that it told
+pub record GoesOn (p q : Stand) : Type 0 where
+  pub run : IsInRun q
+  pub keeps : (fact : Fact) → Tells p fact → Tells q fact
+
+-- nothing but what is known of nodes, and of the call's walks, has changed
+pub record OnlyLooks (p q : Stand) : Type 0 where
+  pub epochs : (knowledge q.view).brief ≡ (knowledge p.view).brief
+  pub private : (knowledge q.view).drafts ≡ (knowledge p.view).drafts
+  pub ledgers : (knowledge q.view).ledgers ≡ (knowledge p.view).ledgers
+  pub call : (search_after idle q.view.log).call ≡ (search_after idle p.view.log).call
+  pub linked : (search_after idle q.view.log).linked ≡ (search_after idle p.view.log).linked
+  pub flagged : (search_after idle q.view.log).flagged ≡ (search_after idle p.view.log).flagged
+  pub cut : (search_after idle q.view.log).cut ≡ (search_after idle p.view.log).cut
+
+-- what the key of a slot tells: where it is below the sentinels, the slot is above 5; and each walk that has come there has read it
+pub record KeyTold (p q : Stand) (x key : ℕ) : Type 0 where
+  pub high : key < infinity_0 → 6 ≤ x
+  pub reads : (since : Since) (k parent : ℕ) (side : Side) → Tells p (Came since k x parent side) → Tells q (ReadKey since k x parent side key)
+
+-- what an edge tells that was looked at: it is read; it is flagged where its twin is known tagged, and as it was known where it is known flagged; it leads inside the layout, and is one of
+-- a slot above 5 to a slot above 5 where it is flagged, and not null where it is the left edge of slot 2;
+-- and each walk that goes on by it has come to its slot, or has ended where it is null
+pub record EdgeTold (p q : Stand) (x : ℕ) (side : Side) (e : Edge) : Type 0 where
+  pub learned : EdgeLearned (Tells q) x side e
+  pub twin : (to : ℕ) → Tells p (IsTagged x (other side) to) → e.flag ≡ true
+  pub again : (to : ℕ) → Tells p (IsFlagged x side to) → (e.flag ≡ true) × (e.slot ≡ to)
+  pub within : e.slot ≤ p.view.layout.nodes
+  pub high : e.flag ≡ true → 6 ≤ e.slot
+  pub owner : e.flag ≡ true → 6 ≤ x
+  pub root : x ≡ 2 → side ≡ Left → e.slot ≢ 0
+  pub begins : (since : Since) (k : ℕ) → Walks p.view.layout p.view.number p.view.log since k → x ≡ 2 → side ≡ Left → Tells q (Came since k e.slot 2 Left)
+  pub goes : (since : Since) (k parent v : ℕ) (up : Side) → Tells p (ReadKey since k x parent up v) → side ≡ side_of k v → e.slot ≢ 0 → Tells q (Came since k e.slot x side)
+  pub ends : (since : Since) (k parent v : ℕ) (up : Side) → Tells p (ReadKey since k x parent up v) → side ≡ side_of k v → e.slot ≡ 0 → Tells q (EndedAt since k x parent up v)

@@ -1,0 +1,107 @@
+-- The walk for a key, as a relation between a log and a later one.
+use Rattle.std.specs.Prelude.{◌≡◌, ◌≢◌, ◌≤◌, ◌+◌, ◌⊎◌, ℕ, zero, suc, true, if◌then◌else◌, List, [], ◌∷◌, ◌++◌, length, Option, Some, None}
+use Rattle.nm_edge.specs.Edges.{Edge}
+use Rattle.nm_edge.specs.declared.edge.Side.{Side}
+use Rattle.nm_edge.specs.declared.edge.Side.TheVariants.{Left}
+use Rattle.nm_model.specs.declared.event.Event.TheVariants.{Look}
+use Rattle.nm_model.specs.declared.event.Field.TheVariants.{Key as KeyOf, Edge as EdgeOn}
+use Rattle.nm_model.specs.declared.reply.Reply.TheVariants.{KeyIs, EdgeIs}
+use Rattle.nm_model.specs.Searches.{side_of}
+use Rattle.nm_model.specs.Walks.{Entry}
+use Rattle.nm_order.specs.Facts.{Since, Fact}
+use Rattle.nm_order.specs.Facts.Fact.{KnowsSlot, KnowsLeaf, IsTagged, Came, EndedAt}
+use Rattle.nm_order.specs.Taught.{Walks as HasWalks}
+use Rattle.nm_steps.specs.Steps.{Stand}
+use Rattle.nm_calls.specs.declared.spot.ChainEdge.{ChainEdge}
+use Rattle.nm_calls.specs.declared.spot.End.{End}
+use Rattle.nm_calls.specs.declared.spot.Spot.{Spot}
+use Rattle.nm_calls.specs.Telling.{Tells}
+
+-- ---- where a walk stands
+
+-- at first, at the left edge of slot 2
+abbrev pub begin : Edge → Spot
+begin e = record { ancestor = 1; above = Left; successor = 2; parent = 2; side = Left; edge = e }
+
+-- at the node that the edge led to, left on a side by an edge
+abbrev pub onto : Spot → Side → Edge → Spot
+onto s d e = if s.edge.tag then record { ancestor = s.ancestor; above = s.above; successor = s.successor; parent = s.edge.slot; side = d; edge = e }
+    else record { ancestor = s.parent; above = s.side; successor = s.edge.slot; parent = s.edge.slot; side = d; edge = e }
+
+abbrev pub chained : ℕ → Side → ChainEdge
+chained s d = record { slot = s; side = d }
+
+-- the tagged edges from the successor down to the parent, one node further
+abbrev pub chain_onto : Spot → List ChainEdge → List ChainEdge
+chain_onto s c = if s.edge.tag then c ++ chained s.parent s.side ∷ [] else []
+
+-- ---- what a walk leaves in the log
+
+-- a look at a node's key, then one at its edge on k's side
+abbrev pub after_looks : ℕ → List Entry → ℕ → ℕ → Edge → List Entry
+after_looks k l s key e = (l ++ (Look s KeyOf, KeyIs key) ∷ []) ++ (Look s (EdgeOn (side_of k key)), EdgeIs e) ∷ []
+
+-- slot 2 was looked at, and n nodes below it; none of the edges read was null
+abbrev pub Walks : ℕ → ℕ → List Entry → List Entry → Spot → List ChainEdge → Type 0
+Walks k zero old new s c = (s ≡ begin s.edge) × (c ≡ []) × (s.edge.slot ≢ 0) × (new ≡ old ++ (Look 2 (EdgeOn Left), EdgeIs s.edge) ∷ [])
+Walks k (suc n) old new s c =
+    (mid : List Entry) × (t : Spot) × (d : List ChainEdge) × (key : ℕ) × Walks k n old mid t d × (s.edge.slot ≢ 0)
+    × (new ≡ after_looks k mid t.edge.slot key s.edge) × (s ≡ onto t (side_of k key) s.edge) × (c ≡ chain_onto t d)
+
+-- a walk to the leaf that the edge of s leads to, whose key this is; with slot 2 and the leaf it looked at no more than `nodes` nodes
+abbrev pub Ends : ℕ → ℕ → List Entry → List Entry → Spot → List ChainEdge → ℕ → Type 0
+Ends nodes k old new s c key =
+    (n : ℕ) × (mid : List Entry) × (e : Edge) × (n + 2 ≤ nodes) × Walks k n old mid s c × (e.slot ≡ 0)
+    × (new ≡ after_looks k mid s.edge.slot key e)
+
+-- a walk broken off where it had looked at as many nodes as there are
+abbrev pub IsTooLong : ℕ → ℕ → List Entry → List Entry → Type 0
+IsTooLong nodes k old new = (n : ℕ) × (s : Spot) × (c : List ChainEdge) × Walks k n old new s c × (suc n ≡ nodes)
+
+-- a walk broken off where its chain would hold 65 nodes
+abbrev pub IsTooDeep : ℕ → ℕ → List Entry → List Entry → Type 0
+IsTooDeep nodes k old new =
+    (n : ℕ) × (mid : List Entry) × (s : Spot) × (c : List ChainEdge) × (key : ℕ) × (e : Edge) × (n + 2 ≤ nodes) × Walks k n old mid s c
+    × (new ≡ after_looks k mid s.edge.slot key e) × (e.slot ≢ 0) × (s.edge.tag ≡ true) × (63 ≤ length c)
+
+abbrev pub IsBroken : ℕ → ℕ → List Entry → List Entry → Type 0
+IsBroken nodes k old new = IsTooLong nodes k old new ⊎ IsTooDeep nodes k old new
+
+-- what a walk finds that remembers nothing: the leaf's key
+abbrev pub Finds : ℕ → ℕ → List Entry → List Entry → Option ℕ → Type 0
+Finds nodes k old new (Some key) = (s : Spot) × (c : List ChainEdge) × Ends nodes k old new s c key
+Finds nodes k old new None = IsTooLong nodes k old new
+
+-- what a walk finds that remembers its chain, which has 64 nodes at most with the parent
+abbrev pub Seeks : ℕ → ℕ → List Entry → List Entry → List ChainEdge → Option End → Type 0
+Seeks nodes k old new c (Some r) = Ends nodes k old new r.spot c r.key × (length c ≤ 63)
+Seeks nodes k old new c None = IsBroken nodes k old new
+
+-- ---- what is known where it stands
+
+-- by tagged edges the chain leads from s to q
+abbrev pub Leads : (Fact → Type 0) → ℕ → List ChainEdge → ℕ → Type 0
+Leads H s [] q = s ≡ q
+Leads H s (l ∷ c) q = (l.slot ≡ s) × (t : ℕ) × H (IsTagged s l.side t) × H (KnowsSlot t) × Leads H t c q
+
+pub record IsAt (H : Fact → Type 0) (s : Spot) (c : List ChainEdge) : Type 0 where
+  pub ancestor : H (KnowsSlot s.ancestor)
+  pub successor : H (KnowsSlot s.successor)
+  pub parent : H (KnowsSlot s.parent)
+  pub node : H (KnowsSlot s.edge.slot)
+  pub tagged : s.edge.tag ≡ true → H (IsTagged s.parent s.side s.edge.slot)
+  pub way : Leads H s.successor c s.parent
+
+-- and where it has ended
+pub record HasEnded (H : Fact → Type 0) (nodes : ℕ) (s : Spot) (c : List ChainEdge) : Type 0 where
+  pub at : IsAt H s c
+  pub leaf : H (KnowsLeaf s.edge.slot)
+  pub within : s.edge.slot ≤ nodes
+
+-- each kind of walk that the call has came so to the slot
+abbrev pub HasCome : Stand → Stand → ℕ → Spot → Type 0
+HasCome p q k s = (since : Since) → HasWalks p.view.layout p.view.number p.view.log since k → Tells q (Came since k s.edge.slot s.parent s.side)
+
+-- or ended so at the leaf, with its key
+abbrev pub HasFound : Stand → Stand → ℕ → ℕ → ℕ → Side → ℕ → Type 0
+HasFound p q k leaf parent side key = (since : Since) → HasWalks p.view.layout p.view.number p.view.log since k → Tells q (EndedAt since k leaf parent side key)

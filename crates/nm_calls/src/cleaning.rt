@@ -1,0 +1,120 @@
+//! Whole cleanups: a frozen chain is cut off, labelled, and waits in the worker's queue.
+ghost use Rattle.std.specs.Prelude.{◌≡◌, ◌≤◌, ◌+◌, ◌*◌, ◌++◌, true, false, length, map};
+ghost use Rattle.nm_steps.specs.Rules.{knowledge};
+ghost use Rattle.nm_steps.specs.Steps.{IsOf, IsSamePass};
+ghost use Rattle.nm_epoch.specs.Collecting.{IsQueueOf, labelled_so};
+ghost use Rattle.nm_calls.specs.Telling.{Tells, GoesOn, IsInRun, IsPinnedSomewhere};
+ghost use Rattle.nm_calls.specs.Walks.{IsAt};
+ghost use Rattle.nm_calls.specs.Marking.{OnlyCuts};
+ghost use Rattle.nm_calls.specs.Won.{won_splices, capped};
+ghost use Rattle.nm_calls.specs.Cleanups.{HasCut, HasCutNothing, HasCleaned, OnlyCleans};
+
+use crate::cutting::{choose, freeze};
+use crate::leaving::label;
+use crate::marking::{splice, tag};
+use crate::spot::{ChainEdge, Spot};
+use arrayvec::ArrayVec;
+use nm_edge::NodeId;
+use nm_epoch::Entry;
+use nm_limbo::BlockQueue;
+use nm_steps::{Pass, Shared};
+
+/// The nodes that a splice cuts off: 64 internal nodes at most, and the flagged leaf beside each.
+pub type CutNodes = ArrayVec<NodeId, 128>;
+
+/// A cleanup up to its splice, and whether that is won.
+fn cut_off(
+    shared: &Shared,
+    pass: &mut Pass,
+    spot: &Spot,
+    chain: &[ChainEdge],
+    nodes: &mut CutNodes,
+) -> bool
+    requires own { IsOf shared.now pass.old }
+    requires run { IsInRun pass.old }
+    requires pinned { IsPinnedSomewhere pass.old }
+    requires at { IsAt (Tells pass.old) spot.now chain.now }
+    requires few { length chain.now ≤ 63 }
+    ensures same { IsSamePass pass.old pass.new }
+    ensures won { result ≡ true → HasCut spot.now chain.now nodes.new.items pass.old pass.new }
+    ensures lost { result ≡ false → HasCutNothing spot.now chain.now pass.old pass.new }
+    ensures on { GoesOn pass.old pass.new }
+    ensures only { OnlyCuts pass.old pass.new }
+{
+    nodes.clear();
+    let Some(kept) = choose(shared, pass, spot) else {
+        return false;
+    };
+    let was = tag(shared, pass, spot.parent, kept.side);
+    freeze(shared, pass, chain, spot.parent, kept.side, nodes);
+    let Ok(()) = splice(
+        shared,
+        pass,
+        spot.ancestor,
+        spot.above,
+        spot.successor,
+        spot.parent,
+        kept.side,
+        was.tagged(),
+    ) else {
+        return false;
+    };
+    true
+}
+
+/// Appends these nodes, each with the label. It takes no memory.
+fn push_labelled(queue: &mut BlockQueue<Entry>, nodes: &[NodeId], label: u64)
+    requires room { length nodes.now ≤ queue.old.spare }
+    ensures items { queue.new.items ≡ queue.old.items ++ map (labelled_so label) nodes.now }
+    ensures spare { queue.new.spare + length nodes.now ≡ queue.old.spare }
+    ensures blocks { queue.new.blocks ≡ queue.old.blocks }
+{
+    if let Some((first, rest)) = nodes.split_first() {
+        queue.push_reserved(Entry {
+            node: *first,
+            label,
+        });
+        push_labelled(queue, rest, label);
+    }
+}
+
+/// A cleanup by a walk that ended at this spot with this chain, and whether it is won. Won: the chain from the successor down to the parent
+/// is cut off with the flagged leaf beside each of its nodes, labelled at once, and waits at the end of the queue. Lost: it has only looked, and
+/// tagged an edge. `splices` counts the worker's won splices, up to 2^64 - 1. It takes no memory. At most 3 steps for each node of the chain, and 8 more.
+/// (The cleanup of Natarajan and Mittal, section 3.2, for a whole chain.)
+pub fn cleanup(
+    shared: &Shared,
+    pass: &mut Pass,
+    spot: &Spot,
+    chain: &[ChainEdge],
+    nodes: &mut CutNodes,
+    queue: &mut BlockQueue<Entry>,
+    splices: &mut u64,
+) -> bool
+    requires own { IsOf shared.now pass.old }
+    requires run { IsInRun pass.old }
+    requires pinned { IsPinnedSomewhere pass.old }
+    requires at { IsAt (Tells pass.old) spot.now chain.now }
+    requires few { length chain.now ≤ 63 }
+    requires room { 128 ≤ queue.old.spare }
+    requires queue { IsQueueOf (knowledge pass.old.view) pass.old.view.number queue.old.items }
+    requires counted { splices.old ≡ capped (won_splices pass.old.view.log) }
+    ensures same { IsSamePass pass.old pass.new }
+    ensures won { result ≡ true → HasCleaned spot.now chain.now pass.old pass.new queue.old.items queue.new.items }
+    ensures lost { result ≡ false → HasCutNothing spot.now chain.now pass.old pass.new }
+    ensures untouched { result ≡ false → queue.new ≡ queue.old }
+    ensures queue { IsQueueOf (knowledge pass.new.view) pass.new.view.number queue.new.items }
+    ensures blocks { queue.new.blocks ≡ queue.old.blocks }
+    ensures on { GoesOn pass.old pass.new }
+    ensures only { OnlyCleans pass.old pass.new }
+    ensures steps { length pass.new.view.log ≤ length pass.old.view.log + 3 * length chain.now + 8 }
+    ensures counted { splices.new ≡ capped (won_splices pass.new.view.log) }
+{
+    if !cut_off(shared, pass, spot, chain, nodes) {
+        return false;
+    }
+    let epoch = label(shared, pass);
+    push_labelled(queue, nodes.as_slice(), epoch);
+    *splices = splices.saturating_add(1);
+    true
+}

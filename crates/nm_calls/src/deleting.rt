@@ -1,0 +1,509 @@
+//! Deletes.
+ghost use Rattle.std.specs.Prelude.{◌≡◌, ◌≢◌, ◌⊎◌, ◌<◌, ◌≤◌, ◌+◌, ◌*◌, length, true, false, None, IfOk, IfErr};
+ghost use Rattle.nm_model.specs.Memory.{infinity_0};
+ghost use Rattle.nm_model.specs.declared.event.Op.TheVariants.{Delete};
+ghost use Rattle.nm_order.specs.Facts.Fact.{KnowsSlot, IsFlagged, CallIs};
+ghost use Rattle.nm_steps.specs.Rules.{knowledge};
+ghost use Rattle.nm_steps.specs.Steps.{IsOf, IsSamePass};
+ghost use Rattle.nm_epoch.specs.Collecting.{IsQueueOf};
+ghost use Rattle.nm_epoch.specs.Resting.{IsResting, epochs, search};
+ghost use Rattle.nm_calls.specs.Telling.{Tells, GoesOn, IsInRun, IsPinnedSomewhere};
+ghost use Rattle.nm_calls.specs.Walks.{IsAt};
+ghost use Rattle.nm_calls.specs.Leaving.{ShowsAnswer};
+ghost use Rattle.nm_calls.specs.Marking.{OnlyFlags};
+ghost use Rattle.nm_calls.specs.Cleanups.{OnlyCleans, KeepsLedgers};
+ghost use Rattle.nm_calls.specs.Won.{won_splices, capped, HasWon, flags_of_delete};
+ghost use Rattle.nm_calls.specs.Deletes.{IsRemoving, Removes, RemovesNothing, IsRemoval, IfRemoved, MayFlag, HasFlagged, HasNotFlagged, IsFlagTry, ShowsFlag, OnlyInjects, IsInjection, ShowsInjection, RemovalAfter, leaf_of, DeleteFinishes, DeleteDid, AfterDelete, FinishDid};
+
+use crate::cleaning::{CutNodes, cleanup};
+use crate::inserting::{help, make_room};
+use crate::leaving::{answer, leave};
+use crate::looking::look_birth;
+use crate::marking::flag;
+use crate::spot::{Chain, End};
+use crate::walking::seek;
+use nm_edge::{Edge, Key, NodeId};
+use nm_epoch::{Entry, pin_for};
+use nm_limbo::BlockQueue;
+use nm_model::Op;
+use nm_steps::{Pass, Shared};
+
+/// What a try to flag a leaf came to.
+#[derive(Clone, Copy)]
+pub(crate) enum Injected {
+    /// The leaf has another key.
+    Absent,
+    /// The leaf at this end is flagged, with this birth.
+    Flagged(End, u64),
+    /// The walk was broken off, or the flag was lost.
+    Lost,
+}
+
+/// What the tries to flag a leaf came to.
+#[derive(Clone, Copy)]
+pub(crate) enum Injection {
+    /// The leaf has another key.
+    Absent,
+    /// The leaf at this end is flagged, with this birth, and so many tries are left.
+    Flagged(End, u64, u32),
+    /// The room of a try was refused.
+    Refused,
+    /// Each try was lost.
+    Spent,
+}
+
+/// Why a delete has not answered.
+#[derive(Clone, Copy, Debug, PartialEq, Eq)]
+pub enum Missed {
+    /// Each try was lost, those of the pin or those of the call, or there might be none.
+    Busy,
+    /// There was no memory for the room of a try.
+    NoMemory,
+    /// The worker has flagged this leaf, which is not known to be cut off, and stays pinned.
+    Unfinished(NodeId),
+}
+
+/// What tries to remove a flagged leaf came to.
+#[derive(Clone, Copy)]
+pub(crate) enum Removal {
+    /// The leaf is cut off.
+    Removed,
+    /// The room of a try was refused.
+    Refused,
+    /// Each try was lost.
+    Spent,
+}
+
+/// Whether the walk ended at that slot.
+fn leads_to(end: &End, slot: u32) -> bool
+    ensures yes { result ≡ true → end.now.spot.edge.slot ≡ slot }
+    ensures no { result ≡ false → end.now.spot.edge.slot ≢ slot }
+{
+    end.spot.edge.slot() == slot
+}
+
+/// One try to remove the leaf that the call has flagged: a walk, and a cleanup where it ends at that leaf still.
+fn try_remove(
+    shared: &Shared,
+    pass: &mut Pass,
+    key: u64,
+    leaf: NodeId,
+    chain: &mut Chain,
+    nodes: &mut CutNodes,
+    queue: &mut BlockQueue<Entry>,
+    splices: &mut u64,
+) -> bool
+    requires own { IsOf shared.now pass.old }
+    requires run { IsInRun pass.old }
+    requires removing { IsRemoving pass.old key leaf }
+    requires room { 128 ≤ queue.old.spare }
+    requires queue { IsQueueOf (knowledge pass.old.view) pass.old.view.number queue.old.items }
+    requires counted { splices.old ≡ capped (won_splices pass.old.view.log) }
+    ensures same { IsSamePass pass.old pass.new }
+    ensures removed { result ≡ true → Removes shared.now.layout.nodes key leaf pass.old.view.log pass.new.view.log }
+    ensures shows { result ≡ true → ShowsAnswer pass.new Delete key true }
+    ensures lost { result ≡ false → RemovesNothing shared.now.layout.nodes key leaf pass.old.view.log pass.new.view.log }
+    ensures on { GoesOn pass.old pass.new }
+    ensures only { OnlyCleans pass.old pass.new }
+    ensures queue { IsQueueOf (knowledge pass.new.view) pass.new.view.number queue.new.items }
+    ensures counted { splices.new ≡ capped (won_splices pass.new.view.log) }
+{
+    let Some(end) = seek(shared, pass, key, chain) else {
+        return false;
+    };
+    if !leads_to(&end, leaf.slot) {
+        return true;
+    }
+    cleanup(
+        shared,
+        pass,
+        &end.spot,
+        chain.as_slice(),
+        nodes,
+        queue,
+        splices,
+    )
+}
+
+/// Up to so many tries to remove the leaf that the call has flagged.
+fn remove(
+    shared: &Shared,
+    pass: &mut Pass,
+    key: u64,
+    leaf: NodeId,
+    tries: u32,
+    chain: &mut Chain,
+    nodes: &mut CutNodes,
+    queue: &mut BlockQueue<Entry>,
+    splices: &mut u64,
+) -> Removal
+    requires own { IsOf shared.now pass.old }
+    requires run { IsInRun pass.old }
+    requires removing { IsRemoving pass.old key leaf }
+    requires queue { IsQueueOf (knowledge pass.old.view) pass.old.view.number queue.old.items }
+    requires counted { splices.old ≡ capped (won_splices pass.old.view.log) }
+    ensures same { IsSamePass pass.old pass.new }
+    ensures part { IsRemoval shared.now.layout.nodes key leaf tries pass.old.view.log pass.new.view.log result }
+    ensures shows { IfRemoved result (ShowsAnswer pass.new Delete key true) }
+    ensures on { GoesOn pass.old pass.new }
+    ensures only { OnlyCleans pass.old pass.new }
+    ensures queue { IsQueueOf (knowledge pass.new.view) pass.new.view.number queue.new.items }
+    ensures counted { splices.new ≡ capped (won_splices pass.new.view.log) }
+{
+    for _round in 0..tries {
+        if !make_room(queue) {
+            return Removal::Refused;
+        }
+        if try_remove(shared, pass, key, leaf, chain, nodes, queue, splices) {
+            return Removal::Removed;
+        }
+    }
+    Removal::Spent
+}
+
+/// Looks at the birth of the leaf at which the walk ended, which won answers, and flags the edge to it. Lost: the edge that was found.
+fn flag_at(shared: &Shared, pass: &mut Pass, key: u64, end: &End) -> Result<u64, Edge>
+    requires own { IsOf shared.now pass.old }
+    requires run { IsInRun pass.old }
+    requires pinned { IsPinnedSomewhere pass.old }
+    requires may { MayFlag pass.old key end.now }
+    ensures same { IsSamePass pass.old pass.new }
+    ensures won { IfOk result (λ b. HasFlagged pass.old pass.new end.now b) }
+    ensures lost { IfErr result (λ e. HasNotFlagged pass.old pass.new end.now e) }
+    ensures on { GoesOn pass.old pass.new }
+    ensures only { OnlyFlags pass.old pass.new }
+{
+    let spot = end.spot;
+    let leaf = spot.edge.slot();
+    let birth = look_birth(shared, pass, leaf);
+    match flag(shared, pass, spot.parent, spot.side, leaf) {
+        Ok(()) => Ok(birth),
+        Err(found) => Err(found),
+    }
+}
+
+/// One try to flag the leaf with the key: a walk, and a flag where the leaf has the key, with at most one cleanup of help where it is lost.
+fn try_flag(
+    shared: &Shared,
+    pass: &mut Pass,
+    key: u64,
+    chain: &mut Chain,
+    nodes: &mut CutNodes,
+    queue: &mut BlockQueue<Entry>,
+    splices: &mut u64,
+) -> Injected
+    requires own { IsOf shared.now pass.old }
+    requires run { IsInRun pass.old }
+    requires pinned { IsPinnedSomewhere pass.old }
+    requires root { Tells pass.old (KnowsSlot 1) }
+    requires known { Tells pass.old (KnowsSlot 2) }
+    requires call { Tells pass.old (CallIs Delete key) }
+    requires low { key < infinity_0 }
+    requires unflagged { (search pass.old).flagged ≡ None }
+    requires room { 128 ≤ queue.old.spare }
+    requires queue { IsQueueOf (knowledge pass.old.view) pass.old.view.number queue.old.items }
+    requires counted { splices.old ≡ capped (won_splices pass.old.view.log) }
+    ensures same { IsSamePass pass.old pass.new }
+    ensures part { IsFlagTry shared.now.layout.nodes key chain.new.items pass.old.view.log pass.new.view.log result }
+    ensures shows { ShowsFlag key chain.new.items pass.old pass.new result }
+    ensures on { GoesOn pass.old pass.new }
+    ensures only { OnlyInjects pass.old pass.new }
+    ensures queue { IsQueueOf (knowledge pass.new.view) pass.new.view.number queue.new.items }
+    ensures counted { splices.new ≡ capped (won_splices pass.new.view.log) }
+{
+    let Some(end) = seek(shared, pass, key, chain) else {
+        return Injected::Lost;
+    };
+    if end.key != key {
+        return Injected::Absent;
+    }
+    match flag_at(shared, pass, key, &end) {
+        Ok(birth) => Injected::Flagged(end, birth),
+        Err(found) => {
+            help(
+                shared,
+                pass,
+                &end,
+                found,
+                chain.as_slice(),
+                nodes,
+                queue,
+                splices,
+            );
+            Injected::Lost
+        }
+    }
+}
+
+/// Up to so many tries to flag the leaf with the key.
+fn inject(
+    shared: &Shared,
+    pass: &mut Pass,
+    key: u64,
+    tries: u32,
+    chain: &mut Chain,
+    nodes: &mut CutNodes,
+    queue: &mut BlockQueue<Entry>,
+    splices: &mut u64,
+) -> Injection
+    requires own { IsOf shared.now pass.old }
+    requires run { IsInRun pass.old }
+    requires pinned { IsPinnedSomewhere pass.old }
+    requires root { Tells pass.old (KnowsSlot 1) }
+    requires known { Tells pass.old (KnowsSlot 2) }
+    requires call { Tells pass.old (CallIs Delete key) }
+    requires low { key < infinity_0 }
+    requires unflagged { (search pass.old).flagged ≡ None }
+    requires queue { IsQueueOf (knowledge pass.old.view) pass.old.view.number queue.old.items }
+    requires counted { splices.old ≡ capped (won_splices pass.old.view.log) }
+    ensures same { IsSamePass pass.old pass.new }
+    ensures part { IsInjection shared.now.layout.nodes key tries chain.new.items pass.old.view.log pass.new.view.log result }
+    ensures shows { ShowsInjection key chain.new.items pass.new result }
+    ensures on { GoesOn pass.old pass.new }
+    ensures only { OnlyInjects pass.old pass.new }
+    ensures queue { IsQueueOf (knowledge pass.new.view) pass.new.view.number queue.new.items }
+    ensures counted { splices.new ≡ capped (won_splices pass.new.view.log) }
+{
+    for round in 0..tries {
+        if !make_room(queue) {
+            return Injection::Refused;
+        }
+        match try_flag(shared, pass, key, chain, nodes, queue, splices) {
+            Injected::Absent => return Injection::Absent,
+            Injected::Flagged(end, birth) => {
+                return Injection::Flagged(end, birth, tries - round - 1);
+            }
+            Injected::Lost => {}
+        }
+    }
+    Injection::Spent
+}
+
+/// Tries to remove the leaf that was flagged at the end of a walk: first by a cleanup by that walk.
+fn remove_after(
+    shared: &Shared,
+    pass: &mut Pass,
+    key: u64,
+    end: &End,
+    birth: u64,
+    left: u32,
+    chain: &mut Chain,
+    nodes: &mut CutNodes,
+    queue: &mut BlockQueue<Entry>,
+    splices: &mut u64,
+) -> Removal
+    requires own { IsOf shared.now pass.old }
+    requires run { IsInRun pass.old }
+    requires removing { IsRemoving pass.old key (leaf_of end.now birth) }
+    requires edge { Tells pass.old (IsFlagged end.now.spot.parent end.now.spot.side end.now.spot.edge.slot) }
+    requires at { IsAt (Tells pass.old) end.now.spot chain.old.items }
+    requires few { length chain.old.items ≤ 63 }
+    requires queue { IsQueueOf (knowledge pass.old.view) pass.old.view.number queue.old.items }
+    requires counted { splices.old ≡ capped (won_splices pass.old.view.log) }
+    ensures same { IsSamePass pass.old pass.new }
+    ensures part { RemovalAfter shared.now.layout.nodes key end.now chain.old.items birth left pass.old.view.log pass.new.view.log result }
+    ensures shows { IfRemoved result (ShowsAnswer pass.new Delete key true) }
+    ensures on { GoesOn pass.old pass.new }
+    ensures only { OnlyCleans pass.old pass.new }
+    ensures queue { IsQueueOf (knowledge pass.new.view) pass.new.view.number queue.new.items }
+    ensures counted { splices.new ≡ capped (won_splices pass.new.view.log) }
+{
+    if left == 0 {
+        return Removal::Spent;
+    }
+    if !make_room(queue) {
+        return Removal::Refused;
+    }
+    if cleanup(
+        shared,
+        pass,
+        &end.spot,
+        chain.as_slice(),
+        nodes,
+        queue,
+        splices,
+    ) {
+        return Removal::Removed;
+    }
+    let leaf = leaf_at(end, birth);
+    remove(
+        shared,
+        pass,
+        key,
+        leaf,
+        left - 1,
+        chain,
+        nodes,
+        queue,
+        splices,
+    )
+}
+
+/// The leaf at which a walk ended, with its birth.
+fn leaf_at(end: &End, birth: u64) -> NodeId
+    ensures { result ≡ leaf_of end.now birth }
+{
+    NodeId {
+        slot: end.spot.edge.slot(),
+        birth,
+    }
+}
+
+/// The tries of a delete, from its pin to its answer.
+fn delete_pinned(
+    shared: &Shared,
+    pass: &mut Pass,
+    key: u64,
+    tries: u32,
+    queue: &mut BlockQueue<Entry>,
+    splices: &mut u64,
+) -> Result<bool, Missed>
+    requires own { IsOf shared.now pass.old }
+    requires run { IsInRun pass.old }
+    requires pinned { IsPinnedSomewhere pass.old }
+    requires root { Tells pass.old (KnowsSlot 1) }
+    requires known { Tells pass.old (KnowsSlot 2) }
+    requires call { Tells pass.old (CallIs Delete key) }
+    requires low { key < infinity_0 }
+    requires labelled { (epochs pass.old).unlabelled ≡ false }
+    requires unlinked { (search pass.old).linked ≡ false }
+    requires unflagged { (search pass.old).flagged ≡ None }
+    requires queue { IsQueueOf (knowledge pass.old.view) pass.old.view.number queue.old.items }
+    requires counted { splices.old ≡ capped (won_splices pass.old.view.log) }
+    ensures same { IsSamePass pass.old pass.new }
+    ensures part { DeleteFinishes shared.now.layout.nodes tries key pass.old.view.log pass.new.view.log result }
+    ensures run { IsInRun pass.new }
+    ensures after { AfterDelete key pass.new result }
+    ensures private { (knowledge pass.new.view).drafts ≡ (knowledge pass.old.view).drafts }
+    ensures queue { IsQueueOf (knowledge pass.new.view) pass.new.view.number queue.new.items }
+    ensures ledgers { KeepsLedgers pass.old pass.new }
+    ensures counted { splices.new ≡ capped (won_splices pass.new.view.log) }
+{
+    let mut chain = Chain::new();
+    let mut nodes = CutNodes::new();
+    match inject(
+        shared, pass, key, tries, &mut chain, &mut nodes, queue, splices,
+    ) {
+        Injection::Absent => {
+            answer(shared, pass, false);
+            Ok(false)
+        }
+        Injection::Refused => {
+            leave(shared, pass);
+            Err(Missed::NoMemory)
+        }
+        Injection::Spent => {
+            leave(shared, pass);
+            Err(Missed::Busy)
+        }
+        Injection::Flagged(end, birth, left) => {
+            let leaf = leaf_at(&end, birth);
+            match remove_after(
+                shared, pass, key, &end, birth, left, &mut chain, &mut nodes, queue, splices,
+            ) {
+                Removal::Removed => {
+                    answer(shared, pass, true);
+                    Ok(true)
+                }
+                Removal::Refused => Err(Missed::Unfinished(leaf)),
+                Removal::Spent => Err(Missed::Unfinished(leaf)),
+            }
+        }
+    }
+}
+
+/// Deletes a key, and answers whether it was in the set. The worker rests before; it rests after, but where the leaf with the key is
+/// flagged and not known to be cut off: then it stays pinned for that leaf. Its queue is the one of its log before and after.
+///
+/// At most `tries` * (4 `nodes` + 512) + 6 `nodes` + 10 steps. `Ok(true)` and `Unfinished`: just one flag was won, and no link; else
+/// neither. `splices` counts the worker's won splices, up to 2^64 - 1.
+/// (The delete of Natarajan and Mittal, section 3.2.)
+pub fn delete(
+    shared: &Shared,
+    pass: &mut Pass,
+    key: Key,
+    tries: u32,
+    queue: &mut BlockQueue<Entry>,
+    splices: &mut u64,
+) -> Result<bool, Missed>
+    requires own { IsOf shared.now pass.old }
+    requires rests { IsResting pass.old }
+    requires queue { IsQueueOf (knowledge pass.old.view) pass.old.view.number queue.old.items }
+    requires few { length queue.old.items ≤ shared.now.layout.nodes }
+    requires counted { splices.old ≡ capped (won_splices pass.old.view.log) }
+    ensures same { IsSamePass pass.old pass.new }
+    ensures did { DeleteDid shared.now.layout.nodes tries key pass.old.view.log pass.new.view.log result }
+    ensures won { HasWon pass.old.view.log pass.new.view.log 0 (flags_of_delete result) }
+    ensures steps { length pass.new.view.log ≤ length pass.old.view.log + tries * (4 * shared.now.layout.nodes + 8 * 64) + 6 * shared.now.layout.nodes + 10 }
+    ensures run { (pass.new ≡ pass.old) ⊎ IsInRun pass.new }
+    ensures after { AfterDelete key pass.new result }
+    ensures private { (knowledge pass.new.view).drafts ≡ (knowledge pass.old.view).drafts }
+    ensures queue { IsQueueOf (knowledge pass.new.view) pass.new.view.number queue.new.items }
+    ensures few { length queue.new.items ≤ shared.now.layout.nodes }
+    ensures ledgers { KeepsLedgers pass.old pass.new }
+    ensures counted { splices.new ≡ capped (won_splices pass.new.view.log) }
+{
+    if tries == 0 {
+        return Err(Missed::Busy);
+    }
+    pass.is_of_a_run();
+    if !make_room(queue) {
+        return Err(Missed::NoMemory);
+    }
+    let Ok(_epoch) = pin_for(shared, pass, tries, Op::Delete, key) else {
+        return Err(Missed::Busy);
+    };
+    delete_pinned(shared, pass, key.get(), tries, queue, splices)
+}
+
+/// Goes on to remove the leaf that the worker has flagged: whether it is cut off, and the worker rests. Else it stays pinned.
+/// At most `tries` * (4 `nodes` + 512) + 6 `nodes` + 10 steps; no link and no flag is won. `splices` counts the worker's won splices, up to
+/// 2^64 - 1.
+pub fn finish(
+    shared: &Shared,
+    pass: &mut Pass,
+    key: Key,
+    leaf: NodeId,
+    tries: u32,
+    queue: &mut BlockQueue<Entry>,
+    splices: &mut u64,
+) -> bool
+    requires own { IsOf shared.now pass.old }
+    requires run { IsInRun pass.old }
+    requires removing { IsRemoving pass.old key leaf }
+    requires queue { IsQueueOf (knowledge pass.old.view) pass.old.view.number queue.old.items }
+    requires counted { splices.old ≡ capped (won_splices pass.old.view.log) }
+    ensures same { IsSamePass pass.old pass.new }
+    ensures did { FinishDid shared.now.layout.nodes key leaf tries pass.old.view.log pass.new.view.log result }
+    ensures won { HasWon pass.old.view.log pass.new.view.log 0 0 }
+    ensures steps { length pass.new.view.log ≤ length pass.old.view.log + tries * (4 * shared.now.layout.nodes + 8 * 64) + 6 * shared.now.layout.nodes + 10 }
+    ensures run { IsInRun pass.new }
+    ensures rests { result ≡ true → IsResting pass.new }
+    ensures removing { result ≡ false → IsRemoving pass.new key leaf }
+    ensures private { (knowledge pass.new.view).drafts ≡ (knowledge pass.old.view).drafts }
+    ensures ledgers { KeepsLedgers pass.old pass.new }
+    ensures queue { IsQueueOf (knowledge pass.new.view) pass.new.view.number queue.new.items }
+    ensures few { length queue.new.items ≤ shared.now.layout.nodes }
+    ensures counted { splices.new ≡ capped (won_splices pass.new.view.log) }
+{
+    let mut chain = Chain::new();
+    let mut nodes = CutNodes::new();
+    match remove(
+        shared,
+        pass,
+        key.get(),
+        leaf,
+        tries,
+        &mut chain,
+        &mut nodes,
+        queue,
+        splices,
+    ) {
+        Removal::Removed => {
+            answer(shared, pass, true);
+            true
+        }
+        Removal::Refused => false,
+        Removal::Spent => false,
+    }
+}

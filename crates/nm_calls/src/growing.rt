@@ -1,0 +1,116 @@
+//! The two new nodes of an insert: claimed, filled and linked, or given back.
+ghost use Rattle.std.specs.Prelude.{◌≡◌, ◌≢◌, None, IfOk, IfErr};
+ghost use Rattle.nm_steps.specs.Steps.{IsOf, IsSamePass, Stand};
+ghost use Rattle.nm_calls.specs.Telling.{GoesOn, IsInRun, IsPinnedSomewhere};
+ghost use Rattle.nm_calls.specs.Making.{OnlyMakes};
+ghost use Rattle.nm_calls.specs.Inserts.{ClaimsFork, HasFork, IfReady, Returns, inner_of, MayGrow, KeepsCall, HasGrown, HasNotGrown};
+
+use crate::making::{claim, fill, give, link};
+use crate::spot::End;
+use nm_edge::{Edge, NodeId};
+use nm_steps::{Pass, Shared};
+
+/// Two private nodes: a new internal node, and a new leaf to stand below it.
+#[derive(Clone, Copy, Debug, PartialEq, Eq)]
+pub struct Fork {
+    pub new: NodeId,
+    pub fresh: NodeId,
+}
+
+/// What a new internal node has.
+#[derive(Clone, Copy)]
+pub(crate) struct Inner {
+    pub(crate) key: u64,
+    pub(crate) left: u32,
+    pub(crate) right: u32,
+}
+
+/// Claims an internal node and then a leaf. `None`: one of the claims answered nothing, and nothing is kept.
+pub(crate) fn claim_fork(shared: &Shared, pass: &mut Pass) -> Option<Fork>
+    requires own { IsOf shared.now pass.old }
+    requires run { IsInRun pass.old }
+    ensures same { IsSamePass pass.old pass.new }
+    ensures part { ClaimsFork shared.now.layout.nodes pass.old.view.log pass.new.view.log result }
+    ensures on { GoesOn pass.old pass.new }
+    ensures only { OnlyMakes pass.old pass.new }
+    ensures has { HasFork pass.old pass.new result }
+{
+    let Some(new) = claim(shared, pass) else {
+        return None;
+    };
+    let Some(fresh) = claim(shared, pass) else {
+        give(shared, pass, new);
+        return None;
+    };
+    Some(Fork { new, fresh })
+}
+
+/// The new internal node over a leaf with key `other` and a new leaf with another key.
+fn node_over(key: u64, other: u64, leaf: u32, fresh: u32) -> Inner
+    ensures { result ≡ inner_of key other leaf fresh }
+{
+    if key < other {
+        Inner {
+            key: other,
+            left: fresh,
+            right: leaf,
+        }
+    } else {
+        Inner {
+            key,
+            left: leaf,
+            right: fresh,
+        }
+    }
+}
+
+/// Fills both new nodes, and links them in the place of the leaf at which the walk ended. Lost: the edge that was found.
+pub(crate) fn grow(
+    shared: &Shared,
+    pass: &mut Pass,
+    key: u64,
+    end: &End,
+    fork: &Fork,
+) -> Result<(), Edge>
+    requires own { IsOf shared.now pass.old }
+    requires run { IsInRun pass.old }
+    requires pinned { IsPinnedSomewhere pass.old }
+    requires may { MayGrow pass.old key end.now fork.now }
+    ensures same { IsSamePass pass.old pass.new }
+    ensures on { GoesOn pass.old pass.new }
+    ensures call { KeepsCall pass.old pass.new }
+    ensures won { IfOk result (λ _. HasGrown pass.old pass.new key end.now fork.now) }
+    ensures lost { IfErr result (λ e. HasNotGrown pass.old pass.new key end.now fork.now e) }
+{
+    let spot = end.spot;
+    let leaf = spot.edge.slot();
+    let node = node_over(key, end.key, leaf, fork.fresh.slot);
+    fill(shared, pass, fork.new.slot, node.key, node.left, node.right);
+    fill(shared, pass, fork.fresh.slot, key, 0, 0);
+    link(
+        shared,
+        pass,
+        spot.parent,
+        spot.side,
+        leaf,
+        fork.new.slot,
+        fork.fresh.slot,
+    )
+}
+
+/// Gives both nodes back, the internal one first.
+pub(crate) fn give_back(shared: &Shared, pass: &mut Pass, fork: &Option<Fork>)
+    requires own { IsOf shared.now pass.old }
+    requires run { IsInRun pass.old }
+    requires ready { IfReady pass.old fork.now }
+    ensures part { Returns fork.now pass.old.view.log pass.new.view.log }
+    ensures given { (o : Stand) → HasFork o pass.old fork.now → HasFork o pass.new None }
+    ensures same { IsSamePass pass.old pass.new }
+    ensures on { GoesOn pass.old pass.new }
+    ensures only { OnlyMakes pass.old pass.new }
+{
+    if let Some(made) = fork {
+        give(shared, pass, made.new);
+        give(shared, pass, made.fresh);
+    }
+}

@@ -1,0 +1,284 @@
+//! Inserts.
+ghost use Rattle.std.specs.Prelude.{◌≡◌, ◌⊎◌, ◌≤◌, ◌+◌, ◌*◌, true, false, length, None};
+ghost use Rattle.nm_model.specs.declared.event.Op.TheVariants.{Insert};
+ghost use Rattle.nm_order.specs.Facts.Fact.{KnowsSlot, CallIs};
+ghost use Rattle.nm_steps.specs.Rules.{knowledge};
+ghost use Rattle.nm_steps.specs.Steps.{IsOf, IsSamePass, Stand};
+ghost use Rattle.nm_epoch.specs.Collecting.{IsQueueOf};
+ghost use Rattle.nm_epoch.specs.Resting.{IsResting, epochs, search};
+ghost use Rattle.nm_calls.specs.Telling.{Tells, GoesOn, IsInRun, IsPinnedSomewhere};
+ghost use Rattle.nm_calls.specs.Walks.{IsAt};
+ghost use Rattle.nm_calls.specs.Making.{OnlyMakes};
+ghost use Rattle.nm_calls.specs.Cleanups.{OnlyCleans, KeepsLedgers};
+ghost use Rattle.nm_calls.specs.Won.{won_splices, capped, HasWon, links_of_insert};
+ghost use Rattle.nm_calls.specs.Inserts.{HasFork, Helps, asks_help, IsReadied, IsTry, OnlyTries, ShowsTry, Finishes, InsertDid};
+
+use crate::cleaning::{CutNodes, cleanup};
+use crate::growing::{Fork, claim_fork, give_back, grow};
+use crate::leaving::{answer, leave};
+use crate::spot::{Chain, ChainEdge, End};
+use crate::walking::seek;
+use nm_edge::{Edge, Key};
+use nm_epoch::{Entry, pin_for};
+use nm_limbo::BlockQueue;
+use nm_model::Op;
+use nm_steps::{Pass, Shared};
+
+/// Why a call has not answered.
+#[derive(Clone, Copy, Debug, PartialEq, Eq)]
+pub enum Fault {
+    /// Each try was lost, those of the pin or those of the call, or there might be none.
+    Busy,
+    /// No two slots were free for new nodes.
+    Full,
+    /// There was no memory for the room of a try.
+    NoMemory,
+}
+
+/// What a try of an insert came to.
+#[derive(Clone, Copy)]
+pub(crate) enum Attempt {
+    /// The leaf has the key.
+    Found,
+    /// A new leaf with the key is linked.
+    Linked,
+    /// No two slots were claimed.
+    Full,
+    /// The walk was broken off, or the link was lost.
+    Lost,
+}
+
+/// The two new nodes, which are claimed where there are none.
+fn ready(shared: &Shared, pass: &mut Pass, fork: &mut Option<Fork>) -> Option<Fork>
+    requires own { IsOf shared.now pass.old }
+    requires run { IsInRun pass.old }
+    ensures same { IsSamePass pass.old pass.new }
+    ensures part { IsReadied shared.now.layout.nodes fork.old fork.new result pass.old.view.log pass.new.view.log }
+    ensures on { GoesOn pass.old pass.new }
+    ensures only { OnlyMakes pass.old pass.new }
+    ensures has { (o : Stand) → HasFork o pass.old fork.old → HasFork o pass.new fork.new }
+{
+    if let Some(made) = *fork {
+        return Some(made);
+    }
+    let made = claim_fork(shared, pass);
+    *fork = made;
+    made
+}
+
+/// Whether the edge that was found leads to the leaf at which the walk ended and is marked.
+fn asks_help(end: &End, found: Edge) -> bool
+    ensures { result ≡ asks_help end.now found }
+{
+    found.slot() == end.spot.edge.slot() && (found.flag() || found.tag())
+}
+
+/// Cleans up by the walk, where the edge that a lost exchange found leads to the same leaf and is marked.
+pub(crate) fn help(
+    shared: &Shared,
+    pass: &mut Pass,
+    end: &End,
+    found: Edge,
+    chain: &[ChainEdge],
+    nodes: &mut CutNodes,
+    queue: &mut BlockQueue<Entry>,
+    splices: &mut u64,
+)
+    requires own { IsOf shared.now pass.old }
+    requires run { IsInRun pass.old }
+    requires pinned { IsPinnedSomewhere pass.old }
+    requires at { IsAt (Tells pass.old) end.now.spot chain.now }
+    requires few { length chain.now ≤ 63 }
+    requires room { 128 ≤ queue.old.spare }
+    requires queue { IsQueueOf (knowledge pass.old.view) pass.old.view.number queue.old.items }
+    requires counted { splices.old ≡ capped (won_splices pass.old.view.log) }
+    ensures same { IsSamePass pass.old pass.new }
+    ensures part { Helps end.now chain.now found pass.old.view.log pass.new.view.log }
+    ensures on { GoesOn pass.old pass.new }
+    ensures only { OnlyCleans pass.old pass.new }
+    ensures queue { IsQueueOf (knowledge pass.new.view) pass.new.view.number queue.new.items }
+    ensures blocks { queue.new.blocks ≡ queue.old.blocks }
+    ensures counted { splices.new ≡ capped (won_splices pass.new.view.log) }
+{
+    if asks_help(end, found) {
+        let _ = cleanup(shared, pass, &end.spot, chain, nodes, queue, splices);
+    }
+}
+
+/// One try of an insert: a walk, and a link where the leaf has another key, with at most one cleanup of help where the link is lost.
+fn try_insert(
+    shared: &Shared,
+    pass: &mut Pass,
+    key: u64,
+    chain: &mut Chain,
+    nodes: &mut CutNodes,
+    fork: &mut Option<Fork>,
+    queue: &mut BlockQueue<Entry>,
+    splices: &mut u64,
+) -> Attempt
+    requires own { IsOf shared.now pass.old }
+    requires run { IsInRun pass.old }
+    requires pinned { IsPinnedSomewhere pass.old }
+    requires root { Tells pass.old (KnowsSlot 1) }
+    requires known { Tells pass.old (KnowsSlot 2) }
+    requires call { Tells pass.old (CallIs Insert key) }
+    requires unlinked { (search pass.old).linked ≡ false }
+    requires room { 128 ≤ queue.old.spare }
+    requires queue { IsQueueOf (knowledge pass.old.view) pass.old.view.number queue.old.items }
+    requires fork { (o : Stand) × HasFork o pass.old fork.old }
+    requires counted { splices.old ≡ capped (won_splices pass.old.view.log) }
+    ensures same { IsSamePass pass.old pass.new }
+    ensures part { IsTry shared.now.layout.nodes key fork.old fork.new pass.old.view.log pass.new.view.log result }
+    ensures on { GoesOn pass.old pass.new }
+    ensures only { OnlyTries pass.old pass.new }
+    ensures shows { ShowsTry key pass.old pass.new result }
+    ensures has { (o : Stand) → HasFork o pass.old fork.old → HasFork o pass.new fork.new }
+    ensures queue { IsQueueOf (knowledge pass.new.view) pass.new.view.number queue.new.items }
+    ensures blocks { queue.new.blocks ≡ queue.old.blocks }
+    ensures counted { splices.new ≡ capped (won_splices pass.new.view.log) }
+{
+    let Some(end) = seek(shared, pass, key, chain) else {
+        return Attempt::Lost;
+    };
+    if end.key == key {
+        return Attempt::Found;
+    }
+    let Some(made) = ready(shared, pass, fork) else {
+        return Attempt::Full;
+    };
+    match grow(shared, pass, key, &end, &made) {
+        Ok(()) => {
+            *fork = None;
+            Attempt::Linked
+        }
+        Err(found) => {
+            help(
+                shared,
+                pass,
+                &end,
+                found,
+                chain.as_slice(),
+                nodes,
+                queue,
+                splices,
+            );
+            Attempt::Lost
+        }
+    }
+}
+
+/// Makes room for what a cleanup cuts off. False: there was no memory.
+pub(crate) fn make_room(queue: &mut BlockQueue<Entry>) -> bool
+    requires few { length queue.old.items ≤ 2097152 }
+    ensures items { queue.new.items ≡ queue.old.items }
+    ensures room { result ≡ true → 128 ≤ queue.new.spare }
+{
+    queue.reserve(128).is_ok()
+}
+
+/// The tries of an insert, from its pin to its answer.
+fn insert_pinned(
+    shared: &Shared,
+    pass: &mut Pass,
+    key: u64,
+    tries: u32,
+    queue: &mut BlockQueue<Entry>,
+    splices: &mut u64,
+) -> Result<bool, Fault>
+    requires own { IsOf shared.now pass.old }
+    requires run { IsInRun pass.old }
+    requires pinned { IsPinnedSomewhere pass.old }
+    requires root { Tells pass.old (KnowsSlot 1) }
+    requires known { Tells pass.old (KnowsSlot 2) }
+    requires call { Tells pass.old (CallIs Insert key) }
+    requires labelled { (epochs pass.old).unlabelled ≡ false }
+    requires unlinked { (search pass.old).linked ≡ false }
+    requires unflagged { (search pass.old).flagged ≡ None }
+    requires queue { IsQueueOf (knowledge pass.old.view) pass.old.view.number queue.old.items }
+    requires counted { splices.old ≡ capped (won_splices pass.old.view.log) }
+    ensures same { IsSamePass pass.old pass.new }
+    ensures part { Finishes shared.now.layout.nodes tries key pass.old.view.log pass.new.view.log result }
+    ensures run { IsInRun pass.new }
+    ensures rests { IsResting pass.new }
+    ensures private { HasFork pass.old pass.new None }
+    ensures queue { IsQueueOf (knowledge pass.new.view) pass.new.view.number queue.new.items }
+    ensures ledgers { KeepsLedgers pass.old pass.new }
+    ensures counted { splices.new ≡ capped (won_splices pass.new.view.log) }
+{
+    let mut chain = Chain::new();
+    let mut nodes = CutNodes::new();
+    let mut fork: Option<Fork> = None;
+    for _round in 0..tries {
+        if !make_room(queue) {
+            give_back(shared, pass, &fork);
+            leave(shared, pass);
+            return Err(Fault::NoMemory);
+        }
+        match try_insert(
+            shared, pass, key, &mut chain, &mut nodes, &mut fork, queue, splices,
+        ) {
+            Attempt::Found => {
+                give_back(shared, pass, &fork);
+                answer(shared, pass, false);
+                return Ok(false);
+            }
+            Attempt::Linked => {
+                answer(shared, pass, true);
+                return Ok(true);
+            }
+            Attempt::Full => {
+                leave(shared, pass);
+                return Err(Fault::Full);
+            }
+            Attempt::Lost => {}
+        }
+    }
+    give_back(shared, pass, &fork);
+    leave(shared, pass);
+    Err(Fault::Busy)
+}
+
+/// Inserts a key, and answers whether it was not in the set. The worker rests before and after, with the same private slots; its queue
+/// is the one of its log before and after, with no more entries than there are nodes. `Err`: nothing of this call stands but help given to others.
+///
+/// A try is a walk with its answer, or a link with at most one cleanup of help. Room for a cleanup is made before each try, and no other
+/// memory is taken. At most `tries` * (4 `nodes` + 512) + 6 `nodes` + 10 steps. `Ok(true)`: just one link was won, and no flag; else neither.
+/// `splices` counts the worker's won splices, up to 2^64 - 1.
+/// (The insert of Natarajan and Mittal, section 3.2.)
+pub fn insert(
+    shared: &Shared,
+    pass: &mut Pass,
+    key: Key,
+    tries: u32,
+    queue: &mut BlockQueue<Entry>,
+    splices: &mut u64,
+) -> Result<bool, Fault>
+    requires own { IsOf shared.now pass.old }
+    requires rests { IsResting pass.old }
+    requires queue { IsQueueOf (knowledge pass.old.view) pass.old.view.number queue.old.items }
+    requires few { length queue.old.items ≤ shared.now.layout.nodes }
+    requires counted { splices.old ≡ capped (won_splices pass.old.view.log) }
+    ensures same { IsSamePass pass.old pass.new }
+    ensures did { InsertDid shared.now.layout.nodes tries key pass.old.view.log pass.new.view.log result }
+    ensures won { HasWon pass.old.view.log pass.new.view.log (links_of_insert result) 0 }
+    ensures steps { length pass.new.view.log ≤ length pass.old.view.log + tries * (4 * shared.now.layout.nodes + 8 * 64) + 6 * shared.now.layout.nodes + 10 }
+    ensures run { (pass.new ≡ pass.old) ⊎ IsInRun pass.new }
+    ensures rests { IsResting pass.new }
+    ensures private { HasFork pass.old pass.new None }
+    ensures queue { IsQueueOf (knowledge pass.new.view) pass.new.view.number queue.new.items }
+    ensures few { length queue.new.items ≤ shared.now.layout.nodes }
+    ensures ledgers { KeepsLedgers pass.old pass.new }
+    ensures counted { splices.new ≡ capped (won_splices pass.new.view.log) }
+{
+    if tries == 0 {
+        return Err(Fault::Busy);
+    }
+    pass.is_of_a_run();
+    if !make_room(queue) {
+        return Err(Fault::NoMemory);
+    }
+    let Ok(_epoch) = pin_for(shared, pass, tries, Op::Insert, key) else {
+        return Err(Fault::Busy);
+    };
+    insert_pinned(shared, pass, key.get(), tries, queue, splices)
+}

@@ -1,0 +1,55 @@
+//! Answers of a call, and the label of a cut, asked for by what the log tells.
+ghost use Rattle.std.specs.Prelude.{◌≡◌, false, true, None};
+ghost use Rattle.nm_model.specs.declared.event.Event.TheVariants.{Sight, Leave, LeaveWith};
+ghost use Rattle.nm_model.specs.declared.reply.Reply.TheVariants.{Labelled, Departed};
+ghost use Rattle.nm_steps.specs.Rules.{knowledge};
+ghost use Rattle.nm_steps.specs.Steps.{IsOf, Stepped};
+ghost use Rattle.nm_epoch.specs.Resting.{IsResting, KeepsHands, epochs, search};
+ghost use Rattle.nm_epoch.specs.Collecting.{TakesLabels};
+ghost use Rattle.nm_calls.specs.Telling.{GoesOn, IsInRun};
+ghost use Rattle.nm_calls.specs.Leaving.{IsAnswer, OnlyLabels};
+
+use nm_epoch::{label as label_cut, unpin, unpin_with};
+use nm_steps::{Pass, Shared};
+
+/// Leaves the pin without an answer: of a call that has linked nothing and flagged nothing. One step.
+pub fn leave(shared: &Shared, pass: &mut Pass)
+    requires own { IsOf shared.now pass.old }
+    requires labelled { (epochs pass.old).unlabelled ≡ false }
+    requires unlinked { (search pass.old).linked ≡ false }
+    requires unflagged { (search pass.old).flagged ≡ None }
+    ensures step { Stepped pass.old pass.new Leave Departed }
+    ensures run { IsInRun pass.new }
+    ensures rests { IsResting pass.new }
+    ensures hands { KeepsHands pass.old pass.new }
+{
+    unpin(shared, pass);
+}
+
+/// Leaves the pin with the answer of its call, which the log shows. One step.
+pub fn answer(shared: &Shared, pass: &mut Pass, answer: bool)
+    requires own { IsOf shared.now pass.old }
+    requires labelled { (epochs pass.old).unlabelled ≡ false }
+    requires shown { IsAnswer pass.old answer }
+    ensures step { Stepped pass.old pass.new (LeaveWith answer) Departed }
+    ensures run { IsInRun pass.new }
+    ensures rests { IsResting pass.new }
+    ensures hands { KeepsHands pass.old pass.new }
+{
+    unpin_with(shared, pass, answer);
+}
+
+/// Labels the nodes that the worker's last splice cut, by the epoch, which it reads and answers. One step.
+pub fn label(shared: &Shared, pass: &mut Pass) -> u64
+    requires own { IsOf shared.now pass.old }
+    requires run { IsInRun pass.old }
+    requires cut { (epochs pass.old).unlabelled ≡ true }
+    ensures step { Stepped pass.old pass.new Sight (Labelled result) }
+    ensures on { GoesOn pass.old pass.new }
+    ensures only { OnlyLabels result pass.old pass.new }
+    ensures queues { TakesLabels result (knowledge pass.old.view) (knowledge pass.new.view) }
+{
+    let epoch = label_cut(shared, pass);
+    pass.is_of_a_run();
+    epoch
+}

@@ -1,0 +1,30 @@
+//! The set: an external search tree that threads share without locks (Natarajan and Mittal, PPoPP 2014).
+#![tactic(auto)]
+
+mod cleaning;
+mod cutting;
+mod deleting;
+mod growing;
+mod inserting;
+mod leaving;
+mod looking;
+mod lookup;
+mod making;
+mod marking;
+mod spot;
+#[cfg(test)]
+mod tests;
+mod walking;
+
+pub use cleaning::{CutNodes, cleanup};
+pub use cutting::{Kept, choose, freeze};
+pub use deleting::{Missed, delete, finish};
+pub use growing::Fork;
+pub use inserting::{Fault, insert};
+pub use leaving::{answer, label, leave};
+pub use looking::{look_birth, look_edge, look_key};
+pub use lookup::{Busy, has};
+pub use making::{claim, fill, give, link};
+pub use marking::{flag, splice, tag};
+pub use spot::{Chain, ChainEdge, End, Spot};
+pub use walking::{find, seek};

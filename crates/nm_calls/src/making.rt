@@ -1,0 +1,106 @@
+//! New nodes: filled in private slots, and linked into the tree.
+ghost use Rattle.std.specs.Prelude.{◌≡◌, ◌+◌, ◌*◌, ◌≤◌, false, length, Some, IsSome, IfSome, IfOk, IfErr};
+ghost use Rattle.nm_model.specs.declared.event.Event.TheVariants.{Give};
+ghost use Rattle.nm_model.specs.declared.reply.Reply.TheVariants.{Returned};
+ghost use Rattle.nm_model.specs.Knowledge.{is_private};
+ghost use Rattle.nm_model.specs.Maps.{get};
+ghost use Rattle.nm_order.specs.Facts.Fact.{KnowsSlot, KnowsLeaf};
+ghost use Rattle.nm_order.specs.Hands.{IsPooled};
+ghost use Rattle.nm_order.specs.Told.{IsNew};
+ghost use Rattle.nm_pool.specs.Claims.{IsClaim, IsNewNode};
+ghost use Rattle.nm_pool.specs.Takes.{LearnsSlots};
+ghost use Rattle.nm_steps.specs.Rules.{knowledge};
+ghost use Rattle.nm_steps.specs.Steps.{IsOf, IsSamePass, Stepped};
+ghost use Rattle.nm_calls.specs.Telling.{Tells, GoesOn, IsInRun, IsPinnedSomewhere};
+ghost use Rattle.nm_calls.specs.Making.{draft, KeepsOthers, KeepsAllBut, OnlyMakes, with_node, HasFilled, IsInserting, HasLinked, HasLost};
+
+use nm_edge::{Edge, NodeId, Side};
+use nm_steps::{Pass, Shared};
+
+/// Takes a slot out of the pool to be a new node, with its birth raised by one: the lowest that it finds there with a birth below 2^62.
+///
+/// `Some(node)`: the slot is private to the worker, which had it nowhere before; its birth is stored there, and nothing else is.
+/// At most three steps a slot.
+pub fn claim(shared: &Shared, pass: &mut Pass) -> Option<NodeId>
+    requires own { IsOf shared.now pass.old }
+    requires run { IsInRun pass.old }
+    ensures same { IsSamePass pass.old pass.new }
+    ensures part { IsClaim shared.now.layout.nodes pass.old.view.log pass.new.view.log result }
+    ensures steps { length pass.new.view.log ≤ length pass.old.view.log + 3 * shared.now.layout.nodes }
+    ensures on { GoesOn pass.old pass.new }
+    ensures made { IfSome result (IsNewNode (knowledge pass.new.view)) }
+    ensures pooled { IfSome result (λ node. IsPooled pass.new.view.layout node.slot) }
+    ensures new { IfSome result (λ node. IsNew pass.old.view.layout pass.old.view.number pass.old.view.log node.slot) }
+    ensures learned { LearnsSlots (knowledge pass.old.view) (knowledge pass.new.view) }
+    ensures others { KeepsAllBut result pass.old pass.new }
+    ensures only { OnlyMakes pass.old pass.new }
+{
+    let claimed = nm_pool::claim(shared, pass);
+    pass.is_of_a_run();
+    claimed
+}
+
+/// Gives a private node back to the pool, in one step. Its birth stays, so that the slot's next node has another.
+pub fn give(shared: &Shared, pass: &mut Pass, node: NodeId)
+    requires own { IsOf shared.now pass.old }
+    requires run { IsInRun pass.old }
+    requires birth { (draft pass.old node.slot).birth ≡ Some node.birth }
+    ensures step { Stepped pass.old pass.new (Give node.slot) (Returned node.slot) }
+    ensures on { GoesOn pass.old pass.new }
+    ensures given { is_private (knowledge pass.new.view) node.slot ≡ false }
+    ensures others { KeepsOthers node.slot pass.old pass.new }
+    ensures only { OnlyMakes pass.old pass.new }
+{
+    nm_pool::give(shared, pass, node);
+    pass.is_of_a_run();
+}
+
+/// Stores a key and two edges in a private slot whose birth is stored, in three steps.
+pub fn fill(shared: &Shared, pass: &mut Pass, slot: u32, key: u64, left: u32, right: u32)
+    requires own { IsOf shared.now pass.old }
+    requires run { IsInRun pass.old }
+    requires born { IsSome (draft pass.old slot).birth }
+    requires left { left ≤ pass.old.view.layout.nodes }
+    requires right { right ≤ pass.old.view.layout.nodes }
+    ensures steps { HasFilled pass.old pass.new slot key left right }
+    ensures on { GoesOn pass.old pass.new }
+    ensures filled { get (knowledge pass.new.view).drafts slot ≡ Some (with_node (draft pass.old slot) key left right) }
+    ensures others { KeepsOthers slot pass.old pass.new }
+    ensures only { OnlyMakes pass.old pass.new }
+{
+    pass.holds_pooled_slots();
+    shared.fill_key(pass, slot, key);
+    shared.fill_edge(pass, slot, Side::Left, left);
+    shared.fill_edge(pass, slot, Side::Right, right);
+    pass.is_of_a_run();
+}
+
+/// Puts a new internal node, over the leaf and the new leaf `fresh`, in the place of the leaf. Lost: the edge that was found.
+///
+/// Only a call to insert the key of `fresh` may do so, once, by the edge by which a walk of it came to the leaf and ended there.
+pub fn link(
+    shared: &Shared,
+    pass: &mut Pass,
+    parent: u32,
+    side: Side,
+    leaf: u32,
+    new: u32,
+    fresh: u32,
+) -> Result<(), Edge>
+    requires own { IsOf shared.now pass.old }
+    requires run { IsInRun pass.old }
+    requires pinned { IsPinnedSomewhere pass.old }
+    requires parent { Tells pass.old (KnowsSlot parent) }
+    requires known { Tells pass.old (KnowsSlot leaf) }
+    requires leaf { Tells pass.old (KnowsLeaf leaf) }
+    requires inserts { IsInserting pass.old parent side leaf new fresh }
+    ensures same { IsSamePass pass.old pass.new }
+    ensures on { GoesOn pass.old pass.new }
+    ensures won { IfOk result (λ _. HasLinked pass.old pass.new parent side leaf new fresh) }
+    ensures lost { IfErr result (HasLost pass.old pass.new parent side leaf new) }
+{
+    pass.holds_pooled_slots();
+    let linked = shared.link(pass, parent, side, leaf, new);
+    pass.is_of_a_run();
+    linked
+}

@@ -1,0 +1,119 @@
+//! Where a walk stands.
+ghost use Rattle.std.specs.Prelude.{◌≡◌, ◌≤◌, true, false, length};
+ghost use Rattle.nm_model.specs.Searches.{side_of};
+ghost use Rattle.nm_calls.specs.Walks.{begin, onto, chain_onto};
+
+use arrayvec::ArrayVec;
+use nm_edge::{Edge, Side};
+
+/// An internal node of a chain, and the side of its tagged edge.
+#[derive(Clone, Copy, Debug, PartialEq, Eq)]
+pub struct ChainEdge {
+    pub slot: u32,
+    pub side: Side,
+}
+
+impl Default for ChainEdge {
+    fn default() -> Self {
+        ChainEdge {
+            slot: 0,
+            side: Side::Left,
+        }
+    }
+}
+
+/// The internal nodes from a successor down to above its parent, by tagged edges.
+pub type Chain = ArrayVec<ChainEdge, 64>;
+
+/// The edge that a walk read last, from `parent` on `side`; and the last edge above it that was read untagged, from `ancestor` on
+/// `above` to `successor`. (The seek record of Natarajan and Mittal, section 3.2.)
+#[derive(Clone, Copy, Debug, PartialEq, Eq)]
+pub struct Spot {
+    pub ancestor: u32,
+    pub above: Side,
+    pub successor: u32,
+    pub parent: u32,
+    pub side: Side,
+    pub edge: Edge,
+}
+
+/// Where a walk has ended: the edge of its spot leads to a leaf, with this key.
+#[derive(Clone, Copy, Debug, PartialEq, Eq)]
+pub struct End {
+    pub spot: Spot,
+    pub key: u64,
+}
+
+/// The side of a key at a node: left where it is less than the node's.
+pub(crate) fn side_at(key: u64, node: u64) -> Side
+    ensures { result ≡ side_of key node }
+{
+    if key < node { Side::Left } else { Side::Right }
+}
+
+pub(crate) fn end_at(spot: &Spot, key: u64) -> End
+    ensures spot { result.spot ≡ spot.now }
+    ensures key { result.key ≡ key }
+{
+    End { spot: *spot, key }
+}
+
+/// The spot at the left edge of slot 2.
+pub(crate) fn first(edge: Edge) -> Spot
+    ensures { result ≡ begin edge }
+{
+    Spot {
+        ancestor: 1,
+        above: Side::Left,
+        successor: 2,
+        parent: 2,
+        side: Side::Left,
+        edge,
+    }
+}
+
+/// The spot after the node that the edge leads to, left on `side` by the edge `next`.
+pub(crate) fn further(spot: Spot, side: Side, next: Edge) -> Spot
+    ensures spot { result ≡ onto spot side next }
+    ensures edge { result.edge ≡ next }
+{
+    let node = spot.edge.slot();
+    if spot.edge.tag() {
+        Spot {
+            parent: node,
+            side,
+            edge: next,
+            ..spot
+        }
+    } else {
+        Spot {
+            ancestor: spot.parent,
+            above: spot.side,
+            successor: node,
+            parent: node,
+            side,
+            edge: next,
+        }
+    }
+}
+
+/// The chain at the next node. False where it would be too long.
+pub(crate) fn extend(chain: &mut Chain, spot: Spot) -> bool
+    ensures more { result ≡ true → chain.new.items ≡ chain_onto spot chain.old.items }
+    ensures short { result ≡ true → length chain.new.items ≤ 63 }
+    ensures full { result ≡ false → 63 ≤ length chain.old.items }
+    ensures tagged { result ≡ false → spot.edge.tag ≡ true }
+{
+    if !spot.edge.tag() {
+        chain.clear();
+        true
+    } else if chain.len() > 62 {
+        false
+    } else {
+        chain.push(ChainEdge {
+            slot: spot.parent,
+            side: spot.side,
+        });
+        true
+    }
+}

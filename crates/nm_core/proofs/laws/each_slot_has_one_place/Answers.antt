@@ -1,5 +1,0 @@
-use Rattle.nm_core.proofs.OnePlace.{each_slot_has_one_place as every_run}
-use Rattle.nm_core.proofs.laws.each_slot_has_one_place.Goals as goal
-
-pub returns : goal.returns
-returns c = every_run

@@ -1,5 +1,0 @@
-use Rattle.nm_core.proofs.Pins.{pins_stay_near as every_run}
-use Rattle.nm_core.proofs.laws.pins_stay_near.Goals as goal
-
-pub returns : goal.returns
-returns c = every_run

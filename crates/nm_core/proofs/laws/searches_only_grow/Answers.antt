@@ -1,5 +1,0 @@
-use Rattle.nm_core.proofs.SearchesGrow.{only_grow}
-use Rattle.nm_core.proofs.laws.searches_only_grow.Goals as goal
-
-pub returns : goal.returns
-returns c = only_grow

@@ -1,7 +1,0 @@
-use Rattle.std.proofs.Common.{◌≡◌, ◌++◌, map, take, drop, option_map}
-use Rattle.nm_core.specs.Ledgers.{labelled}
-use Rattle.nm_core.proofs.ledgers.Ledgers.label.Given as goal
-
--- the ledgers so far are labelled
-abbrev pub invariant-loop-ledger : goal.invariant-loop-ledger
-invariant-loop-ledger l = l.ledger-items ≡ map (option_map (labelled l.label)) (take l.ledger-index l.initial.ledger-items) ++ drop l.ledger-index l.initial.ledger-items

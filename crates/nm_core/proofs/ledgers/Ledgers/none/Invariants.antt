@@ -1,5 +1,0 @@
-use Rattle.std.proofs.Common.{◌≡◌, replicate, None}
-use Rattle.nm_core.proofs.ledgers.Ledgers.none.Given as goal
-
-abbrev pub invariant-loop : goal.invariant-loop
-invariant-loop l = l.by_origin.items ≡ replicate l.counter None

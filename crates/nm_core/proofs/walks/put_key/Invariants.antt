@@ -1,7 +1,0 @@
-use Rattle.std.proofs.Common.{◌≡◌, ◌++◌, map, take, drop}
-use Rattle.nm_core.specs.Searches.{keyed}
-use Rattle.nm_core.proofs.walks.put_key.Given as goal
-
--- the arrivals so far are done
-abbrev pub invariant-loop-index : goal.invariant-loop-index
-invariant-loop-index l = l.arrivals.items ≡ map (keyed l.slot l.key) (take l.index l.initial.arrivals.items) ++ drop l.index l.initial.arrivals.items

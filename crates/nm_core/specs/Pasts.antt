@@ -1,0 +1,30 @@
+-- The past of a core: the events by which it came from its opening; and what an ordered core has by it.
+use Rattle.std.specs.Prelude.{◌≡◌, ℕ, List, ◌++◌, take, IsSome, All}
+use Rattle.nm_model.specs.declared.event.Event.{Event}
+use Rattle.nm_model.specs.Ordered.{Configuration, HasKey, ordered, after_in}
+use Rattle.nm_order.specs.History.{HasHistory}
+use Rattle.nm_order.specs.Intervals.{KeysLieInIntervals, LeavesHaveTheirOwnKeys, WalksStayInOrder, WalksReadKeys}
+
+-- the core came from the opening of an ordered core by these events, with calls for keys of the set
+pub record IsPast (c : Configuration) (past : List (ℕ × Event)) : Type 0 where
+  pub keys : All (λ t. HasKey t.1) past
+  pub leads : after_in (ordered c.state.layout) past ≡ c
+
+-- an ordered core came so by some events
+abbrev pub HasPast : Configuration → Type 0
+HasPast c = IsSome c.searches → (past : List (ℕ × Event)) × IsPast c past
+
+-- whatever the events were by which a core came from its opening: with so many of these turns behind them they have a history
+abbrev pub HasHistoriesBehind : Configuration → List (ℕ × Event) → Type 0
+HasHistoriesBehind c turns = (past : List (ℕ × Event)) → IsPast c past → (i : ℕ) → HasHistory c.state.layout (past ++ take i turns)
+
+-- the tree of an ordered core is in order, and stale paths do no harm
+pub record IsInOrder (c : Configuration) : Type 0 where
+  pub keys : KeysLieInIntervals c
+  pub leaves : LeavesHaveTheirOwnKeys c
+  pub stale : WalksStayInOrder c
+  pub reads : WalksReadKeys c
+
+-- it is so before a run of an ordered core, and after each of its turns
+abbrev pub StaysInOrder : Configuration → List (ℕ × Event) → Type 0
+StaysInOrder c turns = IsSome c.searches → (i : ℕ) → IsInOrder (after_in c (take i turns))

@@ -1,0 +1,7 @@
+pub mod NumberLemmas
+pub mod SpellingLemmas
+pub mod PieceLemmas
+pub mod EntryLemmas
+pub mod FileLemmas
+pub mod ReasonLemmas
+pub mod StreamLemmas

@@ -1,0 +1,71 @@
+//! What can be wrong with a file, and with a run.
+ghost use Rattle.std.specs.Prelude.{◌≡◌};
+
+use thiserror::Error;
+
+/// What is wrong with a line of a file.
+#[derive(Clone, Copy, Debug, PartialEq, Eq)]
+pub enum Reason {
+    /// More than 120 bytes before the newline, or a line numbered above 100,001.
+    Long,
+    /// No newline at its end. An empty file is a first line of no bytes.
+    Cut,
+    /// The first line isn't the header of this command, with numbers in their one spelling.
+    Header,
+    /// The header's nodes are fewer than 7, or more than its version allows.
+    Nodes,
+    /// The header has no worker, or more workers than its version allows.
+    Workers,
+    /// Not fields with single spaces between, or fewer than two fields.
+    Form,
+    /// The second field isn't a kind of event.
+    Kind,
+    /// Another number of arguments than the kind has, or a word that names none of the fields, sides, operations or answers where one is asked.
+    Fields,
+    /// A number that isn't in its one spelling, or above its range.
+    Number,
+    /// The line's worker isn't one of the header's.
+    Worker,
+    /// The key of an operation is above those of the set.
+    Key,
+}
+
+impl Reason {
+    ghost use Rattle.nm_files.specs.Files.{reason_number};
+
+    /// The number by which a faulty line is reported. Of several faults of a line, the one with the least number is answered.
+    pub fn number(self) -> u8
+        ensures { result ≡ reason_number self }
+    {
+        match self {
+            Reason::Long => 1,
+            Reason::Cut => 2,
+            Reason::Header => 3,
+            Reason::Nodes => 4,
+            Reason::Workers => 5,
+            Reason::Form => 7,
+            Reason::Kind => 8,
+            Reason::Fields => 9,
+            Reason::Number => 10,
+            Reason::Worker => 11,
+            Reason::Key => 12,
+        }
+    }
+}
+
+/// Why a run ended early.
+#[derive(Debug, Drop, Error)]
+pub enum RunFault {
+    /// The first faulty line of the file, numbered from 1, and the least reason that it has. Nothing was written.
+    #[error("line {line}: reason {}", .reason.number())]
+    Line { line: u32, reason: Reason },
+    /// Memory was refused. Nothing was written.
+    #[error("no memory")]
+    NoMemory,
+    /// The reader failed. Nothing was written.
+    #[error("read failed")]
+    Read,
+    /// The writer failed. How much was written isn't said.
+    #[error("write failed")]
+    Write,
+}

@@ -1,0 +1,171 @@
+-- A splice that is won cuts just the nodes of its reply, and nothing else cuts anything.
+use Rattle.std.proofs.Common.{◌≡◌, ℕ, ◌<◌, Bool, true, false, cond, not, ◌||◌, ◌&&◌, List, [], ◌∷◌, ◌++◌, length, map, refl, sym, ap, ◌∙◌, arith, true≢false}
+use Rattle.std.specs.Prelude.{Option, Some, None, is_some, is_none, unwrap_or, Result, Ok, Err, Contains}
+use Rattle.std.proofs.lemmas.Bool.{cond-true, and_parts, or_parts, not-false}
+use Rattle.std.proofs.lemmas.Option.{slice_get-get_or, slice_get_within, get_or_from_slice_get}
+use Rattle.nm_edge.specs.Edges.{Edge, to, other, is_to}
+use Rattle.nm_edge.specs.declared.edge.Side.{Side}
+use Rattle.nm_edge.specs.declared.node.NodeId.{NodeId}
+use Rattle.nm_model.specs.declared.event.Event.TheVariants.{Splice}
+use Rattle.nm_model.specs.declared.reply.Reply.{Reply}
+use Rattle.nm_model.specs.declared.reply.Reply.TheVariants.{Cut, Lost}
+use Rattle.nm_model.specs.declared.reply.Refused.{Refused}
+use Rattle.nm_model.specs.declared.reply.Refused.TheVariants.{NoSlot, NotPinned, NotHeld, NotFrozen}
+use Rattle.nm_model.specs.Memory.{Memory, edge, named, put_edge}
+use Rattle.nm_model.specs.Knowledge.{knows, read, is_flagged, is_tagged, way, cut_by}
+use Rattle.nm_model.specs.Paths.{follow, at, IsCut}
+use Rattle.nm_model.specs.Step.{outside, is_frozen, refusal, reply, write, exchanged, kept, cut_nodes}
+use Rattle.nm_model.specs.Runs.{State, of, start, after, next, outcome, refused, answered, unless_refused, applied}
+use Rattle.nm_model.specs.Laws.{OfEachState, slots_of, CutsJust, IsFrozenChain, GoesDown, NamesBirths, OfEachCut}
+use Rattle.nm_model.proofs.Numbers.{among}
+use Rattle.nm_laws.proofs.Steps.{Allowed, allowed, passed, third, fourth}
+use Rattle.nm_laws.proofs.Trees.{same_follow}
+use Rattle.nm_laws.proofs.CutPaths.{nodes_cut}
+use Rattle.nm_laws.proofs.Pictures.{below}
+use Rattle.nm_laws.proofs.Splices.{IsWay, spliced, IsSplice, cut_law, cut_law_back, among_at, at_among}
+use Rattle.nm_laws.proofs.Views.{picture, edge_put, held_queue}
+use Rattle.nm_laws.proofs.TreeSlots.{is_to-true}
+use Rattle.nm_laws.proofs.TreeSplice.{splice_shown, cut_is, named_slots}
+use Rattle.nm_laws.proofs.TreeSteps.{Lawful, high_from}
+use Rattle.nm_laws.proofs.Lawful.{lawful}
+
+-- ---- what is among a list
+
+contains_among : (xs : List ℕ) (x : ℕ) → Contains xs x → among xs x ≡ true
+contains_among xs x c = at_among xs x c.0 (slice_get-get_or xs c.0 x c.1 ∙ ap Some c.2)
+
+among_contains : (xs : List ℕ) (x : ℕ) → among xs x ≡ true → Contains xs x
+among_contains xs x h = let k = among_at xs x h in (k.0, slice_get_within xs k.0 x k.1, get_or_from_slice_get xs k.0 x x k.1)
+
+-- ---- a splice that is won
+
+-- a splice whose outcome is a cut was allowed and won
+pub record Won (s : State) (w a : ℕ) (d : Side) (x p : ℕ) (keep : Side) (ns : List NodeId) : Type 0 where
+  pub ok : Allowed s w (Splice a d x p keep)
+  pub won : is_to (edge s.memory a d) x ≡ true
+  pub nodes : cut_nodes s.layout s.memory (of s w) x p keep ≡ ns
+  pub next_is : next s (w, Splice a d x p keep) ≡ applied s w (Splice a d x p keep)
+
+same_ok : (r q : Reply) → ◌≡◌ {A = Result Reply Refused} (Ok r) (Ok q) → r ≡ q
+same_ok r q h = cc
+
+same_cut : (ns ms : List NodeId) → Cut ns ≡ Cut ms → ns ≡ ms
+same_cut ns ms h = cc
+
+pub won_splice : (s : State) (w a : ℕ) (d : Side) (x p : ℕ) (keep : Side) (ns : List NodeId) → outcome s (w, Splice a d x p keep) ≡ Ok (Cut ns) → Won s w a d x p keep ns
+unfolding outcome next reply
+won_splice s w a d x p keep ns h = go (refused s w (Splice a d x p keep)) refl h
+  where
+    by : (b : Bool) → is_to (edge s.memory a d) x ≡ b → cond b (Cut (cut_nodes s.layout s.memory (of s w) x p keep)) (Lost (edge s.memory a d)) ≡ Cut ns → (is_to (edge s.memory a d) x ≡ true) × (cut_nodes s.layout s.memory (of s w) x p keep ≡ ns)
+    by true i h = (i, same_cut _ _ h)
+    by false i h = cc
+
+    differ : (r : Refused) → ◌≡◌ {A = Result Reply Refused} (Err r) (Ok (Cut ns)) → ⊥
+    differ r h = cc
+
+    go : (o : Option Refused) → refused s w (Splice a d x p keep) ≡ o → answered o (reply s.layout s.memory (of s w) (Splice a d x p keep)) ≡ Ok (Cut ns) → Won s w a d x p keep ns
+    go None is h =
+        let k = by (is_to (edge s.memory a d) x) refl (same_ok _ _ h) in
+        record { ok = allowed s w (Splice a d x p keep) is; won = k.0; nodes = k.1; next_is = ap (λ o. unless_refused o s (applied s w (Splice a d x p keep))) is }
+    go (Some r) is h = absurd (differ r h)
+
+-- what the splice has shown, by the picture of the state
+pub record Shown (s : State) (h : ℕ → ℕ) (w a : ℕ) (d : Side) (x p : ℕ) (keep : Side) : Type 0 where
+  pub sides : List Side
+  pub found : way s.layout.nodes (of s w) x p ≡ Some sides
+  pub tag : is_tagged (read (of s w) p keep) ≡ true
+  pub flag : is_flagged (read (of s w) p (other keep)) ≡ true
+  pub inside : a < length s.memory.nodes
+  pub is : edge s.memory a d ≡ to x
+  pub splice : IsSplice s.layout.nodes (picture s h) w (length (held_queue (of s (h w)) w)) a d (sides ++ keep ∷ []) (kept (read (of s w) p keep))
+
+pub shown : (s : State) (h : ℕ → ℕ) → Lawful s h → (w a : ℕ) (d : Side) (x p : ℕ) (keep : Side) → Allowed s w (Splice a d x p keep) → is_to (edge s.memory a d) x ≡ true → Shown s h w a d x p keep
+unfolding refusal
+shown s h law w a d x p keep ok won = by (way s.layout.nodes (of s w) x p) refl (and_parts (is_some (way s.layout.nodes (of s w) x p)) (is_tagged (read (of s w) p keep) && is_flagged (read (of s w) p (other keep))) frozen)
+  where
+    first : Bool
+    first = outside 1 s.layout.nodes a || (outside 6 s.layout.nodes x || outside 6 s.layout.nodes p)
+
+    slots : (outside 6 s.layout.nodes x ≡ false) × (outside 6 s.layout.nodes p ≡ false)
+    slots = or_parts (outside 6 s.layout.nodes x) (outside 6 s.layout.nodes p) (or_parts (outside 1 s.layout.nodes a) (outside 6 s.layout.nodes x || outside 6 s.layout.nodes p) (passed _ _ _ ok.event).0).1
+
+    seen : (knows (of s w) a ≡ true) × (knows (of s w) x ≡ true)
+    seen = and_parts (knows (of s w) a) (knows (of s w) x) (not-false _ (third first (is_none (of s w).brief.pin) (not (knows (of s w) a && knows (of s w) x)) NoSlot NotPinned NotHeld _ ok.event))
+
+    frozen : is_frozen s.layout (of s w) x p keep ≡ true
+    frozen = not-false (is_frozen s.layout (of s w) x p keep) (fourth first (is_none (of s w).brief.pin) (not (knows (of s w) a && knows (of s w) x)) (not (is_frozen s.layout (of s w) x p keep)) NoSlot NotPinned NotHeld NotFrozen _ ok.event)
+
+    by : (o : Option (List Side)) → way s.layout.nodes (of s w) x p ≡ o → (is_some (way s.layout.nodes (of s w) x p) ≡ true) × ((is_tagged (read (of s w) p keep) && is_flagged (read (of s w) p (other keep))) ≡ true) → Shown s h w a d x p keep
+    by None found parts = absurd (true≢false (sym parts.0 ∙ ap is_some found))
+    by (Some sides) found parts =
+        let marks = and_parts (is_tagged (read (of s w) p keep)) (is_flagged (read (of s w) p (other keep))) parts.1 in
+        let is = is_to-true (edge s.memory a d) x won in
+        record {
+          sides = sides;
+          found = found;
+          tag = marks.0;
+          flag = marks.1;
+          inside = let r = law.tree.known w a seen.0 in let size = law.roomy.nodes in omega arith;
+          is = is;
+          splice = splice_shown s.layout.nodes s.memory (of s) h w a d x p keep sides (high_from 6 s.layout.nodes x slots.0).0 (high_from 6 s.layout.nodes p slots.1).0 seen.0 seen.1 found marks.0 marks.1 is law.tree;
+        }
+
+module _ (s : State) (h : ℕ → ℕ) (law : Lawful s h) (w a : ℕ) (d : Side) (x p : ℕ) (keep : Side) (k : Shown s h w a d x p keep) where
+  -- the slots of the reply are those of the way
+  pub slots_are : slots_of (cut_nodes s.layout s.memory (of s w) x p keep) ≡ nodes_cut (below (picture s h)) x (k.sides ++ keep ∷ [])
+  slots_are = named_slots s.memory (cut_by (of s w) x (unwrap_or (way s.layout.nodes (of s w) x p) []) keep) ∙ cut_is s.layout.nodes s.memory (of s) h w x p keep k.sides k.found k.flag law.tree
+
+  pub from_successor : nodes_cut (below (picture s h)) (edge s.memory a d).slot (k.sides ++ keep ∷ []) ≡ nodes_cut (below (picture s h)) x (k.sides ++ keep ∷ [])
+  from_successor = ap (λ (z : ℕ). nodes_cut (below (picture s h)) z (k.sides ++ keep ∷ [])) (ap (λ (e : Edge). e.slot) k.is)
+
+  -- the paths after the splice
+  new_paths : (q : List Side) → at (put_edge s.memory a d (kept (read (of s w) p keep))) q ≡ follow (below (spliced (picture s h) w (length (held_queue (of s (h w)) w)) (nodes_cut (below (picture s h)) (edge s.memory a d).slot (k.sides ++ keep ∷ [])) a d (kept (read (of s w) p keep)))) 1 q
+  new_paths q = same_follow _ _ (λ z g. ap (λ (e : Edge). e.slot) (edge_put s.memory a d (kept (read (of s w) p keep)) k.inside z g)) 1 q
+
+  cut_there : (y : ℕ) → among (slots_of (cut_nodes s.layout s.memory (of s w) x p keep)) y ≡ true → IsCut s.memory (put_edge s.memory a d (kept (read (of s w) p keep))) y
+  cut_there y i =
+      let c = cut_law s.layout.nodes (picture s h) w (length (held_queue (of s (h w)) w)) a d (k.sides ++ keep ∷ []) (kept (read (of s w) p keep)) law.tree k.splice y (rw (slots_are ∙ sym from_successor) at i) in
+      record { was = record { path = c.0.path; ends = c.0.ends; is_slot = c.0.is_slot }; gone = λ r. c.1 (record { path = r.path; ends = sym (new_paths r.path) ∙ r.ends; is_slot = r.is_slot }) }
+
+  cut_back : (y : ℕ) → IsCut s.memory (put_edge s.memory a d (kept (read (of s w) p keep))) y → among (slots_of (cut_nodes s.layout s.memory (of s w) x p keep)) y ≡ true
+  cut_back y c = rw (slots_are ∙ sym from_successor) (cut_law_back s.layout.nodes (picture s h) w (length (held_queue (of s (h w)) w)) a d (k.sides ++ keep ∷ []) (kept (read (of s w) p keep)) law.tree k.splice y
+      (record { path = c.was.path; ends = c.was.ends; is_slot = c.was.is_slot })
+      (λ r. c.gone (record { path = r.path; ends = new_paths r.path ∙ r.ends; is_slot = r.is_slot })))
+
+  -- the slots of a way, from its first node downwards
+  downwards : (z : ℕ) (sides : List Side) → IsWay (picture s h) z sides → IsFrozenChain s.memory z (nodes_cut (below (picture s h)) z sides)
+  downwards z [] i = tt
+  downwards z (e ∷ sides) i = (refl, e, i.1, refl, i.0, downwards (below (picture s h) z e) sides i.2)
+
+  goes_down : IsFrozenChain s.memory x (slots_of (cut_nodes s.layout s.memory (of s w) x p keep))
+  goes_down = rw slots_are (downwards x (k.sides ++ keep ∷ []) (rw (ap (λ (e : Edge). e.slot) k.is) at k.splice.is_way))
+
+named_again : (m : Memory) (xs : List ℕ) → map (named m) xs ≡ map (named m) (slots_of (map (named m) xs))
+named_again m [] = refl
+named_again m (x ∷ xs) = ap (λ (ns : List NodeId). named m x ∷ ns) (named_again m xs)
+
+pub cuts_just : OfEachState (OfEachCut CutsJust)
+unfolding applied write
+cuts_just L enough turns w a d x p keep ns is y =
+    let s = after (start L) turns in
+    let won = won_splice s w a d x p keep ns is in
+    let l = lawful L enough turns in
+    let k = shown s l.holder l.law w a d x p keep won.ok won.won in
+    let new_memory : exchanged s.memory a d x (kept (read (of s w) p keep)) ≡ put_edge s.memory a d (kept (read (of s w) p keep)) = cond-true (is_to (edge s.memory a d) x) _ s.memory won.won in
+    rw (won.next_is, ← won.nodes) (
+      (λ c. among_contains _ y (cut_back s l.holder l.law w a d x p keep k y (rw new_memory at c))),
+      (λ c. rw new_memory (cut_there s l.holder l.law w a d x p keep k y (contains_among _ y c))),
+    )
+
+pub cuts_go_down : OfEachState (OfEachCut GoesDown)
+cuts_go_down L enough turns w a d x p keep ns is =
+    let s = after (start L) turns in
+    let won = won_splice s w a d x p keep ns is in
+    let l = lawful L enough turns in
+    rw (← won.nodes) (goes_down s l.holder l.law w a d x p keep (shown s l.holder l.law w a d x p keep won.ok won.won))
+
+pub cuts_name_births : OfEachState (OfEachCut NamesBirths)
+cuts_name_births L enough turns w a d x p keep ns is =
+    let s = after (start L) turns in
+    let won = won_splice s w a d x p keep ns is in
+    rw (← won.nodes) (named_again s.memory (cut_by (of s w) x (unwrap_or (way s.layout.nodes (of s w) x p) []) keep))

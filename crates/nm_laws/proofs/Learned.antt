@@ -1,0 +1,122 @@
+-- The rows of the table `learn`, one by one. Proofs cite these, and leave the table itself closed.
+use Rattle.std.proofs.Common.{◌≡◌, ℕ, ◌==◌, Bool, true, List, cond, refl}
+use Rattle.std.specs.Prelude.{Option, Some}
+use Rattle.nm_edge.specs.Edges.{Edge, tagged}
+use Rattle.nm_edge.specs.declared.edge.Side.{Side}
+use Rattle.nm_edge.specs.declared.node.NodeId.{NodeId}
+use Rattle.nm_model.specs.declared.event.Field.{Field}
+use Rattle.nm_model.specs.declared.event.Event.TheVariants.{Sight, SightFor, Announce, Leave, LeaveWith, Scan, Advance, Claim, Give, Look, Fill, Link, Flag, Tag, Splice, Join}
+use Rattle.nm_model.specs.declared.event.Op.{Op}
+use Rattle.nm_model.specs.declared.reply.Reply.{Reply}
+use Rattle.nm_model.specs.declared.reply.Reply.TheVariants.{Saw, Labelled, Pinned, Missed, Announced, Departed, Idle, In, Moved, Behind, Claimed, Taken, Returned, Freed, Filled, Linked, Flagged, Was, Cut, Lost, Joined}
+use Rattle.nm_model.specs.declared.ledger.Ledger.{Ledger}
+use Rattle.nm_model.specs.Maps.{put, without, is_number}
+use Rattle.nm_model.specs.Ledgers.{free}
+use Rattle.nm_model.specs.Knowledge.{Knowledge, unfilled, is_private, draft_of}
+use Rattle.nm_model.specs.Learning.{learn, saw, labelled, pinned, departed, scanned, moved, read_edge, look_known, look_private, filled_in, linked, flag_to, cutting, inheriting, resigned}
+
+module _ (w : ℕ) (k : Knowledge) where
+  pub learn_saw : (e : ℕ) → learn w k Sight (Saw e) ≡ saw k e
+  unfolding learn
+  learn_saw e = refl
+
+  pub learn_labelled : (e : ℕ) → learn w k Sight (Labelled e) ≡ labelled (saw k e) e
+  unfolding learn
+  learn_labelled e = refl
+
+  pub learn_pinned : (e : ℕ) → learn w k Sight (Pinned e) ≡ pinned (saw k e) e
+  unfolding learn
+  learn_pinned e = refl
+
+  pub learn_missed : (e : ℕ) → learn w k Sight (Missed e) ≡ saw k e
+  unfolding learn
+  learn_missed e = refl
+
+  pub learn_announced : (e : ℕ) → learn w k Announce (Announced e) ≡ record k { brief = record k.brief { note = Some e } }
+  unfolding learn
+  learn_announced e = refl
+
+  pub learn_departed : learn w k Leave Departed ≡ departed k
+  unfolding learn
+  learn_departed = refl
+
+  -- a sight for an operation teaches what a sight does, and a leave with an answer what a leave does
+  pub learn_sight_for : (op : Op) (key : ℕ) (r : Reply) → learn w k (SightFor op key) r ≡ learn w k Sight r
+  unfolding learn
+  learn_sight_for op key r = refl
+
+  pub learn_leave_with : (answer : Bool) → learn w k (LeaveWith answer) Departed ≡ learn w k Leave Departed
+  unfolding learn
+  learn_leave_with answer = refl
+
+  pub learn_idle : (u : ℕ) → learn w k (Scan u) Idle ≡ scanned k u true
+  unfolding learn
+  learn_idle u = refl
+
+  pub learn_in : (u e : ℕ) → learn w k (Scan u) (In e) ≡ scanned k u (is_number k.brief.seen e)
+  unfolding learn
+  learn_in u e = refl
+
+  pub learn_moved : (e : ℕ) → learn w k Advance (Moved e) ≡ moved k e
+  unfolding learn
+  learn_moved e = refl
+
+  pub learn_behind : (e : ℕ) → learn w k Advance (Behind e) ≡ moved k e
+  unfolding learn
+  learn_behind e = refl
+
+  pub learn_claimed : (s t : ℕ) → learn w k (Claim s) (Claimed t) ≡ record k { drafts = put k.drafts s unfilled }
+  unfolding learn
+  learn_claimed s t = refl
+
+  pub learn_taken : (s : ℕ) → learn w k (Claim s) Taken ≡ k
+  unfolding learn
+  learn_taken s = refl
+
+  pub learn_returned : (s t : ℕ) → learn w k (Give s) (Returned t) ≡ record k { drafts = without k.drafts s }
+  unfolding learn
+  learn_returned s t = refl
+
+  pub learn_freed : (s : ℕ) (n : NodeId) → learn w k (Give s) (Freed n) ≡ record k { ledgers = free k.ledgers n }
+  unfolding learn
+  learn_freed s n = refl
+
+  pub learn_look : (s : ℕ) (f : Field) (r : Reply) → learn w k (Look s f) r ≡ cond (is_private k s) (look_private k s f r) (look_known k s f r)
+  unfolding learn
+  learn_look s f r = refl
+
+  pub learn_filled : (s : ℕ) (f : Field) (v : ℕ) → learn w k (Fill s f v) Filled ≡ record k { drafts = put k.drafts s (filled_in (draft_of k s) f v) }
+  unfolding learn
+  learn_filled s f v = refl
+
+  pub learn_linked : (p : ℕ) (side : Side) (leaf new : ℕ) (n : NodeId) → learn w k (Link p side leaf new) (Linked n) ≡ linked k leaf new
+  unfolding learn
+  learn_linked p side leaf new n = refl
+
+  pub learn_link_lost : (p : ℕ) (side : Side) (leaf new : ℕ) (e : Edge) → learn w k (Link p side leaf new) (Lost e) ≡ read_edge k p side e
+  unfolding learn
+  learn_link_lost p side leaf new e = refl
+
+  pub learn_flagged : (p : ℕ) (side : Side) (leaf : ℕ) (n : NodeId) → learn w k (Flag p side leaf) (Flagged n) ≡ read_edge k p side (flag_to leaf)
+  unfolding learn
+  learn_flagged p side leaf n = refl
+
+  pub learn_flag_lost : (p : ℕ) (side : Side) (leaf : ℕ) (e : Edge) → learn w k (Flag p side leaf) (Lost e) ≡ read_edge k p side e
+  unfolding learn
+  learn_flag_lost p side leaf e = refl
+
+  pub learn_was : (p : ℕ) (side : Side) (e : Edge) → learn w k (Tag p side) (Was e) ≡ read_edge k p side (tagged e)
+  unfolding learn
+  learn_was p side e = refl
+
+  pub learn_cut : (a : ℕ) (side : Side) (s p : ℕ) (keep : Side) (ns : List NodeId) → learn w k (Splice a side s p keep) (Cut ns) ≡ cutting w k ns
+  unfolding learn
+  learn_cut a side s p keep ns = refl
+
+  pub learn_splice_lost : (a : ℕ) (side : Side) (s p : ℕ) (keep : Side) (e : Edge) → learn w k (Splice a side s p keep) (Lost e) ≡ read_edge k a side e
+  unfolding learn
+  learn_splice_lost a side s p keep e = refl
+
+  pub learn_joined : (v : ℕ) (ls : List (Option Ledger)) → learn w k (Join v) (Joined ls) ≡ cond (w == v) (resigned k) (inheriting k ls)
+  unfolding learn
+  learn_joined v ls = refl

@@ -1,0 +1,61 @@
+-- One more event leads on from a state that events lead to.
+use Rattle.std.proofs.Common.{◌≡◌, ℕ, List, [], ◌∷◌, ◌++◌, refl, ap, subst, ◌∙◌, ◌+◌, ◌<◌, length, take, get_or, Result, Ok, Err, OnOk, OnErr}
+use Rattle.std.proofs.lemmas.List.{take_more}
+use Rattle.std.specs.Prelude.{Option, Some, None}
+use Rattle.nm_edge.specs.Layouts.{Layout, IsLayout}
+use Rattle.nm_model.specs.declared.event.Event.{Event}
+use Rattle.nm_model.specs.declared.reply.Refused.{Refused}
+use Rattle.nm_model.specs.declared.reply.Reply.{Reply}
+use Rattle.nm_model.specs.declared.trace.Turn.{Turn}
+use Rattle.nm_model.specs.Answers.{IsAnswer}
+use Rattle.nm_model.specs.Runs.{State, start, refused, applied, unless_refused, next, outcome, after, trace, IsReachable}
+
+pub after-append : (s : State) (ts us : List (ℕ × Event)) → after s (ts ++ us) ≡ after (after s ts) us
+unfolding after
+after-append s [] us = refl
+after-append s (t ∷ ts) us = after-append (next s t) ts us
+
+pub trace-append : (s : State) (ts us : List (ℕ × Event)) → trace s (ts ++ us) ≡ trace s ts ++ trace (after s ts) us
+unfolding after trace
+trace-append s [] us = refl
+trace-append s (t ∷ ts) us = ap (λ (rest : List Turn). record { worker = t.0; event = t.1; outcome = outcome s t } ∷ rest) (trace-append (next s t) ts us)
+
+pub reachable_start : (L : Layout) → IsLayout L → IsReachable (start L)
+unfolding after
+reachable_start L fits = record { fits = fits; events = []; leads = refl }
+
+-- each event leaves the layout
+next-layout : (s : State) (t : ℕ × Event) → (next s t).layout ≡ s.layout
+unfolding next applied
+next-layout s t = go (refused s t.0 t.1)
+  where
+    go : (r : Option Refused) → (unless_refused r s (applied s t.0 t.1)).layout ≡ s.layout
+    go None = refl
+    go (Some r) = refl
+
+-- one turn more
+pub reachable_next : (s : State) (t : ℕ × Event) → IsReachable s → IsReachable (next s t)
+unfolding after
+reachable_next s t r =
+    let kept = next-layout s t in
+    record {
+      fits = rw kept r.fits;
+      events = r.events ++ t ∷ [];
+      leads = ap (λ (L : Layout). after (start L) (r.events ++ t ∷ [])) kept ∙ after-append (start s.layout) r.events (t ∷ []) ∙ ap (λ (x : State). next x t) r.leads;
+    }
+
+-- an event that is allowed
+pub reachable_applied : (s : State) (w : ℕ) (e : Event) → refused s w e ≡ None → IsReachable s → IsReachable (applied s w e)
+unfolding next
+reachable_applied s w e allowed r = subst (λ (o : Option Refused). IsReachable (unless_refused o s (applied s w e))) allowed (reachable_next s (w, e) r)
+
+-- whatever was answered, the state that is left is one to which events lead
+pub reachable_answered : (s new : State) (w : ℕ) (e : Event) (reply : Reply) (result : Result Reply Refused) → IsReachable s → IsAnswer (refused s w e) reply result
+    → OnOk result (new ≡ applied s w e) → OnErr result (new ≡ s) → IsReachable new
+reachable_answered s new w e reply (Ok r) reached answer ok err = rw ok (reachable_applied s w e answer.0 reached)
+reachable_answered s new w e reply (Err why) reached answer ok err = rw err reached
+
+-- the state after one turn more
+pub after-more : (s : State) (ts : List (ℕ × Event)) (i : ℕ) (d : ℕ × Event) → i < length ts → after s (take (i + 1) ts) ≡ next (after s (take i ts)) (get_or ts i d)
+unfolding after
+after-more s ts i d below = ap (after s) (take_more ts i d below) ∙ after-append s (take i ts) (get_or ts i d ∷ [])

@@ -1,0 +1,103 @@
+-- While a pin stands, what its search knows only grows.
+use Rattle.std.proofs.Common.{◌≡◌, ℕ, zero, suc, ◌<◌, ◌==◌, Bool, true, false, cond, ◌&&◌, ◌||◌, List, [], ◌∷◌, ◌++◌, map, length, get_or, true≢false, refl, sym, arith}
+use Rattle.std.specs.Prelude.{Option, Some, None, is_none, Contains}
+use Rattle.std.specs.List.{list_any}
+use Rattle.std.proofs.lemmas.Bool.{cond_both, and_parts}
+use Rattle.std.proofs.lemmas.Option.{none-some}
+use Rattle.nm_edge.specs.declared.edge.Side.{Side}
+use Rattle.nm_model.specs.declared.event.Field.{Field}
+use Rattle.nm_model.specs.declared.event.Field.TheVariants.{Key, Edge as EdgeOn}
+use Rattle.nm_model.specs.declared.event.Event.TheVariants.{Sight, SightFor, Leave, LeaveWith, Look, Link, Flag, Splice}
+use Rattle.nm_model.specs.declared.reply.Reply.{Reply}
+use Rattle.nm_model.specs.declared.reply.Reply.TheVariants.{Pinned, Departed, KeyIs, EdgeIs, Linked, Flagged, Cut}
+use Rattle.nm_model.specs.declared.walks.Call.{Call}
+use Rattle.nm_model.specs.declared.walks.Arrival.{Arrival}
+use Rattle.nm_model.specs.Searches.{Search, is_by, goes_on, is_first, new_arrival, with_arrival, keyed, ended, walk_edge, walked, is_flagged_in, look_for, searched}
+use Rattle.nm_model.specs.Walks.{GrowsTo, SearchGrows, SearchesOnlyGrow}
+
+-- ---- lists of arrivals
+
+-- each arrival of the first list has grown to the one at its place in the second
+abbrev Grown : List Arrival → List Arrival → Type 0
+Grown [] bs = Unit {0}
+Grown (a ∷ xs) [] = ⊥
+Grown (a ∷ xs) (b ∷ bs) = GrowsTo a b × Grown xs bs
+
+same_arrival : (a : Arrival) → GrowsTo a a
+same_arrival a = record { slot = refl; parent = refl; side = refl; key = λ v is. is; ended = λ is. is }
+
+same_arrivals : (xs more : List Arrival) → Grown xs (xs ++ more)
+same_arrivals [] more = tt
+same_arrivals (a ∷ xs) more = (same_arrival a, same_arrivals xs more)
+
+unchanged : (xs : List Arrival) → Grown xs xs
+unchanged [] = tt
+unchanged (a ∷ xs) = (same_arrival a, unchanged xs)
+
+mapped : (f : Arrival → Arrival) → ((a : Arrival) → GrowsTo a (f a)) → (xs : List Arrival) → Grown xs (map f xs)
+mapped f grows [] = tt
+mapped f grows (a ∷ xs) = (grows a, mapped f grows xs)
+
+keyed_grows : (slot v : ℕ) (a : Arrival) → GrowsTo a (keyed slot v a)
+keyed_grows slot v a = cond_both ((a.slot == slot) && is_none a.key) (record a { key = Some v }) a (GrowsTo a)
+    (λ both. record { slot = refl; parent = refl; side = refl; key = λ u is. absurd (has_none a.key (and_parts (a.slot == slot) (is_none a.key) both).1 u is); ended = λ is. is })
+    (λ _. same_arrival a)
+  where
+    has_none : (o : Option ℕ) → is_none o ≡ true → (u : ℕ) → o ≡ Some u → ⊥
+    has_none None none u is = none-some u is
+    has_none (Some n) none u is = true≢false (sym none)
+
+ended_grows : (k slot : ℕ) (side : Side) (a : Arrival) → GrowsTo a (ended k slot side a)
+ended_grows k slot side a = cond_both (goes_on k slot side a) (record a { ended = true }) a (GrowsTo a)
+    (λ _. record { slot = refl; parent = refl; side = refl; key = λ u is. is; ended = λ is. refl })
+    (λ _. same_arrival a)
+
+entered : (ws : List Arrival) (slot parent : ℕ) (side : Side) → Grown ws (with_arrival ws slot parent side)
+entered ws slot parent side = cond_both (list_any (is_by slot parent side) ws) ws (ws ++ new_arrival slot parent side ∷ []) (Grown ws) (λ _. unchanged ws) (λ _. same_arrivals ws (new_arrival slot parent side ∷ []))
+
+edge_grows : (k : ℕ) (ws : List Arrival) (slot : ℕ) (side : Side) (child : ℕ) → Grown ws (walk_edge k ws slot side child)
+edge_grows k ws slot side child = cond_both (child == 0) (map (ended k slot side) ws) (cond (is_first slot side || list_any (goes_on k slot side) ws) (with_arrival ws child slot side) ws) (Grown ws)
+    (λ _. mapped (ended k slot side) (ended_grows k slot side) ws)
+    (λ _. cond_both (is_first slot side || list_any (goes_on k slot side) ws) (with_arrival ws child slot side) ws (Grown ws) (λ _. entered ws child slot side) (λ _. unchanged ws))
+
+walked_grows : (k : ℕ) (ws : List Arrival) (slot : ℕ) (f : Field) (r : Reply) → Grown ws (walked k ws slot f r)
+walked_grows k ws slot Key (KeyIs v) = mapped (keyed slot v) (keyed_grows slot v) ws
+walked_grows k ws slot (EdgeOn side) (EdgeIs e) = edge_grows k ws slot side e.slot
+walked_grows k ws slot f r = unchanged ws
+
+-- an arrival of the first list has one in the second that it grew to
+found : (xs bs : List Arrival) → Grown xs bs → (a : Arrival) (i : ℕ) → i < length xs → get_or xs i a ≡ a → (b : Arrival) × Contains bs b × GrowsTo a b
+found [] bs grown a i below at = absurd (omega (arith, below))
+found (x ∷ xs) [] grown a i below at = absurd grown
+found (x ∷ xs) (y ∷ bs) grown a zero below at = rw (← at) (y, (0, omega arith, refl), grown.0)
+found (x ∷ xs) (y ∷ bs) grown a (suc i) below at =
+    let there = found xs bs grown.1 a i (omega (arith, below)) at in
+    (there.0, (suc there.1.0, (let lt = there.1.1 in omega arith), there.1.2), there.2)
+
+-- ---- searches
+
+grows : (s t : Search) → t.call ≡ s.call → (s.linked ≡ true → t.linked ≡ true) → (s.cut ≡ true → t.cut ≡ true) → Grown s.walks t.walks → SearchGrows s t
+grows s t call linked cut walks = record { call = call; linked = linked; cut = cut; walks = λ a there. found s.walks t.walks walks a there.0 there.1 there.2 }
+
+itself : (s : Search) → SearchGrows s s
+itself s = grows s s refl (λ is. is) (λ is. is) (unchanged s.walks)
+
+look_grows : (s : Search) (slot : ℕ) (f : Field) (r : Reply) (o : Option Call) → SearchGrows s (look_for s o slot f r)
+look_grows s slot f r None = itself s
+look_grows s slot f r (Some c) = grows s (look_for s (Some c) slot f r) refl (λ is. is) (λ is. is) (walked_grows c.key s.walks slot f r)
+
+either_true : (a b : Bool) → a ≡ true → (a || b) ≡ true
+either_true true b is = refl
+either_true false b is = absurd (true≢false (sym is))
+
+pub only_grow : SearchesOnlyGrow
+unfolding searched
+only_grow s Sight (Pinned n) stands = absurd (true≢false stands)
+only_grow s (SightFor op key) (Pinned n) stands = absurd (true≢false stands)
+only_grow s Leave Departed stands = absurd (true≢false stands)
+only_grow s (LeaveWith answer) Departed stands = absurd (true≢false stands)
+only_grow s (Look slot f) r stands = look_grows s slot f r s.call
+only_grow s (Link p side leaf new) (Linked n) stands = grows s (record s { linked = true }) refl (λ is. refl) (λ is. is) (unchanged s.walks)
+only_grow s (Flag p side leaf) (Flagged n) stands = grows s (record s { flagged = Some n }) refl (λ is. is) (λ is. is) (unchanged s.walks)
+only_grow s (Splice a side x p keep) (Cut ns) stands = grows s (record s { cut = s.cut || is_flagged_in s.flagged ns }) refl (λ is. is) (λ is. either_true s.cut (is_flagged_in s.flagged ns) is) (unchanged s.walks)
+only_grow s e r stands = itself s

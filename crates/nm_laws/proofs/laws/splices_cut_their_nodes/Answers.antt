@@ -1,0 +1,11 @@
+use Rattle.nm_laws.proofs.Cuts.{cuts_just, cuts_go_down, cuts_name_births}
+use Rattle.nm_laws.proofs.laws.splices_cut_their_nodes.Goals as goal
+
+pub returns-clause-exactly : goal.returns-clause-exactly
+returns-clause-exactly c = cuts_just
+
+pub returns-clause-downwards : goal.returns-clause-downwards
+returns-clause-downwards c = cuts_go_down
+
+pub returns-clause-births : goal.returns-clause-births
+returns-clause-births c = cuts_name_births

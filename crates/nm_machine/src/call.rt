@@ -1,0 +1,271 @@
+//! What a worker's log tells of the operation of its pin: the walks for its key, and what it changed.
+#![tactic(auto, unfolding(nm_model::specs::Searches::searched))]
+
+ghost use Rattle.std.specs.Prelude.{◌≡◌, ◌||◌, is_some, false, [], None, OnOk};
+ghost use Rattle.std.specs.List.{list_any};
+ghost use Rattle.nm_model.specs.declared.event.Field.TheVariants as field;
+ghost use Rattle.nm_model.specs.declared.reply.Reply.TheVariants as reply;
+ghost use Rattle.nm_model.specs.Searches.{is_node, idle, begun, left, look_for, linked, flagged, spliced, is_flagged_in, searched, HasRoom, HasRoomFor};
+ghost use Rattle.nm_model.specs.Ordered.{has_removed, shows_call, links_in_order, flags_in_order};
+
+use crate::worker::Worker;
+use nm_edge::{Edge, NodeId, Side};
+use nm_model::event::{Event, Field, Op};
+use nm_model::reply::Reply;
+use nm_model::walks::{self, Arrival, Call};
+use std::alloc::{AllocError, Global};
+use std::marker::Model;
+
+/// What a worker's log tells of the operation of its pin.
+#[derive(Drop)]
+pub struct Search {
+    call: Option<Call>,
+    linked: bool,
+    flagged: Option<NodeId>,
+    cut: bool,
+    walks: Vec<Arrival>,
+    later: Vec<Arrival>,
+}
+
+impl Model for Search {
+    ghost use Rattle.std.specs.Prelude.{vec_capacity};
+    ghost use Rattle.nm_model.specs.Searches.{Roomy};
+
+    ghost Value = { Roomy };
+
+    ghost view = { λ s. record { tells = record { call = s.call; linked = s.linked; flagged = s.flagged; cut = s.cut; walks = s.walks.items; later = s.later.items }; room = vec_capacity s.walks; later_room = vec_capacity s.later } };
+}
+
+// Whether a node is one of these.
+fn is_among(nodes: &[NodeId], node: NodeId) -> bool
+    ensures { result ≡ list_any (is_node node) nodes.now }
+{
+    nodes.iter().any(|other| node.slot == other.slot && node.birth == other.birth)
+}
+
+impl Search {
+    /// No operation. Takes no memory.
+    pub fn idle(alloc: Global) -> Search
+        ensures { result.tells ≡ idle }
+    {
+        Search {
+            call: None,
+            linked: false,
+            flagged: None,
+            cut: false,
+            walks: Vec::new(alloc),
+            later: Vec::new(alloc),
+        }
+    }
+
+    /// Asks for the memory of one more arrival.
+    pub fn make_room(&mut self) -> Result<(), AllocError>
+        ensures same { self.new.tells ≡ self.old.tells }
+        ensures room { OnOk result (HasRoom self.new) }
+    {
+        self.walks.reserve(1)?;
+        self.later.reserve(1)
+    }
+
+    // No pin stands, or a new one for this operation.
+    fn restart(&mut self, call: Option<Call>)
+        ensures { self.new.tells ≡ record { call = call; linked = false; flagged = None; cut = false; walks = []; later = [] } }
+    {
+        self.call = call;
+        self.linked = false;
+        self.flagged = None;
+        self.cut = false;
+        self.walks.clear();
+        self.later.clear();
+    }
+
+    // A sight was answered, for this operation or for none.
+    fn begin(&mut self, call: Option<Call>, reply: &Reply)
+        ensures { self.new.tells ≡ begun self.old.tells call reply.now }
+    {
+        if let Reply::Pinned(_) = reply {
+            self.restart(call);
+        }
+    }
+
+    // A leave was answered.
+    fn leave(&mut self, reply: &Reply)
+        ensures { self.new.tells ≡ left self.old.tells reply.now }
+    {
+        if let Reply::Departed = reply {
+            self.restart(None);
+        }
+    }
+
+    // A look was answered.
+    fn look(&mut self, slot: u32, field: Field, reply: &Reply)
+        requires { HasRoom self.old }
+        ensures { self.new.tells ≡ look_for self.old.tells self.old.tells.call slot field reply.now }
+    {
+        match (field, reply) {
+            (Field::Key, Reply::KeyIs(key)) => self.key(slot, *key),
+            (Field::Edge(side), Reply::EdgeIs(edge)) => self.edge(slot, side, *edge),
+            _ => {}
+        }
+    }
+
+    // The key of a slot was looked at.
+    fn key(&mut self, slot: u32, key: u64)
+        ensures { self.new.tells ≡ look_for self.old.tells self.old.tells.call slot field.Key (reply.KeyIs key) }
+    {
+        if self.call.is_none() {
+            return;
+        }
+        walks::put_key(&mut self.walks, slot, key);
+        if self.flagged.is_some() {
+            walks::put_key(&mut self.later, slot, key);
+        }
+    }
+
+    // An edge of a slot was read.
+    fn edge(&mut self, slot: u32, side: Side, edge: Edge)
+        requires { HasRoom self.old }
+        ensures { self.new.tells ≡ look_for self.old.tells self.old.tells.call slot (field.Edge side) (reply.EdgeIs edge) }
+    {
+        let Some(call) = self.call else {
+            return;
+        };
+        walks::put_edge(&mut self.walks, call.key, slot, side, edge.slot());
+        if self.flagged.is_some() {
+            walks::put_edge(&mut self.later, call.key, slot, side, edge.slot());
+        }
+    }
+
+    // A link was answered.
+    fn link(&mut self, reply: &Reply)
+        ensures { self.new.tells ≡ linked self.old.tells reply.now }
+    {
+        if let Reply::Linked(_) = reply {
+            self.linked = true;
+        }
+    }
+
+    // A flag was answered.
+    fn flag(&mut self, reply: &Reply)
+        ensures { self.new.tells ≡ flagged self.old.tells reply.now }
+    {
+        if let Reply::Flagged(leaf) = reply {
+            self.flagged = Some(*leaf);
+        }
+    }
+
+    // A splice was answered.
+    fn splice(&mut self, reply: &Reply)
+        ensures { self.new.tells ≡ spliced self.old.tells reply.now }
+    {
+        if let Reply::Cut(nodes) = reply {
+            self.cut = self.cut || self.flagged_in(nodes.as_slice());
+        }
+    }
+
+    // Whether the flagged leaf is one of these nodes.
+    fn flagged_in(&self, nodes: &[NodeId]) -> bool
+        ensures { result ≡ is_flagged_in self.now.tells.flagged nodes.now }
+    {
+        match self.flagged {
+            Some(leaf) => is_among(nodes, leaf),
+            None => false,
+        }
+    }
+
+    /// An event was answered. A look takes room.
+    pub fn learn(&mut self, event: &Event, reply: &Reply)
+        requires { HasRoomFor event.now self.old }
+        ensures { self.new.tells ≡ searched self.old.tells event.now reply.now }
+    {
+        match *event {
+            Event::Sight => self.begin(None, reply),
+            Event::SightFor(op, key) => self.begin(Some(Call { op, key }), reply),
+            Event::Leave | Event::LeaveWith(_) => self.leave(reply),
+            Event::Look(slot, field) => self.look(slot, field, reply),
+            Event::Link(..) => self.link(reply),
+            Event::Flag(..) => self.flag(reply),
+            Event::Splice(..) => self.splice(reply),
+            Event::Announce
+            | Event::Scan(_)
+            | Event::Advance
+            | Event::Claim(_)
+            | Event::Give(_)
+            | Event::Fill(..)
+            | Event::Tag(..)
+            | Event::Join(_) => {}
+        }
+    }
+}
+
+impl Search {
+    // Whether the leaf that was flagged is cut: by an own splice, or since a walk that began after the flag ended elsewhere.
+    fn has_removed(&self) -> bool
+        ensures { result ≡ has_removed self.now.tells self.now.tells.flagged }
+    {
+        match self.flagged {
+            Some(leaf) => self.cut || walks::has_ended_elsewhere(&self.later, leaf.slot),
+            None => false,
+        }
+    }
+
+    /// Whether the log shows this answer of the operation.
+    pub fn shows(&self, answer: bool) -> bool
+        ensures { result ≡ shows_call self.now.tells self.now.tells.call answer }
+    {
+        let Some(Call { op, key }) = self.call else {
+            return false;
+        };
+        match (op, answer) {
+            (Op::Has, true) => walks::has_ended_at(&self.walks, key),
+            (Op::Has, false) => walks::has_ended_beside(&self.walks, key),
+            (Op::Insert, true) => self.linked,
+            (Op::Insert, false) => !self.linked && walks::has_ended_at(&self.walks, key),
+            (Op::Delete, true) => self.has_removed(),
+            (Op::Delete, false) => {
+                self.flagged.is_none() && walks::has_ended_beside(&self.walks, key)
+            }
+        }
+    }
+
+    /// Whether the operation has linked or flagged, so that it owes an answer.
+    pub fn owes_answer(&self) -> bool
+        ensures { result ≡ (self.now.tells.linked || is_some self.now.tells.flagged) }
+    {
+        self.linked || self.flagged.is_some()
+    }
+
+    /// Whether the operation is an insert that may link here: once, where a walk of it ended.
+    pub fn may_link(&self, worker: &Worker, parent: u32, side: Side, leaf: u32, new: u32) -> bool
+        ensures { result ≡ links_in_order worker.now self.now.tells self.now.tells.call parent side leaf new }
+    {
+        let Some(
+            Call {
+                op: Op::Insert,
+                key,
+            },
+        ) = self.call
+        else {
+            return false;
+        };
+        !self.linked
+            && worker.has_new_leaf(new, leaf, key)
+            && walks::may_link(&self.walks, worker.draft(new), key, parent, side, leaf)
+    }
+
+    /// Whether the operation is a delete that may flag here: one leaf, where a walk of it ended.
+    pub fn may_flag(&self, parent: u32, side: Side, leaf: u32) -> bool
+        ensures { result ≡ flags_in_order self.now.tells self.now.tells.call parent side leaf }
+    {
+        let Some(
+            Call {
+                op: Op::Delete,
+                key,
+            },
+        ) = self.call
+        else {
+            return false;
+        };
+        self.flagged.is_none() && walks::may_flag(&self.walks, key, parent, side, leaf)
+    }
+}

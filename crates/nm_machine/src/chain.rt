@@ -1,0 +1,115 @@
+//! The chain that a splice cuts off, by what its worker knows.
+ghost use Rattle.std.specs.Prelude.{◌≡◌, ◌++◌, [], ◌∷◌, is_some, unwrap_or, IfOk, OnOk, true};
+ghost use Rattle.nm_model.specs.Knowledge.{read, slot_read, leads_on, onward, way, cut_by};
+ghost use Rattle.nm_model.specs.Step.{is_frozen, kept};
+
+use crate::worker::Worker;
+use nm_edge::{Edge, Layout, Side};
+use std::alloc::{AllocError, Global};
+
+impl Worker {
+    // Whether the edge on a side is known tagged, and its twin known flagged.
+    fn leads_on(&self, slot: u32, side: Side) -> bool
+        ensures { result ≡ leads_on self.now slot side }
+    {
+        self.knows_tagged(slot, side)
+            && self.knows_flagged(slot, side.other())
+            && !self.knows_flagged(slot, side)
+    }
+
+    // The side on which the chain goes on.
+    fn onward(&self, slot: u32) -> Option<Side>
+        ensures { result ≡ onward self.now slot }
+    {
+        if self.leads_on(slot, Side::Left) {
+            return Some(Side::Left);
+        }
+        if self.leads_on(slot, Side::Right) {
+            return Some(Side::Right);
+        }
+        None
+    }
+
+    // The slot to which the edge on a side led when it was read; 0 where it was not.
+    fn slot_read(&self, slot: u32, side: Side) -> u32
+        ensures { result ≡ slot_read (read self.now slot side) }
+    {
+        match self.read(slot, side) {
+            Some(edge) => edge.slot(),
+            None => 0,
+        }
+    }
+
+    // Whether the chain leads from one node to another, past fewer than so many nodes. Takes no memory.
+    fn has_way(&self, fuel: u32, from: u32, to: u32) -> bool
+        ensures { result ≡ is_some (way fuel self.now from to) }
+    {
+        let mut at = from;
+        for _ in 0..fuel {
+            if at == to {
+                return true;
+            }
+            let Some(side) = self.onward(at) else {
+                return false;
+            };
+            at = self.slot_read(at, side);
+        }
+        false
+    }
+
+    /// Whether a chain of known tagged edges with flagged twins leads from the successor to the parent, and on by the edge that is kept.
+    pub fn is_frozen(&self, layout: Layout, successor: u32, parent: u32, keep: Side) -> bool
+        ensures { result ≡ is_frozen layout self.now successor parent keep }
+    {
+        self.has_way(layout.nodes(), successor, parent)
+            && self.knows_tagged(parent, keep)
+            && self.knows_flagged(parent, keep.other())
+    }
+
+    /// The edge that the splice leaves: the kept one without its tag.
+    pub fn kept(&self, parent: u32, keep: Side) -> Edge
+        ensures { result ≡ kept (read self.now parent keep) }
+    {
+        match self.read(parent, keep) {
+            Some(edge) => edge.untagged(),
+            None => Edge::to(0),
+        }
+    }
+
+    /// The slots of the chain, from the successor downwards, each internal node and then its flagged leaf.
+    pub fn cut(
+        &self,
+        alloc: Global,
+        fuel: u32,
+        from: u32,
+        to: u32,
+        keep: Side,
+    ) -> Result<Vec<u32>, AllocError>
+        requires { is_some (way fuel self.now from to) ≡ true }
+        ensures { IfOk result (λ slots. slots.items ≡ cut_by self.now from (unwrap_or (way fuel self.now from to) []) keep) }
+    {
+        let mut slots = Vec::new(alloc);
+        let mut at = from;
+        for _ in 0..fuel {
+            if at == to {
+                push_both(&mut slots, at, self.slot_read(at, keep.other()))?;
+                return Ok(slots);
+            }
+            let Some(side) = self.onward(at) else {
+                return Ok(slots);
+            };
+            push_both(&mut slots, at, self.slot_read(at, side.other()))?;
+            at = self.slot_read(at, side);
+        }
+        Ok(slots)
+    }
+}
+
+// An internal node and the flagged leaf beside its chain.
+fn push_both(slots: &mut Vec<u32>, node: u32, leaf: u32) -> Result<(), AllocError>
+    ensures { OnOk result (slots.new.items ≡ slots.old.items ++ node ∷ leaf ∷ []) }
+{
+    slots.push(node)?;
+    slots.push(leaf)?;
+    Ok(())
+}

@@ -1,0 +1,75 @@
+//! The keys of the set.
+ghost use Rattle.std.specs.Prelude.{◌≡◌, ◌++◌, IfOk, OnOk, option_to_list};
+ghost use Rattle.nm_model.specs.Memory.{node, child};
+ghost use Rattle.nm_model.specs.Reports.{set_key, below, keys};
+
+use crate::machine::Machine;
+use nm_edge::{Key, Side};
+use nm_model::keys::Subtree;
+use nm_model::memory::Node;
+use std::alloc::AllocError;
+
+// A key is found, if there is one.
+fn put_key(found: &mut Vec<Key>, key: Option<Key>) -> Result<(), AllocError>
+    ensures { OnOk result (found.new.items ≡ found.old.items ++ option_to_list key) }
+{
+    if let Some(key) = key {
+        found.push(key)?;
+    }
+    Ok(())
+}
+
+impl Machine {
+    // The words of a node.
+    fn node(&self, slot: u32) -> Node
+        ensures { result ≡ node self.now.memory slot }
+    {
+        match self.nodes.get(slot as usize) {
+            Some(node) => *node,
+            None => Node::blank(),
+        }
+    }
+
+    // The part below an edge of a slot.
+    fn part_below(&self, slot: u32, side: Side, depth: u32) -> Subtree
+        ensures { result ≡ record { slot = child self.now.memory slot side; depth = depth } }
+    {
+        let below = self.node(slot).edge(side).slot();
+        Subtree { slot: below, depth }
+    }
+
+    // The key of the set that a slot has.
+    fn key_at(&self, slot: u32) -> Option<Key>
+        ensures { result ≡ set_key (node self.now.memory slot) }
+    {
+        self.node(slot).set_key()
+    }
+
+    // The parts below a slot wait, the left one in front.
+    fn put_below(&self, waiting: &mut Vec<Subtree>, slot: u32, depth: u32) -> Result<(), AllocError>
+        ensures { OnOk result (waiting.new.items ≡ waiting.old.items ++ below self.now.memory slot depth) }
+    {
+        waiting.push(self.part_below(slot, Side::Right, depth))?;
+        waiting.push(self.part_below(slot, Side::Left, depth))?;
+        Ok(())
+    }
+
+    /// The keys of the set: those of the reached leaves, without the fixed ones, from left to right.
+    pub fn keys(&self) -> Result<Vec<Key>, AllocError>
+        ensures { IfOk result (λ found. found.items ≡ keys self.now) }
+    {
+        let mut found = Vec::new(self.alloc);
+        let mut waiting = Vec::new(self.alloc);
+        waiting.push(Subtree {
+            slot: 1,
+            depth: self.layout.nodes(),
+        })?;
+        while let Some(part) = waiting.pop() {
+            if part.slot != 0 && part.depth != 0 {
+                put_key(&mut found, self.key_at(part.slot))?;
+                self.put_below(&mut waiting, part.slot, part.depth - 1)?;
+            }
+        }
+        Ok(found)
+    }
+}

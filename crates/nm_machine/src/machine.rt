@@ -1,0 +1,152 @@
+//! All words of the tree, and what each worker knows.
+ghost use Rattle.std.specs.Prelude.{◌≡◌, ◌<◌, length, IfOk, OnOk, OnErr};
+ghost use Rattle.nm_model.specs.Memory.{named, put_edge};
+ghost use Rattle.nm_model.specs.Step.{outside};
+ghost use Rattle.nm_model.specs.Runs.{start, refused, reply_of, applied};
+ghost use Rattle.std.specs.Option.{option_copied};
+ghost use Rattle.nm_model.specs.Reports.{holder, ledger_of};
+ghost use Rattle.nm_model.specs.Answers.{IsAnswer, IsShaped};
+
+use crate::worker::Worker;
+use nm_edge::{Edge, Layout, NodeId, Side};
+use nm_model::event::Event;
+use nm_model::ledger::Ledger;
+use nm_model::memory::{self, Node};
+use nm_model::reply::{Refused, Reply};
+use std::alloc::{AllocError, Global};
+use std::marker::Model;
+
+/// All words of the tree, and what each worker knows.
+#[derive(Drop)]
+pub struct Machine {
+    pub alloc: Global,
+    pub layout: Layout,
+    pub epoch: u64,
+    pub notes: Vec<Option<u64>>,
+    pub nodes: Vec<Node>,
+    pub pool: Vec<bool>,
+    pub workers: Vec<Worker>,
+}
+
+impl Model for Machine {
+    ghost use Rattle.nm_model.specs.Runs.{State};
+
+    ghost Value = { State };
+
+    ghost view = { λ m. record { layout = m.layout; memory = record { epoch = m.epoch; notes = m.notes.items; nodes = m.nodes.items; pool = m.pool.items }; workers = m.workers.items } };
+}
+
+impl Machine {
+    /// The opening: the empty tree, and workers that have done nothing yet.
+    pub fn new(alloc: Global, layout: Layout) -> Result<Machine, AllocError>
+        ensures { IfOk result (λ machine. machine ≡ start layout) }
+    {
+        let workers = layout.workers();
+        let mut newcomers = Vec::with_capacity(alloc, workers as usize)?;
+        for number in 0..workers {
+            newcomers.push(Worker::new(alloc, layout, number)?)?;
+        }
+        Ok(Machine {
+            alloc,
+            layout,
+            epoch: 0,
+            notes: vec![in alloc; None; workers as usize]?,
+            nodes: memory::opening_nodes(alloc, layout)?,
+            pool: memory::opening_pool(alloc, layout)?,
+            workers: newcomers,
+        })
+    }
+
+    /// The global epoch.
+    pub fn epoch(&self) -> u64
+        ensures { result ≡ self.now.memory.epoch }
+    {
+        self.epoch
+    }
+
+    /// The worker that holds the ledger of an origin.
+    pub fn holder(&self, origin: u32) -> Option<u32>
+        requires { IsShaped self.now }
+        ensures { result ≡ holder self.now origin }
+    {
+        for number in 0..self.layout.workers() {
+            if self.workers[number as usize].ledger(origin).is_some() {
+                return Some(number);
+            }
+        }
+        None
+    }
+
+    /// The ledger of an origin, whoever holds it.
+    pub fn ledger(&self, origin: u32) -> Option<&Ledger>
+        ensures { option_copied result ≡ ledger_of self.now origin }
+    {
+        for worker in &self.workers {
+            if let Some(ledger) = worker.ledger(origin) {
+                return Some(ledger);
+            }
+        }
+        None
+    }
+
+    /// Whether a slot is not one of `least` to the number of nodes.
+    pub fn is_outside(&self, least: u32, slot: u32) -> bool
+        ensures { result ≡ outside least self.now.layout.nodes slot }
+    {
+        slot < least || self.layout.nodes() < slot
+    }
+
+    /// A slot with the birth that it has now.
+    pub fn named(&self, slot: u32) -> NodeId
+        ensures { result ≡ named self.now.memory slot }
+    {
+        let birth = match self.nodes.get(slot as usize) {
+            Some(node) => node.birth,
+            None => 0,
+        };
+        NodeId { slot, birth }
+    }
+
+    /// Stores an edge.
+    pub fn put_edge(&mut self, slot: u32, side: Side, edge: Edge)
+        requires { slot < length self.old.memory.nodes }
+        ensures { self.new ≡ record self.old { memory = put_edge self.old.memory slot side edge } }
+    {
+        let slot = slot as usize;
+        self.nodes[slot] = self.nodes[slot].with_edge(side, edge);
+    }
+
+    /// One event.
+    #[tactic(auto, unfolding(nm_model::specs::Runs::refused))]
+    pub fn apply(&mut self, worker: u32, event: Event) -> Result<Reply, Refused>
+        requires { IsShaped self.old }
+        ensures outcome { IsAnswer (refused self.old worker event) (reply_of self.old worker event) result }
+        ensures ok { OnOk result (self.new ≡ applied self.old worker event) }
+        ensures err { OnErr result (self.new ≡ self.old) }
+    {
+        if self.is_no_worker(worker) {
+            return Err(Refused::NoWorker);
+        }
+        let number = worker as usize;
+        match event {
+            Event::Sight => self.sight(number),
+            Event::SightFor(op, key) => self.sight_for(number, op, key),
+            Event::Announce => self.announce(number),
+            Event::Leave => self.leave(number),
+            Event::LeaveWith(answer) => self.leave_with(number, answer),
+            Event::Scan(other) => self.scan(number, other),
+            Event::Advance => self.advance(number),
+            Event::Claim(slot) => self.claim(number, slot),
+            Event::Give(slot) => self.give(number, slot),
+            Event::Look(slot, field) => self.look(number, slot, field),
+            Event::Fill(slot, field, value) => self.fill(number, slot, field, value),
+            Event::Link(parent, side, leaf, new) => self.link(number, parent, side, leaf, new),
+            Event::Flag(parent, side, leaf) => self.flag(number, parent, side, leaf),
+            Event::Tag(parent, side) => self.tag(number, parent, side),
+            Event::Splice(ancestor, side, successor, parent, keep) => {
+                self.splice(number, ancestor, side, successor, parent, keep)
+            }
+            Event::Join(leaver) => self.join(worker, leaver),
+        }
+    }
+}

@@ -1,0 +1,266 @@
+//! The steps on the edges of the tree.
+#![tactic(auto, unfolding(nm_model::specs::Step::refusal, nm_model::specs::Step::reply, nm_model::specs::Step::write, nm_model::specs::Learning::learn, nm_model::specs::Runs::applied))]
+
+ghost use Rattle.std.specs.Prelude.{◌≡◌, ◌≢◌, ◌<◌, ◌≤◌, true, length, map, is_some, OnOk, OnErr, IfOk, IfErr};
+ghost use Rattle.nm_model.specs.declared.event.Event.TheVariants as event;
+ghost use Rattle.nm_model.specs.Memory.{named};
+ghost use Rattle.nm_model.specs.Knowledge.{knows, way};
+ghost use Rattle.nm_model.specs.Step.{cut_nodes};
+ghost use Rattle.nm_model.specs.Runs.{of, refusal_of, reply_of, applied};
+ghost use Rattle.nm_model.specs.Answers.{IsAnswer, IsRefusedAs, IsShaped};
+
+use crate::machine::Machine;
+use nm_edge::{Edge, NodeId, Side};
+use nm_model::ledger::Nodes;
+use nm_model::reply::{Refused, Reply};
+use std::alloc::AllocError;
+
+impl Machine {
+    /// Whether the exchange may be tried.
+    pub fn may_link(
+        &self,
+        worker: usize,
+        parent: u32,
+        side: Side,
+        leaf: u32,
+        new: u32,
+    ) -> Result<(), Refused>
+        requires shaped { IsShaped self.now }
+        requires is_there { worker < length self.now.workers }
+        ensures allowed { OnOk result (refusal_of self.now worker (event.Link parent side leaf new) ≡ None) }
+        ensures refused { IfErr result (IsRefusedAs (refusal_of self.now worker (event.Link parent side leaf new))) }
+        ensures not_memory { IfErr result (λ why. why ≢ Refused.NoMemory) }
+        ensures slot { OnOk result (parent ≤ self.now.layout.nodes) }
+        ensures known { OnOk result (knows (of self.now worker) parent ≡ true) }
+    {
+        if self.is_outside(1, parent) || self.is_outside(1, leaf) || self.is_outside(6, new) {
+            return Err(Refused::NoSlot);
+        }
+        let knowledge = &self.workers[worker];
+        if knowledge.brief().pin.is_none() {
+            return Err(Refused::NotPinned);
+        }
+        if !knowledge.holds_leaf(parent, leaf) {
+            return Err(Refused::NotHeld);
+        }
+        if !knowledge.is_private(new) {
+            return Err(Refused::NotPrivate);
+        }
+        if !knowledge.is_linkable(new, leaf) {
+            return Err(Refused::NotReady);
+        }
+        Ok(())
+    }
+
+    pub fn link(
+        &mut self,
+        worker: usize,
+        parent: u32,
+        side: Side,
+        leaf: u32,
+        new: u32,
+    ) -> Result<Reply, Refused>
+        requires shaped { IsShaped self.old }
+        requires is_there { worker < length self.old.workers }
+        ensures outcome { IsAnswer (refusal_of self.old worker (event.Link parent side leaf new)) (reply_of self.old worker (event.Link parent side leaf new)) result }
+        ensures ok { OnOk result (self.new ≡ applied self.old worker (event.Link parent side leaf new)) }
+        ensures err { OnErr result (self.new ≡ self.old) }
+    {
+        self.may_link(worker, parent, side, leaf, new)?;
+        let found = self.nodes[parent as usize].edge(side);
+        if !found.is_to(leaf) {
+            self.workers[worker].read_edge(parent, side, found)?;
+            return Ok(Reply::Lost(found));
+        }
+        let node = self.workers[worker].link(leaf, new)?;
+        self.put_edge(parent, side, Edge::to(new));
+        Ok(Reply::Linked(node))
+    }
+
+    /// Whether the exchange may be tried.
+    pub fn may_flag(&self, worker: usize, parent: u32, side: Side, leaf: u32) -> Result<(), Refused>
+        requires shaped { IsShaped self.now }
+        requires is_there { worker < length self.now.workers }
+        ensures allowed { OnOk result (refusal_of self.now worker (event.Flag parent side leaf) ≡ None) }
+        ensures refused { IfErr result (IsRefusedAs (refusal_of self.now worker (event.Flag parent side leaf))) }
+        ensures not_memory { IfErr result (λ why. why ≢ Refused.NoMemory) }
+        ensures slot { OnOk result (parent ≤ self.now.layout.nodes) }
+        ensures known { OnOk result (knows (of self.now worker) parent ≡ true) }
+        ensures leaf { OnOk result (leaf ≢ 0) }
+    {
+        if self.is_outside(1, parent) || self.is_outside(6, leaf) {
+            return Err(Refused::NoSlot);
+        }
+        let knowledge = &self.workers[worker];
+        if knowledge.brief().pin.is_none() {
+            return Err(Refused::NotPinned);
+        }
+        if !knowledge.holds_leaf(parent, leaf) {
+            return Err(Refused::NotHeld);
+        }
+        Ok(())
+    }
+
+    pub fn flag(
+        &mut self,
+        worker: usize,
+        parent: u32,
+        side: Side,
+        leaf: u32,
+    ) -> Result<Reply, Refused>
+        requires shaped { IsShaped self.old }
+        requires is_there { worker < length self.old.workers }
+        ensures outcome { IsAnswer (refusal_of self.old worker (event.Flag parent side leaf)) (reply_of self.old worker (event.Flag parent side leaf)) result }
+        ensures ok { OnOk result (self.new ≡ applied self.old worker (event.Flag parent side leaf)) }
+        ensures err { OnErr result (self.new ≡ self.old) }
+    {
+        self.may_flag(worker, parent, side, leaf)?;
+        let edge = self.nodes[parent as usize].edge(side);
+        if !edge.is_to(leaf) {
+            self.workers[worker].read_edge(parent, side, edge)?;
+            return Ok(Reply::Lost(edge));
+        }
+        let node = self.named(leaf);
+        let flagged = Edge::to(leaf).flagged();
+        self.workers[worker].read_edge(parent, side, flagged)?;
+        self.put_edge(parent, side, flagged);
+        Ok(Reply::Flagged(node))
+    }
+
+    // Whether the exchange may be tried.
+    fn may_tag(&self, worker: usize, parent: u32, side: Side) -> Result<(), Refused>
+        requires shaped { IsShaped self.now }
+        requires is_there { worker < length self.now.workers }
+        ensures allowed { OnOk result (refusal_of self.now worker (event.Tag parent side) ≡ None) }
+        ensures refused { IfErr result (IsRefusedAs (refusal_of self.now worker (event.Tag parent side))) }
+        ensures slot { OnOk result (parent ≤ self.now.layout.nodes) }
+        ensures known { OnOk result (knows (of self.now worker) parent ≡ true) }
+    {
+        if self.is_outside(1, parent) {
+            return Err(Refused::NoSlot);
+        }
+        let knowledge = &self.workers[worker];
+        if knowledge.brief().pin.is_none() {
+            return Err(Refused::NotPinned);
+        }
+        if !knowledge.knows(parent) {
+            return Err(Refused::NotHeld);
+        }
+        if !knowledge.knows_flagged(parent, side.other()) {
+            return Err(Refused::NotFrozen);
+        }
+        Ok(())
+    }
+
+    pub fn tag(&mut self, worker: usize, parent: u32, side: Side) -> Result<Reply, Refused>
+        requires shaped { IsShaped self.old }
+        requires is_there { worker < length self.old.workers }
+        ensures outcome { IsAnswer (refusal_of self.old worker (event.Tag parent side)) (reply_of self.old worker (event.Tag parent side)) result }
+        ensures ok { OnOk result (self.new ≡ applied self.old worker (event.Tag parent side)) }
+        ensures err { OnErr result (self.new ≡ self.old) }
+    {
+        self.may_tag(worker, parent, side)?;
+        let edge = self.nodes[parent as usize].edge(side);
+        self.workers[worker].read_edge(parent, side, edge.tagged())?;
+        self.put_edge(parent, side, edge.tagged());
+        Ok(Reply::Was(edge))
+    }
+
+    // Whether the exchange may be tried.
+    fn may_splice(
+        &self,
+        worker: usize,
+        ancestor: u32,
+        side: Side,
+        successor: u32,
+        parent: u32,
+        keep: Side,
+    ) -> Result<(), Refused>
+        requires shaped { IsShaped self.now }
+        requires is_there { worker < length self.now.workers }
+        ensures allowed { OnOk result (refusal_of self.now worker (event.Splice ancestor side successor parent keep) ≡ None) }
+        ensures refused { IfErr result (IsRefusedAs (refusal_of self.now worker (event.Splice ancestor side successor parent keep))) }
+        ensures slot { OnOk result (ancestor ≤ self.now.layout.nodes) }
+        ensures known { OnOk result (knows (of self.now worker) ancestor ≡ true) }
+        ensures leads { OnOk result (is_some (way self.now.layout.nodes (of self.now worker) successor parent) ≡ true) }
+    {
+        if self.is_outside(1, ancestor)
+            || self.is_outside(6, successor)
+            || self.is_outside(6, parent)
+        {
+            return Err(Refused::NoSlot);
+        }
+        let knowledge = &self.workers[worker];
+        if knowledge.brief().pin.is_none() {
+            return Err(Refused::NotPinned);
+        }
+        if !(knowledge.knows(ancestor) && knowledge.knows(successor)) {
+            return Err(Refused::NotHeld);
+        }
+        if !knowledge.is_frozen(self.layout, successor, parent, keep) {
+            return Err(Refused::NotFrozen);
+        }
+        Ok(())
+    }
+
+    // The nodes of a chain, each by its birth word.
+    fn cut_nodes(
+        &self,
+        worker: usize,
+        successor: u32,
+        parent: u32,
+        keep: Side,
+    ) -> Result<Vec<NodeId>, AllocError>
+        requires is_there { worker < length self.now.workers }
+        requires leads { is_some (way self.now.layout.nodes (of self.now worker) successor parent) ≡ true }
+        ensures { IfOk result (λ nodes. nodes.items ≡ cut_nodes self.now.layout self.now.memory (of self.now worker) successor parent keep) }
+    {
+        let slots = self.workers[worker].cut(
+            self.alloc,
+            self.layout.nodes(),
+            successor,
+            parent,
+            keep,
+        )?;
+        self.names(&slots)
+    }
+
+    // Slots, each with the birth that it has now.
+    fn names(&self, slots: &[u32]) -> Result<Vec<NodeId>, AllocError>
+        ensures { IfOk result (λ nodes. nodes.items ≡ map (named self.now.memory) slots.now) }
+    {
+        let mut nodes = Vec::with_capacity(self.alloc, slots.len())?;
+        for slot in slots {
+            nodes.push(self.named(*slot))?;
+        }
+        Ok(nodes)
+    }
+
+    pub fn splice(
+        &mut self,
+        worker: usize,
+        ancestor: u32,
+        side: Side,
+        successor: u32,
+        parent: u32,
+        keep: Side,
+    ) -> Result<Reply, Refused>
+        requires shaped { IsShaped self.old }
+        requires is_there { worker < length self.old.workers }
+        ensures outcome { IsAnswer (refusal_of self.old worker (event.Splice ancestor side successor parent keep)) (reply_of self.old worker (event.Splice ancestor side successor parent keep)) result }
+        ensures ok { OnOk result (self.new ≡ applied self.old worker (event.Splice ancestor side successor parent keep)) }
+        ensures err { OnErr result (self.new ≡ self.old) }
+    {
+        self.may_splice(worker, ancestor, side, successor, parent, keep)?;
+        let edge = self.nodes[ancestor as usize].edge(side);
+        if !edge.is_to(successor) {
+            self.workers[worker].read_edge(ancestor, side, edge)?;
+            return Ok(Reply::Lost(edge));
+        }
+        let cut = self.cut_nodes(worker, successor, parent, keep)?;
+        let kept = self.workers[worker].kept(parent, keep);
+        self.workers[worker].retire(worker, &cut)?;
+        self.put_edge(ancestor, side, kept);
+        Ok(Reply::Cut(Nodes::from_vec(cut)))
+    }
+}

@@ -1,0 +1,517 @@
+//! What one worker knows, and how its events add to it.
+ghost use Rattle.std.specs.Prelude.{◌≡◌, ◌≢◌, ◌<◌, ◌==◌, ◌^◌, true, false, not, ◌&&◌, unwrap_or, replicate, length, [], Some, None, IfOk, IfErr, OnOk, OnErr};
+ghost use Rattle.std.specs.Option.{option_copied};
+ghost use Rattle.nm_model.specs.declared.event.Field.TheVariants.{Birth};
+ghost use Rattle.nm_model.specs.declared.reply.Reply.TheVariants.{BirthIs};
+ghost use Rattle.nm_model.specs.Maps.{put, without, is_number};
+ghost use Rattle.nm_model.specs.Ledgers.{held, front_of, free};
+ghost use Rattle.nm_model.specs.Knowledge.{newcomer, unfilled, knows, is_private, seen_of, draft_of, beside, read, is_null, is_flagged, is_tagged, knows_leaf};
+ghost use Rattle.nm_model.specs.Learning.{saw, labelled, pinned, rooted, moved, learn_sight, learn_scan, looked, met, read_edge, linked, cutting, inheriting, resigned};
+ghost use Rattle.nm_model.specs.Reports.{in_queues};
+ghost use Rattle.nm_model.specs.Ordered.{new_leaf};
+ghost use Rattle.nm_model.specs.Step.{reply_sight, reply_scan, reply_look, others_scanned, node_of, node_linked, is_leaf_draft, is_linkable, first, free_checks};
+
+use nm_edge::{Edge, Key, Layout, NodeId, Side};
+use nm_model::event::Field;
+use nm_model::knowledge::{Brief, Draft, Seen};
+use nm_model::ledger::Ledger;
+use nm_model::ledgers::Ledgers;
+use nm_model::memory::Node;
+use nm_model::reply::{Refused, Reply};
+use nm_model::slot_map::SlotMap;
+use std::alloc::{AllocError, Global};
+use std::marker::Model;
+use std::mem;
+
+/// The knowledge of one worker.
+#[derive(Drop)]
+pub struct Worker {
+    alloc: Global,
+    brief: Brief,
+    scanned: Vec<bool>,
+    known: SlotMap<Seen>,
+    drafts: SlotMap<Draft>,
+    ledgers: Ledgers,
+    gone: bool,
+}
+
+impl Model for Worker {
+    ghost use Rattle.nm_model.specs.Knowledge.{Knowledge};
+
+    ghost Value = { Knowledge };
+
+    ghost view = { λ w. record { brief = w.brief; scanned = w.scanned.items; known = w.known; drafts = w.drafts; ledgers = w.ledgers; gone = w.gone } };
+}
+
+impl Worker {
+    /// A worker that has done nothing yet.
+    pub fn new(alloc: Global, layout: Layout, number: u32) -> Result<Worker, AllocError>
+        requires { number < layout.workers }
+        ensures { IfOk result (λ worker. worker ≡ newcomer layout number) }
+    {
+        let workers = layout.workers() as usize;
+        Ok(Worker {
+            alloc,
+            brief: Brief {
+                seen: None,
+                note: None,
+                pin: None,
+                unlabelled: false,
+            },
+            scanned: vec![in alloc; false; workers]?,
+            known: SlotMap::new(alloc),
+            drafts: SlotMap::new(alloc),
+            ledgers: Ledgers::own(alloc, workers, number as usize)?,
+            gone: false,
+        })
+    }
+
+    /// Its epochs.
+    pub fn brief(&self) -> Brief
+        ensures { result ≡ self.now.brief }
+    {
+        self.brief
+    }
+
+    /// Whether it has resigned.
+    pub fn is_gone(&self) -> bool
+        ensures { result ≡ self.now.gone }
+    {
+        self.gone
+    }
+
+    /// How many slots are private to it.
+    pub fn private(&self) -> usize
+        ensures { result ≡ length self.now.drafts }
+    {
+        self.drafts.len()
+    }
+
+    /// How many entries wait in the queues that it holds.
+    pub fn waiting(&self) -> usize
+        requires { in_queues self.now.ledgers < 2 ^ 32 }
+        ensures { result ≡ in_queues self.now.ledgers }
+    {
+        self.ledgers.waiting()
+    }
+
+    // The global epoch was read.
+    fn saw(&mut self, epoch: u64)
+        ensures { self.new ≡ saw self.old epoch }
+    {
+        if self.brief.seen != Some(epoch) {
+            self.scanned.fill(false);
+        }
+        self.brief.seen = Some(epoch);
+    }
+
+    /// The global epoch was read: it labels a cut, or confirms a pin, or is only seen.
+    pub fn sight(&mut self, epoch: u64) -> Result<Reply, AllocError>
+        ensures reply { IfOk result (λ reply. reply ≡ reply_sight self.old epoch) }
+        ensures ok { OnOk result (self.new ≡ learn_sight self.old (reply_sight self.old epoch)) }
+        ensures err { OnErr result (self.new ≡ self.old) }
+    {
+        if self.brief.unlabelled {
+            self.saw(epoch);
+            self.label(epoch);
+            return Ok(Reply::Labelled(epoch));
+        }
+        match (self.brief.pin, self.brief.note) {
+            (None, Some(announced)) if announced == epoch => {
+                let known = rooted(self.alloc)?;
+                self.saw(epoch);
+                self.pin(epoch, known);
+                Ok(Reply::Pinned(epoch))
+            }
+            (None, Some(_)) => {
+                self.saw(epoch);
+                Ok(Reply::Missed(epoch))
+            }
+            _ => {
+                self.saw(epoch);
+                Ok(Reply::Saw(epoch))
+            }
+        }
+    }
+
+    // Its cuts have this label.
+    fn label(&mut self, epoch: u64)
+        ensures { self.new ≡ labelled self.old epoch }
+    {
+        self.ledgers.label(epoch);
+        self.brief.unlabelled = false;
+    }
+
+    // It is pinned, and knows the root and its left child.
+    fn pin(&mut self, epoch: u64, known: SlotMap<Seen>)
+        requires { known ≡ rooted }
+        ensures { self.new ≡ pinned self.old epoch }
+    {
+        self.brief.pin = Some(epoch);
+        self.known = known;
+    }
+
+    /// The epoch that was seen is announced.
+    pub fn announce(&mut self, epoch: u64)
+        ensures { self.new ≡ record self.old { brief = record self.old.brief { note = Some epoch } } }
+    {
+        self.brief.note = Some(epoch);
+    }
+
+    /// The announcement was taken back: it forgets all known nodes.
+    pub fn leave(&mut self)
+        ensures { self.new ≡ record self.old { brief = record self.old.brief { note = None; pin = None }; known = [] } }
+    {
+        self.brief.note = None;
+        self.brief.pin = None;
+        self.known.clear();
+    }
+
+    /// The announcement of a worker was read.
+    pub fn scan(&mut self, other: usize, note: Option<u64>) -> Reply
+        requires { other < length self.old.scanned }
+        ensures reply { result ≡ reply_scan note }
+        ensures knows { self.new ≡ learn_scan self.old other (reply_scan note) }
+    {
+        self.scanned[other] = note.is_none() || note == self.brief.seen;
+        note.map_or(Reply::Idle, Reply::In)
+    }
+
+    /// Whether each worker was scanned at the epoch last read, this one, of number `me`, aside.
+    pub fn has_scanned_others(&self, me: usize) -> bool
+        ensures { result ≡ others_scanned me self.now.scanned }
+    {
+        others_scanned(me, &self.scanned)
+    }
+
+    /// An exchange of the global epoch found or left this one.
+    pub fn moved(&mut self, epoch: u64)
+        ensures { self.new ≡ moved self.old epoch }
+    {
+        self.brief.seen = Some(epoch);
+        self.scanned.fill(false);
+    }
+}
+
+impl Worker {
+    /// Whether a node is known.
+    pub fn knows(&self, slot: u32) -> bool
+        ensures { result ≡ knows self.now slot }
+    {
+        self.known.contains(slot)
+    }
+
+    /// Whether a slot is private.
+    pub fn is_private(&self, slot: u32) -> bool
+        ensures { result ≡ is_private self.now slot }
+    {
+        self.drafts.contains(slot)
+    }
+
+    /// Whether it has private slots.
+    pub fn has_private(&self) -> bool
+        ensures { result ≡ not (length self.now.drafts == 0) }
+    {
+        !self.drafts.is_empty()
+    }
+
+    // What is known of a node.
+    fn seen(&self, slot: u32) -> Seen
+        ensures { result ≡ seen_of self.now slot }
+    {
+        match self.known.get(slot) {
+            Some(seen) => seen,
+            None => Seen::unread(),
+        }
+    }
+
+    /// What was filled into a private slot.
+    pub fn draft(&self, slot: u32) -> Draft
+        ensures { result ≡ draft_of self.now slot }
+    {
+        self.drafts.get(slot).unwrap_or(Draft::unfilled())
+    }
+
+    /// The last word read of an edge.
+    pub fn read(&self, slot: u32, side: Side) -> Option<Edge>
+        ensures { result ≡ read self.now slot side }
+    {
+        self.seen(slot).on(side)
+    }
+
+    /// Whether an edge of the node was read as null.
+    pub fn knows_leaf(&self, slot: u32) -> bool
+        ensures { result ≡ knows_leaf self.now slot }
+    {
+        is_null(self.read(slot, Side::Left)) || is_null(self.read(slot, Side::Right))
+    }
+
+    /// A slot was claimed.
+    pub fn claim(&mut self, slot: u32) -> Result<(), AllocError>
+        ensures ok { OnOk result (self.new ≡ record self.old { drafts = put self.old.drafts slot unfilled }) }
+        ensures err { OnErr result (self.new ≡ self.old) }
+    {
+        self.drafts.put(slot, Draft::unfilled())
+    }
+
+    /// A private slot was given back.
+    pub fn give(&mut self, slot: u32)
+        ensures { self.new ≡ record self.old { drafts = without self.old.drafts slot } }
+    {
+        self.drafts.remove(slot);
+    }
+
+    /// The node at the front of a queue, where it may be freed.
+    pub fn may_free(&self, slot: u32) -> Result<NodeId, Refused>
+        ensures ok { IfOk result (λ node. node ≡ node_of (front_of self.now.ledgers slot)) }
+        ensures allowed { OnOk result (first (free_checks self.now slot) ≡ None) }
+        ensures refused { IfErr result (λ why. first (free_checks self.now slot) ≡ Some why) }
+        ensures not_memory { IfErr result (λ why. why ≢ Refused.NoMemory) }
+    {
+        let entry = self.ledgers.find(slot).ok_or(Refused::NotPrivate)?;
+        let seen = self.brief.seen.ok_or(Refused::NotReady)?;
+        if entry.label.is_none() {
+            return Err(Refused::NotReady);
+        }
+        let front = self.ledgers.front(slot).ok_or(Refused::NotFront)?;
+        if front.is_young(seen) {
+            return Err(Refused::TooYoung);
+        }
+        Ok(front.node)
+    }
+
+    /// The node at the front of a queue was freed.
+    pub fn free(&mut self, node: NodeId) -> Result<(), AllocError>
+        ensures ok { OnOk result (self.new ≡ record self.old { ledgers = free self.old.ledgers node }) }
+        ensures err { OnErr result (self.new ≡ self.old) }
+    {
+        self.ledgers.free(node)
+    }
+
+    /// A field of a slot was read: of a known node the worker learns an edge or a birth, of a private slot a birth.
+    pub fn look(&mut self, slot: u32, field: Field, node: Node) -> Result<Reply, AllocError>
+        requires { is_private self.old slot ≡ false → knows self.old slot ≡ true }
+        ensures reply { IfOk result (λ reply. reply ≡ reply_look node field) }
+        ensures ok { OnOk result (self.new ≡ looked self.old slot field (reply_look node field)) }
+        ensures err { OnErr result (self.new ≡ self.old) }
+    {
+        match field {
+            Field::Key => Ok(Reply::KeyIs(node.key)),
+            Field::Edge(side) => {
+                let edge = node.edge(side);
+                if !self.is_private(slot) {
+                    self.read_edge(slot, side, edge)?;
+                }
+                Ok(Reply::EdgeIs(edge))
+            }
+            Field::Birth => {
+                self.look_at_birth(slot, node.birth)?;
+                Ok(Reply::BirthIs(node.birth))
+            }
+        }
+    }
+
+    // A birth was read.
+    fn look_at_birth(&mut self, slot: u32, birth: u64) -> Result<(), AllocError>
+        ensures ok { OnOk result (self.new ≡ looked self.old slot Birth (BirthIs birth)) }
+        ensures err { OnErr result (self.new ≡ self.old) }
+    {
+        if self.is_private(slot) {
+            let draft = Draft {
+                looked: Some(birth),
+                ..self.draft(slot)
+            };
+            return self.drafts.put(slot, draft);
+        }
+        let seen = Seen {
+            birth: Some(birth),
+            ..self.seen(slot)
+        };
+        self.known.put(slot, seen)
+    }
+
+    // A slot is known from now on, if it is one.
+    fn meet(&mut self, slot: u32) -> Result<(), AllocError>
+        ensures ok { OnOk result (self.new ≡ record self.old { known = met self.old.known slot }) }
+        ensures err { OnErr result (self.new ≡ self.old) }
+    {
+        if slot == 0 || self.known.contains(slot) {
+            return Ok(());
+        }
+        self.known.put(slot, Seen::unread())
+    }
+
+    /// A field of a private slot was stored.
+    pub fn fill(&mut self, slot: u32, draft: Draft)
+        requires { is_private self.old slot ≡ true }
+        ensures { self.new ≡ record self.old { drafts = put self.old.drafts slot draft } }
+    {
+        self.drafts.replace(slot, draft);
+    }
+
+    /// Whether a parent is known, and a leaf known as one.
+    pub fn holds_leaf(&self, parent: u32, leaf: u32) -> bool
+        ensures { result ≡ (knows self.now parent && (knows self.now leaf && knows_leaf self.now leaf)) }
+    {
+        self.knows(parent) && self.knows(leaf) && self.knows_leaf(leaf)
+    }
+
+    /// Whether the edge on a side was last read as flagged.
+    pub fn knows_flagged(&self, slot: u32, side: Side) -> bool
+        ensures { result ≡ is_flagged (read self.now slot side) }
+    {
+        self.read(slot, side).is_some_and(Edge::flag)
+    }
+
+    /// Whether the edge on a side was last read as tagged.
+    pub fn knows_tagged(&self, slot: u32, side: Side) -> bool
+        ensures { result ≡ is_tagged (read self.now slot side) }
+    {
+        self.read(slot, side).is_some_and(Edge::tag)
+    }
+
+    // Whether a private slot is filled as a leaf.
+    fn is_leaf_draft(&self, slot: u32) -> bool
+        ensures { result ≡ is_leaf_draft self.now slot }
+    {
+        let draft = self.draft(slot);
+        self.is_private(slot)
+            && draft.key.is_some()
+            && draft.left == Some(0)
+            && draft.right == Some(0)
+    }
+
+    /// Whether a private slot is filled as an internal node over this leaf and a private leaf.
+    pub fn is_linkable(&self, new: u32, leaf: u32) -> bool
+        ensures { result ≡ is_linkable self.now new leaf }
+    {
+        self.draft(new).is_fork_over(leaf) && self.is_leaf_draft(self.leaf_beside(new, leaf))
+    }
+
+    // Two slots are private no longer.
+    fn publish(&mut self, new: u32, leaf: u32)
+        ensures { self.new ≡ record self.old { drafts = without (without self.old.drafts new) leaf } }
+    {
+        self.drafts.remove(new);
+        self.drafts.remove(leaf);
+    }
+
+    /// A private slot was put into the tree, over this leaf and the private leaf beside it. Answers the new node.
+    pub fn link(&mut self, leaf: u32, new: u32) -> Result<NodeId, AllocError>
+        ensures node { IfOk result (λ node. node ≡ node_linked self.old new) }
+        ensures ok { OnOk result (self.new ≡ linked self.old leaf new) }
+        ensures err { OnErr result (self.new ≡ self.old) }
+    {
+        let node = self.node_drafted(new);
+        let beside = self.leaf_beside(new, leaf);
+        self.meet(new)?;
+        self.publish(new, beside);
+        Ok(node)
+    }
+
+    /// Nodes were cut by this worker, of this number, and wait for their label.
+    pub fn retire(&mut self, number: usize, nodes: &[NodeId]) -> Result<(), AllocError>
+        requires { number < length self.old.ledgers }
+        ensures ok { OnOk result (self.new ≡ cutting number self.old nodes.now) }
+        ensures err { OnErr result (self.new ≡ self.old) }
+    {
+        self.ledgers.retire(number, nodes)?;
+        self.brief.unlabelled = true;
+        Ok(())
+    }
+
+    /// A copy of the ledgers that it holds.
+    pub fn ledgers_in(&self, alloc: Global) -> Result<Ledgers, AllocError>
+        ensures { IfOk result (λ ledgers. ledgers ≡ self.now.ledgers) }
+    {
+        self.ledgers.clone_in(alloc)
+    }
+
+    /// The ledger of an origin, if it holds it.
+    pub fn ledger(&self, origin: u32) -> Option<&Ledger>
+        ensures { option_copied result ≡ held self.now.ledgers origin }
+    {
+        self.ledgers.get(origin)
+    }
+
+    /// It resigns, and its ledgers pass to another.
+    pub fn resign(&mut self, none: Ledgers) -> Ledgers
+        requires { none ≡ replicate (length self.old.ledgers) None }
+        ensures ledgers { result ≡ self.old.ledgers }
+        ensures gone { self.new ≡ resigned self.old }
+    {
+        self.gone = true;
+        mem::replace(&mut self.ledgers, none)
+    }
+
+    /// It takes over the ledgers of another.
+    pub fn inherit(&mut self, passed: Ledgers)
+        requires { length passed ≡ length self.old.ledgers }
+        ensures { self.new ≡ inheriting self.old passed }
+    {
+        self.ledgers.take_over(passed);
+    }
+
+    // The node that a private slot becomes.
+    fn node_drafted(&self, new: u32) -> NodeId
+        ensures { result ≡ node_linked self.now new }
+    {
+        NodeId {
+            slot: new,
+            birth: self.draft(new).birth.unwrap_or(0),
+        }
+    }
+
+    // Of the two filled edges of a private slot, where the one leads that does not lead to this leaf.
+    fn leaf_beside(&self, new: u32, leaf: u32) -> u32
+        ensures { result ≡ unwrap_or (beside (draft_of self.now new) leaf) 0 }
+    {
+        self.draft(new).beside(leaf).unwrap_or(0)
+    }
+
+    /// Whether the new leaf, which stands beside this leaf under a new internal node, has this key.
+    pub fn has_new_leaf(&self, new: u32, leaf: u32, key: Key) -> bool
+        ensures { result ≡ is_number (new_leaf self.now leaf new).key key }
+    {
+        self.draft(self.leaf_beside(new, leaf)).has_key(key)
+    }
+
+    /// An edge of a known node was read, and its slot is known from now on.
+    pub fn read_edge(&mut self, slot: u32, side: Side, edge: Edge) -> Result<(), AllocError>
+        requires { knows self.old slot ≡ true }
+        ensures ok { OnOk result (self.new ≡ read_edge self.old slot side edge) }
+        ensures err { OnErr result (self.new ≡ self.old) }
+    {
+        let seen = self.seen(slot).with_read(side, edge);
+        self.meet(edge.slot())?;
+        self.known.replace(slot, seen);
+        Ok(())
+    }
+}
+
+// What a worker knows as it is pinned.
+fn rooted(alloc: Global) -> Result<SlotMap<Seen>, AllocError>
+    ensures { IfOk result (λ known. known ≡ rooted) }
+{
+    let mut known = SlotMap::new(alloc);
+    known.put(1, Seen::unread())?;
+    known.put(2, Seen::unread())?;
+    Ok(known)
+}
+
+// An edge was read, and as null.
+fn is_null(edge: Option<Edge>) -> bool
+    ensures { result ≡ is_null edge }
+{
+    edge.is_some_and(|edge| edge.slot() == 0)
+}
+
+// Each worker but this one is scanned.
+fn others_scanned(me: usize, scanned: &[bool]) -> bool
+    ensures { result ≡ others_scanned me scanned.now }
+{
+    scanned
+        .iter()
+        .enumerate()
+        .all(|(worker, scanned)| *scanned || worker == me)
+}

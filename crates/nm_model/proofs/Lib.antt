@@ -1,0 +1,9 @@
+pub mod Numbers
+pub mod Lists
+pub mod Counting
+pub mod Tables
+pub mod Freeing
+pub mod QueueIndices
+pub mod QueueLabels
+pub mod Ways
+pub mod SetKeys

@@ -1,0 +1,116 @@
+-- What one worker knows.
+use Rattle.std.specs.Prelude.{ℕ, zero, suc, ◌==◌, Bool, true, false, not, ◌&&◌, ◌||◌, List, [], ◌∷◌, replicate, slice_set, if◌then◌else◌, Option, Some, None, unwrap_or}
+use Rattle.nm_edge.specs.Edges.{Edge, other}
+use Rattle.nm_edge.specs.Layouts.{Layout}
+use Rattle.nm_edge.specs.declared.edge.Side.{Side}
+use Rattle.nm_edge.specs.declared.edge.Side.TheVariants.{Left, Right}
+use Rattle.nm_model.specs.declared.knowledge.Brief.{Brief}
+use Rattle.nm_model.specs.declared.knowledge.Seen.{Seen}
+use Rattle.nm_model.specs.declared.knowledge.Draft.{Draft}
+use Rattle.nm_model.specs.declared.ledger.Ledger.{Ledger}
+use Rattle.nm_model.specs.Ledgers.{fresh_ledger}
+use Rattle.nm_model.specs.Maps.{get, has, is_number}
+
+-- the epochs of a worker; by worker, whether it was scanned at the epoch last read; the known nodes; the private slots;
+-- the ledgers that it holds, by origin; and whether it has resigned
+pub record Knowledge : Type 0 where
+  pub brief : Brief
+  pub scanned : List Bool
+  pub known : List (ℕ × Seen)
+  pub drafts : List (ℕ × Draft)
+  pub ledgers : List (Option Ledger)
+  pub gone : Bool
+
+-- ---- at first
+
+abbrev pub unread : Seen
+unread = record { left = None; right = None; birth = None }
+
+abbrev pub unfilled : Draft
+unfilled = record { looked = None; birth = None; key = None; left = None; right = None }
+
+-- worker w, which has done nothing yet, holds its own ledger alone
+abbrev pub newcomer : Layout → ℕ → Knowledge
+newcomer L w = record {
+  brief = record { seen = None; note = None; pin = None; unlabelled = false };
+  scanned = replicate L.workers false;
+  known = [];
+  drafts = [];
+  ledgers = slice_set (replicate L.workers None) w (Some fresh_ledger);
+  gone = false;
+}
+
+-- ---- reading
+
+abbrev pub knows : Knowledge → ℕ → Bool
+knows k s = has k.known s
+
+abbrev pub is_private : Knowledge → ℕ → Bool
+is_private k s = has k.drafts s
+
+abbrev pub seen_of : Knowledge → ℕ → Seen
+seen_of k s = unwrap_or (get k.known s) unread
+
+abbrev pub draft_of : Knowledge → ℕ → Draft
+draft_of k s = unwrap_or (get k.drafts s) unfilled
+
+abbrev pub read_on : Seen → Side → Option Edge
+read_on n Left = n.left
+read_on n Right = n.right
+
+-- the last word read of an edge
+abbrev pub read : Knowledge → ℕ → Side → Option Edge
+read k s side = read_on (seen_of k s) side
+
+abbrev pub is_null : Option Edge → Bool
+is_null None = false
+is_null (Some e) = e.slot == 0
+
+abbrev pub is_flagged : Option Edge → Bool
+is_flagged None = false
+is_flagged (Some e) = e.flag
+
+abbrev pub is_tagged : Option Edge → Bool
+is_tagged None = false
+is_tagged (Some e) = e.tag
+
+abbrev pub slot_read : Option Edge → ℕ
+slot_read None = 0
+slot_read (Some e) = e.slot
+
+-- an edge of it was read as null
+abbrev pub knows_leaf : Knowledge → ℕ → Bool
+knows_leaf k s = is_null (read k s Left) || is_null (read k s Right)
+
+-- of a slot's two filled edges the one that does not lead to the leaf
+abbrev pub beside : Draft → ℕ → Option ℕ
+beside d leaf = if is_number d.left leaf then d.right else d.left
+
+-- ---- the way of a splice
+
+-- the edge is known tagged and its twin known flagged. (A flagged edge leads to a leaf, so the way never goes on by one.)
+abbrev pub leads_on : Knowledge → ℕ → Side → Bool
+leads_on k s side = is_tagged (read k s side) && (is_flagged (read k s (other side)) && not (is_flagged (read k s side)))
+
+-- the side on which the way goes on, where it does
+abbrev pub onward : Knowledge → ℕ → Option Side
+onward k s = if leads_on k s Left then Some Left else if leads_on k s Right then Some Right else None
+
+abbrev pub slot_on : Knowledge → ℕ → Option Side → ℕ
+slot_on k s None = 0
+slot_on k s (Some side) = slot_read (read k s side)
+
+abbrev pub before_way : Option Side → Option (List Side) → Option (List Side)
+before_way (Some side) (Some sides) = Some (side ∷ sides)
+before_way (Some side) None = None
+before_way None sides = None
+
+-- the sides by which the way goes from s to p, past fewer than so many nodes
+abbrev pub way : ℕ → Knowledge → ℕ → ℕ → Option (List Side)
+way zero k s p = None
+way (suc fuel) k s p = elim (s == p) [ true ↦ Some [] | false ↦ before_way (onward k s) (way fuel k (slot_on k s (onward k s)) p) ]
+
+-- the slots of a way and the flagged leaf beside each, from s downwards; the last is left by the edge on keep
+abbrev pub cut_by : Knowledge → ℕ → List Side → Side → List ℕ
+cut_by k s [] keep = s ∷ slot_read (read k s (other keep)) ∷ []
+cut_by k s (side ∷ sides) keep = s ∷ slot_read (read k s (other side)) ∷ cut_by k (slot_read (read k s side)) sides keep

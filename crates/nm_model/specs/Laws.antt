@@ -1,0 +1,204 @@
+-- The laws of all runs, in the subject's own words.
+use Rattle.std.specs.Prelude.{◌≡◌, ℕ, ◌+◌, ◌<◌, ◌≤◌, ◌==◌, ◌⊎◌, ◌↔◌, Bool, true, if◌then◌else◌, List, [], ◌∷◌, ◌++◌, map, filter, slice_get, Contains, Some, IsSome, Result, Ok}
+use Rattle.std.specs.List.{list_any}
+use Rattle.nm_edge.specs.Edges.{other}
+use Rattle.nm_edge.specs.Layouts.{Layout}
+use Rattle.nm_edge.specs.declared.edge.Side.{Side}
+use Rattle.nm_edge.specs.declared.node.NodeId.{NodeId}
+use Rattle.nm_model.specs.declared.event.Event.{Event}
+use Rattle.nm_model.specs.declared.event.Event.TheVariants.{Leave, LeaveWith, Splice}
+use Rattle.nm_model.specs.declared.reply.Reply.{Reply}
+use Rattle.nm_model.specs.declared.reply.Reply.TheVariants.{Cut, Departed, Freed}
+use Rattle.nm_model.specs.declared.reply.Refused.{Refused}
+use Rattle.nm_model.specs.declared.trace.Turn.{Turn}
+use Rattle.nm_model.specs.declared.ledger.Queued.{Queued}
+use Rattle.nm_model.specs.declared.ledger.Ledger.{Ledger}
+use Rattle.nm_model.specs.Memory.{Memory, edge, child, named}
+use Rattle.nm_model.specs.Ledgers.{held}
+use Rattle.nm_model.specs.Paths.{Reached, IsCut}
+use Rattle.nm_model.specs.Searches.{is_node}
+use Rattle.nm_model.specs.Runs.{State, of, start, after, trace, next, outcome}
+
+-- in every run, of every state
+abbrev pub OfEachState : (State → Type 0) → Type 0
+OfEachState P = (L : Layout) → 5 ≤ L.nodes → (turns : List (ℕ × Event)) → P (after (start L) turns)
+
+-- ---- runs
+
+abbrev pub StatesJoin : Type 0
+StatesJoin = (s : State) (ts us : List (ℕ × Event)) → after s (ts ++ us) ≡ after (after s ts) us
+
+abbrev pub TracesJoin : Type 0
+TracesJoin = (s : State) (ts us : List (ℕ × Event)) → trace s (ts ++ us) ≡ trace s ts ++ trace (after s ts) us
+
+-- ---- epochs
+
+-- while a worker is pinned at e, the epoch is e or e + 1
+abbrev pub PinsAreNear : State → Type 0
+PinsAreNear s = (w e : ℕ) → (of s w).brief.pin ≡ Some e → (s.memory.epoch ≡ e) ⊎ (s.memory.epoch ≡ e + 1)
+
+-- in every run, whatever the workers do and in whatever order
+abbrev pub PinsStayNear : Type 0
+PinsStayNear = (L : Layout) (turns : List (ℕ × Event)) → PinsAreNear (after (start L) turns)
+
+-- ---- cuts
+
+abbrev pub slots_of : List NodeId → List ℕ
+slots_of ns = map (λ n. n.slot) ns
+
+-- a splice cuts just the nodes of its reply, by the paths before and after it
+abbrev pub CutsJust : State → ℕ → List NodeId → State → Type 0
+CutsJust before successor ns after = (x : ℕ) → IsCut before.memory after.memory x ↔ Contains (slots_of ns) x
+
+-- from a slot downwards: each internal node and then its flagged leaf, and on by its tagged edge
+abbrev pub IsFrozenChain : Memory → ℕ → List ℕ → Type 0
+IsFrozenChain m s [] = Unit {0}
+IsFrozenChain m s (x ∷ []) = ⊥
+IsFrozenChain m s (x ∷ leaf ∷ rest) = (x ≡ s) × (side : Side) × ((edge m s (other side)).flag ≡ true) × (child m s (other side) ≡ leaf) × ((edge m s side).tag ≡ true) × IsFrozenChain m (child m s side) rest
+
+abbrev pub GoesDown : State → ℕ → List NodeId → State → Type 0
+GoesDown before successor ns after = IsFrozenChain before.memory successor (slots_of ns)
+
+-- each node of the reply has the birth that stands in its slot
+abbrev pub NamesBirths : State → ℕ → List NodeId → State → Type 0
+NamesBirths before successor ns after = ns ≡ map (named before.memory) (slots_of ns)
+
+-- of every splice that is won in a state: that state, its successor, the nodes of its reply and the state after it
+abbrev pub OfEachCut : (State → ℕ → List NodeId → State → Type 0) → State → Type 0
+OfEachCut P s = (w a : ℕ) (side : Side) (successor parent : ℕ) (keep : Side) (ns : List NodeId)
+    → outcome s (w, Splice a side successor parent keep) ≡ Ok (Cut ns) → P s successor ns (next s (w, Splice a side successor parent keep))
+
+-- a turn that does not answer a cut cuts nothing
+abbrev pub NothingElseCuts : State → Type 0
+NothingElseCuts s = (turn : ℕ × Event) → ((ns : List NodeId) → outcome s turn ≡ Ok (Cut ns) → ⊥) → (x : ℕ) → Reached s.memory x → Reached (next s turn).memory x
+
+-- no event but a splice answers a cut
+abbrev pub OnlySplicesAnswerCuts : State → Type 0
+OnlySplicesAnswerCuts s = (turn : ℕ × Event) (ns : List NodeId) → outcome s turn ≡ Ok (Cut ns)
+    → (a : ℕ) × (side : Side) × (successor : ℕ) × (parent : ℕ) × (keep : Side) × (turn.1 ≡ Splice a side successor parent keep)
+
+-- ---- ledgers
+
+-- one worker holds the ledger of an origin, and no other
+pub record OneHolder (s : State) (origin : ℕ) : Type 0 where
+  pub holder : ℕ
+  pub is_worker : holder < s.layout.workers
+  pub holds : IsSome (held (of s holder).ledgers origin)
+  pub only : (w : ℕ) → IsSome (held (of s w).ledgers origin) → w ≡ holder
+
+-- in every run, of every origin
+abbrev pub EachLedgerHasOneHolder : Type 0
+EachLedgerHasOneHolder = (L : Layout) (turns : List (ℕ × Event)) (origin : ℕ) → origin < L.workers → OneHolder (after (start L) turns) origin
+
+-- in every run, of the ledger of every origin, whoever holds it then
+abbrev pub OfEachLedger : (State → ℕ → Ledger → List Turn → Type 0) → Type 0
+OfEachLedger P = (L : Layout) (turns : List (ℕ × Event)) (w origin : ℕ) (l : Ledger)
+    → held (of (after (start L) turns) w).ledgers origin ≡ Some l → P (after (start L) turns) origin l (trace (start L) turns)
+
+abbrev pub node_in : Queued → NodeId
+node_in e = e.node
+
+-- what was retired is what was freed and then what waits, in this order
+abbrev pub IsFreedThenQueue : State → ℕ → Ledger → List Turn → Type 0
+IsFreedThenQueue s origin l turns = l.retired ≡ l.freed ++ map node_in l.queue
+
+-- the nodes that an outcome says were cut
+abbrev pub nodes_cut_of : Result Reply Refused → List NodeId
+nodes_cut_of (Ok (Cut ns)) = ns
+nodes_cut_of _ = []
+
+-- the nodes that a worker's splices cut, in the order of the turns and of their replies
+abbrev pub cuts_of : ℕ → List Turn → List NodeId
+cuts_of w [] = []
+cuts_of w (t ∷ ts) = (if t.worker == w then nodes_cut_of t.outcome else []) ++ cuts_of w ts
+
+-- what was retired are the nodes that the origin's splices cut, in this order
+abbrev pub IsTheCuts : State → ℕ → Ledger → List Turn → Type 0
+IsTheCuts s origin l turns = l.retired ≡ cuts_of origin turns
+
+-- so its freed nodes and then its queue are the nodes that its splices cut, in cut order
+abbrev pub FreedThenQueueAreTheCuts : State → ℕ → Ledger → List Turn → Type 0
+FreedThenQueueAreTheCuts s origin l turns = l.freed ++ map node_in l.queue ≡ cuts_of origin turns
+
+-- the node that an outcome says was freed
+abbrev pub nodes_freed_of : Result Reply Refused → List NodeId
+nodes_freed_of (Ok (Freed n)) = n ∷ []
+nodes_freed_of _ = []
+
+-- the nodes that gives freed, whoever gave them, in the order of the turns. A give of a private slot frees none
+abbrev pub freed_by : List Turn → List NodeId
+freed_by [] = []
+freed_by (t ∷ ts) = nodes_freed_of t.outcome ++ freed_by ts
+
+abbrev pub is_among : List NodeId → NodeId → Bool
+is_among ns n = list_any (is_node n) ns
+
+-- those of them that are among these nodes
+abbrev pub freed_among : List NodeId → List Turn → List NodeId
+freed_among ns turns = filter (is_among ns) (freed_by turns)
+
+-- the nodes that gives freed of those that a worker's splices cut, whoever gave them, in the order of the gives
+abbrev pub frees_of : ℕ → List Turn → List NodeId
+frees_of w turns = freed_among (cuts_of w turns) turns
+
+-- in every run, of every ledger, where there are nodes for the fixed part of the tree
+abbrev pub OfEachLedgerOfATree : (State → ℕ → Ledger → List Turn → Type 0) → Type 0
+OfEachLedgerOfATree P = (L : Layout) → 5 ≤ L.nodes → (turns : List (ℕ × Event)) (w origin : ℕ) (l : Ledger)
+    → held (of (after (start L) turns) w).ledgers origin ≡ Some l → P (after (start L) turns) origin l (trace (start L) turns)
+
+-- what was freed are the nodes that gives freed of those that the origin's splices cut, in this order
+abbrev pub IsTheFrees : State → ℕ → Ledger → List Turn → Type 0
+IsTheFrees s origin l turns = l.freed ≡ frees_of origin turns
+
+-- so what was freed and then what waits, by the turns: a node leaves a queue by such a give alone
+abbrev pub FreesThenQueueAreTheCuts : State → ℕ → Ledger → List Turn → Type 0
+FreesThenQueueAreTheCuts s origin l turns = frees_of origin turns ++ map node_in l.queue ≡ cuts_of origin turns
+
+-- a node is freed from the front of a queue that the worker holds, and is the next that was freed there
+pub record FreesAFront (s : State) (turn : ℕ × Event) (n : NodeId) : Type 0 where
+  pub origin : ℕ
+  pub before : Ledger
+  pub after : Ledger
+  pub front : Queued
+  pub had : held (of s turn.0).ledgers origin ≡ Some before
+  pub has : held (of (next s turn) turn.0).ledgers origin ≡ Some after
+  pub is_node : front.node ≡ n
+  pub leaves : before.queue ≡ front ∷ after.queue
+  pub freed : after.freed ≡ before.freed ++ n ∷ []
+
+abbrev pub EachFreeTakesAFront : State → Type 0
+EachFreeTakesAFront s = (turn : ℕ × Event) (n : NodeId) → outcome s turn ≡ Ok (Freed n) → FreesAFront s turn n
+
+-- no node, a slot with its birth, stands twice over the retired nodes of all ledgers
+abbrev pub NoNodeTwice : State → Type 0
+NoNodeTwice s = (w v origin other i j : ℕ) (l m : Ledger) (n : NodeId) → held (of s w).ledgers origin ≡ Some l → held (of s v).ledgers other ≡ Some m
+    → slice_get l.retired i ≡ Some n → slice_get m.retired j ≡ Some n → (origin ≡ other) × (i ≡ j)
+
+-- over a run, what an origin's ledger retired grows by the nodes that its splices cut in that run, whoever holds it
+abbrev pub RetiredGrowsByTheCuts : State → Type 0
+RetiredGrowsByTheCuts s = (turns : List (ℕ × Event)) (w v origin : ℕ) (l m : Ledger) → held (of s w).ledgers origin ≡ Some l → held (of (after s turns) v).ledgers origin ≡ Some m
+    → m.retired ≡ l.retired ++ cuts_of origin (trace s turns)
+
+-- ---- grace
+
+-- a leave, with an answer or without
+abbrev pub IsLeave : Event → Type 0
+IsLeave Leave = Unit {0}
+IsLeave (LeaveWith answer) = Unit {0}
+IsLeave e = ⊥
+
+-- worker w left by that event
+abbrev pub left_by : ℕ → Event → Turn
+left_by w e = record { worker = w; event = e; outcome = Ok Departed }
+
+-- worker w left in one of these turns
+abbrev pub HasLeft : ℕ → List Turn → Type 0
+HasLeft w turns = (e : Event) × IsLeave e × Contains turns (left_by w e)
+
+-- where a node is cut by one turn and freed by a later one, each worker that was pinned at the cut, the remover too, left between the two
+abbrev pub GraceHolds : State → Type 0
+GraceHolds s = (cut : ℕ × Event) (between : List (ℕ × Event)) (free : ℕ × Event) (ns : List NodeId) (n : NodeId) (w e : ℕ)
+    → outcome s cut ≡ Ok (Cut ns) → Contains ns n
+    → outcome (after (next s cut) between) free ≡ Ok (Freed n)
+    → (of s w).brief.pin ≡ Some e
+    → HasLeft w (trace (next s cut) between)

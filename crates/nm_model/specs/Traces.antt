@@ -1,0 +1,82 @@
+-- What a run keeps, by the states before each of its turns and by its trace.
+use Rattle.std.specs.Prelude.{◌≡◌, ℕ, ◌+◌, ◌<◌, ◌↔◌, List, ◌∷◌, ◌++◌, map, length, take, Contains, Some, Ok}
+use Rattle.nm_edge.specs.declared.node.NodeId.{NodeId}
+use Rattle.nm_model.specs.declared.reply.Reply.TheVariants.{Cut, Freed}
+use Rattle.nm_model.specs.declared.trace.Turn.{Turn}
+use Rattle.nm_model.specs.declared.ledger.Ledger.{Ledger}
+use Rattle.nm_model.specs.Ledgers.{held}
+use Rattle.nm_model.specs.Paths.{IsCut}
+use Rattle.nm_model.specs.Places.{EachSlotInOnePlace}
+use Rattle.nm_model.specs.Runs.{State, of}
+use Rattle.nm_model.specs.Laws.{PinsAreNear, OneHolder, NoNodeTwice, node_in, slots_of, nodes_cut_of, cuts_of, freed_among, HasLeft}
+use Rattle.nm_model.specs.Lawful.{LabelsDoNotFall, NoLabelIsAboveTheEpoch, BriefsAreRight, QueuedNodesAreFrozen, TaggedEdgesHaveFlaggedTwins, FlaggedEdgesLeadToLeaves, OnlyThePinnedKnow, ReachIsShared, ReachIsGuarded, EpochsAgree, CountsAddUp, EachReadStands, KnownLeavesAreLeaves, EachBirthStands}
+
+-- each turn cuts exactly the nodes of its outcome, by the paths before and after it; one that answers no cut cuts nothing
+abbrev pub EachTurnCutsItsNodes : (ℕ → State) → List Turn → Type 0
+EachTurnCutsItsNodes states turns = (before rest : List Turn) (turn : Turn) → turns ≡ before ++ turn ∷ rest
+    → (x : ℕ) → IsCut (states (length before)).memory (states (length before + 1)).memory x ↔ Contains (slots_of (nodes_cut_of turn.outcome)) x
+
+-- of every ledger, what was retired is what was freed and then what waits
+abbrev pub LedgersAreSplit : State → Type 0
+LedgersAreSplit s = (w origin : ℕ) (l : Ledger) → held (of s w).ledgers origin ≡ Some l → l.retired ≡ l.freed ++ map node_in l.queue
+
+-- what an origin's ledger retired grew by the nodes that its splices cut in the turns so far, whoever holds it
+abbrev pub LedgersGrowByTheCuts : (ℕ → State) → List Turn → Type 0
+LedgersGrowByTheCuts states turns = (i w v origin : ℕ) (l m : Ledger) → held (of (states 0) w).ledgers origin ≡ Some l → held (of (states i) v).ledgers origin ≡ Some m
+    → m.retired ≡ l.retired ++ cuts_of origin (take i turns)
+
+-- and what was freed of it grew by the nodes that gives freed in those turns of those that were retired there
+abbrev pub LedgersFreeWhatGivesFreed : (ℕ → State) → List Turn → Type 0
+LedgersFreeWhatGivesFreed states turns = (i w v origin : ℕ) (l m : Ledger) → held (of (states 0) w).ledgers origin ≡ Some l → held (of (states i) v).ledgers origin ≡ Some m
+    → m.freed ≡ l.freed ++ freed_among m.retired (take i turns)
+
+-- where a node is cut by one turn and freed by a later one, each worker that was pinned at the cut, the remover too, left between the two
+abbrev pub GraceInRun : (ℕ → State) → List Turn → Type 0
+GraceInRun states turns = (before between rest : List Turn) (cut free : Turn) (ns : List NodeId) (n : NodeId) (w e : ℕ)
+    → turns ≡ before ++ cut ∷ (between ++ free ∷ rest)
+    → cut.outcome ≡ Ok (Cut ns) → Contains ns n
+    → free.outcome ≡ Ok (Freed n)
+    → (of (states (length before)) w).brief.pin ≡ Some e
+    → HasLeft w between
+
+-- ---- the sentences of one state, and of one run
+
+-- the ledger of each origin has one holder
+abbrev pub EachHasOneHolder : State → Type 0
+EachHasOneHolder s = (origin : ℕ) → origin < s.layout.workers → OneHolder s origin
+
+-- what every state keeps
+pub record IsLawfulState (s : State) : Type 0 where
+  -- each slot is in one place, and the counts of the places add up
+  pub places : EachSlotInOnePlace s
+  pub counts : CountsAddUp s
+  -- pins are near the epoch; announcements, pins, sights and scans agree with it
+  pub near : PinsAreNear s
+  pub epochs : EpochsAgree s
+  -- each ledger has one holder, is what was freed and then the queue, and no node was retired twice
+  pub holders : EachHasOneHolder s
+  pub split : LedgersAreSplit s
+  pub once : NoNodeTwice s
+  -- labels in a queue do not fall, none is above the epoch, and only the own queue waits for labels
+  pub rising : LabelsDoNotFall s
+  pub below : NoLabelIsAboveTheEpoch s
+  pub briefs : BriefsAreRight s
+  -- frozen edges
+  pub queued : QueuedNodesAreFrozen s
+  pub twins : TaggedEdgesHaveFlaggedTwins s
+  pub leaves : FlaggedEdgesLeadToLeaves s
+  -- what a worker can come to, and what it has read
+  pub pinned : OnlyThePinnedKnow s
+  pub shared : ReachIsShared s
+  pub guarded : ReachIsGuarded s
+  pub marks : EachReadStands s
+  pub known : KnownLeavesAreLeaves s
+  pub births : EachBirthStands s
+
+-- the headline, of one run
+pub record IsLawfulRun (states : ℕ → State) (turns : List Turn) : Type 0 where
+  pub each : (i : ℕ) → IsLawfulState (states i)
+  pub cuts : EachTurnCutsItsNodes states turns
+  pub growing : LedgersGrowByTheCuts states turns
+  pub freed : LedgersFreeWhatGivesFreed states turns
+  pub grace : GraceInRun states turns

@@ -1,0 +1,67 @@
+//! Where the entries of each slot stand in a list, so that one is found without a look through all.
+ghost use Rattle.std.specs.Prelude.{◌≡◌, nat_le, length, OnOk, OnErr};
+ghost use Rattle.nm_model.specs.Maps.{get, put};
+ghost use Rattle.nm_model.specs.Queues.{Covers, is_at_least, with_index};
+
+use crate::ledger::Queued;
+use crate::slot_map::SlotMap;
+use std::alloc::AllocError;
+
+/// Where the entries of one slot stand.
+#[derive(Clone, Copy, Debug, PartialEq, Eq)]
+pub struct Indices {
+    /// The index of the last one.
+    pub last: usize,
+    /// An index that those of all others are not above; `None` where there is no other.
+    pub earlier: Option<usize>,
+}
+
+impl Indices {
+    // With one more entry, behind the others.
+    fn with(known: Option<Indices>, index: usize) -> Indices
+        ensures { result ≡ with_index known index }
+    {
+        match known {
+            Some(known) => Indices {
+                last: index,
+                earlier: Some(known.last.max(known.earlier.unwrap_or(0))),
+            },
+            None => Indices {
+                last: index,
+                earlier: None,
+            },
+        }
+    }
+
+    /// Whether an entry other than the last may stand at this index or behind it.
+    pub fn has_others_from(self, index: usize) -> bool
+        ensures { result ≡ is_at_least self.earlier index }
+    {
+        self.earlier.is_some_and(|earlier| earlier >= index)
+    }
+}
+
+// A slot has an entry at this index, behind its others.
+fn put_index(indices: &mut SlotMap<Indices>, slot: u32, index: usize) -> Result<(), AllocError>
+    ensures ok { OnOk result (indices.new ≡ put indices.old slot (with_index (get indices.old slot) index)) }
+    ensures err { OnErr result (indices.new ≡ indices.old) }
+{
+    let known = indices.get(slot);
+    indices.put(slot, Indices::with(known, index))
+}
+
+/// Notes the entries from an index on; those before it are noted.
+pub fn index_from(
+    indices: &mut SlotMap<Indices>,
+    entries: &[Queued],
+    from: usize,
+) -> Result<(), AllocError>
+    requires { Covers indices.old entries.now from }
+    ensures ok { OnOk result (Covers indices.new entries.now (length entries.now)) }
+    ensures err { OnErr result (Covers indices.new entries.now from) }
+{
+    for index in from..entries.len() {
+        put_index(indices, entries[index].node.slot, index)?;
+    }
+    Ok(())
+}

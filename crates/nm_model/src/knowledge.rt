@@ -1,0 +1,169 @@
+//! What one worker knows, by parts.
+
+ghost use Rattle.std.specs.Prelude.{◌≡◌, ◌<◌, ◌^◌, true};
+ghost use Rattle.nm_model.specs.Knowledge.{unread, unfilled, read_on, beside};
+ghost use Rattle.nm_model.specs.Learning.{with_read, filled_in};
+ghost use Rattle.nm_model.specs.Step.{is_edge, is_early, is_fork_over};
+ghost use Rattle.nm_model.specs.Maps.{is_number};
+ghost use Rattle.nm_model.specs.Ordered.{is_fork_for};
+
+use crate::event::Field;
+use nm_edge::{Edge, Key, Side};
+
+/// The epochs of a worker.
+#[derive(Clone, Copy, Debug, PartialEq, Eq)]
+pub struct Brief {
+    /// The global epoch last read.
+    pub seen: Option<u64>,
+    /// What the worker announces.
+    pub note: Option<u64>,
+    /// The epoch at which it is pinned.
+    pub pin: Option<u64>,
+    /// Whether nodes that it cut wait for their label.
+    pub unlabelled: bool,
+}
+
+/// What is known of a known node: the last word read of each edge, and its birth.
+#[derive(Clone, Copy, Debug, PartialEq, Eq)]
+pub struct Seen {
+    pub left: Option<Edge>,
+    pub right: Option<Edge>,
+    pub birth: Option<u64>,
+}
+
+/// A private slot: the birth word that was looked at, and what was filled in.
+#[derive(Clone, Copy, Debug, PartialEq, Eq)]
+pub struct Draft {
+    pub looked: Option<u64>,
+    pub birth: Option<u64>,
+    pub key: Option<u64>,
+    pub left: Option<u32>,
+    pub right: Option<u32>,
+}
+
+impl Seen {
+    /// Nothing is known yet but that the node is there.
+    pub fn unread() -> Seen
+        ensures { result ≡ unread }
+    {
+        Seen {
+            left: None,
+            right: None,
+            birth: None,
+        }
+    }
+
+    /// The last word read of the edge on a side.
+    pub fn on(self, side: Side) -> Option<Edge>
+        ensures { result ≡ read_on self side }
+    {
+        match side {
+            Side::Left => self.left,
+            Side::Right => self.right,
+        }
+    }
+
+    /// The edge on a side was read.
+    pub fn with_read(self, side: Side, edge: Edge) -> Seen
+        ensures { result ≡ with_read self side edge }
+    {
+        match side {
+            Side::Left => Seen {
+                left: Some(edge),
+                ..self
+            },
+            Side::Right => Seen {
+                right: Some(edge),
+                ..self
+            },
+        }
+    }
+}
+
+impl Draft {
+    /// Nothing was looked at or filled in yet.
+    pub fn unfilled() -> Draft
+        ensures { result ≡ unfilled }
+    {
+        Draft {
+            looked: None,
+            birth: None,
+            key: None,
+            left: None,
+            right: None,
+        }
+    }
+
+    /// Whether it is filled as an internal node over this leaf.
+    pub fn is_fork_over(self, leaf: u32) -> bool
+        ensures { result ≡ is_fork_over self leaf }
+    {
+        self.key.is_some() && (self.left == Some(leaf) || self.right == Some(leaf))
+    }
+
+    /// Whether this key was stored.
+    pub fn has_key(self, key: Key) -> bool
+        ensures { result ≡ is_number self.key key }
+    {
+        self.key == Some(key.get())
+    }
+
+    /// Whether it is filled as an internal node over a leaf with another key and a new leaf with this one:
+    /// with the greater of both keys, and the lesser leaf on the left.
+    pub fn is_fork_for(self, leaf: u32, key: Key, other: u64) -> bool
+        ensures { result ≡ is_fork_for self leaf key other }
+    {
+        if key.get() < other {
+            self.key == Some(other) && self.right == Some(leaf)
+        } else {
+            self.key == Some(key.get()) && self.left == Some(leaf)
+        }
+    }
+
+    /// Of the two filled edges the one that does not lead to the leaf.
+    pub fn beside(self, leaf: u32) -> Option<u32>
+        ensures { result ≡ beside self leaf }
+    {
+        if self.left == Some(leaf) {
+            self.right
+        } else {
+            self.left
+        }
+    }
+
+    /// Whether the birth may not be stored over this word, or another field not before the birth.
+    pub fn is_early(self, field: Field, value: u64, birth: u64) -> bool
+        ensures { result ≡ is_early self field value birth }
+    {
+        match field {
+            Field::Birth => self.birth.is_some() || birth.checked_add(1) != Some(value),
+            _ => self.birth.is_none(),
+        }
+    }
+
+    /// The draft with a field stored.
+    pub fn filled_in(self, field: Field, value: u64) -> Draft
+        requires { is_edge field ≡ true → value < 2 ^ 32 }
+        ensures { result ≡ filled_in self field value }
+    {
+        match field {
+            Field::Key => Draft {
+                key: Some(value),
+                ..self
+            },
+            Field::Edge(Side::Left) => Draft {
+                left: Some(value as u32),
+                ..self
+            },
+            Field::Edge(Side::Right) => Draft {
+                right: Some(value as u32),
+                ..self
+            },
+            Field::Birth => Draft {
+                looked: None,
+                birth: Some(value),
+                ..self
+            },
+        }
+    }
+}

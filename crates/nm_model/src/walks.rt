@@ -1,0 +1,247 @@
+//! Walks for a key, by where they came.
+
+ghost use Rattle.std.specs.Prelude.{◌≡◌, ◌<◌, length, map, vec_capacity};
+ghost use Rattle.std.specs.List.{list_any};
+ghost use Rattle.nm_model.specs.Searches.{side_of, is_side, is_by, goes_on, new_arrival, with_arrival, keyed, ended, walk_edge};
+ghost use Rattle.nm_model.specs.Ordered.{ended_beside, ended_at, ended_elsewhere, may_link_at, may_flag_at};
+
+use crate::event::Op;
+use crate::knowledge::Draft;
+use nm_edge::{Key, Side};
+
+/// An operation of the set on a key, which a worker took up with its pin.
+#[derive(Clone, Copy, Debug, PartialEq, Eq)]
+pub struct Call {
+    pub op: Op,
+    pub key: Key,
+}
+
+/// How far a walk came: to a slot, by the edge of a parent on a side.
+#[derive(Clone, Copy, Debug, PartialEq, Eq)]
+pub struct Arrival {
+    pub slot: u32,
+    pub parent: u32,
+    pub side: Side,
+    /// The slot's key, once it was looked at after the arrival.
+    pub key: Option<u64>,
+    /// Whether the slot's edge on the walk's side was then read as null, so that a walk ends there.
+    pub ended: bool,
+}
+
+// Whether two sides are the same.
+fn is_side(side: Side, other: Side) -> bool
+    ensures { result ≡ is_side side other }
+{
+    side == other
+}
+
+// The side of a key at a node with another.
+fn side_of(key: Key, other: u64) -> Side
+    ensures { result ≡ side_of key other }
+{
+    if key.get() < other {
+        Side::Left
+    } else {
+        Side::Right
+    }
+}
+
+impl Arrival {
+    // At a slot whose key was not looked at yet.
+    fn new(slot: u32, parent: u32, side: Side) -> Arrival
+        ensures { result ≡ new_arrival slot parent side }
+    {
+        Arrival {
+            slot,
+            parent,
+            side,
+            key: None,
+            ended: false,
+        }
+    }
+
+    // Whether it is at that slot, by that edge.
+    fn is_by(self, slot: u32, parent: u32, side: Side) -> bool
+        ensures { result ≡ is_by slot parent side self }
+    {
+        self.slot == slot && self.parent == parent && is_side(self.side, side)
+    }
+
+    // Whether a walk for this key goes on from the slot by its edge on that side.
+    fn goes_on(self, key: Key, slot: u32, side: Side) -> bool
+        ensures { result ≡ goes_on key slot side self }
+    {
+        let turns = match self.key {
+            Some(other) => is_side(side_of(key, other), side),
+            None => false,
+        };
+        self.slot == slot && turns
+    }
+
+    // The slot's key was looked at.
+    fn keyed(self, slot: u32, key: u64) -> Arrival
+        ensures { result ≡ keyed slot key self }
+    {
+        if self.slot == slot && self.key.is_none() {
+            return Arrival {
+                key: Some(key),
+                ..self
+            };
+        }
+        self
+    }
+
+    // The slot's edge on that side was read as null.
+    fn ended(self, key: Key, slot: u32, side: Side) -> Arrival
+        ensures { result ≡ ended key slot side self }
+    {
+        if self.goes_on(key, slot, side) {
+            return Arrival {
+                ended: true,
+                ..self
+            };
+        }
+        self
+    }
+
+    // Whether a walk ended at a leaf with this key.
+    fn ended_at(self, key: Key) -> bool
+        ensures { result ≡ ended_at key self }
+    {
+        self.ended && self.key == Some(key.get())
+    }
+
+    // Whether a walk ended at a leaf with another key.
+    fn ended_beside(self, key: Key) -> bool
+        ensures { result ≡ ended_beside key self }
+    {
+        self.ended && self.key != Some(key.get())
+    }
+
+    // Whether a walk ended at the leaf by that edge, and the draft puts the key beside that of the leaf.
+    fn may_link(self, draft: Draft, key: Key, parent: u32, side: Side, leaf: u32) -> bool
+        ensures { result ≡ may_link_at draft key parent side leaf self }
+    {
+        let forks = match self.key {
+            Some(other) => other != key.get() && draft.is_fork_for(leaf, key, other),
+            None => false,
+        };
+        self.is_by(leaf, parent, side) && self.ended && forks
+    }
+
+    // Whether a walk ended by that edge at the leaf, which has this key.
+    fn may_flag(self, key: Key, parent: u32, side: Side, leaf: u32) -> bool
+        ensures { result ≡ may_flag_at key parent side leaf self }
+    {
+        self.is_by(leaf, parent, side) && self.ended_at(key)
+    }
+}
+
+/// The key of a slot was looked at: each walk that waits there for it has it.
+pub fn put_key(arrivals: &mut Vec<Arrival>, slot: u32, key: u64)
+    ensures { arrivals.new.items ≡ map (keyed slot key) arrivals.old.items }
+{
+    for index in 0..arrivals.len() {
+        arrivals[index] = arrivals[index].keyed(slot, key);
+    }
+}
+
+// The slot's edge on a side was read as null.
+fn put_end(arrivals: &mut Vec<Arrival>, key: Key, slot: u32, side: Side)
+    ensures { arrivals.new.items ≡ map (ended key slot side) arrivals.old.items }
+{
+    for index in 0..arrivals.len() {
+        arrivals[index] = arrivals[index].ended(key, slot, side);
+    }
+}
+
+// Whether a walk goes on from the slot by its edge on that side.
+fn go_on(arrivals: &Vec<Arrival>, key: Key, slot: u32, side: Side) -> bool
+    ensures { result ≡ list_any (goes_on key slot side) arrivals.now.items }
+{
+    arrivals
+        .iter()
+        .any(|arrival| arrival.goes_on(key, slot, side))
+}
+
+// Whether a walk came to the slot by that edge.
+fn has_arrival(arrivals: &Vec<Arrival>, slot: u32, parent: u32, side: Side) -> bool
+    ensures { result ≡ list_any (is_by slot parent side) arrivals.now.items }
+{
+    arrivals
+        .iter()
+        .any(|arrival| arrival.is_by(slot, parent, side))
+}
+
+// A walk came to a slot.
+fn put_arrival(arrivals: &mut Vec<Arrival>, slot: u32, parent: u32, side: Side)
+    requires { length arrivals.old.items < vec_capacity arrivals.old }
+    ensures { arrivals.new.items ≡ with_arrival arrivals.old.items slot parent side }
+{
+    if !has_arrival(arrivals, slot, parent, side) {
+        arrivals.push(Arrival::new(slot, parent, side)).unwrap();
+    }
+}
+
+/// An edge was read by walks for a key. An arrival is entered once.
+pub fn put_edge(arrivals: &mut Vec<Arrival>, key: Key, slot: u32, side: Side, child: u32)
+    requires { length arrivals.old.items < vec_capacity arrivals.old }
+    ensures { arrivals.new.items ≡ walk_edge key arrivals.old.items slot side child }
+{
+    if child == 0 {
+        put_end(arrivals, key, slot, side);
+        return;
+    }
+    let is_first = slot == 2 && is_side(side, Side::Left);
+    if is_first || go_on(arrivals, key, slot, side) {
+        put_arrival(arrivals, child, slot, side);
+    }
+}
+
+/// Whether a walk ended at a leaf with this key.
+pub fn has_ended_at(arrivals: &Vec<Arrival>, key: Key) -> bool
+    ensures { result ≡ list_any (ended_at key) arrivals.now.items }
+{
+    arrivals.iter().any(|arrival| arrival.ended_at(key))
+}
+
+/// Whether a walk ended at a leaf with another key.
+pub fn has_ended_beside(arrivals: &Vec<Arrival>, key: Key) -> bool
+    ensures { result ≡ list_any (ended_beside key) arrivals.now.items }
+{
+    arrivals.iter().any(|arrival| arrival.ended_beside(key))
+}
+
+/// Whether a walk ended at another slot.
+pub fn has_ended_elsewhere(arrivals: &Vec<Arrival>, slot: u32) -> bool
+    ensures { result ≡ list_any (ended_elsewhere slot) arrivals.now.items }
+{
+    arrivals
+        .iter()
+        .any(|arrival| arrival.ended && arrival.slot != slot)
+}
+
+/// Whether a walk for the key ended at the leaf by that edge, with another key, and the draft puts both in order.
+pub fn may_link(
+    arrivals: &Vec<Arrival>,
+    draft: Draft,
+    key: Key,
+    parent: u32,
+    side: Side,
+    leaf: u32,
+) -> bool
+    ensures { result ≡ list_any (may_link_at draft key parent side leaf) arrivals.now.items }
+{
+    arrivals
+        .iter()
+        .any(|arrival| arrival.may_link(draft, key, parent, side, leaf))
+}
+
+/// Whether a walk for the key ended at the leaf by that edge, with this key.
+pub fn may_flag(arrivals: &Vec<Arrival>, key: Key, parent: u32, side: Side, leaf: u32) -> bool
+    ensures { result ≡ list_any (may_flag_at key parent side leaf) arrivals.now.items }
+{
+    arrivals
+        .iter()
+        .any(|arrival| arrival.may_flag(key, parent, side, leaf))
+}

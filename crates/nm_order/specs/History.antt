@@ -1,0 +1,152 @@
+-- The set's history: the calls of a run, in the order of their moments, as a history of one plain set.
+use Rattle.std.specs.Prelude.{Contains, ◌≡◌, ◌⊎◌, ◌↔◌, ℕ, ◌+◌, ◌<◌, ◌≤◌, Bool, true, false, not, List, [], ◌∷◌, ◌++◌, length, map, Ok, if◌then◌else◌}
+use Rattle.std.specs.List.{list_any}
+use Rattle.nm_edge.specs.Keys.{IsKey}
+use Rattle.nm_edge.specs.Layouts.{Layout}
+use Rattle.nm_model.specs.declared.event.Op.{Op}
+use Rattle.nm_model.specs.declared.event.Op.TheVariants.{Has, Insert, Delete}
+use Rattle.nm_model.specs.declared.event.Event.{Event}
+use Rattle.nm_model.specs.declared.event.Event.TheVariants.{LeaveWith, Link}
+use Rattle.nm_model.specs.declared.trace.Turn.{Turn}
+use Rattle.nm_edge.specs.declared.node.NodeId.{NodeId}
+use Rattle.nm_edge.specs.declared.edge.Side.{Side}
+use Rattle.nm_model.specs.declared.reply.Reply.TheVariants.{Linked, Cut}
+use Rattle.nm_model.specs.Laws.{slots_of}
+use Rattle.nm_model.specs.Memory.{Memory, node, is_leaf}
+use Rattle.nm_model.specs.Walks.{log_of, begins_anew}
+use Rattle.nm_model.specs.Ordered.{ordered, outcome_in, after_in, trace_in}
+use Rattle.nm_order.specs.Intervals.{InSet, IsCalled}
+use Rattle.nm_order.specs.Exchanges.{MayAnswer, HasInserted, HasFlagged}
+use Rattle.nm_order.specs.Removals.{HasDeleted}
+use Rattle.nm_order.specs.Legal.{Gives, changes}
+
+-- a call with its answer, at a moment: the number of turns made until then. A call is named by its worker and the number of the turn that confirmed its pin
+pub record Act : Type 0 where
+  pub worker : ℕ
+  pub pin : ℕ
+  pub op : Op
+  pub key : ℕ
+  pub answer : Bool
+  pub moment : ℕ
+
+-- ---- a plain set
+
+-- what is in the set after a call that was answered so
+abbrev pub changed : (ℕ → Type 0) → Op → ℕ → Bool → ℕ → Type 0
+changed in_set Has k answer j = in_set j
+changed in_set Insert k true j = in_set j ⊎ (j ≡ k)
+changed in_set Insert k false j = in_set j
+changed in_set Delete k true j = in_set j × (j ≡ k → ⊥)
+changed in_set Delete k false j = in_set j
+
+-- one plain set, which has these keys first and those at last, gives each call its answer, one after the other
+abbrev pub Replays : (ℕ → Type 0) → List Act → (ℕ → Type 0) → Type 0
+Replays first [] last = (k : ℕ) → IsKey k → first k ↔ last k
+Replays first (a ∷ acts) last = IsKey a.key × Gives first a.op a.key a.answer × Replays (changed first a.op a.key a.answer) acts last
+
+abbrev pub nothing : ℕ → Type 0
+nothing k = ⊥
+
+-- ---- lists of acts
+
+abbrev pub IsAmong : List Act → Act → Type 0
+IsAmong [] a = ⊥
+IsAmong (b ∷ acts) a = (b ≡ a) ⊎ IsAmong acts a
+
+-- an act may stand behind one of that moment, which was quiet where it changed nothing: it is later, or of the same moment,
+-- and then it is no change where the one before it was quiet
+abbrev pub ComesNext : ℕ → Bool → Act → Type 0
+ComesNext m quiet a = (m < a.moment) ⊎ ((m ≡ a.moment) × (quiet ≡ true → changes a.op a.answer ≡ false))
+
+-- acts in the order of their moments, at each moment changes before answers that change nothing
+abbrev pub InOrderOfMoments : ℕ → Bool → List Act → Type 0
+InOrderOfMoments m quiet [] = Unit {0}
+InOrderOfMoments m quiet (a ∷ acts) = ComesNext m quiet a × InOrderOfMoments a.moment (not (changes a.op a.answer)) acts
+
+abbrev pub SameCall : Act → Act → Type 0
+SameCall a b = (a.worker ≡ b.worker) × (a.pin ≡ b.pin)
+
+-- no two acts are of one call
+abbrev pub EachOnce : List Act → Type 0
+EachOnce [] = Unit {0}
+EachOnce (a ∷ acts) = ((b : Act) → IsAmong acts b → SameCall a b → ⊥) × EachOnce acts
+
+-- ---- calls of a run
+
+-- the number of the last of these turns, the first of which is number n, by which a worker confirmed or left a pin; so_far, where there is none
+abbrev pub last_anew : ℕ → ℕ → ℕ → List Turn → ℕ
+last_anew w so_far n [] = so_far
+last_anew w so_far n (t ∷ turns) = last_anew w (if list_any begins_anew (log_of w (t ∷ [])) then n else so_far) (n + 1) turns
+
+-- the number of the turn that confirmed a worker's pin, which stands
+abbrev pub pin_of : Layout → List (ℕ × Event) → ℕ → ℕ
+pin_of L turns w = last_anew w 0 0 (trace_in (ordered L) turns)
+
+-- the call of a worker's pin has made its change: an insert has linked, or the leaf that a delete flagged is cut
+abbrev pub HasChanged : Layout → List (ℕ × Event) → ℕ → Op → ℕ → Type 0
+HasChanged L turns w Has k = ⊥
+HasChanged L turns w Insert k = HasInserted L turns w k
+HasChanged L turns w Delete k = HasDeleted L turns w k
+
+-- an act of a run: a call with its answer, or one that has made its change and is not answered yet; and its moment is one of the call,
+-- later than its pin and no later than its answer
+pub data IsAct (L : Layout) (turns : List (ℕ × Event)) (a : Act) : Type 0 where
+  IsAnswered : (before since : List (ℕ × Event)) → turns ≡ before ++ (a.worker, LeaveWith a.answer) ∷ since → MayAnswer (after_in (ordered L) before) a.worker a.op a.key a.answer
+      → a.pin ≡ pin_of L before a.worker → a.pin < a.moment → a.moment ≤ length before → IsAct L turns a
+  IsPending : IsCalled (after_in (ordered L) turns) a.worker a.op a.key → HasChanged L turns a.worker a.op a.key → a.answer ≡ true
+      → a.pin ≡ pin_of L turns a.worker → a.pin < a.moment → a.moment ≤ length turns → IsAct L turns a
+
+-- an act of a call, by its worker, pin, operation, key and answer
+pub record HasAct (acts : List Act) (w pin : ℕ) (op : Op) (k : ℕ) (answer : Bool) : Type 0 where
+  pub act : Act
+  pub among : IsAmong acts act
+  pub worker : act.worker ≡ w
+  pub is_pin : act.pin ≡ pin
+  pub is_op : act.op ≡ op
+  pub is_key : act.key ≡ k
+  pub is_answer : act.answer ≡ answer
+
+-- the keys of the leaves among slots, in their order
+abbrev pub leaf_keys : Memory → List ℕ → List ℕ
+leaf_keys m [] = []
+leaf_keys m (x ∷ xs) = if is_leaf (node m x) then (node m x).key ∷ leaf_keys m xs else leaf_keys m xs
+
+-- acts of these keys in a row, at that moment, of each of which something holds
+pub record HasInARow (acts : List Act) (ks : List ℕ) (moment : ℕ) (Is : Act → Type 0) : Type 0 where
+  pub front : List Act
+  pub row : List Act
+  pub back : List Act
+  pub are : acts ≡ front ++ (row ++ back)
+  pub are_keys : map (λ a. a.key) row ≡ ks
+  pub at : (a : Act) → IsAmong row a → a.moment ≡ moment
+  pub each : (a : Act) → IsAmong row a → Is a
+
+-- the acts up to a moment lead a plain set, empty at first, to these keys
+pub record LeadsTo (acts : List Act) (moment : ℕ) (keys : ℕ → Type 0) : Type 0 where
+  pub first : List Act
+  pub later : List Act
+  pub are : acts ≡ first ++ later
+  pub so_far : (a : Act) → IsAmong first a → a.moment ≤ moment
+  pub beyond : (a : Act) → IsAmong later a → moment < a.moment
+  pub replays : Replays nothing first keys
+
+-- the history of a run: these acts are its answered calls and its unanswered calls that have made their change, each once, in the order
+-- of their moments, and those of one cut in that cut's order; and one plain set, empty at first, gives each its answer,
+-- and has at each moment, and at last, the keys of the tree then
+pub record IsHistory (L : Layout) (turns : List (ℕ × Event)) (acts : List Act) : Type 0 where
+  pub replays : Replays nothing acts (InSet (after_in (ordered L) turns).state.memory)
+  pub in_order : InOrderOfMoments 0 false acts
+  pub once : EachOnce acts
+  -- a link that is won is the moment of its own insert, and a cut that of the deletes whose leaves it cuts, in its order
+  pub links : (before since : List (ℕ × Event)) (w parent : ℕ) (side : Side) (leaf new : ℕ) (n : NodeId) (k : ℕ) → turns ≡ before ++ (w, Link parent side leaf new) ∷ since → outcome_in (after_in (ordered L) before) (w, Link parent side leaf new) ≡ Ok (Linked n)
+      → IsCalled (after_in (ordered L) before) w Insert k → HasInARow acts (k ∷ []) (length before + 1) (λ a. (a.worker ≡ w) × (a.op ≡ Insert) × (a.answer ≡ true))
+  pub cuts : (before since : List (ℕ × Event)) (turn : ℕ × Event) (ns : List NodeId) → turns ≡ before ++ turn ∷ since → outcome_in (after_in (ordered L) before) turn ≡ Ok (Cut ns)
+      → HasInARow acts (leaf_keys (after_in (ordered L) before).state.memory (slots_of ns)) (length before + 1) (λ a. (f : HasFlagged L before a.worker a.key) × Contains ns f.flagged)
+  pub moments : (before since : List (ℕ × Event)) → turns ≡ before ++ since → LeadsTo acts (length before) (InSet (after_in (ordered L) before).state.memory)
+  pub each : (a : Act) → IsAmong acts a → IsAct L turns a
+  pub answered : (before since : List (ℕ × Event)) (w : ℕ) (op : Op) (k : ℕ) (answer : Bool) → turns ≡ before ++ (w, LeaveWith answer) ∷ since → MayAnswer (after_in (ordered L) before) w op k answer → HasAct acts w (pin_of L before w) op k answer
+  pub pending : (w : ℕ) (op : Op) (k : ℕ) → IsCalled (after_in (ordered L) turns) w op k → HasChanged L turns w op k → HasAct acts w (pin_of L turns w) op k true
+
+-- each run has one
+abbrev pub HasHistory : Layout → List (ℕ × Event) → Type 0
+HasHistory L turns = (acts : List Act) × IsHistory L turns acts

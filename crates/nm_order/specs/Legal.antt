@@ -1,0 +1,38 @@
+-- A plain set, and that an answer which changes nothing was right at a moment of its call.
+use Rattle.std.specs.Prelude.{◌≡◌, ℕ, Bool, true, false, List, ◌++◌}
+use Rattle.nm_edge.specs.Layouts.{Layout}
+use Rattle.nm_model.specs.declared.event.Op.{Op}
+use Rattle.nm_model.specs.declared.event.Op.TheVariants.{Has, Insert, Delete}
+use Rattle.nm_model.specs.declared.event.Event.{Event}
+use Rattle.nm_model.specs.Ordered.{ordered, after_in, trace_in}
+use Rattle.nm_order.specs.Intervals.{InSet, IsCalled}
+use Rattle.nm_order.specs.Moments.{PinStands}
+use Rattle.nm_order.specs.Exchanges.{MayAnswer}
+
+-- what a plain set answers: `has` tells whether the key is in it, an insert is true where it was not, and a delete where it was
+abbrev pub Gives : (ℕ → Type 0) → Op → ℕ → Bool → Type 0
+Gives in_set Has k true = in_set k
+Gives in_set Has k false = in_set k → ⊥
+Gives in_set Insert k true = in_set k → ⊥
+Gives in_set Insert k false = in_set k
+Gives in_set Delete k true = in_set k
+Gives in_set Delete k false = in_set k → ⊥
+
+-- a true insert and a true delete change the set, and no other answer does
+abbrev pub changes : Op → Bool → Bool
+changes Has answer = false
+changes Insert answer = answer
+changes Delete answer = answer
+
+-- at a moment under the pin that stands since, a plain set of the keys of the reached leaves gives the answer to the call
+pub record WasLegal (L : Layout) (turns : List (ℕ × Event)) (w : ℕ) (op : Op) (k : ℕ) (answer : Bool) : Type 0 where
+  pub before : List (ℕ × Event)
+  pub since : List (ℕ × Event)
+  pub is_run : turns ≡ before ++ since
+  pub called : IsCalled (after_in (ordered L) before) w op k
+  pub stands : PinStands w (trace_in (after_in (ordered L) before) since)
+  pub gives : Gives (InSet (after_in (ordered L) before).state.memory) op k answer
+
+-- an answer that changes nothing was right at a moment since the pin
+abbrev pub OtherAnswersWereLegal : Layout → List (ℕ × Event) → Type 0
+OtherAnswersWereLegal L turns = (w : ℕ) (op : Op) (k : ℕ) (answer : Bool) → MayAnswer (after_in (ordered L) turns) w op k answer → changes op answer ≡ false → WasLegal L turns w op k answer

@@ -1,0 +1,44 @@
+-- The moment of a delete: the cut that contains the leaf which it flagged; and what a cut takes from the set.
+use Rattle.std.specs.Prelude.{◌≡◌, ◌↔◌, ℕ, true, List, ◌∷◌, ◌++◌, Contains, Ok}
+use Rattle.nm_edge.specs.Layouts.{Layout}
+use Rattle.nm_edge.specs.declared.node.NodeId.{NodeId}
+use Rattle.nm_model.specs.declared.event.Op.TheVariants.{Delete}
+use Rattle.nm_model.specs.declared.event.Event.{Event}
+use Rattle.nm_model.specs.declared.reply.Reply.TheVariants.{Cut}
+use Rattle.nm_model.specs.Memory.{Memory, node, is_leaf}
+use Rattle.nm_model.specs.Ordered.{Configuration, ordered, next_in, outcome_in, after_in, trace_in}
+use Rattle.nm_order.specs.Intervals.{InSet, key}
+use Rattle.nm_order.specs.Moments.{PinStands}
+use Rattle.nm_order.specs.Exchanges.{MayAnswer, HasFlagged}
+
+-- the key of a leaf among these nodes
+pub record IsKeyOf (m : Memory) (ns : List NodeId) (k : ℕ) : Type 0 where
+  pub leaf : NodeId
+  pub among : Contains ns leaf
+  pub childless : is_leaf (node m leaf.slot) ≡ true
+  pub has_key : key m leaf.slot ≡ k
+
+-- the set loses the keys of the leaves among these nodes, which were in it, and nothing else
+pub record Loses (before after : Memory) (ns : List NodeId) : Type 0 where
+  pub had : (k : ℕ) → IsKeyOf before ns k → InSet before k
+  pub now : (k : ℕ) → InSet after k ↔ InSet before k × (IsKeyOf before ns k → ⊥)
+
+-- a cut takes from the set just the keys of its leaves
+abbrev pub CutsTakeTheirKeys : Configuration → Type 0
+CutsTakeTheirKeys c = (turn : ℕ × Event) (ns : List NodeId) → outcome_in c turn ≡ Ok (Cut ns) → Loses c.state.memory (next_in c turn).state.memory ns
+
+-- under the pin that stands since, the worker's call to delete k had flagged its leaf, and somebody's splice cut that leaf
+pub record HasDeleted (L : Layout) (turns : List (ℕ × Event)) (w k : ℕ) : Type 0 where
+  pub before : List (ℕ × Event)
+  pub cut : ℕ × Event
+  pub since : List (ℕ × Event)
+  pub nodes : List NodeId
+  pub is_run : turns ≡ before ++ cut ∷ since
+  pub won : outcome_in (after_in (ordered L) before) cut ≡ Ok (Cut nodes)
+  pub flag : HasFlagged L before w k
+  pub among : Contains nodes flag.flagged
+  pub stands : PinStands w (trace_in (after_in (ordered L) before) (cut ∷ since))
+
+-- a true delete is a cut of the leaf that it flagged, by now
+abbrev pub TrueDeletesHaveDeleted : Layout → List (ℕ × Event) → Type 0
+TrueDeletesHaveDeleted L turns = (w k : ℕ) → MayAnswer (after_in (ordered L) turns) w Delete k true → HasDeleted L turns w k

@@ -1,0 +1,84 @@
+-- What the last state is told by: the ledger of each worker, the epoch, how many slots stand where, and in an ordered file the keys of the set.
+use Rattle.std.specs.Prelude.{ℕ, Bool, true, false, zero, suc, List, [], ◌∷◌, ◌++◌, codes, decimal, Option, Some, None}
+use Rattle.nm_edge.specs.declared.node.NodeId.{NodeId}
+use Rattle.nm_model.specs.declared.ledger.Queued.{Queued}
+use Rattle.nm_model.specs.declared.ledger.Ledger.{Ledger}
+use Rattle.nm_model.specs.Runs.{State}
+use Rattle.nm_model.specs.Reports.{ledger_of, counts, keys}
+use Rattle.nm_model.specs.declared.places.Places.{Places}
+use Rattle.nm_files.specs.declared.header.Header.{Header}
+use Rattle.nm_print.specs.Replies.{node, spaced_nodes}
+
+-- each node after a space, or a dash where there is none
+abbrev pub nodes : List NodeId → List ℕ
+nodes [] = codes " -"
+nodes (n ∷ ns) = spaced_nodes (n ∷ ns)
+
+-- the label of an entry, or a dash while it has none
+abbrev pub label : Option ℕ → List ℕ
+label None = codes "-"
+label (Some e) = decimal e
+
+-- a node, an at sign and its label
+abbrev pub entry : Queued → List ℕ
+entry q = node q.node ++ (codes "@" ++ label q.label)
+
+abbrev pub spaced_entries : List Queued → List ℕ
+spaced_entries [] = []
+spaced_entries (q ∷ qs) = (codes " " ++ entry q) ++ spaced_entries qs
+
+-- each entry after a space, or a dash where there is none
+abbrev pub queue : List Queued → List ℕ
+queue [] = codes " -"
+queue (q ∷ qs) = spaced_entries (q ∷ qs)
+
+-- a line of what a worker's splices cut off
+abbrev pub worker_line : ℕ → List ℕ → List ℕ → List ℕ
+worker_line worker what list = codes "worker " ++ decimal worker ++ (what ++ (list ++ codes "\n"))
+
+-- its three lines; none for a worker that is not there
+abbrev pub ledger_lines : ℕ → Option Ledger → List ℕ
+ledger_lines worker None = []
+ledger_lines worker (Some l) =
+    worker_line worker (codes " retired") (nodes l.retired)
+    ++ (worker_line worker (codes " freed") (nodes l.freed)
+    ++ worker_line worker (codes " queue") (queue l.queue))
+
+-- the lines of the first so many workers, by number
+abbrev pub workers_lines : State → ℕ → List ℕ
+workers_lines s zero = []
+workers_lines s (suc n) = workers_lines s n ++ ledger_lines n (ledger_of s n)
+
+abbrev pub epoch_line : ℕ → List ℕ
+epoch_line e = codes "epoch " ++ decimal e ++ codes "\n"
+
+-- how many slots above 5 are in the pool, private, reached and queued
+unfoldable pub places_line : Places → List ℕ
+places_line p =
+    (codes "places pool " ++ decimal p.pool)
+    ++ ((codes " private " ++ decimal p.private)
+    ++ ((codes " reached " ++ decimal p.reached)
+    ++ ((codes " queued " ++ decimal p.queued) ++ codes "\n")))
+
+-- each number after a space
+abbrev pub spaced_numbers : List ℕ → List ℕ
+spaced_numbers [] = []
+spaced_numbers (k ∷ ks) = (codes " " ++ decimal k) ++ spaced_numbers ks
+
+-- each number after a space, or a dash where there is none
+abbrev pub numbers : List ℕ → List ℕ
+numbers [] = codes " -"
+numbers (k ∷ ks) = spaced_numbers (k ∷ ks)
+
+-- the keys of the set from left to right
+abbrev pub keys_line : List ℕ → List ℕ
+keys_line ks = codes "keys" ++ (numbers ks ++ codes "\n")
+
+-- the line of the keys, in an ordered file alone
+abbrev pub keys_line_in : Bool → State → List ℕ
+keys_line_in true s = keys_line (keys s)
+keys_line_in false s = []
+
+-- what the last state of a file with that header is told by
+unfoldable pub last_lines : Header → State → List ℕ
+last_lines header s = workers_lines s header.layout.workers ++ (epoch_line s.memory.epoch ++ (places_line (counts s) ++ keys_line_in header.is_ordered s))

@@ -1,0 +1,3 @@
+pub mod LimitLemmas
+pub mod PlainLemmas
+pub mod ReplyLemmas

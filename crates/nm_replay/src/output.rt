@@ -1,0 +1,53 @@
+//! What is written for a schedule.
+ghost use Rattle.std.specs.Prelude.{◌≡◌, ◌++◌, codes, IfOk, OnOk};
+ghost use Rattle.nm_files.specs.Lines.{parts};
+ghost use Rattle.nm_print.specs.Replies.{outcome};
+ghost use Rattle.nm_print.specs.LastLines.{last_lines};
+ghost use Rattle.nm_replay.specs.Output as spec;
+
+use nm_core::Core;
+use nm_files::header::Header;
+use nm_files::pieces::cut;
+use nm_model::Turn;
+use nm_print::last_lines::put_last_lines;
+use nm_print::reply::put_outcome;
+use std::alloc::{AllocError, Global};
+
+/// Appends a line of the file with what its event was answered.
+fn put_line(out: &mut Vec<u8>, line: &[u8], turn: &Turn) -> Result<(), AllocError>
+    ensures { OnOk result (out.new.items ≡ out.old.items ++ (line.now ++ codes " = " ++ outcome turn.now.outcome ++ codes "\n")) }
+{
+    out.extend_from_slice(line)?;
+    out.extend_from_slice(b" = ")?;
+    put_outcome(out, &turn.outcome)?;
+    out.extend_from_slice(b"\n")
+}
+
+/// Each line with what its event was answered, and then what the last state is told by.
+pub fn text_of(
+    alloc: Global,
+    body: &[u8],
+    turns: &[Turn],
+    header: &Header,
+    core: &Core,
+) -> Result<Vec<u8>, AllocError>
+    ensures { IfOk result (λ v. v.items ≡ spec.lines_with (parts body.now) turns.now ++ last_lines header.now core.now.state) }
+{
+    let mut out = Vec::new(alloc);
+    let mut rest = Some(body);
+    for turn in turns {
+        let Some(text) = rest else {
+            break;
+        };
+        let (line, after) = cut(text, b'\n');
+        put_line(&mut out, line, turn)?;
+        rest = after;
+    }
+    put_last_lines(&mut out, header, core)?;
+    Ok(out)
+}
+
+/// A file that is not ordered, of version 1 or 2, is told by a run of states, each event answered as a plain core answers it, and has no line of keys.
+pub fn plain_files_are_runs()
+    ensures { spec.PlainFilesAreRuns }
+{}

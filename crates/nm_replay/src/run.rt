@@ -1,0 +1,82 @@
+//! The commands, from a reader to a writer.
+ghost use Rattle.std.specs.Prelude.{◌≡◌, ◌≢◌, drop, Some, IfSome, IfOk, OnOk, IfErr, IsOk};
+ghost use Rattle.nm_files.specs.Files.{Gives, IfLine, HasJudged};
+ghost use Rattle.nm_replay.specs.Output.{opening, output_of, Writes};
+
+use crate::output::text_of;
+use nm_core::Core;
+use nm_files::fault::RunFault;
+use nm_files::header::Header;
+use nm_files::schedule::schedule_of;
+use nm_files::stream::{LIMIT, input_of, write_text};
+use nm_model::NewError;
+use std::alloc::Global;
+use std::io::{Read, Write};
+
+/// The core that plays a file with that header, at its opening.
+fn core_of(alloc: Global, header: &Header) -> Result<Core, RunFault>
+    ensures opening { IfOk result (λ core. core ≡ opening header.now) }
+    ensures err { IfErr result (λ e. e ≡ RunFault.NoMemory) }
+{
+    let nodes = header.layout.nodes();
+    let workers = header.layout.workers();
+    let made = if header.is_ordered {
+        Core::ordered(alloc, nodes, workers)
+    } else {
+        Core::new(alloc, nodes, workers)
+    };
+    match made {
+        Ok(core) => Ok(core),
+        Err(NewError::NoMemory) => Err(RunFault::NoMemory),
+        Err(NewError::Nodes | NewError::Workers) => unreachable!(),
+    }
+}
+
+/// What is written for the bytes of a file.
+fn output(alloc: Global, bytes: &[u8]) -> Result<Vec<u8>, RunFault>
+    ensures { Gives (λ v. v.items) result (output_of bytes.now) }
+{
+    let schedule = schedule_of(alloc, bytes)?;
+    let mut core = core_of(alloc, &schedule.header)?;
+    let trace = match core.run(schedule.events) {
+        Ok(trace) => trace,
+        Err(_) => return Err(RunFault::NoMemory),
+    };
+    match text_of(
+        alloc,
+        schedule.body,
+        trace.as_slice(),
+        &schedule.header,
+        &core,
+    ) {
+        Ok(text) => Ok(text),
+        Err(_) => Err(RunFault::NoMemory),
+    }
+}
+
+/// Plays the schedule that the reader gives, and writes each of its lines with what the event was answered,
+/// and then what the last state is told by: each worker's ledger, the epoch, how many slots stand where,
+/// and in an ordered file the keys of the set.
+///
+/// Everything is read before a line is checked, and nothing is written before all lines are checked and run.
+/// An event that the core refuses is written with the number of the refusal, and is no fault.
+pub fn replay<R: Read, W: Write>(
+    alloc: Global,
+    reader: &mut R,
+    writer: &mut W,
+) -> Result<(), RunFault>
+    // The output of the input is written, and nothing else.
+    ensures ok { OnOk result (IfSome (R.remaining reader.old) (λ input. Writes (output_of input) (W.contents writer.old) (W.contents writer.new))) }
+    // The first faulty line is answered, with the least reason.
+    ensures line { IfErr result (λ e. IfSome (R.remaining reader.old) (λ input. IfLine e (λ line reason. output_of input ≡ Err (record { line = line; reason = reason })))) }
+    // A writer is first asked where no line is faulty.
+    ensures write { IfErr result (λ e. e ≡ RunFault.Write → IfSome (R.remaining reader.old) (λ input. IsOk (output_of input))) }
+    // However it was judged, the input was read to its end, or to the limit.
+    ensures read { HasJudged result → IfSome (R.remaining reader.old) (λ input. R.remaining reader.new ≡ Some (drop LIMIT input)) }
+    // Nothing is written unless all was right.
+    ensures unwritten { IfErr result (λ e. e ≢ RunFault.Write → writer.new ≡ writer.old) }
+{
+    let bytes = input_of(alloc, reader)?;
+    let text = output(alloc, bytes.as_slice())?;
+    write_text(writer, text.as_slice())
+}

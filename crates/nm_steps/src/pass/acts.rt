@@ -1,0 +1,122 @@
+//! The operations on one word, each for any event that leaves that word so. No other file reaches the table's words.
+ghost use Rattle.std.specs.Prelude.{◌≡◌, ◌==◌, bit_and, bit_or};
+ghost use prog.Atomic.{either};
+ghost use Rattle.nm_steps.specs.Steps.{IsReady, IsDone, Changes, IsBlind};
+
+use crate::pass::Shared;
+use crate::view::{Does, Doing, Place, Words};
+use nm_model::Event;
+use std::marker::Brand;
+
+impl Shared {
+    /// Reads the word.
+    pub(crate) fn load(&self, seat: &mut Place, word: usize, event: Event) -> u64
+        requires ready { IsReady self.now seat.old event word }
+        requires changes { Changes event seat.old.me.0 (λ n. n) }
+        ensures { IsDone seat.old seat.new event result }
+    {
+        load_as::<Brand>(&self.table.shared, seat, word, &event)
+    }
+
+    /// Stores the word.
+    pub(crate) fn store(&self, seat: &mut Place, word: usize, new: u64, event: Event)
+        requires ready { IsReady self.now seat.old event word }
+        requires changes { Changes event seat.old.me.0 (λ n. new) }
+        requires blind { IsBlind event seat.old.me.0 }
+        ensures { IsDone seat.old seat.new event new }
+    {
+        store_as::<Brand>(&self.table.shared, seat, word, new, &event);
+    }
+
+    /// Sets bits of the word; the word before.
+    pub(crate) fn mark(&self, seat: &mut Place, word: usize, mask: u64, event: Event) -> u64
+        requires ready { IsReady self.now seat.old event word }
+        requires changes { Changes event seat.old.me.0 (λ n. bit_or n mask) }
+        ensures { IsDone seat.old seat.new event result }
+    {
+        mark_as::<Brand>(&self.table.shared, seat, word, mask, &event)
+    }
+
+    /// Keeps the bits of the mask alone; the word before.
+    pub(crate) fn clear(&self, seat: &mut Place, word: usize, mask: u64, event: Event) -> u64
+        requires ready { IsReady self.now seat.old event word }
+        requires changes { Changes event seat.old.me.0 (λ n. bit_and n mask) }
+        ensures { IsDone seat.old seat.new event result }
+    {
+        clear_as::<Brand>(&self.table.shared, seat, word, mask, &event)
+    }
+
+    /// Puts the new word in the place of the old one, if that stands there; the word before.
+    pub(crate) fn exchange(
+        &self,
+        seat: &mut Place,
+        word: usize,
+        old: u64,
+        new: u64,
+        event: Event,
+    ) -> u64
+        requires ready { IsReady self.now seat.old event word }
+        requires changes { Changes event seat.old.me.0 (λ n. either (n == old) new n) }
+        ensures { IsDone seat.old seat.new event result }
+    {
+        exchange_as::<Brand>(&self.table.shared, seat, word, old, new, &event)
+    }
+}
+
+fn load_as<D: Doing>(words: &Words, seat: &mut Place, word: usize, event: &Event) -> u64
+    requires pick { D.event ≡ event.now }
+    requires ready { IsReady (record { table = words.now.table_id; layout = words.now.key }) seat.old event.now word }
+    requires changes { Changes event.now seat.old.me.0 (λ n. n) }
+    ensures { IsDone seat.old seat.new event.now result }
+{
+    let _ = event;
+    words.load::<Does<D>>(seat, word)
+}
+
+fn store_as<D: Doing>(words: &Words, seat: &mut Place, word: usize, new: u64, event: &Event)
+    requires pick { D.event ≡ event.now }
+    requires ready { IsReady (record { table = words.now.table_id; layout = words.now.key }) seat.old event.now word }
+    requires changes { Changes event.now seat.old.me.0 (λ n. new) }
+    requires blind { IsBlind event.now seat.old.me.0 }
+    ensures { IsDone seat.old seat.new event.now new }
+{
+    let _ = event;
+    words.store::<Does<D>>(seat, word, new);
+}
+
+fn mark_as<D: Doing>(words: &Words, seat: &mut Place, word: usize, mask: u64, event: &Event) -> u64
+    requires pick { D.event ≡ event.now }
+    requires ready { IsReady (record { table = words.now.table_id; layout = words.now.key }) seat.old event.now word }
+    requires changes { Changes event.now seat.old.me.0 (λ n. bit_or n mask) }
+    ensures { IsDone seat.old seat.new event.now result }
+{
+    let _ = event;
+    words.fetch_or::<Does<D>>(seat, word, mask)
+}
+
+fn clear_as<D: Doing>(words: &Words, seat: &mut Place, word: usize, mask: u64, event: &Event) -> u64
+    requires pick { D.event ≡ event.now }
+    requires ready { IsReady (record { table = words.now.table_id; layout = words.now.key }) seat.old event.now word }
+    requires changes { Changes event.now seat.old.me.0 (λ n. bit_and n mask) }
+    ensures { IsDone seat.old seat.new event.now result }
+{
+    let _ = event;
+    words.fetch_and::<Does<D>>(seat, word, mask)
+}
+
+fn exchange_as<D: Doing>(
+    words: &Words,
+    seat: &mut Place,
+    word: usize,
+    old: u64,
+    new: u64,
+    event: &Event,
+) -> u64
+    requires pick { D.event ≡ event.now }
+    requires ready { IsReady (record { table = words.now.table_id; layout = words.now.key }) seat.old event.now word }
+    requires changes { Changes event.now seat.old.me.0 (λ n. either (n == old) new n) }
+    ensures { IsDone seat.old seat.new event.now result }
+{
+    let _ = event;
+    words.compare_exchange::<Does<D>>(seat, word, old, new)
+}

@@ -1,0 +1,109 @@
+//! How a table is made: the words of the empty tree, and a pass for each worker.
+ghost use Rattle.std.specs.Prelude.{◌≡◌, length, IfOk, IfErr};
+ghost use Rattle.nm_edge.specs.Words.{IsSlot, words};
+ghost use Rattle.nm_model.specs.Memory.{fork, opening};
+ghost use Rattle.nm_words.specs.Packing.{words_of};
+ghost use Rattle.nm_steps.specs.Openings.{untouched, planted, Plants};
+ghost use Rattle.nm_steps.specs.Steps.{AreFresh};
+
+use crate::pass::{Pass, Shared};
+use crate::view::View;
+use atomic_table::{Split, Table};
+use nm_edge::{Edge, FIRST_SLOT, INFINITY_0, INFINITY_1, INFINITY_2, Layout, Side};
+use nm_model::{Brief, NewError};
+use std::alloc::{AllocError, Global};
+
+/// The own log goes to a seat of its own.
+struct Deal;
+
+impl Split<View> for Deal {
+    ghost use Rattle.nm_steps.specs.Rules.{own_alone, the_others};
+
+    ghost left = { the_others };
+
+    ghost right = { own_alone };
+}
+
+impl Shared {
+    /// The empty tree, and a pass for each worker, in the order of their numbers. No worker has done anything yet.
+    /// The only error is `NoMemory`.
+    pub fn new(alloc: Global, layout: Layout) -> Result<(Shared, Vec<Pass>), NewError>
+        ensures layout { IfOk result (λ r. r.0.layout ≡ layout) }
+        ensures count { IfOk result (λ r. length r.1.items ≡ layout.workers) }
+        ensures fresh { IfOk result (λ r. AreFresh r.0 0 r.1.items) }
+        ensures memory { IfErr result (λ e. e ≡ NewError.NoMemory) }
+    {
+        Ok(made(alloc, layout)?)
+    }
+}
+
+/// The table, and its first seat cut into one for each worker.
+fn made(alloc: Global, layout: Layout) -> Result<(Shared, Vec<Pass>), AllocError>
+    ensures layout { IfOk result (λ r. r.0.layout ≡ layout) }
+    ensures count { IfOk result (λ r. length r.1.items ≡ layout.workers) }
+    ensures fresh { IfOk result (λ r. AreFresh r.0 0 r.1.items) }
+{
+    let workers = layout.workers();
+    let tree = opening_words(alloc, layout)?;
+    let (table, mut seat) = Table::of_words(alloc, tree.as_slice(), &layout)?;
+    let mut passes = Vec::new(alloc);
+    for number in 0..workers {
+        let own = table.shared.split_seat::<Deal>(&mut seat);
+        passes.push(Pass {
+            seat: own,
+            number,
+            brief: Brief {
+                seen: None,
+                note: None,
+                pin: None,
+                unlabelled: false,
+            },
+        })?;
+    }
+    Ok((Shared { table, layout }, passes))
+}
+
+/// The words of the empty tree, with every slot above 5 in the pool.
+fn opening_words(alloc: Global, layout: Layout) -> Result<Vec<u64>, AllocError>
+    ensures { IfOk result (λ tree. tree.items ≡ words_of layout (opening layout)) }
+{
+    let mut tree = vec![in alloc; 0; layout.words() as usize]?;
+    plant_fixed(&mut tree, layout);
+    fill_pool(&mut tree, layout);
+    Ok(tree)
+}
+
+/// Writes a node's key and edges; its birth stays 0.
+fn plant(tree: &mut Vec<u64>, layout: Layout, slot: u32, key: u64, left: u32, right: u32)
+    requires slot { IsSlot layout slot }
+    requires long { length tree.old.items ≡ words layout }
+    ensures planted { Plants layout tree.old.items tree.new.items slot (fork key left right) }
+    ensures long { length tree.new.items ≡ words layout }
+{
+    tree[layout.key(slot) as usize] = key;
+    tree[layout.edge(slot, Side::Left) as usize] = Edge::to(left).pack();
+    tree[layout.edge(slot, Side::Right) as usize] = Edge::to(right).pack();
+}
+
+/// Writes the five nodes of the empty tree.
+fn plant_fixed(tree: &mut Vec<u64>, layout: Layout)
+    requires { tree.old.items ≡ words_of layout (untouched layout) }
+    ensures { tree.new.items ≡ words_of layout (planted layout) }
+{
+    plant(tree, layout, 1, INFINITY_2, 2, 5);
+    plant(tree, layout, 2, INFINITY_1, 3, 4);
+    plant(tree, layout, 3, INFINITY_0, 0, 0);
+    plant(tree, layout, 4, INFINITY_1, 0, 0);
+    plant(tree, layout, 5, INFINITY_2, 0, 0);
+}
+
+/// Puts every slot above 5 into the pool.
+fn fill_pool(tree: &mut Vec<u64>, layout: Layout)
+    requires { tree.old.items ≡ words_of layout (planted layout) }
+    ensures { tree.new.items ≡ words_of layout (opening layout) }
+{
+    for slot in FIRST_SLOT..layout.nodes() + 1 {
+        let place = layout.pool(slot);
+        tree[place.word as usize] |= place.mask;
+    }
+}

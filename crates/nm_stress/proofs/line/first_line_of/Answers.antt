@@ -1,8 +1,0 @@
-use Rattle.std.proofs.Common.{◌∙◌, ap}
-use Rattle.nm_stress.specs.Lines.{fields}
-use Rattle.nm_stress.specs.Headers.{header_of}
-use Rattle.nm_stress.proofs.EntryLemmas.{header_take}
-use Rattle.nm_stress.proofs.line.first_line_of.Goals as goal
-
-pub returns : goal.returns
-returns c = c.header_of.ensures ∙ rw c.as_slice.ensures.value (ap header_of c.fields_of.ensures ∙ header_take (fields c.args.line.now))

@@ -1,0 +1,95 @@
+-- Workers that have done nothing yet.
+use Rattle.std.proofs.Common.{◌≡◌, ◌≢◌, ℕ, zero, suc, ◌+◌, ◌≤◌, ◌⊎◌, inl, inr, List, [], ◌∷◌, ◌++◌, length, refl, sym, ap, ◌∙◌, subst, arith, true, false}
+use Rattle.std.specs.Prelude.{Option, Some, None, IsSome, is_some, option_map, unwrap_or, reverse}
+use Rattle.std.proofs.lemmas.List.{reverse-append}
+use Rattle.std.proofs.lemmas.Bool.Decides.{eqb_tells}
+use Rattle.nm_edge.specs.Layouts.{Layout}
+use Rattle.nm_model.specs.declared.ledger.Ledger.{Ledger}
+use Rattle.nm_model.specs.Ledgers.{held, fresh_ledger}
+use Rattle.nm_model.specs.Walks.{Entry as LogEntry}
+use Rattle.nm_steps.specs.declared.view.View.{View}
+use Rattle.nm_steps.specs.Rules.{knowledge}
+use Rattle.nm_steps.specs.Steps.{Board, Stand, AreFresh, fresh_view}
+use Rattle.nm_epoch.specs.declared.collecting.Entry.{Entry}
+use Rattle.nm_epoch.specs.declared.collecting.HeldQueue.{HeldQueue}
+use Rattle.nm_epoch.specs.Collecting.{IsQueueOf}
+use Rattle.nm_calls.specs.Fresh.{HasDoneNothing}
+use Rattle.nm_calls.specs.Won.{capped, won_links, won_flags, won_splices}
+use Rattle.nm_tree.specs.declared.worker.Account.{Account}
+use Rattle.nm_tree.specs.Workers.{Hand, IsWorker, IsAccount, HasOrigin, IsFresh, AreAllFresh, IsNewWorker, AreMade, AreNew, log_of, ledger_in}
+use Rattle.nm_tree.proofs.Changing.{log_of_own}
+
+-- ---- one worker
+
+-- an account of an origin of which nothing is told yet
+abbrev pub blank : ℕ → Account
+blank o = record { origin = o; links = 0; flags = 0; splices = 0; freed = 0; waiting = 0 }
+
+fresh_account : (p : Stand) (h : HeldQueue) → HasDoneNothing p → h.origin ≡ p.view.number → h.queue.items ≡ [] → IsAccount p.view h (blank h.origin)
+fresh_account p h d own empty =
+    let log : log_of p.view h.origin ≡ [] = ap (λ (o : ℕ). log_of p.view o) own ∙ (log_of_own p ∙ d.log) in
+    let ledger : ledger_in p.view h.origin ≡ fresh_ledger = ap (λ (o : ℕ). ledger_in p.view o) own ∙ ap (λ (l : Option Ledger). unwrap_or l fresh_ledger) d.ledger in
+    let none' : length h.queue.items ≡ 0 = ap (λ (es : List Entry). length es) empty in
+    let r : length (ledger_in p.view h.origin).retired ≡ 0 = ap (λ (l : Ledger). length l.retired) ledger in
+    let f : length (ledger_in p.view h.origin).freed ≡ 0 = ap (λ (l : Ledger). length l.freed) ledger in
+    record {
+      origin = refl;
+      links = ap (λ (x : List LogEntry). capped (won_links x)) (sym log);
+      flags = ap (λ (x : List LogEntry). capped (won_flags x)) (sym log);
+      splices = ap (λ (x : List LogEntry). capped (won_splices x)) (sym log);
+      freed = ap (λ (l : Ledger). capped (length l.freed)) (sym ledger);
+      waiting = sym none';
+      few = omega (arith, none');
+      split = omega (arith, none', r, f);
+    }
+
+pub new_worker : (p : Stand) (h : HeldQueue) → HasDoneNothing p → h.origin ≡ p.view.number → h.queue.items ≡ [] → IsWorker (record { pass = p; queues = h ∷ []; pending = None; held = None }) (blank h.origin ∷ []) 0
+new_worker p h d own empty =
+    let queue : IsQueueOf (knowledge p.view) h.origin h.queue.items =
+    let P : ℕ → Type 0 = λ o. IsQueueOf (knowledge p.view) o h.queue.items in
+    let Q : List Entry → Type 0 = λ es. IsQueueOf (knowledge p.view) p.view.number es in
+    subst P (sym own) (subst Q (sym empty) d.queue) in
+    let one : (o : ℕ) → IsSome (held (knowledge p.view).ledgers o) → HasOrigin o (h ∷ []) = λ o some'.
+    elim (eqb_tells o p.view.number) [
+      | inl is ↦ inl (own ∙ sym is.1)
+      | inr is ↦ absurd (not_some (held (knowledge p.view).ledgers o) (d.others o is.1) some')
+    ] in
+    record {
+      between = record { queues = (queue, tt, tt); all = one; ascend = tt; private = d.private; stands = d.rests };
+      accounts = (fresh_account p h d own empty, tt);
+      few = omega arith;
+      own = own;
+    }
+  where
+    not_some : (l : Option Ledger) → l ≡ None → IsSome l → ⊥
+    not_some None is some' = absurd (cc)
+    not_some (Some x) is some' = absurd (cc)
+
+-- ---- all workers
+
+pub fresh_before : (ps : List Stand) (p : Stand) → AreAllFresh (ps ++ p ∷ []) → AreAllFresh ps × IsFresh p
+fresh_before [] p are = (tt, are.0)
+fresh_before (q ∷ ps) p are = let rest = fresh_before ps p are.1 in ((are.0, rest.0), rest.1)
+
+pub all_fresh : (b : Board) (k : ℕ) (ps : List Stand) → AreFresh b k ps → AreAllFresh ps
+all_fresh b k [] are = tt
+all_fresh b k (p ∷ ps) are =
+    ((k, are.1 ∙ ap (λ (L : Layout). fresh_view L k) (sym (ap (λ (v : View). v.layout) are.1))), all_fresh b (suc k) ps are.2)
+
+pub all_new : (b : Board) (k : ℕ) (ps : List Stand) (ws : List Hand) → AreFresh b k ps → AreMade ps ws → AreNew b k ws
+all_new b k [] [] fresh made = tt
+all_new b k [] (w ∷ ws) fresh made = absurd made
+all_new b k (p ∷ ps) [] fresh made = absurd made
+all_new b k (p ∷ ps) (w ∷ ws) fresh made =
+    let is = made.0 in
+    (ap (λ (x : Stand). x.table) is.0 ∙ fresh.0, ap (λ (x : Stand). x.view) is.0 ∙ fresh.1, is.1, is.2, is.3, all_new b (suc k) ps ws fresh.2 made.1)
+
+pub as_many : (ps : List Stand) (ws : List Hand) → AreMade ps ws → length ws ≡ length ps
+as_many [] [] made = refl
+as_many [] (w ∷ ws) made = absurd made
+as_many (p ∷ ps) [] made = absurd made
+as_many (p ∷ ps) (w ∷ ws) made = ap suc (as_many ps ws made.1)
+
+-- one worker more, where they are made from the last one on
+pub one_made : (p : Stand) (w : Hand) (ps : List Stand) (ws : List Hand) → IsNewWorker p w → AreMade ps (reverse ws) → AreMade (p ∷ ps) (reverse (ws ++ w ∷ []))
+one_made p w ps ws new made = let P : List Hand → Type 0 = λ xs. AreMade (p ∷ ps) xs in subst P (sym (reverse-append ws (w ∷ []))) (new, made)

@@ -1,0 +1,144 @@
+-- What a worker is between two calls, after a call that changes nothing in its hands.
+use Rattle.std.proofs.Common.{◌≡◌, ◌≢◌, ℕ, ◌+◌, ◌<◌, ◌≤◌, ◌⊎◌, inl, inr, true, false, List, [], ◌∷◌, Option, Some, None, length, refl, sym, ap, ◌∙◌, subst}
+use Rattle.std.specs.Prelude.{IsSome, is_some, unwrap_or}
+use Rattle.nm_edge.specs.Layouts.{Layout}
+use Rattle.nm_edge.specs.declared.node.NodeId.{NodeId}
+use Rattle.nm_model.specs.declared.ledger.Ledger.{Ledger}
+use Rattle.nm_model.specs.declared.walks.Call.{Call}
+use Rattle.nm_model.specs.declared.knowledge.Seen.{Seen}
+use Rattle.nm_model.specs.Knowledge.{Knowledge, unread}
+use Rattle.nm_model.specs.Ledgers.{held, fresh_ledger}
+use Rattle.nm_model.specs.Maps.{get, has}
+use Rattle.nm_model.specs.Searches.{Search}
+use Rattle.nm_steps.specs.Rules.{knowledge}
+use Rattle.nm_steps.specs.Steps.{Stand, IsSamePass}
+use Rattle.nm_epoch.specs.declared.collecting.Entry.{Entry}
+use Rattle.nm_epoch.specs.declared.collecting.HeldQueue.{HeldQueue}
+use Rattle.nm_epoch.specs.Collecting.{IsQueueOf, AreHeld}
+use Rattle.nm_epoch.specs.Resting.{IsResting, IsSettled, KeepsHands, Settles, Stays, IsPinnedAt, epochs, search}
+use Rattle.nm_calls.specs.Deletes.{IsRemoving}
+use Rattle.nm_calls.specs.Telling.{IsInRun}
+use Rattle.nm_calls.specs.Won.{capped, won_links, won_flags, won_splices}
+use Rattle.nm_tree.specs.declared.worker.Account.{Account}
+use Rattle.nm_tree.specs.declared.worker.Standing.{Standing}
+use Rattle.nm_tree.specs.declared.worker.Standing.TheVariants as standing
+use Rattle.nm_tree.specs.declared.worker.Unfinished.{Unfinished}
+use Rattle.nm_tree.specs.Workers.{Hand, pending_in, held_in, IsAs, IsHolding, IsBetweenCalls, IsWorker, IsAccount, AreAccounts, HasOrigin, StandsAt, log_of, ledger_in}
+use Rattle.nm_tree.proofs.QueueLists.{queue_stays}
+use Rattle.nm_tree.proofs.Quiet.{Quiet, each_as_before}
+
+-- ---- queues and accounts
+
+-- queues of ledgers that all stay are held still
+pub all_held : (k l : Knowledge) (hs : List HeldQueue) → l.ledgers ≡ k.ledgers → AreHeld k hs → AreHeld l hs
+all_held k l [] same are = tt
+all_held k l (h ∷ hs) same are = (queue_stays k l h.origin h.queue.items (ap (λ (ls : List (Option Ledger)). held ls h.origin) same) are.0, are.1, all_held k l hs same are.2)
+
+-- an account stays right where nothing was won and its ledger stays
+pub account_stays : (p q : Stand) (h : HeldQueue) (a : Account) → IsSamePass p q → Quiet p.view.log q.view.log → ledger_in q.view h.origin ≡ ledger_in p.view h.origin
+    → IsAccount p.view h a → IsAccount q.view h a
+account_stays p q h a same none' ledger is =
+    record {
+      origin = is.origin;
+      links = is.links ∙ ap capped (sym (each_as_before won_links p q same none'.links h.origin));
+      flags = is.flags ∙ ap capped (sym (each_as_before won_flags p q same none'.flags h.origin));
+      splices = is.splices ∙ ap capped (sym (each_as_before won_splices p q same none'.splices h.origin));
+      freed = is.freed ∙ ap (λ (l : Ledger). capped (length l.freed)) (sym ledger);
+      waiting = is.waiting;
+      few = let P : Layout → Type 0 = λ L. length h.queue.items ≤ L.nodes in subst P (sym (ap (λ (x : Stand). x.view.layout) same)) is.few;
+      split = let P : Ledger → Type 0 = λ l. length l.retired ≡ length l.freed + length h.queue.items in subst P (sym ledger) is.split;
+    }
+
+pub accounts_stay : (p q : Stand) (hs : List HeldQueue) (xs : List Account) → IsSamePass p q → Quiet p.view.log q.view.log
+    → ((o : ℕ) → ledger_in q.view o ≡ ledger_in p.view o) → AreAccounts p.view hs xs → AreAccounts q.view hs xs
+accounts_stay p q [] [] same none' ledgers are = tt
+accounts_stay p q [] (a ∷ xs) same none' ledgers are = absurd are
+accounts_stay p q (h ∷ hs) [] same none' ledgers are = absurd are
+accounts_stay p q (h ∷ hs) (a ∷ xs) same none' ledgers are = (account_stays p q h a same none' (ledgers h.origin) are.0, accounts_stay p q hs xs same none' ledgers are.1)
+
+-- ---- a whole worker
+
+-- nothing in its hands has changed, and nothing was won
+pub stays : (w : Hand) (xs : List Account) (home : ℕ) (q : Stand) (n : Option Unfinished) (e : Option ℕ) → IsWorker w xs home → IsSamePass w.pass q → Quiet w.pass.view.log q.view.log
+    → (knowledge q.view).drafts ≡ (knowledge w.pass.view).drafts → (knowledge q.view).ledgers ≡ (knowledge w.pass.view).ledgers → IsAs q n e
+    → IsWorker (record { pass = q; queues = w.queues; pending = n; held = e }) xs home
+stays w xs home q n e is same none' drafts ledgers stands =
+    let P : ℕ → Type 0 = λ number. StandsAt home number w.queues in
+    record {
+      between = record {
+        queues = all_held (knowledge w.pass.view) (knowledge q.view) w.queues ledgers is.between.queues;
+        all = λ o some'. let Q : List (Option Ledger) → Type 0 = λ ls. IsSome (held ls o) in is.between.all o (subst Q ledgers some');
+        ascend = is.between.ascend;
+        private = λ slot. ap (λ ds. get ds slot) drafts ∙ is.between.private slot;
+        stands = stands;
+      };
+      accounts = accounts_stay w.pass q w.queues xs same none' (λ o. ap (λ (ls : List (Option Ledger)). unwrap_or (held ls o) fresh_ledger) ledgers) is.accounts;
+      own = subst P (sym (ap (λ (x : Stand). x.view.number) same)) is.own;
+      few = is.few;
+    }
+
+-- ---- where it stands
+
+-- no cut of its waits for a label
+pub labelled : (p : Stand) (n : Option Unfinished) (e : Option ℕ) → IsAs p n e → (epochs p).unlabelled ≡ false
+labelled p None None is = is.labelled
+labelled p None (Some e) is = is.labelled
+labelled p (Some n) None is = is.labelled
+labelled p (Some n) (Some e) is = absurd is
+
+pub held_at : (p : Stand) (e : ℕ) → IsPinnedAt e None p → IsHolding p e
+held_at p e is = record { note = is.note; pin = is.pin; labelled = is.labelled; search = is.begun }
+
+is_some_of : (o : Option ℕ) (e : ℕ) → o ≡ Some e → IsSome o
+is_some_of o e is = ap (λ (x : Option ℕ). is_some x) is
+
+-- it is in the midst of a pin at no time
+settled : (p : Stand) (n : Option Unfinished) (e : Option ℕ) → IsAs p n e → IsSettled p
+settled p None None is = inr is.silent
+settled p None (Some e) is = inl (is_some_of (epochs p).pin e is.pin)
+settled p (Some n) None is = inl (is_some_of (epochs p).pin is.pinned.0 is.pinned.1)
+settled p (Some n) (Some e) is = absurd is
+
+-- so it stands as it stood where its pin and its call stay
+pub stands_still : (p q : Stand) (n : Option Unfinished) (e : Option ℕ) → IsAs p n e → Settles p q → IsInRun q → IsAs q n e
+stands_still p q None None is s run =
+    let t = s.stays (settled p None None is) in
+    record { unpinned = t.pin ∙ is.unpinned; silent = t.note ∙ is.silent; labelled = s.labelled; idle = t.search ∙ is.idle }
+stands_still p q None (Some e) is s run =
+    let t = s.stays (settled p None (Some e) is) in
+    record { note = t.note ∙ is.note; pin = t.pin ∙ is.pin; labelled = s.labelled; search = t.search ∙ is.search }
+stands_still p q (Some n) None is s run =
+    let t = s.stays (settled p (Some n) None is) in
+    record {
+      run = run;
+      pinned = (is.pinned.0, t.pin ∙ is.pinned.1);
+      root = ap (λ (m : List (ℕ × Seen)). has m 1) t.known ∙ is.root;
+      known = ap (λ (m : List (ℕ × Seen)). has m 2) t.known ∙ is.known;
+      call = ap (λ (x : Search). x.call) t.search ∙ is.call;
+      flagged = ap (λ (x : Search). x.flagged) t.search ∙ is.flagged;
+      born = ap (λ (m : List (ℕ × Seen)). (unwrap_or (get m n.leaf.slot) unread).birth) t.known ∙ is.born;
+      labelled = s.labelled;
+    }
+stands_still p q (Some n) (Some e) is s run = absurd is
+
+-- ---- what a worker is in the midst of
+
+-- it rests where it is not held and no delete is pending
+pub resting_in : (s : Standing) → held_in s ≡ None → ((n : Unfinished) → s ≡ standing.Pending n → ⊥) → s ≡ standing.Resting
+resting_in standing.Resting free none' = refl
+resting_in (standing.Held e) free none' = absurd (cc)
+resting_in (standing.Pending n) free none' = absurd (none' n refl)
+
+pub rests_in : (p : Stand) (s : Standing) → s ≡ standing.Resting → IsAs p (pending_in s) (held_in s) → IsResting p
+rests_in p s is as' = let P : Standing → Type 0 = λ x. IsAs p (pending_in x) (held_in x) in subst P is as'
+
+pub rests_as : (p : Stand) (s : Standing) → s ≡ standing.Resting → IsResting p → IsAs p (pending_in s) (held_in s)
+rests_as p s is rests = let P : Standing → Type 0 = λ x. IsAs p (pending_in x) (held_in x) in subst P (sym is) rests
+
+-- and then no delete was pending, and none is
+pub free_in : (s : Standing) → s ≡ standing.Resting → (pending_in s ≡ None) × (pending_in s ≡ None)
+free_in s is = (ap pending_in is, ap pending_in is)
+
+-- a delete is pending, and its leaf is being removed
+pub removing_in : (p : Stand) (s : Standing) (n : Unfinished) → s ≡ standing.Pending n → IsRemoving p n.key n.leaf → IsAs p (pending_in s) (held_in s)
+removing_in p s n is removing = let P : Standing → Type 0 = λ x. IsAs p (pending_in x) (held_in x) in subst P (sym is) removing

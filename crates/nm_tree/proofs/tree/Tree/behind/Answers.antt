@@ -1,0 +1,20 @@
+use Rattle.std.proofs.Common.{rules, ◌≡◌, ℕ, ◌+◌, ◌-◌, ◌≤◌, ◌^◌, None, Some, List, length, ap, sym, refl, subst, ◌∙◌, arith, inl, inr}
+use Rattle.std.specs.Prelude.{Ok, Err, min}
+use Rattle.nm_edge.specs.Layouts.{Layout}
+use Rattle.nm_model.specs.Maps.{get}
+use Rattle.nm_steps.specs.Steps.{Stand}
+use Rattle.nm_calls.specs.Won.{links_of_insert, flags_of_delete}
+use Rattle.nm_tree.specs.declared.worker.Standing.TheVariants as standing
+use Rattle.nm_tree.specs.Workers.{Hand, IsWorker, IsBetweenCalls, held_in, pending_in}
+use Rattle.nm_tree.proofs.Quiet.{watched}
+use Rattle.nm_tree.proofs.Staying.{stays, stands_still, labelled}
+use Rattle.nm_tree.proofs.tree.Tree.behind.Goals as goal
+
+pub invariant_of-worker : goal.invariant_of-worker
+invariant_of-worker c =
+    let was = c.worker.invariant.between.stands in
+    stays _ _ c.worker.inside.home c.behind.new.pass _ _ c.worker.invariant c.behind.ensures.same (watched _ _ _ _ _ _ _ c.behind.ensures.part) c.behind.ensures.hands.private
+    (c.behind.ensures.hands.ledgers (labelled c.worker.inside.pass _ _ was)) (stands_still c.worker.inside.pass c.behind.new.pass _ _ was c.behind.ensures.settles c.behind.ensures.run)
+
+pub returns-clause-between : goal.returns-clause-between
+returns-clause-between c = (invariant_of-worker c).between

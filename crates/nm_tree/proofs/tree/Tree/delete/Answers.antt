@@ -1,0 +1,100 @@
+use Rattle.std.proofs.Common.{rules, ◌≡◌, ℕ, ◌+◌, ◌-◌, ◌≤◌, ◌^◌, None, Some, List, length, ap, sym, refl, subst, ◌∙◌, arith, inl, inr}
+use Rattle.std.specs.Prelude.{Ok, Err, min, slice_set}
+use Rattle.nm_edge.specs.Layouts.{Layout}
+use Rattle.nm_model.specs.Maps.{get}
+use Rattle.nm_steps.specs.Steps.{Stand}
+use Rattle.nm_calls.specs.Won.{links_of_insert, flags_of_delete}
+use Rattle.nm_tree.specs.declared.worker.Standing.TheVariants as standing
+use Rattle.nm_tree.specs.Workers.{Hand, IsWorker, IsBetweenCalls, held_in, pending_in}
+use Rattle.nm_tree.proofs.QueueLists.{others_stay, others_after, stands_within}
+use Rattle.nm_tree.proofs.Staying.{resting_in, rests_in, rests_as, free_in}
+use Rattle.nm_tree.proofs.Changing.{accounts_within, kept_there, changed}
+use Rattle.nm_calls.specs.declared.deleting.Missed.{Missed}
+use Rattle.nm_calls.specs.Deletes.{DeleteDid}
+use Rattle.nm_tree.specs.declared.fault.Fault.TheVariants as fault
+use Rattle.nm_tree.proofs.Telling.{deleted_so}
+use Rattle.nm_tree.proofs.tree.Tree.delete.Goals as goal
+
+pub returns-in-Pending-clause-queues : goal.returns-in-Pending-clause-queues
+returns-in-Pending-clause-queues c = others_stay c.args.worker.now.pass.view.number c.args.worker.now.queues
+
+pub index_mut-own-requires : goal.index_mut-own-requires
+index_mut-own-requires c = omega (arith, stands_within c.worker.inside.home _ c.worker.inside.queues.items c.worker.invariant.own, c.worker.inside.queues.ok.0)
+
+pub index_mut-account-requires : goal.index_mut-account-requires
+index_mut-account-requires c =
+    omega (arith, accounts_within c.worker.inside.pass.view c.worker.inside.home _ c.worker.inside.queues.items c.worker.inside.accounts.items c.worker.invariant.own c.worker.invariant.accounts, c.worker.inside.accounts.ok.0)
+
+pub delete_with-requires-clause-rests : goal.delete_with-requires-clause-rests
+delete_with-requires-clause-rests c = rests_in c.worker.inside.pass c.worker.inside.standing (resting_in c.worker.inside.standing (ap (λ (w : Hand). w.held) c.worker.view_is ∙ c.requires.free) c.in_default.not-Pending) c.worker.invariant.between.stands
+
+pub delete_with-requires-clause-kept : goal.delete_with-requires-clause-kept
+delete_with-requires-clause-kept c = kept_there _ _ c.worker.inside.home _ _ c.worker.invariant c.index_mut-own.ensures.value c.index_mut-account.ensures.value
+
+pub invariant_of-worker : goal.invariant_of-worker
+invariant_of-worker c =
+    changed _ _ c.worker.inside.home c.delete_with.new.pass _ _ c.delete_with.new.own c.delete_with.new.account c.worker.invariant c.delete_with.ensures.same c.delete_with.ensures.kept
+    c.delete_with.ensures.others (λ slot. ap (λ ds. get ds slot) c.delete_with.ensures.private) (rests_as c.delete_with.new.pass c.worker.inside.standing (resting_in c.worker.inside.standing (ap (λ (w : Hand). w.held) c.worker.view_is ∙ c.requires.free) c.in_default.not-Pending) c.in-Ok.ensures.after)
+
+pub returns-in-Ok-clause-between : goal.returns-in-Ok-clause-between
+returns-in-Ok-clause-between c = (invariant_of-worker c).between
+
+pub returns-in-Ok-clause-queues : goal.returns-in-Ok-clause-queues
+returns-in-Ok-clause-queues c =
+    rw (← c.worker.view_is)
+    (others_after c.worker.inside.home c.worker.inside.pass.view.number c.worker.inside.queues.items c.delete_with.new.own c.worker.invariant.own (c.delete_with.ensures.kept.own ∙ ap (λ (x : Stand). x.view.number) c.delete_with.ensures.same))
+
+pub returns-in-Ok-clause-did : goal.returns-in-Ok-clause-did
+returns-in-Ok-clause-did c = deleted_so _ _ c.args.tries c.args.key _ _ (record { pass = c.delete_with.new.pass; queues = slice_set c.worker.inside.queues.items c.worker.inside.home c.delete_with.new.own; pending = pending_in c.worker.inside.standing; held = held_in c.worker.inside.standing })
+    (Ok c.in-Ok.answer) c.self.view_is c.worker.view_is (free_in c.worker.inside.standing (resting_in c.worker.inside.standing (ap (λ (w : Hand). w.held) c.worker.view_is ∙ c.requires.free) c.in_default.not-Pending), c.in-Ok.ensures.did)
+
+pub invariant_of-worker-in-Err-Busy : goal.invariant_of-worker-in-Err-Busy
+invariant_of-worker-in-Err-Busy c =
+    changed _ _ c.worker.inside.home c.delete_with.new.pass _ _ c.delete_with.new.own c.delete_with.new.account c.worker.invariant c.delete_with.ensures.same c.delete_with.ensures.kept
+    c.delete_with.ensures.others (λ slot. ap (λ ds. get ds slot) c.delete_with.ensures.private) (rests_as c.delete_with.new.pass c.worker.inside.standing (resting_in c.worker.inside.standing (ap (λ (w : Hand). w.held) c.worker.view_is ∙ c.requires.free) c.in_default.not-Pending) (rw c.in-Err-Busy.field-0-is at c.in-Err-Busy.ensures.after))
+
+pub returns-in-Err-Busy-clause-between : goal.returns-in-Err-Busy-clause-between
+returns-in-Err-Busy-clause-between c = (invariant_of-worker-in-Err-Busy c).between
+
+pub returns-in-Err-Busy-clause-queues : goal.returns-in-Err-Busy-clause-queues
+returns-in-Err-Busy-clause-queues c =
+    rw (← c.worker.view_is)
+    (others_after c.worker.inside.home c.worker.inside.pass.view.number c.worker.inside.queues.items c.delete_with.new.own c.worker.invariant.own (c.delete_with.ensures.kept.own ∙ ap (λ (x : Stand). x.view.number) c.delete_with.ensures.same))
+
+pub returns-in-Err-Busy-clause-did : goal.returns-in-Err-Busy-clause-did
+returns-in-Err-Busy-clause-did c = deleted_so _ _ c.args.tries c.args.key _ _ (record { pass = c.delete_with.new.pass; queues = slice_set c.worker.inside.queues.items c.worker.inside.home c.delete_with.new.own; pending = pending_in c.worker.inside.standing; held = held_in c.worker.inside.standing })
+    (Err fault.Busy) c.self.view_is c.worker.view_is (free_in c.worker.inside.standing (resting_in c.worker.inside.standing (ap (λ (w : Hand). w.held) c.worker.view_is ∙ c.requires.free) c.in_default.not-Pending), (let P : Missed → Type 0 = λ m. DeleteDid c.self.inside.shared.layout.nodes c.args.tries c.args.key c.worker.inside.pass.view.log c.delete_with.new.pass.view.log (Err m) in subst P c.in-Err-Busy.field-0-is c.in-Err-Busy.ensures.did))
+
+pub invariant_of-worker-in-Err-NoMemory : goal.invariant_of-worker-in-Err-NoMemory
+invariant_of-worker-in-Err-NoMemory c =
+    changed _ _ c.worker.inside.home c.delete_with.new.pass _ _ c.delete_with.new.own c.delete_with.new.account c.worker.invariant c.delete_with.ensures.same c.delete_with.ensures.kept
+    c.delete_with.ensures.others (λ slot. ap (λ ds. get ds slot) c.delete_with.ensures.private) (rests_as c.delete_with.new.pass c.worker.inside.standing (resting_in c.worker.inside.standing (ap (λ (w : Hand). w.held) c.worker.view_is ∙ c.requires.free) c.in_default.not-Pending) (rw c.in-Err-NoMemory.field-0-is at c.in-Err-NoMemory.ensures.after))
+
+pub returns-in-Err-NoMemory-clause-between : goal.returns-in-Err-NoMemory-clause-between
+returns-in-Err-NoMemory-clause-between c = (invariant_of-worker-in-Err-NoMemory c).between
+
+pub returns-in-Err-NoMemory-clause-queues : goal.returns-in-Err-NoMemory-clause-queues
+returns-in-Err-NoMemory-clause-queues c =
+    rw (← c.worker.view_is)
+    (others_after c.worker.inside.home c.worker.inside.pass.view.number c.worker.inside.queues.items c.delete_with.new.own c.worker.invariant.own (c.delete_with.ensures.kept.own ∙ ap (λ (x : Stand). x.view.number) c.delete_with.ensures.same))
+
+pub returns-in-Err-NoMemory-clause-did : goal.returns-in-Err-NoMemory-clause-did
+returns-in-Err-NoMemory-clause-did c = deleted_so _ _ c.args.tries c.args.key _ _ (record { pass = c.delete_with.new.pass; queues = slice_set c.worker.inside.queues.items c.worker.inside.home c.delete_with.new.own; pending = pending_in c.worker.inside.standing; held = held_in c.worker.inside.standing })
+    (Err fault.NoMemory) c.self.view_is c.worker.view_is (free_in c.worker.inside.standing (resting_in c.worker.inside.standing (ap (λ (w : Hand). w.held) c.worker.view_is ∙ c.requires.free) c.in_default.not-Pending), (let P : Missed → Type 0 = λ m. DeleteDid c.self.inside.shared.layout.nodes c.args.tries c.args.key c.worker.inside.pass.view.log c.delete_with.new.pass.view.log (Err m) in subst P c.in-Err-NoMemory.field-0-is c.in-Err-NoMemory.ensures.did))
+
+pub invariant_of-worker-in-Err-Unfinished : goal.invariant_of-worker-in-Err-Unfinished
+invariant_of-worker-in-Err-Unfinished c =
+    changed _ _ c.worker.inside.home c.delete_with.new.pass _ _ c.delete_with.new.own c.delete_with.new.account c.worker.invariant c.delete_with.ensures.same c.delete_with.ensures.kept
+    c.delete_with.ensures.others (λ slot. ap (λ ds. get ds slot) c.delete_with.ensures.private) (rw c.in-Err-Unfinished.field-0-is at c.in-Err-Unfinished.ensures.after)
+
+pub returns-in-Err-Unfinished-clause-between : goal.returns-in-Err-Unfinished-clause-between
+returns-in-Err-Unfinished-clause-between c = (invariant_of-worker-in-Err-Unfinished c).between
+
+pub returns-in-Err-Unfinished-clause-queues : goal.returns-in-Err-Unfinished-clause-queues
+returns-in-Err-Unfinished-clause-queues c =
+    rw (← c.worker.view_is)
+    (others_after c.worker.inside.home c.worker.inside.pass.view.number c.worker.inside.queues.items c.delete_with.new.own c.worker.invariant.own (c.delete_with.ensures.kept.own ∙ ap (λ (x : Stand). x.view.number) c.delete_with.ensures.same))
+
+pub returns-in-Err-Unfinished-clause-did : goal.returns-in-Err-Unfinished-clause-did
+returns-in-Err-Unfinished-clause-did c = deleted_so _ _ c.args.tries c.args.key _ _ (record { pass = c.delete_with.new.pass; queues = slice_set c.worker.inside.queues.items c.worker.inside.home c.delete_with.new.own; pending = Some (record { key = c.args.key; leaf = c.in-Err-Unfinished.leaf }); held = None })
+    (Err fault.Unfinished) c.self.view_is c.worker.view_is ((free_in c.worker.inside.standing (resting_in c.worker.inside.standing (ap (λ (w : Hand). w.held) c.worker.view_is ∙ c.requires.free) c.in_default.not-Pending)).0, c.in-Err-Unfinished.leaf, refl, (let P : Missed → Type 0 = λ m. DeleteDid c.self.inside.shared.layout.nodes c.args.tries c.args.key c.worker.inside.pass.view.log c.delete_with.new.pass.view.log (Err m) in subst P c.in-Err-Unfinished.field-0-is c.in-Err-Unfinished.ensures.did))

@@ -1,0 +1,57 @@
+use Rattle.std.proofs.Common.{rules, ◌≡◌, ℕ, ◌+◌, ◌-◌, ◌≤◌, ◌^◌, None, Some, List, length, ap, sym, refl, subst, ◌∙◌, arith, inl, inr}
+use Rattle.std.specs.Prelude.{Ok, Err, min, slice_set}
+use Rattle.nm_edge.specs.Layouts.{Layout}
+use Rattle.nm_model.specs.Maps.{get}
+use Rattle.nm_steps.specs.Steps.{Stand}
+use Rattle.nm_calls.specs.Won.{links_of_insert, flags_of_delete}
+use Rattle.nm_tree.specs.declared.worker.Standing.TheVariants as standing
+use Rattle.nm_tree.specs.Workers.{Hand, IsWorker, IsBetweenCalls, held_in, pending_in}
+use Rattle.nm_tree.proofs.QueueLists.{others_stay, others_after, stands_within}
+use Rattle.nm_tree.proofs.Changing.{accounts_within, kept_there, changed}
+use Rattle.nm_tree.proofs.Staying.{removing_in}
+use Rattle.std.specs.Prelude.{true}
+use Rattle.nm_tree.proofs.Telling.{finished_so}
+use Rattle.nm_tree.proofs.tree.Tree.finish.Goals as goal
+
+pub returns-in_default-clause-queues : goal.returns-in_default-clause-queues
+returns-in_default-clause-queues c = others_stay c.args.worker.now.pass.view.number c.args.worker.now.queues
+
+pub index_mut-own-requires : goal.index_mut-own-requires
+index_mut-own-requires c = omega (arith, stands_within c.worker.inside.home _ c.worker.inside.queues.items c.worker.invariant.own, c.worker.inside.queues.ok.0)
+
+pub index_mut-account-requires : goal.index_mut-account-requires
+index_mut-account-requires c =
+    omega (arith, accounts_within c.worker.inside.pass.view c.worker.inside.home _ c.worker.inside.queues.items c.worker.inside.accounts.items c.worker.invariant.own c.worker.invariant.accounts, c.worker.inside.accounts.ok.0)
+
+pub finish_with-requires-clause-kept : goal.finish_with-requires-clause-kept
+finish_with-requires-clause-kept c = kept_there _ _ c.worker.inside.home _ _ c.worker.invariant c.index_mut-own.ensures.value c.index_mut-account.ensures.value
+
+pub invariant_of-worker : goal.invariant_of-worker
+invariant_of-worker c =
+    changed _ _ c.worker.inside.home c.finish_with.new.pass _ _ c.finish_with.new.own c.finish_with.new.account c.worker.invariant c.finish_with.ensures.same c.finish_with.ensures.kept
+    c.finish_with.ensures.others (λ slot. ap (λ ds. get ds slot) c.finish_with.ensures.private) (removing_in c.finish_with.new.pass c.worker.inside.standing _ c.in-Pending.is (c.finish_with.ensures.removing c.if-not-finish_with.true))
+
+pub returns-then-not-finish_with-clause-between : goal.returns-then-not-finish_with-clause-between
+returns-then-not-finish_with-clause-between c = (invariant_of-worker c).between
+
+pub returns-then-not-finish_with-clause-queues : goal.returns-then-not-finish_with-clause-queues
+returns-then-not-finish_with-clause-queues c =
+    rw (← c.worker.view_is)
+    (others_after c.worker.inside.home c.worker.inside.pass.view.number c.worker.inside.queues.items c.finish_with.new.own c.worker.invariant.own (c.finish_with.ensures.kept.own ∙ ap (λ (x : Stand). x.view.number) c.finish_with.ensures.same))
+
+pub invariant_of-worker-2 : goal.invariant_of-worker-2
+invariant_of-worker-2 c =
+    changed _ _ c.worker.inside.home c.finish_with.new.pass _ _ c.finish_with.new.own c.finish_with.new.account c.worker.invariant c.finish_with.ensures.same c.finish_with.ensures.kept
+    c.finish_with.ensures.others (λ slot. ap (λ ds. get ds slot) c.finish_with.ensures.private) (c.finish_with.ensures.rests c.if-not-finish_with.false)
+
+pub returns-clause-between : goal.returns-clause-between
+returns-clause-between c = (invariant_of-worker-2 c).between
+
+pub returns-clause-queues : goal.returns-clause-queues
+returns-clause-queues c =
+    rw (← c.worker.view_is)
+    (others_after c.worker.inside.home c.worker.inside.pass.view.number c.worker.inside.queues.items c.finish_with.new.own c.worker.invariant.own (c.finish_with.ensures.kept.own ∙ ap (λ (x : Stand). x.view.number) c.finish_with.ensures.same))
+
+pub returns-clause-did : goal.returns-clause-did
+returns-clause-did c = finished_so _ _ c.args.tries _ _ (record { pass = c.finish_with.new.pass; queues = slice_set c.worker.inside.queues.items c.worker.inside.home c.finish_with.new.own; pending = None; held = None })
+    (Ok true) c.self.view_is c.worker.view_is (c.in-Pending.pending, ap pending_in c.in-Pending.is, refl, rw c.if-not-finish_with.false at c.finish_with.ensures.did)

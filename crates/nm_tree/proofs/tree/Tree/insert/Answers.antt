@@ -1,0 +1,65 @@
+use Rattle.std.proofs.Common.{rules, ◌≡◌, ℕ, ◌+◌, ◌-◌, ◌≤◌, ◌^◌, None, Some, List, length, ap, sym, refl, subst, ◌∙◌, arith, inl, inr}
+use Rattle.std.specs.Prelude.{Ok, Err, min}
+use Rattle.nm_edge.specs.Layouts.{Layout}
+use Rattle.nm_model.specs.Maps.{get}
+use Rattle.nm_steps.specs.Steps.{Stand}
+use Rattle.nm_calls.specs.Won.{links_of_insert, flags_of_delete}
+use Rattle.nm_tree.specs.declared.worker.Standing.TheVariants as standing
+use Rattle.nm_tree.specs.Workers.{Hand, IsWorker, IsBetweenCalls, held_in, pending_in}
+use Rattle.nm_tree.proofs.QueueLists.{others_stay, others_after, stands_within}
+use Rattle.nm_tree.proofs.Staying.{resting_in, rests_in, rests_as, free_in}
+use Rattle.nm_tree.proofs.Changing.{accounts_within, kept_there, changed}
+use Rattle.nm_calls.specs.declared.inserting.Fault.{Fault as Lost}
+use Rattle.nm_calls.specs.Inserts.{InsertDid}
+use Rattle.nm_tree.specs.declared.fault.Fault.TheVariants as fault
+use Rattle.nm_tree.proofs.Telling.{inserted_so}
+use Rattle.nm_tree.proofs.tree.Tree.insert.Goals as goal
+use Rattle.nm_tree.proofs.tree.Tree.insert.Goals.{in-Ok, in-Err-Busy, in-Err-Full, in-Err-NoMemory}
+
+pub returns-in-Pending-clause-queues : goal.returns-in-Pending-clause-queues
+returns-in-Pending-clause-queues c = others_stay c.args.worker.now.pass.view.number c.args.worker.now.queues
+
+pub index_mut-own-requires : goal.index_mut-own-requires
+index_mut-own-requires c = omega (arith, stands_within c.worker.inside.home _ c.worker.inside.queues.items c.worker.invariant.own, c.worker.inside.queues.ok.0)
+
+pub index_mut-account-requires : goal.index_mut-account-requires
+index_mut-account-requires c =
+    omega (arith, accounts_within c.worker.inside.pass.view c.worker.inside.home _ c.worker.inside.queues.items c.worker.inside.accounts.items c.worker.invariant.own c.worker.invariant.accounts, c.worker.inside.accounts.ok.0)
+
+pub insert_with-requires-clause-rests : goal.insert_with-requires-clause-rests
+insert_with-requires-clause-rests c =
+    rests_in c.worker.inside.pass c.worker.inside.standing (resting_in c.worker.inside.standing (ap (λ (w : Hand). w.held) c.worker.view_is ∙ c.requires.free) c.in_default.not-Pending) c.worker.invariant.between.stands
+
+pub insert_with-requires-clause-kept : goal.insert_with-requires-clause-kept
+insert_with-requires-clause-kept c = kept_there _ _ c.worker.inside.home _ _ c.worker.invariant c.index_mut-own.ensures.value c.index_mut-account.ensures.value
+
+resting : (c : goal.Joined-insert_with) → c.worker.inside.standing ≡ standing.Resting
+resting c = resting_in c.worker.inside.standing (ap (λ (w : Hand). w.held) c.worker.view_is ∙ c.requires.free) c.in_default.not-Pending
+
+pub invariant_of-worker : goal.invariant_of-worker
+invariant_of-worker c =
+    changed _ _ c.worker.inside.home c.insert_with.new.pass _ _ c.insert_with.new.own c.insert_with.new.account c.worker.invariant c.insert_with.ensures.same c.insert_with.ensures.kept
+    c.insert_with.ensures.others c.insert_with.ensures.private (rests_as c.insert_with.new.pass c.worker.inside.standing (resting c) c.insert_with.ensures.rests)
+
+pub returns-clause-did : goal.returns-clause-did
+returns-clause-did c =
+    elim c.match-insert_with.branch [
+      | in-Ok w ↦ inserted_so _ _ c.args.tries c.args.key _ _ _ (Ok _) _ c.self.view_is c.worker.view_is w.result-is (free_in c.worker.inside.standing (resting c), w.in-Ok.ensures.did)
+      | in-Err-Busy w ↦
+          let P : Lost → Type 0 = λ m. InsertDid c.self.inside.shared.layout.nodes c.args.tries c.args.key c.worker.inside.pass.view.log c.insert_with.new.pass.view.log (Err m) in
+          inserted_so _ _ c.args.tries c.args.key _ _ _ (Err fault.Busy) _ c.self.view_is c.worker.view_is w.result-is (free_in c.worker.inside.standing (resting c), subst P w.in-Err-Busy.field-0-is w.in-Err-Busy.ensures.did)
+      | in-Err-Full w ↦
+          let P : Lost → Type 0 = λ m. InsertDid c.self.inside.shared.layout.nodes c.args.tries c.args.key c.worker.inside.pass.view.log c.insert_with.new.pass.view.log (Err m) in
+          inserted_so _ _ c.args.tries c.args.key _ _ _ (Err fault.Full) _ c.self.view_is c.worker.view_is w.result-is (free_in c.worker.inside.standing (resting c), subst P w.in-Err-Full.field-0-is w.in-Err-Full.ensures.did)
+      | in-Err-NoMemory w ↦
+          let P : Lost → Type 0 = λ m. InsertDid c.self.inside.shared.layout.nodes c.args.tries c.args.key c.worker.inside.pass.view.log c.insert_with.new.pass.view.log (Err m) in
+          inserted_so _ _ c.args.tries c.args.key _ _ _ (Err fault.NoMemory) _ c.self.view_is c.worker.view_is w.result-is (free_in c.worker.inside.standing (resting c), subst P w.in-Err-NoMemory.field-0-is w.in-Err-NoMemory.ensures.did)
+    ]
+
+pub returns-clause-queues : goal.returns-clause-queues
+returns-clause-queues c =
+    rw (← c.worker.view_is)
+    (others_after c.worker.inside.home c.worker.inside.pass.view.number c.worker.inside.queues.items c.insert_with.new.own c.worker.invariant.own (c.insert_with.ensures.kept.own ∙ ap (λ (x : Stand). x.view.number) c.insert_with.ensures.same))
+
+pub returns-clause-between : goal.returns-clause-between
+returns-clause-between c = (invariant_of-worker c).between

@@ -1,0 +1,35 @@
+use Rattle.std.proofs.Common.{rules, ◌≡◌, ℕ, ◌+◌, ◌-◌, ◌≤◌, ◌^◌, None, Some, List, length, ap, sym, refl, subst, ◌∙◌, arith, inl, inr}
+use Rattle.std.specs.Prelude.{Ok, Err, min}
+use Rattle.nm_edge.specs.Layouts.{Layout}
+use Rattle.nm_model.specs.Maps.{get}
+use Rattle.nm_steps.specs.Steps.{Stand}
+use Rattle.nm_calls.specs.Won.{links_of_insert, flags_of_delete}
+use Rattle.nm_tree.specs.declared.worker.Standing.TheVariants as standing
+use Rattle.nm_tree.specs.Workers.{Hand, IsWorker, IsBetweenCalls, held_in, pending_in}
+use Rattle.nm_tree.proofs.Quiet.{pinned, moved_on}
+use Rattle.nm_tree.proofs.Staying.{stays, resting_in, rests_in, rests_as, free_in, held_at}
+use Rattle.nm_tree.proofs.tree.Tree.pin.Goals as goal
+
+pub invariant_of-worker : goal.invariant_of-worker
+invariant_of-worker c =
+    let was = rests_in c.worker.inside.pass c.worker.inside.standing (resting_in c.worker.inside.standing (ap (λ (w : Hand). w.held) c.worker.view_is ∙ c.requires.free) c.in_default.not-Pending) c.worker.invariant.between.stands in
+    stays _ _ c.worker.inside.home c.pin.new.pass _ _ c.worker.invariant c.pin.ensures.same (pinned c.args.tries _ _ _ c.in-Ok.ensures.pinned) c.pin.ensures.hands.private (c.pin.ensures.hands.ledgers was.labelled)
+    (held_at c.pin.new.pass _ c.in-Ok.ensures.at)
+
+pub invariant_of-worker-in-Err : goal.invariant_of-worker-in-Err
+invariant_of-worker-in-Err c =
+    let was = rests_in c.worker.inside.pass c.worker.inside.standing (resting_in c.worker.inside.standing (ap (λ (w : Hand). w.held) c.worker.view_is ∙ c.requires.free) c.in_default.not-Pending) c.worker.invariant.between.stands in
+    stays _ _ c.worker.inside.home c.pin.new.pass _ _ c.worker.invariant c.pin.ensures.same (moved_on c.args.tries _ _ c.in-Err.ensures.moved) c.pin.ensures.hands.private (c.pin.ensures.hands.ledgers was.labelled)
+    (rests_as c.pin.new.pass c.worker.inside.standing (resting_in c.worker.inside.standing (ap (λ (w : Hand). w.held) c.worker.view_is ∙ c.requires.free) c.in_default.not-Pending) c.in-Err.ensures.rests)
+
+pub returns-in-Ok-clause-between : goal.returns-in-Ok-clause-between
+returns-in-Ok-clause-between c = (invariant_of-worker c).between
+
+pub returns-in-Err-clause-between : goal.returns-in-Err-clause-between
+returns-in-Err-clause-between c = (invariant_of-worker-in-Err c).between
+
+pub returns-in-Ok-clause-did : goal.returns-in-Ok-clause-did
+returns-in-Ok-clause-did c = rw (← c.worker.view_is) (((free_in c.worker.inside.standing (resting_in c.worker.inside.standing (ap (λ (w : Hand). w.held) c.worker.view_is ∙ c.requires.free) c.in_default.not-Pending)).0, refl), refl, c.in-Ok.ensures.pinned)
+
+pub returns-in-Err-clause-did : goal.returns-in-Err-clause-did
+returns-in-Err-clause-did c = rw (← c.worker.view_is) (free_in c.worker.inside.standing (resting_in c.worker.inside.standing (ap (λ (w : Hand). w.held) c.worker.view_is ∙ c.requires.free) c.in_default.not-Pending), ap held_in (resting_in c.worker.inside.standing (ap (λ (w : Hand). w.held) c.worker.view_is ∙ c.requires.free) c.in_default.not-Pending), c.in-Err.ensures.last, c.in-Err.ensures.moved)

@@ -1,0 +1,68 @@
+-- What each call of the set leaves of its worker, by its answer.
+use Rattle.std.specs.Prelude.{◌≡◌, ℕ, ◌+◌, Bool, true, false, List, [], ◌∷◌, ◌++◌, Option, Some, None, IsSome, Result, Ok, Err}
+use Rattle.nm_edge.specs.declared.node.NodeId.{NodeId}
+use Rattle.nm_calls.specs.declared.deleting.Missed.TheVariants as missed
+use Rattle.nm_calls.specs.declared.inserting.Fault.TheVariants as lost
+use Rattle.nm_calls.specs.Calls.{HasDid, HasMissed}
+use Rattle.nm_calls.specs.Deletes.{DeleteDid, FinishDid}
+use Rattle.nm_calls.specs.Inserts.{InsertDid}
+use Rattle.nm_epoch.specs.Tries.{IsPinned as PinsSo, IsMoved}
+use Rattle.nm_model.specs.declared.event.Event.TheVariants.{Sight}
+use Rattle.nm_tree.specs.declared.fault.PinFault.{PinFault}
+use Rattle.nm_tree.specs.declared.fault.PinFault.TheVariants as pinning
+use Rattle.nm_tree.specs.declared.fault.Fault.{Fault}
+use Rattle.nm_tree.specs.declared.fault.Fault.TheVariants as fault
+use Rattle.nm_tree.specs.declared.worker.Unfinished.{Unfinished}
+use Rattle.nm_tree.specs.Workers.{Hand}
+use Rattle.nm_epoch.specs.Resting.{epochs}
+
+-- a key is pending, and nothing has changed
+abbrev pub IsRefused : Hand → Hand → Type 0
+IsRefused w z = IsSome w.pending × (z ≡ w)
+
+-- no key was pending, and none is
+abbrev pub IsFree : Hand → Hand → Type 0
+IsFree w z = (w.pending ≡ None) × (z.pending ≡ None)
+
+-- a look-up
+abbrev pub HasAnswered : ℕ → ℕ → ℕ → Hand → Hand → Result Bool Fault → Type 0
+HasAnswered nodes tries k w z (Ok b) = IsFree w z × HasDid nodes tries k w.pass.view.log z.pass.view.log b
+HasAnswered nodes tries k w z (Err fault.Busy) = IsFree w z × HasMissed nodes tries k w.pass.view.log z.pass.view.log
+HasAnswered nodes tries k w z (Err fault.Pending) = IsRefused w z
+HasAnswered nodes tries k w z (Err _) = ⊥
+
+-- an insert
+abbrev pub HasInserted : ℕ → ℕ → ℕ → Hand → Hand → Result Bool Fault → Type 0
+HasInserted nodes tries k w z (Ok b) = IsFree w z × InsertDid nodes tries k w.pass.view.log z.pass.view.log (Ok b)
+HasInserted nodes tries k w z (Err fault.Busy) = IsFree w z × InsertDid nodes tries k w.pass.view.log z.pass.view.log (Err lost.Busy)
+HasInserted nodes tries k w z (Err fault.Full) = IsFree w z × InsertDid nodes tries k w.pass.view.log z.pass.view.log (Err lost.Full)
+HasInserted nodes tries k w z (Err fault.NoMemory) = IsFree w z × InsertDid nodes tries k w.pass.view.log z.pass.view.log (Err lost.NoMemory)
+HasInserted nodes tries k w z (Err fault.Pending) = IsRefused w z
+HasInserted nodes tries k w z (Err fault.Unfinished) = ⊥
+
+-- a delete
+abbrev pub HasDeleted : ℕ → ℕ → ℕ → Hand → Hand → Result Bool Fault → Type 0
+HasDeleted nodes tries k w z (Ok b) = IsFree w z × DeleteDid nodes tries k w.pass.view.log z.pass.view.log (Ok b)
+HasDeleted nodes tries k w z (Err fault.Busy) = IsFree w z × DeleteDid nodes tries k w.pass.view.log z.pass.view.log (Err missed.Busy)
+HasDeleted nodes tries k w z (Err fault.NoMemory) = IsFree w z × DeleteDid nodes tries k w.pass.view.log z.pass.view.log (Err missed.NoMemory)
+HasDeleted nodes tries k w z (Err fault.Unfinished) = (w.pending ≡ None) × (leaf : NodeId) × (z.pending ≡ Some (record { key = k; leaf = leaf }))
+    × DeleteDid nodes tries k w.pass.view.log z.pass.view.log (Err (missed.Unfinished leaf))
+HasDeleted nodes tries k w z (Err fault.Pending) = IsRefused w z
+HasDeleted nodes tries k w z (Err fault.Full) = ⊥
+
+-- what is left to do of a delete
+abbrev pub HasFinished : ℕ → ℕ → Hand → Hand → Result Bool Fault → Type 0
+HasFinished nodes tries w z (Ok false) = (w.pending ≡ None) × (z ≡ w)
+HasFinished nodes tries w z (Ok true) = (n : Unfinished) × (w.pending ≡ Some n) × (z.pending ≡ None) × FinishDid nodes n.key n.leaf tries w.pass.view.log z.pass.view.log true
+HasFinished nodes tries w z (Err fault.Unfinished) = (n : Unfinished) × (w.pending ≡ Some n) × (z.pending ≡ Some n) × FinishDid nodes n.key n.leaf tries w.pass.view.log z.pass.view.log false
+HasFinished nodes tries w z (Err _) = ⊥
+
+-- a pin for the caller
+abbrev pub HasPinned : ℕ → Hand → Hand → Result ℕ PinFault → Type 0
+HasPinned tries w z (Ok epoch) = IsFree w z × (z.held ≡ Some epoch) × PinsSo Sight tries w.pass.view.log z.pass.view.log epoch
+HasPinned tries w z (Err (pinning.Moved epoch)) = IsFree w z × (z.held ≡ None) × ((epochs z.pass).seen ≡ Some epoch) × IsMoved Sight tries w.pass.view.log z.pass.view.log
+HasPinned tries w z (Err pinning.Pending) = IsRefused w z
+
+-- what is pending or held is so still
+abbrev pub KeepsPlace : Hand → Hand → Type 0
+KeepsPlace w z = (z.pending ≡ w.pending) × (z.held ≡ w.held)

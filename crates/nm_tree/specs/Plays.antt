@@ -1,0 +1,9 @@
+-- What tests ask of a worker.
+use Rattle.std.specs.Prelude.{◌≡◌, None}
+use Rattle.nm_steps.specs.Steps.{Board, IsOf}
+use Rattle.nm_tree.specs.Workers.{Hand}
+
+-- it is one of this tree's, and the caller does not hold it
+pub record IsReady (b : Board) (w : Hand) : Type 0 where
+  pub own : IsOf b w.pass
+  pub free : w.held ≡ None

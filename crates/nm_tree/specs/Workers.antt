@@ -1,0 +1,201 @@
+-- A worker between two calls.
+use Rattle.std.specs.Prelude.{◌≡◌, ◌≢◌, ◌⊎◌, ◌<◌, ◌≤◌, ◌+◌, ◌-◌, ◌==◌, ℕ, zero, suc, false, if◌then◌else◌, map, sum_by, length, List, [], ◌∷◌, Option, Some, None, IsSome, unwrap_or}
+use Rattle.nm_model.specs.declared.ledger.Ledger.{Ledger}
+use Rattle.nm_model.specs.Ledgers.{held, fresh_ledger}
+use Rattle.nm_model.specs.Maps.{get}
+use Rattle.nm_model.specs.Walks.{Entry}
+use Rattle.nm_steps.specs.declared.view.Held.{Held}
+use Rattle.nm_steps.specs.declared.view.View.{View}
+use Rattle.nm_steps.specs.Rules.{knowledge, held as is_held}
+use Rattle.nm_steps.specs.Steps.{Board, Stand, fresh_view}
+use Rattle.nm_epoch.specs.declared.collecting.HeldQueue.{HeldQueue}
+use Rattle.nm_epoch.specs.Collecting.{AreHeld, IsQueueOf}
+use Rattle.nm_epoch.specs.Resting.{IsResting, begun_for, epochs, search}
+use Rattle.nm_calls.specs.Deletes.{IsRemoving}
+use Rattle.nm_calls.specs.Won.{capped, won_links, won_flags, won_splices}
+use Rattle.nm_tree.specs.declared.worker.Account.{Account}
+use Rattle.nm_tree.specs.declared.worker.Counts.{Counts}
+use Rattle.nm_tree.specs.declared.worker.Unfinished.{Unfinished}
+use Rattle.nm_tree.specs.declared.worker.Standing.{Standing}
+use Rattle.nm_tree.specs.declared.worker.Standing.TheVariants as standing
+
+-- what clauses see of a worker: its pass; the queues that it holds; the delete that is pending, with its key and the leaf that it flagged;
+-- and the epoch at which the caller holds it
+pub record Hand : Type 0 where
+  pub pass : Stand
+  pub queues : List HeldQueue
+  pub pending : Option Unfinished
+  pub held : Option ℕ
+
+abbrev pub pending_in : Standing → Option Unfinished
+pending_in (standing.Pending n) = Some n
+pending_in _ = None
+
+abbrev pub held_in : Standing → Option ℕ
+held_in (standing.Held epoch) = Some epoch
+held_in _ = None
+
+-- pinned at an epoch by the caller, for no call
+pub record IsHolding (p : Stand) (epoch : ℕ) : Type 0 where
+  pub note : (epochs p).note ≡ Some epoch
+  pub pin : (epochs p).pin ≡ Some epoch
+  pub labelled : (epochs p).unlabelled ≡ false
+  pub search : search p ≡ begun_for None
+
+-- it rests, is held by the caller, or stays pinned for a leaf that it has flagged
+abbrev pub IsAs : Stand → Option Unfinished → Option ℕ → Type 0
+IsAs p None None = IsResting p
+IsAs p None (Some epoch) = IsHolding p epoch
+IsAs p (Some n) None = IsRemoving p n.key n.leaf
+IsAs p (Some n) (Some epoch) = ⊥
+
+-- ---- the queues that a worker holds
+
+-- the queue of that origin is among these
+abbrev pub HasOrigin : ℕ → List HeldQueue → Type 0
+HasOrigin o [] = ⊥
+HasOrigin o (h ∷ hs) = (h.origin ≡ o) ⊎ HasOrigin o hs
+
+-- each origin is above the ones before it
+abbrev pub AreAbove : ℕ → List HeldQueue → Type 0
+AreAbove o [] = Unit {0}
+AreAbove o (h ∷ hs) = (o < h.origin) × AreAbove h.origin hs
+
+abbrev pub Ascend : List HeldQueue → Type 0
+Ascend [] = Unit {0}
+Ascend (h ∷ hs) = AreAbove h.origin hs
+
+-- the queue of that origin stands at that index
+abbrev pub StandsAt : ℕ → ℕ → List HeldQueue → Type 0
+StandsAt i o [] = ⊥
+StandsAt zero o (h ∷ hs) = h.origin ≡ o
+StandsAt (suc i) o (h ∷ hs) = StandsAt i o hs
+
+-- the same origins, and each queue but that of one origin as it was
+abbrev pub KeepsOthers : ℕ → List HeldQueue → List HeldQueue → Type 0
+KeepsOthers o [] [] = Unit {0}
+KeepsOthers o (h ∷ hs) (g ∷ gs) = (g.origin ≡ h.origin) × ((h.origin ≡ o) ⊎ (g ≡ h)) × KeepsOthers o hs gs
+KeepsOthers o _ _ = ⊥
+
+-- how many nodes wait in them, and how many blocks they have
+abbrev pub waiting_in : List HeldQueue → ℕ
+waiting_in hs = sum_by (λ (h : HeldQueue). length h.queue.items) hs
+
+abbrev pub blocks_in : List HeldQueue → ℕ
+blocks_in hs = sum_by (λ (h : HeldQueue). h.queue.blocks) hs
+
+-- ---- what is counted of an origin
+
+-- the log of a worker among these
+abbrev pub log_among : ℕ → List Held → List Entry
+log_among o [] = []
+log_among o (h ∷ hs) = if h.number == o then h.log else log_among o hs
+
+-- the log of a worker for whom a pass stands: its own one, or one that joined it, directly or through others
+abbrev pub log_of : View → ℕ → List Entry
+log_of v o = log_among o (is_held v.number v.log ∷ v.others)
+
+-- the ledger of an origin, where it is held
+abbrev pub ledger_in : View → ℕ → Ledger
+ledger_in v o = unwrap_or (held (knowledge v).ledgers o) fresh_ledger
+
+-- an account of a queue: what its origin's worker has won by its log, and what was freed and what waits by its ledger
+pub record IsAccount (v : View) (h : HeldQueue) (a : Account) : Type 0 where
+  pub origin : a.origin ≡ h.origin
+  pub links : a.links ≡ capped (won_links (log_of v h.origin))
+  pub flags : a.flags ≡ capped (won_flags (log_of v h.origin))
+  pub splices : a.splices ≡ capped (won_splices (log_of v h.origin))
+  pub freed : a.freed ≡ capped (length (ledger_in v h.origin).freed)
+  pub waiting : a.waiting ≡ length h.queue.items
+  pub few : length h.queue.items ≤ v.layout.nodes
+  pub split : length (ledger_in v h.origin).retired ≡ length (ledger_in v h.origin).freed + length h.queue.items
+
+abbrev pub AreAccounts : View → List HeldQueue → List Account → Type 0
+AreAccounts v [] [] = Unit {0}
+AreAccounts v (h ∷ hs) (a ∷ xs) = IsAccount v h a × AreAccounts v hs xs
+AreAccounts v _ _ = ⊥
+
+-- the account of an origin, where there is one
+abbrev pub account_in : List Account → ℕ → Option Account
+account_in [] o = None
+account_in (a ∷ xs) o = if a.origin == o then Some a else account_in xs o
+
+-- what an account tells
+abbrev pub counts_in : Account → Counts
+counts_in a = record { links = a.links; flags = a.flags; splices = a.splices; retired = capped (a.freed + a.waiting); freed = a.freed; queued = a.waiting }
+
+-- what was won by the worker of an origin, by its log, and what became of the nodes that it cut off, by their ledger
+pub record IsLedger (v : View) (o : ℕ) (c : Counts) : Type 0 where
+  pub links : c.links ≡ capped (won_links (log_of v o))
+  pub flags : c.flags ≡ capped (won_flags (log_of v o))
+  pub splices : c.splices ≡ capped (won_splices (log_of v o))
+  pub retired : c.retired ≡ capped (length (ledger_in v o).retired)
+  pub freed : c.freed ≡ capped (length (ledger_in v o).freed)
+  pub queued : c.queued ≡ length (ledger_in v o).queue
+
+-- as many accounts as queues, none of which has grown since
+abbrev pub ArePaired : List HeldQueue → List Account → Type 0
+ArePaired [] [] = Unit {0}
+ArePaired (h ∷ hs) (a ∷ xs) = (length h.queue.items ≤ a.waiting) × ArePaired hs xs
+ArePaired _ _ = ⊥
+
+-- what has left a queue was freed
+abbrev pub noted_for : HeldQueue → Account → Account
+noted_for h a = record a { freed = capped (a.freed + (a.waiting - length h.queue.items)); waiting = length h.queue.items }
+
+abbrev pub HaveNoted : List HeldQueue → List Account → List Account → Type 0
+HaveNoted [] [] [] = Unit {0}
+HaveNoted (h ∷ hs) (a ∷ xs) (b ∷ ys) = (b ≡ noted_for h a) × HaveNoted hs xs ys
+HaveNoted _ _ _ = ⊥
+
+-- the own queue of a pass and its account
+pub record IsKept (p : Stand) (h : HeldQueue) (a : Account) : Type 0 where
+  pub own : h.origin ≡ p.view.number
+  pub queue : IsQueueOf (knowledge p.view) p.view.number h.queue.items
+  pub account : IsAccount p.view h a
+
+-- the ledgers of other origins are as they were
+abbrev pub OnlyOwnLedger : Stand → Stand → Type 0
+OnlyOwnLedger p q = (o : ℕ) → o ≢ p.view.number → held (knowledge q.view).ledgers o ≡ held (knowledge p.view).ledgers o
+
+-- ---- between two calls
+
+-- the queues are those of all ledgers that the worker holds, by ascending origin, each with all that waits in it, labelled; no slot is private;
+-- and it is pinned only where it is held or a key is pending
+pub record IsBetweenCalls (w : Hand) : Type 0 where
+  pub queues : AreHeld (knowledge w.pass.view) w.queues
+  pub all : (o : ℕ) → IsSome (held (knowledge w.pass.view).ledgers o) → HasOrigin o w.queues
+  pub ascend : Ascend w.queues
+  pub private : (slot : ℕ) → get (knowledge w.pass.view).drafts slot ≡ None
+  pub stands : IsAs w.pass w.pending w.held
+
+-- these are its accounts, one a queue, 64 at most; and the own queue stands at that index
+pub record IsWorker (w : Hand) (xs : List Account) (home : ℕ) : Type 0 where
+  pub between : IsBetweenCalls w
+  pub accounts : AreAccounts w.pass.view w.queues xs
+  pub few : length w.queues ≤ 64
+  pub own : StandsAt home w.pass.view.number w.queues
+
+-- workers k and on, which have done nothing yet
+abbrev pub AreNew : Board → ℕ → List Hand → Type 0
+AreNew b k [] = Unit {0}
+AreNew b k (w ∷ ws) = (w.pass.table ≡ b.table) × (w.pass.view ≡ fresh_view b.layout k) × (w.pending ≡ None) × (w.held ≡ None)
+    × (map (λ (h : HeldQueue). h.queue.items) w.queues ≡ [] ∷ []) × AreNew b (suc k) ws
+
+-- a pass that has done nothing yet
+abbrev pub IsFresh : Stand → Type 0
+IsFresh p = (k : ℕ) × (p.view ≡ fresh_view p.view.layout k)
+
+abbrev pub AreAllFresh : List Stand → Type 0
+AreAllFresh [] = Unit {0}
+AreAllFresh (p ∷ ps) = IsFresh p × AreAllFresh ps
+
+-- its worker, with an empty queue of its own
+abbrev pub IsNewWorker : Stand → Hand → Type 0
+IsNewWorker p w = (w.pass ≡ p) × (w.pending ≡ None) × (w.held ≡ None) × (map (λ (h : HeldQueue). h.queue.items) w.queues ≡ [] ∷ [])
+
+-- the workers of these passes, in their order
+abbrev pub AreMade : List Stand → List Hand → Type 0
+AreMade [] [] = Unit {0}
+AreMade (p ∷ ps) (w ∷ ws) = IsNewWorker p w × AreMade ps ws
+AreMade _ _ = ⊥

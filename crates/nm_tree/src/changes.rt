@@ -1,0 +1,237 @@
+//! Inserts, deletes, and what is left to do of a delete.
+ghost use Rattle.std.specs.Prelude.{◌≡◌, ◌+◌, ◌*◌, ◌≤◌, ℕ, true, false, length, None};
+ghost use Rattle.nm_steps.specs.Steps.{IsOf, IsSamePass};
+ghost use Rattle.nm_tree.specs.Answers.{HasInserted, HasDeleted, HasFinished};
+ghost use Rattle.nm_model.specs.Maps.{get};
+ghost use Rattle.nm_steps.specs.Rules.{knowledge};
+ghost use Rattle.nm_epoch.specs.Resting.{IsResting};
+ghost use Rattle.nm_calls.specs.Deletes.{IsRemoving, DeleteDid, AfterDelete, FinishDid};
+ghost use Rattle.nm_calls.specs.Inserts.{InsertDid};
+ghost use Rattle.nm_calls.specs.Won.{HasWon, links_of_insert, flags_of_delete};
+ghost use Rattle.nm_tree.specs.Workers.{IsBetweenCalls, KeepsOthers, IsKept, OnlyOwnLedger};
+
+use crate::fault::Fault;
+use crate::tree::Tree;
+use crate::worker::{Account, Standing, Unfinished, Worker};
+use nm_calls::{Fault as Lost, Missed, delete, finish, insert};
+use nm_edge::Key;
+use nm_epoch::HeldQueue;
+use nm_steps::{Pass, Shared};
+
+/// An insert with the own queue and its account.
+fn insert_with(
+    shared: &Shared,
+    pass: &mut Pass,
+    key: Key,
+    tries: u32,
+    own: &mut HeldQueue,
+    account: &mut Account,
+) -> Result<bool, Lost>
+    requires own { IsOf shared.now pass.old }
+    requires rests { IsResting pass.old }
+    requires kept { IsKept pass.old own.old account.old }
+    ensures same { IsSamePass pass.old pass.new }
+    ensures did { InsertDid shared.now.layout.nodes tries key pass.old.view.log pass.new.view.log result }
+    ensures steps { length pass.new.view.log ≤ length pass.old.view.log + tries * (4 * shared.now.layout.nodes + 8 * 64) + 6 * shared.now.layout.nodes + 10 }
+    ensures won { HasWon pass.old.view.log pass.new.view.log (links_of_insert result) 0 }
+    ensures rests { IsResting pass.new }
+    ensures private { (slot : ℕ) → get (knowledge pass.new.view).drafts slot ≡ get (knowledge pass.old.view).drafts slot }
+    ensures kept { IsKept pass.new own.new account.new }
+    ensures others { OnlyOwnLedger pass.old pass.new }
+{
+    let answer = insert(
+        shared,
+        pass,
+        key,
+        tries,
+        &mut own.queue,
+        &mut account.splices,
+    );
+    account.links = account.links.saturating_add(links_of(&answer));
+    account.waiting = own.queue.len();
+    answer
+}
+
+/// A delete with the own queue and its account.
+fn delete_with(
+    shared: &Shared,
+    pass: &mut Pass,
+    key: Key,
+    tries: u32,
+    own: &mut HeldQueue,
+    account: &mut Account,
+) -> Result<bool, Missed>
+    requires own { IsOf shared.now pass.old }
+    requires rests { IsResting pass.old }
+    requires kept { IsKept pass.old own.old account.old }
+    ensures same { IsSamePass pass.old pass.new }
+    ensures did { DeleteDid shared.now.layout.nodes tries key pass.old.view.log pass.new.view.log result }
+    ensures steps { length pass.new.view.log ≤ length pass.old.view.log + tries * (4 * shared.now.layout.nodes + 8 * 64) + 6 * shared.now.layout.nodes + 10 }
+    ensures won { HasWon pass.old.view.log pass.new.view.log 0 (flags_of_delete result) }
+    ensures after { AfterDelete key pass.new result }
+    ensures private { (knowledge pass.new.view).drafts ≡ (knowledge pass.old.view).drafts }
+    ensures kept { IsKept pass.new own.new account.new }
+    ensures others { OnlyOwnLedger pass.old pass.new }
+{
+    let answer = delete(
+        shared,
+        pass,
+        key,
+        tries,
+        &mut own.queue,
+        &mut account.splices,
+    );
+    account.flags = account.flags.saturating_add(flags_of(&answer));
+    account.waiting = own.queue.len();
+    answer
+}
+
+/// How many links an insert that answered so has won.
+fn links_of(answer: &Result<bool, Lost>) -> u64
+    ensures { result ≡ links_of_insert answer.now }
+{
+    match answer {
+        Ok(true) => 1,
+        Ok(false) | Err(_) => 0,
+    }
+}
+
+/// How many flags a delete that answered so has won.
+fn flags_of(answer: &Result<bool, Missed>) -> u64
+    ensures { result ≡ flags_of_delete answer.now }
+{
+    match answer {
+        Ok(true) | Err(Missed::Unfinished(_)) => 1,
+        Ok(false) | Err(Missed::Busy | Missed::NoMemory) => 0,
+    }
+}
+
+/// What is left to do of a delete, with the own queue and its account.
+fn finish_with(
+    shared: &Shared,
+    pass: &mut Pass,
+    pending: &Unfinished,
+    tries: u32,
+    own: &mut HeldQueue,
+    account: &mut Account,
+) -> bool
+    requires own { IsOf shared.now pass.old }
+    requires removing { IsRemoving pass.old pending.now.key pending.now.leaf }
+    requires kept { IsKept pass.old own.old account.old }
+    ensures same { IsSamePass pass.old pass.new }
+    ensures did { FinishDid shared.now.layout.nodes pending.now.key pending.now.leaf tries pass.old.view.log pass.new.view.log result }
+    ensures steps { length pass.new.view.log ≤ length pass.old.view.log + tries * (4 * shared.now.layout.nodes + 8 * 64) + 6 * shared.now.layout.nodes + 10 }
+    ensures won { HasWon pass.old.view.log pass.new.view.log 0 0 }
+    ensures rests { result ≡ true → IsResting pass.new }
+    ensures removing { result ≡ false → IsRemoving pass.new pending.now.key pending.now.leaf }
+    ensures private { (knowledge pass.new.view).drafts ≡ (knowledge pass.old.view).drafts }
+    ensures kept { IsKept pass.new own.new account.new }
+    ensures others { OnlyOwnLedger pass.old pass.new }
+{
+    let done = finish(
+        shared,
+        pass,
+        pending.key,
+        pending.leaf,
+        tries,
+        &mut own.queue,
+        &mut account.splices,
+    );
+    account.waiting = own.queue.len();
+    done
+}
+
+impl Tree {
+    /// Inserts a key, and answers whether it was not in the set.
+    ///
+    /// A try is a walk with its answer, or a link of two new nodes with at most one cleanup of help. Room for 128 entries is made before each
+    /// try, and no other memory is taken. `Pending`: a key is pending. `Busy`, `Full`, `NoMemory`: see `Fault`. The worker is not held.
+    /// (The insert of Natarajan and Mittal, section 3.2.)
+    pub fn insert(&self, worker: &mut Worker, key: Key, tries: u32) -> Result<bool, Fault>
+        requires own { IsOf self.now worker.old.pass }
+        requires free { worker.old.held ≡ None }
+        ensures same { IsSamePass worker.old.pass worker.new.pass }
+        ensures did { HasInserted self.now.layout.nodes tries key worker.old worker.new result }
+        ensures steps { length worker.new.pass.view.log ≤ length worker.old.pass.view.log + tries * (4 * self.now.layout.nodes + 8 * 64) + 6 * self.now.layout.nodes + 10 }
+        ensures queues { KeepsOthers worker.old.pass.view.number worker.old.queues worker.new.queues }
+        ensures held { worker.new.held ≡ None }
+        ensures between { IsBetweenCalls worker.new }
+    {
+        if let Standing::Pending(_) = worker.standing {
+            return Err(Fault::Pending);
+        }
+        let own = &mut worker.queues[worker.home];
+        let account = &mut worker.accounts[worker.home];
+        match insert_with(&self.shared, &mut worker.pass, key, tries, own, account) {
+            Ok(answer) => Ok(answer),
+            Err(Lost::Busy) => Err(Fault::Busy),
+            Err(Lost::Full) => Err(Fault::Full),
+            Err(Lost::NoMemory) => Err(Fault::NoMemory),
+        }
+    }
+
+    /// Deletes a key, and answers whether it was in the set: true once the leaf with the key is cut off.
+    ///
+    /// A try to flag ends with the answer that the key is not there or with a flag, won or lost, with at most one cleanup of help where it is lost;
+    /// from the flag on each cleanup is a try, so that true takes two of them at least. Room for 128 entries is made before each try, and no
+    /// other memory is taken. `Unfinished`: the leaf is flagged, all tries were made or the room of one was refused, and the key is pending:
+    /// `finish` goes on. `Pending`, `Busy`, `NoMemory`: see `Fault`. The worker is not held.
+    /// (The delete of Natarajan and Mittal, section 3.2.)
+    pub fn delete(&self, worker: &mut Worker, key: Key, tries: u32) -> Result<bool, Fault>
+        requires own { IsOf self.now worker.old.pass }
+        requires free { worker.old.held ≡ None }
+        ensures same { IsSamePass worker.old.pass worker.new.pass }
+        ensures did { HasDeleted self.now.layout.nodes tries key worker.old worker.new result }
+        ensures steps { length worker.new.pass.view.log ≤ length worker.old.pass.view.log + tries * (4 * self.now.layout.nodes + 8 * 64) + 6 * self.now.layout.nodes + 10 }
+        ensures queues { KeepsOthers worker.old.pass.view.number worker.old.queues worker.new.queues }
+        ensures held { worker.new.held ≡ None }
+        ensures between { IsBetweenCalls worker.new }
+    {
+        if let Standing::Pending(_) = worker.standing {
+            return Err(Fault::Pending);
+        }
+        let own = &mut worker.queues[worker.home];
+        let account = &mut worker.accounts[worker.home];
+        match delete_with(&self.shared, &mut worker.pass, key, tries, own, account) {
+            Ok(answer) => Ok(answer),
+            Err(Missed::Busy) => Err(Fault::Busy),
+            Err(Missed::NoMemory) => Err(Fault::NoMemory),
+            Err(Missed::Unfinished(leaf)) => {
+                worker.standing = Standing::Pending(Unfinished { key, leaf });
+                Err(Fault::Unfinished)
+            }
+        }
+    }
+
+    /// Goes on with the delete that is pending: true once its leaf is cut off. False with no step where none is pending.
+    ///
+    /// Each cleanup is a try, which walks first. `Unfinished`: all tries were made or the room of one was refused, and the key is pending still.
+    /// (The cleanup mode of Natarajan and Mittal's delete, section 3.2.)
+    pub fn finish(&self, worker: &mut Worker, tries: u32) -> Result<bool, Fault>
+        requires own { IsOf self.now worker.old.pass }
+        ensures same { IsSamePass worker.old.pass worker.new.pass }
+        ensures did { HasFinished self.now.layout.nodes tries worker.old worker.new result }
+        ensures steps { length worker.new.pass.view.log ≤ length worker.old.pass.view.log + tries * (4 * self.now.layout.nodes + 8 * 64) + 6 * self.now.layout.nodes + 10 }
+        ensures queues { KeepsOthers worker.old.pass.view.number worker.old.queues worker.new.queues }
+        ensures held { worker.new.held ≡ worker.old.held }
+        ensures between { IsBetweenCalls worker.new }
+    {
+        let Standing::Pending(pending) = worker.standing else {
+            return Ok(false);
+        };
+        let own = &mut worker.queues[worker.home];
+        let account = &mut worker.accounts[worker.home];
+        if !finish_with(
+            &self.shared,
+            &mut worker.pass,
+            &pending,
+            tries,
+            own,
+            account,
+        ) {
+            return Err(Fault::Unfinished);
+        }
+        worker.standing = Standing::Resting;
+        Ok(true)
+    }
+}

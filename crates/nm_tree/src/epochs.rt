@@ -1,0 +1,150 @@
+//! Pins of the caller, and moving the epoch on.
+ghost use Rattle.std.specs.Prelude.{◌≡◌, ◌≢◌, ◌+◌, ◌*◌, ◌≤◌, length, Some, None, IsSome, IfOk};
+ghost use Rattle.nm_model.specs.declared.event.Event.TheVariants.{Leave};
+ghost use Rattle.nm_model.specs.declared.reply.Reply.TheVariants.{Departed};
+ghost use Rattle.nm_steps.specs.Steps.{IsOf, IsInRun, IsSamePass, Stepped};
+ghost use Rattle.nm_epoch.specs.Resting.{Settles, epochs};
+ghost use Rattle.nm_steps.specs.Rules.{knowledge};
+ghost use Rattle.nm_epoch.specs.Scans.{IsAdvance};
+ghost use Rattle.nm_epoch.specs.Watches.{IsBehind};
+ghost use Rattle.nm_epoch.specs.Collecting.{AreHeld, IsCollection, HaveLost, KeepsOthers, KeepsRetired, ripe_of};
+ghost use Rattle.nm_tree.specs.Answers.{HasPinned, KeepsPlace};
+ghost use Rattle.nm_tree.specs.Workers.{IsBetweenCalls, ArePaired, HaveNoted};
+
+use crate::fault::PinFault;
+use crate::tree::Tree;
+use crate::worker::{Account, Standing, Worker};
+use nm_calls::leave;
+use nm_epoch::{Advance, Behind, Collected, HeldQueue, advance, behind, collect, pin};
+use nm_steps::{Pass, Shared};
+
+impl Tree {
+    /// Pins the epoch for the caller, until `unpin`: the worker is held at the epoch that is answered, and what it holds back is not freed.
+    /// It takes no memory.
+    ///
+    /// `Moved`: the epoch moved on in each of `tries` tries; with 0 tries it was only read. `Pending`: a key is pending. The worker is not held.
+    pub fn pin(&self, worker: &mut Worker, tries: u32) -> Result<u64, PinFault>
+        requires own { IsOf self.now worker.old.pass }
+        requires free { worker.old.held ≡ None }
+        ensures same { IsSamePass worker.old.pass worker.new.pass }
+        ensures did { HasPinned tries worker.old worker.new result }
+        ensures queues { worker.new.queues ≡ worker.old.queues }
+        ensures steps { length worker.new.pass.view.log ≤ length worker.old.pass.view.log + (3 * tries + 1) }
+        ensures between { IsBetweenCalls worker.new }
+    {
+        if let Standing::Pending(_) = worker.standing {
+            return Err(PinFault::Pending);
+        }
+        match pin(&self.shared, &mut worker.pass, tries) {
+            Ok(epoch) => {
+                worker.standing = Standing::Held(epoch);
+                Ok(epoch)
+            }
+            Err(moved) => Err(PinFault::Moved { epoch: moved.epoch }),
+        }
+    }
+
+    /// Ends the caller's pin of a worker that is held: one step.
+    pub fn unpin(&self, worker: &mut Worker)
+        requires own { IsOf self.now worker.old.pass }
+        requires held { IsSome worker.old.held }
+        ensures step { Stepped worker.old.pass worker.new.pass Leave Departed }
+        ensures queues { worker.new.queues ≡ worker.old.queues }
+        ensures pending { worker.new.pending ≡ None }
+        ensures held { worker.new.held ≡ None }
+        ensures between { IsBetweenCalls worker.new }
+    {
+        leave(&self.shared, &mut worker.pass);
+        worker.standing = Standing::Resting;
+    }
+
+    /// Moves the epoch on by one, if no worker holds it back; see `Advance`. It may be called at any time, and takes no memory. At most as many
+    /// steps as there are workers, and one.
+    pub fn advance(&self, worker: &mut Worker) -> Advance
+        requires own { IsOf self.now worker.old.pass }
+        ensures same { IsSamePass worker.old.pass worker.new.pass }
+        ensures did { IsAdvance self.now.layout.workers worker.old.pass.view.number (epochs worker.old.pass).pin worker.old.pass.view.log worker.new.pass.view.log result }
+        ensures place { KeepsPlace worker.old worker.new }
+        ensures queues { worker.new.queues ≡ worker.old.queues }
+        ensures steps { length worker.new.pass.view.log ≤ length worker.old.pass.view.log + self.now.layout.workers + 1 }
+        ensures between { IsBetweenCalls worker.new }
+    {
+        advance(&self.shared, &mut worker.pass)
+    }
+
+    /// Which workers hold the epoch back, this one included. It may be called at any time, and takes no memory. At most as many steps as there are workers.
+    pub fn behind(&self, worker: &mut Worker) -> Behind
+        requires own { IsOf self.now worker.old.pass }
+        ensures same { IsSamePass worker.old.pass worker.new.pass }
+        ensures did { IsBehind self.now.layout.workers worker.old.pass.view.number (epochs worker.old.pass).pin worker.old.pass.view.log worker.new.pass.view.log result }
+        ensures place { KeepsPlace worker.old worker.new }
+        ensures queues { worker.new.queues ≡ worker.old.queues }
+        ensures steps { length worker.new.pass.view.log ≤ length worker.old.pass.view.log + self.now.layout.workers }
+        ensures between { IsBetweenCalls worker.new }
+    {
+        behind(&self.shared, &mut worker.pass)
+    }
+
+    /// Reads the epoch, and frees what is ripe at the front of each queue that the worker holds, origin by origin: exactly the longest front of
+    /// nodes whose labels are at least two below that epoch. Their slots may be claimed again. It may be called at any time, and takes no memory.
+    pub fn collect(&self, worker: &mut Worker) -> Collected
+        requires own { IsOf self.now worker.old.pass }
+        ensures same { IsSamePass worker.old.pass worker.new.pass }
+        ensures did { IsCollection result.epoch worker.old.queues worker.old.pass.view.log worker.new.pass.view.log }
+        ensures freed { result.freed ≡ length (ripe_of result.epoch worker.old.queues) }
+        ensures lost { HaveLost result.epoch worker.old.queues worker.new.queues }
+        ensures place { KeepsPlace worker.old worker.new }
+        ensures steps { length worker.new.pass.view.log ≤ length worker.old.pass.view.log + self.now.layout.nodes }
+        ensures between { IsBetweenCalls worker.new }
+    {
+        let collected = collect_all(&self.shared, &mut worker.pass, &mut worker.queues);
+        note_all(&mut worker.accounts, worker.queues.as_slice());
+        collected
+    }
+}
+
+/// Frees what is ripe at the front of each of these queues.
+fn collect_all(shared: &Shared, pass: &mut Pass, queues: &mut Vec<HeldQueue>) -> Collected
+    requires own { IsOf shared.now pass.old }
+    requires queues { AreHeld (knowledge pass.old.view) queues.old.items }
+    ensures same { IsSamePass pass.old pass.new }
+    ensures run { IsInRun pass.new }
+    ensures part { IsCollection result.epoch queues.old.items pass.old.view.log pass.new.view.log }
+    ensures freed { result.freed ≡ length (ripe_of result.epoch queues.old.items) }
+    ensures lost { HaveLost result.epoch queues.old.items queues.new.items }
+    ensures queues { AreHeld (knowledge pass.new.view) queues.new.items }
+    ensures others { KeepsOthers result.epoch queues.old.items (knowledge pass.old.view) (knowledge pass.new.view) }
+    ensures retired { KeepsRetired (knowledge pass.old.view) (knowledge pass.new.view) }
+    ensures steps { length pass.new.view.log ≤ length pass.old.view.log + shared.now.layout.nodes }
+    ensures settles { Settles pass.old pass.new }
+    ensures private { (knowledge pass.new.view).drafts ≡ (knowledge pass.old.view).drafts }
+{
+    collect(shared, pass, queues.as_mut_slice())
+}
+
+/// Adds to each of these accounts the nodes that have left its queue.
+fn note_all(accounts: &mut Vec<Account>, queues: &[HeldQueue])
+    requires paired { ArePaired queues.now accounts.old.items }
+    ensures { HaveNoted queues.now accounts.old.items accounts.new.items }
+{
+    note_freed(accounts.as_mut_slice(), queues);
+}
+
+/// Adds to each account the nodes that have left its queue.
+fn note_freed(accounts: &mut [Account], queues: &[HeldQueue])
+    requires paired { ArePaired queues.now accounts.old }
+    ensures { HaveNoted queues.now accounts.old accounts.new }
+{
+    let (Some((account, more)), Some((held, rest))) = (
+        accounts.split_first_mut(),
+        queues.split_first(),
+    ) else {
+        return;
+    };
+    let waiting = held.queue.len();
+    account.freed = account
+        .freed
+        .saturating_add(u64::from(account.waiting - waiting));
+    account.waiting = waiting;
+    note_freed(more, rest);
+}

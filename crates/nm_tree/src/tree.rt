@@ -1,0 +1,104 @@
+//! The tree that workers share.
+ghost use Rattle.std.specs.Prelude.{◌≡◌, ◌≢◌, ◌<◌, ◌≤◌, ◌⊎◌, ◌↔◌, length, IfOk, IfErr, IsErrOf};
+ghost use Rattle.nm_edge.specs.Layouts.{IsLayout};
+ghost use Rattle.nm_steps.specs.Steps.{AreFresh};
+ghost use Rattle.nm_tree.specs.Workers.{AreNew, AreAllFresh, AreMade, IsFresh, IsNewWorker};
+
+use crate::worker::{Account, Standing, Worker};
+use nm_edge::{LEAST_NODES, Layout, LayoutError, MOST_NODES, MOST_WORKERS};
+use nm_epoch::HeldQueue;
+use nm_limbo::BlockQueue;
+use nm_model::NewError;
+use nm_steps::{Pass, Shared};
+use std::alloc::{AllocError, Global};
+use std::marker::Model;
+
+/// A set of keys, the whole numbers up to 2^64 - 4, which threads share.
+#[derive(Drop)]
+pub struct Tree {
+    pub(crate) shared: Shared,
+}
+
+impl Model for Tree {
+    ghost use Rattle.nm_steps.specs.Steps.{Board};
+
+    ghost Value = { Board };
+
+    ghost view = { λ t. t.shared };
+}
+
+impl Tree {
+    /// The empty set with room for `nodes` nodes, 7 to 1,048,576 with five fixed ones, and its workers, 1 to 64, in the order of their
+    /// numbers from 0 on. A key takes two nodes, and a removed node is free again some time after its removal.
+    ///
+    /// `NoMemory`: nothing is kept. The room in which a worker may take over the queues of others is made here.
+    pub fn new(alloc: Global, nodes: u32, workers: u32) -> Result<(Tree, Vec<Worker>), NewError>
+        ensures layout { IfOk result (λ r. r.0.layout ≡ record { nodes = nodes; workers = workers }) }
+        ensures count { IfOk result (λ r. length r.1.items ≡ workers) }
+        ensures new { IfOk result (λ r. AreNew r.0 0 r.1.items) }
+        ensures nodes { IsErrOf result NewError.Nodes ↔ ((nodes < LEAST_NODES) ⊎ (MOST_NODES < nodes)) }
+        ensures workers { IsErrOf result NewError.Workers ↔ ((LEAST_NODES ≤ nodes) × (nodes ≤ MOST_NODES) × ((workers < 1) ⊎ (MOST_WORKERS < workers))) }
+    {
+        let layout = layout_of(nodes, workers)?;
+        let (shared, passes) = Shared::new(alloc, layout)?;
+        let made = workers_of(alloc, passes)?;
+        Ok((Tree { shared }, made))
+    }
+}
+
+/// The sizes, if a tree may have them.
+fn layout_of(nodes: u32, workers: u32) -> Result<Layout, NewError>
+    ensures layout { IfOk result (λ layout. layout ≡ record { nodes = nodes; workers = workers }) }
+    ensures nodes { IsErrOf result NewError.Nodes ↔ ((nodes < LEAST_NODES) ⊎ (MOST_NODES < nodes)) }
+    ensures workers { IsErrOf result NewError.Workers ↔ ((LEAST_NODES ≤ nodes) × (nodes ≤ MOST_NODES) × ((workers < 1) ⊎ (MOST_WORKERS < workers))) }
+    ensures memory { IfErr result (λ e. e ≢ NewError.NoMemory) }
+{
+    match Layout::new(nodes, workers) {
+        Ok(layout) => Ok(layout),
+        Err(LayoutError::Nodes) => Err(NewError::Nodes),
+        Err(LayoutError::Workers) => Err(NewError::Workers),
+    }
+}
+
+/// A worker of a pass that has done nothing yet, with room for the queues of all origins.
+fn worker_of(alloc: Global, pass: Pass, workers: usize) -> Result<Worker, AllocError>
+    requires fresh { IsFresh pass }
+    ensures { IfOk result (IsNewWorker pass) }
+{
+    let mut queues = Vec::with_capacity(alloc, workers)?;
+    let mut accounts = Vec::with_capacity(alloc, workers)?;
+    let origin = pass.number();
+    queues.push(HeldQueue {
+        origin,
+        queue: BlockQueue::new(alloc),
+    })?;
+    accounts.push(Account {
+        origin,
+        links: 0,
+        flags: 0,
+        splices: 0,
+        freed: 0,
+        waiting: 0,
+    })?;
+    Ok(Worker {
+        pass,
+        queues,
+        accounts,
+        home: 0,
+        standing: Standing::Resting,
+    })
+}
+
+/// The workers of these passes, in their order.
+fn workers_of(alloc: Global, mut passes: Vec<Pass>) -> Result<Vec<Worker>, AllocError>
+    requires fresh { AreAllFresh passes.items }
+    ensures { IfOk result (λ ws. AreMade passes.items ws.items) }
+{
+    let room = passes.len();
+    let mut workers = Vec::with_capacity(alloc, room)?;
+    while let Some(pass) = passes.pop() {
+        workers.push(worker_of(alloc, pass, room)?)?;
+    }
+    workers.reverse();
+    Ok(workers)
+}

@@ -1,0 +1,185 @@
+//! Workers: a pass with the queues that it holds, and what it is in the midst of.
+ghost use Rattle.std.specs.Prelude.{◌≡◌, ◌<◌, length, option_map, IfSome, IfNone};
+ghost use Rattle.nm_epoch.specs.Collecting.{NoneHas};
+ghost use Rattle.nm_tree.specs.Workers.{waiting_in, blocks_in, account_in, counts_in, IsLedger, HasOrigin};
+ghost use Rattle.nm_tree.specs.declared.worker.Unfinished.{Unfinished as Delete};
+
+use nm_edge::{Key, NodeId};
+use nm_epoch::HeldQueue;
+use nm_steps::Pass;
+use std::marker::Model;
+
+/// A delete that has flagged its leaf and not answered yet.
+#[derive(Clone, Copy)]
+pub(crate) struct Unfinished {
+    pub(crate) key: Key,
+    pub(crate) leaf: NodeId,
+}
+
+/// What a worker is in the midst of between two calls.
+#[derive(Clone, Copy)]
+pub(crate) enum Standing {
+    /// Nothing: it is not pinned.
+    Resting,
+    /// It is pinned at this epoch, until `unpin`.
+    Held(u64),
+    /// It is pinned for the leaf of a delete, until `finish` answers true.
+    Pending(Unfinished),
+}
+
+/// What a worker keeps of one origin beside its queue. Each count stays where it is at 2^64 - 1.
+#[derive(Clone, Copy)]
+pub(crate) struct Account {
+    /// The worker whose splices cut the nodes.
+    pub(crate) origin: u32,
+    /// The links, flags and splices that worker has won.
+    pub(crate) links: u64,
+    pub(crate) flags: u64,
+    pub(crate) splices: u64,
+    /// The nodes that were freed of those that it cut off.
+    pub(crate) freed: u64,
+    /// The nodes that wait.
+    pub(crate) waiting: u32,
+}
+
+/// What a worker has won, and what became of the nodes that its splices cut off. Each count but the last stays where it is at 2^64 - 1.
+#[derive(Clone, Copy, Debug, PartialEq, Eq)]
+pub struct Counts {
+    /// The links that it has won: each put a new key into the set.
+    pub links: u64,
+    /// The flags that it has won, each on the leaf of a key to be deleted.
+    pub flags: u64,
+    /// The splices that it has won.
+    pub splices: u64,
+    /// The nodes that its splices cut off.
+    pub retired: u64,
+    /// Those of them that were freed, by whoever holds their queue.
+    pub freed: u64,
+    /// Those of them that wait.
+    pub queued: u64,
+}
+
+/// One worker of a tree: what a thread needs to make calls on it. It may go to another thread between two calls.
+#[derive(Drop)]
+pub struct Worker {
+    pub(crate) pass: Pass,
+    // By ascending origin, with the own one at `home`.
+    pub(crate) queues: Vec<HeldQueue>,
+    // An account of each queue, in the same order.
+    pub(crate) accounts: Vec<Account>,
+    pub(crate) home: usize,
+    pub(crate) standing: Standing,
+}
+
+impl Model for Worker {
+    ghost use Rattle.nm_tree.specs.Workers.{Hand, IsWorker, pending_in, held_in};
+
+    ghost Value = { Hand };
+
+    ghost view = { λ w. record { pass = w.pass; queues = w.queues.items; pending = pending_in w.standing; held = held_in w.standing } };
+
+    ghost invariant = { λ w. IsWorker (record { pass = w.pass; queues = w.queues.items; pending = pending_in w.standing; held = held_in w.standing }) w.accounts.items w.home };
+}
+
+impl Worker {
+    /// The worker's number, below the number of workers.
+    pub fn number(&self) -> u32
+        ensures number { result ≡ self.now.pass.view.number }
+        ensures below { result < self.now.pass.view.layout.workers }
+    {
+        self.pass.number()
+    }
+
+    /// How many nodes wait in the queues that the worker holds.
+    pub fn queue_len(&self) -> u64
+        ensures { result ≡ waiting_in self.now.queues }
+    {
+        let mut waiting = 0;
+        for held in &self.queues {
+            waiting += u64::from(held.queue.len());
+        }
+        waiting
+    }
+
+    /// How many blocks of 32 places its queues have. A block that is empty is used again.
+    pub fn queue_blocks(&self) -> u64
+        ensures { result ≡ blocks_in self.now.queues }
+    {
+        let mut blocks = 0;
+        for held in &self.queues {
+            blocks += u64::from(held.queue.blocks());
+        }
+        blocks
+    }
+
+    /// Of how many origins it holds the queue: its own, and those that were passed to it.
+    pub fn origins(&self) -> u32
+        ensures { result ≡ length self.now.queues }
+    {
+        self.queues.len() as u32
+    }
+
+    /// What this worker has won, and what became of what it cut off.
+    pub fn ledger(&self) -> Counts
+        ensures { IsLedger self.now.pass.view self.now.pass.view.number result }
+    {
+        counts_of(&self.accounts[self.home])
+    }
+
+    /// The same of the worker of an origin whose queue this one holds; `None` where it does not hold it.
+    pub fn ledger_of(&self, origin: u32) -> Option<Counts>
+        ensures some { IfSome result (IsLedger self.now.pass.view origin) }
+        ensures held { IfSome result (λ _. HasOrigin origin self.now.queues) }
+        ensures none { IfNone result (NoneHas origin self.now.queues) }
+    {
+        match account_of(self.accounts.as_slice(), origin) {
+            Some(account) => Some(counts_of(&account)),
+            None => None,
+        }
+    }
+
+    /// The key of a delete that has flagged its leaf and not answered yet; `finish` goes on with it.
+    pub fn pending(&self) -> Option<Key>
+        ensures { result ≡ option_map (λ (n : Delete). n.key) self.now.pending }
+    {
+        match self.standing {
+            Standing::Pending(unfinished) => Some(unfinished.key),
+            Standing::Resting | Standing::Held(_) => None,
+        }
+    }
+
+    /// The epoch at which the worker is held, from a `pin` until its `unpin`.
+    pub fn held(&self) -> Option<u64>
+        ensures { result ≡ self.now.held }
+    {
+        match self.standing {
+            Standing::Held(epoch) => Some(epoch),
+            Standing::Resting | Standing::Pending(_) => None,
+        }
+    }
+}
+
+/// What an account tells.
+fn counts_of(account: &Account) -> Counts
+    ensures { result ≡ counts_in account.now }
+{
+    Counts {
+        links: account.links,
+        flags: account.flags,
+        splices: account.splices,
+        retired: account.freed.saturating_add(u64::from(account.waiting)),
+        freed: account.freed,
+        queued: u64::from(account.waiting),
+    }
+}
+
+/// The account of an origin.
+fn account_of(accounts: &[Account], origin: u32) -> Option<Account>
+    ensures { result ≡ account_in accounts.now origin }
+{
+    let (first, rest) = accounts.split_first()?;
+    if first.origin == origin {
+        return Some(*first);
+    }
+    account_of(rest, origin)
+}
