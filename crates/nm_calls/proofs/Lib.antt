@@ -9,6 +9,7 @@ pub mod Makes
 pub mod Linking
 pub mod Claiming
 pub mod Answering
+pub mod Moments
 pub mod WholeCleanups
 pub mod Forks
 pub mod Removals

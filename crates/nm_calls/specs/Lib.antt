@@ -8,5 +8,6 @@ pub mod Fresh
 pub mod Plays
 pub mod Cleanups
 pub mod Leaving
+pub mod Moments
 pub mod Inserts
 pub mod Deletes

@@ -11,6 +11,7 @@ ghost use Rattle.nm_calls.specs.Telling.{Tells, GoesOn, IsInRun, IsPinnedSomewhe
 ghost use Rattle.nm_calls.specs.Walks.{IsAt};
 ghost use Rattle.nm_calls.specs.Leaving.{ShowsAnswer};
 ghost use Rattle.nm_calls.specs.Marking.{OnlyFlags};
+ghost use Rattle.nm_calls.specs.Moments.{AnswerHasMoment};
 ghost use Rattle.nm_calls.specs.Cleanups.{OnlyCleans, KeepsLedgers};
 ghost use Rattle.nm_calls.specs.Won.{won_splices, capped, HasWon, flags_of_delete};
 ghost use Rattle.nm_calls.specs.Deletes.{IsRemoving, Removes, RemovesNothing, IsRemoval, IfRemoved, MayFlag, HasFlagged, HasNotFlagged, IsFlagTry, ShowsFlag, OnlyInjects, IsInjection, ShowsInjection, RemovalAfter, leaf_of, DeleteFinishes, DeleteDid, AfterDelete, FinishDid};
@@ -372,6 +373,7 @@ fn delete_pinned(
     requires counted { splices.old ≡ capped (won_splices pass.old.view.log) }
     ensures same { IsSamePass pass.old pass.new }
     ensures part { DeleteFinishes shared.now.layout.nodes tries key pass.old.view.log pass.new.view.log result }
+    ensures moment { IfOk result (AnswerHasMoment pass.new Delete key) }
     ensures run { IsInRun pass.new }
     ensures after { AfterDelete key pass.new result }
     ensures private { (knowledge pass.new.view).drafts ≡ (knowledge pass.old.view).drafts }
@@ -433,6 +435,7 @@ pub fn delete(
     requires counted { splices.old ≡ capped (won_splices pass.old.view.log) }
     ensures same { IsSamePass pass.old pass.new }
     ensures did { DeleteDid shared.now.layout.nodes tries key pass.old.view.log pass.new.view.log result }
+    ensures moment { IfOk result (AnswerHasMoment pass.new Delete key) }
     ensures won { HasWon pass.old.view.log pass.new.view.log 0 (flags_of_delete result) }
     ensures steps { length pass.new.view.log ≤ length pass.old.view.log + tries * (4 * shared.now.layout.nodes + 8 * 64) + 6 * shared.now.layout.nodes + 10 }
     ensures run { (pass.new ≡ pass.old) ⊎ IsInRun pass.new }
@@ -475,6 +478,7 @@ pub fn finish(
     requires counted { splices.old ≡ capped (won_splices pass.old.view.log) }
     ensures same { IsSamePass pass.old pass.new }
     ensures did { FinishDid shared.now.layout.nodes key leaf tries pass.old.view.log pass.new.view.log result }
+    ensures moment { result ≡ true → AnswerHasMoment pass.new Delete key true }
     ensures won { HasWon pass.old.view.log pass.new.view.log 0 0 }
     ensures steps { length pass.new.view.log ≤ length pass.old.view.log + tries * (4 * shared.now.layout.nodes + 8 * 64) + 6 * shared.now.layout.nodes + 10 }
     ensures run { IsInRun pass.new }

@@ -1,5 +1,5 @@
 //! Inserts.
-ghost use Rattle.std.specs.Prelude.{◌≡◌, ◌⊎◌, ◌≤◌, ◌+◌, ◌*◌, true, false, length, None};
+ghost use Rattle.std.specs.Prelude.{◌≡◌, ◌⊎◌, ◌≤◌, ◌+◌, ◌*◌, true, false, length, None, IfOk};
 ghost use Rattle.nm_model.specs.declared.event.Op.TheVariants.{Insert};
 ghost use Rattle.nm_order.specs.Facts.Fact.{KnowsSlot, CallIs};
 ghost use Rattle.nm_steps.specs.Rules.{knowledge};
@@ -9,6 +9,7 @@ ghost use Rattle.nm_epoch.specs.Resting.{IsResting, epochs, search};
 ghost use Rattle.nm_calls.specs.Telling.{Tells, GoesOn, IsInRun, IsPinnedSomewhere};
 ghost use Rattle.nm_calls.specs.Walks.{IsAt};
 ghost use Rattle.nm_calls.specs.Making.{OnlyMakes};
+ghost use Rattle.nm_calls.specs.Moments.{AnswerHasMoment};
 ghost use Rattle.nm_calls.specs.Cleanups.{OnlyCleans, KeepsLedgers};
 ghost use Rattle.nm_calls.specs.Won.{won_splices, capped, HasWon, links_of_insert};
 ghost use Rattle.nm_calls.specs.Inserts.{HasFork, Helps, asks_help, IsReadied, IsTry, OnlyTries, ShowsTry, Finishes, InsertDid};
@@ -198,6 +199,7 @@ fn insert_pinned(
     requires counted { splices.old ≡ capped (won_splices pass.old.view.log) }
     ensures same { IsSamePass pass.old pass.new }
     ensures part { Finishes shared.now.layout.nodes tries key pass.old.view.log pass.new.view.log result }
+    ensures moment { IfOk result (AnswerHasMoment pass.new Insert key) }
     ensures run { IsInRun pass.new }
     ensures rests { IsResting pass.new }
     ensures private { HasFork pass.old pass.new None }
@@ -260,6 +262,7 @@ pub fn insert(
     requires counted { splices.old ≡ capped (won_splices pass.old.view.log) }
     ensures same { IsSamePass pass.old pass.new }
     ensures did { InsertDid shared.now.layout.nodes tries key pass.old.view.log pass.new.view.log result }
+    ensures moment { IfOk result (AnswerHasMoment pass.new Insert key) }
     ensures won { HasWon pass.old.view.log pass.new.view.log (links_of_insert result) 0 }
     ensures steps { length pass.new.view.log ≤ length pass.old.view.log + tries * (4 * shared.now.layout.nodes + 8 * 64) + 6 * shared.now.layout.nodes + 10 }
     ensures run { (pass.new ≡ pass.old) ⊎ IsInRun pass.new }

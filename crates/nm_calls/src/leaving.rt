@@ -1,13 +1,16 @@
 //! Answers of a call, and the label of a cut, asked for by what the log tells.
-ghost use Rattle.std.specs.Prelude.{◌≡◌, false, true, None};
+ghost use Rattle.std.specs.Prelude.{◌≡◌, ℕ, false, true, None};
 ghost use Rattle.nm_model.specs.declared.event.Event.TheVariants.{Sight, Leave, LeaveWith};
+ghost use Rattle.nm_model.specs.declared.event.Op.{Op};
 ghost use Rattle.nm_model.specs.declared.reply.Reply.TheVariants.{Labelled, Departed};
+ghost use Rattle.nm_order.specs.Facts.Fact.{CallIs};
 ghost use Rattle.nm_steps.specs.Rules.{knowledge};
 ghost use Rattle.nm_steps.specs.Steps.{IsOf, Stepped};
 ghost use Rattle.nm_epoch.specs.Resting.{IsResting, KeepsHands, epochs, search};
 ghost use Rattle.nm_epoch.specs.Collecting.{TakesLabels};
-ghost use Rattle.nm_calls.specs.Telling.{GoesOn, IsInRun};
+ghost use Rattle.nm_calls.specs.Telling.{Tells, GoesOn, IsInRun};
 ghost use Rattle.nm_calls.specs.Leaving.{IsAnswer, OnlyLabels};
+ghost use Rattle.nm_calls.specs.Moments.{AnswerHasMoment};
 
 use nm_epoch::{label as label_cut, unpin, unpin_with};
 use nm_steps::{Pass, Shared};
@@ -32,6 +35,7 @@ pub fn answer(shared: &Shared, pass: &mut Pass, answer: bool)
     requires labelled { (epochs pass.old).unlabelled ≡ false }
     requires shown { IsAnswer pass.old answer }
     ensures step { Stepped pass.old pass.new (LeaveWith answer) Departed }
+    ensures moment { (op : Op) (k : ℕ) → Tells pass.old (CallIs op k) → AnswerHasMoment pass.new op k answer }
     ensures run { IsInRun pass.new }
     ensures rests { IsResting pass.new }
     ensures hands { KeepsHands pass.old pass.new }

@@ -1,4 +1,5 @@
-//! The set: an external search tree that threads share without locks (Natarajan and Mittal, PPoPP 2014).
+//! The calls of the set over a pass and a queue: walks, look-ups, inserts and deletes, each step asked for by what the own log tells
+//! (the external search tree of Natarajan and Mittal, PPoPP 2014).
 #![tactic(auto)]
 
 mod cleaning;

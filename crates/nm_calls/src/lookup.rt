@@ -1,8 +1,10 @@
 //! A look-up.
 ghost use Rattle.std.specs.Prelude.{◌≡◌, ◌≤◌, ◌+◌, ◌*◌, length, IfOk, IfErr};
+ghost use Rattle.nm_model.specs.declared.event.Op.TheVariants.{Has};
 ghost use Rattle.nm_steps.specs.Steps.{IsOf, IsSamePass};
 ghost use Rattle.nm_epoch.specs.Resting.{IsResting, KeepsHands};
 ghost use Rattle.nm_calls.specs.Calls.{HasDid, HasMissed};
+ghost use Rattle.nm_calls.specs.Moments.{AnswerHasMoment};
 ghost use Rattle.nm_calls.specs.Won.{HasWon, won_splices};
 
 use crate::walking::find;
@@ -26,6 +28,7 @@ pub fn has(shared: &Shared, pass: &mut Pass, key: Key, tries: u32) -> Result<boo
     requires rests { IsResting pass.old }
     ensures same { IsSamePass pass.old pass.new }
     ensures did { IfOk result (λ b. HasDid shared.now.layout.nodes tries key pass.old.view.log pass.new.view.log b) }
+    ensures moment { IfOk result (AnswerHasMoment pass.new Has key) }
     ensures missed { IfErr result (λ e. HasMissed shared.now.layout.nodes tries key pass.old.view.log pass.new.view.log) }
     ensures won { HasWon pass.old.view.log pass.new.view.log 0 0 }
     ensures uncut { won_splices pass.new.view.log ≡ won_splices pass.old.view.log }

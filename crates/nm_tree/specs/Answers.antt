@@ -6,8 +6,10 @@ use Rattle.nm_calls.specs.declared.inserting.Fault.TheVariants as lost
 use Rattle.nm_calls.specs.Calls.{HasDid, HasMissed}
 use Rattle.nm_calls.specs.Deletes.{DeleteDid, FinishDid}
 use Rattle.nm_calls.specs.Inserts.{InsertDid}
+use Rattle.nm_calls.specs.Moments.{AnswerHasMoment}
 use Rattle.nm_epoch.specs.Tries.{IsPinned as PinsSo, IsMoved}
 use Rattle.nm_model.specs.declared.event.Event.TheVariants.{Sight}
+use Rattle.nm_model.specs.declared.event.Op.TheVariants.{Delete}
 use Rattle.nm_tree.specs.declared.fault.PinFault.{PinFault}
 use Rattle.nm_tree.specs.declared.fault.PinFault.TheVariants as pinning
 use Rattle.nm_tree.specs.declared.fault.Fault.{Fault}
@@ -56,6 +58,11 @@ HasFinished nodes tries w z (Ok false) = (w.pending ≡ None) × (z ≡ w)
 HasFinished nodes tries w z (Ok true) = (n : Unfinished) × (w.pending ≡ Some n) × (z.pending ≡ None) × FinishDid nodes n.key n.leaf tries w.pass.view.log z.pass.view.log true
 HasFinished nodes tries w z (Err fault.Unfinished) = (n : Unfinished) × (w.pending ≡ Some n) × (z.pending ≡ Some n) × FinishDid nodes n.key n.leaf tries w.pass.view.log z.pass.view.log false
 HasFinished nodes tries w z (Err _) = ⊥
+
+-- the delete that was pending is answered: its leaf was cut at a moment of that delete
+abbrev pub FinishHasMoment : Hand → Hand → Result Bool Fault → Type 0
+FinishHasMoment w z (Ok true) = (n : Unfinished) × (w.pending ≡ Some n) × AnswerHasMoment z.pass Delete n.key true
+FinishHasMoment w z _ = Unit {0}
 
 -- a pin for the caller
 abbrev pub HasPinned : ℕ → Hand → Hand → Result ℕ PinFault → Type 0

@@ -1,12 +1,14 @@
 //! Inserts, deletes, and what is left to do of a delete.
-ghost use Rattle.std.specs.Prelude.{◌≡◌, ◌+◌, ◌*◌, ◌≤◌, ℕ, true, false, length, None};
+ghost use Rattle.std.specs.Prelude.{◌≡◌, ◌+◌, ◌*◌, ◌≤◌, ℕ, true, false, length, None, IfOk};
+ghost use Rattle.nm_model.specs.declared.event.Op.TheVariants.{Insert, Delete};
 ghost use Rattle.nm_steps.specs.Steps.{IsOf, IsSamePass};
-ghost use Rattle.nm_tree.specs.Answers.{HasInserted, HasDeleted, HasFinished};
+ghost use Rattle.nm_tree.specs.Answers.{HasInserted, HasDeleted, HasFinished, FinishHasMoment};
 ghost use Rattle.nm_model.specs.Maps.{get};
 ghost use Rattle.nm_steps.specs.Rules.{knowledge};
 ghost use Rattle.nm_epoch.specs.Resting.{IsResting};
 ghost use Rattle.nm_calls.specs.Deletes.{IsRemoving, DeleteDid, AfterDelete, FinishDid};
 ghost use Rattle.nm_calls.specs.Inserts.{InsertDid};
+ghost use Rattle.nm_calls.specs.Moments.{AnswerHasMoment};
 ghost use Rattle.nm_calls.specs.Won.{HasWon, links_of_insert, flags_of_delete};
 ghost use Rattle.nm_tree.specs.Workers.{IsBetweenCalls, KeepsOthers, IsKept, OnlyOwnLedger};
 
@@ -32,6 +34,7 @@ fn insert_with(
     requires kept { IsKept pass.old own.old account.old }
     ensures same { IsSamePass pass.old pass.new }
     ensures did { InsertDid shared.now.layout.nodes tries key pass.old.view.log pass.new.view.log result }
+    ensures moment { IfOk result (AnswerHasMoment pass.new Insert key) }
     ensures steps { length pass.new.view.log ≤ length pass.old.view.log + tries * (4 * shared.now.layout.nodes + 8 * 64) + 6 * shared.now.layout.nodes + 10 }
     ensures won { HasWon pass.old.view.log pass.new.view.log (links_of_insert result) 0 }
     ensures rests { IsResting pass.new }
@@ -66,6 +69,7 @@ fn delete_with(
     requires kept { IsKept pass.old own.old account.old }
     ensures same { IsSamePass pass.old pass.new }
     ensures did { DeleteDid shared.now.layout.nodes tries key pass.old.view.log pass.new.view.log result }
+    ensures moment { IfOk result (AnswerHasMoment pass.new Delete key) }
     ensures steps { length pass.new.view.log ≤ length pass.old.view.log + tries * (4 * shared.now.layout.nodes + 8 * 64) + 6 * shared.now.layout.nodes + 10 }
     ensures won { HasWon pass.old.view.log pass.new.view.log 0 (flags_of_delete result) }
     ensures after { AfterDelete key pass.new result }
@@ -120,6 +124,7 @@ fn finish_with(
     requires kept { IsKept pass.old own.old account.old }
     ensures same { IsSamePass pass.old pass.new }
     ensures did { FinishDid shared.now.layout.nodes pending.now.key pending.now.leaf tries pass.old.view.log pass.new.view.log result }
+    ensures moment { result ≡ true → AnswerHasMoment pass.new Delete pending.now.key true }
     ensures steps { length pass.new.view.log ≤ length pass.old.view.log + tries * (4 * shared.now.layout.nodes + 8 * 64) + 6 * shared.now.layout.nodes + 10 }
     ensures won { HasWon pass.old.view.log pass.new.view.log 0 0 }
     ensures rests { result ≡ true → IsResting pass.new }
@@ -152,6 +157,7 @@ impl Tree {
         requires free { worker.old.held ≡ None }
         ensures same { IsSamePass worker.old.pass worker.new.pass }
         ensures did { HasInserted self.now.layout.nodes tries key worker.old worker.new result }
+        ensures moment { IfOk result (AnswerHasMoment worker.new.pass Insert key) }
         ensures steps { length worker.new.pass.view.log ≤ length worker.old.pass.view.log + tries * (4 * self.now.layout.nodes + 8 * 64) + 6 * self.now.layout.nodes + 10 }
         ensures queues { KeepsOthers worker.old.pass.view.number worker.old.queues worker.new.queues }
         ensures held { worker.new.held ≡ None }
@@ -182,6 +188,7 @@ impl Tree {
         requires free { worker.old.held ≡ None }
         ensures same { IsSamePass worker.old.pass worker.new.pass }
         ensures did { HasDeleted self.now.layout.nodes tries key worker.old worker.new result }
+        ensures moment { IfOk result (AnswerHasMoment worker.new.pass Delete key) }
         ensures steps { length worker.new.pass.view.log ≤ length worker.old.pass.view.log + tries * (4 * self.now.layout.nodes + 8 * 64) + 6 * self.now.layout.nodes + 10 }
         ensures queues { KeepsOthers worker.old.pass.view.number worker.old.queues worker.new.queues }
         ensures held { worker.new.held ≡ None }
@@ -211,6 +218,7 @@ impl Tree {
         requires own { IsOf self.now worker.old.pass }
         ensures same { IsSamePass worker.old.pass worker.new.pass }
         ensures did { HasFinished self.now.layout.nodes tries worker.old worker.new result }
+        ensures moment { FinishHasMoment worker.old worker.new result }
         ensures steps { length worker.new.pass.view.log ≤ length worker.old.pass.view.log + tries * (4 * self.now.layout.nodes + 8 * 64) + 6 * self.now.layout.nodes + 10 }
         ensures queues { KeepsOthers worker.old.pass.view.number worker.old.queues worker.new.queues }
         ensures held { worker.new.held ≡ worker.old.held }

@@ -1,5 +1,6 @@
 //! Workers: a pass with the queues that it holds, and what it is in the midst of.
 ghost use Rattle.std.specs.Prelude.{◌≡◌, ◌<◌, length, option_map, IfSome, IfNone};
+ghost use Rattle.nm_calls.specs.Moments.{HasFlaggedIt};
 ghost use Rattle.nm_epoch.specs.Collecting.{NoneHas};
 ghost use Rattle.nm_tree.specs.Workers.{waiting_in, blocks_in, account_in, counts_in, IsLedger, HasOrigin};
 ghost use Rattle.nm_tree.specs.declared.worker.Unfinished.{Unfinished as Delete};
@@ -140,7 +141,8 @@ impl Worker {
 
     /// The key of a delete that has flagged its leaf and not answered yet; `finish` goes on with it.
     pub fn pending(&self) -> Option<Key>
-        ensures { result ≡ option_map (λ (n : Delete). n.key) self.now.pending }
+        ensures key { result ≡ option_map (λ (n : Delete). n.key) self.now.pending }
+        ensures flagged { IfSome self.now.pending (λ (n : Delete). HasFlaggedIt self.now.pass n.key n.leaf) }
     {
         match self.standing {
             Standing::Pending(unfinished) => Some(unfinished.key),

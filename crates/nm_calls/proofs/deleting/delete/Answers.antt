@@ -1,5 +1,7 @@
 use Rattle.std.proofs.Common.{rules, subst}
+use Rattle.std.specs.Prelude.{IfOk}
 use Rattle.nm_calls.specs.Deletes.{DeleteFinishes}
+use Rattle.nm_calls.specs.Moments.{AnswerHasMoment}
 use Rattle.nm_calls.proofs.Removals.{delete_did}
 use Rattle.nm_model.specs.declared.event.Op.TheVariants.{Delete}
 use Rattle.nm_calls.proofs.Adding.{has_won, counts_on, pin_adds, moved_adds}
@@ -34,3 +36,6 @@ make_room-requires c = record { few = may_grow_first c.args.shared.now c.args.pa
 
 pub returns-clause-few : goal.returns-clause-few
 returns-clause-few c = few_in_table c.args.shared.now c.args.pass.now c.delete_pinned.new.pass c.delete_pinned.new.queue.items c.requires.own (search rules) c.delete_pinned.ensures.run c.delete_pinned.ensures.queue
+
+pub returns-clause-moment : goal.returns-clause-moment
+returns-clause-moment c = subst (λ k. IfOk c.delete_pinned.result (AnswerHasMoment c.delete_pinned.new.pass Delete k)) c.get.ensures.number c.delete_pinned.ensures.moment

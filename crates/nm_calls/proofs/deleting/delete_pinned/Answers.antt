@@ -1,4 +1,6 @@
 use Rattle.std.proofs.Common.{ap}
+use Rattle.nm_model.specs.declared.event.Op.TheVariants.{Delete}
+use Rattle.nm_order.specs.Facts.Fact.{CallIs}
 use Rattle.nm_steps.specs.Steps.{Stand}
 use Rattle.nm_calls.specs.Deletes.{leaf_of}
 use Rattle.nm_calls.proofs.Removals.{removing_from, removing_on}
@@ -28,3 +30,11 @@ returns-in-Spent-remove_after-clause-after c =
     let n = leaf_of c.in-Flagged.end c.in-Flagged.birth in
     let there = removing_from c.args.pass.now c.inject.new.pass c.args.key n c.requires.pinned c.requires.root c.requires.known c.requires.call c.requires.labelled c.inject.ensures.on c.inject.ensures.only shows.0 shows.2 in
     rw c.leaf_at-leaf.ensures (removing_on c.inject.new.pass c.remove_after.new.pass c.args.key n there c.remove_after.ensures.on c.remove_after.ensures.only)
+
+pub returns-in-Absent-clause-moment : goal.returns-in-Absent-clause-moment
+returns-in-Absent-clause-moment c = c.answer.ensures.moment Delete c.args.key (c.inject.ensures.on.keeps (CallIs Delete c.args.key) c.requires.call)
+
+pub returns-in-Removed-clause-moment : goal.returns-in-Removed-clause-moment
+returns-in-Removed-clause-moment c =
+    let call = CallIs Delete c.args.key in
+    c.answer-in-Removed.ensures.moment Delete c.args.key (c.remove_after.ensures.on.keeps call (c.inject.ensures.on.keeps call c.requires.call))

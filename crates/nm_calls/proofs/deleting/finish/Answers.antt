@@ -1,4 +1,6 @@
 use Rattle.std.proofs.Common.{true, false, inl, inr, ap, subst}
+use Rattle.nm_model.specs.declared.event.Op.TheVariants.{Delete}
+use Rattle.nm_order.specs.Facts.Fact.{CallIs}
 use Rattle.nm_steps.specs.Steps.{Stand}
 use Rattle.nm_calls.specs.declared.deleting.Removal.TheVariants as removal
 use Rattle.nm_calls.specs.Deletes.{IsRemoval}
@@ -46,3 +48,6 @@ returns-in-Refused-clause-few c = few_in_table c.args.shared.now c.args.pass.now
 
 pub returns-in-Spent-clause-few : goal.returns-in-Spent-clause-few
 returns-in-Spent-clause-few c = few_in_table c.args.shared.now c.args.pass.now c.remove.new.pass c.remove.new.queue.items c.requires.own c.remove.ensures.same c.remove.ensures.on.run c.remove.ensures.queue
+
+pub returns-in-Removed-clause-moment : goal.returns-in-Removed-clause-moment
+returns-in-Removed-clause-moment c = λ yes. c.answer.ensures.moment Delete c.args.key (c.remove.ensures.on.keeps (CallIs Delete c.args.key) c.requires.removing.call)

@@ -61,3 +61,13 @@ returns-clause-private c =
 
 pub make_room-requires : goal.make_room-requires
 make_room-requires c = record { few = may_grow_more c.loop-round.pass c.loop-round.queue.items c.loop-round.invariant.on.run c.loop-round.invariant.queue }
+
+pub returns-in-Found-clause-moment : goal.returns-in-Found-clause-moment
+returns-in-Found-clause-moment c =
+    let call = CallIs Insert c.args.key in
+    c.answer.ensures.moment Insert c.args.key (c.give_back-in-Found.ensures.on.keeps call (c.try_insert.ensures.on.keeps call (c.loop-round.invariant.on.keeps call c.requires.call)))
+
+pub returns-in-Linked-clause-moment : goal.returns-in-Linked-clause-moment
+returns-in-Linked-clause-moment c =
+    let call = CallIs Insert c.args.key in
+    c.answer-in-Linked.ensures.moment Insert c.args.key (c.try_insert.ensures.on.keeps call (c.loop-round.invariant.on.keeps call c.requires.call))

@@ -11,6 +11,7 @@ use Rattle.nm_epoch.proofs.Allowed.{may_leave}
 use Rattle.nm_calls.proofs.GoingOn.{only_then, pinned_still}
 use Rattle.nm_calls.proofs.LookUps.{is_pinned, knows_second, call_is, may_answer, missed}
 use Rattle.nm_calls.proofs.Adding.{Adds, most, adds_then, adds_these, has_won, cuts_none, within_call, mul_below, pin_adds, moved_adds, lost_walks_add, finds_adds}
+use Rattle.nm_calls.proofs.Moments.{moment_of}
 use Rattle.nm_calls.proofs.lookup.has.Goals as goal
 
 pub find-requires-clause-pinned : goal.find-requires-clause-pinned
@@ -125,3 +126,8 @@ returns-clause-steps c =
     let last = (adds_these _ p new (ap (λ (s : Stand). s.view.log) c.unpin.ensures.step)).steps in
     let few = mul-le-mul_right (most nodes) c.loop-walk.auto._walk-end in
     within_call nodes c.args.tries (length old) (length new) (2 * c.args.tries + c.args.tries * most nodes + 10) (omega (arith, pin, lost, last, few)) (omega arith)
+
+pub returns-in-Some-clause-moment : goal.returns-in-Some-clause-moment
+returns-in-Some-clause-moment c =
+    let call = call_is c.pin_for.new.pass c.in-Ok._epoch Has c.args.key c.in-Ok.ensures.at in
+    moment_of c.find.new.pass c.unpin_with.new.pass Has c.args.key _ (c.in-Some.ensures.on.keeps (CallIs Has c.args.key) (c.loop-walk.invariant.on.keeps (CallIs Has c.args.key) call)) c.unpin_with.ensures.step c.unpin_with.ensures.run

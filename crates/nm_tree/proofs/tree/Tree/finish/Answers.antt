@@ -55,3 +55,6 @@ returns-clause-queues c =
 pub returns-clause-did : goal.returns-clause-did
 returns-clause-did c = finished_so _ _ c.args.tries _ _ (record { pass = c.finish_with.new.pass; queues = slice_set c.worker.inside.queues.items c.worker.inside.home c.finish_with.new.own; pending = None; held = None })
     (Ok true) c.self.view_is c.worker.view_is (c.in-Pending.pending, ap pending_in c.in-Pending.is, refl, rw c.if-not-finish_with.false at c.finish_with.ensures.did)
+
+pub returns-clause-moment : goal.returns-clause-moment
+returns-clause-moment c = (c.in-Pending.pending, ap (λ (w : Hand). w.pending) (sym c.worker.view_is) ∙ ap pending_in c.in-Pending.is, c.finish_with.ensures.moment c.if-not-finish_with.false)
