@@ -79,19 +79,47 @@ fn drain(tree: &Tree, worker: &mut Worker) -> u64
     tree.collect(worker).freed
 }
 
+/// What the calls of a play answered at last, and how many nodes waited and were freed.
+#[derive(Clone, Copy)]
+struct Played {
+    answers: [Option<Result<bool, Fault>>; 4],
+    waiting: (u64, u64),
+    freed: (u64, u64),
+}
+
+/// Each worker deletes the key once that worker 0 has inserted.
+fn play(tree: &Tree, first: &mut Worker, second: &mut Worker, key: Key) -> Played
+    requires first { IsReady tree.now first.old }
+    requires second { IsReady tree.now second.old }
+{
+    let answers = [
+        insert(tree, first, key),
+        delete(tree, second, key),
+        insert(tree, first, key),
+        delete(tree, first, key),
+    ];
+    let waiting = (first.queue_len(), second.queue_len());
+    let freed = (drain(tree, first), drain(tree, second));
+    Played {
+        answers,
+        waiting,
+        freed,
+    }
+}
+
+/// Opens a tree and plays on it.
+fn play_anew(alloc: Global) -> Result<Played> {
+    let (tree, mut first, mut second) = open(alloc)?;
+    let key = Key::new(5).context("a key")?;
+    Ok(play(&tree, &mut first, &mut second, key))
+}
+
 fn main(rt: HostRuntime) -> Result<()> {
-    let (tree, mut first, mut second) = open(rt.alloc())?;
-    let five = Key::new(5).context("a key")?;
-    println!(rt; "0 insert 5 = {:?}", insert(&tree, &mut first, five))?;
-    println!(rt; "1 delete 5 = {:?}", delete(&tree, &mut second, five))?;
-    println!(rt; "0 insert 5 = {:?}", insert(&tree, &mut first, five))?;
-    println!(rt; "0 delete 5 = {:?}", delete(&tree, &mut first, five))?;
-    println!(rt; "waiting {} and {}", first.queue_len(), second.queue_len())?;
-    println!(rt;
-        "freed {} and {}",
-        drain(&tree, &mut first),
-        drain(&tree, &mut second)
-    )?;
-    println!(rt; "0 has 5 = {:?}", tree.has(&mut first, five, TRIES))?;
+    let played = play_anew(rt.alloc())?;
+    for answer in &played.answers {
+        println!(rt; "{answer:?}")?;
+    }
+    println!(rt; "waiting {} and {}", played.waiting.0, played.waiting.1)?;
+    println!(rt; "freed {} and {}", played.freed.0, played.freed.1)?;
     Ok(())
 }
