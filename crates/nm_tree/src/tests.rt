@@ -9,7 +9,10 @@ use nm_edge::Key;
 use std::process::Abort;
 use std::test::Fail;
 
+mod blocks;
+mod example;
 mod plays;
+mod readers;
 mod threads;
 
 /// A call of a worker.

@@ -12,7 +12,7 @@ const TRIES: u32 = 100;
 
 /// How many true answers a worker had.
 #[derive(Clone, Copy, Debug, PartialEq, Eq)]
-struct Score {
+pub(super) struct Score {
     inserted: u32,
     deleted: u32,
 }
@@ -59,7 +59,7 @@ fn rounds(tree: &Tree, mut worker: Worker, from: u32) -> (Worker, Score)
     (worker, so_far)
 }
 
-fn by_two<R: Threads + Sync>(
+pub(super) fn by_two<R: Threads + Sync>(
     rt: &R,
     tree: &Tree,
     one: Worker,

@@ -1,0 +1,33 @@
+//! The blocks of a worker's queue.
+ghost use Rattle.nm_tree.specs.Plays.{IsReady};
+
+use super::*;
+
+/// Inserts and deletes a key, moves the epoch on twice and collects: whether each call did so.
+fn round(tree: &Tree, worker: &mut Worker, key: Key) -> bool
+    requires { IsReady tree.now worker.old }
+    ensures { IsReady tree.now worker.new }
+{
+    let inserted = tree.insert(worker, key, 4) == Ok(true);
+    let deleted = tree.delete(worker, key, 4) == Ok(true);
+    let _ = tree.advance(worker);
+    let _ = tree.advance(worker);
+    let collected = tree.collect(worker);
+    inserted && deleted && collected.freed == 2
+}
+
+/// The first delete makes room for 128 entries in four blocks, and a later one needs a fifth, since a block is empty only once all of its
+/// places were used; from then on no block more is taken.
+#[test]
+fn blocks_are_used_again(rt: HostRuntime) -> Result<(), Fail> {
+    let (tree, mut first, _second) = two_of(&rt, 16)?;
+    let Some(key) = Key::new(5) else {
+        unreachable!()
+    };
+    for turn in 0..1000u32 {
+        assert_eq!(rt; round(&tree, &mut first, key), true);
+        let blocks = if turn == 0 { 4 } else { 5 };
+        assert_eq!(rt; first.queue_blocks(), blocks);
+    }
+    Ok(())
+}

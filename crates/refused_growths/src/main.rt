@@ -1,0 +1,125 @@
+//! Plays inserts and deletes whose growths may be refused. A call that is refused has changed nothing, and is made again: so each run prints the
+//! same lines, whichever one growth was refused in it (`bench/refused-growths.sh`).
+#![tactic(auto)]
+
+ghost use Rattle.std.specs.Prelude.{IfOk};
+ghost use Rattle.nm_tree.specs.Plays.{IsReady};
+
+use anyhow::{Context, Result};
+use nm_edge::Key;
+use nm_tree::{Fault, NewError, Tree, Worker};
+use std::alloc::Global;
+
+const TRIES: u32 = 4;
+
+/// A tree of 16 nodes and its two workers, made again where memory was refused.
+fn open(alloc: Global) -> Result<(Tree, Worker, Worker)>
+    ensures { IfOk result (λ r. IsReady r.0 r.1 × IsReady r.0 r.2) }
+{
+    let made = match Tree::new(alloc, 16, 2) {
+        Err(NewError::NoMemory) => Tree::new(alloc, 16, 2),
+        made => made,
+    };
+    let (tree, mut workers) = made.context("the tree")?;
+    let second = workers.pop().context("worker 1")?;
+    let first = workers.pop().context("worker 0")?;
+    Ok((tree, first, second))
+}
+
+/// What a call must leave where it is refused: whether the key is in the set, and how many nodes wait.
+fn seen(tree: &Tree, worker: &mut Worker, key: Key) -> (Result<bool, Fault>, u64)
+    requires { IsReady tree.now worker.old }
+    ensures { IsReady tree.now worker.new }
+{
+    (tree.has(worker, key, TRIES), worker.queue_len())
+}
+
+/// Inserts a key, once more where memory was refused. `None`: the refused call has changed something.
+fn insert(tree: &Tree, worker: &mut Worker, key: Key) -> Option<Result<bool, Fault>>
+    requires { IsReady tree.now worker.old }
+    ensures { IsReady tree.now worker.new }
+{
+    let before = seen(tree, worker, key);
+    let answer = tree.insert(worker, key, TRIES);
+    if answer != Err(Fault::NoMemory) {
+        return Some(answer);
+    }
+    if seen(tree, worker, key) != before {
+        return None;
+    }
+    Some(tree.insert(worker, key, TRIES))
+}
+
+/// Deletes a key, once more where memory was refused, and finishes what it left. `None`: the refused call has changed something.
+fn delete(tree: &Tree, worker: &mut Worker, key: Key) -> Option<Result<bool, Fault>>
+    requires { IsReady tree.now worker.old }
+    ensures { IsReady tree.now worker.new }
+{
+    let before = seen(tree, worker, key);
+    let answer = tree.delete(worker, key, TRIES);
+    if answer == Err(Fault::Unfinished) {
+        return Some(tree.finish(worker, TRIES));
+    }
+    if answer != Err(Fault::NoMemory) {
+        return Some(answer);
+    }
+    if seen(tree, worker, key) != before {
+        return None;
+    }
+    Some(tree.delete(worker, key, TRIES))
+}
+
+/// Moves the epoch on twice, and frees what is ripe.
+fn drain(tree: &Tree, worker: &mut Worker) -> u64
+    requires { IsReady tree.now worker.old }
+    ensures { IsReady tree.now worker.new }
+{
+    let _ = tree.advance(worker);
+    let _ = tree.advance(worker);
+    tree.collect(worker).freed
+}
+
+/// What the calls of a play answered at last, and how many nodes waited and were freed.
+#[derive(Clone, Copy)]
+struct Played {
+    answers: [Option<Result<bool, Fault>>; 4],
+    waiting: (u64, u64),
+    freed: (u64, u64),
+}
+
+/// Each worker deletes the key once that worker 0 has inserted.
+fn play(tree: &Tree, first: &mut Worker, second: &mut Worker, key: Key) -> Played
+    requires first { IsReady tree.now first.old }
+    requires second { IsReady tree.now second.old }
+{
+    let answers = [
+        insert(tree, first, key),
+        delete(tree, second, key),
+        insert(tree, first, key),
+        delete(tree, first, key),
+    ];
+    let waiting = (first.queue_len(), second.queue_len());
+    let freed = (drain(tree, first), drain(tree, second));
+    Played {
+        answers,
+        waiting,
+        freed,
+    }
+}
+
+/// Opens a tree and plays on it.
+fn play_anew(alloc: Global) -> Result<Played> {
+    let (tree, mut first, mut second) = open(alloc)?;
+    let key = Key::new(5).context("a key")?;
+    Ok(play(&tree, &mut first, &mut second, key))
+}
+
+fn main(rt: HostRuntime) -> Result<()> {
+    let played = play_anew(rt.alloc())?;
+    for answer in &played.answers {
+        println!(rt; "{answer:?}")?;
+    }
+    println!(rt; "waiting {} and {}", played.waiting.0, played.waiting.1)?;
+    println!(rt; "freed {} and {}", played.freed.0, played.freed.1)?;
+    Ok(())
+}
