@@ -1,6 +1,7 @@
 pub mod QueueLists
 pub mod Quiet
 pub mod HeldLedgers
+pub mod Numbers
 pub mod Staying
 pub mod Changing
 pub mod OwnQueue

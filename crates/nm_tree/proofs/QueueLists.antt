@@ -49,6 +49,13 @@ has_after x zero o (h ∷ hs) g s e (inr has) = inr has
 has_after x (suc i) o (h ∷ hs) g s e (inl is) = inl is
 has_after x (suc i) o (h ∷ hs) g s e (inr has) = inr (has_after x i o hs g s e has)
 
+pub had_before : (x i o : ℕ) (hs : List HeldQueue) (g : HeldQueue) → StandsAt i o hs → g.origin ≡ o → HasOrigin x (slice_set hs i g) → HasOrigin x hs
+had_before x i o [] g s e has = absurd s
+had_before x zero o (h ∷ hs) g s e (inl is) = inl (s ∙ sym e ∙ is)
+had_before x zero o (h ∷ hs) g s e (inr has) = inr has
+had_before x (suc i) o (h ∷ hs) g s e (inl is) = inl is
+had_before x (suc i) o (h ∷ hs) g s e (inr has) = inr (had_before x i o hs g s e has)
+
 pub above_after : (x i o : ℕ) (hs : List HeldQueue) (g : HeldQueue) → StandsAt i o hs → g.origin ≡ o → AreAbove x hs → AreAbove x (slice_set hs i g)
 above_after x i o [] g s e above = absurd s
 above_after x zero o (h ∷ hs) g s e above = let P : ℕ → Type 0 = λ n. (x < n) × AreAbove n hs in subst P (s ∙ sym e) above

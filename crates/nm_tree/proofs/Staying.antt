@@ -25,6 +25,7 @@ use Rattle.nm_tree.specs.declared.worker.Standing.TheVariants as standing
 use Rattle.nm_tree.specs.declared.worker.Unfinished.{Unfinished}
 use Rattle.nm_tree.specs.Workers.{Hand, pending_in, held_in, IsAs, IsHolding, IsBetweenCalls, IsWorker, IsAccount, AreAccounts, HasOrigin, StandsAt, log_of, ledger_in}
 use Rattle.nm_tree.proofs.QueueLists.{queue_stays}
+use Rattle.nm_tree.proofs.Numbers.{numbers_stay, room_stays}
 use Rattle.nm_tree.proofs.Quiet.{Quiet, each_as_before}
 
 -- ---- queues and accounts
@@ -59,10 +60,10 @@ accounts_stay p q (h ∷ hs) (a ∷ xs) same none' ledgers are = (account_stays 
 -- ---- a whole worker
 
 -- nothing in its hands has changed, and nothing was won
-pub stays : (w : Hand) (xs : List Account) (home : ℕ) (q : Stand) (n : Option Unfinished) (e : Option ℕ) → IsWorker w xs home → IsSamePass w.pass q → Quiet w.pass.view.log q.view.log
+pub stays : {r s : ℕ} (w : Hand) (xs : List Account) (home : ℕ) (q : Stand) (n : Option Unfinished) (e : Option ℕ) → IsWorker w xs home r s → IsSamePass w.pass q → Quiet w.pass.view.log q.view.log
     → (knowledge q.view).drafts ≡ (knowledge w.pass.view).drafts → (knowledge q.view).ledgers ≡ (knowledge w.pass.view).ledgers → IsAs q n e
-    → IsWorker (record { pass = q; queues = w.queues; pending = n; held = e }) xs home
-stays w xs home q n e is same none' drafts ledgers stands =
+    → IsWorker (record { pass = q; queues = w.queues; pending = n; held = e }) xs home r s
+stays {r} {s} w xs home q n e is same none' drafts ledgers stands =
     let P : ℕ → Type 0 = λ number. StandsAt home number w.queues in
     record {
       between = record {
@@ -75,6 +76,9 @@ stays w xs home q n e is same none' drafts ledgers stands =
       accounts = accounts_stay w.pass q w.queues xs same none' (λ o. ap (λ (ls : List (Option Ledger)). unwrap_or (held ls o) fresh_ledger) ledgers) is.accounts;
       own = subst P (sym (ap (λ (x : Stand). x.view.number) same)) is.own;
       few = is.few;
+      numbers = numbers_stay w.pass q w.queues same is.numbers;
+      room = room_stays w.pass q r same is.room;
+      account_room = room_stays w.pass q s same is.account_room;
     }
 
 -- ---- where it stands
