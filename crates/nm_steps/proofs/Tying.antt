@@ -31,6 +31,7 @@ stands_in_run L words views id v k at alive layout =
     let once : (w : ℕ) → stands w v ≤ once_below w L.workers = λ w. omega (arith, at_most_sum (stands w) views id v at, k.once w) in
     let below : v.number < L.workers = (once_is v.number L.workers).1 (omega (arith, once v.number, stands_live v alive)) in
     record {
+      alive = alive;
       fits = subst IsLayout (sym layout) k.fits;
       run = record {
         is_part = subst (λ (l : Layout). Rattle.nm_order.specs.Logs.IsLogOf l v.number v.log) (sym layout) (record { worker = below; turns = k.turns; keys = k.keys; is_part = sym mine.1 });

@@ -1,16 +1,14 @@
 -- What a worker is between two calls, after a call that may have changed its own queue.
-use Rattle.std.proofs.Common.{◌≡◌, ◌≢◌, ℕ, zero, suc, ◌+◌, ◌<◌, ◌≤◌, ◌⊎◌, inl, inr, Bool, true, false, List, [], ◌∷◌, ◌++◌, Option, Some, None, length, refl, sym, ap, ◌∙◌, subst, arith}
-use Rattle.std.specs.Prelude.{IsSome, unwrap_or, option_map, slice_index_or, slice_set, ◌==◌, if◌then◌else◌, map}
+use Rattle.std.proofs.Common.{◌≡◌, ◌≢◌, ℕ, zero, suc, ◌+◌, ◌<◌, ◌≤◌, inl, inr, Bool, true, false, List, [], ◌∷◌, Option, length, refl, sym, ap, ◌∙◌, subst, arith}
+use Rattle.std.specs.Prelude.{IsSome, unwrap_or, slice_index_or, slice_set, ◌==◌, if◌then◌else◌}
 use Rattle.std.proofs.Common.{length-set}
 use Rattle.std.proofs.lemmas.Bool.{ne_eqb, eq-eqb}
 use Rattle.std.proofs.lemmas.Bool.Decides.{eqb_tells}
 use Rattle.nm_edge.specs.Layouts.{Layout}
-use Rattle.nm_edge.specs.declared.node.NodeId.{NodeId}
 use Rattle.nm_model.specs.declared.ledger.Ledger.{Ledger}
 use Rattle.nm_model.specs.Ledgers.{held, fresh_ledger}
 use Rattle.nm_model.specs.Maps.{get}
 use Rattle.nm_model.specs.Walks.{Entry as LogEntry}
-use Rattle.nm_model.specs.Knowledge.{Knowledge}
 use Rattle.nm_steps.specs.declared.view.View.{View}
 use Rattle.nm_steps.specs.Rules.{knowledge}
 use Rattle.nm_steps.specs.Steps.{Stand, IsSamePass}
@@ -19,8 +17,8 @@ use Rattle.nm_epoch.specs.Collecting.{AreHeld, NoneHas, IsQueueOf}
 use Rattle.nm_calls.specs.Won.{capped, won_links, won_flags, won_splices}
 use Rattle.nm_tree.specs.declared.worker.Account.{Account}
 use Rattle.nm_tree.specs.declared.worker.Unfinished.{Unfinished}
-use Rattle.nm_tree.specs.Workers.{Hand, IsAs, IsBetweenCalls, IsWorker, IsAccount, AreAccounts, IsKept, AreOf, HasOrigin, StandsAt, OnlyOwnLedger, log_of, log_among, ledger_in}
-use Rattle.nm_tree.proofs.QueueLists.{stands_within, stands_there, stands_after, held_there, held_after, has_after, had_before, ascend_after, not_none, origin_at}
+use Rattle.nm_tree.specs.Workers.{Hand, IsAs, IsWorker, IsAccount, AreAccounts, IsKept, AreOf, HasOrigin, StandsAt, OnlyOwnLedger, log_of, log_among, ledger_in}
+use Rattle.nm_tree.proofs.QueueLists.{stands_there, stands_after, held_there, held_after, has_after, had_before, ascend_after, not_none, origin_at}
 use Rattle.nm_tree.proofs.Numbers.{numbers_stay, room_stays}
 
 -- ---- logs and ledgers of others

@@ -1,6 +1,6 @@
 -- Queues and accounts after a collection.
-use Rattle.std.proofs.Common.{◌≡◌, ◌≢◌, ℕ, zero, suc, ◌+◌, ◌-◌, ◌<◌, ◌≤◌, ◌⊎◌, inl, inr, true, false, List, [], ◌∷◌, length, refl, sym, ap, ◌∙◌, subst, arith, drop}
-use Rattle.std.specs.Prelude.{Bool, Option, Some, None, IsSome, min, cond}
+use Rattle.std.proofs.Common.{◌≡◌, ℕ, zero, suc, ◌+◌, ◌-◌, ◌<◌, ◌≤◌, ◌⊎◌, inl, inr, true, false, List, [], ◌∷◌, length, refl, sym, ap, ◌∙◌, subst, arith, drop}
+use Rattle.std.specs.Prelude.{Bool, Option, IsSome, cond}
 use Rattle.std.specs.List.{prefix_len}
 use Rattle.std.proofs.lemmas.List.{length-drop}
 use Rattle.std.proofs.lemmas.Bool.Decides.{eqb_tells}
@@ -12,7 +12,7 @@ use Rattle.nm_steps.specs.Rules.{knowledge}
 use Rattle.nm_steps.specs.Steps.{Stand, IsSamePass, IsInRun}
 use Rattle.nm_epoch.specs.declared.collecting.Entry.{Entry}
 use Rattle.nm_epoch.specs.declared.collecting.HeldQueue.{HeldQueue}
-use Rattle.nm_epoch.specs.Collecting.{IsQueueOf, AreHeld, NoneHas, HaveLost, KeepsOthers, KeepsRetired, rest_of, is_ripe, ledgers_seen}
+use Rattle.nm_epoch.specs.Collecting.{IsQueueOf, AreHeld, NoneHas, HaveLost, KeepsOthers, KeepsRetired, rest_of, is_ripe}
 use Rattle.nm_epoch.specs.Resting.{epochs}
 use Rattle.nm_calls.specs.Won.{capped, won_links, won_flags, won_splices}
 use Rattle.nm_tree.specs.declared.worker.Account.{Account}
@@ -42,7 +42,7 @@ paired epoch p (h ∷ hs) (g ∷ gs) (a ∷ xs) lost are =
 
 -- ---- the same origins
 
-has_or_none : (o : ℕ) (hs : List HeldQueue) → HasOrigin o hs ⊎ NoneHas o hs
+pub has_or_none : (o : ℕ) (hs : List HeldQueue) → HasOrigin o hs ⊎ NoneHas o hs
 has_or_none o [] = inr tt
 has_or_none o (h ∷ hs) = elim (eqb_tells h.origin o) [
   | inl is ↦ inl (inl is.1)
@@ -52,7 +52,7 @@ has_or_none o (h ∷ hs) = elim (eqb_tells h.origin o) [
   ]
 ]
 
-not_both : (o : ℕ) (hs : List HeldQueue) → HasOrigin o hs → NoneHas o hs → ⊥
+pub not_both : (o : ℕ) (hs : List HeldQueue) → HasOrigin o hs → NoneHas o hs → ⊥
 not_both o [] has none' = absurd has
 not_both o (h ∷ hs) (inl is) none' = none'.0 (sym is)
 not_both o (h ∷ hs) (inr has) none' = not_both o hs has none'.1

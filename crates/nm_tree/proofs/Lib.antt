@@ -9,3 +9,6 @@ pub mod Freeing
 pub mod Opening
 pub mod Telling
 pub mod Ledgers
+pub mod Merging
+pub mod Heirs
+pub mod United

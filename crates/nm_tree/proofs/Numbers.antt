@@ -1,10 +1,9 @@
 -- The workers for whom a pass stands, and the room for their queues.
-use Rattle.std.proofs.Common.{◌≡◌, ℕ, ◌≤◌, ◌⊎◌, inl, inr, List, refl, sym, ap, ◌∙◌, subst, arith}
+use Rattle.std.proofs.Common.{◌≡◌, ℕ, ◌≤◌, ◌⊎◌, inl, inr, List, sym, ap, ◌∙◌, subst, arith}
 use Rattle.nm_steps.specs.declared.view.Held.{Held}
-use Rattle.nm_steps.specs.declared.view.View.{View}
 use Rattle.nm_steps.specs.Steps.{Stand, IsSamePass}
 use Rattle.nm_epoch.specs.declared.collecting.HeldQueue.{HeldQueue}
-use Rattle.nm_tree.specs.Workers.{AreOf, HasNumber, HasOrigin}
+use Rattle.nm_tree.specs.Workers.{AreOf, HasNumber}
 
 pub numbers_stay : (p q : Stand) (hs : List HeldQueue) → IsSamePass p q → AreOf p.view hs → AreOf q.view hs
 numbers_stay p q hs same is =
