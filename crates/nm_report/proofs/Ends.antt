@@ -9,7 +9,7 @@ use Rattle.nm_edge.specs.Words.{Field, at_edge, IsField, IsSlot, pool_place, wor
 use Rattle.nm_edge.specs.declared.edge.Side.{Side}
 use Rattle.nm_edge.proofs.Packing.{unpacked_word}
 use Rattle.nm_edge.proofs.Words.{fields_within}
-use Rattle.nm_model.specs.Memory.{Memory, edge, in_pool}
+use Rattle.nm_model.specs.Memory.{Memory, child, edge, in_pool}
 use Rattle.nm_model.specs.Reports.{tree_slots}
 use Rattle.nm_model.specs.Laws.{OfEachState}
 use Rattle.nm_model.specs.Lawful.{CountsAddUp}
@@ -48,6 +48,9 @@ module _ (L : Layout) (ws : List ℕ) (e : IsEndOf L ws) where
 
   pub in_range : InRange L s.memory
   in_range = subst (λ (l : Layout). InRange l s.memory) layout_is (holds StateIsInRange each_state_in_range)
+
+  pub low_child : (x : ℕ) (side : Side) → child s.memory x side ≤ L.nodes
+  low_child x side = in_range.edges x side
 
   pub unmarked : NullEdgesAreUnmarked s
   unmarked = holds NullEdgesAreUnmarked each_null_unmarked

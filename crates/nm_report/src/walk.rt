@@ -22,20 +22,20 @@ pub struct Found {
 }
 
 // A key is found, if there is one.
-fn put_key(keys: &mut Vec<Key>, key: Option<Key>)
-    requires { length keys.old.items + length (option_to_list key) ≤ vec_capacity keys.old }
-    ensures items { keys.new.items ≡ keys.old.items ++ option_to_list key }
-    ensures room { vec_capacity keys.old ≤ vec_capacity keys.new }
+fn put_key(found: &mut Vec<Key>, key: Option<Key>)
+    requires { length found.old.items + length (option_to_list key) ≤ vec_capacity found.old }
+    ensures items { found.new.items ≡ found.old.items ++ option_to_list key }
+    ensures room { vec_capacity found.old ≤ vec_capacity found.new }
 {
     if let Some(key) = key {
-        keys.push(key).unwrap();
+        found.push(key).unwrap();
     }
 }
 
 // The parts below a node wait, the left one in front.
-fn put_below(waiting: &mut Vec<Subtree>, node: Node, depth: u32)
+fn put_below(waiting: &mut Vec<Subtree>, node: &Node, depth: u32)
     requires { length waiting.old.items + 2 ≤ vec_capacity waiting.old }
-    ensures items { waiting.new.items ≡ waiting.old.items ++ record { slot = node.right.slot; depth = depth } ∷ record { slot = node.left.slot; depth = depth } ∷ [] }
+    ensures items { waiting.new.items ≡ waiting.old.items ++ record { slot = node.now.right.slot; depth = depth } ∷ record { slot = node.now.left.slot; depth = depth } ∷ [] }
     ensures room { vec_capacity waiting.old ≤ vec_capacity waiting.new }
 {
     waiting
@@ -53,13 +53,13 @@ fn put_below(waiting: &mut Vec<Subtree>, node: Node, depth: u32)
 }
 
 // Finds the keys from left to right, and answers how many slots it visited.
-fn walk(words: &Words, layout: Layout, keys: &mut Vec<Key>, waiting: &mut Vec<Subtree>) -> u32
+fn walk(words: &Words, layout: Layout, found: &mut Vec<Key>, waiting: &mut Vec<Subtree>) -> u32
     requires ended { IsEndOf layout words.now }
-    requires first { keys.old.items ≡ [] }
+    requires first { found.old.items ≡ [] }
     requires root { waiting.old.items ≡ record { slot = 1; depth = layout.nodes } ∷ [] }
-    requires key_room { layout.nodes ≤ vec_capacity keys.old }
+    requires key_room { layout.nodes ≤ vec_capacity found.old }
     requires part_room { layout.nodes + 1 ≤ vec_capacity waiting.old }
-    ensures keys { (e : IsEndOf layout words.now) → keys.new.items ≡ keys (end_of layout words.now e) }
+    ensures keys { (e : IsEndOf layout words.now) → found.new.items ≡ keys (end_of layout words.now e) }
     ensures visited { (e : IsEndOf layout words.now) → result ≡ length (tree_slots layout.nodes (end_of layout words.now e).memory 1) }
 {
     let mut visited = 0;
@@ -67,8 +67,8 @@ fn walk(words: &Words, layout: Layout, keys: &mut Vec<Key>, waiting: &mut Vec<Su
         if part.slot != 0 && part.depth != 0 {
             let top = node(words, layout, part.slot);
             visited += 1;
-            put_key(keys, top.set_key());
-            put_below(waiting, top, part.depth - 1);
+            put_below(waiting, &top, part.depth - 1);
+            put_key(found, top.set_key());
         }
     }
     visited
