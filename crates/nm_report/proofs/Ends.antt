@@ -1,5 +1,5 @@
 -- What the words at the end of a run tell of the state there.
-use Rattle.std.proofs.Common.{◌≡◌, ◌≢◌, ℕ, ◌+◌, ◌-◌, ◌≤◌, ◌<◌, ◌^◌, ◌%◌, ◌/◌, ◌==◌, Bool, true, false, cond, List, length, refl, sym, ap, ◌∙◌, subst, arith}
+use Rattle.std.proofs.Common.{◌≡◌, ℕ, ◌-◌, ◌≤◌, ◌<◌, ◌^◌, ◌%◌, ◌==◌, Bool, true, false, cond, List, length, refl, sym, ap, ◌∙◌, subst, arith}
 use Rattle.std.specs.Prelude.{Some, bit_and, not, slice_index}
 use Rattle.std.proofs.lemmas.Bool.{ne_eqb}
 use Rattle.std.proofs.lemmas.Nat.{pow_pos}
@@ -9,7 +9,7 @@ use Rattle.nm_edge.specs.Words.{Field, at_edge, IsField, IsSlot, pool_place, wor
 use Rattle.nm_edge.specs.declared.edge.Side.{Side}
 use Rattle.nm_edge.proofs.Packing.{unpacked_word}
 use Rattle.nm_edge.proofs.Words.{fields_within}
-use Rattle.nm_model.specs.Memory.{Memory, child, edge, in_pool}
+use Rattle.nm_model.specs.Memory.{child, edge, in_pool}
 use Rattle.nm_model.specs.Reports.{tree_slots}
 use Rattle.nm_model.specs.Laws.{OfEachState}
 use Rattle.nm_model.specs.Lawful.{CountsAddUp}
@@ -18,7 +18,8 @@ use Rattle.nm_model.specs.Ordered.{ordered, after_in}
 use Rattle.nm_laws.proofs.Counts.{each_state_adds_up}
 use Rattle.nm_laws.proofs.Lawful.{lawful}
 use Rattle.nm_laws.proofs.Reachable.{layout_kept}
-use Rattle.nm_order.proofs.OrderedLaws.{IsOrdered, each_ordered}
+use Rattle.nm_order.specs.Intervals.{KeysAscend, KeysTellTheSet}
+use Rattle.nm_order.proofs.OrderedLaws.{IsOrdered, each_ordered, each_core_tells_the_set, each_key_ascends}
 use Rattle.nm_words.specs.Packing.{Fits, InRange, StateFits, StateIsInRange, NullEdgesAreUnmarked, field_word}
 use Rattle.nm_words.proofs.PackedEvents.{each_state_fits}
 use Rattle.nm_words.proofs.PackedSizes.{each_state_in_range}
@@ -86,3 +87,10 @@ module _ (L : Layout) (ws : List ℕ) (e : IsEndOf L ws) where
   few_reached =
       let sum = subst (λ (l : Layout). length (tree_slots l.nodes s.memory 1) - 5 ≤ l.nodes - 5) layout_is (let adds = holds CountsAddUp each_state_adds_up in omega (arith, adds)) in
       omega (arith, sum, enough)
+
+  -- the keys are the set, and ascend
+  pub keys_tell : KeysTellTheSet (after_in (ordered L) e.turns)
+  keys_tell = each_core_tells_the_set L enough e.turns e.keys
+
+  pub keys_ascend : KeysAscend (after_in (ordered L) e.turns)
+  keys_ascend = each_key_ascends L enough e.turns e.keys

@@ -2,8 +2,12 @@
 #![tactic(auto)]
 
 mod reading;
+mod report;
 mod room;
 mod walk;
 
+pub use report::{Found, read};
 pub use room::Room;
-pub use walk::{Found, read};
+
+#[cfg(test)]
+mod tests;

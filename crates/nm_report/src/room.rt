@@ -11,9 +11,9 @@ use std::marker::Model;
 /// It is made before the tree is closed, so that nothing can fail afterwards. A contract sees it as the layout of the tree.
 #[derive(Drop)]
 pub struct Room {
-    pub layout: Layout,
-    pub keys: Vec<Key>,
-    pub waiting: Vec<Subtree>,
+    pub(crate) layout: Layout,
+    pub(crate) keys: Vec<Key>,
+    pub(crate) waiting: Vec<Subtree>,
 }
 
 impl Model for Room {

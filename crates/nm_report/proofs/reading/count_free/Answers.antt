@@ -1,4 +1,4 @@
-use Rattle.std.proofs.Common.{◌+◌, ◌≤◌, sym, arith}
+use Rattle.std.proofs.Common.{sym, arith}
 use Rattle.nm_report.specs.Ended.{end_of}
 use Rattle.nm_report.proofs.Ends.{fits, pooled_above}
 use Rattle.nm_report.proofs.Pools.{none_below, all_counted}
@@ -9,7 +9,7 @@ loop-slot-init c = record {
   least = omega arith;
   few = omega arith;
   counted = λ e. let size = (fits c.args.layout c.args.words.now e).pool in let least = e.fits.least in
-  sym (none_below (end_of c.args.layout c.args.words.now e).memory.pool 6 (omega arith) (omega (arith, size, least)) (pooled_above c.args.layout c.args.words.now e));
+      sym (none_below (end_of c.args.layout c.args.words.now e).memory.pool 6 (omega arith) (omega (arith, size, least)) (pooled_above c.args.layout c.args.words.now e));
 }
 
 pub returns : goal.returns

@@ -2,7 +2,7 @@ use Rattle.std.proofs.Common.{◌≡◌, ℕ, ◌<◌, length, refl, subst, sym,
 use Rattle.std.specs.Prelude.{Option, Some, IsSome, slice_index}
 use Rattle.std.proofs.lemmas.Option.{same_Some}
 use Rattle.nm_edge.specs.Edges.{Edge, unpacked}
-use Rattle.nm_edge.specs.Words.{at_edge, word}
+use Rattle.nm_edge.specs.Words.{at_edge}
 use Rattle.nm_model.specs.Memory.{edge}
 use Rattle.nm_report.specs.Ended.{IsEndOf, end_of}
 use Rattle.nm_report.proofs.Ends.{within, edge_told}

@@ -1,6 +1,6 @@
-use Rattle.std.proofs.Common.{◌≡◌, ℕ, ◌<◌, ◌-◌, ◌/◌, ◌==◌, length, subst, sym, ap, ap₂, ◌∙◌, List}
+use Rattle.std.proofs.Common.{ℕ, ◌<◌, ◌-◌, ◌/◌, ◌==◌, length, subst, sym, ap, ap₂, ◌∙◌}
 use Rattle.std.specs.Prelude.{slice_index, bit_and, not}
-use Rattle.nm_edge.specs.Words.{at_row, word, pool_place}
+use Rattle.nm_edge.specs.Words.{at_row}
 use Rattle.nm_edge.specs.declared.layout.PoolPlace.{PoolPlace}
 use Rattle.nm_edge.proofs.Words.{places_are_rows}
 use Rattle.nm_report.proofs.Ends.{within, bit_told}

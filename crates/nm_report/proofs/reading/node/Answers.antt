@@ -1,6 +1,6 @@
-use Rattle.std.proofs.Common.{◌≡◌, ℕ, ◌<◌, length, subst, sym, ap, ◌∙◌, List}
+use Rattle.std.proofs.Common.{ℕ, ◌<◌, length, subst, sym, ap, ◌∙◌}
 use Rattle.std.specs.Prelude.{slice_index}
-use Rattle.nm_edge.specs.Words.{at_key, at_birth, word}
+use Rattle.nm_edge.specs.Words.{at_key, at_birth}
 use Rattle.nm_report.proofs.Ends.{within, tells}
 use Rattle.nm_report.proofs.reading.node.Goals as goal
 

@@ -1,11 +1,10 @@
-use Rattle.std.proofs.Common.{◌≡◌, ℕ, ◌+◌, ◌≤◌, ◌++◌, List, length, sym, ap, ◌∙◌, arith, rules}
+use Rattle.std.proofs.Common.{ℕ, ◌++◌, length, sym, ap, ◌∙◌, arith, rules}
 use Rattle.std.specs.Prelude.{Option, option_to_list}
 use Rattle.std.proofs.lemmas.List.{length-append}
 use Rattle.nm_edge.specs.Layouts.{Layout}
-use Rattle.nm_model.specs.Memory.{Memory}
-use Rattle.nm_model.specs.Reports.{keys, keys_below, set_key}
+use Rattle.nm_model.specs.Reports.{keys_below}
 use Rattle.nm_model.proofs.SetKeys.{none_there}
-use Rattle.nm_report.specs.Ended.{IsEndOf, end_of}
+use Rattle.nm_report.specs.Ended.{end_of}
 use Rattle.nm_report.proofs.Ends.{layout_is, low_child, few_reached}
 use Rattle.nm_report.proofs.Parts.{begun, passed, part_within, gone_on, room_left, all_found, all_visited, popped_fewer, visited_fewer}
 use Rattle.nm_report.proofs.walk.walk.Goals as goal
@@ -58,8 +57,8 @@ loop-part-smaller-then-part-ne0-2 c = visited_fewer c.loop-part.waiting.items c.
 pub loop-part-preserved-then-part-ne0-2 : goal.loop-part-preserved-then-part-ne0-2
 loop-part-preserved-then-part-ne0-2 c = record {
   walk = λ e. gone_on c.args.layout.nodes (end_of c.args.layout c.args.words.now e).memory c.loop-part.visited c.loop-part.found.items c.put_key.new.found.items c.loop-part.waiting.items c.pop.new.self.items c.put_below.new.waiting.items c.in-Some.part c.node-top.result
-  (low_child c.args.layout c.args.words.now e) c.in-Some.ensures.items c.if-part-ne0.true c.if-part-ne0-2.true (c.node-top.ensures e)
-  (c.put_key.ensures.items ∙ ap (λ (o : Option ℕ). c.loop-part.found.items ++ option_to_list o) c.set_key.ensures) c.put_below.ensures.items (c.loop-part.invariant.walk e);
+      (low_child c.args.layout c.args.words.now e) c.in-Some.ensures.items c.if-part-ne0.true c.if-part-ne0-2.true (c.node-top.ensures e)
+      (c.put_key.ensures.items ∙ ap (λ (o : Option ℕ). c.loop-part.found.items ++ option_to_list o) c.set_key.ensures) c.put_below.ensures.items (c.loop-part.invariant.walk e);
   stack =
       let size = ap length c.in-Some.ensures.items ∙ length-append c.pop.new.self.items _ in
       let next = ap length c.put_below.ensures.items ∙ length-append c.pop.new.self.items _ in
@@ -74,7 +73,7 @@ loop-part-smaller c = popped_fewer c.loop-part.waiting.items c.pop.new.self.item
 pub loop-part-preserved : goal.loop-part-preserved
 loop-part-preserved c = record {
   walk = λ e. passed c.args.layout.nodes (end_of c.args.layout c.args.words.now e).memory c.loop-part.visited c.loop-part.found.items c.loop-part.waiting.items c.pop.new.self.items c.in-Some.part c.in-Some.ensures.items
-  (none_there c.in-Some.part.slot c.in-Some.part.depth c.else-part-ne0.either) (c.loop-part.invariant.walk e);
+      (none_there c.in-Some.part.slot c.in-Some.part.depth c.else-part-ne0.either) (c.loop-part.invariant.walk e);
   stack =
       let size = ap length c.in-Some.ensures.items ∙ length-append c.pop.new.self.items _ in
       omega (arith, size, c.loop-part.invariant.stack);

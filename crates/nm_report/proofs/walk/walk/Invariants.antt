@@ -1,4 +1,4 @@
-use Rattle.std.proofs.Common.{ℕ, ◌+◌, ◌≤◌, length}
+use Rattle.std.proofs.Common.{◌+◌, ◌≤◌, length}
 use Rattle.std.specs.Prelude.{vec_capacity}
 use Rattle.nm_report.specs.Ended.{IsEndOf, end_of}
 use Rattle.nm_report.proofs.Parts.{IsWalk, steps}
