@@ -10,6 +10,7 @@ use std::process::Abort;
 use std::test::Fail;
 
 mod blocks;
+mod endings;
 mod example;
 mod plays;
 mod readers;
