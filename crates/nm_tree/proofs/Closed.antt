@@ -13,6 +13,10 @@ use Rattle.nm_epoch.specs.Collecting.{AreHeld}
 use Rattle.nm_tree.specs.declared.worker.Account.{Account}
 use Rattle.nm_tree.specs.Workers.{Hand, IsWorker, HasOrigin, AreAbove, Ascend}
 use Rattle.nm_tree.specs.Closing.{AreAllOf, AreFrom, IsClosed, all_joined, all_merged, given_in}
+use Rattle.nm_order.proofs.HistoryLaws.{each_run_has_a_history}
+use Rattle.nm_order.proofs.TotalsOfLogs.{totals_are_in_the_logs}
+use Rattle.nm_order.proofs.TotalsOfRuns.{each_total_agrees}
+use Rattle.nm_tree.proofs.EndLaws.{enough_nodes, set_of, ascend_of, settled_of}
 use Rattle.nm_tree.proofs.Heirs.{logs, times, has_times}
 use Rattle.nm_tree.proofs.Merging.{length-merged}
 
@@ -99,4 +103,10 @@ module _ (b : Board) (w : Hand) (xs : List Account) (home r s : ℕ) (ws : List 
     keys_are = keys_are the_end;
     free_are = free_are the_end;
     reached_are = reached_are the_end;
+    set = set_of b.layout end.fits end.turns end.keys kept (keys_are the_end);
+    ascend = ascend_of b.layout end.fits end.turns end.keys kept (keys_are the_end);
+    history = each_run_has_a_history b.layout (enough_nodes b.layout end.fits) end.turns end.keys;
+    totals = each_total_agrees b.layout (enough_nodes b.layout end.fits) end.turns end.keys;
+    logs = totals_are_in_the_logs b.layout (enough_nodes b.layout end.fits) end.turns end.keys;
+    settled = settled_of b.layout end.fits end.turns end.keys kept (keys_are the_end);
   }

@@ -12,4 +12,5 @@ pub mod Ledgers
 pub mod Merging
 pub mod Heirs
 pub mod United
+pub mod EndLaws
 pub mod Closed

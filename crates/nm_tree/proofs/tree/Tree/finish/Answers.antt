@@ -1,8 +1,8 @@
-use Rattle.std.proofs.Common.{None, ap, refl, ◌∙◌, arith}
+use Rattle.std.proofs.Common.{sym, None, ap, refl, ◌∙◌, arith}
 use Rattle.std.specs.Prelude.{Ok, slice_set}
 use Rattle.nm_model.specs.Maps.{get}
 use Rattle.nm_steps.specs.Steps.{Stand}
-use Rattle.nm_tree.specs.Workers.{pending_in}
+use Rattle.nm_tree.specs.Workers.{Hand, pending_in}
 use Rattle.nm_tree.proofs.QueueLists.{others_stay, others_after, stands_within}
 use Rattle.nm_tree.proofs.Changing.{accounts_within, kept_there, changed}
 use Rattle.nm_tree.proofs.Staying.{removing_in}
