@@ -5,16 +5,20 @@
 #![tactic(auto)]
 
 mod changes;
+mod closing;
 mod epochs;
 mod fault;
 mod lookup;
+mod resigning;
 #[cfg(test)]
 mod tests;
 mod tree;
 mod worker;
 
+pub use closing::{CloseError, CloseReason, Report};
 pub use fault::{Fault, PinFault};
-pub use nm_epoch::{Advance, Behind, Collected};
+pub use nm_epoch::{Advance, Behind, Collected, Entry, HeldQueue};
 pub use nm_model::NewError;
+pub use resigning::{ResignFault, ResignReason};
 pub use tree::Tree;
 pub use worker::{Counts, Worker};

@@ -10,10 +10,12 @@ use std::process::Abort;
 use std::test::Fail;
 
 mod blocks;
+mod endings;
 mod example;
 mod plays;
 mod readers;
 mod threads;
+mod totals;
 
 /// A call of a worker.
 #[derive(Clone, Copy)]

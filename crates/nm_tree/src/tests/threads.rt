@@ -13,8 +13,8 @@ const TRIES: u32 = 100;
 /// How many true answers a worker had.
 #[derive(Clone, Copy, Debug, PartialEq, Eq)]
 pub(super) struct Score {
-    inserted: u32,
-    deleted: u32,
+    pub(super) inserted: u32,
+    pub(super) deleted: u32,
 }
 
 /// One more, where the call was answered true.
