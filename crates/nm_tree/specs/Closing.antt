@@ -46,10 +46,10 @@ AreFrom i (h ∷ hs) = (h.origin ≡ i) × AreFrom (suc i) hs
 
 -- All workers of the tree were given, and one stands for all of them. Some run ends with the tree's words, of which their logs are the parts, and
 -- the report tells of its last state: one queue a worker, in the order of their numbers, with all that waits of it, as it was; the keys of the
--- reached leaves, which are the set's and ascend; and how many slots are free and reached. No slot is private, and as many are queued as wait in the queues, so that these with the free and the reached ones
--- are all slots but the five fixed ones. That run has a history, which ends with these keys; each key
--- stands on an unflagged edge as often as calls for it won a link less as often as they won a flag, by the logs of all workers; and with no delete
--- pending it is told that often, which is once or never
+-- reached leaves, which are the set's and ascend; and how many slots are free and reached. No slot is private, and as many are queued as wait in
+-- the queues, so that these with the free and the reached ones are all slots but the five fixed ones. That run has a history, which ends with these
+-- keys; each key stands on an unflagged edge as often as calls for it won a link less as often as they won a flag, by the logs of all workers; and
+-- with no delete pending it is told that often, which is once or never
 pub record IsClosed (b : Board) (ws : List Hand) (queues : List HeldQueue) (kept : List ℕ) (free reached : ℕ) : Type 0 where
   pub enough : b.layout.workers ≤ given_in ws
   pub words : List ℕ
