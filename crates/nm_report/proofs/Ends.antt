@@ -38,7 +38,7 @@ module _ (L : Layout) (ws : List ℕ) (e : IsEndOf L ws) where
   o = each_ordered L enough e.turns e.keys
 
   -- a law of all runs holds at this end
-  holds : (P : State → Type 0) → OfEachState P → P s
+  pub holds : (P : State → Type 0) → OfEachState P → P s
   holds P law = subst P (sym o.leads) (law L enough o.events)
 
   pub layout_is : s.layout ≡ L

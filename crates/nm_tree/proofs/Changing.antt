@@ -19,7 +19,7 @@ use Rattle.nm_tree.specs.declared.worker.Account.{Account}
 use Rattle.nm_tree.specs.declared.worker.Unfinished.{Unfinished}
 use Rattle.nm_tree.specs.Workers.{Hand, IsAs, IsWorker, IsAccount, AreAccounts, IsKept, AreOf, HasOrigin, StandsAt, OnlyOwnLedger, log_of, log_among, ledger_in}
 use Rattle.nm_tree.proofs.QueueLists.{stands_there, stands_after, held_there, held_after, has_after, had_before, ascend_after, not_none, origin_at}
-use Rattle.nm_tree.proofs.Numbers.{numbers_stay, room_stays}
+use Rattle.nm_tree.proofs.Numbers.{numbers_stay, resigned_stay, room_stays}
 
 -- ---- logs and ledgers of others
 
@@ -142,6 +142,7 @@ changed {r} {s} w xs home q n e g b is same kept others private stands =
       few = let P : ℕ → Type 0 = λ n. n ≤ 64 in subst P (sym (length-set w.queues home g)) is.few;
       own = let P : ℕ → Type 0 = λ o. StandsAt home o (slice_set w.queues home g) in subst P (sym number) (stands_after home w.pass.view.number home w.queues g is.own own);
       numbers = numbers_stay w.pass q (slice_set w.queues home g) same (numbers_after w.pass.view home w.pass.view.number w.queues g is.own own is.numbers);
+      resigned = resigned_stay w.pass q same is.resigned;
       alive = ap (λ (x : Stand). x.view.spent) same ∙ is.alive;
       room = room_stays w.pass q r same is.room;
       account_room = room_stays w.pass q s same is.account_room;

@@ -1,5 +1,5 @@
 -- What the end of a tree leaves.
-use Rattle.std.proofs.Common.{◌≡◌, ℕ, suc, ◌+◌, ◌<◌, ◌≤◌, inl, inr, List, [], ◌∷◌, ◌++◌, length, refl, ap, ◌∙◌, subst, arith}
+use Rattle.std.proofs.Common.{◌≡◌, ℕ, suc, ◌+◌, ◌-◌, ◌<◌, ◌≤◌, inl, inr, List, [], ◌∷◌, ◌++◌, length, refl, ap, ◌∙◌, subst, arith}
 use Rattle.std.proofs.lemmas.List.Sums.{sum_by-cons}
 use Rattle.nm_model.specs.Ordered.{ordered, after_in}
 use Rattle.nm_model.specs.Reports.{counts, keys}
@@ -11,12 +11,13 @@ use Rattle.nm_steps.proofs.Keeping.{live, once_is}
 use Rattle.nm_epoch.specs.declared.collecting.HeldQueue.{HeldQueue}
 use Rattle.nm_epoch.specs.Collecting.{AreHeld}
 use Rattle.nm_tree.specs.declared.worker.Account.{Account}
-use Rattle.nm_tree.specs.Workers.{Hand, IsWorker, HasOrigin, AreAbove, Ascend}
+use Rattle.nm_tree.specs.Workers.{Hand, IsWorker, HasOrigin, AreAbove, Ascend, waiting_in}
 use Rattle.nm_tree.specs.Closing.{AreAllOf, AreFrom, IsClosed, all_joined, all_merged, given_in}
 use Rattle.nm_order.proofs.HistoryLaws.{each_run_has_a_history}
 use Rattle.nm_order.proofs.TotalsOfLogs.{totals_are_in_the_logs}
 use Rattle.nm_order.proofs.TotalsOfRuns.{each_total_agrees}
 use Rattle.nm_tree.proofs.EndLaws.{enough_nodes, set_of, ascend_of, settled_of}
+use Rattle.nm_tree.proofs.EndCounts.{none_private, waiting_is, sum_is}
 use Rattle.nm_tree.proofs.Heirs.{logs, times, has_times}
 use Rattle.nm_tree.proofs.Merging.{length-merged}
 
@@ -87,6 +88,14 @@ module _ (b : Board) (w : Hand) (xs : List Account) (home r s : ℕ) (ws : List 
   the_end : IsEndOf b.layout words
   the_end = record { fits = end.fits; turns = end.turns; keys = end.keys; words_are = end.words_are }
 
+  sum_of : free + reached + waiting_in w.queues ≡ b.layout.nodes - 5
+  unfolding the_end
+  sum_of =
+      let sum = sum_is b.layout words the_end w xs home r s is end.shown in_order.0 in_order.1 in
+      let pool = free_are the_end in
+      let tree = reached_are the_end in
+      omega (arith, sum, pool, tree)
+
   ends : Ends b.layout words (all_joined ws)
   ends = record { fits = end.fits; turns = end.turns; keys = end.keys; words_are = end.words_are; shown = subst (λ (v : View). Rattle.nm_steps.specs.Rules.IsShown b.layout (Rattle.nm_model.specs.Ordered.trace_in (ordered b.layout) end.turns) v) view end.shown; once = subst (λ (v : View). (o : ℕ) → stands o v ≤ once_below o b.layout.workers) view end.once }
 
@@ -103,6 +112,9 @@ module _ (b : Board) (w : Hand) (xs : List Account) (home r s : ℕ) (ws : List 
     keys_are = keys_are the_end;
     free_are = free_are the_end;
     reached_are = reached_are the_end;
+    private = none_private b.layout words the_end w xs home r s is end.shown in_order.0 in_order.1;
+    queued_are = waiting_is b.layout words the_end w xs home r s is end.shown in_order.0 in_order.1;
+    sum = sum_of;
     set = set_of b.layout end.fits end.turns end.keys kept (keys_are the_end);
     ascend = ascend_of b.layout end.fits end.turns end.keys kept (keys_are the_end);
     history = each_run_has_a_history b.layout (enough_nodes b.layout end.fits) end.turns end.keys;

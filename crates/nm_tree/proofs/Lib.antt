@@ -13,4 +13,5 @@ pub mod Merging
 pub mod Heirs
 pub mod United
 pub mod EndLaws
+pub mod EndCounts
 pub mod Closed

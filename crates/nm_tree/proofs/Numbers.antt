@@ -1,9 +1,10 @@
 -- The workers for whom a pass stands, and the room for their queues.
 use Rattle.std.proofs.Common.{◌≡◌, ℕ, ◌≤◌, ◌⊎◌, inl, inr, List, sym, ap, ◌∙◌, subst, arith}
+use Rattle.nm_edge.specs.Layouts.{Layout}
 use Rattle.nm_steps.specs.declared.view.Held.{Held}
 use Rattle.nm_steps.specs.Steps.{Stand, IsSamePass}
 use Rattle.nm_epoch.specs.declared.collecting.HeldQueue.{HeldQueue}
-use Rattle.nm_tree.specs.Workers.{AreOf, HasNumber}
+use Rattle.nm_tree.specs.Workers.{AreOf, HasNumber, HoldNothing}
 
 pub numbers_stay : (p q : Stand) (hs : List HeldQueue) → IsSamePass p q → AreOf p.view hs → AreOf q.view hs
 numbers_stay p q hs same is =
@@ -17,6 +18,12 @@ numbers_stay p q hs same is =
     there : {m n : ℕ} {xs ys : List Held} (o : ℕ) → m ≡ n → xs ≡ ys → (n ≡ o) ⊎ HasNumber o ys → (m ≡ o) ⊎ HasNumber o xs
     there o number others (inl is) = inl (number ∙ is)
     there o number others (inr has) = inr (let P : List Held → Type 0 = λ hs. HasNumber o hs in subst P (sym others) has)
+
+pub resigned_stay : (p q : Stand) → IsSamePass p q → HoldNothing p.view.layout p.view.others → HoldNothing q.view.layout q.view.others
+resigned_stay p q same are =
+    let P : Layout → Type 0 = λ L. HoldNothing L p.view.others in
+    let Q : List Held → Type 0 = λ hs. HoldNothing q.view.layout hs in
+    subst Q (sym (ap (λ (x : Stand). x.view.others) same)) (subst P (sym (ap (λ (x : Stand). x.view.layout) same)) are)
 
 pub room_stays : (p q : Stand) (r : ℕ) → IsSamePass p q → p.view.layout.workers ≤ r → q.view.layout.workers ≤ r
 room_stays p q r same room = let e = ap (λ (x : Stand). x.view.layout.workers) same in omega (arith, e, room)

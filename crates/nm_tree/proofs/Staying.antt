@@ -22,7 +22,7 @@ use Rattle.nm_tree.specs.declared.worker.Standing.TheVariants as standing
 use Rattle.nm_tree.specs.declared.worker.Unfinished.{Unfinished}
 use Rattle.nm_tree.specs.Workers.{Hand, pending_in, held_in, IsAs, IsHolding, IsWorker, IsAccount, AreAccounts, StandsAt, ledger_in}
 use Rattle.nm_tree.proofs.QueueLists.{queue_stays}
-use Rattle.nm_tree.proofs.Numbers.{numbers_stay, room_stays}
+use Rattle.nm_tree.proofs.Numbers.{numbers_stay, resigned_stay, room_stays}
 use Rattle.nm_tree.proofs.Quiet.{Quiet, each_as_before}
 
 -- ---- queues and accounts
@@ -74,6 +74,7 @@ stays {r} {s} w xs home q n e is same none' drafts ledgers stands =
       own = subst P (sym (ap (λ (x : Stand). x.view.number) same)) is.own;
       few = is.few;
       numbers = numbers_stay w.pass q w.queues same is.numbers;
+      resigned = resigned_stay w.pass q same is.resigned;
       alive = ap (λ (x : Stand). x.view.spent) same ∙ is.alive;
       room = room_stays w.pass q r same is.room;
       account_room = room_stays w.pass q s same is.account_room;

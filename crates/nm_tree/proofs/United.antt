@@ -1,17 +1,22 @@
 -- What a worker is that stands for another one too.
-use Rattle.std.proofs.Common.{◌≡◌, ℕ, suc, ◌+◌, ◌≤◌, ◌⊎◌, inl, inr, Bool, true, cond, List, [], ◌∷◌, ◌++◌, length, refl, sym, ap, ◌∙◌, subst, arith}
-use Rattle.std.specs.Prelude.{Option, Some, None, IsSome}
-use Rattle.std.proofs.lemmas.Bool.{eq-eqb}
+use Rattle.std.proofs.Common.{◌≡◌, ℕ, suc, ◌+◌, ◌≤◌, ◌⊎◌, ◌==◌, inl, inr, Bool, true, cond, List, [], ◌∷◌, ◌++◌, length, refl, sym, ap, ◌∙◌, subst, arith}
+use Rattle.std.specs.Prelude.{Option, Some, None, IsSome, replicate}
+use Rattle.std.proofs.lemmas.Bool.{cond-true, eq-eqb}
+use Rattle.std.proofs.lemmas.List.Folds.{sum_by-replicate}
 use Rattle.std.proofs.lemmas.Option.{none-some}
+use Rattle.nm_edge.specs.Layouts.{Layout}
 use Rattle.nm_model.specs.declared.event.Event.TheVariants.{Join}
 use Rattle.nm_model.specs.declared.knowledge.Draft.{Draft}
 use Rattle.nm_model.specs.declared.ledger.Ledger.{Ledger}
 use Rattle.nm_model.specs.declared.reply.Reply.TheVariants.{Joined}
 use Rattle.nm_model.specs.Knowledge.{Knowledge}
-use Rattle.nm_model.specs.Ledgers.{held}
+use Rattle.nm_model.specs.Learning.{learn, resigned, inheriting}
+use Rattle.nm_model.specs.Ledgers.{held, queue_of}
 use Rattle.nm_model.specs.Maps.{get}
+use Rattle.nm_model.specs.Reports.{in_queues}
 use Rattle.nm_model.specs.Searches.{Search, searched, idle}
 use Rattle.nm_model.proofs.Tables.{at_eqb}
+use Rattle.nm_order.specs.Logs.{known_by}
 use Rattle.nm_order.proofs.HeldSlots.{hands_are_apart}
 use Rattle.nm_order.proofs.LastEntries.{search_more}
 use Rattle.nm_steps.specs.declared.view.Held.{Held}
@@ -19,12 +24,13 @@ use Rattle.nm_steps.specs.declared.view.View.{View}
 use Rattle.nm_steps.specs.Rules.{held as is_held, knowledge, passing, joined}
 use Rattle.nm_steps.specs.Steps.{Stand, HasEmptyHands, IsInRun}
 use Rattle.nm_steps.specs.Ties.{StandsInRun}
+use Rattle.nm_steps.proofs.Presence.{known_push}
 use Rattle.nm_epoch.specs.declared.collecting.HeldQueue.{HeldQueue}
 use Rattle.nm_epoch.specs.Collecting.{AreHeld}
 use Rattle.nm_epoch.specs.Resting.{Settles, search}
 use Rattle.nm_epoch.proofs.FewQueues.{few}
 use Rattle.nm_tree.specs.declared.worker.Account.{Account}
-use Rattle.nm_tree.specs.Workers.{Hand, IsAs, IsBetweenCalls, IsWorker, AreAccounts, AreOf, HasNumber, HasOrigin, StandsAt}
+use Rattle.nm_tree.specs.Workers.{Hand, IsAs, IsBetweenCalls, IsWorker, AreAccounts, AreOf, HasNumber, HasOrigin, HoldsNothing, HoldNothing, StandsAt}
 use Rattle.nm_tree.specs.Resigning.{place_in, merged, merged_accounts}
 use Rattle.nm_tree.proofs.Heirs.{logs, knows, first_held, second_held, none_apart, first_accounts, second_accounts, held_by_one}
 use Rattle.nm_tree.proofs.Merging.{length-merged, has_merged, merged_has, ascend_merged, held_merged, accounts_merged, stands_at_place}
@@ -41,6 +47,26 @@ no_drafts (d ∷ ds) none' = absurd (none-some d.1 (sym (none' d.0) ∙ first (a
 
 pub empty_hands : (u : Hand) → IsBetweenCalls u → HasEmptyHands (knowledge u.pass.view)
 empty_hands u is = record { drafts = no_drafts (knowledge u.pass.view).drafts is.private; labelled = labelled u.pass u.pending u.held is.stands }
+
+-- ---- who has resigned
+
+gone : (w : View) → known_by w.layout w.number (w.log ++ passing w ∷ []) ≡ resigned (knowledge w)
+unfolding learn
+gone w = known_push w.number w.layout w.log (passing w) ∙ cond-true (w.number == w.number) (resigned (knowledge w)) (inheriting (knowledge w) (knowledge w).ledgers) (eq-eqb w.number w.number refl)
+
+none_wait : (n : ℕ) → in_queues (replicate n None) ≡ 0
+none_wait n = let all = sum_by-replicate (λ (l : Option Ledger). length (queue_of l)) n None in omega (arith, all)
+
+-- a worker that resigned with empty hands holds nothing
+pub holds_nothing : (w : View) → HasEmptyHands (knowledge w) → HoldsNothing w.layout (is_held w.number (w.log ++ passing w ∷ []))
+holds_nothing w hands = record {
+  drafts = ap (λ (k : Knowledge). length k.drafts) (gone w) ∙ hands.drafts;
+  waiting = ap (λ (k : Knowledge). in_queues k.ledgers) (gone w) ∙ none_wait (length (knowledge w).ledgers);
+}
+
+hold_nothing_before : (L : Layout) (hs gs : List Held) → HoldNothing L hs → HoldNothing L gs → HoldNothing L (hs ++ gs)
+hold_nothing_before L [] gs first second = second
+hold_nothing_before L (h ∷ hs) gs first second = (first.0, hold_nothing_before L hs gs first.1 second)
 
 -- ---- as many accounts as queues
 
@@ -171,6 +197,8 @@ module _ {r s r' s' : ℕ} (p u : Hand) (xs ys : List Account) (home home' : ℕ
     few = let f = few_queues in let sum = length-merged p.queues u.queues in let most = run.fits.few in omega (arith, f, sum, most);
     own = stands_at_place v.number all ascends (all_numbers v.number (inl refl));
     numbers = record { each = each_number; all = all_numbers };
+    resigned = let P : Layout → Type 0 = λ L. HoldNothing L (is_held w.number (w.log ++ passing w ∷ []) ∷ w.others) in
+        hold_nothing_before v.layout v.others (is_held w.number (w.log ++ passing w ∷ []) ∷ w.others) is.resigned (subst P (sym same) (holds_nothing w (empty_hands u more.between), more.resigned));
     alive = is.alive;
     room = is.room;
     account_room = is.account_room;

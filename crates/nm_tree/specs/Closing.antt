@@ -1,5 +1,5 @@
 -- The end of a tree.
-use Rattle.std.specs.Prelude.{◌≡◌, ◌<◌, ◌≤◌, ◌↔◌, ℕ, suc, length, sum_by, List, [], ◌∷◌, AllPairs, Contains}
+use Rattle.std.specs.Prelude.{◌≡◌, ◌<◌, ◌≤◌, ◌↔◌, ◌+◌, ◌-◌, ℕ, suc, length, sum_by, List, [], ◌∷◌, AllPairs, Contains}
 use Rattle.nm_edge.specs.Keys.{IsKey}
 use Rattle.nm_model.specs.Memory.{infinity_0}
 use Rattle.nm_model.specs.Ordered.{ordered, after_in}
@@ -16,7 +16,7 @@ use Rattle.nm_epoch.specs.Collecting.{AreHeld}
 use Rattle.nm_tree.specs.declared.closing.CloseReason.{CloseReason}
 use Rattle.nm_tree.specs.declared.closing.CloseReason.TheVariants as because
 use Rattle.nm_tree.specs.Resigning.{merged}
-use Rattle.nm_tree.specs.Workers.{Hand}
+use Rattle.nm_tree.specs.Workers.{Hand, waiting_in}
 
 -- the workers are this tree's
 abbrev pub AreAllOf : Board → List Hand → Type 0
@@ -46,9 +46,10 @@ AreFrom i (h ∷ hs) = (h.origin ≡ i) × AreFrom (suc i) hs
 
 -- All workers of the tree were given, and one stands for all of them. Some run ends with the tree's words, of which their logs are the parts, and
 -- the report tells of its last state: one queue a worker, in the order of their numbers, with all that waits of it, as it was; the keys of the
--- reached leaves, which are the set's and ascend; and how many slots are free and reached. That run has a history, which ends with these keys; each key
--- stands on an unflagged edge as often as calls for it won a link less as often as they won a flag, by the logs of all workers; and with no delete
--- pending it is told that often, which is once or never
+-- reached leaves, which are the set's and ascend; and how many slots are free and reached. No slot is private, and as many are queued as wait in
+-- the queues, so that these with the free and the reached ones are all slots but the five fixed ones. That run has a history, which ends with these
+-- keys; each key stands on an unflagged edge as often as calls for it won a link less as often as they won a flag, by the logs of all workers; and
+-- with no delete pending it is told that often, which is once or never
 pub record IsClosed (b : Board) (ws : List Hand) (queues : List HeldQueue) (kept : List ℕ) (free reached : ℕ) : Type 0 where
   pub enough : b.layout.workers ≤ given_in ws
   pub words : List ℕ
@@ -60,6 +61,9 @@ pub record IsClosed (b : Board) (ws : List Hand) (queues : List HeldQueue) (kept
   pub keys_are : kept ≡ keys (after_in (ordered b.layout) ends.turns).state
   pub free_are : free ≡ (counts (after_in (ordered b.layout) ends.turns).state).pool
   pub reached_are : reached ≡ (counts (after_in (ordered b.layout) ends.turns).state).reached
+  pub private : (counts (after_in (ordered b.layout) ends.turns).state).private ≡ 0
+  pub queued_are : (counts (after_in (ordered b.layout) ends.turns).state).queued ≡ waiting_in queues
+  pub sum : free + reached + waiting_in queues ≡ b.layout.nodes - 5
   pub set : (k : ℕ) → Contains kept k ↔ InSet (after_in (ordered b.layout) ends.turns).state.memory k × (k < infinity_0)
   pub ascend : AllPairs (λ j k. j < k) kept
   pub history : HasHistory b.layout ends.turns

@@ -1,9 +1,12 @@
 -- A worker between two calls.
 use Rattle.std.specs.Prelude.{◌≡◌, ◌≢◌, ◌⊎◌, ◌<◌, ◌≤◌, ◌+◌, ◌-◌, ◌==◌, ℕ, zero, suc, false, if◌then◌else◌, map, sum_by, length, List, [], ◌∷◌, Option, Some, None, IsSome, unwrap_or}
+use Rattle.nm_edge.specs.Layouts.{Layout}
 use Rattle.nm_model.specs.declared.ledger.Ledger.{Ledger}
 use Rattle.nm_model.specs.Ledgers.{held, fresh_ledger}
 use Rattle.nm_model.specs.Maps.{get}
+use Rattle.nm_model.specs.Reports.{in_queues}
 use Rattle.nm_model.specs.Walks.{Entry}
+use Rattle.nm_order.specs.Logs.{known_by}
 use Rattle.nm_steps.specs.declared.view.Held.{Held}
 use Rattle.nm_steps.specs.declared.view.View.{View}
 use Rattle.nm_steps.specs.Rules.{knowledge, held as is_held}
@@ -179,8 +182,17 @@ pub record AreOf (v : View) (hs : List HeldQueue) : Type 0 where
   pub each : (o : ℕ) → HasOrigin o hs → HasNumber o (is_held v.number v.log ∷ v.others)
   pub all : (o : ℕ) → HasNumber o (is_held v.number v.log ∷ v.others) → HasOrigin o hs
 
--- these are its accounts, one a queue, 64 at most; the own queue stands at that index; the queues are those of the workers for whom it stands;
--- and there is room for r queues and s accounts, one of each worker
+-- by its log no slot is private to it, and no node waits in a queue that it holds
+pub record HoldsNothing (L : Layout) (h : Held) : Type 0 where
+  pub drafts : length (known_by L h.number h.log).drafts ≡ 0
+  pub waiting : in_queues (known_by L h.number h.log).ledgers ≡ 0
+
+abbrev pub HoldNothing : Layout → List Held → Type 0
+HoldNothing L [] = Unit {0}
+HoldNothing L (h ∷ hs) = HoldsNothing L h × HoldNothing L hs
+
+-- these are its accounts, one a queue, 64 at most; the own queue stands at that index; the queues are those of the workers for whom it stands,
+-- of which those that resigned hold nothing; and there is room for r queues and s accounts, one of each worker
 pub record IsWorker (w : Hand) (xs : List Account) (home r s : ℕ) : Type 0 where
   pub between : IsBetweenCalls w
   pub accounts : AreAccounts w.pass.view w.queues xs
@@ -188,6 +200,7 @@ pub record IsWorker (w : Hand) (xs : List Account) (home r s : ℕ) : Type 0 whe
   pub own : StandsAt home w.pass.view.number w.queues
   pub alive : w.pass.view.spent ≡ false
   pub numbers : AreOf w.pass.view w.queues
+  pub resigned : HoldNothing w.pass.view.layout w.pass.view.others
   pub room : w.pass.view.layout.workers ≤ r
   pub account_room : w.pass.view.layout.workers ≤ s
 
