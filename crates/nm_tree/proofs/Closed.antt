@@ -114,7 +114,7 @@ module _ (b : Board) (w : Hand) (xs : List Account) (home r s : ℕ) (ws : List 
     all = in_order.1;
     held = subst (λ (v : View). AreHeld (knowledge v) w.queues) view is.between.queues;
     accounted = subst (λ (v : View). (o : ℕ) (l : Ledger) → ledger_held (knowledge v).ledgers o ≡ Some l → l.retired ≡ l.freed ++ map node_in l.queue) view
-    (accounted_for b.layout words the_end w xs home r s is end.shown in_order.0 in_order.1);
+        (accounted_for b.layout words the_end w xs home r s is end.shown in_order.0 in_order.1);
     keys_are = keys_are the_end;
     free_are = free_are the_end;
     reached_are = reached_are the_end;
