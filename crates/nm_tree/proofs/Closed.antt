@@ -1,6 +1,10 @@
 -- What the end of a tree leaves.
 use Rattle.std.proofs.Common.{◌≡◌, ℕ, suc, ◌+◌, ◌-◌, ◌<◌, ◌≤◌, inl, inr, List, [], ◌∷◌, ◌++◌, length, refl, ap, ◌∙◌, subst, arith}
 use Rattle.std.proofs.lemmas.List.Sums.{sum_by-cons}
+use Rattle.std.specs.Prelude.{Some, map}
+use Rattle.nm_model.specs.declared.ledger.Ledger.{Ledger}
+use Rattle.nm_model.specs.Laws.{node_in}
+use Rattle.nm_model.specs.Ledgers.{held as ledger_held}
 use Rattle.nm_model.specs.Ordered.{ordered, after_in}
 use Rattle.nm_model.specs.Reports.{counts, keys}
 use Rattle.nm_report.specs.Ended.{IsEndOf, end_of}
@@ -17,7 +21,7 @@ use Rattle.nm_order.proofs.HistoryLaws.{each_run_has_a_history}
 use Rattle.nm_order.proofs.TotalsOfLogs.{totals_are_in_the_logs}
 use Rattle.nm_order.proofs.TotalsOfRuns.{each_total_agrees}
 use Rattle.nm_tree.proofs.EndLaws.{enough_nodes, set_of, ascend_of, settled_of}
-use Rattle.nm_tree.proofs.EndCounts.{none_private, waiting_is, sum_is}
+use Rattle.nm_tree.proofs.EndCounts.{none_private, waiting_is, sum_is, accounted_for}
 use Rattle.nm_tree.proofs.Heirs.{logs, times, has_times}
 use Rattle.nm_tree.proofs.Merging.{length-merged}
 
@@ -109,6 +113,8 @@ module _ (b : Board) (w : Hand) (xs : List Account) (home r s : ℕ) (ws : List 
     each = in_order.0;
     all = in_order.1;
     held = subst (λ (v : View). AreHeld (knowledge v) w.queues) view is.between.queues;
+    accounted = subst (λ (v : View). (o : ℕ) (l : Ledger) → ledger_held (knowledge v).ledgers o ≡ Some l → l.retired ≡ l.freed ++ map node_in l.queue) view
+        (accounted_for b.layout words the_end w xs home r s is end.shown in_order.0 in_order.1);
     keys_are = keys_are the_end;
     free_are = free_are the_end;
     reached_are = reached_are the_end;

@@ -1,6 +1,9 @@
 -- The end of a tree.
-use Rattle.std.specs.Prelude.{◌≡◌, ◌<◌, ◌≤◌, ◌↔◌, ◌+◌, ◌-◌, ℕ, suc, length, sum_by, List, [], ◌∷◌, AllPairs, Contains}
+use Rattle.std.specs.Prelude.{◌≡◌, ◌<◌, ◌≤◌, ◌↔◌, ◌+◌, ◌-◌, ℕ, suc, length, sum_by, List, [], ◌∷◌, ◌++◌, map, Some, AllPairs, Contains}
 use Rattle.nm_edge.specs.Keys.{IsKey}
+use Rattle.nm_model.specs.declared.ledger.Ledger.{Ledger}
+use Rattle.nm_model.specs.Laws.{node_in}
+use Rattle.nm_model.specs.Ledgers.{held as ledger_held}
 use Rattle.nm_model.specs.Memory.{infinity_0}
 use Rattle.nm_model.specs.Ordered.{ordered, after_in}
 use Rattle.nm_model.specs.Reports.{counts, keys}
@@ -45,8 +48,8 @@ AreFrom i [] = Unit {0}
 AreFrom i (h ∷ hs) = (h.origin ≡ i) × AreFrom (suc i) hs
 
 -- All workers of the tree were given, and one stands for all of them. Some run ends with the tree's words, of which their logs are the parts, and
--- the report tells of its last state: one queue a worker, in the order of their numbers, with all that waits of it, as it was; the keys of the
--- reached leaves, which are the set's and ascend; and how many slots are free and reached. No slot is private, and as many are queued as wait in
+-- the report tells of its last state: one queue a worker, in the order of their numbers, with all that waits of it, as it was, so that what its splices
+-- cut off is what was freed of it and then that queue; the keys of the reached leaves, which are the set's and ascend; and how many slots are free and reached. No slot is private, and as many are queued as wait in
 -- the queues, so that these with the free and the reached ones are all slots but the five fixed ones. That run has a history, which ends with these
 -- keys; each key stands on an unflagged edge as often as calls for it won a link less as often as they won a flag, by the logs of all workers; and
 -- with no delete pending it is told that often, which is once or never
@@ -58,6 +61,7 @@ pub record IsClosed (b : Board) (ws : List Hand) (queues : List HeldQueue) (kept
   pub each : AreFrom 0 queues
   pub all : length queues ≡ b.layout.workers
   pub held : AreHeld (knowledge (all_joined ws)) queues
+  pub accounted : (o : ℕ) (l : Ledger) → ledger_held (knowledge (all_joined ws)).ledgers o ≡ Some l → l.retired ≡ l.freed ++ map node_in l.queue
   pub keys_are : kept ≡ keys (after_in (ordered b.layout) ends.turns).state
   pub free_are : free ≡ (counts (after_in (ordered b.layout) ends.turns).state).pool
   pub reached_are : reached ≡ (counts (after_in (ordered b.layout) ends.turns).state).reached
