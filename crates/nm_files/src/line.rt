@@ -17,7 +17,7 @@ use arrayvec::ArrayVec;
 use nm_model::Event;
 
 /// Tests that a line is fields with single spaces between.
-fn is_formed(line: &[u8]) -> bool
+pub fn is_formed(line: &[u8]) -> bool
     ensures { result ≡ list_all lines.is_field (fields line.now) }
 {
     let mut rest = Some(line);
@@ -32,7 +32,7 @@ fn is_formed(line: &[u8]) -> bool
 }
 
 /// The first eight fields: no line that is right has more.
-fn fields_of(line: &[u8]) -> ArrayVec<&[u8], 8>
+pub fn fields_of(line: &[u8]) -> ArrayVec<&[u8], 8>
     ensures { map (λ f. f.now) result.items ≡ take 8 (fields line.now) }
 {
     let mut fields = ArrayVec::new();
@@ -49,7 +49,7 @@ fn fields_of(line: &[u8]) -> ArrayVec<&[u8], 8>
 }
 
 /// The worker that a field spells, one of so many.
-fn worker_of(workers: u32, field: &[u8]) -> Result<u32, Reason>
+pub fn worker_of(workers: u32, field: &[u8]) -> Result<u32, Reason>
     ensures { result ≡ spec.worker_of workers field.now }
 {
     let worker = place(field)?;
