@@ -1,0 +1,4 @@
+//! Scripts played on the real tree: a file of calls in, what each call answered out.
+#![tactic(auto)]
+
+mod making;
