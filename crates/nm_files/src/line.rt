@@ -1,5 +1,5 @@
 //! The lines of a schedule.
-ghost use Rattle.std.specs.Prelude.{◌≡◌, ℕ, List, map, take};
+ghost use Rattle.std.specs.Prelude.{◌≡◌, ◌<◌, ℕ, List, map, take, IfOk};
 ghost use Rattle.std.specs.List.{find, list_all};
 ghost use Rattle.nm_files.specs.Lines.{fields};
 ghost use Rattle.nm_files.specs.Lines as lines;
@@ -50,7 +50,8 @@ pub fn fields_of(line: &[u8]) -> ArrayVec<&[u8], 8>
 
 /// The worker that a field spells, one of so many.
 pub fn worker_of(workers: u32, field: &[u8]) -> Result<u32, Reason>
-    ensures { result ≡ spec.worker_of workers field.now }
+    ensures says { result ≡ spec.worker_of workers field.now }
+    ensures below { IfOk result (λ w. w < workers) }
 {
     let worker = place(field)?;
     if worker < workers {

@@ -1,5 +1,5 @@
 -- The kinds of call: the word and the arguments of each.
-use Rattle.std.specs.Prelude.{ℕ, List, [], ◌∷◌, codes, Bool, true, false, Result, Ok, Err, if◌then◌else◌}
+use Rattle.std.specs.Prelude.{◌≡◌, ◌<◌, ℕ, List, [], ◌∷◌, codes, Bool, true, false, Result, Ok, Err, if◌then◌else◌}
 use Rattle.std.specs.List.{find}
 use Rattle.std.specs.Option.{ok_or}
 use Rattle.std.specs.Str.{bytes_eq}
@@ -85,3 +85,21 @@ call_of workers Unpin arguments = alone arguments call.Unpin
 call_of workers Advance arguments = alone arguments call.Advance
 call_of workers Collect arguments = alone arguments call.Collect
 call_of workers Resign arguments = resign workers arguments
+
+-- ---- what is so of each call that is read
+
+-- a file has lines of resigning only where its version allows them
+abbrev pub MayStand : Bool → Kind → Type 0
+MayStand may_resign Resign = may_resign ≡ true
+MayStand may_resign kind = Unit {0}
+
+-- a call of resigning is of that kind, and its heir is one of so many workers
+abbrev pub Fits : ℕ → Kind → Call → Type 0
+Fits workers Resign (call.Resign heir) = heir < workers
+Fits workers kind (call.Resign heir) = ⊥
+Fits workers kind c = Unit {0}
+
+-- a worker of so many, and a call that a file may have
+abbrev pub IsAllowed : ℕ → Bool → Call → Type 0
+IsAllowed workers may_resign (call.Resign heir) = (may_resign ≡ true) × (heir < workers)
+IsAllowed workers may_resign c = Unit {0}

@@ -1,5 +1,5 @@
 -- The first line of a script: its command and version, how many nodes and workers it is for, and how many tries each call has.
-use Rattle.std.specs.Prelude.{ℕ, List, [], ◌∷◌, codes, Bool, true, false, Result, Ok, Err, if◌then◌else◌}
+use Rattle.std.specs.Prelude.{◌≡◌, ℕ, List, [], ◌∷◌, codes, Bool, true, false, Result, Ok, Err, if◌then◌else◌}
 use Rattle.std.specs.Str.{bytes_eq}
 use Rattle.nm_files.specs.declared.fault.Reason.{Reason}
 use Rattle.nm_files.specs.declared.fault.Reason.TheVariants as reason
@@ -50,3 +50,8 @@ header_by limits nodes workers tries = do
 unfoldable pub header_of : Command → List (List ℕ) → Result Header Reason
 header_of command (given ∷ version ∷ nodes ∷ workers ∷ tries ∷ []) = limits_of command given version >>= λ limits. header_by limits nodes workers tries
 header_of command _ = Err reason.Header
+
+-- workers may resign in files of `serial` alone
+abbrev pub SerialAlone : Command → Bool → Type 0
+SerialAlone Serial may_resign = Unit {0}
+SerialAlone Stress may_resign = may_resign ≡ false

@@ -1,5 +1,5 @@
 -- A script: a header, and calls of workers in their order.
-use Rattle.std.specs.Prelude.{ℕ, List, ◌∷◌, Result, Ok, Err, if◌then◌else◌}
+use Rattle.std.specs.Prelude.{◌<◌, ℕ, List, ◌∷◌, Result, Ok, Err, if◌then◌else◌}
 use Rattle.std.specs.List.{list_all}
 use Rattle.nm_files.specs.declared.fault.Reason.{Reason}
 use Rattle.nm_files.specs.declared.fault.Reason.TheVariants as reason
@@ -10,8 +10,8 @@ use Rattle.nm_files.specs.Schedules.{worker_of}
 use Rattle.nm_scripts.specs.declared.call.Call.{Call}
 use Rattle.nm_scripts.specs.declared.header.Command.{Command}
 use Rattle.nm_scripts.specs.declared.header.Header.{Header}
-use Rattle.nm_scripts.specs.Calls.{kind_of, call_of}
-use Rattle.nm_scripts.specs.Headers.{header_of}
+use Rattle.nm_scripts.specs.Calls.{kind_of, call_of, IsAllowed}
+use Rattle.nm_scripts.specs.Headers.{header_of, SerialAlone}
 
 -- a call with its worker: what is wrong with the worker comes before a key that is too great, and its number before an heir that is none
 abbrev pub with_worker : Result ℕ Reason → Result Call Reason → Result (ℕ × Call) Reason
@@ -26,6 +26,13 @@ entry_of header (worker ∷ kind ∷ arguments) = do
   kind ← kind_of header.may_resign kind
   with_worker (worker_of header.layout.workers worker) (call_of header.layout.workers kind arguments)
 entry_of header _ = Err reason.Form
+
+-- the worker is one of the header's, and its call one that the file may have
+abbrev pub IsEntryOf : Header → ℕ × Call → Type 0
+IsEntryOf header e = (e.0 < header.layout.workers) × IsAllowed header.layout.workers header.may_resign e.1
+
+abbrev pub ResignsInSerial : Command → Header → Type 0
+ResignsInSerial command header = SerialAlone command header.may_resign
 
 -- what a line says in a script with that header
 abbrev pub line_of : Header → List ℕ → Result (ℕ × Call) Reason

@@ -1,5 +1,6 @@
 //! The kinds of call that a line may name: a word and arguments of each.
-ghost use Rattle.std.specs.Prelude.{◌≡◌, map};
+ghost use Rattle.std.specs.Prelude.{◌≡◌, ◌<◌, map, IfOk};
+ghost use Rattle.nm_scripts.specs.Calls.{MayStand, Fits};
 ghost use Rattle.nm_scripts.specs.Calls as spec;
 
 use nm_edge::Key;
@@ -70,7 +71,8 @@ impl Kind {
     /// The call of this kind with these arguments, in a file of so many workers.
     /// `Fields` comes before `Number`, and `Number` before `Worker`, of the heir, and `Key`.
     pub fn call(self, workers: u32, arguments: &[&[u8]]) -> Result<Call, Reason>
-        ensures { result ≡ spec.call_of workers self (map (λ f. f.now) arguments.now) }
+        ensures call { result ≡ spec.call_of workers self (map (λ f. f.now) arguments.now) }
+        ensures fits { IfOk result (Fits workers self) }
     {
         match self {
             Kind::Has => has(arguments),
@@ -100,7 +102,8 @@ fn named(given: &[u8]) -> Result<Kind, Reason>
 
 /// The kind whose word this is, in a file that has lines of resigning or not; else `Kind`.
 pub fn kind_of(may_resign: bool, given: &[u8]) -> Result<Kind, Reason>
-    ensures { result ≡ spec.kind_of may_resign given.now }
+    ensures kind { result ≡ spec.kind_of may_resign given.now }
+    ensures may { IfOk result (MayStand may_resign) }
 {
     let kind = named(given)?;
     match kind {
@@ -111,7 +114,8 @@ pub fn kind_of(may_resign: bool, given: &[u8]) -> Result<Kind, Reason>
 
 /// A call without arguments.
 fn alone(arguments: &[&[u8]], call: Call) -> Result<Call, Reason>
-    ensures { result ≡ spec.alone (map (λ f. f.now) arguments.now) call }
+    ensures call { result ≡ spec.alone (map (λ f. f.now) arguments.now) call }
+    ensures given { IfOk result (λ c. c ≡ call) }
 {
     match arguments {
         [] => Ok(call),
@@ -130,7 +134,8 @@ fn one_key(arguments: &[&[u8]]) -> Result<Key, Reason>
 
 #[tactic(auto, unfolding(crate::specs::Calls::has))]
 fn has(arguments: &[&[u8]]) -> Result<Call, Reason>
-    ensures { result ≡ spec.has (map (λ f. f.now) arguments.now) }
+    ensures call { result ≡ spec.has (map (λ f. f.now) arguments.now) }
+    ensures fits { IfOk result (Fits 0 Kind.Has) }
 {
     let key = one_key(arguments)?;
     Ok(Call::Has(key))
@@ -138,7 +143,8 @@ fn has(arguments: &[&[u8]]) -> Result<Call, Reason>
 
 #[tactic(auto, unfolding(crate::specs::Calls::insert))]
 fn insert(arguments: &[&[u8]]) -> Result<Call, Reason>
-    ensures { result ≡ spec.insert (map (λ f. f.now) arguments.now) }
+    ensures call { result ≡ spec.insert (map (λ f. f.now) arguments.now) }
+    ensures fits { IfOk result (Fits 0 Kind.Insert) }
 {
     let key = one_key(arguments)?;
     Ok(Call::Insert(key))
@@ -146,7 +152,8 @@ fn insert(arguments: &[&[u8]]) -> Result<Call, Reason>
 
 #[tactic(auto, unfolding(crate::specs::Calls::delete))]
 fn delete(arguments: &[&[u8]]) -> Result<Call, Reason>
-    ensures { result ≡ spec.delete (map (λ f. f.now) arguments.now) }
+    ensures call { result ≡ spec.delete (map (λ f. f.now) arguments.now) }
+    ensures fits { IfOk result (Fits 0 Kind.Delete) }
 {
     let key = one_key(arguments)?;
     Ok(Call::Delete(key))
@@ -154,7 +161,8 @@ fn delete(arguments: &[&[u8]]) -> Result<Call, Reason>
 
 #[tactic(auto, unfolding(crate::specs::Calls::resign))]
 fn resign(workers: u32, arguments: &[&[u8]]) -> Result<Call, Reason>
-    ensures { result ≡ spec.resign workers (map (λ f. f.now) arguments.now) }
+    ensures call { result ≡ spec.resign workers (map (λ f. f.now) arguments.now) }
+    ensures fits { IfOk result (Fits workers Kind.Resign) }
 {
     let heir = one(arguments)?;
     let heir = worker_of(workers, heir)?;

@@ -1,5 +1,6 @@
 //! The first line of a script.
 ghost use Rattle.std.specs.Prelude.{◌≡◌, ◌≤◌, map, IfOk};
+ghost use Rattle.nm_scripts.specs.Headers.{SerialAlone};
 ghost use Rattle.nm_scripts.specs.Headers as spec;
 
 use nm_edge::{LEAST_NODES, Layout, LayoutError, MOST_NODES, MOST_WORKERS};
@@ -62,6 +63,7 @@ fn is_serial(command: Command) -> bool
 /// The limits of a version of the format: of 1, 65,536 nodes and 32 workers; of 2, as many as a layout can have. In version 2 of `serial` workers may resign.
 fn limits_by(command: Command, version: &[u8]) -> Result<Limits, Reason>
     ensures limits { result ≡ spec.limits_by command version.now }
+    ensures stress { IfOk result (λ limits. SerialAlone command limits.may_resign) }
     ensures few { IfOk result (λ limits. (limits.nodes ≤ MOST_NODES) × (limits.workers ≤ MOST_WORKERS)) }
 {
     if version == b"1".as_slice() {
@@ -84,6 +86,7 @@ fn limits_by(command: Command, version: &[u8]) -> Result<Limits, Reason>
 /// The limits of a version of the command's format, where the first word names that command.
 fn limits_of(command: Command, word: &[u8], version: &[u8]) -> Result<Limits, Reason>
     ensures limits { result ≡ spec.limits_of command word.now version.now }
+    ensures stress { IfOk result (λ limits. SerialAlone command limits.may_resign) }
     ensures few { IfOk result (λ limits. (limits.nodes ≤ MOST_NODES) × (limits.workers ≤ MOST_WORKERS)) }
 {
     if word == command.word() {
@@ -96,7 +99,8 @@ fn limits_of(command: Command, word: &[u8], version: &[u8]) -> Result<Limits, Re
 /// The header of so many nodes, workers and tries.
 fn header_within(limits: Limits, nodes: u64, workers: u64, tries: u64) -> Result<Header, Reason>
     requires { (limits.nodes ≤ MOST_NODES) × (limits.workers ≤ MOST_WORKERS) }
-    ensures { result ≡ spec.header_within limits nodes workers tries }
+    ensures says { result ≡ spec.header_within limits nodes workers tries }
+    ensures may { IfOk result (λ h. h.may_resign ≡ limits.may_resign) }
 {
     if nodes < u64::from(LEAST_NODES) || u64::from(limits.nodes) < nodes {
         return Err(Reason::Nodes);
@@ -122,7 +126,8 @@ fn header_within(limits: Limits, nodes: u64, workers: u64, tries: u64) -> Result
 #[tactic(auto, unfolding(crate::specs::Headers::header_by))]
 fn header_by(limits: Limits, nodes: &[u8], workers: &[u8], tries: &[u8]) -> Result<Header, Reason>
     requires { (limits.nodes ≤ MOST_NODES) × (limits.workers ≤ MOST_WORKERS) }
-    ensures { result ≡ spec.header_by limits nodes.now workers.now tries.now }
+    ensures says { result ≡ spec.header_by limits nodes.now workers.now tries.now }
+    ensures may { IfOk result (λ h. h.may_resign ≡ limits.may_resign) }
 {
     let nodes = count(nodes)?;
     let workers = count(workers)?;
@@ -133,7 +138,8 @@ fn header_by(limits: Limits, nodes: &[u8], workers: &[u8], tries: &[u8]) -> Resu
 /// What the fields of the first line say, in a file for that command.
 #[tactic(auto, unfolding(crate::specs::Headers::header_of))]
 pub fn header_of(command: Command, fields: &[&[u8]]) -> Result<Header, Reason>
-    ensures { result ≡ spec.header_of command (map (λ f. f.now) fields.now) }
+    ensures says { result ≡ spec.header_of command (map (λ f. f.now) fields.now) }
+    ensures stress { IfOk result (λ h. SerialAlone command h.may_resign) }
 {
     let [word, version, nodes, workers, tries] = fields else {
         return Err(Reason::Header);

@@ -1,11 +1,13 @@
 //! The lines of a script.
-ghost use Rattle.std.specs.Prelude.{◌≡◌, ℕ, List, map};
+ghost use Rattle.std.specs.Prelude.{◌≡◌, ◌<◌, ℕ, List, map, Ok, IfOk};
 ghost use Rattle.std.specs.List.{find};
 ghost use Rattle.nm_files.specs.Files.{checked};
 ghost use Rattle.nm_files.specs.Reasons.{reason_of};
 ghost use Rattle.nm_scripts.specs.declared.header.Command.{Command as CommandOf};
 ghost use Rattle.nm_scripts.specs.declared.header.Header.{Header as HeaderOf};
 ghost use Rattle.nm_scripts.specs.Reasons.{holds, line_reasons, header_holds, header_reasons};
+ghost use Rattle.nm_scripts.specs.Calls.{IsAllowed};
+ghost use Rattle.nm_scripts.specs.Scripts.{IsEntryOf};
 ghost use Rattle.nm_scripts.specs.Scripts as spec;
 
 use crate::call::{Call, kind_of};
@@ -19,7 +21,8 @@ fn with_worker(
     worker: Result<u32, Reason>,
     call: Result<Call, Reason>,
 ) -> Result<(u32, Call), Reason>
-    ensures { result ≡ spec.with_worker worker call }
+    ensures says { result ≡ spec.with_worker worker call }
+    ensures both { IfOk result (λ e. (worker ≡ Ok e.0) × (call ≡ Ok e.1)) }
 {
     match call {
         Ok(call) => Ok((worker?, call)),
@@ -38,7 +41,8 @@ fn with_worker(
 /// The worker and the call of a line, by its fields.
 #[tactic(auto, unfolding(crate::specs::Scripts::entry_of))]
 fn entry_of(header: &Header, fields: &[&[u8]]) -> Result<(u32, Call), Reason>
-    ensures { result ≡ spec.entry_of header.now (map (λ f. f.now) fields.now) }
+    ensures says { result ≡ spec.entry_of header.now (map (λ f. f.now) fields.now) }
+    ensures allowed { IfOk result (IsEntryOf header.now) }
 {
     match fields {
         [worker, kind, arguments @ ..] => {
@@ -52,7 +56,8 @@ fn entry_of(header: &Header, fields: &[&[u8]]) -> Result<(u32, Call), Reason>
 
 /// The worker and the call that a line says, in a script with that header.
 pub fn line_of(header: &Header, line: &[u8]) -> Result<(u32, Call), Reason>
-    ensures { result ≡ spec.line_of header.now line.now }
+    ensures says { result ≡ spec.line_of header.now line.now }
+    ensures allowed { IfOk result (IsEntryOf header.now) }
 {
     if !is_formed(line) {
         return Err(Reason::Form);
@@ -62,7 +67,8 @@ pub fn line_of(header: &Header, line: &[u8]) -> Result<(u32, Call), Reason>
 
 /// What the first line says, in a file for that command.
 pub fn first_line_of(command: Command, line: &[u8]) -> Result<Header, Reason>
-    ensures { result ≡ spec.first_line_of command line.now }
+    ensures says { result ≡ spec.first_line_of command line.now }
+    ensures stress { IfOk result (spec.ResignsInSerial command) }
 {
     header_of(command, fields_of(line).as_slice())
 }

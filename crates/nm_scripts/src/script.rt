@@ -1,7 +1,8 @@
 //! A script: the sizes of a tree, and calls of workers in their order.
-ghost use Rattle.std.specs.Prelude.{◌≡◌, ◌≤◌, drop, IfOk, OnOk};
+ghost use Rattle.std.specs.Prelude.{◌≡◌, ◌≤◌, drop, All, IfOk, OnOk};
 ghost use Rattle.nm_files.specs.Lines.{parts};
 ghost use Rattle.nm_files.specs.Files.{Gives, checked, entries_from};
+ghost use Rattle.nm_scripts.specs.Scripts.{IsEntryOf, ResignsInSerial};
 ghost use Rattle.nm_scripts.specs.Scripts as spec;
 
 use crate::call::Call;
@@ -21,7 +22,8 @@ pub struct Script<'a> {
 }
 
 fn header_at(command: Command, line: &[u8]) -> Result<Header, RunFault>
-    ensures { Gives (λ h. h) result (checked 1 line.now (spec.first_line_of command line.now)) }
+    ensures says { Gives (λ h. h) result (checked 1 line.now (spec.first_line_of command line.now)) }
+    ensures stress { IfOk result (ResignsInSerial command) }
 {
     if is_long(1, line) {
         return Err(fault(1, Reason::Long));
@@ -35,6 +37,7 @@ fn header_at(command: Command, line: &[u8]) -> Result<Header, RunFault>
 fn call_at(number: u32, header: &Header, line: &[u8]) -> Result<(u32, Call), RunFault>
     ensures says { Gives (λ e. e) result (checked number line.now (spec.line_of header.now line.now)) }
     ensures number { OnOk result (number ≤ 100001) }
+    ensures allowed { IfOk result (IsEntryOf header.now) }
 {
     if is_long(number, line) {
         return Err(fault(number, Reason::Long));
@@ -47,7 +50,8 @@ fn call_at(number: u32, header: &Header, line: &[u8]) -> Result<(u32, Call), Run
 
 /// The calls of the lines from the second on.
 fn calls_of(alloc: Global, header: &Header, body: &[u8]) -> Result<Vec<(u32, Call)>, RunFault>
-    ensures { Gives (λ v. v.items) result (entries_from (spec.line_of header.now) 2 (parts body.now)) }
+    ensures says { Gives (λ v. v.items) result (entries_from (spec.line_of header.now) 2 (parts body.now)) }
+    ensures allowed { IfOk result (λ v. All (IsEntryOf header.now) v.items) }
 {
     let mut calls = Vec::new(alloc);
     let mut rest = body;
@@ -71,6 +75,8 @@ fn calls_of(alloc: Global, header: &Header, body: &[u8]) -> Result<Vec<(u32, Cal
 pub fn script_of(alloc: Global, command: Command, bytes: &[u8]) -> Result<Script<'_>, RunFault>
     ensures says { Gives (λ s. record { header = s.header; entries = s.calls.items }) result (spec.script_of command bytes.now) }
     ensures body { IfOk result (λ s. drop 1 (parts bytes.now) ≡ parts s.body.now) }
+    ensures allowed { IfOk result (λ s. All (IsEntryOf s.header) s.calls.items) }
+    ensures stress { IfOk result (λ s. ResignsInSerial command s.header) }
 {
     let (line, body) = cut(bytes, b'\n');
     let Some(body) = body else {
