@@ -1,5 +1,5 @@
 //! A script: the sizes of a tree, and calls of workers in their order.
-ghost use Rattle.std.specs.Prelude.{◌≡◌, ◌≤◌, drop, All, IfOk, OnOk};
+ghost use Rattle.std.specs.Prelude.{◌≡◌, ◌≤◌, drop, length, All, IfOk, OnOk};
 ghost use Rattle.nm_files.specs.Lines.{parts};
 ghost use Rattle.nm_files.specs.Files.{Gives, checked, entries_from};
 ghost use Rattle.nm_scripts.specs.Scripts.{IsEntryOf, ResignsInSerial};
@@ -52,6 +52,7 @@ fn call_at(number: u32, header: &Header, line: &[u8]) -> Result<(u32, Call), Run
 fn calls_of(alloc: Global, header: &Header, body: &[u8]) -> Result<Vec<(u32, Call)>, RunFault>
     ensures says { Gives (λ v. v.items) result (entries_from (spec.line_of header.now) 2 (parts body.now)) }
     ensures allowed { IfOk result (λ v. All (IsEntryOf header.now) v.items) }
+    ensures few { IfOk result (λ v. length v.items ≤ 100000) }
 {
     let mut calls = Vec::new(alloc);
     let mut rest = body;
@@ -77,6 +78,7 @@ pub fn script_of(alloc: Global, command: Command, bytes: &[u8]) -> Result<Script
     ensures body { IfOk result (λ s. drop 1 (parts bytes.now) ≡ parts s.body.now) }
     ensures allowed { IfOk result (λ s. All (IsEntryOf s.header) s.calls.items) }
     ensures stress { IfOk result (λ s. ResignsInSerial command s.header) }
+    ensures few { IfOk result (λ s. length s.calls.items ≤ 100000) }
 {
     let (line, body) = cut(bytes, b'\n');
     let Some(body) = body else {

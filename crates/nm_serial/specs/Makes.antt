@@ -1,5 +1,5 @@
 -- What a line of a script does to its worker, by its answer.
-use Rattle.std.specs.Prelude.{◌≡◌, ◌⊎◌, ℕ, Bool, Option, Some, None, IsSome, Result, length}
+use Rattle.std.specs.Prelude.{◌≡◌, ◌⊎◌, ◌==◌, ◌+◌, if◌then◌else◌, List, [], ◌∷◌, ℕ, Bool, Option, Some, None, IsSome, Result, length}
 use Rattle.nm_answers.specs.declared.answer.Answer.{Answer}
 use Rattle.nm_answers.specs.declared.answer.Answer.TheVariants as answer
 use Rattle.nm_answers.specs.declared.answer.Refusal.TheVariants as refused
@@ -66,3 +66,20 @@ HasMade b tries Unpin w z a = HasUnpinned w z a
 HasMade b tries Move w z a = HasMoved b.layout.workers w z a
 HasMade b tries Collect w z a = HasCollected w z a
 HasMade b tries (Resign heir) w z a = ⊥
+
+-- ---- the lines of one worker
+
+-- its calls with the numbers of their lines, from this number on
+abbrev pub own_lines : ℕ → ℕ → List (ℕ × Call) → List (ℕ × Call)
+own_lines n line [] = []
+own_lines n line (e ∷ es) = if e.0 == n then (line, e.1) ∷ own_lines n (line + 1) es else own_lines n (line + 1) es
+
+-- each of these lines, one after the other, was let and made its call, and was answered so
+abbrev pub PlaysEach : (ℕ → ℕ → Type 0) → Board → ℕ → ℕ → List (ℕ × Call) → List Answer → Hand → Hand → Type 0
+PlaysEach lets b tries n [] [] w z = z ≡ w
+PlaysEach lets b tries n (l ∷ ls) (a ∷ more) w z = lets n l.0 × ((mid : Hand) × HasMade b tries l.1 w mid a × PlaysEach lets b tries n ls more mid z)
+PlaysEach lets b tries n _ _ w z = ⊥
+
+-- a worker has played its lines, among those of a script from this number on
+abbrev pub PlaysOwn : (ℕ → ℕ → Type 0) → Board → ℕ → ℕ → ℕ → List (ℕ × Call) → List Answer → Hand → Hand → Type 0
+PlaysOwn lets b tries n line es answers w z = PlaysEach lets b tries n (own_lines n line es) answers w z

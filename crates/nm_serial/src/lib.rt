@@ -1,4 +1,8 @@
 //! Scripts played on the real tree: a file of calls in, what each call answered out.
 #![tactic(auto)]
 
+mod gate;
 mod making;
+mod own_lines;
+
+pub use gate::Gate;

@@ -13,6 +13,7 @@ use nm_tree::{Tree, Worker};
 fn has(tree: &Tree, worker: &mut Worker, key: Key, tries: u32) -> Option<Answer>
     requires own { IsOf tree.now worker.old.pass }
     ensures own { IsOf tree.now worker.new.pass }
+    ensures number { worker.new.pass.view.number ≡ worker.old.pass.view.number }
     ensures did { IfSome result (HasSearched (HasAnswered tree.now.layout.nodes tries key worker.old worker.new) worker.old worker.new) }
 {
     if worker.held().is_some() {
@@ -25,6 +26,7 @@ fn has(tree: &Tree, worker: &mut Worker, key: Key, tries: u32) -> Option<Answer>
 fn insert(tree: &Tree, worker: &mut Worker, key: Key, tries: u32) -> Option<Answer>
     requires own { IsOf tree.now worker.old.pass }
     ensures own { IsOf tree.now worker.new.pass }
+    ensures number { worker.new.pass.view.number ≡ worker.old.pass.view.number }
     ensures did { IfSome result (HasSearched (HasInserted tree.now.layout.nodes tries key worker.old worker.new) worker.old worker.new) }
 {
     if worker.held().is_some() {
@@ -37,6 +39,7 @@ fn insert(tree: &Tree, worker: &mut Worker, key: Key, tries: u32) -> Option<Answ
 fn delete(tree: &Tree, worker: &mut Worker, key: Key, tries: u32) -> Option<Answer>
     requires own { IsOf tree.now worker.old.pass }
     ensures own { IsOf tree.now worker.new.pass }
+    ensures number { worker.new.pass.view.number ≡ worker.old.pass.view.number }
     ensures did { IfSome result (HasSearched (HasDeleted tree.now.layout.nodes tries key worker.old worker.new) worker.old worker.new) }
 {
     if worker.held().is_some() {
@@ -49,6 +52,7 @@ fn delete(tree: &Tree, worker: &mut Worker, key: Key, tries: u32) -> Option<Answ
 fn pin(tree: &Tree, worker: &mut Worker, tries: u32) -> Answer
     requires own { IsOf tree.now worker.old.pass }
     ensures own { IsOf tree.now worker.new.pass }
+    ensures number { worker.new.pass.view.number ≡ worker.old.pass.view.number }
     ensures did { HasHeld tries worker.old worker.new result }
 {
     if worker.held().is_some() {
@@ -61,6 +65,7 @@ fn pin(tree: &Tree, worker: &mut Worker, tries: u32) -> Answer
 fn unpin(tree: &Tree, worker: &mut Worker) -> Answer
     requires own { IsOf tree.now worker.old.pass }
     ensures own { IsOf tree.now worker.new.pass }
+    ensures number { worker.new.pass.view.number ≡ worker.old.pass.view.number }
     ensures did { HasUnpinned worker.old worker.new result }
 {
     if worker.held().is_none() {
@@ -75,6 +80,7 @@ pub(crate) fn make(tree: &Tree, worker: &mut Worker, call: Call, tries: u32) -> 
     requires own { IsOf tree.now worker.old.pass }
     requires alone { IsOwn call }
     ensures own { IsOf tree.now worker.new.pass }
+    ensures number { worker.new.pass.view.number ≡ worker.old.pass.view.number }
     ensures did { IfSome result (HasMade tree.now tries call worker.old worker.new) }
 {
     match call {

@@ -1,5 +1,6 @@
 use Rattle.std.proofs.Common.{◌≡◌, ◌∷◌, ◌++◌, [], sym, ◌∙◌, arith, rules}
 use Rattle.std.proofs.lemmas.Result.{err_from_is_err_and}
+use Rattle.std.proofs.lemmas.List.{length_push}
 use Rattle.std.proofs.lemmas.List.Elements.{All-push}
 use Rattle.nm_files.specs.Lines.{parts}
 use Rattle.nm_files.specs.Files.{entries_from}
@@ -29,6 +30,7 @@ loop-after-preserved c =
     let pushed : c.push.new.self.items ≡ c.loop-after.calls.items ++ c.in_ok-call.call ∷ [] = search rules in
     record {
       allowed = rw pushed (All-push (IsEntryOf c.args.header.now) c.loop-after.calls.items c.in_ok-call.call c.loop-after.invariant.allowed c.in_ok-call.ensures.allowed);
+      count = rw pushed (omega (arith, length_push c.loop-after.calls.items c.in_ok-call.call, c.loop-after.invariant.count));
       number = omega (arith, c.in_ok-call.ensures.number);
       told = rw pushed (goes_on (line_of c.args.header.now) c.loop-after.calls.items c.loop-after.number (parts c.loop-after.rest.now) c.cut.result.0.now (parts c.in-Some.after.now) c.in_ok-call.call (entries_from (line_of c.args.header.now) 2 (parts c.args.body.now)) cut (pieces_full 10 c.in-Some.after.now) c.in_ok-call.ensures.says c.loop-after.invariant.told);
     }
