@@ -4,5 +4,6 @@
 mod gate;
 mod making;
 mod own_lines;
+mod threads;
 
 pub use gate::Gate;
