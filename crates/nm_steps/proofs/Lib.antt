@@ -13,3 +13,4 @@ pub mod Endings
 pub mod FoundBirths
 pub mod ClaimedSlots
 pub mod AfterSteps
+pub mod Tying

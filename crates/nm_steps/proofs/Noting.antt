@@ -6,7 +6,7 @@ use Rattle.std.proofs.lemmas.Bool.{cond_both, ne_eqb}
 use Rattle.atomic_table.specs.Seated.{TableId}
 use Rattle.atomic_table.specs.declared.shared.Seat.{Seat}
 use Rattle.nm_edge.specs.Layouts.{Layout, IsLayout}
-use Rattle.nm_edge.specs.Words.{word, words}
+use Rattle.nm_edge.specs.Words.{word}
 use Rattle.nm_model.specs.declared.event.Field.{Field}
 use Rattle.nm_model.specs.declared.event.Field.TheVariants.{Edge as EdgeOn, Birth}
 use Rattle.nm_model.specs.declared.event.Event.{Event}

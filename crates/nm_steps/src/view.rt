@@ -54,6 +54,15 @@ impl<D: Doing> Play<(), View> for Does<D> {
     ghost then = { Did D.event };
 }
 
+/// A read that changes nothing, and tells a seat that its logs are parts of one run.
+pub struct Ties;
+
+impl Play<(), View> for Ties {
+    ghost use Rattle.nm_steps.specs.Ties.{Tells};
+
+    ghost then = { Tells };
+}
+
 pub(crate) type Words = atomic_table::Shared<(), View, Layout, Law>;
 
 pub(crate) type Place = Seat<(), View>;

@@ -1,16 +1,14 @@
 -- What a worker is between two calls, after a call that may have changed its own queue.
-use Rattle.std.proofs.Common.{◌≡◌, ◌≢◌, ℕ, zero, suc, ◌+◌, ◌<◌, ◌≤◌, ◌⊎◌, inl, inr, Bool, true, false, List, [], ◌∷◌, ◌++◌, Option, Some, None, length, refl, sym, ap, ◌∙◌, subst, arith}
-use Rattle.std.specs.Prelude.{IsSome, unwrap_or, option_map, slice_index_or, slice_set, ◌==◌, if◌then◌else◌, map}
+use Rattle.std.proofs.Common.{◌≡◌, ◌≢◌, ℕ, zero, suc, ◌+◌, ◌<◌, ◌≤◌, inl, inr, Bool, true, false, List, [], ◌∷◌, Option, length, refl, sym, ap, ◌∙◌, subst, arith}
+use Rattle.std.specs.Prelude.{IsSome, unwrap_or, slice_index_or, slice_set, ◌==◌, if◌then◌else◌}
 use Rattle.std.proofs.Common.{length-set}
 use Rattle.std.proofs.lemmas.Bool.{ne_eqb, eq-eqb}
 use Rattle.std.proofs.lemmas.Bool.Decides.{eqb_tells}
 use Rattle.nm_edge.specs.Layouts.{Layout}
-use Rattle.nm_edge.specs.declared.node.NodeId.{NodeId}
 use Rattle.nm_model.specs.declared.ledger.Ledger.{Ledger}
 use Rattle.nm_model.specs.Ledgers.{held, fresh_ledger}
 use Rattle.nm_model.specs.Maps.{get}
 use Rattle.nm_model.specs.Walks.{Entry as LogEntry}
-use Rattle.nm_model.specs.Knowledge.{Knowledge}
 use Rattle.nm_steps.specs.declared.view.View.{View}
 use Rattle.nm_steps.specs.Rules.{knowledge}
 use Rattle.nm_steps.specs.Steps.{Stand, IsSamePass}
@@ -19,8 +17,9 @@ use Rattle.nm_epoch.specs.Collecting.{AreHeld, NoneHas, IsQueueOf}
 use Rattle.nm_calls.specs.Won.{capped, won_links, won_flags, won_splices}
 use Rattle.nm_tree.specs.declared.worker.Account.{Account}
 use Rattle.nm_tree.specs.declared.worker.Unfinished.{Unfinished}
-use Rattle.nm_tree.specs.Workers.{Hand, IsAs, IsBetweenCalls, IsWorker, IsAccount, AreAccounts, IsKept, HasOrigin, StandsAt, OnlyOwnLedger, log_of, log_among, ledger_in}
-use Rattle.nm_tree.proofs.QueueLists.{stands_within, stands_there, stands_after, held_there, held_after, has_after, ascend_after, not_none, origin_at}
+use Rattle.nm_tree.specs.Workers.{Hand, IsAs, IsWorker, IsAccount, AreAccounts, IsKept, AreOf, HasOrigin, StandsAt, OnlyOwnLedger, log_of, log_among, ledger_in}
+use Rattle.nm_tree.proofs.QueueLists.{stands_there, stands_after, held_there, held_after, has_after, had_before, ascend_after, not_none, origin_at}
+use Rattle.nm_tree.proofs.Numbers.{numbers_stay, room_stays}
 
 -- ---- logs and ledgers of others
 
@@ -99,7 +98,7 @@ accounts_after p q (suc i) (h ∷ hs) (a ∷ xs) g b same others held s is are =
 -- ---- a whole worker
 
 -- what is kept of the own origin
-pub kept_there : (w : Hand) (xs : List Account) (home : ℕ) (h : HeldQueue) (a : Account) → IsWorker w xs home → h ≡ slice_index_or w.queues home h → a ≡ slice_index_or xs home a → IsKept w.pass h a
+pub kept_there : {r s : ℕ} (w : Hand) (xs : List Account) (home : ℕ) (h : HeldQueue) (a : Account) → IsWorker w xs home r s → h ≡ slice_index_or w.queues home h → a ≡ slice_index_or xs home a → IsKept w.pass h a
 kept_there w xs home h a is there at =
     record {
       own = stands_there home w.pass.view.number w.queues h is.own there;
@@ -116,11 +115,18 @@ origin_stays w q home g all others s own o some' =
       | inr other ↦ let P : Option Ledger → Type 0 = λ l. IsSome l in has_after o home w.pass.view.number w.queues g s own (all o (subst P (others o other.1) some'))
     ]
 
+-- the queues are those of the same workers
+numbers_after : (v : View) (i o : ℕ) (hs : List HeldQueue) (g : HeldQueue) → StandsAt i o hs → g.origin ≡ o → AreOf v hs → AreOf v (slice_set hs i g)
+numbers_after v i o hs g s e is = record {
+  each = λ x has. is.each x (had_before x i o hs g s e has);
+  all = λ x has. has_after x i o hs g s e (is.all x has);
+}
+
 -- so it is a worker still, where its own queue and account are these now
-pub changed : (w : Hand) (xs : List Account) (home : ℕ) (q : Stand) (n : Option Unfinished) (e : Option ℕ) (g : HeldQueue) (b : Account) → IsWorker w xs home → IsSamePass w.pass q
+pub changed : {r s : ℕ} (w : Hand) (xs : List Account) (home : ℕ) (q : Stand) (n : Option Unfinished) (e : Option ℕ) (g : HeldQueue) (b : Account) → IsWorker w xs home r s → IsSamePass w.pass q
     → IsKept q g b → OnlyOwnLedger w.pass q → ((slot : ℕ) → get (knowledge q.view).drafts slot ≡ get (knowledge w.pass.view).drafts slot) → IsAs q n e
-    → IsWorker (record { pass = q; queues = slice_set w.queues home g; pending = n; held = e }) (slice_set xs home b) home
-changed w xs home q n e g b is same kept others private stands =
+    → IsWorker (record { pass = q; queues = slice_set w.queues home g; pending = n; held = e }) (slice_set xs home b) home r s
+changed {r} {s} w xs home q n e g b is same kept others private stands =
     let number : q.view.number ≡ w.pass.view.number = ap (λ (x : Stand). x.view.number) same in
     let own : g.origin ≡ w.pass.view.number = kept.own ∙ number in
     let queue = let P : ℕ → Type 0 = λ o. IsQueueOf (knowledge q.view) o g.queue.items in subst P number kept.queue in
@@ -135,4 +141,7 @@ changed w xs home q n e g b is same kept others private stands =
       accounts = accounts_after w.pass q home w.queues xs g b same others is.between.queues is.own kept.account is.accounts;
       few = let P : ℕ → Type 0 = λ n. n ≤ 64 in subst P (sym (length-set w.queues home g)) is.few;
       own = let P : ℕ → Type 0 = λ o. StandsAt home o (slice_set w.queues home g) in subst P (sym number) (stands_after home w.pass.view.number home w.queues g is.own own);
+      numbers = numbers_stay w.pass q (slice_set w.queues home g) same (numbers_after w.pass.view home w.pass.view.number w.queues g is.own own is.numbers);
+      room = room_stays w.pass q r same is.room;
+      account_room = room_stays w.pass q s same is.account_room;
     }

@@ -1,6 +1,6 @@
 -- Queues and accounts after a collection.
-use Rattle.std.proofs.Common.{◌≡◌, ◌≢◌, ℕ, zero, suc, ◌+◌, ◌-◌, ◌<◌, ◌≤◌, ◌⊎◌, inl, inr, true, false, List, [], ◌∷◌, length, refl, sym, ap, ◌∙◌, subst, arith, drop}
-use Rattle.std.specs.Prelude.{Bool, Option, Some, None, IsSome, min, cond}
+use Rattle.std.proofs.Common.{◌≡◌, ℕ, zero, suc, ◌+◌, ◌-◌, ◌<◌, ◌≤◌, ◌⊎◌, inl, inr, true, false, List, [], ◌∷◌, length, refl, sym, ap, ◌∙◌, subst, arith, drop}
+use Rattle.std.specs.Prelude.{Bool, Option, IsSome, cond}
 use Rattle.std.specs.List.{prefix_len}
 use Rattle.std.proofs.lemmas.List.{length-drop}
 use Rattle.std.proofs.lemmas.Bool.Decides.{eqb_tells}
@@ -12,13 +12,14 @@ use Rattle.nm_steps.specs.Rules.{knowledge}
 use Rattle.nm_steps.specs.Steps.{Stand, IsSamePass, IsInRun}
 use Rattle.nm_epoch.specs.declared.collecting.Entry.{Entry}
 use Rattle.nm_epoch.specs.declared.collecting.HeldQueue.{HeldQueue}
-use Rattle.nm_epoch.specs.Collecting.{IsQueueOf, AreHeld, NoneHas, HaveLost, KeepsOthers, KeepsRetired, rest_of, is_ripe, ledgers_seen}
+use Rattle.nm_epoch.specs.Collecting.{IsQueueOf, AreHeld, NoneHas, HaveLost, KeepsOthers, KeepsRetired, rest_of, is_ripe}
 use Rattle.nm_epoch.specs.Resting.{epochs}
 use Rattle.nm_calls.specs.Won.{capped, won_links, won_flags, won_splices}
 use Rattle.nm_tree.specs.declared.worker.Account.{Account}
 use Rattle.nm_tree.specs.declared.worker.Unfinished.{Unfinished}
 use Rattle.nm_tree.specs.Workers.{Hand, IsAs, IsWorker, IsAccount, AreAccounts, ArePaired, HaveNoted, noted_for, HasOrigin, AreAbove, Ascend, StandsAt, log_of, ledger_in}
 use Rattle.nm_tree.proofs.HeldLedgers.{split_in_run, retired_alike}
+use Rattle.nm_tree.proofs.Numbers.{numbers_stay, room_stays}
 use Rattle.nm_tree.proofs.Quiet.{Quiet, each_as_before}
 
 -- a queue that has lost its front is no longer
@@ -41,7 +42,7 @@ paired epoch p (h ∷ hs) (g ∷ gs) (a ∷ xs) lost are =
 
 -- ---- the same origins
 
-has_or_none : (o : ℕ) (hs : List HeldQueue) → HasOrigin o hs ⊎ NoneHas o hs
+pub has_or_none : (o : ℕ) (hs : List HeldQueue) → HasOrigin o hs ⊎ NoneHas o hs
 has_or_none o [] = inr tt
 has_or_none o (h ∷ hs) = elim (eqb_tells h.origin o) [
   | inl is ↦ inl (inl is.1)
@@ -51,7 +52,7 @@ has_or_none o (h ∷ hs) = elim (eqb_tells h.origin o) [
   ]
 ]
 
-not_both : (o : ℕ) (hs : List HeldQueue) → HasOrigin o hs → NoneHas o hs → ⊥
+pub not_both : (o : ℕ) (hs : List HeldQueue) → HasOrigin o hs → NoneHas o hs → ⊥
 not_both o [] has none' = absurd has
 not_both o (h ∷ hs) (inl is) none' = none'.0 (sym is)
 not_both o (h ∷ hs) (inr has) none' = not_both o hs has none'.1
@@ -61,6 +62,12 @@ has_still epoch o [] gs lost has = absurd has
 has_still epoch o (h ∷ hs) [] lost has = absurd lost
 has_still epoch o (h ∷ hs) (g ∷ gs) lost (inl is) = inl (lost.0 ∙ is)
 has_still epoch o (h ∷ hs) (g ∷ gs) lost (inr has) = inr (has_still epoch o hs gs lost.2 has)
+
+had_it : (epoch o : ℕ) (hs gs : List HeldQueue) → HaveLost epoch hs gs → HasOrigin o gs → HasOrigin o hs
+had_it epoch o hs [] lost has = absurd has
+had_it epoch o [] (g ∷ gs) lost has = absurd lost
+had_it epoch o (h ∷ hs) (g ∷ gs) lost (inl is) = inl (sym lost.0 ∙ is)
+had_it epoch o (h ∷ hs) (g ∷ gs) lost (inr has) = inr (had_it epoch o hs gs lost.2 has)
 
 above_still : (epoch o : ℕ) (hs gs : List HeldQueue) → HaveLost epoch hs gs → AreAbove o hs → AreAbove o gs
 above_still epoch o [] [] lost above = tt
@@ -149,11 +156,11 @@ freed_accounts epoch p q (h ∷ hs) (g ∷ gs) (a ∷ xs) (b ∷ ys) same run qu
 
 -- ---- a whole worker
 
-pub collected : (epoch : ℕ) (w : Hand) (xs ys : List Account) (home : ℕ) (q : Stand) (gs : List HeldQueue) (n : Option Unfinished) (e : Option ℕ) → IsWorker w xs home → IsSamePass w.pass q → IsInRun q
+pub collected : {r s r' s' : ℕ} (epoch : ℕ) (w : Hand) (xs ys : List Account) (home : ℕ) (q : Stand) (gs : List HeldQueue) (n : Option Unfinished) (e : Option ℕ) → r' ≡ r → s' ≡ s → IsWorker w xs home r s → IsSamePass w.pass q → IsInRun q
     → Quiet w.pass.view.log q.view.log → (epochs w.pass).unlabelled ≡ false → HaveLost epoch w.queues gs → AreHeld (knowledge q.view) gs → KeepsOthers epoch w.queues (knowledge w.pass.view) (knowledge q.view)
     → KeepsRetired (knowledge w.pass.view) (knowledge q.view) → (knowledge q.view).drafts ≡ (knowledge w.pass.view).drafts → HaveNoted gs xs ys → IsAs q n e
-    → IsWorker (record { pass = q; queues = gs; pending = n; held = e }) ys home
-collected epoch w xs ys home q gs n e is same run quiet' labelled lost held' others retired drafts noted stands =
+    → IsWorker (record { pass = q; queues = gs; pending = n; held = e }) ys home r' s'
+collected {r} {s} {r'} {s'} epoch w xs ys home q gs n e same_room same_account_room is same run quiet' labelled lost held' others retired drafts noted stands =
     let P : ℕ → Type 0 = λ o. StandsAt home o gs in
     record {
       between = record {
@@ -166,4 +173,7 @@ collected epoch w xs ys home q gs n e is same run quiet' labelled lost held' oth
       accounts = freed_accounts epoch w.pass q w.queues gs xs ys same run quiet' retired is.between.queues held' lost is.accounts noted;
       few = let F : ℕ → Type 0 = λ n. n ≤ 64 in subst F (as_many_queues epoch w.queues gs lost) is.few;
       own = subst P (sym (ap (λ (x : Stand). x.view.number) same)) (stands_still_at epoch home w.pass.view.number w.queues gs lost is.own);
+      numbers = numbers_stay w.pass q gs same (record { each = λ o has. is.numbers.each o (had_it epoch o w.queues gs lost has); all = λ o has. has_still epoch o w.queues gs lost (is.numbers.all o has) });
+      room = let now = room_stays w.pass q r same is.room in omega (arith, now, same_room);
+      account_room = let now = room_stays w.pass q s same is.account_room in omega (arith, now, same_account_room);
     }

@@ -1,6 +1,7 @@
 pub mod QueueLists
 pub mod Quiet
 pub mod HeldLedgers
+pub mod Numbers
 pub mod Staying
 pub mod Changing
 pub mod OwnQueue
@@ -8,3 +9,6 @@ pub mod Freeing
 pub mod Opening
 pub mod Telling
 pub mod Ledgers
+pub mod Merging
+pub mod Heirs
+pub mod United

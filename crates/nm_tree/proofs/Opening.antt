@@ -1,12 +1,13 @@
 -- Workers that have done nothing yet.
-use Rattle.std.proofs.Common.{◌≡◌, ◌≢◌, ℕ, zero, suc, ◌+◌, ◌≤◌, ◌⊎◌, inl, inr, List, [], ◌∷◌, ◌++◌, length, refl, sym, ap, ◌∙◌, subst, arith, true, false}
-use Rattle.std.specs.Prelude.{Option, Some, None, IsSome, is_some, option_map, unwrap_or, reverse}
+use Rattle.std.proofs.Common.{◌≡◌, ℕ, suc, ◌≤◌, ◌⊎◌, inl, inr, List, [], ◌∷◌, ◌++◌, length, refl, sym, ap, ◌∙◌, subst, arith}
+use Rattle.std.specs.Prelude.{Option, Some, None, IsSome, unwrap_or, reverse}
 use Rattle.std.proofs.lemmas.List.{reverse-append}
 use Rattle.std.proofs.lemmas.Bool.Decides.{eqb_tells}
 use Rattle.nm_edge.specs.Layouts.{Layout}
 use Rattle.nm_model.specs.declared.ledger.Ledger.{Ledger}
 use Rattle.nm_model.specs.Ledgers.{held, fresh_ledger}
 use Rattle.nm_model.specs.Walks.{Entry as LogEntry}
+use Rattle.nm_steps.specs.declared.view.Held.{Held}
 use Rattle.nm_steps.specs.declared.view.View.{View}
 use Rattle.nm_steps.specs.Rules.{knowledge}
 use Rattle.nm_steps.specs.Steps.{Board, Stand, AreFresh, fresh_view}
@@ -16,7 +17,7 @@ use Rattle.nm_epoch.specs.Collecting.{IsQueueOf}
 use Rattle.nm_calls.specs.Fresh.{HasDoneNothing}
 use Rattle.nm_calls.specs.Won.{capped, won_links, won_flags, won_splices}
 use Rattle.nm_tree.specs.declared.worker.Account.{Account}
-use Rattle.nm_tree.specs.Workers.{Hand, IsWorker, IsAccount, HasOrigin, IsFresh, AreAllFresh, IsNewWorker, AreMade, AreNew, log_of, ledger_in}
+use Rattle.nm_tree.specs.Workers.{Hand, IsWorker, IsAccount, HasOrigin, HasNumber, HaveWorkers, IsFresh, AreAllFresh, IsNewWorker, AreMade, AreNew, log_of, ledger_in}
 use Rattle.nm_tree.proofs.Changing.{log_of_own}
 
 -- ---- one worker
@@ -43,8 +44,9 @@ fresh_account p h d own empty =
       split = omega (arith, none', r, f);
     }
 
-pub new_worker : (p : Stand) (h : HeldQueue) → HasDoneNothing p → h.origin ≡ p.view.number → h.queue.items ≡ [] → IsWorker (record { pass = p; queues = h ∷ []; pending = None; held = None }) (blank h.origin ∷ []) 0
-new_worker p h d own empty =
+pub new_worker : (p : Stand) (h : HeldQueue) (r s : ℕ) → HasDoneNothing p → h.origin ≡ p.view.number → h.queue.items ≡ [] → p.view.others ≡ [] → p.view.layout.workers ≤ r → p.view.layout.workers ≤ s
+    → IsWorker (record { pass = p; queues = h ∷ []; pending = None; held = None }) (blank h.origin ∷ []) 0 r s
+new_worker p h r s d own empty alone room account_room =
     let queue : IsQueueOf (knowledge p.view) h.origin h.queue.items =
     let P : ℕ → Type 0 = λ o. IsQueueOf (knowledge p.view) o h.queue.items in
     let Q : List Entry → Type 0 = λ es. IsQueueOf (knowledge p.view) p.view.number es in
@@ -59,8 +61,19 @@ new_worker p h d own empty =
       accounts = (fresh_account p h d own empty, tt);
       few = omega arith;
       own = own;
+      numbers = record { each = λ o has. only o has; all = λ o has. back o (let P : List Held → Type 0 = λ hs. (p.view.number ≡ o) ⊎ HasNumber o hs in subst P alone has) };
+      room = room;
+      account_room = account_room;
     }
   where
+    only : (o : ℕ) → HasOrigin o (h ∷ []) → (p.view.number ≡ o) ⊎ HasNumber o p.view.others
+    only o (inl is) = inl (sym own ∙ is)
+    only o (inr never) = absurd never
+
+    back : (o : ℕ) → (p.view.number ≡ o) ⊎ HasNumber o [] → HasOrigin o (h ∷ [])
+    back o (inl is) = inl (own ∙ is)
+    back o (inr never) = absurd never
+
     not_some : (l : Option Ledger) → l ≡ None → IsSome l → ⊥
     not_some None is some' = absurd (cc)
     not_some (Some x) is some' = absurd (cc)
@@ -75,6 +88,15 @@ pub all_fresh : (b : Board) (k : ℕ) (ps : List Stand) → AreFresh b k ps → 
 all_fresh b k [] are = tt
 all_fresh b k (p ∷ ps) are =
     ((k, are.1 ∙ ap (λ (L : Layout). fresh_view L k) (sym (ap (λ (v : View). v.layout) are.1))), all_fresh b (suc k) ps are.2)
+
+-- their tree has as many workers as there are passes
+pub have_workers : (b : Board) (k n : ℕ) (ps : List Stand) → b.layout.workers ≤ n → AreFresh b k ps → HaveWorkers n ps
+have_workers b k n [] enough are = tt
+have_workers b k n (p ∷ ps) enough are = ((let e = ap (λ (v : View). v.layout.workers) are.1 in omega (arith, e, enough)), have_workers b (suc k) n ps enough are.2)
+
+pub have_before : (n : ℕ) (ps : List Stand) (p : Stand) → HaveWorkers n (ps ++ p ∷ []) → HaveWorkers n ps × (p.view.layout.workers ≤ n)
+have_before n [] p are = (tt, are.0)
+have_before n (q ∷ ps) p are = let rest = have_before n ps p are.1 in ((are.0, rest.0), rest.1)
 
 pub all_new : (b : Board) (k : ℕ) (ps : List Stand) (ws : List Hand) → AreFresh b k ps → AreMade ps ws → AreNew b k ws
 all_new b k [] [] fresh made = tt

@@ -1,11 +1,9 @@
 -- The own queue and its account, after a call that may have cut nodes off.
-use Rattle.std.proofs.Common.{◌≡◌, ℕ, ◌+◌, ◌-◌, ◌^◌, ◌≤◌, ◌⊎◌, inl, inr, List, length, refl, sym, ap, ◌∙◌, subst, arith}
-use Rattle.std.specs.Prelude.{Option, Some, None, option_map, unwrap_or, min}
+use Rattle.std.proofs.Common.{◌≡◌, ℕ, ◌+◌, ◌-◌, ◌^◌, ◌≤◌, ◌⊎◌, inl, inr, List, length, sym, ap, ◌∙◌, subst, arith}
+use Rattle.std.specs.Prelude.{Some, option_map, min}
 use Rattle.std.proofs.lemmas.Option.{same_Some}
-use Rattle.nm_edge.specs.Layouts.{Layout}
 use Rattle.nm_edge.specs.declared.node.NodeId.{NodeId}
 use Rattle.nm_model.specs.declared.ledger.Ledger.{Ledger}
-use Rattle.nm_model.specs.Ledgers.{held}
 use Rattle.nm_model.specs.Walks.{Entry as LogEntry}
 use Rattle.nm_steps.specs.Rules.{knowledge}
 use Rattle.nm_steps.specs.Steps.{Stand, IsSamePass, IsInRun}
@@ -15,7 +13,7 @@ use Rattle.nm_epoch.specs.Collecting.{IsQueueOf}
 use Rattle.nm_calls.specs.Cleanups.{KeepsLedgers, freed_of}
 use Rattle.nm_calls.specs.Won.{capped, won_links, won_flags, won_splices, HasWon}
 use Rattle.nm_tree.specs.declared.worker.Account.{Account}
-use Rattle.nm_tree.specs.Workers.{IsAccount, IsKept, log_of, ledger_in}
+use Rattle.nm_tree.specs.Workers.{IsKept, log_of, ledger_in}
 use Rattle.nm_tree.proofs.HeldLedgers.{ledger_held, ledger_waits, split_in_run}
 use Rattle.nm_tree.proofs.Changing.{log_of_own}
 

@@ -1,12 +1,12 @@
 -- The queues that a worker holds, one of which is its own.
-use Rattle.std.proofs.Common.{◌≡◌, ◌≢◌, ℕ, zero, suc, ◌+◌, ◌<◌, ◌⊎◌, inl, inr, true, false, List, [], ◌∷◌, Option, Some, None, length, refl, sym, ap, ◌∙◌, subst, arith, add-one}
-use Rattle.std.specs.Prelude.{slice_index_or, slice_set, option_map, ◌==◌, IsSome, map}
+use Rattle.std.proofs.Common.{◌≡◌, ◌≢◌, ℕ, zero, suc, ◌<◌, inl, inr, List, [], ◌∷◌, length, refl, sym, ap, ◌∙◌, subst, arith}
+use Rattle.std.specs.Prelude.{slice_index_or, slice_set, option_map}
 use Rattle.nm_model.specs.declared.ledger.Ledger.{Ledger}
 use Rattle.nm_model.specs.Knowledge.{Knowledge}
 use Rattle.nm_model.specs.Ledgers.{held}
 use Rattle.nm_epoch.specs.declared.collecting.Entry.{Entry}
 use Rattle.nm_epoch.specs.declared.collecting.HeldQueue.{HeldQueue}
-use Rattle.nm_epoch.specs.Collecting.{IsQueueOf, AreHeld, NoneHas, HaveLost, queued}
+use Rattle.nm_epoch.specs.Collecting.{IsQueueOf, AreHeld, NoneHas}
 use Rattle.nm_tree.specs.Workers.{HasOrigin, AreAbove, Ascend, StandsAt, KeepsOthers}
 
 -- an index at which a queue stands is one of the list, and the queue there is that one
@@ -48,6 +48,13 @@ has_after x zero o (h ∷ hs) g s e (inl is) = inl (e ∙ sym s ∙ is)
 has_after x zero o (h ∷ hs) g s e (inr has) = inr has
 has_after x (suc i) o (h ∷ hs) g s e (inl is) = inl is
 has_after x (suc i) o (h ∷ hs) g s e (inr has) = inr (has_after x i o hs g s e has)
+
+pub had_before : (x i o : ℕ) (hs : List HeldQueue) (g : HeldQueue) → StandsAt i o hs → g.origin ≡ o → HasOrigin x (slice_set hs i g) → HasOrigin x hs
+had_before x i o [] g s e has = absurd s
+had_before x zero o (h ∷ hs) g s e (inl is) = inl (s ∙ sym e ∙ is)
+had_before x zero o (h ∷ hs) g s e (inr has) = inr has
+had_before x (suc i) o (h ∷ hs) g s e (inl is) = inl is
+had_before x (suc i) o (h ∷ hs) g s e (inr has) = inr (had_before x i o hs g s e has)
 
 pub above_after : (x i o : ℕ) (hs : List HeldQueue) (g : HeldQueue) → StandsAt i o hs → g.origin ≡ o → AreAbove x hs → AreAbove x (slice_set hs i g)
 above_after x i o [] g s e above = absurd s

@@ -1,26 +1,23 @@
 -- Parts of a log in which nothing was won.
-use Rattle.std.proofs.Common.{◌≡◌, ◌≢◌, ◌⊎◌, inl, inr, ℕ, zero, suc, ◌+◌, ◌<◌, ◌≤◌, Bool, true, false, List, [], ◌∷◌, ◌++◌, length, refl, sym, ap, ◌∙◌, arith, subst}
-use Rattle.std.specs.Prelude.{Option, Some, None, map, if◌then◌else◌, ◌==◌, Result, Ok, Err, IfOk, IfErr}
+use Rattle.std.proofs.Common.{◌≡◌, inl, inr, ℕ, zero, suc, Bool, true, false, List, [], ◌∷◌, ◌++◌, refl, sym, ap, ◌∙◌, arith, subst}
+use Rattle.std.specs.Prelude.{Option, Some, map, if◌then◌else◌, ◌==◌, Result, Ok, Err, IfOk, IfErr}
 use Rattle.nm_model.specs.declared.event.Event.TheVariants as event
 use Rattle.nm_model.specs.declared.event.Op.TheVariants.{Has}
 use Rattle.nm_model.specs.declared.reply.Reply.{Reply}
 use Rattle.nm_model.specs.declared.reply.Reply.TheVariants as reply
 use Rattle.nm_model.specs.Walks.{Entry}
-use Rattle.nm_steps.specs.declared.view.Held.{Held}
-use Rattle.nm_steps.specs.declared.view.View.{View}
-use Rattle.nm_steps.specs.Rules.{held as is_held}
-use Rattle.nm_steps.specs.Steps.{Stand, IsSamePass, scan_reply}
+use Rattle.nm_steps.specs.Steps.{Stand, IsSamePass}
 use Rattle.nm_epoch.specs.declared.answers.Advance.{Advance}
 use Rattle.nm_epoch.specs.declared.answers.Advance.TheVariants as advance
 use Rattle.nm_epoch.specs.declared.collecting.Entry.{Entry as Waiting}
 use Rattle.nm_epoch.specs.Collecting.{freeing}
-use Rattle.nm_epoch.specs.Scans.{IsSightOf, LooksAt, AllLetPass, SightThenScans, IsAdvance, epoch_in}
-use Rattle.nm_epoch.specs.Tries.{LostTry, WonTry, LostTries, IsPinned, IsMoved}
+use Rattle.nm_epoch.specs.Scans.{LooksAt, AllLetPass, SightThenScans, IsAdvance}
+use Rattle.nm_epoch.specs.Tries.{LostTries, IsPinned, IsMoved}
 use Rattle.nm_epoch.specs.Watches.{AllWatched, SightThenWatch}
 use Rattle.nm_calls.specs.declared.lookup.Busy.{Busy}
 use Rattle.nm_calls.specs.Calls.{HasDid, HasMissed}
-use Rattle.nm_calls.specs.Won.{capped, won_links, won_flags, won_splices}
-use Rattle.nm_calls.proofs.Adding.{Adds, adds_none, adds_these, adds_then, pin_adds, moved_adds, lost_walks_add, end_adds}
+use Rattle.nm_calls.specs.Won.{won_links, won_flags, won_splices}
+use Rattle.nm_calls.proofs.Adding.{Adds, adds_none, adds_these, pin_adds, moved_adds, lost_walks_add, end_adds}
 use Rattle.nm_tree.specs.Workers.{log_among, log_of}
 
 -- nothing was won between a log and a later one

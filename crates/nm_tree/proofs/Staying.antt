@@ -1,10 +1,8 @@
 -- What a worker is between two calls, after a call that changes nothing in its hands.
-use Rattle.std.proofs.Common.{◌≡◌, ◌≢◌, ℕ, ◌+◌, ◌<◌, ◌≤◌, ◌⊎◌, inl, inr, true, false, List, [], ◌∷◌, Option, Some, None, length, refl, sym, ap, ◌∙◌, subst}
+use Rattle.std.proofs.Common.{◌≡◌, ℕ, ◌+◌, ◌≤◌, inl, inr, false, List, [], ◌∷◌, Option, Some, None, length, refl, sym, ap, ◌∙◌, subst}
 use Rattle.std.specs.Prelude.{IsSome, is_some, unwrap_or}
 use Rattle.nm_edge.specs.Layouts.{Layout}
-use Rattle.nm_edge.specs.declared.node.NodeId.{NodeId}
 use Rattle.nm_model.specs.declared.ledger.Ledger.{Ledger}
-use Rattle.nm_model.specs.declared.walks.Call.{Call}
 use Rattle.nm_model.specs.declared.knowledge.Seen.{Seen}
 use Rattle.nm_model.specs.Knowledge.{Knowledge, unread}
 use Rattle.nm_model.specs.Ledgers.{held, fresh_ledger}
@@ -12,10 +10,9 @@ use Rattle.nm_model.specs.Maps.{get, has}
 use Rattle.nm_model.specs.Searches.{Search}
 use Rattle.nm_steps.specs.Rules.{knowledge}
 use Rattle.nm_steps.specs.Steps.{Stand, IsSamePass}
-use Rattle.nm_epoch.specs.declared.collecting.Entry.{Entry}
 use Rattle.nm_epoch.specs.declared.collecting.HeldQueue.{HeldQueue}
-use Rattle.nm_epoch.specs.Collecting.{IsQueueOf, AreHeld}
-use Rattle.nm_epoch.specs.Resting.{IsResting, IsSettled, KeepsHands, Settles, Stays, IsPinnedAt, epochs, search}
+use Rattle.nm_epoch.specs.Collecting.{AreHeld}
+use Rattle.nm_epoch.specs.Resting.{IsResting, IsSettled, Settles, IsPinnedAt, epochs}
 use Rattle.nm_calls.specs.Deletes.{IsRemoving}
 use Rattle.nm_calls.specs.Telling.{IsInRun}
 use Rattle.nm_calls.specs.Won.{capped, won_links, won_flags, won_splices}
@@ -23,8 +20,9 @@ use Rattle.nm_tree.specs.declared.worker.Account.{Account}
 use Rattle.nm_tree.specs.declared.worker.Standing.{Standing}
 use Rattle.nm_tree.specs.declared.worker.Standing.TheVariants as standing
 use Rattle.nm_tree.specs.declared.worker.Unfinished.{Unfinished}
-use Rattle.nm_tree.specs.Workers.{Hand, pending_in, held_in, IsAs, IsHolding, IsBetweenCalls, IsWorker, IsAccount, AreAccounts, HasOrigin, StandsAt, log_of, ledger_in}
+use Rattle.nm_tree.specs.Workers.{Hand, pending_in, held_in, IsAs, IsHolding, IsWorker, IsAccount, AreAccounts, StandsAt, ledger_in}
 use Rattle.nm_tree.proofs.QueueLists.{queue_stays}
+use Rattle.nm_tree.proofs.Numbers.{numbers_stay, room_stays}
 use Rattle.nm_tree.proofs.Quiet.{Quiet, each_as_before}
 
 -- ---- queues and accounts
@@ -59,10 +57,10 @@ accounts_stay p q (h ∷ hs) (a ∷ xs) same none' ledgers are = (account_stays 
 -- ---- a whole worker
 
 -- nothing in its hands has changed, and nothing was won
-pub stays : (w : Hand) (xs : List Account) (home : ℕ) (q : Stand) (n : Option Unfinished) (e : Option ℕ) → IsWorker w xs home → IsSamePass w.pass q → Quiet w.pass.view.log q.view.log
+pub stays : {r s : ℕ} (w : Hand) (xs : List Account) (home : ℕ) (q : Stand) (n : Option Unfinished) (e : Option ℕ) → IsWorker w xs home r s → IsSamePass w.pass q → Quiet w.pass.view.log q.view.log
     → (knowledge q.view).drafts ≡ (knowledge w.pass.view).drafts → (knowledge q.view).ledgers ≡ (knowledge w.pass.view).ledgers → IsAs q n e
-    → IsWorker (record { pass = q; queues = w.queues; pending = n; held = e }) xs home
-stays w xs home q n e is same none' drafts ledgers stands =
+    → IsWorker (record { pass = q; queues = w.queues; pending = n; held = e }) xs home r s
+stays {r} {s} w xs home q n e is same none' drafts ledgers stands =
     let P : ℕ → Type 0 = λ number. StandsAt home number w.queues in
     record {
       between = record {
@@ -75,6 +73,9 @@ stays w xs home q n e is same none' drafts ledgers stands =
       accounts = accounts_stay w.pass q w.queues xs same none' (λ o. ap (λ (ls : List (Option Ledger)). unwrap_or (held ls o) fresh_ledger) ledgers) is.accounts;
       own = subst P (sym (ap (λ (x : Stand). x.view.number) same)) is.own;
       few = is.few;
+      numbers = numbers_stay w.pass q w.queues same is.numbers;
+      room = room_stays w.pass q r same is.room;
+      account_room = room_stays w.pass q s same is.account_room;
     }
 
 -- ---- where it stands

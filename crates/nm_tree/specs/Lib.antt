@@ -1,3 +1,4 @@
 pub mod Workers
 pub mod Answers
+pub mod Resigning
 pub mod Plays

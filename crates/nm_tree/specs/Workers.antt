@@ -169,12 +169,26 @@ pub record IsBetweenCalls (w : Hand) : Type 0 where
   pub private : (slot : ℕ) → get (knowledge w.pass.view).drafts slot ≡ None
   pub stands : IsAs w.pass w.pending w.held
 
--- these are its accounts, one a queue, 64 at most; and the own queue stands at that index
-pub record IsWorker (w : Hand) (xs : List Account) (home : ℕ) : Type 0 where
+-- a worker of that number is among these
+abbrev pub HasNumber : ℕ → List Held → Type 0
+HasNumber o [] = ⊥
+HasNumber o (h ∷ hs) = (h.number ≡ o) ⊎ HasNumber o hs
+
+-- the queues are those of the workers for whom the pass stands
+pub record AreOf (v : View) (hs : List HeldQueue) : Type 0 where
+  pub each : (o : ℕ) → HasOrigin o hs → HasNumber o (is_held v.number v.log ∷ v.others)
+  pub all : (o : ℕ) → HasNumber o (is_held v.number v.log ∷ v.others) → HasOrigin o hs
+
+-- these are its accounts, one a queue, 64 at most; the own queue stands at that index; the queues are those of the workers for whom it stands;
+-- and there is room for r queues and s accounts, one of each worker
+pub record IsWorker (w : Hand) (xs : List Account) (home r s : ℕ) : Type 0 where
   pub between : IsBetweenCalls w
   pub accounts : AreAccounts w.pass.view w.queues xs
   pub few : length w.queues ≤ 64
   pub own : StandsAt home w.pass.view.number w.queues
+  pub numbers : AreOf w.pass.view w.queues
+  pub room : w.pass.view.layout.workers ≤ r
+  pub account_room : w.pass.view.layout.workers ≤ s
 
 -- workers k and on, which have done nothing yet
 abbrev pub AreNew : Board → ℕ → List Hand → Type 0
@@ -189,6 +203,11 @@ IsFresh p = (k : ℕ) × (p.view ≡ fresh_view p.view.layout k)
 abbrev pub AreAllFresh : List Stand → Type 0
 AreAllFresh [] = Unit {0}
 AreAllFresh (p ∷ ps) = IsFresh p × AreAllFresh ps
+
+-- each of these is of a tree of at most so many workers
+abbrev pub HaveWorkers : ℕ → List Stand → Type 0
+HaveWorkers n [] = Unit {0}
+HaveWorkers n (p ∷ ps) = (p.view.layout.workers ≤ n) × HaveWorkers n ps
 
 -- its worker, with an empty queue of its own
 abbrev pub IsNewWorker : Stand → Hand → Type 0

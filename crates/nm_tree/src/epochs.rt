@@ -1,5 +1,5 @@
 //! Pins of the caller, and moving the epoch on.
-ghost use Rattle.std.specs.Prelude.{◌≡◌, ◌≢◌, ◌+◌, ◌*◌, ◌≤◌, length, Some, None, IsSome, IfOk};
+ghost use Rattle.std.specs.Prelude.{◌≡◌, ◌≢◌, ◌+◌, ◌*◌, ◌≤◌, length, Some, None, IsSome, IfOk, vec_capacity};
 ghost use Rattle.nm_model.specs.declared.event.Event.TheVariants.{Leave};
 ghost use Rattle.nm_model.specs.declared.reply.Reply.TheVariants.{Departed};
 ghost use Rattle.nm_steps.specs.Steps.{IsOf, IsInRun, IsSamePass, Stepped};
@@ -118,6 +118,7 @@ fn collect_all(shared: &Shared, pass: &mut Pass, queues: &mut Vec<HeldQueue>) ->
     ensures steps { length pass.new.view.log ≤ length pass.old.view.log + shared.now.layout.nodes }
     ensures settles { Settles pass.old pass.new }
     ensures private { (knowledge pass.new.view).drafts ≡ (knowledge pass.old.view).drafts }
+    ensures room { vec_capacity queues.new ≡ vec_capacity queues.old }
 {
     collect(shared, pass, queues.as_mut_slice())
 }
@@ -125,7 +126,8 @@ fn collect_all(shared: &Shared, pass: &mut Pass, queues: &mut Vec<HeldQueue>) ->
 /// Adds to each of these accounts the nodes that have left its queue.
 fn note_all(accounts: &mut Vec<Account>, queues: &[HeldQueue])
     requires paired { ArePaired queues.now accounts.old.items }
-    ensures { HaveNoted queues.now accounts.old.items accounts.new.items }
+    ensures noted { HaveNoted queues.now accounts.old.items accounts.new.items }
+    ensures room { vec_capacity accounts.new ≡ vec_capacity accounts.old }
 {
     note_freed(accounts.as_mut_slice(), queues);
 }

@@ -8,6 +8,7 @@ mod changes;
 mod epochs;
 mod fault;
 mod lookup;
+mod resigning;
 #[cfg(test)]
 mod tests;
 mod tree;
@@ -16,5 +17,6 @@ mod worker;
 pub use fault::{Fault, PinFault};
 pub use nm_epoch::{Advance, Behind, Collected};
 pub use nm_model::NewError;
+pub use resigning::{ResignFault, ResignReason};
 pub use tree::Tree;
 pub use worker::{Counts, Worker};

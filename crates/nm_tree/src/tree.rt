@@ -2,7 +2,7 @@
 ghost use Rattle.std.specs.Prelude.{◌≡◌, ◌≢◌, ◌<◌, ◌≤◌, ◌⊎◌, ◌↔◌, length, IfOk, IfErr, IsErrOf};
 ghost use Rattle.nm_edge.specs.Layouts.{IsLayout};
 ghost use Rattle.nm_steps.specs.Steps.{AreFresh};
-ghost use Rattle.nm_tree.specs.Workers.{AreNew, AreAllFresh, AreMade, IsFresh, IsNewWorker};
+ghost use Rattle.nm_tree.specs.Workers.{AreNew, AreAllFresh, AreMade, HaveWorkers, IsFresh, IsNewWorker};
 
 use crate::worker::{Account, Standing, Worker};
 use nm_edge::{LEAST_NODES, Layout, LayoutError, MOST_NODES, MOST_WORKERS};
@@ -63,6 +63,7 @@ fn layout_of(nodes: u32, workers: u32) -> Result<Layout, NewError>
 /// A worker of a pass that has done nothing yet, with room for the queues of all origins.
 fn worker_of(alloc: Global, pass: Pass, workers: usize) -> Result<Worker, AllocError>
     requires fresh { IsFresh pass }
+    requires room { pass.view.layout.workers ≤ workers }
     ensures { IfOk result (IsNewWorker pass) }
 {
     let mut queues = Vec::with_capacity(alloc, workers)?;
@@ -92,6 +93,7 @@ fn worker_of(alloc: Global, pass: Pass, workers: usize) -> Result<Worker, AllocE
 /// The workers of these passes, in their order.
 fn workers_of(alloc: Global, mut passes: Vec<Pass>) -> Result<Vec<Worker>, AllocError>
     requires fresh { AreAllFresh passes.items }
+    requires all { HaveWorkers (length passes.items) passes.items }
     ensures { IfOk result (λ ws. AreMade passes.items ws.items) }
 {
     let room = passes.len();

@@ -72,13 +72,14 @@ pub struct Worker {
 }
 
 impl Model for Worker {
+    ghost use Rattle.std.specs.Prelude.{vec_capacity};
     ghost use Rattle.nm_tree.specs.Workers.{Hand, IsWorker, pending_in, held_in};
 
     ghost Value = { Hand };
 
     ghost view = { λ w. record { pass = w.pass; queues = w.queues.items; pending = pending_in w.standing; held = held_in w.standing } };
 
-    ghost invariant = { λ w. IsWorker (record { pass = w.pass; queues = w.queues.items; pending = pending_in w.standing; held = held_in w.standing }) w.accounts.items w.home };
+    ghost invariant = { λ w. IsWorker (record { pass = w.pass; queues = w.queues.items; pending = pending_in w.standing; held = held_in w.standing }) w.accounts.items w.home (vec_capacity w.queues) (vec_capacity w.accounts) };
 }
 
 impl Worker {

@@ -1,9 +1,10 @@
 //! How two passes become one.
 ghost use Rattle.nm_steps.specs.Rules.{knowledge};
 ghost use Rattle.nm_steps.specs.Steps.{IsOf, HasEmptyHands, HasJoined};
+ghost use Rattle.nm_steps.specs.Ties.{StandsInRun};
 
 use crate::pass::{Pass, Shared};
-use crate::view::View;
+use crate::view::{Ties, View};
 use atomic_table::Join;
 
 /// The first view stands for both, and the join is in both logs.
@@ -19,12 +20,14 @@ impl Join<View> for Unite {
 
 impl Shared {
     /// The first pass stands for both, and takes over the ledgers that the second one's worker holds. That worker resigns;
-    /// it must have no private slot and no unlabelled cut. One step, which is in both logs.
+    /// it must have no private slot and no unlabelled cut. One step, which is in both logs. It reads the epoch's word and changes no word.
+    /// No number stands twice in the pass, so that no worker's ledger was held by both.
     pub fn join(&self, pass: Pass, other: Pass) -> Pass
         requires first { IsOf self.now pass }
         requires second { IsOf self.now other }
         requires hands { HasEmptyHands (knowledge other.view) }
-        ensures { HasJoined pass other result }
+        ensures joined { HasJoined pass other result }
+        ensures run { StandsInRun result.view }
     {
         let Pass {
             mut seat,
@@ -37,6 +40,8 @@ impl Shared {
             brief: _,
         } = other;
         self.table.shared.join_seat::<Unite>(&mut seat, spent);
+        let epoch = self.layout.epoch() as usize;
+        self.table.shared.load::<Ties>(&mut seat, epoch);
         Pass {
             seat,
             number,

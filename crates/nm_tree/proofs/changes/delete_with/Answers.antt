@@ -1,11 +1,7 @@
-use Rattle.std.proofs.Common.{rules, ◌≡◌, ℕ, ◌+◌, ◌-◌, ◌≤◌, ◌^◌, None, Some, List, length, ap, sym, refl, subst, ◌∙◌, arith, inl, inr}
-use Rattle.std.specs.Prelude.{Ok, Err, min}
+use Rattle.std.proofs.Common.{◌≤◌, length, ap, sym, refl, subst, ◌∙◌, arith}
 use Rattle.nm_edge.specs.Layouts.{Layout}
-use Rattle.nm_model.specs.Maps.{get}
 use Rattle.nm_steps.specs.Steps.{Stand}
-use Rattle.nm_calls.specs.Won.{links_of_insert, flags_of_delete}
-use Rattle.nm_tree.specs.declared.worker.Standing.TheVariants as standing
-use Rattle.nm_tree.specs.Workers.{Hand, IsWorker, IsBetweenCalls, held_in, pending_in}
+use Rattle.nm_calls.specs.Won.{flags_of_delete}
 use Rattle.nm_tree.proofs.OwnQueue.{kept_after}
 use Rattle.nm_tree.proofs.changes.delete_with.Goals as goal
 

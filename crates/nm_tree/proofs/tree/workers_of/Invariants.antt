@@ -1,12 +1,13 @@
 use Rattle.std.proofs.Common.{◌≡◌, List, ◌++◌, length}
 use Rattle.std.specs.Prelude.{reverse}
 use Rattle.nm_steps.specs.Steps.{Stand}
-use Rattle.nm_tree.specs.Workers.{AreAllFresh, AreMade}
+use Rattle.nm_tree.specs.Workers.{AreAllFresh, AreMade, HaveWorkers}
 use Rattle.nm_tree.proofs.tree.workers_of.Given as goal
 
 abbrev pub invariant-loop-pass : goal.invariant-loop-pass
 invariant-loop-pass l = record {
   fresh : AreAllFresh l.passes.items;
+  all : HaveWorkers l.room l.passes.items;
   made : (rest : List Stand) × (l.initial.passes.items ≡ l.passes.items ++ rest) × AreMade rest (reverse l.workers.items);
 }
 

@@ -1,8 +1,9 @@
-use Rattle.std.proofs.Common.{rules, sym, subst, arith}
+use Rattle.std.proofs.Common.{rules, sym, ap, subst, arith, ◌∙◌}
 use Rattle.nm_steps.specs.Rules.{knowledge}
 use Rattle.nm_steps.specs.Steps.{Stand, HasEmptyHands}
 use Rattle.nm_steps.proofs.Cutting.{joins}
 use Rattle.nm_steps.proofs.JoinedPasses.{joined_tied}
+use Rattle.nm_steps.proofs.Tying.{may_tie}
 use Rattle.nm_steps.proofs.pass.Shared.join.Goals as goal
 
 pub join_seat-requires : goal.join_seat-requires
@@ -14,5 +15,11 @@ join_seat-requires c = (
   joins _ _ _ _ _ c.pass.invariant.alive c.other.invariant.alive (subst (λ (p : Stand). HasEmptyHands (knowledge p.view)) (sym c.other.view_is) c.requires.hands),
 )
 
+-- the joined view's layout is the table's, and it is alive
+pub load-requires : goal.load-requires
+load-requires c =
+    may_tie _ _ _ _ _ c.self.invariant (search rules) (ap (λ m. m.0.spent) c.join_seat.ensures.2 ∙ c.pass.invariant.alive) (ap (λ m. m.1) c.join_seat.ensures.2 ∙ c.pass.invariant.empty)
+    (ap (λ m. m.0.layout) c.join_seat.ensures.2 ∙ search rules) c.epoch-epoch.ensures
+
 pub invariant_of-result : goal.invariant_of-result
-invariant_of-result c = joined_tied _ _ _ _ c.other.inside.seat.me.0 c.pass.invariant c.join_seat.ensures.2
+invariant_of-result c = joined_tied _ _ _ _ c.other.inside.seat.me.0 c.pass.invariant (c.load.ensures.2.0 ∙ c.join_seat.ensures.2)

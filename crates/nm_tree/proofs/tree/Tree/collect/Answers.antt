@@ -1,11 +1,3 @@
-use Rattle.std.proofs.Common.{rules, ◌≡◌, ℕ, ◌+◌, ◌-◌, ◌≤◌, ◌^◌, None, Some, List, length, ap, sym, refl, subst, ◌∙◌, arith, inl, inr}
-use Rattle.std.specs.Prelude.{Ok, Err, min}
-use Rattle.nm_edge.specs.Layouts.{Layout}
-use Rattle.nm_model.specs.Maps.{get}
-use Rattle.nm_steps.specs.Steps.{Stand}
-use Rattle.nm_calls.specs.Won.{links_of_insert, flags_of_delete}
-use Rattle.nm_tree.specs.declared.worker.Standing.TheVariants as standing
-use Rattle.nm_tree.specs.Workers.{Hand, IsWorker, IsBetweenCalls, held_in, pending_in}
 use Rattle.nm_tree.proofs.Quiet.{collected as collected_quietly}
 use Rattle.nm_tree.proofs.Staying.{stands_still, labelled}
 use Rattle.nm_tree.proofs.Freeing.{paired, collected}
@@ -18,9 +10,9 @@ pub invariant_of-worker : goal.invariant_of-worker
 invariant_of-worker c =
     let part = c.collect_all-collected.ensures.part in
     let was = c.worker.invariant.between.stands in
-    collected c.collect_all-collected.result.epoch _ _ _ c.worker.inside.home c.collect_all-collected.new.pass _ _ _ c.worker.invariant c.collect_all-collected.ensures.same c.collect_all-collected.ensures.run
+    collected c.collect_all-collected.result.epoch _ _ _ c.worker.inside.home c.collect_all-collected.new.pass _ _ _ c.collect_all-collected.ensures.room c.note_all.ensures.room c.worker.invariant c.collect_all-collected.ensures.same c.collect_all-collected.ensures.run
     (collected_quietly _ part.0 _ part.1.0 _ part.1.2 part.2) (labelled c.worker.inside.pass _ _ was) c.collect_all-collected.ensures.lost c.collect_all-collected.ensures.queues c.collect_all-collected.ensures.others c.collect_all-collected.ensures.retired
-    c.collect_all-collected.ensures.private (rw c.as_slice.ensures.value at c.note_all.ensures) (stands_still c.worker.inside.pass c.collect_all-collected.new.pass _ _ was c.collect_all-collected.ensures.settles c.collect_all-collected.ensures.run)
+    c.collect_all-collected.ensures.private (rw c.as_slice.ensures.value at c.note_all.ensures.noted) (stands_still c.worker.inside.pass c.collect_all-collected.new.pass _ _ was c.collect_all-collected.ensures.settles c.collect_all-collected.ensures.run)
 
 pub returns-clause-between : goal.returns-clause-between
 returns-clause-between c = (invariant_of-worker c).between

@@ -1,11 +1,8 @@
-use Rattle.std.proofs.Common.{rules, ◌≡◌, ℕ, ◌+◌, ◌-◌, ◌≤◌, ◌^◌, None, Some, List, length, ap, sym, refl, subst, ◌∙◌, arith, inl, inr}
-use Rattle.std.specs.Prelude.{Ok, Err, min, slice_set}
-use Rattle.nm_edge.specs.Layouts.{Layout}
+use Rattle.std.proofs.Common.{None, ap, refl, ◌∙◌, arith}
+use Rattle.std.specs.Prelude.{Ok, slice_set}
 use Rattle.nm_model.specs.Maps.{get}
 use Rattle.nm_steps.specs.Steps.{Stand}
-use Rattle.nm_calls.specs.Won.{links_of_insert, flags_of_delete}
-use Rattle.nm_tree.specs.declared.worker.Standing.TheVariants as standing
-use Rattle.nm_tree.specs.Workers.{Hand, IsWorker, IsBetweenCalls, held_in, pending_in}
+use Rattle.nm_tree.specs.Workers.{pending_in}
 use Rattle.nm_tree.proofs.QueueLists.{others_stay, others_after, stands_within}
 use Rattle.nm_tree.proofs.Changing.{accounts_within, kept_there, changed}
 use Rattle.nm_tree.proofs.Staying.{removing_in}

@@ -1,8 +1,6 @@
-use Rattle.std.proofs.Common.{rules, ◌≡◌, None, ap, sym, refl, ◌∙◌}
-use Rattle.std.specs.Prelude.{Ok, Err}
-use Rattle.nm_epoch.specs.Resting.{IsResting, epochs}
+use Rattle.std.proofs.Common.{◌≡◌, ap, ◌∙◌}
 use Rattle.nm_tree.specs.declared.worker.Standing.TheVariants as standing
-use Rattle.nm_tree.specs.Workers.{Hand, IsWorker, IsBetweenCalls, held_in, pending_in}
+use Rattle.nm_tree.specs.Workers.{Hand}
 use Rattle.nm_tree.proofs.Quiet.{has_quiet}
 use Rattle.nm_tree.proofs.Staying.{stays, resting_in, rests_in, rests_as, free_in}
 use Rattle.nm_tree.proofs.tree.Tree.has.Goals as goal

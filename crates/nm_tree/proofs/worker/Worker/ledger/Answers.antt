@@ -1,5 +1,4 @@
-use Rattle.std.proofs.Common.{arith, subst, ap, sym}
-use Rattle.nm_tree.specs.Workers.{Hand, IsLedger}
+use Rattle.std.proofs.Common.{arith}
 use Rattle.nm_tree.proofs.Changing.{accounts_within}
 use Rattle.nm_tree.proofs.Ledgers.{own_told}
 use Rattle.nm_tree.proofs.worker.Worker.ledger.Goals as goal

@@ -1,4 +1,4 @@
-use Rattle.std.proofs.Common.{rules, arith}
+use Rattle.std.proofs.Common.{arith}
 use Rattle.nm_tree.proofs.worker.Worker.origins.Goals as goal
 
 pub overflow_cast-result : goal.overflow_cast-result

@@ -1,0 +1,54 @@
+//! The report.
+ghost use Rattle.std.specs.Prelude.{◌≡◌, ◌↔◌, ℕ, ◌<◌, AllPairs, Contains};
+ghost use Rattle.nm_model.specs.Memory.{infinity_0};
+ghost use Rattle.nm_model.specs.Reports.{counts, keys};
+ghost use Rattle.nm_order.specs.Intervals.{InSet};
+ghost use Rattle.nm_report.specs.Ended.{IsEndOf, end_of};
+
+use crate::reading::count_free;
+use crate::room::Room;
+use crate::walk::walk;
+use nm_edge::{FIRST_SLOT, Key};
+use nm_model::keys::Subtree;
+use nm_steps::Words;
+
+/// What the words of a closed tree tell.
+#[derive(Debug, Drop)]
+pub struct Found {
+    /// The keys of the set, ascending: those of the reached leaves, flagged ones too, without the three infinite keys.
+    pub keys: Vec<Key>,
+    /// How many slots are in the pool.
+    pub free: u32,
+    /// How many slots are reached from the root, the five fixed ones left out.
+    pub reached: u32,
+}
+
+/// Reads the words of a closed tree: the keys of the set, how many slots are free, and how many are reached.
+///
+/// It takes no memory beside the room, and cannot fail. A stack takes the place of recursion, so the tree may be as deep as it has nodes.
+pub fn read(words: &Words, room: Room) -> Found
+    requires { IsEndOf room words.now }
+    ensures keys { (e : IsEndOf room words.now) → result.keys.items ≡ keys (end_of room words.now e) }
+    ensures set { (e : IsEndOf room words.now) (k : ℕ) → Contains result.keys.items k ↔ InSet (end_of room words.now e).memory k × (k < infinity_0) }
+    ensures ascending { AllPairs (λ j k. j < k) result.keys.items }
+    ensures free { (e : IsEndOf room words.now) → result.free ≡ (counts (end_of room words.now e)).pool }
+    ensures reached { (e : IsEndOf room words.now) → result.reached ≡ (counts (end_of room words.now e)).reached }
+{
+    let Room {
+        layout,
+        mut keys,
+        mut waiting,
+    } = room;
+    waiting
+        .push(Subtree {
+            slot: 1,
+            depth: layout.nodes(),
+        })
+        .unwrap();
+    let visited = walk(words, layout, &mut keys, &mut waiting);
+    Found {
+        keys,
+        free: count_free(words, layout),
+        reached: visited.saturating_sub(FIRST_SLOT - 1),
+    }
+}

@@ -1,0 +1,18 @@
+-- What a seat's logs are, whatever their ends: parts of one run.
+use Rattle.std.specs.Prelude.{◌≡◌, ◌≤◌, ℕ, false}
+use Rattle.atomic_table.specs.Table.{Me, Step}
+use Rattle.nm_edge.specs.Layouts.{IsLayout}
+use Rattle.nm_steps.specs.declared.view.View.{View}
+use Rattle.nm_steps.specs.Rules.{stands, once_below}
+use Rattle.nm_steps.specs.Steps.{IsOfRun}
+
+-- the seat is not spent, its own log is its worker's part of some run, the worker has not resigned, and each number stands once at most, below the number of workers
+pub record StandsInRun (v : View) : Type 0 where
+  pub alive : v.spent ≡ false
+  pub fits : IsLayout v.layout
+  pub run : IsOfRun v.layout v.number v.log
+  pub once : (w : ℕ) → stands w v ≤ once_below w v.layout.workers
+
+-- a read that changes nothing and tells this
+abbrev pub Tells : Step Unit → Me Unit View → ℕ → Me Unit View → Type 0
+Tells s me n after = (after ≡ me) × StandsInRun me.0

@@ -1,0 +1,22 @@
+-- The workers for whom a pass stands, and the room for their queues.
+use Rattle.std.proofs.Common.{◌≡◌, ℕ, ◌≤◌, ◌⊎◌, inl, inr, List, sym, ap, ◌∙◌, subst, arith}
+use Rattle.nm_steps.specs.declared.view.Held.{Held}
+use Rattle.nm_steps.specs.Steps.{Stand, IsSamePass}
+use Rattle.nm_epoch.specs.declared.collecting.HeldQueue.{HeldQueue}
+use Rattle.nm_tree.specs.Workers.{AreOf, HasNumber}
+
+pub numbers_stay : (p q : Stand) (hs : List HeldQueue) → IsSamePass p q → AreOf p.view hs → AreOf q.view hs
+numbers_stay p q hs same is =
+    let number : q.view.number ≡ p.view.number = ap (λ (x : Stand). x.view.number) same in
+    let others : q.view.others ≡ p.view.others = ap (λ (x : Stand). x.view.others) same in
+    record {
+      each = λ o has. there o number others (is.each o has);
+      all = λ o has. is.all o (there o (sym number) (sym others) has);
+    }
+  where
+    there : {m n : ℕ} {xs ys : List Held} (o : ℕ) → m ≡ n → xs ≡ ys → (n ≡ o) ⊎ HasNumber o ys → (m ≡ o) ⊎ HasNumber o xs
+    there o number others (inl is) = inl (number ∙ is)
+    there o number others (inr has) = inr (let P : List Held → Type 0 = λ hs. HasNumber o hs in subst P (sym others) has)
+
+pub room_stays : (p q : Stand) (r : ℕ) → IsSamePass p q → p.view.layout.workers ≤ r → q.view.layout.workers ≤ r
+room_stays p q r same room = let e = ap (λ (x : Stand). x.view.layout.workers) same in omega (arith, e, room)

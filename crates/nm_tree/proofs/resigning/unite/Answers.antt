@@ -1,0 +1,55 @@
+use Rattle.std.proofs.Common.{◌≡◌, ℕ, List, ap, sym, ◌∙◌, subst, arith}
+use Rattle.std.specs.Prelude.{vec_capacity}
+use Rattle.nm_steps.specs.declared.view.View.{View}
+use Rattle.nm_steps.specs.Rules.{joined}
+use Rattle.nm_steps.specs.Steps.{Board, Stand, IsOf, HasJoined}
+use Rattle.nm_steps.specs.Ties.{StandsInRun}
+use Rattle.nm_epoch.specs.declared.collecting.HeldQueue.{HeldQueue}
+use Rattle.nm_tree.specs.declared.worker.Account.{Account}
+use Rattle.nm_tree.specs.Resigning.{merged, merged_accounts, place_in}
+use Rattle.nm_tree.specs.Workers.{Hand, IsWorker, pending_in, held_in}
+use Rattle.nm_tree.proofs.United.{empty_hands, as_many_accounts, few_queues, united}
+use Rattle.nm_tree.proofs.resigning.unite.Goals as goal
+
+pub join-pass-requires-clause-hands : goal.join-pass-requires-clause-hands
+join-pass-requires-clause-hands c = empty_hands _ c.leaver.invariant.between
+
+-- both are of one tree, and then of one layout
+layouts : (b : Board) (h g h' g' : Hand) → h ≡ h' → g ≡ g' → IsOf b h'.pass → IsOf b g'.pass → h.pass.view.layout ≡ g.pass.view.layout
+layouts b h g h' g' first second own other = ap (λ (x : Hand). x.pass.view.layout) first ∙ (own.layout ∙ (sym other.layout ∙ sym (ap (λ (x : Hand). x.pass.view.layout) second)))
+
+in_run : (p o q : Stand) → HasJoined p o q → StandsInRun q.view → StandsInRun (joined p.view o.view)
+in_run p o q is run = let P : View → Type 0 = λ v. StandsInRun v in subst P (ap (λ (x : Stand). x.view) is) run
+
+pub take_over-requires-clause-room : goal.take_over-requires-clause-room
+take_over-requires-clause-room c = let few = few_queues _ _ _ _ _ _ c.heir.invariant c.leaver.invariant (layouts _ _ _ _ _ c.heir.view_is c.leaver.view_is c.requires.heir c.requires.leaver) (in_run c.heir.inside.pass c.leaver.inside.pass c.join-pass.result c.join-pass.ensures.joined c.join-pass.ensures.run) in let room = c.heir.invariant.room in omega (arith, few, room)
+
+pub take_over-requires-clause-account_room : goal.take_over-requires-clause-account_room
+take_over-requires-clause-account_room c = let few = few_queues _ _ _ _ _ _ c.heir.invariant c.leaver.invariant (layouts _ _ _ _ _ c.heir.view_is c.leaver.view_is c.requires.heir c.requires.leaver) (in_run c.heir.inside.pass c.leaver.inside.pass c.join-pass.result c.join-pass.ensures.joined c.join-pass.ensures.run) in let room = c.heir.invariant.account_room in omega (arith, few, room)
+
+pub take_over-requires-clause-paired : goal.take_over-requires-clause-paired
+take_over-requires-clause-paired c = (as_many_accounts _ _ _ c.heir.invariant.accounts, as_many_accounts _ _ _ c.leaver.invariant.accounts)
+
+pub invariant_of-result : goal.invariant_of-result
+invariant_of-result c =
+    let hs : List HeldQueue = merged c.heir.inside.queues.items c.leaver.inside.queues.items in
+    let xs : List Account = merged_accounts c.heir.inside.queues.items c.heir.inside.accounts.items c.leaver.inside.queues.items c.leaver.inside.accounts.items in
+    let n = pending_in c.heir.inside.standing in
+    let e = held_in c.heir.inside.standing in
+    let v = c.heir.inside.pass.view in
+    let both = united _ _ _ _ c.heir.inside.home c.leaver.inside.home c.heir.invariant c.leaver.invariant (layouts _ _ _ _ _ c.heir.view_is c.leaver.view_is c.requires.heir c.requires.leaver) (in_run c.heir.inside.pass c.leaver.inside.pass c.join-pass.result c.join-pass.ensures.joined c.join-pass.ensures.run) in
+    let home : c.place_of-home.result ≡ place_in v.number hs =
+    c.place_of-home.ensures.place
+    ∙ (ap (λ (l : List HeldQueue). place_in c.number.result l) (c.as_slice.ensures.value ∙ c.take_over.ensures.queues)
+    ∙ ap (λ (k : ℕ). place_in k hs) (c.number.ensures.number ∙ ap (λ (q : Stand). q.view.number) c.join-pass.ensures.joined)) in
+    let P : Stand → Type 0 = λ q. IsWorker (record { pass = q; queues = hs; pending = n; held = e }) xs (place_in v.number hs) (vec_capacity c.heir.inside.queues) (vec_capacity c.heir.inside.accounts) in
+    let Q : List HeldQueue → Type 0 = λ l. IsWorker (record { pass = c.join-pass.result; queues = l; pending = n; held = e }) xs (place_in v.number hs) (vec_capacity c.heir.inside.queues) (vec_capacity c.heir.inside.accounts) in
+    let R : List Account → Type 0 = λ l. IsWorker (record { pass = c.join-pass.result; queues = c.take_over.new.queues.items; pending = n; held = e }) l (place_in v.number hs) (vec_capacity c.heir.inside.queues) (vec_capacity c.heir.inside.accounts) in
+    let S : ℕ → Type 0 = λ k. IsWorker (record { pass = c.join-pass.result; queues = c.take_over.new.queues.items; pending = n; held = e }) c.take_over.new.accounts.items k (vec_capacity c.heir.inside.queues) (vec_capacity c.heir.inside.accounts) in
+    let T : ℕ → Type 0 = λ k. IsWorker (record { pass = c.join-pass.result; queues = c.take_over.new.queues.items; pending = n; held = e }) c.take_over.new.accounts.items c.place_of-home.result k (vec_capacity c.heir.inside.accounts) in
+    let U : ℕ → Type 0 = λ k. IsWorker (record { pass = c.join-pass.result; queues = c.take_over.new.queues.items; pending = n; held = e }) c.take_over.new.accounts.items c.place_of-home.result (vec_capacity c.take_over.new.queues) k in
+    subst U (sym c.take_over.ensures.capacity.1)
+    (subst T (sym c.take_over.ensures.capacity.0) (subst S (sym home) (subst R (sym c.take_over.ensures.accounts) (subst Q (sym c.take_over.ensures.queues) (subst P (sym c.join-pass.ensures.joined) both)))))
+
+pub returns-clause-between : goal.returns-clause-between
+returns-clause-between c = (invariant_of-result c).between

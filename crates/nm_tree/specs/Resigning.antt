@@ -1,0 +1,43 @@
+-- What a worker that resigns leaves to its heir.
+use Rattle.std.specs.Prelude.{◌≡◌, ℕ, suc, nat_lt, if◌then◌else◌, List, [], ◌∷◌, None, IsSome, insert}
+use Rattle.nm_epoch.specs.declared.collecting.HeldQueue.{HeldQueue}
+use Rattle.nm_steps.specs.Steps.{HasJoined}
+use Rattle.nm_tree.specs.declared.resigning.ResignReason.{ResignReason}
+use Rattle.nm_tree.specs.declared.resigning.ResignReason.TheVariants as because
+use Rattle.nm_tree.specs.declared.worker.Account.{Account}
+use Rattle.nm_tree.specs.Answers.{KeepsPlace}
+use Rattle.nm_tree.specs.Workers.{Hand, IsBetweenCalls}
+
+-- behind how many of these a queue of that origin has its place
+abbrev pub place_in : ℕ → List HeldQueue → ℕ
+place_in o [] = 0
+place_in o (h ∷ hs) = if nat_lt h.origin o then suc (place_in o hs) else 0
+
+-- one queue more, by ascending origin
+abbrev pub inserted : HeldQueue → List HeldQueue → List HeldQueue
+inserted g [] = g ∷ []
+inserted g (h ∷ hs) = if nat_lt h.origin g.origin then h ∷ inserted g hs else g ∷ h ∷ hs
+
+-- the second queues among the first, by ascending origin, each as it was
+abbrev pub merged : List HeldQueue → List HeldQueue → List HeldQueue
+merged hs [] = hs
+merged hs (g ∷ gs) = inserted g (merged hs gs)
+
+-- and their accounts, in the same order
+abbrev pub merged_accounts : List HeldQueue → List Account → List HeldQueue → List Account → List Account
+merged_accounts hs xs (g ∷ gs) (y ∷ ys) = insert (merged_accounts hs xs gs ys) (place_in g.origin (merged hs gs)) y
+merged_accounts hs xs _ _ = xs
+
+-- the leaver was in the midst of nothing; one step, by which the heir's pass stands for both; and the heir holds the queues of both, by ascending
+-- origin, each as it was. What was pending or held of the heir is so still
+pub record HasResigned (heir leaver z : Hand) : Type 0 where
+  pub free : (leaver.held ≡ None) × (leaver.pending ≡ None)
+  pub joined : HasJoined heir.pass leaver.pass z.pass
+  pub queues : z.queues ≡ merged heir.queues leaver.queues
+  pub place : KeepsPlace heir z
+  pub between : IsBetweenCalls z
+
+-- why a worker may not resign
+abbrev pub IsReason : Hand → ResignReason → Type 0
+IsReason leaver because.Held = IsSome leaver.held
+IsReason leaver because.Pending = (leaver.held ≡ None) × IsSome leaver.pending

@@ -1,0 +1,141 @@
+//! Workers that end early.
+ghost use Rattle.std.specs.Prelude.{◌≡◌, ◌+◌, ◌≤◌, ◌<◌, length, insert, vec_len, vec_capacity, IfOk, IfErr};
+ghost use Rattle.nm_steps.specs.Steps.{IsOf, HasJoined};
+ghost use Rattle.nm_tree.specs.Answers.{KeepsPlace};
+ghost use Rattle.nm_tree.specs.Workers.{IsBetweenCalls};
+ghost use Rattle.nm_tree.specs.Resigning.{HasResigned, IsReason, merged, merged_accounts, place_in};
+
+use crate::tree::Tree;
+use crate::worker::{Account, Standing, Worker};
+use nm_epoch::HeldQueue;
+use nm_steps::Shared;
+use thiserror::Error;
+
+/// Why a worker may not resign.
+#[derive(Clone, Copy, Debug, Error, PartialEq, Eq)]
+pub enum ResignReason {
+    /// The caller holds the leaver: it is pinned until `unpin`.
+    #[error("the leaver is held")]
+    Held,
+    /// The leaver has flagged a leaf which is not known to be cut off: it is pinned until `finish` answers true.
+    #[error("the leaver has a pending key")]
+    Pending,
+}
+
+/// A worker has not resigned. Both workers are as they were, and there was no step.
+#[derive(Drop)]
+pub struct ResignFault {
+    pub reason: ResignReason,
+    pub heir: Worker,
+    pub leaver: Worker,
+}
+
+impl Tree {
+    /// The leaver resigns: its heir holds all queues that it held, each in its order, and `collect` of the heir frees from them too. One step,
+    /// and no memory. It is for a thread that ends before the others. Both are workers of this tree; the heir may be held or have a pending key.
+    ///
+    /// `Held`: the leaver is held. `Pending`: it has a pending key. Both workers are handed back as they were, after no step.
+    /// (Limbo lists that are passed on: Fraser, Practical lock-freedom, section 5.2.3.)
+    pub fn resign(&self, heir: Worker, leaver: Worker) -> Result<Worker, ResignFault>
+        requires heir { IsOf self.now heir.pass }
+        requires leaver { IsOf self.now leaver.pass }
+        ensures done { IfOk result (HasResigned heir leaver) }
+        ensures refused { IfErr result (λ f. IsReason leaver f.reason × (f.heir ≡ heir) × (f.leaver ≡ leaver)) }
+    {
+        let reason = match leaver.standing {
+            Standing::Held(_) => ResignReason::Held,
+            Standing::Pending(_) => ResignReason::Pending,
+            Standing::Resting => return Ok(unite(&self.shared, heir, leaver)),
+        };
+        Err(ResignFault {
+            reason,
+            heir,
+            leaver,
+        })
+    }
+}
+
+/// One worker that stands for both, in the midst of what the first was in: one step.
+pub(crate) fn unite(shared: &Shared, heir: Worker, leaver: Worker) -> Worker
+    requires heir { IsOf shared.now heir.pass }
+    requires leaver { IsOf shared.now leaver.pass }
+    ensures joined { HasJoined heir.pass leaver.pass result.pass }
+    ensures queues { result.queues ≡ merged heir.queues leaver.queues }
+    ensures place { KeepsPlace heir result }
+    ensures between { IsBetweenCalls result }
+{
+    let Worker {
+        pass,
+        mut queues,
+        mut accounts,
+        home: _,
+        standing,
+    } = heir;
+    let Worker {
+        pass: other,
+        queues: more,
+        accounts: theirs,
+        home: _,
+        standing: _,
+    } = leaver;
+    let pass = shared.join(pass, other);
+    take_over(&mut queues, &mut accounts, more, theirs);
+    let home = place_of(queues.as_slice(), pass.number());
+    Worker {
+        pass,
+        queues,
+        accounts,
+        home,
+        standing,
+    }
+}
+
+/// Puts more queues with their accounts among these, by origin. There is room for them.
+fn take_over(
+    queues: &mut Vec<HeldQueue>,
+    accounts: &mut Vec<Account>,
+    mut more: Vec<HeldQueue>,
+    mut theirs: Vec<Account>,
+)
+    requires room { length queues.old.items + length more.items ≤ vec_capacity queues.old }
+    requires account_room { length queues.old.items + length more.items ≤ vec_capacity accounts.old }
+    requires paired { (length accounts.old.items ≡ length queues.old.items) × (length theirs.items ≡ length more.items) }
+    ensures queues { queues.new.items ≡ merged queues.old.items more.items }
+    ensures accounts { accounts.new.items ≡ merged_accounts queues.old.items accounts.old.items more.items theirs.items }
+    ensures capacity { (vec_capacity queues.new ≡ vec_capacity queues.old) × (vec_capacity accounts.new ≡ vec_capacity accounts.old) }
+{
+    while let Some(queue) = more.pop() {
+        let Some(account) = theirs.pop() else {
+            unreachable!()
+        };
+        let place = place_of(queues.as_slice(), queue.origin);
+        put_at(queues, place, queue);
+        put_at(accounts, place, account);
+    }
+}
+
+/// Puts an item at an index. There is room for it.
+fn put_at<T: Drop>(items: &mut Vec<T>, place: usize, item: T)
+    requires { (place ≤ length items.old.items) × (length items.old.items < vec_capacity items.old) }
+    ensures items { items.new.items ≡ insert items.old.items place item }
+    ensures capacity { vec_capacity items.new ≡ vec_capacity items.old }
+{
+    let Ok(()) = items.insert(place, item) else {
+        unreachable!()
+    };
+}
+
+/// Behind how many of these queues one of that origin has its place.
+fn place_of(queues: &[HeldQueue], origin: u32) -> usize
+    ensures place { result ≡ place_in origin queues.now }
+    ensures within { result ≤ length queues.now }
+{
+    let Some((first, rest)) = queues.split_first() else {
+        return 0;
+    };
+    if first.origin < origin {
+        1 + place_of(rest, origin)
+    } else {
+        0
+    }
+}
