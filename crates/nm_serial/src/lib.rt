@@ -1,6 +1,7 @@
 //! Scripts played on the real tree: a file of calls in, what each call answered out.
 #![tactic(auto)]
 
+mod crew;
 mod gate;
 mod making;
 mod own_lines;
