@@ -142,6 +142,7 @@ changed {r} {s} w xs home q n e g b is same kept others private stands =
       few = let P : ℕ → Type 0 = λ n. n ≤ 64 in subst P (sym (length-set w.queues home g)) is.few;
       own = let P : ℕ → Type 0 = λ o. StandsAt home o (slice_set w.queues home g) in subst P (sym number) (stands_after home w.pass.view.number home w.queues g is.own own);
       numbers = numbers_stay w.pass q (slice_set w.queues home g) same (numbers_after w.pass.view home w.pass.view.number w.queues g is.own own is.numbers);
+      alive = ap (λ (x : Stand). x.view.spent) same ∙ is.alive;
       room = room_stays w.pass q r same is.room;
       account_room = room_stays w.pass q s same is.account_room;
     }

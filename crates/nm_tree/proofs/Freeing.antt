@@ -174,6 +174,7 @@ collected {r} {s} {r'} {s'} epoch w xs ys home q gs n e same_room same_account_r
       few = let F : ℕ → Type 0 = λ n. n ≤ 64 in subst F (as_many_queues epoch w.queues gs lost) is.few;
       own = subst P (sym (ap (λ (x : Stand). x.view.number) same)) (stands_still_at epoch home w.pass.view.number w.queues gs lost is.own);
       numbers = numbers_stay w.pass q gs same (record { each = λ o has. is.numbers.each o (had_it epoch o w.queues gs lost has); all = λ o has. has_still epoch o w.queues gs lost (is.numbers.all o has) });
+      alive = ap (λ (x : Stand). x.view.spent) same ∙ is.alive;
       room = let now = room_stays w.pass q r same is.room in omega (arith, now, same_room);
       account_room = let now = room_stays w.pass q s same is.account_room in omega (arith, now, same_account_room);
     }

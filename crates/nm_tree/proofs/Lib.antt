@@ -12,3 +12,4 @@ pub mod Ledgers
 pub mod Merging
 pub mod Heirs
 pub mod United
+pub mod Closed

@@ -1,5 +1,5 @@
 -- Workers that have done nothing yet.
-use Rattle.std.proofs.Common.{◌≡◌, ℕ, suc, ◌≤◌, ◌⊎◌, inl, inr, List, [], ◌∷◌, ◌++◌, length, refl, sym, ap, ◌∙◌, subst, arith}
+use Rattle.std.proofs.Common.{false, ◌≡◌, ℕ, suc, ◌≤◌, ◌⊎◌, inl, inr, List, [], ◌∷◌, ◌++◌, length, refl, sym, ap, ◌∙◌, subst, arith}
 use Rattle.std.specs.Prelude.{Option, Some, None, IsSome, unwrap_or, reverse}
 use Rattle.std.proofs.lemmas.List.{reverse-append}
 use Rattle.std.proofs.lemmas.Bool.Decides.{eqb_tells}
@@ -44,9 +44,9 @@ fresh_account p h d own empty =
       split = omega (arith, none', r, f);
     }
 
-pub new_worker : (p : Stand) (h : HeldQueue) (r s : ℕ) → HasDoneNothing p → h.origin ≡ p.view.number → h.queue.items ≡ [] → p.view.others ≡ [] → p.view.layout.workers ≤ r → p.view.layout.workers ≤ s
+pub new_worker : (p : Stand) (h : HeldQueue) (r s : ℕ) → HasDoneNothing p → h.origin ≡ p.view.number → h.queue.items ≡ [] → p.view.others ≡ [] → p.view.spent ≡ false → p.view.layout.workers ≤ r → p.view.layout.workers ≤ s
     → IsWorker (record { pass = p; queues = h ∷ []; pending = None; held = None }) (blank h.origin ∷ []) 0 r s
-new_worker p h r s d own empty alone room account_room =
+new_worker p h r s d own empty alone alive room account_room =
     let queue : IsQueueOf (knowledge p.view) h.origin h.queue.items =
     let P : ℕ → Type 0 = λ o. IsQueueOf (knowledge p.view) o h.queue.items in
     let Q : List Entry → Type 0 = λ es. IsQueueOf (knowledge p.view) p.view.number es in
@@ -61,6 +61,7 @@ new_worker p h r s d own empty alone room account_room =
       accounts = (fresh_account p h d own empty, tt);
       few = omega arith;
       own = own;
+      alive = alive;
       numbers = record { each = λ o has. only o has; all = λ o has. back o (let P : List Held → Type 0 = λ hs. (p.view.number ≡ o) ⊎ HasNumber o hs in subst P alone has) };
       room = room;
       account_room = account_room;

@@ -74,6 +74,7 @@ stays {r} {s} w xs home q n e is same none' drafts ledgers stands =
       own = subst P (sym (ap (λ (x : Stand). x.view.number) same)) is.own;
       few = is.few;
       numbers = numbers_stay w.pass q w.queues same is.numbers;
+      alive = ap (λ (x : Stand). x.view.spent) same ∙ is.alive;
       room = room_stays w.pass q r same is.room;
       account_room = room_stays w.pass q s same is.account_room;
     }

@@ -171,6 +171,7 @@ module _ {r s r' s' : ℕ} (p u : Hand) (xs ys : List Account) (home home' : ℕ
     few = let f = few_queues in let sum = length-merged p.queues u.queues in let most = run.fits.few in omega (arith, f, sum, most);
     own = stands_at_place v.number all ascends (all_numbers v.number (inl refl));
     numbers = record { each = each_number; all = all_numbers };
+    alive = is.alive;
     room = is.room;
     account_room = is.account_room;
   }

@@ -1,4 +1,5 @@
 pub mod Workers
 pub mod Answers
 pub mod Resigning
+pub mod Closing
 pub mod Plays

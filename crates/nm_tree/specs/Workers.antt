@@ -186,6 +186,7 @@ pub record IsWorker (w : Hand) (xs : List Account) (home r s : ℕ) : Type 0 whe
   pub accounts : AreAccounts w.pass.view w.queues xs
   pub few : length w.queues ≤ 64
   pub own : StandsAt home w.pass.view.number w.queues
+  pub alive : w.pass.view.spent ≡ false
   pub numbers : AreOf w.pass.view w.queues
   pub room : w.pass.view.layout.workers ≤ r
   pub account_room : w.pass.view.layout.workers ≤ s

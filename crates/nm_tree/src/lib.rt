@@ -5,6 +5,7 @@
 #![tactic(auto)]
 
 mod changes;
+mod closing;
 mod epochs;
 mod fault;
 mod lookup;
@@ -14,8 +15,9 @@ mod tests;
 mod tree;
 mod worker;
 
+pub use closing::{CloseError, CloseReason, Report};
 pub use fault::{Fault, PinFault};
-pub use nm_epoch::{Advance, Behind, Collected};
+pub use nm_epoch::{Advance, Behind, Collected, Entry, HeldQueue};
 pub use nm_model::NewError;
 pub use resigning::{ResignFault, ResignReason};
 pub use tree::Tree;

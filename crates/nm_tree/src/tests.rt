@@ -9,6 +9,7 @@ use nm_edge::Key;
 use std::process::Abort;
 use std::test::Fail;
 
+mod endings;
 mod plays;
 mod threads;
 

@@ -1,0 +1,102 @@
+-- What the end of a tree leaves.
+use Rattle.std.proofs.Common.{◌≡◌, ℕ, suc, ◌+◌, ◌<◌, ◌≤◌, inl, inr, List, [], ◌∷◌, ◌++◌, length, refl, ap, ◌∙◌, subst, arith}
+use Rattle.std.proofs.lemmas.List.Sums.{sum_by-cons}
+use Rattle.nm_model.specs.Ordered.{ordered, after_in}
+use Rattle.nm_model.specs.Reports.{counts, keys}
+use Rattle.nm_report.specs.Ended.{IsEndOf, end_of}
+use Rattle.nm_steps.specs.declared.view.View.{View}
+use Rattle.nm_steps.specs.Rules.{knowledge, stands, once_below}
+use Rattle.nm_steps.specs.Steps.{Board, Stand, IsOf, Ends, HasJoined}
+use Rattle.nm_steps.proofs.Keeping.{live, once_is}
+use Rattle.nm_epoch.specs.declared.collecting.HeldQueue.{HeldQueue}
+use Rattle.nm_epoch.specs.Collecting.{AreHeld}
+use Rattle.nm_tree.specs.declared.worker.Account.{Account}
+use Rattle.nm_tree.specs.Workers.{Hand, IsWorker, HasOrigin, AreAbove, Ascend}
+use Rattle.nm_tree.specs.Closing.{AreAllOf, AreFrom, IsClosed, all_joined, all_merged, given_in}
+use Rattle.nm_tree.proofs.Heirs.{logs, times, has_times}
+use Rattle.nm_tree.proofs.Merging.{length-merged}
+
+-- ---- the workers one by one
+
+pub all_before : (b : Board) (ws : List Hand) (w : Hand) → AreAllOf b (ws ++ w ∷ []) → AreAllOf b ws × IsOf b w.pass
+all_before b [] w are = (tt, are.0)
+all_before b (u ∷ ws) w are = let rest = all_before b ws w are.1 in ((are.0, rest.0), rest.1)
+
+-- the pass of both is of that tree
+pub still_of : (b : Board) (p o q : Stand) → HasJoined p o q → IsOf b p → IsOf b q
+still_of b p o q is own = record { table = ap (λ (x : Stand). x.table) is ∙ own.table; layout = ap (λ (x : Stand). x.view.layout) is ∙ own.layout }
+
+-- as many queues as workers were given
+pub all_given : (ws : List Hand) → length (all_merged ws) ≡ given_in ws
+all_given [] = refl
+all_given (w ∷ []) = let one = sum_by-cons (λ (x : Hand). length x.queues) w [] in omega (arith, one)
+all_given (w ∷ u ∷ ws) =
+    let rest = all_given (u ∷ ws) in
+    let both = length-merged (all_merged (u ∷ ws)) w.queues in
+    let sum = sum_by-cons (λ (x : Hand). length x.queues) w (u ∷ ws) in
+    omega (arith, rest, both, sum)
+
+-- ---- ascending numbers below n, as many as n
+
+few_above : (n o : ℕ) (hs : List HeldQueue) → o < n → AreAbove o hs → ((x : ℕ) → HasOrigin x hs → x < n) → length hs + suc o ≤ n
+few_above n o [] less above below = omega (arith, less)
+few_above n o (h ∷ hs) less above below =
+    let rest = few_above n h.origin hs (below h.origin (inl refl)) above.1 (λ x has. below x (inr has)) in
+    let up = above.0 in
+    omega (arith, rest, up)
+
+none_left : (n i : ℕ) (hs : List HeldQueue) → AreAbove i hs → ((x : ℕ) → HasOrigin x hs → x < n) → n ≤ length hs + suc i → AreFrom (suc i) hs
+none_left n i [] above below many = tt
+none_left n i (h ∷ hs) above below many =
+    let rest = few_above n h.origin hs (below h.origin (inl refl)) above.1 (λ x has. below x (inr has)) in
+    let up = above.0 in
+    let at : h.origin ≡ suc i = omega (arith, rest, up, many) in
+    let P : ℕ → Type 0 = λ k. AreFrom (suc k) hs in
+    (at, subst P at (none_left n h.origin hs above.1 (λ x has. below x (inr has)) (omega (arith, at, many))))
+
+pub all_in_order : (n : ℕ) (hs : List HeldQueue) → Ascend hs → ((x : ℕ) → HasOrigin x hs → x < n) → n ≤ length hs → AreFrom 0 hs × (length hs ≡ n)
+all_in_order n [] up below many = (tt, omega (arith, many))
+all_in_order n (h ∷ hs) up below many =
+    let rest = few_above n h.origin hs (below h.origin (inl refl)) up (λ x has. below x (inr has)) in
+    let at : h.origin ≡ 0 = omega (arith, rest, many) in
+    let P : ℕ → Type 0 = λ k. AreFrom (suc k) hs in
+    ((at, subst P at (none_left n h.origin hs up (λ x has. below x (inr has)) (omega (arith, at, many)))), omega (arith, rest, many))
+
+-- ---- the whole
+
+module _ (b : Board) (w : Hand) (xs : List Account) (home r s : ℕ) (ws : List Hand) (kept : List ℕ) (free reached : ℕ) (words : List ℕ) (is : IsWorker w xs home r s)
+    (view : w.pass.view ≡ all_joined ws) (queues : w.queues ≡ all_merged ws) (enough : b.layout.workers ≤ given_in ws) (end : Ends b.layout words w.pass.view)
+    (keys_are : (e' : IsEndOf b.layout words) → kept ≡ keys (end_of b.layout words e')) (free_are : (e' : IsEndOf b.layout words) → free ≡ (counts (end_of b.layout words e')).pool)
+    (reached_are : (e' : IsEndOf b.layout words) → reached ≡ (counts (end_of b.layout words e')).reached) where
+  below : (o : ℕ) → HasOrigin o w.queues → o < b.layout.workers
+  below o has =
+      let once = end.once o in
+      let all : stands o w.pass.view ≡ times o (logs w.pass.view) = ap (times o) (live w.pass.view is.alive) in
+      let some' = has_times o (logs w.pass.view) (is.numbers.each o has) in
+      (once_is o b.layout.workers).1 (omega (arith, once, all, some'))
+
+  in_order : AreFrom 0 w.queues × (length w.queues ≡ b.layout.workers)
+  in_order =
+      let many : length w.queues ≡ given_in ws = ap (λ (l : List HeldQueue). length l) queues ∙ all_given ws in
+      all_in_order b.layout.workers w.queues is.between.ascend below (omega (arith, many, enough))
+
+  the_end : IsEndOf b.layout words
+  the_end = record { fits = end.fits; turns = end.turns; keys = end.keys; words_are = end.words_are }
+
+  ends : Ends b.layout words (all_joined ws)
+  ends = record { fits = end.fits; turns = end.turns; keys = end.keys; words_are = end.words_are; shown = subst (λ (v : View). Rattle.nm_steps.specs.Rules.IsShown b.layout (Rattle.nm_model.specs.Ordered.trace_in (ordered b.layout) end.turns) v) view end.shown; once = subst (λ (v : View). (o : ℕ) → stands o v ≤ once_below o b.layout.workers) view end.once }
+
+  pub closed : IsClosed b ws w.queues kept free reached
+  unfolding ends the_end
+  closed = record {
+    enough = enough;
+    words = words;
+    ends = ends;
+    merged = queues;
+    each = in_order.0;
+    all = in_order.1;
+    held = subst (λ (v : View). AreHeld (knowledge v) w.queues) view is.between.queues;
+    keys_are = keys_are the_end;
+    free_are = free_are the_end;
+    reached_are = reached_are the_end;
+  }

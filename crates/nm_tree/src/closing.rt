@@ -1,0 +1,133 @@
+//! The end of a tree.
+ghost use Rattle.std.specs.Prelude.{◌≡◌, ◌<◌, ◌≤◌, length, min, IfOk, IfErr};
+ghost use Rattle.nm_steps.specs.Steps.{IsOf};
+ghost use Rattle.nm_tree.specs.Closing.{AreAllOf, IsClosed, IsCloseReason, all_joined, all_merged, given_in};
+
+use crate::resigning::unite;
+use crate::tree::Tree;
+use crate::worker::Worker;
+use nm_edge::Key;
+use nm_epoch::HeldQueue;
+use nm_report::{Found, Room, read};
+use nm_steps::Shared;
+use thiserror::Error;
+
+/// Why a tree was not closed.
+#[derive(Clone, Copy, Debug, Error, PartialEq, Eq)]
+pub enum CloseReason {
+    /// Fewer workers were given than the tree has. Those that resigned count with their heirs.
+    #[error("{given} of {made} workers were given")]
+    NotAll { given: u32, made: u32 },
+    /// The room of the report was refused.
+    #[error("there is no memory for the report")]
+    NoMemory,
+}
+
+/// A tree was not closed. It and the workers that were given are as they were.
+#[derive(Drop)]
+pub struct CloseError {
+    pub reason: CloseReason,
+    pub tree: Tree,
+    pub workers: Vec<Worker>,
+}
+
+/// What stood in a tree at its end. The free and the reached slots and the nodes that wait are together all its nodes but the five fixed ones.
+#[derive(Drop)]
+pub struct Report {
+    /// The nodes that wait, oldest first, with their labels: one queue a worker, in the order of the workers' numbers.
+    pub queues: Vec<HeldQueue>,
+    /// The keys of the set, ascending, and those of leaves that are flagged and not cut off.
+    pub keys: Vec<Key>,
+    /// How many slots are in the pool.
+    pub free: u32,
+    /// How many slots are reached from the root, the five fixed ones left out.
+    pub reached: u32,
+}
+
+impl Tree {
+    /// Ends the tree and all its workers, and tells what is left. The workers may come in any order, and may be held or have a pending key; a
+    /// worker that resigned comes with its heir. All memory is taken before the first step; at most one step a worker, and none of the last.
+    ///
+    /// `NotAll`: fewer workers were given than the tree has. `NoMemory`: the room of the report was refused. The tree and its workers are handed
+    /// back as they were.
+    pub fn close(self, workers: Vec<Worker>) -> Result<Report, CloseError>
+        requires own { AreAllOf self workers.items }
+        ensures closed { IfOk result (λ r. IsClosed self workers.items r.queues.items r.keys.items r.free r.reached) }
+        ensures refused { IfErr result (λ e. IsCloseReason self workers.items e.reason × (e.tree ≡ self) × (e.workers.items ≡ workers.items)) }
+    {
+        let layout = self.shared.layout();
+        let made = layout.workers();
+        let given = count_given(workers.as_slice());
+        if given < made {
+            return Err(CloseError {
+                reason: CloseReason::NotAll { given, made },
+                tree: self,
+                workers,
+            });
+        }
+        let Ok(room) = Room::new(*workers.allocator(), layout) else {
+            return Err(CloseError {
+                reason: CloseReason::NoMemory,
+                tree: self,
+                workers,
+            });
+        };
+        Ok(close_all(self, workers, room))
+    }
+}
+
+/// Closes the tree of these workers, which are all of them.
+fn close_all(tree: Tree, workers: Vec<Worker>, room: Room) -> Report
+    requires own { AreAllOf tree workers.items }
+    requires all { tree.layout.workers ≤ given_in workers.items }
+    requires room { room ≡ tree.layout }
+    ensures { IsClosed tree workers.items result.queues.items result.keys.items result.free result.reached }
+{
+    let Tree { shared } = tree;
+    let Worker {
+        pass,
+        queues,
+        accounts: _,
+        home: _,
+        standing: _,
+    } = unite_all(&shared, workers);
+    let words = shared.close(pass);
+    let Found {
+        keys,
+        free,
+        reached,
+    } = read(&words, room);
+    Report {
+        queues,
+        keys,
+        free,
+        reached,
+    }
+}
+
+/// One worker that stands for all of these.
+fn unite_all(shared: &Shared, mut workers: Vec<Worker>) -> Worker
+    requires own { AreAllOf shared.now workers.items }
+    requires some { 1 ≤ length workers.items }
+    ensures own { IsOf shared.now result.pass }
+    ensures joined { result.pass.view ≡ all_joined workers.items }
+    ensures queues { result.queues ≡ all_merged workers.items }
+{
+    let Some(mut heir) = workers.pop() else {
+        unreachable!()
+    };
+    while let Some(leaver) = workers.pop() {
+        heir = unite(shared, heir, leaver);
+    }
+    heir
+}
+
+/// For how many workers these stand; 2^32 - 1 where there are more.
+fn count_given(workers: &[Worker]) -> u32
+    ensures { result ≡ min (given_in workers.now) 4294967295 }
+{
+    let Some((first, rest)) = workers.split_first() else {
+        return 0;
+    };
+    first.origins().saturating_add(count_given(rest))
+}
