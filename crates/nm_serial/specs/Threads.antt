@@ -1,5 +1,5 @@
 -- Workers in threads of their own.
-use Rattle.std.specs.Prelude.{◌≡◌, ℕ, List, [], ◌∷◌, Result, IfOk, Vec}
+use Rattle.std.specs.Prelude.{◌≡◌, ◌<◌, ℕ, List, length, slice_index_or, Result, IfOk, Vec}
 use Rattle.std.specs.Global.{Global}
 use Rattle.nm_answers.specs.declared.answer.Answer.{Answer}
 use Rattle.nm_scripts.specs.declared.call.Call.{Call}
@@ -16,7 +16,6 @@ pub record HasPlayed (lets : ℕ → ℕ → Type 0) (b : Board) (tries : ℕ) (
   pub did : IfOk answers (λ v. PlaysOwn lets b tries w.pass.view.number 2 es v.items w z)
 
 -- each of the workers has, in their order
-abbrev pub HaveAllPlayed : (ℕ → ℕ → Type 0) → Board → ℕ → List (ℕ × Call) → List Hand → List Played → Type 0
-HaveAllPlayed lets b tries es [] [] = Unit {0}
-HaveAllPlayed lets b tries es (w ∷ ws) (p ∷ ps) = HasPlayed lets b tries es w p.worker p.answers × HaveAllPlayed lets b tries es ws ps
-HaveAllPlayed lets b tries es _ _ = ⊥
+pub record HaveAllPlayed (lets : ℕ → ℕ → Type 0) (b : Board) (tries : ℕ) (es : List (ℕ × Call)) (ws : List Hand) (ps : List Played) : Type 0 where
+  pub all : length ps ≡ length ws
+  pub each : (k : ℕ) (w : Hand) (p : Played) → k < length ws → HasPlayed lets b tries es (slice_index_or ws k w) (slice_index_or ps k p).worker (slice_index_or ps k p).answers

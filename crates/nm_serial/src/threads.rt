@@ -91,3 +91,55 @@ fn start<'s, E, G: Gate>(
         Err(_) => Err(RunFault::Thread),
     }
 }
+
+/// Starts a thread for each worker, and waits for all of them, in the scope that they run in.
+fn play_each<'s, R: Threads, E, G: Gate>(
+    rt: &R,
+    scope: &Scope<'s, E>,
+    alloc: Global,
+    gate: &'s G,
+    tree: &'s Tree,
+    tries: u32,
+    calls: &'s [(u32, Call)],
+    workers: Vec<Worker>,
+) -> Result<Vec<Played>, RunFault>
+    requires own { All (λ w. IsOf tree.now w.pass) workers.items }
+    requires plain { All (λ e. IsOwn e.1) calls.now }
+    requires few { length calls.now ≤ 100000 }
+    ensures { IfOk result (λ v. HaveAllPlayed (G.lets gate.now) tree.now tries calls.now workers.items v.items) }
+{
+    let mut handles = Vec::new(alloc);
+    for worker in workers {
+        let handle = start(scope, alloc, gate, tree, tries, calls, worker)?;
+        handles.push(handle).map_err(|_| RunFault::NoMemory)?;
+    }
+    match thread::join_promised(rt, handles) {
+        Ok(played) => Ok(played),
+        Err(_) => Err(RunFault::NoMemory),
+    }
+}
+
+/// Plays each worker's lines in a thread of its own. All threads have ended when it returns, also where one was refused.
+pub(crate) fn play_apart<R: Threads + Wait + Sync, G: Gate>(
+    rt: &R,
+    alloc: Global,
+    gate: &G,
+    tree: &Tree,
+    tries: u32,
+    calls: &[(u32, Call)],
+    workers: Vec<Worker>,
+) -> Result<Vec<Played>, RunFault>
+    requires own { All (λ w. IsOf tree.now w.pass) workers.items }
+    requires plain { All (λ e. IsOwn e.1) calls.now }
+    requires few { length calls.now ≤ 100000 }
+    ensures { IfOk result (λ v. HaveAllPlayed (G.lets gate.now) tree.now tries calls.now workers.items v.items) }
+{
+    thread::scope(
+        thread::scope_env(),
+        rt,
+        |scope| -> Result<Vec<Played>, RunFault>
+            requires { All (λ w. IsOf tree.now w.pass) workers.items × All (λ e. IsOwn e.1) calls.now × (length calls.now ≤ 100000) }
+            ensures { IfOk result (λ v. HaveAllPlayed (G.lets gate.entry.now) tree.entry.now tries calls.entry.now workers.items v.items) }
+        { play_each(rt, scope, alloc, gate, tree, tries, calls, workers) },
+    )
+}
