@@ -18,6 +18,8 @@ use Rattle.nm_tree.specs.declared.fault.Fault.{Fault}
 use Rattle.nm_tree.specs.declared.fault.PinFault.{PinFault}
 use Rattle.nm_tree.specs.Answers.{HasAnswered, HasInserted, HasDeleted, HasFinished, HasPinned, KeepsPlace}
 use Rattle.nm_tree.specs.Workers.{Hand}
+use Rattle.nm_serial.specs.declared.own_lines.Stop.{Stop}
+use Rattle.nm_serial.specs.declared.own_lines.Stop.TheVariants as stop
 
 -- a call that is its worker's alone
 abbrev pub IsOwn : Call → Type 0
@@ -68,6 +70,11 @@ HasMade b tries Collect w z a = HasCollected w z a
 HasMade b tries (Resign heir) w z a = ⊥
 
 -- ---- the lines of one worker
+
+-- a worker that the gate stops has not made its call
+abbrev pub HasStopped : Hand → Hand → Stop → Type 0
+HasStopped w z (stop.Gate line) = z ≡ w
+HasStopped w z stop.NoMemory = Unit {0}
 
 -- its calls with the numbers of their lines, from this number on
 abbrev pub own_lines : ℕ → ℕ → List (ℕ × Call) → List (ℕ × Call)

@@ -1,7 +1,7 @@
 //! The lines of one worker, in their order.
-ghost use Rattle.std.specs.Prelude.{◌≡◌, ◌≤◌, All, length, IfOk};
+ghost use Rattle.std.specs.Prelude.{◌≡◌, ◌≤◌, All, length, IfOk, IfErr};
 ghost use Rattle.nm_steps.specs.Steps.{IsOf};
-ghost use Rattle.nm_serial.specs.Makes.{HasMade, IsOwn, PlaysOwn};
+ghost use Rattle.nm_serial.specs.Makes.{HasMade, HasStopped, IsOwn, PlaysOwn};
 
 use crate::gate::Gate;
 use crate::making::make;
@@ -33,6 +33,7 @@ fn play_line<G: Gate>(
     ensures own { IsOf tree.now worker.new.pass }
     ensures number { worker.new.pass.view.number ≡ worker.old.pass.view.number }
     ensures did { IfOk result (λ a. G.lets gate.now worker.old.pass.view.number line × HasMade tree.now tries call.now worker.old worker.new a) }
+    ensures stopped { IfErr result (HasStopped worker.old worker.new) }
 {
     if !gate.turn(worker.number(), line) {
         return Err(Stop::Gate { line });

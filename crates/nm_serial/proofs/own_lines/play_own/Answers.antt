@@ -23,17 +23,17 @@ loop-entry-preserved g c =
             number = rw w.worker-is (w.play_line.ensures.number ∙ c.loop-entry.invariant.number);
             line = omega (arith, c.loop-entry.invariant.line);
             goes_on = λ more z next.
-              let after : PlaysOwn lets c.args.tree.now c.args.tries n (c.loop-entry.line + 1) rest more w.play_line.new.worker z = rw w.worker-is at next in
-              rw (w.answers-is, pushed, append_assoc) (c.loop-entry.invariant.goes_on (a ∷ more) z (own_line lets c.args.tree.now c.args.tries n c.loop-entry.line _ rest c.entry-item.result a more c.loop-entry.worker w.play_line.new.worker z cut w.if-entry-number.true let_on w.in_ok-answer.ensures.did.1 after));
+                let after : PlaysOwn lets c.args.tree.now c.args.tries n (c.loop-entry.line + 1) rest more w.play_line.new.worker z = rw w.worker-is at next in
+                rw (w.answers-is, pushed, append_assoc) (c.loop-entry.invariant.goes_on (a ∷ more) z (own_line lets c.args.tree.now c.args.tries n c.loop-entry.line _ rest c.entry-item.result a more c.loop-entry.worker w.play_line.new.worker z cut w.if-entry-number.true let_on w.in_ok-answer.ensures.did.1 after));
           }
       | else-entry-number w ↦ record {
-          own = rw w.worker-is c.loop-entry.invariant.own;
-          number = rw w.worker-is c.loop-entry.invariant.number;
-          line = omega (arith, c.loop-entry.invariant.line);
-          goes_on = λ more z next.
+        own = rw w.worker-is c.loop-entry.invariant.own;
+        number = rw w.worker-is c.loop-entry.invariant.number;
+        line = omega (arith, c.loop-entry.invariant.line);
+        goes_on = λ more z next.
             let after : PlaysOwn lets c.args.tree.now c.args.tries n (c.loop-entry.line + 1) rest more c.loop-entry.worker z = rw w.worker-is at next in
             rw w.answers-is (c.loop-entry.invariant.goes_on more z (other_line lets c.args.tree.now c.args.tries n c.loop-entry.line _ rest c.entry-item.result more c.loop-entry.worker z cut w.if-entry-number.false after));
-        }
+      }
     ]
 
 pub returns-clause-did : goal.returns-clause-did

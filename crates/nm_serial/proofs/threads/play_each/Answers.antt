@@ -23,9 +23,9 @@ returns-in-Ok g c =
     record {
       all = omega (arith, counted, c.loop-worker.invariant.count, c.in-Ok.ensures.len, c.in-Ok.played.ok.0);
       each = λ k w p lt.
-        let promised = (c.in-Ok.ensures.each k p (omega (arith, counted, c.loop-worker.invariant.count, lt))).1 in
-        let it = c.loop-worker.invariant.each k w promised.handle (omega (arith, counted, lt)) in
-        let held = rw (sym promised.handle_is) at it in
-        let kept = rw (held.0, held.1, held.2, held.3, held.4, whole) at promised.kept in
-        kept
+          let promised = (c.in-Ok.ensures.each k p (omega (arith, counted, c.loop-worker.invariant.count, lt))).1 in
+          let it = c.loop-worker.invariant.each k w promised.handle (omega (arith, counted, lt)) in
+          let held = rw (sym promised.handle_is) at it in
+          let kept = rw (held.0, held.1, held.2, held.3, held.4, whole) at promised.kept in
+          kept;
     }
