@@ -54,6 +54,8 @@ pub ends : {X : Type 0} (says : List ℕ → Result X Reason) (e : RunFault) (fr
 ends says run.NoMemory front number all line more total cut full said told = tt
 ends says run.Read front number all line more total cut full said told = absurd said
 ends says run.Write front number all line more total cut full said told = absurd said
+ends says (run.Gate worker at) front number all line more total cut full said told = absurd said
+ends says run.Thread front number all line more total cut full said told = absurd said
 ends says (run.Line l r) front number all line more total cut full said told =
     let one : with_front front (entries_from says number all) ≡ Err (record { line = l; reason = r }) = rw (cut, step says number line more full, said) refl in
     sym told ∙ one
@@ -89,6 +91,6 @@ pub fails_first : {A B : Type 0} (e : RunFault) (r : Result A Fault) (f : A → 
 fails_first run.NoMemory r f h = tt
 fails_first run.Read r f h = absurd h
 fails_first run.Write r f h = absurd h
+fails_first (run.Gate worker line) r f h = absurd h
+fails_first run.Thread r f h = absurd h
 fails_first (run.Line l reason) r f h = rw h refl
-
--- ---- what is written

@@ -5,3 +5,4 @@ pub mod EntryLemmas
 pub mod FileLemmas
 pub mod ReasonLemmas
 pub mod StreamLemmas
+pub mod LimitLemmas

@@ -26,17 +26,17 @@ use Rattle.nm_files.specs.Files.{at, checked, is_long}
 use Rattle.nm_files.specs.Reasons.{has_words, has_numbers, has_key, holds_of, holds, line_reasons, header_holds_of, header_holds, header_reasons, reason_of}
 
 -- what a function gives: this fault alone, or a value
-abbrev Gives : {X : Type 0} → Reason → Result X Reason → Type 0
+abbrev pub Gives : {X : Type 0} → Reason → Result X Reason → Type 0
 Gives {X} r said = (said ≡ Err r) ⊎ ((x : X) × (said ≡ Ok x))
 
-number_gives : (f : List ℕ) → Gives reason.Number (number f)
+pub number_gives : (f : List ℕ) → Gives reason.Number (number f)
 number_gives f =
     elim (cases_Bool (is_numeral f && nat_lt (digits_value 10 f) (2 ^ 64))) [
       | inl y ↦ inr (digits_value 10 f, rw y refl)
       | inr n ↦ inl (rw n refl)
     ]
 
-place_gives : (f : List ℕ) → Gives reason.Number (place f)
+pub place_gives : (f : List ℕ) → Gives reason.Number (place f)
 place_gives f =
     elim (number_gives f) [
       | inl e ↦ inl (rw e refl)
@@ -243,15 +243,15 @@ event_says is_ordered Splice (a ∷ b ∷ c ∷ d ∷ e ∷ z ∷ more) = rw (an
 -- ---- a line
 
 -- the reason of a line that is not too long
-abbrev reason_in : {X : Type 0} → Result X Reason → Option Reason
+abbrev pub reason_in : {X : Type 0} → Result X Reason → Option Reason
 reason_in (Ok x) = None
 reason_in (Err r) = Some r
 
-reason_at : {X : Type 0} (number : ℕ) (said : Result X Reason) → reason_of (at number said) ≡ reason_in said
+pub reason_at : {X : Type 0} (number : ℕ) (said : Result X Reason) → reason_of (at number said) ≡ reason_in said
 reason_at number (Ok x) = refl
 reason_at number (Err r) = refl
 
-or_true : (b : Bool) → (b || true) ≡ true
+pub or_true : (b : Bool) → (b || true) ≡ true
 or_true true = refl
 or_true false = refl
 

@@ -18,6 +18,7 @@ reason_number reason.Cut = 2
 reason_number reason.Header = 3
 reason_number reason.Nodes = 4
 reason_number reason.Workers = 5
+reason_number reason.Tries = 6
 reason_number reason.Form = 7
 reason_number reason.Kind = 8
 reason_number reason.Fields = 9
@@ -72,6 +73,8 @@ Fails (run.Line line reason) said = said ≡ Err (record { line = line; reason =
 Fails run.NoMemory said = Unit {0}
 Fails run.Read said = ⊥
 Fails run.Write said = ⊥
+Fails (run.Gate worker line) said = ⊥
+Fails run.Thread said = ⊥
 
 -- what a function returned, seen by view, is what the file says, unless memory ran out
 abbrev pub Gives : {X Y : Type 0} → (X → Y) → Result X RunFault → Result Y Fault → Type 0
@@ -84,6 +87,8 @@ IfLine (run.Line line reason) P = P line reason
 IfLine run.NoMemory P = Unit {0}
 IfLine run.Read P = Unit {0}
 IfLine run.Write P = Unit {0}
+IfLine (run.Gate worker line) P = Unit {0}
+IfLine run.Thread P = Unit {0}
 
 -- the run got as far as to judge its input
 abbrev pub HasJudged : {X : Type 0} → Result X RunFault → Type 0
@@ -92,6 +97,8 @@ HasJudged (Err (run.Line line reason)) = Unit {0}
 HasJudged (Err run.NoMemory) = ⊥
 HasJudged (Err run.Read) = ⊥
 HasJudged (Err run.Write) = Unit {0}
+HasJudged (Err (run.Gate worker line)) = Unit {0}
+HasJudged (Err run.Thread) = Unit {0}
 
 -- the exit status of the program after a run that ended so
 abbrev pub exit_status : RunFault → ℕ
@@ -99,3 +106,5 @@ exit_status (run.Line line reason) = 1
 exit_status run.NoMemory = 3
 exit_status run.Read = 4
 exit_status run.Write = 4
+exit_status (run.Gate worker line) = 3
+exit_status run.Thread = 3

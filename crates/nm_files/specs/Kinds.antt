@@ -84,9 +84,9 @@ key field = do
   if is_key n then Ok n else Err reason.Key
 
 -- so many arguments, and no others
-abbrev pub alone : List (List ℕ) → Event → Result Event Reason
-alone [] event = Ok event
-alone _ event = Err reason.Fields
+abbrev pub alone : {X : Type 0} → List (List ℕ) → X → Result X Reason
+alone [] x = Ok x
+alone _ x = Err reason.Fields
 
 abbrev pub one : List (List ℕ) → Result (List ℕ) Reason
 one (a ∷ []) = Ok a

@@ -16,15 +16,17 @@ pub enum Reason {
     Nodes,
     /// The header has no worker, or more workers than its version allows.
     Workers,
+    /// The header's tries are not 1 to 1,000,000.
+    Tries,
     /// Not fields with single spaces between, or fewer than two fields.
     Form,
-    /// The second field isn't a kind of event.
+    /// The second field isn't a kind of event, or of call.
     Kind,
     /// Another number of arguments than the kind has, or a word that names none of the fields, sides, operations or answers where one is asked.
     Fields,
     /// A number that isn't in its one spelling, or above its range.
     Number,
-    /// The line's worker isn't one of the header's.
+    /// The line's worker, or the heir that it names, isn't one of the header's.
     Worker,
     /// The key of an operation is above those of the set.
     Key,
@@ -43,6 +45,7 @@ impl Reason {
             Reason::Header => 3,
             Reason::Nodes => 4,
             Reason::Workers => 5,
+            Reason::Tries => 6,
             Reason::Form => 7,
             Reason::Kind => 8,
             Reason::Fields => 9,
@@ -68,4 +71,10 @@ pub enum RunFault {
     /// The writer failed. How much was written isn't said.
     #[error("write failed")]
     Write,
+    /// The gate stopped a worker before a line, numbered in the file from 1. Of several such workers it is the least. Nothing was written.
+    #[error("worker {worker} was stopped at line {line}")]
+    Gate { worker: u32, line: u32 },
+    /// A thread was refused. Those that had started have ended. Nothing was written.
+    #[error("no thread")]
+    Thread,
 }

@@ -66,8 +66,8 @@ fn limits_of(command: &[u8], version: &[u8]) -> Result<Limits, Reason>
     }
 }
 
-/// A number of the header.
-fn count(field: &[u8]) -> Result<u64, Reason>
+/// A number of the header. In a wrong spelling, or above 2^64 - 1, it is `Header`.
+pub fn count(field: &[u8]) -> Result<u64, Reason>
     ensures { result ≡ spec.count field.now }
 {
     number(field).map_err(|_| Reason::Header)

@@ -99,7 +99,7 @@ fn alone(arguments: &[&[u8]], event: Event) -> Result<Event, Reason>
 }
 
 /// The only argument.
-fn one<'a>(arguments: &[&'a [u8]]) -> Result<&'a [u8], Reason>
+pub fn one<'a>(arguments: &[&'a [u8]]) -> Result<&'a [u8], Reason>
     ensures { Says (λ p. p.now) result (spec.one (map (λ f. f.now) arguments.now)) }
 {
     match arguments {
@@ -349,7 +349,7 @@ fn answer_of(given: &[u8]) -> Result<bool, Reason>
 }
 
 /// The key of the set that a field spells; above those of the set, `Key`.
-fn key_of(field: &[u8]) -> Result<Key, Reason>
+pub fn key_of(field: &[u8]) -> Result<Key, Reason>
     ensures { result ≡ spec.key field.now }
 {
     let n = number(field)?;

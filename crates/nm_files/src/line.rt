@@ -1,5 +1,5 @@
 //! The lines of a schedule.
-ghost use Rattle.std.specs.Prelude.{◌≡◌, ℕ, List, map, take};
+ghost use Rattle.std.specs.Prelude.{◌≡◌, ◌<◌, ℕ, List, map, take, IfOk};
 ghost use Rattle.std.specs.List.{find, list_all};
 ghost use Rattle.nm_files.specs.Lines.{fields};
 ghost use Rattle.nm_files.specs.Lines as lines;
@@ -17,7 +17,7 @@ use arrayvec::ArrayVec;
 use nm_model::Event;
 
 /// Tests that a line is fields with single spaces between.
-fn is_formed(line: &[u8]) -> bool
+pub fn is_formed(line: &[u8]) -> bool
     ensures { result ≡ list_all lines.is_field (fields line.now) }
 {
     let mut rest = Some(line);
@@ -32,7 +32,7 @@ fn is_formed(line: &[u8]) -> bool
 }
 
 /// The first eight fields: no line that is right has more.
-fn fields_of(line: &[u8]) -> ArrayVec<&[u8], 8>
+pub fn fields_of(line: &[u8]) -> ArrayVec<&[u8], 8>
     ensures { map (λ f. f.now) result.items ≡ take 8 (fields line.now) }
 {
     let mut fields = ArrayVec::new();
@@ -49,8 +49,9 @@ fn fields_of(line: &[u8]) -> ArrayVec<&[u8], 8>
 }
 
 /// The worker that a field spells, one of so many.
-fn worker_of(workers: u32, field: &[u8]) -> Result<u32, Reason>
-    ensures { result ≡ spec.worker_of workers field.now }
+pub fn worker_of(workers: u32, field: &[u8]) -> Result<u32, Reason>
+    ensures says { result ≡ spec.worker_of workers field.now }
+    ensures below { IfOk result (λ w. w < workers) }
 {
     let worker = place(field)?;
     if worker < workers {

@@ -24,20 +24,22 @@ const MOST_LINES: u32 = 100_001;
 
 const MOST_BYTES: usize = 120;
 
-fn fault(line: u32, reason: Reason) -> RunFault
+/// The fault of a line, numbered from 1.
+pub fn fault(line: u32, reason: Reason) -> RunFault
     ensures { result ≡ RunFault.Line line reason }
 {
     RunFault::Line { line, reason }
 }
 
-fn is_long(number: u32, line: &[u8]) -> bool
+/// Tests that a line is too long, or numbered above what a file may have.
+pub fn is_long(number: u32, line: &[u8]) -> bool
     ensures { result ≡ files.is_long number line.now }
 {
     number > MOST_LINES || line.len() > MOST_BYTES
 }
 
 /// The fault of a line that no newline ends.
-fn cut_off(number: u32, line: &[u8]) -> RunFault
+pub fn cut_off(number: u32, line: &[u8]) -> RunFault
     ensures { let off = files.cut_off number line.now in result ≡ RunFault.Line off.line off.reason }
 {
     if is_long(number, line) {

@@ -34,7 +34,7 @@ fn put_label(out: &mut Vec<u8>, label: Option<u64>) -> Result<(), AllocError>
 }
 
 /// Appends a space, and an entry of a queue: its node, an at sign and its label.
-fn put_entry(out: &mut Vec<u8>, entry: Queued) -> Result<(), AllocError>
+pub fn put_entry(out: &mut Vec<u8>, entry: Queued) -> Result<(), AllocError>
     ensures { OnOk result (out.new.items ≡ out.old.items ++ (codes " " ++ spec.entry entry)) }
 {
     put_node(out, b" ", entry.node)?;
@@ -148,7 +148,7 @@ fn put_keys(out: &mut Vec<u8>, keys: &[Key]) -> Result<(), AllocError>
 }
 
 /// Appends the line of the keys of the set, from left to right.
-fn put_keys_line(out: &mut Vec<u8>, keys: &[Key]) -> Result<(), AllocError>
+pub fn put_keys_line(out: &mut Vec<u8>, keys: &[Key]) -> Result<(), AllocError>
     ensures { OnOk result (out.new.items ≡ out.old.items ++ spec.keys_line keys.now) }
 {
     out.extend_from_slice(b"keys")?;

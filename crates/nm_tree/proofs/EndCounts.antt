@@ -1,5 +1,5 @@
 -- The counts at a tree's end: nothing is private, and what waits is in the queues.
-use Rattle.std.proofs.Common.{◌≡◌, ◌≢◌, ℕ, zero, suc, ◌+◌, ◌-◌, ◌<◌, ◌≤◌, ◌⊎◌, inl, inr, List, [], ◌∷◌, ◌++◌, map, length, refl, sym, ap, ◌∙◌, subst, arith}
+use Rattle.std.proofs.Common.{◌≡◌, ◌≢◌, ℕ, zero, suc, ◌+◌, ◌-◌, ◌<◌, ◌≤◌, inl, inr, List, [], ◌∷◌, ◌++◌, map, length, refl, sym, ap, ◌∙◌, subst, arith}
 use Rattle.std.specs.Prelude.{Option, Some, None, option_map, slice_get}
 use Rattle.std.proofs.lemmas.Bool.{cases_lt}
 use Rattle.std.proofs.lemmas.List.{length-map}
@@ -34,7 +34,7 @@ use Rattle.nm_epoch.specs.declared.collecting.HeldQueue.{HeldQueue}
 use Rattle.nm_epoch.specs.Collecting.{AreHeld, queued}
 use Rattle.nm_tree.specs.declared.worker.Account.{Account}
 use Rattle.nm_tree.specs.Closing.{AreFrom}
-use Rattle.nm_tree.specs.Workers.{Hand, IsWorker, HasNumber, HasOrigin, HoldsNothing, HoldNothing, waiting_in}
+use Rattle.nm_tree.specs.Workers.{Hand, IsWorker, HasNumber, HasOrigin, HoldNothing, waiting_in}
 use Rattle.nm_tree.proofs.EndLaws.{enough_nodes}
 use Rattle.nm_tree.proofs.Heirs.{logs, ledgers_long}
 use Rattle.nm_tree.proofs.United.{empty_hands}

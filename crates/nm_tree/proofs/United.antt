@@ -30,7 +30,7 @@ use Rattle.nm_epoch.specs.Collecting.{AreHeld}
 use Rattle.nm_epoch.specs.Resting.{Settles, search}
 use Rattle.nm_epoch.proofs.FewQueues.{few}
 use Rattle.nm_tree.specs.declared.worker.Account.{Account}
-use Rattle.nm_tree.specs.Workers.{Hand, IsAs, IsBetweenCalls, IsWorker, AreAccounts, AreOf, HasNumber, HasOrigin, HoldsNothing, HoldNothing, StandsAt}
+use Rattle.nm_tree.specs.Workers.{Hand, IsBetweenCalls, IsWorker, AreAccounts, HasNumber, HasOrigin, HoldsNothing, HoldNothing}
 use Rattle.nm_tree.specs.Resigning.{place_in, merged, merged_accounts}
 use Rattle.nm_tree.proofs.Heirs.{logs, knows, first_held, second_held, none_apart, first_accounts, second_accounts, held_by_one}
 use Rattle.nm_tree.proofs.Merging.{length-merged, has_merged, merged_has, ascend_merged, held_merged, accounts_merged, stands_at_place}

@@ -1,7 +1,8 @@
 //! What a tree tells at its end, once four threads have worked on it.
-ghost use Rattle.std.specs.Prelude.{◌≡◌, ◌∷◌, [], IfOk};
+ghost use Rattle.std.specs.Prelude.{◌≡◌, ◌+◌, ◌-◌, ◌∷◌, [], IfOk};
 ghost use Rattle.nm_tree.specs.Plays.{IsReady};
 ghost use Rattle.nm_tree.specs.Closing.{AreAllOf};
+ghost use Rattle.nm_tree.specs.Workers.{waiting_in};
 
 use super::threads::{Score, by_two};
 use super::*;
@@ -36,6 +37,7 @@ fn waiting(report: &Report) -> u32 {
 fn report_of(rt: &(impl Abort + AllocGlobal), tree: Tree, one: Worker, two: Worker) -> Report
     requires one { IsReady tree one }
     requires two { IsReady tree two }
+    ensures sum { result.free + result.reached + waiting_in result.queues.items ≡ tree.layout.nodes - 5 }
 {
     let Ok(workers) = both(rt.alloc(), one, two) else {
         panic!(rt; "no memory")

@@ -1,0 +1,42 @@
+-- How answers are written.
+use Rattle.std.specs.Prelude.{ℕ, true, false, List, [], ◌∷◌, ◌++◌, codes, decimal}
+use Rattle.nm_answers.specs.declared.answer.Refusal.{Refusal}
+use Rattle.nm_answers.specs.declared.answer.Refusal.TheVariants as refused
+use Rattle.nm_answers.specs.declared.answer.Answer.{Answer}
+use Rattle.nm_answers.specs.declared.answer.Answer.TheVariants.{Said, Busy, Full, Unfinished, Pending, Pinned, Moved, Left, Held, Lost, Spent, Collected, Resigned, Refused}
+
+-- a word and two numbers with a word between them
+abbrev pub two_numbers : List ℕ → ℕ → List ℕ → ℕ → List ℕ
+two_numbers word first between second = (word ++ decimal first) ++ (between ++ decimal second)
+
+abbrev pub refusal : Refusal → List ℕ
+refusal refused.Gone = codes "refused gone"
+refusal refused.Held = codes "refused held"
+refusal refused.Idle = codes "refused idle"
+
+abbrev pub answer : Answer → List ℕ
+answer (Said true) = codes "true"
+answer (Said false) = codes "false"
+answer Busy = codes "busy"
+answer Full = codes "full"
+answer Unfinished = codes "unfinished"
+answer Pending = codes "pending"
+answer (Pinned e) = codes "pinned " ++ decimal e
+answer (Moved e) = codes "moved " ++ decimal e
+answer Left = codes "left"
+answer (Held w e) = two_numbers (codes "held ") w (codes " ") e
+answer (Lost e) = codes "lost " ++ decimal e
+answer Spent = codes "spent"
+answer (Collected e n) = two_numbers (codes "epoch ") e (codes " freed ") n
+answer Resigned = codes "resigned"
+answer (Refused r) = refusal r
+
+-- a line of the file with what it was answered
+abbrev pub line : List ℕ → Answer → List ℕ
+line text a = text ++ (codes " = " ++ (answer a ++ codes "\n"))
+
+-- each line with what it was answered
+abbrev pub lines : List (List ℕ) → List Answer → List ℕ
+lines [] answers = []
+lines (l ∷ ls) [] = []
+lines (l ∷ ls) (a ∷ more) = line l a ++ lines ls more

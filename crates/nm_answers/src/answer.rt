@@ -1,0 +1,96 @@
+//! What a line of a script is answered.
+ghost use Rattle.std.specs.Prelude.{◌≡◌};
+ghost use Rattle.nm_answers.specs.Answers as spec;
+
+use nm_tree::{Advance, Collected, Fault, PinFault};
+
+/// Why a line made no call.
+#[derive(Clone, Copy, Debug, PartialEq, Eq)]
+pub enum Refusal {
+    /// Its worker or its heir has resigned, or its worker is its own heir.
+    Gone,
+    /// The worker is held, and may neither search nor resign, nor be pinned again.
+    Held,
+    /// The worker is not held, so there is nothing to unpin.
+    Idle,
+}
+
+/// What a line was answered.
+#[derive(Clone, Copy, Debug, PartialEq, Eq)]
+pub enum Answer {
+    /// By a call that answers yes or no.
+    Said(bool),
+    /// Each try was lost.
+    Busy,
+    /// No slots were free for the new nodes of an insert.
+    Full,
+    /// The leaf is flagged, and not known to be cut off.
+    Unfinished,
+    /// A key is pending, and nothing was done.
+    Pending,
+    /// The worker is held at this epoch.
+    Pinned(u64),
+    /// The epoch moved on to this one: by this call to advance it, or in each try of a pin.
+    Moved(u64),
+    /// The worker is held no longer.
+    Left,
+    /// That worker, found at that epoch, holds the epoch back.
+    Held { worker: u32, epoch: u64 },
+    /// Another moved the epoch on to this one first.
+    Lost(u64),
+    /// The epoch is the last one.
+    Spent,
+    /// By this epoch so many nodes were freed.
+    Collected { epoch: u64, freed: u64 },
+    /// The worker has resigned to its heir.
+    Resigned,
+    /// The line made no call.
+    Refused(Refusal),
+}
+
+/// What a look-up, an insert, a delete or a finish has answered; `None` where it was refused memory.
+pub fn of_change(changed: Result<bool, Fault>) -> Option<Answer>
+    ensures { result ≡ spec.of_change changed }
+{
+    match changed {
+        Ok(answer) => Some(Answer::Said(answer)),
+        Err(Fault::Busy) => Some(Answer::Busy),
+        Err(Fault::Full) => Some(Answer::Full),
+        Err(Fault::NoMemory) => None,
+        Err(Fault::Unfinished) => Some(Answer::Unfinished),
+        Err(Fault::Pending) => Some(Answer::Pending),
+    }
+}
+
+/// What a pin has answered.
+pub fn of_pin(pinned: Result<u64, PinFault>) -> Answer
+    ensures { result ≡ spec.of_pin pinned }
+{
+    match pinned {
+        Ok(epoch) => Answer::Pinned(epoch),
+        Err(PinFault::Moved { epoch }) => Answer::Moved(epoch),
+        Err(PinFault::Pending) => Answer::Pending,
+    }
+}
+
+/// What an advance of the epoch has answered.
+pub fn of_advance(advance: Advance) -> Answer
+    ensures { result ≡ spec.of_advance advance }
+{
+    match advance {
+        Advance::Moved { epoch } => Answer::Moved(epoch),
+        Advance::Held { worker, epoch } => Answer::Held { worker, epoch },
+        Advance::Lost { epoch } => Answer::Lost(epoch),
+        Advance::Spent => Answer::Spent,
+    }
+}
+
+/// What a collection has answered.
+pub fn of_collection(collected: Collected) -> Answer
+    ensures { result ≡ spec.of_collection collected }
+{
+    Answer::Collected {
+        epoch: collected.epoch,
+        freed: collected.freed,
+    }
+}

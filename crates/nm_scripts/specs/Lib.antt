@@ -1,0 +1,4 @@
+pub mod Calls
+pub mod Headers
+pub mod Scripts
+pub mod Reasons

@@ -1,0 +1,45 @@
+use Rattle.std.proofs.Common.{◌≡◌, ◌+◌, ◌++◌, ◌∷◌, [], append_assoc, drop, rules, sym, ◌∙◌, arith, refl, ap, ℕ}
+use Rattle.std.proofs.lemmas.List.{drop_more, drop_all, append-nil}
+use Rattle.nm_scripts.specs.declared.call.Call.{Call}
+use Rattle.nm_serial.specs.Makes.{PlaysOwn}
+use Rattle.nm_serial.proofs.PlayLemmas.{own_line, other_line}
+use Rattle.nm_serial.proofs.own_lines.play_own.Goals as goal
+use Rattle.nm_serial.proofs.own_lines.play_own.Goals.{then-entry-number+in_ok-answer+in_ok-map_err, else-entry-number}
+
+pub loop-entry-preserved : goal.loop-entry-preserved
+loop-entry-preserved g c =
+    let lets = g.G.Gate.lets c.args.gate.now in
+    let n = c.number-number.result in
+    let rest = drop (c.loop-entry.entry-index + 1) c.args.calls.now in
+    let cut : drop c.loop-entry.entry-index c.args.calls.now ≡ c.entry-item.result ∷ rest = drop_more c.args.calls.now c.loop-entry.entry-index c.entry-item.result c.loop-entry-test.true ∙ ap (λ (e : ℕ × Call). e ∷ rest) (sym c.entry-item.is) in
+    elim c.if-entry-number.branch [
+      | then-entry-number+in_ok-answer+in_ok-map_err w ↦
+          let a = w.in_ok-answer.answer in
+          let me : c.loop-entry.worker.pass.view.number ≡ n = c.loop-entry.invariant.number ∙ sym c.number-number.ensures.number in
+          let pushed : w.push.new.self.items ≡ c.loop-entry.answers.items ++ a ∷ [] = search rules in
+          let let_on : lets n c.loop-entry.line = rw me at w.in_ok-answer.ensures.did.0 in
+          record {
+            own = rw w.worker-is w.play_line.ensures.own;
+            number = rw w.worker-is (w.play_line.ensures.number ∙ c.loop-entry.invariant.number);
+            line = omega (arith, c.loop-entry.invariant.line);
+            goes_on = λ more z next.
+                let after : PlaysOwn lets c.args.tree.now c.args.tries n (c.loop-entry.line + 1) rest more w.play_line.new.worker z = rw w.worker-is at next in
+                rw (w.answers-is, pushed, append_assoc) (c.loop-entry.invariant.goes_on (a ∷ more) z (own_line lets c.args.tree.now c.args.tries n c.loop-entry.line _ rest c.entry-item.result a more c.loop-entry.worker w.play_line.new.worker z cut w.if-entry-number.true let_on w.in_ok-answer.ensures.did.1 after));
+          }
+      | else-entry-number w ↦ record {
+        own = rw w.worker-is c.loop-entry.invariant.own;
+        number = rw w.worker-is c.loop-entry.invariant.number;
+        line = omega (arith, c.loop-entry.invariant.line);
+        goes_on = λ more z next.
+            let after : PlaysOwn lets c.args.tree.now c.args.tries n (c.loop-entry.line + 1) rest more c.loop-entry.worker z = rw w.worker-is at next in
+            rw w.answers-is (c.loop-entry.invariant.goes_on more z (other_line lets c.args.tree.now c.args.tries n c.loop-entry.line _ rest c.entry-item.result more c.loop-entry.worker z cut w.if-entry-number.false after));
+      }
+    ]
+
+pub returns-clause-did : goal.returns-clause-did
+returns-clause-did g c =
+    let lets = g.G.Gate.lets c.args.gate.now in
+    let n = c.number-number.result in
+    let last : PlaysOwn lets c.args.tree.now c.args.tries n c.loop-entry.line (drop c.loop-entry.entry-index c.args.calls.now) [] c.loop-entry.worker c.loop-entry.worker = rw (drop_all c.loop-entry.entry-index c.args.calls.now c.loop-entry-test.false) refl in
+    let all : PlaysOwn lets c.args.tree.now c.args.tries n 2 c.args.calls.now (c.loop-entry.answers.items ++ []) c.args.worker.now c.loop-entry.worker = c.loop-entry.invariant.goes_on [] c.loop-entry.worker last in
+    rw (append-nil c.loop-entry.answers.items, c.number-number.ensures.number) at all

@@ -1,0 +1,92 @@
+-- What a line of a script does to its worker, by its answer.
+use Rattle.std.specs.Prelude.{◌≡◌, ◌⊎◌, ◌==◌, ◌+◌, if◌then◌else◌, List, [], ◌∷◌, ℕ, Bool, Option, Some, None, IsSome, Result, length}
+use Rattle.nm_answers.specs.declared.answer.Answer.{Answer}
+use Rattle.nm_answers.specs.declared.answer.Answer.TheVariants as answer
+use Rattle.nm_answers.specs.declared.answer.Refusal.TheVariants as refused
+use Rattle.nm_answers.specs.Answers.{of_change, of_pin, of_advance, of_collection}
+use Rattle.nm_epoch.specs.declared.answers.Advance.{Advance}
+use Rattle.nm_epoch.specs.declared.collecting.Collected.{Collected}
+use Rattle.nm_epoch.specs.Collecting.{IsCollection, HaveLost, ripe_of}
+use Rattle.nm_epoch.specs.Resting.{epochs}
+use Rattle.nm_epoch.specs.Scans.{IsAdvance}
+use Rattle.nm_model.specs.declared.event.Event.TheVariants.{Leave}
+use Rattle.nm_model.specs.declared.reply.Reply.TheVariants.{Departed}
+use Rattle.nm_scripts.specs.declared.call.Call.{Call}
+use Rattle.nm_scripts.specs.declared.call.Call.TheVariants.{Has, Insert, Delete, Finish, Pin, Unpin, Advance as Move, Collect, Resign}
+use Rattle.nm_steps.specs.Steps.{Board, Stepped}
+use Rattle.nm_tree.specs.declared.fault.Fault.{Fault}
+use Rattle.nm_tree.specs.declared.fault.PinFault.{PinFault}
+use Rattle.nm_tree.specs.Answers.{HasAnswered, HasInserted, HasDeleted, HasFinished, HasPinned, KeepsPlace}
+use Rattle.nm_tree.specs.Workers.{Hand}
+use Rattle.nm_serial.specs.declared.own_lines.Stop.{Stop}
+use Rattle.nm_serial.specs.declared.own_lines.Stop.TheVariants as stop
+
+-- a call that is its worker's alone
+abbrev pub IsOwn : Call → Type 0
+IsOwn (Resign heir) = ⊥
+IsOwn _ = Unit {0}
+
+-- no call was made, for this reason
+abbrev pub IsRefusedAs : Answer → Hand → Hand → Answer → Type 0
+IsRefusedAs why w z a = (z ≡ w) × (a ≡ why)
+
+-- the call ended so, and that is what was answered
+abbrev pub HasChanged : (Result Bool Fault → Type 0) → Answer → Type 0
+HasChanged did a = (r : Result Bool Fault) × did r × (of_change r ≡ Some a)
+
+-- a call that a held worker may not make
+abbrev pub HasSearched : (Result Bool Fault → Type 0) → Hand → Hand → Answer → Type 0
+HasSearched did w z a = (IsSome w.held × IsRefusedAs (answer.Refused refused.Held) w z a) ⊎ ((w.held ≡ None) × HasChanged did a)
+
+-- a pin of the caller
+abbrev pub HasHeld : ℕ → Hand → Hand → Answer → Type 0
+HasHeld tries w z a = (IsSome w.held × IsRefusedAs (answer.Refused refused.Held) w z a)
+    ⊎ ((w.held ≡ None) × ((r : Result ℕ PinFault) × HasPinned tries w z r × (a ≡ of_pin r)))
+
+-- its end
+abbrev pub HasUnpinned : Hand → Hand → Answer → Type 0
+HasUnpinned w z a = ((w.held ≡ None) × IsRefusedAs (answer.Refused refused.Idle) w z a)
+    ⊎ (IsSome w.held × (z.held ≡ None) × Stepped w.pass z.pass Leave Departed × (a ≡ answer.Left))
+
+-- an advance of the epoch, among so many workers
+abbrev pub HasMoved : ℕ → Hand → Hand → Answer → Type 0
+HasMoved workers w z a = KeepsPlace w z × ((r : Advance) × IsAdvance workers w.pass.view.number (epochs w.pass).pin w.pass.view.log z.pass.view.log r × (a ≡ of_advance r))
+
+-- a collection
+abbrev pub HasCollected : Hand → Hand → Answer → Type 0
+HasCollected w z a = KeepsPlace w z × ((c : Collected) × IsCollection c.epoch w.queues w.pass.view.log z.pass.view.log × HaveLost c.epoch w.queues z.queues
+    × (c.freed ≡ length (ripe_of c.epoch w.queues)) × (a ≡ of_collection c))
+
+-- a call that is its worker's alone, with so many tries: as the call of the set does, by what it answers
+abbrev pub HasMade : Board → ℕ → Call → Hand → Hand → Answer → Type 0
+HasMade b tries (Has k) w z a = HasSearched (HasAnswered b.layout.nodes tries k w z) w z a
+HasMade b tries (Insert k) w z a = HasSearched (HasInserted b.layout.nodes tries k w z) w z a
+HasMade b tries (Delete k) w z a = HasSearched (HasDeleted b.layout.nodes tries k w z) w z a
+HasMade b tries Finish w z a = HasChanged (HasFinished b.layout.nodes tries w z) a
+HasMade b tries Pin w z a = HasHeld tries w z a
+HasMade b tries Unpin w z a = HasUnpinned w z a
+HasMade b tries Move w z a = HasMoved b.layout.workers w z a
+HasMade b tries Collect w z a = HasCollected w z a
+HasMade b tries (Resign heir) w z a = ⊥
+
+-- ---- the lines of one worker
+
+-- a worker that the gate stops has not made its call
+abbrev pub HasStopped : Hand → Hand → Stop → Type 0
+HasStopped w z (stop.Gate line) = z ≡ w
+HasStopped w z stop.NoMemory = Unit {0}
+
+-- its calls with the numbers of their lines, from this number on
+abbrev pub own_lines : ℕ → ℕ → List (ℕ × Call) → List (ℕ × Call)
+own_lines n line [] = []
+own_lines n line (e ∷ es) = if e.0 == n then (line, e.1) ∷ own_lines n (line + 1) es else own_lines n (line + 1) es
+
+-- each of these lines, one after the other, was let and made its call, and was answered so
+abbrev pub PlaysEach : (ℕ → ℕ → Type 0) → Board → ℕ → ℕ → List (ℕ × Call) → List Answer → Hand → Hand → Type 0
+PlaysEach lets b tries n [] [] w z = z ≡ w
+PlaysEach lets b tries n (l ∷ ls) (a ∷ more) w z = lets n l.0 × ((mid : Hand) × HasMade b tries l.1 w mid a × PlaysEach lets b tries n ls more mid z)
+PlaysEach lets b tries n _ _ w z = ⊥
+
+-- a worker has played its lines, among those of a script from this number on
+abbrev pub PlaysOwn : (ℕ → ℕ → Type 0) → Board → ℕ → ℕ → ℕ → List (ℕ × Call) → List Answer → Hand → Hand → Type 0
+PlaysOwn lets b tries n line es answers w z = PlaysEach lets b tries n (own_lines n line es) answers w z

@@ -1,0 +1,43 @@
+//! The workers of a script that one thread plays.
+ghost use Rattle.std.specs.Prelude.{IfSome};
+ghost use Rattle.nm_serial.specs.Crews.{HasDoneAt, HasLeft};
+ghost use Rattle.nm_serial.specs.Makes.{IsOwn};
+ghost use Rattle.nm_steps.specs.Steps.{IsOf};
+
+use crate::making::make;
+use nm_answers::answer::{Answer, Refusal};
+use nm_scripts::call::Call;
+use nm_tree::{ResignReason, Tree, Worker};
+
+/// A call that is its worker's alone, by the worker at its place, if it has not resigned.
+fn make_at(tree: &Tree, place: &mut Option<Worker>, call: Call, tries: u32) -> Option<Answer>
+    requires own { IfSome place.old (λ w. IsOf tree.now w.pass) }
+    requires alone { IsOwn call }
+    ensures own { IfSome place.new (λ w. IsOf tree.now w.pass) }
+    ensures did { IfSome result (HasDoneAt tree.now tries call place.old place.new) }
+{
+    match place {
+        Some(worker) => make(tree, worker, call, tries),
+        None => Some(Answer::Refused(Refusal::Gone)),
+    }
+}
+
+/// A worker resigns to its heir, and the heir is handed back, or both, with the answer.
+fn leave(tree: &Tree, heir: Worker, leaver: Worker) -> (Worker, Option<Worker>, Answer)
+    requires heir { IsOf tree.now heir.pass }
+    requires leaver { IsOf tree.now leaver.pass }
+    ensures heir { IsOf tree.now result.0.pass }
+    ensures leaver { IfSome result.1 (λ w. IsOf tree.now w.pass) }
+    ensures did { HasLeft heir leaver result.0 result.1 result.2 }
+{
+    match tree.resign(heir, leaver) {
+        Ok(heir) => (heir, None, Answer::Resigned),
+        Err(fault) => {
+            let answer = match fault.reason {
+                ResignReason::Held => Answer::Refused(Refusal::Held),
+                ResignReason::Pending => Answer::Pending,
+            };
+            (fault.heir, Some(fault.leaver), answer)
+        }
+    }
+}

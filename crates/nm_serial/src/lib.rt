@@ -1,0 +1,10 @@
+//! Scripts played on the real tree: a file of calls in, what each call answered out.
+#![tactic(auto)]
+
+mod crew;
+mod gate;
+mod making;
+mod own_lines;
+mod threads;
+
+pub use gate::Gate;

@@ -1,0 +1,97 @@
+//! One line of a worker: a call of the set, or a refusal without a call.
+ghost use Rattle.std.specs.Prelude.{◌≡◌, IfSome};
+ghost use Rattle.nm_steps.specs.Steps.{IsOf};
+ghost use Rattle.nm_serial.specs.Makes.{HasMade, HasSearched, IsOwn, HasHeld, HasUnpinned};
+ghost use Rattle.nm_tree.specs.Answers.{HasAnswered, HasInserted, HasDeleted};
+
+use nm_answers::answer::{Answer, Refusal, of_advance, of_change, of_collection, of_pin};
+use nm_edge::Key;
+use nm_scripts::call::Call;
+use nm_tree::{Tree, Worker};
+
+/// A look-up, unless the worker is held.
+fn has(tree: &Tree, worker: &mut Worker, key: Key, tries: u32) -> Option<Answer>
+    requires own { IsOf tree.now worker.old.pass }
+    ensures own { IsOf tree.now worker.new.pass }
+    ensures number { worker.new.pass.view.number ≡ worker.old.pass.view.number }
+    ensures did { IfSome result (HasSearched (HasAnswered tree.now.layout.nodes tries key worker.old worker.new) worker.old worker.new) }
+{
+    if worker.held().is_some() {
+        return Some(Answer::Refused(Refusal::Held));
+    }
+    of_change(tree.has(worker, key, tries))
+}
+
+/// An insert, unless the worker is held.
+fn insert(tree: &Tree, worker: &mut Worker, key: Key, tries: u32) -> Option<Answer>
+    requires own { IsOf tree.now worker.old.pass }
+    ensures own { IsOf tree.now worker.new.pass }
+    ensures number { worker.new.pass.view.number ≡ worker.old.pass.view.number }
+    ensures did { IfSome result (HasSearched (HasInserted tree.now.layout.nodes tries key worker.old worker.new) worker.old worker.new) }
+{
+    if worker.held().is_some() {
+        return Some(Answer::Refused(Refusal::Held));
+    }
+    of_change(tree.insert(worker, key, tries))
+}
+
+/// A delete, unless the worker is held.
+fn delete(tree: &Tree, worker: &mut Worker, key: Key, tries: u32) -> Option<Answer>
+    requires own { IsOf tree.now worker.old.pass }
+    ensures own { IsOf tree.now worker.new.pass }
+    ensures number { worker.new.pass.view.number ≡ worker.old.pass.view.number }
+    ensures did { IfSome result (HasSearched (HasDeleted tree.now.layout.nodes tries key worker.old worker.new) worker.old worker.new) }
+{
+    if worker.held().is_some() {
+        return Some(Answer::Refused(Refusal::Held));
+    }
+    of_change(tree.delete(worker, key, tries))
+}
+
+/// A pin of the caller, unless the worker is held.
+fn pin(tree: &Tree, worker: &mut Worker, tries: u32) -> Answer
+    requires own { IsOf tree.now worker.old.pass }
+    ensures own { IsOf tree.now worker.new.pass }
+    ensures number { worker.new.pass.view.number ≡ worker.old.pass.view.number }
+    ensures did { HasHeld tries worker.old worker.new result }
+{
+    if worker.held().is_some() {
+        return Answer::Refused(Refusal::Held);
+    }
+    of_pin(tree.pin(worker, tries))
+}
+
+/// The end of a pin of the caller, if the worker is held.
+fn unpin(tree: &Tree, worker: &mut Worker) -> Answer
+    requires own { IsOf tree.now worker.old.pass }
+    ensures own { IsOf tree.now worker.new.pass }
+    ensures number { worker.new.pass.view.number ≡ worker.old.pass.view.number }
+    ensures did { HasUnpinned worker.old worker.new result }
+{
+    if worker.held().is_none() {
+        return Answer::Refused(Refusal::Idle);
+    }
+    tree.unpin(worker);
+    Answer::Left
+}
+
+/// A call that is its worker's alone, unless the worker may not make it; `None` where memory was refused.
+pub(crate) fn make(tree: &Tree, worker: &mut Worker, call: Call, tries: u32) -> Option<Answer>
+    requires own { IsOf tree.now worker.old.pass }
+    requires alone { IsOwn call }
+    ensures own { IsOf tree.now worker.new.pass }
+    ensures number { worker.new.pass.view.number ≡ worker.old.pass.view.number }
+    ensures did { IfSome result (HasMade tree.now tries call worker.old worker.new) }
+{
+    match call {
+        Call::Has(key) => has(tree, worker, key, tries),
+        Call::Insert(key) => insert(tree, worker, key, tries),
+        Call::Delete(key) => delete(tree, worker, key, tries),
+        Call::Finish => of_change(tree.finish(worker, tries)),
+        Call::Pin => Some(pin(tree, worker, tries)),
+        Call::Unpin => Some(unpin(tree, worker)),
+        Call::Advance => Some(of_advance(tree.advance(worker))),
+        Call::Collect => Some(of_collection(tree.collect(worker))),
+        Call::Resign(_) => unreachable!(),
+    }
+}

@@ -1,0 +1,145 @@
+//! Each worker's lines in a thread of its own.
+ghost use Rattle.std.specs.Prelude.{◌≡◌, ◌≤◌, All, length, IfOk};
+ghost use Rattle.nm_steps.specs.Steps.{IsOf};
+ghost use Rattle.nm_serial.specs.Makes.{IsOwn};
+ghost use Rattle.nm_serial.specs.Threads.{HasPlayed, HaveAllPlayed};
+
+use crate::gate::Gate;
+use crate::own_lines::{Stop, play_own};
+use nm_answers::answer::Answer;
+use nm_files::fault::RunFault;
+use nm_scripts::call::Call;
+use nm_tree::{Tree, Worker};
+use std::alloc::Global;
+use std::snapshot::Snapshot;
+use std::sync::Wait;
+use std::thread;
+use std::thread::{Promise, PromisedHandle, Scope, Threads};
+
+/// A worker at the end of its lines, and what they were answered.
+#[derive(Drop)]
+pub(crate) struct Played {
+    pub(crate) worker: Worker,
+    pub(crate) answers: Result<Vec<Answer>, Stop>,
+}
+
+/// What a thread promises of its worker, which was this one.
+#[derive(Drop)]
+struct PlaysAll<'a, G: Gate> {
+    gate: &'a G,
+    tree: &'a Tree,
+    tries: u32,
+    calls: &'a [(u32, Call)],
+    was: Snapshot<Worker>,
+}
+
+impl<'a, G: Gate> Promise<Played> for PlaysAll<'a, G> {
+    ghost use Rattle.nm_serial.specs.Threads.{HasPlayed};
+
+    ghost kept_by = { λ p r. HasPlayed (G.lets p.gate.now) p.tree.now p.tries p.calls.now p.was.value r.worker r.answers };
+}
+
+/// All lines of a worker, which is handed back.
+fn play_all<G: Gate>(
+    alloc: Global,
+    gate: &G,
+    tree: &Tree,
+    tries: u32,
+    calls: &[(u32, Call)],
+    mut worker: Worker,
+) -> Played
+    requires own { IsOf tree.now worker.pass }
+    requires plain { All (λ e. IsOwn e.1) calls.now }
+    requires few { length calls.now ≤ 100000 }
+    ensures { HasPlayed (G.lets gate.now) tree.now tries calls.now worker result.worker result.answers }
+{
+    let answers = play_own(alloc, gate, tree, &mut worker, tries, calls);
+    Played { worker, answers }
+}
+
+/// Starts the thread of a worker.
+fn start<'s, E, G: Gate>(
+    scope: &Scope<'s, E>,
+    alloc: Global,
+    gate: &'s G,
+    tree: &'s Tree,
+    tries: u32,
+    calls: &'s [(u32, Call)],
+    worker: Worker,
+) -> Result<PromisedHandle<Played, PlaysAll<'s, G>>, RunFault>
+    requires own { IsOf tree.now worker.pass }
+    requires plain { All (λ e. IsOwn e.1) calls.now }
+    requires few { length calls.now ≤ 100000 }
+    ensures { IfOk result (λ h. (h.promise.gate.now ≡ gate.now) × (h.promise.tree.now ≡ tree.now) × (h.promise.tries ≡ tries) × (h.promise.calls.now ≡ calls.now) × (h.promise.was.value ≡ worker)) }
+{
+    let promise = PlaysAll {
+        gate,
+        tree,
+        tries,
+        calls,
+        was: Snapshot::of(&worker),
+    };
+    let started = scope.spawn_with(
+        promise,
+        move || -> Played
+            requires { IsOf tree.now worker.pass × All (λ e. IsOwn e.1) calls.now × (length calls.now ≤ 100000) }
+            ensures { HasPlayed (G.lets gate.entry.now) tree.entry.now tries calls.entry.now worker result.worker result.answers }
+        { play_all(alloc, gate, tree, tries, calls, worker) },
+    );
+    match started {
+        Ok(handle) => Ok(handle),
+        Err(_) => Err(RunFault::Thread),
+    }
+}
+
+/// Starts a thread for each worker, and waits for all of them, in the scope that they run in.
+fn play_each<'s, R: Threads, E, G: Gate>(
+    rt: &R,
+    scope: &Scope<'s, E>,
+    alloc: Global,
+    gate: &'s G,
+    tree: &'s Tree,
+    tries: u32,
+    calls: &'s [(u32, Call)],
+    workers: Vec<Worker>,
+) -> Result<Vec<Played>, RunFault>
+    requires own { All (λ w. IsOf tree.now w.pass) workers.items }
+    requires plain { All (λ e. IsOwn e.1) calls.now }
+    requires few { length calls.now ≤ 100000 }
+    ensures { IfOk result (λ v. HaveAllPlayed (G.lets gate.now) tree.now tries calls.now workers.items v.items) }
+{
+    let mut handles = Vec::new(alloc);
+    for worker in workers {
+        let handle = start(scope, alloc, gate, tree, tries, calls, worker)?;
+        handles.push(handle).map_err(|_| RunFault::NoMemory)?;
+    }
+    match thread::join_promised(rt, handles) {
+        Ok(played) => Ok(played),
+        Err(_) => Err(RunFault::NoMemory),
+    }
+}
+
+/// Plays each worker's lines in a thread of its own. All threads have ended when it returns, also where one was refused.
+pub(crate) fn play_apart<R: Threads + Wait + Sync, G: Gate>(
+    rt: &R,
+    alloc: Global,
+    gate: &G,
+    tree: &Tree,
+    tries: u32,
+    calls: &[(u32, Call)],
+    workers: Vec<Worker>,
+) -> Result<Vec<Played>, RunFault>
+    requires own { All (λ w. IsOf tree.now w.pass) workers.items }
+    requires plain { All (λ e. IsOwn e.1) calls.now }
+    requires few { length calls.now ≤ 100000 }
+    ensures { IfOk result (λ v. HaveAllPlayed (G.lets gate.now) tree.now tries calls.now workers.items v.items) }
+{
+    thread::scope(
+        thread::scope_env(),
+        rt,
+        |scope| -> Result<Vec<Played>, RunFault>
+            requires { All (λ w. IsOf tree.now w.pass) workers.items × All (λ e. IsOwn e.1) calls.now × (length calls.now ≤ 100000) }
+            ensures { IfOk result (λ v. HaveAllPlayed (G.lets gate.entry.now) tree.entry.now tries calls.entry.now workers.items v.items) }
+        { play_each(rt, scope, alloc, gate, tree, tries, calls, workers) },
+    )
+}
