@@ -4,6 +4,7 @@
 mod crew;
 mod gate;
 mod making;
+mod outcome;
 mod own_lines;
 mod threads;
 
