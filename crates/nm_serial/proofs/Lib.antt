@@ -1,3 +1,4 @@
 pub mod PlayLemmas
 pub mod ThreadLemmas
 pub mod WorkerLemmas
+pub mod EndingLemmas

@@ -1,5 +1,13 @@
 -- Lists of a tree's workers.
-use Rattle.std.proofs.Common.{◌≡◌, ◌<◌, ℕ, zero, suc, List, [], ◌∷◌, length, slice_index_or, All, ap, arith}
+use Rattle.std.proofs.Common.{◌≡◌, ◌<◌, ◌++◌, ℕ, zero, suc, List, [], ◌∷◌, length, slice_index_or, All, true, false, ap, subst, sym, arith}
+use Rattle.std.proofs.Math.Seq.{get_or-append_seam}
+use Rattle.std.proofs.lemmas.List.{get_or_append_left, length_push}
+use Rattle.nm_scripts.specs.declared.call.Call.{Call}
+use Rattle.nm_scripts.specs.declared.call.Call.TheVariants as call
+use Rattle.nm_scripts.specs.declared.header.Header.{Header}
+use Rattle.nm_scripts.specs.Calls.{IsAllowed}
+use Rattle.nm_scripts.specs.Scripts.{IsEntryOf}
+use Rattle.nm_serial.specs.Makes.{IsOwn}
 use Rattle.nm_steps.specs.declared.view.View.{View}
 use Rattle.nm_steps.specs.Steps.{Board, IsOf}
 use Rattle.nm_tree.specs.Closing.{AreAllOf}
@@ -15,3 +23,34 @@ new_are_of b n (w ∷ ws) new (suc k) d lt = new_are_of b (suc n) ws new.5 k d (
 pub all_are_of : (b : Board) (ws : List Hand) → ((k : ℕ) (d : Hand) → k < length ws → IsOf b (slice_index_or ws k d).pass) → AreAllOf b ws
 all_are_of b [] each = tt
 all_are_of b (w ∷ ws) each = (each 0 w (omega arith), all_are_of b ws (λ k d lt. each (suc k) d (omega (arith, lt))))
+
+-- ---- lists of which all are so, with one more at the end
+
+module _ {X : Type 0} (P : X → Type 0) (xs : List X) (x : X) where
+  pub front : ((k : ℕ) (d : X) → k < length (xs ++ x ∷ []) → P (slice_index_or (xs ++ x ∷ []) k d)) → (k : ℕ) (d : X) → k < length xs → P (slice_index_or xs k d)
+  front all k d lt = let more = length_push xs x in subst P (get_or_append_left xs (x ∷ []) d k lt) (all k d (omega (arith, lt, more)))
+
+  pub last : ((k : ℕ) (d : X) → k < length (xs ++ x ∷ []) → P (slice_index_or (xs ++ x ∷ []) k d)) → P x
+  last all = let more = length_push xs x in subst P (get_or-append_seam xs x [] x) (all (length xs) x (omega (arith, more)))
+
+pub pushed : {X : Type 0} (P : X → Type 0) (xs : List X) (x : X) → ((k : ℕ) (d : X) → k < length xs → P (slice_index_or xs k d)) → P x → (k : ℕ) (d : X) → k < length (xs ++ x ∷ []) → P (slice_index_or (xs ++ x ∷ []) k d)
+pushed P [] x all is zero d lt = is
+pushed P [] x all is (suc k) d lt = absurd (omega (arith, lt))
+pushed P (y ∷ xs) x all is zero d lt = all 0 d (omega arith)
+pushed P (y ∷ xs) x all is (suc k) d lt = pushed P xs x (λ i e below. all (suc i) e (omega (arith, below))) is k d (omega (arith, lt))
+
+-- ---- calls where nobody resigns
+
+own_call : (workers : ℕ) (c : Call) → IsAllowed workers false c → IsOwn c
+own_call workers (call.Resign heir) allowed = absurd (let e = allowed.0 in cc)
+own_call workers (call.Has key) allowed = tt
+own_call workers (call.Insert key) allowed = tt
+own_call workers (call.Delete key) allowed = tt
+own_call workers call.Finish allowed = tt
+own_call workers call.Pin allowed = tt
+own_call workers call.Unpin allowed = tt
+own_call workers call.Advance allowed = tt
+own_call workers call.Collect allowed = tt
+
+pub own_calls : (h : Header) (es : List (ℕ × Call)) → h.may_resign ≡ false → ((k : ℕ) (d : ℕ × Call) → k < length es → IsEntryOf h (slice_index_or es k d)) → (k : ℕ) (d : ℕ × Call) → k < length es → IsOwn (slice_index_or es k d).1
+own_calls h es none all k d lt = own_call h.layout.workers (slice_index_or es k d).1 (rw none at (all k d lt).1)

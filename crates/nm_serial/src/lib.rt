@@ -4,8 +4,10 @@
 mod crew;
 mod gate;
 mod making;
+mod many_threads;
 mod outcome;
 mod own_lines;
 mod threads;
 
 pub use gate::Gate;
+pub use many_threads::stress;
