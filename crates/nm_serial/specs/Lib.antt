@@ -1,3 +1,4 @@
 pub mod Makes
 pub mod Threads
 pub mod Crews
+pub mod Playing
