@@ -4,7 +4,13 @@
 mod crew;
 mod gate;
 mod making;
+mod one_thread;
+mod outcome;
 mod own_lines;
 mod threads;
 
 pub use gate::Gate;
+pub use one_thread::serial;
+
+#[cfg(test)]
+mod tests;
