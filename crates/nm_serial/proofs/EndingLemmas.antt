@@ -3,7 +3,7 @@ use Rattle.std.proofs.Common.{◌≡◌, ◌≢◌, ℕ, List, take, Result, Ok,
 use Rattle.std.specs.Prelude.{Option, Some, None, IfSome, OnOk, IfErr, IsOk}
 use Rattle.nm_files.specs.declared.fault.RunFault.{RunFault}
 use Rattle.nm_files.specs.declared.fault.RunFault.TheVariants as run
-use Rattle.nm_files.specs.Files.{Fails, Gives, IfLine}
+use Rattle.nm_files.specs.Files.{Fails, IfLine}
 use Rattle.nm_files.proofs.LimitLemmas.{within_limit}
 use Rattle.nm_scripts.specs.declared.header.Command.{Command}
 use Rattle.nm_scripts.specs.Scripts.{Script, first_line_of, line_of, script_of}

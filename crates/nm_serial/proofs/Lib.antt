@@ -2,3 +2,4 @@ pub mod PlayLemmas
 pub mod ThreadLemmas
 pub mod WorkerLemmas
 pub mod EndingLemmas
+pub mod CrewLemmas

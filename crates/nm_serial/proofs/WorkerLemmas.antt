@@ -1,13 +1,7 @@
 -- Lists of a tree's workers.
-use Rattle.std.proofs.Common.{◌≡◌, ◌<◌, ◌++◌, ℕ, zero, suc, List, [], ◌∷◌, length, slice_index_or, All, true, false, ap, subst, sym, arith}
+use Rattle.std.proofs.Common.{◌≡◌, ◌<◌, ◌++◌, ℕ, zero, suc, List, [], ◌∷◌, length, slice_index_or, ap, subst, arith}
 use Rattle.std.proofs.Math.Seq.{get_or-append_seam}
 use Rattle.std.proofs.lemmas.List.{get_or_append_left, length_push}
-use Rattle.nm_scripts.specs.declared.call.Call.{Call}
-use Rattle.nm_scripts.specs.declared.call.Call.TheVariants as call
-use Rattle.nm_scripts.specs.declared.header.Header.{Header}
-use Rattle.nm_scripts.specs.Calls.{IsAllowed}
-use Rattle.nm_scripts.specs.Scripts.{IsEntryOf}
-use Rattle.nm_serial.specs.Makes.{IsOwn}
 use Rattle.nm_steps.specs.declared.view.View.{View}
 use Rattle.nm_steps.specs.Steps.{Board, IsOf}
 use Rattle.nm_tree.specs.Closing.{AreAllOf}
@@ -38,19 +32,3 @@ pushed P [] x all is zero d lt = is
 pushed P [] x all is (suc k) d lt = absurd (omega (arith, lt))
 pushed P (y ∷ xs) x all is zero d lt = all 0 d (omega arith)
 pushed P (y ∷ xs) x all is (suc k) d lt = pushed P xs x (λ i e below. all (suc i) e (omega (arith, below))) is k d (omega (arith, lt))
-
--- ---- calls where nobody resigns
-
-own_call : (workers : ℕ) (c : Call) → IsAllowed workers false c → IsOwn c
-own_call workers (call.Resign heir) allowed = absurd (let e = allowed.0 in cc)
-own_call workers (call.Has key) allowed = tt
-own_call workers (call.Insert key) allowed = tt
-own_call workers (call.Delete key) allowed = tt
-own_call workers call.Finish allowed = tt
-own_call workers call.Pin allowed = tt
-own_call workers call.Unpin allowed = tt
-own_call workers call.Advance allowed = tt
-own_call workers call.Collect allowed = tt
-
-pub own_calls : (h : Header) (es : List (ℕ × Call)) → h.may_resign ≡ false → ((k : ℕ) (d : ℕ × Call) → k < length es → IsEntryOf h (slice_index_or es k d)) → (k : ℕ) (d : ℕ × Call) → k < length es → IsOwn (slice_index_or es k d).1
-own_calls h es none all k d lt = own_call h.layout.workers (slice_index_or es k d).1 (rw none at (all k d lt).1)
