@@ -63,7 +63,7 @@ pub fn put_answer(out: &mut Vec<u8>, answer: Answer) -> Result<(), AllocError>
 }
 
 /// Appends a line of the file with what it was answered.
-fn put_line(out: &mut Vec<u8>, line: &[u8], answer: Answer) -> Result<(), AllocError>
+pub fn put_line(out: &mut Vec<u8>, line: &[u8], answer: Answer) -> Result<(), AllocError>
     ensures { OnOk result (out.new.items ≡ out.old.items ++ spec.line line.now answer) }
 {
     out.extend_from_slice(line)?;

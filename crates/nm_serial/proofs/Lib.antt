@@ -1,2 +1,5 @@
 pub mod PlayLemmas
 pub mod ThreadLemmas
+pub mod WorkerLemmas
+pub mod EndingLemmas
+pub mod CrewLemmas

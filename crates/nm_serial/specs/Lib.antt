@@ -1,3 +1,5 @@
 pub mod Makes
 pub mod Threads
+pub mod Stops
+pub mod Playing
 pub mod Crews

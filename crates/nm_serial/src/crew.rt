@@ -10,7 +10,12 @@ use nm_scripts::call::Call;
 use nm_tree::{ResignReason, Tree, Worker};
 
 /// A call that is its worker's alone, by the worker at its place, if it has not resigned.
-fn make_at(tree: &Tree, place: &mut Option<Worker>, call: Call, tries: u32) -> Option<Answer>
+pub(crate) fn make_at(
+    tree: &Tree,
+    place: &mut Option<Worker>,
+    call: Call,
+    tries: u32,
+) -> Option<Answer>
     requires own { IfSome place.old (λ w. IsOf tree.now w.pass) }
     requires alone { IsOwn call }
     ensures own { IfSome place.new (λ w. IsOf tree.now w.pass) }
@@ -23,7 +28,7 @@ fn make_at(tree: &Tree, place: &mut Option<Worker>, call: Call, tries: u32) -> O
 }
 
 /// A worker resigns to its heir, and the heir is handed back, or both, with the answer.
-fn leave(tree: &Tree, heir: Worker, leaver: Worker) -> (Worker, Option<Worker>, Answer)
+pub(crate) fn leave(tree: &Tree, heir: Worker, leaver: Worker) -> (Worker, Option<Worker>, Answer)
     requires heir { IsOf tree.now heir.pass }
     requires leaver { IsOf tree.now leaver.pass }
     ensures heir { IsOf tree.now result.0.pass }

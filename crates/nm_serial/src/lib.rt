@@ -4,7 +4,15 @@
 mod crew;
 mod gate;
 mod making;
+mod many_threads;
+mod one_thread;
+mod outcome;
 mod own_lines;
 mod threads;
 
 pub use gate::Gate;
+pub use many_threads::stress;
+pub use one_thread::serial;
+
+#[cfg(test)]
+mod tests;

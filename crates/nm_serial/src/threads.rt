@@ -1,7 +1,8 @@
 //! Each worker's lines in a thread of its own.
-ghost use Rattle.std.specs.Prelude.{◌≡◌, ◌≤◌, All, length, IfOk};
+ghost use Rattle.std.specs.Prelude.{◌≡◌, ◌≤◌, All, length, IfOk, IfErr};
 ghost use Rattle.nm_steps.specs.Steps.{IsOf};
 ghost use Rattle.nm_serial.specs.Makes.{IsOwn};
+ghost use Rattle.nm_serial.specs.Stops.{IsStop};
 ghost use Rattle.nm_serial.specs.Threads.{HasPlayed, HaveAllPlayed};
 
 use crate::gate::Gate;
@@ -70,7 +71,8 @@ fn start<'s, E, G: Gate>(
     requires own { IsOf tree.now worker.pass }
     requires plain { All (λ e. IsOwn e.1) calls.now }
     requires few { length calls.now ≤ 100000 }
-    ensures { IfOk result (λ h. (h.promise.gate.now ≡ gate.now) × (h.promise.tree.now ≡ tree.now) × (h.promise.tries ≡ tries) × (h.promise.calls.now ≡ calls.now) × (h.promise.was.value ≡ worker)) }
+    ensures started { IfOk result (λ h. (h.promise.gate.now ≡ gate.now) × (h.promise.tree.now ≡ tree.now) × (h.promise.tries ≡ tries) × (h.promise.calls.now ≡ calls.now) × (h.promise.was.value ≡ worker)) }
+    ensures stop { IfErr result IsStop }
 {
     let promise = PlaysAll {
         gate,
@@ -106,7 +108,8 @@ fn play_each<'s, R: Threads, E, G: Gate>(
     requires own { All (λ w. IsOf tree.now w.pass) workers.items }
     requires plain { All (λ e. IsOwn e.1) calls.now }
     requires few { length calls.now ≤ 100000 }
-    ensures { IfOk result (λ v. HaveAllPlayed (G.lets gate.now) tree.now tries calls.now workers.items v.items) }
+    ensures played { IfOk result (λ v. HaveAllPlayed (G.lets gate.now) tree.now tries calls.now workers.items v.items) }
+    ensures stop { IfErr result IsStop }
 {
     let mut handles = Vec::new(alloc);
     for worker in workers {
@@ -132,14 +135,15 @@ pub(crate) fn play_apart<R: Threads + Wait + Sync, G: Gate>(
     requires own { All (λ w. IsOf tree.now w.pass) workers.items }
     requires plain { All (λ e. IsOwn e.1) calls.now }
     requires few { length calls.now ≤ 100000 }
-    ensures { IfOk result (λ v. HaveAllPlayed (G.lets gate.now) tree.now tries calls.now workers.items v.items) }
+    ensures played { IfOk result (λ v. HaveAllPlayed (G.lets gate.now) tree.now tries calls.now workers.items v.items) }
+    ensures stop { IfErr result IsStop }
 {
     thread::scope(
         thread::scope_env(),
         rt,
         |scope| -> Result<Vec<Played>, RunFault>
             requires { All (λ w. IsOf tree.now w.pass) workers.items × All (λ e. IsOwn e.1) calls.now × (length calls.now ≤ 100000) }
-            ensures { IfOk result (λ v. HaveAllPlayed (G.lets gate.entry.now) tree.entry.now tries calls.entry.now workers.items v.items) }
+            ensures { IfOk result (λ v. HaveAllPlayed (G.lets gate.entry.now) tree.entry.now tries calls.entry.now workers.items v.items) × IfErr result IsStop }
         { play_each(rt, scope, alloc, gate, tree, tries, calls, workers) },
     )
 }

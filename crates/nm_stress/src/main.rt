@@ -8,6 +8,7 @@ use clap::error::ErrorKind;
 use clap::{Arg, ArgAction, Command};
 use nm_files::fault::RunFault;
 use nm_replay::replay;
+use nm_serial::{Gate, serial, stress};
 use std::alloc::Global;
 use std::env::Env;
 use std::process::ExitCode;
@@ -18,6 +19,22 @@ use thiserror::Error;
 #[derive(Clone, Copy, Debug, PartialEq, Eq)]
 enum Request {
     Replay,
+    Serial,
+    Stress,
+}
+
+/// The gate of the program: it lets each worker go on.
+#[derive(Clone, Copy, Debug)]
+struct OpenGate;
+
+impl Gate for OpenGate {
+    ghost use Rattle.std.specs.Prelude.{⊤};
+
+    ghost lets = { λ gate worker line. ⊤ };
+
+    fn turn(&self, _worker: u32, _line: u32) -> bool {
+        true
+    }
 }
 
 /// Why the command line asks for nothing.
@@ -68,6 +85,8 @@ fn request_of(alloc: Global, words: &[String]) -> Result<Request, Refusal>
     };
     match matches.get_str("command") {
         Some("replay") => Ok(Request::Replay),
+        Some("serial") => Ok(Request::Serial),
+        Some("stress") => Ok(Request::Stress),
         _ => Err(Refusal::Usage),
     }
 }
@@ -94,7 +113,7 @@ fn status_of(fault: &RunFault) -> u8
 {
     match fault {
         RunFault::Line { .. } => 1,
-        RunFault::NoMemory => 3,
+        RunFault::NoMemory | RunFault::Gate { .. } | RunFault::Thread => 3,
         RunFault::Read | RunFault::Write => 4,
     }
 }
@@ -109,6 +128,14 @@ fn main(rt: HostRuntime) -> ExitCode {
     };
     let result = match request {
         Request::Replay => replay(rt.alloc(), &mut rt.reader(), &mut io::writer(&rt)),
+        Request::Serial => serial(rt.alloc(), &mut rt.reader(), &mut io::writer(&rt)),
+        Request::Stress => stress(
+            &rt,
+            rt.alloc(),
+            &mut rt.reader(),
+            &mut io::writer(&rt),
+            &OpenGate,
+        ),
     };
     match result {
         Ok(()) => ExitCode::SUCCESS,

@@ -12,11 +12,11 @@ loop-worker-preserved g c =
     record {
       left = rw append_assoc (rw s.0 at c.loop-worker.invariant.left);
       count = omega (arith, more, c.push.new.self.ok.0);
-      each = λ k w d lt. rw pushed (each_pushed (λ u h. (h.promise.gate.now ≡ c.args.gate.now) × (h.promise.tree.now ≡ c.args.tree.now) × (h.promise.tries ≡ c.args.tries) × (h.promise.calls.now ≡ c.args.calls.now) × (h.promise.was.value ≡ u)) c.loop-worker.yielded c.loop-worker.handles.items c.in-Some.worker c.in_ok-handle.handle same c.loop-worker.invariant.each c.in_ok-handle.ensures k w d lt);
+      each = λ k w d lt. rw pushed (each_pushed (λ u h. (h.promise.gate.now ≡ c.args.gate.now) × (h.promise.tree.now ≡ c.args.tree.now) × (h.promise.tries ≡ c.args.tries) × (h.promise.calls.now ≡ c.args.calls.now) × (h.promise.was.value ≡ u)) c.loop-worker.yielded c.loop-worker.handles.items c.in-Some.worker c.in_ok-handle.handle same c.loop-worker.invariant.each c.in_ok-handle.ensures.started k w d lt);
     }
 
-pub returns-in-Ok : goal.returns-in-Ok
-returns-in-Ok g c =
+pub returns-in-Ok-clause-played : goal.returns-in-Ok-clause-played
+returns-in-Ok-clause-played g c =
     let none : c.loop-worker.worker-iterator.rest.items ≡ [] = nil_from_length c.loop-worker.worker-iterator.rest.items (omega (arith, c.in-None.ensures.steps.0, c.loop-worker.worker-iterator.rest.ok.0)) in
     let whole : c.loop-worker.yielded ≡ c.args.workers.items = sym (append-nil c.loop-worker.yielded) ∙ (rw none at c.loop-worker.invariant.left) in
     let counted : length c.loop-worker.yielded ≡ length c.args.workers.items = ap length whole in

@@ -1,0 +1,20 @@
+-- How the playing of a script may end, by the bytes of its file.
+use Rattle.std.specs.Prelude.{◌≡◌, ℕ, List, Result, Ok, Err, IsOk}
+use Rattle.nm_files.specs.declared.fault.RunFault.{RunFault}
+use Rattle.nm_files.specs.declared.fault.RunFault.TheVariants as run
+use Rattle.nm_scripts.specs.declared.header.Command.{Command}
+use Rattle.nm_scripts.specs.Scripts.{script_of}
+
+-- the fault of a run: a faulty line is told by the file alone, and a gate or a thread stops only a script that is right
+abbrev pub FailsSo : Command → List ℕ → RunFault → Type 0
+FailsSo command bytes (run.Line line reason) = script_of command bytes ≡ Err (record { line = line; reason = reason })
+FailsSo command bytes run.NoMemory = Unit {0}
+FailsSo command bytes run.Read = ⊥
+FailsSo command bytes run.Write = ⊥
+FailsSo command bytes (run.Gate worker line) = IsOk (script_of command bytes)
+FailsSo command bytes run.Thread = IsOk (script_of command bytes)
+
+-- what a run returns: nothing is written for a script that is not right
+abbrev pub EndsSo : {X : Type 0} → Command → List ℕ → Result X RunFault → Type 0
+EndsSo command bytes (Ok x) = IsOk (script_of command bytes)
+EndsSo command bytes (Err e) = FailsSo command bytes e

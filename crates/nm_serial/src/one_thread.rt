@@ -1,0 +1,194 @@
+//! `serial`: all calls of a script by one thread, in their order.
+ghost use Rattle.std.specs.Prelude.{◌≡◌, ◌≢◌, ◌<◌, All, drop, length, Some, IfOk, OnOk, IfErr, IfSome, IsOk};
+ghost use Rattle.nm_files.specs.Files.{IfLine, HasJudged};
+ghost use Rattle.nm_scripts.specs.Scripts.{IsEntryOf};
+ghost use Rattle.nm_scripts.specs.Scripts as scripts;
+ghost use Rattle.nm_steps.specs.Steps.{IsOf};
+ghost use Rattle.nm_serial.specs.Crews.{AreOf};
+ghost use Rattle.nm_serial.specs.Playing.{EndsSo};
+
+use crate::crew::{leave, make_at};
+use crate::outcome::{open, put_end};
+use nm_answers::answer::{Answer, Refusal};
+use nm_answers::text::put_lines;
+use nm_files::fault::RunFault;
+use nm_files::stream::{LIMIT, input_of, write_text};
+use nm_scripts::call::Call;
+use nm_scripts::header::{Command, Header};
+use nm_scripts::script::{Script, script_of};
+use nm_tree::{Tree, Worker};
+use std::alloc::{AllocError, Global};
+use std::io::{Read, Write};
+
+/// The workers at their places.
+fn crew_of(
+    alloc: Global,
+    tree: &Tree,
+    workers: Vec<Worker>,
+) -> Result<Vec<Option<Worker>>, AllocError>
+    requires own { All (λ w. IsOf tree.now w.pass) workers.items }
+    ensures own { IfOk result (λ crew. AreOf tree.now crew.items) }
+    ensures count { IfOk result (λ crew. length crew.items ≡ length workers.items) }
+{
+    let mut crew = Vec::new(alloc);
+    for worker in workers {
+        crew.push(Some(worker))?;
+    }
+    Ok(crew)
+}
+
+/// Puts the worker of a place behind the others, if it has not resigned.
+#[tactic(auto, using(crate::proofs::CrewLemmas::joined))]
+fn put_left(tree: &Tree, workers: &mut Vec<Worker>, place: Option<Worker>) -> Result<(), AllocError>
+    requires own { All (λ w. IsOf tree.now w.pass) workers.old.items }
+    requires place { IfSome place (λ w. IsOf tree.now w.pass) }
+    ensures { OnOk result (All (λ w. IsOf tree.now w.pass) workers.new.items) }
+{
+    let Some(worker) = place else {
+        return Ok(());
+    };
+    workers.push(worker)?;
+    Ok(())
+}
+
+/// Those that have not resigned.
+#[tactic(auto, using(crate::proofs::CrewLemmas::first_is_of))]
+fn left_of(alloc: Global, tree: &Tree, crew: Vec<Option<Worker>>) -> Result<Vec<Worker>, AllocError>
+    requires own { AreOf tree.now crew.items }
+    ensures own { IfOk result (λ workers. All (λ w. IsOf tree.now w.pass) workers.items) }
+{
+    let mut workers = Vec::new(alloc);
+    for place in crew {
+        put_left(tree, &mut workers, place)?;
+    }
+    Ok(workers)
+}
+
+/// The worker at a place resigns to the one at another. Where either has resigned, or they are one, nothing is done.
+fn resign(tree: &Tree, crew: &mut Vec<Option<Worker>>, leaver: usize, heir: usize) -> Answer
+    requires own { AreOf tree.now crew.old.items }
+    requires leaver { leaver < length crew.old.items }
+    requires heir { heir < length crew.old.items }
+    ensures own { AreOf tree.now crew.new.items }
+    ensures count { length crew.new.items ≡ length crew.old.items }
+{
+    if leaver == heir || crew[leaver].is_none() {
+        return Answer::Refused(Refusal::Gone);
+    }
+    let Some(taken) = crew[heir].take() else {
+        return Answer::Refused(Refusal::Gone);
+    };
+    let Some(leaving) = crew[leaver].take() else {
+        crew[heir] = Some(taken);
+        return Answer::Refused(Refusal::Gone);
+    };
+    let (taken, leaving, answer) = leave(tree, taken, leaving);
+    crew[heir] = Some(taken);
+    crew[leaver] = leaving;
+    answer
+}
+
+/// One line of a script.
+fn play_line(
+    tree: &Tree,
+    crew: &mut Vec<Option<Worker>>,
+    header: &Header,
+    worker: u32,
+    call: &Call,
+) -> Option<Answer>
+    requires own { AreOf tree.now crew.old.items }
+    requires count { length crew.old.items ≡ header.now.layout.workers }
+    requires allowed { IsEntryOf header.now (worker, call.now) }
+    ensures own { AreOf tree.now crew.new.items }
+    ensures count { length crew.new.items ≡ length crew.old.items }
+{
+    match call {
+        Call::Resign(heir) => Some(resign(tree, crew, worker as usize, *heir as usize)),
+        _ => make_at(tree, &mut crew[worker as usize], *call, header.tries),
+    }
+}
+
+/// All lines of a script, in their order.
+fn play(
+    alloc: Global,
+    tree: &Tree,
+    crew: &mut Vec<Option<Worker>>,
+    header: &Header,
+    calls: &[(u32, Call)],
+) -> Result<Vec<Answer>, RunFault>
+    requires own { AreOf tree.now crew.old.items }
+    requires count { length crew.old.items ≡ header.now.layout.workers }
+    requires allowed { All (IsEntryOf header.now) calls.now }
+    ensures own { AreOf tree.now crew.new.items }
+    ensures count { length crew.new.items ≡ length crew.old.items }
+    ensures err { IfErr result (λ e. e ≡ RunFault.NoMemory) }
+{
+    let mut answers = Vec::new(alloc);
+    for entry in calls {
+        let Some(answer) = play_line(tree, crew, header, entry.0, &entry.1) else {
+            return Err(RunFault::NoMemory);
+        };
+        answers.push(answer).map_err(|_| RunFault::NoMemory)?;
+    }
+    Ok(answers)
+}
+
+/// What is written for a script.
+fn text_of(alloc: Global, script: &Script<'_>) -> Result<Vec<u8>, RunFault>
+    requires { All (IsEntryOf script.now.header) script.now.calls.items }
+    ensures err { IfErr result (λ e. e ≡ RunFault.NoMemory) }
+{
+    let (tree, workers) = open(alloc, &script.header)?;
+    let mut crew = crew_of(alloc, &tree, workers).map_err(|_| RunFault::NoMemory)?;
+    let answers = play(
+        alloc,
+        &tree,
+        &mut crew,
+        &script.header,
+        script.calls.as_slice(),
+    )?;
+    let workers = left_of(alloc, &tree, crew).map_err(|_| RunFault::NoMemory)?;
+    let mut out = Vec::new(alloc);
+    put_lines(&mut out, script.body, answers.as_slice()).map_err(|_| RunFault::NoMemory)?;
+    put_end(
+        alloc,
+        &mut out,
+        tree,
+        workers,
+        script.header.layout.workers(),
+    )?;
+    Ok(out)
+}
+
+/// What is written for the bytes of a file.
+fn output(alloc: Global, bytes: &[u8]) -> Result<Vec<u8>, RunFault>
+    ensures { EndsSo Command.Serial bytes.now result }
+{
+    let script = script_of(alloc, Command::Serial, bytes)?;
+    text_of(alloc, &script)
+}
+
+/// Makes the calls of the script that the reader gives on a tree, in one thread and in their order, and writes each of its lines with what the
+/// call was answered, and then what is left of the closed tree.
+///
+/// Everything is read before a line is checked, and nothing is written before all calls are made and the tree is closed.
+pub fn serial<R: Read, W: Write>(
+    alloc: Global,
+    reader: &mut R,
+    writer: &mut W,
+) -> Result<(), RunFault>
+    // A script is played only where it is right.
+    ensures right { OnOk result (IfSome (R.remaining reader.old) (λ input. IsOk (scripts.script_of Command.Serial input))) }
+    // The first faulty line is answered, with the least reason.
+    ensures line { IfErr result (λ e. IfSome (R.remaining reader.old) (λ input. IfLine e (λ line reason. scripts.script_of Command.Serial input ≡ Err (record { line = line; reason = reason })))) }
+    // A writer is first asked where no line is faulty.
+    ensures write { IfErr result (λ e. e ≡ RunFault.Write → IfSome (R.remaining reader.old) (λ input. IsOk (scripts.script_of Command.Serial input))) }
+    // However it was judged, the input was read to its end, or to the limit.
+    ensures read { HasJudged result → IfSome (R.remaining reader.old) (λ input. R.remaining reader.new ≡ Some (drop LIMIT input)) }
+    // Nothing is written unless all was right.
+    ensures unwritten { IfErr result (λ e. e ≢ RunFault.Write → writer.new ≡ writer.old) }
+{
+    let bytes = input_of(alloc, reader)?;
+    let text = output(alloc, bytes.as_slice())?;
+    write_text(writer, text.as_slice())
+}
