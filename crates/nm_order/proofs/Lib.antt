@@ -74,3 +74,5 @@ pub mod LoggedAnswers
 pub mod WorkedHistories
 pub mod PinsOfLogs
 pub mod LinkedNodes
+pub mod StaleWalks
+pub mod StaleRuns

@@ -1,6 +1,6 @@
 -- What holds of each slot to which the walks of standing calls can go on, where it holds of each slot that a call's search comes to now:
 -- each event that is in order keeps it.
-use Rattle.std.proofs.Common.{◌≡◌, ◌≢◌, ℕ, inl, inr, ◌⊎◌, eqb, ◌==◌, Bool, true, false, cond, not, ◌&&◌, ◌||◌, List, [], ◌∷◌, ◌++◌, map, refl, sym, ap, subst, ◌∙◌, arith, true≢false, get_or-set_same, get_or-set_other}
+use Rattle.std.proofs.Common.{◌≡◌, ◌≢◌, ℕ, ◌<◌, inl, inr, ◌⊎◌, eqb, ◌==◌, Bool, true, false, cond, not, ◌&&◌, ◌||◌, List, [], ◌∷◌, ◌++◌, map, refl, sym, ap, subst, ◌∙◌, arith, true≢false, get_or-set_same, get_or-set_other}
 use Rattle.std.specs.Prelude.{Option, Some, None, is_none, nat_lt, slice_get}
 use Rattle.std.specs.List.{list_any}
 use native.Mathlib.Decide.{ℕ_discrete}
@@ -170,7 +170,7 @@ module _ (s : State) (h : ℕ → ℕ) (law : Lawful s h) (w : ℕ) where
   -- ---- a look
 
   -- a search that goes on from slot 2's left edge is the root's
-  first_each : (k : ℕ) → IsKey k → FixedKeys s.memory → (W : ℕ → Lasting → Type 0) → EachNow (child s.memory) (key s.memory) (lasting s.memory) k W → EachOnward (child s.memory) (key s.memory) (lasting s.memory) k W (child s.memory 2 Left)
+  pub first_each : (k : ℕ) → k < infinity_1 → FixedKeys s.memory → (W : ℕ → Lasting → Type 0) → EachNow (child s.memory) (key s.memory) (lasting s.memory) k W → EachOnward (child s.memory) (key s.memory) (lasting s.memory) k W (child s.memory 2 Left)
   first_each k small fixed W now q goes some =
       let left : child s.memory 1 Left ≡ 2 = law.tree.root_left in
       let at_root : side_of k (key s.memory 1) ≡ Left = ap (side_of k) fixed.root ∙ left_of k infinity_2 (omega arith) in
@@ -197,7 +197,7 @@ module _ (s : State) (h : ℕ → ℕ) (law : Lawful s h) (w : ℕ) where
           go : (is_first x d ≡ true) ⊎ (list_any (goes_on k x d) ws ≡ true) → EachOnward (child s.memory) (key s.memory) (lasting s.memory) k W (child s.memory x d)
           go (inl root) =
               let parts = and_parts (x == 2) (is_side d Left) root in
-              rw (eqb-true x 2 parts.0, is_side-true d Left parts.1) (first_each k small fixed W now)
+              rw (eqb-true x 2 parts.0, is_side-true d Left parts.1) (first_each k (omega (arith, small)) fixed W now)
           go (inr any) =
               let b = any_at (goes_on k x d) ws any in
               let parts = and_parts (b.1.slot == x) (turns k b.1.key d) b.3 in
