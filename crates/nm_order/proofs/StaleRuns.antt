@@ -20,7 +20,7 @@ use Rattle.nm_model.specs.Walks.{Entry, log_of, begins_anew, since_pin}
 use Rattle.nm_model.specs.Ordered.{Configuration, ordered, search_of, disorder, disorder_among, disorder_in, refused_in, applied_in, next_in, after_in, trace_in}
 use Rattle.nm_order.specs.Intervals.{HasKey, InInterval, key}
 use Rattle.nm_order.specs.Moments.{OfEachOrderedRun, PinStands}
-use Rattle.nm_order.specs.StalePaths.{IsPinned, WasReachedSince, AnyWalkWasReached, AnyWalkStaysInOrder, AnyWalkReadsKeys}
+use Rattle.nm_order.specs.StalePaths.{HasPin, WasReachedSince, AnyWalkWasReached, AnyWalkStaysInOrder, AnyWalkReadsKeys}
 use Rattle.nm_laws.proofs.Steps.{Allowed, allowed}
 use Rattle.nm_laws.proofs.TreeSteps.{Lawful}
 use Rattle.nm_laws.proofs.Configurations.{refused_next, refused_outcome, allowed_next, allowed_outcome, after_in-append}
@@ -51,7 +51,7 @@ module _ (L : Layout) (u k : ℕ) where
     before : List (ℕ × Event)
     since : List (ℕ × Event)
     is_run : ts ≡ before ++ since
-    pinned : IsPinned (after_in (ordered L) before) u
+    pinned : HasPin (after_in (ordered L) before) u
     stands : PinStands u (trace_in (after_in (ordered L) before) since)
     reached : Reached (after_in (ordered L) before).state.memory x
     lies : InInterval (after_in (ordered L) before).state.memory k x
@@ -84,7 +84,7 @@ module _ (L : Layout) (u k : ℕ) where
       before = ts;
       since = [];
       is_run = sym (append-nil ts);
-      pinned = subst (λ (c : Configuration). IsPinned c u) (sym is) ((law_of_state L enough d o).1.known u x known);
+      pinned = subst (λ (c : Configuration). HasPin c u) (sym is) ((law_of_state L enough d o).1.known u x known);
       stands = refl;
       reached = subst (λ (c : Configuration). Reached c.state.memory (follow (child d.state.memory) 1 q)) (sym is) (record { path = q; ends = refl; is_slot = some });
       lies = subst (λ (c : Configuration). InInterval c.state.memory k (follow (child d.state.memory) 1 q)) (sym is) (record { path = q; ends = refl; goes = goes });

@@ -12,8 +12,8 @@ use Rattle.nm_order.specs.Intervals.{InInterval, key}
 use Rattle.nm_order.specs.Moments.{PinStands}
 
 -- the worker is pinned, for a call or for none
-abbrev pub IsPinned : Configuration → ℕ → Type 0
-IsPinned c u = (epoch : ℕ) × ((of c.state u).brief.pin ≡ Some epoch)
+abbrev pub HasPin : Configuration → ℕ → Type 0
+HasPin c u = (epoch : ℕ) × ((of c.state u).brief.pin ≡ Some epoch)
 
 -- the worker's log since its pin was confirmed, in an ordered run
 abbrev pub log_under_pin : Layout → List (ℕ × Event) → ℕ → List Entry
@@ -25,7 +25,7 @@ pub record WasReachedSince (c : Configuration) (turns : List (ℕ × Event)) (u 
   pub before : List (ℕ × Event)
   pub since : List (ℕ × Event)
   pub is_run : turns ≡ before ++ since
-  pub pinned : IsPinned (after_in c before) u
+  pub pinned : HasPin (after_in c before) u
   pub stands : PinStands u (trace_in (after_in c before) since)
   pub reached : Reached (after_in c before).state.memory x
   pub lies : InInterval (after_in c before).state.memory k x
