@@ -24,7 +24,6 @@ pub mod OwnExchanges
 pub mod OwnLinks
 pub mod OwnFlags
 pub mod RunExchanges
-pub mod LoggedWalks
 pub mod RunWalks
 pub mod PartsOfRuns
 pub mod KnowledgeStays

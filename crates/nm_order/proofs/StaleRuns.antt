@@ -4,13 +4,11 @@ use Rattle.std.proofs.Common.{◌≡◌, ◌≢◌, ℕ, ◌≤◌, ◌==◌, Bo
 use Rattle.std.specs.Prelude.{Option, Some, None, All}
 use Rattle.std.specs.List.{list_any}
 use Rattle.std.proofs.lemmas.List.{append-nil}
-use Rattle.std.proofs.lemmas.List.Folds.{list_any-append}
 use Rattle.std.proofs.lemmas.Bool.{eqb-true, eqb-false}
 use Rattle.nm_edge.specs.Layouts.{Layout}
 use Rattle.nm_model.specs.declared.event.Event.{Event}
 use Rattle.nm_model.specs.declared.reply.Reply.{Reply}
 use Rattle.nm_model.specs.declared.reply.Refused.{Refused}
-use Rattle.nm_model.specs.declared.trace.Turn.{Turn}
 use Rattle.nm_model.specs.Memory.{child}
 use Rattle.nm_model.specs.Knowledge.{knows}
 use Rattle.nm_model.specs.Paths.{follow, Reached}
@@ -29,21 +27,11 @@ use Rattle.nm_order.proofs.OrderedMoments.{Lasting, lasting}
 use Rattle.nm_order.proofs.OrderedSteps.{knows_after}
 use Rattle.nm_order.proofs.OrderedLaws.{IsOrdered, neither, ordered_next, each_ordered, law_of_state, lies_onward}
 use Rattle.nm_order.proofs.OrderedInduction.{births_of}
-use Rattle.nm_order.proofs.RunMoments.{entries, stands_behind, refused_entries, allowed_entries}
-use Rattle.nm_order.proofs.WalksOfRuns.{trace_in-append, log-append, since_pin-append, one_turn, all_before, last_of, over_turns}
+use Rattle.nm_order.proofs.RunMoments.{entries, stands_longer, refused_entries, allowed_entries}
+use Rattle.nm_order.proofs.WalksOfRuns.{since_pin-append, one_turn, all_before, all_behind, over_turns}
 use Rattle.nm_order.proofs.KnowledgeStays.{learned_stays, answers}
 use Rattle.nm_order.proofs.CallWalks.{others_stay}
 use Rattle.nm_order.proofs.StaleWalks.{IsOnWay, HoldsOfWalks, of_no_walks, weaker, walks_outlast, own_walks}
-
--- a pin that stands in a run stands with a turn more, which adds neither a pin nor a leave
-stands_longer : (u : ℕ) (c d : Configuration) (ts : List (ℕ × Event)) (t : ℕ × Event) → after_in c ts ≡ d → PinStands u (trace_in c ts) → list_any begins_anew (entries u d t) ≡ false → PinStands u (trace_in c (ts ++ t ∷ []))
-unfolding trace_in
-stands_longer u c d ts t leads stands none =
-    ap (λ (l : List Turn). list_any begins_anew (log_of u l)) (trace_in-append c ts (t ∷ []))
-    ∙ (ap (list_any begins_anew) (log-append u (trace_in c ts) (trace_in (after_in c ts) (t ∷ [])))
-    ∙ (list_any-append begins_anew (log_of u (trace_in c ts)) (log_of u (trace_in (after_in c ts) (t ∷ [])))
-    ∙ (ap (λ (b : Bool). b || list_any begins_anew (log_of u (trace_in (after_in c ts) (t ∷ [])))) stands
-    ∙ (ap (λ (x : Configuration). list_any begins_anew (log_of u (trace_in x (t ∷ [])))) leads ∙ stands_behind u d t [] none refl))))
 
 module _ (L : Layout) (u k : ℕ) where
   -- at a moment of a run, under a pin that stands since, the slot was reached and in the interval, and that lasts of it
@@ -196,7 +184,7 @@ module _ (L : Layout) (u k : ℕ) where
     held_after : (turns : List (ℕ × Event)) → All (λ t. HasKey t.1) turns → Held turns
     unfolding after_in trace_in
     held_after = over_turns Held (of_no_walks (ordered L).state u k (WasAt []))
-        (λ ts t keys held. held_longer ts t (each_ordered L enough ts (all_before (λ t. HasKey t.1) ts (t ∷ []) keys)) (last_of (λ t. HasKey t.1) ts t keys) held)
+        (λ ts t keys held. held_longer ts t (each_ordered L enough ts (all_before (λ t. HasKey t.1) ts (t ∷ []) keys)) (all_behind (λ t. HasKey t.1) ts (t ∷ []) keys 0 t (omega arith)) held)
 
 -- ---- the laws
 

@@ -92,9 +92,9 @@ all_before P [] ys all i d below = absurd (omega (arith, below))
 all_before P (x ∷ xs) ys all zero d below = all 0 d (omega arith)
 all_before P (x ∷ xs) ys all (suc i) d below = all_before P xs ys (λ j e lt. all (suc j) e (omega (arith, lt))) i d (omega (arith, below))
 
-pub last_of : {X : Type 0} (P : X → Type 0) (xs : List X) (y : X) → All P (xs ++ y ∷ []) → P y
-last_of P [] y all = all 0 y (omega arith)
-last_of P (x ∷ xs) y all = last_of P xs y (λ i d below. all (suc i) d (omega (arith, below)))
+pub all_behind : {X : Type 0} (P : X → Type 0) (xs ys : List X) → All P (xs ++ ys) → All P ys
+all_behind P [] ys all = all
+all_behind P (x ∷ xs) ys all = all_behind P xs ys (λ i d below. all (suc i) d (omega (arith, below)))
 
 pub has_searches : (ts : List (ℕ × Event)) (c : Configuration) (ss : List Search) → c.searches ≡ Some ss → (known : List Search) × ((after_in c ts).searches ≡ Some known)
 unfolding after_in applied_in
