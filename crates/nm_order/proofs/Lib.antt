@@ -75,3 +75,5 @@ pub mod PinsOfLogs
 pub mod LinkedNodes
 pub mod StaleWalks
 pub mod StaleRuns
+pub mod KeyTests
+pub mod WorkedPaths

@@ -15,7 +15,7 @@ use Rattle.nm_order.specs.Moments.{PinStands}
 abbrev pub HasPin : Configuration → ℕ → Type 0
 HasPin c u = (epoch : ℕ) × ((of c.state u).brief.pin ≡ Some epoch)
 
--- the worker's log since its pin was confirmed, in an ordered run
+-- the worker's log since its pin was confirmed, in an ordered run. Where it is not pinned this has no walks, since slot 2 is looked at under a pin alone
 abbrev pub log_under_pin : Layout → List (ℕ × Event) → ℕ → List Entry
 log_under_pin L turns u = since_pin [] (log_of u (trace_in (ordered L) turns))
 
@@ -34,7 +34,7 @@ pub record WasReachedSince (c : Configuration) (turns : List (ℕ × Event)) (u 
   pub same_kind : is_leaf (node (after_in c before).state.memory x) ≡ is_leaf (node (after_in c turns).state.memory x)
 
 -- each slot to which a walk for k came in a worker's log since its pin was reached since the pin, with k in its interval. The key may be any that
--- is below the key of slot 2: each walk begins at that slot's left edge, by which the search for a greater key does not go
+-- is below the key of slot 2: each walk begins at the left edge of slot 2, and the searches for all other keys turn right at slot 1 or 2
 abbrev pub AnyWalkWasReached : Layout → List (ℕ × Event) → Type 0
 AnyWalkWasReached L turns = (u k slot parent : ℕ) (side : Side) → k < infinity_1 → WalkComes k (log_under_pin L turns u) slot parent side → WasReachedSince (ordered L) turns u k slot
 
