@@ -1,8 +1,8 @@
 -- The worked histories: what is computed of each schedule, and what the laws then say.
-use Rattle.std.proofs.Common.{◌≡◌, ℕ, zero, suc, ◌+◌, ◌≤◌, ◌⊎◌, inl, inr, Bool, true, List, [], ◌∷◌, ◌++◌, length, take, drop, refl, sym, subst, ◌∙◌, ap, arith, true≢false, lit<, lit≤, nat_le, not, ◌&&◌, ◌==◌, ◌-◌, ◌^◌}
+use Rattle.std.proofs.Common.{◌≡◌, ℕ, zero, suc, ◌+◌, ◌≤◌, ◌⊎◌, inl, inr, Bool, true, List, [], ◌∷◌, ◌++◌, length, take, drop, refl, sym, subst, ◌∙◌, ap, arith, true≢false, lit<, lit≤, not, ◌&&◌, ◌==◌}
 use Rattle.std.specs.Prelude.{Some, All, Contains}
 use Rattle.std.specs.List.{list_all}
-use Rattle.std.proofs.lemmas.Bool.{and_parts, leb-true, eq-eqb}
+use Rattle.std.proofs.lemmas.Bool.{and_parts, eq-eqb}
 use Rattle.std.proofs.lemmas.Option.{none-some, same_Some}
 use Rattle.std.proofs.Math.Seq.{take-append_seam}
 use Rattle.nm_edge.specs.Layouts.{Layout}
@@ -10,7 +10,7 @@ use Rattle.nm_model.specs.declared.event.Op.{Op}
 use Rattle.nm_model.specs.declared.walks.Call.{Call}
 use Rattle.nm_model.specs.declared.event.Op.TheVariants.{Has, Insert, Delete}
 use Rattle.nm_model.specs.declared.event.Event.{Event}
-use Rattle.nm_model.specs.declared.event.Event.TheVariants.{SightFor, LeaveWith}
+use Rattle.nm_model.specs.declared.event.Event.TheVariants.{LeaveWith}
 use Rattle.nm_model.specs.Ordered.{HasKey, ordered, after_in, trace_in, outcome_in, next_in, refused_in, applied_in}
 use Rattle.nm_model.specs.Paths.{Reached}
 use Rattle.nm_model.specs.Places.{EachSlotInOnePlace, OnePlace}
@@ -28,26 +28,11 @@ use Rattle.nm_order.specs.Removals.{HasDeleted}
 use Rattle.nm_order.specs.History.{Act, IsAmong, SameCall, EachOnce, IsAct, HasAct, IsHistory, pin_of}
 use Rattle.nm_order.specs.History.IsAct.{IsAnswered, IsPending}
 use Rattle.nm_order.proofs.OrderedLaws.{each_ordered}
+use Rattle.nm_order.proofs.KeyTests.{all_keys}
 use Rattle.nm_order.proofs.HistoryLaws.{from_changed}
 use Rattle.nm_order.proofs.OwnTurns.{own_search}
 use Rattle.nm_order.proofs.RunExchanges.{is_own_call}
 use Rattle.nm_core.specs.Histories.{events_of, IsAsTold, helped, stale}
-
--- ---- calls for keys of the set, by a test
-
-key_fits : Event → Bool
-key_fits (SightFor op k) = nat_le k (2 ^ 64 - 4)
-key_fits _ = true
-
-has_key : (e : Event) → key_fits e ≡ true → HasKey e
-unfolding key_fits
-has_key (SightFor op k) fits = leb-true k (2 ^ 64 - 4) fits
-has_key e fits = tt
-
-all_keys : (ts : List (ℕ × Event)) → list_all (λ t. key_fits t.1) ts ≡ true → All (λ t. HasKey t.1) ts
-all_keys [] fits i d below = absurd (omega (arith, below))
-all_keys (t ∷ ts) fits zero d below = has_key t.1 (and_parts (key_fits t.1) (list_all (λ t. key_fits t.1) ts) fits).0
-all_keys (t ∷ ts) fits (suc i) d below = all_keys ts (and_parts (key_fits t.1) (list_all (λ t. key_fits t.1) ts) fits).1 i d (omega arith)
 
 -- ---- calls with pins of their own
 
@@ -141,7 +126,6 @@ enough : 5 ≤ L.nodes
 enough = lit≤ tt
 
 keys : All (λ t. HasKey t.1) ts
-unfolding key_fits
 keys = all_keys ts refl
 
 first_may : MayAnswer (after_in (ordered L) (take 17 ts)) 0 Insert 5 true

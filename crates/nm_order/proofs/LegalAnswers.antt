@@ -1,10 +1,9 @@
 -- Over a whole ordered run: an answer that changes nothing was right at a moment since the pin of its call.
-use Rattle.std.proofs.Common.{◌≡◌, ◌≢◌, ℕ, ◌<◌, ◌≤◌, inl, inr, length, Bool, true, false, not, List, [], refl, sym, ap, subst, ◌∙◌, true≢false}
+use Rattle.std.proofs.Common.{◌≡◌, ◌≢◌, ℕ, ◌≤◌, Bool, true, false, not, List, [], refl, sym, ap, subst, ◌∙◌, true≢false}
 use Rattle.std.specs.Prelude.{Option, Some, None, is_none, slice_get, unwrap_or, All}
 use Rattle.std.specs.List.{list_any}
-use Rattle.std.proofs.lemmas.Bool.{and_parts, cases_lt, eq-eqb}
-use Rattle.std.proofs.lemmas.List.{get_or_past}
-use Rattle.std.proofs.lemmas.Option.{none-some, same_Some, slice_get_within, get_or_from_slice_get}
+use Rattle.std.proofs.lemmas.Bool.{and_parts, eq-eqb}
+use Rattle.std.proofs.lemmas.Option.{none-some}
 use Rattle.nm_edge.specs.Layouts.{Layout}
 use Rattle.nm_model.specs.declared.event.Op.{Op}
 use Rattle.nm_model.specs.declared.event.Op.TheVariants.{Has, Insert, Delete}
@@ -12,9 +11,8 @@ use Rattle.nm_model.specs.declared.event.Event.{Event}
 use Rattle.nm_model.specs.declared.walks.Arrival.{Arrival}
 use Rattle.nm_model.specs.Maps.{is_number}
 use Rattle.nm_model.specs.Memory.{node, is_leaf}
-use Rattle.nm_model.specs.Runs.{State}
-use Rattle.nm_model.specs.Searches.{Search, idle}
-use Rattle.nm_model.specs.Walks.{log_of, since_pin, search_after, IsOfWalk, WalkEnds}
+use Rattle.nm_model.specs.Searches.{Search}
+use Rattle.nm_model.specs.Walks.{log_of, since_pin, IsOfWalk, WalkEnds}
 use Rattle.nm_model.specs.Ordered.{Configuration, ordered, search_of, ended_at, ended_beside, shows, after_in, trace_in}
 use Rattle.nm_order.specs.Intervals.{HasKey, HasCome, IsCalled, InInterval, InSet, key}
 use Rattle.nm_order.specs.Moments.{OfEachOrderedRun, WasReached}
@@ -23,12 +21,9 @@ use Rattle.nm_order.specs.Facts.Since.{ThePin}
 use Rattle.nm_model.proofs.Lists.{any_at}
 use Rattle.nm_model.proofs.Numbers.{number_is}
 use Rattle.nm_order.proofs.OrderedLaws.{IsOrdered, each_ordered, keys_lie, one_leaf_for, read_keys}
-use Rattle.nm_order.proofs.RunMoments.{each_walk_was_reached}
+use Rattle.nm_order.proofs.RunWalks.{walk_of, each_walk_was_reached}
 use Rattle.nm_order.proofs.OwnTurns.{own_search}
-use Rattle.nm_order.proofs.RunExchanges.{first_keys, is_own_call, shown}
-use Rattle.nm_order.proofs.WalksOfRuns.{is_known}
-use Rattle.nm_order.proofs.ToldLaws.{same_layout}
-use Rattle.nm_laws.proofs.WalksOfLogs.{arrivals_are_walks}
+use Rattle.nm_order.proofs.RunExchanges.{first_keys, shown}
 use Rattle.nm_order.proofs.FactLaws.{all_kept, leaf_is}
 
 module _ (L : Layout) (enough : 5 ≤ L.nodes) (turns : List (ℕ × Event)) (keys : All (λ t. HasKey t.1) turns) (w : ℕ) (op : Op) (k : ℕ) (called : IsCalled (after_in (ordered L) turns) w op k) where
@@ -37,28 +32,6 @@ module _ (L : Layout) (enough : 5 ≤ L.nodes) (turns : List (ℕ × Event)) (ke
 
   o : IsOrdered L (after_in (ordered L) turns)
   o = each_ordered L enough turns keys
-
-  -- a call is of a worker that is there
-  of_worker : w < L.workers
-  of_worker = elim (cases_lt w (length called.searches)) [
-    | inl below ↦ subst (λ (n : ℕ). w < n) sized below
-    | inr past ↦ absurd (none-some (record { op = op; key = k }) (sym (ap (λ (S : Search). S.call) (get_or_past called.searches w idle past)) ∙ called.is_call))
-  ]
-    where
-      sized : length called.searches ≡ L.workers
-      sized = ap length (same_Some called.searches o.searches (sym called.are ∙ o.are)) ∙ (o.law.sized ∙ (ap (λ (s : State). s.layout.workers) o.leads ∙ ap (λ (l : Layout). l.workers) (same_layout L o.events)))
-
-  -- an arrival is that of a walk since the pin
-  walk_of : (i : ℕ) (a : Arrival) → slice_get (own_search (after_in (ordered L) turns) w).walks i ≡ Some a → IsOfWalk k (since_pin [] (log_of w (trace_in (ordered L) turns))) a
-  walk_of i a at = subst (IsOfWalk k (since_pin [] (log_of w (trace_in (ordered L) turns)))) (get_or_from_slice_get (search_after idle (log_of w (trace_in (ordered L) turns))).walks i a a there)
-      (arrivals_are_walks (log_of w (trace_in (ordered L) turns)) (record { op = op; key = k }) (sym (ap (λ (S : Search). S.call) told) ∙ is_own_call (after_in (ordered L) turns) w op k called)
-      i a (slice_get_within (search_after idle (log_of w (trace_in (ordered L) turns))).walks i a there))
-    where
-      told : own_search (after_in (ordered L) turns) w ≡ search_after idle (log_of w (trace_in (ordered L) turns))
-      told = ap (λ (l : Option (List Search)). search_of (unwrap_or l []) w) called.are ∙ is_known L enough w of_worker turns called.searches called.are
-
-      there : slice_get (search_after idle (log_of w (trace_in (ordered L) turns))).walks i ≡ Some a
-      there = ap (λ (S : Search). slice_get S.walks i) (sym told) ∙ at
 
   -- the leaf where a walk ended, with the key that it read, at a moment since the pin
   record LeafThen (n : ℕ) : Type 0 where
@@ -116,7 +89,7 @@ module _ (L : Layout) (enough : 5 ≤ L.nodes) (turns : List (ℕ × Event)) (ke
       b = any_at (ended_beside k) (own_search (after_in (ordered L) turns) w).walks any
 
       walk : IsOfWalk k (since_pin [] (log_of w (trace_in (ordered L) turns))) b.1
-      walk = walk_of b.0 b.1 b.2
+      walk = walk_of L enough turns keys w op k called b.0 b.1 b.2
 
       by : (key : Option ℕ) → b.1.key ≡ key → (n : ℕ) × (n ≢ k) × LeafThen n
       by None is = absurd (no_key (walk.ends (and_parts b.1.ended (not (is_number b.1.key k)) b.3).0))

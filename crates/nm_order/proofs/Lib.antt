@@ -24,7 +24,6 @@ pub mod OwnExchanges
 pub mod OwnLinks
 pub mod OwnFlags
 pub mod RunExchanges
-pub mod LoggedWalks
 pub mod RunWalks
 pub mod PartsOfRuns
 pub mod KnowledgeStays
@@ -74,3 +73,7 @@ pub mod LoggedAnswers
 pub mod WorkedHistories
 pub mod PinsOfLogs
 pub mod LinkedNodes
+pub mod StaleWalks
+pub mod StaleRuns
+pub mod KeyTests
+pub mod WorkedPaths

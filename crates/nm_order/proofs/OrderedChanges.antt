@@ -3,7 +3,6 @@ use Rattle.std.proofs.Common.{◌≡◌, ◌≢◌, ℕ, ◌<◌, ◌≤◌, tru
 use Rattle.std.specs.Prelude.{nat_lt}
 use mathlib.Core.Path.{fun_ext}
 use Rattle.std.proofs.lemmas.Bool.{cond-true, lt-ltb}
-use Rattle.nm_edge.specs.Keys.{IsKey}
 use Rattle.nm_edge.specs.declared.edge.Side.{Side}
 use Rattle.nm_edge.specs.declared.edge.Side.TheVariants.{Left, Right}
 use Rattle.nm_model.specs.declared.event.Event.{Event}
@@ -42,8 +41,8 @@ module _ (s : State) (h : ℕ → ℕ) (law : Lawful s h) where
   abbrev v : Keys
   v = key s.memory
 
-  -- where a search for a key of the set has come to slot 2's left edge, it is the root's
-  pub first_onward : (k : ℕ) → IsKey k → FixedKeys s.memory → Onward c v k (c 2 Left)
+  -- where a search for a key below that of slot 2 has come to slot 2's left edge, it is the root's
+  pub first_onward : (k : ℕ) → k < infinity_1 → FixedKeys s.memory → Onward c v k (c 2 Left)
   first_onward k small fixed q r f goes there same =
       let left : c 1 Left ≡ 2 = law.tree.root_left in
       let path : follow c 1 (Left ∷ Left ∷ q) ≡ follow c (c 2 Left) q = ap (λ (y : ℕ). follow c (c y Left) q) left in

@@ -33,7 +33,7 @@ use Rattle.nm_laws.proofs.Steps.{Allowed, allowed}
 use Rattle.nm_laws.proofs.Reaches.{after-append}
 use Rattle.nm_laws.proofs.Trees.{follow_none}
 use Rattle.nm_order.proofs.Searching.{one_leaf}
-use Rattle.nm_order.proofs.OrderedTrees.{InOrder, LeafOf, new_leaf, leaf_stays, leaf_was, key_is_new}
+use Rattle.nm_order.proofs.OrderedTrees.{InOrder, Onward, LeafOf, new_leaf, leaf_stays, leaf_was, key_is_new}
 use Rattle.nm_laws.proofs.TreeSteps.{Lawful}
 use Rattle.nm_laws.proofs.Lawful.{lawful}
 use Rattle.nm_laws.proofs.KnownBirths.{each_birth_stands, written_keys}
@@ -161,18 +161,19 @@ module _ (L : Layout) (enough : 5 ≤ L.nodes) (c : Configuration) (o : IsOrdere
       by None is f = absurd (none-some h.call is)
       by (Some call) is f = subst (λ (x : Call). WalkLaw (child m) (key m) (knows (of c.state u)) x.key (search_of h.searches u).walks) (same_Some call h.call is) f.1
 
-  stay_in_order : WalksStayInOrder c
-  stay_in_order u k a h r inner = in_interval k a.slot r (go (has_child a.slot inner))
+  has_child : (x : ℕ) → is_leaf (node c.state.memory x) ≡ false → (d : Side) × (child c.state.memory x d ≢ 0)
+  has_child x not_leaf = by ((node m x).left.slot == 0) refl not_leaf
     where
-      has_child : (x : ℕ) → is_leaf (node m x) ≡ false → (d : Side) × (child m x d ≢ 0)
-      has_child x not_leaf = by ((node m x).left.slot == 0) refl not_leaf
-        where
-          by : (b : Bool) → ((node m x).left.slot == 0) ≡ b → (b && ((node m x).right.slot == 0)) ≡ false → (d : Side) × (child m x d ≢ 0)
-          by false is not_leaf = (Left, eqb-false (node m x).left.slot 0 is)
-          by true is not_leaf = (Right, eqb-false (node m x).right.slot 0 not_leaf)
+      by : (b : Bool) → ((node m x).left.slot == 0) ≡ b → (b && ((node m x).right.slot == 0)) ≡ false → (d : Side) × (child m x d ≢ 0)
+      by false is not_leaf = (Left, eqb-false (node m x).left.slot 0 is)
+      by true is not_leaf = (Right, eqb-false (node m x).right.slot 0 not_leaf)
 
-      go : (d : Side) × (child m a.slot d ≢ 0) → GoesBy (child m) (key m) k 1 r.path
-      go d = (walk_law u k a h).onward h.index a h.is [] r.path d.0 tt d.1 r.ends
+  -- the search for k comes to an internal node that is reached, where one comes that goes on from it
+  pub lies_onward : (k x : ℕ) → Onward (child c.state.memory) (key c.state.memory) k x → Reached c.state.memory x → is_leaf (node c.state.memory x) ≡ false → InInterval c.state.memory k x
+  lies_onward k x onward r inner = let d = has_child x inner in in_interval k x r (onward [] r.path d.0 tt d.1 r.ends)
+
+  stay_in_order : WalksStayInOrder c
+  stay_in_order u k a h r inner = lies_onward k a.slot ((walk_law u k a h).onward h.index a h.is) r inner
 
   pub read_keys : WalksReadKeys c
   read_keys u k n a h is = (walk_law u k a h).is_keyed h.index a n h.is is

@@ -1,9 +1,8 @@
--- What holds of each slot to which the walks of standing calls can go on, where it holds of each slot that a call's search comes to now:
--- each event that is in order keeps it.
-use Rattle.std.proofs.Common.{◌≡◌, ◌≢◌, ℕ, inl, inr, ◌⊎◌, eqb, ◌==◌, Bool, true, false, cond, not, ◌&&◌, ◌||◌, List, [], ◌∷◌, ◌++◌, map, refl, sym, ap, subst, ◌∙◌, arith, true≢false, get_or-set_same, get_or-set_other}
+-- What holds of each slot to which a search can go on from a known one, where it holds of each slot that the root's own search comes to now:
+-- each event that is allowed keeps it, and a look that takes walks on.
+use Rattle.std.proofs.Common.{◌≡◌, ◌≢◌, ℕ, ◌<◌, inl, inr, ◌⊎◌, eqb, ◌==◌, Bool, true, false, cond, not, ◌&&◌, ◌||◌, List, [], ◌∷◌, ◌++◌, map, refl, sym, ap, subst, ◌∙◌, arith}
 use Rattle.std.specs.Prelude.{Option, Some, None, is_none, nat_lt, slice_get}
 use Rattle.std.specs.List.{list_any}
-use native.Mathlib.Decide.{ℕ_discrete}
 use mathlib.Core.Path.{fun_ext}
 use Rattle.std.proofs.lemmas.Bool.{cond_both, eqb-true, and_parts, ne_eqb, or_cases, not-false}
 use Rattle.std.proofs.lemmas.Option.{none-some, same_Some}
@@ -14,9 +13,9 @@ use Rattle.nm_edge.specs.declared.edge.Side.TheVariants.{Left, Right}
 use Rattle.nm_model.specs.declared.event.Field.{Field}
 use Rattle.nm_model.specs.declared.event.Field.TheVariants.{Key, Edge as EdgeOn}
 use Rattle.nm_model.specs.declared.event.Event.{Event}
-use Rattle.nm_model.specs.declared.event.Event.TheVariants.{Sight, SightFor, Leave, LeaveWith, Fill, Look}
+use Rattle.nm_model.specs.declared.event.Event.TheVariants.{Fill, Look}
 use Rattle.nm_model.specs.declared.reply.Reply.{Reply}
-use Rattle.nm_model.specs.declared.reply.Reply.TheVariants.{Pinned, Departed, KeyIs, EdgeIs}
+use Rattle.nm_model.specs.declared.reply.Reply.TheVariants.{KeyIs, EdgeIs}
 use Rattle.nm_model.specs.declared.reply.Refused.TheVariants.{NoSlot, NotPrivate}
 use Rattle.nm_model.specs.declared.walks.Call.{Call}
 use Rattle.nm_model.specs.declared.walks.Arrival.{Arrival}
@@ -24,10 +23,8 @@ use Rattle.nm_model.specs.Memory.{Memory, node, child, edge, is_leaf, infinity_1
 use Rattle.nm_model.specs.Knowledge.{knows, is_private}
 use Rattle.nm_model.specs.Paths.{follow}
 use Rattle.nm_model.specs.Step.{outside, is_edge, refusal, reply, write}
-use Rattle.nm_model.specs.Runs.{State, of, reply_of, applied}
-use Rattle.nm_model.specs.Searches.{Search, idle, searched, side_of, is_side, turns, is_by, is_first, goes_on, new_arrival, with_arrival, keyed, ended, walked, look_for}
-use Rattle.nm_model.specs.Walks.{begins_anew}
-use Rattle.nm_model.specs.Ordered.{search_of, learned_from}
+use Rattle.nm_model.specs.Runs.{State, of, reply_of}
+use Rattle.nm_model.specs.Searches.{side_of, is_side, turns, is_by, is_first, goes_on, new_arrival, with_arrival, keyed, ended, walked}
 use Rattle.nm_order.specs.Intervals.{GoesBy, key}
 use Rattle.nm_model.proofs.Lists.{any_at, mapped_at, more_at}
 use Rattle.nm_laws.proofs.Steps.{Allowed, second}
@@ -41,11 +38,9 @@ use Rattle.nm_laws.proofs.TreeSteps.{Lawful}
 use Rattle.nm_order.proofs.OrderedTrees.{Onward}
 use Rattle.nm_order.proofs.TreeChanges.{TreeChange, tree_change}
 use Rattle.nm_order.proofs.TreeChanges.TreeChange.{Kept, Filled, Linked, Spliced}
-use Rattle.nm_order.proofs.SearchSteps.{SearchStep, search_step}
-use Rattle.nm_order.proofs.SearchSteps.SearchStep.{Same, Looked, Begun, Over}
 use Rattle.nm_order.proofs.OrderedWalks.{WalkLaw, is_side-true, turned}
 use Rattle.nm_order.proofs.OrderedChanges.{FixedKeys, left_of, off_known}
-use Rattle.nm_order.proofs.OrderedSteps.{ForCall, OrderLaw}
+use Rattle.nm_order.proofs.OrderedSteps.{ForCall}
 use Rattle.nm_order.proofs.OnwardSlots.{EachOnward, EachNow, straight_to, each_exchanged, each_apart, each_same}
 
 -- what of a node stays while somebody can come to it: its birth, its key, and whether it is a leaf
@@ -56,11 +51,6 @@ pub record Lasting : Type 0 where
 
 abbrev pub lasting : Memory → ℕ → Lasting
 lasting m x = record { birth = (node m x).birth; key = (node m x).key; leaf = is_leaf (node m x) }
-
--- of each worker's call, each slot to which its walks can go on, and what lasts of that slot
-abbrev pub MomentLaw : State → List Search → (ℕ → Call → ℕ → Lasting → Type 0) → Type 0
-MomentLaw s ss W = (u : ℕ) (call : Call) → (search_of ss u).call ≡ Some call → (i : ℕ) (a : Arrival) → slice_get (search_of ss u).walks i ≡ Some a
-    → EachOnward (child s.memory) (key s.memory) (lasting s.memory) call.key (W u call) a.slot
 
 -- ---- what a look adds
 
@@ -86,15 +76,6 @@ walked_each P k ws x (EdgeOn d) (EdgeIs e) old new i a at =
     (λ _ at. old i a at))
     at
 walked_each P k ws x f r old new i a at = old i a at
-
--- a call of which nothing is known yet has no walks
-pub no_walks_yet : (S : Search) (e : Event) (r : Reply) → begins_anew (e, r) ≡ true → (searched S e r).walks ≡ []
-unfolding searched
-no_walks_yet S Sight (Pinned n) anew = refl
-no_walks_yet S (SightFor op key) (Pinned n) anew = refl
-no_walks_yet S Leave Departed anew = refl
-no_walks_yet S (LeaveWith answer) Departed anew = refl
-no_walks_yet S e r anew = absurd (true≢false (sym anew))
 
 -- the law of the walks of a call
 pub call_walks : (m : Memory) (known : ℕ → Bool) (o : Option Call) (ws : List Arrival) (call : Call) → o ≡ Some call → ForCall m known o ws → IsKey call.key × WalkLaw (child m) (key m) known call.key ws
@@ -170,7 +151,7 @@ module _ (s : State) (h : ℕ → ℕ) (law : Lawful s h) (w : ℕ) where
   -- ---- a look
 
   -- a search that goes on from slot 2's left edge is the root's
-  first_each : (k : ℕ) → IsKey k → FixedKeys s.memory → (W : ℕ → Lasting → Type 0) → EachNow (child s.memory) (key s.memory) (lasting s.memory) k W → EachOnward (child s.memory) (key s.memory) (lasting s.memory) k W (child s.memory 2 Left)
+  pub first_each : (k : ℕ) → k < infinity_1 → FixedKeys s.memory → (W : ℕ → Lasting → Type 0) → EachNow (child s.memory) (key s.memory) (lasting s.memory) k W → EachOnward (child s.memory) (key s.memory) (lasting s.memory) k W (child s.memory 2 Left)
   first_each k small fixed W now q goes some =
       let left : child s.memory 1 Left ≡ 2 = law.tree.root_left in
       let at_root : side_of k (key s.memory 1) ≡ Left = ap (side_of k) fixed.root ∙ left_of k infinity_2 (omega arith) in
@@ -197,7 +178,7 @@ module _ (s : State) (h : ℕ → ℕ) (law : Lawful s h) (w : ℕ) where
           go : (is_first x d ≡ true) ⊎ (list_any (goes_on k x d) ws ≡ true) → EachOnward (child s.memory) (key s.memory) (lasting s.memory) k W (child s.memory x d)
           go (inl root) =
               let parts = and_parts (x == 2) (is_side d Left) root in
-              rw (eqb-true x 2 parts.0, is_side-true d Left parts.1) (first_each k small fixed W now)
+              rw (eqb-true x 2 parts.0, is_side-true d Left parts.1) (first_each k (omega (arith, small)) fixed W now)
           go (inr any) =
               let b = any_at (goes_on k x d) ws any in
               let parts = and_parts (b.1.slot == x) (turns k b.1.key d) b.3 in
@@ -205,97 +186,3 @@ module _ (s : State) (h : ℕ → ℕ) (law : Lawful s h) (w : ℕ) where
               let n = turned k b.1.key d parts.1 in
               let turn : side_of k (key s.memory x) ≡ d = ap (λ (y : ℕ). side_of k (key s.memory y)) (sym slot) ∙ (ap (side_of k) (walks.is_keyed b.0 b.1 n.0 b.2 n.1) ∙ n.2) in
               λ q goes some. subst (EachOnward (child s.memory) (key s.memory) (lasting s.memory) k W) slot (old b.0 b.1 b.2) (d ∷ q) (turn, goes) some
-
-  -- ---- one event
-
-  module _ (ss : List Search) (l : OrderLaw s ss) (e : Event) (ok : Allowed s w e) (W W' : ℕ → Call → ℕ → Lasting → Type 0) where
-    -- what has been stays, unless the worker's pin is another; and what is now has been
-    abbrev pub Stays : Type 0
-    Stays = (u : ℕ) (call : Call) (y : ℕ) (n : Lasting) → (u ≡ w → begins_anew (e, reply_of s w e) ≡ false) → W u call y n → W' u call y n
-
-    abbrev pub IsSoNow : Type 0
-    IsSoNow = (u : ℕ) (call : Call) → (search_of (learned_from ss w e (reply_of s w e)) u).call ≡ Some call → EachNow (child (write s.memory (of s w) w e)) (key (write s.memory (of s w) w e)) (lasting (write s.memory (of s w) w e)) call.key (W' u call)
-
-    module _ (stays : Stays) (so_now : IsSoNow) (before : MomentLaw s ss W) where
-      abbrev m' : Memory
-      m' = write s.memory (of s w) w e
-
-      lasts : (x : ℕ) → (is_private (of s w) x ≡ true → ⊥) → lasting (write s.memory (of s w) w e) x ≡ lasting s.memory x
-      lasts x free = lasting_stays e ok x free
-
-      -- of a call that goes on, with the walks that it had
-      still : (u : ℕ) (call : Call) → (search_of ss u).call ≡ Some call → (u ≡ w → begins_anew (e, reply_of s w e) ≡ false) → EachNow (child m') (key m') (lasting m') call.key (W' u call)
-          → (i : ℕ) (a : Arrival) → slice_get (search_of ss u).walks i ≡ Some a → EachOnward (child m') (key m') (lasting m') call.key (W' u call) a.slot
-      still u call is stands now i a at =
-          let walks = (call_walks s.memory (knows (of s u)) (search_of ss u).call (search_of ss u).walks call is (l.walks u)).1 in
-          each_outlasts e m' lasts u a.slot (walks.is_known i a at) call.key (walks.onward i a at) (W u call) (W' u call) (λ y n. stays u call y n stands) now (tree_change s h law w e ok) (before u call is i a at)
-
-      other : (u : ℕ) → u ≢ w → (search_of (learned_from ss w e (reply_of s w e)) u ≡ search_of ss u) → (call : Call) → (search_of (learned_from ss w e (reply_of s w e)) u).call ≡ Some call
-          → (i : ℕ) (a : Arrival) → slice_get (search_of (learned_from ss w e (reply_of s w e)) u).walks i ≡ Some a → EachOnward (child m') (key m') (lasting m') call.key (W' u call) a.slot
-      other u ne same call is i a at =
-          still u call (sym (ap (λ (S : Search). S.call) same) ∙ is) (λ z. absurd (ne z)) (so_now u call is) i a (sym (ap (λ (S : Search). slice_get S.walks i) same) ∙ at)
-
-      -- of a call whose walks had a look
-      looked : (x : ℕ) (f : Field) → e ≡ Look x f → begins_anew (e, reply_of s w e) ≡ false → (call : Call) → EachNow (child m') (key m') (lasting m') call.key (W' w call) → (o : Option Call) → (search_of ss w).call ≡ o
-          → (look_for (search_of ss w) o x f (reply_of s w e)).call ≡ Some call → (i : ℕ) (a : Arrival) → slice_get (look_for (search_of ss w) o x f (reply_of s w e)).walks i ≡ Some a → EachOnward (child m') (key m') (lasting m') call.key (W' w call) a.slot
-      unfolding write
-      looked x f is stands call now None none here i a at = absurd (none-some call (sym none ∙ here))
-      looked x f is stands call now (Some c) some here i a at =
-          subst (λ (n : Memory). EachOnward (child n) (key n) (lasting n) call.key (W' w call) a.slot) (sym written)
-          (look_each call.key (search_of ss w).walks x f walks.0 l.fixed walks.1 (W' w call) (subst (λ (n : Memory). EachNow (child n) (key n) (lasting n) call.key (W' w call)) written now)
-          (λ j b was q goes there. stays w call (follow (child s.memory) b.slot q) (lasting s.memory (follow (child s.memory) b.slot q)) (λ _. stands) (before w call here j b was q goes there))
-          i a (ap (λ (y : Call). slice_get (walked y.key (search_of ss w).walks x f (reply_of s w (Look x f))) i) (sym same) ∙ (ap (λ (r : Reply). slice_get (walked c.key (search_of ss w).walks x f r) i) (sym replied) ∙ at)))
-        where
-          same : c ≡ call
-          same = same_Some c call (sym some ∙ here)
-
-          walks : IsKey call.key × WalkLaw (child s.memory) (key s.memory) (knows (of s w)) call.key (search_of ss w).walks
-          walks = call_walks s.memory (knows (of s w)) (search_of ss w).call (search_of ss w).walks call here (l.walks w)
-
-          written : write s.memory (of s w) w e ≡ s.memory
-          written = ap (write s.memory (of s w) w) is
-
-          replied : reply_of s w e ≡ reply_of s w (Look x f)
-          replied = ap (reply_of s w) is
-
-      own : (search_of (learned_from ss w e (reply_of s w e)) w ≡ searched (search_of ss w) e (reply_of s w e)) → (call : Call) → (search_of (learned_from ss w e (reply_of s w e)) w).call ≡ Some call
-          → (i : ℕ) (a : Arrival) → slice_get (search_of (learned_from ss w e (reply_of s w e)) w).walks i ≡ Some a → EachOnward (child m') (key m') (lasting m') call.key (W' w call) a.slot
-      own same call is i a at = go (begins_anew (e, reply_of s w e)) refl
-        where
-          r : Reply
-          r = reply_of s w e
-
-          now : EachNow (child (write s.memory (of s w) w e)) (key (write s.memory (of s w) w e)) (lasting (write s.memory (of s w) w e)) call.key (W' w call)
-          now = so_now w call is
-
-          is_call : (searched (search_of ss w) e (reply_of s w e)).call ≡ Some call
-          is_call = sym (ap (λ (S : Search). S.call) same) ∙ is
-
-          is_at : slice_get (searched (search_of ss w) e (reply_of s w e)).walks i ≡ Some a
-          is_at = sym (ap (λ (S : Search). slice_get S.walks i) same) ∙ at
-
-          no_walk : (searched (search_of ss w) e (reply_of s w e)).walks ≡ [] → ⊥
-          no_walk none = none-some a (sym (ap (λ (ws : List Arrival). slice_get ws i) none) ∙ is_at)
-
-          on : begins_anew (e, reply_of s w e) ≡ false → SearchStep (search_of ss w) w (of s w) e (reply_of s w e) → EachOnward (child (write s.memory (of s w) w e)) (key (write s.memory (of s w) w e)) (lasting (write s.memory (of s w) w e)) call.key (W' w call) a.slot
-          on stands (Same calls walks known) = still w call (sym calls ∙ is_call) (λ _. stands) now i a (sym (ap (λ (ws : List Arrival). slice_get ws i) walks) ∙ is_at)
-          on stands (Looked x f look becomes known) =
-              looked x f look stands call now (search_of ss w).call refl (sym (ap (λ (S : Search). S.call) becomes) ∙ is_call) i a (sym (ap (λ (S : Search). slice_get S.walks i) becomes) ∙ is_at)
-          on stands (Begun op n sight begun none) = absurd (no_walk none)
-          on stands (Over none) = absurd (none-some call (sym none ∙ is_call))
-
-          go : (b : Bool) → begins_anew (e, reply_of s w e) ≡ b → EachOnward (child (write s.memory (of s w) w e)) (key (write s.memory (of s w) w e)) (lasting (write s.memory (of s w) w e)) call.key (W' w call) a.slot
-          go true anew = absurd (no_walk (no_walks_yet (search_of ss w) e (reply_of s w e) anew))
-          go false stands = on stands (search_step (search_of ss w) w (of s w) e (reply_of s w e))
-
-      -- an event that is allowed keeps it
-      pub moment_step : MomentLaw (applied s w e) (learned_from ss w e (reply_of s w e)) W'
-      unfolding applied
-      moment_step u call is i a at = elim (ℕ_discrete u w) [
-        | yes same ↦ by_own same call is i a at
-        | no ne ↦ other u ne (get_or-set_other ss w u (searched (search_of ss w) e (reply_of s w e)) idle ne) call is i a at
-      ]
-        where
-          by_own : u ≡ w → (call : Call) → (search_of (learned_from ss w e (reply_of s w e)) u).call ≡ Some call → (i : ℕ) (a : Arrival) → slice_get (search_of (learned_from ss w e (reply_of s w e)) u).walks i ≡ Some a
-              → EachOnward (child (write s.memory (of s w) w e)) (key (write s.memory (of s w) w e)) (lasting (write s.memory (of s w) w e)) call.key (W' u call) a.slot
-          by_own same = rw same (own (get_or-set_same ss w (searched (search_of ss w) e (reply_of s w e)) idle (let size = l.sized in let lt = ok.worker in omega arith)))

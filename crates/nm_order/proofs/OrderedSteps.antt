@@ -123,7 +123,7 @@ module _ (s : State) (h : ℕ → ℕ) (law : Lawful s h) (w : ℕ) where
   look_law k ws x Key small fixed still walks = key_looked (child s.memory) (key s.memory) _ k ws x (walks_last (child s.memory) (child s.memory) (key s.memory) (key s.memory) _ _ k ws still (λ _ _. refl) (λ _ _ o. o) walks)
   look_law k ws x (EdgeOn d) small fixed still walks =
       edge_looked (child s.memory) (key s.memory) (knows (learn w (of s w) (Look x (EdgeOn d)) (reply_of s w (Look x (EdgeOn d))))) k ws x d
-      (λ goes some. looked_known x d (out goes) some) (first_onward s h law k small fixed)
+      (λ goes some. looked_known x d (out goes) some) (first_onward s h law k (omega (arith, small)) fixed)
       (walks_last (child s.memory) (child s.memory) (key s.memory) (key s.memory) _ _ k ws still (λ _ _. refl) (λ _ _ o. o) walks)
     where
       out : (is_first x d ≡ true) ⊎ (list_any (goes_on k x d) ws ≡ true) → is_private (of s w) x ≡ false

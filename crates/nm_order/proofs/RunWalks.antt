@@ -1,28 +1,34 @@
--- Over a whole ordered run: each slot to which a walk in the log came since the pin was reached since then, with the walk's key in its interval.
-use Rattle.std.proofs.Common.{◌≡◌, ℕ, suc, ◌≤◌, cond, List, [], ◌∷◌, ◌++◌, refl, sym, ap, subst, ◌∙◌, arith}
+-- Over a whole ordered run: each slot to which a walk of a standing call came was reached since the pin, with the call's key in its interval.
+-- A walk of a call is one for any key, and the call is the same at each moment since its pin.
+use Rattle.std.proofs.Common.{◌≡◌, ℕ, ◌<◌, ◌≤◌, inl, inr, length, List, [], ◌++◌, refl, sym, ap, subst, ◌∙◌, arith}
 use Rattle.std.specs.Prelude.{Option, Some, None, Result, Ok, Err, slice_get, unwrap_or, All}
+use Rattle.std.proofs.lemmas.Bool.{cases_lt}
+use Rattle.std.proofs.lemmas.List.{get_or_past}
+use Rattle.std.proofs.lemmas.Option.{none-some, same_Some, slice_get_within, get_or_from_slice_get}
 use Rattle.nm_edge.specs.Layouts.{Layout}
+use Rattle.nm_edge.specs.Keys.{IsKey}
+use Rattle.nm_model.specs.declared.event.Op.{Op}
 use Rattle.nm_model.specs.declared.event.Event.{Event}
 use Rattle.nm_model.specs.declared.reply.Reply.{Reply}
-use Rattle.nm_model.specs.declared.reply.Reply.TheVariants.{KeyIs}
 use Rattle.nm_model.specs.declared.reply.Refused.{Refused}
-use Rattle.nm_model.specs.declared.walks.Call.{Call}
+use Rattle.nm_model.specs.declared.walks.Arrival.{Arrival}
 use Rattle.nm_model.specs.Knowledge.{knows}
-use Rattle.nm_model.specs.Step.{reply}
-use Rattle.nm_model.specs.Runs.{of, reply_of}
-use Rattle.nm_model.specs.Searches.{Search}
-use Rattle.nm_model.specs.Walks.{Entry, log_of, begins_anew, since_pin}
-use Rattle.nm_model.specs.Ordered.{Configuration, ordered, search_of, refused_in, next_in, outcome_in, after_in, trace_in}
-use Rattle.nm_order.specs.Intervals.{HasKey, key}
-use Rattle.nm_order.specs.Moments.{OfEachOrderedRun, WasReached, LoggedWalksWereReached}
-use Rattle.nm_laws.proofs.Configurations.{refused_outcome, allowed_outcome}
+use Rattle.nm_model.specs.Runs.{State, of, reply_of}
+use Rattle.nm_model.specs.Searches.{Search, idle}
+use Rattle.nm_model.specs.Walks.{log_of, since_pin, search_after, IsOfWalk}
+use Rattle.nm_model.specs.Ordered.{Configuration, ordered, search_of, refused_in, outcome_in, after_in, trace_in}
+use Rattle.nm_order.specs.Intervals.{HasKey, IsCalled}
+use Rattle.nm_order.specs.Moments.{OfEachOrderedRun, WasReached, WalksWereReached, LoggedWalksWereReached}
+use Rattle.nm_order.specs.StalePaths.{WasReachedSince}
+use Rattle.nm_laws.proofs.Configurations.{refused_outcome, allowed_outcome, after_in-append}
+use Rattle.nm_laws.proofs.WalksOfLogs.{arrivals_are_walks}
 use Rattle.nm_order.proofs.OrderedMoments.{call_walks}
-use Rattle.nm_order.proofs.OrderedLaws.{IsOrdered, ordered_next}
-use Rattle.nm_order.proofs.RunMoments.{entries, each_walk_was_reached}
-use Rattle.nm_order.proofs.OwnTurns.{own_search, OwnTurn, own_turn}
-use Rattle.nm_order.proofs.OwnTurns.OwnTurn.{Quiet, Own}
-use Rattle.nm_order.proofs.RunExchanges.{at_opening, is_own_call}
-use Rattle.nm_order.proofs.LoggedWalks.{Arrives, CoversCall, SameKeys, nothing_logged, covers_step}
+use Rattle.nm_order.proofs.OrderedLaws.{IsOrdered, each_ordered}
+use Rattle.nm_order.proofs.OwnTurns.{own_search, call_stays}
+use Rattle.nm_order.proofs.RunExchanges.{is_own_call}
+use Rattle.nm_order.proofs.WalksOfRuns.{is_known, all_before, all_behind}
+use Rattle.nm_order.proofs.ToldLaws.{same_layout}
+use Rattle.nm_order.proofs.StaleRuns.{any_walk_was_reached}
 
 -- an event that is allowed is answered by its reply
 pub reply_is : (c : Configuration) (t : ℕ × Event) (r : Reply) → outcome_in c t ≡ Ok r → reply_of c.state t.0 t.1 ≡ r
@@ -38,53 +44,68 @@ reply_is c t r is = go (refused_in c t.0 t.1) refl
     go (Some x) why = absurd (differ x (sym (refused_outcome c t x why) ∙ is))
     go None why = same (reply_of c.state t.0 t.1) (sym (allowed_outcome c t why) ∙ is)
 
-module _ (L : Layout) (enough : 5 ≤ L.nodes) (w : ℕ) where
-  -- a key that is looked at is that which the arrivals at the slot have
-  same_keys : (c : Configuration) → IsOrdered L c → (e : Event) (r : Reply) → reply_of c.state w e ≡ r → (call : Call) → (own_search c w).call ≡ Some call → SameKeys (own_search c w) (e, r)
-  unfolding reply
-  same_keys c o e r is call is_call slot v look i a n at there has = sym key_is_n ∙ key_is_v
+module _ (L : Layout) (enough : 5 ≤ L.nodes) (turns : List (ℕ × Event)) (keys : All (λ t. HasKey t.1) turns) (w : ℕ) (op : Op) (k : ℕ) (called : IsCalled (after_in (ordered L) turns) w op k) where
+  o : IsOrdered L (after_in (ordered L) turns)
+  o = each_ordered L enough turns keys
+
+  -- a call is of a worker that is there
+  of_worker : w < L.workers
+  of_worker = elim (cases_lt w (length called.searches)) [
+    | inl below ↦ subst (λ (n : ℕ). w < n) sized below
+    | inr past ↦ absurd (none-some (record { op = op; key = k }) (sym (ap (λ (S : Search). S.call) (get_or_past called.searches w idle past)) ∙ called.is_call))
+  ]
     where
-      was : own_search c w ≡ search_of o.searches w
-      was = ap (λ (l : Option (List Search)). search_of (unwrap_or l []) w) o.are
+      sized : length called.searches ≡ L.workers
+      sized = ap length (same_Some called.searches o.searches (sym called.are ∙ o.are)) ∙ (o.law.sized ∙ (ap (λ (s : State). s.layout.workers) o.leads ∙ ap (λ (l : Layout). l.workers) (same_layout L o.events)))
 
-      key_is_n : key c.state.memory slot ≡ n
-      key_is_n = ap (key c.state.memory) (sym there)
-          ∙ (call_walks c.state.memory (knows (of c.state w)) (search_of o.searches w).call (search_of o.searches w).walks call (ap (λ (S : Search). S.call) (sym was) ∙ is_call) (o.law.walks w)).1.is_keyed i a n (ap (λ (S : Search). slice_get S.walks i) (sym was) ∙ at) has
-
-      same_reply : (p q : ℕ) → KeyIs p ≡ KeyIs q → p ≡ q
-      same_reply p q h = cc
-
-      key_is_v : key c.state.memory slot ≡ v
-      key_is_v = same_reply (key c.state.memory slot) v (ap (reply_of c.state w) (sym (ap (λ (x : Entry). x.0) look)) ∙ (is ∙ ap (λ (x : Entry). x.1) look))
-
-  covers_after : (turns : List (ℕ × Event)) → All (λ t. HasKey t.1) turns → (c : Configuration) → IsOrdered L c → (so_far : List Entry) → CoversCall (own_search c w) so_far
-      → CoversCall (own_search (after_in c turns) w) (since_pin so_far (log_of w (trace_in c turns)))
-  unfolding after_in trace_in
-  covers_after [] keys c o so_far covers = covers
-  covers_after (t ∷ ts) keys c o so_far covers = by (own_turn L w c t o) (λ far now. covers_after ts (λ k d below. keys (suc k) d (omega arith)) (next_in c t) (ordered_next L enough c t (keys 0 t (omega arith)) o) far now)
+  -- an arrival is that of a walk since the pin
+  pub walk_of : (i : ℕ) (a : Arrival) → slice_get (own_search (after_in (ordered L) turns) w).walks i ≡ Some a → IsOfWalk k (since_pin [] (log_of w (trace_in (ordered L) turns))) a
+  walk_of i a at = subst (IsOfWalk k (since_pin [] (log_of w (trace_in (ordered L) turns)))) (get_or_from_slice_get (search_after idle (log_of w (trace_in (ordered L) turns))).walks i a a there)
+      (arrivals_are_walks (log_of w (trace_in (ordered L) turns)) (record { op = op; key = k }) (sym (ap (λ (S : Search). S.call) told) ∙ is_own_call (after_in (ordered L) turns) w op k called)
+      i a (slice_get_within (search_after idle (log_of w (trace_in (ordered L) turns))).walks i a there))
     where
-      Rest : Type 0
-      Rest = (far : List Entry) → CoversCall (own_search (next_in c t) w) far → CoversCall (own_search (after_in (next_in c t) ts) w) (since_pin far (log_of w (trace_in (next_in c t) ts)))
+      told : own_search (after_in (ordered L) turns) w ≡ search_after idle (log_of w (trace_in (ordered L) turns))
+      told = ap (λ (l : Option (List Search)). search_of (unwrap_or l []) w) called.are ∙ is_known L enough w of_worker turns called.searches called.are
 
-      by : OwnTurn w c t → Rest → CoversCall (own_search (after_in (next_in c t) ts) w) (since_pin so_far (entries w c t ++ log_of w (trace_in (next_in c t) ts)))
-      by (Quiet same none) rest =
-          subst (λ (es : List Entry). CoversCall (own_search (after_in (next_in c t) ts) w) (since_pin so_far (es ++ log_of w (trace_in (next_in c t) ts)))) (sym none)
-          (rest so_far (subst (λ (S : Search). CoversCall S so_far) (sym same) covers))
-      by (Own r is won here learned order) rest =
-          subst (λ (es : List Entry). CoversCall (own_search (after_in (next_in c t) ts) w) (since_pin so_far (es ++ log_of w (trace_in (next_in c t) ts)))) (sym here)
-          (rest (cond (begins_anew (t.1, r)) [] (so_far ++ (t.1, r) ∷ [])) (subst (λ (S : Search). CoversCall S (cond (begins_anew (t.1, r)) [] (so_far ++ (t.1, r) ∷ []))) (sym learned)
-          (covers_step (own_search c w) so_far covers (t.1, r) (same_keys c o t.1 r (ap (λ (u : ℕ). reply_of c.state u t.1) (sym is) ∙ reply_is c t r won)))))
+      there : slice_get (search_after idle (log_of w (trace_in (ordered L) turns))).walks i ≡ Some a
+      there = ap (λ (S : Search). slice_get S.walks i) (sym told) ∙ at
+
+  -- it is for a key of the set
+  of_key : IsKey k
+  of_key = (call_walks (after_in (ordered L) turns).state.memory (knows (of (after_in (ordered L) turns).state w)) (search_of o.searches w).call (search_of o.searches w).walks (record { op = op; key = k })
+      (ap (λ (ss : List Search). (search_of ss w).call) (same_Some o.searches called.searches (sym o.are ∙ called.are)) ∙ called.is_call) (o.law.walks w)).0
+
+  -- and it was under the pin at each moment since then
+  was_called : (x : ℕ) → WasReachedSince (ordered L) turns w k x → WasReached (ordered L) turns w op k x
+  was_called x was = record {
+    before = was.before;
+    since = was.since;
+    is_run = was.is_run;
+    called = record { searches = then.searches; are = then.are; is_call = ap (λ (l : Option (List Search)). (search_of (unwrap_or l []) w).call) (sym then.are) ∙ (sym stayed ∙ is_own_call (after_in (ordered L) turns) w op k called) };
+    stands = was.stands;
+    reached = was.reached;
+    lies = was.lies;
+    same_birth = was.same_birth;
+    same_key = was.same_key;
+    same_kind = was.same_kind;
+  }
+    where
+      all : All (λ t. HasKey t.1) (was.before ++ was.since)
+      all = subst (All (λ t. HasKey t.1)) was.is_run keys
+
+      then : IsOrdered L (after_in (ordered L) was.before)
+      then = each_ordered L enough was.before (all_before (λ t. HasKey t.1) was.before was.since all)
+
+      stayed : (own_search (after_in (ordered L) turns) w).call ≡ (own_search (after_in (ordered L) was.before) w).call
+      stayed = ap (λ (ts : List (ℕ × Event)). (own_search (after_in (ordered L) ts) w).call) was.is_run ∙ (ap (λ (c : Configuration). (own_search c w).call) (after_in-append (ordered L) was.before was.since)
+          ∙ call_stays L enough w was.since (all_behind (λ t. HasKey t.1) was.before was.since all) (after_in (ordered L) was.before) then was.stands)
 
 pub each_logged_walk : OfEachOrderedRun LoggedWalksWereReached
-each_logged_walk L enough turns keys u op k slot parent side called walk = subst (WasReached (ordered L) turns u op k) arrives.is_slot (each_walk_was_reached L enough turns keys u op k arrives.arrival called (record {
-  searches = called.searches;
-  are = called.are;
-  call = record { op = op; key = k };
-  is_call = called.is_call;
-  is_key = refl;
-  index = arrives.index;
-  is = ap (λ (l : Option (List Search)). slice_get (search_of (unwrap_or l []) u).walks arrives.index) (sym called.are) ∙ arrives.there;
-}))
-  where
-    arrives : Arrives (own_search (after_in (ordered L) turns) u).walks slot parent side
-    arrives = (covers_after L enough u turns keys (ordered L) (at_opening L enough) [] (nothing_logged (own_search (ordered L) u)) (record { op = op; key = k }) (is_own_call (after_in (ordered L) turns) u op k called)).comes walk.looks slot parent side walk.leads walk.is_part
+each_logged_walk L enough turns keys u op k slot parent side called walk =
+    let key = of_key L enough turns keys u op k called in
+    was_called L enough turns keys u op k called slot (any_walk_was_reached L enough turns keys u k slot parent side (omega (arith, key)) walk)
+
+pub each_walk_was_reached : OfEachOrderedRun WalksWereReached
+each_walk_was_reached L enough turns keys u op k a called come =
+    each_logged_walk L enough turns keys u op k a.slot a.parent a.side called
+    (walk_of L enough turns keys u op k called come.index a (ap (λ (l : Option (List Search)). slice_get (search_of (unwrap_or l []) u).walks come.index) come.are ∙ come.is)).comes

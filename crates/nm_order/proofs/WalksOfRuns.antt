@@ -38,7 +38,7 @@ unfolding after_in trace_in
 trace_in-append c [] us = refl
 trace_in-append c (t ∷ ts) us = ap (λ (rest : List Turn). record { worker = t.0; event = t.1; outcome = outcome_in c t } ∷ rest) (trace_in-append (next_in c t) ts us)
 
-log-append : (w : ℕ) (ts us : List Turn) → log_of w (ts ++ us) ≡ log_of w ts ++ log_of w us
+pub log-append : (w : ℕ) (ts us : List Turn) → log_of w (ts ++ us) ≡ log_of w ts ++ log_of w us
 log-append w [] us = refl
 log-append w (t ∷ ts) us = ap (λ (rest : List Entry). cond (t.worker == w) (entry_of t) [] ++ rest) (log-append w ts us) ∙ sym (append_assoc (cond (t.worker == w) (entry_of t) []) (log_of w ts) (log_of w us))
 
@@ -59,7 +59,8 @@ module _ (w : ℕ) (c : Configuration) (ts : List (ℕ × Event)) (t : ℕ × Ev
   abbrev new : Bool → Result Reply Refused → List Entry
   new b o = cond b (entry_of (record { worker = t.0; event = t.1; outcome = o })) []
 
-  one_turn : log_of w (trace_in c (ts ++ t ∷ [])) ≡ log_of w (trace_in c ts) ++ (new (t.0 == w) (outcome_in (after_in c ts) t) ++ [])
+  -- the log grows by what the turn adds
+  pub one_turn : log_of w (trace_in c (ts ++ t ∷ [])) ≡ log_of w (trace_in c ts) ++ (new (t.0 == w) (outcome_in (after_in c ts) t) ++ [])
   unfolding trace_in
   one_turn = ap (log_of w) (trace_in-append c ts (t ∷ [])) ∙ log-append w (trace_in c ts) (trace_in (after_in c ts) (t ∷ []))
 
@@ -86,10 +87,14 @@ look_tells c t slot v allowed is told = subst (λ (e : Event). refused_in c t.0 
 
 -- ---- runs
 
-all_before : {X : Type 0} (P : X → Type 0) (xs ys : List X) → All P (xs ++ ys) → All P xs
+pub all_before : {X : Type 0} (P : X → Type 0) (xs ys : List X) → All P (xs ++ ys) → All P xs
 all_before P [] ys all i d below = absurd (omega (arith, below))
 all_before P (x ∷ xs) ys all zero d below = all 0 d (omega arith)
 all_before P (x ∷ xs) ys all (suc i) d below = all_before P xs ys (λ j e lt. all (suc j) e (omega (arith, lt))) i d (omega (arith, below))
+
+pub all_behind : {X : Type 0} (P : X → Type 0) (xs ys : List X) → All P (xs ++ ys) → All P ys
+all_behind P [] ys all = all
+all_behind P (x ∷ xs) ys all = all_behind P xs ys (λ i d below. all (suc i) d (omega (arith, below)))
 
 pub has_searches : (ts : List (ℕ × Event)) (c : Configuration) (ss : List Search) → c.searches ≡ Some ss → (known : List Search) × ((after_in c ts).searches ≡ Some known)
 unfolding after_in applied_in

@@ -2,6 +2,7 @@ pub mod Intervals
 pub mod WalksToArrivals
 pub mod FlagsOfCalls
 pub mod Moments
+pub mod StalePaths
 pub mod Legal
 pub mod Exchanges
 pub mod Removals

@@ -1,5 +1,4 @@
-use Rattle.nm_order.proofs.RunMoments.{each_walk_was_reached}
-use Rattle.nm_order.proofs.RunWalks.{each_logged_walk}
+use Rattle.nm_order.proofs.RunWalks.{each_walk_was_reached, each_logged_walk}
 use Rattle.nm_order.proofs.paths.walks_were_reached.Goals as goal
 
 pub returns-clause-arrivals : goal.returns-clause-arrivals

@@ -1,0 +1,219 @@
+-- Over a whole ordered run, for any key and under any pin: each slot to which a walk came in a worker's log since its pin was reached since the pin,
+-- with the walk's key in its interval, and keeps it there while it is an internal node that is reached.
+use Rattle.std.proofs.Common.{◌≡◌, ◌≢◌, ℕ, ◌≤◌, ◌==◌, Bool, true, false, cond, ◌||◌, List, [], ◌∷◌, ◌++◌, append_assoc, refl, sym, ap, subst, ◌∙◌, arith}
+use Rattle.std.specs.Prelude.{Option, Some, None, All}
+use Rattle.std.specs.List.{list_any}
+use Rattle.std.proofs.lemmas.List.{append-nil}
+use Rattle.std.proofs.lemmas.Bool.{eqb-true, eqb-false}
+use Rattle.nm_edge.specs.Layouts.{Layout}
+use Rattle.nm_model.specs.declared.event.Event.{Event}
+use Rattle.nm_model.specs.declared.reply.Reply.{Reply}
+use Rattle.nm_model.specs.declared.reply.Refused.{Refused}
+use Rattle.nm_model.specs.Memory.{child}
+use Rattle.nm_model.specs.Knowledge.{knows}
+use Rattle.nm_model.specs.Paths.{follow, Reached}
+use Rattle.nm_model.specs.Runs.{of, reply_of, refused, applied}
+use Rattle.nm_model.specs.Lawful.{EachBirthStands}
+use Rattle.nm_model.specs.Walks.{Entry, log_of, begins_anew, since_pin}
+use Rattle.nm_model.specs.Ordered.{Configuration, ordered, search_of, disorder, disorder_among, disorder_in, refused_in, applied_in, next_in, after_in, trace_in}
+use Rattle.nm_order.specs.Intervals.{HasKey, InInterval, key}
+use Rattle.nm_order.specs.Moments.{OfEachOrderedRun, PinStands}
+use Rattle.nm_order.specs.StalePaths.{HasPin, WasReachedSince, AnyWalkWasReached, AnyWalkStaysInOrder, AnyWalkReadsKeys}
+use Rattle.nm_laws.proofs.Steps.{Allowed, allowed}
+use Rattle.nm_laws.proofs.TreeSteps.{Lawful}
+use Rattle.nm_laws.proofs.Configurations.{refused_next, refused_outcome, allowed_next, allowed_outcome, after_in-append}
+use Rattle.nm_order.proofs.OnwardSlots.{EachNow}
+use Rattle.nm_order.proofs.OrderedMoments.{Lasting, lasting}
+use Rattle.nm_order.proofs.OrderedSteps.{knows_after}
+use Rattle.nm_order.proofs.OrderedLaws.{IsOrdered, neither, ordered_next, each_ordered, law_of_state, lies_onward}
+use Rattle.nm_order.proofs.OrderedInduction.{births_of}
+use Rattle.nm_order.proofs.RunMoments.{entries, stands_longer, refused_entries, allowed_entries}
+use Rattle.nm_order.proofs.WalksOfRuns.{since_pin-append, one_turn, all_before, all_behind, over_turns}
+use Rattle.nm_order.proofs.KnowledgeStays.{learned_stays, answers}
+use Rattle.nm_order.proofs.CallWalks.{others_stay}
+use Rattle.nm_order.proofs.StaleWalks.{IsOnWay, HoldsOfWalks, of_no_walks, weaker, walks_outlast, own_walks}
+
+module _ (L : Layout) (u k : ℕ) where
+  -- at a moment of a run, under a pin that stands since, the slot was reached and in the interval, and that lasts of it
+  record WasAt (ts : List (ℕ × Event)) (x : ℕ) (n : Lasting) : Type 0 where
+    before : List (ℕ × Event)
+    since : List (ℕ × Event)
+    is_run : ts ≡ before ++ since
+    pinned : HasPin (after_in (ordered L) before) u
+    stands : PinStands u (trace_in (after_in (ordered L) before) since)
+    reached : Reached (after_in (ordered L) before).state.memory x
+    lies : InInterval (after_in (ordered L) before).state.memory k x
+    lasts : lasting (after_in (ordered L) before).state.memory x ≡ n
+
+  abbrev log_after : List (ℕ × Event) → List Entry
+  log_after ts = log_of u (trace_in (ordered L) ts)
+
+  -- what holds of the walks for k after a run
+  abbrev Held : List (ℕ × Event) → Type 0
+  Held ts = HoldsOfWalks (after_in (ordered L) ts).state u k (WasAt ts) (since_pin [] (log_after ts))
+
+  was_longer : (ts : List (ℕ × Event)) (t : ℕ × Event) → list_any begins_anew (entries u (after_in (ordered L) ts) t) ≡ false → (x : ℕ) (n : Lasting) → WasAt ts x n → WasAt (ts ++ t ∷ []) x n
+  was_longer ts t none x n was = record {
+    before = was.before;
+    since = was.since ++ t ∷ [];
+    is_run = ap (λ (l : List (ℕ × Event)). l ++ t ∷ []) was.is_run ∙ append_assoc was.before was.since (t ∷ []);
+    pinned = was.pinned;
+    stands = stands_longer u (after_in (ordered L) was.before) (after_in (ordered L) ts) was.since t (sym (after_in-append (ordered L) was.before was.since) ∙ ap (after_in (ordered L)) (sym was.is_run)) was.stands none;
+    reached = was.reached;
+    lies = was.lies;
+    lasts = was.lasts;
+  }
+
+  module _ (enough : 5 ≤ L.nodes) where
+    -- what the search comes to now it has come to
+    so_now : (ts : List (ℕ × Event)) (d : Configuration) → after_in (ordered L) ts ≡ d → IsOrdered L d → (x : ℕ) → knows (of d.state u) x ≡ true → EachNow (child d.state.memory) (key d.state.memory) (lasting d.state.memory) k (WasAt ts)
+    unfolding trace_in
+    so_now ts d is o x known q goes some = record {
+      before = ts;
+      since = [];
+      is_run = sym (append-nil ts);
+      pinned = subst (λ (c : Configuration). HasPin c u) (sym is) ((law_of_state L enough d o).1.known u x known);
+      stands = refl;
+      reached = subst (λ (c : Configuration). Reached c.state.memory (follow (child d.state.memory) 1 q)) (sym is) (record { path = q; ends = refl; is_slot = some });
+      lies = subst (λ (c : Configuration). InInterval c.state.memory k (follow (child d.state.memory) 1 q)) (sym is) (record { path = q; ends = refl; goes = goes });
+      lasts = ap (λ (c : Configuration). lasting c.state.memory (follow (child d.state.memory) 1 q)) is;
+    }
+
+    module _ (ts : List (ℕ × Event)) (t : ℕ × Event) (o : IsOrdered L (after_in (ordered L) ts)) (has : HasKey t.1) (held : Held ts) where
+      abbrev c : Configuration
+      c = after_in (ordered L) ts
+
+      abbrev e : Entry
+      e = (t.1, reply_of (after_in (ordered L) ts).state t.0 t.1)
+
+      next_is : after_in (ordered L) (ts ++ t ∷ []) ≡ next_in (after_in (ordered L) ts) t
+      unfolding after_in
+      next_is = after_in-append (ordered L) ts (t ∷ [])
+
+      -- the log is as it was
+      quiet_log : entries u (after_in (ordered L) ts) t ≡ [] → since_pin [] (log_after (ts ++ t ∷ [])) ≡ since_pin [] (log_after ts)
+      quiet_log none = ap (since_pin []) (one_turn u (ordered L) ts t ∙ (ap (λ (es : List Entry). log_after ts ++ (es ++ [])) none ∙ append-nil (log_after ts)))
+
+      quiet : (x : ℕ) (n : Lasting) → entries u (after_in (ordered L) ts) t ≡ [] → WasAt ts x n → WasAt (ts ++ t ∷ []) x n
+      quiet x n none was = was_longer ts t (ap (list_any begins_anew) none) x n was
+
+      -- the turn is refused
+      at_refused : (r : Refused) → refused_in (after_in (ordered L) ts) t.0 t.1 ≡ Some r → Held (ts ++ t ∷ [])
+      at_refused r why =
+          let none : entries u (after_in (ordered L) ts) t ≡ [] = refused_entries u c t r (refused_outcome c t r why) in
+          let same : after_in (ordered L) (ts ++ t ∷ []) ≡ after_in (ordered L) ts = next_is ∙ refused_next c t r why in
+          subst (λ (d : Configuration). HoldsOfWalks d.state u k (WasAt (ts ++ t ∷ [])) (since_pin [] (log_after (ts ++ t ∷ [])))) (sym same)
+          (subst (HoldsOfWalks (after_in (ordered L) ts).state u k (WasAt (ts ++ t ∷ []))) (sym (quiet_log none))
+          (weaker (after_in (ordered L) ts).state u k (WasAt ts) (WasAt (ts ++ t ∷ [])) (λ x n. quiet x n none) (since_pin [] (log_after ts)) held))
+
+      -- the turn is allowed
+      at_allowed : refused_in (after_in (ordered L) ts) t.0 t.1 ≡ None → Held (ts ++ t ∷ [])
+      unfolding applied_in refused_in
+      at_allowed why = subst (λ (d : Configuration). HoldsOfWalks d.state u k (WasAt (ts ++ t ∷ [])) (since_pin [] (log_after (ts ++ t ∷ [])))) (sym same) (by (t.0 == u) refl)
+        where
+          same : after_in (ordered L) (ts ++ t ∷ []) ≡ applied_in (after_in (ordered L) ts) t.0 t.1
+          same = next_is ∙ allowed_next c t why
+
+          then : IsOrdered L (applied_in (after_in (ordered L) ts) t.0 t.1)
+          then = subst (IsOrdered L) (allowed_next c t why) (ordered_next L enough c t has o)
+
+          parts : (refused (after_in (ordered L) ts).state t.0 t.1 ≡ None) × (disorder_in (after_in (ordered L) ts) t.0 t.1 ≡ None)
+          parts = neither (refused c.state t.0 t.1) (disorder_in c t.0 t.1) why
+
+          ok : Allowed (after_in (ordered L) ts).state t.0 t.1
+          ok = allowed c.state t.0 t.1 parts.0
+
+          in_order : disorder (of (after_in (ordered L) ts).state t.0) (search_of o.searches t.0) t.1 ≡ None
+          in_order = ap (λ ss. disorder_among ss (of c.state t.0) t.0 t.1) (sym o.are) ∙ parts.1
+
+          h : ℕ → ℕ
+          h = (law_of_state L enough (after_in (ordered L) ts) o).0
+
+          law : Lawful (after_in (ordered L) ts).state h
+          law = (law_of_state L enough (after_in (ordered L) ts) o).1
+
+          births : EachBirthStands (after_in (ordered L) ts).state
+          births = births_of L enough (after_in (ordered L) ts) o
+
+          g : ℕ → ℕ
+          g = (law_of_state L enough (applied_in (after_in (ordered L) ts) t.0 t.1) then).0
+
+          after : Lawful (applied (after_in (ordered L) ts).state t.0 t.1) g
+          after = (law_of_state L enough (applied_in (after_in (ordered L) ts) t.0 t.1) then).1
+
+          now : (x : ℕ) → knows (of (applied (after_in (ordered L) ts).state t.0 t.1) u) x ≡ true
+              → EachNow (child (applied (after_in (ordered L) ts).state t.0 t.1).memory) (key (applied (after_in (ordered L) ts).state t.0 t.1).memory) (lasting (applied (after_in (ordered L) ts).state t.0 t.1).memory) k (WasAt (ts ++ t ∷ []))
+          now = so_now (ts ++ t ∷ []) (applied_in c t.0 t.1) same then
+
+          r : Reply
+          r = reply_of (after_in (ordered L) ts).state t.0 t.1
+
+          told : (b : Bool) → (t.0 == u) ≡ b → entries u (after_in (ordered L) ts) t ≡ cond b (e ∷ []) []
+          told b is = allowed_entries u c t (reply_of c.state t.0 t.1) (allowed_outcome c t why) ∙ ap (λ (b : Bool). cond b ((t.1, reply_of c.state t.0 t.1) ∷ []) []) is
+
+          -- by another worker
+          by_other : u ≢ t.0 → entries u (after_in (ordered L) ts) t ≡ [] → HoldsOfWalks (applied (after_in (ordered L) ts).state t.0 t.1) u k (WasAt (ts ++ t ∷ [])) (since_pin [] (log_after (ts ++ t ∷ [])))
+          by_other ne none = subst (HoldsOfWalks (applied c.state t.0 t.1) u k (WasAt (ts ++ t ∷ []))) (sym (quiet_log none))
+              (walks_outlast c.state h law t.0 births o.searches o.law t.1 ok in_order u k (others_stay c.state h law t.0 t.1 ok u ne).known (WasAt ts) (WasAt (ts ++ t ∷ [])) (λ x n. quiet x n none) now (since_pin [] (log_after ts)) held)
+
+          -- by the worker itself
+          by_itself : u ≡ t.0 → entries u (after_in (ordered L) ts) t ≡ e ∷ [] → (b : Bool) → begins_anew e ≡ b → HoldsOfWalks (applied (after_in (ordered L) ts).state t.0 t.1) u k (WasAt (ts ++ t ∷ [])) (cond b [] (since_pin [] (log_after ts) ++ e ∷ []))
+          by_itself own one true anew = of_no_walks (applied c.state t.0 t.1) u k (WasAt (ts ++ t ∷ []))
+          by_itself own one false stands =
+              subst (λ (v : ℕ). HoldsOfWalks (applied c.state t.0 t.1) v k (WasAt (ts ++ t ∷ [])) (since_pin [] (log_after ts) ++ e ∷ [])) (sym own)
+              (own_walks c.state h law t.0 births o.searches o.law t.1 ok in_order g after then.law.fixed k
+              (λ x known. (knows_after c.state h law t.0 t.1 ok).own x ((learned_stays c.state.memory (of c.state t.0) t.0 t.1 r (answers c.state h law t.0 t.1 ok) stands).known x known))
+              (WasAt ts) (WasAt (ts ++ t ∷ [])) (λ x n. was_longer ts t (ap (list_any begins_anew) one ∙ ap (λ (b : Bool). b || false) stands) x n)
+              (subst (λ (v : ℕ). (x : ℕ) → knows (of (applied c.state t.0 t.1) v) x ≡ true → EachNow (child (applied c.state t.0 t.1).memory) (key (applied c.state t.0 t.1).memory) (lasting (applied c.state t.0 t.1).memory) k (WasAt (ts ++ t ∷ []))) own now)
+              (since_pin [] (log_after ts)) (subst (λ (v : ℕ). HoldsOfWalks c.state v k (WasAt ts) (since_pin [] (log_after ts))) own held))
+
+          own_log : entries u (after_in (ordered L) ts) t ≡ e ∷ [] → since_pin [] (log_after (ts ++ t ∷ [])) ≡ cond (begins_anew e) [] (since_pin [] (log_after ts) ++ e ∷ [])
+          own_log one = ap (since_pin []) (one_turn u (ordered L) ts t ∙ ap (λ (es : List Entry). log_after ts ++ (es ++ [])) one) ∙ since_pin-append [] (log_after ts) (e ∷ [])
+
+          by : (b : Bool) → (t.0 == u) ≡ b → HoldsOfWalks (applied (after_in (ordered L) ts).state t.0 t.1) u k (WasAt (ts ++ t ∷ [])) (since_pin [] (log_after (ts ++ t ∷ [])))
+          by true here = subst (HoldsOfWalks (applied c.state t.0 t.1) u k (WasAt (ts ++ t ∷ []))) (sym (own_log (told true here))) (by_itself (sym (eqb-true t.0 u here)) (told true here) (begins_anew e) refl)
+          by false other = by_other (λ z. eqb-false t.0 u other (sym z)) (told false other)
+
+      held_longer : Held (ts ++ t ∷ [])
+      held_longer = go (refused_in (after_in (ordered L) ts) t.0 t.1) refl
+        where
+          go : (x : Option Refused) → refused_in (after_in (ordered L) ts) t.0 t.1 ≡ x → Held (ts ++ t ∷ [])
+          go (Some r) why = at_refused r why
+          go None why = at_allowed why
+
+    held_after : (turns : List (ℕ × Event)) → All (λ t. HasKey t.1) turns → Held turns
+    unfolding after_in trace_in
+    held_after = over_turns Held (of_no_walks (ordered L).state u k (WasAt []))
+        (λ ts t keys held. held_longer ts t (each_ordered L enough ts (all_before (λ t. HasKey t.1) ts (t ∷ []) keys)) (all_behind (λ t. HasKey t.1) ts (t ∷ []) keys 0 t (omega arith)) held)
+
+-- ---- the laws
+
+pub any_walk_was_reached : OfEachOrderedRun AnyWalkWasReached
+any_walk_was_reached L enough turns keys u k slot parent side small walk = by ((held_after L u k enough turns keys).comes slot parent side walk)
+  where
+    by : IsOnWay (after_in (ordered L) turns).state u k (WasAt L u k turns) slot → WasReachedSince (ordered L) turns u k slot
+    by way = found (way.each small [] tt some)
+      where
+        some : slot ≢ 0
+        some z = let r = (law_of_state L enough (after_in (ordered L) turns) (each_ordered L enough turns keys)).1.tree.known u slot way.known in absurd (omega arith)
+
+        found : WasAt L u k turns slot (lasting (after_in (ordered L) turns).state.memory slot) → WasReachedSince (ordered L) turns u k slot
+        found was = record {
+          before = was.before;
+          since = was.since;
+          is_run = was.is_run;
+          pinned = was.pinned;
+          stands = was.stands;
+          reached = was.reached;
+          lies = was.lies;
+          same_birth = ap (λ (n : Lasting). n.birth) was.lasts;
+          same_key = ap (λ (n : Lasting). n.key) was.lasts;
+          same_kind = ap (λ (n : Lasting). n.leaf) was.lasts;
+        }
+
+pub any_walk_stays : OfEachOrderedRun AnyWalkStaysInOrder
+any_walk_stays L enough turns keys u k slot parent side small walk reached inner =
+    lies_onward L enough (after_in (ordered L) turns) (each_ordered L enough turns keys) k slot (((held_after L u k enough turns keys).comes slot parent side walk).onward small) reached inner
+
+pub any_walk_reads : OfEachOrderedRun AnyWalkReadsKeys
+any_walk_reads L enough turns keys u k slot parent side v read = (held_after L u k enough turns keys).reads slot parent side v read
