@@ -28,6 +28,8 @@ pub mod OnePlace
 pub mod EachState
 pub mod TreeCount
 pub mod Counts
+pub mod Cardinalities
+pub mod PlaceCounts
 pub mod Cuts
 pub mod Stays
 pub mod Origins

@@ -5,6 +5,7 @@ ghost use Rattle.nm_model.specs.Laws.{StatesJoin, TracesJoin};
 ghost use Rattle.nm_model.specs.Ordered.{OrderedRunsAreRuns, PlainRunsAreRuns, SearchesTellTheLogs};
 ghost use Rattle.nm_model.specs.Walks.{ArrivalsAreWalks, SearchesOnlyGrow};
 ghost use Rattle.nm_model.specs.Places.{EachSlotInOnePlace};
+ghost use Rattle.nm_laws.specs.Cardinality.{CountsAreNumbersOfSlots};
 
 /// While a worker is pinned at an epoch, the global epoch is that one or the next. (The bound of Fraser's epochs.)
 pub fn pins_stay_near()
@@ -127,6 +128,12 @@ pub fn plain_runs_are_runs()
 /// The counts of the slots in the pool, private, reached and queued add up to the nodes above slot 5.
 pub fn counts_add_up()
     ensures { OfEachState CountsAddUp }
+{}
+
+/// Each count is the number of the slots above 5 that stand in its place, by what the place means: those in the pool; those that are private
+/// to a worker; those to which a path from the root leads; and those that wait in the queue of an origin, which a worker holds.
+pub fn counts_are_numbers_of_slots()
+    ensures { OfEachState CountsAreNumbersOfSlots }
 {}
 
 /// What a worker knows of words that do not change stands: a flag that it read over its slot, a tagged edge, a null edge, and a birth;
