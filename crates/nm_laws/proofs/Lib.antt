@@ -30,6 +30,8 @@ pub mod TreeCount
 pub mod Counts
 pub mod Cardinalities
 pub mod PlaceCounts
+pub mod ListOrders
+pub mod KeysOfPaths
 pub mod Cuts
 pub mod Stays
 pub mod Origins

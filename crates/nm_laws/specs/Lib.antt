@@ -1,1 +1,2 @@
 pub mod Cardinality
+pub mod LeafPaths

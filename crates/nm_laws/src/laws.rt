@@ -6,6 +6,7 @@ ghost use Rattle.nm_model.specs.Ordered.{OrderedRunsAreRuns, PlainRunsAreRuns, S
 ghost use Rattle.nm_model.specs.Walks.{ArrivalsAreWalks, SearchesOnlyGrow};
 ghost use Rattle.nm_model.specs.Places.{EachSlotInOnePlace};
 ghost use Rattle.nm_laws.specs.Cardinality.{CountsAreNumbersOfSlots};
+ghost use Rattle.nm_laws.specs.LeafPaths.{KeysAreFromTheLeft};
 
 /// While a worker is pinned at an epoch, the global epoch is that one or the next. (The bound of Fraser's epochs.)
 pub fn pins_stay_near()
@@ -134,6 +135,12 @@ pub fn counts_add_up()
 /// to a worker; those to which a path from the root leads; and those that wait in the queue of an origin, which a worker holds.
 pub fn counts_are_numbers_of_slots()
     ensures { OfEachState CountsAreNumbersOfSlots }
+{}
+
+/// The keys that a state tells are those of the leaves to which paths from the root lead, without the fixed leaves: a key for each such path,
+/// from left to right.
+pub fn keys_stand_from_the_left()
+    ensures { OfEachState KeysAreFromTheLeft }
 {}
 
 /// What a worker knows of words that do not change stands: a flag that it read over its slot, a tagged edge, a null edge, and a birth;
