@@ -1,6 +1,6 @@
 -- The keys that a state tells are those of the leaves of the set to which paths lead, from left to right.
-use Rattle.std.proofs.Common.{◌≡◌, ◌≢◌, ◌⊎◌, inl, inr, ℕ, zero, suc, ◌<◌, ◌==◌, Bool, true, false, cond, ◌&&◌, List, [], ◌∷◌, ◌++◌, map, length, refl, sym, ap, ap₂, subst, ◌∙◌, arith}
-use Rattle.std.specs.Prelude.{Option, Some, None, nat_lt, All, AllPairs, Contains}
+use Rattle.std.proofs.Common.{◌≡◌, ◌≢◌, inl, inr, ℕ, zero, suc, ◌<◌, ◌==◌, Bool, true, false, cond, ◌&&◌, List, [], ◌∷◌, ◌++◌, map, length, refl, sym, ap, ap₂, subst, ◌∙◌, arith}
+use Rattle.std.specs.Prelude.{Option, Some, None, nat_lt, All, AllPairs}
 use Rattle.std.specs.List.{filter_map, cons_option}
 use Rattle.std.proofs.lemmas.Bool.{eqb-true, eqb-false, and_parts, ltb-true, lt-ltb}
 use Rattle.std.proofs.lemmas.List.{map-append}
@@ -10,7 +10,7 @@ use Rattle.nm_edge.specs.declared.edge.Side.{Side}
 use Rattle.nm_edge.specs.declared.edge.Side.TheVariants.{Left, Right}
 use Rattle.nm_model.specs.Laws.{OfEachState}
 use Rattle.nm_model.specs.Memory.{Memory, node, child, is_leaf, infinity_0}
-use Rattle.nm_model.specs.Paths.{follow, at}
+use Rattle.nm_model.specs.Paths.{follow}
 use Rattle.nm_model.specs.Reports.{tree_slots, set_key, keys_below}
 use Rattle.nm_model.specs.Runs.{State, start, after}
 use Rattle.nm_laws.specs.LeafPaths.{IsLeftOf, IsLeafOfTheSet, KeysAreFromTheLeft}

@@ -33,6 +33,7 @@ pub mod PlaceCounts
 pub mod ListOrders
 pub mod KeysOfPaths
 pub mod Cuts
+pub mod SplicedEdges
 pub mod Stays
 pub mod Origins
 pub mod Retired

@@ -1,2 +1,3 @@
 pub mod Cardinality
 pub mod LeafPaths
+pub mod KeptEdges

@@ -6,6 +6,7 @@ ghost use Rattle.nm_model.specs.Ordered.{OrderedRunsAreRuns, PlainRunsAreRuns, S
 ghost use Rattle.nm_model.specs.Walks.{ArrivalsAreWalks, SearchesOnlyGrow};
 ghost use Rattle.nm_model.specs.Places.{EachSlotInOnePlace};
 ghost use Rattle.nm_laws.specs.Cardinality.{CountsAreNumbersOfSlots};
+ghost use Rattle.nm_laws.specs.KeptEdges.{EachSpliceKeepsTheEdge};
 ghost use Rattle.nm_laws.specs.LeafPaths.{KeysAreFromTheLeft};
 
 /// While a worker is pinned at an epoch, the global epoch is that one or the next. (The bound of Fraser's epochs.)
@@ -20,11 +21,14 @@ pub fn each_slot_has_one_place()
 {}
 
 /// A splice that is won cuts off from the root exactly the nodes of its reply, by the paths before and after it:
-/// from the successor downwards each internal node and then its flagged leaf, each with its birth. (The cleanup of Natarajan and Mittal.)
+/// from the successor downwards each internal node and then its flagged leaf, each with its birth. The last internal node is the parent; the
+/// ancestor's edge becomes the edge that the parent keeps, with its flag and without its tag, and no other edge changes.
+/// (The cleanup of Natarajan and Mittal.)
 pub fn splices_cut_their_nodes()
     ensures exactly { OfEachState (OfEachCut CutsJust) }
     ensures downwards { OfEachState (OfEachCut GoesDown) }
     ensures births { OfEachState (OfEachCut NamesBirths) }
+    ensures kept { OfEachState EachSpliceKeepsTheEdge }
 {}
 
 /// No other event makes a reached node unreached, and no event but a splice answers a cut.
