@@ -10,6 +10,7 @@ ghost use Rattle.nm_model.specs.Laws.{PinsAreNear};
 ghost use Rattle.nm_model.specs.Lawful.{CountsAddUp};
 ghost use Rattle.nm_model.specs.Traces.{IsLawfulRun};
 ghost use Rattle.nm_laws.specs.Cardinality.{AreNumbersOfSlots};
+ghost use Rattle.nm_laws.specs.LeafPaths.{AreKeysFromTheLeft};
 ghost use Rattle.nm_order.specs.Intervals.{KeysAscend, KeysTellTheSet};
 ghost use Rattle.nm_core.specs.Pasts.{HasHistoriesBehind, HasPast, StaysInOrder};
 ghost use Rattle.nm_core.specs.Stops.{WouldBeAllowed, played};
@@ -149,10 +150,12 @@ impl Core {
         self.machine.places()
     }
 
-    /// The keys of the set, from left to right: exactly those of the leaves that paths from the root lead to, without the fixed leaves.
+    /// The keys of the set: exactly those of the leaves that paths from the root lead to, without the fixed leaves; a key for each such path,
+    /// from left to right.
     /// Of an ordered core each stands there once, and they ascend.
     pub fn keys(&self) -> Result<Vec<Key>, AllocError>
         ensures keys { IfOk result (λ found. found.items ≡ keys self.now.state) }
+        ensures paths { IfOk result (λ found. AreKeysFromTheLeft self.now.state.memory found.items) }
         ensures set { KeysTellTheSet self.now }
         ensures ascend { IsSome self.now.searches → KeysAscend self.now }
     {
