@@ -9,6 +9,8 @@ ghost use Rattle.nm_edge.specs.Layouts.{IsLayout};
 ghost use Rattle.nm_model.specs.Laws.{PinsAreNear};
 ghost use Rattle.nm_model.specs.Lawful.{CountsAddUp};
 ghost use Rattle.nm_model.specs.Traces.{IsLawfulRun};
+ghost use Rattle.nm_laws.specs.Cardinality.{AreNumbersOfSlots};
+ghost use Rattle.nm_laws.specs.LeafPaths.{AreKeysFromTheLeft};
 ghost use Rattle.nm_order.specs.Intervals.{KeysAscend, KeysTellTheSet};
 ghost use Rattle.nm_core.specs.Pasts.{HasHistoriesBehind, HasPast, StaysInOrder};
 ghost use Rattle.nm_core.specs.Stops.{WouldBeAllowed, played};
@@ -137,19 +139,23 @@ impl Core {
         self.machine.holder(origin)
     }
 
-    /// How many of the slots above 5 are in the pool, private to a worker, reached from the root, and queued.
+    /// How many of the slots above 5 are in the pool, private to a worker, reached from the root, and queued: of each place, the number of
+    /// the slots that stand there, by what the place means.
     /// Each is in exactly one of these places, so the four add up to the nodes above slot 5. Takes one pass and no memory.
     pub fn places(&self) -> Places
         ensures places { result ≡ counts self.now.state }
+        ensures slots { AreNumbersOfSlots self.now.state result }
         ensures sum { CountsAddUp self.now.state }
     {
         self.machine.places()
     }
 
-    /// The keys of the set, from left to right: exactly those of the leaves that paths from the root lead to, without the fixed leaves.
+    /// The keys of the set: exactly those of the leaves that paths from the root lead to, without the fixed leaves; a key for each such path,
+    /// from left to right.
     /// Of an ordered core each stands there once, and they ascend.
     pub fn keys(&self) -> Result<Vec<Key>, AllocError>
         ensures keys { IfOk result (λ found. found.items ≡ keys self.now.state) }
+        ensures paths { IfOk result (λ found. AreKeysFromTheLeft self.now.state.memory found.items) }
         ensures set { KeysTellTheSet self.now }
         ensures ascend { IsSome self.now.searches → KeysAscend self.now }
     {

@@ -30,7 +30,7 @@ use Rattle.nm_laws.proofs.TreeCount.{reached_once, unreached, null_uncounted, to
 
 -- ---- the keys of a map
 
-abbrev keys : List (ℕ × Draft) → List ℕ
+abbrev pub keys : List (ℕ × Draft) → List ℕ
 keys m = map (λ e. e.0) m
 
 above_times : (m : List (ℕ × Draft)) (s x : ℕ) → x ≤ s → Above m s → times (keys m) x ≡ 0
@@ -67,23 +67,47 @@ keys_had (e ∷ es) (suc i) x at = has_head e es x ∙ cond_both (eqb x e.0) tru
 
 -- ---- the places of one slot
 
-abbrev slots : List Queued → List ℕ
+abbrev pub is_pool : Spot → Bool
+is_pool InPool = true
+is_pool (PrivateTo w) = false
+is_pool (OnPath path) = false
+is_pool (InQueue o i) = false
+
+abbrev pub is_hand : Spot → Bool
+is_hand InPool = false
+is_hand (PrivateTo w) = true
+is_hand (OnPath path) = false
+is_hand (InQueue o i) = false
+
+abbrev pub is_path : Spot → Bool
+is_path InPool = false
+is_path (PrivateTo w) = false
+is_path (OnPath path) = true
+is_path (InQueue o i) = false
+
+abbrev pub is_entry : Spot → Bool
+is_entry InPool = false
+is_entry (PrivateTo w) = false
+is_entry (OnPath path) = false
+is_entry (InQueue o i) = true
+
+abbrev pub slots : List Queued → List ℕ
 slots q = map slot_of q
 
 module _ (s : State) (h : ℕ → ℕ) (law : Lawful s h) where
-  abbrev pooled : ℕ → ℕ
+  abbrev pub pooled : ℕ → ℕ
   pooled x = one_if (in_pool s.memory x)
 
-  abbrev private : ℕ → ℕ
+  abbrev pub private : ℕ → ℕ
   private x = weight (λ k. times (keys k.drafts) x) s.workers
 
-  abbrev reached : ℕ → ℕ
+  abbrev pub reached : ℕ → ℕ
   reached x = times (tree_slots s.layout.nodes s.memory 1) x
 
-  abbrev queued_by : Knowledge → ℕ → ℕ
+  abbrev pub queued_by : Knowledge → ℕ → ℕ
   queued_by k x = weight (λ l. times (slots (queue_of l)) x) k.ledgers
 
-  abbrev queued : ℕ → ℕ
+  abbrev pub queued : ℕ → ℕ
   queued x = weight (λ k. queued_by k x) s.workers
 
   worker_at : (v : ℕ) (k : Knowledge) → slice_get s.workers v ≡ Some k → of s v ≡ k
@@ -106,7 +130,7 @@ module _ (s : State) (h : ℕ → ℕ) (law : Lawful s h) where
       inside = elim (cases_lt u (length s.workers)) [ inl lt ↦ lt | inr past ↦ absurd (true≢false (sym own ∙ ap (λ y. is_private y x) (past_is_new u past))) ]
 
   -- an entry of a worker's queue is one of its holder's
-  at_queue : (v o i x : ℕ) → option_map slot_of (slice_get (held_queue (of s v) o) i) ≡ Some x → (v ≡ h o) × ((picture s h).queue o i ≡ Some x)
+  pub at_queue : (v o i x : ℕ) → option_map slot_of (slice_get (held_queue (of s v) o) i) ≡ Some x → (v ≡ h o) × ((picture s h).queue o i ≡ Some x)
   at_queue v o i x at = go (held (of s v).ledgers o) refl
     where
       go : (l : Option Ledger) → held (of s v).ledgers o ≡ l → (v ≡ h o) × ((picture s h).queue o i ≡ Some x)
@@ -155,9 +179,16 @@ module _ (s : State) (h : ℕ → ℕ) (law : Lawful s h) where
           (first (held_queue (of s (h o)) o) here (λ j is. (alone o j is).1))
           (λ p l at ne. slots_none (queue_of l) x (λ j is. ne (alone p j (at_queue (h o) p j x (ap (λ y. option_map slot_of (slice_get (queue_of y) j)) (ledger_is (of s (h o)) p l at) ∙ is)).1).0))
 
-  -- each slot is counted once
-  counted_once : (x : ℕ) → x ≢ 0 → Once (picture s h) x → pooled x + (private x + (reached x + queued x)) ≡ 1
-  counted_once x some once = go once.place once.here once.only
+  -- how often a slot is counted in each place
+  pub record Counted (x : ℕ) (p : Spot) : Type 0 where
+    pub pool : pooled x ≡ one_if (is_pool p)
+    pub private : private x ≡ one_if (is_hand p)
+    pub reached : reached x ≡ one_if (is_path p)
+    pub queued : queued x ≡ one_if (is_entry p)
+
+  -- once in the place where it stands
+  pub counted_there : (x : ℕ) → x ≢ 0 → (once : Once (picture s h) x) → Counted x once.place
+  counted_there x some once = go once.place once.here once.only
     where
       not_private : (p : Spot) → ((q : Spot) → Stands (picture s h) x q → q ≡ p) → ((w : ℕ) → PrivateTo w ≡ p → ⊥) → private x ≡ 0
       not_private p only apart = private_none x (λ w. false_from_ne_true _ (λ i. apart w (only (PrivateTo w) i)))
@@ -171,36 +202,50 @@ module _ (s : State) (h : ℕ → ℕ) (law : Lawful s h) where
       not_pooled : (p : Spot) → ((q : Spot) → Stands (picture s h) x q → q ≡ p) → (InPool ≡ p → ⊥) → pooled x ≡ 0
       not_pooled p only apart = ap one_if (false_from_ne_true _ (λ i. apart (only InPool i)))
 
-      go : (p : Spot) → Stands (picture s h) x p → ((q : Spot) → Stands (picture s h) x q → q ≡ p) → pooled x + (private x + (reached x + queued x)) ≡ 1
-      go InPool is only =
-          let a : pooled x ≡ 1 = ap one_if is in
-          let b = not_private InPool only (λ w e. cc) in
-          let c = not_reached InPool only (λ q e. cc) in
-          let d = not_queued InPool only (λ o i e. cc) in omega arith
-      go (PrivateTo w) is only =
-          let a = not_pooled (PrivateTo w) only (λ e. cc) in
-          let b = private_one x w is (λ v ne. false_from_ne_true _ (λ i. ne (same v w (only (PrivateTo v) i)))) in
-          let c = not_reached (PrivateTo w) only (λ q e. cc) in
-          let d = not_queued (PrivateTo w) only (λ o i e. cc) in omega arith
+      go : (p : Spot) → Stands (picture s h) x p → ((q : Spot) → Stands (picture s h) x q → q ≡ p) → Counted x p
+      go InPool is only = record {
+        pool = ap one_if is;
+        private = not_private InPool only (λ w e. cc);
+        reached = not_reached InPool only (λ q e. cc);
+        queued = not_queued InPool only (λ o i e. cc);
+      }
+      go (PrivateTo w) is only = record {
+        pool = not_pooled (PrivateTo w) only (λ e. cc);
+        private = private_one x w is (λ v ne. false_from_ne_true _ (λ i. ne (same v w (only (PrivateTo v) i))));
+        reached = not_reached (PrivateTo w) only (λ q e. cc);
+        queued = not_queued (PrivateTo w) only (λ o i e. cc);
+      }
         where
           same : (v w : ℕ) → PrivateTo v ≡ PrivateTo w → v ≡ w
           same v w e = cc
-      go (OnPath path) is only =
-          let a = not_pooled (OnPath path) only (λ e. cc) in
-          let b = not_private (OnPath path) only (λ w e. cc) in
-          let c = reached_once s h law.tree x (record { path = path; ends = is; is_slot = some }) in
-          let d = not_queued (OnPath path) only (λ o i e. cc) in omega arith
-      go (InQueue o i) is only =
-          let a = not_pooled (InQueue o i) only (λ e. cc) in
-          let b = not_private (InQueue o i) only (λ w e. cc) in
-          let c = not_reached (InQueue o i) only (λ q e. cc) in
-          let d = queued_one x o i is (λ p j at. same p j o i (only (InQueue p j) at)) in omega arith
+      go (OnPath path) is only = record {
+        pool = not_pooled (OnPath path) only (λ e. cc);
+        private = not_private (OnPath path) only (λ w e. cc);
+        reached = reached_once s h law.tree x (record { path = path; ends = is; is_slot = some });
+        queued = not_queued (OnPath path) only (λ o i e. cc);
+      }
+      go (InQueue o i) is only = record {
+        pool = not_pooled (InQueue o i) only (λ e. cc);
+        private = not_private (InQueue o i) only (λ w e. cc);
+        reached = not_reached (InQueue o i) only (λ q e. cc);
+        queued = queued_one x o i is (λ p j at. same p j o i (only (InQueue p j) at));
+      }
         where
           same : (p j o i : ℕ) → InQueue p j ≡ InQueue o i → (p ≡ o) × (j ≡ i)
           same p j o i e = (cc, cc)
 
+  -- each slot is counted once
+  pub counted_once : (x : ℕ) → x ≢ 0 → Once (picture s h) x → pooled x + (private x + (reached x + queued x)) ≡ 1
+  counted_once x some once = go once.place (counted_there x some once)
+    where
+      go : (p : Spot) → Counted x p → pooled x + (private x + (reached x + queued x)) ≡ 1
+      go InPool c = omega arith
+      go (PrivateTo w) c = omega arith
+      go (OnPath path) c = omega arith
+      go (InQueue o i) c = omega arith
+
   -- slot 0 is not counted
-  null_uncounted' : pooled 0 + (private 0 + (reached 0 + queued 0)) ≡ 0
+  pub null_uncounted' : pooled 0 + (private 0 + (reached 0 + queued 0)) ≡ 0
   null_uncounted' =
       let a : pooled 0 ≡ 0 = ap one_if (false_from_ne_true _ (λ i. let r = law.tree.pools 0 i in absurd (omega arith))) in
       let b = private_none 0 (λ w. false_from_ne_true _ (λ i. let r = law.tree.privates w 0 i in absurd (omega arith))) in
@@ -215,13 +260,13 @@ module _ (s : State) (h : ℕ → ℕ) (law : Lawful s h) where
 
   -- ---- the sums of the report
 
-  total_pooled : total (suc s.layout.nodes) pooled ≡ length (filter (λ free. free) s.memory.pool)
+  pub total_pooled : total (suc s.layout.nodes) pooled ≡ length (filter (λ free. free) s.memory.pool)
   total_pooled = ap (λ (n : ℕ). total n pooled) size ∙ total_marks s.memory.pool
     where
       size : suc s.layout.nodes ≡ length s.memory.pool
       size = let e = law.roomy.pool in omega arith
 
-  total_private : total (suc s.layout.nodes) private ≡ sum_by (λ k. length k.drafts) s.workers
+  pub total_private : total (suc s.layout.nodes) private ≡ sum_by (λ k. length k.drafts) s.workers
   total_private = total_weight (suc s.layout.nodes) (λ k. times (keys k.drafts)) s.workers
       ∙ (weight_same (λ k. total (suc s.layout.nodes) (times (keys k.drafts))) (λ k. length k.drafts) s.workers (λ v k at.
       total_times (suc s.layout.nodes) (keys k.drafts) (below_from (suc s.layout.nodes) (keys k.drafts) (λ i x is. inside v k at x (keys_had k.drafts i x is))) ∙ length-map k.drafts (λ e. e.0))
@@ -230,7 +275,7 @@ module _ (s : State) (h : ℕ → ℕ) (law : Lawful s h) where
       inside : (v : ℕ) (k : Knowledge) → slice_get s.workers v ≡ Some k → (x : ℕ) → has k.drafts x ≡ true → x < suc s.layout.nodes
       inside v k at x i = let r = law.tree.privates v x (ap (λ y. is_private y x) (worker_at v k at) ∙ i) in omega arith
 
-  total_queued : total (suc s.layout.nodes) queued ≡ sum_by (λ k. sum_by (λ l. length (queue_of l)) k.ledgers) s.workers
+  pub total_queued : total (suc s.layout.nodes) queued ≡ sum_by (λ k. sum_by (λ l. length (queue_of l)) k.ledgers) s.workers
   total_queued = total_weight (suc s.layout.nodes) (λ k. queued_by k) s.workers
       ∙ (weight_same (λ k. total (suc s.layout.nodes) (queued_by k)) (λ k. sum_by (λ l. length (queue_of l)) k.ledgers) s.workers (λ v k at.
       total_weight (suc s.layout.nodes) (λ l. times (slots (queue_of l))) k.ledgers
@@ -245,7 +290,7 @@ module _ (s : State) (h : ℕ → ℕ) (law : Lawful s h) where
           let r = law.tree.queues o i x q.1 in omega arith
 
   -- slots 1 to 5 are reached
-  low_reached : (x : ℕ) → x ≢ 0 → x ≤ 5 → reached x ≡ 1
+  pub low_reached : (x : ℕ) → x ≢ 0 → x ≤ 5 → reached x ≡ 1
   low_reached x some low = go once.place once.here
     where
       once : Once (picture s h) x

@@ -28,7 +28,12 @@ pub mod OnePlace
 pub mod EachState
 pub mod TreeCount
 pub mod Counts
+pub mod Cardinalities
+pub mod PlaceCounts
+pub mod ListOrders
+pub mod KeysOfPaths
 pub mod Cuts
+pub mod SplicedEdges
 pub mod Stays
 pub mod Origins
 pub mod Retired

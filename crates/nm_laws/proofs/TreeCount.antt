@@ -133,7 +133,7 @@ module _ (s : State) (h : ℕ → ℕ) (law : TreeLaw s.layout.nodes (picture s 
       let a = times_apart 0 z (λ e. some (ap (λ (y : ℕ). follow (child s.memory) y (d ∷ r)) (sym e) ∙ follow_none (child s.memory) (null_below s.layout.nodes (picture s h) law) (d ∷ r))) in
       let b = not_null (child s.memory z d) r some in omega arith
 
-  short_paths : (r : List Side) → follow (child s.memory) 1 r ≢ 0 → length r < s.layout.nodes
+  pub short_paths : (r : List Side) → follow (child s.memory) 1 r ≢ 0 → length r < s.layout.nodes
   short_paths r some =
       let room = law.room in
       let all = total_times (suc s.layout.nodes) (visited (child s.memory) 1 r) (visited_below 1 r (omega arith)) in

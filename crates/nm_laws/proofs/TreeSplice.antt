@@ -31,7 +31,7 @@ use Rattle.nm_laws.proofs.TreeSlots.{is_to-true, flag_known, tag_known, known_li
 
 -- the way that the worker knows is the way that stands
 pub record KnownWay (P : Picture) (k : Knowledge) (s p : ℕ) (sides : List Side) : Type 0 where
-  ends : follow (below P) s sides ≡ p
+  pub ends : follow (below P) s sides ≡ p
   is_way : IsWay P s sides
   cut : (keep : Side) → slot_read (read k p (other keep)) ≡ below P p (other keep) → cut_by k s sides keep ≡ nodes_cut (below P) s (sides ++ keep ∷ [])
 
@@ -49,7 +49,7 @@ onward_leads k s d h = go (leads_on k s Left) (leads_on k s Right) refl refl h
     go false true i j h = ap (leads_on k s) (sym (same_Some Right d h)) ∙ j
     go false false i j h = absurd (none-some d h)
 
-known_way : (N : ℕ) (m : Memory) (kn : ℕ → Knowledge) (hold : ℕ → ℕ) (w : ℕ) → TreeLaw N (view m kn hold) → (fuel s p : ℕ) (sides : List Side) → way fuel (kn w) s p ≡ Some sides → KnownWay (view m kn hold) (kn w) s p sides
+pub known_way : (N : ℕ) (m : Memory) (kn : ℕ → Knowledge) (hold : ℕ → ℕ) (w : ℕ) → TreeLaw N (view m kn hold) → (fuel s p : ℕ) (sides : List Side) → way fuel (kn w) s p ≡ Some sides → KnownWay (view m kn hold) (kn w) s p sides
 known_way N m kn hold w law zero s p sides h = absurd (none-some sides h)
 known_way N m kn hold w law (suc fuel) s p sides h = go (eqb s p) refl h (λ t r. known_way N m kn hold w law fuel t p r)
   where

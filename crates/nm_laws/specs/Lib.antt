@@ -1,0 +1,3 @@
+pub mod Cardinality
+pub mod LeafPaths
+pub mod KeptEdges

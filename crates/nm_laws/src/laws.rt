@@ -5,6 +5,9 @@ ghost use Rattle.nm_model.specs.Laws.{StatesJoin, TracesJoin};
 ghost use Rattle.nm_model.specs.Ordered.{OrderedRunsAreRuns, PlainRunsAreRuns, SearchesTellTheLogs};
 ghost use Rattle.nm_model.specs.Walks.{ArrivalsAreWalks, SearchesOnlyGrow};
 ghost use Rattle.nm_model.specs.Places.{EachSlotInOnePlace};
+ghost use Rattle.nm_laws.specs.Cardinality.{CountsAreNumbersOfSlots};
+ghost use Rattle.nm_laws.specs.KeptEdges.{EachSpliceKeepsTheEdge};
+ghost use Rattle.nm_laws.specs.LeafPaths.{KeysAreFromTheLeft};
 
 /// While a worker is pinned at an epoch, the global epoch is that one or the next. (The bound of Fraser's epochs.)
 pub fn pins_stay_near()
@@ -18,11 +21,14 @@ pub fn each_slot_has_one_place()
 {}
 
 /// A splice that is won cuts off from the root exactly the nodes of its reply, by the paths before and after it:
-/// from the successor downwards each internal node and then its flagged leaf, each with its birth. (The cleanup of Natarajan and Mittal.)
+/// from the successor downwards each internal node and then its flagged leaf, each with its birth. The last internal node is the parent; the
+/// ancestor's edge becomes the edge that the parent keeps, with its flag and without its tag, and no other edge changes.
+/// (The cleanup of Natarajan and Mittal.)
 pub fn splices_cut_their_nodes()
     ensures exactly { OfEachState (OfEachCut CutsJust) }
     ensures downwards { OfEachState (OfEachCut GoesDown) }
     ensures births { OfEachState (OfEachCut NamesBirths) }
+    ensures kept { OfEachState EachSpliceKeepsTheEdge }
 {}
 
 /// No other event makes a reached node unreached, and no event but a splice answers a cut.
@@ -127,6 +133,18 @@ pub fn plain_runs_are_runs()
 /// The counts of the slots in the pool, private, reached and queued add up to the nodes above slot 5.
 pub fn counts_add_up()
     ensures { OfEachState CountsAddUp }
+{}
+
+/// Each count is the number of the slots above 5 that stand in its place, by what the place means: those in the pool; those that are private
+/// to a worker; those to which a path from the root leads; and those that wait in the queue of an origin, which a worker holds.
+pub fn counts_are_numbers_of_slots()
+    ensures { OfEachState CountsAreNumbersOfSlots }
+{}
+
+/// The keys that a state tells are those of the leaves to which paths from the root lead, without the fixed leaves: a key for each such path,
+/// from left to right.
+pub fn keys_stand_from_the_left()
+    ensures { OfEachState KeysAreFromTheLeft }
 {}
 
 /// What a worker knows of words that do not change stands: a flag that it read over its slot, a tagged edge, a null edge, and a birth;
