@@ -102,6 +102,7 @@ module _ (b : Board) (w : Hand) (xs : List Account) (home r s : ℕ) (ws : List 
       omega (arith, sum, pool, tree)
 
   once_each : (x : ℕ) → 6 ≤ x → x ≤ b.layout.nodes → EndsOnce (end_of b.layout words the_end) w.queues x
+  unfolding the_end
   once_each = ends_once b.layout words the_end w xs home r s is end.shown in_order.0 in_order.1
 
   ends : Ends b.layout words (all_joined ws)

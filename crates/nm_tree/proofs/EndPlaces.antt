@@ -1,12 +1,11 @@
 -- Where each slot stands at a tree's end: in the pool, on one path, or at one index of one queue of the report.
-use Rattle.std.proofs.Common.{◌≡◌, ◌≢◌, ℕ, zero, suc, ◌+◌, ◌<◌, ◌≤◌, inl, inr, Bool, true, false, List, [], ◌∷◌, map, length, refl, sym, ap, ◌∙◌, subst, arith}
+use Rattle.std.proofs.Common.{◌≡◌, ◌≢◌, ℕ, zero, suc, ◌+◌, ◌<◌, ◌≤◌, inl, inr, true, false, List, [], ◌∷◌, map, length, refl, sym, ap, ◌∙◌, subst, arith}
 use Rattle.std.specs.Prelude.{Option, Some, None, option_map, slice_get}
 use Rattle.std.proofs.lemmas.Bool.{cases_eq, cases_lt}
 use Rattle.std.proofs.lemmas.List.{get_or_past, nil_from_length}
 use Rattle.std.proofs.lemmas.List.Sums.{sum_by-cons}
 use Rattle.std.proofs.lemmas.Option.{none-some, same_Some, slice_get-get_or, slice_get-map, slice_get_within}
 use Rattle.nm_edge.specs.Layouts.{Layout}
-use Rattle.nm_edge.specs.declared.edge.Side.{Side}
 use Rattle.nm_model.specs.declared.ledger.Ledger.{Ledger}
 use Rattle.nm_model.specs.declared.ledger.Queued.{Queued}
 use Rattle.nm_model.specs.declared.knowledge.Draft.{Draft}
@@ -59,13 +58,13 @@ pub record HasQueue (k : Knowledge) (hs : List HeldQueue) (i o : ℕ) : Type 0 w
   pub waits : queue_of (held k.ledgers o) ≡ map queued queue.queue.items
 
 queue_at : (k : Knowledge) (i : ℕ) (hs : List HeldQueue) → AreFrom i hs → AreHeld k hs → (o : ℕ) → o < length hs → HasQueue k hs o (i + o)
-queue_at k i [] from are o less = absurd (omega (arith, less))
-queue_at k i (h ∷ hs) from are zero less =
+queue_at k i [] from hold o less = absurd (omega (arith, less))
+queue_at k i (h ∷ hs) from hold zero less =
     let at = from.0 in
     let place : h.origin ≡ i + 0 = omega (arith, at) in
-    record { queue = h; is = refl; waits = ap (λ (n : ℕ). queue_of (held k.ledgers n)) (sym place) ∙ queue_is (held k.ledgers h.origin) h.queue.items are.0 }
-queue_at k i (h ∷ hs) from are (suc o) less =
-    let rest = queue_at k (suc i) hs from.1 are.2.1 o (omega (arith, less)) in
+    record { queue = h; is = refl; waits = ap (λ (n : ℕ). queue_of (held k.ledgers n)) (sym place) ∙ queue_is (held k.ledgers h.origin) h.queue.items hold.0 }
+queue_at k i (h ∷ hs) from hold (suc o) less =
+    let rest = queue_at k (suc i) hs from.1 hold.2 o (omega (arith, less)) in
     let next : suc i + o ≡ i + suc o = omega arith in
     record { queue = rest.queue; is = rest.is; waits = ap (λ (n : ℕ). queue_of (held k.ledgers n)) (sym next) ∙ rest.waits }
 
@@ -128,7 +127,7 @@ module _ (L : Layout) (words : List ℕ) (e : IsEndOf L words) (w : Hand) (xs : 
   none_private u x mine = elim (cases_lt u (length s.workers)) [
     | inl less ↦ let at = slice_get-get_or s.workers u (newcomer s.layout u) less in
         undrafted (of s u) x (sym (ap (λ (k : Knowledge). length k.drafts) (worker_at L words e w xs home r c is is_shown each all u (of s u) at)) ∙ no_drafts L words e w xs home r c is is_shown each all u
-            (there L words e w xs home r c is is_shown each all u (inside L words e w xs home r c is is_shown each all u (of s u) at))) mine
+        (there L words e w xs home r c is is_shown each all u (inside L words e w xs home r c is is_shown each all u (of s u) at))) mine
     | inr past ↦ undrafted (newcomer s.layout u) x refl (sym (ap (λ (k : Knowledge). is_private k x) (get_or_past s.workers u (newcomer s.layout u) past)) ∙ mine)
   ]
 
@@ -143,7 +142,7 @@ module _ (L : Layout) (words : List ℕ) (e : IsEndOf L words) (w : Hand) (xs : 
   none_of u o other = elim (cases_lt u (length s.workers)) [
     | inl less ↦ let at = slice_get-get_or s.workers u (newcomer s.layout u) less in
         none_at (of s u).ledgers o (ap (λ (k : Knowledge). in_queues k.ledgers) (sym (worker_at L words e w xs home r c is is_shown each all u (of s u) at)) ∙ none_waits L words e w xs home r c is is_shown each all u other
-            (there L words e w xs home r c is is_shown each all u (inside L words e w xs home r c is is_shown each all u (of s u) at)))
+        (there L words e w xs home r c is is_shown each all u (inside L words e w xs home r c is is_shown each all u (of s u) at)))
     | inr past ↦ ap (λ (k : Knowledge). length (queue_of (held k.ledgers o))) (get_or_past s.workers u (newcomer s.layout u) past) ∙ ap (λ (q : List Queued). length q) (new_queue s.layout u o)
   ]
 
@@ -186,7 +185,7 @@ module _ (L : Layout) (words : List ℕ) (e : IsEndOf L words) (w : Hand) (xs : 
       let same : q.queue ≡ h = same_Some q.queue h (sym q.is ∙ is_queue) in
       let entry : slice_get q.queue.queue.items i ≡ Some f = ap (λ (g : HeldQueue). slice_get g.queue.items i) same ∙ is_entry in
       ap (λ (k : Knowledge). option_map slot_of (slice_get (queue_of (held k.ledgers o)) i)) known
-          ∙ (ap (λ (l : List Queued). option_map slot_of (slice_get l i)) q.waits ∙ stands_of q.queue.queue.items i x f entry slot)
+      ∙ (ap (λ (l : List Queued). option_map slot_of (slice_get l i)) q.waits ∙ stands_of q.queue.queue.items i x f entry slot)
 
   pub ends_once : (x : ℕ) → 6 ≤ x → x ≤ L.nodes → EndsOnce s w.queues x
   ends_once x low high =
