@@ -32,6 +32,11 @@ pub all_before : (b : Board) (ws : List Hand) (w : Hand) → AreAllOf b (ws ++ w
 all_before b [] w are = (tt, are.0)
 all_before b (u ∷ ws) w are = let rest = all_before b ws w are.1 in ((are.0, rest.0), rest.1)
 
+-- and one more at the end
+pub all_and : (b : Board) (ws : List Hand) (w : Hand) → AreAllOf b ws → IsOf b w.pass → AreAllOf b (ws ++ w ∷ [])
+all_and b [] w are own = (own, tt)
+all_and b (u ∷ ws) w are own = (are.0, all_and b ws w are.1 own)
+
 -- the pass of both is of that tree
 pub still_of : (b : Board) (p o q : Stand) → HasJoined p o q → IsOf b p → IsOf b q
 still_of b p o q is own = record { table = ap (λ (x : Stand). x.table) is ∙ own.table; layout = ap (λ (x : Stand). x.view.layout) is ∙ own.layout }

@@ -1,5 +1,6 @@
 //! Many workers in threads of their own, and what the tree tells at its end.
 ghost use Rattle.std.specs.Prelude.{◌≡◌, ◌+◌, ◌-◌, All, IfOk};
+ghost use Rattle.nm_steps.specs.Steps.{IsOf};
 ghost use Rattle.nm_tree.specs.Closing.{AreAllOf};
 ghost use Rattle.nm_tree.specs.Plays.{IsReady};
 ghost use Rattle.nm_tree.specs.Workers.{waiting_in};
@@ -60,6 +61,7 @@ fn settled(tree: &Tree, played: Played, so_far: Score) -> (Worker, Score)
 }
 
 /// All workers, and how many true answers they had.
+#[tactic(auto, using(crate::proofs::Closed::all_and))]
 fn gathered(
     alloc: Global,
     tree: &Tree,
