@@ -1,16 +1,13 @@
 -- What the parts of a call add to a log: how many won links, flags and splices, and at most how many entries.
-use Rattle.std.proofs.Common.{◌≡◌, ◌≤◌, ◌<◌, ◌⊎◌, inl, inr, ℕ, zero, suc, ◌+◌, ◌*◌, ◌-◌, Bool, List, [], ◌∷◌, ◌++◌, length, refl, ap, ◌∙◌, arith}
+use Rattle.std.proofs.Common.{◌≡◌, ◌≤◌, ◌<◌, inl, inr, ℕ, zero, suc, ◌+◌, ◌*◌, ◌-◌, Bool, List, [], ◌∷◌, ◌++◌, length, refl, ap, ◌∙◌, arith}
 use Rattle.std.specs.Prelude.{filter, Option, Some, None}
 use Rattle.std.proofs.Math.Nat.{suc-mul, mul-add, mul-le-mul_left, mul-le-mul_right}
 use Rattle.std.proofs.lemmas.List.{length-append}
 use Rattle.std.proofs.lemmas.List.Elements.{filter-append}
-use Rattle.nm_edge.specs.Edges.{Edge, other}
 use Rattle.nm_edge.specs.declared.edge.Side.{Side}
 use Rattle.nm_edge.specs.declared.node.NodeId.{NodeId}
-use Rattle.nm_model.specs.declared.event.Event.{Event}
 use Rattle.nm_model.specs.declared.event.Op.{Op}
 use Rattle.nm_model.specs.declared.event.Event.TheVariants.{SightFor}
-use Rattle.nm_model.specs.Searches.{side_of}
 use Rattle.nm_model.specs.Walks.{Entry}
 use Rattle.nm_order.specs.Exchanges.{is_won_link}
 use Rattle.nm_order.specs.WalksToArrivals.{is_won_flag}
@@ -21,6 +18,7 @@ use Rattle.nm_calls.specs.declared.cutting.Kept.{Kept}
 use Rattle.nm_calls.specs.declared.spot.ChainEdge.{ChainEdge}
 use Rattle.nm_calls.specs.declared.spot.End.{End}
 use Rattle.nm_calls.specs.declared.spot.Spot.{Spot}
+use Rattle.nm_calls.specs.Bounds.{chain_bound}
 use Rattle.nm_calls.specs.Walks.{Walks, Ends, IsTooLong, IsBroken, Seeks, Finds}
 use Rattle.nm_calls.specs.Calls.{LostWalks}
 use Rattle.nm_calls.specs.Cleanups.{Chooses, FreezesOne, Freezes, Prepares, CutsOff, CleanupLost, CleanupWon}
@@ -103,10 +101,10 @@ abbrev pub most : ℕ → ℕ
 most nodes = 2 * nodes + 204
 
 -- a call stays within its bound
-pub within_call : (nodes tries a b m : ℕ) → b ≤ a + m → m ≤ tries * most nodes + 2 * tries + 6 * nodes + 10 → b ≤ a + tries * (4 * nodes + 8 * 64) + 6 * nodes + 10
+pub within_call : (nodes tries a b m : ℕ) → b ≤ a + m → m ≤ tries * most nodes + 2 * tries + 6 * nodes + 10 → b ≤ a + tries * (4 * nodes + 8 * chain_bound) + 6 * nodes + 10
 within_call nodes tries a b m le few =
     let two = mul-add tries (most nodes) 2 in
-    let all = mul-le-mul_left tries (let le : most nodes + 2 ≤ 4 * nodes + 8 * 64 = omega arith in le) in
+    let all = mul-le-mul_left tries (let le : most nodes + 2 ≤ 4 * nodes + 8 * chain_bound = omega arith in le) in
     omega (arith, two, all, le, few)
 
 -- ---- walks

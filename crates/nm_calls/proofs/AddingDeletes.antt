@@ -1,6 +1,6 @@
 -- What a delete, and one that is finished, adds to its log.
-use Rattle.std.proofs.Common.{◌≡◌, ◌≤◌, ◌<◌, ◌⊎◌, inl, inr, ℕ, zero, suc, ◌+◌, ◌*◌, List, [], ◌∷◌, ◌++◌, length, refl, ap, sym, ◌∙◌, true, false, Bool, arith}
-use Rattle.std.specs.Prelude.{Option, Some, None, Result, Ok, Err}
+use Rattle.std.proofs.Common.{◌≡◌, ◌≤◌, ◌<◌, inl, inr, ℕ, zero, suc, ◌+◌, ◌*◌, List, length, refl, ap, sym, ◌∙◌, true, false, Bool, arith}
+use Rattle.std.specs.Prelude.{Some, Result, Ok, Err}
 use Rattle.std.proofs.Math.Nat.{suc-mul, add-mul}
 use Rattle.nm_edge.specs.Edges.{Edge}
 use Rattle.nm_edge.specs.declared.node.NodeId.{NodeId}
@@ -11,7 +11,6 @@ use Rattle.nm_model.specs.Walks.{Entry}
 use Rattle.nm_epoch.specs.Tries.{IsPinned}
 use Rattle.nm_calls.specs.declared.deleting.Injected.{Injected}
 use Rattle.nm_calls.specs.declared.deleting.Injected.TheVariants as injected
-use Rattle.nm_calls.specs.declared.deleting.Injection.{Injection}
 use Rattle.nm_calls.specs.declared.deleting.Injection.TheVariants as injection
 use Rattle.nm_calls.specs.declared.deleting.Missed.{Missed}
 use Rattle.nm_calls.specs.declared.deleting.Missed.TheVariants as missed
@@ -20,7 +19,8 @@ use Rattle.nm_calls.specs.declared.deleting.Removal.TheVariants as removal
 use Rattle.nm_calls.specs.declared.spot.ChainEdge.{ChainEdge}
 use Rattle.nm_calls.specs.declared.spot.End.{End}
 use Rattle.nm_calls.specs.Cleanups.{CleanupLost}
-use Rattle.nm_calls.specs.Deletes.{TriesFlag, IsFlagTry, leaf_of, looks_and_flags, Removes, RemovesNothing, LostRemovals, IsRemoval, LostFlags, IsInjection, RemovalAfter, FlagsThen, DeleteFinishes, FinishDid}
+use Rattle.nm_calls.specs.Bounds.{chain_bound}
+use Rattle.nm_calls.specs.Deletes.{IsFlagTry, leaf_of, looks_and_flags, Removes, RemovesNothing, LostRemovals, IsRemoval, LostFlags, IsInjection, RemovalAfter, FlagsThen, DeleteFinishes, FinishDid}
 use Rattle.nm_calls.specs.Won.{HasWon, flags_of_delete}
 use Rattle.nm_calls.proofs.Adding.{Adds, most, mul_below, adds_none, adds_these, adds_then, adds_in, seeks_adds, broken_adds, cleaned_adds, not_cleaned_adds, pin_adds, adds_after, has_won, within_call}
 use Rattle.nm_calls.proofs.AddingInserts.{helps_add}
@@ -91,7 +91,7 @@ removal_adds nodes k n tries old new removal.Refused h =
     (0, adds_in _ old new (omega (arith, all)) (lost_removals_add nodes k n h.0 old new h.2))
 removal_adds nodes k n tries old new removal.Spent h = (0, lost_removals_add nodes k n tries old new h)
 
-module _ (nodes k : ℕ) (r : End) (c : List ChainEdge) (few : length c ≤ 63) (b left : ℕ) (old new : List Entry) where
+module _ (nodes k : ℕ) (r : End) (c : List ChainEdge) (few : length c < chain_bound) (b left : ℕ) (old new : List Entry) where
   then_removal : (m : Removal) (t : ℕ) (mid : List Entry) → left ≡ t + 1 → CleanupLost r.spot c old mid → IsRemoval nodes k (leaf_of r b) t mid new m → AddsFlags 0 (left * most nodes) old new
   then_removal m t mid is lost h =
       let rest = removal_adds nodes k (leaf_of r b) t mid new m h in
@@ -177,12 +177,12 @@ module _ (nodes tries k : ℕ) (old pinned new : List Entry) (e : ℕ) (pin : Is
   pub delete_wins : HasWon old new 0 (flags_of_delete r)
   delete_wins = has_won old new all.1
 
-  pub delete_steps : length new ≤ length old + tries * (4 * nodes + 8 * 64) + 6 * nodes + 10
+  pub delete_steps : length new ≤ length old + tries * (4 * nodes + 8 * chain_bound) + 6 * nodes + 10
   delete_steps = within_call nodes tries (length old) (length new) (2 * tries + 1 + (tries * most nodes + 1)) all.1.steps (omega arith)
 
 module _ (nodes k : ℕ) (n : NodeId) (tries : ℕ) (old new : List Entry) (b : Bool) (h : FinishDid nodes k n tries old new b) where
   pub finish_wins : HasWon old new 0 0
   finish_wins = has_won old new (finish_adds nodes k n tries old new b h).1
 
-  pub finish_steps : length new ≤ length old + tries * (4 * nodes + 8 * 64) + 6 * nodes + 10
+  pub finish_steps : length new ≤ length old + tries * (4 * nodes + 8 * chain_bound) + 6 * nodes + 10
   finish_steps = within_call nodes tries (length old) (length new) (tries * most nodes + 1) (finish_adds nodes k n tries old new b h).1.steps (omega arith)

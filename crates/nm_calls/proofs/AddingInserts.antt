@@ -1,9 +1,8 @@
 -- What an insert adds to its log.
-use Rattle.std.proofs.Common.{◌≡◌, ◌≤◌, ◌<◌, ◌⊎◌, inl, inr, ℕ, zero, suc, ◌+◌, ◌*◌, List, [], ◌∷◌, ◌++◌, length, refl, true, false, Bool, ap, arith}
+use Rattle.std.proofs.Common.{◌≤◌, ◌<◌, inl, inr, ℕ, zero, suc, ◌+◌, ◌*◌, List, length, refl, true, false, Bool, ap, arith}
 use Rattle.std.specs.Prelude.{Option, Some, None, Result, Ok, Err}
 use Rattle.std.proofs.Math.Nat.{suc-mul}
 use Rattle.nm_edge.specs.Edges.{Edge}
-use Rattle.nm_edge.specs.declared.node.NodeId.{NodeId}
 use Rattle.nm_model.specs.declared.event.Event.TheVariants.{SightFor}
 use Rattle.nm_model.specs.declared.event.Op.TheVariants.{Insert}
 use Rattle.nm_model.specs.declared.reply.Reply.TheVariants.{Linked, Lost}
@@ -16,6 +15,7 @@ use Rattle.nm_calls.specs.declared.inserting.Attempt.{Attempt}
 use Rattle.nm_calls.specs.declared.inserting.Attempt.TheVariants as attempt
 use Rattle.nm_calls.specs.declared.spot.ChainEdge.{ChainEdge}
 use Rattle.nm_calls.specs.declared.spot.End.{End}
+use Rattle.nm_calls.specs.Bounds.{chain_bound}
 use Rattle.nm_calls.specs.Inserts.{ClaimsFork, Returns, Grows, Helps, Readies, IsReadied, TriesLink, IsTry, LostInserts, EndsBy, Finishes, PinsThen, InsertDid}
 use Rattle.nm_calls.specs.Won.{HasWon, links_of_insert}
 use Rattle.nm_calls.proofs.Adding.{Adds, most, mul_below, adds_none, adds_these, adds_then, adds_after, adds_in, seeks_adds, broken_adds, claim_adds, cleaned_adds, not_cleaned_adds, pin_adds, has_won, within_call}
@@ -62,7 +62,7 @@ grows_won k r f old new h = adds_then old _ new (adds_these _ old _ refl) (adds_
 pub grows_lost : (k : ℕ) (r : End) (f : Fork) (e : Edge) (old new : List Entry) → Grows k r f (Lost e) old new → Adds 0 0 0 7 old new
 grows_lost k r f e old new h = adds_then old _ new (adds_these _ old _ refl) (adds_then _ _ new (adds_these _ _ _ refl) (adds_these _ _ new h.2))
 
-pub helps_add : (r : End) (c : List ChainEdge) (e : Edge) (old new : List Entry) → length c ≤ 63 → Helps r c e old new → (s : ℕ) × Adds 0 0 s 197 old new
+pub helps_add : (r : End) (c : List ChainEdge) (e : Edge) (old new : List Entry) → length c < chain_bound → Helps r c e old new → (s : ℕ) × Adds 0 0 s 197 old new
 helps_add r c e old new few (inr h) = (0, adds_in 197 old new (omega arith) (adds_none old new h.1))
 helps_add r c e old new few (inl h) = elim h.1 [
   | inl won ↦ (1, adds_in 197 old new (omega (arith, few)) (cleaned_adds r.spot c won.0 won.1 old new won.2))
@@ -173,5 +173,5 @@ module _ (nodes tries k : ℕ) (old pinned new : List Entry) (e : ℕ) (pin : Is
   pub insert_wins : HasWon old new (links_of_insert r) 0
   insert_wins = has_won old new all.1
 
-  pub insert_steps : length new ≤ length old + tries * (4 * nodes + 8 * 64) + 6 * nodes + 10
+  pub insert_steps : length new ≤ length old + tries * (4 * nodes + 8 * chain_bound) + 6 * nodes + 10
   insert_steps = within_call nodes tries (length old) (length new) (2 * tries + 1 + (tries * most nodes + (6 * nodes + 4))) all.1.steps (omega arith)

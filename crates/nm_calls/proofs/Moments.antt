@@ -1,5 +1,5 @@
 -- The moment of an answer, by what the log tells of its call.
-use Rattle.std.proofs.Common.{◌≡◌, ◌≤◌, ℕ, Bool, subst, sym}
+use Rattle.std.proofs.Common.{◌≤◌, ℕ, Bool, subst, sym}
 use Rattle.nm_edge.specs.declared.node.NodeId.{NodeId}
 use Rattle.nm_model.specs.declared.event.Event.TheVariants.{LeaveWith}
 use Rattle.nm_model.specs.declared.event.Op.{Op}

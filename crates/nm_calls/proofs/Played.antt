@@ -1,7 +1,6 @@
 -- What a worker keeps over looks: its queue and its count, and a leaf that it has flagged.
-use Rattle.std.proofs.Common.{◌≡◌, ℕ, List, sym, ap, subst, ◌∙◌}
-use Rattle.std.specs.Prelude.{Option, Some, option_map}
-use Rattle.nm_edge.specs.Layouts.{Layout}
+use Rattle.std.proofs.Common.{ℕ, List, ap, ◌∙◌}
+use Rattle.std.specs.Prelude.{Option, option_map}
 use Rattle.nm_edge.specs.declared.node.NodeId.{NodeId}
 use Rattle.nm_model.specs.declared.event.Op.TheVariants.{Delete}
 use Rattle.nm_model.specs.declared.knowledge.Brief.{Brief}
@@ -10,11 +9,10 @@ use Rattle.nm_model.specs.Ledgers.{held}
 use Rattle.nm_order.specs.Facts.Fact.{KnowsSlot, IsBorn, CallIs}
 use Rattle.nm_steps.specs.Rules.{knowledge}
 use Rattle.nm_steps.specs.Steps.{Board, Stand, IsSamePass}
-use Rattle.nm_epoch.specs.Collecting.{queued}
 use Rattle.nm_epoch.specs.declared.collecting.Entry.{Entry as Waiting}
 use Rattle.nm_calls.specs.Telling.{GoesOn, OnlyLooks}
 use Rattle.nm_calls.specs.Deletes.{IsRemoving}
-use Rattle.nm_calls.specs.Plays.{IsKept, IsPendingFor}
+use Rattle.nm_calls.specs.Plays.{IsPendingFor}
 use Rattle.nm_calls.proofs.Adding.{Adds, counts_on}
 use Rattle.nm_calls.proofs.GoingOn.{pinned_still}
 

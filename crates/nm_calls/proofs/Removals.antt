@@ -1,9 +1,9 @@
 -- A flagged leaf is cut off: by a cleanup that names it, or since a walk behind the flag ended elsewhere.
 use Rattle.std.proofs.Common.{◌≡◌, ◌≢◌, ◌<◌, ◌≤◌, inl, inr, ℕ, ◌+◌, Bool, true, false, List, [], ◌∷◌, ◌++◌, sym, ap, subst, ◌∙◌}
-use Rattle.std.specs.Prelude.{Option, Some, None, is_some, Result, Ok, Err}
+use Rattle.std.specs.Prelude.{Option, Some, None, is_some, Result, Ok, Err, IfErr}
 use Rattle.nm_edge.specs.declared.edge.Side.{Side}
 use Rattle.nm_edge.specs.declared.node.NodeId.{NodeId}
-use Rattle.nm_model.specs.declared.event.Event.TheVariants.{Look, Flag}
+use Rattle.nm_model.specs.declared.event.Event.TheVariants.{Look, Flag, SightFor}
 use Rattle.nm_model.specs.declared.event.Field.TheVariants.{Birth}
 use Rattle.nm_model.specs.declared.event.Op.TheVariants.{Delete}
 use Rattle.nm_model.specs.declared.reply.Reply.TheVariants.{BirthIs, Flagged}
@@ -15,6 +15,7 @@ use Rattle.nm_order.specs.Facts.Fact.{KnowsSlot, KnowsLeaf, IsFlagged, IsBorn, C
 use Rattle.nm_order.proofs.LaterFlagLaws.{later_walks_find}
 use Rattle.nm_steps.specs.Steps.{Stand, IsSamePass}
 use Rattle.nm_epoch.specs.Resting.{epochs, search}
+use Rattle.nm_epoch.specs.Tries.{IsPinned}
 use Rattle.nm_epoch.specs.declared.collecting.Entry.{Entry as Waiting}
 use Rattle.nm_calls.specs.declared.deleting.Missed.{Missed}
 use Rattle.nm_calls.specs.declared.deleting.Missed.TheVariants as missed
@@ -28,7 +29,7 @@ use Rattle.nm_calls.specs.Walks.{HasEnded, HasFound}
 use Rattle.nm_calls.specs.Marking.{IsToBeFlagged, FlagWon}
 use Rattle.nm_calls.specs.Leaving.{ShowsAnswer}
 use Rattle.nm_calls.specs.Cleanups.{HasCleaned, OnlyCleans, CleanupLost}
-use Rattle.nm_calls.specs.Deletes.{IsRemoving, MayFlag, HasFlagged, leaf_of, OnlyInjects, IsRemoval, RemovalAfter, PinsForDelete, DeleteDid}
+use Rattle.nm_calls.specs.Deletes.{IsRemoving, MayFlag, HasFlagged, leaf_of, OnlyInjects, IsRemoval, RemovalAfter, LosesAfterFlag, LacksRoomOr, FlagsThen, PinsForDelete, DeleteDid}
 use Rattle.nm_calls.proofs.GoingOn.{pinned_still}
 use Rattle.nm_calls.proofs.KeptLedgers.{ledgers_then}
 use Rattle.nm_calls.proofs.Looks.{enough}
@@ -136,3 +137,16 @@ delete_did nodes tries k old new (Ok b) h = h
 delete_did nodes tries k old new (Err missed.Busy) h = inr (inr h)
 delete_did nodes tries k old new (Err missed.NoMemory) h = inr h
 delete_did nodes tries k old new (Err (missed.Unfinished n)) h = h
+
+-- why it gave up, told from before its pin
+pub lacks_room : (nodes tries k : ℕ) (old pinned new : List Entry) (epoch spare : ℕ) (m : Missed) → IsPinned (SightFor Delete k) tries old pinned epoch
+    → LacksRoomOr (λ n. FlagsThen nodes tries k n pinned new removal.Spent) spare m → LacksRoomOr (LosesAfterFlag nodes tries k old new) spare m
+lacks_room nodes tries k old pinned new epoch spare missed.Busy pin why = why
+lacks_room nodes tries k old pinned new epoch spare missed.NoMemory pin why = why
+lacks_room nodes tries k old pinned new epoch spare (missed.Unfinished n) pin (inl less) = inl less
+lacks_room nodes tries k old pinned new epoch spare (missed.Unfinished n) pin (inr lost) = inr (pinned, epoch, pin, lost)
+
+pub each_lacks_room : (nodes tries k : ℕ) (old pinned new : List Entry) (epoch spare : ℕ) (r : Result Bool Missed) → IsPinned (SightFor Delete k) tries old pinned epoch
+    → IfErr r (LacksRoomOr (λ n. FlagsThen nodes tries k n pinned new removal.Spent) spare) → IfErr r (LacksRoomOr (LosesAfterFlag nodes tries k old new) spare)
+each_lacks_room nodes tries k old pinned new epoch spare (Ok b) pin why = why
+each_lacks_room nodes tries k old pinned new epoch spare (Err m) pin why = lacks_room nodes tries k old pinned new epoch spare m pin why

@@ -24,6 +24,7 @@ use Rattle.nm_calls.specs.declared.deleting.Removal.{Removal}
 use Rattle.nm_calls.specs.declared.deleting.Removal.TheVariants as removal
 use Rattle.nm_calls.specs.declared.spot.ChainEdge.{ChainEdge}
 use Rattle.nm_calls.specs.declared.spot.End.{End}
+use Rattle.nm_calls.specs.Bounds.{chain_bound, cut_bound}
 use Rattle.nm_calls.specs.Telling.{Tells, IsInRun, IsPinnedSomewhere}
 use Rattle.nm_calls.specs.Walks.{Seeks, IsBroken, IsAt}
 use Rattle.nm_calls.specs.Leaving.{ShowsAnswer}
@@ -128,7 +129,7 @@ pub record OnlyInjects (p q : Stand) : Type 0 where
 -- what the call shows after a try to flag; and where it has flagged, what a cleanup at that spot asks
 abbrev pub ShowsFlag : ℕ → List ChainEdge → Stand → Stand → Injected → Type 0
 ShowsFlag k c p q injected.Absent = ShowsAnswer q Delete k false
-ShowsFlag k c p q (injected.Flagged r b) = ((search q).flagged ≡ Some (leaf_of r b)) × Tells q (IsFlagged r.spot.parent r.spot.side r.spot.edge.slot) × Tells q (IsBorn r.spot.edge.slot b) × IsAt (Tells q) r.spot c × (length c ≤ 63)
+ShowsFlag k c p q (injected.Flagged r b) = ((search q).flagged ≡ Some (leaf_of r b)) × Tells q (IsFlagged r.spot.parent r.spot.side r.spot.edge.slot) × Tells q (IsBorn r.spot.edge.slot b) × IsAt (Tells q) r.spot c × (length c < chain_bound)
 ShowsFlag k c p q injected.Lost = (search q).flagged ≡ (search p).flagged
 
 -- ---- the tries to flag
@@ -146,7 +147,7 @@ IsInjection nodes k tries c old new injection.Spent = LostFlags nodes k tries ol
 
 abbrev pub ShowsInjection : ℕ → List ChainEdge → Stand → Injection → Type 0
 ShowsInjection k c q injection.Absent = ShowsAnswer q Delete k false
-ShowsInjection k c q (injection.Flagged r b left) = ((search q).flagged ≡ Some (leaf_of r b)) × Tells q (IsFlagged r.spot.parent r.spot.side r.spot.edge.slot) × Tells q (IsBorn r.spot.edge.slot b) × IsAt (Tells q) r.spot c × (length c ≤ 63)
+ShowsInjection k c q (injection.Flagged r b left) = ((search q).flagged ≡ Some (leaf_of r b)) × Tells q (IsFlagged r.spot.parent r.spot.side r.spot.edge.slot) × Tells q (IsBorn r.spot.edge.slot b) × IsAt (Tells q) r.spot c × (length c < chain_bound)
 ShowsInjection k c q _ = (search q).flagged ≡ None
 
 -- ---- the tries to remove, the first of which is a cleanup by the walk of the flag
@@ -186,6 +187,20 @@ AfterDelete k q (Ok b) = IsResting q
 AfterDelete k q (Err missed.Busy) = IsResting q
 AfterDelete k q (Err missed.NoMemory) = IsResting q
 AfterDelete k q (Err (missed.Unfinished n)) = IsRemoving q k n
+
+-- each try to remove the leaf was lost
+abbrev pub LosesEachTry : ℕ → ℕ → NodeId → ℕ → List Entry → List Entry → Type 0
+LosesEachTry nodes k n tries old new = IsRemoval nodes k n tries old new removal.Spent
+
+-- a pin and a flag that was won, and behind it each try was lost
+abbrev pub LosesAfterFlag : ℕ → ℕ → ℕ → List Entry → List Entry → NodeId → Type 0
+LosesAfterFlag nodes tries k old new n = (pinned : List Entry) × (epoch : ℕ) × IsPinned (SightFor Delete k) tries old pinned epoch × FlagsThen nodes tries k n pinned new removal.Spent
+
+-- why a delete gave up: what is left has less room than a try asks; or, once the leaf is flagged, each try behind the flag was lost
+abbrev pub LacksRoomOr : (NodeId → Type 0) → ℕ → Missed → Type 0
+LacksRoomOr lost spare missed.Busy = Unit {0}
+LacksRoomOr lost spare missed.NoMemory = spare < cut_bound
+LacksRoomOr lost spare (missed.Unfinished n) = (spare < cut_bound) ⊎ lost n
 
 -- tries to remove, and a leave with the answer true; or each was lost, or the room of one was refused
 abbrev pub FinishDid : ℕ → ℕ → NodeId → ℕ → List Entry → List Entry → Bool → Type 0

@@ -1,3 +1,4 @@
+pub mod Bounds
 pub mod Marking
 pub mod Making
 pub mod Telling

@@ -1,5 +1,5 @@
 -- The walk for a key, as a relation between a log and a later one.
-use Rattle.std.specs.Prelude.{◌≡◌, ◌≢◌, ◌≤◌, ◌+◌, ◌⊎◌, ℕ, zero, suc, true, if◌then◌else◌, List, [], ◌∷◌, ◌++◌, length, Option, Some, None}
+use Rattle.std.specs.Prelude.{◌≡◌, ◌≢◌, ◌<◌, ◌≤◌, ◌+◌, ◌⊎◌, ℕ, zero, suc, true, if◌then◌else◌, List, [], ◌∷◌, ◌++◌, length, Option, Some, None}
 use Rattle.nm_edge.specs.Edges.{Edge}
 use Rattle.nm_edge.specs.declared.edge.Side.{Side}
 use Rattle.nm_edge.specs.declared.edge.Side.TheVariants.{Left}
@@ -15,6 +15,7 @@ use Rattle.nm_steps.specs.Steps.{Stand}
 use Rattle.nm_calls.specs.declared.spot.ChainEdge.{ChainEdge}
 use Rattle.nm_calls.specs.declared.spot.End.{End}
 use Rattle.nm_calls.specs.declared.spot.Spot.{Spot}
+use Rattle.nm_calls.specs.Bounds.{chain_bound}
 use Rattle.nm_calls.specs.Telling.{Tells}
 
 -- ---- where a walk stands
@@ -62,7 +63,7 @@ IsTooLong nodes k old new = (n : ℕ) × (s : Spot) × (c : List ChainEdge) × W
 abbrev pub IsTooDeep : ℕ → ℕ → List Entry → List Entry → Type 0
 IsTooDeep nodes k old new =
     (n : ℕ) × (mid : List Entry) × (s : Spot) × (c : List ChainEdge) × (key : ℕ) × (e : Edge) × (n + 2 ≤ nodes) × Walks k n old mid s c
-    × (new ≡ after_looks k mid s.edge.slot key e) × (e.slot ≢ 0) × (s.edge.tag ≡ true) × (63 ≤ length c)
+    × (new ≡ after_looks k mid s.edge.slot key e) × (e.slot ≢ 0) × (s.edge.tag ≡ true) × (chain_bound ≤ length c + 1)
 
 abbrev pub IsBroken : ℕ → ℕ → List Entry → List Entry → Type 0
 IsBroken nodes k old new = IsTooLong nodes k old new ⊎ IsTooDeep nodes k old new
@@ -74,7 +75,7 @@ Finds nodes k old new None = IsTooLong nodes k old new
 
 -- what a walk finds that remembers its chain, which has 64 nodes at most with the parent
 abbrev pub Seeks : ℕ → ℕ → List Entry → List Entry → List ChainEdge → Option End → Type 0
-Seeks nodes k old new c (Some r) = Ends nodes k old new r.spot c r.key × (length c ≤ 63)
+Seeks nodes k old new c (Some r) = Ends nodes k old new r.spot c r.key × (length c < chain_bound)
 Seeks nodes k old new c None = IsBroken nodes k old new
 
 -- ---- what is known where it stands

@@ -1,8 +1,9 @@
 //! Whole cleanups: a frozen chain is cut off, labelled, and waits in the worker's queue.
-ghost use Rattle.std.specs.Prelude.{◌≡◌, ◌≤◌, ◌+◌, ◌*◌, ◌++◌, true, false, length, map};
+ghost use Rattle.std.specs.Prelude.{◌≡◌, ◌<◌, ◌≤◌, ◌+◌, ◌*◌, ◌++◌, true, false, length, map};
 ghost use Rattle.nm_steps.specs.Rules.{knowledge};
 ghost use Rattle.nm_steps.specs.Steps.{IsOf, IsSamePass};
 ghost use Rattle.nm_epoch.specs.Collecting.{IsQueueOf, labelled_so};
+ghost use Rattle.nm_calls.specs.Bounds.{chain_bound, cut_bound};
 ghost use Rattle.nm_calls.specs.Telling.{Tells, GoesOn, IsInRun, IsPinnedSomewhere};
 ghost use Rattle.nm_calls.specs.Walks.{IsAt};
 ghost use Rattle.nm_calls.specs.Marking.{OnlyCuts};
@@ -19,8 +20,11 @@ use nm_epoch::Entry;
 use nm_limbo::BlockQueue;
 use nm_steps::{Pass, Shared};
 
-/// The nodes that a splice cuts off: 64 internal nodes at most, and the flagged leaf beside each.
-pub type CutNodes = ArrayVec<NodeId, 128>;
+/// How many nodes a splice cuts off at most: `CHAIN_BOUND` internal ones, and the flagged leaf beside each.
+pub const CUT_BOUND: usize = 128;
+
+/// The nodes that a splice cuts off.
+pub type CutNodes = ArrayVec<NodeId, CUT_BOUND>;
 
 /// A cleanup up to its splice, and whether that is won.
 fn cut_off(
@@ -34,7 +38,7 @@ fn cut_off(
     requires run { IsInRun pass.old }
     requires pinned { IsPinnedSomewhere pass.old }
     requires at { IsAt (Tells pass.old) spot.now chain.now }
-    requires few { length chain.now ≤ 63 }
+    requires few { length chain.now < chain_bound }
     ensures same { IsSamePass pass.old pass.new }
     ensures won { result ≡ true → HasCut spot.now chain.now nodes.new.items pass.old pass.new }
     ensures lost { result ≡ false → HasCutNothing spot.now chain.now pass.old pass.new }
@@ -95,8 +99,8 @@ pub fn cleanup(
     requires run { IsInRun pass.old }
     requires pinned { IsPinnedSomewhere pass.old }
     requires at { IsAt (Tells pass.old) spot.now chain.now }
-    requires few { length chain.now ≤ 63 }
-    requires room { 128 ≤ queue.old.spare }
+    requires few { length chain.now < chain_bound }
+    requires room { cut_bound ≤ queue.old.spare }
     requires queue { IsQueueOf (knowledge pass.old.view) pass.old.view.number queue.old.items }
     requires counted { splices.old ≡ capped (won_splices pass.old.view.log) }
     ensures same { IsSamePass pass.old pass.new }

@@ -5,13 +5,14 @@ ghost use Rattle.nm_edge.specs.declared.node.NodeId.{NodeId as Node};
 ghost use Rattle.nm_order.specs.Facts.Fact.{KnowsSlot, IsTagged, IsFlagged};
 ghost use Rattle.nm_order.specs.Told.{FrozenTo};
 ghost use Rattle.nm_steps.specs.Steps.{IsOf, IsSamePass};
+ghost use Rattle.nm_calls.specs.Bounds.{cut_bound};
 ghost use Rattle.nm_calls.specs.Telling.{Tells, GoesOn, OnlyLooks, IsInRun, IsPinnedSomewhere};
 ghost use Rattle.nm_calls.specs.Walks.{Leads};
 ghost use Rattle.nm_calls.specs.Cleanups.{Chooses, FrozenAt, Freezes, top};
 
+use crate::cleaning::CutNodes;
 use crate::looking::{look_birth, look_edge};
 use crate::spot::{ChainEdge, Spot};
-use arrayvec::ArrayVec;
 use nm_edge::{NodeId, Side};
 use nm_steps::{Pass, Shared};
 
@@ -80,19 +81,13 @@ fn freeze_one(shared: &Shared, pass: &mut Pass, slot: u32, side: Side) -> (NodeI
 }
 
 /// Adds a node whose edge on a side is tagged, and the flagged leaf beside it.
-fn add_frozen(
-    shared: &Shared,
-    pass: &mut Pass,
-    slot: u32,
-    side: Side,
-    nodes: &mut ArrayVec<NodeId, 128>,
-)
+fn add_frozen(shared: &Shared, pass: &mut Pass, slot: u32, side: Side, nodes: &mut CutNodes)
     requires own { IsOf shared.now pass.old }
     requires run { IsInRun pass.old }
     requires pinned { IsPinnedSomewhere pass.old }
     requires known { Tells pass.old (KnowsSlot slot) }
     requires tagged { (to : ℕ) × Tells pass.old (IsTagged slot side to) }
-    requires room { length nodes.old.items ≤ 126 }
+    requires room { length nodes.old.items + 2 ≤ cut_bound }
     ensures same { IsSamePass pass.old pass.new }
     ensures frozen { (node leaf : Node) × FrozenAt pass.old pass.new slot side node leaf × (nodes.new.items ≡ nodes.old.items ++ node ∷ leaf ∷ []) }
     ensures on { GoesOn pass.old pass.new }
@@ -112,7 +107,7 @@ pub fn freeze(
     chain: &[ChainEdge],
     parent: u32,
     keep: Side,
-    nodes: &mut ArrayVec<NodeId, 128>,
+    nodes: &mut CutNodes,
 )
     requires own { IsOf shared.now pass.old }
     requires run { IsInRun pass.old }
@@ -120,7 +115,7 @@ pub fn freeze(
     requires way { Leads (Tells pass.old) (top chain.now parent) chain.now parent }
     requires known { Tells pass.old (KnowsSlot (top chain.now parent)) }
     requires tagged { (to : ℕ) × Tells pass.old (IsTagged parent keep to) }
-    requires room { length nodes.old.items + 2 * length chain.now ≤ 126 }
+    requires room { length nodes.old.items + 2 * (length chain.now + 1) ≤ cut_bound }
     ensures same { IsSamePass pass.old pass.new }
     ensures frozen { (ns : List Node) × (nodes.new.items ≡ nodes.old.items ++ ns) × FrozenTo (Tells pass.new) parent keep (top chain.now parent) ns }
     ensures size { length nodes.new.items ≡ length nodes.old.items + 2 * (length chain.now + 1) }

@@ -7,6 +7,7 @@ ghost use Rattle.nm_steps.specs.Rules.{knowledge};
 ghost use Rattle.nm_steps.specs.Steps.{IsOf, IsSamePass};
 ghost use Rattle.nm_epoch.specs.Collecting.{IsQueueOf};
 ghost use Rattle.nm_epoch.specs.Resting.{IsResting, epochs, search};
+ghost use Rattle.nm_calls.specs.Bounds.{chain_bound, cut_bound};
 ghost use Rattle.nm_calls.specs.Telling.{Tells, GoesOn, IsInRun, IsPinnedSomewhere};
 ghost use Rattle.nm_calls.specs.Walks.{IsAt};
 ghost use Rattle.nm_calls.specs.Leaving.{ShowsAnswer};
@@ -14,7 +15,7 @@ ghost use Rattle.nm_calls.specs.Marking.{OnlyFlags};
 ghost use Rattle.nm_calls.specs.Moments.{AnswerHasMoment};
 ghost use Rattle.nm_calls.specs.Cleanups.{OnlyCleans, KeepsLedgers};
 ghost use Rattle.nm_calls.specs.Won.{won_splices, capped, HasWon, flags_of_delete};
-ghost use Rattle.nm_calls.specs.Deletes.{IsRemoving, Removes, RemovesNothing, IsRemoval, IfRemoved, MayFlag, HasFlagged, HasNotFlagged, IsFlagTry, ShowsFlag, OnlyInjects, IsInjection, ShowsInjection, RemovalAfter, leaf_of, DeleteFinishes, DeleteDid, AfterDelete, FinishDid};
+ghost use Rattle.nm_calls.specs.Deletes.{IsRemoving, Removes, RemovesNothing, IsRemoval, IfRemoved, MayFlag, HasFlagged, HasNotFlagged, IsFlagTry, ShowsFlag, OnlyInjects, IsInjection, ShowsInjection, RemovalAfter, leaf_of, DeleteFinishes, DeleteDid, LosesAfterFlag, LacksRoomOr, FlagsThen, LosesEachTry, AfterDelete, FinishDid};
 
 use crate::cleaning::{CutNodes, cleanup};
 use crate::inserting::{help, make_room};
@@ -58,7 +59,7 @@ pub(crate) enum Injection {
 pub enum Missed {
     /// Each try was lost, those of the pin or those of the call, or there might be none.
     Busy,
-    /// There was no memory for the room of a try.
+    /// There was no memory for the room of a try: the queue has less than a try asks.
     NoMemory,
     /// The worker has flagged this leaf, which is not known to be cut off, and stays pinned.
     Unfinished(NodeId),
@@ -97,7 +98,7 @@ fn try_remove(
     requires own { IsOf shared.now pass.old }
     requires run { IsInRun pass.old }
     requires removing { IsRemoving pass.old key leaf }
-    requires room { 128 ≤ queue.old.spare }
+    requires room { cut_bound ≤ queue.old.spare }
     requires queue { IsQueueOf (knowledge pass.old.view) pass.old.view.number queue.old.items }
     requires counted { splices.old ≡ capped (won_splices pass.old.view.log) }
     ensures same { IsSamePass pass.old pass.new }
@@ -145,6 +146,7 @@ fn remove(
     requires counted { splices.old ≡ capped (won_splices pass.old.view.log) }
     ensures same { IsSamePass pass.old pass.new }
     ensures part { IsRemoval shared.now.layout.nodes key leaf tries pass.old.view.log pass.new.view.log result }
+    ensures refused { result ≡ Removal.Refused → queue.new.spare < cut_bound }
     ensures shows { IfRemoved result (ShowsAnswer pass.new Delete key true) }
     ensures on { GoesOn pass.old pass.new }
     ensures only { OnlyCleans pass.old pass.new }
@@ -201,7 +203,7 @@ fn try_flag(
     requires call { Tells pass.old (CallIs Delete key) }
     requires low { key < infinity_0 }
     requires unflagged { (search pass.old).flagged ≡ None }
-    requires room { 128 ≤ queue.old.spare }
+    requires room { cut_bound ≤ queue.old.spare }
     requires queue { IsQueueOf (knowledge pass.old.view) pass.old.view.number queue.old.items }
     requires counted { splices.old ≡ capped (won_splices pass.old.view.log) }
     ensures same { IsSamePass pass.old pass.new }
@@ -259,6 +261,7 @@ fn inject(
     requires counted { splices.old ≡ capped (won_splices pass.old.view.log) }
     ensures same { IsSamePass pass.old pass.new }
     ensures part { IsInjection shared.now.layout.nodes key tries chain.new.items pass.old.view.log pass.new.view.log result }
+    ensures refused { result ≡ Injection.Refused → queue.new.spare < cut_bound }
     ensures shows { ShowsInjection key chain.new.items pass.new result }
     ensures on { GoesOn pass.old pass.new }
     ensures only { OnlyInjects pass.old pass.new }
@@ -298,11 +301,12 @@ fn remove_after(
     requires removing { IsRemoving pass.old key (leaf_of end.now birth) }
     requires edge { Tells pass.old (IsFlagged end.now.spot.parent end.now.spot.side end.now.spot.edge.slot) }
     requires at { IsAt (Tells pass.old) end.now.spot chain.old.items }
-    requires few { length chain.old.items ≤ 63 }
+    requires few { length chain.old.items < chain_bound }
     requires queue { IsQueueOf (knowledge pass.old.view) pass.old.view.number queue.old.items }
     requires counted { splices.old ≡ capped (won_splices pass.old.view.log) }
     ensures same { IsSamePass pass.old pass.new }
     ensures part { RemovalAfter shared.now.layout.nodes key end.now chain.old.items birth left pass.old.view.log pass.new.view.log result }
+    ensures refused { result ≡ Removal.Refused → queue.new.spare < cut_bound }
     ensures shows { IfRemoved result (ShowsAnswer pass.new Delete key true) }
     ensures on { GoesOn pass.old pass.new }
     ensures only { OnlyCleans pass.old pass.new }
@@ -373,6 +377,7 @@ fn delete_pinned(
     requires counted { splices.old ≡ capped (won_splices pass.old.view.log) }
     ensures same { IsSamePass pass.old pass.new }
     ensures part { DeleteFinishes shared.now.layout.nodes tries key pass.old.view.log pass.new.view.log result }
+    ensures refused { IfErr result (LacksRoomOr (λ n. FlagsThen shared.now.layout.nodes tries key n pass.old.view.log pass.new.view.log Removal.Spent) queue.new.spare) }
     ensures moment { IfOk result (AnswerHasMoment pass.new Delete key) }
     ensures run { IsInRun pass.new }
     ensures after { AfterDelete key pass.new result }
@@ -435,9 +440,10 @@ pub fn delete(
     requires counted { splices.old ≡ capped (won_splices pass.old.view.log) }
     ensures same { IsSamePass pass.old pass.new }
     ensures did { DeleteDid shared.now.layout.nodes tries key pass.old.view.log pass.new.view.log result }
+    ensures refused { IfErr result (LacksRoomOr (LosesAfterFlag shared.now.layout.nodes tries key pass.old.view.log pass.new.view.log) queue.new.spare) }
     ensures moment { IfOk result (AnswerHasMoment pass.new Delete key) }
     ensures won { HasWon pass.old.view.log pass.new.view.log 0 (flags_of_delete result) }
-    ensures steps { length pass.new.view.log ≤ length pass.old.view.log + tries * (4 * shared.now.layout.nodes + 8 * 64) + 6 * shared.now.layout.nodes + 10 }
+    ensures steps { length pass.new.view.log ≤ length pass.old.view.log + tries * (4 * shared.now.layout.nodes + 8 * chain_bound) + 6 * shared.now.layout.nodes + 10 }
     ensures run { (pass.new ≡ pass.old) ⊎ IsInRun pass.new }
     ensures after { AfterDelete key pass.new result }
     ensures private { (knowledge pass.new.view).drafts ≡ (knowledge pass.old.view).drafts }
@@ -478,9 +484,10 @@ pub fn finish(
     requires counted { splices.old ≡ capped (won_splices pass.old.view.log) }
     ensures same { IsSamePass pass.old pass.new }
     ensures did { FinishDid shared.now.layout.nodes key leaf tries pass.old.view.log pass.new.view.log result }
+    ensures refused { result ≡ false → (queue.new.spare < cut_bound) ⊎ LosesEachTry shared.now.layout.nodes key leaf tries pass.old.view.log pass.new.view.log }
     ensures moment { result ≡ true → AnswerHasMoment pass.new Delete key true }
     ensures won { HasWon pass.old.view.log pass.new.view.log 0 0 }
-    ensures steps { length pass.new.view.log ≤ length pass.old.view.log + tries * (4 * shared.now.layout.nodes + 8 * 64) + 6 * shared.now.layout.nodes + 10 }
+    ensures steps { length pass.new.view.log ≤ length pass.old.view.log + tries * (4 * shared.now.layout.nodes + 8 * chain_bound) + 6 * shared.now.layout.nodes + 10 }
     ensures run { IsInRun pass.new }
     ensures rests { result ≡ true → IsResting pass.new }
     ensures removing { result ≡ false → IsRemoving pass.new key leaf }

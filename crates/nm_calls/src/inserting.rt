@@ -1,11 +1,12 @@
 //! Inserts.
-ghost use Rattle.std.specs.Prelude.{◌≡◌, ◌⊎◌, ◌≤◌, ◌+◌, ◌*◌, true, false, length, None, IfOk};
+ghost use Rattle.std.specs.Prelude.{◌≡◌, ◌⊎◌, ◌<◌, ◌≤◌, ◌+◌, ◌*◌, true, false, length, None, IfOk, IsErrOf};
 ghost use Rattle.nm_model.specs.declared.event.Op.TheVariants.{Insert};
 ghost use Rattle.nm_order.specs.Facts.Fact.{KnowsSlot, CallIs};
 ghost use Rattle.nm_steps.specs.Rules.{knowledge};
 ghost use Rattle.nm_steps.specs.Steps.{IsOf, IsSamePass, Stand};
 ghost use Rattle.nm_epoch.specs.Collecting.{IsQueueOf};
 ghost use Rattle.nm_epoch.specs.Resting.{IsResting, epochs, search};
+ghost use Rattle.nm_calls.specs.Bounds.{chain_bound, cut_bound};
 ghost use Rattle.nm_calls.specs.Telling.{Tells, GoesOn, IsInRun, IsPinnedSomewhere};
 ghost use Rattle.nm_calls.specs.Walks.{IsAt};
 ghost use Rattle.nm_calls.specs.Making.{OnlyMakes};
@@ -14,7 +15,7 @@ ghost use Rattle.nm_calls.specs.Cleanups.{OnlyCleans, KeepsLedgers};
 ghost use Rattle.nm_calls.specs.Won.{won_splices, capped, HasWon, links_of_insert};
 ghost use Rattle.nm_calls.specs.Inserts.{HasFork, Helps, asks_help, IsReadied, IsTry, OnlyTries, ShowsTry, Finishes, InsertDid};
 
-use crate::cleaning::{CutNodes, cleanup};
+use crate::cleaning::{CUT_BOUND, CutNodes, cleanup};
 use crate::growing::{Fork, claim_fork, give_back, grow};
 use crate::leaving::{answer, leave};
 use crate::spot::{Chain, ChainEdge, End};
@@ -89,8 +90,8 @@ pub(crate) fn help(
     requires run { IsInRun pass.old }
     requires pinned { IsPinnedSomewhere pass.old }
     requires at { IsAt (Tells pass.old) end.now.spot chain.now }
-    requires few { length chain.now ≤ 63 }
-    requires room { 128 ≤ queue.old.spare }
+    requires few { length chain.now < chain_bound }
+    requires room { cut_bound ≤ queue.old.spare }
     requires queue { IsQueueOf (knowledge pass.old.view) pass.old.view.number queue.old.items }
     requires counted { splices.old ≡ capped (won_splices pass.old.view.log) }
     ensures same { IsSamePass pass.old pass.new }
@@ -124,7 +125,7 @@ fn try_insert(
     requires known { Tells pass.old (KnowsSlot 2) }
     requires call { Tells pass.old (CallIs Insert key) }
     requires unlinked { (search pass.old).linked ≡ false }
-    requires room { 128 ≤ queue.old.spare }
+    requires room { cut_bound ≤ queue.old.spare }
     requires queue { IsQueueOf (knowledge pass.old.view) pass.old.view.number queue.old.items }
     requires fork { (o : Stand) × HasFork o pass.old fork.old }
     requires counted { splices.old ≡ capped (won_splices pass.old.view.log) }
@@ -172,9 +173,10 @@ fn try_insert(
 pub(crate) fn make_room(queue: &mut BlockQueue<Entry>) -> bool
     requires few { length queue.old.items ≤ 2097152 }
     ensures items { queue.new.items ≡ queue.old.items }
-    ensures room { result ≡ true → 128 ≤ queue.new.spare }
+    ensures room { result ≡ true → cut_bound ≤ queue.new.spare }
+    ensures refused { result ≡ false → queue.new.spare < cut_bound }
 {
-    queue.reserve(128).is_ok()
+    queue.reserve(CUT_BOUND as u32).is_ok()
 }
 
 /// The tries of an insert, from its pin to its answer.
@@ -199,6 +201,7 @@ fn insert_pinned(
     requires counted { splices.old ≡ capped (won_splices pass.old.view.log) }
     ensures same { IsSamePass pass.old pass.new }
     ensures part { Finishes shared.now.layout.nodes tries key pass.old.view.log pass.new.view.log result }
+    ensures refused { IsErrOf result Fault.NoMemory → queue.new.spare < cut_bound }
     ensures moment { IfOk result (AnswerHasMoment pass.new Insert key) }
     ensures run { IsInRun pass.new }
     ensures rests { IsResting pass.new }
@@ -262,9 +265,10 @@ pub fn insert(
     requires counted { splices.old ≡ capped (won_splices pass.old.view.log) }
     ensures same { IsSamePass pass.old pass.new }
     ensures did { InsertDid shared.now.layout.nodes tries key pass.old.view.log pass.new.view.log result }
+    ensures refused { IsErrOf result Fault.NoMemory → queue.new.spare < cut_bound }
     ensures moment { IfOk result (AnswerHasMoment pass.new Insert key) }
     ensures won { HasWon pass.old.view.log pass.new.view.log (links_of_insert result) 0 }
-    ensures steps { length pass.new.view.log ≤ length pass.old.view.log + tries * (4 * shared.now.layout.nodes + 8 * 64) + 6 * shared.now.layout.nodes + 10 }
+    ensures steps { length pass.new.view.log ≤ length pass.old.view.log + tries * (4 * shared.now.layout.nodes + 8 * chain_bound) + 6 * shared.now.layout.nodes + 10 }
     ensures run { (pass.new ≡ pass.old) ⊎ IsInRun pass.new }
     ensures rests { IsResting pass.new }
     ensures private { HasFork pass.old pass.new None }

@@ -17,7 +17,7 @@ mod spot;
 mod tests;
 mod walking;
 
-pub use cleaning::{CutNodes, cleanup};
+pub use cleaning::{CUT_BOUND, CutNodes, cleanup};
 pub use cutting::{Kept, choose, freeze};
 pub use deleting::{Missed, delete, finish};
 pub use growing::Fork;
@@ -27,5 +27,5 @@ pub use looking::{look_birth, look_edge, look_key};
 pub use lookup::{Busy, has};
 pub use making::{claim, fill, give, link};
 pub use marking::{flag, splice, tag};
-pub use spot::{Chain, ChainEdge, End, Spot};
+pub use spot::{CHAIN_BOUND, Chain, ChainEdge, End, Spot};
 pub use walking::{find, seek};

@@ -3,6 +3,7 @@ ghost use Rattle.std.specs.Prelude.{◌≡◌, ◌≤◌, ◌+◌, ◌*◌, leng
 ghost use Rattle.nm_model.specs.declared.event.Op.TheVariants.{Has};
 ghost use Rattle.nm_steps.specs.Steps.{IsOf, IsSamePass};
 ghost use Rattle.nm_epoch.specs.Resting.{IsResting, KeepsHands};
+ghost use Rattle.nm_calls.specs.Bounds.{chain_bound};
 ghost use Rattle.nm_calls.specs.Calls.{HasDid, HasMissed};
 ghost use Rattle.nm_calls.specs.Moments.{AnswerHasMoment};
 ghost use Rattle.nm_calls.specs.Won.{HasWon, won_splices};
@@ -32,7 +33,7 @@ pub fn has(shared: &Shared, pass: &mut Pass, key: Key, tries: u32) -> Result<boo
     ensures missed { IfErr result (λ e. HasMissed shared.now.layout.nodes tries key pass.old.view.log pass.new.view.log) }
     ensures won { HasWon pass.old.view.log pass.new.view.log 0 0 }
     ensures uncut { won_splices pass.new.view.log ≡ won_splices pass.old.view.log }
-    ensures steps { length pass.new.view.log ≤ length pass.old.view.log + tries * (4 * shared.now.layout.nodes + 8 * 64) + 6 * shared.now.layout.nodes + 10 }
+    ensures steps { length pass.new.view.log ≤ length pass.old.view.log + tries * (4 * shared.now.layout.nodes + 8 * chain_bound) + 6 * shared.now.layout.nodes + 10 }
     ensures rests { IsResting pass.new }
     ensures hands { KeepsHands pass.old pass.new }
 {

@@ -1,6 +1,7 @@
 //! Where a walk stands.
-ghost use Rattle.std.specs.Prelude.{◌≡◌, ◌≤◌, true, false, length};
+ghost use Rattle.std.specs.Prelude.{◌≡◌, ◌<◌, ◌≤◌, ◌+◌, true, false, length};
 ghost use Rattle.nm_model.specs.Searches.{side_of};
+ghost use Rattle.nm_calls.specs.Bounds.{chain_bound};
 ghost use Rattle.nm_calls.specs.Walks.{begin, onto, chain_onto};
 
 use arrayvec::ArrayVec;
@@ -22,8 +23,11 @@ impl Default for ChainEdge {
     }
 }
 
+/// How many nodes a splice cuts off at most, their leaves left out: those of a chain, and the parent below it.
+pub const CHAIN_BOUND: usize = 64;
+
 /// The internal nodes from a successor down to above its parent, by tagged edges.
-pub type Chain = ArrayVec<ChainEdge, 64>;
+pub type Chain = ArrayVec<ChainEdge, CHAIN_BOUND>;
 
 /// The edge that a walk read last, from `parent` on `side`; and the last edge above it that was read untagged, from `ancestor` on
 /// `above` to `successor`. (The seek record of Natarajan and Mittal, section 3.2.)
@@ -100,14 +104,14 @@ pub(crate) fn further(spot: Spot, side: Side, next: Edge) -> Spot
 /// The chain at the next node. False where it would be too long.
 pub(crate) fn extend(chain: &mut Chain, spot: Spot) -> bool
     ensures more { result ≡ true → chain.new.items ≡ chain_onto spot chain.old.items }
-    ensures short { result ≡ true → length chain.new.items ≤ 63 }
-    ensures full { result ≡ false → 63 ≤ length chain.old.items }
+    ensures short { result ≡ true → length chain.new.items < chain_bound }
+    ensures full { result ≡ false → chain_bound ≤ length chain.old.items + 1 }
     ensures tagged { result ≡ false → spot.edge.tag ≡ true }
 {
     if !spot.edge.tag() {
         chain.clear();
         true
-    } else if chain.len() > 62 {
+    } else if chain.len() + 1 >= CHAIN_BOUND {
         false
     } else {
         chain.push(ChainEdge {

@@ -4,6 +4,7 @@ ghost use Rattle.nm_model.specs.Memory.{infinity_0};
 ghost use Rattle.nm_edge.specs.declared.edge.Side.{Side as SideOf};
 ghost use Rattle.nm_order.specs.Facts.Fact.{KnowsSlot};
 ghost use Rattle.nm_steps.specs.Steps.{IsOf, IsSamePass};
+ghost use Rattle.nm_calls.specs.Bounds.{chain_bound};
 ghost use Rattle.nm_calls.specs.Telling.{Tells, GoesOn, OnlyLooks, IsInRun, IsPinnedSomewhere};
 ghost use Rattle.nm_calls.specs.Walks.{Finds, Seeks, HasEnded, HasFound};
 
@@ -52,7 +53,7 @@ pub fn seek(shared: &Shared, pass: &mut Pass, key: u64, chain: &mut Chain) -> Op
     ensures same { IsSamePass pass.old pass.new }
     ensures walk { Seeks shared.now.layout.nodes key pass.old.view.log pass.new.view.log chain.new.items result }
     ensures ended { IfSome result (λ r. HasEnded (Tells pass.new) shared.now.layout.nodes r.spot chain.new.items) }
-    ensures few { IfSome result (λ r. length chain.new.items ≤ 63) }
+    ensures few { IfSome result (λ r. length chain.new.items < chain_bound) }
     ensures high { IfSome result (λ r. r.key < infinity_0 → 6 ≤ r.spot.edge.slot) }
     ensures steps { length pass.new.view.log ≤ length pass.old.view.log + 2 * shared.now.layout.nodes }
     ensures on { GoesOn pass.old pass.new }

@@ -16,12 +16,13 @@ use Rattle.nm_epoch.specs.declared.collecting.HeldQueue.{HeldQueue}
 use Rattle.nm_epoch.specs.Collecting.{AreHeld}
 use Rattle.nm_tree.specs.declared.worker.Account.{Account}
 use Rattle.nm_tree.specs.Workers.{Hand, IsWorker, HasOrigin, AreAbove, Ascend, waiting_in}
-use Rattle.nm_tree.specs.Closing.{AreAllOf, AreFrom, IsClosed, all_joined, all_merged, given_in}
+use Rattle.nm_tree.specs.Closing.{AreAllOf, AreFrom, EndsOnce, IsClosed, all_joined, all_merged, given_in}
 use Rattle.nm_order.proofs.HistoryLaws.{each_run_has_a_history}
 use Rattle.nm_order.proofs.TotalsOfLogs.{totals_are_in_the_logs}
 use Rattle.nm_order.proofs.TotalsOfRuns.{each_total_agrees}
 use Rattle.nm_tree.proofs.EndLaws.{enough_nodes, set_of, ascend_of, settled_of}
 use Rattle.nm_tree.proofs.EndCounts.{none_private, waiting_is, sum_is, accounted_for}
+use Rattle.nm_tree.proofs.EndPlaces.{ends_once}
 use Rattle.nm_tree.proofs.Heirs.{logs, times, has_times}
 use Rattle.nm_tree.proofs.Merging.{length-merged}
 
@@ -30,6 +31,11 @@ use Rattle.nm_tree.proofs.Merging.{length-merged}
 pub all_before : (b : Board) (ws : List Hand) (w : Hand) → AreAllOf b (ws ++ w ∷ []) → AreAllOf b ws × IsOf b w.pass
 all_before b [] w are = (tt, are.0)
 all_before b (u ∷ ws) w are = let rest = all_before b ws w are.1 in ((are.0, rest.0), rest.1)
+
+-- and one more at the end
+pub all_and : (b : Board) (ws : List Hand) (w : Hand) → AreAllOf b ws → IsOf b w.pass → AreAllOf b (ws ++ w ∷ [])
+all_and b [] w are own = (own, tt)
+all_and b (u ∷ ws) w are own = (are.0, all_and b ws w are.1 own)
 
 -- the pass of both is of that tree
 pub still_of : (b : Board) (p o q : Stand) → HasJoined p o q → IsOf b p → IsOf b q
@@ -100,6 +106,10 @@ module _ (b : Board) (w : Hand) (xs : List Account) (home r s : ℕ) (ws : List 
       let tree = reached_are the_end in
       omega (arith, sum, pool, tree)
 
+  once_each : (x : ℕ) → 6 ≤ x → x ≤ b.layout.nodes → EndsOnce (end_of b.layout words the_end) w.queues x
+  unfolding the_end
+  once_each = ends_once b.layout words the_end w xs home r s is end.shown in_order.0 in_order.1
+
   ends : Ends b.layout words (all_joined ws)
   ends = record { fits = end.fits; turns = end.turns; keys = end.keys; words_are = end.words_are; shown = subst (λ (v : View). Rattle.nm_steps.specs.Rules.IsShown b.layout (Rattle.nm_model.specs.Ordered.trace_in (ordered b.layout) end.turns) v) view end.shown; once = subst (λ (v : View). (o : ℕ) → stands o v ≤ once_below o b.layout.workers) view end.once }
 
@@ -121,6 +131,7 @@ module _ (b : Board) (w : Hand) (xs : List Account) (home r s : ℕ) (ws : List 
     private = none_private b.layout words the_end w xs home r s is end.shown in_order.0 in_order.1;
     queued_are = waiting_is b.layout words the_end w xs home r s is end.shown in_order.0 in_order.1;
     sum = sum_of;
+    once = once_each;
     set = set_of b.layout end.fits end.turns end.keys kept (keys_are the_end);
     ascend = ascend_of b.layout end.fits end.turns end.keys kept (keys_are the_end);
     history = each_run_has_a_history b.layout (enough_nodes b.layout end.fits) end.turns end.keys;

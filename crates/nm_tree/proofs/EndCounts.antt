@@ -112,29 +112,29 @@ module _ (L : Layout) (words : List ℕ) (e : IsEndOf L words) (w : Hand) (xs : 
   abbrev t : List Turn
   t = trace_in (ordered L) e.turns
 
-  are : LogsAre v.layout L t (logs v)
+  pub are : LogsAre v.layout L t (logs v)
   are = subst (λ (hs : List Held). LogsAre v.layout L t hs) (live v is.alive) is_shown
 
-  as_many_workers : length s.workers ≡ L.workers
+  pub as_many_workers : length s.workers ≡ L.workers
   as_many_workers = holds L words e (λ x. length x.workers ≡ x.layout.workers) (λ l room turns. (lawful l room turns).law.staffed.workers) ∙ ap (λ (l : Layout). l.workers) (layout_is L words e)
 
-  inside : (u : ℕ) (k : Knowledge) → slice_get s.workers u ≡ Some k → u < L.workers
+  pub inside : (u : ℕ) (k : Knowledge) → slice_get s.workers u ≡ Some k → u < L.workers
   inside u k at = let below = slice_get_within s.workers u k at in let size = as_many_workers in omega (arith, below, size)
 
-  worker_at : (u : ℕ) (k : Knowledge) → slice_get s.workers u ≡ Some k → known_by L u (part_of u t) ≡ k
+  pub worker_at : (u : ℕ) (k : Knowledge) → slice_get s.workers u ≡ Some k → known_by L u (part_of u t) ≡ k
   worker_at u k at = sym (logs_tell L e.turns u (inside u k at)) ∙ get_or_from_slice_get s.workers u k (newcomer s.layout u) at
 
-  there : (u : ℕ) → u < L.workers → HasNumber u (logs v)
+  pub there : (u : ℕ) → u < L.workers → HasNumber u (logs v)
   there u less = is.numbers.each u (from_has 0 w.queues each u (omega arith) (omega (arith, less, all)))
 
-  own : known_by L v.number (part_of v.number t) ≡ knowledge v
+  pub own : known_by L v.number (part_of v.number t) ≡ knowledge v
   own = sym (known_is v.layout L t v.number v.number v.log are.0 are.1 refl)
 
-  no_drafts : (u : ℕ) → HasNumber u (logs v) → length (known_by L u (part_of u t)).drafts ≡ 0
+  pub no_drafts : (u : ℕ) → HasNumber u (logs v) → length (known_by L u (part_of u t)).drafts ≡ 0
   no_drafts u (inl at) = ap (λ (k : Knowledge). length k.drafts) (sym (known_is v.layout L t v.number u v.log are.0 are.1 at)) ∙ (empty_hands w is.between).drafts
   no_drafts u (inr has) = (nothing_of v.layout L t v.others are.2 is.resigned u has).0
 
-  none_waits : (u : ℕ) → u ≢ v.number → HasNumber u (logs v) → in_queues (known_by L u (part_of u t)).ledgers ≡ 0
+  pub none_waits : (u : ℕ) → u ≢ v.number → HasNumber u (logs v) → in_queues (known_by L u (part_of u t)).ledgers ≡ 0
   none_waits u ne (inl at) = absurd (ne (sym at))
   none_waits u ne (inr has) = (nothing_of v.layout L t v.others are.2 is.resigned u has).1
 
@@ -145,7 +145,7 @@ module _ (L : Layout) (words : List ℕ) (e : IsEndOf L words) (w : Hand) (xs : 
   own_waits : in_queues (knowledge v).ledgers ≡ waiting_in w.queues
   own_waits = as_many (knowledge v) 0 (knowledge v).ledgers w.queues (λ j. ap (λ (n : ℕ). held (knowledge v).ledgers n) (let same : j ≡ 0 + j = omega arith in same)) each (all ∙ (sym (ap (λ (l : Layout). l.workers) are.0) ∙ sym (ledgers_long v))) is.between.queues
 
-  here : v.number < length s.workers
+  pub here : v.number < length s.workers
   here = let below = from_below 0 w.queues each v.number (is.numbers.all v.number (inl refl)) in let size = as_many_workers in omega (arith, below, all, size)
 
   pub waiting_is : (counts s).queued ≡ waiting_in w.queues

@@ -14,4 +14,5 @@ pub mod Heirs
 pub mod United
 pub mod EndLaws
 pub mod EndCounts
+pub mod EndPlaces
 pub mod Closed

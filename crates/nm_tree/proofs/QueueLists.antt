@@ -7,7 +7,8 @@ use Rattle.nm_model.specs.Ledgers.{held}
 use Rattle.nm_epoch.specs.declared.collecting.Entry.{Entry}
 use Rattle.nm_epoch.specs.declared.collecting.HeldQueue.{HeldQueue}
 use Rattle.nm_epoch.specs.Collecting.{IsQueueOf, AreHeld, NoneHas}
-use Rattle.nm_tree.specs.Workers.{HasOrigin, AreAbove, Ascend, StandsAt, KeepsOthers}
+use Rattle.nm_calls.specs.Bounds.{cut_bound}
+use Rattle.nm_tree.specs.Workers.{HasLittleRoom, HasOrigin, AreAbove, Ascend, StandsAt, KeepsOthers}
 
 -- an index at which a queue stands is one of the list, and the queue there is that one
 pub stands_within : (i o : ℕ) (hs : List HeldQueue) → StandsAt i o hs → i < length hs
@@ -104,3 +105,9 @@ held_after k l zero o (h ∷ hs) g same s e is are =
 held_after k l (suc i) o (h ∷ hs) g same s e is are =
     let apart : h.origin ≢ o = λ is_o. not_none o i hs s (let P : ℕ → Type 0 = λ n. NoneHas n hs in subst P is_o are.1) in
     (queue_stays k l h.origin h.queue.items (same h.origin apart) are.0, none_after h.origin i o hs g s e are.1, held_after k l i o hs g same s e is are.2)
+
+-- a queue with less room than a try asks is put at the own place
+pub lacks_after : (home n o : ℕ) (hs : List HeldQueue) (g : HeldQueue) → StandsAt home n hs → g.origin ≡ o → g.queue.spare < cut_bound → HasLittleRoom o (slice_set hs home g)
+lacks_after home n o [] g stands at less = absurd stands
+lacks_after zero n o (h ∷ hs) g stands at less = inl (at, less)
+lacks_after (suc home) n o (h ∷ hs) g stands at less = inr (lacks_after home n o hs g stands at less)

@@ -1,10 +1,10 @@
 -- What each call of the set leaves of its worker, by its answer.
-use Rattle.std.specs.Prelude.{◌≡◌, ℕ, Bool, true, false, Some, None, IsSome, Result, Ok, Err}
+use Rattle.std.specs.Prelude.{◌≡◌, ◌⊎◌, ℕ, Bool, true, false, Some, None, IsSome, Result, Ok, Err}
 use Rattle.nm_edge.specs.declared.node.NodeId.{NodeId}
 use Rattle.nm_calls.specs.declared.deleting.Missed.TheVariants as missed
 use Rattle.nm_calls.specs.declared.inserting.Fault.TheVariants as lost
 use Rattle.nm_calls.specs.Calls.{HasDid, HasMissed}
-use Rattle.nm_calls.specs.Deletes.{DeleteDid, FinishDid}
+use Rattle.nm_calls.specs.Deletes.{DeleteDid, FinishDid, LosesEachTry, LosesAfterFlag}
 use Rattle.nm_calls.specs.Inserts.{InsertDid}
 use Rattle.nm_calls.specs.Moments.{AnswerHasMoment}
 use Rattle.nm_epoch.specs.Tries.{IsPinned as PinsSo, IsMoved}
@@ -15,7 +15,7 @@ use Rattle.nm_tree.specs.declared.fault.PinFault.TheVariants as pinning
 use Rattle.nm_tree.specs.declared.fault.Fault.{Fault}
 use Rattle.nm_tree.specs.declared.fault.Fault.TheVariants as fault
 use Rattle.nm_tree.specs.declared.worker.Unfinished.{Unfinished}
-use Rattle.nm_tree.specs.Workers.{Hand}
+use Rattle.nm_tree.specs.Workers.{Hand, HasLittleRoom}
 use Rattle.nm_epoch.specs.Resting.{epochs}
 
 -- a key is pending, and nothing has changed
@@ -58,6 +58,27 @@ HasFinished nodes tries w z (Ok false) = (w.pending ≡ None) × (z ≡ w)
 HasFinished nodes tries w z (Ok true) = (n : Unfinished) × (w.pending ≡ Some n) × (z.pending ≡ None) × FinishDid nodes n.key n.leaf tries w.pass.view.log z.pass.view.log true
 HasFinished nodes tries w z (Err fault.Unfinished) = (n : Unfinished) × (w.pending ≡ Some n) × (z.pending ≡ Some n) × FinishDid nodes n.key n.leaf tries w.pass.view.log z.pass.view.log false
 HasFinished nodes tries w z (Err _) = ⊥
+
+-- ---- why a call gave up
+
+-- the own queue has less room than a try asks
+abbrev pub LacksRoom : Hand → Type 0
+LacksRoom z = HasLittleRoom z.pass.view.number z.queues
+
+-- an insert for want of memory
+abbrev pub InsertLacks : Hand → Fault → Type 0
+InsertLacks z fault.NoMemory = LacksRoom z
+InsertLacks z _ = Unit {0}
+
+-- a delete too; and one whose leaf is flagged lacks room, or has lost each try behind the flag
+abbrev pub DeleteLacks : ℕ → ℕ → ℕ → Hand → Hand → Fault → Type 0
+DeleteLacks nodes tries k w z fault.NoMemory = LacksRoom z
+DeleteLacks nodes tries k w z fault.Unfinished = LacksRoom z ⊎ ((leaf : NodeId) × LosesAfterFlag nodes tries k w.pass.view.log z.pass.view.log leaf)
+DeleteLacks nodes tries k w z _ = Unit {0}
+
+-- what is left of a delete: it lacks room, or has lost each try
+abbrev pub FinishLacks : ℕ → ℕ → Hand → Hand → Fault → Type 0
+FinishLacks nodes tries w z _ = LacksRoom z ⊎ ((n : Unfinished) × (w.pending ≡ Some n) × LosesEachTry nodes n.key n.leaf tries w.pass.view.log z.pass.view.log)
 
 -- the delete that was pending is answered: its leaf was cut at a moment of that delete
 abbrev pub FinishHasMoment : Hand → Hand → Result Bool Fault → Type 0

@@ -1,12 +1,15 @@
 -- The end of a tree.
-use Rattle.std.specs.Prelude.{◌≡◌, ◌<◌, ◌≤◌, ◌↔◌, ◌+◌, ◌-◌, ℕ, suc, length, sum_by, List, [], ◌∷◌, ◌++◌, map, Some, AllPairs, Contains}
+use Rattle.std.specs.Prelude.{◌≡◌, ◌<◌, ◌≤◌, ◌↔◌, ◌+◌, ◌-◌, ℕ, suc, true, length, sum_by, List, [], ◌∷◌, ◌++◌, map, Some, AllPairs, Contains, slice_get}
 use Rattle.nm_edge.specs.Keys.{IsKey}
+use Rattle.nm_edge.specs.declared.edge.Side.{Side}
 use Rattle.nm_model.specs.declared.ledger.Ledger.{Ledger}
 use Rattle.nm_model.specs.Laws.{node_in}
 use Rattle.nm_model.specs.Ledgers.{held as ledger_held}
-use Rattle.nm_model.specs.Memory.{infinity_0}
+use Rattle.nm_model.specs.Memory.{infinity_0, in_pool}
 use Rattle.nm_model.specs.Ordered.{ordered, after_in}
+use Rattle.nm_model.specs.Paths.{at}
 use Rattle.nm_model.specs.Reports.{counts, keys}
+use Rattle.nm_model.specs.Runs.{State}
 use Rattle.nm_order.specs.History.{HasHistory}
 use Rattle.nm_order.specs.Intervals.{InSet}
 use Rattle.nm_order.specs.LoggedTotals.{TotalsAreInTheLogs}
@@ -14,6 +17,7 @@ use Rattle.nm_order.specs.Totals.{Agree, NothingIsPending, TotalsAgree, links_of
 use Rattle.nm_steps.specs.declared.view.View.{View}
 use Rattle.nm_steps.specs.Rules.{knowledge, joined, nobody}
 use Rattle.nm_steps.specs.Steps.{Board, IsOf, Ends}
+use Rattle.nm_epoch.specs.declared.collecting.Entry.{Entry}
 use Rattle.nm_epoch.specs.declared.collecting.HeldQueue.{HeldQueue}
 use Rattle.nm_epoch.specs.Collecting.{AreHeld}
 use Rattle.nm_tree.specs.declared.closing.CloseReason.{CloseReason}
@@ -47,10 +51,28 @@ abbrev pub AreFrom : ℕ → List HeldQueue → Type 0
 AreFrom i [] = Unit {0}
 AreFrom i (h ∷ hs) = (h.origin ≡ i) × AreFrom (suc i) hs
 
+-- where a slot above 5 may stand at a tree's end: in the pool, at the end of a path from the root, or in a worker's queue of the report at an index
+pub data EndPlace : Type 0 where
+  Free : EndPlace
+  OnPath : List Side → EndPlace
+  Waiting : ℕ → ℕ → EndPlace
+
+abbrev pub EndsAt : State → List HeldQueue → ℕ → EndPlace → Type 0
+EndsAt s hs x Free = in_pool s.memory x ≡ true
+EndsAt s hs x (OnPath path) = at s.memory path ≡ x
+EndsAt s hs x (Waiting w i) = (h : HeldQueue) × (e : Entry) × (slice_get hs w ≡ Some h) × (slice_get h.queue.items i ≡ Some e) × (e.node.slot ≡ x)
+
+-- it stands at exactly one of these
+pub record EndsOnce (s : State) (hs : List HeldQueue) (x : ℕ) : Type 0 where
+  pub place : EndPlace
+  pub here : EndsAt s hs x place
+  pub only : (other : EndPlace) → EndsAt s hs x other → other ≡ place
+
 -- All workers of the tree were given, and one stands for all of them. Some run ends with the tree's words, of which their logs are the parts, and
 -- the report tells of its last state: one queue a worker, in the order of their numbers, with all that waits of it, as it was, so that what its splices
 -- cut off is what was freed of it and then that queue; the keys of the reached leaves, which are the set's and ascend; and how many slots are free and reached. No slot is private, and as many are queued as wait in
--- the queues, so that these with the free and the reached ones are all slots but the five fixed ones. That run has a history, which ends with these
+-- the queues, so that these with the free and the reached ones are all slots but the five fixed ones; and each of these slots stands once, in the
+-- pool, on one path, or at one index of one queue. That run has a history, which ends with these
 -- keys; each key stands on an unflagged edge as often as calls for it won a link less as often as they won a flag, by the logs of all workers; and
 -- with no delete pending it is told that often, which is once or never
 pub record IsClosed (b : Board) (ws : List Hand) (queues : List HeldQueue) (kept : List ℕ) (free reached : ℕ) : Type 0 where
@@ -68,6 +90,7 @@ pub record IsClosed (b : Board) (ws : List Hand) (queues : List HeldQueue) (kept
   pub private : (counts (after_in (ordered b.layout) ends.turns).state).private ≡ 0
   pub queued_are : (counts (after_in (ordered b.layout) ends.turns).state).queued ≡ waiting_in queues
   pub sum : free + reached + waiting_in queues ≡ b.layout.nodes - 5
+  pub once : (x : ℕ) → 6 ≤ x → x ≤ b.layout.nodes → EndsOnce (after_in (ordered b.layout) ends.turns).state queues x
   pub set : (k : ℕ) → Contains kept k ↔ InSet (after_in (ordered b.layout) ends.turns).state.memory k × (k < infinity_0)
   pub ascend : AllPairs (λ j k. j < k) kept
   pub history : HasHistory b.layout ends.turns

@@ -14,6 +14,7 @@ use Rattle.nm_steps.specs.Steps.{Board, Stand, fresh_view}
 use Rattle.nm_epoch.specs.declared.collecting.HeldQueue.{HeldQueue}
 use Rattle.nm_epoch.specs.Collecting.{AreHeld, IsQueueOf}
 use Rattle.nm_epoch.specs.Resting.{IsResting, begun_for, epochs, search}
+use Rattle.nm_calls.specs.Bounds.{cut_bound}
 use Rattle.nm_calls.specs.Deletes.{IsRemoving}
 use Rattle.nm_calls.specs.Won.{capped, won_links, won_flags, won_splices}
 use Rattle.nm_tree.specs.declared.worker.Account.{Account}
@@ -79,6 +80,11 @@ abbrev pub KeepsOthers : ℕ → List HeldQueue → List HeldQueue → Type 0
 KeepsOthers o [] [] = Unit {0}
 KeepsOthers o (h ∷ hs) (g ∷ gs) = (g.origin ≡ h.origin) × ((h.origin ≡ o) ⊎ (g ≡ h)) × KeepsOthers o hs gs
 KeepsOthers o _ _ = ⊥
+
+-- the queue of that origin is among these, and has less room than a try asks
+abbrev pub HasLittleRoom : ℕ → List HeldQueue → Type 0
+HasLittleRoom o [] = ⊥
+HasLittleRoom o (h ∷ hs) = ((h.origin ≡ o) × (h.queue.spare < cut_bound)) ⊎ HasLittleRoom o hs
 
 -- how many nodes wait in them, and how many blocks they have
 abbrev pub waiting_in : List HeldQueue → ℕ

@@ -1,12 +1,13 @@
 //! Inserts, deletes, and what is left to do of a delete.
-ghost use Rattle.std.specs.Prelude.{◌≡◌, ◌+◌, ◌*◌, ◌≤◌, ℕ, true, false, length, None, IfOk};
+ghost use Rattle.std.specs.Prelude.{◌≡◌, ◌⊎◌, ◌+◌, ◌*◌, ◌<◌, ◌≤◌, ℕ, true, false, length, None, IfOk, IfErr, IsErrOf};
 ghost use Rattle.nm_model.specs.declared.event.Op.TheVariants.{Insert, Delete};
 ghost use Rattle.nm_steps.specs.Steps.{IsOf, IsSamePass};
-ghost use Rattle.nm_tree.specs.Answers.{HasInserted, HasDeleted, HasFinished, FinishHasMoment};
+ghost use Rattle.nm_calls.specs.Bounds.{chain_bound, cut_bound};
+ghost use Rattle.nm_tree.specs.Answers.{HasInserted, HasDeleted, HasFinished, FinishHasMoment, InsertLacks, DeleteLacks, FinishLacks};
 ghost use Rattle.nm_model.specs.Maps.{get};
 ghost use Rattle.nm_steps.specs.Rules.{knowledge};
 ghost use Rattle.nm_epoch.specs.Resting.{IsResting};
-ghost use Rattle.nm_calls.specs.Deletes.{IsRemoving, DeleteDid, AfterDelete, FinishDid};
+ghost use Rattle.nm_calls.specs.Deletes.{IsRemoving, DeleteDid, AfterDelete, FinishDid, LosesEachTry, LosesAfterFlag, LacksRoomOr};
 ghost use Rattle.nm_calls.specs.Inserts.{InsertDid};
 ghost use Rattle.nm_calls.specs.Moments.{AnswerHasMoment};
 ghost use Rattle.nm_calls.specs.Won.{HasWon, links_of_insert, flags_of_delete};
@@ -34,8 +35,9 @@ fn insert_with(
     requires kept { IsKept pass.old own.old account.old }
     ensures same { IsSamePass pass.old pass.new }
     ensures did { InsertDid shared.now.layout.nodes tries key pass.old.view.log pass.new.view.log result }
+    ensures refused { IsErrOf result Lost.NoMemory → own.new.queue.spare < cut_bound }
     ensures moment { IfOk result (AnswerHasMoment pass.new Insert key) }
-    ensures steps { length pass.new.view.log ≤ length pass.old.view.log + tries * (4 * shared.now.layout.nodes + 8 * 64) + 6 * shared.now.layout.nodes + 10 }
+    ensures steps { length pass.new.view.log ≤ length pass.old.view.log + tries * (4 * shared.now.layout.nodes + 8 * chain_bound) + 6 * shared.now.layout.nodes + 10 }
     ensures won { HasWon pass.old.view.log pass.new.view.log (links_of_insert result) 0 }
     ensures rests { IsResting pass.new }
     ensures private { (slot : ℕ) → get (knowledge pass.new.view).drafts slot ≡ get (knowledge pass.old.view).drafts slot }
@@ -69,8 +71,9 @@ fn delete_with(
     requires kept { IsKept pass.old own.old account.old }
     ensures same { IsSamePass pass.old pass.new }
     ensures did { DeleteDid shared.now.layout.nodes tries key pass.old.view.log pass.new.view.log result }
+    ensures refused { IfErr result (LacksRoomOr (LosesAfterFlag shared.now.layout.nodes tries key pass.old.view.log pass.new.view.log) own.new.queue.spare) }
     ensures moment { IfOk result (AnswerHasMoment pass.new Delete key) }
-    ensures steps { length pass.new.view.log ≤ length pass.old.view.log + tries * (4 * shared.now.layout.nodes + 8 * 64) + 6 * shared.now.layout.nodes + 10 }
+    ensures steps { length pass.new.view.log ≤ length pass.old.view.log + tries * (4 * shared.now.layout.nodes + 8 * chain_bound) + 6 * shared.now.layout.nodes + 10 }
     ensures won { HasWon pass.old.view.log pass.new.view.log 0 (flags_of_delete result) }
     ensures after { AfterDelete key pass.new result }
     ensures private { (knowledge pass.new.view).drafts ≡ (knowledge pass.old.view).drafts }
@@ -124,8 +127,9 @@ fn finish_with(
     requires kept { IsKept pass.old own.old account.old }
     ensures same { IsSamePass pass.old pass.new }
     ensures did { FinishDid shared.now.layout.nodes pending.now.key pending.now.leaf tries pass.old.view.log pass.new.view.log result }
+    ensures refused { result ≡ false → (own.new.queue.spare < cut_bound) ⊎ LosesEachTry shared.now.layout.nodes pending.now.key pending.now.leaf tries pass.old.view.log pass.new.view.log }
     ensures moment { result ≡ true → AnswerHasMoment pass.new Delete pending.now.key true }
-    ensures steps { length pass.new.view.log ≤ length pass.old.view.log + tries * (4 * shared.now.layout.nodes + 8 * 64) + 6 * shared.now.layout.nodes + 10 }
+    ensures steps { length pass.new.view.log ≤ length pass.old.view.log + tries * (4 * shared.now.layout.nodes + 8 * chain_bound) + 6 * shared.now.layout.nodes + 10 }
     ensures won { HasWon pass.old.view.log pass.new.view.log 0 0 }
     ensures rests { result ≡ true → IsResting pass.new }
     ensures removing { result ≡ false → IsRemoving pass.new pending.now.key pending.now.leaf }
@@ -157,8 +161,9 @@ impl Tree {
         requires free { worker.old.held ≡ None }
         ensures same { IsSamePass worker.old.pass worker.new.pass }
         ensures did { HasInserted self.now.layout.nodes tries key worker.old worker.new result }
+        ensures lacks { IfErr result (InsertLacks worker.new) }
         ensures moment { IfOk result (AnswerHasMoment worker.new.pass Insert key) }
-        ensures steps { length worker.new.pass.view.log ≤ length worker.old.pass.view.log + tries * (4 * self.now.layout.nodes + 8 * 64) + 6 * self.now.layout.nodes + 10 }
+        ensures steps { length worker.new.pass.view.log ≤ length worker.old.pass.view.log + tries * (4 * self.now.layout.nodes + 8 * chain_bound) + 6 * self.now.layout.nodes + 10 }
         ensures queues { KeepsOthers worker.old.pass.view.number worker.old.queues worker.new.queues }
         ensures held { worker.new.held ≡ None }
         ensures between { IsBetweenCalls worker.new }
@@ -188,8 +193,9 @@ impl Tree {
         requires free { worker.old.held ≡ None }
         ensures same { IsSamePass worker.old.pass worker.new.pass }
         ensures did { HasDeleted self.now.layout.nodes tries key worker.old worker.new result }
+        ensures lacks { IfErr result (DeleteLacks self.now.layout.nodes tries key worker.old worker.new) }
         ensures moment { IfOk result (AnswerHasMoment worker.new.pass Delete key) }
-        ensures steps { length worker.new.pass.view.log ≤ length worker.old.pass.view.log + tries * (4 * self.now.layout.nodes + 8 * 64) + 6 * self.now.layout.nodes + 10 }
+        ensures steps { length worker.new.pass.view.log ≤ length worker.old.pass.view.log + tries * (4 * self.now.layout.nodes + 8 * chain_bound) + 6 * self.now.layout.nodes + 10 }
         ensures queues { KeepsOthers worker.old.pass.view.number worker.old.queues worker.new.queues }
         ensures held { worker.new.held ≡ None }
         ensures between { IsBetweenCalls worker.new }
@@ -218,8 +224,9 @@ impl Tree {
         requires own { IsOf self.now worker.old.pass }
         ensures same { IsSamePass worker.old.pass worker.new.pass }
         ensures did { HasFinished self.now.layout.nodes tries worker.old worker.new result }
+        ensures lacks { IfErr result (FinishLacks self.now.layout.nodes tries worker.old worker.new) }
         ensures moment { FinishHasMoment worker.old worker.new result }
-        ensures steps { length worker.new.pass.view.log ≤ length worker.old.pass.view.log + tries * (4 * self.now.layout.nodes + 8 * 64) + 6 * self.now.layout.nodes + 10 }
+        ensures steps { length worker.new.pass.view.log ≤ length worker.old.pass.view.log + tries * (4 * self.now.layout.nodes + 8 * chain_bound) + 6 * self.now.layout.nodes + 10 }
         ensures queues { KeepsOthers worker.old.pass.view.number worker.old.queues worker.new.queues }
         ensures held { worker.new.held ≡ worker.old.held }
         ensures between { IsBetweenCalls worker.new }

@@ -10,6 +10,7 @@ use std::process::Abort;
 use std::test::Fail;
 
 mod blocks;
+mod crowd;
 mod endings;
 mod example;
 mod plays;

@@ -11,7 +11,7 @@ const KEYS: u32 = 10;
 const TRIES: u32 = 100;
 
 /// How many true answers a worker had.
-#[derive(Clone, Copy, Debug, PartialEq, Eq)]
+#[derive(Clone, Copy, Debug, Default, PartialEq, Eq)]
 pub(super) struct Score {
     pub(super) inserted: u32,
     pub(super) deleted: u32,
@@ -40,15 +40,12 @@ fn round(tree: &Tree, worker: &mut Worker, key: Key, next: Key, so_far: Score) -
 }
 
 /// So many rounds over ten keys.
-fn rounds(tree: &Tree, mut worker: Worker, from: u32) -> (Worker, Score)
+pub(super) fn rounds(tree: &Tree, mut worker: Worker, from: u32, count: u32) -> (Worker, Score)
     requires { IsReady tree.now worker }
     ensures { IsReady tree.now result.0 }
 {
-    let mut so_far = Score {
-        inserted: 0,
-        deleted: 0,
-    };
-    for turn in 0..ROUNDS {
+    let mut so_far = Score::default();
+    for turn in 0..count {
         let place = turn.wrapping_add(from);
         let key = Key::new(u64::from(place % KEYS));
         let next = Key::new(u64::from(place.wrapping_add(3) % KEYS));
@@ -75,11 +72,11 @@ pub(super) fn by_two<R: Threads + Sync>(
         move || -> (Worker, Score)
             requires { IsReady tree.now one }
             ensures { IsReady tree.entry.now result.0 }
-        { rounds(tree, one, 0) },
+        { rounds(tree, one, 0, ROUNDS) },
         move || -> (Worker, Score)
             requires { IsReady tree.now two }
             ensures { IsReady tree.entry.now result.0 }
-        { rounds(tree, two, 7) },
+        { rounds(tree, two, 7, ROUNDS) },
     )
 }
 

@@ -26,7 +26,7 @@ fn both(alloc: Global, first: Worker, second: Worker) -> Result<Vec<Worker>, All
 }
 
 /// How many nodes wait in all queues of a report.
-fn waiting(report: &Report) -> u32 {
+pub(super) fn waiting(report: &Report) -> u32 {
     report
         .queues
         .iter()

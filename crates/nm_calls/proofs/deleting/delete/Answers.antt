@@ -1,8 +1,9 @@
 use Rattle.std.proofs.Common.{rules, subst}
-use Rattle.std.specs.Prelude.{IfOk}
-use Rattle.nm_calls.specs.Deletes.{DeleteFinishes}
+use Rattle.std.specs.Prelude.{IfOk, IfErr}
+use Rattle.nm_calls.specs.Deletes.{DeleteFinishes, FlagsThen, LacksRoomOr}
+use Rattle.nm_calls.specs.declared.deleting.Removal.TheVariants as removal
 use Rattle.nm_calls.specs.Moments.{AnswerHasMoment}
-use Rattle.nm_calls.proofs.Removals.{delete_did}
+use Rattle.nm_calls.proofs.Removals.{delete_did, each_lacks_room}
 use Rattle.nm_model.specs.declared.event.Op.TheVariants.{Delete}
 use Rattle.nm_calls.proofs.Adding.{has_won, counts_on, pin_adds, moved_adds}
 use Rattle.nm_calls.proofs.AddingDeletes.{delete_wins, delete_steps}
@@ -39,3 +40,10 @@ returns-clause-few c = few_in_table c.args.shared.now c.args.pass.now c.delete_p
 
 pub returns-clause-moment : goal.returns-clause-moment
 returns-clause-moment c = subst (λ k. IfOk c.delete_pinned.result (AnswerHasMoment c.delete_pinned.new.pass Delete k)) c.get.ensures.number c.delete_pinned.ensures.moment
+
+pub returns-clause-refused : goal.returns-clause-refused
+returns-clause-refused c =
+    let a = c.pin_for.new.pass.view.log in
+    let new = c.delete_pinned.new.pass.view.log in
+    each_lacks_room c.args.shared.now.layout.nodes c.args.tries c.args.key c.args.pass.now.view.log a new c.in-Ok._epoch c.delete_pinned.new.queue.spare c.delete_pinned.result c.in-Ok.ensures.pinned
+    (subst (λ k. IfErr c.delete_pinned.result (LacksRoomOr (λ n. FlagsThen c.args.shared.now.layout.nodes c.args.tries k n a new removal.Spent) c.delete_pinned.new.queue.spare)) c.get.ensures.number c.delete_pinned.ensures.refused)

@@ -10,7 +10,7 @@ use Rattle.nm_steps.specs.Steps.{Stand}
 use Rattle.nm_epoch.proofs.Allowed.{may_leave}
 use Rattle.nm_calls.proofs.GoingOn.{only_then, pinned_still}
 use Rattle.nm_calls.proofs.LookUps.{is_pinned, knows_second, call_is, may_answer, missed}
-use Rattle.nm_calls.proofs.Adding.{Adds, most, adds_then, adds_these, has_won, cuts_none, within_call, mul_below, pin_adds, moved_adds, lost_walks_add, finds_adds}
+use Rattle.nm_calls.proofs.Adding.{most, adds_then, adds_these, has_won, cuts_none, within_call, mul_below, pin_adds, moved_adds, lost_walks_add, finds_adds}
 use Rattle.nm_calls.proofs.Moments.{moment_of}
 use Rattle.nm_calls.proofs.lookup.has.Goals as goal
 

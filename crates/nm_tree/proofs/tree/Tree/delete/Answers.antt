@@ -1,13 +1,13 @@
-use Rattle.std.proofs.Common.{None, Some, ap, refl, subst, ◌∙◌, arith}
+use Rattle.std.proofs.Common.{inl, inr, None, Some, ap, refl, subst, ◌∙◌, arith}
 use Rattle.std.specs.Prelude.{Ok, Err, slice_set}
 use Rattle.nm_model.specs.Maps.{get}
 use Rattle.nm_steps.specs.Steps.{Stand}
 use Rattle.nm_tree.specs.Workers.{Hand, held_in, pending_in}
-use Rattle.nm_tree.proofs.QueueLists.{others_stay, others_after, stands_within}
+use Rattle.nm_tree.proofs.QueueLists.{lacks_after, others_stay, others_after, stands_within}
 use Rattle.nm_tree.proofs.Staying.{resting_in, rests_in, rests_as, free_in}
 use Rattle.nm_tree.proofs.Changing.{accounts_within, kept_there, changed}
 use Rattle.nm_calls.specs.declared.deleting.Missed.{Missed}
-use Rattle.nm_calls.specs.Deletes.{DeleteDid}
+use Rattle.nm_calls.specs.Deletes.{DeleteDid, LacksRoomOr, LosesAfterFlag}
 use Rattle.nm_tree.specs.declared.fault.Fault.TheVariants as fault
 use Rattle.nm_tree.proofs.Telling.{deleted_so}
 use Rattle.nm_tree.proofs.tree.Tree.delete.Goals as goal
@@ -95,3 +95,17 @@ returns-in-Err-Unfinished-clause-queues c =
 pub returns-in-Err-Unfinished-clause-did : goal.returns-in-Err-Unfinished-clause-did
 returns-in-Err-Unfinished-clause-did c = deleted_so _ _ c.args.tries c.args.key _ _ (record { pass = c.delete_with.new.pass; queues = slice_set c.worker.inside.queues.items c.worker.inside.home c.delete_with.new.own; pending = Some (record { key = c.args.key; leaf = c.in-Err-Unfinished.leaf }); held = None })
     (Err fault.Unfinished) c.self.view_is c.worker.view_is ((free_in c.worker.inside.standing (resting_in c.worker.inside.standing (ap (λ (w : Hand). w.held) c.worker.view_is ∙ c.requires.free) c.in_default.not-Pending)).0, c.in-Err-Unfinished.leaf, refl, (let P : Missed → Type 0 = λ m. DeleteDid c.self.inside.shared.layout.nodes c.args.tries c.args.key c.worker.inside.pass.view.log c.delete_with.new.pass.view.log (Err m) in subst P c.in-Err-Unfinished.field-0-is c.in-Err-Unfinished.ensures.did))
+
+pub returns-in-Err-NoMemory-clause-lacks : goal.returns-in-Err-NoMemory-clause-lacks
+returns-in-Err-NoMemory-clause-lacks c =
+    let P : Missed → Type 0 = λ m. LacksRoomOr (LosesAfterFlag c.self.inside.shared.layout.nodes c.args.tries c.args.key c.worker.inside.pass.view.log c.delete_with.new.pass.view.log) c.delete_with.new.own.queue.spare m in
+    lacks_after c.worker.inside.home _ _ c.worker.inside.queues.items c.delete_with.new.own c.worker.invariant.own c.delete_with.ensures.kept.own (subst P c.in-Err-NoMemory.field-0-is c.in-Err-NoMemory.ensures.refused)
+
+pub returns-in-Err-Unfinished-clause-lacks : goal.returns-in-Err-Unfinished-clause-lacks
+returns-in-Err-Unfinished-clause-lacks c =
+    let P : Missed → Type 0 = λ m. LacksRoomOr (LosesAfterFlag c.self.inside.shared.layout.nodes c.args.tries c.args.key c.worker.inside.pass.view.log c.delete_with.new.pass.view.log) c.delete_with.new.own.queue.spare m in
+    rw (← c.self.view_is, ← c.worker.view_is)
+    (elim (subst P c.in-Err-Unfinished.field-0-is c.in-Err-Unfinished.ensures.refused) [
+      | inl less ↦ inl (lacks_after c.worker.inside.home _ _ c.worker.inside.queues.items c.delete_with.new.own c.worker.invariant.own c.delete_with.ensures.kept.own less)
+      | inr lost ↦ inr (c.in-Err-Unfinished.leaf, lost)
+    ])

@@ -1,9 +1,9 @@
-use Rattle.std.proofs.Common.{sym, None, ap, refl, ◌∙◌, arith}
+use Rattle.std.proofs.Common.{inl, inr, sym, None, ap, refl, ◌∙◌, arith}
 use Rattle.std.specs.Prelude.{Ok, slice_set}
 use Rattle.nm_model.specs.Maps.{get}
 use Rattle.nm_steps.specs.Steps.{Stand}
 use Rattle.nm_tree.specs.Workers.{Hand, pending_in}
-use Rattle.nm_tree.proofs.QueueLists.{others_stay, others_after, stands_within}
+use Rattle.nm_tree.proofs.QueueLists.{lacks_after, others_stay, others_after, stands_within}
 use Rattle.nm_tree.proofs.Changing.{accounts_within, kept_there, changed}
 use Rattle.nm_tree.proofs.Staying.{removing_in}
 use Rattle.std.specs.Prelude.{true}
@@ -55,3 +55,11 @@ returns-clause-did c = finished_so _ _ c.args.tries _ _ (record { pass = c.finis
 
 pub returns-clause-moment : goal.returns-clause-moment
 returns-clause-moment c = (c.in-Pending.pending, ap (λ (w : Hand). w.pending) (sym c.worker.view_is) ∙ ap pending_in c.in-Pending.is, c.finish_with.ensures.moment c.if-not-finish_with.false)
+
+pub returns-then-not-finish_with-clause-lacks : goal.returns-then-not-finish_with-clause-lacks
+returns-then-not-finish_with-clause-lacks c =
+    rw (← c.self.view_is, ← c.worker.view_is)
+    (elim (c.finish_with.ensures.refused c.if-not-finish_with.true) [
+      | inl less ↦ inl (lacks_after c.worker.inside.home _ _ c.worker.inside.queues.items c.finish_with.new.own c.worker.invariant.own c.finish_with.ensures.kept.own less)
+      | inr lost ↦ inr (c.in-Pending.pending, ap pending_in c.in-Pending.is, lost)
+    ])

@@ -3,7 +3,7 @@ use Rattle.std.specs.Prelude.{Ok, Err}
 use Rattle.nm_steps.specs.Steps.{Stand}
 use Rattle.nm_tree.specs.declared.worker.Standing.TheVariants as standing
 use Rattle.nm_tree.specs.Workers.{Hand}
-use Rattle.nm_tree.proofs.QueueLists.{others_stay, others_after, stands_within}
+use Rattle.nm_tree.proofs.QueueLists.{lacks_after, others_stay, others_after, stands_within}
 use Rattle.nm_tree.proofs.Staying.{resting_in, rests_in, rests_as, free_in}
 use Rattle.nm_tree.proofs.Changing.{accounts_within, kept_there, changed}
 use Rattle.nm_calls.specs.declared.inserting.Fault.{Fault as Lost}
@@ -60,3 +60,13 @@ returns-clause-queues c =
 
 pub returns-clause-between : goal.returns-clause-between
 returns-clause-between c = (invariant_of-worker c).between
+
+pub returns-clause-lacks : goal.returns-clause-lacks
+returns-clause-lacks c =
+    elim c.match-insert_with.branch [
+      | in-Ok w ↦ rw w.result-is tt
+      | in-Err-Busy w ↦ rw w.result-is tt
+      | in-Err-Full w ↦ rw w.result-is tt
+      | in-Err-NoMemory w ↦ rw w.result-is
+          (lacks_after c.worker.inside.home _ _ c.worker.inside.queues.items c.insert_with.new.own c.worker.invariant.own c.insert_with.ensures.kept.own (w.in-Err-NoMemory.ensures.refused (ap (λ (m : Lost). Err m) w.in-Err-NoMemory.field-0-is)))
+    ]

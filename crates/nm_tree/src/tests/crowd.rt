@@ -1,0 +1,125 @@
+//! Many workers in threads of their own, and what the tree tells at its end.
+ghost use Rattle.std.specs.Prelude.{◌≡◌, ◌+◌, ◌-◌, All, IfOk};
+ghost use Rattle.nm_steps.specs.Steps.{IsOf};
+ghost use Rattle.nm_tree.specs.Closing.{AreAllOf};
+ghost use Rattle.nm_tree.specs.Plays.{IsReady};
+ghost use Rattle.nm_tree.specs.Workers.{waiting_in};
+
+use super::threads::{Score, rounds};
+use super::totals::waiting;
+use super::*;
+use crate::Report;
+use std::alloc::{AllocError, Global};
+use std::thread::{Threads, map_vec};
+
+const NODES: u32 = 2048;
+
+const TRIES: u32 = 100;
+
+/// A worker at the end of its rounds, and how many true answers it had.
+#[derive(Drop)]
+struct Played {
+    worker: Worker,
+    score: Score,
+}
+
+/// Each worker's rounds, in a thread of its own.
+fn play_all<R: Threads + Sync>(
+    rt: &R,
+    tree: &Tree,
+    workers: Vec<Worker>,
+    count: u32,
+) -> Result<Vec<Played>, AllocError>
+    requires { All (λ w. IsReady tree.now w) workers.items }
+    ensures { IfOk result (λ v. All (λ p. IsReady tree.now p.worker) v.items) }
+{
+    map_vec(
+        rt,
+        workers,
+        &|worker: Worker| -> Played
+            requires { IsReady tree.now worker }
+            ensures { IsReady tree.entry.now result.worker }
+        {
+            let from = worker.number();
+            let (worker, score) = rounds(tree, worker, from, count);
+            Played { worker, score }
+        },
+    )
+}
+
+/// The worker with no delete pending, and the score of both.
+fn settled(tree: &Tree, played: Played, so_far: Score) -> (Worker, Score)
+    requires { IsReady tree.now played.worker }
+    ensures { IsOf tree.now result.0.pass }
+{
+    let Played { mut worker, score } = played;
+    let late = tree.finish(&mut worker, TRIES) == Ok(true);
+    let inserted = so_far.inserted.saturating_add(score.inserted);
+    let deleted = so_far.deleted.saturating_add(score.deleted);
+    let deleted = deleted.saturating_add(u32::from(late));
+    (worker, Score { inserted, deleted })
+}
+
+/// All workers, and how many true answers they had.
+#[tactic(auto, using(crate::proofs::Closed::all_and))]
+fn gathered(
+    alloc: Global,
+    tree: &Tree,
+    played: Vec<Played>,
+) -> Result<(Vec<Worker>, Score), AllocError>
+    requires { All (λ p. IsReady tree.now p.worker) played.items }
+    ensures { IfOk result (λ r. AreAllOf tree.now r.0.items) }
+{
+    let mut workers = Vec::new(alloc);
+    let mut sum = Score::default();
+    for each in played {
+        let (worker, score) = settled(tree, each, sum);
+        sum = score;
+        workers.push(worker)?;
+    }
+    Ok((workers, sum))
+}
+
+/// What a tree tells at its end, all of whose workers are given.
+fn report_of(rt: &impl Abort, tree: Tree, workers: Vec<Worker>) -> Report
+    requires { AreAllOf tree workers.items }
+    ensures sum { result.free + result.reached + waiting_in result.queues.items ≡ tree.layout.nodes - 5 }
+{
+    let Ok(report) = tree.close(workers) else {
+        panic!(rt; "not closed")
+    };
+    report
+}
+
+/// So many workers insert and delete the same keys, move the epoch on and collect, each in a thread of its own: the report has as many keys as
+/// their true answers add up to, and each slot is free, reached or waits.
+fn adds_up<R: Threads + Sync + Abort + AllocGlobal>(
+    rt: &R,
+    workers: u32,
+    count: u32,
+) -> Result<(), Fail> {
+    let (tree, workers) = Tree::new(rt.alloc(), NODES, workers)?;
+    let played = play_all(rt, &tree, workers, count)?;
+    let (workers, score) = gathered(rt.alloc(), &tree, played)?;
+    let report = report_of(rt, tree, workers);
+    let kept = score.inserted.saturating_sub(score.deleted);
+    assert!(rt; 0 < score.deleted);
+    assert_eq!(rt; report.keys.len(), kept as usize);
+    assert_eq!(rt; report.reached, kept.saturating_mul(2));
+    let all = report
+        .free
+        .saturating_add(report.reached)
+        .saturating_add(waiting(&report));
+    assert_eq!(rt; all, NODES - 5);
+    Ok(())
+}
+
+#[test]
+fn four_workers_add_up(rt: HostRuntime) -> Result<(), Fail> {
+    adds_up(&rt, 4, 10_000)
+}
+
+#[test]
+fn sixty_four_workers_add_up(rt: HostRuntime) -> Result<(), Fail> {
+    adds_up(&rt, 64, 500)
+}
