@@ -1,10 +1,21 @@
 -- A crew, and what becomes of it at one place.
-use Rattle.std.proofs.Common.{◌≡◌, ◌+◌, ◌++◌, ℕ, List, [], ◌∷◌, length, slice_set, All, Option, Some, None, IfSome, arith}
-use Rattle.std.proofs.lemmas.List.{length_push}
-use Rattle.std.proofs.lemmas.List.Elements.{All-head, All-tail, All-push, All-set}
+use Rattle.std.proofs.Common.{◌≡◌, ◌≢◌, ◌<◌, ◌+◌, ◌++◌, ◌∙◌, ℕ, suc, List, [], ◌∷◌, length, map, slice_set, slice_index_or, All, Option, Some, None, IfSome, refl, sym, ap, append_assoc, arith}
+use Rattle.std.specs.Prelude.{sum_by}
+use Rattle.std.proofs.lemmas.List.{length-map, append-nil, length-set, set-set, set_comm, get_or-set_other}
+use Rattle.std.proofs.lemmas.List.Elements.{All-nil, All-cons, All-head, All-tail, All-set, at_read}
+use Rattle.std.proofs.lemmas.List.Sums.{sum_by-cons, sum_by-set}
+use Rattle.nm_answers.specs.declared.answer.Answer.{Answer}
+use Rattle.nm_epoch.specs.declared.collecting.HeldQueue.{HeldQueue}
+use Rattle.nm_epoch.specs.Collecting.{HaveLost}
+use Rattle.nm_scripts.specs.declared.call.Call.{Call}
+use Rattle.nm_scripts.specs.declared.call.Call.TheVariants.{Has, Insert, Delete, Finish, Pin, Unpin, Advance, Collect, Resign}
 use Rattle.nm_steps.specs.Steps.{Board, IsOf}
-use Rattle.nm_tree.specs.Workers.{Hand}
-use Rattle.nm_serial.specs.Crews.{AreOf}
+use Rattle.nm_tree.specs.Closing.{given_in}
+use Rattle.nm_tree.specs.Resigning.{merged}
+use Rattle.nm_tree.specs.Workers.{Hand, AreNew, KeepsOthers}
+use Rattle.nm_tree.proofs.Merging.{length-merged}
+use Rattle.nm_serial.specs.Crews.{AreOf, HasAsked, HasDoneAt, HasLeft, PlaysAll, PlaysLine, present, stands_for, worker_at}
+use Rattle.nm_serial.specs.Makes.{IsOwn}
 
 -- a place is written
 pub placed : (b : Board) (crew : List (Option Hand)) (i : ℕ) (o : Option Hand) → IfSome o (λ w. IsOf b w.pass) → AreOf b crew → AreOf b (slice_set crew i o)
@@ -14,33 +25,137 @@ placed b crew i o own all = All-set (λ o. IfSome o (λ w. IsOf b w.pass)) crew 
 pub emptied : (b : Board) (crew : List (Option Hand)) (i : ℕ) (o : Option Hand) → o ≡ None → AreOf b crew → AreOf b (slice_set crew i o)
 emptied b crew i o none all = placed b crew i o (rw none tt) all
 
--- the next worker takes the next place
-pub record Entered (b : Board) (n : ℕ) (places : List (Option Hand)) (workers : List Hand) : Type 0 where
-  pub own : AreOf b places
-  pub left : All (λ w. IsOf b w.pass) workers
-  pub count : length places + length workers ≡ n
+-- ---- how many workers they stand for
 
-pub entered : (b : Board) (n : ℕ) (crew : List (Option Hand)) (rest left : List Hand) (w : Hand) → rest ≡ w ∷ left → AreOf b crew → All (λ w. IsOf b w.pass) rest → length crew + length rest ≡ n → Entered b n (crew ++ Some w ∷ []) left
-entered b n crew rest left w cut own all count =
-    let whole : All (λ (w : Hand). IsOf b w.pass) (w ∷ left) = rw cut at all in
-    let sum : length crew + length (w ∷ left) ≡ n = rw cut at count in
-    record {
-      own = All-push (λ o. IfSome o (λ w. IsOf b w.pass)) crew (Some w) own (All-head (λ (w : Hand). IsOf b w.pass) w left whole);
-      left = All-tail (λ (w : Hand). IsOf b w.pass) w left whole;
-      count = omega (arith, sum, length_push crew (Some w));
-    }
+-- the queues that a call leaves are as many
+pub keeps_many : (o : ℕ) (hs gs : List HeldQueue) → KeepsOthers o hs gs → length gs ≡ length hs
+keeps_many o [] [] keeps = refl
+keeps_many o [] (g ∷ gs) keeps = absurd keeps
+keeps_many o (h ∷ hs) [] keeps = absurd keeps
+keeps_many o (h ∷ hs) (g ∷ gs) keeps = ap suc (keeps_many o hs gs keeps.2)
 
--- one that has not resigned is put behind the others
-pub joined : (b : Board) (ws all : List Hand) (w : Hand) → all ≡ ws ++ w ∷ [] → IsOf b w.pass → All (λ w. IsOf b w.pass) ws → All (λ w. IsOf b w.pass) all
-joined b ws all w is own each = rw is (All-push (λ (w : Hand). IsOf b w.pass) ws w each own)
+pub lost_many : (epoch : ℕ) (hs gs : List HeldQueue) → HaveLost epoch hs gs → length gs ≡ length hs
+lost_many epoch [] [] lost = refl
+lost_many epoch [] (g ∷ gs) lost = absurd lost
+lost_many epoch (h ∷ hs) [] lost = absurd lost
+lost_many epoch (h ∷ hs) (g ∷ gs) lost = ap suc (lost_many epoch hs gs lost.2)
 
--- the first place, and the others
-pub first_is_of : (b : Board) (rest left : List (Option Hand)) (o : Option Hand) → rest ≡ o ∷ left → AreOf b rest → IfSome o (λ w. IsOf b w.pass)
-first_is_of b rest left o cut all =
-    let whole : AreOf b (o ∷ left) = rw cut at all in
-    All-head (λ (o : Option Hand). IfSome o (λ w. IsOf b w.pass)) o left whole
+-- an heir stands for those of both
+pub merged_many : (queues hs gs : List HeldQueue) → queues ≡ merged hs gs → length queues ≡ length hs + length gs
+merged_many queues hs gs is = ap (λ (l : List HeldQueue). length l) is ∙ length-merged hs gs
 
-pub others_are_of : (b : Board) (rest left : List (Option Hand)) (o : Option Hand) → rest ≡ o ∷ left → AreOf b rest → AreOf b left
-others_are_of b rest left o cut all =
-    let whole : AreOf b (o ∷ left) = rw cut at all in
-    All-tail (λ (o : Option Hand). IfSome o (λ w. IsOf b w.pass)) o left whole
+-- a place is written: for so many fewer, and for so many more
+pub weighed : (crew : List (Option Hand)) (i : ℕ) (o : Option Hand) → i < length crew → sum_by stands_for (slice_set crew i o) + stands_for (worker_at crew i) ≡ sum_by stands_for crew + stands_for o
+weighed crew i o lt = sum_by-set stands_for crew i o None lt
+
+-- those that have not resigned stand for as many as all
+pub present_stand_for : (crew : List (Option Hand)) → given_in (present crew) ≡ sum_by stands_for crew
+present_stand_for [] = refl
+present_stand_for (None ∷ crew) = present_stand_for crew ∙ sym (sum_by-cons stands_for None crew ∙ zero-more (sum_by stands_for crew))
+  where
+    zero-more : (n : ℕ) → 0 + n ≡ n
+    zero-more n = omega arith
+present_stand_for (Some w ∷ crew) =
+    sum_by-cons (λ (w : Hand). length w.queues) w (present crew) ∙ ap (λ n. length w.queues + n) (present_stand_for crew) ∙ sym (sum_by-cons stands_for (Some w) crew)
+
+-- the workers of a new tree stand for themselves
+pub new_stand_for : (b : Board) (n : ℕ) (ws : List Hand) → AreNew b n ws → sum_by stands_for (map Some ws) ≡ length ws
+new_stand_for b n [] new = refl
+new_stand_for b n (w ∷ ws) new =
+    let one : length w.queues ≡ 1 = sym (length-map w.queues (λ (h : HeldQueue). h.queue.items)) ∙ ap length new.4 in
+    let more = new_stand_for b (suc n) ws new.5 in
+    let first = sum_by-cons stands_for (Some w) (map Some ws) in
+    omega (arith, one, more, first)
+
+-- ---- those that have not resigned
+
+pub present_all : (ws : List Hand) → present (map Some ws) ≡ ws
+present_all [] = refl
+present_all (w ∷ ws) = ap (λ l. w ∷ l) (present_all ws)
+
+pub present_are_of : (b : Board) (crew : List (Option Hand)) → AreOf b crew → All (λ w. IsOf b w.pass) (present crew)
+present_are_of b [] all = All-nil (λ (w : Hand). IsOf b w.pass)
+present_are_of b (None ∷ crew) all = present_are_of b crew (All-tail (λ (o : Option Hand). IfSome o (λ w. IsOf b w.pass)) None crew all)
+present_are_of b (Some w ∷ crew) all =
+    All-cons (λ (w : Hand). IsOf b w.pass) w (present crew) (All-head (λ (o : Option Hand). IfSome o (λ w. IsOf b w.pass)) (Some w) crew all)
+    (present_are_of b crew (All-tail (λ (o : Option Hand). IfSome o (λ w. IsOf b w.pass)) (Some w) crew all))
+
+-- ---- lines
+
+-- a call that is its worker's alone
+pub own_line_at : (b : Board) (tries n : ℕ) (call : Call) (crew : List (Option Hand)) (z : Option Hand) (a : Answer) → IsOwn call → HasDoneAt b tries call (worker_at crew n) z a → PlaysLine b tries n call crew a (slice_set crew n z)
+own_line_at b tries n (Has k) crew z a own did = (z, did, refl)
+own_line_at b tries n (Insert k) crew z a own did = (z, did, refl)
+own_line_at b tries n (Delete k) crew z a own did = (z, did, refl)
+own_line_at b tries n Finish crew z a own did = (z, did, refl)
+own_line_at b tries n Pin crew z a own did = (z, did, refl)
+own_line_at b tries n Unpin crew z a own did = (z, did, refl)
+own_line_at b tries n Advance crew z a own did = (z, did, refl)
+own_line_at b tries n Collect crew z a own did = (z, did, refl)
+own_line_at b tries n (Resign heir) crew z a own did = absurd own
+
+-- the line in front of others
+pub line_first : (b : Board) (tries : ℕ) (all rest : List (ℕ × Call)) (e : ℕ × Call) (a : Answer) (more : List Answer) (crew mid z : List (Option Hand)) → all ≡ e ∷ rest → PlaysLine b tries e.0 e.1 crew a mid → PlaysAll b tries rest more mid z → PlaysAll b tries all (a ∷ more) crew z
+line_first b tries all rest e a more crew mid z cut line next = rw cut (mid, line, next)
+
+-- both places are emptied and written again
+pub written : (crew : List (Option Hand)) (heir leaver : ℕ) (taken still e f : Option Hand) → leaver ≢ heir → slice_set (slice_set (slice_set (slice_set crew heir e) leaver f) heir taken) leaver still ≡ slice_set (slice_set crew heir taken) leaver still
+written crew heir leaver taken still e f two =
+    ap (λ (l : List (Option Hand)). slice_set l leaver still) (set_comm (slice_set crew heir e) leaver heir f taken two ∙ ap (λ (l : List (Option Hand)). slice_set l leaver f) (set-set crew heir e taken))
+    ∙ set-set (slice_set crew heir taken) leaver f still
+
+-- the first place is left, and then the others
+pub present_first : (ws more all : List Hand) (rest left : List (Option Hand)) (o : Option Hand) → rest ≡ o ∷ left → more ≡ ws ++ present (o ∷ []) → ws ++ present rest ≡ all → more ++ present left ≡ all
+present_first ws more all rest left None cut put told = rw (put, append-nil ws) (rw cut at told)
+present_first ws more all rest left (Some w) cut put told = rw (put, append_assoc) (rw cut at told)
+
+-- ---- places
+
+-- what was read there stands there
+pub stands_at : (crew : List (Option Hand)) (i : ℕ) (o : Option Hand) → i < length crew → o ≡ slice_index_or crew i o → worker_at crew i ≡ o
+stands_at crew i o lt is = at_read crew (λ (y : Option Hand). y ≡ o) i o lt is refl None
+
+-- one place is written by a call
+pub line_keeps_whole : (crew : List (Option Hand)) (i : ℕ) (o z : Option Hand) → i < length crew → worker_at crew i ≡ o → stands_for z ≡ stands_for o → sum_by stands_for (slice_set crew i z) ≡ sum_by stands_for crew
+line_keeps_whole crew i o z lt is same = let w = weighed crew i z lt in let old = ap stands_for is in omega (arith, w, old, same)
+
+-- two places are emptied and written by a resigning
+module _ (crew : List (Option Hand)) (leaver heir : ℕ) (taking leaving taken : Hand) (still e f : Option Hand) (two : leaver ≢ heir) (heir_is : worker_at crew heir ≡ Some taking) (leaver_was : worker_at (slice_set crew heir e) leaver ≡ Some leaving) where
+  leaver_is : worker_at crew leaver ≡ Some leaving
+  leaver_is = sym (get_or-set_other crew heir leaver e None two) ∙ leaver_was
+
+  pub has_asked : (a : Answer) → HasLeft taking leaving taken still a → HasAsked leaver heir crew a (slice_set (slice_set (slice_set (slice_set crew heir e) leaver f) heir (Some taken)) leaver still)
+  has_asked a did = record { two = two; taking = taking; leaving = leaving; taken = taken; still = still; heir_is = heir_is; leaver_is = leaver_is; did = did; places = written crew heir leaver (Some taken) still e f two }
+
+  pub resigning_keeps_whole : heir < length crew → leaver < length crew → stands_for (Some taken) + stands_for still ≡ stands_for (Some taking) + stands_for (Some leaving)
+      → sum_by stands_for (slice_set (slice_set (slice_set (slice_set crew heir e) leaver f) heir (Some taken)) leaver still) ≡ sum_by stands_for crew
+  resigning_keeps_whole hl ll same =
+      let first = weighed crew heir (Some taken) hl in
+      let long = length-set crew heir (Some taken) in
+      let second = weighed (slice_set crew heir (Some taken)) leaver still (omega (arith, ll, long)) in
+      let old = ap stands_for heir_is in
+      let other = ap stands_for (get_or-set_other crew heir leaver (Some taken) None two ∙ leaver_is) in
+      rw (written crew heir leaver (Some taken) still e f two) (omega (arith, first, second, old, other, same))
+
+-- all that are left stand for all workers
+pub whole_at_end : (b : Board) (ws left : List Hand) (crew after : List (Option Hand)) (n : ℕ) → AreNew b 0 ws → length ws ≡ n → b.layout.workers ≡ n → crew ≡ map Some ws → sum_by stands_for after ≡ sum_by stands_for crew → left ≡ present after → given_in left ≡ b.layout.workers
+whole_at_end b ws left crew after n new many sizes places kept is =
+    let start : sum_by stands_for crew ≡ length ws = ap (λ (c : List (Option Hand)). sum_by stands_for c) places ∙ new_stand_for b 0 ws new in
+    ap given_in is ∙ present_stand_for after ∙ kept ∙ start ∙ many ∙ sym sizes
+
+-- each call but a resigning is its worker's alone
+pub is_own : (call : Call) → ((heir : ℕ) → call ≡ Resign heir → ⊥) → IsOwn call
+is_own (Has k) isnt = tt
+is_own (Insert k) isnt = tt
+is_own (Delete k) isnt = tt
+is_own Finish isnt = tt
+is_own Pin isnt = tt
+is_own Unpin isnt = tt
+is_own Advance isnt = tt
+is_own Collect isnt = tt
+is_own (Resign heir) isnt = absurd (isnt heir refl)
+
+-- a call that was answered is a line
+pub made_line : (b : Board) (tries n : ℕ) (call : Call) (crew : List (Option Hand)) (o z : Option Hand) (r : Option Answer) → IsOwn call → worker_at crew n ≡ o → IfSome r (HasDoneAt b tries call o z) → IfSome r (λ a. PlaysLine b tries n call crew a (slice_set crew n z))
+made_line b tries n call crew o z None own at did = tt
+made_line b tries n call crew o z (Some a) own at did = own_line_at b tries n call crew z a own (rw at did)

@@ -1,13 +1,20 @@
 -- What a run tells of its input, by the bytes of it that it read.
-use Rattle.std.proofs.Common.{◌≡◌, ◌≢◌, ℕ, List, take, Result, Ok, Err, refl, sym, ap, ◌∙◌}
-use Rattle.std.specs.Prelude.{Option, Some, None, IfSome, OnOk, IfErr, IsOk}
+use Rattle.std.proofs.Common.{◌≡◌, ◌≢◌, ◌⊎◌, ℕ, List, length, take, drop, Result, Ok, Err, refl, sym, ap, subst, inl, inr, arith, ◌∙◌}
+use Rattle.std.specs.Prelude.{Option, Some, None, IfSome, IfOk, OnOk, IfErr, IsOk, Vec}
+use Rattle.std.specs.Global.{Global}
+use Rattle.nm_files.specs.Lines.{parts}
+use Rattle.std.specs.Io.KnownBytes.{Appends}
+use Rattle.std.proofs.lemmas.Bool.{cases_lt}
+use Rattle.std.proofs.lemmas.List.{length-take, take_all}
 use Rattle.nm_files.specs.declared.fault.RunFault.{RunFault}
 use Rattle.nm_files.specs.declared.fault.RunFault.TheVariants as run
 use Rattle.nm_files.specs.Files.{Fails, IfLine}
-use Rattle.nm_files.proofs.LimitLemmas.{within_limit}
+use Rattle.nm_files.proofs.LimitLemmas.{same_file, within_limit}
 use Rattle.nm_scripts.specs.declared.header.Command.{Command}
 use Rattle.nm_scripts.specs.Scripts.{Script, first_line_of, line_of, script_of}
 use Rattle.nm_serial.specs.Playing.{FailsSo, EndsSo}
+use Rattle.nm_serial.specs.Stops.{IfStopped}
+use Rattle.nm_serial.specs.Texts.{IfGate, IsWritten, Writes}
 
 -- what the bytes up to the limit say is what all say
 same_script : (command : Command) (input : List ℕ) → script_of command (take 12100122 input) ≡ script_of command input
@@ -57,10 +64,77 @@ tells_right command (Some input) bytes read right = rw (enough command (Some inp
 pub is_not_write : (command : Command) (bytes : List ℕ) (e : RunFault) → FailsSo command bytes e → e ≢ run.Write
 is_not_write command bytes e ends is = rw is at ends
 
-pub ok_then : {X E : Type 0} {P : Type 0} (r : Result X E) → P → OnOk r P
-ok_then (Ok x) p = p
-ok_then (Err e) p = tt
+pub ok_always : {X E : Type 0} {P : Type 0} (r : Result X E) → P → OnOk r P
+ok_always (Ok x) p = p
+ok_always (Err e) p = tt
+
+pub ok_then : {X E : Type 0} {P Q : Type 0} (r : Result X E) → (P → Q) → OnOk r P → OnOk r Q
+ok_then (Ok x) f p = f p
+ok_then (Err e) f p = tt
 
 pub err_always : {X E : Type 0} (r : Result X E) (P : E → Type 0) → ((e : E) → P e) → IfErr r P
 err_always (Ok x) P p = tt
 err_always (Err e) P p = p e
+
+-- ---- texts, and stops at a gate
+
+-- a script that is right is read whole
+whole_read : (command : Command) (input : List ℕ) (s : Script) → script_of command (take 12100122 input) ≡ Ok s → take 12100122 input ≡ input
+whole_read command input s is =
+    elim (cases_lt (length input) 12100122) [
+      | inl few ↦ take_all 12100122 input (omega arith)
+      | inr many ↦
+          let p = take 12100122 input in
+          let same = same_file (first_line_of command) line_of p (drop 12100122 input) (omega (arith, length-take 12100122 input)) in
+          let two : Ok s ≡ Err same.0 = sym is ∙ same.1 in
+          let no : ⊥ = cc in
+          absurd no
+    ]
+
+-- so a text for what was read is one for all
+pub tells_text : (IsText : Script → List (List ℕ) → List ℕ → Type 0) (command : Command) (known : Option (List ℕ)) (bytes text : List ℕ) (old new : Option (List ℕ)) → IfSome known (λ input. bytes ≡ take 12100122 input) → IsWritten IsText command bytes text → Appends old new text
+    → IfSome known (λ input. Writes IsText command input old new)
+tells_text IsText command None bytes text old new read written wrote = tt
+tells_text IsText command (Some input) bytes text old new read written wrote =
+    let whole : bytes ≡ input = read ∙ whole_read command input written.0 (sym (ap (script_of command) read) ∙ written.1) in
+    (text, subst (λ (b : List ℕ). IsWritten IsText command b text) whole written, wrote)
+
+pub tells_gate : (IsStopped : Script → ℕ → ℕ → Type 0) (command : Command) (known : Option (List ℕ)) (bytes : List ℕ) (e : RunFault) → IfSome known (λ input. bytes ≡ take 12100122 input) → IfGate IsStopped command bytes e → IfSome known (λ input. IfGate IsStopped command input e)
+tells_gate IsStopped command None bytes e read gate = tt
+tells_gate IsStopped command (Some input) bytes (run.Line line reason) read gate = tt
+tells_gate IsStopped command (Some input) bytes run.NoMemory read gate = tt
+tells_gate IsStopped command (Some input) bytes run.Read read gate = tt
+tells_gate IsStopped command (Some input) bytes run.Write read gate = tt
+tells_gate IsStopped command (Some input) bytes (run.Gate worker line) read gate = (gate.0, sym (enough command (Some input) bytes read) ∙ gate.1, gate.2)
+tells_gate IsStopped command (Some input) bytes run.Thread read gate = tt
+
+-- where the input was not judged, no gate stopped it
+pub no_gate : (IsStopped : Script → ℕ → ℕ → Type 0) (command : Command) (known : Option (List ℕ)) (e : RunFault) → (e ≡ run.Read) ⊎ ((e ≡ run.NoMemory) ⊎ (e ≡ run.Write)) → IfSome known (λ input. IfGate IsStopped command input e)
+no_gate IsStopped command None e is = tt
+no_gate IsStopped command (Some input) e (inl is) = rw is tt
+no_gate IsStopped command (Some input) e (inr (inl is)) = rw is tt
+no_gate IsStopped command (Some input) e (inr (inr is)) = rw is tt
+
+-- nor does one stop a script that is not right
+pub no_gate_before : (IsStopped : Script → ℕ → ℕ → Type 0) (command : Command) (bytes : List ℕ) (e : RunFault) → Fails e (script_of command bytes) → IfGate IsStopped command bytes e
+no_gate_before IsStopped command bytes (run.Line line reason) fails = tt
+no_gate_before IsStopped command bytes run.NoMemory fails = tt
+no_gate_before IsStopped command bytes run.Read fails = tt
+no_gate_before IsStopped command bytes run.Write fails = tt
+no_gate_before IsStopped command bytes (run.Gate worker line) fails = absurd fails
+no_gate_before IsStopped command bytes run.Thread fails = tt
+
+-- a script that is right was stopped so
+pub gate_of_script : (IsStopped : Script → ℕ → ℕ → Type 0) (command : Command) (bytes : List ℕ) (s : Script) (e : RunFault) → script_of command bytes ≡ Ok s → IfStopped (IsStopped s) e → IfGate IsStopped command bytes e
+gate_of_script IsStopped command bytes s (run.Line line reason) is stopped = tt
+gate_of_script IsStopped command bytes s run.NoMemory is stopped = tt
+gate_of_script IsStopped command bytes s run.Read is stopped = tt
+gate_of_script IsStopped command bytes s run.Write is stopped = tt
+gate_of_script IsStopped command bytes s (run.Gate worker line) is stopped = (s, is, stopped)
+gate_of_script IsStopped command bytes s run.Thread is stopped = tt
+
+-- its text is written for it
+pub text_of_script : {E : Type 0} (IsText : Script → List (List ℕ) → List ℕ → Type 0) (command : Command) (bytes : List ℕ) (s : Script) (rows : List (List ℕ)) (r : Result (Vec ℕ Global) E) → script_of command bytes ≡ Ok s → drop 1 (parts bytes) ≡ rows → IfOk r (λ v. IsText s rows v.items)
+    → IfOk r (λ v. IsWritten IsText command bytes v.items)
+text_of_script IsText command bytes s rows (Ok v) is lines text = (s, is, rw lines text)
+text_of_script IsText command bytes s rows (Err e) is lines text = tt

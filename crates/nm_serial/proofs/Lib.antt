@@ -3,3 +3,4 @@ pub mod ThreadLemmas
 pub mod WorkerLemmas
 pub mod EndingLemmas
 pub mod CrewLemmas
+pub mod ReportLemmas

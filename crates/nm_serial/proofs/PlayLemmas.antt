@@ -1,12 +1,13 @@
 -- Lines that are played one after the other.
-use Rattle.std.proofs.Common.{◌≡◌, ◌≢◌, ◌+◌, ◌++◌, ℕ, true, false, List, [], ◌∷◌, refl, sym, subst, append_assoc}
-use Rattle.std.specs.Prelude.{◌==◌}
+use Rattle.std.proofs.Common.{◌≡◌, ◌≢◌, ◌+◌, ℕ, List, [], ◌∷◌, refl, ap}
 use Rattle.std.proofs.lemmas.Bool.{ne_eqb, eq-eqb}
 use Rattle.nm_answers.specs.declared.answer.Answer.{Answer}
 use Rattle.nm_scripts.specs.declared.call.Call.{Call}
 use Rattle.nm_steps.specs.Steps.{Board}
 use Rattle.nm_tree.specs.Workers.{Hand}
-use Rattle.nm_serial.specs.Makes.{HasMade, PlaysOwn}
+use Rattle.nm_serial.specs.declared.own_lines.Stop.{Stop}
+use Rattle.nm_serial.specs.declared.own_lines.Stop.TheVariants as stop
+use Rattle.nm_serial.specs.Makes.{HasMade, HasStopped, PlaysOwn, StopsOwn, own_lines}
 
 -- one more line of the worker
 pub own_line : (lets : ℕ → ℕ → Type 0) (b : Board) (tries n line : ℕ) (all rest : List (ℕ × Call)) (e : ℕ × Call) (a : Answer) (more : List Answer) (w mid z : Hand) → all ≡ e ∷ rest → e.0 ≡ n → lets n line → HasMade b tries e.1 w mid a
@@ -17,3 +18,40 @@ own_line lets b tries n line all rest e a more w mid z cut is let_on made next =
 pub other_line : (lets : ℕ → ℕ → Type 0) (b : Board) (tries n line : ℕ) (all rest : List (ℕ × Call)) (e : ℕ × Call) (more : List Answer) (w z : Hand) → all ≡ e ∷ rest → e.0 ≢ n
     → PlaysOwn lets b tries n (line + 1) rest more w z → PlaysOwn lets b tries n line all more w z
 other_line lets b tries n line all rest e more w z cut isnt next = rw (cut, ne_eqb e.0 n isnt) next
+
+-- ---- a worker that is stopped
+
+-- it was stopped behind one more line of its own
+pub stops_behind_own : (lets stops : ℕ → ℕ → Type 0) (b : Board) (tries n line : ℕ) (all rest : List (ℕ × Call)) (e : ℕ × Call) (a : Answer) (w mid z : Hand) (s : Stop) → all ≡ e ∷ rest → e.0 ≡ n → lets n line → HasMade b tries e.1 w mid a
+    → StopsOwn lets stops b tries n (line + 1) rest mid z s → StopsOwn lets stops b tries n line all w z s
+stops_behind_own lets stops b tries n line all rest e a w mid z stop.NoMemory cut is let_on made next = tt
+stops_behind_own lets stops b tries n line all rest e a w mid z (stop.Gate l) cut is let_on made next =
+    rw (cut, eq-eqb e.0 n is) (record {
+      before = (line, e.1) ∷ next.before;
+      call = next.call;
+      after = next.after;
+      split = ap (λ (ls : List (ℕ × Call)). (line, e.1) ∷ ls) next.split;
+      answers = a ∷ next.answers;
+      played = (let_on, (mid, made, next.played));
+      stopped = next.stopped;
+    })
+
+-- behind a line of another
+pub stops_behind_other : (lets stops : ℕ → ℕ → Type 0) (b : Board) (tries n line : ℕ) (all rest : List (ℕ × Call)) (e : ℕ × Call) (w z : Hand) (s : Stop) → all ≡ e ∷ rest → e.0 ≢ n
+    → StopsOwn lets stops b tries n (line + 1) rest w z s → StopsOwn lets stops b tries n line all w z s
+stops_behind_other lets stops b tries n line all rest e w z stop.NoMemory cut isnt next = tt
+stops_behind_other lets stops b tries n line all rest e w z (stop.Gate l) cut isnt next = rw (cut, ne_eqb e.0 n isnt) next
+
+-- at this line
+pub stops_here : (lets stops : ℕ → ℕ → Type 0) (b : Board) (tries n line : ℕ) (all rest : List (ℕ × Call)) (e : ℕ × Call) (w z : Hand) (s : Stop) → all ≡ e ∷ rest → e.0 ≡ n → HasStopped (stops n line) line w z s → StopsOwn lets stops b tries n line all w z s
+stops_here lets stops b tries n line all rest e w z stop.NoMemory cut is stopped = tt
+stops_here lets stops b tries n line all rest e w z (stop.Gate l) cut is stopped =
+    rw (cut, eq-eqb e.0 n is) (record {
+      before = [];
+      call = e.1;
+      after = own_lines n (line + 1) rest;
+      split = rw stopped.0 refl;
+      answers = [];
+      played = stopped.2;
+      stopped = rw stopped.0 stopped.1;
+    })

@@ -1,6 +1,20 @@
 -- Workers that are each promised something, in their order.
-use Rattle.std.proofs.Common.{◌≡◌, ◌<◌, ◌+◌, ◌++◌, ℕ, zero, suc, List, [], ◌∷◌, length, refl, arith}
+use Rattle.std.proofs.Common.{◌≡◌, ◌<◌, ◌++◌, ◌∙◌, ℕ, zero, suc, List, [], ◌∷◌, All, Some, length, map, refl, sym, ap, arith}
 use Rattle.std.specs.Prelude.{slice_index_or}
+use Rattle.std.proofs.lemmas.List.Elements.{All-map}
+use Rattle.std.proofs.lemmas.List.Sums.{sum_by-cons}
+use Rattle.nm_files.specs.declared.fault.RunFault.{RunFault}
+use Rattle.nm_files.specs.declared.fault.RunFault.TheVariants as run
+use Rattle.nm_scripts.specs.declared.call.Call.{Call}
+use Rattle.nm_scripts.specs.Scripts.{Script}
+use Rattle.nm_steps.specs.Steps.{Board, IsOf}
+use Rattle.nm_tree.specs.Closing.{given_in}
+use Rattle.nm_tree.specs.Workers.{Hand, AreNew}
+use Rattle.nm_serial.specs.declared.threads.Played.{Played}
+use Rattle.nm_serial.specs.Stops.{IfStopped, IsRefusal, IsStop}
+use Rattle.nm_serial.specs.Texts.{IsGateStop, IsOpened}
+use Rattle.nm_serial.specs.Threads.{HaveAllPlayed, fault_in}
+use Rattle.nm_serial.proofs.CrewLemmas.{new_stand_for, present_all, present_stand_for}
 
 -- one more of both lists
 pub each_pushed : {X Y : Type 0} (R : X → Y → Type 0) (xs : List X) (ys : List Y) (x : X) (y : Y) → length ys ≡ length xs → ((k : ℕ) (a : X) (b : Y) → k < length xs → R (slice_index_or xs k a) (slice_index_or ys k b)) → R x y
@@ -11,3 +25,51 @@ each_pushed R [] (u ∷ ys) x y len each r k a b lt = absurd (omega arith)
 each_pushed R (u ∷ xs) [] x y len each r k a b lt = absurd (omega arith)
 each_pushed R (u ∷ xs) (v ∷ ys) x y len each r zero a b lt = each zero a b (omega arith)
 each_pushed R (u ∷ xs) (v ∷ ys) x y len each r (suc k) a b lt = each_pushed R xs ys x y (omega arith) (λ i c d below. each (suc i) c d (omega arith)) r k a b (omega arith)
+
+-- ---- how many workers they stand for at their ends
+
+-- each stands for as many as before
+same_many : (ws : List Hand) (ps : List Played) → length ps ≡ length ws → ((k : ℕ) (w : Hand) (p : Played) → k < length ws → length (slice_index_or ps k p).worker.queues ≡ length (slice_index_or ws k w).queues) → given_in (map (λ (p : Played). p.worker) ps) ≡ given_in ws
+same_many [] [] long each = refl
+same_many [] (p ∷ ps) long each = absurd (omega (arith, long))
+same_many (w ∷ ws) [] long each = absurd (omega (arith, long))
+same_many (w ∷ ws) (p ∷ ps) long each =
+    let first : length p.worker.queues ≡ length w.queues = each 0 w p (omega arith) in
+    let rest = same_many ws ps (omega (arith, long)) (λ k u q lt. each (suc k) u q (omega (arith, lt))) in
+    let one = sum_by-cons (λ (w : Hand). length w.queues) w ws in
+    let other = sum_by-cons (λ (w : Hand). length w.queues) p.worker (map (λ (p : Played). p.worker) ps) in
+    omega (arith, first, rest, one, other)
+
+module _ (lets stops : ℕ → ℕ → Type 0) (b : Board) (tries : ℕ) (es : List (ℕ × Call)) (ws : List Hand) (ps : List Played) (played : HaveAllPlayed lets stops b tries es ws ps) where
+  pub ended_are_of : All (λ w. IsOf b w.pass) (map (λ (p : Played). p.worker) ps)
+  ended_are_of = All-map (λ (w : Hand). IsOf b w.pass) (λ (p : Played). p.worker) ps (λ k p lt. (played.each k p.worker p (let long = played.all in omega (arith, lt, long))).own)
+
+  pub ended_stand_for_all : (n : ℕ) → AreNew b 0 ws → length ws ≡ n → b.layout.workers ≡ n → given_in (map (λ (p : Played). p.worker) ps) ≡ b.layout.workers
+  ended_stand_for_all n new many sizes =
+      same_many ws ps played.all (λ k w p lt. (played.each k w p lt).queues) ∙ (ap given_in (sym (present_all ws)) ∙ present_stand_for (map Some ws) ∙ new_stand_for b 0 ws new) ∙ many ∙ sym sizes
+
+  -- where they have stopped
+  pub gate_stop : (s : Script) (fault : RunFault) → IsOpened s b ws → tries ≡ s.header.tries → es ≡ s.entries → fault_in ps ≡ Some fault → IfStopped (IsGateStop lets stops s) fault
+  gate_stop s (run.Line line reason) opened same calls first = tt
+  gate_stop s run.NoMemory opened same calls first = tt
+  gate_stop s run.Read opened same calls first = tt
+  gate_stop s run.Write opened same calls first = tt
+  gate_stop s (run.Gate worker line) opened same calls first = record { tree = b; workers = ws; opened = opened; ended = ps; played = rw (same, calls) at played; first = first }
+  gate_stop s run.Thread opened same calls first = tt
+
+-- a refusal is no stop at a gate
+pub no_stop : (P : ℕ → ℕ → Type 0) (e : RunFault) → IsRefusal e → IfStopped P e
+no_stop P (run.Line line reason) refused = absurd refused
+no_stop P run.NoMemory refused = tt
+no_stop P run.Read refused = absurd refused
+no_stop P run.Write refused = absurd refused
+no_stop P (run.Gate worker line) refused = absurd refused
+no_stop P run.Thread refused = tt
+
+pub is_stop : (e : RunFault) → IsRefusal e → IsStop e
+is_stop (run.Line line reason) refused = absurd refused
+is_stop run.NoMemory refused = tt
+is_stop run.Read refused = absurd refused
+is_stop run.Write refused = absurd refused
+is_stop (run.Gate worker line) refused = absurd refused
+is_stop run.Thread refused = tt

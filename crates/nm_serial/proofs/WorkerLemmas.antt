@@ -1,5 +1,5 @@
 -- Lists of a tree's workers.
-use Rattle.std.proofs.Common.{◌≡◌, ◌<◌, ◌++◌, ℕ, zero, suc, List, [], ◌∷◌, length, slice_index_or, ap, subst, arith}
+use Rattle.std.proofs.Common.{◌<◌, ◌++◌, ℕ, zero, suc, List, [], ◌∷◌, length, slice_index_or, ap, subst, arith}
 use Rattle.std.proofs.Math.Seq.{get_or-append_seam}
 use Rattle.std.proofs.lemmas.List.{get_or_append_left, length_push}
 use Rattle.nm_steps.specs.declared.view.View.{View}

@@ -1,9 +1,10 @@
 -- The workers of a script that one thread plays: at each number its worker, until it resigns.
-use Rattle.std.specs.Prelude.{◌≡◌, ◌≢◌, ◌⊎◌, ℕ, List, [], ◌∷◌, All, Option, Some, None, IsSome, IfSome}
+use Rattle.std.specs.Prelude.{◌≡◌, ◌≢◌, ◌⊎◌, ℕ, List, [], ◌∷◌, length, sum_by, slice_index_or, slice_set, All, Option, Some, None, IsSome, IfSome}
 use Rattle.nm_answers.specs.declared.answer.Answer.{Answer}
 use Rattle.nm_answers.specs.declared.answer.Answer.TheVariants as answer
 use Rattle.nm_answers.specs.declared.answer.Refusal.TheVariants as refused
 use Rattle.nm_scripts.specs.declared.call.Call.{Call}
+use Rattle.nm_scripts.specs.declared.call.Call.TheVariants.{Resign}
 use Rattle.nm_steps.specs.Steps.{Board, IsOf}
 use Rattle.nm_tree.specs.Resigning.{HasResigned}
 use Rattle.nm_tree.specs.Workers.{Hand}
@@ -11,6 +12,25 @@ use Rattle.nm_serial.specs.Makes.{HasMade}
 
 abbrev pub AreOf : Board → List (Option Hand) → Type 0
 AreOf b crew = All (λ o. IfSome o (λ w. IsOf b w.pass)) crew
+
+-- the worker of that number, unless it has resigned
+abbrev pub worker_at : List (Option Hand) → ℕ → Option Hand
+worker_at crew n = slice_index_or crew n None
+
+-- those that have not resigned
+abbrev pub present : List (Option Hand) → List Hand
+present [] = []
+present (None ∷ crew) = present crew
+present (Some w ∷ crew) = w ∷ present crew
+
+-- for how many workers the one at a place stands: for itself, and for those that resigned to it
+abbrev pub stands_for : Option Hand → ℕ
+stands_for None = 0
+stands_for (Some w) = length w.queues
+
+-- each worker of the tree is one of these, or has resigned to one of them
+abbrev pub IsWhole : Board → List (Option Hand) → Type 0
+IsWhole b crew = sum_by stands_for crew ≡ b.layout.workers
 
 -- a call that is its worker's alone: a worker that has resigned makes none
 abbrev pub HasDoneAt : Board → ℕ → Call → Option Hand → Option Hand → Answer → Type 0
@@ -23,3 +43,34 @@ abbrev pub HasLeft : Hand → Hand → Hand → Option Hand → Answer → Type 
 HasLeft heir leaver z None a = HasResigned heir leaver z × (a ≡ answer.Resigned)
 HasLeft heir leaver z (Some w) a = (z ≡ heir) × (w ≡ leaver)
     × ((IsSome leaver.held × (a ≡ answer.Refused refused.Held)) ⊎ ((leaver.held ≡ None) × IsSome leaver.pending × (a ≡ answer.Pending)))
+
+-- ---- one line
+
+-- where either has resigned, or they are one, nothing is done
+pub record IsGone (leaver heir : ℕ) (crew : List (Option Hand)) (a : Answer) (after : List (Option Hand)) : Type 0 where
+  pub why : (leaver ≡ heir) ⊎ ((worker_at crew leaver ≡ None) ⊎ (worker_at crew heir ≡ None))
+  pub same : after ≡ crew
+  pub told : a ≡ answer.Refused refused.Gone
+
+-- else the leaver resigns to its heir, or may not, by the contract of resigning
+pub record HasAsked (leaver heir : ℕ) (crew : List (Option Hand)) (a : Answer) (after : List (Option Hand)) : Type 0 where
+  pub two : leaver ≢ heir
+  pub taking : Hand
+  pub leaving : Hand
+  pub taken : Hand
+  pub still : Option Hand
+  pub heir_is : worker_at crew heir ≡ Some taking
+  pub leaver_is : worker_at crew leaver ≡ Some leaving
+  pub did : HasLeft taking leaving taken still a
+  pub places : after ≡ slice_set (slice_set crew heir (Some taken)) leaver still
+
+-- a line of the worker of that number, by its answer
+abbrev pub PlaysLine : Board → ℕ → ℕ → Call → List (Option Hand) → Answer → List (Option Hand) → Type 0
+PlaysLine b tries n (Resign heir) crew a after = IsGone n heir crew a after ⊎ HasAsked n heir crew a after
+PlaysLine b tries n c crew a after = (z : Option Hand) × HasDoneAt b tries c (worker_at crew n) z a × (after ≡ slice_set crew n z)
+
+-- all lines, one after the other
+abbrev pub PlaysAll : Board → ℕ → List (ℕ × Call) → List Answer → List (Option Hand) → List (Option Hand) → Type 0
+PlaysAll b tries [] [] crew z = z ≡ crew
+PlaysAll b tries (e ∷ es) (a ∷ more) crew z = (mid : List (Option Hand)) × PlaysLine b tries e.0 e.1 crew a mid × PlaysAll b tries es more mid z
+PlaysAll b tries _ _ crew z = ⊥

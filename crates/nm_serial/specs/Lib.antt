@@ -3,3 +3,5 @@ pub mod Threads
 pub mod Stops
 pub mod Playing
 pub mod Crews
+pub mod Endings
+pub mod Texts

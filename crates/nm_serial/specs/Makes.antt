@@ -1,5 +1,5 @@
 -- What a line of a script does to its worker, by its answer.
-use Rattle.std.specs.Prelude.{◌≡◌, ◌⊎◌, ◌==◌, ◌+◌, if◌then◌else◌, List, [], ◌∷◌, ℕ, Bool, Option, Some, None, IsSome, Result, length}
+use Rattle.std.specs.Prelude.{◌≡◌, ◌⊎◌, ◌==◌, ◌+◌, if◌then◌else◌, List, [], ◌∷◌, ◌++◌, ℕ, Bool, Some, None, IsSome, Result, length}
 use Rattle.nm_answers.specs.declared.answer.Answer.{Answer}
 use Rattle.nm_answers.specs.declared.answer.Answer.TheVariants as answer
 use Rattle.nm_answers.specs.declared.answer.Refusal.TheVariants as refused
@@ -71,10 +71,10 @@ HasMade b tries (Resign heir) w z a = ⊥
 
 -- ---- the lines of one worker
 
--- a worker that the gate stops has not made its call
-abbrev pub HasStopped : Hand → Hand → Stop → Type 0
-HasStopped w z (stop.Gate line) = z ≡ w
-HasStopped w z stop.NoMemory = Unit {0}
+-- a worker that its gate stops before a line has not made its call
+abbrev pub HasStopped : Type 0 → ℕ → Hand → Hand → Stop → Type 0
+HasStopped stops line w z (stop.Gate l) = (l ≡ line) × stops × (z ≡ w)
+HasStopped stops line w z stop.NoMemory = Unit {0}
 
 -- its calls with the numbers of their lines, from this number on
 abbrev pub own_lines : ℕ → ℕ → List (ℕ × Call) → List (ℕ × Call)
@@ -90,3 +90,18 @@ PlaysEach lets b tries n _ _ w z = ⊥
 -- a worker has played its lines, among those of a script from this number on
 abbrev pub PlaysOwn : (ℕ → ℕ → Type 0) → Board → ℕ → ℕ → ℕ → List (ℕ × Call) → List Answer → Hand → Hand → Type 0
 PlaysOwn lets b tries n line es answers w z = PlaysEach lets b tries n (own_lines n line es) answers w z
+
+-- once it had played those of its lines that stand before it, the gate stopped it before this one
+pub record PlaysUpTo (lets stops : ℕ → ℕ → Type 0) (b : Board) (tries n : ℕ) (ls : List (ℕ × Call)) (line : ℕ) (w z : Hand) : Type 0 where
+  pub before : List (ℕ × Call)
+  pub call : Call
+  pub after : List (ℕ × Call)
+  pub split : ls ≡ before ++ (line, call) ∷ after
+  pub answers : List Answer
+  pub played : PlaysEach lets b tries n before answers w z
+  pub stopped : stops n line
+
+-- why a worker has not played its lines, among those of a script from this number on
+abbrev pub StopsOwn : (ℕ → ℕ → Type 0) → (ℕ → ℕ → Type 0) → Board → ℕ → ℕ → ℕ → List (ℕ × Call) → Hand → Hand → Stop → Type 0
+StopsOwn lets stops b tries n line es w z (stop.Gate l) = PlaysUpTo lets stops b tries n (own_lines n line es) l w z
+StopsOwn lets stops b tries n line es w z stop.NoMemory = Unit {0}

@@ -1,6 +1,13 @@
 -- Why the workers of a script have not all played their lines.
+use Rattle.std.specs.Prelude.{ℕ}
 use Rattle.nm_files.specs.declared.fault.RunFault.{RunFault}
 use Rattle.nm_files.specs.declared.fault.RunFault.TheVariants as run
+
+-- memory or a thread was refused
+abbrev pub IsRefusal : RunFault → Type 0
+IsRefusal run.NoMemory = Unit {0}
+IsRefusal run.Thread = Unit {0}
+IsRefusal _ = ⊥
 
 -- memory or a thread was refused, or a gate stopped one of them
 abbrev pub IsStop : RunFault → Type 0
@@ -8,3 +15,12 @@ IsStop run.NoMemory = Unit {0}
 IsStop run.Thread = Unit {0}
 IsStop (run.Gate worker line) = Unit {0}
 IsStop _ = ⊥
+
+-- of a worker that its gate stopped, and of the line before which it did
+abbrev pub IfStopped : (ℕ → ℕ → Type 0) → RunFault → Type 0
+IfStopped P (run.Gate worker line) = P worker line
+IfStopped P (run.Line line reason) = Unit {0}
+IfStopped P run.NoMemory = Unit {0}
+IfStopped P run.Read = Unit {0}
+IfStopped P run.Write = Unit {0}
+IfStopped P run.Thread = Unit {0}

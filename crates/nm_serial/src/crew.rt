@@ -1,6 +1,6 @@
 //! The workers of a script that one thread plays.
-ghost use Rattle.std.specs.Prelude.{IfSome};
-ghost use Rattle.nm_serial.specs.Crews.{HasDoneAt, HasLeft};
+ghost use Rattle.std.specs.Prelude.{◌≡◌, ◌+◌, IfSome};
+ghost use Rattle.nm_serial.specs.Crews.{HasDoneAt, HasLeft, stands_for};
 ghost use Rattle.nm_serial.specs.Makes.{IsOwn};
 ghost use Rattle.nm_steps.specs.Steps.{IsOf};
 
@@ -19,6 +19,7 @@ pub(crate) fn make_at(
     requires own { IfSome place.old (λ w. IsOf tree.now w.pass) }
     requires alone { IsOwn call }
     ensures own { IfSome place.new (λ w. IsOf tree.now w.pass) }
+    ensures whole { stands_for place.new ≡ stands_for place.old }
     ensures did { IfSome result (HasDoneAt tree.now tries call place.old place.new) }
 {
     match place {
@@ -28,11 +29,13 @@ pub(crate) fn make_at(
 }
 
 /// A worker resigns to its heir, and the heir is handed back, or both, with the answer.
+#[tactic(auto, using(crate::proofs::CrewLemmas::merged_many))]
 pub(crate) fn leave(tree: &Tree, heir: Worker, leaver: Worker) -> (Worker, Option<Worker>, Answer)
     requires heir { IsOf tree.now heir.pass }
     requires leaver { IsOf tree.now leaver.pass }
     ensures heir { IsOf tree.now result.0.pass }
     ensures leaver { IfSome result.1 (λ w. IsOf tree.now w.pass) }
+    ensures whole { stands_for (Some result.0) + stands_for result.1 ≡ stands_for (Some heir) + stands_for (Some leaver) }
     ensures did { HasLeft heir leaver result.0 result.1 result.2 }
 {
     match tree.resign(heir, leaver) {

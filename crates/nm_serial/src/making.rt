@@ -1,5 +1,5 @@
 //! One line of a worker: a call of the set, or a refusal without a call.
-ghost use Rattle.std.specs.Prelude.{◌≡◌, IfSome};
+ghost use Rattle.std.specs.Prelude.{◌≡◌, length, IfSome};
 ghost use Rattle.nm_steps.specs.Steps.{IsOf};
 ghost use Rattle.nm_serial.specs.Makes.{HasMade, HasSearched, IsOwn, HasHeld, HasUnpinned};
 ghost use Rattle.nm_tree.specs.Answers.{HasAnswered, HasInserted, HasDeleted};
@@ -14,6 +14,7 @@ fn has(tree: &Tree, worker: &mut Worker, key: Key, tries: u32) -> Option<Answer>
     requires own { IsOf tree.now worker.old.pass }
     ensures own { IsOf tree.now worker.new.pass }
     ensures number { worker.new.pass.view.number ≡ worker.old.pass.view.number }
+    ensures queues { length worker.new.queues ≡ length worker.old.queues }
     ensures did { IfSome result (HasSearched (HasAnswered tree.now.layout.nodes tries key worker.old worker.new) worker.old worker.new) }
 {
     if worker.held().is_some() {
@@ -23,10 +24,12 @@ fn has(tree: &Tree, worker: &mut Worker, key: Key, tries: u32) -> Option<Answer>
 }
 
 /// An insert, unless the worker is held.
+#[tactic(auto, using(crate::proofs::CrewLemmas::keeps_many))]
 fn insert(tree: &Tree, worker: &mut Worker, key: Key, tries: u32) -> Option<Answer>
     requires own { IsOf tree.now worker.old.pass }
     ensures own { IsOf tree.now worker.new.pass }
     ensures number { worker.new.pass.view.number ≡ worker.old.pass.view.number }
+    ensures queues { length worker.new.queues ≡ length worker.old.queues }
     ensures did { IfSome result (HasSearched (HasInserted tree.now.layout.nodes tries key worker.old worker.new) worker.old worker.new) }
 {
     if worker.held().is_some() {
@@ -36,10 +39,12 @@ fn insert(tree: &Tree, worker: &mut Worker, key: Key, tries: u32) -> Option<Answ
 }
 
 /// A delete, unless the worker is held.
+#[tactic(auto, using(crate::proofs::CrewLemmas::keeps_many))]
 fn delete(tree: &Tree, worker: &mut Worker, key: Key, tries: u32) -> Option<Answer>
     requires own { IsOf tree.now worker.old.pass }
     ensures own { IsOf tree.now worker.new.pass }
     ensures number { worker.new.pass.view.number ≡ worker.old.pass.view.number }
+    ensures queues { length worker.new.queues ≡ length worker.old.queues }
     ensures did { IfSome result (HasSearched (HasDeleted tree.now.layout.nodes tries key worker.old worker.new) worker.old worker.new) }
 {
     if worker.held().is_some() {
@@ -53,6 +58,7 @@ fn pin(tree: &Tree, worker: &mut Worker, tries: u32) -> Answer
     requires own { IsOf tree.now worker.old.pass }
     ensures own { IsOf tree.now worker.new.pass }
     ensures number { worker.new.pass.view.number ≡ worker.old.pass.view.number }
+    ensures queues { length worker.new.queues ≡ length worker.old.queues }
     ensures did { HasHeld tries worker.old worker.new result }
 {
     if worker.held().is_some() {
@@ -66,6 +72,7 @@ fn unpin(tree: &Tree, worker: &mut Worker) -> Answer
     requires own { IsOf tree.now worker.old.pass }
     ensures own { IsOf tree.now worker.new.pass }
     ensures number { worker.new.pass.view.number ≡ worker.old.pass.view.number }
+    ensures queues { length worker.new.queues ≡ length worker.old.queues }
     ensures did { HasUnpinned worker.old worker.new result }
 {
     if worker.held().is_none() {
@@ -76,11 +83,13 @@ fn unpin(tree: &Tree, worker: &mut Worker) -> Answer
 }
 
 /// A call that is its worker's alone, unless the worker may not make it; `None` where memory was refused.
+#[tactic(auto, using(crate::proofs::CrewLemmas::keeps_many, crate::proofs::CrewLemmas::lost_many))]
 pub(crate) fn make(tree: &Tree, worker: &mut Worker, call: Call, tries: u32) -> Option<Answer>
     requires own { IsOf tree.now worker.old.pass }
     requires alone { IsOwn call }
     ensures own { IsOf tree.now worker.new.pass }
     ensures number { worker.new.pass.view.number ≡ worker.old.pass.view.number }
+    ensures queues { length worker.new.queues ≡ length worker.old.queues }
     ensures did { IfSome result (HasMade tree.now tries call worker.old worker.new) }
 {
     match call {

@@ -1,12 +1,16 @@
 //! `stress`: the calls of each worker of a script in a thread of its own.
-ghost use Rattle.std.specs.Prelude.{◌≡◌, ◌≢◌, ◌≤◌, drop, length, All, Some, IfSome, IfOk, OnOk, IfErr, IsOk};
+ghost use Rattle.std.specs.Prelude.{◌≡◌, ◌≢◌, ◌≤◌, ◌++◌, drop, length, map, All, Some, IfSome, IfOk, OnOk, IfErr, IsOk};
+ghost use Rattle.nm_answers.specs.Texts.{lines};
 ghost use Rattle.nm_files.specs.Files.{HasJudged, IfLine};
+ghost use Rattle.nm_files.specs.Lines.{parts};
 ghost use Rattle.nm_scripts.specs.Scripts.{script_of};
 ghost use Rattle.nm_scripts.specs.declared.header.Command.TheVariants.{Stress};
 ghost use Rattle.nm_serial.specs.Makes.{IsOwn};
 ghost use Rattle.nm_serial.specs.Playing.{EndsSo};
-ghost use Rattle.nm_serial.specs.Stops.{IsStop};
-ghost use Rattle.nm_steps.specs.Steps.{IsOf};
+ghost use Rattle.nm_serial.specs.Stops.{IfStopped, IsStop};
+ghost use Rattle.nm_serial.specs.Texts.{IfGate, IsGateStop, IsStressText, IsWritten, Writes};
+ghost use Rattle.nm_serial.specs.Threads.{all_rows, fault_in, own_rows};
+ghost use Rattle.nm_serial.specs.Threads as spec;
 
 use crate::gate::Gate;
 use crate::outcome::{open, put_end};
@@ -20,39 +24,39 @@ use nm_files::stream::{LIMIT, input_of, write_text};
 use nm_scripts::call::Call;
 use nm_scripts::header::Command;
 use nm_scripts::script::{Script, script_of};
-use nm_tree::{Tree, Worker};
+use nm_tree::Worker;
 use std::alloc::{AllocError, Global};
 use std::io::{Read, Write};
 use std::sync::Wait;
 use std::thread::Threads;
 
-/// The least worker that its gate stopped, and the line before which it did, after those that were found before.
-fn stopped(found: Option<RunFault>, part: &Played) -> Option<RunFault>
-    requires { IfSome found IsStop }
-    ensures { IfSome result IsStop }
+/// Why a worker stopped, with what the later ones did.
+fn fault_before(part: &Played, later: Option<RunFault>) -> Option<RunFault>
+    requires { IfSome later IsStop }
+    ensures fault { result ≡ spec.fault_before part.now.worker.pass.view.number part.now.answers later }
+    ensures stop { IfSome result IsStop }
 {
     match part.answers {
+        Ok(_) => later,
         Err(Stop::NoMemory) => Some(RunFault::NoMemory),
-        Err(Stop::Gate { line }) if found.is_none() => {
-            let worker = part.worker.number();
-            Some(RunFault::Gate { worker, line })
-        }
-        _ => found,
+        Err(Stop::Gate { line }) => match later {
+            Some(RunFault::NoMemory) => Some(RunFault::NoMemory),
+            _ => Some(RunFault::Gate {
+                worker: part.worker.number(),
+                line,
+            }),
+        },
     }
 }
 
-/// The fault of those that stopped: want of memory first, and else the gate's of the least worker.
+/// Why they have not all played their lines: want of memory first, and else the gate's stop of the first one.
 fn fault_of(played: &[Played]) -> Option<RunFault>
-    ensures { IfSome result IsStop }
+    ensures fault { result ≡ fault_in played.now }
+    ensures stop { IfSome result IsStop }
 {
-    let mut found = None;
-    for part in played {
-        found = stopped(found, part);
-        if let Some(RunFault::NoMemory) = found {
-            return found;
-        }
-    }
-    found
+    let (first, rest) = played.split_first()?;
+    let later = fault_of(rest);
+    fault_before(first, later)
 }
 
 /// Appends the lines of one worker with what they were answered.
@@ -62,23 +66,36 @@ fn put_own_lines(
     calls: &[(u32, Call)],
     worker: u32,
     answers: &[Answer],
-) -> Result<(), AllocError> {
+) -> Result<(), AllocError>
+    ensures { OnOk result (out.new.items ≡ out.old.items ++ lines (own_rows worker (parts body.now) calls.now) answers.now) }
+{
     let mut rest = Some(body);
-    let mut at = 0usize;
+    let mut left = answers;
     for entry in calls {
         let Some(text) = rest else {
-            break;
+            return Ok(());
         };
         let (line, after) = cut(text, b'\n');
         if entry.0 == worker {
-            if let Some(answer) = answers.get(at) {
-                put_line(out, line, *answer)?;
-            }
-            at = at.saturating_add(1);
+            let Some((answer, more)) = left.split_first() else {
+                return Ok(());
+            };
+            put_line(out, line, *answer)?;
+            left = more;
         }
         rest = after;
     }
     Ok(())
+}
+
+/// What the lines of a worker were answered; nothing where it has not played all of them.
+fn answers_of(part: &Played) -> &[Answer]
+    ensures { result.now ≡ spec.answers_of part.now.answers }
+{
+    match &part.answers {
+        Ok(answers) => answers.as_slice(),
+        Err(_) => &[],
+    }
 }
 
 /// Appends the lines of each worker in turn.
@@ -87,26 +104,21 @@ fn put_all_lines(
     body: &[u8],
     calls: &[(u32, Call)],
     played: &[Played],
-) -> Result<(), AllocError> {
+) -> Result<(), AllocError>
+    ensures { OnOk result (out.new.items ≡ out.old.items ++ all_rows (parts body.now) calls.now played.now) }
+{
     for part in played {
-        if let Ok(answers) = &part.answers {
-            put_own_lines(out, body, calls, part.worker.number(), answers.as_slice())?;
-        }
+        put_own_lines(out, body, calls, part.worker.number(), answers_of(part))?;
     }
     Ok(())
 }
 
-/// The workers at the end of their lines, the last one first.
-fn workers_of(
-    alloc: Global,
-    tree: &Tree,
-    mut played: Vec<Played>,
-) -> Result<Vec<Worker>, AllocError>
-    requires own { All (λ p. IsOf tree.now p.worker.pass) played.items }
-    ensures own { IfOk result (λ ws. All (λ w. IsOf tree.now w.pass) ws.items) }
+/// The workers at the end of their lines.
+fn workers_of(alloc: Global, played: Vec<Played>) -> Result<Vec<Worker>, AllocError>
+    ensures { IfOk result (λ ws. ws.items ≡ map (λ p. p.worker) played.items) }
 {
     let mut workers = Vec::new(alloc);
-    while let Some(part) = played.pop() {
+    for part in played {
         let Played { worker, answers: _ } = part;
         workers.push(worker)?;
     }
@@ -122,6 +134,8 @@ fn text_of<R: Threads + Wait + Sync, G: Gate>(
 ) -> Result<Vec<u8>, RunFault>
     requires plain { All (λ e. IsOwn e.1) script.now.calls.items }
     requires few { length script.now.calls.items ≤ 100000 }
+    ensures text { IfOk result (λ v. IsStressText (G.lets gate.now) (G.stops gate.now) (record { header = script.now.header; entries = script.now.calls.items }) (parts script.now.body.now) v.items) }
+    ensures gate { IfErr result (IfStopped (IsGateStop (G.lets gate.now) (G.stops gate.now) (record { header = script.now.header; entries = script.now.calls.items }))) }
     ensures stop { IfErr result IsStop }
 {
     let (tree, workers) = open(alloc, &script.header)?;
@@ -131,8 +145,12 @@ fn text_of<R: Threads + Wait + Sync, G: Gate>(
         return Err(fault);
     }
     let mut out = Vec::new(alloc);
-    put_all_lines(&mut out, script.body, calls, played.as_slice()).map_err(|_| RunFault::NoMemory)?;
-    let workers = workers_of(alloc, &tree, played).map_err(|_| RunFault::NoMemory)?;
+    let Ok(()) = put_all_lines(&mut out, script.body, calls, played.as_slice()) else {
+        return Err(RunFault::NoMemory);
+    };
+    let Ok(workers) = workers_of(alloc, played) else {
+        return Err(RunFault::NoMemory);
+    };
     let origins = script.header.layout.workers();
     put_end(alloc, &mut out, tree, workers, origins)?;
     Ok(out)
@@ -145,7 +163,9 @@ fn output<R: Threads + Wait + Sync, G: Gate>(
     bytes: &[u8],
     gate: &G,
 ) -> Result<Vec<u8>, RunFault>
-    ensures { EndsSo Stress bytes.now result }
+    ensures ends { EndsSo Stress bytes.now result }
+    ensures text { IfOk result (λ v. IsWritten (IsStressText (G.lets gate.now) (G.stops gate.now)) Stress bytes.now v.items) }
+    ensures gate { IfErr result (IfGate (IsGateStop (G.lets gate.now) (G.stops gate.now)) Stress bytes.now) }
 {
     let script = script_of(alloc, Command::Stress, bytes)?;
     text_of(rt, alloc, &script, gate)
@@ -163,6 +183,10 @@ pub fn stress<R: Threads + Wait + Sync, I: Read, W: Write, G: Gate>(
     writer: &mut W,
     gate: &G,
 ) -> Result<(), RunFault>
+    // The lines of each worker, played one after the other on a new tree that all share, are written with what they were answered, and then what the closed tree tells, and nothing else.
+    ensures ok { OnOk result (IfSome (I.remaining reader.old) (λ input. Writes (IsStressText (G.lets gate.now) (G.stops gate.now)) Stress input (W.contents writer.old) (W.contents writer.new))) }
+    // The gate is told where it stopped workers, and none was refused memory: of the least of them, with the line before which it was stopped.
+    ensures gate { IfErr result (λ e. IfSome (I.remaining reader.old) (λ input. IfGate (IsGateStop (G.lets gate.now) (G.stops gate.now)) Stress input e)) }
     // It ends well only where no line is faulty.
     ensures right { OnOk result (IfSome (I.remaining reader.old) (λ input. IsOk (script_of Stress input))) }
     // The first faulty line is answered, with the least reason.

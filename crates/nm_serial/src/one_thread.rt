@@ -1,11 +1,13 @@
 //! `serial`: all calls of a script by one thread, in their order.
-ghost use Rattle.std.specs.Prelude.{◌≡◌, ◌≢◌, ◌<◌, All, drop, length, Some, IfOk, OnOk, IfErr, IfSome, IsOk};
+ghost use Rattle.std.specs.Prelude.{◌≡◌, ◌≢◌, ◌<◌, ◌⊎◌, ◌∷◌, [], ◌++◌, All, drop, length, map, sum_by, Some, IfOk, OnOk, IfErr, IfSome, IsOk};
 ghost use Rattle.nm_files.specs.Files.{IfLine, HasJudged};
+ghost use Rattle.nm_files.specs.Lines.{parts};
 ghost use Rattle.nm_scripts.specs.Scripts.{IsEntryOf};
 ghost use Rattle.nm_scripts.specs.Scripts as scripts;
 ghost use Rattle.nm_steps.specs.Steps.{IsOf};
-ghost use Rattle.nm_serial.specs.Crews.{AreOf};
+ghost use Rattle.nm_serial.specs.Crews.{AreOf, HasAsked, IsGone, PlaysAll, PlaysLine, present, stands_for};
 ghost use Rattle.nm_serial.specs.Playing.{EndsSo};
+ghost use Rattle.nm_serial.specs.Texts.{IsSerialText, IsWritten, Writes};
 
 use crate::crew::{leave, make_at};
 use crate::outcome::{open, put_end};
@@ -28,7 +30,7 @@ fn crew_of(
 ) -> Result<Vec<Option<Worker>>, AllocError>
     requires own { All (λ w. IsOf tree.now w.pass) workers.items }
     ensures own { IfOk result (λ crew. AreOf tree.now crew.items) }
-    ensures count { IfOk result (λ crew. length crew.items ≡ length workers.items) }
+    ensures places { IfOk result (λ crew. crew.items ≡ map Some workers.items) }
 {
     let mut crew = Vec::new(alloc);
     for worker in workers {
@@ -38,11 +40,8 @@ fn crew_of(
 }
 
 /// Puts the worker of a place behind the others, if it has not resigned.
-#[tactic(auto, using(crate::proofs::CrewLemmas::joined))]
-fn put_left(tree: &Tree, workers: &mut Vec<Worker>, place: Option<Worker>) -> Result<(), AllocError>
-    requires own { All (λ w. IsOf tree.now w.pass) workers.old.items }
-    requires place { IfSome place (λ w. IsOf tree.now w.pass) }
-    ensures { OnOk result (All (λ w. IsOf tree.now w.pass) workers.new.items) }
+fn put_left(workers: &mut Vec<Worker>, place: Option<Worker>) -> Result<(), AllocError>
+    ensures { OnOk result (workers.new.items ≡ workers.old.items ++ present (place ∷ [])) }
 {
     let Some(worker) = place else {
         return Ok(());
@@ -52,14 +51,12 @@ fn put_left(tree: &Tree, workers: &mut Vec<Worker>, place: Option<Worker>) -> Re
 }
 
 /// Those that have not resigned.
-#[tactic(auto, using(crate::proofs::CrewLemmas::first_is_of))]
-fn left_of(alloc: Global, tree: &Tree, crew: Vec<Option<Worker>>) -> Result<Vec<Worker>, AllocError>
-    requires own { AreOf tree.now crew.items }
-    ensures own { IfOk result (λ workers. All (λ w. IsOf tree.now w.pass) workers.items) }
+fn left_of(alloc: Global, crew: Vec<Option<Worker>>) -> Result<Vec<Worker>, AllocError>
+    ensures { IfOk result (λ workers. workers.items ≡ present crew.items) }
 {
     let mut workers = Vec::new(alloc);
     for place in crew {
-        put_left(tree, &mut workers, place)?;
+        put_left(&mut workers, place)?;
     }
     Ok(workers)
 }
@@ -71,20 +68,21 @@ fn resign(tree: &Tree, crew: &mut Vec<Option<Worker>>, leaver: usize, heir: usiz
     requires heir { heir < length crew.old.items }
     ensures own { AreOf tree.now crew.new.items }
     ensures count { length crew.new.items ≡ length crew.old.items }
+    ensures whole { sum_by stands_for crew.new.items ≡ sum_by stands_for crew.old.items }
+    ensures did { IsGone leaver heir crew.old.items result crew.new.items ⊎ HasAsked leaver heir crew.old.items result crew.new.items }
 {
-    if leaver == heir || crew[leaver].is_none() {
+    if leaver == heir || crew[leaver].is_none() || crew[heir].is_none() {
         return Answer::Refused(Refusal::Gone);
     }
-    let Some(taken) = crew[heir].take() else {
-        return Answer::Refused(Refusal::Gone);
+    let Some(taking) = crew[heir].take() else {
+        unreachable!()
     };
     let Some(leaving) = crew[leaver].take() else {
-        crew[heir] = Some(taken);
-        return Answer::Refused(Refusal::Gone);
+        unreachable!()
     };
-    let (taken, leaving, answer) = leave(tree, taken, leaving);
+    let (taken, still, answer) = leave(tree, taking, leaving);
     crew[heir] = Some(taken);
-    crew[leaver] = leaving;
+    crew[leaver] = still;
     answer
 }
 
@@ -101,6 +99,8 @@ fn play_line(
     requires allowed { IsEntryOf header.now (worker, call.now) }
     ensures own { AreOf tree.now crew.new.items }
     ensures count { length crew.new.items ≡ length crew.old.items }
+    ensures whole { sum_by stands_for crew.new.items ≡ sum_by stands_for crew.old.items }
+    ensures did { IfSome result (λ a. PlaysLine tree.now header.now.tries worker call.now crew.old.items a crew.new.items) }
 {
     match call {
         Call::Resign(heir) => Some(resign(tree, crew, worker as usize, *heir as usize)),
@@ -120,7 +120,8 @@ fn play(
     requires count { length crew.old.items ≡ header.now.layout.workers }
     requires allowed { All (IsEntryOf header.now) calls.now }
     ensures own { AreOf tree.now crew.new.items }
-    ensures count { length crew.new.items ≡ length crew.old.items }
+    ensures whole { sum_by stands_for crew.new.items ≡ sum_by stands_for crew.old.items }
+    ensures did { IfOk result (λ v. PlaysAll tree.now header.now.tries calls.now v.items crew.old.items crew.new.items) }
     ensures err { IfErr result (λ e. e ≡ RunFault.NoMemory) }
 {
     let mut answers = Vec::new(alloc);
@@ -136,10 +137,13 @@ fn play(
 /// What is written for a script.
 fn text_of(alloc: Global, script: &Script<'_>) -> Result<Vec<u8>, RunFault>
     requires { All (IsEntryOf script.now.header) script.now.calls.items }
+    ensures text { IfOk result (λ v. IsSerialText (record { header = script.now.header; entries = script.now.calls.items }) (parts script.now.body.now) v.items) }
     ensures err { IfErr result (λ e. e ≡ RunFault.NoMemory) }
 {
     let (tree, workers) = open(alloc, &script.header)?;
-    let mut crew = crew_of(alloc, &tree, workers).map_err(|_| RunFault::NoMemory)?;
+    let Ok(mut crew) = crew_of(alloc, &tree, workers) else {
+        return Err(RunFault::NoMemory);
+    };
     let answers = play(
         alloc,
         &tree,
@@ -147,9 +151,13 @@ fn text_of(alloc: Global, script: &Script<'_>) -> Result<Vec<u8>, RunFault>
         &script.header,
         script.calls.as_slice(),
     )?;
-    let workers = left_of(alloc, &tree, crew).map_err(|_| RunFault::NoMemory)?;
+    let Ok(workers) = left_of(alloc, crew) else {
+        return Err(RunFault::NoMemory);
+    };
     let mut out = Vec::new(alloc);
-    put_lines(&mut out, script.body, answers.as_slice()).map_err(|_| RunFault::NoMemory)?;
+    let Ok(()) = put_lines(&mut out, script.body, answers.as_slice()) else {
+        return Err(RunFault::NoMemory);
+    };
     put_end(
         alloc,
         &mut out,
@@ -162,7 +170,8 @@ fn text_of(alloc: Global, script: &Script<'_>) -> Result<Vec<u8>, RunFault>
 
 /// What is written for the bytes of a file.
 fn output(alloc: Global, bytes: &[u8]) -> Result<Vec<u8>, RunFault>
-    ensures { EndsSo Command.Serial bytes.now result }
+    ensures ends { EndsSo Command.Serial bytes.now result }
+    ensures text { IfOk result (λ v. IsWritten IsSerialText Command.Serial bytes.now v.items) }
 {
     let script = script_of(alloc, Command::Serial, bytes)?;
     text_of(alloc, &script)
@@ -177,6 +186,8 @@ pub fn serial<R: Read, W: Write>(
     reader: &mut R,
     writer: &mut W,
 ) -> Result<(), RunFault>
+    // What the script's lines, played one after the other on a new tree, were answered is written, and what the closed tree tells, and nothing else.
+    ensures ok { OnOk result (IfSome (R.remaining reader.old) (λ input. Writes IsSerialText Command.Serial input (W.contents writer.old) (W.contents writer.new))) }
     // A script is played only where it is right.
     ensures right { OnOk result (IfSome (R.remaining reader.old) (λ input. IsOk (scripts.script_of Command.Serial input))) }
     // The first faulty line is answered, with the least reason.

@@ -1,7 +1,7 @@
 //! The lines of one worker, in their order.
 ghost use Rattle.std.specs.Prelude.{◌≡◌, ◌≤◌, All, length, IfOk, IfErr};
 ghost use Rattle.nm_steps.specs.Steps.{IsOf};
-ghost use Rattle.nm_serial.specs.Makes.{HasMade, HasStopped, IsOwn, PlaysOwn};
+ghost use Rattle.nm_serial.specs.Makes.{HasMade, HasStopped, IsOwn, PlaysOwn, StopsOwn};
 
 use crate::gate::Gate;
 use crate::making::make;
@@ -32,8 +32,9 @@ fn play_line<G: Gate>(
     requires plain { IsOwn call.now }
     ensures own { IsOf tree.now worker.new.pass }
     ensures number { worker.new.pass.view.number ≡ worker.old.pass.view.number }
+    ensures queues { length worker.new.queues ≡ length worker.old.queues }
     ensures did { IfOk result (λ a. G.lets gate.now worker.old.pass.view.number line × HasMade tree.now tries call.now worker.old worker.new a) }
-    ensures stopped { IfErr result (HasStopped worker.old worker.new) }
+    ensures stopped { IfErr result (HasStopped (G.stops gate.now worker.old.pass.view.number line) line worker.old worker.new) }
 {
     if !gate.turn(worker.number(), line) {
         return Err(Stop::Gate { line });
@@ -58,7 +59,9 @@ pub(crate) fn play_own<G: Gate>(
     requires few { length calls.now ≤ 100000 }
     ensures own { IsOf tree.now worker.new.pass }
     ensures number { worker.new.pass.view.number ≡ worker.old.pass.view.number }
+    ensures queues { length worker.new.queues ≡ length worker.old.queues }
     ensures did { IfOk result (λ v. PlaysOwn (G.lets gate.now) tree.now tries worker.old.pass.view.number 2 calls.now v.items worker.old worker.new) }
+    ensures stopped { IfErr result (StopsOwn (G.lets gate.now) (G.stops gate.now) tree.now tries worker.old.pass.view.number 2 calls.now worker.old worker.new) }
 {
     let number = worker.number();
     let mut answers = Vec::new(alloc);

@@ -2,7 +2,7 @@
 ghost use Rattle.std.specs.Prelude.{◌≡◌, ◌≤◌, All, length, IfOk, IfErr};
 ghost use Rattle.nm_steps.specs.Steps.{IsOf};
 ghost use Rattle.nm_serial.specs.Makes.{IsOwn};
-ghost use Rattle.nm_serial.specs.Stops.{IsStop};
+ghost use Rattle.nm_serial.specs.Stops.{IsRefusal};
 ghost use Rattle.nm_serial.specs.Threads.{HasPlayed, HaveAllPlayed};
 
 use crate::gate::Gate;
@@ -37,7 +37,7 @@ struct PlaysAll<'a, G: Gate> {
 impl<'a, G: Gate> Promise<Played> for PlaysAll<'a, G> {
     ghost use Rattle.nm_serial.specs.Threads.{HasPlayed};
 
-    ghost kept_by = { λ p r. HasPlayed (G.lets p.gate.now) p.tree.now p.tries p.calls.now p.was.value r.worker r.answers };
+    ghost kept_by = { λ p r. HasPlayed (G.lets p.gate.now) (G.stops p.gate.now) p.tree.now p.tries p.calls.now p.was.value r.worker r.answers };
 }
 
 /// All lines of a worker, which is handed back.
@@ -52,7 +52,7 @@ fn play_all<G: Gate>(
     requires own { IsOf tree.now worker.pass }
     requires plain { All (λ e. IsOwn e.1) calls.now }
     requires few { length calls.now ≤ 100000 }
-    ensures { HasPlayed (G.lets gate.now) tree.now tries calls.now worker result.worker result.answers }
+    ensures { HasPlayed (G.lets gate.now) (G.stops gate.now) tree.now tries calls.now worker result.worker result.answers }
 {
     let answers = play_own(alloc, gate, tree, &mut worker, tries, calls);
     Played { worker, answers }
@@ -72,7 +72,7 @@ fn start<'s, E, G: Gate>(
     requires plain { All (λ e. IsOwn e.1) calls.now }
     requires few { length calls.now ≤ 100000 }
     ensures started { IfOk result (λ h. (h.promise.gate.now ≡ gate.now) × (h.promise.tree.now ≡ tree.now) × (h.promise.tries ≡ tries) × (h.promise.calls.now ≡ calls.now) × (h.promise.was.value ≡ worker)) }
-    ensures stop { IfErr result IsStop }
+    ensures refused { IfErr result IsRefusal }
 {
     let promise = PlaysAll {
         gate,
@@ -85,7 +85,7 @@ fn start<'s, E, G: Gate>(
         promise,
         move || -> Played
             requires { IsOf tree.now worker.pass × All (λ e. IsOwn e.1) calls.now × (length calls.now ≤ 100000) }
-            ensures { HasPlayed (G.lets gate.entry.now) tree.entry.now tries calls.entry.now worker result.worker result.answers }
+            ensures { HasPlayed (G.lets gate.entry.now) (G.stops gate.entry.now) tree.entry.now tries calls.entry.now worker result.worker result.answers }
         { play_all(alloc, gate, tree, tries, calls, worker) },
     );
     match started {
@@ -108,8 +108,8 @@ fn play_each<'s, R: Threads, E, G: Gate>(
     requires own { All (λ w. IsOf tree.now w.pass) workers.items }
     requires plain { All (λ e. IsOwn e.1) calls.now }
     requires few { length calls.now ≤ 100000 }
-    ensures played { IfOk result (λ v. HaveAllPlayed (G.lets gate.now) tree.now tries calls.now workers.items v.items) }
-    ensures stop { IfErr result IsStop }
+    ensures played { IfOk result (λ v. HaveAllPlayed (G.lets gate.now) (G.stops gate.now) tree.now tries calls.now workers.items v.items) }
+    ensures refused { IfErr result IsRefusal }
 {
     let mut handles = Vec::new(alloc);
     for worker in workers {
@@ -135,15 +135,15 @@ pub(crate) fn play_apart<R: Threads + Wait + Sync, G: Gate>(
     requires own { All (λ w. IsOf tree.now w.pass) workers.items }
     requires plain { All (λ e. IsOwn e.1) calls.now }
     requires few { length calls.now ≤ 100000 }
-    ensures played { IfOk result (λ v. HaveAllPlayed (G.lets gate.now) tree.now tries calls.now workers.items v.items) }
-    ensures stop { IfErr result IsStop }
+    ensures played { IfOk result (λ v. HaveAllPlayed (G.lets gate.now) (G.stops gate.now) tree.now tries calls.now workers.items v.items) }
+    ensures refused { IfErr result IsRefusal }
 {
     thread::scope(
         thread::scope_env(),
         rt,
         |scope| -> Result<Vec<Played>, RunFault>
             requires { All (λ w. IsOf tree.now w.pass) workers.items × All (λ e. IsOwn e.1) calls.now × (length calls.now ≤ 100000) }
-            ensures { IfOk result (λ v. HaveAllPlayed (G.lets gate.entry.now) tree.entry.now tries calls.entry.now workers.items v.items) × IfErr result IsStop }
+            ensures { IfOk result (λ v. HaveAllPlayed (G.lets gate.entry.now) (G.stops gate.entry.now) tree.entry.now tries calls.entry.now workers.items v.items) × IfErr result IsRefusal }
         { play_each(rt, scope, alloc, gate, tree, tries, calls, workers) },
     )
 }

@@ -32,6 +32,8 @@ impl Gate for OpenGate {
 
     ghost lets = { λ gate worker line. ⊤ };
 
+    ghost stops = { λ gate worker line. ⊥ };
+
     fn turn(&self, _worker: u32, _line: u32) -> bool {
         true
     }

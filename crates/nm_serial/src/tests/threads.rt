@@ -10,9 +10,11 @@ struct UpTo {
 }
 
 impl Gate for UpTo {
-    ghost use Rattle.std.specs.Prelude.{⊤};
+    ghost use Rattle.std.specs.Prelude.{◌<◌, ◌≤◌};
 
-    ghost lets = { λ gate worker line. ⊤ };
+    ghost lets = { λ gate worker line. line ≤ gate.last };
+
+    ghost stops = { λ gate worker line. gate.last < line };
 
     fn turn(&self, _worker: u32, line: u32) -> bool {
         line <= self.last

@@ -1,4 +1,4 @@
-use Rattle.std.proofs.Common.{◌≡◌, ◌+◌, length, All}
+use Rattle.std.proofs.Common.{◌≡◌, ◌++◌, All, map, Some}
 use Rattle.nm_steps.specs.Steps.{IsOf}
 use Rattle.nm_serial.specs.Crews.{AreOf}
 use Rattle.nm_serial.proofs.one_thread.crew_of.Given as goal
@@ -7,5 +7,5 @@ abbrev pub invariant-loop-worker : goal.invariant-loop-worker
 invariant-loop-worker l = record {
   own : AreOf l.tree l.crew.items;
   left : All (λ w. IsOf l.tree w.pass) l.worker-iterator.rest.items;
-  count : length l.crew.items + length l.worker-iterator.rest.items ≡ length l.fn.workers.items;
+  places : l.crew.items ++ map Some l.worker-iterator.rest.items ≡ map Some l.fn.workers.items;
 }
