@@ -1,20 +1,21 @@
-//! Plays inserts and deletes whose growths may be refused. A call that is refused has changed nothing, and is made again: so each run prints the
-//! same lines, whichever one growth was refused in it (`bench/refused-growths.sh`).
+//! Plays inserts and deletes whose growths may be refused, and closes the tree. A call that is refused has changed nothing, and is made again: so each
+//! run prints the same lines, whichever one growth was refused in it (`bench/refused-growths.sh`).
 #![tactic(auto)]
 
-ghost use Rattle.std.specs.Prelude.{IfOk};
+ghost use Rattle.std.specs.Prelude.{◌≡◌, [], ◌∷◌, IfOk};
+ghost use Rattle.nm_tree.specs.Closing.{AreAllOf};
 ghost use Rattle.nm_tree.specs.Plays.{IsReady};
 
 use anyhow::{Context, Result};
 use nm_edge::Key;
-use nm_tree::{Fault, NewError, Tree, Worker};
+use nm_tree::{CloseReason, Fault, NewError, Report, Tree, Worker};
 use std::alloc::Global;
 
 const TRIES: u32 = 4;
 
-/// A tree of 16 nodes and its two workers, made again where memory was refused.
-fn open(alloc: Global) -> Result<(Tree, Worker, Worker)>
-    ensures { IfOk result (λ r. IsReady r.0 r.1 × IsReady r.0 r.2) }
+/// A tree of 16 nodes and its two workers, made again where memory was refused; and the list in which they stood, with room for both.
+fn open(alloc: Global) -> Result<(Tree, Worker, Worker, Vec<Worker>)>
+    ensures { IfOk result (λ r. IsReady r.0 r.1 × IsReady r.0 r.2 × (r.3.items ≡ [])) }
 {
     let made = match Tree::new(alloc, 16, 2) {
         Err(NewError::NoMemory) => Tree::new(alloc, 16, 2),
@@ -23,7 +24,7 @@ fn open(alloc: Global) -> Result<(Tree, Worker, Worker)>
     let (tree, mut workers) = made.context("the tree")?;
     let second = workers.pop().context("worker 1")?;
     let first = workers.pop().context("worker 0")?;
-    Ok((tree, first, second))
+    Ok((tree, first, second, workers))
 }
 
 /// What a call must leave where it is refused: whether the key is in the set, and how many nodes wait.
@@ -91,6 +92,8 @@ struct Played {
 fn play(tree: &Tree, first: &mut Worker, second: &mut Worker, key: Key) -> Played
     requires first { IsReady tree.now first.old }
     requires second { IsReady tree.now second.old }
+    ensures first { IsReady tree.now first.new }
+    ensures second { IsReady tree.now second.new }
 {
     let answers = [
         insert(tree, first, key),
@@ -107,19 +110,52 @@ fn play(tree: &Tree, first: &mut Worker, second: &mut Worker, key: Key) -> Playe
     }
 }
 
-/// Opens a tree and plays on it.
-fn play_anew(alloc: Global) -> Result<Played> {
-    let (tree, mut first, mut second) = open(alloc)?;
+/// Both workers, in the list in which they stood.
+fn both(mut workers: Vec<Worker>, first: Worker, second: Worker) -> Result<Vec<Worker>>
+    requires { workers.items ≡ [] }
+    ensures { IfOk result (λ v. v.items ≡ first ∷ second ∷ []) }
+{
+    workers.push(first)?;
+    workers.push(second)?;
+    Ok(workers)
+}
+
+/// Closes the tree, once more where memory was refused. `None`: a refused call has not handed back both workers.
+fn close(tree: Tree, workers: Vec<Worker>) -> Option<Report>
+    requires { AreAllOf tree workers.items }
+{
+    let error = match tree.close(workers) {
+        Ok(report) => return Some(report),
+        Err(error) => error,
+    };
+    if error.reason != CloseReason::NoMemory || error.workers.len() != 2 {
+        return None;
+    }
+    error.tree.close(error.workers).ok()
+}
+
+/// Opens a tree, plays on it and closes it.
+fn play_anew(alloc: Global) -> Result<(Played, Report)> {
+    let (tree, mut first, mut second, workers) = open(alloc)?;
     let key = Key::new(5).context("a key")?;
-    Ok(play(&tree, &mut first, &mut second, key))
+    let played = play(&tree, &mut first, &mut second, key);
+    let workers = both(workers, first, second)?;
+    let report = close(tree, workers).context("the report")?;
+    Ok((played, report))
 }
 
 fn main(rt: HostRuntime) -> Result<()> {
-    let played = play_anew(rt.alloc())?;
+    let (played, report) = play_anew(rt.alloc())?;
     for answer in &played.answers {
         println!(rt; "{answer:?}")?;
     }
     println!(rt; "waiting {} and {}", played.waiting.0, played.waiting.1)?;
     println!(rt; "freed {} and {}", played.freed.0, played.freed.1)?;
+    println!(rt;
+        "{} keys, {} free, {} reached",
+        report.keys.len(),
+        report.free,
+        report.reached
+    )?;
     Ok(())
 }
