@@ -12,7 +12,7 @@ use Rattle.nm_files.specs.Files.{Fails, IfLine}
 use Rattle.nm_files.proofs.LimitLemmas.{same_file, within_limit}
 use Rattle.nm_scripts.specs.declared.header.Command.{Command}
 use Rattle.nm_scripts.specs.Scripts.{Script, first_line_of, line_of, script_of}
-use Rattle.nm_serial.specs.Playing.{FailsSo, EndsSo}
+use Rattle.nm_serial.specs.Playing.{FailsSo, EndsSo, IsOfOneThread}
 use Rattle.nm_serial.specs.Stops.{IfStopped}
 use Rattle.nm_serial.specs.Texts.{IfGate, IsWritten, Writes}
 
@@ -138,3 +138,13 @@ pub text_of_script : {E : Type 0} (IsText : Script → List (List ℕ) → List 
     → IfOk r (λ v. IsWritten IsText command bytes v.items)
 text_of_script IsText command bytes s rows (Ok v) is lines text = (s, is, rw lines text)
 text_of_script IsText command bytes s rows (Err e) is lines text = tt
+
+-- ---- one thread
+
+pub alone_by_fault : (command : Command) (bytes : List ℕ) (e : RunFault) → Fails e (script_of command bytes) → IsOfOneThread e
+alone_by_fault command bytes (run.Line line reason) fails = tt
+alone_by_fault command bytes run.NoMemory fails = tt
+alone_by_fault command bytes run.Read fails = tt
+alone_by_fault command bytes run.Write fails = tt
+alone_by_fault command bytes (run.Gate worker line) fails = absurd fails
+alone_by_fault command bytes run.Thread fails = absurd fails

@@ -18,3 +18,9 @@ FailsSo command bytes run.Thread = IsOk (script_of command bytes)
 abbrev pub EndsSo : {X : Type 0} → Command → List ℕ → Result X RunFault → Type 0
 EndsSo command bytes (Ok x) = IsOk (script_of command bytes)
 EndsSo command bytes (Err e) = FailsSo command bytes e
+
+-- in one thread neither a gate nor a thread ends a run
+abbrev pub IsOfOneThread : RunFault → Type 0
+IsOfOneThread (run.Gate worker line) = ⊥
+IsOfOneThread run.Thread = ⊥
+IsOfOneThread _ = Unit {0}

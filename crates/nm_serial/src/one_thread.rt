@@ -6,7 +6,7 @@ ghost use Rattle.nm_scripts.specs.Scripts.{IsEntryOf};
 ghost use Rattle.nm_scripts.specs.Scripts as scripts;
 ghost use Rattle.nm_steps.specs.Steps.{IsOf};
 ghost use Rattle.nm_serial.specs.Crews.{AreOf, HasAsked, IsGone, PlaysAll, PlaysLine, present, stands_for};
-ghost use Rattle.nm_serial.specs.Playing.{EndsSo};
+ghost use Rattle.nm_serial.specs.Playing.{EndsSo, IsOfOneThread};
 ghost use Rattle.nm_serial.specs.Texts.{IsSerialText, IsWritten, Writes};
 
 use crate::crew::{leave, make_at};
@@ -172,6 +172,7 @@ fn text_of(alloc: Global, script: &Script<'_>) -> Result<Vec<u8>, RunFault>
 fn output(alloc: Global, bytes: &[u8]) -> Result<Vec<u8>, RunFault>
     ensures ends { EndsSo Command.Serial bytes.now result }
     ensures text { IfOk result (λ v. IsWritten IsSerialText Command.Serial bytes.now v.items) }
+    ensures alone { IfErr result IsOfOneThread }
 {
     let script = script_of(alloc, Command::Serial, bytes)?;
     text_of(alloc, &script)
@@ -196,6 +197,8 @@ pub fn serial<R: Read, W: Write>(
     ensures write { IfErr result (λ e. e ≡ RunFault.Write → IfSome (R.remaining reader.old) (λ input. IsOk (scripts.script_of Command.Serial input))) }
     // However it was judged, the input was read to its end, or to the limit.
     ensures read { HasJudged result → IfSome (R.remaining reader.old) (λ input. R.remaining reader.new ≡ Some (drop LIMIT input)) }
+    // Neither a gate nor a thread ends it.
+    ensures alone { IfErr result IsOfOneThread }
     // Nothing is written unless all was right.
     ensures unwritten { IfErr result (λ e. e ≢ RunFault.Write → writer.new ≡ writer.old) }
 {

@@ -5,8 +5,27 @@ use std::alloc::Global;
 use std::process::Abort;
 
 mod faults;
+mod many;
 mod rows;
+mod streams;
 mod threads;
+mod turns;
+
+/// A gate that lets each worker go on.
+#[derive(Clone, Copy)]
+struct Open;
+
+impl Gate for Open {
+    ghost use Rattle.std.specs.Prelude.{⊤};
+
+    ghost lets = { λ gate worker line. ⊤ };
+
+    ghost stops = { λ gate worker line. ⊥ };
+
+    fn turn(&self, _worker: u32, _line: u32) -> bool {
+        true
+    }
+}
 
 /// Plays a script in one thread, and compares all that is written.
 fn expect_output(rt: &(impl Abort + AllocGlobal), script: &str, output: &str) {
