@@ -22,7 +22,7 @@ pub record IsOpened (s : Script) (tree : Board) (workers : List Hand) : Type 0 w
   pub new : AreNew tree 0 workers
   pub all : length workers ≡ s.header.layout.workers
 
--- In one thread: the lines are played one after the other on a new tree, each by the contract of its call; each line stands with what it was
+-- Of `serial`: the lines are played one after the other on a new tree, each by the contract of its call; each line stands with what it was
 -- answered; and then come the last lines, of that tree closed by those that have not resigned
 pub record IsSerialText (s : Script) (rows : List (List ℕ)) (text : List ℕ) : Type 0 where
   pub tree : Board
@@ -35,8 +35,8 @@ pub record IsSerialText (s : Script) (rows : List (List ℕ)) (text : List ℕ) 
   pub ends : IsEnding tree (present crew) ending
   pub text_is : text ≡ lines rows answers ++ ending
 
--- In threads: each worker has played its lines on a new tree, one after the other, in a thread of its own, and none was stopped; the lines of each
--- worker stand with what they were answered, worker by worker; and then come the last lines, of that tree closed by all workers
+-- Of `stress`: each worker has played its lines on one new tree, one after the other, and none was stopped; the lines of each worker stand with what
+-- they were answered, worker by worker; and then come the last lines, of that tree closed by all workers
 pub record IsStressText (lets stops : ℕ → ℕ → Type 0) (s : Script) (rows : List (List ℕ)) (text : List ℕ) : Type 0 where
   pub tree : Board
   pub workers : List Hand
@@ -48,7 +48,7 @@ pub record IsStressText (lets stops : ℕ → ℕ → Type 0) (s : Script) (rows
   pub ends : IsEnding tree (map (λ p. p.worker) ended) ending
   pub text_is : text ≡ all_rows rows s.entries ended ++ ending
 
--- In threads, where the gate stopped workers: this one is the first of them, and it was stopped before this line; none was refused memory
+-- Of `stress`, where the gate stopped workers: this one is the first of them, and it was stopped before this line; none was refused memory
 pub record IsGateStop (lets stops : ℕ → ℕ → Type 0) (s : Script) (worker line : ℕ) : Type 0 where
   pub tree : Board
   pub workers : List Hand

@@ -1,41 +1,13 @@
 //! Many workers, each in a thread of its own, over few keys. Under `rt try --test` it needs `--seconds 600`.
 use super::*;
 use std::alloc::AllocError;
-use std::sync::atomic::{AtomicU64, Ordering};
 
 const WORKERS: u32 = 64;
 
 /// How many lines each worker has.
-const ROUNDS: u32 = 1_562;
+const ROUNDS: u32 = 1_500;
 
 const NODES: u64 = 4_096;
-
-/// Lets the workers go on with their first lines once all have asked for theirs.
-#[derive(Drop)]
-struct Together {
-    asked: AtomicU64,
-}
-
-impl Gate for Together {
-    ghost use Rattle.std.specs.Prelude.{⊤};
-
-    ghost lets = { λ gate worker line. ⊤ };
-
-    ghost stops = { λ gate worker line. ⊤ };
-
-    fn turn(&self, _worker: u32, line: u32) -> bool {
-        if WORKERS + 1 < line {
-            return true;
-        }
-        self.asked.fetch_add(1, Ordering::SeqCst);
-        for _ in 0..u64::MAX {
-            if u64::from(WORKERS) <= self.asked.load(Ordering::SeqCst) {
-                return true;
-            }
-        }
-        false
-    }
-}
 
 /// One line: in turn two inserts, three deletes, a look-up, a move of the epoch and a collection.
 fn put_call(text: &mut String, alloc: Global, worker: u32, round: u32) -> Result<(), AllocError> {
@@ -91,10 +63,7 @@ fn many_workers_end_and_add_up(rt: HostRuntime) {
     };
     let mut reader = text.as_bytes();
     let mut writer = Vec::new(rt.alloc());
-    let gate = Together {
-        asked: AtomicU64::new(0),
-    };
-    let result = stress(&rt, rt.alloc(), &mut reader, &mut writer, &gate);
+    let result = stress(&rt, rt.alloc(), &mut reader, &mut writer, &Open);
     assert!(&rt; result.is_ok());
     let (lines, places) = last_sum(writer.as_slice());
     assert_eq!(&rt; lines, u64::from(WORKERS * ROUNDS + WORKERS + 2));
