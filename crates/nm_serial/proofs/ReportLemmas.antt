@@ -1,11 +1,12 @@
 -- What is counted of each worker is told by the one that holds its queue.
-use Rattle.std.proofs.Common.{◌≡◌, ◌<◌, ◌+◌, ◌⊎◌, ℕ, zero, suc, List, [], ◌∷◌, length, slice_index_or, refl, sym, subst, inl, inr, arith}
+use Rattle.std.proofs.Common.{◌≡◌, ◌<◌, ◌+◌, ◌⊎◌, ℕ, suc, List, [], ◌∷◌, length, slice_index_or, refl, sym, subst, inl, inr, arith}
 use Rattle.nm_epoch.specs.declared.collecting.HeldQueue.{HeldQueue}
-use Rattle.nm_epoch.specs.Collecting.{NoneHas}
 use Rattle.nm_steps.specs.Steps.{Board}
 use Rattle.nm_tree.specs.declared.worker.Counts.{Counts}
-use Rattle.nm_tree.specs.Closing.{AreFrom, IsClosed, all_merged}
-use Rattle.nm_tree.specs.Workers.{Hand, HasOrigin, waiting_in}
+use Rattle.nm_tree.specs.Closing.{IsClosed, all_merged}
+use Rattle.nm_tree.specs.Workers.{Hand, HasOrigin}
+use Rattle.nm_tree.proofs.EndCounts.{from_has}
+use Rattle.nm_tree.proofs.Freeing.{not_both}
 use Rattle.nm_tree.proofs.Merging.{merged_has}
 use Rattle.nm_serial.specs.Endings.{IsCounted, IsTold, AreTold}
 
@@ -22,25 +23,11 @@ one_has o (w ∷ u ∷ ws) has = elim (merged_has o (all_merged (u ∷ ws)) w.qu
   | inr first ↦ inl first
 ]
 
--- there is a queue of each
-pub from_has : (i k : ℕ) (hs : List HeldQueue) → AreFrom i hs → k < length hs → HasOrigin (i + k) hs
-from_has i k [] from lt = absurd (omega (arith, lt))
-from_has i zero (h ∷ hs) from lt = let is = from.0 in inl (omega (arith, is))
-from_has i (suc k) (h ∷ hs) from lt =
-    let rest : HasOrigin (suc i + k) hs = from_has (suc i) k hs from.1 (omega (arith, lt)) in
-    let same : suc i + k ≡ i + suc k = omega arith in
-    inr (subst (λ n. HasOrigin n hs) same rest)
-
-not_both : (o : ℕ) (hs : List HeldQueue) → NoneHas o hs → HasOrigin o hs → ⊥
-not_both o [] none has = has
-not_both o (h ∷ hs) none (inl is) = none.0 (sym is)
-not_both o (h ∷ hs) none (inr has) = not_both o hs none.1 has
-
 -- so what is counted is told
 pub counted_is_told : (o : ℕ) (ws : List Hand) (c : Counts) → IsCounted o ws c → OneHas o ws → IsTold ws o c
 counted_is_told o [] c counted has = absurd has
 counted_is_told o (w ∷ ws) c (inl first) has = record { holder = w; among = (0, (let l : 0 < suc (length ws) = omega arith in l), refl); holds = first.0; ledger = first.1 }
-counted_is_told o (w ∷ ws) c (inr rest) (inl has) = absurd (not_both o w.queues rest.0 has)
+counted_is_told o (w ∷ ws) c (inr rest) (inl has) = absurd (not_both o w.queues has rest.0)
 counted_is_told o (w ∷ ws) c (inr rest) (inr has) =
     let told = counted_is_told o ws c rest.1 has in
     record { holder = told.holder; among = (suc told.among.0, (let lt = told.among.1 in let l : suc told.among.0 < suc (length ws) = omega (arith, lt) in l), told.among.2); holds = told.holds; ledger = told.ledger }
@@ -60,12 +47,8 @@ closed_is_told b ws queues keys free reached cs closed all counted =
     all_are_told ws 0 cs (λ k d lt.
     let below : k < b.layout.workers = omega (arith, lt, all) in
     let same = closed.all in
-    let has : HasOrigin (0 + k) queues = from_has 0 k queues closed.each (omega (arith, below, same)) in
+    let has : HasOrigin (0 + k) queues = from_has 0 queues closed.each (0 + k) (omega arith) (omega (arith, below, same)) in
     let merged : HasOrigin (0 + k) (all_merged ws) = subst (λ (hs : List HeldQueue). HasOrigin (0 + k) hs) closed.merged has in
     let zero-more : 0 + k ≡ k = omega arith in
     let counted' : IsCounted (0 + k) ws (slice_index_or cs k d) = subst (λ n. IsCounted n ws (slice_index_or cs k d)) (sym zero-more) (counted k d below) in
     counted_is_told (0 + k) ws (slice_index_or cs k d) counted' (one_has (0 + k) ws merged))
-
--- no more wait than there are nodes
-pub few_wait : (b : Board) (ws : List Hand) (queues : List HeldQueue) (keys : List ℕ) (free reached : ℕ) → IsClosed b ws queues keys free reached → waiting_in queues < b.layout.nodes + 1
-few_wait b ws queues keys free reached closed = let sum = closed.sum in omega (arith, sum)

@@ -1,5 +1,5 @@
 -- The workers of a script that one thread plays: at each number its worker, until it resigns.
-use Rattle.std.specs.Prelude.{◌≡◌, ◌≢◌, ◌⊎◌, ℕ, List, [], ◌∷◌, length, sum_by, slice_index_or, slice_set, All, Option, Some, None, IsSome, IfSome}
+use Rattle.std.specs.Prelude.{◌≡◌, ◌≢◌, ◌⊎◌, ℕ, List, [], ◌∷◌, length, slice_index_or, slice_set, All, Option, Some, None, IsSome, IfSome}
 use Rattle.nm_answers.specs.declared.answer.Answer.{Answer}
 use Rattle.nm_answers.specs.declared.answer.Answer.TheVariants as answer
 use Rattle.nm_answers.specs.declared.answer.Refusal.TheVariants as refused
@@ -27,10 +27,6 @@ present (Some w ∷ crew) = w ∷ present crew
 abbrev pub stands_for : Option Hand → ℕ
 stands_for None = 0
 stands_for (Some w) = length w.queues
-
--- each worker of the tree is one of these, or has resigned to one of them
-abbrev pub IsWhole : Board → List (Option Hand) → Type 0
-IsWhole b crew = sum_by stands_for crew ≡ b.layout.workers
 
 -- a call that is its worker's alone: a worker that has resigned makes none
 abbrev pub HasDoneAt : Board → ℕ → Call → Option Hand → Option Hand → Answer → Type 0

@@ -51,7 +51,8 @@ weight_only g (x ∷ xs) (suc u) y at none' =
     let a = none' 0 x refl (λ e. absurd (omega arith)) in
     let b = weight_only g xs u y at (λ v z is ne. none' (suc v) z is (λ e. ne (omega (arith, e)))) in omega (arith, a, b)
 
-from_has : (i : ℕ) (hs : List HeldQueue) → AreFrom i hs → (u : ℕ) → i ≤ u → u < i + length hs → HasOrigin u hs
+-- there is a queue of each
+pub from_has : (i : ℕ) (hs : List HeldQueue) → AreFrom i hs → (u : ℕ) → i ≤ u → u < i + length hs → HasOrigin u hs
 from_has i [] from u low high = absurd (omega (arith, low, high))
 from_has i (h ∷ hs) from u low high = elim (cases_lt i u) [
   | inl above ↦ inr (from_has (suc i) hs from.1 u (omega (arith, above)) (omega (arith, high)))

@@ -16,7 +16,6 @@ mod example;
 mod plays;
 mod readers;
 mod threads;
-mod totals;
 
 /// A call of a worker.
 #[derive(Clone, Copy)]

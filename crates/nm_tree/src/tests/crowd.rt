@@ -5,16 +5,13 @@ ghost use Rattle.nm_tree.specs.Closing.{AreAllOf};
 ghost use Rattle.nm_tree.specs.Plays.{IsReady};
 ghost use Rattle.nm_tree.specs.Workers.{waiting_in};
 
-use super::threads::{Score, rounds};
-use super::totals::waiting;
+use super::threads::{ROUNDS, Score, TRIES, rounds};
 use super::*;
 use crate::Report;
 use std::alloc::{AllocError, Global};
 use std::thread::{Threads, map_vec};
 
 const NODES: u32 = 2048;
-
-const TRIES: u32 = 100;
 
 /// A worker at the end of its rounds, and how many true answers it had.
 #[derive(Drop)]
@@ -80,6 +77,14 @@ fn gathered(
     Ok((workers, sum))
 }
 
+/// How many nodes wait in all queues of a report.
+fn waiting(report: &Report) -> u32 {
+    report
+        .queues
+        .iter()
+        .fold(0u32, |sum, held| sum.saturating_add(held.queue.len()))
+}
+
 /// What a tree tells at its end, all of whose workers are given.
 fn report_of(rt: &impl Abort, tree: Tree, workers: Vec<Worker>) -> Report
     requires { AreAllOf tree workers.items }
@@ -115,8 +120,13 @@ fn adds_up<R: Threads + Sync + Abort + AllocGlobal>(
 }
 
 #[test]
+fn two_workers_add_up(rt: HostRuntime) -> Result<(), Fail> {
+    adds_up(&rt, 2, ROUNDS)
+}
+
+#[test]
 fn four_workers_add_up(rt: HostRuntime) -> Result<(), Fail> {
-    adds_up(&rt, 4, 10_000)
+    adds_up(&rt, 4, ROUNDS)
 }
 
 #[test]

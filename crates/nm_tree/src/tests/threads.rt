@@ -4,11 +4,13 @@ ghost use Rattle.nm_tree.specs.Plays.{IsReady};
 use super::*;
 use std::thread::{Threads, join};
 
-const ROUNDS: u32 = 10_000;
+/// How many rounds each of two or four workers plays.
+pub(super) const ROUNDS: u32 = 10_000;
 
 const KEYS: u32 = 10;
 
-const TRIES: u32 = 100;
+/// How many tries each call has.
+pub(super) const TRIES: u32 = 100;
 
 /// How many true answers a worker had.
 #[derive(Clone, Copy, Debug, Default, PartialEq, Eq)]
