@@ -5,16 +5,16 @@ use Rattle.nm_epoch.specs.declared.collecting.Entry.{Entry}
 use Rattle.nm_print.specs.LastLines.{spaced_entries as spaced, queue as written}
 
 -- an entry of a queue, which has its label
-abbrev pub labelled : Entry → Queued
-labelled e = record { node = e.node; label = Some e.label }
+abbrev pub as_queued : Entry → Queued
+as_queued e = record { node = e.node; label = Some e.label }
 
 -- each entry after a space
 abbrev pub spaced_entries : List Entry → List ℕ
-spaced_entries es = spaced (map labelled es)
+spaced_entries es = spaced (map as_queued es)
 
 -- each entry after a space, or a dash where there is none
 abbrev pub queue : List Entry → List ℕ
-queue es = written (map labelled es)
+queue es = written (map as_queued es)
 
 -- how many nodes a worker's splices cut off, how many of them were freed, and those that wait
 unfoldable pub worker_line : ℕ → ℕ → ℕ → List Entry → List ℕ

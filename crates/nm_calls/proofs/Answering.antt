@@ -9,7 +9,7 @@ use Rattle.nm_model.specs.declared.event.Op.{Op}
 use Rattle.nm_model.specs.declared.event.Op.TheVariants.{Has, Insert, Delete}
 use Rattle.nm_model.specs.declared.knowledge.Brief.{Brief}
 use Rattle.nm_model.specs.declared.reply.Reply.TheVariants.{Labelled}
-use Rattle.nm_model.specs.declared.walks.Call.{Call}
+use Rattle.nm_model.specs.declared.arrivals.Call.{Call}
 use Rattle.nm_model.specs.Knowledge.{Knowledge}
 use Rattle.nm_model.specs.Maps.{is_number}
 use Rattle.nm_model.specs.Ordered.{ended_at, ended_beside, ended_elsewhere, has_removed, shows, shows_call}

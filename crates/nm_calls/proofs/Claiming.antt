@@ -10,7 +10,7 @@ use Rattle.nm_model.specs.declared.event.Field.TheVariants.{Birth}
 use Rattle.nm_model.specs.declared.knowledge.Draft.{Draft}
 use Rattle.nm_model.specs.declared.reply.Reply.{Reply}
 use Rattle.nm_model.specs.declared.reply.Reply.TheVariants.{Claimed, Taken, Returned, BirthIs, Filled}
-use Rattle.nm_model.specs.declared.walks.Call.{Call}
+use Rattle.nm_model.specs.declared.arrivals.Call.{Call}
 use Rattle.nm_model.specs.Knowledge.{Knowledge, unfilled, is_private, draft_of}
 use Rattle.nm_model.specs.Learning.{filled_in, look_private, look_known}
 use Rattle.nm_model.specs.Maps.{get, put, without}

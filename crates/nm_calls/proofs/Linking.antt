@@ -13,9 +13,9 @@ use Rattle.nm_model.specs.declared.event.Event.TheVariants.{Link}
 use Rattle.nm_model.specs.declared.knowledge.Draft.{Draft}
 use Rattle.nm_model.specs.declared.reply.Refused.TheVariants.{NoSlot, NotPinned, NotHeld, NotPrivate, NotReady, NotOrdered}
 use Rattle.nm_model.specs.declared.reply.Reply.TheVariants.{Linked, Lost}
-use Rattle.nm_model.specs.declared.walks.Call.{Call}
+use Rattle.nm_model.specs.declared.arrivals.Call.{Call}
 use Rattle.nm_model.specs.Knowledge.{Knowledge, knows, is_private, draft_of, knows_leaf, beside}
-use Rattle.nm_model.specs.Learning.{linked, read_edge}
+use Rattle.nm_model.specs.Learning.{linked_in, read_edge}
 use Rattle.nm_model.specs.Maps.{get, without, is_number}
 use Rattle.nm_model.specs.Ordered.{disorder, links_in_order, may_link_at, forks_over, new_leaf}
 use Rattle.nm_model.specs.Searches.{Search, idle, searched, is_by, is_side}
@@ -174,7 +174,7 @@ module _ (p q : Stand) (parent : ℕ) (side : Side) (leaf new fresh : ℕ) where
   link_won run i step =
       let k : Knowledge = knowledge p.view in
       let n : NodeId = node_linked k new in
-      let at : knowledge q.view ≡ linked k leaf new = after_step p q (Link parent side leaf new) (Linked n) step ∙ learn_linked p.view.number k parent side leaf new n in
+      let at : knowledge q.view ≡ linked_in k leaf new = after_step p q (Link parent side leaf new) (Linked n) step ∙ learn_linked p.view.number k parent side leaf new n in
       let drafts_now : (knowledge q.view).drafts ≡ without (without k.drafts new) fresh = ap (λ (x : Knowledge). x.drafts) at ∙ ap (without (without k.drafts new)) (is_fresh p parent side leaf new fresh i) in
       let order : Ascends k.drafts = drafts_ascend p.view.layout (enough p.view.layout run.fits) p.view.number p.view.log run.run.is_part in
       let later : Ascends (without k.drafts new) = ascends-without k.drafts new order in

@@ -9,8 +9,8 @@ use Rattle.nm_model.specs.declared.event.Op.{Op}
 use Rattle.nm_model.specs.declared.event.Op.TheVariants.{Has}
 use Rattle.nm_model.specs.declared.knowledge.Brief.{Brief}
 use Rattle.nm_model.specs.declared.reply.Reply.TheVariants.{Pinned, Departed}
-use Rattle.nm_model.specs.declared.walks.Arrival.{Arrival}
-use Rattle.nm_model.specs.declared.walks.Call.{Call}
+use Rattle.nm_model.specs.declared.arrivals.Arrival.{Arrival}
+use Rattle.nm_model.specs.declared.arrivals.Call.{Call}
 use Rattle.nm_model.specs.Maps.{has, is_number}
 use Rattle.nm_model.specs.Ordered.{ended_at, ended_beside, shows, shows_call}
 use Rattle.nm_model.specs.Searches.{Search}

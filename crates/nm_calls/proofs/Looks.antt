@@ -17,7 +17,7 @@ use Rattle.nm_model.specs.Knowledge.{Knowledge, knows, is_private}
 use Rattle.nm_model.specs.Ordered.{Configuration, ordered, after_in, trace_in}
 use Rattle.nm_model.specs.Runs.{State, of}
 use Rattle.nm_model.specs.Searches.{Search, idle, searched, look_for, side_of}
-use Rattle.nm_model.specs.declared.walks.Call.{Call}
+use Rattle.nm_model.specs.declared.arrivals.Call.{Call}
 use Rattle.nm_model.specs.Learning.{learn, look_known, look_private}
 use Rattle.nm_laws.proofs.Learned.{learn_look}
 use Rattle.nm_order.proofs.FactLaws.{facts_are_true}

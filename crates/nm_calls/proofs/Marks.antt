@@ -12,7 +12,7 @@ use Rattle.nm_model.specs.declared.event.Event.TheVariants.{Flag, Tag}
 use Rattle.nm_model.specs.declared.reply.Refused.TheVariants.{NoSlot, NotPinned, NotHeld, NotFrozen, NotOrdered}
 use Rattle.nm_model.specs.declared.reply.Reply.{Reply}
 use Rattle.nm_model.specs.declared.reply.Reply.TheVariants.{Flagged, Lost, Was}
-use Rattle.nm_model.specs.declared.walks.Arrival.{Arrival}
+use Rattle.nm_model.specs.declared.arrivals.Arrival.{Arrival}
 use Rattle.nm_model.specs.Knowledge.{Knowledge, knows, knows_leaf, read, is_flagged}
 use Rattle.nm_model.specs.Learning.{read_edge}
 use Rattle.nm_model.specs.Maps.{is_number}

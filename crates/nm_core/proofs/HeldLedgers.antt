@@ -9,7 +9,8 @@ use Rattle.nm_model.specs.declared.ledger.Ledger.{Ledger}
 use Rattle.nm_model.specs.Maps.{or_else}
 use Rattle.nm_model.specs.Ledgers.{held}
 use Rattle.nm_model.specs.Knowledge.{Knowledge, newcomer}
-use Rattle.nm_model.specs.Runs.{State, of, start, after, IsReachable}
+use Rattle.nm_model.specs.Runs.{State, of, start, after}
+use Rattle.nm_laws.proofs.Reaches.{IsReachable}
 use Rattle.nm_model.specs.Laws.{OneHolder}
 use Rattle.nm_model.specs.Reports.{holder, holder_from, ledger_among, ledger_of}
 use Rattle.nm_laws.proofs.Sizes.{Staffed, staffed_start, staffed_step}

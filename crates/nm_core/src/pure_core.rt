@@ -15,13 +15,13 @@ ghost use Rattle.nm_order.specs.Intervals.{KeysAscend, KeysTellTheSet};
 ghost use Rattle.nm_core.specs.Pasts.{HasHistoriesBehind, HasPast, StaysInOrder};
 ghost use Rattle.nm_core.specs.Stops.{WouldBeAllowed, played};
 
-use nm_edge::{Key, LEAST_NODES, Layout, LayoutError, MOST_NODES, MOST_WORKERS};
+use nm_edge::{Key, LEAST_NODES, MOST_NODES, MOST_WORKERS};
 use nm_machine::{Machine, Searches};
 use nm_model::event::Event;
 use nm_model::ledger::Ledger;
 use nm_model::reply::{Refused, Reply};
 use nm_model::trace::{RunError, Trace, Turn};
-use nm_model::{NewError, Places};
+use nm_model::{NewError, Places, layout_of};
 use std::alloc::{AllocError, Global};
 use std::marker::Model;
 
@@ -34,28 +34,14 @@ pub struct Core {
 
 impl Model for Core {
     ghost use Rattle.std.specs.Prelude.{option_map};
-    ghost use Rattle.nm_model.specs.Searches.{told};
+    ghost use Rattle.nm_model.specs.Rooms.{searches_of};
     ghost use Rattle.nm_model.specs.Ordered.{Configuration, IsReached};
 
     ghost Value = { Configuration };
 
-    ghost view = { λ c. record { state = c.machine; searches = option_map told c.searches } };
+    ghost view = { λ c. record { state = c.machine; searches = option_map searches_of c.searches } };
 
-    ghost invariant = { λ c. IsReached (record { state = c.machine; searches = option_map told c.searches }) };
-}
-
-fn layout_of(nodes: u32, workers: u32) -> Result<Layout, NewError>
-    ensures layout { IfOk result (λ layout. layout ≡ record { nodes = nodes; workers = workers }) }
-    ensures fits { IfOk result IsLayout }
-    ensures nodes { IsErrOf result NewError.Nodes ↔ ((nodes < LEAST_NODES) ⊎ (MOST_NODES < nodes)) }
-    ensures workers { IsErrOf result NewError.Workers ↔ ((LEAST_NODES ≤ nodes) × (nodes ≤ MOST_NODES) × ((workers < 1) ⊎ (MOST_WORKERS < workers))) }
-    ensures memory { IfErr result (λ e. e ≢ NewError.NoMemory) }
-{
-    match Layout::new(nodes, workers) {
-        Ok(layout) => Ok(layout),
-        Err(LayoutError::Nodes) => Err(NewError::Nodes),
-        Err(LayoutError::Workers) => Err(NewError::Workers),
-    }
+    ghost invariant = { λ c. IsReached (record { state = c.machine; searches = option_map searches_of c.searches }) };
 }
 
 fn opening_machine(alloc: Global, nodes: u32, workers: u32) -> Result<Machine, NewError>

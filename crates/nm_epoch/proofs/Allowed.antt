@@ -4,7 +4,7 @@ use Rattle.std.proofs.Common.{◌<◌, ◌≡◌, ◌⊎◌, ℕ, List, Bool, tr
 use Rattle.std.specs.Prelude.{Option, Some, None, IsSome, is_none, is_some, nat_le, unwrap_or, slice_index_or}
 use Rattle.nm_edge.specs.Keys.{IsKey}
 use Rattle.nm_edge.specs.Layouts.{Layout}
-use Rattle.nm_model.specs.declared.walks.Call.{Call}
+use Rattle.nm_model.specs.declared.arrivals.Call.{Call}
 use Rattle.nm_model.specs.Walks.{Entry, search_after}
 use Rattle.nm_model.specs.declared.event.Op.{Op}
 use Rattle.nm_model.specs.declared.event.Event.TheVariants.{Announce, Advance, Leave, LeaveWith, Scan, SightFor}

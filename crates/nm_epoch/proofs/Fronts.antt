@@ -10,7 +10,7 @@ use Rattle.nm_model.specs.declared.ledger.Queued.{Queued}
 use Rattle.nm_model.specs.declared.reply.Refused.TheVariants.{NoSlot, NotPrivate, NotReady, NotFront, TooYoung}
 use Rattle.nm_model.specs.declared.reply.Reply.TheVariants.{Returned, Freed}
 use Rattle.nm_model.specs.Knowledge.{Knowledge, is_private}
-use Rattle.nm_model.specs.Ledgers.{held, queue_of, front_at, front_of, entry_of, with_freed, free}
+use Rattle.nm_model.specs.Ledgers.{held, queue_of, front_at, front_of, queued_entry, with_freed, free}
 use Rattle.nm_model.specs.Maps.{or_else}
 use Rattle.nm_model.specs.Searches.{searched}
 use Rattle.nm_model.specs.Step.{refusal, outside, first, free_checks, has_no_label, is_young, node_of}
@@ -96,7 +96,7 @@ module _ (p : Stand) (o : ℕ) (x : Entry) (es : List Entry) (has : IsQueueOf (k
   found : front_of k.ledgers s ≡ Some (queued x)
   found = front_found k.ledgers o s (queued x) at_front alone
 
-  entry : entry_of k.ledgers s ≡ Some (queued x)
+  entry : queued_entry k.ledgers s ≡ Some (queued x)
   entry = entry_is_front k.ledgers s (queued x) found
 
   -- it may be freed, once it is ripe
@@ -106,8 +106,8 @@ module _ (p : Stand) (o : ℕ) (x : Entry) (es : List Entry) (has : IsQueueOf (k
     looked = tt;
     allowed = λ m h. passes_then (outside 6 p.view.layout.nodes s) NoSlot _ (let range = apart.waiting o 0 (queued x) waits in inside 6 p.view.layout.nodes s range.0 range.1)
         (ap (λ (b : Bool). first (cond b [] (free_checks k s))) (apart.shared o 0 (queued x) waits)
-        ∙ passes_then (is_none (entry_of k.ledgers s)) NotPrivate _ (ap (λ (y : Option Queued). is_none y) entry)
-        (passes_then (is_none k.brief.seen || has_no_label (entry_of k.ledgers s)) NotReady _ (neither (is_none k.brief.seen) (has_no_label (entry_of k.ledgers s)) (ap (λ (y : Option ℕ). is_none y) seen) (ap has_no_label entry))
+        ∙ passes_then (is_none (queued_entry k.ledgers s)) NotPrivate _ (ap (λ (y : Option Queued). is_none y) entry)
+        (passes_then (is_none k.brief.seen || has_no_label (queued_entry k.ledgers s)) NotReady _ (neither (is_none k.brief.seen) (has_no_label (queued_entry k.ledgers s)) (ap (λ (y : Option ℕ). is_none y) seen) (ap has_no_label entry))
         (passes_then (is_none (front_of k.ledgers s)) NotFront _ (ap (λ (y : Option Queued). is_none y) found)
         (passes (is_young (front_of k.ledgers s) k.brief.seen) TooYoung
         (ap (λ (y : Option Queued). is_young y k.brief.seen) found ∙ (ap (λ (y : Option ℕ). is_young (Some (queued x)) y) seen ∙ le-ltb epoch (x.label + 2) ripe))))));

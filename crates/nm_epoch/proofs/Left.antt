@@ -7,7 +7,7 @@ use Rattle.nm_model.specs.declared.reply.Reply.TheVariants.{Departed, Labelled}
 use Rattle.nm_model.specs.Searches.{Search, searched}
 use Rattle.nm_steps.specs.Steps.{Stand, Stepped, MayStep}
 use Rattle.nm_epoch.specs.Resting.{IsResting, IsPinnedAt, Settles, KeepsHands, epochs}
-use Rattle.nm_model.specs.declared.walks.Call.{Call}
+use Rattle.nm_model.specs.declared.arrivals.Call.{Call}
 use Rattle.nm_epoch.proofs.Allowed.{may_leave}
 use Rattle.nm_epoch.proofs.Entries.{epochs_after, search_is}
 use Rattle.nm_epoch.proofs.KeptHands.{hands_kept}

@@ -16,7 +16,7 @@ use Rattle.nm_model.specs.declared.knowledge.Seen.{Seen}
 use Rattle.nm_model.specs.declared.ledger.Queued.{Queued}
 use Rattle.nm_model.specs.Maps.{has, is_number}
 use Rattle.nm_model.specs.Memory.{note, node, edge, in_pool, named}
-use Rattle.nm_model.specs.Ledgers.{label, retire, free, front_of, entry_of}
+use Rattle.nm_model.specs.Ledgers.{label, retire, free, front_of, queued_entry}
 use Rattle.nm_model.specs.Knowledge.{Knowledge, knows, is_private}
 use Rattle.nm_model.specs.Learning.{learn, look_private, look_known}
 use Rattle.nm_model.specs.Step.{outside, first, free_checks, has_no_label, is_young, reply_sight, confirmed, reply_scan, reply_look, node_of, cut_nodes, node_linked, refusal, reply}
@@ -130,10 +130,10 @@ module _ (s : State) (w : ℕ) where
       rest = sym (ap (λ (c : Bool). first (cond c [] (free_checks (of s w) x))) out) ∙ (passed (outside 6 s.layout.nodes x) NoSlot _ ok).1
 
       c2 : Bool
-      c2 = is_none (entry_of (of s w).ledgers x)
+      c2 = is_none (queued_entry (of s w).ledgers x)
 
       c3 : Bool
-      c3 = is_none (of s w).brief.seen || has_no_label (entry_of (of s w).ledgers x)
+      c3 = is_none (of s w).brief.seen || has_no_label (queued_entry (of s w).ledgers x)
 
       c4 : Bool
       c4 = is_none (front_of (of s w).ledgers x)
@@ -154,8 +154,8 @@ module _ (s : State) (w : ℕ) where
       by None is h y = absurd (true≢false h)
       by (Some e) is h y = (e, is, go (of s w).brief.seen e.label refl refl parts.0 labelled y)
         where
-          parts : (is_none (of s w).brief.seen ≡ false) × (has_no_label (entry_of (of s w).ledgers x) ≡ false)
-          parts = or_parts (is_none (of s w).brief.seen) (has_no_label (entry_of (of s w).ledgers x)) ready
+          parts : (is_none (of s w).brief.seen ≡ false) × (has_no_label (queued_entry (of s w).ledgers x) ≡ false)
+          parts = or_parts (is_none (of s w).brief.seen) (has_no_label (queued_entry (of s w).ledgers x)) ready
 
           labelled : is_none e.label ≡ false
           labelled = sym (ap has_no_label (entry_is_front (of s w).ledgers x e is)) ∙ parts.1

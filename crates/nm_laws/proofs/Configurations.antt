@@ -10,8 +10,10 @@ use Rattle.nm_model.specs.declared.reply.Refused.{Refused}
 use Rattle.nm_model.specs.declared.trace.Turn.{Turn}
 use Rattle.nm_model.specs.Maps.{or_else}
 use Rattle.nm_model.specs.Answers.{IsAnswer}
-use Rattle.nm_model.specs.Searches.{Search, Roomy, told, idle}
-use Rattle.nm_model.specs.Runs.{State, start, refused, reply_of, applied, next, outcome, answered, unless_refused, after, trace, IsReachable}
+use Rattle.nm_model.specs.Searches.{Search, idle}
+use Rattle.nm_model.specs.Rooms.{Roomy, searches_of}
+use Rattle.nm_model.specs.Runs.{State, start, refused, reply_of, applied, next, outcome, answered, unless_refused, after, trace}
+use Rattle.nm_laws.proofs.Reaches.{IsReachable}
 use Rattle.nm_model.specs.Ordered.{Configuration, plain, ordered, opening_of, learned_from, disorder_in, refused_in, applied_in, unless_refused_in, next_in, outcome_in, after_in, trace_in, HasKey, IsReached, accepted, turn_of, IsRunOfAccepted, OrderedRunsAreRuns, PlainRunsAreRuns}
 
 -- ---- one event
@@ -209,8 +211,8 @@ pub reached_sized : (c : Configuration) → IsReached c → IsSized c
 reached_sized c r = subst IsSized r.leads (by_events IsSized sized_step r.events (opening_of c.state.layout r.is_ordered) (sized_opening c.state.layout r.is_ordered))
 
 -- as the code keeps the searches
-pub reached_roomy : (s : State) (ss : List Roomy) → IsReached (record { state = s; searches = Some (told ss) }) → length ss ≡ s.layout.workers
-reached_roomy s ss r = sym (length-map ss (λ (x : Roomy). x.tells)) ∙ reached_sized (record { state = s; searches = Some (told ss) }) r
+pub reached_roomy : (s : State) (ss : List Roomy) → IsReached (record { state = s; searches = Some (searches_of ss) }) → length ss ≡ s.layout.workers
+reached_roomy s ss r = sym (length-map ss (λ (x : Roomy). x.tells)) ∙ reached_sized (record { state = s; searches = Some (searches_of ss) }) r
 
 -- ---- an event as the code applies it
 
@@ -223,20 +225,20 @@ unfolding applied_in
 plain_ok s new w e (Ok r) is = ap alone is
 plain_ok s new w e (Err why) is = tt
 
-pub ordered_ok : (s new : State) (ss after : List Roomy) (w : ℕ) (e : Event) (result : Result Reply Refused) → OnOk result (new ≡ applied s w e) → OnOk result (told after ≡ learned_from (told ss) w e (reply_of s w e))
-    → OnOk result (record { state = new; searches = Some (told after) } ≡ applied_in (record { state = s; searches = Some (told ss) }) w e)
+pub ordered_ok : (s new : State) (ss after : List Roomy) (w : ℕ) (e : Event) (result : Result Reply Refused) → OnOk result (new ≡ applied s w e) → OnOk result (searches_of after ≡ learned_from (searches_of ss) w e (reply_of s w e))
+    → OnOk result (record { state = new; searches = Some (searches_of after) } ≡ applied_in (record { state = s; searches = Some (searches_of ss) }) w e)
 unfolding applied_in
 ordered_ok s new ss after w e (Ok r) is learned = λ i. record { state = is i; searches = Some (learned i) }
 ordered_ok s new ss after w e (Err why) is learned = tt
 
-pub ordered_err : (s new : State) (ss after : List Roomy) (result : Result Reply Refused) → OnErr result (new ≡ s) → OnErr result (told after ≡ told ss)
-    → OnErr result (◌≡◌ {A = Configuration} (record { state = new; searches = Some (told after) }) (record { state = s; searches = Some (told ss) }))
+pub ordered_err : (s new : State) (ss after : List Roomy) (result : Result Reply Refused) → OnErr result (new ≡ s) → OnErr result (searches_of after ≡ searches_of ss)
+    → OnErr result (◌≡◌ {A = Configuration} (record { state = new; searches = Some (searches_of after) }) (record { state = s; searches = Some (searches_of ss) }))
 ordered_err s new ss after (Ok r) is same = tt
 ordered_err s new ss after (Err why) is same = λ i. record { state = is i; searches = Some (same i) }
 
 -- what the code keeps of a core after an event
 abbrev as_kept : State → Option (List Roomy) → Configuration
-as_kept s o = record { state = s; searches = option_map told o }
+as_kept s o = record { state = s; searches = option_map searches_of o }
 
 module _ (s new : State) (w : ℕ) (e : Event) (result : Result Reply Refused) where
   pub plain_reached : (o : Option (List Roomy)) → o ≡ None → HasKey e → IsReached (as_kept s o) → IsAnswer (refused s w e) (reply_of s w e) result → OnOk result (new ≡ applied s w e) → OnErr result (new ≡ s) → IsReached (as_kept new o)
@@ -253,10 +255,10 @@ module _ (s new : State) (w : ℕ) (e : Event) (result : Result Reply Refused) w
   plain_ok_kept o is ok = rw is (plain_ok s new w e result ok)
 
   pub ordered_reached : (o : Option (List Roomy)) (ss after : List Roomy) → o ≡ Some ss → HasKey e → IsReached (as_kept s o) → IsAnswer (refused_in (as_kept s (Some ss)) w e) (reply_of s w e) result → OnOk result (new ≡ applied s w e)
-      → OnOk result (told after ≡ learned_from (told ss) w e (reply_of s w e)) → OnErr result (new ≡ s) → OnErr result (told after ≡ told ss) → IsReached (as_kept new (Some after))
+      → OnOk result (searches_of after ≡ learned_from (searches_of ss) w e (reply_of s w e)) → OnErr result (new ≡ s) → OnErr result (searches_of after ≡ searches_of ss) → IsReached (as_kept new (Some after))
   ordered_reached o ss after is key r answer ok learned err same = reached_answered (as_kept s (Some ss)) (as_kept new (Some after)) w e (reply_of s w e) result key (subst (λ o. IsReached (as_kept s o)) is r) answer (ordered_ok s new ss after w e result ok learned) (ordered_err s new ss after result err same)
 
-  pub ordered_ok_kept : (o : Option (List Roomy)) (ss after : List Roomy) → o ≡ Some ss → OnOk result (new ≡ applied s w e) → OnOk result (told after ≡ learned_from (told ss) w e (reply_of s w e)) → OnOk result (as_kept new (Some after) ≡ applied_in (as_kept s o) w e)
+  pub ordered_ok_kept : (o : Option (List Roomy)) (ss after : List Roomy) → o ≡ Some ss → OnOk result (new ≡ applied s w e) → OnOk result (searches_of after ≡ learned_from (searches_of ss) w e (reply_of s w e)) → OnOk result (as_kept new (Some after) ≡ applied_in (as_kept s o) w e)
   ordered_ok_kept o ss after is ok learned = rw is (ordered_ok s new ss after w e result ok learned)
 
 pub roomy_kept : (s : State) (o : Option (List Roomy)) (ss : List Roomy) → o ≡ Some ss → IsReached (as_kept s o) → length ss ≡ s.layout.workers

@@ -144,7 +144,7 @@ named_again : (m : Memory) (xs : List ℕ) → map (named m) xs ≡ map (named m
 named_again m [] = refl
 named_again m (x ∷ xs) = ap (λ (ns : List NodeId). named m x ∷ ns) (named_again m xs)
 
-pub cuts_just : OfEachState (OfEachCut CutsJust)
+pub cuts_just : OfEachState (OfEachCut (λ before successor ns after. CutsJust before ns after))
 unfolding applied write
 cuts_just L enough turns w a d x p keep ns is y =
     let s = after (start L) turns in
@@ -157,14 +157,14 @@ cuts_just L enough turns w a d x p keep ns is y =
       (λ c. rw new_memory (cut_there s l.holder l.law w a d x p keep k y (contains_among _ y c))),
     )
 
-pub cuts_go_down : OfEachState (OfEachCut GoesDown)
+pub cuts_go_down : OfEachState (OfEachCut (λ before successor ns after. GoesDown before successor ns))
 cuts_go_down L enough turns w a d x p keep ns is =
     let s = after (start L) turns in
     let won = won_splice s w a d x p keep ns is in
     let l = lawful L enough turns in
     rw (← won.nodes) (goes_down s l.holder l.law w a d x p keep (shown s l.holder l.law w a d x p keep won.ok won.won))
 
-pub cuts_name_births : OfEachState (OfEachCut NamesBirths)
+pub cuts_name_births : OfEachState (OfEachCut (λ before successor ns after. NamesBirths before ns))
 cuts_name_births L enough turns w a d x p keep ns is =
     let s = after (start L) turns in
     let won = won_splice s w a d x p keep ns is in

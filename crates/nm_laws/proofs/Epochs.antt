@@ -17,7 +17,7 @@ use Rattle.nm_model.specs.declared.reply.Reply.TheVariants.{Labelled, Pinned, Mi
 use Rattle.nm_model.specs.Maps.{is_number}
 use Rattle.nm_model.specs.Memory.{Memory, note, edge, put_edge}
 use Rattle.nm_model.specs.Knowledge.{Knowledge, newcomer}
-use Rattle.nm_model.specs.Learning.{learn, saw, labelled, pinned, moved as advanced, forgotten, look_known, look_private, resigned, inheriting}
+use Rattle.nm_model.specs.Learning.{learn, saw, labelling, pinned, moved as advanced, forgotten, look_known, look_private, resigned, inheriting}
 use Rattle.nm_model.specs.Step.{exchanged, reply_sight, confirmed, reply_scan, others_scanned, is_held_back, refusal, reply, write}
 use Rattle.nm_model.specs.Runs.{State, of, is_no_worker, join_refusal, refusal_of, applied}
 use Rattle.nm_model.proofs.Numbers.{number_is, repeated, passes_at, mark_or}
@@ -189,7 +189,7 @@ only_saw s w k inside law note pin seen scanned = stays s w s.memory k inside la
 sight : (s : State) (w : ℕ) → w < length s.workers → EpochLaw s → EpochLaw (moved s w s.memory (learn w (of s w) Sight (reply_sight (of s w) s.memory.epoch)))
 sight s w inside law =
     cond_both (of s w).brief.unlabelled (Labelled s.memory.epoch) (confirmed (of s w).brief.pin (of s w).brief.note s.memory.epoch) (λ r. EpochLaw (moved s w s.memory (learn w (of s w) Sight r)))
-    (λ _. rw (learn_labelled w (of s w) s.memory.epoch) (only_saw s w (labelled (saw (of s w) s.memory.epoch) s.memory.epoch) inside law refl refl refl refl))
+    (λ _. rw (learn_labelled w (of s w) s.memory.epoch) (only_saw s w (labelling (saw (of s w) s.memory.epoch) s.memory.epoch) inside law refl refl refl refl))
     (λ _. by (of s w).brief.pin (of s w).brief.note refl)
   where
     seen : EpochLaw (moved s w s.memory (saw (of s w) s.memory.epoch))

@@ -8,7 +8,7 @@ use Rattle.nm_edge.specs.declared.node.NodeId.{NodeId}
 use Rattle.nm_model.specs.declared.ledger.Queued.{Queued}
 use Rattle.nm_model.specs.declared.ledger.Ledger.{Ledger}
 use Rattle.nm_model.specs.Maps.{or_else}
-use Rattle.nm_model.specs.Ledgers.{held, front_at, queue_of, front_of, entry_of, with_cut, retire, labelled, label, with_freed, free, taken_over}
+use Rattle.nm_model.specs.Ledgers.{held, front_at, queue_of, front_of, queued_entry, with_cut, retire, labelled, label, with_freed, free, taken_over}
 
 -- ---- labels, cuts
 
@@ -123,7 +123,7 @@ length-free (l ∷ ls) n = by (is_some (front_at (queue_of l) n.slot)) (length-f
     by false later = ap (λ (y : ℕ). suc y) later
 
 -- a front is the entry that a give speaks of
-pub entry_is_front : (ls : List (Option Ledger)) (s : ℕ) (e : Queued) → front_of ls s ≡ Some e → entry_of ls s ≡ Some e
+pub entry_is_front : (ls : List (Option Ledger)) (s : ℕ) (e : Queued) → front_of ls s ≡ Some e → queued_entry ls s ≡ Some e
 entry_is_front ls s e h = rw h refl
 
 -- ---- the ledgers of another are taken over

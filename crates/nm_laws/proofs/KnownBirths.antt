@@ -24,7 +24,7 @@ use Rattle.nm_model.specs.Maps.{get, put, without, is_number}
 use Rattle.nm_model.specs.Memory.{Memory, blank, node, edge, in_pool, note, named, with_edge, put_node, put_edge}
 use Rattle.nm_model.specs.Ledgers.{front_of}
 use Rattle.nm_model.specs.Knowledge.{Knowledge, unread, unfilled, knows, is_private, seen_of, draft_of, read, beside}
-use Rattle.nm_model.specs.Learning.{learn, saw, pinned, met, with_read, read_edge, look_private, look_known, filled_in, linked, flag_to}
+use Rattle.nm_model.specs.Learning.{learn, saw, pinned, met, with_read, read_edge, look_private, look_known, filled_in, linked_in, flag_to}
 use Rattle.nm_model.specs.Step.{outside, is_edge, reply_sight, confirmed, reply_scan, reply_look, node_of, node_linked, cut_nodes, exchanged, filled, kept, refusal, reply, write}
 use Rattle.nm_model.specs.Runs.{State, of, start, next, refused, refusal_of, reply_of, applied, unless_refused}
 use Rattle.nm_model.specs.Laws.{OfEachState}
@@ -285,7 +285,7 @@ module _ (s : State) (h : ℕ → ℕ) (law : Lawful s h) (w : ℕ) where
     ];
   }
 
-  linked_less : (leaf new : ℕ) → NoMore (of s w) (linked (of s w) leaf new)
+  linked_less : (leaf new : ℕ) → NoMore (of s w) (linked_in (of s w) leaf new)
   linked_less leaf new = record {
     seen = λ x b is. sym (ap (λ (n : Seen). n.birth) (seen_met (of s w).known new x)) ∙ is;
     drafts = λ y. elim (ℕ_discrete y far) [

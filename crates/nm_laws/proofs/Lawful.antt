@@ -6,7 +6,8 @@ use Rattle.nm_model.specs.declared.event.Event.TheVariants.{Join}
 use Rattle.nm_model.specs.Knowledge.{Knowledge}
 use Rattle.nm_model.specs.Learning.{learn}
 use Rattle.nm_model.specs.Step.{write}
-use Rattle.nm_model.specs.Runs.{State, of, start, reply_of, applied, after, IsReachable}
+use Rattle.nm_model.specs.Runs.{State, of, start, reply_of, applied, after}
+use Rattle.nm_laws.proofs.Reaches.{IsReachable}
 use Rattle.nm_laws.proofs.Steps.{each, moved, Allowed, by_steps}
 use Rattle.nm_laws.proofs.Sizes.{staffed_step, staffed_start, roomy_step, roomy_start}
 use Rattle.nm_laws.proofs.Epochs.{epoch_step, other_worker}

@@ -13,14 +13,14 @@ use Rattle.nm_model.specs.declared.ledger.Ledger.{Ledger}
 use Rattle.nm_model.specs.Maps.{put, without, is_number}
 use Rattle.nm_model.specs.Ledgers.{free}
 use Rattle.nm_model.specs.Knowledge.{Knowledge, unfilled, is_private, draft_of}
-use Rattle.nm_model.specs.Learning.{learn, saw, labelled, pinned, departed, scanned, moved, read_edge, look_known, look_private, filled_in, linked, flag_to, cutting, inheriting, resigned}
+use Rattle.nm_model.specs.Learning.{learn, saw, labelling, pinned, departed, scanned, moved, read_edge, look_known, look_private, filled_in, linked_in, flag_to, cutting, inheriting, resigned}
 
 module _ (w : ℕ) (k : Knowledge) where
   pub learn_saw : (e : ℕ) → learn w k Sight (Saw e) ≡ saw k e
   unfolding learn
   learn_saw e = refl
 
-  pub learn_labelled : (e : ℕ) → learn w k Sight (Labelled e) ≡ labelled (saw k e) e
+  pub learn_labelled : (e : ℕ) → learn w k Sight (Labelled e) ≡ labelling (saw k e) e
   unfolding learn
   learn_labelled e = refl
 
@@ -89,7 +89,7 @@ module _ (w : ℕ) (k : Knowledge) where
   unfolding learn
   learn_filled s f v = refl
 
-  pub learn_linked : (p : ℕ) (side : Side) (leaf new : ℕ) (n : NodeId) → learn w k (Link p side leaf new) (Linked n) ≡ linked k leaf new
+  pub learn_linked : (p : ℕ) (side : Side) (leaf new : ℕ) (n : NodeId) → learn w k (Link p side leaf new) (Linked n) ≡ linked_in k leaf new
   unfolding learn
   learn_linked p side leaf new n = refl
 

@@ -21,8 +21,8 @@ use Rattle.nm_laws.proofs.Readings.{changed_or}
 use Rattle.nm_laws.proofs.Splices.{repathed, live_on_path, unmarked_not_queued}
 
 -- the slots new and far go from the worker's hands to below p
-abbrev pub linked : Picture → ℕ → ℕ → Side → ℕ → ℕ → Picture
-linked P w p d new far = record {
+abbrev pub picture_linked : Picture → ℕ → ℕ → Side → ℕ → ℕ → Picture
+picture_linked P w p d new far = record {
   edges = with_edge_at P.edges p d (to new);
   pool = P.pool;
   private = hand (hand P.private w new false) w far false;
@@ -50,7 +50,7 @@ pub record IsLink (N : ℕ) (P : Picture) (w p : ℕ) (d : Side) (leaf new far :
 
 module _ (N : ℕ) (P : Picture) (w p : ℕ) (d : Side) (leaf new far : ℕ) (dl : Side) (law : TreeLaw N P) (link : IsLink N P w p d leaf new far dl) where
   abbrev Q : Picture
-  Q = linked P w p d new far
+  Q = picture_linked P w p d new far
 
   leads_to_leaf : below P p d ≡ leaf
   leads_to_leaf = ap (λ (e : Edge). e.slot) link.unmarked

@@ -8,7 +8,7 @@ use Rattle.nm_model.specs.declared.event.Event.{Event}
 use Rattle.nm_model.specs.declared.reply.Reply.{Reply}
 use Rattle.nm_model.specs.declared.reply.Refused.{Refused}
 use Rattle.nm_model.specs.Searches.{Search, idle, searched}
-use Rattle.nm_model.specs.Walks.{Entry, entry_of, log_of, search_after}
+use Rattle.nm_model.specs.Walks.{Entry, logged_by, log_of, search_after}
 use Rattle.nm_model.specs.Runs.{reply_of}
 use Rattle.nm_model.specs.Ordered.{Configuration, ordered, search_of, learned_from, refused_in, applied_in, next_in, outcome_in, after_in, trace_in, SearchesTellTheLogs}
 use Rattle.nm_laws.proofs.Configurations.{refused_next, refused_outcome, allowed_next, allowed_outcome}
@@ -29,9 +29,9 @@ module _ (w : ℕ) where
 
   -- the log of a turn and of the turns behind it
   log_from : (c : Configuration) (t : ℕ × Event) (ts : List (ℕ × Event)) (o : Result Reply Refused) → outcome_in c t ≡ o
-      → log_of w (trace_in c (t ∷ ts)) ≡ cond (t.0 == w) (entry_of (record { worker = t.0; event = t.1; outcome = o })) [] ++ log_of w (trace_in (next_in c t) ts)
+      → log_of w (trace_in c (t ∷ ts)) ≡ cond (t.0 == w) (logged_by (record { worker = t.0; event = t.1; outcome = o })) [] ++ log_of w (trace_in (next_in c t) ts)
   unfolding trace_in
-  log_from c t ts o is = ap (λ (o : Result Reply Refused). cond (t.0 == w) (entry_of (record { worker = t.0; event = t.1; outcome = o })) [] ++ log_of w (trace_in (next_in c t) ts)) is
+  log_from c t ts o is = ap (λ (o : Result Reply Refused). cond (t.0 == w) (logged_by (record { worker = t.0; event = t.1; outcome = o })) [] ++ log_of w (trace_in (next_in c t) ts)) is
 
   nothing : (b : Bool) (log : List Entry) → cond b [] [] ++ log ≡ log
   nothing true log = refl

@@ -7,7 +7,8 @@ use Rattle.nm_model.specs.Ledgers.{held, queue_of}
 use Rattle.nm_model.specs.Places.{Place, slot_of, StandsAt, OnePlace, EachSlotInOnePlace}
 use Rattle.nm_model.specs.Laws.{OfEachState}
 use Rattle.nm_model.specs.Places.Place.{InPool, PrivateTo, OnPath, InQueue}
-use Rattle.nm_model.specs.Runs.{State, of, start, after, IsReachable}
+use Rattle.nm_model.specs.Runs.{State, of, start, after}
+use Rattle.nm_laws.proofs.Reaches.{IsReachable}
 use Rattle.nm_laws.proofs.Holders.{Holders}
 use Rattle.nm_laws.proofs.Pictures.{Spot, Stands, Once}
 use Rattle.nm_laws.proofs.Pictures.Spot.{InPool as SpotInPool, PrivateTo as SpotPrivateTo, OnPath as SpotOnPath, InQueue as SpotInQueue}

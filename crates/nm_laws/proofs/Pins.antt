@@ -8,7 +8,8 @@ use Rattle.std.specs.Prelude.{None}
 use Rattle.nm_edge.specs.Layouts.{Layout}
 use Rattle.nm_model.specs.declared.event.Event.{Event}
 use Rattle.nm_model.specs.Knowledge.{newcomer}
-use Rattle.nm_model.specs.Runs.{State, of, start, after, IsReachable}
+use Rattle.nm_model.specs.Runs.{State, of, start, after}
+use Rattle.nm_laws.proofs.Reaches.{IsReachable}
 use Rattle.nm_model.specs.Laws.{PinsAreNear, PinsStayNear}
 use Rattle.nm_model.proofs.Numbers.{repeated}
 use Rattle.nm_laws.proofs.Steps.{by_steps}

@@ -3,7 +3,8 @@ use Rattle.std.proofs.Common.{◌≡◌, ℕ, List, ◌++◌, refl, sym, ap, sub
 use Rattle.nm_edge.specs.Layouts.{Layout}
 use Rattle.nm_edge.specs.declared.node.NodeId.{NodeId}
 use Rattle.nm_model.specs.declared.event.Event.{Event}
-use Rattle.nm_model.specs.Runs.{State, start, after, trace, IsReachable}
+use Rattle.nm_model.specs.Runs.{State, start, after, trace}
+use Rattle.nm_laws.proofs.Reaches.{IsReachable}
 use Rattle.nm_model.specs.Laws.{OfEachState, RetiredGrowsByTheCuts, cuts_of}
 use Rattle.nm_laws.proofs.Steps.{by_steps}
 use Rattle.nm_laws.proofs.Reaches.{after-append}

@@ -8,7 +8,13 @@ use Rattle.nm_model.specs.declared.reply.Refused.{Refused}
 use Rattle.nm_model.specs.declared.reply.Reply.{Reply}
 use Rattle.nm_model.specs.declared.trace.Turn.{Turn}
 use Rattle.nm_model.specs.Answers.{IsAnswer}
-use Rattle.nm_model.specs.Runs.{State, start, refused, applied, unless_refused, next, outcome, after, trace, IsReachable}
+use Rattle.nm_model.specs.Runs.{State, start, refused, applied, unless_refused, next, outcome, after, trace}
+
+-- a state to which some events lead from the opening of some layout
+pub record IsReachable (s : State) : Type 0 where
+  pub fits : IsLayout s.layout
+  pub events : List (ℕ × Event)
+  pub leads : after (start s.layout) events ≡ s
 
 pub after-append : (s : State) (ts us : List (ℕ × Event)) → after s (ts ++ us) ≡ after (after s ts) us
 unfolding after

@@ -107,7 +107,7 @@ told L turns = over_runs Told keeps_told (start L) (manned_start L) turns (λ o.
 of_ledger : (L : Layout) (turns : List (ℕ × Event)) (w o : ℕ) (l : Ledger) → held (of (after (start L) turns) w).ledgers o ≡ Some l → Told o (Some l) (cuts_of o (trace (start L) turns))
 of_ledger L turns w o l is = let k = told L turns in rw (← the_ledger (after (start L) turns) k.0 w o l is) (k.1 o)
 
-pub freed_then_queue : OfEachLedger IsFreedThenQueue
+pub freed_then_queue : OfEachLedger (λ origin turns. IsFreedThenQueue)
 freed_then_queue L turns w o l is = (of_ledger L turns w o l is).balanced
 
 pub is_the_cuts : OfEachLedger IsTheCuts

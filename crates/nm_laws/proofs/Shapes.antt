@@ -19,7 +19,8 @@ use Rattle.nm_model.specs.Memory.{blank}
 use Rattle.nm_model.specs.Ledgers.{queue_of, front_at, free, with_freed, taken_over}
 use Rattle.nm_model.specs.Knowledge.{Knowledge, newcomer, is_private}
 use Rattle.nm_model.specs.Learning.{learn, learn_sight, learn_scan, look_private, look_known, forgotten}
-use Rattle.nm_model.specs.Runs.{State, of, start, is_no_worker, join_refusal, applied, IsReachable}
+use Rattle.nm_model.specs.Runs.{State, of, start, is_no_worker, join_refusal, applied}
+use Rattle.nm_laws.proofs.Reaches.{IsReachable}
 use Rattle.nm_model.specs.Answers.{IsShaped, IsRow}
 use Rattle.nm_laws.proofs.Steps.{Allowed, passed, by_steps, is_worker}
 use Rattle.nm_laws.proofs.Sizes.{written_as_long}

@@ -17,7 +17,7 @@ use Rattle.nm_model.specs.declared.reply.Refused.TheVariants.{NoSlot, NotPrivate
 use Rattle.nm_model.specs.Maps.{get, without, is_number}
 use Rattle.nm_model.specs.Memory.{Memory, node, edge, edge_of, put_node, put_edge}
 use Rattle.nm_model.specs.Knowledge.{Knowledge, is_private, draft_of, read, beside}
-use Rattle.nm_model.specs.Learning.{learn, linked as linked_in, flag_to}
+use Rattle.nm_model.specs.Learning.{learn, linked_in, flag_to}
 use Rattle.nm_model.specs.Paths.{follow, Reached}
 use Rattle.nm_model.specs.Step.{outside, is_edge, refusal, reply, write, filled as filled_node, kept, cut_nodes, node_linked}
 use Rattle.nm_model.specs.Runs.{State, of, start, after, next, outcome, refused, answered, unless_refused, applied, reply_of}

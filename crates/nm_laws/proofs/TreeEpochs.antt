@@ -14,7 +14,7 @@ use Rattle.nm_model.specs.declared.ledger.Ledger.{Ledger}
 use Rattle.nm_model.specs.Memory.{Memory}
 use Rattle.nm_model.specs.Ledgers.{held, queue_of, with_label, labelled as labelled_ledger}
 use Rattle.nm_model.specs.Knowledge.{Knowledge, unread, knows, is_private, draft_of, read, read_on}
-use Rattle.nm_model.specs.Learning.{learn, saw, labelled, pinned}
+use Rattle.nm_model.specs.Learning.{learn, saw, labelling, pinned}
 use Rattle.nm_model.specs.Places.{slot_of}
 use Rattle.nm_model.specs.Step.{reply_sight, confirmed, reply_scan}
 use Rattle.nm_model.proofs.Tables.{at_eqb}
@@ -42,8 +42,8 @@ fresh e (Some p) below (x ∷ q) zero h = go x.label refl h
 fresh e (Some p) below (x ∷ q) (suc i) h = fresh e (Some p) below q i h
 
 module _ (N : ℕ) (m : Memory) (kn : ℕ → Knowledge) (h : ℕ → ℕ) (w : ℕ) (law : TreeLaw N (view m kn h)) where
-  labels_view : (e : ℕ) → ((u p : ℕ) → (kn u).brief.pin ≡ Some p → p ≤ e) → TreeLaw N (view m (with_worker kn w (labelled (saw (kn w) e) e)) h)
-  labels_view e pins = retimed_view N m kn h w (labelled (saw (kn w) e) e) (record {
+  labels_view : (e : ℕ) → ((u p : ℕ) → (kn u).brief.pin ≡ Some p → p ≤ e) → TreeLaw N (view m (with_worker kn w (labelling (saw (kn w) e) e)) h)
+  labels_view e pins = retimed_view N m kn h w (labelling (saw (kn w) e) e) (record {
     queue = λ o i. ap (λ l. queued_at (queue_of l) i) (held-label e (kn w).ledgers o) ∙ slots (held (kn w).ledgers o) i;
     private = λ x. refl;
     knows = λ x. refl;
@@ -59,9 +59,9 @@ module _ (N : ℕ) (m : Memory) (kn : ℕ → Knowledge) (h : ℕ → ℕ) (w : 
       ripe p below None i h = h
       ripe p below (Some l) i h = fresh e p below l.queue i h
 
-      young : (u x o i : ℕ) → InReach (view m kn h) u x → (view m kn h).queue o i ≡ Some x → is_late (with_worker kn w (labelled (saw (kn w) e) e) u).brief.pin (slice_get (held_queue (with_worker kn w (labelled (saw (kn w) e) e) (h o)) o) i) ≡ false
-      young u x o i r at = ap (λ p. is_late p (slice_get (held_queue (with_worker kn w (labelled (saw (kn w) e) e) (h o)) o) i)) (sym (same_row (λ y. y.brief.pin) kn w (labelled (saw (kn w) e) e) refl u))
-          ∙ row (λ y. is_late (kn u).brief.pin (slice_get (held_queue y o) i)) kn w (labelled (saw (kn w) e) e) (h o) false
+      young : (u x o i : ℕ) → InReach (view m kn h) u x → (view m kn h).queue o i ≡ Some x → is_late (with_worker kn w (labelling (saw (kn w) e) e) u).brief.pin (slice_get (held_queue (with_worker kn w (labelling (saw (kn w) e) e) (h o)) o) i) ≡ false
+      young u x o i r at = ap (λ p. is_late p (slice_get (held_queue (with_worker kn w (labelling (saw (kn w) e) e) (h o)) o) i)) (sym (same_row (λ y. y.brief.pin) kn w (labelling (saw (kn w) e) e) refl u))
+          ∙ row (λ y. is_late (kn u).brief.pin (slice_get (held_queue y o) i)) kn w (labelling (saw (kn w) e) e) (h o) false
           (λ own. ap (λ l. is_late (kn u).brief.pin (slice_get (queue_of l) i)) (held-label e (kn w).ledgers o)
           ∙ ripe (kn u).brief.pin (pins u) (held (kn w).ledgers o) i (ap (λ (y : ℕ). is_late (kn u).brief.pin (slice_get (held_queue (kn y) o) i)) (sym own) ∙ law.unlate u x o i r at))
           (λ _. law.unlate u x o i r at)

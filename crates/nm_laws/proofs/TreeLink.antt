@@ -13,14 +13,14 @@ use Rattle.nm_model.specs.declared.knowledge.Seen.{Seen}
 use Rattle.nm_model.specs.Maps.{get, without, has, is_number}
 use Rattle.nm_model.specs.Memory.{Memory, edge, put_edge}
 use Rattle.nm_model.specs.Knowledge.{Knowledge, unfilled, knows, is_private, draft_of, read, read_on, knows_leaf, beside}
-use Rattle.nm_model.specs.Learning.{learn, linked as linked_in}
+use Rattle.nm_model.specs.Learning.{learn, linked_in}
 use Rattle.nm_model.specs.Step.{exchanged, is_fork_over, is_linkable, is_leaf_draft}
 use Rattle.nm_model.proofs.Numbers.{number_is}
 use Rattle.nm_model.proofs.Tables.{get-without, Ascends, ascends-without}
 use Rattle.nm_laws.proofs.Learned.{learn_linked, learn_link_lost}
 use Rattle.nm_laws.proofs.Pictures.{InReach, TreeLaw}
 use Rattle.nm_laws.proofs.Slots.{hand, hand-others, with_edge-same}
-use Rattle.nm_laws.proofs.Links.{linked, IsLink, link_keeps}
+use Rattle.nm_laws.proofs.Links.{picture_linked, IsLink, link_keeps}
 use Rattle.nm_laws.proofs.Views.{view, law_of, with_worker, row, same_row, late_rows, queue_rows, learn_view, edge_put, held_queue, drafted_on, seen_met, has_met, has_met_there}
 use Rattle.nm_laws.proofs.TreeSlots.{is_to-true, leaf_known, known_live, lost_view}
 
@@ -164,7 +164,7 @@ link_won N m kn hold w p d leaf new n inside known l shown keys law = subst (λ 
             by false false g = ap (λ (v : ℕ). drafted_on (draft_of (kn v) x) g) (sym e)
 
     first : TreeLaw N (view (put_edge m p d (to new)) kn1 hold)
-    first = law_of N (linked (view m kn hold) w p d new l.far) (view (put_edge m p d (to new)) kn1 hold) (link_keeps N (view m kn hold) w p d leaf new l.far l.side law shown) (record {
+    first = law_of N (picture_linked (view m kn hold) w p d new l.far) (view (put_edge m p d (to new)) kn1 hold) (link_keeps N (view m kn hold) w p d leaf new l.far l.side law shown) (record {
       edges = λ x g. sym (edge_put m p d (to new) inside x g);
       pool = λ x. refl;
       private = λ u x. sym (row (λ y. is_private y x) kn w k1 u (hand (hand (λ v. is_private (kn v)) w new false) w l.far false u x) (λ e. gone u x e)

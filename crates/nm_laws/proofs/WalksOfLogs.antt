@@ -13,8 +13,8 @@ use Rattle.nm_model.specs.declared.event.Event.{Event}
 use Rattle.nm_model.specs.declared.event.Event.TheVariants.{Sight, SightFor, Leave, LeaveWith, Look, Link, Flag, Splice}
 use Rattle.nm_model.specs.declared.reply.Reply.{Reply}
 use Rattle.nm_model.specs.declared.reply.Reply.TheVariants.{Pinned, Departed, KeyIs, EdgeIs, Linked, Flagged, Cut}
-use Rattle.nm_model.specs.declared.walks.Call.{Call}
-use Rattle.nm_model.specs.declared.walks.Arrival.{Arrival}
+use Rattle.nm_model.specs.declared.arrivals.Call.{Call}
+use Rattle.nm_model.specs.declared.arrivals.Arrival.{Arrival}
 use Rattle.nm_model.specs.Searches.{Search, idle, side_of, is_side, turns, is_by, goes_on, is_first, new_arrival, with_arrival, keyed, ended, walk_edge, walked, look_for, searched}
 use Rattle.nm_model.specs.Walks.{Entry, IsPart, WalkComes, WalkReads, IsOfWalk, search_after, begins_anew, since_pin, ArrivalsAreWalks}
 use Rattle.nm_model.specs.Walks.IsPart.{nothing, takes, skips}

@@ -25,9 +25,9 @@ pub fn each_slot_has_one_place()
 /// ancestor's edge becomes the edge that the parent keeps, with its flag and without its tag, and no other edge changes.
 /// (The cleanup of Natarajan and Mittal.)
 pub fn splices_cut_their_nodes()
-    ensures exactly { OfEachState (OfEachCut CutsJust) }
-    ensures downwards { OfEachState (OfEachCut GoesDown) }
-    ensures births { OfEachState (OfEachCut NamesBirths) }
+    ensures exactly { OfEachState (OfEachCut (λ before successor ns after. CutsJust before ns after)) }
+    ensures downwards { OfEachState (OfEachCut (λ before successor ns after. GoesDown before successor ns)) }
+    ensures births { OfEachState (OfEachCut (λ before successor ns after. NamesBirths before ns)) }
     ensures kept { OfEachState EachSpliceKeepsTheEdge }
 {}
 
@@ -45,7 +45,7 @@ pub fn each_ledger_has_one_holder()
 /// The ledger is the cuts, whoever holds it: what was retired is what was freed and then the queue, in this order,
 /// and it is the nodes of the replies of the splices that the origin won, in cut order, since the opening and from any state on.
 pub fn ledgers_are_the_cuts()
-    ensures split { OfEachLedger IsFreedThenQueue }
+    ensures split { OfEachLedger (λ origin turns. IsFreedThenQueue) }
     ensures replies { OfEachLedger IsTheCuts }
     ensures whole { OfEachLedger FreedThenQueueAreTheCuts }
     ensures growing { OfEachState RetiredGrowsByTheCuts }

@@ -6,7 +6,7 @@ ghost use Rattle.nm_model.specs.declared.reply.Reply.TheVariants.{BirthIs};
 ghost use Rattle.nm_model.specs.Maps.{put, without, is_number};
 ghost use Rattle.nm_model.specs.Ledgers.{held, front_of, free};
 ghost use Rattle.nm_model.specs.Knowledge.{newcomer, unfilled, knows, is_private, seen_of, draft_of, beside, read, is_null, is_flagged, is_tagged, knows_leaf};
-ghost use Rattle.nm_model.specs.Learning.{saw, labelled, pinned, rooted, moved, learn_sight, learn_scan, looked, met, read_edge, linked, cutting, inheriting, resigned};
+ghost use Rattle.nm_model.specs.Learning.{saw, labelling, pinned, rooted, moved, learn_sight, learn_scan, looked, met, read_edge, linked_in, cutting, inheriting, resigned};
 ghost use Rattle.nm_model.specs.Reports.{in_queues};
 ghost use Rattle.nm_model.specs.Ordered.{new_leaf};
 ghost use Rattle.nm_model.specs.Step.{reply_sight, reply_scan, reply_look, others_scanned, node_of, node_linked, is_leaf_draft, is_linkable, first, free_checks};
@@ -136,7 +136,7 @@ impl Worker {
 
     // Its cuts have this label.
     fn label(&mut self, epoch: u64)
-        ensures { self.new ≡ labelled self.old epoch }
+        ensures { self.new ≡ labelling self.old epoch }
     {
         self.ledgers.label(epoch);
         self.brief.unlabelled = false;
@@ -399,7 +399,7 @@ impl Worker {
     /// A private slot was put into the tree, over this leaf and the private leaf beside it. Answers the new node.
     pub fn link(&mut self, leaf: u32, new: u32) -> Result<NodeId, AllocError>
         ensures node { IfOk result (λ node. node ≡ node_linked self.old new) }
-        ensures ok { OnOk result (self.new ≡ linked self.old leaf new) }
+        ensures ok { OnOk result (self.new ≡ linked_in self.old leaf new) }
         ensures err { OnErr result (self.new ≡ self.old) }
     {
         let node = self.node_drafted(new);

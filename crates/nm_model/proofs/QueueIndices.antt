@@ -9,7 +9,8 @@ use Rattle.nm_edge.specs.declared.node.NodeId.{NodeId}
 use Rattle.nm_model.specs.declared.ledger.Queued.{Queued}
 use Rattle.nm_model.specs.declared.indices.Indices.{Indices}
 use Rattle.nm_model.specs.Maps.{get, put}
-use Rattle.nm_model.specs.Queues.{front_at, entry_at, with_label, with_index, is_at_least, IsCovered, Covers, IsQueue}
+use Rattle.nm_model.specs.Queues.{front_at, entry_at, with_label}
+use Rattle.nm_model.specs.Indexing.{with_index, is_at_least, IsCovered, Covers, IsQueue}
 use Rattle.nm_model.proofs.Tables.{get-put}
 
 -- ---- what keeps the indices right

@@ -5,7 +5,8 @@ use Rattle.std.proofs.Math.Seq.{take-length}
 use Rattle.nm_edge.specs.declared.node.NodeId.{NodeId}
 use Rattle.nm_model.specs.declared.ledger.Queued.{Queued}
 use Rattle.nm_model.specs.declared.indices.Indices.{Indices}
-use Rattle.nm_model.specs.Queues.{with_label, Covers, IsQueue}
+use Rattle.nm_model.specs.Queues.{with_label}
+use Rattle.nm_model.specs.Indexing.{Covers, IsQueue}
 use Rattle.nm_model.proofs.QueueIndices.{covers_labelled}
 
 label_stays : (a b : ℕ) (node : NodeId) (label : Option ℕ) → let x : Queued = record { node = node; label = label } in with_label a (with_label b x) ≡ with_label b x

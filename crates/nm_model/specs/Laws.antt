@@ -46,9 +46,9 @@ PinsStayNear = (L : Layout) (turns : List (ℕ × Event)) → PinsAreNear (after
 abbrev pub slots_of : List NodeId → List ℕ
 slots_of ns = map (λ n. n.slot) ns
 
--- a splice cuts just the nodes of its reply, by the paths before and after it
-abbrev pub CutsJust : State → ℕ → List NodeId → State → Type 0
-CutsJust before successor ns after = (x : ℕ) → IsCut before.memory after.memory x ↔ Contains (slots_of ns) x
+-- from one state to the next, just these nodes were cut off, by the paths before and after
+abbrev pub CutsJust : State → List NodeId → State → Type 0
+CutsJust before ns after = (x : ℕ) → IsCut before.memory after.memory x ↔ Contains (slots_of ns) x
 
 -- from a slot downwards: each internal node and then its flagged leaf, and on by its tagged edge
 abbrev pub IsFrozenChain : Memory → ℕ → List ℕ → Type 0
@@ -56,12 +56,12 @@ IsFrozenChain m s [] = Unit {0}
 IsFrozenChain m s (x ∷ []) = ⊥
 IsFrozenChain m s (x ∷ leaf ∷ rest) = (x ≡ s) × (side : Side) × ((edge m s (other side)).flag ≡ true) × (child m s (other side) ≡ leaf) × ((edge m s side).tag ≡ true) × IsFrozenChain m (child m s side) rest
 
-abbrev pub GoesDown : State → ℕ → List NodeId → State → Type 0
-GoesDown before successor ns after = IsFrozenChain before.memory successor (slots_of ns)
+abbrev pub GoesDown : State → ℕ → List NodeId → Type 0
+GoesDown before successor ns = IsFrozenChain before.memory successor (slots_of ns)
 
--- each node of the reply has the birth that stands in its slot
-abbrev pub NamesBirths : State → ℕ → List NodeId → State → Type 0
-NamesBirths before successor ns after = ns ≡ map (named before.memory) (slots_of ns)
+-- each node has the birth that stands in its slot
+abbrev pub NamesBirths : State → List NodeId → Type 0
+NamesBirths before ns = ns ≡ map (named before.memory) (slots_of ns)
 
 -- of every splice that is won in a state: that state, its successor, the nodes of its reply and the state after it
 abbrev pub OfEachCut : (State → ℕ → List NodeId → State → Type 0) → State → Type 0
@@ -91,16 +91,16 @@ abbrev pub EachLedgerHasOneHolder : Type 0
 EachLedgerHasOneHolder = (L : Layout) (turns : List (ℕ × Event)) (origin : ℕ) → origin < L.workers → OneHolder (after (start L) turns) origin
 
 -- in every run, of the ledger of every origin, whoever holds it then
-abbrev pub OfEachLedger : (State → ℕ → Ledger → List Turn → Type 0) → Type 0
+abbrev pub OfEachLedger : (ℕ → List Turn → Ledger → Type 0) → Type 0
 OfEachLedger P = (L : Layout) (turns : List (ℕ × Event)) (w origin : ℕ) (l : Ledger)
-    → held (of (after (start L) turns) w).ledgers origin ≡ Some l → P (after (start L) turns) origin l (trace (start L) turns)
+    → held (of (after (start L) turns) w).ledgers origin ≡ Some l → P origin (trace (start L) turns) l
 
 abbrev pub node_in : Queued → NodeId
 node_in e = e.node
 
 -- what was retired is what was freed and then what waits, in this order
-abbrev pub IsFreedThenQueue : State → ℕ → Ledger → List Turn → Type 0
-IsFreedThenQueue s origin l turns = l.retired ≡ l.freed ++ map node_in l.queue
+abbrev pub IsFreedThenQueue : Ledger → Type 0
+IsFreedThenQueue l = l.retired ≡ l.freed ++ map node_in l.queue
 
 -- the nodes that an outcome says were cut
 abbrev pub nodes_cut_of : Result Reply Refused → List NodeId
@@ -113,12 +113,12 @@ cuts_of w [] = []
 cuts_of w (t ∷ ts) = (if t.worker == w then nodes_cut_of t.outcome else []) ++ cuts_of w ts
 
 -- what was retired are the nodes that the origin's splices cut, in this order
-abbrev pub IsTheCuts : State → ℕ → Ledger → List Turn → Type 0
-IsTheCuts s origin l turns = l.retired ≡ cuts_of origin turns
+abbrev pub IsTheCuts : ℕ → List Turn → Ledger → Type 0
+IsTheCuts origin turns l = l.retired ≡ cuts_of origin turns
 
 -- so its freed nodes and then its queue are the nodes that its splices cut, in cut order
-abbrev pub FreedThenQueueAreTheCuts : State → ℕ → Ledger → List Turn → Type 0
-FreedThenQueueAreTheCuts s origin l turns = l.freed ++ map node_in l.queue ≡ cuts_of origin turns
+abbrev pub FreedThenQueueAreTheCuts : ℕ → List Turn → Ledger → Type 0
+FreedThenQueueAreTheCuts origin turns l = l.freed ++ map node_in l.queue ≡ cuts_of origin turns
 
 -- the node that an outcome says was freed
 abbrev pub nodes_freed_of : Result Reply Refused → List NodeId
@@ -142,17 +142,17 @@ abbrev pub frees_of : ℕ → List Turn → List NodeId
 frees_of w turns = freed_among (cuts_of w turns) turns
 
 -- in every run, of every ledger, where there are nodes for the fixed part of the tree
-abbrev pub OfEachLedgerOfATree : (State → ℕ → Ledger → List Turn → Type 0) → Type 0
+abbrev pub OfEachLedgerOfATree : (ℕ → List Turn → Ledger → Type 0) → Type 0
 OfEachLedgerOfATree P = (L : Layout) → 5 ≤ L.nodes → (turns : List (ℕ × Event)) (w origin : ℕ) (l : Ledger)
-    → held (of (after (start L) turns) w).ledgers origin ≡ Some l → P (after (start L) turns) origin l (trace (start L) turns)
+    → held (of (after (start L) turns) w).ledgers origin ≡ Some l → P origin (trace (start L) turns) l
 
 -- what was freed are the nodes that gives freed of those that the origin's splices cut, in this order
-abbrev pub IsTheFrees : State → ℕ → Ledger → List Turn → Type 0
-IsTheFrees s origin l turns = l.freed ≡ frees_of origin turns
+abbrev pub IsTheFrees : ℕ → List Turn → Ledger → Type 0
+IsTheFrees origin turns l = l.freed ≡ frees_of origin turns
 
 -- so what was freed and then what waits, by the turns: a node leaves a queue by such a give alone
-abbrev pub FreesThenQueueAreTheCuts : State → ℕ → Ledger → List Turn → Type 0
-FreesThenQueueAreTheCuts s origin l turns = frees_of origin turns ++ map node_in l.queue ≡ cuts_of origin turns
+abbrev pub FreesThenQueueAreTheCuts : ℕ → List Turn → Ledger → Type 0
+FreesThenQueueAreTheCuts origin turns l = frees_of origin turns ++ map node_in l.queue ≡ cuts_of origin turns
 
 -- a node is freed from the front of a queue that the worker holds, and is the next that was freed there
 pub record FreesAFront (s : State) (turn : ℕ × Event) (n : NodeId) : Type 0 where
@@ -174,10 +174,14 @@ abbrev pub NoNodeTwice : State → Type 0
 NoNodeTwice s = (w v origin other i j : ℕ) (l m : Ledger) (n : NodeId) → held (of s w).ledgers origin ≡ Some l → held (of s v).ledgers other ≡ Some m
     → slice_get l.retired i ≡ Some n → slice_get m.retired j ≡ Some n → (origin ≡ other) × (i ≡ j)
 
--- over a run, what an origin's ledger retired grows by the nodes that its splices cut in that run, whoever holds it
+-- what an origin's ledger retired grew by the nodes that its splices cut in these turns
+abbrev pub GrewByTheCuts : ℕ → List Turn → Ledger → Ledger → Type 0
+GrewByTheCuts origin turns before after = after.retired ≡ before.retired ++ cuts_of origin turns
+
+-- so over each run, whoever holds it
 abbrev pub RetiredGrowsByTheCuts : State → Type 0
 RetiredGrowsByTheCuts s = (turns : List (ℕ × Event)) (w v origin : ℕ) (l m : Ledger) → held (of s w).ledgers origin ≡ Some l → held (of (after s turns) v).ledgers origin ≡ Some m
-    → m.retired ≡ l.retired ++ cuts_of origin (trace s turns)
+    → GrewByTheCuts origin (trace s turns) l m
 
 -- ---- grace
 

@@ -25,8 +25,8 @@ forgotten marks = replicate (length marks) false
 abbrev pub saw : Knowledge → ℕ → Knowledge
 saw k e = record k { brief = record k.brief { seen = Some e }; scanned = if is_number k.brief.seen e then k.scanned else forgotten k.scanned }
 
-abbrev pub labelled : Knowledge → ℕ → Knowledge
-labelled k e = record k { brief = record k.brief { unlabelled = false }; ledgers = label e k.ledgers }
+abbrev pub labelling : Knowledge → ℕ → Knowledge
+labelling k e = record k { brief = record k.brief { unlabelled = false }; ledgers = label e k.ledgers }
 
 -- slots 1 and 2 are known
 abbrev pub rooted : List (ℕ × Seen)
@@ -37,7 +37,7 @@ pinned k e = record k { brief = record k.brief { pin = Some e }; known = rooted 
 
 abbrev pub learn_sight : Knowledge → Reply → Knowledge
 learn_sight k (Saw e) = saw k e
-learn_sight k (Labelled e) = labelled (saw k e) e
+learn_sight k (Labelled e) = labelling (saw k e) e
 learn_sight k (Pinned e) = pinned (saw k e) e
 learn_sight k (Missed e) = saw k e
 learn_sight k _ = k
@@ -90,8 +90,8 @@ filled_in d (EdgeOn Right) v = record d { right = Some v }
 filled_in d Birth v = record d { looked = None; birth = Some v }
 
 -- the new node and the new leaf are private no longer
-abbrev pub linked : Knowledge → ℕ → ℕ → Knowledge
-linked k leaf new = record k {
+abbrev pub linked_in : Knowledge → ℕ → ℕ → Knowledge
+linked_in k leaf new = record k {
   known = met k.known new;
   drafts = without (without k.drafts new) (unwrap_or (beside (draft_of k new) leaf) 0);
 }
@@ -126,7 +126,7 @@ learn w k (Give s) (Returned t) = record k { drafts = without k.drafts s }
 learn w k (Give s) (Freed n) = record k { ledgers = free k.ledgers n }
 learn w k (Look s f) r = looked k s f r
 learn w k (Fill s f v) Filled = record k { drafts = put k.drafts s (filled_in (draft_of k s) f v) }
-learn w k (Link p side leaf new) (Linked n) = linked k leaf new
+learn w k (Link p side leaf new) (Linked n) = linked_in k leaf new
 learn w k (Link p side leaf new) (Lost e) = read_edge k p side e
 learn w k (Flag p side leaf) (Flagged n) = read_edge k p side (flag_to leaf)
 learn w k (Flag p side leaf) (Lost e) = read_edge k p side e

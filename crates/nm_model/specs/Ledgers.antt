@@ -29,8 +29,8 @@ first_of [] s = None
 first_of (l ∷ ls) s = or_else (entry_at (queue_of l) s) (first_of ls s)
 
 -- the entry of a slot: a front, where there is one
-abbrev pub entry_of : List (Option Ledger) → ℕ → Option Queued
-entry_of ls s = or_else (front_of ls s) (first_of ls s)
+abbrev pub queued_entry : List (Option Ledger) → ℕ → Option Queued
+queued_entry ls s = or_else (front_of ls s) (first_of ls s)
 
 -- nodes that were cut enter the queue without a label
 abbrev pub with_cut : List NodeId → Ledger → Ledger

@@ -1,6 +1,7 @@
 pub mod Maps
 pub mod Memory
 pub mod Queues
+pub mod Indexing
 pub mod Ledgers
 pub mod Knowledge
 pub mod Learning
@@ -9,6 +10,7 @@ pub mod Runs
 pub mod Searches
 pub mod Walks
 pub mod Ordered
+pub mod Rooms
 pub mod Answers
 pub mod Paths
 pub mod Reports

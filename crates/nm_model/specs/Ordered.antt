@@ -14,14 +14,14 @@ use Rattle.nm_model.specs.declared.reply.Refused.{Refused}
 use Rattle.nm_model.specs.declared.reply.Refused.TheVariants.{NotOrdered, NoAnswer}
 use Rattle.nm_model.specs.declared.trace.Turn.{Turn}
 use Rattle.nm_model.specs.declared.knowledge.Draft.{Draft}
-use Rattle.nm_model.specs.declared.walks.Call.{Call}
-use Rattle.nm_model.specs.declared.walks.Arrival.{Arrival}
+use Rattle.nm_model.specs.declared.arrivals.Call.{Call}
+use Rattle.nm_model.specs.declared.arrivals.Arrival.{Arrival}
 use Rattle.nm_model.specs.Maps.{is_number, or_else}
 use Rattle.nm_model.specs.Knowledge.{Knowledge, draft_of, beside}
 use Rattle.nm_model.specs.Step.{first, ◌refuses◌}
 use Rattle.nm_model.specs.Runs.{State, of, start, refusal_of, refused, reply_of, applied, answered, after, trace}
 use Rattle.nm_model.specs.Walks.{log_of, search_after}
-use Rattle.nm_model.specs.Searches.{Search, Roomy, told, idle, searched, is_by}
+use Rattle.nm_model.specs.Searches.{Search, idle, searched, is_by}
 
 -- ---- what the log shows
 
@@ -134,10 +134,6 @@ disorder_in c w e = disorder_among c.searches (of c.state w) w e
 -- the least refusal that holds, if one does: a plain core's first
 unfoldable pub refused_in : Configuration → ℕ → Event → Option Refused
 refused_in c w e = or_else (refused c.state w e) (disorder_in c w e)
-
--- as the code keeps an ordered core
-abbrev pub in_order : State → List Roomy → Configuration
-in_order s ss = record { state = s; searches = Some (told ss) }
 
 abbrev pub learned_from : List Search → ℕ → Event → Reply → List Search
 learned_from ss w e r = slice_set ss w (searched (search_of ss w) e r)

@@ -1,7 +1,7 @@
 -- States, and runs of events from one state to another.
 use Rattle.std.specs.Prelude.{◌≡◌, ℕ, ◌==◌, nat_le, Bool, ◌||◌, not, List, [], ◌∷◌, map, length, if◌then◌else◌, slice_index_or, slice_set, Option, Some, None, Result, Ok, Err}
 use Rattle.std.specs.List.{range_with_len}
-use Rattle.nm_edge.specs.Layouts.{Layout, IsLayout}
+use Rattle.nm_edge.specs.Layouts.{Layout}
 use Rattle.nm_model.specs.declared.event.Event.{Event}
 use Rattle.nm_model.specs.declared.event.Event.TheVariants.{Join}
 use Rattle.nm_model.specs.declared.reply.Reply.{Reply}
@@ -89,9 +89,3 @@ after s (t ∷ ts) = after (next s t) ts
 unfoldable pub trace : State → List (ℕ × Event) → List Turn
 trace s [] = []
 trace s (t ∷ ts) = record { worker = t.0; event = t.1; outcome = outcome s t } ∷ trace (next s t) ts
-
--- a state to which some events lead from the opening of some layout
-pub record IsReachable (s : State) : Type 0 where
-  pub fits : IsLayout s.layout
-  pub events : List (ℕ × Event)
-  pub leads : after (start s.layout) events ≡ s

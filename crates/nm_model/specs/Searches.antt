@@ -1,5 +1,5 @@
 -- What one worker's log tells of the operation of its pin: the walks for its key, and what it changed.
-use Rattle.std.specs.Prelude.{ℕ, ◌==◌, nat_lt, ◌<◌, length, slice_index_or, Bool, true, false, ◌&&◌, ◌||◌, List, [], ◌∷◌, ◌++◌, map, if◌then◌else◌, Option, Some, None, is_none}
+use Rattle.std.specs.Prelude.{ℕ, ◌==◌, nat_lt, Bool, true, false, ◌&&◌, ◌||◌, List, [], ◌∷◌, ◌++◌, map, if◌then◌else◌, Option, Some, None, is_none}
 use Rattle.std.specs.List.{list_any}
 use Rattle.nm_edge.specs.declared.edge.Side.{Side}
 use Rattle.nm_edge.specs.declared.edge.Side.TheVariants.{Left, Right}
@@ -10,8 +10,8 @@ use Rattle.nm_model.specs.declared.event.Event.{Event}
 use Rattle.nm_model.specs.declared.event.Event.TheVariants.{Sight, SightFor, Leave, LeaveWith, Look, Link, Flag, Splice}
 use Rattle.nm_model.specs.declared.reply.Reply.{Reply}
 use Rattle.nm_model.specs.declared.reply.Reply.TheVariants.{Pinned, Departed, KeyIs, EdgeIs, Linked, Flagged, Cut}
-use Rattle.nm_model.specs.declared.walks.Call.{Call}
-use Rattle.nm_model.specs.declared.walks.Arrival.{Arrival}
+use Rattle.nm_model.specs.declared.arrivals.Call.{Call}
+use Rattle.nm_model.specs.declared.arrivals.Arrival.{Arrival}
 
 -- ---- walks
 
@@ -105,28 +105,6 @@ later_walked (Some n) k ws slot field r = walked k ws slot field r
 abbrev pub look_for : Search → Option Call → ℕ → Field → Reply → Search
 look_for s None slot field r = s
 look_for s (Some c) slot field r = record s { walks = walked c.key s.walks slot field r; later = later_walked s.flagged c.key s.later slot field r }
-
--- a search as the code keeps it: with how many arrivals its two lists have room for
-pub record Roomy : Type 0 where
-  pub tells : Search
-  pub room : ℕ
-  pub later_room : ℕ
-
-abbrev pub told : List Roomy → List Search
-told ss = map (λ s. s.tells) ss
-
-abbrev pub roomy_of : List Roomy → ℕ → Roomy
-roomy_of ss w = slice_index_or ss w (record { tells = idle; room = 0; later_room = 0 })
-
--- one more arrival fits into each list
-pub record HasRoom (s : Roomy) : Type 0 where
-  pub walks : length s.tells.walks < s.room
-  pub later : length s.tells.later < s.later_room
-
--- only a look takes room
-abbrev pub HasRoomFor : Event → Roomy → Type 0
-HasRoomFor (Look slot field) s = HasRoom s
-HasRoomFor e s = Unit {0}
 
 -- the flagged leaf is one of these nodes
 abbrev pub is_flagged_in : Option NodeId → List NodeId → Bool

@@ -18,7 +18,7 @@ use Rattle.nm_model.specs.declared.ledger.Queued.{Queued}
 use Rattle.nm_model.specs.declared.knowledge.Draft.{Draft}
 use Rattle.nm_model.specs.Maps.{is_number}
 use Rattle.nm_model.specs.Memory.{Memory, node, edge, edge_of, note, in_pool, named, put_node, put_edge, with_edge}
-use Rattle.nm_model.specs.Ledgers.{front_of, entry_of}
+use Rattle.nm_model.specs.Ledgers.{front_of, queued_entry}
 use Rattle.nm_model.specs.Knowledge.{Knowledge, knows, is_private, draft_of, read, is_flagged, is_tagged, knows_leaf, way, cut_by, beside}
 use Rattle.nm_model.specs.Learning.{flag_to}
 
@@ -95,8 +95,8 @@ is_frozen L k s p keep = is_some (way L.nodes k s p) && (is_tagged (read k p kee
 -- what a slot that is not private must be to be given back
 abbrev pub free_checks : Knowledge → ℕ → List Check
 free_checks k s =
-    is_none (entry_of k.ledgers s) refuses NotPrivate
-    ∷ (is_none k.brief.seen || has_no_label (entry_of k.ledgers s)) refuses NotReady
+    is_none (queued_entry k.ledgers s) refuses NotPrivate
+    ∷ (is_none k.brief.seen || has_no_label (queued_entry k.ledgers s)) refuses NotReady
     ∷ is_none (front_of k.ledgers s) refuses NotFront
     ∷ is_young (front_of k.ledgers s) k.brief.seen refuses TooYoung ∷ []
 
@@ -143,6 +143,7 @@ refusal L m k w (Splice a side s p keep) = first (
     ∷ is_none k.brief.pin refuses NotPinned
     ∷ not (knows k a && knows k s) refuses NotHeld
     ∷ not (is_frozen L k s p keep) refuses NotFrozen ∷ [])
+-- (what its own worker knows refuses no join; what both know does, by join_refusal of Runs)
 refusal L m k w (Join v) = None
 
 -- ---- replies
@@ -199,6 +200,7 @@ reply L m k (Link p side leaf new) = reply_exchange (edge m p side) leaf (Linked
 reply L m k (Flag p side leaf) = reply_exchange (edge m p side) leaf (Flagged (named m leaf))
 reply L m k (Tag p side) = Was (edge m p side)
 reply L m k (Splice a side s p keep) = reply_exchange (edge m a side) s (Cut (cut_nodes L m k s p keep))
+-- (this row is never answered: a join's reply is by what its leaver knows, by reply_of of Runs)
 reply L m k (Join v) = Joined []
 
 -- ---- writes, of one word at most

@@ -1,29 +1,28 @@
 -- What a run keeps, by the states before each of its turns and by its trace.
-use Rattle.std.specs.Prelude.{◌≡◌, ℕ, ◌+◌, ◌<◌, ◌↔◌, List, ◌∷◌, ◌++◌, map, length, take, Contains, Some, Ok}
+use Rattle.std.specs.Prelude.{◌≡◌, ℕ, ◌+◌, ◌<◌, List, ◌∷◌, ◌++◌, length, take, Contains, Some, Ok}
 use Rattle.nm_edge.specs.declared.node.NodeId.{NodeId}
 use Rattle.nm_model.specs.declared.reply.Reply.TheVariants.{Cut, Freed}
 use Rattle.nm_model.specs.declared.trace.Turn.{Turn}
 use Rattle.nm_model.specs.declared.ledger.Ledger.{Ledger}
 use Rattle.nm_model.specs.Ledgers.{held}
-use Rattle.nm_model.specs.Paths.{IsCut}
 use Rattle.nm_model.specs.Places.{EachSlotInOnePlace}
 use Rattle.nm_model.specs.Runs.{State, of}
-use Rattle.nm_model.specs.Laws.{PinsAreNear, OneHolder, NoNodeTwice, node_in, slots_of, nodes_cut_of, cuts_of, freed_among, HasLeft}
+use Rattle.nm_model.specs.Laws.{PinsAreNear, OneHolder, NoNodeTwice, CutsJust, GrewByTheCuts, IsFreedThenQueue, nodes_cut_of, freed_among, HasLeft}
 use Rattle.nm_model.specs.Lawful.{LabelsDoNotFall, NoLabelIsAboveTheEpoch, BriefsAreRight, QueuedNodesAreFrozen, TaggedEdgesHaveFlaggedTwins, FlaggedEdgesLeadToLeaves, OnlyThePinnedKnow, ReachIsShared, ReachIsGuarded, EpochsAgree, CountsAddUp, EachReadStands, KnownLeavesAreLeaves, EachBirthStands}
 
 -- each turn cuts exactly the nodes of its outcome, by the paths before and after it; one that answers no cut cuts nothing
 abbrev pub EachTurnCutsItsNodes : (ℕ → State) → List Turn → Type 0
 EachTurnCutsItsNodes states turns = (before rest : List Turn) (turn : Turn) → turns ≡ before ++ turn ∷ rest
-    → (x : ℕ) → IsCut (states (length before)).memory (states (length before + 1)).memory x ↔ Contains (slots_of (nodes_cut_of turn.outcome)) x
+    → CutsJust (states (length before)) (nodes_cut_of turn.outcome) (states (length before + 1))
 
 -- of every ledger, what was retired is what was freed and then what waits
 abbrev pub LedgersAreSplit : State → Type 0
-LedgersAreSplit s = (w origin : ℕ) (l : Ledger) → held (of s w).ledgers origin ≡ Some l → l.retired ≡ l.freed ++ map node_in l.queue
+LedgersAreSplit s = (w origin : ℕ) (l : Ledger) → held (of s w).ledgers origin ≡ Some l → IsFreedThenQueue l
 
--- what an origin's ledger retired grew by the nodes that its splices cut in the turns so far, whoever holds it
+-- each ledger grew by the cuts of the turns so far, whoever holds it
 abbrev pub LedgersGrowByTheCuts : (ℕ → State) → List Turn → Type 0
 LedgersGrowByTheCuts states turns = (i w v origin : ℕ) (l m : Ledger) → held (of (states 0) w).ledgers origin ≡ Some l → held (of (states i) v).ledgers origin ≡ Some m
-    → m.retired ≡ l.retired ++ cuts_of origin (take i turns)
+    → GrewByTheCuts origin (take i turns) l m
 
 -- and what was freed of it grew by the nodes that gives freed in those turns of those that were retired there
 abbrev pub LedgersFreeWhatGivesFreed : (ℕ → State) → List Turn → Type 0

@@ -10,8 +10,8 @@ use Rattle.nm_model.specs.declared.reply.Reply.{Reply}
 use Rattle.nm_model.specs.declared.reply.Reply.TheVariants.{KeyIs, EdgeIs, Pinned, Departed}
 use Rattle.nm_model.specs.declared.reply.Refused.{Refused}
 use Rattle.nm_model.specs.declared.trace.Turn.{Turn}
-use Rattle.nm_model.specs.declared.walks.Call.{Call}
-use Rattle.nm_model.specs.declared.walks.Arrival.{Arrival}
+use Rattle.nm_model.specs.declared.arrivals.Call.{Call}
+use Rattle.nm_model.specs.declared.arrivals.Arrival.{Arrival}
 use Rattle.nm_model.specs.Searches.{Search, idle, searched, side_of}
 
 -- ---- logs
@@ -20,8 +20,8 @@ use Rattle.nm_model.specs.Searches.{Search, idle, searched, side_of}
 abbrev pub Entry : Type 0
 Entry = Event × Reply
 
-abbrev pub entry_of : Turn → List Entry
-entry_of t = entry_by t.event t.outcome
+abbrev pub logged_by : Turn → List Entry
+logged_by t = entry_by t.event t.outcome
   where
     entry_by : Event → Result Reply Refused → List Entry
     entry_by e (Ok r) = (e, r) ∷ []
@@ -30,7 +30,7 @@ entry_of t = entry_by t.event t.outcome
 -- worker w's log: what it did in these turns, in their order
 abbrev pub log_of : ℕ → List Turn → List Entry
 log_of w [] = []
-log_of w (t ∷ ts) = (if t.worker == w then entry_of t else []) ++ log_of w ts
+log_of w (t ∷ ts) = (if t.worker == w then logged_by t else []) ++ log_of w ts
 
 -- what a log tells of the call of the last pin
 abbrev pub search_after : Search → List Entry → Search

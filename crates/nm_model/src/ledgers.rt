@@ -3,7 +3,7 @@ ghost use Rattle.std.specs.Prelude.{◌≡◌, ◌<◌, ◌^◌, length, map, op
 ghost use Rattle.std.specs.Option.{option_copied};
 ghost use Rattle.nm_model.specs.Maps.{or_else};
 ghost use Rattle.nm_model.specs.Reports.{in_queues};
-ghost use Rattle.nm_model.specs.Ledgers.{fresh_ledger, held, queue_of, labelled, with_freed, free, taken_over, front_at, entry_at, front_of, first_of, entry_of, retire, label as with_labels};
+ghost use Rattle.nm_model.specs.Ledgers.{fresh_ledger, held, queue_of, labelled, with_freed, free, taken_over, front_at, entry_at, front_of, first_of, queued_entry, retire, label as with_labels};
 
 use crate::ledger::{Ledger, Queued};
 use nm_edge::NodeId;
@@ -80,7 +80,7 @@ impl Ledgers {
 
     /// The entry of a slot: a front, where there is one.
     pub fn find(&self, slot: u32) -> Option<Queued>
-        ensures { result ≡ entry_of self.now slot }
+        ensures { result ≡ queued_entry self.now slot }
     {
         if let Some(front) = self.front(slot) {
             return Some(front);

@@ -1,6 +1,7 @@
 //! The words of the tree and what every worker knows, as plain data, and the definitions that all crates speak in.
 #![tactic(auto)]
 
+pub mod arrivals;
 pub mod event;
 pub mod indices;
 pub mod keys;
@@ -14,13 +15,12 @@ pub mod queue;
 pub mod reply;
 pub mod slot_map;
 pub mod trace;
-pub mod walks;
 
 pub use event::{Event, Field, Op};
 pub use knowledge::Brief;
 pub use ledger::{Ledger, Nodes, Queued};
 pub use ledgers::Ledgers;
-pub use new_error::NewError;
+pub use new_error::{NewError, layout_of};
 pub use nm_edge::LAST_NUMBER;
 pub use places::Places;
 pub use queue::Queue;

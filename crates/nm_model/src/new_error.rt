@@ -1,8 +1,12 @@
-//! Why a core was not made.
+//! The sizes of a core or of a tree, and why none was made.
+ghost use Rattle.std.specs.Prelude.{◌≡◌, ◌≢◌, ◌<◌, ◌≤◌, ◌⊎◌, ◌↔◌, IfOk, IfErr, IsErrOf};
+ghost use Rattle.nm_edge.specs.Layouts.{IsLayout};
+
+use nm_edge::{LEAST_NODES, Layout, LayoutError, MOST_NODES, MOST_WORKERS};
 use std::alloc::AllocError;
 use thiserror::Error;
 
-/// Why a core was not made. Where several reasons hold, the first of this order is answered.
+/// Why no core, and no tree, was made. Where several reasons hold, the first of this order is answered.
 #[derive(Clone, Copy, Debug, PartialEq, Eq, Error)]
 pub enum NewError {
     /// Fewer than 7 nodes, or more than 1,048,576.
@@ -24,5 +28,20 @@ impl From<AllocError> for NewError {
 
     fn from(_: AllocError) -> NewError {
         NewError::NoMemory
+    }
+}
+
+/// The layout of so many nodes and workers, or why there is none: 7 to 1,048,576 nodes, and 1 to 64 workers. It is never for want of memory.
+pub fn layout_of(nodes: u32, workers: u32) -> Result<Layout, NewError>
+    ensures layout { IfOk result (λ layout. layout ≡ record { nodes = nodes; workers = workers }) }
+    ensures fits { IfOk result IsLayout }
+    ensures nodes { IsErrOf result NewError.Nodes ↔ ((nodes < LEAST_NODES) ⊎ (MOST_NODES < nodes)) }
+    ensures workers { IsErrOf result NewError.Workers ↔ ((LEAST_NODES ≤ nodes) × (nodes ≤ MOST_NODES) × ((workers < 1) ⊎ (MOST_WORKERS < workers))) }
+    ensures memory { IfErr result (λ e. e ≢ NewError.NoMemory) }
+{
+    match Layout::new(nodes, workers) {
+        Ok(layout) => Ok(layout),
+        Err(LayoutError::Nodes) => Err(NewError::Nodes),
+        Err(LayoutError::Workers) => Err(NewError::Workers),
     }
 }

@@ -24,7 +24,7 @@ pub struct Queue {
 impl Model for Queue {
     ghost use Rattle.std.specs.Prelude.{List, drop};
     ghost use Rattle.nm_model.specs.declared.ledger.Queued.{Queued};
-    ghost use Rattle.nm_model.specs.Queues.{IsQueue};
+    ghost use Rattle.nm_model.specs.Indexing.{IsQueue};
 
     ghost Value = { List Queued };
 

@@ -6,7 +6,7 @@ use Rattle.nm_edge.specs.Edges.{Edge}
 use Rattle.nm_edge.specs.Layouts.{Layout}
 use Rattle.nm_edge.specs.declared.edge.Side.{Side}
 use Rattle.nm_model.specs.declared.event.Event.{Event}
-use Rattle.nm_model.specs.declared.walks.Arrival.{Arrival}
+use Rattle.nm_model.specs.declared.arrivals.Arrival.{Arrival}
 use Rattle.nm_model.specs.Memory.{Memory, node, is_leaf}
 use Rattle.nm_model.specs.Knowledge.{Knowledge, knows, knows_leaf}
 use Rattle.nm_model.specs.Runs.{of, start}

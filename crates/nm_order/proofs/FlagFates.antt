@@ -14,8 +14,8 @@ use Rattle.nm_model.specs.declared.event.Event.TheVariants.{Sight, SightFor, Lea
 use Rattle.nm_model.specs.declared.reply.Reply.{Reply}
 use Rattle.nm_model.specs.declared.reply.Reply.TheVariants.{Pinned, Departed, Linked, Flagged, Cut}
 use Rattle.nm_model.specs.declared.reply.Refused.{Refused}
-use Rattle.nm_model.specs.declared.walks.Call.{Call}
-use Rattle.nm_model.specs.declared.walks.Arrival.{Arrival}
+use Rattle.nm_model.specs.declared.arrivals.Call.{Call}
+use Rattle.nm_model.specs.declared.arrivals.Arrival.{Arrival}
 use Rattle.nm_model.specs.Memory.{node, named, child}
 use Rattle.nm_model.specs.Knowledge.{knows}
 use Rattle.nm_model.specs.Paths.{Reached}

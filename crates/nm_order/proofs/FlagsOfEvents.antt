@@ -15,8 +15,8 @@ use Rattle.nm_model.specs.declared.reply.Reply.{Reply}
 use Rattle.nm_model.specs.declared.reply.Reply.TheVariants.{Pinned, Departed, Linked, Flagged, Cut}
 use Rattle.nm_model.specs.declared.reply.Refused.{Refused}
 use Rattle.nm_model.specs.declared.reply.Refused.TheVariants.{NotOrdered}
-use Rattle.nm_model.specs.declared.walks.Call.{Call}
-use Rattle.nm_model.specs.declared.walks.Arrival.{Arrival}
+use Rattle.nm_model.specs.declared.arrivals.Call.{Call}
+use Rattle.nm_model.specs.declared.arrivals.Arrival.{Arrival}
 use Rattle.nm_model.specs.Maps.{or_else}
 use Rattle.nm_model.specs.Runs.{of, refused, reply_of, answered}
 use Rattle.nm_model.specs.Searches.{Search, searched, look_for}

@@ -14,7 +14,7 @@ use Rattle.nm_model.specs.declared.event.Event.TheVariants.{Sight, SightFor, Lea
 use Rattle.nm_model.specs.declared.reply.Reply.{Reply}
 use Rattle.nm_model.specs.declared.reply.Reply.TheVariants.{Departed, Linked, Flagged, Cut}
 use Rattle.nm_model.specs.declared.reply.Refused.{Refused}
-use Rattle.nm_model.specs.declared.walks.Call.{Call}
+use Rattle.nm_model.specs.declared.arrivals.Call.{Call}
 use Rattle.nm_model.specs.Memory.{node, named, is_leaf}
 use Rattle.nm_model.specs.Knowledge.{knows}
 use Rattle.nm_model.specs.Paths.{Reached, IsCut}

@@ -14,7 +14,7 @@ use Rattle.nm_model.specs.declared.event.Op.TheVariants.{Has, Insert, Delete}
 use Rattle.nm_model.specs.declared.event.Event.{Event}
 use Rattle.nm_model.specs.declared.event.Event.TheVariants.{LeaveWith, Link}
 use Rattle.nm_model.specs.declared.reply.Reply.TheVariants.{Linked, Cut}
-use Rattle.nm_model.specs.declared.walks.Call.{Call}
+use Rattle.nm_model.specs.declared.arrivals.Call.{Call}
 use Rattle.nm_model.specs.Memory.{opening}
 use Rattle.nm_model.specs.Paths.{Reached}
 use Rattle.nm_model.specs.Searches.{Search, idle}

@@ -17,8 +17,8 @@ use Rattle.nm_model.specs.declared.event.Event.TheVariants.{Look, Flag}
 use Rattle.nm_model.specs.declared.reply.Reply.{Reply}
 use Rattle.nm_model.specs.declared.reply.Reply.TheVariants.{EdgeIs, Flagged, Lost}
 use Rattle.nm_model.specs.declared.reply.Refused.TheVariants.{NoSlot, NotPinned, NotHeld, NotOrdered}
-use Rattle.nm_model.specs.declared.walks.Call.{Call}
-use Rattle.nm_model.specs.declared.walks.Arrival.{Arrival}
+use Rattle.nm_model.specs.declared.arrivals.Call.{Call}
+use Rattle.nm_model.specs.declared.arrivals.Arrival.{Arrival}
 use Rattle.nm_model.specs.Memory.{Memory, edge, child, put_edge, named}
 use Rattle.nm_model.specs.Knowledge.{Knowledge, knows, knows_leaf, is_private, read}
 use Rattle.nm_model.specs.Learning.{learn, look_known, look_private, flag_to}

@@ -8,7 +8,7 @@ use Rattle.nm_edge.specs.Layouts.{Layout}
 use Rattle.nm_model.specs.declared.event.Op.{Op}
 use Rattle.nm_model.specs.declared.event.Op.TheVariants.{Has, Insert, Delete}
 use Rattle.nm_model.specs.declared.event.Event.{Event}
-use Rattle.nm_model.specs.declared.walks.Arrival.{Arrival}
+use Rattle.nm_model.specs.declared.arrivals.Arrival.{Arrival}
 use Rattle.nm_model.specs.Maps.{is_number}
 use Rattle.nm_model.specs.Memory.{node, is_leaf}
 use Rattle.nm_model.specs.Searches.{Search}

@@ -21,7 +21,7 @@ use Rattle.nm_order.proofs.RunExchanges.{each_true_insert}
 use Rattle.nm_order.proofs.LegalAnswers.{each_other_answer}
 use Rattle.nm_order.proofs.FlagFates.{Fate, fates, each_true_delete_cuts}
 use Rattle.nm_order.proofs.OwnTurns.{own_search}
-use Rattle.nm_model.specs.declared.walks.Call.{Call}
+use Rattle.nm_model.specs.declared.arrivals.Call.{Call}
 use Rattle.std.proofs.lemmas.Option.{same_Some}
 
 moment_of : (L : Layout) → 5 ≤ L.nodes → (turns : List (ℕ × Event)) → All (λ t. HasKey t.1) turns → (w : ℕ) (op : Op) (k : ℕ) (answer : Bool) → MayAnswer (after_in (ordered L) turns) w op k answer → HasMoment L turns w op k answer

@@ -17,8 +17,8 @@ use Rattle.nm_model.specs.declared.event.Event.TheVariants.{Fill, Look}
 use Rattle.nm_model.specs.declared.reply.Reply.{Reply}
 use Rattle.nm_model.specs.declared.reply.Reply.TheVariants.{KeyIs, EdgeIs}
 use Rattle.nm_model.specs.declared.reply.Refused.TheVariants.{NoSlot, NotPrivate}
-use Rattle.nm_model.specs.declared.walks.Call.{Call}
-use Rattle.nm_model.specs.declared.walks.Arrival.{Arrival}
+use Rattle.nm_model.specs.declared.arrivals.Call.{Call}
+use Rattle.nm_model.specs.declared.arrivals.Arrival.{Arrival}
 use Rattle.nm_model.specs.Memory.{Memory, node, child, edge, is_leaf, infinity_1, infinity_2}
 use Rattle.nm_model.specs.Knowledge.{knows, is_private}
 use Rattle.nm_model.specs.Paths.{follow}

@@ -17,8 +17,8 @@ use Rattle.nm_model.specs.declared.event.Event.TheVariants.{Look, Link, Join}
 use Rattle.nm_model.specs.declared.reply.Reply.{Reply}
 use Rattle.nm_model.specs.declared.reply.Refused.TheVariants.{NotOrdered}
 use Rattle.nm_model.specs.declared.knowledge.Seen.{Seen}
-use Rattle.nm_model.specs.declared.walks.Call.{Call}
-use Rattle.nm_model.specs.declared.walks.Arrival.{Arrival}
+use Rattle.nm_model.specs.declared.arrivals.Call.{Call}
+use Rattle.nm_model.specs.declared.arrivals.Arrival.{Arrival}
 use Rattle.nm_model.specs.declared.reply.Reply.TheVariants.{EdgeIs}
 use Rattle.nm_model.specs.Maps.{has, put, is_number}
 use Rattle.nm_model.specs.Memory.{Memory, child, edge}

@@ -10,7 +10,7 @@ use Rattle.nm_model.specs.declared.event.Field.{Field}
 use Rattle.nm_model.specs.declared.event.Field.TheVariants.{Edge as EdgeOn, Birth}
 use Rattle.nm_model.specs.declared.reply.Reply.{Reply}
 use Rattle.nm_model.specs.declared.reply.Reply.TheVariants.{Saw, Labelled, Pinned, Missed, Announced, Departed, Idle, In, Moved, Behind, Claimed, Returned, Freed, BirthIs, EdgeIs, Filled, Linked, Flagged, Was, Cut, Lost, Joined}
-use Rattle.nm_model.specs.declared.walks.Call.{Call}
+use Rattle.nm_model.specs.declared.arrivals.Call.{Call}
 use Rattle.nm_model.specs.declared.knowledge.Brief.{Brief}
 use Rattle.nm_model.specs.Knowledge.{Knowledge, is_private}
 use Rattle.nm_model.specs.Learning.{learn, learn_sight, learn_scan, look_private, look_known, resigned, inheriting}

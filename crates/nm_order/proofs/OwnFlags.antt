@@ -14,7 +14,7 @@ use Rattle.nm_model.specs.declared.reply.Reply.{Reply}
 use Rattle.nm_model.specs.declared.reply.Reply.TheVariants.{Flagged, Lost}
 use Rattle.nm_model.specs.declared.reply.Refused.{Refused}
 use Rattle.nm_model.specs.declared.reply.Refused.TheVariants.{NoSlot, NotPinned, NotHeld}
-use Rattle.nm_model.specs.declared.walks.Arrival.{Arrival}
+use Rattle.nm_model.specs.declared.arrivals.Arrival.{Arrival}
 use Rattle.nm_model.specs.Maps.{is_number, or_else}
 use Rattle.nm_model.specs.Memory.{node, edge, child, is_leaf, named}
 use Rattle.nm_model.specs.Knowledge.{knows, knows_leaf}

@@ -14,7 +14,7 @@ use Rattle.nm_model.specs.declared.event.Event.TheVariants.{Sight, SightFor, Lea
 use Rattle.nm_model.specs.declared.reply.Reply.{Reply}
 use Rattle.nm_model.specs.declared.reply.Reply.TheVariants.{Pinned, Departed, Linked, Flagged, Cut}
 use Rattle.nm_model.specs.declared.reply.Refused.TheVariants.{NotOrdered, NoAnswer}
-use Rattle.nm_model.specs.declared.walks.Call.{Call}
+use Rattle.nm_model.specs.declared.arrivals.Call.{Call}
 use Rattle.nm_model.specs.Maps.{is_number}
 use Rattle.nm_model.specs.Knowledge.{Knowledge, draft_of}
 use Rattle.nm_model.specs.Searches.{Search, searched, look_for}

@@ -12,7 +12,7 @@ use Rattle.nm_model.specs.Learning.{learn, resigned, inheriting}
 use Rattle.nm_model.specs.Step.{write}
 use Rattle.nm_model.specs.Runs.{State, of, reply_of, refused, applied}
 use Rattle.nm_model.specs.Searches.{Search, searched}
-use Rattle.nm_model.specs.Walks.{Entry, entry_of, log_of, search_after}
+use Rattle.nm_model.specs.Walks.{Entry, logged_by, log_of, search_after}
 use Rattle.nm_model.specs.Maps.{or_else}
 use Rattle.nm_model.specs.Ordered.{Configuration, ordered, disorder_in, refused_in, applied_in, next_in, outcome_in, after_in, trace_in}
 use Rattle.nm_laws.proofs.Steps.{Allowed, allowed}
@@ -93,7 +93,7 @@ module _ (s : State) (staffed : Staffed s) (u w : ℕ) where
 
 -- what a turn adds to a part
 abbrev told_by : ℕ → ℕ × Event → Result Reply Refused → List Entry
-told_by w t o = cond (takes_part w t.0 t.1) (entry_of (record { worker = t.0; event = t.1; outcome = o })) []
+told_by w t o = cond (takes_part w t.0 t.1) (logged_by (record { worker = t.0; event = t.1; outcome = o })) []
 
 module _ (w : ℕ) where
   part_from : (c : Configuration) (t : ℕ × Event) (ts : List (ℕ × Event)) (o : Result Reply Refused) → outcome_in c t ≡ o → part_of w (trace_in c (t ∷ ts)) ≡ told_by w t o ++ part_of w (trace_in (next_in c t) ts)
@@ -160,7 +160,7 @@ part_tells_search w [] s = refl
 part_tells_search w (t ∷ ts) s = go (t.worker == w) (is_leaver w t.event) refl t.outcome (part_tells_search w ts)
   where
     go : (a b : Bool) → is_leaver w t.event ≡ b → (o : Result Reply Refused) → ((s : Search) → search_after s (part_of w ts) ≡ search_after s (log_of w ts))
-        → search_after s (cond (a || b) (entry_of (record { worker = t.worker; event = t.event; outcome = o })) [] ++ part_of w ts) ≡ search_after s (cond a (entry_of (record { worker = t.worker; event = t.event; outcome = o })) [] ++ log_of w ts)
+        → search_after s (cond (a || b) (logged_by (record { worker = t.worker; event = t.event; outcome = o })) [] ++ part_of w ts) ≡ search_after s (cond a (logged_by (record { worker = t.worker; event = t.event; outcome = o })) [] ++ log_of w ts)
     go true b is (Ok r) rest = rest (searched s t.event r)
     go true b is (Err x) rest = rest s
     go false false is o rest = rest s

@@ -12,12 +12,12 @@ use Rattle.nm_model.specs.declared.event.Event.TheVariants.{Sight, SightFor, Lea
 use Rattle.nm_model.specs.declared.reply.Reply.{Reply}
 use Rattle.nm_model.specs.declared.reply.Reply.TheVariants.{Pinned, Departed}
 use Rattle.nm_model.specs.declared.trace.Turn.{Turn}
-use Rattle.nm_model.specs.declared.walks.Call.{Call}
+use Rattle.nm_model.specs.declared.arrivals.Call.{Call}
 use Rattle.nm_model.specs.Knowledge.{Knowledge}
 use Rattle.nm_model.specs.Learning.{learn}
 use Rattle.nm_model.specs.Runs.{State, of, reply_of}
 use Rattle.nm_model.specs.Searches.{Search, idle, searched}
-use Rattle.nm_model.specs.Walks.{log_of, entry_of, begins_anew}
+use Rattle.nm_model.specs.Walks.{log_of, logged_by, begins_anew}
 use Rattle.nm_model.specs.Ordered.{Configuration, ordered, search_of, next_in, outcome_in, after_in, trace_in}
 use Rattle.nm_model.proofs.Numbers.{repeated}
 use Rattle.nm_laws.proofs.SearchesGrow.{only_grow}
@@ -63,7 +63,7 @@ last_same w p n [] stands = refl
 last_same w p n (x ∷ xs) stands = by (list_any begins_anew (log_of w (x ∷ []))) refl (λ rest. last_same w p (n + 1) xs rest)
   where
     parts : (list_any begins_anew (log_of w (x ∷ [])) ≡ false) × PinStands w xs
-    parts = or_parts (list_any begins_anew (log_of w (x ∷ []))) (list_any begins_anew (log_of w xs)) (ap (λ (b : Bool). b || list_any begins_anew (log_of w xs)) (ap (list_any begins_anew) (append-nil (cond (x.worker == w) (entry_of x) []))) ∙ (sym (list_any-append begins_anew (cond (x.worker == w) (entry_of x) []) (log_of w xs)) ∙ stands))
+    parts = or_parts (list_any begins_anew (log_of w (x ∷ []))) (list_any begins_anew (log_of w xs)) (ap (λ (b : Bool). b || list_any begins_anew (log_of w xs)) (ap (list_any begins_anew) (append-nil (cond (x.worker == w) (logged_by x) []))) ∙ (sym (list_any-append begins_anew (cond (x.worker == w) (logged_by x) []) (log_of w xs)) ∙ stands))
 
     by : (b : Bool) → list_any begins_anew (log_of w (x ∷ [])) ≡ b → (PinStands w xs → last_anew w p (n + 1) xs ≡ p) → last_anew w (cond b n p) (n + 1) xs ≡ p
     by true anew rest = absurd (true≢false (sym anew ∙ parts.0))

@@ -11,7 +11,7 @@ use Rattle.nm_model.specs.declared.reply.Refused.{Refused}
 use Rattle.nm_model.specs.Knowledge.{Knowledge}
 use Rattle.nm_model.specs.Learning.{learn}
 use Rattle.nm_model.specs.Runs.{State, of, start, after, trace, next, outcome, answered, unless_refused, refused, reply_of, applied}
-use Rattle.nm_model.specs.Walks.{Entry, entry_of, log_of, begins_anew}
+use Rattle.nm_model.specs.Walks.{Entry, logged_by, log_of, begins_anew}
 use Rattle.nm_laws.proofs.Steps.{Allowed, allowed}
 use Rattle.nm_laws.proofs.Pins.{all_new}
 use Rattle.nm_laws.proofs.Lawful.{IsLawful, lawful_start, lawful_step}
@@ -82,9 +82,9 @@ pins_from [] s lawful u = refl
 pins_from (t ∷ ts) s lawful u = pins_from ts (next s t) (lawful_then s lawful t u) u
     ∙ (ap (λ (p : Option ℕ). pinned_after p (log_of u (trace (next s t) ts))) (pin_step s lawful t u)
     ∙ (ap (λ (l : List Entry). pinned_after (pinned_after (of s u).brief.pin (cond (t.0 == u) l [])) (log_of u (trace (next s t) ts))) (entry_is (outcome s t))
-    ∙ sym (pinned_join (of s u).brief.pin (cond (t.0 == u) (entry_of (record { worker = t.0; event = t.1; outcome = outcome s t })) []) (log_of u (trace (next s t) ts)))))
+    ∙ sym (pinned_join (of s u).brief.pin (cond (t.0 == u) (logged_by (record { worker = t.0; event = t.1; outcome = outcome s t })) []) (log_of u (trace (next s t) ts)))))
   where
-    entry_is : (o : Result Reply Refused) → own_entry s lawful t u o ≡ entry_of (record { worker = t.0; event = t.1; outcome = o })
+    entry_is : (o : Result Reply Refused) → own_entry s lawful t u o ≡ logged_by (record { worker = t.0; event = t.1; outcome = o })
     entry_is (Ok r) = refl
     entry_is (Err x) = refl
 

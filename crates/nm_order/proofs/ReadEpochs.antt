@@ -17,7 +17,7 @@ use Rattle.nm_model.specs.Runs.{State, of, reply_of}
 use Rattle.nm_model.specs.Walks.{Entry}
 use Rattle.nm_laws.proofs.Epochs.{alike_claim, alike_give, alike_look, alike_fill, alike_link, alike_flag, alike_tag, alike_splice, alike_join}
 use Rattle.nm_order.specs.Logs.{known_by, IsLogOf}
-use Rattle.nm_order.specs.Reads.{sighted, epoch_read, HasRead, ReadLast, EpochsAreReadInOrder}
+use Rattle.nm_order.specs.Reads.{sight_epoch, epoch_read, HasRead, ReadLast, EpochsAreReadInOrder}
 use Rattle.nm_order.proofs.LastEntries.{known_more, PartOf, LastEntry, last_entry}
 use Rattle.nm_order.proofs.LastEntries.PartOf.{Own, Resigns}
 use Rattle.nm_order.proofs.LogInduction.{each_log}
@@ -25,7 +25,7 @@ use Rattle.nm_order.proofs.OrderedLaws.{law_of_state}
 
 -- ---- what an event that reads an epoch tells, and what any other leaves
 
-sight_reads : (k : Knowledge) (r : Reply) (e : ℕ) → sighted r ≡ Some e → (learn_sight k r).brief.seen ≡ Some e
+sight_reads : (k : Knowledge) (r : Reply) (e : ℕ) → sight_epoch r ≡ Some e → (learn_sight k r).brief.seen ≡ Some e
 sight_reads k (Saw x) e is = is
 sight_reads k (Labelled x) e is = is
 sight_reads k (Pinned x) e is = is
@@ -40,7 +40,7 @@ reads w k Advance (Moved x) e is = is
 reads w k Advance (Behind x) e is = is
 reads w k _ _ e is = absurd (none-some e is)
 
-sight_stays : (k : Knowledge) (r : Reply) → sighted r ≡ None → (learn_sight k r).brief.seen ≡ k.brief.seen
+sight_stays : (k : Knowledge) (r : Reply) → sight_epoch r ≡ None → (learn_sight k r).brief.seen ≡ k.brief.seen
 sight_stays k (Saw x) is = absurd (none-some x (sym is))
 sight_stays k (Labelled x) is = absurd (none-some x (sym is))
 sight_stays k (Pinned x) is = absurd (none-some x (sym is))
@@ -75,13 +75,13 @@ stays w k _ _ is = refl
 
 -- ---- it is not below the epoch
 
-found : (pin announced : Option ℕ) (n : ℕ) → sighted (confirmed pin announced n) ≡ Some n
+found : (pin announced : Option ℕ) (n : ℕ) → sight_epoch (confirmed pin announced n) ≡ Some n
 found (Some p) announced n = refl
 found None None n = refl
-found None (Some a) n = cond_both (a == n) _ _ (λ r. sighted r ≡ Some n) (λ _. refl) (λ _. refl)
+found None (Some a) n = cond_both (a == n) _ _ (λ r. sight_epoch r ≡ Some n) (λ _. refl) (λ _. refl)
 
-sight_finds : (k : Knowledge) (n : ℕ) → sighted (reply_sight k n) ≡ Some n
-sight_finds k n = cond_both k.brief.unlabelled _ _ (λ r. sighted r ≡ Some n) (λ _. refl) (λ _. found k.brief.pin k.brief.note n)
+sight_finds : (k : Knowledge) (n : ℕ) → sight_epoch (reply_sight k n) ≡ Some n
+sight_finds k n = cond_both k.brief.unlabelled _ _ (λ r. sight_epoch r ≡ Some n) (λ _. refl) (λ _. found k.brief.pin k.brief.note n)
 
 not_below : (s : State) (w : ℕ) (event : Event) (e : ℕ) → epoch_read event (reply_of s w event) ≡ Some e → s.memory.epoch ≤ e
 unfolding reply

@@ -6,7 +6,7 @@ use Rattle.std.proofs.lemmas.List.Folds.{list_any-append}
 use Rattle.nm_model.specs.declared.event.Event.{Event}
 use Rattle.nm_model.specs.declared.reply.Reply.{Reply}
 use Rattle.nm_model.specs.declared.reply.Refused.{Refused}
-use Rattle.nm_model.specs.Walks.{Entry, entry_of, log_of, begins_anew}
+use Rattle.nm_model.specs.Walks.{Entry, logged_by, log_of, begins_anew}
 use Rattle.nm_model.specs.declared.trace.Turn.{Turn}
 use Rattle.nm_model.specs.Ordered.{Configuration, next_in, outcome_in, after_in, trace_in}
 use Rattle.nm_order.specs.Moments.{PinStands}
@@ -14,7 +14,7 @@ use Rattle.nm_order.proofs.WalksOfRuns.{trace_in-append, log-append}
 
 -- what a turn adds to a worker's log
 abbrev pub entries : ℕ → Configuration → ℕ × Event → List Entry
-entries u c t = cond (t.0 == u) (entry_of (record { worker = t.0; event = t.1; outcome = outcome_in c t })) []
+entries u c t = cond (t.0 == u) (logged_by (record { worker = t.0; event = t.1; outcome = outcome_in c t })) []
 
 -- a turn that adds neither a pin nor a leave, and then others
 pub stands_behind : (u : ℕ) (c : Configuration) (t : ℕ × Event) (ts : List (ℕ × Event)) → list_any begins_anew (entries u c t) ≡ false → PinStands u (trace_in (next_in c t) ts) → PinStands u (trace_in c (t ∷ ts))
@@ -32,11 +32,11 @@ stands_longer u c d ts t leads stands none =
     ∙ (ap (λ (x : Configuration). list_any begins_anew (log_of u (trace_in x (t ∷ [])))) leads ∙ stands_behind u d t [] none refl))))
 
 pub refused_entries : (u : ℕ) (c : Configuration) (t : ℕ × Event) (x : Refused) → outcome_in c t ≡ Err x → entries u c t ≡ []
-refused_entries u c t x is = ap (λ (o : Result Reply Refused). cond (t.0 == u) (entry_of (record { worker = t.0; event = t.1; outcome = o })) []) is ∙ by (t.0 == u)
+refused_entries u c t x is = ap (λ (o : Result Reply Refused). cond (t.0 == u) (logged_by (record { worker = t.0; event = t.1; outcome = o })) []) is ∙ by (t.0 == u)
   where
     by : (b : Bool) → ◌≡◌ {A = List Entry} (cond b [] []) []
     by true = refl
     by false = refl
 
 pub allowed_entries : (u : ℕ) (c : Configuration) (t : ℕ × Event) (r : Reply) → outcome_in c t ≡ Ok r → entries u c t ≡ cond (t.0 == u) ((t.1, r) ∷ []) []
-allowed_entries u c t r is = ap (λ (o : Result Reply Refused). cond (t.0 == u) (entry_of (record { worker = t.0; event = t.1; outcome = o })) []) is
+allowed_entries u c t r is = ap (λ (o : Result Reply Refused). cond (t.0 == u) (logged_by (record { worker = t.0; event = t.1; outcome = o })) []) is

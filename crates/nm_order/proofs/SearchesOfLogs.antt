@@ -13,8 +13,8 @@ use Rattle.nm_model.specs.declared.event.Event.TheVariants.{Sight, SightFor, Lea
 use Rattle.nm_model.specs.declared.event.Field.{Field}
 use Rattle.nm_model.specs.declared.reply.Reply.{Reply}
 use Rattle.nm_model.specs.declared.reply.Reply.TheVariants.{Pinned, Departed, Linked, Flagged, Cut}
-use Rattle.nm_model.specs.declared.walks.Call.{Call}
-use Rattle.nm_model.specs.declared.walks.Arrival.{Arrival}
+use Rattle.nm_model.specs.declared.arrivals.Call.{Call}
+use Rattle.nm_model.specs.declared.arrivals.Arrival.{Arrival}
 use Rattle.nm_model.specs.Searches.{Search, idle, walked, later_walked, look_for, searched}
 use Rattle.nm_model.specs.Walks.{Entry, IsPart, IsOfWalk, search_after, begins_anew, since_pin}
 use Rattle.nm_model.specs.Walks.IsPart.{nothing, skips}

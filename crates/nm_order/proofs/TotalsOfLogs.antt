@@ -11,7 +11,7 @@ use Rattle.nm_model.specs.declared.reply.Refused.{Refused}
 use Rattle.nm_model.specs.declared.trace.Turn.{Turn}
 use Rattle.nm_model.specs.Runs.{State}
 use Rattle.nm_model.specs.Searches.{Search, idle, searched}
-use Rattle.nm_model.specs.Walks.{Entry, entry_of, log_of}
+use Rattle.nm_model.specs.Walks.{Entry, logged_by, log_of}
 use Rattle.nm_model.specs.Ordered.{Configuration, ordered, refused_in, next_in, outcome_in, trace_in}
 use Rattle.nm_model.proofs.Numbers.{repeated}
 use Rattle.nm_laws.proofs.Steps.{allowed}
@@ -91,7 +91,7 @@ module _ (is_such : Entry → Bool) (no_join : (v : ℕ) (r : Reply) → is_such
   own_often ts s e r rest = often_join is_such k s (e, r) (part_of w ts) ∙ (ap (λ (n : ℕ). cond (is_such (e, r) && is_for k s.call) 1 0 + n) (rest (searched s e r)) ∙ sym (often_join is_such k s (e, r) (log_of w ts)))
 
   turn_often : (ts : List Turn) (s : Search) (u : ℕ) (e : Event) (o : Result Reply Refused) (own leaver : Bool) → is_leaver w e ≡ leaver → Rest ts
-      → log_often is_such k s (cond (own || leaver) (entry_of (record { worker = u; event = e; outcome = o })) [] ++ part_of w ts) ≡ log_often is_such k s (cond own (entry_of (record { worker = u; event = e; outcome = o })) [] ++ log_of w ts)
+      → log_often is_such k s (cond (own || leaver) (logged_by (record { worker = u; event = e; outcome = o })) [] ++ part_of w ts) ≡ log_often is_such k s (cond own (logged_by (record { worker = u; event = e; outcome = o })) [] ++ log_of w ts)
   turn_often ts s u e (Ok r) true leaver is rest = own_often ts s e r rest
   turn_often ts s u e (Err x) true leaver is rest = rest s
   turn_often ts s u e o false false is rest = rest s

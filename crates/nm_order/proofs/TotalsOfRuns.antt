@@ -14,7 +14,7 @@ use Rattle.nm_model.specs.declared.event.Event.TheVariants.{Link, Flag}
 use Rattle.nm_model.specs.declared.reply.Reply.{Reply}
 use Rattle.nm_model.specs.declared.reply.Reply.TheVariants.{Linked, Flagged, Cut}
 use Rattle.nm_model.specs.declared.reply.Refused.{Refused}
-use Rattle.nm_model.specs.declared.walks.Call.{Call}
+use Rattle.nm_model.specs.declared.arrivals.Call.{Call}
 use Rattle.nm_model.specs.Memory.{Memory, node, edge, child, named, is_leaf, opening, infinity_0}
 use Rattle.nm_model.specs.Knowledge.{is_private}
 use Rattle.nm_model.specs.Paths.{at, Reached}

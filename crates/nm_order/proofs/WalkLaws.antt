@@ -3,7 +3,7 @@ use Rattle.std.proofs.Common.{◌≡◌, ℕ, ◌<◌, ◌≤◌, List, [], sym,
 use Rattle.std.specs.Prelude.{Some, All}
 use Rattle.nm_edge.specs.Layouts.{Layout}
 use Rattle.nm_model.specs.declared.event.Event.{Event}
-use Rattle.nm_model.specs.declared.walks.Call.{Call}
+use Rattle.nm_model.specs.declared.arrivals.Call.{Call}
 use Rattle.nm_model.specs.Searches.{Search}
 use Rattle.nm_model.specs.Ordered.{ordered, after_in}
 use Rattle.nm_model.specs.Walks.{Entry, IsOfWalk, since_pin}

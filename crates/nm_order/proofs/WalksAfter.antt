@@ -8,7 +8,7 @@ use Rattle.nm_edge.specs.declared.edge.Side.TheVariants.{Left}
 use Rattle.nm_model.specs.declared.event.Field.TheVariants.{Key, Edge as EdgeOn}
 use Rattle.nm_model.specs.declared.event.Event.TheVariants.{Look}
 use Rattle.nm_model.specs.declared.reply.Reply.TheVariants.{KeyIs, EdgeIs}
-use Rattle.nm_model.specs.declared.walks.Arrival.{Arrival}
+use Rattle.nm_model.specs.declared.arrivals.Arrival.{Arrival}
 use Rattle.nm_model.specs.Searches.{side_of}
 use Rattle.nm_model.specs.Walks.{Entry, IsPart, Leads, WalkComes, WalkReads, WalkEnds, IsOfWalk}
 use Rattle.nm_model.specs.Walks.Leads.{begins, leads_on}

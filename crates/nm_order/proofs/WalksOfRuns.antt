@@ -13,13 +13,13 @@ use Rattle.nm_model.specs.declared.reply.Reply.{Reply}
 use Rattle.nm_model.specs.declared.reply.Reply.TheVariants.{KeyIs}
 use Rattle.nm_model.specs.declared.reply.Refused.{Refused}
 use Rattle.nm_model.specs.declared.trace.Turn.{Turn}
-use Rattle.nm_model.specs.declared.walks.Call.{Call}
-use Rattle.nm_model.specs.declared.walks.Arrival.{Arrival}
+use Rattle.nm_model.specs.declared.arrivals.Call.{Call}
+use Rattle.nm_model.specs.declared.arrivals.Arrival.{Arrival}
 use Rattle.nm_model.specs.Memory.{node}
 use Rattle.nm_model.specs.Step.{reply, write}
 use Rattle.nm_model.specs.Runs.{reply_of, applied}
 use Rattle.nm_model.specs.Searches.{Search, idle, searched}
-use Rattle.nm_model.specs.Walks.{Entry, WalkReads, entry_of, log_of, search_after, begins_anew, since_pin, SearchGrows}
+use Rattle.nm_model.specs.Walks.{Entry, WalkReads, logged_by, log_of, search_after, begins_anew, since_pin, SearchGrows}
 use Rattle.nm_model.specs.Ordered.{Configuration, ordered, search_of, learned_from, refused_in, applied_in, next_in, outcome_in, after_in, trace_in}
 use Rattle.nm_laws.proofs.Configurations.{refused_next, refused_outcome, allowed_next, allowed_outcome, after_in-append}
 use Rattle.nm_laws.proofs.LogsOfRuns.{searches_tell}
@@ -40,7 +40,7 @@ trace_in-append c (t ∷ ts) us = ap (λ (rest : List Turn). record { worker = t
 
 pub log-append : (w : ℕ) (ts us : List Turn) → log_of w (ts ++ us) ≡ log_of w ts ++ log_of w us
 log-append w [] us = refl
-log-append w (t ∷ ts) us = ap (λ (rest : List Entry). cond (t.worker == w) (entry_of t) [] ++ rest) (log-append w ts us) ∙ sym (append_assoc (cond (t.worker == w) (entry_of t) []) (log_of w ts) (log_of w us))
+log-append w (t ∷ ts) us = ap (λ (rest : List Entry). cond (t.worker == w) (logged_by t) [] ++ rest) (log-append w ts us) ∙ sym (append_assoc (cond (t.worker == w) (logged_by t) []) (log_of w ts) (log_of w us))
 
 pub search-append : (s : Search) (es fs : List Entry) → search_after s (es ++ fs) ≡ search_after (search_after s es) fs
 search-append s [] fs = refl
@@ -57,7 +57,7 @@ pub data LogGrows (w : ℕ) (c : Configuration) (t : ℕ × Event) (before after
 
 module _ (w : ℕ) (c : Configuration) (ts : List (ℕ × Event)) (t : ℕ × Event) where
   abbrev new : Bool → Result Reply Refused → List Entry
-  new b o = cond b (entry_of (record { worker = t.0; event = t.1; outcome = o })) []
+  new b o = cond b (logged_by (record { worker = t.0; event = t.1; outcome = o })) []
 
   -- the log grows by what the turn adds
   pub one_turn : log_of w (trace_in c (ts ++ t ∷ [])) ≡ log_of w (trace_in c ts) ++ (new (t.0 == w) (outcome_in (after_in c ts) t) ++ [])

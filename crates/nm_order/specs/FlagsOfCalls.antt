@@ -6,7 +6,7 @@ use Rattle.nm_model.specs.declared.event.Event.{Event}
 use Rattle.nm_model.specs.declared.event.Event.TheVariants.{Flag}
 use Rattle.nm_model.specs.declared.reply.Reply.{Reply}
 use Rattle.nm_model.specs.declared.reply.Reply.TheVariants.{Flagged}
-use Rattle.nm_model.specs.declared.walks.Arrival.{Arrival}
+use Rattle.nm_model.specs.declared.arrivals.Arrival.{Arrival}
 use Rattle.nm_model.specs.Searches.{Search, searched}
 use Rattle.nm_model.specs.Ordered.{Configuration, search_of, outcome_in}
 use Rattle.nm_model.specs.Walks.{Entry, begins_anew, GrowsTo}

@@ -9,8 +9,8 @@ use Rattle.nm_model.specs.declared.event.Op.{Op}
 use Rattle.nm_model.specs.declared.event.Op.TheVariants.{Insert, Delete}
 use Rattle.nm_model.specs.declared.event.Event.TheVariants.{Link, Flag}
 use Rattle.nm_model.specs.declared.reply.Reply.TheVariants.{Linked, Flagged}
-use Rattle.nm_model.specs.declared.walks.Call.{Call}
-use Rattle.nm_model.specs.declared.walks.Arrival.{Arrival}
+use Rattle.nm_model.specs.declared.arrivals.Call.{Call}
+use Rattle.nm_model.specs.declared.arrivals.Arrival.{Arrival}
 use Rattle.nm_model.specs.Memory.{Memory, node, edge, child, is_leaf, named, infinity_0}
 use Rattle.nm_model.specs.Paths.{at, Reached}
 use Rattle.nm_model.specs.Reports.{keys}

@@ -6,7 +6,7 @@ use Rattle.nm_model.specs.declared.event.Event.TheVariants.{Join}
 use Rattle.nm_model.specs.declared.trace.Turn.{Turn}
 use Rattle.nm_model.specs.Knowledge.{Knowledge, newcomer}
 use Rattle.nm_model.specs.Learning.{learn}
-use Rattle.nm_model.specs.Walks.{Entry, entry_of}
+use Rattle.nm_model.specs.Walks.{Entry, logged_by}
 use Rattle.nm_model.specs.Runs.{of}
 use Rattle.nm_model.specs.Ordered.{ordered, after_in, trace_in}
 use Rattle.nm_order.specs.Intervals.{HasKey}
@@ -23,7 +23,7 @@ takes_part w u e = (u == w) || is_leaver w e
 -- worker w's part of these turns, in their order
 abbrev pub part_of : ℕ → List Turn → List Entry
 part_of w [] = []
-part_of w (t ∷ ts) = (if takes_part w t.worker t.event then entry_of t else []) ++ part_of w ts
+part_of w (t ∷ ts) = (if takes_part w t.worker t.event then logged_by t else []) ++ part_of w ts
 
 -- what worker w knows after a log, by what it knew before
 abbrev pub known_after : ℕ → Knowledge → List Entry → Knowledge

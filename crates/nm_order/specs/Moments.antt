@@ -6,7 +6,7 @@ use Rattle.nm_edge.specs.declared.edge.Side.{Side}
 use Rattle.nm_model.specs.declared.event.Op.{Op}
 use Rattle.nm_model.specs.declared.event.Event.{Event}
 use Rattle.nm_model.specs.declared.trace.Turn.{Turn}
-use Rattle.nm_model.specs.declared.walks.Arrival.{Arrival}
+use Rattle.nm_model.specs.declared.arrivals.Arrival.{Arrival}
 use Rattle.nm_model.specs.Memory.{node, is_leaf}
 use Rattle.nm_model.specs.Paths.{Reached}
 use Rattle.nm_model.specs.Walks.{log_of, begins_anew, since_pin, WalkComes}

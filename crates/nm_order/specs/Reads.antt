@@ -8,12 +8,12 @@ use Rattle.nm_model.specs.declared.reply.Reply.TheVariants.{Saw, Labelled, Pinne
 use Rattle.nm_model.specs.Walks.{Entry}
 use Rattle.nm_order.specs.Logs.{known_by, IsLogOf}
 
-abbrev pub sighted : Reply → Option ℕ
-sighted (Saw e) = Some e
-sighted (Labelled e) = Some e
-sighted (Pinned e) = Some e
-sighted (Missed e) = Some e
-sighted _ = None
+abbrev pub sight_epoch : Reply → Option ℕ
+sight_epoch (Saw e) = Some e
+sight_epoch (Labelled e) = Some e
+sight_epoch (Pinned e) = Some e
+sight_epoch (Missed e) = Some e
+sight_epoch _ = None
 
 abbrev pub left_by_advance : Reply → Option ℕ
 left_by_advance (Moved e) = Some e
@@ -22,8 +22,8 @@ left_by_advance _ = None
 
 -- the epoch that an event with its reply tells: a sight the one that it found, an advance the one that stands after it
 abbrev pub epoch_read : Event → Reply → Option ℕ
-epoch_read Sight r = sighted r
-epoch_read (SightFor op key) r = sighted r
+epoch_read Sight r = sight_epoch r
+epoch_read (SightFor op key) r = sight_epoch r
 epoch_read Advance r = left_by_advance r
 epoch_read _ r = None
 

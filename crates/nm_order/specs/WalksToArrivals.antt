@@ -5,8 +5,8 @@ use Rattle.nm_edge.specs.declared.edge.Side.{Side}
 use Rattle.nm_model.specs.declared.event.Event.{Event}
 use Rattle.nm_model.specs.declared.event.Event.TheVariants.{Flag}
 use Rattle.nm_model.specs.declared.reply.Reply.TheVariants.{Flagged}
-use Rattle.nm_model.specs.declared.walks.Call.{Call}
-use Rattle.nm_model.specs.declared.walks.Arrival.{Arrival}
+use Rattle.nm_model.specs.declared.arrivals.Call.{Call}
+use Rattle.nm_model.specs.declared.arrivals.Arrival.{Arrival}
 use Rattle.nm_model.specs.Searches.{Search}
 use Rattle.nm_model.specs.Ordered.{ordered, after_in, trace_in, search_of}
 use Rattle.nm_model.specs.Walks.{Entry, log_of, since_pin, WalkComes, WalkReads, WalkEnds}

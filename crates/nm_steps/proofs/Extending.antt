@@ -19,7 +19,7 @@ use Rattle.nm_model.specs.Knowledge.{Knowledge}
 use Rattle.nm_model.specs.Step.{first, ◌refuses◌, refusal, write}
 use Rattle.nm_model.specs.Runs.{State, of, start, next, applied, refused, refusal_of, reply_of, is_no_worker, join_refusal}
 use Rattle.nm_model.specs.Lawful.{BirthsStand, EachBirthStands}
-use Rattle.nm_model.specs.Walks.{Entry, entry_of, log_of, search_after}
+use Rattle.nm_model.specs.Walks.{Entry, logged_by, log_of, search_after}
 use Rattle.nm_model.specs.Searches.{Search, idle}
 use Rattle.nm_model.specs.Ordered.{Configuration, ordered, search_of, disorder, disorder_in, disorder_among, refused_in, applied_in, next_in, outcome_in, after_in, trace_in}
 use Rattle.nm_laws.proofs.Configurations.{after_in-append, allowed_next, allowed_outcome, allowed_state}
@@ -46,7 +46,7 @@ trace_in-append c (t ∷ ts) us = λ i. record { worker = t.0; event = t.1; outc
 pub part-append : (w : ℕ) (ts us : List Turn) → part_of w (ts ++ us) ≡ part_of w ts ++ part_of w us
 part-append w [] us = refl
 part-append w (t ∷ ts) us =
-    let own : List Entry = cond (takes_part w t.worker t.event) (entry_of t) [] in
+    let own : List Entry = cond (takes_part w t.worker t.event) (logged_by t) [] in
     ap (λ (l : List Entry). own ++ l) (part-append w ts us) ∙ sym (append_assoc own (part_of w ts) (part_of w us))
 
 pub keys-append : (ts : List (ℕ × Event)) (t : ℕ × Event) → All (λ u. HasKey u.1) ts → HasKey t.1 → All (λ u. HasKey u.1) (ts ++ t ∷ [])

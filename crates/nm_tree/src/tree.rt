@@ -1,14 +1,13 @@
 //! The tree that workers share.
 ghost use Rattle.std.specs.Prelude.{◌≡◌, ◌≢◌, ◌<◌, ◌≤◌, ◌⊎◌, ◌↔◌, length, IfOk, IfErr, IsErrOf};
-ghost use Rattle.nm_edge.specs.Layouts.{IsLayout};
 ghost use Rattle.nm_steps.specs.Steps.{AreFresh};
 ghost use Rattle.nm_tree.specs.Workers.{AreNew, AreAllFresh, AreMade, HaveWorkers, IsFresh, IsNewWorker};
 
 use crate::worker::{Account, Standing, Worker};
-use nm_edge::{LEAST_NODES, Layout, LayoutError, MOST_NODES, MOST_WORKERS};
+use nm_edge::{LEAST_NODES, MOST_NODES, MOST_WORKERS};
 use nm_epoch::HeldQueue;
 use nm_limbo::BlockQueue;
-use nm_model::NewError;
+use nm_model::{NewError, layout_of};
 use nm_steps::{Pass, Shared};
 use std::alloc::{AllocError, Global};
 use std::marker::Model;
@@ -43,20 +42,6 @@ impl Tree {
         let (shared, passes) = Shared::new(alloc, layout)?;
         let made = workers_of(alloc, passes)?;
         Ok((Tree { shared }, made))
-    }
-}
-
-/// The sizes, if a tree may have them.
-fn layout_of(nodes: u32, workers: u32) -> Result<Layout, NewError>
-    ensures layout { IfOk result (λ layout. layout ≡ record { nodes = nodes; workers = workers }) }
-    ensures nodes { IsErrOf result NewError.Nodes ↔ ((nodes < LEAST_NODES) ⊎ (MOST_NODES < nodes)) }
-    ensures workers { IsErrOf result NewError.Workers ↔ ((LEAST_NODES ≤ nodes) × (nodes ≤ MOST_NODES) × ((workers < 1) ⊎ (MOST_WORKERS < workers))) }
-    ensures memory { IfErr result (λ e. e ≢ NewError.NoMemory) }
-{
-    match Layout::new(nodes, workers) {
-        Ok(layout) => Ok(layout),
-        Err(LayoutError::Nodes) => Err(NewError::Nodes),
-        Err(LayoutError::Workers) => Err(NewError::Workers),
     }
 }
 

@@ -1,4 +1,4 @@
-use Rattle.nm_model.specs.Queues.{Covers}
+use Rattle.nm_model.specs.Indexing.{Covers}
 use Rattle.nm_model.proofs.indices.index_from.Given as goal
 
 -- the entries so far are noted

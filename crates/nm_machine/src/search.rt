@@ -5,14 +5,15 @@ ghost use Rattle.std.specs.Prelude.{◌≡◌, ◌||◌, is_some, false, [], Non
 ghost use Rattle.std.specs.List.{list_any};
 ghost use Rattle.nm_model.specs.declared.event.Field.TheVariants as field;
 ghost use Rattle.nm_model.specs.declared.reply.Reply.TheVariants as reply;
-ghost use Rattle.nm_model.specs.Searches.{is_node, idle, begun, left, look_for, linked, flagged, spliced, is_flagged_in, searched, HasRoom, HasRoomFor};
+ghost use Rattle.nm_model.specs.Searches.{is_node, idle, begun, left, look_for, linked, flagged, spliced, is_flagged_in, searched};
+ghost use Rattle.nm_model.specs.Rooms.{HasRoom, HasRoomFor};
 ghost use Rattle.nm_model.specs.Ordered.{has_removed, shows_call, links_in_order, flags_in_order};
 
 use crate::worker::Worker;
 use nm_edge::{Edge, NodeId, Side};
 use nm_model::event::{Event, Field, Op};
 use nm_model::reply::Reply;
-use nm_model::walks::{self, Arrival, Call};
+use nm_model::arrivals::{self, Arrival, Call};
 use std::alloc::{AllocError, Global};
 use std::marker::Model;
 
@@ -29,7 +30,7 @@ pub struct Search {
 
 impl Model for Search {
     ghost use Rattle.std.specs.Prelude.{vec_capacity};
-    ghost use Rattle.nm_model.specs.Searches.{Roomy};
+    ghost use Rattle.nm_model.specs.Rooms.{Roomy};
 
     ghost Value = { Roomy };
 
@@ -116,9 +117,9 @@ impl Search {
         if self.call.is_none() {
             return;
         }
-        walks::put_key(&mut self.walks, slot, key);
+        arrivals::put_key(&mut self.walks, slot, key);
         if self.flagged.is_some() {
-            walks::put_key(&mut self.later, slot, key);
+            arrivals::put_key(&mut self.later, slot, key);
         }
     }
 
@@ -130,9 +131,9 @@ impl Search {
         let Some(call) = self.call else {
             return;
         };
-        walks::put_edge(&mut self.walks, call.key, slot, side, edge.slot());
+        arrivals::put_edge(&mut self.walks, call.key, slot, side, edge.slot());
         if self.flagged.is_some() {
-            walks::put_edge(&mut self.later, call.key, slot, side, edge.slot());
+            arrivals::put_edge(&mut self.later, call.key, slot, side, edge.slot());
         }
     }
 
@@ -204,7 +205,7 @@ impl Search {
         ensures { result ≡ has_removed self.now.tells self.now.tells.flagged }
     {
         match self.flagged {
-            Some(leaf) => self.cut || walks::has_ended_elsewhere(&self.later, leaf.slot),
+            Some(leaf) => self.cut || arrivals::has_ended_elsewhere(&self.later, leaf.slot),
             None => false,
         }
     }
@@ -217,13 +218,13 @@ impl Search {
             return false;
         };
         match (op, answer) {
-            (Op::Has, true) => walks::has_ended_at(&self.walks, key),
-            (Op::Has, false) => walks::has_ended_beside(&self.walks, key),
+            (Op::Has, true) => arrivals::has_ended_at(&self.walks, key),
+            (Op::Has, false) => arrivals::has_ended_beside(&self.walks, key),
             (Op::Insert, true) => self.linked,
-            (Op::Insert, false) => !self.linked && walks::has_ended_at(&self.walks, key),
+            (Op::Insert, false) => !self.linked && arrivals::has_ended_at(&self.walks, key),
             (Op::Delete, true) => self.has_removed(),
             (Op::Delete, false) => {
-                self.flagged.is_none() && walks::has_ended_beside(&self.walks, key)
+                self.flagged.is_none() && arrivals::has_ended_beside(&self.walks, key)
             }
         }
     }
@@ -250,7 +251,7 @@ impl Search {
         };
         !self.linked
             && worker.has_new_leaf(new, leaf, key)
-            && walks::may_link(&self.walks, worker.draft(new), key, parent, side, leaf)
+            && arrivals::may_link(&self.walks, worker.draft(new), key, parent, side, leaf)
     }
 
     /// Whether the operation is a delete that may flag here: one leaf, where a walk of it ended.
@@ -266,6 +267,6 @@ impl Search {
         else {
             return false;
         };
-        self.flagged.is_none() && walks::may_flag(&self.walks, key, parent, side, leaf)
+        self.flagged.is_none() && arrivals::may_flag(&self.walks, key, parent, side, leaf)
     }
 }

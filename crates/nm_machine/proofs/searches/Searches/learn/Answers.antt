@@ -1,7 +1,8 @@
 use Rattle.std.proofs.Common.{ap, sym, ◌∙◌, map, set}
 use Rattle.std.proofs.lemmas.List.{map-set, get_or-map}
-use Rattle.nm_model.specs.Searches.{Search, Roomy, idle, searched}
-use Rattle.nm_machine.proofs.calls.Searches.learn.Goals as goal
+use Rattle.nm_model.specs.Searches.{Search, idle, searched}
+use Rattle.nm_model.specs.Rooms.{Roomy}
+use Rattle.nm_machine.proofs.searches.Searches.learn.Goals as goal
 
 abbrev tells : Roomy → Search
 tells s = s.tells

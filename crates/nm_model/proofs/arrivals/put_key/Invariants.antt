@@ -1,6 +1,6 @@
 use Rattle.std.proofs.Common.{◌≡◌, ◌++◌, map, take, drop}
 use Rattle.nm_model.specs.Searches.{keyed}
-use Rattle.nm_model.proofs.walks.put_key.Given as goal
+use Rattle.nm_model.proofs.arrivals.put_key.Given as goal
 
 -- the arrivals so far are done
 abbrev pub invariant-loop-index : goal.invariant-loop-index

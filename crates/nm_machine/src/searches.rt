@@ -5,11 +5,12 @@ ghost use Rattle.std.specs.Prelude.{◌≡◌, ◌<◌, length, replicate, None,
 ghost use Rattle.nm_model.specs.declared.event.Event.TheVariants as event;
 ghost use Rattle.nm_model.specs.Answers.{IsAnswer, IsRefusedAs, IsShaped};
 ghost use Rattle.nm_model.specs.Runs.{of, reply_of, applied};
-ghost use Rattle.nm_model.specs.Searches.{idle, told, roomy_of, HasRoom, HasRoomFor};
-ghost use Rattle.nm_model.specs.Ordered.{search_of, learned_from, disorder, in_order, refusal_in, refused_in};
+ghost use Rattle.nm_model.specs.Searches.{idle};
+ghost use Rattle.nm_model.specs.Rooms.{in_order, searches_of, roomy_of, HasRoom, HasRoomFor};
+ghost use Rattle.nm_model.specs.Ordered.{search_of, learned_from, disorder, refusal_in, refused_in};
 
-use crate::call::Search;
 use crate::machine::Machine;
+use crate::search::Search;
 use nm_edge::Side;
 use nm_model::event::{Event, Field};
 use nm_model::reply::{Refused, Reply};
@@ -24,7 +25,7 @@ pub struct Searches {
 
 impl Model for Searches {
     ghost use Rattle.std.specs.Prelude.{List};
-    ghost use Rattle.nm_model.specs.Searches.{Roomy};
+    ghost use Rattle.nm_model.specs.Rooms.{Roomy};
 
     ghost Value = { List Roomy };
 
@@ -34,7 +35,7 @@ impl Model for Searches {
 impl Searches {
     /// No worker has an operation yet.
     pub fn new(alloc: Global, workers: u32) -> Result<Searches, AllocError>
-        ensures { IfOk result (λ searches. told searches ≡ replicate workers idle) }
+        ensures { IfOk result (λ searches. searches_of searches ≡ replicate workers idle) }
     {
         let mut by_worker = Vec::with_capacity(alloc, workers as usize)?;
         for _ in 0..workers {
@@ -46,7 +47,7 @@ impl Searches {
     // What the log of a worker tells.
     fn of(&self, worker: usize) -> &Search
         requires { worker < length self.now }
-        ensures { result.now.tells ≡ search_of (told self.now) worker }
+        ensures { result.now.tells ≡ search_of (searches_of self.now) worker }
     {
         &self.by_worker[worker]
     }
@@ -54,7 +55,7 @@ impl Searches {
     // Asks for the memory of one more arrival.
     fn make_room(&mut self, worker: usize) -> Result<(), AllocError>
         requires { worker < length self.old }
-        ensures same { told self.new ≡ told self.old }
+        ensures same { searches_of self.new ≡ searches_of self.old }
         ensures room { OnOk result (HasRoom (roomy_of self.new worker)) }
     {
         self.by_worker[worker].make_room()
@@ -64,7 +65,7 @@ impl Searches {
     fn learn(&mut self, worker: usize, event: &Event, reply: &Reply)
         requires is_there { worker < length self.old }
         requires room { HasRoomFor event.now (roomy_of self.old worker) }
-        ensures { told self.new ≡ learned_from (told self.old) worker event.now reply.now }
+        ensures { searches_of self.new ≡ learned_from (searches_of self.old) worker event.now reply.now }
     {
         self.by_worker[worker].learn(event, reply);
     }
@@ -81,9 +82,9 @@ impl Searches {
         requires sized { length self.old ≡ machine.old.layout.workers }
         ensures outcome { IsAnswer (refused_in (in_order machine.old self.old) worker event.now) (reply_of machine.old worker event.now) result }
         ensures state { OnOk result (machine.new ≡ applied machine.old worker event.now) }
-        ensures learned { OnOk result (told self.new ≡ learned_from (told self.old) worker event.now (reply_of machine.old worker event.now)) }
+        ensures learned { OnOk result (searches_of self.new ≡ learned_from (searches_of self.old) worker event.now (reply_of machine.old worker event.now)) }
         ensures err_state { OnErr result (machine.new ≡ machine.old) }
-        ensures err_told { OnErr result (told self.new ≡ told self.old) }
+        ensures err_told { OnErr result (searches_of self.new ≡ searches_of self.old) }
     {
         if machine.is_no_worker(worker) {
             return Err(Refused::NoWorker);
@@ -100,10 +101,10 @@ impl Searches {
         requires shaped { IsShaped machine.now }
         requires is_there { worker < length machine.now.workers }
         requires has { worker < length self.old }
-        ensures refused { IfErr result (IsRefusedAs (refusal_in machine.now (told self.old) worker event.now)) }
-        ensures in_order { OnOk result (disorder (of machine.now worker) (search_of (told self.old) worker) event.now ≡ None) }
+        ensures refused { IfErr result (IsRefusedAs (refusal_in machine.now (searches_of self.old) worker event.now)) }
+        ensures in_order { OnOk result (disorder (of machine.now worker) (search_of (searches_of self.old) worker) event.now ≡ None) }
         ensures room { OnOk result (HasRoomFor event.now (roomy_of self.new worker)) }
-        ensures same { told self.new ≡ told self.old }
+        ensures same { searches_of self.new ≡ searches_of self.old }
     {
         match *event {
             Event::Look(slot, field) => self.may_look(machine, worker, slot, field),
@@ -138,9 +139,9 @@ impl Searches {
         requires shaped { IsShaped machine.now }
         requires is_there { worker < length machine.now.workers }
         requires has { worker < length self.old }
-        ensures refused { IfErr result (IsRefusedAs (refusal_in machine.now (told self.old) worker (event.Look slot field))) }
+        ensures refused { IfErr result (IsRefusedAs (refusal_in machine.now (searches_of self.old) worker (event.Look slot field))) }
         ensures room { OnOk result (HasRoom (roomy_of self.new worker)) }
-        ensures same { told self.new ≡ told self.old }
+        ensures same { searches_of self.new ≡ searches_of self.old }
     {
         machine.may_look(worker, slot, field)?;
         self.make_room(worker)?;
@@ -160,8 +161,8 @@ impl Searches {
         requires shaped { IsShaped machine.now }
         requires is_there { worker < length machine.now.workers }
         requires has { worker < length self.now }
-        ensures refused { IfErr result (IsRefusedAs (refusal_in machine.now (told self.now) worker (event.Link parent side leaf new))) }
-        ensures in_order { OnOk result (disorder (of machine.now worker) (search_of (told self.now) worker) (event.Link parent side leaf new) ≡ None) }
+        ensures refused { IfErr result (IsRefusedAs (refusal_in machine.now (searches_of self.now) worker (event.Link parent side leaf new))) }
+        ensures in_order { OnOk result (disorder (of machine.now worker) (search_of (searches_of self.now) worker) (event.Link parent side leaf new) ≡ None) }
     {
         machine.may_link(worker, parent, side, leaf, new)?;
         let knowledge = &machine.workers[worker];
@@ -183,8 +184,8 @@ impl Searches {
         requires shaped { IsShaped machine.now }
         requires is_there { worker < length machine.now.workers }
         requires has { worker < length self.now }
-        ensures refused { IfErr result (IsRefusedAs (refusal_in machine.now (told self.now) worker (event.Flag parent side leaf))) }
-        ensures in_order { OnOk result (disorder (of machine.now worker) (search_of (told self.now) worker) (event.Flag parent side leaf) ≡ None) }
+        ensures refused { IfErr result (IsRefusedAs (refusal_in machine.now (searches_of self.now) worker (event.Flag parent side leaf))) }
+        ensures in_order { OnOk result (disorder (of machine.now worker) (search_of (searches_of self.now) worker) (event.Flag parent side leaf) ≡ None) }
     {
         machine.may_flag(worker, parent, side, leaf)?;
         if !self.of(worker).may_flag(parent, side, leaf) {
@@ -197,8 +198,8 @@ impl Searches {
     fn may_leave(&self, machine: &Machine, worker: usize) -> Result<(), Refused>
         requires is_there { worker < length machine.now.workers }
         requires has { worker < length self.now }
-        ensures refused { IfErr result (IsRefusedAs (refusal_in machine.now (told self.now) worker event.Leave)) }
-        ensures in_order { OnOk result (disorder (of machine.now worker) (search_of (told self.now) worker) event.Leave ≡ None) }
+        ensures refused { IfErr result (IsRefusedAs (refusal_in machine.now (searches_of self.now) worker event.Leave)) }
+        ensures in_order { OnOk result (disorder (of machine.now worker) (search_of (searches_of self.now) worker) event.Leave ≡ None) }
     {
         machine.may_leave(worker)?;
         if self.of(worker).owes_answer() {
@@ -211,8 +212,8 @@ impl Searches {
     fn may_answer(&self, machine: &Machine, worker: usize, answer: bool) -> Result<(), Refused>
         requires is_there { worker < length machine.now.workers }
         requires has { worker < length self.now }
-        ensures refused { IfErr result (IsRefusedAs (refusal_in machine.now (told self.now) worker (event.LeaveWith answer))) }
-        ensures in_order { OnOk result (disorder (of machine.now worker) (search_of (told self.now) worker) (event.LeaveWith answer) ≡ None) }
+        ensures refused { IfErr result (IsRefusedAs (refusal_in machine.now (searches_of self.now) worker (event.LeaveWith answer))) }
+        ensures in_order { OnOk result (disorder (of machine.now worker) (search_of (searches_of self.now) worker) (event.LeaveWith answer) ≡ None) }
     {
         machine.may_leave(worker)?;
         if !self.of(worker).shows(answer) {

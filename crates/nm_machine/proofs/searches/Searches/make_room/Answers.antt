@@ -1,7 +1,8 @@
 use Rattle.std.proofs.Common.{ap, ◌∙◌}
 use Rattle.std.proofs.Math.Seq.{map-set_same}
-use Rattle.nm_model.specs.Searches.{Search, Roomy}
-use Rattle.nm_machine.proofs.calls.Searches.make_room.Goals as goal
+use Rattle.nm_model.specs.Searches.{Search}
+use Rattle.nm_model.specs.Rooms.{Roomy}
+use Rattle.nm_machine.proofs.searches.Searches.make_room.Goals as goal
 
 abbrev tells : Roomy → Search
 tells s = s.tells

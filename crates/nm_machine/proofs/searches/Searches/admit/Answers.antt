@@ -1,4 +1,4 @@
-use Rattle.nm_machine.proofs.calls.Searches.admit.Goals as goal
+use Rattle.nm_machine.proofs.searches.Searches.admit.Goals as goal
 
 pub returns-in-Link-clause-refused : goal.returns-in-Link-clause-refused
 returns-in-Link-clause-refused c = rw c.in-Link.is c.may_link.ensures.refused

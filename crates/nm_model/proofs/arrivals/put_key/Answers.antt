@@ -1,7 +1,7 @@
 use Rattle.std.proofs.Common.{rules}
 use Rattle.std.proofs.lemmas.List.Edits.{map_over_more}
 use Rattle.nm_model.specs.Searches.{keyed}
-use Rattle.nm_model.proofs.walks.put_key.Goals as goal
+use Rattle.nm_model.proofs.arrivals.put_key.Goals as goal
 
 pub loop-index-preserved : goal.loop-index-preserved
 loop-index-preserved c = rw c.keyed.ensures (map_over_more (keyed c.args.slot c.args.key) c.args.arrivals.now.items c.loop-index.arrivals.items c.loop-index.index c.index.result.now (search rules) c.loop-index.invariant c.index.ensures)
