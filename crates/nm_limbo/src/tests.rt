@@ -135,6 +135,24 @@ fn keeps_its_items_when_memory_is_refused(rt: HostRuntime) -> Result<(), Fail> {
     Ok(())
 }
 
+#[test]
+fn a_refused_reserve_can_be_made_again(rt: HostRuntime) -> Result<(), Fail> {
+    // Room for two blocks of 32 numbers with their links.
+    let heap = LocalHeap::new(rt.alloc(), 272 * 2 + 100)?;
+    let mut other = BlockQueue::new(&heap);
+    let mut queue = BlockQueue::new(&heap);
+    reserve(&rt, &mut other, 32)?;
+    push(&rt, &mut other, 1u64);
+    assert_eq!(rt; reserve(&rt, &mut queue, 64), Err(NoMemory));
+    assert_eq!(rt; counts(&queue), (1, 32, 0));
+    push(&rt, &mut queue, 7u64);
+    drop(other);
+    assert_eq!(rt; reserve(&rt, &mut queue, 63), Ok(()));
+    assert_eq!(rt; counts(&queue), (2, 63, 1));
+    assert_eq!(rt; queue.pop(), Some(7));
+    Ok(())
+}
+
 fn sends<T: Send>(value: T) -> T {
     value
 }
