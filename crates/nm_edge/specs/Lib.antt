@@ -1,3 +1,4 @@
+pub mod EdgeWords
 pub mod Edges
 pub mod Keys
 pub mod Layouts

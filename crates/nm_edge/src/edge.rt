@@ -1,7 +1,8 @@
 //! Edges: where a node's child stands, and the two marks that freeze an edge.
 ghost use Rattle.std.specs.Prelude.{◌≡◌, ◌≢◌, ◌/◌, ◌^◌, ◌<◌, ◌≤◌, ◌⊎◌, ◌↔◌, IfSome, IsNone, true};
-ghost use Rattle.nm_edge.specs.Edges.{IsEdge, to, is_to, other, tagged, unpacked, untagged, word_of};
+ghost use Rattle.nm_edge.specs.Edges.{IsEdge, edge_in, is_to, is_word, other, tagged, to, unpacked, untagged, word_of};
 
+use std::fmt;
 use std::marker::Model;
 
 /// A side of a node. A search for a key goes left where the key is less than the node's, else right.
@@ -14,25 +15,27 @@ pub enum Side {
 /// An edge of a node: the slot that it leads to, and its two marks (Natarajan and Mittal, section 3.1).
 ///
 /// The flag says that the leaf below and the node above are to be removed, the tag that the node above alone is.
-/// The null edge, to slot 0, has no mark.
-#[derive(Clone, Copy, Debug, PartialEq, Eq)]
+/// The null edge, to slot 0, has no mark. It is kept as its word, so that a word that was loaded is an edge with no test.
+#[derive(Clone, Copy, PartialEq, Eq)]
 pub struct Edge {
-    slot: u32,
-    flag: bool,
-    tag: bool,
+    word: u64,
 }
 
 impl Model for Edge {
-    ghost use Rattle.nm_edge.specs.Edges.{IsEdge};
+    ghost use Rattle.std.specs.Prelude.{◌≡◌, true};
+    ghost use Rattle.nm_edge.specs.Edges.{edge_in, is_word, word_of};
     ghost use Rattle.nm_edge.specs.Edges as spec;
+    ghost use Rattle.nm_edge.specs.EdgeWords.{word_edge};
 
     ghost Value = { spec.Edge };
 
-    ghost view = { λ e. record { slot = e.slot; flag = e.flag; tag = e.tag } };
+    ghost view = { λ e. edge_in e.word };
 
-    ghost inverse = { λ e. record { slot = e.slot; flag = e.flag; tag = e.tag } };
+    ghost inverse = { λ e. record { word = word_of e } };
 
-    ghost invariant = { λ e. IsEdge (record { slot = e.slot; flag = e.flag; tag = e.tag }) };
+    ghost inverse_ok = { λ e fits i. record { word = word_edge e.word i } };
+
+    ghost invariant = { λ e. is_word e.word ≡ true };
 }
 
 impl Edge {
@@ -44,7 +47,10 @@ impl Edge {
         if slot == 0 && (flag || tag) {
             return None;
         }
-        Some(Edge { slot, flag, tag })
+        let marks = 2 * u64::from(tag) + u64::from(flag);
+        Some(Edge {
+            word: 4 * u64::from(slot) + marks,
+        })
     }
 
     /// The edge to a slot, with no mark.
@@ -52,9 +58,7 @@ impl Edge {
         ensures { result ≡ to slot }
     {
         Edge {
-            slot,
-            flag: false,
-            tag: false,
+            word: 4 * u64::from(slot),
         }
     }
 
@@ -62,31 +66,28 @@ impl Edge {
     pub fn slot(self) -> u32
         ensures { result ≡ self.slot }
     {
-        let Edge { slot, .. } = self;
-        slot
+        (self.word / 4) as u32
     }
 
     /// Whether the leaf below it and the node above it are to be removed.
     pub fn flag(self) -> bool
         ensures { result ≡ self.flag }
     {
-        let Edge { flag, .. } = self;
-        flag
+        self.word % 2 == 1
     }
 
     /// Whether the node above it alone is to be removed.
     pub fn tag(self) -> bool
         ensures { result ≡ self.tag }
     {
-        let Edge { tag, .. } = self;
-        tag
+        self.word / 2 % 2 == 1
     }
 
     /// Whether it leads to that slot and has no mark: what an exchange of the edge expects.
     pub fn is_to(self, slot: u32) -> bool
         ensures { result ≡ is_to self slot }
     {
-        self.slot == slot && !self.flag && !self.tag
+        self.word == 4 * u64::from(slot)
     }
 
     /// The edge with its flag set.
@@ -95,9 +96,7 @@ impl Edge {
         ensures { result ≡ record self { flag = true } }
     {
         Edge {
-            slot: self.slot,
-            flag: true,
-            tag: self.tag,
+            word: self.word / 2 * 2 + 1,
         }
     }
 
@@ -105,10 +104,11 @@ impl Edge {
     pub fn tagged(self) -> Edge
         ensures { result ≡ tagged self }
     {
+        if self.word == 0 {
+            return self;
+        }
         Edge {
-            slot: self.slot,
-            flag: self.flag,
-            tag: self.slot != 0,
+            word: self.word / 4 * 4 + 2 + self.word % 2,
         }
     }
 
@@ -116,11 +116,8 @@ impl Edge {
     pub fn untagged(self) -> Edge
         ensures { result ≡ untagged self }
     {
-        let Edge { slot, flag, tag: _ } = self;
         Edge {
-            slot,
-            flag,
-            tag: false,
+            word: self.word / 4 * 4 + self.word % 2,
         }
     }
 
@@ -128,8 +125,16 @@ impl Edge {
     pub fn pack(self) -> u64
         ensures { result ≡ word_of self }
     {
-        let Edge { slot, flag, tag } = self;
-        4 * u64::from(slot) + 2 * u64::from(tag) + u64::from(flag)
+        let Edge { word } = self;
+        word
+    }
+
+    /// The edge of a word that is known to be an edge's, with no test.
+    pub fn of_word(word: u64) -> Edge
+        requires { is_word word ≡ true }
+        ensures { result ≡ edge_in word }
+    {
+        Edge { word }
     }
 
     /// The edge of a word; `None` exactly where the slot would be above 2^32 - 1, or a null edge would have a mark.
@@ -138,8 +143,21 @@ impl Edge {
         ensures fits { IfSome result IsEdge }
         ensures none { IsNone result ↔ ((2 ^ 32 ≤ word / 4) ⊎ ((word ≡ 1) ⊎ (word ≡ 2) ⊎ (word ≡ 3))) }
     {
-        let slot = u32::try_from(word / 4).ok()?;
-        Edge::new(slot, word % 2 == 1, word / 2 % 2 == 1)
+        if word / 4 > u64::from(u32::MAX) || (1..=3).contains(&word) {
+            return None;
+        }
+        Some(Edge::of_word(word))
+    }
+}
+
+/// Tells slot, flag and tag.
+impl fmt::Debug for Edge {
+    fn fmt<W: fmt::Write>(&self, f: &mut fmt::Formatter<W>) -> fmt::Result {
+        f.debug_struct("Edge")
+            .field("slot", &self.slot())
+            .field("flag", &self.flag())
+            .field("tag", &self.tag())
+            .finish()
     }
 }
 

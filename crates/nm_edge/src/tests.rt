@@ -1,4 +1,5 @@
 use super::*;
+use std::alloc::AllocError;
 
 #[test]
 fn a_null_edge_is_never_marked(rt: HostRuntime) {
@@ -37,8 +38,16 @@ fn edges_are_words(rt: HostRuntime) {
     assert!(rt; Edge::unpack(2).is_none());
     assert!(rt; Edge::unpack(3).is_none());
     assert!(rt; Edge::unpack(17_179_869_184).is_none());
+    assert_eq!(rt; Edge::of_word(38), Edge::to(9).tagged());
     unpacking_gives_the_edge();
     packing_gives_the_word();
+}
+
+#[test]
+fn an_edge_is_told_by_slot_and_marks(rt: HostRuntime) -> Result<(), AllocError> {
+    let text = format!(in rt.alloc(); "{:?}", Edge::of_word(38))?;
+    assert_eq!(rt; text.as_str(), "Edge { slot: 9, flag: false, tag: true }");
+    Ok(())
 }
 
 #[test]
