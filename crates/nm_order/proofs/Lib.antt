@@ -73,6 +73,7 @@ pub mod LoggedAnswers
 pub mod WorkedHistories
 pub mod PinsOfLogs
 pub mod LinkedNodes
+pub mod LinkedBirths
 pub mod StaleWalks
 pub mod StaleRuns
 pub mod KeyTests

@@ -115,7 +115,7 @@ module _ (w : ℕ) where
   own_adds c t ts is takes = part_from c t ts (Ok (reply_of c.state t.0 t.1)) (allowed_outcome c t is) ∙ ap (λ (b : Bool). cond b ((t.1, reply_of c.state t.0 t.1) ∷ []) [] ++ part_of w (trace_in (next_in c t) ts)) takes
 
   -- a turn that is allowed leaves the state that follows
-  next_state : (c : Configuration) (t : ℕ × Event) → refused_in c t.0 t.1 ≡ None → (next_in c t).state ≡ applied c.state t.0 t.1
+  pub next_state : (c : Configuration) (t : ℕ × Event) → refused_in c t.0 t.1 ≡ None → (next_in c t).state ≡ applied c.state t.0 t.1
   unfolding applied_in
   next_state c t is = ap (λ (d : Configuration). d.state) (allowed_next c t is)
 

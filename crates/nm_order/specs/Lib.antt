@@ -21,3 +21,4 @@ pub mod Unpinned
 pub mod Taught
 pub mod Pinned
 pub mod NewNodes
+pub mod OwnBirths

@@ -1,4 +1,6 @@
 //! Facts that stay: what a worker's log tells it under one pin, as laws over that log alone.
+ghost use Rattle.nm_order.specs.Moments.{OfEachOrderedRun};
+ghost use Rattle.nm_order.specs.OwnBirths.{OwnBirthsStand};
 ghost use Rattle.nm_order.specs.Facts.{FactsAreTrue, FactsStay, FlaggedSlotsStandHigh, LaterWalksFindTheFlag};
 
 /// Each fact that a worker's log holds is true of the memory, whatever the others did since it was learned: marks stand, births stand,
@@ -22,4 +24,10 @@ pub fn flagged_slots_stand_high()
 /// a splice that moves the leaf up copies its flag. (The copied flag of Natarajan and Mittal's cleanup, section 3.2.)
 pub fn later_walks_find_the_flag()
     ensures { LaterWalksFindTheFlag }
+{}
+
+/// Each birth that a worker's log tells under its pin stands in its slot, in every ordered run, whatever the others did since: of each known node
+/// whose birth it looked at, and of the two nodes of its won link, whose births it had stored. (No node is reused under a pin: Fraser, section 5.2.3.)
+pub fn own_births_stand()
+    ensures { OfEachOrderedRun OwnBirthsStand }
 {}

@@ -28,10 +28,12 @@ use Rattle.nm_laws.proofs.LogsOfRuns.{searches_tell}
 use Rattle.nm_laws.proofs.Reachable.{layout_kept}
 use Rattle.nm_order.specs.Intervals.{HasKey}
 use Rattle.nm_order.specs.Logs.{takes_part, part_of, known_by}
+use Rattle.nm_order.specs.OwnBirths.{births_by}
+use Rattle.nm_order.proofs.LinkedBirths.{own_births_stand}
 use Rattle.nm_order.proofs.PartsOfRuns.{logs_tell, part_tells_search}
 use Rattle.nm_order.proofs.OrderedLaws.{IsOrdered, each_ordered}
 use Rattle.nm_words.specs.Packing.{words_of, word_at, touched, left_word, with_word, EventsTouchOneWord}
-use Rattle.nm_words.specs.Told.{told, BirthsAreKnown, RepliesAreTold}
+use Rattle.nm_words.specs.Told.{BirthsAreIn, told, BirthsAreKnown, RepliesAreTold}
 use Rattle.nm_words.proofs.PackedEvents.{each_event_touches_one_word}
 use Rattle.nm_words.proofs.PackedReplies.{each_reply_is_told}
 use Rattle.nm_steps.specs.Steps.{May, IsAsLooked, HasEmptyHands}
@@ -59,9 +61,9 @@ keys-append ts t keys key = All-append (λ (u : ℕ × Event). HasKey u.1) ts (t
 -- ---- one more turn
 
 -- a join aside, what a worker does is judged by what it knows
-plainly : (s : State) (w : ℕ) (e : Event) → BirthsAreKnown s.layout (of s w) e → refusal_of s w e ≡ refusal s.layout s.memory (of s w) w e
-plainly s w (Join v) births = absurd births
-plainly s w e births = refl
+plainly : (s : State) (w : ℕ) (births : ℕ → Option ℕ) (e : Event) → BirthsAreKnown s.layout (of s w) births e → refusal_of s w e ≡ refusal s.layout s.memory (of s w) w e
+plainly s w births (Join v) known = absurd known
+plainly s w births e known = refl
 
 -- what was looked at is so
 as_looked : (s : State) (w : ℕ) → BirthsStand s w → (e : Event) → IsAsLooked (of s w) s.memory e
@@ -131,6 +133,10 @@ module _ (L : Layout) (w : ℕ) (log : List Entry) (turns : List (ℕ × Event))
   holds_there : (P : Layout → Knowledge → Type 0) → P L k → P c.state.layout (of c.state w)
   holds_there P holds = subst (λ (l : Layout). P l (of c.state w)) (sym layout_is) (subst (P L) (sym knows) holds)
 
+  -- the births that the log tells stand in memory
+  births_are_in : BirthsAreIn c.state.memory (births_by L w log)
+  births_are_in x b is = own_births_stand L enough turns p.keys w x b p.worker (ap (λ (l : List Entry). births_by L w l x) (sym p.is_part) ∙ is)
+
   search_is : search_of o.searches w ≡ search_after idle log
   search_is =
       some_is (c.searches) o.searches (λ ss. search_of ss w ≡ search_after idle (log_of w (trace_in (ordered L) turns))) o.are (searches_tell L turns w p.worker)
@@ -139,7 +145,7 @@ module _ (L : Layout) (w : ℕ) (log : List Entry) (turns : List (ℕ × Event))
   module _ (e : Event) (may : May L w log e) where
     refusal_none : refusal_of c.state w e ≡ None
     refusal_none =
-        plainly c.state w e (holds_there (λ l x. BirthsAreKnown l x e) may.births)
+        plainly c.state w (births_by L w log) e (holds_there (λ l x. BirthsAreKnown l x (births_by L w log) e) may.births)
         ∙ (as_known (λ l x. refusal l c.state.memory x w e) ∙ may.allowed c.state.memory (subst (λ (x : Knowledge). IsAsLooked x c.state.memory e) knows (as_looked c.state w (stand w) e)))
       where
         stand : EachBirthStands c.state
@@ -173,11 +179,13 @@ module _ (L : Layout) (w : ℕ) (log : List Entry) (turns : List (ℕ × Event))
         ∙ (ap (λ (l : Layout). words_of l (next c.state (w, e)).memory) (sym layout_is) ∙ (touching.1 ∙ as_known (λ l x. with_word l c.state.memory (touched w e) (left_word l x e (word_at l c.state.memory (touched w e)))))))
 
     -- and its reply
-    pub reply_is : reply_of c.state w e ≡ told L k e found
-    reply_is = subst RepliesAreTold (sym o.leads) (each_reply_is_told L enough o.events) w e no_refusal (holds_there (λ l x. BirthsAreKnown l x e) may.births) ∙ as_known (λ l x. told l x e (word_at l c.state.memory (touched w e)))
+    pub reply_is : reply_of c.state w e ≡ told L k (births_by L w log) e found
+    reply_is =
+        subst RepliesAreTold (sym o.leads) (each_reply_is_told L enough o.events) w e (births_by L w log) births_are_in no_refusal (holds_there (λ l x. BirthsAreKnown l x (births_by L w log) e) may.births)
+        ∙ as_known (λ l x. told l x (births_by L w log) e (word_at l c.state.memory (touched w e)))
 
     -- the trace of one turn more
-    pub trace_after : trace_in (ordered L) (turns ++ (w, e) ∷ []) ≡ trace_in (ordered L) turns ++ record { worker = w; event = e; outcome = Ok (told L k e found) } ∷ []
+    pub trace_after : trace_in (ordered L) (turns ++ (w, e) ∷ []) ≡ trace_in (ordered L) turns ++ record { worker = w; event = e; outcome = Ok (told L k (births_by L w log) e found) } ∷ []
     unfolding trace_in
     trace_after = trace_in-append (ordered L) turns ((w, e) ∷ []) ∙ ap (λ (r : Result Reply Refused). trace_in (ordered L) turns ++ record { worker = w; event = e; outcome = r } ∷ []) (allowed_outcome c (w, e) accepted ∙ ap Ok reply_is)
 

@@ -22,11 +22,12 @@ use Rattle.nm_model.specs.Learning.{learn}
 use Rattle.nm_model.specs.Walks.{Entry}
 use Rattle.nm_model.specs.Ordered.{ordered, after_in, trace_in}
 use Rattle.nm_order.specs.Logs.{takes_part, is_leaver, part_of, known_by}
+use Rattle.nm_order.specs.OwnBirths.{births_by}
 use Rattle.nm_words.specs.Packing.{words_of, word_at, touched, left_word}
 use Rattle.nm_words.specs.Told.{told}
 use Rattle.nm_steps.specs.declared.view.Held.{Held}
 use Rattle.nm_steps.specs.declared.view.View.{View}
-use Rattle.nm_steps.specs.Rules.{held, holdings, knowledge, stands, once_below, LogsAre, IsShown, Runs, Kept, logged, is_store, IsFound, Did}
+use Rattle.nm_steps.specs.Rules.{held, holdings, knowledge, known_births, stands, once_below, LogsAre, IsShown, Runs, Kept, logged, is_store, IsFound, Did}
 use Rattle.nm_steps.specs.Steps.{May, IsReady, Changes, IsBlind}
 use Rattle.nm_steps.proofs.Counts.{at_most_sum, both_at_most_sum, sum_after}
 use Rattle.nm_steps.proofs.Presence.{gone_kept, known_push}
@@ -114,13 +115,13 @@ module _ (L : Layout) (words : List ℕ) (views : List View) (id : ℕ) (v : Vie
   is_found = record { fits = k.fits; worker = counted.1; turns = k.turns; keys = k.keys; is_part = mine.1; here = part.here; word = λ _. found_is }
 
   abbrev reply : Reply
-  reply = told v.layout (knowledge v) e found
+  reply = told v.layout (knowledge v) (known_births v) e found
 
   abbrev now : View
   now = logged v e found
 
-  reply_is : told L (known_by L v.number v.log) e (word_at L (after_in (ordered L) k.turns).state.memory (touched v.number e)) ≡ reply
-  reply_is = ap (λ (l : Layout). told l (known_by l v.number v.log) e (word_at L (after_in (ordered L) k.turns).state.memory (touched v.number e))) (sym layout) ∙ ap (told v.layout (knowledge v) e) (sym found_is)
+  reply_is : told L (known_by L v.number v.log) (births_by L v.number v.log) e (word_at L (after_in (ordered L) k.turns).state.memory (touched v.number e)) ≡ reply
+  reply_is = ap (λ (l : Layout). told l (known_by l v.number v.log) (births_by l v.number v.log) e (word_at L (after_in (ordered L) k.turns).state.memory (touched v.number e))) (sym layout) ∙ ap (told v.layout (knowledge v) (known_births v) e) (sym found_is)
 
   trace_is : trace_in (ordered L) more ≡ trace ++ one_turn v.number e reply ∷ []
   trace_is = trace_after L v.number v.log k.turns part e may ∙ ap (λ (r : Reply). trace ++ one_turn v.number e r ∷ []) reply_is
@@ -196,7 +197,7 @@ no_step = step 0 0 0 0 none
 pub allows : (L : Layout) (slots id : ℕ) (v : View) (e : Event) (i : ℕ) (f said : ℕ → ℕ)
     → v.spent ≡ false → v.layout ≡ L → i ≡ word L (touched v.number e) → May L v.number v.log e
     → ((n : ℕ) → f n ≡ left_word v.layout (knowledge v) e n)
-    → ((n : ℕ) → (told v.layout (knowledge v) e (said n) ≡ told v.layout (knowledge v) e n) × (is_store e ≡ false → said n ≡ n))
+    → ((n : ℕ) → (told v.layout (knowledge v) (known_births v) e (said n) ≡ told v.layout (knowledge v) (known_births v) e n) × (is_store e ≡ false → said n ≡ n))
     → Allows (Kept L) slots id (v, []) i f (λ n. Did e no_step (v, []) (said n))
 allows L slots id v e i f said alive layout index may change tell s k homes at small =
     let n : ℕ = slice_index s.words i in
@@ -214,7 +215,7 @@ allows L slots id v e i f said alive layout index may change tell s k homes at s
 -- what every operation asks of its caller, where the pass is ready; d is the event that the `Play` names
 asked : (L : Layout) (z : TableId) (slots : ℕ) (it : Seat Unit View) (d e : Event) (i : ℕ) (f said : ℕ → ℕ)
     → d ≡ e → IsReady (record { table = z; layout = L }) it e i → Changes e it.me.0 f
-    → ((n : ℕ) → (told it.me.0.layout (knowledge it.me.0) e (said n) ≡ told it.me.0.layout (knowledge it.me.0) e n) × (is_store e ≡ false → said n ≡ n))
+    → ((n : ℕ) → (told it.me.0.layout (knowledge it.me.0) (known_births it.me.0) e (said n) ≡ told it.me.0.layout (knowledge it.me.0) (known_births it.me.0) e n) × (is_store e ≡ false → said n ≡ n))
     → (it.table_id ≡ z) × (i < z.words) × Allows (Kept L) slots it.id it.me i f (λ n. Did d no_step it.me (said n))
 asked L z slots it d e i f said pick r change tell = (
   r.table,

@@ -21,10 +21,11 @@ use Rattle.nm_model.specs.Walks.{Entry}
 use Rattle.nm_model.specs.Ordered.{ordered, after_in, trace_in}
 use Rattle.nm_order.specs.Hands.{IsPooled}
 use Rattle.nm_order.specs.Logs.{is_leaver, part_of, known_by, IsLogOf}
+use Rattle.nm_order.specs.OwnBirths.{births_by}
 use Rattle.nm_words.specs.Packing.{word_at, touched}
 use Rattle.nm_words.specs.Told.{told}
 use Rattle.nm_steps.specs.declared.view.View.{View}
-use Rattle.nm_steps.specs.Rules.{knowledge, logged, is_store, IsFound}
+use Rattle.nm_steps.specs.Rules.{knowledge, known_births, logged, is_store, IsFound}
 use Rattle.nm_steps.specs.Steps.{Stand, May, IsReady, IsDone, IsOfRun, IsInRun, Tied, Laid, noted, noted_sight}
 use Rattle.nm_steps.proofs.Presence.{gone_kept, known_push}
 use Rattle.nm_steps.proofs.Asking.{within, seen_small, private_pooled}
@@ -82,26 +83,26 @@ brief_is_noted w k _ _ = refl
 -- ---- logs
 
 -- the reply to a store does not depend on the word
-store_is_blind : (L : Layout) (k : Knowledge) (e : Event) (n m : ℕ) → is_store e ≡ true → told L k e n ≡ told L k e m
-store_is_blind L k Announce n m is = refl
-store_is_blind L k Leave n m is = refl
-store_is_blind L k (LeaveWith answer) n m is = refl
-store_is_blind L k (Fill s f v) n m is = refl
-store_is_blind L k e n m is = absurd (true≢false (sym is))
+store_is_blind : (L : Layout) (k : Knowledge) (births : ℕ → Option ℕ) (e : Event) (n m : ℕ) → is_store e ≡ true → told L k births e n ≡ told L k births e m
+store_is_blind L k births Announce n m is = refl
+store_is_blind L k births Leave n m is = refl
+store_is_blind L k births (LeaveWith answer) n m is = refl
+store_is_blind L k births (Fill s f v) n m is = refl
+store_is_blind L k births e n m is = absurd (true≢false (sym is))
 
 module _ (L : Layout) (w : ℕ) (log : List Entry) (e : Event) (n : ℕ) (f : IsFound L w log e n) (may : May L w log e) where
   part : IsPartOf L w log f.turns
   part = record { fits = f.fits; keys = f.keys; worker = f.worker; is_part = f.is_part; here = f.here }
 
-  reply_is : told L (known_by L w log) e (word_at L (after_in (ordered L) f.turns).state.memory (touched w e)) ≡ told L (known_by L w log) e n
+  reply_is : told L (known_by L w log) (births_by L w log) e (word_at L (after_in (ordered L) f.turns).state.memory (touched w e)) ≡ told L (known_by L w log) (births_by L w log) e n
   reply_is = go (is_store e) refl
     where
-      go : (b : Bool) → is_store e ≡ b → told L (known_by L w log) e (word_at L (after_in (ordered L) f.turns).state.memory (touched w e)) ≡ told L (known_by L w log) e n
-      go true is = store_is_blind L (known_by L w log) e _ n is
-      go false is = ap (told L (known_by L w log) e) (sym (f.word is))
+      go : (b : Bool) → is_store e ≡ b → told L (known_by L w log) (births_by L w log) e (word_at L (after_in (ordered L) f.turns).state.memory (touched w e)) ≡ told L (known_by L w log) (births_by L w log) e n
+      go true is = store_is_blind L (known_by L w log) (births_by L w log) e _ n is
+      go false is = ap (told L (known_by L w log) (births_by L w log) e) (sym (f.word is))
 
   -- the longer log is a part of a run too
-  pub log_grows : IsLogOf L w (log ++ (e, told L (known_by L w log) e n) ∷ [])
+  pub log_grows : IsLogOf L w (log ++ (e, told L (known_by L w log) (births_by L w log) e n) ∷ [])
   log_grows = record {
     worker = f.worker;
     turns = f.turns ++ (w, e) ∷ [];
@@ -109,14 +110,14 @@ module _ (L : Layout) (w : ℕ) (log : List Entry) (e : Event) (n : ℕ) (f : Is
     is_part =
         ap (part_of w) (trace_after L w log f.turns part e may)
         ∙ (part_grows w (trace_in (ordered L) f.turns) w e _ (ap (λ (b : Bool). b || is_leaver w e) (eq-eqb w w refl))
-        ∙ (ap (λ (r : Reply). part_of w (trace_in (ordered L) f.turns) ++ (e, r) ∷ []) reply_is ∙ ap (λ (l : List Entry). l ++ (e, told L (known_by L w log) e n) ∷ []) (sym f.is_part)));
+        ∙ (ap (λ (r : Reply). part_of w (trace_in (ordered L) f.turns) ++ (e, r) ∷ []) reply_is ∙ ap (λ (l : List Entry). l ++ (e, told L (known_by L w log) (births_by L w log) e n) ∷ []) (sym f.is_part)));
   }
 
   -- and its worker has not resigned in it
-  pub run_grows : IsOfRun L w (log ++ (e, told L (known_by L w log) e n) ∷ [])
+  pub run_grows : IsOfRun L w (log ++ (e, told L (known_by L w log) (births_by L w log) e n) ∷ [])
   run_grows = record {
     is_part = log_grows;
-    here = ap (λ (k : Knowledge). k.gone) (known_push w L log (e, told L (known_by L w log) e n)) ∙ (gone_kept w (known_by L w log) e (told L (known_by L w log) e n) (no_leaver L w log e may w) ∙ f.here);
+    here = ap (λ (k : Knowledge). k.gone) (known_push w L log (e, told L (known_by L w log) (births_by L w log) e n)) ∙ (gone_kept w (known_by L w log) e (told L (known_by L w log) (births_by L w log) e n) (no_leaver L w log e may w) ∙ f.here);
   }
 
 -- ---- a pass before and after a step
@@ -160,10 +161,10 @@ in_run_after it after number brief e n tied may done =
     }
 
 pub tied_after : (it after : Seat Unit View) (number : ℕ) (brief new : Brief) (e : Event) (n : ℕ) → Tied it number brief → May it.me.0.layout it.me.0.number it.me.0.log e → IsDone it after e n
-    → new ≡ noted brief e (told it.me.0.layout (knowledge it.me.0) e n) → Tied after number new
+    → new ≡ noted brief e (told it.me.0.layout (knowledge it.me.0) (known_births it.me.0) e n) → Tied after number new
 tied_after it after number brief new e n tied may done is =
     let me : after.me.0 ≡ logged it.me.0 e n = ap (λ m. m.0) done.me in
-    let r : Reply = told it.me.0.layout (knowledge it.me.0) e n in
+    let r : Reply = told it.me.0.layout (knowledge it.me.0) (known_births it.me.0) e n in
     let longer : IsLogOf it.me.0.layout it.me.0.number (it.me.0.log ++ (e, r) ∷ []) = log_grows it.me.0.layout it.me.0.number it.me.0.log e n done.found may in
     let epochs : new ≡ (known_by it.me.0.layout it.me.0.number (it.me.0.log ++ (e, r) ∷ [])).brief =
     is ∙ (ap (λ (b : Brief). noted b e r) tied.brief_is
@@ -190,14 +191,14 @@ may_sight L w log = record { looked = tt; allowed = λ m h. refl; ordered = refl
 
 -- ---- moving the epoch on
 
-told_moved : (L : Layout) (k : Knowledge) (seen : ℕ) → k.brief.seen ≡ Some seen → told L k Advance seen ≡ Moved (seen + 1)
-told_moved L k seen is = ap (λ o. cond (is_number o seen) (Moved (seen + 1)) (Behind seen)) is ∙ ap (λ (b : Bool). cond b (Moved (seen + 1)) (Behind seen)) (eq-eqb seen seen refl)
+told_moved : (L : Layout) (k : Knowledge) (births : ℕ → Option ℕ) (seen : ℕ) → k.brief.seen ≡ Some seen → told L k births Advance seen ≡ Moved (seen + 1)
+told_moved L k births seen is = ap (λ o. cond (is_number o seen) (Moved (seen + 1)) (Behind seen)) is ∙ ap (λ (b : Bool). cond b (Moved (seen + 1)) (Behind seen)) (eq-eqb seen seen refl)
 
-told_behind : (L : Layout) (k : Knowledge) (seen n : ℕ) → k.brief.seen ≡ Some seen → n ≢ seen → told L k Advance n ≡ Behind n
-told_behind L k seen n is other = ap (λ o. cond (is_number o n) (Moved (n + 1)) (Behind n)) is ∙ ap (λ (b : Bool). cond b (Moved (n + 1)) (Behind n)) (ne_eqb seen n (λ e. other (sym e)))
+told_behind : (L : Layout) (k : Knowledge) (births : ℕ → Option ℕ) (seen n : ℕ) → k.brief.seen ≡ Some seen → n ≢ seen → told L k births Advance n ≡ Behind n
+told_behind L k births seen n is other = ap (λ o. cond (is_number o n) (Moved (n + 1)) (Behind n)) is ∙ ap (λ (b : Bool). cond b (Moved (n + 1)) (Behind n)) (ne_eqb seen n (λ e. other (sym e)))
 
-pub noted_moved : (L : Layout) (k : Knowledge) (b : Brief) (seen n : ℕ) → b ≡ k.brief → b.seen ≡ Some seen → n ≡ seen → record b { seen = Some (seen + 1) } ≡ noted b Advance (told L k Advance n)
-noted_moved L k b seen n same is at = sym (ap (λ (m : ℕ). noted b Advance (told L k Advance m)) at ∙ ap (noted b Advance) (told_moved L k seen (sym (ap (λ (x : Brief). x.seen) same) ∙ is)))
+pub noted_moved : (L : Layout) (k : Knowledge) (births : ℕ → Option ℕ) (b : Brief) (seen n : ℕ) → b ≡ k.brief → b.seen ≡ Some seen → n ≡ seen → record b { seen = Some (seen + 1) } ≡ noted b Advance (told L k births Advance n)
+noted_moved L k births b seen n same is at = sym (ap (λ (m : ℕ). noted b Advance (told L k births Advance m)) at ∙ ap (noted b Advance) (told_moved L k births seen (sym (ap (λ (x : Brief). x.seen) same) ∙ is)))
 
-pub noted_behind : (L : Layout) (k : Knowledge) (b : Brief) (seen n : ℕ) → b ≡ k.brief → b.seen ≡ Some seen → n ≢ seen → record b { seen = Some n } ≡ noted b Advance (told L k Advance n)
-noted_behind L k b seen n same is other = sym (ap (noted b Advance) (told_behind L k seen n (sym (ap (λ (x : Brief). x.seen) same) ∙ is) other))
+pub noted_behind : (L : Layout) (k : Knowledge) (births : ℕ → Option ℕ) (b : Brief) (seen n : ℕ) → b ≡ k.brief → b.seen ≡ Some seen → n ≢ seen → record b { seen = Some n } ≡ noted b Advance (told L k births Advance n)
+noted_behind L k births b seen n same is other = sym (ap (noted b Advance) (told_behind L k births seen n (sym (ap (λ (x : Brief). x.seen) same) ∙ is) other))

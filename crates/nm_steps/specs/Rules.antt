@@ -1,5 +1,5 @@
 -- The rule: the logs of all workers are a run of the ordered core, and the words are those of its memory.
-use Rattle.std.specs.Prelude.{◌≡◌, ◌<◌, ℕ, zero, suc, Bool, true, false, cond, eqb, ltb, List, [], ◌∷◌, ◌++◌, All}
+use Rattle.std.specs.Prelude.{◌≡◌, ◌<◌, ℕ, Option, zero, suc, Bool, true, false, cond, eqb, ltb, List, [], ◌∷◌, ◌++◌, All}
 use Rattle.std.specs.List.{sum_by, count_by}
 use mathlib.Core.Option.{some}
 use lib.ListN.{get_elem?}
@@ -14,6 +14,7 @@ use Rattle.nm_model.specs.Walks.{Entry}
 use Rattle.nm_model.specs.Ordered.{ordered, after_in, trace_in}
 use Rattle.nm_order.specs.Intervals.{HasKey}
 use Rattle.nm_order.specs.Logs.{part_of, known_by}
+use Rattle.nm_order.specs.OwnBirths.{births_by}
 use Rattle.nm_words.specs.Packing.{words_of, word_at, touched}
 use Rattle.nm_words.specs.Told.{told}
 use Rattle.nm_steps.specs.declared.view.Held.{Held}
@@ -29,6 +30,10 @@ holdings v = cond v.spent [] (held v.number v.log ∷ v.others)
 -- what a view's own worker knows
 abbrev pub knowledge : View → Knowledge
 knowledge v = known_by v.layout v.number v.log
+
+-- the births that its log tells
+abbrev pub known_births : View → ℕ → Option ℕ
+known_births v = births_by v.layout v.number v.log
 
 -- how often the number stands in the view
 abbrev pub stands : ℕ → View → ℕ
@@ -91,7 +96,7 @@ joined v w = record v { log = v.log ++ passing w ∷ []; others = v.others ++ he
 
 -- an event with the reply that the word n gives enters the log
 abbrev pub logged : View → Event → ℕ → View
-logged v e n = record v { log = v.log ++ (e, told v.layout (knowledge v) e n) ∷ [] }
+logged v e n = record v { log = v.log ++ (e, told v.layout (knowledge v) (known_births v) e n) ∷ [] }
 
 -- it is a store, which finds nothing
 abbrev pub is_store : Event → Bool

@@ -23,13 +23,14 @@ use Rattle.nm_model.specs.Searches.{idle}
 use Rattle.nm_model.specs.Ordered.{disorder, ordered, after_in, trace_in}
 use Rattle.nm_order.specs.Intervals.{HasKey}
 use Rattle.nm_order.specs.Logs.{known_by, IsLogOf}
+use Rattle.nm_order.specs.OwnBirths.{births_by}
 use Rattle.nm_order.specs.Hands.{IsPooled}
 use Rattle.nm_words.specs.Packing.{touched, left_word, words_of}
 use Rattle.nm_words.specs.Told.{told, known_as, BirthsAreKnown}
 use Rattle.nm_steps.specs.declared.answers.Sighted.{Sighted}
 use Rattle.nm_steps.specs.declared.answers.Sighted.TheVariants as seeing
 use Rattle.nm_steps.specs.declared.view.View.{View}
-use Rattle.nm_steps.specs.Rules.{held, knowledge, viewing, joined, logged, is_store, stands, once_below, IsShown, IsFound}
+use Rattle.nm_steps.specs.Rules.{held, knowledge, known_births, viewing, joined, logged, is_store, stands, once_below, IsShown, IsFound}
 
 -- ---- what a worker's own log allows
 
@@ -48,7 +49,7 @@ pub record May (L : Layout) (w : ℕ) (log : List Entry) (e : Event) : Type 0 wh
   pub looked : HasLooked (known_by L w log) e
   pub allowed : (m : Memory) → IsAsLooked (known_by L w log) m e → refusal L m (known_by L w log) w e ≡ None
   pub ordered : disorder (known_by L w log) (search_after idle log) e ≡ None
-  pub births : BirthsAreKnown L (known_by L w log) e
+  pub births : BirthsAreKnown L (known_by L w log) (births_by L w log) e
   pub key : HasKey e
 
 -- no private slot and no unlabelled cut: what a worker that resigns must have
@@ -94,7 +95,7 @@ Changes e v f = (n : ℕ) → f n ≡ left_word v.layout (knowledge v) e n
 -- a store, whose reply does not depend on the word that it finds
 pub record IsBlind (e : Event) (v : View) : Type 0 where
   pub store : is_store e ≡ true
-  pub same : (n m : ℕ) → told v.layout (knowledge v) e n ≡ told v.layout (knowledge v) e m
+  pub same : (n m : ℕ) → told v.layout (knowledge v) (known_births v) e n ≡ told v.layout (knowledge v) (known_births v) e m
 
 -- ---- a pass and its steps
 
@@ -208,11 +209,11 @@ link_reply v new r = exchange_reply (Linked (node_linked (knowledge v) new)) r
 
 -- the leaf, with the birth that is known
 abbrev pub flag_reply : View → ℕ → Result Unit Edge → Reply
-flag_reply v leaf r = exchange_reply (Flagged (known_as (knowledge v) leaf)) r
+flag_reply v leaf r = exchange_reply (Flagged (known_as (known_births v) leaf)) r
 
 -- the nodes of the known way, each with the birth that is known
 abbrev pub nodes_cut : View → ℕ → ℕ → Side → List NodeId
-nodes_cut v s p keep = map (known_as (knowledge v)) (cut_by (knowledge v) s (unwrap_or (way v.layout.nodes (knowledge v) s p) []) keep)
+nodes_cut v s p keep = map (known_as (known_births v)) (cut_by (knowledge v) s (unwrap_or (way v.layout.nodes (knowledge v) s p) []) keep)
 
 abbrev pub splice_reply : View → ℕ → ℕ → Side → Result Unit Edge → Reply
 splice_reply v s p keep r = exchange_reply (Cut (nodes_cut v s p keep)) r

@@ -15,16 +15,14 @@ use Rattle.nm_model.specs.declared.event.Field.TheVariants.{Key, Edge as EdgeOn,
 use Rattle.nm_model.specs.declared.reply.Reply.{Reply}
 use Rattle.nm_model.specs.declared.reply.Reply.TheVariants.{Claimed, Taken, KeyIs, BirthIs, EdgeIs, Flagged, Was, Cut, Lost}
 use Rattle.nm_model.specs.Memory.{Memory, node, edge, note, in_pool, named}
-use Rattle.nm_model.specs.Knowledge.{seen_of, way, cut_by}
+use Rattle.nm_model.specs.Knowledge.{way, cut_by}
 use Rattle.nm_model.specs.Step.{reply, reply_look, reply_scan, reply_exchange, refusal}
 use Rattle.nm_model.specs.Runs.{State, of, start, reply_of, after}
 use Rattle.nm_model.specs.Laws.{OfEachState}
-use Rattle.nm_model.specs.Lawful.{EachBirthStands}
 use Rattle.nm_words.specs.Packing.{Fits, note_word, word_at, pool_word_at, touched, field_of}
-use Rattle.nm_words.specs.Told.{noted_in, known_as, BirthsAreKnown, told, told_look, RepliesAreTold}
+use Rattle.nm_words.specs.Told.{Births, BirthsAreIn, noted_in, known_as, BirthsAreKnown, told, told_look, RepliesAreTold}
 use Rattle.nm_laws.proofs.Steps.{Allowed, allowed, passed}
 use Rattle.nm_laws.proofs.Lawful.{IsLawful, lawful}
-use Rattle.nm_laws.proofs.KnownBirths.{each_birth_stands}
 use Rattle.nm_words.proofs.EdgeWords.{word_is_to, word_edge_in}
 use Rattle.nm_words.proofs.PackedReads.{field_read, each_bit_is_its_slot}
 use Rattle.nm_words.proofs.PackedEvents.{fits_of, touches_field, range}
@@ -54,27 +52,27 @@ exchange_told L m p side s won won' fits h same =
     ap₂ (λ (b : Bool) (e : Edge). cond b won (Lost e)) (sym (word_is_to (edge m p side) s)) (sym (word_edge_in (edge m p side)))
     ∙ ap₂ (λ (n : ℕ) (r : Reply). cond (n == 4 * s) r (Lost (edge_in n))) (sym (field_read L m fits (at_edge p side) h)) same
 
-module _ (s : State) (k : IsLawful s) (births : EachBirthStands s) (w : ℕ) where
+module _ (s : State) (k : IsLawful s) (w : ℕ) (births : Births) (stand : BirthsAreIn s.memory births) where
   -- a birth that is known is the one in memory
-  node_known : (x : ℕ) → IsSome (seen_of (of s w) x).birth → named s.memory x ≡ known_as (of s w) x
-  node_known x some = go (seen_of (of s w) x).birth refl some
+  node_known : (x : ℕ) → IsSome (births x) → named s.memory x ≡ known_as births x
+  node_known x some = go (births x) refl some
     where
-      go : (o : Option ℕ) → (seen_of (of s w) x).birth ≡ o → IsSome o → named s.memory x ≡ record { slot = x; birth = unwrap_or o 0 }
+      go : (o : Option ℕ) → births x ≡ o → IsSome o → named s.memory x ≡ record { slot = x; birth = unwrap_or o 0 }
       go None at none = absurd (true≢false (sym none))
-      go (Some b) at yes' = ap (λ (n : ℕ). record { slot = x; birth = n }) ((births w).seen x b at)
+      go (Some b) at yes' = ap (λ (n : ℕ). record { slot = x; birth = n }) (stand x b at)
 
-  nodes_known : (xs : List ℕ) → All (λ x. IsSome (seen_of (of s w) x).birth) xs → map (named s.memory) xs ≡ map (known_as (of s w)) xs
+  nodes_known : (xs : List ℕ) → All (λ x. IsSome (births x)) xs → map (named s.memory) xs ≡ map (known_as births) xs
   nodes_known [] all = refl
   nodes_known (x ∷ xs) all = ap₂ (λ (n : NodeId) (ns : List NodeId). n ∷ ns) (node_known x (all 0 x (omega arith))) (nodes_known xs (λ i d h. all (suc i) d (omega (arith, h))))
 
-  reply_told : (e : Event) → Allowed s w e → BirthsAreKnown s.layout (of s w) e → reply_of s w e ≡ told s.layout (of s w) e (word_at s.layout s.memory (touched w e))
+  reply_told : (e : Event) → Allowed s w e → BirthsAreKnown s.layout (of s w) births e → reply_of s w e ≡ told s.layout (of s w) births e (word_at s.layout s.memory (touched w e))
   unfolding refusal reply
   reply_told e ok known = go e ok (touches_field s k.holder k.law w e ok) known
     where
       fits : Fits s.layout s.memory
       fits = fits_of s k.holder k.law
 
-      go : (e : Event) → Allowed s w e → IsField s.layout (touched w e) → BirthsAreKnown s.layout (of s w) e → reply_of s w e ≡ told s.layout (of s w) e (word_at s.layout s.memory (touched w e))
+      go : (e : Event) → Allowed s w e → IsField s.layout (touched w e) → BirthsAreKnown s.layout (of s w) births e → reply_of s w e ≡ told s.layout (of s w) births e (word_at s.layout s.memory (touched w e))
       go Sight ok at known = refl
       go (SightFor op key) ok at known = refl
       go Announce ok at known = refl
@@ -93,5 +91,5 @@ module _ (s : State) (k : IsLawful s) (births : EachBirthStands s) (w : ℕ) whe
       go (Join v) ok at known = absurd known
 
 pub each_reply_is_told : OfEachState RepliesAreTold
-each_reply_is_told L enough turns w e none known =
-    reply_told (after (start L) turns) (lawful L enough turns) (each_birth_stands L enough turns) w e (allowed (after (start L) turns) w e none) known
+each_reply_is_told L enough turns w e births stand none known =
+    reply_told (after (start L) turns) (lawful L enough turns) w births stand e (allowed (after (start L) turns) w e none) known

@@ -30,7 +30,8 @@ pub fn writes_change_one_word()
 
 /// In every run, an event that is allowed touches the word of one field, which the event names, and what it leaves there
 /// is told by what its worker knows and the word that it finds. So is its reply, unless it is a join; of a flag or a splice
-/// where the births of the nodes that it answers are known. No turn, refused ones and joins too, changes more than one word.
+/// where the births of the nodes that it answers are known, however its worker came to know them. No turn, refused ones and joins too,
+/// changes more than one word.
 pub fn events_touch_one_word()
     ensures touched { OfEachState EventsTouchOneWord }
     ensures replies { OfEachState RepliesAreTold }
