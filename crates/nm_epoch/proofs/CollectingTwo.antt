@@ -42,15 +42,15 @@ two_are_held p h has origin items = (
 -- ---- a collection of what is young
 
 -- whatever the sight answers a worker without a pin, it tells the epoch 0
-seen_zero : (q : Stand) (r : Reply) → epoch_in r ≡ Some 0 → (epochs q).pin ≡ None → Knows (take 37 playing ++ (Sight, r) ∷ []) q → HasPlayed 38 q
+seen_zero : (q : Stand) (r : Reply) → epoch_in r ≡ Some 0 → (epochs q).pin ≡ None → Knows small 0 (take 37 playing ++ (Sight, r) ∷ []) q → HasPlayed 38 q
 unfolding learn searched
-seen_zero q (Saw e) zero unpinned has = subst (λ (n : ℕ). Knows (take 37 playing ++ (Sight, Saw n) ∷ []) q) (same_Some e 0 zero) has
+seen_zero q (Saw e) zero unpinned has = subst (λ (n : ℕ). Knows small 0 (take 37 playing ++ (Sight, Saw n) ∷ []) q) (same_Some e 0 zero) has
 seen_zero q (Labelled e) zero unpinned has =
-    let more : Knows (take 37 playing ++ (Sight, Labelled 0) ∷ []) q = subst (λ (n : ℕ). Knows (take 37 playing ++ (Sight, Labelled n) ∷ []) q) (same_Some e 0 zero) has in
-    record { layout = more.layout; number = more.number; known = more.known; found = more.found }
+    let more : Knows small 0 (take 37 playing ++ (Sight, Labelled 0) ∷ []) q = subst (λ (n : ℕ). Knows small 0 (take 37 playing ++ (Sight, Labelled n) ∷ []) q) (same_Some e 0 zero) has in
+    record { layout = more.layout; number = more.number; known = more.known; stored = more.stored; found = more.found }
 seen_zero q (Missed e) zero unpinned has =
-    let more : Knows (take 37 playing ++ (Sight, Missed 0) ∷ []) q = subst (λ (n : ℕ). Knows (take 37 playing ++ (Sight, Missed n) ∷ []) q) (same_Some e 0 zero) has in
-    record { layout = more.layout; number = more.number; known = more.known; found = more.found }
+    let more : Knows small 0 (take 37 playing ++ (Sight, Missed 0) ∷ []) q = subst (λ (n : ℕ). Knows small 0 (take 37 playing ++ (Sight, Missed n) ∷ []) q) (same_Some e 0 zero) has in
+    record { layout = more.layout; number = more.number; known = more.known; stored = more.stored; found = more.found }
 seen_zero q (Pinned e) zero unpinned has = absurd (none-some _ (sym unpinned ∙ ap (λ (k : Knowledge). k.brief.pin) has.known))
 seen_zero q _ zero unpinned has = absurd (none-some _ zero)
 

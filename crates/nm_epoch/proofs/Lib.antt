@@ -21,4 +21,5 @@ pub mod Labels
 pub mod Playing
 pub mod InsertingFive
 pub mod DeletingFive
+pub mod HelpingFive
 pub mod CollectingTwo

@@ -5,6 +5,7 @@ ghost use Rattle.nm_steps.specs.Steps.{IsSamePass};
 
 mod collecting;
 mod deleting;
+mod helping;
 mod inserting;
 
 use crate::{Advance, Behind, Moved, advance, behind, pin, unpin};
