@@ -179,10 +179,7 @@ fn edge_of(word: u64) -> Edge
     requires { is_word word ≡ true }
     ensures { result ≡ edge_in word }
 {
-    let Some(edge) = Edge::unpack(word) else {
-        unreachable!()
-    };
-    edge
+    Edge::of_word(word)
 }
 
 /// The word of the unmarked edge to a slot.
