@@ -1,13 +1,13 @@
 -- What the words at the end of a run tell of the state there.
 use Rattle.std.proofs.Common.{◌≡◌, ℕ, ◌-◌, ◌≤◌, ◌<◌, ◌^◌, ◌%◌, ◌==◌, Bool, true, false, cond, List, length, refl, sym, ap, ◌∙◌, subst, arith}
-use Rattle.std.specs.Prelude.{Some, bit_and, not, slice_index}
+use Rattle.std.specs.Prelude.{bit_and, not, slice_index}
 use Rattle.std.proofs.lemmas.Bool.{ne_eqb}
 use Rattle.std.proofs.lemmas.Nat.{pow_pos}
-use Rattle.nm_edge.specs.Edges.{unpacked}
+use Rattle.nm_edge.specs.Edges.{edge_in, is_word}
 use Rattle.nm_edge.specs.Layouts.{Layout}
 use Rattle.nm_edge.specs.Words.{Field, at_edge, IsField, IsSlot, pool_place, word, words}
 use Rattle.nm_edge.specs.declared.edge.Side.{Side}
-use Rattle.nm_edge.proofs.Packing.{unpacked_word}
+use Rattle.nm_edge.proofs.Packing.{packed_is_word, packed_word}
 use Rattle.nm_edge.proofs.Words.{fields_within}
 use Rattle.nm_model.specs.Memory.{child, edge, in_pool}
 use Rattle.nm_model.specs.Reports.{tree_slots}
@@ -66,9 +66,12 @@ module _ (L : Layout) (ws : List ℕ) (e : IsEndOf L ws) where
   pub within : (f : Field) → IsField L f → word L f < length ws
   within f is = subst (λ (n : ℕ). word L f < n) (sym long) (fields_within L f is)
 
-  -- each edge is found in its word
-  pub edge_told : (x : ℕ) (side : Side) → IsSlot L x → unpacked (slice_index ws (word L (at_edge x side))) ≡ Some (edge s.memory x side)
-  edge_told x side is = ap unpacked (tells (at_edge x side) is) ∙ unpacked_word (edge s.memory x side) (unmarked x side) (let low = in_range.edges x side in let few = e.fits.most in omega (arith, low, few))
+  -- each edge is found in its word, which is an edge's
+  pub is_told_by_a_word : (x : ℕ) (side : Side) → IsSlot L x → is_word (slice_index ws (word L (at_edge x side))) ≡ true
+  is_told_by_a_word x side is = ap is_word (tells (at_edge x side) is) ∙ packed_is_word (edge s.memory x side) (unmarked x side) (let low = in_range.edges x side in let few = e.fits.most in omega (arith, low, few))
+
+  pub edge_told : (x : ℕ) (side : Side) → IsSlot L x → edge_in (slice_index ws (word L (at_edge x side))) ≡ edge s.memory x side
+  edge_told x side is = ap edge_in (tells (at_edge x side) is) ∙ packed_word (edge s.memory x side)
 
   -- a slot's bit is set where the slot is in the pool
   pub bit_told : (x : ℕ) → IsSlot L x → not (bit_and (slice_index ws (pool_place L x).word) (pool_place L x).mask == 0) ≡ in_pool s.memory x

@@ -16,7 +16,7 @@ fn edge(words: &Words, layout: Layout, slot: u32, side: Side) -> Edge
     ensures { (e : IsEndOf layout words.now) → result ≡ edge (end_of layout words.now e).memory slot side }
 {
     let word = words.word(layout.edge(slot, side) as usize);
-    Edge::unpack(word).unwrap()
+    Edge::of_word(word)
 }
 
 /// The node of a slot, its four words.
