@@ -37,6 +37,7 @@ use Rattle.nm_steps.proofs.AfterSteps.{TellsRun}
 use Rattle.nm_calls.specs.Telling.{Tells, IsInRun, IsPinnedSomewhere}
 use Rattle.nm_calls.specs.Marking.{IsToBeCut, OnlyCuts, SpliceWon, SpliceLost}
 use Rattle.nm_calls.proofs.Looks.{enough, known_inside, inside, grown}
+use Rattle.nm_order.proofs.LinkedBirths.{is_looked}
 use Rattle.nm_epoch.proofs.Allowed.{passes_then, neither}
 use Rattle.nm_epoch.proofs.Entries.{search_is}
 use Rattle.nm_epoch.proofs.KeptHands.{known_after_step}
@@ -145,7 +146,7 @@ may_splice p a side s x keep kept run pin f =
           (passes_then (not (knows k a && knows k s)) NotHeld _ (ap not (and_from (knows k a) (knows k s) f.knows_ancestor first))
           (passes_then (not (is_frozen L k s x keep)) NotFrozen None (ap not frozen) refl)));
       ordered = refl;
-      births = births_known k S L s x keep f.nodes f.frozen frozen;
+      births = λ i d below. is_looked L p.view.number p.view.log _ (births_known k S L s x keep f.nodes f.frozen frozen i d below);
       key = tt;
     }
 

@@ -24,11 +24,12 @@ use Rattle.nm_laws.proofs.Learned.{learn_flagged, learn_flag_lost, learn_was}
 use Rattle.nm_order.specs.Facts.Fact.{KnowsSlot, KnowsLeaf, IsTagged, IsFlagged, IsFrozen, IsBorn}
 use Rattle.nm_order.specs.Told.{TellsEdge}
 use Rattle.nm_order.specs.Told.TellsEdge.{ByFlag, ByTag}
+use Rattle.nm_order.proofs.LinkedBirths.{looked_birth}
 use Rattle.nm_order.proofs.ArrivalsOfLooks.{any_there, same_side}
 use Rattle.nm_order.proofs.TaughtFacts.{edges_are_learned, flags_are_learned, tags_are_learned, tags_freeze}
 use Rattle.nm_order.proofs.ToldLaws.{edges_stay_inside, flagged_lead_high, flagged_stand_high, tags_lead, twins_are_told}
 use Rattle.nm_words.specs.Told.{known_as}
-use Rattle.nm_steps.specs.Rules.{knowledge}
+use Rattle.nm_steps.specs.Rules.{knowledge, known_births}
 use Rattle.nm_steps.specs.Steps.{Stand, MayStep, Stepped, flag_reply}
 use Rattle.nm_steps.proofs.AfterSteps.{TellsRun, is_join}
 use Rattle.nm_calls.specs.Telling.{Tells, IsInRun, OnlyLooks, IsPinnedSomewhere}
@@ -156,7 +157,7 @@ may_flag p x side leaf run pin f =
           (passes_then (not (knows k x && (knows k leaf && knows_leaf k leaf))) NotHeld None
           (ap not (and_from (knows k x) (knows k leaf && knows_leaf k leaf) f.knows_parent (and_from (knows k leaf) (knows_leaf k leaf) f.knows_leaf f.is_leaf))) refl));
       ordered = passes_then (not (flags_in_order s s.call x side leaf)) NotOrdered None (ap not (in_order p x side leaf f)) refl;
-      births = ap is_some f.born.1;
+      births = ap is_some (looked_birth p.view.layout p.view.number p.view.log leaf f.born.0 f.born.1);
       key = tt;
     }
 
@@ -176,7 +177,7 @@ module _ (p q : Stand) (x : ℕ) (side : Side) (leaf : ℕ) (fits : IsLayout q.v
 
   pub flags_won : (r : Result Unit Edge) → Stepped p q (Flag x side leaf) (flag_reply p.view leaf r) → IfOk r (λ u. (b : ℕ) → Tells p (IsBorn leaf b) → FlagWon p q x side (record { slot = leaf; birth = b }))
   flags_won (Ok u) step = λ b born. flag_won (record { slot = leaf; birth = b }) refl
-      (subst (λ (o : Option ℕ). Stepped p q (Flag x side leaf) (Flagged (record { slot = leaf; birth = unwrap_or o 0 }))) born step)
+      (subst (λ (o : Option ℕ). Stepped p q (Flag x side leaf) (Flagged (record { slot = leaf; birth = unwrap_or o 0 }))) (looked_birth p.view.layout p.view.number p.view.log leaf b born) step)
   flags_won (Err e) step = tt
 
   pub flags_lost : (r : Result Unit Edge) → Stepped p q (Flag x side leaf) (flag_reply p.view leaf r) → Tells p (KnowsSlot x) → IfErr r (λ e. FlagLost p q x side leaf e)
@@ -191,7 +192,7 @@ module _ (p q : Stand) (x : ℕ) (side : Side) (leaf : ℕ) (fits : IsLayout q.v
 pub only_flags : (p q : Stand) (x : ℕ) (side : Side) (leaf : ℕ) (r : Result Unit Edge) → Stepped p q (Flag x side leaf) (flag_reply p.view leaf r) → OnlyFlags p q
 unfolding searched
 only_flags p q x side leaf (Ok u) step =
-    let n : NodeId = known_as (knowledge p.view) leaf in
+    let n : NodeId = known_as (known_births p.view) leaf in
     let k = known_after_step p q (Flag x side leaf) (Flagged n) step ∙ learn_flagged p.view.number (knowledge p.view) x side leaf n in
     let s = search_is p q (Flag x side leaf) (Flagged n) step in
     record {
