@@ -11,9 +11,9 @@ ghost use Rattle.nm_model.specs.Ordered.{has_removed, shows_call, links_in_order
 
 use crate::worker::Worker;
 use nm_edge::{Edge, NodeId, Side};
+use nm_model::arrivals::{self, Arrival, Call};
 use nm_model::event::{Event, Field, Op};
 use nm_model::reply::Reply;
-use nm_model::arrivals::{self, Arrival, Call};
 use std::alloc::{AllocError, Global};
 use std::marker::Model;
 
