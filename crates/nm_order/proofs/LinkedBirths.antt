@@ -1,6 +1,6 @@
 -- The births that a worker had stored in the nodes of its won link stand in memory while its pin does: each of these nodes is reached, or was cut under
 -- the pin, and then it waits in a queue with no label below the pin's epoch. So nobody has it in private.
-use Rattle.std.proofs.Common.{◌≡◌, ◌≢◌, ℕ, zero, suc, ◌+◌, ◌-◌, ◌<◌, ◌≤◌, ◌⊎◌, inl, inr, eqb, ◌==◌, Bool, true, false, cond, ◌||◌, List, [], ◌∷◌, ◌++◌, length, map, refl, sym, ap, subst, ◌∙◌, arith, true≢false, Result, Ok, Err}
+use Rattle.std.proofs.Common.{◌≡◌, ◌≢◌, ℕ, zero, suc, ◌+◌, ◌-◌, ◌<◌, ◌≤◌, ◌⊎◌, inl, inr, ◌==◌, Bool, true, false, cond, ◌||◌, List, [], ◌∷◌, ◌++◌, length, map, refl, sym, ap, subst, ◌∙◌, arith, true≢false, Result, Ok}
 use Rattle.std.specs.Prelude.{Option, Some, None, IsSome, is_some, is_none, slice_get, option_map, unwrap_or, drop, All, Contains}
 use Rattle.std.proofs.lemmas.Bool.{cond-true, eqb-true, eq-eqb, or_cases}
 use Rattle.std.proofs.lemmas.Option.{none-some, same_Some, slice_get-get_or, slice_get-map}
@@ -25,11 +25,10 @@ use Rattle.nm_model.specs.Knowledge.{Knowledge, newcomer, knows, is_private, see
 use Rattle.nm_model.specs.Learning.{learn}
 use Rattle.nm_model.specs.Laws.{nodes_cut_of}
 use Rattle.nm_model.specs.Paths.{Reached}
-use Rattle.nm_model.specs.Step.{node_linked, exchanged, reply, write}
-use Rattle.nm_model.specs.Runs.{State, of, next, outcome, reply_of, refused, applied}
-use Rattle.nm_model.specs.Lawful.{EachBirthStands}
+use Rattle.nm_model.specs.Step.{node_linked, reply, write}
+use Rattle.nm_model.specs.Runs.{State, of, next, outcome, reply_of, applied}
 use Rattle.nm_model.specs.Walks.{Entry, begins_anew}
-use Rattle.nm_model.specs.Ordered.{Configuration, ordered, refused_in, next_in, outcome_in, after_in, trace_in}
+use Rattle.nm_model.specs.Ordered.{Configuration, ordered, refused_in, next_in, after_in, trace_in}
 use Rattle.nm_model.proofs.Lists.{get_right, get_stays}
 use Rattle.nm_laws.proofs.Steps.{Allowed, allowed}
 use Rattle.nm_laws.proofs.Pictures.{IsOnPath, on_path, nowhere_else}
@@ -51,7 +50,7 @@ use Rattle.nm_order.specs.Logs.{takes_part, part_of, known_after, known_by}
 use Rattle.nm_order.specs.Moments.{OfEachOrderedRun}
 use Rattle.nm_order.specs.OwnBirths.{no_births, with_linked, stored_by, stored_after, stored_in, births_by, OwnBirthsStand}
 use Rattle.nm_order.proofs.OrderedChanges.{off_root, off_known}
-use Rattle.nm_order.proofs.OrderedMoments.{Lasting, lasting, lasting_stays}
+use Rattle.nm_order.proofs.OrderedMoments.{Lasting, lasting_stays}
 use Rattle.nm_order.proofs.OrderedInduction.{births_of}
 use Rattle.nm_order.proofs.OrderedLaws.{IsOrdered, ordered_next, each_ordered, law_of_state}
 use Rattle.nm_order.proofs.TreeChanges.{WonLink, won_link}
