@@ -178,6 +178,23 @@ fn race<R: Threads + Wait + Sync + AllocGlobal + Clock + Print + Eprint>(
     Ok(workers)
 }
 
+/// A round with 1 thread, one with 2 and one with 4.
+fn race_by_threads<R: Threads + Wait + Sync + AllocGlobal + Clock + Print + Eprint>(
+    rt: &R,
+    tree: &Tree,
+    mut workers: Vec<Worker>,
+    set: &Mutex<BTreeSet<u64>>,
+    round: Round,
+) -> Result<Vec<Worker>>
+    requires { All (λ w. IsReady tree.now w) workers.items }
+    ensures { IfOk result (λ v. All (λ w. IsReady tree.now w) v.items) }
+{
+    for threads in [1, 2, WORKERS] {
+        workers = race(rt, tree, workers, set, Round { threads, ..round })?;
+    }
+    Ok(workers)
+}
+
 /// So many rounds with each number of threads in turn.
 fn race_in_turn<R: Threads + Wait + Sync + AllocGlobal + Clock + Print + Eprint>(
     rt: &R,
@@ -190,36 +207,7 @@ fn race_in_turn<R: Threads + Wait + Sync + AllocGlobal + Clock + Print + Eprint>
     requires { All (λ w. IsReady tree.now w) workers.items }
 {
     for _ in 0..rounds {
-        workers = race(
-            rt,
-            tree,
-            workers,
-            set,
-            Round {
-                threads: 1,
-                ..round
-            },
-        )?;
-        workers = race(
-            rt,
-            tree,
-            workers,
-            set,
-            Round {
-                threads: 2,
-                ..round
-            },
-        )?;
-        workers = race(
-            rt,
-            tree,
-            workers,
-            set,
-            Round {
-                threads: 4,
-                ..round
-            },
-        )?;
+        workers = race_by_threads(rt, tree, workers, set, round)?;
     }
     Ok(())
 }
