@@ -5,6 +5,7 @@ use std::alloc::Global;
 use std::process::Abort;
 
 mod faults;
+mod four;
 mod many;
 mod rows;
 mod streams;
