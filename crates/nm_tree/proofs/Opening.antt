@@ -1,6 +1,6 @@
 -- Workers that have done nothing yet.
-use Rattle.std.proofs.Common.{false, ◌≡◌, ℕ, suc, ◌≤◌, ◌⊎◌, inl, inr, List, [], ◌∷◌, ◌++◌, length, refl, sym, ap, ◌∙◌, subst, arith}
-use Rattle.std.specs.Prelude.{Option, Some, None, IsSome, unwrap_or, reverse}
+use Rattle.std.proofs.Common.{false, ◌≡◌, ℕ, zero, suc, ◌<◌, ◌≤◌, ◌⊎◌, inl, inr, List, [], ◌∷◌, ◌++◌, length, refl, sym, ap, ◌∙◌, subst, arith}
+use Rattle.std.specs.Prelude.{Option, Some, None, IsSome, unwrap_or, reverse, slice_index_or}
 use Rattle.std.proofs.lemmas.List.{reverse-append}
 use Rattle.std.proofs.lemmas.Bool.Decides.{eqb_tells}
 use Rattle.nm_edge.specs.Layouts.{Layout}
@@ -17,6 +17,7 @@ use Rattle.nm_epoch.specs.Collecting.{IsQueueOf}
 use Rattle.nm_calls.specs.Fresh.{HasDoneNothing}
 use Rattle.nm_calls.specs.Won.{capped, won_links, won_flags, won_splices}
 use Rattle.nm_tree.specs.declared.worker.Account.{Account}
+use Rattle.nm_tree.specs.Plays.{IsReady}
 use Rattle.nm_tree.specs.Workers.{Hand, IsWorker, IsAccount, HasOrigin, HasNumber, HoldNothing, HaveWorkers, IsFresh, AreAllFresh, IsNewWorker, AreMade, AreNew, log_of, ledger_in}
 use Rattle.nm_tree.proofs.Changing.{log_of_own}
 
@@ -117,3 +118,9 @@ as_many (p ∷ ps) (w ∷ ws) made = ap suc (as_many ps ws made.1)
 -- one worker more, where they are made from the last one on
 pub one_made : (p : Stand) (w : Hand) (ps : List Stand) (ws : List Hand) → IsNewWorker p w → AreMade ps (reverse ws) → AreMade (p ∷ ps) (reverse (ws ++ w ∷ []))
 one_made p w ps ws new made = let P : List Hand → Type 0 = λ xs. AreMade (p ∷ ps) xs in subst P (sym (reverse-append ws (w ∷ []))) (new, made)
+
+-- each worker of a new tree is ready for a call
+pub new_are_ready : (b : Board) (i : ℕ) (ws : List Hand) → AreNew b i ws → (k : ℕ) (d : Hand) → k < length ws → IsReady b (slice_index_or ws k d)
+new_are_ready b i [] new k d less = absurd (omega (arith, less))
+new_are_ready b i (w ∷ ws) new zero d less = record { own = record { table = new.0; layout = ap (λ (v : View). v.layout) new.1 }; free = new.3 }
+new_are_ready b i (w ∷ ws) new (suc k) d less = new_are_ready b (suc i) ws new.5 k d (omega (arith, less))

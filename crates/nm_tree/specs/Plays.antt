@@ -1,4 +1,4 @@
--- What tests ask of a worker.
+-- What a call asks of its worker.
 use Rattle.std.specs.Prelude.{◌≡◌, None}
 use Rattle.nm_steps.specs.Steps.{Board, IsOf}
 use Rattle.nm_tree.specs.Workers.{Hand}
