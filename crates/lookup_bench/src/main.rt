@@ -136,13 +136,13 @@ fn filled_set(alloc: Global, keys: u32) -> Result<BTreeSet<u64>> {
     Ok(set)
 }
 
-/// A tree for so many keys, still empty, and its workers.
+/// A tree for so many keys, still empty, and its workers: one for each thread, and one to fill it.
 fn open(alloc: Global, keys: u32) -> Result<(Tree, Vec<Worker>)>
     ensures { IfOk result (λ r. All (λ w. IsReady r.0 w) r.1.items) }
 {
     let nodes = keys.saturating_mul(2).saturating_add(5);
-    let made = Tree::new(alloc, nodes, WORKERS);
-    Ok(made.context("the tree")?)
+    let (tree, workers) = Tree::new(alloc, nodes, WORKERS + 1)?;
+    Ok((tree, workers))
 }
 
 /// At least 1.
@@ -220,9 +220,8 @@ fn compare<R: Threads + Wait + Sync + AllocGlobal + Clock + Print + Eprint>(
 ) -> Result<()> {
     let (tree, mut workers) = open(rt.alloc(), round.keys)?;
     let start = Instant::now(rt)?;
-    let mut first = workers.pop().context("a worker")?;
-    fill_tree(&tree, &mut first, round.keys)?;
-    workers.push(first)?;
+    let mut filler = workers.pop().context("a worker")?;
+    fill_tree(&tree, &mut filler, round.keys)?;
     let fill_time = micros(start.elapsed(rt)?);
     eprintln!(rt;
         "{} keys were inserted in {fill_time} microseconds",
