@@ -1,0 +1,5 @@
+use Rattle.nm_tree.specs.Plays.{IsReady}
+use Rattle.set_bench.proofs.trees.fill.Given as goal
+
+abbrev pub invariant-loop-number : goal.invariant-loop-number
+invariant-loop-number l = IsReady l.fn.tree l.worker

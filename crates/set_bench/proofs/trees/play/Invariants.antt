@@ -1,0 +1,5 @@
+use Rattle.nm_tree.specs.Plays.{IsReady}
+use Rattle.set_bench.proofs.trees.play.Given as goal
+
+abbrev pub invariant-loop-turn : goal.invariant-loop-turn
+invariant-loop-turn l = IsReady l.fn.tree l.worker

@@ -1,0 +1,165 @@
+//! Times mixed calls on two trees, one that claims the lowest free slot and one that claims near by, beside those on a `BTreeSet` behind a `Mutex`;
+//! and shows at the end that what each tree was told to keep is there.
+//!
+//! The arguments are how many rounds there are, how many keys the sets have at first, how many nodes the trees have room for, and then the parts of a
+//! round, each by how many of 100 calls are look-ups, how many threads there are, how many calls each makes, and how many it makes on the tree that
+//! claims the lowest slot, which may be fewer. Keys are drawn from twice as many as the sets have at first, so that about half of them are
+//! found. Standard output has what was changed and what is left, standard error the times in microseconds.
+#![tactic(auto)]
+
+mod grown;
+mod load;
+mod locked;
+mod trees;
+
+use crate::grown::{Grown, Sizes};
+use crate::load::Load;
+use crate::locked::Locked;
+use anyhow::{Context, Result, bail};
+use std::alloc::{AllocGlobal, Global};
+use std::env;
+use std::sync::Wait;
+use std::thread::Threads;
+use std::time::{Clock, Duration, Instant};
+
+/// A part of a round: a load, and how many calls a thread makes on the tree that claims the lowest slot.
+#[derive(Clone, Copy)]
+struct Part {
+    load: Load,
+    lowest_calls: u64,
+}
+
+/// The three sets that race.
+#[derive(Drop)]
+struct Sets {
+    lowest: Grown,
+    near: Grown,
+    locked: Locked,
+}
+
+/// Prints how long a load took with a set of that name.
+fn tell(rt: &impl Eprint, name: &str, load: Load, time: Duration) -> Result<()> {
+    let Load {
+        lookups,
+        threads,
+        calls,
+        ..
+    } = load;
+    let micros = time.as_micros();
+    eprintln!(rt; "{name} {lookups} {threads} {calls} {micros}")?;
+    Ok(())
+}
+
+/// Times a load on a tree of that name.
+fn time_tree<R: Threads + Sync + AllocGlobal + Clock + Eprint>(
+    rt: &R,
+    name: &str,
+    grown: &mut Grown,
+    load: Load,
+) -> Result<()> {
+    let start = Instant::now(rt)?;
+    grown.play(rt, rt.alloc(), load)?;
+    tell(rt, name, load, start.elapsed(rt)?)
+}
+
+/// Times a load on the set behind a lock.
+fn time_locked<R: Threads + Wait + Sync + AllocGlobal + Clock + Eprint>(
+    rt: &R,
+    set: &Locked,
+    load: Load,
+) -> Result<()> {
+    let start = Instant::now(rt)?;
+    let _ = locked::play_all(rt, rt.alloc(), set, load)?;
+    tell(rt, "locked", load, start.elapsed(rt)?)
+}
+
+/// A round: each part on each set.
+fn race<R: Threads + Wait + Sync + AllocGlobal + Clock + Eprint>(
+    rt: &R,
+    sets: &mut Sets,
+    parts: &[Part],
+) -> Result<()> {
+    for part in parts {
+        let fewer = Load {
+            calls: part.lowest_calls,
+            ..part.load
+        };
+        time_tree(rt, "lowest", &mut sets.lowest, fewer)?;
+        time_tree(rt, "near", &mut sets.near, part.load)?;
+        time_locked(rt, &sets.locked, part.load)?;
+    }
+    Ok(())
+}
+
+/// The three sets, filled.
+fn open<R: Threads + Sync>(rt: &R, alloc: Global, sizes: Sizes) -> Result<Sets> {
+    let mut lowest = Grown::lowest(alloc, sizes.nodes)?;
+    lowest.fill(rt, alloc, sizes.keys)?;
+    let mut near = Grown::near(alloc, sizes.nodes)?;
+    near.fill(rt, alloc, sizes.keys)?;
+    let locked = locked::filled(alloc, sizes.keys)?;
+    Ok(Sets {
+        lowest,
+        near,
+        locked,
+    })
+}
+
+/// Opens the three sets, lets them race, and closes the trees.
+fn compare<R: Threads + Wait + Sync + AllocGlobal + Clock + Print + Eprint>(
+    rt: &R,
+    sizes: Sizes,
+    parts: &[Part],
+    rounds: u64,
+) -> Result<()> {
+    let mut sets = open(rt, rt.alloc(), sizes)?;
+    for _ in 0..rounds {
+        race(rt, &mut sets, parts)?;
+    }
+    sets.lowest.close(rt, "lowest", sizes.nodes)?;
+    sets.near.close(rt, "near", sizes.nodes)
+}
+
+/// The arguments as numbers.
+fn numbers(rt: &HostRuntime) -> Result<Vec<u64>> {
+    let mut numbers = Vec::new(rt.alloc());
+    for text in env::args(rt)?.skip(1) {
+        numbers.push(text.parse::<u64>().context("a number")?)?;
+    }
+    Ok(numbers)
+}
+
+/// The part that four numbers name.
+fn part_of(lookups: u64, threads: u64, calls: u64, lowest_calls: u64, keys: u64) -> Result<Part> {
+    let load = Load {
+        lookups,
+        threads: u32::try_from(threads).context("a number of threads")?,
+        calls,
+        keys,
+    };
+    Ok(Part { load, lowest_calls })
+}
+
+/// The parts that numbers name, four for each.
+fn parts_of(alloc: Global, numbers: &[u64], keys: u64) -> Result<Vec<Part>> {
+    let mut parts = Vec::new(alloc);
+    for four in numbers.chunks_exact(4) {
+        if let [lookups, threads, calls, lowest_calls] = four {
+            parts.push(part_of(*lookups, *threads, *calls, *lowest_calls, keys)?)?;
+        }
+    }
+    Ok(parts)
+}
+
+fn main(rt: HostRuntime) -> Result<()> {
+    let numbers = numbers(&rt)?;
+    let [rounds, keys, nodes, rest @ ..] = numbers.as_slice() else {
+        bail!("the numbers of rounds, keys and nodes are wanted");
+    };
+    let sizes = Sizes {
+        nodes: u32::try_from(*nodes).context("a number of nodes")?,
+        keys: *keys,
+    };
+    let parts = parts_of(rt.alloc(), rest, keys.saturating_mul(2))?;
+    compare(&rt, sizes, parts.as_slice(), *rounds)
+}
