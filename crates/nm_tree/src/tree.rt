@@ -1,6 +1,7 @@
 //! The tree that workers share.
-ghost use Rattle.std.specs.Prelude.{◌≡◌, ◌≢◌, ◌<◌, ◌≤◌, ◌⊎◌, ◌↔◌, length, IfOk, IfErr, IsErrOf};
+ghost use Rattle.std.specs.Prelude.{All, ◌≡◌, ◌≢◌, ◌<◌, ◌≤◌, ◌⊎◌, ◌↔◌, length, IfOk, IfErr, IsErrOf};
 ghost use Rattle.nm_steps.specs.Steps.{AreFresh};
+ghost use Rattle.nm_tree.specs.Plays.{IsReady};
 ghost use Rattle.nm_tree.specs.Workers.{AreNew, AreAllFresh, AreMade, HaveFit, HaveWorkers, IsFresh, IsNewWorker};
 
 use crate::worker::{Account, Standing, Worker};
@@ -38,6 +39,7 @@ impl Tree {
         ensures count { IfOk result (λ r. length r.1.items ≡ workers) }
         ensures new { IfOk result (λ r. AreNew r.0 0 r.1.items) }
         ensures fit { IfOk result (λ r. HaveFit Fit.Lowest r.1.items) }
+        ensures ready { IfOk result (λ r. All (IsReady r.0) r.1.items) }
         ensures nodes { IsErrOf result NewError.Nodes ↔ ((nodes < LEAST_NODES) ⊎ (MOST_NODES < nodes)) }
         ensures workers { IsErrOf result NewError.Workers ↔ ((LEAST_NODES ≤ nodes) × (nodes ≤ MOST_NODES) × ((workers < 1) ⊎ (MOST_WORKERS < workers))) }
     {
@@ -57,6 +59,7 @@ impl Tree {
         ensures count { IfOk result (λ r. length r.1.items ≡ workers) }
         ensures new { IfOk result (λ r. AreNew r.0 0 r.1.items) }
         ensures fit { IfOk result (λ r. HaveFit Fit.Near r.1.items) }
+        ensures ready { IfOk result (λ r. All (IsReady r.0) r.1.items) }
         ensures nodes { IsErrOf result NewError.Nodes ↔ ((nodes < LEAST_NODES) ⊎ (MOST_NODES < nodes)) }
         ensures workers { IsErrOf result NewError.Workers ↔ ((LEAST_NODES ≤ nodes) × (nodes ≤ MOST_NODES) × ((workers < 1) ⊎ (MOST_WORKERS < workers))) }
     {
@@ -75,6 +78,7 @@ fn tree_of(
     ensures count { IfOk result (λ r. length r.1.items ≡ workers) }
     ensures new { IfOk result (λ r. AreNew r.0 0 r.1.items) }
     ensures fit { IfOk result (λ r. HaveFit fit r.1.items) }
+    ensures ready { IfOk result (λ r. All (IsReady r.0) r.1.items) }
     ensures nodes { IsErrOf result NewError.Nodes ↔ ((nodes < LEAST_NODES) ⊎ (MOST_NODES < nodes)) }
     ensures workers { IsErrOf result NewError.Workers ↔ ((LEAST_NODES ≤ nodes) × (nodes ≤ MOST_NODES) × ((workers < 1) ⊎ (MOST_WORKERS < workers))) }
 {

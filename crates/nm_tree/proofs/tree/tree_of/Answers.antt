@@ -1,6 +1,6 @@
 use Rattle.std.proofs.Common.{ap, ◌∙◌, arith}
 use Rattle.nm_edge.specs.Layouts.{Layout}
-use Rattle.nm_tree.proofs.Opening.{all_fit, all_fresh, all_new, as_many, have_workers}
+use Rattle.nm_tree.proofs.Opening.{new_are_ready, all_fit, all_fresh, all_new, as_many, have_workers}
 use Rattle.nm_tree.proofs.tree.tree_of.Goals as goal
 
 pub workers_of-requires : goal.workers_of-requires
@@ -14,3 +14,6 @@ returns-clause-new c = all_new c.args.fit _ 0 _ _ c.in_ok-shared.ensures.fresh c
 
 pub returns-clause-fit : goal.returns-clause-fit
 returns-clause-fit c = all_fit c.args.fit _ _ c.in_ok-made.ensures
+
+pub returns-clause-ready : goal.returns-clause-ready
+returns-clause-ready c = λ k d less. new_are_ready _ 0 _ (returns-clause-new c) k d less
