@@ -13,7 +13,9 @@ use Rattle.nm_order.specs.Exchanges.{is_won_link}
 use Rattle.nm_order.specs.WalksToArrivals.{is_won_flag}
 use Rattle.nm_epoch.specs.Tries.{LostTry, LostTries, IsPinned, IsMoved}
 use Rattle.nm_pool.specs.Takes.{DoneInTurn}
-use Rattle.nm_pool.specs.Claims.{PassedOver, IsClaim}
+use Rattle.nm_pool.specs.Claims.{DoneAt, PassedOver, PassedWithin, IsClaim, IsClaimBy}
+use Rattle.nm_pool.specs.declared.placement.Fit.{Fit}
+use Rattle.nm_pool.specs.declared.placement.Fit.TheVariants as fit
 use Rattle.nm_calls.specs.declared.cutting.Kept.{Kept}
 use Rattle.nm_calls.specs.declared.spot.ChainEdge.{ChainEdge}
 use Rattle.nm_calls.specs.declared.spot.End.{End}
@@ -186,12 +188,23 @@ passed_all : (from n : ℕ) (old new : List Entry) → DoneInTurn PassedOver fro
 passed_all from zero old new h = adds_none old new h
 passed_all from (suc n) old new h = adds_in (3 * suc n) old new (omega arith) (adds_then old h.0 new (passed_all from n old h.0 h.1) (passed_adds (from + n) h.0 new h.2))
 
-pub claim_adds : (nodes : ℕ) (old new : List Entry) (r : Option NodeId) → IsClaim nodes old new r → Adds 0 0 0 (3 * nodes) old new
+claim_adds : (nodes : ℕ) (old new : List Entry) (r : Option NodeId) → IsClaim nodes old new r → Adds 0 0 0 (3 * nodes) old new
 claim_adds nodes old new (Some n) h =
     let least = h.least in
     let most = h.most in
     adds_in (3 * nodes) old new (omega (arith, least, most)) (adds_then old h.before new (passed_all 6 (n.slot - 6) old h.before h.passed) (adds_these _ h.before new h.made.entries))
 claim_adds nodes old new None h = adds_in (3 * nodes) old new (omega arith) (passed_all 6 (nodes + 1 - 6) old new h)
+
+passed_at : (nodes : ℕ) (slots : List ℕ) (old new : List Entry) → DoneAt (PassedWithin nodes) slots old new → Adds 0 0 0 (3 * length slots) old new
+passed_at nodes [] old new h = adds_none old new h
+passed_at nodes (s ∷ slots) old new h = adds_in (3 * suc (length slots)) old new (omega arith) (adds_then old h.0 new (passed_at nodes slots old h.0 h.1) (passed_adds s h.0 new h.2.2))
+
+pub claim_by_adds : (f : Fit) (nodes : ℕ) (old new : List Entry) (r : Option NodeId) → IsClaimBy f nodes old new r → Adds 0 0 0 (3 * nodes) old new
+claim_by_adds fit.Lowest nodes old new r h = claim_adds nodes old new r h
+claim_by_adds fit.Near nodes old new (Some n) h =
+    let few = h.few in
+    adds_in (3 * nodes) old new (omega (arith, few)) (adds_then old h.before new (passed_at nodes h.slots old h.before h.passed) (adds_these _ h.before new h.made.entries))
+claim_by_adds fit.Near nodes old new None h = let few = h.few in adds_in (3 * nodes) old new (omega (arith, few)) (passed_at nodes h.slots old new h.passed)
 
 -- ---- cleanups
 

@@ -8,6 +8,7 @@ use Rattle.nm_model.specs.declared.event.Op.TheVariants.{Insert}
 use Rattle.nm_model.specs.declared.reply.Reply.TheVariants.{Linked, Lost}
 use Rattle.nm_model.specs.Walks.{Entry}
 use Rattle.nm_epoch.specs.Tries.{IsPinned}
+use Rattle.nm_pool.specs.declared.placement.Fit.{Fit}
 use Rattle.nm_calls.specs.declared.growing.Fork.{Fork}
 use Rattle.nm_calls.specs.declared.inserting.Fault.{Fault}
 use Rattle.nm_calls.specs.declared.inserting.Fault.TheVariants as fault
@@ -18,16 +19,16 @@ use Rattle.nm_calls.specs.declared.spot.End.{End}
 use Rattle.nm_calls.specs.Bounds.{chain_bound}
 use Rattle.nm_calls.specs.Inserts.{ClaimsFork, Returns, Grows, Helps, Readies, IsReadied, TriesLink, IsTry, LostInserts, EndsBy, Finishes, PinsThen, InsertDid}
 use Rattle.nm_calls.specs.Won.{HasWon, links_of_insert}
-use Rattle.nm_calls.proofs.Adding.{Adds, most, mul_below, adds_none, adds_these, adds_then, adds_after, adds_in, seeks_adds, broken_adds, claim_adds, cleaned_adds, not_cleaned_adds, pin_adds, has_won, within_call}
+use Rattle.nm_calls.proofs.Adding.{Adds, most, mul_below, adds_none, adds_these, adds_then, adds_after, adds_in, seeks_adds, broken_adds, claim_by_adds, cleaned_adds, not_cleaned_adds, pin_adds, has_won, within_call}
 
 -- ---- the two new nodes
 
-pub fork_adds : (nodes : ℕ) (old new : List Entry) (r : Option Fork) → ClaimsFork nodes old new r → Adds 0 0 0 (6 * nodes + 1) old new
-fork_adds nodes old new (Some f) h = adds_in (6 * nodes + 1) old new (omega arith) (adds_then old h.0 new (claim_adds nodes old h.0 (Some f.new) h.1) (claim_adds nodes h.0 new (Some f.fresh) h.2))
-fork_adds nodes old new None (inl none') = adds_in (6 * nodes + 1) old new (omega arith) (claim_adds nodes old new None none')
-fork_adds nodes old new None (inr h) =
+pub fork_adds : (fit : Fit) (nodes : ℕ) (old new : List Entry) (r : Option Fork) → ClaimsFork fit nodes old new r → Adds 0 0 0 (6 * nodes + 1) old new
+fork_adds fit nodes old new (Some f) h = adds_in (6 * nodes + 1) old new (omega arith) (adds_then old h.0 new (claim_by_adds fit nodes old h.0 (Some f.new) h.1) (claim_by_adds fit nodes h.0 new (Some f.fresh) h.2))
+fork_adds fit nodes old new None (inl none') = adds_in (6 * nodes + 1) old new (omega arith) (claim_by_adds fit nodes old new None none')
+fork_adds fit nodes old new None (inr h) =
     adds_in (6 * nodes + 1) old new (omega arith)
-    (adds_then old h.1 new (claim_adds nodes old h.1 (Some h.0) h.3) (adds_then h.1 h.2 new (claim_adds nodes h.1 h.2 None h.4) (adds_these _ h.2 new h.5)))
+    (adds_then old h.1 new (claim_by_adds fit nodes old h.1 (Some h.0) h.3) (adds_then h.1 h.2 new (claim_by_adds fit nodes h.1 h.2 None h.4) (adds_these _ h.2 new h.5)))
 
 pub back_adds : (f : Option Fork) (old new : List Entry) → Returns f old new → Adds 0 0 0 2 old new
 back_adds None old new h = adds_in 2 old new (omega arith) (adds_none old new h)
@@ -42,13 +43,13 @@ paid nodes (Some f) = 6 * nodes + 1
 abbrev pub AddsLinks : ℕ → ℕ → List Entry → List Entry → Type 0
 AddsLinks l n old new = (s : ℕ) × Adds l 0 s n old new
 
-readies_add : (nodes : ℕ) (f : Option Fork) (made : Fork) (old new : List Entry) → Readies nodes f made old new → (n : ℕ) × (n + paid nodes f ≤ 6 * nodes + 1) × Adds 0 0 0 n old new
-readies_add nodes None made old new h = (6 * nodes + 1, omega arith, fork_adds nodes old new (Some made) h)
-readies_add nodes (Some f) made old new h = (0, omega arith, adds_none old new h.1)
+readies_add : (fit : Fit) (nodes : ℕ) (f : Option Fork) (made : Fork) (old new : List Entry) → Readies fit nodes f made old new → (n : ℕ) × (n + paid nodes f ≤ 6 * nodes + 1) × Adds 0 0 0 n old new
+readies_add fit nodes None made old new h = (6 * nodes + 1, omega arith, fork_adds fit nodes old new (Some made) h)
+readies_add fit nodes (Some f) made old new h = (0, omega arith, adds_none old new h.1)
 
-pub readied_adds : (nodes : ℕ) (f g r : Option Fork) (old new : List Entry) → IsReadied nodes f g r old new → Adds 0 0 0 (6 * nodes + 1) old new
-readied_adds nodes f g None old new h = fork_adds nodes old new None h.2
-readied_adds nodes f g (Some made) old new h = let part = readies_add nodes f made old new h.1 in let few = part.1 in adds_in (6 * nodes + 1) old new (omega (arith, few)) part.2
+pub readied_adds : (fit : Fit) (nodes : ℕ) (f g r : Option Fork) (old new : List Entry) → IsReadied fit nodes f g r old new → Adds 0 0 0 (6 * nodes + 1) old new
+readied_adds fit nodes f g None old new h = fork_adds fit nodes old new None h.2
+readied_adds fit nodes f g (Some made) old new h = let part = readies_add fit nodes f made old new h.1 in let few = part.1 in adds_in (6 * nodes + 1) old new (omega (arith, few)) part.2
 
 paid_most : (nodes : ℕ) (g : Option Fork) (m t : ℕ) → m ≤ t + paid nodes g → m ≤ t + (6 * nodes + 1)
 paid_most nodes None m t few = omega (arith, few)
@@ -69,25 +70,25 @@ helps_add r c e old new few (inl h) = elim h.1 [
   | inr lost ↦ (0, adds_in 197 old new (omega (arith, few)) (not_cleaned_adds r.spot c old new lost))
 ]
 
-module _ (nodes k : ℕ) (f : Option Fork) (made : Fork) (r : End) (c : List ChainEdge) (old new : List Entry) where
-  link_won : TriesLink nodes k f made r c (Linked made.new) old new → (n : ℕ) × (n + paid nodes f ≤ 8 * nodes + 8) × Adds 1 0 0 n old new
+module _ (fit : Fit) (nodes k : ℕ) (f : Option Fork) (made : Fork) (r : End) (c : List ChainEdge) (old new : List Entry) where
+  link_won : TriesLink fit nodes k f made r c (Linked made.new) old new → (n : ℕ) × (n + paid nodes f ≤ 8 * nodes + 8) × Adds 1 0 0 n old new
   link_won h =
-      let part = readies_add nodes f made h.ended h.claimed h.readies in
+      let part = readies_add fit nodes f made h.ended h.claimed h.readies in
       let few = part.1 in
       (2 * nodes + (part.0 + 7), omega (arith, few), adds_then old h.ended new (seeks_adds nodes k old h.ended c (Some r) h.walk) (adds_then h.ended h.claimed new part.2 (grows_won k r made h.claimed new h.grows)))
 
-  link_lost : (e : Edge) → TriesLink nodes k f made r c (Lost e) old new → (n : ℕ) × (n + paid nodes f ≤ 8 * nodes + 8) × Adds 0 0 0 n old new
+  link_lost : (e : Edge) → TriesLink fit nodes k f made r c (Lost e) old new → (n : ℕ) × (n + paid nodes f ≤ 8 * nodes + 8) × Adds 0 0 0 n old new
   link_lost e h =
-      let part = readies_add nodes f made h.ended h.claimed h.readies in
+      let part = readies_add fit nodes f made h.ended h.claimed h.readies in
       let few = part.1 in
       (2 * nodes + (part.0 + 7), omega (arith, few), adds_then old h.ended new (seeks_adds nodes k old h.ended c (Some r) h.walk) (adds_then h.ended h.claimed new part.2 (grows_lost k r made e h.claimed new h.grows)))
 
-lost_adds : (nodes k : ℕ) (f g : Option Fork) (old new : List Entry) → IsTry nodes k f g old new attempt.Lost → (n : ℕ) × (n + paid nodes f ≤ most nodes + paid nodes g) × AddsLinks 0 n old new
-lost_adds nodes k f g old new (inl h) = (2 * nodes, (let same = ap (paid nodes) h.1 in omega (arith, same)), (0, broken_adds nodes k old new h.0))
-lost_adds nodes k f g old new (inr h) =
+lost_adds : (fit : Fit) (nodes k : ℕ) (f g : Option Fork) (old new : List Entry) → IsTry fit nodes k f g old new attempt.Lost → (n : ℕ) × (n + paid nodes f ≤ most nodes + paid nodes g) × AddsLinks 0 n old new
+lost_adds fit nodes k f g old new (inl h) = (2 * nodes, (let same = ap (paid nodes) h.1 in omega (arith, same)), (0, broken_adds nodes k old new h.0))
+lost_adds fit nodes k f g old new (inr h) =
     let made = h.0 in
     let mid = h.4 in
-    let link = link_lost nodes k f made h.1 h.2 old mid h.3 h.5 in
+    let link = link_lost fit nodes k f made h.1 h.2 old mid h.3 h.5 in
     let few = link.1 in
     let is = ap (paid nodes) h.6 in
     let help = helps_add h.1 h.2 h.3 mid new h.5.walk.1 h.7 in
@@ -98,77 +99,77 @@ abbrev links_of : Attempt → ℕ
 links_of attempt.Linked = 1
 links_of _ = 0
 
-try_adds : (nodes k : ℕ) (f g : Option Fork) (old new : List Entry) (a : Attempt) → IsTry nodes k f g old new a → (n : ℕ) × (n + paid nodes f ≤ most nodes + (6 * nodes + 1)) × AddsLinks (links_of a) n old new
-try_adds nodes k f g old new attempt.Found h = (2 * nodes, little nodes f, (0, seeks_adds nodes k old new h.1 (Some h.0) h.2))
+try_adds : (fit : Fit) (nodes k : ℕ) (f g : Option Fork) (old new : List Entry) (a : Attempt) → IsTry fit nodes k f g old new a → (n : ℕ) × (n + paid nodes f ≤ most nodes + (6 * nodes + 1)) × AddsLinks (links_of a) n old new
+try_adds fit nodes k f g old new attempt.Found h = (2 * nodes, little nodes f, (0, seeks_adds nodes k old new h.1 (Some h.0) h.2))
   where
     little : (nodes : ℕ) (f : Option Fork) → 2 * nodes + paid nodes f ≤ most nodes + (6 * nodes + 1)
     little nodes None = omega arith
     little nodes (Some f) = omega arith
-try_adds nodes k f g old new attempt.Linked h =
-    let link = link_won nodes k f h.0 h.1 h.2 old new h.3 in
+try_adds fit nodes k f g old new attempt.Linked h =
+    let link = link_won fit nodes k f h.0 h.1 h.2 old new h.3 in
     let few = link.1 in
     (link.0, omega (arith, few), (0, link.2))
-try_adds nodes k f g old new attempt.Full h =
+try_adds fit nodes k f g old new attempt.Full h =
     let none' = ap (paid nodes) h.5 in
-    (2 * nodes + (6 * nodes + 1), omega (arith, none'), (0, adds_then old h.2 new (seeks_adds nodes k old h.2 h.1 (Some h.0) h.3) (fork_adds nodes h.2 new None h.7)))
-try_adds nodes k f g old new attempt.Lost h =
-    let lost = lost_adds nodes k f g old new h in
+    (2 * nodes + (6 * nodes + 1), omega (arith, none'), (0, adds_then old h.2 new (seeks_adds nodes k old h.2 h.1 (Some h.0) h.3) (fork_adds fit nodes h.2 new None h.7)))
+try_adds fit nodes k f g old new attempt.Lost h =
+    let lost = lost_adds fit nodes k f g old new h in
     let few = lost.1 in
     (lost.0, paid_most nodes g (lost.0 + paid nodes f) (most nodes) few, lost.2)
 
 -- ---- the whole call
 
-lost_inserts_add : (nodes k t : ℕ) (g : Option Fork) (old new : List Entry) → LostInserts nodes k t g old new → (n : ℕ) × (n ≤ t * most nodes + paid nodes g) × AddsLinks 0 n old new
-lost_inserts_add nodes k zero g old new h = (0, omega arith, (0, adds_none old new h.1))
-lost_inserts_add nodes k (suc t) g old new h =
-    let above = lost_inserts_add nodes k t h.0 old h.1 h.2 in
-    let here = lost_adds nodes k h.0 g h.1 new h.3 in
+lost_inserts_add : (fit : Fit) (nodes k t : ℕ) (g : Option Fork) (old new : List Entry) → LostInserts fit nodes k t g old new → (n : ℕ) × (n ≤ t * most nodes + paid nodes g) × AddsLinks 0 n old new
+lost_inserts_add fit nodes k zero g old new h = (0, omega arith, (0, adds_none old new h.1))
+lost_inserts_add fit nodes k (suc t) g old new h =
+    let above = lost_inserts_add fit nodes k t h.0 old h.1 h.2 in
+    let here = lost_adds fit nodes k h.0 g h.1 new h.3 in
     let a = above.1 in
     let b = here.1 in
     let more = suc-mul t (most nodes) in
     (above.0 + here.0, omega (arith, a, b, more), (above.2.0 + here.2.0, adds_then old h.1 new above.2.1 here.2.1))
 
-ends_add : (nodes tries k : ℕ) (g : Option Fork) (a : Attempt) (old new : List Entry) → EndsBy nodes tries k g a old new → (n : ℕ) × (n ≤ tries * most nodes + (6 * nodes + 1)) × AddsLinks (links_of a) n old new
-ends_add nodes tries k g a old new h =
-    let above = lost_inserts_add nodes k h.0 h.1 old h.2 h.4 in
-    let here = try_adds nodes k h.1 g h.2 new a h.5 in
+ends_add : (fit : Fit) (nodes tries k : ℕ) (g : Option Fork) (a : Attempt) (old new : List Entry) → EndsBy fit nodes tries k g a old new → (n : ℕ) × (n ≤ tries * most nodes + (6 * nodes + 1)) × AddsLinks (links_of a) n old new
+ends_add fit nodes tries k g a old new h =
+    let above = lost_inserts_add fit nodes k h.0 h.1 old h.2 h.4 in
+    let here = try_adds fit nodes k h.1 g h.2 new a h.5 in
     let x = above.1 in
     let y = here.1 in
     let most_of = mul_below h.0 tries (most nodes) h.3 in
     (above.0 + here.0, omega (arith, x, y, most_of), (above.2.0 + here.2.0, adds_after old h.2 new above.2.1 here.2.1))
 
-pub finishes_add : (nodes tries k : ℕ) (old new : List Entry) (r : Result Bool Fault) → Finishes nodes tries k old new r → AddsLinks (links_of_insert r) (tries * most nodes + (6 * nodes + 4)) old new
-finishes_add nodes tries k old new (Ok true) h =
-    let part = ends_add nodes tries k None attempt.Linked old h.0 h.1 in
+pub finishes_add : (fit : Fit) (nodes tries k : ℕ) (old new : List Entry) (r : Result Bool Fault) → Finishes fit nodes tries k old new r → AddsLinks (links_of_insert r) (tries * most nodes + (6 * nodes + 4)) old new
+finishes_add fit nodes tries k old new (Ok true) h =
+    let part = ends_add fit nodes tries k None attempt.Linked old h.0 h.1 in
     let few = part.1 in
     (part.2.0 + 0, adds_in _ old new (omega (arith, few)) (adds_then old h.0 new part.2.1 (adds_these _ h.0 new h.2)))
-finishes_add nodes tries k old new (Ok false) h =
-    let part = ends_add nodes tries k h.0 attempt.Found old h.1 h.3 in
+finishes_add fit nodes tries k old new (Ok false) h =
+    let part = ends_add fit nodes tries k h.0 attempt.Found old h.1 h.3 in
     let few = part.1 in
     (part.2.0 + 0, adds_in _ old new (omega (arith, few)) (adds_then old h.1 new part.2.1 (adds_then h.1 h.2 new (back_adds h.0 h.1 h.2 h.4) (adds_these _ h.2 new h.5))))
-finishes_add nodes tries k old new (Err fault.Full) h =
-    let part = ends_add nodes tries k None attempt.Full old h.0 h.1 in
+finishes_add fit nodes tries k old new (Err fault.Full) h =
+    let part = ends_add fit nodes tries k None attempt.Full old h.0 h.1 in
     let few = part.1 in
     (part.2.0 + 0, adds_in _ old new (omega (arith, few)) (adds_then old h.0 new part.2.1 (adds_these _ h.0 new h.2)))
-finishes_add nodes tries k old new (Err fault.Busy) h =
-    let part = lost_inserts_add nodes k tries h.0 old h.1 h.3 in
+finishes_add fit nodes tries k old new (Err fault.Busy) h =
+    let part = lost_inserts_add fit nodes k tries h.0 old h.1 h.3 in
     let few = paid_most nodes h.0 part.0 (tries * most nodes) part.1 in
     (part.2.0 + 0, adds_in _ old new (omega (arith, few)) (adds_then old h.1 new part.2.1 (adds_then h.1 h.2 new (back_adds h.0 h.1 h.2 h.4) (adds_these _ h.2 new h.5))))
-finishes_add nodes tries k old new (Err fault.NoMemory) h =
-    let part = lost_inserts_add nodes k h.0 h.1 old h.2 h.5 in
+finishes_add fit nodes tries k old new (Err fault.NoMemory) h =
+    let part = lost_inserts_add fit nodes k h.0 h.1 old h.2 h.5 in
     let few = paid_most nodes h.1 part.0 (h.0 * most nodes) part.1 in
     let most_of = mul_below h.0 tries (most nodes) h.4 in
     (part.2.0 + 0, adds_in _ old new (omega (arith, few, most_of)) (adds_then old h.2 new part.2.1 (adds_then h.2 h.3 new (back_adds h.1 h.2 h.3 h.6) (adds_these _ h.3 new h.7))))
 
-pub insert_did : (nodes tries k : ℕ) (old new : List Entry) (r : Result Bool Fault) → PinsThen nodes tries k old new r → InsertDid nodes tries k old new r
-insert_did nodes tries k old new (Ok b) h = h
-insert_did nodes tries k old new (Err fault.Busy) h = inr (inr h)
-insert_did nodes tries k old new (Err fault.NoMemory) h = inr h
-insert_did nodes tries k old new (Err fault.Full) h = h
+pub insert_did : (fit : Fit) (nodes tries k : ℕ) (old new : List Entry) (r : Result Bool Fault) → PinsThen fit nodes tries k old new r → InsertDid fit nodes tries k old new r
+insert_did fit nodes tries k old new (Ok b) h = h
+insert_did fit nodes tries k old new (Err fault.Busy) h = inr (inr h)
+insert_did fit nodes tries k old new (Err fault.NoMemory) h = inr h
+insert_did fit nodes tries k old new (Err fault.Full) h = h
 
-module _ (nodes tries k : ℕ) (old pinned new : List Entry) (e : ℕ) (pin : IsPinned (SightFor Insert k) tries old pinned e) (r : Result Bool Fault) (h : Finishes nodes tries k pinned new r) where
+module _ (fit : Fit) (nodes tries k : ℕ) (old pinned new : List Entry) (e : ℕ) (pin : IsPinned (SightFor Insert k) tries old pinned e) (r : Result Bool Fault) (h : Finishes fit nodes tries k pinned new r) where
   all : AddsLinks (links_of_insert r) (2 * tries + 1 + (tries * most nodes + (6 * nodes + 4))) old new
-  all = let part = finishes_add nodes tries k pinned new r h in (0 + part.0, adds_after old pinned new (pin_adds Insert k tries old pinned e pin) part.1)
+  all = let part = finishes_add fit nodes tries k pinned new r h in (0 + part.0, adds_after old pinned new (pin_adds Insert k tries old pinned e pin) part.1)
 
   pub insert_wins : HasWon old new (links_of_insert r) 0
   insert_wins = has_won old new all.1

@@ -23,7 +23,9 @@ use Rattle.nm_order.specs.Logs.{known_by, IsLogOf}
 use Rattle.nm_order.proofs.LastEntries.{known_more, search_more, log_before}
 use Rattle.nm_order.proofs.ToldClaims.{claims_are_new}
 use Rattle.nm_order.specs.Told.{IsNew}
-use Rattle.nm_pool.specs.Claims.{IsNewNode, FoundWorn, MadeNew, PassedOver, IsClaim}
+use Rattle.nm_pool.specs.Claims.{DoneAt, IsNewNode, FoundWorn, MadeNew, PassedOver, PassedWithin, IsClaim, IsClaimBy}
+use Rattle.nm_pool.specs.declared.placement.Fit.{Fit}
+use Rattle.nm_pool.specs.declared.placement.Fit.TheVariants as fit
 use Rattle.nm_pool.specs.Takes.{DoneInTurn, FoundTaken, LearnsSlots}
 use Rattle.nm_steps.specs.Rules.{knowledge}
 use Rattle.nm_steps.specs.Steps.{Stand, Stepped, IsSamePass}
@@ -161,6 +163,21 @@ module _ (L : Layout) (low : 5 ≤ L.nodes) (w : ℕ) where
         kept = λ x ne. last.kept x ne ∙ first.kept x ne;
       }
 
+  all_passed_at : (nodes : ℕ) (them : List ℕ) (old new : List Entry) → IsLogOf L w new → DoneAt (PassedWithin nodes) them old new → Leaves (λ x. ⊥) old new
+  all_passed_at nodes [] old new l done = record {
+    part = subst (IsLogOf L w) done l;
+    search = ap (search_after idle) done;
+    kept = λ x ne. ap (λ log. get (slots log) x) done;
+  }
+  all_passed_at nodes (s ∷ them) old new l done =
+      let last = passed_over s done.0 new l done.2.2 in
+      let first = all_passed_at nodes them old done.0 last.part done.1 in
+      record {
+        part = first.part;
+        search = last.search ∙ first.search;
+        kept = λ x ne. last.kept x ne ∙ first.kept x ne;
+      }
+
   after_made : (n : NodeId) (old new : List Entry) → IsLogOf L w new → MadeNew n old new → Leaves (λ x. x ≡ n.slot) old new
   unfolding searched
   after_made n old new l made =
@@ -214,17 +231,23 @@ ends_made n old new made = record {
   other = refl;
 }
 
-ends_claim : (nodes : ℕ) (old new : List Entry) (o : Option NodeId) → IsClaim nodes old new o → (new ≡ old) ⊎ EndsWith new
-ends_claim nodes old new None is = ends_passed 6 (nodes + 1 - 6) old new is
-ends_claim nodes old new (Some n) is = inr (ends_made n is.before new is.made)
+ends_at : (nodes : ℕ) (slots : List ℕ) (old new : List Entry) → DoneAt (PassedWithin nodes) slots old new → (new ≡ old) ⊎ EndsWith new
+ends_at nodes [] old new done = inl done
+ends_at nodes (s ∷ slots) old new done = inr (ends_over s done.0 new done.2.2)
+
+ends_claim : (f : Fit) (nodes : ℕ) (old new : List Entry) (o : Option NodeId) → IsClaimBy f nodes old new o → (new ≡ old) ⊎ EndsWith new
+ends_claim fit.Lowest nodes old new None is = ends_passed 6 (nodes + 1 - 6) old new is
+ends_claim fit.Lowest nodes old new (Some n) is = inr (ends_made n is.before new is.made)
+ends_claim fit.Near nodes old new None is = ends_at nodes is.slots old new is.passed
+ends_claim fit.Near nodes old new (Some n) is = inr (ends_made n is.before new is.made)
 
 -- the log of a pass that is in a run is a part of one, by what it was before
 pub part_after : (p q : Stand) → IsSamePass p q → IsInRun q → IsLogOf p.view.layout p.view.number q.view.log
 part_after p q same run = subst (λ (s : Stand). IsLogOf s.view.layout s.view.number q.view.log) same run.run.is_part
 
-module _ (p q : Stand) (nodes : ℕ) (o : Option NodeId) (same : IsSamePass p q) (is : IsClaim nodes p.view.log q.view.log o) (run : IsInRun p) where
+module _ (p q : Stand) (f : Fit) (nodes : ℕ) (o : Option NodeId) (same : IsSamePass p q) (is : IsClaimBy f nodes p.view.log q.view.log o) (run : IsInRun p) where
   pub claim_in_run : IsLayout q.view.layout → TellsRun q → IsInRun q
-  claim_in_run fits tells = elim (ends_claim nodes p.view.log q.view.log o is) [
+  claim_in_run fits tells = elim (ends_claim f nodes p.view.log q.view.log o is) [
     | inl stays ↦ subst IsInRun (ap (λ (log : List Entry). record p { view = record p.view { log = log } }) (sym stays) ∙ sym same) run
     | inr ends ↦ record { fits = fits; run = run_after (record q { view = record q.view { log = ends.before } }) q ends.event ends.reply ends.is ends.other tells }
   ]
@@ -240,20 +263,27 @@ module _ (p q : Stand) (nodes : ℕ) (o : Option NodeId) (same : IsSamePass p q)
     but None x = ⊥
     but (Some n) x = x ≡ n.slot
 
-    leaves : (o : Option NodeId) → IsClaim nodes p.view.log q.view.log o → Leaves p.view.layout low p.view.number (but o) p.view.log q.view.log
+    made_after : (n : NodeId) (before : List Entry) → (IsLogOf p.view.layout p.view.number before → Leaves p.view.layout low p.view.number (λ x. ⊥) p.view.log before) → MadeNew n before q.view.log
+        → Leaves p.view.layout low p.view.number (but (Some n)) p.view.log q.view.log
     unfolding but
-    leaves None is = all_passed p.view.layout low p.view.number 6 (nodes + 1 - 6) p.view.log q.view.log part is
-    leaves (Some n) is =
-        let last = after_made p.view.layout low p.view.number n is.before q.view.log part is.made in
-        let first = all_passed p.view.layout low p.view.number 6 (n.slot - 6) p.view.log is.before last.part is.passed in
+    made_after n before passed made =
+        let last = after_made p.view.layout low p.view.number n before q.view.log part made in
+        let first = passed last.part in
         record {
           part = first.part;
           search = last.search ∙ first.search;
           kept = λ x ne. last.kept x ne ∙ first.kept x (λ none. none);
         }
 
+    leaves : (f : Fit) (o : Option NodeId) → IsClaimBy f nodes p.view.log q.view.log o → Leaves p.view.layout low p.view.number (but o) p.view.log q.view.log
+    unfolding but
+    leaves fit.Lowest None is = all_passed p.view.layout low p.view.number 6 (nodes + 1 - 6) p.view.log q.view.log part is
+    leaves fit.Lowest (Some n) is = made_after n is.before (λ l. all_passed p.view.layout low p.view.number 6 (n.slot - 6) p.view.log is.before l is.passed) is.made
+    leaves fit.Near None is = all_passed_at p.view.layout low p.view.number nodes is.slots p.view.log q.view.log part is.passed
+    leaves fit.Near (Some n) is = made_after n is.before (λ l. all_passed_at p.view.layout low p.view.number nodes is.slots p.view.log is.before l is.passed) is.made
+
     then_leaves : Leaves p.view.layout low p.view.number (but o) p.view.log q.view.log
-    then_leaves = leaves o is
+    then_leaves = leaves f o is
 
     pub claim_keeps : KeepsAllBut o p q
     unfolding but

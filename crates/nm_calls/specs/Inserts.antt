@@ -11,7 +11,8 @@ use Rattle.nm_model.specs.Walks.{Entry}
 use Rattle.nm_order.specs.Facts.Since.{ThePin}
 use Rattle.nm_order.specs.Facts.Fact.{KnowsSlot, KnowsLeaf, CallIs, EndedAt}
 use Rattle.nm_order.specs.Taught.{EdgeLearned}
-use Rattle.nm_pool.specs.Claims.{IsClaim}
+use Rattle.nm_pool.specs.Claims.{IsClaimBy}
+use Rattle.nm_pool.specs.declared.placement.Fit.{Fit}
 use Rattle.nm_steps.specs.Rules.{knowledge}
 use Rattle.nm_steps.specs.Steps.{Stand}
 use Rattle.nm_epoch.specs.Resting.{epochs, search}
@@ -65,10 +66,10 @@ Returns None old new = new ≡ old
 Returns (Some f) old new = new ≡ (old ++ (Give f.new.slot, Returned f.new.slot) ∷ []) ++ (Give f.fresh.slot, Returned f.fresh.slot) ∷ []
 
 -- the internal node is claimed first and the leaf second; where one of the two claims answers nothing, the other slot is returned
-abbrev pub ClaimsFork : ℕ → List Entry → List Entry → Option Fork → Type 0
-ClaimsFork nodes old new (Some f) = (mid : List Entry) × IsClaim nodes old mid (Some f.new) × IsClaim nodes mid new (Some f.fresh)
-ClaimsFork nodes old new None = IsClaim nodes old new None
-    ⊎ ((n : NodeId) × (mid : List Entry) × (all : List Entry) × IsClaim nodes old mid (Some n) × IsClaim nodes mid all None × (new ≡ all ++ (Give n.slot, Returned n.slot) ∷ []))
+abbrev pub ClaimsFork : Fit → ℕ → List Entry → List Entry → Option Fork → Type 0
+ClaimsFork fit nodes old new (Some f) = (mid : List Entry) × IsClaimBy fit nodes old mid (Some f.new) × IsClaimBy fit nodes mid new (Some f.fresh)
+ClaimsFork fit nodes old new None = IsClaimBy fit nodes old new None
+    ⊎ ((n : NodeId) × (mid : List Entry) × (all : List Entry) × IsClaimBy fit nodes old mid (Some n) × IsClaimBy fit nodes mid all None × (new ≡ all ++ (Give n.slot, Returned n.slot) ∷ []))
 
 -- ---- a link of both
 
@@ -125,30 +126,30 @@ abbrev pub Helps : End → List ChainEdge → Edge → List Entry → List Entry
 Helps r c e old new = ((asks_help r e ≡ true) × (((ns : List NodeId) × (epoch : ℕ) × CleanupWon r.spot c ns epoch old new) ⊎ CleanupLost r.spot c old new)) ⊎ ((asks_help r e ≡ false) × (new ≡ old))
 
 -- the nodes that were there are taken, or two are claimed
-abbrev pub Readies : ℕ → Option Fork → Fork → List Entry → List Entry → Type 0
-Readies nodes None g old new = ClaimsFork nodes old new (Some g)
-Readies nodes (Some f) g old new = (g ≡ f) × (new ≡ old)
+abbrev pub Readies : Fit → ℕ → Option Fork → Fork → List Entry → List Entry → Type 0
+Readies fit nodes None g old new = ClaimsFork fit nodes old new (Some g)
+Readies fit nodes (Some f) g old new = (g ≡ f) × (new ≡ old)
 
-abbrev pub IsReadied : ℕ → Option Fork → Option Fork → Option Fork → List Entry → List Entry → Type 0
-IsReadied nodes f g (Some h) old new = (g ≡ Some h) × Readies nodes f h old new
-IsReadied nodes f g None old new = (f ≡ None) × (g ≡ None) × ClaimsFork nodes old new None
+abbrev pub IsReadied : Fit → ℕ → Option Fork → Option Fork → Option Fork → List Entry → List Entry → Type 0
+IsReadied fit nodes f g (Some h) old new = (g ≡ Some h) × Readies fit nodes f h old new
+IsReadied fit nodes f g None old new = (f ≡ None) × (g ≡ None) × ClaimsFork fit nodes old new None
 
 -- a walk that ended at a leaf with another key, and a link of two new nodes there that was answered so
-pub record TriesLink (nodes k : ℕ) (f : Option Fork) (made : Fork) (r : End) (c : List ChainEdge) (reply : Reply) (old new : List Entry) : Type 0 where
+pub record TriesLink (fit : Fit) (nodes k : ℕ) (f : Option Fork) (made : Fork) (r : End) (c : List ChainEdge) (reply : Reply) (old new : List Entry) : Type 0 where
   pub ended : List Entry
   pub walk : Seeks nodes k old ended c (Some r)
   pub other : r.key ≢ k
   pub claimed : List Entry
-  pub readies : Readies nodes f made ended claimed
+  pub readies : Readies fit nodes f made ended claimed
   pub grows : Grows k r made reply claimed new
 
 -- a try of an insert of k, by what it came to; f are the new nodes before it, and g those after it
-abbrev pub IsTry : ℕ → ℕ → Option Fork → Option Fork → List Entry → List Entry → Attempt → Type 0
-IsTry nodes k f g old new attempt.Found = (r : End) × (c : List ChainEdge) × Seeks nodes k old new c (Some r) × (r.key ≡ k) × (g ≡ f)
-IsTry nodes k f g old new attempt.Linked = (made : Fork) × (r : End) × (c : List ChainEdge) × TriesLink nodes k f made r c (Linked made.new) old new × (g ≡ None)
-IsTry nodes k f g old new attempt.Full = (r : End) × (c : List ChainEdge) × (mid : List Entry) × Seeks nodes k old mid c (Some r) × (r.key ≢ k) × (f ≡ None) × (g ≡ None) × ClaimsFork nodes mid new None
-IsTry nodes k f g old new attempt.Lost = (IsBroken nodes k old new × (g ≡ f))
-    ⊎ ((made : Fork) × (r : End) × (c : List ChainEdge) × (e : Edge) × (mid : List Entry) × TriesLink nodes k f made r c (Lost e) old mid × (g ≡ Some made) × Helps r c e mid new)
+abbrev pub IsTry : Fit → ℕ → ℕ → Option Fork → Option Fork → List Entry → List Entry → Attempt → Type 0
+IsTry fit nodes k f g old new attempt.Found = (r : End) × (c : List ChainEdge) × Seeks nodes k old new c (Some r) × (r.key ≡ k) × (g ≡ f)
+IsTry fit nodes k f g old new attempt.Linked = (made : Fork) × (r : End) × (c : List ChainEdge) × TriesLink fit nodes k f made r c (Linked made.new) old new × (g ≡ None)
+IsTry fit nodes k f g old new attempt.Full = (r : End) × (c : List ChainEdge) × (mid : List Entry) × Seeks nodes k old mid c (Some r) × (r.key ≢ k) × (f ≡ None) × (g ≡ None) × ClaimsFork fit nodes mid new None
+IsTry fit nodes k f g old new attempt.Lost = (IsBroken nodes k old new × (g ≡ f))
+    ⊎ ((made : Fork) × (r : End) × (c : List ChainEdge) × (e : Edge) × (mid : List Entry) × TriesLink fit nodes k f made r c (Lost e) old mid × (g ≡ Some made) × Helps r c e mid new)
 
 -- what a try leaves: the pin, the call and what it flagged, and ledgers but for the nodes that it cut
 pub record OnlyTries (p q : Stand) : Type 0 where
@@ -168,30 +169,30 @@ ShowsTry k p q _ = (search q).linked ≡ (search p).linked
 -- ---- the whole call
 
 -- so many tries were lost, one behind the other; f are the new nodes behind them
-abbrev pub LostInserts : ℕ → ℕ → ℕ → Option Fork → List Entry → List Entry → Type 0
-LostInserts nodes k zero f old new = (f ≡ None) × (new ≡ old)
-LostInserts nodes k (suc n) g old new = (f : Option Fork) × (mid : List Entry) × LostInserts nodes k n f old mid × IsTry nodes k f g mid new attempt.Lost
+abbrev pub LostInserts : Fit → ℕ → ℕ → ℕ → Option Fork → List Entry → List Entry → Type 0
+LostInserts fit nodes k zero f old new = (f ≡ None) × (new ≡ old)
+LostInserts fit nodes k (suc n) g old new = (f : Option Fork) × (mid : List Entry) × LostInserts fit nodes k n f old mid × IsTry fit nodes k f g mid new attempt.Lost
 
 -- fewer lost tries than there may be, and then one that came to this
-abbrev pub EndsBy : ℕ → ℕ → ℕ → Option Fork → Attempt → List Entry → List Entry → Type 0
-EndsBy nodes tries k g a old new = (n : ℕ) × (f : Option Fork) × (mid : List Entry) × (n < tries) × LostInserts nodes k n f old mid × IsTry nodes k f g mid new a
+abbrev pub EndsBy : Fit → ℕ → ℕ → ℕ → Option Fork → Attempt → List Entry → List Entry → Type 0
+EndsBy fit nodes tries k g a old new = (n : ℕ) × (f : Option Fork) × (mid : List Entry) × (n < tries) × LostInserts fit nodes k n f old mid × IsTry fit nodes k f g mid new a
 
 -- from the pin on, by the answer
-abbrev pub Finishes : ℕ → ℕ → ℕ → List Entry → List Entry → Result Bool Fault → Type 0
-Finishes nodes tries k old new (Ok true) = (mid : List Entry) × EndsBy nodes tries k None attempt.Linked old mid × (new ≡ mid ++ (LeaveWith true, Departed) ∷ [])
-Finishes nodes tries k old new (Ok false) = (f : Option Fork) × (mid back : List Entry) × EndsBy nodes tries k f attempt.Found old mid × Returns f mid back × (new ≡ back ++ (LeaveWith false, Departed) ∷ [])
-Finishes nodes tries k old new (Err fault.Full) = (mid : List Entry) × EndsBy nodes tries k None attempt.Full old mid × (new ≡ mid ++ (Leave, Departed) ∷ [])
-Finishes nodes tries k old new (Err fault.Busy) = (f : Option Fork) × (mid back : List Entry) × LostInserts nodes k tries f old mid × Returns f mid back × (new ≡ back ++ (Leave, Departed) ∷ [])
-Finishes nodes tries k old new (Err fault.NoMemory) =
-    (n : ℕ) × (f : Option Fork) × (mid back : List Entry) × (n < tries) × LostInserts nodes k n f old mid × Returns f mid back × (new ≡ back ++ (Leave, Departed) ∷ [])
+abbrev pub Finishes : Fit → ℕ → ℕ → ℕ → List Entry → List Entry → Result Bool Fault → Type 0
+Finishes fit nodes tries k old new (Ok true) = (mid : List Entry) × EndsBy fit nodes tries k None attempt.Linked old mid × (new ≡ mid ++ (LeaveWith true, Departed) ∷ [])
+Finishes fit nodes tries k old new (Ok false) = (f : Option Fork) × (mid back : List Entry) × EndsBy fit nodes tries k f attempt.Found old mid × Returns f mid back × (new ≡ back ++ (LeaveWith false, Departed) ∷ [])
+Finishes fit nodes tries k old new (Err fault.Full) = (mid : List Entry) × EndsBy fit nodes tries k None attempt.Full old mid × (new ≡ mid ++ (Leave, Departed) ∷ [])
+Finishes fit nodes tries k old new (Err fault.Busy) = (f : Option Fork) × (mid back : List Entry) × LostInserts fit nodes k tries f old mid × Returns f mid back × (new ≡ back ++ (Leave, Departed) ∷ [])
+Finishes fit nodes tries k old new (Err fault.NoMemory) =
+    (n : ℕ) × (f : Option Fork) × (mid back : List Entry) × (n < tries) × LostInserts fit nodes k n f old mid × Returns f mid back × (new ≡ back ++ (Leave, Departed) ∷ [])
 
-abbrev pub PinsThen : ℕ → ℕ → ℕ → List Entry → List Entry → Result Bool Fault → Type 0
-PinsThen nodes tries k old new r = (pinned : List Entry) × (epoch : ℕ) × IsPinned (SightFor Insert k) tries old pinned epoch × Finishes nodes tries k pinned new r
+abbrev pub PinsThen : Fit → ℕ → ℕ → ℕ → List Entry → List Entry → Result Bool Fault → Type 0
+PinsThen fit nodes tries k old new r = (pinned : List Entry) × (epoch : ℕ) × IsPinned (SightFor Insert k) tries old pinned epoch × Finishes fit nodes tries k pinned new r
 
 -- Busy: there may be no try, and there was no step; or each try of the pin was lost; or each try was. NoMemory: room was refused before the first step,
 -- or before a later try
-abbrev pub InsertDid : ℕ → ℕ → ℕ → List Entry → List Entry → Result Bool Fault → Type 0
-InsertDid nodes tries k old new (Err fault.Busy) =
-    ((tries ≡ 0) × (new ≡ old)) ⊎ ((tries ≢ 0) × IsMoved (SightFor Insert k) tries old new) ⊎ PinsThen nodes tries k old new (Err fault.Busy)
-InsertDid nodes tries k old new (Err fault.NoMemory) = ((tries ≢ 0) × (new ≡ old)) ⊎ PinsThen nodes tries k old new (Err fault.NoMemory)
-InsertDid nodes tries k old new r = PinsThen nodes tries k old new r
+abbrev pub InsertDid : Fit → ℕ → ℕ → ℕ → List Entry → List Entry → Result Bool Fault → Type 0
+InsertDid fit nodes tries k old new (Err fault.Busy) =
+    ((tries ≡ 0) × (new ≡ old)) ⊎ ((tries ≢ 0) × IsMoved (SightFor Insert k) tries old new) ⊎ PinsThen fit nodes tries k old new (Err fault.Busy)
+InsertDid fit nodes tries k old new (Err fault.NoMemory) = ((tries ≢ 0) × (new ≡ old)) ⊎ PinsThen fit nodes tries k old new (Err fault.NoMemory)
+InsertDid fit nodes tries k old new r = PinsThen fit nodes tries k old new r

@@ -8,6 +8,7 @@ ghost use Rattle.nm_calls.specs.Inserts.{ClaimsFork, HasFork, IfReady, Returns, 
 use crate::making::{claim, fill, give, link};
 use crate::spot::End;
 use nm_edge::{Edge, NodeId};
+use nm_pool::Placement;
 use nm_steps::{Pass, Shared};
 
 /// Two private nodes: a new internal node, and a new leaf to stand below it.
@@ -26,20 +27,26 @@ pub(crate) struct Inner {
 }
 
 /// Claims an internal node and then a leaf. `None`: one of the claims answered nothing, and nothing is kept.
-pub(crate) fn claim_fork(shared: &Shared, pass: &mut Pass) -> Option<Fork>
+pub(crate) fn claim_fork(
+    shared: &Shared,
+    pass: &mut Pass,
+    placement: &mut Placement,
+) -> Option<Fork>
     requires own { IsOf shared.now pass.old }
     requires run { IsInRun pass.old }
     ensures same { IsSamePass pass.old pass.new }
-    ensures part { ClaimsFork shared.now.layout.nodes pass.old.view.log pass.new.view.log result }
+    ensures part { ClaimsFork placement.old shared.now.layout.nodes pass.old.view.log pass.new.view.log result }
     ensures on { GoesOn pass.old pass.new }
     ensures only { OnlyMakes pass.old pass.new }
     ensures has { HasFork pass.old pass.new result }
+    ensures fit { placement.new ≡ placement.old }
 {
-    let Some(new) = claim(shared, pass) else {
+    let Some(new) = claim(shared, pass, placement) else {
         return None;
     };
-    let Some(fresh) = claim(shared, pass) else {
+    let Some(fresh) = claim(shared, pass, placement) else {
         give(shared, pass, new);
+        placement.keep(new.slot);
         return None;
     };
     Some(Fork { new, fresh })
@@ -98,8 +105,13 @@ pub(crate) fn grow(
     )
 }
 
-/// Gives both nodes back, the internal one first.
-pub(crate) fn give_back(shared: &Shared, pass: &mut Pass, fork: &Option<Fork>)
+/// Gives both nodes back, the internal one first. The placement remembers their slots.
+pub(crate) fn give_back(
+    shared: &Shared,
+    pass: &mut Pass,
+    placement: &mut Placement,
+    fork: &Option<Fork>,
+)
     requires own { IsOf shared.now pass.old }
     requires run { IsInRun pass.old }
     requires ready { IfReady pass.old fork.now }
@@ -108,9 +120,12 @@ pub(crate) fn give_back(shared: &Shared, pass: &mut Pass, fork: &Option<Fork>)
     ensures same { IsSamePass pass.old pass.new }
     ensures on { GoesOn pass.old pass.new }
     ensures only { OnlyMakes pass.old pass.new }
+    ensures fit { placement.new ≡ placement.old }
 {
     if let Some(made) = fork {
         give(shared, pass, made.new);
         give(shared, pass, made.fresh);
+        placement.keep(made.new.slot);
+        placement.keep(made.fresh.slot);
     }
 }

@@ -24,6 +24,7 @@ use nm_edge::{Edge, Key};
 use nm_epoch::{Entry, pin_for};
 use nm_limbo::BlockQueue;
 use nm_model::Op;
+use nm_pool::Placement;
 use nm_steps::{Pass, Shared};
 
 /// Why a call has not answered.
@@ -51,19 +52,25 @@ pub(crate) enum Attempt {
 }
 
 /// The two new nodes, which are claimed where there are none.
-fn ready(shared: &Shared, pass: &mut Pass, fork: &mut Option<Fork>) -> Option<Fork>
+fn ready(
+    shared: &Shared,
+    pass: &mut Pass,
+    placement: &mut Placement,
+    fork: &mut Option<Fork>,
+) -> Option<Fork>
     requires own { IsOf shared.now pass.old }
     requires run { IsInRun pass.old }
     ensures same { IsSamePass pass.old pass.new }
-    ensures part { IsReadied shared.now.layout.nodes fork.old fork.new result pass.old.view.log pass.new.view.log }
+    ensures part { IsReadied placement.old shared.now.layout.nodes fork.old fork.new result pass.old.view.log pass.new.view.log }
     ensures on { GoesOn pass.old pass.new }
     ensures only { OnlyMakes pass.old pass.new }
     ensures has { (o : Stand) → HasFork o pass.old fork.old → HasFork o pass.new fork.new }
+    ensures fit { placement.new ≡ placement.old }
 {
     if let Some(made) = *fork {
         return Some(made);
     }
-    let made = claim_fork(shared, pass);
+    let made = claim_fork(shared, pass, placement);
     *fork = made;
     made
 }
@@ -111,6 +118,7 @@ pub(crate) fn help(
 fn try_insert(
     shared: &Shared,
     pass: &mut Pass,
+    placement: &mut Placement,
     key: u64,
     chain: &mut Chain,
     nodes: &mut CutNodes,
@@ -130,7 +138,7 @@ fn try_insert(
     requires fork { (o : Stand) × HasFork o pass.old fork.old }
     requires counted { splices.old ≡ capped (won_splices pass.old.view.log) }
     ensures same { IsSamePass pass.old pass.new }
-    ensures part { IsTry shared.now.layout.nodes key fork.old fork.new pass.old.view.log pass.new.view.log result }
+    ensures part { IsTry placement.old shared.now.layout.nodes key fork.old fork.new pass.old.view.log pass.new.view.log result }
     ensures on { GoesOn pass.old pass.new }
     ensures only { OnlyTries pass.old pass.new }
     ensures shows { ShowsTry key pass.old pass.new result }
@@ -138,6 +146,7 @@ fn try_insert(
     ensures queue { IsQueueOf (knowledge pass.new.view) pass.new.view.number queue.new.items }
     ensures blocks { queue.new.blocks ≡ queue.old.blocks }
     ensures counted { splices.new ≡ capped (won_splices pass.new.view.log) }
+    ensures fit { placement.new ≡ placement.old }
 {
     let Some(end) = seek(shared, pass, key, chain) else {
         return Attempt::Lost;
@@ -145,7 +154,7 @@ fn try_insert(
     if end.key == key {
         return Attempt::Found;
     }
-    let Some(made) = ready(shared, pass, fork) else {
+    let Some(made) = ready(shared, pass, placement, fork) else {
         return Attempt::Full;
     };
     match grow(shared, pass, key, &end, &made) {
@@ -183,6 +192,7 @@ pub(crate) fn make_room(queue: &mut BlockQueue<Entry>) -> bool
 fn insert_pinned(
     shared: &Shared,
     pass: &mut Pass,
+    placement: &mut Placement,
     key: u64,
     tries: u32,
     queue: &mut BlockQueue<Entry>,
@@ -200,7 +210,7 @@ fn insert_pinned(
     requires queue { IsQueueOf (knowledge pass.old.view) pass.old.view.number queue.old.items }
     requires counted { splices.old ≡ capped (won_splices pass.old.view.log) }
     ensures same { IsSamePass pass.old pass.new }
-    ensures part { Finishes shared.now.layout.nodes tries key pass.old.view.log pass.new.view.log result }
+    ensures part { Finishes placement.old shared.now.layout.nodes tries key pass.old.view.log pass.new.view.log result }
     ensures refused { IsErrOf result Fault.NoMemory → queue.new.spare < cut_bound }
     ensures moment { IfOk result (AnswerHasMoment pass.new Insert key) }
     ensures run { IsInRun pass.new }
@@ -209,21 +219,22 @@ fn insert_pinned(
     ensures queue { IsQueueOf (knowledge pass.new.view) pass.new.view.number queue.new.items }
     ensures ledgers { KeepsLedgers pass.old pass.new }
     ensures counted { splices.new ≡ capped (won_splices pass.new.view.log) }
+    ensures fit { placement.new ≡ placement.old }
 {
     let mut chain = Chain::new();
     let mut nodes = CutNodes::new();
     let mut fork: Option<Fork> = None;
     for _round in 0..tries {
         if !make_room(queue) {
-            give_back(shared, pass, &fork);
+            give_back(shared, pass, placement, &fork);
             leave(shared, pass);
             return Err(Fault::NoMemory);
         }
         match try_insert(
-            shared, pass, key, &mut chain, &mut nodes, &mut fork, queue, splices,
+            shared, pass, placement, key, &mut chain, &mut nodes, &mut fork, queue, splices,
         ) {
             Attempt::Found => {
-                give_back(shared, pass, &fork);
+                give_back(shared, pass, placement, &fork);
                 answer(shared, pass, false);
                 return Ok(false);
             }
@@ -238,7 +249,7 @@ fn insert_pinned(
             Attempt::Lost => {}
         }
     }
-    give_back(shared, pass, &fork);
+    give_back(shared, pass, placement, &fork);
     leave(shared, pass);
     Err(Fault::Busy)
 }
@@ -248,11 +259,12 @@ fn insert_pinned(
 ///
 /// A try is a walk with its answer, or a link with at most one cleanup of help. Room for a cleanup is made before each try, and no other
 /// memory is taken. At most `tries` * (4 `nodes` + 512) + 6 `nodes` + 10 steps. `Ok(true)`: just one link was won, and no flag; else neither.
-/// `splices` counts the worker's won splices, up to 2^64 - 1.
+/// New nodes are claimed in the order of `placement`, which stays of its fit. `splices` counts the worker's won splices, up to 2^64 - 1.
 /// (The insert of Natarajan and Mittal, section 3.2.)
 pub fn insert(
     shared: &Shared,
     pass: &mut Pass,
+    placement: &mut Placement,
     key: Key,
     tries: u32,
     queue: &mut BlockQueue<Entry>,
@@ -264,7 +276,7 @@ pub fn insert(
     requires few { length queue.old.items ≤ shared.now.layout.nodes }
     requires counted { splices.old ≡ capped (won_splices pass.old.view.log) }
     ensures same { IsSamePass pass.old pass.new }
-    ensures did { InsertDid shared.now.layout.nodes tries key pass.old.view.log pass.new.view.log result }
+    ensures did { InsertDid placement.old shared.now.layout.nodes tries key pass.old.view.log pass.new.view.log result }
     ensures refused { IsErrOf result Fault.NoMemory → queue.new.spare < cut_bound }
     ensures moment { IfOk result (AnswerHasMoment pass.new Insert key) }
     ensures won { HasWon pass.old.view.log pass.new.view.log (links_of_insert result) 0 }
@@ -276,6 +288,7 @@ pub fn insert(
     ensures few { length queue.new.items ≤ shared.now.layout.nodes }
     ensures ledgers { KeepsLedgers pass.old pass.new }
     ensures counted { splices.new ≡ capped (won_splices pass.new.view.log) }
+    ensures fit { placement.new ≡ placement.old }
 {
     if tries == 0 {
         return Err(Fault::Busy);
@@ -287,5 +300,5 @@ pub fn insert(
     let Ok(_epoch) = pin_for(shared, pass, tries, Op::Insert, key) else {
         return Err(Fault::Busy);
     };
-    insert_pinned(shared, pass, key.get(), tries, queue, splices)
+    insert_pinned(shared, pass, placement, key.get(), tries, queue, splices)
 }

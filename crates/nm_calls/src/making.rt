@@ -7,7 +7,7 @@ ghost use Rattle.nm_model.specs.Maps.{get};
 ghost use Rattle.nm_order.specs.Facts.Fact.{KnowsSlot, KnowsLeaf};
 ghost use Rattle.nm_order.specs.Hands.{IsPooled};
 ghost use Rattle.nm_order.specs.Told.{IsNew};
-ghost use Rattle.nm_pool.specs.Claims.{IsClaim, IsNewNode};
+ghost use Rattle.nm_pool.specs.Claims.{IsClaimBy, IsNewNode};
 ghost use Rattle.nm_pool.specs.Takes.{LearnsSlots};
 ghost use Rattle.nm_steps.specs.Rules.{knowledge};
 ghost use Rattle.nm_steps.specs.Steps.{IsOf, IsSamePass, Stepped};
@@ -15,17 +15,18 @@ ghost use Rattle.nm_calls.specs.Telling.{Tells, GoesOn, IsInRun, IsPinnedSomewhe
 ghost use Rattle.nm_calls.specs.Making.{draft, KeepsOthers, KeepsAllBut, OnlyMakes, with_node, HasFilled, IsInserting, HasLinked, HasLost};
 
 use nm_edge::{Edge, NodeId, Side};
+use nm_pool::{Placement, claim_by};
 use nm_steps::{Pass, Shared};
 
-/// Takes a slot out of the pool to be a new node, with its birth raised by one: the lowest that it finds there with a birth below 2^62.
+/// Takes a slot out of the pool to be a new node, with its birth raised by one: the first that it finds there with a birth below 2^62, in the order of the placement.
 ///
 /// `Some(node)`: the slot is private to the worker, which had it nowhere before; its birth is stored there, and nothing else is.
 /// At most three steps a slot.
-pub fn claim(shared: &Shared, pass: &mut Pass) -> Option<NodeId>
+pub fn claim(shared: &Shared, pass: &mut Pass, placement: &mut Placement) -> Option<NodeId>
     requires own { IsOf shared.now pass.old }
     requires run { IsInRun pass.old }
     ensures same { IsSamePass pass.old pass.new }
-    ensures part { IsClaim shared.now.layout.nodes pass.old.view.log pass.new.view.log result }
+    ensures part { IsClaimBy placement.old shared.now.layout.nodes pass.old.view.log pass.new.view.log result }
     ensures steps { length pass.new.view.log ≤ length pass.old.view.log + 3 * shared.now.layout.nodes }
     ensures on { GoesOn pass.old pass.new }
     ensures made { IfSome result (IsNewNode (knowledge pass.new.view)) }
@@ -34,8 +35,9 @@ pub fn claim(shared: &Shared, pass: &mut Pass) -> Option<NodeId>
     ensures learned { LearnsSlots (knowledge pass.old.view) (knowledge pass.new.view) }
     ensures others { KeepsAllBut result pass.old pass.new }
     ensures only { OnlyMakes pass.old pass.new }
+    ensures fit { placement.new ≡ placement.old }
 {
-    let claimed = nm_pool::claim(shared, pass);
+    let claimed = claim_by(shared, pass, placement);
     pass.is_of_a_run();
     claimed
 }

@@ -13,6 +13,7 @@ ghost use Rattle.nm_epoch.specs.Collecting.{IsQueueOf, AreHeld, KeepsRetired, No
 use crate::looking::read;
 use nm_edge::{MOST_WORKERS, NodeId};
 use nm_limbo::BlockQueue;
+use nm_pool::Placement;
 use nm_steps::{Pass, Shared};
 
 /// A retired node that waits, with its label: the epoch that its remover read after the cut.
@@ -65,7 +66,14 @@ fn free(shared: &Shared, pass: &mut Pass, slot: u32)
 }
 
 /// Frees what is ripe at the front of one held queue, given the epoch that the worker read last, by one step each: how many.
-fn collect_front(shared: &Shared, pass: &mut Pass, queue: &mut HeldQueue, epoch: u64) -> u32
+/// The placement remembers the slots.
+fn collect_front(
+    shared: &Shared,
+    pass: &mut Pass,
+    placement: &mut Placement,
+    queue: &mut HeldQueue,
+    epoch: u64,
+) -> u32
     requires own { IsOf shared.now pass.old }
     requires seen { (epochs pass.old).seen ≡ Some epoch }
     requires queue { IsQueueOf (knowledge pass.old.view) queue.old.origin queue.old.queue.items }
@@ -85,17 +93,25 @@ fn collect_front(shared: &Shared, pass: &mut Pass, queue: &mut HeldQueue, epoch:
     ensures search { search pass.new ≡ search pass.old }
     ensures nodes { (knowledge pass.new.view).known ≡ (knowledge pass.old.view).known }
     ensures private { (knowledge pass.new.view).drafts ≡ (knowledge pass.old.view).drafts }
+    ensures fit { placement.new ≡ placement.old }
 {
     let waiting = queue.queue.len();
     while let Some(node) = next_ripe(&queue.queue, epoch) {
         free(shared, pass, node.slot);
         let _ = queue.queue.pop();
+        placement.keep(node.slot);
     }
     waiting - queue.queue.len()
 }
 
 /// Frees what is ripe at the front of each of these held queues, one after the other: how many.
-fn collect_fronts(shared: &Shared, pass: &mut Pass, queues: &mut [HeldQueue], epoch: u64) -> u64
+fn collect_fronts(
+    shared: &Shared,
+    pass: &mut Pass,
+    placement: &mut Placement,
+    queues: &mut [HeldQueue],
+    epoch: u64,
+) -> u64
     requires own { IsOf shared.now pass.old }
     requires seen { (epochs pass.old).seen ≡ Some epoch }
     requires queues { AreHeld (knowledge pass.old.view) queues.old }
@@ -116,12 +132,13 @@ fn collect_fronts(shared: &Shared, pass: &mut Pass, queues: &mut [HeldQueue], ep
     ensures search { search pass.new ≡ search pass.old }
     ensures nodes { (knowledge pass.new.view).known ≡ (knowledge pass.old.view).known }
     ensures private { (knowledge pass.new.view).drafts ≡ (knowledge pass.old.view).drafts }
+    ensures fit { placement.new ≡ placement.old }
 {
     let Some((first, rest)) = queues.split_first_mut() else {
         return 0;
     };
-    let here = collect_front(shared, pass, first, epoch);
-    u64::from(here) + collect_fronts(shared, pass, rest, epoch)
+    let here = collect_front(shared, pass, placement, first, epoch);
+    u64::from(here) + collect_fronts(shared, pass, placement, rest, epoch)
 }
 
 /// What a collection came to.
@@ -140,10 +157,16 @@ pub struct Collected {
 /// The queues are those of ledgers that the worker holds, each of another origin, with all that waits in them. They are gone through as
 /// they stand: by ascending origin where they stand so. The epoch is not below any that the worker had read. Where a cut waits for its
 /// label, the first step labels it. The ledgers that the worker holds of other origins stay as they are, but for that label.
+/// The placement, which stays of its fit, remembers the last slots that were freed.
 ///
 /// Two epochs after the label no worker is pinned that could still come to the node (Fraser, Practical lock-freedom, 2004,
 /// chapter 5).
-pub fn collect(shared: &Shared, pass: &mut Pass, queues: &mut [HeldQueue]) -> Collected
+pub fn collect(
+    shared: &Shared,
+    pass: &mut Pass,
+    placement: &mut Placement,
+    queues: &mut [HeldQueue],
+) -> Collected
     requires own { IsOf shared.now pass.old }
     requires queues { AreHeld (knowledge pass.old.view) queues.old }
     ensures same { IsSamePass pass.old pass.new }
@@ -159,8 +182,9 @@ pub fn collect(shared: &Shared, pass: &mut Pass, queues: &mut [HeldQueue]) -> Co
     ensures seen { (epochs pass.new).seen ≡ Some result.epoch }
     ensures settles { Settles pass.old pass.new }
     ensures private { (knowledge pass.new.view).drafts ≡ (knowledge pass.old.view).drafts }
+    ensures fit { placement.new ≡ placement.old }
 {
     let epoch = read(shared, pass);
-    let freed = collect_fronts(shared, pass, queues, epoch);
+    let freed = collect_fronts(shared, pass, placement, queues, epoch);
     Collected { epoch, freed }
 }

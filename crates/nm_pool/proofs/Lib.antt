@@ -1,3 +1,4 @@
 pub mod Allowing
+pub mod AnyOrder
 pub mod PrivateSlots
 pub mod Steps

@@ -1,11 +1,13 @@
 -- How many steps claims take at most.
-use Rattle.std.proofs.Common.{◌≡◌, inl, inr, ℕ, zero, suc, ◌+◌, ◌*◌, ◌-◌, ◌≤◌, ◌<◌, List, ◌++◌, length, ap, ◌∙◌, arith}
+use Rattle.std.proofs.Common.{◌≡◌, inl, inr, ℕ, zero, suc, ◌+◌, ◌*◌, ◌-◌, ◌≤◌, ◌<◌, List, [], ◌∷◌, ◌++◌, length, ap, ◌∙◌, arith}
 use Rattle.std.specs.Prelude.{Option, Some, None}
 use Rattle.std.proofs.lemmas.List.{length-append}
 use Rattle.nm_edge.specs.declared.node.NodeId.{NodeId}
 use Rattle.nm_model.specs.Walks.{Entry}
 use Rattle.nm_pool.specs.Takes.{Doing, DoneInTurn, FoundTaken, IsTake}
-use Rattle.nm_pool.specs.Claims.{PassedOver, IsClaim}
+use Rattle.nm_pool.specs.Claims.{DoneAt, PassedOver, PassedWithin, IsClaimBy}
+use Rattle.nm_pool.specs.declared.placement.Fit.{Fit}
+use Rattle.nm_pool.specs.declared.placement.Fit.TheVariants as fit
 
 -- what is done at one slot takes so many steps at most
 abbrev TakesFew : ℕ → Doing → Type 0
@@ -38,11 +40,27 @@ take_steps from nodes old new (Some s) high t =
     let most = t.most in
     omega (arith, few, l, least, most, high)
 
-pub claim_steps : (nodes : ℕ) (old new : List Entry) (o : Option NodeId) → IsClaim nodes old new o → length new ≤ length old + 3 * nodes
-claim_steps nodes old new None is = let few = few_in_turn 3 PassedOver three_at_most 6 (nodes + 1 - 6) old new is in omega (arith, few)
-claim_steps nodes old new (Some n) c =
+few_at : (nodes : ℕ) (slots : List ℕ) (old new : List Entry) → DoneAt (PassedWithin nodes) slots old new → length new ≤ length old + 3 * length slots
+few_at nodes [] old new done = let same : length new ≡ length old = ap (λ (log : List Entry). length log) done in omega (arith, same)
+few_at nodes (s ∷ slots) old new done =
+    let before = few_at nodes slots old done.0 done.1 in
+    let last = three_at_most s done.0 new done.2.2 in
+    omega (arith, before, last)
+
+pub claim_steps : (f : Fit) (nodes : ℕ) (old new : List Entry) (o : Option NodeId) → IsClaimBy f nodes old new o → length new ≤ length old + 3 * nodes
+claim_steps fit.Lowest nodes old new None is = let few = few_in_turn 3 PassedOver three_at_most 6 (nodes + 1 - 6) old new is in omega (arith, few)
+claim_steps fit.Lowest nodes old new (Some n) c =
     let few = few_in_turn 3 PassedOver three_at_most 6 (n.slot - 6) old c.before c.passed in
     let l = longer c.before new _ c.made.entries in
     let least = c.least in
     let most = c.most in
     omega (arith, few, l, least, most)
+claim_steps fit.Near nodes old new None p =
+    let steps = few_at nodes p.slots old new p.passed in
+    let few = p.few in
+    omega (arith, steps, few)
+claim_steps fit.Near nodes old new (Some n) c =
+    let steps = few_at nodes c.slots old c.before c.passed in
+    let l = longer c.before new _ c.made.entries in
+    let few = c.few in
+    omega (arith, steps, l, few)

@@ -1,5 +1,5 @@
 -- What claiming new nodes leaves in the log, oldest entry first.
-use Rattle.std.specs.Prelude.{◌≡◌, ℕ, ◌+◌, ◌≤◌, ◌<◌, ◌⊎◌, List, [], ◌∷◌, ◌++◌, Option, Some, None}
+use Rattle.std.specs.Prelude.{◌≡◌, ℕ, ◌+◌, ◌≤◌, ◌<◌, ◌⊎◌, length, List, [], ◌∷◌, ◌++◌, Option, Some, None}
 use Rattle.nm_edge.specs.declared.node.NodeId.{NodeId}
 use Rattle.nm_model.specs.declared.event.Event.TheVariants.{Claim, Give, Look, Fill}
 use Rattle.nm_model.specs.declared.event.Field.TheVariants.{Birth}
@@ -10,6 +10,8 @@ use Rattle.nm_model.specs.Step.{last_number}
 use Rattle.nm_model.specs.Walks.{Entry}
 use Rattle.nm_pool.specs.declared.nodes.Tried.{Tried}
 use Rattle.nm_pool.specs.declared.nodes.Tried.TheVariants as tried
+use Rattle.nm_pool.specs.declared.placement.Fit.{Fit}
+use Rattle.nm_pool.specs.declared.placement.Fit.TheVariants as fit
 use Rattle.nm_pool.specs.Takes.{Doing, DoneBelow, FoundTaken}
 
 -- the slot was claimed, found worn, with the greatest birth, and given back
@@ -42,6 +44,68 @@ IsClaim nodes old new None = DoneBelow PassedOver 6 (nodes + 1) old new
 -- its slot is private, its birth is stored there, and nothing else is
 abbrev pub IsNewNode : Knowledge → NodeId → Type 0
 IsNewNode k n = get k.drafts n.slot ≡ Some (record unfilled { birth = Some n.birth })
+
+-- ---- claims of a range
+
+-- that node was made in the end, and each lesser slot, from the first on, was passed over
+pub record ClaimsBetween (from to : ℕ) (old new : List Entry) (n : NodeId) : Type 0 where
+  pub least : from ≤ n.slot
+  pub below : n.slot < to
+  pub before : List Entry
+  pub passed : DoneBelow PassedOver from n.slot old before
+  pub made : MadeNew n before new
+
+abbrev pub IsClaimBetween : ℕ → ℕ → List Entry → List Entry → Option NodeId → Type 0
+IsClaimBetween from to old new (Some n) = ClaimsBetween from to old new n
+IsClaimBetween from to old new None = DoneBelow PassedOver from to old new
+
+-- ---- claims in any order
+
+-- it was done at each of these slots, the last one first
+abbrev pub DoneAt : Doing → List ℕ → List Entry → List Entry → Type 0
+DoneAt Done [] old new = new ≡ old
+DoneAt Done (s ∷ ss) old new = (mid : List Entry) × DoneAt Done ss old mid × Done s mid new
+
+-- a slot above 5 of so many nodes was passed over
+abbrev pub PassedWithin : ℕ → Doing
+PassedWithin nodes s old new = (6 ≤ s) × (s ≤ nodes) × PassedOver s old new
+
+-- the slot is one of these
+abbrev pub IsAmong : ℕ → List ℕ → Type 0
+IsAmong s [] = ⊥
+IsAmong s (x ∷ xs) = (x ≡ s) ⊎ IsAmong s xs
+
+-- that node was made in the end, and fewer slots than a limit were passed over before
+pub record ClaimsPast (limit nodes : ℕ) (old new : List Entry) (n : NodeId) : Type 0 where
+  pub least : 6 ≤ n.slot
+  pub most : n.slot ≤ nodes
+  pub slots : List ℕ
+  pub few : length slots < limit
+  pub before : List Entry
+  pub passed : DoneAt (PassedWithin nodes) slots old before
+  pub made : MadeNew n before new
+
+-- each slot above 5 was passed over, with no more tries than there are nodes
+pub record PassesAll (nodes : ℕ) (old new : List Entry) : Type 0 where
+  pub slots : List ℕ
+  pub few : length slots ≤ nodes
+  pub all : (s : ℕ) → 6 ≤ s → s ≤ nodes → IsAmong s slots
+  pub passed : DoneAt (PassedWithin nodes) slots old new
+
+-- what a near claim leaves in the log, by its answer
+abbrev pub IsNearClaim : ℕ → List Entry → List Entry → Option NodeId → Type 0
+IsNearClaim nodes old new (Some n) = ClaimsPast nodes nodes old new n
+IsNearClaim nodes old new None = PassesAll nodes old new
+
+-- what a claim by a placement does
+abbrev pub IsClaimBy : Fit → ℕ → List Entry → List Entry → Option NodeId → Type 0
+IsClaimBy fit.Lowest nodes old new r = IsClaim nodes old new r
+IsClaimBy fit.Near nodes old new r = IsNearClaim nodes old new r
+
+-- the same of so many tries
+abbrev pub IsClaimOfFew : ℕ → ℕ → List Entry → List Entry → Option NodeId → Type 0
+IsClaimOfFew limit nodes old new (Some n) = ClaimsPast limit nodes old new n
+IsClaimOfFew limit nodes old new None = (slots : List ℕ) × (length slots ≤ limit) × DoneAt (PassedWithin nodes) slots old new
 
 -- ---- a try of one slot
 

@@ -2,9 +2,11 @@
 #![tactic(auto)]
 
 mod nodes;
+mod placement;
 mod slots;
 #[cfg(test)]
 mod tests;
 
 pub use nodes::{claim, give};
+pub use placement::{Fit, Placement, claim_by};
 pub use slots::{put, take};

@@ -1,5 +1,5 @@
 //! Slots taken out of the pool to be new nodes, and given back.
-ghost use Rattle.std.specs.Prelude.{◌≡◌, ◌+◌, ◌*◌, ◌≤◌, ◌<◌, true, Some, length, IfSome};
+ghost use Rattle.std.specs.Prelude.{◌≡◌, ◌⊎◌, ◌+◌, ◌*◌, ◌≤◌, ◌<◌, true, Some, length, IfSome};
 ghost use Rattle.nm_model.specs.declared.event.Event.TheVariants.{Give};
 ghost use Rattle.nm_model.specs.declared.reply.Reply.TheVariants.{Returned};
 ghost use Rattle.nm_model.specs.Knowledge.{is_private, draft_of};
@@ -8,7 +8,7 @@ ghost use Rattle.nm_steps.specs.Rules.{knowledge};
 ghost use Rattle.nm_steps.specs.Steps.{IsInRun, IsOf, Stepped};
 ghost use Rattle.nm_pool.specs.Takes.{LearnsSlots};
 ghost use Rattle.nm_steps.specs.Steps.{IsSamePass};
-ghost use Rattle.nm_pool.specs.Claims.{IsClaim, IsTried, IfGot, IsNewNode};
+ghost use Rattle.nm_pool.specs.Claims.{IsClaim, IsClaimBetween, IsTried, IfGot, IsNewNode};
 
 use crate::slots::put;
 use nm_edge::{FIRST_SLOT, LAST_NUMBER, NodeId};
@@ -16,7 +16,7 @@ use nm_steps::{Pass, Shared};
 
 /// What a try of one slot answers.
 #[derive(Clone, Copy)]
-enum Tried {
+pub(crate) enum Tried {
     /// It is not in the pool.
     Taken,
     /// It has the greatest birth, and is in the pool again.
@@ -43,21 +43,24 @@ pub fn claim(shared: &Shared, pass: &mut Pass) -> Option<NodeId>
     ensures learned { LearnsSlots (knowledge pass.old.view) (knowledge pass.new.view) }
     ensures steps { length pass.new.view.log ≤ length pass.old.view.log + 3 * shared.now.layout.nodes }
 {
-    claim_first(shared, pass)
+    let nodes = shared.layout().nodes();
+    claim_between(shared, pass, FIRST_SLOT, nodes + 1)
 }
 
-/// The first slot that is found in the pool and is not worn.
-fn claim_first(shared: &Shared, pass: &mut Pass) -> Option<NodeId>
-    requires { IsOf shared.now pass.old }
+/// The first slot from one on and below another that is found in the pool and is not worn.
+pub(crate) fn claim_between(shared: &Shared, pass: &mut Pass, from: u32, to: u32) -> Option<NodeId>
+    requires own { IsOf shared.now pass.old }
+    requires low { 5 < from }
+    requires order { from ≤ to }
+    requires high { to ≤ shared.now.layout.nodes + 1 }
     ensures same { IsSamePass pass.old pass.new }
-    ensures run { IsInRun pass.new }
-    ensures part { IsClaim shared.now.layout.nodes pass.old.view.log pass.new.view.log result }
+    ensures run { (from < to) ⊎ IsInRun pass.old → IsInRun pass.new }
+    ensures part { IsClaimBetween from to pass.old.view.log pass.new.view.log result }
     ensures made { IfSome result (IsNewNode (knowledge pass.new.view)) }
     ensures new { IfSome result (λ node. IsNew pass.old.view.layout pass.old.view.number pass.old.view.log node.slot) }
     ensures learned { LearnsSlots (knowledge pass.old.view) (knowledge pass.new.view) }
 {
-    let nodes = shared.layout().nodes();
-    for slot in FIRST_SLOT..nodes + 1 {
+    for slot in from..to {
         if let Tried::Got(node) = try_slot(shared, pass, slot) {
             return Some(node);
         }
@@ -77,7 +80,7 @@ pub fn give(shared: &Shared, pass: &mut Pass, node: NodeId)
 }
 
 /// Takes one slot out of the pool, if it is there, and raises its birth by one, if it is not worn.
-fn try_slot(shared: &Shared, pass: &mut Pass, slot: u32) -> Tried
+pub(crate) fn try_slot(shared: &Shared, pass: &mut Pass, slot: u32) -> Tried
     requires own { IsOf shared.now pass.old }
     requires low { 5 < slot }
     requires high { slot ≤ shared.now.layout.nodes }

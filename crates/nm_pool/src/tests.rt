@@ -2,6 +2,7 @@ ghost use Rattle.std.specs.Prelude.{◌≡◌, ◌≤◌, length};
 ghost use Rattle.nm_steps.specs.Steps.{AreFresh, IsOf};
 
 mod claims;
+mod near;
 
 use crate::{claim, give, put, take};
 use nm_edge::{LEAST_NODES, Layout, NodeId};

@@ -15,6 +15,7 @@ use Rattle.nm_steps.specs.Steps.{Stand, IsSamePass}
 use Rattle.nm_epoch.specs.declared.collecting.HeldQueue.{HeldQueue}
 use Rattle.nm_epoch.specs.Collecting.{AreHeld, NoneHas, IsQueueOf}
 use Rattle.nm_calls.specs.Won.{capped, won_links, won_flags, won_splices}
+use Rattle.nm_pool.specs.declared.placement.Fit.{Fit}
 use Rattle.nm_tree.specs.declared.worker.Account.{Account}
 use Rattle.nm_tree.specs.declared.worker.Unfinished.{Unfinished}
 use Rattle.nm_tree.specs.Workers.{Hand, IsAs, IsWorker, IsAccount, AreAccounts, IsKept, AreOf, HasOrigin, StandsAt, OnlyOwnLedger, log_of, log_among, ledger_in}
@@ -123,9 +124,9 @@ numbers_after v i o hs g s e is = record {
 }
 
 -- so it is a worker still, where its own queue and account are these now
-pub changed : {r s : ℕ} (w : Hand) (xs : List Account) (home : ℕ) (q : Stand) (n : Option Unfinished) (e : Option ℕ) (g : HeldQueue) (b : Account) → IsWorker w xs home r s → IsSamePass w.pass q
+pub changed : {r s : ℕ} {f : Fit} (w : Hand) (xs : List Account) (home : ℕ) (q : Stand) (n : Option Unfinished) (e : Option ℕ) (g : HeldQueue) (b : Account) → IsWorker w xs home r s → IsSamePass w.pass q
     → IsKept q g b → OnlyOwnLedger w.pass q → ((slot : ℕ) → get (knowledge q.view).drafts slot ≡ get (knowledge w.pass.view).drafts slot) → IsAs q n e
-    → IsWorker (record { pass = q; queues = slice_set w.queues home g; pending = n; held = e }) (slice_set xs home b) home r s
+    → IsWorker (record { pass = q; queues = slice_set w.queues home g; pending = n; held = e; fit = f }) (slice_set xs home b) home r s
 changed {r} {s} w xs home q n e g b is same kept others private stands =
     let number : q.view.number ≡ w.pass.view.number = ap (λ (x : Stand). x.view.number) same in
     let own : g.origin ≡ w.pass.view.number = kept.own ∙ number in

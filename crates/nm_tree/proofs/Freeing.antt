@@ -15,6 +15,7 @@ use Rattle.nm_epoch.specs.declared.collecting.HeldQueue.{HeldQueue}
 use Rattle.nm_epoch.specs.Collecting.{IsQueueOf, AreHeld, NoneHas, HaveLost, KeepsOthers, KeepsRetired, rest_of, is_ripe}
 use Rattle.nm_epoch.specs.Resting.{epochs}
 use Rattle.nm_calls.specs.Won.{capped, won_links, won_flags, won_splices}
+use Rattle.nm_pool.specs.declared.placement.Fit.{Fit}
 use Rattle.nm_tree.specs.declared.worker.Account.{Account}
 use Rattle.nm_tree.specs.declared.worker.Unfinished.{Unfinished}
 use Rattle.nm_tree.specs.Workers.{Hand, IsAs, IsWorker, IsAccount, AreAccounts, ArePaired, HaveNoted, noted_for, HasOrigin, AreAbove, Ascend, StandsAt, log_of, ledger_in}
@@ -156,10 +157,10 @@ freed_accounts epoch p q (h ∷ hs) (g ∷ gs) (a ∷ xs) (b ∷ ys) same run qu
 
 -- ---- a whole worker
 
-pub collected : {r s r' s' : ℕ} (epoch : ℕ) (w : Hand) (xs ys : List Account) (home : ℕ) (q : Stand) (gs : List HeldQueue) (n : Option Unfinished) (e : Option ℕ) → r' ≡ r → s' ≡ s → IsWorker w xs home r s → IsSamePass w.pass q → IsInRun q
+pub collected : {r s r' s' : ℕ} {f : Fit} (epoch : ℕ) (w : Hand) (xs ys : List Account) (home : ℕ) (q : Stand) (gs : List HeldQueue) (n : Option Unfinished) (e : Option ℕ) → r' ≡ r → s' ≡ s → IsWorker w xs home r s → IsSamePass w.pass q → IsInRun q
     → Quiet w.pass.view.log q.view.log → (epochs w.pass).unlabelled ≡ false → HaveLost epoch w.queues gs → AreHeld (knowledge q.view) gs → KeepsOthers epoch w.queues (knowledge w.pass.view) (knowledge q.view)
     → KeepsRetired (knowledge w.pass.view) (knowledge q.view) → (knowledge q.view).drafts ≡ (knowledge w.pass.view).drafts → HaveNoted gs xs ys → IsAs q n e
-    → IsWorker (record { pass = q; queues = gs; pending = n; held = e }) ys home r' s'
+    → IsWorker (record { pass = q; queues = gs; pending = n; held = e; fit = f }) ys home r' s'
 collected {r} {s} {r'} {s'} epoch w xs ys home q gs n e same_room same_account_room is same run quiet' labelled lost held' others retired drafts noted stands =
     let P : ℕ → Type 0 = λ o. StandsAt home o gs in
     record {

@@ -16,9 +16,10 @@ use Rattle.nm_epoch.specs.declared.collecting.HeldQueue.{HeldQueue}
 use Rattle.nm_epoch.specs.Collecting.{IsQueueOf}
 use Rattle.nm_calls.specs.Fresh.{HasDoneNothing}
 use Rattle.nm_calls.specs.Won.{capped, won_links, won_flags, won_splices}
+use Rattle.nm_pool.specs.declared.placement.Fit.{Fit}
 use Rattle.nm_tree.specs.declared.worker.Account.{Account}
 use Rattle.nm_tree.specs.Plays.{IsReady}
-use Rattle.nm_tree.specs.Workers.{Hand, IsWorker, IsAccount, HasOrigin, HasNumber, HoldNothing, HaveWorkers, IsFresh, AreAllFresh, IsNewWorker, AreMade, AreNew, log_of, ledger_in}
+use Rattle.nm_tree.specs.Workers.{Hand, HaveFit, IsWorker, IsAccount, HasOrigin, HasNumber, HoldNothing, HaveWorkers, IsFresh, AreAllFresh, IsNewWorker, AreMade, AreNew, log_of, ledger_in}
 use Rattle.nm_tree.proofs.Changing.{log_of_own}
 
 -- ---- one worker
@@ -45,9 +46,9 @@ fresh_account p h d own empty =
       split = omega (arith, none', r, f);
     }
 
-pub new_worker : (p : Stand) (h : HeldQueue) (r s : ℕ) → HasDoneNothing p → h.origin ≡ p.view.number → h.queue.items ≡ [] → p.view.others ≡ [] → p.view.spent ≡ false → p.view.layout.workers ≤ r → p.view.layout.workers ≤ s
-    → IsWorker (record { pass = p; queues = h ∷ []; pending = None; held = None }) (blank h.origin ∷ []) 0 r s
-new_worker p h r s d own empty alone alive room account_room =
+pub new_worker : (f : Fit) (p : Stand) (h : HeldQueue) (r s : ℕ) → HasDoneNothing p → h.origin ≡ p.view.number → h.queue.items ≡ [] → p.view.others ≡ [] → p.view.spent ≡ false → p.view.layout.workers ≤ r → p.view.layout.workers ≤ s
+    → IsWorker (record { pass = p; queues = h ∷ []; pending = None; held = None; fit = f }) (blank h.origin ∷ []) 0 r s
+new_worker f p h r s d own empty alone alive room account_room =
     let queue : IsQueueOf (knowledge p.view) h.origin h.queue.items =
     let P : ℕ → Type 0 = λ o. IsQueueOf (knowledge p.view) o h.queue.items in
     let Q : List Entry → Type 0 = λ es. IsQueueOf (knowledge p.view) p.view.number es in
@@ -101,23 +102,30 @@ pub have_before : (n : ℕ) (ps : List Stand) (p : Stand) → HaveWorkers n (ps 
 have_before n [] p are = (tt, are.0)
 have_before n (q ∷ ps) p are = let rest = have_before n ps p are.1 in ((are.0, rest.0), rest.1)
 
-pub all_new : (b : Board) (k : ℕ) (ps : List Stand) (ws : List Hand) → AreFresh b k ps → AreMade ps ws → AreNew b k ws
-all_new b k [] [] fresh made = tt
-all_new b k [] (w ∷ ws) fresh made = absurd made
-all_new b k (p ∷ ps) [] fresh made = absurd made
-all_new b k (p ∷ ps) (w ∷ ws) fresh made =
+pub all_new : (f : Fit) (b : Board) (k : ℕ) (ps : List Stand) (ws : List Hand) → AreFresh b k ps → AreMade f ps ws → AreNew b k ws
+all_new f b k [] [] fresh made = tt
+all_new f b k [] (w ∷ ws) fresh made = absurd made
+all_new f b k (p ∷ ps) [] fresh made = absurd made
+all_new f b k (p ∷ ps) (w ∷ ws) fresh made =
     let is = made.0 in
-    (ap (λ (x : Stand). x.table) is.0 ∙ fresh.0, ap (λ (x : Stand). x.view) is.0 ∙ fresh.1, is.1, is.2, is.3, all_new b (suc k) ps ws fresh.2 made.1)
+    (ap (λ (x : Stand). x.table) is.0 ∙ fresh.0, ap (λ (x : Stand). x.view) is.0 ∙ fresh.1, is.1, is.2, is.3, all_new f b (suc k) ps ws fresh.2 made.1)
 
-pub as_many : (ps : List Stand) (ws : List Hand) → AreMade ps ws → length ws ≡ length ps
-as_many [] [] made = refl
-as_many [] (w ∷ ws) made = absurd made
-as_many (p ∷ ps) [] made = absurd made
-as_many (p ∷ ps) (w ∷ ws) made = ap suc (as_many ps ws made.1)
+pub as_many : (f : Fit) (ps : List Stand) (ws : List Hand) → AreMade f ps ws → length ws ≡ length ps
+as_many f [] [] made = refl
+as_many f [] (w ∷ ws) made = absurd made
+as_many f (p ∷ ps) [] made = absurd made
+as_many f (p ∷ ps) (w ∷ ws) made = ap suc (as_many f ps ws made.1)
 
 -- one worker more, where they are made from the last one on
-pub one_made : (p : Stand) (w : Hand) (ps : List Stand) (ws : List Hand) → IsNewWorker p w → AreMade ps (reverse ws) → AreMade (p ∷ ps) (reverse (ws ++ w ∷ []))
-one_made p w ps ws new made = let P : List Hand → Type 0 = λ xs. AreMade (p ∷ ps) xs in subst P (sym (reverse-append ws (w ∷ []))) (new, made)
+pub one_made : (f : Fit) (p : Stand) (w : Hand) (ps : List Stand) (ws : List Hand) → IsNewWorker f p w → AreMade f ps (reverse ws) → AreMade f (p ∷ ps) (reverse (ws ++ w ∷ []))
+one_made f p w ps ws new made = let P : List Hand → Type 0 = λ xs. AreMade f (p ∷ ps) xs in subst P (sym (reverse-append ws (w ∷ []))) (new, made)
+
+-- their fit is the one by which they were made
+pub all_fit : (f : Fit) (ps : List Stand) (ws : List Hand) → AreMade f ps ws → HaveFit f ws
+all_fit f [] [] made = tt
+all_fit f [] (w ∷ ws) made = absurd made
+all_fit f (p ∷ ps) [] made = absurd made
+all_fit f (p ∷ ps) (w ∷ ws) made = (made.0.4, all_fit f ps ws made.1)
 
 -- each worker of a new tree is ready for a call
 pub new_are_ready : (b : Board) (i : ℕ) (ws : List Hand) → AreNew b i ws → (k : ℕ) (d : Hand) → k < length ws → IsReady b (slice_index_or ws k d)

@@ -16,6 +16,7 @@ use Rattle.nm_epoch.specs.Resting.{IsResting, IsSettled, Settles, IsPinnedAt, ep
 use Rattle.nm_calls.specs.Deletes.{IsRemoving}
 use Rattle.nm_calls.specs.Telling.{IsInRun}
 use Rattle.nm_calls.specs.Won.{capped, won_links, won_flags, won_splices}
+use Rattle.nm_pool.specs.declared.placement.Fit.{Fit}
 use Rattle.nm_tree.specs.declared.worker.Account.{Account}
 use Rattle.nm_tree.specs.declared.worker.Standing.{Standing}
 use Rattle.nm_tree.specs.declared.worker.Standing.TheVariants as standing
@@ -57,9 +58,9 @@ accounts_stay p q (h ∷ hs) (a ∷ xs) same none' ledgers are = (account_stays 
 -- ---- a whole worker
 
 -- nothing in its hands has changed, and nothing was won
-pub stays : {r s : ℕ} (w : Hand) (xs : List Account) (home : ℕ) (q : Stand) (n : Option Unfinished) (e : Option ℕ) → IsWorker w xs home r s → IsSamePass w.pass q → Quiet w.pass.view.log q.view.log
+pub stays : {r s : ℕ} {f : Fit} (w : Hand) (xs : List Account) (home : ℕ) (q : Stand) (n : Option Unfinished) (e : Option ℕ) → IsWorker w xs home r s → IsSamePass w.pass q → Quiet w.pass.view.log q.view.log
     → (knowledge q.view).drafts ≡ (knowledge w.pass.view).drafts → (knowledge q.view).ledgers ≡ (knowledge w.pass.view).ledgers → IsAs q n e
-    → IsWorker (record { pass = q; queues = w.queues; pending = n; held = e }) xs home r s
+    → IsWorker (record { pass = q; queues = w.queues; pending = n; held = e; fit = f }) xs home r s
 stays {r} {s} w xs home q n e is same none' drafts ledgers stands =
     let P : ℕ → Type 0 = λ number. StandsAt home number w.queues in
     record {

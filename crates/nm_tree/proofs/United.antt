@@ -183,7 +183,7 @@ module _ {r s r' s' : ℕ} (p u : Hand) (xs ys : List Account) (home home' : ℕ
     | inr second ↦ has_merged o p.queues u.queues (inr (more.numbers.all o second))
   ]
 
-  pub united : IsWorker (record { pass = q; queues = all; pending = p.pending; held = p.held }) (merged_accounts p.queues xs u.queues ys) (place_in v.number all) r s
+  pub united : IsWorker (record { pass = q; queues = all; pending = p.pending; held = p.held; fit = p.fit }) (merged_accounts p.queues xs u.queues ys) (place_in v.number all) r s
   united = record {
     between = record {
       queues = are_held;

@@ -35,10 +35,10 @@ HasAnswered nodes tries k w z (Err _) = ⊥
 
 -- an insert
 abbrev pub HasInserted : ℕ → ℕ → ℕ → Hand → Hand → Result Bool Fault → Type 0
-HasInserted nodes tries k w z (Ok b) = IsFree w z × InsertDid nodes tries k w.pass.view.log z.pass.view.log (Ok b)
-HasInserted nodes tries k w z (Err fault.Busy) = IsFree w z × InsertDid nodes tries k w.pass.view.log z.pass.view.log (Err lost.Busy)
-HasInserted nodes tries k w z (Err fault.Full) = IsFree w z × InsertDid nodes tries k w.pass.view.log z.pass.view.log (Err lost.Full)
-HasInserted nodes tries k w z (Err fault.NoMemory) = IsFree w z × InsertDid nodes tries k w.pass.view.log z.pass.view.log (Err lost.NoMemory)
+HasInserted nodes tries k w z (Ok b) = IsFree w z × InsertDid w.fit nodes tries k w.pass.view.log z.pass.view.log (Ok b)
+HasInserted nodes tries k w z (Err fault.Busy) = IsFree w z × InsertDid w.fit nodes tries k w.pass.view.log z.pass.view.log (Err lost.Busy)
+HasInserted nodes tries k w z (Err fault.Full) = IsFree w z × InsertDid w.fit nodes tries k w.pass.view.log z.pass.view.log (Err lost.Full)
+HasInserted nodes tries k w z (Err fault.NoMemory) = IsFree w z × InsertDid w.fit nodes tries k w.pass.view.log z.pass.view.log (Err lost.NoMemory)
 HasInserted nodes tries k w z (Err fault.Pending) = IsRefused w z
 HasInserted nodes tries k w z (Err fault.Unfinished) = ⊥
 

@@ -35,6 +35,7 @@ pub record HasResigned (heir leaver z : Hand) : Type 0 where
   pub joined : HasJoined heir.pass leaver.pass z.pass
   pub queues : z.queues ≡ merged heir.queues leaver.queues
   pub place : KeepsPlace heir z
+  pub fit : z.fit ≡ heir.fit
   pub between : IsBetweenCalls z
 
 -- why a worker may not resign

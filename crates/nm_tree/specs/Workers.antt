@@ -17,6 +17,7 @@ use Rattle.nm_epoch.specs.Resting.{IsResting, begun_for, epochs, search}
 use Rattle.nm_calls.specs.Bounds.{cut_bound}
 use Rattle.nm_calls.specs.Deletes.{IsRemoving}
 use Rattle.nm_calls.specs.Won.{capped, won_links, won_flags, won_splices}
+use Rattle.nm_pool.specs.declared.placement.Fit.{Fit}
 use Rattle.nm_tree.specs.declared.worker.Account.{Account}
 use Rattle.nm_tree.specs.declared.worker.Counts.{Counts}
 use Rattle.nm_tree.specs.declared.worker.Unfinished.{Unfinished}
@@ -24,12 +25,13 @@ use Rattle.nm_tree.specs.declared.worker.Standing.{Standing}
 use Rattle.nm_tree.specs.declared.worker.Standing.TheVariants as standing
 
 -- what clauses see of a worker: its pass; the queues that it holds; the delete that is pending, with its key and the leaf that it flagged;
--- and the epoch at which the caller holds it
+-- the epoch at which the caller holds it; and in which order it tries the slots of the pool
 pub record Hand : Type 0 where
   pub pass : Stand
   pub queues : List HeldQueue
   pub pending : Option Unfinished
   pub held : Option ℕ
+  pub fit : Fit
 
 abbrev pub pending_in : Standing → Option Unfinished
 pending_in (standing.Pending n) = Some n
@@ -229,12 +231,17 @@ abbrev pub HaveWorkers : ℕ → List Stand → Type 0
 HaveWorkers n [] = Unit {0}
 HaveWorkers n (p ∷ ps) = (p.view.layout.workers ≤ n) × HaveWorkers n ps
 
+-- each of these claims by that fit
+abbrev pub HaveFit : Fit → List Hand → Type 0
+HaveFit f [] = Unit {0}
+HaveFit f (w ∷ ws) = (w.fit ≡ f) × HaveFit f ws
+
 -- its worker, with an empty queue of its own
-abbrev pub IsNewWorker : Stand → Hand → Type 0
-IsNewWorker p w = (w.pass ≡ p) × (w.pending ≡ None) × (w.held ≡ None) × (map (λ (h : HeldQueue). h.queue.items) w.queues ≡ [] ∷ [])
+abbrev pub IsNewWorker : Fit → Stand → Hand → Type 0
+IsNewWorker f p w = (w.pass ≡ p) × (w.pending ≡ None) × (w.held ≡ None) × (map (λ (h : HeldQueue). h.queue.items) w.queues ≡ [] ∷ []) × (w.fit ≡ f)
 
 -- the workers of these passes, in their order
-abbrev pub AreMade : List Stand → List Hand → Type 0
-AreMade [] [] = Unit {0}
-AreMade (p ∷ ps) (w ∷ ws) = IsNewWorker p w × AreMade ps ws
-AreMade _ _ = ⊥
+abbrev pub AreMade : Fit → List Stand → List Hand → Type 0
+AreMade f [] [] = Unit {0}
+AreMade f (p ∷ ps) (w ∷ ws) = IsNewWorker f p w × AreMade f ps ws
+AreMade f _ _ = ⊥

@@ -19,12 +19,14 @@ use crate::worker::{Account, Standing, Unfinished, Worker};
 use nm_calls::{Fault as Lost, Missed, delete, finish, insert};
 use nm_edge::Key;
 use nm_epoch::HeldQueue;
+use nm_pool::Placement;
 use nm_steps::{Pass, Shared};
 
 /// An insert with the own queue and its account.
 fn insert_with(
     shared: &Shared,
     pass: &mut Pass,
+    placement: &mut Placement,
     key: Key,
     tries: u32,
     own: &mut HeldQueue,
@@ -34,7 +36,7 @@ fn insert_with(
     requires rests { IsResting pass.old }
     requires kept { IsKept pass.old own.old account.old }
     ensures same { IsSamePass pass.old pass.new }
-    ensures did { InsertDid shared.now.layout.nodes tries key pass.old.view.log pass.new.view.log result }
+    ensures did { InsertDid placement.old shared.now.layout.nodes tries key pass.old.view.log pass.new.view.log result }
     ensures refused { IsErrOf result Lost.NoMemory → own.new.queue.spare < cut_bound }
     ensures moment { IfOk result (AnswerHasMoment pass.new Insert key) }
     ensures steps { length pass.new.view.log ≤ length pass.old.view.log + tries * (4 * shared.now.layout.nodes + 8 * chain_bound) + 6 * shared.now.layout.nodes + 10 }
@@ -43,10 +45,12 @@ fn insert_with(
     ensures private { (slot : ℕ) → get (knowledge pass.new.view).drafts slot ≡ get (knowledge pass.old.view).drafts slot }
     ensures kept { IsKept pass.new own.new account.new }
     ensures others { OnlyOwnLedger pass.old pass.new }
+    ensures fit { placement.new ≡ placement.old }
 {
     let answer = insert(
         shared,
         pass,
+        placement,
         key,
         tries,
         &mut own.queue,
@@ -166,6 +170,7 @@ impl Tree {
         ensures steps { length worker.new.pass.view.log ≤ length worker.old.pass.view.log + tries * (4 * self.now.layout.nodes + 8 * chain_bound) + 6 * self.now.layout.nodes + 10 }
         ensures queues { KeepsOthers worker.old.pass.view.number worker.old.queues worker.new.queues }
         ensures held { worker.new.held ≡ None }
+        ensures fit { worker.new.fit ≡ worker.old.fit }
         ensures between { IsBetweenCalls worker.new }
     {
         if let Standing::Pending(_) = worker.standing {
@@ -173,7 +178,15 @@ impl Tree {
         }
         let own = &mut worker.queues[worker.home];
         let account = &mut worker.accounts[worker.home];
-        match insert_with(&self.shared, &mut worker.pass, key, tries, own, account) {
+        match insert_with(
+            &self.shared,
+            &mut worker.pass,
+            &mut worker.placement,
+            key,
+            tries,
+            own,
+            account,
+        ) {
             Ok(answer) => Ok(answer),
             Err(Lost::Busy) => Err(Fault::Busy),
             Err(Lost::Full) => Err(Fault::Full),
@@ -198,6 +211,7 @@ impl Tree {
         ensures steps { length worker.new.pass.view.log ≤ length worker.old.pass.view.log + tries * (4 * self.now.layout.nodes + 8 * chain_bound) + 6 * self.now.layout.nodes + 10 }
         ensures queues { KeepsOthers worker.old.pass.view.number worker.old.queues worker.new.queues }
         ensures held { worker.new.held ≡ None }
+        ensures fit { worker.new.fit ≡ worker.old.fit }
         ensures between { IsBetweenCalls worker.new }
     {
         if let Standing::Pending(_) = worker.standing {
@@ -229,6 +243,7 @@ impl Tree {
         ensures steps { length worker.new.pass.view.log ≤ length worker.old.pass.view.log + tries * (4 * self.now.layout.nodes + 8 * chain_bound) + 6 * self.now.layout.nodes + 10 }
         ensures queues { KeepsOthers worker.old.pass.view.number worker.old.queues worker.new.queues }
         ensures held { worker.new.held ≡ worker.old.held }
+        ensures fit { worker.new.fit ≡ worker.old.fit }
         ensures between { IsBetweenCalls worker.new }
     {
         let Standing::Pending(pending) = worker.standing else {

@@ -16,6 +16,7 @@ use crate::tree::Tree;
 use crate::worker::{Account, Standing, Worker};
 use nm_calls::leave;
 use nm_epoch::{Advance, Behind, Collected, HeldQueue, advance, behind, collect, pin};
+use nm_pool::Placement;
 use nm_steps::{Pass, Shared};
 
 impl Tree {
@@ -30,6 +31,7 @@ impl Tree {
         ensures did { HasPinned tries worker.old worker.new result }
         ensures queues { worker.new.queues ≡ worker.old.queues }
         ensures steps { length worker.new.pass.view.log ≤ length worker.old.pass.view.log + (3 * tries + 1) }
+        ensures fit { worker.new.fit ≡ worker.old.fit }
         ensures between { IsBetweenCalls worker.new }
     {
         if let Standing::Pending(_) = worker.standing {
@@ -52,6 +54,7 @@ impl Tree {
         ensures queues { worker.new.queues ≡ worker.old.queues }
         ensures pending { worker.new.pending ≡ None }
         ensures held { worker.new.held ≡ None }
+        ensures fit { worker.new.fit ≡ worker.old.fit }
         ensures between { IsBetweenCalls worker.new }
     {
         leave(&self.shared, &mut worker.pass);
@@ -67,6 +70,7 @@ impl Tree {
         ensures place { KeepsPlace worker.old worker.new }
         ensures queues { worker.new.queues ≡ worker.old.queues }
         ensures steps { length worker.new.pass.view.log ≤ length worker.old.pass.view.log + self.now.layout.workers + 1 }
+        ensures fit { worker.new.fit ≡ worker.old.fit }
         ensures between { IsBetweenCalls worker.new }
     {
         advance(&self.shared, &mut worker.pass)
@@ -80,6 +84,7 @@ impl Tree {
         ensures place { KeepsPlace worker.old worker.new }
         ensures queues { worker.new.queues ≡ worker.old.queues }
         ensures steps { length worker.new.pass.view.log ≤ length worker.old.pass.view.log + self.now.layout.workers }
+        ensures fit { worker.new.fit ≡ worker.old.fit }
         ensures between { IsBetweenCalls worker.new }
     {
         behind(&self.shared, &mut worker.pass)
@@ -95,16 +100,27 @@ impl Tree {
         ensures lost { HaveLost result.epoch worker.old.queues worker.new.queues }
         ensures place { KeepsPlace worker.old worker.new }
         ensures steps { length worker.new.pass.view.log ≤ length worker.old.pass.view.log + self.now.layout.nodes }
+        ensures fit { worker.new.fit ≡ worker.old.fit }
         ensures between { IsBetweenCalls worker.new }
     {
-        let collected = collect_all(&self.shared, &mut worker.pass, &mut worker.queues);
+        let collected = collect_all(
+            &self.shared,
+            &mut worker.pass,
+            &mut worker.placement,
+            &mut worker.queues,
+        );
         note_all(&mut worker.accounts, worker.queues.as_slice());
         collected
     }
 }
 
 /// Frees what is ripe at the front of each of these queues.
-fn collect_all(shared: &Shared, pass: &mut Pass, queues: &mut Vec<HeldQueue>) -> Collected
+fn collect_all(
+    shared: &Shared,
+    pass: &mut Pass,
+    placement: &mut Placement,
+    queues: &mut Vec<HeldQueue>,
+) -> Collected
     requires own { IsOf shared.now pass.old }
     requires queues { AreHeld (knowledge pass.old.view) queues.old.items }
     ensures same { IsSamePass pass.old pass.new }
@@ -119,8 +135,9 @@ fn collect_all(shared: &Shared, pass: &mut Pass, queues: &mut Vec<HeldQueue>) ->
     ensures settles { Settles pass.old pass.new }
     ensures private { (knowledge pass.new.view).drafts ≡ (knowledge pass.old.view).drafts }
     ensures room { vec_capacity queues.new ≡ vec_capacity queues.old }
+    ensures fit { placement.new ≡ placement.old }
 {
-    collect(shared, pass, queues.as_mut_slice())
+    collect(shared, pass, placement, queues.as_mut_slice())
 }
 
 /// Adds to each of these accounts the nodes that have left its queue.

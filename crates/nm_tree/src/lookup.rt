@@ -28,6 +28,7 @@ impl Tree {
         ensures steps { length worker.new.pass.view.log ≤ length worker.old.pass.view.log + tries * (4 * self.now.layout.nodes + 8 * chain_bound) + 6 * self.now.layout.nodes + 10 }
         ensures queues { worker.new.queues ≡ worker.old.queues }
         ensures held { worker.new.held ≡ None }
+        ensures fit { worker.new.fit ≡ worker.old.fit }
         ensures between { IsBetweenCalls worker.new }
     {
         if let Standing::Pending(_) = worker.standing {

@@ -62,10 +62,12 @@ pub(crate) fn unite(shared: &Shared, heir: Worker, leaver: Worker) -> Worker
     ensures joined { HasJoined heir.pass leaver.pass result.pass }
     ensures queues { result.queues ≡ merged heir.queues leaver.queues }
     ensures place { KeepsPlace heir result }
+    ensures fit { result.fit ≡ heir.fit }
     ensures between { IsBetweenCalls result }
 {
     let Worker {
         pass,
+        placement,
         mut queues,
         mut accounts,
         home: _,
@@ -73,6 +75,7 @@ pub(crate) fn unite(shared: &Shared, heir: Worker, leaver: Worker) -> Worker
     } = heir;
     let Worker {
         pass: other,
+        placement: _,
         queues: more,
         accounts: theirs,
         home: _,
@@ -83,6 +86,7 @@ pub(crate) fn unite(shared: &Shared, heir: Worker, leaver: Worker) -> Worker
     let home = place_of(queues.as_slice(), pass.number());
     Worker {
         pass,
+        placement,
         queues,
         accounts,
         home,

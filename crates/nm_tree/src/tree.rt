@@ -1,13 +1,15 @@
 //! The tree that workers share.
-ghost use Rattle.std.specs.Prelude.{◌≡◌, ◌≢◌, ◌<◌, ◌≤◌, ◌⊎◌, ◌↔◌, length, IfOk, IfErr, IsErrOf};
+ghost use Rattle.std.specs.Prelude.{All, ◌≡◌, ◌≢◌, ◌<◌, ◌≤◌, ◌⊎◌, ◌↔◌, length, IfOk, IfErr, IsErrOf};
 ghost use Rattle.nm_steps.specs.Steps.{AreFresh};
-ghost use Rattle.nm_tree.specs.Workers.{AreNew, AreAllFresh, AreMade, HaveWorkers, IsFresh, IsNewWorker};
+ghost use Rattle.nm_tree.specs.Plays.{IsReady};
+ghost use Rattle.nm_tree.specs.Workers.{AreNew, AreAllFresh, AreMade, HaveFit, HaveWorkers, IsFresh, IsNewWorker};
 
 use crate::worker::{Account, Standing, Worker};
-use nm_edge::{LEAST_NODES, MOST_NODES, MOST_WORKERS};
+use nm_edge::{FIRST_SLOT, LEAST_NODES, MOST_NODES, MOST_WORKERS};
 use nm_epoch::HeldQueue;
 use nm_limbo::BlockQueue;
 use nm_model::{NewError, layout_of};
+use nm_pool::{Fit, Placement};
 use nm_steps::{Pass, Shared};
 use std::alloc::{AllocError, Global};
 use std::marker::Model;
@@ -28,28 +30,76 @@ impl Model for Tree {
 
 impl Tree {
     /// The empty set with room for `nodes` nodes, 7 to 1,048,576 with five fixed ones, and its workers, 1 to 64, in the order of their
-    /// numbers from 0 on. A key takes two nodes, and a removed node is free again some time after its removal.
+    /// numbers from 0 on. A key takes two nodes, and a removed node is free again some time after its removal. A new node takes the lowest slot
+    /// that its worker finds free.
     ///
     /// `NoMemory`: nothing is kept. The room in which a worker may take over the queues of others is made here.
     pub fn new(alloc: Global, nodes: u32, workers: u32) -> Result<(Tree, Vec<Worker>), NewError>
         ensures layout { IfOk result (λ r. r.0.layout ≡ record { nodes = nodes; workers = workers }) }
         ensures count { IfOk result (λ r. length r.1.items ≡ workers) }
         ensures new { IfOk result (λ r. AreNew r.0 0 r.1.items) }
+        ensures fit { IfOk result (λ r. HaveFit Fit.Lowest r.1.items) }
+        ensures ready { IfOk result (λ r. All (IsReady r.0) r.1.items) }
         ensures nodes { IsErrOf result NewError.Nodes ↔ ((nodes < LEAST_NODES) ⊎ (MOST_NODES < nodes)) }
         ensures workers { IsErrOf result NewError.Workers ↔ ((LEAST_NODES ≤ nodes) × (nodes ≤ MOST_NODES) × ((workers < 1) ⊎ (MOST_WORKERS < workers))) }
     {
-        let layout = layout_of(nodes, workers)?;
-        let (shared, passes) = Shared::new(alloc, layout)?;
-        let made = workers_of(alloc, passes)?;
-        Ok((Tree { shared }, made))
+        tree_of(alloc, nodes, workers, Fit::Lowest)
+    }
+
+    /// The same, but a worker looks for a free slot first among the last four that it gave back, and then from its cursor upwards, and round. So
+    /// a claim takes few steps where most slots are free, and which slot a new node takes is not told beforehand.
+    ///
+    /// (Next fit: Knuth, The Art of Computer Programming, volume 1, section 2.5.)
+    pub fn near(
+        alloc: Global,
+        nodes: u32,
+        workers: u32,
+    ) -> Result<(Tree, Vec<Worker>), NewError>
+        ensures layout { IfOk result (λ r. r.0.layout ≡ record { nodes = nodes; workers = workers }) }
+        ensures count { IfOk result (λ r. length r.1.items ≡ workers) }
+        ensures new { IfOk result (λ r. AreNew r.0 0 r.1.items) }
+        ensures fit { IfOk result (λ r. HaveFit Fit.Near r.1.items) }
+        ensures ready { IfOk result (λ r. All (IsReady r.0) r.1.items) }
+        ensures nodes { IsErrOf result NewError.Nodes ↔ ((nodes < LEAST_NODES) ⊎ (MOST_NODES < nodes)) }
+        ensures workers { IsErrOf result NewError.Workers ↔ ((LEAST_NODES ≤ nodes) × (nodes ≤ MOST_NODES) × ((workers < 1) ⊎ (MOST_WORKERS < workers))) }
+    {
+        tree_of(alloc, nodes, workers, Fit::Near)
     }
 }
 
-/// A worker of a pass that has done nothing yet, with room for the queues of all origins.
-fn worker_of(alloc: Global, pass: Pass, workers: usize) -> Result<Worker, AllocError>
+/// The empty set and its workers, which claim by one fit. Cursors begin at equal distances.
+fn tree_of(
+    alloc: Global,
+    nodes: u32,
+    workers: u32,
+    fit: Fit,
+) -> Result<(Tree, Vec<Worker>), NewError>
+    ensures layout { IfOk result (λ r. r.0.layout ≡ record { nodes = nodes; workers = workers }) }
+    ensures count { IfOk result (λ r. length r.1.items ≡ workers) }
+    ensures new { IfOk result (λ r. AreNew r.0 0 r.1.items) }
+    ensures fit { IfOk result (λ r. HaveFit fit r.1.items) }
+    ensures ready { IfOk result (λ r. All (IsReady r.0) r.1.items) }
+    ensures nodes { IsErrOf result NewError.Nodes ↔ ((nodes < LEAST_NODES) ⊎ (MOST_NODES < nodes)) }
+    ensures workers { IsErrOf result NewError.Workers ↔ ((LEAST_NODES ≤ nodes) × (nodes ≤ MOST_NODES) × ((workers < 1) ⊎ (MOST_WORKERS < workers))) }
+{
+    let layout = layout_of(nodes, workers)?;
+    let (shared, passes) = Shared::new(alloc, layout)?;
+    let share = nodes / workers.max(1);
+    let made = workers_of(alloc, passes, fit, share)?;
+    Ok((Tree { shared }, made))
+}
+
+/// A worker of a pass that has done nothing yet, with room for the queues of all origins. Its cursor stands behind a share of the slots for each lesser number.
+fn worker_of(
+    alloc: Global,
+    pass: Pass,
+    workers: usize,
+    fit: Fit,
+    share: u32,
+) -> Result<Worker, AllocError>
     requires fresh { IsFresh pass }
     requires room { pass.view.layout.workers ≤ workers }
-    ensures { IfOk result (IsNewWorker pass) }
+    ensures { IfOk result (IsNewWorker fit pass) }
 {
     let mut queues = Vec::with_capacity(alloc, workers)?;
     let mut accounts = Vec::with_capacity(alloc, workers)?;
@@ -66,8 +116,10 @@ fn worker_of(alloc: Global, pass: Pass, workers: usize) -> Result<Worker, AllocE
         freed: 0,
         waiting: 0,
     })?;
+    let cursor = share.saturating_mul(origin).saturating_add(FIRST_SLOT);
     Ok(Worker {
         pass,
+        placement: Placement::new(fit, cursor),
         queues,
         accounts,
         home: 0,
@@ -76,15 +128,20 @@ fn worker_of(alloc: Global, pass: Pass, workers: usize) -> Result<Worker, AllocE
 }
 
 /// The workers of these passes, in their order.
-fn workers_of(alloc: Global, mut passes: Vec<Pass>) -> Result<Vec<Worker>, AllocError>
+fn workers_of(
+    alloc: Global,
+    mut passes: Vec<Pass>,
+    fit: Fit,
+    share: u32,
+) -> Result<Vec<Worker>, AllocError>
     requires fresh { AreAllFresh passes.items }
     requires all { HaveWorkers (length passes.items) passes.items }
-    ensures { IfOk result (λ ws. AreMade passes.items ws.items) }
+    ensures { IfOk result (λ ws. AreMade fit passes.items ws.items) }
 {
     let room = passes.len();
     let mut workers = Vec::with_capacity(alloc, room)?;
     while let Some(pass) = passes.pop() {
-        workers.push(worker_of(alloc, pass, room)?)?;
+        workers.push(worker_of(alloc, pass, room, fit, share)?)?;
     }
     workers.reverse();
     Ok(workers)

@@ -7,6 +7,7 @@ ghost use Rattle.nm_tree.specs.declared.worker.Unfinished.{Unfinished as Delete}
 
 use nm_edge::{Key, NodeId};
 use nm_epoch::HeldQueue;
+use nm_pool::Placement;
 use nm_steps::Pass;
 use std::marker::Model;
 
@@ -64,6 +65,7 @@ pub struct Counts {
 #[derive(Drop)]
 pub struct Worker {
     pub(crate) pass: Pass,
+    pub(crate) placement: Placement,
     // By ascending origin, with the own one at `home`.
     pub(crate) queues: Vec<HeldQueue>,
     // An account of each queue, in the same order.
@@ -78,9 +80,9 @@ impl Model for Worker {
 
     ghost Value = { Hand };
 
-    ghost view = { λ w. record { pass = w.pass; queues = w.queues.items; pending = pending_in w.standing; held = held_in w.standing } };
+    ghost view = { λ w. record { pass = w.pass; queues = w.queues.items; pending = pending_in w.standing; held = held_in w.standing; fit = w.placement } };
 
-    ghost invariant = { λ w. IsWorker (record { pass = w.pass; queues = w.queues.items; pending = pending_in w.standing; held = held_in w.standing }) w.accounts.items w.home (vec_capacity w.queues) (vec_capacity w.accounts) };
+    ghost invariant = { λ w. IsWorker (record { pass = w.pass; queues = w.queues.items; pending = pending_in w.standing; held = held_in w.standing; fit = w.placement }) w.accounts.items w.home (vec_capacity w.queues) (vec_capacity w.accounts) };
 }
 
 impl Worker {

@@ -9,14 +9,16 @@ use crate::{Busy, Chain, Fault, Missed, choose, delete, finish, has, insert, see
 use nm_edge::{Key, Layout, NodeId};
 use nm_epoch::Entry;
 use nm_limbo::BlockQueue;
+use nm_pool::{Fit, Placement};
 use nm_steps::{Pass, Shared};
 use std::process::Abort;
 use std::test::Fail;
 
-/// One worker: its pass, the queue of what it cut, and how many splices it has won.
+/// One worker: its pass, where it looks for free slots, the queue of what it cut, and how many splices it has won.
 #[derive(Drop)]
 struct Hand {
     pass: Pass,
+    placement: Placement,
     queue: BlockQueue<Entry>,
     splices: u64,
 }
@@ -30,6 +32,7 @@ fn starting(shared: &Shared, pass: Pass, queue: BlockQueue<Entry>) -> Hand
 {
     Hand {
         pass,
+        placement: Placement::new(Fit::Lowest, 6),
         queue,
         splices: 0,
     }
@@ -64,6 +67,7 @@ fn inserts(
     let inserted = insert(
         shared,
         &mut hand.pass,
+        &mut hand.placement,
         key,
         tries,
         &mut hand.queue,

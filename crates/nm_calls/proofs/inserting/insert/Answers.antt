@@ -12,8 +12,8 @@ pub returns-clause-did : goal.returns-clause-did
 returns-clause-did c =
     let a = c.pin_for.new.pass.view.log in
     let new = c.insert_pinned.new.pass.view.log in
-    insert_did c.args.shared.now.layout.nodes c.args.tries c.args.key c.args.pass.now.view.log new c.insert_pinned.result
-    (a, c.in-Ok._epoch, c.in-Ok.ensures.pinned, subst (λ k. Finishes c.args.shared.now.layout.nodes c.args.tries k a new c.insert_pinned.result) c.get.ensures.number c.insert_pinned.ensures.part)
+    insert_did c.args.placement.now c.args.shared.now.layout.nodes c.args.tries c.args.key c.args.pass.now.view.log new c.insert_pinned.result
+    (a, c.in-Ok._epoch, c.in-Ok.ensures.pinned, subst (λ k. Finishes c.args.placement.now c.args.shared.now.layout.nodes c.args.tries k a new c.insert_pinned.result) c.get.ensures.number c.insert_pinned.ensures.part)
 
 pub returns-in_default-clause-won : goal.returns-in_default-clause-won
 returns-in_default-clause-won c = has_won _ _ (moved_adds Insert c.args.key c.args.tries c.args.pass.now.view.log c.pin_for.new.pass.view.log c.in_default.ensures.moved)
@@ -25,10 +25,10 @@ pub insert_pinned-requires-clause-counted : goal.insert_pinned-requires-clause-c
 insert_pinned-requires-clause-counted c = counts_on _ _ _ (pin_adds Insert c.args.key c.args.tries c.args.pass.now.view.log c.pin_for.new.pass.view.log c.in-Ok._epoch c.in-Ok.ensures.pinned) c.requires.counted
 
 pub returns-clause-won : goal.returns-clause-won
-returns-clause-won c = insert_wins c.args.shared.now.layout.nodes c.args.tries c.args.key c.args.pass.now.view.log c.pin_for.new.pass.view.log c.insert_pinned.new.pass.view.log c.in-Ok._epoch c.in-Ok.ensures.pinned c.insert_pinned.result (subst (λ k. Finishes c.args.shared.now.layout.nodes c.args.tries k c.pin_for.new.pass.view.log c.insert_pinned.new.pass.view.log c.insert_pinned.result) c.get.ensures.number c.insert_pinned.ensures.part)
+returns-clause-won c = insert_wins c.args.placement.now c.args.shared.now.layout.nodes c.args.tries c.args.key c.args.pass.now.view.log c.pin_for.new.pass.view.log c.insert_pinned.new.pass.view.log c.in-Ok._epoch c.in-Ok.ensures.pinned c.insert_pinned.result (subst (λ k. Finishes c.args.placement.now c.args.shared.now.layout.nodes c.args.tries k c.pin_for.new.pass.view.log c.insert_pinned.new.pass.view.log c.insert_pinned.result) c.get.ensures.number c.insert_pinned.ensures.part)
 
 pub returns-clause-steps : goal.returns-clause-steps
-returns-clause-steps c = insert_steps c.args.shared.now.layout.nodes c.args.tries c.args.key c.args.pass.now.view.log c.pin_for.new.pass.view.log c.insert_pinned.new.pass.view.log c.in-Ok._epoch c.in-Ok.ensures.pinned c.insert_pinned.result (subst (λ k. Finishes c.args.shared.now.layout.nodes c.args.tries k c.pin_for.new.pass.view.log c.insert_pinned.new.pass.view.log c.insert_pinned.result) c.get.ensures.number c.insert_pinned.ensures.part)
+returns-clause-steps c = insert_steps c.args.placement.now c.args.shared.now.layout.nodes c.args.tries c.args.key c.args.pass.now.view.log c.pin_for.new.pass.view.log c.insert_pinned.new.pass.view.log c.in-Ok._epoch c.in-Ok.ensures.pinned c.insert_pinned.result (subst (λ k. Finishes c.args.placement.now c.args.shared.now.layout.nodes c.args.tries k c.pin_for.new.pass.view.log c.insert_pinned.new.pass.view.log c.insert_pinned.result) c.get.ensures.number c.insert_pinned.ensures.part)
 
 pub make_room-requires : goal.make_room-requires
 make_room-requires c = record { few = may_grow_first c.args.shared.now c.args.pass.now c.args.queue.now.items c.requires.own c.is_of_a_run.ensures.fits c.requires.few }

@@ -4,7 +4,9 @@ use Rattle.nm_model.specs.declared.event.Op.TheVariants.{Insert}
 use Rattle.nm_model.specs.Searches.{Search}
 use Rattle.nm_order.specs.Facts.Fact.{KnowsSlot, CallIs}
 use Rattle.nm_calls.specs.declared.growing.Fork.{Fork}
-use Rattle.nm_calls.specs.Inserts.{HasFork}
+use Rattle.nm_pool.specs.declared.placement.Fit.{Fit}
+use Rattle.nm_calls.specs.declared.inserting.Attempt.TheVariants as attempt
+use Rattle.nm_calls.specs.Inserts.{HasFork, IsTry}
 use Rattle.nm_calls.proofs.GoingOn.{goes_then}
 use Rattle.nm_calls.proofs.Forks.{if_ready, none_left, tries_then, found_answer}
 use Rattle.nm_calls.proofs.Waiting.{may_grow_more}
@@ -46,12 +48,13 @@ returns-in-Full-clause-private c =
 pub loop-round-preserved : goal.loop-round-preserved
 loop-round-preserved c = record {
   same = search rules;
-  lost = rw add-one (c.loop-round.fork, c.loop-round.pass.view.log, c.loop-round.invariant.lost, c.in-Lost.ensures.part);
+  lost = rw add-one (c.loop-round.fork, c.loop-round.pass.view.log, c.loop-round.invariant.lost, subst (λ (f : Fit). IsTry f c.args.shared.now.layout.nodes c.args.key c.loop-round.fork c.try_insert.new.fork c.loop-round.pass.view.log c.try_insert.new.pass.view.log attempt.Lost) c.loop-round.invariant.fit c.in-Lost.ensures.part);
   on = goes_then c.args.pass.now c.loop-round.pass c.try_insert.new.pass c.loop-round.invariant.on c.try_insert.ensures.on;
   only = tries_then c.args.pass.now c.loop-round.pass c.try_insert.new.pass c.loop-round.invariant.same c.loop-round.invariant.only c.try_insert.ensures.only;
   unlinked = c.in-Lost.ensures.shows ∙ c.loop-round.invariant.unlinked;
   has = c.try_insert.ensures.has c.args.pass.now c.loop-round.invariant.has;
   queue = c.try_insert.ensures.queue;
+  fit = c.try_insert.ensures.fit ∙ c.loop-round.invariant.fit;
   counted = c.try_insert.ensures.counted;
 }
 

@@ -11,11 +11,12 @@ use Rattle.nm_calls.proofs.inserting.insert_pinned.Given as goal
 abbrev pub invariant-loop-round : goal.invariant-loop-round
 invariant-loop-round l = record {
   same : IsSamePass l.fn.pass l.pass;
-  lost : LostInserts l.shared.layout.nodes l.key l._round l.fork l.fn.pass.view.log l.pass.view.log;
+  lost : LostInserts l.fn.placement l.shared.layout.nodes l.key l._round l.fork l.fn.pass.view.log l.pass.view.log;
   on : GoesOn l.fn.pass l.pass;
   only : OnlyTries l.fn.pass l.pass;
   unlinked : (search l.pass).linked ≡ false;
   has : HasFork l.fn.pass l.pass l.fork;
   queue : IsQueueOf (knowledge l.pass.view) l.pass.view.number l.queue.items;
+  fit : l.placement ≡ l.fn.placement;
   counted : l.splices ≡ capped (won_splices l.pass.view.log);
 }

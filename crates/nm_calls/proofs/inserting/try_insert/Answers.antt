@@ -62,7 +62,7 @@ returns-in_default-ready-clause-counted c =
     let old = c.args.pass.now.view.log in
     let mid = c.seek.new.pass.view.log in
     let claimed = c.ready.new.pass.view.log in
-    counts_on _ old claimed (adds_then old mid claimed (seeks_adds c.args.shared.now.layout.nodes c.args.key c.args.pass.now.view.log c.seek.new.pass.view.log c.seek.new.chain.items c.seek.result c.seek.ensures.walk) (readied_adds nodes c.args.fork.now c.ready.new.fork c.ready.result mid claimed c.ready.ensures.part)) c.requires.counted
+    counts_on _ old claimed (adds_then old mid claimed (seeks_adds c.args.shared.now.layout.nodes c.args.key c.args.pass.now.view.log c.seek.new.pass.view.log c.seek.new.chain.items c.seek.result c.seek.ensures.walk) (readied_adds c.args.placement.now nodes c.args.fork.now c.ready.new.fork c.ready.result mid claimed c.ready.ensures.part)) c.requires.counted
 
 pub help-requires-clause-counted : goal.help-requires-clause-counted
 help-requires-clause-counted c =
@@ -71,7 +71,7 @@ help-requires-clause-counted c =
     let mid = c.seek.new.pass.view.log in
     let claimed = c.ready.new.pass.view.log in
     let new = c.grow.new.pass.view.log in
-    counts_on _ old new (adds_then old mid new (seeks_adds c.args.shared.now.layout.nodes c.args.key c.args.pass.now.view.log c.seek.new.pass.view.log c.seek.new.chain.items c.seek.result c.seek.ensures.walk) (adds_then mid claimed new (readied_adds nodes c.args.fork.now c.ready.new.fork c.ready.result mid claimed c.ready.ensures.part) (grows_lost c.args.key c.in-Some.end c.in-Some-ready.made c.in-Err.found claimed new c.in-Err.ensures.lost.part))) c.requires.counted
+    counts_on _ old new (adds_then old mid new (seeks_adds c.args.shared.now.layout.nodes c.args.key c.args.pass.now.view.log c.seek.new.pass.view.log c.seek.new.chain.items c.seek.result c.seek.ensures.walk) (adds_then mid claimed new (readied_adds c.args.placement.now nodes c.args.fork.now c.ready.new.fork c.ready.result mid claimed c.ready.ensures.part) (grows_lost c.args.key c.in-Some.end c.in-Some-ready.made c.in-Err.found claimed new c.in-Err.ensures.lost.part))) c.requires.counted
 
 pub returns-in-Ok-clause-counted : goal.returns-in-Ok-clause-counted
 returns-in-Ok-clause-counted c =
@@ -80,7 +80,7 @@ returns-in-Ok-clause-counted c =
     let mid = c.seek.new.pass.view.log in
     let claimed = c.ready.new.pass.view.log in
     let new = c.grow.new.pass.view.log in
-    counts_on _ old new (adds_then old mid new (seeks_adds c.args.shared.now.layout.nodes c.args.key c.args.pass.now.view.log c.seek.new.pass.view.log c.seek.new.chain.items c.seek.result c.seek.ensures.walk) (adds_then mid claimed new (readied_adds nodes c.args.fork.now c.ready.new.fork c.ready.result mid claimed c.ready.ensures.part) (grows_won c.args.key c.in-Some.end c.in-Some-ready.made claimed new c.in-Ok.ensures.won.part))) c.requires.counted
+    counts_on _ old new (adds_then old mid new (seeks_adds c.args.shared.now.layout.nodes c.args.key c.args.pass.now.view.log c.seek.new.pass.view.log c.seek.new.chain.items c.seek.result c.seek.ensures.walk) (adds_then mid claimed new (readied_adds c.args.placement.now nodes c.args.fork.now c.ready.new.fork c.ready.result mid claimed c.ready.ensures.part) (grows_won c.args.key c.in-Some.end c.in-Some-ready.made claimed new c.in-Ok.ensures.won.part))) c.requires.counted
 
 pub returns-in-Err-clause-part : goal.returns-in-Err-clause-part
 returns-in-Err-clause-part c =

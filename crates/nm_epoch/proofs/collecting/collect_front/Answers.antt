@@ -17,4 +17,5 @@ loop-node-preserved c =
           c.loop-node.invariant.collecting ripe c.free.ensures.step front.1 c.free.ensures.apart;
       run = c.free.ensures.run;
       origin = c.loop-node.invariant.origin;
+      fit = c.keep.ensures ∙ c.loop-node.invariant.fit;
     }

@@ -8,6 +8,7 @@ invariant-loop-node l = record {
   collecting : IsCollecting l.epoch l.fn.queue.origin l.fn.pass l.fn.queue.queue.items l.pass l.queue.queue.items;
   run : IsInRun l.pass;
   origin : l.queue.origin ≡ l.fn.queue.origin;
+  fit : l.placement ≡ l.fn.placement;
 }
 
 abbrev pub decreases-loop-node : goal.decreases-loop-node

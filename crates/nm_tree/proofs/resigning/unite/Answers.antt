@@ -36,18 +36,19 @@ invariant_of-result c =
     let xs : List Account = merged_accounts c.heir.inside.queues.items c.heir.inside.accounts.items c.leaver.inside.queues.items c.leaver.inside.accounts.items in
     let n = pending_in c.heir.inside.standing in
     let e = held_in c.heir.inside.standing in
+    let f = c.heir.inside.placement in
     let v = c.heir.inside.pass.view in
     let both = united _ _ _ _ c.heir.inside.home c.leaver.inside.home c.heir.invariant c.leaver.invariant (layouts _ _ _ _ _ c.heir.view_is c.leaver.view_is c.requires.heir c.requires.leaver) (in_run c.heir.inside.pass c.leaver.inside.pass c.join-pass.result c.join-pass.ensures.joined c.join-pass.ensures.run) in
     let home : c.place_of-home.result ≡ place_in v.number hs =
     c.place_of-home.ensures.place
     ∙ (ap (λ (l : List HeldQueue). place_in c.number.result l) (c.as_slice.ensures.value ∙ c.take_over.ensures.queues)
     ∙ ap (λ (k : ℕ). place_in k hs) (c.number.ensures.number ∙ ap (λ (q : Stand). q.view.number) c.join-pass.ensures.joined)) in
-    let P : Stand → Type 0 = λ q. IsWorker (record { pass = q; queues = hs; pending = n; held = e }) xs (place_in v.number hs) (vec_capacity c.heir.inside.queues) (vec_capacity c.heir.inside.accounts) in
-    let Q : List HeldQueue → Type 0 = λ l. IsWorker (record { pass = c.join-pass.result; queues = l; pending = n; held = e }) xs (place_in v.number hs) (vec_capacity c.heir.inside.queues) (vec_capacity c.heir.inside.accounts) in
-    let R : List Account → Type 0 = λ l. IsWorker (record { pass = c.join-pass.result; queues = c.take_over.new.queues.items; pending = n; held = e }) l (place_in v.number hs) (vec_capacity c.heir.inside.queues) (vec_capacity c.heir.inside.accounts) in
-    let S : ℕ → Type 0 = λ k. IsWorker (record { pass = c.join-pass.result; queues = c.take_over.new.queues.items; pending = n; held = e }) c.take_over.new.accounts.items k (vec_capacity c.heir.inside.queues) (vec_capacity c.heir.inside.accounts) in
-    let T : ℕ → Type 0 = λ k. IsWorker (record { pass = c.join-pass.result; queues = c.take_over.new.queues.items; pending = n; held = e }) c.take_over.new.accounts.items c.place_of-home.result k (vec_capacity c.heir.inside.accounts) in
-    let U : ℕ → Type 0 = λ k. IsWorker (record { pass = c.join-pass.result; queues = c.take_over.new.queues.items; pending = n; held = e }) c.take_over.new.accounts.items c.place_of-home.result (vec_capacity c.take_over.new.queues) k in
+    let P : Stand → Type 0 = λ q. IsWorker (record { pass = q; queues = hs; pending = n; held = e; fit = f }) xs (place_in v.number hs) (vec_capacity c.heir.inside.queues) (vec_capacity c.heir.inside.accounts) in
+    let Q : List HeldQueue → Type 0 = λ l. IsWorker (record { pass = c.join-pass.result; queues = l; pending = n; held = e; fit = f }) xs (place_in v.number hs) (vec_capacity c.heir.inside.queues) (vec_capacity c.heir.inside.accounts) in
+    let R : List Account → Type 0 = λ l. IsWorker (record { pass = c.join-pass.result; queues = c.take_over.new.queues.items; pending = n; held = e; fit = f }) l (place_in v.number hs) (vec_capacity c.heir.inside.queues) (vec_capacity c.heir.inside.accounts) in
+    let S : ℕ → Type 0 = λ k. IsWorker (record { pass = c.join-pass.result; queues = c.take_over.new.queues.items; pending = n; held = e; fit = f }) c.take_over.new.accounts.items k (vec_capacity c.heir.inside.queues) (vec_capacity c.heir.inside.accounts) in
+    let T : ℕ → Type 0 = λ k. IsWorker (record { pass = c.join-pass.result; queues = c.take_over.new.queues.items; pending = n; held = e; fit = f }) c.take_over.new.accounts.items c.place_of-home.result k (vec_capacity c.heir.inside.accounts) in
+    let U : ℕ → Type 0 = λ k. IsWorker (record { pass = c.join-pass.result; queues = c.take_over.new.queues.items; pending = n; held = e; fit = f }) c.take_over.new.accounts.items c.place_of-home.result (vec_capacity c.take_over.new.queues) k in
     subst U (sym c.take_over.ensures.capacity.1)
     (subst T (sym c.take_over.ensures.capacity.0) (subst S (sym home) (subst R (sym c.take_over.ensures.accounts) (subst Q (sym c.take_over.ensures.queues) (subst P (sym c.join-pass.ensures.joined) both)))))
 

@@ -14,9 +14,9 @@ loop-pass-preserved c =
     let made = c.loop-pass.invariant.made in
     let fresh = (fresh_before c.pop.new.self.items c.in-Some.pass (subst AreAllFresh last c.loop-pass.invariant.fresh)).0 in
     let all = made.1 ∙ (ap (λ (ps : List Stand). ps ++ made.0) last ∙ append_assoc c.pop.new.self.items (c.in-Some.pass ∷ []) made.0) in
-    let P : List Hand → Type 0 = λ ws. AreMade (c.in-Some.pass ∷ made.0) (reverse ws) in
+    let P : List Hand → Type 0 = λ ws. AreMade c.args.fit (c.in-Some.pass ∷ made.0) (reverse ws) in
     record {
       fresh = fresh;
       all = (have_before _ c.pop.new.self.items c.in-Some.pass (subst (HaveWorkers _) last c.loop-pass.invariant.all)).0;
-      made = (c.in-Some.pass ∷ made.0, all, subst P (sym c.in_ok-push.ensures.items) (one_made c.in-Some.pass c.in_ok-worker_of.field-0 made.0 c.loop-pass.workers.items c.in_ok-worker_of.ensures made.2));
+      made = (c.in-Some.pass ∷ made.0, all, subst P (sym c.in_ok-push.ensures.items) (one_made c.args.fit c.in-Some.pass c.in_ok-worker_of.field-0 made.0 c.loop-pass.workers.items c.in_ok-worker_of.ensures made.2));
     }

@@ -8,7 +8,7 @@ abbrev pub invariant-loop-pass : goal.invariant-loop-pass
 invariant-loop-pass l = record {
   fresh : AreAllFresh l.passes.items;
   all : HaveWorkers l.room l.passes.items;
-  made : (rest : List Stand) × (l.initial.passes.items ≡ l.passes.items ++ rest) × AreMade rest (reverse l.workers.items);
+  made : (rest : List Stand) × (l.initial.passes.items ≡ l.passes.items ++ rest) × AreMade l.fit rest (reverse l.workers.items);
 }
 
 abbrev pub decreases-loop-pass : goal.decreases-loop-pass

@@ -42,7 +42,7 @@ returns-in-Ok-clause-queues c =
     (others_after c.worker.inside.home c.worker.inside.pass.view.number c.worker.inside.queues.items c.delete_with.new.own c.worker.invariant.own (c.delete_with.ensures.kept.own ∙ ap (λ (x : Stand). x.view.number) c.delete_with.ensures.same))
 
 pub returns-in-Ok-clause-did : goal.returns-in-Ok-clause-did
-returns-in-Ok-clause-did c = deleted_so _ _ c.args.tries c.args.key _ _ (record { pass = c.delete_with.new.pass; queues = slice_set c.worker.inside.queues.items c.worker.inside.home c.delete_with.new.own; pending = pending_in c.worker.inside.standing; held = held_in c.worker.inside.standing })
+returns-in-Ok-clause-did c = deleted_so _ _ c.args.tries c.args.key _ _ (record { pass = c.delete_with.new.pass; queues = slice_set c.worker.inside.queues.items c.worker.inside.home c.delete_with.new.own; pending = pending_in c.worker.inside.standing; held = held_in c.worker.inside.standing; fit = c.worker.inside.placement })
     (Ok c.in-Ok.answer) c.self.view_is c.worker.view_is (free_in c.worker.inside.standing (resting_in c.worker.inside.standing (ap (λ (w : Hand). w.held) c.worker.view_is ∙ c.requires.free) c.in_default.not-Pending), c.in-Ok.ensures.did)
 
 pub invariant_of-worker-in-Err-Busy : goal.invariant_of-worker-in-Err-Busy
@@ -59,7 +59,7 @@ returns-in-Err-Busy-clause-queues c =
     (others_after c.worker.inside.home c.worker.inside.pass.view.number c.worker.inside.queues.items c.delete_with.new.own c.worker.invariant.own (c.delete_with.ensures.kept.own ∙ ap (λ (x : Stand). x.view.number) c.delete_with.ensures.same))
 
 pub returns-in-Err-Busy-clause-did : goal.returns-in-Err-Busy-clause-did
-returns-in-Err-Busy-clause-did c = deleted_so _ _ c.args.tries c.args.key _ _ (record { pass = c.delete_with.new.pass; queues = slice_set c.worker.inside.queues.items c.worker.inside.home c.delete_with.new.own; pending = pending_in c.worker.inside.standing; held = held_in c.worker.inside.standing })
+returns-in-Err-Busy-clause-did c = deleted_so _ _ c.args.tries c.args.key _ _ (record { pass = c.delete_with.new.pass; queues = slice_set c.worker.inside.queues.items c.worker.inside.home c.delete_with.new.own; pending = pending_in c.worker.inside.standing; held = held_in c.worker.inside.standing; fit = c.worker.inside.placement })
     (Err fault.Busy) c.self.view_is c.worker.view_is (free_in c.worker.inside.standing (resting_in c.worker.inside.standing (ap (λ (w : Hand). w.held) c.worker.view_is ∙ c.requires.free) c.in_default.not-Pending), (let P : Missed → Type 0 = λ m. DeleteDid c.self.inside.shared.layout.nodes c.args.tries c.args.key c.worker.inside.pass.view.log c.delete_with.new.pass.view.log (Err m) in subst P c.in-Err-Busy.field-0-is c.in-Err-Busy.ensures.did))
 
 pub invariant_of-worker-in-Err-NoMemory : goal.invariant_of-worker-in-Err-NoMemory
@@ -76,7 +76,7 @@ returns-in-Err-NoMemory-clause-queues c =
     (others_after c.worker.inside.home c.worker.inside.pass.view.number c.worker.inside.queues.items c.delete_with.new.own c.worker.invariant.own (c.delete_with.ensures.kept.own ∙ ap (λ (x : Stand). x.view.number) c.delete_with.ensures.same))
 
 pub returns-in-Err-NoMemory-clause-did : goal.returns-in-Err-NoMemory-clause-did
-returns-in-Err-NoMemory-clause-did c = deleted_so _ _ c.args.tries c.args.key _ _ (record { pass = c.delete_with.new.pass; queues = slice_set c.worker.inside.queues.items c.worker.inside.home c.delete_with.new.own; pending = pending_in c.worker.inside.standing; held = held_in c.worker.inside.standing })
+returns-in-Err-NoMemory-clause-did c = deleted_so _ _ c.args.tries c.args.key _ _ (record { pass = c.delete_with.new.pass; queues = slice_set c.worker.inside.queues.items c.worker.inside.home c.delete_with.new.own; pending = pending_in c.worker.inside.standing; held = held_in c.worker.inside.standing; fit = c.worker.inside.placement })
     (Err fault.NoMemory) c.self.view_is c.worker.view_is (free_in c.worker.inside.standing (resting_in c.worker.inside.standing (ap (λ (w : Hand). w.held) c.worker.view_is ∙ c.requires.free) c.in_default.not-Pending), (let P : Missed → Type 0 = λ m. DeleteDid c.self.inside.shared.layout.nodes c.args.tries c.args.key c.worker.inside.pass.view.log c.delete_with.new.pass.view.log (Err m) in subst P c.in-Err-NoMemory.field-0-is c.in-Err-NoMemory.ensures.did))
 
 pub invariant_of-worker-in-Err-Unfinished : goal.invariant_of-worker-in-Err-Unfinished
@@ -93,7 +93,7 @@ returns-in-Err-Unfinished-clause-queues c =
     (others_after c.worker.inside.home c.worker.inside.pass.view.number c.worker.inside.queues.items c.delete_with.new.own c.worker.invariant.own (c.delete_with.ensures.kept.own ∙ ap (λ (x : Stand). x.view.number) c.delete_with.ensures.same))
 
 pub returns-in-Err-Unfinished-clause-did : goal.returns-in-Err-Unfinished-clause-did
-returns-in-Err-Unfinished-clause-did c = deleted_so _ _ c.args.tries c.args.key _ _ (record { pass = c.delete_with.new.pass; queues = slice_set c.worker.inside.queues.items c.worker.inside.home c.delete_with.new.own; pending = Some (record { key = c.args.key; leaf = c.in-Err-Unfinished.leaf }); held = None })
+returns-in-Err-Unfinished-clause-did c = deleted_so _ _ c.args.tries c.args.key _ _ (record { pass = c.delete_with.new.pass; queues = slice_set c.worker.inside.queues.items c.worker.inside.home c.delete_with.new.own; pending = Some (record { key = c.args.key; leaf = c.in-Err-Unfinished.leaf }); held = None; fit = c.worker.inside.placement })
     (Err fault.Unfinished) c.self.view_is c.worker.view_is ((free_in c.worker.inside.standing (resting_in c.worker.inside.standing (ap (λ (w : Hand). w.held) c.worker.view_is ∙ c.requires.free) c.in_default.not-Pending)).0, c.in-Err-Unfinished.leaf, refl, (let P : Missed → Type 0 = λ m. DeleteDid c.self.inside.shared.layout.nodes c.args.tries c.args.key c.worker.inside.pass.view.log c.delete_with.new.pass.view.log (Err m) in subst P c.in-Err-Unfinished.field-0-is c.in-Err-Unfinished.ensures.did))
 
 pub returns-in-Err-NoMemory-clause-lacks : goal.returns-in-Err-NoMemory-clause-lacks

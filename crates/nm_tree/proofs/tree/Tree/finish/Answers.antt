@@ -50,7 +50,7 @@ returns-clause-queues c =
     (others_after c.worker.inside.home c.worker.inside.pass.view.number c.worker.inside.queues.items c.finish_with.new.own c.worker.invariant.own (c.finish_with.ensures.kept.own ∙ ap (λ (x : Stand). x.view.number) c.finish_with.ensures.same))
 
 pub returns-clause-did : goal.returns-clause-did
-returns-clause-did c = finished_so _ _ c.args.tries _ _ (record { pass = c.finish_with.new.pass; queues = slice_set c.worker.inside.queues.items c.worker.inside.home c.finish_with.new.own; pending = None; held = None })
+returns-clause-did c = finished_so _ _ c.args.tries _ _ (record { pass = c.finish_with.new.pass; queues = slice_set c.worker.inside.queues.items c.worker.inside.home c.finish_with.new.own; pending = None; held = None; fit = c.worker.inside.placement })
     (Ok true) c.self.view_is c.worker.view_is (c.in-Pending.pending, ap pending_in c.in-Pending.is, refl, rw c.if-not-finish_with.false at c.finish_with.ensures.did)
 
 pub returns-clause-moment : goal.returns-clause-moment

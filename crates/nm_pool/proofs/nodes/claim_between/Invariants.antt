@@ -1,14 +1,15 @@
-use Rattle.std.proofs.Common.{◌≡◌, ◌⊎◌}
+use Rattle.std.proofs.Common.{◌<◌, ◌≤◌, ◌⊎◌}
 use Rattle.nm_steps.specs.Rules.{knowledge}
 use Rattle.nm_pool.specs.Takes.{DoneBelow, LearnsSlots}
 use Rattle.nm_steps.specs.Steps.{IsInRun, IsSamePass}
 use Rattle.nm_pool.specs.Claims.{PassedOver}
-use Rattle.nm_pool.proofs.nodes.claim_first.Given as goal
+use Rattle.nm_pool.proofs.nodes.claim_between.Given as goal
 
 abbrev pub invariant-loop-slot : goal.invariant-loop-slot
 invariant-loop-slot l = record {
   same : IsSamePass l.fn.pass l.pass;
-  run : (l.slot ≡ 6) ⊎ IsInRun l.pass;
-  passed : DoneBelow PassedOver 6 l.slot l.fn.pass.view.log l.pass.view.log;
+  run : (l.from < l.slot) ⊎ IsInRun l.fn.pass → IsInRun l.pass;
+  within : l.slot ≤ l.to;
+  passed : DoneBelow PassedOver l.from l.slot l.fn.pass.view.log l.pass.view.log;
   learned : LearnsSlots (knowledge l.fn.pass.view) (knowledge l.pass.view);
 }

@@ -1,8 +1,8 @@
-use Rattle.std.proofs.Common.{rules, refl, inl, inr, arith}
+use Rattle.std.proofs.Common.{rules, arith}
 use Rattle.nm_steps.specs.Rules.{knowledge}
 use Rattle.nm_pool.specs.Claims.{PassedOver}
 use Rattle.nm_pool.proofs.PrivateSlots.{one_more, learns_both}
-use Rattle.nm_pool.proofs.nodes.claim_first.Goals as goal
+use Rattle.nm_pool.proofs.nodes.claim_between.Goals as goal
 
 pub loop-slot-preserved : goal.loop-slot-preserved
 loop-slot-preserved c =
@@ -12,10 +12,8 @@ loop-slot-preserved c =
     let over : PassedOver slot mid.log new.log = search rules in
     record {
       same = search rules;
-      run = inr c.try_slot.ensures.run;
-      passed = one_more PassedOver 6 slot c.args.pass.now.view.log mid.log new.log (omega arith) c.loop-slot.invariant.passed over;
+      run = λ was. c.try_slot.ensures.run;
+      within = omega arith;
+      passed = one_more PassedOver c.args.from slot c.args.pass.now.view.log mid.log new.log (omega arith) c.loop-slot.invariant.passed over;
       learned = learns_both (knowledge c.args.pass.now.view) (knowledge mid) (knowledge new) c.loop-slot.invariant.learned c.try_slot.ensures.learned;
     }
-
-pub returns-clause-run : goal.returns-clause-run
-returns-clause-run c = elim c.loop-slot.invariant.run [ inl first ↦ absurd (omega (arith, first, c.nodes-nodes.ensures.fits.least)) | inr run ↦ run ]

@@ -1,0 +1,187 @@
+//! Where a worker looks for a free slot.
+ghost use Rattle.std.specs.Prelude.{◌≡◌, ◌+◌, ◌*◌, ◌≤◌, ◌<◌, length, IfSome};
+ghost use Rattle.nm_order.specs.Told.{IsNew};
+ghost use Rattle.nm_steps.specs.Rules.{knowledge};
+ghost use Rattle.nm_steps.specs.Steps.{IsInRun, IsOf, IsSamePass};
+ghost use Rattle.nm_pool.specs.Claims.{IsClaimBetween, IsClaimBy, IsClaimOfFew, IsNearClaim, IsNewNode};
+ghost use Rattle.nm_pool.specs.Takes.{LearnsSlots};
+
+use crate::nodes::{Tried, claim, claim_between, try_slot};
+use nm_edge::{FIRST_SLOT, NodeId};
+use nm_steps::{Pass, Shared};
+use std::marker::Model;
+
+/// How many of the slots that were given back a worker remembers.
+const RECENT: usize = 4;
+
+/// In which order a worker tries the slots of the pool.
+#[derive(Clone, Copy, Debug, PartialEq, Eq)]
+pub enum Fit {
+    /// From slot 6 upwards at each claim: first fit.
+    Lowest,
+    /// First the slots that the worker gave back last, up to four; then from its cursor upwards, and round: next fit.
+    Near,
+}
+
+/// The slots that a worker gave back last, the last one first and 0 for none, and the slot from which it looks on.
+#[derive(Clone, Copy)]
+pub(crate) struct Near {
+    recent: [u32; RECENT],
+    cursor: u32,
+}
+
+impl Near {
+    /// The slot that was given back last, which is forgotten; 0 for none.
+    fn take_recent(&mut self) -> u32 {
+        let [slot, second, third, fourth] = self.recent;
+        self.recent = [second, third, fourth, 0];
+        slot
+    }
+
+    /// The slot from which to look on, of those from 6 to `nodes`.
+    fn first(&self, nodes: u32) -> u32
+        requires { FIRST_SLOT ≤ nodes }
+        ensures low { 5 < result }
+        ensures high { result ≤ nodes }
+    {
+        if FIRST_SLOT <= self.cursor && self.cursor <= nodes {
+            self.cursor
+        } else {
+            FIRST_SLOT
+        }
+    }
+}
+
+/// Where one worker looks for a free slot; contracts see which fit it is. It may remember any slots: a slot counts only as it is found.
+///
+/// First fit and next fit are those of storage allocation (Knuth, The Art of Computer Programming, volume 1, section 2.5).
+#[derive(Drop)]
+pub struct Placement {
+    fit: Fit,
+    near: Near,
+}
+
+impl Model for Placement {
+    ghost use Rattle.nm_pool.specs.declared.placement.Fit.{Fit};
+
+    ghost Value = { Fit };
+
+    ghost view = { λ p. p.fit };
+}
+
+impl Placement {
+    /// The placement of a worker that has given nothing back. `cursor` is the slot from which a near one looks first; where the pool has no such slot, slot 6.
+    pub fn new(fit: Fit, cursor: u32) -> Placement
+        ensures { result ≡ fit }
+    {
+        Placement {
+            fit,
+            near: Near {
+                recent: [0; RECENT],
+                cursor,
+            },
+        }
+    }
+
+    /// Which fit it is.
+    pub fn fit(&self) -> Fit
+        ensures { result ≡ self.now }
+    {
+        self.fit
+    }
+
+    /// Remembers a slot that was given back, so that a near claim tries it first. The one that was remembered longest of four is forgotten.
+    pub fn keep(&mut self, slot: u32)
+        ensures { self.new ≡ self.old }
+    {
+        let [first, second, third, _] = self.near.recent;
+        self.near.recent = [slot, first, second, third];
+    }
+}
+
+/// Takes a slot out of the pool to be a new node, as `claim` does, with the slots tried in the order of a placement.
+///
+/// `Fit::Lowest`: the very same. `Fit::Near`: `Some(node)`: fewer than `nodes` slots were found taken or worn in this call, and then this one in the pool.
+/// `None`: at most `nodes` were, and each slot above 5 is among them. At most three steps a slot, and 3 `nodes` in all.
+pub fn claim_by(shared: &Shared, pass: &mut Pass, placement: &mut Placement) -> Option<NodeId>
+    requires { IsOf shared.now pass.old }
+    ensures same { IsSamePass pass.old pass.new }
+    ensures run { IsInRun pass.new }
+    ensures part { IsClaimBy placement.old shared.now.layout.nodes pass.old.view.log pass.new.view.log result }
+    ensures made { IfSome result (IsNewNode (knowledge pass.new.view)) }
+    ensures new { IfSome result (λ node. IsNew pass.old.view.layout pass.old.view.number pass.old.view.log node.slot) }
+    ensures learned { LearnsSlots (knowledge pass.old.view) (knowledge pass.new.view) }
+    ensures steps { length pass.new.view.log ≤ length pass.old.view.log + 3 * shared.now.layout.nodes }
+    ensures fit { placement.new ≡ placement.old }
+{
+    match placement.fit {
+        Fit::Lowest => claim(shared, pass),
+        Fit::Near => claim_near(shared, pass, &mut placement.near),
+    }
+}
+
+/// A slot that was given back last, or else the first that is found from the cursor upwards, and round.
+fn claim_near(shared: &Shared, pass: &mut Pass, near: &mut Near) -> Option<NodeId>
+    requires { IsOf shared.now pass.old }
+    ensures same { IsSamePass pass.old pass.new }
+    ensures run { IsInRun pass.new }
+    ensures part { IsNearClaim shared.now.layout.nodes pass.old.view.log pass.new.view.log result }
+    ensures made { IfSome result (IsNewNode (knowledge pass.new.view)) }
+    ensures new { IfSome result (λ node. IsNew pass.old.view.layout pass.old.view.number pass.old.view.log node.slot) }
+    ensures learned { LearnsSlots (knowledge pass.old.view) (knowledge pass.new.view) }
+{
+    if let Some(node) = claim_recent(shared, pass, near) {
+        return Some(node);
+    }
+    let nodes = shared.layout().nodes();
+    let first = near.first(nodes);
+    if let Some(node) = claim_between(shared, pass, first, nodes + 1) {
+        near.cursor = node.slot + 1;
+        return Some(node);
+    }
+    let Some(node) = claim_between(shared, pass, FIRST_SLOT, first) else {
+        return None;
+    };
+    near.cursor = node.slot + 1;
+    Some(node)
+}
+
+/// The first of the slots that were given back last which is found in the pool and is not worn. Each one that is tried is forgotten.
+fn claim_recent(shared: &Shared, pass: &mut Pass, near: &mut Near) -> Option<NodeId>
+    requires { IsOf shared.now pass.old }
+    ensures same { IsSamePass pass.old pass.new }
+    ensures run { IsInRun pass.old → IsInRun pass.new }
+    ensures found { IfSome result (λ _. IsInRun pass.new) }
+    ensures part { IsClaimOfFew 4 shared.now.layout.nodes pass.old.view.log pass.new.view.log result }
+    ensures made { IfSome result (IsNewNode (knowledge pass.new.view)) }
+    ensures new { IfSome result (λ node. IsNew pass.old.view.layout pass.old.view.number pass.old.view.log node.slot) }
+    ensures learned { LearnsSlots (knowledge pass.old.view) (knowledge pass.new.view) }
+{
+    for round in 0..RECENT {
+        let slot = near.take_recent();
+        if let Some(node) = try_hint(shared, pass, slot) {
+            return Some(node);
+        }
+    }
+    None
+}
+
+/// Tries one slot, if the pool has such a one.
+fn try_hint(shared: &Shared, pass: &mut Pass, slot: u32) -> Option<NodeId>
+    requires { IsOf shared.now pass.old }
+    ensures same { IsSamePass pass.old pass.new }
+    ensures run { IsInRun pass.old → IsInRun pass.new }
+    ensures found { IfSome result (λ _. IsInRun pass.new) }
+    ensures part { IsClaimOfFew 1 shared.now.layout.nodes pass.old.view.log pass.new.view.log result }
+    ensures made { IfSome result (IsNewNode (knowledge pass.new.view)) }
+    ensures new { IfSome result (λ node. IsNew pass.old.view.layout pass.old.view.number pass.old.view.log node.slot) }
+    ensures learned { LearnsSlots (knowledge pass.old.view) (knowledge pass.new.view) }
+{
+    if slot < FIRST_SLOT || shared.layout().nodes() < slot {
+        return None;
+    }
+    if let Tried::Got(node) = try_slot(shared, pass, slot) {
+        return Some(node);
+    }
+    None
+}
