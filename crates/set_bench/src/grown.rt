@@ -1,7 +1,4 @@
 //! A tree with all its workers, from its filling to its end.
-ghost use Rattle.std.specs.Prelude.{◌≡◌, All, IfOk};
-ghost use Rattle.nm_tree.specs.Plays.{IsReady};
-
 use crate::load::Load;
 use crate::trees::{Totals, WORKERS, fill_all, play_all};
 use anyhow::{Context, Result, ensure};
@@ -9,7 +6,6 @@ use nm_tree::{Report, Tree, Worker};
 use std::alloc::Global;
 use std::marker::Model;
 use std::mem;
-use std::sync::atomic::Ordering;
 use std::thread::Threads;
 
 /// For how many nodes the trees have room, and how many keys the sets have at first.
@@ -38,22 +34,6 @@ impl Model for Grown {
     ghost invariant = { λ g. All (λ w. IsReady g.tree w) g.workers.items };
 }
 
-/// An empty tree whose workers claim the lowest free slot.
-fn open_lowest(alloc: Global, nodes: u32) -> Result<(Tree, Vec<Worker>)>
-    ensures { IfOk result (λ r. All (λ w. IsReady r.0 w) r.1.items) }
-{
-    let (tree, workers) = Tree::new(alloc, nodes, WORKERS)?;
-    Ok((tree, workers))
-}
-
-/// An empty tree whose workers claim near by.
-fn open_near(alloc: Global, nodes: u32) -> Result<(Tree, Vec<Worker>)>
-    ensures { IfOk result (λ r. All (λ w. IsReady r.0 w) r.1.items) }
-{
-    let (tree, workers) = Tree::new(alloc, nodes, WORKERS)?;
-    Ok((tree, workers))
-}
-
 /// How many nodes wait.
 fn waiting(report: &Report) -> u64 {
     let mut waiting = 0u64;
@@ -66,7 +46,7 @@ fn waiting(report: &Report) -> u64 {
 impl Grown {
     /// An empty tree whose workers claim the lowest free slot.
     pub fn lowest(alloc: Global, nodes: u32) -> Result<Grown> {
-        let (tree, workers) = open_lowest(alloc, nodes)?;
+        let (tree, workers) = Tree::new(alloc, nodes, WORKERS)?;
         Ok(Grown {
             tree,
             workers,
@@ -76,7 +56,7 @@ impl Grown {
 
     /// An empty tree whose workers claim near by.
     pub fn near(alloc: Global, nodes: u32) -> Result<Grown> {
-        let (tree, workers) = open_near(alloc, nodes)?;
+        let (tree, workers) = Tree::near(alloc, nodes, WORKERS)?;
         Ok(Grown {
             tree,
             workers,
