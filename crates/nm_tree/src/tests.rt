@@ -13,6 +13,7 @@ mod blocks;
 mod crowd;
 mod endings;
 mod example;
+mod near;
 mod plays;
 mod readers;
 mod threads;

@@ -50,11 +50,7 @@ impl Tree {
     /// a claim takes few steps where most slots are free, and which slot a new node takes is not told beforehand.
     ///
     /// (Next fit: Knuth, The Art of Computer Programming, volume 1, section 2.5.)
-    pub fn near(
-        alloc: Global,
-        nodes: u32,
-        workers: u32,
-    ) -> Result<(Tree, Vec<Worker>), NewError>
+    pub fn near(alloc: Global, nodes: u32, workers: u32) -> Result<(Tree, Vec<Worker>), NewError>
         ensures layout { IfOk result (λ r. r.0.layout ≡ record { nodes = nodes; workers = workers }) }
         ensures count { IfOk result (λ r. length r.1.items ≡ workers) }
         ensures new { IfOk result (λ r. AreNew r.0 0 r.1.items) }

@@ -9,7 +9,7 @@ use crate::{CloseReason, Report, ResignReason};
 use std::alloc::{AllocError, Global};
 
 /// The slots, births and labels of the first two nodes that wait, and how many wait.
-fn waiting(report: &mut Report, origin: usize) -> (u32, [(u32, u64, u64); 2]) {
+pub(super) fn waiting(report: &mut Report, origin: usize) -> (u32, [(u32, u64, u64); 2]) {
     let mut found = [(0, 0, 0); 2];
     let Some(held) = report.queues.get_mut(origin) else {
         return (u32::MAX, found);
@@ -24,7 +24,12 @@ fn waiting(report: &mut Report, origin: usize) -> (u32, [(u32, u64, u64); 2]) {
 }
 
 /// Worker 1 inserts and deletes 5, worker 0 inserts and deletes 6.
-fn each_deletes_one(rt: &impl Abort, tree: &Tree, first: &mut Worker, second: &mut Worker)
+pub(super) fn each_deletes_one(
+    rt: &impl Abort,
+    tree: &Tree,
+    first: &mut Worker,
+    second: &mut Worker,
+)
     requires first { IsOf tree.now first.old.pass }
     requires second { IsOf tree.now second.old.pass }
     ensures first { IsOf tree.now first.new.pass }
@@ -52,7 +57,7 @@ fn heir_of(rt: &impl Abort, tree: &Tree, heir: Worker, leaver: Worker) -> Worker
 }
 
 /// Both workers.
-fn both(alloc: Global, first: Worker, second: Worker) -> Result<Vec<Worker>, AllocError>
+pub(super) fn both(alloc: Global, first: Worker, second: Worker) -> Result<Vec<Worker>, AllocError>
     ensures { IfOk result (λ v. v.items ≡ first ∷ second ∷ []) }
 {
     let mut workers = Vec::with_capacity(alloc, 2)?;
@@ -71,7 +76,7 @@ fn alone(alloc: Global, worker: Worker) -> Result<Vec<Worker>, AllocError>
 }
 
 /// The report of a tree whose workers are all given.
-fn report_of(rt: &impl Abort, tree: Tree, workers: Vec<Worker>) -> Report
+pub(super) fn report_of(rt: &impl Abort, tree: Tree, workers: Vec<Worker>) -> Report
     requires { AreAllOf tree workers.items }
 {
     let Ok(report) = tree.close(workers) else {
@@ -81,7 +86,7 @@ fn report_of(rt: &impl Abort, tree: Tree, workers: Vec<Worker>) -> Report
 }
 
 /// A call of one worker, whose answer is compared.
-fn step(rt: &impl Abort, tree: &Tree, worker: &mut Worker, call: Call, want: Answer)
+pub(super) fn step(rt: &impl Abort, tree: &Tree, worker: &mut Worker, call: Call, want: Answer)
     requires own { IsOf tree.now worker.old.pass }
     ensures own { IsOf tree.now worker.new.pass }
 {

@@ -24,7 +24,7 @@ fn fill(tree: &Tree, mut worker: Worker, first: u64) -> (Worker, u64)
 }
 
 /// One thread inserts the even keys and another the odd ones, on one tree.
-fn fill_both<R: Threads + Sync>(
+pub(super) fn fill_both<R: Threads + Sync>(
     rt: &R,
     tree: &Tree,
     one: Worker,
