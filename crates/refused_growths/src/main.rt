@@ -1,5 +1,5 @@
-//! Plays inserts and deletes whose growths may be refused, and closes the tree. A call that is refused has changed nothing, and is made again: so each
-//! run prints the same lines, whichever one growth was refused in it (`bench/refused-growths.sh`).
+//! Plays inserts and deletes whose growths may be refused, and closes the tree. A call that is refused has changed nothing, but for the help that it gave,
+//! and is made again: so each run prints the same lines, whichever one growth was refused in it (`.ci/refused`).
 #![tactic(auto)]
 
 ghost use Rattle.std.specs.Prelude.{◌≡◌, [], ◌∷◌, IfOk};
@@ -70,6 +70,36 @@ fn delete(tree: &Tree, worker: &mut Worker, key: Key) -> Option<Result<bool, Fau
     Some(tree.delete(worker, key, TRIES))
 }
 
+/// Leaves a key flagged by its first worker, by a delete with a single try, which is made once more where memory was refused. The second worker
+/// deletes it too, helps, and finds at its second try, for which it asks for memory again, that the key has gone. Refused there, it has helped and done no
+/// more. Then the first worker finishes. `None`: a refused call has changed something else.
+fn help(
+    tree: &Tree,
+    first: &mut Worker,
+    second: &mut Worker,
+    key: Key,
+) -> Option<[Result<bool, Fault>; 3]>
+    requires first { IsReady tree.now first.old }
+    requires second { IsReady tree.now second.old }
+    ensures first { IsReady tree.now first.new }
+    ensures second { IsReady tree.now second.new }
+{
+    let mut flagged = tree.delete(first, key, 1);
+    if flagged == Err(Fault::NoMemory) {
+        flagged = tree.delete(first, key, 1);
+    }
+    let before = second.queue_len();
+    let mut helped = tree.delete(second, key, TRIES);
+    if helped == Err(Fault::NoMemory) {
+        let left = seen(tree, second, key);
+        if left != (Ok(true), before) && left != (Ok(false), before.saturating_add(2)) {
+            return None;
+        }
+        helped = tree.delete(second, key, TRIES);
+    }
+    Some([flagged, helped, tree.finish(first, TRIES)])
+}
+
 /// Moves the epoch on twice, and frees what is ripe.
 fn drain(tree: &Tree, worker: &mut Worker) -> u64
     requires { IsReady tree.now worker.old }
@@ -83,19 +113,23 @@ fn drain(tree: &Tree, worker: &mut Worker) -> u64
 /// What the calls of a play answered at last, and how many nodes waited and were freed.
 #[derive(Clone, Copy)]
 struct Played {
-    answers: [Option<Result<bool, Fault>>; 4],
+    helped: Option<[Result<bool, Fault>; 3]>,
+    answers: [Option<Result<bool, Fault>>; 5],
     waiting: (u64, u64),
     freed: (u64, u64),
 }
 
-/// Each worker deletes the key once that worker 0 has inserted.
+/// Worker 0 inserts a key three times: it is deleted by both at once, by worker 1, and by worker 0.
 fn play(tree: &Tree, first: &mut Worker, second: &mut Worker, key: Key) -> Played
     requires first { IsReady tree.now first.old }
     requires second { IsReady tree.now second.old }
     ensures first { IsReady tree.now first.new }
     ensures second { IsReady tree.now second.new }
 {
+    let inserted = insert(tree, first, key);
+    let helped = help(tree, first, second, key);
     let answers = [
+        inserted,
         insert(tree, first, key),
         delete(tree, second, key),
         insert(tree, first, key),
@@ -104,6 +138,7 @@ fn play(tree: &Tree, first: &mut Worker, second: &mut Worker, key: Key) -> Playe
     let waiting = (first.queue_len(), second.queue_len());
     let freed = (drain(tree, first), drain(tree, second));
     Played {
+        helped,
         answers,
         waiting,
         freed,
@@ -146,6 +181,7 @@ fn play_anew(alloc: Global) -> Result<(Played, Report)> {
 
 fn main(rt: HostRuntime) -> Result<()> {
     let (played, report) = play_anew(rt.alloc())?;
+    println!(rt; "{:?}", played.helped)?;
     for answer in &played.answers {
         println!(rt; "{answer:?}")?;
     }
