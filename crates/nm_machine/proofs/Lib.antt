@@ -1,3 +1,4 @@
 pub mod Meeting
 pub mod Joining
 pub mod FewPlaces
+pub mod ChainLemmas

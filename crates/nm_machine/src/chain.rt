@@ -40,26 +40,10 @@ impl Worker {
         }
     }
 
-    // Whether the chain leads from one node to another, past fewer than so many nodes. Takes no memory.
-    fn has_way(&self, fuel: u32, from: u32, to: u32) -> bool
-        ensures { result ≡ is_some (way fuel self.now from to) }
-    {
-        let mut at = from;
-        for _ in 0..fuel {
-            if at == to {
-                return true;
-            }
-            let Some(side) = self.onward(at) else {
-                return false;
-            };
-            at = self.slot_read(at, side);
-        }
-        false
-    }
-
     /// Whether a chain of known tagged edges with flagged twins leads from the successor to the parent, and on by the edge that is kept.
-    pub fn is_frozen(&self, layout: Layout, successor: u32, parent: u32, keep: Side) -> bool
-        ensures { result ≡ is_frozen layout self.now successor parent keep }
+    pub fn is_frozen(&mut self, layout: Layout, successor: u32, parent: u32, keep: Side) -> bool
+        ensures frozen { result ≡ is_frozen layout self.old successor parent keep }
+        ensures same { self.new ≡ self.old }
     {
         self.has_way(layout.nodes(), successor, parent)
             && self.knows_tagged(parent, keep)

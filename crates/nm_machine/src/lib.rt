@@ -3,8 +3,10 @@
 
 mod chain;
 mod epoch_steps;
+mod found_steps;
 mod join_steps;
 mod keys;
+mod known;
 mod machine;
 mod places;
 mod pool_steps;

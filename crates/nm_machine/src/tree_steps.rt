@@ -168,7 +168,7 @@ impl Machine {
 
     // Whether the exchange may be tried.
     fn may_splice(
-        &self,
+        &mut self,
         worker: usize,
         ancestor: u32,
         side: Side,
@@ -176,13 +176,14 @@ impl Machine {
         parent: u32,
         keep: Side,
     ) -> Result<(), Refused>
-        requires shaped { IsShaped self.now }
-        requires is_there { worker < length self.now.workers }
-        ensures allowed { OnOk result (refusal_of self.now worker (event.Splice ancestor side successor parent keep) ≡ None) }
-        ensures refused { IfErr result (IsRefusedAs (refusal_of self.now worker (event.Splice ancestor side successor parent keep))) }
-        ensures slot { OnOk result (ancestor ≤ self.now.layout.nodes) }
-        ensures known { OnOk result (knows (of self.now worker) ancestor ≡ true) }
-        ensures leads { OnOk result (is_some (way self.now.layout.nodes (of self.now worker) successor parent) ≡ true) }
+        requires shaped { IsShaped self.old }
+        requires is_there { worker < length self.old.workers }
+        ensures allowed { OnOk result (refusal_of self.old worker (event.Splice ancestor side successor parent keep) ≡ None) }
+        ensures refused { IfErr result (IsRefusedAs (refusal_of self.old worker (event.Splice ancestor side successor parent keep))) }
+        ensures slot { OnOk result (ancestor ≤ self.old.layout.nodes) }
+        ensures known { OnOk result (knows (of self.old worker) ancestor ≡ true) }
+        ensures same { self.new ≡ self.old }
+        ensures leads { OnOk result (is_some (way self.old.layout.nodes (of self.old worker) successor parent) ≡ true) }
     {
         if self.is_outside(1, ancestor)
             || self.is_outside(6, successor)
@@ -197,7 +198,8 @@ impl Machine {
         if !(knowledge.knows(ancestor) && knowledge.knows(successor)) {
             return Err(Refused::NotHeld);
         }
-        if !knowledge.is_frozen(self.layout, successor, parent, keep) {
+        let layout = self.layout;
+        if !self.workers[worker].is_frozen(layout, successor, parent, keep) {
             return Err(Refused::NotFrozen);
         }
         Ok(())

@@ -1,16 +1,17 @@
 //! What one worker knows, and how its events add to it.
-ghost use Rattle.std.specs.Prelude.{◌≡◌, ◌≢◌, ◌<◌, ◌==◌, ◌^◌, true, false, not, ◌&&◌, unwrap_or, replicate, length, [], Some, None, IfOk, IfErr, OnOk, OnErr};
+ghost use Rattle.std.specs.Prelude.{◌≡◌, ◌≢◌, ◌<◌, ◌==◌, ◌^◌, true, false, not, ◌&&◌, unwrap_or, replicate, length, [], Some, None, is_some, IfOk, IfErr, OnOk, OnErr};
 ghost use Rattle.std.specs.Option.{option_copied};
 ghost use Rattle.nm_model.specs.declared.event.Field.TheVariants.{Birth};
 ghost use Rattle.nm_model.specs.declared.reply.Reply.TheVariants.{BirthIs};
 ghost use Rattle.nm_model.specs.Maps.{put, without, is_number};
 ghost use Rattle.nm_model.specs.Ledgers.{held, front_of, free};
-ghost use Rattle.nm_model.specs.Knowledge.{newcomer, unfilled, knows, is_private, seen_of, draft_of, beside, read, is_null, is_flagged, is_tagged, knows_leaf};
+ghost use Rattle.nm_model.specs.Knowledge.{newcomer, unfilled, knows, is_private, seen_of, draft_of, beside, read, is_null, is_flagged, is_tagged, knows_leaf, way};
 ghost use Rattle.nm_model.specs.Learning.{saw, labelling, pinned, rooted, moved, learn_sight, learn_scan, looked, met, read_edge, linked_in, cutting, inheriting, resigned};
 ghost use Rattle.nm_model.specs.Reports.{in_queues};
 ghost use Rattle.nm_model.specs.Ordered.{new_leaf};
 ghost use Rattle.nm_model.specs.Step.{reply_sight, reply_scan, reply_look, others_scanned, node_of, node_linked, is_leaf_draft, is_linkable, first, free_checks};
 
+use crate::known::Known;
 use nm_edge::{Edge, Key, Layout, NodeId, Side};
 use nm_model::event::Field;
 use nm_model::knowledge::{Brief, Draft, Seen};
@@ -29,7 +30,7 @@ pub struct Worker {
     alloc: Global,
     brief: Brief,
     scanned: Vec<bool>,
-    known: SlotMap<Seen>,
+    known: Known,
     drafts: SlotMap<Draft>,
     ledgers: Ledgers,
     gone: bool,
@@ -59,7 +60,7 @@ impl Worker {
                 unlabelled: false,
             },
             scanned: vec![in alloc; false; workers]?,
-            known: SlotMap::new(alloc),
+            known: Known::new(alloc),
             drafts: SlotMap::new(alloc),
             ledgers: Ledgers::own(alloc, workers, number as usize)?,
             gone: false,
@@ -118,7 +119,7 @@ impl Worker {
         }
         match (self.brief.pin, self.brief.note) {
             (None, Some(announced)) if announced == epoch => {
-                let known = rooted(self.alloc)?;
+                let known = Known::rooted(self.alloc)?;
                 self.saw(epoch);
                 self.pin(epoch, known);
                 Ok(Reply::Pinned(epoch))
@@ -143,7 +144,7 @@ impl Worker {
     }
 
     // It is pinned, and knows the root and its left child.
-    fn pin(&mut self, epoch: u64, known: SlotMap<Seen>)
+    fn pin(&mut self, epoch: u64, known: Known)
         requires { known ≡ rooted }
         ensures { self.new ≡ pinned self.old epoch }
     {
@@ -237,6 +238,14 @@ impl Worker {
         ensures { result ≡ read self.now slot side }
     {
         self.seen(slot).on(side)
+    }
+
+    /// Whether the chain leads from one node to another, past fewer than so many nodes. What is found of it is kept, where there is memory.
+    pub fn has_way(&mut self, fuel: u32, from: u32, to: u32) -> bool
+        ensures way { result ≡ is_some (way fuel self.old from to) }
+        ensures same { self.new ≡ self.old }
+    {
+        self.known.has_way(fuel, from, to)
     }
 
     /// Whether an edge of the node was read as null.
@@ -487,16 +496,6 @@ impl Worker {
         self.known.replace(slot, seen);
         Ok(())
     }
-}
-
-// What a worker knows as it is pinned.
-fn rooted(alloc: Global) -> Result<SlotMap<Seen>, AllocError>
-    ensures { IfOk result (λ known. known ≡ rooted) }
-{
-    let mut known = SlotMap::new(alloc);
-    known.put(1, Seen::unread())?;
-    known.put(2, Seen::unread())?;
-    Ok(known)
 }
 
 // An edge was read, and as null.
