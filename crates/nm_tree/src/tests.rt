@@ -15,6 +15,7 @@ mod endings;
 mod example;
 mod plays;
 mod readers;
+mod stalled;
 mod threads;
 
 /// A call of a worker.
