@@ -3,6 +3,8 @@ use nm_edge::{Key, NodeId, Side};
 use nm_model::Nodes;
 use std::test::Fail;
 
+mod stalled;
+
 // A worker that stays pinned holds the epoch back.
 const HELD_BACK: [(u32, Event); 8] = [
     (1, Event::Sight),

@@ -16,6 +16,7 @@ mod example;
 mod near;
 mod plays;
 mod readers;
+mod stalled;
 mod threads;
 
 /// A call of a worker.

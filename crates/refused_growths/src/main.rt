@@ -70,34 +70,34 @@ fn delete(tree: &Tree, worker: &mut Worker, key: Key) -> Option<Result<bool, Fau
     Some(tree.delete(worker, key, TRIES))
 }
 
-/// Leaves a key flagged by its first worker, by a delete with a single try, which is made once more where memory was refused. The second worker
-/// deletes it too, helps, and finds at its second try, for which it asks for memory again, that the key has gone. Refused there, it has helped and done no
-/// more. Then the first worker finishes. `None`: a refused call has changed something else.
+/// One worker flags a key, by a delete with a single try, which is made once more where memory was refused. The other one deletes the key too, helps, and
+/// finds at its second try, for which it asks for memory again, that the key has gone; refused there, it has helped and done no more. Then the first one
+/// finishes. `None`: a refused call has changed something else.
 fn help(
     tree: &Tree,
-    first: &mut Worker,
-    second: &mut Worker,
+    flagging: &mut Worker,
+    helping: &mut Worker,
     key: Key,
 ) -> Option<[Result<bool, Fault>; 3]>
-    requires first { IsReady tree.now first.old }
-    requires second { IsReady tree.now second.old }
-    ensures first { IsReady tree.now first.new }
-    ensures second { IsReady tree.now second.new }
+    requires flagging { IsReady tree.now flagging.old }
+    requires helping { IsReady tree.now helping.old }
+    ensures flagging { IsReady tree.now flagging.new }
+    ensures helping { IsReady tree.now helping.new }
 {
-    let mut flagged = tree.delete(first, key, 1);
+    let mut flagged = tree.delete(flagging, key, 1);
     if flagged == Err(Fault::NoMemory) {
-        flagged = tree.delete(first, key, 1);
+        flagged = tree.delete(flagging, key, 1);
     }
-    let before = second.queue_len();
-    let mut helped = tree.delete(second, key, TRIES);
+    let waiting = helping.queue_len();
+    let mut helped = tree.delete(helping, key, TRIES);
     if helped == Err(Fault::NoMemory) {
-        let left = seen(tree, second, key);
-        if left != (Ok(true), before) && left != (Ok(false), before.saturating_add(2)) {
+        let left = seen(tree, helping, key);
+        if left != (Ok(true), waiting) && left != (Ok(false), waiting.saturating_add(2)) {
             return None;
         }
-        helped = tree.delete(second, key, TRIES);
+        helped = tree.delete(helping, key, TRIES);
     }
-    Some([flagged, helped, tree.finish(first, TRIES)])
+    Some([flagged, helped, tree.finish(flagging, TRIES)])
 }
 
 /// Moves the epoch on twice, and frees what is ripe.
@@ -113,13 +113,13 @@ fn drain(tree: &Tree, worker: &mut Worker) -> u64
 /// What the calls of a play answered at last, and how many nodes waited and were freed.
 #[derive(Clone, Copy)]
 struct Played {
-    helped: Option<[Result<bool, Fault>; 3]>,
     answers: [Option<Result<bool, Fault>>; 5],
+    helped: Option<[Result<bool, Fault>; 3]>,
     waiting: (u64, u64),
     freed: (u64, u64),
 }
 
-/// Worker 0 inserts a key three times: it is deleted by both at once, by worker 1, and by worker 0.
+/// Worker 0 inserts a key three times: it is deleted by worker 1, by both at once, and by worker 0.
 fn play(tree: &Tree, first: &mut Worker, second: &mut Worker, key: Key) -> Played
     requires first { IsReady tree.now first.old }
     requires second { IsReady tree.now second.old }
@@ -127,19 +127,16 @@ fn play(tree: &Tree, first: &mut Worker, second: &mut Worker, key: Key) -> Playe
     ensures second { IsReady tree.now second.new }
 {
     let inserted = insert(tree, first, key);
-    let helped = help(tree, first, second, key);
-    let answers = [
-        inserted,
-        insert(tree, first, key),
-        delete(tree, second, key),
-        insert(tree, first, key),
-        delete(tree, first, key),
-    ];
+    let deleted = delete(tree, second, key);
+    let again = insert(tree, first, key);
+    let helped = help(tree, second, first, key);
+    let last = insert(tree, first, key);
+    let answers = [inserted, deleted, again, last, delete(tree, first, key)];
     let waiting = (first.queue_len(), second.queue_len());
     let freed = (drain(tree, first), drain(tree, second));
     Played {
-        helped,
         answers,
+        helped,
         waiting,
         freed,
     }
@@ -181,10 +178,10 @@ fn play_anew(alloc: Global) -> Result<(Played, Report)> {
 
 fn main(rt: HostRuntime) -> Result<()> {
     let (played, report) = play_anew(rt.alloc())?;
-    println!(rt; "{:?}", played.helped)?;
     for answer in &played.answers {
         println!(rt; "{answer:?}")?;
     }
+    println!(rt; "{:?}", played.helped)?;
     println!(rt; "waiting {} and {}", played.waiting.0, played.waiting.1)?;
     println!(rt; "freed {} and {}", played.freed.0, played.freed.1)?;
     println!(rt;

@@ -15,9 +15,9 @@ const NODES: u32 = 2048;
 
 /// A worker at the end of its rounds, and how many true answers it had.
 #[derive(Drop)]
-struct Played {
-    worker: Worker,
-    score: Score,
+pub(super) struct Played {
+    pub(super) worker: Worker,
+    pub(super) score: Score,
 }
 
 /// Each worker's rounds, in a thread of its own.
@@ -59,7 +59,7 @@ fn settled(tree: &Tree, played: Played, so_far: Score) -> (Worker, Score)
 
 /// All workers, and how many true answers they had.
 #[tactic(auto, using(crate::proofs::Closed::all_and))]
-fn gathered(
+pub(super) fn gathered(
     alloc: Global,
     tree: &Tree,
     played: Vec<Played>,
@@ -78,7 +78,7 @@ fn gathered(
 }
 
 /// How many nodes wait in all queues of a report.
-fn waiting(report: &Report) -> u32 {
+pub(super) fn waiting(report: &Report) -> u32 {
     report
         .queues
         .iter()
@@ -86,7 +86,7 @@ fn waiting(report: &Report) -> u32 {
 }
 
 /// What a tree tells at its end, all of whose workers are given.
-fn report_of(rt: &impl Abort, tree: Tree, workers: Vec<Worker>) -> Report
+pub(super) fn report_of(rt: &impl Abort, tree: Tree, workers: Vec<Worker>) -> Report
     requires { AreAllOf tree workers.items }
     ensures sum { result.free + result.reached + waiting_in result.queues.items ≡ tree.layout.nodes - 5 }
 {
