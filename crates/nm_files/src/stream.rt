@@ -9,7 +9,7 @@ use std::io::{Read, Write};
 /// So many bytes are read at most: the longest file that is right, and one more.
 pub const LIMIT: usize = 12_100_122;
 
-/// So many bytes are asked for at once. They stand on the stack, which may be small: 64 kilobytes serve for the whole program.
+// So many bytes a read; they lie on the stack, which may be one of 64 kilobytes.
 const CHUNK: usize = 8_192;
 
 /// One read. A read that gives nothing into a chunk with room is the end.

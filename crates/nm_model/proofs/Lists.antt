@@ -1,8 +1,10 @@
 -- Elements of lists that are joined, by their index.
-use Rattle.std.proofs.Common.{◌≡◌, ◌⊎◌, inl, inr, ℕ, zero, suc, ◌-◌, ◌<◌, ◌≤◌, Bool, true, List, [], ◌∷◌, ◌++◌, map, length, refl, sym, ap, ◌∙◌, arith, true≢false}
+use Rattle.std.proofs.Common.{◌≡◌, ◌⊎◌, inl, inr, ℕ, zero, suc, ◌-◌, ◌<◌, ◌≤◌, Bool, true, List, [], ◌∷◌, ◌++◌, map, length, take, drop, set, get_or, ◌+◌, refl, sym, ap, ◌∙◌, arith, true≢false}
 use Rattle.std.specs.Prelude.{Some, slice_get}
 use Rattle.std.specs.List.{list_any}
 use Rattle.std.proofs.lemmas.Bool.{or_cases}
+use Rattle.std.proofs.lemmas.List.{set-get_or}
+use Rattle.std.proofs.lemmas.List.Edits.{map_over_more}
 use Rattle.std.proofs.lemmas.Option.{none-some, same_Some}
 
 pub get_left : {X : Type 0} (xs ys : List X) (k : ℕ) (x : X) → k < length xs → slice_get (xs ++ ys) k ≡ Some x → slice_get xs k ≡ Some x
@@ -46,3 +48,8 @@ more_at [] z zero y h = inr (same_Some y z (sym h))
 more_at [] z (suc i) y h = absurd (none-some y h)
 more_at (x ∷ xs) z zero y h = inl h
 more_at (x ∷ xs) z (suc i) y h = more_at xs z i y h
+
+-- a loop that maps: an element that f leaves as it is needs no write
+pub map_over_kept : {X : Type 0} (f : X → X) (xs ys : List X) (i : ℕ) (x : X) → i < length xs → ys ≡ map f (take i xs) ++ drop i xs → x ≡ get_or ys i x → f x ≡ x
+    → ys ≡ map f (take (i + 1) xs) ++ drop (i + 1) xs
+map_over_kept f xs ys i x lt h is kept = sym (set-get_or ys i x) ∙ ap (λ y. set ys i y) (sym is ∙ sym kept) ∙ map_over_more f xs ys i x lt h is

@@ -1,8 +1,8 @@
 //! Walks for a key, by where they came.
 
-ghost use Rattle.std.specs.Prelude.{◌≡◌, ◌<◌, length, map, vec_capacity};
+ghost use Rattle.std.specs.Prelude.{◌≡◌, ◌<◌, ◌==◌, ◌&&◌, ℕ, false, is_none, length, map, vec_capacity};
 ghost use Rattle.std.specs.List.{list_any};
-ghost use Rattle.nm_model.specs.Searches.{side_of, is_side, is_by, goes_on, new_arrival, with_arrival, keyed, ended, walk_edge};
+ghost use Rattle.nm_model.specs.Searches.{side_of, is_side, is_by, turns, goes_on, new_arrival, with_arrival, keyed, ended, walk_edge};
 ghost use Rattle.nm_model.specs.Ordered.{ended_beside, ended_at, ended_elsewhere, may_link_at, may_flag_at};
 
 use crate::event::Op;
@@ -71,18 +71,39 @@ impl Arrival {
     fn goes_on(self, key: Key, slot: u32, side: Side) -> bool
         ensures { result ≡ goes_on key slot side self }
     {
-        let turns = match self.key {
+        self.slot == slot && self.turns(key, side)
+    }
+
+    // Whether a walk for this key turns to that side at its slot.
+    fn turns(self, key: Key, side: Side) -> bool
+        ensures { result ≡ turns key self.key side }
+    {
+        match self.key {
             Some(other) => is_side(side_of(key, other), side),
             None => false,
-        };
-        self.slot == slot && turns
+        }
+    }
+
+    // Whether it changes where the key of that slot is looked at.
+    fn waits_at(self, slot: u32) -> bool
+        ensures waits { result ≡ ((self.slot == slot) && is_none self.key) }
+        ensures stays { (key : ℕ) → result ≡ false → keyed slot key self ≡ self }
+    {
+        self.slot == slot && self.key.is_none()
+    }
+
+    // Whether it changes where the slot's edge on that side is read as null.
+    fn goes_on_yet(self, key: Key, slot: u32, side: Side) -> bool
+        ensures { result ≡ false → ended key slot side self ≡ self }
+    {
+        !self.ended && self.goes_on(key, slot, side)
     }
 
     // The slot's key was looked at.
     fn keyed(self, slot: u32, key: u64) -> Arrival
         ensures { result ≡ keyed slot key self }
     {
-        if self.slot == slot && self.key.is_none() {
+        if self.waits_at(slot) {
             return Arrival {
                 key: Some(key),
                 ..self
@@ -142,7 +163,9 @@ pub fn put_key(arrivals: &mut Vec<Arrival>, slot: u32, key: u64)
     ensures { arrivals.new.items ≡ map (keyed slot key) arrivals.old.items }
 {
     for index in 0..arrivals.len() {
-        arrivals[index] = arrivals[index].keyed(slot, key);
+        if arrivals[index].waits_at(slot) {
+            arrivals[index] = arrivals[index].keyed(slot, key);
+        }
     }
 }
 
@@ -151,7 +174,9 @@ fn put_end(arrivals: &mut Vec<Arrival>, key: Key, slot: u32, side: Side)
     ensures { arrivals.new.items ≡ map (ended key slot side) arrivals.old.items }
 {
     for index in 0..arrivals.len() {
-        arrivals[index] = arrivals[index].ended(key, slot, side);
+        if arrivals[index].goes_on_yet(key, slot, side) {
+            arrivals[index] = arrivals[index].ended(key, slot, side);
+        }
     }
 }
 
