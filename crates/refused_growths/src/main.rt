@@ -72,7 +72,7 @@ fn delete(tree: &Tree, worker: &mut Worker, key: Key) -> Option<Result<bool, Fau
 
 /// One worker flags a key, by a delete with a single try, which is made once more where memory was refused. The other one deletes the key too, helps, and
 /// finds at its second try, for which it asks for memory again, that the key has gone; refused there, it has helped and done no more. Then the first one
-/// finishes. `None`: a refused call has changed something else.
+/// finishes, in the room that its delete has made, so that no growth is there to be refused. `None`: a refused call has changed something else.
 fn help(
     tree: &Tree,
     flagging: &mut Worker,
