@@ -8,6 +8,7 @@ use nm_calls::{delete, insert};
 use nm_edge::{Key, Layout};
 use nm_epoch::Entry;
 use nm_limbo::BlockQueue;
+use nm_pool::{Fit, Placement};
 use nm_steps::{Pass, Shared};
 use std::process::Abort;
 use std::test::Fail;
@@ -45,10 +46,11 @@ fn the_empty_tree_has_no_key(rt: HostRuntime) -> Result<(), Fail> {
     Ok(())
 }
 
-/// One worker: its pass, the queue of what it cut, and how many splices it has won.
+/// One worker: its pass, where it looks for free slots, the queue of what it cut, and how many splices it has won.
 #[derive(Drop)]
 struct Hand {
     pass: Pass,
+    placement: Placement,
     queue: BlockQueue<Entry>,
     splices: u64,
 }
@@ -66,6 +68,7 @@ fn only(shared: &Shared, mut passes: Vec<Pass>, queue: BlockQueue<Entry>) -> Han
     };
     Hand {
         pass,
+        placement: Placement::new(Fit::Lowest, 6),
         queue,
         splices: 0,
     }
@@ -85,6 +88,7 @@ fn inserts(rt: &impl Abort, shared: &Shared, hand: &mut Hand, key: Key)
     let inserted = insert(
         shared,
         &mut hand.pass,
+        &mut hand.placement,
         key,
         1,
         &mut hand.queue,
