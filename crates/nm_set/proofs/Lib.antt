@@ -1,0 +1,3 @@
+-- Lemmas on the seats of a tree and what may cross threads.
+pub mod SeatLists
+pub mod Sending

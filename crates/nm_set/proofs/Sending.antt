@@ -1,0 +1,50 @@
+-- Members and sets may go from thread to thread, and a reference to a set may be shared.
+use denote.Param.Send.{IsSend, IsSync, part_keyless, sendable}
+use denote.RattleType.{RattleType}
+use Rattle.std.proofs.Crossing.{crosses}
+use Rattle.atomic_table.specs.contracts.shared.Seat as seat
+use Rattle.atomic_table.proofs.shared.Seat.TheSendSync as seat_crosses
+use Rattle.counted_slot.proofs.Counted.TheSendSync as counted
+use Rattle.nm_steps.specs.contracts.pass.Pass as pass
+use Rattle.nm_pool.proofs.placement.Placement.TheSendSync as placement
+use Rattle.nm_epoch.proofs.collecting.HeldQueue.TheSendSync as queue
+use Rattle.nm_tree.proofs.worker.Account.TheSendSync as account
+use Rattle.nm_tree.specs.contracts.worker.Worker as worker
+use Rattle.nm_tree.proofs.worker.Worker.TheSendSync as worker_crosses
+use Rattle.nm_tree.proofs.tree.Tree.TheSendSync as tree
+use Rattle.nm_set.specs.contracts.home.Resident as resident
+use Rattle.nm_set.proofs.home.Resident.TheSendSync as resident_crosses
+use Rattle.nm_set.specs.contracts.home.Home as home
+use Rattle.nm_set.proofs.home.Home.TheSendSync as home_crosses
+use Rattle.nm_set.specs.contracts.member.Member as member
+use Rattle.nm_set.specs.contracts.set.Gathered as gathered
+use Rattle.nm_set.proofs.set.Gathered.TheSendSync as gathered_crosses
+use Rattle.nm_set.specs.contracts.set.Set as set
+
+-- what a reference to a table's seat gives is a part of the seat
+seat_sync : (S V : RattleType) → IsSend S → IsSync (seat.the_row S V)
+seat_sync S V s = record { shared = λ d b o κ q. part_keyless (seat.the_row S V) (seat_crosses.the_send S V s) q d b o }
+
+pass_sync : IsSync pass.the_row
+pass_sync = search (sendable, crosses, seat_sync) depth 20
+
+worker_sync : IsSync worker.the_row
+worker_sync = search (sendable, crosses, pass_sync, placement.the_sync, queue.the_sync, account.the_sync) depth 80
+
+resident_sync : IsSync resident.the_row
+resident_sync = search (sendable, worker_sync) depth 20
+
+home_sync : IsSync home.the_row
+home_sync = search (sendable, crosses, tree.the_sync, counted.the_sync, resident_crosses.the_send, resident_sync) depth 20
+
+pub member_send : IsSend member.the_row
+member_send = search (sendable, crosses, home_crosses.the_send, home_sync, worker_crosses.the_send) depth 20
+
+gathered_sync : IsSync gathered.the_row
+gathered_sync = search (sendable, crosses, tree.the_sync, worker_sync) depth 20
+
+pub set_send : IsSend set.the_row
+set_send = search (sendable, crosses, home_crosses.the_send, home_sync, gathered_crosses.the_send) depth 80
+
+pub set_sync : IsSync set.the_row
+set_sync = search (sendable, crosses, home_crosses.the_send, home_sync, gathered_sync) depth 80

@@ -1,0 +1,13 @@
+use Rattle.std.proofs.Common.{◌≡◌, ◌+◌, ◌≤◌, ℕ, length}
+use Rattle.std.specs.Prelude.{vec_capacity}
+use Rattle.nm_tree.specs.Closing.{AreAllOf}
+use Rattle.nm_set.specs.Seats.{AreSeats}
+use Rattle.nm_set.proofs.home.Home.gather.Given as goal
+
+abbrev pub invariant-loop-seat : goal.invariant-loop-seat
+invariant-loop-seat l = record {
+  own : AreAllOf l.tree l.workers.items;
+  left : (k : ℕ) × AreSeats l.tree k l.seat-iterator.rest.items;
+  room : length l.workers.items + length l.seat-iterator.rest.items ≤ vec_capacity l.workers;
+  same : l.tree ≡ l.fn.self;
+}

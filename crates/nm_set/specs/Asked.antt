@@ -1,0 +1,134 @@
+-- What each call leaves of its member's worker: what the tree's call of the same name leaves, where the worker may be asked.
+use Rattle.std.specs.Prelude.{◌≡◌, ◌+◌, ◌*◌, ◌≤◌, ℕ, Bool, length, None, IsSome, Result, Ok, Err, IfOk, IfErr}
+use Rattle.nm_model.specs.declared.event.Event.TheVariants.{Leave}
+use Rattle.nm_model.specs.declared.event.Op.TheVariants.{Has, Insert, Delete}
+use Rattle.nm_model.specs.declared.reply.Reply.TheVariants.{Departed}
+use Rattle.nm_steps.specs.Steps.{IsSamePass, Stepped}
+use Rattle.nm_epoch.specs.declared.answers.Advance.{Advance}
+use Rattle.nm_epoch.specs.declared.answers.Behind.{Behind}
+use Rattle.nm_epoch.specs.declared.collecting.Collected.{Collected}
+use Rattle.nm_epoch.specs.Collecting.{IsCollection, HaveLost, ripe_of}
+use Rattle.nm_epoch.specs.Resting.{epochs}
+use Rattle.nm_epoch.specs.Scans.{IsAdvance}
+use Rattle.nm_epoch.specs.Watches.{IsBehind}
+use Rattle.nm_calls.specs.Bounds.{chain_bound}
+use Rattle.nm_calls.specs.Moments.{AnswerHasMoment}
+use Rattle.nm_tree.specs.declared.fault.Fault.{Fault as Lost}
+use Rattle.nm_tree.specs.declared.fault.PinFault.{PinFault as Unpinned}
+use Rattle.nm_tree.specs.Answers.{HasAnswered, HasInserted, HasDeleted, HasFinished, FinishHasMoment, InsertLacks, DeleteLacks, FinishLacks, HasPinned, KeepsPlace}
+use Rattle.nm_tree.specs.Workers.{Hand, IsBetweenCalls, KeepsOthers}
+use Rattle.nm_set.specs.declared.fault.Fault.{Fault}
+use Rattle.nm_set.specs.declared.fault.Fault.TheVariants as fault
+use Rattle.nm_set.specs.declared.fault.PinFault.{PinFault}
+use Rattle.nm_set.specs.declared.fault.PinFault.TheVariants as pinning
+use Rattle.nm_set.specs.declared.fault.NotHeld.{NotHeld}
+
+-- ---- what a tree's call leaves
+
+-- how much longer the log of a call may be
+abbrev pub HasBound : ℕ → ℕ → Hand → Hand → Type 0
+HasBound nodes tries w z = length z.pass.view.log ≤ length w.pass.view.log + tries * (4 * nodes + 8 * chain_bound) + 6 * nodes + 10
+
+pub record LeavesHas (nodes tries k : ℕ) (w z : Hand) (r : Result Bool Lost) : Type 0 where
+  pub same : IsSamePass w.pass z.pass
+  pub did : HasAnswered nodes tries k w z r
+  pub moment : IfOk r (AnswerHasMoment z.pass Has k)
+  pub steps : HasBound nodes tries w z
+  pub queues : z.queues ≡ w.queues
+  pub held : z.held ≡ None
+  pub fit : z.fit ≡ w.fit
+  pub between : IsBetweenCalls z
+
+pub record LeavesInsert (nodes tries k : ℕ) (w z : Hand) (r : Result Bool Lost) : Type 0 where
+  pub same : IsSamePass w.pass z.pass
+  pub did : HasInserted nodes tries k w z r
+  pub lacks : IfErr r (InsertLacks z)
+  pub moment : IfOk r (AnswerHasMoment z.pass Insert k)
+  pub steps : HasBound nodes tries w z
+  pub queues : KeepsOthers w.pass.view.number w.queues z.queues
+  pub held : z.held ≡ None
+  pub fit : z.fit ≡ w.fit
+  pub between : IsBetweenCalls z
+
+pub record LeavesDelete (nodes tries k : ℕ) (w z : Hand) (r : Result Bool Lost) : Type 0 where
+  pub same : IsSamePass w.pass z.pass
+  pub did : HasDeleted nodes tries k w z r
+  pub lacks : IfErr r (DeleteLacks nodes tries k w z)
+  pub moment : IfOk r (AnswerHasMoment z.pass Delete k)
+  pub steps : HasBound nodes tries w z
+  pub queues : KeepsOthers w.pass.view.number w.queues z.queues
+  pub held : z.held ≡ None
+  pub fit : z.fit ≡ w.fit
+  pub between : IsBetweenCalls z
+
+pub record LeavesFinish (nodes tries : ℕ) (w z : Hand) (r : Result Bool Lost) : Type 0 where
+  pub same : IsSamePass w.pass z.pass
+  pub did : HasFinished nodes tries w z r
+  pub lacks : IfErr r (FinishLacks nodes tries w z)
+  pub moment : FinishHasMoment w z r
+  pub steps : HasBound nodes tries w z
+  pub queues : KeepsOthers w.pass.view.number w.queues z.queues
+  pub held : z.held ≡ w.held
+  pub fit : z.fit ≡ w.fit
+  pub between : IsBetweenCalls z
+
+pub record LeavesPin (tries : ℕ) (w z : Hand) (r : Result ℕ Unpinned) : Type 0 where
+  pub same : IsSamePass w.pass z.pass
+  pub did : HasPinned tries w z r
+  pub queues : z.queues ≡ w.queues
+  pub steps : length z.pass.view.log ≤ length w.pass.view.log + (3 * tries + 1)
+  pub fit : z.fit ≡ w.fit
+  pub between : IsBetweenCalls z
+
+pub record LeavesUnpin (w z : Hand) : Type 0 where
+  pub step : Stepped w.pass z.pass Leave Departed
+  pub queues : z.queues ≡ w.queues
+  pub pending : z.pending ≡ None
+  pub held : z.held ≡ None
+  pub fit : z.fit ≡ w.fit
+  pub between : IsBetweenCalls z
+
+pub record LeavesAdvance (workers : ℕ) (w z : Hand) (a : Advance) : Type 0 where
+  pub same : IsSamePass w.pass z.pass
+  pub did : IsAdvance workers w.pass.view.number (epochs w.pass).pin w.pass.view.log z.pass.view.log a
+  pub place : KeepsPlace w z
+  pub queues : z.queues ≡ w.queues
+  pub steps : length z.pass.view.log ≤ length w.pass.view.log + workers + 1
+  pub fit : z.fit ≡ w.fit
+  pub between : IsBetweenCalls z
+
+pub record LeavesBehind (workers : ℕ) (w z : Hand) (b : Behind) : Type 0 where
+  pub same : IsSamePass w.pass z.pass
+  pub did : IsBehind workers w.pass.view.number (epochs w.pass).pin w.pass.view.log z.pass.view.log b
+  pub place : KeepsPlace w z
+  pub queues : z.queues ≡ w.queues
+  pub steps : length z.pass.view.log ≤ length w.pass.view.log + workers
+  pub fit : z.fit ≡ w.fit
+  pub between : IsBetweenCalls z
+
+pub record LeavesCollect (nodes : ℕ) (w z : Hand) (c : Collected) : Type 0 where
+  pub same : IsSamePass w.pass z.pass
+  pub did : IsCollection c.epoch w.queues w.pass.view.log z.pass.view.log
+  pub freed : c.freed ≡ length (ripe_of c.epoch w.queues)
+  pub lost : HaveLost c.epoch w.queues z.queues
+  pub place : KeepsPlace w z
+  pub steps : length z.pass.view.log ≤ length w.pass.view.log + nodes
+  pub fit : z.fit ≡ w.fit
+  pub between : IsBetweenCalls z
+
+-- ---- where the worker may be asked
+
+-- a worker that its caller holds is not asked, and nothing has changed; else the call leaves what the tree's does
+abbrev pub Asked : (Hand → Hand → Result Bool Lost → Type 0) → Hand → Hand → Result Bool Fault → Type 0
+Asked leaves w z (Ok b) = (w.held ≡ None) × leaves w z (Ok b)
+Asked leaves w z (Err (fault.Call f)) = (w.held ≡ None) × leaves w z (Err f)
+Asked leaves w z (Err fault.Held) = IsSome w.held × (z ≡ w)
+
+abbrev pub AskedToPin : ℕ → Hand → Hand → Result ℕ PinFault → Type 0
+AskedToPin tries w z (Ok e) = (w.held ≡ None) × LeavesPin tries w z (Ok e)
+AskedToPin tries w z (Err (pinning.Call f)) = (w.held ≡ None) × LeavesPin tries w z (Err f)
+AskedToPin tries w z (Err pinning.Held) = IsSome w.held × (z ≡ w)
+
+abbrev pub AskedToUnpin : Hand → Hand → Result (Unit {0}) NotHeld → Type 0
+AskedToUnpin w z (Ok _) = IsSome w.held × LeavesUnpin w z
+AskedToUnpin w z (Err _) = (w.held ≡ None) × (z ≡ w)

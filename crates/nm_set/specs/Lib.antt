@@ -1,0 +1,4 @@
+pub mod Seats
+pub mod Asked
+pub mod States
+pub mod Ends

@@ -1,0 +1,77 @@
+//! Why a call on a set or on one of its members was refused.
+use thiserror::Error;
+
+/// Why `has`, `insert` or `delete` has not answered.
+#[derive(Clone, Copy, Debug, Error, PartialEq, Eq)]
+pub enum Fault {
+    /// The caller holds the worker: it is pinned until `unpin`. Nothing has changed, and there was no step.
+    #[error("the worker is held")]
+    Held,
+    /// The tree's call has not answered.
+    #[error("{0}")]
+    Call(nm_tree::Fault),
+}
+
+/// Why a worker was not pinned.
+#[derive(Clone, Copy, Debug, Error, PartialEq, Eq)]
+pub enum PinFault {
+    /// The caller holds the worker already. Nothing has changed, and there was no step.
+    #[error("the worker is held")]
+    Held,
+    /// The tree's call has not pinned it.
+    #[error("{0}")]
+    Call(nm_tree::PinFault),
+}
+
+/// The caller does not hold the worker. Nothing has changed, and there was no step.
+#[derive(Clone, Copy, Debug, Error, PartialEq, Eq)]
+#[error("the worker is not held")]
+pub struct NotHeld;
+
+/// Why a member was not given out.
+#[derive(Clone, Copy, Debug, Error, PartialEq, Eq)]
+pub enum MemberFault {
+    /// The tree has fewer workers than that.
+    #[error("there is no worker of that number")]
+    Number,
+    /// Another member has that worker, or it has resigned.
+    #[error("the worker is taken")]
+    Away,
+    /// A close was refused behind the point where all workers were gathered: only `close` goes on.
+    #[error("the set is closing")]
+    Closing,
+    /// There are as many members as can be counted.
+    #[error("there are too many members")]
+    Uncounted,
+}
+
+/// Why a member may not take over a worker.
+#[derive(Clone, Copy, Debug, Error, PartialEq, Eq)]
+pub enum ResignReason {
+    /// The tree has fewer workers than that.
+    #[error("there is no worker of that number")]
+    Number,
+    /// A member has that worker, the heir itself or another, or it has resigned.
+    #[error("the worker is taken")]
+    Away,
+    /// The worker went home while it was held.
+    #[error("the leaver is held")]
+    Held,
+    /// The worker went home with a pending key.
+    #[error("the leaver has a pending key")]
+    Pending,
+}
+
+/// Why a set was not closed.
+#[derive(Clone, Copy, Debug, Error, PartialEq, Eq)]
+pub enum CloseReason {
+    /// A member is not closed yet, or is being closed at this moment.
+    #[error("a member is not closed")]
+    Away,
+    /// Fewer workers are at home than the tree has. Those that resigned count with their heirs.
+    #[error("{given} of {made} workers are at home")]
+    NotAll { given: u32, made: u32 },
+    /// A growth was refused.
+    #[error("there is no memory for the report")]
+    NoMemory,
+}

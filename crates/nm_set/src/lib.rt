@@ -1,0 +1,21 @@
+//! The set as values that own what they need, so that no call has a condition: a `Set` gives out its `Member`s, one for each worker, and each of
+//! them keeps the tree alive. A member that is closed goes home, and can be taken again, by any thread.
+//!
+//! What a caller of `nm_tree` has to show is known here of each member, by its type: that its worker is one of the tree's. What may be wrong while
+//! a program runs is told as a fault, before any step.
+#![tactic(auto)]
+
+mod fault;
+mod home;
+mod member;
+mod set;
+#[cfg(test)]
+mod tests;
+
+pub use fault::{CloseReason, Fault, MemberFault, NotHeld, PinFault, ResignReason};
+pub use member::{Member, ResignError};
+pub use nm_tree::{
+    Advance, Behind, Collected, Counts, Entry, Fault as CallFault, HeldQueue, NewError,
+    PinFault as CallPinFault, Report,
+};
+pub use set::{CloseError, Set};

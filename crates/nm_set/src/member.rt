@@ -1,0 +1,255 @@
+//! Members: a worker together with the tree on which it works.
+ghost use Rattle.std.specs.Prelude.{◌≡◌, option_map, IfOk, IfErr, IfSome, IfNone};
+ghost use Rattle.std.specs.Arc.{arc_value};
+ghost use Rattle.nm_steps.specs.Steps.{IsOf};
+ghost use Rattle.nm_epoch.specs.Collecting.{NoneHas};
+ghost use Rattle.nm_tree.specs.Resigning.{HasResigned};
+ghost use Rattle.nm_tree.specs.Workers.{Hand, IsLedger, waiting_in};
+ghost use Rattle.nm_tree.specs.declared.worker.Unfinished.{Unfinished as Delete};
+ghost use Rattle.nm_set.specs.Asked.{Asked, AskedToPin, AskedToUnpin, LeavesHas, LeavesInsert, LeavesDelete, LeavesFinish, LeavesAdvance, LeavesBehind, LeavesCollect};
+ghost use Rattle.nm_set.specs.Seats.{IsResident};
+
+use crate::fault::{Fault, NotHeld, PinFault, ResignReason};
+use crate::home::{Absence, Home};
+use nm_edge::Key;
+use nm_tree::{Advance, Behind, Collected, Counts, Worker};
+use std::alloc::Global;
+use std::marker::Model;
+use std::sync::Arc;
+
+/// One worker of a set. It may go to another thread between two calls, and the tree lives as long as it does. Dropped, it goes home as by `close`.
+pub struct Member {
+    home: Arc<Home, Global>,
+    worker: Worker,
+}
+
+impl Model for Member {
+    ghost use Rattle.std.specs.Arc.{arc_value};
+    ghost use Rattle.nm_steps.specs.Steps.{IsOf};
+    ghost use Rattle.nm_set.specs.Seats.{Seated};
+
+    ghost Value = { Seated };
+
+    ghost view = { λ m. record { board = arc_value m.home; hand = m.worker } };
+
+    ghost invariant = { λ m. IsOf (arc_value m.home) m.worker.pass };
+}
+
+/// A member has not taken over a worker. It is as it was.
+#[derive(Drop)]
+pub struct ResignError {
+    pub reason: ResignReason,
+    pub member: Member,
+}
+
+impl Member {
+    pub(crate) fn of(home: Arc<Home, Global>, worker: Worker) -> Member
+        requires own { IsOf (arc_value home) worker.pass }
+        ensures board { result.board ≡ (arc_value home) }
+        ensures hand { result.hand ≡ worker }
+    {
+        Member { home, worker }
+    }
+
+    /// The worker's number, below the number of workers.
+    pub fn number(&self) -> u32
+        ensures { result ≡ self.now.hand.pass.view.number }
+    {
+        self.worker.number()
+    }
+
+    /// Whether the set has the key: `Tree::has` of `nm_tree`.
+    ///
+    /// `Held`: the caller holds the worker. Other faults are the tree's.
+    pub fn has(&mut self, key: Key, tries: u32) -> Result<bool, Fault>
+        ensures board { self.new.board ≡ self.old.board }
+        ensures did { Asked (LeavesHas self.old.board.layout.nodes tries key) self.old.hand self.new.hand result }
+    {
+        if self.worker.held().is_some() {
+            return Err(Fault::Held);
+        }
+        match self.home.tree().has(&mut self.worker, key, tries) {
+            Ok(answer) => Ok(answer),
+            Err(fault) => Err(Fault::Call(fault)),
+        }
+    }
+
+    /// Inserts a key, and answers whether it was not in the set: `Tree::insert` of `nm_tree`.
+    ///
+    /// `Held`: the caller holds the worker. Other faults are the tree's.
+    pub fn insert(&mut self, key: Key, tries: u32) -> Result<bool, Fault>
+        ensures board { self.new.board ≡ self.old.board }
+        ensures did { Asked (LeavesInsert self.old.board.layout.nodes tries key) self.old.hand self.new.hand result }
+    {
+        if self.worker.held().is_some() {
+            return Err(Fault::Held);
+        }
+        match self.home.tree().insert(&mut self.worker, key, tries) {
+            Ok(answer) => Ok(answer),
+            Err(fault) => Err(Fault::Call(fault)),
+        }
+    }
+
+    /// Deletes a key, and answers whether it was in the set: `Tree::delete` of `nm_tree`.
+    ///
+    /// `Held`: the caller holds the worker. Other faults are the tree's; behind `Unfinished` the key is pending, and `finish` goes on.
+    pub fn delete(&mut self, key: Key, tries: u32) -> Result<bool, Fault>
+        ensures board { self.new.board ≡ self.old.board }
+        ensures did { Asked (LeavesDelete self.old.board.layout.nodes tries key) self.old.hand self.new.hand result }
+    {
+        if self.worker.held().is_some() {
+            return Err(Fault::Held);
+        }
+        match self.home.tree().delete(&mut self.worker, key, tries) {
+            Ok(answer) => Ok(answer),
+            Err(fault) => Err(Fault::Call(fault)),
+        }
+    }
+
+    /// Goes on with the delete that is pending: `Tree::finish` of `nm_tree`, with its faults. False with no step where none is pending.
+    pub fn finish(&mut self, tries: u32) -> Result<bool, nm_tree::Fault>
+        ensures board { self.new.board ≡ self.old.board }
+        ensures did { LeavesFinish self.old.board.layout.nodes tries self.old.hand self.new.hand result }
+    {
+        self.home.tree().finish(&mut self.worker, tries)
+    }
+
+    /// Pins the epoch for the caller, until `unpin`: `Tree::pin` of `nm_tree`. The epoch.
+    ///
+    /// `Held`: the caller holds the worker already. Other faults are the tree's.
+    pub fn pin(&mut self, tries: u32) -> Result<u64, PinFault>
+        ensures board { self.new.board ≡ self.old.board }
+        ensures did { AskedToPin tries self.old.hand self.new.hand result }
+    {
+        if self.worker.held().is_some() {
+            return Err(PinFault::Held);
+        }
+        match self.home.tree().pin(&mut self.worker, tries) {
+            Ok(epoch) => Ok(epoch),
+            Err(fault) => Err(PinFault::Call(fault)),
+        }
+    }
+
+    /// Ends the caller's pin: one step.
+    ///
+    /// `NotHeld`: the caller does not hold the worker. Nothing has changed, and there was no step.
+    pub fn unpin(&mut self) -> Result<(), NotHeld>
+        ensures board { self.new.board ≡ self.old.board }
+        ensures did { AskedToUnpin self.old.hand self.new.hand result }
+    {
+        if self.worker.held().is_none() {
+            return Err(NotHeld);
+        }
+        self.home.tree().unpin(&mut self.worker);
+        Ok(())
+    }
+
+    /// Moves the epoch on by one, if no worker holds it back: `Tree::advance` of `nm_tree`.
+    pub fn advance(&mut self) -> Advance
+        ensures board { self.new.board ≡ self.old.board }
+        ensures did { LeavesAdvance self.old.board.layout.workers self.old.hand self.new.hand result }
+    {
+        self.home.tree().advance(&mut self.worker)
+    }
+
+    /// Which workers hold the epoch back, this one included: `Tree::behind` of `nm_tree`.
+    pub fn behind(&mut self) -> Behind
+        ensures board { self.new.board ≡ self.old.board }
+        ensures did { LeavesBehind self.old.board.layout.workers self.old.hand self.new.hand result }
+    {
+        self.home.tree().behind(&mut self.worker)
+    }
+
+    /// Frees what is ripe at the front of each queue that the worker holds: `Tree::collect` of `nm_tree`.
+    pub fn collect(&mut self) -> Collected
+        ensures board { self.new.board ≡ self.old.board }
+        ensures did { LeavesCollect self.old.board.layout.nodes self.old.hand self.new.hand result }
+    {
+        self.home.tree().collect(&mut self.worker)
+    }
+
+    /// The key of a delete that has flagged its leaf and not answered yet; `finish` goes on with it.
+    pub fn pending(&self) -> Option<Key>
+        ensures { result ≡ option_map (λ (n : Delete). n.key) self.now.hand.pending }
+    {
+        self.worker.pending()
+    }
+
+    /// The epoch at which the worker is held, from a `pin` until its `unpin`.
+    pub fn held(&self) -> Option<u64>
+        ensures { result ≡ self.now.hand.held }
+    {
+        self.worker.held()
+    }
+
+    /// What this worker has won, and what became of what it cut off.
+    pub fn ledger(&self) -> Counts
+        ensures { IsLedger self.now.hand.pass.view self.now.hand.pass.view.number result }
+    {
+        self.worker.ledger()
+    }
+
+    /// How many nodes wait in the queues that the worker holds.
+    pub fn queue_len(&self) -> u64
+        ensures { result ≡ waiting_in self.now.hand.queues }
+    {
+        self.worker.queue_len()
+    }
+
+    /// The worker goes home, with all that it holds, is held at or has pending, and can be taken again by `Set::member`. Of its tree nothing changes.
+    pub fn close(self) {
+        let Member { home, worker } = self;
+        home.receive(worker);
+    }
+
+    /// A worker that is at home resigns to this one: `Tree::resign` of `nm_tree`. It never comes back; this one holds all that it held.
+    ///
+    /// Refused, nothing has changed, and the member is handed back as it was.
+    pub fn resign(self, leaver: u32) -> Result<Member, ResignError>
+        ensures done { IfOk result (λ m. (m.board ≡ self.board) × (w : Hand) × IsResident self.board leaver w × HasResigned self.hand w m.hand) }
+        ensures refused { IfErr result (λ e. e.member ≡ self) }
+    {
+        let Member { home, worker } = self;
+        let other = match home.take(leaver) {
+            Ok(other) => other,
+            Err(absence) => {
+                return Err(ResignError {
+                    reason: reason_of(absence),
+                    member: Member { home, worker },
+                });
+            }
+        };
+        match home.tree().resign(worker, other) {
+            Ok(heir) => Ok(Member::of(home, heir)),
+            Err(fault) => {
+                home.receive(fault.leaver);
+                Err(ResignError {
+                    reason: refusal_of(fault.reason),
+                    member: Member::of(home, fault.heir),
+                })
+            }
+        }
+    }
+}
+
+impl Drop for Member {
+    fn drop(self) {
+        self.close();
+    }
+}
+
+/// Why a worker that is not at home does not resign.
+fn reason_of(absence: Absence) -> ResignReason {
+    match absence {
+        Absence::Number => ResignReason::Number,
+        Absence::Away => ResignReason::Away,
+    }
+}
+
+/// The tree's reason.
+fn refusal_of(reason: nm_tree::ResignReason) -> ResignReason {
+    match reason {
+        nm_tree::ResignReason::Held => ResignReason::Held,
+        nm_tree::ResignReason::Pending => ResignReason::Pending,
+    }
+}

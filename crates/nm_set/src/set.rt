@@ -1,0 +1,200 @@
+//! Sets: a tree that gives out its workers as members, and is closed when all of them are at home.
+ghost use Rattle.std.specs.Prelude.{◌≡◌, ◌<◌, ◌≤◌, ◌↔◌, ◌⊎◌, true, false, length, IfOk, IfErr, IsErrOf};
+ghost use Rattle.std.specs.Arc.{arc_value};
+ghost use Rattle.nm_tree.specs.Workers.{AreNew};
+ghost use Rattle.nm_set.specs.Seats.{IsResident};
+ghost use Rattle.nm_set.specs.Ends.{EndsSet};
+
+use crate::fault::{CloseReason, MemberFault};
+use crate::home::{Absence, Home};
+use crate::member::Member;
+use nm_edge::{LEAST_NODES, MOST_NODES, MOST_WORKERS};
+use nm_tree::{NewError, Report, Tree, Worker};
+use std::alloc::Global;
+use std::marker::Model;
+use std::sync::Arc;
+
+/// A tree whose workers were gathered, by a close that was refused behind that.
+#[derive(Drop)]
+pub(crate) struct Gathered {
+    tree: Tree,
+    workers: Vec<Worker>,
+}
+
+impl Model for Gathered {
+    ghost use Rattle.nm_steps.specs.Steps.{Board};
+    ghost use Rattle.nm_tree.specs.Closing.{AreAllOf};
+
+    ghost Value = { Board };
+
+    ghost view = { λ g. g.tree };
+
+    ghost invariant = { λ g. AreAllOf g.tree g.workers.items };
+}
+
+/// Where a set stands.
+#[derive(Drop)]
+pub(crate) enum State {
+    Open(Arc<Home, Global>),
+    Closing(Gathered),
+}
+
+/// A set of keys, the whole numbers up to 2^64 - 4, which threads share by its members.
+#[derive(Drop)]
+pub struct Set {
+    state: State,
+}
+
+impl Model for Set {
+    ghost use Rattle.nm_set.specs.Seats.{Standing};
+
+    ghost Value = { Standing };
+
+    ghost use Rattle.nm_set.specs.States.{standing_of};
+
+    ghost view = { λ s. standing_of s.state };
+}
+
+/// A set was not closed. Behind `Away` it is as it was; behind the others its workers may have been gathered, so that only `close` goes on.
+#[derive(Drop)]
+pub struct CloseError {
+    pub reason: CloseReason,
+    pub set: Set,
+}
+
+impl Set {
+    /// The empty set, in a tree with room for `nodes` nodes, 7 to 1,048,576, for 1 to 64 workers; a new node takes the lowest free slot:
+    /// `Tree::new` of `nm_tree`.
+    ///
+    /// `NoMemory`: nothing is kept.
+    pub fn lowest(alloc: Global, nodes: u32, workers: u32) -> Result<Set, NewError>
+        ensures open { IfOk result (λ s. (s.closing ≡ false) × (s.board.layout ≡ record { nodes = nodes; workers = workers })) }
+        ensures nodes { IsErrOf result NewError.Nodes ↔ ((nodes < LEAST_NODES) ⊎ (MOST_NODES < nodes)) }
+        ensures workers { IsErrOf result NewError.Workers ↔ ((LEAST_NODES ≤ nodes) × (nodes ≤ MOST_NODES) × ((workers < 1) ⊎ (MOST_WORKERS < workers))) }
+    {
+        let (tree, workers) = Tree::new(alloc, nodes, workers)?;
+        settle(alloc, tree, workers)
+    }
+
+    /// The same, but each worker looks for a free slot near those that it took and gave back last: `Tree::near` of `nm_tree`.
+    pub fn near(alloc: Global, nodes: u32, workers: u32) -> Result<Set, NewError>
+        ensures open { IfOk result (λ s. (s.closing ≡ false) × (s.board.layout ≡ record { nodes = nodes; workers = workers })) }
+        ensures nodes { IsErrOf result NewError.Nodes ↔ ((nodes < LEAST_NODES) ⊎ (MOST_NODES < nodes)) }
+        ensures workers { IsErrOf result NewError.Workers ↔ ((LEAST_NODES ≤ nodes) × (nodes ≤ MOST_NODES) × ((workers < 1) ⊎ (MOST_WORKERS < workers))) }
+    {
+        let (tree, workers) = Tree::near(alloc, nodes, workers)?;
+        settle(alloc, tree, workers)
+    }
+
+    /// Gives out the worker of a number, with all that it held when it went home.
+    pub fn member(&self, number: u32) -> Result<Member, MemberFault>
+        ensures member { IfOk result (λ m. (m.board ≡ self.now.board) × IsResident self.now.board number m.hand) }
+        ensures number { IsErrOf result MemberFault.Number → self.now.board.layout.workers ≤ number }
+        ensures closing { IsErrOf result MemberFault.Closing ↔ (self.now.closing ≡ true) }
+    {
+        let home = match &self.state {
+            State::Open(home) => home,
+            State::Closing(_) => return Err(MemberFault::Closing),
+        };
+        let Ok(home) = Arc::try_clone(home) else {
+            return Err(MemberFault::Uncounted);
+        };
+        match home.take(number) {
+            Ok(worker) => Ok(Member::of(home, worker)),
+            Err(Absence::Number) => Err(MemberFault::Number),
+            Err(Absence::Away) => Err(MemberFault::Away),
+        }
+    }
+
+    /// Ends the set when all its members are at home, and tells what is left: `Tree::close` of `nm_tree`, over all workers. A worker may be held or
+    /// have a pending key.
+    ///
+    /// `Away`: a member is not closed. `NotAll`, `NoMemory`: see `CloseReason`; `close` can be called again.
+    pub fn close(self, alloc: Global) -> Result<Report, CloseError>
+        ensures closed { IfOk result (EndsSet self.board) }
+        ensures refused { IfErr result (λ e. e.set.board ≡ self.board) }
+    {
+        let Set { state } = self;
+        let gathered = match state {
+            State::Closing(gathered) => gathered,
+            State::Open(home) => match gather(alloc, home) {
+                Ok(gathered) => gathered,
+                Err(error) => return Err(error),
+            },
+        };
+        end(gathered)
+    }
+}
+
+/// A set of a new tree and all its workers.
+fn settle(alloc: Global, tree: Tree, workers: Vec<Worker>) -> Result<Set, NewError>
+    requires new { AreNew tree 0 workers.items }
+    requires all { length workers.items ≡ tree.layout.workers }
+    ensures set { IfOk result (λ s. (s.closing ≡ false) × (s.board ≡ tree)) }
+    ensures memory { IfErr result (λ e. e ≡ NewError.NoMemory) }
+{
+    let Ok(home) = Home::of(alloc, tree, workers) else {
+        return Err(NewError::NoMemory);
+    };
+    match Arc::new(alloc, home) {
+        Ok(home) => Ok(Set {
+            state: State::Open(home),
+        }),
+        Err(_) => Err(NewError::NoMemory),
+    }
+}
+
+/// Takes all workers from their seats, where no member has the home too.
+fn gather(alloc: Global, home: Arc<Home, Global>) -> Result<Gathered, CloseError>
+    ensures gathered { IfOk result (λ g. g ≡ arc_value home) }
+    ensures refused { IfErr result (λ e. (e.set.board ≡ arc_value home) × (e.set.closing ≡ false)) }
+{
+    let Ok(room) = Vec::with_capacity(alloc, home.workers()) else {
+        return Err(CloseError {
+            reason: CloseReason::NoMemory,
+            set: Set {
+                state: State::Open(home),
+            },
+        });
+    };
+    match Arc::try_unwrap(home) {
+        Ok(home) => {
+            let (tree, workers) = home.gather(room);
+            Ok(Gathered { tree, workers })
+        }
+        Err(home) => Err(CloseError {
+            reason: CloseReason::Away,
+            set: Set {
+                state: State::Open(home),
+            },
+        }),
+    }
+}
+
+/// Closes a tree whose workers were gathered.
+fn end(gathered: Gathered) -> Result<Report, CloseError>
+    ensures closed { IfOk result (EndsSet gathered) }
+    ensures refused { IfErr result (λ e. (e.set.board ≡ gathered) × (e.set.closing ≡ true)) }
+{
+    let Gathered { tree, workers } = gathered;
+    match tree.close(workers) {
+        Ok(report) => Ok(report),
+        Err(error) => Err(CloseError {
+            reason: reason_of(error.reason),
+            set: Set {
+                state: State::Closing(Gathered {
+                    tree: error.tree,
+                    workers: error.workers,
+                }),
+            },
+        }),
+    }
+}
+
+/// The tree's reason.
+fn reason_of(reason: nm_tree::CloseReason) -> CloseReason {
+    match reason {
+        nm_tree::CloseReason::NotAll { given, made } => CloseReason::NotAll { given, made },
+        nm_tree::CloseReason::NoMemory => CloseReason::NoMemory,
+    }
+}

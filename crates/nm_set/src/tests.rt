@@ -1,0 +1,202 @@
+//! Members in one thread, each answer compared, and two in threads of their own.
+use crate::{CloseReason, Fault, Member, MemberFault, NotHeld, PinFault, ResignReason, Set};
+use nm_edge::Key;
+use std::process::Abort;
+use std::test::Fail;
+use std::thread::{Threads, join};
+
+/// How many tries each call has.
+const TRIES: u32 = 100;
+
+/// A number as a key.
+fn key(rt: &impl Abort, number: u64) -> Key {
+    let Some(key) = Key::new(number) else {
+        panic!(rt; "{number} is no key")
+    };
+    key
+}
+
+/// Why a set was not closed, and the set.
+fn refused(rt: &(impl Abort + AllocGlobal), set: Set) -> (CloseReason, Set) {
+    match set.close(rt.alloc()) {
+        Ok(_) => panic!(rt; "the set was closed"),
+        Err(error) => (error.reason, error.set),
+    }
+}
+
+/// The keys of a set that is closed, and how many of its slots are free, reached or waiting.
+fn closed(rt: &(impl Abort + AllocGlobal), set: Set) -> (Vec<Key>, u64) {
+    let Ok(report) = set.close(rt.alloc()) else {
+        panic!(rt; "the set was not closed")
+    };
+    let mut slots = u64::from(report.free) + u64::from(report.reached);
+    for held in &report.queues {
+        slots = slots.saturating_add(u64::from(held.queue.len()));
+    }
+    (report.keys, slots)
+}
+
+#[test]
+fn a_member_answers_and_keeps_what_it_holds(rt: HostRuntime) -> Result<(), Fail> {
+    let set = Set::lowest(rt.alloc(), 64, 2)?;
+    let mut first = set.member(0)?;
+    let five = key(&rt, 5);
+    assert_eq!(rt; (first.number(), first.insert(five, TRIES)), (0, Ok(true)));
+    assert_eq!(rt;
+        (first.insert(five, TRIES), first.has(five, TRIES)),
+        (Ok(false), Ok(true))
+    );
+    assert_eq!(rt;
+        (first.delete(five, TRIES), first.delete(five, TRIES)),
+        (Ok(true), Ok(false))
+    );
+    assert_eq!(rt;
+        (first.has(five, TRIES), first.finish(TRIES)),
+        (Ok(false), Ok(false))
+    );
+    assert_eq!(rt;
+        (first.queue_len(), first.pending(), first.has(five, 0)),
+        (2, None, Err(Fault::Call(nm_tree::Fault::Busy)))
+    );
+    let ledger = first.ledger();
+    assert_eq!(rt;
+        (ledger.links, ledger.flags, ledger.retired, ledger.queued),
+        (1, 1, 2, 2)
+    );
+    first.close();
+    let mut again = set.member(0)?;
+    assert_eq!(rt; (again.queue_len(), again.ledger().retired), (2, 2));
+    let _ = again.advance();
+    let _ = again.advance();
+    assert_eq!(rt; (again.collect().freed, again.queue_len()), (2, 0));
+    Ok(())
+}
+
+#[test]
+fn a_held_member_is_not_asked(rt: HostRuntime) -> Result<(), Fail> {
+    let set = Set::near(rt.alloc(), 64, 2)?;
+    let mut first = set.member(0)?;
+    let mut second = set.member(1)?;
+    let five = key(&rt, 5);
+    assert_eq!(rt; first.unpin(), Err(NotHeld));
+    let epoch = first.pin(TRIES)?;
+    assert_eq!(rt;
+        (first.held(), first.pin(TRIES)),
+        (Some(epoch), Err(PinFault::Held))
+    );
+    assert_eq!(rt;
+        (first.has(five, TRIES), first.insert(five, TRIES)),
+        (Err(Fault::Held), Err(Fault::Held))
+    );
+    assert_eq!(rt;
+        (first.delete(five, TRIES), second.insert(five, TRIES)),
+        (Err(Fault::Held), Ok(true))
+    );
+    let _ = second.advance();
+    let _ = second.advance();
+    assert_eq!(rt; second.behind().mask, 1);
+    assert_eq!(rt;
+        (first.unpin(), first.held(), second.behind().mask),
+        (Ok(()), None, 0)
+    );
+    assert_eq!(rt; first.has(five, TRIES), Ok(true));
+    Ok(())
+}
+
+#[test]
+fn a_set_closes_when_all_are_at_home(rt: HostRuntime) -> Result<(), Fail> {
+    let set = Set::lowest(rt.alloc(), 64, 2)?;
+    let mut first = set.member(0)?;
+    let (again, none) = (set.member(0), set.member(2));
+    assert_eq!(rt;
+        (again.err(), none.err()),
+        (Some(MemberFault::Away), Some(MemberFault::Number))
+    );
+    for number in [7, 3, 9] {
+        assert_eq!(rt; first.insert(key(&rt, number), TRIES), Ok(true));
+    }
+    assert_eq!(rt; first.delete(key(&rt, 7), TRIES), Ok(true));
+    let (reason, set) = refused(&rt, set);
+    assert_eq!(rt; reason, CloseReason::Away);
+    assert_eq!(rt; first.has(key(&rt, 3), TRIES), Ok(true));
+    drop(first);
+    let (keys, slots) = closed(&rt, set);
+    assert_eq!(rt;
+        (keys.as_slice(), slots),
+        ([key(&rt, 3), key(&rt, 9)].as_slice(), 59)
+    );
+    Ok(())
+}
+
+#[test]
+fn a_worker_at_home_resigns_to_a_member(rt: HostRuntime) -> Result<(), Fail> {
+    let set = Set::lowest(rt.alloc(), 64, 2)?;
+    let mut leaver = set.member(1)?;
+    let five = key(&rt, 5);
+    assert_eq!(rt;
+        (leaver.insert(five, TRIES), leaver.delete(five, TRIES)),
+        (Ok(true), Ok(true))
+    );
+    let heir = set.member(0)?;
+    let (reason, heir) = stays(&rt, heir, 1);
+    assert_eq!(rt; reason, ResignReason::Away);
+    let (reason, heir) = stays(&rt, heir, 2);
+    assert_eq!(rt; reason, ResignReason::Number);
+    let _ = leaver.pin(TRIES)?;
+    leaver.close();
+    let (reason, heir) = stays(&rt, heir, 1);
+    assert_eq!(rt; reason, ResignReason::Held);
+    let mut leaver = set.member(1)?;
+    assert_eq!(rt; leaver.unpin(), Ok(()));
+    leaver.close();
+    let Ok(heir) = heir.resign(1) else {
+        panic!(rt; "the worker has not resigned")
+    };
+    assert_eq!(rt;
+        (heir.queue_len(), set.member(1).err()),
+        (2, Some(MemberFault::Away))
+    );
+    heir.close();
+    assert_eq!(rt; closed(&rt, set).1, 59);
+    Ok(())
+}
+
+/// Why a worker has not resigned, and the member that was to be its heir.
+fn stays(rt: &impl Abort, heir: Member, leaver: u32) -> (ResignReason, Member) {
+    match heir.resign(leaver) {
+        Ok(_) => panic!(rt; "worker {leaver} has resigned"),
+        Err(error) => (error.reason, error.member),
+    }
+}
+
+/// Inserts so many keys, each a step of two behind the other, and deletes every fourth. How many answers were true.
+fn works(mut member: Member, from: u64, keys: u64) -> u64 {
+    let mut done = 0u64;
+    for turn in 0..keys {
+        let Some(key) = Key::new(from.saturating_add(turn.saturating_mul(2))) else {
+            return done;
+        };
+        done = done.saturating_add(u64::from(member.insert(key, TRIES) == Ok(true)));
+        if turn % 4 == 0 {
+            done = done.saturating_add(u64::from(member.delete(key, TRIES) == Ok(true)));
+        }
+        let _ = member.advance();
+        let _ = member.collect();
+    }
+    done
+}
+
+/// Both members at once, each in a thread of its own.
+fn by_two<R: Threads + Sync>(rt: &R, one: Member, two: Member) -> (u64, u64) {
+    join(rt, move || works(one, 0, 400), move || works(two, 1, 400))
+}
+
+#[test]
+fn two_threads_fill_a_set(rt: HostRuntime) -> Result<(), Fail> {
+    let set = Set::near(rt.alloc(), 8192, 2)?;
+    let (one, two) = by_two(&rt, set.member(0)?, set.member(1)?);
+    assert_eq!(rt; (one, two), (500, 500));
+    let (keys, slots) = closed(&rt, set);
+    assert_eq!(rt; (keys.len(), slots), (600, 8187));
+    Ok(())
+}
