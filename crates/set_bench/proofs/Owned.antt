@@ -1,6 +1,6 @@
 -- Workers that are ready are all of their tree.
-use Rattle.std.proofs.Common.{zero, suc, ◌≡◌, ℕ, ◌<◌, All, List, [], ◌∷◌, length, arith}
-use Rattle.nm_steps.specs.Steps.{Board, IsOf}
+use Rattle.std.proofs.Common.{suc, All, List, [], ◌∷◌, arith}
+use Rattle.nm_steps.specs.Steps.{Board}
 use Rattle.nm_tree.specs.Closing.{AreAllOf}
 use Rattle.nm_tree.specs.Plays.{IsReady}
 use Rattle.nm_tree.specs.Workers.{Hand}

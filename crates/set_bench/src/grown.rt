@@ -1,9 +1,13 @@
 //! A tree with all its workers, from its filling to its end.
+ghost use Rattle.std.specs.Prelude.{All, IfOk};
+ghost use Rattle.nm_tree.specs.Plays.{IsReady};
+
+use crate::habits::Habits;
 use crate::load::Load;
-use crate::trees::{Totals, WORKERS, fill_all, play_all};
+use crate::trees::{Totals, fill_all, play_all};
 use anyhow::{Context, Result, ensure};
 use nm_tree::{Report, Tree, Worker};
-use std::alloc::Global;
+use std::alloc::{AllocError, Global};
 use std::marker::Model;
 use std::mem;
 use std::thread::Threads;
@@ -15,11 +19,13 @@ pub struct Sizes {
     pub keys: u64,
 }
 
-/// A tree, its workers, and what they have changed in it.
+/// A tree, the workers of the threads, those that no thread has, and what was changed in it.
 #[derive(Drop)]
 pub struct Grown {
     tree: Tree,
     workers: Vec<Worker>,
+    others: Vec<Worker>,
+    habits: Habits,
     totals: Totals,
 }
 
@@ -31,7 +37,31 @@ impl Model for Grown {
 
     ghost view = { λ g. tt };
 
-    ghost invariant = { λ g. All (λ w. IsReady g.tree w) g.workers.items };
+    ghost invariant = { λ g. All (λ w. IsReady g.tree w) g.workers.items × All (λ w. IsReady g.tree w) g.others.items };
+}
+
+/// The workers of a tree, those of the threads and those that no thread has.
+struct Crew {
+    workers: Vec<Worker>,
+    others: Vec<Worker>,
+}
+
+/// Parts the workers of a tree.
+fn parted(alloc: Global, tree: &Tree, all: Vec<Worker>, habits: Habits) -> Result<Crew, AllocError>
+    requires { All (λ w. IsReady tree.now w) all.items }
+    ensures threads { IfOk result (λ p. All (λ w. IsReady tree.now w) p.workers.items) }
+    ensures others { IfOk result (λ p. All (λ w. IsReady tree.now w) p.others.items) }
+{
+    let mut workers = Vec::new(alloc);
+    let mut others = Vec::new(alloc);
+    for worker in all {
+        if habits.has_thread(&worker) {
+            workers.push(worker)?;
+        } else {
+            others.push(worker)?;
+        }
+    }
+    Ok(Crew { workers, others })
 }
 
 /// How many nodes wait.
@@ -44,45 +74,59 @@ fn waiting(report: &Report) -> u64 {
 }
 
 impl Grown {
-    /// An empty tree whose workers claim the lowest free slot.
-    pub fn lowest(alloc: Global, nodes: u32) -> Result<Grown> {
-        let (tree, workers) = Tree::new(alloc, nodes, WORKERS)?;
+    /// An empty tree with its workers.
+    fn of(alloc: Global, tree: Tree, workers: Vec<Worker>, habits: Habits) -> Result<Grown>
+        requires { All (λ w. IsReady tree w) workers.items }
+    {
+        let Crew { workers, others } = parted(alloc, &tree, workers, habits)?;
         Ok(Grown {
             tree,
             workers,
+            others,
+            habits,
             totals: Totals::none(),
         })
     }
 
+    /// An empty tree whose workers claim the lowest free slot.
+    pub fn lowest(alloc: Global, nodes: u32, habits: Habits) -> Result<Grown> {
+        let (tree, workers) = Tree::new(alloc, nodes, habits.workers())?;
+        Grown::of(alloc, tree, workers, habits)
+    }
+
     /// An empty tree whose workers claim near by.
-    pub fn near(alloc: Global, nodes: u32) -> Result<Grown> {
-        let (tree, workers) = Tree::near(alloc, nodes, WORKERS)?;
-        Ok(Grown {
-            tree,
-            workers,
-            totals: Totals::none(),
-        })
+    pub fn near(alloc: Global, nodes: u32, habits: Habits) -> Result<Grown> {
+        let (tree, workers) = Tree::near(alloc, nodes, habits.workers())?;
+        Grown::of(alloc, tree, workers, habits)
     }
 
     /// Inserts the first so many keys, each worker its share of them in a thread of its own.
     pub fn fill<R: Threads + Sync>(&mut self, rt: &R, alloc: Global, keys: u64) -> Result<()> {
         let workers = mem::replace(&mut self.workers, Vec::new(alloc));
-        self.workers = fill_all(rt, &self.tree, workers, keys, &self.totals)?;
+        self.workers = fill_all(rt, &self.tree, workers, self.habits, keys, &self.totals)?;
         Ok(())
     }
 
     /// Plays a load, each worker that takes part in a thread of its own. An error: the workers are lost.
     pub fn play<R: Threads + Sync>(&mut self, rt: &R, alloc: Global, load: Load) -> Result<()> {
         let workers = mem::replace(&mut self.workers, Vec::new(alloc));
-        self.workers = play_all(rt, &self.tree, workers, load, &self.totals)?;
+        self.workers = play_all(rt, &self.tree, workers, self.habits, load, &self.totals)?;
         Ok(())
     }
 
     /// Closes the tree, and prints what was changed and what is left. An error where keys or slots do not add up.
     pub fn close(self, rt: &impl Print, name: &str, nodes: u32) -> Result<()> {
-        let report = self.tree.close(self.workers).ok().context("a report")?;
-        let inserted = self.totals.inserted.into_inner();
-        let deleted = self.totals.deleted.into_inner();
+        let Grown {
+            tree,
+            mut workers,
+            mut others,
+            totals,
+            ..
+        } = self;
+        workers.append(&mut others)?;
+        let report = tree.close(workers).ok().context("a report")?;
+        let inserted = totals.inserted.into_inner();
+        let deleted = totals.deleted.into_inner();
         let left = report.keys.len() as u64;
         let taken = u64::from(report.reached).wrapping_add(waiting(&report));
         let slots = taken.wrapping_add(u64::from(report.free));

@@ -1,23 +1,27 @@
 //! Times mixed calls on two trees, one that claims the lowest free slot and one that claims near by, beside those on a `BTreeSet` behind a `Mutex`;
 //! and shows at the end that what each tree was told to keep is there.
 //!
-//! The arguments are how many rounds there are, how many keys the sets have at first, how many nodes the trees have room for, and then the parts of a
-//! round, each by how many of 100 calls are look-ups, how many threads there are, how many calls each makes, and how many it makes on the tree that
-//! claims the lowest slot, which may be fewer. Keys are drawn from twice as many as the sets have at first, so that about half of them are
-//! found. Standard output has what was changed and what is left, standard error the times in microseconds.
+//! The arguments are how many rounds there are, how many keys the sets have at first, how many nodes the trees have room for, how far apart the
+//! numbers of the threads' workers are (1 to 21), after how many of its calls a thread moves the epoch on and frees what is ripe (at least 1), and
+//! then the parts of a round, each by how many of 100 calls are look-ups, how many threads there are (at most 4), how many calls each makes, and how
+//! many it makes on the tree that claims the lowest slot, which may be fewer. Keys are drawn from twice as many as the sets have at first, so that
+//! about half of them are found. Standard output has what was changed and what is left, standard error the times in microseconds.
 #![tactic(auto)]
 
 mod grown;
+mod habits;
 mod load;
 mod locked;
 mod trees;
 
 use crate::grown::{Grown, Sizes};
+use crate::habits::{Habits, THREADS};
 use crate::load::Load;
 use crate::locked::Locked;
-use anyhow::{Context, Result, bail};
+use anyhow::{Context, Result, bail, ensure};
 use std::alloc::{AllocGlobal, Global};
 use std::env;
+use std::num::{NonZeroU32, NonZeroU64};
 use std::sync::Wait;
 use std::thread::Threads;
 use std::time::{Clock, Duration, Instant};
@@ -92,10 +96,10 @@ fn race<R: Threads + Wait + Sync + AllocGlobal + Clock + Eprint>(
 }
 
 /// The three sets, filled.
-fn open<R: Threads + Sync>(rt: &R, alloc: Global, sizes: Sizes) -> Result<Sets> {
-    let mut lowest = Grown::lowest(alloc, sizes.nodes)?;
+fn open<R: Threads + Sync>(rt: &R, alloc: Global, sizes: Sizes, habits: Habits) -> Result<Sets> {
+    let mut lowest = Grown::lowest(alloc, sizes.nodes, habits)?;
     lowest.fill(rt, alloc, sizes.keys)?;
-    let mut near = Grown::near(alloc, sizes.nodes)?;
+    let mut near = Grown::near(alloc, sizes.nodes, habits)?;
     near.fill(rt, alloc, sizes.keys)?;
     let locked = locked::filled(alloc, sizes.keys)?;
     Ok(Sets {
@@ -109,10 +113,11 @@ fn open<R: Threads + Sync>(rt: &R, alloc: Global, sizes: Sizes) -> Result<Sets> 
 fn compare<R: Threads + Wait + Sync + AllocGlobal + Clock + Print + Eprint>(
     rt: &R,
     sizes: Sizes,
+    habits: Habits,
     parts: &[Part],
     rounds: u64,
 ) -> Result<()> {
-    let mut sets = open(rt, rt.alloc(), sizes)?;
+    let mut sets = open(rt, rt.alloc(), sizes, habits)?;
     for _ in 0..rounds {
         race(rt, &mut sets, parts)?;
     }
@@ -129,6 +134,15 @@ fn numbers(rt: &HostRuntime) -> Result<Vec<u64>> {
     Ok(numbers)
 }
 
+/// The habits that two numbers name.
+fn habits_of(apart: u64, tend: u64) -> Result<Habits> {
+    let apart = u32::try_from(apart).context("a distance of workers")?;
+    Ok(Habits {
+        apart: NonZeroU32::new(apart).context("a distance of workers that is not 0")?,
+        tend: NonZeroU64::new(tend).context("a number of calls that is not 0")?,
+    })
+}
+
 /// The part that four numbers name.
 fn part_of(lookups: u64, threads: u64, calls: u64, lowest_calls: u64, keys: u64) -> Result<Part> {
     let load = Load {
@@ -137,6 +151,7 @@ fn part_of(lookups: u64, threads: u64, calls: u64, lowest_calls: u64, keys: u64)
         calls,
         keys,
     };
+    ensure!(load.threads <= THREADS, "there are too many threads");
     Ok(Part { load, lowest_calls })
 }
 
@@ -153,13 +168,14 @@ fn parts_of(alloc: Global, numbers: &[u64], keys: u64) -> Result<Vec<Part>> {
 
 fn main(rt: HostRuntime) -> Result<()> {
     let numbers = numbers(&rt)?;
-    let [rounds, keys, nodes, rest @ ..] = numbers.as_slice() else {
-        bail!("the numbers of rounds, keys and nodes are wanted");
+    let [rounds, keys, nodes, apart, tend, rest @ ..] = numbers.as_slice() else {
+        bail!("the numbers of rounds, keys and nodes and the habits are wanted");
     };
     let sizes = Sizes {
         nodes: u32::try_from(*nodes).context("a number of nodes")?,
         keys: *keys,
     };
+    let habits = habits_of(*apart, *tend)?;
     let parts = parts_of(rt.alloc(), rest, keys.saturating_mul(2))?;
-    compare(&rt, sizes, parts.as_slice(), *rounds)
+    compare(&rt, sizes, habits, parts.as_slice(), *rounds)
 }

@@ -2,22 +2,17 @@
 ghost use Rattle.std.specs.Prelude.{All, IfOk};
 ghost use Rattle.nm_tree.specs.Plays.{IsReady};
 
+use crate::habits::{Habits, THREADS};
 use crate::load::{Call, Change, Changes, Load, key_of};
 use nm_tree::{Fault, Tree, Worker};
 use std::alloc::AllocError;
 use std::sync::atomic::{AtomicU64, Ordering};
 use std::thread::{self, Threads};
 
-/// How many workers a tree has.
-pub const WORKERS: u32 = 4;
-
 const TRIES: u32 = 100;
 
 /// Into so many shares the keys are parted that the sets have at first.
-const SHARES: u64 = WORKERS as u64;
-
-/// After so many calls a thread moves the epoch on, and frees what is ripe.
-const CALLS_TO_COLLECT: u64 = 64;
+const SHARES: u64 = THREADS as u64;
 
 /// What all threads have changed in a tree.
 #[derive(Drop)]
@@ -42,13 +37,14 @@ impl Totals {
 }
 
 /// Inserts a worker's share of the first so many keys.
-fn fill(tree: &Tree, mut worker: Worker, keys: u64, totals: &Totals) -> Worker
+fn fill(tree: &Tree, mut worker: Worker, habits: Habits, keys: u64, totals: &Totals) -> Worker
     requires { IsReady tree.now worker }
     ensures { IsReady tree.now result }
 {
+    let thread = u64::from(habits.thread(&worker));
     let mut changes = Changes::none();
     for number in 0..keys {
-        if number % SHARES != u64::from(worker.number()) {
+        if number % SHARES != thread {
             continue;
         }
         let Some(key) = key_of(number) else {
@@ -65,6 +61,7 @@ pub fn fill_all<R: Threads + Sync>(
     rt: &R,
     tree: &Tree,
     workers: Vec<Worker>,
+    habits: Habits,
     keys: u64,
     totals: &Totals,
 ) -> Result<Vec<Worker>, AllocError>
@@ -74,7 +71,7 @@ pub fn fill_all<R: Threads + Sync>(
     let one = |worker: Worker| -> Worker
         requires { IsReady tree.now worker }
         ensures { IsReady tree.entry.now result }
-    { fill(tree, worker, keys, totals) };
+    { fill(tree, worker, habits, keys, totals) };
     thread::map_vec(rt, workers, &one)
 }
 
@@ -120,17 +117,17 @@ fn finish(tree: &Tree, worker: &mut Worker) -> Change
 }
 
 /// One thread's calls.
-fn play(tree: &Tree, worker: &mut Worker, load: Load) -> Changes
+fn play(tree: &Tree, worker: &mut Worker, habits: Habits, load: Load) -> Changes
     requires { IsReady tree.now worker.old }
     ensures { IsReady tree.now worker.new }
 {
-    let thread = worker.number();
+    let thread = habits.thread(worker);
     let mut changes = Changes::none();
     for turn in 0..load.calls {
         if let Some(call) = load.call(thread, turn) {
             changes = changes.with(make(tree, worker, call));
         }
-        if turn % CALLS_TO_COLLECT == 0 && load.lookups < 100 {
+        if turn % habits.tend == 0 && load.lookups < 100 {
             tend(tree, worker);
         }
     }
@@ -138,12 +135,12 @@ fn play(tree: &Tree, worker: &mut Worker, load: Load) -> Changes
 }
 
 /// One worker's calls, none where the load has fewer threads.
-fn take_part(tree: &Tree, mut worker: Worker, load: Load, totals: &Totals) -> Worker
+fn take_part(tree: &Tree, mut worker: Worker, habits: Habits, load: Load, totals: &Totals) -> Worker
     requires { IsReady tree.now worker }
     ensures { IsReady tree.now result }
 {
-    if worker.number() < load.threads {
-        let changes = play(tree, &mut worker, load);
+    if habits.thread(&worker) < load.threads {
+        let changes = play(tree, &mut worker, habits, load);
         totals.add(changes);
     }
     worker
@@ -154,6 +151,7 @@ pub fn play_all<R: Threads + Sync>(
     rt: &R,
     tree: &Tree,
     workers: Vec<Worker>,
+    habits: Habits,
     load: Load,
     totals: &Totals,
 ) -> Result<Vec<Worker>, AllocError>
@@ -163,6 +161,6 @@ pub fn play_all<R: Threads + Sync>(
     let one = |worker: Worker| -> Worker
         requires { IsReady tree.now worker }
         ensures { IsReady tree.entry.now result }
-    { take_part(tree, worker, load, totals) };
+    { take_part(tree, worker, habits, load, totals) };
     thread::map_vec(rt, workers, &one)
 }
