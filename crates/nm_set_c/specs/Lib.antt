@@ -1,0 +1,7 @@
+-- What handles own, and what calls with them tell.
+pub mod Handles
+pub mod Outcomes
+pub mod Owners
+pub mod Sets
+pub mod Workers
+pub mod Reports

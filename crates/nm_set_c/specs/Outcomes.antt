@@ -1,0 +1,94 @@
+-- What calls tell C.
+use Rattle.std.specs.Prelude.{◌≡◌, ℤ, pos, negsuc, Bool, true, false, Result, Ok, Err}
+use Rattle.nm_tree.specs.declared.fault.Fault.{Fault as Lost}
+use Rattle.nm_tree.specs.declared.fault.Fault.TheVariants as lost
+use Rattle.nm_model.specs.declared.new_error.NewError.{NewError}
+use Rattle.nm_model.specs.declared.new_error.NewError.TheVariants as making
+use Rattle.nm_set.specs.declared.fault.Fault.{Fault}
+use Rattle.nm_set.specs.declared.fault.Fault.TheVariants as fault
+use Rattle.nm_set.specs.declared.fault.MemberFault.{MemberFault}
+use Rattle.nm_set.specs.declared.fault.MemberFault.TheVariants as taking
+use Rattle.nm_set.specs.declared.fault.ResignReason.{ResignReason}
+use Rattle.nm_set.specs.declared.fault.ResignReason.TheVariants as staying
+use Rattle.nm_set.specs.declared.fault.CloseReason.{CloseReason}
+use Rattle.nm_set.specs.declared.fault.CloseReason.TheVariants as because
+use Rattle.nm_set_c.specs.declared.outcome.Outcome.{Outcome}
+use Rattle.nm_set_c.specs.declared.outcome.Outcome.TheVariants as outcome
+
+-- the number of an outcome in the header
+unfoldable pub code_of : Outcome → ℤ
+code_of outcome.No = pos 0
+code_of outcome.Yes = pos 1
+code_of outcome.Done = pos 2
+code_of outcome.Closed = negsuc 0
+code_of outcome.Open = negsuc 1
+code_of outcome.Kind = negsuc 2
+code_of outcome.Key = negsuc 3
+code_of outcome.Number = negsuc 4
+code_of outcome.Nodes = negsuc 5
+code_of outcome.Workers = negsuc 6
+code_of outcome.NoMemory = negsuc 7
+code_of outcome.Busy = negsuc 8
+code_of outcome.Full = negsuc 9
+code_of outcome.Unfinished = negsuc 10
+code_of outcome.Pending = negsuc 11
+code_of outcome.Held = negsuc 12
+code_of outcome.NotHeld = negsuc 13
+code_of outcome.Behind = negsuc 14
+code_of outcome.Lost = negsuc 15
+code_of outcome.Spent = negsuc 16
+code_of outcome.Away = negsuc 17
+code_of outcome.Closing = negsuc 18
+code_of outcome.NotAll = negsuc 19
+code_of outcome.Uncounted = negsuc 20
+
+-- a number that tells an outcome of which this holds
+abbrev pub Tells : (Outcome → Type 0) → ℤ → Type 0
+Tells P n = (o : Outcome) × (n ≡ code_of o) × P o
+
+-- ---- what the calls of a set and its workers answer, as outcomes
+
+abbrev pub of_bool : Bool → Outcome
+of_bool true = outcome.Yes
+of_bool false = outcome.No
+
+abbrev pub of_lost : Lost → Outcome
+of_lost lost.Busy = outcome.Busy
+of_lost lost.Full = outcome.Full
+of_lost lost.NoMemory = outcome.NoMemory
+of_lost lost.Unfinished = outcome.Unfinished
+of_lost lost.Pending = outcome.Pending
+
+abbrev pub of_fault : Fault → Outcome
+of_fault fault.Held = outcome.Held
+of_fault (fault.Call f) = of_lost f
+
+abbrev pub of_answer : Result Bool Fault → Outcome
+of_answer (Ok b) = of_bool b
+of_answer (Err f) = of_fault f
+
+abbrev pub of_finish : Result Bool Lost → Outcome
+of_finish (Ok b) = of_bool b
+of_finish (Err f) = of_lost f
+
+abbrev pub of_new : NewError → Outcome
+of_new making.Nodes = outcome.Nodes
+of_new making.Workers = outcome.Workers
+of_new making.NoMemory = outcome.NoMemory
+
+abbrev pub of_taking : MemberFault → Outcome
+of_taking taking.Number = outcome.Number
+of_taking taking.Away = outcome.Away
+of_taking taking.Closing = outcome.Closing
+of_taking taking.Uncounted = outcome.Uncounted
+
+abbrev pub of_staying : ResignReason → Outcome
+of_staying staying.Number = outcome.Number
+of_staying staying.Away = outcome.Away
+of_staying staying.Held = outcome.Held
+of_staying staying.Pending = outcome.Pending
+
+abbrev pub of_reason : CloseReason → Outcome
+of_reason because.Away = outcome.Away
+of_reason (because.NotAll given made) = outcome.NotAll
+of_reason because.NoMemory = outcome.NoMemory

@@ -1,0 +1,65 @@
+-- What calls on a report tell and leave: r is the report before the call, q the one after it, and o the outcome that is told.
+use Rattle.std.specs.Prelude.{◌≡◌, ◌≢◌, ◌⊎◌, ℕ, length, [], ◌∷◌, Option, Some, None, slice_get}
+use Rattle.nm_epoch.specs.declared.collecting.Entry.{Entry}
+use Rattle.nm_epoch.specs.declared.collecting.HeldQueue.{HeldQueue}
+use Rattle.nm_tree.specs.declared.closing.Report.{Report}
+use Rattle.nm_set_c.specs.declared.outcome.Outcome.{Outcome}
+use Rattle.nm_set_c.specs.declared.outcome.Outcome.TheVariants as outcome
+use Rattle.nm_set_c.specs.declared.reports.Waiting.{Waiting}
+
+-- how many slots are free, and how many reached
+pub record TellsSlots (free reached : ℕ) (r q : Report) (o : Outcome) : Type 0 where
+  pub told : o ≡ outcome.Done
+  pub free_told : free ≡ r.free
+  pub reached_told : reached ≡ r.reached
+  pub same : q ≡ r
+
+-- how many keys there are
+pub record TellsKeys (count : ℕ) (r q : Report) (o : Outcome) : Type 0 where
+  pub told : o ≡ outcome.Done
+  pub count_told : count ≡ length r.keys.items
+  pub same : q ≡ r
+
+-- what stands at an index is written; or there is nothing, and nothing is written
+abbrev pub IsFound : Option ℕ → ℕ → ℕ → Outcome → Type 0
+IsFound None old new o = (o ≡ outcome.Number) × (new ≡ old)
+IsFound (Some k) old new o = (o ≡ outcome.Done) × (new ≡ k)
+
+pub record TellsKey (index old key : ℕ) (r q : Report) (o : Outcome) : Type 0 where
+  pub found : IsFound (slice_get r.keys.items index) old key o
+  pub same : q ≡ r
+
+-- how many nodes of a queue wait
+abbrev pub IsCounted : Option HeldQueue → ℕ → ℕ → Outcome → Type 0
+IsCounted None old new o = (o ≡ outcome.Number) × (new ≡ old)
+IsCounted (Some h) old new o = (o ≡ outcome.Done) × (new ≡ length h.queue.items)
+
+pub record TellsQueue (worker old count : ℕ) (r q : Report) (o : Outcome) : Type 0 where
+  pub counted : IsCounted (slice_get r.queues.items worker) old count o
+  pub same : q ≡ r
+
+-- ---- a node taken out
+
+-- it is this one
+pub record IsEntry (w : Waiting) (e : Entry) : Type 0 where
+  pub slot : w.slot ≡ e.node.slot
+  pub birth : w.birth ≡ e.node.birth
+  pub label : w.label ≡ e.label
+
+-- a report with another queue at that index, or at none
+pub record HasQueue (worker : ℕ) (h : HeldQueue) (r q : Report) : Type 0 where
+  pub here : slice_get q.queues.items worker ≡ Some h
+  pub others : (i : ℕ) → i ≢ worker → slice_get q.queues.items i ≡ slice_get r.queues.items i
+  pub keys : q.keys ≡ r.keys
+  pub free : q.free ≡ r.free
+  pub reached : q.reached ≡ r.reached
+
+-- the oldest node of the queue, which is left without it; no, where none waits; or there is no such queue
+abbrev pub IsTakenOut : Option HeldQueue → ℕ → Waiting → Waiting → Report → Report → Outcome → Type 0
+IsTakenOut None worker old new r q o = (o ≡ outcome.Number) × (new ≡ old) × (q ≡ r)
+IsTakenOut (Some h) worker old new r q o =
+    ((o ≡ outcome.No) × (h.queue.items ≡ []) × (new ≡ old) × HasQueue worker h r q)
+    ⊎ ((o ≡ outcome.Yes) × (e : Entry) × (g : HeldQueue) × (h.queue.items ≡ e ∷ g.queue.items) × (g.origin ≡ h.origin) × IsEntry new e × HasQueue worker g r q)
+
+abbrev pub TakesOldest : ℕ → Waiting → Waiting → Report → Report → Outcome → Type 0
+TakesOldest worker old new r q o = IsTakenOut (slice_get r.queues.items worker) worker old new r q o

@@ -1,0 +1,154 @@
+-- What calls on a worker tell and leave: m is the worker before the call, n the worker after it, and o the outcome that is told.
+use Rattle.std.specs.Prelude.{◌≡◌, ◌⊎◌, ℕ, Bool, option_map, Option, Some, None, Result, Ok, Err}
+use Rattle.nm_edge.specs.Keys.{IsKey}
+use Rattle.nm_epoch.specs.declared.answers.Advance.{Advance}
+use Rattle.nm_epoch.specs.declared.answers.Advance.TheVariants as advance
+use Rattle.nm_tree.specs.declared.fault.Fault.{Fault as Lost}
+use Rattle.nm_tree.specs.declared.fault.PinFault.TheVariants as unpinned
+use Rattle.nm_tree.specs.declared.worker.Counts.{Counts}
+use Rattle.nm_tree.specs.declared.worker.Unfinished.{Unfinished}
+use Rattle.nm_tree.specs.Resigning.{HasResigned}
+use Rattle.nm_tree.specs.Workers.{Hand, IsLedger}
+use Rattle.nm_set.specs.Asked.{Asked, AskedToPin, AskedToUnpin, LeavesHas, LeavesInsert, LeavesDelete, LeavesFinish, LeavesAdvance, LeavesBehind, LeavesCollect}
+use Rattle.nm_set.specs.declared.fault.Fault.{Fault}
+use Rattle.nm_set.specs.declared.fault.NotHeld.{NotHeld}
+use Rattle.nm_set.specs.declared.fault.PinFault.{PinFault}
+use Rattle.nm_set.specs.declared.fault.PinFault.TheVariants as pinning
+use Rattle.nm_set.specs.declared.fault.ResignReason.{ResignReason}
+use Rattle.nm_set.specs.Seats.{Seated, IsResident}
+use Rattle.nm_set_c.specs.Outcomes.{of_answer, of_finish, of_staying}
+use Rattle.nm_set_c.specs.declared.outcome.Outcome.{Outcome}
+use Rattle.nm_set_c.specs.declared.outcome.Outcome.TheVariants as outcome
+use Rattle.nm_set_c.specs.declared.workers.Ledger.{Ledger}
+
+-- ---- keys
+
+-- the worker's call answers, and what it answers is told
+pub record Answers (leaves : Hand → Hand → Result Bool Lost → Type 0) (m n : Seated) (o : Outcome) : Type 0 where
+  pub answer : Result Bool Fault
+  pub told : o ≡ of_answer answer
+  pub board : n.board ≡ m.board
+  pub did : Asked leaves m.hand n.hand answer
+
+-- a number that is no key is told as such, and the worker is as it was
+abbrev pub OfKey : ℕ → Type 0 → Seated → Seated → Outcome → Type 0
+OfKey k did m n o = (IsKey k × did) ⊎ ((IsKey k → ⊥) × (o ≡ outcome.Key) × (n ≡ m))
+
+abbrev pub DoesHas : ℕ → ℕ → Seated → Seated → Outcome → Type 0
+DoesHas tries k m n o = OfKey k (Answers (LeavesHas m.board.layout.nodes tries k) m n o) m n o
+
+abbrev pub DoesInsert : ℕ → ℕ → Seated → Seated → Outcome → Type 0
+DoesInsert tries k m n o = OfKey k (Answers (LeavesInsert m.board.layout.nodes tries k) m n o) m n o
+
+abbrev pub DoesDelete : ℕ → ℕ → Seated → Seated → Outcome → Type 0
+DoesDelete tries k m n o = OfKey k (Answers (LeavesDelete m.board.layout.nodes tries k) m n o) m n o
+
+pub record DoesFinish (tries : ℕ) (m n : Seated) (o : Outcome) : Type 0 where
+  pub answer : Result Bool Lost
+  pub told : o ≡ of_finish answer
+  pub board : n.board ≡ m.board
+  pub did : LeavesFinish m.board.layout.nodes tries m.hand n.hand answer
+
+-- ---- epochs
+
+abbrev pub of_pin : Result ℕ PinFault → Outcome
+of_pin (Ok e) = outcome.Done
+of_pin (Err pinning.Held) = outcome.Held
+of_pin (Err (pinning.Call (unpinned.Moved e))) = outcome.Busy
+of_pin (Err (pinning.Call unpinned.Pending)) = outcome.Pending
+
+-- the epoch that is written, or what stood there
+abbrev pub pin_epoch : Result ℕ PinFault → ℕ → ℕ
+pin_epoch (Ok e) old = e
+pin_epoch (Err (pinning.Call (unpinned.Moved e))) old = e
+pin_epoch (Err pinning.Held) old = old
+pin_epoch (Err (pinning.Call unpinned.Pending)) old = old
+
+pub record DoesPin (tries old epoch : ℕ) (m n : Seated) (o : Outcome) : Type 0 where
+  pub answer : Result ℕ PinFault
+  pub told : o ≡ of_pin answer
+  pub epoch_told : epoch ≡ pin_epoch answer old
+  pub board : n.board ≡ m.board
+  pub did : AskedToPin tries m.hand n.hand answer
+
+abbrev pub of_unpin : Result (Unit {0}) NotHeld → Outcome
+of_unpin (Ok u) = outcome.Done
+of_unpin (Err f) = outcome.NotHeld
+
+pub record DoesUnpin (m n : Seated) (o : Outcome) : Type 0 where
+  pub answer : Result (Unit {0}) NotHeld
+  pub told : o ≡ of_unpin answer
+  pub board : n.board ≡ m.board
+  pub did : AskedToUnpin m.hand n.hand answer
+
+abbrev pub of_advance : Advance → Outcome
+of_advance (advance.Moved e) = outcome.Done
+of_advance (advance.Held w e) = outcome.Behind
+of_advance (advance.Lost e) = outcome.Lost
+of_advance advance.Spent = outcome.Spent
+
+abbrev pub advance_epoch : Advance → ℕ → ℕ
+advance_epoch (advance.Moved e) old = e
+advance_epoch (advance.Held w e) old = e
+advance_epoch (advance.Lost e) old = e
+advance_epoch advance.Spent old = old
+
+abbrev pub advance_worker : Advance → ℕ → ℕ
+advance_worker (advance.Moved e) old = old
+advance_worker (advance.Held w e) old = w
+advance_worker (advance.Lost e) old = old
+advance_worker advance.Spent old = old
+
+pub record DoesAdvance (old_epoch epoch old_worker worker : ℕ) (m n : Seated) (o : Outcome) : Type 0 where
+  pub answer : Advance
+  pub told : o ≡ of_advance answer
+  pub epoch_told : epoch ≡ advance_epoch answer old_epoch
+  pub worker_told : worker ≡ advance_worker answer old_worker
+  pub board : n.board ≡ m.board
+  pub did : LeavesAdvance m.board.layout.workers m.hand n.hand answer
+
+pub record DoesBehind (epoch mask : ℕ) (m n : Seated) (o : Outcome) : Type 0 where
+  pub told : o ≡ outcome.Done
+  pub board : n.board ≡ m.board
+  pub did : LeavesBehind m.board.layout.workers m.hand n.hand (record { epoch = epoch; mask = mask })
+
+pub record DoesCollect (epoch freed : ℕ) (m n : Seated) (o : Outcome) : Type 0 where
+  pub told : o ≡ outcome.Done
+  pub board : n.board ≡ m.board
+  pub did : LeavesCollect m.board.layout.nodes m.hand n.hand (record { epoch = epoch; freed = freed })
+
+-- ---- what is read of a worker
+
+-- a number is written and done told
+pub record TellsNumber (value new : ℕ) (m n : Seated) (o : Outcome) : Type 0 where
+  pub told : o ≡ outcome.Done
+  pub value_told : new ≡ value
+  pub same : n ≡ m
+
+-- yes, and the number is written; or no, and nothing is
+abbrev pub IsOptionTold : Option ℕ → ℕ → ℕ → Outcome → Type 0
+IsOptionTold None old new o = (o ≡ outcome.No) × (new ≡ old)
+IsOptionTold (Some k) old new o = (o ≡ outcome.Yes) × (new ≡ k)
+
+pub record TellsOption (value : Option ℕ) (old new : ℕ) (m n : Seated) (o : Outcome) : Type 0 where
+  pub told : IsOptionTold value old new o
+  pub same : n ≡ m
+
+abbrev pub pending_key : Hand → Option ℕ
+pending_key w = option_map (λ (u : Unfinished). u.key) w.pending
+
+abbrev pub counts_of : Ledger → Counts
+counts_of l = record { links = l.links; flags = l.flags; splices = l.splices; retired = l.retired; freed = l.freed; queued = l.queued }
+
+pub record TellsLedger (ledger : Ledger) (m n : Seated) (o : Outcome) : Type 0 where
+  pub told : o ≡ outcome.Done
+  pub counts : IsLedger m.hand.pass.view m.hand.pass.view.number (counts_of ledger)
+  pub same : n ≡ m
+
+-- ---- the end of another worker
+
+-- the worker of that number, which was at home, has resigned to this one; or it has not, why is told, and this one is as it was
+abbrev pub DoesResign : ℕ → Seated → Seated → Outcome → Type 0
+DoesResign leaver m n o =
+    ((o ≡ outcome.Done) × (n.board ≡ m.board) × (w : Hand) × IsResident m.board leaver w × HasResigned m.hand w n.hand)
+    ⊎ ((why : ResignReason) × (o ≡ of_staying why) × (n ≡ m))

@@ -1,0 +1,183 @@
+//! Calls on the epoch, by the handle of a worker.
+ghost use Rattle.std.specs.Prelude.{◌≡◌, ⊤};
+ghost use Rattle.nm_set_c.specs.Outcomes.{Tells};
+ghost use Rattle.nm_set_c.specs.Owners.{OfWorker};
+ghost use Rattle.nm_set_c.specs.Workers.{DoesPin, DoesUnpin, DoesAdvance, DoesBehind, DoesCollect};
+
+use crate::handle::Handle;
+use crate::outcome::Outcome;
+use crate::owner::Owner;
+use nm_set::{Advance, CallPinFault, Member, PinFault};
+use std::alloc::Global;
+
+/// Pins the epoch for the caller, until unpin, and writes it: `Member::pin` of `nm_set`. `Done`; `Busy`, with the epoch last read written;
+/// `Pending`, `Held`; `Closed`, `Kind`.
+#[unsafe(no_mangle)]
+pub extern "C" fn nm_worker_pin(
+    alloc: Global,
+    worker: &mut Handle,
+    tries: u32,
+    epoch: &mut u64,
+) -> i32
+    ensures { Tells (OfWorker (DoesPin tries epoch.old epoch.new) (epoch.new ≡ epoch.old) worker.old.held worker.new.held) result }
+{
+    let Some(mut owner) = worker.take(alloc) else {
+        return Outcome::Closed.code();
+    };
+    let outcome = match &mut *owner {
+        Owner::Worker(member) => pin(member, tries, epoch),
+        _ => Outcome::Kind,
+    };
+    *worker = Handle::of(owner);
+    outcome.code()
+}
+
+fn pin(member: &mut Member, tries: u32, epoch: &mut u64) -> Outcome
+    ensures { DoesPin tries epoch.old epoch.new member.old member.new result }
+{
+    match member.pin(tries) {
+        Ok(pinned) => {
+            *epoch = pinned;
+            Outcome::Done
+        }
+        Err(PinFault::Held) => Outcome::Held,
+        Err(PinFault::Call(CallPinFault::Pending)) => Outcome::Pending,
+        Err(PinFault::Call(CallPinFault::Moved { epoch: found })) => {
+            *epoch = found;
+            Outcome::Busy
+        }
+    }
+}
+
+/// Ends the caller's pin: `Done`, or `NotHeld`: `Member::unpin` of `nm_set`. `Closed`, `Kind`.
+#[unsafe(no_mangle)]
+pub extern "C" fn nm_worker_unpin(alloc: Global, worker: &mut Handle) -> i32
+    ensures { Tells (OfWorker (DoesUnpin) ⊤ worker.old.held worker.new.held) result }
+{
+    let Some(mut owner) = worker.take(alloc) else {
+        return Outcome::Closed.code();
+    };
+    let outcome = match &mut *owner {
+        Owner::Worker(member) => unpin(member),
+        _ => Outcome::Kind,
+    };
+    *worker = Handle::of(owner);
+    outcome.code()
+}
+
+fn unpin(member: &mut Member) -> Outcome
+    ensures { DoesUnpin member.old member.new result }
+{
+    match member.unpin() {
+        Ok(()) => Outcome::Done,
+        Err(_) => Outcome::NotHeld,
+    }
+}
+
+/// Moves the epoch on by one, if no worker holds it back: `Member::advance` of `nm_set`. `Done` and the new epoch; `Behind`, that a worker is, with
+/// its number and the epoch that it announces; `Lost` and the epoch to which another worker moved it; `Spent`. `Closed`, `Kind`.
+#[unsafe(no_mangle)]
+pub extern "C" fn nm_worker_advance(
+    alloc: Global,
+    worker: &mut Handle,
+    epoch: &mut u64,
+    behind: &mut u32,
+) -> i32
+    ensures { Tells (OfWorker (DoesAdvance epoch.old epoch.new behind.old behind.new) ((epoch.new ≡ epoch.old) × (behind.new ≡ behind.old)) worker.old.held worker.new.held) result }
+{
+    let Some(mut owner) = worker.take(alloc) else {
+        return Outcome::Closed.code();
+    };
+    let outcome = match &mut *owner {
+        Owner::Worker(member) => advance(member, epoch, behind),
+        _ => Outcome::Kind,
+    };
+    *worker = Handle::of(owner);
+    outcome.code()
+}
+
+fn advance(member: &mut Member, epoch: &mut u64, behind: &mut u32) -> Outcome
+    ensures { DoesAdvance epoch.old epoch.new behind.old behind.new member.old member.new result }
+{
+    match member.advance() {
+        Advance::Moved { epoch: moved } => {
+            *epoch = moved;
+            Outcome::Done
+        }
+        Advance::Held {
+            worker,
+            epoch: announced,
+        } => {
+            *behind = worker;
+            *epoch = announced;
+            Outcome::Behind
+        }
+        Advance::Lost { epoch: found } => {
+            *epoch = found;
+            Outcome::Lost
+        }
+        Advance::Spent => Outcome::Spent,
+    }
+}
+
+/// Which workers hold the epoch back: `Done`, the epoch, and a mask with bit w set exactly where worker w was found announcing another one:
+/// `Member::behind` of `nm_set`. `Closed`, `Kind`.
+#[unsafe(no_mangle)]
+pub extern "C" fn nm_worker_behind(
+    alloc: Global,
+    worker: &mut Handle,
+    epoch: &mut u64,
+    mask: &mut u64,
+) -> i32
+    ensures { Tells (OfWorker (DoesBehind epoch.new mask.new) ((epoch.new ≡ epoch.old) × (mask.new ≡ mask.old)) worker.old.held worker.new.held) result }
+{
+    let Some(mut owner) = worker.take(alloc) else {
+        return Outcome::Closed.code();
+    };
+    let outcome = match &mut *owner {
+        Owner::Worker(member) => behind(member, epoch, mask),
+        _ => Outcome::Kind,
+    };
+    *worker = Handle::of(owner);
+    outcome.code()
+}
+
+fn behind(member: &mut Member, epoch: &mut u64, mask: &mut u64) -> Outcome
+    ensures { DoesBehind epoch.new mask.new member.old member.new result }
+{
+    let found = member.behind();
+    *epoch = found.epoch;
+    *mask = found.mask;
+    Outcome::Done
+}
+
+/// Frees what is ripe in the queues that the worker holds: `Done`, the epoch, and how many nodes were freed: `Member::collect` of `nm_set`.
+/// `Closed`, `Kind`.
+#[unsafe(no_mangle)]
+pub extern "C" fn nm_worker_collect(
+    alloc: Global,
+    worker: &mut Handle,
+    epoch: &mut u64,
+    freed: &mut u64,
+) -> i32
+    ensures { Tells (OfWorker (DoesCollect epoch.new freed.new) ((epoch.new ≡ epoch.old) × (freed.new ≡ freed.old)) worker.old.held worker.new.held) result }
+{
+    let Some(mut owner) = worker.take(alloc) else {
+        return Outcome::Closed.code();
+    };
+    let outcome = match &mut *owner {
+        Owner::Worker(member) => collect(member, epoch, freed),
+        _ => Outcome::Kind,
+    };
+    *worker = Handle::of(owner);
+    outcome.code()
+}
+
+fn collect(member: &mut Member, epoch: &mut u64, freed: &mut u64) -> Outcome
+    ensures { DoesCollect epoch.new freed.new member.old member.new result }
+{
+    let collected = member.collect();
+    *epoch = collected.epoch;
+    *freed = collected.freed;
+    Outcome::Done
+}

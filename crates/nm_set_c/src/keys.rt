@@ -1,0 +1,124 @@
+//! Calls for a key, by the handle of a worker.
+ghost use Rattle.std.specs.Prelude.{◌≡◌, ⊤};
+ghost use Rattle.nm_set_c.specs.Outcomes.{Tells};
+ghost use Rattle.nm_set_c.specs.Owners.{OfWorker};
+ghost use Rattle.nm_set_c.specs.Workers.{DoesHas, DoesInsert, DoesDelete, DoesFinish};
+
+use crate::handle::Handle;
+use crate::outcome::Outcome;
+use crate::owner::Owner;
+use nm_edge::Key;
+use nm_set::Member;
+use std::alloc::Global;
+
+/// Whether the set has the key: `Member::has` of `nm_set`. `Yes`, `No`, `Key`, `Busy`, `Pending`, `Held`, `NoMemory`; `Closed`, `Kind`.
+#[unsafe(no_mangle)]
+pub extern "C" fn nm_worker_has(alloc: Global, worker: &mut Handle, key: u64, tries: u32) -> i32
+    ensures { Tells (OfWorker (DoesHas tries key) ⊤ worker.old.held worker.new.held) result }
+{
+    let Some(mut owner) = worker.take(alloc) else {
+        return Outcome::Closed.code();
+    };
+    let outcome = match &mut *owner {
+        Owner::Worker(member) => has(member, key, tries),
+        _ => Outcome::Kind,
+    };
+    *worker = Handle::of(owner);
+    outcome.code()
+}
+
+fn has(member: &mut Member, key: u64, tries: u32) -> Outcome
+    ensures { DoesHas tries key member.old member.new result }
+{
+    let Some(key) = Key::new(key) else {
+        return Outcome::Key;
+    };
+    match member.has(key, tries) {
+        Ok(answer) => Outcome::of(answer),
+        Err(fault) => Outcome::of_fault(fault),
+    }
+}
+
+/// Inserts a key: `Yes` where it was not in the set, `No` where it was: `Member::insert` of `nm_set`. `Key`, `Busy`, `Full`, `Pending`, `Held`,
+/// `NoMemory`; `Closed`, `Kind`.
+#[unsafe(no_mangle)]
+pub extern "C" fn nm_worker_insert(alloc: Global, worker: &mut Handle, key: u64, tries: u32) -> i32
+    ensures { Tells (OfWorker (DoesInsert tries key) ⊤ worker.old.held worker.new.held) result }
+{
+    let Some(mut owner) = worker.take(alloc) else {
+        return Outcome::Closed.code();
+    };
+    let outcome = match &mut *owner {
+        Owner::Worker(member) => insert(member, key, tries),
+        _ => Outcome::Kind,
+    };
+    *worker = Handle::of(owner);
+    outcome.code()
+}
+
+fn insert(member: &mut Member, key: u64, tries: u32) -> Outcome
+    ensures { DoesInsert tries key member.old member.new result }
+{
+    let Some(key) = Key::new(key) else {
+        return Outcome::Key;
+    };
+    match member.insert(key, tries) {
+        Ok(answer) => Outcome::of(answer),
+        Err(fault) => Outcome::of_fault(fault),
+    }
+}
+
+/// Deletes a key: `Yes` where it was in the set, `No` where it was not: `Member::delete` of `nm_set`. `Key`, `Busy`, `Unfinished`, `Pending`,
+/// `Held`, `NoMemory`; `Closed`, `Kind`.
+#[unsafe(no_mangle)]
+pub extern "C" fn nm_worker_delete(alloc: Global, worker: &mut Handle, key: u64, tries: u32) -> i32
+    ensures { Tells (OfWorker (DoesDelete tries key) ⊤ worker.old.held worker.new.held) result }
+{
+    let Some(mut owner) = worker.take(alloc) else {
+        return Outcome::Closed.code();
+    };
+    let outcome = match &mut *owner {
+        Owner::Worker(member) => delete(member, key, tries),
+        _ => Outcome::Kind,
+    };
+    *worker = Handle::of(owner);
+    outcome.code()
+}
+
+fn delete(member: &mut Member, key: u64, tries: u32) -> Outcome
+    ensures { DoesDelete tries key member.old member.new result }
+{
+    let Some(key) = Key::new(key) else {
+        return Outcome::Key;
+    };
+    match member.delete(key, tries) {
+        Ok(answer) => Outcome::of(answer),
+        Err(fault) => Outcome::of_fault(fault),
+    }
+}
+
+/// Goes on with the delete that is pending: `Yes` where it has answered now, `No` where none is pending: `Member::finish` of `nm_set`.
+/// `Unfinished`: the key is pending still; `Closed`, `Kind`.
+#[unsafe(no_mangle)]
+pub extern "C" fn nm_worker_finish(alloc: Global, worker: &mut Handle, tries: u32) -> i32
+    ensures { Tells (OfWorker (DoesFinish tries) ⊤ worker.old.held worker.new.held) result }
+{
+    let Some(mut owner) = worker.take(alloc) else {
+        return Outcome::Closed.code();
+    };
+    let outcome = match &mut *owner {
+        Owner::Worker(member) => finish(member, tries),
+        _ => Outcome::Kind,
+    };
+    *worker = Handle::of(owner);
+    outcome.code()
+}
+
+fn finish(member: &mut Member, tries: u32) -> Outcome
+    ensures { DoesFinish tries member.old member.new result }
+{
+    match member.finish(tries) {
+        Ok(answer) => Outcome::of(answer),
+        Err(fault) => Outcome::of_lost(fault),
+    }
+}

@@ -1,0 +1,169 @@
+//! What a call tells C: an answer or a fault, as a number.
+ghost use Rattle.std.specs.Prelude.{◌≡◌};
+ghost use Rattle.nm_set_c.specs.Outcomes.{code_of, of_bool, of_lost, of_fault, of_new, of_taking, of_staying, of_reason};
+
+use nm_set::{CallFault, CloseReason, Fault, MemberFault, NewError, ResignReason};
+
+/// What came of a call. Faults have left everything as it was, where their own line does not say more.
+#[derive(Clone, Copy, Debug, PartialEq, Eq)]
+pub enum Outcome {
+    /// The answer is no.
+    No,
+    /// The answer is yes.
+    Yes,
+    /// The call did what it is for.
+    Done,
+    /// The handle is closed.
+    Closed,
+    /// The handle that is to be opened is open already.
+    Open,
+    /// The handle owns something of another kind.
+    Kind,
+    /// The key is above 2^64 - 4.
+    Key,
+    /// There is nothing of that number.
+    Number,
+    /// The number of nodes is not 7 to 1,048,576.
+    Nodes,
+    /// The number of workers is not 1 to 64.
+    Workers,
+    /// Memory was refused.
+    NoMemory,
+    /// Each try was lost, or there might be none. Nothing of the call stands but help given to others.
+    Busy,
+    /// No slots were free for the two new nodes of an insert.
+    Full,
+    /// The leaf with the key is flagged and not known to be cut off: the key is pending.
+    Unfinished,
+    /// A key is pending, so that only finish goes on.
+    Pending,
+    /// The worker is held, from a pin until its unpin.
+    Held,
+    /// The worker is not held.
+    NotHeld,
+    /// A worker holds the epoch back.
+    Behind,
+    /// Another worker moved the epoch on first.
+    Lost,
+    /// The epoch is the last one.
+    Spent,
+    /// The worker is taken, or a worker is not closed yet.
+    Away,
+    /// A close was refused behind the point where all workers were gathered: only close goes on.
+    Closing,
+    /// Fewer workers are at home than the tree has.
+    NotAll,
+    /// There are as many handles as can be counted.
+    Uncounted,
+}
+
+impl Outcome {
+    /// Its number in the header.
+    #[tactic(auto, unfolding(crate::specs::Outcomes::code_of))]
+    pub(crate) fn code(self) -> i32
+        ensures { result ≡ code_of self }
+    {
+        match self {
+            Outcome::No => 0,
+            Outcome::Yes => 1,
+            Outcome::Done => 2,
+            Outcome::Closed => -1,
+            Outcome::Open => -2,
+            Outcome::Kind => -3,
+            Outcome::Key => -4,
+            Outcome::Number => -5,
+            Outcome::Nodes => -6,
+            Outcome::Workers => -7,
+            Outcome::NoMemory => -8,
+            Outcome::Busy => -9,
+            Outcome::Full => -10,
+            Outcome::Unfinished => -11,
+            Outcome::Pending => -12,
+            Outcome::Held => -13,
+            Outcome::NotHeld => -14,
+            Outcome::Behind => -15,
+            Outcome::Lost => -16,
+            Outcome::Spent => -17,
+            Outcome::Away => -18,
+            Outcome::Closing => -19,
+            Outcome::NotAll => -20,
+            Outcome::Uncounted => -21,
+        }
+    }
+
+    /// Yes or no.
+    pub(crate) fn of(answer: bool) -> Outcome
+        ensures { result ≡ of_bool answer }
+    {
+        if answer { Outcome::Yes } else { Outcome::No }
+    }
+
+    /// Why the tree's call has not answered.
+    pub(crate) fn of_lost(fault: CallFault) -> Outcome
+        ensures { result ≡ of_lost fault }
+    {
+        match fault {
+            CallFault::Busy => Outcome::Busy,
+            CallFault::Full => Outcome::Full,
+            CallFault::NoMemory => Outcome::NoMemory,
+            CallFault::Unfinished => Outcome::Unfinished,
+            CallFault::Pending => Outcome::Pending,
+        }
+    }
+
+    /// Why the worker's call has not answered.
+    pub(crate) fn of_fault(fault: Fault) -> Outcome
+        ensures { result ≡ of_fault fault }
+    {
+        match fault {
+            Fault::Held => Outcome::Held,
+            Fault::Call(lost) => Outcome::of_lost(lost),
+        }
+    }
+
+    /// Why a set was not made.
+    pub(crate) fn of_new(error: NewError) -> Outcome
+        ensures { result ≡ of_new error }
+    {
+        match error {
+            NewError::Nodes => Outcome::Nodes,
+            NewError::Workers => Outcome::Workers,
+            NewError::NoMemory => Outcome::NoMemory,
+        }
+    }
+
+    /// Why a worker was not given out.
+    pub(crate) fn of_taking(fault: MemberFault) -> Outcome
+        ensures { result ≡ of_taking fault }
+    {
+        match fault {
+            MemberFault::Number => Outcome::Number,
+            MemberFault::Away => Outcome::Away,
+            MemberFault::Closing => Outcome::Closing,
+            MemberFault::Uncounted => Outcome::Uncounted,
+        }
+    }
+
+    /// Why a worker has not resigned.
+    pub(crate) fn of_staying(reason: ResignReason) -> Outcome
+        ensures { result ≡ of_staying reason }
+    {
+        match reason {
+            ResignReason::Number => Outcome::Number,
+            ResignReason::Away => Outcome::Away,
+            ResignReason::Held => Outcome::Held,
+            ResignReason::Pending => Outcome::Pending,
+        }
+    }
+
+    /// Why a set was not closed.
+    pub(crate) fn of_reason(reason: CloseReason) -> Outcome
+        ensures { result ≡ of_reason reason }
+    {
+        match reason {
+            CloseReason::Away => Outcome::Away,
+            CloseReason::NotAll { .. } => Outcome::NotAll,
+            CloseReason::NoMemory => Outcome::NoMemory,
+        }
+    }
+}

@@ -1,0 +1,180 @@
+//! Calls on the report of a set that was closed, by its handle.
+ghost use Rattle.std.specs.Prelude.{◌≡◌};
+ghost use Rattle.nm_set_c.specs.Outcomes.{Tells};
+ghost use Rattle.nm_set_c.specs.Owners.{OfReport};
+ghost use Rattle.nm_set_c.specs.Reports.{TellsSlots, TellsKeys, TellsKey, TellsQueue, TakesOldest};
+
+use crate::handle::Handle;
+use crate::outcome::Outcome;
+use crate::owner::Owner;
+use nm_set::Report;
+use std::alloc::Global;
+
+/// A node that waited in a worker's queue when the set was closed.
+#[repr(C)]
+#[derive(Clone, Copy, Debug, Default, PartialEq, Eq)]
+pub struct Waiting {
+    /// The slot where it stands.
+    pub slot: u64,
+    /// How often the slot had been put to use when the node was made.
+    pub birth: u64,
+    /// The epoch that its remover read after the cut.
+    pub label: u64,
+}
+
+/// How many slots are free, and how many are reached from the root, the five fixed ones left out: `Done`. `Closed`, `Kind`.
+#[unsafe(no_mangle)]
+pub extern "C" fn nm_report_slots(
+    alloc: Global,
+    report: &mut Handle,
+    free: &mut u32,
+    reached: &mut u32,
+) -> i32
+    ensures { Tells (OfReport (TellsSlots free.new reached.new) ((free.new ≡ free.old) × (reached.new ≡ reached.old)) report.old.held report.new.held) result }
+{
+    let Some(mut owner) = report.take(alloc) else {
+        return Outcome::Closed.code();
+    };
+    let outcome = match &mut *owner {
+        Owner::Ended(ended) => slots(ended, free, reached),
+        _ => Outcome::Kind,
+    };
+    *report = Handle::of(owner);
+    outcome.code()
+}
+
+fn slots(report: &mut Report, free: &mut u32, reached: &mut u32) -> Outcome
+    ensures { TellsSlots free.new reached.new report.old report.new result }
+{
+    *free = report.free;
+    *reached = report.reached;
+    Outcome::Done
+}
+
+/// How many keys the set had: `Done`. `Closed`, `Kind`.
+#[unsafe(no_mangle)]
+pub extern "C" fn nm_report_keys(alloc: Global, report: &mut Handle, count: &mut u64) -> i32
+    ensures { Tells (OfReport (TellsKeys count.new) (count.new ≡ count.old) report.old.held report.new.held) result }
+{
+    let Some(mut owner) = report.take(alloc) else {
+        return Outcome::Closed.code();
+    };
+    let outcome = match &mut *owner {
+        Owner::Ended(ended) => keys(ended, count),
+        _ => Outcome::Kind,
+    };
+    *report = Handle::of(owner);
+    outcome.code()
+}
+
+fn keys(report: &mut Report, count: &mut u64) -> Outcome
+    ensures { TellsKeys count.new report.old report.new result }
+{
+    *count = report.keys.len() as u64;
+    Outcome::Done
+}
+
+/// The key at an index, from 0 on, by which the keys ascend: `Done`, or `Number` where there are no more. `Closed`, `Kind`.
+#[unsafe(no_mangle)]
+pub extern "C" fn nm_report_key(
+    alloc: Global,
+    report: &mut Handle,
+    index: u64,
+    key: &mut u64,
+) -> i32
+    ensures { Tells (OfReport (TellsKey index key.old key.new) (key.new ≡ key.old) report.old.held report.new.held) result }
+{
+    let Some(mut owner) = report.take(alloc) else {
+        return Outcome::Closed.code();
+    };
+    let outcome = match &mut *owner {
+        Owner::Ended(ended) => key_at(ended, index, key),
+        _ => Outcome::Kind,
+    };
+    *report = Handle::of(owner);
+    outcome.code()
+}
+
+fn key_at(report: &mut Report, index: u64, key: &mut u64) -> Outcome
+    ensures { TellsKey index key.old key.new report.old report.new result }
+{
+    match report.keys.get(index as usize) {
+        Some(found) => {
+            *key = found.get();
+            Outcome::Done
+        }
+        None => Outcome::Number,
+    }
+}
+
+/// How many nodes wait of those that a worker's splices cut off: `Done`, or `Number` where there is no such worker. `Closed`, `Kind`.
+#[unsafe(no_mangle)]
+pub extern "C" fn nm_report_queue(
+    alloc: Global,
+    report: &mut Handle,
+    worker: u32,
+    nodes: &mut u64,
+) -> i32
+    ensures { Tells (OfReport (TellsQueue worker nodes.old nodes.new) (nodes.new ≡ nodes.old) report.old.held report.new.held) result }
+{
+    let Some(mut owner) = report.take(alloc) else {
+        return Outcome::Closed.code();
+    };
+    let outcome = match &mut *owner {
+        Owner::Ended(ended) => queue_of(ended, worker, nodes),
+        _ => Outcome::Kind,
+    };
+    *report = Handle::of(owner);
+    outcome.code()
+}
+
+fn queue_of(report: &mut Report, worker: u32, nodes: &mut u64) -> Outcome
+    ensures { TellsQueue worker nodes.old nodes.new report.old report.new result }
+{
+    match report.queues.get(worker as usize) {
+        Some(held) => {
+            *nodes = u64::from(held.queue.len());
+            Outcome::Done
+        }
+        None => Outcome::Number,
+    }
+}
+
+/// Takes the oldest node out of a worker's queue: `Yes` and the node, `No` where none waits any more, `Number` where there is no such worker.
+/// `Closed`, `Kind`.
+#[unsafe(no_mangle)]
+pub extern "C" fn nm_report_waiting(
+    alloc: Global,
+    report: &mut Handle,
+    worker: u32,
+    waiting: &mut Waiting,
+) -> i32
+    ensures { Tells (OfReport (TakesOldest worker waiting.old waiting.new) (waiting.new ≡ waiting.old) report.old.held report.new.held) result }
+{
+    let Some(mut owner) = report.take(alloc) else {
+        return Outcome::Closed.code();
+    };
+    let outcome = match &mut *owner {
+        Owner::Ended(ended) => oldest(ended, worker, waiting),
+        _ => Outcome::Kind,
+    };
+    *report = Handle::of(owner);
+    outcome.code()
+}
+
+fn oldest(report: &mut Report, worker: u32, waiting: &mut Waiting) -> Outcome
+    ensures { TakesOldest worker waiting.old waiting.new report.old report.new result }
+{
+    let Some(held) = report.queues.get_mut(worker as usize) else {
+        return Outcome::Number;
+    };
+    let Some(entry) = held.queue.pop() else {
+        return Outcome::No;
+    };
+    *waiting = Waiting {
+        slot: u64::from(entry.node.slot),
+        birth: entry.node.birth,
+        label: entry.label,
+    };
+    Outcome::Yes
+}

@@ -1,0 +1,195 @@
+//! What a worker tells of itself, and the end of another one, by its handle.
+ghost use Rattle.std.specs.Prelude.{◌≡◌, ⊤, Some};
+ghost use Rattle.nm_tree.specs.Workers.{waiting_in};
+ghost use Rattle.nm_set_c.specs.Outcomes.{Tells};
+ghost use Rattle.nm_set_c.specs.Owners.{OfWorker};
+ghost use Rattle.nm_set_c.specs.Workers.{DoesResign, TellsNumber, TellsOption, TellsLedger, pending_key};
+
+use crate::handle::Handle;
+use crate::outcome::Outcome;
+use crate::owner::Owner;
+use nm_set::Member;
+use std::alloc::Global;
+use std::mem::replace;
+
+/// What a worker has won, and what became of what it cut off: `Counts` of `nm_tree`.
+#[repr(C)]
+#[derive(Clone, Copy, Debug, Default, PartialEq, Eq)]
+pub struct Ledger {
+    /// The links that it has won.
+    pub links: u64,
+    /// The flags that it has won.
+    pub flags: u64,
+    /// The splices that it has won.
+    pub splices: u64,
+    /// The nodes that its splices cut off.
+    pub retired: u64,
+    /// Those of them that were freed.
+    pub freed: u64,
+    /// Those of them that wait.
+    pub queued: u64,
+}
+
+/// The worker's number: `Done`. `Closed`, `Kind`.
+#[unsafe(no_mangle)]
+pub extern "C" fn nm_worker_number(alloc: Global, worker: &mut Handle, number: &mut u32) -> i32
+    ensures { Tells (OfWorker (λ m. TellsNumber m.hand.pass.view.number number.new m) (number.new ≡ number.old) worker.old.held worker.new.held) result }
+{
+    let Some(mut owner) = worker.take(alloc) else {
+        return Outcome::Closed.code();
+    };
+    let outcome = match &mut *owner {
+        Owner::Worker(member) => number_of(member, number),
+        _ => Outcome::Kind,
+    };
+    *worker = Handle::of(owner);
+    outcome.code()
+}
+
+fn number_of(member: &mut Member, number: &mut u32) -> Outcome
+    ensures { TellsNumber member.old.hand.pass.view.number number.new member.old member.new result }
+{
+    *number = member.number();
+    Outcome::Done
+}
+
+/// How many nodes wait in the queues that the worker holds: `Done`. `Closed`, `Kind`.
+#[unsafe(no_mangle)]
+pub extern "C" fn nm_worker_queue_len(alloc: Global, worker: &mut Handle, nodes: &mut u64) -> i32
+    ensures { Tells (OfWorker (λ m. TellsNumber (waiting_in m.hand.queues) nodes.new m) (nodes.new ≡ nodes.old) worker.old.held worker.new.held) result }
+{
+    let Some(mut owner) = worker.take(alloc) else {
+        return Outcome::Closed.code();
+    };
+    let outcome = match &mut *owner {
+        Owner::Worker(member) => queue_len(member, nodes),
+        _ => Outcome::Kind,
+    };
+    *worker = Handle::of(owner);
+    outcome.code()
+}
+
+fn queue_len(member: &mut Member, nodes: &mut u64) -> Outcome
+    ensures { TellsNumber (waiting_in member.old.hand.queues) nodes.new member.old member.new result }
+{
+    *nodes = member.queue_len();
+    Outcome::Done
+}
+
+/// The key of a delete that has flagged its leaf and not answered yet: `Yes` and the key, or `No`. `Closed`, `Kind`.
+#[unsafe(no_mangle)]
+pub extern "C" fn nm_worker_pending(alloc: Global, worker: &mut Handle, key: &mut u64) -> i32
+    ensures { Tells (OfWorker (λ m. TellsOption (pending_key m.hand) key.old key.new m) (key.new ≡ key.old) worker.old.held worker.new.held) result }
+{
+    let Some(mut owner) = worker.take(alloc) else {
+        return Outcome::Closed.code();
+    };
+    let outcome = match &mut *owner {
+        Owner::Worker(member) => pending(member, key),
+        _ => Outcome::Kind,
+    };
+    *worker = Handle::of(owner);
+    outcome.code()
+}
+
+fn pending(member: &mut Member, key: &mut u64) -> Outcome
+    ensures { TellsOption (pending_key member.old.hand) key.old key.new member.old member.new result }
+{
+    match member.pending() {
+        Some(pending) => {
+            *key = pending.get();
+            Outcome::Yes
+        }
+        None => Outcome::No,
+    }
+}
+
+/// The epoch at which the worker is held, from a pin until its unpin: `Yes` and the epoch, or `No`. `Closed`, `Kind`.
+#[unsafe(no_mangle)]
+pub extern "C" fn nm_worker_held(alloc: Global, worker: &mut Handle, epoch: &mut u64) -> i32
+    ensures { Tells (OfWorker (λ m. TellsOption m.hand.held epoch.old epoch.new m) (epoch.new ≡ epoch.old) worker.old.held worker.new.held) result }
+{
+    let Some(mut owner) = worker.take(alloc) else {
+        return Outcome::Closed.code();
+    };
+    let outcome = match &mut *owner {
+        Owner::Worker(member) => held(member, epoch),
+        _ => Outcome::Kind,
+    };
+    *worker = Handle::of(owner);
+    outcome.code()
+}
+
+fn held(member: &mut Member, epoch: &mut u64) -> Outcome
+    ensures { TellsOption member.old.hand.held epoch.old epoch.new member.old member.new result }
+{
+    match member.held() {
+        Some(held) => {
+            *epoch = held;
+            Outcome::Yes
+        }
+        None => Outcome::No,
+    }
+}
+
+/// What this worker has won, and what became of what it cut off: `Done`. `Closed`, `Kind`.
+#[unsafe(no_mangle)]
+pub extern "C" fn nm_worker_ledger(alloc: Global, worker: &mut Handle, ledger: &mut Ledger) -> i32
+    ensures { Tells (OfWorker (TellsLedger ledger.new) (ledger.new ≡ ledger.old) worker.old.held worker.new.held) result }
+{
+    let Some(mut owner) = worker.take(alloc) else {
+        return Outcome::Closed.code();
+    };
+    let outcome = match &mut *owner {
+        Owner::Worker(member) => ledger_of(member, ledger),
+        _ => Outcome::Kind,
+    };
+    *worker = Handle::of(owner);
+    outcome.code()
+}
+
+fn ledger_of(member: &mut Member, ledger: &mut Ledger) -> Outcome
+    ensures { TellsLedger ledger.new member.old member.new result }
+{
+    let counts = member.ledger();
+    *ledger = Ledger {
+        links: counts.links,
+        flags: counts.flags,
+        splices: counts.splices,
+        retired: counts.retired,
+        freed: counts.freed,
+        queued: counts.queued,
+    };
+    Outcome::Done
+}
+
+/// A worker that is at home resigns to this one, which then holds all that it held, and it never comes back: `Done`: `Member::resign` of `nm_set`.
+/// `Number`, `Away`, `Held` and `Pending` tell what stands against it. `Closed`, `Kind`.
+#[unsafe(no_mangle)]
+pub extern "C" fn nm_worker_resign(alloc: Global, worker: &mut Handle, leaver: u32) -> i32
+    ensures { Tells (OfWorker (DoesResign leaver) ⊤ worker.old.held worker.new.held) result }
+{
+    let Some(mut owner) = worker.take(alloc) else {
+        return Outcome::Closed.code();
+    };
+    let (heir, outcome) = resign(replace(&mut *owner, Owner::Nothing), leaver);
+    *owner = heir;
+    *worker = Handle::of(owner);
+    outcome.code()
+}
+
+fn resign(heir: Owner, leaver: u32) -> (Owner, Outcome)
+    ensures { OfWorker (DoesResign leaver) ⊤ (Some heir) (Some result.0) result.1 }
+{
+    let member = match heir {
+        Owner::Worker(member) => member,
+        other => return (other, Outcome::Kind),
+    };
+    match member.resign(leaver) {
+        Ok(heir) => (Owner::Worker(heir), Outcome::Done),
+        Err(error) => (
+            Owner::Worker(error.member),
+            Outcome::of_staying(error.reason),
+        ),
+    }
+}
