@@ -1,0 +1,196 @@
+/* A set of whole numbers that threads share without locks: a lock-free tree whose removed nodes are reused, with a proof. Keys are 0 to 2^64 - 4.
+ * C++ has nm_set.hpp over this.
+ *
+ *     nm_handle set = NM_CLOSED_HANDLE, worker = NM_CLOSED_HANDLE;
+ *     nm_set_near(&set, 8192, 2);              the set, for two workers
+ *     nm_set_worker(&set, &worker, 0);         worker 0, for this thread
+ *     nm_worker_insert(&worker, 5, 64);        NM_YES: the key was not in the set
+ *     nm_drop(&worker);                        worker 0 is at home
+ *     nm_set_close(&set);                      the handle owns the report from now on
+ *     nm_drop(&set);
+ *
+ * A handle is one word of the caller's memory. It is closed, or owns a set, one worker of a set, or the report that a set was closed with. What a
+ * caller can get wrong with open and closed handles, kinds, keys, numbers and sizes is told by an outcome, and then nothing has changed: of the
+ * parameters that a function writes through, only those are written that its outcome names.
+ *
+ * What the library cannot test, and the caller owes:
+ *
+ * - A handle is all zero before its first use, and only the functions below write it from then on. It may be moved to another place, as by memcpy
+ *   or by a return; the place that it was moved from is no handle then, until it is all zero again. An open handle that is overwritten or lost
+ *   leaves its memory taken, and its worker away.
+ * - A pointer is to a place of its type that no other call is using, and two parameters of one call are at different places.
+ * - One handle is used by one call at a time, and what a thread did with a handle happens before the next thread's call with it: by a lock, by the
+ *   start or the join of a thread, or by a sequentially consistent atomic. Calls with different handles may run at the same time, and those of one
+ *   set are made to.
+ * - malloc, realloc and free are of one allocator, may be called by several threads, and align as C says.
+ * - No function is called by a signal handler, or in the forked child of a process with threads.
+ */
+#ifndef NM_SET_H
+#define NM_SET_H
+
+#include <stdint.h>
+
+#ifdef __cplusplus
+extern "C" {
+#endif
+
+/* What a call tells: an answer, from 0 on, or a fault, below 0. A fault has left all as it was, where its line does not say more. */
+typedef enum nm_outcome {
+    NM_NO = 0,            /* the answer is no */
+    NM_YES = 1,           /* the answer is yes */
+    NM_DONE = 2,          /* the call did what it is for */
+    NM_CLOSED = -1,       /* the handle is closed */
+    NM_OPEN = -2,         /* the handle that was to be opened is open already */
+    NM_KIND = -3,         /* the handle owns something of another kind */
+    NM_KEY = -4,          /* the key is above 2^64 - 4 */
+    NM_NUMBER = -5,       /* there is nothing of that number */
+    NM_NODES = -6,        /* the number of nodes is not 7 to 1,048,576 */
+    NM_WORKERS = -7,      /* the number of workers is not 1 to 64 */
+    NM_NO_MEMORY = -8,    /* memory was refused */
+    NM_BUSY = -9,         /* each try was lost, or there might be none: nothing of the call stands but help given to others; call again */
+    NM_FULL = -10,        /* no slots were free for the two new nodes of an insert: advance and collect, and call again */
+    NM_UNFINISHED = -11,  /* the leaf with the key is flagged and not known to be cut off: the key will go, and is pending until nm_worker_finish */
+    NM_PENDING = -12,     /* a key is pending, so that only nm_worker_finish goes on */
+    NM_HELD = -13,        /* the worker is held, from a pin until its unpin */
+    NM_NOT_HELD = -14,    /* the worker is not held */
+    NM_BEHIND = -15,      /* a worker holds the epoch back */
+    NM_LOST = -16,        /* another worker moved the epoch on first */
+    NM_SPENT = -17,       /* the epoch is the last one */
+    NM_AWAY = -18,        /* the worker is taken or has resigned, or a worker of the set is not at home yet */
+    NM_CLOSING = -19,     /* a close was refused behind the point where all workers were gathered: only nm_set_close goes on */
+    NM_NOT_ALL = -20,     /* fewer workers are at home than the set has */
+    NM_UNCOUNTED = -21    /* there are as many handles as can be counted */
+} nm_outcome;
+
+/* A closed handle, or what the functions below have made of it. */
+typedef struct nm_handle {
+    void *at;
+} nm_handle;
+
+#define NM_CLOSED_HANDLE {0}
+
+/* What a worker has won, and what became of the nodes that it cut off. */
+typedef struct nm_ledger {
+    uint64_t links;    /* the links that it has won: one for each key that it inserted */
+    uint64_t flags;    /* the flags that it has won: one for each key that it deleted, a pending one too */
+    uint64_t splices;  /* the splices that it has won, each of which cuts off one or more keys */
+    uint64_t retired;  /* the nodes that its splices cut off */
+    uint64_t freed;    /* those of them that were freed */
+    uint64_t queued;   /* those of them that wait */
+} nm_ledger;
+
+/* A node that waited in a worker's queue when the set was closed. */
+typedef struct nm_waiting {
+    uint64_t slot;   /* the slot where it stands */
+    uint64_t birth;  /* how often the slot had been put to use when the node was made */
+    uint64_t label;  /* the epoch that its remover read after the cut */
+} nm_waiting;
+
+/* ---- a set ----
+ * Of a closed handle these tell NM_CLOSED, and of one that owns something else NM_KIND. */
+
+/* Makes the empty set, in a tree with room for 7 to 1,048,576 nodes, for 1 to 64 workers. n keys take 2 n + 5 nodes, and a node that was removed is
+ * free again only after two moves of the epoch. A new node takes the lowest free slot, which takes long where there are many.
+ * NM_DONE, and the handle owns the set; NM_OPEN, NM_NODES, NM_WORKERS, NM_NO_MEMORY. */
+nm_outcome nm_set_lowest(nm_handle *set, uint32_t nodes, uint32_t workers);
+
+/* The same, but each worker looks for a free slot near those that it took and gave back last: the one to take where nobody compares slots. Give it
+ * several times the nodes that the keys take. */
+nm_outcome nm_set_near(nm_handle *set, uint32_t nodes, uint32_t workers);
+
+/* Takes the worker of a number, with all that it held when it went home. Threads that are busy at the same time are best given numbers eight apart.
+ * NM_DONE, and the worker's handle, which must be closed, owns the worker; NM_OPEN (of the worker's handle), NM_NUMBER, NM_AWAY, NM_CLOSING,
+ * NM_UNCOUNTED, NM_NO_MEMORY. */
+nm_outcome nm_set_worker(nm_handle *set, nm_handle *worker, uint32_t number);
+
+/* Ends the set when all its workers are at home. NM_DONE, and the handle owns the report from then on. NM_AWAY, NM_NOT_ALL, NM_NO_MEMORY: the handle
+ * owns the set still; behind the last two its workers may have been gathered, so that only this function goes on. */
+nm_outcome nm_set_close(nm_handle *set);
+
+/* Gives up what any handle owns, and closes the handle: a worker goes home, with all that it holds, and can be taken again; a set that was not closed
+ * is left to its workers, the last of which ends it; a report is forgotten. NM_DONE; NM_CLOSED. */
+nm_outcome nm_drop(nm_handle *handle);
+
+/* ---- a worker, for a key ----
+ * Of a closed handle these and all that follow for a worker tell NM_CLOSED, and of one that owns something else NM_KIND.
+ * No call waits for another worker. Where two meet, one of them may lose a try, and a call gives up after so many: some tens are enough, and where
+ * they are not, call again. With 0 tries no step is made. */
+
+/* Whether the set has the key. NM_YES, NM_NO; NM_KEY, NM_BUSY, NM_PENDING, NM_HELD, NM_NO_MEMORY. */
+nm_outcome nm_worker_has(nm_handle *worker, uint64_t key, uint32_t tries);
+
+/* Inserts a key: NM_YES where it was not in the set, NM_NO where it was. NM_KEY, NM_BUSY, NM_FULL, NM_PENDING, NM_HELD, NM_NO_MEMORY. */
+nm_outcome nm_worker_insert(nm_handle *worker, uint64_t key, uint32_t tries);
+
+/* Deletes a key: NM_YES where it was in the set, NM_NO where it was not. NM_KEY, NM_BUSY, NM_UNFINISHED, NM_PENDING, NM_HELD, NM_NO_MEMORY.
+ * NM_YES takes two tries at least. */
+nm_outcome nm_worker_delete(nm_handle *worker, uint64_t key, uint32_t tries);
+
+/* Goes on with the delete that is pending: NM_YES where it has answered now, NM_NO where none is pending. NM_UNFINISHED: the key is pending still. */
+nm_outcome nm_worker_finish(nm_handle *worker, uint32_t tries);
+
+/* ---- a worker, on the epoch ----
+ * A node that was cut off waits in its worker's queue until every worker that was pinned at the cut has left: so advance twice and collect, every
+ * few dozen deletes, say. */
+
+/* Pins the epoch for the caller, until nm_worker_unpin, and writes it: nothing that is in the tree now is freed meanwhile. NM_DONE; NM_BUSY, with the
+ * epoch last read written; NM_PENDING, NM_HELD. */
+nm_outcome nm_worker_pin(nm_handle *worker, uint32_t tries, uint64_t *epoch);
+
+/* Ends the caller's pin. NM_DONE; NM_NOT_HELD. */
+nm_outcome nm_worker_unpin(nm_handle *worker);
+
+/* Moves the epoch on by one, if no worker holds it back. NM_DONE, and the new epoch is written; NM_BEHIND, with the number of a worker that holds it
+ * back, and in epoch the one that it announces; NM_LOST, with the epoch to which another worker moved it; NM_SPENT. */
+nm_outcome nm_worker_advance(nm_handle *worker, uint64_t *epoch, uint32_t *behind);
+
+/* Which workers hold the epoch back. NM_DONE, with the epoch, and a mask with bit w set exactly where worker w was found announcing another one. */
+nm_outcome nm_worker_behind(nm_handle *worker, uint64_t *epoch, uint64_t *mask);
+
+/* Frees what has waited long enough in the queues that the worker holds. NM_DONE, with the epoch, and how many nodes were freed. */
+nm_outcome nm_worker_collect(nm_handle *worker, uint64_t *epoch, uint64_t *freed);
+
+/* ---- a worker, of itself ---- */
+
+/* Its number. NM_DONE. */
+nm_outcome nm_worker_number(nm_handle *worker, uint32_t *number);
+
+/* How many nodes wait in the queues that it holds. NM_DONE. */
+nm_outcome nm_worker_queue_len(nm_handle *worker, uint64_t *nodes);
+
+/* The key of a delete that has flagged its leaf and not answered yet. NM_YES, with the key; NM_NO. */
+nm_outcome nm_worker_pending(nm_handle *worker, uint64_t *key);
+
+/* The epoch at which it is held, from a pin until its unpin. NM_YES, with the epoch; NM_NO. */
+nm_outcome nm_worker_held(nm_handle *worker, uint64_t *epoch);
+
+/* What it has won, and what became of what it cut off. NM_DONE. */
+nm_outcome nm_worker_ledger(nm_handle *worker, nm_ledger *ledger);
+
+/* The worker of number leaver, which must be at home, resigns to this one, which then holds all that it held; the leaver never comes back. NM_DONE.
+ * NM_NUMBER; NM_AWAY, NM_HELD and NM_PENDING, which are of the leaver. */
+nm_outcome nm_worker_resign(nm_handle *worker, uint32_t leaver);
+
+/* ---- the report of a set that was closed ----
+ * Of a closed handle these tell NM_CLOSED, and of one that owns something else NM_KIND. */
+
+/* How many slots are free, and how many are reached from the root, the five fixed ones left out. NM_DONE. */
+nm_outcome nm_report_slots(nm_handle *report, uint32_t *free, uint32_t *reached);
+
+/* How many keys the set had. NM_DONE. */
+nm_outcome nm_report_keys(nm_handle *report, uint64_t *count);
+
+/* The key at an index, from 0 on; the keys ascend. NM_DONE; NM_NUMBER where there are no more. */
+nm_outcome nm_report_key(nm_handle *report, uint64_t index, uint64_t *key);
+
+/* How many nodes wait of those that a worker's splices cut off. NM_DONE; NM_NUMBER where there is no such worker. */
+nm_outcome nm_report_queue(nm_handle *report, uint32_t worker, uint64_t *nodes);
+
+/* Takes the oldest node out of a worker's queue. NM_YES, with the node; NM_NO where none waits any more; NM_NUMBER where there is no such worker. */
+nm_outcome nm_report_waiting(nm_handle *report, uint32_t worker, nm_waiting *waiting);
+
+#ifdef __cplusplus
+}
+#endif
+
+#endif

@@ -1,0 +1,166 @@
+/* Each function once and more, by one thread, and each outcome that one thread can meet without a refusal of memory. */
+#include "nm_set.h"
+
+#include <stdio.h>
+#include <stdlib.h>
+
+enum { TRIES = 64, NOT_WRITTEN = 77 };
+
+#define CHECK(holds) ((holds) ? (void)0 : fail(__LINE__, #holds))
+
+static void fail(int line, const char *what) {
+    fprintf(stderr, "outcomes.c, line %d: not so: %s\n", line, what);
+    exit(1);
+}
+
+/* What any call for a key tells. */
+static void each_tells(nm_handle *worker, uint64_t key, nm_outcome wanted) {
+    CHECK(nm_worker_has(worker, key, TRIES) == wanted);
+    CHECK(nm_worker_insert(worker, key, TRIES) == wanted);
+    CHECK(nm_worker_delete(worker, key, TRIES) == wanted);
+}
+
+/* What is no open worker, or no report, tells that, and writes nothing. */
+static void is_refused(nm_handle *handle, nm_outcome worker, nm_outcome report) {
+    uint64_t wide = NOT_WRITTEN, other = NOT_WRITTEN;
+    uint32_t narrow = NOT_WRITTEN, second = NOT_WRITTEN;
+    nm_ledger ledger = {NOT_WRITTEN, 0, 0, 0, 0, 0};
+    nm_waiting waiting = {NOT_WRITTEN, 0, 0};
+    if (worker != NM_DONE) {
+        each_tells(handle, 5, worker);
+        CHECK(nm_worker_finish(handle, TRIES) == worker);
+        CHECK(nm_worker_pin(handle, TRIES, &wide) == worker && nm_worker_unpin(handle) == worker);
+        CHECK(nm_worker_advance(handle, &wide, &narrow) == worker && nm_worker_behind(handle, &wide, &other) == worker);
+        CHECK(nm_worker_collect(handle, &wide, &other) == worker && nm_worker_number(handle, &narrow) == worker);
+        CHECK(nm_worker_queue_len(handle, &wide) == worker && nm_worker_pending(handle, &wide) == worker);
+        CHECK(nm_worker_held(handle, &wide) == worker && nm_worker_ledger(handle, &ledger) == worker);
+        CHECK(nm_worker_resign(handle, 0) == worker);
+    }
+    if (report != NM_DONE) {
+        CHECK(nm_report_slots(handle, &narrow, &second) == report && nm_report_keys(handle, &wide) == report);
+        CHECK(nm_report_key(handle, 0, &wide) == report && nm_report_queue(handle, 0, &wide) == report);
+        CHECK(nm_report_waiting(handle, 0, &waiting) == report);
+    }
+    CHECK(wide == NOT_WRITTEN && other == NOT_WRITTEN && narrow == NOT_WRITTEN && second == NOT_WRITTEN);
+    CHECK(ledger.links == NOT_WRITTEN && waiting.slot == NOT_WRITTEN);
+}
+
+static void sizes(void) {
+    nm_handle set = NM_CLOSED_HANDLE;
+    CHECK(nm_set_lowest(&set, 6, 1) == NM_NODES && nm_set_near(&set, 1048577, 65) == NM_NODES);
+    CHECK(nm_set_lowest(&set, 7, 0) == NM_WORKERS && nm_set_near(&set, 7, 65) == NM_WORKERS);
+    CHECK(nm_set_near(&set, 1048576, 64) == NM_DONE && nm_set_lowest(&set, 7, 1) == NM_OPEN && nm_set_near(&set, 7, 1) == NM_OPEN);
+    CHECK(nm_drop(&set) == NM_DONE && nm_drop(&set) == NM_CLOSED && set.at == NULL);
+}
+
+static void kinds(void) {
+    nm_handle set = NM_CLOSED_HANDLE, worker = NM_CLOSED_HANDLE, none = NM_CLOSED_HANDLE;
+    CHECK(nm_set_lowest(&set, 16, 1) == NM_DONE && nm_set_worker(&set, &worker, 0) == NM_DONE);
+    CHECK(nm_set_worker(&set, &worker, 0) == NM_OPEN && nm_set_worker(&set, &none, 1) == NM_NUMBER);
+    CHECK(nm_set_worker(&set, &none, 0) == NM_AWAY && nm_set_close(&set) == NM_AWAY);
+    nm_handle other = NM_CLOSED_HANDLE;
+    CHECK(nm_set_worker(&none, &other, 0) == NM_CLOSED && nm_set_worker(&worker, &other, 0) == NM_KIND);
+    CHECK(nm_set_close(&none) == NM_CLOSED && nm_set_close(&worker) == NM_KIND);
+    is_refused(&none, NM_CLOSED, NM_CLOSED);
+    is_refused(&set, NM_KIND, NM_KIND);
+    is_refused(&worker, NM_DONE, NM_KIND);
+    each_tells(&worker, UINT64_MAX - 2, NM_KEY);
+    CHECK(nm_worker_insert(&worker, UINT64_MAX - 3, TRIES) == NM_YES);
+    CHECK(nm_drop(&worker) == NM_DONE && nm_set_close(&set) == NM_DONE);
+    is_refused(&set, NM_KIND, NM_DONE);
+    CHECK(nm_drop(&set) == NM_DONE);
+}
+
+static void answers(void) {
+    nm_handle set = NM_CLOSED_HANDLE, worker = NM_CLOSED_HANDLE;
+    CHECK(nm_set_near(&set, 7, 2) == NM_DONE && nm_set_worker(&set, &worker, 1) == NM_DONE);
+    CHECK(nm_worker_has(&worker, 5, 0) == NM_BUSY && nm_worker_has(&worker, 5, TRIES) == NM_NO);
+    CHECK(nm_worker_insert(&worker, 5, TRIES) == NM_YES && nm_worker_insert(&worker, 5, TRIES) == NM_NO);
+    CHECK(nm_worker_has(&worker, 5, TRIES) == NM_YES && nm_worker_insert(&worker, 6, TRIES) == NM_FULL);
+    CHECK(nm_worker_delete(&worker, 6, TRIES) == NM_NO && nm_worker_finish(&worker, TRIES) == NM_NO);
+    uint64_t key = NOT_WRITTEN;
+    CHECK(nm_worker_pending(&worker, &key) == NM_NO && key == NOT_WRITTEN);
+    CHECK(nm_worker_delete(&worker, 5, 1) == NM_UNFINISHED && nm_worker_finish(&worker, 0) == NM_UNFINISHED);
+    CHECK(nm_worker_pending(&worker, &key) == NM_YES && key == 5);
+    each_tells(&worker, 5, NM_PENDING);
+    CHECK(nm_worker_pin(&worker, TRIES, &key) == NM_PENDING && key == 5);
+    CHECK(nm_worker_finish(&worker, TRIES) == NM_YES && nm_worker_delete(&worker, 5, TRIES) == NM_NO);
+    CHECK(nm_drop(&set) == NM_DONE && nm_worker_has(&worker, 5, TRIES) == NM_NO && nm_drop(&worker) == NM_DONE);
+}
+
+/* A worker that is held stays where it is, and holds the others back. */
+static void epochs(void) {
+    nm_handle set = NM_CLOSED_HANDLE, reader = NM_CLOSED_HANDLE, writer = NM_CLOSED_HANDLE;
+    uint64_t epoch = NOT_WRITTEN, mask = NOT_WRITTEN, freed = NOT_WRITTEN;
+    uint32_t behind = NOT_WRITTEN;
+    CHECK(nm_set_lowest(&set, 64, 4) == NM_DONE);
+    CHECK(nm_set_worker(&set, &reader, 2) == NM_DONE && nm_set_worker(&set, &writer, 0) == NM_DONE);
+    CHECK(nm_worker_unpin(&reader) == NM_NOT_HELD && nm_worker_held(&reader, &epoch) == NM_NO && epoch == NOT_WRITTEN);
+    CHECK(nm_worker_pin(&reader, 0, &epoch) == NM_BUSY && epoch == 0);
+    CHECK(nm_worker_pin(&reader, TRIES, &epoch) == NM_DONE && nm_worker_pin(&reader, TRIES, &epoch) == NM_HELD);
+    each_tells(&reader, 5, NM_HELD);
+    CHECK(nm_worker_insert(&writer, 5, TRIES) == NM_YES && nm_worker_delete(&writer, 5, TRIES) == NM_YES);
+    CHECK(nm_worker_advance(&writer, &epoch, &behind) == NM_DONE && epoch == 1 && behind == NOT_WRITTEN);
+    CHECK(nm_worker_advance(&writer, &epoch, &behind) == NM_BEHIND && epoch == 0 && behind == 2);
+    CHECK(nm_worker_behind(&writer, &epoch, &mask) == NM_DONE && epoch == 1 && mask == 4);
+    CHECK(nm_worker_collect(&writer, &epoch, &freed) == NM_DONE && epoch == 1 && freed == 0);
+    CHECK(nm_worker_held(&reader, &mask) == NM_YES && mask == 0 && nm_worker_unpin(&reader) == NM_DONE);
+    CHECK(nm_worker_advance(&writer, &epoch, &behind) == NM_DONE && epoch == 2);
+    CHECK(nm_worker_collect(&writer, &epoch, &freed) == NM_DONE && epoch == 2 && freed == 2);
+    CHECK(nm_drop(&reader) == NM_DONE && nm_drop(&writer) == NM_DONE && nm_drop(&set) == NM_DONE);
+}
+
+/* A worker at home resigns, and what it cut off is told in the report as its own. */
+static void ends(void) {
+    nm_handle set = NM_CLOSED_HANDLE, heir = NM_CLOSED_HANDLE, leaver = NM_CLOSED_HANDLE;
+    uint64_t nodes = NOT_WRITTEN, count = NOT_WRITTEN, key = NOT_WRITTEN;
+    uint32_t number = NOT_WRITTEN, free_slots = NOT_WRITTEN, reached = NOT_WRITTEN;
+    nm_ledger ledger;
+    nm_waiting waiting;
+    CHECK(nm_set_lowest(&set, 64, 3) == NM_DONE);
+    CHECK(nm_set_worker(&set, &heir, 0) == NM_DONE && nm_set_worker(&set, &leaver, 1) == NM_DONE);
+    for (uint64_t each = 1; each <= 3; each++) CHECK(nm_worker_insert(&leaver, 10 - each, TRIES) == NM_YES);
+    CHECK(nm_worker_delete(&leaver, 8, TRIES) == NM_YES);
+    CHECK(nm_worker_ledger(&leaver, &ledger) == NM_DONE && ledger.links == 3 && ledger.flags == 1 && ledger.splices == 1);
+    CHECK(ledger.retired == 2 && ledger.freed == 0 && ledger.queued == 2);
+    CHECK(nm_worker_number(&leaver, &number) == NM_DONE && number == 1 && nm_worker_resign(&heir, 1) == NM_AWAY);
+    CHECK(nm_drop(&leaver) == NM_DONE && nm_worker_resign(&heir, 3) == NM_NUMBER && nm_worker_resign(&heir, 1) == NM_DONE);
+    CHECK(nm_worker_queue_len(&heir, &nodes) == NM_DONE && nodes == 2 && nm_set_worker(&set, &leaver, 1) == NM_AWAY);
+    CHECK(nm_drop(&heir) == NM_DONE && nm_set_close(&set) == NM_DONE);
+    CHECK(nm_report_keys(&set, &count) == NM_DONE && count == 2);
+    CHECK(nm_report_key(&set, 0, &key) == NM_DONE && key == 7 && nm_report_key(&set, 1, &key) == NM_DONE && key == 9);
+    CHECK(nm_report_key(&set, 2, &key) == NM_NUMBER && key == 9);
+    CHECK(nm_report_slots(&set, &free_slots, &reached) == NM_DONE && free_slots == 53 && reached == 4);
+    CHECK(nm_report_queue(&set, 0, &nodes) == NM_DONE && nodes == 0 && nm_report_queue(&set, 1, &nodes) == NM_DONE && nodes == 2);
+    CHECK(nm_report_queue(&set, 3, &nodes) == NM_NUMBER && nm_report_waiting(&set, 3, &waiting) == NM_NUMBER);
+    CHECK(nm_report_waiting(&set, 0, &waiting) == NM_NO);
+    CHECK(nm_report_waiting(&set, 1, &waiting) == NM_YES && waiting.birth == 1 && waiting.label == 0);
+    CHECK(nm_report_waiting(&set, 1, &waiting) == NM_YES && nm_report_waiting(&set, 1, &waiting) == NM_NO);
+    CHECK(nm_drop(&set) == NM_DONE);
+}
+
+/* A worker that goes home as it is held, or with a key pending, does not resign, and is held or has its key still when it is taken again. */
+static void away(void) {
+    nm_handle set = NM_CLOSED_HANDLE, heir = NM_CLOSED_HANDLE, leaver = NM_CLOSED_HANDLE;
+    uint64_t epoch = NOT_WRITTEN, key = NOT_WRITTEN;
+    CHECK(nm_set_near(&set, 64, 2) == NM_DONE);
+    CHECK(nm_set_worker(&set, &heir, 0) == NM_DONE && nm_set_worker(&set, &leaver, 1) == NM_DONE);
+    CHECK(nm_worker_pin(&leaver, TRIES, &epoch) == NM_DONE && nm_drop(&leaver) == NM_DONE);
+    CHECK(nm_worker_resign(&heir, 1) == NM_HELD && nm_set_worker(&set, &leaver, 1) == NM_DONE);
+    CHECK(nm_worker_unpin(&leaver) == NM_DONE && nm_worker_insert(&leaver, 5, TRIES) == NM_YES);
+    CHECK(nm_worker_delete(&leaver, 5, 1) == NM_UNFINISHED && nm_drop(&leaver) == NM_DONE);
+    CHECK(nm_worker_resign(&heir, 1) == NM_PENDING && nm_set_worker(&set, &leaver, 1) == NM_DONE);
+    CHECK(nm_worker_pending(&leaver, &key) == NM_YES && key == 5 && nm_worker_finish(&leaver, TRIES) == NM_YES);
+    CHECK(nm_drop(&leaver) == NM_DONE && nm_drop(&heir) == NM_DONE && nm_drop(&set) == NM_DONE);
+}
+
+int main(void) {
+    sizes();
+    kinds();
+    answers();
+    epochs();
+    ends();
+    away();
+    puts("each outcome is as it should be");
+    return 0;
+}

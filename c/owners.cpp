@@ -1,0 +1,122 @@
+// Owners in C++: four threads, each with a worker that was moved into it, fill one set; then its report is compared. And what owners do when they are
+// moved, are destroyed, or meet a fault.
+#include "nm_set.hpp"
+
+#include <cstdio>
+#include <cstdlib>
+#include <thread>
+#include <type_traits>
+#include <utility>
+#include <vector>
+
+namespace {
+
+constexpr std::uint64_t keys_of_each = 1000;
+constexpr std::uint32_t threads_at_work = 4;
+constexpr std::uint32_t apart = 8;
+
+static_assert(!std::is_copy_constructible_v<nm::Worker> && !std::is_copy_assignable_v<nm::Set>, "an owner is not copied");
+static_assert(std::is_nothrow_move_constructible_v<nm::Worker> && std::is_nothrow_move_assignable_v<nm::Report>, "an owner can be moved");
+
+void check(bool holds, int line) {
+    if (holds) return;
+    std::fprintf(stderr, "owners.cpp, line %d: not so\n", line);
+    std::exit(1);
+}
+
+#define CHECK(...) check((__VA_ARGS__), __LINE__)
+
+// The outcome that a call throws, or NM_DONE where it throws none.
+template <typename Call>
+nm_outcome thrown(Call call) {
+    try {
+        call();
+    } catch (const nm::Fault &fault) {
+        return fault.outcome();
+    }
+    return NM_DONE;
+}
+
+// Every fourth key, from a first one on, is inserted; and then every second one of these is erased.
+void fill(nm::Worker worker, std::uint64_t first) {
+    for (std::uint64_t number = 0; number < keys_of_each; number++) {
+        std::uint64_t key = first + number * threads_at_work;
+        while (thrown([&] { CHECK(worker.insert(key)); }) == NM_BUSY) {}
+        if (number % 2 == 0) continue;
+        nm_outcome told = thrown([&] { CHECK(worker.erase(key)); });
+        while (told == NM_BUSY) told = thrown([&] { CHECK(worker.erase(key)); });
+        while (told == NM_UNFINISHED) told = thrown([&] { CHECK(worker.finish()); });
+        CHECK(told == NM_DONE && !worker.pending());
+        if (number % 32 == 1 && worker.advance().moved()) worker.collect();
+    }
+    nm_ledger ledger = worker.ledger();
+    CHECK(ledger.links == keys_of_each && ledger.flags == keys_of_each / 2 && ledger.queued <= ledger.retired);
+}
+
+void threads_fill_a_set() {
+    constexpr std::uint32_t nodes = 16384;
+    nm::Set set = nm::Set::near(nodes, threads_at_work * apart);
+    std::vector<std::thread> threads;
+    for (std::uint32_t number = 0; number < threads_at_work; number++) threads.emplace_back(fill, set.worker(number * apart), number);
+    for (std::thread &thread : threads) thread.join();
+    nm::Report report = set.close();
+    CHECK(thrown([&] { set.worker(0); }) == NM_CLOSED);
+    std::vector<std::uint64_t> wanted;
+    for (std::uint64_t key = 0; key < keys_of_each * threads_at_work; key++)
+        if (key / threads_at_work % 2 == 0) wanted.push_back(key);
+    CHECK(report.keys() == wanted);
+    std::uint64_t waiting = 0;
+    for (std::uint32_t number = 0; number < threads_at_work * apart; number++) {
+        std::uint64_t queued = report.queue_len(number);
+        while (report.take_waiting(number)) waiting++, queued--;
+        CHECK(queued == 0);
+    }
+    nm::Slots slots = report.slots();
+    CHECK(slots.reached == 2 * wanted.size() && slots.free + slots.reached + waiting == nodes - 5);
+}
+
+void owners_are_moved() {
+    nm::Set set = nm::Set::lowest(64, 2);
+    nm::Worker first = set.worker(0);
+    CHECK(thrown([&] { set.worker(0); }) == NM_AWAY && thrown([&] { set.close(); }) == NM_AWAY);
+    nm::Worker moved = std::move(first);
+    CHECK(moved.insert(5) && !moved.insert(5) && moved.has(5) && moved.erase(5) && !moved.erase(5));
+    CHECK(thrown([&] { first.has(5); }) == NM_CLOSED && thrown([&] { first.advance(); }) == NM_CLOSED);
+    CHECK(moved.number() == 0 && moved.queue_len() == 2);
+    moved = set.worker(1);
+    CHECK(moved.number() == 1);
+    moved.take_over(0);
+    CHECK(moved.queue_len() == 2 && thrown([&] { set.worker(0); }) == NM_AWAY);
+    CHECK(moved.pin() == 0 && moved.held() == std::optional<std::uint64_t>(0) && thrown([&] { moved.has(5); }) == NM_HELD);
+    moved.unpin();
+    CHECK(!moved.held() && thrown([&] { moved.unpin(); }) == NM_NOT_HELD);
+    CHECK(moved.advance().epoch == 1 && moved.advance().epoch == 2 && moved.behind().mask == 0 && moved.collect().freed == 2);
+}
+
+void a_worker_outlives_its_set() {
+    std::vector<nm::Worker> left;
+    {
+        nm::Set set = nm::Set::near(64, 1);
+        left.push_back(set.worker(0));
+    }
+    CHECK(left.back().insert(7) && left.back().has(7));
+}
+
+void faults_are_told() {
+    CHECK(thrown([] { nm::Set::near(6, 1); }) == NM_NODES && thrown([] { nm::Set::lowest(7, 65); }) == NM_WORKERS);
+    nm::Set set = nm::Set::lowest(7, 1);
+    nm::Worker worker = set.worker(0);
+    CHECK(thrown([&] { worker.insert(UINT64_MAX); }) == NM_KEY && thrown([&] { worker.has(5, 0); }) == NM_BUSY);
+    CHECK(worker.insert(5) && thrown([&] { worker.insert(6); }) == NM_FULL);
+    CHECK(thrown([&] { worker.erase(5, 1); }) == NM_UNFINISHED && worker.pending() == std::optional<std::uint64_t>(5) && worker.finish());
+}
+
+}  // namespace
+
+int main() {
+    threads_fill_a_set();
+    owners_are_moved();
+    a_worker_outlives_its_set();
+    faults_are_told();
+    std::puts("owners own, move and give up");
+}

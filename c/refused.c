@@ -1,0 +1,83 @@
+/* Makes each call again where memory was refused. With any one growth refused it writes what it writes without, which is in refused.out. */
+#include "nm_set.h"
+
+#include <inttypes.h>
+#include <stdio.h>
+#include <stdlib.h>
+
+enum { NODES = 512, KEYS = 150, TRIES = 64 };
+
+#define CHECK(holds) ((holds) ? (void)0 : fail(__LINE__, #holds))
+
+static void fail(int line, const char *what) {
+    fprintf(stderr, "refused.c, line %d: not so: %s\n", line, what);
+    exit(1);
+}
+
+/* A refused set leaves its handle closed. */
+static void make(nm_handle *set) {
+    nm_outcome told;
+    while ((told = nm_set_near(set, NODES, 2)) == NM_NO_MEMORY) CHECK(set->at == NULL);
+    CHECK(told == NM_DONE);
+}
+
+/* A worker that memory was refused for is at home still. */
+static void take(nm_handle *set, nm_handle *worker, uint32_t number) {
+    nm_outcome told;
+    while ((told = nm_set_worker(set, worker, number)) == NM_NO_MEMORY) CHECK(worker->at == NULL && set->at != NULL);
+    CHECK(told == NM_DONE);
+}
+
+static nm_outcome insert(nm_handle *worker, uint64_t key) {
+    nm_outcome told;
+    do told = nm_worker_insert(worker, key, TRIES);
+    while (told == NM_NO_MEMORY);
+    return told;
+}
+
+/* A refused delete has left its key in the set, or it is pending. */
+static nm_outcome delete(nm_handle *worker, uint64_t key) {
+    nm_outcome told;
+    while ((told = nm_worker_delete(worker, key, TRIES)) == NM_NO_MEMORY) CHECK(nm_worker_has(worker, key, TRIES) == NM_YES);
+    while (told == NM_UNFINISHED) told = nm_worker_finish(worker, TRIES);
+    return told;
+}
+
+/* Behind a close that was refused memory, the workers are gathered, so that nothing but close goes on; or the set gives them out as before. */
+static void end(nm_handle *set) {
+    nm_outcome told;
+    while ((told = nm_set_close(set)) == NM_NO_MEMORY) {
+        nm_handle worker = NM_CLOSED_HANDLE;
+        nm_outcome taken = nm_set_worker(set, &worker, 0);
+        CHECK(taken == NM_CLOSING || (taken == NM_DONE && nm_drop(&worker) == NM_DONE));
+    }
+    CHECK(told == NM_DONE);
+}
+
+static void tell(nm_handle *report) {
+    uint64_t count, key, first, second;
+    uint32_t free_slots, reached;
+    CHECK(nm_report_keys(report, &count) == NM_DONE && nm_report_slots(report, &free_slots, &reached) == NM_DONE);
+    CHECK(nm_report_queue(report, 0, &first) == NM_DONE && nm_report_queue(report, 1, &second) == NM_DONE);
+    printf("keys");
+    for (uint64_t index = 0; index < count; index++) {
+        CHECK(nm_report_key(report, index, &key) == NM_DONE);
+        printf(" %" PRIu64, key);
+    }
+    printf("\nfree %" PRIu32 " reached %" PRIu32 " waiting %" PRIu64 " and %" PRIu64 "\n", free_slots, reached, first, second);
+}
+
+int main(void) {
+    nm_handle set = NM_CLOSED_HANDLE, first = NM_CLOSED_HANDLE, second = NM_CLOSED_HANDLE;
+    make(&set);
+    take(&set, &first, 0);
+    take(&set, &second, 1);
+    for (uint64_t key = 0; key < KEYS; key++) CHECK(insert(&first, key * 37 % KEYS) == NM_YES);
+    for (uint64_t key = 0; key < KEYS; key++)
+        if (key % 16 != 0) CHECK(delete(key % 3 == 0 ? &second : &first, key) == NM_YES);
+    CHECK(nm_drop(&first) == NM_DONE && nm_drop(&second) == NM_DONE);
+    end(&set);
+    tell(&set);
+    CHECK(nm_drop(&set) == NM_DONE);
+    return 0;
+}
