@@ -24,15 +24,16 @@ pub struct Member {
 }
 
 impl Model for Member {
+    ghost use Rattle.std.specs.Prelude.{◌≡◌};
     ghost use Rattle.std.specs.Arc.{arc_value};
     ghost use Rattle.nm_steps.specs.Steps.{IsOf};
     ghost use Rattle.nm_set.specs.Seats.{Seated};
 
     ghost Value = { Seated };
 
-    ghost view = { λ m. record { board = arc_value m.home; hand = m.worker } };
+    ghost view = { λ m. record { board = (arc_value m.home).tree; hand = m.worker } };
 
-    ghost invariant = { λ m. IsOf (arc_value m.home) m.worker.pass };
+    ghost invariant = { λ m. IsOf (arc_value m.home).tree m.worker.pass × (m.worker.fit ≡ (arc_value m.home).fit) };
 }
 
 /// A member has not taken over a worker. It is as it was.
@@ -44,8 +45,9 @@ pub struct ResignError {
 
 impl Member {
     pub(crate) fn of(home: Arc<Home, Global>, worker: Worker) -> Member
-        requires own { IsOf (arc_value home) worker.pass }
-        ensures board { result.board ≡ (arc_value home) }
+        requires own { IsOf (arc_value home).tree worker.pass }
+        requires fit { worker.fit ≡ (arc_value home).fit }
+        ensures board { result.board ≡ (arc_value home).tree }
         ensures hand { result.hand ≡ worker }
     {
         Member { home, worker }
@@ -206,7 +208,7 @@ impl Member {
     ///
     /// Refused, nothing has changed, and the member is handed back as it was.
     pub fn resign(self, leaver: u32) -> Result<Member, ResignError>
-        ensures done { IfOk result (λ m. (m.board ≡ self.board) × (w : Hand) × IsResident self.board leaver w × HasResigned self.hand w m.hand) }
+        ensures done { IfOk result (λ m. (m.board ≡ self.board) × (w : Hand) × IsResident self.board self.hand.fit leaver w × HasResigned self.hand w m.hand) }
         ensures refused { IfErr result (λ e. e.member ≡ self) }
     {
         let Member { home, worker } = self;

@@ -1,14 +1,15 @@
 //! Sets: a tree that gives out its workers as members, and is closed when all of them are at home.
 ghost use Rattle.std.specs.Prelude.{◌≡◌, ◌<◌, ◌≤◌, ◌↔◌, ◌⊎◌, true, false, length, IfOk, IfErr, IsErrOf};
 ghost use Rattle.std.specs.Arc.{arc_value};
-ghost use Rattle.nm_tree.specs.Workers.{AreNew};
+ghost use Rattle.nm_tree.specs.Workers.{AreNew, HaveFit};
 ghost use Rattle.nm_set.specs.Seats.{IsResident};
 ghost use Rattle.nm_set.specs.Ends.{EndsSet};
 
 use crate::fault::{CloseReason, MemberFault};
-use crate::home::{Absence, Home};
+use crate::home::{Absence, Home, Site};
 use crate::member::Member;
 use nm_edge::{LEAST_NODES, MOST_NODES, MOST_WORKERS};
+use nm_pool::Fit;
 use nm_tree::{NewError, Report, Tree, Worker};
 use std::alloc::Global;
 use std::marker::Model;
@@ -17,19 +18,19 @@ use std::sync::Arc;
 /// A tree whose workers were gathered, by a close that was refused behind that.
 #[derive(Drop)]
 pub(crate) struct Gathered {
-    tree: Tree,
+    site: Site,
     workers: Vec<Worker>,
 }
 
 impl Model for Gathered {
-    ghost use Rattle.nm_steps.specs.Steps.{Board};
     ghost use Rattle.nm_tree.specs.Closing.{AreAllOf};
+    ghost use Rattle.nm_set.specs.declared.home.Site.{Site};
 
-    ghost Value = { Board };
+    ghost Value = { Site };
 
-    ghost view = { λ g. g.tree };
+    ghost view = { λ g. g.site };
 
-    ghost invariant = { λ g. AreAllOf g.tree g.workers.items };
+    ghost invariant = { λ g. AreAllOf g.site.tree g.workers.items };
 }
 
 /// Where a set stands.
@@ -69,26 +70,36 @@ impl Set {
     /// `NoMemory`: nothing is kept.
     pub fn lowest(alloc: Global, nodes: u32, workers: u32) -> Result<Set, NewError>
         ensures open { IfOk result (λ s. (s.closing ≡ false) × (s.board.layout ≡ record { nodes = nodes; workers = workers })) }
+        ensures fit { IfOk result (λ s. s.fit ≡ Fit.Lowest) }
         ensures nodes { IsErrOf result NewError.Nodes ↔ ((nodes < LEAST_NODES) ⊎ (MOST_NODES < nodes)) }
         ensures workers { IsErrOf result NewError.Workers ↔ ((LEAST_NODES ≤ nodes) × (nodes ≤ MOST_NODES) × ((workers < 1) ⊎ (MOST_WORKERS < workers))) }
     {
         let (tree, workers) = Tree::new(alloc, nodes, workers)?;
-        settle(alloc, tree, workers)
+        let site = Site {
+            tree,
+            fit: Fit::Lowest,
+        };
+        settle(alloc, site, workers)
     }
 
     /// The same, but each worker looks for a free slot near those that it took and gave back last: `Tree::near` of `nm_tree`.
     pub fn near(alloc: Global, nodes: u32, workers: u32) -> Result<Set, NewError>
         ensures open { IfOk result (λ s. (s.closing ≡ false) × (s.board.layout ≡ record { nodes = nodes; workers = workers })) }
+        ensures fit { IfOk result (λ s. s.fit ≡ Fit.Near) }
         ensures nodes { IsErrOf result NewError.Nodes ↔ ((nodes < LEAST_NODES) ⊎ (MOST_NODES < nodes)) }
         ensures workers { IsErrOf result NewError.Workers ↔ ((LEAST_NODES ≤ nodes) × (nodes ≤ MOST_NODES) × ((workers < 1) ⊎ (MOST_WORKERS < workers))) }
     {
         let (tree, workers) = Tree::near(alloc, nodes, workers)?;
-        settle(alloc, tree, workers)
+        let site = Site {
+            tree,
+            fit: Fit::Near,
+        };
+        settle(alloc, site, workers)
     }
 
     /// Gives out the worker of a number, with all that it held when it went home.
     pub fn member(&self, number: u32) -> Result<Member, MemberFault>
-        ensures member { IfOk result (λ m. (m.board ≡ self.now.board) × IsResident self.now.board number m.hand) }
+        ensures member { IfOk result (λ m. (m.board ≡ self.now.board) × IsResident self.now.board self.now.fit number m.hand) }
         ensures number { IsErrOf result MemberFault.Number → self.now.board.layout.workers ≤ number }
         ensures closing { IsErrOf result MemberFault.Closing ↔ (self.now.closing ≡ true) }
     {
@@ -112,7 +123,7 @@ impl Set {
     /// `Away`: a member is not closed. `NotAll`, `NoMemory`: see `CloseReason`; `close` can be called again.
     pub fn close(self, alloc: Global) -> Result<Report, CloseError>
         ensures closed { IfOk result (EndsSet self.board) }
-        ensures refused { IfErr result (λ e. e.set.board ≡ self.board) }
+        ensures refused { IfErr result (λ e. (e.set.board ≡ self.board) × (e.set.fit ≡ self.fit)) }
     {
         let Set { state } = self;
         let gathered = match state {
@@ -127,13 +138,14 @@ impl Set {
 }
 
 /// A set of a new tree and all its workers.
-fn settle(alloc: Global, tree: Tree, workers: Vec<Worker>) -> Result<Set, NewError>
-    requires new { AreNew tree 0 workers.items }
-    requires all { length workers.items ≡ tree.layout.workers }
-    ensures set { IfOk result (λ s. (s.closing ≡ false) × (s.board ≡ tree)) }
+fn settle(alloc: Global, site: Site, workers: Vec<Worker>) -> Result<Set, NewError>
+    requires new { AreNew site.tree 0 workers.items }
+    requires all { length workers.items ≡ site.tree.layout.workers }
+    requires fit { HaveFit site.fit workers.items }
+    ensures set { IfOk result (λ s. (s.closing ≡ false) × (s.board ≡ site.tree) × (s.fit ≡ site.fit)) }
     ensures memory { IfErr result (λ e. e ≡ NewError.NoMemory) }
 {
-    let Ok(home) = Home::of(alloc, tree, workers) else {
+    let Ok(home) = Home::of(alloc, site, workers) else {
         return Err(NewError::NoMemory);
     };
     match Arc::new(alloc, home) {
@@ -147,7 +159,7 @@ fn settle(alloc: Global, tree: Tree, workers: Vec<Worker>) -> Result<Set, NewErr
 /// Takes all workers from their seats, where no member has the home too.
 fn gather(alloc: Global, home: Arc<Home, Global>) -> Result<Gathered, CloseError>
     ensures gathered { IfOk result (λ g. g ≡ arc_value home) }
-    ensures refused { IfErr result (λ e. (e.set.board ≡ arc_value home) × (e.set.closing ≡ false)) }
+    ensures refused { IfErr result (λ e. (e.set.board ≡ (arc_value home).tree) × (e.set.fit ≡ (arc_value home).fit) × (e.set.closing ≡ false)) }
 {
     let Ok(room) = Vec::with_capacity(alloc, home.workers()) else {
         return Err(CloseError {
@@ -159,8 +171,8 @@ fn gather(alloc: Global, home: Arc<Home, Global>) -> Result<Gathered, CloseError
     };
     match Arc::try_unwrap(home) {
         Ok(home) => {
-            let (tree, workers) = home.gather(room);
-            Ok(Gathered { tree, workers })
+            let (site, workers) = home.gather(room);
+            Ok(Gathered { site, workers })
         }
         Err(home) => Err(CloseError {
             reason: CloseReason::Away,
@@ -173,17 +185,21 @@ fn gather(alloc: Global, home: Arc<Home, Global>) -> Result<Gathered, CloseError
 
 /// Closes a tree whose workers were gathered.
 fn end(gathered: Gathered) -> Result<Report, CloseError>
-    ensures closed { IfOk result (EndsSet gathered) }
-    ensures refused { IfErr result (λ e. (e.set.board ≡ gathered) × (e.set.closing ≡ true)) }
+    ensures closed { IfOk result (EndsSet gathered.tree) }
+    ensures refused { IfErr result (λ e. (e.set.board ≡ gathered.tree) × (e.set.fit ≡ gathered.fit) × (e.set.closing ≡ true)) }
 {
-    let Gathered { tree, workers } = gathered;
+    let Gathered { site, workers } = gathered;
+    let Site { tree, fit } = site;
     match tree.close(workers) {
         Ok(report) => Ok(report),
         Err(error) => Err(CloseError {
             reason: reason_of(error.reason),
             set: Set {
                 state: State::Closing(Gathered {
-                    tree: error.tree,
+                    site: Site {
+                        tree: error.tree,
+                        fit,
+                    },
                     workers: error.workers,
                 }),
             },

@@ -1,5 +1,6 @@
 -- What calls on a set tell and leave.
 use Rattle.std.specs.Prelude.{◌≡◌, ◌≤◌, ◌⊎◌, ◌↔◌, ⊤, ℕ, true, false, Option, Some, None}
+use Rattle.nm_pool.specs.declared.placement.Fit.{Fit}
 use Rattle.nm_set.specs.declared.fault.CloseReason.{CloseReason}
 use Rattle.nm_set.specs.declared.fault.MemberFault.{MemberFault}
 use Rattle.nm_set.specs.declared.fault.MemberFault.TheVariants as taking
@@ -21,30 +22,31 @@ HasNodes nodes = (7 ≤ nodes) × (nodes ≤ 1048576)
 abbrev pub HasWorkers : ℕ → Type 0
 HasWorkers workers = (1 ≤ workers) × (workers ≤ 64)
 
--- an open set with so many nodes and workers
-pub record IsNewSet (nodes workers : ℕ) (s : Standing) : Type 0 where
+-- an open set with so many nodes and workers, which claim by that fit
+pub record IsNewSet (f : Fit) (nodes workers : ℕ) (s : Standing) : Type 0 where
   pub begins : s.closing ≡ false
+  pub fit : s.fit ≡ f
   pub layout : s.board.layout ≡ record { nodes = nodes; workers = workers }
 
 -- with sizes that fit, the handle has a new set, or memory was refused; else which size does not fit is told, the nodes first
-abbrev pub IsMade : ℕ → ℕ → Option Owner → Outcome → Type 0
-IsMade nodes workers new o =
-    ((o ≡ outcome.Done) × HasNodes nodes × HasWorkers workers × (s : Standing) × (new ≡ Some (Set s)) × IsNewSet nodes workers s)
+abbrev pub IsMade : Fit → ℕ → ℕ → Option Owner → Outcome → Type 0
+IsMade f nodes workers new o =
+    ((o ≡ outcome.Done) × HasNodes nodes × HasWorkers workers × (s : Standing) × (new ≡ Some (Set s)) × IsNewSet f nodes workers s)
     ⊎ (((o ≡ outcome.NoMemory) × HasNodes nodes × HasWorkers workers × (new ≡ None))
     ⊎ (((o ≡ outcome.Nodes) × (HasNodes nodes → ⊥) × (new ≡ None))
     ⊎ ((o ≡ outcome.Workers) × HasNodes nodes × (HasWorkers workers → ⊥) × (new ≡ None))))
 
 -- a handle that is open already is as it was
-abbrev pub MakesSet : ℕ → ℕ → Option Owner → Option Owner → Outcome → Type 0
-MakesSet nodes workers None new o = IsMade nodes workers new o
-MakesSet nodes workers (Some x) new o = Refused outcome.Open ⊤ (Some x) new o
+abbrev pub MakesSet : Fit → ℕ → ℕ → Option Owner → Option Owner → Outcome → Type 0
+MakesSet f nodes workers None new o = IsMade f nodes workers new o
+MakesSet f nodes workers (Some x) new o = Refused outcome.Open ⊤ (Some x) new o
 
 -- ---- a worker of a set
 
 -- the handle has the worker of that number, or why not is told, and it is closed
 abbrev pub IsTaken : ℕ → Standing → Option Owner → Outcome → Type 0
 IsTaken number s new o =
-    ((o ≡ outcome.Done) × (s.closing ≡ false) × (m : Seated) × (new ≡ Some (Worker m)) × (m.board ≡ s.board) × IsResident s.board number m.hand)
+    ((o ≡ outcome.Done) × (s.closing ≡ false) × (m : Seated) × (new ≡ Some (Worker m)) × (m.board ≡ s.board) × IsResident s.board s.fit number m.hand)
     ⊎ (((o ≡ outcome.NoMemory) × (s.closing ≡ false) × (new ≡ None))
     ⊎ ((why : MemberFault) × (o ≡ of_taking why) × (new ≡ None) × (why ≡ taking.Number → s.board.layout.workers ≤ number) × ((why ≡ taking.Closing) ↔ (s.closing ≡ true))))
 
@@ -59,11 +61,11 @@ TakesWorker number (Some Nothing) None new o = Refused outcome.Kind ⊤ None new
 
 -- ---- the end of a set
 
--- the handle has the report, or why not is told, and it has the set still, of the same tree
+-- the handle has the report, or why not is told, and it has the set still, of the same tree and the same fit
 abbrev pub IsEnded : Standing → Option Owner → Outcome → Type 0
 IsEnded s new o =
     ((o ≡ outcome.Done) × (r : Report) × (new ≡ Some (Ended r)) × EndsSet s.board r)
-    ⊎ ((why : CloseReason) × (o ≡ of_reason why) × (t : Standing) × (new ≡ Some (Set t)) × (t.board ≡ s.board))
+    ⊎ ((why : CloseReason) × (o ≡ of_reason why) × (t : Standing) × (new ≡ Some (Set t)) × (t.board ≡ s.board) × (t.fit ≡ s.fit))
 
 abbrev pub EndsHandle : Option Owner → Option Owner → Outcome → Type 0
 EndsHandle None new o = Refused outcome.Closed ⊤ None new o

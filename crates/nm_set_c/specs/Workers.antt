@@ -150,5 +150,5 @@ pub record TellsLedger (ledger : Ledger) (m n : Seated) (o : Outcome) : Type 0 w
 -- the worker of that number, which was at home, has resigned to this one; or it has not, why is told, and this one is as it was
 abbrev pub DoesResign : ℕ → Seated → Seated → Outcome → Type 0
 DoesResign leaver m n o =
-    ((o ≡ outcome.Done) × (n.board ≡ m.board) × (w : Hand) × IsResident m.board leaver w × HasResigned m.hand w n.hand)
+    ((o ≡ outcome.Done) × (n.board ≡ m.board) × (w : Hand) × IsResident m.board m.hand.fit leaver w × HasResigned m.hand w n.hand)
     ⊎ ((why : ResignReason) × (o ≡ of_staying why) × (n ≡ m))

@@ -1,5 +1,6 @@
 //! Calls on a set, by its handle.
 ghost use Rattle.std.specs.Prelude.{◌≡◌, ◌⊎◌, Some, None};
+ghost use Rattle.nm_pool.specs.declared.placement.Fit.TheVariants.{Lowest, Near};
 ghost use Rattle.nm_set_c.specs.Outcomes.{Tells};
 ghost use Rattle.nm_set_c.specs.Sets.{MakesSet, TakesWorker, EndsHandle, GivesUp};
 
@@ -14,7 +15,7 @@ use std::mem::replace;
 /// `Set::lowest` of `nm_set`. `Done`, and the handle is open; `Open`, `Nodes`, `Workers`, `NoMemory`.
 #[unsafe(no_mangle)]
 pub extern "C" fn nm_set_lowest(alloc: Global, set: &mut Handle, nodes: u32, workers: u32) -> i32
-    ensures { Tells (MakesSet nodes workers set.old.held set.new.held) result }
+    ensures { Tells (MakesSet Lowest nodes workers set.old.held set.new.held) result }
 {
     if let Some(owner) = set.take(alloc) {
         *set = Handle::of(owner);
@@ -29,7 +30,7 @@ pub extern "C" fn nm_set_lowest(alloc: Global, set: &mut Handle, nodes: u32, wor
 /// The same, but each worker looks for a free slot near those that it took and gave back last: `Set::near` of `nm_set`.
 #[unsafe(no_mangle)]
 pub extern "C" fn nm_set_near(alloc: Global, set: &mut Handle, nodes: u32, workers: u32) -> i32
-    ensures { Tells (MakesSet nodes workers set.old.held set.new.held) result }
+    ensures { Tells (MakesSet Near nodes workers set.old.held set.new.held) result }
 {
     if let Some(owner) = set.take(alloc) {
         *set = Handle::of(owner);

@@ -1,9 +1,10 @@
 use Rattle.std.proofs.Common.{ℕ, suc, List, [], ◌∷◌, length, length-append, sym, ap, subst, arith}
-use Rattle.nm_steps.specs.Steps.{Board, IsOf}
+use Rattle.nm_steps.specs.Steps.{IsOf}
 use Rattle.nm_tree.specs.Closing.{AreAllOf}
 use Rattle.nm_tree.specs.Workers.{Hand}
 use Rattle.nm_tree.proofs.Closed.{all_and}
 use Rattle.nm_set.specs.Seats.{AreSeats}
+use Rattle.nm_set.specs.declared.home.Site.{Site}
 use Rattle.nm_set.proofs.home.Home.gather.Goals as goal
 
 pub loop-seat-preserved-in-Ok-1 : goal.loop-seat-preserved-in-Ok-1
@@ -13,12 +14,12 @@ loop-seat-preserved-in-Ok-1 c =
     let first = c.in-Some.ensures.steps.0 in
     let more = c.in-Ok.ensures.items in
     let k : ℕ = c.loop-seat.invariant.left.0 in
-    let seats = subst (AreSeats c.self.inside.tree k) first c.loop-seat.invariant.left.1 in
-    let R : Board × ℕ → Type 0 = λ s. IsOf s.0 worker.pass in
+    let seats = subst (AreSeats c.self.inside.site k) first c.loop-seat.invariant.left.1 in
+    let R : Site × ℕ → Type 0 = λ s. IsOf s.0.tree worker.pass in
     let own = subst R seats.0 c.in-Some-into_inner.ensures.own in
     record {
-      own = subst (AreAllOf c.self.inside.tree) (sym more) (all_and c.self.inside.tree before worker c.loop-seat.invariant.own own);
+      own = subst (AreAllOf c.self.inside.site.tree) (sym more) (all_and c.self.inside.site.tree before worker c.loop-seat.invariant.own own);
       left = (suc k, seats.1);
-      room = omega (arith, c.loop-seat.invariant.room, ap (λ (ss : List (Board × ℕ)). length ss) first, ap (λ (ws : List Hand). length ws) more, length-append before (worker ∷ []), c.in-Ok.ensures.capacity);
+      room = omega (arith, c.loop-seat.invariant.room, ap (λ (ss : List (Site × ℕ)). length ss) first, ap (λ (ws : List Hand). length ws) more, length-append before (worker ∷ []), c.in-Ok.ensures.capacity);
       same = c.loop-seat.invariant.same;
     }

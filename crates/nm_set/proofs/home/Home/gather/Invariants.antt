@@ -6,8 +6,8 @@ use Rattle.nm_set.proofs.home.Home.gather.Given as goal
 
 abbrev pub invariant-loop-seat : goal.invariant-loop-seat
 invariant-loop-seat l = record {
-  own : AreAllOf l.tree l.workers.items;
-  left : (k : ℕ) × AreSeats l.tree k l.seat-iterator.rest.items;
+  own : AreAllOf l.site.tree l.workers.items;
+  left : (k : ℕ) × AreSeats l.site k l.seat-iterator.rest.items;
   room : length l.workers.items + length l.seat-iterator.rest.items ≤ vec_capacity l.workers;
-  same : l.tree ≡ l.fn.self;
+  same : l.site ≡ l.fn.self;
 }
