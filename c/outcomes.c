@@ -1,17 +1,10 @@
 /* Each function once and more, by one thread, and each outcome that one thread can meet without a refusal of memory. */
+#include "holds.h"
 #include "nm_set.h"
 
 #include <stdio.h>
-#include <stdlib.h>
 
 enum { TRIES = 64, NOT_WRITTEN = 77 };
-
-#define CHECK(holds) ((holds) ? (void)0 : fail(__LINE__, #holds))
-
-static void fail(int line, const char *what) {
-    fprintf(stderr, "outcomes.c, line %d: not so: %s\n", line, what);
-    exit(1);
-}
 
 /* What any call for a key tells. */
 static void each_tells(nm_handle *worker, uint64_t key, nm_outcome wanted) {

@@ -1,18 +1,11 @@
 /* Makes each call again where memory was refused. With any one growth refused it writes what it writes without, which is in refused.out. */
+#include "holds.h"
 #include "nm_set.h"
 
 #include <inttypes.h>
 #include <stdio.h>
-#include <stdlib.h>
 
 enum { NODES = 512, KEYS = 150, TRIES = 64 };
-
-#define CHECK(holds) ((holds) ? (void)0 : fail(__LINE__, #holds))
-
-static void fail(int line, const char *what) {
-    fprintf(stderr, "refused.c, line %d: not so: %s\n", line, what);
-    exit(1);
-}
 
 /* A refused set leaves its handle closed. */
 static void make(nm_handle *set) {

@@ -1,20 +1,13 @@
 /* Four threads insert, delete and look up the same keys, each by a worker of its own. Then the set is closed, and its report is compared with what the
  * calls answered: a key is in the set exactly where it was inserted once more than deleted, and each slot stands somewhere. */
+#include "holds.h"
 #include "nm_set.h"
 
 #include <inttypes.h>
 #include <pthread.h>
 #include <stdio.h>
-#include <stdlib.h>
 
 enum { THREADS = 4, APART = 8, NODES = 4096, FIXED = 5, KEYS = 256, CALLS = 100000, TRIES = 64, TEND_EVERY = 64 };
-
-#define CHECK(holds) ((holds) ? (void)0 : fail(__LINE__, #holds))
-
-static void fail(int line, const char *what) {
-    fprintf(stderr, "threads.c, line %d: not so: %s\n", line, what);
-    exit(1);
-}
 
 typedef struct part {
     nm_handle worker;

@@ -1,0 +1,15 @@
+/* CHECK(what): ends the program with status 1 where that does not hold, and tells the file, the line and the text. */
+#ifndef HOLDS_H
+#define HOLDS_H
+
+#include <stdio.h>
+#include <stdlib.h>
+
+#define CHECK(holds) ((holds) ? (void)0 : fail(__FILE__, __LINE__, #holds))
+
+static void fail(const char *file, int line, const char *what) {
+    fprintf(stderr, "%s, line %d: not so: %s\n", file, line, what);
+    exit(1);
+}
+
+#endif
