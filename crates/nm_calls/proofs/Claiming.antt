@@ -248,7 +248,7 @@ part_after p q same run = subst (λ (s : Stand). IsLogOf s.view.layout s.view.nu
 module _ (p q : Stand) (f : Fit) (nodes : ℕ) (o : Option NodeId) (same : IsSamePass p q) (is : IsClaimBy f nodes p.view.log q.view.log o) (run : IsInRun p) where
   pub claim_in_run : IsLayout q.view.layout → TellsRun q → IsInRun q
   claim_in_run fits tells = elim (ends_claim f nodes p.view.log q.view.log o is) [
-    | inl stays ↦ subst IsInRun (ap (λ (log : List Entry). record p { view = record p.view { log = log } }) (sym stays) ∙ sym same) run
+    | inl stays ↦ subst IsInRun (ap (λ (log : List Entry). record p { view = record p.view { log = log; past = q.view.past } }) (sym stays) ∙ sym same) (record { fits = run.fits; run = run.run })
     | inr ends ↦ record { fits = fits; run = run_after (record q { view = record q.view { log = ends.before } }) q ends.event ends.reply ends.is ends.other tells }
   ]
 

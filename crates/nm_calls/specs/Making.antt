@@ -61,7 +61,7 @@ fills slot key left right = (Fill slot KeyOf key, Filled) ∷ (Fill slot (EdgeOn
 
 -- the key and both edges were stored, and nothing else changed
 abbrev pub HasFilled : Stand → Stand → ℕ → ℕ → ℕ → ℕ → Type 0
-HasFilled p q slot key left right = q ≡ record p { view = record p.view { log = p.view.log ++ fills slot key left right } }
+HasFilled p q slot key left right = q ≡ record p { view = record p.view { log = p.view.log ++ fills slot key left right; past = q.view.past } }
 
 -- ---- linking a new node
 

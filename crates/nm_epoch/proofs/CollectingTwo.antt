@@ -63,7 +63,7 @@ none_is_ripe p q h epoch has items zero same part settles =
     let sight : IsSightOf epoch p.view.log part.0 = part.1 in
     let freed : ripe_of epoch (h ∷ []) ≡ [] = ap (λ (n : ℕ). ripe_of n (h ∷ [])) zero ∙ ap (λ (es : List Entry). ripe_part 0 es ++ []) items in
     let log : q.view.log ≡ p.view.log ++ (Sight, sight.0) ∷ [] = part.2 ∙ (ap (λ (es : List Entry). part.0 ++ map freeing es) freed ∙ (append-nil part.0 ∙ sight.2)) in
-    let step : Stepped p q Sight sight.0 = same ∙ ap (λ (log : List LogEntry). record p { view = record p.view { log = log } }) log in
+    let step : Stepped p q Sight sight.0 = same ∙ ap (λ (log : List LogEntry). record p { view = record p.view { log = log; past = q.view.past } }) log in
     seen_zero q sight.0 (sight.1 ∙ ap (λ (n : ℕ). Some n) zero) (still_unpinned p q has settles) (knows_more (take 37 playing) p q Sight sight.0 has step)
 
 -- ---- and later

@@ -116,14 +116,14 @@ scan_is_silent (Some e) = refl
 
 module _ (me v : ℕ) (pin found : Option ℕ) (p q : Stand) (same : IsSamePass p q) (look : LooksAt me pin v found p.view.log q.view.log) where
   scanned : q.view.log ≡ p.view.log ++ (Scan v, scan_reply found) ∷ [] → Stepped p q (Scan v) (scan_reply found)
-  scanned more = same ∙ ap (λ (log : List Entry). record p { view = record p.view { log = log } }) more
+  scanned more = same ∙ ap (λ (log : List Entry). record p { view = record p.view { log = log; past = q.view.past } }) more
 
-  unmoved : q.view.log ≡ p.view.log → q ≡ p
-  unmoved none' = same ∙ ap (λ (log : List Entry). record p { view = record p.view { log = log } }) none'
+  unmoved : q.view.log ≡ p.view.log → q ≡ record p { view = record p.view { past = q.view.past } }
+  unmoved none' = same ∙ ap (λ (log : List Entry). record p { view = record p.view { log = log; past = q.view.past } }) none'
 
   pub look_keeps : KeepsHands p q
   look_keeps = ⊎_elim
-      (λ (own : (v ≡ me) × (found ≡ pin) × (q.view.log ≡ p.view.log)). subst (λ (x : Stand). KeepsHands p x) (sym (unmoved own.2)) (kept_still p))
+      (λ (own : (v ≡ me) × (found ≡ pin) × (q.view.log ≡ p.view.log)). subst (λ (x : Stand). KeepsHands p x) (sym (unmoved own.2)) (record { private = refl; labelled = λ none'. none'; ledgers = λ none'. refl }))
       (λ (other : (v ≢ me) × (q.view.log ≡ p.view.log ++ (Scan v, scan_reply found) ∷ [])). hands_kept p q (Scan v) (scan_reply found) (scanned other.1) refl (λ _. scan_is_silent found))
       look
 

@@ -91,7 +91,7 @@ collecting_more epoch origin start p q all es x c ripe step apart =
     let longer : length (ripe_part epoch (x ∷ es)) ≡ suc (length (ripe_part epoch es)) = ap (λ (r : List Entry). length r) more in
     let count : suc (length es) + length (ripe_part epoch all) ≡ length all + length (ripe_part epoch (x ∷ es)) = c.count in
     record {
-      same = step ∙ (ap (λ (y : Stand). record y { view = record y.view { log = p.view.log ++ freeing x ∷ [] } }) c.same ∙ ap (λ (log : List LogEntry). record start { view = record start.view { log = log } }) (sym log_is));
+      same = step ∙ (ap (λ (y : Stand). record y { view = record y.view { log = p.view.log ++ freeing x ∷ []; past = q.view.past } }) c.same ∙ ap (λ (log : List LogEntry). record start { view = record start.view { log = log; past = q.view.past } }) (sym log_is));
       queue = queue_after p origin x es c.queue c.apart q step;
       apart = apart;
       others = λ o ne. others_after p origin x es c.queue c.apart q step o ne ∙ c.others o ne;

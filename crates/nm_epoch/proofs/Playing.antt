@@ -72,4 +72,4 @@ is_won won (Err e) ok = absurd (true≢false (sym ok))
 
 -- a step with its reply in other words
 pub replied : (p q : Stand) (e : Event) (r x : Reply) → Stepped p q e r → r ≡ x → Stepped p q e x
-replied p q e r x step is = step ∙ ap (λ (y : Reply). record p { view = record p.view { log = p.view.log ++ (e, y) ∷ [] } }) is
+replied p q e r x step is = step ∙ ap (λ (y : Reply). record p { view = record p.view { log = p.view.log ++ (e, y) ∷ []; past = q.view.past } }) is

@@ -20,14 +20,14 @@ use Rattle.nm_epoch.proofs.Marks.{one_for_each, marks_after}
 
 -- ---- one look
 
-abbrev with_log : Stand → List Entry → Stand
-with_log p log = record p { view = record p.view { log = log } }
+abbrev with_log : Stand → Stand → List Entry → Stand
+with_log p q log = record p { view = record p.view { log = log; past = q.view.past } }
 
 stepped_by : (p q : Stand) (e : Event) (r : Reply) → IsSamePass p q → q.view.log ≡ p.view.log ++ (e, r) ∷ [] → Stepped p q e r
-stepped_by p q e r same more = same ∙ ap (λ (log : List Entry). with_log p log) more
+stepped_by p q e r same more = same ∙ ap (λ (log : List Entry). with_log p q log) more
 
-stays_put : (p q : Stand) → IsSamePass p q → q.view.log ≡ p.view.log → q ≡ p
-stays_put p q same none = same ∙ ap (λ (log : List Entry). with_log p log) none
+stays_put : (p q : Stand) → IsSamePass p q → q.view.log ≡ p.view.log → q ≡ with_log p q p.view.log
+stays_put p q same none = same ∙ ap (λ (log : List Entry). with_log p q log) none
 
 module _ (me v : ℕ) (pin found : Option ℕ) (p q : Stand) (same : IsSamePass p q) (look : LooksAt me pin v found p.view.log q.view.log) where
   pub look_epochs : epochs q ≡ epochs p

@@ -1,6 +1,5 @@
 -- The ledgers that a worker holds, as its part of a run tells them.
-use Rattle.std.proofs.Common.{◌≡◌, ℕ, ◌<◌, sym, ap, subst, ◌∙◌}
-use Rattle.nm_edge.specs.Layouts.{Layout}
+use Rattle.std.proofs.Common.{◌≡◌, sym, ap, subst, ◌∙◌}
 use Rattle.nm_model.specs.Knowledge.{Knowledge}
 use Rattle.nm_model.specs.Runs.{State, start, after, of}
 use Rattle.nm_model.specs.Ordered.{Configuration, ordered, after_in, trace_in}

@@ -78,3 +78,4 @@ pub mod StaleWalks
 pub mod StaleRuns
 pub mod KeyTests
 pub mod WorkedPaths
+pub mod AnswersSince

@@ -24,7 +24,7 @@ use Rattle.nm_order.proofs.OwnTurns.{own_search}
 use Rattle.nm_model.specs.declared.arrivals.Call.{Call}
 use Rattle.std.proofs.lemmas.Option.{same_Some}
 
-moment_of : (L : Layout) → 5 ≤ L.nodes → (turns : List (ℕ × Event)) → All (λ t. HasKey t.1) turns → (w : ℕ) (op : Op) (k : ℕ) (answer : Bool) → MayAnswer (after_in (ordered L) turns) w op k answer → HasMoment L turns w op k answer
+pub moment_of : (L : Layout) → 5 ≤ L.nodes → (turns : List (ℕ × Event)) → All (λ t. HasKey t.1) turns → (w : ℕ) (op : Op) (k : ℕ) (answer : Bool) → MayAnswer (after_in (ordered L) turns) w op k answer → HasMoment L turns w op k answer
 moment_of L enough turns keys w Has k answer may = each_other_answer L enough turns keys w Has k answer may refl
 moment_of L enough turns keys w Insert k true may = each_true_insert L enough turns keys w k may
 moment_of L enough turns keys w Insert k false may = each_other_answer L enough turns keys w Insert k false may refl

@@ -58,7 +58,7 @@ by_moments m quiet (x ∷ acts) o a b (inr there) (inr there') less =
 
 -- ---- the numbers of pins grow
 
-last_grows : (w p n : ℕ) (xs : List Turn) → p ≤ n → (p ≤ last_anew w p n xs) × (last_anew w p n xs ≤ n + length xs)
+pub last_grows : (w p n : ℕ) (xs : List Turn) → p ≤ n → (p ≤ last_anew w p n xs) × (last_anew w p n xs ≤ n + length xs)
 last_grows w p n [] le = (omega arith, omega arith)
 last_grows w p n (x ∷ xs) le = by (list_any begins_anew (log_of w (x ∷ []))) (λ q small. last_grows w q (n + 1) xs small)
   where
@@ -77,7 +77,7 @@ pin_grows L before since w = subst (λ (n : ℕ). pin_of L before w ≤ n) (sym 
     below = (last_grows w 0 0 (trace_in (ordered L) before) (omega arith)).1
 
 -- of two ways to split a run the shorter first part begins the longer one
-begins_with : (xs ys xs' ys' : List (ℕ × Event)) → xs ++ ys ≡ xs' ++ ys' → length xs ≤ length xs' → (mid : List (ℕ × Event)) × (xs' ≡ xs ++ mid)
+pub begins_with : (xs ys xs' ys' : List (ℕ × Event)) → xs ++ ys ≡ xs' ++ ys' → length xs ≤ length xs' → (mid : List (ℕ × Event)) × (xs' ≡ xs ++ mid)
 begins_with [] ys xs' ys' e le = (xs', refl)
 begins_with (x ∷ xs) ys [] ys' e le = absurd (omega (arith, le))
 begins_with (x ∷ xs) ys (z ∷ xs') ys' e le = let r = begins_with xs ys xs' ys' (tail e) (omega (arith, le)) in (r.0, λ i. sym (head e) i ∷ r.1 i)

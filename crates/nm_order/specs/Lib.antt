@@ -12,6 +12,7 @@ pub mod LoggedTotals
 pub mod History
 pub mod RealTime
 pub mod Answered
+pub mod AnsweredSince
 pub mod Logs
 pub mod Facts
 pub mod Told

@@ -1,5 +1,6 @@
 //! The set's history: laws on the moments of an ordered core's calls, over every run, also one that ends in mid-call.
 ghost use Rattle.nm_order.specs.Answered.{AnswersHaveMoments, PendingDeletesHaveFlagged};
+ghost use Rattle.nm_order.specs.AnsweredSince.{AnswersAreOfTheirCalls};
 ghost use Rattle.nm_order.specs.History.{HasHistory};
 ghost use Rattle.nm_order.specs.Intervals.{OfEachOrdered};
 ghost use Rattle.nm_order.specs.LoggedTotals.{TotalsAreInTheLogs};
@@ -54,4 +55,10 @@ pub fn runs_are_histories()
 pub fn logged_answers_have_moments()
     ensures answers { AnswersHaveMoments }
     ensures pending { PendingDeletesHaveFlagged }
+{}
+
+/// The moment of an answer is one of its own call: where a worker had no call in an earlier run, the pin of the call which its log ends with
+/// in a run that goes on from it was confirmed behind that, and the moment is later still. So no earlier answer of the worker stands for this one.
+pub fn answers_are_of_their_calls()
+    ensures { AnswersAreOfTheirCalls }
 {}

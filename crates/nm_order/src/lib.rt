@@ -17,8 +17,8 @@ pub use answers::{answers_tell_changes, deletes_have_flagged, inserts_are_links}
 pub use facts::{facts_are_true, facts_stay, later_walks_find_the_flag, own_births_stand};
 pub use hands::{hands_are_apart, held_ledgers_are_kept, unpinned_workers_have_no_call};
 pub use history::{
-    answers_were_legal, deletes_are_cuts, flagged_leaves_are_pending, logged_answers_have_moments,
-    runs_are_histories, totals_agree,
+    answers_are_of_their_calls, answers_were_legal, deletes_are_cuts, flagged_leaves_are_pending,
+    logged_answers_have_moments, runs_are_histories, totals_agree,
 };
 pub use logs::logs_tell_what_is_known;
 pub use order::{

@@ -20,9 +20,10 @@ use Rattle.nm_order.specs.Logs.{part_of, known_by}
 use Rattle.nm_words.specs.Packing.{words_of}
 use Rattle.nm_steps.specs.declared.view.Held.{Held}
 use Rattle.nm_steps.specs.declared.view.View.{View}
-use Rattle.nm_steps.specs.Rules.{held, holdings, knowledge, stands, once_below, LogsAre, IsShown, Runs, Kept, numbers_from, viewing, everybody, own_alone, the_others, nobody, passing, joined}
+use Rattle.nm_steps.specs.Rules.{held, holdings, knowledge, stands, once_below, LogsAre, IsShown, LagsBehind, Runs, Kept, numbers_from, viewing, everybody, own_alone, the_others, nobody, passing, informed, joining, noted_down}
 use Rattle.nm_steps.specs.Steps.{HasEmptyHands, Board, Stand, fresh_view, AreFresh, Ends}
 use Rattle.nm_steps.proofs.Counts.{sum_after, at_most_sum, both_at_most_sum}
+use Rattle.nm_steps.proofs.Growing.{goes_on_itself, goes_on_from_nothing, goes_on_by, behind_by}
 use Rattle.nm_steps.proofs.Presence.{gone_kept, known_push}
 use Rattle.nm_steps.proofs.Extending.{IsPartOf, keys-append, words_after_join, trace_after_join}
 use Rattle.nm_steps.proofs.Keeping.{live, stands_live, once_is, one_turn, part_grows, part_stays}
@@ -65,10 +66,19 @@ opens L words fits e = record {
   shown = first;
   here = first_here;
   once = λ w. sum_by-cons (stands w) (everybody L) [] ∙ add-zero (stands w (everybody L)) ∙ (let a : times w (holdings (everybody L)) ≡ cond (ltb w 0) 0 (cond (ltb w (0 + L.workers)) 1 0) = ap (times w) (held_by L (numbers_from 0 L.workers)) ∙ once_between w 0 L.workers in a ∙ under w L.workers);
+  lags = first_behind;
 }
   where
     under : (w n : ℕ) → cond (ltb w 0) 0 (cond (ltb w (0 + n)) 1 0) ≡ once_below w n
     under w n = grind (arith, nat_tests)
+
+    nothing_seen : (hs : List Held) → LagsBehind [] (viewing L hs)
+    nothing_seen [] = record { past = goes_on_itself []; heard = goes_on_itself [] }
+    nothing_seen (h ∷ hs) = record { past = goes_on_itself []; heard = goes_on_itself [] }
+
+    first_behind : (i : ℕ) (v : View) → get_elem? (everybody L ∷ []) i ≡ some v → LagsBehind [] v
+    first_behind zero v is = subst (LagsBehind []) (some-injective _ _ is) (nothing_seen (numbers_from 0 L.workers))
+    first_behind (suc i) v is = absurd (some-ne-none v (sym is))
 
     all : IsShown L [] (everybody L)
     all = subst (LogsAre (everybody L).layout L []) (sym (held_by L (numbers_from 0 L.workers))) (subst (λ (l : Layout). LogsAre l L [] (numbers_from 0 L.workers)) (sym (layout_of L (numbers_from 0 L.workers))) (fresh L 0 L.workers))
@@ -86,8 +96,9 @@ opens L words fits e = record {
 abbrev IsHere : View → Type 0
 IsHere v = v.spent ≡ false → (knowledge v).gone ≡ false
 
-cuts : (L : Layout) (id : ℕ) (v left right : View) → ((t : List Turn) → IsShown L t v → IsShown L t left × IsShown L t right) → (IsHere v → IsHere left × IsHere right) → ((w : ℕ) → stands w left + stands w right ≡ stands w v) → Splits (Kept L) id v left right
-cuts L id v left right keep stay count s k at = record {
+cuts : (L : Layout) (id : ℕ) (v left right : View) → ((t : List Turn) → IsShown L t v → IsShown L t left × IsShown L t right) → (IsHere v → IsHere left × IsHere right) → ((w : ℕ) → stands w left + stands w right ≡ stands w v)
+    → ((ts : List (ℕ × Event)) → LagsBehind ts v → LagsBehind ts left × LagsBehind ts right) → Splits (Kept L) id v left right
+cuts L id v left right keep stay count lag s k at = record {
   fits = k.fits;
   turns = k.turns;
   keys = k.keys;
@@ -95,6 +106,7 @@ cuts L id v left right keep stay count s k at = record {
   shown = each;
   here = each_here;
   once = λ w. sum_by-append (stands w) (set s.views id left) (right ∷ []) ∙ omega (arith, sum_by-cons (stands w) right [], sum_after (stands w) s.views id v left at, count w, k.once w);
+  lags = each_behind;
 }
   where
     both : IsShown L (trace_in (ordered L) k.turns) left × IsShown L (trace_in (ordered L) k.turns) right
@@ -106,6 +118,17 @@ cuts L id v left right keep stay count s k at = record {
         (λ (x : get_elem? (set s.views id left) j ≡ some u).
         ⊎_elim (λ (y : (j ≡ id) × (left ≡ u)). subst (IsShown L (trace_in (ordered L) k.turns)) y.1 both.0) (λ (y : (j ≢ id) × (get_elem? s.views j ≡ some u)). k.shown j u y.1) (at_set s.views id j left u x))
         (λ (x : right ≡ u). subst (IsShown L (trace_in (ordered L) k.turns)) x both.1)
+        (at_snoc (set s.views id left) right u j is)
+
+    both_behind : LagsBehind k.turns left × LagsBehind k.turns right
+    both_behind = lag k.turns (k.lags id v at)
+
+    each_behind : (j : ℕ) (u : View) → get_elem? (set s.views id left ++ right ∷ []) j ≡ some u → LagsBehind k.turns u
+    each_behind j u is =
+        ⊎_elim
+        (λ (x : get_elem? (set s.views id left) j ≡ some u).
+        ⊎_elim (λ (y : (j ≡ id) × (left ≡ u)). subst (LagsBehind k.turns) y.1 both_behind.0) (λ (y : (j ≢ id) × (get_elem? s.views j ≡ some u)). k.lags j u y.1) (at_set s.views id j left u x))
+        (λ (x : right ≡ u). subst (LagsBehind k.turns) x both_behind.1)
         (at_snoc (set s.views id left) right u j is)
 
     both_here : IsHere left × IsHere right
@@ -130,7 +153,7 @@ abbrev pub left_from : Layout → ℕ → View
 left_from L k = viewing L (numbers_from k (L.workers - k))
 
 abbrev with_others : Layout → ℕ → List Held → View
-with_others L k hs = record { layout = L; spent = false; number = k; log = []; others = hs }
+with_others L k hs = record { layout = L; spent = false; number = k; log = []; others = hs; past = []; heard = [] }
 
 left_has : (L : Layout) (k m : ℕ) → m ≡ suc (L.workers - suc k) → viewing L (numbers_from k m) ≡ with_others L k (numbers_from (suc k) (L.workers - suc k))
 left_has L k m e = ap (λ (n : ℕ). viewing L (numbers_from k n)) e
@@ -158,6 +181,45 @@ deals L id k v is below =
     ))
     (λ h. ((λ _. subst (λ (x : View). (knowledge x).gone ≡ false) (sym (left_others L k v is below)) (fresh_here L (k + 1) (L.workers - (k + 1)))), h))
     (λ w. omega (arith, ap (times w) (held_by v.layout v.others), ap (times w) (live (own_alone v) alive), ap (times w) (live v alive), times-cons w (held v.number v.log) v.others, times-cons w (held v.number v.log) []))
+    (λ ts b. (nothing_seen v.layout v.others ts, record { past = b.past; heard = b.heard }))
+  where
+    nothing_seen : (l : Layout) (hs : List Held) (ts : List (ℕ × Event)) → LagsBehind ts (viewing l hs)
+    nothing_seen l [] ts = record { past = goes_on_from_nothing ts; heard = goes_on_from_nothing ts }
+    nothing_seen l (h ∷ hs) ts = record { past = goes_on_from_nothing ts; heard = goes_on_from_nothing ts }
+
+-- ---- notes
+
+-- a note stands for nobody, and has seen what the view has
+pub writes_down : (L : Layout) (id : ℕ) (v : View) → Splits (Kept L) id v v (noted_down v)
+writes_down L id v = cuts L id v v (noted_down v) (λ t a. (a, tt)) (λ h. (h, λ e. absurd (true≢false e))) (λ w. add-zero (stands w v)) (λ ts b. (b, record { past = b.past; heard = goes_on_from_nothing ts }))
+
+-- a view may hear of what one has seen that stands for nobody
+pub hears : (L : Layout) (id : ℕ) (v : View) (other : ℕ) (w : View) → w.spent ≡ true → Joins (Kept L) id v other w (informed v w) nobody
+hears L id v other w spent s k at apart at' = record {
+  fits = k.fits;
+  turns = k.turns;
+  keys = k.keys;
+  words_are = k.words_are;
+  shown = each (IsShown L (trace_in (ordered L) k.turns)) (k.shown id v at) tt k.shown;
+  here = each IsHere (k.here id v at) (λ e. absurd (true≢false e)) k.here;
+  once = λ n. omega (arith, sum_after (stands n) (set s.views id (informed v w)) other w nobody at', sum_after (stands n) s.views id v (informed v w) at, no_log n, k.once n);
+  lags = each (LagsBehind k.turns) (record { past = (k.lags id v at).past; heard = (k.lags other w was).past }) (record { past = goes_on_from_nothing k.turns; heard = goes_on_from_nothing k.turns }) k.lags;
+}
+  where
+    was : get_elem? s.views other ≡ some w
+    was = sym (set_else s.views id other (informed v w) apart) ∙ at'
+
+    no_log : (n : ℕ) → stands n w ≡ 0
+    no_log n = ap (λ (b : Bool). times n (cond b [] (held w.number w.log ∷ w.others))) spent
+
+    each : (P : View → Type 0) → P (informed v w) → P nobody → ((j : ℕ) (u : View) → get_elem? s.views j ≡ some u → P u)
+        → (j : ℕ) (u : View) → get_elem? (set (set s.views id (informed v w)) other nobody) j ≡ some u → P u
+    each P own none others j u is =
+        ⊎_elim
+        (λ (x : (j ≡ other) × (nobody ≡ u)). subst P x.1 none)
+        (λ (x : (j ≢ other) × (get_elem? (set s.views id (informed v w)) j ≡ some u)).
+        ⊎_elim (λ (y : (j ≡ id) × (informed v w ≡ u)). subst P y.1 own) (λ (y : (j ≢ id) × (get_elem? s.views j ≡ some u)). others j u y.1) (at_set s.views id j (informed v w) u x.1))
+        (at_set (set s.views id (informed v w)) other j nobody u is)
 
 -- ---- joining
 
@@ -249,10 +311,10 @@ module _ (L : Layout) (id : ℕ) (v : View) (other : ℕ) (w : View) (alive : v.
         rec (let q : 0 + times v.number hs ≡ 0 = rw is at one in omega arith) (let q : 0 + times w.number hs ≡ 0 = rw too at two in omega arith),
       )
 
-  together : IsShown L (trace_in (ordered L) more) (joined v w)
+  together : IsShown L (trace_in (ordered L) more) (joining v w)
   together =
       let x = shares v.number in let y = shares w.number in let p = cross v.number in let q = cross w.number in
-      subst (LogsAre v.layout L (trace_in (ordered L) more)) (sym (live (joined v w) alive)) (
+      subst (LogsAre v.layout L (trace_in (ordered L) more)) (sym (live (joining v w) alive)) (
         first_log.0,
         ap (λ (l : List Entry). l ++ passing w ∷ []) first_log.1 ∙ sym heirs_part,
         logs_both v.layout w.layout L (trace_in (ordered L) more) v.others (held w.number (w.log ++ passing w ∷ []) ∷ w.others) (first_log.0 ∙ sym second_log.0)
@@ -270,25 +332,28 @@ module _ (L : Layout) (id : ℕ) (v : View) (other : ℕ) (w : View) (alive : v.
       (omega (arith, both_at_most_sum (stands w.number) s.views j other u w ne' is at', k.once w.number, own_counts.1, ones.1))
       (k.shown j u is)
 
-  counted : (n : ℕ) → stands n (joined v w) ≡ stands n v + stands n w
+  counted : (n : ℕ) → stands n (joining v w) ≡ stands n v + stands n w
   counted n = omega (
     arith,
     cross n,
-    ap (times n) (live (joined v w) alive),
+    ap (times n) (live (joining v w) alive),
     times-cons n (held v.number (v.log ++ passing w ∷ [])) (v.others ++ held w.number (w.log ++ passing w ∷ []) ∷ w.others),
     sum_by-append (λ (h : Held). cond (eqb n h.number) 1 0) v.others (held w.number (w.log ++ passing w ∷ []) ∷ w.others),
     times-cons n (held w.number (w.log ++ passing w ∷ [])) w.others,
   )
 
-  at'' : get_elem? (set s.views id (joined v w)) other ≡ some w
-  at'' = set_else s.views id other (joined v w) apart ∙ at'
+  at'' : get_elem? (set s.views id (joining v w)) other ≡ some w
+  at'' = set_else s.views id other (joining v w) apart ∙ at'
 
-  here_joined : IsHere (joined v w)
+  here_joined : IsHere (joining v w)
   here_joined e =
       ap (λ x. x.gone) (known_push v.number v.layout v.log (passing w))
       ∙ (gone_kept v.number (knowledge v) (Join w.number) reply (ne_eqb w.number v.number (λ same. differ (sym same))) ∙ k.here id v at alive)
 
-  joint : Runs L s.words (set (set s.views id (joined v w)) other nobody)
+  behind_joined : LagsBehind more (joining v w)
+  behind_joined = record { past = goes_on_by k.turns v.past (v.number, Join w.number) (k.lags id v at).past; heard = goes_on_by k.turns w.past (v.number, Join w.number) (k.lags other w at').past }
+
+  joint : Runs L s.words (set (set s.views id (joining v w)) other nobody)
   joint = record {
     fits = k.fits;
     turns = more;
@@ -297,21 +362,27 @@ module _ (L : Layout) (id : ℕ) (v : View) (other : ℕ) (w : View) (alive : v.
     shown = λ j u is.
         ⊎_elim
         (λ (x : (j ≡ other) × (nobody ≡ u)). subst (IsShown L (trace_in (ordered L) more)) x.1 tt)
-        (λ (x : (j ≢ other) × (get_elem? (set s.views id (joined v w)) j ≡ some u)).
-        ⊎_elim (λ (y : (j ≡ id) × (joined v w ≡ u)). subst (IsShown L (trace_in (ordered L) more)) y.1 together) (λ (y : (j ≢ id) × (get_elem? s.views j ≡ some u)). elsewhere j u y.0 x.0 y.1) (at_set s.views id j (joined v w) u x.1))
-        (at_set (set s.views id (joined v w)) other j nobody u is);
+        (λ (x : (j ≢ other) × (get_elem? (set s.views id (joining v w)) j ≡ some u)).
+        ⊎_elim (λ (y : (j ≡ id) × (joining v w ≡ u)). subst (IsShown L (trace_in (ordered L) more)) y.1 together) (λ (y : (j ≢ id) × (get_elem? s.views j ≡ some u)). elsewhere j u y.0 x.0 y.1) (at_set s.views id j (joining v w) u x.1))
+        (at_set (set s.views id (joining v w)) other j nobody u is);
     here = λ j u is.
         ⊎_elim
         (λ (x : (j ≡ other) × (nobody ≡ u)). subst IsHere x.1 (λ e. absurd (true≢false e)))
-        (λ (x : (j ≢ other) × (get_elem? (set s.views id (joined v w)) j ≡ some u)).
-        ⊎_elim (λ (y : (j ≡ id) × (joined v w ≡ u)). subst IsHere y.1 here_joined) (λ (y : (j ≢ id) × (get_elem? s.views j ≡ some u)). k.here j u y.1) (at_set s.views id j (joined v w) u x.1))
-        (at_set (set s.views id (joined v w)) other j nobody u is);
-    once = λ n. omega (arith, sum_after (stands n) (set s.views id (joined v w)) other w nobody at'', sum_after (stands n) s.views id v (joined v w) at, counted n, k.once n);
+        (λ (x : (j ≢ other) × (get_elem? (set s.views id (joining v w)) j ≡ some u)).
+        ⊎_elim (λ (y : (j ≡ id) × (joining v w ≡ u)). subst IsHere y.1 here_joined) (λ (y : (j ≢ id) × (get_elem? s.views j ≡ some u)). k.here j u y.1) (at_set s.views id j (joining v w) u x.1))
+        (at_set (set s.views id (joining v w)) other j nobody u is);
+    once = λ n. omega (arith, sum_after (stands n) (set s.views id (joining v w)) other w nobody at'', sum_after (stands n) s.views id v (joining v w) at, counted n, k.once n);
+    lags = λ j u is.
+        ⊎_elim
+        (λ (x : (j ≡ other) × (nobody ≡ u)). subst (LagsBehind more) x.1 (record { past = goes_on_from_nothing more; heard = goes_on_from_nothing more }))
+        (λ (x : (j ≢ other) × (get_elem? (set s.views id (joining v w)) j ≡ some u)).
+        ⊎_elim (λ (y : (j ≡ id) × (joining v w ≡ u)). subst (LagsBehind more) y.1 behind_joined) (λ (y : (j ≢ id) × (get_elem? s.views j ≡ some u)). behind_by k.turns (v.number, Join w.number) u (k.lags j u y.1)) (at_set s.views id j (joining v w) u x.1))
+        (at_set (set s.views id (joining v w)) other j nobody u is);
   }
 
 -- the first stands for both, and the join is an event of both
-pub joins : (L : Layout) (id : ℕ) (v : View) (other : ℕ) (w : View) → v.spent ≡ false → w.spent ≡ false → HasEmptyHands (knowledge w) → Joins (Kept L) id v other w (joined v w) nobody
-joins L id v other w alive alive' hands s k at apart at' = joint L id v other w alive alive' hands s k at apart (sym (set_else s.views id other (joined v w) apart) ∙ at')
+pub joins : (L : Layout) (id : ℕ) (v : View) (other : ℕ) (w : View) → v.spent ≡ false → w.spent ≡ false → HasEmptyHands (knowledge w) → Joins (Kept L) id v other w (joining v w) nobody
+joins L id v other w alive alive' hands s k at apart at' = joint L id v other w alive alive' hands s k at apart (sym (set_else s.views id other (joining v w) apart) ∙ at')
 
 pub fresh_push : (b : Board) (k n : ℕ) (ps : List Stand) (p : Stand) → AreFresh b k ps → k + length ps ≡ n → p.table ≡ b.table → p.view ≡ fresh_view b.layout n → AreFresh b k (ps ++ p ∷ [])
 fresh_push b k n [] p a e t v = (t, v ∙ ap (fresh_view b.layout) (omega arith), tt)
@@ -322,4 +393,4 @@ fresh_push b k n (q ∷ ps) p a e t v = (a.0, a.1, fresh_push b (suc k) n ps p a
 pub ended : (L : Layout) (id : ℕ) (v : View) (words : List ℕ) (slots : List Unit) → Final (Seen (Kept L) id v) words slots → Ends L words v
 ended L id v words slots f =
     let k : Runs L f.0.words f.0.views = f.1.0 in
-    record { fits = k.fits; turns = k.turns; keys = k.keys; words_are = sym f.2 ∙ k.words_are; shown = k.shown id v f.1.1; once = λ w. omega (arith, at_most_sum (stands w) f.0.views id v f.1.1, k.once w) }
+    record { fits = k.fits; turns = k.turns; keys = k.keys; words_are = sym f.2 ∙ k.words_are; shown = k.shown id v f.1.1; once = λ w. omega (arith, at_most_sum (stands w) f.0.views id v f.1.1, k.once w); past = (k.lags id v f.1.1).past }

@@ -1,5 +1,5 @@
 -- Passes that have done nothing yet.
-use Rattle.std.proofs.Common.{inr, ◌≡◌, ◌-◌, ◌<◌, ℕ, true, false, true≢false, [], refl, sym, ap, ◌∙◌, subst, arith}
+use Rattle.std.proofs.Common.{◌≡◌, ◌-◌, ◌<◌, ℕ, true, false, true≢false, [], refl, sym, ap, ◌∙◌, subst, arith}
 use Rattle.std.specs.Prelude.{None}
 use Rattle.atomic_table.specs.declared.shared.Seat.{Seat}
 use Rattle.nm_edge.specs.Layouts.{Layout, IsLayout}
@@ -10,7 +10,7 @@ use Rattle.nm_order.specs.Hands.{IsPooled}
 use Rattle.nm_order.specs.Logs.{IsLogOf}
 use Rattle.nm_steps.specs.declared.view.View.{View}
 use Rattle.nm_steps.specs.Rules.{knowledge, numbers_from, viewing, everybody}
-use Rattle.nm_steps.specs.Steps.{Tied, fresh_view}
+use Rattle.nm_steps.specs.Steps.{HasSeen, Tied, fresh_view}
 use Rattle.nm_steps.proofs.Cutting.{left_from}
 
 -- before the first is dealt, all are left
@@ -26,6 +26,7 @@ abbrev pub no_epochs : Brief
 no_epochs = record { seen = None; note = None; pin = None; unlabelled = false }
 
 pub fresh_tied : (L : Layout) (it : Seat Unit View) (w : ℕ) → IsLayout L → w < L.workers → it.me.0 ≡ fresh_view L w → it.me.1 ≡ [] → Tied it w no_epochs
+unfolding empty_log
 fresh_tied L it w fits below view empty = record {
   empty = empty;
   alive = ap (λ (v : View). v.spent) view;
@@ -35,5 +36,6 @@ fresh_tied L it w fits below view empty = record {
   worker = subst (λ (v : View). w < v.layout.workers) (sym view) below;
   small = tt;
   private = subst (λ (v : View). (x : ℕ) → is_private (knowledge v) x ≡ true → IsPooled v.layout x) (sym view) (λ x h. absurd (true≢false (sym h)));
-  log = inr (record { is_part = subst (λ (v : View). IsLogOf v.layout v.number v.log) (sym view) (empty_log L w below); here = ap (λ (v : View). (knowledge v).gone) view });
+  seen = subst HasSeen (sym view) (let log = empty_log L w below in record { worker = below; keys = log.keys; is_part = log.is_part; here = refl });
+  heard = ap (λ (v : View). v.heard) view;
 }

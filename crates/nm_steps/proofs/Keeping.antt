@@ -11,7 +11,7 @@ use Rattle.atomic_table.specs.Table.{Step, step, Allows, keeps}
 use Rattle.atomic_table.specs.Seated.{TableId}
 use Rattle.atomic_table.specs.declared.shared.Seat.{Seat}
 use Rattle.atomic_table.proofs.Lists.{at_set}
-use Rattle.nm_edge.specs.Layouts.{Layout}
+use Rattle.nm_edge.specs.Layouts.{Layout, IsLayout}
 use Rattle.nm_edge.specs.Words.{word}
 use Rattle.nm_edge.proofs.Words.{fields_within}
 use Rattle.nm_model.specs.declared.event.Event.{Event}
@@ -27,9 +27,10 @@ use Rattle.nm_words.specs.Packing.{words_of, word_at, touched, left_word}
 use Rattle.nm_words.specs.Told.{told}
 use Rattle.nm_steps.specs.declared.view.Held.{Held}
 use Rattle.nm_steps.specs.declared.view.View.{View}
-use Rattle.nm_steps.specs.Rules.{held, holdings, knowledge, known_births, stands, once_below, LogsAre, IsShown, Runs, Kept, logged, is_store, IsFound, Did}
-use Rattle.nm_steps.specs.Steps.{May, IsReady, Changes, IsBlind}
+use Rattle.nm_steps.specs.Rules.{held, holdings, knowledge, known_births, stands, once_below, LogsAre, IsShown, LagsBehind, Runs, Kept, logged, is_store, IsFound, Did}
+use Rattle.nm_steps.specs.Steps.{May, IsReady, IsDone, Changes, IsBlind}
 use Rattle.nm_steps.proofs.Counts.{at_most_sum, both_at_most_sum, sum_after}
+use Rattle.nm_steps.proofs.Growing.{goes_on_itself, goes_on_by, behind_by}
 use Rattle.nm_steps.proofs.Presence.{gone_kept, known_push}
 use Rattle.nm_steps.proofs.Extending.{IsPartOf, part-append, keys-append, words_after, trace_after}
 
@@ -118,7 +119,7 @@ module _ (L : Layout) (words : List ℕ) (views : List View) (id : ℕ) (v : Vie
   reply = told v.layout (knowledge v) (known_births v) e found
 
   abbrev now : View
-  now = logged v e found
+  now = logged v e found k.turns
 
   reply_is : told L (known_by L v.number v.log) (births_by L v.number v.log) e (word_at L (after_in (ordered L) k.turns).state.memory (touched v.number e)) ≡ reply
   reply_is = ap (λ (l : Layout). told l (known_by l v.number v.log) (births_by l v.number v.log) e (word_at L (after_in (ordered L) k.turns).state.memory (touched v.number e))) (sym layout) ∙ ap (told v.layout (knowledge v) (known_births v) e) (sym found_is)
@@ -167,6 +168,13 @@ module _ (L : Layout) (words : List ℕ) (views : List View) (id : ℕ) (v : Vie
       (λ (x : (j ≢ id) × (get_elem? views j ≡ some u)). k.here j u x.1 live_u)
       (at_set views id j now u is)
 
+  behind_after : (j : ℕ) (u : View) → get_elem? (set views id now) j ≡ some u → LagsBehind more u
+  behind_after j u is =
+      ⊎_elim
+      (λ (x : (j ≡ id) × (now ≡ u)). subst (LagsBehind more) x.1 (record { past = goes_on_itself more; heard = goes_on_by k.turns v.heard (v.number, e) (k.lags id v at).heard }))
+      (λ (x : (j ≢ id) × (get_elem? views j ≡ some u)). behind_by k.turns (v.number, e) u (k.lags j u x.1))
+      (at_set views id j now u is)
+
   same_stands : (w : ℕ) → stands w now ≡ stands w v
   same_stands w =
       ap (count_by (λ (x : Held). eqb w x.number)) (live now alive)
@@ -188,6 +196,7 @@ module _ (L : Layout) (words : List ℕ) (views : List View) (id : ℕ) (v : Vie
     shown = shown_after;
     here = here_after;
     once = λ w. omega (arith, sum_after (stands w) views id v now at, same_stands w, k.once w);
+    lags = behind_after;
   }
 
 abbrev no_step : Step Unit
@@ -199,18 +208,32 @@ pub allows : (L : Layout) (slots id : ℕ) (v : View) (e : Event) (i : ℕ) (f s
     → ((n : ℕ) → f n ≡ left_word v.layout (knowledge v) e n)
     → ((n : ℕ) → (told v.layout (knowledge v) (known_births v) e (said n) ≡ told v.layout (knowledge v) (known_births v) e n) × (is_store e ≡ false → said n ≡ n))
     → Allows (Kept L) slots id (v, []) i f (λ n. Did e no_step (v, []) (said n))
+unfolding is_found
 allows L slots id v e i f said alive layout index may change tell s k homes at small =
     let n : ℕ = slice_index s.words i in
     let was = is_found L s.words s.views id v e i k at alive layout index may in (
-      logged v e n,
+      logged v e n k.turns,
       keeps,
       tt,
-      subst (λ (m : ℕ). Runs L (slice_set s.words i m) (set s.views id (logged v e n))) (sym (change n)) (next L s.words s.views id v e i k at alive layout index may),
+      subst (λ (m : ℕ). Runs L (slice_set s.words i m) (set s.views id (logged v e n k.turns))) (sym (change n)) (next L s.words s.views id v e i k at alive layout index may),
       (
-        (λ j. (record v { log = v.log ++ (e, sym (tell n).0 j) ∷ [] }, [])),
-        subst (λ (l : Layout). IsFound l v.number v.log e (said n)) (sym layout) (record { fits = was.fits; worker = was.worker; turns = was.turns; keys = was.keys; is_part = was.is_part; here = was.here; word = λ h. (tell n).1 h ∙ was.word h }),
+        found_by v.layout (sym layout) (record { fits = was.fits; worker = was.worker; turns = was.turns; keys = was.keys; is_part = was.is_part; here = was.here; word = λ h. (tell n).1 h ∙ was.word h }),
+        (λ j. (record v { log = v.log ++ (e, sym (tell n).0 j) ∷ []; past = k.turns ++ (v.number, e) ∷ [] }, [])),
+        (k.lags id v at).past,
       ),
     )
+  where
+    -- of the view's own layout, with the same turns
+    found_by : (l : Layout) → L ≡ l → (f : IsFound L v.number v.log e (said (slice_index s.words i))) → IsFound l v.number v.log e (said (slice_index s.words i))
+    found_by l same f = record {
+      fits = subst IsLayout same f.fits;
+      worker = subst (λ (x : Layout). v.number < x.workers) same f.worker;
+      turns = f.turns;
+      keys = f.keys;
+      is_part = subst (λ (x : Layout). v.log ≡ part_of v.number (trace_in (ordered x) f.turns)) same f.is_part;
+      here = subst (λ (x : Layout). (known_by x v.number v.log).gone ≡ false) same f.here;
+      word = subst (λ (x : Layout). is_store e ≡ false → said (slice_index s.words i) ≡ word_at x (after_in (ordered x) f.turns).state.memory (touched v.number e)) same f.word;
+    }
 
 -- what every operation asks of its caller, where the pass is ready; d is the event that the `Play` names
 asked : (L : Layout) (z : TableId) (slots : ℕ) (it : Seat Unit View) (d e : Event) (i : ℕ) (f said : ℕ → ℕ)
@@ -224,6 +247,10 @@ asked L z slots it d e i f said pick r change tell = (
       (subst (λ (c : List (ℕ × Unit)). Allows (Kept L) slots it.id (it.me.0, c) i f (λ n. Did e no_step (it.me.0, c) (said n))) (sym r.empty)
       (allows L slots it.id it.me.0 e i f said r.alive r.layout r.word r.may change tell)),
 )
+
+-- what the `Play` tells, as clauses say it
+pub is_done : (it after : Seat Unit View) (d e : Event) (n : ℕ) → d ≡ e → after.table_id ≡ it.table_id → after.id ≡ it.id → Did d no_step it.me n after.me → IsDone it after e n
+is_done it after d e n pick table seat did = subst (λ (x : Event). IsDone it after x n) pick (record { table = table; seat = seat; found = did.0; me = did.1; past = did.2 })
 
 -- the same where the `Play` is told the word that was found, and where it is told the one stored
 pub asked_plainly : (L : Layout) (z : TableId) (slots : ℕ) (it : Seat Unit View) (d e : Event) (i : ℕ) (f : ℕ → ℕ)

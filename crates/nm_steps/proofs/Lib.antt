@@ -1,4 +1,5 @@
 pub mod Counts
+pub mod Growing
 pub mod Presence
 pub mod Extending
 pub mod Asking
@@ -9,6 +10,7 @@ pub mod Noting
 pub mod Sighting
 pub mod FreshPasses
 pub mod JoinedPasses
+pub mod HeardPasses
 pub mod Endings
 pub mod FoundBirths
 pub mod ClaimedSlots

@@ -1,5 +1,5 @@
 -- What a step leaves of a pass: the epochs that it mirrors, and its log, which is a part of a run still.
-use Rattle.std.proofs.Common.{◌≡◌, ◌≢◌, ℕ, ◌<◌, ◌≤◌, inr, ◌+◌, ◌==◌, Bool, true, false, ◌||◌, cond, List, [], ◌∷◌, ◌++◌, refl, sym, ap, subst, ◌∙◌, eq-eqb, true≢false}
+use Rattle.std.proofs.Common.{◌≡◌, ◌≢◌, ℕ, ◌<◌, ◌≤◌, ◌+◌, ◌==◌, Bool, true, false, ◌||◌, cond, List, [], ◌∷◌, ◌++◌, refl, sym, ap, subst, ◌∙◌, eq-eqb, true≢false}
 use Rattle.std.specs.Prelude.{Option, Some, None, IfSome}
 use Rattle.nm_model.specs.Maps.{is_number}
 use Rattle.std.proofs.lemmas.Bool.{cond_both, ne_eqb}
@@ -26,7 +26,7 @@ use Rattle.nm_words.specs.Packing.{word_at, touched}
 use Rattle.nm_words.specs.Told.{told}
 use Rattle.nm_steps.specs.declared.view.View.{View}
 use Rattle.nm_steps.specs.Rules.{knowledge, known_births, logged, is_store, IsFound}
-use Rattle.nm_steps.specs.Steps.{Stand, May, IsReady, IsDone, IsOfRun, IsInRun, Tied, Laid, noted, noted_sight}
+use Rattle.nm_steps.specs.Steps.{Stand, May, IsReady, IsDone, HasTurn, IsOfRun, IsInRun, HasSeen, Tied, Laid, noted, noted_sight}
 use Rattle.nm_steps.proofs.Presence.{gone_kept, known_push}
 use Rattle.nm_steps.proofs.Asking.{within, seen_small, private_pooled}
 use Rattle.nm_steps.proofs.Extending.{IsPartOf, keys-append, trace_after}
@@ -120,7 +120,22 @@ module _ (L : Layout) (w : ℕ) (log : List Entry) (e : Event) (n : ℕ) (f : Is
     here = ap (λ (k : Knowledge). k.gone) (known_push w L log (e, told L (known_by L w log) (births_by L w log) e n)) ∙ (gone_kept w (known_by L w log) e (told L (known_by L w log) (births_by L w log) e n) (no_leaver L w log e may w) ∙ f.here);
   }
 
+-- what has been seen after a step has the log as its part
+seen_after : (v : View) (e : Event) (n : ℕ) (f : IsFound v.layout v.number v.log e n) → May v.layout v.number v.log e → HasSeen (logged v e n f.turns)
+unfolding log_grows
+seen_after v e n f may =
+    let longer = log_grows v.layout v.number v.log e n f may in
+    record { worker = longer.worker; keys = longer.keys; is_part = longer.is_part; here = (run_grows v.layout v.number v.log e n f may).here }
+
 -- ---- a pass before and after a step
+
+-- a pass as clauses see it
+abbrev pub standing : Seat Unit View → Stand
+standing it = record { table = it.table_id; seat = it.id; view = it.me.0 }
+
+-- the turn of the step is the last that has been seen
+pub has_turn : (it after : Seat Unit View) (e : Event) (n : ℕ) → IsDone it after e n → HasTurn (standing it) (standing after) e
+has_turn it after e n done = record { before = done.found.turns; extends = done.past; is = ap (λ (m : View × List (ℕ × Unit)). m.0.past) done.me }
 
 -- the epoch last read, if there is one, is no greater than the greatest
 small_seen : (o : Option ℕ) → ((s : ℕ) → o ≡ Some s → s ≤ last_number) → IfSome o (λ e. e ≤ last_number)
@@ -147,14 +162,10 @@ ready z key L it number brief e i laid tied table same may index =
 pub ready_by_key : (z : TableId) (key L : Layout) (it : Seat Unit View) (e : Event) (i : ℕ) → Laid z key L → IsReady (record { table = z; layout = L }) it e i → IsReady (record { table = z; layout = key }) it e i
 ready_by_key z key L it e i laid r = subst (λ (l : Layout). IsReady (record { table = z; layout = l }) it e i) (sym laid.key_is) r
 
--- a pass as clauses see it
-abbrev pub standing : Seat Unit View → Stand
-standing it = record { table = it.table_id; seat = it.id; view = it.me.0 }
-
 -- after a step its log is of a run
 pub in_run_after : (it after : Seat Unit View) (number : ℕ) (brief : Brief) (e : Event) (n : ℕ) → Tied it number brief → May it.me.0.layout it.me.0.number it.me.0.log e → IsDone it after e n → IsInRun (standing after)
 in_run_after it after number brief e n tied may done =
-    let me : after.me.0 ≡ logged it.me.0 e n = ap (λ m. m.0) done.me in
+    let me : after.me.0 ≡ logged it.me.0 e n done.found.turns = ap (λ m. m.0) done.me in
     record {
       fits = subst (λ (v : View). IsLayout v.layout) (sym me) tied.fits;
       run = subst (λ (v : View). IsOfRun v.layout v.number v.log) (sym me) (run_grows it.me.0.layout it.me.0.number it.me.0.log e n done.found may);
@@ -163,7 +174,7 @@ in_run_after it after number brief e n tied may done =
 pub tied_after : (it after : Seat Unit View) (number : ℕ) (brief new : Brief) (e : Event) (n : ℕ) → Tied it number brief → May it.me.0.layout it.me.0.number it.me.0.log e → IsDone it after e n
     → new ≡ noted brief e (told it.me.0.layout (knowledge it.me.0) (known_births it.me.0) e n) → Tied after number new
 tied_after it after number brief new e n tied may done is =
-    let me : after.me.0 ≡ logged it.me.0 e n = ap (λ m. m.0) done.me in
+    let me : after.me.0 ≡ logged it.me.0 e n done.found.turns = ap (λ m. m.0) done.me in
     let r : Reply = told it.me.0.layout (knowledge it.me.0) (known_births it.me.0) e n in
     let longer : IsLogOf it.me.0.layout it.me.0.number (it.me.0.log ++ (e, r) ∷ []) = log_grows it.me.0.layout it.me.0.number it.me.0.log e n done.found may in
     let epochs : new ≡ (known_by it.me.0.layout it.me.0.number (it.me.0.log ++ (e, r) ∷ [])).brief =
@@ -180,7 +191,8 @@ tied_after it after number brief new e n tied may done is =
       small = small_seen new.seen (λ s at. seen_small it.me.0.layout it.me.0.number (it.me.0.log ++ (e, r) ∷ []) tied.fits longer s (sym (ap (λ (b : Brief). b.seen) epochs) ∙ at));
       private = subst (λ (v : View). (x : ℕ) → is_private (knowledge v) x ≡ true → IsPooled v.layout x) (sym me)
           (private_pooled it.me.0.layout it.me.0.number (it.me.0.log ++ (e, r) ∷ []) tied.fits longer);
-      log = inr (in_run_after it after number brief e n tied may done).run;
+      seen = subst HasSeen (sym me) (seen_after it.me.0 e n done.found may);
+      heard = ap (λ (v : View). v.heard) me ∙ tied.heard;
     }
 
 -- ---- a sight is always allowed

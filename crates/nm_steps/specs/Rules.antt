@@ -50,7 +50,18 @@ LogsAre l L t (h ∷ hs) = (l ≡ L) × (h.log ≡ part_of h.number t) × LogsAr
 abbrev pub IsShown : Layout → List Turn → View → Type 0
 IsShown L t v = LogsAre v.layout L t (holdings v)
 
--- some ordered run ends with these words, each worker's part of it is its log, and that log stands in the view of one seat
+-- a run goes on from an earlier one
+pub record Extends (run earlier : List (ℕ × Event)) : Type 0 where
+  pub more : List (ℕ × Event)
+  pub is : run ≡ earlier ++ more
+
+-- what a view has seen, and what it has heard of, are beginnings of the run
+pub record LagsBehind (turns : List (ℕ × Event)) (v : View) : Type 0 where
+  pub past : Extends turns v.past
+  pub heard : Extends turns v.heard
+
+-- some ordered run ends with these words, each worker's part of it is its log, that log stands in the view of one seat,
+-- and what each view has seen is a beginning of it
 pub record Runs (L : Layout) (words : List ℕ) (views : List View) : Type 0 where
   pub fits : IsLayout L
   pub turns : List (ℕ × Event)
@@ -59,6 +70,7 @@ pub record Runs (L : Layout) (words : List ℕ) (views : List View) : Type 0 whe
   pub shown : (i : ℕ) (v : View) → get_elem? views i ≡ some v → IsShown L (trace_in (ordered L) turns) v
   pub here : (i : ℕ) (v : View) → get_elem? views i ≡ some v → v.spent ≡ false → (knowledge v).gone ≡ false
   pub once : (w : ℕ) → sum_by (stands w) views ≡ once_below w L.workers
+  pub lags : (i : ℕ) (v : View) → get_elem? views i ≡ some v → LagsBehind turns v
 
 -- ---- how the views begin, are cut and are joined
 
@@ -69,8 +81,8 @@ numbers_from k (suc n) = held k [] ∷ numbers_from (suc k) n
 
 -- a view of these, the first of them its own
 abbrev pub viewing : Layout → List Held → View
-viewing L [] = record { layout = L; spent = true; number = 0; log = []; others = [] }
-viewing L (h ∷ hs) = record { layout = L; spent = false; number = h.number; log = h.log; others = hs }
+viewing L [] = record { layout = L; spent = true; number = 0; log = []; others = []; past = []; heard = [] }
+viewing L (h ∷ hs) = record { layout = L; spent = false; number = h.number; log = h.log; others = hs; past = []; heard = [] }
 
 abbrev pub everybody : Layout → View
 everybody L = viewing L (numbers_from 0 L.workers)
@@ -92,11 +104,23 @@ passing w = (Join w.number, Joined (knowledge w).ledgers)
 abbrev pub joined : View → View → View
 joined v w = record v { log = v.log ++ passing w ∷ []; others = v.others ++ held w.number (w.log ++ passing w ∷ []) ∷ w.others }
 
+-- a view that has heard what another one has seen
+abbrev pub informed : View → View → View
+informed v w = record v { heard = w.past }
+
+-- until the next step
+abbrev pub joining : View → View → View
+joining v w = informed (joined v w) w
+
+-- a view that stands for nobody, and has seen what this one has
+abbrev pub noted_down : View → View
+noted_down v = record nobody { past = v.past }
+
 -- ---- a step
 
--- an event with the reply that the word n gives enters the log
-abbrev pub logged : View → Event → ℕ → View
-logged v e n = record v { log = v.log ++ (e, told v.layout (knowledge v) (known_births v) e n) ∷ [] }
+-- an event with the reply that the word n gives enters the log, and has been seen behind these turns
+abbrev pub logged : View → Event → ℕ → List (ℕ × Event) → View
+logged v e n turns = record v { log = v.log ++ (e, told v.layout (knowledge v) (known_births v) e n) ∷ []; past = turns ++ (v.number, e) ∷ [] }
 
 -- it is a store, which finds nothing
 abbrev pub is_store : Event → Bool
@@ -116,9 +140,10 @@ pub record IsFound (L : Layout) (w : ℕ) (log : List Entry) (e : Event) (n : �
   pub here : (known_by L w log).gone ≡ false
   pub word : is_store e ≡ false → n ≡ word_at L (after_in (ordered L) turns).state.memory (touched w e)
 
--- what a step tells its seat: the event is in its log with its reply, and nothing else changed
+-- what a step tells its seat: the event is in its log with its reply, in a run that goes on from the one that it had seen, and which it has now seen
+-- with this turn at its end; and nothing else changed
 abbrev pub Did : Event → Step Unit → Me Unit View → ℕ → Me Unit View → Type 0
-Did e s me n after = (after ≡ (logged me.0 e n, me.1)) × IsFound me.0.layout me.0.number me.0.log e n
+Did e s me n after = (f : IsFound me.0.layout me.0.number me.0.log e n) × (after ≡ (logged me.0 e n f.turns, me.1)) × Extends f.turns me.0.past
 
 abbrev pub Kept : Layout → State Unit View → Type 0
 Kept L s = Runs L s.words s.views

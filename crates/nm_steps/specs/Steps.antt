@@ -1,5 +1,5 @@
 -- What a step asks of its worker, and what it does.
-use Rattle.std.specs.Prelude.{◌≡◌, ◌≢◌, ◌+◌, ◌≤◌, ◌<◌, ◌⊎◌, IfSome, ℕ, suc, true, false, List, [], ◌∷◌, ◌++◌, length, map, Bool, if◌then◌else◌, unwrap_or, Result, Ok, Err, Option, Some, None, IsSome, All}
+use Rattle.std.specs.Prelude.{◌≡◌, ◌≢◌, ◌+◌, ◌≤◌, ◌<◌, IfSome, ℕ, suc, true, false, List, [], ◌∷◌, ◌++◌, length, map, Bool, if◌then◌else◌, unwrap_or, Result, Ok, Err, Option, Some, None, IsSome, All}
 use Rattle.atomic_table.specs.Seated.{TableId}
 use Rattle.atomic_table.specs.declared.shared.Seat.{Seat}
 use Rattle.nm_edge.specs.Edges.{Edge}
@@ -8,12 +8,11 @@ use Rattle.nm_edge.specs.declared.node.NodeId.{NodeId}
 use Rattle.nm_edge.specs.Layouts.{Layout, IsLayout}
 use Rattle.nm_edge.specs.Words.{IsField, word, words}
 use Rattle.nm_model.specs.declared.event.Event.{Event}
-use Rattle.nm_model.specs.declared.event.Event.TheVariants.{Sight, SightFor, Announce, Leave, LeaveWith, Advance, Fill, Splice, Join}
+use Rattle.nm_model.specs.declared.event.Event.TheVariants.{Sight, SightFor, Announce, Leave, LeaveWith, Advance, Fill, Splice}
 use Rattle.nm_model.specs.declared.event.Field.TheVariants.{Birth}
 use Rattle.nm_model.specs.declared.reply.Reply.{Reply}
-use Rattle.nm_model.specs.declared.reply.Reply.TheVariants.{Saw, Labelled, Pinned, Missed, Announced, Departed, Idle, In, Moved, Behind, Claimed, Taken, Returned, Freed, Linked, Flagged, Cut, Lost, Joined}
+use Rattle.nm_model.specs.declared.reply.Reply.TheVariants.{Saw, Labelled, Pinned, Missed, Announced, Departed, Idle, In, Moved, Behind, Claimed, Taken, Returned, Freed, Linked, Flagged, Cut, Lost}
 use Rattle.nm_model.specs.declared.knowledge.Brief.{Brief}
-use Rattle.nm_model.specs.declared.ledger.Ledger.{Ledger}
 use Rattle.nm_model.specs.Memory.{Memory, node}
 use Rattle.nm_model.specs.Ledgers.{front_of}
 use Rattle.nm_model.specs.Knowledge.{Knowledge, draft_of, is_private, way, cut_by}
@@ -22,7 +21,7 @@ use Rattle.nm_model.specs.Walks.{Entry, search_after}
 use Rattle.nm_model.specs.Searches.{idle}
 use Rattle.nm_model.specs.Ordered.{disorder, ordered, after_in, trace_in}
 use Rattle.nm_order.specs.Intervals.{HasKey}
-use Rattle.nm_order.specs.Logs.{known_by, IsLogOf}
+use Rattle.nm_order.specs.Logs.{part_of, known_by, IsLogOf}
 use Rattle.nm_order.specs.OwnBirths.{births_by}
 use Rattle.nm_order.specs.Hands.{IsPooled}
 use Rattle.nm_words.specs.Packing.{touched, left_word, words_of}
@@ -30,7 +29,7 @@ use Rattle.nm_words.specs.Told.{told, known_as, BirthsAreKnown}
 use Rattle.nm_steps.specs.declared.answers.Sighted.{Sighted}
 use Rattle.nm_steps.specs.declared.answers.Sighted.TheVariants as seeing
 use Rattle.nm_steps.specs.declared.view.View.{View}
-use Rattle.nm_steps.specs.Rules.{held, knowledge, known_births, viewing, joined, logged, is_store, stands, once_below, IsShown, IsFound}
+use Rattle.nm_steps.specs.Rules.{held, knowledge, known_births, viewing, joined, logged, is_store, stands, once_below, Extends, IsShown, IsFound}
 
 -- ---- what a worker's own log allows
 
@@ -85,8 +84,9 @@ pub record IsReady (b : Board) (it : Seat Unit View) (e : Event) (i : ℕ) : Typ
 pub record IsDone (it after : Seat Unit View) (e : Event) (n : ℕ) : Type 0 where
   pub table : after.table_id ≡ it.table_id
   pub seat : after.id ≡ it.id
-  pub me : after.me ≡ (logged it.me.0 e n, it.me.1)
   pub found : IsFound it.me.0.layout it.me.0.number it.me.0.log e n
+  pub me : after.me ≡ (logged it.me.0 e n found.turns, it.me.1)
+  pub past : Extends found.turns it.me.0.past
 
 -- the operation leaves the word that the event leaves
 abbrev pub Changes : Event → View → (ℕ → ℕ) → Type 0
@@ -108,18 +108,17 @@ pub record IsOf (b : Board) (p : Stand) : Type 0 where
 abbrev pub MayStep : Stand → Event → Type 0
 MayStep p e = May p.view.layout p.view.number p.view.log e
 
--- what each step function ensures: this event with this reply is in the log, and nothing else changed
+-- what each step function ensures: this event with this reply is in the log, more has been seen, and nothing else changed
 abbrev pub Stepped : Stand → Stand → Event → Reply → Type 0
-Stepped p q e r = q ≡ record p { view = record p.view { log = p.view.log ++ (e, r) ∷ [] } }
+Stepped p q e r = q ≡ record p { view = record p.view { log = p.view.log ++ (e, r) ∷ []; past = q.view.past } }
+
+-- and what has been seen: a run that goes on from what had been, with this event as its last turn
+pub record HasTurn (p q : Stand) (e : Event) : Type 0 where
+  pub before : List (ℕ × Event)
+  pub extends : Extends before p.view.past
+  pub is : q.view.past ≡ before ++ (p.view.number, e) ∷ []
 
 -- ---- what a table and a pass keep
-
--- a log that ends with a join
-pub record EndsWithJoin (log : List Entry) : Type 0 where
-  pub before : List Entry
-  pub leaver : ℕ
-  pub ledgers : List (Option Ledger)
-  pub is : log ≡ before ++ (Join leaver, Joined ledgers) ∷ []
 
 -- a log is its worker's part of some run, and the worker has not resigned
 pub record IsOfRun (L : Layout) (w : ℕ) (log : List Entry) : Type 0 where
@@ -131,8 +130,14 @@ pub record IsInRun (p : Stand) : Type 0 where
   pub fits : IsLayout p.view.layout
   pub run : IsOfRun p.view.layout p.view.number p.view.log
 
--- what a pass keeps of its log: its number and epochs, that its private slots are ones of the pool's range, and that the log is of a run.
--- (Each step tells of the run. A join tells nothing, so of a log that ends with one this is kept from the next step on.)
+-- what a view has seen is an ordered run, its log is its worker's part of that, and the worker has not resigned
+pub record HasSeen (v : View) : Type 0 where
+  pub worker : v.number < v.layout.workers
+  pub keys : All (λ t. HasKey t.1) v.past
+  pub is_part : part_of v.number (trace_in (ordered v.layout) v.past) ≡ v.log
+  pub here : (knowledge v).gone ≡ false
+
+-- what a pass keeps of its log: its number and epochs, that its private slots are ones of the pool's range, and that the run which it has seen has the log as its part
 pub record Tied (it : Seat Unit View) (number : ℕ) (brief : Brief) : Type 0 where
   pub empty : it.me.1 ≡ []
   pub alive : it.me.0.spent ≡ false
@@ -142,7 +147,8 @@ pub record Tied (it : Seat Unit View) (number : ℕ) (brief : Brief) : Type 0 wh
   pub worker : number < it.me.0.layout.workers
   pub small : IfSome brief.seen (λ e. e ≤ last_number)
   pub private : (x : ℕ) → is_private (knowledge it.me.0) x ≡ true → IsPooled it.me.0.layout x
-  pub log : EndsWithJoin it.me.0.log ⊎ IsOfRun it.me.0.layout it.me.0.number it.me.0.log
+  pub seen : HasSeen it.me.0
+  pub heard : it.me.0.heard ≡ []
 
 -- what a table keeps
 pub record Laid (z : TableId) (key L : Layout) : Type 0 where
@@ -163,9 +169,25 @@ AreFresh b k (p ∷ ps) = (p.table ≡ b.table) × (p.view ≡ fresh_view b.layo
 
 -- the first pass stands for both
 abbrev pub HasJoined : Stand → Stand → Stand → Type 0
-HasJoined p q all = all ≡ record p { view = joined p.view q.view }
+HasJoined p q all = all ≡ record p { view = record (joined p.view q.view) { past = all.view.past } }
 
--- some ordered run ends with these words, and the view's logs are its parts, each once
+-- what a pass has seen goes on from what another one had seen
+abbrev pub HasSeenAllOf : Stand → Stand → Type 0
+HasSeenAllOf later earlier = Extends later.view.past earlier.view.past
+
+-- what clauses see of a note
+pub record Notice : Type 0 where
+  pub table : TableId
+  pub past : List (ℕ × Event)
+
+abbrev pub IsNoteOf : Stand → Notice → Type 0
+IsNoteOf p note = note ≡ record { table = p.table; past = p.view.past }
+
+-- a pass has seen more, and done nothing
+abbrev pub HasHeard : Stand → Stand → Type 0
+HasHeard p q = q ≡ record p { view = record p.view { past = q.view.past } }
+
+-- some ordered run ends with these words, and goes on from what the view has seen; the view's logs are its parts, each once
 pub record Ends (L : Layout) (words : List ℕ) (view : View) : Type 0 where
   pub fits : IsLayout L
   pub turns : List (ℕ × Event)
@@ -173,10 +195,11 @@ pub record Ends (L : Layout) (words : List ℕ) (view : View) : Type 0 where
   pub words_are : words ≡ words_of L (after_in (ordered L) turns).state.memory
   pub shown : IsShown L (trace_in (ordered L) turns) view
   pub once : (w : ℕ) → stands w view ≤ once_below w L.workers
+  pub past : Extends turns view.past
 
--- nothing but the log changed
+-- nothing but the log and what has been seen changed
 abbrev pub IsSamePass : Stand → Stand → Type 0
-IsSamePass p q = q ≡ record p { view = record p.view { log = q.view.log } }
+IsSamePass p q = q ≡ record p { view = record p.view { log = q.view.log; past = q.view.past } }
 
 -- ---- replies, by what the step functions answer
 

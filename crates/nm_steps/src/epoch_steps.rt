@@ -3,7 +3,7 @@ ghost use Rattle.std.specs.Prelude.{◌≡◌, ◌<◌, Some};
 ghost use Rattle.nm_model.specs.declared.event.Event.TheVariants.{Sight, SightFor, Announce, Leave, LeaveWith, Scan, Advance};
 ghost use Rattle.nm_model.specs.declared.reply.Reply.TheVariants.{Announced, Departed};
 ghost use Rattle.nm_steps.specs.Rules.{knowledge};
-ghost use Rattle.nm_steps.specs.Steps.{IsOf, IsInRun, IsSight, MayStep, Stepped, sight_reply, scan_reply, advance_reply, IsAdvanceFrom, sight_of, noted_sight};
+ghost use Rattle.nm_steps.specs.Steps.{IsOf, IsInRun, IsSight, MayStep, Stepped, HasTurn, sight_reply, scan_reply, advance_reply, IsAdvanceFrom, sight_of, noted_sight};
 
 use crate::answers::Sighted;
 use crate::pass::{Pass, Shared};
@@ -15,6 +15,7 @@ impl Shared {
     pub fn sight(&self, pass: &mut Pass) -> Sighted
         requires { IsOf self.now pass.old }
         ensures step { Stepped pass.old pass.new Sight (sight_reply result) }
+        ensures past { HasTurn pass.old pass.new Sight }
         ensures run { IsInRun pass.new }
         ensures reply { IsSight (knowledge pass.old.view).brief (sight_reply result) }
     {
@@ -30,6 +31,7 @@ impl Shared {
         requires own { IsOf self.now pass.old }
         requires may { MayStep pass.old (SightFor op key) }
         ensures step { Stepped pass.old pass.new (SightFor op key) (sight_reply result) }
+        ensures past { HasTurn pass.old pass.new (SightFor op key) }
         ensures run { IsInRun pass.new }
         ensures reply { IsSight (knowledge pass.old.view).brief (sight_reply result) }
     {
@@ -46,6 +48,7 @@ impl Shared {
         requires own { IsOf self.now pass.old }
         requires may { MayStep pass.old Announce }
         ensures step { Stepped pass.old pass.new Announce (Announced result) }
+        ensures past { HasTurn pass.old pass.new Announce }
         ensures run { IsInRun pass.new }
     {
         let Some(seen) = pass.brief.seen else {
@@ -62,6 +65,7 @@ impl Shared {
         requires own { IsOf self.now pass.old }
         requires may { MayStep pass.old Leave }
         ensures step { Stepped pass.old pass.new Leave Departed }
+        ensures past { HasTurn pass.old pass.new Leave }
         ensures run { IsInRun pass.new }
     {
         let word = self.layout.note(pass.number) as usize;
@@ -75,6 +79,7 @@ impl Shared {
         requires own { IsOf self.now pass.old }
         requires may { MayStep pass.old (LeaveWith answer) }
         ensures step { Stepped pass.old pass.new (LeaveWith answer) Departed }
+        ensures past { HasTurn pass.old pass.new (LeaveWith answer) }
         ensures run { IsInRun pass.new }
     {
         let word = self.layout.note(pass.number) as usize;
@@ -88,6 +93,7 @@ impl Shared {
         requires own { IsOf self.now pass.old }
         requires may { MayStep pass.old (Scan worker) }
         ensures step { Stepped pass.old pass.new (Scan worker) (scan_reply result) }
+        ensures past { HasTurn pass.old pass.new (Scan worker) }
         ensures run { IsInRun pass.new }
     {
         let word = self.layout.note(worker) as usize;
@@ -100,6 +106,7 @@ impl Shared {
         requires own { IsOf self.now pass.old }
         requires may { MayStep pass.old Advance }
         ensures step { Stepped pass.old pass.new Advance (advance_reply result) }
+        ensures past { HasTurn pass.old pass.new Advance }
         ensures run { IsInRun pass.new }
         ensures from { IsAdvanceFrom (knowledge pass.old.view).brief.seen result }
     {

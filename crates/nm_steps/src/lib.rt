@@ -9,7 +9,7 @@ mod tree_steps;
 mod view;
 
 pub use answers::Sighted;
-pub use pass::{Pass, Shared, Words};
+pub use pass::{Note, Pass, Shared, Words};
 pub use view::{Does, Doing, Held, Law, View};
 
 #[cfg(test)]

@@ -2,23 +2,25 @@
 //!
 //! The table is a private field: the modules below this one alone reach it, and every other one steps by the five operations of `acts`,
 //! each of which is one operation on one word.
-ghost use Rattle.std.specs.Prelude.{◌≡◌, ◌<◌, ◌⊎◌, ℕ, true};
+ghost use Rattle.std.specs.Prelude.{◌≡◌, ◌<◌, ℕ, true};
 ghost use Rattle.nm_edge.specs.Layouts.{IsLayout};
 ghost use Rattle.nm_model.specs.Knowledge.{is_private};
 ghost use Rattle.nm_order.specs.Hands.{IsPooled};
 ghost use Rattle.nm_steps.specs.Rules.{knowledge};
-ghost use Rattle.nm_steps.specs.Steps.{EndsWithJoin, IsOfRun};
+ghost use Rattle.nm_steps.specs.Steps.{IsOfRun, HasSeen};
 
 mod acts;
 mod closing;
 mod joining;
 mod making;
+mod notes;
 
 use crate::view::{Law, Place, View};
 use atomic_table::Table;
 pub use closing::Words;
 use nm_edge::Layout;
 use nm_model::Brief;
+pub use notes::Note;
 use std::alloc::Global;
 use std::marker::Model;
 
@@ -104,9 +106,10 @@ impl Pass {
     }
 
     /// The pass's log is its number's part of some run of an ordered core, and the worker has not resigned in it: each law of such parts
-    /// holds of it. Of a log that ends with a join this is so from the next step on. It does nothing.
+    /// holds of it. One such run is what the pass has seen, so each law of runs holds of that. It does nothing.
     pub fn is_of_a_run(&self)
-        ensures run { EndsWithJoin self.now.view.log ⊎ IsOfRun self.now.view.layout self.now.view.number self.now.view.log }
+        ensures run { IsOfRun self.now.view.layout self.now.view.number self.now.view.log }
+        ensures seen { HasSeen self.now.view }
         ensures fits { IsLayout self.now.view.layout }
     {
         let _brief = self.brief;

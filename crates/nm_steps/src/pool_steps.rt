@@ -2,7 +2,7 @@
 ghost use Rattle.std.specs.Prelude.{◌≡◌, true};
 ghost use Rattle.nm_model.specs.declared.event.Event.TheVariants.{Claim, Give};
 ghost use Rattle.nm_order.specs.Told.{IsNew};
-ghost use Rattle.nm_steps.specs.Steps.{IsOf, IsInRun, MayStep, Stepped, claim_reply, give_reply};
+ghost use Rattle.nm_steps.specs.Steps.{IsOf, IsInRun, MayStep, Stepped, HasTurn, claim_reply, give_reply};
 
 use crate::pass::{Pass, Shared};
 use nm_model::Event;
@@ -13,6 +13,7 @@ impl Shared {
         requires own { IsOf self.now pass.old }
         requires may { MayStep pass.old (Claim slot) }
         ensures step { Stepped pass.old pass.new (Claim slot) (claim_reply slot result) }
+        ensures past { HasTurn pass.old pass.new (Claim slot) }
         ensures run { IsInRun pass.new }
         ensures new { result ≡ true → IsNew pass.old.view.layout pass.old.view.number pass.old.view.log slot }
     {
@@ -28,6 +29,7 @@ impl Shared {
         requires own { IsOf self.now pass.old }
         requires may { MayStep pass.old (Give slot) }
         ensures step { Stepped pass.old pass.new (Give slot) (give_reply pass.old.view slot) }
+        ensures past { HasTurn pass.old pass.new (Give slot) }
         ensures run { IsInRun pass.new }
     {
         let place = self.layout.pool(slot);

@@ -7,7 +7,7 @@ ghost use Rattle.nm_model.specs.declared.reply.Reply.TheVariants.{KeyIs, EdgeIs,
 ghost use Rattle.nm_model.specs.Knowledge.{read};
 ghost use Rattle.nm_model.specs.Step.{last_number};
 ghost use Rattle.nm_steps.specs.Rules.{knowledge};
-ghost use Rattle.nm_steps.specs.Steps.{IsOf, IsInRun, MayStep, Stepped, link_reply, flag_reply, splice_reply};
+ghost use Rattle.nm_steps.specs.Steps.{IsOf, IsInRun, MayStep, Stepped, HasTurn, link_reply, flag_reply, splice_reply};
 
 use crate::pass::{Pass, Shared};
 use nm_edge::{Edge, Side};
@@ -22,6 +22,7 @@ impl Shared {
         requires own { IsOf self.now pass.old }
         requires may { MayStep pass.old (Look slot KeyOf) }
         ensures step { Stepped pass.old pass.new (Look slot KeyOf) (KeyIs result) }
+        ensures past { HasTurn pass.old pass.new (Look slot KeyOf) }
         ensures run { IsInRun pass.new }
     {
         let word = self.layout.key(slot) as usize;
@@ -33,6 +34,7 @@ impl Shared {
         requires own { IsOf self.now pass.old }
         requires may { MayStep pass.old (Look slot (EdgeOn side)) }
         ensures step { Stepped pass.old pass.new (Look slot (EdgeOn side)) (EdgeIs result) }
+        ensures past { HasTurn pass.old pass.new (Look slot (EdgeOn side)) }
         ensures run { IsInRun pass.new }
     {
         let word = self.layout.edge(slot, side) as usize;
@@ -45,6 +47,7 @@ impl Shared {
         requires own { IsOf self.now pass.old }
         requires may { MayStep pass.old (Look slot Birth) }
         ensures step { Stepped pass.old pass.new (Look slot Birth) (BirthIs result) }
+        ensures past { HasTurn pass.old pass.new (Look slot Birth) }
         ensures run { IsInRun pass.new }
         ensures small { result ≤ last_number }
     {
@@ -57,6 +60,7 @@ impl Shared {
         requires own { IsOf self.now pass.old }
         requires may { MayStep pass.old (Fill slot KeyOf key) }
         ensures step { Stepped pass.old pass.new (Fill slot KeyOf key) Filled }
+        ensures past { HasTurn pass.old pass.new (Fill slot KeyOf key) }
         ensures run { IsInRun pass.new }
     {
         let word = self.layout.key(slot) as usize;
@@ -69,6 +73,7 @@ impl Shared {
         requires own { IsOf self.now pass.old }
         requires may { MayStep pass.old (Fill slot (EdgeOn side) child) }
         ensures step { Stepped pass.old pass.new (Fill slot (EdgeOn side) child) Filled }
+        ensures past { HasTurn pass.old pass.new (Fill slot (EdgeOn side) child) }
         ensures run { IsInRun pass.new }
     {
         let word = self.layout.edge(slot, side) as usize;
@@ -81,6 +86,7 @@ impl Shared {
         requires own { IsOf self.now pass.old }
         requires may { MayStep pass.old (Fill slot Birth birth) }
         ensures step { Stepped pass.old pass.new (Fill slot Birth birth) Filled }
+        ensures past { HasTurn pass.old pass.new (Fill slot Birth birth) }
         ensures run { IsInRun pass.new }
     {
         let word = self.layout.birth(slot) as usize;
@@ -100,6 +106,7 @@ impl Shared {
         requires own { IsOf self.now pass.old }
         requires may { MayStep pass.old (Link parent side leaf new) }
         ensures step { Stepped pass.old pass.new (Link parent side leaf new) (link_reply pass.old.view new result) }
+        ensures past { HasTurn pass.old pass.new (Link parent side leaf new) }
         ensures run { IsInRun pass.new }
     {
         let word = self.layout.edge(parent, side) as usize;
@@ -118,6 +125,7 @@ impl Shared {
         requires own { IsOf self.now pass.old }
         requires may { MayStep pass.old (Flag parent side leaf) }
         ensures step { Stepped pass.old pass.new (Flag parent side leaf) (flag_reply pass.old.view leaf result) }
+        ensures past { HasTurn pass.old pass.new (Flag parent side leaf) }
         ensures run { IsInRun pass.new }
     {
         let word = self.layout.edge(parent, side) as usize;
@@ -136,6 +144,7 @@ impl Shared {
         requires own { IsOf self.now pass.old }
         requires may { MayStep pass.old (Tag parent side) }
         ensures step { Stepped pass.old pass.new (Tag parent side) (Was result) }
+        ensures past { HasTurn pass.old pass.new (Tag parent side) }
         ensures run { IsInRun pass.new }
     {
         let word = self.layout.edge(parent, side) as usize;
@@ -159,6 +168,7 @@ impl Shared {
         requires may { MayStep pass.old (Splice ancestor side successor parent keep) }
         requires kept { read (knowledge pass.old.view) parent keep ≡ Some kept }
         ensures step { Stepped pass.old pass.new (Splice ancestor side successor parent keep) (splice_reply pass.old.view successor parent keep result) }
+        ensures past { HasTurn pass.old pass.new (Splice ancestor side successor parent keep) }
         ensures run { IsInRun pass.new }
     {
         let word = self.layout.edge(ancestor, side) as usize;

@@ -1,6 +1,6 @@
 //! How two passes become one.
 ghost use Rattle.nm_steps.specs.Rules.{knowledge};
-ghost use Rattle.nm_steps.specs.Steps.{IsOf, HasEmptyHands, HasJoined};
+ghost use Rattle.nm_steps.specs.Steps.{IsOf, HasEmptyHands, HasJoined, HasSeenAllOf};
 ghost use Rattle.nm_steps.specs.Ties.{StandsInRun};
 
 use crate::pass::{Pass, Shared};
@@ -11,9 +11,9 @@ use atomic_table::Join;
 pub(crate) struct Unite;
 
 impl Join<View> for Unite {
-    ghost use Rattle.nm_steps.specs.Rules.{joined, nobody};
+    ghost use Rattle.nm_steps.specs.Rules.{joining, nobody};
 
-    ghost both = { joined };
+    ghost both = { joining };
 
     ghost spent = { nobody };
 }
@@ -21,6 +21,7 @@ impl Join<View> for Unite {
 impl Shared {
     /// The first pass stands for both, and takes over the ledgers that the second one's worker holds. That worker resigns;
     /// it must have no private slot and no unlabelled cut. One step, which is in both logs. It reads the epoch's word and changes no word.
+    /// What it has seen goes on from what both had seen.
     /// No number stands twice in the pass, so that no worker's ledger was held by both.
     pub fn join(&self, pass: Pass, other: Pass) -> Pass
         requires first { IsOf self.now pass }
@@ -28,6 +29,8 @@ impl Shared {
         requires hands { HasEmptyHands (knowledge other.view) }
         ensures joined { HasJoined pass other result }
         ensures run { StandsInRun result.view }
+        ensures past { HasSeenAllOf result pass }
+        ensures heard { HasSeenAllOf result other }
     {
         let Pass {
             mut seat,

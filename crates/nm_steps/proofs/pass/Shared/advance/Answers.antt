@@ -2,7 +2,7 @@ use Rattle.std.proofs.Common.{rules, arith, ◌≤◌}
 use Rattle.nm_steps.specs.Rules.{knowledge, known_births}
 use Rattle.nm_model.specs.Step.{last_number}
 use Rattle.nm_steps.proofs.Asking.{advance_seen}
-use Rattle.nm_steps.proofs.Noting.{in_run_after, tied_after, noted_moved, noted_behind}
+use Rattle.nm_steps.proofs.Noting.{has_turn, in_run_after, tied_after, noted_moved, noted_behind}
 use Rattle.nm_steps.proofs.pass.Shared.advance.Goals as goal
 
 pub unreachable-requires : goal.unreachable-requires
@@ -28,3 +28,9 @@ returns-then-found-seen-clause-run c = in_run_after _ _ _ _ _ _ c.pass.invariant
 
 pub returns-else-found-seen-clause-run : goal.returns-else-found-seen-clause-run
 returns-else-found-seen-clause-run c = in_run_after _ _ _ _ _ _ c.pass.invariant (rw (← c.pass.view_is) at c.requires.may) c.exchange-found.ensures
+
+pub returns-then-found-seen-clause-past : goal.returns-then-found-seen-clause-past
+returns-then-found-seen-clause-past c = rw (← c.pass.view_is) (has_turn _ _ _ _ c.exchange-found.ensures)
+
+pub returns-else-found-seen-clause-past : goal.returns-else-found-seen-clause-past
+returns-else-found-seen-clause-past c = rw (← c.pass.view_is) (has_turn _ _ _ _ c.exchange-found.ensures)

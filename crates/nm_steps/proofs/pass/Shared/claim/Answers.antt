@@ -1,7 +1,7 @@
 use Rattle.std.proofs.Common.{rules}
 use Rattle.nm_steps.proofs.Asking.{claim_slot}
 use Rattle.nm_steps.proofs.ClaimedSlots.{claimed_new}
-use Rattle.nm_steps.proofs.Noting.{ready, in_run_after, tied_after}
+use Rattle.nm_steps.proofs.Noting.{ready, has_turn, in_run_after, tied_after}
 use Rattle.nm_steps.proofs.pass.Shared.claim.Goals as goal
 
 pub pool-place-requires : goal.pool-place-requires
@@ -18,3 +18,6 @@ returns-clause-new c = λ won. rw (← c.pass.view_is) (claimed_new _ _ _ c.args
 
 pub returns-clause-run : goal.returns-clause-run
 returns-clause-run c = in_run_after _ _ _ _ _ _ c.pass.invariant (rw (← c.pass.view_is) at c.requires.may) c.clear-found.ensures
+
+pub returns-clause-past : goal.returns-clause-past
+returns-clause-past c = rw (← c.pass.view_is) (has_turn _ _ _ _ c.clear-found.ensures)

@@ -1,6 +1,6 @@
 use Rattle.std.proofs.Common.{rules}
 use Rattle.nm_steps.proofs.Asking.{fill_slot}
-use Rattle.nm_steps.proofs.Noting.{ready, in_run_after, tied_after}
+use Rattle.nm_steps.proofs.Noting.{ready, has_turn, in_run_after, tied_after}
 use Rattle.nm_steps.proofs.pass.Shared.fill_key.Goals as goal
 
 pub key-word-requires : goal.key-word-requires
@@ -14,3 +14,6 @@ invariant_of-pass c = tied_after _ _ _ _ _ _ _ c.pass.invariant (rw (← c.pass.
 
 pub returns-clause-run : goal.returns-clause-run
 returns-clause-run c = in_run_after _ _ _ _ _ _ c.pass.invariant (rw (← c.pass.view_is) at c.requires.may) c.store.ensures
+
+pub returns-clause-past : goal.returns-clause-past
+returns-clause-past c = rw (← c.pass.view_is) (has_turn _ _ _ _ c.store.ensures)

@@ -1,6 +1,6 @@
 use Rattle.std.proofs.Common.{rules}
 use Rattle.nm_steps.proofs.Asking.{give_slot}
-use Rattle.nm_steps.proofs.Noting.{ready, in_run_after, tied_after}
+use Rattle.nm_steps.proofs.Noting.{ready, has_turn, in_run_after, tied_after}
 use Rattle.nm_steps.proofs.pass.Shared.give.Goals as goal
 
 pub pool-place-requires : goal.pool-place-requires
@@ -14,3 +14,6 @@ invariant_of-pass c = tied_after _ _ _ _ _ _ _ c.pass.invariant (rw (← c.pass.
 
 pub returns-clause-run : goal.returns-clause-run
 returns-clause-run c = in_run_after _ _ _ _ _ _ c.pass.invariant (rw (← c.pass.view_is) at c.requires.may) c.mark.ensures
+
+pub returns-clause-past : goal.returns-clause-past
+returns-clause-past c = rw (← c.pass.view_is) (has_turn _ _ _ _ c.mark.ensures)

@@ -1,5 +1,5 @@
 use Rattle.std.proofs.Common.{rules}
-use Rattle.nm_steps.proofs.Noting.{in_run_after, tied_after}
+use Rattle.nm_steps.proofs.Noting.{has_turn, in_run_after, tied_after}
 use Rattle.nm_steps.proofs.pass.Shared.leave_with.Goals as goal
 
 pub invariant_of-pass : goal.invariant_of-pass
@@ -7,3 +7,6 @@ invariant_of-pass c = tied_after _ _ _ _ _ _ _ c.pass.invariant (rw (← c.pass.
 
 pub returns-clause-run : goal.returns-clause-run
 returns-clause-run c = in_run_after _ _ _ _ _ _ c.pass.invariant (rw (← c.pass.view_is) at c.requires.may) c.store.ensures
+
+pub returns-clause-past : goal.returns-clause-past
+returns-clause-past c = rw (← c.pass.view_is) (has_turn _ _ _ _ c.store.ensures)

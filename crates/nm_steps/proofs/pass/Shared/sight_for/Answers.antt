@@ -1,5 +1,5 @@
 use Rattle.std.proofs.Common.{rules}
-use Rattle.nm_steps.proofs.Noting.{ready, in_run_after, tied_after}
+use Rattle.nm_steps.proofs.Noting.{ready, has_turn, in_run_after, tied_after}
 use Rattle.nm_steps.specs.Rules.{knowledge}
 use Rattle.nm_steps.specs.Steps.{sight_reply}
 use Rattle.nm_steps.proofs.Sighting.{sight_answers}
@@ -16,3 +16,6 @@ returns-clause-reply c = sight_answers _ _ c.pass.inside.brief c.after_sight-pas
 
 pub returns-clause-run : goal.returns-clause-run
 returns-clause-run c = in_run_after _ _ _ _ _ _ c.pass.invariant (rw (← c.pass.view_is) at c.requires.may) c.load-found.ensures
+
+pub returns-clause-past : goal.returns-clause-past
+returns-clause-past c = rw (← c.pass.view_is) (has_turn _ _ _ _ c.load-found.ensures)

@@ -1,0 +1,43 @@
+-- What a note leaves of the pass that hears it.
+use Rattle.std.proofs.Common.{◌≡◌, ℕ, ◌<◌, true, List, [], sym, ap, ◌∙◌, subst}
+use Rattle.atomic_table.specs.declared.shared.Seat.{Seat}
+use Rattle.nm_edge.specs.Layouts.{IsLayout}
+use Rattle.nm_model.specs.declared.event.Event.{Event}
+use Rattle.nm_model.specs.declared.knowledge.Brief.{Brief}
+use Rattle.nm_model.specs.Knowledge.{is_private}
+use Rattle.nm_order.specs.Hands.{IsPooled}
+use Rattle.nm_steps.specs.declared.view.View.{View}
+use Rattle.nm_steps.specs.Rules.{knowledge, informed, Extends}
+use Rattle.nm_steps.specs.Steps.{Tied, HasSeen}
+use Rattle.nm_steps.specs.Ties.{HasSeenBoth}
+
+-- the seat after it was told, and after the read behind it
+module _ (it mid after : Seat Unit View) (number : ℕ) (brief : Brief) (w : View) (tied : Tied it number brief) (me : mid.me ≡ (informed it.me.0 w, it.me.1)) (slots : after.me.1 ≡ mid.me.1) (both : HasSeenBoth mid.me.0 after.me.0) where
+  abbrev now : List (ℕ × Event)
+  now = after.me.0.past
+
+  view : after.me.0 ≡ record it.me.0 { past = now; heard = [] }
+  view = both.is ∙ ap (λ (m : View × List (ℕ × Unit)). record m.0 { past = now; heard = [] }) me
+
+  pub heard_tied : HasSeen after.me.0 → Tied after number brief
+  heard_tied seen = record {
+    empty = slots ∙ (ap (λ m. m.1) me ∙ tied.empty);
+    alive = ap (λ (v : View). v.spent) view ∙ tied.alive;
+    number_is = tied.number_is ∙ sym (ap (λ (v : View). v.number) view);
+    brief_is = tied.brief_is ∙ sym (ap (λ (v : View). (knowledge v).brief) view);
+    fits = subst (λ (v : View). IsLayout v.layout) (sym view) tied.fits;
+    worker = subst (λ (v : View). number < v.layout.workers) (sym view) tied.worker;
+    small = tied.small;
+    private = subst (λ (v : View). (x : ℕ) → is_private (knowledge v) x ≡ true → IsPooled v.layout x) (sym view) tied.private;
+    seen = seen;
+    heard = ap (λ (v : View). v.heard) view;
+  }
+
+  pub heard_view : after.me.0 ≡ record it.me.0 { past = now }
+  heard_view = view ∙ ap (λ (h : List (ℕ × Event)). record it.me.0 { past = now; heard = h }) (sym tied.heard)
+
+  pub heard_past : Extends now it.me.0.past
+  heard_past = subst (λ (m : View × List (ℕ × Unit)). Extends now m.0.past) me both.past
+
+  pub heard_note : Extends now w.past
+  heard_note = subst (λ (m : View × List (ℕ × Unit)). Extends now m.0.heard) me both.heard

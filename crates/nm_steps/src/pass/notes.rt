@@ -1,0 +1,76 @@
+//! How one worker tells another what it has seen.
+ghost use Rattle.std.specs.Prelude.{◌≡◌};
+ghost use Rattle.nm_steps.specs.Rules.{Extends};
+ghost use Rattle.nm_steps.specs.Steps.{IsOf, HasHeard, IsNoteOf};
+
+use crate::pass::{Pass, Shared};
+use crate::view::{Place, Ties, View};
+use atomic_table::{Join, Split};
+use std::marker::Model;
+
+/// What a pass had seen when the note was made. It may go to another thread, and it does nothing where it is dropped.
+#[derive(Drop)]
+pub struct Note {
+    seat: Place,
+}
+
+impl Model for Note {
+    ghost use Rattle.std.specs.Prelude.{◌≡◌, true, []};
+    ghost use Rattle.nm_steps.specs.Steps.{Notice};
+
+    ghost Value = { Notice };
+
+    ghost view = { λ n. record { table = n.seat.table_id; past = n.seat.me.0.past } };
+
+    ghost invariant = { λ n. (n.seat.me.0.spent ≡ true) × (n.seat.me.1 ≡ []) };
+}
+
+/// A view stays as it is, and one that stands for nobody has seen what it has.
+pub(crate) struct WriteDown;
+
+impl Split<View> for WriteDown {
+    ghost use Rattle.nm_steps.specs.Rules.{noted_down};
+
+    ghost left = { λ v. v };
+
+    ghost right = { noted_down };
+}
+
+/// A view has heard what another one has seen.
+pub(crate) struct Hear;
+
+impl Join<View> for Hear {
+    ghost use Rattle.nm_steps.specs.Rules.{informed, nobody};
+
+    ghost both = { informed };
+
+    ghost spent = { nobody };
+}
+
+impl Shared {
+    /// A note of what the pass has seen. It is no step, and no log tells of it.
+    pub fn note(&self, pass: &mut Pass) -> Note
+        requires { IsOf self.now pass.old }
+        ensures same { pass.new ≡ pass.old }
+        ensures note { IsNoteOf pass.old result }
+    {
+        Note {
+            seat: self.table.shared.split_seat::<WriteDown>(&mut pass.seat),
+        }
+    }
+
+    /// The pass hears a note: what it has seen goes on from then on from what the note tells, and from what it had seen itself.
+    /// So all that it does comes, in the one run, behind all that the note's pass had done. It is no step, and no log tells of it.
+    pub fn hear(&self, pass: &mut Pass, note: Note)
+        requires own { IsOf self.now pass.old }
+        requires table { note.table ≡ self.now.table }
+        ensures same { HasHeard pass.old pass.new }
+        ensures past { Extends pass.new.view.past pass.old.view.past }
+        ensures heard { Extends pass.new.view.past note.past }
+    {
+        let Note { seat: told } = note;
+        self.table.shared.join_seat::<Hear>(&mut pass.seat, told);
+        let epoch = self.layout.epoch() as usize;
+        self.table.shared.load::<Ties>(&mut pass.seat, epoch);
+    }
+}

@@ -1,0 +1,5 @@
+pub mod Replayed
+pub mod LaterLooks
+pub mod ToldPasses
+pub mod Flags
+pub mod Pairs
