@@ -91,7 +91,6 @@ pub fn cleanup(
     pass: &mut Pass,
     spot: &Spot,
     chain: &[ChainEdge],
-    nodes: &mut CutNodes,
     queue: &mut BlockQueue<Entry>,
     splices: &mut u64,
 ) -> bool
@@ -114,7 +113,8 @@ pub fn cleanup(
     ensures steps { length pass.new.view.log ≤ length pass.old.view.log + 3 * length chain.now + 8 }
     ensures counted { splices.new ≡ capped (won_splices pass.new.view.log) }
 {
-    if !cut_off(shared, pass, spot, chain, nodes) {
+    let mut nodes = CutNodes::new();
+    if !cut_off(shared, pass, spot, chain, &mut nodes) {
         return false;
     }
     let epoch = label(shared, pass);

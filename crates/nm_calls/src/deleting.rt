@@ -17,7 +17,7 @@ ghost use Rattle.nm_calls.specs.Cleanups.{OnlyCleans, KeepsLedgers};
 ghost use Rattle.nm_calls.specs.Won.{won_splices, capped, HasWon, flags_of_delete};
 ghost use Rattle.nm_calls.specs.Deletes.{IsRemoving, Removes, RemovesNothing, IsRemoval, IfRemoved, MayFlag, HasFlagged, HasNotFlagged, IsFlagTry, ShowsFlag, OnlyInjects, IsInjection, ShowsInjection, RemovalAfter, leaf_of, DeleteFinishes, DeleteDid, LosesAfterFlag, LacksRoomOr, FlagsThen, LosesEachTry, AfterDelete, FinishDid};
 
-use crate::cleaning::{CutNodes, cleanup};
+use crate::cleaning::cleanup;
 use crate::inserting::{help, make_room};
 use crate::leaving::{answer, leave};
 use crate::looking::look_birth;
@@ -91,7 +91,6 @@ fn try_remove(
     key: u64,
     leaf: NodeId,
     chain: &mut Chain,
-    nodes: &mut CutNodes,
     queue: &mut BlockQueue<Entry>,
     splices: &mut u64,
 ) -> bool
@@ -116,15 +115,7 @@ fn try_remove(
     if !leads_to(&end, leaf.slot) {
         return true;
     }
-    cleanup(
-        shared,
-        pass,
-        &end.spot,
-        chain.as_slice(),
-        nodes,
-        queue,
-        splices,
-    )
+    cleanup(shared, pass, &end.spot, chain.as_slice(), queue, splices)
 }
 
 /// Up to so many tries to remove the leaf that the call has flagged.
@@ -135,7 +126,6 @@ fn remove(
     leaf: NodeId,
     tries: u32,
     chain: &mut Chain,
-    nodes: &mut CutNodes,
     queue: &mut BlockQueue<Entry>,
     splices: &mut u64,
 ) -> Removal
@@ -157,7 +147,7 @@ fn remove(
         if !make_room(queue) {
             return Removal::Refused;
         }
-        if try_remove(shared, pass, key, leaf, chain, nodes, queue, splices) {
+        if try_remove(shared, pass, key, leaf, chain, queue, splices) {
             return Removal::Removed;
         }
     }
@@ -191,7 +181,6 @@ fn try_flag(
     pass: &mut Pass,
     key: u64,
     chain: &mut Chain,
-    nodes: &mut CutNodes,
     queue: &mut BlockQueue<Entry>,
     splices: &mut u64,
 ) -> Injected
@@ -223,16 +212,7 @@ fn try_flag(
     match flag_at(shared, pass, key, &end) {
         Ok(birth) => Injected::Flagged(end, birth),
         Err(found) => {
-            help(
-                shared,
-                pass,
-                &end,
-                found,
-                chain.as_slice(),
-                nodes,
-                queue,
-                splices,
-            );
+            help(shared, pass, &end, found, chain.as_slice(), queue, splices);
             Injected::Lost
         }
     }
@@ -245,7 +225,6 @@ fn inject(
     key: u64,
     tries: u32,
     chain: &mut Chain,
-    nodes: &mut CutNodes,
     queue: &mut BlockQueue<Entry>,
     splices: &mut u64,
 ) -> Injection
@@ -272,7 +251,7 @@ fn inject(
         if !make_room(queue) {
             return Injection::Refused;
         }
-        match try_flag(shared, pass, key, chain, nodes, queue, splices) {
+        match try_flag(shared, pass, key, chain, queue, splices) {
             Injected::Absent => return Injection::Absent,
             Injected::Flagged(end, birth) => {
                 return Injection::Flagged(end, birth, tries - round - 1);
@@ -292,7 +271,6 @@ fn remove_after(
     birth: u64,
     left: u32,
     chain: &mut Chain,
-    nodes: &mut CutNodes,
     queue: &mut BlockQueue<Entry>,
     splices: &mut u64,
 ) -> Removal
@@ -319,29 +297,11 @@ fn remove_after(
     if !make_room(queue) {
         return Removal::Refused;
     }
-    if cleanup(
-        shared,
-        pass,
-        &end.spot,
-        chain.as_slice(),
-        nodes,
-        queue,
-        splices,
-    ) {
+    if cleanup(shared, pass, &end.spot, chain.as_slice(), queue, splices) {
         return Removal::Removed;
     }
     let leaf = leaf_at(end, birth);
-    remove(
-        shared,
-        pass,
-        key,
-        leaf,
-        left - 1,
-        chain,
-        nodes,
-        queue,
-        splices,
-    )
+    remove(shared, pass, key, leaf, left - 1, chain, queue, splices)
 }
 
 /// The leaf at which a walk ended, with its birth.
@@ -387,10 +347,7 @@ fn delete_pinned(
     ensures counted { splices.new ≡ capped (won_splices pass.new.view.log) }
 {
     let mut chain = Chain::new();
-    let mut nodes = CutNodes::new();
-    match inject(
-        shared, pass, key, tries, &mut chain, &mut nodes, queue, splices,
-    ) {
+    match inject(shared, pass, key, tries, &mut chain, queue, splices) {
         Injection::Absent => {
             answer(shared, pass, false);
             Ok(false)
@@ -406,7 +363,7 @@ fn delete_pinned(
         Injection::Flagged(end, birth, left) => {
             let leaf = leaf_at(&end, birth);
             match remove_after(
-                shared, pass, key, &end, birth, left, &mut chain, &mut nodes, queue, splices,
+                shared, pass, key, &end, birth, left, &mut chain, queue, splices,
             ) {
                 Removal::Removed => {
                     answer(shared, pass, true);
@@ -498,7 +455,6 @@ pub fn finish(
     ensures counted { splices.new ≡ capped (won_splices pass.new.view.log) }
 {
     let mut chain = Chain::new();
-    let mut nodes = CutNodes::new();
     match remove(
         shared,
         pass,
@@ -506,7 +462,6 @@ pub fn finish(
         leaf,
         tries,
         &mut chain,
-        &mut nodes,
         queue,
         splices,
     ) {

@@ -15,7 +15,7 @@ ghost use Rattle.nm_calls.specs.Cleanups.{OnlyCleans, KeepsLedgers};
 ghost use Rattle.nm_calls.specs.Won.{won_splices, capped, HasWon, links_of_insert};
 ghost use Rattle.nm_calls.specs.Inserts.{HasFork, Helps, asks_help, IsReadied, IsTry, OnlyTries, ShowsTry, Finishes, InsertDid};
 
-use crate::cleaning::{CUT_BOUND, CutNodes, cleanup};
+use crate::cleaning::{CUT_BOUND, cleanup};
 use crate::growing::{Fork, claim_fork, give_back, grow};
 use crate::leaving::{answer, leave};
 use crate::spot::{Chain, ChainEdge, End};
@@ -89,7 +89,6 @@ pub(crate) fn help(
     end: &End,
     found: Edge,
     chain: &[ChainEdge],
-    nodes: &mut CutNodes,
     queue: &mut BlockQueue<Entry>,
     splices: &mut u64,
 )
@@ -110,7 +109,7 @@ pub(crate) fn help(
     ensures counted { splices.new ≡ capped (won_splices pass.new.view.log) }
 {
     if asks_help(end, found) {
-        let _ = cleanup(shared, pass, &end.spot, chain, nodes, queue, splices);
+        let _ = cleanup(shared, pass, &end.spot, chain, queue, splices);
     }
 }
 
@@ -121,7 +120,6 @@ fn try_insert(
     placement: &mut Placement,
     key: u64,
     chain: &mut Chain,
-    nodes: &mut CutNodes,
     fork: &mut Option<Fork>,
     queue: &mut BlockQueue<Entry>,
     splices: &mut u64,
@@ -163,16 +161,7 @@ fn try_insert(
             Attempt::Linked
         }
         Err(found) => {
-            help(
-                shared,
-                pass,
-                &end,
-                found,
-                chain.as_slice(),
-                nodes,
-                queue,
-                splices,
-            );
+            help(shared, pass, &end, found, chain.as_slice(), queue, splices);
             Attempt::Lost
         }
     }
@@ -222,7 +211,6 @@ fn insert_pinned(
     ensures fit { placement.new ≡ placement.old }
 {
     let mut chain = Chain::new();
-    let mut nodes = CutNodes::new();
     let mut fork: Option<Fork> = None;
     for _round in 0..tries {
         if !make_room(queue) {
@@ -231,7 +219,7 @@ fn insert_pinned(
             return Err(Fault::NoMemory);
         }
         match try_insert(
-            shared, pass, placement, key, &mut chain, &mut nodes, &mut fork, queue, splices,
+            shared, pass, placement, key, &mut chain, &mut fork, queue, splices,
         ) {
             Attempt::Found => {
                 give_back(shared, pass, placement, &fork);
