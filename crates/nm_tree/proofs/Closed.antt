@@ -5,7 +5,7 @@ use Rattle.std.specs.Prelude.{Some, map}
 use Rattle.nm_model.specs.declared.ledger.Ledger.{Ledger}
 use Rattle.nm_model.specs.Laws.{node_in}
 use Rattle.nm_model.specs.Ledgers.{held as ledger_held}
-use Rattle.nm_model.specs.Ordered.{ordered, after_in}
+use Rattle.nm_model.specs.Ordered.{ordered, after_in, trace_in}
 use Rattle.nm_model.specs.Reports.{counts, keys}
 use Rattle.nm_report.specs.Ended.{IsEndOf, end_of}
 use Rattle.nm_steps.specs.declared.view.View.{View}
@@ -16,13 +16,14 @@ use Rattle.nm_epoch.specs.declared.collecting.HeldQueue.{HeldQueue}
 use Rattle.nm_epoch.specs.Collecting.{AreHeld}
 use Rattle.nm_tree.specs.declared.worker.Account.{Account}
 use Rattle.nm_tree.specs.Workers.{Hand, IsWorker, HasOrigin, AreAbove, Ascend, waiting_in}
-use Rattle.nm_tree.specs.Closing.{AreAllOf, AreFrom, EndsOnce, IsClosed, all_joined, all_merged, given_in}
+use Rattle.nm_tree.specs.Closing.{AreAllOf, AreFrom, EndsOnce, IsClosed, IsOfTurns, all_joined, all_merged, given_in}
 use Rattle.nm_order.proofs.HistoryLaws.{each_run_has_a_history}
 use Rattle.nm_order.proofs.TotalsOfLogs.{totals_are_in_the_logs}
 use Rattle.nm_order.proofs.TotalsOfRuns.{each_total_agrees}
 use Rattle.nm_tree.proofs.EndLaws.{enough_nodes, set_of, ascend_of, settled_of}
 use Rattle.nm_tree.proofs.EndCounts.{none_private, waiting_is, sum_is, accounted_for}
 use Rattle.nm_tree.proofs.EndPlaces.{ends_once}
+use Rattle.nm_tree.proofs.EndTheorem.{of_turns_at_end}
 use Rattle.nm_tree.proofs.Heirs.{logs, times, has_times}
 use Rattle.nm_tree.proofs.Merging.{length-merged}
 
@@ -113,11 +114,18 @@ module _ (b : Board) (w : Hand) (xs : List Account) (home r s : ℕ) (ws : List 
   ends : Ends b.layout words (all_joined ws)
   ends = record { fits = end.fits; turns = end.turns; keys = end.keys; words_are = end.words_are; shown = subst (λ (v : View). Rattle.nm_steps.specs.Rules.IsShown b.layout (Rattle.nm_model.specs.Ordered.trace_in (ordered b.layout) end.turns) v) view end.shown; once = subst (λ (v : View). (o : ℕ) → stands o v ≤ once_below o b.layout.workers) view end.once }
 
+  of_turns : IsOfTurns b.layout (trace_in (ordered b.layout) end.turns) words (all_joined ws) w.queues kept
+  unfolding the_end
+  of_turns = of_turns_at_end b.layout words the_end w xs home r s is end.shown in_order.0 in_order.1 ws view kept (keys_are the_end)
+
   pub closed : IsClosed b ws w.queues kept free reached
   unfolding ends the_end
   closed = record {
     enough = enough;
     words = words;
+    turns = trace_in (ordered b.layout) end.turns;
+    headline = of_turns;
+    same_turns = refl;
     ends = ends;
     merged = queues;
     each = in_order.0;

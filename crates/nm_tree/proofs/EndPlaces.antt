@@ -123,7 +123,7 @@ module _ (L : Layout) (words : List ℕ) (e : IsEndOf L words) (w : Hand) (xs : 
       holds L words e EachSlotInOnePlace each_slot_has_one_place x (λ z. absurd (omega (arith, low, z))) (omega (arith, high, nodes))
 
   -- a worker that there is, by its part of the run; or a newcomer
-  none_private : (u x : ℕ) → is_private (of s u) x ≡ true → ⊥
+  pub none_private : (u x : ℕ) → is_private (of s u) x ≡ true → ⊥
   none_private u x mine = elim (cases_lt u (length s.workers)) [
     | inl less ↦ let at = slice_get-get_or s.workers u (newcomer s.layout u) less in
         undrafted (of s u) x (sym (ap (λ (k : Knowledge). length k.drafts) (worker_at L words e w xs home r c is is_shown each all u (of s u) at)) ∙ no_drafts L words e w xs home r c is is_shown each all u
@@ -133,7 +133,7 @@ module _ (L : Layout) (words : List ℕ) (e : IsEndOf L words) (w : Hand) (xs : 
 
   -- ---- queues: only the worker at the end has any
 
-  known : of s v.number ≡ knowledge v
+  pub known : of s v.number ≡ knowledge v
   known =
       let at : slice_get s.workers v.number ≡ Some (of s v.number) = slice_get-get_or s.workers v.number (newcomer s.layout v.number) (here L words e w xs home r c is is_shown each all) in
       sym (worker_at L words e w xs home r c is is_shown each all v.number (of s v.number) at) ∙ own L words e w xs home r c is is_shown each all

@@ -15,4 +15,6 @@ pub mod United
 pub mod EndLaws
 pub mod EndCounts
 pub mod EndPlaces
+pub mod EndTheorem
+pub mod RunningTurns
 pub mod Closed

@@ -1,12 +1,15 @@
 -- The end of a tree.
-use Rattle.std.specs.Prelude.{◌≡◌, ◌<◌, ◌≤◌, ◌↔◌, ◌+◌, ◌-◌, ℕ, suc, true, length, sum_by, List, [], ◌∷◌, ◌++◌, map, Some, AllPairs, Contains, slice_get}
+use Rattle.std.specs.Prelude.{◌≡◌, ◌<◌, ◌≤◌, ◌↔◌, ◌+◌, ◌-◌, ℕ, suc, true, false, length, sum_by, List, [], ◌∷◌, ◌++◌, map, Some, AllPairs, Contains, slice_get}
 use Rattle.nm_edge.specs.Keys.{IsKey}
+use Rattle.nm_edge.specs.Layouts.{Layout}
 use Rattle.nm_edge.specs.declared.edge.Side.{Side}
+use Rattle.nm_edge.specs.declared.node.NodeId.{NodeId}
 use Rattle.nm_model.specs.declared.ledger.Ledger.{Ledger}
+use Rattle.nm_model.specs.declared.trace.Turn.{Turn}
 use Rattle.nm_model.specs.Laws.{node_in}
 use Rattle.nm_model.specs.Ledgers.{held as ledger_held}
-use Rattle.nm_model.specs.Memory.{infinity_0, in_pool}
-use Rattle.nm_model.specs.Ordered.{ordered, after_in}
+use Rattle.nm_model.specs.Memory.{infinity_0, in_pool, opening}
+use Rattle.nm_model.specs.Ordered.{ordered, after_in, trace_in}
 use Rattle.nm_model.specs.Paths.{at}
 use Rattle.nm_model.specs.Reports.{counts, keys}
 use Rattle.nm_model.specs.Runs.{State}
@@ -15,7 +18,10 @@ use Rattle.nm_order.specs.Intervals.{InSet}
 use Rattle.nm_order.specs.LoggedTotals.{TotalsAreInTheLogs}
 use Rattle.nm_order.specs.Totals.{Agree, NothingIsPending, TotalsAgree, links_of, flags_of}
 use Rattle.nm_steps.specs.declared.view.View.{View}
-use Rattle.nm_steps.specs.Rules.{knowledge, joined, nobody}
+use Rattle.nm_words.specs.Packing.{words_of}
+use Rattle.nm_theorem.specs.Headline.{Headline, words_after, waits_of, has_after}
+use Rattle.nm_theorem.specs.Histories.{HasHistory as HasPlainHistory}
+use Rattle.nm_steps.specs.Rules.{IsShown, knowledge, joined, nobody}
 use Rattle.nm_steps.specs.Steps.{Board, IsOf, Ends}
 use Rattle.nm_epoch.specs.declared.collecting.Entry.{Entry}
 use Rattle.nm_epoch.specs.declared.collecting.HeldQueue.{HeldQueue}
@@ -68,17 +74,36 @@ pub record EndsOnce (s : State) (hs : List HeldQueue) (x : ℕ) : Type 0 where
   pub here : EndsAt s hs x place
   pub only : (other : EndPlace) → EndsAt s hs x other → other ≡ place
 
+-- the node that waits
+abbrev pub node_of : Entry → NodeId
+node_of e = e.node
+
+-- The theorem, of a tree. The logs of all workers are the parts of these turns, and by them its words came from those of the empty tree, each turn writing
+-- what its reply tells. The turns have the headline, and are a history of one plain set; the report's queue of each worker is what then waits of its
+-- cuts, its keys are those of that set, and nobody has a slot in hands: so each slot above 5 is in the pool, on one path, or at one index of one queue
+pub record IsOfTurns (L : Layout) (turns : List Turn) (words : List ℕ) (all : View) (queues : List HeldQueue) (kept : List ℕ) : Type 0 where
+  pub shown : IsShown L turns all
+  pub written : words ≡ words_of L (words_after L turns)
+  pub headline : Headline L turns
+  pub plain_set : HasPlainHistory L turns
+  pub waiting : (w : ℕ) (h : HeldQueue) → slice_get queues w ≡ Some h → map node_of h.queue.items ≡ waits_of w turns
+  pub set : (k : ℕ) → Contains kept k ↔ InSet (words_after L turns) k × (k < infinity_0)
+  pub no_hands : (w x : ℕ) → has_after (opening L) w x false turns ≡ false
+
 -- All workers of the tree were given, and one stands for all of them. Some run ends with the tree's words, of which their logs are the parts, and
 -- the report tells of its last state: one queue a worker, in the order of their numbers, with all that waits of it, as it was, so that what its splices
 -- cut off is what was freed of it and then that queue; the keys of the reached leaves, which are the set's and ascend; and how many slots are free and reached. No slot is private, and as many are queued as wait in
 -- the queues, so that these with the free and the reached ones are all slots but the five fixed ones; and each of these slots stands once, in the
--- pool, on one path, or at one index of one queue. That run has a history, which ends with these
+-- pool, on one path, or at one index of one queue. The turns of that run have the headline. It has a history, which ends with these
 -- keys; each key stands on an unflagged edge as often as calls for it won a link less as often as they won a flag, by the logs of all workers; and
 -- with no delete pending it is told that often, which is once or never
 pub record IsClosed (b : Board) (ws : List Hand) (queues : List HeldQueue) (kept : List ℕ) (free reached : ℕ) : Type 0 where
   pub enough : b.layout.workers ≤ given_in ws
   pub words : List ℕ
+  pub turns : List Turn
+  pub headline : IsOfTurns b.layout turns words (all_joined ws) queues kept
   pub ends : Ends b.layout words (all_joined ws)
+  pub same_turns : turns ≡ trace_in (ordered b.layout) ends.turns
   pub merged : queues ≡ all_merged ws
   pub each : AreFrom 0 queues
   pub all : length queues ≡ b.layout.workers

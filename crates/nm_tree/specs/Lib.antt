@@ -3,3 +3,4 @@ pub mod Answers
 pub mod Resigning
 pub mod Closing
 pub mod Plays
+pub mod Running

@@ -10,6 +10,7 @@ mod epochs;
 mod fault;
 mod lookup;
 mod resigning;
+mod running;
 #[cfg(test)]
 mod tests;
 mod tree;
@@ -20,5 +21,6 @@ pub use fault::{Fault, PinFault};
 pub use nm_epoch::{Advance, Behind, Collected, Entry, HeldQueue};
 pub use nm_model::NewError;
 pub use resigning::{ResignFault, ResignReason};
+pub use running::each_moment_is_of_turns;
 pub use tree::Tree;
 pub use worker::{Counts, Worker};

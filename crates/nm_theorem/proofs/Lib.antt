@@ -1,0 +1,11 @@
+pub mod Runs
+pub mod WrittenWords
+pub mod GraceOfRuns
+pub mod FreedOfRuns
+pub mod CutsOfRuns
+pub mod Hands
+pub mod PlacesOfRuns
+pub mod HeadlineOfRuns
+pub mod HistoriesOfRuns
+pub mod WorkedTurns
+pub mod StaysOfRuns

@@ -1,0 +1,338 @@
+-- What a worker has touched stays for as long as it has not left: it knows the slot, and what is known is in no pool and in nobody's hands.
+use Rattle.std.proofs.Common.{◌≡◌, ◌≢◌, ℕ, zero, suc, ◌==◌, inl, inr, ◌⊎◌, Bool, true, false, cond, not, ◌||◌, ◌&&◌, List, [], ◌∷◌, ◌++◌, refl, sym, ap, subst, ◌∙◌, arith, true≢false}
+use Rattle.std.specs.Prelude.{Option, Some, None, is_some, is_none, nat_lt, Result, Ok, Err, Contains, All}
+use Rattle.std.specs.List.{list_any}
+use native.Mathlib.Decide.{ℕ_discrete}
+use Rattle.std.proofs.lemmas.Bool.{cond_both, and_parts, or_parts, not-false, eq-eqb, false_from_ne_true, and_from}
+use Rattle.nm_edge.specs.Layouts.{Layout, IsLayout}
+use Rattle.nm_edge.specs.declared.edge.Side.{Side}
+use Rattle.nm_model.specs.declared.event.Field.{Field}
+use Rattle.nm_model.specs.declared.event.Op.{Op}
+use Rattle.nm_model.specs.declared.event.Event.{Event}
+use Rattle.nm_model.specs.declared.event.Event.TheVariants.{Sight, SightFor, Leave, LeaveWith, Look, Fill, Link, Flag, Tag, Splice}
+use Rattle.nm_model.specs.declared.reply.Reply.{Reply}
+use Rattle.nm_model.specs.declared.reply.Reply.TheVariants.{Saw, Labelled, Pinned}
+use Rattle.nm_model.specs.declared.reply.Refused.{Refused}
+use Rattle.nm_model.specs.declared.reply.Refused.TheVariants.{NoSlot, NotPinned, NotHeld, NotPrivate, NotFrozen}
+use Rattle.nm_model.specs.declared.trace.Turn.{Turn}
+use Rattle.nm_model.specs.Memory.{Memory, node, edge, in_pool, opening}
+use Rattle.nm_model.specs.Knowledge.{Knowledge, knows, knows_leaf, is_private, read, is_tagged, way}
+use Rattle.nm_model.specs.Lawful.{ReadsStand}
+use Rattle.nm_model.specs.Step.{refusal, reply, outside, is_edge, is_frozen, reply_sight, confirmed}
+use Rattle.nm_model.specs.Runs.{State, of, reply_of, applied}
+use Rattle.nm_model.specs.Walks.{begins_anew}
+use Rattle.nm_model.specs.Ordered.{Configuration, HasKey, opening_of, refused_in, next_in, applied_in, outcome_in, after_in, trace_in}
+use Rattle.nm_laws.proofs.Steps.{Allowed, allowed, second, third, fourth}
+use Rattle.nm_laws.proofs.Configurations.{refused_next, refused_outcome, allowed_next, allowed_outcome, after_in-append, reached_state}
+use Rattle.nm_laws.proofs.Lawful.{IsLawful}
+use Rattle.nm_laws.proofs.LawfulRuns.{lawful_state}
+use Rattle.nm_laws.proofs.KnownBirths.{written_same}
+use Rattle.nm_laws.proofs.Pictures.{IsLive}
+use Rattle.nm_laws.proofs.TreeSlots.{known_live, tag_known}
+use Rattle.nm_laws.proofs.TreeSteps.{Lawful, LinkChecked, link_checked}
+use Rattle.nm_laws.proofs.Views.{view}
+use Rattle.nm_order.proofs.CallWalks.{others_stay, own_knows, memory_after}
+use Rattle.nm_order.proofs.KnowledgeStays.{learned_stays, answers}
+use Rattle.nm_order.proofs.PartsOfRuns.{allowed_by_state}
+use Rattle.nm_order.proofs.WalksOfRuns.{trace_in-append, all_before}
+use Rattle.nm_theorem.specs.Headline.{departs, leaves, has_after, words_after, touched, NothingIsPulledAway}
+use Rattle.nm_theorem.proofs.Runs.{Parts, parts_of, Head, head_of, told_in, reached_opening, lawful_opening, lawful_next, lawful_after}
+use Rattle.nm_theorem.proofs.WrittenWords.{run_words}
+use Rattle.nm_theorem.proofs.CutsOfRuns.{reached_after}
+use Rattle.nm_theorem.proofs.Hands.{run_hands}
+
+-- ---- what an event touches, its worker knows
+
+one_of : (y : ℕ) (ys : List ℕ) (x : ℕ) → Contains (y ∷ ys) x → (y ≡ x) ⊎ Contains ys x
+one_of y ys x (zero, below, at) = inl at
+one_of y ys x (suc k, below, at) = inr (k, omega (arith, below), at)
+
+no_more : (x : ℕ) → Contains [] x → ⊥
+no_more x c = let b = c.1 in omega (arith, b)
+
+both_known : (a b : Bool) → not (a && b) ≡ false → (a ≡ true) × (b ≡ true)
+both_known a b held = and_parts a b (not-false (a && b) held)
+
+module _ (s : State) (h : ℕ → ℕ) (law : Lawful s h) (w : ℕ) (x : ℕ) (free : is_private (of s w) x ≡ false) where
+  abbrev k : Knowledge
+  k = of s w
+
+  own_not : (y : ℕ) → is_private (of s w) y ≡ true → y ≡ x → ⊥
+  own_not y own same = true≢false (sym own ∙ (ap (is_private (of s w)) same ∙ free))
+
+  knows_it : (y : ℕ) → knows (of s w) y ≡ true → y ≡ x → knows (of s w) x ≡ true
+  knows_it y known same = ap (knows (of s w)) (sym same) ∙ known
+
+  -- a tagged edge was read of a node that is known
+  tag_of_known : (p : ℕ) (side : Side) → ReadsStand s w → is_tagged (read (of s w) p side) ≡ true → knows (of s w) p ≡ true
+  tag_of_known p side stand tag = stand.known p side (edge s.memory p side) (tag_known s.layout.nodes s.memory (of s) h w p side law.tree tag)
+
+  touch_known : ReadsStand s w → (e : Event) → Allowed s w e → Contains (touched e) x → knows (of s w) x ≡ true
+  unfolding refusal
+  touch_known stand (Look y f) ok c = by (one_of y [] x c)
+    where
+      loose : (b d : Bool) → (not b && not d) ≡ false → b ≡ false → d ≡ true
+      loose b true held is = refl
+      loose true false held is = absurd (true≢false is)
+      loose false false held is = absurd (true≢false held)
+
+      by : (y ≡ x) ⊎ Contains [] x → knows (of s w) x ≡ true
+      by (inl same) = knows_it y (loose (is_private (of s w) y) (knows (of s w) y) (third (outside 1 s.layout.nodes y) (not (is_private (of s w) y) && is_none (of s w).brief.pin) (not (is_private (of s w) y) && not (knows (of s w) y)) NoSlot NotPinned NotHeld _ ok.event)
+          (ap (is_private (of s w)) same ∙ free)) same
+      by (inr more) = absurd (no_more x more)
+  touch_known stand (Fill y f v) ok c = by (one_of y [] x c)
+    where
+      by : (y ≡ x) ⊎ Contains [] x → knows (of s w) x ≡ true
+      by (inl same) = absurd (own_not y (not-false (is_private (of s w) y) (second (outside 6 s.layout.nodes y || (is_edge f && nat_lt s.layout.nodes v)) (not (is_private (of s w) y)) NoSlot NotPrivate _ ok.event)) same)
+      by (inr more) = absurd (no_more x more)
+  touch_known stand (Link p d leaf new) ok c = by (one_of p (leaf ∷ new ∷ []) x c)
+    where
+      l : LinkChecked (of s w) p leaf new
+      l = link_checked s w p d leaf new ok.event
+
+      last : (new ≡ x) ⊎ Contains [] x → knows (of s w) x ≡ true
+      last (inl same) = absurd (own_not new l.own same)
+      last (inr more) = absurd (no_more x more)
+
+      next : (leaf ≡ x) ⊎ Contains (new ∷ []) x → knows (of s w) x ≡ true
+      next (inl same) = knows_it leaf l.held same
+      next (inr more) = last (one_of new [] x more)
+
+      by : (p ≡ x) ⊎ Contains (leaf ∷ new ∷ []) x → knows (of s w) x ≡ true
+      by (inl same) = knows_it p l.known same
+      by (inr more) = next (one_of leaf (new ∷ []) x more)
+  touch_known stand (Flag p d leaf) ok c = by (one_of p (leaf ∷ []) x c)
+    where
+      held : (knows (of s w) p ≡ true) × ((knows (of s w) leaf && knows_leaf (of s w) leaf) ≡ true)
+      held = both_known (knows (of s w) p) (knows (of s w) leaf && knows_leaf (of s w) leaf) (third (outside 1 s.layout.nodes p || outside 6 s.layout.nodes leaf) (is_none (of s w).brief.pin) (not (knows (of s w) p && (knows (of s w) leaf && knows_leaf (of s w) leaf))) NoSlot NotPinned NotHeld _ ok.event)
+
+      next : (leaf ≡ x) ⊎ Contains [] x → knows (of s w) x ≡ true
+      next (inl same) = knows_it leaf (and_parts (knows (of s w) leaf) (knows_leaf (of s w) leaf) held.1).0 same
+      next (inr more) = absurd (no_more x more)
+
+      by : (p ≡ x) ⊎ Contains (leaf ∷ []) x → knows (of s w) x ≡ true
+      by (inl same) = knows_it p held.0 same
+      by (inr more) = next (one_of leaf [] x more)
+  touch_known stand (Tag p d) ok c = by (one_of p [] x c)
+    where
+      by : (p ≡ x) ⊎ Contains [] x → knows (of s w) x ≡ true
+      by (inl same) = knows_it p (not-false (knows (of s w) p) (third (outside 1 s.layout.nodes p) (is_none (of s w).brief.pin) (not (knows (of s w) p)) NoSlot NotPinned NotHeld _ ok.event)) same
+      by (inr more) = absurd (no_more x more)
+  touch_known stand (Splice a d y p keep) ok c = by (one_of a (y ∷ p ∷ []) x c)
+    where
+      first : Bool
+      first = outside 1 s.layout.nodes a || (outside 6 s.layout.nodes y || outside 6 s.layout.nodes p)
+
+      held : (knows (of s w) a ≡ true) × (knows (of s w) y ≡ true)
+      held = both_known (knows (of s w) a) (knows (of s w) y) (third (outside 1 s.layout.nodes a || (outside 6 s.layout.nodes y || outside 6 s.layout.nodes p)) (is_none (of s w).brief.pin) (not (knows (of s w) a && knows (of s w) y)) NoSlot NotPinned NotHeld _ ok.event)
+
+      frozen : is_frozen s.layout (of s w) y p keep ≡ true
+      frozen = not-false (is_frozen s.layout (of s w) y p keep) (fourth (outside 1 s.layout.nodes a || (outside 6 s.layout.nodes y || outside 6 s.layout.nodes p)) (is_none (of s w).brief.pin) (not (knows (of s w) a && knows (of s w) y)) (not (is_frozen s.layout (of s w) y p keep)) NoSlot NotPinned NotHeld NotFrozen _ ok.event)
+
+      parent : knows (of s w) p ≡ true
+      parent = tag_of_known p keep stand (and_parts (is_tagged (read (of s w) p keep)) _ (and_parts (is_some (way s.layout.nodes (of s w) y p)) _ frozen).1).0
+
+      last : (p ≡ x) ⊎ Contains [] x → knows (of s w) x ≡ true
+      last (inl same) = knows_it p parent same
+      last (inr more) = absurd (no_more x more)
+
+      next : (y ≡ x) ⊎ Contains (p ∷ []) x → knows (of s w) x ≡ true
+      next (inl same) = knows_it y held.1 same
+      next (inr more) = last (one_of p [] x more)
+
+      by : (a ≡ x) ⊎ Contains (y ∷ p ∷ []) x → knows (of s w) x ≡ true
+      by (inl same) = knows_it a held.0 same
+      by (inr more) = next (one_of y (p ∷ []) x more)
+  touch_known stand e ok c = absurd (no_more x c)
+
+-- ---- what is known stays, and is shared
+
+-- a worker that is pinned is not pinned anew
+not_anew : (s : State) (w p : ℕ) (e : Event) → (of s w).brief.pin ≡ Some p → departs e (Ok (reply_of s w e)) ≡ false → begins_anew (e, reply_of s w e) ≡ false
+unfolding reply
+not_anew s w p e pin stays = go e stays
+  where
+    sight : (r : Reply) → r ≡ reply_sight (of s w) s.memory.epoch → begins_anew (Sight, r) ≡ false
+    sight r is = subst (λ (q : Reply). begins_anew (Sight, q) ≡ false) (sym is)
+        (subst (λ (o : Option ℕ). begins_anew (Sight, cond (of s w).brief.unlabelled (Labelled s.memory.epoch) (confirmed o (of s w).brief.note s.memory.epoch)) ≡ false) (sym pin)
+        (cond_both (of s w).brief.unlabelled (Labelled s.memory.epoch) (Saw s.memory.epoch) (λ (q : Reply). begins_anew (Sight, q) ≡ false) (λ _. refl) (λ _. refl)))
+
+    same : (op : Op) (key : ℕ) (r : Reply) → begins_anew (SightFor op key, r) ≡ begins_anew (Sight, r)
+    same op key (Pinned n) = refl
+    same op key r = refl
+
+    go : (e : Event) → departs e (Ok (reply_of s w e)) ≡ false → begins_anew (e, reply_of s w e) ≡ false
+    go Sight none = sight (reply_sight (of s w) s.memory.epoch) refl
+    go (SightFor op key) none = same op key (reply_sight (of s w) s.memory.epoch) ∙ sight (reply_sight (of s w) s.memory.epoch) refl
+    go Leave none = absurd (true≢false none)
+    go (LeaveWith answer) none = absurd (true≢false none)
+    go e none = refl
+
+-- what a worker knows of a slot in one state, and in a later one
+record Still (w x : ℕ) (s t : State) : Type 0 where
+  known : knows (of t w) x ≡ true
+  birth : (node t.memory x).birth ≡ (node s.memory x).birth
+
+module _ (w x : ℕ) where
+  live : (s : State) (l : IsLawful s) → knows (of s w) x ≡ true → IsLive (view s.memory (of s) l.holder) x
+  live s l known = known_live s.layout.nodes s.memory (of s) l.holder w x l.law.tree known
+
+  event_stays : (s : State) → IsLawful s → (u : ℕ) (e : Event) → Allowed s u e → (u ≡ w → departs e (Ok (reply_of s u e)) ≡ false) → knows (of s w) x ≡ true → Still w x s (applied s u e)
+  unfolding refusal
+  event_stays s l u e ok stays known = record { known = elim (ℕ_discrete w u) [ yes same ↦ mine same | no ne ↦ (others_stay s l.holder l.law u e ok w ne).known x known ]; birth = ap (λ (m : Memory). (node m x).birth) (memory_after s u e) ∙ (written_same s.memory (of s u) u e x apart).birth }
+    where
+      apart : (y : ℕ) (f : Field) (v : ℕ) → e ≡ Fill y f v → x ≢ y
+      apart y f v is same = true≢false (sym mine ∙ (ap (is_private (of s u)) (sym same) ∙ (live s l known).shared u))
+        where
+          mine : is_private (of s u) y ≡ true
+          mine = not-false (is_private (of s u) y) (second (outside 6 s.layout.nodes y || (is_edge f && nat_lt s.layout.nodes v)) (not (is_private (of s u) y)) NoSlot NotPrivate _ (subst (λ (z : Event). Allowed s u z) is ok).event)
+
+      mine : w ≡ u → knows (of (applied s u e) w) x ≡ true
+      mine same = subst (λ (v : ℕ). knows (of (applied s u e) v) x ≡ true) (sym same)
+          (ap (λ (k : Knowledge). knows k x) (own_knows s l.holder l.law u e ok)
+          ∙ (learned_stays s.memory (of s u) u e (reply_of s u e) (answers s l.holder l.law u e ok) (not_anew s u (pin.0) e pin.1 (stays (sym same)))).known x here)
+        where
+          here : knows (of s u) x ≡ true
+          here = subst (λ (v : ℕ). knows (of s v) x ≡ true) same known
+
+          pin : (p : ℕ) × ((of s u).brief.pin ≡ Some p)
+          pin = l.law.known u x here
+
+  turn_stays : (c : Configuration) → IsLawful c.state → (t : ℕ × Event) → leaves w (told_in c t) ≡ false → knows (of c.state w) x ≡ true → Still w x c.state (next_in c t).state
+  unfolding applied_in
+  turn_stays c l t stays known = go (refused_in c t.0 t.1) refl
+    where
+      none : (r : Reply) → outcome_in c t ≡ Ok r → t.0 ≡ w → departs t.1 (Ok r) ≡ false
+      none r is own = false_from_ne_true (departs t.1 (Ok r)) (λ leaves'. true≢false (sym (and_from (t.0 == w) (departs t.1 (outcome_in c t)) (eq-eqb t.0 w own) (ap (departs t.1) is ∙ leaves')) ∙ stays))
+
+      go : (o : Option Refused) → refused_in c t.0 t.1 ≡ o → Still w x c.state (next_in c t).state
+      go (Some r) is = subst (λ (d : Configuration). Still w x c.state d.state) (sym (refused_next c t r is)) (record { known = known; birth = refl })
+      go None is = subst (λ (d : Configuration). Still w x c.state d.state) (sym (allowed_next c t is))
+          (event_stays c.state l t.0 t.1 (allowed c.state t.0 t.1 (allowed_by_state c t.0 t.1 is)) (none (reply_of c.state t.0 t.1) (allowed_outcome c t is)) known)
+
+  turns_stay : (ts : List (ℕ × Event)) (c : Configuration) → IsLawful c.state → list_any (leaves w) (trace_in c ts) ≡ false → knows (of c.state w) x ≡ true → Still w x c.state (after_in c ts).state
+  unfolding after_in trace_in
+  turns_stay [] c l stays known = record { known = known; birth = refl }
+  turns_stay (t ∷ ts) c l stays known =
+      let parts = or_parts (leaves w (told_in c t)) (list_any (leaves w) (trace_in (next_in c t) ts)) stays in
+      let first = turn_stays c l t parts.0 known in
+      let rest = turns_stay ts (next_in c t) (lawful_next c t l) parts.1 first.known in
+      record { known = rest.known; birth = rest.birth ∙ first.birth }
+
+-- ---- one turn in front
+
+one_first : (c : Configuration) (t : ℕ × Event) (ts : List (ℕ × Event)) → after_in c (t ∷ ts) ≡ after_in (next_in c t) ts
+unfolding after_in
+one_first c t ts = refl
+
+trace_first : (c : Configuration) (t : ℕ × Event) (ts : List (ℕ × Event)) → trace_in c (t ∷ ts) ≡ told_in c t ∷ trace_in (next_in c t) ts
+unfolding trace_in
+trace_first c t ts = refl
+
+-- what was answered was allowed
+no_answer : (q : Refused) (r : Reply) → ◌≡◌ {A = Result Reply Refused} (Err q) (Ok r) → ⊥
+no_answer q r e = cc
+
+was_allowed : (c : Configuration) (t : ℕ × Event) (r : Reply) → outcome_in c t ≡ Ok r → refused_in c t.0 t.1 ≡ None
+was_allowed c t r is = go (refused_in c t.0 t.1) refl
+  where
+    go : (o : Option Refused) → refused_in c t.0 t.1 ≡ o → refused_in c t.0 t.1 ≡ None
+    go None why = why
+    go (Some q) why = absurd (no_answer q r (sym (refused_outcome c t q why) ∙ is))
+
+-- a leave touches nothing
+touch_is_no_leave : (e : Event) (o : Result Reply Refused) (x : ℕ) → Contains (touched e) x → departs e o ≡ true → ⊥
+touch_is_no_leave Leave o x c is = no_more x c
+touch_is_no_leave (LeaveWith answer) o x c is = no_more x c
+touch_is_no_leave e o x c is = true≢false (sym is)
+
+-- ---- runs
+
+module _ (L : Layout) (fits : IsLayout L) (b : Bool) (ts : List (ℕ × Event)) (keys : All (λ t. HasKey t.1) ts) where
+  pub nothing_is_pulled_away : NothingIsPulledAway L (trace_in (opening_of L b) ts)
+  nothing_is_pulled_away before between rest t r x all answer touches free stayed = record {
+    pooled = ap (λ (m : Memory). in_pool m x) now_words ∙ there.pooled;
+    in_hands = λ u. now_hands u ∙ there.shared u;
+    birth = ap (λ (m : Memory). (node m x).birth) now_words ∙ (still.birth ∙ (first.birth ∙ ap (λ (m : Memory). (node m x).birth) (sym was_words)));
+  }
+    where
+      c : Configuration
+      c = opening_of L b
+
+      p : Parts (opening_of L b) ts before (t ∷ (between ++ rest))
+      p = parts_of (opening_of L b) ts before (t ∷ (between ++ rest)) all
+
+      d : Configuration
+      d = after_in (opening_of L b) p.early
+
+      h : Head d p.late t (between ++ rest)
+      h = head_of d p.late t (between ++ rest) (sym p.rest_is)
+
+      q : Parts (next_in d h.event) h.others between rest
+      q = parts_of (next_in d h.event) h.others between rest (sym h.rest_is)
+
+      end : Configuration
+      end = after_in (next_in d h.event) q.early
+
+      w : ℕ
+      w = h.event.0
+
+      w_is : t.worker ≡ w
+      w_is = ap (λ (u : Turn). u.worker) h.turn_is
+
+      whole : List (ℕ × Event)
+      whole = p.early ++ h.event ∷ q.early
+
+      whole_leads : after_in (opening_of L b) whole ≡ end
+      whole_leads = led
+        where
+          led : after_in (opening_of L b) (p.early ++ h.event ∷ q.early) ≡ after_in (next_in d h.event) q.early
+          led = after_in-append (opening_of L b) p.early (h.event ∷ q.early) ∙ one_first d h.event q.early
+
+      whole_told : trace_in (opening_of L b) whole ≡ before ++ t ∷ between
+      whole_told = trace_in-append (opening_of L b) p.early (h.event ∷ q.early)
+          ∙ ((λ i. sym p.first_is i ++ trace_first d h.event q.early i)
+          ∙ (λ i. before ++ sym h.turn_is i ∷ sym q.first_is i))
+
+      l : IsLawful d.state
+      l = lawful_after p.early (opening_of L b) (lawful_opening L fits b)
+
+      early_keys : All (λ t. HasKey t.1) p.early
+      early_keys = all_before (λ (u : ℕ × Event). HasKey u.1) p.early p.late (subst (λ (us : List (ℕ × Event)). All (λ t. HasKey t.1) us) p.all keys)
+
+      stand : ReadsStand d.state w
+      stand = (lawful_state d.state (reached_state d (reached_after p.early (opening_of L b) (reached_opening L fits b) early_keys))).marks w
+
+      told : outcome_in d h.event ≡ Ok r
+      told = ap (λ (u : Turn). u.outcome) (sym h.turn_is) ∙ answer
+
+      not_own : is_private (of d.state w) x ≡ false
+      not_own = sym (run_hands w x L fits b p.early) ∙ ((λ i. has_after (opening L) (sym w_is i) x false (sym p.first_is i)) ∙ free)
+
+      ok : Allowed d.state w h.event.1
+      ok = allowed d.state w h.event.1 (allowed_by_state d w h.event.1 (was_allowed d h.event r told))
+
+      known : knows (of d.state w) x ≡ true
+      known = touch_known d.state l.holder l.law w x not_own stand h.event.1 ok (subst (λ (e : Event). Contains (touched e) x) (ap (λ (u : Turn). u.event) h.turn_is) touches)
+
+      no_leave : leaves w (told_in d h.event) ≡ false
+      no_leave = false_from_ne_true (leaves w (told_in d h.event)) (λ is. touch_is_no_leave h.event.1 (outcome_in d h.event) x (subst (λ (e : Event). Contains (touched e) x) (ap (λ (u : Turn). u.event) h.turn_is) touches) (and_parts (w == w) (departs h.event.1 (outcome_in d h.event)) is).1)
+
+      first : Still w x d.state (next_in d h.event).state
+      first = turn_stays w x d l h.event no_leave known
+
+      still : Still w x (next_in d h.event).state end.state
+      still = turns_stay w x q.early (next_in d h.event) (lawful_next d h.event l)
+          (false_from_ne_true (list_any (leaves w) (trace_in (next_in d h.event) q.early)) (λ is. stayed ((λ i. list_any (leaves (w_is i)) (q.first_is i)) ∙ is))) first.known
+
+      there : IsLive (view end.state.memory (of end.state) (lawful_after q.early (next_in d h.event) (lawful_next d h.event l)).holder) x
+      there = live w x end.state (lawful_after q.early (next_in d h.event) (lawful_next d h.event l)) still.known
+
+      now_words : words_after L (before ++ t ∷ between) ≡ end.state.memory
+      now_words = ap (words_after L) (sym whole_told) ∙ (run_words L fits b whole ∙ ap (λ (f : Configuration). f.state.memory) whole_leads)
+
+      was_words : words_after L before ≡ d.state.memory
+      was_words = ap (words_after L) p.first_is ∙ run_words L fits b p.early
+
+      now_hands : (u : ℕ) → has_after (opening L) u x false (before ++ t ∷ between) ≡ is_private (of end.state u) x
+      now_hands u = ap (has_after (opening L) u x false) (sym whole_told) ∙ (run_hands u x L fits b whole ∙ ap (λ (f : Configuration). is_private (of f.state u) x) whole_leads)

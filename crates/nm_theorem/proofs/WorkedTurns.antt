@@ -1,0 +1,115 @@
+-- The worked schedule, by computation and by the laws of every run.
+use Rattle.std.proofs.Common.{◌≡◌, zero, suc, true, false, List, [], ◌∷◌, ◌++◌, map, refl, sym, ap, subst, arith, true≢false}
+use Rattle.std.specs.Prelude.{Bool, ◌-◌, ◌^◌, nat_le, take, drop, Contains, Ok, All}
+use Rattle.std.specs.List.{list_all}
+use Rattle.std.proofs.lemmas.Bool.{leb-true, and_parts}
+use Rattle.nm_edge.specs.Layouts.{IsLayout}
+use Rattle.nm_edge.specs.declared.node.NodeId.{NodeId}
+use Rattle.nm_model.specs.declared.event.Op.TheVariants.{Insert, Delete}
+use Rattle.nm_model.specs.declared.event.Event.{Event}
+use Rattle.nm_model.specs.declared.event.Event.TheVariants.{Sight, SightFor}
+use Rattle.nm_model.specs.declared.reply.Reply.TheVariants.{Pinned, EdgeIs}
+use Rattle.nm_model.specs.declared.trace.Turn.{Turn}
+use Rattle.nm_model.specs.Schedules.{e, n}
+use Rattle.nm_model.specs.Searches.{searched}
+use Rattle.nm_model.specs.Step.{refusal, reply, write}
+use Rattle.nm_model.specs.Learning.{learn}
+use Rattle.nm_model.specs.Runs.{refused, applied}
+use Rattle.nm_model.specs.Ordered.{ordered, HasKey, trace_in, turn_of, outcome_in, next_in, refused_in, applied_in}
+use Rattle.nm_theorem.specs.Headline.{words_after, CutsJust, IsPinned, Headline}
+use Rattle.nm_theorem.specs.Worked.{layout, inserting, deleting, cut, waiting, leaving, free, claim, before, turns, before_look, look, IsWorked, AreWrong}
+use Rattle.nm_theorem.proofs.HeadlineOfRuns.{headline}
+
+is_run : trace_in (ordered layout) (map turn_of turns) ≡ turns
+unfolding trace_in outcome_in next_in refused_in applied_in refused applied refusal reply write learn searched
+is_run = refl
+
+-- ---- its keys
+
+is_keyed : Event → Bool
+is_keyed (SightFor op k) = nat_le k (2 ^ 64 - 4)
+is_keyed _ = true
+
+keyed : (e : Event) → is_keyed e ≡ true → HasKey e
+unfolding is_keyed
+keyed (SightFor op k) is = leb-true k (2 ^ 64 - 4) is
+keyed e is = tt
+
+each_key : (ts : List Turn) → list_all (λ (t : Turn). is_keyed t.event) ts ≡ true → All (λ t. HasKey t.1) (map turn_of ts)
+each_key [] all i d below = absurd (omega (arith, below))
+each_key (t ∷ ts) all zero d below = keyed t.event (and_parts (is_keyed t.event) (list_all (λ (u : Turn). is_keyed u.event) ts) all).0
+each_key (t ∷ ts) all (suc i) d below = each_key ts (and_parts (is_keyed t.event) (list_all (λ (u : Turn). is_keyed u.event) ts) all).1 i d (omega (arith, below))
+
+fits : IsLayout layout
+fits = record { least = omega arith; most = omega arith; some = omega arith; few = omega arith }
+
+keys : All (λ t. HasKey t.1) (map turn_of turns)
+unfolding is_keyed
+keys = each_key turns refl
+
+has_headline : Headline layout turns
+has_headline = subst (Headline layout) is_run (headline layout fits true (map turn_of turns) keys)
+
+-- ---- what is so
+
+cut_just : CutsJust (words_after layout before) cut
+cut_just = has_headline.cuts before ((waiting ++ leaving) ++ free ∷ claim ∷ []) cut refl
+
+never : {A : Type 0} → false ≡ true → A
+never e = absurd (true≢false (sym e))
+
+remover : IsPinned 0 before
+remover = record { before = take 22 before; sight = record { worker = 0; event = SightFor Delete 10; outcome = Ok (Pinned 0) }; since = drop 23 before; are = refl; own = refl; pins = refl; stays = λ left. never left }
+
+reader : IsPinned 1 before
+reader = record { before = take 2 before; sight = record { worker = 1; event = Sight; outcome = Ok (Pinned 0) }; since = drop 3 before; are = refl; own = refl; pins = refl; stays = λ left. never left }
+
+pub is_worked : IsWorked
+is_worked = record {
+  is_run = is_run;
+  cuts = λ x is. (cut_just.just x).0 is;
+  cut_6 = (cut_just.just 6).1 (0, omega arith, refl);
+  all = refl;
+  freed = refl;
+  waits = refl;
+  remover = remover;
+  reader = reader;
+  left = refl;
+  stayed = λ left. never left;
+  still = has_headline.stays before_look (cut ∷ waiting) (leaving ++ free ∷ claim ∷ []) look (EdgeIs (e 7 true false)) 6 refl refl (0, omega arith, refl) refl (λ left. never left);
+  on_path = refl;
+  in_pool = refl;
+  waiting_there = refl;
+  in_hands = refl;
+  let_go = λ has. never has;
+  inserts = λ acts h. h.answered inserting (drop 1 deleting ++ cut ∷ ((waiting ++ leaving) ++ free ∷ claim ∷ [])) 0 true (record { pin = 5; op = Insert; key = 10 }) refl refl;
+  deletes = λ acts h. h.answered (before ++ cut ∷ take 1 waiting) (drop 2 waiting ++ (leaving ++ free ∷ claim ∷ [])) 0 true (record { pin = 22; op = Delete; key = 10 }) refl refl;
+}
+
+-- ---- what is wrong
+
+in_cut : Contains (n 6 1 ∷ n 7 1 ∷ []) (n 6 1)
+in_cut = (0, omega arith, refl)
+
+in_free : Contains (n 6 1 ∷ []) (n 6 1)
+in_free = (0, omega arith, refl)
+
+some_slot : (x y : NodeId) → x.slot ≡ 7 → x ≡ y → y.slot ≡ 6 → ⊥
+some_slot x y is same is' = let e = ap (λ (z : NodeId). z.slot) same in omega (arith, is, e, is')
+
+no_node : (x : NodeId) (xs : List NodeId) → x ∷ xs ≡ [] → ⊥
+no_node x xs e = cc
+
+same_first : (x y : NodeId) (xs ys : List NodeId) → x ∷ xs ≡ y ∷ ys → x ≡ y
+same_first x y xs ys e = cc
+
+pub are_wrong : AreWrong
+are_wrong = record {
+  waits_first = λ says. some_slot (n 7 1) (n 6 1) refl (same_first (n 7 1) (n 6 1) (n 6 1 ∷ []) (n 7 1 ∷ []) (says 0)) refl;
+  everybody = λ says. never (says before (waiting ++ leaving) (claim ∷ []) cut free (n 6 1) refl in_cut in_free 2);
+  at_once = λ says. never (says before (waiting ++ leaving) (claim ∷ []) cut free (n 6 1) refl in_cut in_free 1 reader);
+  nothing_waits = λ says. no_node (n 7 1) [] (says turns [] 0 refl);
+  nothing_cut = λ says. no_node (n 6 1) (n 7 1 ∷ []) (says before ((waiting ++ leaving) ++ free ∷ claim ∷ []) cut refl);
+  stay = λ says. never (says (take 9 turns) (drop 10 turns) 0 6 refl);
+  for_ever = λ says. true≢false (says before_look (cut ∷ ((waiting ++ leaving) ++ free ∷ [])) (claim ∷ []) look (EdgeIs (e 7 true false)) 6 refl refl (0, omega arith, refl) refl).pooled;
+}

@@ -1,0 +1,34 @@
+-- That every run has it: of plain cores and of ordered ones, whatever the workers do and in whatever order.
+use Rattle.std.specs.Prelude.{◌≡◌, ℕ, Bool, List, All}
+use Rattle.nm_edge.specs.Layouts.{Layout, IsLayout}
+use Rattle.nm_model.specs.declared.event.Event.{Event}
+use Rattle.nm_model.specs.declared.trace.Turn.{Turn}
+use Rattle.nm_model.specs.Ordered.{HasKey, ordered, opening_of, after_in, trace_in}
+use Rattle.nm_model.specs.Walks.{Entry}
+use Rattle.nm_order.specs.Logs.{IsLogOf, part_of}
+use Rattle.nm_theorem.specs.Headline.{Headline, words_after}
+use Rattle.nm_theorem.specs.Histories.{HasHistory}
+
+-- of the turns of every run from an opening on, where calls are for keys of the set
+abbrev pub OfEachRun : (Layout → List Turn → Type 0) → Type 0
+OfEachRun P = (L : Layout) → IsLayout L → (is_ordered : Bool) (events : List (ℕ × Event)) → All (λ t. HasKey t.1) events → P L (trace_in (opening_of L is_ordered) events)
+
+-- the words that a run ends with are those that its turns have written
+abbrev pub WordsAreWritten : Type 0
+WordsAreWritten = (L : Layout) → IsLayout L → (is_ordered : Bool) (events : List (ℕ × Event)) → All (λ t. HasKey t.1) events
+    → (after_in (opening_of L is_ordered) events).state.memory ≡ words_after L (trace_in (opening_of L is_ordered) events)
+
+-- each run of an ordered core has a history
+abbrev pub OrderedRunsHaveHistories : Type 0
+OrderedRunsHaveHistories = (L : Layout) → IsLayout L → (events : List (ℕ × Event)) → All (λ t. HasKey t.1) events → HasHistory L (trace_in (ordered L) events)
+
+-- a log is worker w's part of turns that have the headline, and a history
+pub record IsPartOfTurns (L : Layout) (w : ℕ) (log : List Entry) : Type 0 where
+  pub turns : List Turn
+  pub is_part : part_of w turns ≡ log
+  pub headline : Headline L turns
+  pub history : HasHistory L turns
+
+-- so is each log of an ordered run
+abbrev pub LogsArePartsOfTurns : Type 0
+LogsArePartsOfTurns = (L : Layout) → IsLayout L → (w : ℕ) (log : List Entry) → IsLogOf L w log → IsPartOfTurns L w log

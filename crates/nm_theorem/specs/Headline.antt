@@ -1,0 +1,230 @@
+-- The theorem, on one page. It speaks of the words of the tree at each moment and of the turns that were made, and of nothing else: a turn is an event of
+-- a worker with its outcome, and the words at a moment are those of the empty tree, changed by the turns so far as their replies tell.
+use Rattle.std.specs.Prelude.{◌≡◌, ◌↔◌, ℕ, ◌≤◌, ◌==◌, Bool, true, false, not, ◌&&◌, ◌||◌, List, [], ◌∷◌, ◌++◌, map, filter, slice_get, slice_set, Contains, Some, None, option_map, Result, Ok, Err, if◌then◌else◌}
+use Rattle.std.specs.List.{list_any}
+use Rattle.nm_edge.specs.Edges.{to, tagged, untagged, other}
+use Rattle.nm_edge.specs.Layouts.{Layout}
+use Rattle.nm_edge.specs.declared.edge.Side.{Side}
+use Rattle.nm_edge.specs.declared.edge.Side.TheVariants.{Left, Right}
+use Rattle.nm_edge.specs.declared.node.NodeId.{NodeId}
+use Rattle.nm_model.specs.declared.event.Event.{Event}
+use Rattle.nm_model.specs.declared.event.Event.TheVariants.{Sight, SightFor, Announce, Leave, LeaveWith, Advance, Claim, Give, Look, Fill, Link, Flag, Tag, Splice}
+use Rattle.nm_model.specs.declared.event.Field.TheVariants.{Key, Edge as EdgeOn, Birth}
+use Rattle.nm_model.specs.declared.reply.Reply.{Reply}
+use Rattle.nm_model.specs.declared.reply.Reply.TheVariants.{Announced, Departed, Moved, Claimed, Returned, Freed, Filled, Linked, Flagged, Was, Cut, Pinned}
+use Rattle.nm_model.specs.declared.reply.Refused.{Refused}
+use Rattle.nm_model.specs.declared.trace.Turn.{Turn}
+use Rattle.nm_model.specs.Memory.{Memory, node, edge, child, named, in_pool, put_node, put_edge, opening}
+use Rattle.nm_model.specs.Paths.{at, IsCut}
+
+-- ---- the words
+
+-- an event that was answered so has written one word, or none
+abbrev pub written : Memory → ℕ → Event → Reply → Memory
+written m w Announce (Announced e) = record m { notes = slice_set m.notes w (Some e) }
+written m w Leave Departed = record m { notes = slice_set m.notes w None }
+written m w (LeaveWith answer) Departed = record m { notes = slice_set m.notes w None }
+written m w Advance (Moved e) = record m { epoch = e }
+written m w (Claim s) (Claimed t) = record m { pool = slice_set m.pool s false }
+written m w (Give s) (Returned t) = record m { pool = slice_set m.pool s true }
+written m w (Give s) (Freed n) = record m { pool = slice_set m.pool s true }
+written m w (Fill s Key v) Filled = put_node m s (record (node m s) { key = v })
+written m w (Fill s (EdgeOn side) v) Filled = put_edge m s side (to v)
+written m w (Fill s Birth v) Filled = put_node m s (record (node m s) { birth = v })
+written m w (Link p side leaf new) (Linked n) = put_edge m p side (to new)
+written m w (Flag p side leaf) (Flagged n) = put_edge m p side (record { slot = leaf; flag = true; tag = false })
+written m w (Tag p side) (Was e) = put_edge m p side (tagged e)
+written m w (Splice a side s p keep) (Cut ns) = put_edge m a side (untagged (edge m p keep))
+written m w _ _ = m
+
+-- what was refused has written nothing
+abbrev pub written_by : Memory → ℕ → Event → Result Reply Refused → Memory
+written_by m w e (Ok r) = written m w e r
+written_by m w e (Err x) = m
+
+abbrev pub after_turn : Memory → Turn → Memory
+after_turn m t = written_by m t.worker t.event t.outcome
+
+abbrev pub words_from : Memory → List Turn → Memory
+words_from m [] = m
+words_from m (t ∷ ts) = words_from (after_turn m t) ts
+
+-- the words after these turns, from the empty tree on
+abbrev pub words_after : Layout → List Turn → Memory
+words_after L turns = words_from (opening L) turns
+
+-- ---- cuts
+
+-- the nodes that a turn says it cut, and the one that it says it freed
+abbrev pub nodes_cut : Result Reply Refused → List NodeId
+nodes_cut (Ok (Cut ns)) = ns
+nodes_cut _ = []
+
+abbrev pub nodes_freed : Result Reply Refused → List NodeId
+nodes_freed (Ok (Freed n)) = n ∷ []
+nodes_freed _ = []
+
+-- from a slot down to p: each internal node and then its flagged leaf, and on by its tagged edge; the last one is p, whose tagged edge is kept
+abbrev pub IsChain : Memory → ℕ → Side → ℕ → List ℕ → Type 0
+IsChain m p keep s [] = ⊥
+IsChain m p keep s (x ∷ []) = ⊥
+IsChain m p keep s (x ∷ leaf ∷ []) = (x ≡ s) × (x ≡ p) × ((edge m x keep).tag ≡ true) × ((edge m x (other keep)).flag ≡ true) × (child m x (other keep) ≡ leaf)
+IsChain m p keep s (x ∷ leaf ∷ y ∷ rest) = (x ≡ s) × (side : Side) × ((edge m x side).tag ≡ true) × ((edge m x (other side)).flag ≡ true) × (child m x (other side) ≡ leaf) × IsChain m p keep (child m x side) (y ∷ rest)
+
+abbrev pub slots : List NodeId → List ℕ
+slots ns = map (λ n. n.slot) ns
+
+-- the nodes that a won splice says it cut are a chain from its successor down to its parent, each with the birth that stood in its word
+pub record IsWonSplice (m : Memory) (e : Event) (ns : List NodeId) : Type 0 where
+  pub ancestor : ℕ
+  pub side : Side
+  pub successor : ℕ
+  pub parent : ℕ
+  pub keep : Side
+  pub is_splice : e ≡ Splice ancestor side successor parent keep
+  pub led : edge m ancestor side ≡ to successor
+  pub chain : IsChain m parent keep successor (slots ns)
+  pub births : ns ≡ map (named m) (slots ns)
+
+-- the nodes that were reached from the root before a turn and are not after it are those that it says it cut; only won splices say so
+pub record CutsJust (m : Memory) (t : Turn) : Type 0 where
+  pub just : (x : ℕ) → IsCut m (after_turn m t) x ↔ Contains (slots (nodes_cut t.outcome)) x
+  pub splices : (ns : List NodeId) → t.outcome ≡ Ok (Cut ns) → IsWonSplice m t.event ns
+
+-- ---- what becomes of them
+
+-- the nodes that a worker cut, in the order of its cuts
+abbrev pub cuts_of : ℕ → List Turn → List NodeId
+cuts_of w [] = []
+cuts_of w (t ∷ ts) = (if t.worker == w then nodes_cut t.outcome else []) ++ cuts_of w ts
+
+-- the nodes that were freed, whoever freed them, in the order of the turns
+abbrev pub frees : List Turn → List NodeId
+frees [] = []
+frees (t ∷ ts) = nodes_freed t.outcome ++ frees ts
+
+abbrev pub is_among : List NodeId → NodeId → Bool
+is_among ns n = list_any (λ m. (n.slot == m.slot) && (n.birth == m.birth)) ns
+
+-- those of a worker's cuts that were freed, in the order in which they were, and those that wait, in cut order
+abbrev pub freed_of : ℕ → List Turn → List NodeId
+freed_of w turns = filter (is_among (cuts_of w turns)) (frees turns)
+
+abbrev pub waits_of : ℕ → List Turn → List NodeId
+waits_of w turns = filter (λ n. not (is_among (frees turns) n)) (cuts_of w turns)
+
+-- each worker's cuts are freed in cut order; nothing else is freed; and no node, a slot with its birth, is cut twice
+pub record AreFreedInTurn (turns : List Turn) : Type 0 where
+  pub queues : (w : ℕ) → freed_of w turns ++ waits_of w turns ≡ cuts_of w turns
+  pub only : (n : NodeId) → Contains (frees turns) n → (w : ℕ) × Contains (cuts_of w turns) n
+  pub once : (w v i j : ℕ) (n : NodeId) → slice_get (cuts_of w turns) i ≡ Some n → slice_get (cuts_of v turns) j ≡ Some n → (w ≡ v) × (i ≡ j)
+
+-- ---- grace
+
+-- a sight, for a call or for none, that was answered `pinned`
+abbrev pub confirms : Event → Result Reply Refused → Bool
+confirms Sight (Ok (Pinned e)) = true
+confirms (SightFor op key) (Ok (Pinned e)) = true
+confirms _ _ = false
+
+-- a leave, with an answer or without
+abbrev pub departs : Event → Result Reply Refused → Bool
+departs Leave (Ok Departed) = true
+departs (LeaveWith answer) (Ok Departed) = true
+departs _ _ = false
+
+abbrev pub leaves : ℕ → Turn → Bool
+leaves w t = (t.worker == w) && departs t.event t.outcome
+
+abbrev pub HasLeft : ℕ → List Turn → Type 0
+HasLeft w turns = list_any (leaves w) turns ≡ true
+
+-- after these turns a worker is pinned: it has confirmed a pin, and not left since
+pub record IsPinned (w : ℕ) (turns : List Turn) : Type 0 where
+  pub before : List Turn
+  pub sight : Turn
+  pub since : List Turn
+  pub are : turns ≡ before ++ sight ∷ since
+  pub own : sight.worker ≡ w
+  pub pins : confirms sight.event sight.outcome ≡ true
+  pub stays : HasLeft w since → ⊥
+
+-- where a node is cut by one turn and freed by a later one, each worker that was pinned at the cut, the remover too, has left between the two
+abbrev pub Grace : List Turn → Type 0
+Grace turns = (before between rest : List Turn) (cut free : Turn) (n : NodeId) → turns ≡ before ++ cut ∷ (between ++ free ∷ rest)
+    → Contains (nodes_cut cut.outcome) n → Contains (nodes_freed free.outcome) n
+    → (w : ℕ) → IsPinned w before → HasLeft w between
+
+-- ---- places
+
+-- a turn takes a slot into its worker's hands by a won claim
+abbrev pub takes : Event → Result Reply Refused → ℕ → Bool
+takes (Claim s) (Ok (Claimed t)) x = x == s
+takes _ _ x = false
+
+-- and lets go of it where it gives it back, or links it: the new node of a won link, and the new leaf under it
+abbrev pub lets_go : Memory → Event → Result Reply Refused → ℕ → Bool
+lets_go m (Give s) (Ok (Returned t)) x = x == s
+lets_go m (Link p side leaf new) (Ok (Linked n)) x = (x == new) || ((x == child m new Left) || (x == child m new Right))
+lets_go m _ _ x = false
+
+-- whether a worker has a slot in its hands after these turns, by the words and by what it had before them
+abbrev pub has_after : Memory → ℕ → ℕ → Bool → List Turn → Bool
+has_after m w x had [] = had
+has_after m w x had (t ∷ ts) = has_after (after_turn m t) w x (if t.worker == w then takes t.event t.outcome x || (had && not (lets_go m t.event t.outcome x)) else had) ts
+
+-- where a slot may be: in the pool, in a worker's hands, at the end of a path from the root, or at an index of what waits of a worker's cuts
+pub data Place : Type 0 where
+  InPool : Place
+  InHands : ℕ → Place
+  OnPath : List Side → Place
+  Waits : ℕ → ℕ → Place
+
+abbrev pub StandsAt : Layout → List Turn → ℕ → Place → Type 0
+StandsAt L turns x InPool = in_pool (words_after L turns) x ≡ true
+StandsAt L turns x (InHands w) = has_after (opening L) w x false turns ≡ true
+StandsAt L turns x (OnPath path) = at (words_after L turns) path ≡ x
+StandsAt L turns x (Waits w i) = option_map (λ (n : NodeId). n.slot) (slice_get (waits_of w turns) i) ≡ Some x
+
+-- it is at exactly one of these
+pub record OnePlace (L : Layout) (turns : List Turn) (x : ℕ) : Type 0 where
+  pub place : Place
+  pub here : StandsAt L turns x place
+  pub only : (there : Place) → StandsAt L turns x there → there ≡ place
+
+-- ---- what workers stand on
+
+-- the slots of which an event reads, stores or exchanges a word
+abbrev pub touched : Event → List ℕ
+touched (Look s f) = s ∷ []
+touched (Fill s f v) = s ∷ []
+touched (Link p side leaf new) = p ∷ leaf ∷ new ∷ []
+touched (Flag p side leaf) = p ∷ leaf ∷ []
+touched (Tag p side) = p ∷ []
+touched (Splice a side s p keep) = a ∷ s ∷ p ∷ []
+touched _ = []
+
+-- a slot is neither in the pool nor in anybody's hands, and is the node that it was
+pub record IsStill (L : Layout) (was now : List Turn) (x : ℕ) : Type 0 where
+  pub pooled : in_pool (words_after L now) x ≡ false
+  pub in_hands : (w : ℕ) → has_after (opening L) w x false now ≡ false
+  pub birth : (node (words_after L now) x).birth ≡ (node (words_after L was) x).birth
+
+-- what a worker touches without having it in its hands is still that node, in the tree or waiting, for as long as the worker has not left
+abbrev pub NothingIsPulledAway : Layout → List Turn → Type 0
+NothingIsPulledAway L turns = (before between rest : List Turn) (t : Turn) (r : Reply) (x : ℕ) → turns ≡ before ++ t ∷ (between ++ rest) → t.outcome ≡ Ok r → Contains (touched t.event) x
+    → has_after (opening L) t.worker x false before ≡ false → (HasLeft t.worker between → ⊥) → IsStill L before (before ++ t ∷ between) x
+
+-- ---- the theorem, of the turns of a run from the empty tree on
+
+pub record Headline (L : Layout) (turns : List Turn) : Type 0 where
+  -- each turn cuts just the nodes that it says it cut
+  pub cuts : (before rest : List Turn) (t : Turn) → turns ≡ before ++ t ∷ rest → CutsJust (words_after L before) t
+  -- at each moment what was freed and then what waits of each worker's cuts are these cuts, in their order, and no node is cut twice
+  pub queues : (so_far rest : List Turn) → turns ≡ so_far ++ rest → AreFreedInTurn so_far
+  -- nothing is freed while a worker that was pinned at its cut has not left
+  pub grace : Grace turns
+  -- what a worker has touched stays for as long as it has not left
+  pub stays : NothingIsPulledAway L turns
+  -- at each moment each slot above the five fixed ones is in one place
+  pub places : (so_far rest : List Turn) → turns ≡ so_far ++ rest → (x : ℕ) → 6 ≤ x → x ≤ L.nodes → OnePlace L so_far x

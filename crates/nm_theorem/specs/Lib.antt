@@ -1,0 +1,4 @@
+pub mod Headline
+pub mod EachRun
+pub mod Histories
+pub mod Worked

@@ -1,0 +1,180 @@
+-- A worked schedule, on which each sentence of the two pages has something to say; and sentences that are wrong of it.
+use Rattle.std.specs.Prelude.{◌≡◌, ℕ, true, false, List, [], ◌∷◌, ◌++◌, map, take, Contains, Ok, Err}
+use Rattle.nm_edge.specs.Layouts.{Layout}
+use Rattle.nm_edge.specs.declared.edge.Side.TheVariants.{Left, Right}
+use Rattle.nm_edge.specs.declared.node.NodeId.{NodeId}
+use Rattle.nm_model.specs.declared.event.Field.TheVariants.{Key, Edge as EdgeOn, Birth}
+use Rattle.nm_model.specs.declared.event.Op.TheVariants.{Insert, Delete}
+use Rattle.nm_model.specs.declared.event.Event.TheVariants.{Sight, SightFor, Announce, Leave, LeaveWith, Scan, Advance, Claim, Give, Look, Fill, Link, Flag, Tag, Splice}
+use Rattle.nm_model.specs.declared.reply.Reply.{Reply}
+use Rattle.nm_model.specs.declared.reply.Reply.TheVariants.{Saw, Labelled, Pinned, Announced, Departed, Idle, In, Moved, Claimed, Freed, KeyIs, EdgeIs, Filled, Linked, Flagged, Was, Cut}
+use Rattle.nm_model.specs.declared.reply.Refused.TheVariants.{NotReady, TooYoung}
+use Rattle.nm_model.specs.declared.trace.Turn.{Turn}
+use Rattle.nm_model.specs.Memory.{opening}
+use Rattle.nm_model.specs.Ordered.{ordered, trace_in, turn_of}
+use Rattle.nm_model.specs.Paths.{IsCut}
+use Rattle.nm_model.specs.Schedules.{t, e, n}
+use Rattle.nm_order.specs.History.{Act}
+use Rattle.nm_theorem.specs.Headline.{words_after, after_turn, nodes_cut, nodes_freed, cuts_of, freed_of, waits_of, IsPinned, HasLeft, StandsAt, has_after, touched, IsStill}
+use Rattle.nm_theorem.specs.Headline.Place.{InPool, InHands, OnPath, Waits}
+use Rattle.nm_theorem.specs.Histories.{IsHistory, HasAct}
+
+abbrev pub layout : Layout
+layout = record { nodes = 8; workers = 2 }
+
+-- worker 1 is pinned, and stays so while worker 0 inserts 10
+abbrev pub inserting : List Turn
+inserting =
+    t 1 Sight (Ok (Saw 0)) ∷
+    t 1 Announce (Ok (Announced 0)) ∷
+    t 1 Sight (Ok (Pinned 0)) ∷
+    t 0 Sight (Ok (Saw 0)) ∷
+    t 0 Announce (Ok (Announced 0)) ∷
+    t 0 (SightFor Insert 10) (Ok (Pinned 0)) ∷
+    t 0 (Look 2 (EdgeOn Left)) (Ok (EdgeIs (e 3 false false))) ∷
+    t 0 (Look 3 Key) (Ok (KeyIs 18446744073709551613)) ∷
+    t 0 (Look 3 (EdgeOn Left)) (Ok (EdgeIs (e 0 false false))) ∷
+    t 0 (Claim 6) (Ok (Claimed 6)) ∷
+    t 0 (Fill 6 Birth 1) (Ok Filled) ∷
+    t 0 (Claim 7) (Ok (Claimed 7)) ∷
+    t 0 (Fill 7 Birth 1) (Ok Filled) ∷
+    t 0 (Fill 6 Key 18446744073709551613) (Ok Filled) ∷
+    t 0 (Fill 6 (EdgeOn Left) 7) (Ok Filled) ∷
+    t 0 (Fill 6 (EdgeOn Right) 3) (Ok Filled) ∷
+    t 0 (Fill 7 Key 10) (Ok Filled) ∷
+    t 0 (Fill 7 (EdgeOn Left) 0) (Ok Filled) ∷
+    t 0 (Fill 7 (EdgeOn Right) 0) (Ok Filled) ∷
+    t 0 (Link 2 Left 3 6) (Ok (Linked (n 6 1))) ∷
+    []
+
+-- and while that worker begins to delete 10; worker 1 comes to the leaf
+abbrev pub deleting : List Turn
+deleting =
+    t 0 (LeaveWith true) (Ok Departed) ∷
+    t 0 Announce (Ok (Announced 0)) ∷
+    t 0 (SightFor Delete 10) (Ok (Pinned 0)) ∷
+    t 0 (Look 2 (EdgeOn Left)) (Ok (EdgeIs (e 6 false false))) ∷
+    t 0 (Look 6 Key) (Ok (KeyIs 18446744073709551613)) ∷
+    t 0 (Look 6 (EdgeOn Left)) (Ok (EdgeIs (e 7 false false))) ∷
+    t 0 (Look 7 Key) (Ok (KeyIs 10)) ∷
+    t 0 (Look 7 (EdgeOn Right)) (Ok (EdgeIs (e 0 false false))) ∷
+    t 0 (Flag 6 Left 7) (Ok (Flagged (n 7 1))) ∷
+    t 0 (Tag 6 Right) (Ok (Was (e 3 false false))) ∷
+    t 1 (Look 2 (EdgeOn Left)) (Ok (EdgeIs (e 6 false false))) ∷
+    t 1 (Look 6 (EdgeOn Left)) (Ok (EdgeIs (e 7 true false))) ∷
+    []
+
+-- its splice cuts two nodes
+abbrev pub cut : Turn
+cut = t 0 (Splice 2 Left 6 6 Right) (Ok (Cut (n 6 1 ∷ n 7 1 ∷ [])))
+
+-- worker 1 reads one of them; worker 0 moves the epoch once, and no further, and can free nothing
+abbrev pub waiting : List Turn
+waiting =
+    t 0 Sight (Ok (Labelled 0)) ∷
+    t 0 (LeaveWith true) (Ok Departed) ∷
+    t 1 (Look 7 Key) (Ok (KeyIs 10)) ∷
+    t 0 (Scan 1) (Ok (In 0)) ∷
+    t 0 Advance (Ok (Moved 1)) ∷
+    t 0 (Scan 1) (Ok (In 0)) ∷
+    t 0 Advance (Err NotReady) ∷
+    t 0 (Give 6) (Err TooYoung) ∷
+    []
+
+-- until worker 1 leaves
+abbrev pub leaving : List Turn
+leaving =
+    t 1 Leave (Ok Departed) ∷
+    t 0 (Scan 1) (Ok Idle) ∷
+    t 0 Advance (Ok (Moved 2)) ∷
+    []
+
+abbrev pub free : Turn
+free = t 0 (Give 6) (Ok (Freed (n 6 1)))
+
+abbrev pub claim : Turn
+claim = t 0 (Claim 8) (Ok (Claimed 8))
+
+-- the turns before the cut, and all of them
+abbrev pub before : List Turn
+before = inserting ++ deleting
+
+abbrev pub turns : List Turn
+turns = before ++ cut ∷ ((waiting ++ leaving) ++ free ∷ claim ∷ [])
+
+-- the turns before worker 1 looks at node 6, that look, and those behind it up to the cut
+abbrev pub before_look : List Turn
+before_look = inserting ++ take 11 deleting
+
+abbrev pub look : Turn
+look = t 1 (Look 6 (EdgeOn Left)) (Ok (EdgeIs (e 7 true false)))
+
+-- what the two pages say of it
+pub record IsWorked : Type 0 where
+  -- it is a run of an ordered core
+  pub is_run : trace_in (ordered layout) (map turn_of turns) ≡ turns
+  -- the splice cuts the nodes 6 and 7, and nothing else
+  pub cuts : (x : ℕ) → IsCut (words_after layout before) (after_turn (words_after layout before) cut) x → Contains (6 ∷ 7 ∷ []) x
+  pub cut_6 : IsCut (words_after layout before) (after_turn (words_after layout before) cut) 6
+  -- node 6 is freed, and node 7 waits
+  pub all : cuts_of 0 turns ≡ n 6 1 ∷ n 7 1 ∷ []
+  pub freed : freed_of 0 turns ≡ n 6 1 ∷ []
+  pub waits : waits_of 0 turns ≡ n 7 1 ∷ []
+  -- both workers are pinned at the cut, and leave between the cut and the free; worker 1 not before the epoch was to move a second time
+  pub remover : IsPinned 0 before
+  pub reader : IsPinned 1 before
+  pub left : HasLeft 1 (waiting ++ leaving)
+  pub stayed : HasLeft 1 waiting → ⊥
+  -- node 6, which worker 1 has looked at, is still that node until it leaves, though it is cut
+  pub still : IsStill layout before_look (before_look ++ look ∷ cut ∷ waiting) 6
+  -- there is a slot in each kind of place
+  pub on_path : StandsAt layout inserting 6 (OnPath (Left ∷ Left ∷ []))
+  pub in_pool : StandsAt layout turns 6 InPool
+  pub waiting_there : StandsAt layout turns 7 (Waits 0 0)
+  pub in_hands : StandsAt layout turns 8 (InHands 0)
+  pub let_go : StandsAt layout turns 6 (InHands 0) → ⊥
+  -- each history of it has an act of the insert, and one of the delete
+  pub inserts : (acts : List Act) → IsHistory layout turns acts → HasAct acts 0 (record { pin = 5; op = Insert; key = 10 }) true
+  pub deletes : (acts : List Act) → IsHistory layout turns acts → HasAct acts 0 (record { pin = 22; op = Delete; key = 10 }) true
+
+-- ---- wrong sentences
+
+-- that what waits comes first
+abbrev pub WaitsComeFirst : List Turn → Type 0
+WaitsComeFirst turns = (w : ℕ) → waits_of w turns ++ freed_of w turns ≡ cuts_of w turns
+
+-- that everybody leaves between a cut and a free, pinned or not
+abbrev pub EverybodyLeaves : List Turn → Type 0
+EverybodyLeaves turns = (before between rest : List Turn) (cut free : Turn) (n : NodeId) → turns ≡ before ++ cut ∷ (between ++ free ∷ rest) → Contains (nodes_cut cut.outcome) n → Contains (nodes_freed free.outcome) n → (w : ℕ) → HasLeft w between
+
+-- that nobody who was pinned at a cut is pinned two turns behind it
+abbrev pub LeavesAtOnce : List Turn → Type 0
+LeavesAtOnce turns = (before between rest : List Turn) (cut free : Turn) (n : NodeId) → turns ≡ before ++ cut ∷ (between ++ free ∷ rest) → Contains (nodes_cut cut.outcome) n → Contains (nodes_freed free.outcome) n → (w : ℕ) → IsPinned w before
+    → HasLeft w (take 2 between)
+
+-- that a node is freed as soon as it is cut
+abbrev pub NothingWaits : List Turn → Type 0
+NothingWaits turns = (so_far rest : List Turn) (w : ℕ) → turns ≡ so_far ++ rest → waits_of w so_far ≡ []
+
+-- that no turn cuts anything
+abbrev pub NothingIsCut : List Turn → Type 0
+NothingIsCut turns = (before rest : List Turn) (t : Turn) → turns ≡ before ++ t ∷ rest → nodes_cut t.outcome ≡ []
+
+-- that a slot that was claimed stays in its worker's hands
+abbrev pub ClaimsStay : List Turn → Type 0
+ClaimsStay turns = (before rest : List Turn) (w s : ℕ) → turns ≡ before ++ record { worker = w; event = Claim s; outcome = Ok (Claimed s) } ∷ rest → StandsAt layout turns s (InHands w)
+
+-- that what a worker has touched stays for ever
+abbrev pub StaysForEver : List Turn → Type 0
+StaysForEver turns = (before between rest : List Turn) (t : Turn) (r : Reply) (x : ℕ) → turns ≡ before ++ t ∷ (between ++ rest) → t.outcome ≡ Ok r → Contains (touched t.event) x
+    → has_after (opening layout) t.worker x false before ≡ false → IsStill layout before (before ++ t ∷ between) x
+
+-- all of these are wrong
+pub record AreWrong : Type 0 where
+  pub waits_first : WaitsComeFirst turns → ⊥
+  pub everybody : EverybodyLeaves turns → ⊥
+  pub at_once : LeavesAtOnce turns → ⊥
+  pub nothing_waits : NothingWaits turns → ⊥
+  pub nothing_cut : NothingIsCut turns → ⊥
+  pub stay : ClaimsStay turns → ⊥
+  pub for_ever : StaysForEver turns → ⊥

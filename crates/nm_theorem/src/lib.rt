@@ -1,0 +1,10 @@
+//! The theorem on one page: what the words of the tree and the turns of every run keep, with no word on what a worker knows. Nothing here runs.
+#![tactic(auto)]
+
+mod headline;
+mod worked;
+
+pub use headline::{
+    each_run_has_the_headline, logs_are_parts_of_turns, ordered_runs_have_histories,
+};
+pub use worked::worked_turns;

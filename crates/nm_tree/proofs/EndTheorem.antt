@@ -1,0 +1,85 @@
+-- The theorem, of a tree's end: of the turns of the run that ends with its words.
+use Rattle.std.proofs.Common.{◌≡◌, ℕ, zero, suc, ◌+◌, ◌<◌, true, false, List, [], ◌∷◌, length, map, refl, sym, ap, ◌∙◌, subst, arith}
+use Rattle.std.specs.Prelude.{◌↔◌, Contains, Option, Some, None, option_map, slice_get}
+use Rattle.std.proofs.lemmas.Bool.{false_from_ne_true}
+use Rattle.std.proofs.lemmas.Option.{none-some, same_Some}
+use Rattle.nm_edge.specs.Layouts.{Layout}
+use Rattle.nm_edge.specs.declared.node.NodeId.{NodeId}
+use Rattle.nm_model.specs.declared.ledger.Ledger.{Ledger}
+use Rattle.nm_model.specs.declared.ledger.Queued.{Queued}
+use Rattle.nm_model.specs.declared.trace.Turn.{Turn}
+use Rattle.nm_model.specs.Knowledge.{Knowledge, is_private}
+use Rattle.nm_model.specs.Laws.{node_in}
+use Rattle.nm_model.specs.Ledgers.{held}
+use Rattle.nm_model.specs.Memory.{Memory, infinity_0, opening}
+use Rattle.nm_model.specs.Ordered.{ordered, trace_in}
+use Rattle.nm_model.specs.Reports.{keys}
+use Rattle.nm_model.specs.Runs.{of}
+use Rattle.nm_order.specs.Intervals.{InSet}
+use Rattle.nm_words.specs.Packing.{words_of}
+use Rattle.nm_theorem.specs.Headline.{waits_of, has_after}
+use Rattle.nm_theorem.proofs.WrittenWords.{run_words}
+use Rattle.nm_theorem.proofs.FreedOfRuns.{waits_is}
+use Rattle.nm_theorem.proofs.Hands.{run_hands}
+use Rattle.nm_theorem.proofs.HeadlineOfRuns.{headline}
+use Rattle.nm_theorem.proofs.HistoriesOfRuns.{history_of_run}
+use Rattle.nm_report.specs.Ended.{IsEndOf, end_of}
+use Rattle.nm_steps.specs.declared.view.View.{View}
+use Rattle.nm_steps.specs.Rules.{IsShown, knowledge}
+use Rattle.nm_epoch.specs.declared.collecting.Entry.{Entry}
+use Rattle.nm_epoch.specs.declared.collecting.HeldQueue.{HeldQueue}
+use Rattle.nm_epoch.specs.Collecting.{AreHeld, IsQueueOf, queued}
+use Rattle.nm_tree.specs.declared.worker.Account.{Account}
+use Rattle.nm_tree.specs.Closing.{AreFrom, IsOfTurns, node_of, all_joined}
+use Rattle.nm_tree.specs.Workers.{Hand, IsWorker}
+use Rattle.nm_tree.proofs.EndLaws.{set_of}
+use Rattle.nm_tree.proofs.EndPlaces.{known, none_private}
+
+-- ---- the queues of a report
+
+held_at : (k : Knowledge) (hs : List HeldQueue) → AreHeld k hs → (i : ℕ) (h : HeldQueue) → slice_get hs i ≡ Some h → IsQueueOf k h.origin h.queue.items
+held_at k [] are i h at = absurd (none-some h at)
+held_at k (x ∷ hs) are zero h at = subst (λ (y : HeldQueue). IsQueueOf k y.origin y.queue.items) (same_Some x h at) are.0
+held_at k (x ∷ hs) are (suc i) h at = held_at k hs are.2 i h at
+
+origin_at : (j : ℕ) (hs : List HeldQueue) → AreFrom j hs → (i : ℕ) (h : HeldQueue) → slice_get hs i ≡ Some h → h.origin ≡ j + i
+origin_at j [] from i h at = absurd (none-some h at)
+origin_at j (x ∷ hs) from zero h at = let e = ap (λ (y : HeldQueue). y.origin) (same_Some x h at) in let o = from.0 in omega (arith, e, o)
+origin_at j (x ∷ hs) from (suc i) h at = let rest = origin_at (suc j) hs from.1 i h at in omega (arith, rest)
+
+nodes_of : (es : List Entry) → map node_of es ≡ map node_in (map queued es)
+nodes_of [] = refl
+nodes_of (e ∷ es) = ap (λ (ns : List NodeId). e.node ∷ ns) (nodes_of es)
+
+module _ (L : Layout) (words : List ℕ) (e : IsEndOf L words) (w : Hand) (xs : List Account) (home r c : ℕ) (is : IsWorker w xs home r c) (is_shown : IsShown L (trace_in (ordered L) e.turns) w.pass.view)
+    (each : AreFrom 0 w.queues) (all : length w.queues ≡ L.workers) where
+  abbrev turns : List Turn
+  turns = trace_in (ordered L) e.turns
+
+  waiting : (o : ℕ) (h : HeldQueue) → slice_get w.queues o ≡ Some h → map node_of h.queue.items ≡ waits_of o turns
+  waiting o h at = go (held (knowledge w.pass.view).ledgers h.origin) refl (held_at (knowledge w.pass.view) w.queues is.between.queues o h at)
+    where
+      own : h.origin ≡ o
+      own = let e' = origin_at 0 w.queues each o h at in omega (arith, e')
+
+      go : (x : Option Ledger) → held (knowledge w.pass.view).ledgers h.origin ≡ x → option_map (λ (l : Ledger). l.queue) x ≡ Some (map queued h.queue.items) → map node_of h.queue.items ≡ waits_of o turns
+      go None there none = absurd (none-some (map queued h.queue.items) none)
+      go (Some l) there queue =
+          nodes_of h.queue.items ∙ (ap (λ (q : List Queued). map node_in q) (sym (same_Some l.queue (map queued h.queue.items) queue))
+          ∙ sym (waits_is L e.fits true e.turns w.pass.view.number o l
+          (ap (λ (k : Knowledge). held k.ledgers o) (known L words e w xs home r c is is_shown each all) ∙ (ap (λ (n : ℕ). held (knowledge w.pass.view).ledgers n) (sym own) ∙ there))))
+
+  no_hands : (u x : ℕ) → has_after (opening L) u x false turns ≡ false
+  no_hands u x = run_hands u x L e.fits true e.turns ∙ false_from_ne_true (is_private (of (end_of L words e) u) x) (none_private L words e w xs home r c is is_shown each all u x)
+
+  module _ (ws : List Hand) (view : w.pass.view ≡ all_joined ws) (kept : List ℕ) (keys_are : kept ≡ keys (end_of L words e)) where
+    pub of_turns_at_end : IsOfTurns L turns words (all_joined ws) w.queues kept
+    of_turns_at_end = record {
+      written = e.words_are ∙ ap (words_of L) (sym (run_words L e.fits true e.turns));
+      shown = subst (λ (v : View). IsShown L turns v) view is_shown;
+      headline = headline L e.fits true e.turns e.keys;
+      plain_set = history_of_run L e.fits e.turns e.keys;
+      waiting = waiting;
+      no_hands = no_hands;
+      set = λ k. subst (λ (m : Memory). Contains kept k ↔ InSet m k × (k < infinity_0)) (sym (run_words L e.fits true e.turns)) (set_of L e.fits e.turns e.keys kept keys_are k);
+    }
