@@ -9,5 +9,3 @@ mod walk;
 pub use report::{Found, read};
 pub use room::Room;
 
-#[cfg(test)]
-mod tests;
