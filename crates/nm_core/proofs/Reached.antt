@@ -5,14 +5,17 @@ use Rattle.std.proofs.lemmas.List.{take_more, take-append-drop}
 use Rattle.std.proofs.lemmas.List.Elements.{All-append}
 use Rattle.nm_model.specs.declared.event.Event.{Event}
 use Rattle.nm_model.specs.Runs.{start}
-use Rattle.nm_model.specs.Ordered.{Configuration, HasKey, ordered, opening_of, after_in, IsReached}
+use Rattle.nm_model.specs.Ordered.{Configuration, HasKey, ordered, opening_of, after_in, trace_in, IsReached}
 use Rattle.nm_laws.proofs.Configurations.{keys_more, after_in-append, plain_runs, reached_state}
 use Rattle.nm_laws.proofs.Lawful.{reachable_is_lawful}
 use Rattle.nm_order.specs.Intervals.{OfEachOrdered, KeysTellTheSet, KeysLieInIntervals, LeavesHaveTheirOwnKeys, WalksStayInOrder, WalksReadKeys}
 use Rattle.nm_order.proofs.RunExchanges.{first_keys}
 use Rattle.nm_order.proofs.OrderedLaws.{each_key_lies, each_leaf_has_its_key, each_walk_stays, each_walk_reads, keys_of_state}
 use Rattle.nm_order.proofs.HistoryLaws.{each_run_has_a_history}
-use Rattle.nm_core.specs.Pasts.{IsPast, HasPast, HasHistoriesBehind, StaysInOrder}
+use Rattle.nm_order.proofs.WalksOfRuns.{trace_in-append}
+use Rattle.nm_theorem.specs.Headline.{Headline}
+use Rattle.nm_theorem.proofs.HeadlineOfRuns.{headline}
+use Rattle.nm_core.specs.Pasts.{IsPast, HasPast, HasHeadlineBehind, HasHistoriesBehind, StaysInOrder}
 
 -- the keys of the first turns, and of one more
 pub keys_to : (ts : List (ℕ × Event)) (i : ℕ) (t : ℕ × Event) → i < length ts → t ≡ get_or ts i t → HasKey t.1 → All (λ u. HasKey u.1) (take i ts) → All (λ u. HasKey u.1) (take (i + 1) ts)
@@ -66,3 +69,11 @@ module _ (c : Configuration) (r : IsReached c) where
   -- what any core tells of its keys
   pub tells_the_set : KeysTellTheSet c
   tells_the_set k = let l = reachable_is_lawful c.state (reached_state c r) in keys_of_state c.state l.holder l.law k
+
+-- the turns that led here and then those of a run are the turns of one run from the opening
+pub headline_behind : (c : Configuration) (turns : List (ℕ × Event)) → All (λ u. HasKey u.1) turns → HasHeadlineBehind c turns
+headline_behind c turns keys r = subst (Headline c.state.layout) (trace_in-append from r.events turns ∙ ap (λ (d : Configuration). trace_in from r.events ++ trace_in d turns) r.leads)
+      (headline c.state.layout r.fits r.is_ordered (r.events ++ turns) (All-append (λ (u : ℕ × Event). HasKey u.1) r.events turns r.keys keys))
+  where
+    from : Configuration
+    from = opening_of c.state.layout r.is_ordered

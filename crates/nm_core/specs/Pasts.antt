@@ -1,8 +1,9 @@
 -- The past of a core: the events by which it came from its opening; and what an ordered core has by it.
 use Rattle.std.specs.Prelude.{◌≡◌, ℕ, List, ◌++◌, take, IsSome, All}
 use Rattle.nm_model.specs.declared.event.Event.{Event}
-use Rattle.nm_model.specs.Ordered.{Configuration, HasKey, ordered, after_in}
+use Rattle.nm_model.specs.Ordered.{Configuration, HasKey, IsReached, ordered, opening_of, after_in, trace_in}
 use Rattle.nm_order.specs.History.{HasHistory}
+use Rattle.nm_theorem.specs.Headline.{Headline}
 use Rattle.nm_order.specs.Intervals.{KeysLieInIntervals, LeavesHaveTheirOwnKeys, WalksStayInOrder, WalksReadKeys}
 
 -- the core came from the opening of an ordered core by these events, with calls for keys of the set
@@ -28,3 +29,7 @@ pub record IsInOrder (c : Configuration) : Type 0 where
 -- it is so before a run of an ordered core, and after each of its turns
 abbrev pub StaysInOrder : Configuration → List (ℕ × Event) → Type 0
 StaysInOrder c turns = IsSome c.searches → (i : ℕ) → IsInOrder (after_in c (take i turns))
+
+-- whatever the events were by which a core, plain or ordered, came from its opening: their turns and then those of this run have the headline
+abbrev pub HasHeadlineBehind : Configuration → List (ℕ × Event) → Type 0
+HasHeadlineBehind c turns = (past : IsReached c) → Headline c.state.layout (trace_in (opening_of c.state.layout past.is_ordered) past.events ++ trace_in c turns)

@@ -12,7 +12,7 @@ ghost use Rattle.nm_model.specs.Traces.{IsLawfulRun};
 ghost use Rattle.nm_laws.specs.Cardinality.{AreNumbersOfSlots};
 ghost use Rattle.nm_laws.specs.LeafPaths.{AreKeysFromTheLeft};
 ghost use Rattle.nm_order.specs.Intervals.{KeysAscend, KeysTellTheSet};
-ghost use Rattle.nm_core.specs.Pasts.{HasHistoriesBehind, HasPast, StaysInOrder};
+ghost use Rattle.nm_core.specs.Pasts.{HasHeadlineBehind, HasHistoriesBehind, HasPast, StaysInOrder};
 ghost use Rattle.nm_core.specs.Stops.{WouldBeAllowed, played};
 
 use nm_edge::{Key, LEAST_NODES, MOST_NODES, MOST_WORKERS};
@@ -210,9 +210,10 @@ impl Core {
 
     /// Applies each event in turn, and goes on after one that is refused. The trace lists worker, event and outcome of each.
     ///
-    /// The headline holds of every run: in each state each slot is in one place, each turn cuts exactly the nodes of its outcome,
-    /// the ledgers are the cuts, what was freed of them is what gives freed, no node is retired twice, and no node that was cut in
-    /// the run is freed in it while a worker that was pinned at the cut has not left.
+    /// The turns that led here, whatever they were, and then those of this run have the headline (`nm_theorem`): at each moment each
+    /// slot is in one place, each turn cuts exactly the nodes of its outcome, each worker's cuts are its freed and then its waiting
+    /// nodes, none twice, nothing is freed while a worker that was pinned at its cut has not left, and what a worker has touched
+    /// stays until it leaves. The same of the states that the core keeps, with its ledgers, is said of this run (`lawful`).
     /// An ordered core stays in order, and its whole run, from its opening on, is a history of one plain set (it is linearizable;
     /// see `runs_are_histories` of `nm_order`).
     ///
@@ -222,6 +223,7 @@ impl Core {
         ensures trace { IfOk result (λ t. t ≡ trace_in self.old events.items) }
         ensures state { OnOk result (self.new ≡ after_in self.old events.items) }
         ensures lawful { IfOk result (λ t. IsLawfulRun (λ i. (after_in self.old (take i events.items)).state) t) }
+        ensures headline { HasHeadlineBehind self.old (played events.items result) }
         ensures past { HasPast self.old }
         ensures histories { HasHistoriesBehind self.old (played events.items result) }
         ensures order { StaysInOrder self.old (played events.items result) }
