@@ -1,22 +1,25 @@
 -- What the end of a tree leaves.
 use Rattle.std.proofs.Common.{◌≡◌, ℕ, suc, ◌+◌, ◌-◌, ◌<◌, ◌≤◌, inl, inr, List, [], ◌∷◌, ◌++◌, length, refl, ap, ◌∙◌, subst, arith}
+use Rattle.std.proofs.lemmas.List.Elements.{All-cons, All-head, All-nil, All-tail}
 use Rattle.std.proofs.lemmas.List.Sums.{sum_by-cons}
-use Rattle.std.specs.Prelude.{Some, map}
+use Rattle.std.specs.Prelude.{Some, map, slice_index_or}
+use Rattle.nm_model.specs.declared.event.Event.{Event}
 use Rattle.nm_model.specs.declared.ledger.Ledger.{Ledger}
 use Rattle.nm_model.specs.Laws.{node_in}
 use Rattle.nm_model.specs.Ledgers.{held as ledger_held}
-use Rattle.nm_model.specs.Ordered.{ordered, after_in, trace_in}
+use Rattle.nm_model.specs.Ordered.{ordered, trace_in}
 use Rattle.nm_model.specs.Reports.{counts, keys}
 use Rattle.nm_report.specs.Ended.{IsEndOf, end_of}
 use Rattle.nm_steps.specs.declared.view.View.{View}
-use Rattle.nm_steps.specs.Rules.{knowledge, stands, once_below}
-use Rattle.nm_steps.specs.Steps.{Board, Stand, IsOf, Ends, HasJoined}
+use Rattle.nm_steps.specs.Rules.{Extends, IsShown, joined, knowledge, stands, once_below}
+use Rattle.nm_steps.specs.Steps.{Board, Stand, IsOf, Ends, HasJoined, HasSeenAllOf}
+use Rattle.nm_steps.proofs.Growing.{goes_on_itself, goes_on_from_nothing, goes_on_through}
 use Rattle.nm_steps.proofs.Keeping.{live, once_is}
 use Rattle.nm_epoch.specs.declared.collecting.HeldQueue.{HeldQueue}
 use Rattle.nm_epoch.specs.Collecting.{AreHeld}
 use Rattle.nm_tree.specs.declared.worker.Account.{Account}
 use Rattle.nm_tree.specs.Workers.{Hand, IsWorker, HasOrigin, AreAbove, Ascend, waiting_in}
-use Rattle.nm_tree.specs.Closing.{AreAllOf, AreFrom, EndsOnce, IsClosed, IsOfTurns, all_joined, all_merged, given_in}
+use Rattle.nm_tree.specs.Closing.{AreAllOf, AreFrom, EndsOnce, GoesOnFromAll, IsClosed, IsOfTurns, StandsForAll, all_joined, all_merged, given_in}
 use Rattle.nm_order.proofs.HistoryLaws.{each_run_has_a_history}
 use Rattle.nm_order.proofs.TotalsOfLogs.{totals_are_in_the_logs}
 use Rattle.nm_order.proofs.TotalsOfRuns.{each_total_agrees}
@@ -41,6 +44,27 @@ all_and b (u ∷ ws) w are own = (are.0, all_and b ws w are.1 own)
 -- the pass of both is of that tree
 pub still_of : (b : Board) (p o q : Stand) → HasJoined p o q → IsOf b p → IsOf b q
 still_of b p o q is own = record { table = ap (λ (x : Stand). x.table) is ∙ own.table; layout = ap (λ (x : Stand). x.view.layout) is ∙ own.layout }
+
+-- ---- what the one that stands for all has seen
+
+pub alone : (w : Hand) → GoesOnFromAll w.pass.view.past (w ∷ [])
+alone w = All-cons (λ (u : Hand). Extends w.pass.view.past u.pass.view.past) w [] (goes_on_itself w.pass.view.past) (All-nil (λ (u : Hand). Extends w.pass.view.past u.pass.view.past))
+
+pub stands_for_one_more : (w u : Hand) (us : List Hand) (p q : Stand) → HasJoined p w.pass q → StandsForAll (u ∷ us) p.view → StandsForAll (w ∷ u ∷ us) q.view
+stands_for_one_more w u us p q joins stands = ap (λ (x : Stand). x.view) joins ∙ ap (λ (v : View). record (joined v w.pass.view) { past = q.view.past }) stands
+
+-- a run goes on from what one saw from which it goes on
+pub goes_on_from_earlier : (run earlier : List (ℕ × Event)) (ws : List Hand) → Extends run earlier → GoesOnFromAll earlier ws → GoesOnFromAll run ws
+goes_on_from_earlier run earlier ws more all i w less = goes_on_through run earlier (slice_index_or ws i w).pass.view.past more (all i w less)
+
+pub goes_on_from_one_more : (w : Hand) (us : List Hand) (p q : Stand) → HasSeenAllOf q p → HasSeenAllOf q w.pass → GoesOnFromAll p.view.past us → GoesOnFromAll q.view.past (w ∷ us)
+goes_on_from_one_more w us p q seen told all = All-cons (λ (u : Hand). Extends q.view.past u.pass.view.past) w us told (goes_on_from_earlier q.view.past p.view.past us seen all)
+
+-- so from what the last one saw, whose own log the joined view has
+goes_on_from_last : (run : List (ℕ × Event)) (ws : List Hand) → GoesOnFromAll run ws → Extends run (all_joined ws).past
+goes_on_from_last run [] all = goes_on_from_nothing run
+goes_on_from_last run (w ∷ []) all = All-head (λ (u : Hand). Extends run u.pass.view.past) w [] all
+goes_on_from_last run (w ∷ u ∷ ws) all = goes_on_from_last run (u ∷ ws) (All-tail (λ (v : Hand). Extends run v.pass.view.past) w (u ∷ ws) all)
 
 -- as many queues as workers were given
 pub all_given : (ws : List Hand) → length (all_merged ws) ≡ given_in ws
@@ -81,7 +105,7 @@ all_in_order n (h ∷ hs) up below many =
 -- ---- the whole
 
 module _ (b : Board) (w : Hand) (xs : List Account) (home r s : ℕ) (ws : List Hand) (kept : List ℕ) (free reached : ℕ) (words : List ℕ) (is : IsWorker w xs home r s)
-    (view : w.pass.view ≡ all_joined ws) (queues : w.queues ≡ all_merged ws) (enough : b.layout.workers ≤ given_in ws) (end : Ends b.layout words w.pass.view)
+    (view : StandsForAll ws w.pass.view) (seen : GoesOnFromAll w.pass.view.past ws) (queues : w.queues ≡ all_merged ws) (enough : b.layout.workers ≤ given_in ws) (end : Ends b.layout words w.pass.view)
     (keys_are : (e' : IsEndOf b.layout words) → kept ≡ keys (end_of b.layout words e')) (free_are : (e' : IsEndOf b.layout words) → free ≡ (counts (end_of b.layout words e')).pool)
     (reached_are : (e' : IsEndOf b.layout words) → reached ≡ (counts (end_of b.layout words e')).reached) where
   below : (o : ℕ) → HasOrigin o w.queues → o < b.layout.workers
@@ -111,8 +135,19 @@ module _ (b : Board) (w : Hand) (xs : List Account) (home r s : ℕ) (ws : List 
   unfolding the_end
   once_each = ends_once b.layout words the_end w xs home r s is end.shown in_order.0 in_order.1
 
+  goes_on : GoesOnFromAll end.turns ws
+  goes_on = goes_on_from_earlier end.turns w.pass.view.past ws end.past seen
+
   ends : Ends b.layout words (all_joined ws)
-  ends = record { fits = end.fits; turns = end.turns; keys = end.keys; words_are = end.words_are; shown = subst (λ (v : View). Rattle.nm_steps.specs.Rules.IsShown b.layout (Rattle.nm_model.specs.Ordered.trace_in (ordered b.layout) end.turns) v) view end.shown; once = subst (λ (v : View). (o : ℕ) → stands o v ≤ once_below o b.layout.workers) view end.once }
+  ends = record {
+    fits = end.fits;
+    turns = end.turns;
+    keys = end.keys;
+    words_are = end.words_are;
+    shown = subst (λ (v : View). IsShown b.layout (trace_in (ordered b.layout) end.turns) v) view end.shown;
+    once = subst (λ (v : View). (o : ℕ) → stands o v ≤ once_below o b.layout.workers) view end.once;
+    past = goes_on_from_last end.turns ws goes_on;
+  }
 
   of_turns : IsOfTurns b.layout (trace_in (ordered b.layout) end.turns) words (all_joined ws) w.queues kept
   unfolding the_end
@@ -127,6 +162,7 @@ module _ (b : Board) (w : Hand) (xs : List Account) (home r s : ℕ) (ws : List 
     headline = of_turns;
     same_turns = refl;
     ends = ends;
+    goes_on = goes_on;
     merged = queues;
     each = in_order.0;
     all = in_order.1;

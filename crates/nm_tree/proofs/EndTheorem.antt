@@ -30,7 +30,7 @@ use Rattle.nm_epoch.specs.declared.collecting.Entry.{Entry}
 use Rattle.nm_epoch.specs.declared.collecting.HeldQueue.{HeldQueue}
 use Rattle.nm_epoch.specs.Collecting.{AreHeld, IsQueueOf, queued}
 use Rattle.nm_tree.specs.declared.worker.Account.{Account}
-use Rattle.nm_tree.specs.Closing.{AreFrom, IsOfTurns, node_of, all_joined}
+use Rattle.nm_tree.specs.Closing.{AreFrom, IsOfTurns, StandsForAll, node_of, all_joined}
 use Rattle.nm_tree.specs.Workers.{Hand, IsWorker}
 use Rattle.nm_tree.proofs.EndLaws.{set_of}
 use Rattle.nm_tree.proofs.EndPlaces.{known, none_private}
@@ -72,7 +72,7 @@ module _ (L : Layout) (words : List ℕ) (e : IsEndOf L words) (w : Hand) (xs : 
   no_hands : (u x : ℕ) → has_after (opening L) u x false turns ≡ false
   no_hands u x = run_hands u x L e.fits true e.turns ∙ false_from_ne_true (is_private (of (end_of L words e) u) x) (none_private L words e w xs home r c is is_shown each all u x)
 
-  module _ (ws : List Hand) (view : w.pass.view ≡ all_joined ws) (kept : List ℕ) (keys_are : kept ≡ keys (end_of L words e)) where
+  module _ (ws : List Hand) (view : StandsForAll ws w.pass.view) (kept : List ℕ) (keys_are : kept ≡ keys (end_of L words e)) where
     pub of_turns_at_end : IsOfTurns L turns words (all_joined ws) w.queues kept
     of_turns_at_end = record {
       written = e.words_are ∙ ap (words_of L) (sym (run_words L e.fits true e.turns));

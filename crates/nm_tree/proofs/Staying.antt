@@ -2,6 +2,7 @@
 use Rattle.std.proofs.Common.{◌≡◌, ℕ, ◌+◌, ◌≤◌, inl, inr, false, List, [], ◌∷◌, Option, Some, None, length, refl, sym, ap, ◌∙◌, subst}
 use Rattle.std.specs.Prelude.{IsSome, is_some, unwrap_or}
 use Rattle.nm_edge.specs.Layouts.{Layout}
+use Rattle.nm_model.specs.declared.event.Event.{Event}
 use Rattle.nm_model.specs.declared.ledger.Ledger.{Ledger}
 use Rattle.nm_model.specs.declared.knowledge.Seen.{Seen}
 use Rattle.nm_model.specs.Knowledge.{Knowledge, unread}
@@ -146,3 +147,29 @@ free_in s is = (ap pending_in is, ap pending_in is)
 -- a delete is pending, and its leaf is being removed
 pub removing_in : (p : Stand) (s : Standing) (n : Unfinished) → s ≡ standing.Pending n → IsRemoving p n.key n.leaf → IsAs p (pending_in s) (held_in s)
 removing_in p s n is removing = let P : Standing → Type 0 = λ x. IsAs p (pending_in x) (held_in x) in subst P (sym is) removing
+
+-- ---- a worker that has seen more
+
+-- the same pass, with this as what it has seen
+abbrev pub seeing : List (ℕ × Event) → Stand → Stand
+seeing past p = record p { view = record p.view { past = past } }
+
+as_was : (past : List (ℕ × Event)) (p : Stand) (n : Option Unfinished) (e : Option ℕ) → IsAs p n e → IsAs (seeing past p) n e
+as_was past p None None is = record { unpinned = is.unpinned; silent = is.silent; labelled = is.labelled; idle = is.idle }
+as_was past p None (Some e) is = record { note = is.note; pin = is.pin; labelled = is.labelled; search = is.search }
+as_was past p (Some n) None is = record {
+  run = record { fits = is.run.fits; run = is.run.run };
+  pinned = is.pinned;
+  root = is.root;
+  known = is.known;
+  call = is.call;
+  flagged = is.flagged;
+  born = is.born;
+  labelled = is.labelled;
+}
+as_was past p (Some n) (Some e) is = absurd is
+
+-- it has done nothing, and is a worker as it was
+pub sees_more : {r s : ℕ} (past : List (ℕ × Event)) (w : Hand) (xs : List Account) (home : ℕ) → IsWorker w xs home r s → IsWorker (record w { pass = seeing past w.pass }) xs home r s
+sees_more past w xs home is =
+    stays w xs home (seeing past w.pass) w.pending w.held is refl (record { links = refl; flags = refl; splices = refl }) refl refl (as_was past w.pass w.pending w.held is.between.stands)

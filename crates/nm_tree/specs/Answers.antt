@@ -7,6 +7,7 @@ use Rattle.nm_calls.specs.Calls.{HasDid, HasMissed}
 use Rattle.nm_calls.specs.Deletes.{DeleteDid, FinishDid, LosesEachTry, LosesAfterFlag}
 use Rattle.nm_calls.specs.Inserts.{InsertDid}
 use Rattle.nm_calls.specs.Moments.{AnswerHasMoment}
+use Rattle.nm_calls.specs.Won.{links_of_insert, flags_of_delete}
 use Rattle.nm_epoch.specs.Tries.{IsPinned as PinsSo, IsMoved}
 use Rattle.nm_model.specs.declared.event.Event.TheVariants.{Sight}
 use Rattle.nm_model.specs.declared.event.Op.TheVariants.{Delete}
@@ -58,6 +59,18 @@ HasFinished nodes tries w z (Ok false) = (w.pending ≡ None) × (z ≡ w)
 HasFinished nodes tries w z (Ok true) = (n : Unfinished) × (w.pending ≡ Some n) × (z.pending ≡ None) × FinishDid nodes n.key n.leaf tries w.pass.view.log z.pass.view.log true
 HasFinished nodes tries w z (Err fault.Unfinished) = (n : Unfinished) × (w.pending ≡ Some n) × (z.pending ≡ Some n) × FinishDid nodes n.key n.leaf tries w.pass.view.log z.pass.view.log false
 HasFinished nodes tries w z (Err _) = ⊥
+
+-- ---- what a call has won, by its answer: for an insert a link where it is true
+
+abbrev pub links_won : Result Bool Fault → ℕ
+links_won (Ok answer) = links_of_insert (Ok answer)
+links_won (Err fault) = 0
+
+-- for a delete a flag where it is true, or not finished
+abbrev pub flags_won : Result Bool Fault → ℕ
+flags_won (Ok answer) = flags_of_delete (Ok answer)
+flags_won (Err fault.Unfinished) = 1
+flags_won (Err _) = 0
 
 -- ---- why a call gave up
 

@@ -1,9 +1,10 @@
 -- The end of a tree.
-use Rattle.std.specs.Prelude.{◌≡◌, ◌<◌, ◌≤◌, ◌↔◌, ◌+◌, ◌-◌, ℕ, suc, true, false, length, sum_by, List, [], ◌∷◌, ◌++◌, map, Some, AllPairs, Contains, slice_get}
+use Rattle.std.specs.Prelude.{◌≡◌, ◌<◌, ◌≤◌, ◌↔◌, ◌+◌, ◌-◌, ℕ, suc, true, false, length, sum_by, List, [], ◌∷◌, ◌++◌, map, Some, All, AllPairs, Contains, slice_get}
 use Rattle.nm_edge.specs.Keys.{IsKey}
 use Rattle.nm_edge.specs.Layouts.{Layout}
 use Rattle.nm_edge.specs.declared.edge.Side.{Side}
 use Rattle.nm_edge.specs.declared.node.NodeId.{NodeId}
+use Rattle.nm_model.specs.declared.event.Event.{Event}
 use Rattle.nm_model.specs.declared.ledger.Ledger.{Ledger}
 use Rattle.nm_model.specs.declared.trace.Turn.{Turn}
 use Rattle.nm_model.specs.Laws.{node_in}
@@ -21,7 +22,7 @@ use Rattle.nm_steps.specs.declared.view.View.{View}
 use Rattle.nm_words.specs.Packing.{words_of}
 use Rattle.nm_theorem.specs.Headline.{Headline, words_after, waits_of, has_after}
 use Rattle.nm_theorem.specs.Histories.{HasHistory as HasPlainHistory}
-use Rattle.nm_steps.specs.Rules.{IsShown, knowledge, joined, nobody}
+use Rattle.nm_steps.specs.Rules.{Extends, IsShown, knowledge, joined, nobody}
 use Rattle.nm_steps.specs.Steps.{Board, IsOf, Ends}
 use Rattle.nm_epoch.specs.declared.collecting.Entry.{Entry}
 use Rattle.nm_epoch.specs.declared.collecting.HeldQueue.{HeldQueue}
@@ -45,6 +46,14 @@ abbrev pub all_joined : List Hand → View
 all_joined [] = nobody
 all_joined (w ∷ []) = w.pass.view
 all_joined (w ∷ u ∷ ws) = joined (all_joined (u ∷ ws)) w.pass.view
+
+-- the view has their logs, and has seen something of its own
+abbrev pub StandsForAll : List Hand → View → Type 0
+StandsForAll ws v = v ≡ record (all_joined ws) { past = v.past }
+
+-- a run goes on from what each of them had seen
+abbrev pub GoesOnFromAll : List (ℕ × Event) → List Hand → Type 0
+GoesOnFromAll turns ws = All (λ (w : Hand). Extends turns w.pass.view.past) ws
 
 -- all their queues, by ascending origin, each as it was
 abbrev pub all_merged : List Hand → List HeldQueue
@@ -90,9 +99,10 @@ pub record IsOfTurns (L : Layout) (turns : List Turn) (words : List ℕ) (all : 
   pub set : (k : ℕ) → Contains kept k ↔ InSet (words_after L turns) k × (k < infinity_0)
   pub no_hands : (w x : ℕ) → has_after (opening L) w x false turns ≡ false
 
--- All workers of the tree were given, and one stands for all of them. Some run ends with the tree's words, of which their logs are the parts, and
--- the report tells of its last state: one queue a worker, in the order of their numbers, with all that waits of it, as it was, so that what its splices
--- cut off is what was freed of it and then that queue; the keys of the reached leaves, which are the set's and ascend; and how many slots are free and reached. No slot is private, and as many are queued as wait in
+-- All workers of the tree were given, and one stands for all of them. Some run ends with the tree's words, of which their logs are the parts. It goes on
+-- from what each of the workers had seen, so all that they were answered was answered in it. The report tells of its last state: one queue a worker, in
+-- the order of their numbers, with all that waits of it, as it was, so that what its splices cut off is what was freed of it and then that queue; the keys
+-- of the reached leaves, which are the set's and ascend; and how many slots are free and reached. No slot is private, and as many are queued as wait in
 -- the queues, so that these with the free and the reached ones are all slots but the five fixed ones; and each of these slots stands once, in the
 -- pool, on one path, or at one index of one queue. The turns of that run have the headline. It has a history, which ends with these
 -- keys; each key stands on an unflagged edge as often as calls for it won a link less as often as they won a flag, by the logs of all workers; and
@@ -103,6 +113,7 @@ pub record IsClosed (b : Board) (ws : List Hand) (queues : List HeldQueue) (kept
   pub turns : List Turn
   pub headline : IsOfTurns b.layout turns words (all_joined ws) queues kept
   pub ends : Ends b.layout words (all_joined ws)
+  pub goes_on : GoesOnFromAll ends.turns ws
   pub same_turns : turns ≡ trace_in (ordered b.layout) ends.turns
   pub merged : queues ≡ all_merged ws
   pub each : AreFrom 0 queues

@@ -1,7 +1,7 @@
 -- What a worker that resigns leaves to its heir.
 use Rattle.std.specs.Prelude.{◌≡◌, ℕ, suc, nat_lt, if◌then◌else◌, List, [], ◌∷◌, None, IsSome, insert}
 use Rattle.nm_epoch.specs.declared.collecting.HeldQueue.{HeldQueue}
-use Rattle.nm_steps.specs.Steps.{HasJoined}
+use Rattle.nm_steps.specs.Steps.{HasJoined, HasSeenAllOf}
 use Rattle.nm_tree.specs.declared.resigning.ResignReason.{ResignReason}
 use Rattle.nm_tree.specs.declared.resigning.ResignReason.TheVariants as because
 use Rattle.nm_tree.specs.declared.worker.Account.{Account}
@@ -28,11 +28,13 @@ abbrev pub merged_accounts : List HeldQueue → List Account → List HeldQueue 
 merged_accounts hs xs (g ∷ gs) (y ∷ ys) = insert (merged_accounts hs xs gs ys) (place_in g.origin (merged hs gs)) y
 merged_accounts hs xs _ _ = xs
 
--- the leaver was in the midst of nothing; one step, by which the heir's pass stands for both; and the heir holds the queues of both, by ascending
--- origin, each as it was. What was pending or held of the heir is so still
+-- the leaver was in the midst of nothing; one step, by which the heir's pass stands for both, and has seen all that both had seen; and the heir holds
+-- the queues of both, by ascending origin, each as it was. What was pending or held of the heir is so still
 pub record HasResigned (heir leaver z : Hand) : Type 0 where
   pub free : (leaver.held ≡ None) × (leaver.pending ≡ None)
   pub joined : HasJoined heir.pass leaver.pass z.pass
+  pub seen : HasSeenAllOf z.pass heir.pass
+  pub told : HasSeenAllOf z.pass leaver.pass
   pub queues : z.queues ≡ merged heir.queues leaver.queues
   pub place : KeepsPlace heir z
   pub fit : z.fit ≡ heir.fit

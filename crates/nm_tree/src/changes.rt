@@ -3,7 +3,7 @@ ghost use Rattle.std.specs.Prelude.{◌≡◌, ◌⊎◌, ◌+◌, ◌*◌, ◌<
 ghost use Rattle.nm_model.specs.declared.event.Op.TheVariants.{Insert, Delete};
 ghost use Rattle.nm_steps.specs.Steps.{IsOf, IsSamePass};
 ghost use Rattle.nm_calls.specs.Bounds.{chain_bound, cut_bound};
-ghost use Rattle.nm_tree.specs.Answers.{HasInserted, HasDeleted, HasFinished, FinishHasMoment, InsertLacks, DeleteLacks, FinishLacks};
+ghost use Rattle.nm_tree.specs.Answers.{HasInserted, HasDeleted, HasFinished, FinishHasMoment, InsertLacks, DeleteLacks, FinishLacks, links_won, flags_won};
 ghost use Rattle.nm_model.specs.Maps.{get};
 ghost use Rattle.nm_steps.specs.Rules.{knowledge};
 ghost use Rattle.nm_epoch.specs.Resting.{IsResting};
@@ -167,6 +167,7 @@ impl Tree {
         ensures did { HasInserted self.now.layout.nodes tries key worker.old worker.new result }
         ensures lacks { IfErr result (InsertLacks worker.new) }
         ensures moment { IfOk result (AnswerHasMoment worker.new.pass Insert key) }
+        ensures won { HasWon worker.old.pass.view.log worker.new.pass.view.log (links_won result) 0 }
         ensures steps { length worker.new.pass.view.log ≤ length worker.old.pass.view.log + tries * (4 * self.now.layout.nodes + 8 * chain_bound) + 6 * self.now.layout.nodes + 10 }
         ensures queues { KeepsOthers worker.old.pass.view.number worker.old.queues worker.new.queues }
         ensures held { worker.new.held ≡ None }
@@ -208,6 +209,7 @@ impl Tree {
         ensures did { HasDeleted self.now.layout.nodes tries key worker.old worker.new result }
         ensures lacks { IfErr result (DeleteLacks self.now.layout.nodes tries key worker.old worker.new) }
         ensures moment { IfOk result (AnswerHasMoment worker.new.pass Delete key) }
+        ensures won { HasWon worker.old.pass.view.log worker.new.pass.view.log 0 (flags_won result) }
         ensures steps { length worker.new.pass.view.log ≤ length worker.old.pass.view.log + tries * (4 * self.now.layout.nodes + 8 * chain_bound) + 6 * self.now.layout.nodes + 10 }
         ensures queues { KeepsOthers worker.old.pass.view.number worker.old.queues worker.new.queues }
         ensures held { worker.new.held ≡ None }
@@ -240,6 +242,7 @@ impl Tree {
         ensures did { HasFinished self.now.layout.nodes tries worker.old worker.new result }
         ensures lacks { IfErr result (FinishLacks self.now.layout.nodes tries worker.old worker.new) }
         ensures moment { FinishHasMoment worker.old worker.new result }
+        ensures won { HasWon worker.old.pass.view.log worker.new.pass.view.log 0 0 }
         ensures steps { length worker.new.pass.view.log ≤ length worker.old.pass.view.log + tries * (4 * self.now.layout.nodes + 8 * chain_bound) + 6 * self.now.layout.nodes + 10 }
         ensures queues { KeepsOthers worker.old.pass.view.number worker.old.queues worker.new.queues }
         ensures held { worker.new.held ≡ worker.old.held }

@@ -1,7 +1,7 @@
 //! The end of a tree.
 ghost use Rattle.std.specs.Prelude.{◌≡◌, ◌<◌, ◌≤◌, length, min, IfOk, IfErr};
 ghost use Rattle.nm_steps.specs.Steps.{IsOf};
-ghost use Rattle.nm_tree.specs.Closing.{AreAllOf, IsClosed, IsCloseReason, all_joined, all_merged, given_in};
+ghost use Rattle.nm_tree.specs.Closing.{AreAllOf, IsClosed, IsCloseReason, GoesOnFromAll, StandsForAll, all_merged, given_in};
 
 use crate::resigning::unite;
 use crate::tree::Tree;
@@ -111,7 +111,8 @@ fn unite_all(shared: &Shared, mut workers: Vec<Worker>) -> Worker
     requires own { AreAllOf shared.now workers.items }
     requires some { 1 ≤ length workers.items }
     ensures own { IsOf shared.now result.pass }
-    ensures joined { result.pass.view ≡ all_joined workers.items }
+    ensures joined { StandsForAll workers.items result.pass.view }
+    ensures seen { GoesOnFromAll result.pass.view.past workers.items }
     ensures queues { result.queues ≡ all_merged workers.items }
 {
     let Some(mut heir) = workers.pop() else {

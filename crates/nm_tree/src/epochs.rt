@@ -1,7 +1,8 @@
 //! Pins of the caller, and moving the epoch on.
-ghost use Rattle.std.specs.Prelude.{◌≡◌, ◌≢◌, ◌+◌, ◌*◌, ◌≤◌, length, Some, None, IsSome, IfOk, vec_capacity};
+ghost use Rattle.std.specs.Prelude.{ℕ, ◌≡◌, ◌≢◌, ◌+◌, ◌*◌, ◌≤◌, length, Some, None, IsSome, IfOk, vec_capacity};
 ghost use Rattle.nm_model.specs.declared.event.Event.TheVariants.{Leave};
 ghost use Rattle.nm_model.specs.declared.reply.Reply.TheVariants.{Departed};
+ghost use Rattle.nm_order.specs.Reads.{HasRead};
 ghost use Rattle.nm_steps.specs.Steps.{IsOf, IsInRun, IsSamePass, Stepped};
 ghost use Rattle.nm_epoch.specs.Resting.{Settles, epochs};
 ghost use Rattle.nm_steps.specs.Rules.{knowledge};
@@ -91,13 +92,15 @@ impl Tree {
     }
 
     /// Reads the epoch, and frees what is ripe at the front of each queue that the worker holds, origin by origin: exactly the longest front of
-    /// nodes whose labels are at least two below that epoch. Their slots may be claimed again. It may be called at any time, and takes no memory.
+    /// nodes whose labels are at least two below that epoch, which is not below any that this worker had read. Their slots may be claimed again.
+    /// It may be called at any time, and takes no memory.
     pub fn collect(&self, worker: &mut Worker) -> Collected
         requires own { IsOf self.now worker.old.pass }
         ensures same { IsSamePass worker.old.pass worker.new.pass }
         ensures did { IsCollection result.epoch worker.old.queues worker.old.pass.view.log worker.new.pass.view.log }
         ensures freed { result.freed ≡ length (ripe_of result.epoch worker.old.queues) }
         ensures lost { HaveLost result.epoch worker.old.queues worker.new.queues }
+        ensures newest { (epoch : ℕ) → HasRead worker.old.pass.view.log epoch → epoch ≤ result.epoch }
         ensures place { KeepsPlace worker.old worker.new }
         ensures steps { length worker.new.pass.view.log ≤ length worker.old.pass.view.log + self.now.layout.nodes }
         ensures fit { worker.new.fit ≡ worker.old.fit }
@@ -128,6 +131,7 @@ fn collect_all(
     ensures part { IsCollection result.epoch queues.old.items pass.old.view.log pass.new.view.log }
     ensures freed { result.freed ≡ length (ripe_of result.epoch queues.old.items) }
     ensures lost { HaveLost result.epoch queues.old.items queues.new.items }
+    ensures newest { (epoch : ℕ) → HasRead pass.old.view.log epoch → epoch ≤ result.epoch }
     ensures queues { AreHeld (knowledge pass.new.view) queues.new.items }
     ensures others { KeepsOthers result.epoch queues.old.items (knowledge pass.old.view) (knowledge pass.new.view) }
     ensures retired { KeepsRetired (knowledge pass.old.view) (knowledge pass.new.view) }

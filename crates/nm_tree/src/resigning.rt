@@ -1,6 +1,6 @@
 //! Workers that end early.
 ghost use Rattle.std.specs.Prelude.{◌≡◌, ◌+◌, ◌≤◌, ◌<◌, length, insert, vec_len, vec_capacity, IfOk, IfErr};
-ghost use Rattle.nm_steps.specs.Steps.{IsOf, HasJoined};
+ghost use Rattle.nm_steps.specs.Steps.{IsOf, HasJoined, HasSeenAllOf};
 ghost use Rattle.nm_tree.specs.Answers.{KeepsPlace};
 ghost use Rattle.nm_tree.specs.Workers.{IsBetweenCalls};
 ghost use Rattle.nm_tree.specs.Resigning.{HasResigned, IsReason, merged, merged_accounts, place_in};
@@ -33,6 +33,7 @@ pub struct ResignFault {
 impl Tree {
     /// The leaver resigns: its heir holds all queues that it held, each in its order, and `collect` of the heir frees from them too. One step,
     /// and no memory. It is for a thread that ends before the others. Both are workers of this tree; the heir may be held or have a pending key.
+    /// The heir has then seen all that both had seen.
     ///
     /// `Held`: the leaver is held. `Pending`: it has a pending key. Both workers are handed back as they were, after no step.
     /// (Limbo lists that are passed on: Fraser, Practical lock-freedom, section 5.2.3.)
@@ -60,6 +61,8 @@ pub(crate) fn unite(shared: &Shared, heir: Worker, leaver: Worker) -> Worker
     requires heir { IsOf shared.now heir.pass }
     requires leaver { IsOf shared.now leaver.pass }
     ensures joined { HasJoined heir.pass leaver.pass result.pass }
+    ensures seen { HasSeenAllOf result.pass heir.pass }
+    ensures told { HasSeenAllOf result.pass leaver.pass }
     ensures queues { result.queues ≡ merged heir.queues leaver.queues }
     ensures place { KeepsPlace heir result }
     ensures fit { result.fit ≡ heir.fit }

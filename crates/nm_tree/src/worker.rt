@@ -1,5 +1,7 @@
 //! Workers: a pass with the queues that it holds, and what it is in the midst of.
 ghost use Rattle.std.specs.Prelude.{◌≡◌, ◌<◌, length, option_map, IfSome, IfNone};
+ghost use Rattle.nm_edge.specs.Layouts.{IsLayout};
+ghost use Rattle.nm_steps.specs.Steps.{HasSeen, IsOfRun};
 ghost use Rattle.nm_calls.specs.Moments.{HasFlaggedIt};
 ghost use Rattle.nm_epoch.specs.Collecting.{NoneHas};
 ghost use Rattle.nm_tree.specs.Workers.{waiting_in, blocks_in, account_in, counts_in, IsLedger, HasOrigin};
@@ -151,6 +153,16 @@ impl Worker {
             Standing::Pending(unfinished) => Some(unfinished.key),
             Standing::Resting | Standing::Held(_) => None,
         }
+    }
+
+    /// What the worker has seen is a run of an ordered core of the tree's sizes, its log is its part of that, and it has not resigned in it. So
+    /// each law of runs holds of what it has seen, and each law of such parts of its log. It does nothing.
+    pub fn is_of_a_run(&self)
+        ensures seen { HasSeen self.now.pass.view }
+        ensures run { IsOfRun self.now.pass.view.layout self.now.pass.view.number self.now.pass.view.log }
+        ensures fits { IsLayout self.now.pass.view.layout }
+    {
+        self.pass.is_of_a_run();
     }
 
     /// The epoch at which the worker is held, from a `pin` until its `unpin`.

@@ -1,7 +1,7 @@
 use Rattle.std.proofs.Common.{◌≡◌, ◌++◌, ◌∷◌, List, length}
 use Rattle.nm_steps.specs.Steps.{IsOf}
 use Rattle.nm_tree.specs.Workers.{Hand}
-use Rattle.nm_tree.specs.Closing.{AreAllOf, all_joined, all_merged}
+use Rattle.nm_tree.specs.Closing.{AreAllOf, GoesOnFromAll, StandsForAll, all_merged}
 use Rattle.nm_tree.proofs.closing.unite_all.Given as goal
 
 abbrev pub invariant-loop-leaver : goal.invariant-loop-leaver
@@ -10,7 +10,8 @@ invariant-loop-leaver l = record {
   left : AreAllOf l.shared l.workers.items;
   united : (u : Hand) × (us : List Hand)
       × (l.fn.workers.items ≡ l.workers.items ++ u ∷ us)
-      × (l.heir.pass.view ≡ all_joined (u ∷ us))
+      × StandsForAll (u ∷ us) l.heir.pass.view
+      × GoesOnFromAll l.heir.pass.view.past (u ∷ us)
       × (l.heir.queues ≡ all_merged (u ∷ us));
 }
 

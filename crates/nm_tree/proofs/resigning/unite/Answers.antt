@@ -1,4 +1,4 @@
-use Rattle.std.proofs.Common.{◌≡◌, ℕ, List, ap, sym, ◌∙◌, subst, arith}
+use Rattle.std.proofs.Common.{◌≡◌, ℕ, ◌+◌, ◌≤◌, List, length, ap, sym, ◌∙◌, subst, arith}
 use Rattle.std.specs.Prelude.{vec_capacity}
 use Rattle.nm_steps.specs.declared.view.View.{View}
 use Rattle.nm_steps.specs.Rules.{joined}
@@ -8,6 +8,7 @@ use Rattle.nm_epoch.specs.declared.collecting.HeldQueue.{HeldQueue}
 use Rattle.nm_tree.specs.declared.worker.Account.{Account}
 use Rattle.nm_tree.specs.Resigning.{merged, merged_accounts, place_in}
 use Rattle.nm_tree.specs.Workers.{Hand, IsWorker, pending_in, held_in}
+use Rattle.nm_tree.proofs.Staying.{seeing, sees_more}
 use Rattle.nm_tree.proofs.United.{empty_hands, as_many_accounts, few_queues, united}
 use Rattle.nm_tree.proofs.resigning.unite.Goals as goal
 
@@ -18,14 +19,28 @@ join-pass-requires-clause-hands c = empty_hands _ c.leaver.invariant.between
 layouts : (b : Board) (h g h' g' : Hand) → h ≡ h' → g ≡ g' → IsOf b h'.pass → IsOf b g'.pass → h.pass.view.layout ≡ g.pass.view.layout
 layouts b h g h' g' first second own other = ap (λ (x : Hand). x.pass.view.layout) first ∙ (own.layout ∙ (sym other.layout ∙ sym (ap (λ (x : Hand). x.pass.view.layout) second)))
 
-in_run : (p o q : Stand) → HasJoined p o q → StandsInRun q.view → StandsInRun (joined p.view o.view)
+-- the run of both, by the heir as one that had seen before what both have seen then
+in_run : (p o q : Stand) → HasJoined p o q → StandsInRun q.view → StandsInRun (joined (seeing q.view.past p).view o.view)
 in_run p o q is run = let P : View → Type 0 = λ v. StandsInRun v in subst P (ap (λ (x : Stand). x.view) is) run
 
+module _ {r s r' s' : ℕ} (h g : Hand) (xs ys : List Account) (home home' : ℕ) (is : IsWorker h xs home r s) (more : IsWorker g ys home' r' s') (same : h.pass.view.layout ≡ g.pass.view.layout)
+    (q : Stand) (joins : HasJoined h.pass g.pass q) (run : StandsInRun q.view) where
+  seen : IsWorker (record h { pass = seeing q.view.past h.pass }) xs home r s
+  seen = sees_more q.view.past h xs home is
+
+  few_of_both : length h.queues + length g.queues ≤ h.pass.view.layout.workers
+  few_of_both = few_queues (record h { pass = seeing q.view.past h.pass }) g xs ys home home' seen more same (in_run h.pass g.pass q joins run)
+
+  both : IsWorker (record h { pass = q; queues = merged h.queues g.queues }) (merged_accounts h.queues xs g.queues ys) (place_in h.pass.view.number (merged h.queues g.queues)) r s
+  both =
+      let P : Stand → Type 0 = λ x. IsWorker (record h { pass = x; queues = merged h.queues g.queues }) (merged_accounts h.queues xs g.queues ys) (place_in h.pass.view.number (merged h.queues g.queues)) r s in
+      subst P (sym joins) (united (record h { pass = seeing q.view.past h.pass }) g xs ys home home' seen more same (in_run h.pass g.pass q joins run))
+
 pub take_over-requires-clause-room : goal.take_over-requires-clause-room
-take_over-requires-clause-room c = let few = few_queues _ _ _ _ _ _ c.heir.invariant c.leaver.invariant (layouts _ _ _ _ _ c.heir.view_is c.leaver.view_is c.requires.heir c.requires.leaver) (in_run c.heir.inside.pass c.leaver.inside.pass c.join-pass.result c.join-pass.ensures.joined c.join-pass.ensures.run) in let room = c.heir.invariant.room in omega (arith, few, room)
+take_over-requires-clause-room c = let few = few_of_both _ _ _ _ _ _ c.heir.invariant c.leaver.invariant (layouts _ _ _ _ _ c.heir.view_is c.leaver.view_is c.requires.heir c.requires.leaver) c.join-pass.result c.join-pass.ensures.joined c.join-pass.ensures.run in let room = c.heir.invariant.room in omega (arith, few, room)
 
 pub take_over-requires-clause-account_room : goal.take_over-requires-clause-account_room
-take_over-requires-clause-account_room c = let few = few_queues _ _ _ _ _ _ c.heir.invariant c.leaver.invariant (layouts _ _ _ _ _ c.heir.view_is c.leaver.view_is c.requires.heir c.requires.leaver) (in_run c.heir.inside.pass c.leaver.inside.pass c.join-pass.result c.join-pass.ensures.joined c.join-pass.ensures.run) in let room = c.heir.invariant.account_room in omega (arith, few, room)
+take_over-requires-clause-account_room c = let few = few_of_both _ _ _ _ _ _ c.heir.invariant c.leaver.invariant (layouts _ _ _ _ _ c.heir.view_is c.leaver.view_is c.requires.heir c.requires.leaver) c.join-pass.result c.join-pass.ensures.joined c.join-pass.ensures.run in let room = c.heir.invariant.account_room in omega (arith, few, room)
 
 pub take_over-requires-clause-paired : goal.take_over-requires-clause-paired
 take_over-requires-clause-paired c = (as_many_accounts _ _ _ c.heir.invariant.accounts, as_many_accounts _ _ _ c.leaver.invariant.accounts)
@@ -38,19 +53,18 @@ invariant_of-result c =
     let e = held_in c.heir.inside.standing in
     let f = c.heir.inside.placement in
     let v = c.heir.inside.pass.view in
-    let both = united _ _ _ _ c.heir.inside.home c.leaver.inside.home c.heir.invariant c.leaver.invariant (layouts _ _ _ _ _ c.heir.view_is c.leaver.view_is c.requires.heir c.requires.leaver) (in_run c.heir.inside.pass c.leaver.inside.pass c.join-pass.result c.join-pass.ensures.joined c.join-pass.ensures.run) in
+    let all = both _ _ _ _ c.heir.inside.home c.leaver.inside.home c.heir.invariant c.leaver.invariant (layouts _ _ _ _ _ c.heir.view_is c.leaver.view_is c.requires.heir c.requires.leaver) c.join-pass.result c.join-pass.ensures.joined c.join-pass.ensures.run in
     let home : c.place_of-home.result ≡ place_in v.number hs =
     c.place_of-home.ensures.place
     ∙ (ap (λ (l : List HeldQueue). place_in c.number.result l) (c.as_slice.ensures.value ∙ c.take_over.ensures.queues)
     ∙ ap (λ (k : ℕ). place_in k hs) (c.number.ensures.number ∙ ap (λ (q : Stand). q.view.number) c.join-pass.ensures.joined)) in
-    let P : Stand → Type 0 = λ q. IsWorker (record { pass = q; queues = hs; pending = n; held = e; fit = f }) xs (place_in v.number hs) (vec_capacity c.heir.inside.queues) (vec_capacity c.heir.inside.accounts) in
     let Q : List HeldQueue → Type 0 = λ l. IsWorker (record { pass = c.join-pass.result; queues = l; pending = n; held = e; fit = f }) xs (place_in v.number hs) (vec_capacity c.heir.inside.queues) (vec_capacity c.heir.inside.accounts) in
     let R : List Account → Type 0 = λ l. IsWorker (record { pass = c.join-pass.result; queues = c.take_over.new.queues.items; pending = n; held = e; fit = f }) l (place_in v.number hs) (vec_capacity c.heir.inside.queues) (vec_capacity c.heir.inside.accounts) in
     let S : ℕ → Type 0 = λ k. IsWorker (record { pass = c.join-pass.result; queues = c.take_over.new.queues.items; pending = n; held = e; fit = f }) c.take_over.new.accounts.items k (vec_capacity c.heir.inside.queues) (vec_capacity c.heir.inside.accounts) in
     let T : ℕ → Type 0 = λ k. IsWorker (record { pass = c.join-pass.result; queues = c.take_over.new.queues.items; pending = n; held = e; fit = f }) c.take_over.new.accounts.items c.place_of-home.result k (vec_capacity c.heir.inside.accounts) in
     let U : ℕ → Type 0 = λ k. IsWorker (record { pass = c.join-pass.result; queues = c.take_over.new.queues.items; pending = n; held = e; fit = f }) c.take_over.new.accounts.items c.place_of-home.result (vec_capacity c.take_over.new.queues) k in
     subst U (sym c.take_over.ensures.capacity.1)
-    (subst T (sym c.take_over.ensures.capacity.0) (subst S (sym home) (subst R (sym c.take_over.ensures.accounts) (subst Q (sym c.take_over.ensures.queues) (subst P (sym c.join-pass.ensures.joined) both)))))
+    (subst T (sym c.take_over.ensures.capacity.0) (subst S (sym home) (subst R (sym c.take_over.ensures.accounts) (subst Q (sym c.take_over.ensures.queues) all))))
 
 pub returns-clause-between : goal.returns-clause-between
 returns-clause-between c = (invariant_of-result c).between

@@ -1,3 +1,6 @@
+use Rattle.std.proofs.Common.{ℕ, ◌≤◌, subst}
+use Rattle.nm_order.specs.Reads.{HasRead}
+use Rattle.nm_tree.specs.Workers.{Hand}
 use Rattle.nm_tree.proofs.Quiet.{collected as collected_quietly}
 use Rattle.nm_tree.proofs.Staying.{stands_still, labelled}
 use Rattle.nm_tree.proofs.Freeing.{paired, collected}
@@ -16,3 +19,6 @@ invariant_of-worker c =
 
 pub returns-clause-between : goal.returns-clause-between
 returns-clause-between c = (invariant_of-worker c).between
+
+pub returns-clause-newest : goal.returns-clause-newest
+returns-clause-newest c = subst (λ (w : Hand). (epoch : ℕ) → HasRead w.pass.view.log epoch → epoch ≤ c.collect_all-collected.result.epoch) c.worker.view_is c.collect_all-collected.ensures.newest
