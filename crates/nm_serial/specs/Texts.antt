@@ -9,18 +9,21 @@ use Rattle.nm_files.specs.Lines.{parts}
 use Rattle.nm_scripts.specs.declared.header.Command.{Command}
 use Rattle.nm_scripts.specs.Scripts.{Script, script_of}
 use Rattle.nm_steps.specs.Steps.{Board}
-use Rattle.nm_tree.specs.Workers.{Hand, AreNew}
+use Rattle.nm_pool.specs.declared.placement.Fit.{Fit}
+use Rattle.nm_pool.specs.declared.placement.Fit.TheVariants.{Lowest}
+use Rattle.nm_tree.specs.Workers.{Hand, AreNew, HaveFit}
 use Rattle.nm_serial.specs.Crews.{PlaysAll, present}
 use Rattle.nm_serial.specs.Endings.{IsEnding}
 use Rattle.nm_serial.specs.Stops.{IfStopped}
 use Rattle.nm_serial.specs.Threads.{HaveAllPlayed, all_rows, fault_in}
 use Rattle.nm_serial.specs.declared.threads.Played.{Played}
 
--- a tree of a script's sizes, with its workers, who have done nothing yet
+-- a tree of a script's sizes, with its workers, who have done nothing yet, and each of whose claims takes the lowest slot that it can
 pub record IsOpened (s : Script) (tree : Board) (workers : List Hand) : Type 0 where
   pub sizes : tree.layout ≡ s.header.layout
   pub new : AreNew tree 0 workers
   pub all : length workers ≡ s.header.layout.workers
+  pub fit : HaveFit Lowest workers
 
 -- Of `serial`: the lines are played one after the other on a new tree, each by the contract of its call; each line stands with what it was
 -- answered; and then come the last lines, of that tree closed by those that have not resigned

@@ -2,8 +2,9 @@
 ghost use Rattle.std.specs.Prelude.{◌≡◌, ◌≤◌, ◌<◌, ◌^◌, ◌++◌, ℕ, All, length, slice_index_or, IfOk, OnOk, IfErr};
 ghost use Rattle.nm_print.specs.LastLines.{keys_line};
 ghost use Rattle.nm_steps.specs.Steps.{IsOf};
+ghost use Rattle.nm_pool.specs.declared.placement.Fit.TheVariants.{Lowest};
 ghost use Rattle.nm_tree.specs.Closing.{given_in};
-ghost use Rattle.nm_tree.specs.Workers.{AreNew, waiting_in};
+ghost use Rattle.nm_tree.specs.Workers.{AreNew, HaveFit, waiting_in};
 ghost use Rattle.nm_serial.specs.Endings.{IsCounted, IsEnding, worker_lines, last_lines};
 
 use nm_answers::ending::{put_closed_places, put_worker};
@@ -14,11 +15,12 @@ use nm_scripts::header::Header;
 use nm_tree::{CloseError, CloseReason, Counts, NewError, Report, Tree, Worker};
 use std::alloc::{AllocError, Global};
 
-/// The tree of a header with its workers.
+/// The tree of a header with its workers, which claim the lowest slot that they can, so that a script tells which slots it uses.
 pub(crate) fn open(alloc: Global, header: &Header) -> Result<(Tree, Vec<Worker>), RunFault>
     ensures layout { IfOk result (λ r. r.0.layout ≡ header.now.layout) }
     ensures new { IfOk result (λ r. AreNew r.0 0 r.1.items) }
     ensures count { IfOk result (λ r. length r.1.items ≡ header.now.layout.workers) }
+    ensures fit { IfOk result (λ r. HaveFit Lowest r.1.items) }
     ensures err { IfErr result (λ e. e ≡ RunFault.NoMemory) }
 {
     match Tree::new(alloc, header.layout.nodes(), header.layout.workers()) {

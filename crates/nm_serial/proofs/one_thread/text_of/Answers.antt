@@ -26,7 +26,7 @@ returns-clause-text c =
     record {
       tree = c.in_ok-tree.tree;
       workers = c.in_ok-tree.workers.items;
-      opened = record { sizes = c.in_ok-tree.ensures.layout; new = c.in_ok-tree.ensures.new; all = c.in_ok-tree.ensures.count };
+      opened = record { sizes = c.in_ok-tree.ensures.layout; new = c.in_ok-tree.ensures.new; all = c.in_ok-tree.ensures.count; fit = c.in_ok-tree.ensures.fit };
       answers = c.in_ok-answers.answers.items;
       crew = c.play.new.crew.items;
       played = rw (c.as_slice.ensures.value, c.in-Ok.ensures.places) at c.in_ok-answers.ensures.did;
