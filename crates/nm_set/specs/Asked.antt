@@ -3,6 +3,7 @@ use Rattle.std.specs.Prelude.{◌≡◌, ◌+◌, ◌*◌, ◌≤◌, ℕ, Bool,
 use Rattle.nm_model.specs.declared.event.Event.TheVariants.{Leave}
 use Rattle.nm_model.specs.declared.event.Op.TheVariants.{Has, Insert, Delete}
 use Rattle.nm_model.specs.declared.reply.Reply.TheVariants.{Departed}
+use Rattle.nm_order.specs.Reads.{HasRead}
 use Rattle.nm_steps.specs.Steps.{IsSamePass, Stepped}
 use Rattle.nm_epoch.specs.declared.answers.Advance.{Advance}
 use Rattle.nm_epoch.specs.declared.answers.Behind.{Behind}
@@ -13,9 +14,10 @@ use Rattle.nm_epoch.specs.Scans.{IsAdvance}
 use Rattle.nm_epoch.specs.Watches.{IsBehind}
 use Rattle.nm_calls.specs.Bounds.{chain_bound}
 use Rattle.nm_calls.specs.Moments.{AnswerHasMoment}
+use Rattle.nm_calls.specs.Won.{HasWon}
 use Rattle.nm_tree.specs.declared.fault.Fault.{Fault as Lost}
 use Rattle.nm_tree.specs.declared.fault.PinFault.{PinFault as Unpinned}
-use Rattle.nm_tree.specs.Answers.{HasAnswered, HasInserted, HasDeleted, HasFinished, FinishHasMoment, InsertLacks, DeleteLacks, FinishLacks, HasPinned, KeepsPlace}
+use Rattle.nm_tree.specs.Answers.{HasAnswered, HasInserted, HasDeleted, HasFinished, FinishHasMoment, InsertLacks, DeleteLacks, FinishLacks, HasPinned, KeepsPlace, links_won, flags_won}
 use Rattle.nm_tree.specs.Workers.{Hand, IsBetweenCalls, KeepsOthers}
 use Rattle.nm_set.specs.declared.fault.Fault.{Fault}
 use Rattle.nm_set.specs.declared.fault.Fault.TheVariants as fault
@@ -33,6 +35,7 @@ pub record LeavesHas (nodes tries k : ℕ) (w z : Hand) (r : Result Bool Lost) :
   pub same : IsSamePass w.pass z.pass
   pub did : HasAnswered nodes tries k w z r
   pub moment : IfOk r (AnswerHasMoment z.pass Has k)
+  pub won : HasWon w.pass.view.log z.pass.view.log 0 0
   pub steps : HasBound nodes tries w z
   pub queues : z.queues ≡ w.queues
   pub held : z.held ≡ None
@@ -44,6 +47,7 @@ pub record LeavesInsert (nodes tries k : ℕ) (w z : Hand) (r : Result Bool Lost
   pub did : HasInserted nodes tries k w z r
   pub lacks : IfErr r (InsertLacks z)
   pub moment : IfOk r (AnswerHasMoment z.pass Insert k)
+  pub won : HasWon w.pass.view.log z.pass.view.log (links_won r) 0
   pub steps : HasBound nodes tries w z
   pub queues : KeepsOthers w.pass.view.number w.queues z.queues
   pub held : z.held ≡ None
@@ -55,6 +59,7 @@ pub record LeavesDelete (nodes tries k : ℕ) (w z : Hand) (r : Result Bool Lost
   pub did : HasDeleted nodes tries k w z r
   pub lacks : IfErr r (DeleteLacks nodes tries k w z)
   pub moment : IfOk r (AnswerHasMoment z.pass Delete k)
+  pub won : HasWon w.pass.view.log z.pass.view.log 0 (flags_won r)
   pub steps : HasBound nodes tries w z
   pub queues : KeepsOthers w.pass.view.number w.queues z.queues
   pub held : z.held ≡ None
@@ -66,6 +71,7 @@ pub record LeavesFinish (nodes tries : ℕ) (w z : Hand) (r : Result Bool Lost) 
   pub did : HasFinished nodes tries w z r
   pub lacks : IfErr r (FinishLacks nodes tries w z)
   pub moment : FinishHasMoment w z r
+  pub won : HasWon w.pass.view.log z.pass.view.log 0 0
   pub steps : HasBound nodes tries w z
   pub queues : KeepsOthers w.pass.view.number w.queues z.queues
   pub held : z.held ≡ w.held
@@ -111,6 +117,7 @@ pub record LeavesCollect (nodes : ℕ) (w z : Hand) (c : Collected) : Type 0 whe
   pub did : IsCollection c.epoch w.queues w.pass.view.log z.pass.view.log
   pub freed : c.freed ≡ length (ripe_of c.epoch w.queues)
   pub lost : HaveLost c.epoch w.queues z.queues
+  pub newest : (epoch : ℕ) → HasRead w.pass.view.log epoch → epoch ≤ c.epoch
   pub place : KeepsPlace w z
   pub steps : length z.pass.view.log ≤ length w.pass.view.log + nodes
   pub fit : z.fit ≡ w.fit

@@ -1,7 +1,8 @@
 //! Members: a worker together with the tree on which it works.
 ghost use Rattle.std.specs.Prelude.{◌≡◌, option_map, IfOk, IfErr, IfSome, IfNone};
 ghost use Rattle.std.specs.Arc.{arc_value};
-ghost use Rattle.nm_steps.specs.Steps.{IsOf};
+ghost use Rattle.nm_edge.specs.Layouts.{IsLayout};
+ghost use Rattle.nm_steps.specs.Steps.{HasSeen, IsOf, IsOfRun};
 ghost use Rattle.nm_epoch.specs.Collecting.{NoneHas};
 ghost use Rattle.nm_tree.specs.Resigning.{HasResigned};
 ghost use Rattle.nm_tree.specs.Workers.{Hand, IsLedger, waiting_in};
@@ -58,6 +59,16 @@ impl Member {
         ensures { result ≡ self.now.hand.pass.view.number }
     {
         self.worker.number()
+    }
+
+    /// What the worker has seen is a run of an ordered core of the set's sizes, its log is its part of that, and it has not resigned in it:
+    /// `Worker::is_of_a_run` of `nm_tree`. It does nothing.
+    pub fn is_of_a_run(&self)
+        ensures seen { HasSeen self.now.hand.pass.view }
+        ensures run { IsOfRun self.now.hand.pass.view.layout self.now.hand.pass.view.number self.now.hand.pass.view.log }
+        ensures fits { IsLayout self.now.hand.pass.view.layout }
+    {
+        self.worker.is_of_a_run();
     }
 
     /// Whether the set has the key: `Tree::has` of `nm_tree`.
