@@ -1,11 +1,14 @@
 // The set for C++17: owners of the handles of nm_set.h, which has what each call does and what its caller owes.
-// An owner can be moved and not copied; destroyed, it gives up what it owns as nm_drop does. One that was moved from is closed. A fault is thrown.
+// An owner can be moved and not copied. It is made closed, by a call that opens it, or by a move; one that was moved from is closed. `close`, or its end,
+// gives up what it owns as nm_drop does. A fault is thrown; of a call that meets faults in its daily work there is one that begins with `try_`, throws
+// nothing and answers the outcome.
 #ifndef NM_SET_HPP
 #define NM_SET_HPP
 
 #include "nm_set.h"
 
 #include <cstdint>
+#include <mutex>
 #include <optional>
 #include <stdexcept>
 #include <utility>
@@ -13,43 +16,12 @@
 
 namespace nm {
 
-// An outcome in words.
-inline const char *words(nm_outcome outcome) noexcept {
-    switch (outcome) {
-    case NM_NO: return "no";
-    case NM_YES: return "yes";
-    case NM_DONE: return "done";
-    case NM_CLOSED: return "the handle is closed";
-    case NM_OPEN: return "the handle is open already";
-    case NM_KIND: return "the handle owns something of another kind";
-    case NM_KEY: return "the key is above 2^64 - 4";
-    case NM_NUMBER: return "there is nothing of that number";
-    case NM_NODES: return "the number of nodes is not 7 to 1,048,576";
-    case NM_WORKERS: return "the number of workers is not 1 to 64";
-    case NM_NO_MEMORY: return "memory was refused";
-    case NM_BUSY: return "each try was lost";
-    case NM_FULL: return "no slots are free for the new nodes";
-    case NM_UNFINISHED: return "the delete has flagged its leaf and is not finished";
-    case NM_PENDING: return "a key is pending";
-    case NM_HELD: return "the worker is held";
-    case NM_NOT_HELD: return "the worker is not held";
-    case NM_BEHIND: return "a worker holds the epoch back";
-    case NM_LOST: return "another worker moved the epoch on first";
-    case NM_SPENT: return "the epoch is the last one";
-    case NM_AWAY: return "a worker is not at home";
-    case NM_CLOSING: return "the set is being closed";
-    case NM_NOT_ALL: return "fewer workers are at home than the set has";
-    case NM_UNCOUNTED: return "there are as many handles as can be counted";
-    }
-    return "an outcome of another library";
-}
-
 // What a call tells that has not answered.
 class Fault : public std::runtime_error {
 public:
-    explicit Fault(nm_outcome outcome) : std::runtime_error(words(outcome)), outcome_(outcome) {}
+    explicit Fault(nm_outcome outcome) : std::runtime_error(nm_outcome_text(outcome)), outcome_(outcome) {}
 
-    nm_outcome outcome() const noexcept { return outcome_; }
+    [[nodiscard]] nm_outcome outcome() const noexcept { return outcome_; }
 
 private:
     nm_outcome outcome_;
@@ -63,7 +35,7 @@ inline bool answered(nm_outcome outcome) {
     return outcome != NM_NO;
 }
 
-// Owns what its handle does.
+// Owns what its handle does. One thread at a time uses it, for a call that is const too.
 class Owner {
 public:
     Owner(Owner &&from) noexcept : handle_(std::exchange(from.handle_, nm_handle NM_CLOSED_HANDLE)) {}
@@ -78,10 +50,14 @@ public:
 
     ~Owner() { nm_drop(&handle_); }
 
+    // Whether it owns something.
+    [[nodiscard]] bool is_open() const noexcept { return handle_.at != nullptr; }
+
 protected:
     Owner() = default;
 
-    nm_handle handle_ = NM_CLOSED_HANDLE;
+    // The functions of C take what a handle owns out of it and put it back, also where nothing changes.
+    mutable nm_handle handle_ = NM_CLOSED_HANDLE;
 };
 
 }  // namespace detail
@@ -92,7 +68,7 @@ struct Advance {
     std::uint64_t epoch;
     std::uint32_t behind;
 
-    bool moved() const noexcept { return outcome == NM_DONE; }
+    [[nodiscard]] bool moved() const noexcept { return outcome == NM_DONE; }
 };
 
 // The epoch, and a bit for each worker that holds it back.
@@ -113,32 +89,50 @@ struct Slots {
     std::uint32_t reached;
 };
 
-// One worker of a set. One thread at a time uses it. Destroyed, it goes home with all that it holds.
+// One worker of a set. One thread at a time uses it.
 class Worker : public detail::Owner {
 public:
     // As many tries as calls need where few workers meet.
     static constexpr std::uint32_t tries = 64;
 
+    // A closed one.
+    Worker() = default;
+
+    // The worker goes home with all that it holds, and this is a closed owner. Of a closed one nothing changes.
+    void close() noexcept { nm_drop(&handle_); }
+
     // Whether the set has the key.
-    bool has(std::uint64_t key, std::uint32_t most = tries) { return detail::answered(nm_worker_has(&handle_, key, most)); }
+    [[nodiscard]] bool has(std::uint64_t key, std::uint32_t most = tries) { return detail::answered(try_has(key, most)); }
+
+    [[nodiscard]] nm_outcome try_has(std::uint64_t key, std::uint32_t most = tries) noexcept { return nm_worker_has(&handle_, key, most); }
 
     // Whether the key was not in the set. It is now.
-    bool insert(std::uint64_t key, std::uint32_t most = tries) { return detail::answered(nm_worker_insert(&handle_, key, most)); }
+    bool insert(std::uint64_t key, std::uint32_t most = tries) { return detail::answered(try_insert(key, most)); }
+
+    [[nodiscard]] nm_outcome try_insert(std::uint64_t key, std::uint32_t most = tries) noexcept { return nm_worker_insert(&handle_, key, most); }
 
     // Whether the key was in the set. It is not now. NM_UNFINISHED is a fault, behind which the key is pending.
-    bool erase(std::uint64_t key, std::uint32_t most = tries) { return detail::answered(nm_worker_delete(&handle_, key, most)); }
+    bool erase(std::uint64_t key, std::uint32_t most = tries) { return detail::answered(try_erase(key, most)); }
+
+    [[nodiscard]] nm_outcome try_erase(std::uint64_t key, std::uint32_t most = tries) noexcept { return nm_worker_delete(&handle_, key, most); }
 
     // Whether a pending delete has answered now. NM_UNFINISHED is a fault.
-    bool finish(std::uint32_t most = tries) { return detail::answered(nm_worker_finish(&handle_, most)); }
+    bool finish(std::uint32_t most = tries) { return detail::answered(try_finish(most)); }
+
+    [[nodiscard]] nm_outcome try_finish(std::uint32_t most = tries) noexcept { return nm_worker_finish(&handle_, most); }
 
     // Pins the epoch, and tells it.
     std::uint64_t pin(std::uint32_t most = tries) {
         std::uint64_t epoch = 0;
-        detail::answered(nm_worker_pin(&handle_, most, &epoch));
+        detail::answered(try_pin(epoch, most));
         return epoch;
     }
 
-    void unpin() { detail::answered(nm_worker_unpin(&handle_)); }
+    [[nodiscard]] nm_outcome try_pin(std::uint64_t &epoch, std::uint32_t most = tries) noexcept { return nm_worker_pin(&handle_, most, &epoch); }
+
+    void unpin() { detail::answered(try_unpin()); }
+
+    [[nodiscard]] nm_outcome try_unpin() noexcept { return nm_worker_unpin(&handle_); }
 
     // Moves the epoch on, or tells why not. Only a closed owner is a fault.
     Advance advance() {
@@ -148,7 +142,7 @@ public:
         return told;
     }
 
-    Behind behind() {
+    [[nodiscard]] Behind behind() const {
         Behind told{0, 0};
         detail::answered(nm_worker_behind(&handle_, &told.epoch, &told.mask));
         return told;
@@ -160,67 +154,79 @@ public:
         return told;
     }
 
-    std::uint32_t number() {
+    [[nodiscard]] std::uint32_t number() const {
         std::uint32_t number = 0;
         detail::answered(nm_worker_number(&handle_, &number));
         return number;
     }
 
     // How many nodes wait in the queues that it holds.
-    std::uint64_t queue_len() {
+    [[nodiscard]] std::uint64_t queue_len() const {
         std::uint64_t nodes = 0;
         detail::answered(nm_worker_queue_len(&handle_, &nodes));
         return nodes;
     }
 
     // The key of a delete that has not answered yet.
-    std::optional<std::uint64_t> pending() {
+    [[nodiscard]] std::optional<std::uint64_t> pending() const {
         std::uint64_t key = 0;
         if (!detail::answered(nm_worker_pending(&handle_, &key))) return std::nullopt;
         return key;
     }
 
     // The epoch at which it is held.
-    std::optional<std::uint64_t> held() {
+    [[nodiscard]] std::optional<std::uint64_t> held() const {
         std::uint64_t epoch = 0;
         if (!detail::answered(nm_worker_held(&handle_, &epoch))) return std::nullopt;
         return epoch;
     }
 
-    nm_ledger ledger() {
+    [[nodiscard]] nm_ledger ledger() const {
         nm_ledger told{};
         detail::answered(nm_worker_ledger(&handle_, &told));
         return told;
     }
 
     // The worker of that number, which is at home, resigns to this one.
-    void take_over(std::uint32_t leaver) { detail::answered(nm_worker_resign(&handle_, leaver)); }
+    void take_over(std::uint32_t leaver) { detail::answered(try_take_over(leaver)); }
+
+    [[nodiscard]] nm_outcome try_take_over(std::uint32_t leaver) noexcept { return nm_worker_resign(&handle_, leaver); }
 
 private:
     friend class Set;
-    Worker() = default;
 };
 
 // What a set was closed with.
 class Report : public detail::Owner {
 public:
-    Slots slots() {
+    // A closed one.
+    Report() = default;
+
+    // Forgets the report.
+    void close() noexcept { nm_drop(&handle_); }
+
+    [[nodiscard]] Slots slots() const {
         Slots told{0, 0};
         detail::answered(nm_report_slots(&handle_, &told.free, &told.reached));
         return told;
     }
 
-    // The keys of the set, ascending.
-    std::vector<std::uint64_t> keys() {
+    // How many keys the set had.
+    [[nodiscard]] std::uint64_t size() const {
         std::uint64_t count = 0;
         detail::answered(nm_report_keys(&handle_, &count));
-        std::vector<std::uint64_t> keys(count);
-        for (std::uint64_t index = 0; index < count; index++) detail::answered(nm_report_key(&handle_, index, &keys[index]));
+        return count;
+    }
+
+    // The keys of the set, ascending.
+    [[nodiscard]] std::vector<std::uint64_t> keys() const {
+        std::vector<std::uint64_t> keys(size());
+        for (std::uint64_t index = 0; index < keys.size(); index++) detail::answered(nm_report_key(&handle_, index, &keys[index]));
         return keys;
     }
 
     // How many nodes wait of those that a worker cut off.
-    std::uint64_t queue_len(std::uint32_t worker) {
+    [[nodiscard]] std::uint64_t queue_len(std::uint32_t worker) const {
         std::uint64_t nodes = 0;
         detail::answered(nm_report_queue(&handle_, worker, &nodes));
         return nodes;
@@ -235,43 +241,94 @@ public:
 
 private:
     friend class Set;
-    Report() = default;
 };
 
-// A set. One thread at a time uses it; its workers may be with other threads. It may be destroyed before them: then the last of them ends the tree.
+// A set. Several threads may take workers of one at the same time, by `worker` and by `attach`, and close it: a mutex stands before its handle. It is moved
+// and destroyed by one thread, while no other is in a call of it. Its workers are with other threads; it may be destroyed before them: then the last of
+// them ends the tree.
 class Set : public detail::Owner {
 public:
+    // The workers of a set where the caller names no number: one more than a multiple of four, so that nodes lie well in cache lines, and seven of them
+    // have numbers eight apart.
+    static constexpr std::uint32_t many = 61;
+
+    // A closed one.
+    Set() = default;
+
+    Set(Set &&from) noexcept : Owner(std::move(from)) {}
+
+    Set &operator=(Set &&from) noexcept {
+        Owner::operator=(std::move(from));
+        return *this;
+    }
+
     // The empty set, whose new nodes take the lowest free slot.
-    static Set lowest(std::uint32_t nodes, std::uint32_t workers) {
+    [[nodiscard]] static Set lowest(std::uint32_t nodes, std::uint32_t workers = many) {
         Set made;
         detail::answered(nm_set_lowest(&made.handle_, nodes, workers));
         return made;
     }
 
     // The empty set, whose workers look for free slots near by.
-    static Set near(std::uint32_t nodes, std::uint32_t workers) {
+    [[nodiscard]] static Set near(std::uint32_t nodes, std::uint32_t workers = many) {
         Set made;
         detail::answered(nm_set_near(&made.handle_, nodes, workers));
         return made;
     }
 
     // Takes the worker of a number.
-    Worker worker(std::uint32_t number) {
+    [[nodiscard]] Worker worker(std::uint32_t number) {
         Worker taken;
-        detail::answered(nm_set_worker(&handle_, &taken.handle_, number));
+        detail::answered(try_worker(taken, number));
         return taken;
+    }
+
+    // Opens a closed owner with the worker of a number.
+    [[nodiscard]] nm_outcome try_worker(Worker &into, std::uint32_t number) {
+        std::lock_guard<std::mutex> alone(taking_);
+        return nm_set_worker(&handle_, &into.handle_, number);
+    }
+
+    // Takes a worker that is at home, for this thread; numbers that lie apart come first. NM_AWAY where none is.
+    [[nodiscard]] Worker attach() {
+        Worker taken;
+        detail::answered(try_attach(taken));
+        return taken;
+    }
+
+    // Opens a closed owner with a worker that is at home.
+    [[nodiscard]] nm_outcome try_attach(Worker &into) {
+        std::lock_guard<std::mutex> alone(taking_);
+        for (std::uint32_t first : {7, 3, 5, 1, 6, 2, 4, 0}) {
+            for (std::uint32_t number = first; number < most; number += apart) {
+                nm_outcome told = nm_set_worker(&handle_, &into.handle_, number);
+                if (told == NM_NUMBER) break;
+                if (told != NM_AWAY) return told;
+            }
+        }
+        return NM_AWAY;
     }
 
     // Ends the set, which is a closed owner then. Where that is a fault it is the set still.
     Report close() {
         Report report;
-        detail::answered(nm_set_close(&handle_));
-        std::swap(report.handle_, handle_);
+        detail::answered(try_close(report));
         return report;
     }
 
+    // Ends the set, and opens a closed owner with its report. Where that is refused, also with NM_OPEN as the report is open, it is the set still.
+    [[nodiscard]] nm_outcome try_close(Report &into) {
+        if (into.is_open()) return NM_OPEN;
+        std::lock_guard<std::mutex> alone(taking_);
+        nm_outcome told = nm_set_close(&handle_);
+        if (told == NM_DONE) std::swap(into.handle_, handle_);
+        return told;
+    }
+
 private:
-    Set() = default;
+    static constexpr std::uint32_t most = 64, apart = 8;
+
+    std::mutex taking_;
 };
 
 }  // namespace nm

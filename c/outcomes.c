@@ -3,6 +3,7 @@
 #include "nm_set.h"
 
 #include <stdio.h>
+#include <string.h>
 
 enum { TRIES = 64, NOT_WRITTEN = 77 };
 
@@ -147,7 +148,17 @@ static void away(void) {
     CHECK(nm_drop(&leaver) == NM_DONE && nm_drop(&heir) == NM_DONE && nm_drop(&set) == NM_DONE);
 }
 
+/* Each outcome has words of its own, and so has a number that is none. */
+static void texts(void) {
+    for (int first = NM_UNCOUNTED - 1; first <= NM_DONE; first++)
+        for (int second = NM_UNCOUNTED - 1; second < first; second++)
+            CHECK(strcmp(nm_outcome_text((nm_outcome)first), nm_outcome_text((nm_outcome)second)) != 0);
+    CHECK(strcmp(nm_outcome_text(NM_FULL), "no slots are free for the new nodes") == 0);
+    CHECK(strcmp(nm_outcome_text((nm_outcome)(NM_DONE + 1)), nm_outcome_text((nm_outcome)(NM_UNCOUNTED - 1))) == 0);
+}
+
 int main(void) {
+    texts();
     sizes();
     kinds();
     answers();

@@ -60,7 +60,7 @@ void threads_fill_a_set() {
     for (std::uint32_t number = 0; number < threads_at_work; number++) threads.emplace_back(fill, set.worker(number * apart), number);
     for (std::thread &thread : threads) thread.join();
     nm::Report report = set.close();
-    CHECK(thrown([&] { set.worker(0); }) == NM_CLOSED);
+    CHECK(thrown([&] { (void)set.worker(0); }) == NM_CLOSED);
     std::vector<std::uint64_t> wanted;
     for (std::uint64_t key = 0; key < keys_of_each * threads_at_work; key++)
         if (key / threads_at_work % 2 == 0) wanted.push_back(key);
@@ -78,16 +78,16 @@ void threads_fill_a_set() {
 void owners_are_moved() {
     nm::Set set = nm::Set::lowest(64, 2);
     nm::Worker first = set.worker(0);
-    CHECK(thrown([&] { set.worker(0); }) == NM_AWAY && thrown([&] { set.close(); }) == NM_AWAY);
+    CHECK(thrown([&] { (void)set.worker(0); }) == NM_AWAY && thrown([&] { set.close(); }) == NM_AWAY);
     nm::Worker moved = std::move(first);
     CHECK(moved.insert(5) && !moved.insert(5) && moved.has(5) && moved.erase(5) && !moved.erase(5));
-    CHECK(thrown([&] { first.has(5); }) == NM_CLOSED && thrown([&] { first.advance(); }) == NM_CLOSED);
+    CHECK(thrown([&] { (void)first.has(5); }) == NM_CLOSED && thrown([&] { first.advance(); }) == NM_CLOSED);
     CHECK(moved.number() == 0 && moved.queue_len() == 2);
     moved = set.worker(1);
     CHECK(moved.number() == 1);
     moved.take_over(0);
-    CHECK(moved.queue_len() == 2 && thrown([&] { set.worker(0); }) == NM_AWAY);
-    CHECK(moved.pin() == 0 && moved.held() == std::optional<std::uint64_t>(0) && thrown([&] { moved.has(5); }) == NM_HELD);
+    CHECK(moved.queue_len() == 2 && thrown([&] { (void)set.worker(0); }) == NM_AWAY);
+    CHECK(moved.pin() == 0 && moved.held() == std::optional<std::uint64_t>(0) && thrown([&] { (void)moved.has(5); }) == NM_HELD);
     moved.unpin();
     CHECK(!moved.held() && thrown([&] { moved.unpin(); }) == NM_NOT_HELD);
     CHECK(moved.advance().epoch == 1 && moved.advance().epoch == 2 && moved.behind().mask == 0 && moved.collect().freed == 2);
@@ -103,12 +103,81 @@ void a_worker_outlives_its_set() {
 }
 
 void faults_are_told() {
-    CHECK(thrown([] { nm::Set::near(6, 1); }) == NM_NODES && thrown([] { nm::Set::lowest(7, 65); }) == NM_WORKERS);
+    CHECK(thrown([] { (void)nm::Set::near(6, 1); }) == NM_NODES && thrown([] { (void)nm::Set::lowest(7, 65); }) == NM_WORKERS);
     nm::Set set = nm::Set::lowest(7, 1);
     nm::Worker worker = set.worker(0);
-    CHECK(thrown([&] { worker.insert(UINT64_MAX); }) == NM_KEY && thrown([&] { worker.has(5, 0); }) == NM_BUSY);
+    CHECK(thrown([&] { worker.insert(UINT64_MAX); }) == NM_KEY && thrown([&] { (void)worker.has(5, 0); }) == NM_BUSY);
     CHECK(worker.insert(5) && thrown([&] { worker.insert(6); }) == NM_FULL);
     CHECK(thrown([&] { worker.erase(5, 1); }) == NM_UNFINISHED && worker.pending() == std::optional<std::uint64_t>(5) && worker.finish());
+}
+
+// The page's first steps: a worker that is closed lets its set be closed.
+void owners_are_closed() {
+    nm::Set set;
+    nm::Worker worker;
+    CHECK(!set.is_open() && !worker.is_open() && thrown([&] { (void)worker.has(5); }) == NM_CLOSED);
+    CHECK(set.try_worker(worker, 0) == NM_CLOSED && set.try_attach(worker) == NM_CLOSED);
+    set = nm::Set::near(8192, 2);
+    worker = set.worker(0);
+    CHECK(set.is_open() && worker.is_open() && worker.insert(5) && set.try_worker(worker, 1) == NM_OPEN);
+    nm::Report report;
+    CHECK(set.try_close(report) == NM_AWAY && set.is_open() && !report.is_open());
+    worker.close();
+    worker.close();
+    CHECK(!worker.is_open() && worker.try_insert(6) == NM_CLOSED && set.try_close(report) == NM_DONE);
+    CHECK(!set.is_open() && report.is_open() && report.size() == 1 && set.try_close(report) == NM_OPEN);
+    report.close();
+    CHECK(!report.is_open() && set.try_close(report) == NM_CLOSED);
+}
+
+// Each form that answers tells what the other one throws, and its answer where that answers.
+void outcomes_are_answered() {
+    nm::Set set = nm::Set::lowest(7, 1);
+    nm::Worker worker = set.worker(0);
+    std::uint64_t epoch = 77;
+    CHECK(worker.try_has(5) == NM_NO && worker.try_insert(5) == NM_YES && worker.try_insert(5) == NM_NO && worker.try_has(5) == NM_YES);
+    CHECK(worker.try_insert(6) == NM_FULL && worker.try_insert(UINT64_MAX) == NM_KEY && worker.try_has(5, 0) == NM_BUSY);
+    CHECK(worker.try_unpin() == NM_NOT_HELD && worker.try_pin(epoch) == NM_DONE && epoch == 0 && worker.try_has(5) == NM_HELD);
+    CHECK(worker.try_unpin() == NM_DONE && worker.try_erase(5, 1) == NM_UNFINISHED && worker.try_has(5) == NM_PENDING);
+    CHECK(worker.try_finish(0) == NM_UNFINISHED && worker.try_finish() == NM_YES && worker.try_finish() == NM_NO && worker.try_erase(5) == NM_NO);
+    CHECK(worker.try_take_over(0) == NM_AWAY && worker.try_take_over(1) == NM_NUMBER);
+}
+
+// What a worker and a report tell of themselves they tell of a const owner too.
+void const_owners_tell() {
+    nm::Set set = nm::Set::near(64, 2);
+    nm::Worker worker = set.worker(1);
+    CHECK(worker.insert(5) && worker.insert(6) && worker.erase(6));
+    const nm::Worker &seen = worker;
+    CHECK(seen.number() == 1 && seen.queue_len() == 2 && !seen.pending() && !seen.held() && seen.ledger().links == 2 && seen.behind().mask == 0);
+    worker.close();
+    const nm::Report report = set.close();
+    CHECK(report.size() == 1 && report.keys() == std::vector<std::uint64_t>{5} && report.queue_len(1) == 2 && report.slots().reached == 2);
+}
+
+// Threads that attach themselves to one set at the same time get each a worker of its own, and numbers that lie apart come first.
+void threads_attach_themselves() {
+    constexpr int rounds = 200;
+    nm::Set set = nm::Set::near(4096, 61);
+    CHECK(set.attach().number() == 7);
+    for (int round = 0; round < rounds; round++) {
+        std::uint64_t taken[threads_at_work] = {};
+        std::vector<std::thread> threads;
+        std::vector<nm::Worker> workers(threads_at_work);
+        for (std::uint32_t number = 0; number < threads_at_work; number++)
+            threads.emplace_back([&, number] {
+                workers[number] = set.attach();
+                taken[number] = 1ull << workers[number].number();
+            });
+        for (std::thread &thread : threads) thread.join();
+        CHECK((taken[0] | taken[1] | taken[2] | taken[3]) == (1ull << 7 | 1ull << 15 | 1ull << 23 | 1ull << 31));
+    }
+    std::vector<nm::Worker> all;
+    for (std::uint64_t each = 0; each < 61; each++) all.push_back(set.attach());
+    nm::Worker none;
+    CHECK(set.try_attach(none) == NM_AWAY && thrown([&] { (void)set.attach(); }) == NM_AWAY && all[7].number() == 3 && all.back().number() == 56);
+    all.clear();
+    CHECK(set.close().size() == 0);
 }
 
 }  // namespace
@@ -118,5 +187,9 @@ int main() {
     owners_are_moved();
     a_worker_outlives_its_set();
     faults_are_told();
+    owners_are_closed();
+    outcomes_are_answered();
+    const_owners_tell();
+    threads_attach_themselves();
     std::puts("owners own, move and give up");
 }
