@@ -35,6 +35,3 @@ pub fn worked_histories()
     ensures helped { IsAsTold histories.helped }
     ensures stale { IsAsTold histories.stale }
 {}
-
-#[cfg(test)]
-mod tests;

@@ -3,8 +3,6 @@
 
 mod output;
 mod run;
-#[cfg(test)]
-mod tests;
 
 pub use output::plain_files_are_runs;
 pub use run::replay;

@@ -13,6 +13,3 @@ mod threads;
 pub use gate::Gate;
 pub use many_threads::stress;
 pub use one_thread::serial;
-
-#[cfg(test)]
-mod tests;
