@@ -1,0 +1,77 @@
+//! What a set was closed with.
+
+use crate::ffi::{Handle, Waiting};
+
+/// What a set was closed with.
+#[derive(Clone, Debug, Default, PartialEq, Eq)]
+pub struct Report {
+    keys: Vec<u64>,
+    free: u32,
+    reached: u32,
+    waiting: Vec<Vec<Waiting>>,
+}
+
+impl Report {
+    /// Reads what a handle of a report tells, for so many workers.
+    pub(crate) fn of(mut handle: Handle, workers: u32) -> Report {
+        let mut report = Report::default();
+        let mut count = 0;
+        handle.slots(&mut report.free, &mut report.reached);
+        handle.keys(&mut count);
+        for index in 0..count {
+            let mut key = 0;
+            handle.key(index, &mut key);
+            report.keys.push(key);
+        }
+        report.waiting = (0..workers)
+            .map(|worker| taken(&mut handle, worker))
+            .collect();
+        report
+    }
+
+    /// The keys that the set had, ascending.
+    pub fn keys(&self) -> &[u64] {
+        &self.keys
+    }
+
+    /// How many keys the set had.
+    pub fn len(&self) -> usize {
+        self.keys.len()
+    }
+
+    /// Whether the set had no key.
+    pub fn is_empty(&self) -> bool {
+        self.keys.is_empty()
+    }
+
+    /// Whether the set had the key.
+    pub fn contains(&self, key: u64) -> bool {
+        self.keys.binary_search(&key).is_ok()
+    }
+
+    /// How many slots are free.
+    pub fn free(&self) -> u32 {
+        self.free
+    }
+
+    /// How many slots are reached from the root, the five fixed ones left out.
+    pub fn reached(&self) -> u32 {
+        self.reached
+    }
+
+    /// The nodes that wait of those that each worker cut off, oldest first, in the order of the
+    /// workers' numbers.
+    pub fn waiting(&self) -> &[Vec<Waiting>] {
+        &self.waiting
+    }
+}
+
+/// Takes all nodes out of a worker's queue.
+fn taken(handle: &mut Handle, worker: u32) -> Vec<Waiting> {
+    let mut nodes = Vec::new();
+    let mut node = Waiting::default();
+    while handle.waiting(worker, &mut node) > 0 {
+        nodes.push(node);
+    }
+    nodes
+}

@@ -1,0 +1,193 @@
+//! The set that threads share.
+
+use crate::fault::Fault;
+use crate::ffi::Handle;
+use crate::hand::{Hand, Tending};
+use crate::report::Report;
+use crate::shared::Shared;
+use crate::worker::Worker;
+use std::sync::Arc;
+
+/// Which free slot a new node takes.
+#[derive(Clone, Copy, Debug, Default, PartialEq, Eq)]
+pub enum Placement {
+    /// One near those that the worker took and gave back last.
+    #[default]
+    Near,
+    /// The lowest, which takes long where there are many.
+    Lowest,
+}
+
+/// How a set is made.
+///
+/// ```
+/// use nm_set::{Options, Placement};
+/// # fn main() -> Result<(), nm_set::Fault> {
+/// let set = Options { workers: 5, placement: Placement::Lowest, ..Options::new(1_024) }.open()?;
+/// # set.close().map(drop)
+/// # }
+/// ```
+#[derive(Clone, Debug, PartialEq, Eq)]
+pub struct Options {
+    /// The room in nodes, 7 to 1,048,576. n keys take 2 n + 5, and the removed nodes that wait take
+    /// theirs: give it several times that.
+    pub nodes: u32,
+    /// The workers, 1 to 64: so many threads can make calls at one time. One more than a multiple
+    /// of four is best for how nodes lie in cache lines.
+    pub workers: u32,
+    /// Which free slot a new node takes.
+    pub placement: Placement,
+    /// The tries of each call of the library that a tended call makes. With fewer than 2 no remove
+    /// answers at once.
+    pub tries: u32,
+    /// How many rounds a tended call has at most, before it tells [`Fault::Contention`] or
+    /// [`Fault::Unfinished`].
+    pub rounds: u32,
+    /// After how many inserts and removes a worker moves the epoch on and collects.
+    pub collect_every: u32,
+}
+
+impl Options {
+    /// So many nodes, for 61 workers, with slots near by; 64 tries, 64 rounds, and a collection
+    /// after 64 inserts and removes.
+    pub fn new(nodes: u32) -> Options {
+        Options {
+            nodes,
+            workers: 61,
+            placement: Placement::Near,
+            tries: 64,
+            rounds: 64,
+            collect_every: 64,
+        }
+    }
+
+    /// Makes the empty set. `Nodes`, `Workers`, `NoMemory`.
+    pub fn open(&self) -> Result<Set, Fault> {
+        let mut handle = Handle::closed();
+        let told = match self.placement {
+            Placement::Near => handle.open_near(self.nodes, self.workers),
+            Placement::Lowest => handle.open_lowest(self.nodes, self.workers),
+        };
+        if told < 0 {
+            return Err(Fault::of(told));
+        }
+        let tending = Tending {
+            tries: self.tries,
+            rounds: self.rounds,
+            collect_every: self.collect_every,
+        };
+        Ok(Set(Arc::new(Shared::of(handle, self.workers, tending))))
+    }
+}
+
+/// A set of the whole numbers up to [`MOST_KEY`](crate::MOST_KEY) that threads share. A clone is
+/// the same set.
+///
+/// Its calls may be made by any thread: the set gives it one of its workers for the call, mostly
+/// the one that it had before. A thread that makes many calls takes a [`Worker`] of its own by
+/// [`attach`](Set::attach), and saves the lock that this takes.
+///
+/// [`contains`](Set::contains), [`insert`](Set::insert) and [`remove`](Set::remove) **tend** the
+/// set: a call that lost its tries to other threads is made again, a remove that has begun is
+/// finished, after so many inserts and removes the epoch is moved on and the worker's removed nodes
+/// are collected, and before `Full` is told that is done for all workers that nobody uses, four
+/// times at most. A tended call has at most so many [`rounds`](Options::rounds), each of one call
+/// of the library, or two where a remove of before is pending, of at most so many
+/// [`tries`](Options::tries); where that is not enough it tells [`Fault::Contention`], or
+/// [`Fault::Unfinished`] of a remove that has begun.
+///
+/// The library's calls are proved; these loops round them are **tested and not proved**, as is all
+/// of this crate.
+///
+/// ```
+/// # fn main() -> Result<(), nm_set::Fault> {
+/// let set = nm_set::Set::new(65_536)?;
+/// std::thread::scope(|scope| {
+///     for first in 0..4 {
+///         let set = &set;
+///         scope.spawn(move || {
+///             for number in 0..1_000 {
+///                 assert_eq!(set.insert(number * 4 + first), Ok(true));
+///             }
+///         });
+///     }
+/// });
+/// assert!(set.contains(17)? && set.remove(17)? && !set.contains(17)?);
+/// assert_eq!(set.close()?.len(), 3_999);
+/// # Ok(())
+/// # }
+/// ```
+#[derive(Clone)]
+pub struct Set(Arc<Shared>);
+
+impl Set {
+    /// The empty set with room for so many nodes, made as [`Options::new`] has it. `Nodes`,
+    /// `NoMemory`.
+    pub fn new(nodes: u32) -> Result<Set, Fault> {
+        Options::new(nodes).open()
+    }
+
+    /// Takes a worker that nobody uses, for this thread; numbers that lie apart come first.
+    /// `NoWorker`, `NoMemory`, `Closed`.
+    pub fn attach(&self) -> Result<Worker, Fault> {
+        let (hand, number) = self.0.take_any()?;
+        Ok(Worker::of(Arc::clone(&self.0), hand, number))
+    }
+
+    /// Takes the worker of a number. It waits for a call that another thread makes by it at this
+    /// moment. `Number`, `Away`, `NoMemory`, `Closed`.
+    pub fn worker(&self, number: u32) -> Result<Worker, Fault> {
+        let hand = self.0.take(number)?;
+        Ok(Worker::of(Arc::clone(&self.0), hand, number))
+    }
+
+    /// Whether the set has the key. `Key`, `Contention`, `NoWorker`, `NoMemory` (to take a worker),
+    /// `Closed`.
+    pub fn contains(&self, key: u64) -> Result<bool, Fault> {
+        self.0.with_any(|hand| hand.contains(self.0.tending, key))
+    }
+
+    /// Inserts a key, and tells whether it was not in the set; it is now. `Key`, `Full`,
+    /// `NoMemory`, `Contention`, `NoWorker`, `Closed`: nothing has changed.
+    pub fn insert(&self, key: u64) -> Result<bool, Fault> {
+        let relieve = |own: &mut Hand| {
+            self.0.relieve(own);
+        };
+        self.0
+            .with_any(|hand| hand.insert(self.0.tending, relieve, key))
+    }
+
+    /// Removes a key, and tells whether it was in the set; it is not now. `Key`, `NoMemory`,
+    /// `Contention`, `NoWorker`, `Closed`: nothing has changed. `Unfinished`: the key will go.
+    pub fn remove(&self, key: u64) -> Result<bool, Fault> {
+        self.0.with_any(|hand| hand.remove(self.0.tending, key))
+    }
+
+    /// Moves the epoch on as far as can be, and frees what has waited long enough, of all workers
+    /// that nobody uses: how many nodes. `NoWorker`, `NoMemory`, `Closed`.
+    pub fn collect(&self) -> Result<u64, Fault> {
+        self.0.with_any(|hand| Ok(self.0.relieve(hand)))
+    }
+
+    /// How many workers the set has.
+    pub fn workers(&self) -> u32 {
+        self.0.workers()
+    }
+
+    /// Ends the set, and tells what stood in it. It waits for calls that other threads make of the
+    /// set at this moment; a later call tells `Closed`.
+    ///
+    /// `Away`: a [`Worker`] is not dropped yet, and all is as it was. `NoMemory`: only `close` goes
+    /// on. `Closed`: it was closed before.
+    pub fn close(&self) -> Result<Report, Fault> {
+        Ok(Report::of(self.0.end()?, self.0.workers()))
+    }
+}
+
+impl std::fmt::Debug for Set {
+    fn fmt(&self, f: &mut std::fmt::Formatter<'_>) -> std::fmt::Result {
+        f.debug_struct("Set")
+            .field("workers", &self.workers())
+            .finish_non_exhaustive()
+    }
+}

@@ -1,0 +1,209 @@
+//! What the clones of a set share: the set's handle, and a seat for each of its workers.
+//!
+//! A worker's handle stays on its seat from its first use until the set is closed, unless a
+//! [`Worker`](crate::Worker) has it. A call of a thread that has no worker takes the lock of a
+//! seat, uses the worker there, and leaves it: no thread ever waits for the lock of a seat but
+//! `close`, and a worker on its way back.
+
+use crate::fault::Fault;
+use crate::ffi::Handle;
+use crate::hand::{Hand, Tending};
+use std::cell::Cell;
+use std::sync::atomic::{AtomicU64, Ordering};
+use std::sync::{Mutex, MutexGuard, PoisonError, TryLockError};
+
+/// Where a worker is.
+pub(crate) enum Place {
+    /// At home in the set: nobody has used it yet.
+    Home,
+    /// On its seat.
+    Seated(Hand),
+    /// With a thread.
+    Away,
+}
+
+/// The place of one worker, in cache lines of its own.
+#[repr(align(128))]
+struct Seat(Mutex<Place>);
+
+pub(crate) struct Shared {
+    /// Tells the sets of a process apart.
+    identity: u64,
+    pub tending: Tending,
+    set: Mutex<Handle>,
+    seats: Vec<Seat>,
+    /// All numbers, those that lie apart first.
+    order: Vec<u32>,
+}
+
+static IDENTITIES: AtomicU64 = AtomicU64::new(1);
+
+thread_local! {
+    /// The set that this thread used last without a worker of its own, and on which seat.
+    static LAST: Cell<(u64, u32)> = const { Cell::new((0, 0)) };
+}
+
+/// The numbers below a count: those that are eight apart first, from 7 on, and each next series as
+/// far from the ones before as can be. Announcements of workers that are eight apart stand in
+/// different cache lines, and from 7 on in others than the epoch.
+fn apart(workers: u32) -> Vec<u32> {
+    [7, 3, 5, 1, 6, 2, 4, 0]
+        .into_iter()
+        .flat_map(|first| (first..workers).step_by(8))
+        .collect()
+}
+
+/// No code panics while it holds one of these locks, so a poisoned one is as good.
+fn locked<T>(mutex: &Mutex<T>) -> MutexGuard<'_, T> {
+    mutex.lock().unwrap_or_else(PoisonError::into_inner)
+}
+
+fn free<T>(mutex: &Mutex<T>) -> Option<MutexGuard<'_, T>> {
+    match mutex.try_lock() {
+        Ok(guard) => Some(guard),
+        Err(TryLockError::Poisoned(error)) => Some(error.into_inner()),
+        Err(TryLockError::WouldBlock) => None,
+    }
+}
+
+impl Shared {
+    /// What the clones of a set with an open handle share.
+    pub fn of(set: Handle, workers: u32, tending: Tending) -> Shared {
+        Shared {
+            identity: IDENTITIES.fetch_add(1, Ordering::Relaxed),
+            tending,
+            set: Mutex::new(set),
+            seats: (0..workers)
+                .map(|_| Seat(Mutex::new(Place::Home)))
+                .collect(),
+            order: apart(workers),
+        }
+    }
+
+    /// Takes a worker that is at home out of the set, and seats it. Only where the set is closed is
+    /// that a fault.
+    fn seat(&self, place: &mut Place, number: u32) -> Result<(), Fault> {
+        if let Place::Home = place {
+            let mut handle = Handle::closed();
+            let told = locked(&self.set).take(&mut handle, number);
+            if told < 0 {
+                return Err(Fault::of(told));
+            }
+            *place = Place::Seated(Hand::of(handle));
+        }
+        Ok(())
+    }
+
+    /// Takes the worker of a number from its seat.
+    pub fn take(&self, number: u32) -> Result<Hand, Fault> {
+        let seat = self.seats.get(number as usize).ok_or(Fault::Number)?;
+        self.taken(locked(&seat.0), number)?.ok_or(Fault::Away)
+    }
+
+    /// Takes a worker from its seat, of those that nobody uses at this moment: the first in the
+    /// order of their numbers.
+    pub fn take_any(&self) -> Result<(Hand, u32), Fault> {
+        for &number in &self.order {
+            let Some(place) = free(&self.seats[number as usize].0) else {
+                continue;
+            };
+            if let Some(hand) = self.taken(place, number)? {
+                return Ok((hand, number));
+            }
+        }
+        Err(Fault::NoWorker)
+    }
+
+    fn taken(&self, mut place: MutexGuard<'_, Place>, number: u32) -> Result<Option<Hand>, Fault> {
+        self.seat(&mut place, number)?;
+        match std::mem::replace(&mut *place, Place::Away) {
+            Place::Seated(hand) => Ok(Some(hand)),
+            _ => Ok(None),
+        }
+    }
+
+    /// A worker comes back to its seat.
+    pub fn receive(&self, hand: Hand, number: u32) {
+        *locked(&self.seats[number as usize].0) = Place::Seated(hand);
+    }
+
+    /// Makes a call by a worker on a seat that nobody uses at this moment: the one that this thread
+    /// used last, else the first in the order of their numbers.
+    pub fn with_any<T>(
+        &self,
+        call: impl FnOnce(&mut Hand) -> Result<T, Fault>,
+    ) -> Result<T, Fault> {
+        let (identity, number) = LAST.get();
+        let last = (identity == self.identity).then_some(number);
+        for number in last.into_iter().chain(self.order.iter().copied()) {
+            let Some(mut place) = free(&self.seats[number as usize].0) else {
+                continue;
+            };
+            self.seat(&mut place, number)?;
+            if let Place::Seated(hand) = &mut *place {
+                LAST.set((self.identity, number));
+                return call(hand);
+            }
+        }
+        Err(Fault::NoWorker)
+    }
+
+    /// Frees what can be freed, for a worker that found the set full: it moves the epoch on, and
+    /// collects its own queue and those of all workers that nobody uses at this moment. Then it
+    /// lets other threads go on, one of which may hold the epoch back. How many nodes were freed.
+    pub fn relieve(&self, own: &mut Hand) -> u64 {
+        own.advance_all();
+        let mut freed = own.collect();
+        for seat in &self.seats {
+            if let Some(mut place) = free(&seat.0) {
+                if let Place::Seated(hand) = &mut *place {
+                    freed += hand.collect();
+                }
+            }
+        }
+        std::thread::yield_now();
+        freed
+    }
+
+    /// Ends the set, where no worker is with a thread: removes that have begun are finished, the
+    /// workers go home, and the set's handle, which owns the report from then on, is handed out.
+    pub fn end(&self) -> Result<Handle, Fault> {
+        let mut places: Vec<_> = self.seats.iter().map(|seat| locked(&seat.0)).collect();
+        if places.iter().any(|place| matches!(**place, Place::Away)) {
+            return Err(Fault::Away);
+        }
+        for place in &mut places {
+            if let Place::Seated(hand) = &mut **place {
+                hand.rest(self.tending);
+            }
+            **place = Place::Home;
+        }
+        let mut set = locked(&self.set);
+        match set.end() {
+            told @ ..=-1 => Err(Fault::of(told)),
+            _ => Ok(std::mem::replace(&mut *set, Handle::closed())),
+        }
+    }
+
+    /// How many workers the set has.
+    pub fn workers(&self) -> u32 {
+        self.order.len() as u32
+    }
+}
+
+#[cfg(test)]
+mod tests {
+    use super::apart;
+
+    #[test]
+    fn numbers_that_lie_apart_come_first() {
+        assert_eq!(apart(37)[..5], [7, 15, 23, 31, 3]);
+        assert_eq!(apart(4), [3, 1, 2, 0]);
+        assert_eq!(apart(1), [0]);
+        for workers in 1..=64 {
+            let mut numbers = apart(workers);
+            numbers.sort_unstable();
+            assert_eq!(numbers, (0..workers).collect::<Vec<_>>());
+        }
+    }
+}

@@ -1,0 +1,201 @@
+//! A worker: the right of one thread at a time to make calls.
+
+use crate::fault::{answer, Fault};
+use crate::ffi::Ledger;
+use crate::hand::{Advance, Hand};
+use crate::shared::Shared;
+use std::sync::Arc;
+
+/// One worker of a [`Set`](crate::Set), for one thread at a time: each call takes it by `&mut`, and
+/// it may be sent to another thread between two calls.
+///
+/// Dropped, it goes back to its set, and can be taken again. A worker that is forgotten
+/// (`std::mem::forget`) never comes back, and its set cannot be closed.
+///
+/// [`contains`](Worker::contains), [`insert`](Worker::insert) and [`remove`](Worker::remove) tend
+/// the set, as those of [`Set`](crate::Set) do. The other calls are those of the library below,
+/// each of which makes what its contract there says and no more.
+///
+/// ```
+/// # fn main() -> Result<(), nm_set::Fault> {
+/// let set = nm_set::Set::new(1_024)?;
+/// let mut worker = set.attach()?;
+/// assert!(worker.insert(5)?);
+/// assert!(worker.contains(5)?);
+/// assert!(worker.remove(5)?);
+/// assert!(!worker.remove(5)?);
+/// # Ok(())
+/// # }
+/// ```
+///
+/// Two threads cannot use one at the same time:
+///
+/// ```compile_fail,E0499
+/// # fn main() -> Result<(), nm_set::Fault> {
+/// let set = nm_set::Set::new(1_024)?;
+/// let mut worker = set.attach()?;
+/// std::thread::scope(|scope| {
+///     scope.spawn(|| worker.insert(5));
+///     scope.spawn(|| worker.insert(6));
+/// });
+/// # Ok(())
+/// # }
+/// ```
+pub struct Worker {
+    shared: Arc<Shared>,
+    /// None only while it is dropped.
+    hand: Option<Hand>,
+    number: u32,
+}
+
+/// The epoch, and which workers hold it back.
+#[derive(Clone, Copy, Debug, PartialEq, Eq)]
+pub struct Behind {
+    /// The epoch.
+    pub epoch: u64,
+    /// Bit w is set where worker w was found announcing another epoch.
+    pub mask: u64,
+}
+
+/// The hand of a worker that is not dropped.
+fn open(hand: &mut Option<Hand>) -> &mut Hand {
+    hand.as_mut()
+        .expect("a worker has its hand until it is dropped")
+}
+
+impl Worker {
+    pub(crate) fn of(shared: Arc<Shared>, hand: Hand, number: u32) -> Worker {
+        Worker {
+            shared,
+            hand: Some(hand),
+            number,
+        }
+    }
+
+    fn hand(&mut self) -> &mut Hand {
+        open(&mut self.hand)
+    }
+
+    /// Its number, below the number of workers.
+    pub fn number(&self) -> u32 {
+        self.number
+    }
+
+    /// Whether the set has the key, tended: see [`Set::contains`](crate::Set::contains). `Key`,
+    /// `Held`, `Contention`.
+    pub fn contains(&mut self, key: u64) -> Result<bool, Fault> {
+        let tending = self.shared.tending;
+        self.hand().contains(tending, key)
+    }
+
+    /// Inserts a key, and tells whether it was not in the set, tended: see
+    /// [`Set::insert`](crate::Set::insert). `Key`, `Held`, `Full`, `NoMemory`, `Contention`.
+    pub fn insert(&mut self, key: u64) -> Result<bool, Fault> {
+        let Worker { shared, hand, .. } = self;
+        let relieve = |own: &mut Hand| {
+            shared.relieve(own);
+        };
+        open(hand).insert(shared.tending, relieve, key)
+    }
+
+    /// Removes a key, and tells whether it was in the set, tended: see
+    /// [`Set::remove`](crate::Set::remove). `Key`, `Held`, `NoMemory`, `Contention`,
+    /// `Unfinished`.
+    pub fn remove(&mut self, key: u64) -> Result<bool, Fault> {
+        let tending = self.shared.tending;
+        self.hand().remove(tending, key)
+    }
+
+    /// Whether the set has the key, by so many tries. `Key`, `Busy`, `Pending`, `Held`.
+    pub fn try_contains(&mut self, key: u64, tries: u32) -> Result<bool, Fault> {
+        answer(self.hand().handle.has(key, tries))
+    }
+
+    /// Inserts a key by so many tries, and tells whether it was not in the set. `Key`, `Busy`,
+    /// `Full`, `Pending`, `Held`, `NoMemory`.
+    pub fn try_insert(&mut self, key: u64, tries: u32) -> Result<bool, Fault> {
+        answer(self.hand().handle.insert(key, tries))
+    }
+
+    /// Removes a key by so many tries, and tells whether it was in the set; true takes two tries at
+    /// least. `Key`, `Busy`, `Unfinished`, `Pending`, `Held`, `NoMemory`.
+    pub fn try_remove(&mut self, key: u64, tries: u32) -> Result<bool, Fault> {
+        answer(self.hand().handle.delete(key, tries))
+    }
+
+    /// Goes on with the remove that is pending: true where it has answered now, false where none
+    /// is. `Unfinished`.
+    pub fn finish(&mut self, tries: u32) -> Result<bool, Fault> {
+        answer(self.hand().handle.finish(tries))
+    }
+
+    /// Pins the epoch until [`unpin`](Worker::unpin), and tells it: nothing that is in the set now
+    /// is freed meanwhile. `Busy`, `Pending`, `Held`.
+    pub fn pin(&mut self, tries: u32) -> Result<u64, Fault> {
+        let mut epoch = 0;
+        answer(self.hand().handle.pin(tries, &mut epoch)).map(|_| epoch)
+    }
+
+    /// Ends the pin. `NotHeld`.
+    pub fn unpin(&mut self) -> Result<(), Fault> {
+        answer(self.hand().handle.unpin()).map(drop)
+    }
+
+    /// Moves the epoch on by one, if no worker holds it back.
+    pub fn advance(&mut self) -> Advance {
+        self.hand().advance()
+    }
+
+    /// Which workers hold the epoch back.
+    pub fn behind(&mut self) -> Behind {
+        let (mut epoch, mut mask) = (0, 0);
+        self.hand().handle.behind(&mut epoch, &mut mask);
+        Behind { epoch, mask }
+    }
+
+    /// Frees what has waited long enough in its own queue, and tells how many nodes.
+    pub fn collect(&mut self) -> u64 {
+        self.hand().collect()
+    }
+
+    /// How many nodes wait in its queue.
+    pub fn queue_len(&mut self) -> u64 {
+        self.hand().queue_len()
+    }
+
+    /// The key of a remove that has begun and not answered yet.
+    pub fn pending(&mut self) -> Option<u64> {
+        let mut key = 0;
+        (self.hand().handle.pending(&mut key) > 0).then_some(key)
+    }
+
+    /// The epoch at which it is held.
+    pub fn held(&mut self) -> Option<u64> {
+        let mut epoch = 0;
+        (self.hand().handle.held(&mut epoch) > 0).then_some(epoch)
+    }
+
+    /// What it has won, and what became of what it cut off.
+    pub fn ledger(&mut self) -> Ledger {
+        let mut ledger = Ledger::default();
+        self.hand().handle.ledger(&mut ledger);
+        ledger
+    }
+}
+
+impl Drop for Worker {
+    fn drop(&mut self) {
+        if let Some(mut hand) = self.hand.take() {
+            hand.rest(self.shared.tending);
+            self.shared.receive(hand, self.number);
+        }
+    }
+}
+
+impl std::fmt::Debug for Worker {
+    fn fmt(&self, f: &mut std::fmt::Formatter<'_>) -> std::fmt::Result {
+        f.debug_struct("Worker")
+            .field("number", &self.number)
+            .finish_non_exhaustive()
+    }
+}
