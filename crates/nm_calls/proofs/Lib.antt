@@ -19,4 +19,3 @@ pub mod AddingDeletes
 pub mod KeptLedgers
 pub mod FreshWorkers
 pub mod Waiting
-pub mod Played

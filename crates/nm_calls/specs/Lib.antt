@@ -6,7 +6,6 @@ pub mod Walks
 pub mod Calls
 pub mod Won
 pub mod Fresh
-pub mod Plays
 pub mod Cleanups
 pub mod Leaving
 pub mod Moments

@@ -13,8 +13,6 @@ mod lookup;
 mod making;
 mod marking;
 mod spot;
-#[cfg(test)]
-mod tests;
 mod walking;
 
 pub use cleaning::{CUT_BOUND, CutNodes, cleanup};

@@ -18,8 +18,3 @@ pub mod Newest
 pub mod Steps
 pub mod FewFreed
 pub mod Labels
-pub mod Playing
-pub mod InsertingFive
-pub mod DeletingFive
-pub mod HelpingFive
-pub mod CollectingTwo

@@ -3,4 +3,3 @@ pub mod Tries
 pub mod Scans
 pub mod Watches
 pub mod Collecting
-pub mod Plays

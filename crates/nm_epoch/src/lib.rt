@@ -10,8 +10,6 @@ mod leaving;
 mod looking;
 mod moving;
 mod pinning;
-#[cfg(test)]
-mod tests;
 mod watching;
 
 pub use answers::{Advance, Behind, Moved};

@@ -4,8 +4,6 @@
 mod nodes;
 mod placement;
 mod slots;
-#[cfg(test)]
-mod tests;
 
 pub use nodes::{claim, give};
 pub use placement::{Fit, Placement, claim_by};

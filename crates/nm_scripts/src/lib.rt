@@ -5,5 +5,3 @@ pub mod call;
 pub mod header;
 pub mod line;
 pub mod script;
-#[cfg(test)]
-mod tests;

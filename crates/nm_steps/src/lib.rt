@@ -11,6 +11,3 @@ mod view;
 pub use answers::Sighted;
 pub use pass::{Note, Pass, Shared, Words};
 pub use view::{Does, Doing, Held, Law, View};
-
-#[cfg(test)]
-mod tests;

@@ -2,10 +2,24 @@
 #![tactic(auto)]
 
 #[cfg(test)]
+mod calls;
+#[cfg(test)]
 mod core_calls;
+#[cfg(test)]
+mod epochs;
 #[cfg(test)]
 mod gates;
 #[cfg(test)]
+mod hands;
+#[cfg(test)]
 mod many;
+#[cfg(test)]
+mod near_claims;
+#[cfg(test)]
+mod passes;
+#[cfg(test)]
+mod pools;
+#[cfg(test)]
+mod reports;
 #[cfg(test)]
 mod streams;

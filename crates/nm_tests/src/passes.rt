@@ -1,0 +1,66 @@
+//! The passes of a new table, for tests that make calls over passes.
+ghost use Rattle.std.specs.Prelude.{◌≡◌, length};
+ghost use Rattle.nm_steps.specs.Steps.{AreFresh, IsOf};
+ghost use Rattle.nm_calls.specs.Fresh.{HasDoneNothing};
+
+use nm_steps::{Pass, Shared};
+
+/// The pass of a table of one worker.
+#[tactic(auto, using(nm_calls::proofs::FreshWorkers::fresh_worker))]
+pub(super) fn only(shared: &Shared, mut passes: Vec<Pass>) -> Pass
+    requires workers { shared.now.layout.workers ≡ 1 }
+    requires one { length passes.items ≡ 1 }
+    requires fresh { AreFresh shared.now 0 passes.items }
+    ensures own { IsOf shared.now result }
+    ensures new { HasDoneNothing result }
+{
+    let Some(pass) = passes.pop() else {
+        unreachable!()
+    };
+    pass
+}
+
+/// The two passes of a table of two workers.
+#[tactic(auto, using(nm_calls::proofs::FreshWorkers::fresh_worker))]
+pub(super) fn both(shared: &Shared, mut passes: Vec<Pass>) -> (Pass, Pass)
+    requires workers { shared.now.layout.workers ≡ 2 }
+    requires two { length passes.items ≡ 2 }
+    requires fresh { AreFresh shared.now 0 passes.items }
+    ensures first { IsOf shared.now result.0 }
+    ensures first_new { HasDoneNothing result.0 }
+    ensures second { IsOf shared.now result.1 }
+    ensures second_new { HasDoneNothing result.1 }
+{
+    let Some(second) = passes.pop() else {
+        unreachable!()
+    };
+    let Some(first) = passes.pop() else {
+        unreachable!()
+    };
+    (first, second)
+}
+
+/// The three passes of a table of three workers.
+#[tactic(auto, using(nm_calls::proofs::FreshWorkers::fresh_worker))]
+pub(super) fn three(shared: &Shared, mut passes: Vec<Pass>) -> (Pass, Pass, Pass)
+    requires workers { shared.now.layout.workers ≡ 3 }
+    requires three { length passes.items ≡ 3 }
+    requires fresh { AreFresh shared.now 0 passes.items }
+    ensures first { IsOf shared.now result.0 }
+    ensures first_new { HasDoneNothing result.0 }
+    ensures second { IsOf shared.now result.1 }
+    ensures second_new { HasDoneNothing result.1 }
+    ensures third { IsOf shared.now result.2 }
+    ensures third_new { HasDoneNothing result.2 }
+{
+    let Some(third) = passes.pop() else {
+        unreachable!()
+    };
+    let Some(second) = passes.pop() else {
+        unreachable!()
+    };
+    let Some(first) = passes.pop() else {
+        unreachable!()
+    };
+    (first, second, third)
+}
