@@ -1,0 +1,578 @@
+"""The set, its workers, and the loops that tend it.
+
+A worker's handle stays on its seat from its first use until the set is closed, unless a `Worker`
+has it. A call of a thread that has no worker takes the lock of a seat, mostly the one that the
+thread used before, and makes the call by the worker there. No thread waits for the lock of a seat
+but `close`, `Set.worker`, and a worker on its way back.
+"""
+
+from __future__ import annotations
+
+import operator
+import threading
+import time
+from bisect import bisect_left
+from collections import deque
+from collections.abc import Iterator
+from ctypes import c_uint32, c_uint64
+from dataclasses import dataclass
+from types import TracebackType
+from typing import Callable, Optional, SupportsIndex, TypeVar
+
+from . import _library as c
+from ._faults import NoWorker, fault, told
+
+MOST_KEY = 2**64 - 4
+"""The greatest key."""
+
+_RELIEFS = 4  # how often a call that found the set full collects and goes on
+_MOVES = 3  # how often a relief moves the epoch on at most
+_T = TypeVar("_T")
+
+
+def _key(key: SupportsIndex) -> int:
+    number = operator.index(key)
+    if not 0 <= number <= MOST_KEY:
+        raise fault(c.KEY)
+    return number
+
+
+def _narrow(number: SupportsIndex, outcome: int) -> int:
+    """A number that C takes in 32 bits."""
+    value = operator.index(number)
+    if not 0 <= value < 2**32:
+        raise fault(outcome)
+    return value
+
+
+def apart(workers: int) -> list[int]:
+    """The numbers below a count: those that are eight apart first, from 7 on, since their
+    announcements stand in different cache lines, and each next series as far from the ones before
+    as can be."""
+    return [number for first in (7, 3, 5, 1, 6, 2, 4, 0) for number in range(first, workers, 8)]
+
+
+@dataclass(frozen=True)
+class Tending:
+    """What a call that tends the set may spend."""
+
+    tries: int = 64
+    """The tries of each call of the library. With fewer than 2 no discard answers at once."""
+    rounds: int = 64
+    """The rounds of one call at most: each is one call of the library, or two where a discard of
+    before is pending."""
+    collect_every: int = 64
+    """After how many adds and discards a worker moves the epoch on and collects."""
+
+
+@dataclass(frozen=True)
+class Ledger:
+    """What a worker has won, and what became of the nodes that it cut off."""
+
+    links: int
+    flags: int
+    splices: int
+    retired: int
+    freed: int
+    queued: int
+
+
+@dataclass(frozen=True)
+class Waiting:
+    """A node that waited in a worker's queue when the set was closed."""
+
+    slot: int
+    birth: int
+    label: int
+
+
+@dataclass(frozen=True)
+class Report:
+    """What a set was closed with."""
+
+    keys: tuple[int, ...]
+    """The keys of the set, ascending."""
+    free: int
+    """How many slots are free."""
+    reached: int
+    """How many slots are reached from the root, the five fixed ones left out."""
+    waiting: tuple[tuple[Waiting, ...], ...]
+    """The nodes that wait of those that each worker cut off, oldest first, in the order of the
+    workers' numbers."""
+
+    def __len__(self) -> int:
+        return len(self.keys)
+
+    def __iter__(self) -> Iterator[int]:
+        return iter(self.keys)
+
+    def __contains__(self, key: SupportsIndex) -> bool:
+        number = operator.index(key)
+        place = bisect_left(self.keys, number)
+        return place < len(self.keys) and self.keys[place] == number
+
+
+class _Handle:
+    """A handle, which gives up what it owns."""
+
+    def __init__(self) -> None:
+        self.word = c.Handle()
+
+    def drop(self) -> None:
+        c.library.nm_drop(self.word)
+
+    def __del__(self) -> None:
+        if c is not None and self.word.at:
+            self.drop()
+
+
+class _Hand:
+    """The handle of an open worker, for one thread at a time."""
+
+    def __init__(self, handle: _Handle) -> None:
+        self.handle = handle
+        self.word = handle.word
+        self.changes = 0
+
+    def _tended(
+        self,
+        tending: Tending,
+        call: Callable[[c.Handle, int], int],
+        relieve: Callable[[_Hand], object],
+    ) -> bool:
+        """Makes a call until it has answered: one that lost its tries again, one that met a pending
+        key once that is finished, one that met a full set once `relieve` was called. A discard that
+        has begun is finished."""
+        reliefs = 0
+        for made in range(1, tending.rounds + 1):
+            outcome = call(self.word, tending.tries)
+            if outcome == c.UNFINISHED:
+                return self._finished(tending, made)
+            if outcome == c.PENDING:
+                c.library.nm_worker_finish(self.word, tending.tries)
+            elif outcome == c.FULL and reliefs < _RELIEFS:
+                reliefs += 1
+                relieve(self)
+            elif outcome != c.BUSY:
+                return told(outcome)
+        raise fault(c.BUSY)
+
+    def _finished(self, tending: Tending, made: int) -> bool:
+        for _ in range(made, tending.rounds):
+            outcome = c.library.nm_worker_finish(self.word, tending.tries)
+            if outcome != c.UNFINISHED:
+                return told(outcome)
+        raise fault(c.UNFINISHED)
+
+    def has(self, tending: Tending, key: int) -> bool:
+        has = c.library.nm_worker_has
+        return self._tended(tending, lambda word, tries: has(word, key, tries), _nothing)
+
+    def add(self, tending: Tending, key: int, relieve: Callable[[_Hand], object]) -> bool:
+        self._count(tending)
+        insert = c.library.nm_worker_insert
+        return self._tended(tending, lambda word, tries: insert(word, key, tries), relieve)
+
+    def discard(self, tending: Tending, key: int) -> bool:
+        self._count(tending)
+        delete = c.library.nm_worker_delete
+        return self._tended(tending, lambda word, tries: delete(word, key, tries), _nothing)
+
+    def _count(self, tending: Tending) -> None:
+        self.changes += 1
+        if self.changes < tending.collect_every:
+            return
+        self.changes = 0
+        if self.queue_len():
+            self.advance()
+            self.collect()
+
+    def advance(self) -> bool:
+        """Moves the epoch on by one: whether it has moved, by this worker or by another one."""
+        epoch, behind = c_uint64(), c_uint32()
+        return c.library.nm_worker_advance(self.word, epoch, behind) not in (c.BEHIND, c.SPENT)
+
+    def advance_all(self) -> None:
+        for _ in range(_MOVES):
+            if not self.advance():
+                return
+
+    def collect(self) -> int:
+        epoch, freed = c_uint64(), c_uint64()
+        c.library.nm_worker_collect(self.word, epoch, freed)
+        return freed.value
+
+    def queue_len(self) -> int:
+        nodes = c_uint64()
+        c.library.nm_worker_queue_len(self.word, nodes)
+        return nodes.value
+
+    def rest(self, tending: Tending) -> None:
+        """Gets the worker ready to rest: it holds nothing back, and its discard is finished where
+        the bound allows."""
+        c.library.nm_worker_unpin(self.word)
+        for _ in range(tending.rounds):
+            if c.library.nm_worker_finish(self.word, tending.tries) >= 0:
+                return
+
+
+def _nothing(hand: _Hand) -> None:
+    """No relief: a lookup and a discard take no slots."""
+
+
+class _Seat:
+    """The place of one worker. `hand` is None while the worker is in the set, or with a thread."""
+
+    def __init__(self) -> None:
+        self.lock = threading.Lock()
+        self.hand: Optional[_Hand] = None
+        self.is_away = False
+
+
+class Set:
+    """A set of the whole numbers from 0 to 2^64 - 4 that threads share without locks.
+
+    Any thread may call it: the set gives it one of its workers for the call, mostly the one that it
+    had before. A thread that makes many calls takes a `Worker` of its own by `attach`.
+
+    The calls tend the set: one that lost its tries to other threads is made again, a discard that
+    has begun is finished, after so many adds and discards the epoch is moved on and the worker's
+    removed nodes are collected, and before `Full` is raised that is done for all workers that
+    nobody uses, four times at most. What a call may spend is bounded by `Tending`; where that is
+    not enough `Contention` is raised, or `Unfinished` of a discard that has begun. The library's
+    calls are proved; these loops are tested and not proved.
+
+    In a child that was forked of a process with threads, no set may be used.
+    """
+
+    def __init__(
+        self,
+        nodes: SupportsIndex,
+        *,
+        workers: SupportsIndex = 61,
+        lowest: bool = False,
+        tending: Tending = Tending(),
+    ) -> None:
+        """The empty set with room for 7 to 1,048,576 nodes, for 1 to 64 workers; n keys take 2 n +
+        5 nodes, and the removed nodes that wait take theirs. With `lowest` new nodes take the
+        lowest free slot, which takes long where there are many."""
+        self._handle = _Handle()
+        room, count = _narrow(nodes, c.NODES), _narrow(workers, c.WORKERS)
+        make = c.library.nm_set_lowest if lowest else c.library.nm_set_near
+        told(make(self._handle.word, room, count))
+        self._tending = tending
+        self._taking = threading.RLock()
+        self._lost: deque[tuple[_Hand, int]] = deque()
+        self._seats = [_Seat() for _ in range(count)]
+        self._order = apart(count)
+        self._last = threading.local()
+        self._report: Optional[Report] = None
+
+    def _seated(self, number: int) -> Optional[_Hand]:
+        """The worker on a seat whose lock this thread has, taken out of the set where nobody has
+        used it yet."""
+        seat = self._seats[number]
+        if seat.hand is None and not seat.is_away:
+            handle = _Handle()
+            with self._taking:
+                told(c.library.nm_set_worker(self._handle.word, handle.word, number))
+            seat.hand = _Hand(handle)
+            seat.hand.rest(self._tending)
+        return seat.hand
+
+    def _with_any(self, call: Callable[[_Hand], _T]) -> _T:
+        """Makes a call by a worker that nobody uses at this moment: the one that this thread used
+        last, else the first by number."""
+        if self._lost:
+            self._find()
+        last: Optional[int] = getattr(self._last, "number", None)
+        for number in self._order if last is None else [last, *self._order]:
+            seat = self._seats[number]
+            if not seat.lock.acquire(blocking=False):
+                continue
+            try:
+                hand = self._seated(number)
+                if hand is not None:
+                    self._last.number = number
+                    return call(hand)
+            finally:
+                seat.lock.release()
+        raise NoWorker("each worker is with another thread")
+
+    def _relieve(self, own: _Hand) -> int:
+        """Frees what can be freed, in the queues of a worker and of all that nobody uses; then lets
+        other threads go on."""
+        own.advance_all()
+        freed = own.collect()
+        for seat in self._seats:
+            if seat.lock.acquire(blocking=False):
+                try:
+                    if seat.hand is not None:
+                        freed += seat.hand.collect()
+                finally:
+                    seat.lock.release()
+        time.sleep(0)
+        return freed
+
+    def __contains__(self, key: SupportsIndex) -> bool:
+        number = _key(key)
+        return self._with_any(lambda hand: hand.has(self._tending, number))
+
+    def add(self, key: SupportsIndex) -> bool:
+        """Adds a key: True where it was not in the set."""
+        number = _key(key)
+        return self._with_any(lambda hand: hand.add(self._tending, number, self._relieve))
+
+    def discard(self, key: SupportsIndex) -> bool:
+        """Removes a key: True where it was in the set."""
+        number = _key(key)
+        return self._with_any(lambda hand: hand.discard(self._tending, number))
+
+    def remove(self, key: SupportsIndex) -> None:
+        """Removes a key, or raises KeyError where it was not in the set."""
+        if not self.discard(key):
+            raise KeyError(key)
+
+    def collect(self) -> int:
+        """Moves the epoch on as far as can be, and frees what has waited long enough, of all
+        workers that nobody uses: how many nodes."""
+        return self._with_any(self._relieve)
+
+    def attach(self) -> Worker:
+        """Takes a worker that nobody uses, for this thread; numbers that lie apart come first. It
+        goes back by its `close`."""
+        self._find()
+        for number in self._order:
+            if self._seats[number].lock.acquire(blocking=False):
+                taken = self._taken(number)
+                if taken is not None:
+                    return taken
+        raise NoWorker("each worker is with another thread")
+
+    def worker(self, number: SupportsIndex) -> Worker:
+        """Takes the worker of a number. It waits for a call that another thread makes by it at this
+        moment."""
+        index = operator.index(number)
+        if not 0 <= index < len(self._seats):
+            raise fault(c.NUMBER)
+        self._find()
+        self._seats[index].lock.acquire()
+        taken = self._taken(index)
+        if taken is None:
+            raise fault(c.AWAY)
+        return taken
+
+    def _taken(self, number: int) -> Optional[Worker]:
+        """Takes the worker from a seat whose lock this thread has, and gives the lock back."""
+        seat = self._seats[number]
+        try:
+            hand = self._seated(number)
+            if hand is None:
+                return None
+            seat.hand, seat.is_away = None, True
+            return Worker(self, hand, number)
+        finally:
+            seat.lock.release()
+
+    def _receive(self, hand: _Hand, number: int) -> None:
+        hand.rest(self._tending)
+        seat = self._seats[number]
+        with seat.lock:
+            seat.hand, seat.is_away = hand if hand.word.at else None, False
+
+    def _find(self) -> None:
+        """Takes back the workers whose objects have ended. Those ends may come at any moment, also
+        while a seat's lock is held, so they leave the workers in a list. Where the object was part
+        of a ring, its handle has ended with it, and the worker is in the set again."""
+        while True:
+            try:
+                hand, number = self._lost.popleft()
+            except IndexError:
+                return
+            self._receive(hand, number)
+
+    def close(self) -> Report:
+        """Ends the set, and tells what stood in it, where no `Worker` is out; of a set that is
+        closed it tells the same again. It waits for calls that other threads make at this moment; a
+        later call raises `Closed`."""
+        self._find()
+        for seat in self._seats:
+            seat.lock.acquire()
+        try:
+            if self._report is None:
+                self._report = self._ended()
+            return self._report
+        finally:
+            for seat in self._seats:
+                seat.lock.release()
+
+    def _ended(self) -> Report:
+        if any(seat.is_away for seat in self._seats):
+            raise fault(c.AWAY)
+        for seat in self._seats:
+            if seat.hand is not None:
+                seat.hand.rest(self._tending)
+                seat.hand.handle.drop()
+                seat.hand = None
+        with self._taking:
+            told(c.library.nm_set_close(self._handle.word))
+            report = _report(self._handle.word, len(self._seats))
+            self._handle.drop()
+        return report
+
+    @property
+    def report(self) -> Report:
+        """What the set was closed with. It raises `Away` while the set is open."""
+        if self._report is None:
+            raise fault(c.AWAY)
+        return self._report
+
+    def __enter__(self) -> Set:
+        return self
+
+    def __exit__(
+        self,
+        kind: Optional[type[BaseException]],
+        error: Optional[BaseException],
+        trace: Optional[TracebackType],
+    ) -> None:
+        self.close()
+
+
+def _report(word: c.Handle, workers: int) -> Report:
+    """Reads the report that a handle owns."""
+    free, reached = c_uint32(), c_uint32()
+    count, key, node = c_uint64(), c_uint64(), c.WaitingWords()
+    told(c.library.nm_report_slots(word, free, reached))
+    told(c.library.nm_report_keys(word, count))
+    keys = []
+    for index in range(count.value):
+        told(c.library.nm_report_key(word, index, key))
+        keys.append(key.value)
+    waiting = []
+    for worker in range(workers):
+        nodes = []
+        while told(c.library.nm_report_waiting(word, worker, node)):
+            nodes.append(Waiting(node.slot, node.birth, node.label))
+        waiting.append(tuple(nodes))
+    return Report(tuple(keys), free.value, reached.value, tuple(waiting))
+
+
+class Worker:
+    """One worker of a set, for one thread at a time: a call while another thread is in one raises
+    `NoWorker`.
+
+    `close`, or the end of its `with`, sends it back to its set; so does the end of the object
+    itself.
+    """
+
+    def __init__(self, owner: Set, hand: _Hand, number: int) -> None:
+        self._set, self._number = owner, number
+        self._hand: Optional[_Hand] = hand
+        self._lock = threading.Lock()
+
+    def _with(self, call: Callable[[_Hand], _T]) -> _T:
+        if not self._lock.acquire(blocking=False):
+            raise NoWorker("the worker is in a call of another thread")
+        try:
+            if self._hand is None:
+                raise fault(c.CLOSED)
+            return call(self._hand)
+        finally:
+            self._lock.release()
+
+    @property
+    def number(self) -> int:
+        """Its number, below the number of workers."""
+        return self._number
+
+    def __contains__(self, key: SupportsIndex) -> bool:
+        number = _key(key)
+        return self._with(lambda hand: hand.has(self._set._tending, number))
+
+    def add(self, key: SupportsIndex) -> bool:
+        """Adds a key: True where it was not in the set."""
+        number = _key(key)
+        return self._with(lambda hand: hand.add(self._set._tending, number, self._set._relieve))
+
+    def discard(self, key: SupportsIndex) -> bool:
+        """Removes a key: True where it was in the set."""
+        number = _key(key)
+        return self._with(lambda hand: hand.discard(self._set._tending, number))
+
+    def remove(self, key: SupportsIndex) -> None:
+        """Removes a key, or raises KeyError where it was not in the set."""
+        if not self.discard(key):
+            raise KeyError(key)
+
+    def pin(self, tries: int = 64) -> int:
+        """Pins the epoch until `unpin`, and tells it: nothing that is in the set now is freed
+        meanwhile."""
+
+        def call(hand: _Hand) -> int:
+            epoch = c_uint64()
+            told(c.library.nm_worker_pin(hand.word, tries, epoch))
+            return epoch.value
+
+        return self._with(call)
+
+    def unpin(self) -> None:
+        """Ends the pin."""
+        self._with(lambda hand: told(c.library.nm_worker_unpin(hand.word)))
+
+    def collect(self) -> int:
+        """Moves the epoch on as far as can be, and frees what has waited long enough in its own
+        queue: how many nodes."""
+
+        def call(hand: _Hand) -> int:
+            hand.advance_all()
+            return hand.collect()
+
+        return self._with(call)
+
+    def pending(self) -> Optional[int]:
+        """The key of a discard that has begun and not answered yet."""
+
+        def call(hand: _Hand) -> Optional[int]:
+            key = c_uint64()
+            return key.value if told(c.library.nm_worker_pending(hand.word, key)) else None
+
+        return self._with(call)
+
+    def queue_len(self) -> int:
+        """How many nodes wait in its queue."""
+        return self._with(lambda hand: hand.queue_len())
+
+    def ledger(self) -> Ledger:
+        """What it has won, and what became of what it cut off."""
+
+        def call(hand: _Hand) -> Ledger:
+            words = c.LedgerWords()
+            told(c.library.nm_worker_ledger(hand.word, words))
+            return Ledger(*(getattr(words, name) for name, _ in words._fields_))
+
+        return self._with(call)
+
+    def close(self) -> None:
+        """The worker goes back to its set; its discard is finished where the bound allows, and its
+        pin is ended."""
+        with self._lock:
+            hand, self._hand = self._hand, None
+        if hand is not None:
+            self._set._receive(hand, self._number)
+
+    def __enter__(self) -> Worker:
+        return self
+
+    def __exit__(
+        self,
+        kind: Optional[type[BaseException]],
+        error: Optional[BaseException],
+        trace: Optional[TracebackType],
+    ) -> None:
+        self.close()
+
+    def __del__(self) -> None:
+        hand = getattr(self, "_hand", None)
+        if hand is not None:
+            self._set._lost.append((hand, self._number))

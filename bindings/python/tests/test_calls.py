@@ -1,0 +1,232 @@
+"""Each call by one thread, and each fault that one thread can meet."""
+
+import gc
+import typing
+import unittest
+
+import nm_set
+from nm_set import MOST_KEY, Set, Tending
+
+
+class Sizes(unittest.TestCase):
+    def test_sizes_are_told(self) -> None:
+        wrong_nodes = [(6, 1), (1_048_577, 1), (-1, 1), (2**64, 1)]
+        for nodes, workers in [*wrong_nodes, (7, 0), (7, 65), (7, 2**32 + 1)]:
+            with self.assertRaises(nm_set.OutOfRange):
+                Set(nodes, workers=workers)
+        with self.assertRaises(TypeError):
+            Set("64")  # type: ignore[arg-type]
+        with Set(7, workers=1) as numbers:
+            self.assertTrue(numbers.add(5))
+
+
+class Keys(unittest.TestCase):
+    def test_keys_come_and_go(self) -> None:
+        for lowest in (False, True):
+            with Set(64, lowest=lowest) as numbers:
+                self.assertNotIn(5, numbers)
+                self.assertEqual((numbers.add(5), numbers.add(5)), (True, False))
+                self.assertIn(5, numbers)
+                self.assertEqual((numbers.discard(5), numbers.discard(5)), (True, False))
+                self.assertNotIn(5, numbers)
+                self.assertTrue(numbers.add(MOST_KEY) and numbers.add(0) and numbers.add(9))
+                numbers.remove(9)
+                with self.assertRaises(KeyError):
+                    numbers.remove(9)
+            report = numbers.report
+            self.assertEqual((report.keys, len(report)), ((0, MOST_KEY), 2))
+            self.assertEqual(list(report), [0, MOST_KEY])
+            self.assertTrue(0 in report and MOST_KEY in report and 9 not in report)
+            self.assertEqual((report.reached, report.free + sum(map(len, report.waiting))), (4, 55))
+
+    def test_what_is_no_key_is_told(self) -> None:
+        with Set(64) as numbers:
+            for key in (MOST_KEY + 1, 2**64, 2**64 + 5, -1):
+                for call in (numbers.add, numbers.discard, numbers.__contains__, numbers.remove):
+                    with self.assertRaises(nm_set.OutOfRange):
+                        call(key)
+            for other in ("5", 5.0, None):
+                with self.assertRaises(TypeError):
+                    numbers.add(other)  # type: ignore[arg-type]
+        self.assertEqual(len(numbers.report), 0)
+
+    def test_faults_are_exceptions_of_python_too(self) -> None:
+        self.assertTrue(issubclass(nm_set.NoMemory, MemoryError))
+        self.assertTrue(issubclass(nm_set.OutOfRange, ValueError))
+        numbers = Set(7)
+        numbers.add(5)
+        with self.assertRaises(nm_set.Full) as raised:
+            numbers.add(6)
+        self.assertEqual(raised.exception.outcome, -10)
+        self.assertEqual(str(raised.exception), "no slots are free for the new nodes")
+
+
+class Workers(unittest.TestCase):
+    def test_a_worker_has_its_calls(self) -> None:
+        with Set(64, workers=2) as numbers:
+            with numbers.worker(1) as worker:
+                self.assertEqual(worker.number, 1)
+                self.assertTrue(worker.add(5) and 5 in worker)
+                self.assertTrue(worker.discard(5) and 5 not in worker)
+                self.assertEqual((worker.queue_len(), worker.ledger().retired), (2, 2))
+                self.assertIsNone(worker.pending())
+                self.assertEqual((worker.collect(), worker.queue_len()), (2, 0))
+                self.assertEqual(worker.ledger(), nm_set.Ledger(1, 1, 1, 2, 2, 0))
+                self.assertEqual(worker.pin(), 3)
+                with self.assertRaises(nm_set.Held):
+                    worker.add(6)
+                worker.unpin()
+                with self.assertRaises(nm_set.Held):
+                    worker.unpin()
+            with self.assertRaises(nm_set.Closed):
+                worker.add(6)
+
+    def test_workers_are_given_out_once(self) -> None:
+        numbers = Set(64, workers=2)
+        first, second = numbers.attach(), numbers.attach()
+        self.assertEqual((first.number, second.number), (1, 0))
+        for number in (0, 1):
+            with self.assertRaises(nm_set.Away):
+                numbers.worker(number)
+        for number in (-1, 2, 2**40):
+            with self.assertRaises(nm_set.OutOfRange):
+                numbers.worker(number)
+        with self.assertRaises(nm_set.NoWorker):
+            numbers.attach()
+        with self.assertRaises(nm_set.NoWorker):
+            numbers.add(5)
+        second.close()
+        second.close()
+        self.assertTrue(numbers.add(5))
+        self.assertEqual(numbers.attach().number, 0)
+
+    def test_a_worker_whose_object_ends_goes_back(self) -> None:
+        numbers = Set(64, workers=1)
+        numbers.attach()
+        self.assertTrue(numbers.add(5))
+        worker = numbers.attach()
+        worker.pin()
+        ring = [worker]
+        ring.append(ring)  # type: ignore[arg-type]
+        del worker, ring
+        gc.collect()
+        self.assertTrue(5 in numbers and numbers.add(6))
+        self.assertEqual(len(numbers.close()), 2)
+
+    def test_one_thread_at_a_time_uses_a_worker(self) -> None:
+        with Set(64).attach() as worker:
+            with worker._lock:
+                with self.assertRaises(nm_set.NoWorker):
+                    worker.add(5)
+            self.assertTrue(worker.add(5))
+
+    def test_numbers_that_lie_apart_come_first(self) -> None:
+        numbers = Set(64, workers=37)
+        workers = [numbers.attach() for _ in range(37)]
+        self.assertEqual([worker.number for worker in workers[:5]], [7, 15, 23, 31, 3])
+        self.assertEqual(sorted(worker.number for worker in workers), list(range(37)))
+
+
+class Ends(unittest.TestCase):
+    def test_a_set_is_closed_once_no_worker_is_out(self) -> None:
+        numbers = Set(64)
+        worker = numbers.attach()
+        worker.add(5)
+        with self.assertRaises(nm_set.Away):
+            numbers.close()
+        with self.assertRaises(nm_set.Away):
+            numbers.report
+        self.assertTrue(5 in worker and 5 in numbers)
+        worker.close()
+        report = numbers.close()
+        self.assertEqual((report.keys, numbers.close(), numbers.report), ((5,), report, report))
+        for call in (numbers.add, numbers.discard, numbers.__contains__):
+            with self.assertRaises(nm_set.Closed):
+                call(5)
+        with self.assertRaises(nm_set.Closed):
+            numbers.attach()
+
+    def test_a_worker_outlives_its_set(self) -> None:
+        worker = Set(64).attach()
+        gc.collect()
+        self.assertTrue(worker.add(5) and 5 in worker)
+
+    def test_a_report_tells_what_waits(self) -> None:
+        numbers = Set(64, workers=3)
+        with numbers.worker(1) as worker:
+            worker.add(5)
+            worker.discard(5)
+        waiting = numbers.close().waiting
+        self.assertEqual([len(nodes) for nodes in waiting], [0, 2, 0])
+        for node in waiting[1]:
+            self.assertTrue(node.slot > 5 and node.birth == 1 and node.label == 0)
+
+
+class Tended(unittest.TestCase):
+    def test_a_discard_that_has_begun_is_finished(self) -> None:
+        with Set(64, tending=Tending(tries=1)) as numbers:
+            with numbers.attach() as worker:
+                for key in range(10):
+                    self.assertTrue(worker.add(key) and worker.discard(key) and key not in worker)
+                    self.assertIsNone(worker.pending())
+
+    def test_contention_is_told_at_the_bound(self) -> None:
+        with Set(64, tending=Tending(tries=1, rounds=1)) as numbers:
+            with numbers.attach() as worker:
+                worker.add(5)
+                with self.assertRaises(nm_set.Unfinished):
+                    worker.discard(5)
+                self.assertEqual(worker.pending(), 5)
+                with self.assertRaises(nm_set.Contention):
+                    worker.add(6)
+                self.assertTrue(worker.pending() is None and 5 not in worker)
+        with Set(64, tending=Tending(tries=0)) as numbers:
+            for call in (numbers.add, numbers.discard, numbers.__contains__):
+                with self.assertRaises(nm_set.Contention):
+                    call(5)
+
+    def test_full_is_told_only_behind_a_collection(self) -> None:
+        with Set(7, workers=2) as numbers:
+            for key in range(100):
+                self.assertTrue(numbers.add(key) and numbers.discard(key))
+            numbers.add(5)
+            with self.assertRaises(nm_set.Full):
+                numbers.add(6)
+
+    def test_what_waits_on_seats_that_nobody_uses_is_collected_too(self) -> None:
+        with Set(7, workers=3) as numbers:
+            with numbers.worker(0) as worker:
+                self.assertTrue(worker.add(5) and worker.discard(5) and worker.queue_len() == 2)
+            with numbers.worker(1) as worker:
+                self.assertTrue(worker.add(6))
+
+    def test_a_worker_that_holds_the_epoch_back_lets_full_be_told(self) -> None:
+        with Set(7, workers=2) as numbers:
+            with numbers.attach() as reader:
+                reader.pin()
+                self.assertTrue(numbers.add(5) and numbers.discard(5))
+                with self.assertRaises(nm_set.Full):
+                    numbers.add(6)
+                self.assertEqual(numbers.collect(), 0)
+            self.assertTrue(numbers.add(6))
+
+    def test_retired_nodes_are_collected_as_they_come_due(self) -> None:
+        with Set(4_096, tending=Tending(collect_every=8)) as numbers:
+            with numbers.attach() as worker:
+                for key in range(500):
+                    self.assertTrue(worker.add(key) and worker.discard(key))
+                    self.assertLessEqual(worker.queue_len(), 32)
+                self.assertGreaterEqual(worker.ledger().freed, 900)
+
+
+class Types(unittest.TestCase):
+    def test_each_public_call_has_its_types(self) -> None:
+        for kind in (nm_set.Set, nm_set.Worker, nm_set.Report):
+            for name, member in vars(kind).items():
+                call = member.fget if isinstance(member, property) else member
+                if callable(call) and (name[0] != "_" or name in ("__contains__", "__len__")):
+                    self.assertIn("return", typing.get_type_hints(call), f"{kind.__name__}.{name}")
+
+
+if __name__ == "__main__":
+    unittest.main()
