@@ -21,8 +21,8 @@
  * - A pointer is to a place of its type that no other call is using, and two parameters of one call are at different places.
  * - One handle is used by one call at a time, and what a thread did with a handle happens before the next thread's call with it: by a lock, by the
  *   start or the join of a thread, or by a sequentially consistent atomic. Calls with different handles may run at the same time, and those of one
- *   set are made to. That is owed for the handle of the set too: of two threads that take their workers from one handle at the same time, the second
- *   may be told NM_CLOSED, and the set may be lost.
+ *   set are made to. That is owed for the handle of the set too: of two threads that take their
+ *   workers from one handle at the same time, the second may be told NM_CLOSED, and the set lost.
  * - malloc, realloc and free are of one allocator, may be called by several threads, and align as C says.
  * - No function is called by a signal handler, or in the forked child of a process with threads.
  */
@@ -65,11 +65,14 @@ typedef enum nm_outcome {
     NM_SPENT = -17,       /* the epoch is the last one */
     NM_AWAY = -18,        /* the worker is taken or has resigned, or a worker of the set is not at home yet */
     NM_CLOSING = -19,     /* a close was refused behind the point where all workers were gathered: only nm_set_close goes on */
-    NM_NOT_ALL = -20,     /* fewer workers are at home than the set has; no sequence of calls meets it, since a worker that is lost tells NM_AWAY */
-    NM_UNCOUNTED = -21    /* there are as many handles as can be counted; no sequence of calls meets it, since a set has 64 workers at most */
+    NM_NOT_ALL = -20,     /* fewer workers are at home than the set has. No calls meet it: a worker
+                             that is lost tells NM_AWAY */
+    NM_UNCOUNTED = -21    /* there are as many handles as can be counted. No calls meet it: a set
+                             has 64 workers at most */
 } nm_outcome;
 
-/* An outcome in words, in memory that is never freed. A number that is none of them has its words too. */
+/* An outcome in words, in memory that is never freed. A number that is none of them has its words
+ * too. */
 static inline const char *nm_outcome_text(nm_outcome outcome) {
     switch (outcome) {
     case NM_NO: return "no";
@@ -136,15 +139,17 @@ nm_outcome nm_set_lowest(nm_handle *set, uint32_t nodes, uint32_t workers);
  * several times the nodes that the keys take. */
 nm_outcome nm_set_near(nm_handle *set, uint32_t nodes, uint32_t workers);
 
-/* Takes the worker of a number, with all that it held when it went home. Threads that are busy at the same time are best given numbers eight apart,
- * from 7 on: 7, 15, 23 and so on. Of a set for 29, 37 or 61 workers, one more than a multiple of four, the nodes lie best in cache lines.
- * The set's handle is used by one call at a time, here too: so one thread takes the workers of all, or a mutex is held round this call.
- * NM_DONE, and the worker's handle, which must be closed, owns the worker; NM_OPEN (of the worker's handle), NM_NUMBER, NM_AWAY, NM_CLOSING,
- * NM_NO_MEMORY. */
+/* Takes the worker of a number, with all that it held when it went home. Threads that are busy at
+ * the same time are best given numbers eight apart, from 7 on: 7, 15, 23 and so on. Of a set for
+ * 29, 37 or 61 workers, one more than a multiple of four, the nodes lie best in cache lines. The
+ * set's handle is used by one call at a time, here too: so one thread takes the workers of all, or
+ * a mutex is held round this call. NM_DONE, and the worker's handle, which must be closed, owns the
+ * worker; NM_OPEN (of the worker's handle), NM_NUMBER, NM_AWAY, NM_CLOSING, NM_NO_MEMORY. */
 nm_outcome nm_set_worker(nm_handle *set, nm_handle *worker, uint32_t number);
 
-/* Ends the set when all its workers are at home. NM_DONE, and the handle owns the report from then on. NM_AWAY, NM_NO_MEMORY: the handle owns the set
- * still; behind the latter its workers may have been gathered, so that only this function goes on. */
+/* Ends the set when all its workers are at home. NM_DONE, and the handle owns the report from then
+ * on. NM_AWAY, NM_NO_MEMORY: the handle owns the set still; behind the latter its workers may have
+ * been gathered, so that only this function goes on. */
 nm_outcome nm_set_close(nm_handle *set);
 
 /* Gives up what any handle owns, and closes the handle: a worker goes home, with all that it holds, and can be taken again; a set that was not closed
@@ -156,7 +161,8 @@ nm_outcome nm_drop(nm_handle *handle);
  * No call waits for another worker. Where two meet, one of them may lose a try, and a call gives up after so many: some tens are enough, and where
  * they are not, call again. With 0 tries no step is made. */
 
-/* Whether the set has the key. NM_YES, NM_NO; NM_KEY, NM_BUSY, NM_PENDING, NM_HELD. It takes no memory. */
+/* Whether the set has the key. NM_YES, NM_NO; NM_KEY, NM_BUSY, NM_PENDING, NM_HELD. It takes no
+ * memory. */
 nm_outcome nm_worker_has(nm_handle *worker, uint64_t key, uint32_t tries);
 
 /* Inserts a key: NM_YES where it was not in the set, NM_NO where it was. NM_KEY, NM_BUSY, NM_FULL, NM_PENDING, NM_HELD, NM_NO_MEMORY. */

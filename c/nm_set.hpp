@@ -1,7 +1,8 @@
-// The set for C++17: owners of the handles of nm_set.h, which has what each call does and what its caller owes.
-// An owner can be moved and not copied. It is made closed, by a call that opens it, or by a move; one that was moved from is closed. `close`, or its end,
-// gives up what it owns as nm_drop does. A fault is thrown; of a call that meets faults in its daily work there is one that begins with `try_`, throws
-// nothing and answers the outcome.
+// The set for C++17: owners of the handles of nm_set.h, which has what each call does and what its
+// caller owes. An owner can be moved and not copied. It is made closed, by a call that opens it, or
+// by a move; one that was moved from is closed. `close`, or its end, gives up what it owns as
+// nm_drop does. A fault is thrown; of a call that meets faults in its daily work there is one that
+// begins with `try_`, throws nothing and answers the outcome.
 #ifndef NM_SET_HPP
 #define NM_SET_HPP
 
@@ -19,7 +20,8 @@ namespace nm {
 // What a call tells that has not answered.
 class Fault : public std::runtime_error {
 public:
-    explicit Fault(nm_outcome outcome) : std::runtime_error(nm_outcome_text(outcome)), outcome_(outcome) {}
+    explicit Fault(nm_outcome outcome)
+        : std::runtime_error(nm_outcome_text(outcome)), outcome_(outcome) {}
 
     [[nodiscard]] nm_outcome outcome() const noexcept { return outcome_; }
 
@@ -38,7 +40,8 @@ inline bool answered(nm_outcome outcome) {
 // Owns what its handle does. One thread at a time uses it, for a call that is const too.
 class Owner {
 public:
-    Owner(Owner &&from) noexcept : handle_(std::exchange(from.handle_, nm_handle NM_CLOSED_HANDLE)) {}
+    Owner(Owner &&from) noexcept
+        : handle_(std::exchange(from.handle_, nm_handle NM_CLOSED_HANDLE)) {}
 
     Owner &operator=(Owner &&from) noexcept {
         if (this != &from) {
@@ -56,13 +59,15 @@ public:
 protected:
     Owner() = default;
 
-    // The functions of C take what a handle owns out of it and put it back, also where nothing changes.
+    // The functions of C take what a handle owns out of it and put it back, also where nothing
+    // changes.
     mutable nm_handle handle_ = NM_CLOSED_HANDLE;
 };
 
 }  // namespace detail
 
-// What came of a move of the epoch: NM_DONE, NM_BEHIND, NM_LOST or NM_SPENT, with what nm_worker_advance writes.
+// What came of a move of the epoch: NM_DONE, NM_BEHIND, NM_LOST or NM_SPENT, with what
+// nm_worker_advance writes.
 struct Advance {
     nm_outcome outcome;
     std::uint64_t epoch;
@@ -98,28 +103,44 @@ public:
     // A closed one.
     Worker() = default;
 
-    // The worker goes home with all that it holds, and this is a closed owner. Of a closed one nothing changes.
+    // The worker goes home with all that it holds, and this is a closed owner. Of a closed one
+    // nothing changes.
     void close() noexcept { nm_drop(&handle_); }
 
     // Whether the set has the key.
-    [[nodiscard]] bool has(std::uint64_t key, std::uint32_t most = tries) { return detail::answered(try_has(key, most)); }
+    [[nodiscard]] bool has(std::uint64_t key, std::uint32_t most = tries) {
+        return detail::answered(try_has(key, most));
+    }
 
-    [[nodiscard]] nm_outcome try_has(std::uint64_t key, std::uint32_t most = tries) noexcept { return nm_worker_has(&handle_, key, most); }
+    [[nodiscard]] nm_outcome try_has(std::uint64_t key, std::uint32_t most = tries) noexcept {
+        return nm_worker_has(&handle_, key, most);
+    }
 
     // Whether the key was not in the set. It is now.
-    bool insert(std::uint64_t key, std::uint32_t most = tries) { return detail::answered(try_insert(key, most)); }
+    bool insert(std::uint64_t key, std::uint32_t most = tries) {
+        return detail::answered(try_insert(key, most));
+    }
 
-    [[nodiscard]] nm_outcome try_insert(std::uint64_t key, std::uint32_t most = tries) noexcept { return nm_worker_insert(&handle_, key, most); }
+    [[nodiscard]] nm_outcome try_insert(std::uint64_t key, std::uint32_t most = tries) noexcept {
+        return nm_worker_insert(&handle_, key, most);
+    }
 
-    // Whether the key was in the set. It is not now. NM_UNFINISHED is a fault, behind which the key is pending.
-    bool erase(std::uint64_t key, std::uint32_t most = tries) { return detail::answered(try_erase(key, most)); }
+    // Whether the key was in the set. It is not now. NM_UNFINISHED is a fault, behind which the key
+    // is pending.
+    bool erase(std::uint64_t key, std::uint32_t most = tries) {
+        return detail::answered(try_erase(key, most));
+    }
 
-    [[nodiscard]] nm_outcome try_erase(std::uint64_t key, std::uint32_t most = tries) noexcept { return nm_worker_delete(&handle_, key, most); }
+    [[nodiscard]] nm_outcome try_erase(std::uint64_t key, std::uint32_t most = tries) noexcept {
+        return nm_worker_delete(&handle_, key, most);
+    }
 
     // Whether a pending delete has answered now. NM_UNFINISHED is a fault.
     bool finish(std::uint32_t most = tries) { return detail::answered(try_finish(most)); }
 
-    [[nodiscard]] nm_outcome try_finish(std::uint32_t most = tries) noexcept { return nm_worker_finish(&handle_, most); }
+    [[nodiscard]] nm_outcome try_finish(std::uint32_t most = tries) noexcept {
+        return nm_worker_finish(&handle_, most);
+    }
 
     // Pins the epoch, and tells it.
     std::uint64_t pin(std::uint32_t most = tries) {
@@ -128,7 +149,9 @@ public:
         return epoch;
     }
 
-    [[nodiscard]] nm_outcome try_pin(std::uint64_t &epoch, std::uint32_t most = tries) noexcept { return nm_worker_pin(&handle_, most, &epoch); }
+    [[nodiscard]] nm_outcome try_pin(std::uint64_t &epoch, std::uint32_t most = tries) noexcept {
+        return nm_worker_pin(&handle_, most, &epoch);
+    }
 
     void unpin() { detail::answered(try_unpin()); }
 
@@ -190,7 +213,9 @@ public:
     // The worker of that number, which is at home, resigns to this one.
     void take_over(std::uint32_t leaver) { detail::answered(try_take_over(leaver)); }
 
-    [[nodiscard]] nm_outcome try_take_over(std::uint32_t leaver) noexcept { return nm_worker_resign(&handle_, leaver); }
+    [[nodiscard]] nm_outcome try_take_over(std::uint32_t leaver) noexcept {
+        return nm_worker_resign(&handle_, leaver);
+    }
 
 private:
     friend class Set;
@@ -221,7 +246,8 @@ public:
     // The keys of the set, ascending.
     [[nodiscard]] std::vector<std::uint64_t> keys() const {
         std::vector<std::uint64_t> keys(size());
-        for (std::uint64_t index = 0; index < keys.size(); index++) detail::answered(nm_report_key(&handle_, index, &keys[index]));
+        for (std::uint64_t index = 0; index < keys.size(); index++)
+            detail::answered(nm_report_key(&handle_, index, &keys[index]));
         return keys;
     }
 
@@ -243,13 +269,14 @@ private:
     friend class Set;
 };
 
-// A set. Several threads may take workers of one at the same time, by `worker` and by `attach`, and close it: a mutex stands before its handle. It is moved
-// and destroyed by one thread, while no other is in a call of it. Its workers are with other threads; it may be destroyed before them: then the last of
-// them ends the tree.
+// A set. Several threads may take workers of one at the same time, by `worker` and by `attach`, and
+// close it: a mutex stands before its handle. It is moved and destroyed by one thread, while no
+// other is in a call of it. Its workers are with other threads; it may be destroyed before them:
+// then the last of them ends the tree.
 class Set : public detail::Owner {
 public:
-    // The workers of a set where the caller names no number: one more than a multiple of four, so that nodes lie well in cache lines, and seven of them
-    // have numbers eight apart.
+    // The workers of a set where the caller names no number: one more than a multiple of four, so
+    // that nodes lie well in cache lines, and seven of them have numbers eight apart.
     static constexpr std::uint32_t many = 61;
 
     // A closed one.
@@ -289,7 +316,8 @@ public:
         return nm_set_worker(&handle_, &into.handle_, number);
     }
 
-    // Takes a worker that is at home, for this thread; numbers that lie apart come first. NM_AWAY where none is.
+    // Takes a worker that is at home, for this thread; numbers that lie apart come first. NM_AWAY
+    // where none is.
     [[nodiscard]] Worker attach() {
         Worker taken;
         detail::answered(try_attach(taken));
@@ -316,7 +344,8 @@ public:
         return report;
     }
 
-    // Ends the set, and opens a closed owner with its report. Where that is refused, also with NM_OPEN as the report is open, it is the set still.
+    // Ends the set, and opens a closed owner with its report. Where that is refused, also with
+    // NM_OPEN as the report is open, it is the set still.
     [[nodiscard]] nm_outcome try_close(Report &into) {
         if (into.is_open()) return NM_OPEN;
         std::lock_guard<std::mutex> alone(taking_);

@@ -152,9 +152,11 @@ static void away(void) {
 static void texts(void) {
     for (int first = NM_UNCOUNTED - 1; first <= NM_DONE; first++)
         for (int second = NM_UNCOUNTED - 1; second < first; second++)
-            CHECK(strcmp(nm_outcome_text((nm_outcome)first), nm_outcome_text((nm_outcome)second)) != 0);
+            CHECK(strcmp(nm_outcome_text((nm_outcome)first), nm_outcome_text((nm_outcome)second)) !=
+                  0);
     CHECK(strcmp(nm_outcome_text(NM_FULL), "no slots are free for the new nodes") == 0);
-    CHECK(strcmp(nm_outcome_text((nm_outcome)(NM_DONE + 1)), nm_outcome_text((nm_outcome)(NM_UNCOUNTED - 1))) == 0);
+    CHECK(strcmp(nm_outcome_text((nm_outcome)(NM_DONE + 1)),
+                 nm_outcome_text((nm_outcome)(NM_UNCOUNTED - 1))) == 0);
 }
 
 int main(void) {

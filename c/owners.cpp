@@ -119,13 +119,16 @@ void owners_are_closed() {
     CHECK(set.try_worker(worker, 0) == NM_CLOSED && set.try_attach(worker) == NM_CLOSED);
     set = nm::Set::near(8192, 2);
     worker = set.worker(0);
-    CHECK(set.is_open() && worker.is_open() && worker.insert(5) && set.try_worker(worker, 1) == NM_OPEN);
+    CHECK(set.is_open() && worker.is_open() && worker.insert(5) &&
+          set.try_worker(worker, 1) == NM_OPEN);
     nm::Report report;
     CHECK(set.try_close(report) == NM_AWAY && set.is_open() && !report.is_open());
     worker.close();
     worker.close();
-    CHECK(!worker.is_open() && worker.try_insert(6) == NM_CLOSED && set.try_close(report) == NM_DONE);
-    CHECK(!set.is_open() && report.is_open() && report.size() == 1 && set.try_close(report) == NM_OPEN);
+    CHECK(!worker.is_open() && worker.try_insert(6) == NM_CLOSED &&
+          set.try_close(report) == NM_DONE);
+    CHECK(!set.is_open() && report.is_open() && report.size() == 1 &&
+          set.try_close(report) == NM_OPEN);
     report.close();
     CHECK(!report.is_open() && set.try_close(report) == NM_CLOSED);
 }
@@ -135,11 +138,16 @@ void outcomes_are_answered() {
     nm::Set set = nm::Set::lowest(7, 1);
     nm::Worker worker = set.worker(0);
     std::uint64_t epoch = 77;
-    CHECK(worker.try_has(5) == NM_NO && worker.try_insert(5) == NM_YES && worker.try_insert(5) == NM_NO && worker.try_has(5) == NM_YES);
-    CHECK(worker.try_insert(6) == NM_FULL && worker.try_insert(UINT64_MAX) == NM_KEY && worker.try_has(5, 0) == NM_BUSY);
-    CHECK(worker.try_unpin() == NM_NOT_HELD && worker.try_pin(epoch) == NM_DONE && epoch == 0 && worker.try_has(5) == NM_HELD);
-    CHECK(worker.try_unpin() == NM_DONE && worker.try_erase(5, 1) == NM_UNFINISHED && worker.try_has(5) == NM_PENDING);
-    CHECK(worker.try_finish(0) == NM_UNFINISHED && worker.try_finish() == NM_YES && worker.try_finish() == NM_NO && worker.try_erase(5) == NM_NO);
+    CHECK(worker.try_has(5) == NM_NO && worker.try_insert(5) == NM_YES &&
+          worker.try_insert(5) == NM_NO && worker.try_has(5) == NM_YES);
+    CHECK(worker.try_insert(6) == NM_FULL && worker.try_insert(UINT64_MAX) == NM_KEY &&
+          worker.try_has(5, 0) == NM_BUSY);
+    CHECK(worker.try_unpin() == NM_NOT_HELD && worker.try_pin(epoch) == NM_DONE && epoch == 0 &&
+          worker.try_has(5) == NM_HELD);
+    CHECK(worker.try_unpin() == NM_DONE && worker.try_erase(5, 1) == NM_UNFINISHED &&
+          worker.try_has(5) == NM_PENDING);
+    CHECK(worker.try_finish(0) == NM_UNFINISHED && worker.try_finish() == NM_YES &&
+          worker.try_finish() == NM_NO && worker.try_erase(5) == NM_NO);
     CHECK(worker.try_take_over(0) == NM_AWAY && worker.try_take_over(1) == NM_NUMBER);
 }
 
@@ -149,13 +157,16 @@ void const_owners_tell() {
     nm::Worker worker = set.worker(1);
     CHECK(worker.insert(5) && worker.insert(6) && worker.erase(6));
     const nm::Worker &seen = worker;
-    CHECK(seen.number() == 1 && seen.queue_len() == 2 && !seen.pending() && !seen.held() && seen.ledger().links == 2 && seen.behind().mask == 0);
+    CHECK(seen.number() == 1 && seen.queue_len() == 2 && !seen.pending() && !seen.held() &&
+          seen.ledger().links == 2 && seen.behind().mask == 0);
     worker.close();
     const nm::Report report = set.close();
-    CHECK(report.size() == 1 && report.keys() == std::vector<std::uint64_t>{5} && report.queue_len(1) == 2 && report.slots().reached == 2);
+    CHECK(report.size() == 1 && report.keys() == std::vector<std::uint64_t>{5} &&
+          report.queue_len(1) == 2 && report.slots().reached == 2);
 }
 
-// Threads that attach themselves to one set at the same time get each a worker of its own, and numbers that lie apart come first.
+// Threads that attach themselves to one set at the same time get each a worker of its own, and
+// numbers that lie apart come first.
 void threads_attach_themselves() {
     constexpr int rounds = 200;
     nm::Set set = nm::Set::near(4096, 61);
@@ -170,12 +181,14 @@ void threads_attach_themselves() {
                 taken[number] = 1ull << workers[number].number();
             });
         for (std::thread &thread : threads) thread.join();
-        CHECK((taken[0] | taken[1] | taken[2] | taken[3]) == (1ull << 7 | 1ull << 15 | 1ull << 23 | 1ull << 31));
+        CHECK((taken[0] | taken[1] | taken[2] | taken[3]) ==
+              (1ull << 7 | 1ull << 15 | 1ull << 23 | 1ull << 31));
     }
     std::vector<nm::Worker> all;
     for (std::uint64_t each = 0; each < 61; each++) all.push_back(set.attach());
     nm::Worker none;
-    CHECK(set.try_attach(none) == NM_AWAY && thrown([&] { (void)set.attach(); }) == NM_AWAY && all[7].number() == 3 && all.back().number() == 56);
+    CHECK(set.try_attach(none) == NM_AWAY && thrown([&] { (void)set.attach(); }) == NM_AWAY &&
+          all[7].number() == 3 && all.back().number() == 56);
     all.clear();
     CHECK(set.close().size() == 0);
 }
