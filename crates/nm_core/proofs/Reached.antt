@@ -73,7 +73,7 @@ module _ (c : Configuration) (r : IsReached c) where
 -- the turns that led here and then those of a run are the turns of one run from the opening
 pub headline_behind : (c : Configuration) (turns : List (ℕ × Event)) → All (λ u. HasKey u.1) turns → HasHeadlineBehind c turns
 headline_behind c turns keys r = subst (Headline c.state.layout) (trace_in-append from r.events turns ∙ ap (λ (d : Configuration). trace_in from r.events ++ trace_in d turns) r.leads)
-      (headline c.state.layout r.fits r.is_ordered (r.events ++ turns) (All-append (λ (u : ℕ × Event). HasKey u.1) r.events turns r.keys keys))
+    (headline c.state.layout r.fits r.is_ordered (r.events ++ turns) (All-append (λ (u : ℕ × Event). HasKey u.1) r.events turns r.keys keys))
   where
     from : Configuration
     from = opening_of c.state.layout r.is_ordered

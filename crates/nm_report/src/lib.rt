@@ -8,4 +8,3 @@ mod walk;
 
 pub use report::{Found, read};
 pub use room::Room;
-
