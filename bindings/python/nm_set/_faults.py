@@ -40,8 +40,8 @@ class Unfinished(Fault):
 
 
 class NoWorker(Fault):
-    """Each worker is with another thread, or in a call of one, or the set is being closed at this
-    moment."""
+    """Each worker is with another thread, or was in a call of one as often as it was looked for, 64
+    times. Where no more threads make calls than there are workers, that is not to be expected."""
 
 
 class Away(Fault):

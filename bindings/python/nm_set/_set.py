@@ -27,6 +27,7 @@ MOST_KEY = 2**64 - 4
 
 _RELIEFS = 4  # how often a call that found the set full collects and goes on
 _MOVES = 3  # how often a relief moves the epoch on at most
+_SEARCHES = 64  # how often a thread looks for a free seat while others are locked
 _T = TypeVar("_T")
 
 
@@ -280,24 +281,43 @@ class Set:
             seat.hand.rest(self._tending)
         return seat.hand
 
+    def _free_seat(self, asked: Optional[int]) -> int:
+        """The number of a worker that nobody uses at this moment, on whose seat this thread has the
+        lock now: the one that is asked for, else the first by number. While one was locked, it
+        looks again."""
+        self._find()
+        for _ in range(_SEARCHES):
+            is_one_locked = False
+            for number in self._order if asked is None else [asked, *self._order]:
+                lock = self._seats[number].lock
+                if not lock.acquire(blocking=False):
+                    is_one_locked = True
+                    continue
+                is_found = False
+                try:
+                    is_found = self._seated(number) is not None
+                finally:
+                    if not is_found:
+                        lock.release()
+                if is_found:
+                    return number
+            if not is_one_locked:
+                break
+            time.sleep(0)
+        raise NoWorker("each worker is with another thread")
+
     def _with_any(self, call: Callable[[_Hand], _T]) -> _T:
         """Makes a call by a worker that nobody uses at this moment: the one that this thread used
-        last, else the first by number."""
-        if self._lost:
-            self._find()
-        last: Optional[int] = getattr(self._last, "number", None)
-        for number in self._order if last is None else [last, *self._order]:
-            seat = self._seats[number]
-            if not seat.lock.acquire(blocking=False):
-                continue
-            try:
-                hand = self._seated(number)
-                if hand is not None:
-                    self._last.number = number
-                    return call(hand)
-            finally:
-                seat.lock.release()
-        raise NoWorker("each worker is with another thread")
+        last, where it is free."""
+        number = self._free_seat(getattr(self._last, "number", None))
+        seat = self._seats[number]
+        try:
+            self._last.number = number
+            hand = seat.hand
+            assert hand is not None
+            return call(hand)
+        finally:
+            seat.lock.release()
 
     def _relieve(self, own: _Hand) -> int:
         """Frees what can be freed, in the queues of a worker and of all that nobody uses; then lets
@@ -341,13 +361,9 @@ class Set:
     def attach(self) -> Worker:
         """Takes a worker that nobody uses, for this thread; numbers that lie apart come first. It
         goes back by its `close`."""
-        self._find()
-        for number in self._order:
-            if self._seats[number].lock.acquire(blocking=False):
-                taken = self._taken(number)
-                if taken is not None:
-                    return taken
-        raise NoWorker("each worker is with another thread")
+        taken = self._taken(self._free_seat(None))
+        assert taken is not None
+        return taken
 
     def worker(self, number: SupportsIndex) -> Worker:
         """Takes the worker of a number. It waits for a call that another thread makes by it at this

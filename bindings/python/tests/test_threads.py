@@ -19,7 +19,7 @@ def answered(call: Callable[[int], bool], key: int) -> bool:
     while True:
         try:
             return call(key)
-        except (nm_set.Full, nm_set.Contention):
+        except (nm_set.Full, nm_set.Contention, nm_set.NoWorker):
             pass
         except nm_set.Unfinished:
             return True

@@ -35,8 +35,9 @@ pub enum Fault {
     /// The bound of a tended call was reached before it had answered, since other threads were in
     /// the way. Nothing of the call stands, but help given to others.
     Contention,
-    /// Each worker is with another thread, or in a call of one, or the set is being closed at this
-    /// moment.
+    /// Each worker is with another thread, or was in a call of one as often as it was looked for,
+    /// 64 times. Where no more threads make calls than there are workers, that is not to be
+    /// expected.
     NoWorker,
     /// There is no worker of that number.
     Number,

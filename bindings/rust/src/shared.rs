@@ -36,6 +36,10 @@ pub(crate) struct Shared {
     order: Vec<u32>,
 }
 
+/// How often a thread looks for a free seat while others are locked, before it tells that there is
+/// none: the one that is free at each moment may not be the one at which it looks.
+const SEARCHES: u32 = 64;
+
 static IDENTITIES: AtomicU64 = AtomicU64::new(1);
 
 thread_local! {
@@ -100,18 +104,34 @@ impl Shared {
         self.taken(locked(&seat.0), number)?.ok_or(Fault::Away)
     }
 
-    /// Takes a worker from its seat, of those that nobody uses at this moment: the first in the
-    /// order of their numbers.
-    pub fn take_any(&self) -> Result<(Hand, u32), Fault> {
-        for &number in &self.order {
-            let Some(place) = free(&self.seats[number as usize].0) else {
-                continue;
-            };
-            if let Some(hand) = self.taken(place, number)? {
-                return Ok((hand, number));
+    /// The seat of a worker that nobody uses at this moment: the one that is asked for first, else
+    /// the first in the order of their numbers. While one was locked, it looks again.
+    fn free_seat(&self, asked: Option<u32>) -> Result<(MutexGuard<'_, Place>, u32), Fault> {
+        for _ in 0..SEARCHES {
+            let mut is_one_locked = false;
+            for number in asked.into_iter().chain(self.order.iter().copied()) {
+                let Some(mut place) = free(&self.seats[number as usize].0) else {
+                    is_one_locked = true;
+                    continue;
+                };
+                self.seat(&mut place, number)?;
+                if let Place::Seated(_) = *place {
+                    return Ok((place, number));
+                }
             }
+            if !is_one_locked {
+                break;
+            }
+            std::thread::yield_now();
         }
         Err(Fault::NoWorker)
+    }
+
+    /// Takes a worker from its seat, of those that nobody uses at this moment.
+    pub fn take_any(&self) -> Result<(Hand, u32), Fault> {
+        let (place, number) = self.free_seat(None)?;
+        let hand = self.taken(place, number)?.ok_or(Fault::NoWorker)?;
+        Ok((hand, number))
     }
 
     fn taken(&self, mut place: MutexGuard<'_, Place>, number: u32) -> Result<Option<Hand>, Fault> {
@@ -128,24 +148,19 @@ impl Shared {
     }
 
     /// Makes a call by a worker on a seat that nobody uses at this moment: the one that this thread
-    /// used last, else the first in the order of their numbers.
+    /// used last, where it is free.
     pub fn with_any<T>(
         &self,
         call: impl FnOnce(&mut Hand) -> Result<T, Fault>,
     ) -> Result<T, Fault> {
-        let (identity, number) = LAST.get();
-        let last = (identity == self.identity).then_some(number);
-        for number in last.into_iter().chain(self.order.iter().copied()) {
-            let Some(mut place) = free(&self.seats[number as usize].0) else {
-                continue;
-            };
-            self.seat(&mut place, number)?;
-            if let Place::Seated(hand) = &mut *place {
-                LAST.set((self.identity, number));
-                return call(hand);
-            }
+        let (identity, last) = LAST.get();
+        let asked = (identity == self.identity).then_some(last);
+        let (mut place, number) = self.free_seat(asked)?;
+        LAST.set((self.identity, number));
+        match &mut *place {
+            Place::Seated(hand) => call(hand),
+            _ => Err(Fault::NoWorker),
         }
-        Err(Fault::NoWorker)
     }
 
     /// Frees what can be freed, for a worker that found the set full: it moves the epoch on, and

@@ -47,14 +47,14 @@ fn draw(seed: &mut u64) -> u64 {
     *seed
 }
 
-/// Makes a call until it has answered. Full and contention may be told as long as other threads are
-/// in the way; a remove that has begun counts, since its key will go.
+/// Makes a call until it has answered. Full, contention and the want of a worker may be told as
+/// long as other threads are in the way; a remove that has begun counts, since its key will go.
 fn answered(mut call: impl FnMut() -> Result<bool, Fault>) -> bool {
     loop {
         match call() {
             Ok(answer) => return answer,
             Err(Fault::Unfinished) => return true,
-            Err(Fault::Full | Fault::Contention) => std::thread::yield_now(),
+            Err(Fault::Full | Fault::Contention | Fault::NoWorker) => std::thread::yield_now(),
             Err(fault) => panic!("{fault}"),
         }
     }
