@@ -23,3 +23,5 @@ mod pools;
 mod reports;
 #[cfg(test)]
 mod streams;
+#[cfg(test)]
+mod trees;

@@ -11,8 +11,6 @@ mod fault;
 mod lookup;
 mod resigning;
 mod running;
-#[cfg(test)]
-mod tests;
 mod tree;
 mod worker;
 

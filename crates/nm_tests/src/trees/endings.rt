@@ -3,9 +3,8 @@ ghost use Rattle.std.specs.Prelude.{◌≡◌, ◌∷◌, [], IfOk};
 ghost use Rattle.nm_steps.specs.Steps.{IsOf};
 ghost use Rattle.nm_tree.specs.Closing.{AreAllOf};
 
-use super::readers::three_of;
 use super::*;
-use crate::{CloseReason, Report, ResignReason};
+use nm_tree::{CloseReason, Report, ResignReason};
 use std::alloc::{AllocError, Global};
 
 /// The slots, births and labels of the first two nodes that wait, and how many wait.
@@ -135,39 +134,6 @@ fn an_heir_frees_for_both(rt: HostRuntime) -> Result<(), Fail> {
     assert_eq!(rt; report.keys[0].get(), 9);
     assert_eq!(rt; report.free, 9);
     assert_eq!(rt; report.reached, 2);
-    Ok(())
-}
-
-#[test]
-fn an_heir_stands_for_both_at_the_end(rt: HostRuntime) -> Result<(), Fail> {
-    let (tree, mut first, mut second) = two_of(&rt, 16)?;
-    each_deletes_one(&rt, &tree, &mut first, &mut second);
-    let heir = heir_of(&rt, &tree, first, second);
-    let mut report = report_of(&rt, tree, alone(rt.alloc(), heir)?);
-    assert_eq!(rt; report.queues.len(), 2);
-    assert_eq!(rt; waiting(&mut report, 0), (2, [(8, 1, 0), (9, 1, 0)]));
-    assert_eq!(rt; waiting(&mut report, 1), (2, [(6, 1, 0), (7, 1, 0)]));
-    assert_eq!(rt; report.keys.len(), 0);
-    assert_eq!(rt; report.free, 7);
-    assert_eq!(rt; report.reached, 0);
-    Ok(())
-}
-
-/// Worker 0 resigns to worker 1, and that one to worker 2.
-#[test]
-fn a_worker_resigns_that_others_have_resigned_to(rt: HostRuntime) -> Result<(), Fail> {
-    let (tree, mut first, mut second, third) = three_of(&rt, 16)?;
-    each_deletes_one(&rt, &tree, &mut first, &mut second);
-    let second = heir_of(&rt, &tree, second, first);
-    let third = heir_of(&rt, &tree, third, second);
-    assert_eq!(rt; third.origins(), 3);
-    assert_eq!(rt; third.queue_len(), 4);
-    let mut report = report_of(&rt, tree, alone(rt.alloc(), third)?);
-    assert_eq!(rt; report.queues.len(), 3);
-    assert_eq!(rt; waiting(&mut report, 0), (2, [(8, 1, 0), (9, 1, 0)]));
-    assert_eq!(rt; waiting(&mut report, 1), (2, [(6, 1, 0), (7, 1, 0)]));
-    assert_eq!(rt; waiting(&mut report, 2).0, 0);
-    assert_eq!(rt; (report.free, report.reached), (7, 0));
     Ok(())
 }
 

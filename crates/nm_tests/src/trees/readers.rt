@@ -7,7 +7,7 @@ use super::threads::by_two;
 use super::*;
 
 /// A tree and its three workers.
-pub(super) fn three_of(
+fn three_of(
     rt: &(impl Abort + AllocGlobal),
     nodes: u32,
 ) -> Result<(Tree, Worker, Worker, Worker), Fail>

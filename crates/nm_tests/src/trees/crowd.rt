@@ -7,7 +7,7 @@ ghost use Rattle.nm_tree.specs.Workers.{waiting_in};
 
 use super::threads::{ROUNDS, Score, TRIES, rounds};
 use super::*;
-use crate::Report;
+use nm_tree::Report;
 use std::alloc::{AllocError, Global};
 use std::thread::{Threads, map_vec};
 
@@ -58,7 +58,7 @@ fn settled(tree: &Tree, played: Played, so_far: Score) -> (Worker, Score)
 }
 
 /// All workers, and how many true answers they had.
-#[tactic(auto, using(crate::proofs::Closed::all_and))]
+#[tactic(auto, using(nm_tree::proofs::Closed::all_and))]
 pub(super) fn gathered(
     alloc: Global,
     tree: &Tree,

@@ -6,7 +6,7 @@ ghost use Rattle.nm_tree.specs.Plays.{IsReady};
 use super::crowd::{Played, gathered, report_of, waiting};
 use super::threads::{ROUNDS, Score, TRIES, rounds};
 use super::*;
-use crate::Behind;
+use nm_tree::Behind;
 use std::alloc::AllocError;
 use std::thread::{Threads, map_vec};
 

@@ -1,11 +1,11 @@
-//! Calls in one thread, each answer compared, and two workers in threads of their own.
+//! Calls of a tree, in one thread with each answer compared, and by workers in threads of their own.
 ghost use Rattle.std.specs.Prelude.{◌≡◌, length, IfOk};
 ghost use Rattle.nm_steps.specs.Steps.{IsOf};
 ghost use Rattle.nm_tree.specs.Plays.{IsReady};
 ghost use Rattle.nm_tree.specs.Workers.{AreNew};
 
-use crate::{Advance, Collected, Counts, Fault, PinFault, Tree, Worker};
 use nm_edge::Key;
+use nm_tree::{Advance, Collected, Counts, Fault, PinFault, Tree, Worker};
 use std::process::Abort;
 use std::test::Fail;
 
@@ -14,7 +14,6 @@ mod crowd;
 mod endings;
 mod example;
 mod near;
-mod plays;
 mod readers;
 mod stalled;
 mod threads;
