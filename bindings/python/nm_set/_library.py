@@ -91,4 +91,4 @@ def _load() -> ctypes.CDLL:
     raise ImportError(f"the library of nm_set was not found; NM_SET_LIBRARY may name it: {told}")
 
 
-library = _load()
+exports = _load()

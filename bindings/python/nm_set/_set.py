@@ -120,7 +120,7 @@ class _Handle:
         self.word = c.Handle()
 
     def drop(self) -> None:
-        c.library.nm_drop(self.word)
+        c.exports.nm_drop(self.word)
 
     def __del__(self) -> None:
         if c is not None and self.word.at:
@@ -150,7 +150,7 @@ class _Hand:
             if outcome == c.UNFINISHED:
                 return self._finished(tending, made)
             if outcome == c.PENDING:
-                c.library.nm_worker_finish(self.word, tending.tries)
+                c.exports.nm_worker_finish(self.word, tending.tries)
             elif outcome == c.FULL and reliefs < _RELIEFS:
                 reliefs += 1
                 relieve(self)
@@ -160,23 +160,23 @@ class _Hand:
 
     def _finished(self, tending: Tending, made: int) -> bool:
         for _ in range(made, tending.rounds):
-            outcome = c.library.nm_worker_finish(self.word, tending.tries)
+            outcome = c.exports.nm_worker_finish(self.word, tending.tries)
             if outcome != c.UNFINISHED:
                 return told(outcome)
         raise fault(c.UNFINISHED)
 
     def has(self, tending: Tending, key: int) -> bool:
-        has = c.library.nm_worker_has
+        has = c.exports.nm_worker_has
         return self._tended(tending, lambda word, tries: has(word, key, tries), _nothing)
 
     def add(self, tending: Tending, key: int, relieve: Callable[[_Hand], object]) -> bool:
         self._count(tending)
-        insert = c.library.nm_worker_insert
+        insert = c.exports.nm_worker_insert
         return self._tended(tending, lambda word, tries: insert(word, key, tries), relieve)
 
     def discard(self, tending: Tending, key: int) -> bool:
         self._count(tending)
-        delete = c.library.nm_worker_delete
+        delete = c.exports.nm_worker_delete
         return self._tended(tending, lambda word, tries: delete(word, key, tries), _nothing)
 
     def _count(self, tending: Tending) -> None:
@@ -191,7 +191,7 @@ class _Hand:
     def advance(self) -> bool:
         """Moves the epoch on by one: whether it has moved, by this worker or by another one."""
         epoch, behind = c_uint64(), c_uint32()
-        return c.library.nm_worker_advance(self.word, epoch, behind) not in (c.BEHIND, c.SPENT)
+        return c.exports.nm_worker_advance(self.word, epoch, behind) not in (c.BEHIND, c.SPENT)
 
     def advance_all(self) -> None:
         for _ in range(_MOVES):
@@ -200,20 +200,20 @@ class _Hand:
 
     def collect(self) -> int:
         epoch, freed = c_uint64(), c_uint64()
-        c.library.nm_worker_collect(self.word, epoch, freed)
+        c.exports.nm_worker_collect(self.word, epoch, freed)
         return freed.value
 
     def queue_len(self) -> int:
         nodes = c_uint64()
-        c.library.nm_worker_queue_len(self.word, nodes)
+        c.exports.nm_worker_queue_len(self.word, nodes)
         return nodes.value
 
     def rest(self, tending: Tending) -> None:
         """Gets the worker ready to rest: it holds nothing back, and its discard is finished where
         the bound allows."""
-        c.library.nm_worker_unpin(self.word)
+        c.exports.nm_worker_unpin(self.word)
         for _ in range(tending.rounds):
-            if c.library.nm_worker_finish(self.word, tending.tries) >= 0:
+            if c.exports.nm_worker_finish(self.word, tending.tries) >= 0:
                 return
 
 
@@ -259,7 +259,7 @@ class Set:
         lowest free slot, which takes long where there are many."""
         self._handle = _Handle()
         room, count = _narrow(nodes, c.NODES), _narrow(workers, c.WORKERS)
-        make = c.library.nm_set_lowest if lowest else c.library.nm_set_near
+        make = c.exports.nm_set_lowest if lowest else c.exports.nm_set_near
         told(make(self._handle.word, room, count))
         self._tending = tending
         self._taking = threading.RLock()
@@ -276,7 +276,7 @@ class Set:
         if seat.hand is None and not seat.is_away:
             handle = _Handle()
             with self._taking:
-                told(c.library.nm_set_worker(self._handle.word, handle.word, number))
+                told(c.exports.nm_set_worker(self._handle.word, handle.word, number))
             seat.hand = _Hand(handle)
             seat.hand.rest(self._tending)
         return seat.hand
@@ -431,7 +431,7 @@ class Set:
                 seat.hand.handle.drop()
                 seat.hand = None
         with self._taking:
-            told(c.library.nm_set_close(self._handle.word))
+            told(c.exports.nm_set_close(self._handle.word))
             report = _report(self._handle.word, len(self._seats))
             self._handle.drop()
         return report
@@ -459,16 +459,16 @@ def _report(word: c.Handle, workers: int) -> Report:
     """Reads the report that a handle owns."""
     free, reached = c_uint32(), c_uint32()
     count, key, node = c_uint64(), c_uint64(), c.WaitingWords()
-    told(c.library.nm_report_slots(word, free, reached))
-    told(c.library.nm_report_keys(word, count))
+    told(c.exports.nm_report_slots(word, free, reached))
+    told(c.exports.nm_report_keys(word, count))
     keys = []
     for index in range(count.value):
-        told(c.library.nm_report_key(word, index, key))
+        told(c.exports.nm_report_key(word, index, key))
         keys.append(key.value)
     waiting = []
     for worker in range(workers):
         nodes = []
-        while told(c.library.nm_report_waiting(word, worker, node)):
+        while told(c.exports.nm_report_waiting(word, worker, node)):
             nodes.append(Waiting(node.slot, node.birth, node.label))
         waiting.append(tuple(nodes))
     return Report(tuple(keys), free.value, reached.value, tuple(waiting))
@@ -527,14 +527,14 @@ class Worker:
 
         def call(hand: _Hand) -> int:
             epoch = c_uint64()
-            told(c.library.nm_worker_pin(hand.word, tries, epoch))
+            told(c.exports.nm_worker_pin(hand.word, tries, epoch))
             return epoch.value
 
         return self._with(call)
 
     def unpin(self) -> None:
         """Ends the pin."""
-        self._with(lambda hand: told(c.library.nm_worker_unpin(hand.word)))
+        self._with(lambda hand: told(c.exports.nm_worker_unpin(hand.word)))
 
     def collect(self) -> int:
         """Moves the epoch on as far as can be, and frees what has waited long enough in its own
@@ -551,7 +551,7 @@ class Worker:
 
         def call(hand: _Hand) -> Optional[int]:
             key = c_uint64()
-            return key.value if told(c.library.nm_worker_pending(hand.word, key)) else None
+            return key.value if told(c.exports.nm_worker_pending(hand.word, key)) else None
 
         return self._with(call)
 
@@ -564,7 +564,7 @@ class Worker:
 
         def call(hand: _Hand) -> Ledger:
             words = c.LedgerWords()
-            told(c.library.nm_worker_ledger(hand.word, words))
+            told(c.exports.nm_worker_ledger(hand.word, words))
             return Ledger(*(getattr(words, name) for name, _ in words._fields_))
 
         return self._with(call)
