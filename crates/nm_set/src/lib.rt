@@ -9,8 +9,6 @@ mod fault;
 mod home;
 mod member;
 mod set;
-#[cfg(test)]
-mod tests;
 
 pub use fault::{CloseReason, Fault, MemberFault, NotHeld, PinFault, ResignReason};
 pub use member::{Member, ResignError};

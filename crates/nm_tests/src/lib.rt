@@ -14,6 +14,8 @@ mod hands;
 #[cfg(test)]
 mod many;
 #[cfg(test)]
+mod members;
+#[cfg(test)]
 mod near_claims;
 #[cfg(test)]
 mod passes;

@@ -1,6 +1,6 @@
-//! Members in one thread, each answer compared, and two in threads of their own.
-use crate::{CloseReason, Fault, Member, MemberFault, NotHeld, PinFault, ResignReason, Set};
+//! Members of a set in one thread, each answer compared, and two in threads of their own.
 use nm_edge::Key;
+use nm_set::{CloseReason, Fault, Member, MemberFault, NotHeld, PinFault, ResignReason, Set};
 use std::process::Abort;
 use std::test::Fail;
 use std::thread::{Threads, join};
