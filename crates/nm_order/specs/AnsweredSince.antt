@@ -22,8 +22,8 @@ moment_number L before w Insert k false m = length m.before
 moment_number L before w Delete k true m = length m.before + 1
 moment_number L before w Delete k false m = length m.before
 
--- a run goes on from an earlier one up to the worker's answer, with which its log ends; the pin of the call was confirmed by a turn
--- that is not in the earlier run, and the moment is later than that, and no later than the answer
+-- by a turn of the run the worker answers, and the log is its part before that turn; the pin of the call was confirmed behind as many turns as the
+-- earlier run has, and the moment is later than that, and no later than the answer
 pub record IsAnsweredSince (L : Layout) (past turns : List (ℕ × Event)) (w : ℕ) (log : List Entry) (op : Op) (k : ℕ) (answer : Bool) : Type 0 where
   pub before : List (ℕ × Event)
   pub since : List (ℕ × Event)

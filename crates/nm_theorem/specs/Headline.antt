@@ -162,7 +162,7 @@ abbrev pub takes : Event → Result Reply Refused → ℕ → Bool
 takes (Claim s) (Ok (Claimed t)) x = x == s
 takes _ _ x = false
 
--- and lets go of it where it gives it back, or links it: the new node of a won link, and the new leaf under it
+-- and lets go of it where it gives it back, or links it: the new node of a won link, and both slots to which its edges lead, of which one is the new leaf
 abbrev pub lets_go : Memory → Event → Result Reply Refused → ℕ → Bool
 lets_go m (Give s) (Ok (Returned t)) x = x == s
 lets_go m (Link p side leaf new) (Ok (Linked n)) x = (x == new) || ((x == child m new Left) || (x == child m new Right))
@@ -194,7 +194,7 @@ pub record OnePlace (L : Layout) (turns : List Turn) (x : ℕ) : Type 0 where
 
 -- ---- what workers stand on
 
--- the slots of which an event reads, stores or exchanges a word
+-- the slots of which an event reads, stores or exchanges a word, and the nodes that a link, a flag or a splice names
 abbrev pub touched : Event → List ℕ
 touched (Look s f) = s ∷ []
 touched (Fill s f v) = s ∷ []

@@ -113,14 +113,14 @@ look = t 1 (Look 6 (EdgeOn Left)) (Ok (EdgeIs (e 7 true false)))
 pub record IsWorked : Type 0 where
   -- it is a run of an ordered core
   pub is_run : trace_in (ordered layout) (map turn_of turns) ≡ turns
-  -- the splice cuts the nodes 6 and 7, and nothing else
+  -- the splice cuts node 6, and nothing but 6 and 7
   pub cuts : (x : ℕ) → IsCut (words_after layout before) (after_turn (words_after layout before) cut) x → Contains (6 ∷ 7 ∷ []) x
   pub cut_6 : IsCut (words_after layout before) (after_turn (words_after layout before) cut) 6
   -- node 6 is freed, and node 7 waits
   pub all : cuts_of 0 turns ≡ n 6 1 ∷ n 7 1 ∷ []
   pub freed : freed_of 0 turns ≡ n 6 1 ∷ []
   pub waits : waits_of 0 turns ≡ n 7 1 ∷ []
-  -- both workers are pinned at the cut, and leave between the cut and the free; worker 1 not before the epoch was to move a second time
+  -- both workers are pinned at the cut; worker 1 leaves between the cut and the free, and not before the epoch was to move a second time
   pub remover : IsPinned 0 before
   pub reader : IsPinned 1 before
   pub left : HasLeft 1 (waiting ++ leaving)

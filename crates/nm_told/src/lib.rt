@@ -30,7 +30,7 @@ pub fn tell(shared: &Shared, from: &mut Pass, to: &mut Pass)
     shared.hear(to, note);
 }
 
-/// Looks a key up behind an insert of it by another worker that was answered true. It is found, unless a delete of it has won a flag
+/// Looks a key up, as the first call of a worker, behind an insert of it by another one that was answered true. It is found, unless a delete of it has won a flag
 /// in the run that the worker has then seen.
 pub fn look_behind(
     shared: &Shared,
@@ -59,7 +59,7 @@ pub fn look_behind(
     found
 }
 
-/// One worker inserts a key, and then another one that was told of it looks it up. `None`: a call was not answered, or the key had been in the set.
+/// One worker inserts a key, and then another one that was told of it looks it up, as its first call. `None`: a call was not answered, or the key had been in the set.
 pub fn insert_then_look(
     shared: &Shared,
     one: &mut Pass,
