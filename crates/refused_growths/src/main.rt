@@ -2,7 +2,7 @@
 //! and is made again: so each run prints the same lines, whichever one growth was refused in it (`.ci/refused`).
 #![tactic(auto)]
 
-ghost use Rattle.std.specs.Prelude.{◌≡◌, [], ◌∷◌, IfOk};
+ghost use Rattle.std.specs.Prelude.{◌≡◌, [], ◌∷◌, All, IfOk, length};
 ghost use Rattle.nm_tree.specs.Closing.{AreAllOf};
 ghost use Rattle.nm_tree.specs.Plays.{IsReady};
 
@@ -13,15 +13,22 @@ use std::alloc::Global;
 
 const TRIES: u32 = 4;
 
-/// A tree of 16 nodes and its two workers, made again where memory was refused; and the list in which they stood, with room for both.
+/// A tree of 16 nodes and its two workers, made again where memory was refused.
+fn made(alloc: Global) -> Result<(Tree, Vec<Worker>), NewError>
+    ensures ready { IfOk result (λ r. All (λ w. IsReady r.0 w) r.1.items) }
+    ensures count { IfOk result (λ r. length r.1.items ≡ 2) }
+{
+    match Tree::new(alloc, 16, 2) {
+        Err(NewError::NoMemory) => Tree::new(alloc, 16, 2),
+        made => made,
+    }
+}
+
+/// Such a tree and its workers; and the list in which they stood, with room for both.
 fn open(alloc: Global) -> Result<(Tree, Worker, Worker, Vec<Worker>)>
     ensures { IfOk result (λ r. IsReady r.0 r.1 × IsReady r.0 r.2 × (r.3.items ≡ [])) }
 {
-    let made = match Tree::new(alloc, 16, 2) {
-        Err(NewError::NoMemory) => Tree::new(alloc, 16, 2),
-        made => made,
-    };
-    let (tree, mut workers) = made.context("the tree")?;
+    let (tree, mut workers) = made(alloc).context("the tree")?;
     let second = workers.pop().context("worker 1")?;
     let first = workers.pop().context("worker 0")?;
     Ok((tree, first, second, workers))
