@@ -5,7 +5,7 @@ use Rattle.nm_tree.specs.declared.closing.Report.{Report}
 use Rattle.nm_tree.specs.Closing.{AreAllOf, IsClosed}
 use Rattle.nm_tree.specs.Workers.{Hand}
 
--- its tree was closed with workers of this tree, which are all of them
+-- a tree was closed with workers that are all of this tree's; which these had been at home is not said
 pub record EndsSet (b : Board) (r : Report) : Type 0 where
   pub workers : List Hand
   pub own : AreAllOf b workers
