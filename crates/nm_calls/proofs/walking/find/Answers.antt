@@ -11,6 +11,7 @@ use Rattle.nm_calls.proofs.Standing.{walk_on}
 use Rattle.nm_edge.specs.Layouts.{Layout}
 use Rattle.nm_calls.proofs.Adding.{walk_adds}
 use Rattle.nm_calls.proofs.WholeCleanups.{one_more}
+use Rattle.nm_steps.proofs.Seeing.{seen_through}
 use Rattle.nm_calls.proofs.walking.find.Goals as goal
 
 pub look_key-found-requires-clause-pinned : goal.look_key-found-requires-clause-pinned
@@ -46,6 +47,7 @@ loop-below-preserved c =
     subst (λ n. q.view.log ≡ r.view.log ++ (Look n (EdgeOn c.side_at-way.result), EdgeIs e) ∷ []) c.slot-node.ensures (ap (λ (s : Stand). s.view.log) c.look_edge-next.ensures.step) in
     record {
       same = search rules;
+      past = seen_through _ _ _ c.loop-below.invariant.past (seen_through _ _ _ c.look_key-found.ensures.past c.look_edge-next.ensures.past);
       walk = (_, walk_on c.args.key c.loop-below._below o.view.log p.view.log r.view.log q.view.log t c.further-spot.result c.loop-below.invariant.walk.0 c.look_key-found.result c.side_at-way.result e c.loop-below.invariant.walk.1 first c.side_at-way.ensures second c.further-spot.ensures.spot some);
       known = subst (λ (f : Edge). Tells q (KnowsSlot f.slot)) (sym c.further-spot.ensures.edge) (edge.learned.leads some);
       on = goes_then o p q c.loop-below.invariant.on (goes_then p r q c.look_key-found.ensures.on c.look_edge-next.ensures.on);

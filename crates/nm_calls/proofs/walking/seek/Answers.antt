@@ -11,6 +11,7 @@ use Rattle.nm_calls.proofs.Standing.{walk_on, at_kept, at_begin, at_onto}
 use Rattle.nm_edge.specs.Layouts.{Layout}
 use Rattle.nm_calls.proofs.Adding.{walk_adds}
 use Rattle.nm_calls.proofs.WholeCleanups.{one_more}
+use Rattle.nm_steps.proofs.Seeing.{seen_through}
 use Rattle.nm_calls.proofs.walking.seek.Goals as goal
 
 pub look_key-found-requires-clause-pinned : goal.look_key-found-requires-clause-pinned
@@ -48,6 +49,7 @@ loop-below-preserved c =
     let kept = at_kept (Tells p) (Tells q) (λ fact holds. c.look_edge-next.ensures.on.keeps fact (c.look_key-found.ensures.on.keeps fact holds)) t c.loop-below.chain.items c.loop-below.invariant.at in
     record {
       same = search rules;
+      past = seen_through _ _ _ c.loop-below.invariant.past (seen_through _ _ _ c.look_key-found.ensures.past c.look_edge-next.ensures.past);
       walk = rw more (walk_on c.args.key c.loop-below._below o.view.log p.view.log r.view.log q.view.log t c.further-spot.result c.loop-below.chain.items c.look_key-found.result c.side_at-way.result e c.loop-below.invariant.walk first c.side_at-way.ensures second c.further-spot.ensures.spot some);
       at = rw (c.further-spot.ensures.spot, more) (at_onto (Tells q) t c.loop-below.chain.items c.side_at-way.result e kept edge.learned some);
       within = subst (λ (f : Edge). f.slot ≤ c.args.shared.now.layout.nodes) (sym c.further-spot.ensures.edge) (search rules);
@@ -80,6 +82,7 @@ loop-below-init c =
     let none' : c.clear.new.self.items ≡ [] = search rules in
     record {
       same = search rules;
+      past = c.look_edge.ensures.past;
       walk = rw (c.first-spot.ensures, none') (refl, refl, some, ap (λ (s : Stand). s.view.log) c.look_edge.ensures.step);
       at = rw (c.first-spot.ensures, none') (at_begin (Tells p) e (c.look_edge.ensures.on.keeps (KnowsSlot 1) c.requires.root) (c.look_edge.ensures.on.keeps (KnowsSlot 2) c.requires.known) c.look_edge.ensures.told.learned some);
       within = rw c.first-spot.ensures (rw (← c.requires.own.layout) c.look_edge.ensures.told.within);
