@@ -58,7 +58,7 @@ pub goes_on_from_earlier : (run earlier : List (ℕ × Event)) (ws : List Hand) 
 goes_on_from_earlier run earlier ws more all i w less = goes_on_through run earlier (slice_index_or ws i w).pass.view.past more (all i w less)
 
 pub goes_on_from_one_more : (w : Hand) (us : List Hand) (p q : Stand) → HasSeenAllOf q p → HasSeenAllOf q w.pass → GoesOnFromAll p.view.past us → GoesOnFromAll q.view.past (w ∷ us)
-goes_on_from_one_more w us p q seen told all = All-cons (λ (u : Hand). Extends q.view.past u.pass.view.past) w us told (goes_on_from_earlier q.view.past p.view.past us seen all)
+goes_on_from_one_more w us p q seen told all = All-cons (λ (u : Hand). Extends q.view.past u.pass.view.past) w us told.goes_on (goes_on_from_earlier q.view.past p.view.past us seen.goes_on all)
 
 -- so from what the last one saw, whose own log the joined view has
 goes_on_from_last : (run : List (ℕ × Event)) (ws : List Hand) → GoesOnFromAll run ws → Extends run (all_joined ws).past

@@ -6,7 +6,7 @@ use Rattle.nm_calls.specs.declared.inserting.Fault.TheVariants as lost
 use Rattle.nm_calls.specs.Calls.{HasDid, HasMissed}
 use Rattle.nm_calls.specs.Deletes.{DeleteDid, FinishDid, LosesEachTry, LosesAfterFlag}
 use Rattle.nm_calls.specs.Inserts.{InsertDid}
-use Rattle.nm_calls.specs.Moments.{AnswerHasMoment}
+use Rattle.nm_calls.specs.Moments.{AnswerHasMoment, HadNoCall}
 use Rattle.nm_calls.specs.Won.{links_of_insert, flags_of_delete}
 use Rattle.nm_epoch.specs.Tries.{IsPinned as PinsSo, IsMoved}
 use Rattle.nm_model.specs.declared.event.Event.TheVariants.{Sight}
@@ -18,6 +18,7 @@ use Rattle.nm_tree.specs.declared.fault.Fault.TheVariants as fault
 use Rattle.nm_tree.specs.declared.worker.Unfinished.{Unfinished}
 use Rattle.nm_tree.specs.Workers.{Hand, HasLittleRoom}
 use Rattle.nm_epoch.specs.Resting.{epochs}
+use Rattle.nm_steps.specs.Steps.{Stand}
 
 -- a key is pending, and nothing has changed
 abbrev pub IsRefused : Hand → Hand → Type 0
@@ -93,9 +94,10 @@ DeleteLacks nodes tries k w z _ = Unit {0}
 abbrev pub FinishLacks : ℕ → ℕ → Hand → Hand → Fault → Type 0
 FinishLacks nodes tries w z _ = LacksRoom z ⊎ ((n : Unfinished) × (w.pending ≡ Some n) × LosesEachTry nodes n.key n.leaf tries w.pass.view.log z.pass.view.log)
 
--- the delete that was pending is answered: its leaf was cut at a moment of that delete
+-- the delete that was pending is answered, and it is one behind all that the worker had seen whenever it had no call, as before the call that began
+-- the delete: its leaf was cut at a moment of it
 abbrev pub FinishHasMoment : Hand → Hand → Result Bool Fault → Type 0
-FinishHasMoment w z (Ok true) = (n : Unfinished) × (w.pending ≡ Some n) × AnswerHasMoment z.pass Delete n.key true
+FinishHasMoment w z (Ok true) = (n : Unfinished) × (w.pending ≡ Some n) × ((o : Stand) → HadNoCall o w.pass → AnswerHasMoment o z.pass Delete n.key true)
 FinishHasMoment w z _ = Unit {0}
 
 -- a pin for the caller

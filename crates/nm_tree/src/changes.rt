@@ -1,7 +1,7 @@
 //! Inserts, deletes, and what is left to do of a delete.
 ghost use Rattle.std.specs.Prelude.{◌≡◌, ◌⊎◌, ◌+◌, ◌*◌, ◌<◌, ◌≤◌, ℕ, true, false, length, None, IfOk, IfErr, IsErrOf};
 ghost use Rattle.nm_model.specs.declared.event.Op.TheVariants.{Insert, Delete};
-ghost use Rattle.nm_steps.specs.Steps.{IsOf, IsSamePass};
+ghost use Rattle.nm_steps.specs.Steps.{Stand, IsOf, IsSamePass, HasSeenAllOf};
 ghost use Rattle.nm_calls.specs.Bounds.{chain_bound, cut_bound};
 ghost use Rattle.nm_tree.specs.Answers.{HasInserted, HasDeleted, HasFinished, FinishHasMoment, InsertLacks, DeleteLacks, FinishLacks, links_won, flags_won};
 ghost use Rattle.nm_model.specs.Maps.{get};
@@ -9,7 +9,7 @@ ghost use Rattle.nm_steps.specs.Rules.{knowledge};
 ghost use Rattle.nm_epoch.specs.Resting.{IsResting};
 ghost use Rattle.nm_calls.specs.Deletes.{IsRemoving, DeleteDid, AfterDelete, FinishDid, LosesEachTry, LosesAfterFlag, LacksRoomOr};
 ghost use Rattle.nm_calls.specs.Inserts.{InsertDid};
-ghost use Rattle.nm_calls.specs.Moments.{AnswerHasMoment};
+ghost use Rattle.nm_calls.specs.Moments.{AnswerHasMoment, HadNoCall};
 ghost use Rattle.nm_calls.specs.Won.{HasWon, links_of_insert, flags_of_delete};
 ghost use Rattle.nm_tree.specs.Workers.{IsBetweenCalls, KeepsOthers, IsKept, OnlyOwnLedger};
 
@@ -36,9 +36,10 @@ fn insert_with(
     requires rests { IsResting pass.old }
     requires kept { IsKept pass.old own.old account.old }
     ensures same { IsSamePass pass.old pass.new }
+    ensures past { HasSeenAllOf pass.new pass.old }
     ensures did { InsertDid placement.old shared.now.layout.nodes tries key pass.old.view.log pass.new.view.log result }
     ensures refused { IsErrOf result Lost.NoMemory → own.new.queue.spare < cut_bound }
-    ensures moment { IfOk result (AnswerHasMoment pass.new Insert key) }
+    ensures moment { IfOk result (AnswerHasMoment pass.old pass.new Insert key) }
     ensures steps { length pass.new.view.log ≤ length pass.old.view.log + tries * (4 * shared.now.layout.nodes + 8 * chain_bound) + 6 * shared.now.layout.nodes + 10 }
     ensures won { HasWon pass.old.view.log pass.new.view.log (links_of_insert result) 0 }
     ensures rests { IsResting pass.new }
@@ -74,9 +75,10 @@ fn delete_with(
     requires rests { IsResting pass.old }
     requires kept { IsKept pass.old own.old account.old }
     ensures same { IsSamePass pass.old pass.new }
+    ensures past { HasSeenAllOf pass.new pass.old }
     ensures did { DeleteDid shared.now.layout.nodes tries key pass.old.view.log pass.new.view.log result }
     ensures refused { IfErr result (LacksRoomOr (LosesAfterFlag shared.now.layout.nodes tries key pass.old.view.log pass.new.view.log) own.new.queue.spare) }
-    ensures moment { IfOk result (AnswerHasMoment pass.new Delete key) }
+    ensures moment { IfOk result (AnswerHasMoment pass.old pass.new Delete key) }
     ensures steps { length pass.new.view.log ≤ length pass.old.view.log + tries * (4 * shared.now.layout.nodes + 8 * chain_bound) + 6 * shared.now.layout.nodes + 10 }
     ensures won { HasWon pass.old.view.log pass.new.view.log 0 (flags_of_delete result) }
     ensures after { AfterDelete key pass.new result }
@@ -130,9 +132,10 @@ fn finish_with(
     requires removing { IsRemoving pass.old pending.now.key pending.now.leaf }
     requires kept { IsKept pass.old own.old account.old }
     ensures same { IsSamePass pass.old pass.new }
+    ensures past { HasSeenAllOf pass.new pass.old }
     ensures did { FinishDid shared.now.layout.nodes pending.now.key pending.now.leaf tries pass.old.view.log pass.new.view.log result }
     ensures refused { result ≡ false → (own.new.queue.spare < cut_bound) ⊎ LosesEachTry shared.now.layout.nodes pending.now.key pending.now.leaf tries pass.old.view.log pass.new.view.log }
-    ensures moment { result ≡ true → AnswerHasMoment pass.new Delete pending.now.key true }
+    ensures moment { result ≡ true → (o : Stand) → HadNoCall o pass.old → AnswerHasMoment o pass.new Delete pending.now.key true }
     ensures steps { length pass.new.view.log ≤ length pass.old.view.log + tries * (4 * shared.now.layout.nodes + 8 * chain_bound) + 6 * shared.now.layout.nodes + 10 }
     ensures won { HasWon pass.old.view.log pass.new.view.log 0 0 }
     ensures rests { result ≡ true → IsResting pass.new }
@@ -164,9 +167,10 @@ impl Tree {
         requires own { IsOf self.now worker.old.pass }
         requires free { worker.old.held ≡ None }
         ensures same { IsSamePass worker.old.pass worker.new.pass }
+        ensures past { HasSeenAllOf worker.new.pass worker.old.pass }
         ensures did { HasInserted self.now.layout.nodes tries key worker.old worker.new result }
         ensures lacks { IfErr result (InsertLacks worker.new) }
-        ensures moment { IfOk result (AnswerHasMoment worker.new.pass Insert key) }
+        ensures moment { IfOk result (AnswerHasMoment worker.old.pass worker.new.pass Insert key) }
         ensures won { HasWon worker.old.pass.view.log worker.new.pass.view.log (links_won result) 0 }
         ensures steps { length worker.new.pass.view.log ≤ length worker.old.pass.view.log + tries * (4 * self.now.layout.nodes + 8 * chain_bound) + 6 * self.now.layout.nodes + 10 }
         ensures queues { KeepsOthers worker.old.pass.view.number worker.old.queues worker.new.queues }
@@ -206,9 +210,10 @@ impl Tree {
         requires own { IsOf self.now worker.old.pass }
         requires free { worker.old.held ≡ None }
         ensures same { IsSamePass worker.old.pass worker.new.pass }
+        ensures past { HasSeenAllOf worker.new.pass worker.old.pass }
         ensures did { HasDeleted self.now.layout.nodes tries key worker.old worker.new result }
         ensures lacks { IfErr result (DeleteLacks self.now.layout.nodes tries key worker.old worker.new) }
-        ensures moment { IfOk result (AnswerHasMoment worker.new.pass Delete key) }
+        ensures moment { IfOk result (AnswerHasMoment worker.old.pass worker.new.pass Delete key) }
         ensures won { HasWon worker.old.pass.view.log worker.new.pass.view.log 0 (flags_won result) }
         ensures steps { length worker.new.pass.view.log ≤ length worker.old.pass.view.log + tries * (4 * self.now.layout.nodes + 8 * chain_bound) + 6 * self.now.layout.nodes + 10 }
         ensures queues { KeepsOthers worker.old.pass.view.number worker.old.queues worker.new.queues }
@@ -239,6 +244,7 @@ impl Tree {
     pub fn finish(&self, worker: &mut Worker, tries: u32) -> Result<bool, Fault>
         requires own { IsOf self.now worker.old.pass }
         ensures same { IsSamePass worker.old.pass worker.new.pass }
+        ensures past { HasSeenAllOf worker.new.pass worker.old.pass }
         ensures did { HasFinished self.now.layout.nodes tries worker.old worker.new result }
         ensures lacks { IfErr result (FinishLacks self.now.layout.nodes tries worker.old worker.new) }
         ensures moment { FinishHasMoment worker.old worker.new result }

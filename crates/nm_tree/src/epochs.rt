@@ -3,7 +3,7 @@ ghost use Rattle.std.specs.Prelude.{ℕ, ◌≡◌, ◌≢◌, ◌+◌, ◌*◌,
 ghost use Rattle.nm_model.specs.declared.event.Event.TheVariants.{Leave};
 ghost use Rattle.nm_model.specs.declared.reply.Reply.TheVariants.{Departed};
 ghost use Rattle.nm_order.specs.Reads.{HasRead};
-ghost use Rattle.nm_steps.specs.Steps.{IsOf, IsInRun, IsSamePass, Stepped};
+ghost use Rattle.nm_steps.specs.Steps.{IsOf, IsInRun, IsSamePass, Stepped, HasSeenAllOf};
 ghost use Rattle.nm_epoch.specs.Resting.{Settles, epochs};
 ghost use Rattle.nm_steps.specs.Rules.{knowledge};
 ghost use Rattle.nm_epoch.specs.Scans.{IsAdvance};
@@ -29,6 +29,7 @@ impl Tree {
         requires own { IsOf self.now worker.old.pass }
         requires free { worker.old.held ≡ None }
         ensures same { IsSamePass worker.old.pass worker.new.pass }
+        ensures past { HasSeenAllOf worker.new.pass worker.old.pass }
         ensures did { HasPinned tries worker.old worker.new result }
         ensures queues { worker.new.queues ≡ worker.old.queues }
         ensures steps { length worker.new.pass.view.log ≤ length worker.old.pass.view.log + (3 * tries + 1) }
@@ -52,6 +53,7 @@ impl Tree {
         requires own { IsOf self.now worker.old.pass }
         requires held { IsSome worker.old.held }
         ensures step { Stepped worker.old.pass worker.new.pass Leave Departed }
+        ensures past { HasSeenAllOf worker.new.pass worker.old.pass }
         ensures queues { worker.new.queues ≡ worker.old.queues }
         ensures pending { worker.new.pending ≡ None }
         ensures held { worker.new.held ≡ None }
@@ -67,6 +69,7 @@ impl Tree {
     pub fn advance(&self, worker: &mut Worker) -> Advance
         requires own { IsOf self.now worker.old.pass }
         ensures same { IsSamePass worker.old.pass worker.new.pass }
+        ensures past { HasSeenAllOf worker.new.pass worker.old.pass }
         ensures did { IsAdvance self.now.layout.workers worker.old.pass.view.number (epochs worker.old.pass).pin worker.old.pass.view.log worker.new.pass.view.log result }
         ensures place { KeepsPlace worker.old worker.new }
         ensures queues { worker.new.queues ≡ worker.old.queues }
@@ -81,6 +84,7 @@ impl Tree {
     pub fn behind(&self, worker: &mut Worker) -> Behind
         requires own { IsOf self.now worker.old.pass }
         ensures same { IsSamePass worker.old.pass worker.new.pass }
+        ensures past { HasSeenAllOf worker.new.pass worker.old.pass }
         ensures did { IsBehind self.now.layout.workers worker.old.pass.view.number (epochs worker.old.pass).pin worker.old.pass.view.log worker.new.pass.view.log result }
         ensures place { KeepsPlace worker.old worker.new }
         ensures queues { worker.new.queues ≡ worker.old.queues }
@@ -97,6 +101,7 @@ impl Tree {
     pub fn collect(&self, worker: &mut Worker) -> Collected
         requires own { IsOf self.now worker.old.pass }
         ensures same { IsSamePass worker.old.pass worker.new.pass }
+        ensures past { HasSeenAllOf worker.new.pass worker.old.pass }
         ensures did { IsCollection result.epoch worker.old.queues worker.old.pass.view.log worker.new.pass.view.log }
         ensures freed { result.freed ≡ length (ripe_of result.epoch worker.old.queues) }
         ensures lost { HaveLost result.epoch worker.old.queues worker.new.queues }
@@ -127,6 +132,7 @@ fn collect_all(
     requires own { IsOf shared.now pass.old }
     requires queues { AreHeld (knowledge pass.old.view) queues.old.items }
     ensures same { IsSamePass pass.old pass.new }
+    ensures past { HasSeenAllOf pass.new pass.old }
     ensures run { IsInRun pass.new }
     ensures part { IsCollection result.epoch queues.old.items pass.old.view.log pass.new.view.log }
     ensures freed { result.freed ≡ length (ripe_of result.epoch queues.old.items) }

@@ -2,13 +2,14 @@
 //!
 //! The tree is the external search tree of Natarajan and Mittal (PPoPP 2014); its removed nodes are used again by epochs (Fraser,
 //! Practical lock-freedom, 2004). Open a `Tree`, give each thread one of its `Worker`s, and call `has`, `insert` and `delete` on the shared tree.
-#![tactic(auto)]
+#![tactic(auto, using(nm_steps::proofs::Seeing::seen_all))]
 
 mod changes;
 mod closing;
 mod epochs;
 mod fault;
 mod lookup;
+mod notes;
 mod resigning;
 mod running;
 mod tree;
@@ -18,6 +19,7 @@ pub use closing::{CloseError, CloseReason, Report};
 pub use fault::{Fault, PinFault};
 pub use nm_epoch::{Advance, Behind, Collected, Entry, HeldQueue};
 pub use nm_model::NewError;
+pub use nm_steps::Note;
 pub use resigning::{ResignFault, ResignReason};
 pub use running::each_moment_is_of_turns;
 pub use tree::Tree;

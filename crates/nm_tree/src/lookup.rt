@@ -4,7 +4,7 @@ ghost use Rattle.nm_model.specs.declared.event.Op.TheVariants.{Has};
 ghost use Rattle.nm_calls.specs.Bounds.{chain_bound};
 ghost use Rattle.nm_calls.specs.Moments.{AnswerHasMoment};
 ghost use Rattle.nm_calls.specs.Won.{HasWon};
-ghost use Rattle.nm_steps.specs.Steps.{IsOf, IsSamePass};
+ghost use Rattle.nm_steps.specs.Steps.{IsOf, IsSamePass, HasSeenAllOf};
 ghost use Rattle.nm_tree.specs.Answers.{HasAnswered};
 ghost use Rattle.nm_tree.specs.Workers.{IsBetweenCalls};
 
@@ -24,8 +24,9 @@ impl Tree {
         requires own { IsOf self.now worker.old.pass }
         requires free { worker.old.held ≡ None }
         ensures same { IsSamePass worker.old.pass worker.new.pass }
+        ensures past { HasSeenAllOf worker.new.pass worker.old.pass }
         ensures did { HasAnswered self.now.layout.nodes tries key worker.old worker.new result }
-        ensures moment { IfOk result (AnswerHasMoment worker.new.pass Has key) }
+        ensures moment { IfOk result (AnswerHasMoment worker.old.pass worker.new.pass Has key) }
         ensures won { HasWon worker.old.pass.view.log worker.new.pass.view.log 0 0 }
         ensures steps { length worker.new.pass.view.log ≤ length worker.old.pass.view.log + tries * (4 * self.now.layout.nodes + 8 * chain_bound) + 6 * self.now.layout.nodes + 10 }
         ensures queues { worker.new.queues ≡ worker.old.queues }

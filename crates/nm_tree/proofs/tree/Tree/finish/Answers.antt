@@ -1,7 +1,9 @@
-use Rattle.std.proofs.Common.{inl, inr, sym, None, ap, refl, ◌∙◌, arith}
+use Rattle.std.proofs.Common.{inl, inr, sym, None, ap, refl, subst, ◌∙◌, arith}
 use Rattle.std.specs.Prelude.{Ok, slice_set}
 use Rattle.nm_model.specs.Maps.{get}
+use Rattle.nm_model.specs.declared.event.Op.TheVariants.{Delete}
 use Rattle.nm_steps.specs.Steps.{Stand}
+use Rattle.nm_calls.specs.Moments.{AnswerHasMoment, HadNoCall}
 use Rattle.nm_tree.specs.Workers.{Hand, pending_in}
 use Rattle.nm_tree.proofs.QueueLists.{lacks_after, others_stay, others_after, stands_within}
 use Rattle.nm_tree.proofs.Changing.{accounts_within, kept_there, changed}
@@ -54,7 +56,10 @@ returns-clause-did c = finished_so _ _ c.args.tries _ _ (record { pass = c.finis
     (Ok true) c.self.view_is c.worker.view_is (c.in-Pending.pending, ap pending_in c.in-Pending.is, refl, rw c.if-not-finish_with.false at c.finish_with.ensures.did)
 
 pub returns-clause-moment : goal.returns-clause-moment
-returns-clause-moment c = (c.in-Pending.pending, ap (λ (w : Hand). w.pending) (sym c.worker.view_is) ∙ ap pending_in c.in-Pending.is, c.finish_with.ensures.moment c.if-not-finish_with.false)
+returns-clause-moment c =
+    let n = c.in-Pending.pending in
+    let P : Hand → Type 0 = λ w. (o : Stand) → HadNoCall o w.pass → AnswerHasMoment o c.finish_with.new.pass Delete n.key true in
+    (n, ap (λ (w : Hand). w.pending) (sym c.worker.view_is) ∙ ap pending_in c.in-Pending.is, subst P c.worker.view_is (c.finish_with.ensures.moment c.if-not-finish_with.false))
 
 pub returns-then-not-finish_with-clause-lacks : goal.returns-then-not-finish_with-clause-lacks
 returns-then-not-finish_with-clause-lacks c =
