@@ -1,5 +1,6 @@
 pub mod Replayed
 pub mod LaterLooks
+pub mod LaterMisses
 pub mod ToldPasses
 pub mod Flags
 pub mod Pairs

@@ -1,20 +1,24 @@
 -- What a pass that was told finds.
-use Rattle.std.proofs.Common.{◌≡◌, ℕ, ◌<◌, ◌≤◌, Bool, true, List, [], ◌∷◌, ◌++◌, append_assoc, length, length-append, refl, ap, subst, ◌∙◌, arith}
-use Rattle.std.specs.Prelude.{All, Result, Ok, Err, IfOk}
+use Rattle.std.proofs.Common.{◌≡◌, ℕ, ◌<◌, ◌≤◌, Bool, true, false, List, ◌∷◌, ◌++◌, append_assoc, length, length-append, sym, ap, subst, ◌∙◌, arith}
+use Rattle.std.specs.Prelude.{All, Option, Result, Ok, Err, IfOk, IfSome}
+use Rattle.std.specs.Result.{result_ok}
 use Rattle.nm_edge.specs.Layouts.{Layout, IsLayout}
 use Rattle.nm_model.specs.declared.event.Op.{Op}
-use Rattle.nm_model.specs.declared.event.Op.TheVariants.{Has, Insert}
+use Rattle.nm_model.specs.declared.event.Op.TheVariants.{Has, Insert, Delete}
 use Rattle.nm_model.specs.declared.event.Event.{Event}
 use Rattle.nm_model.specs.declared.event.Event.TheVariants.{LeaveWith}
-use Rattle.nm_model.specs.Ordered.{ordered, trace_in, HasKey}
-use Rattle.nm_order.specs.Logs.{part_of}
+use Rattle.nm_model.specs.Ordered.{HasKey}
+use Rattle.nm_model.specs.Walks.{Entry}
 use Rattle.nm_order.specs.Answered.{IsAnsweredIn}
-use Rattle.nm_order.specs.History.{pin_of}
+use Rattle.nm_order.specs.AnsweredSince.{IsAnsweredSince}
 use Rattle.nm_steps.specs.Rules.{Extends}
-use Rattle.nm_steps.specs.Steps.{Stand, HasSeen, HasHeard, IsSamePass}
+use Rattle.nm_steps.specs.Steps.{Stand, HasSeen, HasSeenAllOf}
+use Rattle.nm_steps.proofs.Growing.{goes_on_through}
 use Rattle.nm_calls.specs.Moments.{AnswerHasMoment}
 use Rattle.nm_told.specs.Unflagged.{NoneFlagged}
-use Rattle.nm_told.proofs.LaterLooks.{pinned_behind, finds}
+use Rattle.nm_told.specs.Uninserted.{NoneInserted}
+use Rattle.nm_told.proofs.LaterLooks.{finds}
+use Rattle.nm_told.proofs.LaterMisses.{misses}
 
 -- what was answered in a run was answered in each that goes on from it
 answered_on : (L : Layout) (run earlier : List (ℕ × Event)) (w : ℕ) (op : Op) (k : ℕ) (answer : Bool) → Extends run earlier → IsAnsweredIn L earlier w op k answer → IsAnsweredIn L run w op k answer
@@ -32,45 +36,51 @@ longer run earlier e = let l = ap (λ (l : List (ℕ × Event)). length l) e.is 
 shorter : (L : Layout) (run : List (ℕ × Event)) (w : ℕ) (op : Op) (k : ℕ) (answer : Bool) (i : IsAnsweredIn L run w op k answer) → length i.before < length run
 shorter L run w op k answer i = let l = ap (λ (l : List (ℕ × Event)). length l) i.is_run in let a = length-append i.before ((w, LeaveWith answer) ∷ i.since) in omega (arith, l, a)
 
-in_runs : (L : Layout) → 5 ≤ L.nodes → (k w u : ℕ) → u < L.workers → (first second more : List (ℕ × Event)) → Extends second first → All (λ t. HasKey t.1) (second ++ more) → part_of u (trace_in (ordered L) second) ≡ []
-    → IsAnsweredIn L first w Insert k true → (answer : Bool) → IsAnsweredIn L (second ++ more) u Has k answer → NoneFlagged L (second ++ more) k → answer ≡ true
-unfolding answered_on
-in_runs L enough k w u below first second more e keys nothing i answer h none =
-    let whole : Extends (second ++ more) second = record { more = more; is = refl } in
-    let pin : length second ≤ pin_of L h.before u = pinned_behind L enough u below second more keys nothing Has k answer h in
+-- since an earlier run, and so at all
+answered_in : (L : Layout) (past run : List (ℕ × Event)) (w : ℕ) (log : List Entry) (op : Op) (k : ℕ) (answer : Bool) → IsAnsweredSince L past run w log op k answer → IsAnsweredIn L run w op k answer
+answered_in L past run w log op k answer s = record { before = s.before; since = s.since; is_run = s.is_run; may = s.may; moment = s.moment }
+
+in_runs : (L : Layout) → 5 ≤ L.nodes → (k w u : ℕ) (first second last : List (ℕ × Event)) → Extends second first → Extends last second → All (λ t. HasKey t.1) last
+    → IsAnsweredIn L first w Insert k true → (log : List Entry) (answer : Bool) → IsAnsweredSince L second last u log Has k answer → NoneFlagged L last k → answer ≡ true
+unfolding answered_on answered_in
+in_runs L enough k w u first second last e f keys i log answer h none =
     let a = longer second first e in
     let b = shorter L first w Insert k true i in
-    finds L enough (second ++ more) keys k none w u answer (answered_on L (second ++ more) second w Insert k true whole (answered_on L second first w Insert k true e i)) h (omega (arith, pin, a, b))
+    let pin = h.pinned in
+    finds L enough last keys k none w u answer (answered_on L last first w Insert k true (goes_on_through last second first f e) i) (answered_in L second last u log Has k answer h) (omega (arith, pin, a, b))
 
--- one has inserted the key; of two, before: it has done nothing, and has seen what one had seen; looked: it has looked the key up; after: it has heard its own note
-module _ (k : ℕ) (one before looked after : Stand) (fits : IsLayout before.view.layout) (layout : one.view.layout ≡ before.view.layout)
-    (inserted : AnswerHasMoment one Insert k true) (has_inserted : HasSeen one.view) (told : Extends before.view.past one.view.past)
-    (new : before.view.log ≡ []) (was_told : HasSeen before.view) (same : IsSamePass before looked) (answer : Bool) (answered : AnswerHasMoment looked Has k answer)
-    (heard : HasHeard looked after) (own : Extends after.view.past before.view.past) (seen : HasSeen after.view) (none : NoneFlagged after.view.layout after.view.past k) where
-  abbrev L : Layout
-  L = before.view.layout
+in_runs_without : (L : Layout) → 5 ≤ L.nodes → (k w u : ℕ) (start first second last : List (ℕ × Event)) → Extends second first → Extends last second → All (λ t. HasKey t.1) last
+    → (log : List Entry) → IsAnsweredSince L start first w log Delete k true → (log' : List Entry) (answer : Bool) → IsAnsweredSince L second last u log' Has k answer → NoneInserted L start last k → answer ≡ false
+unfolding answered_on answered_in
+in_runs_without L enough k w u start first second last e f keys log s log' answer h none =
+    let i = answered_in L start first w log Delete k true s in
+    let a = longer second first e in
+    let b = shorter L first w Delete k true i in
+    let pin = h.pinned in
+    misses L enough last keys k start none w u answer (answered_on L last first w Delete k true (goes_on_through last second first f e) i) s.pinned (answered_in L second last u log' Has k answer h) (omega (arith, pin, a, b))
 
-  insert : IsAnsweredIn L one.view.past one.view.number Insert k true
-  insert = subst (λ (l : Layout). IsAnsweredIn l one.view.past one.view.number Insert k true) layout
-      (inserted (record { worker = has_inserted.worker; turns = one.view.past; keys = has_inserted.keys; is_part = has_inserted.is_part }))
-
-  look : IsAnsweredIn L after.view.past before.view.number Has k answer
-  look = subst (λ (z : Stand). IsAnsweredIn z.view.layout after.view.past z.view.number Has k answer) same
-      (answered (record {
-        worker = subst (λ (z : Stand). z.view.number < z.view.layout.workers) heard seen.worker;
-        turns = after.view.past;
-        keys = seen.keys;
-        is_part = subst (λ (z : Stand). part_of z.view.number (trace_in (ordered z.view.layout) after.view.past) ≡ z.view.log) heard seen.is_part;
-      }))
-
-  unflagged : NoneFlagged L after.view.past k
-  unflagged = subst (λ (z : Stand). NoneFlagged z.view.layout after.view.past k) same (subst (λ (z : Stand). NoneFlagged z.view.layout after.view.past k) heard none)
-
+-- one has inserted the key, behind all that it had seen as start; of two, before: it has seen what one had seen; after: it has looked the key up
+module _ (k : ℕ) (start one before after : Stand) (fits : IsLayout after.view.layout) (layout : one.view.layout ≡ after.view.layout) (inserted : AnswerHasMoment start one Insert k true)
+    (told : HasSeenAllOf before one) (answer : Bool) (answered : AnswerHasMoment before after Has k answer) (grown : HasSeenAllOf after before) (seen : HasSeen after.view) (none : NoneFlagged after.view.layout after.view.past k) where
   pub told_finds : answer ≡ true
   told_finds =
-      in_runs L (let least = fits.least in omega arith) k one.view.number before.view.number was_told.worker one.view.past before.view.past own.more told
-      (subst (λ (l : List (ℕ × Event)). All (λ t. HasKey t.1) l) own.is seen.keys) (was_told.is_part ∙ new) insert answer
-      (subst (λ (l : List (ℕ × Event)). IsAnsweredIn L l before.view.number Has k answer) own.is look) (subst (λ (l : List (ℕ × Event)). NoneFlagged L l k) own.is unflagged)
+      let insert : IsAnsweredIn one.view.layout one.view.past one.view.number Insert k true = answered_in one.view.layout start.view.past one.view.past one.view.number inserted.log Insert k true inserted.since in
+      in_runs after.view.layout (let least = fits.least in omega arith) k one.view.number after.view.number one.view.past before.view.past after.view.past told.goes_on grown.goes_on seen.keys
+      (subst (λ (l : Layout). IsAnsweredIn l one.view.past one.view.number Insert k true) layout insert) answered.log answer answered.since none
+
+-- one has deleted the key, behind all that it had seen as start; of two, before: it has seen what one had seen; after: it has looked the key up
+module _ (k : ℕ) (start one before after : Stand) (fits : IsLayout after.view.layout) (layout : one.view.layout ≡ after.view.layout) (deleted : AnswerHasMoment start one Delete k true)
+    (told : HasSeenAllOf before one) (answer : Bool) (answered : AnswerHasMoment before after Has k answer) (grown : HasSeenAllOf after before) (seen : HasSeen after.view)
+    (none : NoneInserted after.view.layout start.view.past after.view.past k) where
+  pub told_misses : answer ≡ false
+  told_misses =
+      in_runs_without after.view.layout (let least = fits.least in omega arith) k one.view.number after.view.number start.view.past one.view.past before.view.past after.view.past told.goes_on grown.goes_on seen.keys deleted.log
+      (subst (λ (l : Layout). IsAnsweredSince l start.view.past one.view.past one.view.number deleted.log Delete k true) layout deleted.since) answered.log answer answered.since none
+
+-- of what is answered, where an error is left out
+pub if_answered : {E : Type 0} (r : Result Bool E) (o : Option Bool) (P : Bool → Type 0) → o ≡ result_ok r → IfOk r P → IfSome o P
+if_answered (Ok b) o P is holds = subst (λ (x : Option Bool). IfSome x P) (sym is) holds
+if_answered (Err e) o P is holds = subst (λ (x : Option Bool). IfSome x P) (sym is) tt
 
 -- of each answer
 pub each_ok : {E : Type 0} (r : Result Bool E) (P Q : Bool → Type 0) → ((b : Bool) → P b → Q b) → IfOk r P → IfOk r Q

@@ -1,1 +1,2 @@
 pub mod Unflagged
+pub mod Uninserted

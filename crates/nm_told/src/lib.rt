@@ -4,12 +4,14 @@
 ghost use Rattle.std.specs.Prelude.{◌≡◌, ◌≢◌, ◌≤◌, true, [], length, IfOk, IfSome};
 ghost use Rattle.nm_model.specs.declared.event.Op.TheVariants.{Insert};
 ghost use Rattle.nm_steps.specs.Rules.{knowledge};
-ghost use Rattle.nm_steps.specs.Steps.{IsOf, IsSamePass, HasHeard, HasSeenAllOf};
+ghost use Rattle.nm_steps.specs.Steps.{Stand, IsOf, IsSamePass, HasHeard, HasSeenAllOf};
 ghost use Rattle.nm_epoch.specs.Collecting.{IsQueueOf};
 ghost use Rattle.nm_epoch.specs.Resting.{IsResting};
 ghost use Rattle.nm_calls.specs.Moments.{AnswerHasMoment};
 ghost use Rattle.nm_calls.specs.Won.{won_flags, won_splices, capped};
 ghost use Rattle.nm_told.specs.Unflagged.{NoneFlagged};
+
+mod trees;
 
 use nm_calls::{Busy, has, insert};
 use nm_edge::Key;
@@ -17,6 +19,7 @@ use nm_epoch::Entry;
 use nm_limbo::BlockQueue;
 use nm_pool::Placement;
 use nm_steps::{Pass, Shared};
+pub use trees::{delete_then_miss, insert_then_find, look_told, tell_worker};
 
 /// One worker tells another what it has seen.
 pub fn tell(shared: &Shared, from: &mut Pass, to: &mut Pass)
@@ -30,8 +33,8 @@ pub fn tell(shared: &Shared, from: &mut Pass, to: &mut Pass)
     shared.hear(to, note);
 }
 
-/// Looks a key up, as the first call of a worker, behind an insert of it by another one that was answered true. It is found, unless a delete of it has won a flag
-/// in the run that the worker has then seen.
+/// Looks a key up, by a worker that was told of an insert of it by another one, which was answered true. It is found, unless a delete of it has won a
+/// flag in the run that the worker has then seen.
 pub fn look_behind(
     shared: &Shared,
     one: &mut Pass,
@@ -40,26 +43,20 @@ pub fn look_behind(
     tries: u32,
 ) -> Result<bool, Busy>
     requires one { IsOf shared.now one.old }
-    requires inserted { AnswerHasMoment one.old Insert key true }
     requires two { IsOf shared.now two.old }
     requires rests { IsResting two.old }
-    requires new { two.old.view.log ≡ [] }
     ensures one { one.new ≡ one.old }
     ensures two { IsSamePass two.old two.new }
     ensures flags { won_flags two.new.view.log ≡ won_flags two.old.view.log }
-    ensures found { NoneFlagged two.new.view.layout two.new.view.past key → IfOk result (λ b. b ≡ true) }
+    ensures found { (start : Stand) → AnswerHasMoment start one.old Insert key true → NoneFlagged two.new.view.layout two.new.view.past key → IfOk result (λ b. b ≡ true) }
 {
-    one.is_of_a_run();
     tell(shared, one, two);
-    two.is_of_a_run();
-    let own = shared.note(two);
     let found = has(shared, two, key, tries);
-    shared.hear(two, own);
     two.is_of_a_run();
     found
 }
 
-/// One worker inserts a key, and then another one that was told of it looks it up, as its first call. `None`: a call was not answered, or the key had been in the set.
+/// One worker inserts a key, and then another one that was told of it looks it up. `None`: a call was not answered, or the key had been in the set.
 pub fn insert_then_look(
     shared: &Shared,
     one: &mut Pass,
@@ -77,7 +74,6 @@ pub fn insert_then_look(
     requires counted { splices.old ≡ capped (won_splices one.old.view.log) }
     requires two { IsOf shared.now two.old }
     requires rests { IsResting two.old }
-    requires new { two.old.view.log ≡ [] }
     ensures one { IsSamePass one.old one.new }
     ensures flags_one { won_flags one.new.view.log ≡ won_flags one.old.view.log }
     ensures two { IsSamePass two.old two.new }

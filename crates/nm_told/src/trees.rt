@@ -1,0 +1,89 @@
+//! The same of workers of a tree, by the clauses of `nm_tree` alone.
+ghost use Rattle.std.specs.Prelude.{◌≡◌, true, false, None, IfOk, IfSome};
+ghost use Rattle.nm_model.specs.declared.event.Op.TheVariants.{Insert, Delete};
+ghost use Rattle.nm_steps.specs.Steps.{Stand, IsOf, HasSeenAllOf};
+ghost use Rattle.nm_calls.specs.Moments.{AnswerHasMoment};
+ghost use Rattle.nm_told.specs.Unflagged.{NoneFlagged};
+ghost use Rattle.nm_told.specs.Uninserted.{NoneInserted};
+
+use nm_edge::Key;
+use nm_tree::{Fault, Tree, Worker};
+
+/// One worker tells another what it has seen.
+pub fn tell_worker(tree: &Tree, from: &mut Worker, to: &mut Worker)
+    requires from { IsOf tree.now from.old.pass }
+    requires to { IsOf tree.now to.old.pass }
+    ensures from { from.new ≡ from.old }
+    ensures own { IsOf tree.now to.new.pass }
+    ensures held { to.new.held ≡ to.old.held }
+    ensures layout { to.new.pass.view.layout ≡ to.old.pass.view.layout }
+    ensures heard { HasSeenAllOf to.new.pass from.old.pass }
+    ensures past { HasSeenAllOf to.new.pass to.old.pass }
+{
+    let note = tree.note(from);
+    tree.hear(to, note);
+}
+
+/// A look-up by a worker that was told what another one has seen. A key whose insert by that one was answered true is found, unless a delete of it has
+/// won a flag in the run that the worker has then seen. One whose delete was answered true is not found, unless an insert of it, behind all that the
+/// deleter had seen before its call, is answered true or has won a link in that run.
+pub fn look_told(
+    tree: &Tree,
+    one: &mut Worker,
+    two: &mut Worker,
+    key: Key,
+    tries: u32,
+) -> Result<bool, Fault>
+    requires one { IsOf tree.now one.old.pass }
+    requires two { IsOf tree.now two.old.pass }
+    requires free { two.old.held ≡ None }
+    ensures found { (start : Stand) → AnswerHasMoment start one.old.pass Insert key true → NoneFlagged two.new.pass.view.layout two.new.pass.view.past key → IfOk result (λ b. b ≡ true) }
+    ensures missed { (start : Stand) → AnswerHasMoment start one.old.pass Delete key true → NoneInserted two.new.pass.view.layout start.view.past two.new.pass.view.past key → IfOk result (λ b. b ≡ false) }
+{
+    tell_worker(tree, one, two);
+    let found = tree.has(two, key, tries);
+    two.is_of_a_run();
+    found
+}
+
+/// One worker inserts a key, and then another one that was told of it looks it up. `None`: a call was not answered, or the key had been in the set.
+/// Else it is found, unless a delete of it has begun to take it away.
+pub fn insert_then_find(
+    tree: &Tree,
+    one: &mut Worker,
+    two: &mut Worker,
+    key: Key,
+    tries: u32,
+) -> Option<bool>
+    requires one { IsOf tree.now one.old.pass }
+    requires two { IsOf tree.now two.old.pass }
+    requires first_free { one.old.held ≡ None }
+    requires free { two.old.held ≡ None }
+    ensures found { NoneFlagged two.new.pass.view.layout two.new.pass.view.past key → IfSome result (λ b. b ≡ true) }
+{
+    match tree.insert(one, key, tries) {
+        Ok(true) => look_told(tree, one, two, key, tries).ok(),
+        _ => None,
+    }
+}
+
+/// One worker deletes a key, and then another one that was told of it looks it up. `None`: a call was not answered, or the key was not in the set.
+/// Else it is not found, unless an insert, behind all that the deleter had seen before, has put it back.
+pub fn delete_then_miss(
+    tree: &Tree,
+    one: &mut Worker,
+    two: &mut Worker,
+    key: Key,
+    tries: u32,
+) -> Option<bool>
+    requires one { IsOf tree.now one.old.pass }
+    requires two { IsOf tree.now two.old.pass }
+    requires first_free { one.old.held ≡ None }
+    requires free { two.old.held ≡ None }
+    ensures missed { NoneInserted two.new.pass.view.layout one.old.pass.view.past two.new.pass.view.past key → IfSome result (λ b. b ≡ false) }
+{
+    match tree.delete(one, key, tries) {
+        Ok(true) => look_told(tree, one, two, key, tries).ok(),
+        _ => None,
+    }
+}
