@@ -4,7 +4,7 @@ use Rattle.nm_model.specs.declared.event.Event.TheVariants.{Leave}
 use Rattle.nm_model.specs.declared.event.Op.TheVariants.{Has, Insert, Delete}
 use Rattle.nm_model.specs.declared.reply.Reply.TheVariants.{Departed}
 use Rattle.nm_order.specs.Reads.{HasRead}
-use Rattle.nm_steps.specs.Steps.{IsSamePass, Stepped}
+use Rattle.nm_steps.specs.Steps.{IsSamePass, HasSeenAllOf, Stepped}
 use Rattle.nm_epoch.specs.declared.answers.Advance.{Advance}
 use Rattle.nm_epoch.specs.declared.answers.Behind.{Behind}
 use Rattle.nm_epoch.specs.declared.collecting.Collected.{Collected}
@@ -33,8 +33,9 @@ HasBound nodes tries w z = length z.pass.view.log ≤ length w.pass.view.log + t
 
 pub record LeavesHas (nodes tries k : ℕ) (w z : Hand) (r : Result Bool Lost) : Type 0 where
   pub same : IsSamePass w.pass z.pass
+  pub past : HasSeenAllOf z.pass w.pass
   pub did : HasAnswered nodes tries k w z r
-  pub moment : IfOk r (AnswerHasMoment z.pass Has k)
+  pub moment : IfOk r (AnswerHasMoment w.pass z.pass Has k)
   pub won : HasWon w.pass.view.log z.pass.view.log 0 0
   pub steps : HasBound nodes tries w z
   pub queues : z.queues ≡ w.queues
@@ -44,9 +45,10 @@ pub record LeavesHas (nodes tries k : ℕ) (w z : Hand) (r : Result Bool Lost) :
 
 pub record LeavesInsert (nodes tries k : ℕ) (w z : Hand) (r : Result Bool Lost) : Type 0 where
   pub same : IsSamePass w.pass z.pass
+  pub past : HasSeenAllOf z.pass w.pass
   pub did : HasInserted nodes tries k w z r
   pub lacks : IfErr r (InsertLacks z)
-  pub moment : IfOk r (AnswerHasMoment z.pass Insert k)
+  pub moment : IfOk r (AnswerHasMoment w.pass z.pass Insert k)
   pub won : HasWon w.pass.view.log z.pass.view.log (links_won r) 0
   pub steps : HasBound nodes tries w z
   pub queues : KeepsOthers w.pass.view.number w.queues z.queues
@@ -56,9 +58,10 @@ pub record LeavesInsert (nodes tries k : ℕ) (w z : Hand) (r : Result Bool Lost
 
 pub record LeavesDelete (nodes tries k : ℕ) (w z : Hand) (r : Result Bool Lost) : Type 0 where
   pub same : IsSamePass w.pass z.pass
+  pub past : HasSeenAllOf z.pass w.pass
   pub did : HasDeleted nodes tries k w z r
   pub lacks : IfErr r (DeleteLacks nodes tries k w z)
-  pub moment : IfOk r (AnswerHasMoment z.pass Delete k)
+  pub moment : IfOk r (AnswerHasMoment w.pass z.pass Delete k)
   pub won : HasWon w.pass.view.log z.pass.view.log 0 (flags_won r)
   pub steps : HasBound nodes tries w z
   pub queues : KeepsOthers w.pass.view.number w.queues z.queues
@@ -68,6 +71,7 @@ pub record LeavesDelete (nodes tries k : ℕ) (w z : Hand) (r : Result Bool Lost
 
 pub record LeavesFinish (nodes tries : ℕ) (w z : Hand) (r : Result Bool Lost) : Type 0 where
   pub same : IsSamePass w.pass z.pass
+  pub past : HasSeenAllOf z.pass w.pass
   pub did : HasFinished nodes tries w z r
   pub lacks : IfErr r (FinishLacks nodes tries w z)
   pub moment : FinishHasMoment w z r
@@ -80,6 +84,7 @@ pub record LeavesFinish (nodes tries : ℕ) (w z : Hand) (r : Result Bool Lost) 
 
 pub record LeavesPin (tries : ℕ) (w z : Hand) (r : Result ℕ Unpinned) : Type 0 where
   pub same : IsSamePass w.pass z.pass
+  pub past : HasSeenAllOf z.pass w.pass
   pub did : HasPinned tries w z r
   pub queues : z.queues ≡ w.queues
   pub steps : length z.pass.view.log ≤ length w.pass.view.log + (3 * tries + 1)
@@ -88,6 +93,7 @@ pub record LeavesPin (tries : ℕ) (w z : Hand) (r : Result ℕ Unpinned) : Type
 
 pub record LeavesUnpin (w z : Hand) : Type 0 where
   pub step : Stepped w.pass z.pass Leave Departed
+  pub past : HasSeenAllOf z.pass w.pass
   pub queues : z.queues ≡ w.queues
   pub pending : z.pending ≡ None
   pub held : z.held ≡ None
@@ -96,6 +102,7 @@ pub record LeavesUnpin (w z : Hand) : Type 0 where
 
 pub record LeavesAdvance (workers : ℕ) (w z : Hand) (a : Advance) : Type 0 where
   pub same : IsSamePass w.pass z.pass
+  pub past : HasSeenAllOf z.pass w.pass
   pub did : IsAdvance workers w.pass.view.number (epochs w.pass).pin w.pass.view.log z.pass.view.log a
   pub place : KeepsPlace w z
   pub queues : z.queues ≡ w.queues
@@ -105,6 +112,7 @@ pub record LeavesAdvance (workers : ℕ) (w z : Hand) (a : Advance) : Type 0 whe
 
 pub record LeavesBehind (workers : ℕ) (w z : Hand) (b : Behind) : Type 0 where
   pub same : IsSamePass w.pass z.pass
+  pub past : HasSeenAllOf z.pass w.pass
   pub did : IsBehind workers w.pass.view.number (epochs w.pass).pin w.pass.view.log z.pass.view.log b
   pub place : KeepsPlace w z
   pub queues : z.queues ≡ w.queues
@@ -114,6 +122,7 @@ pub record LeavesBehind (workers : ℕ) (w z : Hand) (b : Behind) : Type 0 where
 
 pub record LeavesCollect (nodes : ℕ) (w z : Hand) (c : Collected) : Type 0 where
   pub same : IsSamePass w.pass z.pass
+  pub past : HasSeenAllOf z.pass w.pass
   pub did : IsCollection c.epoch w.queues w.pass.view.log z.pass.view.log
   pub freed : c.freed ≡ length (ripe_of c.epoch w.queues)
   pub lost : HaveLost c.epoch w.queues z.queues
