@@ -7,6 +7,9 @@ use Rattle.nm_calls.specs.declared.growing.Fork.{Fork}
 use Rattle.nm_pool.specs.declared.placement.Fit.{Fit}
 use Rattle.nm_calls.specs.declared.inserting.Attempt.TheVariants as attempt
 use Rattle.nm_calls.specs.Inserts.{HasFork, IsTry}
+use Rattle.nm_steps.specs.Steps.{Stand}
+use Rattle.nm_calls.proofs.Adding.{adds_these, adds_then, counts_on}
+use Rattle.nm_calls.proofs.AddingInserts.{back_adds}
 use Rattle.nm_calls.proofs.GoingOn.{goes_then}
 use Rattle.nm_calls.proofs.Forks.{if_ready, none_left, tries_then, found_answer}
 use Rattle.nm_calls.proofs.Waiting.{may_grow_more}
@@ -34,6 +37,15 @@ answer-requires-clause-shown c =
 pub returns-in-Found-clause-private : goal.returns-in-Found-clause-private
 returns-in-Found-clause-private c =
     none_left c.args.pass.now c.give_back-in-Found.new.pass c.answer.new.pass c.answer.ensures.hands.private (c.give_back-in-Found.ensures.given c.args.pass.now (c.try_insert.ensures.has c.args.pass.now c.loop-round.invariant.has))
+
+pub returns-in-Found-clause-counted : goal.returns-in-Found-clause-counted
+returns-in-Found-clause-counted c =
+    let old = c.try_insert.new.pass.view.log in
+    let mid = c.give_back-in-Found.new.pass.view.log in
+    let new = c.answer.new.pass.view.log in
+    counts_on c.try_insert.new.splices old new
+    (adds_then old mid new (back_adds c.try_insert.new.fork old mid c.give_back-in-Found.ensures.part) (adds_these _ mid new (ap (λ (s : Stand). s.view.log) c.answer.ensures.step)))
+    c.try_insert.ensures.counted
 
 pub returns-in-Linked-clause-private : goal.returns-in-Linked-clause-private
 returns-in-Linked-clause-private c =
