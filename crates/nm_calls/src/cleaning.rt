@@ -1,7 +1,7 @@
 //! Whole cleanups: a frozen chain is cut off, labelled, and waits in the worker's queue.
 ghost use Rattle.std.specs.Prelude.{◌≡◌, ◌<◌, ◌≤◌, ◌+◌, ◌*◌, ◌++◌, true, false, length, map};
 ghost use Rattle.nm_steps.specs.Rules.{knowledge};
-ghost use Rattle.nm_steps.specs.Steps.{IsOf, IsSamePass};
+ghost use Rattle.nm_steps.specs.Steps.{IsOf, IsSamePass, HasSeenAllOf};
 ghost use Rattle.nm_epoch.specs.Collecting.{IsQueueOf, labelled_so};
 ghost use Rattle.nm_calls.specs.Bounds.{chain_bound, cut_bound};
 ghost use Rattle.nm_calls.specs.Telling.{Tells, GoesOn, IsInRun, IsPinnedSomewhere};
@@ -40,6 +40,7 @@ fn cut_off(
     requires at { IsAt (Tells pass.old) spot.now chain.now }
     requires few { length chain.now < chain_bound }
     ensures same { IsSamePass pass.old pass.new }
+    ensures past { HasSeenAllOf pass.new pass.old }
     ensures won { result ≡ true → HasCut spot.now chain.now nodes.new.items pass.old pass.new }
     ensures lost { result ≡ false → HasCutNothing spot.now chain.now pass.old pass.new }
     ensures on { GoesOn pass.old pass.new }
@@ -103,6 +104,7 @@ pub fn cleanup(
     requires queue { IsQueueOf (knowledge pass.old.view) pass.old.view.number queue.old.items }
     requires counted { splices.old ≡ capped (won_splices pass.old.view.log) }
     ensures same { IsSamePass pass.old pass.new }
+    ensures past { HasSeenAllOf pass.new pass.old }
     ensures won { result ≡ true → HasCleaned spot.now chain.now pass.old pass.new queue.old.items queue.new.items }
     ensures lost { result ≡ false → HasCutNothing spot.now chain.now pass.old pass.new }
     ensures untouched { result ≡ false → queue.new ≡ queue.old }

@@ -4,7 +4,7 @@ ghost use Rattle.nm_edge.specs.Edges.{other};
 ghost use Rattle.nm_edge.specs.declared.node.NodeId.{NodeId as Node};
 ghost use Rattle.nm_order.specs.Facts.Fact.{KnowsSlot, IsTagged, IsFlagged};
 ghost use Rattle.nm_order.specs.Told.{FrozenTo};
-ghost use Rattle.nm_steps.specs.Steps.{IsOf, IsSamePass};
+ghost use Rattle.nm_steps.specs.Steps.{IsOf, IsSamePass, HasSeenAllOf};
 ghost use Rattle.nm_calls.specs.Bounds.{cut_bound};
 ghost use Rattle.nm_calls.specs.Telling.{Tells, GoesOn, OnlyLooks, IsInRun, IsPinnedSomewhere};
 ghost use Rattle.nm_calls.specs.Walks.{Leads};
@@ -31,6 +31,7 @@ pub fn choose(shared: &Shared, pass: &mut Pass, spot: &Spot) -> Option<Kept>
     requires pinned { IsPinnedSomewhere pass.old }
     requires known { Tells pass.old (KnowsSlot spot.now.parent) }
     ensures same { IsSamePass pass.old pass.new }
+    ensures past { HasSeenAllOf pass.new pass.old }
     ensures looks { Chooses spot.now pass.old.view.log pass.new.view.log result }
     ensures on { GoesOn pass.old pass.new }
     ensures only { OnlyLooks pass.old pass.new }
@@ -64,6 +65,7 @@ fn freeze_one(shared: &Shared, pass: &mut Pass, slot: u32, side: Side) -> (NodeI
     requires known { Tells pass.old (KnowsSlot slot) }
     requires tagged { (to : ℕ) × Tells pass.old (IsTagged slot side to) }
     ensures same { IsSamePass pass.old pass.new }
+    ensures past { HasSeenAllOf pass.new pass.old }
     ensures frozen { FrozenAt pass.old pass.new slot side result.0 result.1 }
     ensures on { GoesOn pass.old pass.new }
     ensures only { OnlyLooks pass.old pass.new }
@@ -89,6 +91,7 @@ fn add_frozen(shared: &Shared, pass: &mut Pass, slot: u32, side: Side, nodes: &m
     requires tagged { (to : ℕ) × Tells pass.old (IsTagged slot side to) }
     requires room { length nodes.old.items + 2 ≤ cut_bound }
     ensures same { IsSamePass pass.old pass.new }
+    ensures past { HasSeenAllOf pass.new pass.old }
     ensures frozen { (node leaf : Node) × FrozenAt pass.old pass.new slot side node leaf × (nodes.new.items ≡ nodes.old.items ++ node ∷ leaf ∷ []) }
     ensures on { GoesOn pass.old pass.new }
     ensures only { OnlyLooks pass.old pass.new }
@@ -117,6 +120,7 @@ pub fn freeze(
     requires tagged { (to : ℕ) × Tells pass.old (IsTagged parent keep to) }
     requires room { length nodes.old.items + 2 * (length chain.now + 1) ≤ cut_bound }
     ensures same { IsSamePass pass.old pass.new }
+    ensures past { HasSeenAllOf pass.new pass.old }
     ensures frozen { (ns : List Node) × (nodes.new.items ≡ nodes.old.items ++ ns) × FrozenTo (Tells pass.new) parent keep (top chain.now parent) ns }
     ensures size { length nodes.new.items ≡ length nodes.old.items + 2 * (length chain.now + 1) }
     ensures looks { Freezes parent keep chain.now pass.old.view.log pass.new.view.log }

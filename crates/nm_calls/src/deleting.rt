@@ -4,7 +4,7 @@ ghost use Rattle.nm_model.specs.Memory.{infinity_0};
 ghost use Rattle.nm_model.specs.declared.event.Op.TheVariants.{Delete};
 ghost use Rattle.nm_order.specs.Facts.Fact.{KnowsSlot, IsFlagged, CallIs};
 ghost use Rattle.nm_steps.specs.Rules.{knowledge};
-ghost use Rattle.nm_steps.specs.Steps.{IsOf, IsSamePass};
+ghost use Rattle.nm_steps.specs.Steps.{Stand, IsOf, IsSamePass, HasSeenAllOf};
 ghost use Rattle.nm_epoch.specs.Collecting.{IsQueueOf};
 ghost use Rattle.nm_epoch.specs.Resting.{IsResting, epochs, search};
 ghost use Rattle.nm_calls.specs.Bounds.{chain_bound, cut_bound};
@@ -12,7 +12,7 @@ ghost use Rattle.nm_calls.specs.Telling.{Tells, GoesOn, IsInRun, IsPinnedSomewhe
 ghost use Rattle.nm_calls.specs.Walks.{IsAt};
 ghost use Rattle.nm_calls.specs.Leaving.{ShowsAnswer};
 ghost use Rattle.nm_calls.specs.Marking.{OnlyFlags};
-ghost use Rattle.nm_calls.specs.Moments.{AnswerHasMoment};
+ghost use Rattle.nm_calls.specs.Moments.{AnswerHasMoment, HadNoCall};
 ghost use Rattle.nm_calls.specs.Cleanups.{OnlyCleans, KeepsLedgers};
 ghost use Rattle.nm_calls.specs.Won.{won_splices, capped, HasWon, flags_of_delete};
 ghost use Rattle.nm_calls.specs.Deletes.{IsRemoving, Removes, RemovesNothing, IsRemoval, IfRemoved, MayFlag, HasFlagged, HasNotFlagged, IsFlagTry, ShowsFlag, OnlyInjects, IsInjection, ShowsInjection, RemovalAfter, leaf_of, DeleteFinishes, DeleteDid, LosesAfterFlag, LacksRoomOr, FlagsThen, LosesEachTry, AfterDelete, FinishDid};
@@ -101,6 +101,7 @@ fn try_remove(
     requires queue { IsQueueOf (knowledge pass.old.view) pass.old.view.number queue.old.items }
     requires counted { splices.old ≡ capped (won_splices pass.old.view.log) }
     ensures same { IsSamePass pass.old pass.new }
+    ensures past { HasSeenAllOf pass.new pass.old }
     ensures removed { result ≡ true → Removes shared.now.layout.nodes key leaf pass.old.view.log pass.new.view.log }
     ensures shows { result ≡ true → ShowsAnswer pass.new Delete key true }
     ensures lost { result ≡ false → RemovesNothing shared.now.layout.nodes key leaf pass.old.view.log pass.new.view.log }
@@ -135,6 +136,7 @@ fn remove(
     requires queue { IsQueueOf (knowledge pass.old.view) pass.old.view.number queue.old.items }
     requires counted { splices.old ≡ capped (won_splices pass.old.view.log) }
     ensures same { IsSamePass pass.old pass.new }
+    ensures past { HasSeenAllOf pass.new pass.old }
     ensures part { IsRemoval shared.now.layout.nodes key leaf tries pass.old.view.log pass.new.view.log result }
     ensures refused { result ≡ Removal.Refused → queue.new.spare < cut_bound }
     ensures shows { IfRemoved result (ShowsAnswer pass.new Delete key true) }
@@ -161,6 +163,7 @@ fn flag_at(shared: &Shared, pass: &mut Pass, key: u64, end: &End) -> Result<u64,
     requires pinned { IsPinnedSomewhere pass.old }
     requires may { MayFlag pass.old key end.now }
     ensures same { IsSamePass pass.old pass.new }
+    ensures past { HasSeenAllOf pass.new pass.old }
     ensures won { IfOk result (λ b. HasFlagged pass.old pass.new end.now b) }
     ensures lost { IfErr result (λ e. HasNotFlagged pass.old pass.new end.now e) }
     ensures on { GoesOn pass.old pass.new }
@@ -196,6 +199,7 @@ fn try_flag(
     requires queue { IsQueueOf (knowledge pass.old.view) pass.old.view.number queue.old.items }
     requires counted { splices.old ≡ capped (won_splices pass.old.view.log) }
     ensures same { IsSamePass pass.old pass.new }
+    ensures past { HasSeenAllOf pass.new pass.old }
     ensures part { IsFlagTry shared.now.layout.nodes key chain.new.items pass.old.view.log pass.new.view.log result }
     ensures shows { ShowsFlag key chain.new.items pass.old pass.new result }
     ensures on { GoesOn pass.old pass.new }
@@ -239,6 +243,7 @@ fn inject(
     requires queue { IsQueueOf (knowledge pass.old.view) pass.old.view.number queue.old.items }
     requires counted { splices.old ≡ capped (won_splices pass.old.view.log) }
     ensures same { IsSamePass pass.old pass.new }
+    ensures past { HasSeenAllOf pass.new pass.old }
     ensures part { IsInjection shared.now.layout.nodes key tries chain.new.items pass.old.view.log pass.new.view.log result }
     ensures refused { result ≡ Injection.Refused → queue.new.spare < cut_bound }
     ensures shows { ShowsInjection key chain.new.items pass.new result }
@@ -283,6 +288,7 @@ fn remove_after(
     requires queue { IsQueueOf (knowledge pass.old.view) pass.old.view.number queue.old.items }
     requires counted { splices.old ≡ capped (won_splices pass.old.view.log) }
     ensures same { IsSamePass pass.old pass.new }
+    ensures past { HasSeenAllOf pass.new pass.old }
     ensures part { RemovalAfter shared.now.layout.nodes key end.now chain.old.items birth left pass.old.view.log pass.new.view.log result }
     ensures refused { result ≡ Removal.Refused → queue.new.spare < cut_bound }
     ensures shows { IfRemoved result (ShowsAnswer pass.new Delete key true) }
@@ -336,9 +342,10 @@ fn delete_pinned(
     requires queue { IsQueueOf (knowledge pass.old.view) pass.old.view.number queue.old.items }
     requires counted { splices.old ≡ capped (won_splices pass.old.view.log) }
     ensures same { IsSamePass pass.old pass.new }
+    ensures past { HasSeenAllOf pass.new pass.old }
     ensures part { DeleteFinishes shared.now.layout.nodes tries key pass.old.view.log pass.new.view.log result }
     ensures refused { IfErr result (LacksRoomOr (λ n. FlagsThen shared.now.layout.nodes tries key n pass.old.view.log pass.new.view.log Removal.Spent) queue.new.spare) }
-    ensures moment { IfOk result (AnswerHasMoment pass.new Delete key) }
+    ensures moment { (o : Stand) → HadNoCall o pass.old → IfOk result (AnswerHasMoment o pass.new Delete key) }
     ensures run { IsInRun pass.new }
     ensures after { AfterDelete key pass.new result }
     ensures private { (knowledge pass.new.view).drafts ≡ (knowledge pass.old.view).drafts }
@@ -396,9 +403,10 @@ pub fn delete(
     requires few { length queue.old.items ≤ shared.now.layout.nodes }
     requires counted { splices.old ≡ capped (won_splices pass.old.view.log) }
     ensures same { IsSamePass pass.old pass.new }
+    ensures past { HasSeenAllOf pass.new pass.old }
     ensures did { DeleteDid shared.now.layout.nodes tries key pass.old.view.log pass.new.view.log result }
     ensures refused { IfErr result (LacksRoomOr (LosesAfterFlag shared.now.layout.nodes tries key pass.old.view.log pass.new.view.log) queue.new.spare) }
-    ensures moment { IfOk result (AnswerHasMoment pass.new Delete key) }
+    ensures moment { IfOk result (AnswerHasMoment pass.old pass.new Delete key) }
     ensures won { HasWon pass.old.view.log pass.new.view.log 0 (flags_of_delete result) }
     ensures steps { length pass.new.view.log ≤ length pass.old.view.log + tries * (4 * shared.now.layout.nodes + 8 * chain_bound) + 6 * shared.now.layout.nodes + 10 }
     ensures run { (pass.new ≡ pass.old) ⊎ IsInRun pass.new }
@@ -440,9 +448,10 @@ pub fn finish(
     requires queue { IsQueueOf (knowledge pass.old.view) pass.old.view.number queue.old.items }
     requires counted { splices.old ≡ capped (won_splices pass.old.view.log) }
     ensures same { IsSamePass pass.old pass.new }
+    ensures past { HasSeenAllOf pass.new pass.old }
     ensures did { FinishDid shared.now.layout.nodes key leaf tries pass.old.view.log pass.new.view.log result }
     ensures refused { result ≡ false → (queue.new.spare < cut_bound) ⊎ LosesEachTry shared.now.layout.nodes key leaf tries pass.old.view.log pass.new.view.log }
-    ensures moment { result ≡ true → AnswerHasMoment pass.new Delete key true }
+    ensures moment { result ≡ true → (o : Stand) → HadNoCall o pass.old → AnswerHasMoment o pass.new Delete key true }
     ensures won { HasWon pass.old.view.log pass.new.view.log 0 0 }
     ensures steps { length pass.new.view.log ≤ length pass.old.view.log + tries * (4 * shared.now.layout.nodes + 8 * chain_bound) + 6 * shared.now.layout.nodes + 10 }
     ensures run { IsInRun pass.new }

@@ -5,12 +5,12 @@ ghost use Rattle.nm_model.specs.declared.event.Op.{Op};
 ghost use Rattle.nm_model.specs.declared.reply.Reply.TheVariants.{Labelled, Departed};
 ghost use Rattle.nm_order.specs.Facts.Fact.{CallIs};
 ghost use Rattle.nm_steps.specs.Rules.{knowledge};
-ghost use Rattle.nm_steps.specs.Steps.{IsOf, Stepped};
+ghost use Rattle.nm_steps.specs.Steps.{Stand, IsOf, MayStep, Stepped, HasSeenAllOf};
 ghost use Rattle.nm_epoch.specs.Resting.{IsResting, KeepsHands, epochs, search};
 ghost use Rattle.nm_epoch.specs.Collecting.{TakesLabels};
 ghost use Rattle.nm_calls.specs.Telling.{Tells, GoesOn, IsInRun};
 ghost use Rattle.nm_calls.specs.Leaving.{IsAnswer, OnlyLabels};
-ghost use Rattle.nm_calls.specs.Moments.{AnswerHasMoment};
+ghost use Rattle.nm_calls.specs.Moments.{AnswerHasMoment, HadNoCall};
 
 use nm_epoch::{label as label_cut, unpin, unpin_with};
 use nm_steps::{Pass, Shared};
@@ -22,11 +22,29 @@ pub fn leave(shared: &Shared, pass: &mut Pass)
     requires unlinked { (search pass.old).linked ≡ false }
     requires unflagged { (search pass.old).flagged ≡ None }
     ensures step { Stepped pass.old pass.new Leave Departed }
+    ensures past { HasSeenAllOf pass.new pass.old }
     ensures run { IsInRun pass.new }
     ensures rests { IsResting pass.new }
     ensures hands { KeepsHands pass.old pass.new }
 {
     unpin(shared, pass);
+}
+
+/// Leaves the pin with an answer that the log allows. One step. Its moment lies within the call that is answered: behind all that the worker
+/// had seen at any time before, at which it had no call.
+pub(crate) fn leave_with(shared: &Shared, pass: &mut Pass, answer: bool)
+    requires own { IsOf shared.now pass.old }
+    requires may { MayStep pass.old (LeaveWith answer) }
+    ensures step { Stepped pass.old pass.new (LeaveWith answer) Departed }
+    ensures past { HasSeenAllOf pass.new pass.old }
+    ensures moment { (o : Stand) (op : Op) (k : ℕ) → HadNoCall o pass.old → Tells pass.old (CallIs op k) → AnswerHasMoment o pass.new op k answer }
+    ensures run { IsInRun pass.new }
+    ensures rests { IsResting pass.new }
+    ensures hands { KeepsHands pass.old pass.new }
+{
+    pass.is_of_a_run();
+    unpin_with(shared, pass, answer);
+    pass.is_of_a_run();
 }
 
 /// Leaves the pin with the answer of its call, which the log shows. One step.
@@ -35,12 +53,13 @@ pub fn answer(shared: &Shared, pass: &mut Pass, answer: bool)
     requires labelled { (epochs pass.old).unlabelled ≡ false }
     requires shown { IsAnswer pass.old answer }
     ensures step { Stepped pass.old pass.new (LeaveWith answer) Departed }
-    ensures moment { (op : Op) (k : ℕ) → Tells pass.old (CallIs op k) → AnswerHasMoment pass.new op k answer }
+    ensures past { HasSeenAllOf pass.new pass.old }
+    ensures moment { (o : Stand) (op : Op) (k : ℕ) → HadNoCall o pass.old → Tells pass.old (CallIs op k) → AnswerHasMoment o pass.new op k answer }
     ensures run { IsInRun pass.new }
     ensures rests { IsResting pass.new }
     ensures hands { KeepsHands pass.old pass.new }
 {
-    unpin_with(shared, pass, answer);
+    leave_with(shared, pass, answer);
 }
 
 /// Labels the nodes that the worker's last splice cut, by the epoch, which it reads and answers. One step.
@@ -49,6 +68,7 @@ pub fn label(shared: &Shared, pass: &mut Pass) -> u64
     requires run { IsInRun pass.old }
     requires cut { (epochs pass.old).unlabelled ≡ true }
     ensures step { Stepped pass.old pass.new Sight (Labelled result) }
+    ensures past { HasSeenAllOf pass.new pass.old }
     ensures on { GoesOn pass.old pass.new }
     ensures only { OnlyLabels result pass.old pass.new }
     ensures queues { TakesLabels result (knowledge pass.old.view) (knowledge pass.new.view) }

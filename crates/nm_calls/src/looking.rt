@@ -4,7 +4,7 @@ ghost use Rattle.nm_model.specs.declared.event.Event.TheVariants.{Look};
 ghost use Rattle.nm_model.specs.declared.event.Field.TheVariants.{Key as KeyOf, Edge as EdgeOn, Birth};
 ghost use Rattle.nm_model.specs.declared.reply.Reply.TheVariants.{KeyIs, EdgeIs, BirthIs};
 ghost use Rattle.nm_order.specs.Facts.Fact.{KnowsSlot, IsBorn};
-ghost use Rattle.nm_steps.specs.Steps.{IsOf, IsSamePass, Stepped};
+ghost use Rattle.nm_steps.specs.Steps.{IsOf, IsSamePass, Stepped, HasSeenAllOf};
 ghost use Rattle.nm_calls.specs.Telling.{Tells, GoesOn, OnlyLooks, IsInRun, IsPinnedSomewhere, EdgeTold, KeyTold, OnwardTold};
 ghost use Rattle.nm_calls.specs.Walks.{Reads, edge_on};
 
@@ -19,6 +19,7 @@ pub fn look_key(shared: &Shared, pass: &mut Pass, slot: u32) -> u64
     requires pinned { IsPinnedSomewhere pass.old }
     requires known { Tells pass.old (KnowsSlot slot) }
     ensures step { Stepped pass.old pass.new (Look slot KeyOf) (KeyIs result) }
+    ensures past { HasSeenAllOf pass.new pass.old }
     ensures on { GoesOn pass.old pass.new }
     ensures only { OnlyLooks pass.old pass.new }
     ensures told { KeyTold pass.old pass.new slot result }
@@ -35,6 +36,7 @@ pub fn look_edge(shared: &Shared, pass: &mut Pass, slot: u32, side: Side) -> Edg
     requires pinned { IsPinnedSomewhere pass.old }
     requires known { Tells pass.old (KnowsSlot slot) }
     ensures step { Stepped pass.old pass.new (Look slot (EdgeOn side)) (EdgeIs result) }
+    ensures past { HasSeenAllOf pass.new pass.old }
     ensures on { GoesOn pass.old pass.new }
     ensures only { OnlyLooks pass.old pass.new }
     ensures told { EdgeTold pass.old pass.new slot side result }
@@ -59,6 +61,7 @@ pub(crate) fn read_node(shared: &Shared, pass: &mut Pass, slot: u32, key: u64) -
     requires pinned { IsPinnedSomewhere pass.old }
     requires known { Tells pass.old (KnowsSlot slot) }
     ensures same { IsSamePass pass.old pass.new }
+    ensures past { HasSeenAllOf pass.new pass.old }
     ensures looks { Reads key slot pass.old.view.log pass.new.view.log result }
     ensures within { result.next.slot ≤ shared.now.layout.nodes }
     ensures on { GoesOn pass.old pass.new }
@@ -90,6 +93,7 @@ pub fn look_birth(shared: &Shared, pass: &mut Pass, slot: u32) -> u64
     requires pinned { IsPinnedSomewhere pass.old }
     requires known { Tells pass.old (KnowsSlot slot) }
     ensures step { Stepped pass.old pass.new (Look slot Birth) (BirthIs result) }
+    ensures past { HasSeenAllOf pass.new pass.old }
     ensures on { GoesOn pass.old pass.new }
     ensures only { OnlyLooks pass.old pass.new }
     ensures born { Tells pass.new (IsBorn slot result) }

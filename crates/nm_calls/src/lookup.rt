@@ -1,16 +1,17 @@
 //! A look-up.
 ghost use Rattle.std.specs.Prelude.{◌≡◌, ◌≤◌, ◌+◌, ◌*◌, length, IfOk, IfErr};
 ghost use Rattle.nm_model.specs.declared.event.Op.TheVariants.{Has};
-ghost use Rattle.nm_steps.specs.Steps.{IsOf, IsSamePass};
+ghost use Rattle.nm_steps.specs.Steps.{IsOf, IsSamePass, HasSeenAllOf};
 ghost use Rattle.nm_epoch.specs.Resting.{IsResting, KeepsHands};
 ghost use Rattle.nm_calls.specs.Bounds.{chain_bound};
 ghost use Rattle.nm_calls.specs.Calls.{HasDid, HasMissed};
 ghost use Rattle.nm_calls.specs.Moments.{AnswerHasMoment};
 ghost use Rattle.nm_calls.specs.Won.{HasWon, won_splices};
 
+use crate::leaving::leave_with;
 use crate::walking::find;
 use nm_edge::Key;
-use nm_epoch::{pin_for, unpin, unpin_with};
+use nm_epoch::{pin_for, unpin};
 use nm_model::Op;
 use nm_steps::{Pass, Shared};
 use thiserror::Error;
@@ -28,8 +29,9 @@ pub fn has(shared: &Shared, pass: &mut Pass, key: Key, tries: u32) -> Result<boo
     requires own { IsOf shared.now pass.old }
     requires rests { IsResting pass.old }
     ensures same { IsSamePass pass.old pass.new }
+    ensures past { HasSeenAllOf pass.new pass.old }
     ensures did { IfOk result (λ b. HasDid shared.now.layout.nodes tries key pass.old.view.log pass.new.view.log b) }
-    ensures moment { IfOk result (AnswerHasMoment pass.new Has key) }
+    ensures moment { IfOk result (AnswerHasMoment pass.old pass.new Has key) }
     ensures missed { IfErr result (λ e. HasMissed shared.now.layout.nodes tries key pass.old.view.log pass.new.view.log) }
     ensures won { HasWon pass.old.view.log pass.new.view.log 0 0 }
     ensures uncut { won_splices pass.new.view.log ≡ won_splices pass.old.view.log }
@@ -40,13 +42,14 @@ pub fn has(shared: &Shared, pass: &mut Pass, key: Key, tries: u32) -> Result<boo
     if tries == 0 {
         return Err(Busy);
     }
+    pass.is_of_a_run();
     let Ok(_epoch) = pin_for(shared, pass, tries, Op::Has, key) else {
         return Err(Busy);
     };
     for _walk in 0..tries {
         if let Some(found) = find(shared, pass, key.get()) {
             let answer = found == key.get();
-            unpin_with(shared, pass, answer);
+            leave_with(shared, pass, answer);
             return Ok(answer);
         }
     }

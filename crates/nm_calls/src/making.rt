@@ -10,7 +10,7 @@ ghost use Rattle.nm_order.specs.Told.{IsNew};
 ghost use Rattle.nm_pool.specs.Claims.{IsClaimBy, IsNewNode};
 ghost use Rattle.nm_pool.specs.Takes.{LearnsSlots};
 ghost use Rattle.nm_steps.specs.Rules.{knowledge};
-ghost use Rattle.nm_steps.specs.Steps.{IsOf, IsSamePass, Stepped};
+ghost use Rattle.nm_steps.specs.Steps.{IsOf, IsSamePass, Stepped, HasSeenAllOf};
 ghost use Rattle.nm_calls.specs.Telling.{Tells, GoesOn, IsInRun, IsPinnedSomewhere};
 ghost use Rattle.nm_calls.specs.Making.{draft, KeepsOthers, KeepsAllBut, OnlyMakes, with_node, HasFilled, IsInserting, HasLinked, HasLost};
 
@@ -26,6 +26,7 @@ pub fn claim(shared: &Shared, pass: &mut Pass, placement: &mut Placement) -> Opt
     requires own { IsOf shared.now pass.old }
     requires run { IsInRun pass.old }
     ensures same { IsSamePass pass.old pass.new }
+    ensures past { HasSeenAllOf pass.new pass.old }
     ensures part { IsClaimBy placement.old shared.now.layout.nodes pass.old.view.log pass.new.view.log result }
     ensures steps { length pass.new.view.log ≤ length pass.old.view.log + 3 * shared.now.layout.nodes }
     ensures on { GoesOn pass.old pass.new }
@@ -48,6 +49,7 @@ pub fn give(shared: &Shared, pass: &mut Pass, node: NodeId)
     requires run { IsInRun pass.old }
     requires birth { (draft pass.old node.slot).birth ≡ Some node.birth }
     ensures step { Stepped pass.old pass.new (Give node.slot) (Returned node.slot) }
+    ensures past { HasSeenAllOf pass.new pass.old }
     ensures on { GoesOn pass.old pass.new }
     ensures given { is_private (knowledge pass.new.view) node.slot ≡ false }
     ensures others { KeepsOthers node.slot pass.old pass.new }
@@ -65,6 +67,7 @@ pub fn fill(shared: &Shared, pass: &mut Pass, slot: u32, key: u64, left: u32, ri
     requires left { left ≤ pass.old.view.layout.nodes }
     requires right { right ≤ pass.old.view.layout.nodes }
     ensures steps { HasFilled pass.old pass.new slot key left right }
+    ensures past { HasSeenAllOf pass.new pass.old }
     ensures on { GoesOn pass.old pass.new }
     ensures filled { get (knowledge pass.new.view).drafts slot ≡ Some (with_node (draft pass.old slot) key left right) }
     ensures others { KeepsOthers slot pass.old pass.new }
@@ -97,6 +100,7 @@ pub fn link(
     requires leaf { Tells pass.old (KnowsLeaf leaf) }
     requires inserts { IsInserting pass.old parent side leaf new fresh }
     ensures same { IsSamePass pass.old pass.new }
+    ensures past { HasSeenAllOf pass.new pass.old }
     ensures on { GoesOn pass.old pass.new }
     ensures won { IfOk result (λ _. HasLinked pass.old pass.new parent side leaf new fresh) }
     ensures lost { IfErr result (HasLost pass.old pass.new parent side leaf new) }

@@ -6,7 +6,7 @@ ghost use Rattle.nm_model.specs.declared.event.Event.TheVariants.{Tag};
 ghost use Rattle.nm_model.specs.declared.reply.Reply.TheVariants.{Was};
 ghost use Rattle.nm_order.specs.Facts.Fact.{KnowsSlot, IsFlagged, IsBorn};
 ghost use Rattle.nm_order.specs.Told.{FrozenTo};
-ghost use Rattle.nm_steps.specs.Steps.{IsOf, IsSamePass, Stepped};
+ghost use Rattle.nm_steps.specs.Steps.{IsOf, IsSamePass, Stepped, HasSeenAllOf};
 ghost use Rattle.nm_calls.specs.Telling.{Tells, GoesOn, OnlyLooks, IsInRun, IsPinnedSomewhere};
 ghost use Rattle.nm_calls.specs.Marking.{TagTold, IsToBeFlagged, OnlyFlags, FlagWon, FlagLost, IsToBeCut, OnlyCuts, SpliceWon, SpliceLost};
 
@@ -21,6 +21,7 @@ pub fn tag(shared: &Shared, pass: &mut Pass, parent: u32, side: Side) -> Edge
     requires known { Tells pass.old (KnowsSlot parent) }
     requires beside { (to : ℕ) × Tells pass.old (IsFlagged parent (other side) to) }
     ensures step { Stepped pass.old pass.new (Tag parent side) (Was result) }
+    ensures past { HasSeenAllOf pass.new pass.old }
     ensures on { GoesOn pass.old pass.new }
     ensures only { OnlyLooks pass.old pass.new }
     ensures told { TagTold pass.old pass.new parent side result }
@@ -44,6 +45,7 @@ pub fn flag(
     requires pinned { IsPinnedSomewhere pass.old }
     requires found { IsToBeFlagged pass.old parent side leaf }
     ensures same { IsSamePass pass.old pass.new }
+    ensures past { HasSeenAllOf pass.new pass.old }
     ensures won { IfOk result (λ _. (b : ℕ) → Tells pass.old (IsBorn leaf b) → FlagWon pass.old pass.new parent side (record { slot = leaf; birth = b })) }
     ensures lost { IfErr result (λ e. FlagLost pass.old pass.new parent side leaf e) }
     ensures on { GoesOn pass.old pass.new }
@@ -72,6 +74,7 @@ pub fn splice(
     requires pinned { IsPinnedSomewhere pass.old }
     requires frozen { IsToBeCut pass.old ancestor successor parent keep kept }
     ensures same { IsSamePass pass.old pass.new }
+    ensures past { HasSeenAllOf pass.new pass.old }
     ensures won { IfOk result (λ _. (ns : List NodeId) → FrozenTo (Tells pass.old) parent keep successor ns → SpliceWon pass.old pass.new ancestor side successor parent keep ns) }
     ensures lost { IfErr result (λ e. SpliceLost pass.old pass.new ancestor side successor parent keep e) }
     ensures on { GoesOn pass.old pass.new }

@@ -3,7 +3,7 @@ ghost use Rattle.std.specs.Prelude.{◌≡◌, ◌<◌, ◌≤◌, ◌+◌, ◌*
 ghost use Rattle.nm_model.specs.Memory.{infinity_0};
 ghost use Rattle.nm_edge.specs.declared.edge.Side.{Side as SideOf};
 ghost use Rattle.nm_order.specs.Facts.Fact.{KnowsSlot};
-ghost use Rattle.nm_steps.specs.Steps.{IsOf, IsSamePass};
+ghost use Rattle.nm_steps.specs.Steps.{IsOf, IsSamePass, HasSeenAllOf};
 ghost use Rattle.nm_calls.specs.Bounds.{chain_bound};
 ghost use Rattle.nm_calls.specs.Telling.{Tells, GoesOn, OnlyLooks, IsInRun, IsPinnedSomewhere};
 ghost use Rattle.nm_calls.specs.Walks.{Finds, Seeks, HasEnded, HasFound};
@@ -21,6 +21,7 @@ pub fn find(shared: &Shared, pass: &mut Pass, key: u64) -> Option<u64>
     requires pinned { IsPinnedSomewhere pass.old }
     requires known { Tells pass.old (KnowsSlot 2) }
     ensures same { IsSamePass pass.old pass.new }
+    ensures past { HasSeenAllOf pass.new pass.old }
     ensures walk { Finds shared.now.layout.nodes key pass.old.view.log pass.new.view.log result }
     ensures steps { length pass.new.view.log ≤ length pass.old.view.log + 3 * shared.now.layout.nodes }
     ensures on { GoesOn pass.old pass.new }
@@ -49,6 +50,7 @@ pub fn seek(shared: &Shared, pass: &mut Pass, key: u64, chain: &mut Chain) -> Op
     requires root { Tells pass.old (KnowsSlot 1) }
     requires known { Tells pass.old (KnowsSlot 2) }
     ensures same { IsSamePass pass.old pass.new }
+    ensures past { HasSeenAllOf pass.new pass.old }
     ensures walk { Seeks shared.now.layout.nodes key pass.old.view.log pass.new.view.log chain.new.items result }
     ensures ended { IfSome result (λ r. HasEnded (Tells pass.new) shared.now.layout.nodes r.spot chain.new.items) }
     ensures few { IfSome result (λ r. length chain.new.items < chain_bound) }

@@ -5,7 +5,7 @@ ghost use Rattle.nm_model.specs.Ledgers.{held};
 ghost use Rattle.nm_order.specs.Hands.{AreApart};
 ghost use Rattle.nm_order.specs.Reads.{HasRead};
 ghost use Rattle.nm_steps.specs.Rules.{knowledge};
-ghost use Rattle.nm_steps.specs.Steps.{IsInRun, IsOf, MayStep, Stepped, give_reply};
+ghost use Rattle.nm_steps.specs.Steps.{IsInRun, IsOf, MayStep, Stepped, give_reply, HasSeenAllOf};
 ghost use Rattle.nm_epoch.specs.Resting.{Settles, epochs, search};
 ghost use Rattle.nm_steps.specs.Steps.{IsSamePass};
 ghost use Rattle.nm_epoch.specs.Collecting.{IsQueueOf, AreHeld, KeepsRetired, NoneHas, HaveLost, KeepsOthers, ripe_front, ripe_part, ripe_of, rest_of, freeing, IsCollection};
@@ -59,6 +59,7 @@ fn free(shared: &Shared, pass: &mut Pass, slot: u32)
     requires own { IsOf shared.now pass.old }
     requires may { MayStep pass.old (Give slot) }
     ensures step { Stepped pass.old pass.new (Give slot) (give_reply pass.old.view slot) }
+    ensures past { HasSeenAllOf pass.new pass.old }
     ensures run { IsInRun pass.new }
     ensures apart { AreApart pass.new.view.layout (knowledge pass.new.view) }
 {
@@ -80,6 +81,7 @@ fn collect_front(
     requires apart { AreApart pass.old.view.layout (knowledge pass.old.view) }
     requires run { IsInRun pass.old }
     ensures same { IsSamePass pass.old pass.new }
+    ensures past { HasSeenAllOf pass.new pass.old }
     ensures run { IsInRun pass.new }
     ensures entries { pass.new.view.log ≡ pass.old.view.log ++ map freeing (ripe_part epoch queue.old.queue.items) }
     ensures freed { result ≡ length (ripe_part epoch queue.old.queue.items) }
@@ -119,6 +121,7 @@ fn collect_fronts(
     requires apart { AreApart pass.old.view.layout (knowledge pass.old.view) }
     requires run { IsInRun pass.old }
     ensures same { IsSamePass pass.old pass.new }
+    ensures past { HasSeenAllOf pass.new pass.old }
     ensures run { IsInRun pass.new }
     ensures entries { pass.new.view.log ≡ pass.old.view.log ++ map freeing (ripe_of epoch queues.old) }
     ensures freed { result ≡ length (ripe_of epoch queues.old) }
@@ -170,6 +173,7 @@ pub fn collect(
     requires own { IsOf shared.now pass.old }
     requires queues { AreHeld (knowledge pass.old.view) queues.old }
     ensures same { IsSamePass pass.old pass.new }
+    ensures past { HasSeenAllOf pass.new pass.old }
     ensures run { IsInRun pass.new }
     ensures part { IsCollection result.epoch queues.old pass.old.view.log pass.new.view.log }
     ensures freed { result.freed ≡ length (ripe_of result.epoch queues.old) }

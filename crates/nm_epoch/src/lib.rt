@@ -2,7 +2,7 @@
 //!
 //! A worker pins an epoch before it walks, so that no slot that it may come to is used anew; the epoch goes on only past
 //! workers that announce it or nothing (epoch-based reclamation: Fraser, Practical lock-freedom, 2004, chapter 5).
-#![tactic(auto)]
+#![tactic(auto, using(nm_steps::proofs::Seeing::seen_all))]
 
 mod answers;
 mod collecting;

@@ -1,7 +1,7 @@
 //! Reading the epoch, and what each worker announces.
 ghost use Rattle.std.specs.Prelude.{◌≡◌, ◌<◌, ◌≤◌, Some, IsSome, MatchOption, true, false};
 ghost use Rattle.nm_model.specs.Step.{last_number};
-ghost use Rattle.nm_steps.specs.Steps.{IsInRun, IsOf, sight_reply};
+ghost use Rattle.nm_steps.specs.Steps.{IsInRun, IsOf, sight_reply, HasSeenAllOf};
 ghost use Rattle.nm_epoch.specs.Resting.{Settles, KeepsHands, epochs};
 ghost use Rattle.nm_steps.specs.Steps.{IsSamePass};
 ghost use Rattle.nm_steps.specs.Rules.{knowledge};
@@ -26,6 +26,7 @@ fn epoch_of(sighted: Sighted) -> u64
 pub(crate) fn read(shared: &Shared, pass: &mut Pass) -> u64
     requires { IsOf shared.now pass.old }
     ensures same { IsSamePass pass.old pass.new }
+    ensures past { HasSeenAllOf pass.new pass.old }
     ensures run { IsInRun pass.new }
     ensures step { IsSightOf result pass.old.view.log pass.new.view.log }
     ensures seen { (epochs pass.new).seen ≡ Some result }
@@ -44,6 +45,7 @@ pub(crate) fn look(shared: &Shared, pass: &mut Pass, me: u32, worker: u32) -> Op
     requires there { worker < shared.now.layout.workers }
     requires seen { IsSome (epochs pass.old).seen }
     ensures same { IsSamePass pass.old pass.new }
+    ensures past { HasSeenAllOf pass.new pass.old }
     ensures run { IsInRun pass.old → IsInRun pass.new }
     ensures found { LooksAt me (epochs pass.old).pin worker result pass.old.view.log pass.new.view.log }
 {

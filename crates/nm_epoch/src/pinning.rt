@@ -2,7 +2,7 @@
 ghost use Rattle.std.specs.Prelude.{◌≡◌, ◌+◌, ◌*◌, ◌≤◌, length, Some, None, IfOk, IfErr, MatchResult};
 ghost use Rattle.nm_model.specs.declared.event.Event.TheVariants.{Sight, SightFor};
 ghost use Rattle.nm_order.specs.Intervals.{HasKey};
-ghost use Rattle.nm_steps.specs.Steps.{IsInRun, IsOf, IsSight, MayStep, Stepped, sight_reply};
+ghost use Rattle.nm_steps.specs.Steps.{IsInRun, IsOf, IsSight, MayStep, Stepped, sight_reply, HasSeenAllOf};
 ghost use Rattle.nm_epoch.specs.Resting.{IsResting, IsUnpinned, IsPinnedAt, IsTrying, KeepsHands, epochs};
 ghost use Rattle.nm_steps.specs.Steps.{IsSamePass};
 ghost use Rattle.nm_epoch.specs.Tries.{IsPinned, IsMoved, LostTry, WonTry, confirming, call_of};
@@ -24,6 +24,7 @@ fn confirm(shared: &Shared, pass: &mut Pass, by: &Confirming) -> Sighted
     requires own { IsOf shared.now pass.old }
     requires may { MayStep pass.old (confirming by.now) }
     ensures step { Stepped pass.old pass.new (confirming by.now) (sight_reply result) }
+    ensures past { HasSeenAllOf pass.new pass.old }
     ensures run { IsInRun pass.new }
     ensures reply { IsSight (epochs pass.old) (sight_reply result) }
 {
@@ -39,6 +40,7 @@ fn attempt(shared: &Shared, pass: &mut Pass, by: &Confirming) -> Result<u64, u64
     requires trying { IsTrying pass.old }
     requires key { HasKey (confirming by.now) }
     ensures same { IsSamePass pass.old pass.new }
+    ensures past { HasSeenAllOf pass.new pass.old }
     ensures run { IsInRun pass.new }
     ensures won { IfOk result (λ e. WonTry (confirming by.now) e pass.old.view.log pass.new.view.log) }
     ensures at { IfOk result (λ e. IsPinnedAt e (call_of by.now) pass.new) }
@@ -61,6 +63,7 @@ fn pin_by(shared: &Shared, pass: &mut Pass, tries: u32, by: &Confirming) -> Resu
     requires unpinned { IsUnpinned pass.old }
     requires key { HasKey (confirming by.now) }
     ensures same { IsSamePass pass.old pass.new }
+    ensures past { HasSeenAllOf pass.new pass.old }
     ensures run { IsInRun pass.new }
     ensures pinned { IfOk result (λ e. IsPinned (confirming by.now) tries pass.old.view.log pass.new.view.log e) }
     ensures at { IfOk result (λ e. IsPinnedAt e (call_of by.now) pass.new) }
@@ -100,6 +103,7 @@ pub fn pin(shared: &Shared, pass: &mut Pass, tries: u32) -> Result<u64, Moved>
     requires own { IsOf shared.now pass.old }
     requires unpinned { IsUnpinned pass.old }
     ensures same { IsSamePass pass.old pass.new }
+    ensures past { HasSeenAllOf pass.new pass.old }
     ensures run { IsInRun pass.new }
     ensures pinned { IfOk result (λ e. IsPinned Sight tries pass.old.view.log pass.new.view.log e) }
     ensures at { IfOk result (λ e. IsPinnedAt e None pass.new) }
@@ -118,6 +122,7 @@ pub fn pin_for(shared: &Shared, pass: &mut Pass, tries: u32, op: Op, key: Key) -
     requires own { IsOf shared.now pass.old }
     requires unpinned { IsUnpinned pass.old }
     ensures same { IsSamePass pass.old pass.new }
+    ensures past { HasSeenAllOf pass.new pass.old }
     ensures run { IsInRun pass.new }
     ensures pinned { IfOk result (λ e. IsPinned (SightFor op key) tries pass.old.view.log pass.new.view.log e) }
     ensures at { IfOk result (λ e. IsPinnedAt e (Some (record { op = op; key = key })) pass.new) }

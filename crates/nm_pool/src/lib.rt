@@ -1,5 +1,5 @@
 //! Slots taken out of the pool and put back.
-#![tactic(auto)]
+#![tactic(auto, using(nm_steps::proofs::Seeing::seen_all))]
 
 mod nodes;
 mod placement;

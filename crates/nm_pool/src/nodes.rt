@@ -5,7 +5,7 @@ ghost use Rattle.nm_model.specs.declared.reply.Reply.TheVariants.{Returned};
 ghost use Rattle.nm_model.specs.Knowledge.{is_private, draft_of};
 ghost use Rattle.nm_order.specs.Told.{IsNew};
 ghost use Rattle.nm_steps.specs.Rules.{knowledge};
-ghost use Rattle.nm_steps.specs.Steps.{IsInRun, IsOf, Stepped};
+ghost use Rattle.nm_steps.specs.Steps.{IsInRun, IsOf, Stepped, HasSeenAllOf};
 ghost use Rattle.nm_pool.specs.Takes.{LearnsSlots};
 ghost use Rattle.nm_steps.specs.Steps.{IsSamePass};
 ghost use Rattle.nm_pool.specs.Claims.{IsClaim, IsClaimBetween, IsTried, IfGot, IsNewNode};
@@ -36,6 +36,7 @@ pub(crate) enum Tried {
 pub fn claim(shared: &Shared, pass: &mut Pass) -> Option<NodeId>
     requires { IsOf shared.now pass.old }
     ensures same { IsSamePass pass.old pass.new }
+    ensures past { HasSeenAllOf pass.new pass.old }
     ensures run { IsInRun pass.new }
     ensures part { IsClaim shared.now.layout.nodes pass.old.view.log pass.new.view.log result }
     ensures made { IfSome result (IsNewNode (knowledge pass.new.view)) }
@@ -54,6 +55,7 @@ pub(crate) fn claim_between(shared: &Shared, pass: &mut Pass, from: u32, to: u32
     requires order { from ≤ to }
     requires high { to ≤ shared.now.layout.nodes + 1 }
     ensures same { IsSamePass pass.old pass.new }
+    ensures past { HasSeenAllOf pass.new pass.old }
     ensures run { (from < to) ⊎ IsInRun pass.old → IsInRun pass.new }
     ensures part { IsClaimBetween from to pass.old.view.log pass.new.view.log result }
     ensures made { IfSome result (IsNewNode (knowledge pass.new.view)) }
@@ -74,6 +76,7 @@ pub fn give(shared: &Shared, pass: &mut Pass, node: NodeId)
     requires private { is_private (knowledge pass.old.view) node.slot ≡ true }
     requires birth { (draft_of (knowledge pass.old.view) node.slot).birth ≡ Some node.birth }
     ensures step { Stepped pass.old pass.new (Give node.slot) (Returned node.slot) }
+    ensures past { HasSeenAllOf pass.new pass.old }
     ensures run { IsInRun pass.new }
 {
     put(shared, pass, node.slot);
@@ -85,6 +88,7 @@ pub(crate) fn try_slot(shared: &Shared, pass: &mut Pass, slot: u32) -> Tried
     requires low { 5 < slot }
     requires high { slot ≤ shared.now.layout.nodes }
     ensures same { IsSamePass pass.old pass.new }
+    ensures past { HasSeenAllOf pass.new pass.old }
     ensures run { IsInRun pass.new }
     ensures part { IsTried slot pass.old.view.log pass.new.view.log result }
     ensures made { IfGot result (IsNewNode (knowledge pass.new.view)) }

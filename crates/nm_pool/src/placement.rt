@@ -2,7 +2,7 @@
 ghost use Rattle.std.specs.Prelude.{◌≡◌, ◌+◌, ◌*◌, ◌≤◌, ◌<◌, length, IfSome};
 ghost use Rattle.nm_order.specs.Told.{IsNew};
 ghost use Rattle.nm_steps.specs.Rules.{knowledge};
-ghost use Rattle.nm_steps.specs.Steps.{IsInRun, IsOf, IsSamePass};
+ghost use Rattle.nm_steps.specs.Steps.{IsInRun, IsOf, IsSamePass, HasSeenAllOf};
 ghost use Rattle.nm_pool.specs.Claims.{IsClaimBetween, IsClaimBy, IsClaimOfFew, IsNearClaim, IsNewNode};
 ghost use Rattle.nm_pool.specs.Takes.{LearnsSlots};
 
@@ -106,6 +106,7 @@ impl Placement {
 pub fn claim_by(shared: &Shared, pass: &mut Pass, placement: &mut Placement) -> Option<NodeId>
     requires { IsOf shared.now pass.old }
     ensures same { IsSamePass pass.old pass.new }
+    ensures past { HasSeenAllOf pass.new pass.old }
     ensures run { IsInRun pass.new }
     ensures part { IsClaimBy placement.old shared.now.layout.nodes pass.old.view.log pass.new.view.log result }
     ensures made { IfSome result (IsNewNode (knowledge pass.new.view)) }
@@ -124,6 +125,7 @@ pub fn claim_by(shared: &Shared, pass: &mut Pass, placement: &mut Placement) -> 
 fn claim_near(shared: &Shared, pass: &mut Pass, near: &mut Near) -> Option<NodeId>
     requires { IsOf shared.now pass.old }
     ensures same { IsSamePass pass.old pass.new }
+    ensures past { HasSeenAllOf pass.new pass.old }
     ensures run { IsInRun pass.new }
     ensures part { IsNearClaim shared.now.layout.nodes pass.old.view.log pass.new.view.log result }
     ensures made { IfSome result (IsNewNode (knowledge pass.new.view)) }
@@ -150,6 +152,7 @@ fn claim_near(shared: &Shared, pass: &mut Pass, near: &mut Near) -> Option<NodeI
 fn claim_recent(shared: &Shared, pass: &mut Pass, near: &mut Near) -> Option<NodeId>
     requires { IsOf shared.now pass.old }
     ensures same { IsSamePass pass.old pass.new }
+    ensures past { HasSeenAllOf pass.new pass.old }
     ensures run { IsInRun pass.old → IsInRun pass.new }
     ensures found { IfSome result (λ _. IsInRun pass.new) }
     ensures part { IsClaimOfFew 4 shared.now.layout.nodes pass.old.view.log pass.new.view.log result }
@@ -170,6 +173,7 @@ fn claim_recent(shared: &Shared, pass: &mut Pass, near: &mut Near) -> Option<Nod
 fn try_hint(shared: &Shared, pass: &mut Pass, slot: u32) -> Option<NodeId>
     requires { IsOf shared.now pass.old }
     ensures same { IsSamePass pass.old pass.new }
+    ensures past { HasSeenAllOf pass.new pass.old }
     ensures run { IsInRun pass.old → IsInRun pass.new }
     ensures found { IfSome result (λ _. IsInRun pass.new) }
     ensures part { IsClaimOfFew 1 shared.now.layout.nodes pass.old.view.log pass.new.view.log result }

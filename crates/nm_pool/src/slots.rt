@@ -5,7 +5,7 @@ ghost use Rattle.nm_model.specs.declared.reply.Reply.TheVariants.{Returned};
 ghost use Rattle.nm_model.specs.Knowledge.{is_private};
 ghost use Rattle.nm_order.specs.Told.{IsNew};
 ghost use Rattle.nm_steps.specs.Rules.{knowledge};
-ghost use Rattle.nm_steps.specs.Steps.{IsInRun, IsOf, Stepped};
+ghost use Rattle.nm_steps.specs.Steps.{IsInRun, IsOf, Stepped, HasSeenAllOf};
 ghost use Rattle.nm_pool.specs.Takes.{IsTake, IsUnborn, LearnsSlots};
 ghost use Rattle.nm_steps.specs.Steps.{IsSamePass};
 
@@ -19,6 +19,7 @@ pub fn take(shared: &Shared, pass: &mut Pass, from: u32) -> Option<u32>
     requires own { IsOf shared.now pass.old }
     requires from { 5 < from }
     ensures same { IsSamePass pass.old pass.new }
+    ensures past { HasSeenAllOf pass.new pass.old }
     ensures run { IsInRun pass.old → IsInRun pass.new }
     ensures part { IsTake from shared.now.layout.nodes pass.old.view.log pass.new.view.log result }
     ensures private { IfSome result (λ slot. is_private (knowledge pass.new.view) slot ≡ true) }
@@ -35,6 +36,7 @@ fn take_first(shared: &Shared, pass: &mut Pass, from: u32) -> Option<u32>
     requires own { IsOf shared.now pass.old }
     requires from { 5 < from }
     ensures same { IsSamePass pass.old pass.new }
+    ensures past { HasSeenAllOf pass.new pass.old }
     ensures run { IsInRun pass.old → IsInRun pass.new }
     ensures part { IsTake from shared.now.layout.nodes pass.old.view.log pass.new.view.log result }
     ensures private { IfSome result (λ slot. is_private (knowledge pass.new.view) slot ≡ true) }
@@ -56,6 +58,7 @@ pub fn put(shared: &Shared, pass: &mut Pass, slot: u32)
     requires own { IsOf shared.now pass.old }
     requires private { is_private (knowledge pass.old.view) slot ≡ true }
     ensures step { Stepped pass.old pass.new (Give slot) (Returned slot) }
+    ensures past { HasSeenAllOf pass.new pass.old }
     ensures run { IsInRun pass.new }
 {
     pass.holds_pooled_slots();

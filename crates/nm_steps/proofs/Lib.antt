@@ -1,5 +1,6 @@
 pub mod Counts
 pub mod Growing
+pub mod Seeing
 pub mod Presence
 pub mod Extending
 pub mod Asking

@@ -172,8 +172,8 @@ abbrev pub HasJoined : Stand → Stand → Stand → Type 0
 HasJoined p q all = all ≡ record p { view = record (joined p.view q.view) { past = all.view.past } }
 
 -- what a pass has seen goes on from what another one had seen
-abbrev pub HasSeenAllOf : Stand → Stand → Type 0
-HasSeenAllOf later earlier = Extends later.view.past earlier.view.past
+pub record HasSeenAllOf (later earlier : Stand) : Type 0 where
+  pub goes_on : Extends later.view.past earlier.view.past
 
 -- what clauses see of a note
 pub record Notice : Type 0 where

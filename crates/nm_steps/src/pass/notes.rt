@@ -1,7 +1,7 @@
 //! How one worker tells another what it has seen.
 ghost use Rattle.std.specs.Prelude.{◌≡◌};
 ghost use Rattle.nm_steps.specs.Rules.{Extends};
-ghost use Rattle.nm_steps.specs.Steps.{IsOf, HasHeard, IsNoteOf};
+ghost use Rattle.nm_steps.specs.Steps.{IsOf, HasHeard, HasSeenAllOf, IsNoteOf};
 
 use crate::pass::{Pass, Shared};
 use crate::view::{Place, Ties, View};
@@ -65,7 +65,7 @@ impl Shared {
         requires own { IsOf self.now pass.old }
         requires table { note.table ≡ self.now.table }
         ensures same { HasHeard pass.old pass.new }
-        ensures past { Extends pass.new.view.past pass.old.view.past }
+        ensures past { HasSeenAllOf pass.new pass.old }
         ensures heard { Extends pass.new.view.past note.past }
     {
         let Note { seat: told } = note;

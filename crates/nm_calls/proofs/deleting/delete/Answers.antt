@@ -1,8 +1,9 @@
-use Rattle.std.proofs.Common.{rules, subst}
+use Rattle.std.proofs.Common.{rules, ap, subst}
 use Rattle.std.specs.Prelude.{IfOk, IfErr}
 use Rattle.nm_calls.specs.Deletes.{DeleteFinishes, FlagsThen, LacksRoomOr}
 use Rattle.nm_calls.specs.declared.deleting.Removal.TheVariants as removal
-use Rattle.nm_calls.specs.Moments.{AnswerHasMoment}
+use Rattle.nm_model.specs.Searches.{Search}
+use Rattle.nm_calls.specs.Moments.{AnswerHasMoment, HadNoCall}
 use Rattle.nm_calls.proofs.Removals.{delete_did, each_lacks_room}
 use Rattle.nm_model.specs.declared.event.Op.TheVariants.{Delete}
 use Rattle.nm_calls.proofs.Adding.{has_won, counts_on, pin_adds, moved_adds}
@@ -39,7 +40,9 @@ pub returns-clause-few : goal.returns-clause-few
 returns-clause-few c = few_in_table c.args.shared.now c.args.pass.now c.delete_pinned.new.pass c.delete_pinned.new.queue.items c.requires.own (search rules) c.delete_pinned.ensures.run c.delete_pinned.ensures.queue
 
 pub returns-clause-moment : goal.returns-clause-moment
-returns-clause-moment c = subst (λ k. IfOk c.delete_pinned.result (AnswerHasMoment c.delete_pinned.new.pass Delete k)) c.get.ensures.number c.delete_pinned.ensures.moment
+returns-clause-moment c =
+    let pinned : HadNoCall c.args.pass.now c.pin_for.new.pass = record { seen = c.is_of_a_run.ensures.seen; same = c.pin_for.ensures.same; past = c.pin_for.ensures.past; call = ap (λ (s : Search). s.call) c.requires.rests.idle } in
+    subst (λ k. IfOk c.delete_pinned.result (AnswerHasMoment c.args.pass.now c.delete_pinned.new.pass Delete k)) c.get.ensures.number (c.delete_pinned.ensures.moment c.args.pass.now pinned)
 
 pub returns-clause-refused : goal.returns-clause-refused
 returns-clause-refused c =

@@ -3,6 +3,7 @@ use Rattle.nm_model.specs.declared.event.Op.TheVariants.{Delete}
 use Rattle.nm_order.specs.Facts.Fact.{CallIs}
 use Rattle.nm_steps.specs.Steps.{Stand}
 use Rattle.nm_calls.specs.Deletes.{leaf_of}
+use Rattle.nm_calls.proofs.Moments.{no_call_on}
 use Rattle.nm_calls.proofs.Removals.{removing_from, removing_on}
 use Rattle.nm_calls.proofs.deleting.delete_pinned.Goals as goal
 
@@ -32,9 +33,12 @@ returns-in-Spent-remove_after-clause-after c =
     rw c.leaf_at-leaf.ensures (removing_on c.inject.new.pass c.remove_after.new.pass c.args.key n there c.remove_after.ensures.on c.remove_after.ensures.only)
 
 pub returns-in-Absent-clause-moment : goal.returns-in-Absent-clause-moment
-returns-in-Absent-clause-moment c = c.answer.ensures.moment Delete c.args.key (c.inject.ensures.on.keeps (CallIs Delete c.args.key) c.requires.call)
+returns-in-Absent-clause-moment c = λ o had.
+    c.answer.ensures.moment o Delete c.args.key (no_call_on o c.args.pass.now c.inject.new.pass had c.inject.ensures.same c.inject.ensures.past) (c.inject.ensures.on.keeps (CallIs Delete c.args.key) c.requires.call)
 
 pub returns-in-Removed-clause-moment : goal.returns-in-Removed-clause-moment
-returns-in-Removed-clause-moment c =
+returns-in-Removed-clause-moment c = λ o had.
     let call = CallIs Delete c.args.key in
-    c.answer-in-Removed.ensures.moment Delete c.args.key (c.remove_after.ensures.on.keeps call (c.inject.ensures.on.keeps call c.requires.call))
+    let injected = no_call_on o c.args.pass.now c.inject.new.pass had c.inject.ensures.same c.inject.ensures.past in
+    c.answer-in-Removed.ensures.moment o Delete c.args.key (no_call_on o c.inject.new.pass c.remove_after.new.pass injected c.remove_after.ensures.same c.remove_after.ensures.past)
+    (c.remove_after.ensures.on.keeps call (c.inject.ensures.on.keeps call c.requires.call))

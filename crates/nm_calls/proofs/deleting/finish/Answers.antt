@@ -4,6 +4,7 @@ use Rattle.nm_order.specs.Facts.Fact.{CallIs}
 use Rattle.nm_steps.specs.Steps.{Stand}
 use Rattle.nm_calls.specs.declared.deleting.Removal.TheVariants as removal
 use Rattle.nm_calls.specs.Deletes.{IsRemoval}
+use Rattle.nm_calls.proofs.Moments.{no_call_on}
 use Rattle.nm_calls.proofs.Removals.{removing_on}
 use Rattle.nm_calls.proofs.AddingDeletes.{finish_wins, finish_steps}
 use Rattle.nm_calls.proofs.Waiting.{few_in_table}
@@ -50,4 +51,5 @@ pub returns-in-Spent-clause-few : goal.returns-in-Spent-clause-few
 returns-in-Spent-clause-few c = few_in_table c.args.shared.now c.args.pass.now c.remove.new.pass c.remove.new.queue.items c.requires.own c.remove.ensures.same c.remove.ensures.on.run c.remove.ensures.queue
 
 pub returns-in-Removed-clause-moment : goal.returns-in-Removed-clause-moment
-returns-in-Removed-clause-moment c = λ yes. c.answer.ensures.moment Delete c.args.key (c.remove.ensures.on.keeps (CallIs Delete c.args.key) c.requires.removing.call)
+returns-in-Removed-clause-moment c = λ yes o had.
+    c.answer.ensures.moment o Delete c.args.key (no_call_on o c.args.pass.now c.remove.new.pass had c.remove.ensures.same c.remove.ensures.past) (c.remove.ensures.on.keeps (CallIs Delete c.args.key) c.requires.removing.call)

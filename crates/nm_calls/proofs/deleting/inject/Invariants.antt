@@ -1,7 +1,7 @@
 use Rattle.std.proofs.Common.{◌≡◌}
 use Rattle.std.specs.Prelude.{None}
 use Rattle.nm_steps.specs.Rules.{knowledge}
-use Rattle.nm_steps.specs.Steps.{IsSamePass}
+use Rattle.nm_steps.specs.Steps.{IsSamePass, HasSeenAllOf}
 use Rattle.nm_epoch.specs.Collecting.{IsQueueOf}
 use Rattle.nm_epoch.specs.Resting.{search}
 use Rattle.nm_calls.specs.Telling.{IsInRun, GoesOn}
@@ -12,6 +12,7 @@ use Rattle.nm_calls.proofs.deleting.inject.Given as goal
 abbrev pub invariant-loop-round : goal.invariant-loop-round
 invariant-loop-round l = record {
   same : IsSamePass l.fn.pass l.pass;
+  past : HasSeenAllOf l.pass l.fn.pass;
   lost : LostFlags l.shared.layout.nodes l.key l.round l.fn.pass.view.log l.pass.view.log;
   run : IsInRun l.pass;
   on : GoesOn l.fn.pass l.pass;

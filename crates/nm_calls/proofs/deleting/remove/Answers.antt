@@ -2,11 +2,13 @@ use Rattle.std.proofs.Common.{rules, add-one}
 use Rattle.nm_calls.proofs.GoingOn.{goes_then}
 use Rattle.nm_calls.proofs.Removals.{cleans_then, removing_on}
 use Rattle.nm_calls.proofs.Waiting.{may_grow_more}
+use Rattle.nm_steps.proofs.Seeing.{seen_through}
 use Rattle.nm_calls.proofs.deleting.remove.Goals as goal
 
 pub loop-round-preserved : goal.loop-round-preserved
 loop-round-preserved c = record {
   same = search rules;
+  past = seen_through _ _ _ c.loop-round.invariant.past c.try_remove.ensures.past;
   lost = rw add-one (c.loop-round.pass.view.log, c.loop-round.invariant.lost, c.try_remove.ensures.lost c.if-try_remove.false);
   run = c.try_remove.ensures.on.run;
   removing = removing_on c.loop-round.pass c.try_remove.new.pass c.args.key c.args.leaf c.loop-round.invariant.removing c.try_remove.ensures.on c.try_remove.ensures.only;

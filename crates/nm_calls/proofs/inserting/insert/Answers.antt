@@ -1,8 +1,9 @@
-use Rattle.std.proofs.Common.{rules, subst}
+use Rattle.std.proofs.Common.{rules, ap, subst}
 use Rattle.std.specs.Prelude.{IfOk}
 use Rattle.nm_model.specs.declared.event.Op.TheVariants.{Insert}
 use Rattle.nm_calls.specs.Inserts.{Finishes}
-use Rattle.nm_calls.specs.Moments.{AnswerHasMoment}
+use Rattle.nm_model.specs.Searches.{Search}
+use Rattle.nm_calls.specs.Moments.{AnswerHasMoment, HadNoCall}
 use Rattle.nm_calls.proofs.Adding.{has_won, counts_on, pin_adds, moved_adds}
 use Rattle.nm_calls.proofs.AddingInserts.{insert_did, insert_wins, insert_steps}
 use Rattle.nm_calls.proofs.Waiting.{may_grow_first, few_in_table}
@@ -37,4 +38,6 @@ pub returns-clause-few : goal.returns-clause-few
 returns-clause-few c = few_in_table c.args.shared.now c.args.pass.now c.insert_pinned.new.pass c.insert_pinned.new.queue.items c.requires.own (search rules) c.insert_pinned.ensures.run c.insert_pinned.ensures.queue
 
 pub returns-clause-moment : goal.returns-clause-moment
-returns-clause-moment c = subst (λ k. IfOk c.insert_pinned.result (AnswerHasMoment c.insert_pinned.new.pass Insert k)) c.get.ensures.number c.insert_pinned.ensures.moment
+returns-clause-moment c =
+    let pinned : HadNoCall c.args.pass.now c.pin_for.new.pass = record { seen = c.is_of_a_run.ensures.seen; same = c.pin_for.ensures.same; past = c.pin_for.ensures.past; call = ap (λ (s : Search). s.call) c.requires.rests.idle } in
+    subst (λ k. IfOk c.insert_pinned.result (AnswerHasMoment c.args.pass.now c.insert_pinned.new.pass Insert k)) c.get.ensures.number (c.insert_pinned.ensures.moment c.args.pass.now pinned)

@@ -8,11 +8,13 @@ use Rattle.nm_pool.specs.declared.placement.Fit.{Fit}
 use Rattle.nm_calls.specs.declared.inserting.Attempt.TheVariants as attempt
 use Rattle.nm_calls.specs.Inserts.{HasFork, IsTry}
 use Rattle.nm_steps.specs.Steps.{Stand}
-use Rattle.nm_calls.proofs.Adding.{adds_these, adds_then, counts_on}
+use Rattle.nm_calls.proofs.Adding.{adds_then, adds_these, counts_on}
 use Rattle.nm_calls.proofs.AddingInserts.{back_adds}
 use Rattle.nm_calls.proofs.GoingOn.{goes_then}
+use Rattle.nm_calls.proofs.Moments.{no_call_on}
 use Rattle.nm_calls.proofs.Forks.{if_ready, none_left, tries_then, found_answer}
 use Rattle.nm_calls.proofs.Waiting.{may_grow_more}
+use Rattle.nm_steps.proofs.Seeing.{seen_through}
 use Rattle.nm_calls.proofs.inserting.insert_pinned.Goals as goal
 
 pub returns-then-not-make_room-clause-private : goal.returns-then-not-make_room-clause-private
@@ -38,15 +40,6 @@ pub returns-in-Found-clause-private : goal.returns-in-Found-clause-private
 returns-in-Found-clause-private c =
     none_left c.args.pass.now c.give_back-in-Found.new.pass c.answer.new.pass c.answer.ensures.hands.private (c.give_back-in-Found.ensures.given c.args.pass.now (c.try_insert.ensures.has c.args.pass.now c.loop-round.invariant.has))
 
-pub returns-in-Found-clause-counted : goal.returns-in-Found-clause-counted
-returns-in-Found-clause-counted c =
-    let old = c.try_insert.new.pass.view.log in
-    let mid = c.give_back-in-Found.new.pass.view.log in
-    let new = c.answer.new.pass.view.log in
-    counts_on c.try_insert.new.splices old new
-    (adds_then old mid new (back_adds c.try_insert.new.fork old mid c.give_back-in-Found.ensures.part) (adds_these _ mid new (ap (λ (s : Stand). s.view.log) c.answer.ensures.step)))
-    c.try_insert.ensures.counted
-
 pub returns-in-Linked-clause-private : goal.returns-in-Linked-clause-private
 returns-in-Linked-clause-private c =
     none_left c.args.pass.now c.try_insert.new.pass c.answer-in-Linked.new.pass c.answer-in-Linked.ensures.hands.private
@@ -60,6 +53,7 @@ returns-in-Full-clause-private c =
 pub loop-round-preserved : goal.loop-round-preserved
 loop-round-preserved c = record {
   same = search rules;
+  past = seen_through _ _ _ c.loop-round.invariant.past c.try_insert.ensures.past;
   lost = rw add-one (c.loop-round.fork, c.loop-round.pass.view.log, c.loop-round.invariant.lost, subst (λ (f : Fit). IsTry f c.args.shared.now.layout.nodes c.args.key c.loop-round.fork c.try_insert.new.fork c.loop-round.pass.view.log c.try_insert.new.pass.view.log attempt.Lost) c.loop-round.invariant.fit c.in-Lost.ensures.part);
   on = goes_then c.args.pass.now c.loop-round.pass c.try_insert.new.pass c.loop-round.invariant.on c.try_insert.ensures.on;
   only = tries_then c.args.pass.now c.loop-round.pass c.try_insert.new.pass c.loop-round.invariant.same c.loop-round.invariant.only c.try_insert.ensures.only;
@@ -78,11 +72,23 @@ pub make_room-requires : goal.make_room-requires
 make_room-requires c = record { few = may_grow_more c.loop-round.pass c.loop-round.queue.items c.loop-round.invariant.on.run c.loop-round.invariant.queue }
 
 pub returns-in-Found-clause-moment : goal.returns-in-Found-clause-moment
-returns-in-Found-clause-moment c =
+returns-in-Found-clause-moment c = λ o had.
     let call = CallIs Insert c.args.key in
-    c.answer.ensures.moment Insert c.args.key (c.give_back-in-Found.ensures.on.keeps call (c.try_insert.ensures.on.keeps call (c.loop-round.invariant.on.keeps call c.requires.call)))
+    let round = no_call_on o c.args.pass.now c.loop-round.pass had c.loop-round.invariant.same c.loop-round.invariant.past in
+    let tried = no_call_on o c.loop-round.pass c.try_insert.new.pass round c.try_insert.ensures.same c.try_insert.ensures.past in
+    c.answer.ensures.moment o Insert c.args.key (no_call_on o c.try_insert.new.pass c.give_back-in-Found.new.pass tried c.give_back-in-Found.ensures.same c.give_back-in-Found.ensures.past)
+    (c.give_back-in-Found.ensures.on.keeps call (c.try_insert.ensures.on.keeps call (c.loop-round.invariant.on.keeps call c.requires.call)))
 
 pub returns-in-Linked-clause-moment : goal.returns-in-Linked-clause-moment
-returns-in-Linked-clause-moment c =
+returns-in-Linked-clause-moment c = λ o had.
     let call = CallIs Insert c.args.key in
-    c.answer-in-Linked.ensures.moment Insert c.args.key (c.try_insert.ensures.on.keeps call (c.loop-round.invariant.on.keeps call c.requires.call))
+    let round = no_call_on o c.args.pass.now c.loop-round.pass had c.loop-round.invariant.same c.loop-round.invariant.past in
+    c.answer-in-Linked.ensures.moment o Insert c.args.key (no_call_on o c.loop-round.pass c.try_insert.new.pass round c.try_insert.ensures.same c.try_insert.ensures.past)
+    (c.try_insert.ensures.on.keeps call (c.loop-round.invariant.on.keeps call c.requires.call))
+
+pub returns-in-Found-clause-counted : goal.returns-in-Found-clause-counted
+returns-in-Found-clause-counted c =
+    let tried = c.try_insert.new.pass.view.log in
+    let back = c.give_back-in-Found.new.pass.view.log in
+    let new = c.answer.new.pass.view.log in
+    counts_on _ tried new (adds_then tried back new (back_adds c.try_insert.new.fork tried back c.give_back-in-Found.ensures.part) (adds_these _ back new (ap (λ (s : Stand). s.view.log) c.answer.ensures.step))) c.try_insert.ensures.counted

@@ -1,6 +1,6 @@
 use Rattle.std.proofs.Common.{◌≡◌, false}
 use Rattle.nm_steps.specs.Rules.{knowledge}
-use Rattle.nm_steps.specs.Steps.{IsSamePass}
+use Rattle.nm_steps.specs.Steps.{IsSamePass, HasSeenAllOf}
 use Rattle.nm_epoch.specs.Collecting.{IsQueueOf}
 use Rattle.nm_epoch.specs.Resting.{search}
 use Rattle.nm_calls.specs.Telling.{GoesOn}
@@ -11,6 +11,7 @@ use Rattle.nm_calls.proofs.inserting.insert_pinned.Given as goal
 abbrev pub invariant-loop-round : goal.invariant-loop-round
 invariant-loop-round l = record {
   same : IsSamePass l.fn.pass l.pass;
+  past : HasSeenAllOf l.pass l.fn.pass;
   lost : LostInserts l.fn.placement l.shared.layout.nodes l.key l._round l.fork l.fn.pass.view.log l.pass.view.log;
   on : GoesOn l.fn.pass l.pass;
   only : OnlyTries l.fn.pass l.pass;

@@ -1,5 +1,6 @@
 use Rattle.nm_order.specs.Facts.Fact.{KnowsSlot}
 use Rattle.nm_calls.proofs.GoingOn.{goes_then, only_then, pinned_still, told_onward}
+use Rattle.nm_steps.proofs.Seeing.{seen_through}
 use Rattle.nm_calls.proofs.looking.read_node.Goals as goal
 
 pub look_edge-left-requires-clause-pinned : goal.look_edge-left-requires-clause-pinned
@@ -38,3 +39,6 @@ returns-clause-told c =
     let q = c.look_edge-right.new.pass in
     rw c.edge_at-next.ensures (told_onward o r s q c.args.key c.args.slot c.look_key-found.result c.look_edge-left.result c.look_edge-right.result
     c.look_key-found.ensures.told c.look_edge-left.ensures.told c.look_edge-right.ensures.told c.look_edge-left.ensures.on c.look_edge-right.ensures.on c.side_at-side.result c.side_at-side.ensures)
+
+pub returns-clause-past : goal.returns-clause-past
+returns-clause-past c = seen_through _ _ _ c.look_key-found.ensures.past (seen_through _ _ _ c.look_edge-left.ensures.past c.look_edge-right.ensures.past)

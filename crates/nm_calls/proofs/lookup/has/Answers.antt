@@ -11,7 +11,8 @@ use Rattle.nm_epoch.proofs.Allowed.{may_leave}
 use Rattle.nm_calls.proofs.GoingOn.{only_then, pinned_still}
 use Rattle.nm_calls.proofs.LookUps.{is_pinned, knows_second, call_is, may_answer, missed}
 use Rattle.nm_calls.proofs.Adding.{most, adds_then, adds_these, has_won, cuts_none, within_call, mul_below, pin_adds, moved_adds, lost_walks_add, finds_adds}
-use Rattle.nm_calls.proofs.Moments.{moment_of}
+use Rattle.nm_calls.specs.Moments.{HadNoCall}
+use Rattle.nm_calls.proofs.Moments.{no_call_on}
 use Rattle.nm_calls.proofs.lookup.has.Goals as goal
 
 pub find-requires-clause-pinned : goal.find-requires-clause-pinned
@@ -20,8 +21,8 @@ find-requires-clause-pinned c = pinned_still c.pin_for.new.pass c.loop-walk.pass
 pub find-requires-clause-known : goal.find-requires-clause-known
 find-requires-clause-known c = c.loop-walk.invariant.on.keeps (KnowsSlot 2) (knows_second c.pin_for.new.pass c.in-Ok._epoch Has c.args.key c.in-Ok.ensures.at)
 
-pub unpin_with-requires-clause-may : goal.unpin_with-requires-clause-may
-unpin_with-requires-clause-may c =
+pub leave_with-requires-clause-may : goal.leave_with-requires-clause-may
+leave_with-requires-clause-may c =
     let a = c.pin_for.new.pass in
     let p = c.loop-walk.pass in
     let q = c.find.new.pass in
@@ -58,11 +59,11 @@ returns-in-Some-clause-won c =
     let a = c.pin_for.new.pass.view.log in
     let p = c.loop-walk.pass.view.log in
     let q = c.find.new.pass.view.log in
-    let new = c.unpin_with.new.pass.view.log in
+    let new = c.leave_with.new.pass.view.log in
     has_won old new
     (adds_then old a new (pin_adds Has c.args.key c.args.tries old a c.in-Ok._epoch c.in-Ok.ensures.pinned)
     (adds_then a p new (lost_walks_add nodes c.args.key c.loop-walk._walk a p c.loop-walk.invariant.lost)
-    (adds_then p q new (finds_adds nodes c.get.result p q (Some c.in-Some.found) c.in-Some.ensures.walk) (adds_these _ q new (ap (λ (s : Stand). s.view.log) c.unpin_with.ensures.step)))))
+    (adds_then p q new (finds_adds nodes c.get.result p q (Some c.in-Some.found) c.in-Some.ensures.walk) (adds_these _ q new (ap (λ (s : Stand). s.view.log) c.leave_with.ensures.step)))))
 
 pub returns-in-Some-clause-uncut : goal.returns-in-Some-clause-uncut
 returns-in-Some-clause-uncut c =
@@ -71,11 +72,11 @@ returns-in-Some-clause-uncut c =
     let a = c.pin_for.new.pass.view.log in
     let p = c.loop-walk.pass.view.log in
     let q = c.find.new.pass.view.log in
-    let new = c.unpin_with.new.pass.view.log in
+    let new = c.leave_with.new.pass.view.log in
     cuts_none old new
     (adds_then old a new (pin_adds Has c.args.key c.args.tries old a c.in-Ok._epoch c.in-Ok.ensures.pinned)
     (adds_then a p new (lost_walks_add nodes c.args.key c.loop-walk._walk a p c.loop-walk.invariant.lost)
-    (adds_then p q new (finds_adds nodes c.get.result p q (Some c.in-Some.found) c.in-Some.ensures.walk) (adds_these _ q new (ap (λ (s : Stand). s.view.log) c.unpin_with.ensures.step)))))
+    (adds_then p q new (finds_adds nodes c.get.result p q (Some c.in-Some.found) c.in-Some.ensures.walk) (adds_these _ q new (ap (λ (s : Stand). s.view.log) c.leave_with.ensures.step)))))
 
 pub returns-in-Some-clause-steps : goal.returns-in-Some-clause-steps
 returns-in-Some-clause-steps c =
@@ -84,11 +85,11 @@ returns-in-Some-clause-steps c =
     let a = c.pin_for.new.pass.view.log in
     let p = c.loop-walk.pass.view.log in
     let q = c.find.new.pass.view.log in
-    let new = c.unpin_with.new.pass.view.log in
+    let new = c.leave_with.new.pass.view.log in
     let pin = (pin_adds Has c.args.key c.args.tries old a c.in-Ok._epoch c.in-Ok.ensures.pinned).steps in
     let lost = (lost_walks_add nodes c.args.key c.loop-walk._walk a p c.loop-walk.invariant.lost).steps in
     let walk = c.find.ensures.steps in
-    let last = (adds_these _ q new (ap (λ (s : Stand). s.view.log) c.unpin_with.ensures.step)).steps in
+    let last = (adds_these _ q new (ap (λ (s : Stand). s.view.log) c.leave_with.ensures.step)).steps in
     let few = mul_below c.loop-walk._walk c.args.tries (most nodes) c.loop-walk-test.true in
     within_call nodes c.args.tries (length old) (length new) (2 * c.args.tries + c.args.tries * most nodes + 10) (omega (arith, pin, lost, walk, last, few)) (omega arith)
 
@@ -129,5 +130,10 @@ returns-clause-steps c =
 
 pub returns-in-Some-clause-moment : goal.returns-in-Some-clause-moment
 returns-in-Some-clause-moment c =
-    let call = call_is c.pin_for.new.pass c.in-Ok._epoch Has c.args.key c.in-Ok.ensures.at in
-    moment_of c.find.new.pass c.unpin_with.new.pass Has c.args.key _ (c.in-Some.ensures.on.keeps (CallIs Has c.args.key) (c.loop-walk.invariant.on.keeps (CallIs Has c.args.key) call)) c.unpin_with.ensures.step c.unpin_with.ensures.run
+    let o = c.args.pass.now in
+    let a = c.pin_for.new.pass in
+    let p = c.loop-walk.pass in
+    let call = call_is a c.in-Ok._epoch Has c.args.key c.in-Ok.ensures.at in
+    let pinned : HadNoCall o a = record { seen = c.is_of_a_run.ensures.seen; same = c.pin_for.ensures.same; past = c.pin_for.ensures.past; call = ap (λ (s : Search). s.call) c.requires.rests.idle } in
+    let walked = no_call_on o p c.find.new.pass (no_call_on o a p pinned c.loop-walk.invariant.same c.loop-walk.invariant.past) c.find.ensures.same c.find.ensures.past in
+    c.leave_with.ensures.moment o Has c.args.key walked (c.in-Some.ensures.on.keeps (CallIs Has c.args.key) (c.loop-walk.invariant.on.keeps (CallIs Has c.args.key) call))

@@ -5,6 +5,7 @@ use Rattle.nm_calls.specs.Walks.{Reads}
 use Rattle.nm_calls.proofs.Adding.{reads_add, walk_adds}
 use Rattle.nm_calls.proofs.GoingOn.{goes_then, only_then, pinned_still, come_on, found_so}
 use Rattle.nm_calls.proofs.Standing.{walk_on}
+use Rattle.nm_steps.proofs.Seeing.{seen_through}
 use Rattle.nm_calls.proofs.walking.find.Goals as goal
 
 pub read_node-on-requires-clause-pinned : goal.read_node-on-requires-clause-pinned
@@ -31,6 +32,7 @@ loop-below-preserved c =
     let read : Reads c.args.key t.edge.slot p.view.log q.view.log on = subst (λ n. Reads c.args.key n p.view.log q.view.log on) c.slot-node.ensures c.read_node-on.ensures.looks in
     record {
       same = search rules;
+      past = seen_through _ _ _ c.loop-below.invariant.past c.read_node-on.ensures.past;
       walk = (_, walk_on c.args.key c.loop-below._below o.view.log p.view.log q.view.log t c.further-spot.result c.loop-below.invariant.walk.0 on c.loop-below.invariant.walk.1 read c.further-spot.ensures.spot some);
       known = rw c.further-spot.ensures.edge (told.learned.leads some);
       on = goes_then o p q c.loop-below.invariant.on c.read_node-on.ensures.on;

@@ -7,6 +7,7 @@ use Rattle.nm_epoch.proofs.Scanning.{looking_on, settles_on}
 use Rattle.nm_epoch.proofs.Advances.{is_moved, is_lost, is_held, settles_advance}
 use Rattle.nm_epoch.proofs.KeptHands.{kept_on, look_keeps}
 use Rattle.nm_epoch.proofs.Advances.{advance_keeps}
+use Rattle.nm_steps.proofs.Seeing.{seen_through}
 use Rattle.nm_epoch.proofs.moving.move_on.Goals as goal
 
 pub returns-in-Some-clause-part : goal.returns-in-Some-clause-part
@@ -25,6 +26,7 @@ loop-worker-preserved c =
     let size : c.loop-worker.pass.view.layout.workers ≡ c.args.shared.now.layout.workers = ap (λ (p : Stand). p.view.layout.workers) c.loop-worker.invariant.same ∙ ap (λ (l : Layout). l.workers) c.requires.own.layout in
     record {
       same = search rules;
+      past = seen_through _ _ _ c.loop-worker.invariant.past c.look-found.ensures.past;
       looking = looking_on c.args.me c.read-epoch.result c.loop-worker.worker c.look-found.result c.args.pass.now.view.log c.loop-worker.pass c.look-found.new.pass c.look-found.ensures.same c.look-found.ensures.found
           c.in_default.ensures (let below = c.loop-worker-test.true in omega (arith, m, size, below)) c.loop-worker.invariant.looking;
       run = c.look-found.ensures.run c.loop-worker.invariant.run;

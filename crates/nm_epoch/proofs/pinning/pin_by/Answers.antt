@@ -8,6 +8,7 @@ use Rattle.nm_model.specs.declared.event.Event.TheVariants.{Sight}
 use Rattle.nm_model.specs.declared.reply.Reply.TheVariants.{Saw}
 use Rattle.nm_epoch.proofs.KeptHands.{hands_kept, kept_on}
 use Rattle.nm_epoch.proofs.Left.{leave_keeps}
+use Rattle.nm_steps.proofs.Seeing.{seen_by_turn}
 use Rattle.nm_epoch.proofs.pinning.pin_by.Goals as goal
 
 pub unreachable-requires : goal.unreachable-requires
@@ -22,6 +23,7 @@ returns-then-tries-eq0-clause-rests c = rests_on c.args.pass.now c.sight.new.pas
 pub loop-round-init : goal.loop-round-init
 loop-round-init c = record {
   same = search rules;
+  past = seen_by_turn _ _ _ c.in-Saw.ensures.past;
   run = c.in-Saw.ensures.run;
   tries = search rules;
   trying = tries_on c.args.pass.now c.sight.new.pass c.in-Saw.first (rests_before c.args.pass.now c.sight.new.pass (Saw c.in-Saw.first) c.requires.unpinned c.in-Saw.ensures.step c.in-Saw.ensures.run) c.in-Saw.ensures.step;

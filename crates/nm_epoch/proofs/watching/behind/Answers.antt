@@ -8,6 +8,7 @@ use Rattle.nm_epoch.proofs.KeptHands.{kept_on, look_keeps}
 use Rattle.nm_steps.specs.Steps.{Stand}
 use Rattle.nm_edge.specs.Layouts.{Layout}
 use Rattle.nm_epoch.proofs.Steps.{watch_steps}
+use Rattle.nm_steps.proofs.Seeing.{seen_through}
 use Rattle.nm_epoch.proofs.watching.behind.Goals as goal
 
 pub loop-worker-preserved : goal.loop-worker-preserved
@@ -18,6 +19,7 @@ loop-worker-preserved c =
     ] in
     record {
       same = search rules;
+      past = seen_through _ _ _ c.loop-worker.invariant.past c.look-found.ensures.past;
       watching = watching_on c.number-me.result c.read-epoch.result c.loop-worker.worker c.loop-worker.mask c.if-is_some.mask c.look-found.result c.args.pass.now.view.log c.loop-worker.pass c.look-found.new.pass
           c.look-found.ensures.same c.look-found.ensures.found sum c.loop-worker.invariant.watching;
       run = c.look-found.ensures.run c.loop-worker.invariant.run;

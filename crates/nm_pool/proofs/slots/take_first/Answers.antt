@@ -5,6 +5,7 @@ use Rattle.nm_steps.specs.Rules.{knowledge}
 use Rattle.nm_pool.specs.Takes.{FoundTaken}
 use Rattle.nm_pool.proofs.Allowing.{may_claim}
 use Rattle.nm_pool.proofs.PrivateSlots.{one_more, within_pass, claimed_draft, private_of, learns_taken, learns_claim, learns_of, learns_both, new_before}
+use Rattle.nm_steps.proofs.Seeing.{seen_through, seen_by_turn}
 use Rattle.nm_pool.proofs.slots.take_first.Goals as goal
 
 pub claim-requires-clause-may : goal.claim-requires-clause-may
@@ -27,6 +28,7 @@ returns-then-claim-clause-learned c =
 pub loop-slot-preserved : goal.loop-slot-preserved
 loop-slot-preserved c = record {
   same = search rules;
+  past = seen_through _ _ _ c.loop-slot.invariant.past (seen_by_turn _ _ _ c.claim.ensures.past);
   run = λ was. c.claim.ensures.run;
   within = λ later. omega arith;
   taken = one_more FoundTaken c.args.from c.loop-slot.slot c.args.pass.now.view.log c.loop-slot.pass.view.log c.claim.new.pass.view.log (omega arith) c.loop-slot.invariant.taken (search rules);

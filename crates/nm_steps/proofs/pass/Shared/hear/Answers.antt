@@ -24,7 +24,7 @@ returns-clause-same c = rw (← c.pass.view_is) (λ i. record {
 })
 
 pub returns-clause-past : goal.returns-clause-past
-returns-clause-past c = rw (← c.pass.view_is) (heard_past c.pass.inside.seat c.join_seat.new.seat c.load.new.seat _ _ c.note.inside.seat.me.0 c.pass.invariant c.join_seat.ensures.2 c.load.ensures.2.0 c.load.ensures.2.1)
+returns-clause-past c = record { goes_on = rw (← c.pass.view_is) (heard_past c.pass.inside.seat c.join_seat.new.seat c.load.new.seat _ _ c.note.inside.seat.me.0 c.pass.invariant c.join_seat.ensures.2 c.load.ensures.2.0 c.load.ensures.2.1) }
 
 pub returns-clause-heard : goal.returns-clause-heard
 returns-clause-heard c = rw (← c.note.view_is) (heard_note c.pass.inside.seat c.join_seat.new.seat c.load.new.seat _ _ c.note.inside.seat.me.0 c.pass.invariant c.join_seat.ensures.2 c.load.ensures.2.0 c.load.ensures.2.1)

@@ -32,7 +32,7 @@ returns-clause-joined c = rw (← c.pass.view_is, ← c.other.view_is) (λ i. re
 })
 
 pub returns-clause-past : goal.returns-clause-past
-returns-clause-past c = rw (← c.pass.view_is) (joined_past c.pass.inside.seat c.join_seat.new.seat c.load.new.seat _ _ c.other.inside.seat.me.0 c.pass.invariant c.join_seat.ensures.2 c.load.ensures.2.0 c.load.ensures.2.1)
+returns-clause-past c = record { goes_on = rw (← c.pass.view_is) (joined_past c.pass.inside.seat c.join_seat.new.seat c.load.new.seat _ _ c.other.inside.seat.me.0 c.pass.invariant c.join_seat.ensures.2 c.load.ensures.2.0 c.load.ensures.2.1) }
 
 pub returns-clause-heard : goal.returns-clause-heard
-returns-clause-heard c = rw (← c.other.view_is) (joined_heard c.pass.inside.seat c.join_seat.new.seat c.load.new.seat _ _ c.other.inside.seat.me.0 c.pass.invariant c.join_seat.ensures.2 c.load.ensures.2.0 c.load.ensures.2.1)
+returns-clause-heard c = record { goes_on = rw (← c.other.view_is) (joined_heard c.pass.inside.seat c.join_seat.new.seat c.load.new.seat _ _ c.other.inside.seat.me.0 c.pass.invariant c.join_seat.ensures.2 c.load.ensures.2.0 c.load.ensures.2.1) }
