@@ -17,11 +17,12 @@ use Rattle.nm_pool.specs.Claims.{DoneAt, PassedOver, PassedWithin, IsClaim, IsCl
 use Rattle.nm_pool.specs.declared.placement.Fit.{Fit}
 use Rattle.nm_pool.specs.declared.placement.Fit.TheVariants as fit
 use Rattle.nm_calls.specs.declared.cutting.Kept.{Kept}
+use Rattle.nm_calls.specs.declared.looking.Onward.{Onward}
 use Rattle.nm_calls.specs.declared.spot.ChainEdge.{ChainEdge}
 use Rattle.nm_calls.specs.declared.spot.End.{End}
 use Rattle.nm_calls.specs.declared.spot.Spot.{Spot}
 use Rattle.nm_calls.specs.Bounds.{chain_bound}
-use Rattle.nm_calls.specs.Walks.{Walks, Ends, IsTooLong, IsBroken, Seeks, Finds}
+use Rattle.nm_calls.specs.Walks.{Reads, Walks, Ends, IsTooLong, IsBroken, Seeks, Finds}
 use Rattle.nm_calls.specs.Calls.{LostWalks}
 use Rattle.nm_calls.specs.Cleanups.{Chooses, FreezesOne, Freezes, Prepares, CutsOff, CleanupLost, CleanupWon}
 use Rattle.nm_calls.specs.Won.{is_won_splice, won_links, won_flags, won_splices, capped, HasWon}
@@ -100,7 +101,7 @@ mul_below s t n lt = let one = suc-mul s n in let all = mul-le-mul_right n lt in
 
 -- the steps of a try, those of walks and exchanges and of one cleanup
 abbrev pub most : ℕ → ℕ
-most nodes = 2 * nodes + 204
+most nodes = 3 * nodes + 204
 
 -- a call stays within its bound
 pub within_call : (nodes tries a b m : ℕ) → b ≤ a + m → m ≤ tries * most nodes + 2 * tries + 6 * nodes + 10 → b ≤ a + tries * (4 * nodes + 8 * chain_bound) + 6 * nodes + 10
@@ -111,39 +112,33 @@ within_call nodes tries a b m le few =
 
 -- ---- walks
 
-pub walk_adds : (k n : ℕ) (old new : List Entry) (s : Spot) (c : List ChainEdge) → Walks k n old new s c → Adds 0 0 0 (1 + 2 * n) old new
+pub reads_add : (k x : ℕ) (old new : List Entry) (on : Onward) → Reads k x old new on → Adds 0 0 0 3 old new
+reads_add k x old new on r = adds_then old _ new (adds_these _ old _ refl) (adds_then _ _ new (adds_these _ _ _ refl) (adds_these _ _ new r.2))
+
+pub walk_adds : (k n : ℕ) (old new : List Entry) (s : Spot) (c : List ChainEdge) → Walks k n old new s c → Adds 0 0 0 (1 + 3 * n) old new
 walk_adds k zero old new s c w = adds_these _ old new w.3
 walk_adds k (suc n) old new s c w =
-    let above = walk_adds k n old w.0 w.1 w.2 w.4 in
-    let first = adds_these _ w.0 _ refl in
-    let second = adds_these _ _ new w.6 in
-    adds_in (1 + 2 * suc n) old new (omega arith) (adds_then old w.0 new above (adds_then w.0 _ new first second))
+    adds_in (1 + 3 * suc n) old new (omega arith) (adds_then old w.0 new (walk_adds k n old w.0 w.1 w.2 w.4) (reads_add k w.1.edge.slot w.0 new w.3 w.6))
 
-pub end_adds : (nodes k : ℕ) (old new : List Entry) (s : Spot) (c : List ChainEdge) (key : ℕ) → Ends nodes k old new s c key → Adds 0 0 0 (2 * nodes) old new
+pub end_adds : (nodes k : ℕ) (old new : List Entry) (s : Spot) (c : List ChainEdge) (key : ℕ) → Ends nodes k old new s c key → Adds 0 0 0 (3 * nodes) old new
 end_adds nodes k old new s c key e =
     let few = e.3 in
-    let above = walk_adds k e.0 old e.1 s c e.4 in
-    let first = adds_these _ e.1 _ refl in
-    let second = adds_these _ _ new e.6 in
-    adds_in (2 * nodes) old new (omega (arith, few)) (adds_then old e.1 new above (adds_then e.1 _ new first second))
+    adds_in (3 * nodes) old new (omega (arith, few)) (adds_then old e.1 new (walk_adds k e.0 old e.1 s c e.4) (reads_add k s.edge.slot e.1 new e.2 e.6))
 
-pub long_adds : (nodes k : ℕ) (old new : List Entry) → IsTooLong nodes k old new → Adds 0 0 0 (2 * nodes) old new
-long_adds nodes k old new e = let all = e.4 in adds_in (2 * nodes) old new (omega (arith, all)) (walk_adds k e.0 old new e.1 e.2 e.3)
+pub long_adds : (nodes k : ℕ) (old new : List Entry) → IsTooLong nodes k old new → Adds 0 0 0 (3 * nodes) old new
+long_adds nodes k old new e = let all = e.4 in adds_in (3 * nodes) old new (omega (arith, all)) (walk_adds k e.0 old new e.1 e.2 e.3)
 
-pub broken_adds : (nodes k : ℕ) (old new : List Entry) → IsBroken nodes k old new → Adds 0 0 0 (2 * nodes) old new
+pub broken_adds : (nodes k : ℕ) (old new : List Entry) → IsBroken nodes k old new → Adds 0 0 0 (3 * nodes) old new
 broken_adds nodes k old new (inl long) = long_adds nodes k old new long
 broken_adds nodes k old new (inr e) =
-    let few = e.6 in
-    let above = walk_adds k e.0 old e.1 e.2 e.3 e.7 in
-    let first = adds_these _ e.1 _ refl in
-    let second = adds_these _ _ new e.8 in
-    adds_in (2 * nodes) old new (omega (arith, few)) (adds_then old e.1 new above (adds_then e.1 _ new first second))
+    let few = e.5 in
+    adds_in (3 * nodes) old new (omega (arith, few)) (adds_then old e.1 new (walk_adds k e.0 old e.1 e.2 e.3 e.6) (reads_add k e.2.edge.slot e.1 new e.4 e.7))
 
-pub finds_adds : (nodes k : ℕ) (old new : List Entry) (r : Option ℕ) → Finds nodes k old new r → Adds 0 0 0 (2 * nodes) old new
+pub finds_adds : (nodes k : ℕ) (old new : List Entry) (r : Option ℕ) → Finds nodes k old new r → Adds 0 0 0 (3 * nodes) old new
 finds_adds nodes k old new None h = long_adds nodes k old new h
 finds_adds nodes k old new (Some key) h = end_adds nodes k old new h.0 h.1 key h.2
 
-pub seeks_adds : (nodes k : ℕ) (old new : List Entry) (c : List ChainEdge) (r : Option End) → Seeks nodes k old new c r → Adds 0 0 0 (2 * nodes) old new
+pub seeks_adds : (nodes k : ℕ) (old new : List Entry) (c : List ChainEdge) (r : Option End) → Seeks nodes k old new c r → Adds 0 0 0 (3 * nodes) old new
 seeks_adds nodes k old new c None h = broken_adds nodes k old new h
 seeks_adds nodes k old new c (Some r) h = end_adds nodes k old new r.spot c r.key h.0
 

@@ -71,20 +71,20 @@ helps_add r c e old new few (inl h) = elim h.1 [
 ]
 
 module _ (fit : Fit) (nodes k : ℕ) (f : Option Fork) (made : Fork) (r : End) (c : List ChainEdge) (old new : List Entry) where
-  link_won : TriesLink fit nodes k f made r c (Linked made.new) old new → (n : ℕ) × (n + paid nodes f ≤ 8 * nodes + 8) × Adds 1 0 0 n old new
+  link_won : TriesLink fit nodes k f made r c (Linked made.new) old new → (n : ℕ) × (n + paid nodes f ≤ 9 * nodes + 8) × Adds 1 0 0 n old new
   link_won h =
       let part = readies_add fit nodes f made h.ended h.claimed h.readies in
       let few = part.1 in
-      (2 * nodes + (part.0 + 7), omega (arith, few), adds_then old h.ended new (seeks_adds nodes k old h.ended c (Some r) h.walk) (adds_then h.ended h.claimed new part.2 (grows_won k r made h.claimed new h.grows)))
+      (3 * nodes + (part.0 + 7), omega (arith, few), adds_then old h.ended new (seeks_adds nodes k old h.ended c (Some r) h.walk) (adds_then h.ended h.claimed new part.2 (grows_won k r made h.claimed new h.grows)))
 
-  link_lost : (e : Edge) → TriesLink fit nodes k f made r c (Lost e) old new → (n : ℕ) × (n + paid nodes f ≤ 8 * nodes + 8) × Adds 0 0 0 n old new
+  link_lost : (e : Edge) → TriesLink fit nodes k f made r c (Lost e) old new → (n : ℕ) × (n + paid nodes f ≤ 9 * nodes + 8) × Adds 0 0 0 n old new
   link_lost e h =
       let part = readies_add fit nodes f made h.ended h.claimed h.readies in
       let few = part.1 in
-      (2 * nodes + (part.0 + 7), omega (arith, few), adds_then old h.ended new (seeks_adds nodes k old h.ended c (Some r) h.walk) (adds_then h.ended h.claimed new part.2 (grows_lost k r made e h.claimed new h.grows)))
+      (3 * nodes + (part.0 + 7), omega (arith, few), adds_then old h.ended new (seeks_adds nodes k old h.ended c (Some r) h.walk) (adds_then h.ended h.claimed new part.2 (grows_lost k r made e h.claimed new h.grows)))
 
 lost_adds : (fit : Fit) (nodes k : ℕ) (f g : Option Fork) (old new : List Entry) → IsTry fit nodes k f g old new attempt.Lost → (n : ℕ) × (n + paid nodes f ≤ most nodes + paid nodes g) × AddsLinks 0 n old new
-lost_adds fit nodes k f g old new (inl h) = (2 * nodes, (let same = ap (paid nodes) h.1 in omega (arith, same)), (0, broken_adds nodes k old new h.0))
+lost_adds fit nodes k f g old new (inl h) = (3 * nodes, (let same = ap (paid nodes) h.1 in omega (arith, same)), (0, broken_adds nodes k old new h.0))
 lost_adds fit nodes k f g old new (inr h) =
     let made = h.0 in
     let mid = h.4 in
@@ -100,9 +100,9 @@ links_of attempt.Linked = 1
 links_of _ = 0
 
 try_adds : (fit : Fit) (nodes k : ℕ) (f g : Option Fork) (old new : List Entry) (a : Attempt) → IsTry fit nodes k f g old new a → (n : ℕ) × (n + paid nodes f ≤ most nodes + (6 * nodes + 1)) × AddsLinks (links_of a) n old new
-try_adds fit nodes k f g old new attempt.Found h = (2 * nodes, little nodes f, (0, seeks_adds nodes k old new h.1 (Some h.0) h.2))
+try_adds fit nodes k f g old new attempt.Found h = (3 * nodes, little nodes f, (0, seeks_adds nodes k old new h.1 (Some h.0) h.2))
   where
-    little : (nodes : ℕ) (f : Option Fork) → 2 * nodes + paid nodes f ≤ most nodes + (6 * nodes + 1)
+    little : (nodes : ℕ) (f : Option Fork) → 3 * nodes + paid nodes f ≤ most nodes + (6 * nodes + 1)
     little nodes None = omega arith
     little nodes (Some f) = omega arith
 try_adds fit nodes k f g old new attempt.Linked h =
@@ -111,7 +111,7 @@ try_adds fit nodes k f g old new attempt.Linked h =
     (link.0, omega (arith, few), (0, link.2))
 try_adds fit nodes k f g old new attempt.Full h =
     let none' = ap (paid nodes) h.5 in
-    (2 * nodes + (6 * nodes + 1), omega (arith, none'), (0, adds_then old h.2 new (seeks_adds nodes k old h.2 h.1 (Some h.0) h.3) (fork_adds fit nodes h.2 new None h.7)))
+    (3 * nodes + (6 * nodes + 1), omega (arith, none'), (0, adds_then old h.2 new (seeks_adds nodes k old h.2 h.1 (Some h.0) h.3) (fork_adds fit nodes h.2 new None h.7)))
 try_adds fit nodes k f g old new attempt.Lost h =
     let lost = lost_adds fit nodes k f g old new h in
     let few = lost.1 in

@@ -2,12 +2,14 @@
 use Rattle.std.proofs.Common.{◌≡◌, ◌≢◌, ℕ, refl, ◌∙◌}
 use Rattle.nm_edge.specs.Edges.{Edge}
 use Rattle.nm_edge.specs.declared.edge.Side.{Side}
+use Rattle.nm_edge.specs.declared.edge.Side.TheVariants.{Left, Right}
 use Rattle.nm_model.specs.Searches.{side_of}
-use Rattle.nm_order.specs.Facts.Fact.{IsPinned, Came}
+use Rattle.nm_order.specs.Facts.Fact.{KnowsSlot, KnowsLeaf, IsTagged, IsFlagged, IsPinned, Came, ReadKey, EndedAt}
+use Rattle.nm_order.specs.Taught.{EdgeLearned}
 use Rattle.nm_steps.specs.Steps.{Stand}
 use Rattle.nm_calls.specs.declared.spot.Spot.{Spot}
-use Rattle.nm_calls.specs.Telling.{Tells, GoesOn, OnlyLooks, IsPinnedSomewhere, KeyTold, EdgeTold}
-use Rattle.nm_calls.specs.Walks.{begin, onto, HasCome, HasFound}
+use Rattle.nm_calls.specs.Telling.{Tells, GoesOn, OnlyLooks, IsPinnedSomewhere, KeyTold, EdgeTold, OnwardTold}
+use Rattle.nm_calls.specs.Walks.{begin, onto, edge_on, HasCome, HasFound}
 use Rattle.nm_calls.proofs.Standing.{onto-edge, onto-parent}
 
 pub goes_then : (o p q : Stand) → GoesOn o p → GoesOn p q → GoesOn o q
@@ -33,15 +35,37 @@ pinned_still p q on pin = (pin.0, on.keeps (IsPinned pin.0) pin.1)
 pub come_first : (p q : Stand) (k : ℕ) (e : Edge) (s : Spot) → EdgeTold p q 2 (begin e).side e → s ≡ begin e → HasCome p q k s
 come_first p q k e s told is since walks = rw is (told.begins since k walks refl refl)
 
--- a look at the key of the node, and at its edge on the key's side: the walk comes to the next one
-pub come_on : (o p r q : Stand) (k key : ℕ) (t s : Spot) (side : Side) (e : Edge) → HasCome o p k t → KeyTold p r t.edge.slot key → EdgeTold r q t.edge.slot side e → side ≡ side_of k key → e.slot ≢ 0 → s ≡ onto t side e
-    → HasCome o q k s
-come_on o p r q k key t s side e come key_told edge_told on some is since walks =
-    let read = key_told.reads since k t.parent t.side (come since walks) in
-    let here : Tells q (Came since k e.slot t.edge.slot side) = edge_told.goes since k t.parent key t.side read on some in
+-- what is read stays so
+learned_still : (p q : Stand) (x : ℕ) (side : Side) (e : Edge) → GoesOn p q → EdgeLearned (Tells p) x side e → EdgeLearned (Tells q) x side e
+learned_still p q x side e on t = record {
+  leads = λ some. on.keeps (KnowsSlot e.slot) (t.leads some);
+  leaf = λ null. on.keeps (KnowsLeaf x) (t.leaf null);
+  tagged = λ tag. on.keeps (IsTagged x side e.slot) (t.tagged tag);
+  flagged = λ flag. on.keeps (IsFlagged x side e.slot) (t.flagged flag);
+}
+
+-- a look at the key of a node, at its left edge and at its right edge: by the one on the key's side walks go on
+pub told_onward : (p r s q : Stand) (k x key : ℕ) (left right : Edge) → KeyTold p r x key → EdgeTold r s x Left left → EdgeTold s q x Right right → GoesOn r s → GoesOn s q
+    → (side : Side) → side ≡ side_of k key → OnwardTold p q k x key side (edge_on side left right)
+told_onward p r s q k x key left right read at_left at_right on then Left is = record {
+  high = read.high;
+  learned = learned_still s q x Left left then at_left.learned;
+  goes = λ since parent up came some. then.keeps (Came since k left.slot x Left) (at_left.goes since k parent key up (read.reads since k parent up came) is some);
+  ends = λ since parent up came null. then.keeps (EndedAt since k x parent up key) (at_left.ends since k parent key up (read.reads since k parent up came) is null);
+}
+told_onward p r s q k x key left right read at_left at_right on then Right is = record {
+  high = read.high;
+  learned = at_right.learned;
+  goes = λ since parent up came some. at_right.goes since k parent key up (on.keeps (ReadKey since k x parent up key) (read.reads since k parent up came)) is some;
+  ends = λ since parent up came null. at_right.ends since k parent key up (on.keeps (ReadKey since k x parent up key) (read.reads since k parent up came)) is null;
+}
+
+-- the walk comes to the next node
+pub come_on : (o p q : Stand) (k key : ℕ) (t s : Spot) (side : Side) (e : Edge) → HasCome o p k t → OnwardTold p q k t.edge.slot key side e → e.slot ≢ 0 → s ≡ onto t side e → HasCome o q k s
+come_on o p q k key t s side e come told some is since walks =
+    let here : Tells q (Came since k e.slot t.edge.slot side) = told.goes since t.parent t.side (come since walks) some in
     let place = onto-parent t side e in
     rw (is, onto-edge t side e, place.0, place.1) here
 
-pub found_so : (o p r q : Stand) (k key : ℕ) (t : Spot) (side : Side) (e : Edge) → HasCome o p k t → KeyTold p r t.edge.slot key → EdgeTold r q t.edge.slot side e → side ≡ side_of k key → e.slot ≡ 0
-    → HasFound o q k t.edge.slot t.parent t.side key
-found_so o p r q k key t side e come key_told edge_told on null since walks = edge_told.ends since k t.parent key t.side (key_told.reads since k t.parent t.side (come since walks)) on null
+pub found_so : (o p q : Stand) (k key : ℕ) (t : Spot) (side : Side) (e : Edge) → HasCome o p k t → OnwardTold p q k t.edge.slot key side e → e.slot ≡ 0 → HasFound o q k t.edge.slot t.parent t.side key
+found_so o p q k key t side e come told null since walks = told.ends since t.parent t.side (come since walks) null

@@ -1,18 +1,15 @@
 -- What is known where a walk stands, one node further.
-use Rattle.std.proofs.Common.{◌≡◌, ◌≢◌, ℕ, Bool, true, false, cond, List, [], ◌∷◌, ◌++◌, ◌+◌, ◌≤◌, refl, add-one, sym, subst, ap}
+use Rattle.std.proofs.Common.{◌≡◌, ◌≢◌, ℕ, Bool, true, false, cond, List, [], ◌∷◌, ◌++◌, ◌+◌, refl, add-one}
 use Rattle.nm_edge.specs.Edges.{Edge}
 use Rattle.nm_edge.specs.declared.edge.Side.{Side}
-use Rattle.nm_model.specs.declared.event.Event.TheVariants.{Look}
-use Rattle.nm_model.specs.declared.event.Field.TheVariants.{Key as KeyOf, Edge as EdgeOn}
-use Rattle.nm_model.specs.declared.reply.Reply.TheVariants.{KeyIs, EdgeIs}
-use Rattle.nm_model.specs.Searches.{side_of}
 use Rattle.nm_model.specs.Walks.{Entry}
 use Rattle.nm_order.specs.Facts.{Fact}
 use Rattle.nm_order.specs.Facts.Fact.{KnowsSlot, IsTagged}
 use Rattle.nm_order.specs.Taught.{EdgeLearned}
+use Rattle.nm_calls.specs.declared.looking.Onward.{Onward}
 use Rattle.nm_calls.specs.declared.spot.ChainEdge.{ChainEdge}
 use Rattle.nm_calls.specs.declared.spot.Spot.{Spot}
-use Rattle.nm_calls.specs.Walks.{begin, onto, chained, chain_onto, after_looks, Walks, Ends, Leads, IsAt}
+use Rattle.nm_calls.specs.Walks.{begin, onto, chained, chain_onto, Reads, Walks, Leads, IsAt}
 
 -- ---- facts that stay
 
@@ -77,25 +74,7 @@ onto-parent t d e = cases t.edge.tag
 
 -- ---- the log
 
-pub walk_on : (k n : ℕ) (old mid more new : List Entry) (t s : Spot) (d : List ChainEdge) (key : ℕ) (side : Side) (e : Edge)
-    → Walks k n old mid t d → more ≡ mid ++ (Look t.edge.slot KeyOf, KeyIs key) ∷ [] → side ≡ side_of k key
-    → new ≡ more ++ (Look t.edge.slot (EdgeOn side), EdgeIs e) ∷ [] → s ≡ onto t side e → e.slot ≢ 0
+pub walk_on : (k n : ℕ) (old mid new : List Entry) (t s : Spot) (d : List ChainEdge) (on : Onward)
+    → Walks k n old mid t d → Reads k t.edge.slot mid new on → s ≡ onto t on.side on.next → on.next.slot ≢ 0
     → Walks k (n + 1) old new s (chain_onto t d)
-walk_on k n old mid more new t s d key side e w a b x y some =
-    rw (add-one, y, x, b, a) (
-      mid,
-      t,
-      d,
-      key,
-      w,
-      (let q = onto-edge t (side_of k key) e in subst (λ (f : Edge). f.slot ≢ 0) (sym q) some),
-      (let q = onto-edge t (side_of k key) e in ap (λ (f : Edge). after_looks k mid t.edge.slot key f) (sym q)),
-      (let q = onto-edge t (side_of k key) e in ap (λ (f : Edge). onto t (side_of k key) f) (sym q)),
-      refl,
-    )
-
-pub walk_ends : (nodes k n : ℕ) (old mid more new : List Entry) (t : Spot) (d : List ChainEdge) (key : ℕ) (side : Side) (e : Edge)
-    → Walks k n old mid t d → more ≡ mid ++ (Look t.edge.slot KeyOf, KeyIs key) ∷ [] → side ≡ side_of k key
-    → new ≡ more ++ (Look t.edge.slot (EdgeOn side), EdgeIs e) ∷ [] → e.slot ≡ 0 → n + 2 ≤ nodes
-    → Ends nodes k old new t d key
-walk_ends nodes k n old mid more new t d key side e w a b x none' few = rw (x, b, a) (n, mid, e, few, w, none', refl)
+walk_on k n old mid new t s d on w read x some = rw add-one (mid, t, d, on, w, some, read, x, refl)

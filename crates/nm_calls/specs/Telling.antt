@@ -54,3 +54,11 @@ pub record EdgeTold (p q : Stand) (x : ℕ) (side : Side) (e : Edge) : Type 0 wh
   pub begins : (since : Since) (k : ℕ) → Walks p.view.layout p.view.number p.view.log since k → x ≡ 2 → side ≡ Left → Tells q (Came since k e.slot 2 Left)
   pub goes : (since : Since) (k parent v : ℕ) (up : Side) → Tells p (ReadKey since k x parent up v) → side ≡ side_of k v → e.slot ≢ 0 → Tells q (Came since k e.slot x side)
   pub ends : (since : Since) (k parent v : ℕ) (up : Side) → Tells p (ReadKey since k x parent up v) → side ≡ side_of k v → e.slot ≡ 0 → Tells q (EndedAt since k x parent up v)
+
+-- what a walk for k is told where it has read a node, whose key this is, to go on to that side by that edge: a key below the sentinels stands above slot 5; the
+-- edge is read, and leads inside the layout; and each walk for k that had come there has come on to its slot, or has ended where it is null
+pub record OnwardTold (p q : Stand) (k x key : ℕ) (side : Side) (e : Edge) : Type 0 where
+  pub high : key < infinity_0 → 6 ≤ x
+  pub learned : EdgeLearned (Tells q) x side e
+  pub goes : (since : Since) (parent : ℕ) (up : Side) → Tells p (Came since k x parent up) → e.slot ≢ 0 → Tells q (Came since k e.slot x side)
+  pub ends : (since : Since) (parent : ℕ) (up : Side) → Tells p (Came since k x parent up) → e.slot ≡ 0 → Tells q (EndedAt since k x parent up key)

@@ -2,7 +2,7 @@
 use Rattle.std.specs.Prelude.{◌≡◌, ◌≢◌, ◌<◌, ◌≤◌, ◌+◌, ◌⊎◌, ℕ, zero, suc, true, if◌then◌else◌, List, [], ◌∷◌, ◌++◌, length, Option, Some, None}
 use Rattle.nm_edge.specs.Edges.{Edge}
 use Rattle.nm_edge.specs.declared.edge.Side.{Side}
-use Rattle.nm_edge.specs.declared.edge.Side.TheVariants.{Left}
+use Rattle.nm_edge.specs.declared.edge.Side.TheVariants.{Left, Right}
 use Rattle.nm_model.specs.declared.event.Event.TheVariants.{Look}
 use Rattle.nm_model.specs.declared.event.Field.TheVariants.{Key as KeyOf, Edge as EdgeOn}
 use Rattle.nm_model.specs.declared.reply.Reply.TheVariants.{KeyIs, EdgeIs}
@@ -12,6 +12,7 @@ use Rattle.nm_order.specs.Facts.{Since, Fact}
 use Rattle.nm_order.specs.Facts.Fact.{KnowsSlot, KnowsLeaf, IsTagged, Came, EndedAt}
 use Rattle.nm_order.specs.Taught.{Walks as HasWalks}
 use Rattle.nm_steps.specs.Steps.{Stand}
+use Rattle.nm_calls.specs.declared.looking.Onward.{Onward}
 use Rattle.nm_calls.specs.declared.spot.ChainEdge.{ChainEdge}
 use Rattle.nm_calls.specs.declared.spot.End.{End}
 use Rattle.nm_calls.specs.declared.spot.Spot.{Spot}
@@ -38,22 +39,31 @@ chain_onto s c = if s.edge.tag then c ++ chained s.parent s.side ∷ [] else []
 
 -- ---- what a walk leaves in the log
 
--- a look at a node's key, then one at its edge on k's side
-abbrev pub after_looks : ℕ → List Entry → ℕ → ℕ → Edge → List Entry
-after_looks k l s key e = (l ++ (Look s KeyOf, KeyIs key) ∷ []) ++ (Look s (EdgeOn (side_of k key)), EdgeIs e) ∷ []
+-- a look at a node's key, then one at its left edge and one at its right edge
+abbrev pub after_looks : List Entry → ℕ → ℕ → Edge → Edge → List Entry
+after_looks l s key left right = ((l ++ (Look s KeyOf, KeyIs key) ∷ []) ++ (Look s (EdgeOn Left), EdgeIs left) ∷ []) ++ (Look s (EdgeOn Right), EdgeIs right) ∷ []
+
+-- of these two the edge on that side
+abbrev pub edge_on : Side → Edge → Edge → Edge
+edge_on Left left right = left
+edge_on Right left right = right
+
+-- so a walk for k reads a node: the side of k there, and the edge on that side
+abbrev pub Reads : ℕ → ℕ → List Entry → List Entry → Onward → Type 0
+Reads k s old new on = (left right : Edge) × (new ≡ after_looks old s on.found left right) × (on.side ≡ side_of k on.found) × (on.next ≡ edge_on on.side left right)
 
 -- slot 2 was looked at, and n nodes below it; none of the edges read was null
 abbrev pub Walks : ℕ → ℕ → List Entry → List Entry → Spot → List ChainEdge → Type 0
 Walks k zero old new s c = (s ≡ begin s.edge) × (c ≡ []) × (s.edge.slot ≢ 0) × (new ≡ old ++ (Look 2 (EdgeOn Left), EdgeIs s.edge) ∷ [])
 Walks k (suc n) old new s c =
-    (mid : List Entry) × (t : Spot) × (d : List ChainEdge) × (key : ℕ) × Walks k n old mid t d × (s.edge.slot ≢ 0)
-    × (new ≡ after_looks k mid t.edge.slot key s.edge) × (s ≡ onto t (side_of k key) s.edge) × (c ≡ chain_onto t d)
+    (mid : List Entry) × (t : Spot) × (d : List ChainEdge) × (on : Onward) × Walks k n old mid t d × (on.next.slot ≢ 0)
+    × Reads k t.edge.slot mid new on × (s ≡ onto t on.side on.next) × (c ≡ chain_onto t d)
 
 -- a walk to the leaf that the edge of s leads to, whose key this is; with slot 2 and the leaf it looked at no more than `nodes` nodes
 abbrev pub Ends : ℕ → ℕ → List Entry → List Entry → Spot → List ChainEdge → ℕ → Type 0
 Ends nodes k old new s c key =
-    (n : ℕ) × (mid : List Entry) × (e : Edge) × (n + 2 ≤ nodes) × Walks k n old mid s c × (e.slot ≡ 0)
-    × (new ≡ after_looks k mid s.edge.slot key e)
+    (n : ℕ) × (mid : List Entry) × (on : Onward) × (n + 2 ≤ nodes) × Walks k n old mid s c × (on.next.slot ≡ 0)
+    × Reads k s.edge.slot mid new on × (on.found ≡ key)
 
 -- a walk broken off where it had looked at as many nodes as there are
 abbrev pub IsTooLong : ℕ → ℕ → List Entry → List Entry → Type 0
@@ -62,8 +72,8 @@ IsTooLong nodes k old new = (n : ℕ) × (s : Spot) × (c : List ChainEdge) × W
 -- a walk broken off where its chain would hold 65 nodes
 abbrev pub IsTooDeep : ℕ → ℕ → List Entry → List Entry → Type 0
 IsTooDeep nodes k old new =
-    (n : ℕ) × (mid : List Entry) × (s : Spot) × (c : List ChainEdge) × (key : ℕ) × (e : Edge) × (n + 2 ≤ nodes) × Walks k n old mid s c
-    × (new ≡ after_looks k mid s.edge.slot key e) × (e.slot ≢ 0) × (s.edge.tag ≡ true) × (chain_bound ≤ length c + 1)
+    (n : ℕ) × (mid : List Entry) × (s : Spot) × (c : List ChainEdge) × (on : Onward) × (n + 2 ≤ nodes) × Walks k n old mid s c
+    × Reads k s.edge.slot mid new on × (on.next.slot ≢ 0) × (s.edge.tag ≡ true) × (chain_bound ≤ length c + 1)
 
 abbrev pub IsBroken : ℕ → ℕ → List Entry → List Entry → Type 0
 IsBroken nodes k old new = IsTooLong nodes k old new ⊎ IsTooDeep nodes k old new

@@ -21,7 +21,7 @@ pub use deleting::{Missed, delete, finish};
 pub use growing::Fork;
 pub use inserting::{Fault, insert};
 pub use leaving::{answer, label, leave};
-pub use looking::{look_birth, look_edge, look_key};
+pub use looking::{Onward, look_birth, look_edge, look_key};
 pub use lookup::{Busy, has};
 pub use making::{claim, fill, give, link};
 pub use marking::{flag, splice, tag};

@@ -1,11 +1,14 @@
 //! Looks at known nodes: what the worker's own log tells allows them, and they add to it.
+ghost use Rattle.std.specs.Prelude.{◌≡◌, ◌≤◌};
 ghost use Rattle.nm_model.specs.declared.event.Event.TheVariants.{Look};
 ghost use Rattle.nm_model.specs.declared.event.Field.TheVariants.{Key as KeyOf, Edge as EdgeOn, Birth};
 ghost use Rattle.nm_model.specs.declared.reply.Reply.TheVariants.{KeyIs, EdgeIs, BirthIs};
 ghost use Rattle.nm_order.specs.Facts.Fact.{KnowsSlot, IsBorn};
-ghost use Rattle.nm_steps.specs.Steps.{IsOf, Stepped, HasSeenAllOf};
-ghost use Rattle.nm_calls.specs.Telling.{Tells, GoesOn, OnlyLooks, IsInRun, IsPinnedSomewhere, EdgeTold, KeyTold};
+ghost use Rattle.nm_steps.specs.Steps.{IsOf, IsSamePass, Stepped, HasSeenAllOf};
+ghost use Rattle.nm_calls.specs.Telling.{Tells, GoesOn, OnlyLooks, IsInRun, IsPinnedSomewhere, EdgeTold, KeyTold, OnwardTold};
+ghost use Rattle.nm_calls.specs.Walks.{Reads, edge_on};
 
+use crate::spot::side_at;
 use nm_edge::{Edge, Side};
 use nm_steps::{Pass, Shared};
 
@@ -41,6 +44,46 @@ pub fn look_edge(shared: &Shared, pass: &mut Pass, slot: u32, side: Side) -> Edg
     let edge = shared.look_edge(pass, slot, side);
     pass.is_of_a_run();
     edge
+}
+
+/// How a walk goes on from a node: the node's key, the side of the walk's key there, and the edge on that side.
+#[derive(Clone, Copy, Debug, PartialEq, Eq)]
+pub struct Onward {
+    pub found: u64,
+    pub side: Side,
+    pub next: Edge,
+}
+
+/// Reads the key of a known node and both of its edges, and then compares the keys, so that no read waits for the comparison. Three looks.
+pub(crate) fn read_node(shared: &Shared, pass: &mut Pass, slot: u32, key: u64) -> Onward
+    requires own { IsOf shared.now pass.old }
+    requires run { IsInRun pass.old }
+    requires pinned { IsPinnedSomewhere pass.old }
+    requires known { Tells pass.old (KnowsSlot slot) }
+    ensures same { IsSamePass pass.old pass.new }
+    ensures past { HasSeenAllOf pass.new pass.old }
+    ensures looks { Reads key slot pass.old.view.log pass.new.view.log result }
+    ensures within { result.next.slot ≤ shared.now.layout.nodes }
+    ensures on { GoesOn pass.old pass.new }
+    ensures only { OnlyLooks pass.old pass.new }
+    ensures told { OnwardTold pass.old pass.new key slot result.found result.side result.next }
+{
+    let found = look_key(shared, pass, slot);
+    let left = look_edge(shared, pass, slot, Side::Left);
+    let right = look_edge(shared, pass, slot, Side::Right);
+    let side = side_at(key, found);
+    let next = edge_at(side, left, right);
+    Onward { found, side, next }
+}
+
+/// Of a node's two edges the one on that side.
+fn edge_at(side: Side, left: Edge, right: Edge) -> Edge
+    ensures { result ≡ edge_on side left right }
+{
+    match side {
+        Side::Left => left,
+        Side::Right => right,
+    }
 }
 
 /// Reads the birth of a known node, at most 2^62.

@@ -8,13 +8,13 @@ ghost use Rattle.nm_calls.specs.Bounds.{chain_bound};
 ghost use Rattle.nm_calls.specs.Telling.{Tells, GoesOn, OnlyLooks, IsInRun, IsPinnedSomewhere};
 ghost use Rattle.nm_calls.specs.Walks.{Finds, Seeks, HasEnded, HasFound};
 
-use crate::looking::{look_edge, look_key};
-use crate::spot::{Chain, End, end_at, extend, first, further, side_at};
+use crate::looking::{look_edge, read_node};
+use crate::spot::{Chain, End, end_at, extend, first, further};
 use nm_edge::Side;
 use nm_steps::{Pass, Shared};
 
 /// The key of the leaf at the end of the walk for a key, which remembers nothing else; `None` where the walk had looked at as many
-/// nodes as there are. At most two steps a node of the table.
+/// nodes as there are. At most three steps a node of the table.
 pub fn find(shared: &Shared, pass: &mut Pass, key: u64) -> Option<u64>
     requires own { IsOf shared.now pass.old }
     requires run { IsInRun pass.old }
@@ -23,7 +23,7 @@ pub fn find(shared: &Shared, pass: &mut Pass, key: u64) -> Option<u64>
     ensures same { IsSamePass pass.old pass.new }
     ensures past { HasSeenAllOf pass.new pass.old }
     ensures walk { Finds shared.now.layout.nodes key pass.old.view.log pass.new.view.log result }
-    ensures steps { length pass.new.view.log ≤ length pass.old.view.log + 2 * shared.now.layout.nodes }
+    ensures steps { length pass.new.view.log ≤ length pass.old.view.log + 3 * shared.now.layout.nodes }
     ensures on { GoesOn pass.old pass.new }
     ensures only { OnlyLooks pass.old pass.new }
     ensures found { IfSome result (λ v. (leaf parent : ℕ) × (side : SideOf) × HasFound pass.old pass.new key leaf parent side v) }
@@ -31,20 +31,18 @@ pub fn find(shared: &Shared, pass: &mut Pass, key: u64) -> Option<u64>
     let mut spot = first(look_edge(shared, pass, 2, Side::Left));
     for _below in 0..shared.layout().nodes() - 1 {
         let node = spot.edge.slot();
-        let found = look_key(shared, pass, node);
-        let way = side_at(key, found);
-        let next = look_edge(shared, pass, node, way);
-        if next.slot() == 0 {
-            return Some(found);
+        let on = read_node(shared, pass, node, key);
+        if on.next.slot() == 0 {
+            return Some(on.found);
         }
-        spot = further(spot, way, next);
+        spot = further(spot, on.side, on.next);
     }
     None
 }
 
 /// The spot at the end of the walk for a key, with its leaf's key; the chain has the internal nodes from its successor down to above
 /// its parent. `None` where the walk had looked at as many nodes as there are, or where the chain would hold 65 nodes with the parent.
-/// At most two steps a node of the table. (The seek of Natarajan and Mittal, section 3.2, which here remembers the whole chain.)
+/// At most three steps a node of the table. (The seek of Natarajan and Mittal, section 3.2, which here remembers the whole chain.)
 pub fn seek(shared: &Shared, pass: &mut Pass, key: u64, chain: &mut Chain) -> Option<End>
     requires own { IsOf shared.now pass.old }
     requires run { IsInRun pass.old }
@@ -57,7 +55,7 @@ pub fn seek(shared: &Shared, pass: &mut Pass, key: u64, chain: &mut Chain) -> Op
     ensures ended { IfSome result (λ r. HasEnded (Tells pass.new) shared.now.layout.nodes r.spot chain.new.items) }
     ensures few { IfSome result (λ r. length chain.new.items < chain_bound) }
     ensures high { IfSome result (λ r. r.key < infinity_0 → 6 ≤ r.spot.edge.slot) }
-    ensures steps { length pass.new.view.log ≤ length pass.old.view.log + 2 * shared.now.layout.nodes }
+    ensures steps { length pass.new.view.log ≤ length pass.old.view.log + 3 * shared.now.layout.nodes }
     ensures on { GoesOn pass.old pass.new }
     ensures only { OnlyLooks pass.old pass.new }
     ensures found { IfSome result (λ r. HasFound pass.old pass.new key r.spot.edge.slot r.spot.parent r.spot.side r.key) }
@@ -66,16 +64,14 @@ pub fn seek(shared: &Shared, pass: &mut Pass, key: u64, chain: &mut Chain) -> Op
     let mut spot = first(look_edge(shared, pass, 2, Side::Left));
     for _below in 0..shared.layout().nodes() - 1 {
         let node = spot.edge.slot();
-        let found = look_key(shared, pass, node);
-        let way = side_at(key, found);
-        let next = look_edge(shared, pass, node, way);
-        if next.slot() == 0 {
-            return Some(end_at(&spot, found));
+        let on = read_node(shared, pass, node, key);
+        if on.next.slot() == 0 {
+            return Some(end_at(&spot, on.found));
         }
         if !extend(chain, spot) {
             return None;
         }
-        spot = further(spot, way, next);
+        spot = further(spot, on.side, on.next);
     }
     None
 }

@@ -22,7 +22,7 @@ impl Shared {
         let word = self.layout.epoch() as usize;
         let found = self.load(&mut pass.seat, word, Event::Sight);
         let reply = sighted(pass.brief, found);
-        pass.brief = after_sight(pass.brief, reply);
+        note_sight(&mut pass.brief, reply);
         reply
     }
 
@@ -39,7 +39,7 @@ impl Shared {
         let event = Event::SightFor(op, key);
         let found = self.load(&mut pass.seat, word, event);
         let reply = sighted(pass.brief, found);
-        pass.brief = after_sight(pass.brief, reply);
+        note_sight(&mut pass.brief, reply);
         reply
     }
 
@@ -139,24 +139,19 @@ fn sighted(brief: Brief, epoch: u64) -> Sighted
     }
 }
 
-/// What a sight leaves of a worker's epochs.
-fn after_sight(brief: Brief, reply: Sighted) -> Brief
-    ensures { result ≡ noted_sight brief (sight_reply reply) }
+/// Notes a sight: what it does not tell of a worker's epochs stays as it stands.
+fn note_sight(brief: &mut Brief, reply: Sighted)
+    ensures { brief.new ≡ noted_sight brief.old (sight_reply reply) }
 {
     match reply {
-        Sighted::Saw(epoch) | Sighted::Missed(epoch) => Brief {
-            seen: Some(epoch),
-            ..brief
-        },
-        Sighted::Labelled(epoch) => Brief {
-            seen: Some(epoch),
-            unlabelled: false,
-            ..brief
-        },
-        Sighted::Pinned(epoch) => Brief {
-            seen: Some(epoch),
-            pin: Some(epoch),
-            ..brief
-        },
+        Sighted::Saw(epoch) | Sighted::Missed(epoch) => brief.seen = Some(epoch),
+        Sighted::Labelled(epoch) => {
+            brief.seen = Some(epoch);
+            brief.unlabelled = false;
+        }
+        Sighted::Pinned(epoch) => {
+            brief.seen = Some(epoch);
+            brief.pin = Some(epoch);
+        }
     }
 }

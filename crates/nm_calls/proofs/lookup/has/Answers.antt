@@ -1,4 +1,4 @@
-use Rattle.std.proofs.Common.{◌≡◌, ◌+◌, ◌*◌, length, refl, ap, ◌∙◌, arith}
+use Rattle.std.proofs.Common.{◌≡◌, ◌+◌, ◌*◌, length, nat_eq, refl, ap, subst, ◌∙◌, arith}
 use Rattle.std.proofs.Math.Nat.{mul-le-mul_right}
 use Rattle.std.specs.Prelude.{Some}
 use Rattle.nm_model.specs.declared.knowledge.Brief.{Brief}
@@ -12,6 +12,7 @@ use Rattle.nm_calls.proofs.GoingOn.{only_then, pinned_still}
 use Rattle.nm_calls.proofs.LookUps.{is_pinned, knows_second, call_is, may_answer, missed}
 use Rattle.nm_calls.proofs.Adding.{most, adds_then, adds_these, has_won, cuts_none, within_call, mul_below, pin_adds, moved_adds, lost_walks_add, finds_adds}
 use Rattle.nm_calls.specs.Moments.{HadNoCall}
+use Rattle.nm_calls.specs.Walks.{Finds}
 use Rattle.nm_calls.proofs.Moments.{no_call_on}
 use Rattle.nm_calls.proofs.lookup.has.Goals as goal
 
@@ -137,3 +138,26 @@ returns-in-Some-clause-moment c =
     let pinned : HadNoCall o a = record { seen = c.is_of_a_run.ensures.seen; same = c.pin_for.ensures.same; past = c.pin_for.ensures.past; call = ap (λ (s : Search). s.call) c.requires.rests.idle } in
     let walked = no_call_on o p c.find.new.pass (no_call_on o a p pinned c.loop-walk.invariant.same c.loop-walk.invariant.past) c.find.ensures.same c.find.ensures.past in
     c.leave_with.ensures.moment o Has c.args.key walked (c.in-Some.ensures.on.keeps (CallIs Has c.args.key) (c.loop-walk.invariant.on.keeps (CallIs Has c.args.key) call))
+
+pub returns-in-Some-clause-did : goal.returns-in-Some-clause-did
+returns-in-Some-clause-did c =
+    let p = c.loop-walk.pass.view.log in
+    let q = c.find.new.pass.view.log in
+    let found = c.in-Some.found in
+    let walk = subst (λ k. Finds c.args.shared.now.layout.nodes k p q (Some found)) c.get.ensures.number c.in-Some.ensures.walk in
+    record {
+      pinned = c.pin_for.new.pass.view.log;
+      epoch = c.in-Ok._epoch;
+      pin = c.in-Ok.ensures.pinned;
+      broken = c.loop-walk._walk;
+      few = c.loop-walk-test.true;
+      begun = p;
+      lost = c.loop-walk.invariant.lost;
+      ended = q;
+      spot = walk.0;
+      chain = walk.1;
+      key = found;
+      walk = walk.2;
+      answers = ap (nat_eq found) c.get-in-Some.ensures.number;
+      leaves = ap (λ (s : Stand). s.view.log) c.leave_with.ensures.step;
+    }

@@ -12,7 +12,7 @@ pub invariant_of-pass : goal.invariant_of-pass
 invariant_of-pass c = tied_after _ _ _ _ _ _ _ c.pass.invariant (may_sight _ _ _) c.load-found.ensures (search rules)
 
 pub returns-clause-reply : goal.returns-clause-reply
-returns-clause-reply c = sight_answers _ _ c.pass.inside.brief c.after_sight-pass-inside.result (knowledge c.args.pass.now.view).brief (sight_reply c.sighted-reply.result) c.load-found.result (tied_after _ _ _ _ c.after_sight-pass-inside.result _ _ c.pass.invariant (may_sight _ _ _) c.load-found.ensures (search rules)) c.after_sight-pass-inside.ensures c.sighted-reply.ensures (search rules)
+returns-clause-reply c = sight_answers _ _ c.pass.inside.brief c.note_sight.new.brief (knowledge c.args.pass.now.view).brief (sight_reply c.sighted-reply.result) c.load-found.result (tied_after _ _ _ _ c.note_sight.new.brief _ _ c.pass.invariant (may_sight _ _ _) c.load-found.ensures (search rules)) c.note_sight.ensures c.sighted-reply.ensures (search rules)
 
 pub returns-clause-run : goal.returns-clause-run
 returns-clause-run c = in_run_after _ _ _ _ _ _ c.pass.invariant (may_sight _ _ _) c.load-found.ensures
