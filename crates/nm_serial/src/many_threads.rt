@@ -174,8 +174,8 @@ fn output<R: Threads + Wait + Sync, G: Gate>(
 /// Makes the calls of the script that the reader gives on a tree, those of each worker in their order in a thread of its own, and writes the lines
 /// of each worker with what the calls were answered, and then what is left of the closed tree.
 ///
-/// Everything is read before a line is checked, and nothing is written before all threads have ended and the tree is closed. The gate is asked in
-/// each thread before each line. `Thread` comes before `NoMemory` of a call, and that before `Gate`, which names the least worker that was stopped.
+/// Everything is read before a line is checked, and nothing is written before all threads have ended and the tree is closed. The gate is asked
+/// before each line. The threads start together, once the last of them is made. `Thread` comes before `NoMemory` of a call, and that before `Gate`, which names the least worker that was stopped.
 pub fn stress<R: Threads + Wait + Sync, I: Read, W: Write, G: Gate>(
     rt: &R,
     alloc: Global,

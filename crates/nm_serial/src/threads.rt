@@ -13,7 +13,7 @@ use nm_scripts::call::Call;
 use nm_tree::{Tree, Worker};
 use std::alloc::Global;
 use std::snapshot::Snapshot;
-use std::sync::Wait;
+use std::sync::{RwLock, Wait};
 use std::thread;
 use std::thread::{Promise, PromisedHandle, Scope, Threads};
 
@@ -58,9 +58,16 @@ fn play_all<G: Gate>(
     Played { worker, answers }
 }
 
-/// Starts the thread of a worker.
-fn start<'s, E, G: Gate>(
+/// Waits until the start is no longer held back.
+fn wait_for<R: Wait>(rt: &R, start: &RwLock<()>) {
+    drop(start.read(rt));
+}
+
+/// Makes the thread of a worker, which plays its lines once the start is no longer held back.
+fn start_one<'s, R: Wait + Sync, E, G: Gate>(
+    rt: &'s R,
     scope: &Scope<'s, E>,
+    start: &'s RwLock<()>,
     alloc: Global,
     gate: &'s G,
     tree: &'s Tree,
@@ -86,7 +93,10 @@ fn start<'s, E, G: Gate>(
         move || -> Played
             requires { IsOf tree.now worker.pass × All (λ e. IsOwn e.1) calls.now × (length calls.now ≤ 100000) }
             ensures { HasPlayed (G.lets gate.entry.now) (G.stops gate.entry.now) tree.entry.now tries calls.entry.now worker result.worker result.answers }
-        { play_all(alloc, gate, tree, tries, calls, worker) },
+        {
+            wait_for(rt, start);
+            play_all(alloc, gate, tree, tries, calls, worker)
+        },
     );
     match started {
         Ok(handle) => Ok(handle),
@@ -94,10 +104,12 @@ fn start<'s, E, G: Gate>(
     }
 }
 
-/// Starts a thread for each worker, and waits for all of them, in the scope that they run in.
-fn play_each<'s, R: Threads, E, G: Gate>(
-    rt: &R,
+/// Makes a thread for each worker, which all start together once the last is made, and waits for all of them, in the scope that they run in. Where one
+/// cannot be made, the others start as this returns.
+fn play_each<'s, R: Threads + Wait + Sync, E, G: Gate>(
+    rt: &'s R,
     scope: &Scope<'s, E>,
+    start: &'s RwLock<()>,
     alloc: Global,
     gate: &'s G,
     tree: &'s Tree,
@@ -111,11 +123,13 @@ fn play_each<'s, R: Threads, E, G: Gate>(
     ensures played { IfOk result (λ v. HaveAllPlayed (G.lets gate.now) (G.stops gate.now) tree.now tries calls.now workers.items v.items) }
     ensures refused { IfErr result IsRefusal }
 {
+    let held_back = start.write(rt);
     let mut handles = Vec::new(alloc);
     for worker in workers {
-        let handle = start(scope, alloc, gate, tree, tries, calls, worker)?;
+        let handle = start_one(rt, scope, start, alloc, gate, tree, tries, calls, worker)?;
         handles.push(handle).map_err(|_| RunFault::NoMemory)?;
     }
+    drop(held_back);
     match thread::join_promised(rt, handles) {
         Ok(played) => Ok(played),
         Err(_) => Err(RunFault::NoMemory),
@@ -138,12 +152,14 @@ pub(crate) fn play_apart<R: Threads + Wait + Sync, G: Gate>(
     ensures played { IfOk result (λ v. HaveAllPlayed (G.lets gate.now) (G.stops gate.now) tree.now tries calls.now workers.items v.items) }
     ensures refused { IfErr result IsRefusal }
 {
+    let start = RwLock::new(());
+    let start = &start;
     thread::scope(
         thread::scope_env(),
         rt,
         |scope| -> Result<Vec<Played>, RunFault>
             requires { All (λ w. IsOf tree.now w.pass) workers.items × All (λ e. IsOwn e.1) calls.now × (length calls.now ≤ 100000) }
             ensures { IfOk result (λ v. HaveAllPlayed (G.lets gate.entry.now) (G.stops gate.entry.now) tree.entry.now tries calls.entry.now workers.items v.items) × IfErr result IsRefusal }
-        { play_each(rt, scope, alloc, gate, tree, tries, calls, workers) },
+        { play_each(rt, scope, start, alloc, gate, tree, tries, calls, workers) },
     )
 }
