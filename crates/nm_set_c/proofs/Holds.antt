@@ -46,3 +46,6 @@ unfolding IsRefused
 refused_same Closed new o r = r.1
 refused_same (InUse x) new o r = r.1
 refused_same (Open x) new o r = absurd r
+
+pub refused_there : (old new : Hold) (o : Outcome) → IsRefused old new o → IsRefused old old o
+refused_there old new o r = subst (λ (h : Hold). IsRefused old h o) (refused_same old new o r) r
