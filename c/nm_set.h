@@ -9,7 +9,7 @@
  *     nm_set_close(&set);                      the handle owns the report from now on
  *     nm_drop(&set);
  *
- * A handle is one word of the caller's memory. It is closed, or owns a set, one worker of a set, or the report that a set was closed with. What a
+ * A handle is two words of the caller's memory. It is closed, or owns a set, one worker of a set, or the report that a set was closed with. What a
  * caller can get wrong with open and closed handles, kinds, keys, numbers and sizes is told by an outcome, and then nothing has changed: of the
  * parameters that a function writes through, only those are written that its outcome names.
  *
@@ -19,10 +19,19 @@
  *   or by a return; the place that it was moved from is no handle then, until it is all zero again. An open handle that is overwritten or lost
  *   leaves its memory taken, and its worker away.
  * - A pointer is to a place of its type that no other call is using, and two parameters of one call are at different places.
- * - One handle is used by one call at a time, and what a thread did with a handle happens before the next thread's call with it: by a lock, by the
- *   start or the join of a thread, or by a sequentially consistent atomic. Calls with different handles may run at the same time, and those of one
- *   set are made to. That is owed for the handle of the set too: of two threads that take their
- *   workers from one handle at the same time, the second may be told NM_CLOSED, and the set lost.
+ * - What a thread did with a handle happens before another thread's call with it: by a lock, by the
+ *   start or the join of a thread, or by a sequentially consistent atomic. Calls with different
+ *   handles may run at the same time, and those of one set are made to.
+ *
+ * Of two calls that have one handle at the same time the second is told NM_IN_USE, and touches
+ * nothing. Several threads may take their workers from one handle of a set at once, by nm_set_worker
+ * and nm_set_attach, with no lock: each call has the handle for the moment of the take alone, and
+ * looks again for a while where it finds another one there. So does nm_set_close. A worker's handle,
+ * and a report's, is for one thread at a time: NM_IN_USE of it tells a fault of the program, that
+ * has cost nothing.
+ *
+ * And further:
+ *
  * - malloc, realloc and free are of one allocator, may be called by several threads, and align as C says.
  * - No function is called by a signal handler, or in the forked child of a process with threads.
  */
@@ -67,8 +76,9 @@ typedef enum nm_outcome {
     NM_CLOSING = -19,     /* a close was refused behind the point where all workers were gathered: only nm_set_close goes on */
     NM_NOT_ALL = -20,     /* fewer workers are at home than the set has. No calls meet it: a worker
                              that is lost tells NM_AWAY */
-    NM_UNCOUNTED = -21    /* there are as many handles as can be counted. No calls meet it: a set
+    NM_UNCOUNTED = -21,   /* there are as many handles as can be counted. No calls meet it: a set
                              has 64 workers at most */
+    NM_IN_USE = -22       /* another call has the handle at this moment */
 } nm_outcome;
 
 /* An outcome in words, in memory that is never freed. A number that is none of them has its words
@@ -99,16 +109,18 @@ static inline const char *nm_outcome_text(nm_outcome outcome) {
     case NM_CLOSING: return "the set is being closed";
     case NM_NOT_ALL: return "fewer workers are at home than the set has";
     case NM_UNCOUNTED: return "there are as many handles as can be counted";
+    case NM_IN_USE: return "another call has the handle";
     }
     return "an outcome of another library";
 }
 
 /* A closed handle, or what the functions below have made of it. */
 typedef struct nm_handle {
-    void *at;
+    void *at;          /* what it owns, or null */
+    uint64_t in_use;   /* 0 while no call has it */
 } nm_handle;
 
-#define NM_CLOSED_HANDLE {0}
+#define NM_CLOSED_HANDLE {0, 0}
 
 /* What a worker has won, and what became of the nodes that it cut off. */
 typedef struct nm_ledger {
@@ -127,6 +139,12 @@ typedef struct nm_waiting {
     uint64_t label;  /* the epoch that its remover read after the cut */
 } nm_waiting;
 
+/* The version of the library that the program runs with, where NM_SET_VERSION is the one that it was
+ * compiled with. NM_DONE. */
+nm_outcome nm_set_version(uint32_t *major, uint32_t *minor, uint32_t *patch);
+
+/* Each function that follows tells NM_IN_USE of a handle that another call has. */
+
 /* ---- a set ----
  * Of a closed handle these tell NM_CLOSED, and of one that owns something else NM_KIND. */
 
@@ -141,11 +159,16 @@ nm_outcome nm_set_near(nm_handle *set, uint32_t nodes, uint32_t workers);
 
 /* Takes the worker of a number, with all that it held when it went home. Threads that are busy at
  * the same time are best given numbers eight apart, from 7 on: 7, 15, 23 and so on. Of a set for
- * 29, 37 or 61 workers, one more than a multiple of four, the nodes lie best in cache lines. The
- * set's handle is used by one call at a time, here too: so one thread takes the workers of all, or
- * a mutex is held round this call. NM_DONE, and the worker's handle, which must be closed, owns the
- * worker; NM_OPEN (of the worker's handle), NM_NUMBER, NM_AWAY, NM_CLOSING, NM_NO_MEMORY. */
+ * 29, 37 or 61 workers, one more than a multiple of four, the nodes lie best in cache lines. Several
+ * threads may make this call with one handle of a set at once. NM_DONE, and the worker's handle,
+ * which must be closed, owns the worker; NM_OPEN (of the worker's handle), NM_NUMBER, NM_AWAY,
+ * NM_CLOSING, NM_NO_MEMORY. */
 nm_outcome nm_set_worker(nm_handle *set, nm_handle *worker, uint32_t number);
+
+/* Takes a worker that is at home, where no number is named: those eight apart, from 7 on, come
+ * first. Several threads may make this call with one handle of a set at once. NM_AWAY: no worker was
+ * at home when its place was looked at. Else as nm_set_worker. */
+nm_outcome nm_set_attach(nm_handle *set, nm_handle *worker);
 
 /* Ends the set when all its workers are at home. NM_DONE, and the handle owns the report from then
  * on. NM_AWAY, NM_NO_MEMORY: the handle owns the set still; behind the latter its workers may have

@@ -22,6 +22,11 @@ pub record IsResident (b : Board) (f : Fit) (i : ℕ) (w : Hand) : Type 0 where
   pub number : w.pass.view.number ≡ i
   pub fit : w.fit ≡ f
 
+-- a worker of that tree, of whatever number, which claims by that fit
+pub record IsAnyResident (b : Board) (f : Fit) (w : Hand) : Type 0 where
+  pub own : IsOf b w.pass
+  pub fit : w.fit ≡ f
+
 -- seats for worker i of that site, for the next one, and so on
 abbrev pub AreSeats : Site → ℕ → List (Site × ℕ) → Type 0
 AreSeats b i [] = Unit {0}

@@ -5,6 +5,7 @@
 //! a program runs is told as a fault, before any step.
 #![tactic(auto)]
 
+mod attach;
 mod fault;
 mod home;
 mod member;

@@ -2,9 +2,10 @@
 ghost use Rattle.std.specs.Prelude.{◌≡◌, ◌<◌, ◌≤◌, ◌↔◌, ◌⊎◌, true, false, length, IfOk, IfErr, IsErrOf};
 ghost use Rattle.std.specs.Arc.{arc_value};
 ghost use Rattle.nm_tree.specs.Workers.{AreNew, HaveFit};
-ghost use Rattle.nm_set.specs.Seats.{IsResident};
+ghost use Rattle.nm_set.specs.Seats.{IsResident, IsAnyResident};
 ghost use Rattle.nm_set.specs.Ends.{EndsSet};
 
+use crate::attach::take_any;
 use crate::fault::{CloseReason, MemberFault};
 use crate::home::{Absence, Home, Site};
 use crate::member::Member;
@@ -114,6 +115,28 @@ impl Set {
             Ok(worker) => Ok(Member::of(home, worker)),
             Err(Absence::Number) => Err(MemberFault::Number),
             Err(Absence::Away) => Err(MemberFault::Away),
+        }
+    }
+
+    /// Gives out a worker that is at home, with all that it held when it went home, where the caller names no number: those eight apart, from 7 on,
+    /// come first (7, 15, 23 and so on), since their announcements stand in different cache lines.
+    ///
+    /// `Away`: each seat was empty when it was looked at, once each, one after the other. That no worker was at home at one moment is not said: one
+    /// may have gone home to a seat behind the look at it.
+    pub fn attach(&self) -> Result<Member, MemberFault>
+        ensures member { IfOk result (λ m. (m.board ≡ self.now.board) × IsAnyResident self.now.board self.now.fit m.hand) }
+        ensures number { IsErrOf result MemberFault.Number → ⊥ }
+        ensures closing { IsErrOf result MemberFault.Closing ↔ (self.now.closing ≡ true) }
+    {
+        let State::Open(home) = &self.state else {
+            return Err(MemberFault::Closing);
+        };
+        let Ok(home) = Arc::try_clone(home) else {
+            return Err(MemberFault::Uncounted);
+        };
+        match take_any(&home) {
+            Some(worker) => Ok(Member::of(home, worker)),
+            None => Err(MemberFault::Away),
         }
     }
 

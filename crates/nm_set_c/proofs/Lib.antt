@@ -1,5 +1,7 @@
 -- Lemmas on handles and what they own.
-pub mod Handles
+pub mod Places
+pub mod Swaps
+pub mod Holds
 pub mod Items
 pub mod Owners
 pub mod Sending

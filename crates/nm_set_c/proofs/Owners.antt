@@ -1,26 +1,65 @@
--- What a call with the handle of a report leaves, by what the handle owns.
-use Rattle.std.proofs.Common.{refl, sym, subst}
-use Rattle.std.specs.Prelude.{◌≡◌, Option, Some}
+-- What a call on a handle leaves, by what the handle owns.
+use Rattle.std.proofs.Common.{◌≡◌, refl, sym, subst, inl, inr}
+use Rattle.nm_set.specs.Seats.{Seated}
 use Rattle.nm_tree.specs.declared.closing.Report.{Report}
-use Rattle.nm_set_c.specs.Owners.{OfReport}
+use Rattle.nm_set_c.specs.Handles.{Hold, Open, IsRefused}
+use Rattle.nm_set_c.specs.Owners.{OwnsWorker, OfWorker, OwnsReport, OfReport}
 use Rattle.nm_set_c.specs.declared.outcome.Outcome.{Outcome}
 use Rattle.nm_set_c.specs.declared.outcome.Outcome.TheVariants.{Kind}
 use Rattle.nm_set_c.specs.declared.owner.Owner.{Owner}
 use Rattle.nm_set_c.specs.declared.owner.Owner.TheVariants.{Set, Worker, Ended, Nothing}
 
--- a report, what the call does with it
-pub told_report : (does : Report → Report → Outcome → Type 0) (same : Type 0) (old new : Option Owner) (r q : Report) (o : Outcome)
-    → old ≡ Some (Ended r) → new ≡ Some (Ended q) → does r q o → OfReport does same old new o
-told_report does same old new r q o e f d = subst (λ (x : Option Owner). OfReport does same x new o) (sym e) (q, f, d)
+-- ---- of a worker's handle: it is refused, or has a worker, or something else
 
-refused_report : (does : Report → Report → Outcome → Type 0) (same : Type 0) (x : Owner) → ((r : Report) → x ≡ Ended r → ⊥) → same → OfReport does same (Some x) (Some x) Kind
-refused_report does same (Ended r) not s = absurd (not r refl)
-refused_report does same (Set b) not s = (refl, refl, s)
-refused_report does same (Worker m) not s = (refl, refl, s)
-refused_report does same Nothing not s = (refl, refl, s)
+pub refused_worker : (does : Seated → Seated → Outcome → Type 0) (same : Type 0) (old new : Hold) (o : Outcome) → IsRefused old new o → same → OfWorker does same old new o
+unfolding OfWorker
+refused_worker does same old new o r s = inl (r, s)
 
--- anything else, a refusal
-pub other_report : (does : Report → Report → Outcome → Type 0) (same : Type 0) (old new : Option Owner) (x : Owner)
-    → ((r : Report) → x ≡ Ended r → ⊥) → old ≡ Some x → new ≡ Some x → same → OfReport does same old new Kind
-other_report does same old new x not e f s =
-    subst (λ (y : Option Owner). OfReport does same y new Kind) (sym e) (subst (λ (y : Option Owner). OfReport does same (Some x) y Kind) (sym f) (refused_report does same x not s))
+pub told_worker : (does : Seated → Seated → Outcome → Type 0) (same : Type 0) (old new : Hold) (m n : Seated) (o : Outcome)
+    → old ≡ Open (Worker m) → new ≡ Open (Worker n) → does m n o → OfWorker does same old new o
+unfolding OfWorker OwnsWorker
+told_worker does same old new m n o e f d = inr (Worker m, e, (n, f, d))
+
+pub does_worker : (does : Seated → Seated → Outcome → Type 0) (same : Type 0) (x : Owner) (m n : Seated) (o : Outcome) → x ≡ Worker m → does m n o → OwnsWorker does same x (Open (Worker n)) o
+unfolding OwnsWorker
+does_worker does same x m n o e d = subst (λ (y : Owner). OwnsWorker does same y (Open (Worker n)) o) (sym e) (n, refl, d)
+
+pub owned_worker : (does : Seated → Seated → Outcome → Type 0) (same : Type 0) (old new : Hold) (x y : Owner) (o : Outcome)
+    → old ≡ Open x → new ≡ Open y → OwnsWorker does same x (Open y) o → OfWorker does same old new o
+unfolding OfWorker
+owned_worker does same old new x y o e f d = inr (x, e, subst (λ (h : Hold). OwnsWorker does same x h o) (sym f) d)
+
+pub is_no_worker : (does : Seated → Seated → Outcome → Type 0) (same : Type 0) (x : Owner) → ((m : Seated) → x ≡ Worker m → ⊥) → same → OwnsWorker does same x (Open x) Kind
+unfolding OwnsWorker
+is_no_worker does same (Worker m) not s = absurd (not m refl)
+is_no_worker does same (Set b) not s = (refl, refl, s)
+is_no_worker does same (Ended r) not s = (refl, refl, s)
+is_no_worker does same Nothing not s = (refl, refl, s)
+
+pub other_worker : (does : Seated → Seated → Outcome → Type 0) (same : Type 0) (old new : Hold) (x : Owner)
+    → ((m : Seated) → x ≡ Worker m → ⊥) → old ≡ Open x → new ≡ Open x → same → OfWorker does same old new Kind
+unfolding OfWorker
+other_worker does same old new x not e f s = inr (x, e, subst (λ (h : Hold). OwnsWorker does same x h Kind) (sym f) (is_no_worker does same x not s))
+
+-- ---- of a report's handle, in the same way
+
+pub refused_report : (does : Report → Report → Outcome → Type 0) (same : Type 0) (old new : Hold) (o : Outcome) → IsRefused old new o → same → OfReport does same old new o
+unfolding OfReport
+refused_report does same old new o r s = inl (r, s)
+
+pub told_report : (does : Report → Report → Outcome → Type 0) (same : Type 0) (old new : Hold) (r q : Report) (o : Outcome)
+    → old ≡ Open (Ended r) → new ≡ Open (Ended q) → does r q o → OfReport does same old new o
+unfolding OfReport OwnsReport
+told_report does same old new r q o e f d = inr (Ended r, e, (q, f, d))
+
+is_no_report : (does : Report → Report → Outcome → Type 0) (same : Type 0) (x : Owner) → ((r : Report) → x ≡ Ended r → ⊥) → same → OwnsReport does same x (Open x) Kind
+unfolding OwnsReport
+is_no_report does same (Ended r) not s = absurd (not r refl)
+is_no_report does same (Set b) not s = (refl, refl, s)
+is_no_report does same (Worker m) not s = (refl, refl, s)
+is_no_report does same Nothing not s = (refl, refl, s)
+
+pub other_report : (does : Report → Report → Outcome → Type 0) (same : Type 0) (old new : Hold) (x : Owner)
+    → ((r : Report) → x ≡ Ended r → ⊥) → old ≡ Open x → new ≡ Open x → same → OfReport does same old new Kind
+unfolding OfReport
+other_report does same old new x not e f s = inr (x, e, subst (λ (h : Hold). OwnsReport does same x h Kind) (sym f) (is_no_report does same x not s))

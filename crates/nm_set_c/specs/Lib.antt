@@ -1,4 +1,5 @@
 -- What handles own, and what calls with them tell.
+pub mod Places
 pub mod Handles
 pub mod Outcomes
 pub mod Owners

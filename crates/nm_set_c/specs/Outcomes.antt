@@ -41,6 +41,7 @@ code_of outcome.Away = negsuc 17
 code_of outcome.Closing = negsuc 18
 code_of outcome.NotAll = negsuc 19
 code_of outcome.Uncounted = negsuc 20
+code_of outcome.InUse = negsuc 21
 
 -- a number that tells an outcome of which this holds
 abbrev pub Tells : (Outcome → Type 0) → ℤ → Type 0

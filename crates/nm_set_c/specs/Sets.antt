@@ -1,14 +1,15 @@
 -- What calls on a set tell and leave.
-use Rattle.std.specs.Prelude.{◌≡◌, ◌≤◌, ◌⊎◌, ◌↔◌, ⊤, ℕ, true, false, Option, Some, None}
+use Rattle.std.specs.Prelude.{◌≡◌, ◌≤◌, ◌⊎◌, ◌↔◌, ℕ, true, false, Result, Ok, Err}
 use Rattle.nm_pool.specs.declared.placement.Fit.{Fit}
 use Rattle.nm_set.specs.declared.fault.CloseReason.{CloseReason}
 use Rattle.nm_set.specs.declared.fault.MemberFault.{MemberFault}
 use Rattle.nm_set.specs.declared.fault.MemberFault.TheVariants as taking
 use Rattle.nm_set.specs.Ends.{EndsSet}
-use Rattle.nm_set.specs.Seats.{Standing, Seated, IsResident}
+use Rattle.nm_set.specs.Seats.{Standing, Seated, IsResident, IsAnyResident}
+use Rattle.nm_tree.specs.Workers.{Hand}
 use Rattle.nm_tree.specs.declared.closing.Report.{Report}
 use Rattle.nm_set_c.specs.Outcomes.{of_taking, of_reason}
-use Rattle.nm_set_c.specs.Owners.{Refused}
+use Rattle.nm_set_c.specs.Handles.{Hold, Closed, Open, InUse, IsRefused, CannotOpen}
 use Rattle.nm_set_c.specs.declared.outcome.Outcome.{Outcome}
 use Rattle.nm_set_c.specs.declared.outcome.Outcome.TheVariants as outcome
 use Rattle.nm_set_c.specs.declared.owner.Owner.{Owner}
@@ -29,54 +30,78 @@ pub record IsNewSet (f : Fit) (nodes workers : ℕ) (s : Standing) : Type 0 wher
   pub layout : s.board.layout ≡ record { nodes = nodes; workers = workers }
 
 -- with sizes that fit, the handle has a new set, or memory was refused; else which size does not fit is told, the nodes first
-abbrev pub IsMade : Fit → ℕ → ℕ → Option Owner → Outcome → Type 0
+abbrev pub IsMade : Fit → ℕ → ℕ → Hold → Outcome → Type 0
 IsMade f nodes workers new o =
-    ((o ≡ outcome.Done) × HasNodes nodes × HasWorkers workers × (s : Standing) × (new ≡ Some (Set s)) × IsNewSet f nodes workers s)
-    ⊎ (((o ≡ outcome.NoMemory) × HasNodes nodes × HasWorkers workers × (new ≡ None))
-    ⊎ (((o ≡ outcome.Nodes) × (HasNodes nodes → ⊥) × (new ≡ None))
-    ⊎ ((o ≡ outcome.Workers) × HasNodes nodes × (HasWorkers workers → ⊥) × (new ≡ None))))
+    ((o ≡ outcome.Done) × HasNodes nodes × HasWorkers workers × (s : Standing) × (new ≡ Open (Set s)) × IsNewSet f nodes workers s)
+    ⊎ (((o ≡ outcome.NoMemory) × HasNodes nodes × HasWorkers workers × (new ≡ Closed))
+    ⊎ (((o ≡ outcome.Nodes) × (HasNodes nodes → ⊥) × (new ≡ Closed))
+    ⊎ ((o ≡ outcome.Workers) × HasNodes nodes × (HasWorkers workers → ⊥) × (new ≡ Closed))))
 
--- a handle that is open already is as it was
-abbrev pub MakesSet : Fit → ℕ → ℕ → Option Owner → Option Owner → Outcome → Type 0
-MakesSet f nodes workers None new o = IsMade f nodes workers new o
-MakesSet f nodes workers (Some x) new o = Refused outcome.Open ⊤ (Some x) new o
+-- a handle that is open already, or in use, is as it was
+abbrev pub MakesSet : Fit → ℕ → ℕ → Hold → Hold → Outcome → Type 0
+MakesSet f nodes workers old new o = CannotOpen old new o ⊎ ((old ≡ Closed) × IsMade f nodes workers new o)
 
 -- ---- a worker of a set
 
--- the handle has the worker of that number, or why not is told, and it is closed
-abbrev pub IsTaken : ℕ → Standing → Option Owner → Outcome → Type 0
-IsTaken number s new o =
-    ((o ≡ outcome.Done) × (s.closing ≡ false) × (m : Seated) × (new ≡ Some (Worker m)) × (m.board ≡ s.board) × IsResident s.board s.fit number m.hand)
-    ⊎ (((o ≡ outcome.NoMemory) × (s.closing ≡ false) × (new ≡ None))
-    ⊎ ((why : MemberFault) × (o ≡ of_taking why) × (new ≡ None) × (why ≡ taking.Number → s.board.layout.workers ≤ number) × ((why ≡ taking.Closing) ↔ (s.closing ≡ true))))
+-- what a set gives: a worker of its tree with that fit, of which this holds, or why not; which faults there are is up to the call
+abbrev pub Gives : (Standing → Hand → Type 0) → (Standing → MemberFault → Type 0) → Owner → Result Seated Outcome → Type 0
+Gives which faults (Set s) (Ok m) = (s.closing ≡ false) × (m.board ≡ s.board) × which s m.hand
+Gives which faults (Set s) (Err o) = (why : MemberFault) × (o ≡ of_taking why) × ((why ≡ taking.Closing) ↔ (s.closing ≡ true)) × faults s why
+Gives which faults (Worker m) r = r ≡ Err outcome.Kind
+Gives which faults (Ended r) t = t ≡ Err outcome.Kind
+Gives which faults Nothing r = r ≡ Err outcome.Kind
+
+-- the handle has what was given, or memory was refused and it is closed; or nothing was given, why is told, and it is closed
+abbrev pub Keeps : Result Seated Outcome → Hold → Outcome → Type 0
+Keeps (Ok m) new o = ((o ≡ outcome.Done) × (new ≡ Open (Worker m))) ⊎ ((o ≡ outcome.NoMemory) × (new ≡ Closed))
+Keeps (Err why) new o = (o ≡ why) × (new ≡ Closed)
 
 -- by the handle of the worker, which must be closed, and that of the set, which stays as it is
-abbrev pub TakesWorker : ℕ → Option Owner → Option Owner → Option Owner → Outcome → Type 0
-TakesWorker number set (Some x) new o = Refused outcome.Open ⊤ (Some x) new o
-TakesWorker number None None new o = Refused outcome.Closed ⊤ None new o
-TakesWorker number (Some (Set s)) None new o = IsTaken number s new o
-TakesWorker number (Some (Worker m)) None new o = Refused outcome.Kind ⊤ None new o
-TakesWorker number (Some (Ended r)) None new o = Refused outcome.Kind ⊤ None new o
-TakesWorker number (Some Nothing) None new o = Refused outcome.Kind ⊤ None new o
+abbrev pub Takes : (Owner → Result Seated Outcome → Type 0) → Hold → Hold → Hold → Outcome → Type 0
+Takes gives set old new o =
+    CannotOpen old new o
+    ⊎ (((old ≡ Closed) × (new ≡ Closed) × IsRefused set set o)
+    ⊎ ((old ≡ Closed) × (x : Owner) × (set ≡ Open x) × (r : Result Seated Outcome) × gives x r × Keeps r new o))
+
+-- the worker of a number
+abbrev pub IsNumbered : ℕ → Standing → Hand → Type 0
+IsNumbered number s w = IsResident s.board s.fit number w
+
+abbrev pub NumberFaults : ℕ → Standing → MemberFault → Type 0
+NumberFaults number s why = why ≡ taking.Number → s.board.layout.workers ≤ number
+
+abbrev pub TakesWorker : ℕ → Hold → Hold → Hold → Outcome → Type 0
+TakesWorker number set old new o = Takes (Gives (IsNumbered number) (NumberFaults number)) set old new o
+
+-- any worker
+abbrev pub IsAny : Standing → Hand → Type 0
+IsAny s w = IsAnyResident s.board s.fit w
+
+abbrev pub AnyFaults : Standing → MemberFault → Type 0
+AnyFaults s why = why ≡ taking.Number → ⊥
+
+abbrev pub Attaches : Hold → Hold → Hold → Outcome → Type 0
+Attaches set old new o = Takes (Gives IsAny AnyFaults) set old new o
 
 -- ---- the end of a set
 
--- the handle has the report, or why not is told, and it has the set still, of the same tree and the same fit
-abbrev pub IsEnded : Standing → Option Owner → Outcome → Type 0
+-- there is the report, or why not is told, and the set still, of the same tree and the same fit
+abbrev pub IsEnded : Standing → Owner → Outcome → Type 0
 IsEnded s new o =
-    ((o ≡ outcome.Done) × (r : Report) × (new ≡ Some (Ended r)) × EndsSet s.board r)
-    ⊎ ((why : CloseReason) × (o ≡ of_reason why) × (t : Standing) × (new ≡ Some (Set t)) × (t.board ≡ s.board) × (t.fit ≡ s.fit))
+    ((o ≡ outcome.Done) × (r : Report) × (new ≡ Ended r) × EndsSet s.board r)
+    ⊎ ((why : CloseReason) × (o ≡ of_reason why) × (t : Standing) × (new ≡ Set t) × (t.board ≡ s.board) × (t.fit ≡ s.fit))
 
-abbrev pub EndsHandle : Option Owner → Option Owner → Outcome → Type 0
-EndsHandle None new o = Refused outcome.Closed ⊤ None new o
-EndsHandle (Some (Set s)) new o = IsEnded s new o
-EndsHandle (Some (Worker m)) new o = Refused outcome.Kind ⊤ (Some (Worker m)) new o
-EndsHandle (Some (Ended r)) new o = Refused outcome.Kind ⊤ (Some (Ended r)) new o
-EndsHandle (Some Nothing) new o = Refused outcome.Kind ⊤ (Some Nothing) new o
+abbrev pub EndsOwner : Owner → Owner → Outcome → Type 0
+EndsOwner (Set s) new o = IsEnded s new o
+EndsOwner (Worker m) new o = (o ≡ outcome.Kind) × (new ≡ Worker m)
+EndsOwner (Ended r) new o = (o ≡ outcome.Kind) × (new ≡ Ended r)
+EndsOwner Nothing new o = (o ≡ outcome.Kind) × (new ≡ Nothing)
+
+abbrev pub EndsHandle : Hold → Hold → Outcome → Type 0
+EndsHandle old new o = IsRefused old new o ⊎ ((x : Owner) × (old ≡ Open x) × (y : Owner) × (new ≡ Open y) × EndsOwner x y o)
 
 -- ---- what any handle owns
 
 -- it is given up: the handle is closed, and it told whether it was open
-abbrev pub GivesUp : Option Owner → Option Owner → Outcome → Type 0
-GivesUp None new o = (o ≡ outcome.Closed) × (new ≡ None)
-GivesUp (Some x) new o = (o ≡ outcome.Done) × (new ≡ None)
+abbrev pub GivesUp : Hold → Hold → Outcome → Type 0
+GivesUp old new o = IsRefused old new o ⊎ ((x : Owner) × (old ≡ Open x) × (o ≡ outcome.Done) × (new ≡ Closed))

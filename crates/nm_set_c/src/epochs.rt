@@ -1,5 +1,8 @@
 //! Calls on the epoch, by the handle of a worker.
+#![tactic(auto, using(crate::proofs::Owners::refused_worker, crate::proofs::Owners::told_worker, crate::proofs::Owners::other_worker))]
+
 ghost use Rattle.std.specs.Prelude.{◌≡◌, ⊤};
+ghost use Rattle.nm_set_c.specs.Handles.{held_by};
 ghost use Rattle.nm_set_c.specs.Outcomes.{Tells};
 ghost use Rattle.nm_set_c.specs.Owners.{OfWorker};
 ghost use Rattle.nm_set_c.specs.Workers.{DoesPin, DoesUnpin, DoesAdvance, DoesBehind, DoesCollect};
@@ -11,7 +14,7 @@ use nm_set::{Advance, CallPinFault, Member, PinFault};
 use std::alloc::Global;
 
 /// Pins the epoch for the caller, until unpin, and writes it: `Member::pin` of `nm_set`. `Done`; `Busy`, with the epoch last read written;
-/// `Pending`, `Held`; `Closed`, `Kind`.
+/// `Pending`, `Held`; `Closed`, `InUse`, `Kind`.
 #[unsafe(no_mangle)]
 pub extern "C" fn nm_worker_pin(
     alloc: Global,
@@ -19,16 +22,17 @@ pub extern "C" fn nm_worker_pin(
     tries: u32,
     epoch: &mut u64,
 ) -> i32
-    ensures { Tells (OfWorker (DoesPin tries epoch.old epoch.new) (epoch.new ≡ epoch.old) worker.old.held worker.new.held) result }
+    ensures { Tells (OfWorker (DoesPin tries epoch.old epoch.new) (epoch.new ≡ epoch.old) (held_by worker.old) (held_by worker.new)) result }
 {
-    let Some(mut owner) = worker.take(alloc) else {
-        return Outcome::Closed.code();
+    let mut owner = match worker.claim(alloc) {
+        Ok(owner) => owner,
+        Err(told) => return told.code(),
     };
     let outcome = match &mut *owner {
         Owner::Worker(member) => pin(member, tries, epoch),
         _ => Outcome::Kind,
     };
-    *worker = Handle::of(owner);
+    worker.put(owner);
     outcome.code()
 }
 
@@ -49,19 +53,20 @@ fn pin(member: &mut Member, tries: u32, epoch: &mut u64) -> Outcome
     }
 }
 
-/// Ends the caller's pin: `Done`, or `NotHeld`: `Member::unpin` of `nm_set`. `Closed`, `Kind`.
+/// Ends the caller's pin: `Done`, or `NotHeld`: `Member::unpin` of `nm_set`. `Closed`, `InUse`, `Kind`.
 #[unsafe(no_mangle)]
 pub extern "C" fn nm_worker_unpin(alloc: Global, worker: &mut Handle) -> i32
-    ensures { Tells (OfWorker (DoesUnpin) ⊤ worker.old.held worker.new.held) result }
+    ensures { Tells (OfWorker (DoesUnpin) ⊤ (held_by worker.old) (held_by worker.new)) result }
 {
-    let Some(mut owner) = worker.take(alloc) else {
-        return Outcome::Closed.code();
+    let mut owner = match worker.claim(alloc) {
+        Ok(owner) => owner,
+        Err(told) => return told.code(),
     };
     let outcome = match &mut *owner {
         Owner::Worker(member) => unpin(member),
         _ => Outcome::Kind,
     };
-    *worker = Handle::of(owner);
+    worker.put(owner);
     outcome.code()
 }
 
@@ -75,7 +80,7 @@ fn unpin(member: &mut Member) -> Outcome
 }
 
 /// Moves the epoch on by one, if no worker holds it back: `Member::advance` of `nm_set`. `Done` and the new epoch; `Behind`, that a worker is, with
-/// its number and the epoch that it announces; `Lost` and the epoch to which another worker moved it; `Spent`. `Closed`, `Kind`.
+/// its number and the epoch that it announces; `Lost` and the epoch to which another worker moved it; `Spent`. `Closed`, `InUse`, `Kind`.
 #[unsafe(no_mangle)]
 pub extern "C" fn nm_worker_advance(
     alloc: Global,
@@ -83,16 +88,17 @@ pub extern "C" fn nm_worker_advance(
     epoch: &mut u64,
     behind: &mut u32,
 ) -> i32
-    ensures { Tells (OfWorker (DoesAdvance epoch.old epoch.new behind.old behind.new) ((epoch.new ≡ epoch.old) × (behind.new ≡ behind.old)) worker.old.held worker.new.held) result }
+    ensures { Tells (OfWorker (DoesAdvance epoch.old epoch.new behind.old behind.new) ((epoch.new ≡ epoch.old) × (behind.new ≡ behind.old)) (held_by worker.old) (held_by worker.new)) result }
 {
-    let Some(mut owner) = worker.take(alloc) else {
-        return Outcome::Closed.code();
+    let mut owner = match worker.claim(alloc) {
+        Ok(owner) => owner,
+        Err(told) => return told.code(),
     };
     let outcome = match &mut *owner {
         Owner::Worker(member) => advance(member, epoch, behind),
         _ => Outcome::Kind,
     };
-    *worker = Handle::of(owner);
+    worker.put(owner);
     outcome.code()
 }
 
@@ -121,7 +127,7 @@ fn advance(member: &mut Member, epoch: &mut u64, behind: &mut u32) -> Outcome
 }
 
 /// Which workers hold the epoch back: `Done`, the epoch, and a mask with bit w set exactly where worker w was found announcing another one:
-/// `Member::behind` of `nm_set`. `Closed`, `Kind`.
+/// `Member::behind` of `nm_set`. `Closed`, `InUse`, `Kind`.
 #[unsafe(no_mangle)]
 pub extern "C" fn nm_worker_behind(
     alloc: Global,
@@ -129,16 +135,17 @@ pub extern "C" fn nm_worker_behind(
     epoch: &mut u64,
     mask: &mut u64,
 ) -> i32
-    ensures { Tells (OfWorker (DoesBehind epoch.new mask.new) ((epoch.new ≡ epoch.old) × (mask.new ≡ mask.old)) worker.old.held worker.new.held) result }
+    ensures { Tells (OfWorker (DoesBehind epoch.new mask.new) ((epoch.new ≡ epoch.old) × (mask.new ≡ mask.old)) (held_by worker.old) (held_by worker.new)) result }
 {
-    let Some(mut owner) = worker.take(alloc) else {
-        return Outcome::Closed.code();
+    let mut owner = match worker.claim(alloc) {
+        Ok(owner) => owner,
+        Err(told) => return told.code(),
     };
     let outcome = match &mut *owner {
         Owner::Worker(member) => behind(member, epoch, mask),
         _ => Outcome::Kind,
     };
-    *worker = Handle::of(owner);
+    worker.put(owner);
     outcome.code()
 }
 
@@ -152,7 +159,7 @@ fn behind(member: &mut Member, epoch: &mut u64, mask: &mut u64) -> Outcome
 }
 
 /// Frees what is ripe in the queues that the worker holds: `Done`, the epoch, and how many nodes were freed: `Member::collect` of `nm_set`.
-/// `Closed`, `Kind`.
+/// `Closed`, `InUse`, `Kind`.
 #[unsafe(no_mangle)]
 pub extern "C" fn nm_worker_collect(
     alloc: Global,
@@ -160,16 +167,17 @@ pub extern "C" fn nm_worker_collect(
     epoch: &mut u64,
     freed: &mut u64,
 ) -> i32
-    ensures { Tells (OfWorker (DoesCollect epoch.new freed.new) ((epoch.new ≡ epoch.old) × (freed.new ≡ freed.old)) worker.old.held worker.new.held) result }
+    ensures { Tells (OfWorker (DoesCollect epoch.new freed.new) ((epoch.new ≡ epoch.old) × (freed.new ≡ freed.old)) (held_by worker.old) (held_by worker.new)) result }
 {
-    let Some(mut owner) = worker.take(alloc) else {
-        return Outcome::Closed.code();
+    let mut owner = match worker.claim(alloc) {
+        Ok(owner) => owner,
+        Err(told) => return told.code(),
     };
     let outcome = match &mut *owner {
         Owner::Worker(member) => collect(member, epoch, freed),
         _ => Outcome::Kind,
     };
-    *worker = Handle::of(owner);
+    worker.put(owner);
     outcome.code()
 }
 

@@ -1,73 +1,111 @@
-//! Handles: one word in the memory of C, which owns what it leads to.
-ghost use Rattle.std.specs.Prelude.{◌≡◌, Option, Some, None, MatchOption};
-ghost use Rattle.nm_set_c.specs.declared.owner.Owner.{Owner};
-ghost use Rattle.nm_set_c.specs.Handles.{owned_at, coded_owner};
+//! Handles: what a program in C holds, and how one call at a time has it.
+ghost use Rattle.std.specs.Prelude.{◌≡◌, None, IfOk, IfErr};
+ghost use Rattle.nm_set_c.specs.Handles.{held_by, IsRefused, CannotOpen};
+ghost use Rattle.nm_set_c.specs.Handles.Hold.{Closed, Open, InUse};
 
+use crate::outcome::Outcome;
 use crate::owner::Owner;
+use crate::place::Place;
+use crate::word::swap;
 use std::alloc::Global;
-use std::marker::Model;
-use std::ptr::null_mut;
+use std::hint::spin_loop;
 
-/// A handle for C: one word, null while it is closed. While it is open it owns a set, a worker or a report, in a box.
+/// How often a call looks at a handle of a set that another call has, before it tells so.
+const LOOKS: u32 = 1 << 16;
+
+/// A handle for C: what it owns, and whether a call has it at this moment. Both words are zero while it is closed.
 ///
-/// To drop an open one frees nothing, so each function takes what it owns first, and gives it back or drops that.
+/// A call takes the handle by one atomic exchange before it reads what is owned, and gives it back by another one behind its last write. So of two
+/// threads that use one handle at once the second finds it in use, and touches nothing.
 #[repr(C)]
 #[derive(Drop)]
 pub struct Handle {
-    at: *mut u8,
-    alloc: Global,
-    pub ghost held: { Option Owner } by { coded_owner },
-}
-
-impl Model for Handle {
-    ghost also_owns = { λ h. owned_at h.alloc h.at h.held };
+    pub(crate) place: Place,
+    pub(crate) in_use: u64,
 }
 
 impl Handle {
     /// A handle that owns nothing.
     pub(crate) fn closed(alloc: Global) -> Handle
-        ensures { result.held ≡ None }
+        ensures { held_by result ≡ Closed }
     {
         Handle {
-            at: null_mut(),
-            alloc,
+            place: Place::closed(alloc),
+            in_use: 0,
         }
     }
 
-    /// The handle of what a box owns.
-    pub(crate) fn of(owner: Box<Owner>) -> Handle
-        ensures { result.held ≡ Some owner.value }
+    /// Takes what the handle owns for one call, which gives it back by `put` or ends it by `shut`: until then the handle is in use.
+    ///
+    /// `Closed`, `InUse`: the handle is as it was.
+    pub(crate) fn claim(&mut self, alloc: Global) -> Result<Box<Owner>, Outcome>
+        ensures claimed { IfOk result (λ b. held_by self.old ≡ Open b.value) }
+        ensures emptied { IfOk result (λ _. self.new.place.held ≡ None) }
+        ensures refused { IfErr result (IsRefused (held_by self.old) (held_by self.new)) }
     {
-        let (at, alloc) = Box::into_raw_with_allocator(owner);
-        Handle {
-            at: at as *mut u8,
-            alloc,
+        if swap(&mut self.in_use, 1) != 0 {
+            return Err(Outcome::InUse);
+        }
+        match self.place.take(alloc) {
+            Some(owner) => Ok(owner),
+            None => {
+                swap(&mut self.in_use, 0);
+                Err(Outcome::Closed)
+            }
         }
     }
 
-    /// What the handle owns, in its box.
-    fn into_box(self) -> Option<Box<Owner>>
-        ensures { MatchOption result (self.held ≡ None) (λ b. self.held ≡ Some b.value) }
+    /// The same, but it looks again for a while where another call has the handle.
+    pub(crate) fn claim_soon(&mut self, alloc: Global) -> Result<Box<Owner>, Outcome>
+        ensures claimed { IfOk result (λ b. held_by self.old ≡ Open b.value) }
+        ensures emptied { IfOk result (λ _. self.new.place.held ≡ None) }
+        ensures refused { IfErr result (IsRefused (held_by self.old) (held_by self.new)) }
     {
-        let Handle { at, alloc } = self;
-        if at.is_null() {
-            return None;
+        for _ in 1..LOOKS {
+            match self.claim(alloc) {
+                Err(Outcome::InUse) => spin_loop(),
+                told => return told,
+            }
         }
-        // A word that is not null came of a box in `of`.
-        Some(unsafe { Box::from_raw(alloc, at as *mut Owner) })
+        self.claim(alloc)
     }
 
-    /// Takes what the handle owns, and leaves it closed.
-    pub(crate) fn take(&mut self, alloc: Global) -> Option<Box<Owner>>
-        ensures taken { MatchOption result (self.old.held ≡ None) (λ b. self.old.held ≡ Some b.value) }
-        ensures left { self.new.held ≡ None }
+    /// Takes a handle that is closed for a call that opens it by `put`, or leaves it closed by `shut`.
+    ///
+    /// `Open`, `InUse`: the handle is as it was.
+    pub(crate) fn reserve(&mut self, alloc: Global) -> Result<(), Outcome>
+        ensures reserved { IfOk result (λ _. held_by self.old ≡ Closed) }
+        ensures emptied { IfOk result (λ _. self.new.place.held ≡ None) }
+        ensures refused { IfErr result (CannotOpen (held_by self.old) (held_by self.new)) }
     {
-        std::mem::replace(self, Handle::closed(alloc)).into_box()
+        if swap(&mut self.in_use, 1) != 0 {
+            return Err(Outcome::InUse);
+        }
+        match self.place.take(alloc) {
+            Some(owner) => {
+                self.put(owner);
+                Err(Outcome::Open)
+            }
+            None => Ok(()),
+        }
+    }
+
+    /// Ends a call that has the handle, which owns this from then on.
+    pub(crate) fn put(&mut self, owner: Box<Owner>)
+        ensures { held_by self.new ≡ Open owner.value }
+    {
+        self.place = Place::of(owner);
+        swap(&mut self.in_use, 0);
+    }
+
+    /// Ends a call that has the handle, which is closed from then on.
+    pub(crate) fn shut(&mut self)
+        requires { self.old.place.held ≡ None }
+        ensures { held_by self.new ≡ Closed }
+    {
+        swap(&mut self.in_use, 0);
     }
 }
 
-// A thread of C may hand a handle to another one: a set, a worker and a report may all cross.
-unsafe impl Send for Handle {}
-
-/// One word, as C declares it.
-const _: () = prove!(std::mem::size_of::<Handle>() == 8);
+/// Two words, as C declares it.
+const _: () = prove!(std::mem::size_of::<Handle>() == 16);

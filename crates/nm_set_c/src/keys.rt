@@ -1,5 +1,8 @@
 //! Calls for a key, by the handle of a worker.
+#![tactic(auto, using(crate::proofs::Owners::refused_worker, crate::proofs::Owners::told_worker, crate::proofs::Owners::other_worker))]
+
 ghost use Rattle.std.specs.Prelude.{◌≡◌, ⊤};
+ghost use Rattle.nm_set_c.specs.Handles.{held_by};
 ghost use Rattle.nm_set_c.specs.Outcomes.{Tells};
 ghost use Rattle.nm_set_c.specs.Owners.{OfWorker};
 ghost use Rattle.nm_set_c.specs.Workers.{DoesHas, DoesInsert, DoesDelete, DoesFinish};
@@ -11,19 +14,20 @@ use nm_edge::Key;
 use nm_set::Member;
 use std::alloc::Global;
 
-/// Whether the set has the key: `Member::has` of `nm_set`. `Yes`, `No`, `Key`, `Busy`, `Pending`, `Held`, `NoMemory`; `Closed`, `Kind`.
+/// Whether the set has the key: `Member::has` of `nm_set`. `Yes`, `No`, `Key`, `Busy`, `Pending`, `Held`, `NoMemory`; `Closed`, `InUse`, `Kind`.
 #[unsafe(no_mangle)]
 pub extern "C" fn nm_worker_has(alloc: Global, worker: &mut Handle, key: u64, tries: u32) -> i32
-    ensures { Tells (OfWorker (DoesHas tries key) ⊤ worker.old.held worker.new.held) result }
+    ensures { Tells (OfWorker (DoesHas tries key) ⊤ (held_by worker.old) (held_by worker.new)) result }
 {
-    let Some(mut owner) = worker.take(alloc) else {
-        return Outcome::Closed.code();
+    let mut owner = match worker.claim(alloc) {
+        Ok(owner) => owner,
+        Err(told) => return told.code(),
     };
     let outcome = match &mut *owner {
         Owner::Worker(member) => has(member, key, tries),
         _ => Outcome::Kind,
     };
-    *worker = Handle::of(owner);
+    worker.put(owner);
     outcome.code()
 }
 
@@ -40,19 +44,20 @@ fn has(member: &mut Member, key: u64, tries: u32) -> Outcome
 }
 
 /// Inserts a key: `Yes` where it was not in the set, `No` where it was: `Member::insert` of `nm_set`. `Key`, `Busy`, `Full`, `Pending`, `Held`,
-/// `NoMemory`; `Closed`, `Kind`.
+/// `NoMemory`; `Closed`, `InUse`, `Kind`.
 #[unsafe(no_mangle)]
 pub extern "C" fn nm_worker_insert(alloc: Global, worker: &mut Handle, key: u64, tries: u32) -> i32
-    ensures { Tells (OfWorker (DoesInsert tries key) ⊤ worker.old.held worker.new.held) result }
+    ensures { Tells (OfWorker (DoesInsert tries key) ⊤ (held_by worker.old) (held_by worker.new)) result }
 {
-    let Some(mut owner) = worker.take(alloc) else {
-        return Outcome::Closed.code();
+    let mut owner = match worker.claim(alloc) {
+        Ok(owner) => owner,
+        Err(told) => return told.code(),
     };
     let outcome = match &mut *owner {
         Owner::Worker(member) => insert(member, key, tries),
         _ => Outcome::Kind,
     };
-    *worker = Handle::of(owner);
+    worker.put(owner);
     outcome.code()
 }
 
@@ -69,19 +74,20 @@ fn insert(member: &mut Member, key: u64, tries: u32) -> Outcome
 }
 
 /// Deletes a key: `Yes` where it was in the set, `No` where it was not: `Member::delete` of `nm_set`. `Key`, `Busy`, `Unfinished`, `Pending`,
-/// `Held`, `NoMemory`; `Closed`, `Kind`.
+/// `Held`, `NoMemory`; `Closed`, `InUse`, `Kind`.
 #[unsafe(no_mangle)]
 pub extern "C" fn nm_worker_delete(alloc: Global, worker: &mut Handle, key: u64, tries: u32) -> i32
-    ensures { Tells (OfWorker (DoesDelete tries key) ⊤ worker.old.held worker.new.held) result }
+    ensures { Tells (OfWorker (DoesDelete tries key) ⊤ (held_by worker.old) (held_by worker.new)) result }
 {
-    let Some(mut owner) = worker.take(alloc) else {
-        return Outcome::Closed.code();
+    let mut owner = match worker.claim(alloc) {
+        Ok(owner) => owner,
+        Err(told) => return told.code(),
     };
     let outcome = match &mut *owner {
         Owner::Worker(member) => delete(member, key, tries),
         _ => Outcome::Kind,
     };
-    *worker = Handle::of(owner);
+    worker.put(owner);
     outcome.code()
 }
 
@@ -98,19 +104,20 @@ fn delete(member: &mut Member, key: u64, tries: u32) -> Outcome
 }
 
 /// Goes on with the delete that is pending: `Yes` where it has answered now, `No` where none is pending: `Member::finish` of `nm_set`.
-/// `Unfinished`: the key is pending still; `Closed`, `Kind`.
+/// `Unfinished`: the key is pending still; `Closed`, `InUse`, `Kind`.
 #[unsafe(no_mangle)]
 pub extern "C" fn nm_worker_finish(alloc: Global, worker: &mut Handle, tries: u32) -> i32
-    ensures { Tells (OfWorker (DoesFinish tries) ⊤ worker.old.held worker.new.held) result }
+    ensures { Tells (OfWorker (DoesFinish tries) ⊤ (held_by worker.old) (held_by worker.new)) result }
 {
-    let Some(mut owner) = worker.take(alloc) else {
-        return Outcome::Closed.code();
+    let mut owner = match worker.claim(alloc) {
+        Ok(owner) => owner,
+        Err(told) => return told.code(),
     };
     let outcome = match &mut *owner {
         Owner::Worker(member) => finish(member, tries),
         _ => Outcome::Kind,
     };
-    *worker = Handle::of(owner);
+    worker.put(owner);
     outcome.code()
 }
 

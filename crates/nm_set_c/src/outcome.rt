@@ -55,6 +55,8 @@ pub enum Outcome {
     NotAll,
     /// There are as many handles as can be counted.
     Uncounted,
+    /// Another call has the handle at this moment.
+    InUse,
 }
 
 impl Outcome {
@@ -88,6 +90,7 @@ impl Outcome {
             Outcome::Closing => -19,
             Outcome::NotAll => -20,
             Outcome::Uncounted => -21,
+            Outcome::InUse => -22,
         }
     }
 

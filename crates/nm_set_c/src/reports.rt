@@ -1,5 +1,8 @@
 //! Calls on the report of a set that was closed, by its handle.
+#![tactic(auto, using(crate::proofs::Owners::refused_report, crate::proofs::Owners::told_report, crate::proofs::Owners::other_report))]
+
 ghost use Rattle.std.specs.Prelude.{◌≡◌};
+ghost use Rattle.nm_set_c.specs.Handles.{held_by};
 ghost use Rattle.nm_set_c.specs.Outcomes.{Tells};
 ghost use Rattle.nm_set_c.specs.Owners.{OfReport};
 ghost use Rattle.nm_set_c.specs.Reports.{TellsSlots, TellsKeys, TellsKey, TellsQueue, TakesOldest};
@@ -22,7 +25,7 @@ pub struct Waiting {
     pub label: u64,
 }
 
-/// How many slots are free, and how many are reached from the root, the five fixed ones left out: `Done`. `Closed`, `Kind`.
+/// How many slots are free, and how many are reached from the root, the five fixed ones left out: `Done`. `Closed`, `InUse`, `Kind`.
 #[unsafe(no_mangle)]
 pub extern "C" fn nm_report_slots(
     alloc: Global,
@@ -30,16 +33,17 @@ pub extern "C" fn nm_report_slots(
     free: &mut u32,
     reached: &mut u32,
 ) -> i32
-    ensures { Tells (OfReport (TellsSlots free.new reached.new) ((free.new ≡ free.old) × (reached.new ≡ reached.old)) report.old.held report.new.held) result }
+    ensures { Tells (OfReport (TellsSlots free.new reached.new) ((free.new ≡ free.old) × (reached.new ≡ reached.old)) (held_by report.old) (held_by report.new)) result }
 {
-    let Some(mut owner) = report.take(alloc) else {
-        return Outcome::Closed.code();
+    let mut owner = match report.claim(alloc) {
+        Ok(owner) => owner,
+        Err(told) => return told.code(),
     };
     let outcome = match &mut *owner {
         Owner::Ended(ended) => slots(ended, free, reached),
         _ => Outcome::Kind,
     };
-    *report = Handle::of(owner);
+    report.put(owner);
     outcome.code()
 }
 
@@ -51,19 +55,20 @@ fn slots(report: &mut Report, free: &mut u32, reached: &mut u32) -> Outcome
     Outcome::Done
 }
 
-/// How many keys the set had: `Done`. `Closed`, `Kind`.
+/// How many keys the set had: `Done`. `Closed`, `InUse`, `Kind`.
 #[unsafe(no_mangle)]
 pub extern "C" fn nm_report_keys(alloc: Global, report: &mut Handle, count: &mut u64) -> i32
-    ensures { Tells (OfReport (TellsKeys count.new) (count.new ≡ count.old) report.old.held report.new.held) result }
+    ensures { Tells (OfReport (TellsKeys count.new) (count.new ≡ count.old) (held_by report.old) (held_by report.new)) result }
 {
-    let Some(mut owner) = report.take(alloc) else {
-        return Outcome::Closed.code();
+    let mut owner = match report.claim(alloc) {
+        Ok(owner) => owner,
+        Err(told) => return told.code(),
     };
     let outcome = match &mut *owner {
         Owner::Ended(ended) => keys(ended, count),
         _ => Outcome::Kind,
     };
-    *report = Handle::of(owner);
+    report.put(owner);
     outcome.code()
 }
 
@@ -74,7 +79,7 @@ fn keys(report: &mut Report, count: &mut u64) -> Outcome
     Outcome::Done
 }
 
-/// The key at an index, from 0 on, by which the keys ascend: `Done`, or `Number` where there are no more. `Closed`, `Kind`.
+/// The key at an index, from 0 on, by which the keys ascend: `Done`, or `Number` where there are no more. `Closed`, `InUse`, `Kind`.
 #[unsafe(no_mangle)]
 pub extern "C" fn nm_report_key(
     alloc: Global,
@@ -82,16 +87,17 @@ pub extern "C" fn nm_report_key(
     index: u64,
     key: &mut u64,
 ) -> i32
-    ensures { Tells (OfReport (TellsKey index key.old key.new) (key.new ≡ key.old) report.old.held report.new.held) result }
+    ensures { Tells (OfReport (TellsKey index key.old key.new) (key.new ≡ key.old) (held_by report.old) (held_by report.new)) result }
 {
-    let Some(mut owner) = report.take(alloc) else {
-        return Outcome::Closed.code();
+    let mut owner = match report.claim(alloc) {
+        Ok(owner) => owner,
+        Err(told) => return told.code(),
     };
     let outcome = match &mut *owner {
         Owner::Ended(ended) => key_at(ended, index, key),
         _ => Outcome::Kind,
     };
-    *report = Handle::of(owner);
+    report.put(owner);
     outcome.code()
 }
 
@@ -107,7 +113,7 @@ fn key_at(report: &mut Report, index: u64, key: &mut u64) -> Outcome
     }
 }
 
-/// How many nodes wait of those that a worker's splices cut off: `Done`, or `Number` where there is no such worker. `Closed`, `Kind`.
+/// How many nodes wait of those that a worker's splices cut off: `Done`, or `Number` where there is no such worker. `Closed`, `InUse`, `Kind`.
 #[unsafe(no_mangle)]
 pub extern "C" fn nm_report_queue(
     alloc: Global,
@@ -115,16 +121,17 @@ pub extern "C" fn nm_report_queue(
     worker: u32,
     nodes: &mut u64,
 ) -> i32
-    ensures { Tells (OfReport (TellsQueue worker nodes.old nodes.new) (nodes.new ≡ nodes.old) report.old.held report.new.held) result }
+    ensures { Tells (OfReport (TellsQueue worker nodes.old nodes.new) (nodes.new ≡ nodes.old) (held_by report.old) (held_by report.new)) result }
 {
-    let Some(mut owner) = report.take(alloc) else {
-        return Outcome::Closed.code();
+    let mut owner = match report.claim(alloc) {
+        Ok(owner) => owner,
+        Err(told) => return told.code(),
     };
     let outcome = match &mut *owner {
         Owner::Ended(ended) => queue_of(ended, worker, nodes),
         _ => Outcome::Kind,
     };
-    *report = Handle::of(owner);
+    report.put(owner);
     outcome.code()
 }
 
@@ -141,7 +148,7 @@ fn queue_of(report: &mut Report, worker: u32, nodes: &mut u64) -> Outcome
 }
 
 /// Takes the oldest node out of a worker's queue: `Yes` and the node, `No` where none waits any more, `Number` where there is no such worker.
-/// `Closed`, `Kind`.
+/// `Closed`, `InUse`, `Kind`.
 #[unsafe(no_mangle)]
 pub extern "C" fn nm_report_waiting(
     alloc: Global,
@@ -149,16 +156,17 @@ pub extern "C" fn nm_report_waiting(
     worker: u32,
     waiting: &mut Waiting,
 ) -> i32
-    ensures { Tells (OfReport (TakesOldest worker waiting.old waiting.new) (waiting.new ≡ waiting.old) report.old.held report.new.held) result }
+    ensures { Tells (OfReport (TakesOldest worker waiting.old waiting.new) (waiting.new ≡ waiting.old) (held_by report.old) (held_by report.new)) result }
 {
-    let Some(mut owner) = report.take(alloc) else {
-        return Outcome::Closed.code();
+    let mut owner = match report.claim(alloc) {
+        Ok(owner) => owner,
+        Err(told) => return told.code(),
     };
     let outcome = match &mut *owner {
         Owner::Ended(ended) => oldest(ended, worker, waiting),
         _ => Outcome::Kind,
     };
-    *report = Handle::of(owner);
+    report.put(owner);
     outcome.code()
 }
 

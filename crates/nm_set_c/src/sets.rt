@@ -1,63 +1,77 @@
 //! Calls on a set, by its handle.
-ghost use Rattle.std.specs.Prelude.{◌≡◌, ◌⊎◌, Some, None};
+ghost use Rattle.std.specs.Prelude.{◌≡◌, ◌⊎◌, None};
 ghost use Rattle.nm_pool.specs.declared.placement.Fit.TheVariants.{Lowest, Near};
+ghost use Rattle.nm_set_c.specs.Handles.{held_by};
+ghost use Rattle.nm_set_c.specs.Handles.Hold.{Closed, Open};
 ghost use Rattle.nm_set_c.specs.Outcomes.{Tells};
-ghost use Rattle.nm_set_c.specs.Sets.{MakesSet, TakesWorker, EndsHandle, GivesUp};
+ghost use Rattle.nm_set_c.specs.Sets.{MakesSet, Gives, Keeps, TakesWorker, IsNumbered, NumberFaults, Attaches, IsAny, AnyFaults, EndsHandle, EndsOwner, GivesUp};
 
 use crate::handle::Handle;
 use crate::outcome::Outcome;
 use crate::owner::Owner;
-use nm_set::Set;
+use nm_set::{Member, Set};
 use std::alloc::Global;
 use std::mem::replace;
 
 /// Makes the empty set, in a tree with room for `nodes` nodes, 7 to 1,048,576, for 1 to 64 workers; a new node takes the lowest free slot:
-/// `Set::lowest` of `nm_set`. `Done`, and the handle is open; `Open`, `Nodes`, `Workers`, `NoMemory`.
+/// `Set::lowest` of `nm_set`. `Done`, and the handle is open; `Open`, `InUse`, `Nodes`, `Workers`, `NoMemory`.
 #[unsafe(no_mangle)]
 pub extern "C" fn nm_set_lowest(alloc: Global, set: &mut Handle, nodes: u32, workers: u32) -> i32
-    ensures { Tells (MakesSet Lowest nodes workers set.old.held set.new.held) result }
+    ensures { Tells (MakesSet Lowest nodes workers (held_by set.old) (held_by set.new)) result }
 {
-    if let Some(owner) = set.take(alloc) {
-        *set = Handle::of(owner);
-        return Outcome::Open.code();
+    match set.reserve(alloc) {
+        Ok(()) => {}
+        Err(told) => return told.code(),
     }
     match Set::lowest(alloc, nodes, workers) {
         Ok(made) => open(alloc, set, Owner::Set(made)).code(),
-        Err(error) => Outcome::of_new(error).code(),
+        Err(error) => {
+            set.shut();
+            Outcome::of_new(error).code()
+        }
     }
 }
 
 /// The same, but each worker looks for a free slot near those that it took and gave back last: `Set::near` of `nm_set`.
 #[unsafe(no_mangle)]
 pub extern "C" fn nm_set_near(alloc: Global, set: &mut Handle, nodes: u32, workers: u32) -> i32
-    ensures { Tells (MakesSet Near nodes workers set.old.held set.new.held) result }
+    ensures { Tells (MakesSet Near nodes workers (held_by set.old) (held_by set.new)) result }
 {
-    if let Some(owner) = set.take(alloc) {
-        *set = Handle::of(owner);
-        return Outcome::Open.code();
+    match set.reserve(alloc) {
+        Ok(()) => {}
+        Err(told) => return told.code(),
     }
     match Set::near(alloc, nodes, workers) {
         Ok(made) => open(alloc, set, Owner::Set(made)).code(),
-        Err(error) => Outcome::of_new(error).code(),
+        Err(error) => {
+            set.shut();
+            Outcome::of_new(error).code()
+        }
     }
 }
 
-/// Opens a handle that is closed.
+/// Opens a handle that was kept for that.
 fn open(alloc: Global, handle: &mut Handle, owner: Owner) -> Outcome
-    requires closed { handle.old.held ≡ None }
-    ensures { ((result ≡ Outcome.Done) × (handle.new.held ≡ Some owner)) ⊎ ((result ≡ Outcome.NoMemory) × (handle.new.held ≡ None)) }
+    requires closed { handle.old.place.held ≡ None }
+    ensures { ((result ≡ Outcome.Done) × (held_by handle.new ≡ Open owner)) ⊎ ((result ≡ Outcome.NoMemory) × (held_by handle.new ≡ Closed)) }
 {
     match Box::new(alloc, owner) {
         Ok(made) => {
-            *handle = Handle::of(made);
+            handle.put(made);
             Outcome::Done
         }
-        Err(_) => Outcome::NoMemory,
+        Err(_) => {
+            handle.shut();
+            Outcome::NoMemory
+        }
     }
 }
 
-/// Takes the worker of a number, with all that it held when it went home: `Set::member` of `nm_set`. `Done`, and the worker's handle is open; `Open`
-/// (the worker's handle is open already), `Number`, `Away`, `Closing`, `Uncounted`, `NoMemory`; `Closed`, `Kind` (of the set's handle).
+/// Takes the worker of a number, with all that it held when it went home: `Set::member` of `nm_set`. `Done`, and the worker's handle is open; `Open`,
+/// `InUse` (of the worker's handle), `Number`, `Away`, `Closing`, `Uncounted`, `NoMemory`; `Closed`, `InUse`, `Kind` (of the set's handle).
+///
+/// Several threads may take workers by one handle of a set: each has it for the moment of the take alone, and looks again for a while where it finds
+/// another one there.
 #[unsafe(no_mangle)]
 pub extern "C" fn nm_set_worker(
     alloc: Global,
@@ -65,44 +79,104 @@ pub extern "C" fn nm_set_worker(
     worker: &mut Handle,
     number: u32,
 ) -> i32
-    ensures worker { Tells (TakesWorker number set.old.held worker.old.held worker.new.held) result }
-    ensures set { set.new.held ≡ set.old.held }
+    ensures worker { Tells (TakesWorker number (held_by set.old) (held_by worker.old) (held_by worker.new)) result }
+    ensures set { held_by set.new ≡ held_by set.old }
 {
-    if let Some(owner) = worker.take(alloc) {
-        *worker = Handle::of(owner);
-        return Outcome::Open.code();
+    match worker.reserve(alloc) {
+        Ok(()) => {}
+        Err(told) => return told.code(),
     }
-    let Some(owner) = set.take(alloc) else {
-        return Outcome::Closed.code();
+    let owner = match set.claim_soon(alloc) {
+        Ok(owner) => owner,
+        Err(told) => {
+            worker.shut();
+            return told.code();
+        }
     };
-    let outcome = match &*owner {
-        Owner::Set(from) => match from.member(number) {
-            Ok(member) => open(alloc, worker, Owner::Worker(member)),
-            Err(fault) => Outcome::of_taking(fault),
-        },
-        _ => Outcome::Kind,
+    let given = member_of(&owner, number);
+    set.put(owner);
+    keep(alloc, worker, given).code()
+}
+
+fn member_of(owner: &Owner, number: u32) -> Result<Member, Outcome>
+    ensures { Gives (IsNumbered number) (NumberFaults number) owner.now result }
+{
+    let Owner::Set(set) = owner else {
+        return Err(Outcome::Kind);
     };
-    *set = Handle::of(owner);
-    outcome.code()
+    match set.member(number) {
+        Ok(member) => Ok(member),
+        Err(fault) => Err(Outcome::of_taking(fault)),
+    }
+}
+
+/// Opens a handle that was kept for a worker, or leaves it closed where none was given.
+fn keep(alloc: Global, worker: &mut Handle, given: Result<Member, Outcome>) -> Outcome
+    requires closed { worker.old.place.held ≡ None }
+    ensures { Keeps given (held_by worker.new) result }
+{
+    match given {
+        Ok(member) => open(alloc, worker, Owner::Worker(member)),
+        Err(why) => {
+            worker.shut();
+            why
+        }
+    }
+}
+
+/// Takes a worker that is at home, where the caller names no number, those whose numbers are eight apart first: `Set::attach` of `nm_set`. Else as
+/// `nm_set_worker`, but no `Number`.
+#[unsafe(no_mangle)]
+pub extern "C" fn nm_set_attach(alloc: Global, set: &mut Handle, worker: &mut Handle) -> i32
+    ensures worker { Tells (Attaches (held_by set.old) (held_by worker.old) (held_by worker.new)) result }
+    ensures set { held_by set.new ≡ held_by set.old }
+{
+    match worker.reserve(alloc) {
+        Ok(()) => {}
+        Err(told) => return told.code(),
+    }
+    let owner = match set.claim_soon(alloc) {
+        Ok(owner) => owner,
+        Err(told) => {
+            worker.shut();
+            return told.code();
+        }
+    };
+    let given = any_of(&owner);
+    set.put(owner);
+    keep(alloc, worker, given).code()
+}
+
+fn any_of(owner: &Owner) -> Result<Member, Outcome>
+    ensures { Gives IsAny AnyFaults owner.now result }
+{
+    let Owner::Set(set) = owner else {
+        return Err(Outcome::Kind);
+    };
+    match set.attach() {
+        Ok(member) => Ok(member),
+        Err(fault) => Err(Outcome::of_taking(fault)),
+    }
 }
 
 /// Ends the set when all its workers are closed: `Set::close` of `nm_set`. `Done`, and the handle owns the report from then on. `Away`, `NotAll`,
-/// `NoMemory`: the handle owns the set still. `Closed`, `Kind`.
+/// `NoMemory`: the handle owns the set still. `Closed`, `InUse`, `Kind`.
 #[unsafe(no_mangle)]
 pub extern "C" fn nm_set_close(alloc: Global, set: &mut Handle) -> i32
-    ensures { Tells (EndsHandle set.old.held set.new.held) result }
+    ensures { Tells (EndsHandle (held_by set.old) (held_by set.new)) result }
 {
-    let Some(mut owner) = set.take(alloc) else {
-        return Outcome::Closed.code();
+    let mut owner = match set.claim_soon(alloc) {
+        Ok(owner) => owner,
+        Err(told) => return told.code(),
     };
     let (left, outcome) = end(alloc, replace(&mut *owner, Owner::Nothing));
     *owner = left;
-    *set = Handle::of(owner);
+    set.put(owner);
     outcome.code()
 }
 
 fn end(alloc: Global, owner: Owner) -> (Owner, Outcome)
-    ensures { EndsHandle (Some owner) (Some result.0) result.1 }
+    ensures { EndsOwner owner result.0 result.1 }
 {
     let set = match owner {
         Owner::Set(set) => set,
@@ -115,13 +189,16 @@ fn end(alloc: Global, owner: Owner) -> (Owner, Outcome)
 }
 
 /// Gives up what a handle owns, and closes the handle: a worker goes home, and can be taken again; a set that was not closed is left to its
-/// workers, the last of which ends it; a report is forgotten. `Done`; `Closed`.
+/// workers, the last of which ends it; a report is forgotten. `Done`; `Closed`, `InUse`.
 #[unsafe(no_mangle)]
 pub extern "C" fn nm_drop(alloc: Global, handle: &mut Handle) -> i32
-    ensures { Tells (GivesUp handle.old.held handle.new.held) result }
+    ensures { Tells (GivesUp (held_by handle.old) (held_by handle.new)) result }
 {
-    match handle.take(alloc) {
-        Some(_) => Outcome::Done.code(),
-        None => Outcome::Closed.code(),
-    }
+    let owner = match handle.claim(alloc) {
+        Ok(owner) => owner,
+        Err(told) => return told.code(),
+    };
+    drop(owner);
+    handle.shut();
+    Outcome::Done.code()
 }

@@ -1,8 +1,12 @@
 //! What a worker tells of itself, and the end of another one, by its handle.
-ghost use Rattle.std.specs.Prelude.{◌≡◌, ⊤, Some};
+#![tactic(auto, using(crate::proofs::Owners::refused_worker, crate::proofs::Owners::told_worker, crate::proofs::Owners::other_worker))]
+
+ghost use Rattle.std.specs.Prelude.{◌≡◌, ⊤};
 ghost use Rattle.nm_tree.specs.Workers.{waiting_in};
+ghost use Rattle.nm_set_c.specs.Handles.{held_by};
 ghost use Rattle.nm_set_c.specs.Outcomes.{Tells};
-ghost use Rattle.nm_set_c.specs.Owners.{OfWorker};
+ghost use Rattle.nm_set_c.specs.Handles.Hold.{Open};
+ghost use Rattle.nm_set_c.specs.Owners.{OfWorker, OwnsWorker};
 ghost use Rattle.nm_set_c.specs.Workers.{DoesResign, TellsNumber, TellsOption, TellsLedger, pending_key};
 
 use crate::handle::Handle;
@@ -30,19 +34,20 @@ pub struct Ledger {
     pub queued: u64,
 }
 
-/// The worker's number: `Done`. `Closed`, `Kind`.
+/// The worker's number: `Done`. `Closed`, `InUse`, `Kind`.
 #[unsafe(no_mangle)]
 pub extern "C" fn nm_worker_number(alloc: Global, worker: &mut Handle, number: &mut u32) -> i32
-    ensures { Tells (OfWorker (λ m. TellsNumber m.hand.pass.view.number number.new m) (number.new ≡ number.old) worker.old.held worker.new.held) result }
+    ensures { Tells (OfWorker (λ m. TellsNumber m.hand.pass.view.number number.new m) (number.new ≡ number.old) (held_by worker.old) (held_by worker.new)) result }
 {
-    let Some(mut owner) = worker.take(alloc) else {
-        return Outcome::Closed.code();
+    let mut owner = match worker.claim(alloc) {
+        Ok(owner) => owner,
+        Err(told) => return told.code(),
     };
     let outcome = match &mut *owner {
         Owner::Worker(member) => number_of(member, number),
         _ => Outcome::Kind,
     };
-    *worker = Handle::of(owner);
+    worker.put(owner);
     outcome.code()
 }
 
@@ -53,19 +58,20 @@ fn number_of(member: &mut Member, number: &mut u32) -> Outcome
     Outcome::Done
 }
 
-/// How many nodes wait in the queues that the worker holds: `Done`. `Closed`, `Kind`.
+/// How many nodes wait in the queues that the worker holds: `Done`. `Closed`, `InUse`, `Kind`.
 #[unsafe(no_mangle)]
 pub extern "C" fn nm_worker_queue_len(alloc: Global, worker: &mut Handle, nodes: &mut u64) -> i32
-    ensures { Tells (OfWorker (λ m. TellsNumber (waiting_in m.hand.queues) nodes.new m) (nodes.new ≡ nodes.old) worker.old.held worker.new.held) result }
+    ensures { Tells (OfWorker (λ m. TellsNumber (waiting_in m.hand.queues) nodes.new m) (nodes.new ≡ nodes.old) (held_by worker.old) (held_by worker.new)) result }
 {
-    let Some(mut owner) = worker.take(alloc) else {
-        return Outcome::Closed.code();
+    let mut owner = match worker.claim(alloc) {
+        Ok(owner) => owner,
+        Err(told) => return told.code(),
     };
     let outcome = match &mut *owner {
         Owner::Worker(member) => queue_len(member, nodes),
         _ => Outcome::Kind,
     };
-    *worker = Handle::of(owner);
+    worker.put(owner);
     outcome.code()
 }
 
@@ -76,19 +82,20 @@ fn queue_len(member: &mut Member, nodes: &mut u64) -> Outcome
     Outcome::Done
 }
 
-/// The key of a delete that has flagged its leaf and not answered yet: `Yes` and the key, or `No`. `Closed`, `Kind`.
+/// The key of a delete that has flagged its leaf and not answered yet: `Yes` and the key, or `No`. `Closed`, `InUse`, `Kind`.
 #[unsafe(no_mangle)]
 pub extern "C" fn nm_worker_pending(alloc: Global, worker: &mut Handle, key: &mut u64) -> i32
-    ensures { Tells (OfWorker (λ m. TellsOption (pending_key m.hand) key.old key.new m) (key.new ≡ key.old) worker.old.held worker.new.held) result }
+    ensures { Tells (OfWorker (λ m. TellsOption (pending_key m.hand) key.old key.new m) (key.new ≡ key.old) (held_by worker.old) (held_by worker.new)) result }
 {
-    let Some(mut owner) = worker.take(alloc) else {
-        return Outcome::Closed.code();
+    let mut owner = match worker.claim(alloc) {
+        Ok(owner) => owner,
+        Err(told) => return told.code(),
     };
     let outcome = match &mut *owner {
         Owner::Worker(member) => pending(member, key),
         _ => Outcome::Kind,
     };
-    *worker = Handle::of(owner);
+    worker.put(owner);
     outcome.code()
 }
 
@@ -104,19 +111,20 @@ fn pending(member: &mut Member, key: &mut u64) -> Outcome
     }
 }
 
-/// The epoch at which the worker is held, from a pin until its unpin: `Yes` and the epoch, or `No`. `Closed`, `Kind`.
+/// The epoch at which the worker is held, from a pin until its unpin: `Yes` and the epoch, or `No`. `Closed`, `InUse`, `Kind`.
 #[unsafe(no_mangle)]
 pub extern "C" fn nm_worker_held(alloc: Global, worker: &mut Handle, epoch: &mut u64) -> i32
-    ensures { Tells (OfWorker (λ m. TellsOption m.hand.held epoch.old epoch.new m) (epoch.new ≡ epoch.old) worker.old.held worker.new.held) result }
+    ensures { Tells (OfWorker (λ m. TellsOption m.hand.held epoch.old epoch.new m) (epoch.new ≡ epoch.old) (held_by worker.old) (held_by worker.new)) result }
 {
-    let Some(mut owner) = worker.take(alloc) else {
-        return Outcome::Closed.code();
+    let mut owner = match worker.claim(alloc) {
+        Ok(owner) => owner,
+        Err(told) => return told.code(),
     };
     let outcome = match &mut *owner {
         Owner::Worker(member) => held(member, epoch),
         _ => Outcome::Kind,
     };
-    *worker = Handle::of(owner);
+    worker.put(owner);
     outcome.code()
 }
 
@@ -132,19 +140,20 @@ fn held(member: &mut Member, epoch: &mut u64) -> Outcome
     }
 }
 
-/// What this worker has won, and what became of what it cut off: `Done`. `Closed`, `Kind`.
+/// What this worker has won, and what became of what it cut off: `Done`. `Closed`, `InUse`, `Kind`.
 #[unsafe(no_mangle)]
 pub extern "C" fn nm_worker_ledger(alloc: Global, worker: &mut Handle, ledger: &mut Ledger) -> i32
-    ensures { Tells (OfWorker (TellsLedger ledger.new) (ledger.new ≡ ledger.old) worker.old.held worker.new.held) result }
+    ensures { Tells (OfWorker (TellsLedger ledger.new) (ledger.new ≡ ledger.old) (held_by worker.old) (held_by worker.new)) result }
 {
-    let Some(mut owner) = worker.take(alloc) else {
-        return Outcome::Closed.code();
+    let mut owner = match worker.claim(alloc) {
+        Ok(owner) => owner,
+        Err(told) => return told.code(),
     };
     let outcome = match &mut *owner {
         Owner::Worker(member) => ledger_of(member, ledger),
         _ => Outcome::Kind,
     };
-    *worker = Handle::of(owner);
+    worker.put(owner);
     outcome.code()
 }
 
@@ -164,22 +173,25 @@ fn ledger_of(member: &mut Member, ledger: &mut Ledger) -> Outcome
 }
 
 /// A worker that is at home resigns to this one, which then holds all that it held, and it never comes back: `Done`: `Member::resign` of `nm_set`.
-/// `Number`, `Away`, `Held` and `Pending` tell what stands against it. `Closed`, `Kind`.
+/// `Number`, `Away`, `Held` and `Pending` tell what stands against it. `Closed`, `InUse`, `Kind`.
+#[tactic(auto, using(crate::proofs::Owners::refused_worker, crate::proofs::Owners::owned_worker))]
 #[unsafe(no_mangle)]
 pub extern "C" fn nm_worker_resign(alloc: Global, worker: &mut Handle, leaver: u32) -> i32
-    ensures { Tells (OfWorker (DoesResign leaver) ⊤ worker.old.held worker.new.held) result }
+    ensures { Tells (OfWorker (DoesResign leaver) ⊤ (held_by worker.old) (held_by worker.new)) result }
 {
-    let Some(mut owner) = worker.take(alloc) else {
-        return Outcome::Closed.code();
+    let mut owner = match worker.claim(alloc) {
+        Ok(owner) => owner,
+        Err(told) => return told.code(),
     };
     let (heir, outcome) = resign(replace(&mut *owner, Owner::Nothing), leaver);
     *owner = heir;
-    *worker = Handle::of(owner);
+    worker.put(owner);
     outcome.code()
 }
 
+#[tactic(auto, using(crate::proofs::Owners::does_worker, crate::proofs::Owners::is_no_worker))]
 fn resign(heir: Owner, leaver: u32) -> (Owner, Outcome)
-    ensures { OfWorker (DoesResign leaver) ⊤ (Some heir) (Some result.0) result.1 }
+    ensures { OwnsWorker (DoesResign leaver) ⊤ heir (Open result.0) result.1 }
 {
     let member = match heir {
         Owner::Worker(member) => member,

@@ -1,10 +1,9 @@
 use Rattle.std.proofs.Common.{refl, sym, subst, inl}
-use Rattle.std.specs.Prelude.{Some}
-use Rattle.nm_set_c.specs.Sets.{EndsHandle}
+use Rattle.nm_set_c.specs.Sets.{EndsOwner}
 use Rattle.nm_set_c.specs.declared.outcome.Outcome.TheVariants.{Done}
 use Rattle.nm_set_c.specs.declared.owner.Owner.{Owner}
 use Rattle.nm_set_c.specs.declared.owner.Owner.TheVariants.{Ended}
 use Rattle.nm_set_c.proofs.sets.end.Goals as goal
 
 pub returns-in-Ok : goal.returns-in-Ok
-returns-in-Ok c = subst (λ (x : Owner). EndsHandle (Some x) (Some (Ended c.in-Ok.report)) Done) (sym c.in-Set.is) (inl (refl, c.in-Ok.report, refl, c.in-Ok.ensures.closed))
+returns-in-Ok c = subst (λ (x : Owner). EndsOwner x (Ended c.in-Ok.report) Done) (sym c.in-Set.is) (inl (refl, c.in-Ok.report, refl, c.in-Ok.ensures.closed))

@@ -37,11 +37,11 @@ use Rattle.std_alloc.proofs.ResultValues.{and_tt}
 use Rattle.std_alloc.specs.contracts.boxed.Box.from_raw as callee
 use Rattle.std_alloc.proofs.boxed.Box.from_raw.Met.{met}
 use Rattle.nm_set_c.proofs.Destruct++none.drop.Symbol as no_drop
-use Rattle.nm_set_c.proofs.Handles.{R, Z, X, Y, X_laws, Y_laws, Handle, Boxed, heap_drop, both, null_good, block_good, handle_out, either_held}
-use Rattle.nm_set_c.specs.contracts.handle.Handle.into_box.{ended, clauses}
-use Rattle.nm_set_c.specs.contracts.handle.Handle.into_box.Key.{name as #self}
-use Rattle.nm_set_c.proofs.handle.Handle.into_box.Statement.{statement}
-use Rattle.nm_set_c.proofs.handle.Handle.into_box.Code as code
+use Rattle.nm_set_c.proofs.Places.{R, Z, X, Y, X_laws, Y_laws, Place, Boxed, heap_drop, both, null_good, block_good, place_out, either_held}
+use Rattle.nm_set_c.specs.contracts.place.Place.into_box.{ended, clauses}
+use Rattle.nm_set_c.specs.contracts.place.Place.into_box.Key.{name as #self}
+use Rattle.nm_set_c.proofs.place.Place.into_box.Statement.{statement}
+use Rattle.nm_set_c.proofs.place.Place.into_box.Code as code
 
 pub into_box_spec : {M : Type 1} → statement M
 into_box_spec {M} 𝓤 𝓛 𝓜 𝓡 wired =
@@ -50,12 +50,12 @@ into_box_spec {M} 𝓤 𝓛 𝓜 𝓡 wired =
     let heap = passed 𝓡.env (code.calls-std_heap::GlobalAllocator::allocate 𝓡.env wired) (code.calls-std_heap::GlobalAllocator::deallocate 𝓡.env wired) (code.calls-std_heap::GlobalAllocator::grow 𝓡.env wired) (code.calls-std_heap::GlobalAllocator::shrink 𝓡.env wired) M 𝓤 𝓛 𝓜 𝓡 in
     let known = met 𝓤 𝓛 𝓜 𝓡 (code.calls-std_alloc::boxed::Box::from_raw 𝓡.env wired) X Y X_laws Y_laws ghosts dict heap_drop heap
     (no_drop.glues 𝓡.env (code.calls-nm_set_c::Destruct++none::drop 𝓡.env wired) Y Y_laws M 𝓤 𝓛 𝓜 𝓡) in
-    let hs : Stays ended.signature.params ended.kept = (stay_dropped (plain (λ _. Handle)) yes, tt) in
-    proved_at 𝓛 ended hs c 𝓜 𝓡 (Goes-dropped 𝓛 0 (plain (λ _. Handle)) yes (λ κs x f. refl), tt) #self fn (code.unfolded 𝓤 H 𝓜 𝓡 wired) (λ z are.
+    let hs : Stays ended.signature.params ended.kept = (stay_dropped (plain (λ _. Place)) yes, tt) in
+    proved_at 𝓛 ended hs c 𝓜 𝓡 (Goes-dropped 𝓛 0 (plain (λ _. Place)) yes (λ κs x f. refl), tt) #self fn (code.unfolded 𝓤 H 𝓜 𝓡 wired) (λ z are.
     let κs = z.0.0 in let v = z.0.3.0 in let a = v.alloc in let Post : Val → SProp 𝓤 = (walk_of 𝓛 ended hs c).post z in let Run : List Val → SProp 𝓤 = λ ws. WpFn 𝓤 H 𝓣.C 𝓣.Λ fn ws Post in
     let Out = type_at ended.signature.result κs in let forever = ‵ (flft [] full_share) in let toks = forever ⊛ forever ⊛ ‵ ftrue in let always = fact 𝓤 ([] ⊑ []) in
     qed 𝓛 ((‵ ftrue ⊛ ‵ (owns (types_at ended.signature.params κs) z.0.3 z.0.4)) ∷ raw ((c κs z.0.3).requires z.1) ∷ []) ∵ split ! $ move ! (1 ∷ []) $ fsplit ! $
-    handle_out ! v z.0.4.0 (λ h ws fits. either_held ! a v.at v.held
+    place_out ! v z.0.4.0 (λ h ws fits. either_held ! a v.at v.held
     -- closed
     (λ null is. let w : Val = both (ptr_val null_ptr) h in let none : Val = live 0 vnil in let told = v.held ≡ None in
     suffices ! (Run (w ∷ [])) (subst (λ (us : List Val). ent 𝓤 (Run (w ∷ [])) (Run us)) (sym (ap (λ (us : List Val). us ++ []) (ws ∙ ap (λ (p : Ptr). both (ptr_val p) h ∷ []) null))) (id⊢ 𝓤 (Run (w ∷ [])))) $

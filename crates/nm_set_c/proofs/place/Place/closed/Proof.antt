@@ -21,11 +21,11 @@ use Rattle.core.proofs.alloc.Calls.{handle_tells}
 use Rattle.std.specs.Prelude.{None}
 use Rattle.std.proofs.raw_atomic.Walks.{proved_at, leaves}
 use Rattle.core.proofs.cell.Inside.{Good}
-use Rattle.nm_set_c.proofs.Handles.{both, Z, Handle, al, handle_in, null_good}
-use Rattle.nm_set_c.specs.contracts.handle.Handle.closed.{ended, clauses}
-use Rattle.nm_set_c.specs.contracts.handle.Handle.closed.Key.{name as #self}
-use Rattle.nm_set_c.proofs.handle.Handle.closed.Statement.{statement}
-use Rattle.nm_set_c.proofs.handle.Handle.closed.Code as code
+use Rattle.nm_set_c.proofs.Places.{both, Z, Place, al, place_in, null_good}
+use Rattle.nm_set_c.specs.contracts.place.Place.closed.{ended, clauses}
+use Rattle.nm_set_c.specs.contracts.place.Place.closed.Key.{name as #self}
+use Rattle.nm_set_c.proofs.place.Place.closed.Statement.{statement}
+use Rattle.nm_set_c.proofs.place.Place.closed.Code as code
 
 pub closed_spec : {M : Type 1} → statement M
 closed_spec 𝓤 𝓛 𝓜 𝓡 wired =
@@ -38,8 +38,8 @@ closed_spec 𝓤 𝓛 𝓜 𝓡 wired =
     handle_tells al ! a z.0.4.0 (λ h ea fits.
     suffices ! (Run (h ∷ [])) (subst (λ (us : List Val). ent 𝓤 (Run (h ∷ [])) (Run us)) (sym (λ i. ea i ++ [])) (id⊢ 𝓤 (Run (h ∷ [])))) $
     enter ! 𝓣.C 𝓣.Λ code.function (h ∷ []) Post $ alloc_all ! (λ l. pass_all ! refl (fits, tt) $
-    let good : Good (layout Handle) (both (ptr_val null_ptr) h) = null_good h fits in
-    sets ! (agg ! (and_then ! (lit ! tt) (and_then ! (get ! refl) (no_more !)))) refl good $ feq_i ! Ptr null_ptr null_ptr refl $ handle_in ! null_ptr h a None $
+    let good : Good (layout Place) (both (ptr_val null_ptr) h) = null_good h fits in
+    sets ! (agg ! (and_then ! (lit ! tt) (and_then ! (get ! refl) (no_more !)))) refl good $ feq_i ! Ptr null_ptr null_ptr refl $ place_in ! null_ptr h a None $
     use0 𝓛 (raw (fact 𝓤 (None ≡ None))) (fact_i 𝓤 (None ≡ None) (emp 𝓤) refl) $ nothing ! $ nothing ! $ fjoin ! $
     returns ! (look_at ! 0 refl) $ free_all ! refl $ keep ! (4 ∷ 0 ∷ 2 ∷ 1 ∷ []) $
     by ! (leaves 𝓛 ended hs c z (both (ptr_val null_ptr) h) (record { at = null_ptr; alloc = a; held = None }) (tt, tt) (tt, tt)))))

@@ -1,4 +1,4 @@
--- A handle may go to another thread, as the owner that it holds may.
+-- A place may go to another thread, as the owner that it holds may.
 use mir.Raw.{raw}
 use base.Shift.{Keyless}
 use denote.Memory.{lone}
@@ -13,8 +13,8 @@ use Rattle.std_alloc.proofs.SendSync.{quiet, lies}
 use Rattle.std.proofs.alloc.Global.TheSendSync as global
 use Rattle.nm_set_c.specs.contracts.owner.Owner as inner
 use Rattle.nm_set_c.proofs.Sending.{owner_send}
-use Rattle.nm_set_c.specs.Handles.{owned_at}
-use Rattle.nm_set_c.specs.contracts.handle.Handle.{the_row, the_type}
+use Rattle.nm_set_c.specs.Places.{owned_at}
+use Rattle.nm_set_c.specs.contracts.place.Place.{the_row, the_type}
 
 held : (a : Global) (p : Ptr) (x : Option inner.the_row.Denot) → Keyless (owned_at a p x)
 held a p None = tt

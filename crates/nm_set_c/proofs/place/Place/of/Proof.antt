@@ -1,4 +1,4 @@
--- `of` takes the box apart, and gives its pointer as a handle.
+-- `of` takes the box apart, and gives its pointer as a place.
 use Rattle.std.proofs.Common.{◌≡◌, List, [], ◌∷◌, ◌++◌, refl, sym, ap, ◌∙◌, subst}
 use mir.Raw.{raw as bare}
 use mir.Val.{Val, vptr, vstruct, of_list}
@@ -38,11 +38,11 @@ use Rattle.std_alloc.proofs.BoxSteps.Steps.{box_out, box_in}
 use Rattle.std_alloc.specs.contracts.boxed.Box.into_raw_with_allocator as callee
 use Rattle.std_alloc.proofs.boxed.Box.into_raw_with_allocator.Met.{met}
 use Rattle.nm_set_c.proofs.Destruct++none.drop.Symbol as no_drop
-use Rattle.nm_set_c.proofs.Handles.{R, Z, X, Y, X_laws, Y_laws, al, Boxed, heap_drop, owner_drop, owner_glued, both, block_good, handle_in}
-use Rattle.nm_set_c.specs.contracts.handle.Handle.of.{ended, clauses}
-use Rattle.nm_set_c.specs.contracts.handle.Handle.of.Key.{name as #self}
-use Rattle.nm_set_c.proofs.handle.Handle.of.Statement.{statement}
-use Rattle.nm_set_c.proofs.handle.Handle.of.Code as code
+use Rattle.nm_set_c.proofs.Places.{R, Z, X, Y, X_laws, Y_laws, al, Boxed, heap_drop, owner_drop, owner_glued, both, block_good, place_in}
+use Rattle.nm_set_c.specs.contracts.place.Place.of.{ended, clauses}
+use Rattle.nm_set_c.specs.contracts.place.Place.of.Key.{name as #self}
+use Rattle.nm_set_c.proofs.place.Place.of.Statement.{statement}
+use Rattle.nm_set_c.proofs.place.Place.of.Code as code
 
 pub of_spec : {M : Type 1} → statement M
 of_spec {M} 𝓤 𝓛 𝓜 𝓡 wired =
@@ -75,7 +75,7 @@ of_spec {M} 𝓤 𝓛 𝓜 𝓡 wired =
     lands_as ! (ap only (eu ∙ (λ j. vstruct (of_list ((ep ∙ ap (λ (p : Ptr). ptr_val p ∷ []) e') j ++ (eh j ++ []))) ∷ []))) refl made $
     sets ! (of_opd ! (get_in ! (fld ! refl (stop !)) (sub ! 0 refl (whole !)))) refl (tt, tt) $ sets ! (of_opd ! (get_in ! (fld ! refl (stop !)) (sub ! 1 refl (whole !)))) refl fits' $
     sets ! (of_opd ! (get ! refl)) refl (tt, tt) $ sets ! (agg ! (and_then ! (get ! refl) (and_then ! (get ! refl) (no_more !)))) refl made $ move ! (3 ∷ 0 ∷ []) $
-    handle_in ! (block_ptr b' o') h' a (Some v.value) $
+    place_in ! (block_ptr b' o') h' a (Some v.value) $
     use0 𝓛 (raw (fact 𝓤 (Some v.value ≡ Some v.value))) (fact_i 𝓤 (Some v.value ≡ Some v.value) (emp 𝓤) refl) $ nothing ! $ nothing ! $ fjoin ! $ nothing ! $
     returns ! (look_at ! 0 refl) $ free_all ! refl $ keep ! (0 ∷ 1 ∷ 3 ∷ 2 ∷ []) $
     by ! (leaves 𝓛 ended hs c z (both (vptr b' o') h') (record { at = block_ptr b' o'; alloc = a; held = Some v.value }) (tt, tt) (tt, tt))))))))))))))

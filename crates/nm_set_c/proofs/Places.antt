@@ -1,4 +1,4 @@
--- The machine values of a handle, what it holds, and what a call on the box of its owner passes. Assumes `Logic`.
+-- The machine values of a place, what it holds, and what a call on the box of its owner passes. Assumes `Logic`.
 use Rattle.std.proofs.Common.{◌≡◌, ℕ, List, [], ◌∷◌, ◌++◌, refl, subst, lit<}
 use seplogic.Ra.Ura.{Ura}
 use mir.Syntax.{Dict, Callee, impl, method, no_args, tnil, tcons, dnil}
@@ -36,8 +36,8 @@ use Rattle.std.proofs.alloc.Global.TheLaws as heap_laws
 use Rattle.std.specs.contracts.impls.GlobalAllocator.TheImpl.{ghosts, dict}
 use Rattle.std.proofs.GlobalToken.{dealloc_token-Testable}
 use Rattle.nm_set_c.specs.contracts.owner.Owner as inner
-use Rattle.nm_set_c.specs.Handles.{owned_at}
-use Rattle.nm_set_c.specs.contracts.handle.Handle as handle
+use Rattle.nm_set_c.specs.Places.{owned_at}
+use Rattle.nm_set_c.specs.contracts.place.Place as place
 use Rattle.nm_set_c.proofs.owner.Owner.TheLaws as owner_laws
 use Rattle.nm_set_c.proofs.Destruct++none.drop.Symbol as no_drop
 use Rattle.nm_set_c.specs.contracts.nm_set_c++owner++Owner+Destruct.drop as dropping
@@ -50,41 +50,41 @@ use Rattle.std_alloc.proofs.ResultValues.{and_tt}
 abbrev pub both : Val → Val → Val
 both v w = vstruct (vcons v (vcons w vnil))
 
--- an owner, the heap's handle, and a handle for C
+-- an owner, the heap's handle, and a place
 abbrev pub R : RattleType
 R = inner.the_row
 
 abbrev pub Z : RattleType
 Z = heap.the_row
 
-abbrev pub Handle : RattleType
-Handle = handle.the_row
+abbrev pub Place : RattleType
+Place = place.the_row
 
 -- the heap as an allocator, of which the machine value alone is read
 abbrev pub al : Al
 al = record { row = Z; laws = heap_laws.the_row_laws; g = ghosts; d = impl [] tnil dnil; drops = impl [] tnil dnil }
 
--- a null pointer, or one to a block, beside the heap's handle is a value of a handle's type
-pub null_good : (h : Val) → Good (layout Z) h → Good (layout Handle) (both (ptr_val null_ptr) h)
+-- a null pointer, or one to a block, beside the heap's handle is a value of a place's type
+pub null_good : (h : Val) → Good (layout Z) h → Good (layout Place) (both (ptr_val null_ptr) h)
 null_good h fits = (and_tt (has_ty (layout Z) h) fits.0, (record { fits = lit< tt }, (fits.1, tt)))
 
-pub block_good : (b o : ℕ) (h : Val) → Good (layout Z) h → Good (layout Handle) (both (vptr b o) h)
+pub block_good : (b o : ℕ) (h : Val) → Good (layout Z) h → Good (layout Place) (both (vptr b o) h)
 block_good b o h fits = (and_tt (has_ty (layout Z) h) fits.0, (tt, (fits.1, tt)))
 
 module _ {M : Type 1} {𝓤 : Ura M} {𝓛 : Logic 𝓤} {K : Type 0} {Γ : List (Item 𝓤)} {G : Goal 𝓤 𝓛.H} where
-  -- a handle is its pointer and the heap's, with what it holds, and is made of these
-  pub handle_out : K → (d : Handle.Denot) (vs : List Val)
+  -- a place is its pointer and the heap's, with what it holds, and is made of these
+  pub place_out : K → (d : Place.Denot) (vs : List Val)
       → ((h : Val) → vs ≡ both (ptr_val d.at) h ∷ [] → Good (layout Z) h → Seq K 𝓛 (‵ (owned_at d.alloc d.at d.held) ∷ ‵ (Z.own_val d.alloc (h ∷ [])) ∷ Γ) G)
-      → Seq K 𝓛 (‵ (Handle.own_val d vs) ∷ Γ) G
-  handle_out t d vs k =
+      → Seq K 𝓛 (‵ (Place.own_val d vs) ∷ Γ) G
+  place_out t d vs k =
       fsplit t $ fpick t (λ vss. fsplit t $ feq_l t (λ ev. fsplit t $ feq_l t (λ ep. fsplit t $ handle_tells al t d.alloc vss.1.0 (λ h ea fits. move t (1 ∷ []) $ drop t $ move t (1 ∷ []) $ k h
       (subst (λ (ws : List Val). vs ≡ vstruct (of_list (ptr_val d.at ∷ (ws ++ []))) ∷ []) ea (subst (λ (ps : List Val). vs ≡ vstruct (of_list (ps ++ (vss.1.0 ++ []))) ∷ []) ep ev)) fits))))
 
-  pub handle_in : K → (p : Ptr) (h : Val) (a : Z.Denot) (x : Option R.Denot)
-      → Step K 𝓛 (‵ (Handle.own_val (record { at = p; alloc = a; held = x }) (both (ptr_val p) h ∷ [])) ∷ Γ) G (‵ (owned_at a p x) ∷ ‵ (Z.own_val a (h ∷ [])) ∷ Γ) G
-  handle_in t p h a x = step (λ s. let v : Val = both (ptr_val p) h in
+  pub place_in : K → (p : Ptr) (h : Val) (a : Z.Denot) (x : Option R.Denot)
+      → Step K 𝓛 (‵ (Place.own_val (record { at = p; alloc = a; held = x }) (both (ptr_val p) h ∷ [])) ∷ Γ) G (‵ (owned_at a p x) ∷ ‵ (Z.own_val a (h ∷ [])) ∷ Γ) G
+  place_in t p h a x = step (λ s. let v : Val = both (ptr_val p) h in
       nothing t $ move t (2 ∷ 0 ∷ []) $ fjoin t $ feq_i t (List Val) (ptr_val p ∷ []) (ptr_val p ∷ []) refl $ fjoin t $ feq_i t (List Val) (v ∷ []) (v ∷ []) refl $ fjoin t $
-      fpack t (Valss (RawPtr ∷ Z ∷ [])) (within (shape handle.the_type) (p, (((tt, tt), tt), tt)) (v ∷ [])) (ptr_val p ∷ [], (h ∷ [], tt)) $ fjoin t $ s)
+      fpack t (Valss (RawPtr ∷ Z ∷ [])) (within (shape place.the_type) (p, (((tt, tt), tt), tt)) (v ∷ [])) (ptr_val p ∷ [], (h ∷ [], tt)) $ fjoin t $ s)
 
 module _ {M : Type 1} {𝓤 : Ura M} (𝓛 : Logic 𝓤) where
   -- the pointer of a box may be compared with null
