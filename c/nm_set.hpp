@@ -9,7 +9,6 @@
 #include "nm_set.h"
 
 #include <cstdint>
-#include <mutex>
 #include <optional>
 #include <stdexcept>
 #include <utility>
@@ -37,7 +36,8 @@ inline bool answered(nm_outcome outcome) {
     return outcome != NM_NO;
 }
 
-// Owns what its handle does. One thread at a time uses it, for a call that is const too.
+// Owns what its handle does. One thread at a time uses it, for a call that is const too: of two that
+// do, the second is told NM_IN_USE.
 class Owner {
 public:
     Owner(Owner &&from) noexcept
@@ -269,10 +269,10 @@ private:
     friend class Set;
 };
 
-// A set. Several threads may take workers of one at the same time, by `worker` and by `attach`, and
-// close it: a mutex stands before its handle. It is moved and destroyed by one thread, while no
-// other is in a call of it. Its workers are with other threads; it may be destroyed before them:
-// then the last of them ends the tree.
+// A set. Several threads may take workers of one at the same time, by `worker` and by `attach`, with
+// no lock. It is closed, moved and destroyed by one thread, while no other is in a call of it. Its
+// workers are with other threads; it may be destroyed before them: then the last of them ends the
+// tree.
 class Set : public detail::Owner {
 public:
     // The workers of a set where the caller names no number: one more than a multiple of four, so
@@ -281,13 +281,6 @@ public:
 
     // A closed one.
     Set() = default;
-
-    Set(Set &&from) noexcept : Owner(std::move(from)) {}
-
-    Set &operator=(Set &&from) noexcept {
-        Owner::operator=(std::move(from));
-        return *this;
-    }
 
     // The empty set, whose new nodes take the lowest free slot.
     [[nodiscard]] static Set lowest(std::uint32_t nodes, std::uint32_t workers = many) {
@@ -311,8 +304,7 @@ public:
     }
 
     // Opens a closed owner with the worker of a number.
-    [[nodiscard]] nm_outcome try_worker(Worker &into, std::uint32_t number) {
-        std::lock_guard<std::mutex> alone(taking_);
+    [[nodiscard]] nm_outcome try_worker(Worker &into, std::uint32_t number) noexcept {
         return nm_set_worker(&handle_, &into.handle_, number);
     }
 
@@ -325,16 +317,8 @@ public:
     }
 
     // Opens a closed owner with a worker that is at home.
-    [[nodiscard]] nm_outcome try_attach(Worker &into) {
-        std::lock_guard<std::mutex> alone(taking_);
-        for (std::uint32_t first : {7, 3, 5, 1, 6, 2, 4, 0}) {
-            for (std::uint32_t number = first; number < most; number += apart) {
-                nm_outcome told = nm_set_worker(&handle_, &into.handle_, number);
-                if (told == NM_NUMBER) break;
-                if (told != NM_AWAY) return told;
-            }
-        }
-        return NM_AWAY;
+    [[nodiscard]] nm_outcome try_attach(Worker &into) noexcept {
+        return nm_set_attach(&handle_, &into.handle_);
     }
 
     // Ends the set, which is a closed owner then. Where that is a fault it is the set still.
@@ -346,19 +330,26 @@ public:
 
     // Ends the set, and opens a closed owner with its report. Where that is refused, also with
     // NM_OPEN as the report is open, it is the set still.
-    [[nodiscard]] nm_outcome try_close(Report &into) {
+    [[nodiscard]] nm_outcome try_close(Report &into) noexcept {
         if (into.is_open()) return NM_OPEN;
-        std::lock_guard<std::mutex> alone(taking_);
         nm_outcome told = nm_set_close(&handle_);
         if (told == NM_DONE) std::swap(into.handle_, handle_);
         return told;
     }
-
-private:
-    static constexpr std::uint32_t most = 64, apart = 8;
-
-    std::mutex taking_;
 };
+
+// The version of the library that the program runs with.
+struct Version {
+    std::uint32_t major;
+    std::uint32_t minor;
+    std::uint32_t patch;
+};
+
+[[nodiscard]] inline Version version() noexcept {
+    Version told{0, 0, 0};
+    (void)nm_set_version(&told.major, &told.minor, &told.patch);
+    return told;
+}
 
 }  // namespace nm
 

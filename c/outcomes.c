@@ -150,17 +150,65 @@ static void away(void) {
 
 /* Each outcome has words of its own, and so has a number that is none. */
 static void texts(void) {
-    for (int first = NM_UNCOUNTED - 1; first <= NM_DONE; first++)
-        for (int second = NM_UNCOUNTED - 1; second < first; second++)
+    for (int first = NM_IN_USE - 1; first <= NM_DONE; first++)
+        for (int second = NM_IN_USE - 1; second < first; second++)
             CHECK(strcmp(nm_outcome_text((nm_outcome)first), nm_outcome_text((nm_outcome)second)) !=
                   0);
     CHECK(strcmp(nm_outcome_text(NM_FULL), "no slots are free for the new nodes") == 0);
     CHECK(strcmp(nm_outcome_text((nm_outcome)(NM_DONE + 1)),
-                 nm_outcome_text((nm_outcome)(NM_UNCOUNTED - 1))) == 0);
+                 nm_outcome_text((nm_outcome)(NM_IN_USE - 1))) == 0);
+}
+
+/* The library is the one of the header. */
+static void versions(void) {
+    uint32_t major = NOT_WRITTEN, minor = NOT_WRITTEN, patch = NOT_WRITTEN;
+    CHECK(nm_set_version(&major, &minor, &patch) == NM_DONE);
+    CHECK(major == NM_SET_VERSION_MAJOR && minor == NM_SET_VERSION_MINOR && patch == NM_SET_VERSION_PATCH);
+}
+
+/* Workers are handed out by numbers eight apart first, and none where all are away. */
+static void attached(void) {
+    enum { WORKERS = 18 };
+    static const uint32_t order[WORKERS] = {7, 15, 3, 11, 5, 13, 1, 9, 17, 6, 14, 2, 10, 4, 12, 0, 8, 16};
+    nm_handle set = NM_CLOSED_HANDLE, workers[WORKERS] = {NM_CLOSED_HANDLE}, none = NM_CLOSED_HANDLE;
+    uint32_t number = NOT_WRITTEN;
+    CHECK(nm_set_attach(&set, &none) == NM_CLOSED && nm_set_near(&set, 64, WORKERS) == NM_DONE);
+    for (int i = 0; i < WORKERS; i++) {
+        CHECK(nm_set_attach(&set, &workers[i]) == NM_DONE && nm_set_attach(&set, &workers[i]) == NM_OPEN);
+        CHECK(nm_worker_number(&workers[i], &number) == NM_DONE && number == order[i]);
+    }
+    CHECK(nm_set_attach(&set, &none) == NM_AWAY && nm_set_attach(&workers[0], &none) == NM_KIND);
+    CHECK(nm_drop(&workers[4]) == NM_DONE && nm_set_attach(&set, &none) == NM_DONE);
+    CHECK(nm_worker_number(&none, &number) == NM_DONE && number == order[4] && nm_drop(&none) == NM_DONE);
+    for (int i = 0; i < WORKERS; i++) CHECK(nm_drop(&workers[i]) == (i == 4 ? NM_CLOSED : NM_DONE));
+    CHECK(nm_set_close(&set) == NM_DONE && nm_set_attach(&set, &none) == NM_KIND && nm_drop(&set) == NM_DONE);
+}
+
+/* A handle that another call has tells so to each function, keeps what it owns, and is as good as before when that call is done. */
+static void used(void) {
+    nm_handle set = NM_CLOSED_HANDLE, worker = NM_CLOSED_HANDLE, other = NM_CLOSED_HANDLE;
+    CHECK(nm_set_near(&set, 64, 2) == NM_DONE && nm_set_worker(&set, &worker, 0) == NM_DONE);
+    worker.in_use = 1;
+    void *owned = worker.at;
+    is_refused(&worker, NM_IN_USE, NM_IN_USE);
+    CHECK(nm_drop(&worker) == NM_IN_USE && nm_set_worker(&set, &worker, 1) == NM_IN_USE && nm_set_attach(&set, &worker) == NM_IN_USE);
+    CHECK(nm_set_near(&worker, 64, 2) == NM_IN_USE && nm_set_close(&worker) == NM_IN_USE && worker.at == owned);
+    worker.in_use = 0;
+    CHECK(nm_worker_insert(&worker, 5, TRIES) == NM_YES);
+    set.in_use = 1;
+    CHECK(nm_set_worker(&set, &other, 1) == NM_IN_USE && nm_set_attach(&set, &other) == NM_IN_USE && nm_set_close(&set) == NM_IN_USE);
+    CHECK(other.at == NULL && other.in_use == 0);
+    set.in_use = 0;
+    CHECK(nm_set_worker(&set, &set, 1) == NM_OPEN && nm_set_worker(&worker, &worker, 1) == NM_OPEN && nm_set_worker(&other, &other, 1) == NM_IN_USE);
+    CHECK(nm_set_attach(&set, &other) == NM_DONE && nm_drop(&other) == NM_DONE && nm_drop(&worker) == NM_DONE);
+    CHECK(nm_set_close(&set) == NM_DONE && nm_drop(&set) == NM_DONE);
 }
 
 int main(void) {
     texts();
+    versions();
+    attached();
+    used();
     sizes();
     kinds();
     answers();

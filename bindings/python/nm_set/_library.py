@@ -1,6 +1,6 @@
 """The functions of nm_set.h, by ctypes.
 
-A handle is one word of memory that this process owns; who calls a function with it must let no
+A handle is two words of memory that this process owns; who calls a function with it must let no
 other thread do so at the same time, which is what the locks of `_set` are for. ctypes lets other
 threads run while a call is made.
 """
@@ -14,9 +14,9 @@ from pathlib import Path
 
 
 class Handle(ctypes.Structure):
-    """One word: null, or what owns a set, a worker or a report."""
+    """nm_handle: null, or what owns a set, a worker or a report, and whether a call has it."""
 
-    _fields_ = [("at", c_void_p)]
+    _fields_ = [("at", c_void_p), ("in_use", c_uint64)]
 
 
 class LedgerWords(ctypes.Structure):

@@ -16,10 +16,11 @@
 use std::ffi::c_int;
 use std::ptr::null_mut;
 
-/// One word that is null, or owns a set, a worker or a report.
+/// `nm_handle`: a word that is null, or owns a set, a worker or a report, and whether a call has it.
 #[repr(C)]
 struct Word {
     at: *mut u8,
+    in_use: u64,
 }
 
 /// What a worker has won, and what became of the nodes that it cut off: `nm_ledger`.
@@ -103,7 +104,10 @@ macro_rules! calls {
 impl Handle {
     /// A closed one.
     pub(crate) fn closed() -> Handle {
-        Handle(Word { at: null_mut() })
+        Handle(Word {
+            at: null_mut(),
+            in_use: 0,
+        })
     }
 
     calls! {

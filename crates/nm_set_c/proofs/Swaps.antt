@@ -4,7 +4,7 @@ use seplogic.Ra.Ura.{Ura}
 use base.Logic.{SProp, ent, ex, upd_i, ex_i}
 use base.Fml.{Fml, ftrue, fsep, fex}
 use types.Logic.{Logic, sem}
-use types.Kit.{‵, raw, ◌$◌, ◌∵◌, !, qed, move, frame, each, assume, suffices, show, fjoin, fpack, done}
+use types.Kit.{‵, ◌$◌, ◌∵◌, !, qed, move, frame, each, assume, suffices, show, fjoin, fpack, done}
 use denote.RawPtr.{block_ptr}
 use denote.Steps.{nothing}
 use Rattle.core.specs.Sync.RawAtomic.{Shift, rests, along, found, back, if_none, asks, always, word}

@@ -9,7 +9,7 @@ use Rattle.nm_set.specs.Seats.{Standing, Seated, IsResident, IsAnyResident}
 use Rattle.nm_tree.specs.Workers.{Hand}
 use Rattle.nm_tree.specs.declared.closing.Report.{Report}
 use Rattle.nm_set_c.specs.Outcomes.{of_taking, of_reason}
-use Rattle.nm_set_c.specs.Handles.{Hold, Closed, Open, InUse, IsRefused, CannotOpen}
+use Rattle.nm_set_c.specs.Handles.{Hold, Closed, Open, IsRefused, CannotOpen}
 use Rattle.nm_set_c.specs.declared.outcome.Outcome.{Outcome}
 use Rattle.nm_set_c.specs.declared.outcome.Outcome.TheVariants as outcome
 use Rattle.nm_set_c.specs.declared.owner.Owner.{Owner}

@@ -10,8 +10,9 @@ use crate::word::swap;
 use std::alloc::Global;
 use std::hint::spin_loop;
 
-/// How often a call looks at a handle of a set that another call has, before it tells so.
-const LOOKS: u32 = 1 << 16;
+/// How often a call looks at a handle of a set that another call has, before it tells so: some tenths of a second, so that a thread which the system
+/// stops as it takes a worker is waited for.
+const LOOKS: u32 = 1 << 23;
 
 /// A handle for C: what it owns, and whether a call has it at this moment. Both words are zero while it is closed.
 ///

@@ -1,4 +1,4 @@
-use Rattle.std.proofs.Common.{rules, ◌≡◌}
+use Rattle.std.proofs.Common.{rules}
 use Rattle.nm_set_c.specs.Handles.{held_by}
 use Rattle.nm_set_c.specs.Workers.{DoesFinish}
 use Rattle.nm_set_c.specs.declared.outcome.Outcome.TheVariants.{Kind}

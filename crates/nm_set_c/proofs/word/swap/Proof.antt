@@ -1,12 +1,11 @@
-use Rattle.std.proofs.Common.{◌≡◌, ℕ, ◌^◌, List, [], ◌∷◌, refl, ap, lit<, w64, MutBor}
-use mir.Syntax.{named, ty_int}
-use mir.Val.{Val, vint, vptr, of_list}
+use Rattle.std.proofs.Common.{◌^◌, List, [], ◌∷◌, refl, lit<, w64}
+use mir.Syntax.{named}
+use mir.Val.{Val, vint, vptr}
 use base.Fraction.{full_share}
-use base.Logic.{SProp, id⊢, via}
-use base.Fml.{ftrue, flft, fres}
-use prog.Wp.{WpFn}
-use types.Kit.{‵, raw, ◌⊛◌, some, later, mean, prop, at_ret, ◌$◌, ◌∵◌, !, qed, done, move, keep, drop, use1, split, join, fsplit, fsplit3, fjoin, fpick, feq_i, feq_l, flt_i, flt_l, rewrite, suffices, frame, group}
-use types.Run.{enter, of_opd, addr, load, lit, stop, fld, no_more, and_then, first, blocks, exec, Calls-last, returns}
+use base.Logic.{SProp, via}
+use base.Fml.{ftrue, flft}
+use types.Kit.{‵, raw, ◌⊛◌, mean, at_ret, ◌$◌, ◌∵◌, !, qed, done, move, keep, drop, use1, split, join, fsplit, fsplit3, fjoin, fpick, feq_i, flt_i, suffices, frame, group}
+use types.Run.{enter, of_opd, addr, lit, stop, no_more, and_then, first, blocks, exec, Calls-last, returns}
 use types.ByLocal.{alloc_all, pass_all, free_all, look_at, get, through, sets, lands_last, env}
 use types.Part.{agg}
 use contract.Running.{tables}
@@ -16,7 +15,7 @@ use denote.Plain.{uint_Makes, uint_vals, uint_Tells}
 use denote.RawPtr.{block_ptr}
 use denote.Ref.{MutRef, mut_vals, mut_Tells}
 use denote.Signature.{plain}
-use denote.Steps.{nothing, owned, opens, closes, tied, ties, heard}
+use denote.Steps.{nothing, owned, opens, closes, tied}
 use denote.Triple.Walked.{Stays, walk_of, says, stay_ref, Goes-ref, stay_dropped, Goes-dropped, ends_at}
 use Rattle.core.proofs.atomic.Steps.{tail}
 use Rattle.std.proofs.raw_atomic.Calls.{fm, seq_cst, found, finds, swaps}
