@@ -18,22 +18,20 @@
  * - A handle is all zero before its first use, and only the functions below write it from then on. It may be moved to another place, as by memcpy
  *   or by a return; the place that it was moved from is no handle then, until it is all zero again. An open handle that is overwritten or lost
  *   leaves its memory taken, and its worker away.
- * - A pointer is to a place of its type that no other call is using, and two parameters of one call are at different places.
- * - What a thread did with a handle happens before another thread's call with it: by a lock, by the
- *   start or the join of a thread, or by a sequentially consistent atomic. Calls with different
- *   handles may run at the same time, and those of one set are made to.
- *
- * Of two calls that have one handle at the same time the second is told NM_IN_USE, and touches
- * nothing. Several threads may take their workers from one handle of a set at once, by nm_set_worker
- * and nm_set_attach, with no lock: each call has the handle for the moment of the take alone, and
- * looks again for a while where it finds another one there. So does nm_set_close. A worker's handle,
- * and a report's, is for one thread at a time: NM_IN_USE of it tells a fault of the program, that
- * has cost nothing.
- *
- * And further:
- *
+ * - A pointer is to a place of its type, and one that is not to a handle to a place that no other call
+ *   is using; two parameters of one call are at different places.
+ * - That a handle is all zero, or was moved to its place, happens before another thread's first call
+ *   with it: by a lock, by the start or the join of a thread, or by a sequentially consistent atomic.
  * - malloc, realloc and free are of one allocator, may be called by several threads, and align as C says.
  * - No function is called by a signal handler, or in the forked child of a process with threads.
+ *
+ * Calls with different handles may run at the same time, and those of one set are made to. Of two
+ * calls that have one handle at the same time the second is told NM_IN_USE, and touches nothing.
+ * Several threads may take their workers from one handle of a set at once, by nm_set_worker and
+ * nm_set_attach, with no lock: each has the handle for the moment of the take alone, and looks again
+ * for some tenths of a second where it finds another one there. So does nm_set_close. A worker's
+ * handle, and a report's, is for one thread at a time: NM_IN_USE of it tells a fault of the program,
+ * which has cost nothing.
  */
 #ifndef NM_SET_H
 #define NM_SET_H
