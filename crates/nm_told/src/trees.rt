@@ -1,7 +1,7 @@
 //! The same of workers of a tree, by the clauses of `nm_tree` alone.
 ghost use Rattle.std.specs.Prelude.{◌≡◌, true, false, None, IfOk, IfSome};
 ghost use Rattle.nm_model.specs.declared.event.Op.TheVariants.{Insert, Delete};
-ghost use Rattle.nm_steps.specs.Steps.{Stand, IsOf, HasSeenAllOf};
+ghost use Rattle.nm_steps.specs.Steps.{Stand, IsOf, IsSamePass, HasHeard, HasSeenAllOf};
 ghost use Rattle.nm_calls.specs.Moments.{AnswerHasMoment};
 ghost use Rattle.nm_told.specs.Unflagged.{NoneFlagged};
 ghost use Rattle.nm_told.specs.Uninserted.{NoneInserted};
@@ -15,8 +15,8 @@ pub fn tell_worker(tree: &Tree, from: &mut Worker, to: &mut Worker)
     requires to { IsOf tree.now to.old.pass }
     ensures from { from.new ≡ from.old }
     ensures own { IsOf tree.now to.new.pass }
+    ensures to { HasHeard to.old.pass to.new.pass }
     ensures held { to.new.held ≡ to.old.held }
-    ensures layout { to.new.pass.view.layout ≡ to.old.pass.view.layout }
     ensures heard { HasSeenAllOf to.new.pass from.old.pass }
     ensures past { HasSeenAllOf to.new.pass to.old.pass }
 {
@@ -37,6 +37,9 @@ pub fn look_told(
     requires one { IsOf tree.now one.old.pass }
     requires two { IsOf tree.now two.old.pass }
     requires free { two.old.held ≡ None }
+    ensures one { one.new ≡ one.old }
+    ensures two { IsSamePass two.old.pass two.new.pass }
+    ensures held { two.new.held ≡ None }
     ensures found { (start : Stand) → AnswerHasMoment start one.old.pass Insert key true → NoneFlagged two.new.pass.view.layout two.new.pass.view.past key → IfOk result (λ b. b ≡ true) }
     ensures missed { (start : Stand) → AnswerHasMoment start one.old.pass Delete key true → NoneInserted two.new.pass.view.layout start.view.past two.new.pass.view.past key → IfOk result (λ b. b ≡ false) }
 {

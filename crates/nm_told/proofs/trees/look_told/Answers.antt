@@ -12,7 +12,7 @@ returns-clause-found c start moment none =
     let after = c.has-found.new.worker.pass in
     each_ok c.has-found.result (AnswerHasMoment before after Has k) _ (λ answer answered.
     told_finds k start c.args.one.now.pass before after c.is_of_a_run.ensures.fits
-    (c.requires.one.layout ∙ (sym c.requires.two.layout ∙ sym (ap (λ (z : Stand). z.view.layout) c.has-found.ensures.same ∙ c.tell_worker.ensures.layout)))
+    (c.requires.one.layout ∙ (sym c.requires.two.layout ∙ sym (ap (λ (z : Stand). z.view.layout) c.has-found.ensures.same ∙ ap (λ (z : Stand). z.view.layout) c.tell_worker.ensures.to)))
     moment c.tell_worker.ensures.heard answer answered c.has-found.ensures.past c.is_of_a_run.ensures.seen none) c.has-found.ensures.moment
 
 pub returns-clause-missed : goal.returns-clause-missed
@@ -22,5 +22,5 @@ returns-clause-missed c start moment none =
     let after = c.has-found.new.worker.pass in
     each_ok c.has-found.result (AnswerHasMoment before after Has k) _ (λ answer answered.
     told_misses k start c.args.one.now.pass before after c.is_of_a_run.ensures.fits
-    (c.requires.one.layout ∙ (sym c.requires.two.layout ∙ sym (ap (λ (z : Stand). z.view.layout) c.has-found.ensures.same ∙ c.tell_worker.ensures.layout)))
+    (c.requires.one.layout ∙ (sym c.requires.two.layout ∙ sym (ap (λ (z : Stand). z.view.layout) c.has-found.ensures.same ∙ ap (λ (z : Stand). z.view.layout) c.tell_worker.ensures.to)))
     moment c.tell_worker.ensures.heard answer answered c.has-found.ensures.past c.is_of_a_run.ensures.seen none) c.has-found.ensures.moment
