@@ -74,19 +74,19 @@ pub fn insert_then_find(
 /// Else it is not found, unless an insert, behind all that the deleter had seen before, has put it back.
 pub fn delete_then_miss(
     tree: &Tree,
-    one: &mut Worker,
-    two: &mut Worker,
+    deleter: &mut Worker,
+    reader: &mut Worker,
     key: Key,
     tries: u32,
 ) -> Option<bool>
-    requires one { IsOf tree.now one.old.pass }
-    requires two { IsOf tree.now two.old.pass }
-    requires first_free { one.old.held ≡ None }
-    requires free { two.old.held ≡ None }
-    ensures missed { NoneInserted two.new.pass.view.layout one.old.pass.view.past two.new.pass.view.past key → IfSome result (λ b. b ≡ false) }
+    requires deleter { IsOf tree.now deleter.old.pass }
+    requires reader { IsOf tree.now reader.old.pass }
+    requires first_free { deleter.old.held ≡ None }
+    requires free { reader.old.held ≡ None }
+    ensures missed { NoneInserted reader.new.pass.view.layout deleter.old.pass.view.past reader.new.pass.view.past key → IfSome result (λ b. b ≡ false) }
 {
-    match tree.delete(one, key, tries) {
-        Ok(true) => look_told(tree, one, two, key, tries).ok(),
+    match tree.delete(deleter, key, tries) {
+        Ok(true) => look_told(tree, deleter, reader, key, tries).ok(),
         _ => None,
     }
 }
