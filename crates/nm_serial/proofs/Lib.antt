@@ -1,6 +1,7 @@
 pub mod PlayLemmas
 pub mod ThreadLemmas
 pub mod WorkerLemmas
+pub mod CallLemmas
 pub mod EndingLemmas
 pub mod CrewLemmas
 pub mod ReportLemmas
