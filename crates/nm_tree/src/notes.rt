@@ -23,8 +23,8 @@ impl Tree {
     }
 
     /// The worker hears a note of a worker of this tree: all that it is asked from then on comes behind all that the other one had done when the note
-    /// was made. So it finds a key whose insert was answered before, unless the key was deleted since. It may hear at any time, held or with a key
-    /// pending. One read of the epoch, which is in no log: no word is written, no lock and no memory.
+    /// was made. So a key whose insert was answered true before is found, unless a delete of it has won a flag in what the worker has then seen. It
+    /// may hear at any time, held or with a key pending. One read of the epoch, which is in no log: no word is written, no lock and no memory.
     pub fn hear(&self, worker: &mut Worker, note: Note)
         requires own { IsOf self.now worker.old.pass }
         requires table { note.table ≡ self.now.table }
