@@ -129,22 +129,30 @@ static void ends(void) {
     CHECK(nm_report_queue(&set, 3, &nodes) == NM_NUMBER && nm_report_waiting(&set, 3, &waiting) == NM_NUMBER);
     CHECK(nm_report_waiting(&set, 0, &waiting) == NM_NO);
     CHECK(nm_report_waiting(&set, 1, &waiting) == NM_YES && waiting.birth == 1 && waiting.label == 0);
-    CHECK(nm_report_waiting(&set, 1, &waiting) == NM_YES && nm_report_waiting(&set, 1, &waiting) == NM_NO);
+    uint32_t oldest = waiting.slot;
+    CHECK(nm_report_waiting(&set, 1, &waiting) == NM_YES && waiting.slot != oldest && nm_report_waiting(&set, 1, &waiting) == NM_NO);
+    CHECK(nm_report_queue(&set, 1, &nodes) == NM_DONE && nodes == 0);
     CHECK(nm_drop(&set) == NM_DONE);
 }
 
-/* A worker that goes home as it is held, or with a key pending, does not resign, and is held or has its key still when it is taken again. */
+/* A worker that goes home as it is held, or with a key pending, does not resign, and is held or has its key still when it is taken again, with all that
+ * it has won and that waits. */
 static void away(void) {
     nm_handle set = NM_CLOSED_HANDLE, heir = NM_CLOSED_HANDLE, leaver = NM_CLOSED_HANDLE;
-    uint64_t epoch = NOT_WRITTEN, key = NOT_WRITTEN;
+    uint64_t epoch = NOT_WRITTEN, key = NOT_WRITTEN, nodes = NOT_WRITTEN;
+    nm_ledger ledger;
     CHECK(nm_set_near(&set, 64, 2) == NM_DONE);
     CHECK(nm_set_worker(&set, &heir, 0) == NM_DONE && nm_set_worker(&set, &leaver, 1) == NM_DONE);
     CHECK(nm_worker_pin(&leaver, TRIES, &epoch) == NM_DONE && nm_drop(&leaver) == NM_DONE);
     CHECK(nm_worker_resign(&heir, 1) == NM_HELD && nm_set_worker(&set, &leaver, 1) == NM_DONE);
-    CHECK(nm_worker_unpin(&leaver) == NM_DONE && nm_worker_insert(&leaver, 5, TRIES) == NM_YES);
+    CHECK(nm_worker_held(&leaver, &key) == NM_YES && key == epoch && nm_worker_unpin(&leaver) == NM_DONE);
+    CHECK(nm_worker_insert(&leaver, 5, TRIES) == NM_YES);
     CHECK(nm_worker_delete(&leaver, 5, 1) == NM_UNFINISHED && nm_drop(&leaver) == NM_DONE);
     CHECK(nm_worker_resign(&heir, 1) == NM_PENDING && nm_set_worker(&set, &leaver, 1) == NM_DONE);
     CHECK(nm_worker_pending(&leaver, &key) == NM_YES && key == 5 && nm_worker_finish(&leaver, TRIES) == NM_YES);
+    CHECK(nm_drop(&leaver) == NM_DONE && nm_set_worker(&set, &leaver, 1) == NM_DONE);
+    CHECK(nm_worker_queue_len(&leaver, &nodes) == NM_DONE && nodes == 2 && nm_worker_ledger(&leaver, &ledger) == NM_DONE);
+    CHECK(ledger.links == 1 && ledger.flags == 1 && ledger.splices == 1 && ledger.retired == 2 && ledger.freed == 0 && ledger.queued == 2);
     CHECK(nm_drop(&leaver) == NM_DONE && nm_drop(&heir) == NM_DONE && nm_drop(&set) == NM_DONE);
 }
 

@@ -17,8 +17,6 @@ mod owner;
 mod place;
 mod reports;
 mod sets;
-#[cfg(test)]
-mod tests;
 mod version;
 mod word;
 mod workers;

@@ -1,7 +1,7 @@
 use Rattle.std.proofs.Common.{◌≤◌}
 use Rattle.nm_epoch.specs.Resting.{IsResting}
 use Rattle.nm_steps.specs.Steps.{IsSamePass}
-use Rattle.nm_tests.proofs.calls.rounds.Given as goal
+use Rattle.nm_pass_tests.proofs.calls.rounds.Given as goal
 
 abbrev pub invariant-loop-round : goal.invariant-loop-round
 invariant-loop-round l = record {

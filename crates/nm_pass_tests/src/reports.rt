@@ -2,7 +2,7 @@
 ghost use Rattle.std.specs.Prelude.{◌≡◌, length};
 ghost use Rattle.nm_steps.specs.Steps.{AreFresh, IsOf};
 ghost use Rattle.nm_calls.specs.Fresh.{HasDoneNothing};
-ghost use Rattle.nm_tests.specs.Plays.{IsAtRest};
+ghost use Rattle.nm_pass_tests.specs.Plays.{IsAtRest};
 
 use super::hands::{Hand, deletes, flags, inserts, key, starting};
 use super::passes::only;

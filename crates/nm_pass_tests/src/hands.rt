@@ -2,7 +2,7 @@
 ghost use Rattle.std.specs.Prelude.{◌≡◌, length};
 ghost use Rattle.nm_steps.specs.Steps.{IsOf};
 ghost use Rattle.nm_calls.specs.Fresh.{HasDoneNothing};
-ghost use Rattle.nm_tests.specs.Plays.{IsAtRest, IsPendingFor};
+ghost use Rattle.nm_pass_tests.specs.Plays.{IsAtRest, IsPendingFor};
 
 use nm_calls::{Chain, Fault, Missed, choose, delete, finish, has, insert, seek, tag};
 use nm_edge::{Key, NodeId};

@@ -2,8 +2,8 @@ use Rattle.std.proofs.Common.{rules, ap}
 use Rattle.nm_steps.specs.Steps.{Stand}
 use Rattle.nm_calls.proofs.Adding.{adds_then, adds_these, seeks_adds, choice_adds}
 use Rattle.nm_calls.proofs.GoingOn.{goes_then, only_then}
-use Rattle.nm_tests.proofs.Played.{pending_still}
-use Rattle.nm_tests.proofs.hands.tag_beside.Goals as goal
+use Rattle.nm_pass_tests.proofs.Played.{pending_still}
+use Rattle.nm_pass_tests.proofs.hands.tag_beside.Goals as goal
 
 pub returns-in_default : goal.returns-in_default
 returns-in_default c =

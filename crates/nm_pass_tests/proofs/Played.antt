@@ -12,7 +12,7 @@ use Rattle.nm_steps.specs.Steps.{Board, Stand, IsSamePass}
 use Rattle.nm_epoch.specs.declared.collecting.Entry.{Entry as Waiting}
 use Rattle.nm_calls.specs.Telling.{GoesOn, OnlyLooks}
 use Rattle.nm_calls.specs.Deletes.{IsRemoving}
-use Rattle.nm_tests.specs.Plays.{IsPendingFor}
+use Rattle.nm_pass_tests.specs.Plays.{IsPendingFor}
 use Rattle.nm_calls.proofs.Adding.{Adds, counts_on}
 use Rattle.nm_calls.proofs.GoingOn.{pinned_still}
 

@@ -1,0 +1,20 @@
+//! Tests of several calls below the tree: over passes, the words of a table, and the core. Each of them is a function that is proved before it runs;
+//! no other crate stands on this one.
+#![tactic(auto)]
+
+#[cfg(test)]
+mod calls;
+#[cfg(test)]
+mod core_calls;
+#[cfg(test)]
+mod epochs;
+#[cfg(test)]
+mod hands;
+#[cfg(test)]
+mod near_claims;
+#[cfg(test)]
+mod passes;
+#[cfg(test)]
+mod pools;
+#[cfg(test)]
+mod reports;
