@@ -1,5 +1,5 @@
 -- What each call leaves of its member's worker: what the tree's call of the same name leaves, where the worker may be asked.
-use Rattle.std.specs.Prelude.{◌≡◌, ◌+◌, ◌*◌, ◌≤◌, ℕ, Bool, length, None, IsSome, Result, Ok, Err, IfOk, IfErr}
+use Rattle.std.specs.Prelude.{◌≡◌, ◌+◌, ◌*◌, ◌≤◌, ℕ, Bool, length, None, IsSome, Result, Ok, Err, IfOk, IfErr, All}
 use Rattle.nm_model.specs.declared.event.Event.TheVariants.{Leave}
 use Rattle.nm_model.specs.declared.event.Op.TheVariants.{Has, Insert, Delete}
 use Rattle.nm_model.specs.declared.reply.Reply.TheVariants.{Departed}
@@ -8,6 +8,7 @@ use Rattle.nm_steps.specs.Steps.{IsSamePass, HasSeenAllOf, Stepped}
 use Rattle.nm_epoch.specs.declared.answers.Advance.{Advance}
 use Rattle.nm_epoch.specs.declared.answers.Behind.{Behind}
 use Rattle.nm_epoch.specs.declared.collecting.Collected.{Collected}
+use Rattle.nm_epoch.specs.declared.collecting.Entry.{Entry as Waiting}
 use Rattle.nm_epoch.specs.Collecting.{IsCollection, HaveLost, ripe_of}
 use Rattle.nm_epoch.specs.Resting.{epochs}
 use Rattle.nm_epoch.specs.Scans.{IsAdvance}
@@ -18,6 +19,7 @@ use Rattle.nm_calls.specs.Won.{HasWon}
 use Rattle.nm_tree.specs.declared.fault.Fault.{Fault as Lost}
 use Rattle.nm_tree.specs.declared.fault.PinFault.{PinFault as Unpinned}
 use Rattle.nm_tree.specs.Answers.{HasAnswered, HasInserted, HasDeleted, HasFinished, FinishHasMoment, InsertLacks, DeleteLacks, FinishLacks, HasPinned, KeepsPlace, links_won, flags_won}
+use Rattle.nm_tree.specs.Running.{IsFreedInGrace}
 use Rattle.nm_tree.specs.Workers.{Hand, IsBetweenCalls, KeepsOthers}
 use Rattle.nm_set.specs.declared.fault.Fault.{Fault}
 use Rattle.nm_set.specs.declared.fault.Fault.TheVariants as fault
@@ -126,6 +128,7 @@ pub record LeavesCollect (nodes : ℕ) (w z : Hand) (c : Collected) : Type 0 whe
   pub did : IsCollection c.epoch w.queues w.pass.view.log z.pass.view.log
   pub freed : c.freed ≡ length (ripe_of c.epoch w.queues)
   pub lost : HaveLost c.epoch w.queues z.queues
+  pub grace : All (λ (e : Waiting). IsFreedInGrace z.pass.view e.node) (ripe_of c.epoch w.queues)
   pub newest : (epoch : ℕ) → HasRead w.pass.view.log epoch → epoch ≤ c.epoch
   pub place : KeepsPlace w z
   pub steps : length z.pass.view.log ≤ length w.pass.view.log + nodes

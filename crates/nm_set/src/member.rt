@@ -5,6 +5,7 @@ ghost use Rattle.nm_edge.specs.Layouts.{IsLayout};
 ghost use Rattle.nm_steps.specs.Steps.{HasSeen, IsOf, IsOfRun};
 ghost use Rattle.nm_epoch.specs.Collecting.{NoneHas};
 ghost use Rattle.nm_tree.specs.Resigning.{HasResigned};
+ghost use Rattle.nm_tree.specs.Running.{HasSeenTurns};
 ghost use Rattle.nm_tree.specs.Workers.{Hand, IsLedger, waiting_in};
 ghost use Rattle.nm_tree.specs.declared.worker.Unfinished.{Unfinished as Delete};
 ghost use Rattle.nm_set.specs.Asked.{Asked, AskedToPin, AskedToUnpin, LeavesHas, LeavesInsert, LeavesDelete, LeavesFinish, LeavesAdvance, LeavesBehind, LeavesCollect};
@@ -61,10 +62,11 @@ impl Member {
         self.worker.number()
     }
 
-    /// What the worker has seen is a run of an ordered core of the set's sizes, its log is its part of that, and it has not resigned in it:
-    /// `Worker::is_of_a_run` of `nm_tree`. It does nothing.
+    /// What the worker has seen is a run of an ordered core of the set's sizes, its log is its part of that, it has not resigned in it, and the turns
+    /// that it has seen have the headline and a history: `Worker::is_of_a_run` of `nm_tree`. It does nothing.
     pub fn is_of_a_run(&self)
         ensures seen { HasSeen self.now.hand.pass.view }
+        ensures turns { HasSeenTurns self.now.hand.pass.view }
         ensures run { IsOfRun self.now.hand.pass.view.layout self.now.hand.pass.view.number self.now.hand.pass.view.log }
         ensures fits { IsLayout self.now.hand.pass.view.layout }
     {

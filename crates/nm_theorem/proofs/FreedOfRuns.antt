@@ -148,14 +148,14 @@ none_cut w (t ∷ ts) c past = ap (λ (l : List NodeId). l ++ cuts_of w (trace_i
 
 -- ---- a turn that frees
 
-record Freeing (turns : List Turn) (n : NodeId) : Type 0 where
-  first : List Turn
-  turn : Turn
-  rest : List Turn
-  all : turns ≡ first ++ turn ∷ rest
-  is : turn.outcome ≡ Ok (Freed n)
+pub record Freeing (turns : List Turn) (n : NodeId) : Type 0 where
+  pub first : List Turn
+  pub turn : Turn
+  pub rest : List Turn
+  pub all : turns ≡ first ++ turn ∷ rest
+  pub is : turn.outcome ≡ Ok (Freed n)
 
-freeing : (turns : List Turn) (n : NodeId) → Contains (frees turns) n → Freeing turns n
+pub freeing : (turns : List Turn) (n : NodeId) → Contains (frees turns) n → Freeing turns n
 freeing [] n there = absurd (let b = there.1 in omega (arith, b))
 freeing (t ∷ ts) n there = go (Contains-append_cases (nodes_freed t.outcome) (frees ts) n there) (λ later. freeing ts n later)
   where

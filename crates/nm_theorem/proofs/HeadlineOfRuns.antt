@@ -8,6 +8,7 @@ use Rattle.nm_model.specs.Ordered.{HasKey, opening_of, trace_in}
 use Rattle.nm_theorem.specs.Headline.{AreFreedInTurn, OnePlace, Headline}
 use Rattle.nm_theorem.specs.EachRun.{OfEachRun}
 use Rattle.nm_theorem.proofs.Runs.{Parts, parts_of}
+use Rattle.nm_theorem.proofs.ReadsOfRuns.{reads_tell}
 use Rattle.nm_theorem.proofs.GraceOfRuns.{grace_of_run}
 use Rattle.nm_theorem.proofs.FreedOfRuns.{freed_in_turn}
 use Rattle.nm_theorem.proofs.CutsOfRuns.{turns_cut_just_their_nodes}
@@ -23,6 +24,7 @@ module _ (L : Layout) (fits : IsLayout L) (b : Bool) (events : List (ℕ × Even
 
   pub headline : All (λ t. HasKey t.1) events → Headline L (trace_in (opening_of L b) events)
   headline keys = record {
+    reads = reads_tell L fits b events;
     cuts = turns_cut_just_their_nodes L fits b events keys;
     queues = each_part AreFreedInTurn (freed_in_turn L fits b);
     grace = grace_of_run L fits b events;

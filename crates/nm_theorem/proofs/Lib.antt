@@ -1,11 +1,13 @@
 pub mod Runs
 pub mod WrittenWords
+pub mod ReadsOfRuns
 pub mod GraceOfRuns
 pub mod FreedOfRuns
 pub mod CutsOfRuns
 pub mod Hands
 pub mod PlacesOfRuns
 pub mod HeadlineOfRuns
+pub mod LeftSince
 pub mod HistoriesOfRuns
 pub mod WorkedTurns
 pub mod StaysOfRuns

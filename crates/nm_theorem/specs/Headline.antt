@@ -1,6 +1,6 @@
 -- The theorem, on one page. It speaks of the words of the tree at each moment and of the turns that were made, and of nothing else: a turn is an event of
 -- a worker with its outcome, and the words at a moment are those of the empty tree, changed by the turns so far as their replies tell.
-use Rattle.std.specs.Prelude.{◌≡◌, ◌↔◌, ℕ, ◌≤◌, ◌==◌, Bool, true, false, not, ◌&&◌, ◌||◌, List, [], ◌∷◌, ◌++◌, map, filter, slice_get, slice_set, Contains, Some, None, option_map, Result, Ok, Err, if◌then◌else◌}
+use Rattle.std.specs.Prelude.{◌≡◌, ◌↔◌, ◌⊎◌, ℕ, ◌≤◌, ◌==◌, Bool, true, false, not, ◌&&◌, ◌||◌, List, [], ◌∷◌, ◌++◌, map, filter, slice_get, slice_set, Contains, Some, None, option_map, Result, Ok, Err, if◌then◌else◌}
 use Rattle.std.specs.List.{list_any}
 use Rattle.nm_edge.specs.Edges.{to, tagged, untagged, other}
 use Rattle.nm_edge.specs.Layouts.{Layout}
@@ -8,13 +8,13 @@ use Rattle.nm_edge.specs.declared.edge.Side.{Side}
 use Rattle.nm_edge.specs.declared.edge.Side.TheVariants.{Left, Right}
 use Rattle.nm_edge.specs.declared.node.NodeId.{NodeId}
 use Rattle.nm_model.specs.declared.event.Event.{Event}
-use Rattle.nm_model.specs.declared.event.Event.TheVariants.{Sight, SightFor, Announce, Leave, LeaveWith, Advance, Claim, Give, Look, Fill, Link, Flag, Tag, Splice}
+use Rattle.nm_model.specs.declared.event.Event.TheVariants.{Sight, SightFor, Announce, Leave, LeaveWith, Scan, Advance, Claim, Give, Look, Fill, Link, Flag, Tag, Splice}
 use Rattle.nm_model.specs.declared.event.Field.TheVariants.{Key, Edge as EdgeOn, Birth}
 use Rattle.nm_model.specs.declared.reply.Reply.{Reply}
-use Rattle.nm_model.specs.declared.reply.Reply.TheVariants.{Announced, Departed, Moved, Claimed, Returned, Freed, Filled, Linked, Flagged, Was, Cut, Pinned}
+use Rattle.nm_model.specs.declared.reply.Reply.TheVariants.{Announced, Departed, Idle, In, Moved, Claimed, Returned, Freed, KeyIs, BirthIs, EdgeIs, Filled, Linked, Flagged, Was, Cut, Pinned}
 use Rattle.nm_model.specs.declared.reply.Refused.{Refused}
 use Rattle.nm_model.specs.declared.trace.Turn.{Turn}
-use Rattle.nm_model.specs.Memory.{Memory, node, edge, child, named, in_pool, put_node, put_edge, opening}
+use Rattle.nm_model.specs.Memory.{Memory, node, edge, note, child, named, in_pool, put_node, put_edge, opening}
 use Rattle.nm_model.specs.Paths.{at, IsCut}
 
 -- ---- the words
@@ -52,6 +52,16 @@ words_from m (t ∷ ts) = words_from (after_turn m t) ts
 -- the words after these turns, from the empty tree on
 abbrev pub words_after : Layout → List Turn → Memory
 words_after L turns = words_from (opening L) turns
+
+-- ---- reads
+
+-- a reply to a look tells the word that stands, and one to a scan the announcement
+abbrev pub Tells : Memory → Event → Reply → Type 0
+Tells m (Look s Key) r = r ≡ KeyIs (node m s).key
+Tells m (Look s (EdgeOn side)) r = r ≡ EdgeIs (edge m s side)
+Tells m (Look s Birth) r = r ≡ BirthIs (node m s).birth
+Tells m (Scan u) r = (r ≡ Idle) × (note m u ≡ None) ⊎ (e : ℕ) × (r ≡ In e) × (note m u ≡ Some e)
+Tells m _ r = Unit {0}
 
 -- ---- cuts
 
@@ -218,6 +228,8 @@ NothingIsPulledAway L turns = (before between rest : List Turn) (t : Turn) (r : 
 -- ---- the theorem, of the turns of a run from the empty tree on
 
 pub record Headline (L : Layout) (turns : List Turn) : Type 0 where
+  -- what is read is what the turns have written
+  pub reads : (before rest : List Turn) (t : Turn) (r : Reply) → turns ≡ before ++ t ∷ rest → t.outcome ≡ Ok r → Tells (words_after L before) t.event r
   -- each turn cuts just the nodes that it says it cut
   pub cuts : (before rest : List Turn) (t : Turn) → turns ≡ before ++ t ∷ rest → CutsJust (words_after L before) t
   -- at each moment what was freed and then what waits of each worker's cuts are these cuts, in their order, and no node is cut twice

@@ -1,5 +1,5 @@
 //! The theorem, as a law.
-ghost use Rattle.nm_theorem.specs.EachRun.{LogsArePartsOfTurns, OfEachRun, OrderedRunsHaveHistories, WordsAreWritten};
+ghost use Rattle.nm_theorem.specs.EachRun.{LogsArePartsOfTurns, OfEachRun, OrderedRunsHaveHistories, ReadersOfFreedNodesHaveLeft, WordsAreWritten};
 ghost use Rattle.nm_theorem.specs.Headline.{Headline};
 
 /// Every run of a plain core or of an ordered one, whatever its workers do and in whatever order, ends with the words that its turns have written,
@@ -23,4 +23,10 @@ pub fn ordered_runs_have_histories()
 /// The log of a worker, at any moment at which it is its part of some run, is its part of turns that have the headline and a history.
 pub fn logs_are_parts_of_turns()
     ensures { LogsArePartsOfTurns }
+{}
+
+/// Of turns that have the headline: where a node that was freed was cut by one of them, each worker that was pinned at the cut has left since.
+/// So nobody who was pinned when a node left the tree is pinned still when it is used again. (Fraser, section 5.2.3.)
+pub fn readers_of_freed_nodes_have_left()
+    ensures { ReadersOfFreedNodesHaveLeft }
 {}

@@ -6,5 +6,6 @@ mod worked;
 
 pub use headline::{
     each_run_has_the_headline, logs_are_parts_of_turns, ordered_runs_have_histories,
+    readers_of_freed_nodes_have_left,
 };
 pub use worked::worked_turns;

@@ -1,5 +1,5 @@
 //! Pins of the caller, and moving the epoch on.
-ghost use Rattle.std.specs.Prelude.{ℕ, ◌≡◌, ◌≢◌, ◌+◌, ◌*◌, ◌≤◌, length, Some, None, IsSome, IfOk, vec_capacity};
+ghost use Rattle.std.specs.Prelude.{ℕ, ◌≡◌, ◌≢◌, ◌+◌, ◌*◌, ◌≤◌, length, Some, None, IsSome, IfOk, All, vec_capacity};
 ghost use Rattle.nm_model.specs.declared.event.Event.TheVariants.{Leave};
 ghost use Rattle.nm_model.specs.declared.reply.Reply.TheVariants.{Departed};
 ghost use Rattle.nm_order.specs.Reads.{HasRead};
@@ -8,8 +8,10 @@ ghost use Rattle.nm_epoch.specs.Resting.{Settles, epochs};
 ghost use Rattle.nm_steps.specs.Rules.{knowledge};
 ghost use Rattle.nm_epoch.specs.Scans.{IsAdvance};
 ghost use Rattle.nm_epoch.specs.Watches.{IsBehind};
+ghost use Rattle.nm_epoch.specs.declared.collecting.Entry.{Entry};
 ghost use Rattle.nm_epoch.specs.Collecting.{AreHeld, IsCollection, HaveLost, KeepsOthers, KeepsRetired, ripe_of};
 ghost use Rattle.nm_tree.specs.Answers.{HasPinned, KeepsPlace};
+ghost use Rattle.nm_tree.specs.Running.{IsFreedInGrace};
 ghost use Rattle.nm_tree.specs.Workers.{IsBetweenCalls, ArePaired, HaveNoted};
 
 use crate::fault::PinFault;
@@ -97,6 +99,7 @@ impl Tree {
 
     /// Reads the epoch, and frees what is ripe at the front of each queue that the worker holds, origin by origin: exactly the longest front of
     /// nodes whose labels are at least two below that epoch, which is not below any that this worker had read. Their slots may be claimed again.
+    /// Where one of them was cut, whoever was pinned then has left since, as far as the worker has now seen (`grace`: Fraser, section 5.2.3).
     /// It may be called at any time, and takes no memory.
     pub fn collect(&self, worker: &mut Worker) -> Collected
         requires own { IsOf self.now worker.old.pass }
@@ -105,6 +108,7 @@ impl Tree {
         ensures did { IsCollection result.epoch worker.old.queues worker.old.pass.view.log worker.new.pass.view.log }
         ensures freed { result.freed ≡ length (ripe_of result.epoch worker.old.queues) }
         ensures lost { HaveLost result.epoch worker.old.queues worker.new.queues }
+        ensures grace { All (λ (e : Entry). IsFreedInGrace worker.new.pass.view e.node) (ripe_of result.epoch worker.old.queues) }
         ensures newest { (epoch : ℕ) → HasRead worker.old.pass.view.log epoch → epoch ≤ result.epoch }
         ensures place { KeepsPlace worker.old worker.new }
         ensures steps { length worker.new.pass.view.log ≤ length worker.old.pass.view.log + self.now.layout.nodes }
@@ -117,6 +121,7 @@ impl Tree {
             &mut worker.placement,
             &mut worker.queues,
         );
+        worker.pass.is_of_a_run();
         note_all(&mut worker.accounts, worker.queues.as_slice());
         collected
     }

@@ -4,6 +4,7 @@ ghost use Rattle.nm_edge.specs.Layouts.{IsLayout};
 ghost use Rattle.nm_steps.specs.Steps.{HasSeen, IsOfRun};
 ghost use Rattle.nm_calls.specs.Moments.{HasFlaggedIt};
 ghost use Rattle.nm_epoch.specs.Collecting.{NoneHas};
+ghost use Rattle.nm_tree.specs.Running.{HasSeenTurns};
 ghost use Rattle.nm_tree.specs.Workers.{waiting_in, blocks_in, account_in, counts_in, IsLedger, HasOrigin};
 ghost use Rattle.nm_tree.specs.declared.worker.Unfinished.{Unfinished as Delete};
 
@@ -156,9 +157,11 @@ impl Worker {
     }
 
     /// What the worker has seen is a run of an ordered core of the tree's sizes, its log is its part of that, and it has not resigned in it. So
-    /// each law of runs holds of what it has seen, and each law of such parts of its log. It does nothing.
+    /// each law of runs holds of what it has seen, and each law of such parts of its log; and the turns that it has seen have the headline and a
+    /// history. It does nothing.
     pub fn is_of_a_run(&self)
         ensures seen { HasSeen self.now.pass.view }
+        ensures turns { HasSeenTurns self.now.pass.view }
         ensures run { IsOfRun self.now.pass.view.layout self.now.pass.view.number self.now.pass.view.log }
         ensures fits { IsLayout self.now.pass.view.layout }
     {

@@ -1,5 +1,10 @@
+use Rattle.nm_tree.proofs.RunningTurns.{collected_in_grace}
 use Rattle.std.proofs.Common.{ℕ, ◌≤◌, subst}
+use Rattle.std.specs.Prelude.{All}
 use Rattle.nm_order.specs.Reads.{HasRead}
+use Rattle.nm_epoch.specs.declared.collecting.Entry.{Entry}
+use Rattle.nm_epoch.specs.Collecting.{ripe_of}
+use Rattle.nm_tree.specs.Running.{IsFreedInGrace}
 use Rattle.nm_tree.specs.Workers.{Hand}
 use Rattle.nm_tree.proofs.Quiet.{collected as collected_quietly}
 use Rattle.nm_tree.proofs.Staying.{stands_still, labelled}
@@ -22,3 +27,7 @@ returns-clause-between c = (invariant_of-worker c).between
 
 pub returns-clause-newest : goal.returns-clause-newest
 returns-clause-newest c = subst (λ (w : Hand). (epoch : ℕ) → HasRead w.pass.view.log epoch → epoch ≤ c.collect_all-collected.result.epoch) c.worker.view_is c.collect_all-collected.ensures.newest
+
+pub returns-clause-grace : goal.returns-clause-grace
+returns-clause-grace c = subst (λ (w : Hand). All (λ (e : Entry). IsFreedInGrace c.collect_all-collected.new.pass.view e.node) (ripe_of c.collect_all-collected.result.epoch w.queues)) c.worker.view_is
+    (collected_in_grace c.collect_all-collected.new.pass.view c.worker.inside.pass.view.log c.collect_all-collected.result.epoch c.worker.inside.queues.items c.is_of_a_run.ensures.fits c.is_of_a_run.ensures.seen c.collect_all-collected.ensures.part)

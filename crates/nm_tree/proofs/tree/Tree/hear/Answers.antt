@@ -1,7 +1,7 @@
 use Rattle.std.proofs.Common.{sym, subst}
 use Rattle.nm_steps.specs.Steps.{Stand}
 use Rattle.std.specs.Prelude.{vec_capacity}
-use Rattle.nm_tree.specs.Workers.{Hand, IsWorker, pending_in, held_in}
+use Rattle.nm_tree.specs.Workers.{IsWorker, pending_in, held_in}
 use Rattle.nm_tree.proofs.Staying.{sees_more}
 use Rattle.nm_tree.proofs.tree.Tree.hear.Goals as goal
 
