@@ -143,8 +143,8 @@ absent_adds nodes k tries c old new h =
 
 refused_adds : (nodes k tries : ℕ) (c : List ChainEdge) (old new : List Entry) → IsInjection nodes k tries c old new injection.Refused → AddsFlags 0 (tries * most nodes) old new
 refused_adds nodes k tries c old new h =
-    let lost = lost_flags_add nodes k h.0 old new h.2 in
-    let all = mul_below h.0 tries (most nodes) h.1 in
+    let lost = lost_flags_add nodes k h.0 old new h.3 in
+    let all = mul_below h.0 tries (most nodes) h.2 in
     (lost.0, adds_in _ old new (omega (arith, all)) lost.1)
 
 pub delete_adds : (nodes tries k : ℕ) (old new : List Entry) (r : Result Bool Missed) → DeleteFinishes nodes tries k old new r → AddsFlags (flags_of_delete r) (tries * most nodes + 1) old new

@@ -156,10 +156,10 @@ finishes_add fit nodes tries k old new (Err fault.Busy) h =
     let few = paid_most nodes h.0 part.0 (tries * most nodes) part.1 in
     (part.2.0 + 0, adds_in _ old new (omega (arith, few)) (adds_then old h.1 new part.2.1 (adds_then h.1 h.2 new (back_adds h.0 h.1 h.2 h.4) (adds_these _ h.2 new h.5))))
 finishes_add fit nodes tries k old new (Err fault.NoMemory) h =
-    let part = lost_inserts_add fit nodes k h.0 h.1 old h.2 h.5 in
+    let part = lost_inserts_add fit nodes k h.0 h.1 old h.2 h.6 in
     let few = paid_most nodes h.1 part.0 (h.0 * most nodes) part.1 in
-    let most_of = mul_below h.0 tries (most nodes) h.4 in
-    (part.2.0 + 0, adds_in _ old new (omega (arith, few, most_of)) (adds_then old h.2 new part.2.1 (adds_then h.2 h.3 new (back_adds h.1 h.2 h.3 h.6) (adds_these _ h.3 new h.7))))
+    let most_of = mul_below h.0 tries (most nodes) h.5 in
+    (part.2.0 + 0, adds_in _ old new (omega (arith, few, most_of)) (adds_then old h.2 new part.2.1 (adds_then h.2 h.3 new (back_adds h.1 h.2 h.3 h.7) (adds_these _ h.3 new h.8))))
 
 pub insert_did : (fit : Fit) (nodes tries k : ℕ) (old new : List Entry) (r : Result Bool Fault) → PinsThen fit nodes tries k old new r → InsertDid fit nodes tries k old new r
 insert_did fit nodes tries k old new (Ok b) h = h

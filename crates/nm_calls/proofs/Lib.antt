@@ -19,3 +19,4 @@ pub mod AddingDeletes
 pub mod KeptLedgers
 pub mod FreshWorkers
 pub mod Waiting
+pub mod Rooms

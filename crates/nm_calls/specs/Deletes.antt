@@ -138,11 +138,11 @@ abbrev pub LostFlags : ℕ → ℕ → ℕ → List Entry → List Entry → Typ
 LostFlags nodes k zero old new = new ≡ old
 LostFlags nodes k (suc t) old new = (c : List ChainEdge) × (mid : List Entry) × LostFlags nodes k t old mid × IsFlagTry nodes k c mid new injected.Lost
 
--- up to so many tries, by what they came to; with a flag that was won, how many are left
+-- up to so many tries, by what they came to: with a flag that was won, how many are left; refused, the room of a later try than the first
 abbrev pub IsInjection : ℕ → ℕ → ℕ → List ChainEdge → List Entry → List Entry → Injection → Type 0
 IsInjection nodes k tries c old new injection.Absent = (t : ℕ) × (mid : List Entry) × (t < tries) × LostFlags nodes k t old mid × IsFlagTry nodes k c mid new injected.Absent
 IsInjection nodes k tries c old new (injection.Flagged r b left) = (t : ℕ) × (mid : List Entry) × (t + (left + 1) ≡ tries) × LostFlags nodes k t old mid × IsFlagTry nodes k c mid new (injected.Flagged r b)
-IsInjection nodes k tries c old new injection.Refused = (t : ℕ) × (t < tries) × LostFlags nodes k t old new
+IsInjection nodes k tries c old new injection.Refused = (t : ℕ) × (0 < t) × (t < tries) × LostFlags nodes k t old new
 IsInjection nodes k tries c old new injection.Spent = LostFlags nodes k tries old new
 
 abbrev pub ShowsInjection : ℕ → List ChainEdge → Stand → Injection → Type 0

@@ -177,20 +177,20 @@ LostInserts fit nodes k (suc n) g old new = (f : Option Fork) × (mid : List Ent
 abbrev pub EndsBy : Fit → ℕ → ℕ → ℕ → Option Fork → Attempt → List Entry → List Entry → Type 0
 EndsBy fit nodes tries k g a old new = (n : ℕ) × (f : Option Fork) × (mid : List Entry) × (n < tries) × LostInserts fit nodes k n f old mid × IsTry fit nodes k f g mid new a
 
--- from the pin on, by the answer
+-- from the pin on, by the answer. NoMemory: the room of a later try than the first was refused, since that of the first one was made before the pin
 abbrev pub Finishes : Fit → ℕ → ℕ → ℕ → List Entry → List Entry → Result Bool Fault → Type 0
 Finishes fit nodes tries k old new (Ok true) = (mid : List Entry) × EndsBy fit nodes tries k None attempt.Linked old mid × (new ≡ mid ++ (LeaveWith true, Departed) ∷ [])
 Finishes fit nodes tries k old new (Ok false) = (f : Option Fork) × (mid back : List Entry) × EndsBy fit nodes tries k f attempt.Found old mid × Returns f mid back × (new ≡ back ++ (LeaveWith false, Departed) ∷ [])
 Finishes fit nodes tries k old new (Err fault.Full) = (mid : List Entry) × EndsBy fit nodes tries k None attempt.Full old mid × (new ≡ mid ++ (Leave, Departed) ∷ [])
 Finishes fit nodes tries k old new (Err fault.Busy) = (f : Option Fork) × (mid back : List Entry) × LostInserts fit nodes k tries f old mid × Returns f mid back × (new ≡ back ++ (Leave, Departed) ∷ [])
 Finishes fit nodes tries k old new (Err fault.NoMemory) =
-    (n : ℕ) × (f : Option Fork) × (mid back : List Entry) × (n < tries) × LostInserts fit nodes k n f old mid × Returns f mid back × (new ≡ back ++ (Leave, Departed) ∷ [])
+    (n : ℕ) × (f : Option Fork) × (mid back : List Entry) × (0 < n) × (n < tries) × LostInserts fit nodes k n f old mid × Returns f mid back × (new ≡ back ++ (Leave, Departed) ∷ [])
 
 abbrev pub PinsThen : Fit → ℕ → ℕ → ℕ → List Entry → List Entry → Result Bool Fault → Type 0
 PinsThen fit nodes tries k old new r = (pinned : List Entry) × (epoch : ℕ) × IsPinned (SightFor Insert k) tries old pinned epoch × Finishes fit nodes tries k pinned new r
 
--- Busy: there may be no try, and there was no step; or each try of the pin was lost; or each try was. NoMemory: room was refused before the first step,
--- or before a later try
+-- Busy: there may be no try, and there was no step; or each try of the pin was lost; or each try was. NoMemory: the room of the first try was refused, and
+-- there was no step, or that of a later one
 abbrev pub InsertDid : Fit → ℕ → ℕ → ℕ → List Entry → List Entry → Result Bool Fault → Type 0
 InsertDid fit nodes tries k old new (Err fault.Busy) =
     ((tries ≡ 0) × (new ≡ old)) ⊎ ((tries ≢ 0) × IsMoved (SightFor Insert k) tries old new) ⊎ PinsThen fit nodes tries k old new (Err fault.Busy)

@@ -1,4 +1,5 @@
 pub mod Bounds
+pub mod Rooms
 pub mod Marking
 pub mod Making
 pub mod Telling

@@ -4,6 +4,7 @@ ghost use Rattle.nm_steps.specs.Rules.{knowledge};
 ghost use Rattle.nm_steps.specs.Steps.{IsOf, IsSamePass, HasSeenAllOf};
 ghost use Rattle.nm_epoch.specs.Collecting.{IsQueueOf, labelled_so};
 ghost use Rattle.nm_calls.specs.Bounds.{chain_bound, cut_bound};
+ghost use Rattle.nm_calls.specs.Rooms.{FillsUp};
 ghost use Rattle.nm_calls.specs.Telling.{Tells, GoesOn, IsInRun, IsPinnedSomewhere};
 ghost use Rattle.nm_calls.specs.Walks.{IsAt};
 ghost use Rattle.nm_calls.specs.Marking.{OnlyCuts};
@@ -109,7 +110,7 @@ pub fn cleanup(
     ensures lost { result ≡ false → HasCutNothing spot.now chain.now pass.old pass.new }
     ensures untouched { result ≡ false → queue.new ≡ queue.old }
     ensures queue { IsQueueOf (knowledge pass.new.view) pass.new.view.number queue.new.items }
-    ensures blocks { queue.new.blocks ≡ queue.old.blocks }
+    ensures fills { FillsUp queue.old queue.new }
     ensures on { GoesOn pass.old pass.new }
     ensures only { OnlyCleans pass.old pass.new }
     ensures steps { length pass.new.view.log ≤ length pass.old.view.log + 3 * length chain.now + 8 }

@@ -8,6 +8,7 @@ ghost use Rattle.nm_steps.specs.Steps.{Stand, IsOf, IsSamePass, HasSeenAllOf};
 ghost use Rattle.nm_epoch.specs.Collecting.{IsQueueOf};
 ghost use Rattle.nm_epoch.specs.Resting.{IsResting, epochs, search};
 ghost use Rattle.nm_calls.specs.Bounds.{chain_bound, cut_bound};
+ghost use Rattle.nm_calls.specs.Rooms.{FillsUp, TakesRoom};
 ghost use Rattle.nm_calls.specs.Telling.{Tells, GoesOn, IsInRun, IsPinnedSomewhere};
 ghost use Rattle.nm_calls.specs.Walks.{IsAt};
 ghost use Rattle.nm_calls.specs.Leaving.{ShowsAnswer};
@@ -108,6 +109,7 @@ fn try_remove(
     ensures on { GoesOn pass.old pass.new }
     ensures only { OnlyCleans pass.old pass.new }
     ensures queue { IsQueueOf (knowledge pass.new.view) pass.new.view.number queue.new.items }
+    ensures fills { FillsUp queue.old queue.new }
     ensures counted { splices.new ≡ capped (won_splices pass.new.view.log) }
 {
     let Some(end) = seek(shared, pass, key, chain) else {
@@ -143,6 +145,7 @@ fn remove(
     ensures on { GoesOn pass.old pass.new }
     ensures only { OnlyCleans pass.old pass.new }
     ensures queue { IsQueueOf (knowledge pass.new.view) pass.new.view.number queue.new.items }
+    ensures blocks { TakesRoom queue.old queue.new }
     ensures counted { splices.new ≡ capped (won_splices pass.new.view.log) }
 {
     for _round in 0..tries {
@@ -205,6 +208,7 @@ fn try_flag(
     ensures on { GoesOn pass.old pass.new }
     ensures only { OnlyInjects pass.old pass.new }
     ensures queue { IsQueueOf (knowledge pass.new.view) pass.new.view.number queue.new.items }
+    ensures fills { FillsUp queue.old queue.new }
     ensures counted { splices.new ≡ capped (won_splices pass.new.view.log) }
 {
     let Some(end) = seek(shared, pass, key, chain) else {
@@ -222,7 +226,7 @@ fn try_flag(
     }
 }
 
-/// Up to so many tries to flag the leaf with the key.
+/// Up to so many tries to flag the leaf with the key. There is room for the first one.
 fn inject(
     shared: &Shared,
     pass: &mut Pass,
@@ -240,6 +244,7 @@ fn inject(
     requires call { Tells pass.old (CallIs Delete key) }
     requires low { key < infinity_0 }
     requires unflagged { (search pass.old).flagged ≡ None }
+    requires room { cut_bound ≤ queue.old.spare }
     requires queue { IsQueueOf (knowledge pass.old.view) pass.old.view.number queue.old.items }
     requires counted { splices.old ≡ capped (won_splices pass.old.view.log) }
     ensures same { IsSamePass pass.old pass.new }
@@ -250,6 +255,7 @@ fn inject(
     ensures on { GoesOn pass.old pass.new }
     ensures only { OnlyInjects pass.old pass.new }
     ensures queue { IsQueueOf (knowledge pass.new.view) pass.new.view.number queue.new.items }
+    ensures blocks { TakesRoom queue.old queue.new }
     ensures counted { splices.new ≡ capped (won_splices pass.new.view.log) }
 {
     for round in 0..tries {
@@ -295,6 +301,7 @@ fn remove_after(
     ensures on { GoesOn pass.old pass.new }
     ensures only { OnlyCleans pass.old pass.new }
     ensures queue { IsQueueOf (knowledge pass.new.view) pass.new.view.number queue.new.items }
+    ensures blocks { TakesRoom queue.old queue.new }
     ensures counted { splices.new ≡ capped (won_splices pass.new.view.log) }
 {
     if left == 0 {
@@ -320,7 +327,7 @@ fn leaf_at(end: &End, birth: u64) -> NodeId
     }
 }
 
-/// The tries of a delete, from its pin to its answer.
+/// The tries of a delete, from its pin to its answer. The room of the first one was made before the pin.
 fn delete_pinned(
     shared: &Shared,
     pass: &mut Pass,
@@ -339,6 +346,7 @@ fn delete_pinned(
     requires labelled { (epochs pass.old).unlabelled ≡ false }
     requires unlinked { (search pass.old).linked ≡ false }
     requires unflagged { (search pass.old).flagged ≡ None }
+    requires room { cut_bound ≤ queue.old.spare }
     requires queue { IsQueueOf (knowledge pass.old.view) pass.old.view.number queue.old.items }
     requires counted { splices.old ≡ capped (won_splices pass.old.view.log) }
     ensures same { IsSamePass pass.old pass.new }
@@ -350,6 +358,7 @@ fn delete_pinned(
     ensures after { AfterDelete key pass.new result }
     ensures private { (knowledge pass.new.view).drafts ≡ (knowledge pass.old.view).drafts }
     ensures queue { IsQueueOf (knowledge pass.new.view) pass.new.view.number queue.new.items }
+    ensures blocks { TakesRoom queue.old queue.new }
     ensures ledgers { KeepsLedgers pass.old pass.new }
     ensures counted { splices.new ≡ capped (won_splices pass.new.view.log) }
 {
@@ -413,6 +422,7 @@ pub fn delete(
     ensures after { AfterDelete key pass.new result }
     ensures private { (knowledge pass.new.view).drafts ≡ (knowledge pass.old.view).drafts }
     ensures queue { IsQueueOf (knowledge pass.new.view) pass.new.view.number queue.new.items }
+    ensures blocks { TakesRoom queue.old queue.new }
     ensures few { length queue.new.items ≤ shared.now.layout.nodes }
     ensures ledgers { KeepsLedgers pass.old pass.new }
     ensures counted { splices.new ≡ capped (won_splices pass.new.view.log) }
@@ -460,6 +470,7 @@ pub fn finish(
     ensures private { (knowledge pass.new.view).drafts ≡ (knowledge pass.old.view).drafts }
     ensures ledgers { KeepsLedgers pass.old pass.new }
     ensures queue { IsQueueOf (knowledge pass.new.view) pass.new.view.number queue.new.items }
+    ensures blocks { TakesRoom queue.old queue.new }
     ensures few { length queue.new.items ≤ shared.now.layout.nodes }
     ensures counted { splices.new ≡ capped (won_splices pass.new.view.log) }
 {

@@ -7,6 +7,7 @@ ghost use Rattle.nm_steps.specs.Steps.{Stand, IsOf, IsSamePass, HasSeenAllOf};
 ghost use Rattle.nm_epoch.specs.Collecting.{IsQueueOf};
 ghost use Rattle.nm_epoch.specs.Resting.{IsResting, epochs, search};
 ghost use Rattle.nm_calls.specs.Bounds.{chain_bound, cut_bound};
+ghost use Rattle.nm_calls.specs.Rooms.{FillsUp, TakesRoom};
 ghost use Rattle.nm_calls.specs.Telling.{Tells, GoesOn, IsInRun, IsPinnedSomewhere};
 ghost use Rattle.nm_calls.specs.Walks.{IsAt};
 ghost use Rattle.nm_calls.specs.Making.{OnlyMakes};
@@ -107,7 +108,7 @@ pub(crate) fn help(
     ensures on { GoesOn pass.old pass.new }
     ensures only { OnlyCleans pass.old pass.new }
     ensures queue { IsQueueOf (knowledge pass.new.view) pass.new.view.number queue.new.items }
-    ensures blocks { queue.new.blocks ≡ queue.old.blocks }
+    ensures fills { FillsUp queue.old queue.new }
     ensures counted { splices.new ≡ capped (won_splices pass.new.view.log) }
 {
     if asks_help(end, found) {
@@ -145,7 +146,7 @@ fn try_insert(
     ensures shows { ShowsTry key pass.old pass.new result }
     ensures has { (o : Stand) → HasFork o pass.old fork.old → HasFork o pass.new fork.new }
     ensures queue { IsQueueOf (knowledge pass.new.view) pass.new.view.number queue.new.items }
-    ensures blocks { queue.new.blocks ≡ queue.old.blocks }
+    ensures fills { FillsUp queue.old queue.new }
     ensures counted { splices.new ≡ capped (won_splices pass.new.view.log) }
     ensures fit { placement.new ≡ placement.old }
 {
@@ -170,17 +171,19 @@ fn try_insert(
     }
 }
 
-/// Makes room for what a cleanup cuts off. False: there was no memory.
+/// Makes room for what a cleanup cuts off, in the fewest blocks. False: there was no memory, and there is not as much room.
 pub(crate) fn make_room(queue: &mut BlockQueue<Entry>) -> bool
     requires few { length queue.old.items ≤ 2097152 }
     ensures items { queue.new.items ≡ queue.old.items }
     ensures room { result ≡ true → cut_bound ≤ queue.new.spare }
     ensures refused { result ≡ false → queue.new.spare < cut_bound }
+    ensures more { queue.old.spare ≤ queue.new.spare }
+    ensures blocks { TakesRoom queue.old queue.new }
 {
     queue.reserve(CUT_BOUND as u32).is_ok()
 }
 
-/// The tries of an insert, from its pin to its answer.
+/// The tries of an insert, from its pin to its answer. The room of the first one was made before the pin.
 fn insert_pinned(
     shared: &Shared,
     pass: &mut Pass,
@@ -199,6 +202,7 @@ fn insert_pinned(
     requires labelled { (epochs pass.old).unlabelled ≡ false }
     requires unlinked { (search pass.old).linked ≡ false }
     requires unflagged { (search pass.old).flagged ≡ None }
+    requires room { cut_bound ≤ queue.old.spare }
     requires queue { IsQueueOf (knowledge pass.old.view) pass.old.view.number queue.old.items }
     requires counted { splices.old ≡ capped (won_splices pass.old.view.log) }
     ensures same { IsSamePass pass.old pass.new }
@@ -210,6 +214,7 @@ fn insert_pinned(
     ensures rests { IsResting pass.new }
     ensures private { HasFork pass.old pass.new None }
     ensures queue { IsQueueOf (knowledge pass.new.view) pass.new.view.number queue.new.items }
+    ensures blocks { TakesRoom queue.old queue.new }
     ensures ledgers { KeepsLedgers pass.old pass.new }
     ensures counted { splices.new ≡ capped (won_splices pass.new.view.log) }
     ensures fit { placement.new ≡ placement.old }
@@ -279,6 +284,7 @@ pub fn insert(
     ensures private { HasFork pass.old pass.new None }
     ensures queue { IsQueueOf (knowledge pass.new.view) pass.new.view.number queue.new.items }
     ensures few { length queue.new.items ≤ shared.now.layout.nodes }
+    ensures blocks { TakesRoom queue.old queue.new }
     ensures ledgers { KeepsLedgers pass.old pass.new }
     ensures counted { splices.new ≡ capped (won_splices pass.new.view.log) }
     ensures fit { placement.new ≡ placement.old }

@@ -116,11 +116,11 @@ collecting_on epoch origin start p q all (x ∷ es) later y n c ripe step is apa
     subst (λ (l : List Entry). IsCollecting epoch origin start all q l) (ap (λ (l : List Entry). drop 1 l) is)
     (collecting_more epoch origin start p q all es x c r.0 (subst (λ reply. Stepped p q (Give x.node.slot) reply) (freed_reply p origin x es c.queue c.apart) here) apart)
 
--- what is popped is the front
+-- what is popped is the front, and its block stays
 pub popped_front : (epoch : ℕ) (before after : BlockQueue Entry) (o : Option Entry) (n : NodeId) → MatchOption o ((before.items ≡ []) × (after ≡ before)) (IsPopped before after) → ripe_front epoch before.items ≡ Some n
-    → (y : Entry) × (before.items ≡ y ∷ after.items)
+    → (y : Entry) × (before.items ≡ y ∷ after.items) × (after.blocks ≡ before.blocks)
 popped_front epoch before after None n is ripe = absurd (none-some n (sym (ap (ripe_front epoch) is.0) ∙ ripe))
-popped_front epoch before after (Some y) n is ripe = (y, is.0)
+popped_front epoch before after (Some y) n is ripe = (y, is.0, is.1)
 
 -- what was settled stays so, where epochs and search stay
 pub settled_on : (o p q : Stand) → Settles o p → epochs q ≡ epochs p → search q ≡ search p → (knowledge q.view).known ≡ (knowledge p.view).known → Settles o q

@@ -75,6 +75,10 @@ HaveLost epoch [] [] = Unit {0}
 HaveLost epoch (h ∷ hs) (g ∷ gs) = (g.origin ≡ h.origin) × (g.queue.items ≡ rest_of epoch h.queue.items) × HaveLost epoch hs gs
 HaveLost epoch _ _ = ⊥
 
+-- how many blocks each queue has
+abbrev pub blocks_of : List HeldQueue → List ℕ
+blocks_of hs = map (λ (h : HeldQueue). h.queue.blocks) hs
+
 -- the ledgers that a sight of this epoch leaves: where a cut waited for its label, it has this one
 abbrev pub ledgers_seen : ℕ → Knowledge → List (Option Ledger)
 ledgers_seen epoch k = if k.brief.unlabelled then label epoch k.ledgers else k.ledgers

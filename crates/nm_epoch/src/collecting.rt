@@ -8,7 +8,7 @@ ghost use Rattle.nm_steps.specs.Rules.{knowledge};
 ghost use Rattle.nm_steps.specs.Steps.{IsInRun, IsOf, MayStep, Stepped, give_reply, HasSeenAllOf};
 ghost use Rattle.nm_epoch.specs.Resting.{Settles, epochs, search};
 ghost use Rattle.nm_steps.specs.Steps.{IsSamePass};
-ghost use Rattle.nm_epoch.specs.Collecting.{IsQueueOf, AreHeld, KeepsRetired, NoneHas, HaveLost, KeepsOthers, ripe_front, ripe_part, ripe_of, rest_of, freeing, IsCollection};
+ghost use Rattle.nm_epoch.specs.Collecting.{IsQueueOf, AreHeld, KeepsRetired, NoneHas, HaveLost, KeepsOthers, ripe_front, ripe_part, ripe_of, rest_of, blocks_of, freeing, IsCollection};
 
 use crate::looking::read;
 use nm_edge::{MOST_WORKERS, NodeId};
@@ -86,6 +86,7 @@ fn collect_front(
     ensures entries { pass.new.view.log ≡ pass.old.view.log ++ map freeing (ripe_part epoch queue.old.queue.items) }
     ensures freed { result ≡ length (ripe_part epoch queue.old.queue.items) }
     ensures left { queue.new.queue.items ≡ rest_of epoch queue.old.queue.items }
+    ensures blocks { queue.new.queue.blocks ≡ queue.old.queue.blocks }
     ensures origin { queue.new.origin ≡ queue.old.origin }
     ensures queue { IsQueueOf (knowledge pass.new.view) queue.new.origin queue.new.queue.items }
     ensures apart { AreApart pass.new.view.layout (knowledge pass.new.view) }
@@ -127,6 +128,7 @@ fn collect_fronts(
     ensures freed { result ≡ length (ripe_of epoch queues.old) }
     ensures most { result ≤ 4294967295 * length queues.old }
     ensures lost { HaveLost epoch queues.old queues.new }
+    ensures blocks { blocks_of queues.new ≡ blocks_of queues.old }
     ensures queues { AreHeld (knowledge pass.new.view) queues.new }
     ensures apart { AreApart pass.new.view.layout (knowledge pass.new.view) }
     ensures others { (o : ℕ) → NoneHas o queues.old → held (knowledge pass.new.view).ledgers o ≡ held (knowledge pass.old.view).ledgers o }
@@ -160,7 +162,7 @@ pub struct Collected {
 /// The queues are those of ledgers that the worker holds, each of another origin, with all that waits in them. They are gone through as
 /// they stand: by ascending origin where they stand so. The epoch is not below any that the worker had read. Where a cut waits for its
 /// label, the first step labels it. The ledgers that the worker holds of other origins stay as they are, but for that label.
-/// The placement, which stays of its fit, remembers the last slots that were freed.
+/// The placement, which stays of its fit, remembers the last slots that were freed. It takes no memory: each queue has as many blocks as before.
 ///
 /// Two epochs after the label no worker is pinned that could still come to the node (Fraser, Practical lock-freedom, 2004,
 /// chapter 5).
@@ -178,6 +180,7 @@ pub fn collect(
     ensures part { IsCollection result.epoch queues.old pass.old.view.log pass.new.view.log }
     ensures freed { result.freed ≡ length (ripe_of result.epoch queues.old) }
     ensures lost { HaveLost result.epoch queues.old queues.new }
+    ensures blocks { blocks_of queues.new ≡ blocks_of queues.old }
     ensures queues { AreHeld (knowledge pass.new.view) queues.new }
     ensures others { KeepsOthers result.epoch queues.old (knowledge pass.old.view) (knowledge pass.new.view) }
     ensures retired { KeepsRetired (knowledge pass.old.view) (knowledge pass.new.view) }

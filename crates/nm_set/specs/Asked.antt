@@ -9,7 +9,7 @@ use Rattle.nm_epoch.specs.declared.answers.Advance.{Advance}
 use Rattle.nm_epoch.specs.declared.answers.Behind.{Behind}
 use Rattle.nm_epoch.specs.declared.collecting.Collected.{Collected}
 use Rattle.nm_epoch.specs.declared.collecting.Entry.{Entry as Waiting}
-use Rattle.nm_epoch.specs.Collecting.{IsCollection, HaveLost, ripe_of}
+use Rattle.nm_epoch.specs.Collecting.{IsCollection, HaveLost, blocks_of, ripe_of}
 use Rattle.nm_epoch.specs.Resting.{epochs}
 use Rattle.nm_epoch.specs.Scans.{IsAdvance}
 use Rattle.nm_epoch.specs.Watches.{IsBehind}
@@ -20,7 +20,7 @@ use Rattle.nm_tree.specs.declared.fault.Fault.{Fault as Lost}
 use Rattle.nm_tree.specs.declared.fault.PinFault.{PinFault as Unpinned}
 use Rattle.nm_tree.specs.Answers.{HasAnswered, HasInserted, HasDeleted, HasFinished, FinishHasMoment, InsertLacks, DeleteLacks, FinishLacks, HasPinned, KeepsPlace, links_won, flags_won}
 use Rattle.nm_tree.specs.Running.{IsFreedInGrace}
-use Rattle.nm_tree.specs.Workers.{Hand, IsBetweenCalls, KeepsOthers}
+use Rattle.nm_tree.specs.Workers.{Hand, IsBetweenCalls, KeepsOthers, TakeRoom}
 use Rattle.nm_set.specs.declared.fault.Fault.{Fault}
 use Rattle.nm_set.specs.declared.fault.Fault.TheVariants as fault
 use Rattle.nm_set.specs.declared.fault.PinFault.{PinFault}
@@ -54,6 +54,7 @@ pub record LeavesInsert (nodes tries k : ℕ) (w z : Hand) (r : Result Bool Lost
   pub won : HasWon w.pass.view.log z.pass.view.log (links_won r) 0
   pub steps : HasBound nodes tries w z
   pub queues : KeepsOthers w.pass.view.number w.queues z.queues
+  pub blocks : TakeRoom w.queues z.queues
   pub held : z.held ≡ None
   pub fit : z.fit ≡ w.fit
   pub between : IsBetweenCalls z
@@ -67,6 +68,7 @@ pub record LeavesDelete (nodes tries k : ℕ) (w z : Hand) (r : Result Bool Lost
   pub won : HasWon w.pass.view.log z.pass.view.log 0 (flags_won r)
   pub steps : HasBound nodes tries w z
   pub queues : KeepsOthers w.pass.view.number w.queues z.queues
+  pub blocks : TakeRoom w.queues z.queues
   pub held : z.held ≡ None
   pub fit : z.fit ≡ w.fit
   pub between : IsBetweenCalls z
@@ -80,6 +82,7 @@ pub record LeavesFinish (nodes tries : ℕ) (w z : Hand) (r : Result Bool Lost) 
   pub won : HasWon w.pass.view.log z.pass.view.log 0 0
   pub steps : HasBound nodes tries w z
   pub queues : KeepsOthers w.pass.view.number w.queues z.queues
+  pub blocks : TakeRoom w.queues z.queues
   pub held : z.held ≡ w.held
   pub fit : z.fit ≡ w.fit
   pub between : IsBetweenCalls z
@@ -129,6 +132,7 @@ pub record LeavesCollect (nodes : ℕ) (w z : Hand) (c : Collected) : Type 0 whe
   pub freed : c.freed ≡ length (ripe_of c.epoch w.queues)
   pub lost : HaveLost c.epoch w.queues z.queues
   pub grace : All (λ (e : Waiting). IsFreedInGrace z.pass.view e.node) (ripe_of c.epoch w.queues)
+  pub blocks : blocks_of z.queues ≡ blocks_of w.queues
   pub newest : (epoch : ℕ) → HasRead w.pass.view.log epoch → epoch ≤ c.epoch
   pub place : KeepsPlace w z
   pub steps : length z.pass.view.log ≤ length w.pass.view.log + nodes

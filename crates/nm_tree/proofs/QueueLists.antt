@@ -8,7 +8,9 @@ use Rattle.nm_epoch.specs.declared.collecting.Entry.{Entry}
 use Rattle.nm_epoch.specs.declared.collecting.HeldQueue.{HeldQueue}
 use Rattle.nm_epoch.specs.Collecting.{IsQueueOf, AreHeld, NoneHas}
 use Rattle.nm_calls.specs.Bounds.{cut_bound}
-use Rattle.nm_tree.specs.Workers.{HasLittleRoom, HasOrigin, AreAbove, Ascend, StandsAt, KeepsOthers}
+use Rattle.nm_calls.specs.Rooms.{TakesRoom}
+use Rattle.nm_calls.proofs.Rooms.{takes_none}
+use Rattle.nm_tree.specs.Workers.{TakeRoom, HasLittleRoom, HasOrigin, AreAbove, Ascend, StandsAt, KeepsOthers}
 
 -- an index at which a queue stands is one of the list, and the queue there is that one
 pub stands_within : (i o : ℕ) (hs : List HeldQueue) → StandsAt i o hs → i < length hs
@@ -111,3 +113,13 @@ pub lacks_after : (home n o : ℕ) (hs : List HeldQueue) (g : HeldQueue) → Sta
 lacks_after home n o [] g stands at less = absurd stands
 lacks_after zero n o (h ∷ hs) g stands at less = inl (at, less)
 lacks_after (suc home) n o (h ∷ hs) g stands at less = inr (lacks_after home n o hs g stands at less)
+
+-- a call takes room for the queue at the own place alone
+pub room_stays : (hs : List HeldQueue) → TakeRoom hs hs
+room_stays [] = tt
+room_stays (h ∷ hs) = (takes_none h.queue, room_stays hs)
+
+pub room_after : (i o : ℕ) (hs : List HeldQueue) (h g : HeldQueue) → StandsAt i o hs → h ≡ slice_index_or hs i h → TakesRoom h.queue g.queue → TakeRoom hs (slice_set hs i g)
+room_after i o [] h g s e takes = absurd s
+room_after zero o (x ∷ hs) h g s e takes = let P : HeldQueue → Type 0 = λ y. TakesRoom y.queue g.queue in (subst P e takes, room_stays hs)
+room_after (suc i) o (x ∷ hs) h g s e takes = (takes_none x.queue, room_after i o hs h g s e takes)

@@ -16,6 +16,7 @@ use Rattle.nm_epoch.specs.Collecting.{AreHeld, IsQueueOf}
 use Rattle.nm_epoch.specs.Resting.{IsResting, begun_for, epochs, search}
 use Rattle.nm_calls.specs.Bounds.{cut_bound}
 use Rattle.nm_calls.specs.Deletes.{IsRemoving}
+use Rattle.nm_calls.specs.Rooms.{TakesRoom}
 use Rattle.nm_calls.specs.Won.{capped, won_links, won_flags, won_splices}
 use Rattle.nm_pool.specs.declared.placement.Fit.{Fit}
 use Rattle.nm_tree.specs.declared.worker.Account.{Account}
@@ -82,6 +83,12 @@ abbrev pub KeepsOthers : ℕ → List HeldQueue → List HeldQueue → Type 0
 KeepsOthers o [] [] = Unit {0}
 KeepsOthers o (h ∷ hs) (g ∷ gs) = (g.origin ≡ h.origin) × ((h.origin ≡ o) ⊎ (g ≡ h)) × KeepsOthers o hs gs
 KeepsOthers o _ _ = ⊥
+
+-- each has the blocks that it had, or, where some were taken, none more than what waits and the room of a try ask for
+abbrev pub TakeRoom : List HeldQueue → List HeldQueue → Type 0
+TakeRoom [] [] = Unit {0}
+TakeRoom (h ∷ hs) (g ∷ gs) = TakesRoom h.queue g.queue × TakeRoom hs gs
+TakeRoom _ _ = ⊥
 
 -- the queue of that origin is among these, and has less room than a try asks
 abbrev pub HasLittleRoom : ℕ → List HeldQueue → Type 0

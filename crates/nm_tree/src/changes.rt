@@ -3,6 +3,7 @@ ghost use Rattle.std.specs.Prelude.{◌≡◌, ◌⊎◌, ◌+◌, ◌*◌, ◌<
 ghost use Rattle.nm_model.specs.declared.event.Op.TheVariants.{Insert, Delete};
 ghost use Rattle.nm_steps.specs.Steps.{Stand, IsOf, IsSamePass, HasSeenAllOf};
 ghost use Rattle.nm_calls.specs.Bounds.{chain_bound, cut_bound};
+ghost use Rattle.nm_calls.specs.Rooms.{TakesRoom};
 ghost use Rattle.nm_tree.specs.Answers.{HasInserted, HasDeleted, HasFinished, FinishHasMoment, InsertLacks, DeleteLacks, FinishLacks, links_won, flags_won};
 ghost use Rattle.nm_model.specs.Maps.{get};
 ghost use Rattle.nm_steps.specs.Rules.{knowledge};
@@ -11,7 +12,7 @@ ghost use Rattle.nm_calls.specs.Deletes.{IsRemoving, DeleteDid, AfterDelete, Fin
 ghost use Rattle.nm_calls.specs.Inserts.{InsertDid};
 ghost use Rattle.nm_calls.specs.Moments.{AnswerHasMoment, HadNoCall};
 ghost use Rattle.nm_calls.specs.Won.{HasWon, links_of_insert, flags_of_delete};
-ghost use Rattle.nm_tree.specs.Workers.{IsBetweenCalls, KeepsOthers, IsKept, OnlyOwnLedger};
+ghost use Rattle.nm_tree.specs.Workers.{IsBetweenCalls, KeepsOthers, TakeRoom, IsKept, OnlyOwnLedger};
 
 use crate::fault::Fault;
 use crate::tree::Tree;
@@ -45,6 +46,7 @@ fn insert_with(
     ensures rests { IsResting pass.new }
     ensures private { (slot : ℕ) → get (knowledge pass.new.view).drafts slot ≡ get (knowledge pass.old.view).drafts slot }
     ensures kept { IsKept pass.new own.new account.new }
+    ensures room { TakesRoom own.old.queue own.new.queue }
     ensures others { OnlyOwnLedger pass.old pass.new }
     ensures fit { placement.new ≡ placement.old }
 {
@@ -84,6 +86,7 @@ fn delete_with(
     ensures after { AfterDelete key pass.new result }
     ensures private { (knowledge pass.new.view).drafts ≡ (knowledge pass.old.view).drafts }
     ensures kept { IsKept pass.new own.new account.new }
+    ensures room { TakesRoom own.old.queue own.new.queue }
     ensures others { OnlyOwnLedger pass.old pass.new }
 {
     let answer = delete(
@@ -142,6 +145,7 @@ fn finish_with(
     ensures removing { result ≡ false → IsRemoving pass.new pending.now.key pending.now.leaf }
     ensures private { (knowledge pass.new.view).drafts ≡ (knowledge pass.old.view).drafts }
     ensures kept { IsKept pass.new own.new account.new }
+    ensures room { TakesRoom own.old.queue own.new.queue }
     ensures others { OnlyOwnLedger pass.old pass.new }
 {
     let done = finish(
@@ -174,6 +178,7 @@ impl Tree {
         ensures won { HasWon worker.old.pass.view.log worker.new.pass.view.log (links_won result) 0 }
         ensures steps { length worker.new.pass.view.log ≤ length worker.old.pass.view.log + tries * (4 * self.now.layout.nodes + 8 * chain_bound) + 6 * self.now.layout.nodes + 10 }
         ensures queues { KeepsOthers worker.old.pass.view.number worker.old.queues worker.new.queues }
+        ensures blocks { TakeRoom worker.old.queues worker.new.queues }
         ensures held { worker.new.held ≡ None }
         ensures fit { worker.new.fit ≡ worker.old.fit }
         ensures between { IsBetweenCalls worker.new }
@@ -217,6 +222,7 @@ impl Tree {
         ensures won { HasWon worker.old.pass.view.log worker.new.pass.view.log 0 (flags_won result) }
         ensures steps { length worker.new.pass.view.log ≤ length worker.old.pass.view.log + tries * (4 * self.now.layout.nodes + 8 * chain_bound) + 6 * self.now.layout.nodes + 10 }
         ensures queues { KeepsOthers worker.old.pass.view.number worker.old.queues worker.new.queues }
+        ensures blocks { TakeRoom worker.old.queues worker.new.queues }
         ensures held { worker.new.held ≡ None }
         ensures fit { worker.new.fit ≡ worker.old.fit }
         ensures between { IsBetweenCalls worker.new }
@@ -251,6 +257,7 @@ impl Tree {
         ensures won { HasWon worker.old.pass.view.log worker.new.pass.view.log 0 0 }
         ensures steps { length worker.new.pass.view.log ≤ length worker.old.pass.view.log + tries * (4 * self.now.layout.nodes + 8 * chain_bound) + 6 * self.now.layout.nodes + 10 }
         ensures queues { KeepsOthers worker.old.pass.view.number worker.old.queues worker.new.queues }
+        ensures blocks { TakeRoom worker.old.queues worker.new.queues }
         ensures held { worker.new.held ≡ worker.old.held }
         ensures fit { worker.new.fit ≡ worker.old.fit }
         ensures between { IsBetweenCalls worker.new }

@@ -9,7 +9,7 @@ ghost use Rattle.nm_steps.specs.Rules.{knowledge};
 ghost use Rattle.nm_epoch.specs.Scans.{IsAdvance};
 ghost use Rattle.nm_epoch.specs.Watches.{IsBehind};
 ghost use Rattle.nm_epoch.specs.declared.collecting.Entry.{Entry};
-ghost use Rattle.nm_epoch.specs.Collecting.{AreHeld, IsCollection, HaveLost, KeepsOthers, KeepsRetired, ripe_of};
+ghost use Rattle.nm_epoch.specs.Collecting.{AreHeld, IsCollection, HaveLost, KeepsOthers, KeepsRetired, blocks_of, ripe_of};
 ghost use Rattle.nm_tree.specs.Answers.{HasPinned, KeepsPlace};
 ghost use Rattle.nm_tree.specs.Running.{IsFreedInGrace};
 ghost use Rattle.nm_tree.specs.Workers.{IsBetweenCalls, ArePaired, HaveNoted};
@@ -109,6 +109,7 @@ impl Tree {
         ensures freed { result.freed ≡ length (ripe_of result.epoch worker.old.queues) }
         ensures lost { HaveLost result.epoch worker.old.queues worker.new.queues }
         ensures grace { All (λ (e : Entry). IsFreedInGrace worker.new.pass.view e.node) (ripe_of result.epoch worker.old.queues) }
+        ensures blocks { blocks_of worker.new.queues ≡ blocks_of worker.old.queues }
         ensures newest { (epoch : ℕ) → HasRead worker.old.pass.view.log epoch → epoch ≤ result.epoch }
         ensures place { KeepsPlace worker.old worker.new }
         ensures steps { length worker.new.pass.view.log ≤ length worker.old.pass.view.log + self.now.layout.nodes }
@@ -142,6 +143,7 @@ fn collect_all(
     ensures part { IsCollection result.epoch queues.old.items pass.old.view.log pass.new.view.log }
     ensures freed { result.freed ≡ length (ripe_of result.epoch queues.old.items) }
     ensures lost { HaveLost result.epoch queues.old.items queues.new.items }
+    ensures blocks { blocks_of queues.new.items ≡ blocks_of queues.old.items }
     ensures newest { (epoch : ℕ) → HasRead pass.old.view.log epoch → epoch ≤ result.epoch }
     ensures queues { AreHeld (knowledge pass.new.view) queues.new.items }
     ensures others { KeepsOthers result.epoch queues.old.items (knowledge pass.old.view) (knowledge pass.new.view) }

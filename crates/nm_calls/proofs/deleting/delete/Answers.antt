@@ -8,6 +8,7 @@ use Rattle.nm_calls.proofs.Removals.{delete_did, each_lacks_room}
 use Rattle.nm_model.specs.declared.event.Op.TheVariants.{Delete}
 use Rattle.nm_calls.proofs.Adding.{has_won, counts_on, pin_adds, moved_adds}
 use Rattle.nm_calls.proofs.AddingDeletes.{delete_wins, delete_steps}
+use Rattle.nm_calls.proofs.Rooms.{takes_then}
 use Rattle.nm_calls.proofs.Waiting.{may_grow_first, few_in_table}
 use Rattle.nm_calls.proofs.deleting.delete.Goals as goal
 
@@ -50,3 +51,6 @@ returns-clause-refused c =
     let new = c.delete_pinned.new.pass.view.log in
     each_lacks_room c.args.shared.now.layout.nodes c.args.tries c.args.key c.args.pass.now.view.log a new c.in-Ok._epoch c.delete_pinned.new.queue.spare c.delete_pinned.result c.in-Ok.ensures.pinned
     (subst (λ k. IfErr c.delete_pinned.result (LacksRoomOr (λ n. FlagsThen c.args.shared.now.layout.nodes c.args.tries k n a new removal.Spent) c.delete_pinned.new.queue.spare)) c.get.ensures.number c.delete_pinned.ensures.refused)
+
+pub returns-clause-blocks : goal.returns-clause-blocks
+returns-clause-blocks c = takes_then c.args.queue.now c.make_room.new.queue c.delete_pinned.new.queue c.make_room.ensures.blocks c.delete_pinned.ensures.blocks

@@ -4,6 +4,7 @@ use Rattle.nm_order.specs.Facts.Fact.{CallIs}
 use Rattle.nm_steps.specs.Steps.{Stand}
 use Rattle.nm_calls.specs.Deletes.{leaf_of}
 use Rattle.nm_calls.proofs.Moments.{no_call_on}
+use Rattle.nm_calls.proofs.Rooms.{takes_then}
 use Rattle.nm_calls.proofs.Removals.{removing_from, removing_on}
 use Rattle.nm_calls.proofs.deleting.delete_pinned.Goals as goal
 
@@ -42,3 +43,12 @@ returns-in-Removed-clause-moment c = λ o had.
     let injected = no_call_on o c.args.pass.now c.inject.new.pass had c.inject.ensures.same c.inject.ensures.past in
     c.answer-in-Removed.ensures.moment o Delete c.args.key (no_call_on o c.inject.new.pass c.remove_after.new.pass injected c.remove_after.ensures.same c.remove_after.ensures.past)
     (c.remove_after.ensures.on.keeps call (c.inject.ensures.on.keeps call c.requires.call))
+
+pub returns-in-Removed-clause-blocks : goal.returns-in-Removed-clause-blocks
+returns-in-Removed-clause-blocks c = takes_then c.args.queue.now c.inject.new.queue c.remove_after.new.queue c.inject.ensures.blocks c.remove_after.ensures.blocks
+
+pub returns-in-Refused-remove_after-clause-blocks : goal.returns-in-Refused-remove_after-clause-blocks
+returns-in-Refused-remove_after-clause-blocks c = takes_then c.args.queue.now c.inject.new.queue c.remove_after.new.queue c.inject.ensures.blocks c.remove_after.ensures.blocks
+
+pub returns-in-Spent-remove_after-clause-blocks : goal.returns-in-Spent-remove_after-clause-blocks
+returns-in-Spent-remove_after-clause-blocks c = takes_then c.args.queue.now c.inject.new.queue c.remove_after.new.queue c.inject.ensures.blocks c.remove_after.ensures.blocks

@@ -1,9 +1,11 @@
-use Rattle.std.proofs.Common.{◌≡◌}
+use Rattle.std.proofs.Common.{◌≡◌, ◌≤◌}
 use Rattle.std.specs.Prelude.{None}
 use Rattle.nm_steps.specs.Rules.{knowledge}
 use Rattle.nm_steps.specs.Steps.{IsSamePass, HasSeenAllOf}
 use Rattle.nm_epoch.specs.Collecting.{IsQueueOf}
 use Rattle.nm_epoch.specs.Resting.{search}
+use Rattle.nm_calls.specs.Bounds.{cut_bound}
+use Rattle.nm_calls.specs.Rooms.{TakesRoom}
 use Rattle.nm_calls.specs.Telling.{IsInRun, GoesOn}
 use Rattle.nm_calls.specs.Won.{capped, won_splices}
 use Rattle.nm_calls.specs.Deletes.{LostFlags, OnlyInjects}
@@ -18,6 +20,8 @@ invariant-loop-round l = record {
   on : GoesOn l.fn.pass l.pass;
   only : OnlyInjects l.fn.pass l.pass;
   unflagged : (search l.pass).flagged ≡ None;
+  first : l.round ≡ 0 → cut_bound ≤ l.queue.spare;
+  blocks : TakesRoom l.fn.queue l.queue;
   queue : IsQueueOf (knowledge l.pass.view) l.pass.view.number l.queue.items;
   counted : l.splices ≡ capped (won_splices l.pass.view.log);
 }

@@ -2,6 +2,7 @@ use Rattle.std.proofs.Common.{◌≡◌}
 use Rattle.nm_steps.specs.Rules.{knowledge}
 use Rattle.nm_steps.specs.Steps.{IsSamePass, HasSeenAllOf}
 use Rattle.nm_epoch.specs.Collecting.{IsQueueOf}
+use Rattle.nm_calls.specs.Rooms.{TakesRoom}
 use Rattle.nm_calls.specs.Telling.{IsInRun, GoesOn}
 use Rattle.nm_calls.specs.Cleanups.{OnlyCleans}
 use Rattle.nm_calls.specs.Won.{capped, won_splices}
@@ -17,6 +18,7 @@ invariant-loop-round l = record {
   removing : IsRemoving l.pass l.key l.leaf;
   on : GoesOn l.fn.pass l.pass;
   only : OnlyCleans l.fn.pass l.pass;
+  blocks : TakesRoom l.fn.queue l.queue;
   queue : IsQueueOf (knowledge l.pass.view) l.pass.view.number l.queue.items;
   counted : l.splices ≡ capped (won_splices l.pass.view.log);
 }

@@ -4,6 +4,7 @@ use Rattle.nm_calls.specs.declared.spot.ChainEdge.{ChainEdge}
 use Rattle.nm_calls.specs.Cleanups.{CleanupWon, CleanupLost}
 use Rattle.nm_calls.specs.Deletes.{IsRemoval, leaf_of}
 use Rattle.nm_calls.proofs.Removals.{removing_on, removal_after}
+use Rattle.nm_calls.proofs.Rooms.{takes_then, takes_fills}
 use Rattle.nm_calls.proofs.Waiting.{may_grow_more}
 use Rattle.nm_calls.proofs.deleting.remove_after.Goals as goal
 
@@ -28,3 +29,10 @@ returns-clause-part c =
 
 pub make_room-requires : goal.make_room-requires
 make_room-requires c = record { few = may_grow_more c.args.pass.now c.args.queue.now.items c.requires.run c.requires.queue }
+
+pub returns-then-cleanup-clause-blocks : goal.returns-then-cleanup-clause-blocks
+returns-then-cleanup-clause-blocks c = takes_fills c.args.queue.now c.make_room.new.queue c.cleanup.new.queue c.make_room.ensures.blocks c.cleanup.ensures.fills
+
+pub returns-clause-blocks : goal.returns-clause-blocks
+returns-clause-blocks c =
+    takes_then c.args.queue.now c.cleanup.new.queue c.remove.new.queue (takes_fills c.args.queue.now c.make_room.new.queue c.cleanup.new.queue c.make_room.ensures.blocks c.cleanup.ensures.fills) c.remove.ensures.blocks

@@ -6,6 +6,7 @@ use Rattle.nm_model.specs.Searches.{Search}
 use Rattle.nm_calls.specs.Moments.{AnswerHasMoment, HadNoCall}
 use Rattle.nm_calls.proofs.Adding.{has_won, counts_on, pin_adds, moved_adds}
 use Rattle.nm_calls.proofs.AddingInserts.{insert_did, insert_wins, insert_steps}
+use Rattle.nm_calls.proofs.Rooms.{takes_then}
 use Rattle.nm_calls.proofs.Waiting.{may_grow_first, few_in_table}
 use Rattle.nm_calls.proofs.inserting.insert.Goals as goal
 
@@ -41,3 +42,6 @@ pub returns-clause-moment : goal.returns-clause-moment
 returns-clause-moment c =
     let pinned : HadNoCall c.args.pass.now c.pin_for.new.pass = record { seen = c.is_of_a_run.ensures.seen; same = c.pin_for.ensures.same; past = c.pin_for.ensures.past; call = ap (λ (s : Search). s.call) c.requires.rests.idle } in
     subst (λ k. IfOk c.insert_pinned.result (AnswerHasMoment c.args.pass.now c.insert_pinned.new.pass Insert k)) c.get.ensures.number (c.insert_pinned.ensures.moment c.args.pass.now pinned)
+
+pub returns-clause-blocks : goal.returns-clause-blocks
+returns-clause-blocks c = takes_then c.args.queue.now c.make_room.new.queue c.insert_pinned.new.queue c.make_room.ensures.blocks c.insert_pinned.ensures.blocks

@@ -1,5 +1,5 @@
-use Rattle.std.proofs.Common.{rules, add-one, ap, subst, ◌∙◌}
-use Rattle.std.specs.Prelude.{Option}
+use Rattle.std.proofs.Common.{rules, add-one, arith, refl, ap, subst, ◌∙◌}
+use Rattle.std.specs.Prelude.{Option, None}
 use Rattle.nm_model.specs.declared.event.Op.TheVariants.{Insert}
 use Rattle.nm_model.specs.Searches.{Search}
 use Rattle.nm_order.specs.Facts.Fact.{KnowsSlot, CallIs}
@@ -13,6 +13,7 @@ use Rattle.nm_calls.proofs.AddingInserts.{back_adds}
 use Rattle.nm_calls.proofs.GoingOn.{goes_then}
 use Rattle.nm_calls.proofs.Moments.{no_call_on}
 use Rattle.nm_calls.proofs.Forks.{if_ready, none_left, tries_then, found_answer}
+use Rattle.nm_calls.proofs.Rooms.{takes_then, takes_fills, later_refused}
 use Rattle.nm_calls.proofs.Waiting.{may_grow_more}
 use Rattle.nm_steps.proofs.Seeing.{seen_through}
 use Rattle.nm_calls.proofs.inserting.insert_pinned.Goals as goal
@@ -59,6 +60,8 @@ loop-round-preserved c = record {
   only = tries_then c.args.pass.now c.loop-round.pass c.try_insert.new.pass c.loop-round.invariant.same c.loop-round.invariant.only c.try_insert.ensures.only;
   unlinked = c.in-Lost.ensures.shows ∙ c.loop-round.invariant.unlinked;
   has = c.try_insert.ensures.has c.args.pass.now c.loop-round.invariant.has;
+  first = λ none'. omega (arith, none');
+  blocks = takes_fills c.args.queue.now c.make_room.new.queue c.try_insert.new.queue (takes_then c.args.queue.now c.loop-round.queue c.make_room.new.queue c.loop-round.invariant.blocks c.make_room.ensures.blocks) c.try_insert.ensures.fills;
   queue = c.try_insert.ensures.queue;
   fit = c.try_insert.ensures.fit ∙ c.loop-round.invariant.fit;
   counted = c.try_insert.ensures.counted;
@@ -92,3 +95,35 @@ returns-in-Found-clause-counted c =
     let back = c.give_back-in-Found.new.pass.view.log in
     let new = c.answer.new.pass.view.log in
     counts_on _ tried new (adds_then tried back new (back_adds c.try_insert.new.fork tried back c.give_back-in-Found.ensures.part) (adds_these _ back new (ap (λ (s : Stand). s.view.log) c.answer.ensures.step))) c.try_insert.ensures.counted
+
+pub returns-then-not-make_room-clause-part : goal.returns-then-not-make_room-clause-part
+returns-then-not-make_room-clause-part c = (
+  c.loop-round._round,
+  c.loop-round.fork,
+  c.loop-round.pass.view.log,
+  c.give_back.new.pass.view.log,
+  later_refused c.loop-round._round c.loop-round.queue c.make_room.new.queue c.loop-round.invariant.first c.make_room.ensures.more (c.make_room.ensures.refused c.if-not-make_room.true),
+  c.loop-round-test.true,
+  c.loop-round.invariant.lost,
+  c.give_back.ensures.part,
+  ap (λ (s : Stand). s.view.log) c.leave.ensures.step,
+)
+
+pub returns-then-not-make_room-clause-blocks : goal.returns-then-not-make_room-clause-blocks
+returns-then-not-make_room-clause-blocks c = takes_then c.args.queue.now c.loop-round.queue c.make_room.new.queue c.loop-round.invariant.blocks c.make_room.ensures.blocks
+
+pub returns-in-Found-clause-blocks : goal.returns-in-Found-clause-blocks
+returns-in-Found-clause-blocks c = takes_fills c.args.queue.now c.make_room.new.queue c.try_insert.new.queue (takes_then c.args.queue.now c.loop-round.queue c.make_room.new.queue c.loop-round.invariant.blocks c.make_room.ensures.blocks) c.try_insert.ensures.fills
+
+pub returns-in-Linked-clause-blocks : goal.returns-in-Linked-clause-blocks
+returns-in-Linked-clause-blocks c = takes_fills c.args.queue.now c.make_room.new.queue c.try_insert.new.queue (takes_then c.args.queue.now c.loop-round.queue c.make_room.new.queue c.loop-round.invariant.blocks c.make_room.ensures.blocks) c.try_insert.ensures.fills
+
+pub returns-in-Full-clause-blocks : goal.returns-in-Full-clause-blocks
+returns-in-Full-clause-blocks c = takes_fills c.args.queue.now c.make_room.new.queue c.try_insert.new.queue (takes_then c.args.queue.now c.loop-round.queue c.make_room.new.queue c.loop-round.invariant.blocks c.make_room.ensures.blocks) c.try_insert.ensures.fills
+
+pub returns-in-Full-clause-part : goal.returns-in-Full-clause-part
+returns-in-Full-clause-part c =
+    let h : IsTry c.args.placement.now c.args.shared.now.layout.nodes c.args.key c.loop-round.fork c.try_insert.new.fork c.loop-round.pass.view.log c.try_insert.new.pass.view.log attempt.Full =
+    subst (λ (f : Fit). IsTry f c.args.shared.now.layout.nodes c.args.key c.loop-round.fork c.try_insert.new.fork c.loop-round.pass.view.log c.try_insert.new.pass.view.log attempt.Full) c.loop-round.invariant.fit c.in-Full.ensures.part in
+    let full : IsTry c.args.placement.now c.args.shared.now.layout.nodes c.args.key c.loop-round.fork None c.loop-round.pass.view.log c.try_insert.new.pass.view.log attempt.Full = (h.0, h.1, h.2, h.3, h.4, h.5, refl, h.7) in
+    (c.try_insert.new.pass.view.log, (c.loop-round._round, c.loop-round.fork, c.loop-round.pass.view.log, c.loop-round-test.true, c.loop-round.invariant.lost, full), ap (λ (s : Stand). s.view.log) c.leave-in-Full.ensures.step)

@@ -1,8 +1,10 @@
-use Rattle.std.proofs.Common.{◌≡◌, false}
+use Rattle.std.proofs.Common.{◌≡◌, ◌≤◌, false}
 use Rattle.nm_steps.specs.Rules.{knowledge}
 use Rattle.nm_steps.specs.Steps.{IsSamePass, HasSeenAllOf}
 use Rattle.nm_epoch.specs.Collecting.{IsQueueOf}
 use Rattle.nm_epoch.specs.Resting.{search}
+use Rattle.nm_calls.specs.Bounds.{cut_bound}
+use Rattle.nm_calls.specs.Rooms.{TakesRoom}
 use Rattle.nm_calls.specs.Telling.{GoesOn}
 use Rattle.nm_calls.specs.Won.{capped, won_splices}
 use Rattle.nm_calls.specs.Inserts.{HasFork, LostInserts, OnlyTries}
@@ -17,6 +19,8 @@ invariant-loop-round l = record {
   only : OnlyTries l.fn.pass l.pass;
   unlinked : (search l.pass).linked ≡ false;
   has : HasFork l.fn.pass l.pass l.fork;
+  first : l._round ≡ 0 → cut_bound ≤ l.queue.spare;
+  blocks : TakesRoom l.fn.queue l.queue;
   queue : IsQueueOf (knowledge l.pass.view) l.pass.view.number l.queue.items;
   fit : l.placement ≡ l.fn.placement;
   counted : l.splices ≡ capped (won_splices l.pass.view.log);

@@ -18,6 +18,7 @@ loop-node-preserved c =
           c.loop-node.invariant.collecting ripe c.free.ensures.step front.1 c.free.ensures.apart;
       past = seen_through _ _ _ c.loop-node.invariant.past c.free.ensures.past;
       run = c.free.ensures.run;
+      blocks = front.2 ∙ c.loop-node.invariant.blocks;
       origin = c.loop-node.invariant.origin;
       fit = c.keep.ensures ∙ c.loop-node.invariant.fit;
     }

@@ -8,6 +8,7 @@ invariant-loop-node l = record {
   collecting : IsCollecting l.epoch l.fn.queue.origin l.fn.pass l.fn.queue.queue.items l.pass l.queue.queue.items;
   past : HasSeenAllOf l.pass l.fn.pass;
   run : IsInRun l.pass;
+  blocks : l.queue.queue.blocks ≡ l.fn.queue.queue.blocks;
   origin : l.queue.origin ≡ l.fn.queue.origin;
   fit : l.placement ≡ l.fn.placement;
 }

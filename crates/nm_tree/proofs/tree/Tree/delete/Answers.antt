@@ -3,7 +3,7 @@ use Rattle.std.specs.Prelude.{Ok, Err, slice_set}
 use Rattle.nm_model.specs.Maps.{get}
 use Rattle.nm_steps.specs.Steps.{Stand}
 use Rattle.nm_tree.specs.Workers.{Hand, held_in, pending_in}
-use Rattle.nm_tree.proofs.QueueLists.{lacks_after, others_stay, others_after, stands_within}
+use Rattle.nm_tree.proofs.QueueLists.{lacks_after, others_stay, others_after, stands_within, room_stays, room_after}
 use Rattle.nm_tree.proofs.Staying.{resting_in, rests_in, rests_as, free_in}
 use Rattle.nm_tree.proofs.Changing.{accounts_within, kept_there, changed}
 use Rattle.nm_calls.specs.declared.deleting.Missed.{Missed}
@@ -109,3 +109,22 @@ returns-in-Err-Unfinished-clause-lacks c =
       | inl less ↦ inl (lacks_after c.worker.inside.home _ _ c.worker.inside.queues.items c.delete_with.new.own c.worker.invariant.own c.delete_with.ensures.kept.own less)
       | inr lost ↦ inr (c.in-Err-Unfinished.leaf, lost)
     ])
+
+pub returns-in-Pending-clause-blocks : goal.returns-in-Pending-clause-blocks
+returns-in-Pending-clause-blocks c = room_stays c.args.worker.now.queues
+
+pub returns-in-Ok-clause-blocks : goal.returns-in-Ok-clause-blocks
+returns-in-Ok-clause-blocks c =
+    rw (← c.worker.view_is) (room_after c.worker.inside.home _ c.worker.inside.queues.items _ c.delete_with.new.own c.worker.invariant.own c.index_mut-own.ensures.value c.delete_with.ensures.room)
+
+pub returns-in-Err-Busy-clause-blocks : goal.returns-in-Err-Busy-clause-blocks
+returns-in-Err-Busy-clause-blocks c =
+    rw (← c.worker.view_is) (room_after c.worker.inside.home _ c.worker.inside.queues.items _ c.delete_with.new.own c.worker.invariant.own c.index_mut-own.ensures.value c.delete_with.ensures.room)
+
+pub returns-in-Err-NoMemory-clause-blocks : goal.returns-in-Err-NoMemory-clause-blocks
+returns-in-Err-NoMemory-clause-blocks c =
+    rw (← c.worker.view_is) (room_after c.worker.inside.home _ c.worker.inside.queues.items _ c.delete_with.new.own c.worker.invariant.own c.index_mut-own.ensures.value c.delete_with.ensures.room)
+
+pub returns-in-Err-Unfinished-clause-blocks : goal.returns-in-Err-Unfinished-clause-blocks
+returns-in-Err-Unfinished-clause-blocks c =
+    rw (← c.worker.view_is) (room_after c.worker.inside.home _ c.worker.inside.queues.items _ c.delete_with.new.own c.worker.invariant.own c.index_mut-own.ensures.value c.delete_with.ensures.room)

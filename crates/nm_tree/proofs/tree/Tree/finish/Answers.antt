@@ -5,7 +5,7 @@ use Rattle.nm_model.specs.declared.event.Op.TheVariants.{Delete}
 use Rattle.nm_steps.specs.Steps.{Stand}
 use Rattle.nm_calls.specs.Moments.{AnswerHasMoment, HadNoCall}
 use Rattle.nm_tree.specs.Workers.{Hand, pending_in}
-use Rattle.nm_tree.proofs.QueueLists.{lacks_after, others_stay, others_after, stands_within}
+use Rattle.nm_tree.proofs.QueueLists.{lacks_after, others_stay, others_after, stands_within, room_stays, room_after}
 use Rattle.nm_tree.proofs.Changing.{accounts_within, kept_there, changed}
 use Rattle.nm_tree.proofs.Staying.{removing_in}
 use Rattle.std.specs.Prelude.{true}
@@ -68,3 +68,14 @@ returns-then-not-finish_with-clause-lacks c =
       | inl less ↦ inl (lacks_after c.worker.inside.home _ _ c.worker.inside.queues.items c.finish_with.new.own c.worker.invariant.own c.finish_with.ensures.kept.own less)
       | inr lost ↦ inr (c.in-Pending.pending, ap pending_in c.in-Pending.is, lost)
     ])
+
+pub returns-in_default-clause-blocks : goal.returns-in_default-clause-blocks
+returns-in_default-clause-blocks c = room_stays c.args.worker.now.queues
+
+pub returns-then-not-finish_with-clause-blocks : goal.returns-then-not-finish_with-clause-blocks
+returns-then-not-finish_with-clause-blocks c =
+    rw (← c.worker.view_is) (room_after c.worker.inside.home _ c.worker.inside.queues.items _ c.finish_with.new.own c.worker.invariant.own c.index_mut-own.ensures.value c.finish_with.ensures.room)
+
+pub returns-clause-blocks : goal.returns-clause-blocks
+returns-clause-blocks c =
+    rw (← c.worker.view_is) (room_after c.worker.inside.home _ c.worker.inside.queues.items _ c.finish_with.new.own c.worker.invariant.own c.index_mut-own.ensures.value c.finish_with.ensures.room)

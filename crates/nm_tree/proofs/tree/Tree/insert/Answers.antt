@@ -3,7 +3,7 @@ use Rattle.std.specs.Prelude.{Ok, Err}
 use Rattle.nm_steps.specs.Steps.{Stand}
 use Rattle.nm_tree.specs.declared.worker.Standing.TheVariants as standing
 use Rattle.nm_tree.specs.Workers.{Hand}
-use Rattle.nm_tree.proofs.QueueLists.{lacks_after, others_stay, others_after, stands_within}
+use Rattle.nm_tree.proofs.QueueLists.{lacks_after, others_stay, others_after, stands_within, room_stays, room_after}
 use Rattle.nm_tree.proofs.Staying.{resting_in, rests_in, rests_as, free_in}
 use Rattle.nm_tree.proofs.Changing.{accounts_within, kept_there, changed}
 use Rattle.nm_calls.specs.declared.inserting.Fault.{Fault as Lost}
@@ -70,3 +70,10 @@ returns-clause-lacks c =
       | in-Err-NoMemory w ↦ rw w.result-is
           (lacks_after c.worker.inside.home _ _ c.worker.inside.queues.items c.insert_with.new.own c.worker.invariant.own c.insert_with.ensures.kept.own (w.in-Err-NoMemory.ensures.refused (ap (λ (m : Lost). Err m) w.in-Err-NoMemory.field-0-is)))
     ]
+
+pub returns-in-Pending-clause-blocks : goal.returns-in-Pending-clause-blocks
+returns-in-Pending-clause-blocks c = room_stays c.args.worker.now.queues
+
+pub returns-clause-blocks : goal.returns-clause-blocks
+returns-clause-blocks c =
+    rw (← c.worker.view_is) (room_after c.worker.inside.home _ c.worker.inside.queues.items _ c.insert_with.new.own c.worker.invariant.own c.index_mut-own.ensures.value c.insert_with.ensures.room)
