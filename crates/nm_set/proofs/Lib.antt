@@ -1,3 +1,4 @@
--- Lemmas on the seats of a tree and what may cross threads.
+-- Lemmas on the seats of a tree, the end of a set and what may cross threads.
 pub mod SeatLists
+pub mod SetEnds
 pub mod Sending

@@ -12,13 +12,11 @@ use Rattle.nm_tree.proofs.worker.Account.TheSendSync as account
 use Rattle.nm_tree.specs.contracts.worker.Worker as worker
 use Rattle.nm_tree.proofs.worker.Worker.TheSendSync as worker_crosses
 use Rattle.nm_tree.proofs.tree.Tree.TheSendSync as tree
-use Rattle.nm_set.specs.contracts.home.Resident as resident
-use Rattle.nm_set.proofs.home.Resident.TheSendSync as resident_crosses
+use Rattle.nm_set.specs.contracts.seat.Resident as resident
+use Rattle.nm_set.proofs.seat.Resident.TheSendSync as resident_crosses
 use Rattle.nm_set.specs.contracts.home.Home as home
 use Rattle.nm_set.proofs.home.Home.TheSendSync as home_crosses
 use Rattle.nm_set.specs.contracts.member.Member as member
-use Rattle.nm_set.specs.contracts.set.Gathered as gathered
-use Rattle.nm_set.proofs.set.Gathered.TheSendSync as gathered_crosses
 use Rattle.nm_set.specs.contracts.set.Set as set
 
 -- what a reference to a table's seat gives is a part of the seat
@@ -38,13 +36,10 @@ home_sync : IsSync home.the_row
 home_sync = search (sendable, crosses, tree.the_sync, counted.the_sync, resident_crosses.the_send, resident_sync) depth 20
 
 pub member_send : IsSend member.the_row
-member_send = search (sendable, crosses, home_crosses.the_send, home_sync, worker_crosses.the_send) depth 20
-
-gathered_sync : IsSync gathered.the_row
-gathered_sync = search (sendable, crosses, tree.the_sync, worker_sync) depth 20
+member_send = search (sendable, crosses, home_crosses.the_send, home_sync, worker_crosses.the_send) depth 40
 
 pub set_send : IsSend set.the_row
-set_send = search (sendable, crosses, home_crosses.the_send, home_sync, gathered_crosses.the_send) depth 80
+set_send = search (sendable, crosses, home_crosses.the_send, home_sync, tree.the_send, worker_crosses.the_send) depth 80
 
 pub set_sync : IsSync set.the_row
-set_sync = search (sendable, crosses, home_crosses.the_send, home_sync, gathered_sync) depth 80
+set_sync = search (sendable, crosses, home_crosses.the_send, home_sync, tree.the_sync, worker_sync) depth 80

@@ -1,12 +1,48 @@
 -- The end of a set.
-use Rattle.std.specs.Prelude.{List}
+use Rattle.std.specs.Prelude.{◌≡◌, ◌⊎◌, List, [], ◌++◌, true, false}
 use Rattle.nm_steps.specs.Steps.{Board}
+use Rattle.nm_tree.specs.declared.closing.CloseReason.{CloseReason as Reason}
+use Rattle.nm_tree.specs.declared.closing.CloseReason.TheVariants as tree
 use Rattle.nm_tree.specs.declared.closing.Report.{Report}
-use Rattle.nm_tree.specs.Closing.{AreAllOf, IsClosed}
+use Rattle.nm_tree.specs.Closing.{AreAllOf, IsClosed, IsCloseReason}
 use Rattle.nm_tree.specs.Workers.{Hand}
+use Rattle.nm_set.specs.declared.fault.CloseReason.{CloseReason}
+use Rattle.nm_set.specs.declared.fault.CloseReason.TheVariants as because
+use Rattle.nm_set.specs.Seats.{Standing}
 
--- a tree was closed with workers that are all of this tree's; which these had been at home is not said
-pub record EndsSet (b : Board) (r : Report) : Type 0 where
-  pub workers : List Hand
-  pub own : AreAllOf b workers
-  pub closed : IsClosed b workers r.queues.items r.keys.items r.free r.reached
+-- The tree of the set was closed with the workers that the set kept, each as it came, and then with those that were at home; which these had been is
+-- not said, but that there are none where a refused close had gathered all
+pub record EndsSet (s : Standing) (r : Report) : Type 0 where
+  pub home : List Hand
+  pub own : AreAllOf s.board (s.kept ++ home)
+  pub none : s.closing ≡ true → home ≡ []
+  pub closed : IsClosed s.board (s.kept ++ home) r.queues.items r.keys.items r.free r.reached
+
+-- the reasons of the tree, by the names that the set has for them
+abbrev pub told_reason : Reason → CloseReason
+told_reason (tree.NotAll given made) = because.NotAll given made
+told_reason tree.NoMemory = because.NoMemory
+
+-- a tree that has these workers was not closed for that reason, which is one of the tree's
+abbrev pub IsTreesReason : Board → List Hand → CloseReason → Type 0
+IsTreesReason b ws why = (of_tree : Reason) × (why ≡ told_reason of_tree) × IsCloseReason b ws of_tree
+
+-- a set whose workers were gathered keeps what it kept, and then those that were at home; and by them its tree was not closed for that reason
+pub record HasGathered (s : Standing) (why : Reason) (t : Standing) : Type 0 where
+  pub board : t.board ≡ s.board
+  pub fit : t.fit ≡ s.fit
+  pub closing : t.closing ≡ true
+  pub home : List Hand
+  pub kept : t.kept ≡ s.kept ++ home
+  pub none : s.closing ≡ true → home ≡ []
+  pub reason : IsCloseReason t.board t.kept why
+
+-- an open set that is as it was
+abbrev pub IsAsBefore : Standing → Standing → Type 0
+IsAsBefore s t = (s.closing ≡ false) × (t ≡ s)
+
+-- why a set was not closed, and how it stands then
+abbrev pub IsLeftOpen : Standing → CloseReason → Standing → Type 0
+IsLeftOpen s because.Away t = IsAsBefore s t
+IsLeftOpen s (because.NotAll given made) t = HasGathered s (tree.NotAll given made) t
+IsLeftOpen s because.NoMemory t = IsAsBefore s t ⊎ HasGathered s tree.NoMemory t

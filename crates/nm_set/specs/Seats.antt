@@ -1,8 +1,15 @@
 -- Members of a set, and the seats where its workers are while nobody has them.
-use Rattle.std.specs.Prelude.{◌≡◌, ℕ, suc, Bool, List, [], ◌∷◌}
+use Rattle.std.specs.Prelude.{◌≡◌, ◌<◌, ◌≤◌, ℕ, suc, Bool, List, [], ◌∷◌, ◌++◌}
 use Rattle.nm_steps.specs.Steps.{Board, IsOf}
 use Rattle.nm_pool.specs.declared.placement.Fit.{Fit}
+use Rattle.nm_tree.specs.Resigning.{IsReason}
 use Rattle.nm_tree.specs.Workers.{Hand}
+use Rattle.nm_tree.specs.declared.resigning.ResignReason.{ResignReason as Reason}
+use Rattle.nm_tree.specs.declared.resigning.ResignReason.TheVariants as tree
+use Rattle.nm_set.specs.declared.fault.ResignReason.{ResignReason}
+use Rattle.nm_set.specs.declared.fault.ResignReason.TheVariants as because
+use Rattle.nm_set.specs.declared.home.Absence.{Absence}
+use Rattle.nm_set.specs.declared.home.Absence.TheVariants as absence
 use Rattle.nm_set.specs.declared.home.Site.{Site}
 
 -- what clauses see of a member: the tree on which it works, and its worker
@@ -10,11 +17,13 @@ pub record Seated : Type 0 where
   pub board : Board
   pub hand : Hand
 
--- what clauses see of a set: its tree, by which fit its workers claim, and whether a refused close has gathered them
+-- what clauses see of a set: its tree, by which fit its workers claim, whether a refused close has gathered them, and the workers that it keeps, as
+-- they were when they came: those of members that were kept, and behind a refused close all that were gathered
 pub record Standing : Type 0 where
   pub board : Board
   pub fit : Fit
   pub closing : Bool
+  pub kept : List Hand
 
 -- the worker of that number, of that tree, which claims by that fit
 pub record IsResident (b : Board) (f : Fit) (i : ℕ) (w : Hand) : Type 0 where
@@ -31,3 +40,28 @@ pub record IsAnyResident (b : Board) (f : Fit) (w : Hand) : Type 0 where
 abbrev pub AreSeats : Site → ℕ → List (Site × ℕ) → Type 0
 AreSeats b i [] = Unit {0}
 AreSeats b i (s ∷ ss) = (s ≡ (b, i)) × AreSeats b (suc i) ss
+
+-- the second list goes on from the first
+abbrev pub BeginsWith : List Hand → List Hand → Type 0
+BeginsWith ws all = (rest : List Hand) × (all ≡ ws ++ rest)
+
+-- why a worker that is not at home does not resign
+abbrev pub told_absence : Absence → ResignReason
+told_absence absence.Number = because.Number
+told_absence absence.Away = because.Away
+
+-- and one that is
+abbrev pub told_staying : Reason → ResignReason
+told_staying tree.Held = because.Held
+told_staying tree.Pending = because.Pending
+
+-- the tree has a worker of that number, which was at home, and may not resign for that reason
+abbrev pub IsResidentThatStays : Seated → ℕ → Reason → Type 0
+IsResidentThatStays m i why = (i < m.board.layout.workers) × (w : Hand) × IsResident m.board m.hand.fit i w × IsReason w why
+
+-- why the worker of that number has not resigned to a member
+abbrev pub IsStaying : Seated → ℕ → ResignReason → Type 0
+IsStaying m i because.Number = m.board.layout.workers ≤ i
+IsStaying m i because.Away = i < m.board.layout.workers
+IsStaying m i because.Held = IsResidentThatStays m i tree.Held
+IsStaying m i because.Pending = IsResidentThatStays m i tree.Pending

@@ -1,10 +1,23 @@
 -- Where a set stands.
-use Rattle.std.specs.Prelude.{true, false}
+use Rattle.std.specs.Prelude.{true, false, List}
 use Rattle.std.specs.Arc.{arc_value}
+use Rattle.nm_tree.specs.Workers.{Hand}
+use Rattle.nm_set.specs.declared.home.Site.{Site}
 use Rattle.nm_set.specs.declared.set.State.{State}
 use Rattle.nm_set.specs.declared.set.State.TheVariants.{Open, Closing}
 use Rattle.nm_set.specs.Seats.{Standing}
 
-abbrev pub standing_of : State → Standing
-standing_of (Open home) = record { board = (arc_value home).tree; fit = (arc_value home).fit; closing = false }
-standing_of (Closing gathered) = record { board = gathered.tree; fit = gathered.fit; closing = true }
+-- the tree, and its fit
+abbrev pub site_of : State → Site
+site_of (Open home) = arc_value home
+site_of (Closing site) = site
+
+abbrev pub open_set : Site → List Hand → Standing
+open_set site kept = record { board = site.tree; fit = site.fit; closing = false; kept = kept }
+
+abbrev pub closing_set : Site → List Hand → Standing
+closing_set site kept = record { board = site.tree; fit = site.fit; closing = true; kept = kept }
+
+abbrev pub standing_of : State → List Hand → Standing
+standing_of (Open home) kept = open_set (arc_value home) kept
+standing_of (Closing site) kept = closing_set site kept

@@ -1,11 +1,11 @@
-//! The seats of a tree's workers, where they are while nobody has them.
-ghost use Rattle.std.specs.Prelude.{◌≡◌, ◌≤◌, length, IfOk, IfErr, IfSome, vec_capacity};
+//! The home of a tree's workers: a seat for each of them, where it is while nobody has it.
+ghost use Rattle.std.specs.Prelude.{◌≡◌, ◌<◌, ◌≤◌, ◌+◌, ◌↔◌, length, IfOk, IsErrOf, vec_capacity};
 ghost use Rattle.nm_steps.specs.Steps.{IsOf};
 ghost use Rattle.nm_tree.specs.Closing.{AreAllOf};
 ghost use Rattle.nm_tree.specs.Workers.{AreNew, HaveFit};
-ghost use Rattle.nm_set.specs.Seats.{IsResident};
+ghost use Rattle.nm_set.specs.Seats.{IsResident, BeginsWith};
 
-use counted_slot::{Counted, FREE, Fits, PRESENT, TAKEN};
+use crate::seat::{Guest, Seat, leave, stand_up};
 use nm_pool::Fit;
 use nm_tree::{Tree, Worker};
 use std::alloc::{AllocError, Global};
@@ -17,21 +17,6 @@ pub(crate) struct Site {
     pub(crate) tree: Tree,
     pub(crate) fit: Fit,
 }
-
-/// A worker that is at home.
-#[derive(Drop)]
-pub(crate) struct Resident {
-    worker: Worker,
-}
-
-impl Fits for Resident {
-    type Tag = (Site, u32);
-
-    ghost fits = { λ place r. IsResident place.0.tree place.0.fit place.1 r.worker };
-}
-
-/// The place of one worker of one tree. Its word is `FREE` while the worker is at home, and `PRESENT` while the seat is empty.
-type Seat = Counted<Option<Resident>>;
 
 /// A tree, with a seat for each of its workers, in the order of their numbers.
 #[derive(Drop)]
@@ -73,52 +58,52 @@ impl Home {
         let mut place = (site, 0);
         for worker in workers {
             place.1 = worker.number();
-            seats.push(Counted::new(Some(Resident { worker }), &place))?;
+            seats.push(Guest::of(worker).seated(&place))?;
         }
         let (site, _) = place;
         Ok(Home { site, seats })
     }
 
     /// Takes a worker from its seat.
-    pub(crate) fn take(&self, number: u32) -> Result<Worker, Absence>
-        ensures taken { IfOk result (IsResident self.now.tree self.now.fit number) }
-        ensures number { IfErr result (λ a. a ≡ Absence.Number → self.now.tree.layout.workers ≤ number) }
+    pub(crate) fn take(&self, number: u32) -> Result<Guest, Absence>
+        ensures taken { IfOk result (λ g. IsResident self.now.tree self.now.fit number g.worker × (number < self.now.tree.layout.workers)) }
+        ensures number { IsErrOf result Absence.Number ↔ (self.now.tree.layout.workers ≤ number) }
     {
         let Some(seat) = self.seats.get(number as usize) else {
             return Err(Absence::Number);
         };
-        let Some(Resident { worker }) = empty(seat) else {
-            return Err(Absence::Away);
-        };
-        Ok(worker)
+        match stand_up(seat) {
+            Some(guest) => Ok(guest),
+            None => Err(Absence::Away),
+        }
     }
 
-    /// Puts a worker of this tree on its seat.
-    pub(crate) fn receive(&self, worker: Worker)
-        requires own { IsOf self.now.tree worker.pass }
-        requires fit { worker.fit ≡ self.now.fit }
+    /// A worker of this tree sits down on its seat.
+    pub(crate) fn receive(&self, guest: Guest)
+        requires own { IsOf self.now.tree guest.worker.pass }
+        requires fit { guest.worker.fit ≡ self.now.fit }
     {
-        let Some(seat) = self.seats.get(worker.number() as usize) else {
-            return;
+        let Some(seat) = self.seats.get(guest.worker.number() as usize) else {
+            unreachable!()
         };
-        fill(seat, worker);
+        guest.sit_down(seat);
     }
 
-    /// The tree, and the workers that are at home.
-    pub(crate) fn gather(self, room: Vec<Worker>) -> (Site, Vec<Worker>)
-        requires empty { length room.items ≡ 0 }
-        requires room { self.tree.layout.workers ≤ vec_capacity room }
+    /// The tree, and some workers with those that are at home behind them. There is room for all.
+    pub(crate) fn gather(self, workers: Vec<Worker>) -> (Site, Vec<Worker>)
+        requires own { AreAllOf self.tree workers.items }
+        requires room { length workers.items + self.tree.layout.workers ≤ vec_capacity workers }
         ensures site { result.0 ≡ self }
         ensures own { AreAllOf self.tree result.1.items }
+        ensures kept { BeginsWith workers.items result.1.items }
     {
         let Home { site, seats } = self;
-        let mut workers = room;
+        let mut workers = workers;
         for seat in seats {
-            if let Some(Resident { worker }) = seat.into_inner() {
-                let Ok(()) = workers.push(worker) else {
-                    unreachable!()
-                };
-            }
+            let Some(guest) = leave(seat) else {
+                continue;
+            };
+            guest.stay_with(&mut workers);
         }
         (site, workers)
     }
@@ -136,28 +121,4 @@ impl Home {
     {
         self.seats.len()
     }
-}
-
-/// Takes what is on a seat.
-fn empty(seat: &Seat) -> Option<Resident>
-    ensures { IfSome result (λ r. IsResident seat.now.0.tree seat.now.0.fit seat.now.1 r.worker) }
-{
-    let (found, claim) = seat.turn(FREE, TAKEN);
-    if found != FREE {
-        claim.done();
-        return None;
-    }
-    claim.put(None, PRESENT)
-}
-
-/// Puts a worker on its seat. Only the worker that sits there leaves it empty, so that it is empty when that one comes home.
-fn fill(seat: &Seat, worker: Worker)
-    requires { IsResident seat.now.0.tree seat.now.0.fit seat.now.1 worker }
-{
-    let (found, claim) = seat.turn(PRESENT, TAKEN);
-    if found != PRESENT {
-        claim.done();
-        return;
-    }
-    claim.put(Some(Resident { worker }), FREE);
 }

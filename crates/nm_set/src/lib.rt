@@ -9,6 +9,7 @@ mod attach;
 mod fault;
 mod home;
 mod member;
+mod seat;
 mod set;
 
 pub use fault::{CloseReason, Fault, MemberFault, NotHeld, PinFault, ResignReason};
@@ -17,4 +18,4 @@ pub use nm_tree::{
     Advance, Behind, Collected, Counts, Entry, Fault as CallFault, HeldQueue, NewError,
     PinFault as CallPinFault, Report,
 };
-pub use set::{CloseError, Set};
+pub use set::{CloseError, KeepError, Set};

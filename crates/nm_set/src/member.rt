@@ -1,19 +1,22 @@
 //! Members: a worker together with the tree on which it works.
-ghost use Rattle.std.specs.Prelude.{◌≡◌, option_map, IfOk, IfErr, IfSome, IfNone};
+ghost use Rattle.std.specs.Prelude.{◌≡◌, ◌<◌, ◌++◌, ◌∷◌, [], length, vec_capacity, option_map, IfOk, IfErr};
 ghost use Rattle.std.specs.Arc.{arc_value};
 ghost use Rattle.nm_edge.specs.Layouts.{IsLayout};
-ghost use Rattle.nm_steps.specs.Steps.{HasSeen, IsOf, IsOfRun};
+ghost use Rattle.nm_steps.specs.Rules.{Extends};
+ghost use Rattle.nm_steps.specs.Steps.{HasHeard, HasSeen, HasSeenAllOf, IsNoteOf, IsOf, IsOfRun};
 ghost use Rattle.nm_epoch.specs.Collecting.{NoneHas};
 ghost use Rattle.nm_tree.specs.Resigning.{HasResigned};
 ghost use Rattle.nm_tree.specs.Running.{HasSeenTurns};
-ghost use Rattle.nm_tree.specs.Workers.{Hand, IsLedger, waiting_in};
+ghost use Rattle.nm_tree.specs.Workers.{Hand, IsBetweenCalls, IsLedger, waiting_in};
 ghost use Rattle.nm_tree.specs.declared.worker.Unfinished.{Unfinished as Delete};
 ghost use Rattle.nm_set.specs.Asked.{Asked, AskedToPin, AskedToUnpin, LeavesHas, LeavesInsert, LeavesDelete, LeavesFinish, LeavesAdvance, LeavesBehind, LeavesCollect};
-ghost use Rattle.nm_set.specs.Seats.{IsResident};
+ghost use Rattle.nm_set.specs.Seats.{IsResident, IsStaying, told_absence, told_staying};
 
 use crate::fault::{Fault, NotHeld, PinFault, ResignReason};
 use crate::home::{Absence, Home};
+use crate::seat::{Guest, Stay, unite};
 use nm_edge::Key;
+use nm_steps::Note;
 use nm_tree::{Advance, Behind, Collected, Counts, Worker};
 use std::alloc::Global;
 use std::marker::Model;
@@ -22,7 +25,7 @@ use std::sync::Arc;
 /// One worker of a set. It may go to another thread between two calls, and the tree lives as long as it does. Dropped, it goes home as by `close`.
 pub struct Member {
     home: Arc<Home, Global>,
-    worker: Worker,
+    guest: Guest,
 }
 
 impl Model for Member {
@@ -33,9 +36,9 @@ impl Model for Member {
 
     ghost Value = { Seated };
 
-    ghost view = { λ m. record { board = (arc_value m.home).tree; hand = m.worker } };
+    ghost view = { λ m. record { board = (arc_value m.home).tree; hand = m.guest.worker } };
 
-    ghost invariant = { λ m. IsOf (arc_value m.home).tree m.worker.pass × (m.worker.fit ≡ (arc_value m.home).fit) };
+    ghost invariant = { λ m. IsOf (arc_value m.home).tree m.guest.worker.pass × (m.guest.worker.fit ≡ (arc_value m.home).fit) };
 }
 
 /// A member has not taken over a worker. It is as it was.
@@ -46,31 +49,32 @@ pub struct ResignError {
 }
 
 impl Member {
-    pub(crate) fn of(home: Arc<Home, Global>, worker: Worker) -> Member
-        requires own { IsOf (arc_value home).tree worker.pass }
-        requires fit { worker.fit ≡ (arc_value home).fit }
+    pub(crate) fn of(home: Arc<Home, Global>, guest: Guest) -> Member
+        requires own { IsOf (arc_value home).tree guest.worker.pass }
+        requires fit { guest.worker.fit ≡ (arc_value home).fit }
         ensures board { result.board ≡ (arc_value home).tree }
-        ensures hand { result.hand ≡ worker }
+        ensures hand { result.hand ≡ guest.worker }
     {
-        Member { home, worker }
+        Member { home, guest }
     }
 
     /// The worker's number, below the number of workers.
     pub fn number(&self) -> u32
         ensures { result ≡ self.now.hand.pass.view.number }
     {
-        self.worker.number()
+        self.guest.worker.number()
     }
 
     /// What the worker has seen is a run of an ordered core of the set's sizes, its log is its part of that, it has not resigned in it, and the turns
-    /// that it has seen have the headline and a history: `Worker::is_of_a_run` of `nm_tree`. It does nothing.
+    /// that it has seen have the headline and a history: `Worker::is_of_a_run` of `nm_tree`. And it is one of the set's. It does nothing.
     pub fn is_of_a_run(&self)
+        ensures own { IsOf self.now.board self.now.hand.pass }
         ensures seen { HasSeen self.now.hand.pass.view }
         ensures turns { HasSeenTurns self.now.hand.pass.view }
         ensures run { IsOfRun self.now.hand.pass.view.layout self.now.hand.pass.view.number self.now.hand.pass.view.log }
         ensures fits { IsLayout self.now.hand.pass.view.layout }
     {
-        self.worker.is_of_a_run();
+        self.guest.worker.is_of_a_run();
     }
 
     /// Whether the set has the key: `Tree::has` of `nm_tree`.
@@ -80,10 +84,10 @@ impl Member {
         ensures board { self.new.board ≡ self.old.board }
         ensures did { Asked (LeavesHas self.old.board.layout.nodes tries key) self.old.hand self.new.hand result }
     {
-        if self.worker.held().is_some() {
+        if self.guest.worker.held().is_some() {
             return Err(Fault::Held);
         }
-        match self.home.tree().has(&mut self.worker, key, tries) {
+        match self.home.tree().has(&mut self.guest.worker, key, tries) {
             Ok(answer) => Ok(answer),
             Err(fault) => Err(Fault::Call(fault)),
         }
@@ -96,10 +100,10 @@ impl Member {
         ensures board { self.new.board ≡ self.old.board }
         ensures did { Asked (LeavesInsert self.old.board.layout.nodes tries key) self.old.hand self.new.hand result }
     {
-        if self.worker.held().is_some() {
+        if self.guest.worker.held().is_some() {
             return Err(Fault::Held);
         }
-        match self.home.tree().insert(&mut self.worker, key, tries) {
+        match self.home.tree().insert(&mut self.guest.worker, key, tries) {
             Ok(answer) => Ok(answer),
             Err(fault) => Err(Fault::Call(fault)),
         }
@@ -112,10 +116,10 @@ impl Member {
         ensures board { self.new.board ≡ self.old.board }
         ensures did { Asked (LeavesDelete self.old.board.layout.nodes tries key) self.old.hand self.new.hand result }
     {
-        if self.worker.held().is_some() {
+        if self.guest.worker.held().is_some() {
             return Err(Fault::Held);
         }
-        match self.home.tree().delete(&mut self.worker, key, tries) {
+        match self.home.tree().delete(&mut self.guest.worker, key, tries) {
             Ok(answer) => Ok(answer),
             Err(fault) => Err(Fault::Call(fault)),
         }
@@ -126,7 +130,7 @@ impl Member {
         ensures board { self.new.board ≡ self.old.board }
         ensures did { LeavesFinish self.old.board.layout.nodes tries self.old.hand self.new.hand result }
     {
-        self.home.tree().finish(&mut self.worker, tries)
+        self.home.tree().finish(&mut self.guest.worker, tries)
     }
 
     /// Pins the epoch for the caller, until `unpin`: `Tree::pin` of `nm_tree`. The epoch.
@@ -136,10 +140,10 @@ impl Member {
         ensures board { self.new.board ≡ self.old.board }
         ensures did { AskedToPin tries self.old.hand self.new.hand result }
     {
-        if self.worker.held().is_some() {
+        if self.guest.worker.held().is_some() {
             return Err(PinFault::Held);
         }
-        match self.home.tree().pin(&mut self.worker, tries) {
+        match self.home.tree().pin(&mut self.guest.worker, tries) {
             Ok(epoch) => Ok(epoch),
             Err(fault) => Err(PinFault::Call(fault)),
         }
@@ -152,10 +156,10 @@ impl Member {
         ensures board { self.new.board ≡ self.old.board }
         ensures did { AskedToUnpin self.old.hand self.new.hand result }
     {
-        if self.worker.held().is_none() {
+        if self.guest.worker.held().is_none() {
             return Err(NotHeld);
         }
-        self.home.tree().unpin(&mut self.worker);
+        self.home.tree().unpin(&mut self.guest.worker);
         Ok(())
     }
 
@@ -164,7 +168,7 @@ impl Member {
         ensures board { self.new.board ≡ self.old.board }
         ensures did { LeavesAdvance self.old.board.layout.workers self.old.hand self.new.hand result }
     {
-        self.home.tree().advance(&mut self.worker)
+        self.home.tree().advance(&mut self.guest.worker)
     }
 
     /// Which workers hold the epoch back, this one included: `Tree::behind` of `nm_tree`.
@@ -172,7 +176,7 @@ impl Member {
         ensures board { self.new.board ≡ self.old.board }
         ensures did { LeavesBehind self.old.board.layout.workers self.old.hand self.new.hand result }
     {
-        self.home.tree().behind(&mut self.worker)
+        self.home.tree().behind(&mut self.guest.worker)
     }
 
     /// Frees what is ripe at the front of each queue that the worker holds: `Tree::collect` of `nm_tree`.
@@ -180,67 +184,109 @@ impl Member {
         ensures board { self.new.board ≡ self.old.board }
         ensures did { LeavesCollect self.old.board.layout.nodes self.old.hand self.new.hand result }
     {
-        self.home.tree().collect(&mut self.worker)
+        self.home.tree().collect(&mut self.guest.worker)
+    }
+
+    /// A note of all that the worker has seen, for another member of this set: `Tree::note` of `nm_tree`. No step, no lock and no memory.
+    pub fn note(&mut self) -> Note
+        ensures same { self.new ≡ self.old }
+        ensures note { IsNoteOf self.old.hand.pass result }
+        ensures table { result.table ≡ self.old.board.table }
+    {
+        self.home.tree().note(&mut self.guest.worker)
+    }
+
+    /// The worker hears a note of another member of this set: all that it is asked from then on comes behind all that the other one had done when the
+    /// note was made: `Tree::hear` of `nm_tree`. No step, no lock and no memory.
+    ///
+    /// The note must be of this set, which nobody can test: so this call has a condition, and it is for a caller that proves what it has heard.
+    pub fn hear(&mut self, note: Note)
+        requires table { note.table ≡ self.old.board.table }
+        ensures board { self.new.board ≡ self.old.board }
+        ensures same { HasHeard self.old.hand.pass self.new.hand.pass }
+        ensures past { HasSeenAllOf self.new.hand.pass self.old.hand.pass }
+        ensures heard { Extends self.new.hand.pass.view.past note.past }
+        ensures rest { self.new.hand ≡ record self.old.hand { pass = self.new.hand.pass } }
+        ensures between { IsBetweenCalls self.new.hand }
+    {
+        self.home.tree().hear(&mut self.guest.worker, note);
     }
 
     /// The key of a delete that has flagged its leaf and not answered yet; `finish` goes on with it.
     pub fn pending(&self) -> Option<Key>
         ensures { result ≡ option_map (λ (n : Delete). n.key) self.now.hand.pending }
     {
-        self.worker.pending()
+        self.guest.worker.pending()
     }
 
     /// The epoch at which the worker is held, from a `pin` until its `unpin`.
     pub fn held(&self) -> Option<u64>
         ensures { result ≡ self.now.hand.held }
     {
-        self.worker.held()
+        self.guest.worker.held()
     }
 
     /// What this worker has won, and what became of what it cut off.
     pub fn ledger(&self) -> Counts
         ensures { IsLedger self.now.hand.pass.view self.now.hand.pass.view.number result }
     {
-        self.worker.ledger()
+        self.guest.worker.ledger()
     }
 
     /// How many nodes wait in the queues that the worker holds.
     pub fn queue_len(&self) -> u64
         ensures { result ≡ waiting_in self.now.hand.queues }
     {
-        self.worker.queue_len()
+        self.guest.worker.queue_len()
     }
 
     /// The worker goes home, with all that it holds, is held at or has pending, and can be taken again by `Set::member`. Of its tree nothing changes.
     pub fn close(self) {
-        let Member { home, worker } = self;
-        home.receive(worker);
+        let Member { home, guest } = self;
+        home.receive(guest);
+    }
+
+    /// The worker stays with these, as it is. There is room for it.
+    pub(crate) fn stay_with(self, workers: &mut Vec<Worker>)
+        requires { length workers.old.items < vec_capacity workers.old }
+        ensures items { workers.new.items ≡ workers.old.items ++ self.hand ∷ [] }
+        ensures own { IsOf self.board self.hand.pass }
+    {
+        let Member { home: _, guest } = self;
+        guest.stay_with(workers);
     }
 
     /// A worker that is at home resigns to this one: `Tree::resign` of `nm_tree`. It never comes back; this one holds all that it held.
     ///
-    /// Refused, nothing has changed, and the member is handed back as it was.
+    /// Refused, nothing has changed: the leaver is at home, as it was, and the member is handed back as it was. `Number`: the tree has no worker of
+    /// that number. `Away`: it is not at home. `Held`, `Pending`: it went home so.
     pub fn resign(self, leaver: u32) -> Result<Member, ResignError>
         ensures done { IfOk result (λ m. (m.board ≡ self.board) × (w : Hand) × IsResident self.board self.hand.fit leaver w × HasResigned self.hand w m.hand) }
         ensures refused { IfErr result (λ e. e.member ≡ self) }
+        ensures reason { IfErr result (λ e. IsStaying self leaver e.reason) }
     {
-        let Member { home, worker } = self;
+        let Member { home, guest } = self;
         let other = match home.take(leaver) {
             Ok(other) => other,
             Err(absence) => {
                 return Err(ResignError {
                     reason: reason_of(absence),
-                    member: Member { home, worker },
+                    member: Member { home, guest },
                 });
             }
         };
-        match home.tree().resign(worker, other) {
+        match unite(home.tree(), guest, other) {
             Ok(heir) => Ok(Member::of(home, heir)),
-            Err(fault) => {
-                home.receive(fault.leaver);
+            Err(stay) => {
+                let Stay {
+                    reason,
+                    heir,
+                    leaver,
+                } = stay;
+                home.receive(leaver);
                 Err(ResignError {
-                    reason: refusal_of(fault.reason),
-                    member: Member::of(home, fault.heir),
+                    reason: refusal_of(reason),
+                    member: Member::of(home, heir),
                 })
             }
         }
@@ -254,7 +300,9 @@ impl Drop for Member {
 }
 
 /// Why a worker that is not at home does not resign.
-fn reason_of(absence: Absence) -> ResignReason {
+fn reason_of(absence: Absence) -> ResignReason
+    ensures { result ≡ told_absence absence }
+{
     match absence {
         Absence::Number => ResignReason::Number,
         Absence::Away => ResignReason::Away,
@@ -262,7 +310,9 @@ fn reason_of(absence: Absence) -> ResignReason {
 }
 
 /// The tree's reason.
-fn refusal_of(reason: nm_tree::ResignReason) -> ResignReason {
+fn refusal_of(reason: nm_tree::ResignReason) -> ResignReason
+    ensures { result ≡ told_staying reason }
+{
     match reason {
         nm_tree::ResignReason::Held => ResignReason::Held,
         nm_tree::ResignReason::Pending => ResignReason::Pending,

@@ -1,9 +1,11 @@
-//! Sets: a tree that gives out its workers as members, and is closed when all of them are at home.
-ghost use Rattle.std.specs.Prelude.{◌≡◌, ◌<◌, ◌≤◌, ◌↔◌, ◌⊎◌, true, false, length, IfOk, IfErr, IsErrOf};
+//! Sets: a tree that gives out its workers as members, and is closed when all of them are at home, or with the set.
+ghost use Rattle.std.specs.Prelude.{◌≡◌, ◌<◌, ◌≤◌, ◌↔◌, ◌⊎◌, ◌++◌, ◌∷◌, [], true, false, length, IfOk, IfErr, IsErrOf, OnOk, OnErr};
 ghost use Rattle.std.specs.Arc.{arc_value};
+ghost use Rattle.nm_tree.specs.Closing.{AreAllOf, IsClosed};
 ghost use Rattle.nm_tree.specs.Workers.{AreNew, HaveFit};
-ghost use Rattle.nm_set.specs.Seats.{IsResident, IsAnyResident};
-ghost use Rattle.nm_set.specs.Ends.{EndsSet};
+ghost use Rattle.nm_set.specs.Seats.{BeginsWith, IsResident, IsAnyResident};
+ghost use Rattle.nm_set.specs.Ends.{EndsSet, IsLeftOpen, IsTreesReason, told_reason};
+ghost use Rattle.nm_set.specs.States.{open_set, closing_set};
 
 use crate::attach::take_any;
 use crate::fault::{CloseReason, MemberFault};
@@ -16,52 +18,47 @@ use std::alloc::Global;
 use std::marker::Model;
 use std::sync::Arc;
 
-/// A tree whose workers were gathered, by a close that was refused behind that.
-#[derive(Drop)]
-pub(crate) struct Gathered {
-    site: Site,
-    workers: Vec<Worker>,
-}
-
-impl Model for Gathered {
-    ghost use Rattle.nm_tree.specs.Closing.{AreAllOf};
-    ghost use Rattle.nm_set.specs.declared.home.Site.{Site};
-
-    ghost Value = { Site };
-
-    ghost view = { λ g. g.site };
-
-    ghost invariant = { λ g. AreAllOf g.site.tree g.workers.items };
-}
-
-/// Where a set stands.
+/// Where the tree of a set is.
 #[derive(Drop)]
 pub(crate) enum State {
+    /// With its workers at home, and with its members.
     Open(Arc<Home, Global>),
-    Closing(Gathered),
+    /// Its workers were gathered, by a close that was refused behind that.
+    Closing(Site),
 }
 
 /// A set of keys, the whole numbers up to 2^64 - 4, which threads share by its members.
 #[derive(Drop)]
 pub struct Set {
     state: State,
+    // The workers of members that the set keeps, and all of them once they were gathered.
+    kept: Vec<Worker>,
 }
 
 impl Model for Set {
+    ghost use Rattle.nm_tree.specs.Closing.{AreAllOf};
     ghost use Rattle.nm_set.specs.Seats.{Standing};
+    ghost use Rattle.nm_set.specs.States.{site_of, standing_of};
 
     ghost Value = { Standing };
 
-    ghost use Rattle.nm_set.specs.States.{standing_of};
+    ghost view = { λ s. standing_of s.state s.kept.items };
 
-    ghost view = { λ s. standing_of s.state };
+    ghost invariant = { λ s. AreAllOf (site_of s.state).tree s.kept.items };
 }
 
-/// A set was not closed. Behind `Away` it is as it was; behind the others its workers may have been gathered, so that only `close` goes on.
+/// A set was not closed. Behind `Away` it is as it was; behind the others its workers may have been gathered, so that only `close` goes on. No worker is
+/// lost: those that it keeps are as they came.
 #[derive(Drop)]
 pub struct CloseError {
     pub reason: CloseReason,
     pub set: Set,
+}
+
+/// There is no memory to keep a member. It is as it was.
+#[derive(Drop)]
+pub struct KeepError {
+    pub member: Member,
 }
 
 impl Set {
@@ -70,7 +67,7 @@ impl Set {
     ///
     /// `NoMemory`: nothing is kept.
     pub fn lowest(alloc: Global, nodes: u32, workers: u32) -> Result<Set, NewError>
-        ensures open { IfOk result (λ s. (s.closing ≡ false) × (s.board.layout ≡ record { nodes = nodes; workers = workers })) }
+        ensures open { IfOk result (λ s. (s.closing ≡ false) × (s.kept ≡ []) × (s.board.layout ≡ record { nodes = nodes; workers = workers })) }
         ensures fit { IfOk result (λ s. s.fit ≡ Fit.Lowest) }
         ensures nodes { IsErrOf result NewError.Nodes ↔ ((nodes < LEAST_NODES) ⊎ (MOST_NODES < nodes)) }
         ensures workers { IsErrOf result NewError.Workers ↔ ((LEAST_NODES ≤ nodes) × (nodes ≤ MOST_NODES) × ((workers < 1) ⊎ (MOST_WORKERS < workers))) }
@@ -85,7 +82,7 @@ impl Set {
 
     /// The same, but each worker looks for a free slot near those that it took and gave back last: `Tree::near` of `nm_tree`.
     pub fn near(alloc: Global, nodes: u32, workers: u32) -> Result<Set, NewError>
-        ensures open { IfOk result (λ s. (s.closing ≡ false) × (s.board.layout ≡ record { nodes = nodes; workers = workers })) }
+        ensures open { IfOk result (λ s. (s.closing ≡ false) × (s.kept ≡ []) × (s.board.layout ≡ record { nodes = nodes; workers = workers })) }
         ensures fit { IfOk result (λ s. s.fit ≡ Fit.Near) }
         ensures nodes { IsErrOf result NewError.Nodes ↔ ((nodes < LEAST_NODES) ⊎ (MOST_NODES < nodes)) }
         ensures workers { IsErrOf result NewError.Workers ↔ ((LEAST_NODES ≤ nodes) × (nodes ≤ MOST_NODES) × ((workers < 1) ⊎ (MOST_WORKERS < workers))) }
@@ -99,20 +96,25 @@ impl Set {
     }
 
     /// Gives out the worker of a number, with all that it held when it went home.
+    ///
+    /// `Number`: the tree has no worker of that number. `Away`: the worker is not at home.
     pub fn member(&self, number: u32) -> Result<Member, MemberFault>
         ensures member { IfOk result (λ m. (m.board ≡ self.now.board) × IsResident self.now.board self.now.fit number m.hand) }
-        ensures number { IsErrOf result MemberFault.Number → self.now.board.layout.workers ≤ number }
+        ensures number { IsErrOf result MemberFault.Number ↔ ((self.now.closing ≡ false) × (self.now.board.layout.workers ≤ number)) }
         ensures closing { IsErrOf result MemberFault.Closing ↔ (self.now.closing ≡ true) }
     {
         let home = match &self.state {
             State::Open(home) => home,
             State::Closing(_) => return Err(MemberFault::Closing),
         };
+        if home.workers() <= number as usize {
+            return Err(MemberFault::Number);
+        }
         let Ok(home) = Arc::try_clone(home) else {
             return Err(MemberFault::Uncounted);
         };
         match home.take(number) {
-            Ok(worker) => Ok(Member::of(home, worker)),
+            Ok(guest) => Ok(Member::of(home, guest)),
             Err(Absence::Number) => Err(MemberFault::Number),
             Err(Absence::Away) => Err(MemberFault::Away),
         }
@@ -135,28 +137,48 @@ impl Set {
             return Err(MemberFault::Uncounted);
         };
         match take_any(&home) {
-            Some(worker) => Ok(Member::of(home, worker)),
+            Some(guest) => Ok(Member::of(home, guest)),
             None => Err(MemberFault::Away),
         }
     }
 
-    /// Ends the set when all its members are at home, and tells what is left: `Tree::close` of `nm_tree`, over all workers. A worker may be held or
-    /// have a pending key.
+    /// The set keeps the worker of a member that has done its part, with all that it did, holds and has pending, for `close`. It is not at home, so
+    /// no `member` gives it out; what the member was answered, the report of the set then takes into account, as `close` says.
     ///
-    /// `Away`: a member is not closed. `NotAll`, `NoMemory`: see `CloseReason`; `close` can be called again.
-    pub fn close(self, alloc: Global) -> Result<Report, CloseError>
-        ensures closed { IfOk result (EndsSet self.board) }
-        ensures refused { IfErr result (λ e. (e.set.board ≡ self.board) × (e.set.fit ≡ self.fit)) }
+    /// The member must be of this set, which nobody can test: so this call has a condition, and it is for a caller that proves something of the
+    /// report. Others close their members. A growth may be refused, and then nothing has changed.
+    pub fn keep(&mut self, member: Member) -> Result<(), KeepError>
+        requires own { member.board ≡ self.old.board }
+        ensures kept { OnOk result (self.new ≡ record self.old { kept = self.old.kept ++ member.hand ∷ [] }) }
+        ensures same { OnErr result (self.new ≡ self.old) }
+        ensures refused { IfErr result (λ e. e.member ≡ member) }
     {
-        let Set { state } = self;
-        let gathered = match state {
-            State::Closing(gathered) => gathered,
-            State::Open(home) => match gather(alloc, home) {
-                Ok(gathered) => gathered,
-                Err(error) => return Err(error),
+        match self.kept.reserve(1) {
+            Ok(()) => {
+                member.stay_with(&mut self.kept);
+                Ok(())
+            }
+            Err(_) => Err(KeepError { member }),
+        }
+    }
+
+    /// Ends the set when all its members are at home or kept, and tells what is left: `Tree::close` of `nm_tree`, over the workers that the set keeps and
+    /// those that are at home. A worker may be held or have a pending key.
+    ///
+    /// `Away`: a member is neither closed nor kept; the set is as it was. `NotAll`, `NoMemory`: see `CloseReason`; the set keeps all workers that it
+    /// has gathered, and `close` can be called again.
+    pub fn close(self) -> Result<Report, CloseError>
+        ensures closed { IfOk result (EndsSet self) }
+        ensures refused { IfErr result (λ e. IsLeftOpen self e.reason e.set) }
+    {
+        let Set { state, kept } = self;
+        match state {
+            State::Closing(site) => end(site, kept),
+            State::Open(home) => match gather(home, kept) {
+                Ok((site, workers)) => end(site, workers),
+                Err(error) => Err(error),
             },
-        };
-        end(gathered)
+        }
     }
 }
 
@@ -165,7 +187,7 @@ fn settle(alloc: Global, site: Site, workers: Vec<Worker>) -> Result<Set, NewErr
     requires new { AreNew site.tree 0 workers.items }
     requires all { length workers.items ≡ site.tree.layout.workers }
     requires fit { HaveFit site.fit workers.items }
-    ensures set { IfOk result (λ s. (s.closing ≡ false) × (s.board ≡ site.tree) × (s.fit ≡ site.fit)) }
+    ensures set { IfOk result (λ s. s ≡ open_set site []) }
     ensures memory { IfErr result (λ e. e ≡ NewError.NoMemory) }
 {
     let Ok(home) = Home::of(alloc, site, workers) else {
@@ -174,64 +196,72 @@ fn settle(alloc: Global, site: Site, workers: Vec<Worker>) -> Result<Set, NewErr
     match Arc::new(alloc, home) {
         Ok(home) => Ok(Set {
             state: State::Open(home),
+            kept: Vec::new(alloc),
         }),
         Err(_) => Err(NewError::NoMemory),
     }
 }
 
-/// Takes all workers from their seats, where no member has the home too.
-fn gather(alloc: Global, home: Arc<Home, Global>) -> Result<Gathered, CloseError>
-    ensures gathered { IfOk result (λ g. g ≡ arc_value home) }
-    ensures refused { IfErr result (λ e. (e.set.board ≡ (arc_value home).tree) × (e.set.fit ≡ (arc_value home).fit) × (e.set.closing ≡ false)) }
+/// The tree, with the workers that were kept and then all that are at home, where no member has the home too.
+fn gather(home: Arc<Home, Global>, kept: Vec<Worker>) -> Result<(Site, Vec<Worker>), CloseError>
+    requires own { AreAllOf (arc_value home).tree kept.items }
+    ensures site { IfOk result (λ g. g.0 ≡ arc_value home) }
+    ensures all { IfOk result (λ g. AreAllOf (arc_value home).tree g.1.items × BeginsWith kept.items g.1.items) }
+    ensures reason { IfErr result (λ e. (e.reason ≡ CloseReason.Away) ⊎ (e.reason ≡ CloseReason.NoMemory)) }
+    ensures refused { IfErr result (λ e. e.set ≡ open_set (arc_value home) kept.items) }
 {
-    let Ok(room) = Vec::with_capacity(alloc, home.workers()) else {
-        return Err(CloseError {
-            reason: CloseReason::NoMemory,
-            set: Set {
-                state: State::Open(home),
-            },
-        });
-    };
+    let mut workers = kept;
+    if workers.reserve(home.workers()).is_err() {
+        return Err(left_open(home, workers, CloseReason::NoMemory));
+    }
     match Arc::try_unwrap(home) {
-        Ok(home) => {
-            let (site, workers) = home.gather(room);
-            Ok(Gathered { site, workers })
-        }
-        Err(home) => Err(CloseError {
-            reason: CloseReason::Away,
-            set: Set {
-                state: State::Open(home),
-            },
-        }),
+        Ok(home) => Ok(home.gather(workers)),
+        Err(home) => Err(left_open(home, workers, CloseReason::Away)),
+    }
+}
+
+/// An open set that is as it was.
+fn left_open(home: Arc<Home, Global>, kept: Vec<Worker>, reason: CloseReason) -> CloseError
+    requires own { AreAllOf (arc_value home).tree kept.items }
+    ensures told { result.reason ≡ reason }
+    ensures set { result.set ≡ open_set (arc_value home) kept.items }
+{
+    CloseError {
+        reason,
+        set: Set {
+            state: State::Open(home),
+            kept,
+        },
     }
 }
 
 /// Closes a tree whose workers were gathered.
-fn end(gathered: Gathered) -> Result<Report, CloseError>
-    ensures closed { IfOk result (EndsSet gathered.tree) }
-    ensures refused { IfErr result (λ e. (e.set.board ≡ gathered.tree) × (e.set.fit ≡ gathered.fit) × (e.set.closing ≡ true)) }
+fn end(site: Site, workers: Vec<Worker>) -> Result<Report, CloseError>
+    requires own { AreAllOf site.tree workers.items }
+    ensures closed { IfOk result (λ r. IsClosed site.tree workers.items r.queues.items r.keys.items r.free r.reached) }
+    ensures refused { IfErr result (λ e. e.set ≡ closing_set site workers.items) }
+    ensures reason { IfErr result (λ e. IsTreesReason site.tree workers.items e.reason) }
 {
-    let Gathered { site, workers } = gathered;
     let Site { tree, fit } = site;
     match tree.close(workers) {
         Ok(report) => Ok(report),
         Err(error) => Err(CloseError {
             reason: reason_of(error.reason),
             set: Set {
-                state: State::Closing(Gathered {
-                    site: Site {
-                        tree: error.tree,
-                        fit,
-                    },
-                    workers: error.workers,
+                state: State::Closing(Site {
+                    tree: error.tree,
+                    fit,
                 }),
+                kept: error.workers,
             },
         }),
     }
 }
 
 /// The tree's reason.
-fn reason_of(reason: nm_tree::CloseReason) -> CloseReason {
+fn reason_of(reason: nm_tree::CloseReason) -> CloseReason
+    ensures { result ≡ told_reason reason }
+{
     match reason {
         nm_tree::CloseReason::NotAll { given, made } => CloseReason::NotAll { given, made },
         nm_tree::CloseReason::NoMemory => CloseReason::NoMemory,

@@ -1,4 +1,4 @@
-use Rattle.std.proofs.Common.{ℕ, suc, List, [], ◌∷◌, length, length-append, sym, ap, subst, arith}
+use Rattle.std.proofs.Common.{◌≡◌, ◌∙◌, ℕ, suc, List, [], ◌∷◌, ◌++◌, append_assoc, length, length-append, sym, ap, subst, arith}
 use Rattle.nm_steps.specs.Steps.{IsOf}
 use Rattle.nm_tree.specs.Closing.{AreAllOf}
 use Rattle.nm_tree.specs.Workers.{Hand}
@@ -7,19 +7,21 @@ use Rattle.nm_set.specs.Seats.{AreSeats}
 use Rattle.nm_set.specs.declared.home.Site.{Site}
 use Rattle.nm_set.proofs.home.Home.gather.Goals as goal
 
-pub loop-seat-preserved-in-Ok-1 : goal.loop-seat-preserved-in-Ok-1
-loop-seat-preserved-in-Ok-1 c =
-    let worker = c.in-Some-into_inner.field-0.worker in
+pub loop-seat-preserved : goal.loop-seat-preserved
+loop-seat-preserved c =
+    let worker = c.in-Some-leave.guest.worker in
     let before = c.loop-seat.workers.items in
     let first = c.in-Some.ensures.steps.0 in
-    let more = c.in-Ok.ensures.items in
+    let more = c.stay_with.ensures.items in
     let k : ℕ = c.loop-seat.invariant.left.0 in
+    let home : List Hand = c.loop-seat.invariant.kept.0 in
     let seats = subst (AreSeats c.self.inside.site k) first c.loop-seat.invariant.left.1 in
     let R : Site × ℕ → Type 0 = λ s. IsOf s.0.tree worker.pass in
-    let own = subst R seats.0 c.in-Some-into_inner.ensures.own in
+    let own = subst R seats.0 c.in-Some-leave.ensures.own in
     record {
       own = subst (AreAllOf c.self.inside.site.tree) (sym more) (all_and c.self.inside.site.tree before worker c.loop-seat.invariant.own own);
+      kept = (home ++ worker ∷ [], more ∙ (ap (λ (ws : List Hand). ws ++ worker ∷ []) c.loop-seat.invariant.kept.1 ∙ append_assoc c.args.workers.items home (worker ∷ [])));
       left = (suc k, seats.1);
-      room = omega (arith, c.loop-seat.invariant.room, ap (λ (ss : List (Site × ℕ)). length ss) first, ap (λ (ws : List Hand). length ws) more, length-append before (worker ∷ []), c.in-Ok.ensures.capacity);
+      room = omega (arith, c.loop-seat.invariant.room, ap (λ (ss : List (Site × ℕ)). length ss) first, ap (λ (ws : List Hand). length ws) more, length-append before (worker ∷ []), c.stay_with.ensures.capacity);
       same = c.loop-seat.invariant.same;
     }

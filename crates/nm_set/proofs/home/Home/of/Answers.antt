@@ -16,8 +16,8 @@ loop-worker-preserved c =
     let fits = subst (HaveFit site.fit) first c.loop-worker.invariant.fit in
     let number : c.number.result ≡ length before = c.number.ensures.number ∙ ap (λ (v : View). v.number) new.1 in
     let P : Site × ℕ → Type 0 = λ s. AreSeats site 0 (before ++ s ∷ []) in
-    let seats = subst P (sym c.new.ensures) (one_seat site 0 before c.number.result (omega (arith, number)) c.loop-worker.invariant.seats) in
-    let longer : length c.push.new.self.items ≡ suc (length before) = omega (arith, ap (λ (ss : List (Site × ℕ)). length ss) more, length-append before (c.new.result ∷ [])) in
+    let seats = subst P (sym c.seated.ensures) (one_seat site 0 before c.number.result (omega (arith, number)) c.loop-worker.invariant.seats) in
+    let longer : length c.push.new.self.items ≡ suc (length before) = omega (arith, ap (λ (ss : List (Site × ℕ)). length ss) more, length-append before (c.seated.result ∷ [])) in
     let N : ℕ → Type 0 = λ n. AreNew site.tree n c.next.new.self.rest.items in
     record {
       seats = subst (AreSeats site 0) (sym more) seats;

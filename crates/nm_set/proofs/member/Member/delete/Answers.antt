@@ -12,7 +12,7 @@ use Rattle.nm_set.proofs.member.Member.delete.Goals.{in-Ok, in-Err}
 pub returns-clause-did : goal.returns-clause-did
 returns-clause-did c =
     let P : Seated → Type 0 = λ s. LeavesDelete s.board.layout.nodes c.args.tries c.args.key s.hand c.delete.new.worker c.delete.result in
-    let Q : Board → Type 0 = λ b. LeavesDelete b.layout.nodes c.args.tries c.args.key c.self.inside.worker c.delete.new.worker c.delete.result in
+    let Q : Board → Type 0 = λ b. LeavesDelete b.layout.nodes c.args.tries c.args.key c.self.inside.guest.worker c.delete.new.worker c.delete.result in
     let R : Result Bool Lost → Type 0 = λ r. LeavesDelete c.args.self.now.board.layout.nodes c.args.tries c.args.key c.args.self.now.hand c.delete.new.worker r in
     let S : Result Bool Fault → Type 0 = λ r. Asked (LeavesDelete c.args.self.now.board.layout.nodes c.args.tries c.args.key) c.args.self.now.hand c.delete.new.worker r in
     let did : R c.delete.result = subst P c.self.view_is (subst Q (c.tree.ensures ∙ ap (λ (s : Site). s.tree) c.deref.ensures) (record { same = c.delete.ensures.same; past = c.delete.ensures.past; did = c.delete.ensures.did; lacks = c.delete.ensures.lacks; moment = c.delete.ensures.moment; won = c.delete.ensures.won; steps = c.delete.ensures.steps; queues = c.delete.ensures.queues; blocks = c.delete.ensures.blocks; held = c.delete.ensures.held; fit = c.delete.ensures.fit; between = c.delete.ensures.between })) in

@@ -12,7 +12,7 @@ use Rattle.nm_set.proofs.member.Member.has.Goals.{in-Ok, in-Err}
 pub returns-clause-did : goal.returns-clause-did
 returns-clause-did c =
     let P : Seated → Type 0 = λ s. LeavesHas s.board.layout.nodes c.args.tries c.args.key s.hand c.has.new.worker c.has.result in
-    let Q : Board → Type 0 = λ b. LeavesHas b.layout.nodes c.args.tries c.args.key c.self.inside.worker c.has.new.worker c.has.result in
+    let Q : Board → Type 0 = λ b. LeavesHas b.layout.nodes c.args.tries c.args.key c.self.inside.guest.worker c.has.new.worker c.has.result in
     let R : Result Bool Lost → Type 0 = λ r. LeavesHas c.args.self.now.board.layout.nodes c.args.tries c.args.key c.args.self.now.hand c.has.new.worker r in
     let S : Result Bool Fault → Type 0 = λ r. Asked (LeavesHas c.args.self.now.board.layout.nodes c.args.tries c.args.key) c.args.self.now.hand c.has.new.worker r in
     let did : R c.has.result = subst P c.self.view_is (subst Q (c.tree.ensures ∙ ap (λ (s : Site). s.tree) c.deref.ensures) (record { same = c.has.ensures.same; past = c.has.ensures.past; did = c.has.ensures.did; moment = c.has.ensures.moment; won = c.has.ensures.won; steps = c.has.ensures.steps; queues = c.has.ensures.queues; held = c.has.ensures.held; fit = c.has.ensures.fit; between = c.has.ensures.between })) in

@@ -12,7 +12,7 @@ use Rattle.nm_set.proofs.member.Member.insert.Goals.{in-Ok, in-Err}
 pub returns-clause-did : goal.returns-clause-did
 returns-clause-did c =
     let P : Seated → Type 0 = λ s. LeavesInsert s.board.layout.nodes c.args.tries c.args.key s.hand c.insert.new.worker c.insert.result in
-    let Q : Board → Type 0 = λ b. LeavesInsert b.layout.nodes c.args.tries c.args.key c.self.inside.worker c.insert.new.worker c.insert.result in
+    let Q : Board → Type 0 = λ b. LeavesInsert b.layout.nodes c.args.tries c.args.key c.self.inside.guest.worker c.insert.new.worker c.insert.result in
     let R : Result Bool Lost → Type 0 = λ r. LeavesInsert c.args.self.now.board.layout.nodes c.args.tries c.args.key c.args.self.now.hand c.insert.new.worker r in
     let S : Result Bool Fault → Type 0 = λ r. Asked (LeavesInsert c.args.self.now.board.layout.nodes c.args.tries c.args.key) c.args.self.now.hand c.insert.new.worker r in
     let did : R c.insert.result = subst P c.self.view_is (subst Q (c.tree.ensures ∙ ap (λ (s : Site). s.tree) c.deref.ensures) (record { same = c.insert.ensures.same; past = c.insert.ensures.past; did = c.insert.ensures.did; lacks = c.insert.ensures.lacks; moment = c.insert.ensures.moment; won = c.insert.ensures.won; steps = c.insert.ensures.steps; queues = c.insert.ensures.queues; blocks = c.insert.ensures.blocks; held = c.insert.ensures.held; fit = c.insert.ensures.fit; between = c.insert.ensures.between })) in

@@ -1,0 +1,102 @@
+-- A set that is closed, or left open, by what its tree has told.
+use Rattle.std.proofs.Common.{◌≡◌, ◌∙◌, ◌⊎◌, false, true, List, [], ◌++◌, append-nil, refl, sym, ap, subst, inl, inr}
+use Rattle.std.specs.Prelude.{Result, Ok, Err, IfOk, IfErr}
+use Rattle.nm_steps.specs.Steps.{Board}
+use Rattle.nm_tree.specs.declared.closing.CloseReason.{CloseReason as Reason}
+use Rattle.nm_tree.specs.declared.closing.CloseReason.TheVariants as tree
+use Rattle.nm_tree.specs.declared.closing.Report.{Report}
+use Rattle.nm_tree.specs.Closing.{AreAllOf, IsClosed, IsCloseReason}
+use Rattle.nm_tree.specs.Workers.{Hand}
+use Rattle.nm_set.specs.declared.fault.CloseReason.{CloseReason}
+use Rattle.nm_set.specs.declared.fault.CloseReason.TheVariants as because
+use Rattle.nm_set.specs.declared.home.Site.{Site}
+use Rattle.nm_set.specs.declared.set.State.{State}
+use Rattle.nm_set.specs.declared.set.State.TheVariants.{Open, Closing}
+use Rattle.nm_set.specs.Seats.{BeginsWith, Standing}
+use Rattle.nm_set.specs.Ends.{EndsSet, HasGathered, IsLeftOpen, IsTreesReason}
+use Rattle.nm_set.specs.States.{site_of, standing_of, closing_set, open_set}
+
+-- the tree of a set
+pub tree_of : (s : State) (kept : List Hand) → (standing_of s kept).board ≡ (site_of s).tree
+tree_of (Open home) kept = refl
+tree_of (Closing site) kept = refl
+
+-- how the workers that were gathered come from the set's
+pub record Gathers (s : Standing) (site : Site) (all : List Hand) : Type 0 where
+  pub board : s.board ≡ site.tree
+  pub fit : s.fit ≡ site.fit
+  pub home : List Hand
+  pub are : all ≡ s.kept ++ home
+  pub none : s.closing ≡ true → home ≡ []
+  pub own : AreAllOf site.tree all
+
+pub ended : (s : Standing) (site : Site) (all : List Hand) → Gathers s site all → (r : Report) → IsClosed site.tree all r.queues.items r.keys.items r.free r.reached → EndsSet s r
+ended s site all g r closed =
+    let O : List Hand → Type 0 = λ ws. AreAllOf site.tree ws in
+    let B : Board → Type 0 = λ b. AreAllOf b (s.kept ++ g.home) in
+    let C : List Hand → Type 0 = λ ws. IsClosed site.tree ws r.queues.items r.keys.items r.free r.reached in
+    let D : Board → Type 0 = λ b. IsClosed b (s.kept ++ g.home) r.queues.items r.keys.items r.free r.reached in
+    record { home = g.home; own = subst B (sym g.board) (subst O g.are g.own); none = g.none; closed = subst D (sym g.board) (subst C g.are closed) }
+
+pub left : (s : Standing) (site : Site) (all : List Hand) → Gathers s site all → (t : Standing) → t ≡ closing_set site all → (why : CloseReason) → IsTreesReason site.tree all why → IsLeftOpen s why t
+left s site all g t is why (of_tree, told, reason) = subst (λ (w : CloseReason). IsLeftOpen s w t) (sym told) (by of_tree reason)
+  where
+    gathered : (x : Reason) → IsCloseReason site.tree all x → HasGathered s x t
+    gathered x so =
+        let board : t.board ≡ site.tree = ap (λ (u : Standing). u.board) is in
+        let kept : t.kept ≡ all = ap (λ (u : Standing). u.kept) is in
+        let P : Board → Type 0 = λ b. IsCloseReason b t.kept x in
+        let Q : List Hand → Type 0 = λ ws. IsCloseReason site.tree ws x in
+        record {
+          board = board ∙ sym g.board;
+          fit = ap (λ (u : Standing). u.fit) is ∙ sym g.fit;
+          closing = ap (λ (u : Standing). u.closing) is;
+          home = g.home;
+          kept = kept ∙ g.are;
+          none = g.none;
+          reason = subst P (sym board) (subst Q (sym kept) so);
+        }
+
+    by : (x : Reason) → IsCloseReason site.tree all x → IsLeftOpen s (Rattle.nm_set.specs.Ends.told_reason x) t
+    by (tree.NotAll given made) so = gathered (tree.NotAll given made) so
+    by tree.NoMemory so = inr (gathered tree.NoMemory so)
+
+-- of a set whose workers had been gathered before
+pub had_gathered : (s : Standing) (site : Site) (kept : List Hand) → closing_set site kept ≡ s → AreAllOf site.tree kept → Gathers s site kept
+had_gathered s site kept is own = record {
+  board = ap (λ (u : Standing). u.board) (sym is);
+  fit = ap (λ (u : Standing). u.fit) (sym is);
+  home = [];
+  are = ap (λ (u : Standing). u.kept) is ∙ sym (append-nil s.kept);
+  none = λ so. refl;
+  own = own;
+}
+
+-- of an open set
+pub gathered_now : (s : Standing) (site : Site) (kept all : List Hand) → open_set site kept ≡ s → BeginsWith kept all → AreAllOf site.tree all → Gathers s site all
+gathered_now s site kept all is (home, are) own = record {
+  board = ap (λ (u : Standing). u.board) (sym is);
+  fit = ap (λ (u : Standing). u.fit) (sym is);
+  home = home;
+  are = are ∙ ap (λ (u : Standing). u.kept ++ home) is;
+  none = λ so. absurd (differ (ap (λ (u : Standing). u.closing) is ∙ so));
+  own = own;
+}
+  where
+    differ : false ≡ true → ⊥
+    differ e = cc
+
+-- and of one that is as it was
+pub as_before : (s t : Standing) (site : Site) (kept : List Hand) → open_set site kept ≡ s → t ≡ open_set site kept → (why : CloseReason) → (why ≡ because.Away) ⊎ (why ≡ because.NoMemory) → IsLeftOpen s why t
+as_before s t site kept is same why (inl e) = subst (λ (w : CloseReason). IsLeftOpen s w t) (sym e) (ap (λ (u : Standing). u.closing) (sym is), same ∙ is)
+as_before s t site kept is same why (inr e) = subst (λ (w : CloseReason). IsLeftOpen s w t) (sym e) (inl (ap (λ (u : Standing). u.closing) (sym is), same ∙ is))
+
+-- ---- from one clause to another
+
+pub if_ok : {X E : Type 0} (P Q : X → Type 0) (r : Result X E) → IfOk r P → ((x : X) → P x → Q x) → IfOk r Q
+if_ok P Q (Ok x) p f = f x p
+if_ok P Q (Err e) p f = tt
+
+pub if_err : {X E : Type 0} (P Q R : E → Type 0) (r : Result X E) → IfErr r P → IfErr r Q → ((e : E) → P e → Q e → R e) → IfErr r R
+if_err P Q R (Ok x) p q f = tt
+if_err P Q R (Err e) p q f = f e p q
