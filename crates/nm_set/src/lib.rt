@@ -10,6 +10,7 @@ mod fault;
 mod home;
 mod member;
 mod set;
+mod tended;
 
 pub use fault::{CloseReason, Fault, MemberFault, NotHeld, PinFault, ResignReason};
 pub use member::{Member, ResignError};
@@ -18,3 +19,4 @@ pub use nm_tree::{
     PinFault as CallPinFault, Report,
 };
 pub use set::{CloseError, Set};
+pub use tended::Habit;
