@@ -2,3 +2,4 @@
 pub mod SeatLists
 pub mod SetEnds
 pub mod Sending
+pub mod Tending

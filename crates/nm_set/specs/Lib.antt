@@ -2,3 +2,4 @@ pub mod Seats
 pub mod Asked
 pub mod States
 pub mod Ends
+pub mod Tended

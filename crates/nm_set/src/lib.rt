@@ -11,6 +11,7 @@ mod home;
 mod member;
 mod seat;
 mod set;
+mod tended;
 
 pub use fault::{CloseReason, Fault, MemberFault, NotHeld, PinFault, ResignReason};
 pub use member::{Member, ResignError};
@@ -19,3 +20,4 @@ pub use nm_tree::{
     PinFault as CallPinFault, Report,
 };
 pub use set::{CloseError, KeepError, Set};
+pub use tended::Habit;

@@ -1,0 +1,527 @@
+-- What tended calls leave, by what each part of them leaves.
+use Rattle.std.proofs.Common.{◌≡◌, ◌≤◌, ◌⊎◌, inl, inr, true≢false, ℕ, zero, suc, ◌+◌, ◌*◌, Bool, true, false, List, [], ◌∷◌, length, refl, sym, ap, subst, ◌∙◌, arith}
+use Rattle.std.specs.Prelude.{drop, unwrap_or, Option, Some, None, IsSome, Result, Ok, Err, IfOk}
+use Rattle.std.proofs.Math.Nat.{suc-mul, add-mul, mul-le-mul_right}
+use Rattle.std.proofs.lemmas.List.{drop-drop, length-append}
+use Rattle.nm_edge.specs.declared.node.NodeId.{NodeId}
+use Rattle.nm_edge.specs.Layouts.{Layout}
+use Rattle.nm_model.specs.declared.event.Event.{Event}
+use Rattle.nm_model.specs.declared.event.Op.{Op}
+use Rattle.nm_model.specs.declared.event.Op.TheVariants.{Has, Insert, Delete}
+use Rattle.nm_model.specs.Searches.{Search}
+use Rattle.nm_steps.specs.Rules.{Extends}
+use Rattle.nm_steps.specs.Steps.{Board, Stand, HasSeen, IsSamePass, HasSeenAllOf}
+use Rattle.nm_steps.proofs.Seeing.{seen_itself, seen_through}
+use Rattle.nm_epoch.specs.declared.collecting.Entry.{Entry}
+use Rattle.nm_epoch.specs.declared.collecting.HeldQueue.{HeldQueue}
+use Rattle.nm_epoch.specs.Collecting.{is_ripe, HaveLost}
+use Rattle.nm_epoch.specs.Resting.{search}
+use Rattle.nm_calls.specs.Moments.{AnswerHasMoment, HadNoCall}
+use Rattle.nm_tree.specs.declared.fault.Fault.{Fault as Lost}
+use Rattle.nm_tree.specs.declared.fault.Fault.TheVariants as call
+use Rattle.nm_tree.specs.declared.worker.Unfinished.{Unfinished}
+use Rattle.nm_tree.specs.Workers.{Hand, IsAs, IsBetweenCalls, KeepsOthers}
+use Rattle.nm_set.specs.declared.fault.Fault.{Fault}
+use Rattle.nm_set.specs.declared.fault.Fault.TheVariants as fault
+use Rattle.nm_set.specs.declared.tended.Habit.{Habit}
+use Rattle.nm_set.specs.Asked.{Asked, LeavesHas, LeavesInsert, LeavesDelete, LeavesFinish, LeavesAdvance, LeavesCollect}
+use Rattle.nm_set.specs.Tended.{OnlyLoses, OthersOnlyLose, GoesOn, InARow, IsAsked, busy, Looks, Inserts, Deletes, Finishes, IsRelieved, IsTidied, InsertsOn, of_finish, DeletesOn, IsLeft, round_bound, Tends}
+use Rattle.std.specs.List.{prefix_len}
+
+-- nothing is not there
+none_there : {A B : Type 0} (x : Option A) → x ≡ None → IsSome x → B
+none_there x e is = absurd (true≢false (sym (subst IsSome e is)))
+
+-- ---- queues
+
+pub lose_nothing : (o : ℕ) (hs : List HeldQueue) → OthersOnlyLose o hs hs
+lose_nothing o [] = tt
+lose_nothing o (h ∷ hs) = (refl, inr (0, refl), lose_nothing o hs)
+
+loses_both : (o : ℕ) (h g f : HeldQueue) → g.origin ≡ h.origin → OnlyLoses o h g → OnlyLoses o g f → OnlyLoses o h f
+loses_both o h g f same (inl e) second = inl e
+loses_both o h g f same (inr a) (inl e) = inl (sym same ∙ e)
+loses_both o h g f same (inr (n, a)) (inr (m, b)) = inr (n + m, b ∙ (ap (λ (es : List Entry). drop m es) a ∙ drop-drop m n h.queue.items))
+
+pub lose_through : (o : ℕ) (hs gs fs : List HeldQueue) → OthersOnlyLose o hs gs → OthersOnlyLose o gs fs → OthersOnlyLose o hs fs
+lose_through o [] [] [] a b = tt
+lose_through o [] [] (f ∷ fs) a b = absurd b
+lose_through o [] (g ∷ gs) fs a b = absurd a
+lose_through o (h ∷ hs) [] fs a b = absurd a
+lose_through o (h ∷ hs) (g ∷ gs) [] a b = absurd b
+lose_through o (h ∷ hs) (g ∷ gs) (f ∷ fs) a b = (b.0 ∙ a.0, loses_both o h g f a.0 a.1 b.1, lose_through o hs gs fs a.2 b.2)
+
+kept_one : (o : ℕ) (h g : HeldQueue) → (h.origin ≡ o) ⊎ (g ≡ h) → OnlyLoses o h g
+kept_one o h g (inl e) = inl e
+kept_one o h g (inr e) = inr (0, ap (λ (q : HeldQueue). q.queue.items) e)
+
+pub lose_by_call : (o : ℕ) (hs gs : List HeldQueue) → KeepsOthers o hs gs → OthersOnlyLose o hs gs
+lose_by_call o [] [] a = tt
+lose_by_call o [] (g ∷ gs) a = absurd a
+lose_by_call o (h ∷ hs) [] a = absurd a
+lose_by_call o (h ∷ hs) (g ∷ gs) a = (a.0, kept_one o h g a.1, lose_by_call o hs gs a.2)
+
+pub lose_by_collect : (o epoch : ℕ) (hs gs : List HeldQueue) → HaveLost epoch hs gs → OthersOnlyLose o hs gs
+lose_by_collect o epoch [] [] a = tt
+lose_by_collect o epoch [] (g ∷ gs) a = absurd a
+lose_by_collect o epoch (h ∷ hs) [] a = absurd a
+lose_by_collect o epoch (h ∷ hs) (g ∷ gs) a = (a.0, inr (prefix_len (is_ripe epoch) h.queue.items, a.1), lose_by_collect o epoch hs gs a.2)
+
+lose_same : (o : ℕ) (hs gs : List HeldQueue) → gs ≡ hs → OthersOnlyLose o hs gs
+lose_same o hs gs e = subst (OthersOnlyLose o hs) (sym e) (lose_nothing o hs)
+
+-- ---- going on
+
+-- one pass behind another
+record Follows (p q : Stand) : Type 0 where
+  same : IsSamePass p q
+  past : HasSeenAllOf q p
+
+follows_itself : (p : Stand) → Follows p p
+follows_itself p = record { same = refl; past = seen_itself p }
+
+follows_then : (o p q : Stand) → Follows o p → Follows p q → Follows o q
+follows_then o p q first second = record {
+  same = second.same ∙ ap (λ (z : Stand). record z { view = record z.view { log = q.view.log; past = q.view.past } }) first.same;
+  past = seen_through o p q first.past second.past;
+}
+
+pub goes_then : {m n : ℕ} (w x z : Hand) → GoesOn m w x → GoesOn n x z → GoesOn (m + n) w z
+goes_then {m} {n} w x z a b =
+    let both = follows_then w.pass x.pass z.pass (record { same = a.same; past = a.past }) (record { same = b.same; past = b.past }) in
+    let number = ap (λ (p : Stand). p.view.number) a.same in
+    let first = a.steps in
+    let second = b.steps in
+    record {
+      same = both.same;
+      past = both.past;
+      queues = lose_through w.pass.view.number w.queues x.queues z.queues a.queues (subst (λ (o : ℕ). OthersOnlyLose o x.queues z.queues) number b.queues);
+      steps = omega (arith, first, second);
+      held = b.held;
+      fit = b.fit ∙ a.fit;
+      between = b.between;
+    }
+
+pub goes_more : (m n : ℕ) (w z : Hand) → m ≤ n → GoesOn m w z → GoesOn n w z
+goes_more m n w z le a = let few = a.steps in record { same = a.same; past = a.past; queues = a.queues; steps = omega (arith, few, le); held = a.held; fit = a.fit; between = a.between }
+
+pub goes_nowhere : (w : Hand) → w.held ≡ None → IsBetweenCalls w → GoesOn 0 w w
+goes_nowhere w free between = record { same = refl; past = seen_itself w.pass; queues = lose_nothing w.pass.view.number w.queues; steps = omega arith; held = free; fit = refl; between = between }
+
+-- a call of the tree is in one round
+in_round : (t : ℕ) (L : Layout) (a b x : ℕ) → x ≡ t * (4 * L.nodes + 512) → b ≤ a + x + 6 * L.nodes + 10 → b ≤ a + (x + 7 * L.nodes + 2 * L.workers + 12)
+in_round t L a b x is few = omega (arith, few)
+
+goes_has : (L : Layout) (t k : ℕ) (w z : Hand) (r : Result Bool Lost) → LeavesHas L.nodes t k w z r → GoesOn (round_bound t L) w z
+goes_has L t k w z r l = record {
+  same = l.same;
+  past = l.past;
+  queues = lose_same w.pass.view.number w.queues z.queues l.queues;
+  steps = in_round t L (length w.pass.view.log) (length z.pass.view.log) (t * (4 * L.nodes + 512)) refl l.steps;
+  held = l.held;
+  fit = l.fit;
+  between = l.between;
+}
+
+goes_insert : (L : Layout) (t k : ℕ) (w z : Hand) (r : Result Bool Lost) → LeavesInsert L.nodes t k w z r → GoesOn (round_bound t L) w z
+goes_insert L t k w z r l = record {
+  same = l.same;
+  past = l.past;
+  queues = lose_by_call w.pass.view.number w.queues z.queues l.queues;
+  steps = in_round t L (length w.pass.view.log) (length z.pass.view.log) (t * (4 * L.nodes + 512)) refl l.steps;
+  held = l.held;
+  fit = l.fit;
+  between = l.between;
+}
+
+goes_delete : (L : Layout) (t k : ℕ) (w z : Hand) (r : Result Bool Lost) → LeavesDelete L.nodes t k w z r → GoesOn (round_bound t L) w z
+goes_delete L t k w z r l = record {
+  same = l.same;
+  past = l.past;
+  queues = lose_by_call w.pass.view.number w.queues z.queues l.queues;
+  steps = in_round t L (length w.pass.view.log) (length z.pass.view.log) (t * (4 * L.nodes + 512)) refl l.steps;
+  held = l.held;
+  fit = l.fit;
+  between = l.between;
+}
+
+goes_finish : (L : Layout) (t : ℕ) (w z : Hand) (r : Result Bool Lost) → w.held ≡ None → LeavesFinish L.nodes t w z r → GoesOn (round_bound t L) w z
+goes_finish L t w z r free l = record {
+  same = l.same;
+  past = l.past;
+  queues = lose_by_call w.pass.view.number w.queues z.queues l.queues;
+  steps = in_round t L (length w.pass.view.log) (length z.pass.view.log) (t * (4 * L.nodes + 512)) refl l.steps;
+  held = l.held ∙ free;
+  fit = l.fit;
+  between = l.between;
+}
+
+goes_advance : (m : ℕ) (w z : Hand) → {a : _} → w.held ≡ None → LeavesAdvance m w z a → GoesOn (m + 1) w z
+goes_advance m w z free l = let few = l.steps in record {
+  same = l.same;
+  past = l.past;
+  queues = lose_same w.pass.view.number w.queues z.queues l.queues;
+  steps = omega (arith, few);
+  held = l.place.1 ∙ free;
+  fit = l.fit;
+  between = l.between;
+}
+
+goes_collect : (n : ℕ) (w z : Hand) → {c : _} → w.held ≡ None → LeavesCollect n w z c → GoesOn n w z
+goes_collect n w z {c} free l = record {
+  same = l.same;
+  past = l.past;
+  queues = lose_by_collect w.pass.view.number c.epoch w.queues z.queues l.lost;
+  steps = l.steps;
+  held = l.place.1 ∙ free;
+  fit = l.fit;
+  between = l.between;
+}
+
+goes_relieved : (b : Board) (t : ℕ) (w z : Hand) → w.held ≡ None → IsRelieved b w z → GoesOn (round_bound t b.layout) w z
+goes_relieved b t w z free r =
+    let m = b.layout.workers in
+    let first = goes_advance m w r.once free r.moves in
+    let second = goes_advance m r.once r.twice first.held r.moves_again in
+    let third = goes_collect b.layout.nodes r.twice z second.held r.collects in
+    goes_more ((m + 1) + (m + 1) + b.layout.nodes) (round_bound t b.layout) w z (omega arith) (goes_then w r.twice z (goes_then w r.once r.twice first second) third)
+
+goes_tidied : (b : Board) (t many : ℕ) (w z : Hand) → w.held ≡ None → IsBetweenCalls w → IsTidied b many w z → GoesOn (round_bound t b.layout) w z
+goes_tidied b t many w z free between (inl did) = goes_relieved b t w z free did.1
+goes_tidied b t many w z free between (inr did) = subst (GoesOn (round_bound t b.layout) w) (sym did.1) (goes_more 0 (round_bound t b.layout) w w (omega arith) (goes_nowhere w free between))
+
+-- ---- steps in a row
+
+goes_in_a_row : (step : Hand → Hand → Type 0) (most : ℕ) → ((x y : Hand) → x.held ≡ None → step x y → GoesOn most x y) → (n : ℕ) (w x z : Hand) → w.held ≡ None → InARow step n w x → (x.held ≡ None → GoesOn most x z) → GoesOn (suc n * most) w z
+goes_in_a_row step most each zero w x z free row last =
+    let one = suc-mul 0 most in
+    goes_more most (suc 0 * most) w z (omega (arith, one)) (subst (λ (y : Hand). GoesOn most y z) row (last (ap (λ (y : Hand). y.held) row ∙ free)))
+goes_in_a_row step most each (suc n) w x z free (m, row, made) last =
+    let first = goes_in_a_row step most each n w m x free row (λ held. each m x held made) in
+    let one = suc-mul (suc n) most in
+    goes_more (suc n * most + most) (suc (suc n) * most) w z (omega (arith, one)) (goes_then w x z first (last first.held))
+
+goes_asked : {R : Type 0} (leaves : Hand → Hand → R → Type 0) (lost : R) (most : ℕ) → ((x y : Hand) (r : R) → x.held ≡ None → leaves x y r → GoesOn most x y)
+    → (rounds : ℕ) (w z : Hand) (r : R) → w.held ≡ None → IsAsked leaves lost rounds w z r → GoesOn (suc rounds * most) w z
+goes_asked leaves lost most each rounds w z r free a =
+    let few = a.few in
+    goes_more (suc a.before * most) (suc rounds * most) w z (mul-le-mul_right most (omega (arith, few)))
+    (goes_in_a_row (λ x y. leaves x y lost) most (λ x y held made. each x y lost held made) a.before w a.begun z free a.each (λ held. each a.begun z r held a.last))
+
+follow_in_a_row : (step : Hand → Hand → Type 0) → ((x y : Hand) → step x y → Follows x.pass y.pass) → (n : ℕ) (w z : Hand) → InARow step n w z → Follows w.pass z.pass
+follow_in_a_row step each zero w z e = subst (λ (y : Hand). Follows w.pass y.pass) (sym e) (follows_itself w.pass)
+follow_in_a_row step each (suc n) w z (m, row, made) = follows_then w.pass m.pass z.pass (follow_in_a_row step each n w m row) (each m z made)
+
+-- what each step keeps
+keeps_in_a_row : (P : Hand → Type 0) (step : Hand → Hand → Type 0) → ((x y : Hand) → P x → step x y → P y) → (n : ℕ) (w z : Hand) → P w → InARow step n w z → P z
+keeps_in_a_row P step each zero w z at e = subst P (sym e) at
+keeps_in_a_row P step each (suc n) w z at (m, row, made) = each m z (keeps_in_a_row P step each n w m at row) made
+
+-- ---- a call that was asked for is the tree's
+
+asked_free : (leaves : Hand → Hand → Result Bool Lost → Type 0) (w z : Hand) (r : Result Bool Fault) → w.held ≡ None → Asked leaves w z r → (l : Result Bool Lost) × leaves w z l × (r ≡ of_finish l)
+asked_free leaves w z (Ok answer) free did = (Ok answer, did.1, refl)
+asked_free leaves w z (Err (fault.Call lost)) free did = (Err lost, did.1, refl)
+asked_free leaves w z (Err fault.Held) free did = none_there w.held free did.0
+
+-- ---- moments
+
+longer : (run earlier : List (ℕ × Event)) → Extends run earlier → length earlier ≤ length run
+longer run earlier e =
+    let whole : length run ≡ length earlier + length e.more = ap (λ (ts : List (ℕ × Event)). length ts) e.is ∙ length-append earlier e.more in
+    omega (arith, whole)
+
+-- a moment behind all that was seen is one behind what was seen earlier
+pub moment_since : (o p q : Stand) (op : Op) (k : ℕ) (answer : Bool) → HasSeenAllOf p o → AnswerHasMoment p q op k answer → AnswerHasMoment o q op k answer
+moment_since o p q op k answer past m =
+    let s = m.since in
+    let seen = longer p.view.past o.view.past past.goes_on in
+    let pinned = s.pinned in
+    record {
+      log = m.log;
+      ends = m.ends;
+      since = record { before = s.before; since = s.since; is_run = s.is_run; is_log = s.is_log; may = s.may; pinned = omega (arith, seen, pinned); moment = s.moment; later = s.later; sooner = s.sooner };
+    }
+
+moment_if : (o p q : Stand) (op : Op) (k : ℕ) (l : Result Bool Lost) → HasSeenAllOf p o → IfOk l (AnswerHasMoment p q op k) → IfOk (of_finish l) (AnswerHasMoment o q op k)
+moment_if o p q op k (Ok answer) past m = moment_since o p q op k answer past m
+moment_if o p q op k (Err lost) past m = tt
+
+-- ---- what is pending
+
+-- a call that had no key pending leaves none, but a delete whose leaf is flagged
+has_left : (L : Layout) (t k : ℕ) (o w z : Hand) (l : Result Bool Lost) → w.pending ≡ None → LeavesHas L.nodes t k w z l → IsLeft k o z (of_finish l)
+has_left L t k o w z (Ok answer) none l = l.did.0.1
+has_left L t k o w z (Err call.Busy) none l = l.did.0.1
+has_left L t k o w z (Err call.Pending) none l = none_there w.pending none l.did.0
+has_left L t k o w z (Err call.Full) none l = absurd l.did
+has_left L t k o w z (Err call.NoMemory) none l = absurd l.did
+has_left L t k o w z (Err call.Unfinished) none l = absurd l.did
+
+insert_left : (L : Layout) (t k : ℕ) (o w z : Hand) (l : Result Bool Lost) → w.pending ≡ None → LeavesInsert L.nodes t k w z l → IsLeft k o z (of_finish l)
+insert_left L t k o w z (Ok answer) none l = l.did.0.1
+insert_left L t k o w z (Err call.Busy) none l = l.did.0.1
+insert_left L t k o w z (Err call.Pending) none l = none_there w.pending none l.did.0
+insert_left L t k o w z (Err call.Full) none l = l.did.0.1
+insert_left L t k o w z (Err call.NoMemory) none l = l.did.0.1
+insert_left L t k o w z (Err call.Unfinished) none l = absurd l.did
+
+delete_left : (L : Layout) (t k : ℕ) (o w z : Hand) (l : Result Bool Lost) → w.pending ≡ None → LeavesDelete L.nodes t k w z l → IsLeft k o z (of_finish l)
+delete_left L t k o w z (Ok answer) none l = l.did.0.1
+delete_left L t k o w z (Err call.Busy) none l = l.did.0.1
+delete_left L t k o w z (Err call.Pending) none l = none_there w.pending none l.did.0
+delete_left L t k o w z (Err call.Full) none l = absurd l.did
+delete_left L t k o w z (Err call.NoMemory) none l = l.did.0.1
+delete_left L t k o w z (Err call.Unfinished) none l = (l.did.1, l.did.2)
+
+-- a finish that has not answered leaves what was pending
+still : (n t : ℕ) (w z : Hand) → LeavesFinish n t w z (Err call.Unfinished) → z.pending ≡ w.pending
+still n t w z l = l.did.2 ∙ sym l.did.1
+
+-- a finish that is asked for: nothing is pending behind an answer, and behind none what was pending is so still
+finish_err : (n t : ℕ) (w z : Hand) (lost : Lost) → LeavesFinish n t w z (Err lost) → lost ≡ call.Unfinished
+finish_err n t w z call.Unfinished l = refl
+finish_err n t w z call.Busy l = absurd l.did
+finish_err n t w z call.Full l = absurd l.did
+finish_err n t w z call.NoMemory l = absurd l.did
+finish_err n t w z call.Pending l = absurd l.did
+
+pub finishes_err : (b : Board) (h : Habit) (w z : Hand) (lost : Lost) → Finishes b h w z (Err lost) → lost ≡ call.Unfinished
+finishes_err b h w z lost f = finish_err b.layout.nodes h.tries f.begun z lost f.last
+
+-- what was pending is so where the last finish begins
+pends : (b : Board) (h : Habit) (w z : Hand) (r : Result Bool Lost) (f : Finishes b h w z r) → f.begun.pending ≡ w.pending
+pends b h w z r f = keeps_in_a_row (λ (x : Hand). x.pending ≡ w.pending) (λ x y. LeavesFinish b.layout.nodes h.tries x y (Err call.Unfinished)) (λ x y at made. still b.layout.nodes h.tries x y made ∙ at) f.before w f.begun refl f.each
+
+finished : (n t : ℕ) (w z : Hand) (answer : Bool) → LeavesFinish n t w z (Ok answer) → z.pending ≡ None
+finished n t w z true l = l.did.2
+finished n t w z false l = ap (λ (y : Hand). y.pending) l.did.1 ∙ l.did.0
+
+goes_finishes : (b : Board) (h : Habit) (w z : Hand) (r : Result Bool Lost) → w.held ≡ None → Finishes b h w z r → GoesOn (suc h.rounds * round_bound h.tries b.layout) w z
+goes_finishes b h w z r free f = goes_asked (LeavesFinish b.layout.nodes h.tries) (Err call.Unfinished) (round_bound h.tries b.layout) (λ x y q held made. goes_finish b.layout h.tries x y q held made) h.rounds w z r free f
+
+-- ---- calls that are made again
+
+goes_looks : (b : Board) (h : Habit) (k : ℕ) (w z : Hand) (r : Result Bool Fault) → w.held ≡ None → Looks b h k w z r → GoesOn (suc h.rounds * round_bound h.tries b.layout) w z
+goes_looks b h k w z r free a =
+    let each : (x y : Hand) (q : Result Bool Fault) → x.held ≡ None → Asked (LeavesHas b.layout.nodes h.tries k) x y q → GoesOn (round_bound h.tries b.layout) x y
+    = λ x y q held made. (let told = asked_free (LeavesHas b.layout.nodes h.tries k) x y q held made in goes_has b.layout h.tries k x y told.0 told.1) in
+    goes_asked (Asked (LeavesHas b.layout.nodes h.tries k)) busy (round_bound h.tries b.layout) each h.rounds w z r free a
+
+goes_inserts : (b : Board) (h : Habit) (k : ℕ) (w z : Hand) (r : Result Bool Fault) → w.held ≡ None → Inserts b h k w z r → GoesOn (suc h.rounds * round_bound h.tries b.layout) w z
+goes_inserts b h k w z r free a =
+    let each : (x y : Hand) (q : Result Bool Fault) → x.held ≡ None → Asked (LeavesInsert b.layout.nodes h.tries k) x y q → GoesOn (round_bound h.tries b.layout) x y
+    = λ x y q held made. (let told = asked_free (LeavesInsert b.layout.nodes h.tries k) x y q held made in goes_insert b.layout h.tries k x y told.0 told.1) in
+    goes_asked (Asked (LeavesInsert b.layout.nodes h.tries k)) busy (round_bound h.tries b.layout) each h.rounds w z r free a
+
+goes_deletes : (b : Board) (h : Habit) (k : ℕ) (w z : Hand) (r : Result Bool Fault) → w.held ≡ None → Deletes b h k w z r → GoesOn (suc h.rounds * round_bound h.tries b.layout) w z
+goes_deletes b h k w z r free a =
+    let each : (x y : Hand) (q : Result Bool Fault) → x.held ≡ None → Asked (LeavesDelete b.layout.nodes h.tries k) x y q → GoesOn (round_bound h.tries b.layout) x y
+    = λ x y q held made. (let told = asked_free (LeavesDelete b.layout.nodes h.tries k) x y q held made in goes_delete b.layout h.tries k x y told.0 told.1) in
+    goes_asked (Asked (LeavesDelete b.layout.nodes h.tries k)) busy (round_bound h.tries b.layout) each h.rounds w z r free a
+
+-- behind calls that lost each of their tries nothing is pending or held, and the pass has gone on
+record IsOnward (w z : Hand) : Type 0 where
+  none : z.pending ≡ None
+  free : z.held ≡ None
+  follows : Follows w.pass z.pass
+
+onward_itself : (w : Hand) → w.pending ≡ None → w.held ≡ None → IsOnward w w
+onward_itself w none free = record { none = none; free = free; follows = follows_itself w.pass }
+
+onward_has : (L : Layout) (t k : ℕ) (w x y : Hand) → IsOnward w x → Asked (LeavesHas L.nodes t k) x y busy → IsOnward w y
+onward_has L t k w x y on did = record { none = did.1.did.0.1; free = did.1.held; follows = follows_then w.pass x.pass y.pass on.follows (record { same = did.1.same; past = did.1.past }) }
+
+onward_insert : (L : Layout) (t k : ℕ) (w x y : Hand) → IsOnward w x → Asked (LeavesInsert L.nodes t k) x y busy → IsOnward w y
+onward_insert L t k w x y on did = record { none = did.1.did.0.1; free = did.1.held; follows = follows_then w.pass x.pass y.pass on.follows (record { same = did.1.same; past = did.1.past }) }
+
+onward_delete : (L : Layout) (t k : ℕ) (w x y : Hand) → IsOnward w x → Asked (LeavesDelete L.nodes t k) x y busy → IsOnward w y
+onward_delete L t k w x y on did = record { none = did.1.did.0.1; free = did.1.held; follows = follows_then w.pass x.pass y.pass on.follows (record { same = did.1.same; past = did.1.past }) }
+
+begun_look : (b : Board) (h : Habit) (k : ℕ) (w z : Hand) (r : Result Bool Fault) → w.pending ≡ None → w.held ≡ None → (a : Looks b h k w z r) → IsOnward w a.begun
+begun_look b h k w z r none free a = keeps_in_a_row (IsOnward w) (λ x y. Asked (LeavesHas b.layout.nodes h.tries k) x y busy) (λ x y on did. onward_has b.layout h.tries k w x y on did) a.before w a.begun (onward_itself w none free) a.each
+
+begun_insert : (b : Board) (h : Habit) (k : ℕ) (w z : Hand) (r : Result Bool Fault) → w.pending ≡ None → w.held ≡ None → (a : Inserts b h k w z r) → IsOnward w a.begun
+begun_insert b h k w z r none free a = keeps_in_a_row (IsOnward w) (λ x y. Asked (LeavesInsert b.layout.nodes h.tries k) x y busy) (λ x y on did. onward_insert b.layout h.tries k w x y on did) a.before w a.begun (onward_itself w none free) a.each
+
+begun_delete : (b : Board) (h : Habit) (k : ℕ) (w z : Hand) (r : Result Bool Fault) → w.pending ≡ None → w.held ≡ None → (a : Deletes b h k w z r) → IsOnward w a.begun
+begun_delete b h k w z r none free a = keeps_in_a_row (IsOnward w) (λ x y. Asked (LeavesDelete b.layout.nodes h.tries k) x y busy) (λ x y on did. onward_delete b.layout h.tries k w x y on did) a.before w a.begun (onward_itself w none free) a.each
+
+-- ---- what is told last
+
+-- the answer has its moment, and what is pending is told
+record IsTold (op : Op) (k : ℕ) (o z : Hand) (r : Result Bool Fault) : Type 0 where
+  moment : IfOk r (AnswerHasMoment o.pass z.pass op k)
+  left : IsLeft k o z r
+
+look_told : (b : Board) (h : Habit) (k : ℕ) (o w z : Hand) (r : Result Bool Fault) → HasSeenAllOf w.pass o.pass → w.pending ≡ None → w.held ≡ None → Looks b h k w z r → IsTold Has k o z r
+look_told b h k o w z r past none free a =
+    let x = a.begun in
+    let on = begun_look b h k w z r none free a in
+    let told = asked_free (LeavesHas b.layout.nodes h.tries k) x z r on.free a.last in
+    subst (λ (q : Result Bool Fault). IsTold Has k o z q) (sym told.2) (record {
+      moment = moment_if o.pass x.pass z.pass Has k told.0 (seen_through o.pass w.pass x.pass past on.follows.past) told.1.moment;
+      left = has_left b.layout h.tries k o x z told.0 on.none told.1;
+    })
+
+insert_told : (b : Board) (h : Habit) (k : ℕ) (o w z : Hand) (r : Result Bool Fault) → HasSeenAllOf w.pass o.pass → w.pending ≡ None → w.held ≡ None → Inserts b h k w z r → IsTold Insert k o z r
+insert_told b h k o w z r past none free a =
+    let x = a.begun in
+    let on = begun_insert b h k w z r none free a in
+    let told = asked_free (LeavesInsert b.layout.nodes h.tries k) x z r on.free a.last in
+    subst (λ (q : Result Bool Fault). IsTold Insert k o z q) (sym told.2) (record {
+      moment = moment_if o.pass x.pass z.pass Insert k told.0 (seen_through o.pass w.pass x.pass past on.follows.past) told.1.moment;
+      left = insert_left b.layout h.tries k o x z told.0 on.none told.1;
+    })
+
+delete_told : (b : Board) (h : Habit) (k : ℕ) (o w z : Hand) (r : Result Bool Fault) → HasSeenAllOf w.pass o.pass → w.pending ≡ None → w.held ≡ None → Deletes b h k w z r → IsTold Delete k o z r
+delete_told b h k o w z r past none free a =
+    let x = a.begun in
+    let on = begun_delete b h k w z r none free a in
+    let told = asked_free (LeavesDelete b.layout.nodes h.tries k) x z r on.free a.last in
+    subst (λ (q : Result Bool Fault). IsTold Delete k o z q) (sym told.2) (record {
+      moment = moment_if o.pass x.pass z.pass Delete k told.0 (seen_through o.pass w.pass x.pass past on.follows.past) told.1.moment;
+      left = delete_left b.layout h.tries k o x z told.0 on.none told.1;
+    })
+
+-- a worker that rests has no call
+rests : (w : Hand) → w.pending ≡ None → w.held ≡ None → IsBetweenCalls w → (search w.pass).call ≡ None
+rests w none free between =
+    let P : Option Unfinished → Type 0 = λ u. IsAs w.pass u w.held in
+    let Q : Option ℕ → Type 0 = λ e. IsAs w.pass None e in
+    let resting = subst Q free (subst P none between.stands) in
+    ap (λ (s : Search). s.call) resting.idle
+
+-- a delete that is finished: y is where it began, with no call, and x where its leaf was flagged
+finish_told : (b : Board) (h : Habit) (k : ℕ) (leaf : NodeId) (o y x z : Hand) (f : Result Bool Lost) → HasSeenAllOf y.pass o.pass → HadNoCall y.pass x.pass → x.pending ≡ Some (record { key = k; leaf = leaf }) → Finishes b h x z f → IsTold Delete k o z (of_finish f)
+finish_told b h k leaf o y x z (Ok true) past had is a =
+    let mine : Unfinished = record { key = k; leaf = leaf } in
+    let begun = follow_in_a_row (λ p q. LeavesFinish b.layout.nodes h.tries p q (Err call.Unfinished)) (λ p q made. record { same = made.same; past = made.past }) a.before x a.begun a.each in
+    let on = follows_then y.pass x.pass a.begun.pass (record { same = had.same; past = had.past }) begun in
+    let same = ap (λ (u : Option Unfinished). unwrap_or u mine) (sym a.last.moment.1 ∙ (pends b h x z (Ok true) a ∙ is)) in
+    let at = a.last.moment.2 y.pass (record { seen = had.seen; same = on.same; past = on.past; call = had.call }) in
+    record {
+      moment = moment_since o.pass y.pass z.pass Delete k true past (subst (λ (n : Unfinished). AnswerHasMoment y.pass z.pass Delete n.key true) same at);
+      left = finished b.layout.nodes h.tries a.begun z true a.last;
+    }
+finish_told b h k leaf o y x z (Ok false) past had is a =
+    let there : IsSome a.begun.pending = subst IsSome (sym (pends b h x z (Ok false) a ∙ is)) refl in
+    none_there a.begun.pending a.last.did.0 there
+finish_told b h k leaf o y x z (Err call.Unfinished) past had is a = record { moment = tt; left = (leaf, still b.layout.nodes h.tries a.begun z a.last ∙ (pends b h x z (Err call.Unfinished) a ∙ is)) }
+finish_told b h k leaf o y x z (Err call.Busy) past had is a = absurd a.last.did
+finish_told b h k leaf o y x z (Err call.Full) past had is a = absurd a.last.did
+finish_told b h k leaf o y x z (Err call.NoMemory) past had is a = absurd a.last.did
+finish_told b h k leaf o y x z (Err call.Pending) past had is a = absurd a.last.did
+
+-- ---- the rounds of a call
+
+rounds_then : (m n most : ℕ) (w x z : Hand) → GoesOn (m * most) w x → GoesOn (n * most) x z → GoesOn ((m + n) * most) w z
+rounds_then m n most w x z first second =
+    let both = add-mul m n most in
+    goes_more (m * most + n * most) ((m + n) * most) w z (omega (arith, both)) (goes_then w x z first second)
+
+one_round : (most : ℕ) (w z : Hand) → GoesOn most w z → GoesOn (1 * most) w z
+one_round most w z a = goes_more most (1 * most) w z (omega arith) a
+
+in_all : (r m most : ℕ) (w z : Hand) → m ≤ 3 * r + 5 → GoesOn (m * most) w z → GoesOn ((3 * r + 5) * most) w z
+in_all r m most w z few a = goes_more (m * most) ((3 * r + 5) * most) w z (mul-le-mul_right most few) a
+
+-- ---- the three calls
+
+-- where the delete of an earlier call is not finished, nothing else is done
+pub pending_tends : (b : Board) (h : Habit) (op : Op) (k : ℕ) (w z : Hand) (lost : Lost) → w.held ≡ None → Finishes b h w z (Err lost) → Finishes b h w z (Err call.Unfinished) × Tends b h op k w z (Err (fault.Call call.Pending))
+pending_tends b h op k w z lost free f =
+    let unfinished = finishes_err b h w z lost f in
+    let told = subst (λ (e : Lost). Finishes b h w z (Err e)) unfinished f in
+    let kept = still b.layout.nodes h.tries told.begun z told.last ∙ pends b h w z (Err call.Unfinished) told in
+    let there : IsSome w.pending = subst IsSome (pends b h w z (Err call.Unfinished) told) (subst IsSome (sym told.last.did.1) refl) in
+    (told, record { moment = tt; left = (there, kept); on = in_all h.rounds (suc h.rounds) (round_bound h.tries b.layout) w z (omega arith) (goes_finishes b h w z (Err call.Unfinished) free told) })
+
+-- what stands behind the finish of an earlier call's delete
+record IsSettled (b : Board) (h : Habit) (w x : Hand) : Type 0 where
+  none : x.pending ≡ None
+  on : GoesOn (suc h.rounds * round_bound h.tries b.layout) w x
+
+settled : (b : Board) (h : Habit) (w x : Hand) (answer : Bool) → w.held ≡ None → Finishes b h w x (Ok answer) → IsSettled b h w x
+settled b h w x answer free f = record { none = finished b.layout.nodes h.tries f.begun x answer f.last; on = goes_finishes b h w x (Ok answer) free f }
+
+pub contains_tends : (b : Board) (h : Habit) (k : ℕ) (w x z : Hand) (answer : Bool) (r : Result Bool Fault) → w.held ≡ None → Finishes b h w x (Ok answer) → Looks b h k x z r → Tends b h Has k w z r
+contains_tends b h k w x z answer r free f looks =
+    let at = settled b h w x answer free f in
+    let most = round_bound h.tries b.layout in
+    let told = look_told b h k w x z r at.on.past at.none at.on.held looks in
+    record {
+      moment = told.moment;
+      left = told.left;
+      on = in_all h.rounds (suc h.rounds + suc h.rounds) most w z (omega arith) (rounds_then (suc h.rounds) (suc h.rounds) most w x z at.on (goes_looks b h k x z r at.on.held looks));
+    }
+
+-- the same behind a collection that was due
+record IsReady (b : Board) (h : Habit) (w y : Hand) : Type 0 where
+  none : y.pending ≡ None
+  on : GoesOn ((suc h.rounds + 1) * round_bound h.tries b.layout) w y
+
+relieved_place : (b : Board) (w z : Hand) → IsRelieved b w z → z.pending ≡ w.pending
+relieved_place b w z r = r.collects.place.0 ∙ (r.moves_again.place.0 ∙ r.moves.place.0)
+
+tidied_place : (b : Board) (many : ℕ) (w z : Hand) → IsTidied b many w z → z.pending ≡ w.pending
+tidied_place b many w z (inl did) = relieved_place b w z did.1
+tidied_place b many w z (inr did) = ap (λ (y : Hand). y.pending) did.1
+
+ready : (b : Board) (h : Habit) (w x y : Hand) (answer : Bool) → w.held ≡ None → Finishes b h w x (Ok answer) → IsTidied b h.collect_after x y → IsReady b h w y
+ready b h w x y answer free f tidied =
+    let at = settled b h w x answer free f in
+    let most = round_bound h.tries b.layout in
+    record {
+      none = tidied_place b h.collect_after x y tidied ∙ at.none;
+      on = rounds_then (suc h.rounds) 1 most w x y at.on (one_round most x y (goes_tidied b h.tries h.collect_after x y at.on.held at.on.between tidied));
+    }
+
+-- an insert, and one more behind a collection
+inserts_on : (b : Board) (h : Habit) (k : ℕ) (o w z : Hand) (r : Result Bool Fault) → HasSeenAllOf w.pass o.pass → w.pending ≡ None → w.held ≡ None → InsertsOn b h k w z r → IsTold Insert k o z r × GoesOn ((suc h.rounds + 1 + suc h.rounds) * round_bound h.tries b.layout) w z
+inserts_on b h k o w z r past none free (inl (did, known)) =
+    let most = round_bound h.tries b.layout in
+    (insert_told b h k o w z r past none free did, goes_more (suc h.rounds * most) ((suc h.rounds + 1 + suc h.rounds) * most) w z (mul-le-mul_right most (omega arith)) (goes_inserts b h k w z r free did))
+inserts_on b h k o w z r past none free (inr (x, y, first, relieved, again)) =
+    let most = round_bound h.tries b.layout in
+    let full = insert_told b h k o w x (Err (fault.Call call.Full)) past none free first in
+    let before = goes_inserts b h k w x (Err (fault.Call call.Full)) free first in
+    let behind = goes_relieved b h.tries x y before.held relieved in
+    let seen = seen_through o.pass w.pass y.pass past (seen_through w.pass x.pass y.pass before.past behind.past) in
+    let told = insert_told b h k o y z r seen (relieved_place b x y relieved ∙ full.left) behind.held again in
+    (told, rounds_then (suc h.rounds + 1) (suc h.rounds) most w y z (rounds_then (suc h.rounds) 1 most w x y before (one_round most x y behind)) (goes_inserts b h k y z r behind.held again))
+
+pub adds_tend : (b : Board) (h : Habit) (k : ℕ) (w x y z : Hand) (answer : Bool) (r : Result Bool Fault) → w.held ≡ None → Finishes b h w x (Ok answer) → IsTidied b h.collect_after x y → InsertsOn b h k y z r → Tends b h Insert k w z r
+adds_tend b h k w x y z answer r free f tidied did =
+    let at = ready b h w x y answer free f tidied in
+    let most = round_bound h.tries b.layout in
+    let told = inserts_on b h k w y z r at.on.past at.none at.on.held did in
+    record {
+      moment = told.0.moment;
+      left = told.0.left;
+      on = in_all h.rounds ((suc h.rounds + 1) + (suc h.rounds + 1 + suc h.rounds)) most w z (omega arith) (rounds_then (suc h.rounds + 1) (suc h.rounds + 1 + suc h.rounds) most w y z at.on told.1);
+    }
+
+-- a delete, and what is left to do of it
+deletes_on : (b : Board) (h : Habit) (k : ℕ) (o w z : Hand) (r : Result Bool Fault) → HasSeenAllOf w.pass o.pass → HasSeen w.pass.view → w.pending ≡ None → w.held ≡ None → IsBetweenCalls w → DeletesOn b h k w z r → IsTold Delete k o z r × GoesOn ((suc h.rounds + suc h.rounds) * round_bound h.tries b.layout) w z
+deletes_on b h k o w z r past seen none free between (inl (did, known)) =
+    let most = round_bound h.tries b.layout in
+    (delete_told b h k o w z r past none free did, goes_more (suc h.rounds * most) ((suc h.rounds + suc h.rounds) * most) w z (mul-le-mul_right most (omega arith)) (goes_deletes b h k w z r free did))
+deletes_on b h k o w z r past seen none free between (inr (x, f, first, rest, is)) =
+    let most = round_bound h.tries b.layout in
+    let flagged = delete_told b h k o w x (Err (fault.Call call.Unfinished)) past none free first in
+    let before = goes_deletes b h k w x (Err (fault.Call call.Unfinished)) free first in
+    let had : HadNoCall w.pass x.pass = record { seen = seen; same = before.same; past = before.past; call = rests w none free between } in
+    let told = finish_told b h k flagged.left.0 o w x z f past had flagged.left.1 rest in
+    (subst (λ (q : Result Bool Fault). IsTold Delete k o z q) (sym is) told, rounds_then (suc h.rounds) (suc h.rounds) most w x z before (goes_finishes b h x z f before.held rest))
+
+pub removes_tend : (b : Board) (h : Habit) (k : ℕ) (w x y z : Hand) (answer : Bool) (r : Result Bool Fault) → w.held ≡ None → Finishes b h w x (Ok answer) → IsTidied b h.collect_after x y → HasSeen y.pass.view → DeletesOn b h k y z r → Tends b h Delete k w z r
+removes_tend b h k w x y z answer r free f tidied seen did =
+    let at = ready b h w x y answer free f tidied in
+    let most = round_bound h.tries b.layout in
+    let told = deletes_on b h k w y z r at.on.past seen at.none at.on.held at.on.between did in
+    record {
+      moment = told.0.moment;
+      left = told.0.left;
+      on = in_all h.rounds ((suc h.rounds + 1) + (suc h.rounds + suc h.rounds)) most w z (omega arith) (rounds_then (suc h.rounds + 1) (suc h.rounds + suc h.rounds) most w y z at.on told.1);
+    }

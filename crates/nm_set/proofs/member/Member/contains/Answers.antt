@@ -1,0 +1,26 @@
+use Rattle.std.proofs.Common.{rules, ◌≡◌, inl, inr, refl, subst}
+use Rattle.std.specs.Prelude.{None}
+use Rattle.nm_model.specs.declared.event.Op.TheVariants.{Has}
+use Rattle.nm_steps.specs.Steps.{Board}
+use Rattle.nm_set.specs.Tended.{Looks}
+use Rattle.nm_set.proofs.Tending.{pending_tends, contains_tends}
+use Rattle.nm_set.proofs.member.Member.contains.Goals as goal
+
+pub returns-in_default-clause-did : goal.returns-in_default-clause-did
+returns-in_default-clause-did c =
+    let free : c.args.self.now.hand.held ≡ None = search rules in
+    let told = pending_tends c.args.self.now.board c.args.habit.now Has c.args.key c.args.self.now.hand c.finish_again.new.self.hand c.in_default.field-0 free c.in_default.ensures.did in
+    inr (free, (inl (told.0, refl), told.1))
+
+pub returns-clause-did : goal.returns-clause-did
+returns-clause-did c =
+    let b = c.args.self.now.board in
+    let h = c.args.habit.now in
+    let k = c.args.key in
+    let w = c.args.self.now.hand in
+    let x = c.finish_again.new.self.hand in
+    let free : w.held ≡ None = search rules in
+    let settled = c.in-Ok.ensures.did in
+    let z = c.has_again.new.self.hand in
+    let looks = subst (λ (d : Board). Looks d h k x z c.has_again.result) c.finish_again.ensures.board c.has_again.ensures.did in
+    inr (free, (inr (c.in-Ok._done, x, settled, looks), contains_tends b h k w x z c.in-Ok._done c.has_again.result free settled looks))

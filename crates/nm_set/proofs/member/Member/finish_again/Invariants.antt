@@ -1,0 +1,12 @@
+use Rattle.std.proofs.Common.{◌≡◌}
+use Rattle.std.specs.Prelude.{Err}
+use Rattle.nm_tree.specs.declared.fault.Fault.TheVariants.{Unfinished}
+use Rattle.nm_set.specs.Asked.{LeavesFinish}
+use Rattle.nm_set.specs.Tended.{InARow}
+use Rattle.nm_set.proofs.member.Member.finish_again.Given as goal
+
+abbrev pub invariant-loop-round : goal.invariant-loop-round
+invariant-loop-round l = record {
+  board : l.self.board ≡ l.fn.self.board;
+  each : InARow (λ x y. LeavesFinish l.fn.self.board.layout.nodes l.habit.tries x y (Err Unfinished)) l._round l.fn.self.hand l.self.hand;
+}

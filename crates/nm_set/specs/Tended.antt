@@ -1,0 +1,153 @@
+-- Calls that tend the set: one that loses its tries is made again, a delete is finished, and the nodes that wait are collected.
+use Rattle.std.specs.Prelude.{◌≡◌, ◌≢◌, ◌⊎◌, ◌+◌, ◌*◌, ◌≤◌, ◌<◌, ℕ, zero, suc, Bool, length, drop, List, [], ◌∷◌, Some, None, IsSome, Result, Ok, Err, IfOk}
+use Rattle.nm_edge.specs.Layouts.{Layout}
+use Rattle.nm_edge.specs.declared.node.NodeId.{NodeId}
+use Rattle.nm_model.specs.declared.event.Op.{Op}
+use Rattle.nm_model.specs.declared.event.Op.TheVariants.{Has, Insert, Delete}
+use Rattle.nm_steps.specs.Steps.{Board, IsSamePass, HasSeenAllOf}
+use Rattle.nm_epoch.specs.declared.answers.Advance.{Advance}
+use Rattle.nm_epoch.specs.declared.collecting.Collected.{Collected}
+use Rattle.nm_epoch.specs.declared.collecting.HeldQueue.{HeldQueue}
+use Rattle.nm_calls.specs.Bounds.{chain_bound}
+use Rattle.nm_calls.specs.Moments.{AnswerHasMoment}
+use Rattle.nm_tree.specs.declared.fault.Fault.{Fault as Lost}
+use Rattle.nm_tree.specs.declared.fault.Fault.TheVariants as call
+use Rattle.nm_tree.specs.Workers.{Hand, IsBetweenCalls, waiting_in}
+use Rattle.nm_set.specs.declared.fault.Fault.{Fault}
+use Rattle.nm_set.specs.declared.fault.Fault.TheVariants as fault
+use Rattle.nm_set.specs.declared.tended.Habit.{Habit}
+use Rattle.nm_set.specs.Asked.{Asked, LeavesHas, LeavesInsert, LeavesDelete, LeavesFinish, LeavesAdvance, LeavesCollect}
+
+-- ---- what a worker has come to
+
+-- it is the queue of that origin, or it has lost its front at most, and got nothing
+abbrev pub OnlyLoses : ℕ → HeldQueue → HeldQueue → Type 0
+OnlyLoses o h g = (h.origin ≡ o) ⊎ ((n : ℕ) × (g.queue.items ≡ drop n h.queue.items))
+
+-- the same origins, and so each queue
+abbrev pub OthersOnlyLose : ℕ → List HeldQueue → List HeldQueue → Type 0
+OthersOnlyLose o [] [] = Unit {0}
+OthersOnlyLose o (h ∷ hs) (g ∷ gs) = (g.origin ≡ h.origin) × OnlyLoses o h g × OthersOnlyLose o hs gs
+OthersOnlyLose o _ _ = ⊥
+
+-- the worker has gone on, in so many steps at most
+pub record GoesOn (most : ℕ) (w z : Hand) : Type 0 where
+  pub same : IsSamePass w.pass z.pass
+  pub past : HasSeenAllOf z.pass w.pass
+  pub queues : OthersOnlyLose w.pass.view.number w.queues z.queues
+  pub steps : length z.pass.view.log ≤ length w.pass.view.log + most
+  pub held : z.held ≡ None
+  pub fit : z.fit ≡ w.fit
+  pub between : IsBetweenCalls z
+
+-- ---- calls that are made again
+
+-- so many steps in a row
+abbrev pub InARow : (Hand → Hand → Type 0) → ℕ → Hand → Hand → Type 0
+InARow step zero w z = z ≡ w
+InARow step (suc n) w z = (m : Hand) × InARow step n w m × step m z
+
+-- a call is made again while it tells `lost`, so many times at most; what the last one tells is told
+pub record IsAsked {R : Type 0} (leaves : Hand → Hand → R → Type 0) (lost : R) (rounds : ℕ) (w z : Hand) (r : R) : Type 0 where
+  pub before : ℕ
+  pub begun : Hand
+  pub each : InARow (λ x y. leaves x y lost) before w begun
+  pub last : leaves begun z r
+  pub few : before ≤ rounds
+  pub all : r ≡ lost → before ≡ rounds
+
+abbrev pub busy : Result Bool Fault
+busy = Err (fault.Call call.Busy)
+
+-- look-ups, inserts and deletes, while they lose each of their tries
+abbrev pub Looks : Board → Habit → ℕ → Hand → Hand → Result Bool Fault → Type 0
+Looks b h k w z r = IsAsked (Asked (LeavesHas b.layout.nodes h.tries k)) busy h.rounds w z r
+
+abbrev pub Inserts : Board → Habit → ℕ → Hand → Hand → Result Bool Fault → Type 0
+Inserts b h k w z r = IsAsked (Asked (LeavesInsert b.layout.nodes h.tries k)) busy h.rounds w z r
+
+abbrev pub Deletes : Board → Habit → ℕ → Hand → Hand → Result Bool Fault → Type 0
+Deletes b h k w z r = IsAsked (Asked (LeavesDelete b.layout.nodes h.tries k)) busy h.rounds w z r
+
+-- the delete that is pending, if one is, while it is not finished
+abbrev pub Finishes : Board → Habit → Hand → Hand → Result Bool Lost → Type 0
+Finishes b h w z r = IsAsked (LeavesFinish b.layout.nodes h.tries) (Err call.Unfinished) h.rounds w z r
+
+-- ---- collecting
+
+-- the epoch was asked to move on twice, and then what is ripe was collected
+pub record IsRelieved (b : Board) (w z : Hand) : Type 0 where
+  pub moved : Advance
+  pub once : Hand
+  pub moves : LeavesAdvance b.layout.workers w once moved
+  pub moved_again : Advance
+  pub twice : Hand
+  pub moves_again : LeavesAdvance b.layout.workers once twice moved_again
+  pub collected : Collected
+  pub collects : LeavesCollect b.layout.nodes twice z collected
+
+-- so it is where so many nodes wait; else nothing has changed
+abbrev pub IsTidied : Board → ℕ → Hand → Hand → Type 0
+IsTidied b many w z = ((many ≤ waiting_in w.queues) × IsRelieved b w z) ⊎ ((waiting_in w.queues < many) × (z ≡ w))
+
+-- ---- the three calls
+
+-- no slot is told to be free only behind a collection, and by an insert that was made once more
+abbrev pub InsertsOn : Board → Habit → ℕ → Hand → Hand → Result Bool Fault → Type 0
+InsertsOn b h k w z r = (Inserts b h k w z r × (r ≢ Err (fault.Call call.Full)))
+    ⊎ ((x y : Hand) × Inserts b h k w x (Err (fault.Call call.Full)) × IsRelieved b x y × Inserts b h k y z r)
+
+-- what a finish tells, as a delete tells it
+abbrev pub of_finish : Result Bool Lost → Result Bool Fault
+of_finish (Ok answer) = Ok answer
+of_finish (Err lost) = Err (fault.Call lost)
+
+-- a delete whose leaf is flagged goes on with that
+abbrev pub DeletesOn : Board → Habit → ℕ → Hand → Hand → Result Bool Fault → Type 0
+DeletesOn b h k w z r = (Deletes b h k w z r × (r ≢ Err (fault.Call call.Unfinished)))
+    ⊎ ((x : Hand) × (f : Result Bool Lost) × Deletes b h k w x (Err (fault.Call call.Unfinished)) × Finishes b h x z f × (r ≡ of_finish f))
+
+-- first the delete of an earlier call is finished, where one is pending; what is told of where it is not, is that
+abbrev pub FinishesThen : Board → Habit → (Hand → Type 0) → Hand → Hand → Result Bool Fault → Type 0
+FinishesThen b h rest w z r = (Finishes b h w z (Err call.Unfinished) × (r ≡ Err (fault.Call call.Pending)))
+    ⊎ ((answer : Bool) × (x : Hand) × Finishes b h w x (Ok answer) × rest x)
+
+abbrev pub Contains : Board → Habit → ℕ → Hand → Hand → Result Bool Fault → Type 0
+Contains b h k w z r = FinishesThen b h (λ x. Looks b h k x z r) w z r
+
+abbrev pub Adds : Board → Habit → ℕ → Hand → Hand → Result Bool Fault → Type 0
+Adds b h k w z r = FinishesThen b h (λ x. (y : Hand) × IsTidied b h.collect_after x y × InsertsOn b h k y z r) w z r
+
+abbrev pub Removes : Board → Habit → ℕ → Hand → Hand → Result Bool Fault → Type 0
+Removes b h k w z r = FinishesThen b h (λ x. (y : Hand) × IsTidied b h.collect_after x y × DeletesOn b h k y z r) w z r
+
+-- ---- what a caller has of each
+
+-- nothing is pending, but where that is told: of this call's key, or as it was before
+abbrev pub IsLeft : ℕ → Hand → Hand → Result Bool Fault → Type 0
+IsLeft k w z (Err (fault.Call call.Unfinished)) = (leaf : NodeId) × (z.pending ≡ Some (record { key = k; leaf = leaf }))
+IsLeft k w z (Err (fault.Call call.Pending)) = IsSome w.pending × (z.pending ≡ w.pending)
+IsLeft k w z _ = z.pending ≡ None
+
+-- the steps of a round at most: those of a call of the tree, two moves of the epoch and a collection
+abbrev pub round_bound : ℕ → Layout → ℕ
+round_bound tries L = tries * (4 * L.nodes + 8 * chain_bound) + 7 * L.nodes + 2 * L.workers + 12
+
+-- the answer has its moment behind all that the worker had seen before this call; the worker has gone on in so many rounds at most
+pub record Tends (b : Board) (h : Habit) (op : Op) (k : ℕ) (w z : Hand) (r : Result Bool Fault) : Type 0 where
+  pub moment : IfOk r (AnswerHasMoment w.pass z.pass op k)
+  pub left : IsLeft k w z r
+  pub on : GoesOn ((3 * h.rounds + 5) * round_bound h.tries b.layout) w z
+
+-- a worker that its caller holds is not asked, and nothing has changed; else the call did this, and left that
+abbrev pub UnlessHeld : Type 0 → Hand → Hand → Result Bool Fault → Type 0
+UnlessHeld did w z r = (IsSome w.held × (r ≡ Err fault.Held) × (z ≡ w)) ⊎ ((w.held ≡ None) × did)
+
+abbrev pub TendsHas : Board → Habit → ℕ → Hand → Hand → Result Bool Fault → Type 0
+TendsHas b h k w z r = UnlessHeld (Contains b h k w z r × Tends b h Has k w z r) w z r
+
+abbrev pub TendsInsert : Board → Habit → ℕ → Hand → Hand → Result Bool Fault → Type 0
+TendsInsert b h k w z r = UnlessHeld (Adds b h k w z r × Tends b h Insert k w z r) w z r
+
+abbrev pub TendsDelete : Board → Habit → ℕ → Hand → Hand → Result Bool Fault → Type 0
+TendsDelete b h k w z r = UnlessHeld (Removes b h k w z r × Tends b h Delete k w z r) w z r

@@ -1,0 +1,226 @@
+//! Calls that tend the set: a call that has lost its tries is made again, a delete that has begun is finished, and retired nodes are collected.
+ghost use Rattle.std.specs.Prelude.{◌≡◌, ◌≢◌, true, false, None, Err};
+ghost use Rattle.nm_tree.specs.declared.fault.Fault.TheVariants as lost;
+ghost use Rattle.nm_set.specs.Tended.{busy, Looks, Inserts, Deletes, Finishes, IsRelieved, IsTidied, InsertsOn, DeletesOn, TendsHas, TendsInsert, TendsDelete};
+
+use crate::fault::Fault;
+use crate::member::Member;
+use nm_edge::Key;
+use nm_tree::Fault as CallFault;
+
+/// What a call that tends the set may spend, and when it collects.
+#[derive(Clone, Copy, Debug, PartialEq, Eq)]
+pub struct Habit {
+    /// The tries of each call of the tree. With fewer than 2 no remove answers true at once.
+    pub tries: u32,
+    /// How often a call that has lost each of its tries is made again, and how often a delete that has begun is gone on with.
+    pub rounds: u32,
+    /// From how many waiting nodes on an insert or a remove first moves the epoch on and collects.
+    pub collect_after: u32,
+}
+
+/// 64 tries, 64 rounds, and a collection from 64 nodes on.
+impl Default for Habit {
+    fn default() -> Self {
+        Habit {
+            tries: 64,
+            rounds: 64,
+            collect_after: 64,
+        }
+    }
+}
+
+/// Whether a call has lost each of its tries.
+fn is_busy(told: &Result<bool, Fault>) -> bool
+    ensures yes { result ≡ true → told.now ≡ busy }
+    ensures no { result ≡ false → told.now ≢ busy }
+{
+    matches!(told, Err(Fault::Call(CallFault::Busy)))
+}
+
+/// Whether an insert has found no free slot.
+fn is_full(told: &Result<bool, Fault>) -> bool
+    ensures yes { result ≡ true → told.now ≡ Err (Fault.Call lost.Full) }
+    ensures no { result ≡ false → told.now ≢ Err (Fault.Call lost.Full) }
+{
+    matches!(told, Err(Fault::Call(CallFault::Full)))
+}
+
+/// Whether a delete has flagged its leaf and not answered.
+fn is_unfinished(told: &Result<bool, Fault>) -> bool
+    ensures yes { result ≡ true → told.now ≡ Err (Fault.Call lost.Unfinished) }
+    ensures no { result ≡ false → told.now ≢ Err (Fault.Call lost.Unfinished) }
+{
+    matches!(told, Err(Fault::Call(CallFault::Unfinished)))
+}
+
+impl Member {
+    /// Whether the set has the key.
+    ///
+    /// A look-up that has lost each of its tries is made again, `rounds` times at most. Before the first one the delete of an earlier call is finished,
+    /// where one is pending, by `rounds` and one calls of `finish` at most. So nothing is pending behind an answer, and behind `Busy`.
+    ///
+    /// `Held`: the caller holds the worker; nothing has changed. `Pending`: the delete of the earlier call is not finished, and this call has done
+    /// nothing else. `Busy`: each of the look-ups has lost each of its tries, or there might be none.
+    pub fn contains(&mut self, key: Key, habit: &Habit) -> Result<bool, Fault>
+        ensures board { self.new.board ≡ self.old.board }
+        ensures did { TendsHas self.old.board habit.now key self.old.hand self.new.hand result }
+    {
+        if self.held().is_some() {
+            return Err(Fault::Held);
+        }
+        let Ok(_done) = self.finish_again(habit) else {
+            return Err(Fault::Call(CallFault::Pending));
+        };
+        self.has_again(key, habit)
+    }
+
+    /// Inserts a key, and answers whether it was not in the set.
+    ///
+    /// As `contains` does, it finishes the delete of an earlier call, and makes an insert that has lost each of its tries again. Where
+    /// `collect_after` nodes or more wait in the queues that the worker holds, it first asks the epoch to move on, twice, and collects; so it does
+    /// where no slot was free, and then inserts once more. Nothing is pending behind an answer, `Busy`, `Full` and `NoMemory`.
+    ///
+    /// `Held`, `Pending`, `Busy`: as `contains` tells them. `Full`: no slot was free for a new node, and none behind the collection either. `NoMemory`:
+    /// the room of a try was refused, and nothing of the insert stands but help given to others.
+    pub fn add(&mut self, key: Key, habit: &Habit) -> Result<bool, Fault>
+        ensures board { self.new.board ≡ self.old.board }
+        ensures did { TendsInsert self.old.board habit.now key self.old.hand self.new.hand result }
+    {
+        if self.held().is_some() {
+            return Err(Fault::Held);
+        }
+        let Ok(_done) = self.finish_again(habit) else {
+            return Err(Fault::Call(CallFault::Pending));
+        };
+        self.tidy(habit);
+        self.insert_on(key, habit)
+    }
+
+    /// Deletes a key, and answers whether it was in the set: true once the leaf with the key is cut off.
+    ///
+    /// As `contains` does, it finishes the delete of an earlier call, and makes a delete that has lost each of its tries again; one that has flagged
+    /// its leaf goes on by `rounds` and one calls of `finish` at most. It collects first where `add` does. Nothing is pending behind an answer,
+    /// `Busy` and `NoMemory`.
+    ///
+    /// `Held`, `Pending`, `Busy`: as `contains` tells them. `NoMemory`: the room of a try was refused before the leaf was flagged. `Unfinished`: the leaf
+    /// is flagged, so that the key goes and no other delete of it answers true, and it is not known to be cut off: the key is pending, and the next
+    /// call that tends the set finishes it first.
+    pub fn remove(&mut self, key: Key, habit: &Habit) -> Result<bool, Fault>
+        ensures board { self.new.board ≡ self.old.board }
+        ensures did { TendsDelete self.old.board habit.now key self.old.hand self.new.hand result }
+    {
+        if self.held().is_some() {
+            return Err(Fault::Held);
+        }
+        let Ok(_done) = self.finish_again(habit) else {
+            return Err(Fault::Call(CallFault::Pending));
+        };
+        self.tidy(habit);
+        self.is_of_a_run();
+        self.delete_on(key, habit)
+    }
+
+    /// An insert, and one more behind a collection where no slot was free.
+    fn insert_on(&mut self, key: Key, habit: &Habit) -> Result<bool, Fault>
+        ensures board { self.new.board ≡ self.old.board }
+        ensures did { InsertsOn self.old.board habit.now key self.old.hand self.new.hand result }
+    {
+        let told = self.insert_again(key, habit);
+        if !is_full(&told) {
+            return told;
+        }
+        self.relieve();
+        self.insert_again(key, habit)
+    }
+
+    /// A delete, and what is left to do of it.
+    fn delete_on(&mut self, key: Key, habit: &Habit) -> Result<bool, Fault>
+        ensures board { self.new.board ≡ self.old.board }
+        ensures did { DeletesOn self.old.board habit.now key self.old.hand self.new.hand result }
+    {
+        let told = self.delete_again(key, habit);
+        if !is_unfinished(&told) {
+            return told;
+        }
+        match self.finish_again(habit) {
+            Ok(answer) => Ok(answer),
+            Err(fault) => Err(Fault::Call(fault)),
+        }
+    }
+
+    /// Moves the epoch on twice, unless others hold it back, and collects.
+    fn relieve(&mut self)
+        ensures board { self.new.board ≡ self.old.board }
+        ensures did { IsRelieved self.old.board self.old.hand self.new.hand }
+    {
+        self.advance();
+        self.advance();
+        self.collect();
+    }
+
+    /// Does so where as many nodes wait as the habit says.
+    fn tidy(&mut self, habit: &Habit)
+        ensures board { self.new.board ≡ self.old.board }
+        ensures did { IsTidied self.old.board habit.now.collect_after self.old.hand self.new.hand }
+    {
+        if self.queue_len() >= u64::from(habit.collect_after) {
+            self.relieve();
+        }
+    }
+
+    /// Look-ups, until one has not lost each of its tries.
+    fn has_again(&mut self, key: Key, habit: &Habit) -> Result<bool, Fault>
+        ensures board { self.new.board ≡ self.old.board }
+        ensures did { Looks self.old.board habit.now key self.old.hand self.new.hand result }
+    {
+        for _round in 0..habit.rounds {
+            let told = self.has(key, habit.tries);
+            if !is_busy(&told) {
+                return told;
+            }
+        }
+        self.has(key, habit.tries)
+    }
+
+    /// Inserts, until one has not lost each of its tries.
+    fn insert_again(&mut self, key: Key, habit: &Habit) -> Result<bool, Fault>
+        ensures board { self.new.board ≡ self.old.board }
+        ensures did { Inserts self.old.board habit.now key self.old.hand self.new.hand result }
+    {
+        for _round in 0..habit.rounds {
+            let told = self.insert(key, habit.tries);
+            if !is_busy(&told) {
+                return told;
+            }
+        }
+        self.insert(key, habit.tries)
+    }
+
+    /// Deletes, until one has not lost each of its tries.
+    fn delete_again(&mut self, key: Key, habit: &Habit) -> Result<bool, Fault>
+        ensures board { self.new.board ≡ self.old.board }
+        ensures did { Deletes self.old.board habit.now key self.old.hand self.new.hand result }
+    {
+        for _round in 0..habit.rounds {
+            let told = self.delete(key, habit.tries);
+            if !is_busy(&told) {
+                return told;
+            }
+        }
+        self.delete(key, habit.tries)
+    }
+
+    /// What is left to do of a delete, until it is done.
+    fn finish_again(&mut self, habit: &Habit) -> Result<bool, CallFault>
+        ensures board { self.new.board ≡ self.old.board }
+        ensures did { Finishes self.old.board habit.now self.old.hand self.new.hand result }
+    {
+        for _round in 0..habit.rounds {
+            if let Ok(answer) = self.finish(habit.tries) {
+                return Ok(answer);
+            }
+        }
+        self.finish(habit.tries)
+    }
+}
