@@ -394,6 +394,7 @@ fn delete_pinned(
 
 /// Deletes a key, and answers whether it was in the set. The worker rests before; it rests after, but where the leaf with the key is
 /// flagged and not known to be cut off: then it stays pinned for that leaf. Its queue is the one of its log before and after.
+/// Room for a cleanup is made before each try, that of the first one before the pin, in the fewest blocks, and no other memory is taken.
 ///
 /// At most `tries` * (4 `nodes` + 512) + 6 `nodes` + 10 steps. `Ok(true)` and `Unfinished`: just one flag was won, and no link; else
 /// neither. `splices` counts the worker's won splices, up to 2^64 - 1.
@@ -441,6 +442,7 @@ pub fn delete(
 }
 
 /// Goes on to remove the leaf that the worker has flagged: whether it is cut off, and the worker rests. Else it stays pinned.
+/// Room for a cleanup is made before each try, in the fewest blocks, and no other memory is taken.
 /// At most `tries` * (4 `nodes` + 512) + 6 `nodes` + 10 steps; no link and no flag is won. `splices` counts the worker's won splices, up to
 /// 2^64 - 1.
 pub fn finish(

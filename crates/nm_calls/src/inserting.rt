@@ -254,9 +254,10 @@ fn insert_pinned(
 /// Inserts a key, and answers whether it was not in the set. The worker rests before and after, with the same private slots; its queue
 /// is the one of its log before and after, with no more entries than there are nodes. `Err`: nothing of this call stands but help given to others.
 ///
-/// A try is a walk with its answer, or a link with at most one cleanup of help. Room for a cleanup is made before each try, and no other
-/// memory is taken. At most `tries` * (4 `nodes` + 512) + 6 `nodes` + 10 steps. `Ok(true)`: just one link was won, and no flag; else neither.
-/// New nodes are claimed in the order of `placement`, which stays of its fit. `splices` counts the worker's won splices, up to 2^64 - 1.
+/// A try is a walk with its answer, or a link with at most one cleanup of help. Room for a cleanup is made before each try, that of the first
+/// one before the pin, in the fewest blocks, and no other memory is taken. At most `tries` * (4 `nodes` + 512) + 6 `nodes` + 10 steps.
+/// `Ok(true)`: just one link was won, and no flag; else neither. New nodes are claimed in the order of `placement`, which stays of its fit.
+/// `splices` counts the worker's won splices, up to 2^64 - 1.
 /// (The insert of Natarajan and Mittal, section 3.2.)
 pub fn insert(
     shared: &Shared,

@@ -1,6 +1,6 @@
 -- How collecting the front of a queue goes on.
 use Rattle.std.proofs.Common.{◌≡◌, ◌≢◌, ℕ, suc, ◌+◌, Bool, true, false, cond, List, [], ◌∷◌, ◌++◌, map, length, drop, refl, sym, ap, subst, ◌∙◌, arith}
-use Rattle.std.specs.Prelude.{Option, Some, None, MatchOption}
+use Rattle.std.specs.Prelude.{Option, Some, None}
 use Rattle.std.specs.List.{prefix_len}
 use Rattle.std.proofs.lemmas.Bool.{leb-true, cond-true}
 use Rattle.std.proofs.lemmas.Option.{none-some, same_Some}
@@ -12,7 +12,6 @@ use Rattle.nm_model.specs.declared.reply.Reply.TheVariants.{Freed}
 use Rattle.nm_model.specs.declared.knowledge.Brief.{Brief}
 use Rattle.nm_model.specs.Ledgers.{held}
 use Rattle.nm_model.specs.Walks.{Entry as LogEntry}
-use Rattle.nm_limbo.specs.Queue.{BlockQueue, IsPopped}
 use Rattle.nm_steps.specs.Rules.{knowledge}
 use Rattle.nm_steps.specs.Steps.{Stand, MayStep, Stepped, give_reply}
 use Rattle.nm_epoch.specs.declared.collecting.Entry.{Entry}
@@ -116,11 +115,10 @@ collecting_on epoch origin start p q all (x ∷ es) later y n c ripe step is apa
     subst (λ (l : List Entry). IsCollecting epoch origin start all q l) (ap (λ (l : List Entry). drop 1 l) is)
     (collecting_more epoch origin start p q all es x c r.0 (subst (λ reply. Stepped p q (Give x.node.slot) reply) (freed_reply p origin x es c.queue c.apart) here) apart)
 
--- what is popped is the front, and its block stays
-pub popped_front : (epoch : ℕ) (before after : BlockQueue Entry) (o : Option Entry) (n : NodeId) → MatchOption o ((before.items ≡ []) × (after ≡ before)) (IsPopped before after) → ripe_front epoch before.items ≡ Some n
-    → (y : Entry) × (before.items ≡ y ∷ after.items) × (after.blocks ≡ before.blocks)
-popped_front epoch before after None n is ripe = absurd (none-some n (sym (ap (ripe_front epoch) is.0) ∙ ripe))
-popped_front epoch before after (Some y) n is ripe = (y, is.0, is.1)
+-- what is dropped is the front
+pub dropped_front : (epoch : ℕ) (now later : List Entry) (n : NodeId) → later ≡ drop 1 now → ripe_front epoch now ≡ Some n → (y : Entry) × (now ≡ y ∷ later)
+dropped_front epoch [] later n is ripe = absurd (none-some n ripe)
+dropped_front epoch (x ∷ es) later n is ripe = (x, ap (λ (l : List Entry). x ∷ l) (sym is))
 
 -- what was settled stays so, where epochs and search stay
 pub settled_on : (o p q : Stand) → Settles o p → epochs q ≡ epochs p → search q ≡ search p → (knowledge q.view).known ≡ (knowledge p.view).known → Settles o q

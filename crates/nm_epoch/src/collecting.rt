@@ -1,5 +1,5 @@
 //! Nodes that have waited long enough, back to the pool.
-ghost use Rattle.std.specs.Prelude.{◌≡◌, ◌≢◌, ◌+◌, ◌*◌, ◌≤◌, ◌++◌, nat_le, ℕ, length, map, Some};
+ghost use Rattle.std.specs.Prelude.{◌≡◌, ◌≢◌, ◌+◌, ◌*◌, ◌≤◌, ◌++◌, nat_le, ℕ, length, map, drop, Some};
 ghost use Rattle.nm_model.specs.declared.event.Event.TheVariants.{Give};
 ghost use Rattle.nm_model.specs.Ledgers.{held};
 ghost use Rattle.nm_order.specs.Hands.{AreApart};
@@ -54,6 +54,14 @@ fn next_ripe(queue: &BlockQueue<Entry>, epoch: u64) -> Option<NodeId>
     }
 }
 
+/// Takes the front off, where there is one. It takes no memory.
+fn drop_front(queue: &mut BlockQueue<Entry>)
+    ensures items { queue.new.items ≡ drop 1 queue.old.items }
+    ensures blocks { queue.new.blocks ≡ queue.old.blocks }
+{
+    let _ = queue.pop();
+}
+
 /// Frees what waits in a slot: one step.
 fn free(shared: &Shared, pass: &mut Pass, slot: u32)
     requires own { IsOf shared.now pass.old }
@@ -101,7 +109,7 @@ fn collect_front(
     let waiting = queue.queue.len();
     while let Some(node) = next_ripe(&queue.queue, epoch) {
         free(shared, pass, node.slot);
-        let _ = queue.queue.pop();
+        drop_front(&mut queue.queue);
         placement.keep(node.slot);
     }
     waiting - queue.queue.len()

@@ -165,7 +165,8 @@ impl Tree {
     /// Inserts a key, and answers whether it was not in the set.
     ///
     /// A try is a walk with its answer, or a link of two new nodes with at most one cleanup of help. Room for 128 entries is made before each
-    /// try, and no other memory is taken. `Pending`: a key is pending. `Busy`, `Full`, `NoMemory`: see `Fault`. The worker is not held.
+    /// try, that of the first one before the pin, in the fewest blocks, and no other memory is taken. `Pending`: a key is pending. `Busy`, `Full`,
+    /// `NoMemory`: see `Fault`. The worker is not held.
     /// (The insert of Natarajan and Mittal, section 3.2.)
     pub fn insert(&self, worker: &mut Worker, key: Key, tries: u32) -> Result<bool, Fault>
         requires own { IsOf self.now worker.old.pass }
@@ -207,9 +208,9 @@ impl Tree {
     /// Deletes a key, and answers whether it was in the set: true once the leaf with the key is cut off.
     ///
     /// A try to flag ends with the answer that the key is not there or with a flag, won or lost, with at most one cleanup of help where it is lost;
-    /// from the flag on each cleanup is a try, so that true takes two of them at least. Room for 128 entries is made before each try, and no
-    /// other memory is taken. `Unfinished`: the leaf is flagged, all tries were made or the room of one was refused, and the key is pending:
-    /// `finish` goes on. `Pending`, `Busy`, `NoMemory`: see `Fault`. The worker is not held.
+    /// from the flag on each cleanup is a try, so that true takes two of them at least. Room for 128 entries is made before each try, that of the
+    /// first one before the pin, in the fewest blocks, and no other memory is taken. `Unfinished`: the leaf is flagged, all tries were made or
+    /// the room of one was refused, and the key is pending: `finish` goes on. `Pending`, `Busy`, `NoMemory`: see `Fault`. The worker is not held.
     /// (The delete of Natarajan and Mittal, section 3.2.)
     pub fn delete(&self, worker: &mut Worker, key: Key, tries: u32) -> Result<bool, Fault>
         requires own { IsOf self.now worker.old.pass }
@@ -245,7 +246,8 @@ impl Tree {
 
     /// Goes on with the delete that is pending: true once its leaf is cut off. False with no step where none is pending.
     ///
-    /// Each cleanup is a try, which walks first. `Unfinished`: all tries were made or the room of one was refused, and the key is pending still.
+    /// Each cleanup is a try, which walks first. Room for 128 entries is made before each try, in the fewest blocks, and no other memory is taken.
+    /// `Unfinished`: all tries were made or the room of one was refused, and the key is pending still.
     /// (The cleanup mode of Natarajan and Mittal's delete, section 3.2.)
     pub fn finish(&self, worker: &mut Worker, tries: u32) -> Result<bool, Fault>
         requires own { IsOf self.now worker.old.pass }

@@ -1,6 +1,6 @@
 use Rattle.std.proofs.Common.{◌≡◌, sym, ◌∙◌, Some}
 use Rattle.nm_epoch.specs.Collecting.{ripe_front}
-use Rattle.nm_epoch.proofs.OneQueue.{may_collect, collecting_on, popped_front}
+use Rattle.nm_epoch.proofs.OneQueue.{may_collect, collecting_on, dropped_front}
 use Rattle.nm_steps.proofs.Seeing.{seen_through}
 use Rattle.nm_epoch.proofs.collecting.collect_front.Goals as goal
 
@@ -12,13 +12,13 @@ free-requires-clause-may c =
 pub loop-node-preserved : goal.loop-node-preserved
 loop-node-preserved c =
     let ripe : ripe_front c.args.epoch c.loop-node.queue.queue.items ≡ Some c.in-Some.node = sym c.next_ripe.ensures ∙ c.in-Some.is in
-    let front = popped_front c.args.epoch c.loop-node.queue.queue c.pop.new.self c.pop.result c.in-Some.node c.pop.ensures.popped ripe in
+    let front = dropped_front c.args.epoch c.loop-node.queue.queue.items c.drop_front.new.queue.items c.in-Some.node c.drop_front.ensures.items ripe in
     record {
-      collecting = collecting_on c.args.epoch c.args.queue.now.origin c.args.pass.now c.loop-node.pass c.free.new.pass c.args.queue.now.queue.items c.loop-node.queue.queue.items c.pop.new.self.items front.0 c.in-Some.node
+      collecting = collecting_on c.args.epoch c.args.queue.now.origin c.args.pass.now c.loop-node.pass c.free.new.pass c.args.queue.now.queue.items c.loop-node.queue.queue.items c.drop_front.new.queue.items front.0 c.in-Some.node
           c.loop-node.invariant.collecting ripe c.free.ensures.step front.1 c.free.ensures.apart;
       past = seen_through _ _ _ c.loop-node.invariant.past c.free.ensures.past;
       run = c.free.ensures.run;
-      blocks = front.2 ∙ c.loop-node.invariant.blocks;
+      blocks = c.drop_front.ensures.blocks ∙ c.loop-node.invariant.blocks;
       origin = c.loop-node.invariant.origin;
       fit = c.keep.ensures ∙ c.loop-node.invariant.fit;
     }
