@@ -86,3 +86,7 @@ if_answered (Err e) o P is holds = subst (λ (x : Option Bool). IfSome x P) (sym
 pub each_ok : {E : Type 0} (r : Result Bool E) (P Q : Bool → Type 0) → ((b : Bool) → P b → Q b) → IfOk r P → IfOk r Q
 each_ok (Ok b) P Q then' is = then' b is
 each_ok (Err e) P Q then' is = tt
+
+-- what no delete has flagged in a run, none has flagged in a beginning of it
+pub unflagged_before : (L : Layout) (run earlier : List (ℕ × Event)) (k : ℕ) → Extends run earlier → NoneFlagged L run k → NoneFlagged L earlier k
+unflagged_before L run earlier k later none before since w is flagged = none before (since ++ later.more) w (later.is ∙ (ap (λ (ts : List (ℕ × Event)). ts ++ later.more) is ∙ append_assoc before since later.more)) flagged

@@ -11,6 +11,7 @@ ghost use Rattle.nm_calls.specs.Moments.{AnswerHasMoment};
 ghost use Rattle.nm_calls.specs.Won.{won_flags, won_splices, capped};
 ghost use Rattle.nm_told.specs.Unflagged.{NoneFlagged};
 
+mod threads;
 mod trees;
 
 use nm_calls::{Busy, has, insert};
@@ -19,6 +20,7 @@ use nm_epoch::Entry;
 use nm_limbo::BlockQueue;
 use nm_pool::Placement;
 use nm_steps::{Pass, Shared};
+pub use threads::{Inserted, find_both, insert_both, insert_both_then_find};
 pub use trees::{delete_then_miss, insert_then_find, look_told, tell_worker};
 
 /// One worker tells another what it has seen.

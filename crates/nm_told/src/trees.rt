@@ -39,6 +39,7 @@ pub fn look_told(
     requires free { two.old.held ≡ None }
     ensures one { one.new ≡ one.old }
     ensures two { IsSamePass two.old.pass two.new.pass }
+    ensures past { HasSeenAllOf two.new.pass two.old.pass }
     ensures held { two.new.held ≡ None }
     ensures found { (start : Stand) → AnswerHasMoment start one.old.pass Insert key true → NoneFlagged two.new.pass.view.layout two.new.pass.view.past key → IfOk result (λ b. b ≡ true) }
     ensures missed { (start : Stand) → AnswerHasMoment start one.old.pass Delete key true → NoneInserted two.new.pass.view.layout start.view.past two.new.pass.view.past key → IfOk result (λ b. b ≡ false) }

@@ -1,0 +1,132 @@
+//! Two threads that insert, and a third worker that was told of both.
+ghost use Rattle.std.specs.Prelude.{◌≡◌, true, None, IfSome};
+ghost use Rattle.nm_model.specs.declared.event.Op.TheVariants.{Insert};
+ghost use Rattle.nm_steps.specs.Steps.{Stand, IsOf};
+ghost use Rattle.nm_calls.specs.Moments.{AnswerHasMoment};
+ghost use Rattle.nm_told.specs.Unflagged.{NoneFlagged};
+
+use crate::trees::look_told;
+use nm_edge::Key;
+use nm_tree::{Tree, Worker};
+use std::thread::{Threads, join};
+
+/// A worker that has made an insert, and whether that was answered true.
+#[derive(Drop)]
+pub struct Inserted {
+    pub worker: Worker,
+    pub is_new: bool,
+}
+
+/// A worker inserts a key.
+fn insert_one(tree: &Tree, mut worker: Worker, key: Key, tries: u32) -> Inserted
+    requires own { IsOf tree.now worker.pass }
+    requires free { worker.held ≡ None }
+    ensures own { IsOf tree.now result.worker.pass }
+    ensures moment { result.is_new ≡ true → AnswerHasMoment worker.pass result.worker.pass Insert key true }
+{
+    match tree.insert(&mut worker, key, tries) {
+        Ok(true) => Inserted {
+            worker,
+            is_new: true,
+        },
+        _ => Inserted {
+            worker,
+            is_new: false,
+        },
+    }
+}
+
+/// Two workers insert a key each, at the same time, each in a thread of its own.
+pub fn insert_both<R: Threads + Sync>(
+    rt: &R,
+    tree: &Tree,
+    one: Worker,
+    two: Worker,
+    keys: (Key, Key),
+    tries: u32,
+) -> (Inserted, Inserted)
+    requires one { IsOf tree.now one.pass }
+    requires two { IsOf tree.now two.pass }
+    requires first_free { one.held ≡ None }
+    requires second_free { two.held ≡ None }
+    ensures one { IsOf tree.now result.0.worker.pass }
+    ensures two { IsOf tree.now result.1.worker.pass }
+    ensures first { result.0.is_new ≡ true → AnswerHasMoment one.pass result.0.worker.pass Insert keys.0 true }
+    ensures second { result.1.is_new ≡ true → AnswerHasMoment two.pass result.1.worker.pass Insert keys.1 true }
+{
+    let (left, right) = keys;
+    join(
+        rt,
+        move || -> Inserted
+            requires own { IsOf tree.now one.pass }
+            requires free { one.held ≡ None }
+            ensures own { IsOf tree.entry.now result.worker.pass }
+            ensures moment { result.is_new ≡ true → AnswerHasMoment one.pass result.worker.pass Insert left true }
+        { insert_one(tree, one, left, tries) },
+        move || -> Inserted
+            requires own { IsOf tree.now two.pass }
+            requires free { two.held ≡ None }
+            ensures own { IsOf tree.entry.now result.worker.pass }
+            ensures moment { result.is_new ≡ true → AnswerHasMoment two.pass result.worker.pass Insert right true }
+        { insert_one(tree, two, right, tries) },
+    )
+}
+
+/// A third worker is told what both have seen, and looks up what each of them has inserted. `None`: a look-up was not answered. Else each key is found,
+/// unless a delete of it has won a flag in the run that the worker has then seen.
+pub fn find_both(
+    tree: &Tree,
+    one: &mut Worker,
+    two: &mut Worker,
+    reader: &mut Worker,
+    keys: (Key, Key),
+    tries: u32,
+) -> Option<(bool, bool)>
+    requires one { IsOf tree.now one.old.pass }
+    requires two { IsOf tree.now two.old.pass }
+    requires reader { IsOf tree.now reader.old.pass }
+    requires free { reader.old.held ≡ None }
+    ensures first { (start : Stand) → AnswerHasMoment start one.old.pass Insert keys.0 true → NoneFlagged tree.now.layout reader.new.pass.view.past keys.0 → IfSome result (λ b. b.0 ≡ true) }
+    ensures second { (start : Stand) → AnswerHasMoment start two.old.pass Insert keys.1 true → NoneFlagged tree.now.layout reader.new.pass.view.past keys.1 → IfSome result (λ b. b.1 ≡ true) }
+{
+    let first = look_told(tree, one, reader, keys.0, tries).ok()?;
+    let second = look_told(tree, two, reader, keys.1, tries).ok()?;
+    Some((first, second))
+}
+
+/// Two threads insert a key each, and then a third worker, which is told of both, looks both keys up. `None`: a call was not answered, or a key had been in
+/// the set. Else both are found, unless a delete of one of them has begun to take it away.
+pub fn insert_both_then_find<R: Threads + Sync>(
+    rt: &R,
+    tree: &Tree,
+    one: Worker,
+    two: Worker,
+    reader: &mut Worker,
+    keys: (Key, Key),
+    tries: u32,
+) -> Option<(bool, bool)>
+    requires one { IsOf tree.now one.pass }
+    requires two { IsOf tree.now two.pass }
+    requires reader { IsOf tree.now reader.old.pass }
+    requires first_free { one.held ≡ None }
+    requires second_free { two.held ≡ None }
+    requires free { reader.old.held ≡ None }
+    ensures first { NoneFlagged tree.now.layout reader.new.pass.view.past keys.0 → IfSome result (λ b. b.0 ≡ true) }
+    ensures second { NoneFlagged tree.now.layout reader.new.pass.view.past keys.1 → IfSome result (λ b. b.1 ≡ true) }
+{
+    let (mut first, mut second) = insert_both(rt, tree, one, two, keys, tries);
+    if !first.is_new {
+        return None;
+    }
+    if !second.is_new {
+        return None;
+    }
+    find_both(
+        tree,
+        &mut first.worker,
+        &mut second.worker,
+        reader,
+        keys,
+        tries,
+    )
+}
