@@ -1,5 +1,5 @@
 -- A set that is closed, or left open, by what its tree has told.
-use Rattle.std.proofs.Common.{◌≡◌, ◌∙◌, ◌⊎◌, false, true, List, [], ◌++◌, append-nil, refl, sym, ap, subst, inl, inr}
+use Rattle.std.proofs.Common.{◌≡◌, ◌∙◌, ◌⊎◌, false, true, List, [], ◌∷◌, ◌++◌, append-nil, refl, sym, ap, subst, inl, inr}
 use Rattle.std.specs.Prelude.{Result, Ok, Err, IfOk, IfErr}
 use Rattle.nm_steps.specs.Steps.{Board}
 use Rattle.nm_tree.specs.declared.closing.CloseReason.{CloseReason as Reason}
@@ -12,9 +12,22 @@ use Rattle.nm_set.specs.declared.fault.CloseReason.TheVariants as because
 use Rattle.nm_set.specs.declared.home.Site.{Site}
 use Rattle.nm_set.specs.declared.set.State.{State}
 use Rattle.nm_set.specs.declared.set.State.TheVariants.{Open, Closing}
-use Rattle.nm_set.specs.Seats.{BeginsWith, Standing}
+use Rattle.nm_set.specs.Seats.{AreOwn, BeginsWith, IsOwn, Standing}
 use Rattle.nm_set.specs.Ends.{EndsSet, HasGathered, IsLeftOpen, IsTreesReason}
 use Rattle.nm_set.specs.States.{site_of, standing_of, closing_set, open_set}
+
+-- ---- workers of a tree
+
+pub own_all : (b : Board) (ws : List Hand) → AreOwn b ws → AreAllOf b ws
+own_all b [] are = tt
+own_all b (w ∷ ws) are = (are.0.own, own_all b ws are.1)
+
+-- and one more at the end
+pub own_and : (b : Board) (ws : List Hand) (w : Hand) → AreOwn b ws → IsOwn b w → AreOwn b (ws ++ w ∷ [])
+own_and b [] w are own = (own, tt)
+own_and b (u ∷ ws) w are own = (are.0, own_and b ws w are.1 own)
+
+-- ---- a set
 
 -- the tree of a set
 pub tree_of : (s : State) (kept : List Hand) → (standing_of s kept).board ≡ (site_of s).tree
@@ -28,12 +41,12 @@ pub record Gathers (s : Standing) (site : Site) (all : List Hand) : Type 0 where
   pub home : List Hand
   pub are : all ≡ s.kept ++ home
   pub none : s.closing ≡ true → home ≡ []
-  pub own : AreAllOf site.tree all
+  pub own : AreOwn site.tree all
 
 pub ended : (s : Standing) (site : Site) (all : List Hand) → Gathers s site all → (r : Report) → IsClosed site.tree all r.queues.items r.keys.items r.free r.reached → EndsSet s r
 ended s site all g r closed =
-    let O : List Hand → Type 0 = λ ws. AreAllOf site.tree ws in
-    let B : Board → Type 0 = λ b. AreAllOf b (s.kept ++ g.home) in
+    let O : List Hand → Type 0 = λ ws. AreOwn site.tree ws in
+    let B : Board → Type 0 = λ b. AreOwn b (s.kept ++ g.home) in
     let C : List Hand → Type 0 = λ ws. IsClosed site.tree ws r.queues.items r.keys.items r.free r.reached in
     let D : Board → Type 0 = λ b. IsClosed b (s.kept ++ g.home) r.queues.items r.keys.items r.free r.reached in
     record { home = g.home; own = subst B (sym g.board) (subst O g.are g.own); none = g.none; closed = subst D (sym g.board) (subst C g.are closed) }
@@ -62,7 +75,7 @@ left s site all g t is why (of_tree, told, reason) = subst (λ (w : CloseReason)
     by tree.NoMemory so = inr (gathered tree.NoMemory so)
 
 -- of a set whose workers had been gathered before
-pub had_gathered : (s : Standing) (site : Site) (kept : List Hand) → closing_set site kept ≡ s → AreAllOf site.tree kept → Gathers s site kept
+pub had_gathered : (s : Standing) (site : Site) (kept : List Hand) → closing_set site kept ≡ s → AreOwn site.tree kept → Gathers s site kept
 had_gathered s site kept is own = record {
   board = ap (λ (u : Standing). u.board) (sym is);
   fit = ap (λ (u : Standing). u.fit) (sym is);
@@ -73,7 +86,7 @@ had_gathered s site kept is own = record {
 }
 
 -- of an open set
-pub gathered_now : (s : Standing) (site : Site) (kept all : List Hand) → open_set site kept ≡ s → BeginsWith kept all → AreAllOf site.tree all → Gathers s site all
+pub gathered_now : (s : Standing) (site : Site) (kept all : List Hand) → open_set site kept ≡ s → BeginsWith kept all → AreOwn site.tree all → Gathers s site all
 gathered_now s site kept all is (home, are) own = record {
   board = ap (λ (u : Standing). u.board) (sym is);
   fit = ap (λ (u : Standing). u.fit) (sym is);

@@ -4,17 +4,17 @@ use Rattle.nm_steps.specs.Steps.{Board}
 use Rattle.nm_tree.specs.declared.closing.CloseReason.{CloseReason as Reason}
 use Rattle.nm_tree.specs.declared.closing.CloseReason.TheVariants as tree
 use Rattle.nm_tree.specs.declared.closing.Report.{Report}
-use Rattle.nm_tree.specs.Closing.{AreAllOf, IsClosed, IsCloseReason}
+use Rattle.nm_tree.specs.Closing.{IsClosed, IsCloseReason}
 use Rattle.nm_tree.specs.Workers.{Hand}
 use Rattle.nm_set.specs.declared.fault.CloseReason.{CloseReason}
 use Rattle.nm_set.specs.declared.fault.CloseReason.TheVariants as because
-use Rattle.nm_set.specs.Seats.{Standing}
+use Rattle.nm_set.specs.Seats.{AreOwn, Standing}
 
 -- The tree of the set was closed with the workers that the set kept, each as it came, and then with those that were at home; which these had been is
 -- not said, but that there are none where a refused close had gathered all
 pub record EndsSet (s : Standing) (r : Report) : Type 0 where
   pub home : List Hand
-  pub own : AreAllOf s.board (s.kept ++ home)
+  pub own : AreOwn s.board (s.kept ++ home)
   pub none : s.closing ≡ true → home ≡ []
   pub closed : IsClosed s.board (s.kept ++ home) r.queues.items r.keys.items r.free r.reached
 

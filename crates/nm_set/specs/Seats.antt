@@ -1,5 +1,5 @@
 -- Members of a set, and the seats where its workers are while nobody has them.
-use Rattle.std.specs.Prelude.{◌≡◌, ◌<◌, ◌≤◌, ℕ, suc, Bool, List, [], ◌∷◌, ◌++◌}
+use Rattle.std.specs.Prelude.{◌≡◌, ◌<◌, ◌≤◌, ℕ, suc, Bool, false, List, [], ◌∷◌, ◌++◌}
 use Rattle.nm_steps.specs.Steps.{Board, IsOf}
 use Rattle.nm_pool.specs.declared.placement.Fit.{Fit}
 use Rattle.nm_tree.specs.Resigning.{IsReason}
@@ -25,15 +25,27 @@ pub record Standing : Type 0 where
   pub closing : Bool
   pub kept : List Hand
 
+-- a worker of that tree, which has not resigned
+pub record IsOwn (b : Board) (w : Hand) : Type 0 where
+  pub own : IsOf b w.pass
+  pub alive : w.pass.view.spent ≡ false
+
+-- and these are such
+abbrev pub AreOwn : Board → List Hand → Type 0
+AreOwn b [] = Unit {0}
+AreOwn b (w ∷ ws) = IsOwn b w × AreOwn b ws
+
 -- the worker of that number, of that tree, which claims by that fit
 pub record IsResident (b : Board) (f : Fit) (i : ℕ) (w : Hand) : Type 0 where
   pub own : IsOf b w.pass
+  pub alive : w.pass.view.spent ≡ false
   pub number : w.pass.view.number ≡ i
   pub fit : w.fit ≡ f
 
 -- a worker of that tree, of whatever number, which claims by that fit
 pub record IsAnyResident (b : Board) (f : Fit) (w : Hand) : Type 0 where
   pub own : IsOf b w.pass
+  pub alive : w.pass.view.spent ≡ false
   pub fit : w.fit ≡ f
 
 -- seats for worker i of that site, for the next one, and so on

@@ -1,9 +1,7 @@
 //! The home of a tree's workers: a seat for each of them, where it is while nobody has it.
 ghost use Rattle.std.specs.Prelude.{◌≡◌, ◌<◌, ◌≤◌, ◌+◌, ◌↔◌, length, IfOk, IsErrOf, vec_capacity};
-ghost use Rattle.nm_steps.specs.Steps.{IsOf};
-ghost use Rattle.nm_tree.specs.Closing.{AreAllOf};
 ghost use Rattle.nm_tree.specs.Workers.{AreNew, HaveFit};
-ghost use Rattle.nm_set.specs.Seats.{IsResident, BeginsWith};
+ghost use Rattle.nm_set.specs.Seats.{AreOwn, BeginsWith, IsOwn, IsResident};
 
 use crate::seat::{Guest, Seat, leave, stand_up};
 use nm_pool::Fit;
@@ -80,7 +78,7 @@ impl Home {
 
     /// A worker of this tree sits down on its seat.
     pub(crate) fn receive(&self, guest: Guest)
-        requires own { IsOf self.now.tree guest.worker.pass }
+        requires own { IsOwn self.now.tree guest.worker }
         requires fit { guest.worker.fit ≡ self.now.fit }
     {
         let Some(seat) = self.seats.get(guest.worker.number() as usize) else {
@@ -91,10 +89,10 @@ impl Home {
 
     /// The tree, and some workers with those that are at home behind them. There is room for all.
     pub(crate) fn gather(self, workers: Vec<Worker>) -> (Site, Vec<Worker>)
-        requires own { AreAllOf self.tree workers.items }
+        requires own { AreOwn self.tree workers.items }
         requires room { length workers.items + self.tree.layout.workers ≤ vec_capacity workers }
         ensures site { result.0 ≡ self }
-        ensures own { AreAllOf self.tree result.1.items }
+        ensures own { AreOwn self.tree result.1.items }
         ensures kept { BeginsWith workers.items result.1.items }
     {
         let Home { site, seats } = self;

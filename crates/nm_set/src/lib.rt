@@ -1,4 +1,4 @@
-//! The set as values that own what they need, so that no call has a condition: a `Set` gives out its `Member`s, one for each worker, and each of
+//! The set as values that own what they need, so that calls have no condition: a `Set` gives out its `Member`s, one for each worker, and each of
 //! them keeps the tree alive. A member that is closed goes home, and can be taken again, by any thread.
 //!
 //! What a caller of `nm_tree` has to show is known here of each member, by its type: that its worker is one of the tree's. What may be wrong while

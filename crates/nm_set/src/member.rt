@@ -3,14 +3,14 @@ ghost use Rattle.std.specs.Prelude.{◌≡◌, ◌<◌, ◌++◌, ◌∷◌, [],
 ghost use Rattle.std.specs.Arc.{arc_value};
 ghost use Rattle.nm_edge.specs.Layouts.{IsLayout};
 ghost use Rattle.nm_steps.specs.Rules.{Extends};
-ghost use Rattle.nm_steps.specs.Steps.{HasHeard, HasSeen, HasSeenAllOf, IsNoteOf, IsOf, IsOfRun};
+ghost use Rattle.nm_steps.specs.Steps.{HasHeard, HasSeen, HasSeenAllOf, IsNoteOf, IsOfRun};
 ghost use Rattle.nm_epoch.specs.Collecting.{NoneHas};
 ghost use Rattle.nm_tree.specs.Resigning.{HasResigned};
 ghost use Rattle.nm_tree.specs.Running.{HasSeenTurns};
 ghost use Rattle.nm_tree.specs.Workers.{Hand, IsBetweenCalls, IsLedger, waiting_in};
 ghost use Rattle.nm_tree.specs.declared.worker.Unfinished.{Unfinished as Delete};
 ghost use Rattle.nm_set.specs.Asked.{Asked, AskedToPin, AskedToUnpin, LeavesHas, LeavesInsert, LeavesDelete, LeavesFinish, LeavesAdvance, LeavesBehind, LeavesCollect};
-ghost use Rattle.nm_set.specs.Seats.{IsResident, IsStaying, told_absence, told_staying};
+ghost use Rattle.nm_set.specs.Seats.{IsOwn, IsResident, IsStaying, told_absence, told_staying};
 
 use crate::fault::{Fault, NotHeld, PinFault, ResignReason};
 use crate::home::{Absence, Home};
@@ -31,14 +31,13 @@ pub struct Member {
 impl Model for Member {
     ghost use Rattle.std.specs.Prelude.{◌≡◌};
     ghost use Rattle.std.specs.Arc.{arc_value};
-    ghost use Rattle.nm_steps.specs.Steps.{IsOf};
-    ghost use Rattle.nm_set.specs.Seats.{Seated};
+    ghost use Rattle.nm_set.specs.Seats.{IsOwn, Seated};
 
     ghost Value = { Seated };
 
     ghost view = { λ m. record { board = (arc_value m.home).tree; hand = m.guest.worker } };
 
-    ghost invariant = { λ m. IsOf (arc_value m.home).tree m.guest.worker.pass × (m.guest.worker.fit ≡ (arc_value m.home).fit) };
+    ghost invariant = { λ m. IsOwn (arc_value m.home).tree m.guest.worker × (m.guest.worker.fit ≡ (arc_value m.home).fit) };
 }
 
 /// A member has not taken over a worker. It is as it was.
@@ -50,7 +49,7 @@ pub struct ResignError {
 
 impl Member {
     pub(crate) fn of(home: Arc<Home, Global>, guest: Guest) -> Member
-        requires own { IsOf (arc_value home).tree guest.worker.pass }
+        requires own { IsOwn (arc_value home).tree guest.worker }
         requires fit { guest.worker.fit ≡ (arc_value home).fit }
         ensures board { result.board ≡ (arc_value home).tree }
         ensures hand { result.hand ≡ guest.worker }
@@ -68,7 +67,7 @@ impl Member {
     /// What the worker has seen is a run of an ordered core of the set's sizes, its log is its part of that, it has not resigned in it, and the turns
     /// that it has seen have the headline and a history: `Worker::is_of_a_run` of `nm_tree`. And it is one of the set's. It does nothing.
     pub fn is_of_a_run(&self)
-        ensures own { IsOf self.now.board self.now.hand.pass }
+        ensures own { IsOwn self.now.board self.now.hand }
         ensures seen { HasSeen self.now.hand.pass.view }
         ensures turns { HasSeenTurns self.now.hand.pass.view }
         ensures run { IsOfRun self.now.hand.pass.view.layout self.now.hand.pass.view.number self.now.hand.pass.view.log }
@@ -250,7 +249,7 @@ impl Member {
     pub(crate) fn stay_with(self, workers: &mut Vec<Worker>)
         requires { length workers.old.items < vec_capacity workers.old }
         ensures items { workers.new.items ≡ workers.old.items ++ self.hand ∷ [] }
-        ensures own { IsOf self.board self.hand.pass }
+        ensures own { IsOwn self.board self.hand }
     {
         let Member { home: _, guest } = self;
         guest.stay_with(workers);

@@ -1,9 +1,9 @@
 //! Sets: a tree that gives out its workers as members, and is closed when all of them are at home, or with the set.
 ghost use Rattle.std.specs.Prelude.{◌≡◌, ◌<◌, ◌≤◌, ◌↔◌, ◌⊎◌, ◌++◌, ◌∷◌, [], true, false, length, IfOk, IfErr, IsErrOf, OnOk, OnErr};
 ghost use Rattle.std.specs.Arc.{arc_value};
-ghost use Rattle.nm_tree.specs.Closing.{AreAllOf, IsClosed};
+ghost use Rattle.nm_tree.specs.Closing.{IsClosed};
 ghost use Rattle.nm_tree.specs.Workers.{AreNew, HaveFit};
-ghost use Rattle.nm_set.specs.Seats.{BeginsWith, IsResident, IsAnyResident};
+ghost use Rattle.nm_set.specs.Seats.{AreOwn, BeginsWith, IsResident, IsAnyResident};
 ghost use Rattle.nm_set.specs.Ends.{EndsSet, IsLeftOpen, IsTreesReason, told_reason};
 ghost use Rattle.nm_set.specs.States.{open_set, closing_set};
 
@@ -36,15 +36,14 @@ pub struct Set {
 }
 
 impl Model for Set {
-    ghost use Rattle.nm_tree.specs.Closing.{AreAllOf};
-    ghost use Rattle.nm_set.specs.Seats.{Standing};
+    ghost use Rattle.nm_set.specs.Seats.{AreOwn, Standing};
     ghost use Rattle.nm_set.specs.States.{site_of, standing_of};
 
     ghost Value = { Standing };
 
     ghost view = { λ s. standing_of s.state s.kept.items };
 
-    ghost invariant = { λ s. AreAllOf (site_of s.state).tree s.kept.items };
+    ghost invariant = { λ s. AreOwn (site_of s.state).tree s.kept.items };
 }
 
 /// A set was not closed. Behind `Away` it is as it was; behind the others its workers may have been gathered, so that only `close` goes on. No worker is
@@ -204,9 +203,9 @@ fn settle(alloc: Global, site: Site, workers: Vec<Worker>) -> Result<Set, NewErr
 
 /// The tree, with the workers that were kept and then all that are at home, where no member has the home too.
 fn gather(home: Arc<Home, Global>, kept: Vec<Worker>) -> Result<(Site, Vec<Worker>), CloseError>
-    requires own { AreAllOf (arc_value home).tree kept.items }
+    requires own { AreOwn (arc_value home).tree kept.items }
     ensures site { IfOk result (λ g. g.0 ≡ arc_value home) }
-    ensures all { IfOk result (λ g. AreAllOf (arc_value home).tree g.1.items × BeginsWith kept.items g.1.items) }
+    ensures all { IfOk result (λ g. AreOwn (arc_value home).tree g.1.items × BeginsWith kept.items g.1.items) }
     ensures reason { IfErr result (λ e. (e.reason ≡ CloseReason.Away) ⊎ (e.reason ≡ CloseReason.NoMemory)) }
     ensures refused { IfErr result (λ e. e.set ≡ open_set (arc_value home) kept.items) }
 {
@@ -222,7 +221,7 @@ fn gather(home: Arc<Home, Global>, kept: Vec<Worker>) -> Result<(Site, Vec<Worke
 
 /// An open set that is as it was.
 fn left_open(home: Arc<Home, Global>, kept: Vec<Worker>, reason: CloseReason) -> CloseError
-    requires own { AreAllOf (arc_value home).tree kept.items }
+    requires own { AreOwn (arc_value home).tree kept.items }
     ensures told { result.reason ≡ reason }
     ensures set { result.set ≡ open_set (arc_value home) kept.items }
 {
@@ -237,7 +236,7 @@ fn left_open(home: Arc<Home, Global>, kept: Vec<Worker>, reason: CloseReason) ->
 
 /// Closes a tree whose workers were gathered.
 fn end(site: Site, workers: Vec<Worker>) -> Result<Report, CloseError>
-    requires own { AreAllOf site.tree workers.items }
+    requires own { AreOwn site.tree workers.items }
     ensures closed { IfOk result (λ r. IsClosed site.tree workers.items r.queues.items r.keys.items r.free r.reached) }
     ensures refused { IfErr result (λ e. e.set ≡ closing_set site workers.items) }
     ensures reason { IfErr result (λ e. IsTreesReason site.tree workers.items e.reason) }

@@ -1,10 +1,10 @@
 -- What calls on a set tell and leave.
-use Rattle.std.specs.Prelude.{◌≡◌, ◌≤◌, ◌⊎◌, ◌↔◌, ℕ, true, false, Result, Ok, Err}
+use Rattle.std.specs.Prelude.{◌≡◌, ◌≤◌, ◌⊎◌, ◌↔◌, ℕ, true, false, [], Result, Ok, Err}
 use Rattle.nm_pool.specs.declared.placement.Fit.{Fit}
 use Rattle.nm_set.specs.declared.fault.CloseReason.{CloseReason}
 use Rattle.nm_set.specs.declared.fault.MemberFault.{MemberFault}
 use Rattle.nm_set.specs.declared.fault.MemberFault.TheVariants as taking
-use Rattle.nm_set.specs.Ends.{EndsSet}
+use Rattle.nm_set.specs.Ends.{EndsSet, IsLeftOpen}
 use Rattle.nm_set.specs.Seats.{Standing, Seated, IsResident, IsAnyResident}
 use Rattle.nm_tree.specs.Workers.{Hand}
 use Rattle.nm_tree.specs.declared.closing.Report.{Report}
@@ -26,6 +26,7 @@ HasWorkers workers = (1 ≤ workers) × (workers ≤ 64)
 -- an open set with so many nodes and workers, which claim by that fit
 pub record IsNewSet (f : Fit) (nodes workers : ℕ) (s : Standing) : Type 0 where
   pub begins : s.closing ≡ false
+  pub keeps : s.kept ≡ []
   pub fit : s.fit ≡ f
   pub layout : s.board.layout ≡ record { nodes = nodes; workers = workers }
 
@@ -68,7 +69,7 @@ abbrev pub IsNumbered : ℕ → Standing → Hand → Type 0
 IsNumbered number s w = IsResident s.board s.fit number w
 
 abbrev pub NumberFaults : ℕ → Standing → MemberFault → Type 0
-NumberFaults number s why = why ≡ taking.Number → s.board.layout.workers ≤ number
+NumberFaults number s why = (why ≡ taking.Number) ↔ ((s.closing ≡ false) × (s.board.layout.workers ≤ number))
 
 abbrev pub TakesWorker : ℕ → Hold → Hold → Hold → Outcome → Type 0
 TakesWorker number set old new o = Takes (Gives (IsNumbered number) (NumberFaults number)) set old new o
@@ -85,11 +86,11 @@ Attaches set old new o = Takes (Gives IsAny AnyFaults) set old new o
 
 -- ---- the end of a set
 
--- there is the report, or why not is told, and the set still, of the same tree and the same fit
+-- there is the report, or why not is told, and the set still, as that reason leaves it
 abbrev pub IsEnded : Standing → Owner → Outcome → Type 0
 IsEnded s new o =
-    ((o ≡ outcome.Done) × (r : Report) × (new ≡ Ended r) × EndsSet s.board r)
-    ⊎ ((why : CloseReason) × (o ≡ of_reason why) × (t : Standing) × (new ≡ Set t) × (t.board ≡ s.board) × (t.fit ≡ s.fit))
+    ((o ≡ outcome.Done) × (r : Report) × (new ≡ Ended r) × EndsSet s r)
+    ⊎ ((why : CloseReason) × (o ≡ of_reason why) × (t : Standing) × (new ≡ Set t) × IsLeftOpen s why t)
 
 abbrev pub EndsOwner : Owner → Owner → Outcome → Type 0
 EndsOwner (Set s) new o = IsEnded s new o

@@ -15,7 +15,7 @@ use Rattle.nm_set.specs.declared.fault.NotHeld.{NotHeld}
 use Rattle.nm_set.specs.declared.fault.PinFault.{PinFault}
 use Rattle.nm_set.specs.declared.fault.PinFault.TheVariants as pinning
 use Rattle.nm_set.specs.declared.fault.ResignReason.{ResignReason}
-use Rattle.nm_set.specs.Seats.{Seated, IsResident}
+use Rattle.nm_set.specs.Seats.{Seated, IsResident, IsStaying}
 use Rattle.nm_set_c.specs.Outcomes.{of_answer, of_finish, of_staying}
 use Rattle.nm_set_c.specs.declared.outcome.Outcome.{Outcome}
 use Rattle.nm_set_c.specs.declared.outcome.Outcome.TheVariants as outcome
@@ -147,8 +147,8 @@ pub record TellsLedger (ledger : Ledger) (m n : Seated) (o : Outcome) : Type 0 w
 
 -- ---- the end of another worker
 
--- the worker of that number, which was at home, has resigned to this one; or it has not, why is told, and this one is as it was
+-- the worker of that number, which was at home, has resigned to this one; or it has not, for the reason that is told, and this one is as it was
 abbrev pub DoesResign : ℕ → Seated → Seated → Outcome → Type 0
 DoesResign leaver m n o =
     ((o ≡ outcome.Done) × (n.board ≡ m.board) × (w : Hand) × IsResident m.board m.hand.fit leaver w × HasResigned m.hand w n.hand)
-    ⊎ ((why : ResignReason) × (o ≡ of_staying why) × (n ≡ m))
+    ⊎ ((why : ResignReason) × (o ≡ of_staying why) × IsStaying m leaver why × (n ≡ m))

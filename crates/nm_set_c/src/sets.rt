@@ -169,20 +169,20 @@ pub extern "C" fn nm_set_close(alloc: Global, set: &mut Handle) -> i32
         Ok(owner) => owner,
         Err(told) => return told.code(),
     };
-    let (left, outcome) = end(alloc, replace(&mut *owner, Owner::Nothing));
+    let (left, outcome) = end(replace(&mut *owner, Owner::Nothing));
     *owner = left;
     set.put(owner);
     outcome.code()
 }
 
-fn end(alloc: Global, owner: Owner) -> (Owner, Outcome)
+fn end(owner: Owner) -> (Owner, Outcome)
     ensures { EndsOwner owner result.0 result.1 }
 {
     let set = match owner {
         Owner::Set(set) => set,
         other => return (other, Outcome::Kind),
     };
-    match set.close(alloc) {
+    match set.close() {
         Ok(report) => (Owner::Ended(report), Outcome::Done),
         Err(error) => (Owner::Set(error.set), Outcome::of_reason(error.reason)),
     }

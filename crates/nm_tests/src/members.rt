@@ -17,16 +17,16 @@ fn key(rt: &impl Abort, number: u64) -> Key {
 }
 
 /// Why a set was not closed, and the set.
-fn refused(rt: &(impl Abort + AllocGlobal), set: Set) -> (CloseReason, Set) {
-    match set.close(rt.alloc()) {
+fn refused(rt: &impl Abort, set: Set) -> (CloseReason, Set) {
+    match set.close() {
         Ok(_) => panic!(rt; "the set was closed"),
         Err(error) => (error.reason, error.set),
     }
 }
 
 /// The keys of a set that is closed, and how many of its slots are free, reached or waiting.
-fn closed(rt: &(impl Abort + AllocGlobal), set: Set) -> (Vec<Key>, u64) {
-    let Ok(report) = set.close(rt.alloc()) else {
+fn closed(rt: &impl Abort, set: Set) -> (Vec<Key>, u64) {
+    let Ok(report) = set.close() else {
         panic!(rt; "the set was not closed")
     };
     let mut slots = u64::from(report.free) + u64::from(report.reached);

@@ -1,11 +1,12 @@
 use Rattle.std.proofs.Common.{◌≡◌, List, sym, subst}
 use Rattle.std.specs.Arc.{arc_value}
 use Rattle.nm_tree.specs.declared.closing.Report.{Report}
-use Rattle.nm_tree.specs.Closing.{AreAllOf, IsClosed}
+use Rattle.nm_tree.specs.Closing.{IsClosed}
 use Rattle.nm_tree.specs.Workers.{Hand}
 use Rattle.nm_set.specs.declared.set.CloseError.{CloseError}
 use Rattle.nm_set.specs.declared.home.Site.{Site}
 use Rattle.nm_set.specs.declared.set.State.{State}
+use Rattle.nm_set.specs.Seats.{AreOwn}
 use Rattle.nm_set.specs.Ends.{EndsSet, IsLeftOpen, IsTreesReason}
 use Rattle.nm_set.specs.States.{site_of, standing_of, closing_set}
 use Rattle.nm_set.proofs.SetEnds.{Gathers, ended, left, had_gathered, gathered_now, as_before, if_ok, if_err}
@@ -16,7 +17,7 @@ returns-in-Closing-clause-closed c =
     let s = c.args.self in
     let site = c.in-Closing.site in
     let ws : List Hand = c.self.inside.kept.items in
-    let g : Gathers s site ws = had_gathered s site ws (subst (λ (x : State). standing_of x ws ≡ s) c.in-Closing.is c.self.view_is) (subst (λ (x : State). AreAllOf (site_of x).tree ws) c.in-Closing.is c.self.invariant) in
+    let g : Gathers s site ws = had_gathered s site ws (subst (λ (x : State). standing_of x ws ≡ s) c.in-Closing.is c.self.view_is) (subst (λ (x : State). AreOwn (site_of x).tree ws) c.in-Closing.is c.self.invariant) in
     if_ok (λ (r : Report). IsClosed site.tree ws r.queues.items r.keys.items r.free r.reached) (EndsSet s) c.end.result c.end.ensures.closed (ended s site ws g)
 
 pub returns-in-Closing-clause-refused : goal.returns-in-Closing-clause-refused
@@ -24,7 +25,7 @@ returns-in-Closing-clause-refused c =
     let s = c.args.self in
     let site = c.in-Closing.site in
     let ws : List Hand = c.self.inside.kept.items in
-    let g : Gathers s site ws = had_gathered s site ws (subst (λ (x : State). standing_of x ws ≡ s) c.in-Closing.is c.self.view_is) (subst (λ (x : State). AreAllOf (site_of x).tree ws) c.in-Closing.is c.self.invariant) in
+    let g : Gathers s site ws = had_gathered s site ws (subst (λ (x : State). standing_of x ws ≡ s) c.in-Closing.is c.self.view_is) (subst (λ (x : State). AreOwn (site_of x).tree ws) c.in-Closing.is c.self.invariant) in
     if_err (λ (e : CloseError). e.set ≡ closing_set site ws) (λ (e : CloseError). IsTreesReason site.tree ws e.reason) (λ (e : CloseError). IsLeftOpen s e.reason e.set) c.end.result c.end.ensures.refused c.end.ensures.reason
     (λ e is told. left s site ws g e.set is e.reason told)
 
