@@ -1,6 +1,8 @@
 //! Members of a set in one thread, each answer compared, and two in threads of their own.
 use nm_edge::Key;
-use nm_set::{CloseReason, Fault, Member, MemberFault, NotHeld, PinFault, ResignReason, Set};
+use nm_set::{
+    CloseReason, Fault, Habit, Member, MemberFault, NotHeld, PinFault, ResignReason, Set,
+};
 use std::process::Abort;
 use std::test::Fail;
 use std::thread::{Threads, join};
@@ -125,6 +127,33 @@ fn a_set_closes_when_all_are_at_home(rt: HostRuntime) -> Result<(), Fail> {
         (keys.as_slice(), slots),
         ([key(&rt, 3), key(&rt, 9)].as_slice(), 59)
     );
+    Ok(())
+}
+
+/// Members come by numbers that lie apart, tend their set, and are closed with it where it keeps them.
+#[test]
+fn a_kept_member_is_closed_with_its_set(rt: HostRuntime) -> Result<(), Fail> {
+    let mut set = Set::near(rt.alloc(), 256, 16)?;
+    let mut first = set.attach()?;
+    let second = set.attach()?;
+    assert_eq!(rt; (first.number(), second.number()), (7, 15));
+    let (five, nine, habit) = (key(&rt, 5), key(&rt, 9), Habit::default());
+    assert_eq!(rt;
+        (first.add(five, &habit), first.add(five, &habit)),
+        (Ok(true), Ok(false))
+    );
+    assert_eq!(rt;
+        (first.add(nine, &habit), first.contains(nine, &habit)),
+        (Ok(true), Ok(true))
+    );
+    assert_eq!(rt;
+        (first.remove(five, &habit), first.remove(five, &habit)),
+        (Ok(true), Ok(false))
+    );
+    second.close();
+    assert!(rt; set.keep(first).is_ok());
+    let (keys, slots) = closed(&rt, set);
+    assert_eq!(rt; (keys.as_slice(), slots), ([nine].as_slice(), 251));
     Ok(())
 }
 
