@@ -4,7 +4,7 @@
  *     nm_handle set = NM_CLOSED_HANDLE, worker = NM_CLOSED_HANDLE;
  *     nm_set_near(&set, 8192, 2);              the set, for two workers
  *     nm_set_worker(&set, &worker, 0);         worker 0, for this thread
- *     nm_worker_insert(&worker, 5, 64);        NM_YES: the key was not in the set
+ *     nm_worker_add(&worker, 5, &nm_usual_habit);    NM_YES: the key was not in the set
  *     nm_drop(&worker);                        worker 0 is at home
  *     nm_set_close(&set);                      the handle owns the report from now on
  *     nm_drop(&set);
@@ -130,6 +130,18 @@ typedef struct nm_ledger {
     uint64_t queued;   /* those of them that wait */
 } nm_ledger;
 
+/* What a call that tends the set may spend, and when it collects. */
+typedef struct nm_habit {
+    uint32_t tries;          /* the tries of each call of the tree; with fewer than 2 no remove is done at once */
+    uint32_t rounds;         /* how often a call that has lost each of its tries is made again, and how often a
+                                delete that has begun is gone on with */
+    uint32_t collect_after;  /* from how many waiting nodes on an add or a remove first moves the epoch on and
+                                collects */
+} nm_habit;
+
+/* The habit to have where nothing speaks for another one. */
+static const nm_habit nm_usual_habit = {64, 64, 64};
+
 /* A node that waited in a worker's queue when the set was closed. */
 typedef struct nm_waiting {
     uint64_t slot;   /* the slot where it stands */
@@ -195,6 +207,28 @@ nm_outcome nm_worker_delete(nm_handle *worker, uint64_t key, uint32_t tries);
 
 /* Goes on with the delete that is pending: NM_YES where it has answered now, NM_NO where none is pending. NM_UNFINISHED: the key is pending still. */
 nm_outcome nm_worker_finish(nm_handle *worker, uint32_t tries);
+
+/* ---- a worker, for a key, by calls that tend the set ----
+ * What a program would write round the four calls above: one that has lost each of its tries is made
+ * again, a delete that has begun is finished, and where so many removed nodes wait, an add or a
+ * remove first moves the epoch on and collects. All of it ends within a bound of steps, which the
+ * habit gives. Nothing is pending behind NM_YES, NM_NO, NM_BUSY, NM_FULL and NM_NO_MEMORY.
+ *
+ * NM_BUSY: each of the calls has lost each of its tries; nothing stands but help given to others.
+ * NM_PENDING: the delete of an earlier call is pending still, and nothing else was done. */
+
+/* Whether the set has the key. NM_YES, NM_NO; NM_KEY, NM_BUSY, NM_PENDING, NM_HELD. */
+nm_outcome nm_worker_contains(nm_handle *worker, uint64_t key, const nm_habit *habit);
+
+/* Inserts a key: NM_YES where it was not in the set, NM_NO where it was. NM_FULL: no slots were free,
+ * and none behind two moves of the epoch and a collection, if no worker holds it back. NM_KEY,
+ * NM_BUSY, NM_PENDING, NM_HELD, NM_NO_MEMORY. */
+nm_outcome nm_worker_add(nm_handle *worker, uint64_t key, const nm_habit *habit);
+
+/* Deletes a key: NM_YES where it was in the set, NM_NO where it was not. NM_UNFINISHED: the key will
+ * go by this call and no other, and is pending; the next call that tends the set finishes it first.
+ * NM_KEY, NM_BUSY, NM_PENDING, NM_HELD, NM_NO_MEMORY. */
+nm_outcome nm_worker_remove(nm_handle *worker, uint64_t key, const nm_habit *habit);
 
 /* ---- a worker, on the epoch ----
  * A node that was cut off waits in its worker's queue until every worker that was pinned at the cut has left: so advance twice and collect, every

@@ -142,6 +142,36 @@ public:
         return nm_worker_finish(&handle_, most);
     }
 
+    // The same by calls that tend the set: one that has lost each of its tries is made again, a
+    // delete that has begun is finished, and what waits is collected. NM_BUSY, NM_PENDING, and of
+    // remove NM_UNFINISHED, tell that the habit did not do.
+    [[nodiscard]] bool contains(std::uint64_t key, const nm_habit &habit = nm_usual_habit) {
+        return detail::answered(try_contains(key, habit));
+    }
+
+    [[nodiscard]] nm_outcome try_contains(std::uint64_t key,
+                                          const nm_habit &habit = nm_usual_habit) noexcept {
+        return nm_worker_contains(&handle_, key, &habit);
+    }
+
+    bool add(std::uint64_t key, const nm_habit &habit = nm_usual_habit) {
+        return detail::answered(try_add(key, habit));
+    }
+
+    [[nodiscard]] nm_outcome try_add(std::uint64_t key,
+                                     const nm_habit &habit = nm_usual_habit) noexcept {
+        return nm_worker_add(&handle_, key, &habit);
+    }
+
+    bool remove(std::uint64_t key, const nm_habit &habit = nm_usual_habit) {
+        return detail::answered(try_remove(key, habit));
+    }
+
+    [[nodiscard]] nm_outcome try_remove(std::uint64_t key,
+                                        const nm_habit &habit = nm_usual_habit) noexcept {
+        return nm_worker_remove(&handle_, key, &habit);
+    }
+
     // Pins the epoch, and tells it.
     std::uint64_t pin(std::uint32_t most = tries) {
         std::uint64_t epoch = 0;

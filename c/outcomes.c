@@ -14,6 +14,13 @@ static void each_tells(nm_handle *worker, uint64_t key, nm_outcome wanted) {
     CHECK(nm_worker_delete(worker, key, TRIES) == wanted);
 }
 
+/* What any call for a key that tends the set tells. */
+static void each_tending_tells(nm_handle *worker, uint64_t key, nm_outcome wanted) {
+    CHECK(nm_worker_contains(worker, key, &nm_usual_habit) == wanted);
+    CHECK(nm_worker_add(worker, key, &nm_usual_habit) == wanted);
+    CHECK(nm_worker_remove(worker, key, &nm_usual_habit) == wanted);
+}
+
 /* What is no open worker, or no report, tells that, and writes nothing. */
 static void is_refused(nm_handle *handle, nm_outcome worker, nm_outcome report) {
     uint64_t wide = NOT_WRITTEN, other = NOT_WRITTEN;
@@ -22,6 +29,7 @@ static void is_refused(nm_handle *handle, nm_outcome worker, nm_outcome report) 
     nm_waiting waiting = {NOT_WRITTEN, 0, 0};
     if (worker != NM_DONE) {
         each_tells(handle, 5, worker);
+        each_tending_tells(handle, 5, worker);
         CHECK(nm_worker_finish(handle, TRIES) == worker);
         CHECK(nm_worker_pin(handle, TRIES, &wide) == worker && nm_worker_unpin(handle) == worker);
         CHECK(nm_worker_advance(handle, &wide, &narrow) == worker && nm_worker_behind(handle, &wide, &other) == worker);
@@ -59,6 +67,7 @@ static void kinds(void) {
     is_refused(&set, NM_KIND, NM_KIND);
     is_refused(&worker, NM_DONE, NM_KIND);
     each_tells(&worker, UINT64_MAX - 2, NM_KEY);
+    each_tending_tells(&worker, UINT64_MAX - 2, NM_KEY);
     CHECK(nm_worker_insert(&worker, UINT64_MAX - 3, TRIES) == NM_YES);
     CHECK(nm_drop(&worker) == NM_DONE && nm_set_close(&set) == NM_DONE);
     is_refused(&set, NM_KIND, NM_DONE);
@@ -82,6 +91,45 @@ static void answers(void) {
     CHECK(nm_drop(&set) == NM_DONE && nm_worker_has(&worker, 5, TRIES) == NM_NO && nm_drop(&worker) == NM_DONE);
 }
 
+/* Calls that tend the set, where two slots are free: a delete that has begun is finished first, a full set is collected, and nothing is made again
+ * that might have no try. */
+static void tended(void) {
+    const nm_habit *usual = &nm_usual_habit, none = {0, 0, 64};
+    nm_handle set = NM_CLOSED_HANDLE, worker = NM_CLOSED_HANDLE, reader = NM_CLOSED_HANDLE;
+    uint64_t told = NOT_WRITTEN;
+    CHECK(nm_set_lowest(&set, 7, 2) == NM_DONE && nm_set_worker(&set, &worker, 0) == NM_DONE);
+    CHECK(nm_worker_contains(&worker, 5, usual) == NM_NO && nm_worker_remove(&worker, 5, usual) == NM_NO);
+    CHECK(nm_worker_add(&worker, 5, usual) == NM_YES && nm_worker_add(&worker, 5, usual) == NM_NO);
+    CHECK(nm_worker_contains(&worker, 5, usual) == NM_YES && nm_worker_add(&worker, 6, usual) == NM_FULL);
+    each_tending_tells(&worker, UINT64_MAX - 2, NM_KEY);
+    CHECK(nm_worker_contains(&worker, 5, &none) == NM_BUSY && nm_worker_add(&worker, 6, &none) == NM_BUSY);
+    CHECK(nm_worker_remove(&worker, 5, &none) == NM_BUSY && nm_worker_pending(&worker, &told) == NM_NO);
+    for (int turn = 0; turn < 100; turn++) CHECK(nm_worker_remove(&worker, 5, usual) == NM_YES && nm_worker_add(&worker, 5, usual) == NM_YES);
+    CHECK(nm_worker_delete(&worker, 5, 1) == NM_UNFINISHED && nm_worker_contains(&worker, 5, &none) == NM_PENDING);
+    CHECK(nm_worker_pending(&worker, &told) == NM_YES && told == 5 && nm_worker_contains(&worker, 5, usual) == NM_NO);
+    CHECK(nm_worker_pending(&worker, &told) == NM_NO && nm_worker_queue_len(&worker, &told) == NM_DONE && told == 2);
+    CHECK(nm_worker_add(&worker, 6, usual) == NM_YES && nm_set_worker(&set, &reader, 1) == NM_DONE);
+    CHECK(nm_worker_pin(&reader, TRIES, &told) == NM_DONE && nm_worker_remove(&worker, 6, usual) == NM_YES);
+    CHECK(nm_worker_add(&worker, 7, usual) == NM_FULL && nm_worker_unpin(&reader) == NM_DONE);
+    CHECK(nm_worker_add(&worker, 7, usual) == NM_YES && nm_drop(&reader) == NM_DONE && nm_drop(&worker) == NM_DONE);
+    CHECK(nm_set_close(&set) == NM_DONE && nm_report_key(&set, 0, &told) == NM_DONE && told == 7 && nm_drop(&set) == NM_DONE);
+}
+
+/* Each remove first frees what waits, where that is the habit. */
+static void collected(void) {
+    const nm_habit often = {TRIES, TRIES, 8};
+    nm_handle set = NM_CLOSED_HANDLE, worker = NM_CLOSED_HANDLE;
+    nm_ledger ledger;
+    CHECK(nm_set_near(&set, 4096, 3) == NM_DONE && nm_set_attach(&set, &worker) == NM_DONE);
+    for (uint64_t key = 0; key < 500; key++) {
+        uint64_t nodes = NOT_WRITTEN;
+        CHECK(nm_worker_add(&worker, key, &often) == NM_YES && nm_worker_remove(&worker, key, &often) == NM_YES);
+        CHECK(nm_worker_queue_len(&worker, &nodes) == NM_DONE && nodes <= 8);
+    }
+    CHECK(nm_worker_ledger(&worker, &ledger) == NM_DONE && ledger.retired == 1000 && ledger.freed >= 990);
+    CHECK(nm_drop(&worker) == NM_DONE && nm_drop(&set) == NM_DONE);
+}
+
 /* A worker that is held stays where it is, and holds the others back. */
 static void epochs(void) {
     nm_handle set = NM_CLOSED_HANDLE, reader = NM_CLOSED_HANDLE, writer = NM_CLOSED_HANDLE;
@@ -93,6 +141,7 @@ static void epochs(void) {
     CHECK(nm_worker_pin(&reader, 0, &epoch) == NM_BUSY && epoch == 0);
     CHECK(nm_worker_pin(&reader, TRIES, &epoch) == NM_DONE && nm_worker_pin(&reader, TRIES, &epoch) == NM_HELD);
     each_tells(&reader, 5, NM_HELD);
+    each_tending_tells(&reader, 5, NM_HELD);
     CHECK(nm_worker_insert(&writer, 5, TRIES) == NM_YES && nm_worker_delete(&writer, 5, TRIES) == NM_YES);
     CHECK(nm_worker_advance(&writer, &epoch, &behind) == NM_DONE && epoch == 1 && behind == NOT_WRITTEN);
     CHECK(nm_worker_advance(&writer, &epoch, &behind) == NM_BEHIND && epoch == 0 && behind == 2);
@@ -220,6 +269,8 @@ int main(void) {
     sizes();
     kinds();
     answers();
+    tended();
+    collected();
     epochs();
     ends();
     away();

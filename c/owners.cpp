@@ -133,6 +133,17 @@ void owners_are_closed() {
     CHECK(!report.is_open() && set.try_close(report) == NM_CLOSED);
 }
 
+// The calls that tend the set, of a set for one key.
+void owners_tend() {
+    nm::Set set = nm::Set::lowest(7, 1);
+    nm::Worker worker = set.worker(0);
+    CHECK(!worker.contains(5) && worker.add(5) && !worker.add(5) && worker.contains(5));
+    CHECK(worker.remove(5) && worker.add(6) && worker.try_add(7) == NM_FULL &&
+          thrown([&] { (void)worker.contains(UINT64_MAX); }) == NM_KEY);
+    CHECK(worker.try_remove(6, nm_habit{0, 0, 0}) == NM_BUSY && worker.try_remove(6) == NM_YES &&
+          !worker.remove(6));
+}
+
 // Each form that answers tells what the other one throws, and its answer where that answers.
 void outcomes_are_answered() {
     nm::Set set = nm::Set::lowest(7, 1);
@@ -201,6 +212,7 @@ int main() {
     a_worker_outlives_its_set();
     faults_are_told();
     owners_are_closed();
+    owners_tend();
     outcomes_are_answered();
     const_owners_tell();
     threads_attach_themselves();

@@ -1,4 +1,4 @@
-/* Four threads insert, delete and look up the same keys, each by a worker of its own. Then the set is closed, and its report is compared with what the
+/* Four threads insert, delete and look up the same keys, each by a worker of its own, two of them by calls that tend the set. Then the set is closed, and its report is compared with what the
  * calls answered: a key is in the set exactly where it was inserted once more than deleted, and each slot stands somewhere. */
 #include "holds.h"
 #include "nm_set.h"
@@ -11,6 +11,7 @@ enum { THREADS = 4, APART = 8, NODES = 4096, FIXED = 5, KEYS = 256, CALLS = 1000
 
 typedef struct part {
     nm_handle worker;
+    int tends;           /* whether its calls tend the set */
     uint64_t seed;
     int balance[KEYS];   /* of each key, how often this thread inserted it, less how often it deleted it */
     uint64_t inserted, deleted, found;
@@ -32,10 +33,22 @@ static void tend(part *own) {
     CHECK(nm_worker_collect(&own->worker, &epoch, &freed) == NM_DONE);
 }
 
+static nm_outcome try_insert(part *own, uint64_t key) {
+    return own->tends ? nm_worker_add(&own->worker, key, &nm_usual_habit) : nm_worker_insert(&own->worker, key, TRIES);
+}
+
+static nm_outcome try_delete(part *own, uint64_t key) {
+    return own->tends ? nm_worker_remove(&own->worker, key, &nm_usual_habit) : nm_worker_delete(&own->worker, key, TRIES);
+}
+
+static nm_outcome try_has(part *own, uint64_t key) {
+    return own->tends ? nm_worker_contains(&own->worker, key, &nm_usual_habit) : nm_worker_has(&own->worker, key, TRIES);
+}
+
 /* Inserts a key, however often that takes. */
 static int insert(part *own, uint64_t key) {
     nm_outcome told;
-    while ((told = nm_worker_insert(&own->worker, key, TRIES)) < 0) {
+    while ((told = try_insert(own, key)) < 0) {
         CHECK(told == NM_BUSY || told == NM_FULL);
         tend(own);
     }
@@ -44,7 +57,7 @@ static int insert(part *own, uint64_t key) {
 
 static int delete(part *own, uint64_t key) {
     nm_outcome told;
-    while ((told = nm_worker_delete(&own->worker, key, TRIES)) == NM_BUSY) {}
+    while ((told = try_delete(own, key)) == NM_BUSY) {}
     while (told == NM_UNFINISHED) told = nm_worker_finish(&own->worker, TRIES);
     CHECK(told == NM_YES || told == NM_NO);
     return told == NM_YES;
@@ -52,7 +65,7 @@ static int delete(part *own, uint64_t key) {
 
 static int has(part *own, uint64_t key) {
     nm_outcome told;
-    while ((told = nm_worker_has(&own->worker, key, TRIES)) == NM_BUSY) {}
+    while ((told = try_has(own, key)) == NM_BUSY) {}
     CHECK(told == NM_YES || told == NM_NO);
     return told == NM_YES;
 }
@@ -70,7 +83,7 @@ static void *work(void *given) {
             break;
         default: own->found += has(own, key);
         }
-        if (call % TEND_EVERY == 0) tend(own);
+        if (!own->tends && call % TEND_EVERY == 0) tend(own);
     }
     return NULL;
 }
@@ -123,6 +136,7 @@ int main(void) {
     CHECK(nm_set_near(&set, NODES, THREADS * APART) == NM_DONE);
     for (uint32_t i = 0; i < THREADS; i++) {
         parts[i].seed = 88172645463325252u + i;
+        parts[i].tends = i % 2 == 1;
         CHECK(nm_set_worker(&set, &parts[i].worker, i * APART) == NM_DONE);
         CHECK(pthread_create(&threads[i], NULL, work, &parts[i]) == 0);
     }

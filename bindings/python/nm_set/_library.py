@@ -27,6 +27,12 @@ class LedgerWords(ctypes.Structure):
     ]
 
 
+class HabitWords(ctypes.Structure):
+    """nm_habit."""
+
+    _fields_ = [(name, c_uint32) for name in ("tries", "rounds", "collect_after")]
+
+
 class WaitingWords(ctypes.Structure):
     """nm_waiting."""
 
@@ -42,9 +48,9 @@ FUNCTIONS: dict[str, list[object]] = {
     "nm_set_worker": [_H, _H, c_uint32],
     "nm_set_close": [_H],
     "nm_drop": [_H],
-    "nm_worker_has": [_H, c_uint64, c_uint32],
-    "nm_worker_insert": [_H, c_uint64, c_uint32],
-    "nm_worker_delete": [_H, c_uint64, c_uint32],
+    "nm_worker_contains": [_H, c_uint64, POINTER(HabitWords)],
+    "nm_worker_add": [_H, c_uint64, POINTER(HabitWords)],
+    "nm_worker_remove": [_H, c_uint64, POINTER(HabitWords)],
     "nm_worker_finish": [_H, c_uint32],
     "nm_worker_pin": [_H, c_uint32, _U64],
     "nm_worker_unpin": [_H],

@@ -1,4 +1,4 @@
-"""The set, its workers, and the loops that tend it.
+"""The set and its workers.
 
 A worker's handle stays on its seat from its first use until the set is closed, unless a `Worker`
 has it. A call of a thread that has no worker takes the lock of a seat, mostly the one that the
@@ -25,7 +25,7 @@ from ._faults import NoWorker, fault, told
 MOST_KEY = 2**64 - 4
 """The greatest key."""
 
-_RELIEFS = 4  # how often a call that found the set full collects and goes on
+_RELIEFS = 4  # how often an add that found the set full lets all collect, and goes on
 _MOVES = 3  # how often a relief moves the epoch on at most
 _SEARCHES = 64  # how often a thread looks for a free seat while others are locked
 _T = TypeVar("_T")
@@ -58,12 +58,12 @@ class Tending:
     """What a call that tends the set may spend."""
 
     tries: int = 64
-    """The tries of each call of the library. With fewer than 2 no discard answers at once."""
+    """The tries of each call of the tree. With fewer than 2 no discard answers at once."""
     rounds: int = 64
-    """The rounds of one call at most: each is one call of the library, or two where a discard of
-    before is pending."""
-    collect_every: int = 64
-    """After how many adds and discards a worker moves the epoch on and collects."""
+    """How often a call that has lost each of its tries is made again, and how often a discard that
+    has begun is gone on with."""
+    collect_after: int = 64
+    """From how many waiting nodes on an add or a discard first moves the epoch on and collects."""
 
 
 @dataclass(frozen=True)
@@ -133,60 +133,22 @@ class _Hand:
     def __init__(self, handle: _Handle) -> None:
         self.handle = handle
         self.word = handle.word
-        self.changes = 0
 
-    def _tended(
-        self,
-        tending: Tending,
-        call: Callable[[c.Handle, int], int],
-        relieve: Callable[[_Hand], object],
-    ) -> bool:
-        """Makes a call until it has answered: one that lost its tries again, one that met a pending
-        key once that is finished, one that met a full set once `relieve` was called. A discard that
-        has begun is finished."""
-        reliefs = 0
-        for made in range(1, tending.rounds + 1):
-            outcome = call(self.word, tending.tries)
-            if outcome == c.UNFINISHED:
-                return self._finished(tending, made)
-            if outcome == c.PENDING:
-                c.exports.nm_worker_finish(self.word, tending.tries)
-            elif outcome == c.FULL and reliefs < _RELIEFS:
-                reliefs += 1
-                relieve(self)
-            elif outcome != c.BUSY:
-                return told(outcome)
-        raise fault(c.BUSY)
+    def has(self, habit: c.HabitWords, key: int) -> bool:
+        return _tended(c.exports.nm_worker_contains(self.word, key, habit))
 
-    def _finished(self, tending: Tending, made: int) -> bool:
-        for _ in range(made, tending.rounds):
-            outcome = c.exports.nm_worker_finish(self.word, tending.tries)
-            if outcome != c.UNFINISHED:
-                return told(outcome)
-        raise fault(c.UNFINISHED)
+    def add(self, habit: c.HabitWords, key: int, relieve: Callable[[_Hand], object]) -> bool:
+        """Adds a key. Where the set is full, although the worker has collected, `relieve` is called
+        and the add made again."""
+        for _ in range(_RELIEFS):
+            outcome = c.exports.nm_worker_add(self.word, key, habit)
+            if outcome != c.FULL:
+                return _tended(outcome)
+            relieve(self)
+        return _tended(c.exports.nm_worker_add(self.word, key, habit))
 
-    def has(self, tending: Tending, key: int) -> bool:
-        has = c.exports.nm_worker_has
-        return self._tended(tending, lambda word, tries: has(word, key, tries), _nothing)
-
-    def add(self, tending: Tending, key: int, relieve: Callable[[_Hand], object]) -> bool:
-        self._count(tending)
-        insert = c.exports.nm_worker_insert
-        return self._tended(tending, lambda word, tries: insert(word, key, tries), relieve)
-
-    def discard(self, tending: Tending, key: int) -> bool:
-        self._count(tending)
-        delete = c.exports.nm_worker_delete
-        return self._tended(tending, lambda word, tries: delete(word, key, tries), _nothing)
-
-    def _count(self, tending: Tending) -> None:
-        self.changes += 1
-        if self.changes < tending.collect_every:
-            return
-        self.changes = 0
-        if self.queue_len():
-            self.advance()
-            self.collect()
+    def discard(self, habit: c.HabitWords, key: int) -> bool:
+        return _tended(c.exports.nm_worker_remove(self.word, key, habit))
 
     def advance(self) -> bool:
         """Moves the epoch on by one: whether it has moved, by this worker or by another one."""
@@ -208,17 +170,19 @@ class _Hand:
         c.exports.nm_worker_queue_len(self.word, nodes)
         return nodes.value
 
-    def rest(self, tending: Tending) -> None:
+    def rest(self, habit: c.HabitWords) -> None:
         """Gets the worker ready to rest: it holds nothing back, and its discard is finished where
         the bound allows."""
         c.exports.nm_worker_unpin(self.word)
-        for _ in range(tending.rounds):
-            if c.exports.nm_worker_finish(self.word, tending.tries) >= 0:
+        for _ in range(habit.rounds + 1):
+            if c.exports.nm_worker_finish(self.word, habit.tries) >= 0:
                 return
 
 
-def _nothing(hand: _Hand) -> None:
-    """No relief: a lookup and a discard take no slots."""
+def _tended(outcome: int) -> bool:
+    """What a call that tends the set tells: contention, where its bound was reached before anything
+    of it stood, also for a discard of before."""
+    return told(c.BUSY if outcome == c.PENDING else outcome)
 
 
 class _Seat:
@@ -237,11 +201,12 @@ class Set:
     had before. A thread that makes many calls takes a `Worker` of its own by `attach`.
 
     The calls tend the set: one that lost its tries to other threads is made again, a discard that
-    has begun is finished, after so many adds and discards the epoch is moved on and the worker's
-    removed nodes are collected, and before `Full` is raised that is done for all workers that
-    nobody uses, four times at most. What a call may spend is bounded by `Tending`; where that is
-    not enough `Contention` is raised, or `Unfinished` of a discard that has begun. The library's
-    calls are proved; these loops are tested and not proved.
+    has begun is finished, and from so many waiting nodes on the epoch is moved on and the worker's
+    removed nodes are collected. What a call may spend is bounded by `Tending`; where that is not
+    enough `Contention` is raised, or `Unfinished` of a discard that has begun. All of this is the
+    library's, and proved. That a worker is found for each call, and that before `Full` is raised
+    the removed nodes of all workers that nobody uses are collected too, four times at most, is this
+    module's, which is tested and not proved.
 
     In a child that was forked of a process with threads, no set may be used.
     """
@@ -261,7 +226,7 @@ class Set:
         room, count = _narrow(nodes, c.NODES), _narrow(workers, c.WORKERS)
         make = c.exports.nm_set_lowest if lowest else c.exports.nm_set_near
         told(make(self._handle.word, room, count))
-        self._tending = tending
+        self._habit = c.HabitWords(tending.tries, tending.rounds, tending.collect_after)
         self._taking = threading.RLock()
         self._lost: deque[tuple[_Hand, int]] = deque()
         self._seats = [_Seat() for _ in range(count)]
@@ -278,7 +243,7 @@ class Set:
             with self._taking:
                 told(c.exports.nm_set_worker(self._handle.word, handle.word, number))
             seat.hand = _Hand(handle)
-            seat.hand.rest(self._tending)
+            seat.hand.rest(self._habit)
         return seat.hand
 
     def _free_seat(self, asked: Optional[int]) -> int:
@@ -336,17 +301,17 @@ class Set:
 
     def __contains__(self, key: SupportsIndex) -> bool:
         number = _key(key)
-        return self._with_any(lambda hand: hand.has(self._tending, number))
+        return self._with_any(lambda hand: hand.has(self._habit, number))
 
     def add(self, key: SupportsIndex) -> bool:
         """Adds a key: True where it was not in the set."""
         number = _key(key)
-        return self._with_any(lambda hand: hand.add(self._tending, number, self._relieve))
+        return self._with_any(lambda hand: hand.add(self._habit, number, self._relieve))
 
     def discard(self, key: SupportsIndex) -> bool:
         """Removes a key: True where it was in the set."""
         number = _key(key)
-        return self._with_any(lambda hand: hand.discard(self._tending, number))
+        return self._with_any(lambda hand: hand.discard(self._habit, number))
 
     def remove(self, key: SupportsIndex) -> None:
         """Removes a key, or raises KeyError where it was not in the set."""
@@ -391,7 +356,7 @@ class Set:
             seat.lock.release()
 
     def _receive(self, hand: _Hand, number: int) -> None:
-        hand.rest(self._tending)
+        hand.rest(self._habit)
         seat = self._seats[number]
         with seat.lock:
             seat.hand, seat.is_away = hand if hand.word.at else None, False
@@ -427,7 +392,7 @@ class Set:
             raise fault(c.AWAY)
         for seat in self._seats:
             if seat.hand is not None:
-                seat.hand.rest(self._tending)
+                seat.hand.rest(self._habit)
                 seat.hand.handle.drop()
                 seat.hand = None
         with self._taking:
@@ -504,17 +469,17 @@ class Worker:
 
     def __contains__(self, key: SupportsIndex) -> bool:
         number = _key(key)
-        return self._with(lambda hand: hand.has(self._set._tending, number))
+        return self._with(lambda hand: hand.has(self._set._habit, number))
 
     def add(self, key: SupportsIndex) -> bool:
         """Adds a key: True where it was not in the set."""
         number = _key(key)
-        return self._with(lambda hand: hand.add(self._set._tending, number, self._set._relieve))
+        return self._with(lambda hand: hand.add(self._set._habit, number, self._set._relieve))
 
     def discard(self, key: SupportsIndex) -> bool:
         """Removes a key: True where it was in the set."""
         number = _key(key)
-        return self._with(lambda hand: hand.discard(self._set._tending, number))
+        return self._with(lambda hand: hand.discard(self._set._habit, number))
 
     def remove(self, key: SupportsIndex) -> None:
         """Removes a key, or raises KeyError where it was not in the set."""

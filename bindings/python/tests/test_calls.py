@@ -171,15 +171,6 @@ class Tended(unittest.TestCase):
                     self.assertIsNone(worker.pending())
 
     def test_contention_is_told_at_the_bound(self) -> None:
-        with Set(64, tending=Tending(tries=1, rounds=1)) as numbers:
-            with numbers.attach() as worker:
-                worker.add(5)
-                with self.assertRaises(nm_set.Unfinished):
-                    worker.discard(5)
-                self.assertEqual(worker.pending(), 5)
-                with self.assertRaises(nm_set.Contention):
-                    worker.add(6)
-                self.assertTrue(worker.pending() is None and 5 not in worker)
         with Set(64, tending=Tending(tries=0)) as numbers:
             for call in (numbers.add, numbers.discard, numbers.__contains__):
                 with self.assertRaises(nm_set.Contention):
@@ -211,7 +202,7 @@ class Tended(unittest.TestCase):
             self.assertTrue(numbers.add(6))
 
     def test_retired_nodes_are_collected_as_they_come_due(self) -> None:
-        with Set(4_096, tending=Tending(collect_every=8)) as numbers:
+        with Set(4_096, tending=Tending(collect_after=8)) as numbers:
             with numbers.attach() as worker:
                 for key in range(500):
                     self.assertTrue(worker.add(key) and worker.discard(key))

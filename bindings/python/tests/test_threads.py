@@ -95,7 +95,7 @@ class Threads(unittest.TestCase):
         self.play(1_024, Set(1_024), False)
 
     def test_threads_add_up_where_room_is_scarce_and_tries_are_few(self) -> None:
-        tending = Tending(tries=1, rounds=4, collect_every=16)
+        tending = Tending(tries=1, rounds=4, collect_after=16)
         self.play(256, Set(256, workers=5, tending=tending), True)
         self.play(256, Set(256, workers=5, tending=tending), False)
 

@@ -10,7 +10,7 @@
 //! - *One call at a time uses it, and what one thread did happens before the next one's call.*
 //!   Each call takes `&mut Handle`, so that the compiler shows both.
 //! - *Pointers are to places of their type that no other call is using, and two parameters are at
-//!   different places.* They are made of `&mut` alone.
+//!   different places.* They are made of `&mut`, and of `&` where the library only reads.
 //! - *An open handle is not lost.* `Handle` drops what it owns.
 
 use std::ffi::c_int;
@@ -41,6 +41,19 @@ pub struct Ledger {
     pub queued: u64,
 }
 
+/// What a call that tends the set may spend, and when it collects: `nm_habit`.
+#[repr(C)]
+#[derive(Clone, Copy)]
+pub(crate) struct Habit {
+    /// The tries of each call of the tree.
+    pub tries: u32,
+    /// How often a call that has lost each of its tries is made again, and how often a delete that
+    /// has begun is gone on with.
+    pub rounds: u32,
+    /// From how many waiting nodes on an insert or a remove first moves the epoch on and collects.
+    pub collect_after: u32,
+}
+
 /// A node that waited in a worker's queue when the set was closed: `nm_waiting`.
 #[repr(C)]
 #[derive(Clone, Copy, Debug, Default, PartialEq, Eq)]
@@ -63,6 +76,9 @@ extern "C" {
     fn nm_worker_insert(worker: *mut Word, key: u64, tries: u32) -> c_int;
     fn nm_worker_delete(worker: *mut Word, key: u64, tries: u32) -> c_int;
     fn nm_worker_finish(worker: *mut Word, tries: u32) -> c_int;
+    fn nm_worker_contains(worker: *mut Word, key: u64, habit: *const Habit) -> c_int;
+    fn nm_worker_add(worker: *mut Word, key: u64, habit: *const Habit) -> c_int;
+    fn nm_worker_remove(worker: *mut Word, key: u64, habit: *const Habit) -> c_int;
     fn nm_worker_pin(worker: *mut Word, tries: u32, epoch: *mut u64) -> c_int;
     fn nm_worker_unpin(worker: *mut Word) -> c_int;
     fn nm_worker_advance(worker: *mut Word, epoch: *mut u64, behind: *mut u32) -> c_int;
@@ -119,6 +135,9 @@ impl Handle {
         insert = nm_worker_insert(key: u64, tries: u32);
         delete = nm_worker_delete(key: u64, tries: u32);
         finish = nm_worker_finish(tries: u32);
+        contains = nm_worker_contains(key: u64, habit: &Habit);
+        add = nm_worker_add(key: u64, habit: &Habit);
+        remove = nm_worker_remove(key: u64, habit: &Habit);
         pin = nm_worker_pin(tries: u32, epoch: &mut u64);
         unpin = nm_worker_unpin();
         advance = nm_worker_advance(epoch: &mut u64, behind: &mut u32);

@@ -1,106 +1,58 @@
-//! A worker's handle, and the calls that tend the set.
+//! A worker's handle, and its calls that tend the set.
 
 use crate::fault::{answer, Fault};
-use crate::ffi::{Handle, Outcome};
+use crate::ffi::{Habit, Handle, Outcome};
 
-/// How often a call that was told of a full set collects and goes on, before it tells so.
+/// How often an insert that was told of a full set lets all workers that nobody uses collect, and
+/// goes on, before it tells so.
 const RELIEFS: u32 = 4;
 
 /// How often a relief moves the epoch on at most: a removed node is free after two moves, and one
 /// move may be of another worker's.
 const MOVES: u32 = 3;
 
-/// What a tended call may spend, and how often it collects.
-#[derive(Clone, Copy)]
-pub(crate) struct Tending {
-    /// The tries of one call of the library.
-    pub tries: u32,
-    /// The calls of the library that one tended call makes at most.
-    pub rounds: u32,
-    /// After how many inserts and removes a worker moves the epoch on and collects.
-    pub collect_every: u32,
-}
-
 /// The handle of an open worker.
 pub(crate) struct Hand {
     pub handle: Handle,
-    /// The inserts and removes since it collected last.
-    changes: u32,
+}
+
+/// What a call that tends the set tells: contention, where its bound was reached before anything of
+/// it stood, also for a remove of before.
+fn tended(outcome: Outcome) -> Result<bool, Fault> {
+    match answer(outcome) {
+        Err(Fault::Busy | Fault::Pending) => Err(Fault::Contention),
+        told => told,
+    }
 }
 
 impl Hand {
     pub fn of(handle: Handle) -> Hand {
-        Hand { handle, changes: 0 }
+        Hand { handle }
     }
 
-    /// Makes a call until it has answered, at most so many rounds: one that lost its tries again,
-    /// one that met a pending key once that is finished, one that met a full set once `relieve` was
-    /// called. A delete that has begun is finished.
-    fn tended(
-        &mut self,
-        tending: Tending,
-        mut relieve: impl FnMut(&mut Hand),
-        mut call: impl FnMut(&mut Handle, u32) -> Outcome,
-    ) -> Result<bool, Fault> {
-        let mut reliefs = 0;
-        for round in 0..tending.rounds {
-            match answer(call(&mut self.handle, tending.tries)) {
-                Err(Fault::Busy) => {}
-                Err(Fault::Unfinished) => return self.finished(tending, round + 1),
-                Err(Fault::Pending) => {
-                    self.handle.finish(tending.tries);
-                }
-                Err(Fault::Full) if reliefs < RELIEFS => {
-                    reliefs += 1;
-                    relieve(self);
-                }
-                told => return told,
-            }
-        }
-        Err(Fault::Contention)
+    pub fn contains(&mut self, habit: &Habit, key: u64) -> Result<bool, Fault> {
+        tended(self.handle.contains(key, habit))
     }
 
-    /// Finishes the delete that has just begun, in the rounds that are left.
-    fn finished(&mut self, tending: Tending, rounds: u32) -> Result<bool, Fault> {
-        for _ in rounds..tending.rounds {
-            match answer(self.handle.finish(tending.tries)) {
-                Err(Fault::Unfinished) => {}
-                told => return told,
-            }
-        }
-        Err(Fault::Unfinished)
-    }
-
-    pub fn contains(&mut self, tending: Tending, key: u64) -> Result<bool, Fault> {
-        self.tended(tending, |_| {}, |handle, tries| handle.has(key, tries))
-    }
-
+    /// Inserts a key. Where the set is full, although the worker has collected, `relieve` is called
+    /// and the insert made again.
     pub fn insert(
         &mut self,
-        tending: Tending,
-        relieve: impl FnMut(&mut Hand),
+        habit: &Habit,
+        mut relieve: impl FnMut(&mut Hand),
         key: u64,
     ) -> Result<bool, Fault> {
-        self.count(tending);
-        self.tended(tending, relieve, |handle, tries| handle.insert(key, tries))
+        for _ in 0..RELIEFS {
+            match tended(self.handle.add(key, habit)) {
+                Err(Fault::Full) => relieve(self),
+                told => return told,
+            }
+        }
+        tended(self.handle.add(key, habit))
     }
 
-    pub fn remove(&mut self, tending: Tending, key: u64) -> Result<bool, Fault> {
-        self.count(tending);
-        self.tended(tending, |_| {}, |handle, tries| handle.delete(key, tries))
-    }
-
-    /// Counts an insert or a remove that begins; as many as are due move the epoch on and collect.
-    fn count(&mut self, tending: Tending) {
-        self.changes += 1;
-        if self.changes < tending.collect_every {
-            return;
-        }
-        self.changes = 0;
-        if self.queue_len() != 0 {
-            self.advance();
-            self.collect();
-        }
+    pub fn remove(&mut self, habit: &Habit, key: u64) -> Result<bool, Fault> {
+        tended(self.handle.remove(key, habit))
     }
 
     /// Moves the epoch on as often as removed nodes wait for, or until a worker holds it back.
@@ -137,10 +89,10 @@ impl Hand {
 
     /// Gets the worker ready to rest: it holds nothing back, and its delete is finished where the
     /// bound allows.
-    pub fn rest(&mut self, tending: Tending) {
+    pub fn rest(&mut self, habit: &Habit) {
         self.handle.unpin();
-        for _ in 0..tending.rounds {
-            if self.handle.finish(tending.tries) >= 0 {
+        for _ in 0..=habit.rounds {
+            if self.handle.finish(habit.tries) >= 0 {
                 return;
             }
         }

@@ -1,8 +1,8 @@
 //! The set that threads share.
 
 use crate::fault::Fault;
-use crate::ffi::Handle;
-use crate::hand::{Hand, Tending};
+use crate::ffi::{Habit, Handle};
+use crate::hand::Hand;
 use crate::report::Report;
 use crate::shared::Shared;
 use crate::worker::Worker;
@@ -40,16 +40,17 @@ pub struct Options {
     /// The tries of each call of the library that a tended call makes. With fewer than 2 no remove
     /// answers at once.
     pub tries: u32,
-    /// How many rounds a tended call has at most, before it tells [`Fault::Contention`] or
-    /// [`Fault::Unfinished`].
+    /// How often a tended call is made again that has lost each of its tries, before it tells
+    /// [`Fault::Contention`], and how often a remove that has begun is gone on with, before it
+    /// tells [`Fault::Unfinished`].
     pub rounds: u32,
-    /// After how many inserts and removes a worker moves the epoch on and collects.
-    pub collect_every: u32,
+    /// From how many waiting nodes on an insert or a remove first moves the epoch on and collects.
+    pub collect_after: u32,
 }
 
 impl Options {
     /// So many nodes, for 61 workers, with slots near by; 64 tries, 64 rounds, and a collection
-    /// after 64 inserts and removes.
+    /// from 64 waiting nodes on.
     pub fn new(nodes: u32) -> Options {
         Options {
             nodes,
@@ -57,7 +58,7 @@ impl Options {
             placement: Placement::Near,
             tries: 64,
             rounds: 64,
-            collect_every: 64,
+            collect_after: 64,
         }
     }
 
@@ -71,12 +72,12 @@ impl Options {
         if told < 0 {
             return Err(Fault::of(told));
         }
-        let tending = Tending {
+        let habit = Habit {
             tries: self.tries,
             rounds: self.rounds,
-            collect_every: self.collect_every,
+            collect_after: self.collect_after,
         };
-        Ok(Set(Arc::new(Shared::of(handle, self.workers, tending))))
+        Ok(Set(Arc::new(Shared::of(handle, self.workers, habit))))
     }
 }
 
@@ -88,16 +89,16 @@ impl Options {
 /// [`attach`](Set::attach), and saves the lock that this takes.
 ///
 /// [`contains`](Set::contains), [`insert`](Set::insert) and [`remove`](Set::remove) **tend** the
-/// set: a call that lost its tries to other threads is made again, a remove that has begun is
-/// finished, after so many inserts and removes the epoch is moved on and the worker's removed nodes
-/// are collected, and before `Full` is told that is done for all workers that nobody uses, four
-/// times at most. A tended call has at most so many [`rounds`](Options::rounds), each of one call
-/// of the library, or two where a remove of before is pending, of at most so many
-/// [`tries`](Options::tries); where that is not enough it tells [`Fault::Contention`], or
-/// [`Fault::Unfinished`] of a remove that has begun.
+/// set: a call that lost its tries to other threads is made again, at most so many
+/// [`rounds`](Options::rounds), a remove that has begun is finished, and from so many waiting nodes
+/// on the epoch is moved on and the worker's removed nodes are collected
+/// ([`collect_after`](Options::collect_after)). Where that is not enough they tell
+/// [`Fault::Contention`], or [`Fault::Unfinished`] of a remove that has begun. All of this is the
+/// library's, **proved** and within a bound of steps.
 ///
-/// The library's calls are proved; these loops round them are **tested and not proved**, as is all
-/// of this crate.
+/// That a worker is found for each call, and that before `Full` is told the removed nodes of all
+/// workers that nobody uses are collected too, four times at most, is this crate's, which is
+/// **tested and not proved**.
 ///
 /// ```
 /// # fn main() -> Result<(), nm_set::Fault> {
@@ -144,7 +145,7 @@ impl Set {
     /// Whether the set has the key. `Key`, `Contention`, `NoWorker`, `NoMemory` (to take a worker),
     /// `Closed`.
     pub fn contains(&self, key: u64) -> Result<bool, Fault> {
-        self.0.with_any(|hand| hand.contains(self.0.tending, key))
+        self.0.with_any(|hand| hand.contains(&self.0.habit, key))
     }
 
     /// Inserts a key, and tells whether it was not in the set; it is now. `Key`, `Full`,
@@ -154,13 +155,13 @@ impl Set {
             self.0.relieve(own);
         };
         self.0
-            .with_any(|hand| hand.insert(self.0.tending, relieve, key))
+            .with_any(|hand| hand.insert(&self.0.habit, relieve, key))
     }
 
     /// Removes a key, and tells whether it was in the set; it is not now. `Key`, `NoMemory`,
     /// `Contention`, `NoWorker`, `Closed`: nothing has changed. `Unfinished`: the key will go.
     pub fn remove(&self, key: u64) -> Result<bool, Fault> {
-        self.0.with_any(|hand| hand.remove(self.0.tending, key))
+        self.0.with_any(|hand| hand.remove(&self.0.habit, key))
     }
 
     /// Moves the epoch on as far as can be, and frees what has waited long enough, of all workers

@@ -6,8 +6,8 @@
 //! `close`, and a worker on its way back.
 
 use crate::fault::Fault;
-use crate::ffi::Handle;
-use crate::hand::{Hand, Tending};
+use crate::ffi::{Habit, Handle};
+use crate::hand::Hand;
 use std::cell::Cell;
 use std::sync::atomic::{AtomicU64, Ordering};
 use std::sync::{Mutex, MutexGuard, PoisonError, TryLockError};
@@ -29,7 +29,7 @@ struct Seat(Mutex<Place>);
 pub(crate) struct Shared {
     /// Tells the sets of a process apart.
     identity: u64,
-    pub tending: Tending,
+    pub habit: Habit,
     set: Mutex<Handle>,
     seats: Vec<Seat>,
     /// All numbers, those that lie apart first.
@@ -72,10 +72,10 @@ fn free<T>(mutex: &Mutex<T>) -> Option<MutexGuard<'_, T>> {
 
 impl Shared {
     /// What the clones of a set with an open handle share.
-    pub fn of(set: Handle, workers: u32, tending: Tending) -> Shared {
+    pub fn of(set: Handle, workers: u32, habit: Habit) -> Shared {
         Shared {
             identity: IDENTITIES.fetch_add(1, Ordering::Relaxed),
-            tending,
+            habit,
             set: Mutex::new(set),
             seats: (0..workers)
                 .map(|_| Seat(Mutex::new(Place::Home)))
@@ -189,7 +189,7 @@ impl Shared {
         }
         for place in &mut places {
             if let Place::Seated(hand) = &mut **place {
-                hand.rest(self.tending);
+                hand.rest(&self.habit);
             }
             **place = Place::Home;
         }

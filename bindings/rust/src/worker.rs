@@ -84,8 +84,8 @@ impl Worker {
     /// Whether the set has the key, tended: see [`Set::contains`](crate::Set::contains). `Key`,
     /// `Held`, `Contention`.
     pub fn contains(&mut self, key: u64) -> Result<bool, Fault> {
-        let tending = self.shared.tending;
-        self.hand().contains(tending, key)
+        let Worker { shared, hand, .. } = self;
+        open(hand).contains(&shared.habit, key)
     }
 
     /// Inserts a key, and tells whether it was not in the set, tended: see
@@ -95,15 +95,15 @@ impl Worker {
         let relieve = |own: &mut Hand| {
             shared.relieve(own);
         };
-        open(hand).insert(shared.tending, relieve, key)
+        open(hand).insert(&shared.habit, relieve, key)
     }
 
     /// Removes a key, and tells whether it was in the set, tended: see
     /// [`Set::remove`](crate::Set::remove). `Key`, `Held`, `NoMemory`, `Contention`,
     /// `Unfinished`.
     pub fn remove(&mut self, key: u64) -> Result<bool, Fault> {
-        let tending = self.shared.tending;
-        self.hand().remove(tending, key)
+        let Worker { shared, hand, .. } = self;
+        open(hand).remove(&shared.habit, key)
     }
 
     /// Whether the set has the key, by so many tries. `Key`, `Busy`, `Pending`, `Held`.
@@ -186,7 +186,7 @@ impl Worker {
 impl Drop for Worker {
     fn drop(&mut self) {
         if let Some(mut hand) = self.hand.take() {
-            hand.rest(self.shared.tending);
+            hand.rest(&self.shared.habit);
             self.shared.receive(hand, self.number);
         }
     }

@@ -1,5 +1,5 @@
-//! What the calls that tend a set do where the library's own calls give up: each loop of theirs,
-//! made to run by small bounds.
+//! What the calls that tend a set do where the library's plain calls give up: each part of it, made
+//! to run by small bounds.
 
 use nm_set::{Fault, Options, Set};
 
@@ -26,29 +26,35 @@ fn a_remove_that_has_begun_is_finished() {
 }
 
 #[test]
-fn contention_is_told_at_the_bound() {
-    let set = Options {
-        tries: 1,
-        rounds: 1,
-        ..Options::new(64)
+fn a_remove_of_before_is_finished_first() {
+    let mut worker = Set::new(64).unwrap().attach().unwrap();
+    for key in 0..10 {
+        assert_eq!(
+            (worker.insert(key), worker.try_remove(key, 1)),
+            (Ok(true), Err(Fault::Unfinished))
+        );
+        assert_eq!((worker.contains(key), worker.pending()), (Ok(false), None));
     }
-    .open()
-    .unwrap();
-    let mut worker = set.attach().unwrap();
-    assert_eq!(
-        (worker.insert(5), worker.remove(5), worker.pending()),
-        (Ok(true), Err(Fault::Unfinished), Some(5))
-    );
-    assert_eq!(
-        (worker.contains(6), worker.pending(), worker.contains(5)),
-        (Err(Fault::Contention), None, Ok(false))
-    );
+}
+
+#[test]
+fn contention_is_told_at_the_bound() {
     let set = Options {
         tries: 0,
         ..Options::new(64)
     }
     .open()
     .unwrap();
+    let mut worker = set.attach().unwrap();
+    assert_eq!(
+        (worker.try_insert(5, 64), worker.try_remove(5, 1)),
+        (Ok(true), Err(Fault::Unfinished))
+    );
+    assert_eq!(
+        (worker.contains(6), worker.pending(), worker.finish(64)),
+        (Err(Fault::Contention), Some(5), Ok(true))
+    );
+    drop(worker);
     assert_eq!(
         (set.insert(5), set.contains(5), set.remove(5)),
         (
@@ -127,7 +133,7 @@ fn a_worker_that_holds_the_epoch_back_lets_full_be_told() {
 #[test]
 fn retired_nodes_are_collected_as_they_come_due() {
     let set = Options {
-        collect_every: 8,
+        collect_after: 8,
         ..Options::new(4_096)
     }
     .open()

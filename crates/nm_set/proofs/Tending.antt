@@ -12,20 +12,25 @@ use Rattle.nm_model.specs.Searches.{Search}
 use Rattle.nm_steps.specs.Rules.{Extends}
 use Rattle.nm_steps.specs.Steps.{Board, Stand, HasSeen, IsSamePass, HasSeenAllOf}
 use Rattle.nm_steps.proofs.Seeing.{seen_itself, seen_through}
+use Rattle.nm_epoch.specs.declared.answers.Advance.{Advance}
+use Rattle.nm_epoch.specs.declared.collecting.Collected.{Collected}
 use Rattle.nm_epoch.specs.declared.collecting.Entry.{Entry}
 use Rattle.nm_epoch.specs.declared.collecting.HeldQueue.{HeldQueue}
-use Rattle.nm_epoch.specs.Collecting.{is_ripe, HaveLost}
-use Rattle.nm_epoch.specs.Resting.{search}
+use Rattle.nm_epoch.specs.Collecting.{is_ripe, ripe_of, HaveLost}
+use Rattle.nm_epoch.specs.Resting.{epochs, search}
 use Rattle.nm_calls.specs.Moments.{AnswerHasMoment, HadNoCall}
+use Rattle.nm_calls.specs.Won.{HasWon}
 use Rattle.nm_tree.specs.declared.fault.Fault.{Fault as Lost}
 use Rattle.nm_tree.specs.declared.fault.Fault.TheVariants as call
 use Rattle.nm_tree.specs.declared.worker.Unfinished.{Unfinished}
 use Rattle.nm_tree.specs.Workers.{Hand, IsAs, IsBetweenCalls, KeepsOthers}
+use Rattle.nm_tree.specs.Answers.{links_won, flags_won}
+use Rattle.nm_tree.proofs.Quiet.{Quiet, advanced, collected}
 use Rattle.nm_set.specs.declared.fault.Fault.{Fault}
 use Rattle.nm_set.specs.declared.fault.Fault.TheVariants as fault
 use Rattle.nm_set.specs.declared.tended.Habit.{Habit}
 use Rattle.nm_set.specs.Asked.{Asked, LeavesHas, LeavesInsert, LeavesDelete, LeavesFinish, LeavesAdvance, LeavesCollect}
-use Rattle.nm_set.specs.Tended.{OnlyLoses, OthersOnlyLose, GoesOn, InARow, IsAsked, busy, Looks, Inserts, Deletes, Finishes, IsRelieved, IsTidied, InsertsOn, of_finish, DeletesOn, IsLeft, round_bound, Tends}
+use Rattle.nm_set.specs.Tended.{OnlyLoses, OthersOnlyLose, GoesOn, InARow, IsAsked, busy, Looks, Inserts, Deletes, Finishes, IsRelieved, IsTidied, InsertsOn, of_finish, DeletesOn, IsLeft, links_told, flags_told, round_bound, Tends}
 use Rattle.std.specs.List.{prefix_len}
 
 -- nothing is not there
@@ -320,23 +325,87 @@ goes_deletes b h k w z r free a =
     = λ x y q held made. (let told = asked_free (LeavesDelete b.layout.nodes h.tries k) x y q held made in goes_delete b.layout h.tries k x y told.0 told.1) in
     goes_asked (Asked (LeavesDelete b.layout.nodes h.tries k)) busy (round_bound h.tries b.layout) each h.rounds w z r free a
 
--- behind calls that lost each of their tries nothing is pending or held, and the pass has gone on
+-- ---- what is won
+
+-- between two workers so many links and flags were won
+abbrev Wins : Hand → Hand → ℕ → ℕ → Type 0
+Wins w z l f = HasWon w.pass.view.log z.pass.view.log l f
+
+wins_nothing : (w : Hand) → Wins w w 0 0
+wins_nothing w = record { links = omega arith; flags = omega arith }
+
+wins_after : (l f : ℕ) (w x z : Hand) → Wins w x 0 0 → Wins x z l f → Wins w z l f
+wins_after l f w x z first second =
+    let a = first.links in
+    let b = second.links in
+    let c = first.flags in
+    let d = second.flags in
+    record { links = omega (arith, a, b); flags = omega (arith, c, d) }
+
+wins_before : (l f : ℕ) (w x z : Hand) → Wins w x l f → Wins x z 0 0 → Wins w z l f
+wins_before l f w x z first second =
+    let a = first.links in
+    let b = second.links in
+    let c = first.flags in
+    let d = second.flags in
+    record { links = omega (arith, a, b); flags = omega (arith, c, d) }
+
+quiet_wins : (w z : Hand) → Quiet w.pass.view.log z.pass.view.log → Wins w z 0 0
+quiet_wins w z q = let a = q.links in let b = q.flags in record { links = omega (arith, a); flags = omega (arith, b) }
+
+advance_wins : (m : ℕ) (w z : Hand) (a : Advance) → LeavesAdvance m w z a → Wins w z 0 0
+advance_wins m w z a l = quiet_wins w z (advanced m w.pass.view.number (epochs w.pass).pin w.pass.view.log z.pass.view.log a l.did)
+
+collect_wins : (n : ℕ) (w z : Hand) (c : Collected) → LeavesCollect n w z c → Wins w z 0 0
+collect_wins n w z c l = quiet_wins w z (collected w.pass.view.log l.did.0 z.pass.view.log l.did.1.0 (ripe_of c.epoch w.queues) l.did.1.2 l.did.2)
+
+relieved_wins : (b : Board) (w z : Hand) → IsRelieved b w z → Wins w z 0 0
+relieved_wins b w z r =
+    let first = advance_wins b.layout.workers w r.once r.moved r.moves in
+    let second = advance_wins b.layout.workers r.once r.twice r.moved_again r.moves_again in
+    wins_after 0 0 w r.twice z (wins_after 0 0 w r.once r.twice first second) (collect_wins b.layout.nodes r.twice z r.collected r.collects)
+
+tidied_wins : (b : Board) (many : ℕ) (w z : Hand) → IsTidied b many w z → Wins w z 0 0
+tidied_wins b many w z (inl did) = relieved_wins b w z did.1
+tidied_wins b many w z (inr did) = subst (λ (y : Hand). Wins w y 0 0) (sym did.1) (wins_nothing w)
+
+finishes_wins : (b : Board) (h : Habit) (w z : Hand) (r : Result Bool Lost) → Finishes b h w z r → Wins w z 0 0
+finishes_wins b h w z r f =
+    let before = keeps_in_a_row (λ (x : Hand). Wins w x 0 0) (λ x y. LeavesFinish b.layout.nodes h.tries x y (Err call.Unfinished)) (λ x y at made. wins_after 0 0 w x y at made.won) f.before w f.begun (wins_nothing w) f.each in
+    wins_after 0 0 w f.begun z before f.last.won
+
+insert_links : (l : Result Bool Lost) → links_won l ≡ links_told Insert (of_finish l)
+insert_links (Ok true) = refl
+insert_links (Ok false) = refl
+insert_links (Err lost) = refl
+
+delete_flags : (l : Result Bool Lost) → flags_won l ≡ flags_told Delete (of_finish l)
+delete_flags (Ok true) = refl
+delete_flags (Ok false) = refl
+delete_flags (Err call.Busy) = refl
+delete_flags (Err call.Full) = refl
+delete_flags (Err call.NoMemory) = refl
+delete_flags (Err call.Unfinished) = refl
+delete_flags (Err call.Pending) = refl
+
+-- behind calls that lost each of their tries nothing is pending, held or won, and the pass has gone on
 record IsOnward (w z : Hand) : Type 0 where
   none : z.pending ≡ None
   free : z.held ≡ None
   follows : Follows w.pass z.pass
+  won : Wins w z 0 0
 
 onward_itself : (w : Hand) → w.pending ≡ None → w.held ≡ None → IsOnward w w
-onward_itself w none free = record { none = none; free = free; follows = follows_itself w.pass }
+onward_itself w none free = record { none = none; free = free; follows = follows_itself w.pass; won = wins_nothing w }
 
 onward_has : (L : Layout) (t k : ℕ) (w x y : Hand) → IsOnward w x → Asked (LeavesHas L.nodes t k) x y busy → IsOnward w y
-onward_has L t k w x y on did = record { none = did.1.did.0.1; free = did.1.held; follows = follows_then w.pass x.pass y.pass on.follows (record { same = did.1.same; past = did.1.past }) }
+onward_has L t k w x y on did = record { none = did.1.did.0.1; free = did.1.held; follows = follows_then w.pass x.pass y.pass on.follows (record { same = did.1.same; past = did.1.past }); won = wins_after 0 0 w x y on.won did.1.won }
 
 onward_insert : (L : Layout) (t k : ℕ) (w x y : Hand) → IsOnward w x → Asked (LeavesInsert L.nodes t k) x y busy → IsOnward w y
-onward_insert L t k w x y on did = record { none = did.1.did.0.1; free = did.1.held; follows = follows_then w.pass x.pass y.pass on.follows (record { same = did.1.same; past = did.1.past }) }
+onward_insert L t k w x y on did = record { none = did.1.did.0.1; free = did.1.held; follows = follows_then w.pass x.pass y.pass on.follows (record { same = did.1.same; past = did.1.past }); won = wins_after 0 0 w x y on.won did.1.won }
 
 onward_delete : (L : Layout) (t k : ℕ) (w x y : Hand) → IsOnward w x → Asked (LeavesDelete L.nodes t k) x y busy → IsOnward w y
-onward_delete L t k w x y on did = record { none = did.1.did.0.1; free = did.1.held; follows = follows_then w.pass x.pass y.pass on.follows (record { same = did.1.same; past = did.1.past }) }
+onward_delete L t k w x y on did = record { none = did.1.did.0.1; free = did.1.held; follows = follows_then w.pass x.pass y.pass on.follows (record { same = did.1.same; past = did.1.past }); won = wins_after 0 0 w x y on.won did.1.won }
 
 begun_look : (b : Board) (h : Habit) (k : ℕ) (w z : Hand) (r : Result Bool Fault) → w.pending ≡ None → w.held ≡ None → (a : Looks b h k w z r) → IsOnward w a.begun
 begun_look b h k w z r none free a = keeps_in_a_row (IsOnward w) (λ x y. Asked (LeavesHas b.layout.nodes h.tries k) x y busy) (λ x y on did. onward_has b.layout h.tries k w x y on did) a.before w a.begun (onward_itself w none free) a.each
@@ -349,39 +418,43 @@ begun_delete b h k w z r none free a = keeps_in_a_row (IsOnward w) (λ x y. Aske
 
 -- ---- what is told last
 
--- the answer has its moment, and what is pending is told
+-- the answer has its moment, and what is pending and what was won is told
 record IsTold (op : Op) (k : ℕ) (o z : Hand) (r : Result Bool Fault) : Type 0 where
   moment : IfOk r (AnswerHasMoment o.pass z.pass op k)
   left : IsLeft k o z r
+  won : Wins o z (links_told op r) (flags_told op r)
 
-look_told : (b : Board) (h : Habit) (k : ℕ) (o w z : Hand) (r : Result Bool Fault) → HasSeenAllOf w.pass o.pass → w.pending ≡ None → w.held ≡ None → Looks b h k w z r → IsTold Has k o z r
-look_told b h k o w z r past none free a =
+look_told : (b : Board) (h : Habit) (k : ℕ) (o w z : Hand) (r : Result Bool Fault) → HasSeenAllOf w.pass o.pass → Wins o w 0 0 → w.pending ≡ None → w.held ≡ None → Looks b h k w z r → IsTold Has k o z r
+look_told b h k o w z r past won none free a =
     let x = a.begun in
     let on = begun_look b h k w z r none free a in
     let told = asked_free (LeavesHas b.layout.nodes h.tries k) x z r on.free a.last in
     subst (λ (q : Result Bool Fault). IsTold Has k o z q) (sym told.2) (record {
       moment = moment_if o.pass x.pass z.pass Has k told.0 (seen_through o.pass w.pass x.pass past on.follows.past) told.1.moment;
       left = has_left b.layout h.tries k o x z told.0 on.none told.1;
+      won = wins_after 0 0 o x z (wins_after 0 0 o w x won on.won) told.1.won;
     })
 
-insert_told : (b : Board) (h : Habit) (k : ℕ) (o w z : Hand) (r : Result Bool Fault) → HasSeenAllOf w.pass o.pass → w.pending ≡ None → w.held ≡ None → Inserts b h k w z r → IsTold Insert k o z r
-insert_told b h k o w z r past none free a =
+insert_told : (b : Board) (h : Habit) (k : ℕ) (o w z : Hand) (r : Result Bool Fault) → HasSeenAllOf w.pass o.pass → Wins o w 0 0 → w.pending ≡ None → w.held ≡ None → Inserts b h k w z r → IsTold Insert k o z r
+insert_told b h k o w z r past won none free a =
     let x = a.begun in
     let on = begun_insert b h k w z r none free a in
     let told = asked_free (LeavesInsert b.layout.nodes h.tries k) x z r on.free a.last in
     subst (λ (q : Result Bool Fault). IsTold Insert k o z q) (sym told.2) (record {
       moment = moment_if o.pass x.pass z.pass Insert k told.0 (seen_through o.pass w.pass x.pass past on.follows.past) told.1.moment;
       left = insert_left b.layout h.tries k o x z told.0 on.none told.1;
+      won = subst (λ (n : ℕ). Wins o z n 0) (insert_links told.0) (wins_after (links_won told.0) 0 o x z (wins_after 0 0 o w x won on.won) told.1.won);
     })
 
-delete_told : (b : Board) (h : Habit) (k : ℕ) (o w z : Hand) (r : Result Bool Fault) → HasSeenAllOf w.pass o.pass → w.pending ≡ None → w.held ≡ None → Deletes b h k w z r → IsTold Delete k o z r
-delete_told b h k o w z r past none free a =
+delete_told : (b : Board) (h : Habit) (k : ℕ) (o w z : Hand) (r : Result Bool Fault) → HasSeenAllOf w.pass o.pass → Wins o w 0 0 → w.pending ≡ None → w.held ≡ None → Deletes b h k w z r → IsTold Delete k o z r
+delete_told b h k o w z r past won none free a =
     let x = a.begun in
     let on = begun_delete b h k w z r none free a in
     let told = asked_free (LeavesDelete b.layout.nodes h.tries k) x z r on.free a.last in
     subst (λ (q : Result Bool Fault). IsTold Delete k o z q) (sym told.2) (record {
       moment = moment_if o.pass x.pass z.pass Delete k told.0 (seen_through o.pass w.pass x.pass past on.follows.past) told.1.moment;
       left = delete_left b.layout h.tries k o x z told.0 on.none told.1;
+      won = subst (λ (n : ℕ). Wins o z 0 n) (delete_flags told.0) (wins_after 0 (flags_won told.0) o x z (wins_after 0 0 o w x won on.won) told.1.won);
     })
 
 -- a worker that rests has no call
@@ -393,8 +466,8 @@ rests w none free between =
     ap (λ (s : Search). s.call) resting.idle
 
 -- a delete that is finished: y is where it began, with no call, and x where its leaf was flagged
-finish_told : (b : Board) (h : Habit) (k : ℕ) (leaf : NodeId) (o y x z : Hand) (f : Result Bool Lost) → HasSeenAllOf y.pass o.pass → HadNoCall y.pass x.pass → x.pending ≡ Some (record { key = k; leaf = leaf }) → Finishes b h x z f → IsTold Delete k o z (of_finish f)
-finish_told b h k leaf o y x z (Ok true) past had is a =
+finish_told : (b : Board) (h : Habit) (k : ℕ) (leaf : NodeId) (o y x z : Hand) (f : Result Bool Lost) → HasSeenAllOf y.pass o.pass → Wins o x 0 1 → HadNoCall y.pass x.pass → x.pending ≡ Some (record { key = k; leaf = leaf }) → Finishes b h x z f → IsTold Delete k o z (of_finish f)
+finish_told b h k leaf o y x z (Ok true) past won had is a =
     let mine : Unfinished = record { key = k; leaf = leaf } in
     let begun = follow_in_a_row (λ p q. LeavesFinish b.layout.nodes h.tries p q (Err call.Unfinished)) (λ p q made. record { same = made.same; past = made.past }) a.before x a.begun a.each in
     let on = follows_then y.pass x.pass a.begun.pass (record { same = had.same; past = had.past }) begun in
@@ -403,15 +476,20 @@ finish_told b h k leaf o y x z (Ok true) past had is a =
     record {
       moment = moment_since o.pass y.pass z.pass Delete k true past (subst (λ (n : Unfinished). AnswerHasMoment y.pass z.pass Delete n.key true) same at);
       left = finished b.layout.nodes h.tries a.begun z true a.last;
+      won = wins_before 0 1 o x z won (finishes_wins b h x z (Ok true) a);
     }
-finish_told b h k leaf o y x z (Ok false) past had is a =
+finish_told b h k leaf o y x z (Ok false) past won had is a =
     let there : IsSome a.begun.pending = subst IsSome (sym (pends b h x z (Ok false) a ∙ is)) refl in
     none_there a.begun.pending a.last.did.0 there
-finish_told b h k leaf o y x z (Err call.Unfinished) past had is a = record { moment = tt; left = (leaf, still b.layout.nodes h.tries a.begun z a.last ∙ (pends b h x z (Err call.Unfinished) a ∙ is)) }
-finish_told b h k leaf o y x z (Err call.Busy) past had is a = absurd a.last.did
-finish_told b h k leaf o y x z (Err call.Full) past had is a = absurd a.last.did
-finish_told b h k leaf o y x z (Err call.NoMemory) past had is a = absurd a.last.did
-finish_told b h k leaf o y x z (Err call.Pending) past had is a = absurd a.last.did
+finish_told b h k leaf o y x z (Err call.Unfinished) past won had is a = record {
+  moment = tt;
+  left = (leaf, still b.layout.nodes h.tries a.begun z a.last ∙ (pends b h x z (Err call.Unfinished) a ∙ is));
+  won = wins_before 0 1 o x z won (finishes_wins b h x z (Err call.Unfinished) a);
+}
+finish_told b h k leaf o y x z (Err call.Busy) past won had is a = absurd a.last.did
+finish_told b h k leaf o y x z (Err call.Full) past won had is a = absurd a.last.did
+finish_told b h k leaf o y x z (Err call.NoMemory) past won had is a = absurd a.last.did
+finish_told b h k leaf o y x z (Err call.Pending) past won had is a = absurd a.last.did
 
 -- ---- the rounds of a call
 
@@ -428,6 +506,12 @@ in_all r m most w z few a = goes_more (m * most) ((3 * r + 5) * most) w z (mul-l
 
 -- ---- the three calls
 
+-- who tells of an earlier call's delete has won nothing
+wins_pending : (op : Op) (w z : Hand) → Wins w z 0 0 → Wins w z (links_told op (Err (fault.Call call.Pending))) (flags_told op (Err (fault.Call call.Pending)))
+wins_pending Has w z won = won
+wins_pending Insert w z won = won
+wins_pending Delete w z won = won
+
 -- where the delete of an earlier call is not finished, nothing else is done
 pub pending_tends : (b : Board) (h : Habit) (op : Op) (k : ℕ) (w z : Hand) (lost : Lost) → w.held ≡ None → Finishes b h w z (Err lost) → Finishes b h w z (Err call.Unfinished) × Tends b h op k w z (Err (fault.Call call.Pending))
 pending_tends b h op k w z lost free f =
@@ -435,30 +519,33 @@ pending_tends b h op k w z lost free f =
     let told = subst (λ (e : Lost). Finishes b h w z (Err e)) unfinished f in
     let kept = still b.layout.nodes h.tries told.begun z told.last ∙ pends b h w z (Err call.Unfinished) told in
     let there : IsSome w.pending = subst IsSome (pends b h w z (Err call.Unfinished) told) (subst IsSome (sym told.last.did.1) refl) in
-    (told, record { moment = tt; left = (there, kept); on = in_all h.rounds (suc h.rounds) (round_bound h.tries b.layout) w z (omega arith) (goes_finishes b h w z (Err call.Unfinished) free told) })
+    (told, record { moment = tt; left = (there, kept); won = wins_pending op w z (finishes_wins b h w z (Err call.Unfinished) told); on = in_all h.rounds (suc h.rounds) (round_bound h.tries b.layout) w z (omega arith) (goes_finishes b h w z (Err call.Unfinished) free told) })
 
 -- what stands behind the finish of an earlier call's delete
 record IsSettled (b : Board) (h : Habit) (w x : Hand) : Type 0 where
   none : x.pending ≡ None
+  won : Wins w x 0 0
   on : GoesOn (suc h.rounds * round_bound h.tries b.layout) w x
 
 settled : (b : Board) (h : Habit) (w x : Hand) (answer : Bool) → w.held ≡ None → Finishes b h w x (Ok answer) → IsSettled b h w x
-settled b h w x answer free f = record { none = finished b.layout.nodes h.tries f.begun x answer f.last; on = goes_finishes b h w x (Ok answer) free f }
+settled b h w x answer free f = record { none = finished b.layout.nodes h.tries f.begun x answer f.last; won = finishes_wins b h w x (Ok answer) f; on = goes_finishes b h w x (Ok answer) free f }
 
 pub contains_tends : (b : Board) (h : Habit) (k : ℕ) (w x z : Hand) (answer : Bool) (r : Result Bool Fault) → w.held ≡ None → Finishes b h w x (Ok answer) → Looks b h k x z r → Tends b h Has k w z r
 contains_tends b h k w x z answer r free f looks =
     let at = settled b h w x answer free f in
     let most = round_bound h.tries b.layout in
-    let told = look_told b h k w x z r at.on.past at.none at.on.held looks in
+    let told = look_told b h k w x z r at.on.past at.won at.none at.on.held looks in
     record {
       moment = told.moment;
       left = told.left;
+      won = told.won;
       on = in_all h.rounds (suc h.rounds + suc h.rounds) most w z (omega arith) (rounds_then (suc h.rounds) (suc h.rounds) most w x z at.on (goes_looks b h k x z r at.on.held looks));
     }
 
 -- the same behind a collection that was due
 record IsReady (b : Board) (h : Habit) (w y : Hand) : Type 0 where
   none : y.pending ≡ None
+  won : Wins w y 0 0
   on : GoesOn ((suc h.rounds + 1) * round_bound h.tries b.layout) w y
 
 relieved_place : (b : Board) (w z : Hand) → IsRelieved b w z → z.pending ≡ w.pending
@@ -474,54 +561,57 @@ ready b h w x y answer free f tidied =
     let most = round_bound h.tries b.layout in
     record {
       none = tidied_place b h.collect_after x y tidied ∙ at.none;
+      won = wins_after 0 0 w x y at.won (tidied_wins b h.collect_after x y tidied);
       on = rounds_then (suc h.rounds) 1 most w x y at.on (one_round most x y (goes_tidied b h.tries h.collect_after x y at.on.held at.on.between tidied));
     }
 
 -- an insert, and one more behind a collection
-inserts_on : (b : Board) (h : Habit) (k : ℕ) (o w z : Hand) (r : Result Bool Fault) → HasSeenAllOf w.pass o.pass → w.pending ≡ None → w.held ≡ None → InsertsOn b h k w z r → IsTold Insert k o z r × GoesOn ((suc h.rounds + 1 + suc h.rounds) * round_bound h.tries b.layout) w z
-inserts_on b h k o w z r past none free (inl (did, known)) =
+inserts_on : (b : Board) (h : Habit) (k : ℕ) (o w z : Hand) (r : Result Bool Fault) → HasSeenAllOf w.pass o.pass → Wins o w 0 0 → w.pending ≡ None → w.held ≡ None → InsertsOn b h k w z r → IsTold Insert k o z r × GoesOn ((suc h.rounds + 1 + suc h.rounds) * round_bound h.tries b.layout) w z
+inserts_on b h k o w z r past won none free (inl (did, known)) =
     let most = round_bound h.tries b.layout in
-    (insert_told b h k o w z r past none free did, goes_more (suc h.rounds * most) ((suc h.rounds + 1 + suc h.rounds) * most) w z (mul-le-mul_right most (omega arith)) (goes_inserts b h k w z r free did))
-inserts_on b h k o w z r past none free (inr (x, y, first, relieved, again)) =
+    (insert_told b h k o w z r past won none free did, goes_more (suc h.rounds * most) ((suc h.rounds + 1 + suc h.rounds) * most) w z (mul-le-mul_right most (omega arith)) (goes_inserts b h k w z r free did))
+inserts_on b h k o w z r past won none free (inr (x, y, first, relieved, again)) =
     let most = round_bound h.tries b.layout in
-    let full = insert_told b h k o w x (Err (fault.Call call.Full)) past none free first in
+    let full = insert_told b h k o w x (Err (fault.Call call.Full)) past won none free first in
     let before = goes_inserts b h k w x (Err (fault.Call call.Full)) free first in
     let behind = goes_relieved b h.tries x y before.held relieved in
     let seen = seen_through o.pass w.pass y.pass past (seen_through w.pass x.pass y.pass before.past behind.past) in
-    let told = insert_told b h k o y z r seen (relieved_place b x y relieved ∙ full.left) behind.held again in
+    let told = insert_told b h k o y z r seen (wins_after 0 0 o x y full.won (relieved_wins b x y relieved)) (relieved_place b x y relieved ∙ full.left) behind.held again in
     (told, rounds_then (suc h.rounds + 1) (suc h.rounds) most w y z (rounds_then (suc h.rounds) 1 most w x y before (one_round most x y behind)) (goes_inserts b h k y z r behind.held again))
 
 pub adds_tend : (b : Board) (h : Habit) (k : ℕ) (w x y z : Hand) (answer : Bool) (r : Result Bool Fault) → w.held ≡ None → Finishes b h w x (Ok answer) → IsTidied b h.collect_after x y → InsertsOn b h k y z r → Tends b h Insert k w z r
 adds_tend b h k w x y z answer r free f tidied did =
     let at = ready b h w x y answer free f tidied in
     let most = round_bound h.tries b.layout in
-    let told = inserts_on b h k w y z r at.on.past at.none at.on.held did in
+    let told = inserts_on b h k w y z r at.on.past at.won at.none at.on.held did in
     record {
       moment = told.0.moment;
       left = told.0.left;
+      won = told.0.won;
       on = in_all h.rounds ((suc h.rounds + 1) + (suc h.rounds + 1 + suc h.rounds)) most w z (omega arith) (rounds_then (suc h.rounds + 1) (suc h.rounds + 1 + suc h.rounds) most w y z at.on told.1);
     }
 
 -- a delete, and what is left to do of it
-deletes_on : (b : Board) (h : Habit) (k : ℕ) (o w z : Hand) (r : Result Bool Fault) → HasSeenAllOf w.pass o.pass → HasSeen w.pass.view → w.pending ≡ None → w.held ≡ None → IsBetweenCalls w → DeletesOn b h k w z r → IsTold Delete k o z r × GoesOn ((suc h.rounds + suc h.rounds) * round_bound h.tries b.layout) w z
-deletes_on b h k o w z r past seen none free between (inl (did, known)) =
+deletes_on : (b : Board) (h : Habit) (k : ℕ) (o w z : Hand) (r : Result Bool Fault) → HasSeenAllOf w.pass o.pass → Wins o w 0 0 → HasSeen w.pass.view → w.pending ≡ None → w.held ≡ None → IsBetweenCalls w → DeletesOn b h k w z r → IsTold Delete k o z r × GoesOn ((suc h.rounds + suc h.rounds) * round_bound h.tries b.layout) w z
+deletes_on b h k o w z r past won seen none free between (inl (did, known)) =
     let most = round_bound h.tries b.layout in
-    (delete_told b h k o w z r past none free did, goes_more (suc h.rounds * most) ((suc h.rounds + suc h.rounds) * most) w z (mul-le-mul_right most (omega arith)) (goes_deletes b h k w z r free did))
-deletes_on b h k o w z r past seen none free between (inr (x, f, first, rest, is)) =
+    (delete_told b h k o w z r past won none free did, goes_more (suc h.rounds * most) ((suc h.rounds + suc h.rounds) * most) w z (mul-le-mul_right most (omega arith)) (goes_deletes b h k w z r free did))
+deletes_on b h k o w z r past won seen none free between (inr (x, f, first, rest, is)) =
     let most = round_bound h.tries b.layout in
-    let flagged = delete_told b h k o w x (Err (fault.Call call.Unfinished)) past none free first in
+    let flagged = delete_told b h k o w x (Err (fault.Call call.Unfinished)) past won none free first in
     let before = goes_deletes b h k w x (Err (fault.Call call.Unfinished)) free first in
     let had : HadNoCall w.pass x.pass = record { seen = seen; same = before.same; past = before.past; call = rests w none free between } in
-    let told = finish_told b h k flagged.left.0 o w x z f past had flagged.left.1 rest in
+    let told = finish_told b h k flagged.left.0 o w x z f past flagged.won had flagged.left.1 rest in
     (subst (λ (q : Result Bool Fault). IsTold Delete k o z q) (sym is) told, rounds_then (suc h.rounds) (suc h.rounds) most w x z before (goes_finishes b h x z f before.held rest))
 
 pub removes_tend : (b : Board) (h : Habit) (k : ℕ) (w x y z : Hand) (answer : Bool) (r : Result Bool Fault) → w.held ≡ None → Finishes b h w x (Ok answer) → IsTidied b h.collect_after x y → HasSeen y.pass.view → DeletesOn b h k y z r → Tends b h Delete k w z r
 removes_tend b h k w x y z answer r free f tidied seen did =
     let at = ready b h w x y answer free f tidied in
     let most = round_bound h.tries b.layout in
-    let told = deletes_on b h k w y z r at.on.past seen at.none at.on.held at.on.between did in
+    let told = deletes_on b h k w y z r at.on.past at.won seen at.none at.on.held at.on.between did in
     record {
       moment = told.0.moment;
       left = told.0.left;
+      won = told.0.won;
       on = in_all h.rounds ((suc h.rounds + 1) + (suc h.rounds + suc h.rounds)) most w z (omega arith) (rounds_then (suc h.rounds + 1) (suc h.rounds + suc h.rounds) most w y z at.on told.1);
     }

@@ -1,5 +1,5 @@
 -- Calls that tend the set: one that loses its tries is made again, a delete is finished, and the nodes that wait are collected.
-use Rattle.std.specs.Prelude.{◌≡◌, ◌≢◌, ◌⊎◌, ◌+◌, ◌*◌, ◌≤◌, ◌<◌, ℕ, zero, suc, Bool, length, drop, List, [], ◌∷◌, Some, None, IsSome, Result, Ok, Err, IfOk}
+use Rattle.std.specs.Prelude.{◌≡◌, ◌≢◌, ◌⊎◌, ◌+◌, ◌*◌, ◌≤◌, ◌<◌, ℕ, zero, suc, Bool, true, length, drop, List, [], ◌∷◌, Some, None, IsSome, Result, Ok, Err, IfOk}
 use Rattle.nm_edge.specs.Layouts.{Layout}
 use Rattle.nm_edge.specs.declared.node.NodeId.{NodeId}
 use Rattle.nm_model.specs.declared.event.Op.{Op}
@@ -10,6 +10,7 @@ use Rattle.nm_epoch.specs.declared.collecting.Collected.{Collected}
 use Rattle.nm_epoch.specs.declared.collecting.HeldQueue.{HeldQueue}
 use Rattle.nm_calls.specs.Bounds.{chain_bound}
 use Rattle.nm_calls.specs.Moments.{AnswerHasMoment}
+use Rattle.nm_calls.specs.Won.{HasWon}
 use Rattle.nm_tree.specs.declared.fault.Fault.{Fault as Lost}
 use Rattle.nm_tree.specs.declared.fault.Fault.TheVariants as call
 use Rattle.nm_tree.specs.Workers.{Hand, IsBetweenCalls, waiting_in}
@@ -129,25 +130,42 @@ IsLeft k w z (Err (fault.Call call.Unfinished)) = (leaf : NodeId) × (z.pending 
 IsLeft k w z (Err (fault.Call call.Pending)) = IsSome w.pending × (z.pending ≡ w.pending)
 IsLeft k w z _ = z.pending ≡ None
 
+-- the links and the flags that it has won, by what it tells
+abbrev pub links_told : Op → Result Bool Fault → ℕ
+links_told Insert (Ok true) = 1
+links_told _ _ = 0
+
+abbrev pub flags_told : Op → Result Bool Fault → ℕ
+flags_told Delete (Ok true) = 1
+flags_told Delete (Err (fault.Call call.Unfinished)) = 1
+flags_told _ _ = 0
+
 -- the steps of a round at most: those of a call of the tree, two moves of the epoch and a collection
 abbrev pub round_bound : ℕ → Layout → ℕ
 round_bound tries L = tries * (4 * L.nodes + 8 * chain_bound) + 7 * L.nodes + 2 * L.workers + 12
 
--- the answer has its moment behind all that the worker had seen before this call; the worker has gone on in so many rounds at most
+-- the answer has its moment behind all that the worker had seen before this call; it has won what it tells and no more, and has gone on in so many
+-- rounds at most
 pub record Tends (b : Board) (h : Habit) (op : Op) (k : ℕ) (w z : Hand) (r : Result Bool Fault) : Type 0 where
   pub moment : IfOk r (AnswerHasMoment w.pass z.pass op k)
   pub left : IsLeft k w z r
+  pub won : HasWon w.pass.view.log z.pass.view.log (links_told op r) (flags_told op r)
   pub on : GoesOn ((3 * h.rounds + 5) * round_bound h.tries b.layout) w z
 
--- a worker that its caller holds is not asked, and nothing has changed; else the call did this, and left that
+-- the call did this, and a caller has that
+pub record HasTended (does : Hand → Hand → Result Bool Fault → Type 0) (b : Board) (h : Habit) (op : Op) (k : ℕ) (w z : Hand) (r : Result Bool Fault) : Type 0 where
+  pub did : does w z r
+  pub tends : Tends b h op k w z r
+
+-- a worker that its caller holds is not asked, and nothing has changed
 abbrev pub UnlessHeld : Type 0 → Hand → Hand → Result Bool Fault → Type 0
 UnlessHeld did w z r = (IsSome w.held × (r ≡ Err fault.Held) × (z ≡ w)) ⊎ ((w.held ≡ None) × did)
 
 abbrev pub TendsHas : Board → Habit → ℕ → Hand → Hand → Result Bool Fault → Type 0
-TendsHas b h k w z r = UnlessHeld (Contains b h k w z r × Tends b h Has k w z r) w z r
+TendsHas b h k w z r = UnlessHeld (HasTended (Contains b h k) b h Has k w z r) w z r
 
 abbrev pub TendsInsert : Board → Habit → ℕ → Hand → Hand → Result Bool Fault → Type 0
-TendsInsert b h k w z r = UnlessHeld (Adds b h k w z r × Tends b h Insert k w z r) w z r
+TendsInsert b h k w z r = UnlessHeld (HasTended (Adds b h k) b h Insert k w z r) w z r
 
 abbrev pub TendsDelete : Board → Habit → ℕ → Hand → Hand → Result Bool Fault → Type 0
-TendsDelete b h k w z r = UnlessHeld (Removes b h k w z r × Tends b h Delete k w z r) w z r
+TendsDelete b h k w z r = UnlessHeld (HasTended (Removes b h k) b h Delete k w z r) w z r

@@ -9,6 +9,7 @@ use nm_edge::Key;
 use nm_tree::Fault as CallFault;
 
 /// What a call that tends the set may spend, and when it collects.
+#[repr(C)]
 #[derive(Clone, Copy, Debug, PartialEq, Eq)]
 pub struct Habit {
     /// The tries of each call of the tree. With fewer than 2 no remove answers true at once.

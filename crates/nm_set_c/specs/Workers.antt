@@ -15,7 +15,9 @@ use Rattle.nm_set.specs.declared.fault.NotHeld.{NotHeld}
 use Rattle.nm_set.specs.declared.fault.PinFault.{PinFault}
 use Rattle.nm_set.specs.declared.fault.PinFault.TheVariants as pinning
 use Rattle.nm_set.specs.declared.fault.ResignReason.{ResignReason}
+use Rattle.nm_set.specs.declared.tended.Habit.{Habit}
 use Rattle.nm_set.specs.Seats.{Seated, IsResident, IsStaying}
+use Rattle.nm_set.specs.Tended.{TendsHas, TendsInsert, TendsDelete}
 use Rattle.nm_set_c.specs.Outcomes.{of_answer, of_finish, of_staying}
 use Rattle.nm_set_c.specs.declared.outcome.Outcome.{Outcome}
 use Rattle.nm_set_c.specs.declared.outcome.Outcome.TheVariants as outcome
@@ -48,6 +50,24 @@ pub record DoesFinish (tries : ℕ) (m n : Seated) (o : Outcome) : Type 0 where
   pub told : o ≡ of_finish answer
   pub board : n.board ≡ m.board
   pub did : LeavesFinish m.board.layout.nodes tries m.hand n.hand answer
+
+-- ---- keys, by calls that tend the set
+
+-- the member's call answers, and what it answers is told
+pub record AnswersTending (does : Hand → Hand → Result Bool Fault → Type 0) (m n : Seated) (o : Outcome) : Type 0 where
+  pub answer : Result Bool Fault
+  pub told : o ≡ of_answer answer
+  pub board : n.board ≡ m.board
+  pub did : does m.hand n.hand answer
+
+abbrev pub DoesContains : Habit → ℕ → Seated → Seated → Outcome → Type 0
+DoesContains h k m n o = OfKey k (AnswersTending (TendsHas m.board h k) m n o) m n o
+
+abbrev pub DoesAdd : Habit → ℕ → Seated → Seated → Outcome → Type 0
+DoesAdd h k m n o = OfKey k (AnswersTending (TendsInsert m.board h k) m n o) m n o
+
+abbrev pub DoesRemove : Habit → ℕ → Seated → Seated → Outcome → Type 0
+DoesRemove h k m n o = OfKey k (AnswersTending (TendsDelete m.board h k) m n o) m n o
 
 -- ---- epochs
 

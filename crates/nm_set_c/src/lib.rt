@@ -17,6 +17,7 @@ mod owner;
 mod place;
 mod reports;
 mod sets;
+mod tended;
 mod version;
 mod word;
 mod workers;

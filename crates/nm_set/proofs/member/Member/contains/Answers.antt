@@ -10,7 +10,7 @@ pub returns-in_default-clause-did : goal.returns-in_default-clause-did
 returns-in_default-clause-did c =
     let free : c.args.self.now.hand.held ≡ None = search rules in
     let told = pending_tends c.args.self.now.board c.args.habit.now Has c.args.key c.args.self.now.hand c.finish_again.new.self.hand c.in_default.field-0 free c.in_default.ensures.did in
-    inr (free, (inl (told.0, refl), told.1))
+    inr (free, record { did = inl (told.0, refl); tends = told.1 })
 
 pub returns-clause-did : goal.returns-clause-did
 returns-clause-did c =
@@ -23,4 +23,4 @@ returns-clause-did c =
     let settled = c.in-Ok.ensures.did in
     let z = c.has_again.new.self.hand in
     let looks = subst (λ (d : Board). Looks d h k x z c.has_again.result) c.finish_again.ensures.board c.has_again.ensures.did in
-    inr (free, (inr (c.in-Ok._done, x, settled, looks), contains_tends b h k w x z c.in-Ok._done c.has_again.result free settled looks))
+    inr (free, record { did = inr (c.in-Ok._done, x, settled, looks); tends = contains_tends b h k w x z c.in-Ok._done c.has_again.result free settled looks })

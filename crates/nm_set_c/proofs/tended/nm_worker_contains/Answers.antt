@@ -1,0 +1,15 @@
+use Rattle.std.proofs.Common.{rules}
+use Rattle.nm_set_c.specs.Handles.{held_by}
+use Rattle.nm_set_c.specs.Workers.{DoesContains}
+use Rattle.nm_set_c.specs.declared.outcome.Outcome.TheVariants.{Kind}
+use Rattle.nm_set_c.proofs.Owners.{told_worker, other_worker}
+use Rattle.nm_set_c.proofs.tended.nm_worker_contains.Goals as goal
+use Rattle.nm_set_c.proofs.tended.nm_worker_contains.Goals.{in-Worker, in_default}
+
+pub returns : goal.returns
+returns c =
+    let Same : Type 0 = Unit {0} in
+    elim c.match-deref_mut.branch [
+      | in-Worker w ↦ (w.contains-outcome.result, search rules, told_worker (DoesContains c.args.habit.now c.args.key) Same (held_by c.args.worker.now) (held_by c.put.new.self) w.in-Worker.member w.contains-outcome.new.member w.contains-outcome.result (search rules) (search rules) (search rules))
+      | in_default w ↦ (Kind, search rules, other_worker (DoesContains c.args.habit.now c.args.key) Same (held_by c.args.worker.now) (held_by c.put.new.self) c.deref_mut.result.now w.in_default.not-Worker (search rules) (search rules) tt)
+    ]
