@@ -114,19 +114,20 @@ pub fn insert_both_then_find<R: Threads + Sync>(
     ensures first { NoneFlagged tree.now.layout reader.new.pass.view.past keys.0 → IfSome result (λ b. b.0 ≡ true) }
     ensures second { NoneFlagged tree.now.layout reader.new.pass.view.past keys.1 → IfSome result (λ b. b.1 ≡ true) }
 {
-    let (mut first, mut second) = insert_both(rt, tree, one, two, keys, tries);
-    if !first.is_new {
+    let (first, second) = insert_both(rt, tree, one, two, keys, tries);
+    let Inserted {
+        worker: mut one,
+        is_new: is_first,
+    } = first;
+    let Inserted {
+        worker: mut two,
+        is_new: is_second,
+    } = second;
+    if !is_first {
         return None;
     }
-    if !second.is_new {
+    if !is_second {
         return None;
     }
-    find_both(
-        tree,
-        &mut first.worker,
-        &mut second.worker,
-        reader,
-        keys,
-        tries,
-    )
+    find_both(tree, &mut one, &mut two, reader, keys, tries)
 }
