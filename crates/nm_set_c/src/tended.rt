@@ -16,7 +16,12 @@ use std::alloc::Global;
 
 /// Whether the set has the key: `Member::contains` of `nm_set`. `Yes`, `No`, `Key`, `Busy`, `Pending`, `Held`; `Closed`, `InUse`, `Kind`.
 #[unsafe(no_mangle)]
-pub extern "C" fn nm_worker_contains(alloc: Global, worker: &mut Handle, key: u64, habit: &Habit) -> i32
+pub extern "C" fn nm_worker_contains(
+    alloc: Global,
+    worker: &mut Handle,
+    key: u64,
+    habit: &Habit,
+) -> i32
     ensures { Tells (OfWorker (DoesContains habit.now key) ⊤ (held_by worker.old) (held_by worker.new)) result }
 {
     let mut owner = match worker.claim(alloc) {
@@ -76,7 +81,12 @@ fn add(member: &mut Member, key: u64, habit: &Habit) -> Outcome
 /// Deletes a key: `Yes` where it was in the set, `No` where it was not: `Member::remove` of `nm_set`. `Key`, `Busy`, `Unfinished`, `Pending`,
 /// `Held`, `NoMemory`; `Closed`, `InUse`, `Kind`.
 #[unsafe(no_mangle)]
-pub extern "C" fn nm_worker_remove(alloc: Global, worker: &mut Handle, key: u64, habit: &Habit) -> i32
+pub extern "C" fn nm_worker_remove(
+    alloc: Global,
+    worker: &mut Handle,
+    key: u64,
+    habit: &Habit,
+) -> i32
     ensures { Tells (OfWorker (DoesRemove habit.now key) ⊤ (held_by worker.old) (held_by worker.new)) result }
 {
     let mut owner = match worker.claim(alloc) {
