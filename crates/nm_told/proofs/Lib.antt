@@ -4,3 +4,5 @@ pub mod LaterMisses
 pub mod ToldPasses
 pub mod Flags
 pub mod Pairs
+pub mod Counting
+pub mod OneMember

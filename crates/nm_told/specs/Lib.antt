@@ -1,2 +1,3 @@
 pub mod Unflagged
 pub mod Uninserted
+pub mod Adding

@@ -1,4 +1,4 @@
-//! What one worker inserted another one finds, once it was told.
+//! What one worker inserted another one finds, once it was told; and what the report of a set tells.
 #![tactic(auto)]
 
 ghost use Rattle.std.specs.Prelude.{◌≡◌, ◌≢◌, ◌≤◌, true, [], length, IfOk, IfSome};
@@ -11,6 +11,7 @@ ghost use Rattle.nm_calls.specs.Moments.{AnswerHasMoment};
 ghost use Rattle.nm_calls.specs.Won.{won_flags, won_splices, capped};
 ghost use Rattle.nm_told.specs.Unflagged.{NoneFlagged};
 
+mod sets;
 mod threads;
 mod trees;
 
@@ -20,6 +21,7 @@ use nm_epoch::Entry;
 use nm_limbo::BlockQueue;
 use nm_pool::Placement;
 use nm_steps::{Pass, Shared};
+pub use sets::insert_then_report;
 pub use threads::{Inserted, find_both, insert_both, insert_both_then_find};
 pub use trees::{delete_then_miss, insert_then_find, look_told, tell_worker};
 
