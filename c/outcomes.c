@@ -104,7 +104,8 @@ static void tended(void) {
     each_tending_tells(&worker, UINT64_MAX - 2, NM_KEY);
     CHECK(nm_worker_contains(&worker, 5, &none) == NM_BUSY && nm_worker_add(&worker, 6, &none) == NM_BUSY);
     CHECK(nm_worker_remove(&worker, 5, &none) == NM_BUSY && nm_worker_pending(&worker, &told) == NM_NO);
-    for (int turn = 0; turn < 100; turn++) CHECK(nm_worker_remove(&worker, 5, usual) == NM_YES && nm_worker_add(&worker, 5, usual) == NM_YES);
+    for (int turn = 0; turn < 100; turn++)
+        CHECK(nm_worker_remove(&worker, 5, usual) == NM_YES && nm_worker_add(&worker, 5, usual) == NM_YES);
     CHECK(nm_worker_delete(&worker, 5, 1) == NM_UNFINISHED && nm_worker_contains(&worker, 5, &none) == NM_PENDING);
     CHECK(nm_worker_pending(&worker, &told) == NM_YES && told == 5 && nm_worker_contains(&worker, 5, usual) == NM_NO);
     CHECK(nm_worker_pending(&worker, &told) == NM_NO && nm_worker_queue_len(&worker, &told) == NM_DONE && told == 2);

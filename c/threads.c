@@ -1,5 +1,6 @@
-/* Four threads insert, delete and look up the same keys, each by a worker of its own, two of them by calls that tend the set. Then the set is closed, and its report is compared with what the
- * calls answered: a key is in the set exactly where it was inserted once more than deleted, and each slot stands somewhere. */
+/* Four threads insert, delete and look up the same keys, each by a worker of its own, two of them by calls that tend the set. Then the set is
+ * closed, and its report is compared with what the calls answered: a key is in the set exactly where it was inserted once more than deleted, and each
+ * slot stands somewhere. */
 #include "holds.h"
 #include "nm_set.h"
 
