@@ -107,8 +107,8 @@ impl Member {
     /// `Busy` and `NoMemory`.
     ///
     /// `Held`, `Pending`, `Busy`: as `contains` tells them. `NoMemory`: the room of a try was refused before the leaf was flagged. `Unfinished`: the
-    /// leaf is flagged, so that the key goes and no other delete of it answers true, and it is not known to be cut off: the key is pending, and the next
-    /// call that tends the set finishes it first.
+    /// leaf is flagged, so that the key goes and no other delete of it answers true, and it is not known to be cut off: the key is pending, and the
+    /// next call that tends the set finishes it first.
     pub fn remove(&mut self, key: Key, habit: &Habit) -> Result<bool, Fault>
         ensures board { self.new.board ≡ self.old.board }
         ensures did { TendsDelete self.old.board habit.now key self.old.hand self.new.hand result }
