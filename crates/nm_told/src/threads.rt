@@ -42,7 +42,8 @@ pub fn insert_both<R: Threads + Sync>(
     tree: &Tree,
     one: Worker,
     two: Worker,
-    keys: (Key, Key),
+    left: Key,
+    right: Key,
     tries: u32,
 ) -> (Inserted, Inserted)
     requires one { IsOf tree.now one.pass }
@@ -51,10 +52,9 @@ pub fn insert_both<R: Threads + Sync>(
     requires second_free { two.held ≡ None }
     ensures one { IsOf tree.now result.0.worker.pass }
     ensures two { IsOf tree.now result.1.worker.pass }
-    ensures first { result.0.is_new ≡ true → AnswerHasMoment one.pass result.0.worker.pass Insert keys.0 true }
-    ensures second { result.1.is_new ≡ true → AnswerHasMoment two.pass result.1.worker.pass Insert keys.1 true }
+    ensures first { result.0.is_new ≡ true → AnswerHasMoment one.pass result.0.worker.pass Insert left true }
+    ensures second { result.1.is_new ≡ true → AnswerHasMoment two.pass result.1.worker.pass Insert right true }
 {
-    let (left, right) = keys;
     join(
         rt,
         move || -> Inserted
@@ -79,18 +79,19 @@ pub fn find_both(
     one: &mut Worker,
     two: &mut Worker,
     reader: &mut Worker,
-    keys: (Key, Key),
+    left: Key,
+    right: Key,
     tries: u32,
 ) -> Option<(bool, bool)>
     requires one { IsOf tree.now one.old.pass }
     requires two { IsOf tree.now two.old.pass }
     requires reader { IsOf tree.now reader.old.pass }
     requires free { reader.old.held ≡ None }
-    ensures first { (start : Stand) → AnswerHasMoment start one.old.pass Insert keys.0 true → NoneFlagged tree.now.layout reader.new.pass.view.past keys.0 → IfSome result (λ b. b.0 ≡ true) }
-    ensures second { (start : Stand) → AnswerHasMoment start two.old.pass Insert keys.1 true → NoneFlagged tree.now.layout reader.new.pass.view.past keys.1 → IfSome result (λ b. b.1 ≡ true) }
+    ensures first { (start : Stand) → AnswerHasMoment start one.old.pass Insert left true → NoneFlagged tree.now.layout reader.new.pass.view.past left → IfSome result (λ b. b.0 ≡ true) }
+    ensures second { (start : Stand) → AnswerHasMoment start two.old.pass Insert right true → NoneFlagged tree.now.layout reader.new.pass.view.past right → IfSome result (λ b. b.1 ≡ true) }
 {
-    let first = look_told(tree, one, reader, keys.0, tries).ok()?;
-    let second = look_told(tree, two, reader, keys.1, tries).ok()?;
+    let first = look_told(tree, one, reader, left, tries).ok()?;
+    let second = look_told(tree, two, reader, right, tries).ok()?;
     Some((first, second))
 }
 
@@ -102,7 +103,8 @@ pub fn insert_both_then_find<R: Threads + Sync>(
     one: Worker,
     two: Worker,
     reader: &mut Worker,
-    keys: (Key, Key),
+    left: Key,
+    right: Key,
     tries: u32,
 ) -> Option<(bool, bool)>
     requires one { IsOf tree.now one.pass }
@@ -111,10 +113,10 @@ pub fn insert_both_then_find<R: Threads + Sync>(
     requires first_free { one.held ≡ None }
     requires second_free { two.held ≡ None }
     requires free { reader.old.held ≡ None }
-    ensures first { NoneFlagged tree.now.layout reader.new.pass.view.past keys.0 → IfSome result (λ b. b.0 ≡ true) }
-    ensures second { NoneFlagged tree.now.layout reader.new.pass.view.past keys.1 → IfSome result (λ b. b.1 ≡ true) }
+    ensures first { NoneFlagged tree.now.layout reader.new.pass.view.past left → IfSome result (λ b. b.0 ≡ true) }
+    ensures second { NoneFlagged tree.now.layout reader.new.pass.view.past right → IfSome result (λ b. b.1 ≡ true) }
 {
-    let (first, second) = insert_both(rt, tree, one, two, keys, tries);
+    let (first, second) = insert_both(rt, tree, one, two, left, right, tries);
     let Inserted {
         worker: mut one,
         is_new: is_first,
@@ -129,5 +131,5 @@ pub fn insert_both_then_find<R: Threads + Sync>(
     if !is_second {
         return None;
     }
-    find_both(tree, &mut one, &mut two, reader, keys, tries)
+    find_both(tree, &mut one, &mut two, reader, left, right, tries)
 }

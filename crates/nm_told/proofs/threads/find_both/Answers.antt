@@ -10,13 +10,13 @@ pub returns-clause-first : goal.returns-clause-first
 returns-clause-first c start moment none =
     let mid = c.look_told.new.two.pass in
     let same = ap (λ (z : Stand). z.view.layout) c.look_told.ensures.two ∙ c.requires.reader.layout in
-    let unflagged = unflagged_before c.args.tree.now.layout c.look_told-2.new.two.pass.view.past mid.view.past c.args.keys.0 c.look_told-2.ensures.past.goes_on none in
+    let unflagged = unflagged_before c.args.tree.now.layout c.look_told-2.new.two.pass.view.past mid.view.past c.args.left c.look_told-2.ensures.past.goes_on none in
     subst (λ o. IfSome o (λ b. b ≡ true)) c.in_ok-first.was (if_answered c.look_told.result c.ok.result (λ b. b ≡ true) c.ok.ensures.value
-    (c.look_told.ensures.found start moment (subst (λ (L : Layout). NoneFlagged L mid.view.past c.args.keys.0) (sym same) unflagged)))
+    (c.look_told.ensures.found start moment (subst (λ (L : Layout). NoneFlagged L mid.view.past c.args.left) (sym same) unflagged)))
 
 pub returns-clause-second : goal.returns-clause-second
 returns-clause-second c start moment none =
     let last = c.look_told-2.new.two.pass in
     let same = ap (λ (z : Stand). z.view.layout) c.look_told-2.ensures.two ∙ (ap (λ (z : Stand). z.view.layout) c.look_told.ensures.two ∙ c.requires.reader.layout) in
     subst (λ o. IfSome o (λ b. b ≡ true)) c.in_ok-second.was (if_answered c.look_told-2.result c.ok-2.result (λ b. b ≡ true) c.ok-2.ensures.value
-    (c.look_told-2.ensures.found start moment (subst (λ (L : Layout). NoneFlagged L last.view.past c.args.keys.1) (sym same) none)))
+    (c.look_told-2.ensures.found start moment (subst (λ (L : Layout). NoneFlagged L last.view.past c.args.right) (sym same) none)))
