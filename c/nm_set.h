@@ -58,7 +58,7 @@ typedef enum nm_outcome {
     NM_KIND = -3,         /* the handle owns something of another kind */
     NM_KEY = -4,          /* the key is above 2^64 - 4 */
     NM_NUMBER = -5,       /* there is nothing of that number */
-    NM_NODES = -6,        /* the number of nodes is not 7 to 1,048,576 */
+    NM_NODES = -6,        /* the number of nodes is not 7 to 268,435,456 */
     NM_WORKERS = -7,      /* the number of workers is not 1 to 64 */
     NM_NO_MEMORY = -8,    /* memory was refused */
     NM_BUSY = -9,         /* each try was lost, or there might be none: nothing of the call stands but help given to others; call again */
@@ -91,7 +91,7 @@ static inline const char *nm_outcome_text(nm_outcome outcome) {
     case NM_KIND: return "the handle owns something of another kind";
     case NM_KEY: return "the key is above 2^64 - 4";
     case NM_NUMBER: return "there is nothing of that number";
-    case NM_NODES: return "the number of nodes is not 7 to 1,048,576";
+    case NM_NODES: return "the number of nodes is not 7 to 268,435,456";
     case NM_WORKERS: return "the number of workers is not 1 to 64";
     case NM_NO_MEMORY: return "memory was refused";
     case NM_BUSY: return "each try was lost";
@@ -158,26 +158,28 @@ nm_outcome nm_set_version(uint32_t *major, uint32_t *minor, uint32_t *patch);
 /* ---- a set ----
  * Of a closed handle these tell NM_CLOSED, and of one that owns something else NM_KIND. */
 
-/* Makes the empty set, in a tree with room for 7 to 1,048,576 nodes, for 1 to 64 workers. n keys take 2 n + 5 nodes, and a node that was removed is
- * free again only after two moves of the epoch. A new node takes the lowest free slot, which takes long where there are many.
- * NM_DONE, and the handle owns the set; NM_OPEN, NM_NODES, NM_WORKERS, NM_NO_MEMORY. */
+/* Makes the empty set, in a tree with room for 7 to 268,435,456 nodes, for 1 to 64 workers. n keys
+ * take 2 n + 5 nodes, and a node that was removed is free again only after two moves of the epoch.
+ * A node takes 32 bytes and a bit, twice as much while the set is made, which takes time for each
+ * node; a worker takes 64, so that what it announces lies in a cache line of its own. A new node
+ * takes the lowest free slot, which takes long where there are many. NM_DONE, and the handle owns
+ * the set; NM_OPEN, NM_NODES, NM_WORKERS, NM_NO_MEMORY. */
 nm_outcome nm_set_lowest(nm_handle *set, uint32_t nodes, uint32_t workers);
 
 /* The same, but each worker looks for a free slot near those that it took and gave back last: the one to take where nobody compares slots. Give it
  * several times the nodes that the keys take. */
 nm_outcome nm_set_near(nm_handle *set, uint32_t nodes, uint32_t workers);
 
-/* Takes the worker of a number, with all that it held when it went home. Threads that are busy at
- * the same time are best given numbers eight apart, from 7 on: 7, 15, 23 and so on. Of a set for
- * 29, 37 or 61 workers, one more than a multiple of four, the nodes lie best in cache lines. Several
+/* Takes the worker of a number, with all that it held when it went home. Handles of threads that are
+ * busy at the same time are best kept 64 bytes apart, since each call writes its handle. Several
  * threads may make this call with one handle of a set at once. NM_DONE, and the worker's handle,
  * which must be closed, owns the worker; NM_OPEN (of the worker's handle), NM_NUMBER, NM_AWAY,
  * NM_CLOSING, NM_NO_MEMORY. */
 nm_outcome nm_set_worker(nm_handle *set, nm_handle *worker, uint32_t number);
 
-/* Takes a worker that is at home, where no number is named: those eight apart, from 7 on, come
- * first. Several threads may make this call with one handle of a set at once. NM_AWAY: no worker was
- * at home when its place was looked at. Else as nm_set_worker. */
+/* Takes a worker that is at home, where no number is named: the one with the least number. Several
+ * threads may make this call with one handle of a set at once. NM_AWAY: no worker was at home when
+ * its place was looked at. Else as nm_set_worker. */
 nm_outcome nm_set_attach(nm_handle *set, nm_handle *worker);
 
 /* Ends the set when all its workers are at home. NM_DONE, and the handle owns the report from then

@@ -305,9 +305,8 @@ private:
 // tree.
 class Set : public detail::Owner {
 public:
-    // The workers of a set where the caller names no number: one more than a multiple of four, so
-    // that nodes lie well in cache lines, and seven of them have numbers eight apart.
-    static constexpr std::uint32_t many = 61;
+    // The workers of a set where the caller names no number.
+    static constexpr std::uint32_t many = 64;
 
     // A closed one.
     Set() = default;

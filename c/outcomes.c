@@ -51,7 +51,7 @@ static void sizes(void) {
     nm_handle set = NM_CLOSED_HANDLE;
     CHECK(nm_set_lowest(&set, 6, 1) == NM_NODES && nm_set_near(&set, 1048577, 65) == NM_NODES);
     CHECK(nm_set_lowest(&set, 7, 0) == NM_WORKERS && nm_set_near(&set, 7, 65) == NM_WORKERS);
-    CHECK(nm_set_near(&set, 1048576, 64) == NM_DONE && nm_set_lowest(&set, 7, 1) == NM_OPEN && nm_set_near(&set, 7, 1) == NM_OPEN);
+    CHECK(nm_set_near(&set, 1048577, 64) == NM_DONE && nm_set_lowest(&set, 7, 1) == NM_OPEN && nm_set_near(&set, 7, 1) == NM_OPEN);
     CHECK(nm_drop(&set) == NM_DONE && nm_drop(&set) == NM_CLOSED && set.at == NULL);
 }
 
@@ -224,20 +224,19 @@ static void versions(void) {
     CHECK(major == NM_SET_VERSION_MAJOR && minor == NM_SET_VERSION_MINOR && patch == NM_SET_VERSION_PATCH);
 }
 
-/* Workers are handed out by numbers eight apart first, and none where all are away. */
+/* Workers are handed out from the least number on, and none where all are away. */
 static void attached(void) {
     enum { WORKERS = 18 };
-    static const uint32_t order[WORKERS] = {7, 15, 3, 11, 5, 13, 1, 9, 17, 6, 14, 2, 10, 4, 12, 0, 8, 16};
     nm_handle set = NM_CLOSED_HANDLE, workers[WORKERS] = {NM_CLOSED_HANDLE}, none = NM_CLOSED_HANDLE;
     uint32_t number = NOT_WRITTEN;
     CHECK(nm_set_attach(&set, &none) == NM_CLOSED && nm_set_near(&set, 64, WORKERS) == NM_DONE);
     for (int i = 0; i < WORKERS; i++) {
         CHECK(nm_set_attach(&set, &workers[i]) == NM_DONE && nm_set_attach(&set, &workers[i]) == NM_OPEN);
-        CHECK(nm_worker_number(&workers[i], &number) == NM_DONE && number == order[i]);
+        CHECK(nm_worker_number(&workers[i], &number) == NM_DONE && number == (uint32_t)i);
     }
     CHECK(nm_set_attach(&set, &none) == NM_AWAY && nm_set_attach(&workers[0], &none) == NM_KIND);
     CHECK(nm_drop(&workers[4]) == NM_DONE && nm_set_attach(&set, &none) == NM_DONE);
-    CHECK(nm_worker_number(&none, &number) == NM_DONE && number == order[4] && nm_drop(&none) == NM_DONE);
+    CHECK(nm_worker_number(&none, &number) == NM_DONE && number == 4 && nm_drop(&none) == NM_DONE);
     for (int i = 0; i < WORKERS; i++) CHECK(nm_drop(&workers[i]) == (i == 4 ? NM_CLOSED : NM_DONE));
     CHECK(nm_set_close(&set) == NM_DONE && nm_set_attach(&set, &none) == NM_KIND && nm_drop(&set) == NM_DONE);
 }

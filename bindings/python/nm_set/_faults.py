@@ -63,14 +63,14 @@ class Held(Fault):
 
 
 class OutOfRange(Fault, ValueError):
-    """A key above 2^64 - 4 or below 0, a number of nodes that is not 7 to 1,048,576, one of workers
+    """A key above 2^64 - 4 or below 0, a number of nodes that is not 7 to 268,435,456, one of workers
     that is not 1 to 64, or the number of no worker."""
 
 
 _TEXTS = {
     c.KEY: "the key is not 0 to 2^64 - 4",
     c.NUMBER: "there is no worker of that number",
-    c.NODES: "the number of nodes is not 7 to 1,048,576",
+    c.NODES: "the number of nodes is not 7 to 268,435,456",
     c.WORKERS: "the number of workers is not 1 to 64",
     c.NO_MEMORY: "memory was refused",
     c.BUSY: "other threads were in the way for longer than the call's bound",

@@ -219,7 +219,7 @@ class Set:
         lowest: bool = False,
         tending: Tending = Tending(),
     ) -> None:
-        """The empty set with room for 7 to 1,048,576 nodes, for 1 to 64 workers; n keys take 2 n +
+        """The empty set with room for 7 to 268,435,456 nodes, for 1 to 64 workers; n keys take 2 n +
         5 nodes, and the removed nodes that wait take theirs. With `lowest` new nodes take the
         lowest free slot, which takes long where there are many."""
         self._handle = _Handle()

@@ -10,7 +10,7 @@ use std::fmt;
 pub enum Fault {
     /// The key is above 2^64 - 4 ([`MOST_KEY`](crate::MOST_KEY)).
     Key,
-    /// The number of nodes is not 7 to 1,048,576.
+    /// The number of nodes is not 7 to 268,435,456.
     Nodes,
     /// The number of workers is not 1 to 64.
     Workers,
@@ -83,7 +83,7 @@ impl fmt::Display for Fault {
     fn fmt(&self, f: &mut fmt::Formatter<'_>) -> fmt::Result {
         f.write_str(match self {
             Fault::Key => "the key is above 2^64 - 4",
-            Fault::Nodes => "the number of nodes is not 7 to 1,048,576",
+            Fault::Nodes => "the number of nodes is not 7 to 268,435,456",
             Fault::Workers => "the number of workers is not 1 to 64",
             Fault::NoMemory => "memory was refused",
             Fault::Full => "no slots are free for the new nodes",

@@ -5,7 +5,7 @@ ghost use Rattle.nm_model.specs.Runs.{start, reply_of};
 ghost use Rattle.nm_model.specs.Ordered.{plain, ordered, HasKey, IsReached, refused_in, applied_in, next_in, outcome_in, after_in, trace_in};
 ghost use Rattle.nm_model.specs.Reports.{counts, holder, keys, ledger_of};
 ghost use Rattle.nm_model.specs.Answers.{IsAnswer};
-ghost use Rattle.nm_edge.specs.Layouts.{IsLayout};
+ghost use Rattle.nm_edge.specs.Layouts.{IsLayout, dense};
 ghost use Rattle.nm_model.specs.Laws.{PinsAreNear};
 ghost use Rattle.nm_model.specs.Lawful.{CountsAddUp};
 ghost use Rattle.nm_model.specs.Traces.{IsLawfulRun};
@@ -45,8 +45,8 @@ impl Model for Core {
 }
 
 fn opening_machine(alloc: Global, nodes: u32, workers: u32) -> Result<Machine, NewError>
-    ensures opening { IfOk result (λ machine. machine ≡ start (record { nodes = nodes; workers = workers })) }
-    ensures fits { OnOk result (IsLayout (record { nodes = nodes; workers = workers })) }
+    ensures opening { IfOk result (λ machine. machine ≡ start (dense nodes workers)) }
+    ensures fits { OnOk result (IsLayout (dense nodes workers)) }
     ensures nodes { IsErrOf result NewError.Nodes ↔ ((nodes < LEAST_NODES) ⊎ (MOST_NODES < nodes)) }
     ensures workers { IsErrOf result NewError.Workers ↔ ((LEAST_NODES ≤ nodes) × (nodes ≤ MOST_NODES) × ((workers < 1) ⊎ (MOST_WORKERS < workers))) }
 {
@@ -66,7 +66,7 @@ fn read_key(event: &Event)
 impl Core {
     /// The opening: the empty tree, epoch 0, everybody idle, and every slot above 5 in the pool with birth 0.
     pub fn new(alloc: Global, nodes: u32, workers: u32) -> Result<Core, NewError>
-        ensures opening { IfOk result (λ core. core ≡ plain (record { nodes = nodes; workers = workers })) }
+        ensures opening { IfOk result (λ core. core ≡ plain (dense nodes workers)) }
         ensures nodes { IsErrOf result NewError.Nodes ↔ ((nodes < LEAST_NODES) ⊎ (MOST_NODES < nodes)) }
         ensures workers { IsErrOf result NewError.Workers ↔ ((LEAST_NODES ≤ nodes) × (nodes ≤ MOST_NODES) × ((workers < 1) ⊎ (MOST_WORKERS < workers))) }
     {
@@ -80,7 +80,7 @@ impl Core {
     /// The opening of an ordered core, where no worker has an operation yet. It refuses as a plain core does, and then
     /// links and flags that are not where a walk of the worker's own operation ended, and leaves without an answer that its log shows.
     pub fn ordered(alloc: Global, nodes: u32, workers: u32) -> Result<Core, NewError>
-        ensures opening { IfOk result (λ core. core ≡ ordered (record { nodes = nodes; workers = workers })) }
+        ensures opening { IfOk result (λ core. core ≡ ordered (dense nodes workers)) }
         ensures nodes { IsErrOf result NewError.Nodes ↔ ((nodes < LEAST_NODES) ⊎ (MOST_NODES < nodes)) }
         ensures workers { IsErrOf result NewError.Workers ↔ ((LEAST_NODES ≤ nodes) × (nodes ≤ MOST_NODES) × ((workers < 1) ⊎ (MOST_WORKERS < workers))) }
     {

@@ -1,5 +1,6 @@
 -- What calls on a set tell and leave.
 use Rattle.std.specs.Prelude.{◌≡◌, ◌≤◌, ◌⊎◌, ◌↔◌, ℕ, true, false, [], Result, Ok, Err}
+use Rattle.nm_edge.specs.Layouts.{spaced}
 use Rattle.nm_pool.specs.declared.placement.Fit.{Fit}
 use Rattle.nm_set.specs.declared.fault.CloseReason.{CloseReason}
 use Rattle.nm_set.specs.declared.fault.MemberFault.{MemberFault}
@@ -18,7 +19,7 @@ use Rattle.nm_set_c.specs.declared.owner.Owner.TheVariants.{Set, Worker, Ended, 
 -- ---- a new set
 
 abbrev pub HasNodes : ℕ → Type 0
-HasNodes nodes = (7 ≤ nodes) × (nodes ≤ 1048576)
+HasNodes nodes = (7 ≤ nodes) × (nodes ≤ 268435456)
 
 abbrev pub HasWorkers : ℕ → Type 0
 HasWorkers workers = (1 ≤ workers) × (workers ≤ 64)
@@ -28,7 +29,7 @@ pub record IsNewSet (f : Fit) (nodes workers : ℕ) (s : Standing) : Type 0 wher
   pub begins : s.closing ≡ false
   pub keeps : s.kept ≡ []
   pub fit : s.fit ≡ f
-  pub layout : s.board.layout ≡ record { nodes = nodes; workers = workers }
+  pub layout : s.board.layout ≡ spaced nodes workers
 
 -- with sizes that fit, the handle has a new set, or memory was refused; else which size does not fit is told, the nodes first
 abbrev pub IsMade : Fit → ℕ → ℕ → Hold → Outcome → Type 0

@@ -13,7 +13,7 @@ use nm_set::{Member, Set};
 use std::alloc::Global;
 use std::mem::replace;
 
-/// Makes the empty set, in a tree with room for `nodes` nodes, 7 to 1,048,576, for 1 to 64 workers; a new node takes the lowest free slot:
+/// Makes the empty set, in a tree with room for `nodes` nodes, 7 to 268,435,456, for 1 to 64 workers; a new node takes the lowest free slot:
 /// `Set::lowest` of `nm_set`. `Done`, and the handle is open; `Open`, `InUse`, `Nodes`, `Workers`, `NoMemory`.
 #[unsafe(no_mangle)]
 pub extern "C" fn nm_set_lowest(alloc: Global, set: &mut Handle, nodes: u32, workers: u32) -> i32
@@ -124,7 +124,7 @@ fn keep(alloc: Global, worker: &mut Handle, given: Result<Member, Outcome>) -> O
     }
 }
 
-/// Takes a worker that is at home, where the caller names no number, those whose numbers are eight apart first: `Set::attach` of `nm_set`. Else as
+/// Takes a worker that is at home, where the caller names no number, the one with the least number: `Set::attach` of `nm_set`. Else as
 /// `nm_set_worker`, but no `Number`.
 #[unsafe(no_mangle)]
 pub extern "C" fn nm_set_attach(alloc: Global, set: &mut Handle, worker: &mut Handle) -> i32

@@ -1,6 +1,6 @@
 -- A worked schedule, on which each sentence of the two pages has something to say; and sentences that are wrong of it.
 use Rattle.std.specs.Prelude.{◌≡◌, ℕ, true, false, List, [], ◌∷◌, ◌++◌, map, take, Contains, Ok, Err}
-use Rattle.nm_edge.specs.Layouts.{Layout}
+use Rattle.nm_edge.specs.Layouts.{Layout, dense}
 use Rattle.nm_edge.specs.declared.edge.Side.TheVariants.{Left, Right}
 use Rattle.nm_edge.specs.declared.node.NodeId.{NodeId}
 use Rattle.nm_model.specs.declared.event.Field.TheVariants.{Key, Edge as EdgeOn, Birth}
@@ -20,7 +20,7 @@ use Rattle.nm_theorem.specs.Headline.Place.{InPool, InHands, OnPath, Waits}
 use Rattle.nm_theorem.specs.Histories.{IsHistory, HasAct}
 
 abbrev pub layout : Layout
-layout = record { nodes = 8; workers = 2 }
+layout = dense 8 2
 
 -- worker 1 is pinned, and stays so while worker 0 inserts 10
 abbrev pub inserting : List Turn
