@@ -19,6 +19,7 @@ pub use closing::{CloseError, CloseReason, Report};
 pub use fault::{Fault, PinFault};
 pub use nm_epoch::{Advance, Behind, Collected, Entry, HeldQueue};
 pub use nm_model::NewError;
+pub use nm_pool::Fit;
 pub use nm_steps::Note;
 pub use resigning::{ResignFault, ResignReason};
 pub use running::each_moment_is_of_turns;
