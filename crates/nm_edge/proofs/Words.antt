@@ -20,7 +20,11 @@ notes_apart L v w e = eq_of_mul-eq-mul_left (1 + L.gap) (omega arith) v w (omega
 pub fields_apart : FieldsAreApart
 fields_apart L at_epoch at_epoch f g e = refl
 fields_apart L (at_note v) (at_note w) f g e = ap at_note (notes_apart L v w e)
+fields_apart L (at_note v) (at_edge t Left) f g e = absurd (let within = note_within L v f in omega (arith, e, within))
+fields_apart L (at_note v) (at_edge t Right) f g e = absurd (let within = note_within L v f in omega (arith, e, within))
 fields_apart L (at_note v) _ f g e = absurd (let within = note_within L v f in omega (arith, e, within))
+fields_apart L (at_edge s Left) (at_note w) f g e = absurd (let within = note_within L w g in omega (arith, e, within))
+fields_apart L (at_edge s Right) (at_note w) f g e = absurd (let within = note_within L w g in omega (arith, e, within))
 fields_apart L _ (at_note w) f g e = absurd (let within = note_within L w g in omega (arith, e, within))
 fields_apart L (at_key s) (at_key t) f g e = ap at_key (omega (arith, e))
 fields_apart L (at_edge s Left) (at_edge t Left) f g e = ap (λ (n : ℕ). at_edge n Left) (omega (arith, e, f.0, g.0))
