@@ -60,6 +60,7 @@ pub mod FlagFates
 pub mod SetChanges
 pub mod FlagOwners
 pub mod PendingLeaves
+pub mod NothingPends
 pub mod TotalsOfTurns
 pub mod TotalsOfRuns
 pub mod TotalsOfLogs

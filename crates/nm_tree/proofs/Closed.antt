@@ -27,6 +27,7 @@ use Rattle.nm_tree.proofs.EndLaws.{enough_nodes, set_of, ascend_of, settled_of}
 use Rattle.nm_tree.proofs.EndCounts.{none_private, waiting_is, sum_is, accounted_for}
 use Rattle.nm_tree.proofs.EndPlaces.{ends_once}
 use Rattle.nm_tree.proofs.EndTheorem.{of_turns_at_end}
+use Rattle.nm_tree.proofs.Settling.{settles}
 use Rattle.nm_tree.proofs.Heirs.{logs, times, has_times}
 use Rattle.nm_tree.proofs.Merging.{length-merged}
 
@@ -75,6 +76,10 @@ all_given (w ∷ u ∷ ws) =
     let both = length-merged (all_merged (u ∷ ws)) w.queues in
     let sum = sum_by-cons (λ (x : Hand). length x.queues) w (u ∷ ws) in
     omega (arith, rest, both, sum)
+
+at_least_one : (ws : List Hand) → 1 ≤ given_in ws → 1 ≤ length ws
+at_least_one [] some' = absurd (omega (arith, some'))
+at_least_one (w ∷ ws) some' = omega arith
 
 -- ---- ascending numbers below n, as many as n
 
@@ -135,6 +140,9 @@ module _ (b : Board) (w : Hand) (xs : List Account) (home r s : ℕ) (ws : List 
   unfolding the_end
   once_each = ends_once b.layout words the_end w xs home r s is end.shown in_order.0 in_order.1
 
+  some_given : 1 ≤ length ws
+  some_given = at_least_one ws (let some' = end.fits.some in omega (arith, enough, some'))
+
   goes_on : GoesOnFromAll end.turns ws
   goes_on = goes_on_from_earlier end.turns w.pass.view.past ws end.past seen
 
@@ -181,5 +189,6 @@ module _ (b : Board) (w : Hand) (xs : List Account) (home r s : ℕ) (ws : List 
     history = each_run_has_a_history b.layout (enough_nodes b.layout end.fits) end.turns end.keys;
     totals = each_total_agrees b.layout (enough_nodes b.layout end.fits) end.turns end.keys;
     logs = totals_are_in_the_logs b.layout (enough_nodes b.layout end.fits) end.turns end.keys;
+    rested = settles b.layout words the_end w xs home r s is end.shown in_order.0 in_order.1 ws view some_given;
     settled = settled_of b.layout end.fits end.turns end.keys kept (keys_are the_end);
   }

@@ -30,6 +30,7 @@ use Rattle.nm_epoch.specs.Collecting.{AreHeld}
 use Rattle.nm_tree.specs.declared.closing.CloseReason.{CloseReason}
 use Rattle.nm_tree.specs.declared.closing.CloseReason.TheVariants as because
 use Rattle.nm_tree.specs.Resigning.{merged}
+use Rattle.nm_tree.specs.Settled.{HaveNothingPending}
 use Rattle.nm_tree.specs.Workers.{Hand, waiting_in}
 
 -- the workers are this tree's
@@ -106,7 +107,7 @@ pub record IsOfTurns (L : Layout) (turns : List Turn) (words : List ℕ) (all : 
 -- the queues, so that these with the free and the reached ones are all slots but the five fixed ones; and each of these slots stands once, in the
 -- pool, on one path, or at one index of one queue. The turns of that run have the headline. It has a history, which ends with these
 -- keys; each key stands on an unflagged edge as often as calls for it won a link less as often as they won a flag, by the logs of all workers; and
--- with no delete pending it is told that often, which is once or never
+-- with no delete pending it is told that often, which is once or never. None is where nothing was pending of the workers that were given
 pub record IsClosed (b : Board) (ws : List Hand) (queues : List HeldQueue) (kept : List ℕ) (free reached : ℕ) : Type 0 where
   pub enough : b.layout.workers ≤ given_in ws
   pub words : List ℕ
@@ -132,6 +133,7 @@ pub record IsClosed (b : Board) (ws : List Hand) (queues : List HeldQueue) (kept
   pub history : HasHistory b.layout ends.turns
   pub totals : TotalsAgree b.layout ends.turns
   pub logs : TotalsAreInTheLogs b.layout ends.turns
+  pub rested : HaveNothingPending ws → NothingIsPending b.layout ends.turns
   pub settled : NothingIsPending b.layout ends.turns → (k : ℕ) → IsKey k → Agree (links_of k b.layout ends.turns) (flags_of k b.layout ends.turns) (Contains kept k)
 
 -- why a tree was not closed

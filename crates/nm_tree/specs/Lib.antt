@@ -1,6 +1,7 @@
 pub mod Workers
 pub mod Answers
 pub mod Resigning
+pub mod Settled
 pub mod Closing
 pub mod Plays
 pub mod Running

@@ -22,6 +22,6 @@ pub use nm_model::NewError;
 pub use nm_pool::Fit;
 pub use nm_steps::Note;
 pub use resigning::{ResignFault, ResignReason};
-pub use running::each_moment_is_of_turns;
+pub use running::{each_moment_is_of_turns, heirs_have_nothing_pending};
 pub use tree::Tree;
 pub use worker::{Counts, Worker};
