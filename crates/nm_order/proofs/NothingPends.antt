@@ -1,5 +1,5 @@
 -- Where the log of no worker tells of a leaf that its call has flagged, no delete is pending.
-use Rattle.std.proofs.Common.{◌≡◌, ℕ, ◌<◌, ◌≤◌, inl, inr, List, ◌∷◌, sym, ap, subst, ◌∙◌, arith}
+use Rattle.std.proofs.Common.{◌≡◌, ℕ, ◌<◌, ◌≤◌, List, [], ◌∷◌, sym, ap, subst, ◌∙◌, arith}
 use Rattle.std.specs.Prelude.{Option, Some, None, Result, Ok, Err, All, unwrap_or}
 use Rattle.std.proofs.lemmas.Bool.{cases_lt}
 use Rattle.std.proofs.lemmas.Option.{none-some}
@@ -38,7 +38,7 @@ module _ (L : Layout) (enough : 5 ≤ L.nodes) (turns : List (ℕ × Event)) (ke
 
   -- who has flagged a leaf is a worker of the tree
   flagger : (w k : ℕ) → HasFlagged L turns w k → w < L.workers
-  flagger w k f = go (refused_in before (w, event)) refl
+  flagger w k f = go (refused_in before w event) refl
     where
       event : Event
       event = Flag f.parent f.side f.leaf
@@ -55,7 +55,7 @@ module _ (L : Layout) (enough : 5 ≤ L.nodes) (turns : List (ℕ × Event)) (ke
       no : (r : Refused) (q : Reply) → ◌≡◌ {A = Result Reply Refused} (Err r) (Ok q) → ⊥
       no r q h = cc
 
-      go : (o : Option Refused) → refused_in before (w, event) ≡ o → w < L.workers
+      go : (o : Option Refused) → refused_in before w event ≡ o → w < L.workers
       go (Some r) why = absurd (no r _ (sym (refused_outcome before (w, event) r why) ∙ f.won))
       go None why = subst (λ (l : Layout). w < l.workers) layout (allowed before.state w event (allowed_by_state before w event why)).worker
 

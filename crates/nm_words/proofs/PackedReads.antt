@@ -1,5 +1,5 @@
 -- Each word of a packed memory is its field, and each bit of the pool is its slot.
-use Rattle.std.proofs.Common.{◌≡◌, ℕ, ◌+◌, ◌-◌, ◌*◌, ◌/◌, ◌%◌, ◌^◌, ◌<◌, ◌≤◌, false, cond, List, length, map, take, drop, get_or, flat_map, refl, ap, ◌∙◌, ◌∷◌, ◌++◌, replicate, arith, lit<, length-append, length-drop, get_or-append-add, get_or-take, get_or-drop}
+use Rattle.std.proofs.Common.{◌≡◌, ℕ, ◌+◌, ◌-◌, ◌*◌, ◌/◌, ◌%◌, ◌^◌, ◌<◌, ◌≤◌, false, cond, List, length, map, take, drop, get_or, flat_map, refl, ap, ◌∙◌, ◌∷◌, replicate, arith, lit<, length-append, length-drop, get_or-append-add, get_or-take, get_or-drop}
 use Rattle.std.specs.Prelude.{Option, None, bit_and, slice_index}
 use Rattle.std.specs.List.{range_with_len}
 use Rattle.std.proofs.lemmas.List.{length-replicate, get_or_past}
@@ -19,12 +19,19 @@ use Rattle.nm_words.proofs.NumberBits.{told}
 abbrev pub noted : Layout → Memory → List ℕ
 noted L m = notes_words L m
 
+-- words that say nothing
+abbrev pub zeros : ℕ → List ℕ
+zeros n = replicate n 0
+
+zeros_long : (n : ℕ) → length (zeros n) ≡ n
+zeros_long n = length-replicate n 0
+
 -- a note with its gap
 abbrev pub spread : Layout → Option ℕ → List ℕ
-spread L o = note_word o ∷ replicate L.gap 0
+spread L o = note_word o ∷ zeros L.gap
 
 pub spread_words : (L : Layout) (o : Option ℕ) → length (spread L o) ≡ 1 + L.gap
-spread_words L o = omega (arith, length-replicate L.gap 0)
+spread_words L o = omega (arith, zeros_long L.gap)
 
 abbrev pub fours : Memory → List ℕ
 fours m = flat_map node_words (drop 1 m.nodes)
@@ -39,15 +46,15 @@ four_words n = refl
 abbrev pub note_place : Layout → ℕ → ℕ
 note_place L w = L.gap - 2 + (1 + L.gap) * w
 
-pub noted_there : (L : Layout) (w : ℕ) → note_place L w ≡ length (replicate (L.gap - 2) 0) + ((1 + L.gap) * w + 0)
-noted_there L w = omega (arith, length-replicate (L.gap - 2) 0)
+pub noted_there : (L : Layout) (w : ℕ) → note_place L w ≡ length (zeros (L.gap - 2)) + ((1 + L.gap) * w + 0)
+noted_there L w = omega (arith, zeros_long (L.gap - 2))
 
 module _ (L : Layout) (m : Memory) (fits : Fits L m) where
   -- with the epoch's word before them
   pub noted_length : 1 + length (noted L m) ≡ behind_notes L L.workers
   noted_length =
       let all : length (flat_map (spread L) m.notes) ≡ (1 + L.gap) * L.workers = blocks_length (spread L) (1 + L.gap) (spread_words L) m.notes ∙ ap (λ n. (1 + L.gap) * n) fits.notes in
-      omega (arith, length-append (replicate (L.gap - 2) 0) (flat_map (spread L) m.notes), length-replicate (L.gap - 2) 0, all)
+      omega (arith, length-append (zeros (L.gap - 2)) (flat_map (spread L) m.notes), zeros_long (L.gap - 2), all)
 
   pub note_inside : (w : ℕ) → w < L.workers → note_place L w < length (noted L m)
   note_inside w h = let within = note_within L w h in omega (arith, noted_length, within)
@@ -83,7 +90,7 @@ module _ (L : Layout) (m : Memory) (fits : Fits L m) where
   field_read at_epoch h = refl
   field_read (at_note w) h =
       first_read m.epoch (noted L m) (fours m) (rowed L m) (word L (at_note w)) (note_place L w) (omega (arith, noted_there L w)) (note_inside w h)
-      ∙ ap (λ k. get_or (noted L m) k 0) (noted_there L w) ∙ get_or-append-add (replicate (L.gap - 2) 0) (flat_map (spread L) m.notes) ((1 + L.gap) * w + 0) 0
+      ∙ ap (λ k. get_or (noted L m) k 0) (noted_there L w) ∙ get_or-append-add (zeros (L.gap - 2)) (flat_map (spread L) m.notes) ((1 + L.gap) * w + 0) 0
       ∙ blocks_read (spread L) (1 + L.gap) (spread_words L) m.notes w 0 None (omega arith) (omega (arith, fits.notes, h))
   field_read (at_key s) h = node_read s 0 _ h (lit< tt) (omega arith)
   field_read (at_edge s Left) h = node_read s 1 _ h (lit< tt) refl

@@ -1,5 +1,5 @@
 -- Each write of a memory changes one word of it: of a slot in the pool, one bit.
-use Rattle.std.proofs.Common.{◌≡◌, ◌≢◌, ℕ, ◌+◌, ◌-◌, ◌*◌, ◌/◌, ◌%◌, ◌^◌, ◌<◌, ◌≤◌, inl, inr, Bool, true, false, List, ◌∷◌, ◌++◌, length, take, drop, set, get_or, flat_map, replicate, refl, sym, ap, ◌∙◌, arith, lit<, length-drop, length-take}
+use Rattle.std.proofs.Common.{◌≡◌, ◌≢◌, ℕ, ◌+◌, ◌-◌, ◌*◌, ◌/◌, ◌%◌, ◌^◌, ◌<◌, ◌≤◌, inl, inr, Bool, true, false, List, ◌∷◌, ◌++◌, length, take, drop, set, get_or, flat_map, refl, sym, ap, ◌∙◌, arith, lit<, length-drop, length-take}
 use Rattle.std.specs.Prelude.{None, bit_and, bit_or, slice_set}
 use Rattle.std.proofs.lemmas.List.{drop-set-add}
 use Rattle.std.proofs.lemmas.Bool.{cases_lt}
@@ -13,7 +13,7 @@ use Rattle.nm_words.specs.Packing.{Fits, note_word, node_words, number_of, row_w
 use Rattle.nm_words.proofs.Blocks.{set-append-add, blocks_written, first_written, second_written, third_written, one_changed, window_written, window_before, window_behind}
 use Rattle.nm_words.proofs.NumberBits.{given, cleared}
 use Rattle.nm_laws.proofs.TreeSlots.{put_pool}
-use Rattle.nm_words.proofs.PackedReads.{noted, spread, spread_words, note_place, noted_there, note_inside, fours, rowed, four_words, noted_length, nodes_length, fours_length, slot_of, in_row, row_read}
+use Rattle.nm_words.proofs.PackedReads.{noted, zeros, spread, spread_words, note_place, noted_there, note_inside, fours, rowed, four_words, noted_length, nodes_length, fours_length, slot_of, in_row, row_read}
 
 pub epoch_written : EpochIsOneWord
 epoch_written L m e = refl
@@ -21,8 +21,8 @@ epoch_written L m e = refl
 pub note_written : NoteIsOneWord
 note_written L m w o fits h =
     ap (λ l. m.epoch ∷ (l ++ (fours m ++ rowed L m)))
-    (ap (λ l. replicate (L.gap - 2) 0 ++ l) (blocks_written (spread L) (1 + L.gap) (spread_words L) m.notes w 0 (note_word o) None o (omega arith) (omega (arith, fits.notes, h)) refl)
-    ∙ sym (set-append-add (replicate (L.gap - 2) 0) (flat_map (spread L) m.notes) ((1 + L.gap) * w + 0) (note_word o)) ∙ ap (λ k. set (noted L m) k (note_word o)) (sym (noted_there L w)))
+    (ap (λ l. zeros (L.gap - 2) ++ l) (blocks_written (spread L) (1 + L.gap) (spread_words L) m.notes w 0 (note_word o) None o (omega arith) (omega (arith, fits.notes, h)) refl)
+    ∙ sym (set-append-add (zeros (L.gap - 2)) (flat_map (spread L) m.notes) ((1 + L.gap) * w + 0) (note_word o)) ∙ ap (λ k. set (noted L m) k (note_word o)) (sym (noted_there L w)))
     ∙ first_written m.epoch (noted L m) (fours m) (rowed L m) (word L (at_note w)) (note_place L w) (note_word o) (omega arith) (note_inside L m fits w h)
 
 -- ---- nodes
