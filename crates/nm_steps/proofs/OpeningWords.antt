@@ -23,8 +23,8 @@ use Rattle.nm_steps.specs.Openings.{untouched, planted, given_below, Plants}
 notes_zero : (g n : ℕ) → flat_map (λ o. note_word o ∷ replicate g 0) (replicate n None) ≡ replicate ((1 + g) * n) 0
 notes_zero g zero = ap (λ k. replicate k 0) (sym (mul-zero (1 + g)))
 notes_zero g (suc n) =
-    ap (λ l. replicate (1 + g) 0 ++ l) (notes_zero g n) ∙ replicate-append-replicate (1 + g) ((1 + g) * n) 0
-    ∙ ap (λ k. replicate k 0) (let e : 1 + g + (1 + g) * n ≡ (1 + g) * suc n = let more = mul-suc (1 + g) n in omega (arith, more) in e)
+    ap (λ l. 0 ∷ (replicate g 0 ++ l)) (notes_zero g n) ∙ ap (λ l. 0 ∷ l) (replicate-append-replicate g ((1 + g) * n) 0)
+    ∙ ap (λ k. replicate k 0) (let e : suc (g + (1 + g) * n) ≡ (1 + g) * suc n = let more = mul-suc (1 + g) n in omega (arith, more) in e)
 
 -- and the zeros before them
 noted_zero : (L : Layout) → notes_words L (untouched L) ≡ replicate (L.gap - 2 + (1 + L.gap) * L.workers) 0
