@@ -17,7 +17,7 @@ use Rattle.nm_model.specs.Reports.{keys}
 use Rattle.nm_model.specs.Runs.{of}
 use Rattle.nm_order.specs.Intervals.{InSet}
 use Rattle.nm_words.specs.Packing.{words_of}
-use Rattle.nm_theorem.specs.Headline.{waits_of, has_after}
+use Rattle.nm_model.specs.Headline.{waits_of, has_after}
 use Rattle.nm_theorem.proofs.WrittenWords.{run_words}
 use Rattle.nm_theorem.proofs.FreedOfRuns.{waits_is}
 use Rattle.nm_theorem.proofs.Hands.{run_hands}

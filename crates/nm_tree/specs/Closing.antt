@@ -20,7 +20,7 @@ use Rattle.nm_order.specs.LoggedTotals.{TotalsAreInTheLogs}
 use Rattle.nm_order.specs.Totals.{Agree, NothingIsPending, TotalsAgree, links_of, flags_of}
 use Rattle.nm_steps.specs.declared.view.View.{View}
 use Rattle.nm_words.specs.Packing.{words_of}
-use Rattle.nm_theorem.specs.Headline.{Headline, words_after, waits_of, has_after}
+use Rattle.nm_model.specs.Headline.{Headline, words_after, waits_of, has_after}
 use Rattle.nm_theorem.specs.Histories.{HasHistory as HasPlainHistory}
 use Rattle.nm_steps.specs.Rules.{Extends, IsShown, knowledge, joined, nobody}
 use Rattle.nm_steps.specs.Steps.{Board, IsOf, Ends}
