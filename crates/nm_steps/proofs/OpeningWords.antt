@@ -12,8 +12,8 @@ use Rattle.nm_edge.proofs.Words.{fields_within, places_are_rows}
 use Rattle.nm_edge.specs.declared.edge.Side.TheVariants.{Left, Right}
 use Rattle.nm_model.specs.declared.memory.Node.{Node}
 use Rattle.nm_model.specs.Memory.{Memory, node, blank, fork, leaf, put_node, put_edge, with_edge, opening, infinity_0, infinity_1, infinity_2}
-use Rattle.nm_words.specs.Packing.{Fits, note_word, notes_words, node_words, number_of, row_word, words_of}
-use Rattle.nm_words.proofs.PackedReads.{each_field_has_a_word}
+use Rattle.nm_words.specs.Packing.{Fits, note_word, node_words, number_of, row_word, words_of}
+use Rattle.nm_words.proofs.PackedReads.{noted, each_field_has_a_word}
 use Rattle.nm_words.proofs.PackedWrites.{key_written, edge_written, giving_sets_a_bit}
 use Rattle.nm_steps.specs.Openings.{untouched, planted, given_below, Plants}
 
@@ -27,7 +27,7 @@ notes_zero g (suc n) =
     ∙ ap (λ k. replicate k 0) (let e : suc (g + (1 + g) * n) ≡ (1 + g) * suc n = let more = mul-suc (1 + g) n in omega (arith, more) in e)
 
 -- and the zeros before them
-noted_zero : (L : Layout) → notes_words L (untouched L) ≡ replicate (L.gap - 2 + (1 + L.gap) * L.workers) 0
+noted_zero : (L : Layout) → noted L (untouched L) ≡ replicate (L.gap - 2 + (1 + L.gap) * L.workers) 0
 noted_zero L = ap (λ l. replicate (L.gap - 2) 0 ++ l) (notes_zero L.gap L.workers) ∙ replicate-append-replicate (L.gap - 2) ((1 + L.gap) * L.workers) 0
 
 -- blank nodes

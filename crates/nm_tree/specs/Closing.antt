@@ -3,7 +3,6 @@ use Rattle.std.specs.Prelude.{◌≡◌, ◌<◌, ◌≤◌, ◌↔◌, ◌+◌,
 use Rattle.nm_edge.specs.Keys.{IsKey}
 use Rattle.nm_edge.specs.Layouts.{Layout}
 use Rattle.nm_edge.specs.declared.edge.Side.{Side}
-use Rattle.nm_edge.specs.declared.node.NodeId.{NodeId}
 use Rattle.nm_model.specs.declared.event.Event.{Event}
 use Rattle.nm_model.specs.declared.ledger.Ledger.{Ledger}
 use Rattle.nm_model.specs.declared.trace.Turn.{Turn}
@@ -84,10 +83,6 @@ pub record EndsOnce (s : State) (hs : List HeldQueue) (x : ℕ) : Type 0 where
   pub here : EndsAt s hs x place
   pub only : (other : EndPlace) → EndsAt s hs x other → other ≡ place
 
--- the node that waits
-abbrev pub node_of : Entry → NodeId
-node_of e = e.node
-
 -- The theorem, of a tree. The logs of all workers are the parts of these turns, and by them its words came from those of the empty tree, each turn writing
 -- what its reply tells. The turns have the headline, and are a history of one plain set; the report's queue of each worker is what then waits of its
 -- cuts, its keys are those of that set, and nobody has a slot in hands: so each slot above 5 is in the pool, on one path, or at one index of one queue
@@ -96,7 +91,7 @@ pub record IsOfTurns (L : Layout) (turns : List Turn) (words : List ℕ) (all : 
   pub written : words ≡ words_of L (words_after L turns)
   pub headline : Headline L turns
   pub plain_set : HasPlainHistory L turns
-  pub waiting : (w : ℕ) (h : HeldQueue) → slice_get queues w ≡ Some h → map node_of h.queue.items ≡ waits_of w turns
+  pub waiting : (w : ℕ) (h : HeldQueue) → slice_get queues w ≡ Some h → map (λ (e : Entry). e.node) h.queue.items ≡ waits_of w turns
   pub set : (k : ℕ) → Contains kept k ↔ InSet (words_after L turns) k × (k < infinity_0)
   pub no_hands : (w x : ℕ) → has_after (opening L) w x false turns ≡ false
 

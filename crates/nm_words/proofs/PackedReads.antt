@@ -10,14 +10,14 @@ use Rattle.nm_edge.proofs.Words.{note_within}
 use Rattle.nm_edge.specs.declared.edge.Side.TheVariants.{Left, Right}
 use Rattle.nm_model.specs.declared.memory.Node.{Node}
 use Rattle.nm_model.specs.Memory.{Memory, node, blank, in_pool}
-use Rattle.nm_words.specs.Packing.{Fits, note_word, notes_words, node_words, row_word, words_of, field_word, word_at, EachFieldHasAWord, EachWordIsItsField, EachBitIsItsSlot, SpareBitsAreZero}
+use Rattle.nm_words.specs.Packing.{Fits, note_word, node_words, row_word, words_of, field_word, word_at, EachFieldHasAWord, EachWordIsItsField, EachBitIsItsSlot, SpareBitsAreZero}
 use Rattle.nm_words.proofs.Blocks.{blocks_length, blocks_read, first_read, second_read, third_read, whole_length}
 use Rattle.nm_words.proofs.NumberBits.{told}
 
 -- ---- the three parts behind the epoch
 
 abbrev pub noted : Layout → Memory → List ℕ
-noted L m = notes_words L m
+noted L m = replicate (L.gap - 2) 0 ++ flat_map (λ o. note_word o ∷ replicate L.gap 0) m.notes
 
 -- words that say nothing
 abbrev pub zeros : ℕ → List ℕ

@@ -42,13 +42,10 @@ number_of (b ∷ bs) = number_of bs * 2 + (if b then 1 else 0)
 abbrev pub row_word : Memory → ℕ → ℕ
 row_word m r = number_of (take 64 (drop (64 * r + 1) m.pool))
 
--- the notes, each with its gap of zeros behind it, and zeros before the first where there are gaps
-abbrev pub notes_words : Layout → Memory → List ℕ
-notes_words L m = replicate (L.gap - 2) 0 ++ flat_map (λ o. note_word o ∷ replicate L.gap 0) m.notes
-
--- all words: the epoch, the notes, the nodes from slot 1 on, and the rows of the pool
+-- all words: the epoch; the notes, each with its gap of zeros behind it, and zeros before the first where there are gaps; the nodes from slot 1 on; and
+-- the rows of the pool
 abbrev pub words_of : Layout → Memory → List ℕ
-words_of L m = m.epoch ∷ (notes_words L m ++ (flat_map node_words (drop 1 m.nodes) ++ map (row_word m) (range_with_len 0 (rows L))))
+words_of L m = m.epoch ∷ ((replicate (L.gap - 2) 0 ++ flat_map (λ o. note_word o ∷ replicate L.gap 0) m.notes) ++ (flat_map node_words (drop 1 m.nodes) ++ map (row_word m) (range_with_len 0 (rows L))))
 
 -- the word of one field
 abbrev pub field_word : Memory → Field → ℕ
