@@ -1,5 +1,5 @@
 -- The worked schedule, by computation and by the laws of every run.
-use Rattle.std.proofs.Common.{◌≡◌, zero, suc, true, false, List, [], ◌∷◌, ◌++◌, map, refl, sym, ap, subst, arith, true≢false}
+use Rattle.std.proofs.Common.{◌≡◌, zero, suc, inl, true, false, List, [], ◌∷◌, ◌++◌, map, refl, sym, ap, subst, arith, true≢false}
 use Rattle.std.specs.Prelude.{Bool, ◌-◌, ◌^◌, nat_le, take, drop, Contains, Ok, All}
 use Rattle.std.specs.List.{list_all}
 use Rattle.std.proofs.lemmas.Bool.{leb-true, and_parts}
@@ -42,7 +42,7 @@ each_key (t ∷ ts) all zero d below = keyed t.event (and_parts (is_keyed t.even
 each_key (t ∷ ts) all (suc i) d below = each_key ts (and_parts (is_keyed t.event) (list_all (λ (u : Turn). is_keyed u.event) ts) all).1 i d (omega (arith, below))
 
 fits : IsLayout layout
-fits = record { least = omega arith; most = omega arith; some = omega arith; few = omega arith }
+fits = record { least = omega arith; most = omega arith; some = omega arith; few = omega arith; gaps = inl refl }
 
 keys : All (λ t. HasKey t.1) (map turn_of turns)
 unfolding is_keyed
