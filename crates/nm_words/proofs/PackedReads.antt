@@ -1,5 +1,5 @@
 -- Each word of a packed memory is its field, and each bit of the pool is its slot.
-use Rattle.std.proofs.Common.{◌≡◌, ℕ, ◌+◌, ◌-◌, ◌*◌, ◌/◌, ◌%◌, ◌^◌, ◌<◌, ◌≤◌, false, cond, List, length, map, take, drop, get_or, flat_map, refl, ap, ◌∙◌, ◌∷◌, replicate, arith, lit<, length-append, length-drop, get_or-append-add, get_or-take, get_or-drop}
+use Rattle.std.proofs.Common.{◌++◌, ◌≡◌, ℕ, ◌+◌, ◌-◌, ◌*◌, ◌/◌, ◌%◌, ◌^◌, ◌<◌, ◌≤◌, false, cond, List, length, map, take, drop, get_or, flat_map, refl, ap, ◌∙◌, ◌∷◌, replicate, arith, lit<, length-append, length-drop, get_or-append-add, get_or-take, get_or-drop}
 use Rattle.std.specs.Prelude.{Option, None, bit_and, slice_index}
 use Rattle.std.specs.List.{range_with_len}
 use Rattle.std.proofs.lemmas.List.{length-replicate, get_or_past}
