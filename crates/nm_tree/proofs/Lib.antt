@@ -18,3 +18,4 @@ pub mod EndPlaces
 pub mod EndTheorem
 pub mod RunningTurns
 pub mod Closed
+pub mod OfClosed
