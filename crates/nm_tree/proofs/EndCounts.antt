@@ -164,13 +164,3 @@ module _ (L : Layout) (words : List ℕ) (e : IsEndOf L words) (w : Hand) (xs : 
       let none' = none_private in
       let waits = waiting_is in
       omega (arith, sum, nodes, none', waits)
-
-  -- its log is its worker's part of the run
-  own_log : IsLogOf L v.number (part_of v.number t)
-  own_log =
-      let below = from_below 0 w.queues each v.number (is.numbers.all v.number (inl refl)) in
-      record { worker = omega (arith, below, all); turns = e.turns; keys = e.keys; is_part = refl }
-
-  pub accounted_for : (o : ℕ) (l : Ledger) → held (knowledge v).ledgers o ≡ Some l → l.retired ≡ l.freed ++ map node_in l.queue
-  accounted_for = subst (λ (k : Knowledge). (o : ℕ) (l : Ledger) → held k.ledgers o ≡ Some l → l.retired ≡ l.freed ++ map node_in l.queue) own
-      (held_ledgers_are_kept L (enough_nodes L e.fits) v.number (part_of v.number t) own_log).split

@@ -19,3 +19,4 @@ pub mod EndTheorem
 pub mod Settling
 pub mod RunningTurns
 pub mod Closed
+pub mod OfClosed

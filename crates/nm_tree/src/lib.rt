@@ -15,7 +15,7 @@ mod running;
 mod tree;
 mod worker;
 
-pub use closing::{CloseError, CloseReason, Report};
+pub use closing::{CloseError, CloseReason, Report, closed_trees_are_accounted_for};
 pub use fault::{Fault, PinFault};
 pub use nm_epoch::{Advance, Behind, Collected, Entry, HeldQueue};
 pub use nm_model::NewError;
