@@ -80,3 +80,5 @@ pub mod StaleRuns
 pub mod KeyTests
 pub mod WorkedPaths
 pub mod AnswersSince
+pub mod PartWalks
+pub mod WalkAnswers
