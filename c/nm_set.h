@@ -184,8 +184,14 @@ nm_outcome nm_set_attach(nm_handle *set, nm_handle *worker);
 
 /* Ends the set when all its workers are at home. NM_DONE, and the handle owns the report from then
  * on. NM_AWAY, NM_NO_MEMORY: the handle owns the set still; behind the latter its workers may have
- * been gathered, so that only this function goes on. */
+ * been gathered, so that only this function goes on. Behind NM_AWAY nm_set_away tells whom it misses. */
 nm_outcome nm_set_close(nm_handle *set);
+
+/* Whether a close would miss the worker of a number, since some handle has it. NM_YES; NM_NO, also of
+ * a worker that has resigned; NM_NUMBER, NM_CLOSING. Of a set that has lost a worker, with its thread,
+ * say, the other workers go on and look up keys, and there is no report. nm_drop gives up the set's
+ * handle; the tree stays for the lost worker, which might come back, so its memory stays taken. */
+nm_outcome nm_set_away(nm_handle *set, uint32_t number);
 
 /* Gives up what any handle owns, and closes the handle: a worker goes home, with all that it holds, and can be taken again; a set that was not closed
  * is left to its workers, the last of which ends it; a report is forgotten. NM_DONE; NM_CLOSED. */
@@ -269,6 +275,24 @@ nm_outcome nm_worker_held(nm_handle *worker, uint64_t *epoch);
 
 /* What it has won, and what became of what it cut off. NM_DONE. */
 nm_outcome nm_worker_ledger(nm_handle *worker, nm_ledger *ledger);
+
+/* ---- notes between workers ----
+ * All calls are in one order, in which each has its moment. Of two workers' calls a proof knows that
+ * order where a note was handed over; no answer depends on it, and a program that proves nothing can
+ * leave it. Both take no step on the tree, no lock and no memory. */
+
+/* Leaves a note of all that the worker has seen, in place of its earlier one, and writes how many
+ * links and flags it has won so far (nm_ledger has them too). NM_DONE; NM_BUSY: a reader has the earlier
+ * note at this moment; call again. */
+nm_outcome nm_worker_post(nm_handle *worker, uint64_t *links, uint64_t *flags);
+
+/* Hears the note that the worker of a number has left, and leaves it there for others: all that this
+ * worker is asked from then on comes behind all that that one had seen when it left the note. NM_YES,
+ * and how many links and flags that one had won then; NM_NO: it has left none. NM_NUMBER; NM_BUSY:
+ * another worker is at that note at this moment; call again. */
+nm_outcome nm_worker_read(nm_handle *worker, uint32_t number, uint64_t *links, uint64_t *flags);
+
+/* ---- the end of a worker ---- */
 
 /* The worker of number leaver, which must be at home, resigns to this one, which then holds all that it held; the leaver never comes back. NM_DONE.
  * NM_NUMBER; NM_AWAY, NM_HELD and NM_PENDING, which are of the leaver. */

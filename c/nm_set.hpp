@@ -88,6 +88,12 @@ struct Collected {
     std::uint64_t freed;
 };
 
+// The links and the flags that a worker had won when it left a note.
+struct Won {
+    std::uint64_t links;
+    std::uint64_t flags;
+};
+
 // How many slots are free, and how many are reached from the root, without the five fixed ones.
 struct Slots {
     std::uint32_t free;
@@ -187,11 +193,13 @@ public:
 
     [[nodiscard]] nm_outcome try_unpin() noexcept { return nm_worker_unpin(&handle_); }
 
-    // Moves the epoch on, or tells why not. Only a closed owner is a fault.
+    // Moves the epoch on, or tells why not. A closed owner, and one that another thread uses, is a
+    // fault.
     Advance advance() {
         Advance told{NM_DONE, 0, 0};
         told.outcome = nm_worker_advance(&handle_, &told.epoch, &told.behind);
-        if (told.outcome == NM_CLOSED) throw Fault(told.outcome);
+        if (told.outcome != NM_BEHIND && told.outcome != NM_LOST && told.outcome != NM_SPENT)
+            detail::answered(told.outcome);
         return told;
     }
 
@@ -238,6 +246,32 @@ public:
         nm_ledger told{};
         detail::answered(nm_worker_ledger(&handle_, &told));
         return told;
+    }
+
+    // Leaves a note of all that it has seen: what it has won so far. None where a reader has its
+    // earlier note at this moment.
+    std::optional<Won> post() {
+        Won told{0, 0};
+        nm_outcome outcome = try_post(told);
+        if (outcome == NM_BUSY) return std::nullopt;
+        detail::answered(outcome);
+        return told;
+    }
+
+    [[nodiscard]] nm_outcome try_post(Won &won) noexcept {
+        return nm_worker_post(&handle_, &won.links, &won.flags);
+    }
+
+    // Hears the note of the worker of a number: what that one had won then. None where it has left
+    // none.
+    std::optional<Won> read(std::uint32_t number) {
+        Won told{0, 0};
+        if (!detail::answered(try_read(told, number))) return std::nullopt;
+        return told;
+    }
+
+    [[nodiscard]] nm_outcome try_read(Won &won, std::uint32_t number) noexcept {
+        return nm_worker_read(&handle_, number, &won.links, &won.flags);
     }
 
     // The worker of that number, which is at home, resigns to this one.
@@ -348,6 +382,11 @@ public:
     // Opens a closed owner with a worker that is at home.
     [[nodiscard]] nm_outcome try_attach(Worker &into) noexcept {
         return nm_set_attach(&handle_, &into.handle_);
+    }
+
+    // Whether `close` would miss the worker of a number, since an owner has it.
+    [[nodiscard]] bool is_away(std::uint32_t number) const {
+        return detail::answered(nm_set_away(&handle_, number));
     }
 
     // Ends the set, which is a closed owner then. Where that is a fault it is the set still.

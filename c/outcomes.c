@@ -37,6 +37,7 @@ static void is_refused(nm_handle *handle, nm_outcome worker, nm_outcome report) 
         CHECK(nm_worker_queue_len(handle, &wide) == worker && nm_worker_pending(handle, &wide) == worker);
         CHECK(nm_worker_held(handle, &wide) == worker && nm_worker_ledger(handle, &ledger) == worker);
         CHECK(nm_worker_resign(handle, 0) == worker);
+        CHECK(nm_worker_post(handle, &wide, &other) == worker && nm_worker_read(handle, 0, &wide, &other) == worker);
     }
     if (report != NM_DONE) {
         CHECK(nm_report_slots(handle, &narrow, &second) == report && nm_report_keys(handle, &wide) == report);
@@ -206,6 +207,38 @@ static void away(void) {
     CHECK(nm_drop(&leaver) == NM_DONE && nm_drop(&heir) == NM_DONE && nm_drop(&set) == NM_DONE);
 }
 
+/* A note is heard as often as it is read, tells what its worker had won when it left it, and is the latest one. */
+static void notes(void) {
+    nm_handle set = NM_CLOSED_HANDLE, writer = NM_CLOSED_HANDLE, reader = NM_CLOSED_HANDLE;
+    uint64_t links = NOT_WRITTEN, flags = NOT_WRITTEN;
+    CHECK(nm_set_near(&set, 64, 2) == NM_DONE && nm_set_worker(&set, &writer, 1) == NM_DONE && nm_set_worker(&set, &reader, 0) == NM_DONE);
+    CHECK(nm_worker_read(&reader, 1, &links, &flags) == NM_NO && nm_worker_read(&reader, 2, &links, &flags) == NM_NUMBER);
+    CHECK(links == NOT_WRITTEN && flags == NOT_WRITTEN);
+    CHECK(nm_worker_insert(&writer, 5, TRIES) == NM_YES && nm_worker_insert(&writer, 6, TRIES) == NM_YES);
+    CHECK(nm_worker_post(&writer, &links, &flags) == NM_DONE && links == 2 && flags == 0);
+    CHECK(nm_worker_delete(&writer, 5, TRIES) == NM_YES);
+    for (int turn = 0; turn < 3; turn++) CHECK(nm_worker_read(&reader, 1, &links, &flags) == NM_YES && links == 2 && flags == 0);
+    CHECK(nm_worker_has(&reader, 6, TRIES) == NM_YES && nm_worker_read(&writer, 1, &links, &flags) == NM_YES && links == 2);
+    CHECK(nm_worker_post(&writer, &links, &flags) == NM_DONE && links == 2 && flags == 1);
+    CHECK(nm_worker_read(&reader, 1, &links, &flags) == NM_YES && links == 2 && flags == 1);
+    CHECK(nm_drop(&writer) == NM_DONE && nm_worker_read(&reader, 1, &links, &flags) == NM_YES && links == 2 && flags == 1);
+    CHECK(nm_drop(&reader) == NM_DONE && nm_set_close(&set) == NM_DONE && nm_drop(&set) == NM_DONE);
+}
+
+/* A set tells which worker a close would miss: one that a handle has, and not one that has resigned. Where one is lost the others go on. */
+static void missed(void) {
+    nm_handle set = NM_CLOSED_HANDLE, lost = NM_CLOSED_HANDLE, other = NM_CLOSED_HANDLE;
+    CHECK(nm_set_away(&set, 0) == NM_CLOSED && nm_set_near(&set, 64, 3) == NM_DONE && nm_set_away(&set, 3) == NM_NUMBER);
+    CHECK(nm_set_away(&set, 0) == NM_NO && nm_set_worker(&set, &lost, 1) == NM_DONE && nm_set_worker(&set, &other, 0) == NM_DONE);
+    CHECK(nm_set_away(&lost, 0) == NM_KIND && nm_worker_insert(&lost, 5, TRIES) == NM_YES);
+    CHECK(nm_worker_resign(&other, 2) == NM_DONE && nm_set_away(&set, 2) == NM_NO && nm_set_away(&set, 0) == NM_YES);
+    CHECK(nm_drop(&other) == NM_DONE && nm_set_away(&set, 0) == NM_NO && nm_set_away(&set, 1) == NM_YES);
+    CHECK(nm_set_close(&set) == NM_AWAY && nm_set_away(&set, 1) == NM_YES);
+    CHECK(nm_set_worker(&set, &other, 0) == NM_DONE && nm_worker_has(&other, 5, TRIES) == NM_YES && nm_drop(&other) == NM_DONE);
+    CHECK(nm_drop(&lost) == NM_DONE && nm_set_away(&set, 1) == NM_NO && nm_set_close(&set) == NM_DONE);
+    CHECK(nm_set_away(&set, 1) == NM_KIND && nm_drop(&set) == NM_DONE);
+}
+
 /* Each outcome has words of its own, and so has a number that is none. */
 static void texts(void) {
     for (int first = NM_IN_USE - 1; first <= NM_DONE; first++)
@@ -254,6 +287,7 @@ static void used(void) {
     CHECK(nm_worker_insert(&worker, 5, TRIES) == NM_YES);
     set.in_use = 1;
     CHECK(nm_set_worker(&set, &other, 1) == NM_IN_USE && nm_set_attach(&set, &other) == NM_IN_USE && nm_set_close(&set) == NM_IN_USE);
+    CHECK(nm_set_away(&set, 0) == NM_IN_USE);
     CHECK(other.at == NULL && other.in_use == 0);
     set.in_use = 0;
     CHECK(nm_set_worker(&set, &set, 1) == NM_OPEN && nm_set_worker(&worker, &worker, 1) == NM_OPEN && nm_set_worker(&other, &other, 1) == NM_IN_USE);
@@ -274,6 +308,8 @@ int main(void) {
     epochs();
     ends();
     away();
+    notes();
+    missed();
     puts("each outcome is as it should be");
     return 0;
 }

@@ -144,6 +144,18 @@ void owners_tend() {
           !worker.remove(6));
 }
 
+// A note of one worker is heard by another, and a set tells whom a close would miss.
+void notes_are_heard() {
+    nm::Set set = nm::Set::near(64, 2);
+    nm::Worker writer = set.worker(1), reader = set.worker(0);
+    nm::Won won{77, 77};
+    CHECK(!reader.read(1) && thrown([&] { reader.read(2); }) == NM_NUMBER && reader.try_read(won, 1) == NM_NO && won.links == 77);
+    CHECK(writer.insert(5) && writer.try_post(won) == NM_DONE && won.links == 1 && won.flags == 0);
+    CHECK(writer.erase(5) && reader.read(1)->flags == 0 && writer.post()->flags == 1 && reader.read(1)->flags == 1);
+    reader.close();
+    CHECK(set.is_away(1) && !set.is_away(0) && thrown([&] { (void)set.is_away(2); }) == NM_NUMBER);
+}
+
 // Each form that answers tells what the other one throws, and its answer where that answers.
 void outcomes_are_answered() {
     nm::Set set = nm::Set::lowest(7, 1);
@@ -213,6 +225,7 @@ int main() {
     faults_are_told();
     owners_are_closed();
     owners_tend();
+    notes_are_heard();
     outcomes_are_answered();
     const_owners_tell();
     threads_attach_themselves();

@@ -62,6 +62,12 @@ class Held(Fault):
     outcome = c.HELD
 
 
+class InUse(Fault):
+    """Another thread is in a call by the worker at this moment. Nothing has changed."""
+
+    outcome = c.IN_USE
+
+
 class OutOfRange(Fault, ValueError):
     """A key above 2^64 - 4 or below 0, a number of nodes that is not 7 to 268,435,456, one of workers
     that is not 1 to 64, or the number of no worker."""
@@ -81,6 +87,7 @@ _TEXTS = {
     c.AWAY: "a worker is with a thread",
     c.CLOSED: "it is closed",
     c.CLOSING: "the set is being closed",
+    c.IN_USE: "another thread is in a call by it",
 }
 
 _KINDS: dict[int, type[Fault]] = {
@@ -97,6 +104,7 @@ _KINDS: dict[int, type[Fault]] = {
     c.AWAY: Away,
     c.CLOSED: Closed,
     c.CLOSING: Closed,
+    c.IN_USE: InUse,
 }
 
 

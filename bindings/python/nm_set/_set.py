@@ -3,7 +3,8 @@
 A worker's handle stays on its seat from its first use until the set is closed, unless a `Worker`
 has it. A call of a thread that has no worker takes the lock of a seat, mostly the one that the
 thread used before, and makes the call by the worker there. No thread waits for the lock of a seat
-but `close`, `Set.worker`, and a worker on its way back.
+but `close`, `Set.worker`, and a worker on its way back. The handle of the set has no lock: by it
+threads take workers at the same time, as the library allows.
 """
 
 from __future__ import annotations
@@ -227,7 +228,6 @@ class Set:
         make = c.exports.nm_set_lowest if lowest else c.exports.nm_set_near
         told(make(self._handle.word, room, count))
         self._habit = c.HabitWords(tending.tries, tending.rounds, tending.collect_after)
-        self._taking = threading.RLock()
         self._lost: deque[tuple[_Hand, int]] = deque()
         self._seats = [_Seat() for _ in range(count)]
         self._order = apart(count)
@@ -240,8 +240,7 @@ class Set:
         seat = self._seats[number]
         if seat.hand is None and not seat.is_away:
             handle = _Handle()
-            with self._taking:
-                told(c.exports.nm_set_worker(self._handle.word, handle.word, number))
+            told(c.exports.nm_set_worker(self._handle.word, handle.word, number))
             seat.hand = _Hand(handle)
             seat.hand.rest(self._habit)
         return seat.hand
@@ -395,10 +394,9 @@ class Set:
                 seat.hand.rest(self._habit)
                 seat.hand.handle.drop()
                 seat.hand = None
-        with self._taking:
-            told(c.exports.nm_set_close(self._handle.word))
-            report = _report(self._handle.word, len(self._seats))
-            self._handle.drop()
+        told(c.exports.nm_set_close(self._handle.word))
+        report = _report(self._handle.word, len(self._seats))
+        self._handle.drop()
         return report
 
     @property
@@ -441,7 +439,7 @@ def _report(word: c.Handle, workers: int) -> Report:
 
 class Worker:
     """One worker of a set, for one thread at a time: a call while another thread is in one raises
-    `NoWorker`.
+    `InUse`.
 
     `close`, or the end of its `with`, sends it back to its set; so does the end of the object
     itself.
@@ -454,7 +452,7 @@ class Worker:
 
     def _with(self, call: Callable[[_Hand], _T]) -> _T:
         if not self._lock.acquire(blocking=False):
-            raise NoWorker("the worker is in a call of another thread")
+            raise fault(c.IN_USE)
         try:
             if self._hand is None:
                 raise fault(c.CLOSED)

@@ -116,8 +116,18 @@ class Workers(unittest.TestCase):
     def test_one_thread_at_a_time_uses_a_worker(self) -> None:
         with Set(64).attach() as worker:
             with worker._lock:
-                with self.assertRaises(nm_set.NoWorker):
+                with self.assertRaises(nm_set.InUse):
                     worker.add(5)
+            self.assertTrue(worker.add(5))
+
+    def test_the_library_tells_that_a_handle_is_in_use(self) -> None:
+        with Set(64).attach() as worker:
+            assert worker._hand is not None
+            worker._hand.word.in_use = 1
+            with self.assertRaises(nm_set.InUse) as raised:
+                worker.add(5)
+            self.assertEqual(raised.exception.outcome, -22)
+            worker._hand.word.in_use = 0
             self.assertTrue(worker.add(5))
 
     def test_numbers_that_lie_apart_come_first(self) -> None:

@@ -45,6 +45,10 @@ pub enum Fault {
     Away,
     /// The set is closed.
     Closed,
+    /// Another call had the library's handle for longer than the library looks again, some tenths
+    /// of a second. Nothing has changed. Workers are taken so by many threads at once; that one is
+    /// kept waiting for so long is not to be expected.
+    InUse,
     /// An outcome that this crate does not know.
     Other(i32),
 }
@@ -66,6 +70,7 @@ impl Fault {
             -13 => Fault::Held,
             -14 => Fault::NotHeld,
             -18 => Fault::Away,
+            -22 => Fault::InUse,
             other => Fault::Other(other),
         }
     }
@@ -97,9 +102,21 @@ impl fmt::Display for Fault {
             Fault::Number => "there is no worker of that number",
             Fault::Away => "a worker is with a thread still",
             Fault::Closed => "the set is closed",
+            Fault::InUse => "another call has the handle",
             Fault::Other(number) => return write!(f, "outcome {number} of the library"),
         })
     }
 }
 
 impl std::error::Error for Fault {}
+
+#[cfg(test)]
+mod tests {
+    use super::Fault;
+
+    #[test]
+    fn a_handle_in_use_is_told_as_that() {
+        assert_eq!(Fault::of(-22), Fault::InUse);
+        assert_eq!(Fault::of(-23), Fault::Other(-23));
+    }
+}

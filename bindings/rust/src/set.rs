@@ -1,7 +1,7 @@
 //! The set that threads share.
 
 use crate::fault::Fault;
-use crate::ffi::{Habit, Handle};
+use crate::ffi::{Habit, SetHandle};
 use crate::hand::Hand;
 use crate::report::Report;
 use crate::shared::Shared;
@@ -64,7 +64,7 @@ impl Options {
 
     /// Makes the empty set. `Nodes`, `Workers`, `NoMemory`.
     pub fn open(&self) -> Result<Set, Fault> {
-        let mut handle = Handle::closed();
+        let handle = SetHandle::closed();
         let told = match self.placement {
             Placement::Near => handle.open_near(self.nodes, self.workers),
             Placement::Lowest => handle.open_lowest(self.nodes, self.workers),
@@ -181,7 +181,7 @@ impl Set {
     /// `Away`: a [`Worker`] is not dropped yet, and all is as it was. `NoMemory`: only `close` goes
     /// on. `Closed`: it was closed before.
     pub fn close(&self) -> Result<Report, Fault> {
-        Ok(Report::of(self.0.end()?, self.0.workers()))
+        self.0.end()
     }
 }
 

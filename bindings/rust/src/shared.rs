@@ -3,11 +3,13 @@
 //! A worker's handle stays on its seat from its first use until the set is closed, unless a
 //! [`Worker`](crate::Worker) has it. A call of a thread that has no worker takes the lock of a
 //! seat, uses the worker there, and leaves it: no thread ever waits for the lock of a seat but
-//! `close`, and a worker on its way back.
+//! `close`, and a worker on its way back. The set's own handle has no lock: by it threads take
+//! workers at the same time, as the library allows.
 
 use crate::fault::Fault;
-use crate::ffi::{Habit, Handle};
+use crate::ffi::{Habit, Handle, SetHandle};
 use crate::hand::Hand;
+use crate::report::Report;
 use std::cell::Cell;
 use std::sync::atomic::{AtomicU64, Ordering};
 use std::sync::{Mutex, MutexGuard, PoisonError, TryLockError};
@@ -30,7 +32,7 @@ pub(crate) struct Shared {
     /// Tells the sets of a process apart.
     identity: u64,
     pub habit: Habit,
-    set: Mutex<Handle>,
+    set: SetHandle,
     seats: Vec<Seat>,
     /// All numbers, those that lie apart first.
     order: Vec<u32>,
@@ -72,11 +74,11 @@ fn free<T>(mutex: &Mutex<T>) -> Option<MutexGuard<'_, T>> {
 
 impl Shared {
     /// What the clones of a set with an open handle share.
-    pub fn of(set: Handle, workers: u32, habit: Habit) -> Shared {
+    pub fn of(set: SetHandle, workers: u32, habit: Habit) -> Shared {
         Shared {
             identity: IDENTITIES.fetch_add(1, Ordering::Relaxed),
             habit,
-            set: Mutex::new(set),
+            set,
             seats: (0..workers)
                 .map(|_| Seat(Mutex::new(Place::Home)))
                 .collect(),
@@ -89,7 +91,7 @@ impl Shared {
     fn seat(&self, place: &mut Place, number: u32) -> Result<(), Fault> {
         if let Place::Home = place {
             let mut handle = Handle::closed();
-            let told = locked(&self.set).take(&mut handle, number);
+            let told = self.set.take(&mut handle, number);
             if told < 0 {
                 return Err(Fault::of(told));
             }
@@ -181,8 +183,9 @@ impl Shared {
     }
 
     /// Ends the set, where no worker is with a thread: removes that have begun are finished, the
-    /// workers go home, and the set's handle, which owns the report from then on, is handed out.
-    pub fn end(&self) -> Result<Handle, Fault> {
+    /// workers go home, and the report is read. The locks of all seats keep others from the set's
+    /// handle meanwhile.
+    pub fn end(&self) -> Result<Report, Fault> {
         let mut places: Vec<_> = self.seats.iter().map(|seat| locked(&seat.0)).collect();
         if places.iter().any(|place| matches!(**place, Place::Away)) {
             return Err(Fault::Away);
@@ -193,10 +196,13 @@ impl Shared {
             }
             **place = Place::Home;
         }
-        let mut set = locked(&self.set);
-        match set.end() {
+        match self.set.end() {
             told @ ..=-1 => Err(Fault::of(told)),
-            _ => Ok(std::mem::replace(&mut *set, Handle::closed())),
+            _ => {
+                let report = Report::of(&self.set, self.workers());
+                self.set.close();
+                Ok(report)
+            }
         }
     }
 

@@ -1,4 +1,5 @@
 pub mod Seats
+pub mod Posts
 pub mod Asked
 pub mod States
 pub mod Ends

@@ -4,7 +4,7 @@ ghost use Rattle.std.specs.Arc.{arc_value};
 ghost use Rattle.nm_edge.specs.Layouts.{spaced};
 ghost use Rattle.nm_tree.specs.Closing.{IsClosed};
 ghost use Rattle.nm_tree.specs.Workers.{AreNew, HaveFit};
-ghost use Rattle.nm_set.specs.Seats.{AreOwn, BeginsWith, IsResident, IsAnyResident};
+ghost use Rattle.nm_set.specs.Seats.{AreOwn, BeginsWith, IsResident, IsAnyResident, TellsAway};
 ghost use Rattle.nm_set.specs.Ends.{EndsSet, IsLeftOpen, IsTreesReason, told_reason};
 ghost use Rattle.nm_set.specs.States.{open_set, closing_set};
 
@@ -138,6 +138,22 @@ impl Set {
         match take_any(&home) {
             Some(guest) => Ok(Member::of(home, guest)),
             None => Err(MemberFault::Away),
+        }
+    }
+
+    /// Whether `close` would miss the worker of a number, since a member has it, as its seat was found: so a program learns which member it has lost. One
+    /// that has resigned is with its heir, and one that the set keeps with the set: false.
+    ///
+    /// `Number`: the tree has no worker of that number. `Closing`: a close has gathered all.
+    pub fn is_away(&self, number: u32) -> Result<bool, MemberFault>
+        ensures { TellsAway self.now number result }
+    {
+        let State::Open(home) = &self.state else {
+            return Err(MemberFault::Closing);
+        };
+        match home.is_away(number) {
+            Some(away) => Ok(away),
+            None => Err(MemberFault::Number),
         }
     }
 

@@ -4,7 +4,7 @@ ghost use Rattle.nm_pool.specs.declared.placement.Fit.TheVariants.{Lowest, Near}
 ghost use Rattle.nm_set_c.specs.Handles.{held_by};
 ghost use Rattle.nm_set_c.specs.Handles.Hold.{Closed, Open};
 ghost use Rattle.nm_set_c.specs.Outcomes.{Tells};
-ghost use Rattle.nm_set_c.specs.Sets.{MakesSet, Gives, Keeps, TakesWorker, IsNumbered, NumberFaults, Attaches, IsAny, AnyFaults, EndsHandle, EndsOwner, GivesUp};
+ghost use Rattle.nm_set_c.specs.Sets.{MakesSet, Gives, Keeps, TakesWorker, IsNumbered, NumberFaults, Attaches, IsAny, AnyFaults, Misses, MissesOwned, EndsHandle, EndsOwner, GivesUp};
 
 use crate::handle::Handle;
 use crate::outcome::Outcome;
@@ -156,6 +156,34 @@ fn any_of(owner: &Owner) -> Result<Member, Outcome>
     match set.attach() {
         Ok(member) => Ok(member),
         Err(fault) => Err(Outcome::of_taking(fault)),
+    }
+}
+
+/// Whether a close would miss the worker of a number, since a handle has it: `Yes`, `No`: `Set::is_away` of `nm_set`. `Number`, `Closing`; `Closed`,
+/// `InUse`, `Kind`.
+#[unsafe(no_mangle)]
+pub extern "C" fn nm_set_away(alloc: Global, set: &mut Handle, number: u32) -> i32
+    ensures told { Tells (Misses number (held_by set.old)) result }
+    ensures set { held_by set.new ≡ held_by set.old }
+{
+    let owner = match set.claim_soon(alloc) {
+        Ok(owner) => owner,
+        Err(told) => return told.code(),
+    };
+    let outcome = is_away(&owner, number);
+    set.put(owner);
+    outcome.code()
+}
+
+fn is_away(owner: &Owner, number: u32) -> Outcome
+    ensures { MissesOwned number owner.now result }
+{
+    let Owner::Set(set) = owner else {
+        return Outcome::Kind;
+    };
+    match set.is_away(number) {
+        Ok(answer) => Outcome::of(answer),
+        Err(fault) => Outcome::of_taking(fault),
     }
 }
 
