@@ -47,13 +47,6 @@ def _narrow(number: SupportsIndex, outcome: int) -> int:
     return value
 
 
-def apart(workers: int) -> list[int]:
-    """The numbers below a count: those that are eight apart first, from 7 on, since their
-    announcements stand in different cache lines, and each next series as far from the ones before
-    as can be."""
-    return [number for first in (7, 3, 5, 1, 6, 2, 4, 0) for number in range(first, workers, 8)]
-
-
 @dataclass(frozen=True)
 class Tending:
     """What a call that tends the set may spend."""
@@ -216,7 +209,7 @@ class Set:
         self,
         nodes: SupportsIndex,
         *,
-        workers: SupportsIndex = 61,
+        workers: SupportsIndex = 64,
         lowest: bool = False,
         tending: Tending = Tending(),
     ) -> None:
@@ -230,7 +223,7 @@ class Set:
         self._habit = c.HabitWords(tending.tries, tending.rounds, tending.collect_after)
         self._lost: deque[tuple[_Hand, int]] = deque()
         self._seats = [_Seat() for _ in range(count)]
-        self._order = apart(count)
+        self._numbers = range(count)
         self._last = threading.local()
         self._report: Optional[Report] = None
 
@@ -252,7 +245,7 @@ class Set:
         self._find()
         for _ in range(_SEARCHES):
             is_one_locked = False
-            for number in self._order if asked is None else [asked, *self._order]:
+            for number in self._numbers if asked is None else [asked, *self._numbers]:
                 lock = self._seats[number].lock
                 if not lock.acquire(blocking=False):
                     is_one_locked = True
@@ -323,7 +316,7 @@ class Set:
         return self._with_any(self._relieve)
 
     def attach(self) -> Worker:
-        """Takes a worker that nobody uses, for this thread; numbers that lie apart come first. It
+        """Takes a worker that nobody uses, for this thread; the least number comes first. It
         goes back by its `close`."""
         taken = self._taken(self._free_seat(None))
         assert taken is not None

@@ -130,10 +130,10 @@ class Workers(unittest.TestCase):
             worker._hand.word.in_use = 0
             self.assertTrue(worker.add(5))
 
-    def test_numbers_that_lie_apart_come_first(self) -> None:
+    def test_the_least_number_comes_first(self) -> None:
         numbers = Set(64, workers=37)
         workers = [numbers.attach() for _ in range(37)]
-        self.assertEqual([worker.number for worker in workers[:5]], [7, 15, 23, 31, 3])
+        self.assertEqual([worker.number for worker in workers[:5]], [0, 1, 2, 3, 4])
         self.assertEqual(sorted(worker.number for worker in workers), list(range(37)))
 
 

@@ -49,12 +49,12 @@ pub struct Options {
 }
 
 impl Options {
-    /// So many nodes, for 61 workers, with slots near by; 64 tries, 64 rounds, and a collection
+    /// So many nodes, for 64 workers, with slots near by; 64 tries, 64 rounds, and a collection
     /// from 64 waiting nodes on.
     pub fn new(nodes: u32) -> Options {
         Options {
             nodes,
-            workers: 61,
+            workers: 64,
             placement: Placement::Near,
             tries: 64,
             rounds: 64,
@@ -128,7 +128,7 @@ impl Set {
         Options::new(nodes).open()
     }
 
-    /// Takes a worker that nobody uses, for this thread; numbers that lie apart come first.
+    /// Takes a worker that nobody uses, for this thread; the least number comes first.
     /// `NoWorker`, `NoMemory`, `Closed`.
     pub fn attach(&self) -> Result<Worker, Fault> {
         let (hand, number) = self.0.take_any()?;

@@ -34,8 +34,6 @@ pub(crate) struct Shared {
     pub habit: Habit,
     set: SetHandle,
     seats: Vec<Seat>,
-    /// All numbers, those that lie apart first.
-    order: Vec<u32>,
 }
 
 /// How often a thread looks for a free seat while others are locked, before it tells that there is
@@ -47,16 +45,6 @@ static IDENTITIES: AtomicU64 = AtomicU64::new(1);
 thread_local! {
     /// The set that this thread used last without a worker of its own, and on which seat.
     static LAST: Cell<(u64, u32)> = const { Cell::new((0, 0)) };
-}
-
-/// The numbers below a count: those that are eight apart first, from 7 on, and each next series as
-/// far from the ones before as can be. Announcements of workers that are eight apart stand in
-/// different cache lines, and from 7 on in others than the epoch.
-fn apart(workers: u32) -> Vec<u32> {
-    [7, 3, 5, 1, 6, 2, 4, 0]
-        .into_iter()
-        .flat_map(|first| (first..workers).step_by(8))
-        .collect()
 }
 
 /// No code panics while it holds one of these locks, so a poisoned one is as good.
@@ -82,7 +70,6 @@ impl Shared {
             seats: (0..workers)
                 .map(|_| Seat(Mutex::new(Place::Home)))
                 .collect(),
-            order: apart(workers),
         }
     }
 
@@ -111,7 +98,7 @@ impl Shared {
     fn free_seat(&self, asked: Option<u32>) -> Result<(MutexGuard<'_, Place>, u32), Fault> {
         for _ in 0..SEARCHES {
             let mut is_one_locked = false;
-            for number in asked.into_iter().chain(self.order.iter().copied()) {
+            for number in asked.into_iter().chain(0..self.workers()) {
                 let Some(mut place) = free(&self.seats[number as usize].0) else {
                     is_one_locked = true;
                     continue;
@@ -208,23 +195,6 @@ impl Shared {
 
     /// How many workers the set has.
     pub fn workers(&self) -> u32 {
-        self.order.len() as u32
-    }
-}
-
-#[cfg(test)]
-mod tests {
-    use super::apart;
-
-    #[test]
-    fn numbers_that_lie_apart_come_first() {
-        assert_eq!(apart(37)[..5], [7, 15, 23, 31, 3]);
-        assert_eq!(apart(4), [3, 1, 2, 0]);
-        assert_eq!(apart(1), [0]);
-        for workers in 1..=64 {
-            let mut numbers = apart(workers);
-            numbers.sort_unstable();
-            assert_eq!(numbers, (0..workers).collect::<Vec<_>>());
-        }
+        self.seats.len() as u32
     }
 }
