@@ -1,37 +1,22 @@
 -- At a tree's end nobody has a slot in hands, and the one that stands for all holds what the run's end tells.
-use Rattle.std.proofs.Common.{◌≡◌, ◌≢◌, ℕ, zero, suc, ◌+◌, ◌<◌, ◌≤◌, inl, inr, true, false, List, [], ◌∷◌, map, length, refl, sym, ap, ◌∙◌, subst, arith}
-use Rattle.std.specs.Prelude.{Option, Some, None, option_map, slice_get}
-use Rattle.std.proofs.lemmas.Bool.{cases_eq, cases_lt}
+use Rattle.std.proofs.Common.{◌≡◌, ℕ, inl, inr, true, false, List, length, refl, sym, ap, ◌∙◌}
+use Rattle.std.specs.Prelude.{Some, slice_get}
+use Rattle.std.proofs.lemmas.Bool.{cases_lt}
 use Rattle.std.proofs.lemmas.List.{get_or_past, nil_from_length}
-use Rattle.std.proofs.lemmas.List.Sums.{sum_by-cons}
-use Rattle.std.proofs.lemmas.Option.{none-some, same_Some, slice_get-get_or, slice_get-map, slice_get_within}
+use Rattle.std.proofs.lemmas.Option.{slice_get-get_or}
 use Rattle.nm_edge.specs.Layouts.{Layout}
-use Rattle.nm_model.specs.declared.ledger.Ledger.{Ledger}
-use Rattle.nm_model.specs.declared.ledger.Queued.{Queued}
 use Rattle.nm_model.specs.declared.knowledge.Draft.{Draft}
 use Rattle.nm_model.specs.Knowledge.{Knowledge, newcomer, is_private}
-use Rattle.nm_model.specs.Ledgers.{held, queue_of}
 use Rattle.nm_model.specs.Maps.{has}
 use Rattle.nm_model.specs.Ordered.{ordered, trace_in}
-use Rattle.nm_model.specs.Places.{Place, StandsAt, OnePlace, EachSlotInOnePlace, slot_of}
-use Rattle.nm_model.specs.Places.Place.{InPool, PrivateTo, OnPath as ByPath, InQueue}
-use Rattle.nm_model.specs.Reports.{in_queues}
 use Rattle.nm_model.specs.Runs.{State, of}
-use Rattle.nm_laws.proofs.Opening.{new_queue}
-use Rattle.nm_laws.proofs.OnePlace.{each_slot_has_one_place}
 use Rattle.nm_report.specs.Ended.{IsEndOf, end_of}
-use Rattle.nm_report.proofs.Ends.{holds, layout_is}
 use Rattle.nm_steps.specs.declared.view.View.{View}
 use Rattle.nm_steps.specs.Rules.{knowledge, IsShown}
-use Rattle.nm_epoch.specs.declared.collecting.Entry.{Entry}
-use Rattle.nm_epoch.specs.declared.collecting.HeldQueue.{HeldQueue}
-use Rattle.nm_epoch.specs.Collecting.{AreHeld, queued}
 use Rattle.nm_tree.specs.declared.worker.Account.{Account}
-use Rattle.nm_tree.specs.Closing.{AreFrom, EndPlace, EndsAt, EndsOnce}
-use Rattle.nm_tree.specs.Closing.EndPlace.{Free, OnPath, Waiting}
+use Rattle.nm_tree.specs.Closing.{AreFrom}
 use Rattle.nm_tree.specs.Workers.{Hand, IsWorker}
-use Rattle.nm_tree.proofs.EndCounts.{are, here, inside, worker_at, there, own, no_drafts, none_waits}
-use Rattle.nm_tree.proofs.Heirs.{ledgers_long}
+use Rattle.nm_tree.proofs.EndCounts.{here, inside, worker_at, there, own, no_drafts}
 
 undrafted : (k : Knowledge) (x : ℕ) → length k.drafts ≡ 0 → is_private k x ≡ true → ⊥
 undrafted k x none' is = not_true (sym (ap (λ (ds : List (ℕ × Draft)). has ds x) (nil_from_length k.drafts none')) ∙ is)

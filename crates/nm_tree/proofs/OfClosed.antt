@@ -1,11 +1,10 @@
 -- What follows of each closed tree: its queues are the rest of the cuts, each slot stands once, and its run is as every run.
-use Rattle.std.proofs.Common.{◌≡◌, ℕ, zero, suc, ◌<◌, ◌≤◌, inl, inr, true, List, [], ◌∷◌, ◌++◌, map, length, append-nil, refl, sym, ap, ◌∙◌, subst, arith, true≢false}
-use Rattle.std.specs.Prelude.{Option, Some, None, option_map, slice_get}
+use Rattle.std.proofs.Common.{◌≡◌, ℕ, zero, suc, ◌<◌, ◌≤◌, inl, inr, true, List, [], ◌∷◌, ◌++◌, map, length, append-nil, refl, sym, ap, ◌∙◌, arith, true≢false}
+use Rattle.std.specs.Prelude.{Some, option_map, slice_get}
 use Rattle.std.proofs.lemmas.Bool.{cases_lt}
-use Rattle.std.proofs.lemmas.Option.{none-some, same_Some, slice_get-map, slice_get-get_or, slice_get_within}
+use Rattle.std.proofs.lemmas.Option.{none-some, same_Some}
 use Rattle.nm_edge.specs.declared.node.NodeId.{NodeId}
-use Rattle.nm_model.specs.declared.trace.Turn.{Turn}
-use Rattle.nm_model.specs.Headline.{StandsAt, OnePlace, Place, waits_of, freed_of, words_after}
+use Rattle.nm_model.specs.Headline.{StandsAt, Place, waits_of, freed_of, words_after}
 use Rattle.nm_model.specs.Headline.Place.{InPool, InHands, OnPath as ByPath, Waits}
 use Rattle.nm_order.specs.History.{HasHistory}
 use Rattle.nm_order.specs.Totals.{TotalsAgree}
