@@ -9,6 +9,7 @@ mod closing;
 mod epochs;
 mod fault;
 mod lookup;
+mod many;
 mod notes;
 mod resigning;
 mod running;
@@ -17,6 +18,7 @@ mod worker;
 
 pub use closing::{CloseError, CloseReason, Report, closed_trees_are_accounted_for};
 pub use fault::{Fault, PinFault};
+pub use nm_calls::Query;
 pub use nm_epoch::{Advance, Behind, Collected, Entry, HeldQueue};
 pub use nm_model::NewError;
 pub use nm_pool::Fit;
