@@ -378,9 +378,7 @@ fn delete_pinned(
         }
         Injection::Flagged(end, birth, left) => {
             let leaf = leaf_at(&end, birth);
-            match remove_after(
-                shared, pass, key, &end, birth, left, chain, queue, splices,
-            ) {
+            match remove_after(shared, pass, key, &end, birth, left, chain, queue, splices) {
                 Removal::Removed => {
                     answer(shared, pass, true);
                     Ok(true)
@@ -478,16 +476,7 @@ pub fn finish(
     ensures few { length queue.new.items ≤ shared.now.layout.nodes }
     ensures counted { splices.new ≡ capped (won_splices pass.new.view.log) }
 {
-    match remove(
-        shared,
-        pass,
-        key.get(),
-        leaf,
-        tries,
-        chain,
-        queue,
-        splices,
-    ) {
+    match remove(shared, pass, key.get(), leaf, tries, chain, queue, splices) {
         Removal::Removed => {
             answer(shared, pass, true);
             true

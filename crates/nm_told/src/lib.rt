@@ -15,7 +15,7 @@ mod sets;
 mod threads;
 mod trees;
 
-use nm_calls::{Chain, Busy, has, insert};
+use nm_calls::{Busy, Chain, has, insert};
 use nm_edge::Key;
 use nm_epoch::Entry;
 use nm_limbo::BlockQueue;

@@ -79,5 +79,5 @@ module _ (L : Layout) (words : List ℕ) (e : IsEndOf L words) (w : Hand) (xs : 
   settles rest =
       let told : TellNoFlag (logs w.pass.view) = subst (λ (v : View). TellNoFlag (logs v)) (sym stands) (tell ws some rest) in
       nothing_pends L (enough_nodes L e.fits) e.turns e.keys (λ u less.
-        one_tells w.pass.view.layout L (trace_in (ordered L) e.turns) (logs w.pass.view) (are L words e w xs home r c is is_shown each all) told u
-        (there L words e w xs home r c is is_shown each all u less))
+      one_tells w.pass.view.layout L (trace_in (ordered L) e.turns) (logs w.pass.view) (are L words e w xs home r c is is_shown each all) told u
+      (there L words e w xs home r c is is_shown each all u less))

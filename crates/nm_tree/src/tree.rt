@@ -67,7 +67,12 @@ impl Tree {
     /// The same as `near` or, with `Fit::Lowest`, as `new`, but each announcement has a cache line of its own, and no node lies in two lines, so that
     /// workers in threads of their own disturb each other less; and there may be more nodes, 7 to 268,435,456. It takes 32 bytes a node and a bit, 64 a
     /// worker, the same again while it is made, and time for each node.
-    pub fn spaced(alloc: Global, nodes: u32, workers: u32, fit: Fit) -> Result<(Tree, Vec<Worker>), NewError>
+    pub fn spaced(
+        alloc: Global,
+        nodes: u32,
+        workers: u32,
+        fit: Fit,
+    ) -> Result<(Tree, Vec<Worker>), NewError>
         ensures layout { IfOk result (λ r. r.0.layout ≡ spaced nodes workers) }
         ensures count { IfOk result (λ r. length r.1.items ≡ workers) }
         ensures new { IfOk result (λ r. AreNew r.0 0 r.1.items) }
