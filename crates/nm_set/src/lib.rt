@@ -17,7 +17,7 @@ pub use fault::{CloseReason, Fault, MemberFault, NotHeld, PinFault, ResignReason
 pub use member::{Member, ResignError};
 pub use nm_tree::{
     Advance, Behind, Collected, Counts, Entry, Fault as CallFault, HeldQueue, NewError,
-    PinFault as CallPinFault, Report,
+    PinFault as CallPinFault, Query, Report,
 };
 pub use set::{CloseError, KeepError, Set};
 pub use tended::Habit;
