@@ -18,7 +18,7 @@ pub use fault::{CloseReason, Fault, MemberFault, NotHeld, PinFault, PostFault, R
 pub use member::{Member, ResignError};
 pub use nm_tree::{
     Advance, Behind, Collected, Counts, Entry, Fault as CallFault, HeldQueue, NewError,
-    PinFault as CallPinFault, Report,
+    PinFault as CallPinFault, Query, Report,
 };
 pub use posting::Posted;
 pub use set::{CloseError, KeepError, Set};

@@ -10,6 +10,7 @@ ghost use Rattle.nm_tree.specs.Running.{HasSeenTurns};
 ghost use Rattle.nm_tree.specs.Workers.{Hand, IsBetweenCalls, IsLedger, waiting_in};
 ghost use Rattle.nm_tree.specs.declared.worker.Unfinished.{Unfinished as Delete};
 ghost use Rattle.nm_set.specs.Asked.{Asked, AskedToPin, AskedToUnpin, LeavesHas, LeavesInsert, LeavesDelete, LeavesFinish, LeavesAdvance, LeavesBehind, LeavesCollect};
+ghost use Rattle.nm_set.specs.InTurns.{AskedMany};
 ghost use Rattle.nm_set.specs.Posts.{HasTally, Reads};
 ghost use Rattle.nm_set.specs.Seats.{IsOwn, IsResident, IsStaying, told_absence, told_staying};
 
@@ -19,7 +20,7 @@ use crate::posting::{Posted, leave_letter, read_letter};
 use crate::seat::{Guest, Stay, unite};
 use nm_edge::Key;
 use nm_steps::Note;
-use nm_tree::{Advance, Behind, Collected, Counts, Worker};
+use nm_tree::{Advance, Behind, Collected, Counts, Query, Worker};
 use std::alloc::Global;
 use std::marker::Model;
 use std::sync::Arc;
@@ -90,6 +91,26 @@ impl Member {
         }
         match self.home.tree().has(&mut self.guest.worker, key, tries) {
             Ok(answer) => Ok(answer),
+            Err(fault) => Err(Fault::Call(fault)),
+        }
+    }
+
+    /// Whether the set has each of these keys, which their `found` tells then: `Tree::has_many` of `nm_tree`.
+    ///
+    /// `Held`: the caller holds the worker. Other faults are the tree's.
+    pub fn has_many(&mut self, queries: &mut [Query], tries: u32) -> Result<(), Fault>
+        ensures board { self.new.board ≡ self.old.board }
+        ensures did { AskedMany self.old.board.layout.nodes tries queries.old queries.new self.old.hand self.new.hand result }
+    {
+        if self.guest.worker.held().is_some() {
+            return Err(Fault::Held);
+        }
+        match self
+            .home
+            .tree()
+            .has_many(&mut self.guest.worker, queries, tries)
+        {
+            Ok(()) => Ok(()),
             Err(fault) => Err(Fault::Call(fault)),
         }
     }
