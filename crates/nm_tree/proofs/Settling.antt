@@ -5,7 +5,7 @@ use Rattle.nm_edge.specs.Layouts.{Layout}
 use Rattle.nm_edge.specs.declared.node.NodeId.{NodeId}
 use Rattle.nm_model.specs.declared.trace.Turn.{Turn}
 use Rattle.nm_model.specs.Ordered.{ordered, trace_in}
-use Rattle.nm_model.specs.Searches.{Search, idle}
+use Rattle.nm_model.specs.Searches.{Search, idle, searched}
 use Rattle.nm_model.specs.Walks.{Entry, search_after}
 use Rattle.nm_order.specs.Logs.{part_of}
 use Rattle.nm_order.specs.Totals.{NothingIsPending}
@@ -28,6 +28,7 @@ use Rattle.nm_tree.proofs.Heirs.{logs}
 
 -- a join tells of none
 with_join : (log : List Entry) (w : View) → (search_after idle log).flagged ≡ None → (search_after idle (log ++ passing w ∷ [])).flagged ≡ None
+unfolding searched
 with_join log w none = ap (λ (s : Search). s.flagged) (search_more idle log (passing w)) ∙ none
 
 both_tell : (hs gs : List Held) → TellNoFlag hs → TellNoFlag gs → TellNoFlag (hs ++ gs)
@@ -40,10 +41,11 @@ joined_tell v w first second =
 
 -- the log of a worker of that number tells of none
 one_tells : (l L : Layout) (t : List Turn) (hs : List Held) → LogsAre l L t hs → TellNoFlag hs → (u : ℕ) → HasNumber u hs → (search_after idle (part_of u t)).flagged ≡ None
-one_tells l L t (h ∷ hs) are none u (inl at) =
+one_tells l L t [] shown none u has = elim has [ ]
+one_tells l L t (h ∷ hs) shown none u (inl at) =
     let P : List Entry → Type 0 = λ log. (search_after idle log).flagged ≡ None in
-    subst P (are.1 ∙ ap (λ (n : ℕ). part_of n t) at) none.0
-one_tells l L t (h ∷ hs) are none u (inr has) = one_tells l L t hs are.2 none.1 u has
+    subst P (shown.1 ∙ ap (λ (n : ℕ). part_of n t) at) none.0
+one_tells l L t (h ∷ hs) shown none u (inr has) = one_tells l L t hs shown.2 none.1 u has
 
 -- ---- workers with nothing pending
 
