@@ -5,4 +5,5 @@ pub mod Outcomes
 pub mod Owners
 pub mod Sets
 pub mod Workers
+pub mod Lookups
 pub mod Reports

@@ -12,6 +12,7 @@
 mod epochs;
 mod handle;
 mod keys;
+mod many;
 mod outcome;
 mod owner;
 mod place;
