@@ -36,6 +36,7 @@
 #ifndef NM_SET_H
 #define NM_SET_H
 
+#include <stddef.h>
 #include <stdint.h>
 
 /* The version of this header, as text and in three numbers. */
@@ -130,6 +131,12 @@ typedef struct nm_ledger {
     uint64_t queued;   /* those of them that wait */
 } nm_ledger;
 
+/* A key that nm_worker_has_many looks up beside others. */
+typedef struct nm_lookup {
+    uint64_t key;    /* 0 to 2^64 - 4 */
+    uint64_t found;  /* 1 where the set had the key, else 0 */
+} nm_lookup;
+
 /* What a call that tends the set may spend, and when it collects. */
 typedef struct nm_habit {
     uint32_t tries;          /* the tries of each call of the tree; with fewer than 2 no remove is done at once */
@@ -205,6 +212,13 @@ nm_outcome nm_drop(nm_handle *handle);
 /* Whether the set has the key. NM_YES, NM_NO; NM_KEY, NM_BUSY, NM_PENDING, NM_HELD. It takes no
  * memory. */
 nm_outcome nm_worker_has(nm_handle *worker, uint64_t key, uint32_t tries);
+
+/* Whether the set has each of so many keys, one behind the other in memory: NM_DONE, and the found of
+ * each is written. Each answer was right at a moment of this call, two of them perhaps at different
+ * ones. The searches go on in turns, so that the loads of one go on while the others wait for theirs:
+ * some eight to sixty-four keys a call are best. lookups is not null, also where count is 0. NM_KEY:
+ * one of the numbers is no key. NM_BUSY, NM_PENDING, NM_HELD, NM_NO_MEMORY: no found is written. */
+nm_outcome nm_worker_has_many(nm_handle *worker, nm_lookup *lookups, size_t count, uint32_t tries);
 
 /* Inserts a key: NM_YES where it was not in the set, NM_NO where it was. NM_KEY, NM_BUSY, NM_FULL, NM_PENDING, NM_HELD, NM_NO_MEMORY. */
 nm_outcome nm_worker_insert(nm_handle *worker, uint64_t key, uint32_t tries);

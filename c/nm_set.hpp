@@ -122,6 +122,17 @@ public:
         return nm_worker_has(&handle_, key, most);
     }
 
+    // Writes of each of these whether the set has its key.
+    void has_many(std::vector<nm_lookup> &lookups, std::uint32_t most = tries) {
+        detail::answered(try_has_many(lookups, most));
+    }
+
+    [[nodiscard]] nm_outcome try_has_many(std::vector<nm_lookup> &lookups,
+                                          std::uint32_t most = tries) noexcept {
+        nm_lookup none{};
+        return nm_worker_has_many(&handle_, lookups.empty() ? &none : lookups.data(), lookups.size(), most);
+    }
+
     // Whether the key was not in the set. It is now.
     bool insert(std::uint64_t key, std::uint32_t most = tries) {
         return detail::answered(try_insert(key, most));

@@ -9,7 +9,9 @@ enum { TRIES = 64, NOT_WRITTEN = 77 };
 
 /* What any call for a key tells. */
 static void each_tells(nm_handle *worker, uint64_t key, nm_outcome wanted) {
+    nm_lookup lookup = {key, NOT_WRITTEN};
     CHECK(nm_worker_has(worker, key, TRIES) == wanted);
+    CHECK(nm_worker_has_many(worker, &lookup, 1, TRIES) == wanted && lookup.key == key && lookup.found == NOT_WRITTEN);
     CHECK(nm_worker_insert(worker, key, TRIES) == wanted);
     CHECK(nm_worker_delete(worker, key, TRIES) == wanted);
 }
@@ -81,6 +83,10 @@ static void answers(void) {
     CHECK(nm_worker_has(&worker, 5, 0) == NM_BUSY && nm_worker_has(&worker, 5, TRIES) == NM_NO);
     CHECK(nm_worker_insert(&worker, 5, TRIES) == NM_YES && nm_worker_insert(&worker, 5, TRIES) == NM_NO);
     CHECK(nm_worker_has(&worker, 5, TRIES) == NM_YES && nm_worker_insert(&worker, 6, TRIES) == NM_FULL);
+    nm_lookup lookups[3] = {{6, NOT_WRITTEN}, {5, NOT_WRITTEN}, {4, NOT_WRITTEN}};
+    CHECK(nm_worker_has_many(&worker, lookups, 3, 0) == NM_BUSY && lookups[1].found == NOT_WRITTEN);
+    CHECK(nm_worker_has_many(&worker, lookups, 3, TRIES) == NM_DONE && nm_worker_has_many(&worker, lookups, 0, TRIES) == NM_DONE);
+    CHECK(lookups[0].found == 0 && lookups[1].found == 1 && lookups[2].found == 0 && lookups[1].key == 5);
     CHECK(nm_worker_delete(&worker, 6, TRIES) == NM_NO && nm_worker_finish(&worker, TRIES) == NM_NO);
     uint64_t key = NOT_WRITTEN;
     CHECK(nm_worker_pending(&worker, &key) == NM_NO && key == NOT_WRITTEN);

@@ -6,4 +6,5 @@ pub mod Owners
 pub mod Sets
 pub mod Workers
 pub mod Notes
+pub mod Lookups
 pub mod Reports

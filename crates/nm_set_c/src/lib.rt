@@ -12,6 +12,7 @@
 mod epochs;
 mod handle;
 mod keys;
+mod many;
 mod notes;
 mod outcome;
 mod owner;
