@@ -18,7 +18,6 @@ use Rattle.nm_set.specs.contracts.seat.Resident as resident
 use Rattle.nm_set.proofs.seat.Resident.TheSendSync as resident_crosses
 use Rattle.nm_set.specs.contracts.posting.Letter as letter
 use Rattle.nm_set.proofs.posting.Letter.TheSendSync as letter_crosses
-use Rattle.nm_set.proofs.seat.Seat.TheSendSync as seats
 use Rattle.nm_set.specs.contracts.home.Home as home
 use Rattle.nm_set.proofs.home.Home.TheSendSync as home_crosses
 use Rattle.nm_set.specs.contracts.member.Member as member
