@@ -52,7 +52,7 @@ static void is_refused(nm_handle *handle, nm_outcome worker, nm_outcome report) 
 
 static void sizes(void) {
     nm_handle set = NM_CLOSED_HANDLE;
-    CHECK(nm_set_lowest(&set, 6, 1) == NM_NODES && nm_set_near(&set, 1048577, 65) == NM_NODES);
+    CHECK(nm_set_lowest(&set, 6, 1) == NM_NODES && nm_set_near(&set, 268435457, 65) == NM_NODES);
     CHECK(nm_set_lowest(&set, 7, 0) == NM_WORKERS && nm_set_near(&set, 7, 65) == NM_WORKERS);
     CHECK(nm_set_near(&set, 1048577, 64) == NM_DONE && nm_set_lowest(&set, 7, 1) == NM_OPEN && nm_set_near(&set, 7, 1) == NM_OPEN);
     CHECK(nm_drop(&set) == NM_DONE && nm_drop(&set) == NM_CLOSED && set.at == NULL);

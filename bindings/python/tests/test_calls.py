@@ -10,7 +10,7 @@ from nm_set import MOST_KEY, Set, Tending
 
 class Sizes(unittest.TestCase):
     def test_sizes_are_told(self) -> None:
-        wrong_nodes = [(6, 1), (1_048_577, 1), (-1, 1), (2**64, 1)]
+        wrong_nodes = [(6, 1), (268_435_457, 1), (-1, 1), (2**64, 1)]
         for nodes, workers in [*wrong_nodes, (7, 0), (7, 65), (7, 2**32 + 1)]:
             with self.assertRaises(nm_set.OutOfRange):
                 Set(nodes, workers=workers)
@@ -84,7 +84,7 @@ class Workers(unittest.TestCase):
     def test_workers_are_given_out_once(self) -> None:
         numbers = Set(64, workers=2)
         first, second = numbers.attach(), numbers.attach()
-        self.assertEqual((first.number, second.number), (1, 0))
+        self.assertEqual((first.number, second.number), (0, 1))
         for number in (0, 1):
             with self.assertRaises(nm_set.Away):
                 numbers.worker(number)
@@ -98,7 +98,7 @@ class Workers(unittest.TestCase):
         second.close()
         second.close()
         self.assertTrue(numbers.add(5))
-        self.assertEqual(numbers.attach().number, 0)
+        self.assertEqual(numbers.attach().number, 1)
 
     def test_a_worker_whose_object_ends_goes_back(self) -> None:
         numbers = Set(64, workers=1)
