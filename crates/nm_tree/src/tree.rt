@@ -45,7 +45,7 @@ impl Tree {
         ensures nodes { IsErrOf result NewError.Nodes ↔ ((nodes < LEAST_NODES) ⊎ (MOST_NODES < nodes)) }
         ensures workers { IsErrOf result NewError.Workers ↔ ((LEAST_NODES ≤ nodes) × (nodes ≤ MOST_NODES) × ((workers < 1) ⊎ (MOST_WORKERS < workers))) }
     {
-        tree_of(alloc, layout_of(nodes, workers)?, Fit::Lowest)
+        Tree::of(alloc, layout_of(nodes, workers)?, Fit::Lowest)
     }
 
     /// The same, but a worker looks for a free slot first among the last four that it gave back, and then from its cursor upwards, and round. So
@@ -61,7 +61,7 @@ impl Tree {
         ensures nodes { IsErrOf result NewError.Nodes ↔ ((nodes < LEAST_NODES) ⊎ (MOST_NODES < nodes)) }
         ensures workers { IsErrOf result NewError.Workers ↔ ((LEAST_NODES ≤ nodes) × (nodes ≤ MOST_NODES) × ((workers < 1) ⊎ (MOST_WORKERS < workers))) }
     {
-        tree_of(alloc, layout_of(nodes, workers)?, Fit::Near)
+        Tree::of(alloc, layout_of(nodes, workers)?, Fit::Near)
     }
 
     /// The same as `near` or, with `Fit::Lowest`, as `new`, but each announcement has a cache line of its own, and no node lies in two lines, so that
@@ -81,23 +81,24 @@ impl Tree {
         ensures nodes { IsErrOf result NewError.Nodes ↔ ((nodes < LEAST_NODES) ⊎ (MOST_SPACED_NODES < nodes)) }
         ensures workers { IsErrOf result NewError.Workers ↔ ((LEAST_NODES ≤ nodes) × (nodes ≤ MOST_SPACED_NODES) × ((workers < 1) ⊎ (MOST_WORKERS < workers))) }
     {
-        tree_of(alloc, spaced_layout_of(nodes, workers)?, fit)
+        Tree::of(alloc, spaced_layout_of(nodes, workers)?, fit)
     }
-}
 
-/// The empty set and its workers, which claim by one fit. Cursors begin at equal distances.
-fn tree_of(alloc: Global, layout: Layout, fit: Fit) -> Result<(Tree, Vec<Worker>), NewError>
-    ensures layout { IfOk result (λ r. r.0.layout ≡ layout) }
-    ensures count { IfOk result (λ r. length r.1.items ≡ layout.workers) }
-    ensures new { IfOk result (λ r. AreNew r.0 0 r.1.items) }
-    ensures fit { IfOk result (λ r. HaveFit fit r.1.items) }
-    ensures ready { IfOk result (λ r. All (IsReady r.0) r.1.items) }
-    ensures memory { IfErr result (λ e. e ≡ NewError.NoMemory) }
-{
-    let (shared, passes) = Shared::new(alloc, layout)?;
-    let share = layout.nodes() / layout.workers().max(1);
-    let made = workers_of(alloc, passes, fit, share)?;
-    Ok((Tree { shared }, made))
+    /// The empty set of a layout and its workers, which claim by that fit. The only error is `NoMemory`, and then nothing is kept.
+    pub fn of(alloc: Global, layout: Layout, fit: Fit) -> Result<(Tree, Vec<Worker>), NewError>
+        ensures layout { IfOk result (λ r. r.0.layout ≡ layout) }
+        ensures count { IfOk result (λ r. length r.1.items ≡ layout.workers) }
+        ensures new { IfOk result (λ r. AreNew r.0 0 r.1.items) }
+        ensures fit { IfOk result (λ r. HaveFit fit r.1.items) }
+        ensures ready { IfOk result (λ r. All (IsReady r.0) r.1.items) }
+        ensures memory { IfErr result (λ e. e ≡ NewError.NoMemory) }
+    {
+        let (shared, passes) = Shared::new(alloc, layout)?;
+        // Cursors begin at equal distances.
+        let share = layout.nodes() / layout.workers().max(1);
+        let made = workers_of(alloc, passes, fit, share)?;
+        Ok((Tree { shared }, made))
+    }
 }
 
 /// A worker of a pass that has done nothing yet, with room for the queues of all origins. Its cursor stands behind a share of the slots for each lesser number.
