@@ -36,6 +36,7 @@
 #ifndef NM_SET_H
 #define NM_SET_H
 
+#include <stddef.h>
 #include <stdint.h>
 
 /* The version of this header, as text and in three numbers. */
@@ -58,7 +59,7 @@ typedef enum nm_outcome {
     NM_KIND = -3,         /* the handle owns something of another kind */
     NM_KEY = -4,          /* the key is above 2^64 - 4 */
     NM_NUMBER = -5,       /* there is nothing of that number */
-    NM_NODES = -6,        /* the number of nodes is not 7 to 1,048,576 */
+    NM_NODES = -6,        /* the number of nodes is not 7 to 268,435,456 */
     NM_WORKERS = -7,      /* the number of workers is not 1 to 64 */
     NM_NO_MEMORY = -8,    /* memory was refused */
     NM_BUSY = -9,         /* each try was lost, or there might be none: nothing of the call stands but help given to others; call again */
@@ -91,7 +92,7 @@ static inline const char *nm_outcome_text(nm_outcome outcome) {
     case NM_KIND: return "the handle owns something of another kind";
     case NM_KEY: return "the key is above 2^64 - 4";
     case NM_NUMBER: return "there is nothing of that number";
-    case NM_NODES: return "the number of nodes is not 7 to 1,048,576";
+    case NM_NODES: return "the number of nodes is not 7 to 268,435,456";
     case NM_WORKERS: return "the number of workers is not 1 to 64";
     case NM_NO_MEMORY: return "memory was refused";
     case NM_BUSY: return "each try was lost";
@@ -130,6 +131,12 @@ typedef struct nm_ledger {
     uint64_t queued;   /* those of them that wait */
 } nm_ledger;
 
+/* A key that nm_worker_has_many looks up beside others. */
+typedef struct nm_lookup {
+    uint64_t key;    /* 0 to 2^64 - 4 */
+    uint64_t found;  /* 1 where the set had the key, else 0 */
+} nm_lookup;
+
 /* What a call that tends the set may spend, and when it collects. */
 typedef struct nm_habit {
     uint32_t tries;          /* the tries of each call of the tree; with fewer than 2 no remove is done at once */
@@ -158,32 +165,42 @@ nm_outcome nm_set_version(uint32_t *major, uint32_t *minor, uint32_t *patch);
 /* ---- a set ----
  * Of a closed handle these tell NM_CLOSED, and of one that owns something else NM_KIND. */
 
-/* Makes the empty set, in a tree with room for 7 to 1,048,576 nodes, for 1 to 64 workers. n keys take 2 n + 5 nodes, and a node that was removed is
- * free again only after two moves of the epoch. A new node takes the lowest free slot, which takes long where there are many.
- * NM_DONE, and the handle owns the set; NM_OPEN, NM_NODES, NM_WORKERS, NM_NO_MEMORY. */
+/* Makes the empty set, in a tree with room for 7 to 268,435,456 nodes, for 1 to 64 workers. n keys
+ * take 2 n + 5 nodes, and a node that was removed is free again only after two moves of the epoch.
+ * A node takes 32 bytes and a bit, twice as much while the set is made, which takes time for each
+ * node; a worker takes 64, so that what it announces lies in a cache line of its own. A new node
+ * takes the lowest free slot, which takes long where there are many. NM_DONE, and the handle owns
+ * the set; NM_OPEN, NM_NODES, NM_WORKERS, NM_NO_MEMORY. */
 nm_outcome nm_set_lowest(nm_handle *set, uint32_t nodes, uint32_t workers);
 
-/* The same, but each worker looks for a free slot near those that it took and gave back last: the one to take where nobody compares slots. Give it
- * several times the nodes that the keys take. */
+/* The same, but each worker looks for a free slot near those that it took and gave back last: the one
+ * to take where nobody compares slots. Give it twice the nodes that the keys take, and two for each
+ * key that all workers delete within the longest stall of a thread, since what is removed meanwhile
+ * waits for it. */
 nm_outcome nm_set_near(nm_handle *set, uint32_t nodes, uint32_t workers);
 
-/* Takes the worker of a number, with all that it held when it went home. Threads that are busy at
- * the same time are best given numbers eight apart, from 7 on: 7, 15, 23 and so on. Of a set for
- * 29, 37 or 61 workers, one more than a multiple of four, the nodes lie best in cache lines. Several
+/* Takes the worker of a number, with all that it held when it went home. Handles of threads that are
+ * busy at the same time are best kept 64 bytes apart, since each call writes its handle. Several
  * threads may make this call with one handle of a set at once. NM_DONE, and the worker's handle,
  * which must be closed, owns the worker; NM_OPEN (of the worker's handle), NM_NUMBER, NM_AWAY,
  * NM_CLOSING, NM_NO_MEMORY. */
 nm_outcome nm_set_worker(nm_handle *set, nm_handle *worker, uint32_t number);
 
-/* Takes a worker that is at home, where no number is named: those eight apart, from 7 on, come
- * first. Several threads may make this call with one handle of a set at once. NM_AWAY: no worker was
- * at home when its place was looked at. Else as nm_set_worker. */
+/* Takes a worker that is at home, where no number is named: the one with the least number. Several
+ * threads may make this call with one handle of a set at once. NM_AWAY: no worker was at home when
+ * its place was looked at. Else as nm_set_worker. */
 nm_outcome nm_set_attach(nm_handle *set, nm_handle *worker);
 
 /* Ends the set when all its workers are at home. NM_DONE, and the handle owns the report from then
  * on. NM_AWAY, NM_NO_MEMORY: the handle owns the set still; behind the latter its workers may have
- * been gathered, so that only this function goes on. */
+ * been gathered, so that only this function goes on. Behind NM_AWAY nm_set_away tells whom it misses. */
 nm_outcome nm_set_close(nm_handle *set);
+
+/* Whether a close would miss the worker of a number, since some handle has it. NM_YES; NM_NO, also of
+ * a worker that has resigned; NM_NUMBER, NM_CLOSING. Of a set that has lost a worker, with its thread,
+ * say, the other workers go on and look up keys, and there is no report. nm_drop gives up the set's
+ * handle; the tree stays for the lost worker, which might come back, so its memory stays taken. */
+nm_outcome nm_set_away(nm_handle *set, uint32_t number);
 
 /* Gives up what any handle owns, and closes the handle: a worker goes home, with all that it holds, and can be taken again; a set that was not closed
  * is left to its workers, the last of which ends it; a report is forgotten. NM_DONE; NM_CLOSED. */
@@ -197,6 +214,13 @@ nm_outcome nm_drop(nm_handle *handle);
 /* Whether the set has the key. NM_YES, NM_NO; NM_KEY, NM_BUSY, NM_PENDING, NM_HELD. It takes no
  * memory. */
 nm_outcome nm_worker_has(nm_handle *worker, uint64_t key, uint32_t tries);
+
+/* Whether the set has each of so many keys, one behind the other in memory: NM_DONE, and the found of
+ * each is written. Each answer was right at a moment of this call, two of them perhaps at different
+ * ones. The searches go on in turns, so that the loads of one go on while the others wait for theirs:
+ * some eight to sixty-four keys a call are best. lookups is not null, also where count is 0. NM_KEY:
+ * one of the numbers is no key. NM_BUSY, NM_PENDING, NM_HELD, NM_NO_MEMORY: no found is written. */
+nm_outcome nm_worker_has_many(nm_handle *worker, nm_lookup *lookups, size_t count, uint32_t tries);
 
 /* Inserts a key: NM_YES where it was not in the set, NM_NO where it was. NM_KEY, NM_BUSY, NM_FULL, NM_PENDING, NM_HELD, NM_NO_MEMORY. */
 nm_outcome nm_worker_insert(nm_handle *worker, uint64_t key, uint32_t tries);
@@ -267,6 +291,24 @@ nm_outcome nm_worker_held(nm_handle *worker, uint64_t *epoch);
 
 /* What it has won, and what became of what it cut off. NM_DONE. */
 nm_outcome nm_worker_ledger(nm_handle *worker, nm_ledger *ledger);
+
+/* ---- notes between workers ----
+ * All calls are in one order, in which each has its moment. Of two workers' calls a proof knows that
+ * order where a note was handed over; no answer depends on it, and a program that proves nothing can
+ * leave it. Both take no step on the tree, no lock and no memory. */
+
+/* Leaves a note of all that the worker has seen, in place of its earlier one, and writes how many
+ * links and flags it has won so far (nm_ledger has them too). NM_DONE; NM_BUSY: a reader has the earlier
+ * note at this moment; call again. */
+nm_outcome nm_worker_post(nm_handle *worker, uint64_t *links, uint64_t *flags);
+
+/* Hears the note that the worker of a number has left, and leaves it there for others: all that this
+ * worker is asked from then on comes behind all that that one had seen when it left the note. NM_YES,
+ * and how many links and flags that one had won then; NM_NO: it has left none. NM_NUMBER; NM_BUSY:
+ * another worker is at that note at this moment; call again. */
+nm_outcome nm_worker_read(nm_handle *worker, uint32_t number, uint64_t *links, uint64_t *flags);
+
+/* ---- the end of a worker ---- */
 
 /* The worker of number leaver, which must be at home, resigns to this one, which then holds all that it held; the leaver never comes back. NM_DONE.
  * NM_NUMBER; NM_AWAY, NM_HELD and NM_PENDING, which are of the leaver. */

@@ -88,6 +88,12 @@ struct Collected {
     std::uint64_t freed;
 };
 
+// The links and the flags that a worker had won when it left a note.
+struct Won {
+    std::uint64_t links;
+    std::uint64_t flags;
+};
+
 // How many slots are free, and how many are reached from the root, without the five fixed ones.
 struct Slots {
     std::uint32_t free;
@@ -114,6 +120,17 @@ public:
 
     [[nodiscard]] nm_outcome try_has(std::uint64_t key, std::uint32_t most = tries) noexcept {
         return nm_worker_has(&handle_, key, most);
+    }
+
+    // Writes of each of these whether the set has its key.
+    void has_many(std::vector<nm_lookup> &lookups, std::uint32_t most = tries) {
+        detail::answered(try_has_many(lookups, most));
+    }
+
+    [[nodiscard]] nm_outcome try_has_many(std::vector<nm_lookup> &lookups,
+                                          std::uint32_t most = tries) noexcept {
+        nm_lookup none{};
+        return nm_worker_has_many(&handle_, lookups.empty() ? &none : lookups.data(), lookups.size(), most);
     }
 
     // Whether the key was not in the set. It is now.
@@ -187,11 +204,13 @@ public:
 
     [[nodiscard]] nm_outcome try_unpin() noexcept { return nm_worker_unpin(&handle_); }
 
-    // Moves the epoch on, or tells why not. Only a closed owner is a fault.
+    // Moves the epoch on, or tells why not. A closed owner, and one that another thread uses, is a
+    // fault.
     Advance advance() {
         Advance told{NM_DONE, 0, 0};
         told.outcome = nm_worker_advance(&handle_, &told.epoch, &told.behind);
-        if (told.outcome == NM_CLOSED) throw Fault(told.outcome);
+        if (told.outcome != NM_BEHIND && told.outcome != NM_LOST && told.outcome != NM_SPENT)
+            detail::answered(told.outcome);
         return told;
     }
 
@@ -238,6 +257,32 @@ public:
         nm_ledger told{};
         detail::answered(nm_worker_ledger(&handle_, &told));
         return told;
+    }
+
+    // Leaves a note of all that it has seen: what it has won so far. None where a reader has its
+    // earlier note at this moment.
+    std::optional<Won> post() {
+        Won told{0, 0};
+        nm_outcome outcome = try_post(told);
+        if (outcome == NM_BUSY) return std::nullopt;
+        detail::answered(outcome);
+        return told;
+    }
+
+    [[nodiscard]] nm_outcome try_post(Won &won) noexcept {
+        return nm_worker_post(&handle_, &won.links, &won.flags);
+    }
+
+    // Hears the note of the worker of a number: what that one had won then. None where it has left
+    // none.
+    std::optional<Won> read(std::uint32_t number) {
+        Won told{0, 0};
+        if (!detail::answered(try_read(told, number))) return std::nullopt;
+        return told;
+    }
+
+    [[nodiscard]] nm_outcome try_read(Won &won, std::uint32_t number) noexcept {
+        return nm_worker_read(&handle_, number, &won.links, &won.flags);
     }
 
     // The worker of that number, which is at home, resigns to this one.
@@ -305,9 +350,8 @@ private:
 // tree.
 class Set : public detail::Owner {
 public:
-    // The workers of a set where the caller names no number: one more than a multiple of four, so
-    // that nodes lie well in cache lines, and seven of them have numbers eight apart.
-    static constexpr std::uint32_t many = 61;
+    // The workers of a set where the caller names no number.
+    static constexpr std::uint32_t many = 64;
 
     // A closed one.
     Set() = default;
@@ -349,6 +393,11 @@ public:
     // Opens a closed owner with a worker that is at home.
     [[nodiscard]] nm_outcome try_attach(Worker &into) noexcept {
         return nm_set_attach(&handle_, &into.handle_);
+    }
+
+    // Whether `close` would miss the worker of a number, since an owner has it.
+    [[nodiscard]] bool is_away(std::uint32_t number) const {
+        return detail::answered(nm_set_away(&handle_, number));
     }
 
     // Ends the set, which is a closed owner then. Where that is a fault it is the set still.

@@ -9,7 +9,9 @@ enum { TRIES = 64, NOT_WRITTEN = 77 };
 
 /* What any call for a key tells. */
 static void each_tells(nm_handle *worker, uint64_t key, nm_outcome wanted) {
+    nm_lookup lookup = {key, NOT_WRITTEN};
     CHECK(nm_worker_has(worker, key, TRIES) == wanted);
+    CHECK(nm_worker_has_many(worker, &lookup, 1, TRIES) == wanted && lookup.key == key && lookup.found == NOT_WRITTEN);
     CHECK(nm_worker_insert(worker, key, TRIES) == wanted);
     CHECK(nm_worker_delete(worker, key, TRIES) == wanted);
 }
@@ -37,6 +39,7 @@ static void is_refused(nm_handle *handle, nm_outcome worker, nm_outcome report) 
         CHECK(nm_worker_queue_len(handle, &wide) == worker && nm_worker_pending(handle, &wide) == worker);
         CHECK(nm_worker_held(handle, &wide) == worker && nm_worker_ledger(handle, &ledger) == worker);
         CHECK(nm_worker_resign(handle, 0) == worker);
+        CHECK(nm_worker_post(handle, &wide, &other) == worker && nm_worker_read(handle, 0, &wide, &other) == worker);
     }
     if (report != NM_DONE) {
         CHECK(nm_report_slots(handle, &narrow, &second) == report && nm_report_keys(handle, &wide) == report);
@@ -49,9 +52,9 @@ static void is_refused(nm_handle *handle, nm_outcome worker, nm_outcome report) 
 
 static void sizes(void) {
     nm_handle set = NM_CLOSED_HANDLE;
-    CHECK(nm_set_lowest(&set, 6, 1) == NM_NODES && nm_set_near(&set, 1048577, 65) == NM_NODES);
+    CHECK(nm_set_lowest(&set, 6, 1) == NM_NODES && nm_set_near(&set, 268435457, 65) == NM_NODES);
     CHECK(nm_set_lowest(&set, 7, 0) == NM_WORKERS && nm_set_near(&set, 7, 65) == NM_WORKERS);
-    CHECK(nm_set_near(&set, 1048576, 64) == NM_DONE && nm_set_lowest(&set, 7, 1) == NM_OPEN && nm_set_near(&set, 7, 1) == NM_OPEN);
+    CHECK(nm_set_near(&set, 1048577, 64) == NM_DONE && nm_set_lowest(&set, 7, 1) == NM_OPEN && nm_set_near(&set, 7, 1) == NM_OPEN);
     CHECK(nm_drop(&set) == NM_DONE && nm_drop(&set) == NM_CLOSED && set.at == NULL);
 }
 
@@ -80,6 +83,10 @@ static void answers(void) {
     CHECK(nm_worker_has(&worker, 5, 0) == NM_BUSY && nm_worker_has(&worker, 5, TRIES) == NM_NO);
     CHECK(nm_worker_insert(&worker, 5, TRIES) == NM_YES && nm_worker_insert(&worker, 5, TRIES) == NM_NO);
     CHECK(nm_worker_has(&worker, 5, TRIES) == NM_YES && nm_worker_insert(&worker, 6, TRIES) == NM_FULL);
+    nm_lookup lookups[3] = {{6, NOT_WRITTEN}, {5, NOT_WRITTEN}, {4, NOT_WRITTEN}};
+    CHECK(nm_worker_has_many(&worker, lookups, 3, 0) == NM_BUSY && lookups[1].found == NOT_WRITTEN);
+    CHECK(nm_worker_has_many(&worker, lookups, 3, TRIES) == NM_DONE && nm_worker_has_many(&worker, lookups, 0, TRIES) == NM_DONE);
+    CHECK(lookups[0].found == 0 && lookups[1].found == 1 && lookups[2].found == 0 && lookups[1].key == 5);
     CHECK(nm_worker_delete(&worker, 6, TRIES) == NM_NO && nm_worker_finish(&worker, TRIES) == NM_NO);
     uint64_t key = NOT_WRITTEN;
     CHECK(nm_worker_pending(&worker, &key) == NM_NO && key == NOT_WRITTEN);
@@ -206,6 +213,38 @@ static void away(void) {
     CHECK(nm_drop(&leaver) == NM_DONE && nm_drop(&heir) == NM_DONE && nm_drop(&set) == NM_DONE);
 }
 
+/* A note is heard as often as it is read, tells what its worker had won when it left it, and is the latest one. */
+static void notes(void) {
+    nm_handle set = NM_CLOSED_HANDLE, writer = NM_CLOSED_HANDLE, reader = NM_CLOSED_HANDLE;
+    uint64_t links = NOT_WRITTEN, flags = NOT_WRITTEN;
+    CHECK(nm_set_near(&set, 64, 2) == NM_DONE && nm_set_worker(&set, &writer, 1) == NM_DONE && nm_set_worker(&set, &reader, 0) == NM_DONE);
+    CHECK(nm_worker_read(&reader, 1, &links, &flags) == NM_NO && nm_worker_read(&reader, 2, &links, &flags) == NM_NUMBER);
+    CHECK(links == NOT_WRITTEN && flags == NOT_WRITTEN);
+    CHECK(nm_worker_insert(&writer, 5, TRIES) == NM_YES && nm_worker_insert(&writer, 6, TRIES) == NM_YES);
+    CHECK(nm_worker_post(&writer, &links, &flags) == NM_DONE && links == 2 && flags == 0);
+    CHECK(nm_worker_delete(&writer, 5, TRIES) == NM_YES);
+    for (int turn = 0; turn < 3; turn++) CHECK(nm_worker_read(&reader, 1, &links, &flags) == NM_YES && links == 2 && flags == 0);
+    CHECK(nm_worker_has(&reader, 6, TRIES) == NM_YES && nm_worker_read(&writer, 1, &links, &flags) == NM_YES && links == 2);
+    CHECK(nm_worker_post(&writer, &links, &flags) == NM_DONE && links == 2 && flags == 1);
+    CHECK(nm_worker_read(&reader, 1, &links, &flags) == NM_YES && links == 2 && flags == 1);
+    CHECK(nm_drop(&writer) == NM_DONE && nm_worker_read(&reader, 1, &links, &flags) == NM_YES && links == 2 && flags == 1);
+    CHECK(nm_drop(&reader) == NM_DONE && nm_set_close(&set) == NM_DONE && nm_drop(&set) == NM_DONE);
+}
+
+/* A set tells which worker a close would miss: one that a handle has, and not one that has resigned. Where one is lost the others go on. */
+static void missed(void) {
+    nm_handle set = NM_CLOSED_HANDLE, lost = NM_CLOSED_HANDLE, other = NM_CLOSED_HANDLE;
+    CHECK(nm_set_away(&set, 0) == NM_CLOSED && nm_set_near(&set, 64, 3) == NM_DONE && nm_set_away(&set, 3) == NM_NUMBER);
+    CHECK(nm_set_away(&set, 0) == NM_NO && nm_set_worker(&set, &lost, 1) == NM_DONE && nm_set_worker(&set, &other, 0) == NM_DONE);
+    CHECK(nm_set_away(&lost, 0) == NM_KIND && nm_worker_insert(&lost, 5, TRIES) == NM_YES);
+    CHECK(nm_worker_resign(&other, 2) == NM_DONE && nm_set_away(&set, 2) == NM_NO && nm_set_away(&set, 0) == NM_YES);
+    CHECK(nm_drop(&other) == NM_DONE && nm_set_away(&set, 0) == NM_NO && nm_set_away(&set, 1) == NM_YES);
+    CHECK(nm_set_close(&set) == NM_AWAY && nm_set_away(&set, 1) == NM_YES);
+    CHECK(nm_set_worker(&set, &other, 0) == NM_DONE && nm_worker_has(&other, 5, TRIES) == NM_YES && nm_drop(&other) == NM_DONE);
+    CHECK(nm_drop(&lost) == NM_DONE && nm_set_away(&set, 1) == NM_NO && nm_set_close(&set) == NM_DONE);
+    CHECK(nm_set_away(&set, 1) == NM_KIND && nm_drop(&set) == NM_DONE);
+}
+
 /* Each outcome has words of its own, and so has a number that is none. */
 static void texts(void) {
     for (int first = NM_IN_USE - 1; first <= NM_DONE; first++)
@@ -224,20 +263,19 @@ static void versions(void) {
     CHECK(major == NM_SET_VERSION_MAJOR && minor == NM_SET_VERSION_MINOR && patch == NM_SET_VERSION_PATCH);
 }
 
-/* Workers are handed out by numbers eight apart first, and none where all are away. */
+/* Workers are handed out from the least number on, and none where all are away. */
 static void attached(void) {
     enum { WORKERS = 18 };
-    static const uint32_t order[WORKERS] = {7, 15, 3, 11, 5, 13, 1, 9, 17, 6, 14, 2, 10, 4, 12, 0, 8, 16};
     nm_handle set = NM_CLOSED_HANDLE, workers[WORKERS] = {NM_CLOSED_HANDLE}, none = NM_CLOSED_HANDLE;
     uint32_t number = NOT_WRITTEN;
     CHECK(nm_set_attach(&set, &none) == NM_CLOSED && nm_set_near(&set, 64, WORKERS) == NM_DONE);
     for (int i = 0; i < WORKERS; i++) {
         CHECK(nm_set_attach(&set, &workers[i]) == NM_DONE && nm_set_attach(&set, &workers[i]) == NM_OPEN);
-        CHECK(nm_worker_number(&workers[i], &number) == NM_DONE && number == order[i]);
+        CHECK(nm_worker_number(&workers[i], &number) == NM_DONE && number == (uint32_t)i);
     }
     CHECK(nm_set_attach(&set, &none) == NM_AWAY && nm_set_attach(&workers[0], &none) == NM_KIND);
     CHECK(nm_drop(&workers[4]) == NM_DONE && nm_set_attach(&set, &none) == NM_DONE);
-    CHECK(nm_worker_number(&none, &number) == NM_DONE && number == order[4] && nm_drop(&none) == NM_DONE);
+    CHECK(nm_worker_number(&none, &number) == NM_DONE && number == 4 && nm_drop(&none) == NM_DONE);
     for (int i = 0; i < WORKERS; i++) CHECK(nm_drop(&workers[i]) == (i == 4 ? NM_CLOSED : NM_DONE));
     CHECK(nm_set_close(&set) == NM_DONE && nm_set_attach(&set, &none) == NM_KIND && nm_drop(&set) == NM_DONE);
 }
@@ -255,6 +293,7 @@ static void used(void) {
     CHECK(nm_worker_insert(&worker, 5, TRIES) == NM_YES);
     set.in_use = 1;
     CHECK(nm_set_worker(&set, &other, 1) == NM_IN_USE && nm_set_attach(&set, &other) == NM_IN_USE && nm_set_close(&set) == NM_IN_USE);
+    CHECK(nm_set_away(&set, 0) == NM_IN_USE);
     CHECK(other.at == NULL && other.in_use == 0);
     set.in_use = 0;
     CHECK(nm_set_worker(&set, &set, 1) == NM_OPEN && nm_set_worker(&worker, &worker, 1) == NM_OPEN && nm_set_worker(&other, &other, 1) == NM_IN_USE);
@@ -275,6 +314,8 @@ int main(void) {
     epochs();
     ends();
     away();
+    notes();
+    missed();
     puts("each outcome is as it should be");
     return 0;
 }

@@ -144,6 +144,18 @@ void owners_tend() {
           !worker.remove(6));
 }
 
+// A note of one worker is heard by another, and a set tells whom a close would miss.
+void notes_are_heard() {
+    nm::Set set = nm::Set::near(64, 2);
+    nm::Worker writer = set.worker(1), reader = set.worker(0);
+    nm::Won won{77, 77};
+    CHECK(!reader.read(1) && thrown([&] { reader.read(2); }) == NM_NUMBER && reader.try_read(won, 1) == NM_NO && won.links == 77);
+    CHECK(writer.insert(5) && writer.try_post(won) == NM_DONE && won.links == 1 && won.flags == 0);
+    CHECK(writer.erase(5) && reader.read(1)->flags == 0 && writer.post()->flags == 1 && reader.read(1)->flags == 1);
+    reader.close();
+    CHECK(set.is_away(1) && !set.is_away(0) && thrown([&] { (void)set.is_away(2); }) == NM_NUMBER);
+}
+
 // Each form that answers tells what the other one throws, and its answer where that answers.
 void outcomes_are_answered() {
     nm::Set set = nm::Set::lowest(7, 1);
@@ -176,12 +188,12 @@ void const_owners_tell() {
           report.queue_len(1) == 2 && report.slots().reached == 2);
 }
 
-// Threads that attach themselves to one set at the same time get each a worker of its own, and
-// numbers that lie apart come first.
+// Threads that attach themselves to one set at the same time get each a worker of its own, from the
+// least number on.
 void threads_attach_themselves() {
     constexpr int rounds = 200;
-    nm::Set set = nm::Set::near(4096, 61);
-    CHECK(set.attach().number() == 7);
+    nm::Set set = nm::Set::near(4096);
+    CHECK(set.attach().number() == 0);
     for (int round = 0; round < rounds; round++) {
         std::uint64_t taken[threads_at_work] = {};
         std::vector<std::thread> threads;
@@ -192,14 +204,13 @@ void threads_attach_themselves() {
                 taken[number] = 1ull << workers[number].number();
             });
         for (std::thread &thread : threads) thread.join();
-        CHECK((taken[0] | taken[1] | taken[2] | taken[3]) ==
-              (1ull << 7 | 1ull << 15 | 1ull << 23 | 1ull << 31));
+        CHECK((taken[0] | taken[1] | taken[2] | taken[3]) == 0xf);
     }
     std::vector<nm::Worker> all;
-    for (std::uint64_t each = 0; each < 61; each++) all.push_back(set.attach());
+    for (std::uint64_t each = 0; each < nm::Set::many; each++) all.push_back(set.attach());
     nm::Worker none;
     CHECK(set.try_attach(none) == NM_AWAY && thrown([&] { (void)set.attach(); }) == NM_AWAY &&
-          all[7].number() == 3 && all.back().number() == 56);
+          all[7].number() == 7 && all.back().number() == 63);
     all.clear();
     CHECK(set.close().size() == 0);
 }
@@ -213,6 +224,7 @@ int main() {
     faults_are_told();
     owners_are_closed();
     owners_tend();
+    notes_are_heard();
     outcomes_are_answered();
     const_owners_tell();
     threads_attach_themselves();

@@ -5,12 +5,12 @@
 #include <inttypes.h>
 #include <stdio.h>
 
-enum { NODES = 512, KEYS = 150, TRIES = 64 };
+enum { NODES = 1024, KEYS = 150, TENDED = 100, TRIES = 64 };
 
 /* A refused set leaves its handle closed. */
 static void make(nm_handle *set) {
     nm_outcome told;
-    while ((told = nm_set_near(set, NODES, 2)) == NM_NO_MEMORY) CHECK(set->at == NULL);
+    while ((told = nm_set_near(set, NODES, 3)) == NM_NO_MEMORY) CHECK(set->at == NULL);
     CHECK(told == NM_DONE);
 }
 
@@ -36,6 +36,28 @@ static nm_outcome delete(nm_handle *worker, uint64_t key) {
     return told;
 }
 
+/* The same by calls that tend the set: a refused one has left the key as it was, and nothing pending. */
+static nm_outcome add(nm_handle *worker, uint64_t key) {
+    nm_outcome told;
+    while ((told = nm_worker_add(worker, key, &nm_usual_habit)) == NM_NO_MEMORY) CHECK(nm_worker_contains(worker, key, &nm_usual_habit) == NM_NO);
+    return told;
+}
+
+static nm_outcome remove_key(nm_handle *worker, uint64_t key) {
+    nm_outcome told;
+    uint64_t pending;
+    while ((told = nm_worker_remove(worker, key, &nm_usual_habit)) == NM_NO_MEMORY)
+        CHECK(nm_worker_pending(worker, &pending) == NM_NO && nm_worker_contains(worker, key, &nm_usual_habit) == NM_YES);
+    return told;
+}
+
+/* A worker whose calls tend the set: nine of ten of its keys are removed, each behind a collection where enough nodes wait. */
+static void tend(nm_handle *worker) {
+    for (uint64_t key = KEYS; key < KEYS + TENDED; key++) CHECK(add(worker, key) == NM_YES);
+    for (uint64_t key = KEYS; key < KEYS + TENDED; key++)
+        if (key % 10 != 0) CHECK(remove_key(worker, key) == NM_YES);
+}
+
 /* Behind a close that was refused memory, the workers are gathered, so that nothing but close goes on; or the set gives them out as before. */
 static void end(nm_handle *set) {
     nm_outcome told;
@@ -48,27 +70,30 @@ static void end(nm_handle *set) {
 }
 
 static void tell(nm_handle *report) {
-    uint64_t count, key, first, second;
+    uint64_t count, key, first, second, third;
     uint32_t free_slots, reached;
     CHECK(nm_report_keys(report, &count) == NM_DONE && nm_report_slots(report, &free_slots, &reached) == NM_DONE);
     CHECK(nm_report_queue(report, 0, &first) == NM_DONE && nm_report_queue(report, 1, &second) == NM_DONE);
+    CHECK(nm_report_queue(report, 2, &third) == NM_DONE);
     printf("keys");
     for (uint64_t index = 0; index < count; index++) {
         CHECK(nm_report_key(report, index, &key) == NM_DONE);
         printf(" %" PRIu64, key);
     }
-    printf("\nfree %" PRIu32 " reached %" PRIu32 " waiting %" PRIu64 " and %" PRIu64 "\n", free_slots, reached, first, second);
+    printf("\nfree %" PRIu32 " reached %" PRIu32 " waiting %" PRIu64 ", %" PRIu64 " and %" PRIu64 "\n", free_slots, reached, first, second, third);
 }
 
 int main(void) {
-    nm_handle set = NM_CLOSED_HANDLE, first = NM_CLOSED_HANDLE, second = NM_CLOSED_HANDLE;
+    nm_handle set = NM_CLOSED_HANDLE, first = NM_CLOSED_HANDLE, second = NM_CLOSED_HANDLE, third = NM_CLOSED_HANDLE;
     make(&set);
     take(&set, &first, 0);
     take(&set, &second, 1);
+    take(&set, &third, 2);
     for (uint64_t key = 0; key < KEYS; key++) CHECK(insert(&first, key * 37 % KEYS) == NM_YES);
     for (uint64_t key = 0; key < KEYS; key++)
         if (key % 16 != 0) CHECK(delete(key % 3 == 0 ? &second : &first, key) == NM_YES);
-    CHECK(nm_drop(&first) == NM_DONE && nm_drop(&second) == NM_DONE);
+    tend(&third);
+    CHECK(nm_drop(&first) == NM_DONE && nm_drop(&second) == NM_DONE && nm_drop(&third) == NM_DONE);
     end(&set);
     tell(&set);
     CHECK(nm_drop(&set) == NM_DONE);

@@ -62,15 +62,21 @@ class Held(Fault):
     outcome = c.HELD
 
 
+class InUse(Fault):
+    """Another thread is in a call by the worker at this moment. Nothing has changed."""
+
+    outcome = c.IN_USE
+
+
 class OutOfRange(Fault, ValueError):
-    """A key above 2^64 - 4 or below 0, a number of nodes that is not 7 to 1,048,576, one of workers
+    """A key above 2^64 - 4 or below 0, a number of nodes that is not 7 to 268,435,456, one of workers
     that is not 1 to 64, or the number of no worker."""
 
 
 _TEXTS = {
     c.KEY: "the key is not 0 to 2^64 - 4",
     c.NUMBER: "there is no worker of that number",
-    c.NODES: "the number of nodes is not 7 to 1,048,576",
+    c.NODES: "the number of nodes is not 7 to 268,435,456",
     c.WORKERS: "the number of workers is not 1 to 64",
     c.NO_MEMORY: "memory was refused",
     c.BUSY: "other threads were in the way for longer than the call's bound",
@@ -81,6 +87,7 @@ _TEXTS = {
     c.AWAY: "a worker is with a thread",
     c.CLOSED: "it is closed",
     c.CLOSING: "the set is being closed",
+    c.IN_USE: "another thread is in a call by it",
 }
 
 _KINDS: dict[int, type[Fault]] = {
@@ -97,6 +104,7 @@ _KINDS: dict[int, type[Fault]] = {
     c.AWAY: Away,
     c.CLOSED: Closed,
     c.CLOSING: Closed,
+    c.IN_USE: InUse,
 }
 
 

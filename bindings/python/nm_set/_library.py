@@ -1,8 +1,8 @@
 """The functions of nm_set.h, by ctypes.
 
-A handle is two words of memory that this process owns; who calls a function with it must let no
-other thread do so at the same time, which is what the locks of `_set` are for. ctypes lets other
-threads run while a call is made.
+A handle is two words of memory that this process owns. ctypes lets other threads run while a call
+is made: of two calls that have one handle at the same time, the library tells the second so, and by
+the handle of a set threads take workers at the same time, so that one has no lock.
 """
 
 from __future__ import annotations
@@ -68,7 +68,7 @@ FUNCTIONS: dict[str, list[object]] = {
 # The outcomes that are told apart here.
 CLOSED, KEY, NUMBER, NODES, WORKERS, NO_MEMORY = -1, -4, -5, -6, -7, -8
 BUSY, FULL, UNFINISHED, PENDING, HELD, NOT_HELD = -9, -10, -11, -12, -13, -14
-BEHIND, LOST, SPENT, AWAY, CLOSING = -15, -16, -17, -18, -19
+BEHIND, LOST, SPENT, AWAY, CLOSING, IN_USE = -15, -16, -17, -18, -19, -22
 
 
 def _candidates() -> list[str]:

@@ -3,7 +3,8 @@
 A worker's handle stays on its seat from its first use until the set is closed, unless a `Worker`
 has it. A call of a thread that has no worker takes the lock of a seat, mostly the one that the
 thread used before, and makes the call by the worker there. No thread waits for the lock of a seat
-but `close`, `Set.worker`, and a worker on its way back.
+but `close`, `Set.worker`, and a worker on its way back. The handle of the set has no lock: by it
+threads take workers at the same time, as the library allows.
 """
 
 from __future__ import annotations
@@ -44,13 +45,6 @@ def _narrow(number: SupportsIndex, outcome: int) -> int:
     if not 0 <= value < 2**32:
         raise fault(outcome)
     return value
-
-
-def apart(workers: int) -> list[int]:
-    """The numbers below a count: those that are eight apart first, from 7 on, since their
-    announcements stand in different cache lines, and each next series as far from the ones before
-    as can be."""
-    return [number for first in (7, 3, 5, 1, 6, 2, 4, 0) for number in range(first, workers, 8)]
 
 
 @dataclass(frozen=True)
@@ -215,11 +209,11 @@ class Set:
         self,
         nodes: SupportsIndex,
         *,
-        workers: SupportsIndex = 61,
+        workers: SupportsIndex = 64,
         lowest: bool = False,
         tending: Tending = Tending(),
     ) -> None:
-        """The empty set with room for 7 to 1,048,576 nodes, for 1 to 64 workers; n keys take 2 n +
+        """The empty set with room for 7 to 268,435,456 nodes, for 1 to 64 workers; n keys take 2 n +
         5 nodes, and the removed nodes that wait take theirs. With `lowest` new nodes take the
         lowest free slot, which takes long where there are many."""
         self._handle = _Handle()
@@ -227,10 +221,9 @@ class Set:
         make = c.exports.nm_set_lowest if lowest else c.exports.nm_set_near
         told(make(self._handle.word, room, count))
         self._habit = c.HabitWords(tending.tries, tending.rounds, tending.collect_after)
-        self._taking = threading.RLock()
         self._lost: deque[tuple[_Hand, int]] = deque()
         self._seats = [_Seat() for _ in range(count)]
-        self._order = apart(count)
+        self._numbers = range(count)
         self._last = threading.local()
         self._report: Optional[Report] = None
 
@@ -240,8 +233,7 @@ class Set:
         seat = self._seats[number]
         if seat.hand is None and not seat.is_away:
             handle = _Handle()
-            with self._taking:
-                told(c.exports.nm_set_worker(self._handle.word, handle.word, number))
+            told(c.exports.nm_set_worker(self._handle.word, handle.word, number))
             seat.hand = _Hand(handle)
             seat.hand.rest(self._habit)
         return seat.hand
@@ -253,7 +245,7 @@ class Set:
         self._find()
         for _ in range(_SEARCHES):
             is_one_locked = False
-            for number in self._order if asked is None else [asked, *self._order]:
+            for number in self._numbers if asked is None else [asked, *self._numbers]:
                 lock = self._seats[number].lock
                 if not lock.acquire(blocking=False):
                     is_one_locked = True
@@ -324,7 +316,7 @@ class Set:
         return self._with_any(self._relieve)
 
     def attach(self) -> Worker:
-        """Takes a worker that nobody uses, for this thread; numbers that lie apart come first. It
+        """Takes a worker that nobody uses, for this thread; the least number comes first. It
         goes back by its `close`."""
         taken = self._taken(self._free_seat(None))
         assert taken is not None
@@ -395,10 +387,9 @@ class Set:
                 seat.hand.rest(self._habit)
                 seat.hand.handle.drop()
                 seat.hand = None
-        with self._taking:
-            told(c.exports.nm_set_close(self._handle.word))
-            report = _report(self._handle.word, len(self._seats))
-            self._handle.drop()
+        told(c.exports.nm_set_close(self._handle.word))
+        report = _report(self._handle.word, len(self._seats))
+        self._handle.drop()
         return report
 
     @property
@@ -441,7 +432,7 @@ def _report(word: c.Handle, workers: int) -> Report:
 
 class Worker:
     """One worker of a set, for one thread at a time: a call while another thread is in one raises
-    `NoWorker`.
+    `InUse`.
 
     `close`, or the end of its `with`, sends it back to its set; so does the end of the object
     itself.
@@ -454,7 +445,7 @@ class Worker:
 
     def _with(self, call: Callable[[_Hand], _T]) -> _T:
         if not self._lock.acquire(blocking=False):
-            raise NoWorker("the worker is in a call of another thread")
+            raise fault(c.IN_USE)
         try:
             if self._hand is None:
                 raise fault(c.CLOSED)

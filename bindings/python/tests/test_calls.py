@@ -10,7 +10,7 @@ from nm_set import MOST_KEY, Set, Tending
 
 class Sizes(unittest.TestCase):
     def test_sizes_are_told(self) -> None:
-        wrong_nodes = [(6, 1), (1_048_577, 1), (-1, 1), (2**64, 1)]
+        wrong_nodes = [(6, 1), (268_435_457, 1), (-1, 1), (2**64, 1)]
         for nodes, workers in [*wrong_nodes, (7, 0), (7, 65), (7, 2**32 + 1)]:
             with self.assertRaises(nm_set.OutOfRange):
                 Set(nodes, workers=workers)
@@ -84,7 +84,7 @@ class Workers(unittest.TestCase):
     def test_workers_are_given_out_once(self) -> None:
         numbers = Set(64, workers=2)
         first, second = numbers.attach(), numbers.attach()
-        self.assertEqual((first.number, second.number), (1, 0))
+        self.assertEqual((first.number, second.number), (0, 1))
         for number in (0, 1):
             with self.assertRaises(nm_set.Away):
                 numbers.worker(number)
@@ -98,7 +98,7 @@ class Workers(unittest.TestCase):
         second.close()
         second.close()
         self.assertTrue(numbers.add(5))
-        self.assertEqual(numbers.attach().number, 0)
+        self.assertEqual(numbers.attach().number, 1)
 
     def test_a_worker_whose_object_ends_goes_back(self) -> None:
         numbers = Set(64, workers=1)
@@ -116,14 +116,24 @@ class Workers(unittest.TestCase):
     def test_one_thread_at_a_time_uses_a_worker(self) -> None:
         with Set(64).attach() as worker:
             with worker._lock:
-                with self.assertRaises(nm_set.NoWorker):
+                with self.assertRaises(nm_set.InUse):
                     worker.add(5)
             self.assertTrue(worker.add(5))
 
-    def test_numbers_that_lie_apart_come_first(self) -> None:
+    def test_the_library_tells_that_a_handle_is_in_use(self) -> None:
+        with Set(64).attach() as worker:
+            assert worker._hand is not None
+            worker._hand.word.in_use = 1
+            with self.assertRaises(nm_set.InUse) as raised:
+                worker.add(5)
+            self.assertEqual(raised.exception.outcome, -22)
+            worker._hand.word.in_use = 0
+            self.assertTrue(worker.add(5))
+
+    def test_the_least_number_comes_first(self) -> None:
         numbers = Set(64, workers=37)
         workers = [numbers.attach() for _ in range(37)]
-        self.assertEqual([worker.number for worker in workers[:5]], [7, 15, 23, 31, 3])
+        self.assertEqual([worker.number for worker in workers[:5]], [0, 1, 2, 3, 4])
         self.assertEqual(sorted(worker.number for worker in workers), list(range(37)))
 
 

@@ -109,7 +109,7 @@ class Threads(unittest.TestCase):
                     all_have.wait()
 
             at_once(thread)
-        self.assertEqual(sorted(taken), [7, 15, 23, 31])
+        self.assertEqual(sorted(taken), [0, 1, 2, 3])
 
     def test_more_threads_than_workers_are_told(self) -> None:
         with Set(1_024, workers=2) as numbers:

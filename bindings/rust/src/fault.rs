@@ -10,7 +10,7 @@ use std::fmt;
 pub enum Fault {
     /// The key is above 2^64 - 4 ([`MOST_KEY`](crate::MOST_KEY)).
     Key,
-    /// The number of nodes is not 7 to 1,048,576.
+    /// The number of nodes is not 7 to 268,435,456.
     Nodes,
     /// The number of workers is not 1 to 64.
     Workers,
@@ -45,6 +45,10 @@ pub enum Fault {
     Away,
     /// The set is closed.
     Closed,
+    /// Another call had the library's handle for longer than the library looks again, some tenths
+    /// of a second. Nothing has changed. Workers are taken so by many threads at once; that one is
+    /// kept waiting for so long is not to be expected.
+    InUse,
     /// An outcome that this crate does not know.
     Other(i32),
 }
@@ -66,6 +70,7 @@ impl Fault {
             -13 => Fault::Held,
             -14 => Fault::NotHeld,
             -18 => Fault::Away,
+            -22 => Fault::InUse,
             other => Fault::Other(other),
         }
     }
@@ -83,7 +88,7 @@ impl fmt::Display for Fault {
     fn fmt(&self, f: &mut fmt::Formatter<'_>) -> fmt::Result {
         f.write_str(match self {
             Fault::Key => "the key is above 2^64 - 4",
-            Fault::Nodes => "the number of nodes is not 7 to 1,048,576",
+            Fault::Nodes => "the number of nodes is not 7 to 268,435,456",
             Fault::Workers => "the number of workers is not 1 to 64",
             Fault::NoMemory => "memory was refused",
             Fault::Full => "no slots are free for the new nodes",
@@ -97,9 +102,21 @@ impl fmt::Display for Fault {
             Fault::Number => "there is no worker of that number",
             Fault::Away => "a worker is with a thread still",
             Fault::Closed => "the set is closed",
+            Fault::InUse => "another call has the handle",
             Fault::Other(number) => return write!(f, "outcome {number} of the library"),
         })
     }
 }
 
 impl std::error::Error for Fault {}
+
+#[cfg(test)]
+mod tests {
+    use super::Fault;
+
+    #[test]
+    fn a_handle_in_use_is_told_as_that() {
+        assert_eq!(Fault::of(-22), Fault::InUse);
+        assert_eq!(Fault::of(-23), Fault::Other(-23));
+    }
+}

@@ -1,18 +1,21 @@
-//! The functions of `nm_set.h`, and the one place with `unsafe`: a [`Handle`] that keeps what the
-//! header asks of its callers.
+//! The functions of `nm_set.h`, and the one place with `unsafe`: a [`Handle`] of a worker and a
+//! [`SetHandle`] that keep what the header asks of its callers.
 //!
 //! What the header asks, and why it is kept here:
 //!
-//! - *A handle is all zero before its first use, and only the library writes it.* `Handle` begins
-//!   as null, and its field is private to this module.
+//! - *A handle is all zero before its first use, and only the library writes it.* Both begin as
+//!   null, and their fields are private to this module.
 //! - *It may be moved.* Rust moves values by copying their bytes and never uses the old place,
-//!   and `Handle` is neither `Copy` nor `Clone`.
+//!   and neither of them is `Copy` or `Clone`.
 //! - *One call at a time uses it, and what one thread did happens before the next one's call.*
-//!   Each call takes `&mut Handle`, so that the compiler shows both.
+//!   Each call of a worker takes `&mut Handle`, so that the compiler shows both. Of two calls that
+//!   have a `SetHandle` at the same time the library tells the second so; to take workers it looks
+//!   again, so threads share that handle with no lock.
 //! - *Pointers are to places of their type that no other call is using, and two parameters are at
 //!   different places.* They are made of `&mut`, and of `&` where the library only reads.
-//! - *An open handle is not lost.* `Handle` drops what it owns.
+//! - *An open handle is not lost.* Both drop what they own.
 
+use std::cell::UnsafeCell;
 use std::ffi::c_int;
 use std::ptr::null_mut;
 
@@ -97,7 +100,7 @@ extern "C" {
 /// What a call tells, as the number of `nm_outcome`: an answer from 0 on, or a fault below 0.
 pub(crate) type Outcome = c_int;
 
-/// The handle of a set, of a worker or of a report, which it gives up when it is dropped.
+/// The handle of a worker, which it gives up when it is dropped.
 pub(crate) struct Handle(Word);
 
 // SAFETY: the header allows a handle to be used by one thread after another, where what the first
@@ -127,9 +130,6 @@ impl Handle {
     }
 
     calls! {
-        open_lowest = nm_set_lowest(nodes: u32, workers: u32);
-        open_near = nm_set_near(nodes: u32, workers: u32);
-        end = nm_set_close();
         close = nm_drop();
         has = nm_worker_has(key: u64, tries: u32);
         insert = nm_worker_insert(key: u64, tries: u32);
@@ -147,20 +147,67 @@ impl Handle {
         pending = nm_worker_pending(key: &mut u64);
         held = nm_worker_held(epoch: &mut u64);
         ledger = nm_worker_ledger(ledger: &mut Ledger);
+    }
+}
+
+impl Drop for Handle {
+    fn drop(&mut self) {
+        self.close();
+    }
+}
+
+/// The handle of a set, and of its report once it was closed, which threads share.
+pub(crate) struct SetHandle(UnsafeCell<Word>);
+
+// SAFETY: as of `Handle`.
+unsafe impl Send for SetHandle {}
+
+// SAFETY: a shared one is given to the library's functions alone. Of two calls that have one handle
+// at the same time, the library tells the second so, and that one touches nothing: each takes the
+// handle by an atomic exchange before it reads what it owns. Those that take workers, and the one
+// that ends the set, look again for a while.
+unsafe impl Sync for SetHandle {}
+
+/// A safe call of a function over the one handle that threads share.
+macro_rules! shared_calls {
+    ($($name:ident = $function:ident($($parameter:ident: $type:ty),*);)*) => {
+        $(pub(crate) fn $name(&self, $($parameter: $type),*) -> Outcome {
+            // SAFETY: the handle lies in a cell that only the library writes, also where several
+            // threads call it (see `Sync` above); each place to write is borrowed for this call
+            // alone.
+            unsafe { $function(self.0.get(), $($parameter),*) }
+        })*
+    };
+}
+
+impl SetHandle {
+    /// A closed one.
+    pub(crate) fn closed() -> SetHandle {
+        SetHandle(UnsafeCell::new(Word {
+            at: null_mut(),
+            in_use: 0,
+        }))
+    }
+
+    shared_calls! {
+        open_lowest = nm_set_lowest(nodes: u32, workers: u32);
+        open_near = nm_set_near(nodes: u32, workers: u32);
+        end = nm_set_close();
+        close = nm_drop();
         slots = nm_report_slots(free: &mut u32, reached: &mut u32);
         keys = nm_report_keys(count: &mut u64);
         key = nm_report_key(index: u64, key: &mut u64);
         waiting = nm_report_waiting(worker: u32, waiting: &mut Waiting);
     }
 
-    /// Takes the worker of a number out of the set that this handle owns, into a closed handle.
-    pub(crate) fn take(&mut self, worker: &mut Handle, number: u32) -> Outcome {
-        // SAFETY: both handles are borrowed for this call alone, so they are two.
-        unsafe { nm_set_worker(&mut self.0, &mut worker.0, number) }
+    /// Takes the worker of a number out of the set, into a closed handle.
+    pub(crate) fn take(&self, worker: &mut Handle, number: u32) -> Outcome {
+        // SAFETY: as of the calls above; the worker's handle is borrowed for this call alone.
+        unsafe { nm_set_worker(self.0.get(), &mut worker.0, number) }
     }
 }
 
-impl Drop for Handle {
+impl Drop for SetHandle {
     fn drop(&mut self) {
         self.close();
     }

@@ -1,6 +1,6 @@
 //! What a set was closed with.
 
-use crate::ffi::{Handle, Waiting};
+use crate::ffi::{SetHandle, Waiting};
 
 /// What a set was closed with.
 #[derive(Clone, Debug, Default, PartialEq, Eq)]
@@ -13,7 +13,7 @@ pub struct Report {
 
 impl Report {
     /// Reads what a handle of a report tells, for so many workers.
-    pub(crate) fn of(mut handle: Handle, workers: u32) -> Report {
+    pub(crate) fn of(handle: &SetHandle, workers: u32) -> Report {
         let mut report = Report::default();
         let mut count = 0;
         handle.slots(&mut report.free, &mut report.reached);
@@ -23,9 +23,7 @@ impl Report {
             handle.key(index, &mut key);
             report.keys.push(key);
         }
-        report.waiting = (0..workers)
-            .map(|worker| taken(&mut handle, worker))
-            .collect();
+        report.waiting = (0..workers).map(|worker| taken(handle, worker)).collect();
         report
     }
 
@@ -67,7 +65,7 @@ impl Report {
 }
 
 /// Takes all nodes out of a worker's queue.
-fn taken(handle: &mut Handle, worker: u32) -> Vec<Waiting> {
+fn taken(handle: &SetHandle, worker: u32) -> Vec<Waiting> {
     let mut nodes = Vec::new();
     let mut node = Waiting::default();
     while handle.waiting(worker, &mut node) > 0 {

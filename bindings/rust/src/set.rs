@@ -1,7 +1,7 @@
 //! The set that threads share.
 
 use crate::fault::Fault;
-use crate::ffi::{Habit, Handle};
+use crate::ffi::{Habit, SetHandle};
 use crate::hand::Hand;
 use crate::report::Report;
 use crate::shared::Shared;
@@ -29,7 +29,7 @@ pub enum Placement {
 /// ```
 #[derive(Clone, Debug, PartialEq, Eq)]
 pub struct Options {
-    /// The room in nodes, 7 to 1,048,576. n keys take 2 n + 5, and the removed nodes that wait take
+    /// The room in nodes, 7 to 268,435,456. n keys take 2 n + 5, and the removed nodes that wait take
     /// theirs: give it several times that.
     pub nodes: u32,
     /// The workers, 1 to 64: so many threads can make calls at one time. One more than a multiple
@@ -49,12 +49,12 @@ pub struct Options {
 }
 
 impl Options {
-    /// So many nodes, for 61 workers, with slots near by; 64 tries, 64 rounds, and a collection
+    /// So many nodes, for 64 workers, with slots near by; 64 tries, 64 rounds, and a collection
     /// from 64 waiting nodes on.
     pub fn new(nodes: u32) -> Options {
         Options {
             nodes,
-            workers: 61,
+            workers: 64,
             placement: Placement::Near,
             tries: 64,
             rounds: 64,
@@ -64,7 +64,7 @@ impl Options {
 
     /// Makes the empty set. `Nodes`, `Workers`, `NoMemory`.
     pub fn open(&self) -> Result<Set, Fault> {
-        let mut handle = Handle::closed();
+        let handle = SetHandle::closed();
         let told = match self.placement {
             Placement::Near => handle.open_near(self.nodes, self.workers),
             Placement::Lowest => handle.open_lowest(self.nodes, self.workers),
@@ -128,7 +128,7 @@ impl Set {
         Options::new(nodes).open()
     }
 
-    /// Takes a worker that nobody uses, for this thread; numbers that lie apart come first.
+    /// Takes a worker that nobody uses, for this thread; the least number comes first.
     /// `NoWorker`, `NoMemory`, `Closed`.
     pub fn attach(&self) -> Result<Worker, Fault> {
         let (hand, number) = self.0.take_any()?;
@@ -181,7 +181,7 @@ impl Set {
     /// `Away`: a [`Worker`] is not dropped yet, and all is as it was. `NoMemory`: only `close` goes
     /// on. `Closed`: it was closed before.
     pub fn close(&self) -> Result<Report, Fault> {
-        Ok(Report::of(self.0.end()?, self.0.workers()))
+        self.0.end()
     }
 }
 

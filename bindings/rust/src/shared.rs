@@ -3,11 +3,13 @@
 //! A worker's handle stays on its seat from its first use until the set is closed, unless a
 //! [`Worker`](crate::Worker) has it. A call of a thread that has no worker takes the lock of a
 //! seat, uses the worker there, and leaves it: no thread ever waits for the lock of a seat but
-//! `close`, and a worker on its way back.
+//! `close`, and a worker on its way back. The set's own handle has no lock: by it threads take
+//! workers at the same time, as the library allows.
 
 use crate::fault::Fault;
-use crate::ffi::{Habit, Handle};
+use crate::ffi::{Habit, Handle, SetHandle};
 use crate::hand::Hand;
+use crate::report::Report;
 use std::cell::Cell;
 use std::sync::atomic::{AtomicU64, Ordering};
 use std::sync::{Mutex, MutexGuard, PoisonError, TryLockError};
@@ -30,10 +32,8 @@ pub(crate) struct Shared {
     /// Tells the sets of a process apart.
     identity: u64,
     pub habit: Habit,
-    set: Mutex<Handle>,
+    set: SetHandle,
     seats: Vec<Seat>,
-    /// All numbers, those that lie apart first.
-    order: Vec<u32>,
 }
 
 /// How often a thread looks for a free seat while others are locked, before it tells that there is
@@ -45,16 +45,6 @@ static IDENTITIES: AtomicU64 = AtomicU64::new(1);
 thread_local! {
     /// The set that this thread used last without a worker of its own, and on which seat.
     static LAST: Cell<(u64, u32)> = const { Cell::new((0, 0)) };
-}
-
-/// The numbers below a count: those that are eight apart first, from 7 on, and each next series as
-/// far from the ones before as can be. Announcements of workers that are eight apart stand in
-/// different cache lines, and from 7 on in others than the epoch.
-fn apart(workers: u32) -> Vec<u32> {
-    [7, 3, 5, 1, 6, 2, 4, 0]
-        .into_iter()
-        .flat_map(|first| (first..workers).step_by(8))
-        .collect()
 }
 
 /// No code panics while it holds one of these locks, so a poisoned one is as good.
@@ -72,15 +62,14 @@ fn free<T>(mutex: &Mutex<T>) -> Option<MutexGuard<'_, T>> {
 
 impl Shared {
     /// What the clones of a set with an open handle share.
-    pub fn of(set: Handle, workers: u32, habit: Habit) -> Shared {
+    pub fn of(set: SetHandle, workers: u32, habit: Habit) -> Shared {
         Shared {
             identity: IDENTITIES.fetch_add(1, Ordering::Relaxed),
             habit,
-            set: Mutex::new(set),
+            set,
             seats: (0..workers)
                 .map(|_| Seat(Mutex::new(Place::Home)))
                 .collect(),
-            order: apart(workers),
         }
     }
 
@@ -89,7 +78,7 @@ impl Shared {
     fn seat(&self, place: &mut Place, number: u32) -> Result<(), Fault> {
         if let Place::Home = place {
             let mut handle = Handle::closed();
-            let told = locked(&self.set).take(&mut handle, number);
+            let told = self.set.take(&mut handle, number);
             if told < 0 {
                 return Err(Fault::of(told));
             }
@@ -109,7 +98,7 @@ impl Shared {
     fn free_seat(&self, asked: Option<u32>) -> Result<(MutexGuard<'_, Place>, u32), Fault> {
         for _ in 0..SEARCHES {
             let mut is_one_locked = false;
-            for number in asked.into_iter().chain(self.order.iter().copied()) {
+            for number in asked.into_iter().chain(0..self.workers()) {
                 let Some(mut place) = free(&self.seats[number as usize].0) else {
                     is_one_locked = true;
                     continue;
@@ -181,8 +170,9 @@ impl Shared {
     }
 
     /// Ends the set, where no worker is with a thread: removes that have begun are finished, the
-    /// workers go home, and the set's handle, which owns the report from then on, is handed out.
-    pub fn end(&self) -> Result<Handle, Fault> {
+    /// workers go home, and the report is read. The locks of all seats keep others from the set's
+    /// handle meanwhile.
+    pub fn end(&self) -> Result<Report, Fault> {
         let mut places: Vec<_> = self.seats.iter().map(|seat| locked(&seat.0)).collect();
         if places.iter().any(|place| matches!(**place, Place::Away)) {
             return Err(Fault::Away);
@@ -193,32 +183,18 @@ impl Shared {
             }
             **place = Place::Home;
         }
-        let mut set = locked(&self.set);
-        match set.end() {
+        match self.set.end() {
             told @ ..=-1 => Err(Fault::of(told)),
-            _ => Ok(std::mem::replace(&mut *set, Handle::closed())),
+            _ => {
+                let report = Report::of(&self.set, self.workers());
+                self.set.close();
+                Ok(report)
+            }
         }
     }
 
     /// How many workers the set has.
     pub fn workers(&self) -> u32 {
-        self.order.len() as u32
-    }
-}
-
-#[cfg(test)]
-mod tests {
-    use super::apart;
-
-    #[test]
-    fn numbers_that_lie_apart_come_first() {
-        assert_eq!(apart(37)[..5], [7, 15, 23, 31, 3]);
-        assert_eq!(apart(4), [3, 1, 2, 0]);
-        assert_eq!(apart(1), [0]);
-        for workers in 1..=64 {
-            let mut numbers = apart(workers);
-            numbers.sort_unstable();
-            assert_eq!(numbers, (0..workers).collect::<Vec<_>>());
-        }
+        self.seats.len() as u32
     }
 }

@@ -26,7 +26,7 @@ fn types_cross_threads_as_they_should() {
 #[test]
 fn sizes_are_told() {
     assert_eq!(Set::new(6).err(), Some(Fault::Nodes));
-    assert_eq!(Set::new(1_048_577).err(), Some(Fault::Nodes));
+    assert_eq!(Set::new(268_435_457).err(), Some(Fault::Nodes));
     assert_eq!(small(0).open().err(), Some(Fault::Workers));
     assert_eq!(small(65).open().err(), Some(Fault::Workers));
     assert_eq!(small(64).open().unwrap().workers(), 64);
@@ -128,18 +128,18 @@ fn workers_are_given_out_once() {
     let set = small(2).open().unwrap();
     let first = set.attach().unwrap();
     assert_eq!(
-        (first.number(), set.worker(1).err(), set.worker(2).err()),
-        (1, Some(Fault::Away), Some(Fault::Number))
+        (first.number(), set.worker(0).err(), set.worker(2).err()),
+        (0, Some(Fault::Away), Some(Fault::Number))
     );
     let second = set.attach().unwrap();
     assert_eq!(
         (second.number(), set.attach().err(), set.contains(5)),
-        (0, Some(Fault::NoWorker), Err(Fault::NoWorker))
+        (1, Some(Fault::NoWorker), Err(Fault::NoWorker))
     );
     drop(first);
     assert_eq!(
         (set.contains(5), set.attach().unwrap().number()),
-        (Ok(false), 1)
+        (Ok(false), 0)
     );
 }
 

@@ -153,7 +153,7 @@ fn threads_attach_themselves_at_once() {
             });
         }
     });
-    assert_eq!(numbers.into_inner().unwrap(), [7, 15, 23, 31].into());
+    assert_eq!(numbers.into_inner().unwrap(), [0, 1, 2, 3].into());
     assert!(set.close().unwrap().is_empty());
 }
 

@@ -7,11 +7,12 @@ use Rattle.std.proofs.lemmas.List.Elements.{filter-append}
 use Rattle.nm_edge.specs.declared.edge.Side.{Side}
 use Rattle.nm_edge.specs.declared.node.NodeId.{NodeId}
 use Rattle.nm_model.specs.declared.event.Op.{Op}
-use Rattle.nm_model.specs.declared.event.Event.TheVariants.{SightFor}
+use Rattle.nm_model.specs.declared.event.Event.{Event}
+use Rattle.nm_model.specs.declared.event.Event.TheVariants.{Sight, SightFor}
 use Rattle.nm_model.specs.Walks.{Entry}
 use Rattle.nm_order.specs.Exchanges.{is_won_link}
 use Rattle.nm_order.specs.WalksToArrivals.{is_won_flag}
-use Rattle.nm_epoch.specs.Tries.{LostTry, LostTries, IsPinned, IsMoved}
+use Rattle.nm_epoch.specs.Tries.{LostTry, WonTry, LostTries, IsPinned, IsMoved}
 use Rattle.nm_pool.specs.Takes.{DoneInTurn}
 use Rattle.nm_pool.specs.Claims.{DoneAt, PassedOver, PassedWithin, IsClaim, IsClaimBy}
 use Rattle.nm_pool.specs.declared.placement.Fit.{Fit}
@@ -150,28 +151,50 @@ lost_walks_add nodes k (suc t) old new h =
 
 -- ---- pins
 
-lost_try_adds : (op : Op) (key : ℕ) (old new : List Entry) → LostTry (SightFor op key) old new → Adds 0 0 0 2 old new
-lost_try_adds op key old new h = adds_then old _ new (adds_these _ old _ refl) (adds_these _ _ new h.2)
+-- a sight by which a pin is confirmed
+data Confirms : Event → Type 0 where
+  Plainly : Confirms Sight
+  ForCall : (op : Op) (key : ℕ) → Confirms (SightFor op key)
 
-lost_tries_add : (op : Op) (key n : ℕ) (old new : List Entry) → LostTries (SightFor op key) n old new → Adds 0 0 0 (2 * n) old new
-lost_tries_add op key zero old new h = adds_none old new h
-lost_tries_add op key (suc n) old new h =
-    adds_in (2 * suc n) old new (omega arith) (adds_then old h.0 new (lost_tries_add op key n old h.0 h.1) (lost_try_adds op key h.0 new h.2))
+lost_try_adds : {by : Event} → Confirms by → (old new : List Entry) → LostTry by old new → Adds 0 0 0 2 old new
+lost_try_adds Plainly old new h = adds_then old _ new (adds_these _ old _ refl) (adds_these _ _ new h.2)
+lost_try_adds (ForCall op key) old new h = adds_then old _ new (adds_these _ old _ refl) (adds_these _ _ new h.2)
 
-pub pin_adds : (op : Op) (key tries : ℕ) (old new : List Entry) (e : ℕ) → IsPinned (SightFor op key) tries old new e → Adds 0 0 0 (2 * tries + 1) old new
-pin_adds op key tries old new e h =
+won_try_adds : {by : Event} → Confirms by → (e : ℕ) (old new : List Entry) → WonTry by e old new → Adds 0 0 0 2 old new
+won_try_adds Plainly e old new h = adds_then old _ new (adds_these _ old _ refl) (adds_these _ _ new h.1)
+won_try_adds (ForCall op key) e old new h = adds_then old _ new (adds_these _ old _ refl) (adds_these _ _ new h.1)
+
+lost_tries_add : {by : Event} → Confirms by → (n : ℕ) (old new : List Entry) → LostTries by n old new → Adds 0 0 0 (2 * n) old new
+lost_tries_add by zero old new h = adds_none old new h
+lost_tries_add by (suc n) old new h =
+    adds_in (2 * suc n) old new (omega arith) (adds_then old h.0 new (lost_tries_add by n old h.0 h.1) (lost_try_adds by h.0 new h.2))
+
+pin_adds_by : {by : Event} → Confirms by → (tries : ℕ) (old new : List Entry) (e : ℕ) → IsPinned by tries old new e → Adds 0 0 0 (2 * tries + 1) old new
+pin_adds_by by tries old new e h =
     let few = h.3 in
     let first = adds_these _ old _ refl in
-    let lost = lost_tries_add op key h.1 _ h.2 h.4 in
-    let won = adds_then h.2 _ new (adds_these _ h.2 _ refl) (adds_these _ _ new h.5.1) in
-    adds_in (2 * tries + 1) old new (omega (arith, few)) (adds_then old _ new first (adds_then _ h.2 new lost won))
+    let lost = lost_tries_add by h.1 _ h.2 h.4 in
+    adds_in (2 * tries + 1) old new (omega (arith, few)) (adds_then old _ new first (adds_then _ h.2 new lost (won_try_adds by e h.2 new h.5)))
+
+moved_adds_by : {by : Event} → Confirms by → (tries : ℕ) (old new : List Entry) → IsMoved by tries old new → Adds 0 0 0 (2 * tries + 2) old new
+moved_adds_by by zero old new h = adds_in 2 old new (omega arith) (adds_these _ old new h.1)
+moved_adds_by by (suc n) old new h =
+    let first = adds_these _ old _ refl in
+    let lost = lost_tries_add by (suc n) _ h.1 h.2 in
+    adds_in (2 * suc n + 2) old new (omega arith) (adds_then old _ new first (adds_then _ h.1 new lost (adds_these _ h.1 new h.3)))
+
+pub pin_adds : (op : Op) (key tries : ℕ) (old new : List Entry) (e : ℕ) → IsPinned (SightFor op key) tries old new e → Adds 0 0 0 (2 * tries + 1) old new
+pin_adds op key tries old new e h = pin_adds_by (ForCall op key) tries old new e h
 
 pub moved_adds : (op : Op) (key tries : ℕ) (old new : List Entry) → IsMoved (SightFor op key) tries old new → Adds 0 0 0 (2 * tries + 2) old new
-moved_adds op key zero old new h = adds_in 2 old new (omega arith) (adds_these _ old new h.1)
-moved_adds op key (suc n) old new h =
-    let first = adds_these _ old _ refl in
-    let lost = lost_tries_add op key (suc n) _ h.1 h.2 in
-    adds_in (2 * suc n + 2) old new (omega arith) (adds_then old _ new first (adds_then _ h.1 new lost (adds_these _ h.1 new h.3)))
+moved_adds op key tries old new h = moved_adds_by (ForCall op key) tries old new h
+
+-- of a pin for no call
+pub plain_pin_adds : (tries : ℕ) (old new : List Entry) (e : ℕ) → IsPinned Sight tries old new e → Adds 0 0 0 (2 * tries + 1) old new
+plain_pin_adds tries old new e h = pin_adds_by Plainly tries old new e h
+
+pub plain_moved_adds : (tries : ℕ) (old new : List Entry) → IsMoved Sight tries old new → Adds 0 0 0 (2 * tries + 2) old new
+plain_moved_adds tries old new h = moved_adds_by Plainly tries old new h
 
 -- ---- claims
 

@@ -20,3 +20,4 @@ pub mod KeptLedgers
 pub mod FreshWorkers
 pub mod Waiting
 pub mod Rooms
+pub mod InTurnsLooks

@@ -17,7 +17,7 @@ few_of_nodes p es run queue =
     omega (arith, few)
 
 -- the queue may grow
-pub may_grow_more : (p : Stand) (es : List Waiting) → IsInRun p → IsQueueOf (knowledge p.view) p.view.number es → length es ≤ 2097152
+pub may_grow_more : (p : Stand) (es : List Waiting) → IsInRun p → IsQueueOf (knowledge p.view) p.view.number es → length es ≤ 536870912
 may_grow_more p es run queue =
     let few = few_of_nodes p es run queue in
     let most = run.fits.most in
@@ -29,7 +29,7 @@ few_in_table b o p es own same run queue =
     let layout : p.view.layout ≡ b.layout = ap (λ (s : Stand). s.view.layout) same ∙ own.layout in
     subst (λ (L : Layout). length es ≤ L.nodes) layout (few_of_nodes p es run queue)
 
-pub may_grow_first : (b : Board) (p : Stand) (es : List Waiting) → IsOf b p → IsLayout p.view.layout → length es ≤ b.layout.nodes → length es ≤ 2097152
+pub may_grow_first : (b : Board) (p : Stand) (es : List Waiting) → IsOf b p → IsLayout p.view.layout → length es ≤ b.layout.nodes → length es ≤ 536870912
 may_grow_first b p es own fits few =
     let nodes = ap (λ (L : Layout). L.nodes) own.layout in
     let most = fits.most in

@@ -5,6 +5,7 @@ pub mod Making
 pub mod Telling
 pub mod Walks
 pub mod Calls
+pub mod InTurns
 pub mod Won
 pub mod Fresh
 pub mod Cleanups

@@ -333,6 +333,7 @@ fn delete_pinned(
     pass: &mut Pass,
     key: u64,
     tries: u32,
+    chain: &mut Chain,
     queue: &mut BlockQueue<Entry>,
     splices: &mut u64,
 ) -> Result<bool, Missed>
@@ -362,8 +363,7 @@ fn delete_pinned(
     ensures ledgers { KeepsLedgers pass.old pass.new }
     ensures counted { splices.new ≡ capped (won_splices pass.new.view.log) }
 {
-    let mut chain = Chain::new();
-    match inject(shared, pass, key, tries, &mut chain, queue, splices) {
+    match inject(shared, pass, key, tries, chain, queue, splices) {
         Injection::Absent => {
             answer(shared, pass, false);
             Ok(false)
@@ -378,9 +378,7 @@ fn delete_pinned(
         }
         Injection::Flagged(end, birth, left) => {
             let leaf = leaf_at(&end, birth);
-            match remove_after(
-                shared, pass, key, &end, birth, left, &mut chain, queue, splices,
-            ) {
+            match remove_after(shared, pass, key, &end, birth, left, chain, queue, splices) {
                 Removal::Removed => {
                     answer(shared, pass, true);
                     Ok(true)
@@ -397,13 +395,14 @@ fn delete_pinned(
 /// Room for a cleanup is made before each try, that of the first one before the pin, in the fewest blocks, and no other memory is taken.
 ///
 /// At most `tries` * (4 `nodes` + 512) + 6 `nodes` + 10 steps. `Ok(true)` and `Unfinished`: just one flag was won, and no link; else
-/// neither. `splices` counts the worker's won splices, up to 2^64 - 1.
+/// neither. `splices` counts the worker's won splices, up to 2^64 - 1. What stands in `chain` is not looked at: it is the room of the walks.
 /// (The delete of Natarajan and Mittal, section 3.2.)
 pub fn delete(
     shared: &Shared,
     pass: &mut Pass,
     key: Key,
     tries: u32,
+    chain: &mut Chain,
     queue: &mut BlockQueue<Entry>,
     splices: &mut u64,
 ) -> Result<bool, Missed>
@@ -438,19 +437,20 @@ pub fn delete(
     let Ok(_epoch) = pin_for(shared, pass, tries, Op::Delete, key) else {
         return Err(Missed::Busy);
     };
-    delete_pinned(shared, pass, key.get(), tries, queue, splices)
+    delete_pinned(shared, pass, key.get(), tries, chain, queue, splices)
 }
 
 /// Goes on to remove the leaf that the worker has flagged: whether it is cut off, and the worker rests. Else it stays pinned.
 /// Room for a cleanup is made before each try, in the fewest blocks, and no other memory is taken.
 /// At most `tries` * (4 `nodes` + 512) + 6 `nodes` + 10 steps; no link and no flag is won. `splices` counts the worker's won splices, up to
-/// 2^64 - 1.
+/// 2^64 - 1. What stands in `chain` is not looked at: it is the room of the walks.
 pub fn finish(
     shared: &Shared,
     pass: &mut Pass,
     key: Key,
     leaf: NodeId,
     tries: u32,
+    chain: &mut Chain,
     queue: &mut BlockQueue<Entry>,
     splices: &mut u64,
 ) -> bool
@@ -476,17 +476,7 @@ pub fn finish(
     ensures few { length queue.new.items ≤ shared.now.layout.nodes }
     ensures counted { splices.new ≡ capped (won_splices pass.new.view.log) }
 {
-    let mut chain = Chain::new();
-    match remove(
-        shared,
-        pass,
-        key.get(),
-        leaf,
-        tries,
-        &mut chain,
-        queue,
-        splices,
-    ) {
+    match remove(shared, pass, key.get(), leaf, tries, chain, queue, splices) {
         Removal::Removed => {
             answer(shared, pass, true);
             true

@@ -173,7 +173,7 @@ fn try_insert(
 
 /// Makes room for what a cleanup cuts off, in the fewest blocks. False: there was no memory, and there is not as much room.
 pub(crate) fn make_room(queue: &mut BlockQueue<Entry>) -> bool
-    requires few { length queue.old.items ≤ 2097152 }
+    requires few { length queue.old.items ≤ 536870912 }
     ensures items { queue.new.items ≡ queue.old.items }
     ensures room { result ≡ true → cut_bound ≤ queue.new.spare }
     ensures refused { result ≡ false → queue.new.spare < cut_bound }
@@ -190,6 +190,7 @@ fn insert_pinned(
     placement: &mut Placement,
     key: u64,
     tries: u32,
+    chain: &mut Chain,
     queue: &mut BlockQueue<Entry>,
     splices: &mut u64,
 ) -> Result<bool, Fault>
@@ -219,7 +220,6 @@ fn insert_pinned(
     ensures counted { splices.new ≡ capped (won_splices pass.new.view.log) }
     ensures fit { placement.new ≡ placement.old }
 {
-    let mut chain = Chain::new();
     let mut fork: Option<Fork> = None;
     for _round in 0..tries {
         if !make_room(queue) {
@@ -228,7 +228,7 @@ fn insert_pinned(
             return Err(Fault::NoMemory);
         }
         match try_insert(
-            shared, pass, placement, key, &mut chain, &mut fork, queue, splices,
+            shared, pass, placement, key, chain, &mut fork, queue, splices,
         ) {
             Attempt::Found => {
                 give_back(shared, pass, placement, &fork);
@@ -257,7 +257,7 @@ fn insert_pinned(
 /// A try is a walk with its answer, or a link with at most one cleanup of help. Room for a cleanup is made before each try, that of the first
 /// one before the pin, in the fewest blocks, and no other memory is taken. At most `tries` * (4 `nodes` + 512) + 6 `nodes` + 10 steps.
 /// `Ok(true)`: just one link was won, and no flag; else neither. New nodes are claimed in the order of `placement`, which stays of its fit.
-/// `splices` counts the worker's won splices, up to 2^64 - 1.
+/// `splices` counts the worker's won splices, up to 2^64 - 1. What stands in `chain` is not looked at: it is the room of the walks.
 /// (The insert of Natarajan and Mittal, section 3.2.)
 pub fn insert(
     shared: &Shared,
@@ -265,6 +265,7 @@ pub fn insert(
     placement: &mut Placement,
     key: Key,
     tries: u32,
+    chain: &mut Chain,
     queue: &mut BlockQueue<Entry>,
     splices: &mut u64,
 ) -> Result<bool, Fault>
@@ -300,5 +301,14 @@ pub fn insert(
     let Ok(_epoch) = pin_for(shared, pass, tries, Op::Insert, key) else {
         return Err(Fault::Busy);
     };
-    insert_pinned(shared, pass, placement, key.get(), tries, queue, splices)
+    insert_pinned(
+        shared,
+        pass,
+        placement,
+        key.get(),
+        tries,
+        chain,
+        queue,
+        splices,
+    )
 }

@@ -13,7 +13,7 @@ use Rattle.nm_order.proofs.RunExchanges.{first_keys}
 use Rattle.nm_order.proofs.OrderedLaws.{each_key_lies, each_leaf_has_its_key, each_walk_stays, each_walk_reads, keys_of_state}
 use Rattle.nm_order.proofs.HistoryLaws.{each_run_has_a_history}
 use Rattle.nm_order.proofs.WalksOfRuns.{trace_in-append}
-use Rattle.nm_theorem.specs.Headline.{Headline}
+use Rattle.nm_model.specs.Headline.{Headline}
 use Rattle.nm_theorem.proofs.HeadlineOfRuns.{headline}
 use Rattle.nm_core.specs.Pasts.{IsPast, HasPast, HasHeadlineBehind, HasHistoriesBehind, StaysInOrder}
 

@@ -1,5 +1,6 @@
 -- Worked schedules of ordered cores with their histories: the calls in the order of their moments.
 use Rattle.std.specs.Prelude.{ℕ, true, false, List, [], ◌∷◌, map, Some, Ok, Contains}
+use Rattle.nm_edge.specs.Layouts.{dense}
 use Rattle.nm_edge.specs.declared.edge.Side.TheVariants.{Left, Right}
 use Rattle.nm_model.specs.declared.event.Field.TheVariants.{Key, Edge as EdgeOn, Birth}
 use Rattle.nm_model.specs.declared.event.Op.TheVariants.{Has, Insert, Delete}
@@ -35,7 +36,7 @@ pub record IsAsTold (x : Told) : Type 0 where
 abbrev pub helped : Told
 helped = record {
   schedule = record {
-    layout = record { nodes = 9; workers = 2 };
+    layout = dense 9 2;
     turns =
         t 0 Sight (Ok (Saw 0)) ∷
         t 0 Announce (Ok (Announced 0)) ∷
@@ -107,7 +108,7 @@ helped = record {
 abbrev pub stale : Told
 stale = record {
   schedule = record {
-    layout = record { nodes = 7; workers = 2 };
+    layout = dense 7 2;
     turns =
         t 0 Sight (Ok (Saw 0)) ∷
         t 0 Announce (Ok (Announced 0)) ∷

@@ -3,7 +3,7 @@ use Rattle.std.specs.Prelude.{◌≡◌, ℕ, List, ◌++◌, take, IsSome, All}
 use Rattle.nm_model.specs.declared.event.Event.{Event}
 use Rattle.nm_model.specs.Ordered.{Configuration, HasKey, IsReached, ordered, opening_of, after_in, trace_in}
 use Rattle.nm_order.specs.History.{HasHistory}
-use Rattle.nm_theorem.specs.Headline.{Headline}
+use Rattle.nm_model.specs.Headline.{Headline}
 use Rattle.nm_order.specs.Intervals.{KeysLieInIntervals, LeavesHaveTheirOwnKeys, WalksStayInOrder, WalksReadKeys}
 
 -- the core came from the opening of an ordered core by these events, with calls for keys of the set

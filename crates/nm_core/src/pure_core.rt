@@ -1,11 +1,11 @@
 //! The core: the machine from its opening on.
 ghost use Rattle.std.specs.Prelude.{◌≡◌, ◌≢◌, ◌<◌, ◌≤◌, ◌⊎◌, ◌↔◌, IfOk, IfErr, OnOk, OnErr, IsErrOf, IsSome, None, All, take, length};
 ghost use Rattle.std.specs.Option.{option_copied};
-ghost use Rattle.nm_model.specs.Runs.{start, reply_of};
-ghost use Rattle.nm_model.specs.Ordered.{plain, ordered, HasKey, IsReached, refused_in, applied_in, next_in, outcome_in, after_in, trace_in};
+ghost use Rattle.nm_model.specs.Runs.{reply_of};
+ghost use Rattle.nm_model.specs.Ordered.{opening_of, plain, ordered, HasKey, IsReached, refused_in, applied_in, next_in, outcome_in, after_in, trace_in};
 ghost use Rattle.nm_model.specs.Reports.{counts, holder, keys, ledger_of};
 ghost use Rattle.nm_model.specs.Answers.{IsAnswer};
-ghost use Rattle.nm_edge.specs.Layouts.{IsLayout};
+ghost use Rattle.nm_edge.specs.Layouts.{dense};
 ghost use Rattle.nm_model.specs.Laws.{PinsAreNear};
 ghost use Rattle.nm_model.specs.Lawful.{CountsAddUp};
 ghost use Rattle.nm_model.specs.Traces.{IsLawfulRun};
@@ -15,7 +15,7 @@ ghost use Rattle.nm_order.specs.Intervals.{KeysAscend, KeysTellTheSet};
 ghost use Rattle.nm_core.specs.Pasts.{HasHeadlineBehind, HasHistoriesBehind, HasPast, StaysInOrder};
 ghost use Rattle.nm_core.specs.Stops.{WouldBeAllowed, played};
 
-use nm_edge::{Key, LEAST_NODES, MOST_NODES, MOST_WORKERS};
+use nm_edge::{Key, LEAST_NODES, Layout, MOST_NODES, MOST_WORKERS};
 use nm_machine::{Machine, Searches};
 use nm_model::event::Event;
 use nm_model::ledger::Ledger;
@@ -44,16 +44,6 @@ impl Model for Core {
     ghost invariant = { λ c. IsReached (record { state = c.machine; searches = option_map searches_of c.searches }) };
 }
 
-fn opening_machine(alloc: Global, nodes: u32, workers: u32) -> Result<Machine, NewError>
-    ensures opening { IfOk result (λ machine. machine ≡ start (record { nodes = nodes; workers = workers })) }
-    ensures fits { OnOk result (IsLayout (record { nodes = nodes; workers = workers })) }
-    ensures nodes { IsErrOf result NewError.Nodes ↔ ((nodes < LEAST_NODES) ⊎ (MOST_NODES < nodes)) }
-    ensures workers { IsErrOf result NewError.Workers ↔ ((LEAST_NODES ≤ nodes) × (nodes ≤ MOST_NODES) × ((workers < 1) ⊎ (MOST_WORKERS < workers))) }
-{
-    let layout = layout_of(nodes, workers)?;
-    Ok(Machine::new(alloc, layout)?)
-}
-
 // The call of an event is for a key of the set: the type of its key says so.
 fn read_key(event: &Event)
     ensures { HasKey event.now }
@@ -66,25 +56,35 @@ fn read_key(event: &Event)
 impl Core {
     /// The opening: the empty tree, epoch 0, everybody idle, and every slot above 5 in the pool with birth 0.
     pub fn new(alloc: Global, nodes: u32, workers: u32) -> Result<Core, NewError>
-        ensures opening { IfOk result (λ core. core ≡ plain (record { nodes = nodes; workers = workers })) }
+        ensures opening { IfOk result (λ core. core ≡ plain (dense nodes workers)) }
         ensures nodes { IsErrOf result NewError.Nodes ↔ ((nodes < LEAST_NODES) ⊎ (MOST_NODES < nodes)) }
         ensures workers { IsErrOf result NewError.Workers ↔ ((LEAST_NODES ≤ nodes) × (nodes ≤ MOST_NODES) × ((workers < 1) ⊎ (MOST_WORKERS < workers))) }
     {
-        let machine = opening_machine(alloc, nodes, workers)?;
-        Ok(Core {
-            machine,
-            searches: None,
-        })
+        Ok(Core::of(alloc, layout_of(nodes, workers)?, false)?)
     }
 
     /// The opening of an ordered core, where no worker has an operation yet. It refuses as a plain core does, and then
     /// links and flags that are not where a walk of the worker's own operation ended, and leaves without an answer that its log shows.
     pub fn ordered(alloc: Global, nodes: u32, workers: u32) -> Result<Core, NewError>
-        ensures opening { IfOk result (λ core. core ≡ ordered (record { nodes = nodes; workers = workers })) }
+        ensures opening { IfOk result (λ core. core ≡ ordered (dense nodes workers)) }
         ensures nodes { IsErrOf result NewError.Nodes ↔ ((nodes < LEAST_NODES) ⊎ (MOST_NODES < nodes)) }
         ensures workers { IsErrOf result NewError.Workers ↔ ((LEAST_NODES ≤ nodes) × (nodes ≤ MOST_NODES) × ((workers < 1) ⊎ (MOST_WORKERS < workers))) }
     {
-        let machine = opening_machine(alloc, nodes, workers)?;
+        Ok(Core::of(alloc, layout_of(nodes, workers)?, true)?)
+    }
+
+    /// The opening of a core of that layout, an ordered one or a plain one.
+    pub fn of(alloc: Global, layout: Layout, is_ordered: bool) -> Result<Core, AllocError>
+        ensures opening { IfOk result (λ core. core ≡ opening_of layout is_ordered) }
+    {
+        let workers = layout.workers();
+        let machine = Machine::new(alloc, layout)?;
+        if !is_ordered {
+            return Ok(Core {
+                machine,
+                searches: None,
+            });
+        }
         let searches = Searches::new(alloc, workers)?;
         Ok(Core {
             machine,

@@ -1,14 +1,24 @@
 -- The sizes of a tree.
-use Rattle.std.specs.Prelude.{ℕ, ◌≤◌}
+use Rattle.std.specs.Prelude.{◌≡◌, ◌⊎◌, ℕ, ◌≤◌}
 
--- how many nodes there is room for, and how many workers there are
+-- how many nodes there is room for, how many workers there are, and how many words that say nothing stand behind the note of each
 pub record Layout : Type 0 where
   pub nodes : ℕ
   pub workers : ℕ
+  pub gap : ℕ
 
 -- the sizes that there may be
 pub record IsLayout (L : Layout) : Type 0 where
   pub least : 7 ≤ L.nodes
-  pub most : L.nodes ≤ 1048576
+  pub most : L.nodes ≤ 268435456
   pub some : 1 ≤ L.workers
   pub few : L.workers ≤ 64
+  pub gaps : (L.gap ≡ 0) ⊎ (L.gap ≡ 7)
+
+-- words side by side
+abbrev pub dense : ℕ → ℕ → Layout
+dense nodes workers = record { nodes = nodes; workers = workers; gap = 0 }
+
+-- each note in a cache line of its own
+abbrev pub spaced : ℕ → ℕ → Layout
+spaced nodes workers = record { nodes = nodes; workers = workers; gap = 7 }

@@ -32,18 +32,23 @@ IsField L (at_edge s _) = IsSlot L s
 IsField L (at_birth s) = IsSlot L s
 IsField L (at_row r) = r < rows L
 
--- the first word of a slot's four
+-- the first word behind the epoch's and the notes of so many workers. With no gap the words stand side by side. With a gap of 7 notes are 8 words
+-- apart, a cache line; two words of the epoch's line are thought to stand before it, so that each note begins a line, and so does the first node
+abbrev pub behind_notes : Layout → ℕ → ℕ
+behind_notes L w = 1 + (L.gap - 2) + (1 + L.gap) * w
+
+-- the first word of a slot's four, behind the notes
 abbrev pub slot_word : Layout → ℕ → ℕ
-slot_word L s = 1 + L.workers + 4 * (s - 1)
+slot_word L s = behind_notes L L.workers + 4 * (s - 1)
 
 -- the first word of the pool
 abbrev pub pool_word : Layout → ℕ
-pool_word L = 1 + L.workers + 4 * L.nodes
+pool_word L = behind_notes L L.workers + 4 * L.nodes
 
 -- the number of a field's word
 abbrev pub word : Layout → Field → ℕ
 word L at_epoch = 0
-word L (at_note w) = 1 + w
+word L (at_note w) = behind_notes L w
 word L (at_key s) = slot_word L s
 word L (at_edge s Left) = slot_word L s + 1
 word L (at_edge s Right) = slot_word L s + 2

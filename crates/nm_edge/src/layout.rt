@@ -1,6 +1,6 @@
 //! The sizes of a tree.
-ghost use Rattle.std.specs.Prelude.{◌≡◌, ◌<◌, ◌⊎◌, ◌↔◌, IfOk, IfErr, IsErrOf};
-ghost use Rattle.nm_edge.specs.Layouts.{IsLayout};
+ghost use Rattle.std.specs.Prelude.{◌≡◌, ◌<◌, ◌≤◌, ◌+◌, ◌-◌, ◌*◌, ◌⊎◌, ◌↔◌, IfOk, IfErr, IsErrOf};
+ghost use Rattle.nm_edge.specs.Layouts.{IsLayout, dense, spaced};
 ghost use Rattle.nm_edge.specs.Words.{IsSlot, at_birth, at_edge, at_epoch, at_key, at_note, pool_place, pool_word, word, words};
 
 use crate::edge::Side;
@@ -10,8 +10,11 @@ use thiserror::Error;
 /// The least number of nodes: the five fixed ones, and two for one key.
 pub const LEAST_NODES: u32 = 7;
 
-/// The greatest number of nodes.
+/// The greatest number of nodes of a layout whose words stand side by side.
 pub const MOST_NODES: u32 = 1_048_576;
+
+/// The greatest number of nodes of a layout whose announcements have cache lines of their own.
+pub const MOST_SPACED_NODES: u32 = 268_435_456;
 
 /// The greatest number of workers.
 pub const MOST_WORKERS: u32 = 64;
@@ -19,24 +22,36 @@ pub const MOST_WORKERS: u32 = 64;
 /// The least slot that is not one of the five fixed ones: the slots from here on are claimed and given back.
 pub const FIRST_SLOT: u32 = 6;
 
-/// How many nodes a tree has room for, the five fixed ones counted, and how many workers share it.
+/// How many words stand behind a note that has a cache line of its own: the rest of its 64 bytes.
+const LINE_GAP: u32 = 7;
+
+/// How many words of the epoch's line stand before the epoch's own: those in which an allocator keeps what it knows of a large block.
+const BEFORE_EPOCH: u32 = 2;
+
+/// How many nodes a tree has room for, the five fixed ones counted, how many workers share it, and whether their announcements have cache lines of
+/// their own.
 #[derive(Clone, Copy, Debug, PartialEq, Eq)]
 pub struct Layout {
     nodes: u32,
     workers: u32,
+    gap: u32,
+    // The number of the first word of slot 1.
+    first: u32,
 }
 
 impl Model for Layout {
+    ghost use Rattle.std.specs.Prelude.{◌≡◌};
     ghost use Rattle.nm_edge.specs.Layouts.{IsLayout};
     ghost use Rattle.nm_edge.specs.Layouts as spec;
+    ghost use Rattle.nm_edge.specs.Words.{behind_notes};
 
     ghost Value = { spec.Layout };
 
-    ghost view = { λ l. record { nodes = l.nodes; workers = l.workers } };
+    ghost view = { λ l. record { nodes = l.nodes; workers = l.workers; gap = l.gap } };
 
-    ghost inverse = { λ l. record { nodes = l.nodes; workers = l.workers } };
+    ghost inverse = { λ l. record { nodes = l.nodes; workers = l.workers; gap = l.gap; first = behind_notes l l.workers } };
 
-    ghost invariant = { λ l. IsLayout (record { nodes = l.nodes; workers = l.workers }) };
+    ghost invariant = { λ l. IsLayout (record { nodes = l.nodes; workers = l.workers; gap = l.gap }) × (l.first ≡ behind_notes (record { nodes = l.nodes; workers = l.workers; gap = l.gap }) l.workers) };
 }
 
 /// The number of the epoch's word.
@@ -60,8 +75,8 @@ pub struct PoolPlace {
 /// Why there is no such layout. Where both hold, `Nodes` is answered.
 #[derive(Clone, Copy, Debug, PartialEq, Eq, Error)]
 pub enum LayoutError {
-    /// Fewer than 7 nodes, or more than 1,048,576.
-    #[error("nodes are not 7 to 1048576")]
+    /// Fewer than 7 nodes, or more than there may be.
+    #[error("nodes are fewer than 7, or too many")]
     Nodes,
     /// No worker, or more than 64.
     #[error("workers are not 1 to 64")]
@@ -69,23 +84,51 @@ pub enum LayoutError {
 }
 
 impl Layout {
-    /// The layout of so many nodes and workers.
+    /// The layout of so many nodes, 7 to 1,048,576, and 1 to 64 workers. Its words stand side by side.
     pub fn new(nodes: u32, workers: u32) -> Result<Layout, LayoutError>
-        ensures layout { IfOk result (λ layout. layout ≡ record { nodes = nodes; workers = workers }) }
+        ensures layout { IfOk result (λ layout. layout ≡ dense nodes workers) }
         ensures nodes { IsErrOf result LayoutError.Nodes ↔ ((nodes < LEAST_NODES) ⊎ (MOST_NODES < nodes)) }
         ensures workers { IfErr result (λ e. e ≡ LayoutError.Workers → (workers < 1) ⊎ (MOST_WORKERS < workers)) }
         ensures fits { IfOk result IsLayout }
     {
-        if !(LEAST_NODES..=MOST_NODES).contains(&nodes) {
+        Layout::within(MOST_NODES, nodes, workers, 0)
+    }
+
+    /// The layout of so many nodes, 7 to 268,435,456, and 1 to 64 workers, in which each announcement has a cache line of its own, and no node lies in two
+    /// lines, where the words begin 16 bytes behind the beginning of a line, as large blocks of glibc's `malloc` do.
+    pub fn spaced(nodes: u32, workers: u32) -> Result<Layout, LayoutError>
+        ensures layout { IfOk result (λ layout. layout ≡ spaced nodes workers) }
+        ensures nodes { IsErrOf result LayoutError.Nodes ↔ ((nodes < LEAST_NODES) ⊎ (MOST_SPACED_NODES < nodes)) }
+        ensures workers { IfErr result (λ e. e ≡ LayoutError.Workers → (workers < 1) ⊎ (MOST_WORKERS < workers)) }
+        ensures fits { IfOk result IsLayout }
+    {
+        Layout::within(MOST_SPACED_NODES, nodes, workers, LINE_GAP)
+    }
+
+    /// The layout of so many nodes, 7 to `most`, and 1 to 64 workers, with that gap.
+    fn within(most: u32, nodes: u32, workers: u32, gap: u32) -> Result<Layout, LayoutError>
+        requires most { most ≤ MOST_SPACED_NODES }
+        requires gap { (gap ≡ 0) ⊎ (gap ≡ LINE_GAP) }
+        ensures layout { IfOk result (λ layout. layout ≡ record { nodes = nodes; workers = workers; gap = gap }) }
+        ensures nodes { IsErrOf result LayoutError.Nodes ↔ ((nodes < LEAST_NODES) ⊎ (most < nodes)) }
+        ensures workers { IfErr result (λ e. e ≡ LayoutError.Workers → (workers < 1) ⊎ (MOST_WORKERS < workers)) }
+        ensures fits { IfOk result IsLayout }
+    {
+        if !(LEAST_NODES..=most).contains(&nodes) {
             return Err(LayoutError::Nodes);
         }
         if !(1..=MOST_WORKERS).contains(&workers) {
             return Err(LayoutError::Workers);
         }
-        Ok(Layout { nodes, workers })
+        Ok(Layout {
+            nodes,
+            workers,
+            gap,
+            first: notes_end(gap, workers),
+        })
     }
 
-    /// How many nodes there is room for, 7 to 1,048,576. Slots are numbered from 1 to this.
+    /// How many nodes there is room for, 7 to 268,435,456. Slots are numbered from 1 to this.
     pub fn nodes(self) -> u32
         ensures nodes { result ≡ self.nodes }
         ensures fits { IsLayout self }
@@ -103,7 +146,8 @@ impl Layout {
         workers
     }
 
-    /// How many words there are: one for the epoch, one a worker, four a node, and one for each 64 slots of the pool, in this order.
+    /// How many words there are: one for the epoch, one a worker, four a node, and one for each 64 slots of the pool, in this order. Where announcements
+    /// have lines of their own, each has the seven words behind it too, and five words stand behind the epoch's.
     pub fn words(self) -> u32
         ensures { result ≡ words self }
     {
@@ -122,7 +166,7 @@ impl Layout {
         requires { worker < self.workers }
         ensures { result ≡ word self (at_note worker) }
     {
-        1 + worker
+        notes_end(self.gap, worker)
     }
 
     /// The number of the word of a slot's key, the first of its four. Slots are numbered from 1.
@@ -131,7 +175,7 @@ impl Layout {
         ensures word { result ≡ word self (at_key slot) }
         ensures fits { IsLayout self }
     {
-        1 + self.workers + WORDS_OF_A_NODE * (slot - 1)
+        self.first + WORDS_OF_A_NODE * (slot - 1)
     }
 
     /// The number of the word of a slot's edge at that side.
@@ -169,6 +213,15 @@ impl Layout {
         ensures word { result ≡ pool_word self }
         ensures fits { IsLayout self }
     {
-        1 + self.workers + WORDS_OF_A_NODE * self.nodes
+        self.first + WORDS_OF_A_NODE * self.nodes
     }
+}
+
+/// The number of the first word behind the epoch's and the notes of so many workers, with that gap behind each.
+fn notes_end(gap: u32, workers: u32) -> u32
+    requires { (workers ≤ MOST_WORKERS) × ((gap ≡ 0) ⊎ (gap ≡ LINE_GAP)) }
+    ensures word { result ≡ 1 + (gap - 2) + (1 + gap) * workers }
+    ensures few { result ≤ 518 }
+{
+    1 + gap.saturating_sub(BEFORE_EPOCH) + (1 + gap) * workers
 }

@@ -13,7 +13,8 @@ pub use laws::{
     fields_are_apart, packing_gives_the_word, pool_places_are_apart, unpacking_gives_the_edge,
 };
 pub use layout::{
-    FIRST_SLOT, LEAST_NODES, Layout, LayoutError, MOST_NODES, MOST_WORKERS, PoolPlace,
+    FIRST_SLOT, LEAST_NODES, Layout, LayoutError, MOST_NODES, MOST_SPACED_NODES, MOST_WORKERS,
+    PoolPlace,
 };
 pub use node::{LAST_NUMBER, NodeId};
 

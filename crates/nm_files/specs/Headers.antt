@@ -1,6 +1,7 @@
 -- The first line of a schedule: its version, how many nodes and workers it is for, and whether its core is ordered.
 use Rattle.std.specs.Prelude.{ℕ, List, [], ◌∷◌, codes, Bool, true, false, ◌||◌, nat_lt, Result, Ok, Err, if◌then◌else◌}
 use Rattle.std.specs.Str.{bytes_eq}
+use Rattle.nm_edge.specs.Layouts.{dense}
 use Rattle.nm_files.specs.declared.fault.Reason.{Reason}
 use Rattle.nm_files.specs.declared.fault.Reason.TheVariants as reason
 use Rattle.nm_files.specs.declared.header.Limits.{Limits}
@@ -38,7 +39,7 @@ abbrev pub header_within : Limits → ℕ → ℕ → Result Header Reason
 header_within limits nodes workers =
     if not_within 7 limits.nodes nodes then Err reason.Nodes
     else if not_within 1 limits.workers workers then Err reason.Workers
-    else Ok (record { layout = record { nodes = nodes; workers = workers }; is_ordered = limits.is_ordered })
+    else Ok (record { layout = dense nodes workers; is_ordered = limits.is_ordered })
 
 unfoldable pub header_by : Limits → List ℕ → List ℕ → Result Header Reason
 header_by limits nodes workers = do

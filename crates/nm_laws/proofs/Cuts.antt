@@ -16,13 +16,13 @@ use Rattle.nm_model.specs.Knowledge.{knows, read, is_flagged, is_tagged, way, cu
 use Rattle.nm_model.specs.Paths.{follow, at, IsCut}
 use Rattle.nm_model.specs.Step.{outside, is_frozen, refusal, reply, write, exchanged, kept, cut_nodes}
 use Rattle.nm_model.specs.Runs.{State, of, start, after, next, outcome, refused, answered, unless_refused, applied}
-use Rattle.nm_model.specs.Laws.{OfEachState, slots_of, CutsJust, IsFrozenChain, GoesDown, NamesBirths, OfEachCut}
+use Rattle.nm_model.specs.Laws.{OfEachState, slots_of, CutsJust, NamesBirths, OfEachCut}
 use Rattle.nm_model.proofs.Numbers.{among}
 use Rattle.nm_laws.proofs.Steps.{Allowed, allowed, passed, third, fourth}
 use Rattle.nm_laws.proofs.Trees.{same_follow}
 use Rattle.nm_laws.proofs.CutPaths.{nodes_cut}
 use Rattle.nm_laws.proofs.Pictures.{below}
-use Rattle.nm_laws.proofs.Splices.{IsWay, spliced, IsSplice, cut_law, cut_law_back, among_at, at_among}
+use Rattle.nm_laws.proofs.Splices.{spliced, IsSplice, cut_law, cut_law_back, among_at, at_among}
 use Rattle.nm_laws.proofs.Views.{picture, edge_put, held_queue}
 use Rattle.nm_laws.proofs.TreeSlots.{is_to-true}
 use Rattle.nm_laws.proofs.TreeSplice.{splice_shown, cut_is, named_slots}
@@ -132,19 +132,11 @@ module _ (s : State) (h : ℕ → ℕ) (law : Lawful s h) (w a : ℕ) (d : Side)
       (record { path = c.was.path; ends = c.was.ends; is_slot = c.was.is_slot })
       (λ r. c.gone (record { path = r.path; ends = new_paths r.path ∙ r.ends; is_slot = r.is_slot })))
 
-  -- the slots of a way, from its first node downwards
-  downwards : (z : ℕ) (sides : List Side) → IsWay (picture s h) z sides → IsFrozenChain s.memory z (nodes_cut (below (picture s h)) z sides)
-  downwards z [] i = tt
-  downwards z (e ∷ sides) i = (refl, e, i.1, refl, i.0, downwards (below (picture s h) z e) sides i.2)
-
-  goes_down : IsFrozenChain s.memory x (slots_of (cut_nodes s.layout s.memory (of s w) x p keep))
-  goes_down = rw slots_are (downwards x (k.sides ++ keep ∷ []) (rw (ap (λ (e : Edge). e.slot) k.is) at k.splice.is_way))
-
 named_again : (m : Memory) (xs : List ℕ) → map (named m) xs ≡ map (named m) (slots_of (map (named m) xs))
 named_again m [] = refl
 named_again m (x ∷ xs) = ap (λ (ns : List NodeId). named m x ∷ ns) (named_again m xs)
 
-pub cuts_just : OfEachState (OfEachCut (λ before successor ns after. CutsJust before ns after))
+pub cuts_just : OfEachState (OfEachCut (λ before successor ns after. CutsJust before.memory ns after.memory))
 unfolding applied write
 cuts_just L enough turns w a d x p keep ns is y =
     let s = after (start L) turns in
@@ -156,13 +148,6 @@ cuts_just L enough turns w a d x p keep ns is y =
       (λ c. among_contains _ y (cut_back s l.holder l.law w a d x p keep k y (rw new_memory at c))),
       (λ c. rw new_memory (cut_there s l.holder l.law w a d x p keep k y (contains_among _ y c))),
     )
-
-pub cuts_go_down : OfEachState (OfEachCut (λ before successor ns after. GoesDown before successor ns))
-cuts_go_down L enough turns w a d x p keep ns is =
-    let s = after (start L) turns in
-    let won = won_splice s w a d x p keep ns is in
-    let l = lawful L enough turns in
-    rw (← won.nodes) (goes_down s l.holder l.law w a d x p keep (shown s l.holder l.law w a d x p keep won.ok won.won))
 
 pub cuts_name_births : OfEachState (OfEachCut (λ before successor ns after. NamesBirths before ns))
 cuts_name_births L enough turns w a d x p keep ns is =

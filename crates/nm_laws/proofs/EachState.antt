@@ -15,7 +15,7 @@ use Rattle.nm_model.specs.Places.{slot_of}
 use Rattle.nm_model.specs.Runs.{State, of, start, after}
 use Rattle.nm_model.specs.Laws.{OfEachState}
 use Rattle.nm_model.specs.declared.knowledge.Draft.{Draft}
-use Rattle.nm_model.specs.Knowledge.{knows, draft_of, read, is_null, knows_leaf}
+use Rattle.nm_model.specs.Knowledge.{knows, draft_of, read, is_null}
 use Rattle.nm_model.specs.Lawful.{EachReadStands, KnownLeavesAreLeaves, filled_on, IsQueued, IsWaiting, CanReach, QueuedNodesAreFrozen, TaggedEdgesHaveFlaggedTwins, FlaggedEdgesLeadToLeaves, OnlyThePinnedKnow, ReachIsShared, ReachIsGuarded, EpochsAgree}
 use Rattle.nm_laws.proofs.Pictures.{InReach, IsLive, nowhere_else, reached_live}
 use Rattle.nm_laws.proofs.Pictures.Spot.{InPool, PrivateTo, InQueue}

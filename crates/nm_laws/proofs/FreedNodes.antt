@@ -19,7 +19,7 @@ use Rattle.nm_model.specs.Knowledge.{Knowledge, newcomer}
 use Rattle.nm_model.specs.Learning.{learn}
 use Rattle.nm_model.specs.Searches.{is_node}
 use Rattle.nm_model.specs.Runs.{State, of, start, after, trace, next, outcome, answered, refused, reply_of, applied, unless_refused}
-use Rattle.nm_model.specs.Laws.{OfEachState, OfEachLedgerOfATree, node_in, nodes_freed_of, freed_by, is_among, freed_among, frees_of, IsTheFrees, FreesThenQueueAreTheCuts, FreesAFront, EachFreeTakesAFront}
+use Rattle.nm_model.specs.Laws.{OfEachState, OfEachLedgerOfATree, node_in, nodes_freed_of, freed_by, is_among, freed_among, freed_of, IsTheFrees, FreesThenQueueAreTheCuts, FreesAFront, EachFreeTakesAFront}
 use Rattle.nm_model.proofs.Lists.{get_stays, get_right, any_at}
 use Rattle.nm_laws.proofs.Steps.{Allowed, allowed}
 use Rattle.nm_laws.proofs.Sizes.{Staffed}
@@ -115,7 +115,7 @@ node_is_itself n = and_from (n.slot == n.slot) (n.birth == n.birth) (eq-eqb n.sl
 
 any_from : (ns : List NodeId) (k : ℕ) (n : NodeId) → slice_get ns k ≡ Some n → is_among ns n ≡ true
 any_from [] k n at = absurd (none-some n at)
-any_from (m ∷ ns) zero n at = rw (same_Some m n at, node_is_itself n) refl
+any_from (m ∷ ns) zero n at = ap (λ (b : Bool). b || is_among ns n) (ap (is_node n) (same_Some m n at) ∙ node_is_itself n)
 any_from (m ∷ ns) (suc k) n at = by (is_node n m) (any_from ns k n at)
   where
     by : (b : Bool) → is_among ns n ≡ true → (b || is_among ns n) ≡ true
@@ -281,7 +281,7 @@ fresh_freed L o = go (ledger_at (start L) (λ o. o) o) refl
 pub each_freed_is_the_frees : OfEachLedgerOfATree IsTheFrees
 each_freed_is_the_frees L enough turns w o l is = by (freed_over (start L) (sound_start L enough) turns)
   where
-    by : FreedOver (start L) (sound_start L enough) turns → l.freed ≡ frees_of o (trace (start L) turns)
+    by : FreedOver (start L) (sound_start L enough) turns → l.freed ≡ freed_of o (trace (start L) turns)
     by run =
         let here : ledger_at (after (start L) turns) run.last.holder o ≡ Some l = the_one (after (start L) turns) run.last w o l is in
         sym (ap freed_in here) ∙ (run.freed o ∙ (ap (λ (ns : List NodeId). ns ++ freed_among (retired_in (ledger_at (after (start L) turns) run.last.holder o)) (trace (start L) turns)) (fresh_freed L o)

@@ -1,8 +1,9 @@
 -- Grace: who was pinned when a node was cut has left before it is freed.
-use Rattle.std.proofs.Common.{◌≡◌, ℕ, zero, suc, ◌+◌, ◌-◌, ◌==◌, ◌<◌, ◌≤◌, ◌≢◌, ◌⊎◌, inl, inr, Bool, true, false, cond, List, [], ◌∷◌, ◌++◌, length, map, refl, sym, ap, subst, ◌∙◌, arith, length-append, le_of_eq}
-use Rattle.std.specs.Prelude.{Option, Some, None, is_some, is_none, slice_get, drop, Result, Ok, Err, Contains, option_map}
+use Rattle.std.proofs.Common.{◌≡◌, ℕ, zero, suc, ◌+◌, ◌-◌, ◌==◌, ◌<◌, ◌≤◌, ◌≢◌, ◌⊎◌, inl, inr, Bool, true, false, cond, ◌||◌, List, [], ◌∷◌, ◌++◌, length, map, refl, sym, ap, subst, ◌∙◌, arith, length-append, le_of_eq}
+use Rattle.std.specs.Prelude.{Option, Some, None, is_some, is_none, slice_get, drop, Result, Ok, Err, option_map}
 use native.Mathlib.Decide.{ℕ_discrete}
-use Rattle.std.proofs.lemmas.Bool.{cond_both, cond-true, eq-eqb, cases_lt}
+use Rattle.std.specs.List.{list_any}
+use Rattle.std.proofs.lemmas.Bool.{cond_both, cond-true, eq-eqb, and_from, cases_lt}
 use Rattle.std.proofs.lemmas.List.{length-map}
 use Rattle.std.proofs.lemmas.Option.{none-some, same_Some, slice_get-get_or}
 use Rattle.nm_edge.specs.Edges.{Edge, is_to}
@@ -23,7 +24,8 @@ use Rattle.nm_model.specs.Knowledge.{Knowledge}
 use Rattle.nm_model.specs.Learning.{learn}
 use Rattle.nm_model.specs.Step.{exchanged, reply_sight, confirmed, reply_scan, reply, write}
 use Rattle.nm_model.specs.Runs.{State, of, start, after, next, trace, outcome, answered, refused, reply_of, applied, unless_refused}
-use Rattle.nm_model.specs.Laws.{OfEachState, nodes_cut_of, node_in, IsLeave, left_by, HasLeft, GraceHolds}
+use Rattle.nm_model.specs.Laws.{OfEachState, nodes_cut_of, node_in, HasLeft, GraceHolds}
+use Rattle.nm_model.specs.Headline.{departs, leaves}
 use Rattle.nm_laws.proofs.Steps.{each, Allowed, allowed}
 use Rattle.nm_laws.proofs.Sizes.{Staffed}
 use Rattle.nm_laws.proofs.Epochs.{alike_claim, alike_give, alike_look, alike_fill, alike_link, alike_flag, alike_tag, alike_splice, other_worker}
@@ -40,6 +42,27 @@ use Rattle.nm_laws.proofs.Retired.{retired_in, retired_step}
 use Rattle.nm_laws.proofs.Turns.{LawfulTurn, lawful_turn}
 use Rattle.nm_model.proofs.Lists.{get_left, get_right, get_stays}
 use Rattle.nm_laws.proofs.Once.{IsSound, OnceLaw, sound, once_turn, sound_over}
+
+-- ---- leaves
+
+-- a leave, with an answer or without
+abbrev IsLeave : Event → Type 0
+IsLeave Leave = Unit {0}
+IsLeave (LeaveWith answer) = Unit {0}
+IsLeave e = ⊥
+
+-- worker w left by that event
+abbrev left_by : ℕ → Event → Turn
+left_by w e = record { worker = w; event = e; outcome = Ok Departed }
+
+or-true : (b : Bool) → (b || true) ≡ true
+or-true true = refl
+or-true false = refl
+
+leave_departs : (e : Event) → IsLeave e → departs e (Ok Departed) ≡ true
+leave_departs Leave is = refl
+leave_departs (LeaveWith answer) is = refl
+leave_departs e is = absurd is
 
 -- ---- a pin stays until its worker leaves
 
@@ -122,8 +145,8 @@ pin_turn s staffed t u p pin = go (refused s t.0 t.1) refl
             own (inl leave) e = inl (t.1, leave, λ i. record { worker = sym e i; event = t.1; outcome = Ok (is_departed s t.0 t.1 leave i) })
             own (inr same) e = inr (rw (applied_is s t.0 t.1 alone) (each s.layout (λ y k. y ≡ t.0 → k.brief.pin ≡ Some p) s.workers t.0 _ inside (λ _. same) (λ y far z. absurd (far z)) u e))
 
-later : {X : Type 0} (y x : X) (ys : List X) → Contains ys x → Contains (y ∷ ys) x
-later y x ys c = (suc c.0, (let lt = c.1 in omega arith), c.2)
+leaves_by : (u : ℕ) (t : Turn) → IsLeaveOf u t → leaves u t ≡ true
+leaves_by u t left = ap (leaves u) left.2 ∙ and_from (u == u) (departs left.0 (Ok Departed)) (eq-eqb u u refl) (leave_departs left.0 left.1)
 
 -- over a run a pin stays, or its worker left
 pub left_or_pinned : (s : State) → Staffed s → (ts : List (ℕ × Event)) (u p : ℕ) → (of s u).brief.pin ≡ Some p → HasLeft u (trace s ts) ⊎ ((of (after s ts) u).brief.pin ≡ Some p)
@@ -132,12 +155,12 @@ left_or_pinned s staffed [] u p pin = inr pin
 left_or_pinned s staffed (t ∷ ts) u p pin = go (pin_turn s staffed t u p pin) (λ still. left_or_pinned (next s t) (staffed_next s t staffed) ts u p still)
   where
     on : HasLeft u (trace (next s t) ts) ⊎ ((of (after (next s t) ts) u).brief.pin ≡ Some p) → HasLeft u (told_as s t ∷ trace (next s t) ts) ⊎ ((of (after (next s t) ts) u).brief.pin ≡ Some p)
-    on (inl c) = inl (c.0, c.1, later (told_as s t) (left_by u c.0) (trace (next s t) ts) c.2)
+    on (inl left) = inl (ap (λ (b : Bool). leaves u (told_as s t) || b) left ∙ or-true (leaves u (told_as s t)))
     on (inr still) = inr still
 
     go : IsLeaveOf u (told_as s t) ⊎ ((of (next s t) u).brief.pin ≡ Some p) → ((of (next s t) u).brief.pin ≡ Some p → HasLeft u (trace (next s t) ts) ⊎ ((of (after (next s t) ts) u).brief.pin ≡ Some p))
         → HasLeft u (told_as s t ∷ trace (next s t) ts) ⊎ ((of (after (next s t) ts) u).brief.pin ≡ Some p)
-    go (inl leave) rest = inl (leave.0, leave.1, (0, omega arith, leave.2))
+    go (inl leave) rest = inl (ap (λ (b : Bool). b || list_any (leaves u) (trace (next s t) ts)) (leaves_by u (told_as s t) leave))
     go (inr still) rest = on (rest still)
 
 -- ---- the epoch never falls

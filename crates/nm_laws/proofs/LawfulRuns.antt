@@ -1,6 +1,6 @@
 -- The headline of one run, from any state that can be reached.
 use Rattle.std.proofs.Common.{◌≡◌, ℕ, zero, suc, ◌+◌, ◌<◌, List, [], ◌∷◌, ◌++◌, length, take, append_assoc, refl, sym, ap, subst, ◌∙◌, arith}
-use Rattle.std.specs.Prelude.{◌↔◌, Some, Result, Ok, Contains}
+use Rattle.std.specs.Prelude.{Some, Result, Ok, Contains}
 use Rattle.std.proofs.lemmas.List.{length-append}
 use Rattle.nm_edge.specs.declared.node.NodeId.{NodeId}
 use Rattle.nm_model.specs.declared.event.Event.{Event}
@@ -9,7 +9,6 @@ use Rattle.nm_model.specs.declared.reply.Reply.{Reply}
 use Rattle.nm_model.specs.declared.reply.Reply.TheVariants.{Cut}
 use Rattle.nm_model.specs.declared.reply.Refused.{Refused}
 use Rattle.nm_model.specs.declared.trace.Turn.{Turn}
-use Rattle.nm_model.specs.Paths.{IsCut}
 use Rattle.nm_model.specs.Places.{EachSlotInOnePlace}
 use Rattle.nm_model.specs.Runs.{State, of, after, trace, next, outcome}
 use Rattle.nm_laws.proofs.Reaches.{IsReachable}
@@ -113,7 +112,7 @@ nothing_in : (x : ℕ) (xs : List ℕ) → xs ≡ [] → Contains xs x → ⊥
 nothing_in x xs none there = let size = ap (λ (ys : List ℕ). length ys) none in let below = there.1 in absurd (omega arith)
 
 abbrev CutsItsNodes : State → ℕ × Event → Type 0
-CutsItsNodes s t = CutsJust s (nodes_cut_of (outcome s t)) (next s t)
+CutsItsNodes s t = CutsJust s.memory (nodes_cut_of (outcome s t)) (next s t).memory
 
 as_splice : (w : ℕ) (e f : Event) → e ≡ f → ◌≡◌ {A = ℕ × Event} (w, e) (w, f)
 as_splice w e f is = ap (λ (y : Event). (w, y)) is
@@ -125,13 +124,13 @@ turn_cuts s r t = go (told_of (outcome s t))
     go (CutNodes ns is) =
         let by = of_reachable OnlySplicesAnswerCuts only_splices_answer_cuts s r t ns is in
         let e = as_splice t.0 t.1 (Splice by.0 by.1 by.2 by.3 by.4) by.5 in
-        λ x. rw (is, e) (of_reachable (OfEachCut (λ before successor ns after. CutsJust before ns after)) cuts_just s r t.0 by.0 by.1 by.2 by.3 by.4 ns (rw (← e) is) x)
+        λ x. rw (is, e) (of_reachable (OfEachCut (λ before successor ns after. CutsJust before.memory ns after.memory)) cuts_just s r t.0 by.0 by.1 by.2 by.3 by.4 ns (rw (← e) is) x)
     go (NoCut none uncut) =
         λ x. ((λ c. absurd (c.gone (of_reachable NothingElseCuts nothing_else_cuts s r t uncut x c.was))), (λ c. absurd (nothing_in x _ (ap slots_of none) c)))
 
 -- the same of a turn as a trace tells it, between the states that it names
 told_cuts : (s : State) → IsReachable s → (t : ℕ × Event) (turn : Turn) (before behind : State) → turn ≡ told s t → before ≡ s → behind ≡ next s t
-    → CutsJust before (nodes_cut_of turn.outcome) behind
+    → CutsJust before.memory (nodes_cut_of turn.outcome) behind.memory
 told_cuts s r t turn before behind is here there x = rw (here, there, ap (λ (y : Turn). y.outcome) is) (turn_cuts s r t x)
 
 -- ---- the states of a run

@@ -1,18 +1,20 @@
 -- The headline of one run of any core: a turn that is refused may be told as any other refused one, so an ordered run is told as a plain run is.
-use Rattle.std.proofs.Common.{◌≡◌, ℕ, zero, suc, ◌<◌, ◌==◌, Bool, true, false, cond, List, [], ◌∷◌, ◌++◌, length, take, get_or, refl, sym, ap, subst, ◌∙◌, arith}
+use Rattle.std.proofs.Common.{◌≡◌, ℕ, zero, suc, ◌==◌, Bool, true, false, cond, ◌&&◌, ◌||◌, List, [], ◌∷◌, ◌++◌, length, take, refl, sym, ap, subst, ◌∙◌, arith}
 use Rattle.std.specs.Prelude.{Option, Some, None, filter, Result, Ok, Err}
+use Rattle.std.specs.List.{list_any}
 use Rattle.std.proofs.lemmas.Bool.{le-leb}
 use Rattle.nm_edge.specs.declared.node.NodeId.{NodeId}
 use Rattle.nm_model.specs.declared.event.Event.{Event}
-use Rattle.nm_model.specs.declared.event.Event.TheVariants.{Sight}
+use Rattle.nm_model.specs.declared.event.Event.TheVariants.{Sight, Leave, LeaveWith}
 use Rattle.nm_model.specs.declared.reply.Reply.{Reply}
-use Rattle.nm_model.specs.declared.reply.Reply.TheVariants.{Cut, Freed, Departed}
+use Rattle.nm_model.specs.declared.reply.Reply.TheVariants.{Cut, Freed}
 use Rattle.nm_model.specs.declared.reply.Refused.{Refused}
 use Rattle.nm_model.specs.declared.reply.Refused.TheVariants.{NoWorker}
 use Rattle.nm_model.specs.declared.trace.Turn.{Turn}
 use Rattle.nm_model.specs.Runs.{State, of, refused, reply_of, applied, unless_refused, answered, next, outcome, after, trace}
 use Rattle.nm_model.specs.Ordered.{Configuration, refused_in, next_in, outcome_in, after_in, trace_in, IsReached}
-use Rattle.nm_model.specs.Laws.{nodes_cut_of, cuts_of, nodes_freed_of, freed_by, is_among, left_by, HasLeft}
+use Rattle.nm_model.specs.Laws.{nodes_cut_of, cuts_of, nodes_freed_of, freed_by, is_among, HasLeft}
+use Rattle.nm_model.specs.Headline.{departs, leaves}
 use Rattle.nm_model.specs.Traces.{IsLawfulRun, EachTurnCutsItsNodes, LedgersGrowByTheCuts, LedgersFreeWhatGivesFreed, GraceInRun}
 use Rattle.nm_laws.proofs.LawfulRuns.{lawful_run}
 use Rattle.nm_laws.proofs.Configurations.{refused_next, refused_outcome, allowed_state, allowed_outcome, state_outcome, reached_state}
@@ -39,10 +41,6 @@ same_cut x y (BothRefused q r a b) = ap nodes_cut_of a ∙ sym (ap nodes_cut_of 
 same_reply : (x y : Turn) (r : Reply) → AlikeTurn x y → y.outcome ≡ Ok r → x.outcome ≡ Ok r
 same_reply x y r (Same e) is = ap (λ (t : Turn). t.outcome) e ∙ is
 same_reply x y r (BothRefused p q a b) is = absurd (no_reply q r (sym b ∙ is))
-
-same_turn : (x y t : Turn) (r : Reply) → AlikeTurn x y → t.outcome ≡ Ok r → x ≡ t → y ≡ t
-same_turn x y t r (Same e) is at = sym e ∙ at
-same_turn x y t r (BothRefused p q a b) is at = absurd (no_reply p r (sym a ∙ (ap (λ (t : Turn). t.outcome) at ∙ is)))
 
 same_length : (xs ys : List Turn) → Alike xs ys → length xs ≡ length ys
 unfolding Alike
@@ -87,17 +85,32 @@ same_frees [] (y ∷ ys) a = absurd a
 same_frees (x ∷ xs) [] a = absurd a
 same_frees (x ∷ xs) (y ∷ ys) a = λ i. same_freed x y a.0 i ++ same_frees xs ys a.1 i
 
-contains_alike : (xs ys : List Turn) (t : Turn) (r : Reply) → t.outcome ≡ Ok r → Alike xs ys → (i : ℕ) → i < length xs → get_or xs i t ≡ t → get_or ys i t ≡ t
+-- nor does it leave
+none_departs : (e : Event) (q : Refused) → departs e (Err q) ≡ false
+none_departs Leave q = refl
+none_departs (LeaveWith answer) q = refl
+none_departs e q = refl
+
+none_leaves : (w : ℕ) (t : Turn) (q : Refused) → t.outcome ≡ Err q → leaves w t ≡ false
+none_leaves w t q is = ap (λ (b : Bool). (t.worker == w) && b) (ap (departs t.event) is ∙ none_departs t.event q) ∙ never (t.worker == w)
+  where
+    never : (b : Bool) → (b && false) ≡ false
+    never true = refl
+    never false = refl
+
+same_leave : (w : ℕ) (x y : Turn) → AlikeTurn x y → leaves w x ≡ leaves w y
+same_leave w x y (Same e) = ap (leaves w) e
+same_leave w x y (BothRefused q r a b) = none_leaves w x q a ∙ sym (none_leaves w y r b)
+
+same_leaves : (w : ℕ) (xs ys : List Turn) → Alike xs ys → list_any (leaves w) xs ≡ list_any (leaves w) ys
 unfolding Alike
-contains_alike [] ys t r is a i below at = absurd (omega (arith, below))
-contains_alike (x ∷ xs) [] t r is a i below at = absurd a
-contains_alike (x ∷ xs) (y ∷ ys) t r is a zero below at = same_turn x y t r a.0 is at
-contains_alike (x ∷ xs) (y ∷ ys) t r is a (suc i) below at = contains_alike xs ys t r is a.1 i (omega (arith, below)) at
+same_leaves w [] [] a = refl
+same_leaves w [] (y ∷ ys) a = absurd a
+same_leaves w (x ∷ xs) [] a = absurd a
+same_leaves w (x ∷ xs) (y ∷ ys) a = λ i. same_leave w x y a.0 i || same_leaves w xs ys a.1 i
 
 left_alike : (w : ℕ) (xs ys : List Turn) → Alike xs ys → HasLeft w xs → HasLeft w ys
-left_alike w xs ys a left =
-    let at = left.2 in
-    (left.0, left.1, (at.0, subst (λ (n : ℕ). at.0 < n) (same_length xs ys a) at.1, contains_alike xs ys (left_by w left.0) Departed refl a at.0 at.1 at.2))
+left_alike w xs ys a left = sym (same_leaves w xs ys a) ∙ left
 
 -- where the one is split, the other is too
 record Split (xs first : List Turn) (turn : Turn) (rest : List Turn) : Type 0 where

@@ -1,15 +1,16 @@
 -- The chain of a splice that is won ends at the parent, and the ancestor gets the edge that the parent keeps.
-use Rattle.std.proofs.Common.{◌≡◌, ℕ, eqb, Bool, true, false, ◌&&◌, List, [], ◌∷◌, ◌++◌, refl, sym, ap, ◌∙◌}
+use Rattle.std.proofs.Common.{◌≡◌, ℕ, eqb, Bool, true, false, ◌&&◌, List, [], ◌∷◌, ◌++◌, refl, sym, ap, subst, ◌∙◌}
 use Rattle.std.proofs.lemmas.Bool.{cond-true, cond-false, eqb-true}
-use Rattle.nm_edge.specs.Edges.{Edge, untagged, is_to}
+use Rattle.nm_edge.specs.Edges.{Edge, untagged, is_to, other}
 use Rattle.nm_edge.specs.declared.edge.Side.{Side}
 use Rattle.nm_model.specs.Knowledge.{read}
-use Rattle.nm_model.specs.Laws.{OfEachState, slots_of}
-use Rattle.nm_model.specs.Memory.{edge, put_edge}
+use Rattle.nm_model.specs.Laws.{OfEachState, OfEachCut, slots_of}
+use Rattle.nm_model.specs.Memory.{Memory, edge, child, put_edge}
 use Rattle.nm_model.specs.Paths.{follow}
 use Rattle.nm_model.specs.Runs.{State, of, start, after, applied}
 use Rattle.nm_model.specs.Step.{write, exchanged, kept, cut_nodes}
-use Rattle.nm_laws.specs.KeptEdges.{IsFrozenChainTo, KeepsTheEdge, EachSpliceKeepsTheEdge}
+use Rattle.nm_model.specs.Headline.{IsFrozenChainTo}
+use Rattle.nm_laws.specs.KeptEdges.{KeepsTheEdge, EachSpliceKeepsTheEdge}
 use Rattle.nm_laws.proofs.CutPaths.{nodes_cut}
 use Rattle.nm_laws.proofs.Cuts.{Shown, shown, slots_are, won_splice}
 use Rattle.nm_laws.proofs.Lawful.{lawful}
@@ -67,3 +68,27 @@ each_splice_keeps_the_edge L enough turns w a d x p keep ns is =
     let k = shown s l.holder l.law w a d x p keep won.ok won.won in
     let memory : exchanged s.memory a d x (kept (read (of s w) p keep)) ≡ put_edge s.memory a d (kept (read (of s w) p keep)) = cond-true (is_to (edge s.memory a d) x) _ s.memory won.won in
     rw (won.next_is, ← won.nodes, memory) (keeps_the_edge s l.holder l.law w a d x p keep k)
+
+-- ---- the same with no word on where the chain ends
+
+-- from a slot downwards: each internal node and then its flagged leaf, and on by its tagged edge
+abbrev pub IsFrozenChain : Memory → ℕ → List ℕ → Type 0
+IsFrozenChain m s [] = Unit {0}
+IsFrozenChain m s (x ∷ []) = ⊥
+IsFrozenChain m s (x ∷ leaf ∷ rest) = (x ≡ s) × (side : Side) × ((edge m s (other side)).flag ≡ true) × (child m s (other side) ≡ leaf) × ((edge m s side).tag ≡ true) × IsFrozenChain m (child m s side) rest
+
+goes_down : (m : Memory) (p : ℕ) (keep : Side) (xs : List ℕ) (s : ℕ) → IsFrozenChainTo m p keep s xs → IsFrozenChain m s xs
+goes_down m p keep [] s c = absurd c
+goes_down m p keep (x ∷ []) s c = absurd c
+goes_down m p keep (x ∷ leaf ∷ []) s c = (c.0, keep, ap (λ (z : ℕ). (edge m z (other keep)).flag) (sym c.0) ∙ c.2.1, ap (λ (z : ℕ). child m z (other keep)) (sym c.0) ∙ c.2.2, ap (λ (z : ℕ). (edge m z keep).tag) (sym c.0) ∙ c.2.0, tt)
+goes_down m p keep (x ∷ leaf ∷ y ∷ rest) s c = (
+  c.0,
+  c.1,
+  ap (λ (z : ℕ). (edge m z (other c.1)).flag) (sym c.0) ∙ c.2.1,
+  ap (λ (z : ℕ). child m z (other c.1)) (sym c.0) ∙ c.2.2,
+  ap (λ (z : ℕ). (edge m z c.1).tag) (sym c.0) ∙ c.2.0,
+  subst (λ (z : ℕ). IsFrozenChain m (child m z c.1) (y ∷ rest)) c.0 (goes_down m p keep (y ∷ rest) (child m x c.1) c.3),
+)
+
+pub cuts_go_down : OfEachState (OfEachCut (λ before successor ns after. IsFrozenChain before.memory successor (slots_of ns)))
+cuts_go_down L enough turns w a d x p keep ns is = goes_down (after (start L) turns).memory p keep (slots_of ns) x (each_splice_keeps_the_edge L enough turns w a d x p keep ns is).chain

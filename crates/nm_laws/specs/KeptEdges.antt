@@ -1,25 +1,13 @@
 -- What a splice that is won does to the edges of the tree: its chain ends at the parent, and the ancestor gets the edge that the parent keeps.
-use Rattle.std.specs.Prelude.{◌≡◌, ℕ, true, false, List, [], ◌∷◌, Ok}
-use Rattle.nm_edge.specs.Edges.{to, other}
+use Rattle.std.specs.Prelude.{◌≡◌, ℕ, false, List, Ok}
+use Rattle.nm_edge.specs.Edges.{to}
 use Rattle.nm_edge.specs.declared.edge.Side.{Side}
 use Rattle.nm_edge.specs.declared.node.NodeId.{NodeId}
 use Rattle.nm_model.specs.declared.event.Event.TheVariants.{Splice}
 use Rattle.nm_model.specs.declared.reply.Reply.TheVariants.{Cut}
 use Rattle.nm_model.specs.Memory.{Memory, edge, child}
-use Rattle.nm_model.specs.Laws.{slots_of}
+use Rattle.nm_model.specs.Headline.{slots_of, IsFrozenChainTo}
 use Rattle.nm_model.specs.Runs.{State, next, outcome}
-
--- a node's edge on a side is tagged, and the one beside it is flagged and leads to the leaf
-abbrev pub IsFrozenOver : Memory → ℕ → Side → ℕ → Type 0
-IsFrozenOver m x side leaf = ((edge m x side).tag ≡ true) × ((edge m x (other side)).flag ≡ true) × (child m x (other side) ≡ leaf)
-
--- from a slot down to a parent: each internal node and then its flagged leaf, and on by its tagged edge; the last of these nodes is the parent,
--- and its tagged edge is the one to keep
-abbrev pub IsFrozenChainTo : Memory → ℕ → Side → ℕ → List ℕ → Type 0
-IsFrozenChainTo m parent keep s [] = ⊥
-IsFrozenChainTo m parent keep s (x ∷ []) = ⊥
-IsFrozenChainTo m parent keep s (x ∷ leaf ∷ []) = (x ≡ s) × (x ≡ parent) × IsFrozenOver m x keep leaf
-IsFrozenChainTo m parent keep s (x ∷ leaf ∷ y ∷ rest) = (x ≡ s) × (side : Side) × IsFrozenOver m x side leaf × IsFrozenChainTo m parent keep (child m x side) (y ∷ rest)
 
 -- of the edges before and after a splice: the one from the ancestor led to the successor, without a mark; from there the slots that were cut are
 -- a frozen chain down to the parent; the ancestor's edge is now the parent's kept one, with its slot and its flag and no tag; and no other has changed

@@ -1,6 +1,6 @@
 //! Laws of all runs: each holds whatever the workers do and in whatever order, for every layout of at least 5 nodes and every list of events.
 ghost use Rattle.nm_model.specs.Lawful.{BriefsAreRight, CountsAddUp, EachBirthStands, EachReadStands, EpochsAgree, FlaggedEdgesLeadToLeaves, KnownLeavesAreLeaves, LabelsDoNotFall, NoLabelIsAboveTheEpoch, OnlyThePinnedKnow, QueuedNodesAreFrozen, ReachIsGuarded, ReachIsShared, TaggedEdgesHaveFlaggedTwins};
-ghost use Rattle.nm_model.specs.Laws.{CutsJust, EachLedgerHasOneHolder, EachFreeTakesAFront, FreedThenQueueAreTheCuts, FreesThenQueueAreTheCuts, GoesDown, GraceHolds, IsFreedThenQueue, IsTheCuts, IsTheFrees, NamesBirths, NoNodeTwice, NothingElseCuts, OfEachCut, OfEachLedger, OfEachLedgerOfATree, OfEachState, OnlySplicesAnswerCuts, PinsStayNear, RetiredGrowsByTheCuts};
+ghost use Rattle.nm_model.specs.Laws.{CutsJust, EachLedgerHasOneHolder, EachFreeTakesAFront, FreedThenQueueAreTheCuts, FreesThenQueueAreTheCuts, GraceHolds, IsFreedThenQueue, IsTheCuts, IsTheFrees, NamesBirths, NoNodeTwice, NothingElseCuts, OfEachCut, OfEachLedger, OfEachLedgerOfATree, OfEachState, OnlySplicesAnswerCuts, PinsStayNear, RetiredGrowsByTheCuts};
 ghost use Rattle.nm_model.specs.Laws.{StatesJoin, TracesJoin};
 ghost use Rattle.nm_model.specs.Ordered.{OrderedRunsAreRuns, PlainRunsAreRuns, SearchesTellTheLogs};
 ghost use Rattle.nm_model.specs.Walks.{ArrivalsAreWalks, SearchesOnlyGrow};
@@ -25,8 +25,7 @@ pub fn each_slot_has_one_place()
 /// ancestor's edge becomes the edge that the parent keeps, with its flag and without its tag, and no other edge changes.
 /// (The cleanup of Natarajan and Mittal.)
 pub fn splices_cut_their_nodes()
-    ensures exactly { OfEachState (OfEachCut (λ before successor ns after. CutsJust before ns after)) }
-    ensures downwards { OfEachState (OfEachCut (λ before successor ns after. GoesDown before successor ns)) }
+    ensures exactly { OfEachState (OfEachCut (λ before successor ns after. CutsJust before.memory ns after.memory)) }
     ensures births { OfEachState (OfEachCut (λ before successor ns after. NamesBirths before ns)) }
     ensures kept { OfEachState EachSpliceKeepsTheEdge }
 {}

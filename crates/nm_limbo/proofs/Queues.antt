@@ -153,7 +153,7 @@ module _ {X A : Type 0} where
         }
 
     -- one more block
-    pub grown : (xs : List X) (free : BlockList X A) → IsLaid used empty p xs s a → used.blocks + empty.blocks + 1 < 2 ^ 20
+    pub grown : (xs : List X) (free : BlockList X A) → IsLaid used empty p xs s a → used.blocks + empty.blocks + 1 < 2 ^ 26
         → free ≡ block_list (empty.slots ++ replicate 32 None) (empty.blocks + 1) empty.alloc
         → IsLaid used free p xs s a × (s + length free.slots ≡ s + length empty.slots + 32)
     grown xs free is fits ef =
@@ -325,9 +325,9 @@ module _ {X A : Type 0} where
         (made.0, made.1 ∙ (λ i. block_queue (q.items ++ x ∷ []) (spare i) (same i)))
 
     -- one more block, where few items and few spare places call for it
-    pub block_added : (free : BlockList X A) → IsQueue used empty p n a → queue_of used empty p n ≡ q → q.spare < 1024 → length q.items ≤ 2097152
+    pub block_added : (free : BlockList X A) → IsQueue used empty p n a → queue_of used empty p n ≡ q → q.spare < 1024 → length q.items ≤ 536870912
         → free ≡ block_list (empty.slots ++ replicate 32 None) (empty.blocks + 1) empty.alloc → IsQueue used free p n a
     block_added free is view spare items ef =
         let s = seen is view in let left = ap (λ w. w.spare) view in
-        let few : used.blocks + empty.blocks + 1 < 2 ^ 20 = omega (arith, s.0.front, s.0.whole, s.0.places.0, s.0.places.1) in
+        let few : used.blocks + empty.blocks + 1 < 2 ^ 26 = omega (arith, s.0.front, s.0.whole, s.0.places.0, s.0.places.1) in
         (queue_made used free p n q.items rest a (grown used empty p rest a q.items free s.0 few ef).0 s.1).0

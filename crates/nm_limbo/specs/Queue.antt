@@ -57,7 +57,7 @@ module _ {X A : Type 0} where
   pub record IsLaid (used empty : BlockList X A) (p : ℕ) (xs : List X) (s : ℕ) (a : A) : Type 0 where
     pub alloc : (used.alloc ≡ a) × (empty.alloc ≡ a)
     pub places : (length used.slots ≡ 32 * used.blocks) × (length empty.slots ≡ 32 * empty.blocks)
-    pub small : used.blocks + empty.blocks < 2 ^ 20
+    pub small : used.blocks + empty.blocks < 2 ^ 26
     pub front : p ≤ 31
     pub back : s ≤ 32
     pub whole : length used.slots ≡ p + length xs + s

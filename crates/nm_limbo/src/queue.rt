@@ -88,14 +88,14 @@ impl<T, A: Allocator> BlockQueue<T, A> {
     }
 
     /// Takes memory until `n` items, at most 1,024, can be pushed: the fewest blocks that are enough. The queue has at
-    /// most 2,097,152 items.
+    /// most 536,870,912 items.
     ///
     /// # Errors
     ///
     /// `NoMemory` if a block is refused, and fewer than `n` items can be pushed. The blocks got before it stay. Either
     /// way the items are the same.
     pub fn reserve(&mut self, n: u32) -> Result<(), NoMemory>
-        requires { (n ≤ 1024) × (length self.old.items ≤ 2097152) }
+        requires { (n ≤ 1024) × (length self.old.items ≤ 536870912) }
         ensures grown { IsGrown self.old self.new }
         ensures balanced { IsBalanced self.new }
         ensures ok { OnOk result (HasLeast self.old self.new n) }
@@ -108,7 +108,7 @@ impl<T, A: Allocator> BlockQueue<T, A> {
     }
 
     fn add_block(&mut self) -> Result<(), NoMemory>
-        requires { (self.old.spare < 1024) × (length self.old.items ≤ 2097152) }
+        requires { (self.old.spare < 1024) × (length self.old.items ≤ 536870912) }
         ensures ok { OnOk result (self.new ≡ block_queue self.old.items (self.old.spare + 32) (self.old.blocks + 1)) }
         ensures refused { IfErr result (λ _. self.new ≡ self.old) }
     {

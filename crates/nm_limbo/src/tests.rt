@@ -22,7 +22,7 @@ fn reserve<T, A: Allocator>(
     queue: &mut BlockQueue<T, A>,
     n: u32,
 ) -> Result<(), NoMemory> {
-    assert!(rt; n <= 1024 && queue.len() <= 2_097_152);
+    assert!(rt; n <= 1024 && queue.len() <= 536_870_912);
     queue.reserve(n)
 }
 

@@ -1,22 +1,18 @@
--- The laws of all runs, in the subject's own words.
-use Rattle.std.specs.Prelude.{◌≡◌, ℕ, ◌+◌, ◌<◌, ◌≤◌, ◌==◌, ◌⊎◌, ◌↔◌, Bool, true, if◌then◌else◌, List, [], ◌∷◌, ◌++◌, map, filter, slice_get, Contains, Some, IsSome, Result, Ok}
-use Rattle.std.specs.List.{list_any}
-use Rattle.nm_edge.specs.Edges.{other}
+-- The laws of all runs, of the states that they come to. What a list of turns alone tells stands on the page (`Headline`), and is taken from there.
+use Rattle.std.specs.Prelude.{◌≡◌, ℕ, ◌+◌, ◌<◌, ◌≤◌, ◌⊎◌, List, [], ◌∷◌, ◌++◌, map, filter, slice_get, Contains, Some, IsSome, Ok}
 use Rattle.nm_edge.specs.Layouts.{Layout}
 use Rattle.nm_edge.specs.declared.edge.Side.{Side}
 use Rattle.nm_edge.specs.declared.node.NodeId.{NodeId}
 use Rattle.nm_model.specs.declared.event.Event.{Event}
-use Rattle.nm_model.specs.declared.event.Event.TheVariants.{Leave, LeaveWith, Splice}
-use Rattle.nm_model.specs.declared.reply.Reply.{Reply}
-use Rattle.nm_model.specs.declared.reply.Reply.TheVariants.{Cut, Departed, Freed}
-use Rattle.nm_model.specs.declared.reply.Refused.{Refused}
+use Rattle.nm_model.specs.declared.event.Event.TheVariants.{Splice}
+use Rattle.nm_model.specs.declared.reply.Reply.TheVariants.{Cut, Freed}
 use Rattle.nm_model.specs.declared.trace.Turn.{Turn}
 use Rattle.nm_model.specs.declared.ledger.Queued.{Queued}
 use Rattle.nm_model.specs.declared.ledger.Ledger.{Ledger}
-use Rattle.nm_model.specs.Memory.{Memory, edge, child, named}
+use Rattle.nm_model.specs.Memory.{named}
 use Rattle.nm_model.specs.Ledgers.{held}
-use Rattle.nm_model.specs.Paths.{Reached, IsCut}
-use Rattle.nm_model.specs.Searches.{is_node}
+use Rattle.nm_model.specs.Paths.{Reached}
+pub use Rattle.nm_model.specs.Headline.{slots_of, nodes_cut_of, nodes_freed_of, cuts_of, freed_by, is_among, freed_of, CutsJust, HasLeft}
 use Rattle.nm_model.specs.Runs.{State, of, start, after, trace, next, outcome}
 
 -- in every run, of every state
@@ -42,22 +38,6 @@ abbrev pub PinsStayNear : Type 0
 PinsStayNear = (L : Layout) (turns : List (ℕ × Event)) → PinsAreNear (after (start L) turns)
 
 -- ---- cuts
-
-abbrev pub slots_of : List NodeId → List ℕ
-slots_of ns = map (λ n. n.slot) ns
-
--- from one state to the next, just these nodes were cut off, by the paths before and after
-abbrev pub CutsJust : State → List NodeId → State → Type 0
-CutsJust before ns after = (x : ℕ) → IsCut before.memory after.memory x ↔ Contains (slots_of ns) x
-
--- from a slot downwards: each internal node and then its flagged leaf, and on by its tagged edge
-abbrev pub IsFrozenChain : Memory → ℕ → List ℕ → Type 0
-IsFrozenChain m s [] = Unit {0}
-IsFrozenChain m s (x ∷ []) = ⊥
-IsFrozenChain m s (x ∷ leaf ∷ rest) = (x ≡ s) × (side : Side) × ((edge m s (other side)).flag ≡ true) × (child m s (other side) ≡ leaf) × ((edge m s side).tag ≡ true) × IsFrozenChain m (child m s side) rest
-
-abbrev pub GoesDown : State → ℕ → List NodeId → Type 0
-GoesDown before successor ns = IsFrozenChain before.memory successor (slots_of ns)
 
 -- each node has the birth that stands in its slot
 abbrev pub NamesBirths : State → List NodeId → Type 0
@@ -102,16 +82,6 @@ node_in e = e.node
 abbrev pub IsFreedThenQueue : Ledger → Type 0
 IsFreedThenQueue l = l.retired ≡ l.freed ++ map node_in l.queue
 
--- the nodes that an outcome says were cut
-abbrev pub nodes_cut_of : Result Reply Refused → List NodeId
-nodes_cut_of (Ok (Cut ns)) = ns
-nodes_cut_of _ = []
-
--- the nodes that a worker's splices cut, in the order of the turns and of their replies
-abbrev pub cuts_of : ℕ → List Turn → List NodeId
-cuts_of w [] = []
-cuts_of w (t ∷ ts) = (if t.worker == w then nodes_cut_of t.outcome else []) ++ cuts_of w ts
-
 -- what was retired are the nodes that the origin's splices cut, in this order
 abbrev pub IsTheCuts : ℕ → List Turn → Ledger → Type 0
 IsTheCuts origin turns l = l.retired ≡ cuts_of origin turns
@@ -120,39 +90,22 @@ IsTheCuts origin turns l = l.retired ≡ cuts_of origin turns
 abbrev pub FreedThenQueueAreTheCuts : ℕ → List Turn → Ledger → Type 0
 FreedThenQueueAreTheCuts origin turns l = l.freed ++ map node_in l.queue ≡ cuts_of origin turns
 
--- the node that an outcome says was freed
-abbrev pub nodes_freed_of : Result Reply Refused → List NodeId
-nodes_freed_of (Ok (Freed n)) = n ∷ []
-nodes_freed_of _ = []
-
--- the nodes that gives freed, whoever gave them, in the order of the turns. A give of a private slot frees none
-abbrev pub freed_by : List Turn → List NodeId
-freed_by [] = []
-freed_by (t ∷ ts) = nodes_freed_of t.outcome ++ freed_by ts
-
-abbrev pub is_among : List NodeId → NodeId → Bool
-is_among ns n = list_any (is_node n) ns
-
--- those of them that are among these nodes
-abbrev pub freed_among : List NodeId → List Turn → List NodeId
-freed_among ns turns = filter (is_among ns) (freed_by turns)
-
--- the nodes that gives freed of those that a worker's splices cut, whoever gave them, in the order of the gives
-abbrev pub frees_of : ℕ → List Turn → List NodeId
-frees_of w turns = freed_among (cuts_of w turns) turns
-
 -- in every run, of every ledger, where there are nodes for the fixed part of the tree
 abbrev pub OfEachLedgerOfATree : (ℕ → List Turn → Ledger → Type 0) → Type 0
 OfEachLedgerOfATree P = (L : Layout) → 5 ≤ L.nodes → (turns : List (ℕ × Event)) (w origin : ℕ) (l : Ledger)
     → held (of (after (start L) turns) w).ledgers origin ≡ Some l → P origin (trace (start L) turns) l
 
+-- the nodes that gives freed of those that are among these, in the order of the gives
+abbrev pub freed_among : List NodeId → List Turn → List NodeId
+freed_among ns turns = filter (is_among ns) (freed_by turns)
+
 -- what was freed are the nodes that gives freed of those that the origin's splices cut, in this order
 abbrev pub IsTheFrees : ℕ → List Turn → Ledger → Type 0
-IsTheFrees origin turns l = l.freed ≡ frees_of origin turns
+IsTheFrees origin turns l = l.freed ≡ freed_of origin turns
 
 -- so what was freed and then what waits, by the turns: a node leaves a queue by such a give alone
 abbrev pub FreesThenQueueAreTheCuts : ℕ → List Turn → Ledger → Type 0
-FreesThenQueueAreTheCuts origin turns l = frees_of origin turns ++ map node_in l.queue ≡ cuts_of origin turns
+FreesThenQueueAreTheCuts origin turns l = freed_of origin turns ++ map node_in l.queue ≡ cuts_of origin turns
 
 -- a node is freed from the front of a queue that the worker holds, and is the next that was freed there
 pub record FreesAFront (s : State) (turn : ℕ × Event) (n : NodeId) : Type 0 where
@@ -184,20 +137,6 @@ RetiredGrowsByTheCuts s = (turns : List (ℕ × Event)) (w v origin : ℕ) (l m 
     → GrewByTheCuts origin (trace s turns) l m
 
 -- ---- grace
-
--- a leave, with an answer or without
-abbrev pub IsLeave : Event → Type 0
-IsLeave Leave = Unit {0}
-IsLeave (LeaveWith answer) = Unit {0}
-IsLeave e = ⊥
-
--- worker w left by that event
-abbrev pub left_by : ℕ → Event → Turn
-left_by w e = record { worker = w; event = e; outcome = Ok Departed }
-
--- worker w left in one of these turns
-abbrev pub HasLeft : ℕ → List Turn → Type 0
-HasLeft w turns = (e : Event) × IsLeave e × Contains turns (left_by w e)
 
 -- where a node is cut by one turn and freed by a later one, each worker that was pinned at the cut, the remover too, left between the two
 abbrev pub GraceHolds : State → Type 0

@@ -14,6 +14,7 @@ pub mod Rooms
 pub mod Answers
 pub mod Paths
 pub mod Reports
+pub mod Headline
 pub mod Laws
 pub mod Places
 pub mod Lawful

@@ -1,7 +1,7 @@
 -- Worked schedules: the events with the outcome of each, and the ledgers, the epoch and the counts at the end.
 use Rattle.std.specs.Prelude.{◌≡◌, ℕ, Bool, true, false, List, [], ◌∷◌, map, Option, Some, None, Result, Ok, Err}
 use Rattle.nm_edge.specs.Edges.{Edge}
-use Rattle.nm_edge.specs.Layouts.{Layout}
+use Rattle.nm_edge.specs.Layouts.{Layout, dense}
 use Rattle.nm_edge.specs.declared.node.NodeId.{NodeId}
 use Rattle.nm_edge.specs.declared.edge.Side.TheVariants.{Left, Right}
 use Rattle.nm_model.specs.declared.event.Field.TheVariants.{Key, Edge as EdgeOn, Birth}
@@ -52,7 +52,7 @@ l retired freed queue = Some (record { retired = retired; freed = freed; queue =
 -- a worker that stays pinned holds the epoch back
 abbrev pub held_back : Worked
 held_back = record {
-  layout = record { nodes = 7; workers = 2 };
+  layout = dense 7 2;
   turns =
       t 1 Sight (Ok (Saw 0)) ∷
       t 1 Announce (Ok (Announced 0)) ∷
@@ -74,7 +74,7 @@ held_back = record {
 -- two workers scan one epoch, and one of them moves it
 abbrev pub two_scanners : Worked
 two_scanners = record {
-  layout = record { nodes = 7; workers = 2 };
+  layout = dense 7 2;
   turns =
       t 0 Sight (Ok (Saw 0)) ∷
       t 1 Sight (Ok (Saw 0)) ∷
@@ -95,7 +95,7 @@ two_scanners = record {
 -- an announcement of an epoch that has passed confirms no pin
 abbrev pub stale_announcement : Worked
 stale_announcement = record {
-  layout = record { nodes = 7; workers = 2 };
+  layout = dense 7 2;
   turns =
       t 0 Sight (Ok (Saw 0)) ∷
       t 1 Sight (Ok (Saw 0)) ∷
@@ -119,7 +119,7 @@ stale_announcement = record {
 -- a pin is lost to a move of the epoch, and won at the second try
 abbrev pub lost_pin : Worked
 lost_pin = record {
-  layout = record { nodes = 7; workers = 2 };
+  layout = dense 7 2;
   turns =
       t 0 Sight (Ok (Saw 0)) ∷
       t 1 Sight (Ok (Saw 0)) ∷
@@ -141,7 +141,7 @@ lost_pin = record {
 -- a slot is claimed, filled and given back
 abbrev pub words_and_places : Worked
 words_and_places = record {
-  layout = record { nodes = 7; workers = 1 };
+  layout = dense 7 1;
   turns =
       t 0 (Look 2 (EdgeOn Left)) (Err NotPinned) ∷
       t 0 (Claim 6) (Ok (Claimed 6)) ∷
@@ -174,7 +174,7 @@ words_and_places = record {
 -- one splice cuts a chain of two internal nodes
 abbrev pub long_chain : Worked
 long_chain = record {
-  layout = record { nodes = 16; workers = 2 };
+  layout = dense 16 2;
   turns =
       t 0 Sight (Ok (Saw 0)) ∷
       t 0 Announce (Ok (Announced 0)) ∷
@@ -245,7 +245,7 @@ long_chain = record {
 -- both leaves of one parent are flagged
 abbrev pub both_flagged : Worked
 both_flagged = record {
-  layout = record { nodes = 16; workers = 2 };
+  layout = dense 16 2;
   turns =
       t 0 Sight (Ok (Saw 0)) ∷
       t 0 Announce (Ok (Announced 0)) ∷
@@ -306,7 +306,7 @@ both_flagged = record {
 -- a link is lost to a flag, and the worker helps to cut
 abbrev pub helping : Worked
 helping = record {
-  layout = record { nodes = 16; workers = 2 };
+  layout = dense 16 2;
   turns =
       t 0 Sight (Ok (Saw 0)) ∷
       t 0 Announce (Ok (Announced 0)) ∷
@@ -378,7 +378,7 @@ helping = record {
 -- nodes are freed in order and not too young
 abbrev pub order_and_age : Worked
 order_and_age = record {
-  layout = record { nodes = 7; workers = 1 };
+  layout = dense 7 1;
   turns =
       t 0 Sight (Ok (Saw 0)) ∷
       t 0 Announce (Ok (Announced 0)) ∷
@@ -428,7 +428,7 @@ order_and_age = record {
 -- events that are refused for what they name
 abbrev pub refusals : Worked
 refusals = record {
-  layout = record { nodes = 16; workers = 2 };
+  layout = dense 16 2;
   turns =
       t 0 Sight (Ok (Saw 0)) ∷
       t 0 Announce (Ok (Announced 0)) ∷
@@ -495,7 +495,7 @@ refusals = record {
 -- a worker with a private slot can't resign; then it does, and takes no step any more
 abbrev pub joining : Worked
 joining = record {
-  layout = record { nodes = 7; workers = 2 };
+  layout = dense 7 2;
   turns =
       t 0 (Join 2) (Err NoWorker) ∷
       t 0 (Join 0) (Err NoWorker) ∷
@@ -516,7 +516,7 @@ joining = record {
 -- an insert in an ordered core: no link of a leaf with another key, and no leave without the answer
 abbrev pub insert_in_order : Worked
 insert_in_order = record {
-  layout = record { nodes = 7; workers = 1 };
+  layout = dense 7 1;
   turns =
       t 0 Sight (Ok (Saw 0)) ∷
       t 0 Announce (Ok (Announced 0)) ∷
@@ -550,7 +550,7 @@ insert_in_order = record {
 -- a delete in an ordered core, which flags one leaf alone, and whose own splice shows the answer
 abbrev pub delete_in_order : Worked
 delete_in_order = record {
-  layout = record { nodes = 7; workers = 1 };
+  layout = dense 7 1;
   turns =
       t 0 Sight (Ok (Saw 0)) ∷
       t 0 Announce (Ok (Announced 0)) ∷

@@ -13,7 +13,7 @@ use Rattle.nm_model.specs.Lawful.{LabelsDoNotFall, NoLabelIsAboveTheEpoch, Brief
 -- each turn cuts exactly the nodes of its outcome, by the paths before and after it; one that answers no cut cuts nothing
 abbrev pub EachTurnCutsItsNodes : (ℕ → State) → List Turn → Type 0
 EachTurnCutsItsNodes states turns = (before rest : List Turn) (turn : Turn) → turns ≡ before ++ turn ∷ rest
-    → CutsJust (states (length before)) (nodes_cut_of turn.outcome) (states (length before + 1))
+    → CutsJust (states (length before)).memory (nodes_cut_of turn.outcome) (states (length before + 1)).memory
 
 -- of every ledger, what was retired is what was freed and then what waits
 abbrev pub LedgersAreSplit : State → Type 0

@@ -115,7 +115,7 @@ module _ (s : State) (h : ℕ → ℕ) (law : Lawful s h) (w : ℕ) where
   ends_stay u l stays ws ends i a at is = leaf_stays s.memory (of s u) l (nulls_stand u) stays a.slot (ends i a at is)
 
   -- a look at a null edge of a known slot makes it known as a leaf
-  null_looked : (x : ℕ) (d : Side) → knows (of s w) x ≡ true → child s.memory x d ≡ 0 → knows_leaf (learn w (of s w) (Look x (EdgeOn d)) (reply_of s w (Look x (EdgeOn d)))) x ≡ true
+  pub null_looked : (x : ℕ) (d : Side) → knows (of s w) x ≡ true → child s.memory x d ≡ 0 → knows_leaf (learn w (of s w) (Look x (EdgeOn d)) (reply_of s w (Look x (EdgeOn d)))) x ≡ true
   unfolding reply learn
   null_looked x d known null = cond_both (is_private (of s w) x) (look_private (of s w) x (EdgeOn d) (EdgeIs (edge s.memory x d))) (look_known (of s w) x (EdgeOn d) (EdgeIs (edge s.memory x d))) (λ l. knows_leaf l x ≡ true)
       (λ own. absurd (true≢false (sym own ∙ known_not_private s h law w x known)))

@@ -17,7 +17,8 @@ use Rattle.nm_model.specs.declared.reply.Reply.TheVariants.{Cut}
 use Rattle.nm_model.specs.declared.reply.Reply.{Reply}
 use Rattle.nm_model.specs.declared.reply.Refused.{Refused}
 use Rattle.nm_model.specs.Memory.{Memory, node, edge, child, named, is_leaf}
-use Rattle.nm_model.specs.Laws.{slots_of, IsFrozenChain}
+use Rattle.nm_model.specs.Laws.{slots_of}
+use Rattle.nm_laws.proofs.SplicedEdges.{IsFrozenChain}
 use Rattle.nm_model.specs.Paths.{follow, Reached, IsCut}
 use Rattle.nm_model.specs.Knowledge.{knows}
 use Rattle.nm_model.specs.Runs.{of}
@@ -296,6 +297,8 @@ module _ (L : Layout) (enough : 5 ≤ L.nodes) (ts : List (ℕ × Event)) (keys 
             (mapped_among (named c.state.memory) (slots_of ns) d.slot (d.index, slice_get_within (slots_of ns) d.index d.slot d.at, get_or_from_slice_get (slots_of ns) d.index d.slot d.slot d.at)),
         d.flagged,
         sym (ap (λ (y : Act). y.key) d.is),
+        ap (λ (y : Act). y.op) d.is,
+        ap (λ (y : Act). y.answer) d.is,
       );
       link = λ k called q told such. absurd (true≢false (sym such ∙ no_link t.1 q (same_ok (Cut ns) q (sym is ∙ told))));
     };

@@ -14,7 +14,7 @@ use Rattle.nm_model.specs.Memory.{named}
 use Rattle.nm_model.specs.Paths.{Reached, IsCut}
 use Rattle.nm_model.specs.Places.{Place, StandsAt, OnePlace}
 use Rattle.nm_model.specs.Places.Place.{InPool, PrivateTo, OnPath, InQueue}
-use Rattle.nm_model.specs.Laws.{slots_of, IsFrozenChain}
+use Rattle.nm_model.specs.Laws.{slots_of}
 use Rattle.nm_model.specs.Runs.{State, start, after, next, outcome}
 use Rattle.nm_model.specs.Ordered.{Configuration, refused_in, next_in, outcome_in}
 use Rattle.nm_order.specs.Intervals.{HasKey}
@@ -22,7 +22,8 @@ use Rattle.nm_laws.proofs.Pictures.{within_path}
 use Rattle.nm_laws.proofs.Views.{picture}
 use Rattle.nm_laws.proofs.OnePlace.{each_slot_has_one_place}
 use Rattle.nm_laws.proofs.Stays.{nothing_else_cuts, only_splices_answer_cuts}
-use Rattle.nm_laws.proofs.Cuts.{cuts_just, cuts_go_down, cuts_name_births}
+use Rattle.nm_laws.proofs.Cuts.{cuts_just, cuts_name_births}
+use Rattle.nm_laws.proofs.SplicedEdges.{IsFrozenChain, cuts_go_down}
 use Rattle.nm_laws.proofs.Configurations.{refused_next, refused_outcome, allowed_state, allowed_outcome, state_outcome}
 use Rattle.nm_order.proofs.OrderedLaws.{IsOrdered, ordered_next, law_of_state}
 use Rattle.nm_order.proofs.ToldLaws.{same_layout}

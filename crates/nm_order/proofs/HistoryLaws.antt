@@ -25,7 +25,7 @@ use Rattle.nm_order.specs.Intervals.{key, HasKey, InSet, IsCalled}
 use Rattle.nm_order.specs.Moments.{OfEachOrderedRun, PinStands}
 use Rattle.nm_order.specs.Exchanges.{HasInserted, HasFlagged}
 use Rattle.nm_order.specs.Removals.{HasDeleted}
-use Rattle.nm_order.specs.History.{Act, IsAmong, nothing, HasChanged, IsAct, leaf_keys, HasInARow, LeadsTo, HasHistory}
+use Rattle.nm_order.specs.History.{Act, IsAmong, nothing, HasChanged, IsAct, leaf_keys, HasInARow, IsDeleteOf, LeadsTo, HasHistory}
 use Rattle.nm_order.specs.History.IsAct.{IsAnswered, IsPending}
 use Rattle.nm_order.proofs.OrderedLaws.{IsOrdered, each_ordered}
 use Rattle.nm_order.proofs.OwnTurns.{own_search, stands_parts}
@@ -191,7 +191,7 @@ module _ (L : Layout) (enough : 5 ≤ L.nodes) where
           a = r.changes.link k (is_own_call (after_in (ordered L) before) w Insert k called) (Linked n) is refl
 
       cut_row : (acts : List Act) (before : List (ℕ × Event)) → All (λ t. HasKey t.1) before → (t : ℕ × Event) (ns : List NodeId) → outcome_in (after_in (ordered L) before) t ≡ Ok (Cut ns)
-          → Row (after_in (ordered L) before) t (0 + length before + 1) acts → HasInARow acts (leaf_keys (after_in (ordered L) before).state.memory (slots_of ns)) (length before + 1) (λ a. (f : HasFlagged L before a.worker a.key) × Contains ns f.flagged)
+          → Row (after_in (ordered L) before) t (0 + length before + 1) acts → HasInARow acts (leaf_keys (after_in (ordered L) before).state.memory (slots_of ns)) (length before + 1) (IsDeleteOf L before ns)
       cut_row acts before first t ns is r = record {
         front = r.front;
         row = r.row;
@@ -202,8 +202,10 @@ module _ (L : Layout) (enough : 5 ≤ L.nodes) where
         each = λ b there. owned_by b (r.changes.owner ns is b there);
       }
         where
-          owned_by : (b : Act) → (n : NodeId) × Contains ns n × ((own_search (after_in (ordered L) before) b.worker).flagged ≡ Some n) × (key (after_in (ordered L) before).state.memory n.slot ≡ b.key) → (f : HasFlagged L before b.worker b.key) × Contains ns f.flagged
-          owned_by b w = subst (λ (k : ℕ). (f : HasFlagged L before b.worker k) × Contains ns f.flagged) same_key (f.flag, subst (Contains ns) (sym f.is_node) w.1)
+          owned_by : (b : Act) → (n : NodeId) × Contains ns n × ((own_search (after_in (ordered L) before) b.worker).flagged ≡ Some n) × (key (after_in (ordered L) before).state.memory n.slot ≡ b.key) × (b.op ≡ Delete) × (b.answer ≡ true) → IsDeleteOf L before ns b
+          owned_by b w =
+              let own = subst (λ (k : ℕ). (f : HasFlagged L before b.worker k) × Contains ns f.flagged) same_key (f.flag, subst (Contains ns) (sym f.is_node) w.1) in
+              (w.4, w.5, own.0, own.1)
             where
               f : Fate L enough before b.worker w.0
               f = fates L enough before first b.worker w.0 w.2

@@ -60,6 +60,7 @@ pub mod FlagFates
 pub mod SetChanges
 pub mod FlagOwners
 pub mod PendingLeaves
+pub mod NothingPends
 pub mod TotalsOfTurns
 pub mod TotalsOfRuns
 pub mod TotalsOfLogs
@@ -79,3 +80,5 @@ pub mod StaleRuns
 pub mod KeyTests
 pub mod WorkedPaths
 pub mod AnswersSince
+pub mod PartWalks
+pub mod WalkAnswers

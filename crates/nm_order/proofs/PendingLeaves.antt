@@ -21,7 +21,8 @@ use Rattle.nm_model.specs.Memory.{node, edge, child, named, is_leaf, opening, bl
 use Rattle.nm_model.specs.Knowledge.{Knowledge}
 use Rattle.nm_model.specs.Lawful.{OnlyThePinnedKnow}
 use Rattle.nm_model.specs.Paths.{Reached, IsCut}
-use Rattle.nm_model.specs.Laws.{slots_of, IsFrozenChain}
+use Rattle.nm_model.specs.Laws.{slots_of}
+use Rattle.nm_laws.proofs.SplicedEdges.{IsFrozenChain}
 use Rattle.nm_model.proofs.Numbers.{repeated}
 use Rattle.nm_order.specs.Pending.{IsOfOneDelete, FlaggedLeavesArePending, CutLeavesAreOfOneDelete}
 use Rattle.nm_order.specs.Moments.{OfEachOrderedRun}

@@ -77,7 +77,7 @@ pin_grows L before since w = subst (λ (n : ℕ). pin_of L before w ≤ n) (sym 
     below = (last_grows w 0 0 (trace_in (ordered L) before) (omega arith)).1
 
 -- of two ways to split a run the shorter first part begins the longer one
-pub begins_with : (xs ys xs' ys' : List (ℕ × Event)) → xs ++ ys ≡ xs' ++ ys' → length xs ≤ length xs' → (mid : List (ℕ × Event)) × (xs' ≡ xs ++ mid)
+pub begins_with : {X : Type 0} (xs ys xs' ys' : List X) → xs ++ ys ≡ xs' ++ ys' → length xs ≤ length xs' → (mid : List X) × (xs' ≡ xs ++ mid)
 begins_with [] ys xs' ys' e le = (xs', refl)
 begins_with (x ∷ xs) ys [] ys' e le = absurd (omega (arith, le))
 begins_with (x ∷ xs) ys (z ∷ xs') ys' e le = let r = begins_with xs ys xs' ys' (tail e) (omega (arith, le)) in (r.0, λ i. sym (head e) i ∷ r.1 i)

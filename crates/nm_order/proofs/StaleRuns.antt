@@ -6,15 +6,16 @@ use Rattle.std.specs.List.{list_any}
 use Rattle.std.proofs.lemmas.List.{append-nil}
 use Rattle.std.proofs.lemmas.Bool.{eqb-true, eqb-false}
 use Rattle.nm_edge.specs.Layouts.{Layout}
+use Rattle.nm_edge.specs.declared.edge.Side.{Side}
 use Rattle.nm_model.specs.declared.event.Event.{Event}
 use Rattle.nm_model.specs.declared.reply.Reply.{Reply}
 use Rattle.nm_model.specs.declared.reply.Refused.{Refused}
 use Rattle.nm_model.specs.Memory.{child}
-use Rattle.nm_model.specs.Knowledge.{knows}
+use Rattle.nm_model.specs.Knowledge.{knows, knows_leaf}
 use Rattle.nm_model.specs.Paths.{follow, Reached}
 use Rattle.nm_model.specs.Runs.{of, reply_of, refused, applied}
 use Rattle.nm_model.specs.Lawful.{EachBirthStands}
-use Rattle.nm_model.specs.Walks.{Entry, log_of, begins_anew, since_pin}
+use Rattle.nm_model.specs.Walks.{Entry, log_of, begins_anew, since_pin, WalkEnds}
 use Rattle.nm_model.specs.Ordered.{Configuration, ordered, search_of, disorder, disorder_among, disorder_in, refused_in, applied_in, next_in, after_in, trace_in}
 use Rattle.nm_order.specs.Intervals.{HasKey, InInterval, key}
 use Rattle.nm_order.specs.Moments.{OfEachOrderedRun, PinStands}
@@ -24,13 +25,12 @@ use Rattle.nm_laws.proofs.TreeSteps.{Lawful}
 use Rattle.nm_laws.proofs.Configurations.{refused_next, refused_outcome, allowed_next, allowed_outcome, after_in-append}
 use Rattle.nm_order.proofs.OnwardSlots.{EachNow}
 use Rattle.nm_order.proofs.OrderedMoments.{Lasting, lasting}
-use Rattle.nm_order.proofs.OrderedSteps.{knows_after}
 use Rattle.nm_order.proofs.OrderedLaws.{IsOrdered, neither, ordered_next, each_ordered, law_of_state, lies_onward}
 use Rattle.nm_order.proofs.OrderedInduction.{births_of}
 use Rattle.nm_order.proofs.RunMoments.{entries, stands_longer, refused_entries, allowed_entries}
 use Rattle.nm_order.proofs.WalksOfRuns.{since_pin-append, one_turn, all_before, all_behind, over_turns}
-use Rattle.nm_order.proofs.KnowledgeStays.{learned_stays, answers}
-use Rattle.nm_order.proofs.CallWalks.{others_stay}
+use Rattle.nm_order.proofs.KnowledgeStays.{Stays, learned_stays, answers}
+use Rattle.nm_order.proofs.CallWalks.{others_stay, own_knows}
 use Rattle.nm_order.proofs.StaleWalks.{IsOnWay, HoldsOfWalks, of_no_walks, weaker, walks_outlast, own_walks}
 
 module _ (L : Layout) (u k : ℕ) where
@@ -154,7 +154,7 @@ module _ (L : Layout) (u k : ℕ) where
           -- by another worker
           by_other : u ≢ t.0 → entries u (after_in (ordered L) ts) t ≡ [] → HoldsOfWalks (applied (after_in (ordered L) ts).state t.0 t.1) u k (WasAt (ts ++ t ∷ [])) (since_pin [] (log_after (ts ++ t ∷ [])))
           by_other ne none = subst (HoldsOfWalks (applied c.state t.0 t.1) u k (WasAt (ts ++ t ∷ []))) (sym (quiet_log none))
-              (walks_outlast c.state h law t.0 births o.searches o.law t.1 ok in_order u k (others_stay c.state h law t.0 t.1 ok u ne).known (WasAt ts) (WasAt (ts ++ t ∷ [])) (λ x n. quiet x n none) now (since_pin [] (log_after ts)) held)
+              (walks_outlast c.state h law t.0 births o.searches o.law t.1 ok in_order u k (others_stay c.state h law t.0 t.1 ok u ne) (WasAt ts) (WasAt (ts ++ t ∷ [])) (λ x n. quiet x n none) now (since_pin [] (log_after ts)) held)
 
           -- by the worker itself
           by_itself : u ≡ t.0 → entries u (after_in (ordered L) ts) t ≡ e ∷ [] → (b : Bool) → begins_anew e ≡ b → HoldsOfWalks (applied (after_in (ordered L) ts).state t.0 t.1) u k (WasAt (ts ++ t ∷ [])) (cond b [] (since_pin [] (log_after ts) ++ e ∷ []))
@@ -162,7 +162,7 @@ module _ (L : Layout) (u k : ℕ) where
           by_itself own one false stands =
               subst (λ (v : ℕ). HoldsOfWalks (applied c.state t.0 t.1) v k (WasAt (ts ++ t ∷ [])) (since_pin [] (log_after ts) ++ e ∷ [])) (sym own)
               (own_walks c.state h law t.0 births o.searches o.law t.1 ok in_order g after then.law.fixed k
-              (λ x known. (knows_after c.state h law t.0 t.1 ok).own x ((learned_stays c.state.memory (of c.state t.0) t.0 t.1 r (answers c.state h law t.0 t.1 ok) stands).known x known))
+              (subst (Stays c.state.memory (of c.state t.0)) (sym (own_knows c.state h law t.0 t.1 ok)) (learned_stays c.state.memory (of c.state t.0) t.0 t.1 r (answers c.state h law t.0 t.1 ok) stands))
               (WasAt ts) (WasAt (ts ++ t ∷ [])) (λ x n. was_longer ts t (ap (list_any begins_anew) one ∙ ap (λ (b : Bool). b || false) stands) x n)
               (subst (λ (v : ℕ). (x : ℕ) → knows (of (applied c.state t.0 t.1) v) x ≡ true → EachNow (child (applied c.state t.0 t.1).memory) (key (applied c.state t.0 t.1).memory) (lasting (applied c.state t.0 t.1).memory) k (WasAt (ts ++ t ∷ []))) own now)
               (since_pin [] (log_after ts)) (subst (λ (v : ℕ). HoldsOfWalks c.state v k (WasAt ts) (since_pin [] (log_after ts))) own held))
@@ -217,3 +217,8 @@ any_walk_stays L enough turns keys u k slot parent side small walk reached inner
 
 pub any_walk_reads : OfEachOrderedRun AnyWalkReadsKeys
 any_walk_reads L enough turns keys u k slot parent side v read = (held_after L u k enough turns keys).reads slot parent side v read
+
+-- where a walk has ended, its worker knows a leaf
+pub any_walk_knows_leaf : (L : Layout) → 5 ≤ L.nodes → (turns : List (ℕ × Event)) → All (λ t. HasKey t.1) turns → (u k slot parent : ℕ) (side : Side) (v : ℕ) → WalkEnds k (since_pin [] (log_of u (trace_in (ordered L) turns))) slot parent side v
+    → knows_leaf (of (after_in (ordered L) turns).state u) slot ≡ true
+any_walk_knows_leaf L enough turns keys u k slot parent side v walk = (held_after L u k enough turns keys).ends slot parent side v walk

@@ -83,7 +83,7 @@ pub record TurnChanges (c : Configuration) (t : ℕ × Event) (m : ℕ) (acts : 
   pub at : AllAt m acts
   pub replays : Replays (InSet c.state.memory) acts (InSet (next_in c t).state.memory)
   pub cut : (ns : List NodeId) → outcome_in c t ≡ Ok (Cut ns) → map (λ a. a.key) acts ≡ leaf_keys c.state.memory (slots_of ns)
-  pub owner : (ns : List NodeId) → outcome_in c t ≡ Ok (Cut ns) → (a : Act) → IsAmong acts a → (n : NodeId) × Contains ns n × ((own_search c a.worker).flagged ≡ Some n) × (key c.state.memory n.slot ≡ a.key)
+  pub owner : (ns : List NodeId) → outcome_in c t ≡ Ok (Cut ns) → (a : Act) → IsAmong acts a → (n : NodeId) × Contains ns n × ((own_search c a.worker).flagged ≡ Some n) × (key c.state.memory n.slot ≡ a.key) × (a.op ≡ Delete) × (a.answer ≡ true)
   pub link : (k : ℕ) → (own_search c t.0).call ≡ Some (record { op = Insert; key = k }) → (q : Reply) → outcome_in c t ≡ Ok q → is_won_link (t.1, q) ≡ true
       → (a : Act) × (acts ≡ a ∷ []) × (a.key ≡ k) × (a.worker ≡ t.0) × (a.op ≡ Insert) × (a.answer ≡ true)
 

@@ -2,7 +2,7 @@
 use Rattle.std.proofs.Common.{◌≡◌, ℕ, List, [], ◌∷◌, ◌++◌, refl, arith, lit≤}
 use Rattle.std.specs.Prelude.{true, false}
 use Rattle.nm_edge.specs.Edges.{Edge, to}
-use Rattle.nm_edge.specs.Layouts.{Layout}
+use Rattle.nm_edge.specs.Layouts.{Layout, dense}
 use Rattle.nm_edge.specs.declared.edge.Side.TheVariants.{Left, Right}
 use Rattle.nm_model.specs.declared.event.Op.TheVariants.{Insert, Delete}
 use Rattle.nm_model.specs.declared.event.Field.TheVariants.{Key, Edge as EdgeOn, Birth}
@@ -23,7 +23,7 @@ use Rattle.nm_order.proofs.KeyTests.{all_keys}
 use Rattle.nm_order.proofs.StaleRuns.{any_walk_was_reached}
 
 abbrev L : Layout
-L = record { nodes = 7; workers = 2 }
+L = dense 7 2
 
 -- worker 0 inserts 5: its leaf is slot 7, under the internal node 6
 abbrev insert : List (ℕ × Event)

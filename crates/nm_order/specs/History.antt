@@ -121,6 +121,10 @@ pub record HasInARow (acts : List Act) (ks : List ℕ) (moment : ℕ) (Is : Act 
   pub at : (a : Act) → IsAmong row a → a.moment ≡ moment
   pub each : (a : Act) → IsAmong row a → Is a
 
+-- an act is the true delete that flagged one of these nodes
+abbrev pub IsDeleteOf : Layout → List (ℕ × Event) → List NodeId → Act → Type 0
+IsDeleteOf L before ns a = (a.op ≡ Delete) × (a.answer ≡ true) × (f : HasFlagged L before a.worker a.key) × Contains ns f.flagged
+
 -- the acts up to a moment lead a plain set, empty at first, to these keys
 pub record LeadsTo (acts : List Act) (moment : ℕ) (keys : ℕ → Type 0) : Type 0 where
   pub first : List Act
@@ -141,7 +145,7 @@ pub record IsHistory (L : Layout) (turns : List (ℕ × Event)) (acts : List Act
   pub links : (before since : List (ℕ × Event)) (w parent : ℕ) (side : Side) (leaf new : ℕ) (n : NodeId) (k : ℕ) → turns ≡ before ++ (w, Link parent side leaf new) ∷ since → outcome_in (after_in (ordered L) before) (w, Link parent side leaf new) ≡ Ok (Linked n)
       → IsCalled (after_in (ordered L) before) w Insert k → HasInARow acts (k ∷ []) (length before + 1) (λ a. (a.worker ≡ w) × (a.op ≡ Insert) × (a.answer ≡ true))
   pub cuts : (before since : List (ℕ × Event)) (turn : ℕ × Event) (ns : List NodeId) → turns ≡ before ++ turn ∷ since → outcome_in (after_in (ordered L) before) turn ≡ Ok (Cut ns)
-      → HasInARow acts (leaf_keys (after_in (ordered L) before).state.memory (slots_of ns)) (length before + 1) (λ a. (f : HasFlagged L before a.worker a.key) × Contains ns f.flagged)
+      → HasInARow acts (leaf_keys (after_in (ordered L) before).state.memory (slots_of ns)) (length before + 1) (IsDeleteOf L before ns)
   pub moments : (before since : List (ℕ × Event)) → turns ≡ before ++ since → LeadsTo acts (length before) (InSet (after_in (ordered L) before).state.memory)
   pub each : (a : Act) → IsAmong acts a → IsAct L turns a
   pub answered : (before since : List (ℕ × Event)) (w : ℕ) (op : Op) (k : ℕ) (answer : Bool) → turns ≡ before ++ (w, LeaveWith answer) ∷ since → MayAnswer (after_in (ordered L) before) w op k answer → HasAct acts w (pin_of L before w) op k answer

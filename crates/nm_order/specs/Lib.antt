@@ -13,6 +13,7 @@ pub mod History
 pub mod RealTime
 pub mod Answered
 pub mod AnsweredSince
+pub mod WalkAnswers
 pub mod Logs
 pub mod Facts
 pub mod Told

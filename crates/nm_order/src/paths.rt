@@ -1,6 +1,7 @@
 //! Laws of the paths that walks in the logs of an ordered core take: those of its calls, and those for any key under any pin.
 ghost use Rattle.nm_order.specs.Moments.{LoggedWalksWereReached, OfEachOrderedRun, WalksWereReached};
 ghost use Rattle.nm_order.specs.StalePaths.{AnyWalkReadsKeys, AnyWalkStaysInOrder, AnyWalkWasReached};
+ghost use Rattle.nm_order.specs.WalkAnswers.{AnyWalkTells, WalksTellOfTheirPin};
 
 /// Each slot to which a walk of a call came, also by edges that were cut off since, was reached at some moment since the call's pin was
 /// confirmed, and at that moment the search for the call's key came to it; and the node there is the same one still. This holds of what
@@ -20,4 +21,13 @@ pub fn stale_paths_do_no_harm()
     ensures reached { OfEachOrderedRun AnyWalkWasReached }
     ensures intervals { OfEachOrderedRun AnyWalkStaysInOrder }
     ensures keys { OfEachOrderedRun AnyWalkReadsKeys }
+{}
+
+/// A walk that has ended in a worker's log since its pin, for any key and under any pin, for a call or for none, tells by the key of its leaf
+/// whether its own key was in the set: at a moment since the pin was confirmed, and later than any earlier run at whose end the worker was not
+/// pinned. So several walks may go on in turns under one pin, and each has a moment of its own.
+/// (The hindsight of O'Hearn, Rinetzky, Vechev, Vafeiadis and Yorsh, for the search of Natarajan and Mittal, section 3.2.)
+pub fn walks_tell_of_the_set()
+    ensures pin { OfEachOrderedRun AnyWalkTells }
+    ensures since { WalksTellOfTheirPin }
 {}

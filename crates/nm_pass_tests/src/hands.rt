@@ -12,11 +12,12 @@ use nm_pool::{Fit, Placement};
 use nm_steps::{Pass, Shared};
 use std::process::Abort;
 
-/// One worker: its pass, where it looks for free slots, the queue of what it cut, and how many splices it has won.
+/// One worker: its pass, where it looks for free slots, the room of its walks, the queue of what it cut, and how many splices it has won.
 #[derive(Drop)]
 pub(super) struct Hand {
     pub(super) pass: Pass,
     placement: Placement,
+    chain: Chain,
     pub(super) queue: BlockQueue<Entry>,
     pub(super) splices: u64,
 }
@@ -31,6 +32,7 @@ pub(super) fn starting(shared: &Shared, pass: Pass, queue: BlockQueue<Entry>) ->
     Hand {
         pass,
         placement: Placement::new(Fit::Lowest, 6),
+        chain: Chain::new(),
         queue,
         splices: 0,
     }
@@ -68,6 +70,7 @@ pub(super) fn inserts(
         &mut hand.placement,
         key,
         tries,
+        &mut hand.chain,
         &mut hand.queue,
         &mut hand.splices,
     );
@@ -83,6 +86,7 @@ pub(super) fn deletes(rt: &impl Abort, shared: &Shared, hand: &mut Hand, key: Ke
         &mut hand.pass,
         key,
         2,
+        &mut hand.chain,
         &mut hand.queue,
         &mut hand.splices,
     ) else {
@@ -101,6 +105,7 @@ pub(super) fn flags(rt: &impl Abort, shared: &Shared, hand: &mut Hand, key: Key)
         &mut hand.pass,
         key,
         1,
+        &mut hand.chain,
         &mut hand.queue,
         &mut hand.splices,
     ) else {
@@ -119,6 +124,7 @@ pub(super) fn finishes(rt: &impl Abort, shared: &Shared, hand: &mut Hand, key: K
         key,
         leaf,
         1,
+        &mut hand.chain,
         &mut hand.queue,
         &mut hand.splices,
     );
@@ -142,6 +148,7 @@ pub(super) fn cannot_finish(
         key,
         leaf,
         0,
+        &mut hand.chain,
         &mut hand.queue,
         &mut hand.splices,
     );

@@ -9,7 +9,6 @@ use nm_files::fault::RunFault;
 use nm_files::header::Header;
 use nm_files::schedule::schedule_of;
 use nm_files::stream::{LIMIT, input_of, write_text};
-use nm_model::NewError;
 use std::alloc::Global;
 use std::io::{Read, Write};
 
@@ -18,17 +17,9 @@ fn core_of(alloc: Global, header: &Header) -> Result<Core, RunFault>
     ensures opening { IfOk result (λ core. core ≡ opening header.now) }
     ensures err { IfErr result (λ e. e ≡ RunFault.NoMemory) }
 {
-    let nodes = header.layout.nodes();
-    let workers = header.layout.workers();
-    let made = if header.is_ordered {
-        Core::ordered(alloc, nodes, workers)
-    } else {
-        Core::new(alloc, nodes, workers)
-    };
-    match made {
+    match Core::of(alloc, header.layout, header.is_ordered) {
         Ok(core) => Ok(core),
-        Err(NewError::NoMemory) => Err(RunFault::NoMemory),
-        Err(NewError::Nodes | NewError::Workers) => unreachable!(),
+        Err(_) => Err(RunFault::NoMemory),
     }
 }
 

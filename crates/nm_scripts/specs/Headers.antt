@@ -1,6 +1,7 @@
 -- The first line of a script: its command and version, how many nodes and workers it is for, and how many tries each call has.
 use Rattle.std.specs.Prelude.{◌≡◌, ℕ, List, [], ◌∷◌, codes, Bool, true, false, Result, Ok, Err, if◌then◌else◌}
 use Rattle.std.specs.Str.{bytes_eq}
+use Rattle.nm_edge.specs.Layouts.{dense}
 use Rattle.nm_files.specs.declared.fault.Reason.{Reason}
 use Rattle.nm_files.specs.declared.fault.Reason.TheVariants as reason
 use Rattle.nm_files.specs.Chain.{◌>>=◌}
@@ -37,7 +38,7 @@ header_within limits nodes workers tries =
     if not_within 7 limits.nodes nodes then Err reason.Nodes
     else if not_within 1 limits.workers workers then Err reason.Workers
     else if not_within 1 1000000 tries then Err reason.Tries
-    else Ok (record { layout = record { nodes = nodes; workers = workers }; tries = tries; may_resign = limits.may_resign })
+    else Ok (record { layout = dense nodes workers; tries = tries; may_resign = limits.may_resign })
 
 unfoldable pub header_by : Limits → List ℕ → List ℕ → List ℕ → Result Header Reason
 header_by limits nodes workers tries = do

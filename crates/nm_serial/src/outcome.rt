@@ -12,7 +12,7 @@ use nm_epoch::HeldQueue;
 use nm_files::fault::RunFault;
 use nm_print::last_lines::put_keys_line;
 use nm_scripts::header::Header;
-use nm_tree::{CloseError, CloseReason, Counts, NewError, Report, Tree, Worker};
+use nm_tree::{CloseError, CloseReason, Counts, Fit, Report, Tree, Worker};
 use std::alloc::{AllocError, Global};
 
 /// The tree of a header with its workers, which claim the lowest slot that they can, so that a script tells which slots it uses.
@@ -23,10 +23,9 @@ pub(crate) fn open(alloc: Global, header: &Header) -> Result<(Tree, Vec<Worker>)
     ensures fit { IfOk result (λ r. HaveFit Lowest r.1.items) }
     ensures err { IfErr result (λ e. e ≡ RunFault.NoMemory) }
 {
-    match Tree::new(alloc, header.layout.nodes(), header.layout.workers()) {
+    match Tree::of(alloc, header.layout, Fit::Lowest) {
         Ok(opened) => Ok(opened),
-        Err(NewError::NoMemory) => Err(RunFault::NoMemory),
-        Err(NewError::Nodes | NewError::Workers) => unreachable!(),
+        Err(_) => Err(RunFault::NoMemory),
     }
 }
 

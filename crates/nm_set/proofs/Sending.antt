@@ -6,6 +6,8 @@ use Rattle.atomic_table.specs.contracts.shared.Seat as seat
 use Rattle.atomic_table.proofs.shared.Seat.TheSendSync as seat_crosses
 use Rattle.counted_slot.proofs.Counted.TheSendSync as counted
 use Rattle.nm_steps.specs.contracts.pass.Pass as pass
+use Rattle.nm_steps.specs.contracts.pass.notes.Note as note
+use Rattle.nm_steps.proofs.pass.notes.Note.TheSendSync as note_crosses
 use Rattle.nm_pool.proofs.placement.Placement.TheSendSync as placement
 use Rattle.nm_epoch.proofs.collecting.HeldQueue.TheSendSync as queue
 use Rattle.nm_tree.proofs.worker.Account.TheSendSync as account
@@ -14,6 +16,8 @@ use Rattle.nm_tree.proofs.worker.Worker.TheSendSync as worker_crosses
 use Rattle.nm_tree.proofs.tree.Tree.TheSendSync as tree
 use Rattle.nm_set.specs.contracts.seat.Resident as resident
 use Rattle.nm_set.proofs.seat.Resident.TheSendSync as resident_crosses
+use Rattle.nm_set.specs.contracts.posting.Letter as letter
+use Rattle.nm_set.proofs.posting.Letter.TheSendSync as letter_crosses
 use Rattle.nm_set.specs.contracts.home.Home as home
 use Rattle.nm_set.proofs.home.Home.TheSendSync as home_crosses
 use Rattle.nm_set.specs.contracts.member.Member as member
@@ -32,8 +36,14 @@ worker_sync = search (sendable, crosses, pass_sync, placement.the_sync, queue.th
 resident_sync : IsSync resident.the_row
 resident_sync = search (sendable, worker_sync) depth 20
 
+note_sync : IsSync note.the_row
+note_sync = search (sendable, crosses, seat_sync) depth 20
+
+letter_sync : IsSync letter.the_row
+letter_sync = search (sendable, crosses, note_sync) depth 20
+
 home_sync : IsSync home.the_row
-home_sync = search (sendable, crosses, tree.the_sync, counted.the_sync, resident_crosses.the_send, resident_sync) depth 20
+home_sync = search (sendable, crosses, tree.the_sync, counted.the_sync, resident_crosses.the_send, resident_sync, letter_crosses.the_send, letter_sync) depth 40
 
 pub member_send : IsSend member.the_row
 member_send = search (sendable, crosses, home_crosses.the_send, home_sync, worker_crosses.the_send) depth 40

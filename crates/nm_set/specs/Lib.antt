@@ -1,5 +1,7 @@
 pub mod Seats
+pub mod Posts
 pub mod Asked
+pub mod InTurns
 pub mod States
 pub mod Ends
 pub mod Tended

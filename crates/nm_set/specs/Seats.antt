@@ -1,11 +1,13 @@
 -- Members of a set, and the seats where its workers are while nobody has them.
-use Rattle.std.specs.Prelude.{◌≡◌, ◌<◌, ◌≤◌, ℕ, suc, Bool, false, List, [], ◌∷◌, ◌++◌}
+use Rattle.std.specs.Prelude.{◌≡◌, ◌<◌, ◌≤◌, ℕ, suc, Bool, true, false, List, [], ◌∷◌, ◌++◌, Result, Ok, Err}
 use Rattle.nm_steps.specs.Steps.{Board, IsOf}
 use Rattle.nm_pool.specs.declared.placement.Fit.{Fit}
 use Rattle.nm_tree.specs.Resigning.{IsReason}
 use Rattle.nm_tree.specs.Workers.{Hand}
 use Rattle.nm_tree.specs.declared.resigning.ResignReason.{ResignReason as Reason}
 use Rattle.nm_tree.specs.declared.resigning.ResignReason.TheVariants as tree
+use Rattle.nm_set.specs.declared.fault.MemberFault.{MemberFault}
+use Rattle.nm_set.specs.declared.fault.MemberFault.TheVariants as taking
 use Rattle.nm_set.specs.declared.fault.ResignReason.{ResignReason}
 use Rattle.nm_set.specs.declared.fault.ResignReason.TheVariants as because
 use Rattle.nm_set.specs.declared.home.Absence.{Absence}
@@ -77,3 +79,11 @@ IsStaying m i because.Number = m.board.layout.workers ≤ i
 IsStaying m i because.Away = i < m.board.layout.workers
 IsStaying m i because.Held = IsResidentThatStays m i tree.Held
 IsStaying m i because.Pending = IsResidentThatStays m i tree.Pending
+
+-- whether a worker is with a member is told of an open set, and of the numbers of its tree; that the answer is right is in no clause
+abbrev pub TellsAway : Standing → ℕ → Result Bool MemberFault → Type 0
+TellsAway s i (Ok away) = (s.closing ≡ false) × (i < s.board.layout.workers)
+TellsAway s i (Err taking.Number) = (s.closing ≡ false) × (s.board.layout.workers ≤ i)
+TellsAway s i (Err taking.Closing) = s.closing ≡ true
+TellsAway s i (Err taking.Away) = ⊥
+TellsAway s i (Err taking.Uncounted) = ⊥

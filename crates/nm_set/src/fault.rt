@@ -45,6 +45,17 @@ pub enum MemberFault {
     Uncounted,
 }
 
+/// Why a member has not read a note.
+#[derive(Clone, Copy, Debug, Error, PartialEq, Eq)]
+pub enum PostFault {
+    /// The tree has fewer workers than that.
+    #[error("there is no worker of that number")]
+    Number,
+    /// Another member is at that post at this moment.
+    #[error("another member is at the post")]
+    Busy,
+}
+
 /// Why a member may not take over a worker.
 #[derive(Clone, Copy, Debug, Error, PartialEq, Eq)]
 pub enum ResignReason {

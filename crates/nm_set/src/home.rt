@@ -1,9 +1,10 @@
 //! The home of a tree's workers: a seat for each of them, where it is while nobody has it.
-ghost use Rattle.std.specs.Prelude.{◌≡◌, ◌<◌, ◌≤◌, ◌+◌, ◌↔◌, length, IfOk, IsErrOf, vec_capacity};
+ghost use Rattle.std.specs.Prelude.{◌≡◌, ◌<◌, ◌≤◌, ◌+◌, ◌↔◌, length, IfNone, IfOk, IfSome, IsErrOf, vec_capacity};
 ghost use Rattle.nm_tree.specs.Workers.{AreNew, HaveFit};
 ghost use Rattle.nm_set.specs.Seats.{AreOwn, BeginsWith, IsOwn, IsResident};
 
-use crate::seat::{Guest, Seat, leave, stand_up};
+use crate::posting::Post;
+use crate::seat::{Guest, Seat, leave, retire, stand_up};
 use nm_pool::Fit;
 use nm_tree::{Tree, Worker};
 use std::alloc::{AllocError, Global};
@@ -85,6 +86,29 @@ impl Home {
             unreachable!()
         };
         guest.sit_down(seat);
+    }
+
+    /// A worker that was taken from its seat does not come back to it.
+    pub(crate) fn retire(&self, number: u32) {
+        if let Some(seat) = self.seats.get(number as usize) {
+            retire(seat);
+        }
+    }
+
+    /// Whether a worker is with a member. `None`: there is none of that number.
+    pub(crate) fn is_away(&self, number: u32) -> Option<bool>
+        ensures some { IfSome result (λ _. number < self.now.tree.layout.workers) }
+        ensures none { IfNone result (self.now.tree.layout.workers ≤ number) }
+    {
+        Some(self.seats.get(number as usize)?.is_away())
+    }
+
+    /// The post of a worker. `None`: there is none of that number.
+    pub(crate) fn post_of(&self, number: u32) -> Option<&Post>
+        ensures some { IfSome result (λ p. (p.now ≡ (self.now, number)) × (number < self.now.tree.layout.workers)) }
+        ensures none { IfNone result (self.now.tree.layout.workers ≤ number) }
+    {
+        Some(self.seats.get(number as usize)?.post())
     }
 
     /// The tree, and some workers with those that are at home behind them. There is room for all.

@@ -9,15 +9,17 @@ mod attach;
 mod fault;
 mod home;
 mod member;
+mod posting;
 mod seat;
 mod set;
 mod tended;
 
-pub use fault::{CloseReason, Fault, MemberFault, NotHeld, PinFault, ResignReason};
+pub use fault::{CloseReason, Fault, MemberFault, NotHeld, PinFault, PostFault, ResignReason};
 pub use member::{Member, ResignError};
 pub use nm_tree::{
     Advance, Behind, Collected, Counts, Entry, Fault as CallFault, HeldQueue, NewError,
-    PinFault as CallPinFault, Report,
+    PinFault as CallPinFault, Query, Report,
 };
+pub use posting::Posted;
 pub use set::{CloseError, KeepError, Set};
 pub use tended::Habit;

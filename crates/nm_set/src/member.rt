@@ -1,5 +1,5 @@
 //! Members: a worker together with the tree on which it works.
-ghost use Rattle.std.specs.Prelude.{◌≡◌, ◌<◌, ◌++◌, ◌∷◌, [], length, vec_capacity, option_map, IfOk, IfErr};
+ghost use Rattle.std.specs.Prelude.{◌≡◌, ◌<◌, ◌++◌, ◌∷◌, [], length, vec_capacity, option_map, IfOk, IfErr, IfSome};
 ghost use Rattle.std.specs.Arc.{arc_value};
 ghost use Rattle.nm_edge.specs.Layouts.{IsLayout};
 ghost use Rattle.nm_steps.specs.Rules.{Extends};
@@ -10,14 +10,17 @@ ghost use Rattle.nm_tree.specs.Running.{HasSeenTurns};
 ghost use Rattle.nm_tree.specs.Workers.{Hand, IsBetweenCalls, IsLedger, waiting_in};
 ghost use Rattle.nm_tree.specs.declared.worker.Unfinished.{Unfinished as Delete};
 ghost use Rattle.nm_set.specs.Asked.{Asked, AskedToPin, AskedToUnpin, LeavesHas, LeavesInsert, LeavesDelete, LeavesFinish, LeavesAdvance, LeavesBehind, LeavesCollect};
+ghost use Rattle.nm_set.specs.InTurns.{AskedMany};
+ghost use Rattle.nm_set.specs.Posts.{HasTally, Reads};
 ghost use Rattle.nm_set.specs.Seats.{IsOwn, IsResident, IsStaying, told_absence, told_staying};
 
-use crate::fault::{Fault, NotHeld, PinFault, ResignReason};
+use crate::fault::{Fault, NotHeld, PinFault, PostFault, ResignReason};
 use crate::home::{Absence, Home};
+use crate::posting::{Posted, leave_letter, read_letter};
 use crate::seat::{Guest, Stay, unite};
 use nm_edge::Key;
 use nm_steps::Note;
-use nm_tree::{Advance, Behind, Collected, Counts, Worker};
+use nm_tree::{Advance, Behind, Collected, Counts, Query, Worker};
 use std::alloc::Global;
 use std::marker::Model;
 use std::sync::Arc;
@@ -88,6 +91,26 @@ impl Member {
         }
         match self.home.tree().has(&mut self.guest.worker, key, tries) {
             Ok(answer) => Ok(answer),
+            Err(fault) => Err(Fault::Call(fault)),
+        }
+    }
+
+    /// Whether the set has each of these keys, which their `found` tells then: `Tree::has_many` of `nm_tree`.
+    ///
+    /// `Held`: the caller holds the worker. Other faults are the tree's.
+    pub fn has_many(&mut self, queries: &mut [Query], tries: u32) -> Result<(), Fault>
+        ensures board { self.new.board ≡ self.old.board }
+        ensures did { AskedMany self.old.board.layout.nodes tries queries.old queries.new self.old.hand self.new.hand result }
+    {
+        if self.guest.worker.held().is_some() {
+            return Err(Fault::Held);
+        }
+        match self
+            .home
+            .tree()
+            .has_many(&mut self.guest.worker, queries, tries)
+        {
+            Ok(()) => Ok(()),
             Err(fault) => Err(Fault::Call(fault)),
         }
     }
@@ -211,6 +234,33 @@ impl Member {
         self.home.tree().hear(&mut self.guest.worker, note);
     }
 
+    /// Leaves a note of all that the worker has seen on its post, in place of its earlier one, for any other member of this set to `read`: what it has
+    /// won so far. No step, no lock and no memory.
+    ///
+    /// `None`: a reader has the earlier note at this moment, and that stays.
+    pub fn post(&mut self) -> Option<Posted>
+        ensures same { self.new ≡ self.old }
+        ensures tally { IfSome result (λ p. HasTally p self.old.hand.pass.view.log) }
+    {
+        let post = self.home.post_of(self.guest.worker.number())?;
+        leave_letter(self.home.tree(), post, &mut self.guest.worker)
+    }
+
+    /// The worker hears the note that the worker of a number has left by `post`, and leaves it there for others: all that it is asked from then on comes
+    /// behind all that the other one had seen when it left the note. What that one had won by then; `None` where it has left none. No step, no lock
+    /// and no memory.
+    ///
+    /// `Number`: the tree has no worker of that number. `Busy`: another member is at that post at this moment. Nothing has changed.
+    pub fn read(&mut self, number: u32) -> Result<Option<Posted>, PostFault>
+        ensures board { self.new.board ≡ self.old.board }
+        ensures heard { Reads self.old.board number self.old.hand self.new.hand result }
+    {
+        let Some(post) = self.home.post_of(number) else {
+            return Err(PostFault::Number);
+        };
+        read_letter(self.home.tree(), post, &mut self.guest.worker)
+    }
+
     /// The key of a delete that has flagged its leaf and not answered yet; `finish` goes on with it.
     pub fn pending(&self) -> Option<Key>
         ensures { result ≡ option_map (λ (n : Delete). n.key) self.now.hand.pending }
@@ -241,17 +291,29 @@ impl Member {
 
     /// The worker goes home, with all that it holds, is held at or has pending, and can be taken again by `Set::member`. Of its tree nothing changes.
     pub fn close(self) {
-        let Member { home, guest } = self;
+        let (home, guest) = self.apart();
         home.receive(guest);
     }
 
-    /// The worker stays with these, as it is. There is room for it.
+    /// The home that the member keeps, and its worker as it is.
+    fn apart(self) -> (Arc<Home, Global>, Guest)
+        ensures worker { result.1.worker ≡ self.hand }
+        ensures tree { (arc_value result.0).tree ≡ self.board }
+        ensures own { IsOwn self.board self.hand }
+        ensures fit { self.hand.fit ≡ (arc_value result.0).fit }
+    {
+        let Self { home, guest } = self;
+        (home, guest)
+    }
+
+    /// The worker stays with these, as it is, and does not come back to its seat. There is room for it.
     pub(crate) fn stay_with(self, workers: &mut Vec<Worker>)
         requires { length workers.old.items < vec_capacity workers.old }
         ensures items { workers.new.items ≡ workers.old.items ++ self.hand ∷ [] }
         ensures own { IsOwn self.board self.hand }
     {
-        let Member { home: _, guest } = self;
+        let (home, guest) = self.apart();
+        home.retire(guest.worker.number());
         guest.stay_with(workers);
     }
 
@@ -275,7 +337,10 @@ impl Member {
             }
         };
         match unite(home.tree(), guest, other) {
-            Ok(heir) => Ok(Member::of(home, heir)),
+            Ok(heir) => {
+                home.retire(leaver);
+                Ok(Member::of(home, heir))
+            }
             Err(stay) => {
                 let Stay {
                     reason,

@@ -1,12 +1,14 @@
-//! The seats of a tree's workers, and workers that sit on none.
+//! The seats of a tree's workers, each with the post of its worker, and workers that sit on none.
 ghost use Rattle.std.specs.Prelude.{◌≡◌, ◌<◌, ◌∷◌, [], ◌++◌, length, vec_capacity, option_map, IfOk, IfErr, IfSome};
 ghost use Rattle.nm_steps.specs.Steps.{IsOf};
 ghost use Rattle.nm_tree.specs.Resigning.{HasResigned, IsReason};
 ghost use Rattle.nm_set.specs.Seats.{IsResident};
 
 use crate::home::Site;
-use counted_slot::{Counted, FREE, Fits, PRESENT, TAKEN};
+use crate::posting::{Post, empty_post};
+use counted_slot::{Counted, FREE, Fits, MARKED, PRESENT, TAKEN};
 use nm_tree::{ResignReason, Tree, Worker};
+use std::marker::Model;
 
 /// A worker that is at home.
 #[derive(Drop)]
@@ -20,8 +22,39 @@ impl Fits for Resident {
     ghost fits = { λ place r. IsResident place.0.tree place.0.fit place.1 r.worker };
 }
 
-/// The place of one worker of one tree. Its word is `FREE` while the worker is at home, and `PRESENT` while the seat is empty.
-pub(crate) type Seat = Counted<Option<Resident>>;
+/// The place of one worker of one tree. The word of its chair is `FREE` while the worker is at home, `PRESENT` while it is away, and `MARKED` once it
+/// has resigned or is kept by the set, and so does not come back.
+#[derive(Drop)]
+pub(crate) struct Seat {
+    chair: Counted<Option<Resident>>,
+    post: Post,
+}
+
+impl Model for Seat {
+    ghost use Rattle.std.specs.Prelude.{◌≡◌, ℕ};
+    ghost use Rattle.nm_set.specs.declared.home.Site.{Site};
+
+    ghost Value = { Site × ℕ };
+
+    ghost view = { λ s. s.chair };
+
+    ghost invariant = { λ s. s.post ≡ s.chair };
+}
+
+impl Seat {
+    /// Where the worker of this seat leaves its letters.
+    pub(crate) fn post(&self) -> &Post
+        ensures { result.now ≡ self.now }
+    {
+        &self.post
+    }
+
+    /// Whether the worker was found away, so that it may come back.
+    pub(crate) fn is_away(&self) -> bool {
+        let word = self.chair.load();
+        word == PRESENT || word == TAKEN
+    }
+}
 
 /// A worker that sits on no seat: a member has it, or it is on its way to one or from one. It is not `Drop`: whoever has it hands it on, on each
 /// way out of each function, or takes it apart here. So no worker is lost by a way out that was not thought of.
@@ -49,8 +82,10 @@ impl Guest {
         requires { IsResident place.now.0.tree place.now.0.fit place.now.1 self.worker }
         ensures { result ≡ place.now }
     {
-        let Guest { worker } = self;
-        Counted::new(Some(Resident { worker }), place)
+        Seat {
+            chair: Counted::new(Some(self.at_home()), place),
+            post: empty_post(place),
+        }
     }
 
     /// The worker sits down on its seat. Only the worker that sits there leaves it empty, so that it is empty when that one comes home: where it were
@@ -58,13 +93,21 @@ impl Guest {
     pub(crate) fn sit_down(self, seat: &Seat)
         requires { IsResident seat.now.0.tree seat.now.0.fit seat.now.1 self.worker }
     {
-        let Guest { worker } = self;
-        let (found, claim) = seat.turn(PRESENT, TAKEN);
+        let resident = self.at_home();
+        let (found, claim) = seat.chair.turn(PRESENT, TAKEN);
         if found != PRESENT {
             claim.done();
             return;
         }
-        claim.put(Some(Resident { worker }), FREE);
+        claim.put(Some(resident), FREE);
+    }
+
+    /// The worker as it sits at home, which is as it came.
+    fn at_home(self) -> Resident
+        ensures { result.worker ≡ self.worker }
+    {
+        let Guest { worker } = self;
+        Resident { worker }
     }
 
     /// The worker stays with these. There is room for it.
@@ -82,7 +125,7 @@ impl Guest {
 pub(crate) fn stand_up(seat: &Seat) -> Option<Guest>
     ensures { IfSome result (λ g. IsResident seat.now.0.tree seat.now.0.fit seat.now.1 g.worker) }
 {
-    let (found, claim) = seat.turn(FREE, TAKEN);
+    let (found, claim) = seat.chair.turn(FREE, TAKEN);
     if found != FREE {
         claim.done();
         return None;
@@ -90,11 +133,22 @@ pub(crate) fn stand_up(seat: &Seat) -> Option<Guest>
     guest_of(claim.put(None, PRESENT))
 }
 
+/// Whoever has left a seat does not come back.
+pub(crate) fn retire(seat: &Seat) {
+    let (found, claim) = seat.chair.turn(PRESENT, TAKEN);
+    if found != PRESENT {
+        claim.done();
+        return;
+    }
+    claim.put(None, MARKED);
+}
+
 /// Takes what is on a seat that is no longer needed.
 pub(crate) fn leave(seat: Seat) -> Option<Guest>
     ensures { IfSome result (λ g. IsResident seat.0.tree seat.0.fit seat.1 g.worker) }
 {
-    guest_of(seat.into_inner())
+    let Seat { chair, post: _ } = seat;
+    guest_of(chair.into_inner())
 }
 
 /// What was on a seat.

@@ -1,9 +1,10 @@
 //! Sets: a tree that gives out its workers as members, and is closed when all of them are at home, or with the set.
 ghost use Rattle.std.specs.Prelude.{◌≡◌, ◌<◌, ◌≤◌, ◌↔◌, ◌⊎◌, ◌++◌, ◌∷◌, [], true, false, length, IfOk, IfErr, IsErrOf, OnOk, OnErr};
 ghost use Rattle.std.specs.Arc.{arc_value};
+ghost use Rattle.nm_edge.specs.Layouts.{spaced};
 ghost use Rattle.nm_tree.specs.Closing.{IsClosed};
 ghost use Rattle.nm_tree.specs.Workers.{AreNew, HaveFit};
-ghost use Rattle.nm_set.specs.Seats.{AreOwn, BeginsWith, IsResident, IsAnyResident};
+ghost use Rattle.nm_set.specs.Seats.{AreOwn, BeginsWith, IsResident, IsAnyResident, TellsAway};
 ghost use Rattle.nm_set.specs.Ends.{EndsSet, IsLeftOpen, IsTreesReason, told_reason};
 ghost use Rattle.nm_set.specs.States.{open_set, closing_set};
 
@@ -11,7 +12,7 @@ use crate::attach::take_any;
 use crate::fault::{CloseReason, MemberFault};
 use crate::home::{Absence, Home, Site};
 use crate::member::Member;
-use nm_edge::{LEAST_NODES, MOST_NODES, MOST_WORKERS};
+use nm_edge::{LEAST_NODES, MOST_SPACED_NODES, MOST_WORKERS};
 use nm_pool::Fit;
 use nm_tree::{NewError, Report, Tree, Worker};
 use std::alloc::Global;
@@ -61,17 +62,17 @@ pub struct KeepError {
 }
 
 impl Set {
-    /// The empty set, in a tree with room for `nodes` nodes, 7 to 1,048,576, for 1 to 64 workers; a new node takes the lowest free slot:
-    /// `Tree::new` of `nm_tree`.
+    /// The empty set, in a tree with room for `nodes` nodes, 7 to 268,435,456, for 1 to 64 workers, whose announcements have cache lines of their own; a
+    /// new node takes the lowest free slot: `Tree::spaced` of `nm_tree` with the lowest fit.
     ///
     /// `NoMemory`: nothing is kept.
     pub fn lowest(alloc: Global, nodes: u32, workers: u32) -> Result<Set, NewError>
-        ensures open { IfOk result (λ s. (s.closing ≡ false) × (s.kept ≡ []) × (s.board.layout ≡ record { nodes = nodes; workers = workers })) }
+        ensures open { IfOk result (λ s. (s.closing ≡ false) × (s.kept ≡ []) × (s.board.layout ≡ spaced nodes workers)) }
         ensures fit { IfOk result (λ s. s.fit ≡ Fit.Lowest) }
-        ensures nodes { IsErrOf result NewError.Nodes ↔ ((nodes < LEAST_NODES) ⊎ (MOST_NODES < nodes)) }
-        ensures workers { IsErrOf result NewError.Workers ↔ ((LEAST_NODES ≤ nodes) × (nodes ≤ MOST_NODES) × ((workers < 1) ⊎ (MOST_WORKERS < workers))) }
+        ensures nodes { IsErrOf result NewError.Nodes ↔ ((nodes < LEAST_NODES) ⊎ (MOST_SPACED_NODES < nodes)) }
+        ensures workers { IsErrOf result NewError.Workers ↔ ((LEAST_NODES ≤ nodes) × (nodes ≤ MOST_SPACED_NODES) × ((workers < 1) ⊎ (MOST_WORKERS < workers))) }
     {
-        let (tree, workers) = Tree::new(alloc, nodes, workers)?;
+        let (tree, workers) = Tree::spaced(alloc, nodes, workers, Fit::Lowest)?;
         let site = Site {
             tree,
             fit: Fit::Lowest,
@@ -79,14 +80,14 @@ impl Set {
         settle(alloc, site, workers)
     }
 
-    /// The same, but each worker looks for a free slot near those that it took and gave back last: `Tree::near` of `nm_tree`.
+    /// The same, but each worker looks for a free slot near those that it took and gave back last: `Tree::spaced` with the near one.
     pub fn near(alloc: Global, nodes: u32, workers: u32) -> Result<Set, NewError>
-        ensures open { IfOk result (λ s. (s.closing ≡ false) × (s.kept ≡ []) × (s.board.layout ≡ record { nodes = nodes; workers = workers })) }
+        ensures open { IfOk result (λ s. (s.closing ≡ false) × (s.kept ≡ []) × (s.board.layout ≡ spaced nodes workers)) }
         ensures fit { IfOk result (λ s. s.fit ≡ Fit.Near) }
-        ensures nodes { IsErrOf result NewError.Nodes ↔ ((nodes < LEAST_NODES) ⊎ (MOST_NODES < nodes)) }
-        ensures workers { IsErrOf result NewError.Workers ↔ ((LEAST_NODES ≤ nodes) × (nodes ≤ MOST_NODES) × ((workers < 1) ⊎ (MOST_WORKERS < workers))) }
+        ensures nodes { IsErrOf result NewError.Nodes ↔ ((nodes < LEAST_NODES) ⊎ (MOST_SPACED_NODES < nodes)) }
+        ensures workers { IsErrOf result NewError.Workers ↔ ((LEAST_NODES ≤ nodes) × (nodes ≤ MOST_SPACED_NODES) × ((workers < 1) ⊎ (MOST_WORKERS < workers))) }
     {
-        let (tree, workers) = Tree::near(alloc, nodes, workers)?;
+        let (tree, workers) = Tree::spaced(alloc, nodes, workers, Fit::Near)?;
         let site = Site {
             tree,
             fit: Fit::Near,
@@ -119,8 +120,7 @@ impl Set {
         }
     }
 
-    /// Gives out a worker that is at home, with all that it held when it went home, where the caller names no number: those eight apart, from 7 on,
-    /// come first (7, 15, 23 and so on), since their announcements stand in different cache lines.
+    /// Gives out a worker that is at home, with all that it held when it went home, where the caller names no number: the one with the least.
     ///
     /// `Away`: each seat was empty when it was looked at, once each, one after the other. That no worker was at home at one moment is not said: one
     /// may have gone home to a seat behind the look at it.
@@ -138,6 +138,22 @@ impl Set {
         match take_any(&home) {
             Some(guest) => Ok(Member::of(home, guest)),
             None => Err(MemberFault::Away),
+        }
+    }
+
+    /// Whether `close` would miss the worker of a number, since a member has it, as its seat was found: so a program learns which member it has lost. One
+    /// that has resigned is with its heir, and one that the set keeps with the set: false.
+    ///
+    /// `Number`: the tree has no worker of that number. `Closing`: a close has gathered all.
+    pub fn is_away(&self, number: u32) -> Result<bool, MemberFault>
+        ensures { TellsAway self.now number result }
+    {
+        let State::Open(home) = &self.state else {
+            return Err(MemberFault::Closing);
+        };
+        match home.is_away(number) {
+            Some(away) => Ok(away),
+            None => Err(MemberFault::Number),
         }
     }
 

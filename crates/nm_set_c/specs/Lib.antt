@@ -5,4 +5,6 @@ pub mod Outcomes
 pub mod Owners
 pub mod Sets
 pub mod Workers
+pub mod Notes
+pub mod Lookups
 pub mod Reports

@@ -1,14 +1,15 @@
 -- What calls on a set tell and leave.
-use Rattle.std.specs.Prelude.{◌≡◌, ◌≤◌, ◌⊎◌, ◌↔◌, ℕ, true, false, [], Result, Ok, Err}
+use Rattle.std.specs.Prelude.{◌≡◌, ◌≤◌, ◌⊎◌, ◌↔◌, ℕ, Bool, true, false, [], Result, Ok, Err}
+use Rattle.nm_edge.specs.Layouts.{spaced}
 use Rattle.nm_pool.specs.declared.placement.Fit.{Fit}
 use Rattle.nm_set.specs.declared.fault.CloseReason.{CloseReason}
 use Rattle.nm_set.specs.declared.fault.MemberFault.{MemberFault}
 use Rattle.nm_set.specs.declared.fault.MemberFault.TheVariants as taking
 use Rattle.nm_set.specs.Ends.{EndsSet, IsLeftOpen}
-use Rattle.nm_set.specs.Seats.{Standing, Seated, IsResident, IsAnyResident}
+use Rattle.nm_set.specs.Seats.{Standing, Seated, IsResident, IsAnyResident, TellsAway}
 use Rattle.nm_tree.specs.Workers.{Hand}
 use Rattle.nm_tree.specs.declared.closing.Report.{Report}
-use Rattle.nm_set_c.specs.Outcomes.{of_taking, of_reason}
+use Rattle.nm_set_c.specs.Outcomes.{of_bool, of_taking, of_reason}
 use Rattle.nm_set_c.specs.Handles.{Hold, Closed, Open, IsRefused, CannotOpen}
 use Rattle.nm_set_c.specs.declared.outcome.Outcome.{Outcome}
 use Rattle.nm_set_c.specs.declared.outcome.Outcome.TheVariants as outcome
@@ -18,7 +19,7 @@ use Rattle.nm_set_c.specs.declared.owner.Owner.TheVariants.{Set, Worker, Ended, 
 -- ---- a new set
 
 abbrev pub HasNodes : ℕ → Type 0
-HasNodes nodes = (7 ≤ nodes) × (nodes ≤ 1048576)
+HasNodes nodes = (7 ≤ nodes) × (nodes ≤ 268435456)
 
 abbrev pub HasWorkers : ℕ → Type 0
 HasWorkers workers = (1 ≤ workers) × (workers ≤ 64)
@@ -28,7 +29,7 @@ pub record IsNewSet (f : Fit) (nodes workers : ℕ) (s : Standing) : Type 0 wher
   pub begins : s.closing ≡ false
   pub keeps : s.kept ≡ []
   pub fit : s.fit ≡ f
-  pub layout : s.board.layout ≡ record { nodes = nodes; workers = workers }
+  pub layout : s.board.layout ≡ spaced nodes workers
 
 -- with sizes that fit, the handle has a new set, or memory was refused; else which size does not fit is told, the nodes first
 abbrev pub IsMade : Fit → ℕ → ℕ → Hold → Outcome → Type 0
@@ -83,6 +84,22 @@ AnyFaults s why = why ≡ taking.Number → ⊥
 
 abbrev pub Attaches : Hold → Hold → Hold → Outcome → Type 0
 Attaches set old new o = Takes (Gives IsAny AnyFaults) set old new o
+
+-- ---- a worker that is missed
+
+abbrev pub of_missing : Result Bool MemberFault → Outcome
+of_missing (Ok away) = of_bool away
+of_missing (Err why) = of_taking why
+
+-- what the set tells of the worker of a number
+abbrev pub MissesOwned : ℕ → Owner → Outcome → Type 0
+MissesOwned number (Set s) o = (r : Result Bool MemberFault) × (o ≡ of_missing r) × TellsAway s number r
+MissesOwned number (Worker m) o = o ≡ outcome.Kind
+MissesOwned number (Ended r) o = o ≡ outcome.Kind
+MissesOwned number Nothing o = o ≡ outcome.Kind
+
+abbrev pub Misses : ℕ → Hold → Outcome → Type 0
+Misses number set o = IsRefused set set o ⊎ ((x : Owner) × (set ≡ Open x) × MissesOwned number x o)
 
 -- ---- the end of a set
 

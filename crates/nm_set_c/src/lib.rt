@@ -12,6 +12,8 @@
 mod epochs;
 mod handle;
 mod keys;
+mod many;
+mod notes;
 mod outcome;
 mod owner;
 mod place;

@@ -23,7 +23,7 @@ pub enum Outcome {
     Key,
     /// There is nothing of that number.
     Number,
-    /// The number of nodes is not 7 to 1,048,576.
+    /// The number of nodes is not 7 to 268,435,456.
     Nodes,
     /// The number of workers is not 1 to 64.
     Workers,

@@ -4,7 +4,7 @@ ghost use Rattle.nm_pool.specs.declared.placement.Fit.TheVariants.{Lowest, Near}
 ghost use Rattle.nm_set_c.specs.Handles.{held_by};
 ghost use Rattle.nm_set_c.specs.Handles.Hold.{Closed, Open};
 ghost use Rattle.nm_set_c.specs.Outcomes.{Tells};
-ghost use Rattle.nm_set_c.specs.Sets.{MakesSet, Gives, Keeps, TakesWorker, IsNumbered, NumberFaults, Attaches, IsAny, AnyFaults, EndsHandle, EndsOwner, GivesUp};
+ghost use Rattle.nm_set_c.specs.Sets.{MakesSet, Gives, Keeps, TakesWorker, IsNumbered, NumberFaults, Attaches, IsAny, AnyFaults, Misses, MissesOwned, EndsHandle, EndsOwner, GivesUp};
 
 use crate::handle::Handle;
 use crate::outcome::Outcome;
@@ -13,7 +13,7 @@ use nm_set::{Member, Set};
 use std::alloc::Global;
 use std::mem::replace;
 
-/// Makes the empty set, in a tree with room for `nodes` nodes, 7 to 1,048,576, for 1 to 64 workers; a new node takes the lowest free slot:
+/// Makes the empty set, in a tree with room for `nodes` nodes, 7 to 268,435,456, for 1 to 64 workers; a new node takes the lowest free slot:
 /// `Set::lowest` of `nm_set`. `Done`, and the handle is open; `Open`, `InUse`, `Nodes`, `Workers`, `NoMemory`.
 #[unsafe(no_mangle)]
 pub extern "C" fn nm_set_lowest(alloc: Global, set: &mut Handle, nodes: u32, workers: u32) -> i32
@@ -124,7 +124,7 @@ fn keep(alloc: Global, worker: &mut Handle, given: Result<Member, Outcome>) -> O
     }
 }
 
-/// Takes a worker that is at home, where the caller names no number, those whose numbers are eight apart first: `Set::attach` of `nm_set`. Else as
+/// Takes a worker that is at home, where the caller names no number, the one with the least number: `Set::attach` of `nm_set`. Else as
 /// `nm_set_worker`, but no `Number`.
 #[unsafe(no_mangle)]
 pub extern "C" fn nm_set_attach(alloc: Global, set: &mut Handle, worker: &mut Handle) -> i32
@@ -156,6 +156,34 @@ fn any_of(owner: &Owner) -> Result<Member, Outcome>
     match set.attach() {
         Ok(member) => Ok(member),
         Err(fault) => Err(Outcome::of_taking(fault)),
+    }
+}
+
+/// Whether a close would miss the worker of a number, since a handle has it: `Yes`, `No`: `Set::is_away` of `nm_set`. `Number`, `Closing`; `Closed`,
+/// `InUse`, `Kind`.
+#[unsafe(no_mangle)]
+pub extern "C" fn nm_set_away(alloc: Global, set: &mut Handle, number: u32) -> i32
+    ensures told { Tells (Misses number (held_by set.old)) result }
+    ensures set { held_by set.new ≡ held_by set.old }
+{
+    let owner = match set.claim_soon(alloc) {
+        Ok(owner) => owner,
+        Err(told) => return told.code(),
+    };
+    let outcome = is_away(&owner, number);
+    set.put(owner);
+    outcome.code()
+}
+
+fn is_away(owner: &Owner, number: u32) -> Outcome
+    ensures { MissesOwned number owner.now result }
+{
+    let Owner::Set(set) = owner else {
+        return Outcome::Kind;
+    };
+    match set.is_away(number) {
+        Ok(answer) => Outcome::of(answer),
+        Err(fault) => Outcome::of_taking(fault),
     }
 }
 

@@ -2,6 +2,7 @@
 use Rattle.std.proofs.Common.{◌≡◌, ℕ, zero, suc, ◌+◌, ◌-◌, ◌*◌, ◌/◌, ◌<◌, ◌≤◌, Bool, true, false, List, ◌∷◌, ◌++◌, length, take, drop, map, set, flat_map, replicate, refl, sym, ap, ◌∙◌, arith, length-append, length-set, get_or-set_same}
 use Rattle.std.specs.Prelude.{None, bit_or, slice_index, slice_index_or, slice_set}
 use Rattle.std.specs.List.{range_with_len}
+use Rattle.std.proofs.Math.Nat.{mul-zero, mul-suc}
 use Rattle.std.proofs.lemmas.List.{drop-replicate, get_or-replicate, get_or_read, length-replicate, replicate-append-replicate, set-set}
 use Rattle.std.proofs.lemmas.List.FromFn.{fill_by_all}
 use Rattle.nm_edge.specs.Edges.{Edge, word_of, to}
@@ -12,16 +13,22 @@ use Rattle.nm_edge.specs.declared.edge.Side.TheVariants.{Left, Right}
 use Rattle.nm_model.specs.declared.memory.Node.{Node}
 use Rattle.nm_model.specs.Memory.{Memory, node, blank, fork, leaf, put_node, put_edge, with_edge, opening, infinity_0, infinity_1, infinity_2}
 use Rattle.nm_words.specs.Packing.{Fits, note_word, node_words, number_of, row_word, words_of}
-use Rattle.nm_words.proofs.PackedReads.{each_field_has_a_word}
+use Rattle.nm_words.proofs.PackedReads.{noted, each_field_has_a_word}
 use Rattle.nm_words.proofs.PackedWrites.{key_written, edge_written, giving_sets_a_bit}
 use Rattle.nm_steps.specs.Openings.{untouched, planted, given_below, Plants}
 
 -- ---- zeros
 
--- notes of idle workers
-notes_zero : (n : ℕ) → map note_word (replicate n None) ≡ replicate n 0
-notes_zero zero = refl
-notes_zero (suc n) = ap (λ l. 0 ∷ l) (notes_zero n)
+-- notes of idle workers, with their gaps
+notes_zero : (g n : ℕ) → flat_map (λ o. note_word o ∷ replicate g 0) (replicate n None) ≡ replicate ((1 + g) * n) 0
+notes_zero g zero = ap (λ k. replicate k 0) (sym (mul-zero (1 + g)))
+notes_zero g (suc n) =
+    ap (λ l. 0 ∷ (replicate g 0 ++ l)) (notes_zero g n) ∙ ap (λ l. 0 ∷ l) (replicate-append-replicate g ((1 + g) * n) 0)
+    ∙ ap (λ k. replicate k 0) (let e : suc (g + (1 + g) * n) ≡ (1 + g) * suc n = let more = mul-suc (1 + g) n in omega (arith, more) in e)
+
+-- and the zeros before them
+noted_zero : (L : Layout) → noted L (untouched L) ≡ replicate (L.gap - 2 + (1 + L.gap) * L.workers) 0
+noted_zero L = ap (λ l. replicate (L.gap - 2) 0 ++ l) (notes_zero L.gap L.workers) ∙ replicate-append-replicate (L.gap - 2) ((1 + L.gap) * L.workers) 0
 
 -- blank nodes
 nodes_zero : (n : ℕ) → flat_map node_words (replicate n blank) ≡ replicate (4 * n) 0
@@ -39,13 +46,13 @@ rows_zero f n all = sym (fill_by_all f (replicate n 0) n 0 (length-replicate n 0
 
 pub zeros : (L : Layout) → replicate (words L) 0 ≡ words_of L (untouched L)
 zeros L =
-    sym (ap (λ n. 0 ∷ n) (ap (λ l. l ++ (flat_map node_words (drop 1 (untouched L).nodes) ++ map (row_word (untouched L)) (range_with_len 0 (rows L)))) (notes_zero L.workers)
-    ∙ ap (λ l. replicate L.workers 0 ++ l) (
+    sym (ap (λ n. 0 ∷ n) (ap (λ l. l ++ (flat_map node_words (drop 1 (untouched L).nodes) ++ map (row_word (untouched L)) (range_with_len 0 (rows L)))) (noted_zero L)
+    ∙ ap (λ l. replicate (L.gap - 2 + (1 + L.gap) * L.workers) 0 ++ l) (
     ap (λ l. flat_map node_words l ++ map (row_word (untouched L)) (range_with_len 0 (rows L))) (drop-replicate 1 (L.nodes + 1) blank)
     ∙ (ap (λ l. l ++ map (row_word (untouched L)) (range_with_len 0 (rows L))) (nodes_zero (L.nodes + 1 - 1))
     ∙ (ap (λ l. replicate (4 * (L.nodes + 1 - 1)) 0 ++ l) (rows_zero (row_word (untouched L)) (rows L) row) ∙ replicate-append-replicate (4 * (L.nodes + 1 - 1)) (rows L) 0)))
-    ∙ replicate-append-replicate L.workers (4 * (L.nodes + 1 - 1) + rows L) 0)
-    ∙ ap (λ n. replicate n 0) (let e : suc (L.workers + (4 * (L.nodes + 1 - 1) + rows L)) ≡ words L = omega arith in e))
+    ∙ replicate-append-replicate (L.gap - 2 + (1 + L.gap) * L.workers) (4 * (L.nodes + 1 - 1) + rows L) 0)
+    ∙ ap (λ n. replicate n 0) (let e : suc (L.gap - 2 + (1 + L.gap) * L.workers + (4 * (L.nodes + 1 - 1) + rows L)) ≡ words L = omega arith in e))
   where
     row : (q : ℕ) → row_word (untouched L) q ≡ 0
     row q = ap (λ l. number_of (take 64 l)) (drop-replicate (64 * q + 1) (L.nodes + 1) false) ∙ bits_zero 64 (L.nodes + 1 - (64 * q + 1))

@@ -3,7 +3,7 @@ use Rattle.std.specs.Prelude.{◌≡◌, ◌<◌, ℕ, Option, zero, suc, Bool, 
 use Rattle.std.specs.List.{sum_by, count_by}
 use mathlib.Core.Option.{some}
 use lib.ListN.{get_elem?}
-use Rattle.nm_edge.specs.Layouts.{Layout, IsLayout}
+use Rattle.nm_edge.specs.Layouts.{Layout, IsLayout, dense}
 use Rattle.atomic_table.specs.Table.{State, Me, Step}
 use Rattle.nm_model.specs.declared.event.Event.{Event}
 use Rattle.nm_model.specs.declared.event.Event.TheVariants.{Announce, Leave, LeaveWith, Fill, Join}
@@ -94,7 +94,7 @@ abbrev pub the_others : View → View
 the_others v = viewing v.layout v.others
 
 abbrev pub nobody : View
-nobody = viewing (record { nodes = 0; workers = 0 }) []
+nobody = viewing (dense 0 0) []
 
 -- the entry of a join: the ledgers that the leaver holds
 abbrev pub passing : View → Entry

@@ -11,4 +11,6 @@ mod members;
 #[cfg(test)]
 mod streams;
 #[cfg(test)]
+mod together;
+#[cfg(test)]
 mod trees;

@@ -1,7 +1,8 @@
 //! Members of a set in one thread, each answer compared, and two in threads of their own.
 use nm_edge::Key;
 use nm_set::{
-    CloseReason, Fault, Habit, Member, MemberFault, NotHeld, PinFault, ResignReason, Set,
+    CloseReason, Fault, Habit, Member, MemberFault, NotHeld, PinFault, PostFault, Posted,
+    ResignReason, Set,
 };
 use std::process::Abort;
 use std::test::Fail;
@@ -130,13 +131,13 @@ fn a_set_closes_when_all_are_at_home(rt: HostRuntime) -> Result<(), Fail> {
     Ok(())
 }
 
-/// Members come by numbers that lie apart, tend their set, and are closed with it where it keeps them.
+/// Members come from the least number on, tend their set, and are closed with it where it keeps them.
 #[test]
 fn a_kept_member_is_closed_with_its_set(rt: HostRuntime) -> Result<(), Fail> {
     let mut set = Set::near(rt.alloc(), 256, 16)?;
     let mut first = set.attach()?;
     let second = set.attach()?;
-    assert_eq!(rt; (first.number(), second.number()), (7, 15));
+    assert_eq!(rt; (first.number(), second.number()), (0, 1));
     let (five, nine, habit) = (key(&rt, 5), key(&rt, 9), Habit::default());
     assert_eq!(rt;
         (first.add(five, &habit), first.add(five, &habit)),
@@ -154,6 +155,33 @@ fn a_kept_member_is_closed_with_its_set(rt: HostRuntime) -> Result<(), Fail> {
     assert!(rt; set.keep(first).is_ok());
     let (keys, slots) = closed(&rt, set);
     assert_eq!(rt; (keys.as_slice(), slots), ([nine].as_slice(), 251));
+    Ok(())
+}
+
+/// A note is heard as often as it is read, and tells what its worker had won; a set tells which workers a close would miss.
+#[test]
+fn members_leave_notes(rt: HostRuntime) -> Result<(), Fail> {
+    let set = Set::near(rt.alloc(), 64, 3)?;
+    let mut writer = set.member(1)?;
+    let mut reader = set.member(0)?;
+    assert_eq!(rt;
+        (reader.read(1), reader.read(3)),
+        (Ok(None), Err(PostFault::Number))
+    );
+    assert_eq!(rt; writer.insert(key(&rt, 5), TRIES), Ok(true));
+    let won = Posted { links: 1, flags: 0 };
+    assert_eq!(rt; writer.post(), Some(won));
+    assert_eq!(rt;
+        (reader.read(1), reader.read(1)),
+        (Ok(Some(won)), Ok(Some(won)))
+    );
+    reader.close();
+    assert_eq!(rt;
+        (set.is_away(1), set.is_away(0), set.is_away(3)),
+        (Ok(true), Ok(false), Err(MemberFault::Number))
+    );
+    writer.close();
+    assert_eq!(rt; closed(&rt, set).1, 59);
     Ok(())
 }
 

@@ -7,12 +7,12 @@ use Rattle.nm_model.specs.declared.event.Event.{Event}
 use Rattle.nm_model.specs.declared.event.Event.TheVariants.{Splice}
 use Rattle.nm_model.specs.declared.reply.Reply.TheVariants.{Cut}
 use Rattle.nm_model.specs.declared.trace.Turn.{Turn}
-use Rattle.nm_model.specs.Memory.{Memory, child}
+use Rattle.nm_model.specs.Memory.{Memory}
 use Rattle.nm_model.specs.Paths.{IsCut}
 use Rattle.nm_model.specs.Runs.{outcome, next}
-use Rattle.nm_model.specs.Laws.{CutsJust as LawCutsJust, OnlySplicesAnswerCuts, OfEachCut, NamesBirths, nodes_cut_of}
+use Rattle.nm_model.specs.Laws.{OnlySplicesAnswerCuts, OfEachCut, NamesBirths}
 use Rattle.nm_model.specs.Ordered.{Configuration, HasKey, IsReached, opening_of, next_in, outcome_in, after_in, trace_in}
-use Rattle.nm_laws.specs.KeptEdges.{IsFrozenChainTo, KeepsTheEdge, EachSpliceKeepsTheEdge}
+use Rattle.nm_laws.specs.KeptEdges.{KeepsTheEdge, EachSpliceKeepsTheEdge}
 use Rattle.nm_laws.proofs.Configurations.{reached_next, reached_state}
 use Rattle.nm_laws.proofs.Cuts.{cuts_name_births}
 use Rattle.nm_laws.proofs.Lawful.{IsLawful}
@@ -21,11 +21,11 @@ use Rattle.nm_laws.proofs.Reachable.{of_reachable}
 use Rattle.nm_laws.proofs.SplicedEdges.{each_splice_keeps_the_edge}
 use Rattle.nm_laws.proofs.Stays.{only_splices_answer_cuts}
 use Rattle.nm_order.proofs.WalksOfRuns.{all_before, all_behind}
-use Rattle.nm_theorem.specs.Headline.{slots, IsChain, IsWonSplice, CutsJust, after_turn, words_after}
+use Rattle.nm_model.specs.Headline.{nodes_cut_of, slots_of, IsWonSplice, CutsJust, CutsItsNodes, words_after}
 use Rattle.nm_theorem.specs.EachRun.{OfEachRun}
 use Rattle.nm_theorem.proofs.Runs.{Parts, parts_of, Head, head_of, told_in, reached_opening, lawful_opening, lawful_after}
 use Rattle.nm_theorem.proofs.WrittenWords.{run_words, turn_writes}
-use Rattle.nm_theorem.proofs.FreedOfRuns.{same_cut, state_says}
+use Rattle.nm_theorem.proofs.FreedOfRuns.{state_says}
 
 -- ---- configurations on the way
 
@@ -34,18 +34,10 @@ unfolding after_in
 reached_after [] c r keys = r
 reached_after (t ∷ ts) c r keys = reached_after ts (next_in c t) (reached_next c t (keys 0 t (omega arith)) r) (all_behind (λ (u : ℕ × Event). HasKey u.1) (t ∷ []) ts keys)
 
--- ---- a chain
-
-as_chain : (m : Memory) (p : ℕ) (keep : Side) (xs : List ℕ) (s : ℕ) → IsFrozenChainTo m p keep s xs → IsChain m p keep s xs
-as_chain m p keep [] s i = i
-as_chain m p keep (x ∷ []) s i = i
-as_chain m p keep (x ∷ leaf ∷ []) s i = (i.0, i.1, i.2.0, i.2.1, i.2.2)
-as_chain m p keep (x ∷ leaf ∷ y ∷ rest) s i = (i.0, i.1, i.2.0, i.2.1, i.2.2, as_chain m p keep (y ∷ rest) (child m x i.1) i.3)
-
 -- ---- one turn
 
 module _ (c : Configuration) (r : IsReached c) (t : ℕ × Event) where
-  cuts_told : LawCutsJust c.state (nodes_cut_of (outcome_in c t)) (next_in c t).state
+  cuts_told : CutsJust c.state.memory (nodes_cut_of (outcome_in c t)) (next_in c t).state.memory
   unfolding after_in trace_in
   cuts_told = (lawful_run_in c r (t ∷ [])).cuts [] [] (told_in c t) refl
 
@@ -64,30 +56,29 @@ module _ (c : Configuration) (r : IsReached c) (t : ℕ × Event) where
         keep = keep;
         is_splice = e;
         led = k.led;
-        chain = as_chain c.state.memory p keep (slots ns) x k.chain;
+        chain = k.chain;
         births = of_reachable (OfEachCut (λ before successor ns after. NamesBirths before ns)) cuts_name_births c.state (reached_state c r) t.0 a side x p keep ns told';
       }
         where
           told' : outcome c.state (t.0, Splice a side x p keep) ≡ Ok (Cut ns)
           told' = ap (λ (y : Event). outcome c.state (t.0, y)) (sym e) ∙ told
 
-          k : KeepsTheEdge c.state.memory (next c.state (t.0, Splice a side x p keep)).memory a side x p keep (slots ns)
+          k : KeepsTheEdge c.state.memory (next c.state (t.0, Splice a side x p keep)).memory a side x p keep (slots_of ns)
           k = of_reachable EachSpliceKeepsTheEdge each_splice_keeps_the_edge c.state (reached_state c r) t.0 a side x p keep ns told'
 
-  pub cuts_just : IsLawful c.state → CutsJust c.state.memory (told_in c t)
+  pub cuts_just : IsLawful c.state → CutsItsNodes c.state.memory (told_in c t)
   cuts_just lawful = record {
-    just = λ x. subst (λ (ns : List NodeId). IsCut c.state.memory (after_turn c.state.memory (told_in c t)) x ↔ Contains (slots ns) x) (same_cut (outcome_in c t))
-        (subst (λ (m : Memory). IsCut c.state.memory m x ↔ Contains (slots (nodes_cut_of (outcome_in c t))) x) (sym (turn_writes c t lawful)) (cuts_told x));
+    just = λ x. subst (λ (m : Memory). IsCut c.state.memory m x ↔ Contains (slots_of (nodes_cut_of (outcome_in c t))) x) (sym (turn_writes c t lawful)) (cuts_told x);
     splices = won;
   }
 
 -- ---- runs
 
-pub turns_cut_just_their_nodes : OfEachRun (λ L turns. (before rest : List Turn) (t : Turn) → turns ≡ before ++ t ∷ rest → CutsJust (words_after L before) t)
+pub turns_cut_just_their_nodes : OfEachRun (λ L turns. (before rest : List Turn) (t : Turn) → turns ≡ before ++ t ∷ rest → CutsItsNodes (words_after L before) t)
 turns_cut_just_their_nodes L fits b events keys before rest t all =
     let p : Parts (opening_of L b) events before (t ∷ rest) = parts_of (opening_of L b) events before (t ∷ rest) all in
     let h : Head (after_in (opening_of L b) p.early) p.late t rest = head_of (after_in (opening_of L b) p.early) p.late t rest (sym p.rest_is) in
     let early : All (λ t. HasKey t.1) p.early = all_before (λ (u : ℕ × Event). HasKey u.1) p.early p.late (subst (λ (ts : List (ℕ × Event)). All (λ t. HasKey t.1) ts) p.all keys) in
-    subst (λ (m : Memory). CutsJust m t) (sym (run_words L fits b p.early) ∙ ap (words_after L) (sym p.first_is))
-    (subst (CutsJust (after_in (opening_of L b) p.early).state.memory) (sym h.turn_is)
+    subst (λ (m : Memory). CutsItsNodes m t) (sym (run_words L fits b p.early) ∙ ap (words_after L) (sym p.first_is))
+    (subst (CutsItsNodes (after_in (opening_of L b) p.early).state.memory) (sym h.turn_is)
     (cuts_just (after_in (opening_of L b) p.early) (reached_after p.early (opening_of L b) (reached_opening L fits b) early) h.event (lawful_after p.early (opening_of L b) (lawful_opening L fits b))))

@@ -8,7 +8,7 @@ use Rattle.nm_edge.specs.Layouts.{Layout, IsLayout}
 use Rattle.nm_edge.specs.declared.node.NodeId.{NodeId}
 use Rattle.nm_model.specs.declared.event.Event.{Event}
 use Rattle.nm_model.specs.declared.reply.Reply.{Reply}
-use Rattle.nm_model.specs.declared.reply.Reply.TheVariants.{Cut, Freed}
+use Rattle.nm_model.specs.declared.reply.Reply.TheVariants.{Freed}
 use Rattle.nm_model.specs.declared.reply.Refused.{Refused}
 use Rattle.nm_model.specs.declared.reply.Refused.TheVariants.{NoWorker}
 use Rattle.nm_model.specs.declared.trace.Turn.{Turn}
@@ -17,51 +17,43 @@ use Rattle.nm_model.specs.declared.ledger.Ledger.{Ledger}
 use Rattle.nm_model.specs.Maps.{or_else}
 use Rattle.nm_model.specs.Ledgers.{held}
 use Rattle.nm_model.specs.Runs.{State, of, start, after, trace, refused, outcome}
-use Rattle.nm_model.specs.Laws.{node_in, nodes_cut_of, nodes_freed_of, freed_by, cuts_of as law_cuts, OneHolder, FreesAFront, NoNodeTwice}
+use Rattle.nm_model.specs.Laws.{node_in, OneHolder, FreesAFront, NoNodeTwice}
 use Rattle.nm_model.specs.Ordered.{Configuration, opening_of, refused_in, next_in, outcome_in, after_in, trace_in, accepted, turn_of, disorder_in}
 use Rattle.nm_model.proofs.Lists.{get_right, get_stays}
 use Rattle.nm_laws.proofs.Configurations.{ordered_runs, refused_outcome, allowed_outcome, state_outcome}
 use Rattle.nm_laws.proofs.FreedNodes.{IsIn, among_in, in_among, frees_front, each_queue_is_the_rest}
 use Rattle.nm_laws.proofs.Once.{no_node_is_cut_twice}
 use Rattle.nm_laws.proofs.Retired.{is_the_cuts, each_ledger_has_one_holder}
-use Rattle.nm_theorem.specs.Headline.{nodes_cut, nodes_freed, cuts_of, frees, is_among, freed_of, waits_of, AreFreedInTurn}
+use Rattle.nm_model.specs.Headline.{nodes_cut_of, nodes_freed_of, cuts_of, freed_by, is_among, freed_of, waits_of, AreFreedInTurn}
 use Rattle.nm_theorem.proofs.Runs.{Parts, parts_of, Head, head_of, enough_of, opening_state, lawful_opening, lawful_after, layout_next}
 use Rattle.nm_theorem.proofs.GraceOfRuns.{freed_outcome}
 
--- ---- the page's words and those of the laws
-
-pub same_cut : (o : Result Reply Refused) → nodes_cut_of o ≡ nodes_cut o
-same_cut (Ok (Cut ns)) = refl
-same_cut o = refl
-
-same_freed : (o : Result Reply Refused) → nodes_freed_of o ≡ nodes_freed o
-same_freed (Ok (Freed n)) = refl
-same_freed o = refl
+-- ---- refused turns
 
 nothing : {X : Type 0} (b : Bool) → ◌≡◌ {A = List X} (cond b [] []) []
 nothing true = refl
 nothing false = refl
 
 -- refused turns cut and free nothing
-accepted_cuts : (w : ℕ) (ts : List Turn) → law_cuts w (accepted ts) ≡ cuts_of w ts
+accepted_cuts : (w : ℕ) (ts : List Turn) → cuts_of w (accepted ts) ≡ cuts_of w ts
 accepted_cuts w [] = refl
 accepted_cuts w (t ∷ ts) = go t.outcome (accepted_cuts w ts)
   where
-    go : (o : Result Reply Refused) → law_cuts w (accepted ts) ≡ cuts_of w ts → law_cuts w (accepted (record { worker = t.worker; event = t.event; outcome = o } ∷ ts)) ≡ cuts_of w (record { worker = t.worker; event = t.event; outcome = o } ∷ ts)
-    go (Ok r) rest = λ i. cond (t.worker == w) (same_cut (Ok r) i) [] ++ rest i
+    go : (o : Result Reply Refused) → cuts_of w (accepted ts) ≡ cuts_of w ts → cuts_of w (accepted (record { worker = t.worker; event = t.event; outcome = o } ∷ ts)) ≡ cuts_of w (record { worker = t.worker; event = t.event; outcome = o } ∷ ts)
+    go (Ok r) rest = ap (λ (l : List NodeId). cond (t.worker == w) (nodes_cut_of (Ok r)) [] ++ l) rest
     go (Err x) rest = rest ∙ ap (λ (l : List NodeId). l ++ cuts_of w ts) (sym (nothing (t.worker == w)))
 
-accepted_frees : (ts : List Turn) → freed_by (accepted ts) ≡ frees ts
+accepted_frees : (ts : List Turn) → freed_by (accepted ts) ≡ freed_by ts
 accepted_frees [] = refl
 accepted_frees (t ∷ ts) = go t.outcome (accepted_frees ts)
   where
-    go : (o : Result Reply Refused) → freed_by (accepted ts) ≡ frees ts → freed_by (accepted (record { worker = t.worker; event = t.event; outcome = o } ∷ ts)) ≡ frees (record { worker = t.worker; event = t.event; outcome = o } ∷ ts)
-    go (Ok r) rest = λ i. same_freed (Ok r) i ++ rest i
+    go : (o : Result Reply Refused) → freed_by (accepted ts) ≡ freed_by ts → freed_by (accepted (record { worker = t.worker; event = t.event; outcome = o } ∷ ts)) ≡ freed_by (record { worker = t.worker; event = t.event; outcome = o } ∷ ts)
+    go (Ok r) rest = ap (λ (l : List NodeId). nodes_freed_of (Ok r) ++ l) rest
     go (Err x) rest = rest
 
 pub cuts-append : (w : ℕ) (ts us : List Turn) → cuts_of w (ts ++ us) ≡ cuts_of w ts ++ cuts_of w us
 cuts-append w [] us = refl
-cuts-append w (t ∷ ts) us = ap (λ (l : List NodeId). cond (t.worker == w) (nodes_cut t.outcome) [] ++ l) (cuts-append w ts us) ∙ sym (append_assoc (cond (t.worker == w) (nodes_cut t.outcome) []) (cuts_of w ts) (cuts_of w us))
+cuts-append w (t ∷ ts) us = ap (λ (l : List NodeId). cond (t.worker == w) (nodes_cut_of t.outcome) [] ++ l) (cuts-append w ts us) ∙ sym (append_assoc (cond (t.worker == w) (nodes_cut_of t.outcome) []) (cuts_of w ts) (cuts_of w us))
 
 -- ---- filters
 
@@ -142,9 +134,9 @@ unfolding trace_in refused_in
 none_cut w [] c past = refl
 none_cut w (t ∷ ts) c past = ap (λ (l : List NodeId). l ++ cuts_of w (trace_in (next_in c t) ts)) (go (t.0 == w) refl) ∙ none_cut w ts (next_in c t) (subst (λ (M : Layout). M.workers ≤ w) (sym (layout_next c t)) past)
   where
-    go : (b : Bool) → (t.0 == w) ≡ b → cond b (nodes_cut (outcome_in c t)) [] ≡ []
+    go : (b : Bool) → (t.0 == w) ≡ b → cond b (nodes_cut_of (outcome_in c t)) [] ≡ []
     go false is = refl
-    go true is = ap nodes_cut (refused_outcome c t NoWorker (ap (λ (o : Option Refused). or_else o (disorder_in c t.0 t.1)) (no_worker c.state t.0 t.1 (subst (λ (x : ℕ). c.state.layout.workers ≤ x) (sym (eqb-true t.0 w is)) past))))
+    go true is = ap nodes_cut_of (refused_outcome c t NoWorker (ap (λ (o : Option Refused). or_else o (disorder_in c t.0 t.1)) (no_worker c.state t.0 t.1 (subst (λ (x : ℕ). c.state.layout.workers ≤ x) (sym (eqb-true t.0 w is)) past))))
 
 -- ---- a turn that frees
 
@@ -155,11 +147,11 @@ pub record Freeing (turns : List Turn) (n : NodeId) : Type 0 where
   pub all : turns ≡ first ++ turn ∷ rest
   pub is : turn.outcome ≡ Ok (Freed n)
 
-pub freeing : (turns : List Turn) (n : NodeId) → Contains (frees turns) n → Freeing turns n
+pub freeing : (turns : List Turn) (n : NodeId) → Contains (freed_by turns) n → Freeing turns n
 freeing [] n there = absurd (let b = there.1 in omega (arith, b))
-freeing (t ∷ ts) n there = go (Contains-append_cases (nodes_freed t.outcome) (frees ts) n there) (λ later. freeing ts n later)
+freeing (t ∷ ts) n there = go (Contains-append_cases (nodes_freed_of t.outcome) (freed_by ts) n there) (λ later. freeing ts n later)
   where
-    go : Contains (nodes_freed t.outcome) n ⊎ Contains (frees ts) n → (Contains (frees ts) n → Freeing ts n) → Freeing (t ∷ ts) n
+    go : Contains (nodes_freed_of t.outcome) n ⊎ Contains (freed_by ts) n → (Contains (freed_by ts) n → Freeing ts n) → Freeing (t ∷ ts) n
     go (inl here) rest = record { first = []; turn = t; rest = ts; all = refl; is = freed_outcome n t.outcome here }
     go (inr later) rest = let r = rest later in record { first = t ∷ r.first; turn = r.turn; rest = r.rest; all = ap (λ (us : List Turn). t ∷ us) r.all; is = r.is }
 
@@ -193,10 +185,10 @@ module _ (L : Layout) (fits : IsLayout L) (b : Bool) where
     plain_trace : trace (start L) plain ≡ accepted turns
     plain_trace = ap (λ (s : State). trace s plain) (sym (opening_state L b)) ∙ (ordered_runs (opening_of L b) ts).1
 
-    cuts_are : (o : ℕ) → law_cuts o (trace (start L) plain) ≡ cuts_of o turns
-    cuts_are o = ap (law_cuts o) plain_trace ∙ accepted_cuts o turns
+    cuts_are : (o : ℕ) → cuts_of o (trace (start L) plain) ≡ cuts_of o turns
+    cuts_are o = ap (cuts_of o) plain_trace ∙ accepted_cuts o turns
 
-    frees_are : freed_by (trace (start L) plain) ≡ frees turns
+    frees_are : freed_by (trace (start L) plain) ≡ freed_by turns
     frees_are = ap freed_by plain_trace ∙ accepted_frees turns
 
     -- what somebody holds of an origin
@@ -244,19 +236,19 @@ module _ (L : Layout) (fits : IsLayout L) (b : Bool) where
 
     -- what waits of an origin's cuts is its queue
     pub waits_is : (w o : ℕ) (l : Ledger) → held (of end w).ledgers o ≡ Some l → waits_of o turns ≡ map node_in l.queue
-    waits_is w o l is = rest_waits (cuts_of o turns) (freed_of o turns) (map node_in l.queue) (frees turns) (λ i j n at there. (once o o i j n at there).1) refl (split_is w o l is)
+    waits_is w o l is = rest_waits (cuts_of o turns) (freed_of o turns) (map node_in l.queue) (freed_by turns) (λ i j n at there. (once o o i j n at there).1) refl (split_is w o l is)
 
     pub past_waits : (w : ℕ) → L.workers ≤ w → waits_of w turns ≡ []
-    past_waits w past = ap (filter (λ n. not (is_among (frees turns) n))) (past_none w past)
+    past_waits w past = ap (filter (λ n. not (is_among (freed_by turns) n))) (past_none w past)
 
     queues : (w : ℕ) → freed_of w turns ++ waits_of w turns ≡ cuts_of w turns
     queues w = elim (cases_lt w L.workers) [
       | inl below ↦ (let h = holds w below in ap (λ (ns : List NodeId). freed_of w turns ++ ns) (waits_is h.holder w h.ledger h.is_held) ∙ split_is h.holder w h.ledger h.is_held)
-      | inr past ↦ rw (past_none w past) (ap (λ (ns : List NodeId). ns ++ []) (none_pass (is_among []) (frees turns) (λ i x at. refl)))
+      | inr past ↦ rw (past_none w past) (ap (λ (ns : List NodeId). ns ++ []) (none_pass (is_among []) (freed_by turns) (λ i x at. refl)))
     ]
 
   -- a freed node is one that was cut before
-  only : (ts : List (ℕ × Event)) (n : NodeId) → Contains (frees (trace_in (opening_of L b) ts)) n → (w : ℕ) × Contains (cuts_of w (trace_in (opening_of L b) ts)) n
+  only : (ts : List (ℕ × Event)) (n : NodeId) → Contains (freed_by (trace_in (opening_of L b) ts)) n → (w : ℕ) × Contains (cuts_of w (trace_in (opening_of L b) ts)) n
   only ts n there = by f
     where
       f : Freeing (trace_in (opening_of L b) ts) n

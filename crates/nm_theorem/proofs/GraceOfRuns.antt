@@ -2,8 +2,7 @@
 use Rattle.std.proofs.Common.{◌≡◌, ℕ, zero, suc, ◌==◌, Bool, true, false, cond, ◌&&◌, List, [], ◌∷◌, ◌++◌, length, map, refl, sym, ap, ◌∙◌, arith, true≢false}
 use Rattle.std.specs.Prelude.{Option, Some, None, Result, Ok, Err, Contains}
 use Rattle.std.specs.List.{list_any}
-use Rattle.std.proofs.lemmas.Bool.{cond-true, eq-eqb, and_from, or_parts, false_from_ne_true}
-use Rattle.std.proofs.lemmas.List.Folds.{list_any_at}
+use Rattle.std.proofs.lemmas.Bool.{cond-true, eq-eqb, or_parts, false_from_ne_true}
 use Rattle.nm_edge.specs.Layouts.{Layout, IsLayout}
 use Rattle.nm_edge.specs.declared.node.NodeId.{NodeId}
 use Rattle.nm_model.specs.declared.event.Event.{Event}
@@ -13,7 +12,6 @@ use Rattle.nm_model.specs.declared.reply.Reply.TheVariants.{Cut, Freed, Pinned, 
 use Rattle.nm_model.specs.declared.reply.Refused.{Refused}
 use Rattle.nm_model.specs.declared.trace.Turn.{Turn}
 use Rattle.nm_model.specs.Runs.{State, of, after, trace}
-use Rattle.nm_model.specs.Laws.{IsLeave, left_by, HasLeft as LawHasLeft}
 use Rattle.nm_model.specs.Ordered.{opening_of, after_in, trace_in, accepted, turn_of}
 use Rattle.nm_model.specs.Walks.{Entry, logged_by, log_of}
 use Rattle.nm_order.specs.Pinned.{pinned_by, pinned_after}
@@ -21,16 +19,16 @@ use Rattle.nm_order.proofs.PinsOfLogs.{pins_are_told}
 use Rattle.nm_order.proofs.WalksOfRuns.{log-append}
 use Rattle.nm_laws.proofs.Configurations.{ordered_runs}
 use Rattle.nm_laws.proofs.OrderedRuns.{lawful_run_in}
-use Rattle.nm_theorem.specs.Headline.{nodes_cut, nodes_freed, confirms, departs, leaves, HasLeft, IsPinned, Grace}
+use Rattle.nm_model.specs.Headline.{nodes_cut_of, nodes_freed_of, confirms, departs, leaves, IsPinned, Grace}
 use Rattle.nm_theorem.proofs.Runs.{Parts, parts_of, reached_opening, enough_of, opening_state, take_first}
 
 -- ---- outcomes
 
-pub cut_outcome : (n : NodeId) (o : Result Reply Refused) → Contains (nodes_cut o) n → (ns : List NodeId) × (o ≡ Ok (Cut ns)) × Contains ns n
+pub cut_outcome : (n : NodeId) (o : Result Reply Refused) → Contains (nodes_cut_of o) n → (ns : List NodeId) × (o ≡ Ok (Cut ns)) × Contains ns n
 cut_outcome n (Ok (Cut ns)) c = (ns, refl, c)
 cut_outcome n o c = absurd (let b = c.1 in omega (arith, b))
 
-pub freed_outcome : (n : NodeId) (o : Result Reply Refused) → Contains (nodes_freed o) n → o ≡ Ok (Freed n)
+pub freed_outcome : (n : NodeId) (o : Result Reply Refused) → Contains (nodes_freed_of o) n → o ≡ Ok (Freed n)
 freed_outcome n (Ok (Freed m)) (zero, b, e) = ap (λ (x : NodeId). Ok (Freed x)) e
 freed_outcome n (Ok (Freed m)) (suc k, b, e) = absurd (omega (arith, b))
 freed_outcome n o c = absurd (let b = c.1 in omega (arith, b))
@@ -101,18 +99,6 @@ module _ (w : ℕ) where
       go (Ok r) rest = ap (λ (l : List Entry). cond (t.worker == w) ((t.event, r) ∷ []) [] ++ l) rest
       go (Err x) rest = rest ∙ ap (λ (l : List Entry). l ++ log_of w ts) (sym (nothing (t.worker == w)))
 
--- ---- a leave
-
-leave_departs : (e : Event) → IsLeave e → departs e (Ok Departed) ≡ true
-leave_departs Leave is = refl
-leave_departs (LeaveWith answer) is = refl
-leave_departs e is = absurd is
-
-pub has_left : (w : ℕ) (turns : List Turn) → LawHasLeft w turns → HasLeft w turns
-has_left w turns left =
-    let at = left.2 in
-    list_any_at (leaves w) turns at.0 (left_by w left.0) at.1 (ap (leaves w) at.2 ∙ and_from (w == w) (departs left.0 (Ok Departed)) (eq-eqb w w refl) (leave_departs left.0 left.1))
-
 -- ---- runs
 
 module _ (L : Layout) (fits : IsLayout L) (b : Bool) where
@@ -131,6 +117,6 @@ module _ (L : Layout) (fits : IsLayout L) (b : Bool) where
       let c = cut_outcome n cut.outcome in_cut in
       let p : Parts (opening_of L b) ts before (cut ∷ (between ++ free ∷ rest)) = parts_of (opening_of L b) ts before (cut ∷ (between ++ free ∷ rest)) all in
       let pin = is_pinned w before pinned in
-      has_left w between ((lawful_run_in (opening_of L b) (reached_opening L fits b) ts).grace before between rest cut free c.0 n w pin.0 all c.1 c.2 (freed_outcome n free.outcome in_free)
+      (lawful_run_in (opening_of L b) (reached_opening L fits b) ts).grace before between rest cut free c.0 n w pin.0 all c.1 c.2 (freed_outcome n free.outcome in_free)
       (ap (λ (es : List (ℕ × Event)). (of (after_in (opening_of L b) es).state w).brief.pin) (take_first ts p.early p.late (length before) p.all p.size)
-      ∙ (pin_is p.early w ∙ (ap (λ (l : List Turn). pinned_after None (log_of w l)) (sym p.first_is) ∙ pin.1))))
+      ∙ (pin_is p.early w ∙ (ap (λ (l : List Turn). pinned_after None (log_of w l)) (sym p.first_is) ∙ pin.1)))

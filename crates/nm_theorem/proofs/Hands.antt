@@ -33,7 +33,7 @@ use Rattle.nm_laws.proofs.TreeSteps.{Lawful, LinkChecked, link_checked}
 use Rattle.nm_order.specs.Logs.{is_leaver}
 use Rattle.nm_order.proofs.PartsOfRuns.{allowed_by_state, partaking, apart}
 use Rattle.nm_order.proofs.TreeChanges.{WonLink, won_link}
-use Rattle.nm_theorem.specs.Headline.{takes, lets_go, has_after}
+use Rattle.nm_model.specs.Headline.{takes, lets_go, has_after}
 use Rattle.nm_theorem.proofs.Runs.{opening_state, lawful_opening, lawful_next}
 use Rattle.nm_theorem.proofs.WrittenWords.{turn_writes, opening_words}
 

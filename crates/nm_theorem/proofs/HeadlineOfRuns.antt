@@ -5,7 +5,7 @@ use Rattle.nm_edge.specs.Layouts.{Layout, IsLayout}
 use Rattle.nm_model.specs.declared.event.Event.{Event}
 use Rattle.nm_model.specs.declared.trace.Turn.{Turn}
 use Rattle.nm_model.specs.Ordered.{HasKey, opening_of, trace_in}
-use Rattle.nm_theorem.specs.Headline.{AreFreedInTurn, OnePlace, Headline}
+use Rattle.nm_model.specs.Headline.{AreFreedInTurn, OnePlace, Headline}
 use Rattle.nm_theorem.specs.EachRun.{OfEachRun}
 use Rattle.nm_theorem.proofs.Runs.{Parts, parts_of}
 use Rattle.nm_theorem.proofs.ReadsOfRuns.{reads_tell}

@@ -1,6 +1,6 @@
 -- What was freed was freed behind its cut: so grace tells of each node that was freed that its readers have left since.
-use Rattle.std.proofs.Common.{◌≡◌, ℕ, ◌+◌, ◌<◌, ◌≤◌, ◌-◌, ◌==◌, inl, inr, ◌⊎◌, Bool, true, false, cond, ◌||◌, List, [], ◌∷◌, ◌++◌, length, append_assoc, refl, sym, ap, subst, ◌∙◌, arith}
-use Rattle.std.specs.Prelude.{Result, Ok, Err, Some, Contains, slice_get}
+use Rattle.std.proofs.Common.{◌≡◌, ℕ, ◌+◌, Bool, cond, ◌||◌, List, [], ◌∷◌, ◌++◌, length, append_assoc, refl, sym, ap, subst, ◌∙◌, arith}
+use Rattle.std.specs.Prelude.{Result, Ok, Some, Contains, slice_get}
 use Rattle.std.specs.List.{list_any}
 use Rattle.std.proofs.lemmas.Bool.{eq-eqb}
 use Rattle.std.proofs.lemmas.Option.{slice_get-get_or}
@@ -14,8 +14,8 @@ use Rattle.nm_model.specs.declared.reply.Reply.TheVariants.{Freed}
 use Rattle.nm_model.specs.declared.reply.Refused.{Refused}
 use Rattle.nm_model.specs.declared.trace.Turn.{Turn}
 use Rattle.nm_model.proofs.Lists.{get_right, get_stays}
-use Rattle.nm_theorem.specs.Headline.{Headline, Grace, AreFreedInTurn, nodes_cut, nodes_freed, cuts_of, frees, leaves, IsPinned, HasLeft}
-use Rattle.nm_theorem.specs.EachRun.{ReadersHaveLeft, ReadersOfFreedNodesHaveLeft}
+use Rattle.nm_model.specs.Headline.{Headline, nodes_cut_of, nodes_freed_of, cuts_of, freed_by, leaves, IsPinned, HasLeft}
+use Rattle.nm_theorem.specs.EachRun.{ReadersOfFreedNodesHaveLeft}
 use Rattle.nm_theorem.proofs.FreedOfRuns.{Freeing, freeing, cuts-append}
 
 -- ---- two elements of one list
@@ -45,20 +45,20 @@ meets (b ∷ bs) x since (f ∷ fs) y rest e = further (meets bs x since fs y re
 found : {n : NodeId} (ns : List NodeId) → (there : Contains ns n) → slice_get ns there.0 ≡ Some n
 found {n} ns there = slice_get-get_or ns there.0 n there.1 ∙ ap (λ (m : NodeId). Some m) there.2
 
-frees-append : (xs ys : List Turn) → frees (xs ++ ys) ≡ frees xs ++ frees ys
-frees-append [] ys = refl
-frees-append (t ∷ ts) ys = ap (λ (ns : List NodeId). nodes_freed t.outcome ++ ns) (frees-append ts ys) ∙ sym (append_assoc (nodes_freed t.outcome) (frees ts) (frees ys))
+freed_by-append : (xs ys : List Turn) → freed_by (xs ++ ys) ≡ freed_by xs ++ freed_by ys
+freed_by-append [] ys = refl
+freed_by-append (t ∷ ts) ys = ap (λ (ns : List NodeId). nodes_freed_of t.outcome ++ ns) (freed_by-append ts ys) ∙ sym (append_assoc (nodes_freed_of t.outcome) (freed_by ts) (freed_by ys))
 
-freed_there : (o : Result Reply Refused) (n : NodeId) → o ≡ Ok (Freed n) → Contains (nodes_freed o) n
-freed_there o n is = subst (λ (p : Result Reply Refused). Contains (nodes_freed p) n) (sym is) (0, omega arith, refl)
+freed_there : (o : Result Reply Refused) (n : NodeId) → o ≡ Ok (Freed n) → Contains (nodes_freed_of o) n
+freed_there o n is = subst (λ (p : Result Reply Refused). Contains (nodes_freed_of p) n) (sym is) (0, omega arith, refl)
 
-cuts_nothing : (o : Result Reply Refused) (n m : NodeId) → o ≡ Ok (Freed n) → Contains (nodes_cut o) m → ⊥
-cuts_nothing o n m is there = none (subst (λ (p : Result Reply Refused). Contains (nodes_cut p) m) is there)
+cuts_nothing : (o : Result Reply Refused) (n m : NodeId) → o ≡ Ok (Freed n) → Contains (nodes_cut_of o) m → ⊥
+cuts_nothing o n m is there = none (subst (λ (p : Result Reply Refused). Contains (nodes_cut_of p) m) is there)
   where
     none : Contains [] m → ⊥
     none there = let b = there.1 in omega (arith, b)
 
-module _ (L : Layout) (turns : List Turn) (h : Headline L turns) (n : NodeId) (before since : List Turn) (cut : Turn) (are : turns ≡ before ++ cut ∷ since) (in_cut : Contains (nodes_cut cut.outcome) n) where
+module _ (L : Layout) (turns : List Turn) (h : Headline L turns) (n : NodeId) (before since : List Turn) (cut : Turn) (are : turns ≡ before ++ cut ∷ since) (in_cut : Contains (nodes_cut_of cut.outcome) n) where
   -- a node that was cut before this turn is not cut by it
   not_before : (w : ℕ) → Contains (cuts_of w before) n → ⊥
   not_before w early =
@@ -71,7 +71,7 @@ module _ (L : Layout) (turns : List Turn) (h : Headline L turns) (n : NodeId) (b
       omega (arith, below, same, sizes)
     where
       cut_at : Contains (cuts_of cut.worker (cut ∷ since)) n
-      cut_at = subst (λ (b : Bool). Contains (cond b (nodes_cut cut.outcome) [] ++ cuts_of cut.worker since) n) (sym (eq-eqb cut.worker cut.worker refl)) (Contains-append_left (nodes_cut cut.outcome) (cuts_of cut.worker since) n in_cut)
+      cut_at = subst (λ (b : Bool). Contains (cond b (nodes_cut_of cut.outcome) [] ++ cuts_of cut.worker since) n) (sym (eq-eqb cut.worker cut.worker refl)) (Contains-append_left (nodes_cut_of cut.outcome) (cuts_of cut.worker since) n in_cut)
 
       at : (w i : ℕ) → slice_get (cuts_of w before ++ cuts_of w (cut ∷ since)) i ≡ Some n → slice_get (cuts_of w turns) i ≡ Some n
       at w i is = ap (λ (ns : List NodeId). slice_get ns i) (ap (cuts_of w) are ∙ cuts-append w before (cut ∷ since)) ∙ is
@@ -85,8 +85,8 @@ module _ (L : Layout) (turns : List Turn) (h : Headline L turns) (n : NodeId) (b
           ∙ ap (λ (b : Bool). b || list_any (leaves w) (f.turn ∷ rest)) (h.grace before between rest cut f.turn n (are ∙ ap (λ (ts : List Turn). before ++ cut ∷ ts) is) in_cut (freed_there f.turn.outcome n f.is) w pinned))
       go (IsIt is) = absurd (cuts_nothing cut.outcome n n (ap (λ (t : Turn). t.outcome) is ∙ f.is) in_cut)
       go (IsBefore between is) = absurd (
-          let frees_it : Contains (frees before) n = subst (λ (ts : List Turn). Contains (frees ts) n) (sym is) (subst (λ (ns : List NodeId). Contains ns n) (sym (frees-append f.first (f.turn ∷ between)))
-          (Contains-append_right (frees f.first) (frees (f.turn ∷ between)) n (Contains-append_left (nodes_freed f.turn.outcome) (frees between) n (freed_there f.turn.outcome n f.is)))) in
+          let frees_it : Contains (freed_by before) n = subst (λ (ts : List Turn). Contains (freed_by ts) n) (sym is) (subst (λ (ns : List NodeId). Contains ns n) (sym (freed_by-append f.first (f.turn ∷ between)))
+          (Contains-append_right (freed_by f.first) (freed_by (f.turn ∷ between)) n (Contains-append_left (nodes_freed_of f.turn.outcome) (freed_by between) n (freed_there f.turn.outcome n f.is)))) in
           let cut_before = (h.queues before (cut ∷ since) are).only n frees_it in
           not_before cut_before.0 cut_before.1)
 

@@ -1,21 +1,19 @@
 -- What is read is what the turns have written: a look or a scan is answered by the memory, which is that of the words.
-use Rattle.std.proofs.Common.{◌≡◌, ℕ, inl, inr, Bool, List, [], ◌∷◌, ◌++◌, refl, sym, ap, subst, ◌∙◌}
-use Rattle.std.specs.Prelude.{◌⊎◌, Option, Some, None, Result, Ok, Err}
-use Rattle.nm_edge.specs.declared.edge.Side.{Side}
+use Rattle.std.proofs.Common.{◌≡◌, ℕ, inl, inr, Bool, List, ◌∷◌, ◌++◌, refl, sym, ap, subst, ◌∙◌}
+use Rattle.std.specs.Prelude.{Option, Some, None, Result, Ok, Err}
 use Rattle.nm_edge.specs.Layouts.{Layout, IsLayout}
 use Rattle.nm_model.specs.declared.event.Event.{Event}
-use Rattle.nm_model.specs.declared.event.Event.TheVariants.{Sight, SightFor, Announce, Leave, LeaveWith, Scan, Advance, Claim, Give, Look, Fill, Link, Flag, Tag, Splice, Join}
+use Rattle.nm_model.specs.declared.event.Event.TheVariants.{Scan, Look}
 use Rattle.nm_model.specs.declared.event.Field.TheVariants.{Key, Edge as EdgeOn, Birth}
 use Rattle.nm_model.specs.declared.reply.Reply.{Reply}
-use Rattle.nm_model.specs.declared.reply.Reply.TheVariants.{Idle, In}
 use Rattle.nm_model.specs.declared.reply.Refused.{Refused}
 use Rattle.nm_model.specs.declared.trace.Turn.{Turn}
 use Rattle.nm_model.specs.Memory.{Memory, note}
 use Rattle.nm_model.specs.Step.{reply, reply_scan}
-use Rattle.nm_model.specs.Runs.{of, reply_of}
+use Rattle.nm_model.specs.Runs.{reply_of}
 use Rattle.nm_model.specs.Ordered.{Configuration, opening_of, refused_in, outcome_in, after_in, trace_in}
 use Rattle.nm_laws.proofs.Configurations.{refused_outcome, allowed_outcome}
-use Rattle.nm_theorem.specs.Headline.{Tells, words_after}
+use Rattle.nm_model.specs.Headline.{Tells, words_after}
 use Rattle.nm_theorem.proofs.Runs.{Parts, parts_of, Head, head_of}
 use Rattle.nm_theorem.proofs.WrittenWords.{run_words}
 

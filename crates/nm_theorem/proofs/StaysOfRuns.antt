@@ -35,7 +35,7 @@ use Rattle.nm_order.proofs.CallWalks.{others_stay, own_knows, memory_after}
 use Rattle.nm_order.proofs.KnowledgeStays.{learned_stays, answers}
 use Rattle.nm_order.proofs.PartsOfRuns.{allowed_by_state}
 use Rattle.nm_order.proofs.WalksOfRuns.{trace_in-append, all_before}
-use Rattle.nm_theorem.specs.Headline.{departs, leaves, has_after, words_after, touched, NothingIsPulledAway}
+use Rattle.nm_model.specs.Headline.{departs, leaves, has_after, words_after, touched, NothingIsPulledAway}
 use Rattle.nm_theorem.proofs.Runs.{Parts, parts_of, Head, head_of, told_in, reached_opening, lawful_opening, lawful_next, lawful_after}
 use Rattle.nm_theorem.proofs.WrittenWords.{run_words}
 use Rattle.nm_theorem.proofs.CutsOfRuns.{reached_after}

@@ -1,9 +1,10 @@
 -- The worked schedule, by computation and by the laws of every run.
-use Rattle.std.proofs.Common.{◌≡◌, zero, suc, true, false, List, [], ◌∷◌, ◌++◌, map, refl, sym, ap, subst, arith, true≢false}
+use Rattle.std.proofs.Common.{◌≡◌, zero, suc, inl, true, false, List, [], ◌∷◌, ◌++◌, map, refl, sym, ap, subst, arith, true≢false}
 use Rattle.std.specs.Prelude.{Bool, ◌-◌, ◌^◌, nat_le, take, drop, Contains, Ok, All}
 use Rattle.std.specs.List.{list_all}
 use Rattle.std.proofs.lemmas.Bool.{leb-true, and_parts}
 use Rattle.nm_edge.specs.Layouts.{IsLayout}
+use Rattle.nm_edge.specs.declared.edge.Side.TheVariants.{Left}
 use Rattle.nm_edge.specs.declared.node.NodeId.{NodeId}
 use Rattle.nm_model.specs.declared.event.Op.TheVariants.{Insert, Delete}
 use Rattle.nm_model.specs.declared.event.Event.{Event}
@@ -16,7 +17,7 @@ use Rattle.nm_model.specs.Step.{refusal, reply, write}
 use Rattle.nm_model.specs.Learning.{learn}
 use Rattle.nm_model.specs.Runs.{refused, applied}
 use Rattle.nm_model.specs.Ordered.{ordered, HasKey, trace_in, turn_of, outcome_in, next_in, refused_in, applied_in}
-use Rattle.nm_theorem.specs.Headline.{words_after, CutsJust, IsPinned, Headline}
+use Rattle.nm_model.specs.Headline.{words_after, CutsItsNodes, IsPinned, Headline}
 use Rattle.nm_theorem.specs.Worked.{layout, inserting, deleting, cut, waiting, leaving, free, claim, before, turns, before_look, look, IsWorked, AreWrong}
 use Rattle.nm_theorem.proofs.HeadlineOfRuns.{headline}
 
@@ -41,7 +42,7 @@ each_key (t ∷ ts) all zero d below = keyed t.event (and_parts (is_keyed t.even
 each_key (t ∷ ts) all (suc i) d below = each_key ts (and_parts (is_keyed t.event) (list_all (λ (u : Turn). is_keyed u.event) ts) all).1 i d (omega (arith, below))
 
 fits : IsLayout layout
-fits = record { least = omega arith; most = omega arith; some = omega arith; few = omega arith }
+fits = record { least = omega arith; most = omega arith; some = omega arith; few = omega arith; gaps = inl refl }
 
 keys : All (λ t. HasKey t.1) (map turn_of turns)
 unfolding is_keyed
@@ -52,7 +53,7 @@ has_headline = subst (Headline layout) is_run (headline layout fits true (map tu
 
 -- ---- what is so
 
-cut_just : CutsJust (words_after layout before) cut
+cut_just : CutsItsNodes (words_after layout before) cut
 cut_just = has_headline.cuts before ((waiting ++ leaving) ++ free ∷ claim ∷ []) cut refl
 
 never : {A : Type 0} → false ≡ true → A
@@ -84,6 +85,8 @@ is_worked = record {
   let_go = λ has. never has;
   inserts = λ acts h. h.answered inserting (drop 1 deleting ++ cut ∷ ((waiting ++ leaving) ++ free ∷ claim ∷ [])) 0 true (record { pin = 5; op = Insert; key = 10 }) refl refl;
   deletes = λ acts h. h.answered (before ++ cut ∷ take 1 waiting) (drop 2 waiting ++ (leaving ++ free ∷ claim ∷ [])) 0 true (record { pin = 22; op = Delete; key = 10 }) refl refl;
+  linked = λ acts h. h.links (take 19 inserting) (deleting ++ cut ∷ ((waiting ++ leaving) ++ free ∷ claim ∷ [])) 0 2 Left 3 6 (n 6 1) refl;
+  deleted = λ acts h. h.cuts before ((waiting ++ leaving) ++ free ∷ claim ∷ []) cut (n 6 1 ∷ n 7 1 ∷ []) refl refl;
 }
 
 -- ---- what is wrong

@@ -1,6 +1,6 @@
 -- The words at each moment are those that the turns have written: what an event writes is told by it and by its reply.
 use Rattle.std.proofs.Common.{◌≡◌, ℕ, ◌+◌, Bool, true, false, cond, List, [], ◌∷◌, set, refl, sym, ap, ◌∙◌}
-use Rattle.std.specs.Prelude.{Option, Some, None}
+use Rattle.std.specs.Prelude.{Option, Some, None, Ok, Err}
 use Rattle.std.proofs.lemmas.List.{set-get_or}
 use Rattle.nm_edge.specs.Edges.{to, is_to, untagged}
 use Rattle.nm_edge.specs.Layouts.{Layout, IsLayout}
@@ -25,7 +25,7 @@ use Rattle.nm_laws.proofs.TreeSteps.{Lawful}
 use Rattle.nm_laws.proofs.Lawful.{IsLawful}
 use Rattle.nm_laws.proofs.Configurations.{refused_next, refused_outcome, allowed_next, allowed_outcome}
 use Rattle.nm_order.proofs.PartsOfRuns.{allowed_by_state}
-use Rattle.nm_theorem.specs.Headline.{written, written_by, after_turn, words_from, words_after}
+use Rattle.nm_model.specs.Headline.{written, after_turn, words_from, words_after}
 use Rattle.nm_theorem.specs.EachRun.{WordsAreWritten}
 use Rattle.nm_theorem.proofs.Runs.{told_in, opening_state, lawful_opening, lawful_next}
 
@@ -40,7 +40,7 @@ module _ (s : State) (h : ℕ → ℕ) (law : Lawful s h) (w : ℕ) where
   kept_is : (a : ℕ) (d : Side) (x p : ℕ) (keep : Side) → Allowed s w (Splice a d x p keep) → is_to (edge s.memory a d) x ≡ true → kept (read (of s w) p keep) ≡ untagged (edge s.memory p keep)
   kept_is a d x p keep ok won = ap kept (tag_known s.layout.nodes s.memory (of s) h w p keep law.tree (shown s h law w a d x p keep ok won).tag)
 
-  pub told_writes : (e : Event) → Allowed s w e → written s.memory w e (reply_of s w e) ≡ write s.memory (of s w) w e
+  pub told_writes : (e : Event) → Allowed s w e → written s.memory w e (Ok (reply_of s w e)) ≡ write s.memory (of s w) w e
   unfolding reply write
   told_writes Sight ok = refl
   told_writes (SightFor op key) ok = refl
@@ -50,17 +50,17 @@ module _ (s : State) (h : ℕ → ℕ) (law : Lawful s h) (w : ℕ) where
   told_writes (Scan u) ok = refl
   told_writes Advance ok = go (is_number (of s w).brief.seen m.epoch)
     where
-      go : (b : Bool) → written s.memory w Advance (cond b (Moved (s.memory.epoch + 1)) (Behind s.memory.epoch)) ≡ cond b (record s.memory { epoch = s.memory.epoch + 1 }) s.memory
+      go : (b : Bool) → written s.memory w Advance (Ok (cond b (Moved (s.memory.epoch + 1)) (Behind s.memory.epoch))) ≡ cond b (record s.memory { epoch = s.memory.epoch + 1 }) s.memory
       go true = refl
       go false = refl
   told_writes (Claim x) ok = go (in_pool m x) refl
     where
-      go : (b : Bool) → in_pool s.memory x ≡ b → written s.memory w (Claim x) (cond b (Claimed x) Taken) ≡ record s.memory { pool = set s.memory.pool x false }
+      go : (b : Bool) → in_pool s.memory x ≡ b → written s.memory w (Claim x) (Ok (cond b (Claimed x) Taken)) ≡ record s.memory { pool = set s.memory.pool x false }
       go true is = refl
       go false is = sym (put_back s.memory x false is)
   told_writes (Give x) ok = go (is_private (of s w) x)
     where
-      go : (b : Bool) → written s.memory w (Give x) (cond b (Returned x) (Freed (node_of (front_of (of s w).ledgers x)))) ≡ record s.memory { pool = set s.memory.pool x true }
+      go : (b : Bool) → written s.memory w (Give x) (Ok (cond b (Returned x) (Freed (node_of (front_of (of s w).ledgers x))))) ≡ record s.memory { pool = set s.memory.pool x true }
       go true = refl
       go false = refl
   told_writes (Look x f) ok = refl
@@ -69,24 +69,40 @@ module _ (s : State) (h : ℕ → ℕ) (law : Lawful s h) (w : ℕ) where
   told_writes (Fill x Birth v) ok = refl
   told_writes (Link p side leaf new) ok = go (is_to (edge m p side) leaf)
     where
-      go : (b : Bool) → written s.memory w (Link p side leaf new) (cond b (Linked (node_linked (of s w) new)) (Lost (edge s.memory p side))) ≡ cond b (put_edge s.memory p side (to new)) s.memory
+      go : (b : Bool) → written s.memory w (Link p side leaf new) (Ok (cond b (Linked (node_linked (of s w) new)) (Lost (edge s.memory p side)))) ≡ cond b (put_edge s.memory p side (to new)) s.memory
       go true = refl
       go false = refl
   told_writes (Flag p side leaf) ok = go (is_to (edge m p side) leaf)
     where
-      go : (b : Bool) → written s.memory w (Flag p side leaf) (cond b (Flagged (named s.memory leaf)) (Lost (edge s.memory p side))) ≡ cond b (put_edge s.memory p side (flag_to leaf)) s.memory
+      go : (b : Bool) → written s.memory w (Flag p side leaf) (Ok (cond b (Flagged (named s.memory leaf)) (Lost (edge s.memory p side)))) ≡ cond b (put_edge s.memory p side (flag_to leaf)) s.memory
       go true = refl
       go false = refl
   told_writes (Tag p side) ok = refl
   told_writes (Splice a d x p keep) ok = go (is_to (edge m a d) x) refl
     where
-      go : (b : Bool) → is_to (edge s.memory a d) x ≡ b → written s.memory w (Splice a d x p keep) (cond b (Cut (cut_nodes s.layout s.memory (of s w) x p keep)) (Lost (edge s.memory a d)))
+      go : (b : Bool) → is_to (edge s.memory a d) x ≡ b → written s.memory w (Splice a d x p keep) (Ok (cond b (Cut (cut_nodes s.layout s.memory (of s w) x p keep)) (Lost (edge s.memory a d))))
           ≡ cond b (put_edge s.memory a d (kept (read (of s w) p keep))) s.memory
       go true won = ap (put_edge s.memory a d) (sym (kept_is a d x p keep ok won))
       go false none = refl
   told_writes (Join v) ok = refl
 
 -- ---- a turn
+
+none_written : (m : Memory) (w : ℕ) (e : Event) (q : Refused) → written m w e (Err q) ≡ m
+none_written m w Announce q = refl
+none_written m w Leave q = refl
+none_written m w (LeaveWith answer) q = refl
+none_written m w Advance q = refl
+none_written m w (Claim x) q = refl
+none_written m w (Give x) q = refl
+none_written m w (Fill x Key v) q = refl
+none_written m w (Fill x (EdgeOn side) v) q = refl
+none_written m w (Fill x Birth v) q = refl
+none_written m w (Link p side leaf new) q = refl
+none_written m w (Flag p side leaf) q = refl
+none_written m w (Tag p side) q = refl
+none_written m w (Splice a d x p keep) q = refl
+none_written m w e q = refl
 
 writes_applied : (s : State) (w : ℕ) (e : Event) → (applied s w e).memory ≡ write s.memory (of s w) w e
 unfolding applied
@@ -100,8 +116,8 @@ turn_writes c t lawful = go (refused_in c t.0 t.1) refl
     after_applied = writes_applied c.state t.0 t.1
 
     go : (o : Option Refused) → refused_in c t.0 t.1 ≡ o → after_turn c.state.memory (told_in c t) ≡ (next_in c t).state.memory
-    go (Some r) is = ap (written_by c.state.memory t.0 t.1) (refused_outcome c t r is) ∙ ap (λ (d : Configuration). d.state.memory) (sym (refused_next c t r is))
-    go None is = ap (written_by c.state.memory t.0 t.1) (allowed_outcome c t is)
+    go (Some r) is = ap (written c.state.memory t.0 t.1) (refused_outcome c t r is) ∙ (none_written c.state.memory t.0 t.1 r ∙ ap (λ (d : Configuration). d.state.memory) (sym (refused_next c t r is)))
+    go None is = ap (written c.state.memory t.0 t.1) (allowed_outcome c t is)
         ∙ (told_writes c.state lawful.holder lawful.law t.0 t.1 (allowed c.state t.0 t.1 (allowed_by_state c t.0 t.1 is)) ∙ (sym after_applied ∙ ap (λ (d : Configuration). d.state.memory) (sym (allowed_next c t is))))
 
 pub words_are : (ts : List (ℕ × Event)) (c : Configuration) → IsLawful c.state → words_from c.state.memory (trace_in c ts) ≡ (after_in c ts).state.memory

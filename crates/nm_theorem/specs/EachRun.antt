@@ -7,7 +7,7 @@ use Rattle.nm_model.specs.declared.trace.Turn.{Turn}
 use Rattle.nm_model.specs.Ordered.{HasKey, ordered, opening_of, after_in, trace_in}
 use Rattle.nm_model.specs.Walks.{Entry}
 use Rattle.nm_order.specs.Logs.{IsLogOf, part_of}
-use Rattle.nm_theorem.specs.Headline.{Headline, words_after, nodes_cut, frees, IsPinned, HasLeft}
+use Rattle.nm_model.specs.Headline.{Headline, words_after, nodes_cut_of, freed_by, IsPinned, HasLeft}
 use Rattle.nm_theorem.specs.Histories.{HasHistory}
 
 -- of the turns of every run from an opening on, where calls are for keys of the set
@@ -16,11 +16,11 @@ OfEachRun P = (L : Layout) → IsLayout L → (is_ordered : Bool) (events : List
 
 -- Where a node that was freed was cut by one of these turns, each worker that was pinned at the cut has left since.
 abbrev pub ReadersHaveLeft : List Turn → NodeId → Type 0
-ReadersHaveLeft turns n = (before since : List Turn) (cut : Turn) → turns ≡ before ++ cut ∷ since → Contains (nodes_cut cut.outcome) n → (w : ℕ) → IsPinned w before → HasLeft w since
+ReadersHaveLeft turns n = (before since : List Turn) (cut : Turn) → turns ≡ before ++ cut ∷ since → Contains (nodes_cut_of cut.outcome) n → (w : ℕ) → IsPinned w before → HasLeft w since
 
 -- so it is of all that was freed, wherever the headline holds
 abbrev pub ReadersOfFreedNodesHaveLeft : Type 0
-ReadersOfFreedNodesHaveLeft = (L : Layout) (turns : List Turn) → Headline L turns → (n : NodeId) → Contains (frees turns) n → ReadersHaveLeft turns n
+ReadersOfFreedNodesHaveLeft = (L : Layout) (turns : List Turn) → Headline L turns → (n : NodeId) → Contains (freed_by turns) n → ReadersHaveLeft turns n
 
 -- the words that a run ends with are those that its turns have written
 abbrev pub WordsAreWritten : Type 0

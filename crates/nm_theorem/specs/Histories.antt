@@ -1,16 +1,19 @@
 -- The second page: each run of an ordered core is a history of one plain set, by the words and the turns alone.
-use Rattle.std.specs.Prelude.{◌≡◌, ℕ, ◌+◌, ◌<◌, ◌≤◌, ◌==◌, Bool, List, [], ◌∷◌, ◌++◌, length, Option, Some, None, Result, Ok, if◌then◌else◌}
+use Rattle.std.specs.Prelude.{◌≡◌, ℕ, ◌+◌, ◌<◌, ◌≤◌, ◌==◌, nat_le, Bool, true, List, [], ◌∷◌, ◌++◌, length, filter, AllPairs, Contains, Option, Some, None, Result, Ok, if◌then◌else◌}
 use Rattle.nm_edge.specs.Layouts.{Layout}
+use Rattle.nm_edge.specs.declared.edge.Side.{Side}
+use Rattle.nm_edge.specs.declared.node.NodeId.{NodeId}
 use Rattle.nm_model.specs.declared.event.Op.{Op}
+use Rattle.nm_model.specs.declared.event.Op.TheVariants.{Insert, Delete}
 use Rattle.nm_model.specs.declared.event.Event.{Event}
-use Rattle.nm_model.specs.declared.event.Event.TheVariants.{Sight, SightFor, Leave, LeaveWith}
+use Rattle.nm_model.specs.declared.event.Event.TheVariants.{Sight, SightFor, Leave, LeaveWith, Link, Flag}
 use Rattle.nm_model.specs.declared.reply.Reply.{Reply}
-use Rattle.nm_model.specs.declared.reply.Reply.TheVariants.{Pinned, Departed}
+use Rattle.nm_model.specs.declared.reply.Reply.TheVariants.{Pinned, Departed, Linked, Flagged, Cut}
 use Rattle.nm_model.specs.declared.reply.Refused.{Refused}
 use Rattle.nm_model.specs.declared.trace.Turn.{Turn}
+use Rattle.nm_model.specs.Headline.{words_after, slots_of}
 use Rattle.nm_order.specs.Intervals.{InSet}
-use Rattle.nm_order.specs.History.{Act, IsAmong, EachOnce, Replays, LeadsTo, nothing}
-use Rattle.nm_theorem.specs.Headline.{words_after}
+use Rattle.nm_order.specs.History.{Act, IsAmong, Replays, nothing, leaf_keys, HasInARow}
 
 -- a call that has begun and is not answered: the number of the turn that confirmed its pin, its operation and its key
 pub record Called : Type 0 where
@@ -44,29 +47,33 @@ pub data IsAct (turns : List Turn) (a : Act) : Type 0 where
       → call_of a.worker before ≡ Some (called_in a) → a.pin < a.moment → a.moment ≤ length before → IsAct turns a
   IsPending : call_of a.worker turns ≡ Some (called_in a) → a.pin < a.moment → a.moment ≤ length turns → IsAct turns a
 
--- the act of an answered call
-pub record HasAct (acts : List Act) (w : ℕ) (c : Called) (answer : Bool) : Type 0 where
-  pub act : Act
-  pub among : IsAmong acts act
-  pub worker : act.worker ≡ w
-  pub call : called_in act ≡ c
-  pub is_answer : act.answer ≡ answer
+-- the act of a call, with that answer
+abbrev pub HasAct : List Act → ℕ → Called → Bool → Type 0
+HasAct acts w c answer = (a : Act) × IsAmong acts a × (a.worker ≡ w) × (called_in a ≡ c) × (a.answer ≡ answer)
 
--- acts in the order of their moments
-abbrev pub InOrder : ℕ → List Act → Type 0
-InOrder m [] = Unit {0}
-InOrder m (a ∷ acts) = (m ≤ a.moment) × InOrder a.moment acts
+-- an act of the call that its worker is in after these turns: of that operation, and answered true
+abbrev pub IsInCall : List Turn → Op → Act → Type 0
+IsInCall turns op a = (call_of a.worker turns ≡ Some (called_in a)) × (a.op ≡ op) × (a.answer ≡ true)
+
+-- a flag that the worker has won names one of these nodes
+abbrev pub HasFlagged : List Turn → ℕ → List NodeId → Type 0
+HasFlagged turns w ns = (p : ℕ) × (side : Side) × (s : ℕ) × (n : NodeId) × Contains turns (record { worker = w; event = Flag p side s; outcome = Ok (Flagged n) }) × Contains ns n
 
 -- the acts are the answered calls and some of those that are not answered yet, each once, in the order of moments that lie within the calls; and one
 -- plain set, empty at first, gives each its answer, and has at each moment the keys of the leaves that are reached then
 pub record IsHistory (L : Layout) (turns : List Turn) (acts : List Act) : Type 0 where
   pub replays : Replays nothing acts (InSet (words_after L turns))
-  pub moments : (so_far rest : List Turn) → turns ≡ so_far ++ rest → LeadsTo acts (length so_far) (InSet (words_after L so_far))
-  pub in_order : InOrder 0 acts
-  pub once : EachOnce acts
+  pub moments : (so_far rest : List Turn) → turns ≡ so_far ++ rest → Replays nothing (filter (λ (a : Act). nat_le a.moment (length so_far)) acts) (InSet (words_after L so_far))
+  pub in_order : AllPairs (λ (a b : Act). a.moment ≤ b.moment) acts
+  pub once : AllPairs (λ (a b : Act). (a.worker ≡ b.worker) × (a.pin ≡ b.pin) → ⊥) acts
   pub each : (a : Act) → IsAmong acts a → IsAct turns a
   pub answered : (before since : List Turn) (w : ℕ) (answer : Bool) (c : Called) → turns ≡ before ++ record { worker = w; event = LeaveWith answer; outcome = Ok Departed } ∷ since
       → call_of w before ≡ Some c → HasAct acts w c answer
+  -- a won link is the moment of its own insert, and a cut that of the deletes which flagged its leaves: they stand in a row, in the order of the cut
+  pub links : (before since : List Turn) (w p : ℕ) (side : Side) (leaf new : ℕ) (n : NodeId) → turns ≡ before ++ record { worker = w; event = Link p side leaf new; outcome = Ok (Linked n) } ∷ since
+      → (a : Act) × IsAmong acts a × (a.worker ≡ w) × (a.moment ≡ length before + 1) × IsInCall before Insert a
+  pub cuts : (before since : List Turn) (t : Turn) (ns : List NodeId) → turns ≡ before ++ t ∷ since → t.outcome ≡ Ok (Cut ns)
+      → HasInARow acts (leaf_keys (words_after L before) (slots_of ns)) (length before + 1) (λ a. IsInCall before Delete a × HasFlagged before a.worker ns)
 
 abbrev pub HasHistory : Layout → List Turn → Type 0
 HasHistory L turns = (acts : List Act) × IsHistory L turns acts

@@ -1,4 +1,3 @@
-pub mod Headline
 pub mod EachRun
 pub mod Histories
 pub mod Worked

@@ -1,6 +1,6 @@
 -- A worked schedule, on which each sentence of the two pages has something to say; and sentences that are wrong of it.
 use Rattle.std.specs.Prelude.{◌≡◌, ℕ, true, false, List, [], ◌∷◌, ◌++◌, map, take, Contains, Ok, Err}
-use Rattle.nm_edge.specs.Layouts.{Layout}
+use Rattle.nm_edge.specs.Layouts.{Layout, dense}
 use Rattle.nm_edge.specs.declared.edge.Side.TheVariants.{Left, Right}
 use Rattle.nm_edge.specs.declared.node.NodeId.{NodeId}
 use Rattle.nm_model.specs.declared.event.Field.TheVariants.{Key, Edge as EdgeOn, Birth}
@@ -14,13 +14,13 @@ use Rattle.nm_model.specs.Memory.{opening}
 use Rattle.nm_model.specs.Ordered.{ordered, trace_in, turn_of}
 use Rattle.nm_model.specs.Paths.{IsCut}
 use Rattle.nm_model.specs.Schedules.{t, e, n}
-use Rattle.nm_order.specs.History.{Act}
-use Rattle.nm_theorem.specs.Headline.{words_after, after_turn, nodes_cut, nodes_freed, cuts_of, freed_of, waits_of, IsPinned, HasLeft, StandsAt, has_after, touched, IsStill}
-use Rattle.nm_theorem.specs.Headline.Place.{InPool, InHands, OnPath, Waits}
-use Rattle.nm_theorem.specs.Histories.{IsHistory, HasAct}
+use Rattle.nm_order.specs.History.{Act, IsAmong, HasInARow}
+use Rattle.nm_model.specs.Headline.{words_after, after_turn, nodes_cut_of, nodes_freed_of, cuts_of, freed_of, waits_of, IsPinned, HasLeft, StandsAt, has_after, touched, IsStill}
+use Rattle.nm_model.specs.Headline.Place.{InPool, InHands, OnPath, Waits}
+use Rattle.nm_theorem.specs.Histories.{IsHistory, HasAct, IsInCall, HasFlagged}
 
 abbrev pub layout : Layout
-layout = record { nodes = 8; workers = 2 }
+layout = dense 8 2
 
 -- worker 1 is pinned, and stays so while worker 0 inserts 10
 abbrev pub inserting : List Turn
@@ -136,6 +136,9 @@ pub record IsWorked : Type 0 where
   -- each history of it has an act of the insert, and one of the delete
   pub inserts : (acts : List Act) → IsHistory layout turns acts → HasAct acts 0 (record { pin = 5; op = Insert; key = 10 }) true
   pub deletes : (acts : List Act) → IsHistory layout turns acts → HasAct acts 0 (record { pin = 22; op = Delete; key = 10 }) true
+  -- the one at the moment of the link, and the other at that of the cut, which is that of the key of its leaf alone
+  pub linked : (acts : List Act) → IsHistory layout turns acts → (a : Act) × IsAmong acts a × (a.worker ≡ 0) × (a.moment ≡ 20) × IsInCall (take 19 inserting) Insert a
+  pub deleted : (acts : List Act) → IsHistory layout turns acts → HasInARow acts (10 ∷ []) 33 (λ a. IsInCall before Delete a × HasFlagged before a.worker (n 6 1 ∷ n 7 1 ∷ []))
 
 -- ---- wrong sentences
 
@@ -145,11 +148,11 @@ WaitsComeFirst turns = (w : ℕ) → waits_of w turns ++ freed_of w turns ≡ cu
 
 -- that everybody leaves between a cut and a free, pinned or not
 abbrev pub EverybodyLeaves : List Turn → Type 0
-EverybodyLeaves turns = (before between rest : List Turn) (cut free : Turn) (n : NodeId) → turns ≡ before ++ cut ∷ (between ++ free ∷ rest) → Contains (nodes_cut cut.outcome) n → Contains (nodes_freed free.outcome) n → (w : ℕ) → HasLeft w between
+EverybodyLeaves turns = (before between rest : List Turn) (cut free : Turn) (n : NodeId) → turns ≡ before ++ cut ∷ (between ++ free ∷ rest) → Contains (nodes_cut_of cut.outcome) n → Contains (nodes_freed_of free.outcome) n → (w : ℕ) → HasLeft w between
 
 -- that nobody who was pinned at a cut is pinned two turns behind it
 abbrev pub LeavesAtOnce : List Turn → Type 0
-LeavesAtOnce turns = (before between rest : List Turn) (cut free : Turn) (n : NodeId) → turns ≡ before ++ cut ∷ (between ++ free ∷ rest) → Contains (nodes_cut cut.outcome) n → Contains (nodes_freed free.outcome) n → (w : ℕ) → IsPinned w before
+LeavesAtOnce turns = (before between rest : List Turn) (cut free : Turn) (n : NodeId) → turns ≡ before ++ cut ∷ (between ++ free ∷ rest) → Contains (nodes_cut_of cut.outcome) n → Contains (nodes_freed_of free.outcome) n → (w : ℕ) → IsPinned w before
     → HasLeft w (take 2 between)
 
 -- that a node is freed as soon as it is cut
@@ -158,7 +161,7 @@ NothingWaits turns = (so_far rest : List Turn) (w : ℕ) → turns ≡ so_far ++
 
 -- that no turn cuts anything
 abbrev pub NothingIsCut : List Turn → Type 0
-NothingIsCut turns = (before rest : List Turn) (t : Turn) → turns ≡ before ++ t ∷ rest → nodes_cut t.outcome ≡ []
+NothingIsCut turns = (before rest : List Turn) (t : Turn) → turns ≡ before ++ t ∷ rest → nodes_cut_of t.outcome ≡ []
 
 -- that a slot that was claimed stays in its worker's hands
 abbrev pub ClaimsStay : List Turn → Type 0

@@ -1,6 +1,6 @@
 //! The theorem, as a law.
 ghost use Rattle.nm_theorem.specs.EachRun.{LogsArePartsOfTurns, OfEachRun, OrderedRunsHaveHistories, ReadersOfFreedNodesHaveLeft, WordsAreWritten};
-ghost use Rattle.nm_theorem.specs.Headline.{Headline};
+ghost use Rattle.nm_model.specs.Headline.{Headline};
 
 /// Every run of a plain core or of an ordered one, whatever its workers do and in whatever order, ends with the words that its turns have written,
 /// and has the headline: each turn cuts off just the nodes that it says it cut, and only a won splice says so; the nodes that each worker cut are

@@ -15,7 +15,7 @@ mod sets;
 mod threads;
 mod trees;
 
-use nm_calls::{Busy, has, insert};
+use nm_calls::{Busy, Chain, has, insert};
 use nm_edge::Key;
 use nm_epoch::Entry;
 use nm_limbo::BlockQueue;
@@ -84,7 +84,10 @@ pub fn insert_then_look(
     ensures flags_two { won_flags two.new.view.log ≡ won_flags two.old.view.log }
     ensures found { NoneFlagged two.new.view.layout two.new.view.past key → IfSome result (λ b. b ≡ true) }
 {
-    match insert(shared, one, placement, key, tries, queue, splices) {
+    let mut chain = Chain::new();
+    match insert(
+        shared, one, placement, key, tries, &mut chain, queue, splices,
+    ) {
         Ok(true) => look_behind(shared, one, two, key, tries).ok(),
         _ => None,
     }

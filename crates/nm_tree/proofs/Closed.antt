@@ -2,11 +2,8 @@
 use Rattle.std.proofs.Common.{◌≡◌, ℕ, suc, ◌+◌, ◌-◌, ◌<◌, ◌≤◌, inl, inr, List, [], ◌∷◌, ◌++◌, length, refl, ap, ◌∙◌, subst, arith}
 use Rattle.std.proofs.lemmas.List.Elements.{All-cons, All-head, All-nil, All-tail}
 use Rattle.std.proofs.lemmas.List.Sums.{sum_by-cons}
-use Rattle.std.specs.Prelude.{Some, map, slice_index_or}
+use Rattle.std.specs.Prelude.{slice_index_or}
 use Rattle.nm_model.specs.declared.event.Event.{Event}
-use Rattle.nm_model.specs.declared.ledger.Ledger.{Ledger}
-use Rattle.nm_model.specs.Laws.{node_in}
-use Rattle.nm_model.specs.Ledgers.{held as ledger_held}
 use Rattle.nm_model.specs.Ordered.{ordered, trace_in}
 use Rattle.nm_model.specs.Reports.{counts, keys}
 use Rattle.nm_report.specs.Ended.{IsEndOf, end_of}
@@ -19,14 +16,12 @@ use Rattle.nm_epoch.specs.declared.collecting.HeldQueue.{HeldQueue}
 use Rattle.nm_epoch.specs.Collecting.{AreHeld}
 use Rattle.nm_tree.specs.declared.worker.Account.{Account}
 use Rattle.nm_tree.specs.Workers.{Hand, IsWorker, HasOrigin, AreAbove, Ascend, waiting_in}
-use Rattle.nm_tree.specs.Closing.{AreAllOf, AreFrom, EndsOnce, GoesOnFromAll, IsClosed, IsOfTurns, StandsForAll, all_joined, all_merged, given_in}
-use Rattle.nm_order.proofs.HistoryLaws.{each_run_has_a_history}
+use Rattle.nm_tree.specs.Closing.{AreAllOf, AreFrom, GoesOnFromAll, IsClosed, IsOfTurns, StandsForAll, all_joined, all_merged, given_in}
 use Rattle.nm_order.proofs.TotalsOfLogs.{totals_are_in_the_logs}
-use Rattle.nm_order.proofs.TotalsOfRuns.{each_total_agrees}
-use Rattle.nm_tree.proofs.EndLaws.{enough_nodes, set_of, ascend_of, settled_of}
-use Rattle.nm_tree.proofs.EndCounts.{none_private, waiting_is, sum_is, accounted_for}
-use Rattle.nm_tree.proofs.EndPlaces.{ends_once}
+use Rattle.nm_tree.proofs.EndLaws.{enough_nodes, ascend_of, settled_of}
+use Rattle.nm_tree.proofs.EndCounts.{none_private, waiting_is, sum_is}
 use Rattle.nm_tree.proofs.EndTheorem.{of_turns_at_end}
+use Rattle.nm_tree.proofs.Settling.{settles}
 use Rattle.nm_tree.proofs.Heirs.{logs, times, has_times}
 use Rattle.nm_tree.proofs.Merging.{length-merged}
 
@@ -75,6 +70,10 @@ all_given (w ∷ u ∷ ws) =
     let both = length-merged (all_merged (u ∷ ws)) w.queues in
     let sum = sum_by-cons (λ (x : Hand). length x.queues) w (u ∷ ws) in
     omega (arith, rest, both, sum)
+
+at_least_one : (ws : List Hand) → 1 ≤ given_in ws → 1 ≤ length ws
+at_least_one [] some' = absurd (omega (arith, some'))
+at_least_one (w ∷ ws) some' = omega arith
 
 -- ---- ascending numbers below n, as many as n
 
@@ -131,9 +130,8 @@ module _ (b : Board) (w : Hand) (xs : List Account) (home r s : ℕ) (ws : List 
       let tree = reached_are the_end in
       omega (arith, sum, pool, tree)
 
-  once_each : (x : ℕ) → 6 ≤ x → x ≤ b.layout.nodes → EndsOnce (end_of b.layout words the_end) w.queues x
-  unfolding the_end
-  once_each = ends_once b.layout words the_end w xs home r s is end.shown in_order.0 in_order.1
+  some_given : 1 ≤ length ws
+  some_given = at_least_one ws (let some' = end.fits.some in omega (arith, enough, some'))
 
   goes_on : GoesOnFromAll end.turns ws
   goes_on = goes_on_from_earlier end.turns w.pass.view.past ws end.past seen
@@ -167,19 +165,14 @@ module _ (b : Board) (w : Hand) (xs : List Account) (home r s : ℕ) (ws : List 
     each = in_order.0;
     all = in_order.1;
     held = subst (λ (v : View). AreHeld (knowledge v) w.queues) view is.between.queues;
-    accounted = subst (λ (v : View). (o : ℕ) (l : Ledger) → ledger_held (knowledge v).ledgers o ≡ Some l → l.retired ≡ l.freed ++ map node_in l.queue) view
-        (accounted_for b.layout words the_end w xs home r s is end.shown in_order.0 in_order.1);
     keys_are = keys_are the_end;
     free_are = free_are the_end;
     reached_are = reached_are the_end;
     private = none_private b.layout words the_end w xs home r s is end.shown in_order.0 in_order.1;
     queued_are = waiting_is b.layout words the_end w xs home r s is end.shown in_order.0 in_order.1;
     sum = sum_of;
-    once = once_each;
-    set = set_of b.layout end.fits end.turns end.keys kept (keys_are the_end);
     ascend = ascend_of b.layout end.fits end.turns end.keys kept (keys_are the_end);
-    history = each_run_has_a_history b.layout (enough_nodes b.layout end.fits) end.turns end.keys;
-    totals = each_total_agrees b.layout (enough_nodes b.layout end.fits) end.turns end.keys;
     logs = totals_are_in_the_logs b.layout (enough_nodes b.layout end.fits) end.turns end.keys;
+    rested = settles b.layout words the_end w xs home r s is end.shown in_order.0 in_order.1 ws view some_given;
     settled = settled_of b.layout end.fits end.turns end.keys kept (keys_are the_end);
   }

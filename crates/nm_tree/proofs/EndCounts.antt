@@ -1,5 +1,5 @@
 -- The counts at a tree's end: nothing is private, and what waits is in the queues.
-use Rattle.std.proofs.Common.{◌≡◌, ◌≢◌, ℕ, zero, suc, ◌+◌, ◌-◌, ◌<◌, ◌≤◌, inl, inr, List, [], ◌∷◌, ◌++◌, map, length, refl, sym, ap, ◌∙◌, subst, arith}
+use Rattle.std.proofs.Common.{◌≡◌, ◌≢◌, ℕ, zero, suc, ◌+◌, ◌-◌, ◌<◌, ◌≤◌, inl, inr, List, [], ◌∷◌, map, length, refl, sym, ap, ◌∙◌, subst, arith}
 use Rattle.std.specs.Prelude.{Option, Some, None, option_map, slice_get}
 use Rattle.std.proofs.lemmas.Bool.{cases_lt}
 use Rattle.std.proofs.lemmas.List.{length-map}
@@ -19,9 +19,7 @@ use Rattle.nm_model.specs.Walks.{Entry as LogEntry}
 use Rattle.nm_model.proofs.Counting.{sum_is_weight, weight, weight_none}
 use Rattle.nm_laws.proofs.Counts.{each_state_adds_up}
 use Rattle.nm_laws.proofs.Lawful.{lawful}
-use Rattle.nm_model.specs.Laws.{node_in}
-use Rattle.nm_order.specs.Logs.{part_of, known_by, IsLogOf}
-use Rattle.nm_order.proofs.HeldLedgers.{held_ledgers_are_kept}
+use Rattle.nm_order.specs.Logs.{part_of, known_by}
 use Rattle.nm_order.proofs.PartsOfRuns.{logs_tell}
 use Rattle.nm_report.specs.Ended.{IsEndOf, end_of}
 use Rattle.nm_report.proofs.Ends.{holds, layout_is}
@@ -35,7 +33,6 @@ use Rattle.nm_epoch.specs.Collecting.{AreHeld, queued}
 use Rattle.nm_tree.specs.declared.worker.Account.{Account}
 use Rattle.nm_tree.specs.Closing.{AreFrom}
 use Rattle.nm_tree.specs.Workers.{Hand, IsWorker, HasNumber, HasOrigin, HoldNothing, waiting_in}
-use Rattle.nm_tree.proofs.EndLaws.{enough_nodes}
 use Rattle.nm_tree.proofs.Heirs.{logs, ledgers_long}
 use Rattle.nm_tree.proofs.United.{empty_hands}
 
@@ -164,13 +161,3 @@ module _ (L : Layout) (words : List ℕ) (e : IsEndOf L words) (w : Hand) (xs : 
       let none' = none_private in
       let waits = waiting_is in
       omega (arith, sum, nodes, none', waits)
-
-  -- its log is its worker's part of the run
-  own_log : IsLogOf L v.number (part_of v.number t)
-  own_log =
-      let below = from_below 0 w.queues each v.number (is.numbers.all v.number (inl refl)) in
-      record { worker = omega (arith, below, all); turns = e.turns; keys = e.keys; is_part = refl }
-
-  pub accounted_for : (o : ℕ) (l : Ledger) → held (knowledge v).ledgers o ≡ Some l → l.retired ≡ l.freed ++ map node_in l.queue
-  accounted_for = subst (λ (k : Knowledge). (o : ℕ) (l : Ledger) → held k.ledgers o ≡ Some l → l.retired ≡ l.freed ++ map node_in l.queue) own
-      (held_ledgers_are_kept L (enough_nodes L e.fits) v.number (part_of v.number t) own_log).split

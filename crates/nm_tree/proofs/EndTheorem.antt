@@ -17,7 +17,7 @@ use Rattle.nm_model.specs.Reports.{keys}
 use Rattle.nm_model.specs.Runs.{of}
 use Rattle.nm_order.specs.Intervals.{InSet}
 use Rattle.nm_words.specs.Packing.{words_of}
-use Rattle.nm_theorem.specs.Headline.{waits_of, has_after}
+use Rattle.nm_model.specs.Headline.{waits_of, has_after}
 use Rattle.nm_theorem.proofs.WrittenWords.{run_words}
 use Rattle.nm_theorem.proofs.FreedOfRuns.{waits_is}
 use Rattle.nm_theorem.proofs.Hands.{run_hands}
@@ -30,7 +30,7 @@ use Rattle.nm_epoch.specs.declared.collecting.Entry.{Entry}
 use Rattle.nm_epoch.specs.declared.collecting.HeldQueue.{HeldQueue}
 use Rattle.nm_epoch.specs.Collecting.{AreHeld, IsQueueOf, queued}
 use Rattle.nm_tree.specs.declared.worker.Account.{Account}
-use Rattle.nm_tree.specs.Closing.{AreFrom, IsOfTurns, StandsForAll, node_of, all_joined}
+use Rattle.nm_tree.specs.Closing.{AreFrom, IsOfTurns, StandsForAll, all_joined}
 use Rattle.nm_tree.specs.Workers.{Hand, IsWorker}
 use Rattle.nm_tree.proofs.EndLaws.{set_of}
 use Rattle.nm_tree.proofs.EndPlaces.{known, none_private}
@@ -47,7 +47,7 @@ origin_at j [] from i h at = absurd (none-some h at)
 origin_at j (x ∷ hs) from zero h at = let e = ap (λ (y : HeldQueue). y.origin) (same_Some x h at) in let o = from.0 in omega (arith, e, o)
 origin_at j (x ∷ hs) from (suc i) h at = let rest = origin_at (suc j) hs from.1 i h at in omega (arith, rest)
 
-nodes_of : (es : List Entry) → map node_of es ≡ map node_in (map queued es)
+nodes_of : (es : List Entry) → map (λ (e : Entry). e.node) es ≡ map node_in (map queued es)
 nodes_of [] = refl
 nodes_of (e ∷ es) = ap (λ (ns : List NodeId). e.node ∷ ns) (nodes_of es)
 
@@ -56,13 +56,13 @@ module _ (L : Layout) (words : List ℕ) (e : IsEndOf L words) (w : Hand) (xs : 
   abbrev turns : List Turn
   turns = trace_in (ordered L) e.turns
 
-  waiting : (o : ℕ) (h : HeldQueue) → slice_get w.queues o ≡ Some h → map node_of h.queue.items ≡ waits_of o turns
+  waiting : (o : ℕ) (h : HeldQueue) → slice_get w.queues o ≡ Some h → map (λ (e : Entry). e.node) h.queue.items ≡ waits_of o turns
   waiting o h at = go (held (knowledge w.pass.view).ledgers h.origin) refl (held_at (knowledge w.pass.view) w.queues is.between.queues o h at)
     where
       own : h.origin ≡ o
       own = let e' = origin_at 0 w.queues each o h at in omega (arith, e')
 
-      go : (x : Option Ledger) → held (knowledge w.pass.view).ledgers h.origin ≡ x → option_map (λ (l : Ledger). l.queue) x ≡ Some (map queued h.queue.items) → map node_of h.queue.items ≡ waits_of o turns
+      go : (x : Option Ledger) → held (knowledge w.pass.view).ledgers h.origin ≡ x → option_map (λ (l : Ledger). l.queue) x ≡ Some (map queued h.queue.items) → map (λ (e : Entry). e.node) h.queue.items ≡ waits_of o turns
       go None there none = absurd (none-some (map queued h.queue.items) none)
       go (Some l) there queue =
           nodes_of h.queue.items ∙ (ap (λ (q : List Queued). map node_in q) (sym (same_Some l.queue (map queued h.queue.items) queue))

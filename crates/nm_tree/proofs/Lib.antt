@@ -16,5 +16,7 @@ pub mod EndLaws
 pub mod EndCounts
 pub mod EndPlaces
 pub mod EndTheorem
+pub mod Settling
 pub mod RunningTurns
 pub mod Closed
+pub mod OfClosed

@@ -16,7 +16,7 @@ use Rattle.nm_epoch.specs.Tries.{LostTries, IsPinned, IsMoved}
 use Rattle.nm_epoch.specs.Watches.{AllWatched, SightThenWatch}
 use Rattle.nm_calls.specs.declared.lookup.Busy.{Busy}
 use Rattle.nm_calls.specs.Calls.{HasDid, HasMissed}
-use Rattle.nm_calls.specs.Won.{won_links, won_flags, won_splices}
+use Rattle.nm_calls.specs.Won.{won_links, won_flags, won_splices, HasWon}
 use Rattle.nm_calls.proofs.Adding.{Adds, adds_none, adds_these, pin_adds, moved_adds, lost_walks_add, end_adds}
 use Rattle.nm_tree.specs.Workers.{log_among, log_of}
 
@@ -32,6 +32,13 @@ quiet old new a =
     let f = a.flags in
     let s = a.splices in
     record { links = omega (arith, l); flags = omega (arith, f); splices = omega (arith, s) }
+
+-- where neither a link nor a flag was won, and no splice
+pub quiet_so : (old new : List Entry) → HasWon old new 0 0 → won_splices new ≡ won_splices old → Quiet old new
+quiet_so old new won uncut =
+    let l = won.links in
+    let f = won.flags in
+    record { links = omega (arith, l); flags = omega (arith, f); splices = uncut }
 
 pub quiet_none : (old new : List Entry) → new ≡ old → Quiet old new
 quiet_none old new is = quiet old new (adds_none old new is)

@@ -18,7 +18,7 @@ use Rattle.nm_steps.specs.Steps.{HasSeen}
 use Rattle.nm_epoch.specs.declared.collecting.Entry.{Entry as Waiting}
 use Rattle.nm_epoch.specs.declared.collecting.HeldQueue.{HeldQueue}
 use Rattle.nm_epoch.specs.Collecting.{IsCollection, freeing, ripe_of}
-use Rattle.nm_theorem.specs.Headline.{nodes_freed, frees}
+use Rattle.nm_model.specs.Headline.{nodes_freed_of, freed_by}
 use Rattle.nm_theorem.proofs.LeftSince.{readers_have_left}
 use Rattle.nm_model.specs.Ordered.{ordered, trace_in}
 use Rattle.nm_words.specs.Packing.{words_of}
@@ -46,12 +46,12 @@ has_seen_turns v fits seen = record {
 }
 
 -- what a log tells as freed, its turns have freed
-freed_by_entry : (t : Turn) (s : ℕ) (n : NodeId) → Contains (logged_by t) (Give s, Freed n) → Contains (nodes_freed t.outcome) n
+freed_by_entry : (t : Turn) (s : ℕ) (n : NodeId) → Contains (logged_by t) (Give s, Freed n) → Contains (nodes_freed_of t.outcome) n
 freed_by_entry t s n there = go t.outcome there
   where
-    go : (o : Result Reply Refused) → Contains (logged_by (record { worker = t.worker; event = t.event; outcome = o })) (Give s, Freed n) → Contains (nodes_freed o) n
+    go : (o : Result Reply Refused) → Contains (logged_by (record { worker = t.worker; event = t.event; outcome = o })) (Give s, Freed n) → Contains (nodes_freed_of o) n
     go (Err x) there = let b = there.1 in absurd (omega (arith, b))
-    go (Ok r) there = subst (λ (q : Reply). Contains (nodes_freed (Ok q)) n) (sym (reply_is r there)) (zero, omega arith, refl)
+    go (Ok r) there = subst (λ (q : Reply). Contains (nodes_freed_of (Ok q)) n) (sym (reply_is r there)) (zero, omega arith, refl)
       where
         same_reply : (r q : Reply) (e f : Event) → ◌≡◌ {A = Event × Reply} (e, r) (f, q) → r ≡ q
         same_reply r q e f is = ap (λ (x : Event × Reply). x.1) is
@@ -60,14 +60,14 @@ freed_by_entry t s n there = go t.outcome there
         reply_is r (zero, below, is) = same_reply r (Freed n) t.event (Give s) is
         reply_is r (suc i, below, is) = absurd (omega (arith, below))
 
-freed_by_turns : (w : ℕ) (ts : List Turn) (s : ℕ) (n : NodeId) → Contains (part_of w ts) (Give s, Freed n) → Contains (frees ts) n
+freed_by_turns : (w : ℕ) (ts : List Turn) (s : ℕ) (n : NodeId) → Contains (part_of w ts) (Give s, Freed n) → Contains (freed_by ts) n
 freed_by_turns w [] s n there = let b = there.1 in absurd (omega (arith, b))
 freed_by_turns w (t ∷ ts) s n there = go (freed_by_turns w ts s n) (takes_part w t.worker t.event) (Contains-append_cases (cond (takes_part w t.worker t.event) (logged_by t) []) (part_of w ts) (Give s, Freed n) there)
   where
-    go : (Contains (part_of w ts) (Give s, Freed n) → Contains (frees ts) n) → (b : Bool) → Contains (cond b (logged_by t) []) (Give s, Freed n) ⊎ Contains (part_of w ts) (Give s, Freed n) → Contains (frees (t ∷ ts)) n
-    go rest true (inl here) = Contains-append_left (nodes_freed t.outcome) (frees ts) n (freed_by_entry t s n here)
+    go : (Contains (part_of w ts) (Give s, Freed n) → Contains (freed_by ts) n) → (b : Bool) → Contains (cond b (logged_by t) []) (Give s, Freed n) ⊎ Contains (part_of w ts) (Give s, Freed n) → Contains (freed_by (t ∷ ts)) n
+    go rest true (inl here) = Contains-append_left (nodes_freed_of t.outcome) (freed_by ts) n (freed_by_entry t s n here)
     go rest false (inl here) = let b = here.1 in absurd (omega (arith, b))
-    go rest b (inr later) = Contains-append_right (nodes_freed t.outcome) (frees ts) n (rest later)
+    go rest b (inr later) = Contains-append_right (nodes_freed_of t.outcome) (freed_by ts) n (rest later)
 
 in_map : (es : List Waiting) (e : Waiting) → Contains es e → Contains (map freeing es) (freeing e)
 in_map es e there = (there.0, subst (λ (n : ℕ). there.0 < n) (sym (length-map es freeing)) there.1, get_or-map freeing es there.0 e (freeing e) there.1 ∙ ap freeing there.2)
@@ -79,7 +79,7 @@ collected_in_grace v old epoch hs fits seen c = λ i d below. of_one (slice_inde
     logged : (e : Waiting) → Contains (ripe_of epoch hs) e → Contains v.log (freeing e)
     logged e there = subst (λ (log : List Entry). Contains log (freeing e)) (sym c.2) (Contains-append_right c.0 (map freeing (ripe_of epoch hs)) (freeing e) (in_map (ripe_of epoch hs) e there))
 
-    freed : (e : Waiting) → Contains (ripe_of epoch hs) e → Contains (frees (turns_seen v)) e.node
+    freed : (e : Waiting) → Contains (ripe_of epoch hs) e → Contains (freed_by (turns_seen v)) e.node
     freed e there = freed_by_turns v.number (turns_seen v) e.node.slot e.node (subst (λ (log : List Entry). Contains log (freeing e)) (sym seen.is_part) (logged e there))
 
     of_one : (e : Waiting) → Contains (ripe_of epoch hs) e → IsFreedInGrace v e.node

@@ -3,25 +3,19 @@ use Rattle.std.specs.Prelude.{◌≡◌, ◌<◌, ◌≤◌, ◌↔◌, ◌+◌,
 use Rattle.nm_edge.specs.Keys.{IsKey}
 use Rattle.nm_edge.specs.Layouts.{Layout}
 use Rattle.nm_edge.specs.declared.edge.Side.{Side}
-use Rattle.nm_edge.specs.declared.node.NodeId.{NodeId}
 use Rattle.nm_model.specs.declared.event.Event.{Event}
-use Rattle.nm_model.specs.declared.ledger.Ledger.{Ledger}
 use Rattle.nm_model.specs.declared.trace.Turn.{Turn}
-use Rattle.nm_model.specs.Laws.{node_in}
-use Rattle.nm_model.specs.Ledgers.{held as ledger_held}
-use Rattle.nm_model.specs.Memory.{infinity_0, in_pool, opening}
+use Rattle.nm_model.specs.Memory.{Memory, infinity_0, in_pool, opening}
 use Rattle.nm_model.specs.Ordered.{ordered, after_in, trace_in}
 use Rattle.nm_model.specs.Paths.{at}
 use Rattle.nm_model.specs.Reports.{counts, keys}
-use Rattle.nm_model.specs.Runs.{State}
-use Rattle.nm_order.specs.History.{HasHistory}
 use Rattle.nm_order.specs.Intervals.{InSet}
 use Rattle.nm_order.specs.LoggedTotals.{TotalsAreInTheLogs}
-use Rattle.nm_order.specs.Totals.{Agree, NothingIsPending, TotalsAgree, links_of, flags_of}
+use Rattle.nm_order.specs.Totals.{Agree, NothingIsPending, links_of, flags_of}
 use Rattle.nm_steps.specs.declared.view.View.{View}
 use Rattle.nm_words.specs.Packing.{words_of}
-use Rattle.nm_theorem.specs.Headline.{Headline, words_after, waits_of, has_after}
-use Rattle.nm_theorem.specs.Histories.{HasHistory as HasPlainHistory}
+use Rattle.nm_model.specs.Headline.{Headline, words_after, cuts_of, freed_of, waits_of, has_after}
+use Rattle.nm_theorem.specs.Histories.{HasHistory}
 use Rattle.nm_steps.specs.Rules.{Extends, IsShown, knowledge, joined, nobody}
 use Rattle.nm_steps.specs.Steps.{Board, IsOf, Ends}
 use Rattle.nm_epoch.specs.declared.collecting.Entry.{Entry}
@@ -30,6 +24,7 @@ use Rattle.nm_epoch.specs.Collecting.{AreHeld}
 use Rattle.nm_tree.specs.declared.closing.CloseReason.{CloseReason}
 use Rattle.nm_tree.specs.declared.closing.CloseReason.TheVariants as because
 use Rattle.nm_tree.specs.Resigning.{merged}
+use Rattle.nm_tree.specs.Settled.{HaveNothingPending}
 use Rattle.nm_tree.specs.Workers.{Hand, waiting_in}
 
 -- the workers are this tree's
@@ -72,20 +67,16 @@ pub data EndPlace : Type 0 where
   OnPath : List Side → EndPlace
   Waiting : ℕ → ℕ → EndPlace
 
-abbrev pub EndsAt : State → List HeldQueue → ℕ → EndPlace → Type 0
-EndsAt s hs x Free = in_pool s.memory x ≡ true
-EndsAt s hs x (OnPath path) = at s.memory path ≡ x
-EndsAt s hs x (Waiting w i) = (h : HeldQueue) × (e : Entry) × (slice_get hs w ≡ Some h) × (slice_get h.queue.items i ≡ Some e) × (e.node.slot ≡ x)
+abbrev pub EndsAt : Memory → List HeldQueue → ℕ → EndPlace → Type 0
+EndsAt m hs x Free = in_pool m x ≡ true
+EndsAt m hs x (OnPath path) = at m path ≡ x
+EndsAt m hs x (Waiting w i) = (h : HeldQueue) × (e : Entry) × (slice_get hs w ≡ Some h) × (slice_get h.queue.items i ≡ Some e) × (e.node.slot ≡ x)
 
 -- it stands at exactly one of these
-pub record EndsOnce (s : State) (hs : List HeldQueue) (x : ℕ) : Type 0 where
+pub record EndsOnce (m : Memory) (hs : List HeldQueue) (x : ℕ) : Type 0 where
   pub place : EndPlace
-  pub here : EndsAt s hs x place
-  pub only : (other : EndPlace) → EndsAt s hs x other → other ≡ place
-
--- the node that waits
-abbrev pub node_of : Entry → NodeId
-node_of e = e.node
+  pub here : EndsAt m hs x place
+  pub only : (other : EndPlace) → EndsAt m hs x other → other ≡ place
 
 -- The theorem, of a tree. The logs of all workers are the parts of these turns, and by them its words came from those of the empty tree, each turn writing
 -- what its reply tells. The turns have the headline, and are a history of one plain set; the report's queue of each worker is what then waits of its
@@ -94,19 +85,17 @@ pub record IsOfTurns (L : Layout) (turns : List Turn) (words : List ℕ) (all : 
   pub shown : IsShown L turns all
   pub written : words ≡ words_of L (words_after L turns)
   pub headline : Headline L turns
-  pub plain_set : HasPlainHistory L turns
-  pub waiting : (w : ℕ) (h : HeldQueue) → slice_get queues w ≡ Some h → map node_of h.queue.items ≡ waits_of w turns
+  pub plain_set : HasHistory L turns
+  pub waiting : (w : ℕ) (h : HeldQueue) → slice_get queues w ≡ Some h → map (λ (e : Entry). e.node) h.queue.items ≡ waits_of w turns
   pub set : (k : ℕ) → Contains kept k ↔ InSet (words_after L turns) k × (k < infinity_0)
   pub no_hands : (w x : ℕ) → has_after (opening L) w x false turns ≡ false
 
 -- All workers of the tree were given, and one stands for all of them. Some run ends with the tree's words, of which their logs are the parts. It goes on
--- from what each of the workers had seen, so all that they were answered was answered in it. The report tells of its last state: one queue a worker, in
--- the order of their numbers, with all that waits of it, as it was, so that what its splices cut off is what was freed of it and then that queue; the keys
--- of the reached leaves, which are the set's and ascend; and how many slots are free and reached. No slot is private, and as many are queued as wait in
--- the queues, so that these with the free and the reached ones are all slots but the five fixed ones; and each of these slots stands once, in the
--- pool, on one path, or at one index of one queue. The turns of that run have the headline. It has a history, which ends with these
--- keys; each key stands on an unflagged edge as often as calls for it won a link less as often as they won a flag, by the logs of all workers; and
--- with no delete pending it is told that often, which is once or never
+-- from what each of the workers had seen, so all that they were answered was answered in it. Of its turns and of the report the theorem holds. The report
+-- has one queue a worker, in the order of their numbers, with all that waits of it, as it was; the keys of the reached leaves, which ascend; and how many
+-- slots are free and reached. No slot is private, and as many are queued as wait in the queues, so that these with the free and the reached ones are all
+-- slots but the five fixed ones. With no delete pending each key is told as often as calls for it won a link, by the logs of all workers, less as often as
+-- they won a flag: once or never. None is where nothing was pending of the workers that were given
 pub record IsClosed (b : Board) (ws : List Hand) (queues : List HeldQueue) (kept : List ℕ) (free reached : ℕ) : Type 0 where
   pub enough : b.layout.workers ≤ given_in ws
   pub words : List ℕ
@@ -119,20 +108,34 @@ pub record IsClosed (b : Board) (ws : List Hand) (queues : List HeldQueue) (kept
   pub each : AreFrom 0 queues
   pub all : length queues ≡ b.layout.workers
   pub held : AreHeld (knowledge (all_joined ws)) queues
-  pub accounted : (o : ℕ) (l : Ledger) → ledger_held (knowledge (all_joined ws)).ledgers o ≡ Some l → l.retired ≡ l.freed ++ map node_in l.queue
   pub keys_are : kept ≡ keys (after_in (ordered b.layout) ends.turns).state
   pub free_are : free ≡ (counts (after_in (ordered b.layout) ends.turns).state).pool
   pub reached_are : reached ≡ (counts (after_in (ordered b.layout) ends.turns).state).reached
   pub private : (counts (after_in (ordered b.layout) ends.turns).state).private ≡ 0
   pub queued_are : (counts (after_in (ordered b.layout) ends.turns).state).queued ≡ waiting_in queues
   pub sum : free + reached + waiting_in queues ≡ b.layout.nodes - 5
-  pub once : (x : ℕ) → 6 ≤ x → x ≤ b.layout.nodes → EndsOnce (after_in (ordered b.layout) ends.turns).state queues x
-  pub set : (k : ℕ) → Contains kept k ↔ InSet (after_in (ordered b.layout) ends.turns).state.memory k × (k < infinity_0)
   pub ascend : AllPairs (λ j k. j < k) kept
-  pub history : HasHistory b.layout ends.turns
-  pub totals : TotalsAgree b.layout ends.turns
   pub logs : TotalsAreInTheLogs b.layout ends.turns
+  pub rested : HaveNothingPending ws → NothingIsPending b.layout ends.turns
   pub settled : NothingIsPending b.layout ends.turns → (k : ℕ) → IsKey k → Agree (links_of k b.layout ends.turns) (flags_of k b.layout ends.turns) (Contains kept k)
+
+-- ---- what follows of each closed tree
+
+-- of the turns and the queues of every tree that was closed
+abbrev pub OfEachClosed : (Layout → List Turn → List HeldQueue → Type 0) → Type 0
+OfEachClosed P = (b : Board) (ws : List Hand) (queues : List HeldQueue) (kept : List ℕ) (free reached : ℕ) → (is : IsClosed b ws queues kept free reached) → P b.layout is.turns queues
+
+-- of the run that ends with its words
+abbrev pub OfEachClosedRun : (Layout → List (ℕ × Event) → Type 0) → Type 0
+OfEachClosedRun P = (b : Board) (ws : List Hand) (queues : List HeldQueue) (kept : List ℕ) (free reached : ℕ) → (is : IsClosed b ws queues kept free reached) → P b.layout is.ends.turns
+
+-- what the splices of a worker cut off is what was freed of it and then its queue of the report
+abbrev pub QueuesAreTheRest : Layout → List Turn → List HeldQueue → Type 0
+QueuesAreTheRest L turns queues = (w : ℕ) (h : HeldQueue) → slice_get queues w ≡ Some h → freed_of w turns ++ map (λ (e : Entry). e.node) h.queue.items ≡ cuts_of w turns
+
+-- each slot above 5 stands once
+abbrev pub EachSlotEndsOnce : Layout → List Turn → List HeldQueue → Type 0
+EachSlotEndsOnce L turns queues = (x : ℕ) → 6 ≤ x → x ≤ L.nodes → EndsOnce (words_after L turns) queues x
 
 -- why a tree was not closed
 abbrev pub IsCloseReason : Board → List Hand → CloseReason → Type 0

@@ -10,7 +10,7 @@ use Rattle.nm_model.specs.Ordered.{ordered, trace_in}
 use Rattle.nm_order.specs.Logs.{part_of}
 use Rattle.nm_words.specs.Packing.{words_of}
 use Rattle.nm_theorem.specs.EachRun.{ReadersHaveLeft}
-use Rattle.nm_theorem.specs.Headline.{Headline, words_after, frees}
+use Rattle.nm_model.specs.Headline.{Headline, words_after, freed_by}
 use Rattle.nm_theorem.specs.Histories.{HasHistory}
 use Rattle.nm_steps.specs.declared.view.View.{View}
 use Rattle.nm_steps.specs.Rules.{IsShown, Kept}
@@ -41,5 +41,5 @@ pub record HasSeenTurns (v : View) : Type 0 where
 
 -- a node was freed by one of them, and each worker that was pinned where it was cut has left since
 pub record IsFreedInGrace (v : View) (n : NodeId) : Type 0 where
-  pub freed : Contains (frees (turns_seen v)) n
+  pub freed : Contains (freed_by (turns_seen v)) n
   pub left : ReadersHaveLeft (turns_seen v) n

@@ -17,7 +17,7 @@ ghost use Rattle.nm_tree.specs.Workers.{IsBetweenCalls, KeepsOthers, TakeRoom, I
 use crate::fault::Fault;
 use crate::tree::Tree;
 use crate::worker::{Account, Standing, Unfinished, Worker};
-use nm_calls::{Fault as Lost, Missed, delete, finish, insert};
+use nm_calls::{Chain, Fault as Lost, Missed, delete, finish, insert};
 use nm_edge::Key;
 use nm_epoch::HeldQueue;
 use nm_pool::Placement;
@@ -30,6 +30,7 @@ fn insert_with(
     placement: &mut Placement,
     key: Key,
     tries: u32,
+    chain: &mut Chain,
     own: &mut HeldQueue,
     account: &mut Account,
 ) -> Result<bool, Lost>
@@ -56,6 +57,7 @@ fn insert_with(
         placement,
         key,
         tries,
+        chain,
         &mut own.queue,
         &mut account.splices,
     );
@@ -70,6 +72,7 @@ fn delete_with(
     pass: &mut Pass,
     key: Key,
     tries: u32,
+    chain: &mut Chain,
     own: &mut HeldQueue,
     account: &mut Account,
 ) -> Result<bool, Missed>
@@ -94,6 +97,7 @@ fn delete_with(
         pass,
         key,
         tries,
+        chain,
         &mut own.queue,
         &mut account.splices,
     );
@@ -128,6 +132,7 @@ fn finish_with(
     pass: &mut Pass,
     pending: &Unfinished,
     tries: u32,
+    chain: &mut Chain,
     own: &mut HeldQueue,
     account: &mut Account,
 ) -> bool
@@ -154,6 +159,7 @@ fn finish_with(
         pending.key,
         pending.leaf,
         tries,
+        chain,
         &mut own.queue,
         &mut account.splices,
     );
@@ -195,6 +201,7 @@ impl Tree {
             &mut worker.placement,
             key,
             tries,
+            &mut worker.chain,
             own,
             account,
         ) {
@@ -233,7 +240,15 @@ impl Tree {
         }
         let own = &mut worker.queues[worker.home];
         let account = &mut worker.accounts[worker.home];
-        match delete_with(&self.shared, &mut worker.pass, key, tries, own, account) {
+        match delete_with(
+            &self.shared,
+            &mut worker.pass,
+            key,
+            tries,
+            &mut worker.chain,
+            own,
+            account,
+        ) {
             Ok(answer) => Ok(answer),
             Err(Missed::Busy) => Err(Fault::Busy),
             Err(Missed::NoMemory) => Err(Fault::NoMemory),
@@ -274,6 +289,7 @@ impl Tree {
             &mut worker.pass,
             &pending,
             tries,
+            &mut worker.chain,
             own,
             account,
         ) {

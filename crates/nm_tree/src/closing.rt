@@ -1,7 +1,9 @@
 //! The end of a tree.
 ghost use Rattle.std.specs.Prelude.{◌≡◌, ◌<◌, ◌≤◌, length, min, IfOk, IfErr};
 ghost use Rattle.nm_steps.specs.Steps.{IsOf};
-ghost use Rattle.nm_tree.specs.Closing.{AreAllOf, IsClosed, IsCloseReason, GoesOnFromAll, StandsForAll, all_merged, given_in};
+ghost use Rattle.nm_order.specs.History.{HasHistory};
+ghost use Rattle.nm_order.specs.Totals.{TotalsAgree};
+ghost use Rattle.nm_tree.specs.Closing.{AreAllOf, EachSlotEndsOnce, IsClosed, IsCloseReason, GoesOnFromAll, OfEachClosed, OfEachClosedRun, QueuesAreTheRest, StandsForAll, all_merged, given_in};
 
 use crate::resigning::unite;
 use crate::tree::Tree;
@@ -91,6 +93,7 @@ fn close_all(tree: Tree, workers: Vec<Worker>, room: Room) -> Report
         accounts: _,
         home: _,
         standing: _,
+        chain: _,
     } = unite_all(&shared, workers);
     let words = shared.close(pass);
     let Found {
@@ -105,6 +108,16 @@ fn close_all(tree: Tree, workers: Vec<Worker>, room: Room) -> Report
         reached,
     }
 }
+
+/// What follows of every tree that was closed: what the splices of each worker cut off is what was freed of it and then its queue of the report; each
+/// slot above 5 stands once, in the pool, on one path, or at one index of one queue; the run that ends with the tree's words has a history; and each
+/// key of the set stands on an unflagged edge as often as calls for it won a link, less as often as they won a flag.
+pub fn closed_trees_are_accounted_for()
+    ensures accounted { OfEachClosed QueuesAreTheRest }
+    ensures once { OfEachClosed EachSlotEndsOnce }
+    ensures history { OfEachClosedRun HasHistory }
+    ensures totals { OfEachClosedRun TotalsAgree }
+{}
 
 /// One worker that stands for all of these.
 fn unite_all(shared: &Shared, mut workers: Vec<Worker>) -> Worker

@@ -75,6 +75,7 @@ pub(crate) fn unite(shared: &Shared, heir: Worker, leaver: Worker) -> Worker
         mut accounts,
         home: _,
         standing,
+        chain,
     } = heir;
     let Worker {
         pass: other,
@@ -83,6 +84,7 @@ pub(crate) fn unite(shared: &Shared, heir: Worker, leaver: Worker) -> Worker
         accounts: theirs,
         home: _,
         standing: _,
+        chain: _,
     } = leaver;
     let pass = shared.join(pass, other);
     take_over(&mut queues, &mut accounts, more, theirs);
@@ -94,6 +96,7 @@ pub(crate) fn unite(shared: &Shared, heir: Worker, leaver: Worker) -> Worker
         accounts,
         home,
         standing,
+        chain,
     }
 }
 

@@ -1,14 +1,16 @@
 //! The tree that workers share.
 ghost use Rattle.std.specs.Prelude.{All, ◌≡◌, ◌≢◌, ◌<◌, ◌≤◌, ◌⊎◌, ◌↔◌, length, IfOk, IfErr, IsErrOf};
+ghost use Rattle.nm_edge.specs.Layouts.{dense, spaced};
 ghost use Rattle.nm_steps.specs.Steps.{AreFresh};
 ghost use Rattle.nm_tree.specs.Plays.{IsReady};
 ghost use Rattle.nm_tree.specs.Workers.{AreNew, AreAllFresh, AreMade, HaveFit, HaveWorkers, IsFresh, IsNewWorker};
 
 use crate::worker::{Account, Standing, Worker};
-use nm_edge::{FIRST_SLOT, LEAST_NODES, MOST_NODES, MOST_WORKERS};
+use nm_calls::Chain;
+use nm_edge::{FIRST_SLOT, LEAST_NODES, Layout, MOST_NODES, MOST_SPACED_NODES, MOST_WORKERS};
 use nm_epoch::HeldQueue;
 use nm_limbo::BlockQueue;
-use nm_model::{NewError, layout_of};
+use nm_model::{NewError, layout_of, spaced_layout_of};
 use nm_pool::{Fit, Placement};
 use nm_steps::{Pass, Shared};
 use std::alloc::{AllocError, Global};
@@ -35,7 +37,7 @@ impl Tree {
     ///
     /// `NoMemory`: nothing is kept. The room in which a worker may take over the queues of others is made here.
     pub fn new(alloc: Global, nodes: u32, workers: u32) -> Result<(Tree, Vec<Worker>), NewError>
-        ensures layout { IfOk result (λ r. r.0.layout ≡ record { nodes = nodes; workers = workers }) }
+        ensures layout { IfOk result (λ r. r.0.layout ≡ dense nodes workers) }
         ensures count { IfOk result (λ r. length r.1.items ≡ workers) }
         ensures new { IfOk result (λ r. AreNew r.0 0 r.1.items) }
         ensures fit { IfOk result (λ r. HaveFit Fit.Lowest r.1.items) }
@@ -43,7 +45,7 @@ impl Tree {
         ensures nodes { IsErrOf result NewError.Nodes ↔ ((nodes < LEAST_NODES) ⊎ (MOST_NODES < nodes)) }
         ensures workers { IsErrOf result NewError.Workers ↔ ((LEAST_NODES ≤ nodes) × (nodes ≤ MOST_NODES) × ((workers < 1) ⊎ (MOST_WORKERS < workers))) }
     {
-        tree_of(alloc, nodes, workers, Fit::Lowest)
+        Tree::of(alloc, layout_of(nodes, workers)?, Fit::Lowest)
     }
 
     /// The same, but a worker looks for a free slot first among the last four that it gave back, and then from its cursor upwards, and round. So
@@ -51,7 +53,7 @@ impl Tree {
     ///
     /// (Next fit: Knuth, The Art of Computer Programming, volume 1, section 2.5.)
     pub fn near(alloc: Global, nodes: u32, workers: u32) -> Result<(Tree, Vec<Worker>), NewError>
-        ensures layout { IfOk result (λ r. r.0.layout ≡ record { nodes = nodes; workers = workers }) }
+        ensures layout { IfOk result (λ r. r.0.layout ≡ dense nodes workers) }
         ensures count { IfOk result (λ r. length r.1.items ≡ workers) }
         ensures new { IfOk result (λ r. AreNew r.0 0 r.1.items) }
         ensures fit { IfOk result (λ r. HaveFit Fit.Near r.1.items) }
@@ -59,30 +61,44 @@ impl Tree {
         ensures nodes { IsErrOf result NewError.Nodes ↔ ((nodes < LEAST_NODES) ⊎ (MOST_NODES < nodes)) }
         ensures workers { IsErrOf result NewError.Workers ↔ ((LEAST_NODES ≤ nodes) × (nodes ≤ MOST_NODES) × ((workers < 1) ⊎ (MOST_WORKERS < workers))) }
     {
-        tree_of(alloc, nodes, workers, Fit::Near)
+        Tree::of(alloc, layout_of(nodes, workers)?, Fit::Near)
     }
-}
 
-/// The empty set and its workers, which claim by one fit. Cursors begin at equal distances.
-fn tree_of(
-    alloc: Global,
-    nodes: u32,
-    workers: u32,
-    fit: Fit,
-) -> Result<(Tree, Vec<Worker>), NewError>
-    ensures layout { IfOk result (λ r. r.0.layout ≡ record { nodes = nodes; workers = workers }) }
-    ensures count { IfOk result (λ r. length r.1.items ≡ workers) }
-    ensures new { IfOk result (λ r. AreNew r.0 0 r.1.items) }
-    ensures fit { IfOk result (λ r. HaveFit fit r.1.items) }
-    ensures ready { IfOk result (λ r. All (IsReady r.0) r.1.items) }
-    ensures nodes { IsErrOf result NewError.Nodes ↔ ((nodes < LEAST_NODES) ⊎ (MOST_NODES < nodes)) }
-    ensures workers { IsErrOf result NewError.Workers ↔ ((LEAST_NODES ≤ nodes) × (nodes ≤ MOST_NODES) × ((workers < 1) ⊎ (MOST_WORKERS < workers))) }
-{
-    let layout = layout_of(nodes, workers)?;
-    let (shared, passes) = Shared::new(alloc, layout)?;
-    let share = nodes / workers.max(1);
-    let made = workers_of(alloc, passes, fit, share)?;
-    Ok((Tree { shared }, made))
+    /// The same as `near` or, with `Fit::Lowest`, as `new`, but each announcement has a cache line of its own, and no node lies in two lines, so that
+    /// workers in threads of their own disturb each other less; and there may be more nodes, 7 to 268,435,456. It takes 32 bytes a node and a bit, 64 a
+    /// worker, the same again while it is made, and time for each node.
+    pub fn spaced(
+        alloc: Global,
+        nodes: u32,
+        workers: u32,
+        fit: Fit,
+    ) -> Result<(Tree, Vec<Worker>), NewError>
+        ensures layout { IfOk result (λ r. r.0.layout ≡ spaced nodes workers) }
+        ensures count { IfOk result (λ r. length r.1.items ≡ workers) }
+        ensures new { IfOk result (λ r. AreNew r.0 0 r.1.items) }
+        ensures fit { IfOk result (λ r. HaveFit fit r.1.items) }
+        ensures ready { IfOk result (λ r. All (IsReady r.0) r.1.items) }
+        ensures nodes { IsErrOf result NewError.Nodes ↔ ((nodes < LEAST_NODES) ⊎ (MOST_SPACED_NODES < nodes)) }
+        ensures workers { IsErrOf result NewError.Workers ↔ ((LEAST_NODES ≤ nodes) × (nodes ≤ MOST_SPACED_NODES) × ((workers < 1) ⊎ (MOST_WORKERS < workers))) }
+    {
+        Tree::of(alloc, spaced_layout_of(nodes, workers)?, fit)
+    }
+
+    /// The empty set of a layout and its workers, which claim by that fit. The only error is `NoMemory`, and then nothing is kept.
+    pub fn of(alloc: Global, layout: Layout, fit: Fit) -> Result<(Tree, Vec<Worker>), NewError>
+        ensures layout { IfOk result (λ r. r.0.layout ≡ layout) }
+        ensures count { IfOk result (λ r. length r.1.items ≡ layout.workers) }
+        ensures new { IfOk result (λ r. AreNew r.0 0 r.1.items) }
+        ensures fit { IfOk result (λ r. HaveFit fit r.1.items) }
+        ensures ready { IfOk result (λ r. All (IsReady r.0) r.1.items) }
+        ensures memory { IfErr result (λ e. e ≡ NewError.NoMemory) }
+    {
+        let (shared, passes) = Shared::new(alloc, layout)?;
+        // Cursors begin at equal distances.
+        let share = layout.nodes() / layout.workers().max(1);
+        let made = workers_of(alloc, passes, fit, share)?;
+        Ok((Tree { shared }, made))
+    }
 }
 
 /// A worker of a pass that has done nothing yet, with room for the queues of all origins. Its cursor stands behind a share of the slots for each lesser number.
@@ -120,6 +136,7 @@ fn worker_of(
         accounts,
         home: 0,
         standing: Standing::Resting,
+        chain: Chain::new(),
     })
 }
 

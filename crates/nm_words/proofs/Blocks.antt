@@ -1,41 +1,49 @@
--- Lists of blocks of four, one after the other; lists of a head and three parts; and what a function says of each number up to a bound:
+-- Lists of blocks of one length, one after the other; lists of a head and three parts; and what a function says of each number up to a bound:
 -- one element read, and one written.
 use Rattle.std.proofs.Common.{◌≡◌, ◌≢◌, ℕ, zero, suc, ◌+◌, ◌*◌, ◌<◌, ◌≤◌, List, [], ◌∷◌, ◌++◌, length, get_or, set, map, take, drop, refl, sym, ap, ◌∙◌, arith, get_or-set_same, get_or-set_other, length-set, length-append, get_or-append-add, ext_get_or, flat_map}
 use Rattle.std.specs.List.{range_with_len}
+use Rattle.std.proofs.Math.Nat.{mul-zero, mul-suc}
 use native.Mathlib.Decide.{ℕ_discrete}
 use Rattle.std.proofs.lemmas.List.{get_or_append_left, set-append_left, drop-set-add, drop-set-lt, take-set-le}
 use Rattle.std.proofs.lemmas.List.FromFn.{length-map-range_with_len, get_or-map-range_with_len}
 
 -- an element behind a front is written
-set-append-add : (xs ys : List ℕ) (k n : ℕ) → set (xs ++ ys) (length xs + k) n ≡ xs ++ set ys k n
+pub set-append-add : (xs ys : List ℕ) (k n : ℕ) → set (xs ++ ys) (length xs + k) n ≡ xs ++ set ys k n
 set-append-add [] ys k n = ap (λ i. set ys i n) (let e : 0 + k ≡ k = omega arith in e)
 set-append-add (x ∷ xs) ys k n =
     ap (λ i. set (x ∷ xs ++ ys) i n) (let e : suc (length xs) + k ≡ suc (length xs + k) = omega arith in e) ∙ ap (λ l. x ∷ l) (set-append-add xs ys k n)
 
--- ---- blocks of four
+-- ---- blocks of n
 
-module _ {X : Type 0} (f : X → List ℕ) (four : (x : X) → length (f x) ≡ 4) where
-  pub blocks_length : (xs : List X) → length (flat_map f xs) ≡ 4 * length xs
-  blocks_length [] = refl
-  blocks_length (x ∷ xs) = length-append (f x) (flat_map f xs) ∙ omega (arith, four x, blocks_length xs)
+module _ {X : Type 0} (f : X → List ℕ) (n : ℕ) (long : (x : X) → length (f x) ≡ n) where
+  pub blocks_length : (xs : List X) → length (flat_map f xs) ≡ n * length xs
+  blocks_length [] = sym (mul-zero n)
+  blocks_length (x ∷ xs) = length-append (f x) (flat_map f xs) ∙ (let more = mul-suc n (length xs) in omega (arith, long x, blocks_length xs, more))
 
-  pub blocks_read : (xs : List X) (i j : ℕ) (d : X) → j < 4 → i < length xs → get_or (flat_map f xs) (4 * i + j) 0 ≡ get_or (f (get_or xs i d)) j 0
+  -- where the blocks behind the first one begin
+  behind_first : (x : X) (i j : ℕ) → n * suc i + j ≡ length (f x) + (n * i + j)
+  behind_first x i j = let more = mul-suc n i in omega (arith, long x, more)
+
+  in_first : (j : ℕ) → n * 0 + j ≡ j
+  in_first j = let none = mul-zero n in omega (arith, none)
+
+  pub blocks_read : (xs : List X) (i j : ℕ) (d : X) → j < n → i < length xs → get_or (flat_map f xs) (n * i + j) 0 ≡ get_or (f (get_or xs i d)) j 0
   blocks_read [] i j d below inside = absurd (omega arith)
   blocks_read (x ∷ xs) zero j d below inside =
-      ap (λ k. get_or (f x ++ flat_map f xs) k 0) (let e : 4 * 0 + j ≡ j = omega arith in e) ∙ get_or_append_left (f x) (flat_map f xs) 0 j (omega (arith, four x))
+      ap (λ k. get_or (f x ++ flat_map f xs) k 0) (in_first j) ∙ get_or_append_left (f x) (flat_map f xs) 0 j (omega (arith, long x, below))
   blocks_read (x ∷ xs) (suc i) j d below inside =
-      ap (λ k. get_or (f x ++ flat_map f xs) k 0) (let e : 4 * suc i + j ≡ length (f x) + (4 * i + j) = omega (arith, four x) in e)
-      ∙ get_or-append-add (f x) (flat_map f xs) (4 * i + j) 0 ∙ blocks_read xs i j d below (omega arith)
+      ap (λ k. get_or (f x ++ flat_map f xs) k 0) (behind_first x i j)
+      ∙ get_or-append-add (f x) (flat_map f xs) (n * i + j) 0 ∙ blocks_read xs i j d below (omega (arith, inside))
 
   -- another block that differs from the one before in one element
-  pub blocks_written : (xs : List X) (i j v : ℕ) (d y : X) → j < 4 → i < length xs → f y ≡ set (f (get_or xs i d)) j v → flat_map f (set xs i y) ≡ set (flat_map f xs) (4 * i + j) v
+  pub blocks_written : (xs : List X) (i j v : ℕ) (d y : X) → j < n → i < length xs → f y ≡ set (f (get_or xs i d)) j v → flat_map f (set xs i y) ≡ set (flat_map f xs) (n * i + j) v
   blocks_written [] i j v d y below inside is = absurd (omega arith)
   blocks_written (x ∷ xs) zero j v d y below inside is =
-      ap (λ l. l ++ flat_map f xs) is ∙ sym (set-append_left (f x) (flat_map f xs) j v (omega (arith, four x)))
-      ∙ ap (λ k. set (f x ++ flat_map f xs) k v) (let e : j ≡ 4 * 0 + j = omega arith in e)
+      ap (λ l. l ++ flat_map f xs) is ∙ sym (set-append_left (f x) (flat_map f xs) j v (omega (arith, long x, below)))
+      ∙ ap (λ k. set (f x ++ flat_map f xs) k v) (sym (in_first j))
   blocks_written (x ∷ xs) (suc i) j v d y below inside is =
-      ap (λ l. f x ++ l) (blocks_written xs i j v d y below (omega arith) is) ∙ sym (set-append-add (f x) (flat_map f xs) (4 * i + j) v)
-      ∙ ap (λ k. set (f x ++ flat_map f xs) k v) (let e : length (f x) + (4 * i + j) ≡ 4 * suc i + j = omega (arith, four x) in e)
+      ap (λ l. f x ++ l) (blocks_written xs i j v d y below (omega (arith, inside)) is) ∙ sym (set-append-add (f x) (flat_map f xs) (n * i + j) v)
+      ∙ ap (λ k. set (f x ++ flat_map f xs) k v) (sym (behind_first x i j))
 
 -- ---- a head and three parts
 

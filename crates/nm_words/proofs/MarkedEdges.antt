@@ -1,25 +1,24 @@
 -- No null edge of a memory has a mark.
-use Rattle.std.proofs.Common.{◌≡◌, ◌≢◌, ℕ, zero, suc, ◌==◌, ◌≤◌, ◌+◌, ◌-◌, Bool, true, false, not, ◌&&◌, ◌||◌, cond, refl, sym, ap, subst, ◌∙◌, true≢false, arith}
-use Rattle.std.specs.Prelude.{Option, Some, None, is_none, is_some, nat_lt}
-use Rattle.std.proofs.lemmas.Bool.{cond_both, and_parts, or_parts, ltb-false}
-use Rattle.nm_edge.specs.Edges.{Edge, IsEdge, to, is_to, other, tagged, untagged}
+use Rattle.std.proofs.Common.{◌≡◌, ℕ, zero, suc, ◌==◌, ◌≤◌, ◌+◌, ◌-◌, Bool, true, false, not, refl, sym, ap, subst, ◌∙◌, true≢false, arith}
+use Rattle.std.specs.Prelude.{Option, Some, None, nat_lt}
+use Rattle.std.proofs.lemmas.Bool.{cond_both, or_parts, ltb-false}
+use Rattle.nm_edge.specs.Edges.{Edge, IsEdge, to, is_to, tagged, untagged}
 use Rattle.nm_edge.specs.Layouts.{Layout}
 use Rattle.nm_edge.specs.declared.edge.Side.{Side}
 use Rattle.nm_edge.specs.declared.edge.Side.TheVariants.{Left, Right}
-use Rattle.nm_model.specs.declared.event.Field.{Field}
 use Rattle.nm_model.specs.declared.event.Field.TheVariants.{Key, Edge as EdgeOn, Birth}
 use Rattle.nm_model.specs.declared.event.Event.{Event}
 use Rattle.nm_model.specs.declared.event.Event.TheVariants.{Sight, SightFor, Announce, Leave, LeaveWith, Scan, Advance, Claim, Give, Look, Fill, Link, Flag, Tag, Splice, Join}
 use Rattle.nm_model.specs.declared.memory.Node.{Node}
 use Rattle.nm_model.specs.Maps.{is_number}
 use Rattle.nm_model.specs.Memory.{Memory, node, edge, edge_of, blank, put_node, put_edge, with_edge}
-use Rattle.nm_model.specs.Knowledge.{Knowledge, knows, read, is_flagged, is_tagged, knows_leaf}
+use Rattle.nm_model.specs.Knowledge.{read}
 use Rattle.nm_model.specs.Learning.{flag_to}
 use Rattle.nm_model.specs.Step.{outside, filled, exchanged, kept, refusal, write}
 use Rattle.nm_model.specs.Runs.{State, of, start, applied, refusal_of}
 use Rattle.nm_model.specs.Laws.{OfEachState}
 use Rattle.nm_model.proofs.Numbers.{repeated}
-use Rattle.nm_laws.proofs.Steps.{Allowed, by_steps, passed, second, third, fourth}
+use Rattle.nm_laws.proofs.Steps.{Allowed, by_steps, passed}
 use Rattle.nm_laws.proofs.Lawful.{IsLawful, lawful_step, lawful_start}
 use Rattle.nm_words.specs.Packing.{NullEdgesAreUnmarked}
 use Rattle.nm_words.proofs.PackedSizes.{set_keeps}

@@ -1,8 +1,8 @@
 -- A whole memory as its words, one list in the order of the layout, and what each event does to it.
-use Rattle.std.specs.Prelude.{◌≡◌, ℕ, ◌+◌, ◌-◌, ◌*◌, ◌/◌, ◌^◌, ◌<◌, ◌≤◌, ◌==◌, ◌⊎◌, Bool, false, true, List, [], ◌∷◌, ◌++◌, map, flat_map, length, take, drop, if◌then◌else◌, slice_index, slice_set, bit_and, bit_or, Option, Some, None, unwrap_or, All}
+use Rattle.std.specs.Prelude.{◌≡◌, ℕ, ◌+◌, ◌-◌, ◌*◌, ◌/◌, ◌^◌, ◌<◌, ◌≤◌, ◌==◌, ◌⊎◌, Bool, false, true, List, [], ◌∷◌, ◌++◌, map, flat_map, replicate, length, take, drop, if◌then◌else◌, slice_index, slice_set, bit_and, bit_or, Option, Some, None, unwrap_or, All}
 use Rattle.std.specs.List.{range_with_len}
 use Rattle.nm_edge.specs.Edges.{Edge, IsEdge, word_of}
-use Rattle.nm_edge.specs.Layouts.{Layout}
+use Rattle.nm_edge.specs.Layouts.{Layout, dense}
 use Rattle.nm_edge.specs.Words.{Field, at_epoch, at_note, at_key, at_edge, at_birth, at_row, IsField, IsSlot, rows, word, words, pool_place}
 use Rattle.nm_edge.specs.declared.edge.Side.{Side}
 use Rattle.nm_model.specs.declared.event.Event.{Event}
@@ -42,9 +42,10 @@ number_of (b ∷ bs) = number_of bs * 2 + (if b then 1 else 0)
 abbrev pub row_word : Memory → ℕ → ℕ
 row_word m r = number_of (take 64 (drop (64 * r + 1) m.pool))
 
--- all words: the epoch, the notes, the nodes from slot 1 on, and the rows of the pool
+-- all words: the epoch; the notes, each with its gap of zeros behind it, and zeros before the first where there are gaps; the nodes from slot 1 on; and
+-- the rows of the pool
 abbrev pub words_of : Layout → Memory → List ℕ
-words_of L m = m.epoch ∷ (map note_word m.notes ++ (flat_map node_words (drop 1 m.nodes) ++ map (row_word m) (range_with_len 0 (rows L))))
+words_of L m = m.epoch ∷ ((replicate (L.gap - 2) 0 ++ flat_map (λ o. note_word o ∷ replicate L.gap 0) m.notes) ++ (flat_map node_words (drop 1 m.nodes) ++ map (row_word m) (range_with_len 0 (rows L))))
 
 -- the word of one field
 abbrev pub field_word : Memory → Field → ℕ
@@ -225,4 +226,4 @@ WordsStayBelow = (L : Layout) → 5 ≤ L.nodes → L.nodes < 2 ^ 32 → (turns 
 
 -- the last rows of the opening of 135 nodes and 2 workers: slots 6 to 64, 65 to 128 and 129 to 135 are in the pool
 abbrev pub OpeningOf135 : Type 0
-OpeningOf135 = drop 543 (words_of (record { nodes = 135; workers = 2 }) (opening (record { nodes = 135; workers = 2 }))) ≡ (2 ^ 64 - 32) ∷ (2 ^ 64 - 1) ∷ 127 ∷ []
+OpeningOf135 = drop 543 (words_of (dense 135 2) (opening (dense 135 2))) ≡ (2 ^ 64 - 32) ∷ (2 ^ 64 - 1) ∷ 127 ∷ []

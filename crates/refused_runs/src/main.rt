@@ -5,6 +5,7 @@
 mod schedules;
 
 ghost use Rattle.std.specs.Prelude.{◌≡◌, IfOk};
+ghost use Rattle.nm_edge.specs.Layouts.{dense};
 ghost use Rattle.nm_model.specs.Ordered.{opening_of, after_in};
 
 use crate::schedules::{CHAIN, in_order};
@@ -20,7 +21,7 @@ const WORKERS: u32 = 2;
 
 /// A core at its opening.
 fn open_once(alloc: Global, is_ordered: bool) -> std::result::Result<Core, NewError>
-    ensures { IfOk result (λ core. core ≡ opening_of (record { nodes = NODES; workers = WORKERS }) is_ordered) }
+    ensures { IfOk result (λ core. core ≡ opening_of (dense NODES WORKERS) is_ordered) }
 {
     if is_ordered {
         Core::ordered(alloc, NODES, WORKERS)
@@ -31,7 +32,7 @@ fn open_once(alloc: Global, is_ordered: bool) -> std::result::Result<Core, NewEr
 
 /// A core at its opening, made again where memory was refused.
 fn open(alloc: Global, is_ordered: bool) -> Result<Core>
-    ensures { IfOk result (λ core. core ≡ opening_of (record { nodes = NODES; workers = WORKERS }) is_ordered) }
+    ensures { IfOk result (λ core. core ≡ opening_of (dense NODES WORKERS) is_ordered) }
 {
     match open_once(alloc, is_ordered) {
         Err(NewError::NoMemory) => open_once(alloc, is_ordered).context("the core"),
@@ -95,7 +96,7 @@ fn is_left_by(
 
 /// Runs the events on a core at its opening. Where memory is refused, it compares what is left with what the events leave that were done, and runs the rest.
 fn play(alloc: Global, is_ordered: bool, events: &[(u32, Event)]) -> Result<Core>
-    ensures { IfOk result (λ core. core ≡ after_in (opening_of (record { nodes = NODES; workers = WORKERS }) is_ordered) events.now) }
+    ensures { IfOk result (λ core. core ≡ after_in (opening_of (dense NODES WORKERS) is_ordered) events.now) }
 {
     let mut core = open(alloc, is_ordered)?;
     let Err(error) = core.run(listed(alloc, events)?) else {

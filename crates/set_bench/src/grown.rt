@@ -6,7 +6,7 @@ use crate::habits::Habits;
 use crate::load::Load;
 use crate::trees::{Totals, fill_all, play_all};
 use anyhow::{Context, Result, ensure};
-use nm_tree::{Report, Tree, Worker};
+use nm_tree::{Fit, Report, Tree, Worker};
 use std::alloc::{AllocError, Global};
 use std::marker::Model;
 use std::mem;
@@ -90,13 +90,13 @@ impl Grown {
 
     /// An empty tree whose workers claim the lowest free slot.
     pub fn lowest(alloc: Global, nodes: u32, habits: Habits) -> Result<Grown> {
-        let (tree, workers) = Tree::new(alloc, nodes, habits.workers())?;
+        let (tree, workers) = Tree::spaced(alloc, nodes, habits.workers(), Fit::Lowest)?;
         Grown::of(alloc, tree, workers, habits)
     }
 
     /// An empty tree whose workers claim near by.
     pub fn near(alloc: Global, nodes: u32, habits: Habits) -> Result<Grown> {
-        let (tree, workers) = Tree::near(alloc, nodes, habits.workers())?;
+        let (tree, workers) = Tree::spaced(alloc, nodes, habits.workers(), Fit::Near)?;
         Grown::of(alloc, tree, workers, habits)
     }
 

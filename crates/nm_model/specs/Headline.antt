@@ -1,6 +1,6 @@
 -- The theorem, on one page. It speaks of the words of the tree at each moment and of the turns that were made, and of nothing else: a turn is an event of
 -- a worker with its outcome, and the words at a moment are those of the empty tree, changed by the turns so far as their replies tell.
-use Rattle.std.specs.Prelude.{◌≡◌, ◌↔◌, ◌⊎◌, ℕ, ◌≤◌, ◌==◌, Bool, true, false, not, ◌&&◌, ◌||◌, List, [], ◌∷◌, ◌++◌, map, filter, slice_get, slice_set, Contains, Some, None, option_map, Result, Ok, Err, if◌then◌else◌}
+use Rattle.std.specs.Prelude.{◌≡◌, ◌↔◌, ◌⊎◌, ℕ, ◌≤◌, ◌==◌, Bool, true, false, not, ◌&&◌, ◌||◌, List, [], ◌∷◌, ◌++◌, map, filter, slice_get, slice_set, Contains, Some, None, option_map, Result, Ok, if◌then◌else◌}
 use Rattle.std.specs.List.{list_any}
 use Rattle.nm_edge.specs.Edges.{to, tagged, untagged, other}
 use Rattle.nm_edge.specs.Layouts.{Layout}
@@ -19,31 +19,26 @@ use Rattle.nm_model.specs.Paths.{at, IsCut}
 
 -- ---- the words
 
--- an event that was answered so has written one word, or none
-abbrev pub written : Memory → ℕ → Event → Reply → Memory
-written m w Announce (Announced e) = record m { notes = slice_set m.notes w (Some e) }
-written m w Leave Departed = record m { notes = slice_set m.notes w None }
-written m w (LeaveWith answer) Departed = record m { notes = slice_set m.notes w None }
-written m w Advance (Moved e) = record m { epoch = e }
-written m w (Claim s) (Claimed t) = record m { pool = slice_set m.pool s false }
-written m w (Give s) (Returned t) = record m { pool = slice_set m.pool s true }
-written m w (Give s) (Freed n) = record m { pool = slice_set m.pool s true }
-written m w (Fill s Key v) Filled = put_node m s (record (node m s) { key = v })
-written m w (Fill s (EdgeOn side) v) Filled = put_edge m s side (to v)
-written m w (Fill s Birth v) Filled = put_node m s (record (node m s) { birth = v })
-written m w (Link p side leaf new) (Linked n) = put_edge m p side (to new)
-written m w (Flag p side leaf) (Flagged n) = put_edge m p side (record { slot = leaf; flag = true; tag = false })
-written m w (Tag p side) (Was e) = put_edge m p side (tagged e)
-written m w (Splice a side s p keep) (Cut ns) = put_edge m a side (untagged (edge m p keep))
+-- what an event with its outcome has written: one word, or none; where it was refused, none
+abbrev pub written : Memory → ℕ → Event → Result Reply Refused → Memory
+written m w Announce (Ok (Announced e)) = record m { notes = slice_set m.notes w (Some e) }
+written m w Leave (Ok Departed) = record m { notes = slice_set m.notes w None }
+written m w (LeaveWith answer) (Ok Departed) = record m { notes = slice_set m.notes w None }
+written m w Advance (Ok (Moved e)) = record m { epoch = e }
+written m w (Claim s) (Ok (Claimed t)) = record m { pool = slice_set m.pool s false }
+written m w (Give s) (Ok (Returned t)) = record m { pool = slice_set m.pool s true }
+written m w (Give s) (Ok (Freed n)) = record m { pool = slice_set m.pool s true }
+written m w (Fill s Key v) (Ok Filled) = put_node m s (record (node m s) { key = v })
+written m w (Fill s (EdgeOn side) v) (Ok Filled) = put_edge m s side (to v)
+written m w (Fill s Birth v) (Ok Filled) = put_node m s (record (node m s) { birth = v })
+written m w (Link p side leaf new) (Ok (Linked n)) = put_edge m p side (to new)
+written m w (Flag p side leaf) (Ok (Flagged n)) = put_edge m p side (record { slot = leaf; flag = true; tag = false })
+written m w (Tag p side) (Ok (Was e)) = put_edge m p side (tagged e)
+written m w (Splice a side s p keep) (Ok (Cut ns)) = put_edge m a side (untagged (edge m p keep))
 written m w _ _ = m
 
--- what was refused has written nothing
-abbrev pub written_by : Memory → ℕ → Event → Result Reply Refused → Memory
-written_by m w e (Ok r) = written m w e r
-written_by m w e (Err x) = m
-
 abbrev pub after_turn : Memory → Turn → Memory
-after_turn m t = written_by m t.worker t.event t.outcome
+after_turn m t = written m t.worker t.event t.outcome
 
 abbrev pub words_from : Memory → List Turn → Memory
 words_from m [] = m
@@ -66,23 +61,27 @@ Tells m _ r = Unit {0}
 -- ---- cuts
 
 -- the nodes that a turn says it cut, and the one that it says it freed
-abbrev pub nodes_cut : Result Reply Refused → List NodeId
-nodes_cut (Ok (Cut ns)) = ns
-nodes_cut _ = []
+abbrev pub nodes_cut_of : Result Reply Refused → List NodeId
+nodes_cut_of (Ok (Cut ns)) = ns
+nodes_cut_of _ = []
 
-abbrev pub nodes_freed : Result Reply Refused → List NodeId
-nodes_freed (Ok (Freed n)) = n ∷ []
-nodes_freed _ = []
+abbrev pub nodes_freed_of : Result Reply Refused → List NodeId
+nodes_freed_of (Ok (Freed n)) = n ∷ []
+nodes_freed_of _ = []
 
--- from a slot down to p: each internal node and then its flagged leaf, and on by its tagged edge; the last one is p, whose tagged edge is kept
-abbrev pub IsChain : Memory → ℕ → Side → ℕ → List ℕ → Type 0
-IsChain m p keep s [] = ⊥
-IsChain m p keep s (x ∷ []) = ⊥
-IsChain m p keep s (x ∷ leaf ∷ []) = (x ≡ s) × (x ≡ p) × ((edge m x keep).tag ≡ true) × ((edge m x (other keep)).flag ≡ true) × (child m x (other keep) ≡ leaf)
-IsChain m p keep s (x ∷ leaf ∷ y ∷ rest) = (x ≡ s) × (side : Side) × ((edge m x side).tag ≡ true) × ((edge m x (other side)).flag ≡ true) × (child m x (other side) ≡ leaf) × IsChain m p keep (child m x side) (y ∷ rest)
+-- a node's edge on a side is tagged, and the one beside it is flagged and leads to the leaf
+abbrev pub IsFrozenOver : Memory → ℕ → Side → ℕ → Type 0
+IsFrozenOver m x side leaf = ((edge m x side).tag ≡ true) × ((edge m x (other side)).flag ≡ true) × (child m x (other side) ≡ leaf)
 
-abbrev pub slots : List NodeId → List ℕ
-slots ns = map (λ n. n.slot) ns
+-- from a slot down to a parent: each internal node and then its flagged leaf, and on by its tagged edge; the last of these nodes is the parent,
+-- and its tagged edge is the one to keep
+abbrev pub IsFrozenChainTo : Memory → ℕ → Side → ℕ → List ℕ → Type 0
+IsFrozenChainTo m parent keep s (x ∷ leaf ∷ []) = (x ≡ s) × (x ≡ parent) × IsFrozenOver m x keep leaf
+IsFrozenChainTo m parent keep s (x ∷ leaf ∷ y ∷ rest) = (x ≡ s) × (side : Side) × IsFrozenOver m x side leaf × IsFrozenChainTo m parent keep (child m x side) (y ∷ rest)
+IsFrozenChainTo m parent keep s _ = ⊥
+
+abbrev pub slots_of : List NodeId → List ℕ
+slots_of ns = map (λ n. n.slot) ns
 
 -- the nodes that a won splice says it cut are a chain from its successor down to its parent, each with the birth that stood in its word
 pub record IsWonSplice (m : Memory) (e : Event) (ns : List NodeId) : Type 0 where
@@ -93,12 +92,16 @@ pub record IsWonSplice (m : Memory) (e : Event) (ns : List NodeId) : Type 0 wher
   pub keep : Side
   pub is_splice : e ≡ Splice ancestor side successor parent keep
   pub led : edge m ancestor side ≡ to successor
-  pub chain : IsChain m parent keep successor (slots ns)
-  pub births : ns ≡ map (named m) (slots ns)
+  pub chain : IsFrozenChainTo m parent keep successor (slots_of ns)
+  pub births : ns ≡ map (named m) (slots_of ns)
 
--- the nodes that were reached from the root before a turn and are not after it are those that it says it cut; only won splices say so
-pub record CutsJust (m : Memory) (t : Turn) : Type 0 where
-  pub just : (x : ℕ) → IsCut m (after_turn m t) x ↔ Contains (slots (nodes_cut t.outcome)) x
+-- from one moment to the next just these nodes were cut off: paths from the root reached them before, and none does after
+abbrev pub CutsJust : Memory → List NodeId → Memory → Type 0
+CutsJust before ns after = (x : ℕ) → IsCut before after x ↔ Contains (slots_of ns) x
+
+-- a turn cuts just the nodes that it says it cut, and only won splices say so
+pub record CutsItsNodes (m : Memory) (t : Turn) : Type 0 where
+  pub just : CutsJust m (nodes_cut_of t.outcome) (after_turn m t)
   pub splices : (ns : List NodeId) → t.outcome ≡ Ok (Cut ns) → IsWonSplice m t.event ns
 
 -- ---- what becomes of them
@@ -106,27 +109,27 @@ pub record CutsJust (m : Memory) (t : Turn) : Type 0 where
 -- the nodes that a worker cut, in the order of its cuts
 abbrev pub cuts_of : ℕ → List Turn → List NodeId
 cuts_of w [] = []
-cuts_of w (t ∷ ts) = (if t.worker == w then nodes_cut t.outcome else []) ++ cuts_of w ts
+cuts_of w (t ∷ ts) = (if t.worker == w then nodes_cut_of t.outcome else []) ++ cuts_of w ts
 
 -- the nodes that were freed, whoever freed them, in the order of the turns
-abbrev pub frees : List Turn → List NodeId
-frees [] = []
-frees (t ∷ ts) = nodes_freed t.outcome ++ frees ts
+abbrev pub freed_by : List Turn → List NodeId
+freed_by [] = []
+freed_by (t ∷ ts) = nodes_freed_of t.outcome ++ freed_by ts
 
 abbrev pub is_among : List NodeId → NodeId → Bool
 is_among ns n = list_any (λ m. (n.slot == m.slot) && (n.birth == m.birth)) ns
 
 -- those of a worker's cuts that were freed, in the order in which they were, and those that wait, in cut order
 abbrev pub freed_of : ℕ → List Turn → List NodeId
-freed_of w turns = filter (is_among (cuts_of w turns)) (frees turns)
+freed_of w turns = filter (is_among (cuts_of w turns)) (freed_by turns)
 
 abbrev pub waits_of : ℕ → List Turn → List NodeId
-waits_of w turns = filter (λ n. not (is_among (frees turns) n)) (cuts_of w turns)
+waits_of w turns = filter (λ n. not (is_among (freed_by turns) n)) (cuts_of w turns)
 
 -- each worker's cuts are freed in cut order; nothing else is freed; and no node, a slot with its birth, is cut twice
 pub record AreFreedInTurn (turns : List Turn) : Type 0 where
   pub queues : (w : ℕ) → freed_of w turns ++ waits_of w turns ≡ cuts_of w turns
-  pub only : (n : NodeId) → Contains (frees turns) n → (w : ℕ) × Contains (cuts_of w turns) n
+  pub only : (n : NodeId) → Contains (freed_by turns) n → (w : ℕ) × Contains (cuts_of w turns) n
   pub once : (w v i j : ℕ) (n : NodeId) → slice_get (cuts_of w turns) i ≡ Some n → slice_get (cuts_of v turns) j ≡ Some n → (w ≡ v) × (i ≡ j)
 
 -- ---- grace
@@ -162,7 +165,7 @@ pub record IsPinned (w : ℕ) (turns : List Turn) : Type 0 where
 -- where a node is cut by one turn and freed by a later one, each worker that was pinned at the cut, the remover too, has left between the two
 abbrev pub Grace : List Turn → Type 0
 Grace turns = (before between rest : List Turn) (cut free : Turn) (n : NodeId) → turns ≡ before ++ cut ∷ (between ++ free ∷ rest)
-    → Contains (nodes_cut cut.outcome) n → Contains (nodes_freed free.outcome) n
+    → Contains (nodes_cut_of cut.outcome) n → Contains (nodes_freed_of free.outcome) n
     → (w : ℕ) → IsPinned w before → HasLeft w between
 
 -- ---- places
@@ -231,7 +234,7 @@ pub record Headline (L : Layout) (turns : List Turn) : Type 0 where
   -- what is read is what the turns have written
   pub reads : (before rest : List Turn) (t : Turn) (r : Reply) → turns ≡ before ++ t ∷ rest → t.outcome ≡ Ok r → Tells (words_after L before) t.event r
   -- each turn cuts just the nodes that it says it cut
-  pub cuts : (before rest : List Turn) (t : Turn) → turns ≡ before ++ t ∷ rest → CutsJust (words_after L before) t
+  pub cuts : (before rest : List Turn) (t : Turn) → turns ≡ before ++ t ∷ rest → CutsItsNodes (words_after L before) t
   -- at each moment what was freed and then what waits of each worker's cuts are these cuts, in their order, and no node is cut twice
   pub queues : (so_far rest : List Turn) → turns ≡ so_far ++ rest → AreFreedInTurn so_far
   -- nothing is freed while a worker that was pinned at its cut has not left

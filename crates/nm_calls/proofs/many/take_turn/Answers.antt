@@ -1,0 +1,16 @@
+use Rattle.std.proofs.Common.{sym, subst}
+use Rattle.nm_calls.specs.InTurns.{IsUnderWay}
+use Rattle.nm_calls.specs.Telling.{OnwardTold}
+use Rattle.nm_calls.specs.Walks.{Reads}
+use Rattle.nm_calls.proofs.InTurnsLooks.{gone_on}
+use Rattle.nm_calls.proofs.many.take_turn.Goals as goal
+
+pub returns-clause-under_way : goal.returns-clause-under_way
+returns-clause-under_way c =
+    let p = c.args.pass.now in
+    let q = c.read_node-on.new.pass in
+    let query = c.args.query.now in
+    let on = c.read_node-on.result in
+    subst (IsUnderWay q) (sym c.read_so.ensures.query)
+    (gone_on p q query on (subst (λ k. Reads k query.node p.view.log q.view.log on) c.get.ensures.number c.read_node-on.ensures.looks)
+    (subst (λ k. OnwardTold p q k query.node on.found on.side on.next) c.get.ensures.number c.read_node-on.ensures.told) c.requires.under_way c.if-query-eq0.false)

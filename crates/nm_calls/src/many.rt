@@ -1,0 +1,188 @@
+//! Look-ups of several keys under one pin, whose walks go on in turns.
+ghost use Rattle.std.specs.Prelude.{◌≡◌, ◌≤◌, ◌+◌, ◌*◌, length, map, true, All, IfOk, IfErr};
+ghost use Rattle.nm_edge.specs.Keys.{IsKey};
+ghost use Rattle.nm_order.specs.Facts.Fact.{KnowsSlot};
+ghost use Rattle.nm_steps.specs.Steps.{IsOf, IsSamePass, HasSeenAllOf};
+ghost use Rattle.nm_epoch.specs.Resting.{IsResting, KeepsHands};
+ghost use Rattle.nm_calls.specs.InTurns.{AddsLooks, LooksUnderPin, LooksOrMoves, HasBegun, IsUnderWay, WasSo, key_of, most_looks, read_on};
+ghost use Rattle.nm_calls.specs.Telling.{Tells, GoesOn, OnlyLooks, IsInRun, IsPinnedSomewhere};
+ghost use Rattle.nm_calls.specs.Won.{HasWon, won_splices};
+
+use crate::looking::{Onward, look_edge, read_node};
+use crate::lookup::Busy;
+use nm_edge::{Key, Side};
+use nm_epoch::{pin, unpin};
+use nm_steps::{Pass, Shared};
+
+/// A key that is looked up beside others, and the answer, which is one once `has_many` has answered.
+#[derive(Clone, Copy, Debug)]
+pub struct Query {
+    pub key: Key,
+    /// Whether the set had the key.
+    pub found: bool,
+    // The node that its walk reads next; 0 where there is none.
+    node: u32,
+}
+
+impl Query {
+    /// A query of the key, which has no answer yet: `found` is false.
+    pub fn new(key: Key) -> Query
+        ensures { result.key ≡ key }
+    {
+        Query {
+            key,
+            found: false,
+            node: 0,
+        }
+    }
+}
+
+/// Whether the set has each of these keys, as `has` tells it, by walks that go on in turns, so that the loads of one go on while the others
+/// wait for theirs. Each answer is right at a moment of this call; two answers may be of different moments.
+///
+/// The worker rests before and after. `Err`: `tries` is 0, and there was no step; or the pin was lost in each of `tries` tries; or one of the walks
+/// had looked at as many nodes as there are, and had not ended. Then no `found` means anything. The keys stay. At most 3 `tries` + 3 steps, and
+/// 3 `nodes` for each key. (The search of Natarajan and Mittal, section 3.2.)
+pub fn has_many(
+    shared: &Shared,
+    pass: &mut Pass,
+    queries: &mut [Query],
+    tries: u32,
+) -> Result<(), Busy>
+    requires own { IsOf shared.now pass.old }
+    requires rests { IsResting pass.old }
+    ensures same { IsSamePass pass.old pass.new }
+    ensures past { HasSeenAllOf pass.new pass.old }
+    ensures did { IfOk result (λ u. LooksUnderPin tries (most_looks shared.now.layout.nodes (length queries.old)) pass.old.view.log pass.new.view.log) }
+    ensures keys { map key_of queries.new ≡ map key_of queries.old }
+    ensures moment { IfOk result (λ u. All (λ q. WasSo pass.old pass.new q.key q.found) queries.new) }
+    ensures missed { IfErr result (λ e. LooksOrMoves tries (most_looks shared.now.layout.nodes (length queries.old)) pass.old.view.log pass.new.view.log) }
+    ensures won { HasWon pass.old.view.log pass.new.view.log 0 0 }
+    ensures uncut { won_splices pass.new.view.log ≡ won_splices pass.old.view.log }
+    ensures steps { length pass.new.view.log ≤ length pass.old.view.log + 3 * tries + most_looks shared.now.layout.nodes (length queries.old) + 2 }
+    ensures rests { IsResting pass.new }
+    ensures hands { KeepsHands pass.old pass.new }
+{
+    if tries == 0 {
+        return Err(Busy);
+    }
+    pass.is_of_a_run();
+    let Ok(_epoch) = pin(shared, pass, tries) else {
+        return Err(Busy);
+    };
+    let ended = walk_all(shared, pass, queries);
+    pass.is_of_a_run();
+    unpin(shared, pass);
+    if ended { Ok(()) } else { Err(Busy) }
+}
+
+/// Walks for each of these keys, in turns, until all walks have ended. False where they have taken as many turns as there are nodes.
+fn walk_all(shared: &Shared, pass: &mut Pass, queries: &mut [Query]) -> bool
+    requires own { IsOf shared.now pass.old }
+    requires run { IsInRun pass.old }
+    requires pinned { IsPinnedSomewhere pass.old }
+    requires known { Tells pass.old (KnowsSlot 2) }
+    ensures same { IsSamePass pass.old pass.new }
+    ensures past { HasSeenAllOf pass.new pass.old }
+    ensures looks { AddsLooks (most_looks shared.now.layout.nodes (length queries.old)) pass.old.view.log pass.new.view.log }
+    ensures under_way { All (IsUnderWay pass.new) queries.new }
+    ensures ended { result ≡ true → All (λ q. q.node ≡ 0) queries.new }
+    ensures keys { map key_of queries.new ≡ map key_of queries.old }
+    ensures on { GoesOn pass.old pass.new }
+    ensures only { OnlyLooks pass.old pass.new }
+{
+    // One look at the left edge of slot 2 serves all of them.
+    let first = look_edge(shared, pass, 2, Side::Left).slot();
+    begin_each(queries, first);
+    for _turn in 0..shared.layout().nodes() {
+        take_turns(shared, pass, queries);
+        if have_ended(queries) {
+            return true;
+        }
+    }
+    false
+}
+
+/// Begins a walk for each of these keys, which reads this node first.
+fn begin_each(queries: &mut [Query], first: u32)
+    ensures begun { All (HasBegun first) queries.new }
+    ensures keys { map key_of queries.new ≡ map key_of queries.old }
+{
+    for index in 0..queries.len() {
+        let begun = begun_at(&queries[index], first);
+        queries[index] = begun;
+    }
+}
+
+/// Takes each walk that has not ended a node further.
+fn take_turns(shared: &Shared, pass: &mut Pass, queries: &mut [Query])
+    requires own { IsOf shared.now pass.old }
+    requires run { IsInRun pass.old }
+    requires pinned { IsPinnedSomewhere pass.old }
+    requires under_way { All (IsUnderWay pass.old) queries.old }
+    ensures same { IsSamePass pass.old pass.new }
+    ensures past { HasSeenAllOf pass.new pass.old }
+    ensures looks { AddsLooks (3 * length queries.old) pass.old.view.log pass.new.view.log }
+    ensures under_way { All (IsUnderWay pass.new) queries.new }
+    ensures keys { map key_of queries.new ≡ map key_of queries.old }
+    ensures on { GoesOn pass.old pass.new }
+    ensures only { OnlyLooks pass.old pass.new }
+{
+    for index in 0..queries.len() {
+        let next = take_turn(shared, pass, &queries[index]);
+        queries[index] = next;
+    }
+}
+
+/// The query with its walk a node further, if it has not ended. At most three looks.
+fn take_turn(shared: &Shared, pass: &mut Pass, query: &Query) -> Query
+    requires own { IsOf shared.now pass.old }
+    requires run { IsInRun pass.old }
+    requires pinned { IsPinnedSomewhere pass.old }
+    requires under_way { IsUnderWay pass.old query.now }
+    ensures same { IsSamePass pass.old pass.new }
+    ensures past { HasSeenAllOf pass.new pass.old }
+    ensures looks { AddsLooks 3 pass.old.view.log pass.new.view.log }
+    ensures under_way { IsUnderWay pass.new result }
+    ensures key { result.key ≡ query.now.key }
+    ensures on { GoesOn pass.old pass.new }
+    ensures only { OnlyLooks pass.old pass.new }
+{
+    if query.node == 0 {
+        return *query;
+    }
+    let on = read_node(shared, pass, query.node, query.key.get());
+    read_so(query, &on)
+}
+
+/// The query whose walk has read its node so.
+fn read_so(query: &Query, on: &Onward) -> Query
+    ensures query { result ≡ read_on query.now on.now }
+    ensures key { IsKey query.now.key }
+{
+    Query {
+        key: query.key,
+        found: on.found == query.key.get(),
+        node: on.next.slot(),
+    }
+}
+
+/// The query at the beginning of its walk, which reads this node first.
+fn begun_at(query: &Query, first: u32) -> Query
+    ensures begun { HasBegun first result }
+    ensures key { result.key ≡ query.now.key }
+{
+    let _key = query.key.get();
+    Query {
+        key: query.key,
+        found: false,
+        node: first,
+    }
+}
+
+/// Whether no walk has a node to read.
+fn have_ended(queries: &[Query]) -> bool
+    ensures { result ≡ true → All (λ q. q.node ≡ 0) queries.now }
+{
+    queries.iter().all(|query| query.node == 0)
+}

@@ -1,0 +1,149 @@
+//! Posts: where a worker leaves a note of what it has seen, for the other workers of its tree.
+#![tactic(auto, using(crate::proofs::Letters::tally, crate::proofs::Letters::own_letter, crate::proofs::Letters::same_letter, crate::proofs::Letters::heard_of))]
+
+ghost use Rattle.std.specs.Prelude.{◌≡◌, IfSome};
+ghost use Rattle.nm_steps.specs.Steps.{IsOf};
+ghost use Rattle.nm_set.specs.Posts.{HasTally, Hears, IsLetter};
+
+use crate::fault::PostFault;
+use crate::home::Site;
+use counted_slot::{Counted, FREE, Fits, MARKED, PRESENT, TAKEN};
+use nm_steps::Note;
+use nm_tree::{Tree, Worker};
+
+/// What a worker had won when it left a note.
+#[derive(Clone, Copy, Debug, PartialEq, Eq)]
+pub struct Posted {
+    /// Its links: one for each key that it had inserted.
+    pub links: u64,
+    /// Its flags: one for each key that it had deleted, a pending one too.
+    pub flags: u64,
+}
+
+/// A note, with what the worker that left it had won by then.
+#[derive(Drop)]
+pub(crate) struct Letter {
+    note: Note,
+    posted: Posted,
+}
+
+impl Fits for Letter {
+    type Tag = (Site, u32);
+
+    ghost fits = { λ place l. IsLetter place.0.tree place.1 l.posted l.note };
+}
+
+/// Where one worker of one tree leaves its letter. Its word is `FREE` until it has left one, `PRESENT` while a letter lies there, and `MARKED` while a
+/// reader has that in its hands.
+pub(crate) type Post = Counted<Option<Letter>>;
+
+/// A post where no letter was left yet.
+pub(crate) fn empty_post(place: &(Site, u32)) -> Post
+    ensures { result ≡ place.now }
+{
+    Counted::new(None, place)
+}
+
+/// A worker leaves a letter on its own post, in place of its earlier one, with a note of all that it has seen: what it has won so far. `None`: a reader
+/// has the earlier one at this moment, and that stays.
+pub(crate) fn leave_letter(tree: &Tree, post: &Post, worker: &mut Worker) -> Option<Posted>
+    requires own { IsOf tree.now worker.old.pass }
+    requires tree { post.now.0.tree ≡ tree.now }
+    requires number { post.now.1 ≡ worker.old.pass.view.number }
+    ensures same { worker.new ≡ worker.old }
+    ensures tally { IfSome result (λ p. HasTally p worker.old.pass.view.log) }
+{
+    worker.is_of_a_run();
+    let posted = tally_of(worker);
+    let note = tree.note(worker);
+    if lay_down(post, Letter { note, posted }) {
+        Some(posted)
+    } else {
+        None
+    }
+}
+
+/// What a worker has won so far.
+fn tally_of(worker: &Worker) -> Posted
+    ensures { HasTally result worker.now.pass.view.log }
+{
+    let counts = worker.ledger();
+    Posted {
+        links: counts.links,
+        flags: counts.flags,
+    }
+}
+
+/// A worker hears the letter on a post and leaves it there, with a note of all that it has seen then: what had been won. `None`: no letter was left.
+pub(crate) fn read_letter(
+    tree: &Tree,
+    post: &Post,
+    worker: &mut Worker,
+) -> Result<Option<Posted>, PostFault>
+    requires own { IsOf tree.now worker.old.pass }
+    requires tree { post.now.0.tree ≡ tree.now }
+    ensures { Hears tree.now post.now.1 worker.old worker.new result }
+{
+    let Some(found) = take_up(post) else {
+        return Err(PostFault::Busy);
+    };
+    let Some(letter) = found else {
+        return Ok(None);
+    };
+    let Letter { note, posted } = letter;
+    tree.hear(worker, note);
+    let note = tree.note(worker);
+    put_back(post, Letter { note, posted });
+    Ok(Some(posted))
+}
+
+/// Lays a letter down where no reader has the one before. Else nothing has changed: false.
+fn lay_down(post: &Post, letter: Letter) -> bool
+    requires { IsLetter post.now.0.tree post.now.1 letter.posted letter.note }
+{
+    let (found, claim) = post.turn(PRESENT, TAKEN);
+    if found == PRESENT {
+        claim.put(Some(letter), PRESENT);
+        return true;
+    }
+    claim.done();
+    lay_first(post, letter)
+}
+
+/// Lays a letter down where none was left yet. Else nothing has changed: false.
+fn lay_first(post: &Post, letter: Letter) -> bool
+    requires { IsLetter post.now.0.tree post.now.1 letter.posted letter.note }
+{
+    let (found, claim) = post.turn(FREE, TAKEN);
+    if found == FREE {
+        claim.put(Some(letter), PRESENT);
+        return true;
+    }
+    claim.done();
+    false
+}
+
+/// Takes the letter on a post into its hands, until `put_back`; `None` in the inner place where none was left yet. `None` in the outer one: another worker
+/// is at the post.
+fn take_up(post: &Post) -> Option<Option<Letter>>
+    ensures { IfSome result (λ found. IfSome found (λ l. IsLetter post.now.0.tree post.now.1 l.posted l.note)) }
+{
+    let (found, claim) = post.turn(PRESENT, TAKEN);
+    if found == PRESENT {
+        return Some(claim.put(None, MARKED));
+    }
+    claim.done();
+    if found == FREE { Some(None) } else { None }
+}
+
+/// Puts a letter back on the post from which it was taken. Only who took it up puts it back: so the post is as it was left then.
+fn put_back(post: &Post, letter: Letter)
+    requires { IsLetter post.now.0.tree post.now.1 letter.posted letter.note }
+{
+    let (found, claim) = post.turn(MARKED, TAKEN);
+    if found == MARKED {
+        claim.put(Some(letter), PRESENT);
+        return;
+    }
+    claim.done();
+}

@@ -1,0 +1,15 @@
+use Rattle.std.proofs.Common.{rules, ◌≡◌}
+use Rattle.nm_set_c.specs.Handles.{held_by}
+use Rattle.nm_set_c.specs.Notes.{DoesRead}
+use Rattle.nm_set_c.specs.declared.outcome.Outcome.TheVariants.{Kind}
+use Rattle.nm_set_c.proofs.Owners.{told_worker, other_worker}
+use Rattle.nm_set_c.proofs.notes.nm_worker_read.Goals as goal
+use Rattle.nm_set_c.proofs.notes.nm_worker_read.Goals.{in-Worker, in_default}
+
+pub returns : goal.returns
+returns c =
+    let Same : Type 0 = (c.match-deref_mut.links ≡ c.args.links.now) × (c.match-deref_mut.flags ≡ c.args.flags.now) in
+    elim c.match-deref_mut.branch [
+      | in-Worker w ↦ (w.read-outcome.result, search rules, told_worker (DoesRead c.args.number c.args.links.now c.match-deref_mut.links c.args.flags.now c.match-deref_mut.flags) Same (held_by c.args.worker.now) (held_by c.put.new.self) w.in-Worker.member w.read-outcome.new.member w.read-outcome.result (search rules) (search rules) (search rules))
+      | in_default w ↦ (Kind, search rules, other_worker (DoesRead c.args.number c.args.links.now c.match-deref_mut.links c.args.flags.now c.match-deref_mut.flags) Same (held_by c.args.worker.now) (held_by c.put.new.self) c.deref_mut.result.now w.in_default.not-Worker (search rules) (search rules) (w.links-is, w.flags-is))
+    ]

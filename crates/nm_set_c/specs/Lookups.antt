@@ -1,0 +1,49 @@
+-- What a call that looks several keys up tells and leaves: m is the worker before the call, n the worker after it, and o the outcome that is told.
+use Rattle.std.specs.Prelude.{◌≡◌, ◌⊎◌, ℕ, Bool, true, false, List, map, All, Result, Ok, Err, IfOk, IfErr}
+use Rattle.nm_edge.specs.Keys.{IsKey}
+use Rattle.nm_calls.specs.declared.many.Query.{Query}
+use Rattle.nm_calls.specs.InTurns.{key_of}
+use Rattle.nm_set.specs.declared.fault.Fault.{Fault}
+use Rattle.nm_set.specs.InTurns.{AskedMany}
+use Rattle.nm_set.specs.Seats.{Seated}
+use Rattle.nm_set_c.specs.Outcomes.{of_fault}
+use Rattle.nm_set_c.specs.declared.many.Lookup.{Lookup}
+use Rattle.nm_set_c.specs.declared.outcome.Outcome.{Outcome}
+use Rattle.nm_set_c.specs.declared.outcome.Outcome.TheVariants as outcome
+
+abbrev pub number_of : Lookup → ℕ
+number_of l = l.key
+
+-- a query with its answer, as it is written
+abbrev pub bit_of : Bool → ℕ
+bit_of true = 1
+bit_of false = 0
+
+abbrev pub lookup_of : Query → Lookup
+lookup_of q = record { key = q.key; found = bit_of q.found }
+
+abbrev pub AreKeys : List Lookup → Type 0
+AreKeys ls = All (λ l. IsKey l.key) ls
+
+-- nothing was asked: memory was refused, or one of the numbers is no key
+abbrev pub IsUnasked : List Lookup → Outcome → Type 0
+IsUnasked ls o = (o ≡ outcome.NoMemory) ⊎ ((o ≡ outcome.Key) × (AreKeys ls → ⊥))
+
+abbrev pub of_many : Result (Unit {0}) Fault → Outcome
+of_many (Ok u) = outcome.Done
+of_many (Err f) = of_fault f
+
+-- the worker's call looks these keys up, and what it answers is told; its answers are written where it has answered, and else nothing is
+pub record LooksUp (tries : ℕ) (old new : List Lookup) (m n : Seated) (o : Outcome) : Type 0 where
+  pub asked : List Query
+  pub answered : List Query
+  pub keys : map key_of asked ≡ map number_of old
+  pub answer : Result (Unit {0}) Fault
+  pub told : o ≡ of_many answer
+  pub board : n.board ≡ m.board
+  pub did : AskedMany m.board.layout.nodes tries asked answered m.hand n.hand answer
+  pub written : IfOk answer (λ u. new ≡ map lookup_of answered)
+  pub kept : IfErr answer (λ f. new ≡ old)
+
+abbrev pub DoesHasMany : ℕ → List Lookup → List Lookup → Seated → Seated → Outcome → Type 0
+DoesHasMany tries old new m n o = (IsUnasked old o × (n ≡ m) × (new ≡ old)) ⊎ LooksUp tries old new m n o

@@ -1,0 +1,110 @@
+//! Keys that are looked up together, by the handle of a worker.
+#![tactic(auto, using(crate::proofs::Owners::refused_worker, crate::proofs::Owners::told_worker, crate::proofs::Owners::other_worker))]
+
+ghost use Rattle.std.specs.Prelude.{◌≡◌, length, map, IfOk, IfErr};
+ghost use Rattle.nm_calls.specs.InTurns.{key_of};
+ghost use Rattle.nm_set.specs.InTurns.{AskedMany};
+ghost use Rattle.nm_set_c.specs.Handles.{held_by};
+ghost use Rattle.nm_set_c.specs.Lookups.{AreKeys, DoesHasMany, IsUnasked, lookup_of, number_of};
+ghost use Rattle.nm_set_c.specs.Outcomes.{Tells};
+ghost use Rattle.nm_set_c.specs.Owners.{OfWorker};
+
+use crate::handle::Handle;
+use crate::outcome::Outcome;
+use crate::owner::Owner;
+use nm_edge::Key;
+use nm_set::{Fault, Member, Query};
+use std::alloc::Global;
+
+/// A key that is looked up beside others, and whether it is in the set.
+#[repr(C)]
+#[derive(Clone, Copy, Debug)]
+pub struct Lookup {
+    /// The key, 0 to 2^64 - 4.
+    pub key: u64,
+    /// 1 where the set had the key, else 0.
+    pub found: u64,
+}
+
+/// Whether the set has each of these keys: `Member::has_many` of `nm_set`. `Done`, and each `found` is written; `Key`, where one of the numbers is no
+/// key; `Busy`, `Pending`, `Held`, `NoMemory`; `Closed`, `InUse`, `Kind`.
+#[unsafe(no_mangle)]
+pub extern "C" fn nm_worker_has_many(
+    alloc: Global,
+    worker: &mut Handle,
+    lookups: &mut [Lookup],
+    tries: u32,
+) -> i32
+    ensures { Tells (OfWorker (DoesHasMany tries lookups.old lookups.new) (lookups.new ≡ lookups.old) (held_by worker.old) (held_by worker.new)) result }
+{
+    let mut owner = match worker.claim(alloc) {
+        Ok(owner) => owner,
+        Err(told) => return told.code(),
+    };
+    let outcome = match &mut *owner {
+        Owner::Worker(member) => has_many(alloc, member, lookups, tries),
+        _ => Outcome::Kind,
+    };
+    worker.put(owner);
+    outcome.code()
+}
+
+fn has_many(alloc: Global, member: &mut Member, lookups: &mut [Lookup], tries: u32) -> Outcome
+    ensures { DoesHasMany tries lookups.old lookups.new member.old member.new result }
+{
+    let mut queries = match queries_of(alloc, lookups) {
+        Ok(queries) => queries,
+        Err(told) => return told,
+    };
+    match ask(member, &mut queries, tries) {
+        Ok(()) => {
+            write_found(lookups, &queries);
+            Outcome::Done
+        }
+        Err(fault) => Outcome::of_fault(fault),
+    }
+}
+
+/// Asks the worker for all of these.
+fn ask(member: &mut Member, queries: &mut Vec<Query>, tries: u32) -> Result<(), Fault>
+    ensures board { member.new.board ≡ member.old.board }
+    ensures did { AskedMany member.old.board.layout.nodes tries queries.old.items queries.new.items member.old.hand member.new.hand result }
+{
+    member.has_many(queries.as_mut_slice(), tries)
+}
+
+/// A query of each of these keys.
+fn queries_of(alloc: Global, lookups: &[Lookup]) -> Result<Vec<Query>, Outcome>
+    ensures keys { IfOk result (λ v. map key_of v.items ≡ map number_of lookups.now) }
+    ensures unasked { IfErr result (λ o. IsUnasked lookups.now o) }
+{
+    let mut queries = Vec::new(alloc);
+    for lookup in lookups {
+        let Some(key) = Key::new(lookup.key) else {
+            return Err(Outcome::Key);
+        };
+        if queries.push(Query::new(key)).is_err() {
+            return Err(Outcome::NoMemory);
+        }
+    }
+    Ok(queries)
+}
+
+/// Writes each query with its answer.
+fn write_found(lookups: &mut [Lookup], queries: &[Query])
+    requires { length queries.now ≡ length lookups.old }
+    ensures { lookups.new ≡ map lookup_of queries.now }
+{
+    for index in 0..lookups.len() {
+        lookups[index] = answered(&queries[index]);
+    }
+}
+
+fn answered(query: &Query) -> Lookup
+    ensures { result ≡ lookup_of query.now }
+{
+    Lookup {
+        key: query.key.get(),
+        found: u64::from(query.found),
+    }
+}

@@ -1,0 +1,89 @@
+//! Notes of what a worker has seen, by its handle: left on its post, and read by another worker of its set.
+#![tactic(auto, using(crate::proofs::Owners::refused_worker, crate::proofs::Owners::told_worker, crate::proofs::Owners::other_worker))]
+
+ghost use Rattle.std.specs.Prelude.{◌≡◌};
+ghost use Rattle.nm_set_c.specs.Handles.{held_by};
+ghost use Rattle.nm_set_c.specs.Notes.{DoesPost, DoesRead};
+ghost use Rattle.nm_set_c.specs.Outcomes.{Tells};
+ghost use Rattle.nm_set_c.specs.Owners.{OfWorker};
+
+use crate::handle::Handle;
+use crate::outcome::Outcome;
+use crate::owner::Owner;
+use nm_set::{Member, PostFault};
+use std::alloc::Global;
+
+/// Leaves a note of all that the worker has seen, in place of its earlier one, and writes the links and the flags that it has won so far: `Done`:
+/// `Member::post` of `nm_set`. `Busy`: a reader has the earlier note at this moment. `Closed`, `InUse`, `Kind`.
+#[unsafe(no_mangle)]
+pub extern "C" fn nm_worker_post(
+    alloc: Global,
+    worker: &mut Handle,
+    links: &mut u64,
+    flags: &mut u64,
+) -> i32
+    ensures { Tells (OfWorker (DoesPost links.old links.new flags.old flags.new) ((links.new ≡ links.old) × (flags.new ≡ flags.old)) (held_by worker.old) (held_by worker.new)) result }
+{
+    let mut owner = match worker.claim(alloc) {
+        Ok(owner) => owner,
+        Err(told) => return told.code(),
+    };
+    let outcome = match &mut *owner {
+        Owner::Worker(member) => post(member, links, flags),
+        _ => Outcome::Kind,
+    };
+    worker.put(owner);
+    outcome.code()
+}
+
+fn post(member: &mut Member, links: &mut u64, flags: &mut u64) -> Outcome
+    ensures { DoesPost links.old links.new flags.old flags.new member.old member.new result }
+{
+    match member.post() {
+        Some(posted) => {
+            *links = posted.links;
+            *flags = posted.flags;
+            Outcome::Done
+        }
+        None => Outcome::Busy,
+    }
+}
+
+/// Hears the note that the worker of a number has left, and writes the links and the flags that that one had won then: `Yes`; `No`, where it has left
+/// none: `Member::read` of `nm_set`. `Number`; `Busy`: another worker is at that note at this moment. `Closed`, `InUse`, `Kind`.
+#[unsafe(no_mangle)]
+pub extern "C" fn nm_worker_read(
+    alloc: Global,
+    worker: &mut Handle,
+    number: u32,
+    links: &mut u64,
+    flags: &mut u64,
+) -> i32
+    ensures { Tells (OfWorker (DoesRead number links.old links.new flags.old flags.new) ((links.new ≡ links.old) × (flags.new ≡ flags.old)) (held_by worker.old) (held_by worker.new)) result }
+{
+    let mut owner = match worker.claim(alloc) {
+        Ok(owner) => owner,
+        Err(told) => return told.code(),
+    };
+    let outcome = match &mut *owner {
+        Owner::Worker(member) => read(member, number, links, flags),
+        _ => Outcome::Kind,
+    };
+    worker.put(owner);
+    outcome.code()
+}
+
+fn read(member: &mut Member, number: u32, links: &mut u64, flags: &mut u64) -> Outcome
+    ensures { DoesRead number links.old links.new flags.old flags.new member.old member.new result }
+{
+    match member.read(number) {
+        Ok(Some(posted)) => {
+            *links = posted.links;
+            *flags = posted.flags;
+            Outcome::Yes
+        }
+        Ok(None) => Outcome::No,
+        Err(PostFault::Number) => Outcome::Number,
+        Err(PostFault::Busy) => Outcome::Busy,
+    }
+}

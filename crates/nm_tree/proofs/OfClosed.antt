@@ -1,0 +1,112 @@
+-- What follows of each closed tree: its queues are the rest of the cuts, each slot stands once, and its run is as every run.
+use Rattle.std.proofs.Common.{◌≡◌, ℕ, zero, suc, ◌<◌, ◌≤◌, inl, inr, true, List, [], ◌∷◌, ◌++◌, map, length, append-nil, refl, sym, ap, ◌∙◌, arith, true≢false}
+use Rattle.std.specs.Prelude.{Some, option_map, slice_get}
+use Rattle.std.proofs.lemmas.Bool.{cases_lt}
+use Rattle.std.proofs.lemmas.Option.{none-some, same_Some}
+use Rattle.nm_edge.specs.declared.node.NodeId.{NodeId}
+use Rattle.nm_model.specs.Headline.{StandsAt, Place, waits_of, freed_of, words_after}
+use Rattle.nm_model.specs.Headline.Place.{InPool, InHands, OnPath as ByPath, Waits}
+use Rattle.nm_order.specs.History.{HasHistory}
+use Rattle.nm_order.specs.Totals.{TotalsAgree}
+use Rattle.nm_order.proofs.HistoryLaws.{each_run_has_a_history}
+use Rattle.nm_order.proofs.TotalsOfRuns.{each_total_agrees}
+use Rattle.nm_theorem.proofs.FreedOfRuns.{past_waits}
+use Rattle.nm_epoch.specs.declared.collecting.Entry.{Entry}
+use Rattle.nm_epoch.specs.declared.collecting.HeldQueue.{HeldQueue}
+use Rattle.nm_steps.specs.Steps.{Board}
+use Rattle.nm_tree.specs.Workers.{Hand}
+use Rattle.nm_tree.specs.Closing.{IsClosed, EndPlace, EndsAt, EndsOnce, OfEachClosed, OfEachClosedRun, QueuesAreTheRest, EachSlotEndsOnce}
+use Rattle.nm_tree.specs.Closing.EndPlace.{Free, OnPath, Waiting}
+use Rattle.nm_tree.proofs.EndLaws.{enough_nodes}
+
+-- ---- entries of a queue, and its nodes
+
+-- an entry that waits, by the nodes of its queue
+record WaitsHere (es : List Entry) (i x : ℕ) : Type 0 where
+  entry : Entry
+  is : slice_get es i ≡ Some entry
+  slot : entry.node.slot ≡ x
+
+entry_of : (es : List Entry) (i x : ℕ) → option_map (λ (n : NodeId). n.slot) (slice_get (map (λ (e : Entry). e.node) es) i) ≡ Some x → WaitsHere es i x
+entry_of [] zero x at = absurd (none-some x at)
+entry_of [] (suc i) x at = absurd (none-some x at)
+entry_of (e ∷ es) zero x at = record { entry = e; is = refl; slot = same_Some e.node.slot x at }
+entry_of (e ∷ es) (suc i) x at = let rest = entry_of es i x at in record { entry = rest.entry; is = rest.is; slot = rest.slot }
+
+stands_of : (es : List Entry) (i x : ℕ) (e : Entry) → slice_get es i ≡ Some e → e.node.slot ≡ x → option_map (λ (n : NodeId). n.slot) (slice_get (map (λ (e : Entry). e.node) es) i) ≡ Some x
+stands_of [] i x e is slot = absurd (none-some e is)
+stands_of (y ∷ es) zero x e is slot = ap Some (ap (λ (z : Entry). z.node.slot) (same_Some y e is) ∙ slot)
+stands_of (y ∷ es) (suc i) x e is slot = stands_of es i x e is slot
+
+queue_at : (hs : List HeldQueue) (w : ℕ) → w < length hs → (h : HeldQueue) × (slice_get hs w ≡ Some h)
+queue_at [] w below = absurd (omega (arith, below))
+queue_at (h ∷ hs) zero below = (h, refl)
+queue_at (h ∷ hs) (suc w) below = queue_at hs w (omega (arith, below))
+
+-- ---- places of the page, and places at the end
+
+forth : Place → EndPlace
+forth InPool = Free
+forth (InHands w) = Free
+forth (ByPath path) = OnPath path
+forth (Waits w i) = Waiting w i
+
+back : EndPlace → Place
+back Free = InPool
+back (OnPath path) = ByPath path
+back (Waiting w i) = Waits w i
+
+there_and_back : (p : EndPlace) → forth (back p) ≡ p
+unfolding forth back
+there_and_back Free = refl
+there_and_back (OnPath path) = refl
+there_and_back (Waiting w i) = refl
+
+module _ (b : Board) (ws : List Hand) (queues : List HeldQueue) (kept : List ℕ) (free reached : ℕ) (is : IsClosed b ws queues kept free reached) where
+  no_waits : (w : ℕ) → length queues ≤ w → waits_of w is.turns ≡ []
+  no_waits w past = ap (waits_of w) is.same_turns ∙ past_waits b.layout is.ends.fits true is.ends.turns w (let all = is.all in omega (arith, all, past))
+
+  ends : (x : ℕ) (p : Place) → StandsAt b.layout is.turns x p → EndsAt (words_after b.layout is.turns) queues x (forth p)
+  unfolding forth
+  ends x InPool st = st
+  ends x (InHands w) st = absurd (true≢false (sym st ∙ is.headline.no_hands w x))
+  ends x (ByPath path) st = st
+  ends x (Waits w i) st = elim (cases_lt w (length queues)) [
+    | inl below ↦ let q = queue_at queues w below in
+        let e = entry_of q.0.queue.items i x (ap (λ (ns : List NodeId). option_map (λ (n : NodeId). n.slot) (slice_get ns i)) (is.headline.waiting w q.0 q.1) ∙ st) in
+        (q.0, e.entry, q.1, e.is, e.slot)
+    | inr past ↦ absurd (none_at i (sym (ap (λ (ns : List NodeId). option_map (λ (n : NodeId). n.slot) (slice_get ns i)) (no_waits w past)) ∙ st))
+  ]
+    where
+      none_at : (i : ℕ) → option_map (λ (n : NodeId). n.slot) (slice_get [] i) ≡ Some x → ⊥
+      none_at zero at = none-some x at
+      none_at (suc i) at = none-some x at
+
+  stands : (x : ℕ) (p : EndPlace) → EndsAt (words_after b.layout is.turns) queues x p → StandsAt b.layout is.turns x (back p)
+  unfolding back
+  stands x Free at = at
+  stands x (OnPath path) at = at
+  stands x (Waiting w i) (h, e, is_queue, is_entry, slot) =
+      ap (λ (ns : List NodeId). option_map (λ (n : NodeId). n.slot) (slice_get ns i)) (sym (is.headline.waiting w h is_queue)) ∙ stands_of h.queue.items i x e is_entry slot
+
+  once : (x : ℕ) → 6 ≤ x → x ≤ b.layout.nodes → EndsOnce (words_after b.layout is.turns) queues x
+  once x low high =
+      let one = is.headline.headline.places is.turns [] (sym (append-nil is.turns)) x low high in
+      record {
+        place = forth one.place;
+        here = ends x one.place one.here;
+        only = λ other at. sym (there_and_back other) ∙ ap forth (one.only (back other) (stands x other at));
+      }
+
+pub each_slot_ends_once : OfEachClosed EachSlotEndsOnce
+each_slot_ends_once b ws queues kept free reached is = once b ws queues kept free reached is
+
+pub queues_are_the_rest : OfEachClosed QueuesAreTheRest
+queues_are_the_rest b ws queues kept free reached is w h at =
+    ap (λ (ns : List NodeId). freed_of w is.turns ++ ns) (is.headline.waiting w h at) ∙ (is.headline.headline.queues is.turns [] (sym (append-nil is.turns))).queues w
+
+pub each_closed_run_has_a_history : OfEachClosedRun HasHistory
+each_closed_run_has_a_history b ws queues kept free reached is = each_run_has_a_history b.layout (enough_nodes b.layout is.ends.fits) is.ends.turns is.ends.keys
+
+pub each_closed_total_agrees : OfEachClosedRun TotalsAgree
+each_closed_total_agrees b ws queues kept free reached is = each_total_agrees b.layout (enough_nodes b.layout is.ends.fits) is.ends.turns is.ends.keys
