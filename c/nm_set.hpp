@@ -382,7 +382,7 @@ public:
         return nm_set_worker(&handle_, &into.handle_, number);
     }
 
-    // Takes a worker that is at home, for this thread; numbers that lie apart come first. NM_AWAY
+    // Takes a worker that is at home, for this thread; the least number comes first. NM_AWAY
     // where none is.
     [[nodiscard]] Worker attach() {
         Worker taken;
