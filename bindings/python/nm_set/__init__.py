@@ -21,7 +21,7 @@ from ._faults import (
     OutOfRange,
     Unfinished,
 )
-from ._set import MOST_KEY, Ledger, Report, Set, Tending, Waiting, Worker
+from ._set import MOST_KEY, Ledger, Posted, Report, Set, Tending, Waiting, Worker
 
 __version__ = "0.1.0"
 
@@ -38,6 +38,7 @@ __all__ = [
     "NoMemory",
     "NoWorker",
     "OutOfRange",
+    "Posted",
     "Report",
     "Set",
     "Tending",

@@ -9,7 +9,7 @@ from __future__ import annotations
 
 import ctypes
 import os
-from ctypes import POINTER, c_int, c_uint32, c_uint64, c_void_p
+from ctypes import POINTER, c_int, c_size_t, c_uint32, c_uint64, c_void_p
 from pathlib import Path
 
 
@@ -33,6 +33,12 @@ class HabitWords(ctypes.Structure):
     _fields_ = [(name, c_uint32) for name in ("tries", "rounds", "collect_after")]
 
 
+class LookupWords(ctypes.Structure):
+    """nm_lookup."""
+
+    _fields_ = [(name, c_uint64) for name in ("key", "found")]
+
+
 class WaitingWords(ctypes.Structure):
     """nm_waiting."""
 
@@ -49,6 +55,7 @@ FUNCTIONS: dict[str, list[object]] = {
     "nm_set_close": [_H],
     "nm_drop": [_H],
     "nm_worker_contains": [_H, c_uint64, POINTER(HabitWords)],
+    "nm_worker_has_many": [_H, POINTER(LookupWords), c_size_t, c_uint32],
     "nm_worker_add": [_H, c_uint64, POINTER(HabitWords)],
     "nm_worker_remove": [_H, c_uint64, POINTER(HabitWords)],
     "nm_worker_finish": [_H, c_uint32],
@@ -59,6 +66,8 @@ FUNCTIONS: dict[str, list[object]] = {
     "nm_worker_queue_len": [_H, _U64],
     "nm_worker_pending": [_H, _U64],
     "nm_worker_ledger": [_H, POINTER(LedgerWords)],
+    "nm_worker_post": [_H, _U64, _U64],
+    "nm_worker_read": [_H, c_uint32, _U64, _U64],
     "nm_report_slots": [_H, _U32, _U32],
     "nm_report_keys": [_H, _U64],
     "nm_report_key": [_H, c_uint64, _U64],

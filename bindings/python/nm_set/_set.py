@@ -14,7 +14,7 @@ import threading
 import time
 from bisect import bisect_left
 from collections import deque
-from collections.abc import Iterator
+from collections.abc import Iterable, Iterator
 from ctypes import c_uint32, c_uint64
 from dataclasses import dataclass
 from types import TracebackType
@@ -70,6 +70,16 @@ class Ledger:
     retired: int
     freed: int
     queued: int
+
+
+@dataclass(frozen=True)
+class Posted:
+    """What a worker had won when it left a note."""
+
+    links: int
+    """Its links: one for each key that it had added."""
+    flags: int
+    """Its flags: one for each key that it had discarded, a pending one too."""
 
 
 @dataclass(frozen=True)
@@ -130,6 +140,19 @@ class _Hand:
 
     def has(self, habit: c.HabitWords, key: int) -> bool:
         return _tended(c.exports.nm_worker_contains(self.word, key, habit))
+
+    def has_many(self, habit: c.HabitWords, keys: list[int]) -> list[bool]:
+        """Looks several keys up in one call of the library, behind the discard that is pending; the
+        call is made again where it has lost each of its tries."""
+        lookups = (c.LookupWords * max(len(keys), 1))(*((key, 0) for key in keys))
+        c.exports.nm_worker_finish(self.word, habit.tries)
+        outcome = c.BUSY
+        for _ in range(habit.rounds + 1):
+            outcome = c.exports.nm_worker_has_many(self.word, lookups, len(keys), habit.tries)
+            if outcome != c.BUSY:
+                break
+        _tended(outcome)
+        return [lookup.found != 0 for lookup in lookups[: len(keys)]]
 
     def add(self, habit: c.HabitWords, key: int, relieve: Callable[[_Hand], object]) -> bool:
         """Adds a key. Where the set is full, although the worker has collected, `relieve` is called
@@ -294,6 +317,12 @@ class Set:
     def __contains__(self, key: SupportsIndex) -> bool:
         number = _key(key)
         return self._with_any(lambda hand: hand.has(self._habit, number))
+
+    def contains_many(self, keys: Iterable[SupportsIndex]) -> list[bool]:
+        """Whether the set has each of these keys, in their order, by one call of the library. Each
+        answer was right at a moment of the call, two of them perhaps at different ones."""
+        numbers = [_key(key) for key in keys]
+        return self._with_any(lambda hand: hand.has_many(self._habit, numbers))
 
     def add(self, key: SupportsIndex) -> bool:
         """Adds a key: True where it was not in the set."""
@@ -462,6 +491,11 @@ class Worker:
         number = _key(key)
         return self._with(lambda hand: hand.has(self._set._habit, number))
 
+    def contains_many(self, keys: Iterable[SupportsIndex]) -> list[bool]:
+        """Whether the set has each of these keys, in their order: see `Set.contains_many`."""
+        numbers = [_key(key) for key in keys]
+        return self._with(lambda hand: hand.has_many(self._set._habit, numbers))
+
     def add(self, key: SupportsIndex) -> bool:
         """Adds a key: True where it was not in the set."""
         number = _key(key)
@@ -522,6 +556,33 @@ class Worker:
             words = c.LedgerWords()
             told(c.exports.nm_worker_ledger(hand.word, words))
             return Ledger(*(getattr(words, name) for name, _ in words._fields_))
+
+        return self._with(call)
+
+    def post(self) -> Posted:
+        """Leaves a note of all that the worker has seen, in place of its earlier one, and tells what
+        it has won so far. No answer of the set depends on notes: they are for who proves something
+        of the order of two workers' calls. It raises `Contention` where a reader has the earlier
+        note at this moment."""
+
+        def call(hand: _Hand) -> Posted:
+            links, flags = c_uint64(), c_uint64()
+            told(c.exports.nm_worker_post(hand.word, links, flags))
+            return Posted(links.value, flags.value)
+
+        return self._with(call)
+
+    def read(self, number: SupportsIndex) -> Optional[Posted]:
+        """Hears the note that the worker of a number has left, and tells what that one had won
+        then, or None where it has left none: all that this worker is asked from now on comes behind
+        all that that one had seen. It raises `Contention` where another worker is at that note at
+        this moment."""
+        writer = _narrow(number, c.NUMBER)
+
+        def call(hand: _Hand) -> Optional[Posted]:
+            links, flags = c_uint64(), c_uint64()
+            is_left = told(c.exports.nm_worker_read(hand.word, writer, links, flags))
+            return Posted(links.value, flags.value) if is_left else None
 
         return self._with(call)
 

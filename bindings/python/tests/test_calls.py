@@ -61,6 +61,44 @@ class Keys(unittest.TestCase):
         self.assertEqual(str(raised.exception), "no slots are free for the new nodes")
 
 
+class SeveralKeys(unittest.TestCase):
+    def test_several_keys_are_looked_up_in_a_call(self) -> None:
+        with Set(64, workers=2) as numbers:
+            numbers.add(5)
+            self.assertEqual(numbers.contains_many([4, 5, MOST_KEY, 5]), [False, True, False, True])
+            self.assertEqual(numbers.contains_many([]), [])
+            with self.assertRaises(nm_set.OutOfRange):
+                numbers.contains_many([5, MOST_KEY + 1])
+            with numbers.attach() as worker:
+                self.assertEqual(worker.contains_many(range(4, 7)), [False, True, False])
+                worker.pin()
+                with self.assertRaises(nm_set.Held):
+                    worker.contains_many([5])
+
+    def test_several_keys_are_looked_up_behind_a_pending_discard(self) -> None:
+        with Set(64, tending=Tending(tries=1, rounds=0)) as numbers, numbers.attach() as worker:
+            worker.add(5)
+            with self.assertRaises(nm_set.Unfinished):
+                worker.discard(5)
+            self.assertEqual(worker.contains_many([5, 6]), [False, False])
+            self.assertIsNone(worker.pending())
+
+
+class Notes(unittest.TestCase):
+    def test_a_worker_reads_the_note_of_another_one(self) -> None:
+        with Set(64, workers=2) as numbers, numbers.worker(0) as writer, numbers.worker(1) as reader:
+            self.assertIsNone(reader.read(0))
+            for number in (2, 2**32):
+                with self.assertRaises(nm_set.OutOfRange):
+                    reader.read(number)
+            writer.add(5)
+            self.assertEqual(writer.post(), nm_set.Posted(links=1, flags=0))
+            self.assertEqual(reader.read(0), nm_set.Posted(links=1, flags=0))
+            writer.discard(5)
+            self.assertEqual(reader.read(0), nm_set.Posted(links=1, flags=0))
+            self.assertEqual((writer.post(), reader.read(0)), (nm_set.Posted(1, 1),) * 2)
+
+
 class Workers(unittest.TestCase):
     def test_a_worker_has_its_calls(self) -> None:
         with Set(64, workers=2) as numbers:

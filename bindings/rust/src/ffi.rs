@@ -57,6 +57,15 @@ pub(crate) struct Habit {
     pub collect_after: u32,
 }
 
+/// A key that is looked up beside others, and whether the set had it: `nm_lookup`.
+#[repr(C)]
+#[derive(Clone, Copy)]
+pub(crate) struct Lookup {
+    pub key: u64,
+    /// 1 where the set had the key, else 0.
+    pub found: u64,
+}
+
 /// A node that waited in a worker's queue when the set was closed: `nm_waiting`.
 #[repr(C)]
 #[derive(Clone, Copy, Debug, Default, PartialEq, Eq)]
@@ -76,6 +85,12 @@ extern "C" {
     fn nm_set_close(set: *mut Word) -> c_int;
     fn nm_drop(handle: *mut Word) -> c_int;
     fn nm_worker_has(worker: *mut Word, key: u64, tries: u32) -> c_int;
+    fn nm_worker_has_many(
+        worker: *mut Word,
+        lookups: *mut Lookup,
+        count: usize,
+        tries: u32,
+    ) -> c_int;
     fn nm_worker_insert(worker: *mut Word, key: u64, tries: u32) -> c_int;
     fn nm_worker_delete(worker: *mut Word, key: u64, tries: u32) -> c_int;
     fn nm_worker_finish(worker: *mut Word, tries: u32) -> c_int;
@@ -91,6 +106,8 @@ extern "C" {
     fn nm_worker_pending(worker: *mut Word, key: *mut u64) -> c_int;
     fn nm_worker_held(worker: *mut Word, epoch: *mut u64) -> c_int;
     fn nm_worker_ledger(worker: *mut Word, ledger: *mut Ledger) -> c_int;
+    fn nm_worker_post(worker: *mut Word, links: *mut u64, flags: *mut u64) -> c_int;
+    fn nm_worker_read(worker: *mut Word, number: u32, links: *mut u64, flags: *mut u64) -> c_int;
     fn nm_report_slots(report: *mut Word, free: *mut u32, reached: *mut u32) -> c_int;
     fn nm_report_keys(report: *mut Word, count: *mut u64) -> c_int;
     fn nm_report_key(report: *mut Word, index: u64, key: *mut u64) -> c_int;
@@ -147,6 +164,15 @@ impl Handle {
         pending = nm_worker_pending(key: &mut u64);
         held = nm_worker_held(epoch: &mut u64);
         ledger = nm_worker_ledger(ledger: &mut Ledger);
+        post = nm_worker_post(links: &mut u64, flags: &mut u64);
+        read = nm_worker_read(number: u32, links: &mut u64, flags: &mut u64);
+    }
+
+    /// Looks several keys up.
+    pub(crate) fn has_many(&mut self, lookups: &mut [Lookup], tries: u32) -> Outcome {
+        // SAFETY: as of the calls above; the slice is borrowed for this call alone, and its pointer
+        // is not null, also where it is empty.
+        unsafe { nm_worker_has_many(&mut self.0, lookups.as_mut_ptr(), lookups.len(), tries) }
     }
 }
 

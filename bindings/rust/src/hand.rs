@@ -1,7 +1,7 @@
 //! A worker's handle, and its calls that tend the set.
 
 use crate::fault::{answer, Fault};
-use crate::ffi::{Habit, Handle, Outcome};
+use crate::ffi::{Habit, Handle, Lookup, Outcome};
 
 /// How often an insert that was told of a full set lets all workers that nobody uses collect, and
 /// goes on, before it tells so.
@@ -32,6 +32,22 @@ impl Hand {
 
     pub fn contains(&mut self, habit: &Habit, key: u64) -> Result<bool, Fault> {
         tended(self.handle.contains(key, habit))
+    }
+
+    /// Looks several keys up in one call of the library, behind the remove that is pending; the call
+    /// is made again where it has lost each of its tries.
+    pub fn contains_many(&mut self, habit: &Habit, keys: &[u64]) -> Result<Vec<bool>, Fault> {
+        let lookup = |&key| Lookup { key, found: 0 };
+        let mut lookups: Vec<Lookup> = keys.iter().map(lookup).collect();
+        self.handle.finish(habit.tries);
+        let mut told = Err(Fault::Contention);
+        for _ in 0..=habit.rounds {
+            told = tended(self.handle.has_many(&mut lookups, habit.tries));
+            if told != Err(Fault::Contention) {
+                break;
+            }
+        }
+        told.map(|_| lookups.iter().map(|lookup| lookup.found != 0).collect())
     }
 
     /// Inserts a key. Where the set is full, although the worker has collected, `relieve` is called

@@ -148,6 +148,26 @@ impl Set {
         self.0.with_any(|hand| hand.contains(&self.0.habit, key))
     }
 
+    /// Whether the set has each of these keys, in their order, by one call of the library: the
+    /// searches go on in turns, so that the loads of one go on while the others wait for theirs,
+    /// which pays where the set is larger than the caches; eight to sixty-four keys are best. Each
+    /// answer was right at a moment of the call, two of them perhaps at different ones. `Key`,
+    /// `NoMemory`, `Contention`, `NoWorker`, `Closed`.
+    ///
+    /// ```
+    /// # fn main() -> Result<(), nm_set::Fault> {
+    /// let set = nm_set::Set::new(1_024)?;
+    /// set.insert(5)?;
+    /// set.insert(7)?;
+    /// assert_eq!(set.contains_many(&[5, 6, 7])?, [true, false, true]);
+    /// # Ok(())
+    /// # }
+    /// ```
+    pub fn contains_many(&self, keys: &[u64]) -> Result<Vec<bool>, Fault> {
+        self.0
+            .with_any(|hand| hand.contains_many(&self.0.habit, keys))
+    }
+
     /// Inserts a key, and tells whether it was not in the set; it is now. `Key`, `Full`,
     /// `NoMemory`, `Contention`, `NoWorker`, `Closed`: nothing has changed.
     pub fn insert(&self, key: u64) -> Result<bool, Fault> {

@@ -57,6 +57,15 @@ pub struct Behind {
     pub mask: u64,
 }
 
+/// What a worker had won when it left a note.
+#[derive(Clone, Copy, Debug, Default, PartialEq, Eq)]
+pub struct Posted {
+    /// Its links: one for each key that it had inserted.
+    pub links: u64,
+    /// Its flags: one for each key that it had removed, a pending one too.
+    pub flags: u64,
+}
+
 /// The hand of a worker that is not dropped.
 fn open(hand: &mut Option<Hand>) -> &mut Hand {
     hand.as_mut()
@@ -86,6 +95,13 @@ impl Worker {
     pub fn contains(&mut self, key: u64) -> Result<bool, Fault> {
         let Worker { shared, hand, .. } = self;
         open(hand).contains(&shared.habit, key)
+    }
+
+    /// Whether the set has each of these keys, tended: see
+    /// [`Set::contains_many`](crate::Set::contains_many). `Key`, `Held`, `NoMemory`, `Contention`.
+    pub fn contains_many(&mut self, keys: &[u64]) -> Result<Vec<bool>, Fault> {
+        let Worker { shared, hand, .. } = self;
+        open(hand).contains_many(&shared.habit, keys)
     }
 
     /// Inserts a key, and tells whether it was not in the set, tended: see
@@ -180,6 +196,30 @@ impl Worker {
         let mut ledger = Ledger::default();
         self.hand().handle.ledger(&mut ledger);
         ledger
+    }
+
+    /// Leaves a note of all that the worker has seen, in place of its earlier one, and tells what it
+    /// has won so far. No answer of the set depends on notes: they are for who proves something of
+    /// the order of two workers' calls. `Busy`: a reader has the earlier note at this moment.
+    pub fn post(&mut self) -> Result<Posted, Fault> {
+        let Posted {
+            mut links,
+            mut flags,
+        } = Posted::default();
+        answer(self.hand().handle.post(&mut links, &mut flags))?;
+        Ok(Posted { links, flags })
+    }
+
+    /// Hears the note that the worker of a number has left, and tells what that one had won then:
+    /// all that this worker is asked from now on comes behind all that that one had seen. None
+    /// where it has left no note. `Number`; `Busy`: another worker is at that note at this moment.
+    pub fn read(&mut self, number: u32) -> Result<Option<Posted>, Fault> {
+        let Posted {
+            mut links,
+            mut flags,
+        } = Posted::default();
+        let is_left = answer(self.hand().handle.read(number, &mut links, &mut flags))?;
+        Ok(is_left.then_some(Posted { links, flags }))
     }
 }
 

@@ -1,6 +1,6 @@
 //! Each call by one thread, and each fault that one thread can meet.
 
-use nm_set::{Advance, Fault, Options, Placement, Set, Worker, MOST_KEY};
+use nm_set::{Advance, Fault, Options, Placement, Posted, Set, Worker, MOST_KEY};
 use std::error::Error;
 
 fn small(workers: u32) -> Options {
@@ -121,6 +121,53 @@ fn a_worker_has_the_calls_of_the_library() {
     let ledger = worker.ledger();
     assert_eq!((ledger.links, ledger.flags, ledger.splices), (1, 1, 1));
     assert_eq!((ledger.retired, ledger.freed, ledger.queued), (2, 2, 0));
+}
+
+#[test]
+fn several_keys_are_looked_up_in_a_call() {
+    let set = small(2).open().unwrap();
+    let mut worker = set.worker(0).unwrap();
+    assert_eq!(worker.insert(5), Ok(true));
+    assert_eq!(
+        (
+            worker.contains_many(&[4, 5, MOST_KEY, 5]),
+            set.contains_many(&[])
+        ),
+        (Ok(vec![false, true, false, true]), Ok(vec![]))
+    );
+    assert_eq!(set.contains_many(&[5, MOST_KEY + 1]), Err(Fault::Key));
+    assert_eq!(worker.try_remove(5, 1), Err(Fault::Unfinished));
+    assert_eq!(
+        (worker.contains_many(&[5, 6]), worker.pending()),
+        (Ok(vec![false, false]), None)
+    );
+    assert_eq!(worker.pin(64), Ok(0));
+    assert_eq!(worker.contains_many(&[5]), Err(Fault::Held));
+}
+
+#[test]
+fn a_worker_reads_the_note_of_another_one() {
+    let set = small(2).open().unwrap();
+    let (mut writer, mut reader) = (set.worker(0).unwrap(), set.worker(1).unwrap());
+    assert_eq!(
+        (reader.read(0), reader.read(2)),
+        (Ok(None), Err(Fault::Number))
+    );
+    assert_eq!(writer.insert(5), Ok(true));
+    let won = |links, flags| Posted { links, flags };
+    assert_eq!(
+        (writer.post(), reader.read(0)),
+        (Ok(won(1, 0)), Ok(Some(won(1, 0))))
+    );
+    assert_eq!((reader.contains(5), writer.remove(5)), (Ok(true), Ok(true)));
+    assert_eq!(
+        (reader.read(0), writer.post()),
+        (Ok(Some(won(1, 0))), Ok(won(1, 1)))
+    );
+    assert_eq!(
+        (reader.read(0), reader.contains(5)),
+        (Ok(Some(won(1, 1))), Ok(false))
+    );
 }
 
 #[test]
