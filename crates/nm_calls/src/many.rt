@@ -129,42 +129,38 @@ fn take_turns(shared: &Shared, pass: &mut Pass, queries: &mut [Query])
     ensures only { OnlyLooks pass.old pass.new }
 {
     for index in 0..queries.len() {
-        let next = take_turn(shared, pass, &queries[index]);
-        queries[index] = next;
+        take_turn(shared, pass, &mut queries[index]);
     }
 }
 
-/// The query with its walk a node further, if it has not ended. At most three looks.
-fn take_turn(shared: &Shared, pass: &mut Pass, query: &Query) -> Query
+/// Takes a walk a node further, if it has not ended. At most three looks.
+fn take_turn(shared: &Shared, pass: &mut Pass, query: &mut Query)
     requires own { IsOf shared.now pass.old }
     requires run { IsInRun pass.old }
     requires pinned { IsPinnedSomewhere pass.old }
-    requires under_way { IsUnderWay pass.old query.now }
+    requires under_way { IsUnderWay pass.old query.old }
     ensures same { IsSamePass pass.old pass.new }
     ensures past { HasSeenAllOf pass.new pass.old }
     ensures looks { AddsLooks 3 pass.old.view.log pass.new.view.log }
-    ensures under_way { IsUnderWay pass.new result }
-    ensures key { result.key ≡ query.now.key }
+    ensures under_way { IsUnderWay pass.new query.new }
+    ensures key { query.new.key ≡ query.old.key }
     ensures on { GoesOn pass.old pass.new }
     ensures only { OnlyLooks pass.old pass.new }
 {
     if query.node == 0 {
-        return *query;
+        return;
     }
     let on = read_node(shared, pass, query.node, query.key.get());
-    read_so(query, &on)
+    read_so(query, &on);
 }
 
-/// The query whose walk has read its node so.
-fn read_so(query: &Query, on: &Onward) -> Query
-    ensures query { result ≡ read_on query.now on.now }
-    ensures key { IsKey query.now.key }
+/// The query's walk has read its node so. Two words are written, and not the query: each turn of each walk comes here.
+fn read_so(query: &mut Query, on: &Onward)
+    ensures query { query.new ≡ read_on query.old on.now }
+    ensures key { IsKey query.old.key }
 {
-    Query {
-        key: query.key,
-        found: on.found == query.key.get(),
-        node: on.next.slot(),
-    }
+    query.found = on.found == query.key.get();
+    query.node = on.next.slot();
 }
 
 /// The query at the beginning of its walk, which reads this node first.

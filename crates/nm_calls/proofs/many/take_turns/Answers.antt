@@ -11,15 +11,15 @@ pub loop-index-preserved : goal.loop-index-preserved
 loop-index-preserved c =
     let o = c.args.pass.now in
     let p = c.loop-index.pass in
-    let q = c.take_turn-next.new.pass in
+    let q = c.take_turn.new.pass in
     let held = c.loop-index.invariant in
-    let did = c.take_turn-next.ensures in
+    let did = c.take_turn.ensures in
     record {
       same = search rules;
       past = seen_through _ _ _ held.past did.past;
       looks = looks_in (3 * (c.loop-index.index + 1)) o.view.log q.view.log (omega arith) (looks_then o.view.log p.view.log q.view.log held.looks did.looks);
-      under_way = All-set (IsUnderWay q) c.loop-index.queries c.loop-index.index c.take_turn-next.result did.under_way (all_still p q did.looks did.on c.loop-index.queries held.under_way);
-      keys = map-set_same key_of c.loop-index.queries c.loop-index.index c.take_turn-next.result c.index-queries-index.result (search rules) ∙ held.keys;
+      under_way = All-set (IsUnderWay q) c.loop-index.queries c.loop-index.index c.take_turn.new.query did.under_way (all_still p q did.looks did.on c.loop-index.queries held.under_way);
+      keys = map-set_same key_of c.loop-index.queries c.loop-index.index c.take_turn.new.query c.index-queries-index.result (search rules) ∙ held.keys;
       on = goes_then o p q held.on did.on;
       only = only_then o p q held.only did.only;
     }
