@@ -5,7 +5,7 @@ use Rattle.nm_steps.specs.Steps.{Board}
 use Rattle.nm_tree.specs.declared.worker.Counts.{Counts}
 use Rattle.nm_tree.specs.Closing.{IsClosed, all_merged}
 use Rattle.nm_tree.specs.Workers.{Hand, HasOrigin}
-use Rattle.nm_tree.proofs.EndCounts.{from_has}
+use Rattle.nm_tree.proofs.EndWorkers.{from_has}
 use Rattle.nm_tree.proofs.Freeing.{not_both}
 use Rattle.nm_tree.proofs.Merging.{merged_has}
 use Rattle.nm_serial.specs.Endings.{IsCounted, IsTold, AreTold}

@@ -24,6 +24,7 @@ use Rattle.nm_tree.specs.declared.closing.Report.{Report}
 use Rattle.nm_tree.specs.Workers.{Hand, HasNumber, log_of}
 use Rattle.nm_tree.specs.Closing.{IsClosed, all_joined}
 use Rattle.nm_tree.proofs.Heirs.{times, has_times}
+use Rattle.nm_tree.proofs.OfClosed.{each_closed_log, keys_are_the_totals}
 use Rattle.nm_set.specs.Seats.{AreOwn, IsOwn, Standing}
 use Rattle.nm_set.specs.Ends.{EndsSet}
 use Rattle.nm_told.specs.Adding.{HasAdded}
@@ -105,7 +106,7 @@ module _ (b : Board) (z : Hand) (k : ℕ) (queues : List HeldQueue) (kept : List
   unflagged (suc w) less = absurd (omega (arith, less))
 
   no_flags : (j : ℕ) → flags_of j b.layout is.ends.turns ≡ 0
-  no_flags j = (is.logs j).1 ∙ no_sum (λ w. log_often is_won_flag j idle (part_of w (trace_in (ordered b.layout) is.ends.turns))) b.layout.workers
+  no_flags j = (each_closed_log b (z ∷ []) queues kept free reached is j).1 ∙ no_sum (λ w. log_often is_won_flag j idle (part_of w (trace_in (ordered b.layout) is.ends.turns))) b.layout.workers
       (λ w less. none_in is_won_flag j idle (part_of w (trace_in (ordered b.layout) is.ends.turns)) (unflagged w (omega (arith, less, one))))
 
   settled : NothingIsPending b.layout is.ends.turns
@@ -122,7 +123,7 @@ module _ (b : Board) (z : Hand) (k : ℕ) (queues : List HeldQueue) (kept : List
       subst P (sym run) (linked_once b.layout a.before rest v.number k moment)
 
   pub has_key : Contains kept k
-  has_key = go (is.settled settled k added.key)
+  has_key = go (keys_are_the_totals b (z ∷ []) queues kept free reached is settled k added.key)
     where
       go : Agree (links_of k b.layout is.ends.turns) (flags_of k b.layout is.ends.turns) (Contains kept k) → Contains kept k
       go (inl so) = so.1

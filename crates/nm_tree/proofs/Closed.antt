@@ -1,12 +1,17 @@
 -- What the end of a tree leaves.
-use Rattle.std.proofs.Common.{◌≡◌, ℕ, suc, ◌+◌, ◌-◌, ◌<◌, ◌≤◌, inl, inr, List, [], ◌∷◌, ◌++◌, length, refl, ap, ◌∙◌, subst, arith}
+use Rattle.std.proofs.Common.{◌≡◌, ℕ, suc, ◌+◌, ◌-◌, ◌<◌, ◌≤◌, inl, inr, true, List, [], ◌∷◌, ◌++◌, length, refl, sym, ap, ◌∙◌, subst, arith}
 use Rattle.std.proofs.lemmas.List.Elements.{All-cons, All-head, All-nil, All-tail}
 use Rattle.std.proofs.lemmas.List.Sums.{sum_by-cons}
-use Rattle.std.specs.Prelude.{slice_index_or}
+use Rattle.std.specs.Prelude.{filter, slice_index_or}
+use Rattle.nm_edge.specs.Layouts.{Layout}
 use Rattle.nm_model.specs.declared.event.Event.{Event}
 use Rattle.nm_model.specs.Ordered.{ordered, trace_in}
-use Rattle.nm_model.specs.Reports.{counts, keys}
+use Rattle.nm_model.specs.Headline.{words_after}
+use Rattle.nm_model.specs.Memory.{Memory}
+use Rattle.nm_model.specs.Reports.{counts, keys, tree_slots}
+use Rattle.nm_theorem.proofs.WrittenWords.{run_words}
 use Rattle.nm_report.specs.Ended.{IsEndOf, end_of}
+use Rattle.nm_report.proofs.Ends.{layout_is}
 use Rattle.nm_steps.specs.declared.view.View.{View}
 use Rattle.nm_steps.specs.Rules.{Extends, IsShown, joined, knowledge, stands, once_below}
 use Rattle.nm_steps.specs.Steps.{Board, Stand, IsOf, Ends, HasJoined, HasSeenAllOf}
@@ -15,11 +20,9 @@ use Rattle.nm_steps.proofs.Keeping.{live, once_is}
 use Rattle.nm_epoch.specs.declared.collecting.HeldQueue.{HeldQueue}
 use Rattle.nm_epoch.specs.Collecting.{AreHeld}
 use Rattle.nm_tree.specs.declared.worker.Account.{Account}
-use Rattle.nm_tree.specs.Workers.{Hand, IsWorker, HasOrigin, AreAbove, Ascend, waiting_in}
+use Rattle.nm_tree.specs.Workers.{Hand, IsWorker, HasOrigin, AreAbove, Ascend}
 use Rattle.nm_tree.specs.Closing.{AreAllOf, AreFrom, GoesOnFromAll, IsClosed, IsOfTurns, StandsForAll, all_joined, all_merged, given_in}
-use Rattle.nm_order.proofs.TotalsOfLogs.{totals_are_in_the_logs}
-use Rattle.nm_tree.proofs.EndLaws.{enough_nodes, ascend_of, settled_of}
-use Rattle.nm_tree.proofs.EndCounts.{none_private, waiting_is, sum_is}
+use Rattle.nm_tree.proofs.EndLaws.{ascend_of}
 use Rattle.nm_tree.proofs.EndTheorem.{of_turns_at_end}
 use Rattle.nm_tree.proofs.Settling.{settles}
 use Rattle.nm_tree.proofs.Heirs.{logs, times, has_times}
@@ -122,14 +125,6 @@ module _ (b : Board) (w : Hand) (xs : List Account) (home r s : ℕ) (ws : List 
   the_end : IsEndOf b.layout words
   the_end = record { fits = end.fits; turns = end.turns; keys = end.keys; words_are = end.words_are }
 
-  sum_of : free + reached + waiting_in w.queues ≡ b.layout.nodes - 5
-  unfolding the_end
-  sum_of =
-      let sum = sum_is b.layout words the_end w xs home r s is end.shown in_order.0 in_order.1 in
-      let pool = free_are the_end in
-      let tree = reached_are the_end in
-      omega (arith, sum, pool, tree)
-
   some_given : 1 ≤ length ws
   some_given = at_least_one ws (let some' = end.fits.some in omega (arith, enough, some'))
 
@@ -151,10 +146,16 @@ module _ (b : Board) (w : Hand) (xs : List Account) (home r s : ℕ) (ws : List 
   unfolding the_end
   of_turns = of_turns_at_end b.layout words the_end w xs home r s is end.shown in_order.0 in_order.1 ws view kept (keys_are the_end)
 
+  words_are : words_after b.layout (trace_in (ordered b.layout) end.turns) ≡ (end_of b.layout words the_end).memory
+  unfolding the_end
+  words_are = run_words b.layout end.fits true end.turns
+
+  nodes : (end_of b.layout words the_end).layout.nodes ≡ b.layout.nodes
+  nodes = ap (λ (l : Layout). l.nodes) (layout_is b.layout words the_end)
+
   pub closed : IsClosed b ws w.queues kept free reached
   unfolding ends the_end
   closed = record {
-    enough = enough;
     words = words;
     turns = trace_in (ordered b.layout) end.turns;
     headline = of_turns;
@@ -165,14 +166,8 @@ module _ (b : Board) (w : Hand) (xs : List Account) (home r s : ℕ) (ws : List 
     each = in_order.0;
     all = in_order.1;
     held = subst (λ (v : View). AreHeld (knowledge v) w.queues) view is.between.queues;
-    keys_are = keys_are the_end;
-    free_are = free_are the_end;
-    reached_are = reached_are the_end;
-    private = none_private b.layout words the_end w xs home r s is end.shown in_order.0 in_order.1;
-    queued_are = waiting_is b.layout words the_end w xs home r s is end.shown in_order.0 in_order.1;
-    sum = sum_of;
     ascend = ascend_of b.layout end.fits end.turns end.keys kept (keys_are the_end);
-    logs = totals_are_in_the_logs b.layout (enough_nodes b.layout end.fits) end.turns end.keys;
+    free_are = free_are the_end ∙ ap (λ (m : Memory). length (filter (λ mark. mark) m.pool)) (sym words_are);
+    reached_are = reached_are the_end ∙ (ap (λ (n : ℕ). length (tree_slots n (end_of b.layout words the_end).memory 1) - 5) nodes ∙ ap (λ (m : Memory). length (tree_slots b.layout.nodes m 1) - 5) (sym words_are));
     rested = settles b.layout words the_end w xs home r s is end.shown in_order.0 in_order.1 ws view some_given;
-    settled = settled_of b.layout end.fits end.turns end.keys kept (keys_are the_end);
   }

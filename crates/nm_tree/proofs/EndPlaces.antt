@@ -16,7 +16,7 @@ use Rattle.nm_steps.specs.Rules.{knowledge, IsShown}
 use Rattle.nm_tree.specs.declared.worker.Account.{Account}
 use Rattle.nm_tree.specs.Closing.{AreFrom}
 use Rattle.nm_tree.specs.Workers.{Hand, IsWorker}
-use Rattle.nm_tree.proofs.EndCounts.{here, inside, worker_at, there, own, no_drafts}
+use Rattle.nm_tree.proofs.EndWorkers.{here, inside, worker_at, there, own, no_drafts}
 
 undrafted : (k : Knowledge) (x : ℕ) → length k.drafts ≡ 0 → is_private k x ≡ true → ⊥
 undrafted k x none' is = not_true (sym (ap (λ (ds : List (ℕ × Draft)). has ds x) (nil_from_length k.drafts none')) ∙ is)

@@ -13,10 +13,11 @@ pub mod Merging
 pub mod Heirs
 pub mod United
 pub mod EndLaws
-pub mod EndCounts
+pub mod EndWorkers
 pub mod EndPlaces
 pub mod EndTheorem
 pub mod Settling
 pub mod RunningTurns
 pub mod Closed
+pub mod EndCounts
 pub mod OfClosed

@@ -4,7 +4,7 @@ use Rattle.nm_edge.specs.Layouts.{Layout}
 use Rattle.nm_steps.specs.declared.view.Held.{Held}
 use Rattle.nm_steps.specs.Steps.{Stand, IsSamePass}
 use Rattle.nm_epoch.specs.declared.collecting.HeldQueue.{HeldQueue}
-use Rattle.nm_tree.specs.Workers.{AreOf, HasNumber, HoldNothing}
+use Rattle.nm_tree.specs.Workers.{AreOf, HasNumber, HoldNoSlot}
 
 pub numbers_stay : (p q : Stand) (hs : List HeldQueue) → IsSamePass p q → AreOf p.view hs → AreOf q.view hs
 numbers_stay p q hs same is =
@@ -19,10 +19,10 @@ numbers_stay p q hs same is =
     there o number others (inl is) = inl (number ∙ is)
     there o number others (inr has) = inr (let P : List Held → Type 0 = λ hs. HasNumber o hs in subst P (sym others) has)
 
-pub resigned_stay : (p q : Stand) → IsSamePass p q → HoldNothing p.view.layout p.view.others → HoldNothing q.view.layout q.view.others
+pub resigned_stay : (p q : Stand) → IsSamePass p q → HoldNoSlot p.view.layout p.view.others → HoldNoSlot q.view.layout q.view.others
 resigned_stay p q same are =
-    let P : Layout → Type 0 = λ L. HoldNothing L p.view.others in
-    let Q : List Held → Type 0 = λ hs. HoldNothing q.view.layout hs in
+    let P : Layout → Type 0 = λ L. HoldNoSlot L p.view.others in
+    let Q : List Held → Type 0 = λ hs. HoldNoSlot q.view.layout hs in
     subst Q (sym (ap (λ (x : Stand). x.view.others) same)) (subst P (sym (ap (λ (x : Stand). x.view.layout) same)) are)
 
 pub room_stays : (p q : Stand) (r : ℕ) → IsSamePass p q → p.view.layout.workers ≤ r → q.view.layout.workers ≤ r

@@ -19,7 +19,7 @@ use Rattle.nm_calls.specs.Won.{capped, won_links, won_flags, won_splices}
 use Rattle.nm_pool.specs.declared.placement.Fit.{Fit}
 use Rattle.nm_tree.specs.declared.worker.Account.{Account}
 use Rattle.nm_tree.specs.Plays.{IsReady}
-use Rattle.nm_tree.specs.Workers.{Hand, HaveFit, IsWorker, IsAccount, HasOrigin, HasNumber, HoldNothing, HaveWorkers, IsFresh, AreAllFresh, IsNewWorker, AreMade, AreNew, log_of, ledger_in}
+use Rattle.nm_tree.specs.Workers.{Hand, HaveFit, IsWorker, IsAccount, HasOrigin, HasNumber, HoldNoSlot, HaveWorkers, IsFresh, AreAllFresh, IsNewWorker, AreMade, AreNew, log_of, ledger_in}
 use Rattle.nm_tree.proofs.Changing.{log_of_own}
 
 -- ---- one worker
@@ -65,7 +65,7 @@ new_worker f p h r s d own empty alone alive room account_room =
       own = own;
       alive = alive;
       numbers = record { each = λ o has. only o has; all = λ o has. back o (let P : List Held → Type 0 = λ hs. (p.view.number ≡ o) ⊎ HasNumber o hs in subst P alone has) };
-      resigned = let P : List Held → Type 0 = λ hs. HoldNothing p.view.layout hs in subst P (sym alone) tt;
+      resigned = let P : List Held → Type 0 = λ hs. HoldNoSlot p.view.layout hs in subst P (sym alone) tt;
       room = room;
       account_room = account_room;
     }

@@ -1,8 +1,7 @@
 -- Where nothing is pending of the workers with which a tree is closed, nothing is pending in its run.
-use Rattle.std.proofs.Common.{◌≡◌, ℕ, ◌+◌, ◌<◌, ◌≤◌, inl, inr, List, [], ◌∷◌, ◌++◌, length, refl, sym, ap, subst, ◌∙◌, arith}
+use Rattle.std.proofs.Common.{◌≡◌, ℕ, ◌≤◌, inl, inr, List, [], ◌∷◌, ◌++◌, length, sym, ap, subst, ◌∙◌, arith}
 use Rattle.std.specs.Prelude.{Option, Some, None}
 use Rattle.nm_edge.specs.Layouts.{Layout}
-use Rattle.nm_edge.specs.declared.node.NodeId.{NodeId}
 use Rattle.nm_model.specs.declared.trace.Turn.{Turn}
 use Rattle.nm_model.specs.Ordered.{ordered, trace_in}
 use Rattle.nm_model.specs.Searches.{Search, idle, searched}
@@ -20,7 +19,7 @@ use Rattle.nm_tree.specs.declared.worker.Account.{Account}
 use Rattle.nm_tree.specs.Closing.{AreFrom, StandsForAll, all_joined}
 use Rattle.nm_tree.specs.Settled.{TellNoFlag, HasNothingPending, HaveNothingPending, HeirsHaveNothingPending}
 use Rattle.nm_tree.specs.Workers.{Hand, IsAs, IsWorker, HasNumber}
-use Rattle.nm_tree.proofs.EndCounts.{are, there}
+use Rattle.nm_tree.proofs.EndWorkers.{are, there}
 use Rattle.nm_tree.proofs.EndLaws.{enough_nodes}
 use Rattle.nm_tree.proofs.Heirs.{logs}
 

@@ -1,8 +1,7 @@
 -- What a worker is that stands for another one too.
 use Rattle.std.proofs.Common.{◌≡◌, ℕ, suc, ◌+◌, ◌≤◌, ◌⊎◌, ◌==◌, inl, inr, Bool, true, cond, List, [], ◌∷◌, ◌++◌, length, refl, sym, ap, ◌∙◌, subst, arith}
-use Rattle.std.specs.Prelude.{Option, Some, None, IsSome, replicate}
+use Rattle.std.specs.Prelude.{Option, Some, None, IsSome}
 use Rattle.std.proofs.lemmas.Bool.{cond-true, eq-eqb}
-use Rattle.std.proofs.lemmas.List.Folds.{sum_by-replicate}
 use Rattle.std.proofs.lemmas.Option.{none-some}
 use Rattle.nm_edge.specs.Layouts.{Layout}
 use Rattle.nm_model.specs.declared.event.Event.TheVariants.{Join}
@@ -11,9 +10,8 @@ use Rattle.nm_model.specs.declared.ledger.Ledger.{Ledger}
 use Rattle.nm_model.specs.declared.reply.Reply.TheVariants.{Joined}
 use Rattle.nm_model.specs.Knowledge.{Knowledge}
 use Rattle.nm_model.specs.Learning.{learn, resigned, inheriting}
-use Rattle.nm_model.specs.Ledgers.{held, queue_of}
+use Rattle.nm_model.specs.Ledgers.{held}
 use Rattle.nm_model.specs.Maps.{get}
-use Rattle.nm_model.specs.Reports.{in_queues}
 use Rattle.nm_model.specs.Searches.{Search, searched, idle}
 use Rattle.nm_model.proofs.Tables.{at_eqb}
 use Rattle.nm_order.specs.Logs.{known_by}
@@ -30,7 +28,7 @@ use Rattle.nm_epoch.specs.Collecting.{AreHeld}
 use Rattle.nm_epoch.specs.Resting.{Settles, search}
 use Rattle.nm_epoch.proofs.FewQueues.{few}
 use Rattle.nm_tree.specs.declared.worker.Account.{Account}
-use Rattle.nm_tree.specs.Workers.{Hand, IsBetweenCalls, IsWorker, AreAccounts, HasNumber, HasOrigin, HoldsNothing, HoldNothing}
+use Rattle.nm_tree.specs.Workers.{Hand, IsBetweenCalls, IsWorker, AreAccounts, HasNumber, HasOrigin, HoldNoSlot}
 use Rattle.nm_tree.specs.Resigning.{place_in, merged, merged_accounts}
 use Rattle.nm_tree.proofs.Heirs.{logs, knows, first_held, second_held, none_apart, first_accounts, second_accounts, held_by_one}
 use Rattle.nm_tree.proofs.Merging.{length-merged, has_merged, merged_has, ascend_merged, held_merged, accounts_merged, stands_at_place}
@@ -38,7 +36,7 @@ use Rattle.nm_tree.proofs.Staying.{labelled, stands_still}
 
 -- ---- what a worker that resigns must have
 
-no_drafts : (ds : List (ℕ × Draft)) → ((slot : ℕ) → get ds slot ≡ None) → length ds ≡ 0
+pub no_drafts : (ds : List (ℕ × Draft)) → ((slot : ℕ) → get ds slot ≡ None) → length ds ≡ 0
 no_drafts [] none' = refl
 no_drafts (d ∷ ds) none' = absurd (none-some d.1 (sym (none' d.0) ∙ first (at_eqb d.0 d.0 ∙ eq-eqb d.0 d.0 refl)))
   where
@@ -54,19 +52,13 @@ gone : (w : View) → known_by w.layout w.number (w.log ++ passing w ∷ []) ≡
 unfolding learn
 gone w = known_push w.number w.layout w.log (passing w) ∙ cond-true (w.number == w.number) (resigned (knowledge w)) (inheriting (knowledge w) (knowledge w).ledgers) (eq-eqb w.number w.number refl)
 
-none_wait : (n : ℕ) → in_queues (replicate n None) ≡ 0
-none_wait n = let all = sum_by-replicate (λ (l : Option Ledger). length (queue_of l)) n None in omega (arith, all)
+-- to a worker that resigned with empty hands no slot is private
+pub no_slot : (w : View) → HasEmptyHands (knowledge w) → length (known_by w.layout w.number (w.log ++ passing w ∷ [])).drafts ≡ 0
+no_slot w hands = ap (λ (k : Knowledge). length k.drafts) (gone w) ∙ hands.drafts
 
--- a worker that resigned with empty hands holds nothing
-pub holds_nothing : (w : View) → HasEmptyHands (knowledge w) → HoldsNothing w.layout (is_held w.number (w.log ++ passing w ∷ []))
-holds_nothing w hands = record {
-  drafts = ap (λ (k : Knowledge). length k.drafts) (gone w) ∙ hands.drafts;
-  waiting = ap (λ (k : Knowledge). in_queues k.ledgers) (gone w) ∙ none_wait (length (knowledge w).ledgers);
-}
-
-hold_nothing_before : (L : Layout) (hs gs : List Held) → HoldNothing L hs → HoldNothing L gs → HoldNothing L (hs ++ gs)
-hold_nothing_before L [] gs first second = second
-hold_nothing_before L (h ∷ hs) gs first second = (first.0, hold_nothing_before L hs gs first.1 second)
+hold_no_slot : (L : Layout) (hs gs : List Held) → HoldNoSlot L hs → HoldNoSlot L gs → HoldNoSlot L (hs ++ gs)
+hold_no_slot L [] gs first second = second
+hold_no_slot L (h ∷ hs) gs first second = (first.0, hold_no_slot L hs gs first.1 second)
 
 -- ---- as many accounts as queues
 
@@ -197,8 +189,8 @@ module _ {r s r' s' : ℕ} (p u : Hand) (xs ys : List Account) (home home' : ℕ
     few = let f = few_queues in let sum = length-merged p.queues u.queues in let most = run.fits.few in omega (arith, f, sum, most);
     own = stands_at_place v.number all ascends (all_numbers v.number (inl refl));
     numbers = record { each = each_number; all = all_numbers };
-    resigned = let P : Layout → Type 0 = λ L. HoldNothing L (is_held w.number (w.log ++ passing w ∷ []) ∷ w.others) in
-        hold_nothing_before v.layout v.others (is_held w.number (w.log ++ passing w ∷ []) ∷ w.others) is.resigned (subst P (sym same) (holds_nothing w (empty_hands u more.between), more.resigned));
+    resigned = let P : Layout → Type 0 = λ L. HoldNoSlot L (is_held w.number (w.log ++ passing w ∷ []) ∷ w.others) in
+        hold_no_slot v.layout v.others (is_held w.number (w.log ++ passing w ∷ []) ∷ w.others) is.resigned (subst P (sym same) (no_slot w (empty_hands u more.between), more.resigned));
     alive = is.alive;
     room = is.room;
     account_room = is.account_room;

@@ -1,5 +1,5 @@
 -- The end of a tree.
-use Rattle.std.specs.Prelude.{◌≡◌, ◌<◌, ◌≤◌, ◌↔◌, ◌+◌, ◌-◌, ℕ, suc, true, false, length, sum_by, List, [], ◌∷◌, ◌++◌, map, Some, All, AllPairs, Contains, slice_get}
+use Rattle.std.specs.Prelude.{◌≡◌, ◌<◌, ◌≤◌, ◌↔◌, ◌+◌, ◌-◌, ℕ, suc, true, false, length, filter, sum_by, List, [], ◌∷◌, ◌++◌, map, Some, All, AllPairs, Contains, slice_get}
 use Rattle.nm_edge.specs.Keys.{IsKey}
 use Rattle.nm_edge.specs.Layouts.{Layout}
 use Rattle.nm_edge.specs.declared.edge.Side.{Side}
@@ -8,9 +8,8 @@ use Rattle.nm_model.specs.declared.trace.Turn.{Turn}
 use Rattle.nm_model.specs.Memory.{Memory, infinity_0, in_pool, opening}
 use Rattle.nm_model.specs.Ordered.{ordered, after_in, trace_in}
 use Rattle.nm_model.specs.Paths.{at}
-use Rattle.nm_model.specs.Reports.{counts, keys}
+use Rattle.nm_model.specs.Reports.{counts, keys, tree_slots}
 use Rattle.nm_order.specs.Intervals.{InSet}
-use Rattle.nm_order.specs.LoggedTotals.{TotalsAreInTheLogs}
 use Rattle.nm_order.specs.Totals.{Agree, NothingIsPending, links_of, flags_of}
 use Rattle.nm_steps.specs.declared.view.View.{View}
 use Rattle.nm_words.specs.Packing.{words_of}
@@ -90,34 +89,25 @@ pub record IsOfTurns (L : Layout) (turns : List Turn) (words : List ℕ) (all : 
   pub set : (k : ℕ) → Contains kept k ↔ InSet (words_after L turns) k × (k < infinity_0)
   pub no_hands : (w x : ℕ) → has_after (opening L) w x false turns ≡ false
 
--- All workers of the tree were given, and one stands for all of them. Some run ends with the tree's words, of which their logs are the parts. It goes on
--- from what each of the workers had seen, so all that they were answered was answered in it. Of its turns and of the report the theorem holds. The report
--- has one queue a worker, in the order of their numbers, with all that waits of it, as it was; the keys of the reached leaves, which ascend; and how many
--- slots are free and reached. No slot is private, and as many are queued as wait in the queues, so that these with the free and the reached ones are all
--- slots but the five fixed ones. With no delete pending each key is told as often as calls for it won a link, by the logs of all workers, less as often as
--- they won a flag: once or never. None is where nothing was pending of the workers that were given
+-- One worker stands for all that were given. Some run ends with the tree's words, of which their logs are the parts, and it goes on from what each of them
+-- had seen, so all that they were answered was answered in it. Of its turns and of the report the theorem holds. The report has one queue a worker of the
+-- tree, in the order of their numbers, each as it was, with the labels by the logs; the keys, which ascend; and how many slots the words have in the
+-- pool, and reached from the root, the five fixed ones left out. Where nothing was pending of the workers that were given, no delete is pending in the run
 pub record IsClosed (b : Board) (ws : List Hand) (queues : List HeldQueue) (kept : List ℕ) (free reached : ℕ) : Type 0 where
-  pub enough : b.layout.workers ≤ given_in ws
   pub words : List ℕ
   pub turns : List Turn
   pub headline : IsOfTurns b.layout turns words (all_joined ws) queues kept
   pub ends : Ends b.layout words (all_joined ws)
-  pub goes_on : GoesOnFromAll ends.turns ws
   pub same_turns : turns ≡ trace_in (ordered b.layout) ends.turns
+  pub goes_on : GoesOnFromAll ends.turns ws
   pub merged : queues ≡ all_merged ws
   pub each : AreFrom 0 queues
   pub all : length queues ≡ b.layout.workers
   pub held : AreHeld (knowledge (all_joined ws)) queues
-  pub keys_are : kept ≡ keys (after_in (ordered b.layout) ends.turns).state
-  pub free_are : free ≡ (counts (after_in (ordered b.layout) ends.turns).state).pool
-  pub reached_are : reached ≡ (counts (after_in (ordered b.layout) ends.turns).state).reached
-  pub private : (counts (after_in (ordered b.layout) ends.turns).state).private ≡ 0
-  pub queued_are : (counts (after_in (ordered b.layout) ends.turns).state).queued ≡ waiting_in queues
-  pub sum : free + reached + waiting_in queues ≡ b.layout.nodes - 5
   pub ascend : AllPairs (λ j k. j < k) kept
-  pub logs : TotalsAreInTheLogs b.layout ends.turns
+  pub free_are : free ≡ length (filter (λ mark. mark) (words_after b.layout turns).pool)
+  pub reached_are : reached ≡ length (tree_slots b.layout.nodes (words_after b.layout turns) 1) - 5
   pub rested : HaveNothingPending ws → NothingIsPending b.layout ends.turns
-  pub settled : NothingIsPending b.layout ends.turns → (k : ℕ) → IsKey k → Agree (links_of k b.layout ends.turns) (flags_of k b.layout ends.turns) (Contains kept k)
 
 -- ---- what follows of each closed tree
 
@@ -128,6 +118,27 @@ OfEachClosed P = (b : Board) (ws : List Hand) (queues : List HeldQueue) (kept : 
 -- of the run that ends with its words
 abbrev pub OfEachClosedRun : (Layout → List (ℕ × Event) → Type 0) → Type 0
 OfEachClosedRun P = (b : Board) (ws : List Hand) (queues : List HeldQueue) (kept : List ℕ) (free reached : ℕ) → (is : IsClosed b ws queues kept free reached) → P b.layout is.ends.turns
+
+-- of that run and of all that the report tells
+abbrev pub OfEachReport : (Layout → List (ℕ × Event) → List HeldQueue → List ℕ → ℕ → ℕ → Type 0) → Type 0
+OfEachReport P = (b : Board) (ws : List Hand) (queues : List HeldQueue) (kept : List ℕ) (free reached : ℕ) → (is : IsClosed b ws queues kept free reached) → P b.layout is.ends.turns queues kept free reached
+
+-- just as many workers were given as the tree has
+abbrev pub AllWereGiven : Type 0
+AllWereGiven = (b : Board) (ws : List Hand) (queues : List HeldQueue) (kept : List ℕ) (free reached : ℕ) → IsClosed b ws queues kept free reached → given_in ws ≡ b.layout.workers
+
+-- the free slots, the reached ones and those that wait are all slots but the five fixed ones
+abbrev pub AllSlotsAreTold : Layout → List (ℕ × Event) → List HeldQueue → List ℕ → ℕ → ℕ → Type 0
+AllSlotsAreTold L run queues kept free reached = free + reached + waiting_in queues ≡ L.nodes - 5
+
+-- a core tells the same behind that run: the same keys, and the same counts, with no slot private
+abbrev pub IsAsACoreTells : Layout → List (ℕ × Event) → List HeldQueue → List ℕ → ℕ → ℕ → Type 0
+IsAsACoreTells L run queues kept free reached =
+    (kept ≡ keys (after_in (ordered L) run).state) × (counts (after_in (ordered L) run).state ≡ record { pool = free; private = 0; reached = reached; queued = waiting_in queues })
+
+-- with no delete pending each key is told as often as calls for it won a link, less as often as they won a flag: once or never
+abbrev pub KeysAreTheTotals : Layout → List (ℕ × Event) → List HeldQueue → List ℕ → ℕ → ℕ → Type 0
+KeysAreTheTotals L run queues kept free reached = NothingIsPending L run → (k : ℕ) → IsKey k → Agree (links_of k L run) (flags_of k L run) (Contains kept k)
 
 -- what the splices of a worker cut off is what was freed of it and then its queue of the report
 abbrev pub QueuesAreTheRest : Layout → List Turn → List HeldQueue → Type 0

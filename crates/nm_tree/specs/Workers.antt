@@ -4,7 +4,6 @@ use Rattle.nm_edge.specs.Layouts.{Layout}
 use Rattle.nm_model.specs.declared.ledger.Ledger.{Ledger}
 use Rattle.nm_model.specs.Ledgers.{held, fresh_ledger}
 use Rattle.nm_model.specs.Maps.{get}
-use Rattle.nm_model.specs.Reports.{in_queues}
 use Rattle.nm_model.specs.Walks.{Entry}
 use Rattle.nm_order.specs.Logs.{known_by}
 use Rattle.nm_steps.specs.declared.view.Held.{Held}
@@ -197,17 +196,13 @@ pub record AreOf (v : View) (hs : List HeldQueue) : Type 0 where
   pub each : (o : ℕ) → HasOrigin o hs → HasNumber o (is_held v.number v.log ∷ v.others)
   pub all : (o : ℕ) → HasNumber o (is_held v.number v.log ∷ v.others) → HasOrigin o hs
 
--- by its log no slot is private to it, and no node waits in a queue that it holds
-pub record HoldsNothing (L : Layout) (h : Held) : Type 0 where
-  pub drafts : length (known_by L h.number h.log).drafts ≡ 0
-  pub waiting : in_queues (known_by L h.number h.log).ledgers ≡ 0
-
-abbrev pub HoldNothing : Layout → List Held → Type 0
-HoldNothing L [] = Unit {0}
-HoldNothing L (h ∷ hs) = HoldsNothing L h × HoldNothing L hs
+-- by these logs no slot is private to their workers
+abbrev pub HoldNoSlot : Layout → List Held → Type 0
+HoldNoSlot L [] = Unit {0}
+HoldNoSlot L (h ∷ hs) = (length (known_by L h.number h.log).drafts ≡ 0) × HoldNoSlot L hs
 
 -- these are its accounts, one a queue, 64 at most; the own queue stands at that index; the queues are those of the workers for whom it stands,
--- of which those that resigned hold nothing; and there is room for r queues and s accounts, one of each worker
+-- of which those that resigned hold no slot; and there is room for r queues and s accounts, one of each worker
 pub record IsWorker (w : Hand) (xs : List Account) (home r s : ℕ) : Type 0 where
   pub between : IsBetweenCalls w
   pub accounts : AreAccounts w.pass.view w.queues xs
@@ -215,7 +210,7 @@ pub record IsWorker (w : Hand) (xs : List Account) (home r s : ℕ) : Type 0 whe
   pub own : StandsAt home w.pass.view.number w.queues
   pub alive : w.pass.view.spent ≡ false
   pub numbers : AreOf w.pass.view w.queues
-  pub resigned : HoldNothing w.pass.view.layout w.pass.view.others
+  pub resigned : HoldNoSlot w.pass.view.layout w.pass.view.others
   pub room : w.pass.view.layout.workers ≤ r
   pub account_room : w.pass.view.layout.workers ≤ s
 

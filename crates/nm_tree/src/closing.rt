@@ -2,8 +2,10 @@
 ghost use Rattle.std.specs.Prelude.{◌≡◌, ◌<◌, ◌≤◌, length, min, IfOk, IfErr};
 ghost use Rattle.nm_steps.specs.Steps.{IsOf};
 ghost use Rattle.nm_order.specs.History.{HasHistory};
+ghost use Rattle.nm_order.specs.LoggedTotals.{TotalsAreInTheLogs};
 ghost use Rattle.nm_order.specs.Totals.{TotalsAgree};
-ghost use Rattle.nm_tree.specs.Closing.{AreAllOf, EachSlotEndsOnce, IsClosed, IsCloseReason, GoesOnFromAll, OfEachClosed, OfEachClosedRun, QueuesAreTheRest, StandsForAll, all_merged, given_in};
+ghost use Rattle.nm_tree.specs.Closing.{AllSlotsAreTold, AllWereGiven, AreAllOf, EachSlotEndsOnce, IsAsACoreTells, IsClosed, IsCloseReason, GoesOnFromAll};
+ghost use Rattle.nm_tree.specs.Closing.{KeysAreTheTotals, OfEachClosed, OfEachClosedRun, OfEachReport, QueuesAreTheRest, StandsForAll, all_merged, given_in};
 
 use crate::resigning::unite;
 use crate::tree::Tree;
@@ -109,14 +111,21 @@ fn close_all(tree: Tree, workers: Vec<Worker>, room: Room) -> Report
     }
 }
 
-/// What follows of every tree that was closed: what the splices of each worker cut off is what was freed of it and then its queue of the report; each
-/// slot above 5 stands once, in the pool, on one path, or at one index of one queue; the run that ends with the tree's words has a history; and each
-/// key of the set stands on an unflagged edge as often as calls for it won a link, less as often as they won a flag.
+/// What follows of every tree that was closed: just as many workers were given as it has; what the splices of each worker cut off is what was freed of
+/// it and then its queue of the report; each slot above 5 stands once, in the pool, on one path, or at one index of one queue, and so the free slots, the
+/// reached ones and those that wait are all of these; a core tells the same keys and counts behind the run that ends with the tree's words, and none
+/// private. That run has a history; each key of its set stands on an unflagged edge as often as calls for it won a link, less as often as they won a
+/// flag, both by the logs of all workers; and with no delete pending so often, once or never, each key is told.
 pub fn closed_trees_are_accounted_for()
+    ensures given { AllWereGiven }
     ensures accounted { OfEachClosed QueuesAreTheRest }
     ensures once { OfEachClosed EachSlotEndsOnce }
+    ensures sum { OfEachReport AllSlotsAreTold }
+    ensures told { OfEachReport IsAsACoreTells }
     ensures history { OfEachClosedRun HasHistory }
     ensures totals { OfEachClosedRun TotalsAgree }
+    ensures logs { OfEachClosedRun TotalsAreInTheLogs }
+    ensures settled { OfEachReport KeysAreTheTotals }
 {}
 
 /// One worker that stands for all of these.
