@@ -14,12 +14,16 @@ use std::marker::Model;
 /// How many of the slots that were given back a worker remembers.
 const RECENT: usize = 4;
 
+/// How many slots one row of the pool tells of.
+const SLOTS_OF_A_ROW: u32 = 64;
+
 /// In which order a worker tries the slots of the pool.
 #[derive(Clone, Copy, Debug, PartialEq, Eq)]
 pub enum Fit {
     /// From slot 6 upwards at each claim: first fit.
     Lowest,
-    /// First the slots that the worker gave back last, up to four; then from its cursor upwards, and round: next fit.
+    /// First the slots that the worker gave back last, up to four; then from its cursor upwards, and round, beginning where a peek at the pool shows a slot:
+    /// next fit.
     Near,
 }
 
@@ -50,6 +54,40 @@ impl Near {
             FIRST_SLOT
         }
     }
+}
+
+/// The first slot from this one upwards, and round, that a peek at the pool's rows shows to be there; this one where none shows any. So a claim in a pool
+/// that is nearly dry passes the rows that are empty at a look each. What a peek shows may be otherwise at the claim, which tells.
+fn shown_from(shared: &Shared, first: u32) -> u32
+    requires low { 5 < first }
+    requires high { first ≤ shared.now.layout.nodes }
+    ensures low { 5 < result }
+    ensures high { result ≤ shared.now.layout.nodes }
+{
+    let nodes = shared.layout().nodes();
+    let mut slot = first;
+    for _row in 0..nodes / SLOTS_OF_A_ROW + 2 {
+        let left = left_in_row(slot);
+        let ahead = (shared.peek_row(slot) >> (SLOTS_OF_A_ROW - left)).trailing_zeros();
+        if ahead < left && ahead <= nodes - slot {
+            return slot + ahead;
+        }
+        slot = if left <= nodes - slot {
+            slot + left
+        } else {
+            FIRST_SLOT
+        };
+    }
+    first
+}
+
+/// How many slots there are from this one to the end of its row.
+fn left_in_row(slot: u32) -> u32
+    requires { 1 ≤ slot }
+    ensures some { 1 ≤ result }
+    ensures few { result ≤ SLOTS_OF_A_ROW }
+{
+    SLOTS_OF_A_ROW - (slot - 1) % SLOTS_OF_A_ROW
 }
 
 /// Where one worker looks for a free slot; contracts see which fit it is. It may remember any slots: a slot counts only as it is found.
@@ -136,7 +174,7 @@ fn claim_near(shared: &Shared, pass: &mut Pass, near: &mut Near) -> Option<NodeI
         return Some(node);
     }
     let nodes = shared.layout().nodes();
-    let first = near.first(nodes);
+    let first = shown_from(shared, near.first(nodes));
     if let Some(node) = claim_between(shared, pass, first, nodes + 1) {
         near.cursor = node.slot + 1;
         return Some(node);

@@ -1,5 +1,6 @@
 //! The steps on the pool, one bit of one word each.
 ghost use Rattle.std.specs.Prelude.{◌≡◌, true};
+ghost use Rattle.nm_edge.specs.Words.{IsSlot};
 ghost use Rattle.nm_model.specs.declared.event.Event.TheVariants.{Claim, Give};
 ghost use Rattle.nm_order.specs.Told.{IsNew};
 ghost use Rattle.nm_steps.specs.Steps.{IsOf, IsInRun, MayStep, Stepped, HasTurn, claim_reply, give_reply};
@@ -35,5 +36,13 @@ impl Shared {
         let place = self.layout.pool(slot);
         let word = place.word as usize;
         self.mark(&mut pass.seat, word, place.mask, Event::Give(slot));
+    }
+
+    /// Which slots of a slot's row of the pool seem to be there: a bit each, the lowest slot's first. It is no step, stands in no log, and tells nothing: who
+    /// looks for a free slot may begin where it shows one.
+    pub fn peek_row(&self, slot: u32) -> u64
+        requires { IsSlot self.now.layout slot }
+    {
+        self.peek(self.layout.pool(slot).word as usize)
     }
 }

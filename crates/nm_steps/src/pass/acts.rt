@@ -1,6 +1,7 @@
-//! The operations on one word, each for any event that leaves that word so. No other file reaches the table's words.
-ghost use Rattle.std.specs.Prelude.{◌≡◌, ◌==◌, bit_and, bit_or};
+//! The operations on one word, each for any event that leaves that word so, and the peek, which is no step. No other file reaches the table's words.
+ghost use Rattle.std.specs.Prelude.{◌≡◌, ◌<◌, ◌==◌, bit_and, bit_or};
 ghost use prog.Atomic.{either};
+ghost use Rattle.nm_edge.specs.Words.{words};
 ghost use Rattle.nm_steps.specs.Steps.{IsReady, IsDone, Changes, IsBlind};
 
 use crate::pass::Shared;
@@ -60,6 +61,15 @@ impl Shared {
         ensures { IsDone seat.old seat.new event result }
     {
         exchange_as::<Brand>(&self.table.shared, seat, word, old, new, &event)
+    }
+}
+
+impl Shared {
+    /// Reads the word outside of all logs: what was found tells nothing that a proof could use, so it may only decide what is tried first.
+    pub(crate) fn peek(&self, word: usize) -> u64
+        requires { word < words self.now.layout }
+    {
+        self.table.shared.peek(word)
     }
 }
 
