@@ -20,4 +20,6 @@ pub mod KeptLedgers
 pub mod FreshWorkers
 pub mod Waiting
 pub mod Rooms
+pub mod PlainLooks
 pub mod InTurnsLooks
+pub mod NextLooks

@@ -5,7 +5,9 @@ pub mod Making
 pub mod Telling
 pub mod Walks
 pub mod Calls
+pub mod PlainWalks
 pub mod InTurns
+pub mod NextKeys
 pub mod Won
 pub mod Fresh
 pub mod Cleanups

@@ -13,6 +13,7 @@ mod lookup;
 mod making;
 mod many;
 mod marking;
+mod next_key;
 mod spot;
 mod walking;
 
@@ -27,5 +28,6 @@ pub use lookup::{Busy, has};
 pub use making::{claim, fill, give, link};
 pub use many::{Query, has_many};
 pub use marking::{flag, splice, tag};
+pub use next_key::next;
 pub use spot::{CHAIN_BOUND, Chain, ChainEdge, End, Spot};
 pub use walking::{find, seek};

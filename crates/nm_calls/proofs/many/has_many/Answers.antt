@@ -7,7 +7,8 @@ use Rattle.nm_steps.proofs.Seeing.{seen_through}
 use Rattle.nm_epoch.proofs.Allowed.{may_leave}
 use Rattle.nm_calls.specs.InTurns.{most_looks}
 use Rattle.nm_calls.proofs.Adding.{has_won, cuts_none, plain_moved_adds}
-use Rattle.nm_calls.proofs.InTurnsLooks.{all_were_so, call_adds}
+use Rattle.nm_calls.proofs.InTurnsLooks.{all_were_so}
+use Rattle.nm_calls.proofs.PlainLooks.{call_adds}
 use Rattle.nm_calls.proofs.many.has_many.Goals as goal
 
 pub returns-in_default-clause-won : goal.returns-in_default-clause-won

@@ -4,7 +4,8 @@ use Rattle.std.proofs.lemmas.List.Elements.{All-set}
 use Rattle.nm_steps.proofs.Seeing.{seen_through}
 use Rattle.nm_calls.specs.InTurns.{IsUnderWay, key_of}
 use Rattle.nm_calls.proofs.GoingOn.{goes_then, only_then}
-use Rattle.nm_calls.proofs.InTurnsLooks.{looks_in, looks_then, all_still}
+use Rattle.nm_calls.proofs.InTurnsLooks.{all_still}
+use Rattle.nm_calls.proofs.PlainLooks.{looks_in, looks_then}
 use Rattle.nm_calls.proofs.many.take_turns.Goals as goal
 
 pub loop-index-preserved : goal.loop-index-preserved

@@ -4,7 +4,8 @@ use Rattle.nm_edge.specs.Layouts.{Layout}
 use Rattle.nm_edge.specs.declared.edge.Side.TheVariants.{Left}
 use Rattle.nm_calls.specs.InTurns.{HasBegun, most_looks}
 use Rattle.nm_calls.proofs.Adding.{mul_below}
-use Rattle.nm_calls.proofs.InTurnsLooks.{look_added, looks_in, looks_then, same_count, begun_so}
+use Rattle.nm_calls.proofs.InTurnsLooks.{same_count, begun_so}
+use Rattle.nm_calls.proofs.PlainLooks.{look_added, looks_in, looks_then}
 use Rattle.nm_calls.proofs.many.walk_all.Goals as goal
 
 pub loop-turn-init : goal.loop-turn-init

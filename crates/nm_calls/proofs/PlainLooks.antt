@@ -1,0 +1,203 @@
+-- Looks that are added to a log under a pin for no call: a walk begins, goes on, and tells of its key.
+use Rattle.std.proofs.Common.{◌≡◌, ◌≢◌, ◌≤◌, ℕ, ◌+◌, ◌*◌, ◌==◌, Bool, true, false, cond, List, [], ◌∷◌, ◌++◌, append-nil, append_assoc, length, refl, sym, ap, subst, ◌∙◌, arith, true≢false}
+use Rattle.std.specs.Prelude.{filter, None, All}
+use Rattle.std.specs.List.{list_all}
+use Rattle.std.proofs.lemmas.Bool.{and_parts, and_from}
+use Rattle.std.proofs.lemmas.List.{length-append}
+use Rattle.std.proofs.lemmas.List.Folds.{list_all-append}
+use Rattle.nm_edge.specs.Edges.{Edge}
+use Rattle.nm_edge.specs.Keys.{IsKey}
+use Rattle.nm_edge.specs.Layouts.{Layout, IsLayout}
+use Rattle.nm_edge.specs.declared.edge.Side.{Side}
+use Rattle.nm_edge.specs.declared.edge.Side.TheVariants.{Left, Right}
+use Rattle.nm_model.specs.declared.event.Event.{Event}
+use Rattle.nm_model.specs.declared.event.Event.TheVariants.{Look}
+use Rattle.nm_model.specs.declared.event.Field.{Field}
+use Rattle.nm_model.specs.declared.event.Field.TheVariants.{Key as KeyOf, Edge as EdgeOn}
+use Rattle.nm_model.specs.declared.reply.Reply.{Reply}
+use Rattle.nm_model.specs.declared.reply.Reply.TheVariants.{KeyIs, EdgeIs}
+use Rattle.nm_model.specs.Ordered.{ordered, trace_in, HasKey}
+use Rattle.nm_model.specs.Searches.{side_of}
+use Rattle.nm_model.specs.Walks.{Entry, begins_anew, since_pin, IsPart}
+use Rattle.nm_model.specs.Walks.IsPart.{nothing, takes, skips}
+use Rattle.nm_model.specs.Walks.Leads.{begins, leads_on}
+use Rattle.nm_order.specs.Exchanges.{is_won_link}
+use Rattle.nm_order.specs.Logs.{part_of, known_by}
+use Rattle.nm_order.specs.WalkAnswers.{WasSoSince}
+use Rattle.nm_order.specs.WalksToArrivals.{is_won_flag}
+use Rattle.nm_order.proofs.LogParts.{part_grows}
+use Rattle.nm_order.proofs.WalkAnswers.{walks_tell_of_their_pin}
+use Rattle.nm_order.proofs.WalksOfRuns.{since_pin-append}
+use Rattle.nm_steps.specs.Rules.{Extends}
+use Rattle.nm_steps.specs.Steps.{Stand, Stepped, HasSeen, IsSamePass, HasSeenAllOf}
+use Rattle.nm_epoch.specs.Resting.{epochs}
+use Rattle.nm_calls.specs.declared.looking.Onward.{Onward}
+use Rattle.nm_calls.specs.PlainWalks.{is_look, AddsLooks, HasComeTo, HasEndedSo, LooksUnderPin, WasSo}
+use Rattle.nm_calls.specs.Walks.{Reads, edge_on}
+use Rattle.nm_calls.specs.Won.{is_won_splice}
+use Rattle.nm_calls.proofs.Adding.{Adds, adds_then, adds_these, plain_pin_adds}
+use Rattle.nm_calls.proofs.Looks.{enough}
+
+-- ---- looks alone
+
+pub no_looks : (old : List Entry) → AddsLooks 0 old old
+no_looks old = record { looks = []; grown = sym (append-nil old); only = refl; few = omega arith }
+
+pub looks_in : {n : ℕ} (m : ℕ) (old new : List Entry) → n ≤ m → AddsLooks n old new → AddsLooks m old new
+looks_in m old new le a = let few = a.few in record { looks = a.looks; grown = a.grown; only = a.only; few = omega (arith, le, few) }
+
+pub looks_then : {n m : ℕ} (old mid new : List Entry) → AddsLooks n old mid → AddsLooks m mid new → AddsLooks (n + m) old new
+looks_then {n} {m} old mid new a b = record {
+  looks = a.looks ++ b.looks;
+  grown = b.grown ∙ (ap (λ (l : List Entry). l ++ b.looks) a.grown ∙ append_assoc old a.looks b.looks);
+  only = list_all-append is_look a.looks b.looks ∙ and_from (list_all is_look a.looks) (list_all is_look b.looks) a.only b.only;
+  few = let x = a.few in let y = b.few in let l = length-append a.looks b.looks in omega (arith, x, y, l);
+}
+
+-- one look, and the three by which a node is read
+abbrev pub look_added : (p q : Stand) (x : ℕ) (side : Side) (e : Edge) → Stepped p q (Look x (EdgeOn side)) (EdgeIs e) → AddsLooks 1 p.view.log q.view.log
+look_added p q x side e step = record { looks = (Look x (EdgeOn side), EdgeIs e) ∷ []; grown = ap (λ (s : Stand). s.view.log) step; only = refl; few = omega arith }
+
+-- the looks at a node's key and at its edges
+abbrev pub node_looks : ℕ → ℕ → Edge → Edge → List Entry
+node_looks x key left right = (Look x KeyOf, KeyIs key) ∷ (Look x (EdgeOn Left), EdgeIs left) ∷ (Look x (EdgeOn Right), EdgeIs right) ∷ []
+
+pub read_grows : (k x : ℕ) (old new : List Entry) (on : Onward) (r : Reads k x old new on) → new ≡ old ++ node_looks x on.found r.0 r.1
+read_grows k x old new on r = r.2 ∙ (append_assoc (old ++ (Look x KeyOf, KeyIs on.found) ∷ []) ((Look x (EdgeOn Left), EdgeIs r.0) ∷ []) ((Look x (EdgeOn Right), EdgeIs r.1) ∷ [])
+    ∙ append_assoc old ((Look x KeyOf, KeyIs on.found) ∷ []) ((Look x (EdgeOn Left), EdgeIs r.0) ∷ (Look x (EdgeOn Right), EdgeIs r.1) ∷ []))
+
+abbrev pub read_added : (k x : ℕ) (old new : List Entry) (on : Onward) → Reads k x old new on → AddsLooks 3 old new
+read_added k x old new on r = record { looks = node_looks x on.found r.0 r.1; grown = read_grows k x old new on r; only = refl; few = omega arith }
+
+-- ---- looks win nothing
+
+look_is : (P : Entry → Type 0) → ((x : ℕ) (f : Field) (r : Reply) → P (Look x f, r)) → (e : Entry) → is_look e ≡ true → P e
+look_is P f (Look x field, r) is = f x field r
+look_is P f e is = absurd (true≢false (sym is))
+
+-- of none of them the test is true
+none_of : (test : Entry → Bool) → ((e : Entry) → is_look e ≡ true → test e ≡ false) → (looks : List Entry) → list_all is_look looks ≡ true → filter test looks ≡ []
+none_of test fails [] only = refl
+none_of test fails (e ∷ es) only =
+    let parts = and_parts (is_look e) (list_all is_look es) only in
+    ap (λ (b : Bool). cond b (e ∷ filter test es) (filter test es)) (fails e parts.0) ∙ none_of test fails es parts.1
+
+pub looks_add : {n : ℕ} (old new : List Entry) → AddsLooks n old new → Adds 0 0 0 n old new
+looks_add {n} old new a =
+    let these = adds_these a.looks old new a.grown in
+    let links = none_of is_won_link (look_is (λ e. is_won_link e ≡ false) (λ x f r. refl)) a.looks a.only in
+    let flags = none_of is_won_flag (look_is (λ e. is_won_flag e ≡ false) (λ x f r. refl)) a.looks a.only in
+    let splices = none_of is_won_splice (look_is (λ e. is_won_splice e ≡ false) (λ x f r. refl)) a.looks a.only in
+    record {
+      links = these.links ∙ ap (λ (l : List Entry). length (filter is_won_link old) + length l) links;
+      flags = these.flags ∙ ap (λ (l : List Entry). length (filter is_won_flag old) + length l) flags;
+      splices = these.splices ∙ ap (λ (l : List Entry). length (filter is_won_splice old) + length l) splices;
+      steps = let few = a.few in let steps = these.steps in omega (arith, few, steps);
+    }
+
+-- ---- the log since the pin
+
+since_looks : (so_far looks : List Entry) → list_all is_look looks ≡ true → since_pin so_far looks ≡ so_far ++ looks
+since_looks so_far [] only = sym (append-nil so_far)
+since_looks so_far (e ∷ es) only =
+    let parts = and_parts (is_look e) (list_all is_look es) only in
+    ap (λ (b : Bool). since_pin (cond b [] (so_far ++ e ∷ [])) es) (look_is (λ e. begins_anew e ≡ false) (λ x f r. refl) e parts.0)
+    ∙ (since_looks (so_far ++ e ∷ []) es parts.1 ∙ append_assoc so_far (e ∷ []) es)
+
+since_grows : {n : ℕ} (old new : List Entry) (a : AddsLooks n old new) → since_pin [] new ≡ since_pin [] old ++ a.looks
+since_grows old new a = ap (since_pin []) a.grown ∙ (since_pin-append [] old a.looks ∙ since_looks (since_pin [] old) a.looks a.only)
+
+-- ---- a walk stays in the log
+
+module _ {n : ℕ} (p q : Stand) (a : AddsLooks n p.view.log q.view.log) where
+  part_still : (looks : List Entry) → IsPart looks (since_pin [] p.view.log) → IsPart looks (since_pin [] q.view.log)
+  part_still looks part = subst (IsPart looks) (sym (since_grows p.view.log q.view.log a)) (part_grows a.looks part)
+
+  pub come_still : (k slot : ℕ) → HasComeTo p k slot → HasComeTo q k slot
+  come_still k slot c = (c.0, c.1, record { looks = c.2.looks; leads = c.2.leads; is_part = part_still c.2.looks c.2.is_part })
+
+  pub ended_still : (k : ℕ) (answer : Bool) → HasEndedSo p k answer → HasEndedSo q k answer
+  ended_still k answer e = (e.0, e.1, e.2, e.3, record { looks = e.4.looks; leads = e.4.leads; null = e.4.null; is_null = e.4.is_null; is_part = part_still _ e.4.is_part }, e.5)
+
+-- ---- a walk begins
+
+-- at the left edge of slot 2, whatever its key is
+pub comes_first : (p q : Stand) (e : Edge) → Stepped p q (Look 2 (EdgeOn Left)) (EdgeIs e) → e.slot ≢ 0 → (k : ℕ) → HasComeTo q k e.slot
+comes_first p q e step some k = (
+  2,
+  Left,
+  record {
+    looks = (Look 2 (EdgeOn Left), EdgeIs e) ∷ [];
+    leads = begins e some;
+    is_part = subst (IsPart ((Look 2 (EdgeOn Left), EdgeIs e) ∷ [])) (sym (since_grows p.view.log q.view.log (look_added p q 2 Left e step))) (behind (since_pin [] p.view.log));
+  },
+)
+  where
+    behind : (xs : List Entry) → IsPart ((Look 2 (EdgeOn Left), EdgeIs e) ∷ []) (xs ++ (Look 2 (EdgeOn Left), EdgeIs e) ∷ [])
+    behind [] = takes nothing
+    behind (x ∷ xs) = skips (behind xs)
+
+-- ---- and goes on
+
+-- a part of a first list and one of a second are one of both
+part_joined : {xs ys us vs : List Entry} → IsPart xs us → IsPart ys vs → IsPart (xs ++ ys) (us ++ vs)
+part_joined nothing q = q
+part_joined (takes p) q = takes (part_joined p q)
+part_joined (skips p) q = skips (part_joined p q)
+
+module _ (p q : Stand) (k x : ℕ) (on : Onward) (r : Reads k x p.view.log q.view.log on) where
+  abbrev walk_looks : List Entry
+  walk_looks = (Look x KeyOf, KeyIs on.found) ∷ (Look x (EdgeOn (side_of k on.found)), EdgeIs on.next) ∷ []
+
+  -- of the three looks a walk takes two
+  two_of_three : IsPart walk_looks (node_looks x on.found r.0 r.1)
+  two_of_three = subst (λ (n : Edge). IsPart ((Look x KeyOf, KeyIs on.found) ∷ (Look x (EdgeOn (side_of k on.found)), EdgeIs n) ∷ []) (node_looks x on.found r.0 r.1)) (sym r.4)
+      (subst (λ (d : Side). IsPart ((Look x KeyOf, KeyIs on.found) ∷ (Look x (EdgeOn d), EdgeIs (edge_on on.side r.0 r.1)) ∷ []) (node_looks x on.found r.0 r.1)) r.3 (by on.side))
+    where
+      by : (d : Side) → IsPart ((Look x KeyOf, KeyIs on.found) ∷ (Look x (EdgeOn d), EdgeIs (edge_on d r.0 r.1)) ∷ []) (node_looks x on.found r.0 r.1)
+      by Left = takes (takes (skips nothing))
+      by Right = takes (skips (takes nothing))
+
+  longer : (looks : List Entry) → IsPart looks (since_pin [] p.view.log) → IsPart (looks ++ walk_looks) (since_pin [] q.view.log)
+  longer looks part = subst (IsPart (looks ++ walk_looks)) (sym (since_grows p.view.log q.view.log (read_added k x p.view.log q.view.log on r)))
+      (part_joined part two_of_three)
+
+  pub comes_on : HasComeTo p k x → on.next.slot ≢ 0 → HasComeTo q k on.next.slot
+  comes_on c some = (x, side_of k on.found, record { looks = c.2.looks ++ walk_looks; leads = leads_on c.2.leads on.found on.next some; is_part = longer c.2.looks c.2.is_part })
+
+  pub ends_so : HasComeTo p k x → on.next.slot ≡ 0 → HasEndedSo q k (on.found == k)
+  ends_so c null = (x, c.0, on.found, c.1, record { looks = c.2.looks; leads = c.2.leads; null = on.next; is_null = null; is_part = longer c.2.looks c.2.is_part }, refl)
+
+-- ---- the answer
+
+was_so_longer : (L : Layout) (past turns later : List (ℕ × Event)) (w k : ℕ) (answer : Bool) → Extends later turns → WasSoSince L past turns w k answer → WasSoSince L past later w k answer
+was_so_longer L past turns later w k answer more was = record {
+  before = was.before;
+  since = was.since ++ more.more;
+  is_run = more.is ∙ (ap (λ (l : List (ℕ × Event)). l ++ more.more) was.is_run ∙ append_assoc was.before was.since more.more);
+  later = was.later;
+  pinned = was.pinned;
+  gives = was.gives;
+}
+
+-- a walk has ended under a pin that was confirmed behind o, and all goes on to q
+pub was_so : (o p q : Stand) → HasSeen o.view → IsLayout o.view.layout → (epochs o).pin ≡ None → IsSamePass o p → HasSeenAllOf p o → HasSeen p.view → IsSamePass p q → HasSeenAllOf q p
+    → (k : ℕ) (answer : Bool) → IsKey k → HasEndedSo p k answer → WasSo o q k answer
+was_so o p q first fits unpinned same past mid on more k answer key e =
+    subst (λ (s : Stand). WasSoSince s.view.layout o.view.past q.view.past s.view.number k answer) (sym on)
+    (was_so_longer p.view.layout o.view.past p.view.past q.view.past p.view.number k answer more.goes_on
+    (subst (λ (s : Stand). WasSoSince s.view.layout o.view.past p.view.past s.view.number k answer) (sym same)
+    (subst (λ (b : Bool). WasSoSince o.view.layout o.view.past p.view.past o.view.number k b) (sym e.5)
+    (subst (λ (turns : List (ℕ × Event)). WasSoSince o.view.layout o.view.past turns o.view.number k (e.2 == k)) (sym past.goes_on.is)
+    (walks_tell_of_their_pin o.view.layout (enough o.view.layout fits) o.view.number first.worker o.view.past past.goes_on.more
+    (subst (λ (turns : List (ℕ × Event)). All (λ t. HasKey t.1) turns) past.goes_on.is mid.keys)
+    (subst (λ (l : List Entry). (known_by o.view.layout o.view.number l).brief.pin ≡ None) (sym first.is_part) unpinned)
+    p.view.log
+    (ap (λ (turns : List (ℕ × Event)). part_of o.view.number (trace_in (ordered o.view.layout) turns)) (sym past.goes_on.is) ∙ subst (λ (s : Stand). part_of s.view.number (trace_in (ordered s.view.layout) p.view.past) ≡ p.view.log) same mid.is_part)
+    k e.0 e.1 e.3 e.2 (let le = key in omega (arith, le)) e.4)))))
+
+-- ---- the whole call
+
+-- a pin, looks and a leave: what they add
+pub call_adds : (tries most : ℕ) (old new : List Entry) → LooksUnderPin tries most old new → Adds 0 0 0 (2 * tries + 1 + (most + 1)) old new
+call_adds tries most old new h = adds_then old h.pinned new (plain_pin_adds tries old h.pinned h.epoch h.pin) (adds_then h.pinned h.looked new (looks_add h.pinned h.looked h.looks) (adds_these _ h.looked new h.leaves))
