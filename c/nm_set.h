@@ -314,6 +314,15 @@ nm_outcome nm_worker_read(nm_handle *worker, uint32_t number, uint64_t *links, u
  * NM_NUMBER; NM_AWAY, NM_HELD and NM_PENDING, which are of the leaver. */
 nm_outcome nm_worker_resign(nm_handle *worker, uint32_t leaver);
 
+/* Ends the set by its last worker, once nm_drop has closed the handle of the set and those of its
+ * other workers. NM_DONE, and the handle owns the report from then on: it is proved to be of a run
+ * that goes on from all that this worker had seen, its own answers among them; that the report of
+ * nm_set_close is so too is shown by tests. The worker may be held or have a pending key. NM_AWAY: the
+ * handle of the set, or of another worker, is open still, and this one owns the worker as it was.
+ * NM_NO_MEMORY: it owns the worker as it was, or the set, whose workers were gathered then: of that
+ * this function tells NM_KIND, and nm_set_close goes on. */
+nm_outcome nm_worker_end(nm_handle *worker);
+
 /* ---- the report of a set that was closed ----
  * Of a closed handle these tell NM_CLOSED, and of one that owns something else NM_KIND. */
 

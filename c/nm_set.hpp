@@ -100,6 +100,55 @@ struct Slots {
     std::uint32_t reached;
 };
 
+// What a set was closed with.
+class Report : public detail::Owner {
+public:
+    // A closed one.
+    Report() = default;
+
+    // Forgets the report.
+    void close() noexcept { nm_drop(&handle_); }
+
+    [[nodiscard]] Slots slots() const {
+        Slots told{0, 0};
+        detail::answered(nm_report_slots(&handle_, &told.free, &told.reached));
+        return told;
+    }
+
+    // How many keys the set had.
+    [[nodiscard]] std::uint64_t size() const {
+        std::uint64_t count = 0;
+        detail::answered(nm_report_keys(&handle_, &count));
+        return count;
+    }
+
+    // The keys of the set, ascending.
+    [[nodiscard]] std::vector<std::uint64_t> keys() const {
+        std::vector<std::uint64_t> keys(size());
+        for (std::uint64_t index = 0; index < keys.size(); index++)
+            detail::answered(nm_report_key(&handle_, index, &keys[index]));
+        return keys;
+    }
+
+    // How many nodes wait of those that a worker cut off.
+    [[nodiscard]] std::uint64_t queue_len(std::uint32_t worker) const {
+        std::uint64_t nodes = 0;
+        detail::answered(nm_report_queue(&handle_, worker, &nodes));
+        return nodes;
+    }
+
+    // Takes the oldest of them out.
+    std::optional<nm_waiting> take_waiting(std::uint32_t worker) {
+        nm_waiting told{};
+        if (!detail::answered(nm_report_waiting(&handle_, worker, &told))) return std::nullopt;
+        return told;
+    }
+
+private:
+    friend class Set;
+    friend class Worker;
+};
+
 // One worker of a set. One thread at a time uses it.
 class Worker : public detail::Owner {
 public:
@@ -292,51 +341,23 @@ public:
         return nm_worker_resign(&handle_, leaver);
     }
 
-private:
-    friend class Set;
-};
-
-// What a set was closed with.
-class Report : public detail::Owner {
-public:
-    // A closed one.
-    Report() = default;
-
-    // Forgets the report.
-    void close() noexcept { nm_drop(&handle_); }
-
-    [[nodiscard]] Slots slots() const {
-        Slots told{0, 0};
-        detail::answered(nm_report_slots(&handle_, &told.free, &told.reached));
-        return told;
+    // Ends the set, once that and its other workers are closed; this is a closed owner then. NM_AWAY
+    // while another owner of it is open. NM_NO_MEMORY: this call can be made again, and may be the
+    // only one that goes on. What is proved of the report stands at nm_worker_end.
+    Report end() {
+        Report report;
+        detail::answered(try_end(report));
+        return report;
     }
 
-    // How many keys the set had.
-    [[nodiscard]] std::uint64_t size() const {
-        std::uint64_t count = 0;
-        detail::answered(nm_report_keys(&handle_, &count));
-        return count;
-    }
-
-    // The keys of the set, ascending.
-    [[nodiscard]] std::vector<std::uint64_t> keys() const {
-        std::vector<std::uint64_t> keys(size());
-        for (std::uint64_t index = 0; index < keys.size(); index++)
-            detail::answered(nm_report_key(&handle_, index, &keys[index]));
-        return keys;
-    }
-
-    // How many nodes wait of those that a worker cut off.
-    [[nodiscard]] std::uint64_t queue_len(std::uint32_t worker) const {
-        std::uint64_t nodes = 0;
-        detail::answered(nm_report_queue(&handle_, worker, &nodes));
-        return nodes;
-    }
-
-    // Takes the oldest of them out.
-    std::optional<nm_waiting> take_waiting(std::uint32_t worker) {
-        nm_waiting told{};
-        if (!detail::answered(nm_report_waiting(&handle_, worker, &told))) return std::nullopt;
+    // Ends the set, and opens a closed owner with its report. Where that is refused, also with
+    // NM_OPEN as the report is open, this owns what it owned.
+    [[nodiscard]] nm_outcome try_end(Report &into) noexcept {
+        if (into.is_open()) return NM_OPEN;
+        nm_outcome told = nm_worker_end(&handle_);
+        // An end that was refused has gathered the workers: their set is what the handle owns.
+        if (told == NM_KIND) told = nm_set_close(&handle_);
+        if (told == NM_DONE) std::swap(into.handle_, handle_);
         return told;
     }
 

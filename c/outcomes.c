@@ -38,7 +38,7 @@ static void is_refused(nm_handle *handle, nm_outcome worker, nm_outcome report) 
         CHECK(nm_worker_collect(handle, &wide, &other) == worker && nm_worker_number(handle, &narrow) == worker);
         CHECK(nm_worker_queue_len(handle, &wide) == worker && nm_worker_pending(handle, &wide) == worker);
         CHECK(nm_worker_held(handle, &wide) == worker && nm_worker_ledger(handle, &ledger) == worker);
-        CHECK(nm_worker_resign(handle, 0) == worker);
+        CHECK(nm_worker_resign(handle, 0) == worker && nm_worker_end(handle) == worker);
         CHECK(nm_worker_post(handle, &wide, &other) == worker && nm_worker_read(handle, 0, &wide, &other) == worker);
     }
     if (report != NM_DONE) {
@@ -245,6 +245,20 @@ static void missed(void) {
     CHECK(nm_set_away(&set, 1) == NM_KIND && nm_drop(&set) == NM_DONE);
 }
 
+/* The last worker ends its set, held as it may be, and not while the set's handle or that of another worker is open. */
+static void ended(void) {
+    nm_handle set = NM_CLOSED_HANDLE, last = NM_CLOSED_HANDLE, other = NM_CLOSED_HANDLE;
+    uint64_t told = NOT_WRITTEN;
+    CHECK(nm_set_near(&set, 64, 3) == NM_DONE && nm_set_worker(&set, &last, 1) == NM_DONE && nm_set_worker(&set, &other, 0) == NM_DONE);
+    CHECK(nm_worker_insert(&last, 5, TRIES) == NM_YES && nm_worker_insert(&other, 6, TRIES) == NM_YES);
+    CHECK(nm_worker_end(&set) == NM_KIND && nm_worker_end(&last) == NM_AWAY && nm_drop(&set) == NM_DONE && nm_worker_end(&set) == NM_CLOSED);
+    CHECK(nm_worker_end(&last) == NM_AWAY && nm_worker_end(&other) == NM_AWAY && nm_worker_delete(&last, 6, TRIES) == NM_YES);
+    CHECK(nm_drop(&other) == NM_DONE && nm_worker_pin(&last, TRIES, &told) == NM_DONE && nm_worker_end(&last) == NM_DONE);
+    CHECK(nm_worker_end(&last) == NM_KIND && nm_report_keys(&last, &told) == NM_DONE && told == 1);
+    CHECK(nm_report_key(&last, 0, &told) == NM_DONE && told == 5 && nm_report_queue(&last, 1, &told) == NM_DONE && told == 2);
+    CHECK(nm_drop(&last) == NM_DONE && nm_worker_end(&last) == NM_CLOSED);
+}
+
 /* Each outcome has words of its own, and so has a number that is none. */
 static void texts(void) {
     for (int first = NM_IN_USE - 1; first <= NM_DONE; first++)
@@ -316,6 +330,7 @@ int main(void) {
     away();
     notes();
     missed();
+    ended();
     puts("each outcome is as it should be");
     return 0;
 }

@@ -133,6 +133,20 @@ void owners_are_closed() {
     CHECK(!report.is_open() && set.try_close(report) == NM_CLOSED);
 }
 
+// A set that nobody has any more is ended by its last worker, and by no other.
+void a_worker_ends_its_set() {
+    nm::Set set = nm::Set::near(64, 2);
+    nm::Worker last = set.worker(1), other = set.worker(0);
+    nm::Report report;
+    CHECK(last.insert(5) && last.insert(6) && last.erase(6) && last.try_end(report) == NM_AWAY);
+    set = nm::Set();
+    CHECK(thrown([&] { last.end(); }) == NM_AWAY && last.is_open() && !report.is_open());
+    other.close();
+    CHECK(last.try_end(report) == NM_DONE && !last.is_open() && last.try_end(report) == NM_OPEN);
+    CHECK(report.keys() == std::vector<std::uint64_t>{5} && report.queue_len(1) == 2);
+    CHECK(thrown([&] { last.end(); }) == NM_CLOSED);
+}
+
 // The calls that tend the set, of a set for one key.
 void owners_tend() {
     nm::Set set = nm::Set::lowest(7, 1);
@@ -223,6 +237,7 @@ int main() {
     a_worker_outlives_its_set();
     faults_are_told();
     owners_are_closed();
+    a_worker_ends_its_set();
     owners_tend();
     notes_are_heard();
     outcomes_are_answered();

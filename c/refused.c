@@ -69,6 +69,20 @@ static void end(nm_handle *set) {
     CHECK(told == NM_DONE);
 }
 
+/* Behind an end that was refused memory the handle owns its worker as before, or the set, whose workers were gathered. */
+static void end_by(nm_handle *worker) {
+    nm_outcome told;
+    uint32_t number;
+    while ((told = nm_worker_end(worker)) == NM_NO_MEMORY) {
+        nm_outcome numbered = nm_worker_number(worker, &number);
+        CHECK(numbered == NM_KIND || (numbered == NM_DONE && number == 1));
+    }
+    if (told == NM_KIND)
+        end(worker);
+    else
+        CHECK(told == NM_DONE);
+}
+
 static void tell(nm_handle *report) {
     uint64_t count, key, first, second, third;
     uint32_t free_slots, reached;
@@ -97,5 +111,11 @@ int main(void) {
     end(&set);
     tell(&set);
     CHECK(nm_drop(&set) == NM_DONE);
+    make(&set);
+    take(&set, &first, 1);
+    CHECK(insert(&first, 5) == NM_YES && nm_drop(&set) == NM_DONE);
+    end_by(&first);
+    tell(&first);
+    CHECK(nm_drop(&first) == NM_DONE);
     return 0;
 }

@@ -1,6 +1,7 @@
 -- A set that is closed, or left open, by what its tree has told.
 use Rattle.std.proofs.Common.{◌≡◌, ◌∙◌, ◌⊎◌, false, true, List, [], ◌∷◌, ◌++◌, append-nil, refl, sym, ap, subst, inl, inr}
 use Rattle.std.specs.Prelude.{Result, Ok, Err, IfOk, IfErr}
+use Rattle.nm_pool.specs.declared.placement.Fit.{Fit}
 use Rattle.nm_steps.specs.Steps.{Board}
 use Rattle.nm_tree.specs.declared.closing.CloseReason.{CloseReason as Reason}
 use Rattle.nm_tree.specs.declared.closing.CloseReason.TheVariants as tree
@@ -12,8 +13,8 @@ use Rattle.nm_set.specs.declared.fault.CloseReason.TheVariants as because
 use Rattle.nm_set.specs.declared.home.Site.{Site}
 use Rattle.nm_set.specs.declared.set.State.{State}
 use Rattle.nm_set.specs.declared.set.State.TheVariants.{Open, Closing}
-use Rattle.nm_set.specs.Seats.{AreOwn, BeginsWith, IsOwn, Standing}
-use Rattle.nm_set.specs.Ends.{EndsSet, HasGathered, IsLeftOpen, IsTreesReason}
+use Rattle.nm_set.specs.Seats.{AreOwn, BeginsWith, IsOwn, Seated, Standing}
+use Rattle.nm_set.specs.Ends.{EndsSet, HasGathered, IsLeftOpen, IsTreesReason, set_of}
 use Rattle.nm_set.specs.States.{site_of, standing_of, closing_set, open_set}
 
 -- ---- workers of a tree
@@ -51,28 +52,29 @@ ended s site all g r closed =
     let D : Board → Type 0 = λ b. IsClosed b (s.kept ++ g.home) r.queues.items r.keys.items r.free r.reached in
     record { home = g.home; own = subst B (sym g.board) (subst O g.are g.own); none = g.none; closed = subst D (sym g.board) (subst C g.are closed) }
 
+-- it keeps them, where its tree was not closed
+pub kept_all : (s : Standing) (site : Site) (all : List Hand) → Gathers s site all → (t : Standing) → t ≡ closing_set site all → (x : Reason) → IsCloseReason site.tree all x → HasGathered s x t
+kept_all s site all g t is x so =
+    let board : t.board ≡ site.tree = ap (λ (u : Standing). u.board) is in
+    let kept : t.kept ≡ all = ap (λ (u : Standing). u.kept) is in
+    let P : Board → Type 0 = λ b. IsCloseReason b t.kept x in
+    let Q : List Hand → Type 0 = λ ws. IsCloseReason site.tree ws x in
+    record {
+      board = board ∙ sym g.board;
+      fit = ap (λ (u : Standing). u.fit) is ∙ sym g.fit;
+      closing = ap (λ (u : Standing). u.closing) is;
+      home = g.home;
+      kept = kept ∙ g.are;
+      none = g.none;
+      reason = subst P (sym board) (subst Q (sym kept) so);
+    }
+
 pub left : (s : Standing) (site : Site) (all : List Hand) → Gathers s site all → (t : Standing) → t ≡ closing_set site all → (why : CloseReason) → IsTreesReason site.tree all why → IsLeftOpen s why t
 left s site all g t is why (of_tree, told, reason) = subst (λ (w : CloseReason). IsLeftOpen s w t) (sym told) (by of_tree reason)
   where
-    gathered : (x : Reason) → IsCloseReason site.tree all x → HasGathered s x t
-    gathered x so =
-        let board : t.board ≡ site.tree = ap (λ (u : Standing). u.board) is in
-        let kept : t.kept ≡ all = ap (λ (u : Standing). u.kept) is in
-        let P : Board → Type 0 = λ b. IsCloseReason b t.kept x in
-        let Q : List Hand → Type 0 = λ ws. IsCloseReason site.tree ws x in
-        record {
-          board = board ∙ sym g.board;
-          fit = ap (λ (u : Standing). u.fit) is ∙ sym g.fit;
-          closing = ap (λ (u : Standing). u.closing) is;
-          home = g.home;
-          kept = kept ∙ g.are;
-          none = g.none;
-          reason = subst P (sym board) (subst Q (sym kept) so);
-        }
-
     by : (x : Reason) → IsCloseReason site.tree all x → IsLeftOpen s (Rattle.nm_set.specs.Ends.told_reason x) t
-    by (tree.NotAll given made) so = gathered (tree.NotAll given made) so
-    by tree.NoMemory so = inr (gathered tree.NoMemory so)
+    by (tree.NotAll given made) so = kept_all s site all g t is (tree.NotAll given made) so
+    by tree.NoMemory so = inr (kept_all s site all g t is tree.NoMemory so)
 
 -- of a set whose workers had been gathered before
 pub had_gathered : (s : Standing) (site : Site) (kept : List Hand) → closing_set site kept ≡ s → AreOwn site.tree kept → Gathers s site kept
@@ -98,6 +100,16 @@ gathered_now s site kept all is (home, are) own = record {
   where
     differ : false ≡ true → ⊥
     differ e = cc
+
+-- of one that keeps a member's worker alone
+pub gathered_with : (m : Seated) (site : Site) (all : List Hand) → site.tree ≡ m.board → m.hand.fit ≡ site.fit → BeginsWith (m.hand ∷ []) all → AreOwn site.tree all → Gathers (set_of m) site all
+gathered_with m site all tree fit begins own = gathered_now (set_of m) site (m.hand ∷ []) all (sites ∙ fits) begins own
+  where
+    sites : open_set site (m.hand ∷ []) ≡ record { board = m.board; fit = site.fit; closing = false; kept = m.hand ∷ [] }
+    sites = ap (λ (b : Board). record { board = b; fit = site.fit; closing = false; kept = m.hand ∷ [] }) tree
+
+    fits : ◌≡◌ {A = Standing} (record { board = m.board; fit = site.fit; closing = false; kept = m.hand ∷ [] }) (set_of m)
+    fits = ap (λ (f : Fit). record { board = m.board; fit = f; closing = false; kept = m.hand ∷ [] }) (sym fit)
 
 -- and of one that is as it was
 pub as_before : (s t : Standing) (site : Site) (kept : List Hand) → open_set site kept ≡ s → t ≡ open_set site kept → (why : CloseReason) → (why ≡ because.Away) ⊎ (why ≡ because.NoMemory) → IsLeftOpen s why t

@@ -1,14 +1,16 @@
 -- The end of a set.
-use Rattle.std.specs.Prelude.{◌≡◌, ◌⊎◌, List, [], ◌++◌, true, false}
+use Rattle.std.specs.Prelude.{◌≡◌, ◌⊎◌, List, [], ◌∷◌, ◌++◌, true, false}
 use Rattle.nm_steps.specs.Steps.{Board}
 use Rattle.nm_tree.specs.declared.closing.CloseReason.{CloseReason as Reason}
 use Rattle.nm_tree.specs.declared.closing.CloseReason.TheVariants as tree
 use Rattle.nm_tree.specs.declared.closing.Report.{Report}
 use Rattle.nm_tree.specs.Closing.{IsClosed, IsCloseReason}
 use Rattle.nm_tree.specs.Workers.{Hand}
+use Rattle.nm_set.specs.declared.ending.EndError.{EndError}
+use Rattle.nm_set.specs.declared.ending.EndError.TheVariants.{Away, NoMemory, Gathered}
 use Rattle.nm_set.specs.declared.fault.CloseReason.{CloseReason}
 use Rattle.nm_set.specs.declared.fault.CloseReason.TheVariants as because
-use Rattle.nm_set.specs.Seats.{AreOwn, Standing}
+use Rattle.nm_set.specs.Seats.{AreOwn, Seated, Standing}
 
 -- The tree of the set was closed with the workers that the set kept, each as it came, and then with those that were at home; which these had been is
 -- not said, but that there are none where a refused close had gathered all
@@ -46,3 +48,20 @@ abbrev pub IsLeftOpen : Standing → CloseReason → Standing → Type 0
 IsLeftOpen s because.Away t = IsAsBefore s t
 IsLeftOpen s (because.NotAll given made) t = HasGathered s (tree.NotAll given made) t
 IsLeftOpen s because.NoMemory t = IsAsBefore s t ⊎ HasGathered s tree.NoMemory t
+
+-- ---- the end by the last member
+
+-- a set that keeps the worker of this member, as it is, and no other
+abbrev pub set_of : Seated → Standing
+set_of m = record { board = m.board; fit = m.hand.fit; closing = false; kept = m.hand ∷ [] }
+
+-- the tree of the member was closed with the member's worker, as it is, and then with those that were at home
+abbrev pub EndsMember : Seated → Report → Type 0
+EndsMember m r = EndsSet (set_of m) r
+
+-- how a member stands that has not ended its set: it is as it was; or a set whose workers were gathered keeps the member's, and then those that were at
+-- home, and its tree was not closed for the reason that is told
+abbrev pub IsNotEnded : Seated → EndError → Type 0
+IsNotEnded m (Away n) = n ≡ m
+IsNotEnded m (NoMemory n) = n ≡ m
+IsNotEnded m (Gathered e) = (why : Reason) × (e.reason ≡ told_reason why) × HasGathered (set_of m) why e.set

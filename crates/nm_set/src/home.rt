@@ -1,5 +1,5 @@
 //! The home of a tree's workers: a seat for each of them, where it is while nobody has it.
-ghost use Rattle.std.specs.Prelude.{◌≡◌, ◌<◌, ◌≤◌, ◌+◌, ◌↔◌, length, IfNone, IfOk, IfSome, IsErrOf, vec_capacity};
+ghost use Rattle.std.specs.Prelude.{◌≡◌, ◌<◌, ◌≤◌, ◌+◌, ◌↔◌, [], length, IfNone, IfOk, IfSome, IsErrOf, vec_capacity};
 ghost use Rattle.nm_tree.specs.Workers.{AreNew, HaveFit};
 ghost use Rattle.nm_set.specs.Seats.{AreOwn, BeginsWith, IsOwn, IsResident};
 
@@ -109,6 +109,14 @@ impl Home {
         ensures none { IfNone result (self.now.tree.layout.workers ≤ number) }
     {
         Some(self.seats.get(number as usize)?.post())
+    }
+
+    /// Room for a worker that is away, and for all that may be at home.
+    pub(crate) fn room_with_one(&self) -> Result<Vec<Worker>, AllocError>
+        ensures empty { IfOk result (λ ws. ws.items ≡ []) }
+        ensures room { IfOk result (λ ws. 1 + self.now.tree.layout.workers ≤ vec_capacity ws) }
+    {
+        Vec::with_capacity(*self.seats.allocator(), 1 + self.seats.len())
     }
 
     /// The tree, and some workers with those that are at home behind them. There is room for all.

@@ -6,6 +6,7 @@
 #![tactic(auto)]
 
 mod attach;
+mod ending;
 mod fault;
 mod home;
 mod member;
@@ -14,6 +15,7 @@ mod seat;
 mod set;
 mod tended;
 
+pub use ending::EndError;
 pub use fault::{CloseReason, Fault, MemberFault, NotHeld, PinFault, PostFault, ResignReason};
 pub use member::{Member, ResignError};
 pub use nm_tree::{

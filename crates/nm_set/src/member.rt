@@ -296,7 +296,7 @@ impl Member {
     }
 
     /// The home that the member keeps, and its worker as it is.
-    fn apart(self) -> (Arc<Home, Global>, Guest)
+    pub(crate) fn apart(self) -> (Arc<Home, Global>, Guest)
         ensures worker { result.1.worker ≡ self.hand }
         ensures tree { (arc_value result.0).tree ≡ self.board }
         ensures own { IsOwn self.board self.hand }

@@ -251,7 +251,7 @@ fn left_open(home: Arc<Home, Global>, kept: Vec<Worker>, reason: CloseReason) ->
 }
 
 /// Closes a tree whose workers were gathered.
-fn end(site: Site, workers: Vec<Worker>) -> Result<Report, CloseError>
+pub(crate) fn end(site: Site, workers: Vec<Worker>) -> Result<Report, CloseError>
     requires own { AreOwn site.tree workers.items }
     ensures closed { IfOk result (λ r. IsClosed site.tree workers.items r.queues.items r.keys.items r.free r.reached) }
     ensures refused { IfErr result (λ e. e.set ≡ closing_set site workers.items) }

@@ -5,9 +5,10 @@ use Rattle.nm_pool.specs.declared.placement.Fit.{Fit}
 use Rattle.nm_set.specs.declared.fault.CloseReason.{CloseReason}
 use Rattle.nm_set.specs.declared.fault.MemberFault.{MemberFault}
 use Rattle.nm_set.specs.declared.fault.MemberFault.TheVariants as taking
-use Rattle.nm_set.specs.Ends.{EndsSet, IsLeftOpen}
+use Rattle.nm_set.specs.Ends.{EndsMember, EndsSet, HasGathered, IsLeftOpen, set_of, told_reason}
 use Rattle.nm_set.specs.Seats.{Standing, Seated, IsResident, IsAnyResident, TellsAway}
 use Rattle.nm_tree.specs.Workers.{Hand}
+use Rattle.nm_tree.specs.declared.closing.CloseReason.{CloseReason as Reason}
 use Rattle.nm_tree.specs.declared.closing.Report.{Report}
 use Rattle.nm_set_c.specs.Outcomes.{of_bool, of_taking, of_reason}
 use Rattle.nm_set_c.specs.Handles.{Hold, Closed, Open, IsRefused, CannotOpen}
@@ -117,6 +118,24 @@ EndsOwner Nothing new o = (o ≡ outcome.Kind) × (new ≡ Nothing)
 
 abbrev pub EndsHandle : Hold → Hold → Outcome → Type 0
 EndsHandle old new o = IsRefused old new o ⊎ ((x : Owner) × (old ≡ Open x) × (y : Owner) × (new ≡ Open y) × EndsOwner x y o)
+
+-- ---- the end of a set by its last worker
+
+-- there is the report; or the worker still, as it was; or why its tree was not closed is told, and there is the set, with the worker and those at home
+abbrev pub IsEndedBy : Seated → Owner → Outcome → Type 0
+IsEndedBy m new o =
+    ((o ≡ outcome.Done) × (r : Report) × (new ≡ Ended r) × EndsMember m r)
+    ⊎ ((((o ≡ outcome.Away) ⊎ (o ≡ outcome.NoMemory)) × (new ≡ Worker m))
+    ⊎ ((why : Reason) × (o ≡ of_reason (told_reason why)) × (t : Standing) × (new ≡ Set t) × HasGathered (set_of m) why t))
+
+abbrev pub EndsByOwner : Owner → Owner → Outcome → Type 0
+EndsByOwner (Worker m) new o = IsEndedBy m new o
+EndsByOwner (Set s) new o = (o ≡ outcome.Kind) × (new ≡ Set s)
+EndsByOwner (Ended r) new o = (o ≡ outcome.Kind) × (new ≡ Ended r)
+EndsByOwner Nothing new o = (o ≡ outcome.Kind) × (new ≡ Nothing)
+
+abbrev pub EndsByHandle : Hold → Hold → Outcome → Type 0
+EndsByHandle old new o = IsRefused old new o ⊎ ((x : Owner) × (old ≡ Open x) × (y : Owner) × (new ≡ Open y) × EndsByOwner x y o)
 
 -- ---- what any handle owns
 

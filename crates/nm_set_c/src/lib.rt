@@ -9,6 +9,7 @@
 //! a call has what it claimed until it puts it back; that the exchange is one step is what `word` is for.
 #![tactic(auto)]
 
+mod ending;
 mod epochs;
 mod handle;
 mod keys;

@@ -4,14 +4,13 @@ ghost use Rattle.nm_pool.specs.declared.placement.Fit.TheVariants.{Lowest, Near}
 ghost use Rattle.nm_set_c.specs.Handles.{held_by};
 ghost use Rattle.nm_set_c.specs.Handles.Hold.{Closed, Open};
 ghost use Rattle.nm_set_c.specs.Outcomes.{Tells};
-ghost use Rattle.nm_set_c.specs.Sets.{MakesSet, Gives, Keeps, TakesWorker, IsNumbered, NumberFaults, Attaches, IsAny, AnyFaults, Misses, MissesOwned, EndsHandle, EndsOwner, GivesUp};
+ghost use Rattle.nm_set_c.specs.Sets.{MakesSet, Gives, Keeps, TakesWorker, IsNumbered, NumberFaults, Attaches, IsAny, AnyFaults, Misses, MissesOwned, GivesUp};
 
 use crate::handle::Handle;
 use crate::outcome::Outcome;
 use crate::owner::Owner;
 use nm_set::{Member, Set};
 use std::alloc::Global;
-use std::mem::replace;
 
 /// Makes the empty set, in a tree with room for `nodes` nodes, 7 to 268,435,456, for 1 to 64 workers; a new node takes the lowest free slot:
 /// `Set::lowest` of `nm_set`. `Done`, and the handle is open; `Open`, `InUse`, `Nodes`, `Workers`, `NoMemory`.
@@ -184,35 +183,6 @@ fn is_away(owner: &Owner, number: u32) -> Outcome
     match set.is_away(number) {
         Ok(answer) => Outcome::of(answer),
         Err(fault) => Outcome::of_taking(fault),
-    }
-}
-
-/// Ends the set when all its workers are closed: `Set::close` of `nm_set`. `Done`, and the handle owns the report from then on. `Away`, `NotAll`,
-/// `NoMemory`: the handle owns the set still. `Closed`, `InUse`, `Kind`.
-#[unsafe(no_mangle)]
-pub extern "C" fn nm_set_close(alloc: Global, set: &mut Handle) -> i32
-    ensures { Tells (EndsHandle (held_by set.old) (held_by set.new)) result }
-{
-    let mut owner = match set.claim_soon(alloc) {
-        Ok(owner) => owner,
-        Err(told) => return told.code(),
-    };
-    let (left, outcome) = end(replace(&mut *owner, Owner::Nothing));
-    *owner = left;
-    set.put(owner);
-    outcome.code()
-}
-
-fn end(owner: Owner) -> (Owner, Outcome)
-    ensures { EndsOwner owner result.0 result.1 }
-{
-    let set = match owner {
-        Owner::Set(set) => set,
-        other => return (other, Outcome::Kind),
-    };
-    match set.close() {
-        Ok(report) => (Owner::Ended(report), Outcome::Done),
-        Err(error) => (Owner::Set(error.set), Outcome::of_reason(error.reason)),
     }
 }
 

@@ -1,0 +1,75 @@
+//! The end of a set, by its own handle or by that of its last worker.
+ghost use Rattle.nm_set_c.specs.Handles.{held_by};
+ghost use Rattle.nm_set_c.specs.Outcomes.{Tells};
+ghost use Rattle.nm_set_c.specs.Sets.{EndsHandle, EndsOwner, EndsByHandle, EndsByOwner};
+
+use crate::handle::Handle;
+use crate::outcome::Outcome;
+use crate::owner::Owner;
+use nm_set::EndError;
+use std::alloc::Global;
+use std::mem::replace;
+
+/// Ends the set when all its workers are closed: `Set::close` of `nm_set`. `Done`, and the handle owns the report from then on. `Away`, `NotAll`,
+/// `NoMemory`: the handle owns the set still. `Closed`, `InUse`, `Kind`.
+#[unsafe(no_mangle)]
+pub extern "C" fn nm_set_close(alloc: Global, set: &mut Handle) -> i32
+    ensures { Tells (EndsHandle (held_by set.old) (held_by set.new)) result }
+{
+    let mut owner = match set.claim_soon(alloc) {
+        Ok(owner) => owner,
+        Err(told) => return told.code(),
+    };
+    let (left, outcome) = end(replace(&mut *owner, Owner::Nothing));
+    *owner = left;
+    set.put(owner);
+    outcome.code()
+}
+
+fn end(owner: Owner) -> (Owner, Outcome)
+    ensures { EndsOwner owner result.0 result.1 }
+{
+    let set = match owner {
+        Owner::Set(set) => set,
+        other => return (other, Outcome::Kind),
+    };
+    match set.close() {
+        Ok(report) => (Owner::Ended(report), Outcome::Done),
+        Err(error) => (Owner::Set(error.set), Outcome::of_reason(error.reason)),
+    }
+}
+
+/// Ends the set by its last worker, once its own handle was dropped and all its other workers are closed: `Member::end` of `nm_set`. `Done`, and the
+/// handle owns the report from then on, which is told of the tree on which this worker has worked, and of all that it has done. `Away`: the handle of
+/// the set or that of another worker is open still; `NoMemory`: both leave the worker as it was. `NotAll`, and `NoMemory` behind the point where all
+/// workers were gathered: the handle owns the set from then on, and only `nm_set_close` goes on. `Closed`, `InUse`, `Kind`.
+#[unsafe(no_mangle)]
+pub extern "C" fn nm_worker_end(alloc: Global, worker: &mut Handle) -> i32
+    ensures { Tells (EndsByHandle (held_by worker.old) (held_by worker.new)) result }
+{
+    let mut owner = match worker.claim(alloc) {
+        Ok(owner) => owner,
+        Err(told) => return told.code(),
+    };
+    let (left, outcome) = end_by_worker(replace(&mut *owner, Owner::Nothing));
+    *owner = left;
+    worker.put(owner);
+    outcome.code()
+}
+
+fn end_by_worker(owner: Owner) -> (Owner, Outcome)
+    ensures { EndsByOwner owner result.0 result.1 }
+{
+    let member = match owner {
+        Owner::Worker(member) => member,
+        other => return (other, Outcome::Kind),
+    };
+    match member.end() {
+        Ok(report) => (Owner::Ended(report), Outcome::Done),
+        Err(EndError::Away(member)) => (Owner::Worker(member), Outcome::Away),
+        Err(EndError::NoMemory(member)) => (Owner::Worker(member), Outcome::NoMemory),
+        Err(EndError::Gathered(error)) => {
+            (Owner::Set(error.set), Outcome::of_reason(error.reason))
+        }
+    }
+}
