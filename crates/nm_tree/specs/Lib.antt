@@ -1,5 +1,6 @@
 pub mod Workers
 pub mod Answers
+pub mod Looked
 pub mod InTurns
 pub mod Resigning
 pub mod Settled

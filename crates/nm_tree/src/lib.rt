@@ -10,6 +10,7 @@ mod epochs;
 mod fault;
 mod lookup;
 mod many;
+mod next_key;
 mod notes;
 mod resigning;
 mod running;

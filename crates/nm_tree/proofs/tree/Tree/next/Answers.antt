@@ -1,0 +1,27 @@
+use Rattle.std.proofs.Common.{◌≡◌, ap, ◌∙◌}
+use Rattle.nm_tree.specs.declared.worker.Standing.TheVariants as standing
+use Rattle.nm_tree.specs.Workers.{Hand}
+use Rattle.nm_tree.proofs.Quiet.{quiet_so}
+use Rattle.nm_tree.proofs.Staying.{stays, resting_in, rests_in, rests_as, free_in}
+use Rattle.nm_tree.proofs.tree.Tree.next.Goals as goal
+use Rattle.nm_tree.proofs.tree.Tree.next.Goals.{in-Ok, in-Err}
+
+resting : (c : goal.Joined-next) → c.worker.inside.standing ≡ standing.Resting
+resting c = resting_in c.worker.inside.standing (ap (λ (w : Hand). w.held) c.worker.view_is ∙ c.requires.free) c.in_default.not-Pending
+
+pub invariant_of-worker : goal.invariant_of-worker
+invariant_of-worker c =
+    let was = rests_in c.worker.inside.pass c.worker.inside.standing (resting c) c.worker.invariant.between.stands in
+    stays _ _ c.worker.inside.home c.next.new.pass _ _ c.worker.invariant c.next.ensures.same (quiet_so _ _ c.next.ensures.won c.next.ensures.uncut)
+    c.next.ensures.hands.private (c.next.ensures.hands.ledgers was.labelled)
+    (rests_as c.next.new.pass c.worker.inside.standing (resting c) c.next.ensures.rests)
+
+pub returns-clause-between : goal.returns-clause-between
+returns-clause-between c = (invariant_of-worker c).between
+
+pub returns-clause-did : goal.returns-clause-did
+returns-clause-did c =
+    elim c.match-next.branch [
+      | in-Ok w ↦ rw (w.result-is, ← c.worker.view_is, ← c.self.view_is) (free_in c.worker.inside.standing (resting c), w.in-Ok.ensures.did)
+      | in-Err w ↦ rw (w.result-is, ← c.worker.view_is, ← c.self.view_is) (free_in c.worker.inside.standing (resting c), w.in-Err.ensures.missed)
+    ]

@@ -1,0 +1,14 @@
+-- What a call that walks under a pin for no call leaves of its worker, by its answer.
+use Rattle.std.specs.Prelude.{ℕ, Result, Ok, Err}
+use Rattle.nm_calls.specs.PlainWalks.{LooksUnderPin, LooksOrMoves}
+use Rattle.nm_tree.specs.declared.fault.Fault.{Fault}
+use Rattle.nm_tree.specs.declared.fault.Fault.TheVariants as fault
+use Rattle.nm_tree.specs.Answers.{IsRefused, IsFree}
+use Rattle.nm_tree.specs.Workers.{Hand}
+
+-- with so many looks at most
+abbrev pub HasLooked : {X : Type 0} → ℕ → ℕ → Hand → Hand → Result X Fault → Type 0
+HasLooked tries most w z (Ok _) = IsFree w z × LooksUnderPin tries most w.pass.view.log z.pass.view.log
+HasLooked tries most w z (Err fault.Busy) = IsFree w z × LooksOrMoves tries most w.pass.view.log z.pass.view.log
+HasLooked tries most w z (Err fault.Pending) = IsRefused w z
+HasLooked tries most w z (Err _) = ⊥
