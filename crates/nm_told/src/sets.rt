@@ -1,4 +1,4 @@
-//! What the report of a set tells a caller that lets it keep its member, by the clauses of `nm_set` alone.
+//! What the report of a set tells a caller that lets it keep its member, or ends it by its last one, by the clauses of `nm_set` alone.
 ghost use Rattle.std.specs.Prelude.{◌≡◌, [], true, IfSome, Contains};
 ghost use Rattle.nm_told.specs.Adding.{HasAdded};
 
@@ -51,6 +51,37 @@ fn close_with(set: Set, member: Member, key: Key) -> Option<Report>
         return None;
     };
     match set.close() {
+        Ok(report) => Some(report),
+        Err(_) => None,
+    }
+}
+
+/// A set of one worker, whose member inserts a key and then ends it. `None`: the insert was not answered true, or memory was refused. Else the report has
+/// the key.
+pub fn insert_then_end(alloc: Global, nodes: u32, key: Key, tries: u32) -> Option<Report>
+    ensures { IfSome result (λ r. Contains r.keys.items key) }
+{
+    let Ok(set) = Set::lowest(alloc, nodes, 1) else {
+        return None;
+    };
+    let Ok(mut member) = set.member(0) else {
+        return None;
+    };
+    drop(set);
+    if !add(&mut member, key, tries) {
+        return None;
+    }
+    end_by(member, key)
+}
+
+/// Ends a set by its only worker, whose member has inserted a key.
+fn end_by(member: Member, key: Key) -> Option<Report>
+    requires one { member.board.layout.workers ≡ 1 }
+    requires added { HasAdded key member.hand }
+    ensures { IfSome result (λ r. Contains r.keys.items key) }
+{
+    member.is_of_a_run();
+    match member.end() {
         Ok(report) => Some(report),
         Err(_) => None,
     }
