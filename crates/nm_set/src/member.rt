@@ -11,6 +11,7 @@ ghost use Rattle.nm_tree.specs.Workers.{Hand, IsBetweenCalls, IsLedger, waiting_
 ghost use Rattle.nm_tree.specs.declared.worker.Unfinished.{Unfinished as Delete};
 ghost use Rattle.nm_set.specs.Asked.{Asked, AskedToPin, AskedToUnpin, LeavesHas, LeavesInsert, LeavesDelete, LeavesFinish, LeavesAdvance, LeavesBehind, LeavesCollect};
 ghost use Rattle.nm_set.specs.InTurns.{AskedMany};
+ghost use Rattle.nm_set.specs.NextKeys.{AskedNext};
 ghost use Rattle.nm_set.specs.Posts.{HasTally, Reads};
 ghost use Rattle.nm_set.specs.Seats.{IsOwn, IsResident, IsStaying, told_absence, told_staying};
 
@@ -111,6 +112,22 @@ impl Member {
             .has_many(&mut self.guest.worker, queries, tries)
         {
             Ok(()) => Ok(()),
+            Err(fault) => Err(Fault::Call(fault)),
+        }
+    }
+
+    /// The least key of the set that is not below `key`, or `None` where there is none: `Tree::next` of `nm_tree`.
+    ///
+    /// `Held`: the caller holds the worker. Other faults are the tree's.
+    pub fn next(&mut self, key: Key, tries: u32) -> Result<Option<Key>, Fault>
+        ensures board { self.new.board ≡ self.old.board }
+        ensures did { AskedNext self.old.board.layout.nodes tries key self.old.hand self.new.hand result }
+    {
+        if self.guest.worker.held().is_some() {
+            return Err(Fault::Held);
+        }
+        match self.home.tree().next(&mut self.guest.worker, key, tries) {
+            Ok(found) => Ok(found),
             Err(fault) => Err(Fault::Call(fault)),
         }
     }
