@@ -1,8 +1,8 @@
 //! Members of a set in one thread, each answer compared, and two in threads of their own.
 use nm_edge::Key;
 use nm_set::{
-    CloseReason, Fault, Habit, Member, MemberFault, NotHeld, PinFault, PostFault, Posted,
-    ResignReason, Set,
+    CloseReason, EndError, Fault, Habit, Member, MemberFault, NotHeld, PinFault, PostFault, Posted,
+    Report, ResignReason, Set,
 };
 use std::process::Abort;
 use std::test::Fail;
@@ -32,6 +32,11 @@ fn closed(rt: &impl Abort, set: Set) -> (Vec<Key>, u64) {
     let Ok(report) = set.close() else {
         panic!(rt; "the set was not closed")
     };
+    told(report)
+}
+
+/// The keys of a report, and how many slots are free, reached or waiting.
+fn told(report: Report) -> (Vec<Key>, u64) {
     let mut slots = u64::from(report.free) + u64::from(report.reached);
     for held in &report.queues {
         slots = slots.saturating_add(u64::from(held.queue.len()));
@@ -155,6 +160,38 @@ fn a_kept_member_is_closed_with_its_set(rt: HostRuntime) -> Result<(), Fail> {
     assert!(rt; set.keep(first).is_ok());
     let (keys, slots) = closed(&rt, set);
     assert_eq!(rt; (keys.as_slice(), slots), ([nine].as_slice(), 251));
+    Ok(())
+}
+
+/// A member that is not the last one, or whose `Set` is there, has not ended it, and is as it was.
+fn not_last(rt: &impl Abort, member: Member) -> Member {
+    match member.end() {
+        Err(EndError::Away(member)) => member,
+        _ => panic!(rt; "the set was ended, or closing"),
+    }
+}
+
+/// The last member ends its set, once that was dropped and the other member is closed.
+#[test]
+fn the_last_member_ends_its_set(rt: HostRuntime) -> Result<(), Fail> {
+    let set = Set::lowest(rt.alloc(), 64, 3)?;
+    let mut last = set.member(1)?;
+    let other = set.member(0)?;
+    let (five, nine) = (key(&rt, 5), key(&rt, 9));
+    assert_eq!(rt;
+        (last.insert(five, TRIES), last.insert(nine, TRIES)),
+        (Ok(true), Ok(true))
+    );
+    let last = not_last(&rt, last);
+    drop(set);
+    let mut last = not_last(&rt, last);
+    assert_eq!(rt; last.delete(five, TRIES), Ok(true));
+    other.close();
+    let Ok(report) = last.end() else {
+        panic!(rt; "the set was not ended")
+    };
+    let (keys, slots) = told(report);
+    assert_eq!(rt; (keys.as_slice(), slots), ([nine].as_slice(), 59));
     Ok(())
 }
 
