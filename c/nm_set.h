@@ -222,6 +222,14 @@ nm_outcome nm_worker_has(nm_handle *worker, uint64_t key, uint32_t tries);
  * one of the numbers is no key. NM_BUSY, NM_PENDING, NM_HELD, NM_NO_MEMORY: no found is written. */
 nm_outcome nm_worker_has_many(nm_handle *worker, nm_lookup *lookups, size_t count, uint32_t tries);
 
+/* The least key of the set that is not below key: NM_YES, and found is written; NM_NO where there is none.
+ * The set had found at a moment of this call, and of each key from key on below found, or with NM_NO of
+ * each from key on, there was a moment of this call at which the set did not have it; the moments of two
+ * keys may differ. So a program goes over the keys of a set in use: it asks for 0, and then for found + 1
+ * until NM_NO, or NM_KEY behind the greatest key. NM_KEY, NM_BUSY, NM_PENDING, NM_HELD: found is not
+ * written. It takes no memory. In a set at rest two tries are enough. */
+nm_outcome nm_worker_next(nm_handle *worker, uint64_t key, uint32_t tries, uint64_t *found);
+
 /* Inserts a key: NM_YES where it was not in the set, NM_NO where it was. NM_KEY, NM_BUSY, NM_FULL, NM_PENDING, NM_HELD, NM_NO_MEMORY. */
 nm_outcome nm_worker_insert(nm_handle *worker, uint64_t key, uint32_t tries);
 

@@ -182,6 +182,18 @@ public:
         return nm_worker_has_many(&handle_, lookups.empty() ? &none : lookups.data(), lookups.size(), most);
     }
 
+    // The least key of the set that is not below this one.
+    [[nodiscard]] std::optional<std::uint64_t> next(std::uint64_t key, std::uint32_t most = tries) {
+        std::uint64_t found = 0;
+        if (!detail::answered(try_next(key, found, most))) return std::nullopt;
+        return found;
+    }
+
+    [[nodiscard]] nm_outcome try_next(std::uint64_t key, std::uint64_t &found,
+                                      std::uint32_t most = tries) noexcept {
+        return nm_worker_next(&handle_, key, most, &found);
+    }
+
     // Whether the key was not in the set. It is now.
     bool insert(std::uint64_t key, std::uint32_t most = tries) {
         return detail::answered(try_insert(key, most));

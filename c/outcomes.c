@@ -10,8 +10,10 @@ enum { TRIES = 64, NOT_WRITTEN = 77 };
 /* What any call for a key tells. */
 static void each_tells(nm_handle *worker, uint64_t key, nm_outcome wanted) {
     nm_lookup lookup = {key, NOT_WRITTEN};
+    uint64_t found = NOT_WRITTEN;
     CHECK(nm_worker_has(worker, key, TRIES) == wanted);
     CHECK(nm_worker_has_many(worker, &lookup, 1, TRIES) == wanted && lookup.key == key && lookup.found == NOT_WRITTEN);
+    CHECK(nm_worker_next(worker, key, TRIES, &found) == wanted && found == NOT_WRITTEN);
     CHECK(nm_worker_insert(worker, key, TRIES) == wanted);
     CHECK(nm_worker_delete(worker, key, TRIES) == wanted);
 }
@@ -89,6 +91,9 @@ static void answers(void) {
     CHECK(lookups[0].found == 0 && lookups[1].found == 1 && lookups[2].found == 0 && lookups[1].key == 5);
     CHECK(nm_worker_delete(&worker, 6, TRIES) == NM_NO && nm_worker_finish(&worker, TRIES) == NM_NO);
     uint64_t key = NOT_WRITTEN;
+    CHECK(nm_worker_next(&worker, 6, TRIES, &key) == NM_NO && nm_worker_next(&worker, 0, 0, &key) == NM_BUSY && key == NOT_WRITTEN);
+    CHECK(nm_worker_next(&worker, 0, TRIES, &key) == NM_YES && key == 5 && nm_worker_next(&worker, 5, TRIES, &key) == NM_YES && key == 5);
+    key = NOT_WRITTEN;
     CHECK(nm_worker_pending(&worker, &key) == NM_NO && key == NOT_WRITTEN);
     CHECK(nm_worker_delete(&worker, 5, 1) == NM_UNFINISHED && nm_worker_finish(&worker, 0) == NM_UNFINISHED);
     CHECK(nm_worker_pending(&worker, &key) == NM_YES && key == 5);

@@ -4,6 +4,7 @@
 
 #include <cstdio>
 #include <cstdlib>
+#include <optional>
 #include <thread>
 #include <type_traits>
 #include <utility>
@@ -59,11 +60,16 @@ void threads_fill_a_set() {
     std::vector<std::thread> threads;
     for (std::uint32_t number = 0; number < threads_at_work; number++) threads.emplace_back(fill, set.worker(number * apart), number);
     for (std::thread &thread : threads) thread.join();
-    nm::Report report = set.close();
-    CHECK(thrown([&] { (void)set.worker(0); }) == NM_CLOSED);
     std::vector<std::uint64_t> wanted;
     for (std::uint64_t key = 0; key < keys_of_each * threads_at_work; key++)
         if (key / threads_at_work % 2 == 0) wanted.push_back(key);
+    std::vector<std::uint64_t> passed;
+    nm::Worker reader = set.worker(0);
+    for (std::optional<std::uint64_t> key = reader.next(0); key; key = reader.next(*key + 1)) passed.push_back(*key);
+    CHECK(passed == wanted);
+    reader.close();
+    nm::Report report = set.close();
+    CHECK(thrown([&] { (void)set.worker(0); }) == NM_CLOSED);
     CHECK(report.keys() == wanted);
     std::uint64_t waiting = 0;
     for (std::uint32_t number = 0; number < threads_at_work * apart; number++) {

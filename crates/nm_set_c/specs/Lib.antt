@@ -7,4 +7,5 @@ pub mod Sets
 pub mod Workers
 pub mod Notes
 pub mod Lookups
+pub mod NextKeys
 pub mod Reports

@@ -14,6 +14,7 @@ mod epochs;
 mod handle;
 mod keys;
 mod many;
+mod next_key;
 mod notes;
 mod outcome;
 mod owner;

@@ -1,0 +1,55 @@
+//! The next key of a set that is in use, by the handle of a worker.
+#![tactic(auto, using(crate::proofs::Owners::refused_worker, crate::proofs::Owners::told_worker, crate::proofs::Owners::other_worker))]
+
+ghost use Rattle.std.specs.Prelude.{◌≡◌};
+ghost use Rattle.nm_set_c.specs.Handles.{held_by};
+ghost use Rattle.nm_set_c.specs.NextKeys.{DoesNext};
+ghost use Rattle.nm_set_c.specs.Outcomes.{Tells};
+ghost use Rattle.nm_set_c.specs.Owners.{OfWorker};
+
+use crate::handle::Handle;
+use crate::outcome::Outcome;
+use crate::owner::Owner;
+use nm_edge::Key;
+use nm_set::Member;
+use std::alloc::Global;
+
+/// The least key of the set that is not below `key`: `Member::next` of `nm_set`. `Yes`, and it is written; `No`, where there is none; `Key`, `Busy`,
+/// `Pending`, `Held`, `NoMemory`; `Closed`, `InUse`, `Kind`.
+#[unsafe(no_mangle)]
+pub extern "C" fn nm_worker_next(
+    alloc: Global,
+    worker: &mut Handle,
+    key: u64,
+    tries: u32,
+    found: &mut u64,
+) -> i32
+    ensures { Tells (OfWorker (DoesNext tries key found.old found.new) (found.new ≡ found.old) (held_by worker.old) (held_by worker.new)) result }
+{
+    let mut owner = match worker.claim(alloc) {
+        Ok(owner) => owner,
+        Err(told) => return told.code(),
+    };
+    let outcome = match &mut *owner {
+        Owner::Worker(member) => next(member, key, tries, found),
+        _ => Outcome::Kind,
+    };
+    worker.put(owner);
+    outcome.code()
+}
+
+fn next(member: &mut Member, key: u64, tries: u32, found: &mut u64) -> Outcome
+    ensures { DoesNext tries key found.old found.new member.old member.new result }
+{
+    let Some(key) = Key::new(key) else {
+        return Outcome::Key;
+    };
+    match member.next(key, tries) {
+        Ok(Some(next)) => {
+            *found = next.get();
+            Outcome::Yes
+        }
+        Ok(None) => Outcome::No,
+        Err(fault) => Outcome::of_fault(fault),
+    }
+}
