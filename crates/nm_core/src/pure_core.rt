@@ -213,7 +213,7 @@ impl Core {
     /// The turns that led here, whatever they were, and then those of this run have the headline (`nm_theorem`): at each moment each
     /// slot is in one place, each turn cuts exactly the nodes of its outcome, each worker's cuts are its freed and then its waiting
     /// nodes, none twice, nothing is freed while a worker that was pinned at its cut has not left, and what a worker has touched
-    /// stays until it leaves. The same of the states that the core keeps, with its ledgers, is said of this run (`lawful`).
+    /// stays until it leaves. Each state of this run keeps what every state keeps, and its ledgers grow by the turns (`lawful`).
     /// An ordered core stays in order, and its whole run, from its opening on, is a history of one plain set (it is linearizable;
     /// see `runs_are_histories` of `nm_order`).
     ///

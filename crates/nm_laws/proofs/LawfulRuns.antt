@@ -1,12 +1,11 @@
--- The headline of one run, from any state that can be reached.
-use Rattle.std.proofs.Common.{◌≡◌, ℕ, zero, suc, ◌+◌, ◌<◌, List, [], ◌∷◌, ◌++◌, length, take, append_assoc, refl, sym, ap, subst, ◌∙◌, arith}
+-- What one run keeps, from any state that can be reached, and its grace.
+use Rattle.std.proofs.Common.{◌≡◌, ℕ, zero, suc, ◌+◌, ◌<◌, List, [], ◌∷◌, ◌++◌, length, take, refl, sym, ap, subst, ◌∙◌, arith}
 use Rattle.std.specs.Prelude.{Some, Result, Ok, Contains}
-use Rattle.std.proofs.lemmas.List.{length-append}
 use Rattle.nm_edge.specs.declared.node.NodeId.{NodeId}
 use Rattle.nm_model.specs.declared.event.Event.{Event}
 use Rattle.nm_model.specs.declared.event.Event.TheVariants.{Splice}
 use Rattle.nm_model.specs.declared.reply.Reply.{Reply}
-use Rattle.nm_model.specs.declared.reply.Reply.TheVariants.{Cut}
+use Rattle.nm_model.specs.declared.reply.Reply.TheVariants.{Cut, Freed}
 use Rattle.nm_model.specs.declared.reply.Refused.{Refused}
 use Rattle.nm_model.specs.declared.trace.Turn.{Turn}
 use Rattle.nm_model.specs.Places.{EachSlotInOnePlace}
@@ -15,8 +14,7 @@ use Rattle.nm_laws.proofs.Reaches.{IsReachable}
 use Rattle.nm_edge.specs.Layouts.{Layout}
 use Rattle.nm_model.specs.Laws.{OfEachState, OfEachCut, CutsJust, NothingElseCuts, OnlySplicesAnswerCuts, NoNodeTwice, GraceHolds, RetiredGrowsByTheCuts, slots_of, nodes_cut_of, HasLeft}
 use Rattle.nm_model.specs.Lawful.{LabelsDoNotFall, NoLabelIsAboveTheEpoch, BriefsAreRight, QueuedNodesAreFrozen, TaggedEdgesHaveFlaggedTwins, FlaggedEdgesLeadToLeaves, OnlyThePinnedKnow, ReachIsShared, ReachIsGuarded, EpochsAgree, CountsAddUp, EachReadStands, KnownLeavesAreLeaves, EachBirthStands}
-use Rattle.nm_model.specs.Traces.{IsLawfulState, IsLawfulRun, EachHasOneHolder, EachTurnCutsItsNodes, LedgersAreSplit, LedgersGrowByTheCuts, LedgersFreeWhatGivesFreed, GraceInRun}
-use Rattle.nm_laws.proofs.Reaches.{after-append}
+use Rattle.nm_model.specs.Traces.{IsLawfulState, IsLawfulRun, EachHasOneHolder, LedgersAreSplit, LedgersGrowByTheCuts, LedgersFreeWhatGivesFreed}
 use Rattle.nm_laws.proofs.Reachable.{of_reachable, reachable_after, retired_grows}
 use Rattle.nm_laws.proofs.OnePlace.{each_slot_has_one_place}
 use Rattle.nm_laws.proofs.Counts.{each_state_adds_up}
@@ -117,7 +115,7 @@ CutsItsNodes s t = CutsJust s.memory (nodes_cut_of (outcome s t)) (next s t).mem
 as_splice : (w : ℕ) (e f : Event) → e ≡ f → ◌≡◌ {A = ℕ × Event} (w, e) (w, f)
 as_splice w e f is = ap (λ (y : Event). (w, y)) is
 
-turn_cuts : (s : State) → IsReachable s → (t : ℕ × Event) → CutsItsNodes s t
+pub turn_cuts : (s : State) → IsReachable s → (t : ℕ × Event) → CutsItsNodes s t
 turn_cuts s r t = go (told_of (outcome s t))
   where
     go : Told (outcome s t) → CutsItsNodes s t
@@ -128,12 +126,16 @@ turn_cuts s r t = go (told_of (outcome s t))
     go (NoCut none uncut) =
         λ x. ((λ c. absurd (c.gone (of_reachable NothingElseCuts nothing_else_cuts s r t uncut x c.was))), (λ c. absurd (nothing_in x _ (ap slots_of none) c)))
 
--- the same of a turn as a trace tells it, between the states that it names
-told_cuts : (s : State) → IsReachable s → (t : ℕ × Event) (turn : Turn) (before behind : State) → turn ≡ told s t → before ≡ s → behind ≡ next s t
-    → CutsJust before.memory (nodes_cut_of turn.outcome) behind.memory
-told_cuts s r t turn before behind is here there x = rw (here, there, ap (λ (y : Turn). y.outcome) is) (turn_cuts s r t x)
-
 -- ---- the states of a run
+
+-- where a node is cut by one turn and freed by a later one, each worker that was pinned at the cut, by the state there, left between the two
+abbrev pub GraceInRun : (ℕ → State) → List Turn → Type 0
+GraceInRun states turns = (before between rest : List Turn) (cut free : Turn) (ns : List NodeId) (n : NodeId) (w e : ℕ)
+    → turns ≡ before ++ cut ∷ (between ++ free ∷ rest)
+    → cut.outcome ≡ Ok (Cut ns) → Contains ns n
+    → free.outcome ≡ Ok (Freed n)
+    → (of (states (length before)) w).brief.pin ≡ Some e
+    → HasLeft w between
 
 split_of_runs : OfEachState LedgersAreSplit
 split_of_runs L enough turns w o l is = freed_then_queue L turns w o l is
@@ -175,20 +177,6 @@ module _ (s : State) (reachable : IsReachable s) (ts : List (ℕ × Event)) wher
   state_before : (first rest : List Turn) (p : Parts s ts first rest) → states (length first) ≡ after s p.early
   state_before first rest p = after_first s ts p.early p.late (length first) p.all p.size
 
-  state_behind : (first rest : List Turn) (turn : Turn) (p : Parts s ts first (turn ∷ rest)) (h : Head (after s p.early) p.late turn rest) → states (length first + 1) ≡ next (after s p.early) h.event
-  unfolding after
-  state_behind first rest turn p h =
-      after_first s ts (p.early ++ h.event ∷ []) h.others (length first + 1)
-      (p.all ∙ (ap (λ (us : List (ℕ × Event)). p.early ++ us) h.all ∙ sym (append_assoc p.early (h.event ∷ []) h.others)))
-      (let a = length-append p.early (h.event ∷ []) in let b = p.size in omega arith)
-      ∙ after-append s p.early (h.event ∷ [])
-
-  each_turn : EachTurnCutsItsNodes states (trace s ts)
-  each_turn first rest turn e x =
-      let p : Parts s ts first (turn ∷ rest) = parts_of s ts first (turn ∷ rest) e in
-      let h : Head (after s p.early) p.late turn rest = head_of (after s p.early) p.late turn rest (sym p.rest_is) in
-      told_cuts (after s p.early) (reachable_after s reachable p.early) h.event turn (states (length first)) (states (length first + 1)) h.turn_is (state_before first (turn ∷ rest) p) (state_behind first rest turn p h) x
-
   growing : LedgersGrowByTheCuts states (trace s ts)
   unfolding after
   growing i w v origin l m is is' = rw (take-trace i s ts) (of_reachable RetiredGrowsByTheCuts retired_grows s reachable (take i ts) w v origin l m is is')
@@ -197,7 +185,7 @@ module _ (s : State) (reachable : IsReachable s) (ts : List (ℕ × Event)) wher
   unfolding after
   freed i w v origin l m is is' = rw (take-trace i s ts) (freed_grows s (sound_state s reachable) (take i ts) w v origin l m is is')
 
-  grace : GraceInRun states (trace s ts)
+  pub grace : GraceInRun states (trace s ts)
   grace first between rest cut free ns n w e all cuts there frees pin = at_cut (parts_of s ts first (cut ∷ (between ++ free ∷ rest)) all)
     where
       at_free : (p : Parts s ts first (cut ∷ (between ++ free ∷ rest))) (h : Head (after s p.early) p.late cut (between ++ free ∷ rest)) (q : Parts (next (after s p.early) h.event) h.others between (free ∷ rest))
@@ -215,8 +203,6 @@ module _ (s : State) (reachable : IsReachable s) (ts : List (ℕ × Event)) wher
   pub lawful_run : IsLawfulRun states (trace s ts)
   lawful_run = record {
     each = λ i. lawful_state (states i) (reachable_after s reachable (take i ts));
-    cuts = each_turn;
     growing = growing;
     freed = freed;
-    grace = grace;
   }

@@ -1,4 +1,4 @@
--- The headline of one run of any core: a turn that is refused may be told as any other refused one, so an ordered run is told as a plain run is.
+-- What one run of any core keeps: a turn that is refused may be told as any other refused one, so an ordered run is told as a plain run is.
 use Rattle.std.proofs.Common.{◌≡◌, ℕ, zero, suc, ◌==◌, Bool, true, false, cond, ◌&&◌, ◌||◌, List, [], ◌∷◌, ◌++◌, length, take, refl, sym, ap, subst, ◌∙◌, arith}
 use Rattle.std.specs.Prelude.{Option, Some, None, filter, Result, Ok, Err}
 use Rattle.std.specs.List.{list_any}
@@ -15,8 +15,8 @@ use Rattle.nm_model.specs.Runs.{State, of, refused, reply_of, applied, unless_re
 use Rattle.nm_model.specs.Ordered.{Configuration, refused_in, next_in, outcome_in, after_in, trace_in, IsReached}
 use Rattle.nm_model.specs.Laws.{nodes_cut_of, cuts_of, nodes_freed_of, freed_by, is_among, HasLeft}
 use Rattle.nm_model.specs.Headline.{departs, leaves}
-use Rattle.nm_model.specs.Traces.{IsLawfulRun, EachTurnCutsItsNodes, LedgersGrowByTheCuts, LedgersFreeWhatGivesFreed, GraceInRun}
-use Rattle.nm_laws.proofs.LawfulRuns.{lawful_run}
+use Rattle.nm_model.specs.Traces.{IsLawfulRun}
+use Rattle.nm_laws.proofs.LawfulRuns.{GraceInRun, grace, lawful_run}
 use Rattle.nm_laws.proofs.Configurations.{refused_next, refused_outcome, allowed_state, allowed_outcome, state_outcome, reached_state}
 
 -- ---- traces that differ in their refused turns alone
@@ -33,10 +33,6 @@ Alike (x ∷ xs) (y ∷ ys) = AlikeTurn x y × Alike xs ys
 
 no_reply : (q : Refused) (r : Reply) → ◌≡◌ {A = Result Reply Refused} (Err q) (Ok r) → ⊥
 no_reply q r e = cc
-
-same_cut : (x y : Turn) → AlikeTurn x y → nodes_cut_of x.outcome ≡ nodes_cut_of y.outcome
-same_cut x y (Same e) = ap (λ (t : Turn). nodes_cut_of t.outcome) e
-same_cut x y (BothRefused q r a b) = ap nodes_cut_of a ∙ sym (ap nodes_cut_of b)
 
 same_reply : (x y : Turn) (r : Reply) → AlikeTurn x y → y.outcome ≡ Ok r → x.outcome ≡ Ok r
 same_reply x y r (Same e) is = ap (λ (t : Turn). t.outcome) e ∙ is
@@ -139,29 +135,22 @@ split_alike (x ∷ xs) (y ∷ ys) turn rest a =
       alike_behind = s.alike_behind;
     }
 
-module _ (states : ℕ → State) (xs ys : List Turn) (a : Alike xs ys) (law : IsLawfulRun states xs) where
-  cuts : EachTurnCutsItsNodes states ys
-  cuts first rest turn e x =
-      let s = split_alike xs first turn rest (subst (λ (zs : List Turn). Alike xs zs) e a) in
-      rw (sym (same_cut s.here turn s.alike_here), sym (same_length s.before first s.alike_before)) (law.cuts s.before s.behind s.here s.all x)
+module _ (states : ℕ → State) (xs ys : List Turn) (a : Alike xs ys) where
+  lawful_alike : IsLawfulRun states xs → IsLawfulRun states ys
+  lawful_alike law = record {
+    each = law.each;
+    growing = λ i w v origin l m is is'. law.growing i w v origin l m is is' ∙ ap (λ (ns : List NodeId). l.retired ++ ns) (same_cuts origin (take i xs) (take i ys) (alike_take i xs ys a));
+    freed = λ i w v origin l m is is'. law.freed i w v origin l m is is' ∙ ap (λ (ns : List NodeId). l.freed ++ filter (is_among m.retired) ns) (same_frees (take i xs) (take i ys) (alike_take i xs ys a));
+  }
 
-  growing : LedgersGrowByTheCuts states ys
-  growing i w v origin l m is is' = law.growing i w v origin l m is is' ∙ ap (λ (ns : List NodeId). l.retired ++ ns) (same_cuts origin (take i xs) (take i ys) (alike_take i xs ys a))
-
-  freed : LedgersFreeWhatGivesFreed states ys
-  freed i w v origin l m is is' = law.freed i w v origin l m is is' ∙ ap (λ (ns : List NodeId). l.freed ++ filter (is_among m.retired) ns) (same_frees (take i xs) (take i ys) (alike_take i xs ys a))
-
-  grace : GraceInRun states ys
-  grace first between rest cut free ns n w e all cuts there frees pin =
+  grace_alike : GraceInRun states xs → GraceInRun states ys
+  grace_alike law first between rest cut free ns n w e all cuts there frees pin =
       let s = split_alike xs first cut (between ++ free ∷ rest) (subst (λ (zs : List Turn). Alike xs zs) all a) in
       let t = split_alike s.behind between free rest s.alike_behind in
       left_alike w t.before between t.alike_before
-      (law.grace s.before t.before t.behind s.here t.here ns n w e (s.all ∙ ap (λ (zs : List Turn). s.before ++ s.here ∷ zs) t.all)
+      (law s.before t.before t.behind s.here t.here ns n w e (s.all ∙ ap (λ (zs : List Turn). s.before ++ s.here ∷ zs) t.all)
       (same_reply s.here cut (Cut ns) s.alike_here cuts) there (same_reply t.here free (Freed n) t.alike_here frees)
       (subst (λ (i : ℕ). (of (states i) w).brief.pin ≡ Some e) (sym (same_length s.before first s.alike_before)) pin))
-
-  lawful_alike : IsLawfulRun states ys
-  lawful_alike = record { each = law.each; cuts = cuts; growing = growing; freed = freed; grace = grace }
 
 -- ---- an ordered run beside a plain one
 
@@ -225,3 +214,7 @@ alike_traces c (t ∷ ts) = ((stands_in c t).is_told, subst (λ (s : State). Ali
 pub lawful_run_in : (c : Configuration) → IsReached c → (ts : List (ℕ × Event)) → IsLawfulRun (λ i. (after_in c (take i ts)).state) (trace_in c ts)
 lawful_run_in c r ts = subst (λ (states : ℕ → State). IsLawfulRun states (trace_in c ts)) (λ j i. same_states i c ts j)
     (lawful_alike (λ i. after c.state (take i (stand_ins c ts))) (trace c.state (stand_ins c ts)) (trace_in c ts) (alike_traces c ts) (lawful_run c.state (reached_state c r) (stand_ins c ts)))
+
+pub grace_in : (c : Configuration) → IsReached c → (ts : List (ℕ × Event)) → GraceInRun (λ i. (after_in c (take i ts)).state) (trace_in c ts)
+grace_in c r ts = subst (λ (states : ℕ → State). GraceInRun states (trace_in c ts)) (λ j i. same_states i c ts j)
+    (grace_alike (λ i. after c.state (take i (stand_ins c ts))) (trace c.state (stand_ins c ts)) (trace_in c ts) (alike_traces c ts) (grace c.state (reached_state c r) (stand_ins c ts)))

@@ -15,7 +15,7 @@ use Rattle.nm_model.specs.Knowledge.{newcomer}
 use Rattle.nm_laws.proofs.Steps.{by_steps}
 use Rattle.nm_laws.proofs.Pins.{all_new}
 use Rattle.nm_laws.proofs.Holders.{none_held}
-use Rattle.nm_model.specs.Laws.{EachLedgerHasOneHolder, OfEachLedger, node_in, IsFreedThenQueue, IsTheCuts, FreedThenQueueAreTheCuts, cuts_of}
+use Rattle.nm_model.specs.Laws.{EachLedgerHasOneHolder, OfEachLedger, node_in, IsFreedThenQueue, IsTheCuts, cuts_of}
 use Rattle.nm_laws.proofs.Origins.{OriginStep, cut_at, ledger_at, Manned, manned_start, the_ledger, over_runs}
 use Rattle.nm_laws.proofs.Origins.OriginStep.{Unchanged, Relabelled, Extended, Shortened}
 
@@ -112,9 +112,6 @@ freed_then_queue L turns w o l is = (of_ledger L turns w o l is).balanced
 
 pub is_the_cuts : OfEachLedger IsTheCuts
 is_the_cuts L turns w o l is = (of_ledger L turns w o l is).retired
-
-pub freed_then_queue_are_the_cuts : OfEachLedger FreedThenQueueAreTheCuts
-freed_then_queue_are_the_cuts L turns w o l is = sym (freed_then_queue L turns w o l is) ∙ is_the_cuts L turns w o l is
 
 pub each_ledger_has_one_holder : EachLedgerHasOneHolder
 each_ledger_has_one_holder L turns o lt = record {

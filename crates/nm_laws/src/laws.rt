@@ -1,6 +1,6 @@
 //! Laws of all runs: each holds whatever the workers do and in whatever order, for every layout of at least 5 nodes and every list of events.
 ghost use Rattle.nm_model.specs.Lawful.{BriefsAreRight, CountsAddUp, EachBirthStands, EachReadStands, EpochsAgree, FlaggedEdgesLeadToLeaves, KnownLeavesAreLeaves, LabelsDoNotFall, NoLabelIsAboveTheEpoch, OnlyThePinnedKnow, QueuedNodesAreFrozen, ReachIsGuarded, ReachIsShared, TaggedEdgesHaveFlaggedTwins};
-ghost use Rattle.nm_model.specs.Laws.{CutsJust, EachLedgerHasOneHolder, EachFreeTakesAFront, FreedThenQueueAreTheCuts, FreesThenQueueAreTheCuts, GraceHolds, IsFreedThenQueue, IsTheCuts, IsTheFrees, NamesBirths, NoNodeTwice, NothingElseCuts, OfEachCut, OfEachLedger, OfEachLedgerOfATree, OfEachState, OnlySplicesAnswerCuts, PinsStayNear, RetiredGrowsByTheCuts};
+ghost use Rattle.nm_model.specs.Laws.{CutsJust, EachLedgerHasOneHolder, EachFreeTakesAFront, FreesThenQueueAreTheCuts, GraceHolds, IsFreedThenQueue, IsTheCuts, IsTheFrees, NamesBirths, NoNodeTwice, NothingElseCuts, OfEachCut, OfEachLedger, OfEachLedgerOfATree, OfEachState, OnlySplicesAnswerCuts, PinsStayNear, RetiredGrowsByTheCuts};
 ghost use Rattle.nm_model.specs.Laws.{StatesJoin, TracesJoin};
 ghost use Rattle.nm_model.specs.Ordered.{OrderedRunsAreRuns, PlainRunsAreRuns, SearchesTellTheLogs};
 ghost use Rattle.nm_model.specs.Walks.{ArrivalsAreWalks, SearchesOnlyGrow};
@@ -46,7 +46,6 @@ pub fn each_ledger_has_one_holder()
 pub fn ledgers_are_the_cuts()
     ensures split { OfEachLedger (λ origin turns. IsFreedThenQueue) }
     ensures replies { OfEachLedger IsTheCuts }
-    ensures whole { OfEachLedger FreedThenQueueAreTheCuts }
     ensures growing { OfEachState RetiredGrowsByTheCuts }
 {}
 

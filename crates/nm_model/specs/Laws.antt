@@ -86,10 +86,6 @@ IsFreedThenQueue l = l.retired ≡ l.freed ++ map node_in l.queue
 abbrev pub IsTheCuts : ℕ → List Turn → Ledger → Type 0
 IsTheCuts origin turns l = l.retired ≡ cuts_of origin turns
 
--- so its freed nodes and then its queue are the nodes that its splices cut, in cut order
-abbrev pub FreedThenQueueAreTheCuts : ℕ → List Turn → Ledger → Type 0
-FreedThenQueueAreTheCuts origin turns l = l.freed ++ map node_in l.queue ≡ cuts_of origin turns
-
 -- in every run, of every ledger, where there are nodes for the fixed part of the tree
 abbrev pub OfEachLedgerOfATree : (ℕ → List Turn → Ledger → Type 0) → Type 0
 OfEachLedgerOfATree P = (L : Layout) → 5 ≤ L.nodes → (turns : List (ℕ × Event)) (w origin : ℕ) (l : Ledger)

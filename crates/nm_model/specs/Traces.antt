@@ -1,19 +1,12 @@
 -- What a run keeps, by the states before each of its turns and by its trace.
-use Rattle.std.specs.Prelude.{◌≡◌, ℕ, ◌+◌, ◌<◌, List, ◌∷◌, ◌++◌, length, take, Contains, Some, Ok}
-use Rattle.nm_edge.specs.declared.node.NodeId.{NodeId}
-use Rattle.nm_model.specs.declared.reply.Reply.TheVariants.{Cut, Freed}
+use Rattle.std.specs.Prelude.{◌≡◌, ℕ, ◌<◌, List, ◌++◌, take, Some}
 use Rattle.nm_model.specs.declared.trace.Turn.{Turn}
 use Rattle.nm_model.specs.declared.ledger.Ledger.{Ledger}
 use Rattle.nm_model.specs.Ledgers.{held}
 use Rattle.nm_model.specs.Places.{EachSlotInOnePlace}
 use Rattle.nm_model.specs.Runs.{State, of}
-use Rattle.nm_model.specs.Laws.{PinsAreNear, OneHolder, NoNodeTwice, CutsJust, GrewByTheCuts, IsFreedThenQueue, nodes_cut_of, freed_among, HasLeft}
+use Rattle.nm_model.specs.Laws.{PinsAreNear, OneHolder, NoNodeTwice, GrewByTheCuts, IsFreedThenQueue, freed_among}
 use Rattle.nm_model.specs.Lawful.{LabelsDoNotFall, NoLabelIsAboveTheEpoch, BriefsAreRight, QueuedNodesAreFrozen, TaggedEdgesHaveFlaggedTwins, FlaggedEdgesLeadToLeaves, OnlyThePinnedKnow, ReachIsShared, ReachIsGuarded, EpochsAgree, CountsAddUp, EachReadStands, KnownLeavesAreLeaves, EachBirthStands}
-
--- each turn cuts exactly the nodes of its outcome, by the paths before and after it; one that answers no cut cuts nothing
-abbrev pub EachTurnCutsItsNodes : (ℕ → State) → List Turn → Type 0
-EachTurnCutsItsNodes states turns = (before rest : List Turn) (turn : Turn) → turns ≡ before ++ turn ∷ rest
-    → CutsJust (states (length before)).memory (nodes_cut_of turn.outcome) (states (length before + 1)).memory
 
 -- of every ledger, what was retired is what was freed and then what waits
 abbrev pub LedgersAreSplit : State → Type 0
@@ -28,15 +21,6 @@ LedgersGrowByTheCuts states turns = (i w v origin : ℕ) (l m : Ledger) → held
 abbrev pub LedgersFreeWhatGivesFreed : (ℕ → State) → List Turn → Type 0
 LedgersFreeWhatGivesFreed states turns = (i w v origin : ℕ) (l m : Ledger) → held (of (states 0) w).ledgers origin ≡ Some l → held (of (states i) v).ledgers origin ≡ Some m
     → m.freed ≡ l.freed ++ freed_among m.retired (take i turns)
-
--- where a node is cut by one turn and freed by a later one, each worker that was pinned at the cut, the remover too, left between the two
-abbrev pub GraceInRun : (ℕ → State) → List Turn → Type 0
-GraceInRun states turns = (before between rest : List Turn) (cut free : Turn) (ns : List NodeId) (n : NodeId) (w e : ℕ)
-    → turns ≡ before ++ cut ∷ (between ++ free ∷ rest)
-    → cut.outcome ≡ Ok (Cut ns) → Contains ns n
-    → free.outcome ≡ Ok (Freed n)
-    → (of (states (length before)) w).brief.pin ≡ Some e
-    → HasLeft w between
 
 -- ---- the sentences of one state, and of one run
 
@@ -72,10 +56,8 @@ pub record IsLawfulState (s : State) : Type 0 where
   pub known : KnownLeavesAreLeaves s
   pub births : EachBirthStands s
 
--- the headline, of one run
+-- what the states of one run keep, and what becomes of their ledgers by its turns
 pub record IsLawfulRun (states : ℕ → State) (turns : List Turn) : Type 0 where
   pub each : (i : ℕ) → IsLawfulState (states i)
-  pub cuts : EachTurnCutsItsNodes states turns
   pub growing : LedgersGrowByTheCuts states turns
   pub freed : LedgersFreeWhatGivesFreed states turns
-  pub grace : GraceInRun states turns

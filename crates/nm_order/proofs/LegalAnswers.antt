@@ -21,7 +21,7 @@ use Rattle.nm_order.specs.Facts.Since.{ThePin}
 use Rattle.nm_model.proofs.Lists.{any_at}
 use Rattle.nm_model.proofs.Numbers.{number_is}
 use Rattle.nm_order.proofs.OrderedLaws.{IsOrdered, each_ordered, keys_lie, one_leaf_for, read_keys}
-use Rattle.nm_order.proofs.RunWalks.{walk_of, each_walk_was_reached}
+use Rattle.nm_order.proofs.RunWalks.{walk_of, was_reached}
 use Rattle.nm_order.proofs.OwnTurns.{own_search}
 use Rattle.nm_order.proofs.RunExchanges.{first_keys, shown}
 use Rattle.nm_order.proofs.FactLaws.{all_kept, leaf_is}
@@ -55,7 +55,7 @@ module _ (L : Layout) (enough : 5 ≤ L.nodes) (turns : List (ℕ × Event)) (ke
       come = record { searches = called.searches; are = called.are; call = record { op = op; key = k }; is_call = called.is_call; is_key = refl; index = i; is = there }
 
       was : WasReached (ordered L) turns w op k a.slot
-      was = each_walk_was_reached L enough turns keys w op k a called come
+      was = was_reached L enough turns keys w op k called a come
 
   then_ordered : (n : ℕ) (l : LeafThen n) → IsOrdered L (after_in (ordered L) l.was.before)
   then_ordered n l = each_ordered L enough l.was.before (first_keys l.was.before l.was.since (subst (λ (ts : List (ℕ × Event)). All (λ t. HasKey t.1) ts) l.was.is_run keys))

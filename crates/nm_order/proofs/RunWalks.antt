@@ -17,8 +17,8 @@ use Rattle.nm_model.specs.Runs.{State, of, reply_of}
 use Rattle.nm_model.specs.Searches.{Search, idle}
 use Rattle.nm_model.specs.Walks.{log_of, since_pin, search_after, IsOfWalk}
 use Rattle.nm_model.specs.Ordered.{Configuration, ordered, search_of, refused_in, outcome_in, after_in, trace_in}
-use Rattle.nm_order.specs.Intervals.{HasKey, IsCalled}
-use Rattle.nm_order.specs.Moments.{OfEachOrderedRun, WasReached, WalksWereReached, LoggedWalksWereReached}
+use Rattle.nm_order.specs.Intervals.{HasCome, HasKey, IsCalled}
+use Rattle.nm_order.specs.Moments.{WasReached}
 use Rattle.nm_order.specs.StalePaths.{WasReachedSince}
 use Rattle.nm_laws.proofs.Configurations.{refused_outcome, allowed_outcome, after_in-append}
 use Rattle.nm_laws.proofs.WalksOfLogs.{arrivals_are_walks}
@@ -100,12 +100,8 @@ module _ (L : Layout) (enough : 5 ≤ L.nodes) (turns : List (ℕ × Event)) (ke
       stayed = ap (λ (ts : List (ℕ × Event)). (own_search (after_in (ordered L) ts) w).call) was.is_run ∙ (ap (λ (c : Configuration). (own_search c w).call) (after_in-append (ordered L) was.before was.since)
           ∙ call_stays L enough w was.since (all_behind (λ t. HasKey t.1) was.before was.since all) (after_in (ordered L) was.before) then was.stands)
 
-pub each_logged_walk : OfEachOrderedRun LoggedWalksWereReached
-each_logged_walk L enough turns keys u op k slot parent side called walk =
-    let key = of_key L enough turns keys u op k called in
-    was_called L enough turns keys u op k called slot (any_walk_was_reached L enough turns keys u k slot parent side (omega (arith, key)) walk)
-
-pub each_walk_was_reached : OfEachOrderedRun WalksWereReached
-each_walk_was_reached L enough turns keys u op k a called come =
-    each_logged_walk L enough turns keys u op k a.slot a.parent a.side called
-    (walk_of L enough turns keys u op k called come.index a (ap (λ (l : Option (List Search)). slice_get (search_of (unwrap_or l []) u).walks come.index) come.are ∙ come.is)).comes
+  pub was_reached : (a : Arrival) → HasCome (after_in (ordered L) turns) w k a → WasReached (ordered L) turns w op k a.slot
+  was_reached a come =
+      let key = of_key in
+      let walk = walk_of come.index a (ap (λ (l : Option (List Search)). slice_get (search_of (unwrap_or l []) w).walks come.index) come.are ∙ come.is) in
+      was_called a.slot (any_walk_was_reached L enough turns keys w k a.slot a.parent a.side (omega (arith, key)) walk.comes)

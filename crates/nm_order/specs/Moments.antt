@@ -1,17 +1,15 @@
 -- Moments of an ordered run: what was so at some moment since a worker's pin was confirmed.
-use Rattle.std.specs.Prelude.{◌≡◌, ℕ, ◌≤◌, false, List, [], ◌++◌, All}
+use Rattle.std.specs.Prelude.{◌≡◌, ℕ, ◌≤◌, false, List, ◌++◌, All}
 use Rattle.std.specs.List.{list_any}
 use Rattle.nm_edge.specs.Layouts.{Layout}
-use Rattle.nm_edge.specs.declared.edge.Side.{Side}
 use Rattle.nm_model.specs.declared.event.Op.{Op}
 use Rattle.nm_model.specs.declared.event.Event.{Event}
 use Rattle.nm_model.specs.declared.trace.Turn.{Turn}
-use Rattle.nm_model.specs.declared.arrivals.Arrival.{Arrival}
 use Rattle.nm_model.specs.Memory.{node, is_leaf}
 use Rattle.nm_model.specs.Paths.{Reached}
-use Rattle.nm_model.specs.Walks.{log_of, begins_anew, since_pin, WalkComes}
-use Rattle.nm_model.specs.Ordered.{Configuration, ordered, after_in, trace_in}
-use Rattle.nm_order.specs.Intervals.{HasKey, HasCome, IsCalled, InInterval}
+use Rattle.nm_model.specs.Walks.{log_of, begins_anew}
+use Rattle.nm_model.specs.Ordered.{Configuration, after_in, trace_in}
+use Rattle.nm_order.specs.Intervals.{HasKey, IsCalled, InInterval}
 
 -- in every ordered run, of its layout and its turns
 abbrev pub OfEachOrderedRun : (Layout → List (ℕ × Event) → Type 0) → Type 0
@@ -34,12 +32,3 @@ pub record WasReached (c : Configuration) (turns : List (ℕ × Event)) (u : ℕ
   pub same_birth : (node (after_in c before).state.memory x).birth ≡ (node (after_in c turns).state.memory x).birth
   pub same_key : (node (after_in c before).state.memory x).key ≡ (node (after_in c turns).state.memory x).key
   pub same_kind : is_leaf (node (after_in c before).state.memory x) ≡ is_leaf (node (after_in c turns).state.memory x)
-
--- each slot to which a search has come for a standing call was reached since its pin, with the call's key in its interval
-abbrev pub WalksWereReached : Layout → List (ℕ × Event) → Type 0
-WalksWereReached L turns = (u : ℕ) (op : Op) (k : ℕ) (a : Arrival) → IsCalled (after_in (ordered L) turns) u op k → HasCome (after_in (ordered L) turns) u k a → WasReached (ordered L) turns u op k a.slot
-
--- and so was each slot to which a walk for the call's key came in the log since the pin
-abbrev pub LoggedWalksWereReached : Layout → List (ℕ × Event) → Type 0
-LoggedWalksWereReached L turns = (u : ℕ) (op : Op) (k slot parent : ℕ) (side : Side) → IsCalled (after_in (ordered L) turns) u op k → WalkComes k (since_pin [] (log_of u (trace_in (ordered L) turns))) slot parent side
-    → WasReached (ordered L) turns u op k slot

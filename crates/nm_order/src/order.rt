@@ -1,6 +1,6 @@
 //! Laws of ordered runs: each holds whatever the workers do and in whatever order, where every call is for a key of the set.
 ghost use Rattle.nm_model.specs.Laws.{OfEachState};
-ghost use Rattle.nm_order.specs.Intervals.{FlagsMarkLeaves, KeysAscend, KeysLieInIntervals, KeysTellTheSet, LeavesHaveTheirOwnKeys, LinksInsert, OfEachOrdered, WalksReadKeys, WalksStayInOrder};
+ghost use Rattle.nm_order.specs.Intervals.{FlagsMarkLeaves, KeysAscend, KeysLieInIntervals, KeysTellTheSet, LeavesHaveTheirOwnKeys, LinksInsert, OfEachOrdered};
 ghost use Rattle.nm_order.specs.NewNodes.{LinksNameNewNodes};
 
 /// The tree is in order: the search for a reached node's key comes to that node, and no two reached leaves have one key.
@@ -8,13 +8,6 @@ ghost use Rattle.nm_order.specs.NewNodes.{LinksNameNewNodes};
 pub fn trees_are_in_order()
     ensures keys { OfEachOrdered KeysLieInIntervals }
     ensures leaves { OfEachOrdered LeavesHaveTheirOwnKeys }
-{}
-
-/// Stale paths do no harm: where a walk of a call has come to an internal node, also by edges that were cut off since,
-/// and that node is reached now, then the search for the call's key comes to it now; and a key that the walk read is the node's key still.
-pub fn walks_stay_in_order()
-    ensures intervals { OfEachOrdered WalksStayInOrder }
-    ensures keys { OfEachOrdered WalksReadKeys }
 {}
 
 /// A link that is won is one of a call to insert: the set, the keys of the reached leaves, gains that call's key,

@@ -1,22 +1,14 @@
-//! Laws of the paths that walks in the logs of an ordered core take: those of its calls, and those for any key under any pin.
-ghost use Rattle.nm_order.specs.Moments.{LoggedWalksWereReached, OfEachOrderedRun, WalksWereReached};
+//! Laws of the paths that walks in the logs of an ordered core take, for any key and under any pin.
+ghost use Rattle.nm_order.specs.Moments.{OfEachOrderedRun};
 ghost use Rattle.nm_order.specs.StalePaths.{AnyWalkReadsKeys, AnyWalkStaysInOrder, AnyWalkWasReached};
 ghost use Rattle.nm_order.specs.WalkAnswers.{AnyWalkTells, WalksTellOfTheirPin};
-
-/// Each slot to which a walk of a call came, also by edges that were cut off since, was reached at some moment since the call's pin was
-/// confirmed, and at that moment the search for the call's key came to it; and the node there is the same one still. This holds of what
-/// the core keeps, and of each walk in the log since the pin.
-/// (The hindsight of O'Hearn, Rinetzky, Vechev, Vafeiadis and Yorsh, for the search of Natarajan and Mittal, section 3.)
-pub fn walks_were_reached()
-    ensures arrivals { OfEachOrderedRun WalksWereReached }
-    ensures walks { OfEachOrderedRun LoggedWalksWereReached }
-{}
 
 /// Stale paths do no harm, for any key and under any pin, for a call or for none: each slot to which a walk for the key came in a worker's log
 /// since its pin, also by edges that were cut off since, was reached at some moment since the pin was confirmed, and at that moment the search
 /// for the key came to it; the node there is the same one still; and where it is an internal node that is reached now, the search for the key
 /// comes to it now. The key may be any below that of slot 2, at whose left edge each walk begins. And a key that such a walk read is the
-/// node's key still. (The hindsight of O'Hearn, Rinetzky, Vechev, Vafeiadis and Yorsh, for the search of Natarajan and Mittal, section 3.)
+/// node's key still. What a core keeps of a call are walks for its key since its pin (`walks_are_arrivals`), so this holds of them.
+/// (The hindsight of O'Hearn, Rinetzky, Vechev, Vafeiadis and Yorsh, for the search of Natarajan and Mittal, section 3.)
 pub fn stale_paths_do_no_harm()
     ensures reached { OfEachOrderedRun AnyWalkWasReached }
     ensures intervals { OfEachOrderedRun AnyWalkStaysInOrder }

@@ -1,22 +1,23 @@
 -- Each turn cuts just the nodes that it says it cut, by the words that the turns have written.
 use Rattle.std.proofs.Common.{◌≡◌, ℕ, List, [], ◌∷◌, ◌++◌, refl, sym, ap, subst, ◌∙◌, arith}
-use Rattle.std.specs.Prelude.{◌↔◌, Ok, Contains, All}
+use Rattle.std.specs.Prelude.{◌↔◌, Ok, Contains, All, Option, Some, None}
 use Rattle.nm_edge.specs.declared.edge.Side.{Side}
 use Rattle.nm_edge.specs.declared.node.NodeId.{NodeId}
 use Rattle.nm_model.specs.declared.event.Event.{Event}
 use Rattle.nm_model.specs.declared.event.Event.TheVariants.{Splice}
 use Rattle.nm_model.specs.declared.reply.Reply.TheVariants.{Cut}
+use Rattle.nm_model.specs.declared.reply.Refused.{Refused}
 use Rattle.nm_model.specs.declared.trace.Turn.{Turn}
 use Rattle.nm_model.specs.Memory.{Memory}
 use Rattle.nm_model.specs.Paths.{IsCut}
 use Rattle.nm_model.specs.Runs.{outcome, next}
 use Rattle.nm_model.specs.Laws.{OnlySplicesAnswerCuts, OfEachCut, NamesBirths}
-use Rattle.nm_model.specs.Ordered.{Configuration, HasKey, IsReached, opening_of, next_in, outcome_in, after_in, trace_in}
+use Rattle.nm_model.specs.Ordered.{Configuration, HasKey, IsReached, opening_of, refused_in, next_in, outcome_in, after_in}
 use Rattle.nm_laws.specs.KeptEdges.{KeepsTheEdge, EachSpliceKeepsTheEdge}
-use Rattle.nm_laws.proofs.Configurations.{reached_next, reached_state}
+use Rattle.nm_laws.proofs.Configurations.{allowed_outcome, allowed_state, reached_next, reached_state, refused_next, refused_outcome, state_outcome}
 use Rattle.nm_laws.proofs.Cuts.{cuts_name_births}
 use Rattle.nm_laws.proofs.Lawful.{IsLawful}
-use Rattle.nm_laws.proofs.OrderedRuns.{lawful_run_in}
+use Rattle.nm_laws.proofs.LawfulRuns.{turn_cuts}
 use Rattle.nm_laws.proofs.Reachable.{of_reachable}
 use Rattle.nm_laws.proofs.SplicedEdges.{each_splice_keeps_the_edge}
 use Rattle.nm_laws.proofs.Stays.{only_splices_answer_cuts}
@@ -38,8 +39,11 @@ reached_after (t ∷ ts) c r keys = reached_after ts (next_in c t) (reached_next
 
 module _ (c : Configuration) (r : IsReached c) (t : ℕ × Event) where
   cuts_told : CutsJust c.state.memory (nodes_cut_of (outcome_in c t)) (next_in c t).state.memory
-  unfolding after_in trace_in
-  cuts_told = (lawful_run_in c r (t ∷ [])).cuts [] [] (told_in c t) refl
+  cuts_told = go (refused_in c t.0 t.1) refl
+    where
+      go : (o : Option Refused) → refused_in c t.0 t.1 ≡ o → CutsJust c.state.memory (nodes_cut_of (outcome_in c t)) (next_in c t).state.memory
+      go (Some q) is = λ x. rw (refused_outcome c t q is, refused_next c t q is) ((λ cut. absurd (cut.gone cut.was)), (λ there. let below = there.1 in absurd (omega (arith, below))))
+      go None is = λ x. rw (sym (allowed_state c t is), allowed_outcome c t is, sym (state_outcome c t is)) (turn_cuts c.state (reached_state c r) t x)
 
   won : (ns : List NodeId) → outcome_in c t ≡ Ok (Cut ns) → IsWonSplice c.state.memory t.1 ns
   won ns is = by (of_reachable OnlySplicesAnswerCuts only_splices_answer_cuts c.state (reached_state c r) t ns told)

@@ -18,7 +18,7 @@ use Rattle.nm_order.specs.Pinned.{pinned_by, pinned_after}
 use Rattle.nm_order.proofs.PinsOfLogs.{pins_are_told}
 use Rattle.nm_order.proofs.WalksOfRuns.{log-append}
 use Rattle.nm_laws.proofs.Configurations.{ordered_runs}
-use Rattle.nm_laws.proofs.OrderedRuns.{lawful_run_in}
+use Rattle.nm_laws.proofs.OrderedRuns.{grace_in}
 use Rattle.nm_model.specs.Headline.{nodes_cut_of, nodes_freed_of, confirms, departs, leaves, IsPinned, Grace}
 use Rattle.nm_theorem.proofs.Runs.{Parts, parts_of, reached_opening, enough_of, opening_state, take_first}
 
@@ -117,6 +117,6 @@ module _ (L : Layout) (fits : IsLayout L) (b : Bool) where
       let c = cut_outcome n cut.outcome in_cut in
       let p : Parts (opening_of L b) ts before (cut ∷ (between ++ free ∷ rest)) = parts_of (opening_of L b) ts before (cut ∷ (between ++ free ∷ rest)) all in
       let pin = is_pinned w before pinned in
-      (lawful_run_in (opening_of L b) (reached_opening L fits b) ts).grace before between rest cut free c.0 n w pin.0 all c.1 c.2 (freed_outcome n free.outcome in_free)
+      grace_in (opening_of L b) (reached_opening L fits b) ts before between rest cut free c.0 n w pin.0 all c.1 c.2 (freed_outcome n free.outcome in_free)
       (ap (λ (es : List (ℕ × Event)). (of (after_in (opening_of L b) es).state w).brief.pin) (take_first ts p.early p.late (length before) p.all p.size)
       ∙ (pin_is p.early w ∙ (ap (λ (l : List Turn). pinned_after None (log_of w l)) (sym p.first_is) ∙ pin.1)))

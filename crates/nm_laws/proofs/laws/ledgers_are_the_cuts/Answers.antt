@@ -1,4 +1,4 @@
-use Rattle.nm_laws.proofs.Retired.{freed_then_queue, is_the_cuts, freed_then_queue_are_the_cuts}
+use Rattle.nm_laws.proofs.Retired.{freed_then_queue, is_the_cuts}
 use Rattle.nm_laws.proofs.Reachable.{retired_grows}
 use Rattle.nm_laws.proofs.laws.ledgers_are_the_cuts.Goals as goal
 
@@ -10,6 +10,3 @@ returns-clause-replies c = is_the_cuts
 
 pub returns-clause-growing : goal.returns-clause-growing
 returns-clause-growing c = retired_grows
-
-pub returns-clause-whole : goal.returns-clause-whole
-returns-clause-whole c = freed_then_queue_are_the_cuts
