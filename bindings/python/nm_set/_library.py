@@ -56,6 +56,7 @@ FUNCTIONS: dict[str, list[object]] = {
     "nm_drop": [_H],
     "nm_worker_contains": [_H, c_uint64, POINTER(HabitWords)],
     "nm_worker_has_many": [_H, POINTER(LookupWords), c_size_t, c_uint32],
+    "nm_worker_next": [_H, c_uint64, c_uint32, _U64],
     "nm_worker_add": [_H, c_uint64, POINTER(HabitWords)],
     "nm_worker_remove": [_H, c_uint64, POINTER(HabitWords)],
     "nm_worker_finish": [_H, c_uint32],

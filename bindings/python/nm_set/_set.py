@@ -141,18 +141,30 @@ class _Hand:
     def has(self, habit: c.HabitWords, key: int) -> bool:
         return _tended(c.exports.nm_worker_contains(self.word, key, habit))
 
-    def has_many(self, habit: c.HabitWords, keys: list[int]) -> list[bool]:
-        """Looks several keys up in one call of the library, behind the discard that is pending; the
-        call is made again where it has lost each of its tries."""
-        lookups = (c.LookupWords * max(len(keys), 1))(*((key, 0) for key in keys))
+    def _looked(self, habit: c.HabitWords, call: Callable[[], int]) -> bool:
+        """Makes a call of the library that only looks, behind the discard that is pending, and
+        again where it has lost each of its tries."""
         c.exports.nm_worker_finish(self.word, habit.tries)
-        outcome = c.BUSY
-        for _ in range(habit.rounds + 1):
-            outcome = c.exports.nm_worker_has_many(self.word, lookups, len(keys), habit.tries)
+        for _ in range(habit.rounds):
+            outcome = call()
             if outcome != c.BUSY:
-                break
-        _tended(outcome)
+                return _tended(outcome)
+        return _tended(call())
+
+    def has_many(self, habit: c.HabitWords, keys: list[int]) -> list[bool]:
+        lookups = (c.LookupWords * max(len(keys), 1))(*((key, 0) for key in keys))
+        self._looked(
+            habit,
+            lambda: c.exports.nm_worker_has_many(self.word, lookups, len(keys), habit.tries),
+        )
         return [lookup.found != 0 for lookup in lookups[: len(keys)]]
+
+    def at_least(self, habit: c.HabitWords, key: int) -> Optional[int]:
+        found = c_uint64()
+        is_found = self._looked(
+            habit, lambda: c.exports.nm_worker_next(self.word, key, habit.tries, found)
+        )
+        return found.value if is_found else None
 
     def add(self, habit: c.HabitWords, key: int, relieve: Callable[[_Hand], object]) -> bool:
         """Adds a key. Where the set is full, although the worker has collected, `relieve` is called
@@ -323,6 +335,28 @@ class Set:
         answer was right at a moment of the call, two of them perhaps at different ones."""
         numbers = [_key(key) for key in keys]
         return self._with_any(lambda hand: hand.has_many(self._habit, numbers))
+
+    def at_least(self, key: SupportsIndex) -> Optional[int]:
+        """The least key of the set that is not below this one, or None where there is none. At a
+        moment of the call the set had the key, and of each key that was passed over there was one
+        at which it had it not: two of these moments may differ."""
+        number = _key(key)
+        return self._with_any(lambda hand: hand.at_least(self._habit, number))
+
+    def __iter__(self) -> Iterator[int]:
+        """The keys, ascending, while the set is in use, by a call of `at_least` for each. Keys that
+        are added or discarded meanwhile may be told or not."""
+        key = self.at_least(0)
+        while key is not None:
+            yield key
+            key = self.at_least(key + 1) if key < MOST_KEY else None
+
+    def __len__(self) -> int:
+        """How many keys it went over, one after the other."""
+        return sum(1 for _ in self)
+
+    def __bool__(self) -> bool:
+        return self.at_least(0) is not None
 
     def add(self, key: SupportsIndex) -> bool:
         """Adds a key: True where it was not in the set."""
@@ -495,6 +529,11 @@ class Worker:
         """Whether the set has each of these keys, in their order: see `Set.contains_many`."""
         numbers = [_key(key) for key in keys]
         return self._with(lambda hand: hand.has_many(self._set._habit, numbers))
+
+    def at_least(self, key: SupportsIndex) -> Optional[int]:
+        """The least key that is not below this one, or None: see `Set.at_least`."""
+        number = _key(key)
+        return self._with(lambda hand: hand.at_least(self._set._habit, number))
 
     def add(self, key: SupportsIndex) -> bool:
         """Adds a key: True where it was not in the set."""

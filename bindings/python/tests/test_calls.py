@@ -75,13 +75,26 @@ class SeveralKeys(unittest.TestCase):
                 with self.assertRaises(nm_set.Held):
                     worker.contains_many([5])
 
-    def test_several_keys_are_looked_up_behind_a_pending_discard(self) -> None:
-        with Set(64, tending=Tending(tries=1, rounds=0)) as numbers, numbers.attach() as worker:
-            worker.add(5)
-            with self.assertRaises(nm_set.Unfinished):
-                worker.discard(5)
-            self.assertEqual(worker.contains_many([5, 6]), [False, False])
-            self.assertIsNone(worker.pending())
+
+class KeysInUse(unittest.TestCase):
+    def test_the_keys_of_a_set_in_use_ascend(self) -> None:
+        with Set(64, workers=2) as numbers:
+            self.assertEqual((numbers.at_least(0), list(numbers), len(numbers)), (None, [], 0))
+            self.assertFalse(numbers)
+            for key in (30, 10, MOST_KEY, 20):
+                numbers.add(key)
+            asked = (0, 10, 11, 21, 31, MOST_KEY)
+            found = [10, 10, 20, 30, MOST_KEY, MOST_KEY]
+            self.assertEqual([numbers.at_least(key) for key in asked], found)
+            numbers.discard(20)
+            with numbers.attach() as worker:
+                self.assertEqual((worker.at_least(11), list(numbers)), (30, [10, 30, MOST_KEY]))
+            self.assertTrue(numbers)
+            self.assertEqual(len(numbers), 3)
+            with self.assertRaises(nm_set.OutOfRange):
+                numbers.at_least(MOST_KEY + 1)
+        with self.assertRaises(nm_set.Closed):
+            list(numbers)
 
 
 class Notes(unittest.TestCase):

@@ -91,6 +91,7 @@ extern "C" {
         count: usize,
         tries: u32,
     ) -> c_int;
+    fn nm_worker_next(worker: *mut Word, key: u64, tries: u32, found: *mut u64) -> c_int;
     fn nm_worker_insert(worker: *mut Word, key: u64, tries: u32) -> c_int;
     fn nm_worker_delete(worker: *mut Word, key: u64, tries: u32) -> c_int;
     fn nm_worker_finish(worker: *mut Word, tries: u32) -> c_int;
@@ -149,6 +150,7 @@ impl Handle {
     calls! {
         close = nm_drop();
         has = nm_worker_has(key: u64, tries: u32);
+        next = nm_worker_next(key: u64, tries: u32, found: &mut u64);
         insert = nm_worker_insert(key: u64, tries: u32);
         delete = nm_worker_delete(key: u64, tries: u32);
         finish = nm_worker_finish(tries: u32);

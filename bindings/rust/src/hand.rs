@@ -34,20 +34,34 @@ impl Hand {
         tended(self.handle.contains(key, habit))
     }
 
-    /// Looks several keys up in one call of the library, behind the remove that is pending; the call
-    /// is made again where it has lost each of its tries.
+    /// Makes a call of the library that only looks, behind the remove that is pending, and again
+    /// where it has lost each of its tries.
+    fn look(
+        &mut self,
+        habit: &Habit,
+        mut call: impl FnMut(&mut Handle, u32) -> Outcome,
+    ) -> Result<bool, Fault> {
+        self.handle.finish(habit.tries);
+        for _ in 0..habit.rounds {
+            match tended(call(&mut self.handle, habit.tries)) {
+                Err(Fault::Contention) => {}
+                told => return told,
+            }
+        }
+        tended(call(&mut self.handle, habit.tries))
+    }
+
     pub fn contains_many(&mut self, habit: &Habit, keys: &[u64]) -> Result<Vec<bool>, Fault> {
         let lookup = |&key| Lookup { key, found: 0 };
         let mut lookups: Vec<Lookup> = keys.iter().map(lookup).collect();
-        self.handle.finish(habit.tries);
-        let mut told = Err(Fault::Contention);
-        for _ in 0..=habit.rounds {
-            told = tended(self.handle.has_many(&mut lookups, habit.tries));
-            if told != Err(Fault::Contention) {
-                break;
-            }
-        }
-        told.map(|_| lookups.iter().map(|lookup| lookup.found != 0).collect())
+        self.look(habit, |handle, tries| handle.has_many(&mut lookups, tries))?;
+        Ok(lookups.iter().map(|lookup| lookup.found != 0).collect())
+    }
+
+    pub fn at_least(&mut self, habit: &Habit, key: u64) -> Result<Option<u64>, Fault> {
+        let mut found = 0;
+        let is_found = self.look(habit, |handle, tries| handle.next(key, tries, &mut found))?;
+        Ok(is_found.then_some(found))
     }
 
     /// Inserts a key. Where the set is full, although the worker has collected, `relieve` is called

@@ -20,7 +20,7 @@
 //! call, and no node is freed under a reader. What this crate adds is tested and not proved: that
 //! it keeps what the library asks of its callers, by types and in one module with `unsafe`; the
 //! workers' seats; that all workers that nobody uses collect before a set is told to be full; and
-//! the loop by which [`Set::contains_many`] is made again.
+//! the loop by which a call that only looks is made again.
 //!
 //! The build looks for `libnm_set.a` in the folder that `NM_SET_LIB_DIR` names, then by
 //! `pkg-config`, then in `out/c` of this checkout.
@@ -38,7 +38,7 @@ pub use fault::Fault;
 pub use ffi::{Ledger, Waiting};
 pub use hand::Advance;
 pub use report::Report;
-pub use set::{Options, Placement, Set};
+pub use set::{Keys, Options, Placement, Set};
 pub use worker::{Behind, Posted, Worker};
 
 /// The greatest key, 2^64 - 4.

@@ -6,6 +6,7 @@ use crate::hand::Hand;
 use crate::report::Report;
 use crate::shared::Shared;
 use crate::worker::Worker;
+use crate::MOST_KEY;
 use std::sync::Arc;
 
 /// Which free slot a new node takes.
@@ -168,6 +169,36 @@ impl Set {
             .with_any(|hand| hand.contains_many(&self.0.habit, keys))
     }
 
+    /// The least key of the set that is not below this one, or None where there is none. At a
+    /// moment of the call the set had the key, and of each key that was passed over there was one
+    /// at which it had it not: two of these moments may differ. `Key`, `Contention`, `NoWorker`,
+    /// `NoMemory` (to take a worker), `Closed`.
+    pub fn at_least(&self, key: u64) -> Result<Option<u64>, Fault> {
+        self.0.with_any(|hand| hand.at_least(&self.0.habit, key))
+    }
+
+    /// The keys of the set, ascending, while it is in use: a call of [`at_least`](Set::at_least)
+    /// for each. Keys that are inserted or removed meanwhile may be told or not.
+    ///
+    /// ```
+    /// # fn main() -> Result<(), nm_set::Fault> {
+    /// let set = nm_set::Set::new(1_024)?;
+    /// for key in [7, 5, 9] {
+    ///     set.insert(key)?;
+    /// }
+    /// set.remove(7)?;
+    /// let keys: Result<Vec<u64>, _> = set.keys().collect();
+    /// assert_eq!(keys?, [5, 9]);
+    /// # Ok(())
+    /// # }
+    /// ```
+    pub fn keys(&self) -> Keys<'_> {
+        Keys {
+            set: self,
+            from: Some(0),
+        }
+    }
+
     /// Inserts a key, and tells whether it was not in the set; it is now. `Key`, `Full`,
     /// `NoMemory`, `Contention`, `NoWorker`, `Closed`: nothing has changed.
     pub fn insert(&self, key: u64) -> Result<bool, Fault> {
@@ -204,6 +235,28 @@ impl Set {
         self.0.end()
     }
 }
+
+/// The keys of a set that is in use: see [`Set::keys`]. It ends behind the first fault.
+#[derive(Debug)]
+pub struct Keys<'a> {
+    set: &'a Set,
+    /// The key from which it goes on; none once it has ended.
+    from: Option<u64>,
+}
+
+impl Iterator for Keys<'_> {
+    type Item = Result<u64, Fault>;
+
+    fn next(&mut self) -> Option<Result<u64, Fault>> {
+        let told = self.set.at_least(self.from.take()?).transpose()?;
+        if let Ok(key) = told {
+            self.from = (key < MOST_KEY).then(|| key + 1);
+        }
+        Some(told)
+    }
+}
+
+impl std::iter::FusedIterator for Keys<'_> {}
 
 impl std::fmt::Debug for Set {
     fn fmt(&self, f: &mut std::fmt::Formatter<'_>) -> std::fmt::Result {

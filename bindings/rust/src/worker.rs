@@ -104,6 +104,13 @@ impl Worker {
         open(hand).contains_many(&shared.habit, keys)
     }
 
+    /// The least key that is not below this one, tended: see
+    /// [`Set::at_least`](crate::Set::at_least). `Key`, `Held`, `Contention`.
+    pub fn at_least(&mut self, key: u64) -> Result<Option<u64>, Fault> {
+        let Worker { shared, hand, .. } = self;
+        open(hand).at_least(&shared.habit, key)
+    }
+
     /// Inserts a key, and tells whether it was not in the set, tended: see
     /// [`Set::insert`](crate::Set::insert). `Key`, `Held`, `Full`, `NoMemory`, `Contention`.
     pub fn insert(&mut self, key: u64) -> Result<bool, Fault> {

@@ -146,6 +146,33 @@ fn several_keys_are_looked_up_in_a_call() {
 }
 
 #[test]
+fn the_keys_of_a_set_in_use_ascend() {
+    let set = Set::new(64).unwrap();
+    let mut worker = set.attach().unwrap();
+    assert_eq!((worker.at_least(0), set.keys().next()), (Ok(None), None));
+    for key in [30, 10, MOST_KEY, 20] {
+        assert_eq!(worker.insert(key), Ok(true));
+    }
+    let found: Vec<_> = [0, 10, 11, 21, 31, MOST_KEY]
+        .iter()
+        .map(|&key| set.at_least(key).unwrap().unwrap())
+        .collect();
+    assert_eq!(found, [10, 10, 20, 30, MOST_KEY, MOST_KEY]);
+    assert_eq!(set.at_least(MOST_KEY + 1), Err(Fault::Key));
+    assert_eq!(worker.try_remove(20, 1), Err(Fault::Unfinished));
+    assert_eq!(
+        (worker.at_least(11), worker.pending()),
+        (Ok(Some(30)), None)
+    );
+    let keys: Result<Vec<_>, _> = set.keys().collect();
+    assert_eq!((keys, set.keys().count()), (Ok(vec![10, 30, MOST_KEY]), 3));
+    drop(worker);
+    set.close().unwrap();
+    let told: Vec<_> = set.keys().collect();
+    assert_eq!(told, [Err(Fault::Closed)]);
+}
+
+#[test]
 fn a_worker_reads_the_note_of_another_one() {
     let set = small(2).open().unwrap();
     let (mut writer, mut reader) = (set.worker(0).unwrap(), set.worker(1).unwrap());
