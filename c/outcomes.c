@@ -236,16 +236,19 @@ static void notes(void) {
     CHECK(nm_drop(&reader) == NM_DONE && nm_set_close(&set) == NM_DONE && nm_drop(&set) == NM_DONE);
 }
 
-/* A set tells which worker a close would miss: one that a handle has, and not one that has resigned. Where one is lost the others go on. */
+/* A set tells which worker a close would miss: one that a handle has, and not one that has resigned. Where one is lost the others go on, and tell its keys. */
 static void missed(void) {
     nm_handle set = NM_CLOSED_HANDLE, lost = NM_CLOSED_HANDLE, other = NM_CLOSED_HANDLE;
+    uint64_t key = NOT_WRITTEN;
     CHECK(nm_set_away(&set, 0) == NM_CLOSED && nm_set_near(&set, 64, 3) == NM_DONE && nm_set_away(&set, 3) == NM_NUMBER);
     CHECK(nm_set_away(&set, 0) == NM_NO && nm_set_worker(&set, &lost, 1) == NM_DONE && nm_set_worker(&set, &other, 0) == NM_DONE);
     CHECK(nm_set_away(&lost, 0) == NM_KIND && nm_worker_insert(&lost, 5, TRIES) == NM_YES);
     CHECK(nm_worker_resign(&other, 2) == NM_DONE && nm_set_away(&set, 2) == NM_NO && nm_set_away(&set, 0) == NM_YES);
     CHECK(nm_drop(&other) == NM_DONE && nm_set_away(&set, 0) == NM_NO && nm_set_away(&set, 1) == NM_YES);
     CHECK(nm_set_close(&set) == NM_AWAY && nm_set_away(&set, 1) == NM_YES);
-    CHECK(nm_set_worker(&set, &other, 0) == NM_DONE && nm_worker_has(&other, 5, TRIES) == NM_YES && nm_drop(&other) == NM_DONE);
+    CHECK(nm_set_worker(&set, &other, 0) == NM_DONE && nm_worker_insert(&other, 7, TRIES) == NM_YES);
+    CHECK(nm_worker_next(&other, 0, TRIES, &key) == NM_YES && key == 5 && nm_worker_next(&other, 6, TRIES, &key) == NM_YES && key == 7);
+    CHECK(nm_worker_next(&other, 8, TRIES, &key) == NM_NO && nm_drop(&other) == NM_DONE);
     CHECK(nm_drop(&lost) == NM_DONE && nm_set_away(&set, 1) == NM_NO && nm_set_close(&set) == NM_DONE);
     CHECK(nm_set_away(&set, 1) == NM_KIND && nm_drop(&set) == NM_DONE);
 }
