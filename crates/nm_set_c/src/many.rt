@@ -78,7 +78,9 @@ fn queries_of(alloc: Global, lookups: &[Lookup]) -> Result<Vec<Query>, Outcome>
     ensures keys { IfOk result (λ v. map key_of v.items ≡ map number_of lookups.now) }
     ensures unasked { IfErr result (λ o. IsUnasked lookups.now o) }
 {
-    let mut queries = Vec::new(alloc);
+    let Ok(mut queries) = Vec::with_capacity(alloc, lookups.len()) else {
+        return Err(Outcome::NoMemory);
+    };
     for lookup in lookups {
         let Some(key) = Key::new(lookup.key) else {
             return Err(Outcome::Key);
