@@ -82,23 +82,6 @@ fn nothing_is_found_only_where_all_are_taken(rt: HostRuntime) -> Result<(), Fail
     Ok(())
 }
 
-/// Two hundred nodes: four rows of the pool.
-const FOUR_ROWS: u32 = 200;
-
-#[test]
-fn a_near_claim_passes_rows_that_are_taken(rt: HostRuntime) -> Result<(), Fail> {
-    let (shared, passes) = Shared::new(rt.alloc(), Layout::new(FOUR_ROWS, 1)?)?;
-    let mut pass = only(&shared, passes);
-    let mut near = Placement::new(Fit::Near, 199);
-    assert_eq!(rt; claim_by(&shared, &mut pass, &mut near), first_of(199));
-    assert_eq!(rt; claim_by(&shared, &mut pass, &mut near), first_of(200));
-    for _slot in 6..130 {
-        claim(&shared, &mut pass);
-    }
-    assert_eq!(rt; claim_by(&shared, &mut pass, &mut near), first_of(130));
-    Ok(())
-}
-
 #[test]
 fn the_lowest_placement_claims_the_lowest(rt: HostRuntime) -> Result<(), Fail> {
     let (shared, passes) = Shared::new(rt.alloc(), Layout::new(NODES, 1)?)?;
