@@ -9,7 +9,7 @@
 #include <chrono>
 #include <cstdio>
 #include <cstdlib>
-#include <cstring>
+#include <malloc.h>
 #include <mutex>
 #include <set>
 #include <string>
@@ -216,4 +216,10 @@ int named(const std::string &name) {
 
 }  // namespace
 
-int main(int count, char **words) { return count == 2 ? named(words[1]) : 2; }
+// Each set is made as the first one of a program is: in blocks of its own, which begin a page. Without
+// this, glibc takes large blocks from its heap once one was given back, and announcements that are to
+// have cache lines of their own may then lie in two.
+int main(int count, char **words) {
+    mallopt(M_MMAP_THRESHOLD, 128 * 1024);
+    return count == 2 ? named(words[1]) : 2;
+}
