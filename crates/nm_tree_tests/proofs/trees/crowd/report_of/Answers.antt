@@ -1,5 +1,5 @@
 use Rattle.nm_tree.proofs.OfClosed.{all_slots_are_told}
-use Rattle.nm_tests.proofs.trees.crowd.report_of.Goals as goal
+use Rattle.nm_tree_tests.proofs.trees.crowd.report_of.Goals as goal
 
 pub returns : goal.returns
 returns g c =
