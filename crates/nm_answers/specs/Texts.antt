@@ -14,6 +14,7 @@ refusal refused.Gone = codes "refused gone"
 refusal refused.Held = codes "refused held"
 refusal refused.Idle = codes "refused idle"
 
+-- how an answer is spelled
 abbrev pub answer : Answer → List ℕ
 answer (Said true) = codes "true"
 answer (Said false) = codes "false"

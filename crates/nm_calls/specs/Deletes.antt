@@ -43,7 +43,8 @@ pub record TriesFlag (nodes k : ℕ) (r : End) (c : List ChainEdge) (birth : ℕ
 abbrev pub leaf_of : End → ℕ → NodeId
 leaf_of r b = record { slot = r.spot.edge.slot; birth = b }
 
--- by what it came to, with the chain of the walk
+-- one try to flag, by what it came to, with the chain of the walk (Natarajan and Mittal, section
+-- 3.2, delete)
 abbrev pub IsFlagTry : ℕ → ℕ → List ChainEdge → List Entry → List Entry → Injected → Type 0
 IsFlagTry nodes k c old new injected.Absent = (r : End) × Seeks nodes k old new c (Some r) × (r.key ≢ k)
 IsFlagTry nodes k c old new (injected.Flagged r b) = TriesFlag nodes k r c b (Flagged (leaf_of r b)) old new
@@ -52,7 +53,8 @@ IsFlagTry nodes k c old new injected.Lost = IsBroken nodes k old new
 
 -- ---- cleanup mode
 
--- the call has flagged the leaf, and it may go on to remove it
+-- the call has flagged the leaf, and it may go on to remove it (Natarajan and Mittal, section 3.2,
+-- delete)
 pub record IsRemoving (p : Stand) (k : ℕ) (n : NodeId) : Type 0 where
   pub run : IsInRun p
   pub pinned : IsPinnedSomewhere p
@@ -63,7 +65,8 @@ pub record IsRemoving (p : Stand) (k : ℕ) (n : NodeId) : Type 0 where
   pub born : Tells p (IsBorn n.slot n.birth)
   pub labelled : (epochs p).unlabelled ≡ false
 
--- a walk to another leaf, or a won cleanup by a walk that ended at the flagged leaf, whose splice cut that leaf
+-- a walk to another leaf, or a won cleanup by a walk that ended at the flagged leaf, whose splice
+-- cut that leaf (Natarajan and Mittal, section 3.2, delete)
 abbrev pub Removes : ℕ → ℕ → NodeId → List Entry → List Entry → Type 0
 Removes nodes k n old new = (r : End) × (c : List ChainEdge) × ((Seeks nodes k old new c (Some r) × (r.spot.edge.slot ≢ n.slot))
     ⊎ ((mid : List Entry) × (ns : List NodeId) × (epoch : ℕ) × Seeks nodes k old mid c (Some r) × (r.spot.edge.slot ≡ n.slot) × CleanupWon r.spot c ns epoch mid new × IsAmong n ns))
@@ -152,6 +155,8 @@ ShowsInjection k c q _ = (search q).flagged ≡ None
 
 -- ---- the tries to remove, the first of which is a cleanup by the walk of the flag
 
+-- the tries to remove the leaf, from a cleanup by that walk on, by what they came to (Natarajan and
+-- Mittal, section 3.2, delete)
 abbrev pub RemovalAfter : ℕ → ℕ → End → List ChainEdge → ℕ → ℕ → List Entry → List Entry → Removal → Type 0
 RemovalAfter nodes k r c b left old new removal.Removed = ((left ≢ 0) × (ns : List NodeId) × (epoch : ℕ) × CleanupWon r.spot c ns epoch old new × IsAmong (leaf_of r b) ns)
     ⊎ ((t : ℕ) × (mid : List Entry) × (left ≡ t + 1) × CleanupLost r.spot c old mid × IsRemoval nodes k (leaf_of r b) t mid new removal.Removed)
@@ -175,6 +180,7 @@ DeleteFinishes nodes tries k old new (Err (missed.Unfinished n)) = FlagsThen nod
 abbrev pub PinsForDelete : ℕ → ℕ → ℕ → List Entry → List Entry → Result Bool Missed → Type 0
 PinsForDelete nodes tries k old new r = (pinned : List Entry) × (epoch : ℕ) × IsPinned (SightFor Delete k) tries old pinned epoch × DeleteFinishes nodes tries k pinned new r
 
+-- a whole delete, by its answer (Natarajan and Mittal, section 3.2, delete)
 abbrev pub DeleteDid : ℕ → ℕ → ℕ → List Entry → List Entry → Result Bool Missed → Type 0
 DeleteDid nodes tries k old new (Err missed.Busy) =
     ((tries ≡ 0) × (new ≡ old)) ⊎ ((tries ≢ 0) × IsMoved (SightFor Delete k) tries old new) ⊎ PinsForDelete nodes tries k old new (Err missed.Busy)
@@ -202,7 +208,8 @@ LacksRoomOr lost spare missed.Busy = Unit {0}
 LacksRoomOr lost spare missed.NoMemory = spare < cut_bound
 LacksRoomOr lost spare (missed.Unfinished n) = (spare < cut_bound) ⊎ lost n
 
--- tries to remove, and a leave with the answer true; or each was lost, or the room of one was refused
+-- tries to remove, and a leave with the answer true; or each was lost, or the room of one was
+-- refused (Natarajan and Mittal, section 3.2, delete)
 abbrev pub FinishDid : ℕ → ℕ → NodeId → ℕ → List Entry → List Entry → Bool → Type 0
 FinishDid nodes k n tries old new true = (mid : List Entry) × IsRemoval nodes k n tries old mid removal.Removed × (new ≡ mid ++ (LeaveWith true, Departed) ∷ [])
 FinishDid nodes k n tries old new false = IsRemoval nodes k n tries old new removal.Refused ⊎ IsRemoval nodes k n tries old new removal.Spent

@@ -52,6 +52,8 @@ pub record HoldsFork (o p : Stand) (f : Fork) : Type 0 where
   pub new_was : get (knowledge o.view).drafts f.new.slot ≡ None
   pub fresh_was : get (knowledge o.view).drafts f.fresh.slot ≡ None
 
+-- the two new nodes that an insert keeps over its tries, once it has made them (Natarajan and
+-- Mittal, section 3.2, insert)
 abbrev pub HasFork : Stand → Stand → Option Fork → Type 0
 HasFork o p None = (s : ℕ) → get (knowledge p.view).drafts s ≡ get (knowledge o.view).drafts s
 HasFork o p (Some f) = HoldsFork o p f
@@ -121,7 +123,8 @@ pub record HasNotGrown (p q : Stand) (key : ℕ) (r : End) (f : Fork) (e : Edge)
 abbrev pub asks_help : End → Edge → Bool
 asks_help r e = (e.slot == r.spot.edge.slot) && (e.flag || e.tag)
 
--- then a cleanup by that walk, won or lost; else no step
+-- then a cleanup by that walk, won or lost, exactly where the edge asks for help; else no step
+-- (Natarajan and Mittal, section 3.2, insert)
 abbrev pub Helps : End → List ChainEdge → Edge → List Entry → List Entry → Type 0
 Helps r c e old new = ((asks_help r e ≡ true) × (((ns : List NodeId) × (epoch : ℕ) × CleanupWon r.spot c ns epoch old new) ⊎ CleanupLost r.spot c old new)) ⊎ ((asks_help r e ≡ false) × (new ≡ old))
 
@@ -144,6 +147,7 @@ pub record TriesLink (fit : Fit) (nodes k : ℕ) (f : Option Fork) (made : Fork)
   pub grows : Grows k r made reply claimed new
 
 -- a try of an insert of k, by what it came to; f are the new nodes before it, and g those after it
+-- (Natarajan and Mittal, section 3.2, insert)
 abbrev pub IsTry : Fit → ℕ → ℕ → Option Fork → Option Fork → List Entry → List Entry → Attempt → Type 0
 IsTry fit nodes k f g old new attempt.Found = (r : End) × (c : List ChainEdge) × Seeks nodes k old new c (Some r) × (r.key ≡ k) × (g ≡ f)
 IsTry fit nodes k f g old new attempt.Linked = (made : Fork) × (r : End) × (c : List ChainEdge) × TriesLink fit nodes k f made r c (Linked made.new) old new × (g ≡ None)
@@ -168,7 +172,8 @@ ShowsTry k p q _ = (search q).linked ≡ (search p).linked
 
 -- ---- the whole call
 
--- so many tries were lost, one behind the other; f are the new nodes behind them
+-- so many tries were lost, one behind the other; f are the new nodes behind them (Natarajan and
+-- Mittal, section 3.2, insert)
 abbrev pub LostInserts : Fit → ℕ → ℕ → ℕ → Option Fork → List Entry → List Entry → Type 0
 LostInserts fit nodes k zero f old new = (f ≡ None) × (new ≡ old)
 LostInserts fit nodes k (suc n) g old new = (f : Option Fork) × (mid : List Entry) × LostInserts fit nodes k n f old mid × IsTry fit nodes k f g mid new attempt.Lost
@@ -189,8 +194,9 @@ Finishes fit nodes tries k old new (Err fault.NoMemory) =
 abbrev pub PinsThen : Fit → ℕ → ℕ → ℕ → List Entry → List Entry → Result Bool Fault → Type 0
 PinsThen fit nodes tries k old new r = (pinned : List Entry) × (epoch : ℕ) × IsPinned (SightFor Insert k) tries old pinned epoch × Finishes fit nodes tries k pinned new r
 
--- Busy: there may be no try, and there was no step; or each try of the pin was lost; or each try was. NoMemory: the room of the first try was refused, and
--- there was no step, or that of a later one
+-- Busy: there may be no try, and there was no step; or each try of the pin was lost; or each try
+-- was. NoMemory: the room of the first try was refused, and there was no step, or that of a later
+-- one (Natarajan and Mittal, section 3.2, insert)
 abbrev pub InsertDid : Fit → ℕ → ℕ → ℕ → List Entry → List Entry → Result Bool Fault → Type 0
 InsertDid fit nodes tries k old new (Err fault.Busy) =
     ((tries ≡ 0) × (new ≡ old)) ⊎ ((tries ≢ 0) × IsMoved (SightFor Insert k) tries old new) ⊎ PinsThen fit nodes tries k old new (Err fault.Busy)

@@ -45,7 +45,8 @@ slot_word L s = behind_notes L L.workers + 4 * (s - 1)
 abbrev pub pool_word : Layout → ℕ
 pool_word L = behind_notes L L.workers + 4 * L.nodes
 
--- the number of a field's word
+-- the number of a field's word: the epoch, a note a worker, four words a slot, and the pool in rows
+-- of 64 slots
 abbrev pub word : Layout → Field → ℕ
 word L at_epoch = 0
 word L (at_note w) = behind_notes L w

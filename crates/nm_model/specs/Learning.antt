@@ -111,7 +111,8 @@ inheriting k ls = record k { ledgers = taken_over k.ledgers ls }
 abbrev pub resigned : Knowledge → Knowledge
 resigned k = record k { ledgers = replicate (length k.ledgers) None; gone = true }
 
--- what worker w knows after an event with its reply. A join stands in both logs, and the own number tells the leaver from the heir
+-- what worker w knows after an event with its reply, one line a case; nobody else learns anything.
+-- A join stands in both logs, both learn of it, and the own number tells the leaver from the heir
 unfoldable pub learn : ℕ → Knowledge → Event → Reply → Knowledge
 learn w k Sight r = learn_sight k r
 learn w k (SightFor op key) r = learn_sight k r

@@ -57,7 +57,8 @@ shows_call s (Some c) answer = shows s c.op c.key answer
 
 -- ---- links and flags in order
 
--- over a leaf with key v, and a new leaf with key k: the new node has the greater key, and the lesser leaf is on the left
+-- over a leaf with key v, and a new leaf with key k: the new node has the greater key, and the
+-- lesser leaf is on the left (Natarajan and Mittal, section 3.1)
 abbrev pub is_fork_for : Draft → ℕ → ℕ → ℕ → Bool
 is_fork_for d leaf k v = if nat_lt k v then is_number d.key v && is_number d.right leaf else is_number d.key k && is_number d.left leaf
 
@@ -95,7 +96,9 @@ abbrev pub flags_in_order : Search → Option Call → ℕ → Side → ℕ → 
 flags_in_order s None p side leaf = false
 flags_in_order s (Some c) p side leaf = deletes s c.op c.key p side leaf
 
--- why an event that a plain core allows is refused, if it is, by the own knowledge and the own log
+-- why an event that a plain core allows is refused, if it is, by the own knowledge and the own log:
+-- a link or a flag that is not where a walk of the own operation ended, or a leave without the
+-- answer that the log shows (from Natarajan and Mittal, section 3.2)
 abbrev pub disorder : Knowledge → Search → Event → Option Refused
 disorder k s (Link p side leaf new) = first (not (links_in_order k s s.call p side leaf new) refuses NotOrdered ∷ [])
 disorder k s (Flag p side leaf) = first (not (flags_in_order s s.call p side leaf) refuses NotOrdered ∷ [])
@@ -150,14 +153,17 @@ abbrev pub unless_refused_in : Option Refused → Configuration → Configuratio
 unless_refused_in None c d = d
 unless_refused_in (Some r) c d = c
 
+-- the configuration behind an event; what is refused changes nothing
 unfoldable pub next_in : Configuration → ℕ × Event → Configuration
 next_in c t = unless_refused_in (refused_in c t.0 t.1) c (applied_in c t.0 t.1)
 
+-- the reply of an event, or why it is refused
 unfoldable pub outcome_in : Configuration → ℕ × Event → Result Reply Refused
 outcome_in c t = answered (refused_in c t.0 t.1) (reply_of c.state t.0 t.1)
 
 -- ---- runs
 
+-- the configuration after a list of events
 unfoldable pub after_in : Configuration → List (ℕ × Event) → Configuration
 after_in c [] = c
 after_in c (t ∷ ts) = after_in (next_in c t) ts

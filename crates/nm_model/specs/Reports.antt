@@ -76,7 +76,7 @@ keys_below fuel m s = filter_map (λ x. set_key (node m x)) (tree_slots fuel m s
 abbrev pub below : Memory → ℕ → ℕ → List Subtree
 below m s depth = record { slot = child m s Right; depth = depth } ∷ record { slot = child m s Left; depth = depth } ∷ []
 
--- the keys of the reached leaves
+-- the keys of the reached leaves, from left to right, without the fixed ones
 abbrev pub keys : State → List ℕ
 keys s = keys_below s.layout.nodes s.memory 1
 
@@ -96,6 +96,7 @@ report_of turns s = record {
   counts = counts s;
 }
 
+-- the trace of a run, each origin's ledger, the epoch and the counts
 unfoldable pub report : Layout → List (ℕ × Event) → Report
 report L ts = report_of (trace (start L) ts) (after (start L) ts)
 

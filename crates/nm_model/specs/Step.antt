@@ -152,11 +152,14 @@ abbrev pub sighted : Option ℕ → ℕ → Reply
 sighted None e = Saw e
 sighted (Some a) e = if a == e then Pinned e else Missed e
 
--- a worker that announces and isn't pinned is pinned by reading what it announces
+-- a worker that announces and is not pinned is pinned by reading the epoch that it announces; else
+-- the try is lost (Fraser, section 5.2.3)
 abbrev pub confirmed : Option ℕ → Option ℕ → ℕ → Reply
 confirmed (Some p) announced e = Saw e
 confirmed None announced e = sighted announced e
 
+-- of a sight, also of one for an operation and its key, which is refused where it cannot confirm a
+-- pin. (In a plain core that is a sight, and a leave with an answer a leave.)
 abbrev pub reply_sight : Knowledge → ℕ → Reply
 reply_sight k e = if k.brief.unlabelled then Labelled e else confirmed k.brief.pin k.brief.note e
 
@@ -184,6 +187,8 @@ cut_nodes L m k s p keep = map (named m) (cut_by k s (unwrap_or (way L.nodes k s
 abbrev pub node_linked : Knowledge → ℕ → NodeId
 node_linked k new = record { slot = new; birth = unwrap_or (draft_of k new).birth 0 }
 
+-- what an event answers, by the word that it finds (Fraser, section 5.2.3: pin, advance; Natarajan
+-- and Mittal, section 3.2: link, flag, tag, splice)
 unfoldable pub reply : Layout → Memory → Knowledge → Event → Reply
 reply L m k Sight = reply_sight k m.epoch
 reply L m k (SightFor op key) = reply_sight k m.epoch
@@ -218,6 +223,8 @@ abbrev pub kept : Option Edge → Edge
 kept None = to 0
 kept (Some e) = untagged e
 
+-- the one word that an event changes, or none (Fraser, section 5.2.3; Natarajan and Mittal, section
+-- 3.2)
 unfoldable pub write : Memory → Knowledge → ℕ → Event → Memory
 write m k w Sight = m
 write m k w (SightFor op key) = m

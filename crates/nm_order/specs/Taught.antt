@@ -18,7 +18,7 @@ use Rattle.nm_order.specs.Told.{TellsEdge}
 
 -- ---- edges and nodes
 
--- the edge of slot x on a side was read
+-- the edge of slot x on a side was read: what that adds to the facts of a log
 pub record EdgeLearned (holds : Fact → Type 0) (x : ℕ) (side : Side) (e : Edge) : Type 0 where
   pub leads : e.slot ≢ 0 → holds (KnowsSlot e.slot)
   pub leaf : e.slot ≡ 0 → holds (KnowsLeaf x)

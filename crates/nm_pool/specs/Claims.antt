@@ -36,7 +36,8 @@ pub record Claims (nodes : ℕ) (old new : List Entry) (n : NodeId) : Type 0 whe
   pub passed : DoneBelow PassedOver 6 n.slot old before
   pub made : MadeNew n before new
 
--- what a claim leaves in the log, by its answer
+-- what a claim leaves in the log, by its answer: at each lesser slot that it was found taken, or
+-- worn and given back, and then the claim of the slot that is answered, with its birth raised
 abbrev pub IsClaim : ℕ → List Entry → List Entry → Option NodeId → Type 0
 IsClaim nodes old new (Some n) = Claims nodes old new n
 IsClaim nodes old new None = DoneBelow PassedOver 6 (nodes + 1) old new
@@ -92,12 +93,15 @@ pub record PassesAll (nodes : ℕ) (old new : List Entry) : Type 0 where
   pub all : (s : ℕ) → 6 ≤ s → s ≤ nodes → IsAmong s slots
   pub passed : DoneAt (PassedWithin nodes) slots old new
 
--- what a near claim leaves in the log, by its answer
+-- what a near claim leaves in the log, by its answer: slots above 5 were passed over, in any order,
+-- and then that of one slot was claimed, with its birth raised; or each slot above 5 was passed
+-- over (next fit: Knuth, The Art of Computer Programming, volume 1, section 2.5)
 abbrev pub IsNearClaim : ℕ → List Entry → List Entry → Option NodeId → Type 0
 IsNearClaim nodes old new (Some n) = ClaimsPast nodes nodes old new n
 IsNearClaim nodes old new None = PassesAll nodes old new
 
--- what a claim by a placement does
+-- what a claim by a placement leaves: of the lowest fit as `IsClaim`, of the near one as
+-- `IsNearClaim` says (next fit: Knuth, The Art of Computer Programming, volume 1, section 2.5)
 abbrev pub IsClaimBy : Fit → ℕ → List Entry → List Entry → Option NodeId → Type 0
 IsClaimBy fit.Lowest nodes old new r = IsClaim nodes old new r
 IsClaimBy fit.Near nodes old new r = IsNearClaim nodes old new r

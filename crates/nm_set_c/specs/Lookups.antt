@@ -19,6 +19,7 @@ abbrev pub bit_of : Bool → ℕ
 bit_of true = 1
 bit_of false = 0
 
+-- a query with its answer, as it is written
 abbrev pub lookup_of : Query → Lookup
 lookup_of q = record { key = q.key; found = bit_of q.found }
 
@@ -45,5 +46,6 @@ pub record LooksUp (tries : ℕ) (old new : List Lookup) (m n : Seated) (o : Out
   pub written : IfOk answer (λ u. new ≡ map lookup_of answered)
   pub kept : IfErr answer (λ f. new ≡ old)
 
+-- the one or the other
 abbrev pub DoesHasMany : ℕ → List Lookup → List Lookup → Seated → Seated → Outcome → Type 0
 DoesHasMany tries old new m n o = (IsUnasked old o × (n ≡ m) × (new ≡ old)) ⊎ LooksUp tries old new m n o

@@ -43,7 +43,9 @@ abbrev pub IsAsLooked : Knowledge → Memory → Event → Type 0
 IsAsLooked k m (Fill s Birth v) = (b : ℕ) → (draft_of k s).looked ≡ Some b → (node m s).birth ≡ b
 IsAsLooked k m _ = Unit {0}
 
--- the own log alone shows that no core refuses the event, and tells the births that its reply names
+-- the own log alone shows that an event is refused by no ordered core, whatever the memory, as long
+-- as the birth that was looked at is so; the births that its reply names are known, and one that it
+-- raises was looked at
 pub record May (L : Layout) (w : ℕ) (log : List Entry) (e : Event) : Type 0 where
   pub looked : HasLooked (known_by L w log) e
   pub allowed : (m : Memory) → IsAsLooked (known_by L w log) m e → refusal L m (known_by L w log) w e ≡ None
@@ -125,7 +127,8 @@ pub record IsOfRun (L : Layout) (w : ℕ) (log : List Entry) : Type 0 where
   pub is_part : IsLogOf L w log
   pub here : (known_by L w log).gone ≡ false
 
--- the pass's log is its worker's part of a run, in a layout that there is, and the worker has not resigned
+-- the pass's log is its worker's part of a run, in a layout that there is, and the worker has not
+-- resigned: what each step leaves
 pub record IsInRun (p : Stand) : Type 0 where
   pub fits : IsLayout p.view.layout
   pub run : IsOfRun p.view.layout p.view.number p.view.log
@@ -180,10 +183,11 @@ pub record Notice : Type 0 where
   pub table : TableId
   pub past : List (ℕ × Event)
 
+-- a note tells what a pass had seen
 abbrev pub IsNoteOf : Stand → Notice → Type 0
 IsNoteOf p note = note ≡ record { table = p.table; past = p.view.past }
 
--- a pass has seen more, and done nothing
+-- a pass that hears a note has seen more, and has done nothing
 abbrev pub HasHeard : Stand → Stand → Type 0
 HasHeard p q = q ≡ record p { view = record p.view { past = q.view.past } }
 

@@ -116,7 +116,9 @@ log_of v o = log_among o (is_held v.number v.log ∷ v.others)
 abbrev pub ledger_in : View → ℕ → Ledger
 ledger_in v o = unwrap_or (held (knowledge v).ledgers o) fresh_ledger
 
--- an account of a queue: what its origin's worker has won by its log, and what was freed and what waits by its ledger
+-- an account of a queue: how many links, flags and splices its origin's worker has won by its log,
+-- and how many nodes were freed by its ledger and how many wait; what was retired is what was freed
+-- and what waits
 pub record IsAccount (v : View) (h : HeldQueue) (a : Account) : Type 0 where
   pub origin : a.origin ≡ h.origin
   pub links : a.links ≡ capped (won_links (log_of v h.origin))
@@ -141,7 +143,8 @@ account_in (a ∷ xs) o = if a.origin == o then Some a else account_in xs o
 abbrev pub counts_in : Account → Counts
 counts_in a = record { links = a.links; flags = a.flags; splices = a.splices; retired = capped (a.freed + a.waiting); freed = a.freed; queued = a.waiting }
 
--- what was won by the worker of an origin, by its log, and what became of the nodes that it cut off, by their ledger
+-- the same as numbers that a caller reads, 2^64 - 1 where they are greater: what was won by the
+-- worker of an origin, by its log, and what became of the nodes that it cut off, by their ledger
 pub record IsLedger (v : View) (o : ℕ) (c : Counts) : Type 0 where
   pub links : c.links ≡ capped (won_links (log_of v o))
   pub flags : c.flags ≡ capped (won_flags (log_of v o))
@@ -214,7 +217,7 @@ pub record IsWorker (w : Hand) (xs : List Account) (home r s : ℕ) : Type 0 whe
   pub room : w.pass.view.layout.workers ≤ r
   pub account_room : w.pass.view.layout.workers ≤ s
 
--- workers k and on, which have done nothing yet
+-- workers k and on, in the order of their numbers, which have done nothing yet
 abbrev pub AreNew : Board → ℕ → List Hand → Type 0
 AreNew b k [] = Unit {0}
 AreNew b k (w ∷ ws) = (w.pass.table ≡ b.table) × (w.pass.view ≡ fresh_view b.layout k) × (w.pending ≡ None) × (w.held ≡ None)

@@ -1,0 +1,388 @@
+"""docs/sources.py: what the sources say of themselves, for docs/make and docs/promised.
+
+Of each crate: the definitions of specs/ with the words above them, the contracts of src/ with what
+each clause names, what the files of proofs/ import and name, and the edits with their words.
+"""
+import functools
+import glob
+import os
+import re
+from typing import NamedTuple
+
+TOP = os.path.join(os.path.dirname(os.path.abspath(__file__)), "..")
+NAME = re.compile(r"[A-Za-z_][\w'-]*|◌[^\s◌()]+◌")
+OPENS = re.compile(r"(?:(?:pub|abbrev|unfoldable|opaque|record|data) )+([^\s:(]+)")
+FIXITY = re.compile(r"infix\w* ")
+IMPORT = re.compile(r"(?:pub |ghost )*use ([\w.◌]+)\.\{([^}]*)\}")
+FIELD = re.compile(r"(?:pub )?([\w'-]+)")
+GROUP = re.compile(r"((?:`[^`]+`(?:, )?)+): ")
+QUOTED = re.compile(r"`([^`]+)`")
+HEADING = "-- ----"
+
+
+def read(path):
+    with open(path, encoding="utf-8") as file:
+        return file.read()
+
+
+@functools.cache
+def crates():
+    """The names of crates.txt, in its order."""
+    lines = read(os.path.join(TOP, "crates.txt")).splitlines()
+    return [re.match(r"\w+", it)[0] for it in lines if it and not it.startswith("#")]
+
+
+def files(crate, kind, ending):
+    """The files of a crate's folder with that ending, by their paths in it."""
+    folder = os.path.join(TOP, "crates", crate, kind)
+    found = glob.glob(os.path.join(folder, "**", f"*{ending}"), recursive=True)
+    return sorted(os.path.relpath(it, folder) for it in found)
+
+
+def first_sentence(words):
+    """The words up to the end of their first sentence."""
+    return re.split(r"(?<=[.!?])\)? (?=[A-Z(`])", words, maxsplit=1)[0]
+
+
+# ---- definitions
+
+
+class Definition(NamedTuple):
+    crate: str
+    module: str
+    name: str
+    words: str
+    names: frozenset
+    parts: tuple
+
+    @property
+    def place(self):
+        return self.crate, self.module, self.name
+
+
+class Module(NamedTuple):
+    crate: str
+    name: str
+    words: str
+    definitions: list
+
+
+class ModuleReader:
+    """Reads a file of definitions line by line."""
+
+    def __init__(self, crate, name):
+        self.crate, self.name, self.head, self.found = crate, name, None, []
+        self.comment, self.inner = [], []
+
+    def line(self, line):
+        text, _, _ = line.partition("--")
+        if line.startswith(HEADING):
+            self.comment = []
+        elif line.startswith("--"):
+            self.comment.append(line[2:].strip())
+        elif not line or re.match(r"(pub )?(use|mod) ", line):
+            self.take_head()
+        elif OPENS.match(line):
+            self.open(OPENS.match(line)[1])
+        elif line.strip().startswith("--"):
+            self.inner.append(line.strip()[2:].strip())
+        elif not FIXITY.match(line):
+            self.comment = []
+            self.note_part(line)
+        if self.found and text.strip() and not re.match(r"(pub )?(use|mod) ", line):
+            self.found[-1]["names"].update(NAME.findall(text))
+
+    def take_head(self):
+        if self.head is None:
+            self.head = " ".join(self.comment)
+        self.comment = []
+
+    def open(self, name):
+        words, self.comment, self.inner = " ".join(self.comment), [], []
+        self.found.append({"name": name, "words": words, "names": set(), "parts": []})
+
+    def note_part(self, line):
+        field = FIELD.match(line.strip())
+        if self.inner and field and self.found:
+            self.found[-1]["parts"].append((field[1], " ".join(self.inner)))
+        self.inner = []
+
+    def module(self):
+        made = [
+            Definition(self.crate, self.name, it["name"], it["words"], frozenset(it["names"]),
+                       tuple(it["parts"]))
+            for it in self.found
+        ]
+        return Module(self.crate, self.name, self.head or "", made)
+
+
+@functools.cache
+def modules(crate):
+    """The files of a crate's definitions, in the order of its specs/Lib.antt."""
+    found = {}
+    for path in files(crate, "specs", ".antt"):
+        reader = ModuleReader(crate, path[: -len(".antt")])
+        for line in read(os.path.join(TOP, "crates", crate, "specs", path)).splitlines():
+            reader.line(line)
+        found[reader.name] = reader.module()
+    order = []
+    if "Lib" in found:
+        lib = read(os.path.join(TOP, "crates", crate, "specs", "Lib.antt"))
+        order = re.findall(r"^pub mod (\w+)", lib, re.M)
+    return [found[it] for it in sorted(found, key=lambda it: (it not in order, (order + [it]).index(it)))
+            if found[it].definitions]
+
+
+@functools.cache
+def definitions():
+    """All definitions, by crate, module and name."""
+    return {it.place: it for crate in crates() for module in modules(crate) for it in module.definitions}
+
+
+# ---- contracts
+
+PUBLIC = r"(pub(?:\(\w+\))? )?(?:unsafe )?"
+FUNCTION = re.compile(rf'^( *){PUBLIC}(?:extern "C" )?fn (\w+)', re.M)
+OWNER = re.compile(
+    rf"^{PUBLIC}(impl|struct|enum|trait)\b(?:<[^>]*>)? ?(?:[\w:<>', ]+ for )?(\w+)", re.M)
+CLAUSE = re.compile(r"((?:\s*//[^\n]*\n)*)\s*(requires|ensures)(?: (\w+))? \{")
+ENDS = re.compile(r"\n\s*(?=requires|ensures|//|\{)| (?=\{)|;")
+
+
+class Clause(NamedTuple):
+    words: str
+    kind: str
+    name: str
+    text: str
+
+
+class Function(NamedTuple):
+    crate: str
+    path: str
+    owner: str
+    name: str
+    is_public: bool
+    words: str
+    clauses: tuple
+
+    @property
+    def title(self):
+        return f"{self.owner}::{self.name}" if self.owner else self.name
+
+
+
+class Type(NamedTuple):
+    crate: str
+    path: str
+    name: str
+    words: str
+    ghosts: str
+
+
+def closing(text, at):
+    """Where the brace that is opened at a place is closed."""
+    depth = 0
+    for place in range(at, len(text)):
+        depth += {"{": 1, "}": -1}.get(text[place], 0)
+        if depth == 0:
+            return place
+    return len(text)
+
+
+def signature_end(text, at):
+    """Where the clauses of a function begin, or its body."""
+    depth = 0
+    for it in re.finditer(r"[][()]|" + ENDS.pattern, text[at:]):
+        if it[0] in "[]()":
+            depth += 1 if it[0] in "[(" else -1
+        elif depth == 0:
+            return at + it.start()
+    return len(text)
+
+
+def clauses_at(text, at):
+    found, at = [], signature_end(text, at)
+    while it := CLAUSE.match(text, at):
+        at = closing(text, it.end() - 1) + 1
+        words = " ".join(line.strip().lstrip("/ ") for line in it[1].strip().splitlines())
+        found.append(Clause(words, it[2], it[3] or "", text[it.end() : at - 1].strip()))
+    return tuple(found)
+
+
+def words_above(text, at):
+    """The words of the lines with /// above a place, attributes aside."""
+    found = []
+    for line in reversed(text[:at].splitlines()):
+        line = line.strip()
+        if line.startswith("///"):
+            found.append(line[3:].strip())
+        elif not line.startswith("#["):
+            break
+    lines = found[::-1]
+    return " ".join(lines[: lines.index("")] if "" in lines else lines)
+
+
+@functools.cache
+def reached_names(crate):
+    """What a crate gives to others by its lib.rt: the modules that are open, and the names."""
+    path = os.path.join(TOP, "crates", crate, "src", "lib.rt")
+    text = read(path) if os.path.isfile(path) else ""
+    names = set()
+    for it in re.finditer(r"^pub use ([^;]+);", text, re.M):
+        names.update(NAME.findall(it[1]))
+    return set(re.findall(r"^pub mod (\w+)", text, re.M)), names
+
+
+def is_given(crate, path, name, text, at):
+    modules_open, names = reached_names(crate)
+    first = path.split(os.sep)[0].removesuffix(".rt")
+    return 'extern "C"' in text[at : text.find("\n", at)] or first in modules_open | {"lib"} or name in names
+
+
+@functools.cache
+def source(crate, path):
+    """The functions and the types of a file of src/."""
+    text = read(os.path.join(TOP, "crates", crate, "src", path))
+    owners = [(it.start(), it[2], it[3], bool(it[1])) for it in OWNER.finditer(text)]
+    functions, types = [], []
+    for at, kind, name, _ in owners:
+        inner = text[at : text.find("\n}", at)] if text.find("{", at) >= 0 else ""
+        ghosts = "\n".join(re.findall(r"^\s+ghost .*", inner, re.M))
+        words = words_above(text, at) if kind != "impl" else ""
+        types.append(Type(crate, path, name, words, ghosts))
+    for it in FUNCTION.finditer(text):
+        within = [owner for owner in owners if owner[0] < it.start()] if it[1] else []
+        owner, kind = (within[-1][2], within[-1][1]) if within else ("", "")
+        open_ = it[2] == "pub " or (kind == "trait" and within[-1][3])
+        given = open_ and is_given(crate, path, owner or it[3], text, it.start())
+        functions.append(Function(crate, path, owner, it[3], given, words_above(text, it.start()),
+                                  clauses_at(text, it.end())))
+    return functions, types
+
+
+@functools.cache
+def imports(crate, path):
+    """The definitions that a file of src/ imports, by the names that it has for them."""
+    found = {}
+    for module, names in IMPORT.findall(read(os.path.join(TOP, "crates", crate, "src", path))):
+        own = re.fullmatch(r"Rattle\.(\w+)\.specs\.(\w+)", module)
+        for it in names.split(",") if own else []:
+            name, _, alias = it.strip().partition(" as ")
+            if (own[1], own[2], name) in definitions():
+                found[alias or name] = own[1], own[2], name
+    return found
+
+
+def named(function, clause):
+    """The definitions that a clause names, in their order, each once."""
+    known = imports(function.crate, function.path)
+    return list(dict.fromkeys(known[it] for it in NAME.findall(clause.text) if it in known))
+
+
+def homes(function):
+    """The files in whose folder of proofs/ a function's may be: its own, or that of its type."""
+    found = [function.path]
+    for path in files(function.crate, "src", ".rt") if function.owner else []:
+        text = read(os.path.join(TOP, "crates", function.crate, "src", path))
+        if any(it[2] != "impl" and it[3] == function.owner for it in OWNER.finditer(text)):
+            found.append(path)
+    return dict.fromkeys(found)
+
+
+def proof_files(function):
+    """The files of a function's proofs by hand."""
+    found = []
+    for path in homes(function):
+        module = path[: -len(".rt")].split(os.sep)
+        module = [] if module in (["lib"], ["main"]) else module
+        owner = [function.owner] if function.owner else []
+        for name in (function.name, f"+{function.name}"):
+            folder = os.path.join(TOP, "crates", function.crate, "proofs", *module, *owner, name)
+            found += glob.glob(os.path.join(folder, "*.antt"))
+    return sorted(found)
+
+
+def cited(function):
+    """The files of proofs/ that a function's proofs by hand import; None where it has none."""
+    paths, found = proof_files(function), []
+    for path in paths:
+        uses = re.findall(r"^use Rattle\.(\w+)\.proofs\.(\w+)(?=\.\{| as |$)", read(path), re.M)
+        found += [it for it in uses if it[0] in crates()]
+    return list(dict.fromkeys(found)) if paths else None
+
+
+# ---- types of the code that definitions speak of
+
+DECLARED = re.compile(r"^(?:pub )?use Rattle\.(\w+)\.specs\.declared\.([\w.]+)\.(\w+)\.(?:\{|The)", re.M)
+
+
+@functools.cache
+def spoken_types(crate):
+    """The types of a crate's code that definitions of some crate import, in the order of its files."""
+    wanted = set()
+    for other in crates():
+        for path in files(other, "specs", ".antt"):
+            text = read(os.path.join(TOP, "crates", other, "specs", path))
+            wanted.update((it[1].replace(".", os.sep) + ".rt", it[2])
+                          for it in DECLARED.findall(text) if it[0] == crate)
+    found = {}
+    for path in files(crate, "src", ".rt"):
+        for it in source(crate, path)[1]:
+            if (path, it.name) in wanted and it.words:
+                found.setdefault((path, it.name), it)
+    return list(found.values())
+
+
+# ---- wrong bodies
+
+
+class Edit(NamedTuple):
+    crate: str
+    name: str
+    in_gate: bool
+    words: str
+    refused: str
+    places: tuple
+
+    @property
+    def path(self):
+        folder = f"crates/{self.crate}/must-fail" if self.in_gate else f"wider/{self.crate}"
+        return f"{folder}/{self.name}.edit"
+
+
+REFUSED = "refused by:"
+
+
+def place_of(crate, path, old):
+    """The function in which a text stands, or else the file."""
+    folder = os.path.join(TOP, "crates", crate)
+    text = read(os.path.join(folder, path)) if os.path.isfile(os.path.join(folder, path)) else ""
+    before = [it for it in FUNCTION.finditer(text, 0, text.find(old))] if old in text else []
+    name = os.path.basename(path)
+    if not before:
+        return name
+    within = [it[3] for it in OWNER.finditer(text, 0, before[-1].start())] if before[-1][1] else []
+    return f"{within[-1]}::{before[-1][3]}" if within else before[-1][3]
+
+
+def edit_of(crate, path, in_gate):
+    words, places, at = [], [], ""
+    for line in read(path).splitlines():
+        kind, _, text = line.partition(" ")
+        if kind == "#":
+            words.append(text.strip())
+        elif kind == "file:":
+            at = text.strip()
+        elif kind == "old:":
+            places.append(place_of(crate, at, text))
+    body, _, refused = " ".join(words).partition(REFUSED)
+    name = os.path.basename(path)[: -len(".edit")]
+    return Edit(crate, name, in_gate, body.strip(), refused.strip(), tuple(dict.fromkeys(places)))
+
+
+@functools.cache
+def edits(crate):
+    """A crate's wrong bodies: those of the gate, and those of the wider check."""
+    gate = glob.glob(os.path.join(TOP, "crates", crate, "must-fail", "*.edit"))
+    wider = glob.glob(os.path.join(TOP, "wider", crate, "*.edit"))
+    return [edit_of(crate, it, it in gate) for it in sorted(gate) + sorted(wider)]
