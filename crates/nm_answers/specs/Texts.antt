@@ -9,6 +9,7 @@ use Rattle.nm_answers.specs.declared.answer.Answer.TheVariants.{Said, Busy, Full
 abbrev pub two_numbers : List ℕ → ℕ → List ℕ → ℕ → List ℕ
 two_numbers word first between second = (word ++ decimal first) ++ (between ++ decimal second)
 
+-- how a refusal is spelled
 abbrev pub refusal : Refusal → List ℕ
 refusal refused.Gone = codes "refused gone"
 refusal refused.Held = codes "refused held"

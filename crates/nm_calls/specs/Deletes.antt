@@ -114,6 +114,7 @@ pub record HasFlagged (p q : Stand) (r : End) (b : ℕ) : Type 0 where
   pub edge : Tells q (IsFlagged r.spot.parent r.spot.side r.spot.edge.slot)
   pub born : Tells q (IsBorn r.spot.edge.slot b)
 
+-- the flag was lost: what the call flagged is as it was
 pub record HasNotFlagged (p q : Stand) (r : End) (e : Edge) : Type 0 where
   pub birth : ℕ
   pub part : q.view.log ≡ looks_and_flags r birth (Lost e) p.view.log
@@ -137,6 +138,7 @@ ShowsFlag k c p q injected.Lost = (search q).flagged ≡ (search p).flagged
 
 -- ---- the tries to flag
 
+-- so many tries to flag were lost
 abbrev pub LostFlags : ℕ → ℕ → ℕ → List Entry → List Entry → Type 0
 LostFlags nodes k zero old new = new ≡ old
 LostFlags nodes k (suc t) old new = (c : List ChainEdge) × (mid : List Entry) × LostFlags nodes k t old mid × IsFlagTry nodes k c mid new injected.Lost
@@ -148,6 +150,7 @@ IsInjection nodes k tries c old new (injection.Flagged r b left) = (t : ℕ) × 
 IsInjection nodes k tries c old new injection.Refused = (t : ℕ) × (0 < t) × (t < tries) × LostFlags nodes k t old new
 IsInjection nodes k tries c old new injection.Spent = LostFlags nodes k tries old new
 
+-- what the log shows behind the tries to flag, by what they came to
 abbrev pub ShowsInjection : ℕ → List ChainEdge → Stand → Injection → Type 0
 ShowsInjection k c q injection.Absent = ShowsAnswer q Delete k false
 ShowsInjection k c q (injection.Flagged r b left) = ((search q).flagged ≡ Some (leaf_of r b)) × Tells q (IsFlagged r.spot.parent r.spot.side r.spot.edge.slot) × Tells q (IsBorn r.spot.edge.slot b) × IsAt (Tells q) r.spot c × (length c < chain_bound)
@@ -177,6 +180,7 @@ DeleteFinishes nodes tries k old new (Err missed.Busy) = (c : List ChainEdge) ×
 DeleteFinishes nodes tries k old new (Err missed.NoMemory) = (c : List ChainEdge) × (mid : List Entry) × IsInjection nodes k tries c old mid injection.Refused × (new ≡ mid ++ (Leave, Departed) ∷ [])
 DeleteFinishes nodes tries k old new (Err (missed.Unfinished n)) = FlagsThen nodes tries k n old new removal.Refused ⊎ FlagsThen nodes tries k n old new removal.Spent
 
+-- a pin for the delete, and then what finishes it
 abbrev pub PinsForDelete : ℕ → ℕ → ℕ → List Entry → List Entry → Result Bool Missed → Type 0
 PinsForDelete nodes tries k old new r = (pinned : List Entry) × (epoch : ℕ) × IsPinned (SightFor Delete k) tries old pinned epoch × DeleteFinishes nodes tries k pinned new r
 

@@ -58,6 +58,7 @@ abbrev pub HasFork : Stand → Stand → Option Fork → Type 0
 HasFork o p None = (s : ℕ) → get (knowledge p.view).drafts s ≡ get (knowledge o.view).drafts s
 HasFork o p (Some f) = HoldsFork o p f
 
+-- the new nodes, if there are some, are ready
 abbrev pub IfReady : Stand → Option Fork → Type 0
 IfReady p None = Unit {0}
 IfReady p (Some f) = IsReady p f
@@ -103,6 +104,7 @@ pub record KeepsCall (p q : Stand) : Type 0 where
   pub call : (search q).call ≡ (search p).call
   pub flagged : (search q).flagged ≡ (search p).flagged
 
+-- the link was won: the call has linked, and the new nodes are private no longer
 pub record HasGrown (p q : Stand) (key : ℕ) (r : End) (f : Fork) : Type 0 where
   pub part : Grows key r f (Linked f.new) p.view.log q.view.log
   pub linked : (search q).linked ≡ true
@@ -110,6 +112,7 @@ pub record HasGrown (p q : Stand) (key : ℕ) (r : End) (f : Fork) : Type 0 wher
   pub new_given : get (knowledge q.view).drafts f.new.slot ≡ None
   pub fresh_given : get (knowledge q.view).drafts f.fresh.slot ≡ None
 
+-- it was lost: the new nodes are ready still, and the edge that was found is told
 pub record HasNotGrown (p q : Stand) (key : ℕ) (r : End) (f : Fork) (e : Edge) : Type 0 where
   pub part : Grows key r f (Lost e) p.view.log q.view.log
   pub linked : (search q).linked ≡ (search p).linked
@@ -133,6 +136,7 @@ abbrev pub Readies : Fit → ℕ → Option Fork → Fork → List Entry → Lis
 Readies fit nodes None g old new = ClaimsFork fit nodes old new (Some g)
 Readies fit nodes (Some f) g old new = (g ≡ f) × (new ≡ old)
 
+-- the new nodes are at hand, as they were or just claimed; or there were none, and no slot was free
 abbrev pub IsReadied : Fit → ℕ → Option Fork → Option Fork → Option Fork → List Entry → List Entry → Type 0
 IsReadied fit nodes f g (Some h) old new = (g ≡ Some h) × Readies fit nodes f h old new
 IsReadied fit nodes f g None old new = (f ≡ None) × (g ≡ None) × ClaimsFork fit nodes old new None
@@ -191,6 +195,7 @@ Finishes fit nodes tries k old new (Err fault.Busy) = (f : Option Fork) × (mid 
 Finishes fit nodes tries k old new (Err fault.NoMemory) =
     (n : ℕ) × (f : Option Fork) × (mid back : List Entry) × (0 < n) × (n < tries) × LostInserts fit nodes k n f old mid × Returns f mid back × (new ≡ back ++ (Leave, Departed) ∷ [])
 
+-- a pin for the insert, and then what finishes it
 abbrev pub PinsThen : Fit → ℕ → ℕ → ℕ → List Entry → List Entry → Result Bool Fault → Type 0
 PinsThen fit nodes tries k old new r = (pinned : List Entry) × (epoch : ℕ) × IsPinned (SightFor Insert k) tries old pinned epoch × Finishes fit nodes tries k pinned new r
 

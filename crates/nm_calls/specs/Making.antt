@@ -56,6 +56,7 @@ pub record OnlyMakes (p q : Stand) : Type 0 where
 abbrev pub with_node : Draft → ℕ → ℕ → ℕ → Draft
 with_node d key left right = record d { key = Some key; left = Some left; right = Some right }
 
+-- the three steps that store a key and two edges in a slot
 abbrev pub fills : ℕ → ℕ → ℕ → ℕ → List Entry
 fills slot key left right = (Fill slot KeyOf key, Filled) ∷ (Fill slot (EdgeOn Left) left, Filled) ∷ (Fill slot (EdgeOn Right) right, Filled) ∷ []
 

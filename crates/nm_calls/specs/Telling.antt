@@ -17,6 +17,7 @@ pub use Rattle.nm_steps.specs.Steps.{IsInRun}
 abbrev pub Tells : Stand → Fact → Type 0
 Tells p fact = Holds p.view.layout p.view.number p.view.log fact
 
+-- the log tells a pin
 abbrev pub IsPinnedSomewhere : Stand → Type 0
 IsPinnedSomewhere p = (epoch : ℕ) × Tells p (IsPinned epoch)
 

@@ -46,6 +46,7 @@ ripe_front epoch (e ∷ es) = if is_ripe epoch e then Some e.node else None
 abbrev pub ripe_part : ℕ → List Entry → List Entry
 ripe_part epoch es = take_while (is_ripe epoch) es
 
+-- what is left of these entries behind the ripe front
 abbrev pub rest_of : ℕ → List Entry → List Entry
 rest_of epoch es = drop (prefix_len (is_ripe epoch) es) es
 

@@ -37,6 +37,7 @@ written m w (Tag p side) (Ok (Was e)) = put_edge m p side (tagged e)
 written m w (Splice a side s p keep) (Ok (Cut ns)) = put_edge m a side (untagged (edge m p keep))
 written m w _ _ = m
 
+-- `after_turn`, `words_from`: the words after a turn, and after these turns, from others on
 abbrev pub after_turn : Memory → Turn → Memory
 after_turn m t = written m t.worker t.event t.outcome
 
@@ -155,6 +156,7 @@ departs Leave (Ok Departed) = true
 departs (LeaveWith answer) (Ok Departed) = true
 departs _ _ = false
 
+-- a turn by which the worker leaves
 abbrev pub leaves : ℕ → Turn → Bool
 leaves w t = (t.worker == w) && departs t.event t.outcome
 
@@ -205,6 +207,7 @@ pub data Place : Type 0 where
   OnPath : List Side → Place
   Waits : ℕ → ℕ → Place
 
+-- after these turns the slot is in that place
 abbrev pub StandsAt : Layout → List Turn → ℕ → Place → Type 0
 StandsAt L turns x InPool = in_pool (words_after L turns) x ≡ true
 StandsAt L turns x (InHands w) = has_after (opening L) w x false turns ≡ true
@@ -242,6 +245,7 @@ NothingIsPulledAway L turns = (before between rest : List Turn) (t : Turn) (r : 
 
 -- ---- the theorem, of the turns of a run from the empty tree on
 
+-- the theorem, of the turns of a run
 pub record Headline (L : Layout) (turns : List Turn) : Type 0 where
   -- what is read is what the turns have written
   pub reads : (before rest : List Turn) (t : Turn) (r : Reply) → turns ≡ before ++ t ∷ rest → t.outcome ≡ Ok r → Tells (words_after L before) t.event r

@@ -25,6 +25,7 @@ pub record Knowledge : Type 0 where
 
 -- ---- at first
 
+-- `unread`, `unfilled`: of a known node nothing was read; of a private slot nothing was filled in
 abbrev pub unread : Seen
 unread = record { left = None; right = None; birth = None }
 
@@ -44,12 +45,14 @@ newcomer L w = record {
 
 -- ---- reading
 
+-- `knows`, `is_private`: a known node; a private slot
 abbrev pub knows : Knowledge → ℕ → Bool
 knows k s = has k.known s
 
 abbrev pub is_private : Knowledge → ℕ → Bool
 is_private k s = has k.drafts s
 
+-- `seen_of`, `draft_of`: what was read of a known node; what was filled in of a private slot
 abbrev pub seen_of : Knowledge → ℕ → Seen
 seen_of k s = unwrap_or (get k.known s) unread
 
@@ -64,6 +67,8 @@ read_on n Right = n.right
 abbrev pub read : Knowledge → ℕ → Side → Option Edge
 read k s side = read_on (seen_of k s) side
 
+-- `is_null`, `is_flagged`, `is_tagged`, `slot_read`: of an edge that was read: it is null, it has
+-- its flag, it has its tag; the slot to which it leads
 abbrev pub is_null : Option Edge → Bool
 is_null None = false
 is_null (Some e) = e.slot == 0

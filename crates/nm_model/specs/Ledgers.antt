@@ -14,6 +14,8 @@ fresh_ledger = record { retired = []; freed = []; queue = [] }
 abbrev pub held : List (Option Ledger) → ℕ → Option Ledger
 held ls origin = slice_index_or ls origin None
 
+-- `queue_of`, `labelled`: the queue of a ledger; a ledger whose entries without a label get this
+-- one
 abbrev pub queue_of : Option Ledger → List Queued
 queue_of None = []
 queue_of (Some l) = l.queue

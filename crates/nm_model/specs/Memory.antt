@@ -43,6 +43,7 @@ is_leaf n = (n.left.slot == 0) && (n.right.slot == 0)
 abbrev pub note : Memory → ℕ → Option ℕ
 note m w = slice_index_or m.notes w None
 
+-- whether the slot is in the pool
 abbrev pub in_pool : Memory → ℕ → Bool
 in_pool m s = slice_index_or m.pool s false
 
@@ -60,6 +61,7 @@ with_edge n Right e = record n { right = e }
 abbrev pub put_edge : Memory → ℕ → Side → Edge → Memory
 put_edge m s side e = put_node m s (with_edge (node m s) side e)
 
+-- `infinity_0`, `infinity_1`, `infinity_2`: the sentinels, above all keys of the set
 abbrev pub infinity_0 : ℕ
 infinity_0 = 2 ^ 64 - 3
 
@@ -69,6 +71,7 @@ infinity_1 = 2 ^ 64 - 2
 abbrev pub infinity_2 : ℕ
 infinity_2 = 2 ^ 64 - 1
 
+-- `leaf`, `fork`: a leaf with that key; an internal node with that key over two slots
 abbrev pub leaf : ℕ → Node
 leaf key = record { key = key; left = to 0; right = to 0; birth = 0 }
 

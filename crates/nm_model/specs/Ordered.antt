@@ -88,6 +88,7 @@ abbrev pub deletes : Search → Op → ℕ → ℕ → Side → ℕ → Bool
 deletes s Delete key p side leaf = is_none s.flagged && list_any (may_flag_at key p side leaf) s.walks
 deletes s _ key p side leaf = false
 
+-- `links_in_order`, `flags_in_order`: the log shows that the link, or the flag, is one of the call
 abbrev pub links_in_order : Knowledge → Search → Option Call → ℕ → Side → ℕ → ℕ → Bool
 links_in_order k s None p side leaf new = false
 links_in_order k s (Some c) p side leaf new = inserts k s c.op c.key p side leaf new
@@ -117,12 +118,16 @@ pub record Configuration : Type 0 where
 abbrev pub plain : Layout → Configuration
 plain L = record { state = start L; searches = None }
 
+-- the opening of an ordered core
 abbrev pub ordered : Layout → Configuration
 ordered L = record { state = start L; searches = Some (replicate L.workers idle) }
 
+-- the search of a worker
 abbrev pub search_of : List Search → ℕ → Search
 search_of ss w = slice_index_or ss w idle
 
+-- `disorder_among`, `disorder_in`: why an ordered core refuses an event that a plain one allows; a
+-- plain core has no such reason
 abbrev pub disorder_among : Option (List Search) → Knowledge → ℕ → Event → Option Refused
 disorder_among None k w e = None
 disorder_among (Some ss) k w e = disorder k (search_of ss w) e
@@ -138,6 +143,7 @@ disorder_in c w e = disorder_among c.searches (of c.state w) w e
 unfoldable pub refused_in : Configuration → ℕ → Event → Option Refused
 refused_in c w e = or_else (refused c.state w e) (disorder_in c w e)
 
+-- the searches behind an event with its reply
 abbrev pub learned_from : List Search → ℕ → Event → Reply → List Search
 learned_from ss w e r = slice_set ss w (searched (search_of ss w) e r)
 
@@ -209,6 +215,7 @@ turn_of t = (t.worker, t.event)
 abbrev pub IsRunOfAccepted : State → List Turn → State → Type 0
 IsRunOfAccepted s turns t = (t ≡ after s (map turn_of (accepted turns))) × (trace s (map turn_of (accepted turns)) ≡ accepted turns)
 
+-- an ordered run is a run of the events that it accepted
 abbrev pub OrderedRunsAreRuns : Type 0
 OrderedRunsAreRuns = (c : Configuration) (ts : List (ℕ × Event)) → IsRunOfAccepted c.state (trace_in c ts) (after_in c ts).state
 

@@ -41,6 +41,7 @@ join_refusal s w v = first (
     ((v == w) || is_no_worker s v) refuses NoWorker
     ∷ (not (length (of s v).drafts == 0) || (of s v).brief.unlabelled) refuses NotReady ∷ [])
 
+-- why an event is refused in a state, joins too
 abbrev pub refusal_of : State → ℕ → Event → Option Refused
 refusal_of s w (Join v) = join_refusal s w v
 refusal_of s w e = refusal s.layout s.memory (of s w) w e

@@ -96,6 +96,8 @@ abbrev pub begun : Search → Option Call → Reply → Search
 begun s call (Pinned e) = record { call = call; linked = false; flagged = None; cut = false; walks = []; later = [] }
 begun s call _ = s
 
+-- `left`, `look_for`, `linked`, `flagged`, `spliced`: what a leave, a look, a link, a flag and a
+-- splice add to a search
 abbrev pub left : Search → Reply → Search
 left s Departed = idle
 left s _ = s

@@ -74,6 +74,7 @@ pub record HasInserted (L : Layout) (turns : List (ℕ × Event)) (w k : ℕ) : 
   pub gains : Gains (after_in (ordered L) before).state.memory (next_in (after_in (ordered L) before) (w, Link parent side leaf new)).state.memory k
   pub stands : PinStands w (trace_in (next_in (after_in (ordered L) before) (w, Link parent side leaf new)) since)
 
+-- a call that may answer its insert with true has inserted its key
 abbrev pub TrueInsertsHaveInserted : Layout → List (ℕ × Event) → Type 0
 TrueInsertsHaveInserted L turns = (w k : ℕ) → MayAnswer (after_in (ordered L) turns) w Insert k true → HasInserted L turns w k
 
@@ -94,5 +95,6 @@ pub record HasFlagged (L : Layout) (turns : List (ℕ × Event)) (w k : ℕ) : T
   pub marks : Marks (after_in (ordered L) before).state.memory parent side leaf flagged k
   pub stands : PinStands w (trace_in (next_in (after_in (ordered L) before) (w, Flag parent side leaf)) since)
 
+-- a call that may answer its delete with true has flagged its leaf
 abbrev pub TrueDeletesHaveFlagged : Layout → List (ℕ × Event) → Type 0
 TrueDeletesHaveFlagged L turns = (w k : ℕ) → MayAnswer (after_in (ordered L) turns) w Delete k true → HasFlagged L turns w k

@@ -60,6 +60,7 @@ pub record Arrived (s : Search) (since : Since) (k slot parent : ℕ) (side : Si
   pub is_parent : arrival.parent ≡ parent
   pub is_side : arrival.side ≡ side
 
+-- what a worker knows, with its search, tells the fact
 abbrev pub HoldsIn : Knowledge → Search → Fact → Type 0
 HoldsIn known s (IsPinned epoch) = known.brief.pin ≡ Some epoch
 HoldsIn known s (KnowsSlot slot) = knows known slot ≡ true

@@ -46,11 +46,13 @@ abbrev pub Replays : (ℕ → Type 0) → List Act → (ℕ → Type 0) → Type
 Replays first [] last = (k : ℕ) → IsKey k → first k ↔ last k
 Replays first (a ∷ acts) last = IsKey a.key × Gives first a.op a.key a.answer × Replays (changed first a.op a.key a.answer) acts last
 
+-- the empty set has no key
 abbrev pub nothing : ℕ → Type 0
 nothing k = ⊥
 
 -- ---- lists of acts
 
+-- the act is one of these
 abbrev pub IsAmong : List Act → Act → Type 0
 IsAmong [] a = ⊥
 IsAmong (b ∷ acts) a = (b ≡ a) ⊎ IsAmong acts a

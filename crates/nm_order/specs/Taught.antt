@@ -52,6 +52,7 @@ pub record PinLearned (holds : Fact → Type 0) (op : Op) (key epoch : ℕ) : Ty
   pub second : holds (KnowsSlot 2)
   pub call : holds (CallIs op key)
 
+-- each pin that is confirmed for a call tells that
 abbrev pub PinsAreLearned : Layout → ℕ → List Entry → Entry → Type 0
 PinsAreLearned L w log entry = (op : Op) (key epoch : ℕ) → entry ≡ (SightFor op key, Pinned epoch) → PinLearned (Holds L w (log ++ entry ∷ [])) op key epoch
 

@@ -69,6 +69,7 @@ pub record IsNew (L : Layout) (w : ℕ) (log : List Entry) (x : ℕ) : Type 0 wh
   pub not_known : knows (known_by L w log) x ≡ false
   pub not_queued : (origin i : ℕ) (e : Queued) → slice_get (queue_of (held (known_by L w log).ledgers origin)) i ≡ Some e → e.node.slot ≢ x
 
+-- a slot that is claimed is one of 6 to nodes, and new to the worker
 abbrev pub ClaimsAreNew : Layout → ℕ → List Entry → Entry → Type 0
 ClaimsAreNew L w log entry = (x y : ℕ) → entry ≡ (Claim x, Claimed y) → (y ≡ x) × (6 ≤ x) × (x ≤ L.nodes) × IsNew L w log x
 

@@ -19,6 +19,7 @@ use Rattle.nm_order.specs.WalksToArrivals.{is_won_flag}
 abbrev pub call_of : Configuration → ℕ → Option Call
 call_of c w = (search_of (unwrap_or c.searches []) w).call
 
+-- a call for k
 abbrev pub is_for : ℕ → Option Call → Bool
 is_for k None = false
 is_for k (Some c) = c.key == k

@@ -25,6 +25,7 @@ pub record MadeNew (n : NodeId) (old new : List Entry) : Type 0 where
   pub raised : n.birth ≡ birth + 1
   pub entries : new ≡ old ++ (Claim n.slot, Claimed n.slot) ∷ (Look n.slot Birth, BirthIs birth) ∷ (Fill n.slot Birth (birth + 1), Filled) ∷ []
 
+-- the slot was found taken, or worn and given back
 abbrev pub PassedOver : Doing
 PassedOver s old new = FoundTaken s old new ⊎ FoundWorn s old new
 
@@ -56,6 +57,7 @@ pub record ClaimsBetween (from to : ℕ) (old new : List Entry) (n : NodeId) : T
   pub passed : DoneBelow PassedOver from n.slot old before
   pub made : MadeNew n before new
 
+-- a claim of a slot from one on and below another, by its answer
 abbrev pub IsClaimBetween : ℕ → ℕ → List Entry → List Entry → Option NodeId → Type 0
 IsClaimBetween from to old new (Some n) = ClaimsBetween from to old new n
 IsClaimBetween from to old new None = DoneBelow PassedOver from to old new
@@ -117,11 +119,13 @@ IsClaimOfFew limit nodes old new None = (slots : List ℕ) × (length slots ≤ 
 abbrev pub IsMadeAt : ℕ → List Entry → List Entry → NodeId → Type 0
 IsMadeAt s old new n = (n.slot ≡ s) × MadeNew n old new
 
+-- one slot was tried, by what it came to
 abbrev pub IsTried : ℕ → List Entry → List Entry → Tried → Type 0
 IsTried s old new tried.Taken = FoundTaken s old new
 IsTried s old new tried.Worn = FoundWorn s old new
 IsTried s old new (tried.Got n) = IsMadeAt s old new n
 
+-- of the node, where one was got
 abbrev pub IfGot : Tried → (NodeId → Type 0) → Type 0
 IfGot (tried.Got n) P = P n
 IfGot _ P = Unit {0}

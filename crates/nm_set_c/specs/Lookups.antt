@@ -23,6 +23,7 @@ bit_of false = 0
 abbrev pub lookup_of : Query → Lookup
 lookup_of q = record { key = q.key; found = bit_of q.found }
 
+-- each of the numbers is a key
 abbrev pub AreKeys : List Lookup → Type 0
 AreKeys ls = All (λ l. IsKey l.key) ls
 
@@ -30,6 +31,7 @@ AreKeys ls = All (λ l. IsKey l.key) ls
 abbrev pub IsUnasked : List Lookup → Outcome → Type 0
 IsUnasked ls o = (o ≡ outcome.NoMemory) ⊎ ((o ≡ outcome.Key) × (AreKeys ls → ⊥))
 
+-- the outcome of what such a call answers
 abbrev pub of_many : Result (Unit {0}) Fault → Outcome
 of_many (Ok u) = outcome.Done
 of_many (Err f) = of_fault f

@@ -19,6 +19,7 @@ use Rattle.nm_set_c.specs.declared.owner.Owner.TheVariants.{Set, Worker, Ended, 
 
 -- ---- a new set
 
+-- `HasNodes`, `HasWorkers`: the sizes that a set may have: 7 to 268,435,456 nodes, 1 to 64 workers
 abbrev pub HasNodes : ℕ → Type 0
 HasNodes nodes = (7 ≤ nodes) × (nodes ≤ 268435456)
 
@@ -70,6 +71,8 @@ Takes gives set old new o =
 abbrev pub IsNumbered : ℕ → Standing → Hand → Type 0
 IsNumbered number s w = IsResident s.board s.fit number w
 
+-- `NumberFaults`, `AnyFaults`: that the number is none of the tree's is told exactly of an open set
+-- where it is none; and not told where any worker is asked for
 abbrev pub NumberFaults : ℕ → Standing → MemberFault → Type 0
 NumberFaults number s why = (why ≡ taking.Number) ↔ ((s.closing ≡ false) × (s.board.layout.workers ≤ number))
 

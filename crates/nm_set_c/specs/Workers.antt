@@ -112,6 +112,8 @@ of_advance (advance.Held w e) = outcome.Behind
 of_advance (advance.Lost e) = outcome.Lost
 of_advance advance.Spent = outcome.Spent
 
+-- `advance_epoch`, `advance_worker`: the epoch and the worker that a move of the epoch writes, or
+-- what stood there
 abbrev pub advance_epoch : Advance → ℕ → ℕ
 advance_epoch (advance.Moved e) old = e
 advance_epoch (advance.Held w e) old = e

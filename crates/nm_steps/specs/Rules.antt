@@ -47,6 +47,7 @@ abbrev pub LogsAre : Layout → Layout → List Turn → List Held → Type 0
 LogsAre l L t [] = Unit {0}
 LogsAre l L t (h ∷ hs) = (l ≡ L) × (h.log ≡ part_of h.number t) × LogsAre l L t hs
 
+-- the logs of a view are its workers' parts of the turns
 abbrev pub IsShown : Layout → List Turn → View → Type 0
 IsShown L t v = LogsAre v.layout L t (holdings v)
 
@@ -85,6 +86,8 @@ abbrev pub viewing : Layout → List Held → View
 viewing L [] = record { layout = L; spent = true; number = 0; log = []; others = []; past = []; heard = [] }
 viewing L (h ∷ hs) = record { layout = L; spent = false; number = h.number; log = h.log; others = hs; past = []; heard = [] }
 
+-- `everybody`, `own_alone`, `the_others`: a view that stands for all; for its own worker alone; for
+-- those that joined it alone
 abbrev pub everybody : Layout → View
 everybody L = viewing L (numbers_from 0 L.workers)
 

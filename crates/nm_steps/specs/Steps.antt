@@ -60,10 +60,12 @@ pub record HasEmptyHands (k : Knowledge) : Type 0 where
 
 -- ---- what clauses see of a table and of a pass
 
+-- what clauses see of a tree's words: which table they lie in, and the layout
 pub record Board : Type 0 where
   pub table : TableId
   pub layout : Layout
 
+-- what clauses see of a pass: its table, its seat there, and what that seat knows
 pub record Stand : Type 0 where
   pub table : TableId
   pub seat : ℕ
@@ -207,6 +209,8 @@ IsSamePass p q = q ≡ record p { view = record p.view { log = q.view.log; past 
 
 -- ---- replies, by what the step functions answer
 
+-- `sight_reply`, `scan_reply`, `advance_reply`, `claim_reply`, `splice_reply`: the reply of an
+-- event, by what its step function answers
 abbrev pub sight_reply : Sighted → Reply
 sight_reply (seeing.Saw e) = Saw e
 sight_reply (seeing.Labelled e) = Labelled e
@@ -259,6 +263,7 @@ noted_sight b (Pinned e) = record b { seen = Some e; pin = Some e }
 noted_sight b (Missed e) = record b { seen = Some e }
 noted_sight b _ = b
 
+-- the brief behind an event with its reply
 abbrev pub noted : Brief → Event → Reply → Brief
 noted b Sight r = noted_sight b r
 noted b (SightFor op key) r = noted_sight b r

@@ -79,5 +79,6 @@ pub record IsHistory (L : Layout) (turns : List Turn) (acts : List Act) : Type 0
   pub cuts : (before since : List Turn) (t : Turn) (ns : List NodeId) → turns ≡ before ++ t ∷ since → t.outcome ≡ Ok (Cut ns)
       → HasInARow acts (leaf_keys (words_after L before) (slots_of ns)) (length before + 1) (λ a. IsInCall before Delete a × HasFlagged before a.worker ns)
 
+-- the turns have a history
 abbrev pub HasHistory : Layout → List Turn → Type 0
 HasHistory L turns = (acts : List Act) × IsHistory L turns acts

@@ -33,6 +33,8 @@ pub record Hand : Type 0 where
   pub held : Option ℕ
   pub fit : Fit
 
+-- `pending_in`, `held_in`: the delete that is pending, and the epoch at which the caller holds the
+-- worker
 abbrev pub pending_in : Standing → Option Unfinished
 pending_in (standing.Pending n) = Some n
 pending_in _ = None
@@ -67,6 +69,7 @@ abbrev pub AreAbove : ℕ → List HeldQueue → Type 0
 AreAbove o [] = Unit {0}
 AreAbove o (h ∷ hs) = (o < h.origin) × AreAbove h.origin hs
 
+-- the origins of these queues ascend
 abbrev pub Ascend : List HeldQueue → Type 0
 Ascend [] = Unit {0}
 Ascend (h ∷ hs) = AreAbove h.origin hs
@@ -129,6 +132,7 @@ pub record IsAccount (v : View) (h : HeldQueue) (a : Account) : Type 0 where
   pub few : length h.queue.items ≤ v.layout.nodes
   pub split : length (ledger_in v h.origin).retired ≡ length (ledger_in v h.origin).freed + length h.queue.items
 
+-- these are the accounts of these queues
 abbrev pub AreAccounts : View → List HeldQueue → List Account → Type 0
 AreAccounts v [] [] = Unit {0}
 AreAccounts v (h ∷ hs) (a ∷ xs) = IsAccount v h a × AreAccounts v hs xs
@@ -163,6 +167,7 @@ ArePaired _ _ = ⊥
 abbrev pub noted_for : HeldQueue → Account → Account
 noted_for h a = record a { freed = capped (a.freed + (a.waiting - length h.queue.items)); waiting = length h.queue.items }
 
+-- each account has noted what its queue has lost
 abbrev pub HaveNoted : List HeldQueue → List Account → List Account → Type 0
 HaveNoted [] [] [] = Unit {0}
 HaveNoted (h ∷ hs) (a ∷ xs) (b ∷ ys) = (b ≡ noted_for h a) × HaveNoted hs xs ys
@@ -227,6 +232,7 @@ AreNew b k (w ∷ ws) = (w.pass.table ≡ b.table) × (w.pass.view ≡ fresh_vie
 abbrev pub IsFresh : Stand → Type 0
 IsFresh p = (k : ℕ) × (p.view ≡ fresh_view p.view.layout k)
 
+-- each of these passes has done nothing
 abbrev pub AreAllFresh : List Stand → Type 0
 AreAllFresh [] = Unit {0}
 AreAllFresh (p ∷ ps) = IsFresh p × AreAllFresh ps

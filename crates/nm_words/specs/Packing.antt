@@ -67,9 +67,11 @@ word_at L m f = slice_index (words_of L m) (word L f)
 abbrev pub pool_word_at : Layout → Memory → ℕ → ℕ
 pool_word_at L m s = slice_index (words_of L m) (pool_place L s).word
 
+-- the list of a memory has as many words as the layout says
 abbrev pub EachFieldHasAWord : Type 0
 EachFieldHasAWord = (L : Layout) (m : Memory) → Fits L m → length (words_of L m) ≡ words L
 
+-- the word in the list at the number of a field is the word of that field
 abbrev pub EachWordIsItsField : Type 0
 EachWordIsItsField = (L : Layout) (m : Memory) (f : Field) → Fits L m → IsField L f → word_at L m f ≡ field_word m f
 
@@ -83,6 +85,7 @@ abbrev pub SpareBitsAreZero : Type 0
 SpareBitsAreZero = (L : Layout) (m : Memory) (r i : ℕ) → Fits L m → r < rows L → i < 64 → L.nodes ≤ 64 * r + i
     → bit_and (word_at L m (at_row r)) (2 ^ i) ≡ 0
 
+-- the memory of a state fits its layout
 abbrev pub StateFits : State → Type 0
 StateFits s = Fits s.layout s.memory
 
@@ -100,6 +103,8 @@ with_word L m f n = slice_set (words_of L m) (word L f) n
 abbrev pub with_pool_word : Layout → Memory → ℕ → ℕ → List ℕ
 with_pool_word L m s n = slice_set (words_of L m) (pool_place L s).word n
 
+-- `EpochIsOneWord`, `NoteIsOneWord`, `KeyIsOneWord`, `EdgeIsOneWord`, `BirthIsOneWord`: a memory
+-- with another epoch, note, key, edge or birth has that one word changed, and no other
 abbrev pub EpochIsOneWord : Type 0
 EpochIsOneWord = (L : Layout) (m : Memory) (e : ℕ) → words_of L (record m { epoch = e }) ≡ with_word L m at_epoch e
 
@@ -131,6 +136,7 @@ GivingSetsABit = (L : Layout) (m : Memory) (s : ℕ) → Fits L m → IsSlot L s
 
 -- ---- events
 
+-- `field_of`, `row_of`: the field of a slot's word, and its row in the pool
 abbrev pub field_of : ℕ → NodeField → Field
 field_of s Key = at_key s
 field_of s (EdgeOn side) = at_edge s side
@@ -210,6 +216,7 @@ abbrev pub WordsAreBelow : Type 0
 WordsAreBelow = (L : Layout) (m : Memory) (f : Field) → Fits L m → InRange L m → L.nodes < 2 ^ 32 → ((s : ℕ) → (node m s).key < 2 ^ 64)
     → IsField L f → word_at L m f < 2 ^ 64
 
+-- the memory of a state is in range
 abbrev pub StateIsInRange : State → Type 0
 StateIsInRange s = InRange s.layout s.memory
 
