@@ -139,6 +139,33 @@ def definitions():
     return {it.place: it for crate in crates() for module in modules(crate) for it in module.definitions}
 
 
+def import_list(text):
+    """What a file of specs/ or src/ imports: the definitions, by the names that it has for them."""
+    found = {}
+    for module, names in IMPORT.findall(text):
+        own = re.fullmatch(r"Rattle\.(\w+)\.specs\.(\w+)", module)
+        for it in names.split(",") if own else []:
+            name, _, alias = it.strip().partition(" as ")
+            if (own[1], own[2], name) in definitions():
+                found[alias or name] = own[1], own[2], name
+    return found
+
+
+@functools.cache
+def module_names(crate, module):
+    """The definitions that a file of definitions has or imports, by their names there."""
+    found = import_list(read(os.path.join(TOP, "crates", crate, "specs", f"{module}.antt")))
+    found.update((it[2], it) for it in definitions() if it[:2] == (crate, module))
+    return found
+
+
+@functools.cache
+def leads_to(place):
+    """The definitions that a definition names."""
+    known = module_names(*place[:2])
+    return {known[it] for it in definitions()[place].names if it in known}
+
+
 # ---- contracts
 
 PUBLIC = r"(pub(?:\(\w+\))? )?(?:unsafe )?"
@@ -263,14 +290,7 @@ def source(crate, path):
 @functools.cache
 def imports(crate, path):
     """The definitions that a file of src/ imports, by the names that it has for them."""
-    found = {}
-    for module, names in IMPORT.findall(read(os.path.join(TOP, "crates", crate, "src", path))):
-        own = re.fullmatch(r"Rattle\.(\w+)\.specs\.(\w+)", module)
-        for it in names.split(",") if own else []:
-            name, _, alias = it.strip().partition(" as ")
-            if (own[1], own[2], name) in definitions():
-                found[alias or name] = own[1], own[2], name
-    return found
+    return import_list(read(os.path.join(TOP, "crates", crate, "src", path)))
 
 
 def named(function, clause):
