@@ -1,4 +1,4 @@
-"""docs/sources.py: what the sources say of themselves, for docs/make and docs/promised.
+"""docs/sources.py: what the sources say of themselves, for docs/make, docs/promised, docs/believed.
 
 Of each crate: the definitions of specs/ with the words above them, the contracts of src/ with what
 each clause names, what the files of proofs/ import and name, and the edits with their words.
@@ -39,6 +39,17 @@ def files(crate, kind, ending):
     return sorted(os.path.relpath(it, folder) for it in found)
 
 
+def text_of(crate, kind, path):
+    return read(os.path.join(TOP, "crates", crate, kind, path))
+
+
+def texts(kind, ending):
+    """Each file of that folder of each crate: the crate, the path and the text."""
+    for crate in crates():
+        for path in files(crate, kind, ending):
+            yield crate, path, text_of(crate, kind, path)
+
+
 def first_sentence(words):
     """The words up to the end of their first sentence."""
     return re.split(r"(?<=[.!?])\)? (?=[A-Z(`])", words, maxsplit=1)[0]
@@ -54,6 +65,7 @@ class Definition(NamedTuple):
     words: str
     names: frozenset
     parts: tuple
+    lines: int
 
     @property
     def place(self):
@@ -72,25 +84,32 @@ class ModuleReader:
 
     def __init__(self, crate, name):
         self.crate, self.name, self.head, self.found = crate, name, None, []
-        self.comment, self.inner = [], []
+        self.comment, self.inner, self.fixities = [], [], 0
 
     def line(self, line):
-        text, _, _ = line.partition("--")
         if line.startswith(HEADING):
             self.comment = []
         elif line.startswith("--"):
             self.comment.append(line[2:].strip())
         elif not line or re.match(r"(pub )?(use|mod) ", line):
             self.take_head()
-        elif OPENS.match(line):
-            self.open(OPENS.match(line)[1])
         elif line.strip().startswith("--"):
             self.inner.append(line.strip()[2:].strip())
-        elif not FIXITY.match(line):
-            self.comment = []
+        elif FIXITY.match(line):
+            self.fixities += 1
+        else:
+            self.code(line)
+
+    def code(self, line):
+        opens = OPENS.match(line)
+        if opens:
+            self.open(opens[1])
+        elif self.found:
             self.note_part(line)
-        if self.found and text.strip() and not re.match(r"(pub )?(use|mod) ", line):
-            self.found[-1]["names"].update(NAME.findall(text))
+        self.comment = []
+        if self.found:
+            self.found[-1]["names"].update(NAME.findall(line.partition("--")[0]))
+            self.found[-1]["lines"] += 1
 
     def take_head(self):
         if self.head is None:
@@ -98,19 +117,20 @@ class ModuleReader:
         self.comment = []
 
     def open(self, name):
-        words, self.comment, self.inner = " ".join(self.comment), [], []
-        self.found.append({"name": name, "words": words, "names": set(), "parts": []})
+        words, lines, self.inner, self.fixities = " ".join(self.comment), self.fixities, [], 0
+        found = {"name": name, "words": words, "names": set(), "parts": [], "lines": lines}
+        self.found.append(found)
 
     def note_part(self, line):
         field = FIELD.match(line.strip())
-        if self.inner and field and self.found:
+        if self.inner and field:
             self.found[-1]["parts"].append((field[1], " ".join(self.inner)))
         self.inner = []
 
     def module(self):
         made = [
             Definition(self.crate, self.name, it["name"], it["words"], frozenset(it["names"]),
-                       tuple(it["parts"]))
+                       tuple(it["parts"]), it["lines"])
             for it in self.found
         ]
         return Module(self.crate, self.name, self.head or "", made)
@@ -122,21 +142,21 @@ def modules(crate):
     found = {}
     for path in files(crate, "specs", ".antt"):
         reader = ModuleReader(crate, path[: -len(".antt")])
-        for line in read(os.path.join(TOP, "crates", crate, "specs", path)).splitlines():
+        for line in text_of(crate, "specs", path).splitlines():
             reader.line(line)
         found[reader.name] = reader.module()
     order = []
     if "Lib" in found:
-        lib = read(os.path.join(TOP, "crates", crate, "specs", "Lib.antt"))
-        order = re.findall(r"^pub mod (\w+)", lib, re.M)
-    return [found[it] for it in sorted(found, key=lambda it: (it not in order, (order + [it]).index(it)))
-            if found[it].definitions]
+        order = re.findall(r"^pub mod (\w+)", text_of(crate, "specs", "Lib.antt"), re.M)
+    names = [it for it in order if it in found] + sorted(found.keys() - set(order))
+    return [found[it] for it in names if found[it].definitions]
 
 
 @functools.cache
 def definitions():
     """All definitions, by crate, module and name."""
-    return {it.place: it for crate in crates() for module in modules(crate) for it in module.definitions}
+    every = (module for crate in crates() for module in modules(crate))
+    return {it.place: it for module in every for it in module.definitions}
 
 
 def import_list(text):
@@ -154,7 +174,7 @@ def import_list(text):
 @functools.cache
 def module_names(crate, module):
     """The definitions that a file of definitions has or imports, by their names there."""
-    found = import_list(read(os.path.join(TOP, "crates", crate, "specs", f"{module}.antt")))
+    found = import_list(text_of(crate, "specs", f"{module}.antt"))
     found.update((it[2], it) for it in definitions() if it[:2] == (crate, module))
     return found
 
@@ -252,24 +272,24 @@ def words_above(text, at):
 @functools.cache
 def reached_names(crate):
     """What a crate gives to others by its lib.rt: the modules that are open, and the names."""
-    path = os.path.join(TOP, "crates", crate, "src", "lib.rt")
-    text = read(path) if os.path.isfile(path) else ""
+    text = text_of(crate, "src", "lib.rt") if "lib.rt" in files(crate, "src", "lib.rt") else ""
     names = set()
     for it in re.finditer(r"^pub use ([^;]+);", text, re.M):
         names.update(NAME.findall(it[1]))
     return set(re.findall(r"^pub mod (\w+)", text, re.M)), names
 
 
-def is_given(crate, path, name, text, at):
-    modules_open, names = reached_names(crate)
+def is_given(crate, path, name, line):
+    """Whether a crate gives a public name of a file to others, or exports it."""
+    open_modules, names = reached_names(crate)
     first = path.split(os.sep)[0].removesuffix(".rt")
-    return 'extern "C"' in text[at : text.find("\n", at)] or first in modules_open | {"lib"} or name in names
+    return 'extern "C"' in line or first in open_modules | {"lib"} or name in names
 
 
 @functools.cache
 def source(crate, path):
     """The functions and the types of a file of src/."""
-    text = read(os.path.join(TOP, "crates", crate, "src", path))
+    text = text_of(crate, "src", path)
     owners = [(it.start(), it[2], it[3], bool(it[1])) for it in OWNER.finditer(text)]
     functions, types = [], []
     for at, kind, name, _ in owners:
@@ -281,7 +301,8 @@ def source(crate, path):
         within = [owner for owner in owners if owner[0] < it.start()] if it[1] else []
         owner, kind = (within[-1][2], within[-1][1]) if within else ("", "")
         open_ = it[2] == "pub " or (kind == "trait" and within[-1][3])
-        given = open_ and is_given(crate, path, owner or it[3], text, it.start())
+        line = text[it.start() : text.find("\n", it.start())]
+        given = open_ and is_given(crate, path, owner or it[3], line)
         functions.append(Function(crate, path, owner, it[3], given, words_above(text, it.start()),
                                   clauses_at(text, it.end())))
     return functions, types
@@ -290,7 +311,7 @@ def source(crate, path):
 @functools.cache
 def imports(crate, path):
     """The definitions that a file of src/ imports, by the names that it has for them."""
-    return import_list(read(os.path.join(TOP, "crates", crate, "src", path)))
+    return import_list(text_of(crate, "src", path))
 
 
 def named(function, clause):
@@ -299,11 +320,14 @@ def named(function, clause):
     return list(dict.fromkeys(known[it] for it in NAME.findall(clause.text) if it in known))
 
 
+CITES = re.compile(r"^use Rattle\.(\w+)\.proofs\.(\w+)(?=\.\{| as |$)", re.M)
+
+
 def homes(function):
     """The files in whose folder of proofs/ a function's may be: its own, or that of its type."""
     found = [function.path]
     for path in files(function.crate, "src", ".rt") if function.owner else []:
-        text = read(os.path.join(TOP, "crates", function.crate, "src", path))
+        text = text_of(function.crate, "src", path)
         if any(it[2] != "impl" and it[3] == function.owner for it in OWNER.finditer(text)):
             found.append(path)
     return dict.fromkeys(found)
@@ -326,30 +350,33 @@ def cited(function):
     """The files of proofs/ that a function's proofs by hand import; None where it has none."""
     paths, found = proof_files(function), []
     for path in paths:
-        uses = re.findall(r"^use Rattle\.(\w+)\.proofs\.(\w+)(?=\.\{| as |$)", read(path), re.M)
-        found += [it for it in uses if it[0] in crates()]
+        found += [it for it in CITES.findall(read(path)) if it[0] in crates()]
     return list(dict.fromkeys(found)) if paths else None
 
 
 # ---- types of the code that definitions speak of
 
-DECLARED = re.compile(r"^(?:pub )?use Rattle\.(\w+)\.specs\.declared\.([\w.]+)\.(\w+)\.(?:\{|The)", re.M)
+DECLARED = re.compile(
+    r"^(?:pub )?use Rattle\.(\w+)\.specs\.declared\.([\w.]+)\.(\w+)\.(?:\{|The)", re.M)
 
 
 @functools.cache
+def declared():
+    """The types of the code that definitions import: the crate, the file and the name of each."""
+    found = set()
+    for _, _, text in texts("specs", ".antt"):
+        for crate, module, name in DECLARED.findall(text):
+            found.add((crate, module.replace(".", os.sep) + ".rt", name))
+    return found
+
+
 def spoken_types(crate):
-    """The types of a crate's code that definitions of some crate import, in the order of its files."""
-    wanted = set()
-    for other in crates():
-        for path in files(other, "specs", ".antt"):
-            text = read(os.path.join(TOP, "crates", other, "specs", path))
-            wanted.update((it[1].replace(".", os.sep) + ".rt", it[2])
-                          for it in DECLARED.findall(text) if it[0] == crate)
+    """The types of a crate's code that some definitions import, in the order of its files."""
+    every = (it for path in files(crate, "src", ".rt") for it in source(crate, path)[1])
     found = {}
-    for path in files(crate, "src", ".rt"):
-        for it in source(crate, path)[1]:
-            if (path, it.name) in wanted and it.words:
-                found.setdefault((path, it.name), it)
+    for it in every:
+        if it.words and (crate, it.path, it.name) in declared():
+            found.setdefault((it.path, it.name), it)
     return list(found.values())
 
 
