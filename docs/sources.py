@@ -12,6 +12,8 @@ from typing import NamedTuple
 TOP = os.path.join(os.path.dirname(os.path.abspath(__file__)), "..")
 NAME = re.compile(r"[A-Za-z_][\w'-]*|◌[^\s◌()]+◌")
 OPENS = re.compile(r"(?:(?:pub|abbrev|unfoldable|opaque|record|data) )+([^\s:(]+)")
+WITHIN = re.compile(r"  (?=(?:pub )?(?:abbrev|unfoldable|opaque|record|data) \w)")
+ASIDE = re.compile(r"(?:pub )?(?:use|mod|module) ")
 FIXITY = re.compile(r"infix\w* ")
 IMPORT = re.compile(r"(?:pub |ghost )*use ([\w.◌]+)\.\{([^}]*)\}")
 FIELD = re.compile(r"(?:pub )?([\w'-]+)")
@@ -91,7 +93,7 @@ class ModuleReader:
             self.comment = []
         elif line.startswith("--"):
             self.comment.append(line[2:].strip())
-        elif not line or re.match(r"(pub )?(use|mod) ", line):
+        elif not line or ASIDE.match(line):
             self.take_head()
         elif line.strip().startswith("--"):
             self.inner.append(line.strip()[2:].strip())
@@ -101,9 +103,10 @@ class ModuleReader:
             self.code(line)
 
     def code(self, line):
-        opens = OPENS.match(line)
+        within = WITHIN.match(line)
+        opens = OPENS.match(line, within.end() if within else 0)
         if opens:
-            self.open(opens[1])
+            self.open(opens[1], self.inner if within else self.comment)
         elif self.found:
             self.note_part(line)
         self.comment = []
@@ -114,10 +117,10 @@ class ModuleReader:
     def take_head(self):
         if self.head is None:
             self.head = " ".join(self.comment)
-        self.comment = []
+        self.comment, self.inner = [], []
 
-    def open(self, name):
-        words, lines, self.inner, self.fixities = " ".join(self.comment), self.fixities, [], 0
+    def open(self, name, comment):
+        words, lines, self.inner, self.fixities = " ".join(comment), self.fixities, [], 0
         found = {"name": name, "words": words, "names": set(), "parts": [], "lines": lines}
         self.found.append(found)
 
