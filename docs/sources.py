@@ -357,6 +357,18 @@ def cited(function):
     return list(dict.fromkeys(found)) if paths else None
 
 
+LEMMAS = re.compile(r"^#!\[tactic\(auto, using\(([^)]*)\)", re.M)
+
+
+def lemmas(crate, path):
+    """The lemmas that each check of a file may cite, or of a crate, where the file is lib.rt."""
+    found = []
+    for it in LEMMAS.findall(text_of(crate, "src", path)):
+        for home, module, lemma in re.findall(r"(\w+)::proofs::(\w+)::(\w+)", it):
+            found.append((crate if home == "crate" else home, module, lemma))
+    return found
+
+
 # ---- types of the code that definitions speak of
 
 DECLARED = re.compile(
