@@ -161,8 +161,8 @@ confirmed (Some p) announced e = Saw e
 confirmed None announced e = sighted announced e
 
 -- of a sight, also of one for an operation and its key (`SightFor`), which is refused where it
--- cannot confirm a pin. (In a plain core that is a sight, and a leave with an answer, `LeaveWith`, a
--- leave.)
+-- cannot confirm a pin. (In a plain core that is a sight, and a leave with an answer, `LeaveWith`,
+-- a leave.)
 abbrev pub reply_sight : Knowledge → ℕ → Reply
 reply_sight k e = if k.brief.unlabelled then Labelled e else confirmed k.brief.pin k.brief.note e
 
