@@ -54,7 +54,8 @@ def texts(kind, ending):
 
 def first_sentence(words):
     """The words up to the end of their first sentence."""
-    return re.split(r"(?<=[.!?])\)? (?=[A-Z(`])", words, maxsplit=1)[0]
+    end = re.search(r"[.!?]\)?(?= [A-Z(`])", words)
+    return words[: end.end()] if end else words
 
 
 # ---- definitions
