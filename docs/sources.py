@@ -221,7 +221,6 @@ class Function(NamedTuple):
         return f"{self.owner}::{self.name}" if self.owner else self.name
 
 
-
 class Type(NamedTuple):
     crate: str
     path: str
@@ -304,11 +303,11 @@ def source(crate, path):
     for it in FUNCTION.finditer(text):
         within = [owner for owner in owners if owner[0] < it.start()] if it[1] else []
         owner, kind = (within[-1][2], within[-1][1]) if within else ("", "")
-        open_ = it[2] == "pub " or (kind == "trait" and within[-1][3])
+        is_public = it[2] == "pub " or (kind == "trait" and within[-1][3])
         line = text[it.start() : text.find("\n", it.start())]
-        given = open_ and is_given(crate, path, owner or it[3], line)
-        functions.append(Function(crate, path, owner, it[3], given, words_above(text, it.start()),
-                                  clauses_at(text, it.end())))
+        is_public = is_public and is_given(crate, path, owner or it[3], line)
+        words, clauses = words_above(text, it.start()), clauses_at(text, it.end())
+        functions.append(Function(crate, path, owner, it[3], is_public, words, clauses))
     return functions, types
 
 
