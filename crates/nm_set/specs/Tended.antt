@@ -166,8 +166,8 @@ pub record HasTended (does : Hand → Hand → Result Bool Fault → Type 0) (b 
 abbrev pub UnlessHeld : Type 0 → Hand → Hand → Result Bool Fault → Type 0
 UnlessHeld did w z r = (IsSome w.held × (r ≡ Err fault.Held) × (z ≡ w)) ⊎ ((w.held ≡ None) × did)
 
--- `TendsHas`, `TendsInsert`, `TendsDelete`: so each of the three calls, for a worker that its
--- caller does not hold
+-- `TendsHas`, `TendsInsert`, `TendsDelete`: so each of the three calls; a worker that its caller
+-- holds is not asked
 abbrev pub TendsHas : Board → Habit → ℕ → Hand → Hand → Result Bool Fault → Type 0
 TendsHas b h k w z r = UnlessHeld (HasTended (Contains b h k) b h Has k w z r) w z r
 
