@@ -19,6 +19,7 @@ of_change (Err fault.NoMemory) = None
 of_change (Err fault.Unfinished) = Some answer.Unfinished
 of_change (Err fault.Pending) = Some answer.Pending
 
+-- `of_pin`, `of_advance`, `of_collection`: of a pin, of a move of the epoch, and of a collection
 abbrev pub of_pin : Result ℕ PinFault → Answer
 of_pin (Ok epoch) = answer.Pinned epoch
 of_pin (Err (pinning.Moved epoch)) = answer.Moved epoch

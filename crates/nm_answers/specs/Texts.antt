@@ -9,11 +9,13 @@ use Rattle.nm_answers.specs.declared.answer.Answer.TheVariants.{Said, Busy, Full
 abbrev pub two_numbers : List ℕ → ℕ → List ℕ → ℕ → List ℕ
 two_numbers word first between second = (word ++ decimal first) ++ (between ++ decimal second)
 
+-- how a refusal is spelled
 abbrev pub refusal : Refusal → List ℕ
 refusal refused.Gone = codes "refused gone"
 refusal refused.Held = codes "refused held"
 refusal refused.Idle = codes "refused idle"
 
+-- how an answer is spelled
 abbrev pub answer : Answer → List ℕ
 answer (Said true) = codes "true"
 answer (Said false) = codes "false"

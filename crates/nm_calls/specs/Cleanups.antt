@@ -29,10 +29,13 @@ after_both s l e f = (l ++ (Look s.parent (EdgeOn s.side), EdgeIs e) ∷ []) ++ 
 abbrev pub kept_beside : Spot → Edge → Edge → Option Kept
 kept_beside s e f = if e.flag then Some (record { side = other s.side; leaf = e.slot }) else if f.flag then Some (record { side = s.side; leaf = f.slot }) else None
 
+-- the edge of a parent to keep, by two looks (Natarajan and Mittal, section 3.2, cleanup; for whole
+-- chains ours)
 abbrev pub Chooses : Spot → List Entry → List Entry → Option Kept → Type 0
 Chooses s old new r = (e f : Edge) × (new ≡ after_both s old e f) × (r ≡ kept_beside s e f)
 
 -- the nodes of a slot and of the flagged leaf beside its edge on a side, as they were looked at
+-- (Natarajan and Mittal, section 3.2, cleanup; for whole chains ours)
 pub record FrozenAt (p q : Stand) (slot : ℕ) (side : Side) (node leaf : NodeId) : Type 0 where
   pub edge : Edge
   pub leads : edge.slot ≡ leaf.slot
@@ -51,27 +54,32 @@ top (l ∷ c) p = l.slot
 abbrev pub FreezesOne : ℕ → Side → List Entry → List Entry → Type 0
 FreezesOne slot side old new = (e : Edge) × (b c : ℕ) × (new ≡ ((old ++ (Look slot (EdgeOn (other side)), EdgeIs e) ∷ []) ++ (Look slot Birth, BirthIs b) ∷ []) ++ (Look e.slot Birth, BirthIs c) ∷ [])
 
--- so at each node of a chain, and at its end, and nothing else
+-- so at each node of a chain, by three looks, and at its end, and nothing else (Natarajan and
+-- Mittal, section 3.2, cleanup; for whole chains ours)
 abbrev pub Freezes : ℕ → Side → List ChainEdge → List Entry → List Entry → Type 0
 Freezes parent keep [] old new = FreezesOne parent keep old new
 Freezes parent keep (l ∷ c) old new = (mid : List Entry) × FreezesOne l.slot l.side old mid × Freezes parent keep c mid new
 
 -- ---- a whole cleanup
 
--- up to its splice: both edges of the parent were looked at, the one to keep was tagged, and the chain was looked at
+-- up to its splice: both edges of the parent were looked at, the one to keep was tagged, and the
+-- chain was looked at (Natarajan and Mittal, section 3.2, cleanup; for whole chains ours)
 abbrev pub Prepares : Spot → List ChainEdge → Kept → List Entry → List Entry → Type 0
 Prepares s c k old new = (mid : List Entry) × (was : Edge) × Chooses s old mid (Some k) × Freezes s.parent k.side c (mid ++ (Tag s.parent k.side, Was was) ∷ []) new
 
--- the splice was won, and cut just these nodes
+-- the splice was won, and cut just these nodes (Natarajan and Mittal, section 3.2, cleanup; for
+-- whole chains ours)
 abbrev pub CutsOff : Spot → List ChainEdge → List NodeId → List Entry → List Entry → Type 0
 CutsOff s c ns old new = (k : Kept) × (mid : List Entry) × Prepares s c k old mid × (new ≡ mid ++ (Splice s.ancestor s.above s.successor s.parent k.side, Cut ns) ∷ [])
 
--- neither edge of the parent was flagged, or the splice was lost
+-- neither edge of the parent was flagged, or the splice was lost (Natarajan and Mittal, section
+-- 3.2, cleanup; for whole chains ours)
 abbrev pub CleanupLost : Spot → List ChainEdge → List Entry → List Entry → Type 0
 CleanupLost s c old new = Chooses s old new None
     ⊎ ((k : Kept) × (mid : List Entry) × (e : Edge) × Prepares s c k old mid × (new ≡ mid ++ (Splice s.ancestor s.above s.successor s.parent k.side, Lost e) ∷ []))
 
--- the splice was won, and followed at once by its label
+-- the splice was won, and followed at once by its label (Natarajan and Mittal, section 3.2,
+-- cleanup; for whole chains ours)
 abbrev pub CleanupWon : Spot → List ChainEdge → List NodeId → ℕ → List Entry → List Entry → Type 0
 CleanupWon s c ns epoch old new = (mid : List Entry) × CutsOff s c ns old mid × (new ≡ mid ++ (Sight, Labelled epoch) ∷ [])
 
@@ -95,16 +103,19 @@ pub record HasCutNothing (s : Spot) (c : List ChainEdge) (p q : Stand) : Type 0 
   pub part : CleanupLost s c p.view.log q.view.log
   pub only : OnlyLooks p q
 
--- the nodes that were freed of an origin's ledger, where the worker holds it
+-- the nodes that were freed of an origin's ledger, where the worker holds it (Fraser, section
+-- 5.2.3; by origin ours)
 abbrev pub freed_of : Knowledge → ℕ → Option (List NodeId)
 freed_of k o = option_map (λ (l : Ledger). l.freed) (held k.ledgers o)
 
--- each ledger of another origin is as it was, and nothing was freed of the own one
+-- each ledger of another origin is as it was, and nothing was freed of the own one (Fraser, section
+-- 5.2.3; by origin ours)
 pub record KeepsLedgers (p q : Stand) : Type 0 where
   pub others : (o : ℕ) → o ≢ p.view.number → held (knowledge q.view).ledgers o ≡ held (knowledge p.view).ledgers o
   pub freed : freed_of (knowledge q.view) p.view.number ≡ freed_of (knowledge p.view) p.view.number
 
--- these nodes were cut off and labelled, and are at the end of the queue
+-- these nodes were cut off and labelled, and are at the end of the queue, with the flagged leaf
+-- among them
 pub record HasCleaned (s : Spot) (c : List ChainEdge) (p q : Stand) (es fs : List Waiting) : Type 0 where
   pub nodes : List NodeId
   pub epoch : ℕ

@@ -43,7 +43,8 @@ pub record TriesFlag (nodes k : ℕ) (r : End) (c : List ChainEdge) (birth : ℕ
 abbrev pub leaf_of : End → ℕ → NodeId
 leaf_of r b = record { slot = r.spot.edge.slot; birth = b }
 
--- by what it came to, with the chain of the walk
+-- one try to flag, by what it came to, with the chain of the walk (Natarajan and Mittal, section
+-- 3.2, delete)
 abbrev pub IsFlagTry : ℕ → ℕ → List ChainEdge → List Entry → List Entry → Injected → Type 0
 IsFlagTry nodes k c old new injected.Absent = (r : End) × Seeks nodes k old new c (Some r) × (r.key ≢ k)
 IsFlagTry nodes k c old new (injected.Flagged r b) = TriesFlag nodes k r c b (Flagged (leaf_of r b)) old new
@@ -52,7 +53,8 @@ IsFlagTry nodes k c old new injected.Lost = IsBroken nodes k old new
 
 -- ---- cleanup mode
 
--- the call has flagged the leaf, and it may go on to remove it
+-- the call has flagged the leaf, and it may go on to remove it (Natarajan and Mittal, section 3.2,
+-- delete)
 pub record IsRemoving (p : Stand) (k : ℕ) (n : NodeId) : Type 0 where
   pub run : IsInRun p
   pub pinned : IsPinnedSomewhere p
@@ -63,7 +65,8 @@ pub record IsRemoving (p : Stand) (k : ℕ) (n : NodeId) : Type 0 where
   pub born : Tells p (IsBorn n.slot n.birth)
   pub labelled : (epochs p).unlabelled ≡ false
 
--- a walk to another leaf, or a won cleanup by a walk that ended at the flagged leaf, whose splice cut that leaf
+-- a walk to another leaf, or a won cleanup by a walk that ended at the flagged leaf, whose splice
+-- cut that leaf (Natarajan and Mittal, section 3.2, delete)
 abbrev pub Removes : ℕ → ℕ → NodeId → List Entry → List Entry → Type 0
 Removes nodes k n old new = (r : End) × (c : List ChainEdge) × ((Seeks nodes k old new c (Some r) × (r.spot.edge.slot ≢ n.slot))
     ⊎ ((mid : List Entry) × (ns : List NodeId) × (epoch : ℕ) × Seeks nodes k old mid c (Some r) × (r.spot.edge.slot ≡ n.slot) × CleanupWon r.spot c ns epoch mid new × IsAmong n ns))
@@ -111,6 +114,7 @@ pub record HasFlagged (p q : Stand) (r : End) (b : ℕ) : Type 0 where
   pub edge : Tells q (IsFlagged r.spot.parent r.spot.side r.spot.edge.slot)
   pub born : Tells q (IsBorn r.spot.edge.slot b)
 
+-- the flag was lost: what the call flagged is as it was
 pub record HasNotFlagged (p q : Stand) (r : End) (e : Edge) : Type 0 where
   pub birth : ℕ
   pub part : q.view.log ≡ looks_and_flags r birth (Lost e) p.view.log
@@ -134,6 +138,7 @@ ShowsFlag k c p q injected.Lost = (search q).flagged ≡ (search p).flagged
 
 -- ---- the tries to flag
 
+-- so many tries to flag were lost
 abbrev pub LostFlags : ℕ → ℕ → ℕ → List Entry → List Entry → Type 0
 LostFlags nodes k zero old new = new ≡ old
 LostFlags nodes k (suc t) old new = (c : List ChainEdge) × (mid : List Entry) × LostFlags nodes k t old mid × IsFlagTry nodes k c mid new injected.Lost
@@ -145,6 +150,7 @@ IsInjection nodes k tries c old new (injection.Flagged r b left) = (t : ℕ) × 
 IsInjection nodes k tries c old new injection.Refused = (t : ℕ) × (0 < t) × (t < tries) × LostFlags nodes k t old new
 IsInjection nodes k tries c old new injection.Spent = LostFlags nodes k tries old new
 
+-- what the log shows behind the tries to flag, by what they came to
 abbrev pub ShowsInjection : ℕ → List ChainEdge → Stand → Injection → Type 0
 ShowsInjection k c q injection.Absent = ShowsAnswer q Delete k false
 ShowsInjection k c q (injection.Flagged r b left) = ((search q).flagged ≡ Some (leaf_of r b)) × Tells q (IsFlagged r.spot.parent r.spot.side r.spot.edge.slot) × Tells q (IsBorn r.spot.edge.slot b) × IsAt (Tells q) r.spot c × (length c < chain_bound)
@@ -152,6 +158,8 @@ ShowsInjection k c q _ = (search q).flagged ≡ None
 
 -- ---- the tries to remove, the first of which is a cleanup by the walk of the flag
 
+-- the tries to remove the leaf, from a cleanup by that walk on, by what they came to (Natarajan and
+-- Mittal, section 3.2, delete)
 abbrev pub RemovalAfter : ℕ → ℕ → End → List ChainEdge → ℕ → ℕ → List Entry → List Entry → Removal → Type 0
 RemovalAfter nodes k r c b left old new removal.Removed = ((left ≢ 0) × (ns : List NodeId) × (epoch : ℕ) × CleanupWon r.spot c ns epoch old new × IsAmong (leaf_of r b) ns)
     ⊎ ((t : ℕ) × (mid : List Entry) × (left ≡ t + 1) × CleanupLost r.spot c old mid × IsRemoval nodes k (leaf_of r b) t mid new removal.Removed)
@@ -172,9 +180,11 @@ DeleteFinishes nodes tries k old new (Err missed.Busy) = (c : List ChainEdge) ×
 DeleteFinishes nodes tries k old new (Err missed.NoMemory) = (c : List ChainEdge) × (mid : List Entry) × IsInjection nodes k tries c old mid injection.Refused × (new ≡ mid ++ (Leave, Departed) ∷ [])
 DeleteFinishes nodes tries k old new (Err (missed.Unfinished n)) = FlagsThen nodes tries k n old new removal.Refused ⊎ FlagsThen nodes tries k n old new removal.Spent
 
+-- a pin for the delete, and then what finishes it
 abbrev pub PinsForDelete : ℕ → ℕ → ℕ → List Entry → List Entry → Result Bool Missed → Type 0
 PinsForDelete nodes tries k old new r = (pinned : List Entry) × (epoch : ℕ) × IsPinned (SightFor Delete k) tries old pinned epoch × DeleteFinishes nodes tries k pinned new r
 
+-- a whole delete, by its answer (Natarajan and Mittal, section 3.2, delete)
 abbrev pub DeleteDid : ℕ → ℕ → ℕ → List Entry → List Entry → Result Bool Missed → Type 0
 DeleteDid nodes tries k old new (Err missed.Busy) =
     ((tries ≡ 0) × (new ≡ old)) ⊎ ((tries ≢ 0) × IsMoved (SightFor Delete k) tries old new) ⊎ PinsForDelete nodes tries k old new (Err missed.Busy)
@@ -202,7 +212,8 @@ LacksRoomOr lost spare missed.Busy = Unit {0}
 LacksRoomOr lost spare missed.NoMemory = spare < cut_bound
 LacksRoomOr lost spare (missed.Unfinished n) = (spare < cut_bound) ⊎ lost n
 
--- tries to remove, and a leave with the answer true; or each was lost, or the room of one was refused
+-- tries to remove, and a leave with the answer true; or each was lost, or the room of one was
+-- refused (Natarajan and Mittal, section 3.2, delete)
 abbrev pub FinishDid : ℕ → ℕ → NodeId → ℕ → List Entry → List Entry → Bool → Type 0
 FinishDid nodes k n tries old new true = (mid : List Entry) × IsRemoval nodes k n tries old mid removal.Removed × (new ≡ mid ++ (LeaveWith true, Departed) ∷ [])
 FinishDid nodes k n tries old new false = IsRemoval nodes k n tries old new removal.Refused ⊎ IsRemoval nodes k n tries old new removal.Spent

@@ -52,10 +52,13 @@ pub record HoldsFork (o p : Stand) (f : Fork) : Type 0 where
   pub new_was : get (knowledge o.view).drafts f.new.slot ≡ None
   pub fresh_was : get (knowledge o.view).drafts f.fresh.slot ≡ None
 
+-- the two new nodes that an insert keeps over its tries, once it has made them (Natarajan and
+-- Mittal, section 3.2, insert)
 abbrev pub HasFork : Stand → Stand → Option Fork → Type 0
 HasFork o p None = (s : ℕ) → get (knowledge p.view).drafts s ≡ get (knowledge o.view).drafts s
 HasFork o p (Some f) = HoldsFork o p f
 
+-- the new nodes, if there are some, are ready
 abbrev pub IfReady : Stand → Option Fork → Type 0
 IfReady p None = Unit {0}
 IfReady p (Some f) = IsReady p f
@@ -101,6 +104,7 @@ pub record KeepsCall (p q : Stand) : Type 0 where
   pub call : (search q).call ≡ (search p).call
   pub flagged : (search q).flagged ≡ (search p).flagged
 
+-- the link was won: the call has linked, and the new nodes are private no longer
 pub record HasGrown (p q : Stand) (key : ℕ) (r : End) (f : Fork) : Type 0 where
   pub part : Grows key r f (Linked f.new) p.view.log q.view.log
   pub linked : (search q).linked ≡ true
@@ -108,6 +112,7 @@ pub record HasGrown (p q : Stand) (key : ℕ) (r : End) (f : Fork) : Type 0 wher
   pub new_given : get (knowledge q.view).drafts f.new.slot ≡ None
   pub fresh_given : get (knowledge q.view).drafts f.fresh.slot ≡ None
 
+-- it was lost: the new nodes are ready still, and the edge that was found is told
 pub record HasNotGrown (p q : Stand) (key : ℕ) (r : End) (f : Fork) (e : Edge) : Type 0 where
   pub part : Grows key r f (Lost e) p.view.log q.view.log
   pub linked : (search q).linked ≡ (search p).linked
@@ -121,7 +126,8 @@ pub record HasNotGrown (p q : Stand) (key : ℕ) (r : End) (f : Fork) (e : Edge)
 abbrev pub asks_help : End → Edge → Bool
 asks_help r e = (e.slot == r.spot.edge.slot) && (e.flag || e.tag)
 
--- then a cleanup by that walk, won or lost; else no step
+-- then a cleanup by that walk, won or lost, exactly where the edge asks for help; else no step
+-- (Natarajan and Mittal, section 3.2, insert)
 abbrev pub Helps : End → List ChainEdge → Edge → List Entry → List Entry → Type 0
 Helps r c e old new = ((asks_help r e ≡ true) × (((ns : List NodeId) × (epoch : ℕ) × CleanupWon r.spot c ns epoch old new) ⊎ CleanupLost r.spot c old new)) ⊎ ((asks_help r e ≡ false) × (new ≡ old))
 
@@ -130,6 +136,7 @@ abbrev pub Readies : Fit → ℕ → Option Fork → Fork → List Entry → Lis
 Readies fit nodes None g old new = ClaimsFork fit nodes old new (Some g)
 Readies fit nodes (Some f) g old new = (g ≡ f) × (new ≡ old)
 
+-- the new nodes are at hand, as they were or just claimed; or there were none, and no slot was free
 abbrev pub IsReadied : Fit → ℕ → Option Fork → Option Fork → Option Fork → List Entry → List Entry → Type 0
 IsReadied fit nodes f g (Some h) old new = (g ≡ Some h) × Readies fit nodes f h old new
 IsReadied fit nodes f g None old new = (f ≡ None) × (g ≡ None) × ClaimsFork fit nodes old new None
@@ -144,6 +151,7 @@ pub record TriesLink (fit : Fit) (nodes k : ℕ) (f : Option Fork) (made : Fork)
   pub grows : Grows k r made reply claimed new
 
 -- a try of an insert of k, by what it came to; f are the new nodes before it, and g those after it
+-- (Natarajan and Mittal, section 3.2, insert)
 abbrev pub IsTry : Fit → ℕ → ℕ → Option Fork → Option Fork → List Entry → List Entry → Attempt → Type 0
 IsTry fit nodes k f g old new attempt.Found = (r : End) × (c : List ChainEdge) × Seeks nodes k old new c (Some r) × (r.key ≡ k) × (g ≡ f)
 IsTry fit nodes k f g old new attempt.Linked = (made : Fork) × (r : End) × (c : List ChainEdge) × TriesLink fit nodes k f made r c (Linked made.new) old new × (g ≡ None)
@@ -168,7 +176,8 @@ ShowsTry k p q _ = (search q).linked ≡ (search p).linked
 
 -- ---- the whole call
 
--- so many tries were lost, one behind the other; f are the new nodes behind them
+-- so many tries were lost, one behind the other; f are the new nodes behind them (Natarajan and
+-- Mittal, section 3.2, insert)
 abbrev pub LostInserts : Fit → ℕ → ℕ → ℕ → Option Fork → List Entry → List Entry → Type 0
 LostInserts fit nodes k zero f old new = (f ≡ None) × (new ≡ old)
 LostInserts fit nodes k (suc n) g old new = (f : Option Fork) × (mid : List Entry) × LostInserts fit nodes k n f old mid × IsTry fit nodes k f g mid new attempt.Lost
@@ -186,11 +195,13 @@ Finishes fit nodes tries k old new (Err fault.Busy) = (f : Option Fork) × (mid 
 Finishes fit nodes tries k old new (Err fault.NoMemory) =
     (n : ℕ) × (f : Option Fork) × (mid back : List Entry) × (0 < n) × (n < tries) × LostInserts fit nodes k n f old mid × Returns f mid back × (new ≡ back ++ (Leave, Departed) ∷ [])
 
+-- a pin for the insert, and then what finishes it
 abbrev pub PinsThen : Fit → ℕ → ℕ → ℕ → List Entry → List Entry → Result Bool Fault → Type 0
 PinsThen fit nodes tries k old new r = (pinned : List Entry) × (epoch : ℕ) × IsPinned (SightFor Insert k) tries old pinned epoch × Finishes fit nodes tries k pinned new r
 
--- Busy: there may be no try, and there was no step; or each try of the pin was lost; or each try was. NoMemory: the room of the first try was refused, and
--- there was no step, or that of a later one
+-- Busy: there may be no try, and there was no step; or each try of the pin was lost; or each try
+-- was. NoMemory: the room of the first try was refused, and there was no step, or that of a later
+-- one (Natarajan and Mittal, section 3.2, insert)
 abbrev pub InsertDid : Fit → ℕ → ℕ → ℕ → List Entry → List Entry → Result Bool Fault → Type 0
 InsertDid fit nodes tries k old new (Err fault.Busy) =
     ((tries ≡ 0) × (new ≡ old)) ⊎ ((tries ≢ 0) × IsMoved (SightFor Insert k) tries old new) ⊎ PinsThen fit nodes tries k old new (Err fault.Busy)

@@ -25,6 +25,7 @@ ShowsAnswer p Insert k false = ((leaf : ℕ) × EndedWith p ThePin k leaf k) × 
 ShowsAnswer p Delete k true = (n : NodeId) × ((search p).flagged ≡ Some n) × (((search p).cut ≡ true) ⊎ ((leaf v : ℕ) × (leaf ≢ n.slot) × EndedWith p TheFlag k leaf v))
 ShowsAnswer p Delete k false = ((leaf v : ℕ) × (v ≢ k) × EndedWith p ThePin k leaf v) × ((search p).flagged ≡ None)
 
+-- the call under the pin may leave with that answer
 abbrev pub IsAnswer : Stand → Bool → Type 0
 IsAnswer p answer = (op : Op) × (k : ℕ) × Tells p (CallIs op k) × ShowsAnswer p op k answer
 

@@ -56,17 +56,19 @@ pub record OnlyMakes (p q : Stand) : Type 0 where
 abbrev pub with_node : Draft → ℕ → ℕ → ℕ → Draft
 with_node d key left right = record d { key = Some key; left = Some left; right = Some right }
 
+-- the three steps that store a key and two edges in a slot
 abbrev pub fills : ℕ → ℕ → ℕ → ℕ → List Entry
 fills slot key left right = (Fill slot KeyOf key, Filled) ∷ (Fill slot (EdgeOn Left) left, Filled) ∷ (Fill slot (EdgeOn Right) right, Filled) ∷ []
 
--- the key and both edges were stored, and nothing else changed
+-- the key and both edges were stored by three steps, and nothing else changed
 abbrev pub HasFilled : Stand → Stand → ℕ → ℕ → ℕ → ℕ → Type 0
 HasFilled p q slot key left right = q ≡ record p { view = record p.view { log = p.view.log ++ fills slot key left right; past = q.view.past } }
 
 -- ---- linking a new node
 
--- two private slots are filled to put a key beside a leaf that has another: one as a leaf with the key, and one as the internal node
--- over both, with the greater of both keys; the leaf with the lesser one is on the left
+-- two private slots are filled to put a key beside a leaf that has another: one as a leaf with the
+-- key, and one as the internal node over both, with the greater of both keys; the leaf with the
+-- lesser one is on the left (Natarajan and Mittal, section 3.2, insert)
 pub record IsFork (p : Stand) (key other leaf new fresh : ℕ) : Type 0 where
   pub new_birth : ℕ
   pub fresh_birth : ℕ
@@ -74,7 +76,8 @@ pub record IsFork (p : Stand) (key other leaf new fresh : ℕ) : Type 0 where
   pub as_leaf : IsFilled p fresh fresh_birth key 0 0
   pub as_fork : ((key < other) × IsFilled p new new_birth other fresh leaf) ⊎ ((other < key) × IsFilled p new new_birth key leaf fresh)
 
--- the call is to insert a key and has not linked yet, a walk of it ended at the leaf, by that edge, and the new nodes put the key beside the leaf
+-- the call is to insert a key and has not linked yet, a walk of it ended at the leaf, by that edge,
+-- and the new nodes put the key beside the leaf (Natarajan and Mittal, section 3.2, insert)
 pub record IsInserting (p : Stand) (parent : ℕ) (side : Side) (leaf new fresh : ℕ) : Type 0 where
   pub key : ℕ
   pub other : ℕ
@@ -83,7 +86,8 @@ pub record IsInserting (p : Stand) (parent : ℕ) (side : Side) (leaf new fresh 
   pub ended : Tells p (EndedAt ThePin key leaf parent side other)
   pub fork : IsFork p key other leaf new fresh
 
--- the link is won: the call has linked, and both slots are private no longer
+-- the link is won: the call has linked, and both slots are private no longer (Natarajan and Mittal,
+-- section 3.2, insert)
 pub record HasLinked (p q : Stand) (parent : ℕ) (side : Side) (leaf new fresh : ℕ) : Type 0 where
   pub step : (birth : ℕ) → (draft p new).birth ≡ Some birth → Stepped p q (Link parent side leaf new) (Linked (record { slot = new; birth = birth }))
   pub new_given : is_private (knowledge q.view) new ≡ false
@@ -93,7 +97,7 @@ pub record HasLinked (p q : Stand) (parent : ℕ) (side : Side) (leaf new fresh 
   pub ledgers : (knowledge q.view).ledgers ≡ (knowledge p.view).ledgers
   pub search : search_after idle q.view.log ≡ record (search_after idle p.view.log) { linked = true }
 
--- the link is lost: the edge that was found is read
+-- the link is lost: the edge that was found is read (Natarajan and Mittal, section 3.2, insert)
 pub record HasLost (p q : Stand) (parent : ℕ) (side : Side) (leaf new : ℕ) (e : Edge) : Type 0 where
   pub step : Stepped p q (Link parent side leaf new) (Lost e)
   pub learned : EdgeLearned (Tells q) parent side e

@@ -19,8 +19,9 @@ use Rattle.nm_calls.specs.Telling.{Tells, OnlyLooks}
 
 -- ---- a tag
 
--- what an edge tells that was tagged, as it was before: it is tagged from now on, and just this edge; it is not null, and leads to a known slot
--- of the layout; and where it had a flag, it is known as flagged
+-- what an edge tells that was tagged, as it was before: it is tagged from now on, and just this
+-- edge; it is not null, and leads to a known slot of the layout; and where it had a flag, it is
+-- known as flagged (Natarajan and Mittal, section 3.2, cleanup)
 pub record TagTold (p q : Stand) (x : ℕ) (side : Side) (e : Edge) : Type 0 where
   pub marked : Tells q (IsTagged x side e.slot)
   pub frozen : Tells q (IsFrozen x side (tagged e))
@@ -42,8 +43,9 @@ pub record EdgeFound (p q : Stand) (x : ℕ) (side : Side) (e : Edge) : Type 0 w
 
 -- ---- a flag
 
--- what a call to delete a key has found: a walk of it ended by that edge at a leaf above slot 5, which has that key and whose birth is known;
--- and it has won no flag yet
+-- what a call to delete a key has found: a walk of it ended by that edge at a leaf above slot 5,
+-- which has that key and whose birth is known; and it has won no flag yet (Natarajan and Mittal,
+-- section 3.2, delete, injection)
 pub record IsToBeFlagged (p : Stand) (parent : ℕ) (side : Side) (leaf : ℕ) : Type 0 where
   pub knows_parent : Tells p (KnowsSlot parent)
   pub knows_leaf : Tells p (KnowsSlot leaf)
@@ -55,7 +57,8 @@ pub record IsToBeFlagged (p : Stand) (parent : ℕ) (side : Side) (leaf : ℕ) :
   pub ended : Tells p (EndedAt ThePin key leaf parent side key)
   pub unflagged : (search_after idle p.view.log).flagged ≡ None
 
--- nothing but what is known of nodes, and of the leaf that the call flagged, has changed
+-- nothing but what is known of nodes, and of the leaf that the call flagged, has changed (Natarajan
+-- and Mittal, section 3.2, delete, injection)
 pub record OnlyFlags (p q : Stand) : Type 0 where
   pub epochs : (knowledge q.view).brief ≡ (knowledge p.view).brief
   pub private : (knowledge q.view).drafts ≡ (knowledge p.view).drafts
@@ -65,12 +68,14 @@ pub record OnlyFlags (p q : Stand) : Type 0 where
   pub cut : (search_after idle q.view.log).cut ≡ (search_after idle p.view.log).cut
 
 -- the flag is won: the edge is known as flagged, and the node is the one that the call flagged
+-- (Natarajan and Mittal, section 3.2, delete, injection)
 pub record FlagWon (p q : Stand) (parent : ℕ) (side : Side) (n : NodeId) : Type 0 where
   pub step : Stepped p q (Flag parent side n.slot) (Flagged n)
   pub known : Tells q (IsFlagged parent side n.slot)
   pub flagged : (search_after idle q.view.log).flagged ≡ Some n
 
--- it is lost: another edge was found, and the call has flagged what it had
+-- it is lost: another edge was found, and the call has flagged what it had (Natarajan and Mittal,
+-- section 3.2, delete, injection)
 pub record FlagLost (p q : Stand) (parent : ℕ) (side : Side) (leaf : ℕ) (e : Edge) : Type 0 where
   pub step : Stepped p q (Flag parent side leaf) (Lost e)
   pub found : EdgeFound p q parent side e
@@ -78,15 +83,17 @@ pub record FlagLost (p q : Stand) (parent : ℕ) (side : Side) (leaf : ℕ) (e :
 
 -- ---- a splice
 
--- what a splice cuts: a chain from the successor down to the parent that the facts freeze, below a known ancestor;
--- the parent is left by its edge on one side, which is frozen as this one
+-- what a splice cuts: a chain from the successor down to the parent that the facts freeze, below a
+-- known ancestor; the parent is left by its edge on one side, which is frozen as this one
+-- (Natarajan and Mittal, section 3.2, cleanup; its ledger is ours)
 pub record IsToBeCut (p : Stand) (ancestor successor parent : ℕ) (keep : Side) (kept : Edge) : Type 0 where
   pub knows_ancestor : Tells p (KnowsSlot ancestor)
   pub nodes : List NodeId
   pub frozen : FrozenTo (Tells p) parent keep successor nodes
   pub kept_so : Tells p (IsFrozen parent keep kept)
 
--- private slots, the call, and what it linked and flagged, are as before
+-- private slots, the call, and what it linked and flagged, are as before (Natarajan and Mittal,
+-- section 3.2, cleanup; its ledger is ours)
 pub record OnlyCuts (p q : Stand) : Type 0 where
   pub private : (knowledge q.view).drafts ≡ (knowledge p.view).drafts
   pub call : (search_after idle q.view.log).call ≡ (search_after idle p.view.log).call
@@ -94,14 +101,16 @@ pub record OnlyCuts (p q : Stand) : Type 0 where
   pub flagged : (search_after idle q.view.log).flagged ≡ (search_after idle p.view.log).flagged
 
 -- the splice is won: these nodes enter the own queue at the end, without a label, and wait for one;
--- and where the leaf that the call flagged is one of them, the call has cut it
+-- and where the leaf that the call flagged is one of them, the call has cut it (Natarajan and
+-- Mittal, section 3.2, cleanup; its ledger is ours)
 pub record SpliceWon (p q : Stand) (ancestor : ℕ) (side : Side) (successor parent : ℕ) (keep : Side) (ns : List NodeId) : Type 0 where
   pub step : Stepped p q (Splice ancestor side successor parent keep) (Cut ns)
   pub queues : (o : ℕ) → held (knowledge q.view).ledgers o ≡ (if o == p.view.number then option_map (with_cut ns) (held (knowledge p.view).ledgers o) else held (knowledge p.view).ledgers o)
   pub epochs : (knowledge q.view).brief ≡ record (knowledge p.view).brief { unlabelled = true }
   pub cut : (search_after idle q.view.log).cut ≡ ((search_after idle p.view.log).cut || is_flagged_in (search_after idle p.view.log).flagged ns)
 
--- it is lost: another edge of the ancestor was found
+-- it is lost: another edge of the ancestor was found (Natarajan and Mittal, section 3.2, cleanup;
+-- its ledger is ours)
 pub record SpliceLost (p q : Stand) (ancestor : ℕ) (side : Side) (successor parent : ℕ) (keep : Side) (e : Edge) : Type 0 where
   pub step : Stepped p q (Splice ancestor side successor parent keep) (Lost e)
   pub found : EdgeFound p q ancestor side e

@@ -42,14 +42,16 @@ most_looks nodes n = 1 + nodes * (3 * n)
 
 -- ---- what a walk tells
 
--- in the log since the pin a walk for k came to the slot
+-- in the log since the pin a walk for k came to the slot (Natarajan and Mittal, section 3.2)
 abbrev pub HasComeTo : Stand → ℕ → ℕ → Type 0
 HasComeTo p k slot = (parent : ℕ) × (side : Side) × WalkComes k (since_pin [] p.view.log) slot parent side
 
--- in the log since the pin a walk for k ended, at a leaf whose key is k just where the answer is true
+-- in the log since the pin a walk for k ended, at a leaf whose key is k just where the answer is
+-- true (Natarajan and Mittal, section 3.2)
 abbrev pub HasEndedSo : Stand → ℕ → Bool → Type 0
 HasEndedSo p k answer = (leaf parent v : ℕ) × (side : Side) × WalkEnds k (since_pin [] p.view.log) leaf parent side v × (answer ≡ (v == k))
 
--- by the run that q has seen, the set had the key just where the answer is true, at a moment later than all that p had seen, and at which the worker was pinned
+-- by the run that q has seen, the set had the key just where the answer is true, at a moment later
+-- than all that p had seen, and at which the worker was pinned (Herlihy and Wing)
 abbrev pub WasSo : Stand → Stand → ℕ → Bool → Type 0
 WasSo p q k answer = WasSoSince q.view.layout p.view.past q.view.past q.view.number k answer

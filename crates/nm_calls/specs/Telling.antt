@@ -17,6 +17,7 @@ pub use Rattle.nm_steps.specs.Steps.{IsInRun}
 abbrev pub Tells : Stand → Fact → Type 0
 Tells p fact = Holds p.view.layout p.view.number p.view.log fact
 
+-- the log tells a pin
 abbrev pub IsPinnedSomewhere : Stand → Type 0
 IsPinnedSomewhere p = (epoch : ℕ) × Tells p (IsPinned epoch)
 
@@ -25,7 +26,8 @@ pub record GoesOn (p q : Stand) : Type 0 where
   pub run : IsInRun q
   pub keeps : (fact : Fact) → Tells p fact → Tells q fact
 
--- nothing but what is known of nodes, and of the call's walks, has changed
+-- nothing but what is known of nodes, and of the call's walks, has changed: epochs, private slots,
+-- ledgers, and what a call has changed are as they were
 pub record OnlyLooks (p q : Stand) : Type 0 where
   pub epochs : (knowledge q.view).brief ≡ (knowledge p.view).brief
   pub private : (knowledge q.view).drafts ≡ (knowledge p.view).drafts
@@ -35,14 +37,17 @@ pub record OnlyLooks (p q : Stand) : Type 0 where
   pub flagged : (search_after idle q.view.log).flagged ≡ (search_after idle p.view.log).flagged
   pub cut : (search_after idle q.view.log).cut ≡ (search_after idle p.view.log).cut
 
--- what the key of a slot tells: where it is below the sentinels, the slot is above 5; and each walk that has come there has read it
+-- what the key of a slot tells: where it is below the sentinels, the slot is above 5; and each walk
+-- that has come there has read it (Natarajan and Mittal, section 3.2)
 pub record KeyTold (p q : Stand) (x key : ℕ) : Type 0 where
   pub high : key < infinity_0 → 6 ≤ x
   pub reads : (since : Since) (k parent : ℕ) (side : Side) → Tells p (Came since k x parent side) → Tells q (ReadKey since k x parent side key)
 
--- what an edge tells that was looked at: it is read; it is flagged where its twin is known tagged, and as it was known where it is known flagged; it leads inside the layout, and is one of
--- a slot above 5 to a slot above 5 where it is flagged, and not null where it is the left edge of slot 2;
--- and each walk that goes on by it has come to its slot, or has ended where it is null
+-- what an edge tells that was looked at: it is read; it is flagged where its twin is known tagged,
+-- and as it was known where it is known flagged; it leads inside the layout, and is one of a slot
+-- above 5 to a slot above 5 where it is flagged, and not null where it is the left edge of slot 2;
+-- and each walk that goes on by it has come to its slot, or has ended where it is null (Natarajan
+-- and Mittal, section 3.2)
 pub record EdgeTold (p q : Stand) (x : ℕ) (side : Side) (e : Edge) : Type 0 where
   pub learned : EdgeLearned (Tells q) x side e
   pub twin : (to : ℕ) → Tells p (IsTagged x (other side) to) → e.flag ≡ true
@@ -55,8 +60,10 @@ pub record EdgeTold (p q : Stand) (x : ℕ) (side : Side) (e : Edge) : Type 0 wh
   pub goes : (since : Since) (k parent v : ℕ) (up : Side) → Tells p (ReadKey since k x parent up v) → side ≡ side_of k v → e.slot ≢ 0 → Tells q (Came since k e.slot x side)
   pub ends : (since : Since) (k parent v : ℕ) (up : Side) → Tells p (ReadKey since k x parent up v) → side ≡ side_of k v → e.slot ≡ 0 → Tells q (EndedAt since k x parent up v)
 
--- what a walk for k is told where it has read a node, whose key this is, to go on to that side by that edge: a key below the sentinels stands above slot 5; the
--- edge is read, and leads inside the layout; and each walk for k that had come there has come on to its slot, or has ended where it is null
+-- what a walk for k is told where it has read a node, whose key this is, to go on to that side by
+-- that edge: a key below the sentinels stands above slot 5; the edge is read, and leads inside the
+-- layout; and each walk for k that had come there has come on to its slot, or has ended where it is
+-- null (Natarajan and Mittal, section 3.2)
 pub record OnwardTold (p q : Stand) (k x key : ℕ) (side : Side) (e : Edge) : Type 0 where
   pub high : key < infinity_0 → 6 ≤ x
   pub learned : EdgeLearned (Tells q) x side e

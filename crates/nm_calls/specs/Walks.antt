@@ -21,11 +21,12 @@ use Rattle.nm_calls.specs.Telling.{Tells}
 
 -- ---- where a walk stands
 
--- at first, at the left edge of slot 2
+-- at first, at the left edge of slot 2 (Natarajan and Mittal, section 3.2, the seek record)
 abbrev pub begin : Edge → Spot
 begin e = record { ancestor = 1; above = Left; successor = 2; parent = 2; side = Left; edge = e }
 
--- at the node that the edge led to, left on a side by an edge
+-- at the node that the edge led to, left on a side by an edge (Natarajan and Mittal, section 3.2,
+-- the seek record)
 abbrev pub onto : Spot → Side → Edge → Spot
 onto s d e = if s.edge.tag then record { ancestor = s.ancestor; above = s.above; successor = s.successor; parent = s.edge.slot; side = d; edge = e }
     else record { ancestor = s.parent; above = s.side; successor = s.edge.slot; parent = s.edge.slot; side = d; edge = e }
@@ -52,14 +53,16 @@ edge_on Right left right = right
 abbrev pub Reads : ℕ → ℕ → List Entry → List Entry → Onward → Type 0
 Reads k s old new on = (left right : Edge) × (new ≡ after_looks old s on.found left right) × (on.side ≡ side_of k on.found) × (on.next ≡ edge_on on.side left right)
 
--- slot 2 was looked at, and n nodes below it; none of the edges read was null
+-- slot 2 was looked at, and n nodes below it; none of the edges read was null (Natarajan and
+-- Mittal, section 3.2, seek)
 abbrev pub Walks : ℕ → ℕ → List Entry → List Entry → Spot → List ChainEdge → Type 0
 Walks k zero old new s c = (s ≡ begin s.edge) × (c ≡ []) × (s.edge.slot ≢ 0) × (new ≡ old ++ (Look 2 (EdgeOn Left), EdgeIs s.edge) ∷ [])
 Walks k (suc n) old new s c =
     (mid : List Entry) × (t : Spot) × (d : List ChainEdge) × (on : Onward) × Walks k n old mid t d × (on.next.slot ≢ 0)
     × Reads k t.edge.slot mid new on × (s ≡ onto t on.side on.next) × (c ≡ chain_onto t d)
 
--- a walk to the leaf that the edge of s leads to, whose key this is; with slot 2 and the leaf it looked at no more than `nodes` nodes
+-- a walk to the leaf that the edge of s leads to, whose key this is; with slot 2 and the leaf it
+-- looked at no more than `nodes` nodes (Natarajan and Mittal, section 3.2, seek)
 abbrev pub Ends : ℕ → ℕ → List Entry → List Entry → Spot → List ChainEdge → ℕ → Type 0
 Ends nodes k old new s c key =
     (n : ℕ) × (mid : List Entry) × (on : Onward) × (n + 2 ≤ nodes) × Walks k n old mid s c × (on.next.slot ≡ 0)
@@ -75,6 +78,7 @@ IsTooDeep nodes k old new =
     (n : ℕ) × (mid : List Entry) × (s : Spot) × (c : List ChainEdge) × (on : Onward) × (n + 2 ≤ nodes) × Walks k n old mid s c
     × Reads k s.edge.slot mid new on × (on.next.slot ≢ 0) × (s.edge.tag ≡ true) × (chain_bound ≤ length c + 1)
 
+-- a walk that was broken off at a bound (Natarajan and Mittal, section 3.2, seek)
 abbrev pub IsBroken : ℕ → ℕ → List Entry → List Entry → Type 0
 IsBroken nodes k old new = IsTooLong nodes k old new ⊎ IsTooDeep nodes k old new
 
@@ -83,7 +87,8 @@ abbrev pub Finds : ℕ → ℕ → List Entry → List Entry → Option ℕ → 
 Finds nodes k old new (Some key) = (s : Spot) × (c : List ChainEdge) × Ends nodes k old new s c key
 Finds nodes k old new None = IsTooLong nodes k old new
 
--- what a walk finds that remembers its chain, which has 64 nodes at most with the parent
+-- what a walk finds that remembers its chain, which has 64 nodes at most with the parent (Natarajan
+-- and Mittal, section 3.2, seek)
 abbrev pub Seeks : ℕ → ℕ → List Entry → List Entry → List ChainEdge → Option End → Type 0
 Seeks nodes k old new c (Some r) = Ends nodes k old new r.spot c r.key × (length c < chain_bound)
 Seeks nodes k old new c None = IsBroken nodes k old new
@@ -95,6 +100,7 @@ abbrev pub Leads : (Fact → Type 0) → ℕ → List ChainEdge → ℕ → Type
 Leads H s [] q = s ≡ q
 Leads H s (l ∷ c) q = (l.slot ≡ s) × (t : ℕ) × H (IsTagged s l.side t) × H (KnowsSlot t) × Leads H t c q
 
+-- what is known of the nodes of a spot and of its chain
 pub record IsAt (H : Fact → Type 0) (s : Spot) (c : List ChainEdge) : Type 0 where
   pub ancestor : H (KnowsSlot s.ancestor)
   pub successor : H (KnowsSlot s.successor)
@@ -103,7 +109,7 @@ pub record IsAt (H : Fact → Type 0) (s : Spot) (c : List ChainEdge) : Type 0 w
   pub tagged : s.edge.tag ≡ true → H (IsTagged s.parent s.side s.edge.slot)
   pub way : Leads H s.successor c s.parent
 
--- and where it has ended
+-- and where it has ended: that its leaf is one
 pub record HasEnded (H : Fact → Type 0) (nodes : ℕ) (s : Spot) (c : List ChainEdge) : Type 0 where
   pub at : IsAt H s c
   pub leaf : H (KnowsLeaf s.edge.slot)

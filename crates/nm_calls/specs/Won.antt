@@ -16,6 +16,7 @@ is_won_splice _ = false
 
 -- ---- in a log
 
+-- `won_links`, `won_flags`, `won_splices`: how many links, flags and splices a log has won
 abbrev pub won_links : List Entry → ℕ
 won_links log = length (filter is_won_link log)
 
@@ -36,13 +37,13 @@ pub record HasWon (old new : List Entry) (l f : ℕ) : Type 0 where
   pub links : won_links new ≡ won_links old + l
   pub flags : won_flags new ≡ won_flags old + f
 
--- the links that an insert has won, by its answer
+-- the links that an insert has won, by its answer: one where it is true, else none
 abbrev pub links_of_insert : Result Bool Fault → ℕ
 links_of_insert (Ok true) = 1
 links_of_insert (Ok false) = 0
 links_of_insert (Err fault) = 0
 
--- the flags that a delete has won, by its answer
+-- the flags that a delete has won, by its answer: one where it is true or unfinished, else none
 abbrev pub flags_of_delete : Result Bool Missed → ℕ
 flags_of_delete (Ok true) = 1
 flags_of_delete (Ok false) = 0

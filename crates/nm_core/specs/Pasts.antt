@@ -19,14 +19,16 @@ HasPast c = IsSome c.searches → (past : List (ℕ × Event)) × IsPast c past
 abbrev pub HasHistoriesBehind : Configuration → List (ℕ × Event) → Type 0
 HasHistoriesBehind c turns = (past : List (ℕ × Event)) → IsPast c past → (i : ℕ) → HasHistory c.state.layout (past ++ take i turns)
 
--- the tree of an ordered core is in order, and stale paths do no harm
+-- the tree of an ordered core is in order, and stale paths do no harm (Natarajan and Mittal,
+-- section 3.1)
 pub record IsInOrder (c : Configuration) : Type 0 where
   pub keys : KeysLieInIntervals c
   pub leaves : LeavesHaveTheirOwnKeys c
   pub stale : WalksStayInOrder c
   pub reads : WalksReadKeys c
 
--- it is so before a run of an ordered core, and after each of its turns
+-- it is so before a run of an ordered core, and after each of its turns (Natarajan and Mittal,
+-- section 3.1)
 abbrev pub StaysInOrder : Configuration → List (ℕ × Event) → Type 0
 StaysInOrder c turns = IsSome c.searches → (i : ℕ) → IsInOrder (after_in c (take i turns))
 

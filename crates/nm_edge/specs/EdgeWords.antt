@@ -8,5 +8,6 @@ mark zero k h = omega arith
 mark (suc zero) k h = omega arith
 mark (suc (suc n)) k h = absurd (omega arith)
 
+-- the word of the edge in a word is that word
 pub word_edge : (w : ℕ) → word_of (edge_in w) ≡ w
 word_edge w = omega (arith, mark (w / 2 % 2) 2 (omega arith), mark (w % 2) 1 (omega arith))

@@ -3,18 +3,20 @@ use Rattle.std.specs.Prelude.{◌≡◌, ℕ, ◌+◌, ◌*◌, ◌/◌, ◌%◌
 use Rattle.nm_edge.specs.declared.edge.Side.{Side}
 use Rattle.nm_edge.specs.declared.edge.Side.TheVariants.{Left, Right}
 
--- an edge: the slot that it leads to, 0 for none, and its two marks
+-- an edge: the slot that it leads to, 0 for none, and its two marks (Natarajan and Mittal, section
+-- 3.1)
 pub record Edge : Type 0 where
   pub slot : ℕ
   pub flag : Bool
   pub tag : Bool
 
--- a null edge has no mark
+-- a null edge has no mark (Natarajan and Mittal, section 3.1)
 pub record IsEdge (e : Edge) : Type 0 where
   pub flag : e.slot ≡ 0 → e.flag ≡ false
   pub tag : e.slot ≡ 0 → e.tag ≡ false
 
--- the word of an edge: four times its slot, 2 for its tag and 1 for its flag
+-- the word of an edge: four times its slot, 2 for its tag and 1 for its flag (slots stand for
+-- addresses)
 abbrev pub word_of : Edge → ℕ
 word_of e = 4 * e.slot + (if e.tag then 2 else 0) + (if e.flag then 1 else 0)
 
@@ -22,29 +24,34 @@ word_of e = 4 * e.slot + (if e.tag then 2 else 0) + (if e.flag then 1 else 0)
 abbrev pub to : ℕ → Edge
 to s = record { slot = s; flag = false; tag = false }
 
--- it leads to that slot and has no mark
+-- it leads to that slot and has no mark: the edge that an exchange expects (Natarajan and Mittal,
+-- section 3.2)
 abbrev pub is_to : Edge → ℕ → Bool
 is_to e s = (e.slot == s) && (not e.flag && not e.tag)
 
--- with its tag; a null edge is never marked
+-- `tagged`, `untagged`: the edge with, and without its tag; a null edge is never marked (Natarajan
+-- and Mittal, section 3.2)
 abbrev pub tagged : Edge → Edge
 tagged e = record { slot = e.slot; flag = e.flag; tag = not (e.slot == 0) }
 
 abbrev pub untagged : Edge → Edge
 untagged e = record { slot = e.slot; flag = e.flag; tag = false }
 
+-- the other side
 abbrev pub other : Side → Side
 other Left = Right
 other Right = Left
 
--- the edge in a word
+-- the edge in a word: its slot is the word / 4, its tag and flag are the bits of 2 and 1
 abbrev pub edge_in : ℕ → Edge
 edge_in w = record { slot = w / 4; flag = w % 2 == 1; tag = w / 2 % 2 == 1 }
 
--- words of edges: their slots are below 2^32, and a null edge has no mark
+-- words of edges: their slots are below 2^32, and a null edge has no mark, so that the word is not
+-- 1, 2 or 3
 abbrev pub is_word : ℕ → Bool
 is_word w = nat_lt (w / 4) (2 ^ 32) && ((w == 0) || nat_le 4 w)
 
+-- the edge of a word, where it has one
 abbrev pub unpacked : ℕ → Option Edge
 unpacked w = if is_word w then Some (edge_in w) else None
 

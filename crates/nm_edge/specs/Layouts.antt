@@ -7,7 +7,8 @@ pub record Layout : Type 0 where
   pub workers : ℕ
   pub gap : ℕ
 
--- the sizes that there may be
+-- the sizes that there may be: 7 to 268,435,456 nodes, the five fixed ones counted, 1 to 64
+-- workers, and no words or seven behind each note
 pub record IsLayout (L : Layout) : Type 0 where
   pub least : 7 ≤ L.nodes
   pub most : L.nodes ≤ 268435456

@@ -45,7 +45,8 @@ slot_word L s = behind_notes L L.workers + 4 * (s - 1)
 abbrev pub pool_word : Layout → ℕ
 pool_word L = behind_notes L L.workers + 4 * L.nodes
 
--- the number of a field's word
+-- the number of a field's word: the epoch, a note a worker, four words a slot, and the pool in rows
+-- of 64 slots
 abbrev pub word : Layout → Field → ℕ
 word L at_epoch = 0
 word L (at_note w) = behind_notes L w
@@ -65,9 +66,11 @@ pool_place L s = record { word = word L (at_row ((s - 1) / 64)); mask = 2 ^ ((s 
 
 -- ---- laws
 
+-- no two fields have one word
 abbrev pub FieldsAreApart : Type 0
 FieldsAreApart = (L : Layout) (f g : Field) → IsField L f → IsField L g → word L f ≡ word L g → f ≡ g
 
+-- the number of each field's word is below that of all words
 abbrev pub FieldsAreWithin : Type 0
 FieldsAreWithin = (L : Layout) (f : Field) → IsField L f → word L f < words L
 
@@ -80,5 +83,6 @@ abbrev pub PoolMasksAreApart : Type 0
 PoolMasksAreApart = (L : Layout) (s t : ℕ) → IsSlot L s → IsSlot L t → s ≢ t → (pool_place L s).word ≡ (pool_place L t).word
     → bit_and (pool_place L s).mask (pool_place L t).mask ≡ 0
 
+-- no two slots have one place
 abbrev pub PoolPlacesAreApart : Type 0
 PoolPlacesAreApart = (L : Layout) (s t : ℕ) → IsSlot L s → IsSlot L t → pool_place L s ≡ pool_place L t → s ≡ t

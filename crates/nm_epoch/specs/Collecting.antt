@@ -28,7 +28,8 @@ IsQueueThen k origin es ns = option_map (λ (l : Ledger). l.queue) (held k.ledge
 abbrev pub labelled_so : ℕ → NodeId → Entry
 labelled_so epoch n = record { node = n; label = epoch }
 
--- each node of a held queue that waited for its label has this one now
+-- in each held queue what waited without a label has this one now, and what had one has it still
+-- (Fraser, section 5)
 abbrev pub TakesLabels : ℕ → Knowledge → Knowledge → Type 0
 TakesLabels epoch k l = (o : ℕ) (es : List Entry) (ns : List NodeId) → IsQueueThen k o es ns → IsQueueOf l o (es ++ map (labelled_so epoch) ns)
 
@@ -45,6 +46,7 @@ ripe_front epoch (e ∷ es) = if is_ripe epoch e then Some e.node else None
 abbrev pub ripe_part : ℕ → List Entry → List Entry
 ripe_part epoch es = take_while (is_ripe epoch) es
 
+-- what is left of these entries behind the ripe front
 abbrev pub rest_of : ℕ → List Entry → List Entry
 rest_of epoch es = drop (prefix_len (is_ripe epoch) es) es
 
@@ -59,7 +61,8 @@ abbrev pub NoneHas : ℕ → List HeldQueue → Type 0
 NoneHas o [] = Unit {0}
 NoneHas o (h ∷ hs) = (o ≢ h.origin) × NoneHas o hs
 
--- these are queues of ledgers that the worker holds, each of another origin
+-- these are queues of ledgers that the worker holds, each of another origin, with all that waits in
+-- them, labelled
 abbrev pub AreHeld : Knowledge → List HeldQueue → Type 0
 AreHeld k [] = Unit {0}
 AreHeld k (h ∷ hs) = IsQueueOf k h.origin h.queue.items × NoneHas h.origin hs × AreHeld k hs
@@ -83,7 +86,8 @@ blocks_of hs = map (λ (h : HeldQueue). h.queue.blocks) hs
 abbrev pub ledgers_seen : ℕ → Knowledge → List (Option Ledger)
 ledgers_seen epoch k = if k.brief.unlabelled then label epoch k.ledgers else k.ledgers
 
--- the ledgers of all origins of which none of these queues is are as that sight left them
+-- the ledgers of all origins of which none of these queues is are as that sight left them: as they
+-- were, or with the label that was missing
 abbrev pub KeepsOthers : ℕ → List HeldQueue → Knowledge → Knowledge → Type 0
 KeepsOthers epoch hs k l = (o : ℕ) → NoneHas o hs → held l.ledgers o ≡ held (ledgers_seen epoch k) o
 
@@ -95,6 +99,8 @@ retired_of k o = option_map (λ (l : Ledger). l.retired) (held k.ledgers o)
 abbrev pub KeepsRetired : Knowledge → Knowledge → Type 0
 KeepsRetired k l = (o : ℕ) → retired_of l o ≡ retired_of k o
 
--- what a collection leaves in the log, oldest entry first: one sight of the epoch, and then each ripe node is freed
+-- what a collection leaves in the log, oldest entry first: one sight of the epoch, and then, queue
+-- by queue, a give of each entry of the longest front whose label is at least two below the epoch
+-- read (Fraser, section 5)
 abbrev pub IsCollection : ℕ → List HeldQueue → List LogEntry → List LogEntry → Type 0
 IsCollection epoch hs old new = (mid : List LogEntry) × IsSightOf epoch old mid × (new ≡ mid ++ map freeing (ripe_of epoch hs))

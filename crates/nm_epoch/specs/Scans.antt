@@ -40,7 +40,9 @@ AllLetPass me pin e (suc n) old new = (mid : List Entry) × (found : Option ℕ)
 abbrev pub SightThenScans : ℕ → Option ℕ → ℕ → ℕ → List Entry → List Entry → Type 0
 SightThenScans me pin e n old new = (mid : List Entry) × IsSightOf e old mid × AllLetPass me pin e n mid new
 
--- what an advance of worker me, with that pin, among m workers leaves in its log, by its answer
+-- what an advance of worker me, with that pin, among m workers leaves in its log, by its answer: a
+-- sight, scans up to the first worker that is at another epoch, or of all and then the move of the
+-- epoch to the next (Fraser, section 5)
 abbrev pub IsAdvance : ℕ → ℕ → Option ℕ → List Entry → List Entry → Advance → Type 0
 IsAdvance m me pin old new (Moved next) = (e : ℕ) × (mid : List Entry) × SightThenScans me pin e m old mid × (next ≡ e + 1) × (new ≡ mid ++ (event.Advance, reply.Moved next) ∷ [])
 IsAdvance m me pin old new (Lost found) = (e : ℕ) × (mid : List Entry) × SightThenScans me pin e m old mid × (found ≢ e) × (new ≡ mid ++ (event.Advance, reply.Behind found) ∷ [])

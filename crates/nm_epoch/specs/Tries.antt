@@ -35,11 +35,12 @@ LostTries by (suc n) old new = (mid : List Entry) × LostTries by n old mid × L
 abbrev pub looked : List Entry → ℕ → List Entry
 looked old e = old ++ (Sight, Saw e) ∷ []
 
--- one sight, fewer lost tries than there may be, and one that was won
+-- one sight, fewer lost tries than there may be, and one that was won (Fraser, section 5)
 abbrev pub IsPinned : Event → ℕ → List Entry → List Entry → ℕ → Type 0
 IsPinned by tries old new e = (first n : ℕ) × (mid : List Entry) × (n < tries) × LostTries by n (looked old first) mid × WonTry by e mid new
 
 -- one sight, as many lost tries as there may be, and a leave; with no tries the sight alone
+-- (Fraser, section 5)
 abbrev pub IsMoved : Event → ℕ → List Entry → List Entry → Type 0
 IsMoved by zero old new = (first : ℕ) × (new ≡ looked old first)
 IsMoved by (suc n) old new = (first : ℕ) × (mid : List Entry) × LostTries by (suc n) (looked old first) mid × (new ≡ mid ++ (Leave, Departed) ∷ [])

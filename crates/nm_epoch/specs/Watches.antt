@@ -19,7 +19,8 @@ AllWatched me pin e (suc n) mask old new = (mid : List Entry) × (found : Option
 abbrev pub SightThenWatch : ℕ → Option ℕ → ℕ → ℕ → ℕ → List Entry → List Entry → Type 0
 SightThenWatch me pin e n mask old new = (mid : List Entry) × IsSightOf e old mid × AllWatched me pin e n mask mid new
 
--- what worker me, with that pin, finds among m workers
+-- what worker me, with that pin, finds among m workers: a sight and a scan of each other worker,
+-- and the sum of 2^w over the workers w found at another epoch
 abbrev pub IsBehind : ℕ → ℕ → Option ℕ → List Entry → List Entry → Behind → Type 0
 IsBehind m me pin old new b = SightThenWatch me pin b.epoch m b.mask old new
 

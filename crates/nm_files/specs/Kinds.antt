@@ -88,6 +88,7 @@ abbrev pub alone : {X : Type 0} → List (List ℕ) → X → Result X Reason
 alone [] x = Ok x
 alone _ x = Err reason.Fields
 
+-- `one`, `two`, `three`, `four`, `five`: so many fields
 abbrev pub one : List (List ℕ) → Result (List ℕ) Reason
 one (a ∷ []) = Ok a
 one _ = Err reason.Fields
@@ -121,6 +122,8 @@ sight_for arguments = do
   key ← key a.1
   Ok (event.SightFor op key)
 
+-- `sight`, `leave`, `leave_with`, `scan`, `claim`, `give`, `look`, `fill`, `link`, `flag`, `tag`,
+-- `splice`: the event of that kind, by the fields behind its worker and its word
 unfoldable pub leave_with : List (List ℕ) → Result Event Reason
 leave_with arguments = do
   a ← one arguments

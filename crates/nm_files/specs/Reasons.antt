@@ -23,6 +23,8 @@ pub record Argument : Type 0 where
 abbrev pub a_place : Argument
 a_place = record { is_word = λ f. true; is_number = λ f. is_ok (place f) }
 
+-- `a_value`, `a_field`, `a_side`, `an_op`, `an_answer`: what a field must be: a number, the word of
+-- a field, of a side, of an operation, of an answer
 abbrev pub a_value : Argument
 a_value = record { is_word = λ f. true; is_number = λ f. is_ok (number f) }
 
@@ -92,6 +94,7 @@ abbrev pub has_key : Bool → KindOf → List (List ℕ) → Bool
 has_key is_ordered Sight (op ∷ key ∷ []) = not is_ordered || not (fails_at is_key (number key))
 has_key is_ordered kind fs = true
 
+-- `holds_of`, `header_holds_of`: the reason holds of a line, and of the first line
 abbrev pub holds_of : HeaderOf → Bool → List (List ℕ) → Reason → Bool
 holds_of header long fs Long = long
 holds_of header long fs Form = not (list_all is_field fs) || nat_lt (length fs) 2

@@ -37,6 +37,7 @@ line_of header line = if list_all is_field (fields line) then entry_of header (f
 abbrev pub first_line_of : List ℕ → Result Header Reason
 first_line_of line = header_of (fields line)
 
+-- a header, and the events of workers
 abbrev pub Schedule : Type 0
 Schedule = File Header (ℕ × Event)
 

@@ -9,8 +9,10 @@ use Rattle.nm_model.specs.Memory.{Memory, edge, child}
 use Rattle.nm_model.specs.Headline.{slots_of, IsFrozenChainTo}
 use Rattle.nm_model.specs.Runs.{State, next, outcome}
 
--- of the edges before and after a splice: the one from the ancestor led to the successor, without a mark; from there the slots that were cut are
--- a frozen chain down to the parent; the ancestor's edge is now the parent's kept one, with its slot and its flag and no tag; and no other has changed
+-- of the edges before and after a splice: the one from the ancestor led to the successor, without a
+-- mark; from there the slots that were cut are a frozen chain down to the parent; the ancestor's
+-- edge is now the parent's kept one, with its slot and its flag and no tag; and no other has
+-- changed (Natarajan and Mittal, section 3.2, cleanup)
 pub record KeepsTheEdge (before after : Memory) (ancestor : ℕ) (side : Side) (successor parent : ℕ) (keep : Side) (slots : List ℕ) : Type 0 where
   pub led : edge before ancestor side ≡ to successor
   pub chain : IsFrozenChainTo before parent keep successor slots
@@ -19,7 +21,7 @@ pub record KeepsTheEdge (before after : Memory) (ancestor : ℕ) (side : Side) (
   pub tag : (edge after ancestor side).tag ≡ false
   pub others : (x : ℕ) (d : Side) → ((x ≡ ancestor) × (d ≡ side) → ⊥) → edge after x d ≡ edge before x d
 
--- so of every splice that is won in a state
+-- so of every splice that is won in a state (Natarajan and Mittal, section 3.2, cleanup)
 abbrev pub EachSpliceKeepsTheEdge : State → Type 0
 EachSpliceKeepsTheEdge s = (w ancestor : ℕ) (side : Side) (successor parent : ℕ) (keep : Side) (ns : List NodeId)
     → outcome s (w, Splice ancestor side successor parent keep) ≡ Ok (Cut ns)

@@ -16,7 +16,8 @@ IsLeftOf (Left ∷ p) (Right ∷ q) = Unit {0}
 IsLeftOf (Right ∷ p) (Left ∷ q) = ⊥
 IsLeftOf (Right ∷ p) (Right ∷ q) = IsLeftOf p q
 
--- a slot is a leaf of the set: its key is below those of the fixed leaves
+-- a slot is a leaf of the set: its key is below those of the fixed leaves (Natarajan and Mittal,
+-- section 3.1)
 pub record IsLeafOfTheSet (m : Memory) (x : ℕ) : Type 0 where
   pub is_slot : x ≢ 0
   pub childless : is_leaf (node m x) ≡ true

@@ -33,5 +33,6 @@ leads_to (suc fuel) known s p = (s == p) || from_next (next_in known s) (λ t. l
 abbrev pub IsRight : List (ℕ × Seen) → ChainStep → Type 0
 IsRight known x = x.next.slot ≢ 0 → next_in known x.slot ≡ Some x.next.slot
 
+-- each step that was noted is right by what is known
 unfoldable pub Remembers : List (ℕ × Seen) → List ChainStep → Type 0
 Remembers known steps = All (IsRight known) steps

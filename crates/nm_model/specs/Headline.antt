@@ -37,6 +37,7 @@ written m w (Tag p side) (Ok (Was e)) = put_edge m p side (tagged e)
 written m w (Splice a side s p keep) (Ok (Cut ns)) = put_edge m a side (untagged (edge m p keep))
 written m w _ _ = m
 
+-- `after_turn`, `words_from`: the words after a turn, and after these turns, from others on
 abbrev pub after_turn : Memory → Turn → Memory
 after_turn m t = written m t.worker t.event t.outcome
 
@@ -60,7 +61,8 @@ Tells m _ r = Unit {0}
 
 -- ---- cuts
 
--- the nodes that a turn says it cut, and the one that it says it freed
+-- `nodes_cut_of`, `nodes_freed_of`: the nodes that a turn says it cut, and the one that it says it
+-- freed (Natarajan and Mittal, section 3.2, cleanup)
 abbrev pub nodes_cut_of : Result Reply Refused → List NodeId
 nodes_cut_of (Ok (Cut ns)) = ns
 nodes_cut_of _ = []
@@ -70,16 +72,19 @@ nodes_freed_of (Ok (Freed n)) = n ∷ []
 nodes_freed_of _ = []
 
 -- a node's edge on a side is tagged, and the one beside it is flagged and leads to the leaf
+-- (Natarajan and Mittal, section 3.2, cleanup; for whole chains ours)
 abbrev pub IsFrozenOver : Memory → ℕ → Side → ℕ → Type 0
 IsFrozenOver m x side leaf = ((edge m x side).tag ≡ true) × ((edge m x (other side)).flag ≡ true) × (child m x (other side) ≡ leaf)
 
--- from a slot down to a parent: each internal node and then its flagged leaf, and on by its tagged edge; the last of these nodes is the parent,
--- and its tagged edge is the one to keep
+-- from a slot down to a parent: each internal node and then its flagged leaf, and on by its tagged
+-- edge; the last of these nodes is the parent, and its tagged edge is the one to keep (Natarajan
+-- and Mittal, section 3.2, cleanup; for whole chains ours)
 abbrev pub IsFrozenChainTo : Memory → ℕ → Side → ℕ → List ℕ → Type 0
 IsFrozenChainTo m parent keep s (x ∷ leaf ∷ []) = (x ≡ s) × (x ≡ parent) × IsFrozenOver m x keep leaf
 IsFrozenChainTo m parent keep s (x ∷ leaf ∷ y ∷ rest) = (x ≡ s) × (side : Side) × IsFrozenOver m x side leaf × IsFrozenChainTo m parent keep (child m x side) (y ∷ rest)
 IsFrozenChainTo m parent keep s _ = ⊥
 
+-- the slots of these nodes (Natarajan and Mittal, section 3.2, cleanup)
 abbrev pub slots_of : List NodeId → List ℕ
 slots_of ns = map (λ n. n.slot) ns
 
@@ -95,11 +100,13 @@ pub record IsWonSplice (m : Memory) (e : Event) (ns : List NodeId) : Type 0 wher
   pub chain : IsFrozenChainTo m parent keep successor (slots_of ns)
   pub births : ns ≡ map (named m) (slots_of ns)
 
--- from one moment to the next just these nodes were cut off: paths from the root reached them before, and none does after
+-- from one moment to the next just these nodes were cut off: paths from the root reached them
+-- before, and none does after (Natarajan and Mittal, section 3.2, cleanup)
 abbrev pub CutsJust : Memory → List NodeId → Memory → Type 0
 CutsJust before ns after = (x : ℕ) → IsCut before after x ↔ Contains (slots_of ns) x
 
--- a turn cuts just the nodes that it says it cut, and only won splices say so
+-- a turn cuts just the nodes that it says it cut, and only won splices say so (Natarajan and
+-- Mittal, section 3.2, cleanup)
 pub record CutsItsNodes (m : Memory) (t : Turn) : Type 0 where
   pub just : CutsJust m (nodes_cut_of t.outcome) (after_turn m t)
   pub splices : (ns : List NodeId) → t.outcome ≡ Ok (Cut ns) → IsWonSplice m t.event ns
@@ -116,17 +123,20 @@ abbrev pub freed_by : List Turn → List NodeId
 freed_by [] = []
 freed_by (t ∷ ts) = nodes_freed_of t.outcome ++ freed_by ts
 
+-- a node, a slot with its birth, is one of these
 abbrev pub is_among : List NodeId → NodeId → Bool
 is_among ns n = list_any (λ m. (n.slot == m.slot) && (n.birth == m.birth)) ns
 
--- those of a worker's cuts that were freed, in the order in which they were, and those that wait, in cut order
+-- `freed_of`, `waits_of`: those of a worker's cuts that were freed, in the order in which they
+-- were, and those that wait, in cut order
 abbrev pub freed_of : ℕ → List Turn → List NodeId
 freed_of w turns = filter (is_among (cuts_of w turns)) (freed_by turns)
 
 abbrev pub waits_of : ℕ → List Turn → List NodeId
 waits_of w turns = filter (λ n. not (is_among (freed_by turns) n)) (cuts_of w turns)
 
--- each worker's cuts are freed in cut order; nothing else is freed; and no node, a slot with its birth, is cut twice
+-- of each worker, what was freed and then what waits of its cuts are its cuts, in their order;
+-- nothing else is freed; and no node, a slot with its birth, is cut twice
 pub record AreFreedInTurn (turns : List Turn) : Type 0 where
   pub queues : (w : ℕ) → freed_of w turns ++ waits_of w turns ≡ cuts_of w turns
   pub only : (n : NodeId) → Contains (freed_by turns) n → (w : ℕ) × Contains (cuts_of w turns) n
@@ -146,13 +156,16 @@ departs Leave (Ok Departed) = true
 departs (LeaveWith answer) (Ok Departed) = true
 departs _ _ = false
 
+-- a turn by which the worker leaves
 abbrev pub leaves : ℕ → Turn → Bool
 leaves w t = (t.worker == w) && departs t.event t.outcome
 
+-- a worker has left in these turns (Fraser, section 5.2.3)
 abbrev pub HasLeft : ℕ → List Turn → Type 0
 HasLeft w turns = list_any (leaves w) turns ≡ true
 
--- after these turns a worker is pinned: it has confirmed a pin, and not left since
+-- after these turns a worker is pinned: it has confirmed a pin, and not left since (Fraser, section
+-- 5.2.3)
 pub record IsPinned (w : ℕ) (turns : List Turn) : Type 0 where
   pub before : List Turn
   pub sight : Turn
@@ -162,7 +175,8 @@ pub record IsPinned (w : ℕ) (turns : List Turn) : Type 0 where
   pub pins : confirms sight.event sight.outcome ≡ true
   pub stays : HasLeft w since → ⊥
 
--- where a node is cut by one turn and freed by a later one, each worker that was pinned at the cut, the remover too, has left between the two
+-- where a node is cut by one turn and freed by a later one, each worker that was pinned at the cut,
+-- the remover too, has left between the two (Fraser, section 5.2.3)
 abbrev pub Grace : List Turn → Type 0
 Grace turns = (before between rest : List Turn) (cut free : Turn) (n : NodeId) → turns ≡ before ++ cut ∷ (between ++ free ∷ rest)
     → Contains (nodes_cut_of cut.outcome) n → Contains (nodes_freed_of free.outcome) n
@@ -193,6 +207,7 @@ pub data Place : Type 0 where
   OnPath : List Side → Place
   Waits : ℕ → ℕ → Place
 
+-- after these turns the slot is in that place
 abbrev pub StandsAt : Layout → List Turn → ℕ → Place → Type 0
 StandsAt L turns x InPool = in_pool (words_after L turns) x ≡ true
 StandsAt L turns x (InHands w) = has_after (opening L) w x false turns ≡ true
@@ -230,6 +245,7 @@ NothingIsPulledAway L turns = (before between rest : List Turn) (t : Turn) (r : 
 
 -- ---- the theorem, of the turns of a run from the empty tree on
 
+-- the theorem, of the turns of a run
 pub record Headline (L : Layout) (turns : List Turn) : Type 0 where
   -- what is read is what the turns have written
   pub reads : (before rest : List Turn) (t : Turn) (r : Reply) → turns ≡ before ++ t ∷ rest → t.outcome ≡ Ok r → Tells (words_after L before) t.event r

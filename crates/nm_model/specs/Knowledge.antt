@@ -11,8 +11,10 @@ use Rattle.nm_model.specs.declared.ledger.Ledger.{Ledger}
 use Rattle.nm_model.specs.Ledgers.{fresh_ledger}
 use Rattle.nm_model.specs.Maps.{get, has, is_number}
 
--- the epochs of a worker; by worker, whether it was scanned at the epoch last read; the known nodes; the private slots;
--- the ledgers that it holds, by origin; and whether it has resigned
+-- the epoch last read, its announcement, its pin, and whether a cut waits for its label; by worker,
+-- whether it was scanned at the epoch last read; the known nodes, with the last word read of each
+-- edge and their births; the private slots and what was filled in; the ledgers that it holds, by
+-- origin; and whether it has resigned
 pub record Knowledge : Type 0 where
   pub brief : Brief
   pub scanned : List Bool
@@ -23,6 +25,7 @@ pub record Knowledge : Type 0 where
 
 -- ---- at first
 
+-- `unread`, `unfilled`: of a known node nothing was read; of a private slot nothing was filled in
 abbrev pub unread : Seen
 unread = record { left = None; right = None; birth = None }
 
@@ -42,12 +45,14 @@ newcomer L w = record {
 
 -- ---- reading
 
+-- `knows`, `is_private`: a known node; a private slot
 abbrev pub knows : Knowledge → ℕ → Bool
 knows k s = has k.known s
 
 abbrev pub is_private : Knowledge → ℕ → Bool
 is_private k s = has k.drafts s
 
+-- `seen_of`, `draft_of`: what was read of a known node; what was filled in of a private slot
 abbrev pub seen_of : Knowledge → ℕ → Seen
 seen_of k s = unwrap_or (get k.known s) unread
 
@@ -62,6 +67,8 @@ read_on n Right = n.right
 abbrev pub read : Knowledge → ℕ → Side → Option Edge
 read k s side = read_on (seen_of k s) side
 
+-- `is_null`, `is_flagged`, `is_tagged`, `slot_read`: of an edge that was read: it is null, it has
+-- its flag, it has its tag; the slot to which it leads
 abbrev pub is_null : Option Edge → Bool
 is_null None = false
 is_null (Some e) = e.slot == 0
@@ -78,7 +85,7 @@ abbrev pub slot_read : Option Edge → ℕ
 slot_read None = 0
 slot_read (Some e) = e.slot
 
--- an edge of it was read as null
+-- a node is known as a leaf once an edge of it was read as null (Natarajan and Mittal, section 3.1)
 abbrev pub knows_leaf : Knowledge → ℕ → Bool
 knows_leaf k s = is_null (read k s Left) || is_null (read k s Right)
 
@@ -88,7 +95,9 @@ beside d leaf = if is_number d.left leaf then d.right else d.left
 
 -- ---- the way of a splice
 
--- the edge is known tagged and its twin known flagged. (A flagged edge leads to a leaf, so the way never goes on by one.)
+-- the way of a splice goes on by an edge that is known tagged and not flagged, and whose twin is
+-- known flagged. (A flagged edge leads to a leaf, so the way never goes on by one.) (Natarajan and
+-- Mittal, section 3.2, cleanup; for whole chains ours)
 abbrev pub leads_on : Knowledge → ℕ → Side → Bool
 leads_on k s side = is_tagged (read k s side) && (is_flagged (read k s (other side)) && not (is_flagged (read k s side)))
 
@@ -105,12 +114,14 @@ before_way (Some side) (Some sides) = Some (side ∷ sides)
 before_way (Some side) None = None
 before_way None sides = None
 
--- the sides by which the way goes from s to p, past fewer than so many nodes
+-- the sides by which the way goes from s to p, past fewer than so many nodes (Natarajan and Mittal,
+-- section 3.2, cleanup; for whole chains ours)
 abbrev pub way : ℕ → Knowledge → ℕ → ℕ → Option (List Side)
 way zero k s p = None
 way (suc fuel) k s p = elim (s == p) [ true ↦ Some [] | false ↦ before_way (onward k s) (way fuel k (slot_on k s (onward k s)) p) ]
 
--- the slots of a way and the flagged leaf beside each, from s downwards; the last is left by the edge on keep
+-- what a splice cuts: the slots of a way and the flagged leaf beside each, from the successor s
+-- downwards; the last is left by the edge on keep
 abbrev pub cut_by : Knowledge → ℕ → List Side → Side → List ℕ
 cut_by k s [] keep = s ∷ slot_read (read k s (other keep)) ∷ []
 cut_by k s (side ∷ sides) keep = s ∷ slot_read (read k s (other side)) ∷ cut_by k (slot_read (read k s side)) sides keep

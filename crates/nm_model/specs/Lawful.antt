@@ -24,9 +24,11 @@ MayPrecede l None = Unit {0}
 MayPrecede None (Some n) = ⊥
 MayPrecede (Some l) (Some n) = l ≤ n
 
+-- along a queue labels do not fall, and entries without one are last
 abbrev pub LabelsDoNotFall : State → Type 0
 LabelsDoNotFall s = (w origin i j : ℕ) (a b : Queued) → IsQueued s w origin i a → IsQueued s w origin j b → i ≤ j → MayPrecede a.label b.label
 
+-- no label is above the epoch
 abbrev pub NoLabelIsAboveTheEpoch : State → Type 0
 NoLabelIsAboveTheEpoch s = (w origin i l : ℕ) (a : Queued) → IsQueued s w origin i a → a.label ≡ Some l → l ≤ s.memory.epoch
 
@@ -35,6 +37,8 @@ pub record BriefIsRight (s : State) (w : ℕ) : Type 0 where
   pub waiting : (origin i : ℕ) (a : Queued) → IsQueued s w origin i a → a.label ≡ None → (origin ≡ w) × ((of s w).brief.unlabelled ≡ true)
   pub told : (of s w).brief.unlabelled ≡ true → (i : ℕ) × (a : Queued) × IsQueued s w w i a × (a.label ≡ None)
 
+-- of each worker: unlabelled entries wait in its own queue alone, and its brief tells whether there
+-- are any
 abbrev pub BriefsAreRight : State → Type 0
 BriefsAreRight s = (w : ℕ) → BriefIsRight s w
 
@@ -108,6 +112,7 @@ pub record ReadsStand (s : State) (w : ℕ) : Type 0 where
   pub nulls : (x : ℕ) (side : Side) (e : Edge) → read (of s w) x side ≡ Some e → e.slot ≡ 0 → child s.memory x side ≡ 0
   pub drafts : (x : ℕ) (side : Side) (v : ℕ) → filled_on (draft_of (of s w) x) side ≡ Some v → edge s.memory x side ≡ to v
 
+-- what each worker has read of edges, and filled in, stands so
 abbrev pub EachReadStands : State → Type 0
 EachReadStands s = (w : ℕ) → ReadsStand s w
 
@@ -122,5 +127,6 @@ pub record BirthsStand (s : State) (w : ℕ) : Type 0 where
   pub stored : (x b : ℕ) → (draft_of (of s w) x).birth ≡ Some b → (node s.memory x).birth ≡ b
   pub key : (x v : ℕ) → (draft_of (of s w) x).key ≡ Some v → (node s.memory x).key ≡ v
 
+-- and what it has read of births, and stored in private slots
 abbrev pub EachBirthStands : State → Type 0
 EachBirthStands s = (w : ℕ) → BirthsStand s w

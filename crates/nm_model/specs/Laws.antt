@@ -21,6 +21,8 @@ OfEachState P = (L : Layout) → 5 ≤ L.nodes → (turns : List (ℕ × Event))
 
 -- ---- runs
 
+-- `StatesJoin`, `TracesJoin`: running the rest from where the first events lead gives the state,
+-- and the trace, of one run of all
 abbrev pub StatesJoin : Type 0
 StatesJoin = (s : State) (ts us : List (ℕ × Event)) → after s (ts ++ us) ≡ after (after s ts) us
 
@@ -115,6 +117,7 @@ pub record FreesAFront (s : State) (turn : ℕ × Event) (n : NodeId) : Type 0 w
   pub leaves : before.queue ≡ front ∷ after.queue
   pub freed : after.freed ≡ before.freed ++ n ∷ []
 
+-- each give that frees a node takes it from such a front
 abbrev pub EachFreeTakesAFront : State → Type 0
 EachFreeTakesAFront s = (turn : ℕ × Event) (n : NodeId) → outcome s turn ≡ Ok (Freed n) → FreesAFront s turn n
 

@@ -25,6 +25,8 @@ forgotten marks = replicate (length marks) false
 abbrev pub saw : Knowledge → ℕ → Knowledge
 saw k e = record k { brief = record k.brief { seen = Some e }; scanned = if is_number k.brief.seen e then k.scanned else forgotten k.scanned }
 
+-- `labelling`, `pinned`: what waited for its label has this one; the worker is pinned, and knows
+-- slots 1 and 2
 abbrev pub labelling : Knowledge → ℕ → Knowledge
 labelling k e = record k { brief = record k.brief { unlabelled = false }; ledgers = label e k.ledgers }
 
@@ -35,6 +37,7 @@ rooted = (1, unread) ∷ (2, unread) ∷ []
 abbrev pub pinned : Knowledge → ℕ → Knowledge
 pinned k e = record k { brief = record k.brief { pin = Some e }; known = rooted }
 
+-- what a sight teaches, by its answer
 abbrev pub learn_sight : Knowledge → Reply → Knowledge
 learn_sight k (Saw e) = saw k e
 learn_sight k (Labelled e) = labelling (saw k e) e
@@ -46,6 +49,8 @@ learn_sight k _ = k
 abbrev pub departed : Knowledge → Knowledge
 departed k = record k { brief = record k.brief { note = None; pin = None }; known = [] }
 
+-- `scanned`, `moved`: a worker was scanned, and counts or not; the epoch was moved on, and the
+-- scans are forgotten
 abbrev pub scanned : Knowledge → ℕ → Bool → Knowledge
 scanned k u counts = record k { scanned = slice_set k.scanned u counts }
 
@@ -70,6 +75,8 @@ with_read n Right e = record n { right = Some e }
 abbrev pub read_edge : Knowledge → ℕ → Side → Edge → Knowledge
 read_edge k s side e = record k { known = put (met k.known e.slot) s (with_read (seen_of k s) side e) }
 
+-- `look_known`, `look_private`, `looked`: what a look teaches of a known node, of a private slot,
+-- and of either
 abbrev pub look_known : Knowledge → ℕ → Field → Reply → Knowledge
 look_known k s (EdgeOn side) (EdgeIs e) = read_edge k s side e
 look_known k s Birth (BirthIs b) = record k { known = put k.known s (record (seen_of k s) { birth = Some b }) }
@@ -108,10 +115,12 @@ cutting w k ns = record k { brief = record k.brief { unlabelled = true }; ledger
 abbrev pub inheriting : Knowledge → List (Option Ledger) → Knowledge
 inheriting k ls = record k { ledgers = taken_over k.ledgers ls }
 
+-- a worker that has resigned holds no ledger
 abbrev pub resigned : Knowledge → Knowledge
 resigned k = record k { ledgers = replicate (length k.ledgers) None; gone = true }
 
--- what worker w knows after an event with its reply. A join stands in both logs, and the own number tells the leaver from the heir
+-- what worker w knows after an event with its reply, one line a case; nobody else learns anything.
+-- A join stands in both logs, both learn of it, and the own number tells the leaver from the heir
 unfoldable pub learn : ℕ → Knowledge → Event → Reply → Knowledge
 learn w k Sight r = learn_sight k r
 learn w k (SightFor op key) r = learn_sight k r

@@ -14,6 +14,8 @@ fresh_ledger = record { retired = []; freed = []; queue = [] }
 abbrev pub held : List (Option Ledger) → ℕ → Option Ledger
 held ls origin = slice_index_or ls origin None
 
+-- `queue_of`, `labelled`: the queue of a ledger; a ledger whose entries without a label get this
+-- one
 abbrev pub queue_of : Option Ledger → List Queued
 queue_of None = []
 queue_of (Some l) = l.queue
@@ -36,12 +38,14 @@ queued_entry ls s = or_else (front_of ls s) (first_of ls s)
 abbrev pub with_cut : List NodeId → Ledger → Ledger
 with_cut ns l = record { retired = l.retired ++ ns; freed = l.freed; queue = l.queue ++ map unlabelled ns }
 
+-- cut nodes enter the queue without a label
 abbrev pub retire : List (Option Ledger) → ℕ → List NodeId → List (Option Ledger)
 retire ls origin ns = slice_set ls origin (option_map (with_cut ns) (held ls origin))
 
 abbrev pub labelled : ℕ → Ledger → Ledger
 labelled e l = record { retired = l.retired; freed = l.freed; queue = map (with_label e) l.queue }
 
+-- entries without a label get it
 abbrev pub label : ℕ → List (Option Ledger) → List (Option Ledger)
 label e ls = map (option_map (labelled e)) ls
 
@@ -49,12 +53,14 @@ label e ls = map (option_map (labelled e)) ls
 abbrev pub with_freed : NodeId → Ledger → Ledger
 with_freed n l = record { retired = l.retired; freed = l.freed ++ n ∷ []; queue = drop 1 l.queue }
 
--- the node is freed by the first held queue whose front it is
+-- the node is freed by the first held queue whose front it is: the front of the first one that has
+-- the slot there
 abbrev pub free : List (Option Ledger) → NodeId → List (Option Ledger)
 free [] n = []
 free (l ∷ ls) n = if is_some (front_at (queue_of l) n.slot) then option_map (with_freed n) l ∷ ls else l ∷ free ls n
 
--- each ledger of the second list, and where that has none, that of the first
+-- each ledger of the second list, and where that has none, that of the first: an heir holds each
+-- ledger of the leaver under its origin
 abbrev pub taken_over : List (Option Ledger) → List (Option Ledger) → List (Option Ledger)
 taken_over [] ms = []
 taken_over (l ∷ ls) [] = l ∷ ls

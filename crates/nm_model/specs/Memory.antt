@@ -7,8 +7,8 @@ use Rattle.nm_edge.specs.declared.edge.Side.TheVariants.{Left, Right}
 use Rattle.nm_edge.specs.declared.node.NodeId.{NodeId}
 use Rattle.nm_model.specs.declared.memory.Node.{Node}
 
--- the global epoch, what each worker announces, and by slot the nodes and whether the slot is in the pool.
--- Slot 0 is no node, and stands there with null edges
+-- the global epoch, what each worker announces, and by slot the nodes and whether the slot is in
+-- the pool. Slot 0 is no node, and stands there with null edges (Fraser, section 5.2.3)
 pub record Memory : Type 0 where
   pub epoch : ℕ
   pub notes : List (Option ℕ)
@@ -19,6 +19,8 @@ pub record Memory : Type 0 where
 abbrev pub blank : Node
 blank = record { key = 0; left = to 0; right = to 0; birth = 0 }
 
+-- the node in a slot: key, left and right edge, and birth, the number of times that its slot has
+-- been put to use (Natarajan and Mittal, section 3.1; births are ours)
 abbrev pub node : Memory → ℕ → Node
 node m s = slice_index_or m.nodes s blank
 
@@ -33,7 +35,7 @@ edge m s side = edge_of (node m s) side
 abbrev pub child : Memory → ℕ → Side → ℕ
 child m s side = (edge m s side).slot
 
--- a node is a leaf where both its edges are null
+-- a node is a leaf where both its edges are null (Natarajan and Mittal, section 3.1)
 abbrev pub is_leaf : Node → Bool
 is_leaf n = (n.left.slot == 0) && (n.right.slot == 0)
 
@@ -41,6 +43,7 @@ is_leaf n = (n.left.slot == 0) && (n.right.slot == 0)
 abbrev pub note : Memory → ℕ → Option ℕ
 note m w = slice_index_or m.notes w None
 
+-- whether the slot is in the pool
 abbrev pub in_pool : Memory → ℕ → Bool
 in_pool m s = slice_index_or m.pool s false
 
@@ -58,6 +61,7 @@ with_edge n Right e = record n { right = e }
 abbrev pub put_edge : Memory → ℕ → Side → Edge → Memory
 put_edge m s side e = put_node m s (with_edge (node m s) side e)
 
+-- `infinity_0`, `infinity_1`, `infinity_2`: the sentinels, above all keys of the set
 abbrev pub infinity_0 : ℕ
 infinity_0 = 2 ^ 64 - 3
 
@@ -67,13 +71,16 @@ infinity_1 = 2 ^ 64 - 2
 abbrev pub infinity_2 : ℕ
 infinity_2 = 2 ^ 64 - 1
 
+-- `leaf`, `fork`: a leaf with that key; an internal node with that key over two slots
 abbrev pub leaf : ℕ → Node
 leaf key = record { key = key; left = to 0; right = to 0; birth = 0 }
 
 abbrev pub fork : ℕ → ℕ → ℕ → Node
 fork key left right = record { key = key; left = to left; right = to right; birth = 0 }
 
--- the empty tree, epoch 0, everybody idle, and every slot above 5 in the pool
+-- the empty tree: root 1 with key ∞2 over 2 and 5, 2 with key ∞1 over the leaves 3 and 4 with keys
+-- ∞0 and ∞1, leaf 5 with ∞2; epoch 0, everybody idle, all slots above 5 in the pool, and their
+-- words 0 (Natarajan and Mittal, section 3.2, figure 2)
 abbrev pub opening : Layout → Memory
 opening L = record {
   epoch = 0;

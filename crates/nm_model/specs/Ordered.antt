@@ -57,7 +57,8 @@ shows_call s (Some c) answer = shows s c.op c.key answer
 
 -- ---- links and flags in order
 
--- over a leaf with key v, and a new leaf with key k: the new node has the greater key, and the lesser leaf is on the left
+-- over a leaf with key v, and a new leaf with key k: the new node has the greater key, and the
+-- lesser leaf is on the left (Natarajan and Mittal, section 3.1)
 abbrev pub is_fork_for : Draft → ℕ → ℕ → ℕ → Bool
 is_fork_for d leaf k v = if nat_lt k v then is_number d.key v && is_number d.right leaf else is_number d.key k && is_number d.left leaf
 
@@ -87,6 +88,7 @@ abbrev pub deletes : Search → Op → ℕ → ℕ → Side → ℕ → Bool
 deletes s Delete key p side leaf = is_none s.flagged && list_any (may_flag_at key p side leaf) s.walks
 deletes s _ key p side leaf = false
 
+-- `links_in_order`, `flags_in_order`: the log shows that the link, or the flag, is one of the call
 abbrev pub links_in_order : Knowledge → Search → Option Call → ℕ → Side → ℕ → ℕ → Bool
 links_in_order k s None p side leaf new = false
 links_in_order k s (Some c) p side leaf new = inserts k s c.op c.key p side leaf new
@@ -95,7 +97,9 @@ abbrev pub flags_in_order : Search → Option Call → ℕ → Side → ℕ → 
 flags_in_order s None p side leaf = false
 flags_in_order s (Some c) p side leaf = deletes s c.op c.key p side leaf
 
--- why an event that a plain core allows is refused, if it is, by the own knowledge and the own log
+-- why an event that a plain core allows is refused, if it is, by the own knowledge and the own log:
+-- a link or a flag that is not where a walk of the own operation ended, or a leave without the
+-- answer that the log shows (from Natarajan and Mittal, section 3.2)
 abbrev pub disorder : Knowledge → Search → Event → Option Refused
 disorder k s (Link p side leaf new) = first (not (links_in_order k s s.call p side leaf new) refuses NotOrdered ∷ [])
 disorder k s (Flag p side leaf) = first (not (flags_in_order s s.call p side leaf) refuses NotOrdered ∷ [])
@@ -114,12 +118,16 @@ pub record Configuration : Type 0 where
 abbrev pub plain : Layout → Configuration
 plain L = record { state = start L; searches = None }
 
+-- the opening of an ordered core
 abbrev pub ordered : Layout → Configuration
 ordered L = record { state = start L; searches = Some (replicate L.workers idle) }
 
+-- the search of a worker
 abbrev pub search_of : List Search → ℕ → Search
 search_of ss w = slice_index_or ss w idle
 
+-- `disorder_among`, `disorder_in`: why an ordered core refuses an event that a plain one allows; a
+-- plain core has no such reason
 abbrev pub disorder_among : Option (List Search) → Knowledge → ℕ → Event → Option Refused
 disorder_among None k w e = None
 disorder_among (Some ss) k w e = disorder k (search_of ss w) e
@@ -135,6 +143,7 @@ disorder_in c w e = disorder_among c.searches (of c.state w) w e
 unfoldable pub refused_in : Configuration → ℕ → Event → Option Refused
 refused_in c w e = or_else (refused c.state w e) (disorder_in c w e)
 
+-- the searches behind an event with its reply
 abbrev pub learned_from : List Search → ℕ → Event → Reply → List Search
 learned_from ss w e r = slice_set ss w (searched (search_of ss w) e r)
 
@@ -150,14 +159,17 @@ abbrev pub unless_refused_in : Option Refused → Configuration → Configuratio
 unless_refused_in None c d = d
 unless_refused_in (Some r) c d = c
 
+-- the configuration behind an event; what is refused changes nothing
 unfoldable pub next_in : Configuration → ℕ × Event → Configuration
 next_in c t = unless_refused_in (refused_in c t.0 t.1) c (applied_in c t.0 t.1)
 
+-- the reply of an event, or why it is refused
 unfoldable pub outcome_in : Configuration → ℕ × Event → Result Reply Refused
 outcome_in c t = answered (refused_in c t.0 t.1) (reply_of c.state t.0 t.1)
 
 -- ---- runs
 
+-- the configuration after a list of events
 unfoldable pub after_in : Configuration → List (ℕ × Event) → Configuration
 after_in c [] = c
 after_in c (t ∷ ts) = after_in (next_in c t) ts
@@ -203,6 +215,7 @@ turn_of t = (t.worker, t.event)
 abbrev pub IsRunOfAccepted : State → List Turn → State → Type 0
 IsRunOfAccepted s turns t = (t ≡ after s (map turn_of (accepted turns))) × (trace s (map turn_of (accepted turns)) ≡ accepted turns)
 
+-- an ordered run is a run of the events that it accepted
 abbrev pub OrderedRunsAreRuns : Type 0
 OrderedRunsAreRuns = (c : Configuration) (ts : List (ℕ × Event)) → IsRunOfAccepted c.state (trace_in c ts) (after_in c ts).state
 

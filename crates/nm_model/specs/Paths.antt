@@ -3,16 +3,16 @@ use Rattle.std.specs.Prelude.{◌≡◌, ◌≢◌, ℕ, List, [], ◌∷◌}
 use Rattle.nm_edge.specs.declared.edge.Side.{Side}
 use Rattle.nm_model.specs.Memory.{Memory, child}
 
--- the slot where a path from s ends; 0 where it falls off
+-- the slot where a path from s ends; 0 where it falls off (Natarajan and Mittal, section 3.1)
 abbrev pub follow : (ℕ → Side → ℕ) → ℕ → List Side → ℕ
 follow children s [] = s
 follow children s (side ∷ sides) = follow children (children s side) sides
 
--- the slot where a path from the root ends
+-- the slot where a path from the root ends (Natarajan and Mittal, section 3.1)
 abbrev pub at : Memory → List Side → ℕ
 at m path = follow (child m) 1 path
 
--- a slot that ends a path from the root
+-- a slot that ends a path from the root (Natarajan and Mittal, section 3.1)
 pub record Reached (m : Memory) (x : ℕ) : Type 0 where
   pub path : List Side
   pub ends : at m path ≡ x

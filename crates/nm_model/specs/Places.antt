@@ -19,6 +19,7 @@ pub data Place : Type 0 where
 abbrev pub slot_of : Queued → ℕ
 slot_of e = e.node.slot
 
+-- the slot stands in that place
 abbrev pub StandsAt : State → ℕ → Place → Type 0
 StandsAt s x InPool = in_pool s.memory x ≡ true
 StandsAt s x (PrivateTo w) = is_private (of s w) x ≡ true

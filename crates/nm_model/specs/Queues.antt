@@ -13,6 +13,8 @@ front_at (e ∷ es) s = if e.node.slot == s then Some e else None
 abbrev pub entry_at : List Queued → ℕ → Option Queued
 entry_at es s = find (λ e. e.node.slot == s) es
 
+-- a node as it enters a queue: it has no label yet, which is the epoch that its remover reads after
+-- the splice (Fraser, section 5.2.3; labels are ours)
 abbrev pub unlabelled : NodeId → Queued
 unlabelled n = record { node = n; label = None }
 

@@ -23,6 +23,7 @@ abbrev pub holder_from : ℕ → List Knowledge → ℕ → Option ℕ
 holder_from w [] origin = None
 holder_from w (k ∷ ks) origin = if is_some (held k.ledgers origin) then Some w else holder_from (w + 1) ks origin
 
+-- `holder`, `ledger_of`: the worker that holds the ledger of an origin, and that ledger
 abbrev pub holder : State → ℕ → Option ℕ
 holder s origin = holder_from 0 s.workers origin
 
@@ -76,12 +77,13 @@ keys_below fuel m s = filter_map (λ x. set_key (node m x)) (tree_slots fuel m s
 abbrev pub below : Memory → ℕ → ℕ → List Subtree
 below m s depth = record { slot = child m s Right; depth = depth } ∷ record { slot = child m s Left; depth = depth } ∷ []
 
--- the keys of the reached leaves
+-- the keys of the reached leaves, from left to right, without the fixed ones
 abbrev pub keys : State → List ℕ
 keys s = keys_below s.layout.nodes s.memory 1
 
 -- ---- the report
 
+-- `Report`, `report_of`: what a run tells at its end
 pub record Report : Type 0 where
   pub trace : List Turn
   pub ledgers : List (Option Ledger)
@@ -96,6 +98,7 @@ report_of turns s = record {
   counts = counts s;
 }
 
+-- the trace of a run, each origin's ledger, the epoch and the counts
 unfoldable pub report : Layout → List (ℕ × Event) → Report
 report L ts = report_of (trace (start L) ts) (after (start L) ts)
 
@@ -104,6 +107,7 @@ pub record OrderedReport : Type 0 where
   pub report : Report
   pub keys : List ℕ
 
+-- `ordered_report_of`, `ordered_report`: the same of an ordered run, with its keys
 abbrev pub ordered_report_of : List Turn → Configuration → OrderedReport
 ordered_report_of turns c = record { report = report_of turns c.state; keys = keys c.state }
 

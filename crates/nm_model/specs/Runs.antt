@@ -14,6 +14,7 @@ use Rattle.nm_model.specs.Knowledge.{Knowledge, newcomer}
 use Rattle.nm_model.specs.Learning.{learn}
 use Rattle.nm_model.specs.Step.{first, ◌refuses◌, refusal, reply, write}
 
+-- a layout, the words, and what each worker knows
 pub record State : Type 0 where
   pub layout : Layout
   pub memory : Memory
@@ -33,12 +34,14 @@ start L = record { layout = L; memory = opening L; workers = map (newcomer L) (r
 abbrev pub is_no_worker : State → ℕ → Bool
 is_no_worker s w = nat_le s.layout.workers w || (of s w).gone
 
--- a worker passes its ledgers to another only with empty hands
+-- a worker passes its ledgers to another, which is there, only with empty hands: no private slot
+-- and no unlabelled cut
 abbrev pub join_refusal : State → ℕ → ℕ → Option Refused
 join_refusal s w v = first (
     ((v == w) || is_no_worker s v) refuses NoWorker
     ∷ (not (length (of s v).drafts == 0) || (of s v).brief.unlabelled) refuses NotReady ∷ [])
 
+-- why an event is refused in a state, joins too
 abbrev pub refusal_of : State → ℕ → Event → Option Refused
 refusal_of s w (Join v) = join_refusal s w v
 refusal_of s w e = refusal s.layout s.memory (of s w) w e
@@ -47,6 +50,7 @@ refusal_of s w e = refusal s.layout s.memory (of s w) w e
 unfoldable pub refused : State → ℕ → Event → Option Refused
 refused s w e = if is_no_worker s w then Some NoWorker else refusal_of s w e
 
+-- what an event answers in a state, joins too
 abbrev pub reply_of : State → ℕ → Event → Reply
 reply_of s w (Join v) = Joined (of s v).ledgers
 reply_of s w e = reply s.layout s.memory (of s w) e
@@ -69,6 +73,7 @@ abbrev pub unless_refused : Option Refused → State → State → State
 unless_refused None s t = t
 unless_refused (Some r) s t = s
 
+-- the state behind an event; what is refused changes nothing
 unfoldable pub next : State → ℕ × Event → State
 next s t = unless_refused (refused s t.0 t.1) s (applied s t.0 t.1)
 
@@ -76,11 +81,13 @@ abbrev pub answered : Option Refused → Reply → Result Reply Refused
 answered None r = Ok r
 answered (Some x) r = Err x
 
+-- the reply of an event, or why it is refused
 unfoldable pub outcome : State → ℕ × Event → Result Reply Refused
 outcome s t = answered (refused s t.0 t.1) (reply_of s t.0 t.1)
 
 -- ---- runs
 
+-- the state after a list of events
 unfoldable pub after : State → List (ℕ × Event) → State
 after s [] = s
 after s (t ∷ ts) = after (next s t) ts

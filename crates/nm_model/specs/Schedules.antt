@@ -34,6 +34,7 @@ IsAsWorked x = report x.layout (map (λ t. (t.worker, t.event)) x.turns) ≡ rec
 abbrev pub IsAsWorkedInOrder : Worked → List ℕ → Type 0
 IsAsWorkedInOrder x keys = ordered_report x.layout (map (λ t. (t.worker, t.event)) x.turns) ≡ record { report = record { trace = x.turns; ledgers = x.ledgers; epoch = x.epoch; counts = x.counts }; keys = keys }
 
+-- `t`, `e`, `n`, `q`, `l`: a turn, an edge, a node, a queued node and a ledger, in short
 abbrev pub t : ℕ → Event → Result Reply Refused → Turn
 t worker event outcome = record { worker = worker; event = event; outcome = outcome }
 

@@ -15,7 +15,7 @@ use Rattle.nm_model.specs.declared.arrivals.Arrival.{Arrival}
 
 -- ---- walks
 
--- the side of a key at a node with key v: left where it is less
+-- the side of a key at a node with key v: left where it is less (Natarajan and Mittal, section 3.1)
 abbrev pub side_of : ℕ → ℕ → Side
 side_of k v = if nat_lt k v then Left else Right
 
@@ -44,6 +44,9 @@ goes_on k slot side a = (a.slot == slot) && turns k a.key side
 abbrev pub is_first : ℕ → Side → Bool
 is_first slot side = (slot == 2) && is_side side Left
 
+-- a walk for the key came to a slot by a parent's edge on a side. Its key, once that was looked at
+-- afterwards, and whether its edge on the key's side was then read as null, are told later
+-- (Natarajan and Mittal, section 3.2, seek, as facts that stay)
 abbrev pub new_arrival : ℕ → ℕ → Side → Arrival
 new_arrival slot parent side = record { slot = slot; parent = parent; side = side; key = None; ended = false }
 
@@ -93,6 +96,8 @@ abbrev pub begun : Search → Option Call → Reply → Search
 begun s call (Pinned e) = record { call = call; linked = false; flagged = None; cut = false; walks = []; later = [] }
 begun s call _ = s
 
+-- `left`, `look_for`, `linked`, `flagged`, `spliced`: what a leave, a look, a link, a flag and a
+-- splice add to a search
 abbrev pub left : Search → Reply → Search
 left s Departed = idle
 left s _ = s

@@ -24,6 +24,7 @@ use Rattle.nm_model.specs.Learning.{flag_to}
 
 -- ---- refusals
 
+-- `Check`, `◌refuses◌`: a test that fails, with the reason that it is then
 pub record Check : Type 0 where
   pub fails : Bool
   pub reason : Refused
@@ -148,18 +149,24 @@ refusal L m k w (Join v) = None
 
 -- ---- replies
 
+-- what a sight answers a worker that is not pinned, by its announcement
 abbrev pub sighted : Option ℕ → ℕ → Reply
 sighted None e = Saw e
 sighted (Some a) e = if a == e then Pinned e else Missed e
 
--- a worker that announces and isn't pinned is pinned by reading what it announces
+-- a worker that announces and is not pinned is pinned by reading the epoch that it announces; else
+-- the try is lost (Fraser, section 5.2.3)
 abbrev pub confirmed : Option ℕ → Option ℕ → ℕ → Reply
 confirmed (Some p) announced e = Saw e
 confirmed None announced e = sighted announced e
 
+-- of a sight, also of one for an operation and its key (`SightFor`), which is refused where it
+-- cannot confirm a pin. (In a plain core that is a sight, and a leave with an answer, `LeaveWith`,
+-- a leave.)
 abbrev pub reply_sight : Knowledge → ℕ → Reply
 reply_sight k e = if k.brief.unlabelled then Labelled e else confirmed k.brief.pin k.brief.note e
 
+-- `reply_scan`, `reply_look`: what a scan answers, by the note; what a look answers, by the node
 abbrev pub reply_scan : Option ℕ → Reply
 reply_scan None = Idle
 reply_scan (Some e) = In e
@@ -173,6 +180,7 @@ reply_look n Birth = BirthIs n.birth
 abbrev pub reply_exchange : Edge → ℕ → Reply → Reply
 reply_exchange e s won = if is_to e s then won else Lost e
 
+-- the node at a front
 abbrev pub node_of : Option Queued → NodeId
 node_of None = record { slot = 0; birth = 0 }
 node_of (Some e) = e.node
@@ -181,9 +189,12 @@ node_of (Some e) = e.node
 abbrev pub cut_nodes : Layout → Memory → Knowledge → ℕ → ℕ → Side → List NodeId
 cut_nodes L m k s p keep = map (named m) (cut_by k s (unwrap_or (way L.nodes k s p) []) keep)
 
+-- the new node of a link, with the birth that was stored in it
 abbrev pub node_linked : Knowledge → ℕ → NodeId
 node_linked k new = record { slot = new; birth = unwrap_or (draft_of k new).birth 0 }
 
+-- what an event answers, by the word that it finds (Fraser, section 5.2.3: pin, advance; Natarajan
+-- and Mittal, section 3.2: link, flag, tag, splice)
 unfoldable pub reply : Layout → Memory → Knowledge → Event → Reply
 reply L m k Sight = reply_sight k m.epoch
 reply L m k (SightFor op key) = reply_sight k m.epoch
@@ -205,6 +216,8 @@ reply L m k (Join v) = Joined []
 
 -- ---- writes, of one word at most
 
+-- `filled`, `exchanged`: a node with one field filled; a memory with one edge exchanged, where it
+-- is the unmarked one to the slot
 abbrev pub filled : Node → Field → ℕ → Node
 filled n Key v = record n { key = v }
 filled n (EdgeOn side) v = with_edge n side (to v)
@@ -218,6 +231,8 @@ abbrev pub kept : Option Edge → Edge
 kept None = to 0
 kept (Some e) = untagged e
 
+-- the one word that an event changes, or none (Fraser, section 5.2.3; Natarajan and Mittal, section
+-- 3.2)
 unfoldable pub write : Memory → Knowledge → ℕ → Event → Memory
 write m k w Sight = m
 write m k w (SightFor op key) = m

@@ -28,7 +28,8 @@ LedgersFreeWhatGivesFreed states turns = (i w v origin : ℕ) (l m : Ledger) →
 abbrev pub EachHasOneHolder : State → Type 0
 EachHasOneHolder s = (origin : ℕ) → origin < s.layout.workers → OneHolder s origin
 
--- what every state keeps
+-- what every state keeps: places and counts, epochs and scans, holders, ledgers and labels, frozen
+-- edges, reach, and what was read
 pub record IsLawfulState (s : State) : Type 0 where
   -- each slot is in one place, and the counts of the places add up
   pub places : EachSlotInOnePlace s

@@ -58,26 +58,29 @@ pub data IsPart {X : Type 0} : List X → List X → Type 0 where
 
 -- ---- walks
 
--- the looks of a walk for k that came to a slot by a parent's edge on a side: at first at the left edge of slot 2,
--- and then at the key of each node to which an edge led, and at its edge on k's side
+-- the looks of a walk for k that came to a slot by a parent's edge on a side: at first at the left
+-- edge of slot 2, and then at the key of each node to which an edge led, and at its edge on k's
+-- side (Natarajan and Mittal, section 3.2, seek)
 pub data Leads (k : ℕ) : List Entry → ℕ → ℕ → Side → Type 0 where
   begins : (e : Edge) → e.slot ≢ 0 → Leads k ((Look 2 (EdgeOn Left), EdgeIs e) ∷ []) e.slot 2 Left
   leads_on : {looks : List Entry} {slot parent : ℕ} {side : Side} → Leads k looks slot parent side → (v : ℕ) (e : Edge) → e.slot ≢ 0
       → Leads k (looks ++ (Look slot Key, KeyIs v) ∷ (Look slot (EdgeOn (side_of k v)), EdgeIs e) ∷ []) e.slot slot (side_of k v)
 
--- a walk in a log came to the slot by that edge: its looks are a part of the log, in order, with gaps between them
+-- a walk in a log came to the slot by that edge: its looks are a part of the log, in order, with
+-- gaps between them (Natarajan and Mittal, section 3.2, seek)
 pub record WalkComes (k : ℕ) (log : List Entry) (slot parent : ℕ) (side : Side) : Type 0 where
   pub looks : List Entry
   pub leads : Leads k looks slot parent side
   pub is_part : IsPart looks log
 
--- and then it looked at the slot's key
+-- and then it looked at the slot's key (Natarajan and Mittal, section 3.2, seek)
 pub record WalkReads (k : ℕ) (log : List Entry) (slot parent : ℕ) (side : Side) (key : ℕ) : Type 0 where
   pub looks : List Entry
   pub leads : Leads k looks slot parent side
   pub is_part : IsPart (looks ++ (Look slot Key, KeyIs key) ∷ []) log
 
--- and then at the slot's edge on k's side, which was null: it ended at that leaf
+-- and then at the slot's edge on k's side, which was null: it ended at that leaf (Natarajan and
+-- Mittal, section 3.2, seek)
 pub record WalkEnds (k : ℕ) (log : List Entry) (slot parent : ℕ) (side : Side) (key : ℕ) : Type 0 where
   pub looks : List Entry
   pub leads : Leads k looks slot parent side

@@ -15,6 +15,7 @@ use Rattle.nm_order.specs.Intervals.{IsCalled, Gains, Marks}
 use Rattle.nm_order.specs.Moments.{PinStands}
 use Rattle.nm_order.specs.WalksToArrivals.{is_won_flag}
 
+-- an entry that is a won link
 abbrev pub is_won_link : Entry → Bool
 is_won_link (Link parent side leaf new, Linked n) = true
 is_won_link _ = false
@@ -30,12 +31,14 @@ pub record MayAnswer (c : Configuration) (w : ℕ) (op : Op) (k : ℕ) (answer :
   pub called : IsCalled c w op k
   pub leaves : outcome_in c (w, LeaveWith answer) ≡ Ok Departed
 
--- an insert that is true stands for one link
+-- an insert that is true stands for one link, and any other answer for none (from Natarajan and
+-- Mittal, section 3.2)
 abbrev pub links_told : Op → Bool → ℕ
 links_told Insert true = 1
 links_told _ _ = 0
 
--- a delete that is true stands for one flag
+-- a delete that is true stands for one flag, and any other answer for none (from Natarajan and
+-- Mittal, section 3.2)
 abbrev pub flags_told : Op → Bool → ℕ
 flags_told Delete true = 1
 flags_told _ _ = 0
@@ -55,7 +58,8 @@ SilentLeavesWonNothing L turns = (w : ℕ) → outcome_in (after_in (ordered L) 
 
 -- ---- the moment of an insert
 
--- under the pin that stands since, the worker's call to insert k won a link, and by it the set gained k, which was not in it, and nothing else
+-- under the pin that stands since, the worker's call to insert k won a link, and by it the set
+-- gained k, which was not in it, and nothing else (Natarajan and Mittal, section 3.2, insert)
 pub record HasInserted (L : Layout) (turns : List (ℕ × Event)) (w k : ℕ) : Type 0 where
   pub before : List (ℕ × Event)
   pub since : List (ℕ × Event)
@@ -70,12 +74,14 @@ pub record HasInserted (L : Layout) (turns : List (ℕ × Event)) (w k : ℕ) : 
   pub gains : Gains (after_in (ordered L) before).state.memory (next_in (after_in (ordered L) before) (w, Link parent side leaf new)).state.memory k
   pub stands : PinStands w (trace_in (next_in (after_in (ordered L) before) (w, Link parent side leaf new)) since)
 
+-- a call that may answer its insert with true has inserted its key
 abbrev pub TrueInsertsHaveInserted : Layout → List (ℕ × Event) → Type 0
 TrueInsertsHaveInserted L turns = (w k : ℕ) → MayAnswer (after_in (ordered L) turns) w Insert k true → HasInserted L turns w k
 
 -- ---- the moment of a delete's flag
 
--- under the pin that stands since, the worker's call to delete k won a flag on the edge to the leaf with key k
+-- under the pin that stands since, the worker's call to delete k won a flag on the edge to the leaf
+-- with key k (Natarajan and Mittal, section 3.2, injection)
 pub record HasFlagged (L : Layout) (turns : List (ℕ × Event)) (w k : ℕ) : Type 0 where
   pub before : List (ℕ × Event)
   pub since : List (ℕ × Event)
@@ -89,5 +95,6 @@ pub record HasFlagged (L : Layout) (turns : List (ℕ × Event)) (w k : ℕ) : T
   pub marks : Marks (after_in (ordered L) before).state.memory parent side leaf flagged k
   pub stands : PinStands w (trace_in (next_in (after_in (ordered L) before) (w, Flag parent side leaf)) since)
 
+-- a call that may answer its delete with true has flagged its leaf
 abbrev pub TrueDeletesHaveFlagged : Layout → List (ℕ × Event) → Type 0
 TrueDeletesHaveFlagged L turns = (w k : ℕ) → MayAnswer (after_in (ordered L) turns) w Delete k true → HasFlagged L turns w k

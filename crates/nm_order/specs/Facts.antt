@@ -21,6 +21,8 @@ pub data Since : Type 0 where
   ThePin : Since
   TheFlag : Since
 
+-- a piece of what a worker's log tells that stays so while its pin stands; of walks those since the
+-- pin, or since the flag (`Since`)
 pub data Fact : Type 0 where
   -- the worker is pinned at that epoch
   IsPinned : ℕ → Fact
@@ -58,6 +60,7 @@ pub record Arrived (s : Search) (since : Since) (k slot parent : ℕ) (side : Si
   pub is_parent : arrival.parent ≡ parent
   pub is_side : arrival.side ≡ side
 
+-- what a worker knows, with its search, tells the fact
 abbrev pub HoldsIn : Knowledge → Search → Fact → Type 0
 HoldsIn known s (IsPinned epoch) = known.brief.pin ≡ Some epoch
 HoldsIn known s (KnowsSlot slot) = knows known slot ≡ true
@@ -71,18 +74,19 @@ HoldsIn known s (Came since k slot parent side) = Arrived s since k slot parent 
 HoldsIn known s (ReadKey since k slot parent side key) = (a : Arrived s since k slot parent side) × (a.arrival.key ≡ Some key)
 HoldsIn known s (EndedAt since k slot parent side key) = (a : Arrived s since k slot parent side) × (a.arrival.key ≡ Some key) × (a.arrival.ended ≡ true)
 
--- the log of worker w tells the fact
+-- the log of worker w tells the fact, by the knowledge and the search that it tells
 abbrev pub Holds : Layout → ℕ → List Entry → Fact → Type 0
 Holds L w log fact = HoldsIn (known_by L w log) (search_after idle log) fact
 
 -- ---- facts are true
 
--- a slot that is in nobody's hands
+-- a slot that is in nobody's hands: neither in the pool nor private to any worker
 pub record IsShared (s : State) (slot : ℕ) : Type 0 where
   pub not_pooled : in_pool s.memory slot ≡ false
   pub not_private : (u : ℕ) → is_private (of s u) slot ≡ false
 
--- what a fact of worker w says of the state as it is
+-- what a fact of worker w says of the state as it is: the note is that epoch, the slot is shared,
+-- the node is a leaf, the edge has that mark and leads there, the birth or the key is that one
 abbrev pub IsTrueIn : State → ℕ → Fact → Type 0
 IsTrueIn s w (IsPinned epoch) = note s.memory w ≡ Some epoch
 IsTrueIn s w (KnowsSlot slot) = IsShared s slot

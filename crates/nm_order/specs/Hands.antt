@@ -17,7 +17,8 @@ WaitsAt k origin i e = slice_get (queue_of (held k.ledgers origin)) i ≡ Some e
 abbrev pub IsPooled : Layout → ℕ → Type 0
 IsPooled L x = (6 ≤ x) × (x ≤ L.nodes)
 
--- private slots and slots that wait are ones that are claimed; no slot is both, none waits twice, and each held ledger is a worker's
+-- private slots and slots that wait in a held queue are ones of 6 to nodes; no slot is both, none
+-- waits twice, and each held ledger is a worker's
 pub record AreApart (L : Layout) (k : Knowledge) : Type 0 where
   pub private : (x : ℕ) → is_private k x ≡ true → IsPooled L x
   pub waiting : (o i : ℕ) (e : Queued) → WaitsAt k o i e → IsPooled L e.node.slot

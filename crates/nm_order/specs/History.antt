@@ -20,7 +20,8 @@ use Rattle.nm_order.specs.Exchanges.{MayAnswer, HasInserted, HasFlagged}
 use Rattle.nm_order.specs.Removals.{HasDeleted}
 use Rattle.nm_order.specs.Legal.{Gives, changes}
 
--- a call with its answer, at a moment: the number of turns made until then. A call is named by its worker and the number of the turn that confirmed its pin
+-- a call with its answer, at a moment: the number of turns made until then. A call is named by its
+-- worker and the number of the turn that confirmed its pin (Herlihy and Wing)
 pub record Act : Type 0 where
   pub worker : ℕ
   pub pin : ℕ
@@ -31,7 +32,7 @@ pub record Act : Type 0 where
 
 -- ---- a plain set
 
--- what is in the set after a call that was answered so
+-- what is in the set after a call that was answered so (Herlihy and Wing, legal sequential history)
 abbrev pub changed : (ℕ → Type 0) → Op → ℕ → Bool → ℕ → Type 0
 changed in_set Has k answer j = in_set j
 changed in_set Insert k true j = in_set j ⊎ (j ≡ k)
@@ -39,16 +40,19 @@ changed in_set Insert k false j = in_set j
 changed in_set Delete k true j = in_set j × (j ≡ k → ⊥)
 changed in_set Delete k false j = in_set j
 
--- one plain set, which has these keys first and those at last, gives each call its answer, one after the other
+-- one plain set, which has these keys first and those at last, gives each call its answer, one
+-- after the other (Herlihy and Wing, legal sequential history)
 abbrev pub Replays : (ℕ → Type 0) → List Act → (ℕ → Type 0) → Type 0
 Replays first [] last = (k : ℕ) → IsKey k → first k ↔ last k
 Replays first (a ∷ acts) last = IsKey a.key × Gives first a.op a.key a.answer × Replays (changed first a.op a.key a.answer) acts last
 
+-- the empty set has no key
 abbrev pub nothing : ℕ → Type 0
 nothing k = ⊥
 
 -- ---- lists of acts
 
+-- the act is one of these
 abbrev pub IsAmong : List Act → Act → Type 0
 IsAmong [] a = ⊥
 IsAmong (b ∷ acts) a = (b ≡ a) ⊎ IsAmong acts a
@@ -63,6 +67,7 @@ abbrev pub InOrderOfMoments : ℕ → Bool → List Act → Type 0
 InOrderOfMoments m quiet [] = Unit {0}
 InOrderOfMoments m quiet (a ∷ acts) = ComesNext m quiet a × InOrderOfMoments a.moment (not (changes a.op a.answer)) acts
 
+-- both are of one call: of one worker, under one pin
 abbrev pub SameCall : Act → Act → Type 0
 SameCall a b = (a.worker ≡ b.worker) × (a.pin ≡ b.pin)
 
@@ -88,8 +93,9 @@ HasChanged L turns w Has k = ⊥
 HasChanged L turns w Insert k = HasInserted L turns w k
 HasChanged L turns w Delete k = HasDeleted L turns w k
 
--- an act of a run: a call with its answer, or one that has made its change and is not answered yet; and its moment is one of the call,
--- later than its pin and no later than its answer
+-- an act of a run: a call with its answer, or one that has made its change and is not answered yet;
+-- and its moment is one of the call, later than its pin and no later than its answer (Herlihy and
+-- Wing, completions of a history)
 pub data IsAct (L : Layout) (turns : List (ℕ × Event)) (a : Act) : Type 0 where
   IsAnswered : (before since : List (ℕ × Event)) → turns ≡ before ++ (a.worker, LeaveWith a.answer) ∷ since → MayAnswer (after_in (ordered L) before) a.worker a.op a.key a.answer
       → a.pin ≡ pin_of L before a.worker → a.pin < a.moment → a.moment ≤ length before → IsAct L turns a
@@ -134,9 +140,10 @@ pub record LeadsTo (acts : List Act) (moment : ℕ) (keys : ℕ → Type 0) : Ty
   pub beyond : (a : Act) → IsAmong later a → moment < a.moment
   pub replays : Replays nothing first keys
 
--- the history of a run: these acts are its answered calls and its unanswered calls that have made their change, each once, in the order
--- of their moments, and those of one cut in that cut's order; and one plain set, empty at first, gives each its answer,
--- and has at each moment, and at last, the keys of the tree then
+-- the history of a run: these acts are its answered calls and its unanswered calls that have made
+-- their change, each once, in the order of their moments, and those of one cut in that cut's order;
+-- and one plain set, empty at first, gives each its answer, and has at each moment, and at last,
+-- the keys of the tree then (Herlihy and Wing, section 3, linearizability)
 pub record IsHistory (L : Layout) (turns : List (ℕ × Event)) (acts : List Act) : Type 0 where
   pub replays : Replays nothing acts (InSet (after_in (ordered L) turns).state.memory)
   pub in_order : InOrderOfMoments 0 false acts
@@ -151,6 +158,6 @@ pub record IsHistory (L : Layout) (turns : List (ℕ × Event)) (acts : List Act
   pub answered : (before since : List (ℕ × Event)) (w : ℕ) (op : Op) (k : ℕ) (answer : Bool) → turns ≡ before ++ (w, LeaveWith answer) ∷ since → MayAnswer (after_in (ordered L) before) w op k answer → HasAct acts w (pin_of L before w) op k answer
   pub pending : (w : ℕ) (op : Op) (k : ℕ) → IsCalled (after_in (ordered L) turns) w op k → HasChanged L turns w op k → HasAct acts w (pin_of L turns w) op k true
 
--- each run has one
+-- the run has a history (Herlihy and Wing, section 3, linearizability)
 abbrev pub HasHistory : Layout → List (ℕ × Event) → Type 0
 HasHistory L turns = (acts : List Act) × IsHistory L turns acts

@@ -18,7 +18,8 @@ use Rattle.nm_model.specs.Searches.{Search, side_of}
 use Rattle.nm_model.specs.Ordered.{Configuration, ordered, after_in, next_in, outcome_in, search_of}
 pub use Rattle.nm_model.specs.Ordered.{HasKey}
 
--- a search for k goes that way from a slot: at each node to the side of k
+-- a search for k goes that way from a slot: at each node to the side of k (Natarajan and Mittal,
+-- section 3.1)
 abbrev pub GoesBy : (ℕ → Side → ℕ) → (ℕ → ℕ) → ℕ → ℕ → List Side → Type 0
 GoesBy children keys k s [] = Unit {0}
 GoesBy children keys k s (side ∷ sides) = (side_of k (keys s) ≡ side) × GoesBy children keys k (children s side) sides
@@ -26,13 +27,15 @@ GoesBy children keys k s (side ∷ sides) = (side_of k (keys s) ≡ side) × Goe
 abbrev pub key : Memory → ℕ → ℕ
 key m x = (node m x).key
 
--- the search for k from the root comes to the slot
+-- the interval of a slot: the keys, sentinels too, for which the search from the root comes to it
+-- (Natarajan and Mittal, section 4)
 pub record InInterval (m : Memory) (k x : ℕ) : Type 0 where
   pub path : List Side
   pub ends : at m path ≡ x
   pub goes : GoesBy (child m) (key m) k 1 path
 
--- in every ordered run, of what it leads to
+-- in every run of an ordered core of at least 5 nodes from its opening, with calls for keys of the
+-- set: of the configuration to which it leads
 abbrev pub OfEachOrdered : (Configuration → Type 0) → Type 0
 OfEachOrdered P = (L : Layout) → 5 ≤ L.nodes → (turns : List (ℕ × Event)) → All (λ t. HasKey t.1) turns → P (after_in (ordered L) turns)
 
@@ -88,7 +91,9 @@ abbrev pub LinksInsert : Configuration → Type 0
 LinksInsert c = (w p : ℕ) (side : Side) (leaf new : ℕ) (n : NodeId) → outcome_in c (w, Link p side leaf new) ≡ Ok (Linked n)
     → (k : ℕ) × IsCalled c w Insert k × Gains c.state.memory (next_in c (w, Link p side leaf new)).state.memory k
 
--- a flag was won on the edge to a reached leaf with key k, which was not marked, and names that leaf
+-- a flag was won on the edge from a reached parent to a reached leaf with key k; the edge was not
+-- marked, and the answer names that leaf with its birth (Natarajan and Mittal, section 3.2,
+-- injection)
 pub record Marks (m : Memory) (parent : ℕ) (side : Side) (leaf : ℕ) (flagged : NodeId) (k : ℕ) : Type 0 where
   pub parent_reached : Reached m parent
   pub unmarked : edge m parent side ≡ to leaf

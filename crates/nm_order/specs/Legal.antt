@@ -9,7 +9,8 @@ use Rattle.nm_order.specs.Intervals.{InSet, IsCalled}
 use Rattle.nm_order.specs.Moments.{PinStands}
 use Rattle.nm_order.specs.Exchanges.{MayAnswer}
 
--- what a plain set answers: `has` tells whether the key is in it, an insert is true where it was not, and a delete where it was
+-- what a plain set answers: `has` tells whether the key is in it, an insert is true where it was
+-- not, and a delete where it was (Herlihy and Wing, section 2, sequential specification)
 abbrev pub Gives : (ℕ → Type 0) → Op → ℕ → Bool → Type 0
 Gives in_set Has k true = in_set k
 Gives in_set Has k false = in_set k → ⊥
@@ -18,13 +19,15 @@ Gives in_set Insert k false = in_set k
 Gives in_set Delete k true = in_set k
 Gives in_set Delete k false = in_set k → ⊥
 
--- a true insert and a true delete change the set, and no other answer does
+-- a true insert and a true delete change the set, and no other answer does (Herlihy and Wing,
+-- section 2, sequential specification)
 abbrev pub changes : Op → Bool → Bool
 changes Has answer = false
 changes Insert answer = answer
 changes Delete answer = answer
 
--- at a moment under the pin that stands since, a plain set of the keys of the reached leaves gives the answer to the call
+-- at a moment under the pin that stands since, a plain set of the keys of the reached leaves gives
+-- the answer to the call (Herlihy and Wing)
 pub record WasLegal (L : Layout) (turns : List (ℕ × Event)) (w : ℕ) (op : Op) (k : ℕ) (answer : Bool) : Type 0 where
   pub before : List (ℕ × Event)
   pub since : List (ℕ × Event)

@@ -20,7 +20,8 @@ is_leaver w _ = false
 abbrev pub takes_part : ℕ → ℕ → Event → Bool
 takes_part w u e = (u == w) || is_leaver w e
 
--- worker w's part of these turns, in their order
+-- worker w's part of these turns, in their order: its own entries, and the join by which it
+-- resigns. (`log_of` has the own entries alone.)
 abbrev pub part_of : ℕ → List Turn → List Entry
 part_of w [] = []
 part_of w (t ∷ ts) = (if takes_part w t.worker t.event then logged_by t else []) ++ part_of w ts

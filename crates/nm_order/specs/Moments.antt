@@ -19,8 +19,9 @@ OfEachOrderedRun P = (L : Layout) → 5 ≤ L.nodes → (turns : List (ℕ × Ev
 abbrev pub PinStands : ℕ → List Turn → Type 0
 PinStands u turns = list_any begins_anew (log_of u turns) ≡ false
 
--- at a moment of the run, under a pin for the call that stands since, the slot was reached and the search for the key came to it;
--- and its node then is its node at the end: birth and key are the same, and it is a leaf where it was one
+-- at a moment of the run, under a pin for the call that stands since, the slot was reached and the
+-- search for the key came to it; and its node then is its node at the end: birth and key are the
+-- same, and it is a leaf where it was one (O'Hearn and others)
 pub record WasReached (c : Configuration) (turns : List (ℕ × Event)) (u : ℕ) (op : Op) (k x : ℕ) : Type 0 where
   pub before : List (ℕ × Event)
   pub since : List (ℕ × Event)

@@ -7,7 +7,8 @@ use Rattle.nm_model.specs.declared.reply.Reply.TheVariants.{Pinned, Departed}
 use Rattle.nm_model.specs.Runs.{of, start, after, trace}
 use Rattle.nm_model.specs.Walks.{Entry, log_of}
 
--- a sight, for a call or for none, that was answered `pinned` pins at that epoch, and a leave, with an answer or without, unpins
+-- a sight, for a call or for none, that was answered `pinned` pins at that epoch, and a leave, with
+-- an answer or without, unpins (Fraser, section 5, critical region)
 abbrev pub pinned_by : Option ℕ → Entry → Option ℕ
 pinned_by pin (Sight, Pinned e) = Some e
 pinned_by pin (SightFor op key, Pinned e) = Some e
@@ -15,7 +16,8 @@ pinned_by pin (Leave, Departed) = None
 pinned_by pin (LeaveWith answer, Departed) = None
 pinned_by pin _ = pin
 
--- the epoch at which a log leaves its worker pinned, if it does
+-- the epoch at which a log leaves its worker pinned, if it does (Fraser, section 5, critical
+-- region)
 abbrev pub pinned_after : Option ℕ → List Entry → Option ℕ
 pinned_after pin [] = pin
 pinned_after pin (entry ∷ entries) = pinned_after (pinned_by pin entry) entries

@@ -8,6 +8,8 @@ use Rattle.nm_model.specs.declared.reply.Reply.TheVariants.{Saw, Labelled, Pinne
 use Rattle.nm_model.specs.Walks.{Entry}
 use Rattle.nm_order.specs.Logs.{known_by, IsLogOf}
 
+-- `sight_epoch`, `left_by_advance`: the epoch that a sight answers, and the one that a move leaves
+-- or finds
 abbrev pub sight_epoch : Reply → Option ℕ
 sight_epoch (Saw e) = Some e
 sight_epoch (Labelled e) = Some e
@@ -39,5 +41,6 @@ pub record ReadLast (log : List Entry) (seen : Option ℕ) (epoch : ℕ) : Type 
   pub is_seen : seen ≡ Some last
   pub above : epoch ≤ last
 
+-- the epoch that a worker has read last is the greatest that it has read
 abbrev pub EpochsAreReadInOrder : Type 0
 EpochsAreReadInOrder = (L : Layout) → 5 ≤ L.nodes → (w : ℕ) (log : List Entry) → IsLogOf L w log → (epoch : ℕ) → HasRead log epoch → ReadLast log (known_by L w log).brief.seen epoch

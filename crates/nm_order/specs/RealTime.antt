@@ -7,14 +7,15 @@ use Rattle.nm_model.specs.Ordered.{ordered, after_in}
 use Rattle.nm_order.specs.Exchanges.{MayAnswer}
 use Rattle.nm_order.specs.History.{Act, IsAmong, SameCall, pin_of, IsHistory}
 
--- one act stands before another
+-- one act stands before another (Herlihy and Wing, section 2, real-time order)
 pub record Precedes (acts : List Act) (a b : Act) : Type 0 where
   pub front : List Act
   pub between : List Act
   pub back : List Act
   pub are : acts ≡ front ++ (a ∷ (between ++ b ∷ back))
 
--- the call of an act was answered by a turn whose number is below n
+-- the call of an act was answered by a turn whose number is below n (Herlihy and Wing, section 2,
+-- real-time order)
 pub record EndsBefore (L : Layout) (turns : List (ℕ × Event)) (a : Act) (n : ℕ) : Type 0 where
   pub before : List (ℕ × Event)
   pub since : List (ℕ × Event)
@@ -23,8 +24,9 @@ pub record EndsBefore (L : Layout) (turns : List (ℕ × Event)) (a : Act) (n : 
   pub is_pin : a.pin ≡ pin_of L before a.worker
   pub early : length before < n
 
--- calls that do not overlap stand in their order: one that was answered before the other's pin was confirmed comes first;
--- and so do the calls of each worker
+-- calls that do not overlap stand in their order: one that was answered before the other's pin was
+-- confirmed comes first; and so do the calls of each worker (Herlihy and Wing, section 2, real-time
+-- order)
 pub record KeepsRealTime (L : Layout) (turns : List (ℕ × Event)) (acts : List Act) : Type 0 where
   pub apart : (a b : Act) → IsAmong acts a → IsAmong acts b → EndsBefore L turns a b.pin → Precedes acts a b
   pub own : (a b : Act) → IsAmong acts a → IsAmong acts b → a.worker ≡ b.worker → a.pin < b.pin → Precedes acts a b

@@ -27,7 +27,8 @@ pub record Loses (before after : Memory) (ns : List NodeId) : Type 0 where
 abbrev pub CutsTakeTheirKeys : Configuration → Type 0
 CutsTakeTheirKeys c = (turn : ℕ × Event) (ns : List NodeId) → outcome_in c turn ≡ Ok (Cut ns) → Loses c.state.memory (next_in c turn).state.memory ns
 
--- under the pin that stands since, the worker's call to delete k had flagged its leaf, and somebody's splice cut that leaf
+-- under the pin that stands since, the worker's call to delete k had flagged its leaf, and
+-- somebody's splice cut that leaf (Natarajan and Mittal, section 3.2, cleanup, with helpers)
 pub record HasDeleted (L : Layout) (turns : List (ℕ × Event)) (w k : ℕ) : Type 0 where
   pub before : List (ℕ × Event)
   pub cut : ℕ × Event

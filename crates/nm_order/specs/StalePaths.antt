@@ -11,16 +11,18 @@ use Rattle.nm_model.specs.Ordered.{Configuration, ordered, after_in, trace_in}
 use Rattle.nm_order.specs.Intervals.{InInterval, key}
 use Rattle.nm_order.specs.Moments.{PinStands}
 
--- the worker is pinned, for a call or for none
+-- the worker is pinned, for a call or for none (Fraser, section 5, critical region)
 abbrev pub HasPin : Configuration → ℕ → Type 0
 HasPin c u = (epoch : ℕ) × ((of c.state u).brief.pin ≡ Some epoch)
 
--- the worker's log since its pin was confirmed, in an ordered run. Where it is not pinned this has no walks, since slot 2 is looked at under a pin alone
+-- the worker's log since its pin was confirmed, in an ordered run. Where it is not pinned this has
+-- no walks, since slot 2 is looked at under a pin alone (Fraser, section 5, critical region)
 abbrev pub log_under_pin : Layout → List (ℕ × Event) → ℕ → List Entry
 log_under_pin L turns u = since_pin [] (log_of u (trace_in (ordered L) turns))
 
--- at a moment of the run, under a pin that stands since, the slot was reached and the search for k came to it;
--- and its node then is its node at the end: birth and key are the same, and it is a leaf where it was one
+-- at a moment of the run, under a pin that stands since, the slot was reached and the search for k
+-- came to it; and its node then is its node at the end: birth and key are the same, and it is a
+-- leaf where it was one (O'Hearn and others)
 pub record WasReachedSince (c : Configuration) (turns : List (ℕ × Event)) (u k x : ℕ) : Type 0 where
   pub before : List (ℕ × Event)
   pub since : List (ℕ × Event)

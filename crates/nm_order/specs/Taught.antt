@@ -18,7 +18,7 @@ use Rattle.nm_order.specs.Told.{TellsEdge}
 
 -- ---- edges and nodes
 
--- the edge of slot x on a side was read
+-- the edge of slot x on a side was read: what that adds to the facts of a log
 pub record EdgeLearned (holds : Fact → Type 0) (x : ℕ) (side : Side) (e : Edge) : Type 0 where
   pub leads : e.slot ≢ 0 → holds (KnowsSlot e.slot)
   pub leaf : e.slot ≡ 0 → holds (KnowsLeaf x)
@@ -52,6 +52,7 @@ pub record PinLearned (holds : Fact → Type 0) (op : Op) (key epoch : ℕ) : Ty
   pub second : holds (KnowsSlot 2)
   pub call : holds (CallIs op key)
 
+-- each pin that is confirmed for a call tells that
 abbrev pub PinsAreLearned : Layout → ℕ → List Entry → Entry → Type 0
 PinsAreLearned L w log entry = (op : Op) (key epoch : ℕ) → entry ≡ (SightFor op key, Pinned epoch) → PinLearned (Holds L w (log ++ entry ∷ [])) op key epoch
 

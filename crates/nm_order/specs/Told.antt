@@ -18,11 +18,12 @@ use Rattle.nm_order.specs.Logs.{known_by, IsLogOf}
 use Rattle.nm_order.specs.Facts.{Fact, Holds}
 use Rattle.nm_order.specs.Facts.Fact.{KnowsSlot, IsTagged, IsFlagged, IsBorn}
 
--- of every log that ends with an entry
+-- of each part of an ordered run that ends with an entry
 abbrev pub OfEachEntry : (Layout → ℕ → List Entry → Entry → Type 0) → Type 0
 OfEachEntry P = (L : Layout) → 5 ≤ L.nodes → (w : ℕ) (log : List Entry) (entry : Entry) → IsLogOf L w (log ++ entry ∷ []) → P L w log entry
 
 -- an entry that tells an edge, as it was found: a look, an exchange that was lost, or a tag
+-- (Natarajan and Mittal, section 3.2)
 pub data TellsEdge : Entry → ℕ → Side → Edge → Type 0 where
   ByLook : (x : ℕ) (side : Side) (e : Edge) → TellsEdge (Look x (EdgeOn side), EdgeIs e) x side e
   ByLink : (x leaf new : ℕ) (side : Side) (e : Edge) → TellsEdge (Link x side leaf new, Lost e) x side e
@@ -68,13 +69,16 @@ pub record IsNew (L : Layout) (w : ℕ) (log : List Entry) (x : ℕ) : Type 0 wh
   pub not_known : knows (known_by L w log) x ≡ false
   pub not_queued : (origin i : ℕ) (e : Queued) → slice_get (queue_of (held (known_by L w log).ledgers origin)) i ≡ Some e → e.node.slot ≢ x
 
+-- a slot that is claimed is one of 6 to nodes, and new to the worker
 abbrev pub ClaimsAreNew : Layout → ℕ → List Entry → Entry → Type 0
 ClaimsAreNew L w log entry = (x y : ℕ) → entry ≡ (Claim x, Claimed y) → (y ≡ x) × (6 ≤ x) × (x ≤ L.nodes) × IsNew L w log x
 
 -- ---- answers that name nodes
 
--- the facts of a frozen chain from a slot down to p: each edge on the way is tagged, the one beside it is flagged, and of both nodes the birth is known;
--- p is left by the edge on keep. With the nodes so known: each slot and then its leaf, downwards
+-- the facts of a frozen chain from a slot down to p: each edge on the way is tagged, the one beside
+-- it is flagged, and of both nodes the birth is known; p is left by the edge on keep. With the
+-- nodes so known: each slot and then its leaf, downwards (Natarajan and Mittal, section 3.2,
+-- cleanup; for whole chains ours)
 pub data FrozenTo (holds : Fact → Type 0) (p : ℕ) (keep : Side) : ℕ → List NodeId → Type 0 where
   ends_there : {leaf birth leaf_birth to : ℕ} → holds (IsTagged p keep to) → holds (IsFlagged p (other keep) leaf) → holds (IsBorn p birth) → holds (IsBorn leaf leaf_birth)
       → FrozenTo holds p keep p (record { slot = p; birth = birth } ∷ record { slot = leaf; birth = leaf_birth } ∷ [])

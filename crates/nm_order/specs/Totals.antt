@@ -19,6 +19,7 @@ use Rattle.nm_order.specs.WalksToArrivals.{is_won_flag}
 abbrev pub call_of : Configuration → ℕ → Option Call
 call_of c w = (search_of (unwrap_or c.searches []) w).call
 
+-- a call for k
 abbrev pub is_for : ℕ → Option Call → Bool
 is_for k None = false
 is_for k (Some c) = c.key == k
@@ -37,7 +38,7 @@ unfoldable pub how_often : (Entry → Bool) → ℕ → Configuration → List (
 how_often is_such k c [] = 0
 how_often is_such k c (t ∷ ts) = once is_such k c t + how_often is_such k (next_in c t) ts
 
--- the links that calls for k won, and the flags
+-- `links_of`, `flags_of`: the links, and the flags, that calls for k won
 abbrev pub links_of : ℕ → Layout → List (ℕ × Event) → ℕ
 links_of k L turns = how_often is_won_link k (ordered L) turns
 

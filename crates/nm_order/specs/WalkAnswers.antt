@@ -13,7 +13,8 @@ use Rattle.nm_order.specs.Logs.{part_of, known_by}
 use Rattle.nm_order.specs.Moments.{PinStands}
 use Rattle.nm_order.specs.StalePaths.{HasPin, log_under_pin}
 
--- at a moment of the run, under a pin that stands since, a plain set of the keys of the reached leaves answers so whether k is in it
+-- at a moment of the run, under a pin that stands since, a plain set of the keys of the reached
+-- leaves answers so whether k is in it (O'Hearn and others)
 pub record WasSoUnderPin (L : Layout) (turns : List (ℕ × Event)) (w k : ℕ) (answer : Bool) : Type 0 where
   pub before : List (ℕ × Event)
   pub since : List (ℕ × Event)
@@ -22,11 +23,14 @@ pub record WasSoUnderPin (L : Layout) (turns : List (ℕ × Event)) (w k : ℕ) 
   pub stands : PinStands w (trace_in (after_in (ordered L) before) since)
   pub gives : Gives (InSet (after_in (ordered L) before).state.memory) Has k answer
 
--- a walk that has ended in a worker's log since its pin tells by the key of its leaf whether its own key was in the set then. The key may be any that is below the key of slot 2
+-- a walk that has ended in a worker's log since its pin tells by the key of its leaf whether its
+-- own key was in the set then. The key may be any that is below the key of slot 2 (O'Hearn and
+-- others)
 abbrev pub AnyWalkTells : Layout → List (ℕ × Event) → Type 0
 AnyWalkTells L turns = (u k slot parent : ℕ) (side : Side) (v : ℕ) → k < infinity_1 → WalkEnds k (log_under_pin L turns u) slot parent side v → WasSoUnderPin L turns u k (v == k)
 
--- at a moment of the run that is later than an earlier run, and at which the worker was pinned, a plain set of the keys of the reached leaves answers so whether k is in it
+-- at a moment of the run that is later than an earlier run, and at which the worker was pinned, a
+-- plain set of the keys of the reached leaves answers so whether k is in it (O'Hearn and others)
 pub record WasSoSince (L : Layout) (past turns : List (ℕ × Event)) (w k : ℕ) (answer : Bool) : Type 0 where
   pub before : List (ℕ × Event)
   pub since : List (ℕ × Event)
@@ -35,7 +39,8 @@ pub record WasSoSince (L : Layout) (past turns : List (ℕ × Event)) (w k : ℕ
   pub pinned : HasPin (after_in (ordered L) before) w
   pub gives : Gives (InSet (after_in (ordered L) before).state.memory) Has k answer
 
--- of a worker that was not pinned at the end of an earlier run: a walk that has ended in its log since its pin tells of a moment later than that run
+-- of a worker that was not pinned at the end of an earlier run: a walk that has ended in its log
+-- since its pin tells of a moment later than that run (O'Hearn and others)
 abbrev pub WalksTellOfTheirPin : Type 0
 WalksTellOfTheirPin = (L : Layout) → 5 ≤ L.nodes → (w : ℕ) → w < L.workers → (past more : List (ℕ × Event)) → All (λ t. HasKey t.1) (past ++ more)
     → (known_by L w (part_of w (trace_in (ordered L) past))).brief.pin ≡ None → (log : List Entry) → part_of w (trace_in (ordered L) (past ++ more)) ≡ log

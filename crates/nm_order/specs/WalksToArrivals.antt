@@ -14,6 +14,7 @@ use Rattle.nm_order.specs.Intervals.{HasKey}
 
 -- ---- the part of a log behind its flag
 
+-- an entry that is a won flag
 abbrev pub is_won_flag : Entry → Bool
 is_won_flag (Flag p side leaf, Flagged n) = true
 is_won_flag _ = false
@@ -34,15 +35,18 @@ pub record HasArrival (arrivals : List Arrival) (slot parent : ℕ) (side : Side
   pub on_side : arrival.side ≡ side
   pub holds : P arrival
 
--- a walk came to a slot by an edge exactly where there is an arrival by that edge
+-- a walk came to a slot by an edge exactly where there is an arrival by that edge (Natarajan and
+-- Mittal, section 3.2, seek)
 abbrev pub ComingsAreArrivals : ℕ → List Entry → List Arrival → Type 0
 ComingsAreArrivals k log arrivals = (slot parent : ℕ) (side : Side) → WalkComes k log slot parent side ↔ HasArrival arrivals slot parent side (λ a. Unit {0})
 
--- and looked at the slot's key exactly where the arrival has that key
+-- and looked at the slot's key exactly where the arrival has that key (Natarajan and Mittal,
+-- section 3.2, seek)
 abbrev pub ReadingsAreArrivals : ℕ → List Entry → List Arrival → Type 0
 ReadingsAreArrivals k log arrivals = (slot parent : ℕ) (side : Side) (key : ℕ) → WalkReads k log slot parent side key ↔ HasArrival arrivals slot parent side (λ a. a.key ≡ Some key)
 
--- and ended there exactly where the arrival with that key has ended
+-- and ended there exactly where the arrival with that key has ended (Natarajan and Mittal, section
+-- 3.2, seek)
 abbrev pub EndsAreArrivals : ℕ → List Entry → List Arrival → Type 0
 EndsAreArrivals k log arrivals = (slot parent : ℕ) (side : Side) (key : ℕ) → WalkEnds k log slot parent side key ↔ HasArrival arrivals slot parent side (λ a. (a.key ≡ Some key) × (a.ended ≡ true))
 

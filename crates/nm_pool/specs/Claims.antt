@@ -25,6 +25,7 @@ pub record MadeNew (n : NodeId) (old new : List Entry) : Type 0 where
   pub raised : n.birth ≡ birth + 1
   pub entries : new ≡ old ++ (Claim n.slot, Claimed n.slot) ∷ (Look n.slot Birth, BirthIs birth) ∷ (Fill n.slot Birth (birth + 1), Filled) ∷ []
 
+-- the slot was found taken, or worn and given back
 abbrev pub PassedOver : Doing
 PassedOver s old new = FoundTaken s old new ⊎ FoundWorn s old new
 
@@ -36,7 +37,8 @@ pub record Claims (nodes : ℕ) (old new : List Entry) (n : NodeId) : Type 0 whe
   pub passed : DoneBelow PassedOver 6 n.slot old before
   pub made : MadeNew n before new
 
--- what a claim leaves in the log, by its answer
+-- what a claim leaves in the log, by its answer: at each lesser slot that it was found taken, or
+-- worn and given back, and then the claim of the slot that is answered, with its birth raised
 abbrev pub IsClaim : ℕ → List Entry → List Entry → Option NodeId → Type 0
 IsClaim nodes old new (Some n) = Claims nodes old new n
 IsClaim nodes old new None = DoneBelow PassedOver 6 (nodes + 1) old new
@@ -55,6 +57,7 @@ pub record ClaimsBetween (from to : ℕ) (old new : List Entry) (n : NodeId) : T
   pub passed : DoneBelow PassedOver from n.slot old before
   pub made : MadeNew n before new
 
+-- a claim of a slot from one on and below another, by its answer
 abbrev pub IsClaimBetween : ℕ → ℕ → List Entry → List Entry → Option NodeId → Type 0
 IsClaimBetween from to old new (Some n) = ClaimsBetween from to old new n
 IsClaimBetween from to old new None = DoneBelow PassedOver from to old new
@@ -92,12 +95,15 @@ pub record PassesAll (nodes : ℕ) (old new : List Entry) : Type 0 where
   pub all : (s : ℕ) → 6 ≤ s → s ≤ nodes → IsAmong s slots
   pub passed : DoneAt (PassedWithin nodes) slots old new
 
--- what a near claim leaves in the log, by its answer
+-- what a near claim leaves in the log, by its answer: slots above 5 were passed over, in any order,
+-- and then that of one slot was claimed, with its birth raised; or each slot above 5 was passed
+-- over (next fit: Knuth, The Art of Computer Programming, volume 1, section 2.5)
 abbrev pub IsNearClaim : ℕ → List Entry → List Entry → Option NodeId → Type 0
 IsNearClaim nodes old new (Some n) = ClaimsPast nodes nodes old new n
 IsNearClaim nodes old new None = PassesAll nodes old new
 
--- what a claim by a placement does
+-- what a claim by a placement leaves: of the lowest fit as `IsClaim`, of the near one as
+-- `IsNearClaim` says (next fit: Knuth, The Art of Computer Programming, volume 1, section 2.5)
 abbrev pub IsClaimBy : Fit → ℕ → List Entry → List Entry → Option NodeId → Type 0
 IsClaimBy fit.Lowest nodes old new r = IsClaim nodes old new r
 IsClaimBy fit.Near nodes old new r = IsNearClaim nodes old new r
@@ -113,11 +119,13 @@ IsClaimOfFew limit nodes old new None = (slots : List ℕ) × (length slots ≤ 
 abbrev pub IsMadeAt : ℕ → List Entry → List Entry → NodeId → Type 0
 IsMadeAt s old new n = (n.slot ≡ s) × MadeNew n old new
 
+-- one slot was tried, by what it came to
 abbrev pub IsTried : ℕ → List Entry → List Entry → Tried → Type 0
 IsTried s old new tried.Taken = FoundTaken s old new
 IsTried s old new tried.Worn = FoundWorn s old new
 IsTried s old new (tried.Got n) = IsMadeAt s old new n
 
+-- of the node, where one was got
 abbrev pub IfGot : Tried → (NodeId → Type 0) → Type 0
 IfGot (tried.Got n) P = P n
 IfGot _ P = Unit {0}

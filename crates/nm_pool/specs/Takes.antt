@@ -6,7 +6,8 @@ use Rattle.nm_model.specs.Maps.{get}
 use Rattle.nm_model.specs.Knowledge.{Knowledge, is_private, unfilled}
 use Rattle.nm_model.specs.Walks.{Entry}
 
--- nothing but private slots was learned, and each slot that was private is so still, with what was stored there
+-- nothing but private slots was learned: epochs, scans, known nodes and ledgers are as they were,
+-- and each slot that was private is so still, with what was stored there
 pub record LearnsSlots (before after : Knowledge) : Type 0 where
   pub brief : after.brief ≡ before.brief
   pub scanned : after.scanned ≡ before.scanned
@@ -44,7 +45,8 @@ pub record Takes (from nodes : ℕ) (old new : List Entry) (s : ℕ) : Type 0 wh
   pub taken : DoneBelow FoundTaken from s old before
   pub claimed : new ≡ before ++ (Claim s, Claimed s) ∷ []
 
--- what a call that takes a slot leaves in the log, by its answer
+-- what a call that takes a slot leaves in the log, by its answer: at each lesser slot that it was
+-- found taken, and then the claim of the slot that is answered
 abbrev pub IsTake : ℕ → ℕ → List Entry → List Entry → Option ℕ → Type 0
 IsTake from nodes old new (Some s) = Takes from nodes old new s
 IsTake from nodes old new None = DoneBelow FoundTaken from (nodes + 1) old new

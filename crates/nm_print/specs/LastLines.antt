@@ -49,6 +49,7 @@ abbrev pub workers_lines : State → ℕ → List ℕ
 workers_lines s zero = []
 workers_lines s (suc n) = workers_lines s n ++ ledger_lines n (ledger_of s n)
 
+-- how the epoch is spelled
 abbrev pub epoch_line : ℕ → List ℕ
 epoch_line e = codes "epoch " ++ decimal e ++ codes "\n"
 

@@ -36,6 +36,7 @@ abbrev pub spaced_nodes : List NodeId → List ℕ
 spaced_nodes [] = []
 spaced_nodes (n ∷ ns) = (codes " " ++ node n) ++ spaced_nodes ns
 
+-- how a reply is spelled
 abbrev pub reply : Reply → List ℕ
 reply (Saw e) = codes "saw " ++ decimal e
 reply (Labelled e) = codes "label " ++ decimal e

@@ -6,7 +6,7 @@ use Rattle.nm_model.specs.Runs.{State}
 use Rattle.nm_model.specs.Ordered.{HasKey, ordered, after_in}
 use Rattle.nm_words.specs.Packing.{words_of}
 
--- an ordered run that ends with these words
+-- an ordered run of calls for keys of the set that ends with these words
 pub record IsEndOf (L : Layout) (words : List ℕ) : Type 0 where
   pub fits : IsLayout L
   pub turns : List (ℕ × Event)

@@ -57,6 +57,7 @@ has arguments = do
   k ← one_key arguments
   Ok (call.Has k)
 
+-- `insert`, `delete`: the call of that kind, by the fields behind its worker and its word
 unfoldable pub insert : List (List ℕ) → Result Call Reason
 insert arguments = do
   k ← one_key arguments

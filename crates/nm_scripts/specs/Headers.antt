@@ -28,7 +28,7 @@ limits_by command version =
     else if bytes_eq version (codes "2") then Ok (record { nodes = 1048576; workers = 64; may_resign = is_serial command })
     else Err reason.Header
 
--- what a version of the command's format allows
+-- what a version of the command's format allows: the sizes, and whether its workers may resign
 abbrev pub limits_of : Command → List ℕ → List ℕ → Result Limits Reason
 limits_of command given version = if bytes_eq given (word command) then limits_by command version else Err reason.Header
 

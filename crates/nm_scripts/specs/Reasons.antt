@@ -61,6 +61,7 @@ has_key asked fs = true
 abbrev pub fails_of : HeaderOf → (Asked → List (List ℕ) → Bool) → List (List ℕ) → Bool
 fails_of header test fs = fails_at (λ kind. test (asked_of kind) (drop 2 fs)) (kind_of header.may_resign (kind_field fs))
 
+-- `holds_of`, `header_holds_of`: the reason holds of a line, and of the first line
 abbrev pub holds_of : HeaderOf → Bool → List (List ℕ) → Reason → Bool
 holds_of header long fs Long = long
 holds_of header long fs Form = not (list_all is_field fs) || nat_lt (length fs) 2

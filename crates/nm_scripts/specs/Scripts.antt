@@ -41,6 +41,7 @@ line_of header line = if list_all is_field (fields line) then entry_of header (f
 abbrev pub first_line_of : Command → List ℕ → Result Header Reason
 first_line_of command line = header_of command (fields line)
 
+-- a header, and the calls of workers
 abbrev pub Script : Type 0
 Script = File Header (ℕ × Call)
 

@@ -10,6 +10,7 @@ use Rattle.nm_tree.specs.Resigning.{HasResigned}
 use Rattle.nm_tree.specs.Workers.{Hand}
 use Rattle.nm_serial.specs.Makes.{HasMade}
 
+-- the workers of a script that one thread plays, at their places, are of that tree
 abbrev pub AreOf : Board → List (Option Hand) → Type 0
 AreOf b crew = All (λ o. IfSome o (λ w. IsOf b w.pass)) crew
 

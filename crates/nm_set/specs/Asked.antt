@@ -33,6 +33,9 @@ use Rattle.nm_set.specs.declared.fault.NotHeld.{NotHeld}
 abbrev pub HasBound : ℕ → ℕ → Hand → Hand → Type 0
 HasBound nodes tries w z = length z.pass.view.log ≤ length w.pass.view.log + tries * (4 * nodes + 8 * chain_bound) + 6 * nodes + 10
 
+-- `LeavesHas`, `LeavesInsert`, `LeavesDelete`, `LeavesFinish`, `LeavesPin`, `LeavesUnpin`,
+-- `LeavesAdvance`, `LeavesBehind`, `LeavesCollect`: what a call of the tree leaves of its worker:
+-- all clauses of the tree's call of that name
 pub record LeavesHas (nodes tries k : ℕ) (w z : Hand) (r : Result Bool Lost) : Type 0 where
   pub same : IsSamePass w.pass z.pass
   pub past : HasSeenAllOf z.pass w.pass
@@ -147,6 +150,7 @@ Asked leaves w z (Ok b) = (w.held ≡ None) × leaves w z (Ok b)
 Asked leaves w z (Err (fault.Call f)) = (w.held ≡ None) × leaves w z (Err f)
 Asked leaves w z (Err fault.Held) = IsSome w.held × (z ≡ w)
 
+-- `AskedToPin`, `AskedToUnpin`: the same of a pin and of an unpin; only a held worker is unpinned
 abbrev pub AskedToPin : ℕ → Hand → Hand → Result ℕ PinFault → Type 0
 AskedToPin tries w z (Ok e) = (w.held ≡ None) × LeavesPin tries w z (Ok e)
 AskedToPin tries w z (Err (pinning.Call f)) = (w.held ≡ None) × LeavesPin tries w z (Err f)

@@ -24,7 +24,7 @@ pub record LeavesHasMany (nodes tries : ℕ) (old new : List Query) (w z : Hand)
   pub fit : z.fit ≡ w.fit
   pub between : IsBetweenCalls z
 
--- a worker that its caller holds is not asked, and nothing has changed
+-- a worker that its caller holds is not asked, and nothing has changed; else that is left
 abbrev pub AskedMany : ℕ → ℕ → List Query → List Query → Hand → Hand → Result (Unit {0}) Fault → Type 0
 AskedMany nodes tries old new w z (Ok u) = (w.held ≡ None) × LeavesHasMany nodes tries old new w z (Ok u)
 AskedMany nodes tries old new w z (Err (fault.Call f)) = (w.held ≡ None) × LeavesHasMany nodes tries old new w z (Err f)

@@ -23,7 +23,7 @@ pub record LeavesNext (nodes tries key : ℕ) (w z : Hand) (r : Result (Option �
   pub fit : z.fit ≡ w.fit
   pub between : IsBetweenCalls z
 
--- a worker that its caller holds is not asked, and nothing has changed
+-- a worker that its caller holds is not asked, and nothing has changed; else that is left
 abbrev pub AskedNext : ℕ → ℕ → ℕ → Hand → Hand → Result (Option ℕ) Fault → Type 0
 AskedNext nodes tries key w z (Ok found) = (w.held ≡ None) × LeavesNext nodes tries key w z (Ok found)
 AskedNext nodes tries key w z (Err (fault.Call f)) = (w.held ≡ None) × LeavesNext nodes tries key w z (Err f)

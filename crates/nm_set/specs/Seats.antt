@@ -37,14 +37,14 @@ abbrev pub AreOwn : Board → List Hand → Type 0
 AreOwn b [] = Unit {0}
 AreOwn b (w ∷ ws) = IsOwn b w × AreOwn b ws
 
--- the worker of that number, of that tree, which claims by that fit
+-- the worker of that number, of that tree, which has not resigned and claims by that fit
 pub record IsResident (b : Board) (f : Fit) (i : ℕ) (w : Hand) : Type 0 where
   pub own : IsOf b w.pass
   pub alive : w.pass.view.spent ≡ false
   pub number : w.pass.view.number ≡ i
   pub fit : w.fit ≡ f
 
--- a worker of that tree, of whatever number, which claims by that fit
+-- a worker of that tree, of whatever number, which has not resigned and claims by that fit
 pub record IsAnyResident (b : Board) (f : Fit) (w : Hand) : Type 0 where
   pub own : IsOf b w.pass
   pub alive : w.pass.view.spent ≡ false
@@ -73,7 +73,8 @@ told_staying tree.Pending = because.Pending
 abbrev pub IsResidentThatStays : Seated → ℕ → Reason → Type 0
 IsResidentThatStays m i why = (i < m.board.layout.workers) × (w : Hand) × IsResident m.board m.hand.fit i w × IsReason w why
 
--- why the worker of that number has not resigned to a member
+-- why the worker of that number has not resigned to a member: the tree has none of that number, or
+-- it is not at home; or it is one of the tree's, and held, or has a pending key
 abbrev pub IsStaying : Seated → ℕ → ResignReason → Type 0
 IsStaying m i because.Number = m.board.layout.workers ≤ i
 IsStaying m i because.Away = i < m.board.layout.workers

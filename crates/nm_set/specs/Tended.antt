@@ -25,13 +25,14 @@ use Rattle.nm_set.specs.Asked.{Asked, LeavesHas, LeavesInsert, LeavesDelete, Lea
 abbrev pub OnlyLoses : ℕ → HeldQueue → HeldQueue → Type 0
 OnlyLoses o h g = (h.origin ≡ o) ⊎ ((n : ℕ) × (g.queue.items ≡ drop n h.queue.items))
 
--- the same origins, and so each queue
+-- the same origins, and so each queue of another origin than that
 abbrev pub OthersOnlyLose : ℕ → List HeldQueue → List HeldQueue → Type 0
 OthersOnlyLose o [] [] = Unit {0}
 OthersOnlyLose o (h ∷ hs) (g ∷ gs) = (g.origin ≡ h.origin) × OnlyLoses o h g × OthersOnlyLose o hs gs
 OthersOnlyLose o _ _ = ⊥
 
--- the worker has gone on, in so many steps at most
+-- the worker has gone on, in so many steps at most: the same pass, which has seen more, not held,
+-- between two calls
 pub record GoesOn (most : ℕ) (w z : Hand) : Type 0 where
   pub same : IsSamePass w.pass z.pass
   pub past : HasSeenAllOf z.pass w.pass
@@ -57,10 +58,12 @@ pub record IsAsked {R : Type 0} (leaves : Hand → Hand → R → Type 0) (lost 
   pub few : before ≤ rounds
   pub all : r ≡ lost → before ≡ rounds
 
+-- a call that lost each of its tries
 abbrev pub busy : Result Bool Fault
 busy = Err (fault.Call call.Busy)
 
--- look-ups, inserts and deletes, while they lose each of their tries
+-- `Looks`, `Inserts`, `Deletes`: look-ups, inserts and deletes that are made again while they lose
+-- each of their tries
 abbrev pub Looks : Board → Habit → ℕ → Hand → Hand → Result Bool Fault → Type 0
 Looks b h k w z r = IsAsked (Asked (LeavesHas b.layout.nodes h.tries k)) busy h.rounds w z r
 
@@ -113,6 +116,8 @@ abbrev pub FinishesThen : Board → Habit → (Hand → Type 0) → Hand → Han
 FinishesThen b h rest w z r = (Finishes b h w z (Err call.Unfinished) × (r ≡ Err (fault.Call call.Pending)))
     ⊎ ((answer : Bool) × (x : Hand) × Finishes b h w x (Ok answer) × rest x)
 
+-- `Contains`, `Adds`, `Removes`: first the delete of an earlier call is finished, and then each of
+-- the three calls is made
 abbrev pub Contains : Board → Habit → ℕ → Hand → Hand → Result Bool Fault → Type 0
 Contains b h k w z r = FinishesThen b h (λ x. Looks b h k x z r) w z r
 
@@ -130,7 +135,7 @@ IsLeft k w z (Err (fault.Call call.Unfinished)) = (leaf : NodeId) × (z.pending 
 IsLeft k w z (Err (fault.Call call.Pending)) = IsSome w.pending × (z.pending ≡ w.pending)
 IsLeft k w z _ = z.pending ≡ None
 
--- the links and the flags that it has won, by what it tells
+-- `links_told`, `flags_told`: the links and the flags that it has won, by what it tells
 abbrev pub links_told : Op → Result Bool Fault → ℕ
 links_told Insert (Ok true) = 1
 links_told _ _ = 0
@@ -157,10 +162,12 @@ pub record HasTended (does : Hand → Hand → Result Bool Fault → Type 0) (b 
   pub did : does w z r
   pub tends : Tends b h op k w z r
 
--- a worker that its caller holds is not asked, and nothing has changed
+-- a worker that its caller holds is not asked, and nothing has changed; else that
 abbrev pub UnlessHeld : Type 0 → Hand → Hand → Result Bool Fault → Type 0
 UnlessHeld did w z r = (IsSome w.held × (r ≡ Err fault.Held) × (z ≡ w)) ⊎ ((w.held ≡ None) × did)
 
+-- `TendsHas`, `TendsInsert`, `TendsDelete`: so each of the three calls; a worker that its caller
+-- holds is not asked
 abbrev pub TendsHas : Board → Habit → ℕ → Hand → Hand → Result Bool Fault → Type 0
 TendsHas b h k w z r = UnlessHeld (HasTended (Contains b h k) b h Has k w z r) w z r
 

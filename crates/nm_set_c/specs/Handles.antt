@@ -17,6 +17,7 @@ hold None zero = Closed
 hold (Some x) zero = Open x
 hold x (suc n) = InUse x
 
+-- so what a handle is
 unfoldable pub held_by : Handle → Hold
 held_by h = hold h.place.held h.in_use
 

@@ -19,9 +19,11 @@ abbrev pub bit_of : Bool → ℕ
 bit_of true = 1
 bit_of false = 0
 
+-- a query with its answer, as it is written
 abbrev pub lookup_of : Query → Lookup
 lookup_of q = record { key = q.key; found = bit_of q.found }
 
+-- each of the numbers is a key
 abbrev pub AreKeys : List Lookup → Type 0
 AreKeys ls = All (λ l. IsKey l.key) ls
 
@@ -29,6 +31,7 @@ AreKeys ls = All (λ l. IsKey l.key) ls
 abbrev pub IsUnasked : List Lookup → Outcome → Type 0
 IsUnasked ls o = (o ≡ outcome.NoMemory) ⊎ ((o ≡ outcome.Key) × (AreKeys ls → ⊥))
 
+-- the outcome of what such a call answers
 abbrev pub of_many : Result (Unit {0}) Fault → Outcome
 of_many (Ok u) = outcome.Done
 of_many (Err f) = of_fault f
@@ -45,5 +48,6 @@ pub record LooksUp (tries : ℕ) (old new : List Lookup) (m n : Seated) (o : Out
   pub written : IfOk answer (λ u. new ≡ map lookup_of answered)
   pub kept : IfErr answer (λ f. new ≡ old)
 
+-- the one or the other
 abbrev pub DoesHasMany : ℕ → List Lookup → List Lookup → Seated → Seated → Outcome → Type 0
 DoesHasMany tries old new m n o = (IsUnasked old o × (n ≡ m) × (new ≡ old)) ⊎ LooksUp tries old new m n o

@@ -8,6 +8,7 @@ use Rattle.nm_set_c.specs.Outcomes.{of_fault}
 use Rattle.nm_set_c.specs.declared.outcome.Outcome.{Outcome}
 use Rattle.nm_set_c.specs.declared.outcome.Outcome.TheVariants as outcome
 
+-- what a call for the next key tells, by its answer
 abbrev pub of_next : Result (Option ℕ) Fault → Outcome
 of_next (Ok (Some found)) = outcome.Yes
 of_next (Ok None) = outcome.No

@@ -15,6 +15,7 @@ AreWritten None old_links links old_flags flags = (links ≡ old_links) × (flag
 
 -- ---- a note that is left
 
+-- `of_post`, `of_read`: the outcome of what such a call answers
 abbrev pub of_post : Option Posted → Outcome
 of_post (Some p) = outcome.Done
 of_post None = outcome.Busy
@@ -24,6 +25,7 @@ abbrev pub IsTally : Option Posted → Seated → Type 0
 IsTally (Some p) m = HasTally p m.hand.pass.view.log
 IsTally None m = Unit {0}
 
+-- `DoesPost`, `DoesRead`: a note is left, or heard, and its numbers are written
 pub record DoesPost (old_links links old_flags flags : ℕ) (m n : Seated) (o : Outcome) : Type 0 where
   pub left : Option Posted
   pub told : o ≡ of_post left
@@ -39,6 +41,7 @@ of_read (Ok None) = outcome.No
 of_read (Err posting.Number) = outcome.Number
 of_read (Err posting.Busy) = outcome.Busy
 
+-- what was heard, if something was
 abbrev pub heard_by : Result (Option Posted) PostFault → Option Posted
 heard_by (Ok heard) = heard
 heard_by (Err why) = None

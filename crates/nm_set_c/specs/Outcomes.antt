@@ -49,6 +49,8 @@ Tells P n = (o : Outcome) × (n ≡ code_of o) × P o
 
 -- ---- what the calls of a set and its workers answer, as outcomes
 
+-- `of_bool`, `of_lost`, `of_fault`, `of_answer`, `of_finish`, `of_new`, `of_taking`, `of_staying`,
+-- `of_reason`: the outcome of what a call of `nm_set` answers
 abbrev pub of_bool : Bool → Outcome
 of_bool true = outcome.Yes
 of_bool false = outcome.No

@@ -30,5 +30,6 @@ OwnsReport does same (Set s) new o = IsKind same (Set s) new o
 OwnsReport does same (Worker m) new o = IsKind same (Worker m) new o
 OwnsReport does same Nothing new o = IsKind same Nothing new o
 
+-- of the handle of a report, in the same way
 unfoldable pub OfReport : (Report → Report → Outcome → Type 0) → Type 0 → Hold → Hold → Outcome → Type 0
 OfReport does same old new o = (IsRefused old new o × same) ⊎ ((x : Owner) × (old ≡ Open x) × OwnsReport does same x new o)

@@ -25,6 +25,7 @@ abbrev pub IsFound : Option ℕ → ℕ → ℕ → Outcome → Type 0
 IsFound None old new o = (o ≡ outcome.Number) × (new ≡ old)
 IsFound (Some k) old new o = (o ≡ outcome.Done) × (new ≡ k)
 
+-- `TellsKey`, `TellsQueue`: what a report says at an index is written, and it is as it was
 pub record TellsKey (index old key : ℕ) (r q : Report) (o : Outcome) : Type 0 where
   pub found : IsFound (slice_get r.keys.items index) old key o
   pub same : q ≡ r
@@ -61,5 +62,6 @@ IsTakenOut (Some h) worker old new r q o =
     ((o ≡ outcome.No) × (h.queue.items ≡ []) × (new ≡ old) × HasQueue worker h r q)
     ⊎ ((o ≡ outcome.Yes) × (e : Entry) × (g : HeldQueue) × (h.queue.items ≡ e ∷ g.queue.items) × (g.origin ≡ h.origin) × IsEntry new e × HasQueue worker g r q)
 
+-- the oldest node of a queue is written and taken out; of the report nothing else changes
 abbrev pub TakesOldest : ℕ → Waiting → Waiting → Report → Report → Outcome → Type 0
 TakesOldest worker old new r q o = IsTakenOut (slice_get r.queues.items worker) worker old new r q o

@@ -19,6 +19,7 @@ use Rattle.nm_set_c.specs.declared.owner.Owner.TheVariants.{Set, Worker, Ended, 
 
 -- ---- a new set
 
+-- `HasNodes`, `HasWorkers`: the sizes that a set may have: 7 to 268,435,456 nodes, 1 to 64 workers
 abbrev pub HasNodes : ℕ → Type 0
 HasNodes nodes = (7 ≤ nodes) × (nodes ≤ 268435456)
 
@@ -40,7 +41,7 @@ IsMade f nodes workers new o =
     ⊎ (((o ≡ outcome.Nodes) × (HasNodes nodes → ⊥) × (new ≡ Closed))
     ⊎ ((o ≡ outcome.Workers) × HasNodes nodes × (HasWorkers workers → ⊥) × (new ≡ Closed))))
 
--- a handle that is open already, or in use, is as it was
+-- a closed handle owns a new set; one that is open already, or in use, is as it was
 abbrev pub MakesSet : Fit → ℕ → ℕ → Hold → Hold → Outcome → Type 0
 MakesSet f nodes workers old new o = CannotOpen old new o ⊎ ((old ≡ Closed) × IsMade f nodes workers new o)
 
@@ -70,9 +71,12 @@ Takes gives set old new o =
 abbrev pub IsNumbered : ℕ → Standing → Hand → Type 0
 IsNumbered number s w = IsResident s.board s.fit number w
 
+-- `NumberFaults`, `AnyFaults`: that the number is none of the tree's is told exactly of an open set
+-- where it is none; and not told where any worker is asked for
 abbrev pub NumberFaults : ℕ → Standing → MemberFault → Type 0
 NumberFaults number s why = (why ≡ taking.Number) ↔ ((s.closing ≡ false) × (s.board.layout.workers ≤ number))
 
+-- a closed handle owns the worker of that number
 abbrev pub TakesWorker : ℕ → Hold → Hold → Hold → Outcome → Type 0
 TakesWorker number set old new o = Takes (Gives (IsNumbered number) (NumberFaults number)) set old new o
 
@@ -83,11 +87,13 @@ IsAny s w = IsAnyResident s.board s.fit w
 abbrev pub AnyFaults : Standing → MemberFault → Type 0
 AnyFaults s why = why ≡ taking.Number → ⊥
 
+-- a closed handle owns a worker, of any number
 abbrev pub Attaches : Hold → Hold → Hold → Outcome → Type 0
 Attaches set old new o = Takes (Gives IsAny AnyFaults) set old new o
 
 -- ---- a worker that is missed
 
+-- the outcome of what `Set::is_away` answers
 abbrev pub of_missing : Result Bool MemberFault → Outcome
 of_missing (Ok away) = of_bool away
 of_missing (Err why) = of_taking why
@@ -99,6 +105,7 @@ MissesOwned number (Worker m) o = o ≡ outcome.Kind
 MissesOwned number (Ended r) o = o ≡ outcome.Kind
 MissesOwned number Nothing o = o ≡ outcome.Kind
 
+-- so by the handle of the set
 abbrev pub Misses : ℕ → Hold → Outcome → Type 0
 Misses number set o = IsRefused set set o ⊎ ((x : Owner) × (set ≡ Open x) × MissesOwned number x o)
 
@@ -110,6 +117,8 @@ IsEnded s new o =
     ((o ≡ outcome.Done) × (r : Report) × (new ≡ Ended r) × EndsSet s r)
     ⊎ ((why : CloseReason) × (o ≡ of_reason why) × (t : Standing) × (new ≡ Set t) × IsLeftOpen s why t)
 
+-- `EndsOwner`, `EndsHandle`: a set's handle owns its report, by what it owned and by the handle;
+-- anything else is refused
 abbrev pub EndsOwner : Owner → Owner → Outcome → Type 0
 EndsOwner (Set s) new o = IsEnded s new o
 EndsOwner (Worker m) new o = (o ≡ outcome.Kind) × (new ≡ Worker m)
@@ -128,6 +137,8 @@ IsEndedBy m new o =
     ⊎ ((((o ≡ outcome.Away) ⊎ (o ≡ outcome.NoMemory)) × (new ≡ Worker m))
     ⊎ ((why : Reason) × (o ≡ of_reason (told_reason why)) × (t : Standing) × (new ≡ Set t) × HasGathered (set_of m) why t))
 
+-- `EndsByOwner`, `EndsByHandle`: the handle of a set's last worker owns what stands there then, by
+-- what it owned and by the handle; anything else is refused
 abbrev pub EndsByOwner : Owner → Owner → Outcome → Type 0
 EndsByOwner (Worker m) new o = IsEndedBy m new o
 EndsByOwner (Set s) new o = (o ≡ outcome.Kind) × (new ≡ Set s)

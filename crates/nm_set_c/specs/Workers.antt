@@ -36,6 +36,9 @@ pub record Answers (leaves : Hand → Hand → Result Bool Lost → Type 0) (m n
 abbrev pub OfKey : ℕ → Type 0 → Seated → Seated → Outcome → Type 0
 OfKey k did m n o = (IsKey k × did) ⊎ ((IsKey k → ⊥) × (o ≡ outcome.Key) × (n ≡ m))
 
+-- `DoesHas`, `DoesInsert`, `DoesDelete`, `DoesFinish`, `DoesPin`, `DoesUnpin`, `DoesAdvance`,
+-- `DoesBehind`, `DoesCollect`: a call of a worker: its outcome, what it writes, and all clauses of
+-- the member's call
 abbrev pub DoesHas : ℕ → ℕ → Seated → Seated → Outcome → Type 0
 DoesHas tries k m n o = OfKey k (Answers (LeavesHas m.board.layout.nodes tries k) m n o) m n o
 
@@ -53,13 +56,14 @@ pub record DoesFinish (tries : ℕ) (m n : Seated) (o : Outcome) : Type 0 where
 
 -- ---- keys, by calls that tend the set
 
--- the member's call answers, and what it answers is told
+-- the member's call that tends the set answers, and what it answers is told
 pub record AnswersTending (does : Hand → Hand → Result Bool Fault → Type 0) (m n : Seated) (o : Outcome) : Type 0 where
   pub answer : Result Bool Fault
   pub told : o ≡ of_answer answer
   pub board : n.board ≡ m.board
   pub did : does m.hand n.hand answer
 
+-- `DoesContains`, `DoesAdd`, `DoesRemove`: the same of the member's calls that tend the set
 abbrev pub DoesContains : Habit → ℕ → Seated → Seated → Outcome → Type 0
 DoesContains h k m n o = OfKey k (AnswersTending (TendsHas m.board h k) m n o) m n o
 
@@ -71,6 +75,7 @@ DoesRemove h k m n o = OfKey k (AnswersTending (TendsDelete m.board h k) m n o) 
 
 -- ---- epochs
 
+-- `of_pin`, `of_unpin`, `of_advance`: the outcome of what such a call answers
 abbrev pub of_pin : Result ℕ PinFault → Outcome
 of_pin (Ok e) = outcome.Done
 of_pin (Err pinning.Held) = outcome.Held
@@ -107,6 +112,8 @@ of_advance (advance.Held w e) = outcome.Behind
 of_advance (advance.Lost e) = outcome.Lost
 of_advance advance.Spent = outcome.Spent
 
+-- `advance_epoch`, `advance_worker`: the epoch and the worker that a move of the epoch writes, or
+-- what stood there
 abbrev pub advance_epoch : Advance → ℕ → ℕ
 advance_epoch (advance.Moved e) old = e
 advance_epoch (advance.Held w e) old = e
@@ -150,6 +157,7 @@ abbrev pub IsOptionTold : Option ℕ → ℕ → ℕ → Outcome → Type 0
 IsOptionTold None old new o = (o ≡ outcome.No) × (new ≡ old)
 IsOptionTold (Some k) old new o = (o ≡ outcome.Yes) × (new ≡ k)
 
+-- `TellsOption`, `TellsLedger`: what a worker tells of itself is written, and it is as it was
 pub record TellsOption (value : Option ℕ) (old new : ℕ) (m n : Seated) (o : Outcome) : Type 0 where
   pub told : IsOptionTold value old new o
   pub same : n ≡ m

@@ -5,11 +5,12 @@ use Rattle.nm_model.specs.declared.memory.Node.{Node}
 use Rattle.nm_model.specs.Memory.{Memory, node, blank, put_node, opening}
 use Rattle.nm_words.specs.Packing.{Fits, words_of}
 
--- nothing was written yet: every slot is blank, and none is in the pool
+-- a memory of zeros: nothing was written yet, every slot is blank, and none is in the pool
+-- (Natarajan and Mittal, section 3.1)
 abbrev pub untouched : Layout → Memory
 untouched L = record { epoch = 0; notes = replicate L.workers None; nodes = replicate (L.nodes + 1) blank; pool = replicate (L.nodes + 1) false }
 
--- the fixed nodes stand, and no slot is in the pool
+-- the fixed nodes stand, and no slot is in the pool (Natarajan and Mittal, section 3.1)
 abbrev pub planted : Layout → Memory
 planted L = record (opening L) { pool = replicate (L.nodes + 1) false }
 

@@ -27,7 +27,7 @@ held w log = record { number = w; log = log }
 abbrev pub holdings : View → List Held
 holdings v = cond v.spent [] (held v.number v.log ∷ v.others)
 
--- what a view's own worker knows
+-- what a view's own worker knows, by its log
 abbrev pub knowledge : View → Knowledge
 knowledge v = known_by v.layout v.number v.log
 
@@ -47,6 +47,7 @@ abbrev pub LogsAre : Layout → Layout → List Turn → List Held → Type 0
 LogsAre l L t [] = Unit {0}
 LogsAre l L t (h ∷ hs) = (l ≡ L) × (h.log ≡ part_of h.number t) × LogsAre l L t hs
 
+-- the logs of a view are its workers' parts of the turns
 abbrev pub IsShown : Layout → List Turn → View → Type 0
 IsShown L t v = LogsAre v.layout L t (holdings v)
 
@@ -60,8 +61,9 @@ pub record LagsBehind (turns : List (ℕ × Event)) (v : View) : Type 0 where
   pub past : Extends turns v.past
   pub heard : Extends turns v.heard
 
--- some ordered run ends with these words, each worker's part of it is its log, that log stands in the view of one seat,
--- and what each view has seen is a beginning of it
+-- some ordered run of calls for keys of the set ends with these words; the log of each worker is
+-- its part of that run and stands in the view of one seat, and whoever stands for itself has not
+-- resigned; and what each view has seen is a beginning of the run
 pub record Runs (L : Layout) (words : List ℕ) (views : List View) : Type 0 where
   pub fits : IsLayout L
   pub turns : List (ℕ × Event)
@@ -84,6 +86,8 @@ abbrev pub viewing : Layout → List Held → View
 viewing L [] = record { layout = L; spent = true; number = 0; log = []; others = []; past = []; heard = [] }
 viewing L (h ∷ hs) = record { layout = L; spent = false; number = h.number; log = h.log; others = hs; past = []; heard = [] }
 
+-- `everybody`, `own_alone`, `the_others`: a view that stands for all; for its own worker alone; for
+-- those that joined it alone
 abbrev pub everybody : Layout → View
 everybody L = viewing L (numbers_from 0 L.workers)
 
@@ -93,6 +97,7 @@ own_alone v = record v { others = [] }
 abbrev pub the_others : View → View
 the_others v = viewing v.layout v.others
 
+-- a view that stands for no one
 abbrev pub nobody : View
 nobody = viewing (dense 0 0) []
 
@@ -100,7 +105,7 @@ nobody = viewing (dense 0 0) []
 abbrev pub passing : View → Entry
 passing w = (Join w.number, Joined (knowledge w).ledgers)
 
--- the first stands for both, and the join is in both logs
+-- the first view stands for both, with the other's logs beside its own, and the join is in both
 abbrev pub joined : View → View → View
 joined v w = record v { log = v.log ++ passing w ∷ []; others = v.others ++ held w.number (w.log ++ passing w ∷ []) ∷ w.others }
 
@@ -130,7 +135,8 @@ is_store (LeaveWith answer) = true
 is_store (Fill s f v) = true
 is_store _ = false
 
--- in some run with that log the event finds the word n
+-- in some run with that log, in which the worker has not resigned, the event finds the word n (of a
+-- store nothing is said of the word)
 pub record IsFound (L : Layout) (w : ℕ) (log : List Entry) (e : Event) (n : ℕ) : Type 0 where
   pub fits : IsLayout L
   pub worker : w < L.workers
@@ -145,5 +151,6 @@ pub record IsFound (L : Layout) (w : ℕ) (log : List Entry) (e : Event) (n : �
 abbrev pub Did : Event → Step Unit → Me Unit View → ℕ → Me Unit View → Type 0
 Did e s me n after = (f : IsFound me.0.layout me.0.number me.0.log e n) × (after ≡ (logged me.0 e n f.turns, me.1)) × Extends f.turns me.0.past
 
+-- the rule that the table keeps between any two steps
 abbrev pub Kept : Layout → State Unit View → Type 0
 Kept L s = Runs L s.words s.views

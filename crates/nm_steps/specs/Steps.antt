@@ -43,7 +43,9 @@ abbrev pub IsAsLooked : Knowledge → Memory → Event → Type 0
 IsAsLooked k m (Fill s Birth v) = (b : ℕ) → (draft_of k s).looked ≡ Some b → (node m s).birth ≡ b
 IsAsLooked k m _ = Unit {0}
 
--- the own log alone shows that no core refuses the event, and tells the births that its reply names
+-- the own log alone shows that an event is refused by no ordered core, whatever the memory, as long
+-- as the birth that was looked at is so; the births that its reply names are known, and one that it
+-- raises was looked at
 pub record May (L : Layout) (w : ℕ) (log : List Entry) (e : Event) : Type 0 where
   pub looked : HasLooked (known_by L w log) e
   pub allowed : (m : Memory) → IsAsLooked (known_by L w log) m e → refusal L m (known_by L w log) w e ≡ None
@@ -58,10 +60,12 @@ pub record HasEmptyHands (k : Knowledge) : Type 0 where
 
 -- ---- what clauses see of a table and of a pass
 
+-- what clauses see of a tree's words: which table they lie in, and the layout
 pub record Board : Type 0 where
   pub table : TableId
   pub layout : Layout
 
+-- what clauses see of a pass: its table, its seat there, and what that seat knows
 pub record Stand : Type 0 where
   pub table : TableId
   pub seat : ℕ
@@ -125,7 +129,8 @@ pub record IsOfRun (L : Layout) (w : ℕ) (log : List Entry) : Type 0 where
   pub is_part : IsLogOf L w log
   pub here : (known_by L w log).gone ≡ false
 
--- the pass's log is its worker's part of a run, in a layout that there is, and the worker has not resigned
+-- the pass's log is its worker's part of a run, in a layout that there is, and the worker has not
+-- resigned: what each step leaves
 pub record IsInRun (p : Stand) : Type 0 where
   pub fits : IsLayout p.view.layout
   pub run : IsOfRun p.view.layout p.view.number p.view.log
@@ -180,10 +185,11 @@ pub record Notice : Type 0 where
   pub table : TableId
   pub past : List (ℕ × Event)
 
+-- a note tells what a pass had seen
 abbrev pub IsNoteOf : Stand → Notice → Type 0
 IsNoteOf p note = note ≡ record { table = p.table; past = p.view.past }
 
--- a pass has seen more, and done nothing
+-- a pass that hears a note has seen more, and has done nothing
 abbrev pub HasHeard : Stand → Stand → Type 0
 HasHeard p q = q ≡ record p { view = record p.view { past = q.view.past } }
 
@@ -203,6 +209,8 @@ IsSamePass p q = q ≡ record p { view = record p.view { log = q.view.log; past 
 
 -- ---- replies, by what the step functions answer
 
+-- `sight_reply`, `scan_reply`, `advance_reply`, `claim_reply`, `splice_reply`: the reply of an
+-- event, by what its step function answers
 abbrev pub sight_reply : Sighted → Reply
 sight_reply (seeing.Saw e) = Saw e
 sight_reply (seeing.Labelled e) = Labelled e
@@ -255,6 +263,7 @@ noted_sight b (Pinned e) = record b { seen = Some e; pin = Some e }
 noted_sight b (Missed e) = record b { seen = Some e }
 noted_sight b _ = b
 
+-- the brief behind an event with its reply
 abbrev pub noted : Brief → Event → Reply → Brief
 noted b Sight r = noted_sight b r
 noted b (SightFor op key) r = noted_sight b r

@@ -14,7 +14,8 @@ use Rattle.nm_theorem.specs.Histories.{HasHistory}
 abbrev pub OfEachRun : (Layout → List Turn → Type 0) → Type 0
 OfEachRun P = (L : Layout) → IsLayout L → (is_ordered : Bool) (events : List (ℕ × Event)) → All (λ t. HasKey t.1) events → P L (trace_in (opening_of L is_ordered) events)
 
--- Where a node that was freed was cut by one of these turns, each worker that was pinned at the cut has left since.
+-- Where a node that was freed was cut by one of these turns, each worker that was pinned at the cut
+-- has left since (Fraser, section 5.2.3)
 abbrev pub ReadersHaveLeft : List Turn → NodeId → Type 0
 ReadersHaveLeft turns n = (before since : List Turn) (cut : Turn) → turns ≡ before ++ cut ∷ since → Contains (nodes_cut_of cut.outcome) n → (w : ℕ) → IsPinned w before → HasLeft w since
 

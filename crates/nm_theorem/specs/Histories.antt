@@ -34,6 +34,8 @@ abbrev pub call_after : ℕ → ℕ → Option Called → List Turn → Option C
 call_after w n so_far [] = so_far
 call_after w n so_far (t ∷ ts) = call_after w (n + 1) (if t.worker == w then call_by n so_far t.event t.outcome else so_far) ts
 
+-- the call of a worker's pin, by its turns: begun by a sight for it that was answered `pinned`,
+-- with the number of that turn
 abbrev pub call_of : ℕ → List Turn → Option Called
 call_of w turns = call_after w 0 None turns
 
@@ -41,7 +43,8 @@ call_of w turns = call_after w 0 None turns
 abbrev pub called_in : Act → Called
 called_in a = record { pin = a.pin; op = a.op; key = a.key }
 
--- an act is a call that a leave answered with its answer, or one that is not answered yet; its moment, a number of turns, is one of the call
+-- an act is a call that a leave answered with its answer, or one that is not answered yet; its
+-- moment, a number of turns, is one of the call (Herlihy and Wing)
 pub data IsAct (turns : List Turn) (a : Act) : Type 0 where
   IsAnswered : (before since : List Turn) → turns ≡ before ++ record { worker = a.worker; event = LeaveWith a.answer; outcome = Ok Departed } ∷ since
       → call_of a.worker before ≡ Some (called_in a) → a.pin < a.moment → a.moment ≤ length before → IsAct turns a
@@ -59,8 +62,9 @@ IsInCall turns op a = (call_of a.worker turns ≡ Some (called_in a)) × (a.op �
 abbrev pub HasFlagged : List Turn → ℕ → List NodeId → Type 0
 HasFlagged turns w ns = (p : ℕ) × (side : Side) × (s : ℕ) × (n : NodeId) × Contains turns (record { worker = w; event = Flag p side s; outcome = Ok (Flagged n) }) × Contains ns n
 
--- the acts are the answered calls and some of those that are not answered yet, each once, in the order of moments that lie within the calls; and one
--- plain set, empty at first, gives each its answer, and has at each moment the keys of the leaves that are reached then
+-- the acts are the answered calls and some of those that are not answered yet, each once, in the
+-- order of moments that lie within the calls; and one plain set, empty at first, gives each its
+-- answer, and has at each moment the keys of the leaves that are reached then (Herlihy and Wing)
 pub record IsHistory (L : Layout) (turns : List Turn) (acts : List Act) : Type 0 where
   pub replays : Replays nothing acts (InSet (words_after L turns))
   pub moments : (so_far rest : List Turn) → turns ≡ so_far ++ rest → Replays nothing (filter (λ (a : Act). nat_le a.moment (length so_far)) acts) (InSet (words_after L so_far))
@@ -75,5 +79,6 @@ pub record IsHistory (L : Layout) (turns : List Turn) (acts : List Act) : Type 0
   pub cuts : (before since : List Turn) (t : Turn) (ns : List NodeId) → turns ≡ before ++ t ∷ since → t.outcome ≡ Ok (Cut ns)
       → HasInARow acts (leaf_keys (words_after L before) (slots_of ns)) (length before + 1) (λ a. IsInCall before Delete a × HasFlagged before a.worker ns)
 
+-- the turns have a history
 abbrev pub HasHistory : Layout → List Turn → Type 0
 HasHistory L turns = (acts : List Act) × IsHistory L turns acts

@@ -28,14 +28,14 @@ IsRefused w z = IsSome w.pending × (z ≡ w)
 abbrev pub IsFree : Hand → Hand → Type 0
 IsFree w z = (w.pending ≡ None) × (z.pending ≡ None)
 
--- a look-up
+-- what a look-up leaves of its worker, by its answer (Natarajan and Mittal, section 3.2)
 abbrev pub HasAnswered : ℕ → ℕ → ℕ → Hand → Hand → Result Bool Fault → Type 0
 HasAnswered nodes tries k w z (Ok b) = IsFree w z × HasDid nodes tries k w.pass.view.log z.pass.view.log b
 HasAnswered nodes tries k w z (Err fault.Busy) = IsFree w z × HasMissed nodes tries k w.pass.view.log z.pass.view.log
 HasAnswered nodes tries k w z (Err fault.Pending) = IsRefused w z
 HasAnswered nodes tries k w z (Err _) = ⊥
 
--- an insert
+-- an insert, in the same way (Natarajan and Mittal, section 3.2)
 abbrev pub HasInserted : ℕ → ℕ → ℕ → Hand → Hand → Result Bool Fault → Type 0
 HasInserted nodes tries k w z (Ok b) = IsFree w z × InsertDid w.fit nodes tries k w.pass.view.log z.pass.view.log (Ok b)
 HasInserted nodes tries k w z (Err fault.Busy) = IsFree w z × InsertDid w.fit nodes tries k w.pass.view.log z.pass.view.log (Err lost.Busy)
@@ -44,7 +44,7 @@ HasInserted nodes tries k w z (Err fault.NoMemory) = IsFree w z × InsertDid w.f
 HasInserted nodes tries k w z (Err fault.Pending) = IsRefused w z
 HasInserted nodes tries k w z (Err fault.Unfinished) = ⊥
 
--- a delete
+-- a delete (Natarajan and Mittal, section 3.2)
 abbrev pub HasDeleted : ℕ → ℕ → ℕ → Hand → Hand → Result Bool Fault → Type 0
 HasDeleted nodes tries k w z (Ok b) = IsFree w z × DeleteDid nodes tries k w.pass.view.log z.pass.view.log (Ok b)
 HasDeleted nodes tries k w z (Err fault.Busy) = IsFree w z × DeleteDid nodes tries k w.pass.view.log z.pass.view.log (Err missed.Busy)
@@ -54,7 +54,7 @@ HasDeleted nodes tries k w z (Err fault.Unfinished) = (w.pending ≡ None) × (l
 HasDeleted nodes tries k w z (Err fault.Pending) = IsRefused w z
 HasDeleted nodes tries k w z (Err fault.Full) = ⊥
 
--- what is left to do of a delete
+-- what is left to do of a delete (Natarajan and Mittal, section 3.2)
 abbrev pub HasFinished : ℕ → ℕ → Hand → Hand → Result Bool Fault → Type 0
 HasFinished nodes tries w z (Ok false) = (w.pending ≡ None) × (z ≡ w)
 HasFinished nodes tries w z (Ok true) = (n : Unfinished) × (w.pending ≡ Some n) × (z.pending ≡ None) × FinishDid nodes n.key n.leaf tries w.pass.view.log z.pass.view.log true
@@ -63,6 +63,7 @@ HasFinished nodes tries w z (Err _) = ⊥
 
 -- ---- what a call has won, by its answer: for an insert a link where it is true
 
+-- the links that a call of a tree has won, by its answer: one for a true insert
 abbrev pub links_won : Result Bool Fault → ℕ
 links_won (Ok answer) = links_of_insert (Ok answer)
 links_won (Err fault) = 0
@@ -94,13 +95,14 @@ DeleteLacks nodes tries k w z _ = Unit {0}
 abbrev pub FinishLacks : ℕ → ℕ → Hand → Hand → Fault → Type 0
 FinishLacks nodes tries w z _ = LacksRoom z ⊎ ((n : Unfinished) × (w.pending ≡ Some n) × LosesEachTry nodes n.key n.leaf tries w.pass.view.log z.pass.view.log)
 
--- the delete that was pending is answered, and it is one behind all that the worker had seen whenever it had no call, as before the call that began
--- the delete: its leaf was cut at a moment of it
+-- the delete that was pending is answered, and it is one behind all that the worker had seen
+-- whenever it had no call, as before the call that began the delete: its leaf was cut at a moment
+-- of it (Herlihy and Wing)
 abbrev pub FinishHasMoment : Hand → Hand → Result Bool Fault → Type 0
 FinishHasMoment w z (Ok true) = (n : Unfinished) × (w.pending ≡ Some n) × ((o : Stand) → HadNoCall o w.pass → AnswerHasMoment o z.pass Delete n.key true)
 FinishHasMoment w z _ = Unit {0}
 
--- a pin for the caller
+-- a pin for the caller (Fraser, section 5)
 abbrev pub HasPinned : ℕ → Hand → Hand → Result ℕ PinFault → Type 0
 HasPinned tries w z (Ok epoch) = IsFree w z × (z.held ≡ Some epoch) × PinsSo Sight tries w.pass.view.log z.pass.view.log epoch
 HasPinned tries w z (Err (pinning.Moved epoch)) = IsFree w z × (z.held ≡ None) × ((epochs z.pass).seen ≡ Some epoch) × IsMoved Sight tries w.pass.view.log z.pass.view.log

@@ -66,6 +66,7 @@ pub data EndPlace : Type 0 where
   OnPath : List Side → EndPlace
   Waiting : ℕ → ℕ → EndPlace
 
+-- the slot stands at that place
 abbrev pub EndsAt : Memory → List HeldQueue → ℕ → EndPlace → Type 0
 EndsAt m hs x Free = in_pool m x ≡ true
 EndsAt m hs x (OnPath path) = at m path ≡ x

@@ -5,6 +5,6 @@ use Rattle.nm_tree.specs.declared.fault.Fault.{Fault}
 use Rattle.nm_tree.specs.Looked.{HasLooked}
 use Rattle.nm_tree.specs.Workers.{Hand}
 
--- n keys
+-- what a look-up of n keys leaves of its worker, by its answer (Natarajan and Mittal, section 3.2)
 abbrev pub HasAnsweredMany : ℕ → ℕ → ℕ → Hand → Hand → Result (Unit {0}) Fault → Type 0
 HasAnsweredMany nodes tries n = HasLooked tries (most_looks nodes n)

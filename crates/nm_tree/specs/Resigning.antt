@@ -28,8 +28,10 @@ abbrev pub merged_accounts : List HeldQueue → List Account → List HeldQueue 
 merged_accounts hs xs (g ∷ gs) (y ∷ ys) = insert (merged_accounts hs xs gs ys) (place_in g.origin (merged hs gs)) y
 merged_accounts hs xs _ _ = xs
 
--- the leaver was in the midst of nothing; one step, by which the heir's pass stands for both, and has seen all that both had seen; and the heir holds
--- the queues of both, by ascending origin, each as it was. What was pending or held of the heir is so still
+-- the leaver was in the midst of nothing; one step, by which the heir's pass stands for both, and
+-- has seen all that both had seen; and the heir holds the queues of both, by ascending origin, each
+-- as it was. What was pending or held of the heir is so still (Fraser, section 5.2.3, lists of
+-- nodes that are passed on; by origin ours)
 pub record HasResigned (heir leaver z : Hand) : Type 0 where
   pub free : (leaver.held ≡ None) × (leaver.pending ≡ None)
   pub joined : HasJoined heir.pass leaver.pass z.pass
@@ -40,7 +42,8 @@ pub record HasResigned (heir leaver z : Hand) : Type 0 where
   pub fit : z.fit ≡ heir.fit
   pub between : IsBetweenCalls z
 
--- why a worker may not resign
+-- why a worker may not resign (Fraser, section 5.2.3, lists of nodes that are passed on; by origin
+-- ours)
 abbrev pub IsReason : Hand → ResignReason → Type 0
 IsReason leaver because.Held = IsSome leaver.held
 IsReason leaver because.Pending = (leaver.held ≡ None) × IsSome leaver.pending

@@ -30,6 +30,7 @@ EachMomentIsOfTurns = (L : Layout) (s : State Unit View) → Kept L s → IsOfTu
 
 -- ---- what a worker has seen
 
+-- what a worker has seen, as turns
 abbrev pub turns_seen : View → List Turn
 turns_seen v = trace_in (ordered v.layout) v.past
 
@@ -40,6 +41,7 @@ pub record HasSeenTurns (v : View) : Type 0 where
   pub plain_set : HasHistory v.layout (turns_seen v)
 
 -- a node was freed by one of them, and each worker that was pinned where it was cut has left since
+-- (Fraser, section 5.2.3)
 pub record IsFreedInGrace (v : View) (n : NodeId) : Type 0 where
   pub freed : Contains (freed_by (turns_seen v)) n
   pub left : ReadersHaveLeft (turns_seen v) n

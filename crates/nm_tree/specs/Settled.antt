@@ -17,6 +17,7 @@ pub record HasNothingPending (w : Hand) : Type 0 where
   pub pending : w.pending ≡ None
   pub others : TellNoFlag w.pass.view.others
 
+-- no delete is pending of any of these workers, nor of those that resigned to them
 abbrev pub HaveNothingPending : List Hand → Type 0
 HaveNothingPending [] = Unit {0}
 HaveNothingPending (w ∷ ws) = HasNothingPending w × HaveNothingPending ws

@@ -33,6 +33,8 @@ pub record Hand : Type 0 where
   pub held : Option ℕ
   pub fit : Fit
 
+-- `pending_in`, `held_in`: the delete that is pending, and the epoch at which the caller holds the
+-- worker
 abbrev pub pending_in : Standing → Option Unfinished
 pending_in (standing.Pending n) = Some n
 pending_in _ = None
@@ -67,6 +69,7 @@ abbrev pub AreAbove : ℕ → List HeldQueue → Type 0
 AreAbove o [] = Unit {0}
 AreAbove o (h ∷ hs) = (o < h.origin) × AreAbove h.origin hs
 
+-- the origins of these queues ascend
 abbrev pub Ascend : List HeldQueue → Type 0
 Ascend [] = Unit {0}
 Ascend (h ∷ hs) = AreAbove h.origin hs
@@ -116,7 +119,9 @@ log_of v o = log_among o (is_held v.number v.log ∷ v.others)
 abbrev pub ledger_in : View → ℕ → Ledger
 ledger_in v o = unwrap_or (held (knowledge v).ledgers o) fresh_ledger
 
--- an account of a queue: what its origin's worker has won by its log, and what was freed and what waits by its ledger
+-- an account of a queue: how many links, flags and splices its origin's worker has won by its log,
+-- and how many nodes were freed by its ledger and how many wait; what was retired is what was freed
+-- and what waits
 pub record IsAccount (v : View) (h : HeldQueue) (a : Account) : Type 0 where
   pub origin : a.origin ≡ h.origin
   pub links : a.links ≡ capped (won_links (log_of v h.origin))
@@ -127,6 +132,7 @@ pub record IsAccount (v : View) (h : HeldQueue) (a : Account) : Type 0 where
   pub few : length h.queue.items ≤ v.layout.nodes
   pub split : length (ledger_in v h.origin).retired ≡ length (ledger_in v h.origin).freed + length h.queue.items
 
+-- these are the accounts of these queues
 abbrev pub AreAccounts : View → List HeldQueue → List Account → Type 0
 AreAccounts v [] [] = Unit {0}
 AreAccounts v (h ∷ hs) (a ∷ xs) = IsAccount v h a × AreAccounts v hs xs
@@ -141,7 +147,8 @@ account_in (a ∷ xs) o = if a.origin == o then Some a else account_in xs o
 abbrev pub counts_in : Account → Counts
 counts_in a = record { links = a.links; flags = a.flags; splices = a.splices; retired = capped (a.freed + a.waiting); freed = a.freed; queued = a.waiting }
 
--- what was won by the worker of an origin, by its log, and what became of the nodes that it cut off, by their ledger
+-- the same as numbers that a caller reads, 2^64 - 1 where they are greater: what was won by the
+-- worker of an origin, by its log, and what became of the nodes that it cut off, by their ledger
 pub record IsLedger (v : View) (o : ℕ) (c : Counts) : Type 0 where
   pub links : c.links ≡ capped (won_links (log_of v o))
   pub flags : c.flags ≡ capped (won_flags (log_of v o))
@@ -160,6 +167,7 @@ ArePaired _ _ = ⊥
 abbrev pub noted_for : HeldQueue → Account → Account
 noted_for h a = record a { freed = capped (a.freed + (a.waiting - length h.queue.items)); waiting = length h.queue.items }
 
+-- each account has noted what its queue has lost
 abbrev pub HaveNoted : List HeldQueue → List Account → List Account → Type 0
 HaveNoted [] [] [] = Unit {0}
 HaveNoted (h ∷ hs) (a ∷ xs) (b ∷ ys) = (b ≡ noted_for h a) × HaveNoted hs xs ys
@@ -214,7 +222,7 @@ pub record IsWorker (w : Hand) (xs : List Account) (home r s : ℕ) : Type 0 whe
   pub room : w.pass.view.layout.workers ≤ r
   pub account_room : w.pass.view.layout.workers ≤ s
 
--- workers k and on, which have done nothing yet
+-- workers k and on, in the order of their numbers, which have done nothing yet
 abbrev pub AreNew : Board → ℕ → List Hand → Type 0
 AreNew b k [] = Unit {0}
 AreNew b k (w ∷ ws) = (w.pass.table ≡ b.table) × (w.pass.view ≡ fresh_view b.layout k) × (w.pending ≡ None) × (w.held ≡ None)
@@ -224,6 +232,7 @@ AreNew b k (w ∷ ws) = (w.pass.table ≡ b.table) × (w.pass.view ≡ fresh_vie
 abbrev pub IsFresh : Stand → Type 0
 IsFresh p = (k : ℕ) × (p.view ≡ fresh_view p.view.layout k)
 
+-- each of these passes has done nothing
 abbrev pub AreAllFresh : List Stand → Type 0
 AreAllFresh [] = Unit {0}
 AreAllFresh (p ∷ ps) = IsFresh p × AreAllFresh ps

@@ -42,12 +42,13 @@ number_of (b ∷ bs) = number_of bs * 2 + (if b then 1 else 0)
 abbrev pub row_word : Memory → ℕ → ℕ
 row_word m r = number_of (take 64 (drop (64 * r + 1) m.pool))
 
--- all words: the epoch; the notes, each with its gap of zeros behind it, and zeros before the first where there are gaps; the nodes from slot 1 on; and
--- the rows of the pool
+-- all words of a memory in one list: the epoch; the notes, 0 of an idle worker, else its epoch and
+-- 1, each with its gap of zeros behind it, and zeros before the first where there are gaps; of each
+-- slot from 1 on its key, its two edges and its birth; and the pool in rows of 64 slots
 abbrev pub words_of : Layout → Memory → List ℕ
 words_of L m = m.epoch ∷ ((replicate (L.gap - 2) 0 ++ flat_map (λ o. note_word o ∷ replicate L.gap 0) m.notes) ++ (flat_map node_words (drop 1 m.nodes) ++ map (row_word m) (range_with_len 0 (rows L))))
 
--- the word of one field
+-- the word of one field, by the memory
 abbrev pub field_word : Memory → Field → ℕ
 field_word m at_epoch = m.epoch
 field_word m (at_note w) = note_word (note m w)
@@ -58,6 +59,7 @@ field_word m (at_row r) = row_word m r
 
 -- ---- reading: laws
 
+-- and in the list, at the number that the layout gives the field
 abbrev pub word_at : Layout → Memory → Field → ℕ
 word_at L m f = slice_index (words_of L m) (word L f)
 
@@ -65,9 +67,11 @@ word_at L m f = slice_index (words_of L m) (word L f)
 abbrev pub pool_word_at : Layout → Memory → ℕ → ℕ
 pool_word_at L m s = slice_index (words_of L m) (pool_place L s).word
 
+-- the list of a memory has as many words as the layout says
 abbrev pub EachFieldHasAWord : Type 0
 EachFieldHasAWord = (L : Layout) (m : Memory) → Fits L m → length (words_of L m) ≡ words L
 
+-- the word in the list at the number of a field is the word of that field
 abbrev pub EachWordIsItsField : Type 0
 EachWordIsItsField = (L : Layout) (m : Memory) (f : Field) → Fits L m → IsField L f → word_at L m f ≡ field_word m f
 
@@ -81,6 +85,7 @@ abbrev pub SpareBitsAreZero : Type 0
 SpareBitsAreZero = (L : Layout) (m : Memory) (r i : ℕ) → Fits L m → r < rows L → i < 64 → L.nodes ≤ 64 * r + i
     → bit_and (word_at L m (at_row r)) (2 ^ i) ≡ 0
 
+-- the memory of a state fits its layout
 abbrev pub StateFits : State → Type 0
 StateFits s = Fits s.layout s.memory
 
@@ -98,6 +103,8 @@ with_word L m f n = slice_set (words_of L m) (word L f) n
 abbrev pub with_pool_word : Layout → Memory → ℕ → ℕ → List ℕ
 with_pool_word L m s n = slice_set (words_of L m) (pool_place L s).word n
 
+-- `EpochIsOneWord`, `NoteIsOneWord`, `KeyIsOneWord`, `EdgeIsOneWord`, `BirthIsOneWord`: a memory
+-- with another epoch, note, key, edge or birth has that one word changed, and no other
 abbrev pub EpochIsOneWord : Type 0
 EpochIsOneWord = (L : Layout) (m : Memory) (e : ℕ) → words_of L (record m { epoch = e }) ≡ with_word L m at_epoch e
 
@@ -129,6 +136,7 @@ GivingSetsABit = (L : Layout) (m : Memory) (s : ℕ) → Fits L m → IsSlot L s
 
 -- ---- events
 
+-- `field_of`, `row_of`: the field of a slot's word, and its row in the pool
 abbrev pub field_of : ℕ → NodeField → Field
 field_of s Key = at_key s
 field_of s (EdgeOn side) = at_edge s side
@@ -161,7 +169,9 @@ abbrev pub filling : NodeField → ℕ → ℕ
 filling (EdgeOn side) v = 4 * v
 filling _ v = v
 
--- the word that an event leaves, by what its worker knows and the word n that it finds
+-- the word that an event leaves, by what its worker knows and the word n that it finds: a store, an
+-- exchange where the word is four times a slot, a bit joined, or a bit cleared (Fraser, section
+-- 5.2.3; Natarajan and Mittal, section 3.2)
 abbrev pub left_word : Layout → Knowledge → Event → ℕ → ℕ
 left_word L k Announce n = unwrap_or k.brief.seen 0 + 1
 left_word L k Leave n = 0
@@ -193,7 +203,8 @@ AtMostOneWordChanges s = (turn : ℕ × Event) → AtMostOne (words_of s.layout 
 
 -- ---- sizes
 
--- the numbers of a memory are those that its words have room for
+-- the numbers of a memory are those that its words have room for: epoch, notes and births are at
+-- most 2^62, and edges lead to slots of the layout
 pub record InRange (L : Layout) (m : Memory) : Type 0 where
   pub epoch : m.epoch ≤ last_number
   pub notes : (w e : ℕ) → note m w ≡ Some e → e ≤ last_number
@@ -205,10 +216,12 @@ abbrev pub WordsAreBelow : Type 0
 WordsAreBelow = (L : Layout) (m : Memory) (f : Field) → Fits L m → InRange L m → L.nodes < 2 ^ 32 → ((s : ℕ) → (node m s).key < 2 ^ 64)
     → IsField L f → word_at L m f < 2 ^ 64
 
+-- the memory of a state is in range
 abbrev pub StateIsInRange : State → Type 0
 StateIsInRange s = InRange s.layout s.memory
 
--- no null edge has a mark, so that each edge is found again in its word
+-- no null edge has a mark, so that each edge is found again in its word (Natarajan and Mittal,
+-- section 3.1)
 abbrev pub NullEdgesAreUnmarked : State → Type 0
 NullEdgesAreUnmarked s = (x : ℕ) (side : Side) → IsEdge (edge s.memory x side)
 

@@ -34,7 +34,8 @@ BirthsAreIn m births = (x b : ℕ) → births x ≡ Some b → (node m x).birth 
 abbrev pub known_as : Births → ℕ → NodeId
 known_as births s = record { slot = s; birth = unwrap_or (births s) 0 }
 
--- a flag and a splice are answered by nodes, whose births are to be known
+-- a flag and a splice are answered by nodes, whose births are to be known (Fraser, section 5.2.3;
+-- Natarajan and Mittal, section 3.2)
 abbrev pub BirthsAreKnown : Layout → Knowledge → Births → Event → Type 0
 BirthsAreKnown L k births (Flag p side leaf) = IsSome (births leaf)
 BirthsAreKnown L k births (Splice a side s p keep) = All (λ x. IsSome (births x)) (cut_by k s (unwrap_or (way L.nodes k s p) []) keep)
@@ -46,7 +47,9 @@ told_look Key n = KeyIs n
 told_look (EdgeOn side) n = EdgeIs (edge_in n)
 told_look Birth n = BirthIs n
 
--- the reply of an event, by what its worker knows, the births that are known, and the word n that it finds. (A join's is told by the leaver.)
+-- the reply of an event, by what its worker knows, the births that are known, and the word n that
+-- it finds. (A join's is told by the leaver.) (Fraser, section 5.2.3; Natarajan and Mittal, section
+-- 3.2)
 abbrev pub told : Layout → Knowledge → Births → Event → ℕ → Reply
 told L k births Sight n = reply_sight k n
 told L k births (SightFor op key) n = reply_sight k n
