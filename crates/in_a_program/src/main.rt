@@ -20,7 +20,8 @@ fn visit(tree: &Tree, worker: &mut Worker, key: Key) -> Result<(bool, bool, bool
     Ok((inserted, found, deleted))
 }
 
-/// Moves the epoch on twice, unless others hold it back, and frees what has waited for that: how many nodes may be used again.
+/// Moves the epoch on twice, unless others hold it back, and frees what has waited for that: how
+/// many nodes may be used again.
 fn tidy(tree: &Tree, worker: &mut Worker) -> u64
     requires { IsReady tree.now worker.old }
     ensures { IsReady tree.now worker.new }

@@ -1,7 +1,8 @@
-//! Times pushes and pops of a `BlockQueue` beside those of a `VecDeque`, each with 900 items in it throughout.
+//! Times pushes and pops of a `BlockQueue` beside those of a `VecDeque`, each with 900 items in it
+//! throughout.
 //!
-//! The argument is the number of items that pass through each. Standard output has the sums of the popped items, and
-//! standard error the times.
+//! The argument is the number of items that pass through each. Standard output has the sums of the
+//! popped items, and standard error the times.
 #![tactic(auto)]
 
 ghost use Rattle.std.specs.Prelude.{◌<◌};

@@ -1,7 +1,8 @@
 //! Times look-ups in a `Tree` beside those in a `BTreeSet` behind a `Mutex`, in 1, 2 and 4 threads.
 //!
-//! The arguments are the number of look-ups of each thread, the number of rounds, and then how many keys the sets have, one number for each pair
-//! of sets. Half of the keys that are looked up are in the sets. Standard output has how many were found, standard error the times.
+//! The arguments are the number of look-ups of each thread, the number of rounds, and then how many
+//! keys the sets have, one number for each pair of sets. Half of the keys that are looked up are in
+//! the sets. Standard output has how many were found, standard error the times.
 #![tactic(auto)]
 
 ghost use Rattle.std.specs.Prelude.{◌<◌, All, IfOk};
@@ -22,7 +23,8 @@ const WORKERS: u32 = 4;
 
 const TRIES: u32 = 100;
 
-/// The look-ups of a round: how many threads make them, how many each makes, and how many keys the sets have.
+/// The look-ups of a round: how many threads make them, how many each makes, and how many keys the
+/// sets have.
 #[derive(Clone, Copy)]
 struct Round {
     threads: u32,
@@ -30,7 +32,8 @@ struct Round {
     keys: u32,
 }
 
-/// The key with that number, in a fixed order that looks like none (the steps of the generator SplitMix64).
+/// The key with that number, in a fixed order that looks like none (the steps of the generator
+/// SplitMix64).
 fn key_of(number: u64) -> Option<Key> {
     let mut bits = number.wrapping_mul(0x9e37_79b9_7f4a_7c15);
     bits = (bits ^ (bits >> 30)).wrapping_mul(0xbf58_476d_1ce4_e5b9);

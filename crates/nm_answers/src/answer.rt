@@ -48,7 +48,8 @@ pub enum Answer {
     Refused(Refusal),
 }
 
-/// What a look-up, an insert, a delete or a finish has answered; `None` where it was refused memory.
+/// What a look-up, an insert, a delete or a finish has answered; `None` where it was refused
+/// memory.
 pub fn of_change(changed: Result<bool, Fault>) -> Option<Answer>
     ensures { result ≡ spec.of_change changed }
 {

@@ -1,4 +1,5 @@
-//! The last lines: what became of the nodes that each worker cut off, the keys of the set, and how many slots stand where.
+//! The last lines: what became of the nodes that each worker cut off, the keys of the set, and how
+//! many slots stand where.
 ghost use Rattle.std.specs.Prelude.{◌≡◌, ◌++◌, codes, OnOk};
 ghost use Rattle.nm_answers.specs.Endings as spec;
 
@@ -33,7 +34,8 @@ fn put_queue(out: &mut Vec<u8>, queue: &mut BlockQueue<Entry>) -> Result<(), All
     put_spaced_entries(out, queue)
 }
 
-/// Appends the line of a worker: how many nodes its splices cut off, how many of them were freed, and those that wait, which are taken out of the queue.
+/// Appends the line of a worker: how many nodes its splices cut off, how many of them were freed,
+/// and those that wait, which are taken out of the queue.
 #[tactic(auto, unfolding(crate::specs::Endings::worker_line))]
 pub fn put_worker(
     out: &mut Vec<u8>,
@@ -42,7 +44,8 @@ pub fn put_worker(
     freed: u64,
     queue: &mut BlockQueue<Entry>,
 ) -> Result<(), AllocError>
-    ensures { OnOk result (out.new.items ≡ out.old.items ++ spec.worker_line worker retired freed queue.old.items) }
+    ensures { OnOk result (out.new.items
+        ≡ out.old.items ++ spec.worker_line worker retired freed queue.old.items) }
 {
     put_number(out, b"worker ", u64::from(worker))?;
     put_number(out, b" retired ", retired)?;
@@ -52,7 +55,8 @@ pub fn put_worker(
     out.extend_from_slice(b"\n")
 }
 
-/// Appends the line of how many slots above 5 are in the pool, reached from the root, and in queues.
+/// Appends the line of how many slots above 5 are in the pool, reached from the root, and in
+/// queues.
 #[tactic(auto, unfolding(crate::specs::Endings::places_line))]
 pub fn put_closed_places(
     out: &mut Vec<u8>,

@@ -16,7 +16,8 @@ fn put_numbers(
     between: &[u8],
     second: u64,
 ) -> Result<(), AllocError>
-    ensures { OnOk result (out.new.items ≡ out.old.items ++ spec.two_numbers word.now first between.now second) }
+    ensures { OnOk result (out.new.items
+        ≡ out.old.items ++ spec.two_numbers word.now first between.now second) }
 {
     put_number(out, word, first)?;
     put_number(out, between, second)
@@ -74,7 +75,8 @@ pub fn put_line(out: &mut Vec<u8>, line: &[u8], answer: Answer) -> Result<(), Al
 
 /// Appends each line of a text with what it was answered, up to the last answer.
 pub fn put_lines(out: &mut Vec<u8>, body: &[u8], answers: &[Answer]) -> Result<(), AllocError>
-    ensures { OnOk result (out.new.items ≡ out.old.items ++ spec.lines (parts body.now) answers.now) }
+    ensures { OnOk result (out.new.items
+        ≡ out.old.items ++ spec.lines (parts body.now) answers.now) }
 {
     let mut rest = Some(body);
     for answer in answers {

@@ -1,4 +1,5 @@
--- What the parts of a call add to a log: how many won links, flags and splices, and at most how many entries.
+-- What the parts of a call add to a log: how many won links, flags and splices, and at most how
+-- many entries.
 use Rattle.std.proofs.Common.{◌≡◌, ◌≤◌, ◌<◌, inl, inr, ℕ, zero, suc, ◌+◌, ◌*◌, ◌-◌, Bool, List, [], ◌∷◌, ◌++◌, length, refl, ap, ◌∙◌, arith}
 use Rattle.std.specs.Prelude.{filter, Option, Some, None}
 use Rattle.std.proofs.Math.Nat.{suc-mul, mul-add, mul-le-mul_left, mul-le-mul_right}

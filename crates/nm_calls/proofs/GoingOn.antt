@@ -44,7 +44,8 @@ learned_still p q x side e on t = record {
   flagged = λ flag. on.keeps (IsFlagged x side e.slot) (t.flagged flag);
 }
 
--- a look at the key of a node, at its left edge and at its right edge: by the one on the key's side walks go on
+-- a look at the key of a node, at its left edge and at its right edge: by the one on the key's side
+-- walks go on
 pub told_onward : (p r s q : Stand) (k x key : ℕ) (left right : Edge) → KeyTold p r x key → EdgeTold r s x Left left → EdgeTold s q x Right right → GoesOn r s → GoesOn s q
     → (side : Side) → side ≡ side_of k key → OnwardTold p q k x key side (edge_on side left right)
 told_onward p r s q k x key left right read at_left at_right on then Left is = record {

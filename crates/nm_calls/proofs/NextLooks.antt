@@ -74,7 +74,8 @@ descent_goes_on p q d bound on r told w some low wide turns = record {
 pub earlier_still : {n : ℕ} (p q : Stand) → AddsLooks n p.view.log q.view.log → (key from : ℕ) → ((j : ℕ) → key ≤ j → j < from → HasEndedSo p j false) → (j : ℕ) → key ≤ j → j < from → HasEndedSo q j false
 earlier_still p q a key from earlier j le before = ended_still p q a j false (earlier j le before)
 
--- of the keys from `key` on below `from` the set had none, and of those from there on below the walk's bound none but the one that it found
+-- of the keys from `key` on below `from` the set had none, and of those from there on below the
+-- walk's bound none but the one that it found
 module _ (p : Stand) (key from : ℕ) (d : Descent) (w : IsDescent p d) (begun : d.from ≡ from) (null : d.node ≡ 0) (above : key ≤ from) (earlier : (j : ℕ) → key ≤ j → j < from → HasEndedSo p j false) where
   none_but : (j : ℕ) → key ≤ j → j < d.bound → (d.found ≡ j → ⊥) → HasEndedSo p j false
   none_but j le less other = by (cases_lt j from)

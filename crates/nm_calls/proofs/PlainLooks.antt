@@ -1,4 +1,5 @@
--- Looks that are added to a log under a pin for no call: a walk begins, goes on, and tells of its key.
+-- Looks that are added to a log under a pin for no call: a walk begins, goes on, and tells of its
+-- key.
 use Rattle.std.proofs.Common.{◌≡◌, ◌≢◌, ◌≤◌, ℕ, ◌+◌, ◌*◌, ◌==◌, Bool, true, false, cond, List, [], ◌∷◌, ◌++◌, append-nil, append_assoc, length, refl, sym, ap, subst, ◌∙◌, arith, true≢false}
 use Rattle.std.specs.Prelude.{filter, None, All}
 use Rattle.std.specs.List.{list_all}

@@ -1,4 +1,5 @@
--- A flagged leaf is cut off: by a cleanup that names it, or since a walk behind the flag ended elsewhere.
+-- A flagged leaf is cut off: by a cleanup that names it, or since a walk behind the flag ended
+-- elsewhere.
 use Rattle.std.proofs.Common.{◌≡◌, ◌≢◌, ◌<◌, ◌≤◌, inl, inr, ℕ, ◌+◌, Bool, true, false, List, [], ◌∷◌, ◌++◌, sym, ap, subst, ◌∙◌}
 use Rattle.std.specs.Prelude.{Option, Some, None, is_some, Result, Ok, Err, IfErr}
 use Rattle.nm_edge.specs.declared.edge.Side.{Side}

@@ -1,7 +1,8 @@
 -- How much a call holds at a time.
 use Rattle.std.specs.Prelude.{ℕ, ◌*◌}
 
--- how many nodes a splice cuts off at most, their leaves left out: those of a walk's chain, and the parent below it
+-- how many nodes a splice cuts off at most, their leaves left out: those of a walk's chain, and the
+-- parent below it
 abbrev pub chain_bound : ℕ
 chain_bound = 64
 

@@ -12,10 +12,11 @@ use Rattle.nm_calls.specs.Walks.{Ends, IsTooLong}
 -- so many walks in a row were broken off
 abbrev pub LostWalks : ℕ → ℕ → ℕ → List Entry → List Entry → Type 0
 LostWalks nodes k zero old new = new ≡ old
-LostWalks nodes k (suc t) old new = (mid : List Entry) × LostWalks nodes k t old mid × IsTooLong nodes k mid new
+LostWalks nodes k (suc t) old new =
+    (mid : List Entry) × LostWalks nodes k t old mid × IsTooLong nodes k mid new
 
--- a pin for the look-up, fewer broken walks than there may be tries, a walk whose leaf has key k exactly where the answer is true,
--- and a leave with the answer
+-- a pin for the look-up, fewer broken walks than there may be tries, a walk whose leaf has key k
+-- exactly where the answer is true, and a leave with the answer
 pub record HasDid (nodes tries k : ℕ) (old new : List Entry) (answer : Bool) : Type 0 where
   pub pinned : List Entry
   pub epoch : ℕ
@@ -32,9 +33,11 @@ pub record HasDid (nodes tries k : ℕ) (old new : List Entry) (answer : Bool) :
   pub answers : answer ≡ (key == k)
   pub leaves : new ≡ ended ++ (LeaveWith answer, Departed) ∷ []
 
--- no step, where there may be no try; or each try of the pin was lost; or a pin, as many broken walks, and a leave
+-- no step, where there may be no try; or each try of the pin was lost; or a pin, as many broken
+-- walks, and a leave
 abbrev pub HasMissed : ℕ → ℕ → ℕ → List Entry → List Entry → Type 0
 HasMissed nodes zero k old new = new ≡ old
 HasMissed nodes (suc t) k old new =
     IsMoved (SightFor Has k) (suc t) old new
-    ⊎ ((a z : List Entry) × (epoch : ℕ) × IsPinned (SightFor Has k) (suc t) old a epoch × LostWalks nodes k (suc t) a z × (new ≡ z ++ (Leave, Departed) ∷ []))
+    ⊎ ((a z : List Entry) × (epoch : ℕ) × IsPinned (SightFor Has k) (suc t) old a epoch
+    × LostWalks nodes k (suc t) a z × (new ≡ z ++ (Leave, Departed) ∷ []))

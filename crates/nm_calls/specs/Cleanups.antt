@@ -23,11 +23,13 @@ use Rattle.nm_calls.specs.Telling.{Tells, OnlyLooks}
 
 -- both edges of the parent were looked at, first the one on the walk's side
 abbrev pub after_both : Spot → List Entry → Edge → Edge → List Entry
-after_both s l e f = (l ++ (Look s.parent (EdgeOn s.side), EdgeIs e) ∷ []) ++ (Look s.parent (EdgeOn (other s.side)), EdgeIs f) ∷ []
+after_both s l e f = (l ++ (Look s.parent (EdgeOn s.side), EdgeIs e) ∷ [])
+    ++ (Look s.parent (EdgeOn (other s.side)), EdgeIs f) ∷ []
 
 -- the edge to keep: the one beside the flagged edge, first the one on the walk's side
 abbrev pub kept_beside : Spot → Edge → Edge → Option Kept
-kept_beside s e f = if e.flag then Some (record { side = other s.side; leaf = e.slot }) else if f.flag then Some (record { side = s.side; leaf = f.slot }) else None
+kept_beside s e f = if e.flag then Some (record { side = other s.side; leaf = e.slot })
+    else if f.flag then Some (record { side = s.side; leaf = f.slot }) else None
 
 -- the edge of a parent to keep, by two looks (Natarajan and Mittal, section 3.2, cleanup; for whole
 -- chains ours)
@@ -40,7 +42,9 @@ pub record FrozenAt (p q : Stand) (slot : ℕ) (side : Side) (node leaf : NodeId
   pub edge : Edge
   pub leads : edge.slot ≡ leaf.slot
   pub is_slot : node.slot ≡ slot
-  pub looks : q.view.log ≡ ((p.view.log ++ (Look slot (EdgeOn (other side)), EdgeIs edge) ∷ []) ++ (Look slot Birth, BirthIs node.birth) ∷ []) ++ (Look leaf.slot Birth, BirthIs leaf.birth) ∷ []
+  pub looks : q.view.log ≡ ((p.view.log ++ (Look slot (EdgeOn (other side)), EdgeIs edge) ∷ [])
+      ++ (Look slot Birth, BirthIs node.birth) ∷ []) ++ (Look leaf.slot Birth, BirthIs leaf.birth)
+      ∷ []
   pub flagged : Tells q (IsFlagged slot (other side) leaf.slot)
   pub born : Tells q (IsBorn slot node.birth)
   pub leaf_born : Tells q (IsBorn leaf.slot leaf.birth)
@@ -50,38 +54,47 @@ abbrev pub top : List ChainEdge → ℕ → ℕ
 top [] p = p
 top (l ∷ c) p = l.slot
 
--- three looks at a node whose edge on a side is tagged: at the edge beside, at its birth and at that of the leaf beside
+-- three looks at a node whose edge on a side is tagged: at the edge beside, at its birth and at
+-- that of the leaf beside
 abbrev pub FreezesOne : ℕ → Side → List Entry → List Entry → Type 0
-FreezesOne slot side old new = (e : Edge) × (b c : ℕ) × (new ≡ ((old ++ (Look slot (EdgeOn (other side)), EdgeIs e) ∷ []) ++ (Look slot Birth, BirthIs b) ∷ []) ++ (Look e.slot Birth, BirthIs c) ∷ [])
+FreezesOne slot side old new =
+    (e : Edge) × (b c : ℕ) × (new
+    ≡ ((old ++ (Look slot (EdgeOn (other side)), EdgeIs e) ∷ []) ++ (Look slot Birth, BirthIs b)
+    ∷ []) ++ (Look e.slot Birth, BirthIs c) ∷ [])
 
 -- so at each node of a chain, by three looks, and at its end, and nothing else (Natarajan and
 -- Mittal, section 3.2, cleanup; for whole chains ours)
 abbrev pub Freezes : ℕ → Side → List ChainEdge → List Entry → List Entry → Type 0
 Freezes parent keep [] old new = FreezesOne parent keep old new
-Freezes parent keep (l ∷ c) old new = (mid : List Entry) × FreezesOne l.slot l.side old mid × Freezes parent keep c mid new
+Freezes parent keep (l ∷ c) old new =
+    (mid : List Entry) × FreezesOne l.slot l.side old mid × Freezes parent keep c mid new
 
 -- ---- a whole cleanup
 
 -- up to its splice: both edges of the parent were looked at, the one to keep was tagged, and the
 -- chain was looked at (Natarajan and Mittal, section 3.2, cleanup; for whole chains ours)
 abbrev pub Prepares : Spot → List ChainEdge → Kept → List Entry → List Entry → Type 0
-Prepares s c k old new = (mid : List Entry) × (was : Edge) × Chooses s old mid (Some k) × Freezes s.parent k.side c (mid ++ (Tag s.parent k.side, Was was) ∷ []) new
+Prepares s c k old new = (mid : List Entry) × (was : Edge) × Chooses s old mid (Some k)
+    × Freezes s.parent k.side c (mid ++ (Tag s.parent k.side, Was was) ∷ []) new
 
 -- the splice was won, and cut just these nodes (Natarajan and Mittal, section 3.2, cleanup; for
 -- whole chains ours)
 abbrev pub CutsOff : Spot → List ChainEdge → List NodeId → List Entry → List Entry → Type 0
-CutsOff s c ns old new = (k : Kept) × (mid : List Entry) × Prepares s c k old mid × (new ≡ mid ++ (Splice s.ancestor s.above s.successor s.parent k.side, Cut ns) ∷ [])
+CutsOff s c ns old new = (k : Kept) × (mid : List Entry) × Prepares s c k old mid
+    × (new ≡ mid ++ (Splice s.ancestor s.above s.successor s.parent k.side, Cut ns) ∷ [])
 
 -- neither edge of the parent was flagged, or the splice was lost (Natarajan and Mittal, section
 -- 3.2, cleanup; for whole chains ours)
 abbrev pub CleanupLost : Spot → List ChainEdge → List Entry → List Entry → Type 0
 CleanupLost s c old new = Chooses s old new None
-    ⊎ ((k : Kept) × (mid : List Entry) × (e : Edge) × Prepares s c k old mid × (new ≡ mid ++ (Splice s.ancestor s.above s.successor s.parent k.side, Lost e) ∷ []))
+    ⊎ ((k : Kept) × (mid : List Entry) × (e : Edge) × Prepares s c k old mid
+    × (new ≡ mid ++ (Splice s.ancestor s.above s.successor s.parent k.side, Lost e) ∷ []))
 
 -- the splice was won, and followed at once by its label (Natarajan and Mittal, section 3.2,
 -- cleanup; for whole chains ours)
 abbrev pub CleanupWon : Spot → List ChainEdge → List NodeId → ℕ → List Entry → List Entry → Type 0
-CleanupWon s c ns epoch old new = (mid : List Entry) × CutsOff s c ns old mid × (new ≡ mid ++ (Sight, Labelled epoch) ∷ [])
+CleanupWon s c ns epoch old new =
+    (mid : List Entry) × CutsOff s c ns old mid × (new ≡ mid ++ (Sight, Labelled epoch) ∷ [])
 
 -- ---- what a won splice leaves of the pass, and a whole cleanup
 
@@ -89,14 +102,20 @@ CleanupWon s c ns epoch old new = (mid : List Entry) × CutsOff s c ns old mid �
 abbrev pub IsAmong : NodeId → List NodeId → Type 0
 IsAmong n ns = is_flagged_in (Some n) ns ≡ true
 
--- these nodes were cut off and wait for their label; and where the edge by which the walk ended is known flagged, its leaf is one of them
+-- these nodes were cut off and wait for their label; and where the edge by which the walk ended is
+-- known flagged, its leaf is one of them
 pub record HasCut (s : Spot) (c : List ChainEdge) (ns : List NodeId) (p q : Stand) : Type 0 where
   pub part : CutsOff s c ns p.view.log q.view.log
   pub size : length ns ≡ 2 * (length c + 1)
-  pub queues : (o : ℕ) → held (knowledge q.view).ledgers o ≡ (if o == p.view.number then option_map (with_cut ns) (held (knowledge p.view).ledgers o) else held (knowledge p.view).ledgers o)
+  pub queues : (o : ℕ) → held (knowledge q.view).ledgers o
+      ≡ (if o == p.view.number then option_map (with_cut ns) (held (knowledge p.view).ledgers o)
+      else held (knowledge p.view).ledgers o)
   pub epochs : (knowledge q.view).brief ≡ record (knowledge p.view).brief { unlabelled = true }
-  pub leaf : (to b : ℕ) → Tells p (IsFlagged s.parent s.side to) → Tells p (IsBorn to b) → IsAmong (record { slot = to; birth = b }) ns
-  pub cut : (search_after idle q.view.log).cut ≡ ((search_after idle p.view.log).cut || is_flagged_in (search_after idle p.view.log).flagged ns)
+  pub leaf : (to b : ℕ) → Tells p (IsFlagged s.parent s.side to) → Tells p (IsBorn to b)
+      → IsAmong (record { slot = to; birth = b }) ns
+  pub cut : (search_after idle q.view.log).cut
+      ≡ ((search_after idle p.view.log).cut
+      || is_flagged_in (search_after idle p.view.log).flagged ns)
 
 -- a cleanup that was lost has only looked and tagged
 pub record HasCutNothing (s : Spot) (c : List ChainEdge) (p q : Stand) : Type 0 where
@@ -111,24 +130,31 @@ freed_of k o = option_map (λ (l : Ledger). l.freed) (held k.ledgers o)
 -- each ledger of another origin is as it was, and nothing was freed of the own one (Fraser, section
 -- 5.2.3; by origin ours)
 pub record KeepsLedgers (p q : Stand) : Type 0 where
-  pub others : (o : ℕ) → o ≢ p.view.number → held (knowledge q.view).ledgers o ≡ held (knowledge p.view).ledgers o
+  pub others : (o : ℕ) → o ≢ p.view.number
+      → held (knowledge q.view).ledgers o ≡ held (knowledge p.view).ledgers o
   pub freed : freed_of (knowledge q.view) p.view.number ≡ freed_of (knowledge p.view) p.view.number
 
 -- these nodes were cut off and labelled, and are at the end of the queue, with the flagged leaf
 -- among them
-pub record HasCleaned (s : Spot) (c : List ChainEdge) (p q : Stand) (es fs : List Waiting) : Type 0 where
+pub record HasCleaned (s : Spot) (c : List ChainEdge) (p q : Stand)
+    (es fs : List Waiting) : Type 0 where
   pub nodes : List NodeId
   pub epoch : ℕ
   pub part : CleanupWon s c nodes epoch p.view.log q.view.log
   pub queue : fs ≡ es ++ map (labelled_so epoch) nodes
-  pub leaf : (to b : ℕ) → Tells p (IsFlagged s.parent s.side to) → Tells p (IsBorn to b) → IsAmong (record { slot = to; birth = b }) nodes
-  pub cut : (search_after idle q.view.log).cut ≡ ((search_after idle p.view.log).cut || is_flagged_in (search_after idle p.view.log).flagged nodes)
+  pub leaf : (to b : ℕ) → Tells p (IsFlagged s.parent s.side to) → Tells p (IsBorn to b)
+      → IsAmong (record { slot = to; birth = b }) nodes
+  pub cut : (search_after idle q.view.log).cut
+      ≡ ((search_after idle p.view.log).cut
+      || is_flagged_in (search_after idle p.view.log).flagged nodes)
 
--- what a cleanup leaves: the pin, private slots, the call with what it linked and flagged, and ledgers but for the nodes that it cut
+-- what a cleanup leaves: the pin, private slots, the call with what it linked and flagged, and
+-- ledgers but for the nodes that it cut
 pub record OnlyCleans (p q : Stand) : Type 0 where
   pub note : (knowledge q.view).brief.note ≡ (knowledge p.view).brief.note
   pub pin : (knowledge q.view).brief.pin ≡ (knowledge p.view).brief.pin
-  pub labelled : (knowledge p.view).brief.unlabelled ≡ false → (knowledge q.view).brief.unlabelled ≡ false
+  pub labelled : (knowledge p.view).brief.unlabelled ≡ false
+      → (knowledge q.view).brief.unlabelled ≡ false
   pub private : (knowledge q.view).drafts ≡ (knowledge p.view).drafts
   pub call : (search_after idle q.view.log).call ≡ (search_after idle p.view.log).call
   pub linked : (search_after idle q.view.log).linked ≡ (search_after idle p.view.log).linked

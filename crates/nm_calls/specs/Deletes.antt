@@ -33,12 +33,15 @@ use Rattle.nm_calls.specs.Inserts.{Helps}
 
 -- ---- a try to flag
 
--- a walk that ended at a leaf with key k, a look at the leaf's birth, and a flag of the edge that led there, which was answered so
-pub record TriesFlag (nodes k : ℕ) (r : End) (c : List ChainEdge) (birth : ℕ) (reply : Reply) (old new : List Entry) : Type 0 where
+-- a walk that ended at a leaf with key k, a look at the leaf's birth, and a flag of the edge that
+-- led there, which was answered so
+pub record TriesFlag (nodes k : ℕ) (r : End) (c : List ChainEdge) (birth : ℕ) (reply : Reply)
+    (old new : List Entry) : Type 0 where
   pub ended : List Entry
   pub walk : Seeks nodes k old ended c (Some r)
   pub same : r.key ≡ k
-  pub entries : new ≡ (ended ++ (Look r.spot.edge.slot Birth, BirthIs birth) ∷ []) ++ (Flag r.spot.parent r.spot.side r.spot.edge.slot, reply) ∷ []
+  pub entries : new ≡ (ended ++ (Look r.spot.edge.slot Birth, BirthIs birth) ∷ [])
+      ++ (Flag r.spot.parent r.spot.side r.spot.edge.slot, reply) ∷ []
 
 abbrev pub leaf_of : End → ℕ → NodeId
 leaf_of r b = record { slot = r.spot.edge.slot; birth = b }
@@ -46,10 +49,13 @@ leaf_of r b = record { slot = r.spot.edge.slot; birth = b }
 -- one try to flag, by what it came to, with the chain of the walk (Natarajan and Mittal, section
 -- 3.2, delete)
 abbrev pub IsFlagTry : ℕ → ℕ → List ChainEdge → List Entry → List Entry → Injected → Type 0
-IsFlagTry nodes k c old new injected.Absent = (r : End) × Seeks nodes k old new c (Some r) × (r.key ≢ k)
-IsFlagTry nodes k c old new (injected.Flagged r b) = TriesFlag nodes k r c b (Flagged (leaf_of r b)) old new
+IsFlagTry nodes k c old new injected.Absent =
+    (r : End) × Seeks nodes k old new c (Some r) × (r.key ≢ k)
+IsFlagTry nodes k c old new (injected.Flagged r b) =
+    TriesFlag nodes k r c b (Flagged (leaf_of r b)) old new
 IsFlagTry nodes k c old new injected.Lost = IsBroken nodes k old new
-    ⊎ ((r : End) × (b : ℕ) × (e : Edge) × (mid : List Entry) × TriesFlag nodes k r c b (Lost e) old mid × Helps r c e mid new)
+    ⊎ ((r : End) × (b : ℕ) × (e : Edge) × (mid : List Entry)
+    × TriesFlag nodes k r c b (Lost e) old mid × Helps r c e mid new)
 
 -- ---- cleanup mode
 
@@ -68,23 +74,30 @@ pub record IsRemoving (p : Stand) (k : ℕ) (n : NodeId) : Type 0 where
 -- a walk to another leaf, or a won cleanup by a walk that ended at the flagged leaf, whose splice
 -- cut that leaf (Natarajan and Mittal, section 3.2, delete)
 abbrev pub Removes : ℕ → ℕ → NodeId → List Entry → List Entry → Type 0
-Removes nodes k n old new = (r : End) × (c : List ChainEdge) × ((Seeks nodes k old new c (Some r) × (r.spot.edge.slot ≢ n.slot))
-    ⊎ ((mid : List Entry) × (ns : List NodeId) × (epoch : ℕ) × Seeks nodes k old mid c (Some r) × (r.spot.edge.slot ≡ n.slot) × CleanupWon r.spot c ns epoch mid new × IsAmong n ns))
+Removes nodes k n old new = (r : End) × (c : List ChainEdge)
+    × ((Seeks nodes k old new c (Some r) × (r.spot.edge.slot ≢ n.slot))
+    ⊎ ((mid : List Entry) × (ns : List NodeId) × (epoch : ℕ) × Seeks nodes k old mid c (Some r)
+    × (r.spot.edge.slot ≡ n.slot) × CleanupWon r.spot c ns epoch mid new × IsAmong n ns))
 
 -- a walk that was broken off, or a lost cleanup by a walk that ended at the flagged leaf
 abbrev pub RemovesNothing : ℕ → ℕ → NodeId → List Entry → List Entry → Type 0
 RemovesNothing nodes k n old new = IsBroken nodes k old new
-    ⊎ ((r : End) × (c : List ChainEdge) × (mid : List Entry) × Seeks nodes k old mid c (Some r) × (r.spot.edge.slot ≡ n.slot) × CleanupLost r.spot c mid new)
+    ⊎ ((r : End) × (c : List ChainEdge) × (mid : List Entry) × Seeks nodes k old mid c (Some r)
+    × (r.spot.edge.slot ≡ n.slot) × CleanupLost r.spot c mid new)
 
 -- so many such tries were lost, one behind the other
 abbrev pub LostRemovals : ℕ → ℕ → NodeId → ℕ → List Entry → List Entry → Type 0
 LostRemovals nodes k n zero old new = new ≡ old
-LostRemovals nodes k n (suc t) old new = (mid : List Entry) × LostRemovals nodes k n t old mid × RemovesNothing nodes k n mid new
+LostRemovals nodes k n (suc t) old new =
+    (mid : List Entry) × LostRemovals nodes k n t old mid × RemovesNothing nodes k n mid new
 
 -- up to so many tries, by what they came to
 abbrev pub IsRemoval : ℕ → ℕ → NodeId → ℕ → List Entry → List Entry → Removal → Type 0
-IsRemoval nodes k n tries old new removal.Removed = (t : ℕ) × (mid : List Entry) × (t < tries) × LostRemovals nodes k n t old mid × Removes nodes k n mid new
-IsRemoval nodes k n tries old new removal.Refused = (t : ℕ) × (t < tries) × LostRemovals nodes k n t old new
+IsRemoval nodes k n tries old new removal.Removed =
+    (t : ℕ) × (mid : List Entry) × (t < tries) × LostRemovals nodes k n t old mid
+    × Removes nodes k n mid new
+IsRemoval nodes k n tries old new removal.Refused =
+    (t : ℕ) × (t < tries) × LostRemovals nodes k n t old new
 IsRemoval nodes k n tries old new removal.Spent = LostRemovals nodes k n tries old new
 
 -- the leaf is known to be cut off once it is removed
@@ -105,9 +118,12 @@ pub record MayFlag (p : Stand) (k : ℕ) (r : End) : Type 0 where
   pub unflagged : (search p).flagged ≡ None
 
 abbrev pub looks_and_flags : End → ℕ → Reply → List Entry → List Entry
-looks_and_flags r b reply old = (old ++ (Look r.spot.edge.slot Birth, BirthIs b) ∷ []) ++ (Flag r.spot.parent r.spot.side r.spot.edge.slot, reply) ∷ []
+looks_and_flags r b reply old =
+    (old ++ (Look r.spot.edge.slot Birth, BirthIs b) ∷ [])
+    ++ (Flag r.spot.parent r.spot.side r.spot.edge.slot, reply) ∷ []
 
--- the flag is won: the leaf is the one that the call flagged, and the edge to it is known as flagged
+-- the flag is won: the leaf is the one that the call flagged, and the edge to it is known as
+-- flagged
 pub record HasFlagged (p q : Stand) (r : End) (b : ℕ) : Type 0 where
   pub part : q.view.log ≡ looks_and_flags r b (Flagged (leaf_of r b)) p.view.log
   pub flagged : (search q).flagged ≡ Some (leaf_of r b)
@@ -130,10 +146,14 @@ pub record OnlyInjects (p q : Stand) : Type 0 where
   pub linked : (search q).linked ≡ (search p).linked
   pub ledgers : KeepsLedgers p q
 
--- what the call shows after a try to flag; and where it has flagged, what a cleanup at that spot asks
+-- what the call shows after a try to flag; and where it has flagged, what a cleanup at that spot
+-- asks
 abbrev pub ShowsFlag : ℕ → List ChainEdge → Stand → Stand → Injected → Type 0
 ShowsFlag k c p q injected.Absent = ShowsAnswer q Delete k false
-ShowsFlag k c p q (injected.Flagged r b) = ((search q).flagged ≡ Some (leaf_of r b)) × Tells q (IsFlagged r.spot.parent r.spot.side r.spot.edge.slot) × Tells q (IsBorn r.spot.edge.slot b) × IsAt (Tells q) r.spot c × (length c < chain_bound)
+ShowsFlag k c p q (injected.Flagged r b) =
+    ((search q).flagged ≡ Some (leaf_of r b))
+    × Tells q (IsFlagged r.spot.parent r.spot.side r.spot.edge.slot)
+    × Tells q (IsBorn r.spot.edge.slot b) × IsAt (Tells q) r.spot c × (length c < chain_bound)
 ShowsFlag k c p q injected.Lost = (search q).flagged ≡ (search p).flagged
 
 -- ---- the tries to flag
@@ -141,54 +161,92 @@ ShowsFlag k c p q injected.Lost = (search q).flagged ≡ (search p).flagged
 -- so many tries to flag were lost
 abbrev pub LostFlags : ℕ → ℕ → ℕ → List Entry → List Entry → Type 0
 LostFlags nodes k zero old new = new ≡ old
-LostFlags nodes k (suc t) old new = (c : List ChainEdge) × (mid : List Entry) × LostFlags nodes k t old mid × IsFlagTry nodes k c mid new injected.Lost
+LostFlags nodes k (suc t) old new =
+    (c : List ChainEdge) × (mid : List Entry) × LostFlags nodes k t old mid
+    × IsFlagTry nodes k c mid new injected.Lost
 
--- up to so many tries, by what they came to: with a flag that was won, how many are left; refused, the room of a later try than the first
+-- up to so many tries, by what they came to: with a flag that was won, how many are left; refused,
+-- the room of a later try than the first
 abbrev pub IsInjection : ℕ → ℕ → ℕ → List ChainEdge → List Entry → List Entry → Injection → Type 0
-IsInjection nodes k tries c old new injection.Absent = (t : ℕ) × (mid : List Entry) × (t < tries) × LostFlags nodes k t old mid × IsFlagTry nodes k c mid new injected.Absent
-IsInjection nodes k tries c old new (injection.Flagged r b left) = (t : ℕ) × (mid : List Entry) × (t + (left + 1) ≡ tries) × LostFlags nodes k t old mid × IsFlagTry nodes k c mid new (injected.Flagged r b)
-IsInjection nodes k tries c old new injection.Refused = (t : ℕ) × (0 < t) × (t < tries) × LostFlags nodes k t old new
+IsInjection nodes k tries c old new injection.Absent =
+    (t : ℕ) × (mid : List Entry) × (t < tries) × LostFlags nodes k t old mid
+    × IsFlagTry nodes k c mid new injected.Absent
+IsInjection nodes k tries c old new (injection.Flagged r b left) =
+    (t : ℕ) × (mid : List Entry) × (t + (left + 1) ≡ tries) × LostFlags nodes k t old mid
+    × IsFlagTry nodes k c mid new (injected.Flagged r b)
+IsInjection nodes k tries c old new injection.Refused =
+    (t : ℕ) × (0 < t) × (t < tries) × LostFlags nodes k t old new
 IsInjection nodes k tries c old new injection.Spent = LostFlags nodes k tries old new
 
 -- what the log shows behind the tries to flag, by what they came to
 abbrev pub ShowsInjection : ℕ → List ChainEdge → Stand → Injection → Type 0
 ShowsInjection k c q injection.Absent = ShowsAnswer q Delete k false
-ShowsInjection k c q (injection.Flagged r b left) = ((search q).flagged ≡ Some (leaf_of r b)) × Tells q (IsFlagged r.spot.parent r.spot.side r.spot.edge.slot) × Tells q (IsBorn r.spot.edge.slot b) × IsAt (Tells q) r.spot c × (length c < chain_bound)
+ShowsInjection k c q (injection.Flagged r b left) =
+    ((search q).flagged ≡ Some (leaf_of r b))
+    × Tells q (IsFlagged r.spot.parent r.spot.side r.spot.edge.slot)
+    × Tells q (IsBorn r.spot.edge.slot b) × IsAt (Tells q) r.spot c × (length c < chain_bound)
 ShowsInjection k c q _ = (search q).flagged ≡ None
 
 -- ---- the tries to remove, the first of which is a cleanup by the walk of the flag
 
 -- the tries to remove the leaf, from a cleanup by that walk on, by what they came to (Natarajan and
 -- Mittal, section 3.2, delete)
-abbrev pub RemovalAfter : ℕ → ℕ → End → List ChainEdge → ℕ → ℕ → List Entry → List Entry → Removal → Type 0
-RemovalAfter nodes k r c b left old new removal.Removed = ((left ≢ 0) × (ns : List NodeId) × (epoch : ℕ) × CleanupWon r.spot c ns epoch old new × IsAmong (leaf_of r b) ns)
-    ⊎ ((t : ℕ) × (mid : List Entry) × (left ≡ t + 1) × CleanupLost r.spot c old mid × IsRemoval nodes k (leaf_of r b) t mid new removal.Removed)
-RemovalAfter nodes k r c b left old new removal.Refused = ((left ≢ 0) × (new ≡ old)) ⊎ ((t : ℕ) × (mid : List Entry) × (left ≡ t + 1) × CleanupLost r.spot c old mid × IsRemoval nodes k (leaf_of r b) t mid new removal.Refused)
-RemovalAfter nodes k r c b left old new removal.Spent = ((left ≡ 0) × (new ≡ old)) ⊎ ((t : ℕ) × (mid : List Entry) × (left ≡ t + 1) × CleanupLost r.spot c old mid × IsRemoval nodes k (leaf_of r b) t mid new removal.Spent)
+abbrev pub RemovalAfter : ℕ → ℕ → End → List ChainEdge → ℕ → ℕ → List Entry → List Entry → Removal
+    → Type 0
+RemovalAfter nodes k r c b left old new removal.Removed =
+    ((left ≢ 0) × (ns : List NodeId) × (epoch : ℕ) × CleanupWon r.spot c ns epoch old new
+    × IsAmong (leaf_of r b) ns)
+    ⊎ ((t : ℕ) × (mid : List Entry) × (left ≡ t + 1) × CleanupLost r.spot c old mid
+    × IsRemoval nodes k (leaf_of r b) t mid new removal.Removed)
+RemovalAfter nodes k r c b left old new removal.Refused =
+    ((left ≢ 0) × (new ≡ old))
+    ⊎ ((t : ℕ) × (mid : List Entry) × (left ≡ t + 1) × CleanupLost r.spot c old mid
+    × IsRemoval nodes k (leaf_of r b) t mid new removal.Refused)
+RemovalAfter nodes k r c b left old new removal.Spent =
+    ((left ≡ 0) × (new ≡ old))
+    ⊎ ((t : ℕ) × (mid : List Entry) × (left ≡ t + 1) × CleanupLost r.spot c old mid
+    × IsRemoval nodes k (leaf_of r b) t mid new removal.Spent)
 
 -- ---- the whole call
 
 -- what a flag that was won leads to
 abbrev pub FlagsThen : ℕ → ℕ → ℕ → NodeId → List Entry → List Entry → Removal → Type 0
-FlagsThen nodes tries k n old new m = (r : End) × (c : List ChainEdge) × (b left : ℕ) × (mid : List Entry) × (n ≡ leaf_of r b) × IsInjection nodes k tries c old mid (injection.Flagged r b left) × RemovalAfter nodes k r c b left mid new m
+FlagsThen nodes tries k n old new m =
+    (r : End) × (c : List ChainEdge) × (b left : ℕ) × (mid : List Entry) × (n ≡ leaf_of r b)
+    × IsInjection nodes k tries c old mid (injection.Flagged r b left)
+    × RemovalAfter nodes k r c b left mid new m
 
 -- from the pin on, by the answer
 abbrev pub DeleteFinishes : ℕ → ℕ → ℕ → List Entry → List Entry → Result Bool Missed → Type 0
-DeleteFinishes nodes tries k old new (Ok true) = (n : NodeId) × (mid : List Entry) × FlagsThen nodes tries k n old mid removal.Removed × (new ≡ mid ++ (LeaveWith true, Departed) ∷ [])
-DeleteFinishes nodes tries k old new (Ok false) = (c : List ChainEdge) × (mid : List Entry) × IsInjection nodes k tries c old mid injection.Absent × (new ≡ mid ++ (LeaveWith false, Departed) ∷ [])
-DeleteFinishes nodes tries k old new (Err missed.Busy) = (c : List ChainEdge) × (mid : List Entry) × IsInjection nodes k tries c old mid injection.Spent × (new ≡ mid ++ (Leave, Departed) ∷ [])
-DeleteFinishes nodes tries k old new (Err missed.NoMemory) = (c : List ChainEdge) × (mid : List Entry) × IsInjection nodes k tries c old mid injection.Refused × (new ≡ mid ++ (Leave, Departed) ∷ [])
-DeleteFinishes nodes tries k old new (Err (missed.Unfinished n)) = FlagsThen nodes tries k n old new removal.Refused ⊎ FlagsThen nodes tries k n old new removal.Spent
+DeleteFinishes nodes tries k old new (Ok true) =
+    (n : NodeId) × (mid : List Entry) × FlagsThen nodes tries k n old mid removal.Removed
+    × (new ≡ mid ++ (LeaveWith true, Departed) ∷ [])
+DeleteFinishes nodes tries k old new (Ok false) =
+    (c : List ChainEdge) × (mid : List Entry) × IsInjection nodes k tries c old mid injection.Absent
+    × (new ≡ mid ++ (LeaveWith false, Departed) ∷ [])
+DeleteFinishes nodes tries k old new (Err missed.Busy) =
+    (c : List ChainEdge) × (mid : List Entry) × IsInjection nodes k tries c old mid injection.Spent
+    × (new ≡ mid ++ (Leave, Departed) ∷ [])
+DeleteFinishes nodes tries k old new (Err missed.NoMemory) =
+    (c : List ChainEdge) × (mid : List Entry)
+    × IsInjection nodes k tries c old mid injection.Refused × (new ≡ mid ++ (Leave, Departed) ∷ [])
+DeleteFinishes nodes tries k old new (Err (missed.Unfinished n)) =
+    FlagsThen nodes tries k n old new removal.Refused
+    ⊎ FlagsThen nodes tries k n old new removal.Spent
 
 -- a pin for the delete, and then what finishes it
 abbrev pub PinsForDelete : ℕ → ℕ → ℕ → List Entry → List Entry → Result Bool Missed → Type 0
-PinsForDelete nodes tries k old new r = (pinned : List Entry) × (epoch : ℕ) × IsPinned (SightFor Delete k) tries old pinned epoch × DeleteFinishes nodes tries k pinned new r
+PinsForDelete nodes tries k old new r =
+    (pinned : List Entry) × (epoch : ℕ) × IsPinned (SightFor Delete k) tries old pinned epoch
+    × DeleteFinishes nodes tries k pinned new r
 
 -- a whole delete, by its answer (Natarajan and Mittal, section 3.2, delete)
 abbrev pub DeleteDid : ℕ → ℕ → ℕ → List Entry → List Entry → Result Bool Missed → Type 0
 DeleteDid nodes tries k old new (Err missed.Busy) =
-    ((tries ≡ 0) × (new ≡ old)) ⊎ ((tries ≢ 0) × IsMoved (SightFor Delete k) tries old new) ⊎ PinsForDelete nodes tries k old new (Err missed.Busy)
-DeleteDid nodes tries k old new (Err missed.NoMemory) = ((tries ≢ 0) × (new ≡ old)) ⊎ PinsForDelete nodes tries k old new (Err missed.NoMemory)
+    ((tries ≡ 0) × (new ≡ old)) ⊎ ((tries ≢ 0) × IsMoved (SightFor Delete k) tries old new)
+    ⊎ PinsForDelete nodes tries k old new (Err missed.Busy)
+DeleteDid nodes tries k old new (Err missed.NoMemory) =
+    ((tries ≢ 0) × (new ≡ old)) ⊎ PinsForDelete nodes tries k old new (Err missed.NoMemory)
 DeleteDid nodes tries k old new r = PinsForDelete nodes tries k old new r
 
 -- the worker rests, or stays pinned for the leaf that it flagged
@@ -204,9 +262,12 @@ LosesEachTry nodes k n tries old new = IsRemoval nodes k n tries old new removal
 
 -- a pin and a flag that was won, and behind it each try was lost
 abbrev pub LosesAfterFlag : ℕ → ℕ → ℕ → List Entry → List Entry → NodeId → Type 0
-LosesAfterFlag nodes tries k old new n = (pinned : List Entry) × (epoch : ℕ) × IsPinned (SightFor Delete k) tries old pinned epoch × FlagsThen nodes tries k n pinned new removal.Spent
+LosesAfterFlag nodes tries k old new n =
+    (pinned : List Entry) × (epoch : ℕ) × IsPinned (SightFor Delete k) tries old pinned epoch
+    × FlagsThen nodes tries k n pinned new removal.Spent
 
--- why a delete gave up: what is left has less room than a try asks; or, once the leaf is flagged, each try behind the flag was lost
+-- why a delete gave up: what is left has less room than a try asks; or, once the leaf is flagged,
+-- each try behind the flag was lost
 abbrev pub LacksRoomOr : (NodeId → Type 0) → ℕ → Missed → Type 0
 LacksRoomOr lost spare missed.Busy = Unit {0}
 LacksRoomOr lost spare missed.NoMemory = spare < cut_bound
@@ -215,5 +276,9 @@ LacksRoomOr lost spare (missed.Unfinished n) = (spare < cut_bound) ⊎ lost n
 -- tries to remove, and a leave with the answer true; or each was lost, or the room of one was
 -- refused (Natarajan and Mittal, section 3.2, delete)
 abbrev pub FinishDid : ℕ → ℕ → NodeId → ℕ → List Entry → List Entry → Bool → Type 0
-FinishDid nodes k n tries old new true = (mid : List Entry) × IsRemoval nodes k n tries old mid removal.Removed × (new ≡ mid ++ (LeaveWith true, Departed) ∷ [])
-FinishDid nodes k n tries old new false = IsRemoval nodes k n tries old new removal.Refused ⊎ IsRemoval nodes k n tries old new removal.Spent
+FinishDid nodes k n tries old new true =
+    (mid : List Entry) × IsRemoval nodes k n tries old mid removal.Removed
+    × (new ≡ mid ++ (LeaveWith true, Departed) ∷ [])
+FinishDid nodes k n tries old new false =
+    IsRemoval nodes k n tries old new removal.Refused
+    ⊎ IsRemoval nodes k n tries old new removal.Spent

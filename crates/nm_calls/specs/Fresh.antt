@@ -7,7 +7,8 @@ use Rattle.nm_steps.specs.Steps.{Stand}
 use Rattle.nm_epoch.specs.Collecting.{IsQueueOf}
 use Rattle.nm_epoch.specs.Resting.{IsResting}
 
--- its log is empty, so it rests; it holds its own ledger alone, of which nothing was cut, and no slot is private
+-- its log is empty, so it rests; it holds its own ledger alone, of which nothing was cut, and no
+-- slot is private
 pub record HasDoneNothing (p : Stand) : Type 0 where
   pub rests : IsResting p
   pub log : p.view.log ≡ []

@@ -43,9 +43,11 @@ pub record IsReady (p : Stand) (f : Fork) : Type 0 where
 
 -- each slot but these is private as it was
 abbrev pub KeepsBut : Fork → Stand → Stand → Type 0
-KeepsBut f o p = (s : ℕ) → s ≢ f.new.slot → s ≢ f.fresh.slot → get (knowledge p.view).drafts s ≡ get (knowledge o.view).drafts s
+KeepsBut f o p = (s : ℕ) → s ≢ f.new.slot → s ≢ f.fresh.slot
+    → get (knowledge p.view).drafts s ≡ get (knowledge o.view).drafts s
 
--- the private slots are those that there were, and with them two new nodes, if the call has made them
+-- the private slots are those that there were, and with them two new nodes, if the call has made
+-- them
 pub record HoldsFork (o p : Stand) (f : Fork) : Type 0 where
   pub ready : IsReady p f
   pub others : KeepsBut f o p
@@ -66,19 +68,27 @@ IfReady p (Some f) = IsReady p f
 -- both nodes are given back, if there are any
 abbrev pub Returns : Option Fork → List Entry → List Entry → Type 0
 Returns None old new = new ≡ old
-Returns (Some f) old new = new ≡ (old ++ (Give f.new.slot, Returned f.new.slot) ∷ []) ++ (Give f.fresh.slot, Returned f.fresh.slot) ∷ []
+Returns (Some f) old new = new
+    ≡ (old ++ (Give f.new.slot, Returned f.new.slot) ∷ [])
+    ++ (Give f.fresh.slot, Returned f.fresh.slot) ∷ []
 
--- the internal node is claimed first and the leaf second; where one of the two claims answers nothing, the other slot is returned
+-- the internal node is claimed first and the leaf second; where one of the two claims answers
+-- nothing, the other slot is returned
 abbrev pub ClaimsFork : Fit → ℕ → List Entry → List Entry → Option Fork → Type 0
-ClaimsFork fit nodes old new (Some f) = (mid : List Entry) × IsClaimBy fit nodes old mid (Some f.new) × IsClaimBy fit nodes mid new (Some f.fresh)
+ClaimsFork fit nodes old new (Some f) =
+    (mid : List Entry) × IsClaimBy fit nodes old mid (Some f.new)
+    × IsClaimBy fit nodes mid new (Some f.fresh)
 ClaimsFork fit nodes old new None = IsClaimBy fit nodes old new None
-    ⊎ ((n : NodeId) × (mid : List Entry) × (all : List Entry) × IsClaimBy fit nodes old mid (Some n) × IsClaimBy fit nodes mid all None × (new ≡ all ++ (Give n.slot, Returned n.slot) ∷ []))
+    ⊎ ((n : NodeId) × (mid : List Entry) × (all : List Entry) × IsClaimBy fit nodes old mid (Some n)
+    × IsClaimBy fit nodes mid all None × (new ≡ all ++ (Give n.slot, Returned n.slot) ∷ []))
 
 -- ---- a link of both
 
 -- the new internal node has the greater key, and the leaf with the lesser one is on its left
 abbrev pub inner_of : ℕ → ℕ → ℕ → ℕ → Inner
-inner_of key other leaf fresh = if nat_lt key other then record { key = other; left = fresh; right = leaf } else record { key = key; left = leaf; right = fresh }
+inner_of key other leaf fresh =
+    if nat_lt key other then record { key = other; left = fresh; right = leaf }
+    else record { key = key; left = leaf; right = fresh }
 
 -- the call may put its key beside the leaf at which its walk ended
 pub record MayGrow (p : Stand) (key : ℕ) (r : End) (f : Fork) : Type 0 where
@@ -95,7 +105,8 @@ pub record MayGrow (p : Stand) (key : ℕ) (r : End) (f : Fork) : Type 0 where
 -- both nodes were filled, and a link of them was tried at the edge by which the walk ended
 abbrev pub Grows : ℕ → End → Fork → Reply → List Entry → List Entry → Type 0
 Grows key r f reply old new = (i : Inner) × (i ≡ inner_of key r.key r.spot.edge.slot f.fresh.slot)
-    × (new ≡ ((old ++ fills f.new.slot i.key i.left i.right) ++ fills f.fresh.slot key 0 0) ++ (Link r.spot.parent r.spot.side r.spot.edge.slot f.new.slot, reply) ∷ [])
+    × (new ≡ ((old ++ fills f.new.slot i.key i.left i.right) ++ fills f.fresh.slot key 0 0)
+    ++ (Link r.spot.parent r.spot.side r.spot.edge.slot f.new.slot, reply) ∷ [])
 
 -- the worker's epochs and queues, and its call, are as they were
 pub record KeepsCall (p q : Stand) : Type 0 where
@@ -129,7 +140,9 @@ asks_help r e = (e.slot == r.spot.edge.slot) && (e.flag || e.tag)
 -- then a cleanup by that walk, won or lost, exactly where the edge asks for help; else no step
 -- (Natarajan and Mittal, section 3.2, insert)
 abbrev pub Helps : End → List ChainEdge → Edge → List Entry → List Entry → Type 0
-Helps r c e old new = ((asks_help r e ≡ true) × (((ns : List NodeId) × (epoch : ℕ) × CleanupWon r.spot c ns epoch old new) ⊎ CleanupLost r.spot c old new)) ⊎ ((asks_help r e ≡ false) × (new ≡ old))
+Helps r c e old new = ((asks_help r e ≡ true)
+    × (((ns : List NodeId) × (epoch : ℕ) × CleanupWon r.spot c ns epoch old new)
+    ⊎ CleanupLost r.spot c old new)) ⊎ ((asks_help r e ≡ false) × (new ≡ old))
 
 -- the nodes that were there are taken, or two are claimed
 abbrev pub Readies : Fit → ℕ → Option Fork → Fork → List Entry → List Entry → Type 0
@@ -137,12 +150,15 @@ Readies fit nodes None g old new = ClaimsFork fit nodes old new (Some g)
 Readies fit nodes (Some f) g old new = (g ≡ f) × (new ≡ old)
 
 -- the new nodes are at hand, as they were or just claimed; or there were none, and no slot was free
-abbrev pub IsReadied : Fit → ℕ → Option Fork → Option Fork → Option Fork → List Entry → List Entry → Type 0
+abbrev pub IsReadied : Fit → ℕ → Option Fork → Option Fork → Option Fork → List Entry → List Entry
+    → Type 0
 IsReadied fit nodes f g (Some h) old new = (g ≡ Some h) × Readies fit nodes f h old new
 IsReadied fit nodes f g None old new = (f ≡ None) × (g ≡ None) × ClaimsFork fit nodes old new None
 
--- a walk that ended at a leaf with another key, and a link of two new nodes there that was answered so
-pub record TriesLink (fit : Fit) (nodes k : ℕ) (f : Option Fork) (made : Fork) (r : End) (c : List ChainEdge) (reply : Reply) (old new : List Entry) : Type 0 where
+-- a walk that ended at a leaf with another key, and a link of two new nodes there that was answered
+-- so
+pub record TriesLink (fit : Fit) (nodes k : ℕ) (f : Option Fork) (made : Fork) (r : End)
+    (c : List ChainEdge) (reply : Reply) (old new : List Entry) : Type 0 where
   pub ended : List Entry
   pub walk : Seeks nodes k old ended c (Some r)
   pub other : r.key ≢ k
@@ -152,14 +168,22 @@ pub record TriesLink (fit : Fit) (nodes k : ℕ) (f : Option Fork) (made : Fork)
 
 -- a try of an insert of k, by what it came to; f are the new nodes before it, and g those after it
 -- (Natarajan and Mittal, section 3.2, insert)
-abbrev pub IsTry : Fit → ℕ → ℕ → Option Fork → Option Fork → List Entry → List Entry → Attempt → Type 0
-IsTry fit nodes k f g old new attempt.Found = (r : End) × (c : List ChainEdge) × Seeks nodes k old new c (Some r) × (r.key ≡ k) × (g ≡ f)
-IsTry fit nodes k f g old new attempt.Linked = (made : Fork) × (r : End) × (c : List ChainEdge) × TriesLink fit nodes k f made r c (Linked made.new) old new × (g ≡ None)
-IsTry fit nodes k f g old new attempt.Full = (r : End) × (c : List ChainEdge) × (mid : List Entry) × Seeks nodes k old mid c (Some r) × (r.key ≢ k) × (f ≡ None) × (g ≡ None) × ClaimsFork fit nodes mid new None
+abbrev pub IsTry : Fit → ℕ → ℕ → Option Fork → Option Fork → List Entry → List Entry → Attempt
+    → Type 0
+IsTry fit nodes k f g old new attempt.Found =
+    (r : End) × (c : List ChainEdge) × Seeks nodes k old new c (Some r) × (r.key ≡ k) × (g ≡ f)
+IsTry fit nodes k f g old new attempt.Linked =
+    (made : Fork) × (r : End) × (c : List ChainEdge)
+    × TriesLink fit nodes k f made r c (Linked made.new) old new × (g ≡ None)
+IsTry fit nodes k f g old new attempt.Full =
+    (r : End) × (c : List ChainEdge) × (mid : List Entry) × Seeks nodes k old mid c (Some r)
+    × (r.key ≢ k) × (f ≡ None) × (g ≡ None) × ClaimsFork fit nodes mid new None
 IsTry fit nodes k f g old new attempt.Lost = (IsBroken nodes k old new × (g ≡ f))
-    ⊎ ((made : Fork) × (r : End) × (c : List ChainEdge) × (e : Edge) × (mid : List Entry) × TriesLink fit nodes k f made r c (Lost e) old mid × (g ≡ Some made) × Helps r c e mid new)
+    ⊎ ((made : Fork) × (r : End) × (c : List ChainEdge) × (e : Edge) × (mid : List Entry)
+    × TriesLink fit nodes k f made r c (Lost e) old mid × (g ≡ Some made) × Helps r c e mid new)
 
--- what a try leaves: the pin, the call and what it flagged, and ledgers but for the nodes that it cut
+-- what a try leaves: the pin, the call and what it flagged, and ledgers but for the nodes that it
+-- cut
 pub record OnlyTries (p q : Stand) : Type 0 where
   pub note : (epochs q).note ≡ (epochs p).note
   pub pin : (epochs q).pin ≡ (epochs p).pin
@@ -170,7 +194,8 @@ pub record OnlyTries (p q : Stand) : Type 0 where
 
 -- what the call shows after it
 abbrev pub ShowsTry : ℕ → Stand → Stand → Attempt → Type 0
-ShowsTry k p q attempt.Found = ((leaf : ℕ) × EndedWith q ThePin k leaf k) × ((search q).linked ≡ (search p).linked)
+ShowsTry k p q attempt.Found =
+    ((leaf : ℕ) × EndedWith q ThePin k leaf k) × ((search q).linked ≡ (search p).linked)
 ShowsTry k p q attempt.Linked = (search q).linked ≡ true
 ShowsTry k p q _ = (search q).linked ≡ (search p).linked
 
@@ -180,30 +205,49 @@ ShowsTry k p q _ = (search q).linked ≡ (search p).linked
 -- Mittal, section 3.2, insert)
 abbrev pub LostInserts : Fit → ℕ → ℕ → ℕ → Option Fork → List Entry → List Entry → Type 0
 LostInserts fit nodes k zero f old new = (f ≡ None) × (new ≡ old)
-LostInserts fit nodes k (suc n) g old new = (f : Option Fork) × (mid : List Entry) × LostInserts fit nodes k n f old mid × IsTry fit nodes k f g mid new attempt.Lost
+LostInserts fit nodes k (suc n) g old new =
+    (f : Option Fork) × (mid : List Entry) × LostInserts fit nodes k n f old mid
+    × IsTry fit nodes k f g mid new attempt.Lost
 
 -- fewer lost tries than there may be, and then one that came to this
 abbrev pub EndsBy : Fit → ℕ → ℕ → ℕ → Option Fork → Attempt → List Entry → List Entry → Type 0
-EndsBy fit nodes tries k g a old new = (n : ℕ) × (f : Option Fork) × (mid : List Entry) × (n < tries) × LostInserts fit nodes k n f old mid × IsTry fit nodes k f g mid new a
+EndsBy fit nodes tries k g a old new =
+    (n : ℕ) × (f : Option Fork) × (mid : List Entry) × (n < tries)
+    × LostInserts fit nodes k n f old mid × IsTry fit nodes k f g mid new a
 
--- from the pin on, by the answer. NoMemory: the room of a later try than the first was refused, since that of the first one was made before the pin
+-- from the pin on, by the answer. NoMemory: the room of a later try than the first was refused,
+-- since that of the first one was made before the pin
 abbrev pub Finishes : Fit → ℕ → ℕ → ℕ → List Entry → List Entry → Result Bool Fault → Type 0
-Finishes fit nodes tries k old new (Ok true) = (mid : List Entry) × EndsBy fit nodes tries k None attempt.Linked old mid × (new ≡ mid ++ (LeaveWith true, Departed) ∷ [])
-Finishes fit nodes tries k old new (Ok false) = (f : Option Fork) × (mid back : List Entry) × EndsBy fit nodes tries k f attempt.Found old mid × Returns f mid back × (new ≡ back ++ (LeaveWith false, Departed) ∷ [])
-Finishes fit nodes tries k old new (Err fault.Full) = (mid : List Entry) × EndsBy fit nodes tries k None attempt.Full old mid × (new ≡ mid ++ (Leave, Departed) ∷ [])
-Finishes fit nodes tries k old new (Err fault.Busy) = (f : Option Fork) × (mid back : List Entry) × LostInserts fit nodes k tries f old mid × Returns f mid back × (new ≡ back ++ (Leave, Departed) ∷ [])
+Finishes fit nodes tries k old new (Ok true) =
+    (mid : List Entry) × EndsBy fit nodes tries k None attempt.Linked old mid
+    × (new ≡ mid ++ (LeaveWith true, Departed) ∷ [])
+Finishes fit nodes tries k old new (Ok false) =
+    (f : Option Fork) × (mid back : List Entry) × EndsBy fit nodes tries k f attempt.Found old mid
+    × Returns f mid back × (new ≡ back ++ (LeaveWith false, Departed) ∷ [])
+Finishes fit nodes tries k old new (Err fault.Full) =
+    (mid : List Entry) × EndsBy fit nodes tries k None attempt.Full old mid
+    × (new ≡ mid ++ (Leave, Departed) ∷ [])
+Finishes fit nodes tries k old new (Err fault.Busy) =
+    (f : Option Fork) × (mid back : List Entry) × LostInserts fit nodes k tries f old mid
+    × Returns f mid back × (new ≡ back ++ (Leave, Departed) ∷ [])
 Finishes fit nodes tries k old new (Err fault.NoMemory) =
-    (n : ℕ) × (f : Option Fork) × (mid back : List Entry) × (0 < n) × (n < tries) × LostInserts fit nodes k n f old mid × Returns f mid back × (new ≡ back ++ (Leave, Departed) ∷ [])
+    (n : ℕ) × (f : Option Fork) × (mid back : List Entry) × (0 < n) × (n < tries)
+    × LostInserts fit nodes k n f old mid × Returns f mid back
+    × (new ≡ back ++ (Leave, Departed) ∷ [])
 
 -- a pin for the insert, and then what finishes it
 abbrev pub PinsThen : Fit → ℕ → ℕ → ℕ → List Entry → List Entry → Result Bool Fault → Type 0
-PinsThen fit nodes tries k old new r = (pinned : List Entry) × (epoch : ℕ) × IsPinned (SightFor Insert k) tries old pinned epoch × Finishes fit nodes tries k pinned new r
+PinsThen fit nodes tries k old new r =
+    (pinned : List Entry) × (epoch : ℕ) × IsPinned (SightFor Insert k) tries old pinned epoch
+    × Finishes fit nodes tries k pinned new r
 
 -- Busy: there may be no try, and there was no step; or each try of the pin was lost; or each try
 -- was. NoMemory: the room of the first try was refused, and there was no step, or that of a later
 -- one (Natarajan and Mittal, section 3.2, insert)
 abbrev pub InsertDid : Fit → ℕ → ℕ → ℕ → List Entry → List Entry → Result Bool Fault → Type 0
 InsertDid fit nodes tries k old new (Err fault.Busy) =
-    ((tries ≡ 0) × (new ≡ old)) ⊎ ((tries ≢ 0) × IsMoved (SightFor Insert k) tries old new) ⊎ PinsThen fit nodes tries k old new (Err fault.Busy)
-InsertDid fit nodes tries k old new (Err fault.NoMemory) = ((tries ≢ 0) × (new ≡ old)) ⊎ PinsThen fit nodes tries k old new (Err fault.NoMemory)
+    ((tries ≡ 0) × (new ≡ old)) ⊎ ((tries ≢ 0) × IsMoved (SightFor Insert k) tries old new)
+    ⊎ PinsThen fit nodes tries k old new (Err fault.Busy)
+InsertDid fit nodes tries k old new (Err fault.NoMemory) =
+    ((tries ≢ 0) × (new ≡ old)) ⊎ PinsThen fit nodes tries k old new (Err fault.NoMemory)
 InsertDid fit nodes tries k old new r = PinsThen fit nodes tries k old new r

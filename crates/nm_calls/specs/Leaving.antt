@@ -14,16 +14,20 @@ use Rattle.nm_calls.specs.Telling.{Tells}
 
 -- a walk of the call for k ended at a leaf with key v
 abbrev pub EndedWith : Stand → Since → ℕ → ℕ → ℕ → Type 0
-EndedWith p since k leaf v = (parent : ℕ) × (side : Side) × Tells p (EndedAt since k leaf parent side v)
+EndedWith p since k leaf v = (parent : ℕ) × (side : Side)
+    × Tells p (EndedAt since k leaf parent side v)
 
 -- what the log of a call of that operation on k shows of an answer
 abbrev pub ShowsAnswer : Stand → Op → ℕ → Bool → Type 0
 ShowsAnswer p Has k true = (leaf : ℕ) × EndedWith p ThePin k leaf k
 ShowsAnswer p Has k false = (leaf v : ℕ) × (v ≢ k) × EndedWith p ThePin k leaf v
 ShowsAnswer p Insert k true = (search p).linked ≡ true
-ShowsAnswer p Insert k false = ((leaf : ℕ) × EndedWith p ThePin k leaf k) × ((search p).linked ≡ false)
-ShowsAnswer p Delete k true = (n : NodeId) × ((search p).flagged ≡ Some n) × (((search p).cut ≡ true) ⊎ ((leaf v : ℕ) × (leaf ≢ n.slot) × EndedWith p TheFlag k leaf v))
-ShowsAnswer p Delete k false = ((leaf v : ℕ) × (v ≢ k) × EndedWith p ThePin k leaf v) × ((search p).flagged ≡ None)
+ShowsAnswer p Insert k false =
+    ((leaf : ℕ) × EndedWith p ThePin k leaf k) × ((search p).linked ≡ false)
+ShowsAnswer p Delete k true = (n : NodeId) × ((search p).flagged ≡ Some n)
+    × (((search p).cut ≡ true) ⊎ ((leaf v : ℕ) × (leaf ≢ n.slot) × EndedWith p TheFlag k leaf v))
+ShowsAnswer p Delete k false =
+    ((leaf v : ℕ) × (v ≢ k) × EndedWith p ThePin k leaf v) × ((search p).flagged ≡ None)
 
 -- the call under the pin may leave with that answer
 abbrev pub IsAnswer : Stand → Bool → Type 0

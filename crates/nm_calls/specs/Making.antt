@@ -37,11 +37,13 @@ pub record IsFilled (p : Stand) (slot birth key left right : ℕ) : Type 0 where
 
 -- each other slot is private with what was stored there, or is not private, as it was
 abbrev pub KeepsOthers : ℕ → Stand → Stand → Type 0
-KeepsOthers slot p q = (s : ℕ) → s ≢ slot → get (knowledge q.view).drafts s ≡ get (knowledge p.view).drafts s
+KeepsOthers slot p q = (s : ℕ) → s ≢ slot
+    → get (knowledge q.view).drafts s ≡ get (knowledge p.view).drafts s
 
 -- so does each slot but the claimed one, if one was claimed
 abbrev pub KeepsAllBut : Option NodeId → Stand → Stand → Type 0
-KeepsAllBut claimed p q = (s : ℕ) → IfSome claimed (λ node. s ≢ node.slot) → get (knowledge q.view).drafts s ≡ get (knowledge p.view).drafts s
+KeepsAllBut claimed p q = (s : ℕ) → IfSome claimed (λ node. s ≢ node.slot)
+    → get (knowledge q.view).drafts s ≡ get (knowledge p.view).drafts s
 
 -- nothing but private slots has changed
 pub record OnlyMakes (p q : Stand) : Type 0 where
@@ -58,11 +60,16 @@ with_node d key left right = record d { key = Some key; left = Some left; right 
 
 -- the three steps that store a key and two edges in a slot
 abbrev pub fills : ℕ → ℕ → ℕ → ℕ → List Entry
-fills slot key left right = (Fill slot KeyOf key, Filled) ∷ (Fill slot (EdgeOn Left) left, Filled) ∷ (Fill slot (EdgeOn Right) right, Filled) ∷ []
+fills slot key left right = (Fill slot KeyOf key, Filled) ∷ (Fill slot (EdgeOn Left) left, Filled)
+    ∷ (Fill slot (EdgeOn Right) right, Filled) ∷ []
 
 -- the key and both edges were stored by three steps, and nothing else changed
 abbrev pub HasFilled : Stand → Stand → ℕ → ℕ → ℕ → ℕ → Type 0
-HasFilled p q slot key left right = q ≡ record p { view = record p.view { log = p.view.log ++ fills slot key left right; past = q.view.past } }
+HasFilled p q slot key left right =
+    q ≡ record p {
+      view = record p.view
+          { log = p.view.log ++ fills slot key left right; past = q.view.past };
+    }
 
 -- ---- linking a new node
 
@@ -74,7 +81,8 @@ pub record IsFork (p : Stand) (key other leaf new fresh : ℕ) : Type 0 where
   pub fresh_birth : ℕ
   pub apart : new ≢ fresh
   pub as_leaf : IsFilled p fresh fresh_birth key 0 0
-  pub as_fork : ((key < other) × IsFilled p new new_birth other fresh leaf) ⊎ ((other < key) × IsFilled p new new_birth key leaf fresh)
+  pub as_fork : ((key < other) × IsFilled p new new_birth other fresh leaf)
+      ⊎ ((other < key) × IsFilled p new new_birth key leaf fresh)
 
 -- the call is to insert a key and has not linked yet, a walk of it ended at the leaf, by that edge,
 -- and the new nodes put the key beside the leaf (Natarajan and Mittal, section 3.2, insert)
@@ -89,13 +97,16 @@ pub record IsInserting (p : Stand) (parent : ℕ) (side : Side) (leaf new fresh 
 -- the link is won: the call has linked, and both slots are private no longer (Natarajan and Mittal,
 -- section 3.2, insert)
 pub record HasLinked (p q : Stand) (parent : ℕ) (side : Side) (leaf new fresh : ℕ) : Type 0 where
-  pub step : (birth : ℕ) → (draft p new).birth ≡ Some birth → Stepped p q (Link parent side leaf new) (Linked (record { slot = new; birth = birth }))
+  pub step : (birth : ℕ) → (draft p new).birth ≡ Some birth
+      → Stepped p q (Link parent side leaf new) (Linked (record { slot = new; birth = birth }))
   pub new_given : is_private (knowledge q.view) new ≡ false
   pub fresh_given : is_private (knowledge q.view) fresh ≡ false
-  pub others : (s : ℕ) → s ≢ new → s ≢ fresh → get (knowledge q.view).drafts s ≡ get (knowledge p.view).drafts s
+  pub others : (s : ℕ) → s ≢ new → s ≢ fresh
+      → get (knowledge q.view).drafts s ≡ get (knowledge p.view).drafts s
   pub epochs : (knowledge q.view).brief ≡ (knowledge p.view).brief
   pub ledgers : (knowledge q.view).ledgers ≡ (knowledge p.view).ledgers
-  pub search : search_after idle q.view.log ≡ record (search_after idle p.view.log) { linked = true }
+  pub search : search_after idle q.view.log
+      ≡ record (search_after idle p.view.log) { linked = true }
 
 -- the link is lost: the edge that was found is read (Natarajan and Mittal, section 3.2, insert)
 pub record HasLost (p q : Stand) (parent : ℕ) (side : Side) (leaf new : ℕ) (e : Edge) : Type 0 where

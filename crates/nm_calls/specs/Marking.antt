@@ -32,8 +32,9 @@ pub record TagTold (p q : Stand) (x : ℕ) (side : Side) (e : Edge) : Type 0 whe
 
 -- ---- an edge that is found in place of another
 
--- what an edge tells that an exchange found in place of the one that it asked for: it is read; it is flagged where its twin is known tagged;
--- and it leads inside the layout, and is one of a slot above 5 to a slot above 5 where it is flagged
+-- what an edge tells that an exchange found in place of the one that it asked for: it is read; it
+-- is flagged where its twin is known tagged; and it leads inside the layout, and is one of a slot
+-- above 5 to a slot above 5 where it is flagged
 pub record EdgeFound (p q : Stand) (x : ℕ) (side : Side) (e : Edge) : Type 0 where
   pub learned : EdgeLearned (Tells q) x side e
   pub twin : (to : ℕ) → Tells p (IsTagged x (other side) to) → e.flag ≡ true
@@ -86,7 +87,8 @@ pub record FlagLost (p q : Stand) (parent : ℕ) (side : Side) (leaf : ℕ) (e :
 -- what a splice cuts: a chain from the successor down to the parent that the facts freeze, below a
 -- known ancestor; the parent is left by its edge on one side, which is frozen as this one
 -- (Natarajan and Mittal, section 3.2, cleanup; its ledger is ours)
-pub record IsToBeCut (p : Stand) (ancestor successor parent : ℕ) (keep : Side) (kept : Edge) : Type 0 where
+pub record IsToBeCut (p : Stand) (ancestor successor parent : ℕ) (keep : Side)
+    (kept : Edge) : Type 0 where
   pub knows_ancestor : Tells p (KnowsSlot ancestor)
   pub nodes : List NodeId
   pub frozen : FrozenTo (Tells p) parent keep successor nodes
@@ -103,15 +105,21 @@ pub record OnlyCuts (p q : Stand) : Type 0 where
 -- the splice is won: these nodes enter the own queue at the end, without a label, and wait for one;
 -- and where the leaf that the call flagged is one of them, the call has cut it (Natarajan and
 -- Mittal, section 3.2, cleanup; its ledger is ours)
-pub record SpliceWon (p q : Stand) (ancestor : ℕ) (side : Side) (successor parent : ℕ) (keep : Side) (ns : List NodeId) : Type 0 where
+pub record SpliceWon (p q : Stand) (ancestor : ℕ) (side : Side) (successor parent : ℕ) (keep : Side)
+    (ns : List NodeId) : Type 0 where
   pub step : Stepped p q (Splice ancestor side successor parent keep) (Cut ns)
-  pub queues : (o : ℕ) → held (knowledge q.view).ledgers o ≡ (if o == p.view.number then option_map (with_cut ns) (held (knowledge p.view).ledgers o) else held (knowledge p.view).ledgers o)
+  pub queues : (o : ℕ) → held (knowledge q.view).ledgers o
+      ≡ (if o == p.view.number then option_map (with_cut ns) (held (knowledge p.view).ledgers o)
+      else held (knowledge p.view).ledgers o)
   pub epochs : (knowledge q.view).brief ≡ record (knowledge p.view).brief { unlabelled = true }
-  pub cut : (search_after idle q.view.log).cut ≡ ((search_after idle p.view.log).cut || is_flagged_in (search_after idle p.view.log).flagged ns)
+  pub cut : (search_after idle q.view.log).cut
+      ≡ ((search_after idle p.view.log).cut
+      || is_flagged_in (search_after idle p.view.log).flagged ns)
 
 -- it is lost: another edge of the ancestor was found (Natarajan and Mittal, section 3.2, cleanup;
 -- its ledger is ours)
-pub record SpliceLost (p q : Stand) (ancestor : ℕ) (side : Side) (successor parent : ℕ) (keep : Side) (e : Edge) : Type 0 where
+pub record SpliceLost (p q : Stand) (ancestor : ℕ) (side : Side) (successor parent : ℕ)
+    (keep : Side) (e : Edge) : Type 0 where
   pub step : Stepped p q (Splice ancestor side successor parent keep) (Lost e)
   pub found : EdgeFound p q ancestor side e
   pub only : OnlyLooks p q

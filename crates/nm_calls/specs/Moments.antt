@@ -1,4 +1,5 @@
--- The moment of an answer, in what its pass has seen: it is one of the call that is answered, and of no earlier one.
+-- The moment of an answer, in what its pass has seen: it is one of the call that is answered, and
+-- of no earlier one.
 use Rattle.std.specs.Prelude.{◌≡◌, ℕ, Bool, None, List, [], ◌∷◌, ◌++◌}
 use Rattle.nm_edge.specs.declared.node.NodeId.{NodeId}
 use Rattle.nm_model.specs.declared.event.Event.TheVariants.{LeaveWith}

@@ -9,9 +9,11 @@ use Rattle.nm_calls.specs.declared.next_key.Descent.{Descent}
 use Rattle.nm_calls.specs.PlainWalks.{HasComeTo, HasEndedSo, WasSo}
 use Rattle.nm_calls.specs.Telling.{Tells}
 
--- where `Was j answer` says of a key j, at a moment of its own, whether the set had it: it had this key, which is not below `key`, and no key between them; or no key from `key` on
+-- where `Was j answer` says of a key j, at a moment of its own, whether the set had it: it had this
+-- key, which is not below `key`, and no key between them; or no key from `key` on
 abbrev pub IsNextBy : (ℕ → Bool → Type 0) → ℕ → Option ℕ → Type 0
-IsNextBy Was key (Some found) = (key ≤ found) × IsKey found × Was found true × ((j : ℕ) → key ≤ j → j < found → Was j false)
+IsNextBy Was key (Some found) =
+    (key ≤ found) × IsKey found × Was found true × ((j : ℕ) → key ≤ j → j < found → Was j false)
 IsNextBy Was key None = (j : ℕ) → key ≤ j → IsKey j → Was j false
 
 -- by the run that q has seen; each moment is later than all that p had seen
@@ -20,7 +22,8 @@ WasNext p q = IsNextBy (WasSo p q)
 
 -- ---- how a walk goes that serves many keys
 
--- a walk for each key from `from` on below the bound has come to a known node, which it reads next, or has ended at a leaf with the key that was found, where there is none to read
+-- a walk for each key from `from` on below the bound has come to a known node, which it reads next,
+-- or has ended at a leaf with the key that was found, where there is none to read
 pub record IsDescent (p : Stand) (d : Descent) : Type 0 where
   pub wide : d.from < d.bound
   pub low : d.bound ≤ infinity_0
@@ -30,4 +33,9 @@ pub record IsDescent (p : Stand) (d : Descent) : Type 0 where
 
 -- where it has read its node so, with that bound
 abbrev pub read_below : Descent → ℕ → Onward → Descent
-read_below d bound on = record { from = d.from; bound = bound; node = on.next.slot; found = on.found }
+read_below d bound on = record {
+  from = d.from;
+  bound = bound;
+  node = on.next.slot;
+  found = on.found;
+}

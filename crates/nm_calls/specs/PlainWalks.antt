@@ -31,12 +31,15 @@ pub record LooksUnderPin (tries most : ℕ) (old new : List Entry) : Type 0 wher
   pub looks : AddsLooks most pinned looked
   pub leaves : new ≡ looked ++ (Leave, Departed) ∷ []
 
--- no step, where there may be no try; or each try of that pin was lost; or such a pin, looks and a leave
+-- no step, where there may be no try; or each try of that pin was lost; or such a pin, looks and a
+-- leave
 abbrev pub LooksOrMoves : ℕ → ℕ → List Entry → List Entry → Type 0
 LooksOrMoves zero most old new = new ≡ old
-LooksOrMoves (suc t) most old new = IsMoved Sight (suc t) old new ⊎ LooksUnderPin (suc t) most old new
+LooksOrMoves (suc t) most old new =
+    IsMoved Sight (suc t) old new ⊎ LooksUnderPin (suc t) most old new
 
--- how many looks the walks for n keys take at most: one, and a key, a left and a right edge for each key in as many turns as there are nodes
+-- how many looks the walks for n keys take at most: one, and a key, a left and a right edge for
+-- each key in as many turns as there are nodes
 abbrev pub most_looks : ℕ → ℕ → ℕ
 most_looks nodes n = 1 + nodes * (3 * n)
 
@@ -44,12 +47,14 @@ most_looks nodes n = 1 + nodes * (3 * n)
 
 -- in the log since the pin a walk for k came to the slot (Natarajan and Mittal, section 3.2)
 abbrev pub HasComeTo : Stand → ℕ → ℕ → Type 0
-HasComeTo p k slot = (parent : ℕ) × (side : Side) × WalkComes k (since_pin [] p.view.log) slot parent side
+HasComeTo p k slot = (parent : ℕ) × (side : Side)
+    × WalkComes k (since_pin [] p.view.log) slot parent side
 
 -- in the log since the pin a walk for k ended, at a leaf whose key is k just where the answer is
 -- true (Natarajan and Mittal, section 3.2)
 abbrev pub HasEndedSo : Stand → ℕ → Bool → Type 0
-HasEndedSo p k answer = (leaf parent v : ℕ) × (side : Side) × WalkEnds k (since_pin [] p.view.log) leaf parent side v × (answer ≡ (v == k))
+HasEndedSo p k answer = (leaf parent v : ℕ) × (side : Side)
+    × WalkEnds k (since_pin [] p.view.log) leaf parent side v × (answer ≡ (v == k))
 
 -- by the run that q has seen, the set had the key just where the answer is true, at a moment later
 -- than all that p had seen, and at which the worker was pinned (Herlihy and Wing)

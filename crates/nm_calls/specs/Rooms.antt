@@ -10,12 +10,13 @@ pub record FillsUp (q r : BlockQueue Entry) : Type 0 where
   pub places : length r.items + r.spare ≡ length q.items + q.spare
   pub spare : r.spare ≤ q.spare
 
--- blocks of 32 places for what waits and the room of a try, and none more: less is to spare than that room and a block, and fewer places than a block has
--- are used up
+-- blocks of 32 places for what waits and the room of a try, and none more: less is to spare than
+-- that room and a block, and fewer places than a block has are used up
 pub record HasJustRoom (r : BlockQueue Entry) : Type 0 where
   pub spare : r.spare < cut_bound + 32
   pub blocks : 32 * r.blocks < length r.items + r.spare + 32
 
--- what a call makes of its queue: it has the blocks that it had, or, where some were taken, none more than what waits and the room of a try ask for
+-- what a call makes of its queue: it has the blocks that it had, or, where some were taken, none
+-- more than what waits and the room of a try ask for
 abbrev pub TakesRoom : BlockQueue Entry → BlockQueue Entry → Type 0
 TakesRoom q r = FillsUp q r ⊎ HasJustRoom r

@@ -41,7 +41,8 @@ pub record OnlyLooks (p q : Stand) : Type 0 where
 -- that has come there has read it (Natarajan and Mittal, section 3.2)
 pub record KeyTold (p q : Stand) (x key : ℕ) : Type 0 where
   pub high : key < infinity_0 → 6 ≤ x
-  pub reads : (since : Since) (k parent : ℕ) (side : Side) → Tells p (Came since k x parent side) → Tells q (ReadKey since k x parent side key)
+  pub reads : (since : Since) (k parent : ℕ) (side : Side) → Tells p (Came since k x parent side)
+      → Tells q (ReadKey since k x parent side key)
 
 -- what an edge tells that was looked at: it is read; it is flagged where its twin is known tagged,
 -- and as it was known where it is known flagged; it leads inside the layout, and is one of a slot
@@ -56,9 +57,12 @@ pub record EdgeTold (p q : Stand) (x : ℕ) (side : Side) (e : Edge) : Type 0 wh
   pub high : e.flag ≡ true → 6 ≤ e.slot
   pub owner : e.flag ≡ true → 6 ≤ x
   pub root : x ≡ 2 → side ≡ Left → e.slot ≢ 0
-  pub begins : (since : Since) (k : ℕ) → Walks p.view.layout p.view.number p.view.log since k → x ≡ 2 → side ≡ Left → Tells q (Came since k e.slot 2 Left)
-  pub goes : (since : Since) (k parent v : ℕ) (up : Side) → Tells p (ReadKey since k x parent up v) → side ≡ side_of k v → e.slot ≢ 0 → Tells q (Came since k e.slot x side)
-  pub ends : (since : Since) (k parent v : ℕ) (up : Side) → Tells p (ReadKey since k x parent up v) → side ≡ side_of k v → e.slot ≡ 0 → Tells q (EndedAt since k x parent up v)
+  pub begins : (since : Since) (k : ℕ) → Walks p.view.layout p.view.number p.view.log since k
+      → x ≡ 2 → side ≡ Left → Tells q (Came since k e.slot 2 Left)
+  pub goes : (since : Since) (k parent v : ℕ) (up : Side) → Tells p (ReadKey since k x parent up v)
+      → side ≡ side_of k v → e.slot ≢ 0 → Tells q (Came since k e.slot x side)
+  pub ends : (since : Since) (k parent v : ℕ) (up : Side) → Tells p (ReadKey since k x parent up v)
+      → side ≡ side_of k v → e.slot ≡ 0 → Tells q (EndedAt since k x parent up v)
 
 -- what a walk for k is told where it has read a node, whose key this is, to go on to that side by
 -- that edge: a key below the sentinels stands above slot 5; the edge is read, and leads inside the
@@ -67,5 +71,7 @@ pub record EdgeTold (p q : Stand) (x : ℕ) (side : Side) (e : Edge) : Type 0 wh
 pub record OnwardTold (p q : Stand) (k x key : ℕ) (side : Side) (e : Edge) : Type 0 where
   pub high : key < infinity_0 → 6 ≤ x
   pub learned : EdgeLearned (Tells q) x side e
-  pub goes : (since : Since) (parent : ℕ) (up : Side) → Tells p (Came since k x parent up) → e.slot ≢ 0 → Tells q (Came since k e.slot x side)
-  pub ends : (since : Since) (parent : ℕ) (up : Side) → Tells p (Came since k x parent up) → e.slot ≡ 0 → Tells q (EndedAt since k x parent up key)
+  pub goes : (since : Since) (parent : ℕ) (up : Side) → Tells p (Came since k x parent up)
+      → e.slot ≢ 0 → Tells q (Came since k e.slot x side)
+  pub ends : (since : Since) (parent : ℕ) (up : Side) → Tells p (Came since k x parent up)
+      → e.slot ≡ 0 → Tells q (EndedAt since k x parent up key)

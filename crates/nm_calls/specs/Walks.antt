@@ -28,8 +28,22 @@ begin e = record { ancestor = 1; above = Left; successor = 2; parent = 2; side =
 -- at the node that the edge led to, left on a side by an edge (Natarajan and Mittal, section 3.2,
 -- the seek record)
 abbrev pub onto : Spot → Side → Edge → Spot
-onto s d e = if s.edge.tag then record { ancestor = s.ancestor; above = s.above; successor = s.successor; parent = s.edge.slot; side = d; edge = e }
-    else record { ancestor = s.parent; above = s.side; successor = s.edge.slot; parent = s.edge.slot; side = d; edge = e }
+onto s d e = if s.edge.tag then record {
+  ancestor = s.ancestor;
+  above = s.above;
+  successor = s.successor;
+  parent = s.edge.slot;
+  side = d;
+  edge = e;
+}
+    else record {
+      ancestor = s.parent;
+      above = s.side;
+      successor = s.edge.slot;
+      parent = s.edge.slot;
+      side = d;
+      edge = e;
+    }
 
 abbrev pub chained : ℕ → Side → ChainEdge
 chained s d = record { slot = s; side = d }
@@ -42,7 +56,9 @@ chain_onto s c = if s.edge.tag then c ++ chained s.parent s.side ∷ [] else []
 
 -- a look at a node's key, then one at its left edge and one at its right edge
 abbrev pub after_looks : List Entry → ℕ → ℕ → Edge → Edge → List Entry
-after_looks l s key left right = ((l ++ (Look s KeyOf, KeyIs key) ∷ []) ++ (Look s (EdgeOn Left), EdgeIs left) ∷ []) ++ (Look s (EdgeOn Right), EdgeIs right) ∷ []
+after_looks l s key left right =
+    ((l ++ (Look s KeyOf, KeyIs key) ∷ []) ++ (Look s (EdgeOn Left), EdgeIs left) ∷ [])
+    ++ (Look s (EdgeOn Right), EdgeIs right) ∷ []
 
 -- of these two the edge on that side
 abbrev pub edge_on : Side → Edge → Edge → Edge
@@ -51,32 +67,39 @@ edge_on Right left right = right
 
 -- so a walk for k reads a node: the side of k there, and the edge on that side
 abbrev pub Reads : ℕ → ℕ → List Entry → List Entry → Onward → Type 0
-Reads k s old new on = (left right : Edge) × (new ≡ after_looks old s on.found left right) × (on.side ≡ side_of k on.found) × (on.next ≡ edge_on on.side left right)
+Reads k s old new on = (left right : Edge) × (new ≡ after_looks old s on.found left right)
+    × (on.side ≡ side_of k on.found) × (on.next ≡ edge_on on.side left right)
 
 -- slot 2 was looked at, and n nodes below it; none of the edges read was null (Natarajan and
 -- Mittal, section 3.2, seek)
 abbrev pub Walks : ℕ → ℕ → List Entry → List Entry → Spot → List ChainEdge → Type 0
-Walks k zero old new s c = (s ≡ begin s.edge) × (c ≡ []) × (s.edge.slot ≢ 0) × (new ≡ old ++ (Look 2 (EdgeOn Left), EdgeIs s.edge) ∷ [])
+Walks k zero old new s c = (s ≡ begin s.edge) × (c ≡ []) × (s.edge.slot ≢ 0)
+    × (new ≡ old ++ (Look 2 (EdgeOn Left), EdgeIs s.edge) ∷ [])
 Walks k (suc n) old new s c =
-    (mid : List Entry) × (t : Spot) × (d : List ChainEdge) × (on : Onward) × Walks k n old mid t d × (on.next.slot ≢ 0)
+    (mid : List Entry) × (t : Spot) × (d : List ChainEdge) × (on : Onward) × Walks k n old mid t d
+    × (on.next.slot ≢ 0)
     × Reads k t.edge.slot mid new on × (s ≡ onto t on.side on.next) × (c ≡ chain_onto t d)
 
 -- a walk to the leaf that the edge of s leads to, whose key this is; with slot 2 and the leaf it
 -- looked at no more than `nodes` nodes (Natarajan and Mittal, section 3.2, seek)
 abbrev pub Ends : ℕ → ℕ → List Entry → List Entry → Spot → List ChainEdge → ℕ → Type 0
 Ends nodes k old new s c key =
-    (n : ℕ) × (mid : List Entry) × (on : Onward) × (n + 2 ≤ nodes) × Walks k n old mid s c × (on.next.slot ≡ 0)
+    (n : ℕ) × (mid : List Entry) × (on : Onward) × (n + 2 ≤ nodes) × Walks k n old mid s c
+    × (on.next.slot ≡ 0)
     × Reads k s.edge.slot mid new on × (on.found ≡ key)
 
 -- a walk broken off where it had looked at as many nodes as there are
 abbrev pub IsTooLong : ℕ → ℕ → List Entry → List Entry → Type 0
-IsTooLong nodes k old new = (n : ℕ) × (s : Spot) × (c : List ChainEdge) × Walks k n old new s c × (suc n ≡ nodes)
+IsTooLong nodes k old new = (n : ℕ) × (s : Spot) × (c : List ChainEdge) × Walks k n old new s c
+    × (suc n ≡ nodes)
 
 -- a walk broken off where its chain would hold 65 nodes
 abbrev pub IsTooDeep : ℕ → ℕ → List Entry → List Entry → Type 0
 IsTooDeep nodes k old new =
-    (n : ℕ) × (mid : List Entry) × (s : Spot) × (c : List ChainEdge) × (on : Onward) × (n + 2 ≤ nodes) × Walks k n old mid s c
-    × Reads k s.edge.slot mid new on × (on.next.slot ≢ 0) × (s.edge.tag ≡ true) × (chain_bound ≤ length c + 1)
+    (n : ℕ) × (mid : List Entry) × (s : Spot) × (c : List ChainEdge) × (on : Onward)
+    × (n + 2 ≤ nodes) × Walks k n old mid s c
+    × Reads k s.edge.slot mid new on × (on.next.slot ≢ 0) × (s.edge.tag ≡ true)
+    × (chain_bound ≤ length c + 1)
 
 -- a walk that was broken off at a bound (Natarajan and Mittal, section 3.2, seek)
 abbrev pub IsBroken : ℕ → ℕ → List Entry → List Entry → Type 0
@@ -98,7 +121,8 @@ Seeks nodes k old new c None = IsBroken nodes k old new
 -- by tagged edges the chain leads from s to q
 abbrev pub Leads : (Fact → Type 0) → ℕ → List ChainEdge → ℕ → Type 0
 Leads H s [] q = s ≡ q
-Leads H s (l ∷ c) q = (l.slot ≡ s) × (t : ℕ) × H (IsTagged s l.side t) × H (KnowsSlot t) × Leads H t c q
+Leads H s (l ∷ c) q = (l.slot ≡ s) × (t : ℕ) × H (IsTagged s l.side t) × H (KnowsSlot t)
+    × Leads H t c q
 
 -- what is known of the nodes of a spot and of its chain
 pub record IsAt (H : Fact → Type 0) (s : Spot) (c : List ChainEdge) : Type 0 where
@@ -117,8 +141,11 @@ pub record HasEnded (H : Fact → Type 0) (nodes : ℕ) (s : Spot) (c : List Cha
 
 -- each kind of walk that the call has came so to the slot
 abbrev pub HasCome : Stand → Stand → ℕ → Spot → Type 0
-HasCome p q k s = (since : Since) → HasWalks p.view.layout p.view.number p.view.log since k → Tells q (Came since k s.edge.slot s.parent s.side)
+HasCome p q k s = (since : Since) → HasWalks p.view.layout p.view.number p.view.log since k
+    → Tells q (Came since k s.edge.slot s.parent s.side)
 
 -- or ended so at the leaf, with its key
 abbrev pub HasFound : Stand → Stand → ℕ → ℕ → ℕ → Side → ℕ → Type 0
-HasFound p q k leaf parent side key = (since : Since) → HasWalks p.view.layout p.view.number p.view.log since k → Tells q (EndedAt since k leaf parent side key)
+HasFound p q k leaf parent side key =
+    (since : Since) → HasWalks p.view.layout p.view.number p.view.log since k
+    → Tells q (EndedAt since k leaf parent side key)

@@ -21,7 +21,8 @@ use nm_epoch::Entry;
 use nm_limbo::BlockQueue;
 use nm_steps::{Pass, Shared};
 
-/// How many nodes a splice cuts off at most: `CHAIN_BOUND` internal ones, and the flagged leaf beside each.
+/// How many nodes a splice cuts off at most: `CHAIN_BOUND` internal ones, and the flagged leaf
+/// beside each.
 pub const CUT_BOUND: usize = 128;
 
 /// The nodes that a splice cuts off.
@@ -84,10 +85,12 @@ fn push_labelled(queue: &mut BlockQueue<Entry>, nodes: &[NodeId], label: u64)
     }
 }
 
-/// A cleanup by a walk that ended at this spot with this chain, and whether it is won. Won: the chain from the successor down to the parent
-/// is cut off with the flagged leaf beside each of its nodes, labelled at once, and waits at the end of the queue. Lost: it has only looked, and
-/// tagged an edge. `splices` counts the worker's won splices, up to 2^64 - 1. It takes no memory. At most 3 steps for each node of the chain, and 8 more.
-/// (The cleanup of Natarajan and Mittal, section 3.2, for a whole chain.)
+/// A cleanup by a walk that ended at this spot with this chain, and whether it is won. Won: the
+/// chain from the successor down to the parent is cut off with the flagged leaf beside each of its
+/// nodes, labelled at once, and waits at the end of the queue. Lost: it has only looked, and tagged
+/// an edge. `splices` counts the worker's won splices, up to 2^64 - 1. It takes no memory. At most
+/// 3 steps for each node of the chain, and 8 more. (The cleanup of Natarajan and Mittal, section
+/// 3.2, for a whole chain.)
 pub fn cleanup(
     shared: &Shared,
     pass: &mut Pass,
@@ -106,7 +109,8 @@ pub fn cleanup(
     requires counted { splices.old ≡ capped (won_splices pass.old.view.log) }
     ensures same { IsSamePass pass.old pass.new }
     ensures past { HasSeenAllOf pass.new pass.old }
-    ensures won { result ≡ true → HasCleaned spot.now chain.now pass.old pass.new queue.old.items queue.new.items }
+    ensures won { result ≡ true
+        → HasCleaned spot.now chain.now pass.old pass.new queue.old.items queue.new.items }
     ensures lost { result ≡ false → HasCutNothing spot.now chain.now pass.old pass.new }
     ensures untouched { result ≡ false → queue.new ≡ queue.old }
     ensures queue { IsQueueOf (knowledge pass.new.view) pass.new.view.number queue.new.items }

@@ -23,8 +23,8 @@ pub struct Kept {
     pub leaf: u32,
 }
 
-/// The edge to keep of the parent at which a walk stands, where one of its edges is flagged: two looks.
-/// (The cleanup of Natarajan and Mittal, section 3.2.)
+/// The edge to keep of the parent at which a walk stands, where one of its edges is flagged: two
+/// looks. (The cleanup of Natarajan and Mittal, section 3.2.)
 pub fn choose(shared: &Shared, pass: &mut Pass, spot: &Spot) -> Option<Kept>
     requires own { IsOf shared.now pass.old }
     requires run { IsInRun pass.old }
@@ -35,9 +35,11 @@ pub fn choose(shared: &Shared, pass: &mut Pass, spot: &Spot) -> Option<Kept>
     ensures looks { Chooses spot.now pass.old.view.log pass.new.view.log result }
     ensures on { GoesOn pass.old pass.new }
     ensures only { OnlyLooks pass.old pass.new }
-    ensures flagged { IfSome result (λ r. Tells pass.new (IsFlagged spot.now.parent (other r.side) r.leaf)) }
+    ensures flagged { IfSome result
+        (λ r. Tells pass.new (IsFlagged spot.now.parent (other r.side) r.leaf)) }
     ensures high { IfSome result (λ r. 6 ≤ spot.now.parent) }
-    ensures again { (to : ℕ) → Tells pass.old (IsFlagged spot.now.parent spot.now.side to) → result ≡ Some (record { side = other spot.now.side; leaf = to }) }
+    ensures again { (to : ℕ) → Tells pass.old (IsFlagged spot.now.parent spot.now.side to)
+        → result ≡ Some (record { side = other spot.now.side; leaf = to }) }
 {
     let across = spot.side.other();
     let on = look_edge(shared, pass, spot.parent, spot.side);
@@ -57,7 +59,8 @@ pub fn choose(shared: &Shared, pass: &mut Pass, spot: &Spot) -> Option<Kept>
     }
 }
 
-/// Looks at a node whose edge on a side is tagged, and at the flagged leaf beside: both, with their births. Three looks.
+/// Looks at a node whose edge on a side is tagged, and at the flagged leaf beside: both, with their
+/// births. Three looks.
 fn freeze_one(shared: &Shared, pass: &mut Pass, slot: u32, side: Side) -> (NodeId, NodeId)
     requires own { IsOf shared.now pass.old }
     requires run { IsInRun pass.old }
@@ -92,7 +95,8 @@ fn add_frozen(shared: &Shared, pass: &mut Pass, slot: u32, side: Side, nodes: &m
     requires room { length nodes.old.items + 2 ≤ cut_bound }
     ensures same { IsSamePass pass.old pass.new }
     ensures past { HasSeenAllOf pass.new pass.old }
-    ensures frozen { (node leaf : Node) × FrozenAt pass.old pass.new slot side node leaf × (nodes.new.items ≡ nodes.old.items ++ node ∷ leaf ∷ []) }
+    ensures frozen { (node leaf : Node) × FrozenAt pass.old pass.new slot side node leaf
+        × (nodes.new.items ≡ nodes.old.items ++ node ∷ leaf ∷ []) }
     ensures on { GoesOn pass.old pass.new }
     ensures only { OnlyLooks pass.old pass.new }
 {
@@ -101,9 +105,10 @@ fn add_frozen(shared: &Shared, pass: &mut Pass, slot: u32, side: Side, nodes: &m
     nodes.push(leaf);
 }
 
-/// Looks at each node of a chain of tagged edges down to the parent, whose edge on `keep` is tagged too, and at the flagged leaf beside
-/// each: downwards each node and then its leaf, with their births. Three looks a node, the parent included.
-/// (The chain that one splice of Natarajan and Mittal's cleanup cuts off, section 3.2.)
+/// Looks at each node of a chain of tagged edges down to the parent, whose edge on `keep` is tagged
+/// too, and at the flagged leaf beside each: downwards each node and then its leaf, with their
+/// births. Three looks a node, the parent included. (The chain that one splice of Natarajan and
+/// Mittal's cleanup cuts off, section 3.2.)
 pub fn freeze(
     shared: &Shared,
     pass: &mut Pass,
@@ -121,7 +126,8 @@ pub fn freeze(
     requires room { length nodes.old.items + 2 * (length chain.now + 1) ≤ cut_bound }
     ensures same { IsSamePass pass.old pass.new }
     ensures past { HasSeenAllOf pass.new pass.old }
-    ensures frozen { (ns : List Node) × (nodes.new.items ≡ nodes.old.items ++ ns) × FrozenTo (Tells pass.new) parent keep (top chain.now parent) ns }
+    ensures frozen { (ns : List Node) × (nodes.new.items ≡ nodes.old.items ++ ns)
+        × FrozenTo (Tells pass.new) parent keep (top chain.now parent) ns }
     ensures size { length nodes.new.items ≡ length nodes.old.items + 2 * (length chain.now + 1) }
     ensures looks { Freezes parent keep chain.now pass.old.view.log pass.new.view.log }
     ensures on { GoesOn pass.old pass.new }

@@ -85,7 +85,8 @@ fn leads_to(end: &End, slot: u32) -> bool
     end.spot.edge.slot() == slot
 }
 
-/// One try to remove the leaf that the call has flagged: a walk, and a cleanup where it ends at that leaf still.
+/// One try to remove the leaf that the call has flagged: a walk, and a cleanup where it ends at
+/// that leaf still.
 fn try_remove(
     shared: &Shared,
     pass: &mut Pass,
@@ -103,9 +104,11 @@ fn try_remove(
     requires counted { splices.old ≡ capped (won_splices pass.old.view.log) }
     ensures same { IsSamePass pass.old pass.new }
     ensures past { HasSeenAllOf pass.new pass.old }
-    ensures removed { result ≡ true → Removes shared.now.layout.nodes key leaf pass.old.view.log pass.new.view.log }
+    ensures removed { result ≡ true
+        → Removes shared.now.layout.nodes key leaf pass.old.view.log pass.new.view.log }
     ensures shows { result ≡ true → ShowsAnswer pass.new Delete key true }
-    ensures lost { result ≡ false → RemovesNothing shared.now.layout.nodes key leaf pass.old.view.log pass.new.view.log }
+    ensures lost { result ≡ false
+        → RemovesNothing shared.now.layout.nodes key leaf pass.old.view.log pass.new.view.log }
     ensures on { GoesOn pass.old pass.new }
     ensures only { OnlyCleans pass.old pass.new }
     ensures queue { IsQueueOf (knowledge pass.new.view) pass.new.view.number queue.new.items }
@@ -139,7 +142,8 @@ fn remove(
     requires counted { splices.old ≡ capped (won_splices pass.old.view.log) }
     ensures same { IsSamePass pass.old pass.new }
     ensures past { HasSeenAllOf pass.new pass.old }
-    ensures part { IsRemoval shared.now.layout.nodes key leaf tries pass.old.view.log pass.new.view.log result }
+    ensures part { IsRemoval shared.now.layout.nodes key leaf tries pass.old.view.log
+        pass.new.view.log result }
     ensures refused { result ≡ Removal.Refused → queue.new.spare < cut_bound }
     ensures shows { IfRemoved result (ShowsAnswer pass.new Delete key true) }
     ensures on { GoesOn pass.old pass.new }
@@ -159,7 +163,8 @@ fn remove(
     Removal::Spent
 }
 
-/// Looks at the birth of the leaf at which the walk ended, which won answers, and flags the edge to it. Lost: the edge that was found.
+/// Looks at the birth of the leaf at which the walk ended, which won answers, and flags the edge to
+/// it. Lost: the edge that was found.
 fn flag_at(shared: &Shared, pass: &mut Pass, key: u64, end: &End) -> Result<u64, Edge>
     requires own { IsOf shared.now pass.old }
     requires run { IsInRun pass.old }
@@ -181,7 +186,8 @@ fn flag_at(shared: &Shared, pass: &mut Pass, key: u64, end: &End) -> Result<u64,
     }
 }
 
-/// One try to flag the leaf with the key: a walk, and a flag where the leaf has the key, with at most one cleanup of help where it is lost.
+/// One try to flag the leaf with the key: a walk, and a flag where the leaf has the key, with at
+/// most one cleanup of help where it is lost.
 fn try_flag(
     shared: &Shared,
     pass: &mut Pass,
@@ -203,7 +209,8 @@ fn try_flag(
     requires counted { splices.old ≡ capped (won_splices pass.old.view.log) }
     ensures same { IsSamePass pass.old pass.new }
     ensures past { HasSeenAllOf pass.new pass.old }
-    ensures part { IsFlagTry shared.now.layout.nodes key chain.new.items pass.old.view.log pass.new.view.log result }
+    ensures part { IsFlagTry shared.now.layout.nodes key chain.new.items pass.old.view.log
+        pass.new.view.log result }
     ensures shows { ShowsFlag key chain.new.items pass.old pass.new result }
     ensures on { GoesOn pass.old pass.new }
     ensures only { OnlyInjects pass.old pass.new }
@@ -249,7 +256,8 @@ fn inject(
     requires counted { splices.old ≡ capped (won_splices pass.old.view.log) }
     ensures same { IsSamePass pass.old pass.new }
     ensures past { HasSeenAllOf pass.new pass.old }
-    ensures part { IsInjection shared.now.layout.nodes key tries chain.new.items pass.old.view.log pass.new.view.log result }
+    ensures part { IsInjection shared.now.layout.nodes key tries chain.new.items pass.old.view.log
+        pass.new.view.log result }
     ensures refused { result ≡ Injection.Refused → queue.new.spare < cut_bound }
     ensures shows { ShowsInjection key chain.new.items pass.new result }
     ensures on { GoesOn pass.old pass.new }
@@ -288,14 +296,16 @@ fn remove_after(
     requires own { IsOf shared.now pass.old }
     requires run { IsInRun pass.old }
     requires removing { IsRemoving pass.old key (leaf_of end.now birth) }
-    requires edge { Tells pass.old (IsFlagged end.now.spot.parent end.now.spot.side end.now.spot.edge.slot) }
+    requires edge { Tells pass.old
+        (IsFlagged end.now.spot.parent end.now.spot.side end.now.spot.edge.slot) }
     requires at { IsAt (Tells pass.old) end.now.spot chain.old.items }
     requires few { length chain.old.items < chain_bound }
     requires queue { IsQueueOf (knowledge pass.old.view) pass.old.view.number queue.old.items }
     requires counted { splices.old ≡ capped (won_splices pass.old.view.log) }
     ensures same { IsSamePass pass.old pass.new }
     ensures past { HasSeenAllOf pass.new pass.old }
-    ensures part { RemovalAfter shared.now.layout.nodes key end.now chain.old.items birth left pass.old.view.log pass.new.view.log result }
+    ensures part { RemovalAfter shared.now.layout.nodes key end.now chain.old.items birth left
+        pass.old.view.log pass.new.view.log result }
     ensures refused { result ≡ Removal.Refused → queue.new.spare < cut_bound }
     ensures shows { IfRemoved result (ShowsAnswer pass.new Delete key true) }
     ensures on { GoesOn pass.old pass.new }
@@ -327,7 +337,8 @@ fn leaf_at(end: &End, birth: u64) -> NodeId
     }
 }
 
-/// The tries of a delete, from its pin to its answer. The room of the first one was made before the pin.
+/// The tries of a delete, from its pin to its answer. The room of the first one was made before the
+/// pin.
 fn delete_pinned(
     shared: &Shared,
     pass: &mut Pass,
@@ -352,9 +363,13 @@ fn delete_pinned(
     requires counted { splices.old ≡ capped (won_splices pass.old.view.log) }
     ensures same { IsSamePass pass.old pass.new }
     ensures past { HasSeenAllOf pass.new pass.old }
-    ensures part { DeleteFinishes shared.now.layout.nodes tries key pass.old.view.log pass.new.view.log result }
-    ensures refused { IfErr result (LacksRoomOr (λ n. FlagsThen shared.now.layout.nodes tries key n pass.old.view.log pass.new.view.log Removal.Spent) queue.new.spare) }
-    ensures moment { (o : Stand) → HadNoCall o pass.old → IfOk result (AnswerHasMoment o pass.new Delete key) }
+    ensures part { DeleteFinishes shared.now.layout.nodes tries key pass.old.view.log
+        pass.new.view.log result }
+    ensures refused { IfErr result
+        (LacksRoomOr (λ n. FlagsThen shared.now.layout.nodes tries key n pass.old.view.log
+        pass.new.view.log Removal.Spent) queue.new.spare) }
+    ensures moment { (o : Stand) → HadNoCall o pass.old
+        → IfOk result (AnswerHasMoment o pass.new Delete key) }
     ensures run { IsInRun pass.new }
     ensures after { AfterDelete key pass.new result }
     ensures private { (knowledge pass.new.view).drafts ≡ (knowledge pass.old.view).drafts }
@@ -390,13 +405,16 @@ fn delete_pinned(
     }
 }
 
-/// Deletes a key, and answers whether it was in the set. The worker rests before; it rests after, but where the leaf with the key is
-/// flagged and not known to be cut off: then it stays pinned for that leaf. Its queue is the one of its log before and after.
-/// Room for a cleanup is made before each try, that of the first one before the pin, in the fewest blocks, and no other memory is taken.
+/// Deletes a key, and answers whether it was in the set. The worker rests before; it rests after,
+/// but where the leaf with the key is flagged and not known to be cut off: then it stays pinned for
+/// that leaf. Its queue is the one of its log before and after. Room for a cleanup is made before
+/// each try, that of the first one before the pin, in the fewest blocks, and no other memory is
+/// taken.
 ///
-/// At most `tries` * (4 `nodes` + 512) + 6 `nodes` + 10 steps. `Ok(true)` and `Unfinished`: just one flag was won, and no link; else
-/// neither. `splices` counts the worker's won splices, up to 2^64 - 1. What stands in `chain` is not looked at: it is the room of the walks.
-/// (The delete of Natarajan and Mittal, section 3.2.)
+/// At most `tries` * (4 `nodes` + 512) + 6 `nodes` + 10 steps. `Ok(true)` and `Unfinished`: just
+/// one flag was won, and no link; else neither. `splices` counts the worker's won splices, up to
+/// 2^64 - 1. What stands in `chain` is not looked at: it is the room of the walks. (The delete of
+/// Natarajan and Mittal, section 3.2.)
 pub fn delete(
     shared: &Shared,
     pass: &mut Pass,
@@ -413,11 +431,16 @@ pub fn delete(
     requires counted { splices.old ≡ capped (won_splices pass.old.view.log) }
     ensures same { IsSamePass pass.old pass.new }
     ensures past { HasSeenAllOf pass.new pass.old }
-    ensures did { DeleteDid shared.now.layout.nodes tries key pass.old.view.log pass.new.view.log result }
-    ensures refused { IfErr result (LacksRoomOr (LosesAfterFlag shared.now.layout.nodes tries key pass.old.view.log pass.new.view.log) queue.new.spare) }
+    ensures did { DeleteDid shared.now.layout.nodes tries key pass.old.view.log pass.new.view.log
+        result }
+    ensures refused { IfErr result
+        (LacksRoomOr (LosesAfterFlag shared.now.layout.nodes tries key pass.old.view.log
+        pass.new.view.log) queue.new.spare) }
     ensures moment { IfOk result (AnswerHasMoment pass.old pass.new Delete key) }
     ensures won { HasWon pass.old.view.log pass.new.view.log 0 (flags_of_delete result) }
-    ensures steps { length pass.new.view.log ≤ length pass.old.view.log + tries * (4 * shared.now.layout.nodes + 8 * chain_bound) + 6 * shared.now.layout.nodes + 10 }
+    ensures steps { length pass.new.view.log
+        ≤ length pass.old.view.log + tries * (4 * shared.now.layout.nodes + 8 * chain_bound)
+        + 6 * shared.now.layout.nodes + 10 }
     ensures run { (pass.new ≡ pass.old) ⊎ IsInRun pass.new }
     ensures after { AfterDelete key pass.new result }
     ensures private { (knowledge pass.new.view).drafts ≡ (knowledge pass.old.view).drafts }
@@ -440,10 +463,11 @@ pub fn delete(
     delete_pinned(shared, pass, key.get(), tries, chain, queue, splices)
 }
 
-/// Goes on to remove the leaf that the worker has flagged: whether it is cut off, and the worker rests. Else it stays pinned.
-/// Room for a cleanup is made before each try, in the fewest blocks, and no other memory is taken.
-/// At most `tries` * (4 `nodes` + 512) + 6 `nodes` + 10 steps; no link and no flag is won. `splices` counts the worker's won splices, up to
-/// 2^64 - 1. What stands in `chain` is not looked at: it is the room of the walks.
+/// Goes on to remove the leaf that the worker has flagged: whether it is cut off, and the worker
+/// rests. Else it stays pinned. Room for a cleanup is made before each try, in the fewest blocks,
+/// and no other memory is taken. At most `tries` * (4 `nodes` + 512) + 6 `nodes` + 10 steps; no
+/// link and no flag is won. `splices` counts the worker's won splices, up to 2^64 - 1. What stands
+/// in `chain` is not looked at: it is the room of the walks.
 pub fn finish(
     shared: &Shared,
     pass: &mut Pass,
@@ -461,11 +485,17 @@ pub fn finish(
     requires counted { splices.old ≡ capped (won_splices pass.old.view.log) }
     ensures same { IsSamePass pass.old pass.new }
     ensures past { HasSeenAllOf pass.new pass.old }
-    ensures did { FinishDid shared.now.layout.nodes key leaf tries pass.old.view.log pass.new.view.log result }
-    ensures refused { result ≡ false → (queue.new.spare < cut_bound) ⊎ LosesEachTry shared.now.layout.nodes key leaf tries pass.old.view.log pass.new.view.log }
-    ensures moment { result ≡ true → (o : Stand) → HadNoCall o pass.old → AnswerHasMoment o pass.new Delete key true }
+    ensures did { FinishDid shared.now.layout.nodes key leaf tries pass.old.view.log
+        pass.new.view.log result }
+    ensures refused { result ≡ false
+        → (queue.new.spare < cut_bound)
+        ⊎ LosesEachTry shared.now.layout.nodes key leaf tries pass.old.view.log pass.new.view.log }
+    ensures moment { result ≡ true → (o : Stand) → HadNoCall o pass.old
+        → AnswerHasMoment o pass.new Delete key true }
     ensures won { HasWon pass.old.view.log pass.new.view.log 0 0 }
-    ensures steps { length pass.new.view.log ≤ length pass.old.view.log + tries * (4 * shared.now.layout.nodes + 8 * chain_bound) + 6 * shared.now.layout.nodes + 10 }
+    ensures steps { length pass.new.view.log
+        ≤ length pass.old.view.log + tries * (4 * shared.now.layout.nodes + 8 * chain_bound)
+        + 6 * shared.now.layout.nodes + 10 }
     ensures run { IsInRun pass.new }
     ensures rests { result ≡ true → IsResting pass.new }
     ensures removing { result ≡ false → IsRemoving pass.new key leaf }

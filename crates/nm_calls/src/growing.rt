@@ -26,7 +26,8 @@ pub(crate) struct Inner {
     pub(crate) right: u32,
 }
 
-/// Claims an internal node and then a leaf. `None`: one of the claims answered nothing, and nothing is kept.
+/// Claims an internal node and then a leaf. `None`: one of the claims answered nothing, and nothing
+/// is kept.
 pub(crate) fn claim_fork(
     shared: &Shared,
     pass: &mut Pass,
@@ -36,7 +37,8 @@ pub(crate) fn claim_fork(
     requires run { IsInRun pass.old }
     ensures same { IsSamePass pass.old pass.new }
     ensures past { HasSeenAllOf pass.new pass.old }
-    ensures part { ClaimsFork placement.old shared.now.layout.nodes pass.old.view.log pass.new.view.log result }
+    ensures part { ClaimsFork placement.old shared.now.layout.nodes pass.old.view.log
+        pass.new.view.log result }
     ensures on { GoesOn pass.old pass.new }
     ensures only { OnlyMakes pass.old pass.new }
     ensures has { HasFork pass.old pass.new result }
@@ -72,7 +74,8 @@ fn node_over(key: u64, other: u64, leaf: u32, fresh: u32) -> Inner
     }
 }
 
-/// Fills both new nodes, and links them in the place of the leaf at which the walk ended. Lost: the edge that was found.
+/// Fills both new nodes, and links them in the place of the leaf at which the walk ended. Lost: the
+/// edge that was found.
 pub(crate) fn grow(
     shared: &Shared,
     pass: &mut Pass,

@@ -63,7 +63,8 @@ fn ready(
     requires run { IsInRun pass.old }
     ensures same { IsSamePass pass.old pass.new }
     ensures past { HasSeenAllOf pass.new pass.old }
-    ensures part { IsReadied placement.old shared.now.layout.nodes fork.old fork.new result pass.old.view.log pass.new.view.log }
+    ensures part { IsReadied placement.old shared.now.layout.nodes fork.old fork.new result
+        pass.old.view.log pass.new.view.log }
     ensures on { GoesOn pass.old pass.new }
     ensures only { OnlyMakes pass.old pass.new }
     ensures has { (o : Stand) → HasFork o pass.old fork.old → HasFork o pass.new fork.new }
@@ -84,7 +85,8 @@ fn asks_help(end: &End, found: Edge) -> bool
     found.slot() == end.spot.edge.slot() && (found.flag() || found.tag())
 }
 
-/// Cleans up by the walk, where the edge that a lost exchange found leads to the same leaf and is marked.
+/// Cleans up by the walk, where the edge that a lost exchange found leads to the same leaf and is
+/// marked.
 pub(crate) fn help(
     shared: &Shared,
     pass: &mut Pass,
@@ -116,7 +118,8 @@ pub(crate) fn help(
     }
 }
 
-/// One try of an insert: a walk, and a link where the leaf has another key, with at most one cleanup of help where the link is lost.
+/// One try of an insert: a walk, and a link where the leaf has another key, with at most one
+/// cleanup of help where the link is lost.
 fn try_insert(
     shared: &Shared,
     pass: &mut Pass,
@@ -140,7 +143,8 @@ fn try_insert(
     requires counted { splices.old ≡ capped (won_splices pass.old.view.log) }
     ensures same { IsSamePass pass.old pass.new }
     ensures past { HasSeenAllOf pass.new pass.old }
-    ensures part { IsTry placement.old shared.now.layout.nodes key fork.old fork.new pass.old.view.log pass.new.view.log result }
+    ensures part { IsTry placement.old shared.now.layout.nodes key fork.old fork.new
+        pass.old.view.log pass.new.view.log result }
     ensures on { GoesOn pass.old pass.new }
     ensures only { OnlyTries pass.old pass.new }
     ensures shows { ShowsTry key pass.old pass.new result }
@@ -171,7 +175,8 @@ fn try_insert(
     }
 }
 
-/// Makes room for what a cleanup cuts off, in the fewest blocks. False: there was no memory, and there is not as much room.
+/// Makes room for what a cleanup cuts off, in the fewest blocks. False: there was no memory, and
+/// there is not as much room.
 pub(crate) fn make_room(queue: &mut BlockQueue<Entry>) -> bool
     requires few { length queue.old.items ≤ 536870912 }
     ensures items { queue.new.items ≡ queue.old.items }
@@ -183,7 +188,8 @@ pub(crate) fn make_room(queue: &mut BlockQueue<Entry>) -> bool
     queue.reserve(CUT_BOUND as u32).is_ok()
 }
 
-/// The tries of an insert, from its pin to its answer. The room of the first one was made before the pin.
+/// The tries of an insert, from its pin to its answer. The room of the first one was made before
+/// the pin.
 fn insert_pinned(
     shared: &Shared,
     pass: &mut Pass,
@@ -208,9 +214,11 @@ fn insert_pinned(
     requires counted { splices.old ≡ capped (won_splices pass.old.view.log) }
     ensures same { IsSamePass pass.old pass.new }
     ensures past { HasSeenAllOf pass.new pass.old }
-    ensures part { Finishes placement.old shared.now.layout.nodes tries key pass.old.view.log pass.new.view.log result }
+    ensures part { Finishes placement.old shared.now.layout.nodes tries key pass.old.view.log
+        pass.new.view.log result }
     ensures refused { IsErrOf result Fault.NoMemory → queue.new.spare < cut_bound }
-    ensures moment { (o : Stand) → HadNoCall o pass.old → IfOk result (AnswerHasMoment o pass.new Insert key) }
+    ensures moment { (o : Stand) → HadNoCall o pass.old
+        → IfOk result (AnswerHasMoment o pass.new Insert key) }
     ensures run { IsInRun pass.new }
     ensures rests { IsResting pass.new }
     ensures private { HasFork pass.old pass.new None }
@@ -251,14 +259,17 @@ fn insert_pinned(
     Err(Fault::Busy)
 }
 
-/// Inserts a key, and answers whether it was not in the set. The worker rests before and after, with the same private slots; its queue
-/// is the one of its log before and after, with no more entries than there are nodes. `Err`: nothing of this call stands but help given to others.
+/// Inserts a key, and answers whether it was not in the set. The worker rests before and after,
+/// with the same private slots; its queue is the one of its log before and after, with no more
+/// entries than there are nodes. `Err`: nothing of this call stands but help given to others.
 ///
-/// A try is a walk with its answer, or a link with at most one cleanup of help. Room for a cleanup is made before each try, that of the first
-/// one before the pin, in the fewest blocks, and no other memory is taken. At most `tries` * (4 `nodes` + 512) + 6 `nodes` + 10 steps.
-/// `Ok(true)`: just one link was won, and no flag; else neither. New nodes are claimed in the order of `placement`, which stays of its fit.
-/// `splices` counts the worker's won splices, up to 2^64 - 1. What stands in `chain` is not looked at: it is the room of the walks.
-/// (The insert of Natarajan and Mittal, section 3.2.)
+/// A try is a walk with its answer, or a link with at most one cleanup of help. Room for a cleanup
+/// is made before each try, that of the first one before the pin, in the fewest blocks, and no
+/// other memory is taken. At most `tries` * (4 `nodes` + 512) + 6 `nodes` + 10 steps. `Ok(true)`:
+/// just one link was won, and no flag; else neither. New nodes are claimed in the order of
+/// `placement`, which stays of its fit. `splices` counts the worker's won splices, up to 2^64 - 1.
+/// What stands in `chain` is not looked at: it is the room of the walks. (The insert of Natarajan
+/// and Mittal, section 3.2.)
 pub fn insert(
     shared: &Shared,
     pass: &mut Pass,
@@ -276,11 +287,14 @@ pub fn insert(
     requires counted { splices.old ≡ capped (won_splices pass.old.view.log) }
     ensures same { IsSamePass pass.old pass.new }
     ensures past { HasSeenAllOf pass.new pass.old }
-    ensures did { InsertDid placement.old shared.now.layout.nodes tries key pass.old.view.log pass.new.view.log result }
+    ensures did { InsertDid placement.old shared.now.layout.nodes tries key pass.old.view.log
+        pass.new.view.log result }
     ensures refused { IsErrOf result Fault.NoMemory → queue.new.spare < cut_bound }
     ensures moment { IfOk result (AnswerHasMoment pass.old pass.new Insert key) }
     ensures won { HasWon pass.old.view.log pass.new.view.log (links_of_insert result) 0 }
-    ensures steps { length pass.new.view.log ≤ length pass.old.view.log + tries * (4 * shared.now.layout.nodes + 8 * chain_bound) + 6 * shared.now.layout.nodes + 10 }
+    ensures steps { length pass.new.view.log
+        ≤ length pass.old.view.log + tries * (4 * shared.now.layout.nodes + 8 * chain_bound)
+        + 6 * shared.now.layout.nodes + 10 }
     ensures run { (pass.new ≡ pass.old) ⊎ IsInRun pass.new }
     ensures rests { IsResting pass.new }
     ensures private { HasFork pass.old pass.new None }

@@ -15,7 +15,8 @@ ghost use Rattle.nm_calls.specs.Moments.{AnswerHasMoment, HadNoCall};
 use nm_epoch::{label as label_cut, unpin, unpin_with};
 use nm_steps::{Pass, Shared};
 
-/// Leaves the pin without an answer: of a call that has linked nothing and flagged nothing. One step.
+/// Leaves the pin without an answer: of a call that has linked nothing and flagged nothing. One
+/// step.
 pub fn leave(shared: &Shared, pass: &mut Pass)
     requires own { IsOf shared.now pass.old }
     requires labelled { (epochs pass.old).unlabelled ≡ false }
@@ -30,14 +31,16 @@ pub fn leave(shared: &Shared, pass: &mut Pass)
     unpin(shared, pass);
 }
 
-/// Leaves the pin with an answer that the log allows. One step. Its moment lies within the call that is answered: behind all that the worker
-/// had seen at any time before, at which it had no call.
+/// Leaves the pin with an answer that the log allows. One step. Its moment lies within the call
+/// that is answered: behind all that the worker had seen at any time before, at which it had no
+/// call.
 pub(crate) fn leave_with(shared: &Shared, pass: &mut Pass, answer: bool)
     requires own { IsOf shared.now pass.old }
     requires may { MayStep pass.old (LeaveWith answer) }
     ensures step { Stepped pass.old pass.new (LeaveWith answer) Departed }
     ensures past { HasSeenAllOf pass.new pass.old }
-    ensures moment { (o : Stand) (op : Op) (k : ℕ) → HadNoCall o pass.old → Tells pass.old (CallIs op k) → AnswerHasMoment o pass.new op k answer }
+    ensures moment { (o : Stand) (op : Op) (k : ℕ) → HadNoCall o pass.old
+        → Tells pass.old (CallIs op k) → AnswerHasMoment o pass.new op k answer }
     ensures run { IsInRun pass.new }
     ensures rests { IsResting pass.new }
     ensures hands { KeepsHands pass.old pass.new }
@@ -54,7 +57,8 @@ pub fn answer(shared: &Shared, pass: &mut Pass, answer: bool)
     requires shown { IsAnswer pass.old answer }
     ensures step { Stepped pass.old pass.new (LeaveWith answer) Departed }
     ensures past { HasSeenAllOf pass.new pass.old }
-    ensures moment { (o : Stand) (op : Op) (k : ℕ) → HadNoCall o pass.old → Tells pass.old (CallIs op k) → AnswerHasMoment o pass.new op k answer }
+    ensures moment { (o : Stand) (op : Op) (k : ℕ) → HadNoCall o pass.old
+        → Tells pass.old (CallIs op k) → AnswerHasMoment o pass.new op k answer }
     ensures run { IsInRun pass.new }
     ensures rests { IsResting pass.new }
     ensures hands { KeepsHands pass.old pass.new }
@@ -62,7 +66,8 @@ pub fn answer(shared: &Shared, pass: &mut Pass, answer: bool)
     leave_with(shared, pass, answer);
 }
 
-/// Labels the nodes that the worker's last splice cut, by the epoch, which it reads and answers. One step.
+/// Labels the nodes that the worker's last splice cut, by the epoch, which it reads and answers.
+/// One step.
 pub fn label(shared: &Shared, pass: &mut Pass) -> u64
     requires own { IsOf shared.now pass.old }
     requires run { IsInRun pass.old }

@@ -46,7 +46,8 @@ pub fn look_edge(shared: &Shared, pass: &mut Pass, slot: u32, side: Side) -> Edg
     edge
 }
 
-/// How a walk goes on from a node: the node's key, the side of the walk's key there, and the edge on that side.
+/// How a walk goes on from a node: the node's key, the side of the walk's key there, and the edge
+/// on that side.
 #[derive(Clone, Copy, Debug, PartialEq, Eq)]
 pub struct Onward {
     pub found: u64,
@@ -54,7 +55,8 @@ pub struct Onward {
     pub next: Edge,
 }
 
-/// Reads the key of a known node and both of its edges, and then compares the keys, so that no read waits for the comparison. Three looks.
+/// Reads the key of a known node and both of its edges, and then compares the keys, so that no read
+/// waits for the comparison. Three looks.
 pub(crate) fn read_node(shared: &Shared, pass: &mut Pass, slot: u32, key: u64) -> Onward
     requires own { IsOf shared.now pass.old }
     requires run { IsInRun pass.old }

@@ -21,21 +21,26 @@ use thiserror::Error;
 #[error("each try was lost")]
 pub struct Busy;
 
-/// Whether the set has the key, by the key of the leaf at which the walk for it ends, flagged or not. The worker rests before and
-/// after. `Err`: `tries` is 0, and there was no step; or the pin was lost in each of `tries` tries; or each of `tries` walks had looked at
-/// as many nodes as there are, and none had ended. At most `tries` * (4 `nodes` + 512) + 6 `nodes` + 10 steps.
-/// (The search of Natarajan and Mittal, section 3.2.)
+/// Whether the set has the key, by the key of the leaf at which the walk for it ends, flagged or
+/// not. The worker rests before and after. `Err`: `tries` is 0, and there was no step; or the pin
+/// was lost in each of `tries` tries; or each of `tries` walks had looked at as many nodes as there
+/// are, and none had ended. At most `tries` * (4 `nodes` + 512) + 6 `nodes` + 10 steps. (The search
+/// of Natarajan and Mittal, section 3.2.)
 pub fn has(shared: &Shared, pass: &mut Pass, key: Key, tries: u32) -> Result<bool, Busy>
     requires own { IsOf shared.now pass.old }
     requires rests { IsResting pass.old }
     ensures same { IsSamePass pass.old pass.new }
     ensures past { HasSeenAllOf pass.new pass.old }
-    ensures did { IfOk result (λ b. HasDid shared.now.layout.nodes tries key pass.old.view.log pass.new.view.log b) }
+    ensures did { IfOk result (λ b. HasDid shared.now.layout.nodes tries key pass.old.view.log
+        pass.new.view.log b) }
     ensures moment { IfOk result (AnswerHasMoment pass.old pass.new Has key) }
-    ensures missed { IfErr result (λ e. HasMissed shared.now.layout.nodes tries key pass.old.view.log pass.new.view.log) }
+    ensures missed { IfErr result
+        (λ e. HasMissed shared.now.layout.nodes tries key pass.old.view.log pass.new.view.log) }
     ensures won { HasWon pass.old.view.log pass.new.view.log 0 0 }
     ensures uncut { won_splices pass.new.view.log ≡ won_splices pass.old.view.log }
-    ensures steps { length pass.new.view.log ≤ length pass.old.view.log + tries * (4 * shared.now.layout.nodes + 8 * chain_bound) + 6 * shared.now.layout.nodes + 10 }
+    ensures steps { length pass.new.view.log
+        ≤ length pass.old.view.log + tries * (4 * shared.now.layout.nodes + 8 * chain_bound)
+        + 6 * shared.now.layout.nodes + 10 }
     ensures rests { IsResting pass.new }
     ensures hands { KeepsHands pass.old pass.new }
 {

@@ -18,21 +18,25 @@ use nm_edge::{Edge, NodeId, Side};
 use nm_pool::{Placement, claim_by};
 use nm_steps::{Pass, Shared};
 
-/// Takes a slot out of the pool to be a new node, with its birth raised by one: the first that it finds there with a birth below 2^62, in the order of the placement.
+/// Takes a slot out of the pool to be a new node, with its birth raised by one: the first that it
+/// finds there with a birth below 2^62, in the order of the placement.
 ///
-/// `Some(node)`: the slot is private to the worker, which had it nowhere before; its birth is stored there, and nothing else is.
-/// At most three steps a slot.
+/// `Some(node)`: the slot is private to the worker, which had it nowhere before; its birth is
+/// stored there, and nothing else is. At most three steps a slot.
 pub fn claim(shared: &Shared, pass: &mut Pass, placement: &mut Placement) -> Option<NodeId>
     requires own { IsOf shared.now pass.old }
     requires run { IsInRun pass.old }
     ensures same { IsSamePass pass.old pass.new }
     ensures past { HasSeenAllOf pass.new pass.old }
-    ensures part { IsClaimBy placement.old shared.now.layout.nodes pass.old.view.log pass.new.view.log result }
-    ensures steps { length pass.new.view.log ≤ length pass.old.view.log + 3 * shared.now.layout.nodes }
+    ensures part { IsClaimBy placement.old shared.now.layout.nodes pass.old.view.log
+        pass.new.view.log result }
+    ensures steps { length pass.new.view.log
+        ≤ length pass.old.view.log + 3 * shared.now.layout.nodes }
     ensures on { GoesOn pass.old pass.new }
     ensures made { IfSome result (IsNewNode (knowledge pass.new.view)) }
     ensures pooled { IfSome result (λ node. IsPooled pass.new.view.layout node.slot) }
-    ensures new { IfSome result (λ node. IsNew pass.old.view.layout pass.old.view.number pass.old.view.log node.slot) }
+    ensures new { IfSome result
+        (λ node. IsNew pass.old.view.layout pass.old.view.number pass.old.view.log node.slot) }
     ensures learned { LearnsSlots (knowledge pass.old.view) (knowledge pass.new.view) }
     ensures others { KeepsAllBut result pass.old pass.new }
     ensures only { OnlyMakes pass.old pass.new }
@@ -43,7 +47,8 @@ pub fn claim(shared: &Shared, pass: &mut Pass, placement: &mut Placement) -> Opt
     claimed
 }
 
-/// Gives a private node back to the pool, in one step. Its birth stays, so that the slot's next node has another.
+/// Gives a private node back to the pool, in one step. Its birth stays, so that the slot's next
+/// node has another.
 pub fn give(shared: &Shared, pass: &mut Pass, node: NodeId)
     requires own { IsOf shared.now pass.old }
     requires run { IsInRun pass.old }
@@ -69,7 +74,8 @@ pub fn fill(shared: &Shared, pass: &mut Pass, slot: u32, key: u64, left: u32, ri
     ensures steps { HasFilled pass.old pass.new slot key left right }
     ensures past { HasSeenAllOf pass.new pass.old }
     ensures on { GoesOn pass.old pass.new }
-    ensures filled { get (knowledge pass.new.view).drafts slot ≡ Some (with_node (draft pass.old slot) key left right) }
+    ensures filled { get (knowledge pass.new.view).drafts slot
+        ≡ Some (with_node (draft pass.old slot) key left right) }
     ensures others { KeepsOthers slot pass.old pass.new }
     ensures only { OnlyMakes pass.old pass.new }
 {
@@ -80,9 +86,11 @@ pub fn fill(shared: &Shared, pass: &mut Pass, slot: u32, key: u64, left: u32, ri
     pass.is_of_a_run();
 }
 
-/// Puts a new internal node, over the leaf and the new leaf `fresh`, in the place of the leaf. Lost: the edge that was found.
+/// Puts a new internal node, over the leaf and the new leaf `fresh`, in the place of the leaf.
+/// Lost: the edge that was found.
 ///
-/// Only a call to insert the key of `fresh` may do so, once, by the edge by which a walk of it came to the leaf and ended there.
+/// Only a call to insert the key of `fresh` may do so, once, by the edge by which a walk of it came
+/// to the leaf and ended there.
 pub fn link(
     shared: &Shared,
     pass: &mut Pass,

@@ -14,7 +14,8 @@ use nm_edge::{Key, Side};
 use nm_epoch::{pin, unpin};
 use nm_steps::{Pass, Shared};
 
-/// A key that is looked up beside others, and the answer, which is one once `has_many` has answered.
+/// A key that is looked up beside others, and the answer, which is one once `has_many` has
+/// answered.
 #[derive(Clone, Copy, Debug)]
 pub struct Query {
     pub key: Key,
@@ -37,12 +38,14 @@ impl Query {
     }
 }
 
-/// Whether the set has each of these keys, as `has` tells it, by walks that go on in turns, so that the loads of one go on while the others
-/// wait for theirs. Each answer is right at a moment of this call; two answers may be of different moments.
+/// Whether the set has each of these keys, as `has` tells it, by walks that go on in turns, so that
+/// the loads of one go on while the others wait for theirs. Each answer is right at a moment of
+/// this call; two answers may be of different moments.
 ///
-/// The worker rests before and after. `Err`: `tries` is 0, and there was no step; or the pin was lost in each of `tries` tries; or one of the walks
-/// had looked at as many nodes as there are, and had not ended. Then no `found` means anything. The keys stay. At most 3 `tries` + 3 steps, and
-/// 3 `nodes` for each key. (The search of Natarajan and Mittal, section 3.2.)
+/// The worker rests before and after. `Err`: `tries` is 0, and there was no step; or the pin was
+/// lost in each of `tries` tries; or one of the walks had looked at as many nodes as there are, and
+/// had not ended. Then no `found` means anything. The keys stay. At most 3 `tries` + 3 steps, and 3
+/// `nodes` for each key. (The search of Natarajan and Mittal, section 3.2.)
 pub fn has_many(
     shared: &Shared,
     pass: &mut Pass,
@@ -53,13 +56,20 @@ pub fn has_many(
     requires rests { IsResting pass.old }
     ensures same { IsSamePass pass.old pass.new }
     ensures past { HasSeenAllOf pass.new pass.old }
-    ensures did { IfOk result (λ u. LooksUnderPin tries (most_looks shared.now.layout.nodes (length queries.old)) pass.old.view.log pass.new.view.log) }
+    ensures did { IfOk result (λ u. LooksUnderPin tries
+        (most_looks shared.now.layout.nodes (length queries.old)) pass.old.view.log
+        pass.new.view.log) }
     ensures keys { map key_of queries.new ≡ map key_of queries.old }
-    ensures moment { IfOk result (λ u. All (λ q. WasSo pass.old pass.new q.key q.found) queries.new) }
-    ensures missed { IfErr result (λ e. LooksOrMoves tries (most_looks shared.now.layout.nodes (length queries.old)) pass.old.view.log pass.new.view.log) }
+    ensures moment { IfOk result
+        (λ u. All (λ q. WasSo pass.old pass.new q.key q.found) queries.new) }
+    ensures missed { IfErr result
+        (λ e. LooksOrMoves tries (most_looks shared.now.layout.nodes (length queries.old))
+        pass.old.view.log pass.new.view.log) }
     ensures won { HasWon pass.old.view.log pass.new.view.log 0 0 }
     ensures uncut { won_splices pass.new.view.log ≡ won_splices pass.old.view.log }
-    ensures steps { length pass.new.view.log ≤ length pass.old.view.log + 3 * tries + most_looks shared.now.layout.nodes (length queries.old) + 2 }
+    ensures steps { length pass.new.view.log
+        ≤ length pass.old.view.log + 3 * tries
+        + most_looks shared.now.layout.nodes (length queries.old) + 2 }
     ensures rests { IsResting pass.new }
     ensures hands { KeepsHands pass.old pass.new }
 {
@@ -76,7 +86,8 @@ pub fn has_many(
     if ended { Ok(()) } else { Err(Busy) }
 }
 
-/// Walks for each of these keys, in turns, until all walks have ended. False where they have taken as many turns as there are nodes.
+/// Walks for each of these keys, in turns, until all walks have ended. False where they have taken
+/// as many turns as there are nodes.
 fn walk_all(shared: &Shared, pass: &mut Pass, queries: &mut [Query]) -> bool
     requires own { IsOf shared.now pass.old }
     requires run { IsInRun pass.old }
@@ -84,7 +95,8 @@ fn walk_all(shared: &Shared, pass: &mut Pass, queries: &mut [Query]) -> bool
     requires known { Tells pass.old (KnowsSlot 2) }
     ensures same { IsSamePass pass.old pass.new }
     ensures past { HasSeenAllOf pass.new pass.old }
-    ensures looks { AddsLooks (most_looks shared.now.layout.nodes (length queries.old)) pass.old.view.log pass.new.view.log }
+    ensures looks { AddsLooks (most_looks shared.now.layout.nodes (length queries.old))
+        pass.old.view.log pass.new.view.log }
     ensures under_way { All (IsUnderWay pass.new) queries.new }
     ensures ended { result ≡ true → All (λ q. q.node ≡ 0) queries.new }
     ensures keys { map key_of queries.new ≡ map key_of queries.old }
@@ -154,7 +166,8 @@ fn take_turn(shared: &Shared, pass: &mut Pass, query: &mut Query)
     read_so(query, &on);
 }
 
-/// The query's walk has read its node so. Two words are written, and not the query: each turn of each walk comes here.
+/// The query's walk has read its node so. Two words are written, and not the query: each turn of
+/// each walk comes here.
 fn read_so(query: &mut Query, on: &Onward)
     ensures query { query.new ≡ read_on query.old on.now }
     ensures key { IsKey query.old.key }

@@ -1,4 +1,5 @@
-//! Marks and cuts: tags and flags of edges, and splices that cut frozen chains off, as far as the worker's own log allows them.
+//! Marks and cuts: tags and flags of edges, and splices that cut frozen chains off, as far as the
+//! worker's own log allows them.
 ghost use Rattle.std.specs.Prelude.{ℕ, List, IfOk, IfErr};
 ghost use Rattle.nm_edge.specs.Edges.{other};
 ghost use Rattle.nm_edge.specs.declared.node.NodeId.{NodeId};
@@ -13,7 +14,8 @@ ghost use Rattle.nm_calls.specs.Marking.{TagTold, IsToBeFlagged, OnlyFlags, Flag
 use nm_edge::{Edge, Side};
 use nm_steps::{Pass, Shared};
 
-/// Tags an edge of a known node whose other edge is known to be flagged, and answers the edge as it was. It is never null.
+/// Tags an edge of a known node whose other edge is known to be flagged, and answers the edge as it
+/// was. It is never null.
 pub fn tag(shared: &Shared, pass: &mut Pass, parent: u32, side: Side) -> Edge
     requires own { IsOf shared.now pass.old }
     requires run { IsInRun pass.old }
@@ -31,8 +33,9 @@ pub fn tag(shared: &Shared, pass: &mut Pass, parent: u32, side: Side) -> Edge
     edge
 }
 
-/// Flags the edge to a leaf that the call to delete has found. Won: the call has flagged that leaf, which a cleanup is to cut
-/// off. Lost: the edge that was found, and the call has flagged nothing still.
+/// Flags the edge to a leaf that the call to delete has found. Won: the call has flagged that leaf,
+/// which a cleanup is to cut off. Lost: the edge that was found, and the call has flagged nothing
+/// still.
 pub fn flag(
     shared: &Shared,
     pass: &mut Pass,
@@ -46,7 +49,8 @@ pub fn flag(
     requires found { IsToBeFlagged pass.old parent side leaf }
     ensures same { IsSamePass pass.old pass.new }
     ensures past { HasSeenAllOf pass.new pass.old }
-    ensures won { IfOk result (λ _. (b : ℕ) → Tells pass.old (IsBorn leaf b) → FlagWon pass.old pass.new parent side (record { slot = leaf; birth = b })) }
+    ensures won { IfOk result (λ _. (b : ℕ) → Tells pass.old (IsBorn leaf b)
+        → FlagWon pass.old pass.new parent side (record { slot = leaf; birth = b })) }
     ensures lost { IfErr result (λ e. FlagLost pass.old pass.new parent side leaf e) }
     ensures on { GoesOn pass.old pass.new }
     ensures only { OnlyFlags pass.old pass.new }
@@ -56,9 +60,10 @@ pub fn flag(
     won
 }
 
-/// Cuts a frozen chain off, from the successor down to the parent, with the flagged leaf beside each of its nodes: the ancestor's edge
-/// leads from then on where the parent's edge on the side `keep` leads, which is frozen as `kept`. The nodes wait for their label.
-/// Lost: the edge that was found.
+/// Cuts a frozen chain off, from the successor down to the parent, with the flagged leaf beside
+/// each of its nodes: the ancestor's edge leads from then on where the parent's edge on the side
+/// `keep` leads, which is frozen as `kept`. The nodes wait for their label. Lost: the edge that was
+/// found.
 pub fn splice(
     shared: &Shared,
     pass: &mut Pass,
@@ -75,8 +80,11 @@ pub fn splice(
     requires frozen { IsToBeCut pass.old ancestor successor parent keep kept }
     ensures same { IsSamePass pass.old pass.new }
     ensures past { HasSeenAllOf pass.new pass.old }
-    ensures won { IfOk result (λ _. (ns : List NodeId) → FrozenTo (Tells pass.old) parent keep successor ns → SpliceWon pass.old pass.new ancestor side successor parent keep ns) }
-    ensures lost { IfErr result (λ e. SpliceLost pass.old pass.new ancestor side successor parent keep e) }
+    ensures won { IfOk result (λ _. (ns : List NodeId)
+        → FrozenTo (Tells pass.old) parent keep successor ns
+        → SpliceWon pass.old pass.new ancestor side successor parent keep ns) }
+    ensures lost { IfErr result
+        (λ e. SpliceLost pass.old pass.new ancestor side successor parent keep e) }
     ensures on { GoesOn pass.old pass.new }
     ensures only { OnlyCuts pass.old pass.new }
 {

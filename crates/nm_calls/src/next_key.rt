@@ -16,8 +16,8 @@ use nm_edge::{INFINITY_0, Key, Side};
 use nm_epoch::{pin, unpin};
 use nm_steps::{Pass, Shared};
 
-/// A walk for each key from `from` on that is below `bound`, the least key of those nodes at which it went left: such keys turn to the same side at
-/// each of its nodes.
+/// A walk for each key from `from` on that is below `bound`, the least key of those nodes at which
+/// it went left: such keys turn to the same side at each of its nodes.
 #[derive(Clone, Copy, Debug)]
 struct Descent {
     from: u64,
@@ -28,28 +28,35 @@ struct Descent {
     found: u64,
 }
 
-/// The least key of the set that is not below `key`, or `None` where there is none, as walks find it. With `Some(found)` the set had `found` at a
-/// moment of this call, and of each key from `key` on below `found` there was a moment of this call at which the set did not have it; with `None`
-/// so of each key from `key` on. The moments of two keys may differ: the answer is weakly consistent, as the iterators of Java's
-/// `ConcurrentSkipListSet`.
+/// The least key of the set that is not below `key`, or `None` where there is none, as walks find
+/// it. With `Some(found)` the set had `found` at a moment of this call, and of each key from `key`
+/// on below `found` there was a moment of this call at which the set did not have it; with `None`
+/// so of each key from `key` on. The moments of two keys may differ: the answer is weakly
+/// consistent, as the iterators of Java's `ConcurrentSkipListSet`.
 ///
-/// A walk for `key` tells whether the set has a key from there on below the least key of those nodes at which it went left; where it has none, the
-/// next walk is for that bound. In a tree at rest two walks are enough, which no clause tells.
+/// A walk for `key` tells whether the set has a key from there on below the least key of those
+/// nodes at which it went left; where it has none, the next walk is for that bound. In a tree at
+/// rest two walks are enough, which no clause tells.
 ///
-/// The worker rests before and after. `Err`: `tries` is 0, and there was no step; or the pin was lost in each of `tries` tries; or a walk had
-/// looked at as many nodes as there are, and had not ended; or `tries` walks were not enough. At most `tries` * (3 `nodes` + 4) + 2 steps. (The
+/// The worker rests before and after. `Err`: `tries` is 0, and there was no step; or the pin was
+/// lost in each of `tries` tries; or a walk had looked at as many nodes as there are, and had not
+/// ended; or `tries` walks were not enough. At most `tries` * (3 `nodes` + 4) + 2 steps. (The
 /// search of Natarajan and Mittal, section 3.2.)
 pub fn next(shared: &Shared, pass: &mut Pass, key: Key, tries: u32) -> Result<Option<Key>, Busy>
     requires own { IsOf shared.now pass.old }
     requires rests { IsResting pass.old }
     ensures same { IsSamePass pass.old pass.new }
     ensures past { HasSeenAllOf pass.new pass.old }
-    ensures did { IfOk result (λ f. LooksUnderPin tries (tries * most_looks shared.now.layout.nodes 1) pass.old.view.log pass.new.view.log) }
+    ensures did { IfOk result (λ f. LooksUnderPin tries
+        (tries * most_looks shared.now.layout.nodes 1) pass.old.view.log pass.new.view.log) }
     ensures moment { IfOk result (WasNext pass.old pass.new key) }
-    ensures missed { IfErr result (λ e. LooksOrMoves tries (tries * most_looks shared.now.layout.nodes 1) pass.old.view.log pass.new.view.log) }
+    ensures missed { IfErr result
+        (λ e. LooksOrMoves tries (tries * most_looks shared.now.layout.nodes 1) pass.old.view.log
+        pass.new.view.log) }
     ensures won { HasWon pass.old.view.log pass.new.view.log 0 0 }
     ensures uncut { won_splices pass.new.view.log ≡ won_splices pass.old.view.log }
-    ensures steps { length pass.new.view.log ≤ length pass.old.view.log + 3 * tries + tries * most_looks shared.now.layout.nodes 1 + 2 }
+    ensures steps { length pass.new.view.log
+        ≤ length pass.old.view.log + 3 * tries + tries * most_looks shared.now.layout.nodes 1 + 2 }
     ensures rests { IsResting pass.new }
     ensures hands { KeepsHands pass.old pass.new }
 {
@@ -66,7 +73,8 @@ pub fn next(shared: &Shared, pass: &mut Pass, key: Key, tries: u32) -> Result<Op
     found
 }
 
-/// The next key from `key` on, by walks each of which begins where the keys of the last one ended, `tries` of them at most.
+/// The next key from `key` on, by walks each of which begins where the keys of the last one ended,
+/// `tries` of them at most.
 fn walk_up(shared: &Shared, pass: &mut Pass, key: u64, tries: u32) -> Result<Option<Key>, Busy>
     requires own { IsOf shared.now pass.old }
     requires run { IsInRun pass.old }
@@ -75,7 +83,8 @@ fn walk_up(shared: &Shared, pass: &mut Pass, key: u64, tries: u32) -> Result<Opt
     requires key { IsKey key }
     ensures same { IsSamePass pass.old pass.new }
     ensures past { HasSeenAllOf pass.new pass.old }
-    ensures looks { AddsLooks (tries * most_looks shared.now.layout.nodes 1) pass.old.view.log pass.new.view.log }
+    ensures looks { AddsLooks (tries * most_looks shared.now.layout.nodes 1) pass.old.view.log
+        pass.new.view.log }
     ensures next { IfOk result (IsNextBy (HasEndedSo pass.new) key) }
     ensures on { GoesOn pass.old pass.new }
     ensures only { OnlyLooks pass.old pass.new }
@@ -97,7 +106,8 @@ fn walk_up(shared: &Shared, pass: &mut Pass, key: u64, tries: u32) -> Result<Opt
     Err(Busy)
 }
 
-/// The walk for a key and those above it that go the same way, to its end, or until it has read as many nodes as there are.
+/// The walk for a key and those above it that go the same way, to its end, or until it has read as
+/// many nodes as there are.
 fn walk_down(shared: &Shared, pass: &mut Pass, from: u64) -> Descent
     requires own { IsOf shared.now pass.old }
     requires run { IsInRun pass.old }
@@ -106,7 +116,8 @@ fn walk_down(shared: &Shared, pass: &mut Pass, from: u64) -> Descent
     requires key { IsKey from }
     ensures same { IsSamePass pass.old pass.new }
     ensures past { HasSeenAllOf pass.new pass.old }
-    ensures looks { AddsLooks (most_looks shared.now.layout.nodes 1) pass.old.view.log pass.new.view.log }
+    ensures looks { AddsLooks (most_looks shared.now.layout.nodes 1) pass.old.view.log
+        pass.new.view.log }
     ensures under_way { IsDescent pass.new result }
     ensures from { result.from ≡ from }
     ensures on { GoesOn pass.old pass.new }
@@ -134,7 +145,8 @@ fn read_so(walk: &Descent, on: &Onward) -> Descent
     ensures walk { result ≡ read_below walk.now result.bound on.now }
     ensures low { result.bound ≤ walk.now.bound }
     ensures wide { walk.now.from < walk.now.bound → walk.now.from < result.bound }
-    ensures turns { (j : ℕ) → walk.now.from ≤ j → j < result.bound → side_of j on.now.found ≡ side_of walk.now.from on.now.found }
+    ensures turns { (j : ℕ) → walk.now.from ≤ j → j < result.bound
+        → side_of j on.now.found ≡ side_of walk.now.from on.now.found }
 {
     let bound = if walk.from < on.found && on.found < walk.bound {
         on.found

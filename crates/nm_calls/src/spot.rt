@@ -23,14 +23,16 @@ impl Default for ChainEdge {
     }
 }
 
-/// How many nodes a splice cuts off at most, their leaves left out: those of a chain, and the parent below it.
+/// How many nodes a splice cuts off at most, their leaves left out: those of a chain, and the
+/// parent below it.
 pub const CHAIN_BOUND: usize = 64;
 
 /// The internal nodes from a successor down to above its parent, by tagged edges.
 pub type Chain = ArrayVec<ChainEdge, CHAIN_BOUND>;
 
-/// The edge that a walk read last, from `parent` on `side`; and the last edge above it that was read untagged, from `ancestor` on
-/// `above` to `successor`. (The seek record of Natarajan and Mittal, section 3.2.)
+/// The edge that a walk read last, from `parent` on `side`; and the last edge above it that was
+/// read untagged, from `ancestor` on `above` to `successor`. (The seek record of Natarajan and
+/// Mittal, section 3.2.)
 #[derive(Clone, Copy, Debug, PartialEq, Eq)]
 pub struct Spot {
     pub ancestor: u32,

@@ -13,8 +13,8 @@ use crate::spot::{Chain, End, end_at, extend, first, further};
 use nm_edge::Side;
 use nm_steps::{Pass, Shared};
 
-/// The key of the leaf at the end of the walk for a key, which remembers nothing else; `None` where the walk had looked at as many
-/// nodes as there are. At most three steps a node of the table.
+/// The key of the leaf at the end of the walk for a key, which remembers nothing else; `None` where
+/// the walk had looked at as many nodes as there are. At most three steps a node of the table.
 pub fn find(shared: &Shared, pass: &mut Pass, key: u64) -> Option<u64>
     requires own { IsOf shared.now pass.old }
     requires run { IsInRun pass.old }
@@ -23,10 +23,13 @@ pub fn find(shared: &Shared, pass: &mut Pass, key: u64) -> Option<u64>
     ensures same { IsSamePass pass.old pass.new }
     ensures past { HasSeenAllOf pass.new pass.old }
     ensures walk { Finds shared.now.layout.nodes key pass.old.view.log pass.new.view.log result }
-    ensures steps { length pass.new.view.log ≤ length pass.old.view.log + 3 * shared.now.layout.nodes }
+    ensures steps { length pass.new.view.log
+        ≤ length pass.old.view.log + 3 * shared.now.layout.nodes }
     ensures on { GoesOn pass.old pass.new }
     ensures only { OnlyLooks pass.old pass.new }
-    ensures found { IfSome result (λ v. (leaf parent : ℕ) × (side : SideOf) × HasFound pass.old pass.new key leaf parent side v) }
+    ensures found { IfSome result
+        (λ v. (leaf parent : ℕ) × (side : SideOf)
+        × HasFound pass.old pass.new key leaf parent side v) }
 {
     let mut spot = first(look_edge(shared, pass, 2, Side::Left));
     for _below in 0..shared.layout().nodes() - 1 {
@@ -40,9 +43,11 @@ pub fn find(shared: &Shared, pass: &mut Pass, key: u64) -> Option<u64>
     None
 }
 
-/// The spot at the end of the walk for a key, with its leaf's key; the chain has the internal nodes from its successor down to above
-/// its parent. `None` where the walk had looked at as many nodes as there are, or where the chain would hold 65 nodes with the parent.
-/// At most three steps a node of the table. (The seek of Natarajan and Mittal, section 3.2, which here remembers the whole chain.)
+/// The spot at the end of the walk for a key, with its leaf's key; the chain has the internal nodes
+/// from its successor down to above its parent. `None` where the walk had looked at as many nodes
+/// as there are, or where the chain would hold 65 nodes with the parent. At most three steps a node
+/// of the table. (The seek of Natarajan and Mittal, section 3.2, which here remembers the whole
+/// chain.)
 pub fn seek(shared: &Shared, pass: &mut Pass, key: u64, chain: &mut Chain) -> Option<End>
     requires own { IsOf shared.now pass.old }
     requires run { IsInRun pass.old }
@@ -51,14 +56,18 @@ pub fn seek(shared: &Shared, pass: &mut Pass, key: u64, chain: &mut Chain) -> Op
     requires known { Tells pass.old (KnowsSlot 2) }
     ensures same { IsSamePass pass.old pass.new }
     ensures past { HasSeenAllOf pass.new pass.old }
-    ensures walk { Seeks shared.now.layout.nodes key pass.old.view.log pass.new.view.log chain.new.items result }
-    ensures ended { IfSome result (λ r. HasEnded (Tells pass.new) shared.now.layout.nodes r.spot chain.new.items) }
+    ensures walk { Seeks shared.now.layout.nodes key pass.old.view.log pass.new.view.log
+        chain.new.items result }
+    ensures ended { IfSome result
+        (λ r. HasEnded (Tells pass.new) shared.now.layout.nodes r.spot chain.new.items) }
     ensures few { IfSome result (λ r. length chain.new.items < chain_bound) }
     ensures high { IfSome result (λ r. r.key < infinity_0 → 6 ≤ r.spot.edge.slot) }
-    ensures steps { length pass.new.view.log ≤ length pass.old.view.log + 3 * shared.now.layout.nodes }
+    ensures steps { length pass.new.view.log
+        ≤ length pass.old.view.log + 3 * shared.now.layout.nodes }
     ensures on { GoesOn pass.old pass.new }
     ensures only { OnlyLooks pass.old pass.new }
-    ensures found { IfSome result (λ r. HasFound pass.old pass.new key r.spot.edge.slot r.spot.parent r.spot.side r.key) }
+    ensures found { IfSome result
+        (λ r. HasFound pass.old pass.new key r.spot.edge.slot r.spot.parent r.spot.side r.key) }
 {
     chain.clear();
     let mut spot = first(look_edge(shared, pass, 2, Side::Left));

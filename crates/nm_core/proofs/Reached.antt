@@ -1,4 +1,5 @@
--- What a core has that came from its opening by some events: by the laws of all runs, and of ordered ones.
+-- What a core has that came from its opening by some events: by the laws of all runs, and of
+-- ordered ones.
 use Rattle.std.proofs.Common.{◌≡◌, ℕ, ◌+◌, ◌<◌, ◌≤◌, Bool, true, false, List, [], ◌∷◌, ◌++◌, length, take, drop, get_or, refl, sym, ap, subst, ◌∙◌, arith, true≢false}
 use Rattle.std.specs.Prelude.{None, is_some, IsSome, All}
 use Rattle.std.proofs.lemmas.List.{take_more, take-append-drop}

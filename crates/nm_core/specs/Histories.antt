@@ -20,19 +20,23 @@ pub record Told : Type 0 where
 abbrev pub events_of : Told → List (ℕ × Event)
 events_of x = map turn_of x.schedule.turns
 
--- the schedule is as worked; its acts are ones of calls of the run, each at a moment of its call, in order and each once; one plain set,
--- empty at first, gives each its answer and has those keys at last; and every history of the run has acts of just these calls
+-- the schedule is as worked; its acts are ones of calls of the run, each at a moment of its call,
+-- in order and each once; one plain set, empty at first, gives each its answer and has those keys
+-- at last; and every history of the run has acts of just these calls
 pub record IsAsTold (x : Told) : Type 0 where
   pub schedule : IsAsWorkedInOrder x.schedule x.keys
   pub replays : Replays nothing x.acts (Contains x.keys)
   pub in_order : InOrderOfMoments 0 false x.acts
   pub once : EachOnce x.acts
   pub each : (a : Act) → IsAmong x.acts a → IsAct x.schedule.layout (events_of x) a
-  pub found : (acts : List Act) → IsHistory x.schedule.layout (events_of x) acts → (a : Act) → IsAmong x.acts a → HasAct acts a.worker a.pin a.op a.key a.answer
-  pub only : (acts : List Act) → IsHistory x.schedule.layout (events_of x) acts → (a : Act) → IsAmong acts a → HasAct x.acts a.worker a.pin a.op a.key a.answer
+  pub found : (acts : List Act) → IsHistory x.schedule.layout (events_of x) acts → (a : Act)
+      → IsAmong x.acts a → HasAct acts a.worker a.pin a.op a.key a.answer
+  pub only : (acts : List Act) → IsHistory x.schedule.layout (events_of x) acts → (a : Act)
+      → IsAmong acts a → HasAct x.acts a.worker a.pin a.op a.key a.answer
 
--- worker 0 inserts 5, and flags its leaf to delete it. Worker 1, which inserts 6, comes to the flagged leaf, cuts it off and links.
--- The delete is never answered, and its moment is the other's splice
+-- worker 0 inserts 5, and flags its leaf to delete it. Worker 1, which inserts 6, comes to the
+-- flagged leaf, cuts it off and links. The delete is never answered, and its moment is the other's
+-- splice
 abbrev pub helped : Told
 helped = record {
   schedule = record {
@@ -91,7 +95,8 @@ helped = record {
         t 1 (Link 2 Left 3 8) (Ok (Linked (n 8 1))) ∷
         t 1 (LeaveWith true) (Ok Departed) ∷
         [];
-    ledgers = l [] [] [] ∷ l (n 6 1 ∷ n 7 1 ∷ []) [] (q (n 6 1) (Some 0) ∷ q (n 7 1) (Some 0) ∷ []) ∷ [];
+    ledgers = l [] [] [] ∷ l (n 6 1 ∷ n 7 1 ∷ []) [] (q (n 6 1) (Some 0) ∷ q (n 7 1) (Some 0) ∷ [])
+        ∷ [];
     epoch = 0;
     counts = record { pool = 0; private = 0; reached = 2; queued = 2 };
   };
@@ -103,8 +108,9 @@ helped = record {
   keys = 6 ∷ [];
 }
 
--- worker 0 inserts 5. Worker 1 looks for 5 and comes to the edge of its leaf; then worker 0 deletes 5, and answers. Worker 1 reads the leaf,
--- which is cut, and answers that 5 is there. So it was at a moment of that call, before the splice
+-- worker 0 inserts 5. Worker 1 looks for 5 and comes to the edge of its leaf; then worker 0 deletes
+-- 5, and answers. Worker 1 reads the leaf, which is cut, and answers that 5 is there. So it was at
+-- a moment of that call, before the splice
 abbrev pub stale : Told
 stale = record {
   schedule = record {
@@ -150,7 +156,8 @@ stale = record {
         t 1 (Look 7 (EdgeOn Right)) (Ok (EdgeIs (e 0 false false))) ∷
         t 1 (LeaveWith true) (Ok Departed) ∷
         [];
-    ledgers = l (n 6 1 ∷ n 7 1 ∷ []) [] (q (n 6 1) (Some 0) ∷ q (n 7 1) (Some 0) ∷ []) ∷ l [] [] [] ∷ [];
+    ledgers = l (n 6 1 ∷ n 7 1 ∷ []) [] (q (n 6 1) (Some 0) ∷ q (n 7 1) (Some 0) ∷ []) ∷ l [] [] []
+        ∷ [];
     epoch = 0;
     counts = record { pool = 0; private = 0; reached = 0; queued = 2 };
   };

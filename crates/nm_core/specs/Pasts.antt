@@ -1,4 +1,5 @@
--- The past of a core: the events by which it came from its opening; and what an ordered core has by it.
+-- The past of a core: the events by which it came from its opening; and what an ordered core has by
+-- it.
 use Rattle.std.specs.Prelude.{◌≡◌, ℕ, List, ◌++◌, take, IsSome, All}
 use Rattle.nm_model.specs.declared.event.Event.{Event}
 use Rattle.nm_model.specs.Ordered.{Configuration, HasKey, IsReached, ordered, opening_of, after_in, trace_in}
@@ -15,9 +16,11 @@ pub record IsPast (c : Configuration) (past : List (ℕ × Event)) : Type 0 wher
 abbrev pub HasPast : Configuration → Type 0
 HasPast c = IsSome c.searches → (past : List (ℕ × Event)) × IsPast c past
 
--- whatever the events were by which a core came from its opening: with so many of these turns behind them they have a history
+-- whatever the events were by which a core came from its opening: with so many of these turns
+-- behind them they have a history
 abbrev pub HasHistoriesBehind : Configuration → List (ℕ × Event) → Type 0
-HasHistoriesBehind c turns = (past : List (ℕ × Event)) → IsPast c past → (i : ℕ) → HasHistory c.state.layout (past ++ take i turns)
+HasHistoriesBehind c turns = (past : List (ℕ × Event)) → IsPast c past → (i : ℕ)
+    → HasHistory c.state.layout (past ++ take i turns)
 
 -- the tree of an ordered core is in order, and stale paths do no harm (Natarajan and Mittal,
 -- section 3.1)
@@ -32,6 +35,9 @@ pub record IsInOrder (c : Configuration) : Type 0 where
 abbrev pub StaysInOrder : Configuration → List (ℕ × Event) → Type 0
 StaysInOrder c turns = IsSome c.searches → (i : ℕ) → IsInOrder (after_in c (take i turns))
 
--- whatever the events were by which a core, plain or ordered, came from its opening: their turns and then those of this run have the headline
+-- whatever the events were by which a core, plain or ordered, came from its opening: their turns
+-- and then those of this run have the headline
 abbrev pub HasHeadlineBehind : Configuration → List (ℕ × Event) → Type 0
-HasHeadlineBehind c turns = (past : IsReached c) → Headline c.state.layout (trace_in (opening_of c.state.layout past.is_ordered) past.events ++ trace_in c turns)
+HasHeadlineBehind c turns = (past : IsReached c)
+    → Headline c.state.layout (trace_in (opening_of c.state.layout past.is_ordered) past.events
+    ++ trace_in c turns)

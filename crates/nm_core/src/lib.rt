@@ -12,7 +12,8 @@ ghost use Rattle.nm_core.specs.Histories as histories;
 pub use nm_model::{Event, Field, NewError, Op, Places, Refused, Reply, RunError, Trace, Turn};
 pub use pure_core::Core;
 
-/// The definitions, played on the worked schedules, say what the schedules say: each outcome, each ledger, the epoch and the counts.
+/// The definitions, played on the worked schedules, say what the schedules say: each outcome, each
+/// ledger, the epoch and the counts.
 pub fn worked_schedules()
     ensures held_back { IsAsWorked worked.held_back }
     ensures two_scanners { IsAsWorked worked.two_scanners }
@@ -29,8 +30,9 @@ pub fn worked_schedules()
     ensures delete_in_order { IsAsWorkedInOrder worked.delete_in_order [] }
 {}
 
-/// Two worked schedules have the histories that were worked out by hand: one with a delete that another worker's splice ends and that is never
-/// answered, and one with a look-up that answers by a leaf which was cut off since.
+/// Two worked schedules have the histories that were worked out by hand: one with a delete that
+/// another worker's splice ends and that is never answered, and one with a look-up that answers by
+/// a leaf which was cut off since.
 pub fn worked_histories()
     ensures helped { IsAsTold histories.helped }
     ensures stale { IsAsTold histories.stale }

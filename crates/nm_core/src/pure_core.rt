@@ -25,7 +25,8 @@ use nm_model::{NewError, Places, layout_of};
 use std::alloc::{AllocError, Global};
 use std::marker::Model;
 
-/// All words of the tree, and what each worker knows, as plain data. Its state is one to which some events lead from the opening.
+/// All words of the tree, and what each worker knows, as plain data. Its state is one to which some
+/// events lead from the opening.
 #[derive(Drop)]
 pub struct Core {
     machine: Machine,
@@ -39,9 +40,13 @@ impl Model for Core {
 
     ghost Value = { Configuration };
 
-    ghost view = { λ c. record { state = c.machine; searches = option_map searches_of c.searches } };
+    ghost view = { λ c. record {
+      state = c.machine;
+      searches = option_map searches_of c.searches;
+    } };
 
-    ghost invariant = { λ c. IsReached (record { state = c.machine; searches = option_map searches_of c.searches }) };
+    ghost invariant = { λ c. IsReached
+        (record { state = c.machine; searches = option_map searches_of c.searches }) };
 }
 
 // The call of an event is for a key of the set: the type of its key says so.
@@ -54,21 +59,29 @@ fn read_key(event: &Event)
 }
 
 impl Core {
-    /// The opening: the empty tree, epoch 0, everybody idle, and every slot above 5 in the pool with birth 0.
+    /// The opening: the empty tree, epoch 0, everybody idle, and every slot above 5 in the pool
+    /// with birth 0.
     pub fn new(alloc: Global, nodes: u32, workers: u32) -> Result<Core, NewError>
         ensures opening { IfOk result (λ core. core ≡ plain (dense nodes workers)) }
-        ensures nodes { IsErrOf result NewError.Nodes ↔ ((nodes < LEAST_NODES) ⊎ (MOST_NODES < nodes)) }
-        ensures workers { IsErrOf result NewError.Workers ↔ ((LEAST_NODES ≤ nodes) × (nodes ≤ MOST_NODES) × ((workers < 1) ⊎ (MOST_WORKERS < workers))) }
+        ensures nodes { IsErrOf result NewError.Nodes
+            ↔ ((nodes < LEAST_NODES) ⊎ (MOST_NODES < nodes)) }
+        ensures workers { IsErrOf result NewError.Workers
+            ↔ ((LEAST_NODES ≤ nodes) × (nodes ≤ MOST_NODES)
+            × ((workers < 1) ⊎ (MOST_WORKERS < workers))) }
     {
         Ok(Core::of(alloc, layout_of(nodes, workers)?, false)?)
     }
 
-    /// The opening of an ordered core, where no worker has an operation yet. It refuses as a plain core does, and then
-    /// links and flags that are not where a walk of the worker's own operation ended, and leaves without an answer that its log shows.
+    /// The opening of an ordered core, where no worker has an operation yet. It refuses as a plain
+    /// core does, and then links and flags that are not where a walk of the worker's own operation
+    /// ended, and leaves without an answer that its log shows.
     pub fn ordered(alloc: Global, nodes: u32, workers: u32) -> Result<Core, NewError>
         ensures opening { IfOk result (λ core. core ≡ ordered (dense nodes workers)) }
-        ensures nodes { IsErrOf result NewError.Nodes ↔ ((nodes < LEAST_NODES) ⊎ (MOST_NODES < nodes)) }
-        ensures workers { IsErrOf result NewError.Workers ↔ ((LEAST_NODES ≤ nodes) × (nodes ≤ MOST_NODES) × ((workers < 1) ⊎ (MOST_WORKERS < workers))) }
+        ensures nodes { IsErrOf result NewError.Nodes
+            ↔ ((nodes < LEAST_NODES) ⊎ (MOST_NODES < nodes)) }
+        ensures workers { IsErrOf result NewError.Workers
+            ↔ ((LEAST_NODES ≤ nodes) × (nodes ≤ MOST_NODES)
+            × ((workers < 1) ⊎ (MOST_WORKERS < workers))) }
     {
         Ok(Core::of(alloc, layout_of(nodes, workers)?, true)?)
     }
@@ -92,8 +105,9 @@ impl Core {
         })
     }
 
-    /// The core came from its opening by some events, whose calls are for keys of the set: so each law of all runs is one of this core,
-    /// and of an ordered core each law of ordered runs. It does nothing.
+    /// The core came from its opening by some events, whose calls are for keys of the set: so each
+    /// law of all runs is one of this core, and of an ordered core each law of ordered runs. It
+    /// does nothing.
     pub fn is_of_a_run(&self)
         ensures { IsReached self.now }
     {
@@ -108,16 +122,18 @@ impl Core {
         self.machine.epoch()
     }
 
-    /// What a worker's splices cut off, whoever holds its queue; `None` exactly where there is no such worker.
+    /// What a worker's splices cut off, whoever holds its queue; `None` exactly where there is no
+    /// such worker.
     pub fn ledger(&self, worker: u32) -> Option<&Ledger>
         ensures ledger { option_copied result ≡ ledger_of self.now.state worker }
-        ensures none { (ledger_of self.now.state worker ≡ None) ↔ (self.now.state.layout.workers ≤ worker) }
+        ensures none { (ledger_of self.now.state worker ≡ None)
+            ↔ (self.now.state.layout.workers ≤ worker) }
     {
         self.machine.ledger(worker)
     }
 
-    /// The worker that holds the ledger of an origin: itself, or one to which it resigned, directly or through others.
-    /// `None` exactly where there is no such worker.
+    /// The worker that holds the ledger of an origin: itself, or one to which it resigned, directly
+    /// or through others. `None` exactly where there is no such worker.
     pub fn holder(&self, origin: u32) -> Option<u32>
         ensures holder { result ≡ holder self.now.state origin }
         ensures none { (result ≡ None) ↔ (self.now.state.layout.workers ≤ origin) }
@@ -125,9 +141,10 @@ impl Core {
         self.machine.holder(origin)
     }
 
-    /// How many of the slots above 5 are in the pool, private to a worker, reached from the root, and queued: of each place, the number of
-    /// the slots that stand there, by what the place means.
-    /// Each is in exactly one of these places, so the four add up to the nodes above slot 5. Takes one pass and no memory.
+    /// How many of the slots above 5 are in the pool, private to a worker, reached from the root,
+    /// and queued: of each place, the number of the slots that stand there, by what the place
+    /// means. Each is in exactly one of these places, so the four add up to the nodes above slot 5.
+    /// Takes one pass and no memory.
     pub fn places(&self) -> Places
         ensures places { result ≡ counts self.now.state }
         ensures slots { AreNumbersOfSlots self.now.state result }
@@ -136,21 +153,24 @@ impl Core {
         self.machine.places()
     }
 
-    /// The keys of the set: exactly those of the leaves that paths from the root lead to, without the fixed leaves; a key for each such path,
-    /// from left to right.
-    /// Of an ordered core each stands there once, and they ascend.
+    /// The keys of the set: exactly those of the leaves that paths from the root lead to, without
+    /// the fixed leaves; a key for each such path, from left to right. Of an ordered core each
+    /// stands there once, and they ascend.
     pub fn keys(&self) -> Result<Vec<Key>, AllocError>
         ensures keys { IfOk result (λ found. found.items ≡ keys self.now.state) }
-        ensures paths { IfOk result (λ found. AreKeysFromTheLeft self.now.state.memory found.items) }
+        ensures paths { IfOk result
+            (λ found. AreKeysFromTheLeft self.now.state.memory found.items) }
         ensures set { KeysTellTheSet self.now }
         ensures ascend { IsSome self.now.searches → KeysAscend self.now }
     {
         self.machine.keys()
     }
 
-    /// One event. Answers its reply, or the first reason in the order of `Refused` for which it is refused; what is refused changes nothing.
+    /// One event. Answers its reply, or the first reason in the order of `Refused` for which it is
+    /// refused; what is refused changes nothing.
     pub fn apply(&mut self, worker: u32, event: Event) -> Result<Reply, Refused>
-        ensures outcome { IsAnswer (refused_in self.old worker event) (reply_of self.old.state worker event) result }
+        ensures outcome { IsAnswer (refused_in self.old worker event)
+            (reply_of self.old.state worker event) result }
         ensures ok { OnOk result (self.new ≡ applied_in self.old worker event) }
         ensures err { OnErr result (self.new ≡ self.old) }
         ensures key { HasKey event }
@@ -183,7 +203,8 @@ impl Core {
         ensures trace { IfOk result (λ t. t ≡ trace_in self.old events.now) }
         ensures state { OnOk result (self.new ≡ after_in self.old events.now) }
         ensures done { IfErr result (λ e. e.done < length events.now) }
-        ensures done_state { IfErr result (λ e. self.new ≡ after_in self.old (take e.done events.now)) }
+        ensures done_state { IfErr result
+            (λ e. self.new ≡ after_in self.old (take e.done events.now)) }
         ensures why { IfErr result (λ e. (e.done ≡ 0) ⊎ WouldBeAllowed self.old events.now e.done) }
         ensures keys { All (λ t. HasKey t.1) (played events.now result) }
     {
@@ -208,28 +229,34 @@ impl Core {
         Ok(Trace::from_turns(turns))
     }
 
-    /// Applies each event in turn, and goes on after one that is refused. The trace lists worker, event and outcome of each.
+    /// Applies each event in turn, and goes on after one that is refused. The trace lists worker,
+    /// event and outcome of each.
     ///
-    /// The turns that led here, whatever they were, and then those of this run have the headline (`nm_theorem`): at each moment each
-    /// slot is in one place, each turn cuts exactly the nodes of its outcome, each worker's cuts are its freed and then its waiting
-    /// nodes, none twice, nothing is freed while a worker that was pinned at its cut has not left, and what a worker has touched
-    /// stays until it leaves. Each state of this run keeps what every state keeps, and its ledgers grow by the turns (`lawful`).
-    /// An ordered core stays in order, and its whole run, from its opening on, is a history of one plain set (it is linearizable;
-    /// see `runs_are_histories` of `nm_order`).
+    /// The turns that led here, whatever they were, and then those of this run have the headline
+    /// (`nm_theorem`): at each moment each slot is in one place, each turn cuts exactly the nodes
+    /// of its outcome, each worker's cuts are its freed and then its waiting nodes, none twice,
+    /// nothing is freed while a worker that was pinned at its cut has not left, and what a worker
+    /// has touched stays until it leaves. Each state of this run keeps what every state keeps, and
+    /// its ledgers grow by the turns (`lawful`). An ordered core stays in order, and its whole run,
+    /// from its opening on, is a history of one plain set (it is linearizable; see
+    /// `runs_are_histories` of `nm_order`).
     ///
-    /// Where memory is refused, the first `done` events have been applied and no more, and the next is one that the core would have
-    /// allowed; or `done` is 0, and no event was tried.
+    /// Where memory is refused, the first `done` events have been applied and no more, and the next
+    /// is one that the core would have allowed; or `done` is 0, and no event was tried.
     pub fn run(&mut self, events: Vec<(u32, Event)>) -> Result<Trace, RunError>
         ensures trace { IfOk result (λ t. t ≡ trace_in self.old events.items) }
         ensures state { OnOk result (self.new ≡ after_in self.old events.items) }
-        ensures lawful { IfOk result (λ t. IsLawfulRun (λ i. (after_in self.old (take i events.items)).state) t) }
+        ensures lawful { IfOk result
+            (λ t. IsLawfulRun (λ i. (after_in self.old (take i events.items)).state) t) }
         ensures headline { HasHeadlineBehind self.old (played events.items result) }
         ensures past { HasPast self.old }
         ensures histories { HasHistoriesBehind self.old (played events.items result) }
         ensures order { StaysInOrder self.old (played events.items result) }
         ensures done { IfErr result (λ e. e.done < length events.items) }
-        ensures done_state { IfErr result (λ e. self.new ≡ after_in self.old (take e.done events.items)) }
-        ensures why { IfErr result (λ e. (e.done ≡ 0) ⊎ WouldBeAllowed self.old events.items e.done) }
+        ensures done_state { IfErr result
+            (λ e. self.new ≡ after_in self.old (take e.done events.items)) }
+        ensures why { IfErr result
+            (λ e. (e.done ≡ 0) ⊎ WouldBeAllowed self.old events.items e.done) }
     {
         self.is_of_a_run();
         self.play(&events)

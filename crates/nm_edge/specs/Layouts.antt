@@ -1,7 +1,8 @@
 -- The sizes of a tree.
 use Rattle.std.specs.Prelude.{◌≡◌, ◌⊎◌, ℕ, ◌≤◌}
 
--- how many nodes there is room for, how many workers there are, and how many words that say nothing stand behind the note of each
+-- how many nodes there is room for, how many workers there are, and how many words that say nothing
+-- stand behind the note of each
 pub record Layout : Type 0 where
   pub nodes : ℕ
   pub workers : ℕ

@@ -5,8 +5,8 @@ use Rattle.nm_edge.specs.declared.edge.Side.TheVariants.{Left, Right}
 use Rattle.nm_edge.specs.declared.layout.PoolPlace.{PoolPlace}
 use Rattle.nm_edge.specs.Layouts.{Layout}
 
--- the fields of a tree, a word each: the epoch; a worker's note; of each slot its key, two edges and birth;
--- and the rows of the pool, of 64 slots each
+-- the fields of a tree, a word each: the epoch; a worker's note; of each slot its key, two edges
+-- and birth; and the rows of the pool, of 64 slots each
 pub data Field : Type 0 where
   at_epoch : Field
   at_note : ℕ → Field
@@ -32,8 +32,9 @@ IsField L (at_edge s _) = IsSlot L s
 IsField L (at_birth s) = IsSlot L s
 IsField L (at_row r) = r < rows L
 
--- the first word behind the epoch's and the notes of so many workers. With no gap the words stand side by side. With a gap of 7 notes are 8 words
--- apart, a cache line; two words of the epoch's line are thought to stand before it, so that each note begins a line, and so does the first node
+-- the first word behind the epoch's and the notes of so many workers. With no gap the words stand
+-- side by side. With a gap of 7 notes are 8 words apart, a cache line; two words of the epoch's
+-- line are thought to stand before it, so that each note begins a line, and so does the first node
 abbrev pub behind_notes : Layout → ℕ → ℕ
 behind_notes L w = 1 + (L.gap - 2) + (1 + L.gap) * w
 
@@ -68,7 +69,8 @@ pool_place L s = record { word = word L (at_row ((s - 1) / 64)); mask = 2 ^ ((s 
 
 -- no two fields have one word
 abbrev pub FieldsAreApart : Type 0
-FieldsAreApart = (L : Layout) (f g : Field) → IsField L f → IsField L g → word L f ≡ word L g → f ≡ g
+FieldsAreApart = (L : Layout) (f g : Field) → IsField L f → IsField L g → word L f ≡ word L g
+    → f ≡ g
 
 -- the number of each field's word is below that of all words
 abbrev pub FieldsAreWithin : Type 0
@@ -80,9 +82,11 @@ PoolPlacesAreRows = (L : Layout) (s : ℕ) → IsSlot L s → IsField L (at_row 
 
 -- two places in one word share no bit
 abbrev pub PoolMasksAreApart : Type 0
-PoolMasksAreApart = (L : Layout) (s t : ℕ) → IsSlot L s → IsSlot L t → s ≢ t → (pool_place L s).word ≡ (pool_place L t).word
+PoolMasksAreApart = (L : Layout) (s t : ℕ) → IsSlot L s → IsSlot L t → s ≢ t
+    → (pool_place L s).word ≡ (pool_place L t).word
     → bit_and (pool_place L s).mask (pool_place L t).mask ≡ 0
 
 -- no two slots have one place
 abbrev pub PoolPlacesAreApart : Type 0
-PoolPlacesAreApart = (L : Layout) (s t : ℕ) → IsSlot L s → IsSlot L t → pool_place L s ≡ pool_place L t → s ≡ t
+PoolPlacesAreApart = (L : Layout) (s t : ℕ) → IsSlot L s → IsSlot L t
+    → pool_place L s ≡ pool_place L t → s ≡ t

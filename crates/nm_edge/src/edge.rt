@@ -5,17 +5,20 @@ ghost use Rattle.nm_edge.specs.Edges.{IsEdge, edge_in, is_to, is_word, other, ta
 use std::fmt;
 use std::marker::Model;
 
-/// A side of a node. A search for a key goes left where the key is less than the node's, else right.
+/// A side of a node. A search for a key goes left where the key is less than the node's, else
+/// right.
 #[derive(Clone, Copy, Debug, PartialEq, Eq)]
 pub enum Side {
     Left,
     Right,
 }
 
-/// An edge of a node: the slot that it leads to, and its two marks (Natarajan and Mittal, section 3.1).
+/// An edge of a node: the slot that it leads to, and its two marks (Natarajan and Mittal, section
+/// 3.1).
 ///
-/// The flag says that the leaf below and the node above are to be removed, the tag that the node above alone is.
-/// The null edge, to slot 0, has no mark. It is kept as its word, so that a word that was loaded is an edge with no test.
+/// The flag says that the leaf below and the node above are to be removed, the tag that the node
+/// above alone is. The null edge, to slot 0, has no mark. It is kept as its word, so that a word
+/// that was loaded is an edge with no test.
 #[derive(Clone, Copy, PartialEq, Eq)]
 pub struct Edge {
     word: u64,
@@ -41,7 +44,8 @@ impl Model for Edge {
 impl Edge {
     /// The edge to a slot with these marks; `None` exactly for a null edge with a mark.
     pub fn new(slot: u32, flag: bool, tag: bool) -> Option<Edge>
-        ensures edge { IfSome result (λ edge. edge ≡ record { slot = slot; flag = flag; tag = tag }) }
+        ensures edge { IfSome result
+            (λ edge. edge ≡ record { slot = slot; flag = flag; tag = tag }) }
         ensures none { IsNone result ↔ ((slot ≡ 0) × ((flag ≡ true) ⊎ (tag ≡ true))) }
     {
         if slot == 0 && (flag || tag) {
@@ -137,11 +141,13 @@ impl Edge {
         Edge { word }
     }
 
-    /// The edge of a word; `None` exactly where the slot would be above 2^32 - 1, or a null edge would have a mark.
+    /// The edge of a word; `None` exactly where the slot would be above 2^32 - 1, or a null edge
+    /// would have a mark.
     pub fn unpack(word: u64) -> Option<Edge>
         ensures edge { result ≡ unpacked word }
         ensures fits { IfSome result IsEdge }
-        ensures none { IsNone result ↔ ((2 ^ 32 ≤ word / 4) ⊎ ((word ≡ 1) ⊎ (word ≡ 2) ⊎ (word ≡ 3))) }
+        ensures none { IsNone result
+            ↔ ((2 ^ 32 ≤ word / 4) ⊎ ((word ≡ 1) ⊎ (word ≡ 2) ⊎ (word ≡ 3))) }
     {
         if word / 4 > u64::from(u32::MAX) || (1..=3).contains(&word) {
             return None;

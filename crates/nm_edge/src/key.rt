@@ -7,7 +7,8 @@ use std::marker::Model;
 /// The greatest key of the set, 2^64 - 4.
 pub const MOST_KEY: u64 = u64::MAX - 3;
 
-/// The least key of the fixed nodes, above each key of the set (the infinite keys of Natarajan and Mittal, section 3.1).
+/// The least key of the fixed nodes, above each key of the set (the infinite keys of Natarajan and
+/// Mittal, section 3.1).
 pub const INFINITY_0: u64 = u64::MAX - 2;
 
 /// The next one.
@@ -18,8 +19,8 @@ pub const INFINITY_2: u64 = u64::MAX;
 
 /// A key of the set: a whole number from 0 to 2^64 - 4. A contract sees it as the number.
 ///
-/// The three greatest words, 2^64 - 3 to 2^64 - 1, are the keys of the fixed nodes, above each key of the set
-/// (the infinite keys of Natarajan and Mittal).
+/// The three greatest words, 2^64 - 3 to 2^64 - 1, are the keys of the fixed nodes, above each key
+/// of the set (the infinite keys of Natarajan and Mittal).
 #[derive(Clone, Copy, Debug, PartialEq, Eq, PartialOrd, Ord)]
 pub struct Key(u64);
 

@@ -18,8 +18,8 @@ pub fn fields_are_apart()
     ensures within { FieldsAreWithin }
 {}
 
-/// Different slots have different places in the pool: where they share a word, their masks share no bit.
-/// Each place is in a row of the pool.
+/// Different slots have different places in the pool: where they share a word, their masks share no
+/// bit. Each place is in a row of the pool.
 pub fn pool_places_are_apart()
     ensures masks { PoolMasksAreApart }
     ensures places { PoolPlacesAreApart }

@@ -19,17 +19,19 @@ pub const MOST_SPACED_NODES: u32 = 268_435_456;
 /// The greatest number of workers.
 pub const MOST_WORKERS: u32 = 64;
 
-/// The least slot that is not one of the five fixed ones: the slots from here on are claimed and given back.
+/// The least slot that is not one of the five fixed ones: the slots from here on are claimed and
+/// given back.
 pub const FIRST_SLOT: u32 = 6;
 
 /// How many words stand behind a note that has a cache line of its own: the rest of its 64 bytes.
 const LINE_GAP: u32 = 7;
 
-/// How many words of the epoch's line stand before the epoch's own: those in which an allocator keeps what it knows of a large block.
+/// How many words of the epoch's line stand before the epoch's own: those in which an allocator
+/// keeps what it knows of a large block.
 const BEFORE_EPOCH: u32 = 2;
 
-/// How many nodes a tree has room for, the five fixed ones counted, how many workers share it, and whether their announcements have cache lines of
-/// their own.
+/// How many nodes a tree has room for, the five fixed ones counted, how many workers share it, and
+/// whether their announcements have cache lines of their own.
 #[derive(Clone, Copy, Debug, PartialEq, Eq)]
 pub struct Layout {
     nodes: u32,
@@ -49,9 +51,16 @@ impl Model for Layout {
 
     ghost view = { λ l. record { nodes = l.nodes; workers = l.workers; gap = l.gap } };
 
-    ghost inverse = { λ l. record { nodes = l.nodes; workers = l.workers; gap = l.gap; first = behind_notes l l.workers } };
+    ghost inverse = { λ l. record {
+      nodes = l.nodes;
+      workers = l.workers;
+      gap = l.gap;
+      first = behind_notes l l.workers;
+    } };
 
-    ghost invariant = { λ l. IsLayout (record { nodes = l.nodes; workers = l.workers; gap = l.gap }) × (l.first ≡ behind_notes (record { nodes = l.nodes; workers = l.workers; gap = l.gap }) l.workers) };
+    ghost invariant = { λ l. IsLayout (record { nodes = l.nodes; workers = l.workers; gap = l.gap })
+        × (l.first ≡ behind_notes (record { nodes = l.nodes; workers = l.workers; gap = l.gap })
+        l.workers) };
 }
 
 /// The number of the epoch's word.
@@ -84,22 +93,28 @@ pub enum LayoutError {
 }
 
 impl Layout {
-    /// The layout of so many nodes, 7 to 1,048,576, and 1 to 64 workers. Its words stand side by side.
+    /// The layout of so many nodes, 7 to 1,048,576, and 1 to 64 workers. Its words stand side by
+    /// side.
     pub fn new(nodes: u32, workers: u32) -> Result<Layout, LayoutError>
         ensures layout { IfOk result (λ layout. layout ≡ dense nodes workers) }
-        ensures nodes { IsErrOf result LayoutError.Nodes ↔ ((nodes < LEAST_NODES) ⊎ (MOST_NODES < nodes)) }
-        ensures workers { IfErr result (λ e. e ≡ LayoutError.Workers → (workers < 1) ⊎ (MOST_WORKERS < workers)) }
+        ensures nodes { IsErrOf result LayoutError.Nodes
+            ↔ ((nodes < LEAST_NODES) ⊎ (MOST_NODES < nodes)) }
+        ensures workers { IfErr result
+            (λ e. e ≡ LayoutError.Workers → (workers < 1) ⊎ (MOST_WORKERS < workers)) }
         ensures fits { IfOk result IsLayout }
     {
         Layout::within(MOST_NODES, nodes, workers, 0)
     }
 
-    /// The layout of so many nodes, 7 to 268,435,456, and 1 to 64 workers, in which each announcement has a cache line of its own, and no node lies in two
-    /// lines, where the words begin 16 bytes behind the beginning of a line, as large blocks of glibc's `malloc` do.
+    /// The layout of so many nodes, 7 to 268,435,456, and 1 to 64 workers, in which each
+    /// announcement has a cache line of its own, and no node lies in two lines, where the words
+    /// begin 16 bytes behind the beginning of a line, as large blocks of glibc's `malloc` do.
     pub fn spaced(nodes: u32, workers: u32) -> Result<Layout, LayoutError>
         ensures layout { IfOk result (λ layout. layout ≡ spaced nodes workers) }
-        ensures nodes { IsErrOf result LayoutError.Nodes ↔ ((nodes < LEAST_NODES) ⊎ (MOST_SPACED_NODES < nodes)) }
-        ensures workers { IfErr result (λ e. e ≡ LayoutError.Workers → (workers < 1) ⊎ (MOST_WORKERS < workers)) }
+        ensures nodes { IsErrOf result LayoutError.Nodes
+            ↔ ((nodes < LEAST_NODES) ⊎ (MOST_SPACED_NODES < nodes)) }
+        ensures workers { IfErr result
+            (λ e. e ≡ LayoutError.Workers → (workers < 1) ⊎ (MOST_WORKERS < workers)) }
         ensures fits { IfOk result IsLayout }
     {
         Layout::within(MOST_SPACED_NODES, nodes, workers, LINE_GAP)
@@ -109,9 +124,12 @@ impl Layout {
     fn within(most: u32, nodes: u32, workers: u32, gap: u32) -> Result<Layout, LayoutError>
         requires most { most ≤ MOST_SPACED_NODES }
         requires gap { (gap ≡ 0) ⊎ (gap ≡ LINE_GAP) }
-        ensures layout { IfOk result (λ layout. layout ≡ record { nodes = nodes; workers = workers; gap = gap }) }
-        ensures nodes { IsErrOf result LayoutError.Nodes ↔ ((nodes < LEAST_NODES) ⊎ (most < nodes)) }
-        ensures workers { IfErr result (λ e. e ≡ LayoutError.Workers → (workers < 1) ⊎ (MOST_WORKERS < workers)) }
+        ensures layout { IfOk result
+            (λ layout. layout ≡ record { nodes = nodes; workers = workers; gap = gap }) }
+        ensures nodes { IsErrOf result LayoutError.Nodes
+            ↔ ((nodes < LEAST_NODES) ⊎ (most < nodes)) }
+        ensures workers { IfErr result
+            (λ e. e ≡ LayoutError.Workers → (workers < 1) ⊎ (MOST_WORKERS < workers)) }
         ensures fits { IfOk result IsLayout }
     {
         if !(LEAST_NODES..=most).contains(&nodes) {
@@ -146,8 +164,9 @@ impl Layout {
         workers
     }
 
-    /// How many words there are: one for the epoch, one a worker, four a node, and one for each 64 slots of the pool, in this order. Where announcements
-    /// have lines of their own, each has the seven words behind it too, and five words stand behind the epoch's.
+    /// How many words there are: one for the epoch, one a worker, four a node, and one for each 64
+    /// slots of the pool, in this order. Where announcements have lines of their own, each has the
+    /// seven words behind it too, and five words stand behind the epoch's.
     pub fn words(self) -> u32
         ensures { result ≡ words self }
     {
@@ -217,7 +236,8 @@ impl Layout {
     }
 }
 
-/// The number of the first word behind the epoch's and the notes of so many workers, with that gap behind each.
+/// The number of the first word behind the epoch's and the notes of so many workers, with that gap
+/// behind each.
 fn notes_end(gap: u32, workers: u32) -> u32
     requires { (workers ≤ MOST_WORKERS) × ((gap ≡ 0) ⊎ (gap ≡ LINE_GAP)) }
     ensures word { result ≡ 1 + (gap - 2) + (1 + gap) * workers }

@@ -1,4 +1,5 @@
-//! What the words of the tree hold: keys, edges, the two sides of a node, nodes by slot and birth, and the sizes of a tree.
+//! What the words of the tree hold: keys, edges, the two sides of a node, nodes by slot and birth,
+//! and the sizes of a tree.
 #![tactic(auto)]
 
 mod edge;

@@ -1,4 +1,5 @@
--- The queues that a worker holds have fewer entries together than there are slots, so a collection takes few steps.
+-- The queues that a worker holds have fewer entries together than there are slots, so a collection
+-- takes few steps.
 use Rattle.std.proofs.Common.{◌≡◌, ◌≢◌, ℕ, suc, ◌+◌, ◌≤◌, ◌<◌, inl, inr, eqb, true, false, List, [], ◌∷◌, ◌++◌, length, map, refl, sym, ap, subst, ◌∙◌, arith, true≢false}
 use Rattle.std.specs.Prelude.{Option, Some, slice_get, option_map}
 use Rattle.std.specs.List.{list_any, IsDistinct, AllByRecursion}

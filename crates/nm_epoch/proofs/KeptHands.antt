@@ -1,4 +1,5 @@
--- Steps on the epoch and on notes leave what a worker has in its hands, and, but for pins and leaves, what it knows of nodes.
+-- Steps on the epoch and on notes leave what a worker has in its hands, and, but for pins and
+-- leaves, what it knows of nodes.
 use Rattle.std.proofs.Common.{◌≡◌, ◌≢◌, ⊎_elim, ℕ, ◌==◌, Bool, true, false, List, [], ◌∷◌, ◌++◌, refl, sym, ap, subst, ◌∙◌, true≢false}
 use Rattle.std.specs.Prelude.{Option, Some, None}
 use Rattle.std.proofs.lemmas.Bool.{cond_both}
@@ -34,7 +35,8 @@ is_label _ = false
 
 -- ---- one step
 
--- private slots stay, and if nothing is labelled, the ledgers do, and whether a cut waits for its label
+-- private slots stay, and if nothing is labelled, the ledgers do, and whether a cut waits for its
+-- label
 record Keeps (k l : Knowledge) (r : Reply) : Type 0 where
   drafts : l.drafts ≡ k.drafts
   ledgers : is_label r ≡ false → l.ledgers ≡ k.ledgers

@@ -17,13 +17,17 @@ use Rattle.nm_epoch.specs.declared.collecting.HeldQueue.{HeldQueue}
 abbrev pub queued : Entry → Queued
 queued e = record { node = e.node; label = Some e.label }
 
--- the worker holds the ledger of that origin, and these are the entries of its queue, all with labels
+-- the worker holds the ledger of that origin, and these are the entries of its queue, all with
+-- labels
 abbrev pub IsQueueOf : Knowledge → ℕ → List Entry → Type 0
-IsQueueOf k origin es = option_map (λ (l : Ledger). l.queue) (held k.ledgers origin) ≡ Some (map queued es)
+IsQueueOf k origin es = option_map (λ (l : Ledger). l.queue) (held k.ledgers origin)
+    ≡ Some (map queued es)
 
--- the worker holds the ledger of that origin, and in its queue these entries wait, and behind them these nodes, which wait for their label
+-- the worker holds the ledger of that origin, and in its queue these entries wait, and behind them
+-- these nodes, which wait for their label
 abbrev pub IsQueueThen : Knowledge → ℕ → List Entry → List NodeId → Type 0
-IsQueueThen k origin es ns = option_map (λ (l : Ledger). l.queue) (held k.ledgers origin) ≡ Some (map queued es ++ map unlabelled ns)
+IsQueueThen k origin es ns = option_map (λ (l : Ledger). l.queue) (held k.ledgers origin)
+    ≡ Some (map queued es ++ map unlabelled ns)
 
 abbrev pub labelled_so : ℕ → NodeId → Entry
 labelled_so epoch n = record { node = n; label = epoch }
@@ -31,7 +35,8 @@ labelled_so epoch n = record { node = n; label = epoch }
 -- in each held queue what waited without a label has this one now, and what had one has it still
 -- (Fraser, section 5)
 abbrev pub TakesLabels : ℕ → Knowledge → Knowledge → Type 0
-TakesLabels epoch k l = (o : ℕ) (es : List Entry) (ns : List NodeId) → IsQueueThen k o es ns → IsQueueOf l o (es ++ map (labelled_so epoch) ns)
+TakesLabels epoch k l = (o : ℕ) (es : List Entry) (ns : List NodeId) → IsQueueThen k o es ns
+    → IsQueueOf l o (es ++ map (labelled_so epoch) ns)
 
 -- its label is at least two below the epoch
 abbrev pub is_ripe : ℕ → Entry → Bool
@@ -75,7 +80,8 @@ ripe_of epoch (h ∷ hs) = ripe_part epoch h.queue.items ++ ripe_of epoch hs
 -- each queue has lost what was ripe at its front
 abbrev pub HaveLost : ℕ → List HeldQueue → List HeldQueue → Type 0
 HaveLost epoch [] [] = Unit {0}
-HaveLost epoch (h ∷ hs) (g ∷ gs) = (g.origin ≡ h.origin) × (g.queue.items ≡ rest_of epoch h.queue.items) × HaveLost epoch hs gs
+HaveLost epoch (h ∷ hs) (g ∷ gs) =
+    (g.origin ≡ h.origin) × (g.queue.items ≡ rest_of epoch h.queue.items) × HaveLost epoch hs gs
 HaveLost epoch _ _ = ⊥
 
 -- how many blocks each queue has
@@ -103,4 +109,5 @@ KeepsRetired k l = (o : ℕ) → retired_of l o ≡ retired_of k o
 -- by queue, a give of each entry of the longest front whose label is at least two below the epoch
 -- read (Fraser, section 5)
 abbrev pub IsCollection : ℕ → List HeldQueue → List LogEntry → List LogEntry → Type 0
-IsCollection epoch hs old new = (mid : List LogEntry) × IsSightOf epoch old mid × (new ≡ mid ++ map freeing (ripe_of epoch hs))
+IsCollection epoch hs old new =
+    (mid : List LogEntry) × IsSightOf epoch old mid × (new ≡ mid ++ map freeing (ripe_of epoch hs))

@@ -18,7 +18,14 @@ search p = search_after idle p.view.log
 
 -- a call that has only begun
 abbrev pub begun_for : Option Call → Search
-begun_for call = record { call = call; linked = false; flagged = None; cut = false; walks = []; later = [] }
+begun_for call = record {
+  call = call;
+  linked = false;
+  flagged = None;
+  cut = false;
+  walks = [];
+  later = [];
+}
 
 -- it is not pinned and announces nothing
 pub record IsUnpinned (p : Stand) : Type 0 where
@@ -59,16 +66,19 @@ pub record Stays (p q : Stand) : Type 0 where
   pub search : search q ≡ search p
   pub known : (knowledge q.view).known ≡ (knowledge p.view).known
 
--- no cut waits for its label any more, and if it was settled, its announcement, its pin and its call stay, and what it knows of nodes
+-- no cut waits for its label any more, and if it was settled, its announcement, its pin and its
+-- call stay, and what it knows of nodes
 pub record Settles (p q : Stand) : Type 0 where
   pub labelled : (epochs q).unlabelled ≡ false
   pub stays : IsSettled p → Stays p q
 
--- its private slots stay as they are, and, where no cut waited for its label, the ledgers that it holds
+-- its private slots stay as they are, and, where no cut waited for its label, the ledgers that it
+-- holds
 pub record KeepsHands (p q : Stand) : Type 0 where
   pub private : (knowledge q.view).drafts ≡ (knowledge p.view).drafts
   pub labelled : (epochs p).unlabelled ≡ false → (epochs q).unlabelled ≡ false
-  pub ledgers : (epochs p).unlabelled ≡ false → (knowledge q.view).ledgers ≡ (knowledge p.view).ledgers
+  pub ledgers : (epochs p).unlabelled ≡ false
+      → (knowledge q.view).ledgers ≡ (knowledge p.view).ledgers
 
 -- by worker, whether it was scanned at the epoch last read
 abbrev pub marks : Stand → List Bool

@@ -24,7 +24,9 @@ IsSightOf e old new = (r : Reply) × (epoch_in r ≡ Some e) × (new ≡ old ++ 
 
 -- worker v was found so: by one scan, or, where it is worker me itself, by its own pin and no step
 abbrev pub LooksAt : ℕ → Option ℕ → ℕ → Option ℕ → List Entry → List Entry → Type 0
-LooksAt me pin v found old new = ((v ≡ me) × (found ≡ pin) × (new ≡ old)) ⊎ ((v ≢ me) × (new ≡ old ++ (event.Scan v, scan_reply found) ∷ []))
+LooksAt me pin v found old new =
+    ((v ≡ me) × (found ≡ pin) × (new ≡ old))
+    ⊎ ((v ≢ me) × (new ≡ old ++ (event.Scan v, scan_reply found) ∷ []))
 
 -- a worker that was found so, idle or at an epoch, does not hold the epoch e back
 abbrev pub lets_pass : Option ℕ → ℕ → Bool
@@ -34,22 +36,32 @@ lets_pass (Some a) e = e == a
 -- the workers below n were looked at in their order, and none holds e back
 abbrev pub AllLetPass : ℕ → Option ℕ → ℕ → ℕ → List Entry → List Entry → Type 0
 AllLetPass me pin e zero old new = new ≡ old
-AllLetPass me pin e (suc n) old new = (mid : List Entry) × (found : Option ℕ) × AllLetPass me pin e n old mid × LooksAt me pin n found mid new × (lets_pass found e ≡ true)
+AllLetPass me pin e (suc n) old new =
+    (mid : List Entry) × (found : Option ℕ) × AllLetPass me pin e n old mid
+    × LooksAt me pin n found mid new × (lets_pass found e ≡ true)
 
 -- a sight of the epoch e, and then those below n, none of which holds it back
 abbrev pub SightThenScans : ℕ → Option ℕ → ℕ → ℕ → List Entry → List Entry → Type 0
-SightThenScans me pin e n old new = (mid : List Entry) × IsSightOf e old mid × AllLetPass me pin e n mid new
+SightThenScans me pin e n old new =
+    (mid : List Entry) × IsSightOf e old mid × AllLetPass me pin e n mid new
 
 -- what an advance of worker me, with that pin, among m workers leaves in its log, by its answer: a
 -- sight, scans up to the first worker that is at another epoch, or of all and then the move of the
 -- epoch to the next (Fraser, section 5)
 abbrev pub IsAdvance : ℕ → ℕ → Option ℕ → List Entry → List Entry → Advance → Type 0
-IsAdvance m me pin old new (Moved next) = (e : ℕ) × (mid : List Entry) × SightThenScans me pin e m old mid × (next ≡ e + 1) × (new ≡ mid ++ (event.Advance, reply.Moved next) ∷ [])
-IsAdvance m me pin old new (Lost found) = (e : ℕ) × (mid : List Entry) × SightThenScans me pin e m old mid × (found ≢ e) × (new ≡ mid ++ (event.Advance, reply.Behind found) ∷ [])
-IsAdvance m me pin old new (Held w at) = (e : ℕ) × (mid : List Entry) × SightThenScans me pin e w old mid × (w < m) × (at ≢ e) × LooksAt me pin w (Some at) mid new
+IsAdvance m me pin old new (Moved next) =
+    (e : ℕ) × (mid : List Entry) × SightThenScans me pin e m old mid × (next ≡ e + 1)
+    × (new ≡ mid ++ (event.Advance, reply.Moved next) ∷ [])
+IsAdvance m me pin old new (Lost found) =
+    (e : ℕ) × (mid : List Entry) × SightThenScans me pin e m old mid × (found ≢ e)
+    × (new ≡ mid ++ (event.Advance, reply.Behind found) ∷ [])
+IsAdvance m me pin old new (Held w at) =
+    (e : ℕ) × (mid : List Entry) × SightThenScans me pin e w old mid × (w < m) × (at ≢ e)
+    × LooksAt me pin w (Some at) mid new
 IsAdvance m me pin old new Spent = SightThenScans me pin last_number m old new
 
--- how far an advance has come: those below n let it pass, and are marked as scanned, or are the own worker
+-- how far an advance has come: those below n let it pass, and are marked as scanned, or are the own
+-- worker
 pub record IsLooking (me e n : ℕ) (old : List Entry) (p : Stand) : Type 0 where
   pub part : SightThenScans me (epochs p).pin e n old p.view.log
   pub seen : (epochs p).seen ≡ Some e

@@ -20,7 +20,8 @@ call_of (For op key) = Some (record { op = op; key = key })
 
 -- an announce, followed at once by that sight, which answered `Missed`
 abbrev pub LostTry : Event → List Entry → List Entry → Type 0
-LostTry by old new = (a e : ℕ) × (new ≡ (old ++ (Announce, Announced a) ∷ []) ++ (by, Missed e) ∷ [])
+LostTry by old new = (a e : ℕ)
+    × (new ≡ (old ++ (Announce, Announced a) ∷ []) ++ (by, Missed e) ∷ [])
 
 -- an announce, followed at once by that sight, which answered `Pinned e`
 abbrev pub WonTry : Event → ℕ → List Entry → List Entry → Type 0
@@ -37,10 +38,12 @@ looked old e = old ++ (Sight, Saw e) ∷ []
 
 -- one sight, fewer lost tries than there may be, and one that was won (Fraser, section 5)
 abbrev pub IsPinned : Event → ℕ → List Entry → List Entry → ℕ → Type 0
-IsPinned by tries old new e = (first n : ℕ) × (mid : List Entry) × (n < tries) × LostTries by n (looked old first) mid × WonTry by e mid new
+IsPinned by tries old new e = (first n : ℕ) × (mid : List Entry) × (n < tries)
+    × LostTries by n (looked old first) mid × WonTry by e mid new
 
 -- one sight, as many lost tries as there may be, and a leave; with no tries the sight alone
 -- (Fraser, section 5)
 abbrev pub IsMoved : Event → ℕ → List Entry → List Entry → Type 0
 IsMoved by zero old new = (first : ℕ) × (new ≡ looked old first)
-IsMoved by (suc n) old new = (first : ℕ) × (mid : List Entry) × LostTries by (suc n) (looked old first) mid × (new ≡ mid ++ (Leave, Departed) ∷ [])
+IsMoved by (suc n) old new = (first : ℕ) × (mid : List Entry)
+    × LostTries by (suc n) (looked old first) mid × (new ≡ mid ++ (Leave, Departed) ∷ [])

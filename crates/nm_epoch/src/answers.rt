@@ -14,7 +14,8 @@ pub struct Moved {
 pub enum Advance {
     /// The epoch is this one now, by this worker's step.
     Moved { epoch: u64 },
-    /// This worker, the first by number, was found announcing this epoch, which is not the one read.
+    /// This worker, the first by number, was found announcing this epoch, which is not the one
+    /// read.
     Held { worker: u32, epoch: u64 },
     /// Another worker moved the epoch on first; it was found to be this one.
     Lost { epoch: u64 },

@@ -74,8 +74,8 @@ fn free(shared: &Shared, pass: &mut Pass, slot: u32)
     shared.give(pass, slot);
 }
 
-/// Frees what is ripe at the front of one held queue, given the epoch that the worker read last, by one step each: how many.
-/// The placement remembers the slots.
+/// Frees what is ripe at the front of one held queue, given the epoch that the worker read last, by
+/// one step each: how many. The placement remembers the slots.
 fn collect_front(
     shared: &Shared,
     pass: &mut Pass,
@@ -91,14 +91,16 @@ fn collect_front(
     ensures same { IsSamePass pass.old pass.new }
     ensures past { HasSeenAllOf pass.new pass.old }
     ensures run { IsInRun pass.new }
-    ensures entries { pass.new.view.log ≡ pass.old.view.log ++ map freeing (ripe_part epoch queue.old.queue.items) }
+    ensures entries { pass.new.view.log
+        ≡ pass.old.view.log ++ map freeing (ripe_part epoch queue.old.queue.items) }
     ensures freed { result ≡ length (ripe_part epoch queue.old.queue.items) }
     ensures left { queue.new.queue.items ≡ rest_of epoch queue.old.queue.items }
     ensures blocks { queue.new.queue.blocks ≡ queue.old.queue.blocks }
     ensures origin { queue.new.origin ≡ queue.old.origin }
     ensures queue { IsQueueOf (knowledge pass.new.view) queue.new.origin queue.new.queue.items }
     ensures apart { AreApart pass.new.view.layout (knowledge pass.new.view) }
-    ensures others { (o : ℕ) → o ≢ queue.old.origin → held (knowledge pass.new.view).ledgers o ≡ held (knowledge pass.old.view).ledgers o }
+    ensures others { (o : ℕ) → o ≢ queue.old.origin
+        → held (knowledge pass.new.view).ledgers o ≡ held (knowledge pass.old.view).ledgers o }
     ensures retired { KeepsRetired (knowledge pass.old.view) (knowledge pass.new.view) }
     ensures epochs { epochs pass.new ≡ epochs pass.old }
     ensures search { search pass.new ≡ search pass.old }
@@ -132,14 +134,16 @@ fn collect_fronts(
     ensures same { IsSamePass pass.old pass.new }
     ensures past { HasSeenAllOf pass.new pass.old }
     ensures run { IsInRun pass.new }
-    ensures entries { pass.new.view.log ≡ pass.old.view.log ++ map freeing (ripe_of epoch queues.old) }
+    ensures entries { pass.new.view.log
+        ≡ pass.old.view.log ++ map freeing (ripe_of epoch queues.old) }
     ensures freed { result ≡ length (ripe_of epoch queues.old) }
     ensures most { result ≤ 4294967295 * length queues.old }
     ensures lost { HaveLost epoch queues.old queues.new }
     ensures blocks { blocks_of queues.new ≡ blocks_of queues.old }
     ensures queues { AreHeld (knowledge pass.new.view) queues.new }
     ensures apart { AreApart pass.new.view.layout (knowledge pass.new.view) }
-    ensures others { (o : ℕ) → NoneHas o queues.old → held (knowledge pass.new.view).ledgers o ≡ held (knowledge pass.old.view).ledgers o }
+    ensures others { (o : ℕ) → NoneHas o queues.old
+        → held (knowledge pass.new.view).ledgers o ≡ held (knowledge pass.old.view).ledgers o }
     ensures retired { KeepsRetired (knowledge pass.old.view) (knowledge pass.new.view) }
     ensures epochs { epochs pass.new ≡ epochs pass.old }
     ensures search { search pass.new ≡ search pass.old }
@@ -163,17 +167,20 @@ pub struct Collected {
     pub freed: u64,
 }
 
-/// Reads the epoch, and frees what is ripe at the front of each of these held queues, in their order: of each exactly the longest
-/// front of entries whose labels are at least two below the epoch. Each node goes back to the pool by one step, and leaves its queue.
-/// One step to read the epoch, and one a node.
+/// Reads the epoch, and frees what is ripe at the front of each of these held queues, in their
+/// order: of each exactly the longest front of entries whose labels are at least two below the
+/// epoch. Each node goes back to the pool by one step, and leaves its queue. One step to read the
+/// epoch, and one a node.
 ///
-/// The queues are those of ledgers that the worker holds, each of another origin, with all that waits in them. They are gone through as
-/// they stand: by ascending origin where they stand so. The epoch is not below any that the worker had read. Where a cut waits for its
-/// label, the first step labels it. The ledgers that the worker holds of other origins stay as they are, but for that label.
-/// The placement, which stays of its fit, remembers the last slots that were freed. It takes no memory: each queue has as many blocks as before.
+/// The queues are those of ledgers that the worker holds, each of another origin, with all that
+/// waits in them. They are gone through as they stand: by ascending origin where they stand so. The
+/// epoch is not below any that the worker had read. Where a cut waits for its label, the first step
+/// labels it. The ledgers that the worker holds of other origins stay as they are, but for that
+/// label. The placement, which stays of its fit, remembers the last slots that were freed. It takes
+/// no memory: each queue has as many blocks as before.
 ///
-/// Two epochs after the label no worker is pinned that could still come to the node (Fraser, Practical lock-freedom, 2004,
-/// chapter 5).
+/// Two epochs after the label no worker is pinned that could still come to the node (Fraser,
+/// Practical lock-freedom, 2004, chapter 5).
 pub fn collect(
     shared: &Shared,
     pass: &mut Pass,
@@ -190,7 +197,8 @@ pub fn collect(
     ensures lost { HaveLost result.epoch queues.old queues.new }
     ensures blocks { blocks_of queues.new ≡ blocks_of queues.old }
     ensures queues { AreHeld (knowledge pass.new.view) queues.new }
-    ensures others { KeepsOthers result.epoch queues.old (knowledge pass.old.view) (knowledge pass.new.view) }
+    ensures others { KeepsOthers result.epoch queues.old (knowledge pass.old.view)
+        (knowledge pass.new.view) }
     ensures retired { KeepsRetired (knowledge pass.old.view) (knowledge pass.new.view) }
     ensures steps { length pass.new.view.log ≤ length pass.old.view.log + shared.now.layout.nodes }
     ensures newest { (epoch : ℕ) → HasRead pass.old.view.log epoch → epoch ≤ result.epoch }

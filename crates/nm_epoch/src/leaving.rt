@@ -9,8 +9,8 @@ ghost use Rattle.nm_epoch.specs.Collecting.{TakesLabels};
 
 use nm_steps::{Pass, Shared, Sighted};
 
-/// Takes the announcement back, and with it the pin. A pin for an operation that linked or flagged leaves with an answer only
-/// (`unpin_with`). One step.
+/// Takes the announcement back, and with it the pin. A pin for an operation that linked or flagged
+/// leaves with an answer only (`unpin_with`). One step.
 pub fn unpin(shared: &Shared, pass: &mut Pass)
     requires own { IsOf shared.now pass.old }
     requires may { MayStep pass.old Leave }
@@ -36,8 +36,9 @@ pub fn unpin_with(shared: &Shared, pass: &mut Pass, answer: bool)
     shared.leave_with(pass, answer);
 }
 
-/// Labels the nodes that the worker's last splice cut by the epoch, which it reads and answers. The label is taken after the
-/// cut, so that no worker that is pinned above it can still come to them. One step.
+/// Labels the nodes that the worker's last splice cut by the epoch, which it reads and answers. The
+/// label is taken after the cut, so that no worker that is pinned above it can still come to them.
+/// One step.
 pub fn label(shared: &Shared, pass: &mut Pass) -> u64
     requires own { IsOf shared.now pass.old }
     requires cut { (epochs pass.old).unlabelled ≡ true }

@@ -31,7 +31,8 @@ pub(crate) fn read(shared: &Shared, pass: &mut Pass) -> u64
     ensures step { IsSightOf result pass.old.view.log pass.new.view.log }
     ensures seen { (epochs pass.new).seen ≡ Some result }
     ensures small { result ≤ last_number }
-    ensures ledgers { (knowledge pass.new.view).ledgers ≡ ledgers_seen result (knowledge pass.old.view) }
+    ensures ledgers { (knowledge pass.new.view).ledgers
+        ≡ ledgers_seen result (knowledge pass.old.view) }
     ensures settles { Settles pass.old pass.new }
     ensures hands { KeepsHands pass.old pass.new }
 {
@@ -47,7 +48,8 @@ pub(crate) fn look(shared: &Shared, pass: &mut Pass, me: u32, worker: u32) -> Op
     ensures same { IsSamePass pass.old pass.new }
     ensures past { HasSeenAllOf pass.new pass.old }
     ensures run { IsInRun pass.old → IsInRun pass.new }
-    ensures found { LooksAt me (epochs pass.old).pin worker result pass.old.view.log pass.new.view.log }
+    ensures found { LooksAt me (epochs pass.old).pin worker result pass.old.view.log
+        pass.new.view.log }
 {
     if worker == me {
         pass.pinned()
@@ -58,7 +60,8 @@ pub(crate) fn look(shared: &Shared, pass: &mut Pass, me: u32, worker: u32) -> Op
 
 /// The epoch that a worker was found at, where it is another than this one and so holds it back.
 pub(crate) fn elsewhere(found: Option<u64>, epoch: u64) -> Option<u64>
-    ensures { MatchOption result (lets_pass found epoch ≡ true) (λ at. (found ≡ Some at) × (lets_pass found epoch ≡ false)) }
+    ensures { MatchOption result (lets_pass found epoch ≡ true)
+        (λ at. (found ≡ Some at) × (lets_pass found epoch ≡ false)) }
 {
     match found {
         Some(at) if at != epoch => Some(at),

@@ -10,24 +10,28 @@ use crate::looking::{elsewhere, look, read};
 use nm_edge::LAST_NUMBER;
 use nm_steps::{Pass, Shared};
 
-/// Moves the epoch on by one, if no worker holds it back. The epoch is read once, and then each worker's announcement in the
-/// order of their numbers; of the own worker its pin counts, with no step. At most as many steps as there are workers, and one.
+/// Moves the epoch on by one, if no worker holds it back. The epoch is read once, and then each
+/// worker's announcement in the order of their numbers; of the own worker its pin counts, with no
+/// step. At most as many steps as there are workers, and one.
 ///
-/// `Moved`: every worker was found idle or at the epoch read, and the epoch is the next one now. `Held`: this worker, the first
-/// by number, was found at another epoch, this one. `Lost`: no worker held the epoch back, but another moved it on first.
-/// `Spent`: no worker held it back, but it is the last epoch, 2^62.
+/// `Moved`: every worker was found idle or at the epoch read, and the epoch is the next one now.
+/// `Held`: this worker, the first by number, was found at another epoch, this one. `Lost`: no
+/// worker held the epoch back, but another moved it on first. `Spent`: no worker held it back, but
+/// it is the last epoch, 2^62.
 ///
-/// Where a cut waits for its label, the first step labels it. (Fraser, 2004, chapter 5: the epoch goes on once every worker
-/// that is pinned has been seen at it.)
+/// Where a cut waits for its label, the first step labels it. (Fraser, 2004, chapter 5: the epoch
+/// goes on once every worker that is pinned has been seen at it.)
 pub fn advance(shared: &Shared, pass: &mut Pass) -> Advance
     requires { IsOf shared.now pass.old }
     ensures same { IsSamePass pass.old pass.new }
     ensures past { HasSeenAllOf pass.new pass.old }
     ensures run { IsInRun pass.new }
-    ensures part { IsAdvance shared.now.layout.workers pass.old.view.number (epochs pass.new).pin pass.old.view.log pass.new.view.log result }
+    ensures part { IsAdvance shared.now.layout.workers pass.old.view.number (epochs pass.new).pin
+        pass.old.view.log pass.new.view.log result }
     ensures settles { Settles pass.old pass.new }
     ensures hands { KeepsHands pass.old pass.new }
-    ensures steps { length pass.new.view.log ≤ length pass.old.view.log + (shared.now.layout.workers + 1) }
+    ensures steps { length pass.new.view.log
+        ≤ length pass.old.view.log + (shared.now.layout.workers + 1) }
 {
     let me = pass.number();
     move_on(shared, pass, me)
@@ -41,7 +45,8 @@ fn move_on(shared: &Shared, pass: &mut Pass, me: u32) -> Advance
     ensures same { IsSamePass pass.old pass.new }
     ensures past { HasSeenAllOf pass.new pass.old }
     ensures run { IsInRun pass.new }
-    ensures part { IsAdvance shared.now.layout.workers me (epochs pass.new).pin pass.old.view.log pass.new.view.log result }
+    ensures part { IsAdvance shared.now.layout.workers me (epochs pass.new).pin pass.old.view.log
+        pass.new.view.log result }
     ensures settles { Settles pass.old pass.new }
     ensures hands { KeepsHands pass.old pass.new }
 {

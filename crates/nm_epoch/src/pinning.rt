@@ -34,7 +34,8 @@ fn confirm(shared: &Shared, pass: &mut Pass, by: &Confirming) -> Sighted
     }
 }
 
-/// Announces the epoch last read and reads it again: the epoch, at which the worker is pinned now, or the one found in its place.
+/// Announces the epoch last read and reads it again: the epoch, at which the worker is pinned now,
+/// or the one found in its place.
 fn attempt(shared: &Shared, pass: &mut Pass, by: &Confirming) -> Result<u64, u64>
     requires own { IsOf shared.now pass.old }
     requires trying { IsTrying pass.old }
@@ -42,9 +43,11 @@ fn attempt(shared: &Shared, pass: &mut Pass, by: &Confirming) -> Result<u64, u64
     ensures same { IsSamePass pass.old pass.new }
     ensures past { HasSeenAllOf pass.new pass.old }
     ensures run { IsInRun pass.new }
-    ensures won { IfOk result (λ e. WonTry (confirming by.now) e pass.old.view.log pass.new.view.log) }
+    ensures won { IfOk result (λ e. WonTry (confirming by.now) e pass.old.view.log
+        pass.new.view.log) }
     ensures at { IfOk result (λ e. IsPinnedAt e (call_of by.now) pass.new) }
-    ensures lost { IfErr result (λ e. LostTry (confirming by.now) pass.old.view.log pass.new.view.log) }
+    ensures lost { IfErr result
+        (λ e. LostTry (confirming by.now) pass.old.view.log pass.new.view.log) }
     ensures trying { IfErr result (λ e. IsTrying pass.new) }
     ensures last { IfErr result (λ e. (epochs pass.new).seen ≡ Some e) }
     ensures hands { KeepsHands pass.old pass.new }
@@ -65,9 +68,11 @@ fn pin_by(shared: &Shared, pass: &mut Pass, tries: u32, by: &Confirming) -> Resu
     ensures same { IsSamePass pass.old pass.new }
     ensures past { HasSeenAllOf pass.new pass.old }
     ensures run { IsInRun pass.new }
-    ensures pinned { IfOk result (λ e. IsPinned (confirming by.now) tries pass.old.view.log pass.new.view.log e) }
+    ensures pinned { IfOk result
+        (λ e. IsPinned (confirming by.now) tries pass.old.view.log pass.new.view.log e) }
     ensures at { IfOk result (λ e. IsPinnedAt e (call_of by.now) pass.new) }
-    ensures moved { IfErr result (λ m. IsMoved (confirming by.now) tries pass.old.view.log pass.new.view.log) }
+    ensures moved { IfErr result
+        (λ m. IsMoved (confirming by.now) tries pass.old.view.log pass.new.view.log) }
     ensures last { IfErr result (λ m. (epochs pass.new).seen ≡ Some m.epoch) }
     ensures rests { IfErr result (λ m. IsResting pass.new) }
     ensures hands { KeepsHands pass.old pass.new }
@@ -89,16 +94,18 @@ fn pin_by(shared: &Shared, pass: &mut Pass, tries: u32, by: &Confirming) -> Resu
     Err(Moved { epoch })
 }
 
-/// Pins the epoch. The epoch is read once, and each try announces the epoch last read and reads it again.
+/// Pins the epoch. The epoch is read once, and each try announces the epoch last read and reads it
+/// again.
 ///
-/// `Ok(epoch)`: the worker is pinned at the epoch that its last sight found, after fewer than `tries` lost tries.
-/// `Err`: the epoch moved on in each of `tries` tries, and the announcement is taken back; with 0 tries the epoch was only
-/// read. At most 3 `tries` + 1 steps.
+/// `Ok(epoch)`: the worker is pinned at the epoch that its last sight found, after fewer than
+/// `tries` lost tries. `Err`: the epoch moved on in each of `tries` tries, and the announcement is
+/// taken back; with 0 tries the epoch was only read. At most 3 `tries` + 1 steps.
 ///
-/// The worker must not be pinned and must announce nothing. It has no call then, and no cut of its waits for a label.
+/// The worker must not be pinned and must announce nothing. It has no call then, and no cut of its
+/// waits for a label.
 ///
-/// The epoch is confirmed after it was announced, since it may have moved on before the announcement was there for others to
-/// see (Fraser, 2004, chapter 5).
+/// The epoch is confirmed after it was announced, since it may have moved on before the
+/// announcement was there for others to see (Fraser, 2004, chapter 5).
 pub fn pin(shared: &Shared, pass: &mut Pass, tries: u32) -> Result<u64, Moved>
     requires own { IsOf shared.now pass.old }
     requires unpinned { IsUnpinned pass.old }
@@ -116,17 +123,19 @@ pub fn pin(shared: &Shared, pass: &mut Pass, tries: u32) -> Result<u64, Moved>
     pin_by(shared, pass, tries, &Confirming::Plain)
 }
 
-/// Pins the epoch, as `pin` does, for an operation on a key, which begins with the sight that confirms the pin. At most
-/// 3 `tries` + 1 steps.
+/// Pins the epoch, as `pin` does, for an operation on a key, which begins with the sight that
+/// confirms the pin. At most 3 `tries` + 1 steps.
 pub fn pin_for(shared: &Shared, pass: &mut Pass, tries: u32, op: Op, key: Key) -> Result<u64, Moved>
     requires own { IsOf shared.now pass.old }
     requires unpinned { IsUnpinned pass.old }
     ensures same { IsSamePass pass.old pass.new }
     ensures past { HasSeenAllOf pass.new pass.old }
     ensures run { IsInRun pass.new }
-    ensures pinned { IfOk result (λ e. IsPinned (SightFor op key) tries pass.old.view.log pass.new.view.log e) }
+    ensures pinned { IfOk result
+        (λ e. IsPinned (SightFor op key) tries pass.old.view.log pass.new.view.log e) }
     ensures at { IfOk result (λ e. IsPinnedAt e (Some (record { op = op; key = key })) pass.new) }
-    ensures moved { IfErr result (λ m. IsMoved (SightFor op key) tries pass.old.view.log pass.new.view.log) }
+    ensures moved { IfErr result
+        (λ m. IsMoved (SightFor op key) tries pass.old.view.log pass.new.view.log) }
     ensures last { IfErr result (λ m. (epochs pass.new).seen ≡ Some m.epoch) }
     ensures rests { IfErr result (λ m. IsResting pass.new) }
     ensures hands { KeepsHands pass.old pass.new }

@@ -9,20 +9,23 @@ use crate::answers::Behind;
 use crate::looking::{elsewhere, look, read};
 use nm_steps::{Pass, Shared};
 
-/// Reads the epoch, and tells which workers hold it back: a worker's bit is set exactly where it was found announcing another
-/// epoch than the one read; the own bit exactly where the own pin is at another. As many steps as there are workers.
+/// Reads the epoch, and tells which workers hold it back: a worker's bit is set exactly where it
+/// was found announcing another epoch than the one read; the own bit exactly where the own pin is
+/// at another. As many steps as there are workers.
 ///
-/// A worker that stalls while it is pinned is found so (Fraser, 2004, chapter 5: one such worker holds back all reclamation).
-/// Where a cut waits for its label, the first step labels it.
+/// A worker that stalls while it is pinned is found so (Fraser, 2004, chapter 5: one such worker
+/// holds back all reclamation). Where a cut waits for its label, the first step labels it.
 pub fn behind(shared: &Shared, pass: &mut Pass) -> Behind
     requires { IsOf shared.now pass.old }
     ensures same { IsSamePass pass.old pass.new }
     ensures past { HasSeenAllOf pass.new pass.old }
     ensures run { IsInRun pass.new }
-    ensures part { IsBehind shared.now.layout.workers pass.old.view.number (epochs pass.new).pin pass.old.view.log pass.new.view.log result }
+    ensures part { IsBehind shared.now.layout.workers pass.old.view.number (epochs pass.new).pin
+        pass.old.view.log pass.new.view.log result }
     ensures settles { Settles pass.old pass.new }
     ensures hands { KeepsHands pass.old pass.new }
-    ensures steps { length pass.new.view.log ≤ length pass.old.view.log + shared.now.layout.workers }
+    ensures steps { length pass.new.view.log
+        ≤ length pass.old.view.log + shared.now.layout.workers }
 {
     let epoch = read(shared, pass);
     let me = pass.number();

@@ -156,7 +156,8 @@ same_file header_says line_says p q many =
     let same = same_parts header_says line_says (parts p) (parts q) (pieces_full 10 p) (pieces_full 10 q) (rw (bytes_pieces 10 p) many) in
     both_are _ _ _ _ refl (ap (file_from header_says line_says) (glued 10 p q)) same
 
--- what is told of the bytes up to the limit is told of all, where it is told of the file that they say
+-- what is told of the bytes up to the limit is told of all, where it is told of the file that they
+-- say
 pub within_limit : {H X Y : Type 0} (header_says : List ℕ → Result H Reason) (line_says : H → List ℕ → Result X Reason) (tells : List ℕ → Result Y Fault)
     → ((p q : List ℕ) → BothFail (file_from header_says line_says (parts p)) (file_from header_says line_says (parts (p ++ q))) → BothFail (tells p) (tells (p ++ q)))
     → (input : List ℕ) → tells (take 12100122 input) ≡ tells input

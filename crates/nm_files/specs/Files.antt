@@ -1,4 +1,5 @@
--- A file of lines: a header, and an entry by each further line; or its first faulty line with the least reason.
+-- A file of lines: a header, and an entry by each further line; or its first faulty line with the
+-- least reason.
 use Rattle.std.specs.Prelude.{◌≡◌, ℕ, ◌+◌, List, [], ◌∷◌, length, Result, Ok, Err, Bool, ◌||◌, ◌==◌, nat_lt, if◌then◌else◌}
 use Rattle.nm_files.specs.declared.fault.Reason.{Reason}
 use Rattle.nm_files.specs.declared.fault.Reason.TheVariants as reason
@@ -40,12 +41,19 @@ checked number line says = at number (if is_long number line then Err reason.Lon
 
 -- what is wrong with a line that no newline ends
 abbrev pub cut_off : ℕ → List ℕ → Fault
-cut_off number line = record { line = number; reason = if is_long number line then reason.Long else reason.Cut }
+cut_off number line = record {
+  line = number;
+  reason = if is_long number line then reason.Long
+      else reason.Cut;
+}
 
--- the entries by the lines from this number on. What follows the last newline is nothing, or a line that is cut off
-unfoldable pub entries_from : {X : Type 0} → (List ℕ → Result X Reason) → ℕ → List (List ℕ) → Result (List X) Fault
+-- the entries by the lines from this number on. What follows the last newline is nothing, or a line
+-- that is cut off
+unfoldable pub entries_from : {X : Type 0} → (List ℕ → Result X Reason) → ℕ → List (List ℕ)
+    → Result (List X) Fault
 entries_from line_of number [] = Ok []
-entries_from line_of number (last ∷ []) = if length last == 0 then Ok [] else Err (cut_off number last)
+entries_from line_of number (last ∷ []) =
+    if length last == 0 then Ok [] else Err (cut_off number last)
 entries_from line_of number (line ∷ next ∷ more) = do
   entry ← checked number line (line_of line)
   entries ← entries_from line_of (number + 1) (next ∷ more)
@@ -57,7 +65,8 @@ pub record File (H X : Type 0) : Type 0 where
   pub entries : List X
 
 -- a file whose first line says a header, and whose further lines, by that header, say an entry each
-unfoldable pub file_from : {H X : Type 0} → (List ℕ → Result H Reason) → (H → List ℕ → Result X Reason) → List (List ℕ) → Result (File H X) Fault
+unfoldable pub file_from : {H X : Type 0} → (List ℕ → Result H Reason)
+    → (H → List ℕ → Result X Reason) → List (List ℕ) → Result (File H X) Fault
 file_from header_of line_of [] = Err (record { line = 1; reason = reason.Cut })
 file_from header_of line_of (last ∷ []) = Err (cut_off 1 last)
 file_from header_of line_of (line ∷ next ∷ more) = do

@@ -1,4 +1,5 @@
--- The first line of a schedule: its version, how many nodes and workers it is for, and whether its core is ordered.
+-- The first line of a schedule: its version, how many nodes and workers it is for, and whether its
+-- core is ordered.
 use Rattle.std.specs.Prelude.{ℕ, List, [], ◌∷◌, codes, Bool, true, false, ◌||◌, nat_lt, Result, Ok, Err, if◌then◌else◌}
 use Rattle.std.specs.Str.{bytes_eq}
 use Rattle.nm_edge.specs.Layouts.{dense}
@@ -12,14 +13,18 @@ use Rattle.nm_files.specs.Lines.{number}
 -- the sizes that a version of the format allows, and whether an ordered core plays it
 abbrev pub limits_by : List ℕ → Result Limits Reason
 limits_by version =
-    if bytes_eq version (codes "1") then Ok (record { nodes = 65536; workers = 32; is_ordered = false })
-    else if bytes_eq version (codes "2") then Ok (record { nodes = 1048576; workers = 64; is_ordered = false })
-    else if bytes_eq version (codes "3") then Ok (record { nodes = 1048576; workers = 64; is_ordered = true })
+    if bytes_eq version (codes "1")
+    then Ok (record { nodes = 65536; workers = 32; is_ordered = false })
+    else if bytes_eq version (codes "2")
+    then Ok (record { nodes = 1048576; workers = 64; is_ordered = false })
+    else if bytes_eq version (codes "3")
+    then Ok (record { nodes = 1048576; workers = 64; is_ordered = true })
     else Err reason.Header
 
 -- what a version of the command's format allows
 abbrev pub limits_of : List ℕ → List ℕ → Result Limits Reason
-limits_of command version = if bytes_eq command (codes "schedule") then limits_by version else Err reason.Header
+limits_of command version = if bytes_eq command (codes "schedule") then limits_by version
+    else Err reason.Header
 
 -- whatever is wrong with a number here is a fault of the header
 abbrev pub in_header : Result ℕ Reason → Result ℕ Reason
@@ -49,5 +54,6 @@ header_by limits nodes workers = do
 
 -- the header by its fields
 unfoldable pub header_of : List (List ℕ) → Result Header Reason
-header_of (command ∷ version ∷ nodes ∷ workers ∷ []) = limits_of command version >>= λ limits. header_by limits nodes workers
+header_of (command ∷ version ∷ nodes ∷ workers ∷ []) =
+    limits_of command version >>= λ limits. header_by limits nodes workers
 header_of _ = Err reason.Header

@@ -1,4 +1,5 @@
--- The kinds of event: the word and the arguments of each. In an ordered file a sight and a leave may have arguments.
+-- The kinds of event: the word and the arguments of each. In an ordered file a sight and a leave
+-- may have arguments.
 use Rattle.std.specs.Prelude.{◌≡◌, ℕ, ◌^◌, ◌-◌, List, [], ◌∷◌, codes, Bool, true, false, nat_le, Result, Ok, Err, if◌then◌else◌}
 use Rattle.std.specs.List.{find}
 use Rattle.std.specs.Option.{ok_or}
@@ -36,7 +37,8 @@ word Splice = codes "splice"
 
 -- the kinds that a schedule may have
 abbrev pub kinds : List Kind
-kinds = Sight ∷ Announce ∷ Leave ∷ Scan ∷ Advance ∷ Claim ∷ Give ∷ Look ∷ Fill ∷ Link ∷ Flag ∷ Tag ∷ Splice ∷ []
+kinds = Sight ∷ Announce ∷ Leave ∷ Scan ∷ Advance ∷ Claim ∷ Give ∷ Look ∷ Fill ∷ Link ∷ Flag ∷ Tag
+    ∷ Splice ∷ []
 
 -- the kind whose word this is
 abbrev pub kind_of : List ℕ → Result Kind Reason
@@ -136,10 +138,12 @@ is_of_operation is_ordered [] = false
 is_of_operation is_ordered (a ∷ more) = is_ordered
 
 abbrev pub sight : Bool → List (List ℕ) → Result Event Reason
-sight is_ordered arguments = if is_of_operation is_ordered arguments then sight_for arguments else alone arguments event.Sight
+sight is_ordered arguments = if is_of_operation is_ordered arguments then sight_for arguments
+    else alone arguments event.Sight
 
 abbrev pub leave : Bool → List (List ℕ) → Result Event Reason
-leave is_ordered arguments = if is_of_operation is_ordered arguments then leave_with arguments else alone arguments event.Leave
+leave is_ordered arguments = if is_of_operation is_ordered arguments then leave_with arguments
+    else alone arguments event.Leave
 
 unfoldable pub scan : List (List ℕ) → Result Event Reason
 scan arguments = do

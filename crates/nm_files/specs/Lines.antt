@@ -16,7 +16,8 @@ abbrev pub further : ℕ → Option (List ℕ) → List (List ℕ)
 further c None = []
 further c (Some text) = pieces c text
 
--- what stands between newlines: each part but the last is a line, and the last is what follows the last newline
+-- what stands between newlines: each part but the last is a line, and the last is what follows the
+-- last newline
 abbrev pub parts : List ℕ → List (List ℕ)
 parts bytes = pieces 10 bytes
 
@@ -33,11 +34,13 @@ is_field field = nat_lt 0 (length field) && list_all is_visible field
 
 -- decimal digits without a leading zero, but for 0 itself
 abbrev pub is_numeral : List ℕ → Bool
-is_numeral field = nat_lt 0 (length field) && list_all is_ascii_digit field && (not (slice_index field 0 == 48) || length field == 1)
+is_numeral field = nat_lt 0 (length field) && list_all is_ascii_digit field
+    && (not (slice_index field 0 == 48) || length field == 1)
 
 -- a number below 2^64 in its one spelling
 abbrev pub number : List ℕ → Result ℕ Reason
-number field = if is_numeral field && nat_lt (digits_value 10 field) (2 ^ 64) then Ok (digits_value 10 field) else Err reason.Number
+number field = if is_numeral field && nat_lt (digits_value 10 field) (2 ^ 64)
+    then Ok (digits_value 10 field) else Err reason.Number
 
 -- a slot or a worker: a number below 2^32
 abbrev pub place : List ℕ → Result ℕ Reason

@@ -99,10 +99,15 @@ abbrev pub holds_of : HeaderOf → Bool → List (List ℕ) → Reason → Bool
 holds_of header long fs Long = long
 holds_of header long fs Form = not (list_all is_field fs) || nat_lt (length fs) 2
 holds_of header long fs Kind = not (is_ok (kind_of (kind_field fs)))
-holds_of header long fs Fields = fails_at (λ kind. has_words header.is_ordered kind (drop 2 fs)) (kind_of (kind_field fs))
-holds_of header long fs Number = not (is_ok (place (worker_field fs))) || fails_at (λ kind. has_numbers header.is_ordered kind (drop 2 fs)) (kind_of (kind_field fs))
-holds_of header long fs Worker = fails_at (λ w. nat_lt w header.layout.workers) (place (worker_field fs))
-holds_of header long fs Key = fails_at (λ kind. has_key header.is_ordered kind (drop 2 fs)) (kind_of (kind_field fs))
+holds_of header long fs Fields =
+    fails_at (λ kind. has_words header.is_ordered kind (drop 2 fs)) (kind_of (kind_field fs))
+holds_of header long fs Number =
+    not (is_ok (place (worker_field fs)))
+    || fails_at (λ kind. has_numbers header.is_ordered kind (drop 2 fs)) (kind_of (kind_field fs))
+holds_of header long fs Worker =
+    fails_at (λ w. nat_lt w header.layout.workers) (place (worker_field fs))
+holds_of header long fs Key = fails_at (λ kind. has_key header.is_ordered kind (drop 2 fs))
+    (kind_of (kind_field fs))
 holds_of header long fs _ = false
 
 -- the reason holds of the line of this number, in a schedule with that header
@@ -126,9 +131,14 @@ is_no_size least most field = fails_at (λ n. not (not_within least most n)) (nu
 
 abbrev pub header_holds_of : Bool → List (List ℕ) → Reason → Bool
 header_holds_of long fs Long = long
-header_holds_of long fs Header = not (is_ok (header_limits fs) && (is_ok (number (slice_index_or fs 2 [])) && is_ok (number (slice_index_or fs 3 []))))
-header_holds_of long fs Nodes = fails_at (λ limits. not (is_no_size 7 limits.nodes (slice_index_or fs 2 []))) (header_limits fs)
-header_holds_of long fs Workers = fails_at (λ limits. not (is_no_size 1 limits.workers (slice_index_or fs 3 []))) (header_limits fs)
+header_holds_of long fs Header =
+    not (is_ok (header_limits fs)
+    && (is_ok (number (slice_index_or fs 2 [])) && is_ok (number (slice_index_or fs 3 []))))
+header_holds_of long fs Nodes =
+    fails_at (λ limits. not (is_no_size 7 limits.nodes (slice_index_or fs 2 []))) (header_limits fs)
+header_holds_of long fs Workers =
+    fails_at (λ limits. not (is_no_size 1 limits.workers (slice_index_or fs 3 [])))
+    (header_limits fs)
 header_holds_of long fs _ = false
 
 -- the reason holds of the first line

@@ -17,7 +17,8 @@ worker_of workers field = do
   worker ← place field
   if nat_lt worker workers then Ok worker else Err reason.Worker
 
--- an event with its worker: what is wrong with the worker comes before a key that is too great, and after all else
+-- an event with its worker: what is wrong with the worker comes before a key that is too great, and
+-- after all else
 abbrev pub with_worker : Result ℕ Reason → Result Event Reason → Result (ℕ × Event) Reason
 with_worker worker (Ok event) = worker >>= λ w. Ok (w, event)
 with_worker worker (Err reason.Key) = worker >>= λ w. Err reason.Key
@@ -32,7 +33,8 @@ entry_of header _ = Err reason.Form
 
 -- what a line says in a schedule with that header
 abbrev pub line_of : Header → List ℕ → Result (ℕ × Event) Reason
-line_of header line = if list_all is_field (fields line) then entry_of header (fields line) else Err reason.Form
+line_of header line = if list_all is_field (fields line) then entry_of header (fields line)
+    else Err reason.Form
 
 abbrev pub first_line_of : List ℕ → Result Header Reason
 first_line_of line = header_of (fields line)

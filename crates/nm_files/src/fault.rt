@@ -22,7 +22,8 @@ pub enum Reason {
     Form,
     /// The second field isn't a kind of event, or of call.
     Kind,
-    /// Another number of arguments than the kind has, or a word that names none of the fields, sides, operations or answers where one is asked.
+    /// Another number of arguments than the kind has, or a word that names none of the fields,
+    /// sides, operations or answers where one is asked.
     Fields,
     /// A number that isn't in its one spelling, or above its range.
     Number,
@@ -35,7 +36,8 @@ pub enum Reason {
 impl Reason {
     ghost use Rattle.nm_files.specs.Files.{reason_number};
 
-    /// The number by which a faulty line is reported. Of several faults of a line, the one with the least number is answered.
+    /// The number by which a faulty line is reported. Of several faults of a line, the one with the
+    /// least number is answered.
     pub fn number(self) -> u8
         ensures { result ≡ reason_number self }
     {
@@ -59,7 +61,8 @@ impl Reason {
 /// Why a run ended early.
 #[derive(Debug, Drop, Error)]
 pub enum RunFault {
-    /// The first faulty line of the file, numbered from 1, and the least reason that it has. Nothing was written.
+    /// The first faulty line of the file, numbered from 1, and the least reason that it has.
+    /// Nothing was written.
     #[error("line {line}: reason {}", .reason.number())]
     Line { line: u32, reason: Reason },
     /// Memory was refused. Nothing was written.
@@ -71,7 +74,8 @@ pub enum RunFault {
     /// The writer failed. How much was written isn't said.
     #[error("write failed")]
     Write,
-    /// The gate stopped a worker before a line, numbered in the file from 1. Of several such workers it is the least. Nothing was written.
+    /// The gate stopped a worker before a line, numbered in the file from 1. Of several such
+    /// workers it is the least. Nothing was written.
     #[error("worker {worker} was stopped at line {line}")]
     Gate { worker: u32, line: u32 },
     /// A thread was refused. Those that had started have ended. Nothing was written.

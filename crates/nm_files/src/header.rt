@@ -25,7 +25,11 @@ pub struct Header {
 
 /// As many nodes and workers as a layout can have.
 fn greatest(is_ordered: bool) -> Limits
-    ensures { result ≡ record { nodes = MOST_NODES; workers = MOST_WORKERS; is_ordered = is_ordered } }
+    ensures { result ≡ record {
+      nodes = MOST_NODES;
+      workers = MOST_WORKERS;
+      is_ordered = is_ordered;
+    } }
 {
     Limits {
         nodes: MOST_NODES,
@@ -34,10 +38,12 @@ fn greatest(is_ordered: bool) -> Limits
     }
 }
 
-/// The limits of a version of the format: of 1, 65,536 nodes and 32 workers; of 2 and 3, as many as a layout can have. An ordered core plays 3.
+/// The limits of a version of the format: of 1, 65,536 nodes and 32 workers; of 2 and 3, as many as
+/// a layout can have. An ordered core plays 3.
 fn limits_by(version: &[u8]) -> Result<Limits, Reason>
     ensures limits { result ≡ spec.limits_by version.now }
-    ensures few { IfOk result (λ limits. (limits.nodes ≤ MOST_NODES) × (limits.workers ≤ MOST_WORKERS)) }
+    ensures few { IfOk result (λ limits. (limits.nodes ≤ MOST_NODES)
+        × (limits.workers ≤ MOST_WORKERS)) }
 {
     if version == b"1".as_slice() {
         Ok(Limits {
@@ -57,7 +63,8 @@ fn limits_by(version: &[u8]) -> Result<Limits, Reason>
 /// The limits of a version of the command's format. The command is `schedule`.
 fn limits_of(command: &[u8], version: &[u8]) -> Result<Limits, Reason>
     ensures limits { result ≡ spec.limits_of command.now version.now }
-    ensures few { IfOk result (λ limits. (limits.nodes ≤ MOST_NODES) × (limits.workers ≤ MOST_WORKERS)) }
+    ensures few { IfOk result (λ limits. (limits.nodes ≤ MOST_NODES)
+        × (limits.workers ≤ MOST_WORKERS)) }
 {
     if command == b"schedule".as_slice() {
         limits_by(version)

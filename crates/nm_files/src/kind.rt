@@ -65,8 +65,8 @@ impl Kind {
         }
     }
 
-    /// The event of this kind with these arguments. In an ordered file a sight and a leave may be of an operation.
-    /// `Fields` comes before `Number`, and `Number` before `Key`.
+    /// The event of this kind with these arguments. In an ordered file a sight and a leave may be
+    /// of an operation. `Fields` comes before `Number`, and `Number` before `Key`.
     pub fn event(self, is_ordered: bool, arguments: &[&[u8]]) -> Result<Event, Reason>
         ensures { result ≡ spec.event_of is_ordered self (map (λ f. f.now) arguments.now) }
     {
@@ -120,7 +120,8 @@ fn two<'a>(arguments: &[&'a [u8]]) -> Result<(&'a [u8], &'a [u8]), Reason>
 
 /// Three arguments, and no others.
 fn three<'a>(arguments: &[&'a [u8]]) -> Result<(&'a [u8], &'a [u8], &'a [u8]), Reason>
-    ensures { Says (λ p. (p.0.now, p.1.now, p.2.now)) result (spec.three (map (λ f. f.now) arguments.now)) }
+    ensures { Says (λ p. (p.0.now, p.1.now, p.2.now)) result
+        (spec.three (map (λ f. f.now) arguments.now)) }
 {
     match arguments {
         [a, b, c] => Ok((a, b, c)),
@@ -130,7 +131,8 @@ fn three<'a>(arguments: &[&'a [u8]]) -> Result<(&'a [u8], &'a [u8], &'a [u8]), R
 
 /// Four arguments, and no others.
 fn four<'a>(arguments: &[&'a [u8]]) -> Result<(&'a [u8], &'a [u8], &'a [u8], &'a [u8]), Reason>
-    ensures { Says (λ p. (p.0.now, p.1.now, p.2.now, p.3.now)) result (spec.four (map (λ f. f.now) arguments.now)) }
+    ensures { Says (λ p. (p.0.now, p.1.now, p.2.now, p.3.now)) result
+        (spec.four (map (λ f. f.now) arguments.now)) }
 {
     match arguments {
         [a, b, c, d] => Ok((a, b, c, d)),
@@ -142,7 +144,8 @@ fn four<'a>(arguments: &[&'a [u8]]) -> Result<(&'a [u8], &'a [u8], &'a [u8], &'a
 fn five<'a>(
     arguments: &[&'a [u8]],
 ) -> Result<(&'a [u8], &'a [u8], &'a [u8], &'a [u8], &'a [u8]), Reason>
-    ensures { Says (λ p. (p.0.now, p.1.now, p.2.now, p.3.now, p.4.now)) result (spec.five (map (λ f. f.now) arguments.now)) }
+    ensures { Says (λ p. (p.0.now, p.1.now, p.2.now, p.3.now, p.4.now)) result
+        (spec.five (map (λ f. f.now) arguments.now)) }
 {
     match arguments {
         [a, b, c, d, e] => Ok((a, b, c, d, e)),

@@ -61,7 +61,8 @@ pub fn worker_of(workers: u32, field: &[u8]) -> Result<u32, Reason>
     }
 }
 
-/// An event with its worker. What is wrong with the worker comes before a key that is too great, and after all else.
+/// An event with its worker. What is wrong with the worker comes before a key that is too great,
+/// and after all else.
 fn with_worker(
     worker: Result<u32, Reason>,
     event: Result<Event, Reason>,
@@ -109,8 +110,13 @@ pub fn first_line_of(line: &[u8]) -> Result<Header, Reason>
     header_of(fields_of(line).as_slice())
 }
 
-/// The reason that is answered for a line is the first that holds of it in the order of their numbers, so the least; and a line is right exactly where none holds.
+/// The reason that is answered for a line is the first that holds of it in the order of their
+/// numbers, so the least; and a line is right exactly where none holds.
 pub fn least_reason()
-    ensures first_line { (line : List ℕ) → reason_of (checked 1 line (spec.first_line_of line)) ≡ find (header_holds line) header_reasons }
-    ensures other_line { (header : HeaderOf) (number : ℕ) (line : List ℕ) → reason_of (checked number line (spec.line_of header line)) ≡ find (holds header number line) line_reasons }
+    ensures first_line { (line : List ℕ)
+        → reason_of (checked 1 line (spec.first_line_of line))
+        ≡ find (header_holds line) header_reasons }
+    ensures other_line { (header : HeaderOf) (number : ℕ) (line : List ℕ)
+        → reason_of (checked number line (spec.line_of header line))
+        ≡ find (holds header number line) line_reasons }
 {}

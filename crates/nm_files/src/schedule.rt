@@ -40,7 +40,8 @@ pub fn is_long(number: u32, line: &[u8]) -> bool
 
 /// The fault of a line that no newline ends.
 pub fn cut_off(number: u32, line: &[u8]) -> RunFault
-    ensures { let off = files.cut_off number line.now in result ≡ RunFault.Line off.line off.reason }
+    ensures { let off = files.cut_off number line.now
+        in result ≡ RunFault.Line off.line off.reason }
 {
     if is_long(number, line) {
         fault(number, Reason::Long)
@@ -62,7 +63,8 @@ fn header_at(line: &[u8]) -> Result<Header, RunFault>
 }
 
 fn event_at(number: u32, header: &Header, line: &[u8]) -> Result<(u32, Event), RunFault>
-    ensures says { Gives (λ e. e) result (checked number line.now (spec.line_of header.now line.now)) }
+    ensures says { Gives (λ e. e) result
+        (checked number line.now (spec.line_of header.now line.now)) }
     ensures number { OnOk result (number ≤ 100001) }
 {
     if is_long(number, line) {
@@ -76,7 +78,8 @@ fn event_at(number: u32, header: &Header, line: &[u8]) -> Result<(u32, Event), R
 
 /// The events of the lines from the second on.
 fn events_of(alloc: Global, header: &Header, body: &[u8]) -> Result<Vec<(u32, Event)>, RunFault>
-    ensures { Gives (λ v. v.items) result (entries_from (spec.line_of header.now) 2 (parts body.now)) }
+    ensures { Gives (λ v. v.items) result
+        (entries_from (spec.line_of header.now) 2 (parts body.now)) }
 {
     let mut events = Vec::new(alloc);
     let mut rest = body;
@@ -98,7 +101,8 @@ fn events_of(alloc: Global, header: &Header, body: &[u8]) -> Result<Vec<(u32, Ev
 
 /// What the bytes of a file say.
 pub fn schedule_of(alloc: Global, bytes: &[u8]) -> Result<Schedule<'_>, RunFault>
-    ensures says { Gives (λ s. record { header = s.header; entries = s.events.items }) result (spec.schedule_of bytes.now) }
+    ensures says { Gives (λ s. record { header = s.header; entries = s.events.items }) result
+        (spec.schedule_of bytes.now) }
     ensures body { IfOk result (λ s. drop 1 (parts bytes.now) ≡ parts s.body.now) }
 {
     let (line, body) = cut(bytes, b'\n');

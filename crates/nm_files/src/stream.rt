@@ -15,8 +15,10 @@ const CHUNK: usize = 8_192;
 /// One read. A read that gives nothing into a chunk with room is the end.
 fn read_some<R: Read>(reader: &mut R, chunk: &mut [u8]) -> Result<usize, RunFault>
     ensures bound { IfOk result (λ n. n ≤ length chunk.new) }
-    ensures bytes { IfOk result (λ n. Consumes (R.remaining reader.old) (R.remaining reader.new) (take n chunk.new)) }
-    ensures end { IfOk result (λ n. n ≡ 0 → 0 < length chunk.new → IsAtEnd (R.remaining reader.new)) }
+    ensures bytes { IfOk result
+        (λ n. Consumes (R.remaining reader.old) (R.remaining reader.new) (take n chunk.new)) }
+    ensures end { IfOk result (λ n. n ≡ 0 → 0 < length chunk.new
+        → IsAtEnd (R.remaining reader.new)) }
     ensures err { IfErr result (λ e. e ≡ RunFault.Read) }
 {
     match reader.read(chunk) {
@@ -27,8 +29,11 @@ fn read_some<R: Read>(reader: &mut R, chunk: &mut [u8]) -> Result<usize, RunFaul
 
 /// Reads to the end, or to the limit. Any error ends it, an interruption too.
 pub fn input_of<R: Read>(alloc: Global, reader: &mut R) -> Result<Vec<u8>, RunFault>
-    ensures bytes { IfOk result (λ v. IfSome (R.remaining reader.old) (λ input. v.items ≡ take LIMIT input)) }
-    ensures rest { OnOk result (IfSome (R.remaining reader.old) (λ input. R.remaining reader.new ≡ Some (drop LIMIT input))) }
+    ensures bytes { IfOk result
+        (λ v. IfSome (R.remaining reader.old) (λ input. v.items ≡ take LIMIT input)) }
+    ensures rest { OnOk result
+        (IfSome (R.remaining reader.old)
+        (λ input. R.remaining reader.new ≡ Some (drop LIMIT input))) }
     ensures err { IfErr result (λ e. (e ≡ RunFault.Read) ⊎ (e ≡ RunFault.NoMemory)) }
 {
     let mut bytes = Vec::new(alloc);

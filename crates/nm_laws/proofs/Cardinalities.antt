@@ -1,4 +1,5 @@
--- The numbers at which a function is not 0, as a list; and how many they are, where it is 1 at most.
+-- The numbers at which a function is not 0, as a list; and how many they are, where it is 1 at
+-- most.
 use Rattle.std.proofs.Common.{◌≡◌, ℕ, zero, suc, ◌+◌, ◌==◌, ◌<◌, ◌≤◌, ◌≢◌, Bool, true, false, cond, List, [], ◌∷◌, length, refl, sym, ap, ◌∙◌, arith}
 use Rattle.std.specs.Prelude.{Some, slice_get, AllPairs}
 use native.Mathlib.Decide.{ℕ_discrete}
@@ -54,7 +55,8 @@ long (suc n) a f g same small = go (f a == 0) refl (long n (suc a) f (λ x. g (s
     go true is rest = let none = eqb-true (f a) 0 is in let h = here in omega arith
     go false is rest = let some = eqb-false (f a) 0 is in let h = here in let one = small 0 (omega arith) in omega arith
 
--- what holds just of those of the n numbers from a on at which f is not 0, holds of as many as f sums to
+-- what holds just of those of the n numbers from a on at which f is not 0, holds of as many as f
+-- sums to
 pub cardinality : (n a : ℕ) (f : ℕ → ℕ) (P : ℕ → Type 0) → ((x : ℕ) → a ≤ x → x < a + n → f x ≤ 1) → ((x : ℕ) → a ≤ x → x < a + n → f x ≢ 0 → P x) → ((x : ℕ) → P x → (a ≤ x) × (x < a + n) × (f x ≢ 0))
     → HasCardinality P (total n (λ x. f (a + x)))
 cardinality n a f P small holds counted = record {

@@ -1,4 +1,5 @@
--- What each event but a join does to the ledgers, drafts and known nodes of the worker that makes it.
+-- What each event but a join does to the ledgers, drafts and known nodes of the worker that makes
+-- it.
 use Rattle.std.proofs.Common.{◌≡◌, ℕ, ◌+◌, ◌==◌, ◌≤◌, Bool, true, false, not, ◌||◌, ◌&&◌, List, refl, sym, ap, ◌∙◌, true≢false, cond, []}
 use Rattle.std.specs.Prelude.{Option, Some, None, is_none, unwrap_or, nat_lt}
 use Rattle.std.proofs.lemmas.Bool.{cond_both, or_parts, ltb-false}

@@ -1,4 +1,5 @@
--- Configurations: an ordered run is a run, a core without searches runs as its state, and what each configuration that is reached keeps.
+-- Configurations: an ordered run is a run, a core without searches runs as its state, and what each
+-- configuration that is reached keeps.
 use Rattle.std.proofs.Common.{◌≡◌, ℕ, zero, suc, ◌+◌, ◌<◌, Bool, true, false, List, [], ◌∷◌, ◌++◌, length, map, take, get_or, refl, sym, ap, subst, ◌∙◌, length-set, arith, Result, Ok, Err, OnOk, OnErr}
 use Rattle.std.proofs.lemmas.List.{take_more, length-map, length-replicate}
 use Rattle.std.proofs.lemmas.List.Elements.{All-append}

@@ -1,4 +1,5 @@
--- The nodes that a splice cuts: each was reached, has the birth in its slot, and stands in the reply once.
+-- The nodes that a splice cuts: each was reached, has the birth in its slot, and stands in the
+-- reply once.
 use Rattle.std.proofs.Common.{◌≡◌, ℕ, zero, suc, List, [], ◌∷◌, ◌++◌, length, map, sym, ap, ◌∙◌}
 use Rattle.std.specs.Prelude.{Some, slice_get, option_map, unwrap_or, Ok}
 use Rattle.std.proofs.lemmas.Option.{none-some, same_Some, slice_get-map}

@@ -90,7 +90,8 @@ stop c (e ∷ way) s x frozen h = elim (or_cases (eqb x s) _ h) [
 
 -- ---- the splice itself
 
--- a tree in which each slot ends one path at most; a, on the path front, has a frozen way on its side d, and that edge is exchanged for where the way leads
+-- a tree in which each slot ends one path at most; a, on the path front, has a frozen way on its
+-- side d, and that edge is exchanged for where the way leads
 pub record Splicing (c c' : Children) (a : ℕ) (d : Side) (way : List Side) : Type 0 where
   pub nothing : (e : Side) → c 0 e ≡ 0
   pub alone : (q r : List Side) → follow c 1 q ≢ 0 → follow c 1 q ≡ follow c 1 r → q ≡ r

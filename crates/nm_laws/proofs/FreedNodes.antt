@@ -1,4 +1,5 @@
--- What was freed is what gives freed: a give takes the front of a queue that its worker holds, and nothing else frees.
+-- What was freed is what gives freed: a give takes the front of a queue that its worker holds, and
+-- nothing else frees.
 use Rattle.std.proofs.Common.{◌≡◌, ℕ, zero, suc, ◌-◌, ◌<◌, ◌==◌, ◌⊎◌, inl, inr, Bool, true, false, ◌||◌, cond, List, [], ◌∷◌, ◌++◌, map, length, drop, append-nil, append_assoc, refl, sym, ap, subst, ◌∙◌, arith, get_or-set_same}
 use Rattle.std.specs.Prelude.{Option, Some, None, is_some, option_map, slice_get, filter, Result, Ok, Err}
 use native.Mathlib.Decide.{ℕ_discrete}

@@ -289,7 +289,8 @@ freed_from s h law t n is = go (refused s t.0 t.1) refl is
 
 -- ---- the law
 
--- since a cut at epoch e: the node stands at index k of what the origin retired, and what was retired from n on is guarded
+-- since a cut at epoch e: the node stands at index k of what the origin retired, and what was
+-- retired from n on is guarded
 record Since (e n o k : ℕ) (x : NodeId) (s : State) (h : ℕ → ℕ) : Type 0 where
   epoch : e ≤ s.memory.epoch
   guard : IsGuarded e n (ledger_at s h o)

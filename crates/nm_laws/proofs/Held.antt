@@ -31,7 +31,8 @@ length-retire ls w ns = length-set ls w _
 
 -- ---- the front of a queue leaves
 
--- the origin whose queue has this entry of a slot at its front, and what it is when the node is freed
+-- the origin whose queue has this entry of a slot at its front, and what it is when the node is
+-- freed
 pub record Front (ls : List (Option Ledger)) (s : ℕ) (e : Queued) (n : NodeId) : Type 0 where
   pub origin : ℕ
   pub ledger : Ledger

@@ -1,4 +1,5 @@
--- The keys that a state tells are those of the leaves of the set to which paths lead, from left to right.
+-- The keys that a state tells are those of the leaves of the set to which paths lead, from left to
+-- right.
 use Rattle.std.proofs.Common.{◌≡◌, ◌≢◌, inl, inr, ℕ, zero, suc, ◌<◌, ◌==◌, Bool, true, false, cond, ◌&&◌, List, [], ◌∷◌, ◌++◌, map, length, refl, sym, ap, ap₂, subst, ◌∙◌, arith}
 use Rattle.std.specs.Prelude.{Option, Some, None, nat_lt, All, AllPairs}
 use Rattle.std.specs.List.{filter_map, cons_option}

@@ -1,4 +1,5 @@
--- Labels in a queue do not fall, unlabelled entries are last and told by the brief, and no label is above the epoch.
+-- Labels in a queue do not fall, unlabelled entries are last and told by the brief, and no label is
+-- above the epoch.
 use Rattle.std.proofs.Common.{◌≡◌, ℕ, zero, suc, ◌-◌, ◌<◌, ◌≤◌, ◌≢◌, inl, inr, ◌==◌, true, false, cond, not, ◌||◌, List, [], ◌∷◌, ◌++◌, length, map, refl, sym, ap, subst, ◌∙◌, arith, true≢false, le_of_eq}
 use Rattle.std.specs.Prelude.{Option, Some, None, is_some, is_none, slice_get, drop, option_map, unwrap_or}
 use native.Mathlib.Decide.{ℕ_discrete}

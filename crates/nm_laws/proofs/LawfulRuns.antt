@@ -128,7 +128,8 @@ turn_cuts s r t = go (told_of (outcome s t))
 
 -- ---- the states of a run
 
--- where a node is cut by one turn and freed by a later one, each worker that was pinned at the cut, by the state there, left between the two
+-- where a node is cut by one turn and freed by a later one, each worker that was pinned at the cut,
+-- by the state there, left between the two
 abbrev pub GraceInRun : (ℕ → State) → List Turn → Type 0
 GraceInRun states turns = (before between rest : List Turn) (cut free : Turn) (ns : List NodeId) (n : NodeId) (w e : ℕ)
     → turns ≡ before ++ cut ∷ (between ++ free ∷ rest)

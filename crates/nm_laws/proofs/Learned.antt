@@ -40,7 +40,8 @@ module _ (w : ℕ) (k : Knowledge) where
   unfolding learn
   learn_departed = refl
 
-  -- a sight for an operation teaches what a sight does, and a leave with an answer what a leave does
+  -- a sight for an operation teaches what a sight does, and a leave with an answer what a leave
+  -- does
   pub learn_sight_for : (op : Op) (key : ℕ) (r : Reply) → learn w k (SightFor op key) r ≡ learn w k Sight r
   unfolding learn
   learn_sight_for op key r = refl

@@ -33,7 +33,8 @@ picture_linked P w p d new far = record {
   late = P.late;
 }
 
--- what the worker has shown: p's edge leads to a leaf; new is private, over that leaf on the side dl and a private leaf far
+-- what the worker has shown: p's edge leads to a leaf; new is private, over that leaf on the side
+-- dl and a private leaf far
 pub record IsLink (N : ℕ) (P : Picture) (w p : ℕ) (d : Side) (leaf new far : ℕ) (dl : Side) : Type 0 where
   pub live : IsLive P p
   pub is_slot : p ≢ 0

@@ -1,4 +1,5 @@
--- Lists by their elements: what is in a list that was joined or mapped, and pairs of an element with a later one.
+-- Lists by their elements: what is in a list that was joined or mapped, and pairs of an element
+-- with a later one.
 use Rattle.std.proofs.Common.{◌≡◌, ◌⊎◌, inl, inr, zero, suc, List, [], ◌∷◌, ◌++◌, map, refl, sym, ap, arith}
 use Rattle.std.specs.Prelude.{All, AllPairs, Contains}
 use Rattle.std.proofs.lemmas.List.Elements.{All-cons, All-append}

@@ -1,4 +1,5 @@
--- What one run of any core keeps: a turn that is refused may be told as any other refused one, so an ordered run is told as a plain run is.
+-- What one run of any core keeps: a turn that is refused may be told as any other refused one, so
+-- an ordered run is told as a plain run is.
 use Rattle.std.proofs.Common.{◌≡◌, ℕ, zero, suc, ◌==◌, Bool, true, false, cond, ◌&&◌, ◌||◌, List, [], ◌∷◌, ◌++◌, length, take, refl, sym, ap, subst, ◌∙◌, arith}
 use Rattle.std.specs.Prelude.{Option, Some, None, filter, Result, Ok, Err}
 use Rattle.std.specs.List.{list_any}

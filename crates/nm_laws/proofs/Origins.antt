@@ -38,7 +38,8 @@ ledger_at s h o = held (of s (h o)).ledgers o
 abbrev pub cut_at : State → ℕ × Event → ℕ → List NodeId
 cut_at s t o = cond (t.0 == o) (nodes_cut_of (outcome s t)) []
 
--- what a turn does to the ledger of an origin: nothing; it labels the queue; its cut enters the queue; or the front leaves
+-- what a turn does to the ledger of an origin: nothing; it labels the queue; its cut enters the
+-- queue; or the front leaves
 pub data OriginStep (s : State) (t : ℕ × Event) (o : ℕ) (before after : Option Ledger) : Type 0 where
   Unchanged : after ≡ before → cut_at s t o ≡ [] → OriginStep s t o before after
   Relabelled : after ≡ option_map (labelled s.memory.epoch) before → cut_at s t o ≡ [] → OriginStep s t o before after
@@ -222,7 +223,8 @@ manned_start L = record { staffed = staffed_start L; holder = λ o. o; holders =
 pub the_ledger : (s : State) (m : Manned s) (w o : ℕ) (l : Ledger) → held (of s w).ledgers o ≡ Some l → ledger_at s m.holder o ≡ Some l
 the_ledger s m w o l is = ap (λ (y : ℕ). held (of s y).ledgers o) (sym (m.holders.only w o (ap is_some is))) ∙ is
 
--- what holds of the ledgers of all origins with what was told, and is kept by each turn, holds of those of a run
+-- what holds of the ledgers of all origins with what was told, and is kept by each turn, holds of
+-- those of a run
 pub over_runs : (P : ℕ → Option Ledger → List NodeId → Type 0)
     → ((s : State) (t : ℕ × Event) (o : ℕ) (before after : Option Ledger) (told : List NodeId) → OriginStep s t o before after → P o before told → P o after (told ++ cut_at s t o))
     → (s : State) (m : Manned s) (ts : List (ℕ × Event)) (told : ℕ → List NodeId) → ((o : ℕ) → P o (ledger_at s m.holder o) (told o))

@@ -1,4 +1,5 @@
--- A state as the laws of the tree see it: edges, pool, private slots, queues, and what is read and drafted, each as a function.
+-- A state as the laws of the tree see it: edges, pool, private slots, queues, and what is read and
+-- drafted, each as a function.
 use Rattle.std.proofs.Common.{◌≡◌, ℕ, ◌≢◌, ◌≤◌, ◌⊎◌, inl, inr, Bool, true, false, ◌||◌, List, [], ◌∷◌, ◌++◌, refl, sym, ap, ◌∙◌, arith}
 use Rattle.std.specs.Prelude.{Option, Some}
 use Rattle.std.proofs.lemmas.Bool.{false_from_ne_true}
@@ -23,7 +24,8 @@ pub record Picture : Type 0 where
   -- whether a worker's pin is above the label of an entry, by its origin and index
   pub late : ℕ → ℕ → ℕ → Bool
 
--- where a slot may stand: in the pool, in a worker's hands, on a path from the root, or at an index of an origin's queue
+-- where a slot may stand: in the pool, in a worker's hands, on a path from the root, or at an index
+-- of an origin's queue
 pub data Spot : Type 0 where
   InPool : Spot
   PrivateTo : ℕ → Spot
@@ -81,7 +83,8 @@ pub record TreeLaw (N : ℕ) (P : Picture) : Type 0 where
   pub second : below P 2 Left ≢ 0
   pub sentinels : (x : ℕ) (d : Side) → 3 ≤ x → x ≤ 5 → below P x d ≡ 0
   pub places : (x : ℕ) → x ≢ 0 → x ≤ N → Once P x
-  -- a shared node has two children or none; its flags lead to slots above 5; a tagged edge's twin is flagged
+  -- a shared node has two children or none; its flags lead to slots above 5; a tagged edge's twin
+  -- is flagged
   pub twins : (x : ℕ) (d : Side) → IsLive P x → below P x d ≡ 0 → below P x (other d) ≡ 0
   pub flags : (x : ℕ) (d : Side) → IsLive P x → (P.edges x d).flag ≡ true → 6 ≤ below P x d
   pub frozen : (x : ℕ) (d : Side) → IsLive P x → (P.edges x d).tag ≡ true → (P.edges x (other d)).flag ≡ true

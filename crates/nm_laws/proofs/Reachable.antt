@@ -1,4 +1,5 @@
--- What every run keeps holds of every state that can be reached, and runs lead from such states to such states.
+-- What every run keeps holds of every state that can be reached, and runs lead from such states to
+-- such states.
 use Rattle.std.proofs.Common.{◌≡◌, ℕ, List, ◌++◌, refl, sym, ap, subst, ◌∙◌, arith}
 use Rattle.nm_edge.specs.Layouts.{Layout}
 use Rattle.nm_edge.specs.declared.node.NodeId.{NodeId}

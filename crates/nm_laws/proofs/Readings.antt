@@ -104,7 +104,8 @@ learn_keeps N P knows read law met heard = record {
 
 -- ---- an edge gets a mark
 
--- what is owed by an edge e in place of that of p on side d: it leads where that led, and its marks are lawful
+-- what is owed by an edge e in place of that of p on side d: it leads where that led, and its marks
+-- are lawful
 pub record IsMarking (P : Picture) (p : ℕ) (d : Side) (e : Edge) : Type 0 where
   pub live : IsLive P p
   pub some : p ≢ 0

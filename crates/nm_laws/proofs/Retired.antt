@@ -1,4 +1,5 @@
--- The ledger is the cuts: one holder each, retired is freed and then the queue, and what was retired are the nodes of the replies.
+-- The ledger is the cuts: one holder each, retired is freed and then the queue, and what was
+-- retired are the nodes of the replies.
 use Rattle.std.proofs.Common.{◌≡◌, ℕ, ◌<◌, inl, inr, List, [], ◌∷◌, ◌++◌, map, replicate, append-nil, append_assoc, refl, sym, ap, ap₂, ◌∙◌, arith, get_or-set_same}
 use Rattle.std.proofs.lemmas.List.{length-replicate, set_past}
 use Rattle.std.specs.Prelude.{Option, Some, None, is_none, option_map, drop}

@@ -1,4 +1,5 @@
--- The chain of a splice that is won ends at the parent, and the ancestor gets the edge that the parent keeps.
+-- The chain of a splice that is won ends at the parent, and the ancestor gets the edge that the
+-- parent keeps.
 use Rattle.std.proofs.Common.{◌≡◌, ℕ, eqb, Bool, true, false, ◌&&◌, List, [], ◌∷◌, ◌++◌, refl, sym, ap, subst, ◌∙◌}
 use Rattle.std.proofs.lemmas.Bool.{cond-true, cond-false, eqb-true}
 use Rattle.nm_edge.specs.Edges.{Edge, untagged, is_to, other}

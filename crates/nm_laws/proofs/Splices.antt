@@ -213,7 +213,8 @@ spliced P w n cut a d e = record {
   late = λ u v i. cond (eqb v w) (cond (ltb i n) (P.late u w i) false) (P.late u v i);
 }
 
--- what the worker w, with n entries in its queue, has shown of a, its edge on d, the way below it and the edge that is to stand there
+-- what the worker w, with n entries in its queue, has shown of a, its edge on d, the way below it
+-- and the edge that is to stand there
 pub record IsSplice (N : ℕ) (P : Picture) (w n a : ℕ) (d : Side) (way : List Side) (e : Edge) : Type 0 where
   pub live : IsLive P a
   pub is_slot : a ≢ 0

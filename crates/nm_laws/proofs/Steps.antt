@@ -1,4 +1,5 @@
--- What a step leaves of a state, read back; what an event that is allowed has shown; and induction over runs.
+-- What a step leaves of a state, read back; what an event that is allowed has shown; and induction
+-- over runs.
 use Rattle.std.proofs.Common.{◌≡◌, ℕ, ◌<◌, ◌≢◌, Bool, true, false, cond, List, [], ◌∷◌, length, set, get_or, refl, sym, subst, arith, get_or-set_same, get_or-set_other, length-set}
 use Rattle.std.specs.Prelude.{Option, Some, None, nat_le}
 use Rattle.std.proofs.lemmas.Bool.{leb-false, or_parts}

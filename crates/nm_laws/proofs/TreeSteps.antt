@@ -38,7 +38,8 @@ use Rattle.nm_laws.proofs.TreeLink.{link_view}
 pub high_from : (low high s : ℕ) → outside low high s ≡ false → (low ≤ s) × (s ≤ high)
 high_from low high s h = let parts = or_parts (nat_lt s low) (nat_lt high s) h in (ltb-false s low parts.0, ltb-false high s parts.1)
 
--- the laws of one state: its sizes, epochs, places and holders, where h says who holds the ledger of each origin
+-- the laws of one state: its sizes, epochs, places and holders, where h says who holds the ledger
+-- of each origin
 pub record Lawful (s : State) (h : ℕ → ℕ) : Type 0 where
   pub staffed : Staffed s
   pub roomy : Roomy s

@@ -1,4 +1,5 @@
--- A whole turn from a lawful state: refused, of one worker, or a join. What it leaves of the laws, the ledgers, births and the pool.
+-- A whole turn from a lawful state: refused, of one worker, or a join. What it leaves of the laws,
+-- the ledgers, births and the pool.
 use Rattle.std.proofs.Common.{◌≡◌, ℕ, ◌<◌, ◌≤◌, ◌≢◌, ◌⊎◌, inl, inr, true, false, length, refl, sym, ap, subst, ◌∙◌, arith, get_or-set_same, get_or-set_other, le_of_eq}
 use Rattle.std.specs.Prelude.{Option, Some, None, Result, Ok, Err}
 use native.Mathlib.Decide.{ℕ_discrete}

@@ -1,4 +1,5 @@
--- How many numbers there are of which something holds; and what the four counts of a state are the numbers of.
+-- How many numbers there are of which something holds; and what the four counts of a state are the
+-- numbers of.
 use Rattle.std.specs.Prelude.{◌≡◌, ◌≢◌, ◌↔◌, ℕ, ◌≤◌, true, List, length, AllPairs, Contains}
 use Rattle.nm_model.specs.declared.places.Places.{Places}
 use Rattle.nm_model.specs.Memory.{in_pool}
@@ -23,8 +24,9 @@ HoldsOfSlots s P n = HasCardinality (λ x. (6 ≤ x) × (x ≤ s.layout.nodes) �
 abbrev pub IsInSomeHands : State → ℕ → Type 0
 IsInSomeHands s x = (w : ℕ) × (is_private (of s w) x ≡ true)
 
--- each of these is the number of the slots above 5 that stand in a place, by what that place means: in the pool; private to a worker;
--- at the end of a path from the root; and as an entry in the queue of an origin, which a worker holds
+-- each of these is the number of the slots above 5 that stand in a place, by what that place means:
+-- in the pool; private to a worker; at the end of a path from the root; and as an entry in the
+-- queue of an origin, which a worker holds
 pub record AreNumbersOfSlots (s : State) (places : Places) : Type 0 where
   pub pool : HoldsOfSlots s (λ x. in_pool s.memory x ≡ true) places.pool
   pub private : HoldsOfSlots s (IsInSomeHands s) places.private

@@ -23,7 +23,8 @@ pub record IsLeafOfTheSet (m : Memory) (x : ℕ) : Type 0 where
   pub childless : is_leaf (node m x) ≡ true
   pub low : (node m x).key < infinity_0
 
--- these are the keys of the leaves of the set to which paths from the root lead, a key for each path, from left to right
+-- these are the keys of the leaves of the set to which paths from the root lead, a key for each
+-- path, from left to right
 pub record AreKeysFromTheLeft (m : Memory) (keys : List ℕ) : Type 0 where
   pub paths : List (List Side)
   pub ascend : AllPairs IsLeftOf paths

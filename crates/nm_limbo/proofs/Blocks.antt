@@ -1,4 +1,5 @@
--- What `allocate` and `deallocate` share: a block is cut into its link and its places, and made of them again. Assumes `Logic`.
+-- What `allocate` and `deallocate` share: a block is cut into its link and its places, and made of
+-- them again. Assumes `Logic`.
 use Prim.Native.Nat.{ℕ, ◌+◌, ◌*◌, ◌<◌, ◌^◌}
 use mathlib.Core.List.{List, [], ◌∷◌}
 use lib.ListN.{length, replicate}

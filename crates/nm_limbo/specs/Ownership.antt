@@ -56,7 +56,8 @@ module _ (R : RattleType) where
   -- the places of the blocks, 32 in each
   abbrev pub places_own : List Ptr → List (Option R.Denot) → Fml
   places_own [] cs = ftrue
-  places_own (p ∷ ps) cs = fsep (cells_own R (places_of p) (take 32 cs)) (places_own ps (drop 32 cs))
+  places_own (p ∷ ps) cs = fsep (cells_own R (places_of p) (take 32 cs))
+      (places_own ps (drop 32 cs))
 
   abbrev pub chain_owns : (Ty → Ptr → Fml) → List Ptr → List (Option R.Denot) → Fml
   chain_owns token ps cs = fsep (places_own ps cs) (fsep (links_own ps) (deeds_own token ps))
@@ -64,4 +65,5 @@ module _ (R : RattleType) where
   -- what a `&` holds of the places
   abbrev pub chain_lent : List Ptr → List (Option R.Denot) → Lft → Fml
   chain_lent [] cs = nothing
-  chain_lent (p ∷ ps) cs = beside (cells_lent R (places_of p) (take 32 cs)) (chain_lent ps (drop 32 cs))
+  chain_lent (p ∷ ps) cs = beside (cells_lent R (places_of p) (take 32 cs))
+      (chain_lent ps (drop 32 cs))

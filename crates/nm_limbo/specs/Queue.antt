@@ -4,7 +4,8 @@ use Rattle.std.specs.Coded.{Coded, code_by, coded×, coded_list, coded_ℕ}
 use Rattle.circular_buffer.specs.Places.{somes}
 use Rattle.nm_limbo.specs.List.{BlockList}
 
--- the items from the front to the back, the places that are free to push to, and the blocks of 32 places each
+-- the items from the front to the back, the places that are free to push to, and the blocks of 32
+-- places each
 pub record BlockQueue (X : Type 0) : Type 0 where
   pub items : List X
   pub spare : ℕ
@@ -15,7 +16,8 @@ module _ {X : Type 0} where
   block_queue xs s n = record { items = xs; spare = s; blocks = n }
 
   abbrev pub block_queue_code : Coded X → Coded (BlockQueue X)
-  block_queue_code c = code_by (List X × (ℕ × ℕ)) (coded× (coded_list c) (coded× coded_ℕ coded_ℕ)) (λ q. (q.items, (q.spare, q.blocks))) (λ p. block_queue p.0 p.1.0 p.1.1) (λ _. refl)
+  block_queue_code c = code_by (List X × (ℕ × ℕ)) (coded× (coded_list c) (coded× coded_ℕ coded_ℕ))
+      (λ q. (q.items, (q.spare, q.blocks))) (λ p. block_queue p.0 p.1.0 p.1.1) (λ _. refl)
 
   -- the used-up places of the front block: what of the blocks is neither an item's place nor spare
   abbrev pub popped : BlockQueue X → ℕ
@@ -27,34 +29,42 @@ module _ {X : Type 0} where
 
   -- r is q with more blocks
   abbrev pub IsGrown : BlockQueue X → BlockQueue X → Type 0
-  IsGrown q r = (r.items ≡ q.items) × (q.blocks ≤ r.blocks) × (r.spare ≡ q.spare + 32 * (r.blocks - q.blocks))
+  IsGrown q r = (r.items ≡ q.items) × (q.blocks ≤ r.blocks)
+      × (r.spare ≡ q.spare + 32 * (r.blocks - q.blocks))
 
   -- r has room for n items, in the fewest blocks more than q has
   abbrev pub HasLeast : BlockQueue X → BlockQueue X → ℕ → Type 0
   HasLeast q r n = (n ≤ r.spare) × ((m : ℕ) → n ≤ q.spare + 32 * m → r.blocks ≤ q.blocks + m)
 
-  -- r is q without its first item x. Where that was in the last place of the front block, its places are spare again
+  -- r is q without its first item x. Where that was in the last place of the front block, its
+  -- places are spare again
   abbrev pub IsPopped : BlockQueue X → BlockQueue X → X → Type 0
-  IsPopped q r x = (q.items ≡ x ∷ r.items) × (r.blocks ≡ q.blocks) × (r.spare ≡ q.spare + cond (popped q == 31) 32 0)
+  IsPopped q r x = (q.items ≡ x ∷ r.items) × (r.blocks ≡ q.blocks)
+      × (r.spare ≡ q.spare + cond (popped q == 31) 32 0)
 
   -- the places of used-up items, of the items, and then empty ones
   abbrev pub laid : ℕ → List X → ℕ → List (Option X)
   laid p xs r = replicate p None ++ (map Some xs ++ replicate r None)
 
 module _ {X A : Type 0} where
-  -- the items in the blocks in use, and the places there that are neither the p used-up ones nor those of the n items
+  -- the items in the blocks in use, and the places there that are neither the p used-up ones nor
+  -- those of the n items
   abbrev pub items_in : BlockList X A → List X
   items_in used = somes used.slots
 
   abbrev pub left_in : BlockList X A → ℕ → ℕ → ℕ
   left_in used p n = length used.slots - (p + n)
 
-  -- the queue in the blocks in use and the empty ones after them, of which the first p places are used up, and the next n are the items'
+  -- the queue in the blocks in use and the empty ones after them, of which the first p places are
+  -- used up, and the next n are the items'
   abbrev pub queue_of : BlockList X A → BlockList X A → ℕ → ℕ → BlockQueue X
-  queue_of used empty p n = block_queue (items_in used) (left_in used p n + length empty.slots) (used.blocks + empty.blocks)
+  queue_of used empty p n = block_queue (items_in used) (left_in used p n + length empty.slots)
+      (used.blocks + empty.blocks)
 
-  -- in the blocks in use lie p used-up places, the items xs and s empty places, and every place of the others is empty
-  pub record IsLaid (used empty : BlockList X A) (p : ℕ) (xs : List X) (s : ℕ) (a : A) : Type 0 where
+  -- in the blocks in use lie p used-up places, the items xs and s empty places, and every place of
+  -- the others is empty
+  pub record IsLaid (used empty : BlockList X A) (p : ℕ) (xs : List X) (s : ℕ)
+      (a : A) : Type 0 where
     pub alloc : (used.alloc ≡ a) × (empty.alloc ≡ a)
     pub places : (length used.slots ≡ 32 * used.blocks) × (length empty.slots ≡ 32 * empty.blocks)
     pub small : used.blocks + empty.blocks < 2 ^ 26
@@ -65,4 +75,5 @@ module _ {X A : Type 0} where
     pub free : empty.slots ≡ replicate (length empty.slots) None
 
   abbrev pub IsQueue : BlockList X A → BlockList X A → ℕ → ℕ → A → Type 0
-  IsQueue used empty p n a = (n ≡ length (items_in used)) × IsLaid used empty p (items_in used) (left_in used p n) a
+  IsQueue used empty p n a = (n ≡ length (items_in used))
+      × IsLaid used empty p (items_in used) (left_in used p n) a

@@ -13,7 +13,8 @@ use std::ptr;
 /// The number of items that a block has room for.
 pub(crate) const BLOCK_LEN: u32 = 32;
 
-/// A block as it lies in memory: the link to the next block, and a place for each item. No value of it is made.
+/// A block as it lies in memory: the link to the next block, and a place for each item. No value of
+/// it is made.
 pub struct Block<T> {
     pub(crate) next: *mut Block<T>,
     pub(crate) places: [T; BLOCK_LEN as usize],

@@ -10,8 +10,8 @@ use std::alloc::Allocator;
 use std::marker::{Model, PhantomData, Send, Sync};
 use std::ptr;
 
-/// The owner of the blocks of a list, and of the items in their places. It takes no space: the list holds the
-/// pointers to the first block and to the last.
+/// The owner of the blocks of a list, and of the items in their places. It takes no space: the list
+/// holds the pointers to the first block and to the last.
 pub struct Chain<T, A: Allocator> {
     mark: PhantomData<*const (T, A)>,
     ghost blocks: { List Ptr },
@@ -47,7 +47,8 @@ impl<T, A: Allocator> Chain<T, A> {
     /// Makes the block the only one, and returns where it lies.
     pub(crate) fn link_first(&mut self, room: Room<T>, deed: Deed<T, A>) -> BlockPtr<T>
         requires { (self.old.blocks ≡ []) × (deed.at ≡ room.ptr) × (deed.alloc ≡ self.old.alloc) }
-        ensures { (result.ptr ≡ room.ptr) × (self.new.blocks ≡ room.ptr ∷ []) × (self.new.slots ≡ replicate 32 None) × (self.new.alloc ≡ self.old.alloc) }
+        ensures { (result.ptr ≡ room.ptr) × (self.new.blocks ≡ room.ptr ∷ [])
+            × (self.new.slots ≡ replicate 32 None) × (self.new.alloc ≡ self.old.alloc) }
     {
         let Room { ptr } = room;
         let Deed { mark: _ } = deed;
@@ -64,8 +65,12 @@ impl<T, A: Allocator> Chain<T, A> {
         room: Room<T>,
         deed: Deed<T, A>,
     ) -> BlockPtr<T>
-        requires { IsLast self.old.blocks last.ptr × (length self.old.slots ≡ 32 * length self.old.blocks) × (deed.at ≡ room.ptr) × (deed.alloc ≡ self.old.alloc) }
-        ensures { (result.ptr ≡ room.ptr) × (self.new.blocks ≡ self.old.blocks ++ room.ptr ∷ []) × (self.new.slots ≡ self.old.slots ++ replicate 32 None) × (self.new.alloc ≡ self.old.alloc) }
+        requires { IsLast self.old.blocks last.ptr
+            × (length self.old.slots ≡ 32 * length self.old.blocks) × (deed.at ≡ room.ptr)
+            × (deed.alloc ≡ self.old.alloc) }
+        ensures { (result.ptr ≡ room.ptr) × (self.new.blocks ≡ self.old.blocks ++ room.ptr ∷ [])
+            × (self.new.slots ≡ self.old.slots ++ replicate 32 None)
+            × (self.new.alloc ≡ self.old.alloc) }
     {
         let Room { ptr } = room;
         let Deed { mark: _ } = deed;
@@ -79,9 +84,12 @@ impl<T, A: Allocator> Chain<T, A> {
 
     /// Takes the first block out, and returns it with the pointer to the one that is first then.
     pub(crate) fn unlink_first(&mut self, first: BlockPtr<T>) -> (Room<T>, Deed<T, A>, BlockPtr<T>)
-        requires { IsFirst self.old.blocks first.ptr × (take 32 self.old.slots ≡ replicate 32 None) }
-        ensures chain { (self.old.blocks ≡ first.ptr ∷ self.new.blocks) × (self.new.slots ≡ drop 32 self.old.slots) × (self.new.alloc ≡ self.old.alloc) }
-        ensures taken { (result.1.at ≡ result.0.ptr) × (result.1.alloc ≡ self.old.alloc) × (result.2.ptr ≡ first_of self.new.blocks) }
+        requires { IsFirst self.old.blocks first.ptr
+            × (take 32 self.old.slots ≡ replicate 32 None) }
+        ensures chain { (self.old.blocks ≡ first.ptr ∷ self.new.blocks)
+            × (self.new.slots ≡ drop 32 self.old.slots) × (self.new.alloc ≡ self.old.alloc) }
+        ensures taken { (result.1.at ≡ result.0.ptr) × (result.1.alloc ≡ self.old.alloc)
+            × (result.2.ptr ≡ first_of self.new.blocks) }
     {
         let ptr = first.ptr;
         let next = unsafe { (*ptr).next };
@@ -94,8 +102,11 @@ impl<T, A: Allocator> Chain<T, A> {
 
     /// Fills the empty place at `index` of the last block.
     pub(crate) fn write(&mut self, last: BlockPtr<T>, index: usize, item: T)
-        requires { IsLast self.old.blocks last.ptr × (index < 32) × IsEmptyAt self.old.slots (32 * (length self.old.blocks - 1) + index) }
-        ensures { (self.new.blocks ≡ self.old.blocks) × (self.new.slots ≡ slice_set self.old.slots (32 * (length self.old.blocks - 1) + index) (Some item)) × (self.new.alloc ≡ self.old.alloc) }
+        requires { IsLast self.old.blocks last.ptr × (index < 32)
+            × IsEmptyAt self.old.slots (32 * (length self.old.blocks - 1) + index) }
+        ensures { (self.new.blocks ≡ self.old.blocks)
+            × (self.new.slots ≡ slice_set self.old.slots (32 * (length self.old.blocks - 1) + index)
+            (Some item)) × (self.new.alloc ≡ self.old.alloc) }
     {
         unsafe {
             let places = (&raw mut (*last.ptr).places) as *mut T;
@@ -105,9 +116,12 @@ impl<T, A: Allocator> Chain<T, A> {
 
     /// Empties the place at `index` of the first block.
     pub(crate) fn read(&mut self, first: BlockPtr<T>, index: usize) -> T
-        requires { IsFirst self.old.blocks first.ptr × (index < 32) × IsFilled self.old.slots index }
+        requires { IsFirst self.old.blocks first.ptr × (index < 32)
+            × IsFilled self.old.slots index }
         ensures item { get_or self.old.slots index None ≡ Some result }
-        ensures chain { (self.new.blocks ≡ self.old.blocks) × (self.new.slots ≡ slice_set self.old.slots index None) × (self.new.alloc ≡ self.old.alloc) }
+        ensures chain { (self.new.blocks ≡ self.old.blocks)
+            × (self.new.slots ≡ slice_set self.old.slots index None)
+            × (self.new.alloc ≡ self.old.alloc) }
     {
         unsafe {
             let places = (&raw const (*first.ptr).places) as *const T;
@@ -117,7 +131,8 @@ impl<T, A: Allocator> Chain<T, A> {
 
     /// The item in the place at `index` of the first block.
     pub(crate) fn get(&self, first: BlockPtr<T>, index: usize) -> &T
-        requires { IsFirst self.now.blocks first.ptr × (index < 32) × IsFilled self.now.slots index }
+        requires { IsFirst self.now.blocks first.ptr × (index < 32)
+            × IsFilled self.now.slots index }
         ensures { get_or self.now.slots index None ≡ Some result.now }
     {
         unsafe {

@@ -1,7 +1,7 @@
 //! A queue over raw memory: a singly linked list of blocks, each with room for 32 items.
 //!
-//! The queue takes memory in `reserve` alone, and uses a block again once its items are popped. An item never moves:
-//! it stays at the place that it was pushed to until it is popped.
+//! The queue takes memory in `reserve` alone, and uses a block again once its items are popped. An
+//! item never moves: it stays at the place that it was pushed to until it is popped.
 #![tactic(auto)]
 
 mod block;

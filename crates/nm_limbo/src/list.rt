@@ -1,4 +1,5 @@
-//! A list of blocks with its two ends. A clause sees it as its places, the number of its blocks and its allocator.
+//! A list of blocks with its two ends. A clause sees it as its places, the number of its blocks and
+//! its allocator.
 ghost use Rattle.std.specs.Prelude.{◌≡◌, ◌+◌, ◌-◌, ◌*◌, ◌^◌, ◌<◌, ◌≤◌, [], ◌++◌, Some, None, length, take, drop, replicate, get_or, slice_set};
 ghost use Rattle.circular_buffer.specs.Places.{IsFilled};
 ghost use Rattle.nm_limbo.specs.Blocks.{IsEmptyAt};
@@ -49,8 +50,10 @@ impl<T, A: Allocator> BlockList<T, A> {
 
     /// Links the block in after the last.
     pub(crate) fn push_block(&mut self, room: Room<T>, deed: Deed<T, A>)
-        requires { IsDeedTo deed.at deed.alloc room.ptr self.old.alloc × (self.old.blocks < 2 ^ 31) }
-        ensures { self.new ≡ block_list (self.old.slots ++ replicate 32 None) (self.old.blocks + 1) self.old.alloc }
+        requires { IsDeedTo deed.at deed.alloc room.ptr self.old.alloc
+            × (self.old.blocks < 2 ^ 31) }
+        ensures { self.new ≡ block_list (self.old.slots ++ replicate 32 None) (self.old.blocks + 1)
+            self.old.alloc }
     {
         self.last = if self.count == 0 {
             let last = self.chain.link_first(room, deed);
@@ -65,7 +68,8 @@ impl<T, A: Allocator> BlockList<T, A> {
     /// Takes the first block out.
     pub(crate) fn pop_block(&mut self) -> (Room<T>, Deed<T, A>)
         requires { (0 < self.old.blocks) × (take 32 self.old.slots ≡ replicate 32 None) }
-        ensures list { self.new ≡ block_list (drop 32 self.old.slots) (self.old.blocks - 1) self.old.alloc }
+        ensures list { self.new
+            ≡ block_list (drop 32 self.old.slots) (self.old.blocks - 1) self.old.alloc }
         ensures deed { IsDeedTo result.1.at result.1.alloc result.0.ptr self.old.alloc }
     {
         let (room, deed, next) = self.chain.unlink_first(self.first);
@@ -76,9 +80,13 @@ impl<T, A: Allocator> BlockList<T, A> {
 
     /// Moves the first block of `from`, which holds no item, to the end.
     pub(crate) fn take_block(&mut self, from: &mut BlockList<T, A>)
-        requires { (0 < from.old.blocks) × (take 32 from.old.slots ≡ replicate 32 None) × (self.old.alloc ≡ from.old.alloc) × (self.old.blocks < 2 ^ 31) }
-        ensures from { from.new ≡ block_list (drop 32 from.old.slots) (from.old.blocks - 1) from.old.alloc }
-        ensures list { self.new ≡ block_list (self.old.slots ++ replicate 32 None) (self.old.blocks + 1) self.old.alloc }
+        requires { (0 < from.old.blocks) × (take 32 from.old.slots ≡ replicate 32 None)
+            × (self.old.alloc ≡ from.old.alloc) × (self.old.blocks < 2 ^ 31) }
+        ensures from { from.new
+            ≡ block_list (drop 32 from.old.slots) (from.old.blocks - 1) from.old.alloc }
+        ensures list { self.new
+            ≡ block_list (self.old.slots ++ replicate 32 None) (self.old.blocks + 1)
+            self.old.alloc }
     {
         let (room, deed) = from.pop_block();
         self.push_block(room, deed);
@@ -86,8 +94,11 @@ impl<T, A: Allocator> BlockList<T, A> {
 
     /// Fills the place at `index` of the last block.
     pub(crate) fn write(&mut self, index: u32, item: T)
-        requires { (0 < self.old.blocks) × (index < 32) × IsEmptyAt self.old.slots (32 * (self.old.blocks - 1) + index) }
-        ensures { self.new ≡ block_list (slice_set self.old.slots (32 * (self.old.blocks - 1) + index) (Some item)) self.old.blocks self.old.alloc }
+        requires { (0 < self.old.blocks) × (index < 32)
+            × IsEmptyAt self.old.slots (32 * (self.old.blocks - 1) + index) }
+        ensures { self.new ≡ block_list
+            (slice_set self.old.slots (32 * (self.old.blocks - 1) + index) (Some item))
+            self.old.blocks self.old.alloc }
     {
         self.chain.write(self.last, index as usize, item);
     }
@@ -96,7 +107,8 @@ impl<T, A: Allocator> BlockList<T, A> {
     pub(crate) fn read(&mut self, index: u32) -> T
         requires { (index < 32) × IsFilled self.old.slots index }
         ensures item { get_or self.old.slots index None ≡ Some result }
-        ensures list { self.new ≡ block_list (slice_set self.old.slots index None) self.old.blocks self.old.alloc }
+        ensures list { self.new
+            ≡ block_list (slice_set self.old.slots index None) self.old.blocks self.old.alloc }
     {
         self.chain.read(self.first, index as usize)
     }

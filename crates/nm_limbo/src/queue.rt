@@ -9,19 +9,21 @@ use std::marker::Model;
 use std_alloc::room::may_hold;
 use thiserror::Error;
 
-/// There was no memory for a block, or its items are too large for one: 2 ^ 63 bytes or more for 32 of them.
+/// There was no memory for a block, or its items are too large for one: 2 ^ 63 bytes or more for 32
+/// of them.
 #[derive(Clone, Copy, Debug, Error, PartialEq, Eq)]
 #[error("there is no memory for a block of the queue")]
 pub struct NoMemory;
 
 /// A queue of items in blocks of 32 places each.
 ///
-/// The places of the blocks, in order, are those of the popped items of the front block, at most 31; those of the
-/// items, from the front; and the spare ones. `reserve` alone takes memory, and an item stays at its place until it is
-/// popped. A drop drops each item and frees each block. A queue may cross threads where its items and its allocator
-/// may.
+/// The places of the blocks, in order, are those of the popped items of the front block, at most
+/// 31; those of the items, from the front; and the spare ones. `reserve` alone takes memory, and an
+/// item stays at its place until it is popped. A drop drops each item and frees each block. A queue
+/// may cross threads where its items and its allocator may.
 pub struct BlockQueue<T, A: Allocator = Global> {
-    // The blocks from the front one to the last that holds or held an item, and then the empty ones.
+    // The blocks from the front one to the last that holds or held an item, and then the empty
+    // ones.
     used: BlockList<T, A>,
     empty: BlockList<T, A>,
     // The places of the front block whose items are popped.
@@ -87,13 +89,13 @@ impl<T, A: Allocator> BlockQueue<T, A> {
         self.used.blocks() + self.empty.blocks()
     }
 
-    /// Takes memory until `n` items, at most 1,024, can be pushed: the fewest blocks that are enough. The queue has at
-    /// most 536,870,912 items.
+    /// Takes memory until `n` items, at most 1,024, can be pushed: the fewest blocks that are
+    /// enough. The queue has at most 536,870,912 items.
     ///
     /// # Errors
     ///
-    /// `NoMemory` if a block is refused, and fewer than `n` items can be pushed. The blocks got before it stay. Either
-    /// way the items are the same.
+    /// `NoMemory` if a block is refused, and fewer than `n` items can be pushed. The blocks got
+    /// before it stay. Either way the items are the same.
     pub fn reserve(&mut self, n: u32) -> Result<(), NoMemory>
         requires { (n ≤ 1024) × (length self.old.items ≤ 536870912) }
         ensures grown { IsGrown self.old self.new }
@@ -109,7 +111,8 @@ impl<T, A: Allocator> BlockQueue<T, A> {
 
     fn add_block(&mut self) -> Result<(), NoMemory>
         requires { (self.old.spare < 1024) × (length self.old.items ≤ 536870912) }
-        ensures ok { OnOk result (self.new ≡ block_queue self.old.items (self.old.spare + 32) (self.old.blocks + 1)) }
+        ensures ok { OnOk result
+            (self.new ≡ block_queue self.old.items (self.old.spare + 32) (self.old.blocks + 1)) }
         ensures refused { IfErr result (λ _. self.new ≡ self.old) }
     {
         if !may_hold::<T>(BLOCK_LEN as usize) {
@@ -125,7 +128,8 @@ impl<T, A: Allocator> BlockQueue<T, A> {
     /// Appends the item, at a place that is spare. It takes no memory.
     pub fn push_reserved(&mut self, item: T)
         requires { 0 < self.old.spare }
-        ensures queue { self.new ≡ block_queue (self.old.items ++ item ∷ []) (self.old.spare - 1) self.old.blocks }
+        ensures queue { self.new
+            ≡ block_queue (self.old.items ++ item ∷ []) (self.old.spare - 1) self.old.blocks }
         ensures balanced { IsBalanced self.new }
     {
         let filled = self.popped + self.len;
@@ -147,10 +151,12 @@ impl<T, A: Allocator> BlockQueue<T, A> {
         Some(self.used.get(self.popped))
     }
 
-    /// Takes the item at the front out, or returns `None` where there is none. A block whose last place this uses up
-    /// goes to the end, for use again: its 32 places are spare then. No other place becomes spare.
+    /// Takes the item at the front out, or returns `None` where there is none. A block whose last
+    /// place this uses up goes to the end, for use again: its 32 places are spare then. No other
+    /// place becomes spare.
     pub fn pop(&mut self) -> Option<T>
-        ensures popped { MatchOption result ((self.old.items ≡ []) × (self.new ≡ self.old)) (IsPopped self.old self.new) }
+        ensures popped { MatchOption result ((self.old.items ≡ []) × (self.new ≡ self.old))
+            (IsPopped self.old self.new) }
         ensures balanced { IsBalanced self.new }
     {
         if self.len == 0 {

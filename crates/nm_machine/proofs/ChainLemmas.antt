@@ -1,4 +1,5 @@
--- A way over what a worker knows is one over the known nodes alone; and what keeps a memory of chains right.
+-- A way over what a worker knows is one over the known nodes alone; and what keeps a memory of
+-- chains right.
 use Rattle.std.proofs.Common.{◌≡◌, ◌≢◌, ◌<◌, length, ◌⊎◌, inl, inr, ℕ, zero, suc, ◌+◌, ◌==◌, eqb, ◌||◌, Bool, true, false, cond, Option, Some, None, is_some, unwrap_or, List, [], ◌∷◌, ◌++◌, set, refl, sym, ap, subst, ◌∙◌}
 use Rattle.std.specs.Prelude.{slice_index_or}
 use Rattle.std.proofs.Math.Numerals.{add-one}
@@ -19,7 +20,8 @@ use Rattle.nm_machine.specs.declared.found_steps.ChainStep.{ChainStep}
 abbrev at_test : Bool → Option (List Side) → Option (List Side)
 at_test b rest = elim b [ true ↦ Some [] | false ↦ rest ]
 
--- by the tests whether this is the last node, and whether the chain goes on to the left or to the right
+-- by the tests whether this is the last node, and whether the chain goes on to the left or to the
+-- right
 module _ (k : Knowledge) (s : ℕ) (w : ℕ → Option (List Side)) (v : ℕ → Bool) (same : (t : ℕ) → is_some (w t) ≡ v t) where
   abbrev side_by : Bool → Bool → Option Side
   side_by a b = cond a (Some Left) (cond b (Some Right) None)
@@ -63,7 +65,8 @@ pub remembers_step : (known : List (ℕ × Seen)) (steps : List ChainStep) (i : 
 unfolding Remembers
 remembers_step known steps i x is h = All-set (IsRight known) steps i x (λ some. is) h
 
--- of a node from which no chain went on, or from which it goes on to the same slot, something is known
+-- of a node from which no chain went on, or from which it goes on to the same slot, something is
+-- known
 module _ (known : List (ℕ × Seen)) (s : ℕ) (n : Seen) (kept : (next_in known s ≡ None) ⊎ (next_in known s ≡ next_of n)) where
   next_kept : (q t : ℕ) → next_in known q ≡ Some t → next_in (put known s n) q ≡ Some t
   next_kept q t is = ap (λ o. next_of (unwrap_or o unread)) (get-put known s n q) ∙ go (eqb q s) refl

@@ -12,7 +12,8 @@ goes_by edge twin = is_tagged edge && (is_flagged twin && not (is_flagged edge))
 
 -- the slot to which a chain leads on from a node of which this is known, where it does
 abbrev pub next_of : Seen → Option ℕ
-next_of n = if goes_by n.left n.right then Some (slot_read n.left) else if goes_by n.right n.left then Some (slot_read n.right) else None
+next_of n = if goes_by n.left n.right then Some (slot_read n.left) else if goes_by n.right n.left
+    then Some (slot_read n.right) else None
 
 -- the same by the slot
 abbrev pub next_in : List (ℕ × Seen) → ℕ → Option ℕ
@@ -25,7 +26,8 @@ from_next (Some s) test = test s
 -- whether a chain leads from s to p, past fewer than so many nodes
 abbrev pub leads_to : ℕ → List (ℕ × Seen) → ℕ → ℕ → Bool
 leads_to zero known s p = false
-leads_to (suc fuel) known s p = (s == p) || from_next (next_in known s) (λ t. leads_to fuel known t p)
+leads_to (suc fuel) known s p =
+    (s == p) || from_next (next_in known s) (λ t. leads_to fuel known t p)
 
 -- ---- what was found of chains
 

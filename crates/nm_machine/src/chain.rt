@@ -40,7 +40,8 @@ impl Worker {
         }
     }
 
-    /// Whether a chain of known tagged edges with flagged twins leads from the successor to the parent, and on by the edge that is kept.
+    /// Whether a chain of known tagged edges with flagged twins leads from the successor to the
+    /// parent, and on by the edge that is kept.
     pub fn is_frozen(&mut self, layout: Layout, successor: u32, parent: u32, keep: Side) -> bool
         ensures frozen { result ≡ is_frozen layout self.old successor parent keep }
         ensures same { self.new ≡ self.old }
@@ -60,7 +61,8 @@ impl Worker {
         }
     }
 
-    /// The slots of the chain, from the successor downwards, each internal node and then its flagged leaf.
+    /// The slots of the chain, from the successor downwards, each internal node and then its
+    /// flagged leaf.
     pub fn cut(
         &self,
         alloc: Global,
@@ -70,7 +72,8 @@ impl Worker {
         keep: Side,
     ) -> Result<Vec<u32>, AllocError>
         requires { is_some (way fuel self.now from to) ≡ true }
-        ensures { IfOk result (λ slots. slots.items ≡ cut_by self.now from (unwrap_or (way fuel self.now from to) []) keep) }
+        ensures { IfOk result (λ slots. slots.items
+            ≡ cut_by self.now from (unwrap_or (way fuel self.now from to) []) keep) }
     {
         let mut slots = Vec::new(alloc);
         let mut at = from;

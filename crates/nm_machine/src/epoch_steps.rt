@@ -14,7 +14,8 @@ use nm_model::reply::{Refused, Reply};
 impl Machine {
     pub fn sight(&mut self, worker: usize) -> Result<Reply, Refused>
         requires { worker < length self.old.workers }
-        ensures outcome { IsAnswer (refusal_of self.old worker event.Sight) (reply_of self.old worker event.Sight) result }
+        ensures outcome { IsAnswer (refusal_of self.old worker event.Sight)
+            (reply_of self.old worker event.Sight) result }
         ensures ok { OnOk result (self.new ≡ applied self.old worker event.Sight) }
         ensures err { OnErr result (self.new ≡ self.old) }
     {
@@ -27,7 +28,8 @@ impl Machine {
     /// As a sight, where it can confirm a pin.
     pub fn sight_for(&mut self, worker: usize, op: Op, key: Key) -> Result<Reply, Refused>
         requires { worker < length self.old.workers }
-        ensures outcome { IsAnswer (refusal_of self.old worker (event.SightFor op key)) (reply_of self.old worker (event.SightFor op key)) result }
+        ensures outcome { IsAnswer (refusal_of self.old worker (event.SightFor op key))
+            (reply_of self.old worker (event.SightFor op key)) result }
         ensures ok { OnOk result (self.new ≡ applied self.old worker (event.SightFor op key)) }
         ensures err { OnErr result (self.new ≡ self.old) }
     {
@@ -41,7 +43,8 @@ impl Machine {
     pub fn announce(&mut self, worker: usize) -> Result<Reply, Refused>
         requires shaped { IsShaped self.old }
         requires is_there { worker < length self.old.workers }
-        ensures outcome { IsAnswer (refusal_of self.old worker event.Announce) (reply_of self.old worker event.Announce) result }
+        ensures outcome { IsAnswer (refusal_of self.old worker event.Announce)
+            (reply_of self.old worker event.Announce) result }
         ensures ok { OnOk result (self.new ≡ applied self.old worker event.Announce) }
         ensures err { OnErr result (self.new ≡ self.old) }
     {
@@ -70,7 +73,8 @@ impl Machine {
     pub fn leave(&mut self, worker: usize) -> Result<Reply, Refused>
         requires shaped { IsShaped self.old }
         requires is_there { worker < length self.old.workers }
-        ensures outcome { IsAnswer (refusal_of self.old worker event.Leave) (reply_of self.old worker event.Leave) result }
+        ensures outcome { IsAnswer (refusal_of self.old worker event.Leave)
+            (reply_of self.old worker event.Leave) result }
         ensures ok { OnOk result (self.new ≡ applied self.old worker event.Leave) }
         ensures err { OnErr result (self.new ≡ self.old) }
     {
@@ -84,7 +88,8 @@ impl Machine {
     pub fn leave_with(&mut self, worker: usize, answer: bool) -> Result<Reply, Refused>
         requires shaped { IsShaped self.old }
         requires is_there { worker < length self.old.workers }
-        ensures outcome { IsAnswer (refusal_of self.old worker (event.LeaveWith answer)) (reply_of self.old worker (event.LeaveWith answer)) result }
+        ensures outcome { IsAnswer (refusal_of self.old worker (event.LeaveWith answer))
+            (reply_of self.old worker (event.LeaveWith answer)) result }
         ensures ok { OnOk result (self.new ≡ applied self.old worker (event.LeaveWith answer)) }
         ensures err { OnErr result (self.new ≡ self.old) }
     {
@@ -94,7 +99,8 @@ impl Machine {
     pub fn scan(&mut self, worker: usize, other: u32) -> Result<Reply, Refused>
         requires shaped { IsShaped self.old }
         requires is_there { worker < length self.old.workers }
-        ensures outcome { IsAnswer (refusal_of self.old worker (event.Scan other)) (reply_of self.old worker (event.Scan other)) result }
+        ensures outcome { IsAnswer (refusal_of self.old worker (event.Scan other))
+            (reply_of self.old worker (event.Scan other)) result }
         ensures ok { OnOk result (self.new ≡ applied self.old worker (event.Scan other)) }
         ensures err { OnErr result (self.new ≡ self.old) }
     {
@@ -110,7 +116,8 @@ impl Machine {
 
     pub fn advance(&mut self, worker: usize) -> Result<Reply, Refused>
         requires { worker < length self.old.workers }
-        ensures outcome { IsAnswer (refusal_of self.old worker event.Advance) (reply_of self.old worker event.Advance) result }
+        ensures outcome { IsAnswer (refusal_of self.old worker event.Advance)
+            (reply_of self.old worker event.Advance) result }
         ensures ok { OnOk result (self.new ≡ applied self.old worker event.Advance) }
         ensures err { OnErr result (self.new ≡ self.old) }
     {

@@ -64,7 +64,8 @@ impl FoundSteps {
 
     /// The node after this one, where it was found.
     pub fn next(&self, node: &ChainNode) -> Option<ChainNode>
-        ensures { (known : List (ℕ × Seen)) → Remembers known self.now → IfSome result (λ next. next_in known node.now.slot ≡ Some next.slot) }
+        ensures { (known : List (ℕ × Seen)) → Remembers known self.now
+            → IfSome result (λ next. next_in known node.now.slot ≡ Some next.slot) }
     {
         match self.steps.get(node.index as usize) {
             Some(step) if step.slot == node.slot && step.next.slot != 0 => Some(step.next),
@@ -85,7 +86,8 @@ impl FoundSteps {
     /// The node of a slot, which gets a place for its step where it has none.
     pub fn node(&mut self, slot: u32) -> ChainNode
         ensures slot { result.slot ≡ slot }
-        ensures keeps { (known : List (ℕ × Seen)) → Remembers known self.old → Remembers known self.new }
+        ensures keeps { (known : List (ℕ × Seen)) → Remembers known self.old
+            → Remembers known self.new }
     {
         if let Some(index) = self.indices.get(slot) {
             if self.is_at(slot, index) {
@@ -110,7 +112,8 @@ impl FoundSteps {
 
     /// The chain was found to lead on from one node to another.
     pub fn learn(&mut self, node: &ChainNode, next: &ChainNode)
-        ensures { (known : List (ℕ × Seen)) → next_in known node.now.slot ≡ Some next.now.slot → Remembers known self.old → Remembers known self.new }
+        ensures { (known : List (ℕ × Seen)) → next_in known node.now.slot ≡ Some next.now.slot
+            → Remembers known self.old → Remembers known self.new }
     {
         if self.is_at(node.slot, node.index) {
             self.steps[node.index as usize] = ChainStep {

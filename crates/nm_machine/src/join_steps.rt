@@ -40,7 +40,8 @@ impl Machine {
     pub fn join(&mut self, worker: u32, leaver: u32) -> Result<Reply, Refused>
         requires shaped { IsShaped self.old }
         requires is_there { worker < length self.old.workers }
-        ensures outcome { IsAnswer (refusal_of self.old worker (event.Join leaver)) (reply_of self.old worker (event.Join leaver)) result }
+        ensures outcome { IsAnswer (refusal_of self.old worker (event.Join leaver))
+            (reply_of self.old worker (event.Join leaver)) result }
         ensures ok { OnOk result (self.new ≡ applied self.old worker (event.Join leaver)) }
         ensures err { OnErr result (self.new ≡ self.old) }
     {

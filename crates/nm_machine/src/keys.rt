@@ -47,14 +47,16 @@ impl Machine {
 
     // The parts below a slot wait, the left one in front.
     fn put_below(&self, waiting: &mut Vec<Subtree>, slot: u32, depth: u32) -> Result<(), AllocError>
-        ensures { OnOk result (waiting.new.items ≡ waiting.old.items ++ below self.now.memory slot depth) }
+        ensures { OnOk result (waiting.new.items
+            ≡ waiting.old.items ++ below self.now.memory slot depth) }
     {
         waiting.push(self.part_below(slot, Side::Right, depth))?;
         waiting.push(self.part_below(slot, Side::Left, depth))?;
         Ok(())
     }
 
-    /// The keys of the set: those of the reached leaves, without the fixed ones, from left to right.
+    /// The keys of the set: those of the reached leaves, without the fixed ones, from left to
+    /// right.
     pub fn keys(&self) -> Result<Vec<Key>, AllocError>
         ensures { IfOk result (λ found. found.items ≡ keys self.now) }
     {

@@ -15,7 +15,8 @@ use nm_model::slot_map::SlotMap;
 use std::alloc::{AllocError, Global};
 use std::marker::Model;
 
-/// What is known of each known node. The steps of chains that were found are kept, and no clause tells of them.
+/// What is known of each known node. The steps of chains that were found are kept, and no clause
+/// tells of them.
 #[derive(Drop)]
 pub struct Known {
     seen: SlotMap<Seen>,
@@ -100,7 +101,8 @@ impl Known {
 impl Known {
     // The node to which the chain leads on from another.
     fn next(&mut self, node: &ChainNode) -> Option<ChainNode>
-        ensures next { option_map (λ (n : ChainNode). n.slot) result ≡ next_in self.old node.now.slot }
+        ensures next { option_map (λ (n : ChainNode). n.slot) result
+            ≡ next_in self.old node.now.slot }
         ensures same { self.new ≡ self.old }
     {
         match self.found.next(node) {
@@ -111,7 +113,8 @@ impl Known {
 
     // The same by what is known, which is kept.
     fn find_next(&mut self, node: &ChainNode) -> Option<ChainNode>
-        ensures next { option_map (λ (n : ChainNode). n.slot) result ≡ next_in self.old node.now.slot }
+        ensures next { option_map (λ (n : ChainNode). n.slot) result
+            ≡ next_in self.old node.now.slot }
         ensures same { self.new ≡ self.old }
     {
         let slot = next_in(&self.seen, node.slot)?;
@@ -191,7 +194,8 @@ fn next_in(known: &SlotMap<Seen>, slot: u32) -> Option<u32>
 
 // Whether, once this is known of a node, no chain that led on from it leads elsewhere.
 fn keeps_chains(known: &SlotMap<Seen>, slot: u32, seen: &Seen) -> bool
-    ensures { result ≡ true → (next_in known.now slot ≡ None) ⊎ (next_in known.now slot ≡ next_of seen.now) }
+    ensures { result ≡ true → (next_in known.now slot ≡ None)
+        ⊎ (next_in known.now slot ≡ next_of seen.now) }
 {
     let next = next_in(known, slot);
     next.is_none() || next == next_of(seen)
@@ -200,7 +204,8 @@ fn keeps_chains(known: &SlotMap<Seen>, slot: u32, seen: &Seen) -> bool
 // This will be known of a node: all steps are forgotten, unless they stay as they are.
 fn keep(found: &mut FoundSteps, known: &SlotMap<Seen>, slot: u32, seen: &Seen)
     ensures before { Remembers known.now found.old → Remembers known.now found.new }
-    ensures after { Remembers known.now found.old → Remembers (put known.now slot seen.now) found.new }
+    ensures after { Remembers known.now found.old
+        → Remembers (put known.now slot seen.now) found.new }
 {
     if !keeps_chains(known, slot, seen) {
         found.clear();

@@ -1,4 +1,5 @@
-//! The exact machine: all words of the tree and what every worker knows, moved by one event at a time.
+//! The exact machine: all words of the tree and what every worker knows, moved by one event at a
+//! time.
 #![tactic(auto)]
 
 mod chain;

@@ -33,7 +33,16 @@ impl Model for Machine {
 
     ghost Value = { State };
 
-    ghost view = { λ m. record { layout = m.layout; memory = record { epoch = m.epoch; notes = m.notes.items; nodes = m.nodes.items; pool = m.pool.items }; workers = m.workers.items } };
+    ghost view = { λ m. record {
+      layout = m.layout;
+      memory = record {
+        epoch = m.epoch;
+        notes = m.notes.items;
+        nodes = m.nodes.items;
+        pool = m.pool.items;
+      };
+      workers = m.workers.items;
+    } };
 }
 
 impl Machine {
@@ -120,7 +129,8 @@ impl Machine {
     #[tactic(auto, unfolding(nm_model::specs::Runs::refused))]
     pub fn apply(&mut self, worker: u32, event: Event) -> Result<Reply, Refused>
         requires { IsShaped self.old }
-        ensures outcome { IsAnswer (refused self.old worker event) (reply_of self.old worker event) result }
+        ensures outcome { IsAnswer (refused self.old worker event) (reply_of self.old worker event)
+            result }
         ensures ok { OnOk result (self.new ≡ applied self.old worker event) }
         ensures err { OnErr result (self.new ≡ self.old) }
     {

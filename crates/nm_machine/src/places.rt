@@ -9,7 +9,8 @@ use crate::worker::Worker;
 use nm_model::Places;
 
 impl Machine {
-    /// How many slots stand where. Each slot stands in one place, so those that stand nowhere else are reached.
+    /// How many slots stand where. Each slot stands in one place, so those that stand nowhere else
+    /// are reached.
     pub fn places(&self) -> Places
         requires fits { IsLayout self.now.layout }
         requires sum { CountsAddUp self.now }

@@ -17,7 +17,8 @@ impl Machine {
     pub fn claim(&mut self, worker: usize, slot: u32) -> Result<Reply, Refused>
         requires shaped { IsShaped self.old }
         requires is_there { worker < length self.old.workers }
-        ensures outcome { IsAnswer (refusal_of self.old worker (event.Claim slot)) (reply_of self.old worker (event.Claim slot)) result }
+        ensures outcome { IsAnswer (refusal_of self.old worker (event.Claim slot))
+            (reply_of self.old worker (event.Claim slot)) result }
         ensures ok { OnOk result (self.new ≡ applied self.old worker (event.Claim slot)) }
         ensures err { OnErr result (self.new ≡ self.old) }
     {
@@ -36,7 +37,8 @@ impl Machine {
     pub fn give(&mut self, worker: usize, slot: u32) -> Result<Reply, Refused>
         requires shaped { IsShaped self.old }
         requires is_there { worker < length self.old.workers }
-        ensures outcome { IsAnswer (refusal_of self.old worker (event.Give slot)) (reply_of self.old worker (event.Give slot)) result }
+        ensures outcome { IsAnswer (refusal_of self.old worker (event.Give slot))
+            (reply_of self.old worker (event.Give slot)) result }
         ensures ok { OnOk result (self.new ≡ applied self.old worker (event.Give slot)) }
         ensures err { OnErr result (self.new ≡ self.old) }
     {
@@ -59,10 +61,13 @@ impl Machine {
         requires shaped { IsShaped self.now }
         requires is_there { worker < length self.now.workers }
         ensures allowed { OnOk result (refusal_of self.now worker (event.Look slot field) ≡ None) }
-        ensures refused { IfErr result (IsRefusedAs (refusal_of self.now worker (event.Look slot field))) }
+        ensures refused { IfErr result
+            (IsRefusedAs (refusal_of self.now worker (event.Look slot field))) }
         ensures not_memory { IfErr result (λ why. why ≢ Refused.NoMemory) }
         ensures slot { OnOk result (slot ≤ self.now.layout.nodes) }
-        ensures known { OnOk result (is_private (of self.now worker) slot ≡ false → knows (of self.now worker) slot ≡ true) }
+        ensures known { OnOk result
+            (is_private (of self.now worker) slot ≡ false
+            → knows (of self.now worker) slot ≡ true) }
     {
         if self.is_outside(1, slot) {
             return Err(Refused::NoSlot);
@@ -82,7 +87,8 @@ impl Machine {
     pub fn look(&mut self, worker: usize, slot: u32, field: Field) -> Result<Reply, Refused>
         requires shaped { IsShaped self.old }
         requires is_there { worker < length self.old.workers }
-        ensures outcome { IsAnswer (refusal_of self.old worker (event.Look slot field)) (reply_of self.old worker (event.Look slot field)) result }
+        ensures outcome { IsAnswer (refusal_of self.old worker (event.Look slot field))
+            (reply_of self.old worker (event.Look slot field)) result }
         ensures ok { OnOk result (self.new ≡ applied self.old worker (event.Look slot field)) }
         ensures err { OnErr result (self.new ≡ self.old) }
     {
@@ -95,8 +101,10 @@ impl Machine {
     fn may_fill(&self, worker: usize, slot: u32, field: Field, value: u64) -> Result<(), Refused>
         requires shaped { IsShaped self.now }
         requires is_there { worker < length self.now.workers }
-        ensures allowed { OnOk result (refusal_of self.now worker (event.Fill slot field value) ≡ None) }
-        ensures refused { IfErr result (IsRefusedAs (refusal_of self.now worker (event.Fill slot field value))) }
+        ensures allowed { OnOk result
+            (refusal_of self.now worker (event.Fill slot field value) ≡ None) }
+        ensures refused { IfErr result
+            (IsRefusedAs (refusal_of self.now worker (event.Fill slot field value))) }
         ensures slot { OnOk result (slot ≤ self.now.layout.nodes) }
         ensures private { OnOk result (is_private (of self.now worker) slot ≡ true) }
         ensures value { OnOk result (is_edge field ≡ true → value < 2 ^ 32) }
@@ -127,8 +135,10 @@ impl Machine {
     ) -> Result<Reply, Refused>
         requires shaped { IsShaped self.old }
         requires is_there { worker < length self.old.workers }
-        ensures outcome { IsAnswer (refusal_of self.old worker (event.Fill slot field value)) (reply_of self.old worker (event.Fill slot field value)) result }
-        ensures ok { OnOk result (self.new ≡ applied self.old worker (event.Fill slot field value)) }
+        ensures outcome { IsAnswer (refusal_of self.old worker (event.Fill slot field value))
+            (reply_of self.old worker (event.Fill slot field value)) result }
+        ensures ok { OnOk result
+            (self.new ≡ applied self.old worker (event.Fill slot field value)) }
         ensures err { OnErr result (self.new ≡ self.old) }
     {
         self.may_fill(worker, slot, field, value)?;

@@ -1,4 +1,5 @@
-//! What a worker's log tells of the operation of its pin: the walks for its key, and what it changed.
+//! What a worker's log tells of the operation of its pin: the walks for its key, and what it
+//! changed.
 #![tactic(auto, unfolding(nm_model::specs::Searches::searched))]
 
 ghost use Rattle.std.specs.Prelude.{◌≡◌, ◌||◌, is_some, false, [], None, OnOk};
@@ -34,7 +35,18 @@ impl Model for Search {
 
     ghost Value = { Roomy };
 
-    ghost view = { λ s. record { tells = record { call = s.call; linked = s.linked; flagged = s.flagged; cut = s.cut; walks = s.walks.items; later = s.later.items }; room = vec_capacity s.walks; later_room = vec_capacity s.later } };
+    ghost view = { λ s. record {
+      tells = record {
+        call = s.call;
+        linked = s.linked;
+        flagged = s.flagged;
+        cut = s.cut;
+        walks = s.walks.items;
+        later = s.later.items;
+      };
+      room = vec_capacity s.walks;
+      later_room = vec_capacity s.later;
+    } };
 }
 
 // Whether a node is one of these.
@@ -70,7 +82,15 @@ impl Search {
 
     // No pin stands, or a new one for this operation.
     fn restart(&mut self, call: Option<Call>)
-        ensures { self.new.tells ≡ record { call = call; linked = false; flagged = None; cut = false; walks = []; later = [] } }
+        ensures { self.new.tells
+            ≡ record {
+              call = call;
+              linked = false;
+              flagged = None;
+              cut = false;
+              walks = [];
+              later = [];
+            } }
     {
         self.call = call;
         self.linked = false;
@@ -101,7 +121,8 @@ impl Search {
     // A look was answered.
     fn look(&mut self, slot: u32, field: Field, reply: &Reply)
         requires { HasRoom self.old }
-        ensures { self.new.tells ≡ look_for self.old.tells self.old.tells.call slot field reply.now }
+        ensures { self.new.tells
+            ≡ look_for self.old.tells self.old.tells.call slot field reply.now }
     {
         match (field, reply) {
             (Field::Key, Reply::KeyIs(key)) => self.key(slot, *key),
@@ -112,7 +133,8 @@ impl Search {
 
     // The key of a slot was looked at.
     fn key(&mut self, slot: u32, key: u64)
-        ensures { self.new.tells ≡ look_for self.old.tells self.old.tells.call slot field.Key (reply.KeyIs key) }
+        ensures { self.new.tells
+            ≡ look_for self.old.tells self.old.tells.call slot field.Key (reply.KeyIs key) }
     {
         if self.call.is_none() {
             return;
@@ -126,7 +148,9 @@ impl Search {
     // An edge of a slot was read.
     fn edge(&mut self, slot: u32, side: Side, edge: Edge)
         requires { HasRoom self.old }
-        ensures { self.new.tells ≡ look_for self.old.tells self.old.tells.call slot (field.Edge side) (reply.EdgeIs edge) }
+        ensures { self.new.tells
+            ≡ look_for self.old.tells self.old.tells.call slot (field.Edge side)
+            (reply.EdgeIs edge) }
     {
         let Some(call) = self.call else {
             return;
@@ -200,7 +224,8 @@ impl Search {
 }
 
 impl Search {
-    // Whether the leaf that was flagged is cut: by an own splice, or since a walk that began after the flag ended elsewhere.
+    // Whether the leaf that was flagged is cut: by an own splice, or since a walk that began after
+    // the flag ended elsewhere.
     fn has_removed(&self) -> bool
         ensures { result ≡ has_removed self.now.tells self.now.tells.flagged }
     {
@@ -238,7 +263,8 @@ impl Search {
 
     /// Whether the operation is an insert that may link here: once, where a walk of it ended.
     pub fn may_link(&self, worker: &Worker, parent: u32, side: Side, leaf: u32, new: u32) -> bool
-        ensures { result ≡ links_in_order worker.now self.now.tells self.now.tells.call parent side leaf new }
+        ensures { result ≡ links_in_order worker.now self.now.tells self.now.tells.call parent side
+            leaf new }
     {
         let Some(
             Call {

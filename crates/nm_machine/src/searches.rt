@@ -1,4 +1,5 @@
-//! What an ordered core asks of an event beside what a plain one asks, and what each worker's log tells.
+//! What an ordered core asks of an event beside what a plain one asks, and what each worker's log
+//! tells.
 #![tactic(auto, unfolding(nm_model::specs::Step::refusal))]
 
 ghost use Rattle.std.specs.Prelude.{◌≡◌, ◌<◌, length, replicate, None, IfOk, IfErr, OnOk, OnErr};
@@ -65,7 +66,8 @@ impl Searches {
     fn learn(&mut self, worker: usize, event: &Event, reply: &Reply)
         requires is_there { worker < length self.old }
         requires room { HasRoomFor event.now (roomy_of self.old worker) }
-        ensures { searches_of self.new ≡ learned_from (searches_of self.old) worker event.now reply.now }
+        ensures { searches_of self.new
+            ≡ learned_from (searches_of self.old) worker event.now reply.now }
     {
         self.by_worker[worker].learn(event, reply);
     }
@@ -80,9 +82,13 @@ impl Searches {
     ) -> Result<Reply, Refused>
         requires shaped { IsShaped machine.old }
         requires sized { length self.old ≡ machine.old.layout.workers }
-        ensures outcome { IsAnswer (refused_in (in_order machine.old self.old) worker event.now) (reply_of machine.old worker event.now) result }
+        ensures outcome { IsAnswer (refused_in (in_order machine.old self.old) worker event.now)
+            (reply_of machine.old worker event.now) result }
         ensures state { OnOk result (machine.new ≡ applied machine.old worker event.now) }
-        ensures learned { OnOk result (searches_of self.new ≡ learned_from (searches_of self.old) worker event.now (reply_of machine.old worker event.now)) }
+        ensures learned { OnOk result
+            (searches_of self.new
+            ≡ learned_from (searches_of self.old) worker event.now
+            (reply_of machine.old worker event.now)) }
         ensures err_state { OnErr result (machine.new ≡ machine.old) }
         ensures err_told { OnErr result (searches_of self.new ≡ searches_of self.old) }
     {
@@ -101,8 +107,11 @@ impl Searches {
         requires shaped { IsShaped machine.now }
         requires is_there { worker < length machine.now.workers }
         requires has { worker < length self.old }
-        ensures refused { IfErr result (IsRefusedAs (refusal_in machine.now (searches_of self.old) worker event.now)) }
-        ensures in_order { OnOk result (disorder (of machine.now worker) (search_of (searches_of self.old) worker) event.now ≡ None) }
+        ensures refused { IfErr result
+            (IsRefusedAs (refusal_in machine.now (searches_of self.old) worker event.now)) }
+        ensures in_order { OnOk result
+            (disorder (of machine.now worker) (search_of (searches_of self.old) worker) event.now
+            ≡ None) }
         ensures room { OnOk result (HasRoomFor event.now (roomy_of self.new worker)) }
         ensures same { searches_of self.new ≡ searches_of self.old }
     {
@@ -139,7 +148,9 @@ impl Searches {
         requires shaped { IsShaped machine.now }
         requires is_there { worker < length machine.now.workers }
         requires has { worker < length self.old }
-        ensures refused { IfErr result (IsRefusedAs (refusal_in machine.now (searches_of self.old) worker (event.Look slot field))) }
+        ensures refused { IfErr result
+            (IsRefusedAs (refusal_in machine.now (searches_of self.old) worker
+            (event.Look slot field))) }
         ensures room { OnOk result (HasRoom (roomy_of self.new worker)) }
         ensures same { searches_of self.new ≡ searches_of self.old }
     {
@@ -161,8 +172,12 @@ impl Searches {
         requires shaped { IsShaped machine.now }
         requires is_there { worker < length machine.now.workers }
         requires has { worker < length self.now }
-        ensures refused { IfErr result (IsRefusedAs (refusal_in machine.now (searches_of self.now) worker (event.Link parent side leaf new))) }
-        ensures in_order { OnOk result (disorder (of machine.now worker) (search_of (searches_of self.now) worker) (event.Link parent side leaf new) ≡ None) }
+        ensures refused { IfErr result
+            (IsRefusedAs (refusal_in machine.now (searches_of self.now) worker
+            (event.Link parent side leaf new))) }
+        ensures in_order { OnOk result
+            (disorder (of machine.now worker) (search_of (searches_of self.now) worker)
+            (event.Link parent side leaf new) ≡ None) }
     {
         machine.may_link(worker, parent, side, leaf, new)?;
         let knowledge = &machine.workers[worker];
@@ -184,8 +199,12 @@ impl Searches {
         requires shaped { IsShaped machine.now }
         requires is_there { worker < length machine.now.workers }
         requires has { worker < length self.now }
-        ensures refused { IfErr result (IsRefusedAs (refusal_in machine.now (searches_of self.now) worker (event.Flag parent side leaf))) }
-        ensures in_order { OnOk result (disorder (of machine.now worker) (search_of (searches_of self.now) worker) (event.Flag parent side leaf) ≡ None) }
+        ensures refused { IfErr result
+            (IsRefusedAs (refusal_in machine.now (searches_of self.now) worker
+            (event.Flag parent side leaf))) }
+        ensures in_order { OnOk result
+            (disorder (of machine.now worker) (search_of (searches_of self.now) worker)
+            (event.Flag parent side leaf) ≡ None) }
     {
         machine.may_flag(worker, parent, side, leaf)?;
         if !self.of(worker).may_flag(parent, side, leaf) {
@@ -198,8 +217,11 @@ impl Searches {
     fn may_leave(&self, machine: &Machine, worker: usize) -> Result<(), Refused>
         requires is_there { worker < length machine.now.workers }
         requires has { worker < length self.now }
-        ensures refused { IfErr result (IsRefusedAs (refusal_in machine.now (searches_of self.now) worker event.Leave)) }
-        ensures in_order { OnOk result (disorder (of machine.now worker) (search_of (searches_of self.now) worker) event.Leave ≡ None) }
+        ensures refused { IfErr result
+            (IsRefusedAs (refusal_in machine.now (searches_of self.now) worker event.Leave)) }
+        ensures in_order { OnOk result
+            (disorder (of machine.now worker) (search_of (searches_of self.now) worker) event.Leave
+            ≡ None) }
     {
         machine.may_leave(worker)?;
         if self.of(worker).owes_answer() {
@@ -212,8 +234,12 @@ impl Searches {
     fn may_answer(&self, machine: &Machine, worker: usize, answer: bool) -> Result<(), Refused>
         requires is_there { worker < length machine.now.workers }
         requires has { worker < length self.now }
-        ensures refused { IfErr result (IsRefusedAs (refusal_in machine.now (searches_of self.now) worker (event.LeaveWith answer))) }
-        ensures in_order { OnOk result (disorder (of machine.now worker) (search_of (searches_of self.now) worker) (event.LeaveWith answer) ≡ None) }
+        ensures refused { IfErr result
+            (IsRefusedAs (refusal_in machine.now (searches_of self.now) worker
+            (event.LeaveWith answer))) }
+        ensures in_order { OnOk result
+            (disorder (of machine.now worker) (search_of (searches_of self.now) worker)
+            (event.LeaveWith answer) ≡ None) }
     {
         machine.may_leave(worker)?;
         if !self.of(worker).shows(answer) {

@@ -27,8 +27,10 @@ impl Machine {
     ) -> Result<(), Refused>
         requires shaped { IsShaped self.now }
         requires is_there { worker < length self.now.workers }
-        ensures allowed { OnOk result (refusal_of self.now worker (event.Link parent side leaf new) ≡ None) }
-        ensures refused { IfErr result (IsRefusedAs (refusal_of self.now worker (event.Link parent side leaf new))) }
+        ensures allowed { OnOk result
+            (refusal_of self.now worker (event.Link parent side leaf new) ≡ None) }
+        ensures refused { IfErr result
+            (IsRefusedAs (refusal_of self.now worker (event.Link parent side leaf new))) }
         ensures not_memory { IfErr result (λ why. why ≢ Refused.NoMemory) }
         ensures slot { OnOk result (parent ≤ self.now.layout.nodes) }
         ensures known { OnOk result (knows (of self.now worker) parent ≡ true) }
@@ -62,8 +64,10 @@ impl Machine {
     ) -> Result<Reply, Refused>
         requires shaped { IsShaped self.old }
         requires is_there { worker < length self.old.workers }
-        ensures outcome { IsAnswer (refusal_of self.old worker (event.Link parent side leaf new)) (reply_of self.old worker (event.Link parent side leaf new)) result }
-        ensures ok { OnOk result (self.new ≡ applied self.old worker (event.Link parent side leaf new)) }
+        ensures outcome { IsAnswer (refusal_of self.old worker (event.Link parent side leaf new))
+            (reply_of self.old worker (event.Link parent side leaf new)) result }
+        ensures ok { OnOk result
+            (self.new ≡ applied self.old worker (event.Link parent side leaf new)) }
         ensures err { OnErr result (self.new ≡ self.old) }
     {
         self.may_link(worker, parent, side, leaf, new)?;
@@ -81,8 +85,10 @@ impl Machine {
     pub fn may_flag(&self, worker: usize, parent: u32, side: Side, leaf: u32) -> Result<(), Refused>
         requires shaped { IsShaped self.now }
         requires is_there { worker < length self.now.workers }
-        ensures allowed { OnOk result (refusal_of self.now worker (event.Flag parent side leaf) ≡ None) }
-        ensures refused { IfErr result (IsRefusedAs (refusal_of self.now worker (event.Flag parent side leaf))) }
+        ensures allowed { OnOk result
+            (refusal_of self.now worker (event.Flag parent side leaf) ≡ None) }
+        ensures refused { IfErr result
+            (IsRefusedAs (refusal_of self.now worker (event.Flag parent side leaf))) }
         ensures not_memory { IfErr result (λ why. why ≢ Refused.NoMemory) }
         ensures slot { OnOk result (parent ≤ self.now.layout.nodes) }
         ensures known { OnOk result (knows (of self.now worker) parent ≡ true) }
@@ -110,8 +116,10 @@ impl Machine {
     ) -> Result<Reply, Refused>
         requires shaped { IsShaped self.old }
         requires is_there { worker < length self.old.workers }
-        ensures outcome { IsAnswer (refusal_of self.old worker (event.Flag parent side leaf)) (reply_of self.old worker (event.Flag parent side leaf)) result }
-        ensures ok { OnOk result (self.new ≡ applied self.old worker (event.Flag parent side leaf)) }
+        ensures outcome { IsAnswer (refusal_of self.old worker (event.Flag parent side leaf))
+            (reply_of self.old worker (event.Flag parent side leaf)) result }
+        ensures ok { OnOk result
+            (self.new ≡ applied self.old worker (event.Flag parent side leaf)) }
         ensures err { OnErr result (self.new ≡ self.old) }
     {
         self.may_flag(worker, parent, side, leaf)?;
@@ -132,7 +140,8 @@ impl Machine {
         requires shaped { IsShaped self.now }
         requires is_there { worker < length self.now.workers }
         ensures allowed { OnOk result (refusal_of self.now worker (event.Tag parent side) ≡ None) }
-        ensures refused { IfErr result (IsRefusedAs (refusal_of self.now worker (event.Tag parent side))) }
+        ensures refused { IfErr result
+            (IsRefusedAs (refusal_of self.now worker (event.Tag parent side))) }
         ensures slot { OnOk result (parent ≤ self.now.layout.nodes) }
         ensures known { OnOk result (knows (of self.now worker) parent ≡ true) }
     {
@@ -155,7 +164,8 @@ impl Machine {
     pub fn tag(&mut self, worker: usize, parent: u32, side: Side) -> Result<Reply, Refused>
         requires shaped { IsShaped self.old }
         requires is_there { worker < length self.old.workers }
-        ensures outcome { IsAnswer (refusal_of self.old worker (event.Tag parent side)) (reply_of self.old worker (event.Tag parent side)) result }
+        ensures outcome { IsAnswer (refusal_of self.old worker (event.Tag parent side))
+            (reply_of self.old worker (event.Tag parent side)) result }
         ensures ok { OnOk result (self.new ≡ applied self.old worker (event.Tag parent side)) }
         ensures err { OnErr result (self.new ≡ self.old) }
     {
@@ -178,12 +188,16 @@ impl Machine {
     ) -> Result<(), Refused>
         requires shaped { IsShaped self.old }
         requires is_there { worker < length self.old.workers }
-        ensures allowed { OnOk result (refusal_of self.old worker (event.Splice ancestor side successor parent keep) ≡ None) }
-        ensures refused { IfErr result (IsRefusedAs (refusal_of self.old worker (event.Splice ancestor side successor parent keep))) }
+        ensures allowed { OnOk result
+            (refusal_of self.old worker (event.Splice ancestor side successor parent keep) ≡ None) }
+        ensures refused { IfErr result
+            (IsRefusedAs (refusal_of self.old worker
+            (event.Splice ancestor side successor parent keep))) }
         ensures slot { OnOk result (ancestor ≤ self.old.layout.nodes) }
         ensures known { OnOk result (knows (of self.old worker) ancestor ≡ true) }
         ensures same { self.new ≡ self.old }
-        ensures leads { OnOk result (is_some (way self.old.layout.nodes (of self.old worker) successor parent) ≡ true) }
+        ensures leads { OnOk result
+            (is_some (way self.old.layout.nodes (of self.old worker) successor parent) ≡ true) }
     {
         if self.is_outside(1, ancestor)
             || self.is_outside(6, successor)
@@ -214,8 +228,11 @@ impl Machine {
         keep: Side,
     ) -> Result<Vec<NodeId>, AllocError>
         requires is_there { worker < length self.now.workers }
-        requires leads { is_some (way self.now.layout.nodes (of self.now worker) successor parent) ≡ true }
-        ensures { IfOk result (λ nodes. nodes.items ≡ cut_nodes self.now.layout self.now.memory (of self.now worker) successor parent keep) }
+        requires leads { is_some (way self.now.layout.nodes (of self.now worker) successor parent)
+            ≡ true }
+        ensures { IfOk result (λ nodes. nodes.items
+            ≡ cut_nodes self.now.layout self.now.memory (of self.now worker) successor parent
+            keep) }
     {
         let slots = self.workers[worker].cut(
             self.alloc,
@@ -249,8 +266,12 @@ impl Machine {
     ) -> Result<Reply, Refused>
         requires shaped { IsShaped self.old }
         requires is_there { worker < length self.old.workers }
-        ensures outcome { IsAnswer (refusal_of self.old worker (event.Splice ancestor side successor parent keep)) (reply_of self.old worker (event.Splice ancestor side successor parent keep)) result }
-        ensures ok { OnOk result (self.new ≡ applied self.old worker (event.Splice ancestor side successor parent keep)) }
+        ensures outcome { IsAnswer
+            (refusal_of self.old worker (event.Splice ancestor side successor parent keep))
+            (reply_of self.old worker (event.Splice ancestor side successor parent keep)) result }
+        ensures ok { OnOk result
+            (self.new ≡ applied self.old worker
+            (event.Splice ancestor side successor parent keep)) }
         ensures err { OnErr result (self.new ≡ self.old) }
     {
         self.may_splice(worker, ancestor, side, successor, parent, keep)?;

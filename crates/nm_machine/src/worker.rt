@@ -41,7 +41,14 @@ impl Model for Worker {
 
     ghost Value = { Knowledge };
 
-    ghost view = { λ w. record { brief = w.brief; scanned = w.scanned.items; known = w.known; drafts = w.drafts; ledgers = w.ledgers; gone = w.gone } };
+    ghost view = { λ w. record {
+      brief = w.brief;
+      scanned = w.scanned.items;
+      known = w.known;
+      drafts = w.drafts;
+      ledgers = w.ledgers;
+      gone = w.gone;
+    } };
 }
 
 impl Worker {
@@ -154,14 +161,16 @@ impl Worker {
 
     /// The epoch that was seen is announced.
     pub fn announce(&mut self, epoch: u64)
-        ensures { self.new ≡ record self.old { brief = record self.old.brief { note = Some epoch } } }
+        ensures { self.new ≡ record self.old
+            { brief = record self.old.brief { note = Some epoch } } }
     {
         self.brief.note = Some(epoch);
     }
 
     /// The announcement was taken back: it forgets all known nodes.
     pub fn leave(&mut self)
-        ensures { self.new ≡ record self.old { brief = record self.old.brief { note = None; pin = None }; known = [] } }
+        ensures { self.new ≡ record self.old
+            { brief = record self.old.brief { note = None; pin = None }; known = [] } }
     {
         self.brief.note = None;
         self.brief.pin = None;
@@ -240,7 +249,8 @@ impl Worker {
         self.seen(slot).on(side)
     }
 
-    /// Whether the chain leads from one node to another, past fewer than so many nodes. What is found of it is kept, where there is memory.
+    /// Whether the chain leads from one node to another, past fewer than so many nodes. What is
+    /// found of it is kept, where there is memory.
     pub fn has_way(&mut self, fuel: u32, from: u32, to: u32) -> bool
         ensures way { result ≡ is_some (way fuel self.old from to) }
         ensures same { self.new ≡ self.old }
@@ -257,7 +267,8 @@ impl Worker {
 
     /// A slot was claimed.
     pub fn claim(&mut self, slot: u32) -> Result<(), AllocError>
-        ensures ok { OnOk result (self.new ≡ record self.old { drafts = put self.old.drafts slot unfilled }) }
+        ensures ok { OnOk result
+            (self.new ≡ record self.old { drafts = put self.old.drafts slot unfilled }) }
         ensures err { OnErr result (self.new ≡ self.old) }
     {
         self.drafts.put(slot, Draft::unfilled())
@@ -291,13 +302,15 @@ impl Worker {
 
     /// The node at the front of a queue was freed.
     pub fn free(&mut self, node: NodeId) -> Result<(), AllocError>
-        ensures ok { OnOk result (self.new ≡ record self.old { ledgers = free self.old.ledgers node }) }
+        ensures ok { OnOk result
+            (self.new ≡ record self.old { ledgers = free self.old.ledgers node }) }
         ensures err { OnErr result (self.new ≡ self.old) }
     {
         self.ledgers.free(node)
     }
 
-    /// A field of a slot was read: of a known node the worker learns an edge or a birth, of a private slot a birth.
+    /// A field of a slot was read: of a known node the worker learns an edge or a birth, of a
+    /// private slot a birth.
     pub fn look(&mut self, slot: u32, field: Field, node: Node) -> Result<Reply, AllocError>
         requires { is_private self.old slot ≡ false → knows self.old slot ≡ true }
         ensures reply { IfOk result (λ reply. reply ≡ reply_look node field) }
@@ -360,7 +373,8 @@ impl Worker {
 
     /// Whether a parent is known, and a leaf known as one.
     pub fn holds_leaf(&self, parent: u32, leaf: u32) -> bool
-        ensures { result ≡ (knows self.now parent && (knows self.now leaf && knows_leaf self.now leaf)) }
+        ensures { result ≡ (knows self.now parent
+            && (knows self.now leaf && knows_leaf self.now leaf)) }
     {
         self.knows(parent) && self.knows(leaf) && self.knows_leaf(leaf)
     }
@@ -399,13 +413,15 @@ impl Worker {
 
     // Two slots are private no longer.
     fn publish(&mut self, new: u32, leaf: u32)
-        ensures { self.new ≡ record self.old { drafts = without (without self.old.drafts new) leaf } }
+        ensures { self.new ≡ record self.old
+            { drafts = without (without self.old.drafts new) leaf } }
     {
         self.drafts.remove(new);
         self.drafts.remove(leaf);
     }
 
-    /// A private slot was put into the tree, over this leaf and the private leaf beside it. Answers the new node.
+    /// A private slot was put into the tree, over this leaf and the private leaf beside it. Answers
+    /// the new node.
     pub fn link(&mut self, leaf: u32, new: u32) -> Result<NodeId, AllocError>
         ensures node { IfOk result (λ node. node ≡ node_linked self.old new) }
         ensures ok { OnOk result (self.new ≡ linked_in self.old leaf new) }
@@ -471,7 +487,8 @@ impl Worker {
         }
     }
 
-    // Of the two filled edges of a private slot, where the one leads that does not lead to this leaf.
+    // Of the two filled edges of a private slot, where the one leads that does not lead to this
+    // leaf.
     fn leaf_beside(&self, new: u32, leaf: u32) -> u32
         ensures { result ≡ unwrap_or (beside (draft_of self.now new) leaf) 0 }
     {

@@ -1,4 +1,5 @@
--- Counting: sums over lists, sums over the numbers below one, and how often a number stands in a list.
+-- Counting: sums over lists, sums over the numbers below one, and how often a number stands in a
+-- list.
 use Rattle.std.proofs.Common.{◌≡◌, ℕ, zero, suc, ◌+◌, ◌==◌, ◌<◌, ◌≤◌, ◌≢◌, eqb, Bool, true, false, List, [], ◌∷◌, ◌++◌, length, get_or, refl, sym, ap, ap₂, ◌∙◌, arith}
 use Rattle.std.specs.Prelude.{Some, slice_get, sum_by, filter}
 use native.Mathlib.Decide.{ℕ_discrete}

@@ -1,4 +1,5 @@
--- Where the entries of each slot stand in a queue: what keeps the indices right, and how an entry is found by them.
+-- Where the entries of each slot stand in a queue: what keeps the indices right, and how an entry
+-- is found by them.
 use Rattle.std.proofs.Common.{◌≡◌, ◌≢◌, ℕ, zero, suc, ◌+◌, ◌-◌, ◌<◌, ◌≤◌, inl, inr, max, eqb, Bool, true, false, cond, Option, Some, None, List, [], ◌∷◌, ◌++◌, length, map, drop, get_or, refl, sym, ap, subst, ◌∙◌, arith, true≢false, length-drop, length-append, get_or-drop, take}
 use Rattle.std.specs.Prelude.{unwrap_or}
 use native.Mathlib.Decide.{ℕ_discrete}

@@ -38,7 +38,8 @@ pub some_before : (side : Side) (w : Option (List Side)) → is_some (before_way
 some_before side None = refl
 some_before side (Some sides) = refl
 
--- the slots so far, then this node with its leaf and those below, are the slots so far with this node and its leaf, and then those below
+-- the slots so far, then this node with its leaf and those below, are the slots so far with this
+-- node and its leaf, and then those below
 pub cut_before : (k : Knowledge) (slots : List ℕ) (s : ℕ) (side keep : Side) (w : Option (List Side)) → is_some w ≡ true
     → (slots ++ s ∷ slot_read (read k s (other side)) ∷ []) ++ cut_by k (slot_read (read k s side)) (unwrap_or w []) keep
     ≡ slots ++ cut_by k s (unwrap_or (before_way (Some side) w) []) keep

@@ -1,5 +1,6 @@
--- The theorem, on one page. It speaks of the words of the tree at each moment and of the turns that were made, and of nothing else: a turn is an event of
--- a worker with its outcome, and the words at a moment are those of the empty tree, changed by the turns so far as their replies tell.
+-- The theorem, on one page. It speaks of the words of the tree at each moment and of the turns that
+-- were made, and of nothing else: a turn is an event of a worker with its outcome, and the words at
+-- a moment are those of the empty tree, changed by the turns so far as their replies tell.
 use Rattle.std.specs.Prelude.{◌≡◌, ◌↔◌, ◌⊎◌, ℕ, ◌≤◌, ◌==◌, Bool, true, false, not, ◌&&◌, ◌||◌, List, [], ◌∷◌, ◌++◌, map, filter, slice_get, slice_set, Contains, Some, None, option_map, Result, Ok, if◌then◌else◌}
 use Rattle.std.specs.List.{list_any}
 use Rattle.nm_edge.specs.Edges.{to, tagged, untagged, other}
@@ -88,7 +89,8 @@ IsFrozenChainTo m parent keep s _ = ⊥
 abbrev pub slots_of : List NodeId → List ℕ
 slots_of ns = map (λ n. n.slot) ns
 
--- the nodes that a won splice says it cut are a chain from its successor down to its parent, each with the birth that stood in its word
+-- the nodes that a won splice says it cut are a chain from its successor down to its parent, each
+-- with the birth that stood in its word
 pub record IsWonSplice (m : Memory) (e : Event) (ns : List NodeId) : Type 0 where
   pub ancestor : ℕ
   pub side : Side
@@ -189,18 +191,21 @@ abbrev pub takes : Event → Result Reply Refused → ℕ → Bool
 takes (Claim s) (Ok (Claimed t)) x = x == s
 takes _ _ x = false
 
--- and lets go of it where it gives it back, or links it: the new node of a won link, and both slots to which its edges lead, of which one is the new leaf
+-- and lets go of it where it gives it back, or links it: the new node of a won link, and both slots
+-- to which its edges lead, of which one is the new leaf
 abbrev pub lets_go : Memory → Event → Result Reply Refused → ℕ → Bool
 lets_go m (Give s) (Ok (Returned t)) x = x == s
 lets_go m (Link p side leaf new) (Ok (Linked n)) x = (x == new) || ((x == child m new Left) || (x == child m new Right))
 lets_go m _ _ x = false
 
--- whether a worker has a slot in its hands after these turns, by the words and by what it had before them
+-- whether a worker has a slot in its hands after these turns, by the words and by what it had
+-- before them
 abbrev pub has_after : Memory → ℕ → ℕ → Bool → List Turn → Bool
 has_after m w x had [] = had
 has_after m w x had (t ∷ ts) = has_after (after_turn m t) w x (if t.worker == w then takes t.event t.outcome x || (had && not (lets_go m t.event t.outcome x)) else had) ts
 
--- where a slot may be: in the pool, in a worker's hands, at the end of a path from the root, or at an index of what waits of a worker's cuts
+-- where a slot may be: in the pool, in a worker's hands, at the end of a path from the root, or at
+-- an index of what waits of a worker's cuts
 pub data Place : Type 0 where
   InPool : Place
   InHands : ℕ → Place
@@ -222,7 +227,8 @@ pub record OnePlace (L : Layout) (turns : List Turn) (x : ℕ) : Type 0 where
 
 -- ---- what workers stand on
 
--- the slots of which an event reads, stores or exchanges a word, and the nodes that a link, a flag or a splice names
+-- the slots of which an event reads, stores or exchanges a word, and the nodes that a link, a flag
+-- or a splice names
 abbrev pub touched : Event → List ℕ
 touched (Look s f) = s ∷ []
 touched (Fill s f v) = s ∷ []
@@ -238,7 +244,8 @@ pub record IsStill (L : Layout) (was now : List Turn) (x : ℕ) : Type 0 where
   pub in_hands : (w : ℕ) → has_after (opening L) w x false now ≡ false
   pub birth : (node (words_after L now) x).birth ≡ (node (words_after L was) x).birth
 
--- what a worker touches without having it in its hands is still that node, in the tree or waiting, for as long as the worker has not left
+-- what a worker touches without having it in its hands is still that node, in the tree or waiting,
+-- for as long as the worker has not left
 abbrev pub NothingIsPulledAway : Layout → List Turn → Type 0
 NothingIsPulledAway L turns = (before between rest : List Turn) (t : Turn) (r : Reply) (x : ℕ) → turns ≡ before ++ t ∷ (between ++ rest) → t.outcome ≡ Ok r → Contains (touched t.event) x
     → has_after (opening L) t.worker x false before ≡ false → (HasLeft t.worker between → ⊥) → IsStill L before (before ++ t ∷ between) x
@@ -251,7 +258,8 @@ pub record Headline (L : Layout) (turns : List Turn) : Type 0 where
   pub reads : (before rest : List Turn) (t : Turn) (r : Reply) → turns ≡ before ++ t ∷ rest → t.outcome ≡ Ok r → Tells (words_after L before) t.event r
   -- each turn cuts just the nodes that it says it cut
   pub cuts : (before rest : List Turn) (t : Turn) → turns ≡ before ++ t ∷ rest → CutsItsNodes (words_after L before) t
-  -- at each moment what was freed and then what waits of each worker's cuts are these cuts, in their order, and no node is cut twice
+  -- at each moment what was freed and then what waits of each worker's cuts are these cuts, in
+  -- their order, and no node is cut twice
   pub queues : (so_far rest : List Turn) → turns ≡ so_far ++ rest → AreFreedInTurn so_far
   -- nothing is freed while a worker that was pinned at its cut has not left
   pub grace : Grace turns

@@ -99,11 +99,13 @@ beside d leaf = if is_number d.left leaf then d.right else d.left
 -- known flagged. (A flagged edge leads to a leaf, so the way never goes on by one.) (Natarajan and
 -- Mittal, section 3.2, cleanup; for whole chains ours)
 abbrev pub leads_on : Knowledge → ℕ → Side → Bool
-leads_on k s side = is_tagged (read k s side) && (is_flagged (read k s (other side)) && not (is_flagged (read k s side)))
+leads_on k s side = is_tagged (read k s side)
+    && (is_flagged (read k s (other side)) && not (is_flagged (read k s side)))
 
 -- the side on which the way goes on, where it does
 abbrev pub onward : Knowledge → ℕ → Option Side
-onward k s = if leads_on k s Left then Some Left else if leads_on k s Right then Some Right else None
+onward k s = if leads_on k s Left then Some Left else if leads_on k s Right then Some Right
+    else None
 
 abbrev pub slot_on : Knowledge → ℕ → Option Side → ℕ
 slot_on k s None = 0
@@ -118,10 +120,12 @@ before_way None sides = None
 -- section 3.2, cleanup; for whole chains ours)
 abbrev pub way : ℕ → Knowledge → ℕ → ℕ → Option (List Side)
 way zero k s p = None
-way (suc fuel) k s p = elim (s == p) [ true ↦ Some [] | false ↦ before_way (onward k s) (way fuel k (slot_on k s (onward k s)) p) ]
+way (suc fuel) k s p = elim (s == p)
+    [ true ↦ Some [] | false ↦ before_way (onward k s) (way fuel k (slot_on k s (onward k s)) p) ]
 
 -- what a splice cuts: the slots of a way and the flagged leaf beside each, from the successor s
 -- downwards; the last is left by the edge on keep
 abbrev pub cut_by : Knowledge → ℕ → List Side → Side → List ℕ
 cut_by k s [] keep = s ∷ slot_read (read k s (other keep)) ∷ []
-cut_by k s (side ∷ sides) keep = s ∷ slot_read (read k s (other side)) ∷ cut_by k (slot_read (read k s side)) sides keep
+cut_by k s (side ∷ sides) keep =
+    s ∷ slot_read (read k s (other side)) ∷ cut_by k (slot_read (read k s side)) sides keep

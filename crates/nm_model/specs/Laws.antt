@@ -1,4 +1,5 @@
--- The laws of all runs, of the states that they come to. What a list of turns alone tells stands on the page (`Headline`), and is taken from there.
+-- The laws of all runs, of the states that they come to. What a list of turns alone tells stands on
+-- the page (`Headline`), and is taken from there.
 use Rattle.std.specs.Prelude.{◌≡◌, ℕ, ◌+◌, ◌<◌, ◌≤◌, ◌⊎◌, List, [], ◌∷◌, ◌++◌, map, filter, slice_get, Contains, Some, IsSome, Ok}
 use Rattle.nm_edge.specs.Layouts.{Layout}
 use Rattle.nm_edge.specs.declared.edge.Side.{Side}
@@ -27,13 +28,15 @@ abbrev pub StatesJoin : Type 0
 StatesJoin = (s : State) (ts us : List (ℕ × Event)) → after s (ts ++ us) ≡ after (after s ts) us
 
 abbrev pub TracesJoin : Type 0
-TracesJoin = (s : State) (ts us : List (ℕ × Event)) → trace s (ts ++ us) ≡ trace s ts ++ trace (after s ts) us
+TracesJoin = (s : State) (ts us : List (ℕ × Event))
+    → trace s (ts ++ us) ≡ trace s ts ++ trace (after s ts) us
 
 -- ---- epochs
 
 -- while a worker is pinned at e, the epoch is e or e + 1
 abbrev pub PinsAreNear : State → Type 0
-PinsAreNear s = (w e : ℕ) → (of s w).brief.pin ≡ Some e → (s.memory.epoch ≡ e) ⊎ (s.memory.epoch ≡ e + 1)
+PinsAreNear s = (w e : ℕ) → (of s w).brief.pin ≡ Some e
+    → (s.memory.epoch ≡ e) ⊎ (s.memory.epoch ≡ e + 1)
 
 -- in every run, whatever the workers do and in whatever order
 abbrev pub PinsStayNear : Type 0
@@ -45,19 +48,23 @@ PinsStayNear = (L : Layout) (turns : List (ℕ × Event)) → PinsAreNear (after
 abbrev pub NamesBirths : State → List NodeId → Type 0
 NamesBirths before ns = ns ≡ map (named before.memory) (slots_of ns)
 
--- of every splice that is won in a state: that state, its successor, the nodes of its reply and the state after it
+-- of every splice that is won in a state: that state, its successor, the nodes of its reply and the
+-- state after it
 abbrev pub OfEachCut : (State → ℕ → List NodeId → State → Type 0) → State → Type 0
 OfEachCut P s = (w a : ℕ) (side : Side) (successor parent : ℕ) (keep : Side) (ns : List NodeId)
-    → outcome s (w, Splice a side successor parent keep) ≡ Ok (Cut ns) → P s successor ns (next s (w, Splice a side successor parent keep))
+    → outcome s (w, Splice a side successor parent keep) ≡ Ok (Cut ns)
+    → P s successor ns (next s (w, Splice a side successor parent keep))
 
 -- a turn that does not answer a cut cuts nothing
 abbrev pub NothingElseCuts : State → Type 0
-NothingElseCuts s = (turn : ℕ × Event) → ((ns : List NodeId) → outcome s turn ≡ Ok (Cut ns) → ⊥) → (x : ℕ) → Reached s.memory x → Reached (next s turn).memory x
+NothingElseCuts s = (turn : ℕ × Event) → ((ns : List NodeId) → outcome s turn ≡ Ok (Cut ns) → ⊥)
+    → (x : ℕ) → Reached s.memory x → Reached (next s turn).memory x
 
 -- no event but a splice answers a cut
 abbrev pub OnlySplicesAnswerCuts : State → Type 0
 OnlySplicesAnswerCuts s = (turn : ℕ × Event) (ns : List NodeId) → outcome s turn ≡ Ok (Cut ns)
-    → (a : ℕ) × (side : Side) × (successor : ℕ) × (parent : ℕ) × (keep : Side) × (turn.1 ≡ Splice a side successor parent keep)
+    → (a : ℕ) × (side : Side) × (successor : ℕ) × (parent : ℕ) × (keep : Side)
+    × (turn.1 ≡ Splice a side successor parent keep)
 
 -- ---- ledgers
 
@@ -70,12 +77,14 @@ pub record OneHolder (s : State) (origin : ℕ) : Type 0 where
 
 -- in every run, of every origin
 abbrev pub EachLedgerHasOneHolder : Type 0
-EachLedgerHasOneHolder = (L : Layout) (turns : List (ℕ × Event)) (origin : ℕ) → origin < L.workers → OneHolder (after (start L) turns) origin
+EachLedgerHasOneHolder = (L : Layout) (turns : List (ℕ × Event)) (origin : ℕ) → origin < L.workers
+    → OneHolder (after (start L) turns) origin
 
 -- in every run, of the ledger of every origin, whoever holds it then
 abbrev pub OfEachLedger : (ℕ → List Turn → Ledger → Type 0) → Type 0
 OfEachLedger P = (L : Layout) (turns : List (ℕ × Event)) (w origin : ℕ) (l : Ledger)
-    → held (of (after (start L) turns) w).ledgers origin ≡ Some l → P origin (trace (start L) turns) l
+    → held (of (after (start L) turns) w).ledgers origin ≡ Some l
+    → P origin (trace (start L) turns) l
 
 abbrev pub node_in : Queued → NodeId
 node_in e = e.node
@@ -90,22 +99,27 @@ IsTheCuts origin turns l = l.retired ≡ cuts_of origin turns
 
 -- in every run, of every ledger, where there are nodes for the fixed part of the tree
 abbrev pub OfEachLedgerOfATree : (ℕ → List Turn → Ledger → Type 0) → Type 0
-OfEachLedgerOfATree P = (L : Layout) → 5 ≤ L.nodes → (turns : List (ℕ × Event)) (w origin : ℕ) (l : Ledger)
-    → held (of (after (start L) turns) w).ledgers origin ≡ Some l → P origin (trace (start L) turns) l
+OfEachLedgerOfATree P = (L : Layout) → 5 ≤ L.nodes
+    → (turns : List (ℕ × Event)) (w origin : ℕ) (l : Ledger)
+    → held (of (after (start L) turns) w).ledgers origin ≡ Some l
+    → P origin (trace (start L) turns) l
 
 -- the nodes that gives freed of those that are among these, in the order of the gives
 abbrev pub freed_among : List NodeId → List Turn → List NodeId
 freed_among ns turns = filter (is_among ns) (freed_by turns)
 
--- what was freed are the nodes that gives freed of those that the origin's splices cut, in this order
+-- what was freed are the nodes that gives freed of those that the origin's splices cut, in this
+-- order
 abbrev pub IsTheFrees : ℕ → List Turn → Ledger → Type 0
 IsTheFrees origin turns l = l.freed ≡ freed_of origin turns
 
 -- so what was freed and then what waits, by the turns: a node leaves a queue by such a give alone
 abbrev pub FreesThenQueueAreTheCuts : ℕ → List Turn → Ledger → Type 0
-FreesThenQueueAreTheCuts origin turns l = freed_of origin turns ++ map node_in l.queue ≡ cuts_of origin turns
+FreesThenQueueAreTheCuts origin turns l =
+    freed_of origin turns ++ map node_in l.queue ≡ cuts_of origin turns
 
--- a node is freed from the front of a queue that the worker holds, and is the next that was freed there
+-- a node is freed from the front of a queue that the worker holds, and is the next that was freed
+-- there
 pub record FreesAFront (s : State) (turn : ℕ × Event) (n : NodeId) : Type 0 where
   pub origin : ℕ
   pub before : Ledger
@@ -119,11 +133,13 @@ pub record FreesAFront (s : State) (turn : ℕ × Event) (n : NodeId) : Type 0 w
 
 -- each give that frees a node takes it from such a front
 abbrev pub EachFreeTakesAFront : State → Type 0
-EachFreeTakesAFront s = (turn : ℕ × Event) (n : NodeId) → outcome s turn ≡ Ok (Freed n) → FreesAFront s turn n
+EachFreeTakesAFront s = (turn : ℕ × Event) (n : NodeId) → outcome s turn ≡ Ok (Freed n)
+    → FreesAFront s turn n
 
 -- no node, a slot with its birth, stands twice over the retired nodes of all ledgers
 abbrev pub NoNodeTwice : State → Type 0
-NoNodeTwice s = (w v origin other i j : ℕ) (l m : Ledger) (n : NodeId) → held (of s w).ledgers origin ≡ Some l → held (of s v).ledgers other ≡ Some m
+NoNodeTwice s = (w v origin other i j : ℕ) (l m : Ledger) (n : NodeId)
+    → held (of s w).ledgers origin ≡ Some l → held (of s v).ledgers other ≡ Some m
     → slice_get l.retired i ≡ Some n → slice_get m.retired j ≡ Some n → (origin ≡ other) × (i ≡ j)
 
 -- what an origin's ledger retired grew by the nodes that its splices cut in these turns
@@ -132,14 +148,17 @@ GrewByTheCuts origin turns before after = after.retired ≡ before.retired ++ cu
 
 -- so over each run, whoever holds it
 abbrev pub RetiredGrowsByTheCuts : State → Type 0
-RetiredGrowsByTheCuts s = (turns : List (ℕ × Event)) (w v origin : ℕ) (l m : Ledger) → held (of s w).ledgers origin ≡ Some l → held (of (after s turns) v).ledgers origin ≡ Some m
+RetiredGrowsByTheCuts s = (turns : List (ℕ × Event)) (w v origin : ℕ) (l m : Ledger)
+    → held (of s w).ledgers origin ≡ Some l → held (of (after s turns) v).ledgers origin ≡ Some m
     → GrewByTheCuts origin (trace s turns) l m
 
 -- ---- grace
 
--- where a node is cut by one turn and freed by a later one, each worker that was pinned at the cut, the remover too, left between the two
+-- where a node is cut by one turn and freed by a later one, each worker that was pinned at the cut,
+-- the remover too, left between the two
 abbrev pub GraceHolds : State → Type 0
-GraceHolds s = (cut : ℕ × Event) (between : List (ℕ × Event)) (free : ℕ × Event) (ns : List NodeId) (n : NodeId) (w e : ℕ)
+GraceHolds s = (cut : ℕ × Event) (between : List (ℕ × Event)) (free : ℕ × Event) (ns : List NodeId)
+    (n : NodeId) (w e : ℕ)
     → outcome s cut ≡ Ok (Cut ns) → Contains ns n
     → outcome (after (next s cut) between) free ≡ Ok (Freed n)
     → (of s w).brief.pin ≡ Some e

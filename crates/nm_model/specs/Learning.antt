@@ -23,12 +23,19 @@ forgotten marks = replicate (length marks) false
 
 -- the epoch was read: scans at another one are forgotten
 abbrev pub saw : Knowledge → ℕ → Knowledge
-saw k e = record k { brief = record k.brief { seen = Some e }; scanned = if is_number k.brief.seen e then k.scanned else forgotten k.scanned }
+saw k e = record k {
+  brief = record k.brief { seen = Some e };
+  scanned = if is_number k.brief.seen e
+      then k.scanned else forgotten k.scanned;
+}
 
 -- `labelling`, `pinned`: what waited for its label has this one; the worker is pinned, and knows
 -- slots 1 and 2
 abbrev pub labelling : Knowledge → ℕ → Knowledge
-labelling k e = record k { brief = record k.brief { unlabelled = false }; ledgers = label e k.ledgers }
+labelling k e = record k {
+  brief = record k.brief { unlabelled = false };
+  ledgers = label e k.ledgers;
+}
 
 -- slots 1 and 2 are known
 abbrev pub rooted : List (ℕ × Seen)
@@ -54,7 +61,8 @@ departed k = record k { brief = record k.brief { note = None; pin = None }; know
 abbrev pub scanned : Knowledge → ℕ → Bool → Knowledge
 scanned k u counts = record k { scanned = slice_set k.scanned u counts }
 
--- a worker that is idle, or announces the epoch last read, counts as scanned; any other does no more
+-- a worker that is idle, or announces the epoch last read, counts as scanned; any other does no
+-- more
 abbrev pub learn_scan : Knowledge → ℕ → Reply → Knowledge
 learn_scan k u Idle = scanned k u true
 learn_scan k u (In e) = scanned k u (is_number k.brief.seen e)
@@ -73,17 +81,20 @@ with_read n Right e = record n { right = Some e }
 
 -- an edge was read, and its slot is known from now on
 abbrev pub read_edge : Knowledge → ℕ → Side → Edge → Knowledge
-read_edge k s side e = record k { known = put (met k.known e.slot) s (with_read (seen_of k s) side e) }
+read_edge k s side e = record k
+    { known = put (met k.known e.slot) s (with_read (seen_of k s) side e) }
 
 -- `look_known`, `look_private`, `looked`: what a look teaches of a known node, of a private slot,
 -- and of either
 abbrev pub look_known : Knowledge → ℕ → Field → Reply → Knowledge
 look_known k s (EdgeOn side) (EdgeIs e) = read_edge k s side e
-look_known k s Birth (BirthIs b) = record k { known = put k.known s (record (seen_of k s) { birth = Some b }) }
+look_known k s Birth (BirthIs b) =
+    record k { known = put k.known s (record (seen_of k s) { birth = Some b }) }
 look_known k s _ _ = k
 
 abbrev pub look_private : Knowledge → ℕ → Field → Reply → Knowledge
-look_private k s Birth (BirthIs b) = record k { drafts = put k.drafts s (record (draft_of k s) { looked = Some b }) }
+look_private k s Birth (BirthIs b) =
+    record k { drafts = put k.drafts s (record (draft_of k s) { looked = Some b }) }
 look_private k s _ _ = k
 
 abbrev pub looked : Knowledge → ℕ → Field → Reply → Knowledge
@@ -109,7 +120,10 @@ flag_to leaf = record { slot = leaf; flag = true; tag = false }
 
 -- worker w cut these nodes
 abbrev pub cutting : ℕ → Knowledge → List NodeId → Knowledge
-cutting w k ns = record k { brief = record k.brief { unlabelled = true }; ledgers = retire k.ledgers w ns }
+cutting w k ns = record k {
+  brief = record k.brief { unlabelled = true };
+  ledgers = retire k.ledgers w ns;
+}
 
 -- the heir of a worker takes over its ledgers, each under its origin
 abbrev pub inheriting : Knowledge → List (Option Ledger) → Knowledge

@@ -36,7 +36,11 @@ queued_entry ls s = or_else (front_of ls s) (first_of ls s)
 
 -- nodes that were cut enter the queue without a label
 abbrev pub with_cut : List NodeId → Ledger → Ledger
-with_cut ns l = record { retired = l.retired ++ ns; freed = l.freed; queue = l.queue ++ map unlabelled ns }
+with_cut ns l = record {
+  retired = l.retired ++ ns;
+  freed = l.freed;
+  queue = l.queue ++ map unlabelled ns;
+}
 
 -- cut nodes enter the queue without a label
 abbrev pub retire : List (Option Ledger) → ℕ → List NodeId → List (Option Ledger)
@@ -57,7 +61,8 @@ with_freed n l = record { retired = l.retired; freed = l.freed ++ n ∷ []; queu
 -- the slot there
 abbrev pub free : List (Option Ledger) → NodeId → List (Option Ledger)
 free [] n = []
-free (l ∷ ls) n = if is_some (front_at (queue_of l) n.slot) then option_map (with_freed n) l ∷ ls else l ∷ free ls n
+free (l ∷ ls) n = if is_some (front_at (queue_of l) n.slot) then option_map (with_freed n) l ∷ ls
+    else l ∷ free ls n
 
 -- each ledger of the second list, and where that has none, that of the first: an heir holds each
 -- ledger of the leaver under its origin

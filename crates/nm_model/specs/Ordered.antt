@@ -1,4 +1,5 @@
--- Ordered cores: links and flags only where a walk of the own call ended, and answers that the own log shows.
+-- Ordered cores: links and flags only where a walk of the own call ended, and answers that the own
+-- log shows.
 use Rattle.std.specs.Prelude.{◌≡◌, ℕ, ◌<◌, ◌==◌, nat_lt, Bool, true, false, not, ◌&&◌, ◌||◌, List, [], ◌∷◌, if◌then◌else◌, replicate, filter, map, slice_index_or, slice_set, Option, Some, None, is_some, is_none, option_map, unwrap_or, is_ok, IfSome, Result, All}
 use Rattle.std.specs.List.{list_any}
 use Rattle.nm_edge.specs.Keys.{IsKey}
@@ -37,7 +38,8 @@ ended_at k a = a.ended && is_number a.key k
 abbrev pub ended_elsewhere : ℕ → Arrival → Bool
 ended_elsewhere slot a = a.ended && not (a.slot == slot)
 
--- the leaf that was flagged is cut: by an own splice, or since a walk that began after the flag ended elsewhere
+-- the leaf that was flagged is cut: by an own splice, or since a walk that began after the flag
+-- ended elsewhere
 abbrev pub has_removed : Search → Option NodeId → Bool
 has_removed s None = false
 has_removed s (Some n) = s.cut || list_any (ended_elsewhere n.slot) s.later
@@ -60,7 +62,8 @@ shows_call s (Some c) answer = shows s c.op c.key answer
 -- over a leaf with key v, and a new leaf with key k: the new node has the greater key, and the
 -- lesser leaf is on the left (Natarajan and Mittal, section 3.1)
 abbrev pub is_fork_for : Draft → ℕ → ℕ → ℕ → Bool
-is_fork_for d leaf k v = if nat_lt k v then is_number d.key v && is_number d.right leaf else is_number d.key k && is_number d.left leaf
+is_fork_for d leaf k v = if nat_lt k v then is_number d.key v && is_number d.right leaf
+    else is_number d.key k && is_number d.left leaf
 
 abbrev pub forks_over : Draft → ℕ → ℕ → Option ℕ → Bool
 forks_over d leaf k None = false
@@ -76,7 +79,9 @@ new_leaf k leaf new = draft_of k (unwrap_or (beside (draft_of k new) leaf) 0)
 
 -- a call to insert links once, where a walk of it ended
 abbrev pub inserts : Knowledge → Search → Op → ℕ → ℕ → Side → ℕ → ℕ → Bool
-inserts k s Insert key p side leaf new = not s.linked && (is_number (new_leaf k leaf new).key key && list_any (may_link_at (draft_of k new) key p side leaf) s.walks)
+inserts k s Insert key p side leaf new =
+    not s.linked && (is_number (new_leaf k leaf new).key key
+    && list_any (may_link_at (draft_of k new) key p side leaf) s.walks)
 inserts k s _ key p side leaf new = false
 
 -- a walk ended by that edge at the leaf, which has key k
@@ -85,7 +90,8 @@ may_flag_at key p side leaf a = is_by leaf p side a && ended_at key a
 
 -- a call to delete flags one leaf, where a walk of it ended
 abbrev pub deletes : Search → Op → ℕ → ℕ → Side → ℕ → Bool
-deletes s Delete key p side leaf = is_none s.flagged && list_any (may_flag_at key p side leaf) s.walks
+deletes s Delete key p side leaf =
+    is_none s.flagged && list_any (may_flag_at key p side leaf) s.walks
 deletes s _ key p side leaf = false
 
 -- `links_in_order`, `flags_in_order`: the log shows that the link, or the flag, is one of the call
@@ -101,8 +107,10 @@ flags_in_order s (Some c) p side leaf = deletes s c.op c.key p side leaf
 -- a link or a flag that is not where a walk of the own operation ended, or a leave without the
 -- answer that the log shows (from Natarajan and Mittal, section 3.2)
 abbrev pub disorder : Knowledge → Search → Event → Option Refused
-disorder k s (Link p side leaf new) = first (not (links_in_order k s s.call p side leaf new) refuses NotOrdered ∷ [])
-disorder k s (Flag p side leaf) = first (not (flags_in_order s s.call p side leaf) refuses NotOrdered ∷ [])
+disorder k s (Link p side leaf new) =
+    first (not (links_in_order k s s.call p side leaf new) refuses NotOrdered ∷ [])
+disorder k s (Flag p side leaf) =
+    first (not (flags_in_order s s.call p side leaf) refuses NotOrdered ∷ [])
 disorder k s (LeaveWith answer) = first (not (shows_call s s.call answer) refuses NoAnswer ∷ [])
 disorder k s Leave = first ((s.linked || is_some s.flagged) refuses NoAnswer ∷ [])
 disorder k s _ = None
@@ -177,7 +185,8 @@ after_in c (t ∷ ts) = after_in (next_in c t) ts
 -- each event with its outcome
 unfoldable pub trace_in : Configuration → List (ℕ × Event) → List Turn
 trace_in c [] = []
-trace_in c (t ∷ ts) = record { worker = t.0; event = t.1; outcome = outcome_in c t } ∷ trace_in (next_in c t) ts
+trace_in c (t ∷ ts) = record { worker = t.0; event = t.1; outcome = outcome_in c t }
+    ∷ trace_in (next_in c t) ts
 
 -- the opening of a core for that layout, which is ordered or not
 abbrev pub opening_of : Layout → Bool → Configuration
@@ -202,7 +211,9 @@ pub record IsReached (c : Configuration) : Type 0 where
 -- a core without searches runs as its state does
 abbrev pub PlainRunsAreRuns : Type 0
 PlainRunsAreRuns = (s : State) (ts : List (ℕ × Event))
-    → (after_in (record { state = s; searches = None }) ts ≡ record { state = after s ts; searches = None }) × (trace_in (record { state = s; searches = None }) ts ≡ trace s ts)
+    → (after_in (record { state = s; searches = None }) ts
+    ≡ record { state = after s ts; searches = None })
+    × (trace_in (record { state = s; searches = None }) ts ≡ trace s ts)
 
 -- the turns that were allowed
 abbrev pub accepted : List Turn → List Turn
@@ -211,17 +222,21 @@ accepted turns = filter (λ t. is_ok t.outcome) turns
 abbrev pub turn_of : Turn → ℕ × Event
 turn_of t = (t.worker, t.event)
 
--- an ordered run is a run: the events that it allows lead from state to state as in a plain run, with the same outcomes
+-- an ordered run is a run: the events that it allows lead from state to state as in a plain run,
+-- with the same outcomes
 abbrev pub IsRunOfAccepted : State → List Turn → State → Type 0
-IsRunOfAccepted s turns t = (t ≡ after s (map turn_of (accepted turns))) × (trace s (map turn_of (accepted turns)) ≡ accepted turns)
+IsRunOfAccepted s turns t = (t ≡ after s (map turn_of (accepted turns)))
+    × (trace s (map turn_of (accepted turns)) ≡ accepted turns)
 
 -- an ordered run is a run of the events that it accepted
 abbrev pub OrderedRunsAreRuns : Type 0
-OrderedRunsAreRuns = (c : Configuration) (ts : List (ℕ × Event)) → IsRunOfAccepted c.state (trace_in c ts) (after_in c ts).state
+OrderedRunsAreRuns = (c : Configuration) (ts : List (ℕ × Event))
+    → IsRunOfAccepted c.state (trace_in c ts) (after_in c ts).state
 
 -- ---- searches and logs
 
 -- in every run of an ordered core, what it keeps of a worker's call is what that worker's log tells
 abbrev pub SearchesTellTheLogs : Type 0
 SearchesTellTheLogs = (L : Layout) (ts : List (ℕ × Event)) (w : ℕ) → w < L.workers
-    → IfSome (after_in (ordered L) ts).searches (λ ss. search_of ss w ≡ search_after idle (log_of w (trace_in (ordered L) ts)))
+    → IfSome (after_in (ordered L) ts).searches
+    (λ ss. search_of ss w ≡ search_after idle (log_of w (trace_in (ordered L) ts)))

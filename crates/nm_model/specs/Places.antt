@@ -24,9 +24,11 @@ abbrev pub StandsAt : State → ℕ → Place → Type 0
 StandsAt s x InPool = in_pool s.memory x ≡ true
 StandsAt s x (PrivateTo w) = is_private (of s w) x ≡ true
 StandsAt s x (OnPath path) = at s.memory path ≡ x
-StandsAt s x (InQueue w origin i) = option_map slot_of (slice_get (queue_of (held (of s w).ledgers origin)) i) ≡ Some x
+StandsAt s x (InQueue w origin i) =
+    option_map slot_of (slice_get (queue_of (held (of s w).ledgers origin)) i) ≡ Some x
 
--- it stands in exactly one place: the pool, one worker's hands, one path, or one index of one queue that one worker holds
+-- it stands in exactly one place: the pool, one worker's hands, one path, or one index of one queue
+-- that one worker holds
 pub record OnePlace (s : State) (x : ℕ) : Type 0 where
   pub place : Place
   pub here : StandsAt s x place

@@ -1,4 +1,5 @@
--- A whole run, as it is told: each event with its outcome, and at the end each worker's ledger, the epoch and how many slots above 5 stand where.
+-- A whole run, as it is told: each event with its outcome, and at the end each worker's ledger, the
+-- epoch and how many slots above 5 stand where.
 use Rattle.std.specs.Prelude.{ℕ, zero, suc, ◌+◌, ◌-◌, ◌==◌, nat_lt, ◌&&◌, true, false, List, [], ◌∷◌, ◌++◌, map, length, filter, sum_by, Option, Some, None, if◌then◌else◌, is_some}
 use Rattle.std.specs.List.{range_with_len, filter_map}
 use Rattle.nm_edge.specs.Layouts.{Layout}
@@ -21,7 +22,8 @@ use Rattle.nm_model.specs.Ordered.{Configuration, ordered, after_in, trace_in}
 -- the first of these workers, numbered from w on, that holds the ledger of an origin
 abbrev pub holder_from : ℕ → List Knowledge → ℕ → Option ℕ
 holder_from w [] origin = None
-holder_from w (k ∷ ks) origin = if is_some (held k.ledgers origin) then Some w else holder_from (w + 1) ks origin
+holder_from w (k ∷ ks) origin =
+    if is_some (held k.ledgers origin) then Some w else holder_from (w + 1) ks origin
 
 -- `holder`, `ledger_of`: the worker that holds the ledger of an origin, and that ledger
 abbrev pub holder : State → ℕ → Option ℕ
@@ -40,7 +42,11 @@ ledger_of s origin = ledger_among s.workers origin
 -- the slots of the tree below a slot, that slot first, at most fuel deep
 abbrev pub tree_slots : ℕ → Memory → ℕ → List ℕ
 tree_slots zero m s = []
-tree_slots (suc fuel) m s = elim (s == 0) [ true ↦ [] | false ↦ s ∷ tree_slots fuel m (child m s Left) ++ tree_slots fuel m (child m s Right) ]
+tree_slots (suc fuel) m s = elim (s == 0) [
+  | true ↦ []
+  | false ↦ s ∷ tree_slots fuel m (child m s Left)
+      ++ tree_slots fuel m (child m s Right)
+]
 
 -- how many slots are private to these workers
 abbrev pub all_private : List Knowledge → ℕ
@@ -75,7 +81,8 @@ keys_below fuel m s = filter_map (λ x. set_key (node m x)) (tree_slots fuel m s
 
 -- the parts of the tree below a slot, the right one first
 abbrev pub below : Memory → ℕ → ℕ → List Subtree
-below m s depth = record { slot = child m s Right; depth = depth } ∷ record { slot = child m s Left; depth = depth } ∷ []
+below m s depth = record { slot = child m s Right; depth = depth }
+    ∷ record { slot = child m s Left; depth = depth } ∷ []
 
 -- the keys of the reached leaves, from left to right, without the fixed ones
 abbrev pub keys : State → List ℕ

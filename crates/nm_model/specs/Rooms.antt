@@ -1,4 +1,5 @@
--- Searches as the code keeps them: with the room of their lists. What they tell is in Searches, and what an ordered core is in Ordered.
+-- Searches as the code keeps them: with the room of their lists. What they tell is in Searches, and
+-- what an ordered core is in Ordered.
 use Rattle.std.specs.Prelude.{ℕ, ◌<◌, List, map, length, slice_index_or, Some}
 use Rattle.nm_model.specs.declared.event.Event.{Event}
 use Rattle.nm_model.specs.declared.event.Event.TheVariants.{Look}

@@ -26,7 +26,11 @@ of s w = slice_index_or s.workers w (newcomer s.layout w)
 
 -- the empty tree, and workers that have done nothing yet
 abbrev pub start : Layout → State
-start L = record { layout = L; memory = opening L; workers = map (newcomer L) (range_with_len 0 L.workers) }
+start L = record {
+  layout = L;
+  memory = opening L;
+  workers = map (newcomer L) (range_with_len 0 L.workers);
+}
 
 -- ---- one event
 
@@ -57,7 +61,8 @@ reply_of s w e = reply s.layout s.memory (of s w) e
 
 -- a worker learns from its own events alone, but for a join, which both workers learn of
 abbrev pub taught : State → ℕ → Event → Reply → List Knowledge
-taught s w (Join v) r = slice_set (slice_set s.workers w (learn w (of s w) (Join v) r)) v (learn v (of s v) (Join v) r)
+taught s w (Join v) r = slice_set (slice_set s.workers w (learn w (of s w) (Join v) r)) v
+    (learn v (of s v) (Join v) r)
 taught s w e r = slice_set s.workers w (learn w (of s w) e r)
 
 -- the state after an event that is allowed

@@ -1,4 +1,5 @@
--- Worked schedules: the events with the outcome of each, and the ledgers, the epoch and the counts at the end.
+-- Worked schedules: the events with the outcome of each, and the ledgers, the epoch and the counts
+-- at the end.
 use Rattle.std.specs.Prelude.{◌≡◌, ℕ, Bool, true, false, List, [], ◌∷◌, map, Option, Some, None, Result, Ok, Err}
 use Rattle.nm_edge.specs.Edges.{Edge}
 use Rattle.nm_edge.specs.Layouts.{Layout, dense}
@@ -26,13 +27,24 @@ pub record Worked : Type 0 where
   pub epoch : ℕ
   pub counts : Places
 
--- played from the opening, the events have these outcomes, and lead to these ledgers, this epoch and these counts
+-- played from the opening, the events have these outcomes, and lead to these ledgers, this epoch
+-- and these counts
 abbrev pub IsAsWorked : Worked → Type 0
-IsAsWorked x = report x.layout (map (λ t. (t.worker, t.event)) x.turns) ≡ record { trace = x.turns; ledgers = x.ledgers; epoch = x.epoch; counts = x.counts }
+IsAsWorked x = report x.layout (map (λ t. (t.worker, t.event)) x.turns)
+    ≡ record { trace = x.turns; ledgers = x.ledgers; epoch = x.epoch; counts = x.counts }
 
 -- the same in an ordered core, with these keys at the end
 abbrev pub IsAsWorkedInOrder : Worked → List ℕ → Type 0
-IsAsWorkedInOrder x keys = ordered_report x.layout (map (λ t. (t.worker, t.event)) x.turns) ≡ record { report = record { trace = x.turns; ledgers = x.ledgers; epoch = x.epoch; counts = x.counts }; keys = keys }
+IsAsWorkedInOrder x keys = ordered_report x.layout (map (λ t. (t.worker, t.event)) x.turns)
+    ≡ record {
+      report = record {
+        trace = x.turns;
+        ledgers = x.ledgers;
+        epoch = x.epoch;
+        counts = x.counts;
+      };
+      keys = keys;
+    }
 
 -- `t`, `e`, `n`, `q`, `l`: a turn, an edge, a node, a queued node and a ledger, in short
 abbrev pub t : ℕ → Event → Result Reply Refused → Turn
@@ -237,7 +249,9 @@ long_chain = record {
       [];
   ledgers =
       l ([]) ([]) ([]) ∷
-      l ((n 8 1) ∷ (n 7 1) ∷ (n 10 1) ∷ (n 9 1) ∷ []) ([]) ((q (n 8 1) (Some 0)) ∷ (q (n 7 1) (Some 0)) ∷ (q (n 10 1) (Some 0)) ∷ (q (n 9 1) (Some 0)) ∷ []) ∷
+      l ((n 8 1) ∷ (n 7 1) ∷ (n 10 1) ∷ (n 9 1) ∷ []) ([])
+      ((q (n 8 1) (Some 0)) ∷ (q (n 7 1) (Some 0)) ∷ (q (n 10 1) (Some 0))
+      ∷ (q (n 9 1) (Some 0)) ∷ []) ∷
       [];
   epoch = 0;
   counts = record { pool = 5; private = 0; reached = 2; queued = 4 };

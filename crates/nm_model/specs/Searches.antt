@@ -1,4 +1,5 @@
--- What one worker's log tells of the operation of its pin: the walks for its key, and what it changed.
+-- What one worker's log tells of the operation of its pin: the walks for its key, and what it
+-- changed.
 use Rattle.std.specs.Prelude.{ℕ, ◌==◌, nat_lt, Bool, true, false, ◌&&◌, ◌||◌, List, [], ◌∷◌, ◌++◌, map, if◌then◌else◌, Option, Some, None, is_none}
 use Rattle.std.specs.List.{list_any}
 use Rattle.nm_edge.specs.declared.edge.Side.{Side}
@@ -48,11 +49,13 @@ is_first slot side = (slot == 2) && is_side side Left
 -- afterwards, and whether its edge on the key's side was then read as null, are told later
 -- (Natarajan and Mittal, section 3.2, seek, as facts that stay)
 abbrev pub new_arrival : ℕ → ℕ → Side → Arrival
-new_arrival slot parent side = record { slot = slot; parent = parent; side = side; key = None; ended = false }
+new_arrival slot parent side =
+    record { slot = slot; parent = parent; side = side; key = None; ended = false }
 
 -- a walk came to a slot; the same arrival is not entered twice
 abbrev pub with_arrival : List Arrival → ℕ → ℕ → Side → List Arrival
-with_arrival ws slot parent side = if list_any (is_by slot parent side) ws then ws else ws ++ new_arrival slot parent side ∷ []
+with_arrival ws slot parent side =
+    if list_any (is_by slot parent side) ws then ws else ws ++ new_arrival slot parent side ∷ []
 
 -- the slot's key was looked at: each walk that waits for it has it
 abbrev pub keyed : ℕ → ℕ → Arrival → Arrival
@@ -66,7 +69,8 @@ ended k slot side a = if goes_on k slot side a then record a { ended = true } el
 abbrev pub walk_edge : ℕ → List Arrival → ℕ → Side → ℕ → List Arrival
 walk_edge k ws slot side child =
     if child == 0 then map (ended k slot side) ws
-    else if is_first slot side || list_any (goes_on k slot side) ws then with_arrival ws child slot side
+    else if is_first slot side || list_any (goes_on k slot side) ws
+    then with_arrival ws child slot side
     else ws
 
 -- how a look adds to the walks for k
@@ -77,8 +81,8 @@ walked k ws slot _ _ = ws
 
 -- ---- a search
 
--- the call; whether it linked; the leaf that it flagged, and whether a splice of its own cut that leaf;
--- where its walks came, and where those came that began after the flag
+-- the call; whether it linked; the leaf that it flagged, and whether a splice of its own cut that
+-- leaf; where its walks came, and where those came that began after the flag
 pub record Search : Type 0 where
   pub call : Option Call
   pub linked : Bool
@@ -93,7 +97,14 @@ idle = record { call = None; linked = false; flagged = None; cut = false; walks 
 
 -- a pin is confirmed for a call, or for none
 abbrev pub begun : Search → Option Call → Reply → Search
-begun s call (Pinned e) = record { call = call; linked = false; flagged = None; cut = false; walks = []; later = [] }
+begun s call (Pinned e) = record {
+  call = call;
+  linked = false;
+  flagged = None;
+  cut = false;
+  walks = [];
+  later = [];
+}
 begun s call _ = s
 
 -- `left`, `look_for`, `linked`, `flagged`, `spliced`: what a leave, a look, a link, a flag and a
@@ -109,7 +120,11 @@ later_walked (Some n) k ws slot field r = walked k ws slot field r
 
 abbrev pub look_for : Search → Option Call → ℕ → Field → Reply → Search
 look_for s None slot field r = s
-look_for s (Some c) slot field r = record s { walks = walked c.key s.walks slot field r; later = later_walked s.flagged c.key s.later slot field r }
+look_for s (Some c) slot field r =
+    record s {
+      walks = walked c.key s.walks slot field r;
+      later = later_walked s.flagged c.key s.later slot field r;
+    }
 
 -- the flagged leaf is one of these nodes
 abbrev pub is_flagged_in : Option NodeId → List NodeId → Bool

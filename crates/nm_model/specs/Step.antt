@@ -79,7 +79,9 @@ is_early d _ v b = is_none d.birth
 
 -- a private slot that is filled as a leaf
 abbrev pub is_leaf_draft : Knowledge → ℕ → Bool
-is_leaf_draft k s = is_private k s && (is_some (draft_of k s).key && (is_number (draft_of k s).left 0 && is_number (draft_of k s).right 0))
+is_leaf_draft k s = is_private k s
+    && (is_some (draft_of k s).key
+    && (is_number (draft_of k s).left 0 && is_number (draft_of k s).right 0))
 
 -- filled as an internal node over the leaf
 abbrev pub is_fork_over : Draft → ℕ → Bool
@@ -87,11 +89,13 @@ is_fork_over d leaf = is_some d.key && (is_number d.left leaf || is_number d.rig
 
 -- a private slot that is filled as an internal node, over the leaf and a private leaf
 abbrev pub is_linkable : Knowledge → ℕ → ℕ → Bool
-is_linkable k new leaf = is_fork_over (draft_of k new) leaf && is_leaf_draft k (unwrap_or (beside (draft_of k new) leaf) 0)
+is_linkable k new leaf = is_fork_over (draft_of k new) leaf
+    && is_leaf_draft k (unwrap_or (beside (draft_of k new) leaf) 0)
 
 -- a chain of known tagged edges with flagged twins, from s to p and on by the edge on keep
 abbrev pub is_frozen : Layout → Knowledge → ℕ → ℕ → Side → Bool
-is_frozen L k s p keep = is_some (way L.nodes k s p) && (is_tagged (read k p keep) && is_flagged (read k p (other keep)))
+is_frozen L k s p keep = is_some (way L.nodes k s p)
+    && (is_tagged (read k p keep) && is_flagged (read k p (other keep)))
 
 -- what a slot that is not private must be to be given back
 abbrev pub free_checks : Knowledge → ℕ → List Check
@@ -105,16 +109,21 @@ free_checks k s =
 -- (A join is judged by what both workers know: see Runs.)
 unfoldable pub refusal : Layout → Memory → Knowledge → ℕ → Event → Option Refused
 refusal L m k w Sight = None
-refusal L m k w (SightFor op key) = first ((is_none k.brief.note || is_some k.brief.pin) refuses NotReady ∷ [])
-refusal L m k w Announce = first ((is_none k.brief.seen || is_some k.brief.pin) refuses NotReady ∷ [])
+refusal L m k w (SightFor op key) =
+    first ((is_none k.brief.note || is_some k.brief.pin) refuses NotReady ∷ [])
+refusal L m k w Announce = first
+    ((is_none k.brief.seen || is_some k.brief.pin) refuses NotReady ∷ [])
 refusal L m k w Leave = first (k.brief.unlabelled refuses NotReady ∷ [])
 refusal L m k w (LeaveWith answer) = first (k.brief.unlabelled refuses NotReady ∷ [])
-refusal L m k w (Scan u) = first (nat_le L.workers u refuses NoWorker ∷ is_none k.brief.seen refuses NotReady ∷ [])
+refusal L m k w (Scan u) = first
+    (nat_le L.workers u refuses NoWorker ∷ is_none k.brief.seen refuses NotReady ∷ [])
 refusal L m k w Advance = first (
-    (is_none k.brief.seen || (not (others_scanned w k.scanned) || is_held_back k.brief.pin k.brief.seen)) refuses NotReady
+    (is_none k.brief.seen || (not (others_scanned w k.scanned)
+    || is_held_back k.brief.pin k.brief.seen)) refuses NotReady
     ∷ nat_le last_number (unwrap_or k.brief.seen 0) refuses Spent ∷ [])
 refusal L m k w (Claim s) = first (outside 6 L.nodes s refuses NoSlot ∷ [])
-refusal L m k w (Give s) = first (outside 6 L.nodes s refuses NoSlot ∷ (if is_private k s then [] else free_checks k s))
+refusal L m k w (Give s) = first
+    (outside 6 L.nodes s refuses NoSlot ∷ (if is_private k s then [] else free_checks k s))
 refusal L m k w (Look s f) = first (
     outside 1 L.nodes s refuses NoSlot
     ∷ (not (is_private k s) && is_none k.brief.pin) refuses NotPinned
@@ -207,10 +216,12 @@ reply L m k (Claim s) = if in_pool m s then Claimed s else Taken
 reply L m k (Give s) = if is_private k s then Returned s else Freed (node_of (front_of k.ledgers s))
 reply L m k (Look s f) = reply_look (node m s) f
 reply L m k (Fill s f v) = Filled
-reply L m k (Link p side leaf new) = reply_exchange (edge m p side) leaf (Linked (node_linked k new))
+reply L m k (Link p side leaf new) =
+    reply_exchange (edge m p side) leaf (Linked (node_linked k new))
 reply L m k (Flag p side leaf) = reply_exchange (edge m p side) leaf (Flagged (named m leaf))
 reply L m k (Tag p side) = Was (edge m p side)
-reply L m k (Splice a side s p keep) = reply_exchange (edge m a side) s (Cut (cut_nodes L m k s p keep))
+reply L m k (Splice a side s p keep) =
+    reply_exchange (edge m a side) s (Cut (cut_nodes L m k s p keep))
 -- (this row is never answered: a join's reply is by what its leaver knows, by reply_of of Runs)
 reply L m k (Join v) = Joined []
 

@@ -10,16 +10,22 @@ use Rattle.nm_model.specs.Lawful.{LabelsDoNotFall, NoLabelIsAboveTheEpoch, Brief
 
 -- of every ledger, what was retired is what was freed and then what waits
 abbrev pub LedgersAreSplit : State → Type 0
-LedgersAreSplit s = (w origin : ℕ) (l : Ledger) → held (of s w).ledgers origin ≡ Some l → IsFreedThenQueue l
+LedgersAreSplit s = (w origin : ℕ) (l : Ledger) → held (of s w).ledgers origin ≡ Some l
+    → IsFreedThenQueue l
 
 -- each ledger grew by the cuts of the turns so far, whoever holds it
 abbrev pub LedgersGrowByTheCuts : (ℕ → State) → List Turn → Type 0
-LedgersGrowByTheCuts states turns = (i w v origin : ℕ) (l m : Ledger) → held (of (states 0) w).ledgers origin ≡ Some l → held (of (states i) v).ledgers origin ≡ Some m
+LedgersGrowByTheCuts states turns =
+    (i w v origin : ℕ) (l m : Ledger) → held (of (states 0) w).ledgers origin ≡ Some l
+    → held (of (states i) v).ledgers origin ≡ Some m
     → GrewByTheCuts origin (take i turns) l m
 
--- and what was freed of it grew by the nodes that gives freed in those turns of those that were retired there
+-- and what was freed of it grew by the nodes that gives freed in those turns of those that were
+-- retired there
 abbrev pub LedgersFreeWhatGivesFreed : (ℕ → State) → List Turn → Type 0
-LedgersFreeWhatGivesFreed states turns = (i w v origin : ℕ) (l m : Ledger) → held (of (states 0) w).ledgers origin ≡ Some l → held (of (states i) v).ledgers origin ≡ Some m
+LedgersFreeWhatGivesFreed states turns =
+    (i w v origin : ℕ) (l m : Ledger) → held (of (states 0) w).ledgers origin ≡ Some l
+    → held (of (states i) v).ledgers origin ≡ Some m
     → m.freed ≡ l.freed ++ freed_among m.retired (take i turns)
 
 -- ---- the sentences of one state, and of one run

@@ -63,8 +63,10 @@ pub data IsPart {X : Type 0} : List X → List X → Type 0 where
 -- side (Natarajan and Mittal, section 3.2, seek)
 pub data Leads (k : ℕ) : List Entry → ℕ → ℕ → Side → Type 0 where
   begins : (e : Edge) → e.slot ≢ 0 → Leads k ((Look 2 (EdgeOn Left), EdgeIs e) ∷ []) e.slot 2 Left
-  leads_on : {looks : List Entry} {slot parent : ℕ} {side : Side} → Leads k looks slot parent side → (v : ℕ) (e : Edge) → e.slot ≢ 0
-      → Leads k (looks ++ (Look slot Key, KeyIs v) ∷ (Look slot (EdgeOn (side_of k v)), EdgeIs e) ∷ []) e.slot slot (side_of k v)
+  leads_on : {looks : List Entry} {slot parent : ℕ} {side : Side} → Leads k looks slot parent side
+      → (v : ℕ) (e : Edge) → e.slot ≢ 0
+      → Leads k (looks ++ (Look slot Key, KeyIs v) ∷ (Look slot (EdgeOn (side_of k v)), EdgeIs e)
+      ∷ []) e.slot slot (side_of k v)
 
 -- a walk in a log came to the slot by that edge: its looks are a part of the log, in order, with
 -- gaps between them (Natarajan and Mittal, section 3.2, seek)
@@ -74,23 +76,27 @@ pub record WalkComes (k : ℕ) (log : List Entry) (slot parent : ℕ) (side : Si
   pub is_part : IsPart looks log
 
 -- and then it looked at the slot's key (Natarajan and Mittal, section 3.2, seek)
-pub record WalkReads (k : ℕ) (log : List Entry) (slot parent : ℕ) (side : Side) (key : ℕ) : Type 0 where
+pub record WalkReads (k : ℕ) (log : List Entry) (slot parent : ℕ) (side : Side)
+    (key : ℕ) : Type 0 where
   pub looks : List Entry
   pub leads : Leads k looks slot parent side
   pub is_part : IsPart (looks ++ (Look slot Key, KeyIs key) ∷ []) log
 
 -- and then at the slot's edge on k's side, which was null: it ended at that leaf (Natarajan and
 -- Mittal, section 3.2, seek)
-pub record WalkEnds (k : ℕ) (log : List Entry) (slot parent : ℕ) (side : Side) (key : ℕ) : Type 0 where
+pub record WalkEnds (k : ℕ) (log : List Entry) (slot parent : ℕ) (side : Side)
+    (key : ℕ) : Type 0 where
   pub looks : List Entry
   pub leads : Leads k looks slot parent side
   pub null : Edge
   pub is_null : null.slot ≡ 0
-  pub is_part : IsPart (looks ++ (Look slot Key, KeyIs key) ∷ (Look slot (EdgeOn (side_of k key)), EdgeIs null) ∷ []) log
+  pub is_part : IsPart (looks ++ (Look slot Key, KeyIs key)
+      ∷ (Look slot (EdgeOn (side_of k key)), EdgeIs null) ∷ []) log
 
 -- ---- what a search knows is so
 
--- an arrival is one of a walk in the log; where it has a key, a walk looked at it; where it has ended, a walk ended
+-- an arrival is one of a walk in the log; where it has a key, a walk looked at it; where it has
+-- ended, a walk ended
 pub record IsOfWalk (k : ℕ) (log : List Entry) (a : Arrival) : Type 0 where
   pub comes : WalkComes k log a.slot a.parent a.side
   pub reads : (v : ℕ) → a.key ≡ Some v → WalkReads k log a.slot a.parent a.side v
@@ -98,7 +104,8 @@ pub record IsOfWalk (k : ℕ) (log : List Entry) (a : Arrival) : Type 0 where
 
 -- of every log, each arrival is that of a walk since the pin was confirmed
 abbrev pub ArrivalsAreWalks : Type 0
-ArrivalsAreWalks = (log : List Entry) (c : Call) → (search_after idle log).call ≡ Some c → All (IsOfWalk c.key (since_pin [] log)) (search_after idle log).walks
+ArrivalsAreWalks = (log : List Entry) (c : Call) → (search_after idle log).call ≡ Some c
+    → All (IsOfWalk c.key (since_pin [] log)) (search_after idle log).walks
 
 -- an arrival stays, with its key and its end once it has them
 pub record GrowsTo (a b : Arrival) : Type 0 where
@@ -117,4 +124,5 @@ pub record SearchGrows (s t : Search) : Type 0 where
 
 -- while a pin stands, what its search knows only grows
 abbrev pub SearchesOnlyGrow : Type 0
-SearchesOnlyGrow = (s : Search) (e : Event) (r : Reply) → begins_anew (e, r) ≡ false → SearchGrows s (searched s e r)
+SearchesOnlyGrow = (s : Search) (e : Event) (r : Reply) → begins_anew (e, r) ≡ false
+    → SearchGrows s (searched s e r)

@@ -139,7 +139,8 @@ impl Arrival {
         self.ended && self.key != Some(key.get())
     }
 
-    // Whether a walk ended at the leaf by that edge, and the draft puts the key beside that of the leaf.
+    // Whether a walk ended at the leaf by that edge, and the draft puts the key beside that of the
+    // leaf.
     fn may_link(self, draft: Draft, key: Key, parent: u32, side: Side, leaf: u32) -> bool
         ensures { result ≡ may_link_at draft key parent side leaf self }
     {
@@ -246,7 +247,8 @@ pub fn has_ended_elsewhere(arrivals: &Vec<Arrival>, slot: u32) -> bool
         .any(|arrival| arrival.ended && arrival.slot != slot)
 }
 
-/// Whether a walk for the key ended at the leaf by that edge, with another key, and the draft puts both in order.
+/// Whether a walk for the key ended at the leaf by that edge, with another key, and the draft puts
+/// both in order.
 pub fn may_link(
     arrivals: &Vec<Arrival>,
     draft: Draft,

@@ -32,7 +32,8 @@ pub enum Op {
     Delete,
 }
 
-/// One atomic step of a worker: one load, store, `fetch_or` or exchange of one word, with what the worker learns by it.
+/// One atomic step of a worker: one load, store, `fetch_or` or exchange of one word, with what the
+/// worker learns by it.
 #[derive(Clone, Copy, Debug, PartialEq, Eq)]
 pub enum Event {
     /// Reads the global epoch, which may confirm a pin or label a cut.
@@ -57,9 +58,11 @@ pub enum Event {
     Look(u32, Field),
     /// Stores a field of a private slot.
     Fill(u32, Field, u64),
-    /// Exchanges the edge of a parent, on a side, from a leaf to a new internal node: parent, side, leaf, new.
+    /// Exchanges the edge of a parent, on a side, from a leaf to a new internal node: parent, side,
+    /// leaf, new.
     Link(u32, Side, u32, u32),
-    /// Exchanges the edge of a parent, on a side, from a leaf to that leaf flagged: parent, side, leaf.
+    /// Exchanges the edge of a parent, on a side, from a leaf to that leaf flagged: parent, side,
+    /// leaf.
     Flag(u32, Side, u32),
     /// Sets the tag of the edge of a parent on a side.
     Tag(u32, Side),

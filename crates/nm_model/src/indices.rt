@@ -43,7 +43,8 @@ impl Indices {
 
 // A slot has an entry at this index, behind its others.
 fn put_index(indices: &mut SlotMap<Indices>, slot: u32, index: usize) -> Result<(), AllocError>
-    ensures ok { OnOk result (indices.new ≡ put indices.old slot (with_index (get indices.old slot) index)) }
+    ensures ok { OnOk result (indices.new
+        ≡ put indices.old slot (with_index (get indices.old slot) index)) }
     ensures err { OnErr result (indices.new ≡ indices.old) }
 {
     let known = indices.get(slot);

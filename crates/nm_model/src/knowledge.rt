@@ -108,8 +108,8 @@ impl Draft {
         self.key == Some(key.get())
     }
 
-    /// Whether it is filled as an internal node over a leaf with another key and a new leaf with this one:
-    /// with the greater of both keys, and the lesser leaf on the left.
+    /// Whether it is filled as an internal node over a leaf with another key and a new leaf with
+    /// this one: with the greater of both keys, and the lesser leaf on the left.
     pub fn is_fork_for(self, leaf: u32, key: Key, other: u64) -> bool
         ensures { result ≡ is_fork_for self leaf key other }
     {

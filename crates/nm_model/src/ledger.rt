@@ -1,4 +1,5 @@
-//! What a worker's splices cut off: the nodes that it retired, those of them that were freed, and the queue of the rest.
+//! What a worker's splices cut off: the nodes that it retired, those of them that were freed, and
+//! the queue of the rest.
 ghost use Rattle.std.specs.Prelude.{◌≡◌, ◌+◌, ◌++◌, nat_lt, unwrap_or, [], ◌∷◌, length, take, IfOk, OnOk, OnErr};
 ghost use Rattle.nm_model.specs.Queues.{with_label};
 ghost use Rattle.nm_model.specs.Ledgers.{fresh_ledger, with_cut, labelled, with_freed};
@@ -17,7 +18,8 @@ pub struct Queued {
 }
 
 impl Queued {
-    /// Whether its label and 2 more are above the epoch that was seen, or it has no label and the epoch is below 2.
+    /// Whether its label and 2 more are above the epoch that was seen, or it has no label and the
+    /// epoch is below 2.
     pub fn is_young(self, seen: u64) -> bool
         ensures { result ≡ nat_lt seen (unwrap_or self.label 0 + 2) }
     {
@@ -51,7 +53,8 @@ impl Model for Nodes {
     ghost view = { λ n. n.items.items };
 }
 
-/// What the splices of one worker cut off. The retired nodes are the freed ones and then those of the queue.
+/// What the splices of one worker cut off. The retired nodes are the freed ones and then those of
+/// the queue.
 #[derive(Debug, Drop)]
 pub struct Ledger {
     /// The nodes that were cut off, in order.

@@ -40,7 +40,8 @@ impl Ledgers {
     /// The ledger of a worker that has cut nothing, among so many.
     pub fn own(alloc: Global, origins: usize, origin: usize) -> Result<Ledgers, AllocError>
         requires { origin < origins }
-        ensures { IfOk result (λ ledgers. ledgers ≡ slice_set (replicate origins None) origin (Some fresh_ledger)) }
+        ensures { IfOk result (λ ledgers. ledgers
+            ≡ slice_set (replicate origins None) origin (Some fresh_ledger)) }
     {
         let mut ledgers = Ledgers::none(alloc, origins)?;
         ledgers.by_origin[origin] = Some(Ledger::new(alloc));

@@ -6,7 +6,8 @@ use nm_edge::{LEAST_NODES, Layout, LayoutError, MOST_NODES, MOST_SPACED_NODES, M
 use std::alloc::AllocError;
 use thiserror::Error;
 
-/// Why no core, and no tree, was made. Where several reasons hold, the first of this order is answered.
+/// Why no core, and no tree, was made. Where several reasons hold, the first of this order is
+/// answered.
 #[derive(Clone, Copy, Debug, PartialEq, Eq, Error)]
 pub enum NewError {
     /// Fewer than 7 nodes, or more than there may be.
@@ -31,12 +32,15 @@ impl From<AllocError> for NewError {
     }
 }
 
-/// The layout of so many nodes and workers, or why there is none: 7 to 1,048,576 nodes, and 1 to 64 workers. It is never for want of memory.
+/// The layout of so many nodes and workers, or why there is none: 7 to 1,048,576 nodes, and 1 to 64
+/// workers. It is never for want of memory.
 pub fn layout_of(nodes: u32, workers: u32) -> Result<Layout, NewError>
     ensures layout { IfOk result (λ layout. layout ≡ dense nodes workers) }
     ensures fits { IfOk result IsLayout }
     ensures nodes { IsErrOf result NewError.Nodes ↔ ((nodes < LEAST_NODES) ⊎ (MOST_NODES < nodes)) }
-    ensures workers { IsErrOf result NewError.Workers ↔ ((LEAST_NODES ≤ nodes) × (nodes ≤ MOST_NODES) × ((workers < 1) ⊎ (MOST_WORKERS < workers))) }
+    ensures workers { IsErrOf result NewError.Workers
+        ↔ ((LEAST_NODES ≤ nodes) × (nodes ≤ MOST_NODES)
+        × ((workers < 1) ⊎ (MOST_WORKERS < workers))) }
     ensures memory { IfErr result (λ e. e ≢ NewError.NoMemory) }
 {
     match Layout::new(nodes, workers) {
@@ -45,13 +49,17 @@ pub fn layout_of(nodes: u32, workers: u32) -> Result<Layout, NewError>
     }
 }
 
-/// The layout of so many nodes and workers, in which each announcement has a cache line of its own, or why there is none: 7 to 268,435,456 nodes, and 1
-/// to 64 workers. It is never for want of memory.
+/// The layout of so many nodes and workers, in which each announcement has a cache line of its own,
+/// or why there is none: 7 to 268,435,456 nodes, and 1 to 64 workers. It is never for want of
+/// memory.
 pub fn spaced_layout_of(nodes: u32, workers: u32) -> Result<Layout, NewError>
     ensures layout { IfOk result (λ layout. layout ≡ spaced nodes workers) }
     ensures fits { IfOk result IsLayout }
-    ensures nodes { IsErrOf result NewError.Nodes ↔ ((nodes < LEAST_NODES) ⊎ (MOST_SPACED_NODES < nodes)) }
-    ensures workers { IsErrOf result NewError.Workers ↔ ((LEAST_NODES ≤ nodes) × (nodes ≤ MOST_SPACED_NODES) × ((workers < 1) ⊎ (MOST_WORKERS < workers))) }
+    ensures nodes { IsErrOf result NewError.Nodes
+        ↔ ((nodes < LEAST_NODES) ⊎ (MOST_SPACED_NODES < nodes)) }
+    ensures workers { IsErrOf result NewError.Workers
+        ↔ ((LEAST_NODES ≤ nodes) × (nodes ≤ MOST_SPACED_NODES)
+        × ((workers < 1) ⊎ (MOST_WORKERS < workers))) }
     ensures memory { IfErr result (λ e. e ≢ NewError.NoMemory) }
 {
     match Layout::spaced(nodes, workers) {

@@ -63,8 +63,9 @@ impl Queue {
         }
     }
 
-    // The first entry of a slot. A look through the queue is taken only where the slot may stand in it twice: no run leads to that,
-    // and it may only seem so once a node could not be noted for want of memory.
+    // The first entry of a slot. A look through the queue is taken only where the slot may stand in
+    // it twice: no run leads to that, and it may only seem so once a node could not be noted for
+    // want of memory.
     pub fn find(&self, slot: u32) -> Option<Queued>
         ensures { result ≡ entry_at self.now slot }
     {
@@ -165,7 +166,8 @@ fn append_unlabelled(entries: &mut Vec<Queued>, nodes: &[NodeId]) -> Result<(), 
 // Labels the entries from an index on; those before it have a label.
 fn label_from(entries: &mut Vec<Queued>, from: usize, label: u64)
     requires fits { from ≤ length entries.old.items }
-    requires stays { map (with_label label) (take from entries.old.items) ≡ take from entries.old.items }
+    requires stays { map (with_label label) (take from entries.old.items)
+        ≡ take from entries.old.items }
     ensures { entries.new.items ≡ map (with_label label) entries.old.items }
 {
     for index in from..entries.len() {

@@ -49,7 +49,8 @@ pub enum Reply {
     Flagged(NodeId),
     /// The edge before it was tagged.
     Was(Edge),
-    /// The nodes that were cut off, from the successor downwards, each internal node and then its flagged leaf.
+    /// The nodes that were cut off, from the successor downwards, each internal node and then its
+    /// flagged leaf.
     Cut(Nodes),
     /// The exchange was lost: the edge that was found.
     Lost(Edge),
@@ -57,7 +58,8 @@ pub enum Reply {
     Joined(Ledgers),
 }
 
-/// Why an event was refused. Where several reasons hold, the first of this order is answered. The state is as it was.
+/// Why an event was refused. Where several reasons hold, the first of this order is answered. The
+/// state is as it was.
 #[derive(Clone, Copy, Debug, PartialEq, Eq)]
 pub enum Refused {
     /// A worker number isn't below the number of workers, or that worker has resigned.
@@ -70,7 +72,8 @@ pub enum Refused {
     NotHeld,
     /// The slot isn't private to this worker; for a give, nor in a queue that it holds.
     NotPrivate,
-    /// No sight yet, a pin that is in the way, an unlabelled cut, an unfinished scan or an unfilled node.
+    /// No sight yet, a pin that is in the way, an unlabelled cut, an unfinished scan or an unfilled
+    /// node.
     NotReady,
     /// The node isn't the front of a queue that the worker holds.
     NotFront,

@@ -1,4 +1,5 @@
--- What one entry of a log does to a list of arrivals: those that were there stay, and a look that goes on with a walk leaves an arrival of it.
+-- What one entry of a log does to a list of arrivals: those that were there stay, and a look that
+-- goes on with a walk leaves an arrival of it.
 use Rattle.std.proofs.Common.{◌≡◌, ◌≢◌, ℕ, ◌==◌, Bool, true, false, cond, ◌&&◌, ◌||◌, List, [], ◌∷◌, ◌++◌, map, refl, ap, ◌∙◌}
 use Rattle.std.specs.Prelude.{Option, Some, None, is_none, slice_get, Contains}
 use Rattle.std.specs.List.{list_any}

@@ -1,4 +1,5 @@
--- Of the walks of a call: those since the flag keep the law of the others, and where a walk has ended its worker knows a leaf.
+-- Of the walks of a call: those since the flag keep the law of the others, and where a walk has
+-- ended its worker knows a leaf.
 use Rattle.std.proofs.Common.{◌≡◌, ◌≢◌, ℕ, inl, inr, eqb, ◌==◌, Bool, true, false, cond, ◌&&◌, ◌||◌, List, [], ◌∷◌, ◌++◌, map, refl, sym, ap, subst, ◌∙◌, arith, true≢false, get_or-set_same, get_or-set_other}
 use Rattle.std.specs.Prelude.{Option, Some, None, slice_get, is_none}
 use Rattle.std.specs.List.{list_any}

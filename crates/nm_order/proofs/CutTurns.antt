@@ -1,4 +1,5 @@
--- What one turn of an ordered run does to a reached slot: it is reached still, or the turn cuts it and names it in its reply.
+-- What one turn of an ordered run does to a reached slot: it is reached still, or the turn cuts it
+-- and names it in its reply.
 use Rattle.std.proofs.Common.{◌≡◌, ◌≢◌, ℕ, zero, suc, ◌≤◌, inl, inr, ◌⊎◌, Bool, true, false, List, [], ◌∷◌, map, refl, sym, ap, subst, ◌∙◌, arith, true≢false}
 use Rattle.std.specs.Prelude.{Option, Some, None, Result, Ok, Err, slice_get, Contains, ◌↔◌}
 use Rattle.std.proofs.lemmas.Option.{none-some, same_Some, slice_get-get_or, slice_get_within, get_or_from_slice_get}

@@ -1,5 +1,5 @@
--- Where each edge comes from that is reached after an event: it is one that was reached, but for its tag; it was flagged by the event;
--- or it leads to a node that the event put in, or to none.
+-- Where each edge comes from that is reached after an event: it is one that was reached, but for
+-- its tag; it was flagged by the event; or it leads to a node that the event put in, or to none.
 use Rattle.std.proofs.Common.{◌≡◌, ◌≢◌, ℕ, ◌+◌, ◌<◌, inl, inr, ◌⊎◌, Bool, true, false, ◌&&◌, ◌||◌, length, [], ◌∷◌, ◌++◌, refl, sym, ap, subst, ◌∙◌, arith, true≢false, get_or-set_other}
 use Rattle.std.specs.Prelude.{Option, Some, None, nat_lt}
 use Rattle.std.proofs.lemmas.Bool.{cond_both, or_parts, not-false}

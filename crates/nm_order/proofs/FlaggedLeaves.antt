@@ -1,4 +1,5 @@
--- A leaf that a call flagged is led to by flagged edges alone, from the root and from wherever a later walk of the call came.
+-- A leaf that a call flagged is led to by flagged edges alone, from the root and from wherever a
+-- later walk of the call came.
 use Rattle.std.proofs.Common.{◌≡◌, ◌≢◌, ℕ, ◌<◌, ◌≤◌, ◌⊎◌, inl, inr, ◌==◌, true, false, cond, ◌&&◌, ◌||◌, List, [], ◌∷◌, ◌++◌, map, length, refl, sym, ap, subst, ◌∙◌, arith, true≢false}
 use Rattle.std.specs.Prelude.{Option, Some, None, is_none, slice_get}
 use Rattle.std.specs.List.{list_any}

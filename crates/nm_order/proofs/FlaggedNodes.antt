@@ -1,4 +1,5 @@
--- What a call keeps as flagged is a leaf that it knows, with the call's key and that birth, in every ordered run.
+-- What a call keeps as flagged is a leaf that it knows, with the call's key and that birth, in
+-- every ordered run.
 use Rattle.std.proofs.Common.{◌≡◌, ℕ, ◌≤◌, ◌==◌, Bool, true, false, cond, ◌&&◌, List, [], refl, sym, ap, subst, ◌∙◌, arith, get_or-set_same, get_or-set_other}
 use Rattle.std.specs.Prelude.{Some, None, slice_get, All}
 use native.Mathlib.Decide.{ℕ_discrete}

@@ -1,4 +1,5 @@
--- Where each edge to a slot that paths come to is flagged, it stays so, whatever happens: a link finds no such edge, and a splice copies the flag.
+-- Where each edge to a slot that paths come to is flagged, it stays so, whatever happens: a link
+-- finds no such edge, and a splice copies the flag.
 use Rattle.std.proofs.Common.{◌≡◌, ◌≢◌, ℕ, zero, suc, ◌<◌, eqb, Bool, true, false, cond, ◌&&◌, List, [], ◌∷◌, ◌++◌, length, refl, sym, ap, subst, ◌∙◌, arith}
 use Rattle.std.specs.Prelude.{Option, Some, None}
 use native.Mathlib.Decide.{ℕ_discrete}

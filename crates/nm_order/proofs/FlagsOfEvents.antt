@@ -1,4 +1,5 @@
--- One event: an ordered core refuses a second flag of a call, so its flag stays, and the arrivals behind it only grow.
+-- One event: an ordered core refuses a second flag of a call, so its flag stays, and the arrivals
+-- behind it only grow.
 use Rattle.std.proofs.Common.{◌≡◌, ℕ, Bool, true, false, List, true≢false, refl, sym, ap, subst, ◌∙◌, Result, Ok, Err}
 use Rattle.std.specs.Prelude.{Option, Some, None, is_none, Contains}
 use Rattle.std.specs.List.{list_any}

@@ -1,4 +1,5 @@
--- In every ordered run the flag that is kept of a call is the first that its log won, and no other is.
+-- In every ordered run the flag that is kept of a call is the first that its log won, and no other
+-- is.
 use Rattle.std.proofs.Common.{◌≡◌, ℕ, zero, suc, ◌<◌, ◌≤◌, Bool, true, false, cond, ◌||◌, List, [], ◌∷◌, ◌++◌, true≢false, refl, sym, ap, subst, ◌∙◌, arith}
 use Rattle.std.specs.Prelude.{Option, Some, None, is_some, replicate, All}
 use Rattle.std.proofs.lemmas.Bool.{cond-true, cond-false}

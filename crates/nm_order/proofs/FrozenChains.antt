@@ -1,4 +1,5 @@
--- A chain that is frozen by facts is found by the way of a splice: cut at its loops, it has no slot twice, and so it is no longer than the layout has nodes.
+-- A chain that is frozen by facts is found by the way of a splice: cut at its loops, it has no slot
+-- twice, and so it is no longer than the layout has nodes.
 use Rattle.std.proofs.Common.{◌≡◌, ◌≢◌, ℕ, zero, suc, ◌<◌, ◌≤◌, inl, inr, eqb, Bool, true, false, cond, not, ◌&&◌, List, [], ◌∷◌, length, refl, sym, ap, subst, ◌∙◌, arith, true≢false}
 use Rattle.std.specs.Prelude.{Some, None, is_some}
 use Rattle.std.specs.List.{list_any, IsDistinct, AllByRecursion}

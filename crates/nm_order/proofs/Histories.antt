@@ -1,4 +1,5 @@
--- The acts of a run's calls, turn by turn: which are live, which have ended, and what a turn makes of them.
+-- The acts of a run's calls, turn by turn: which are live, which have ended, and what a turn makes
+-- of them.
 use Rattle.std.proofs.Common.{◌≡◌, ℕ, ◌+◌, ◌<◌, ◌≤◌, inl, inr, ◌⊎◌, ◌==◌, Bool, true, false, cond, ◌||◌, not, List, [], ◌∷◌, ◌++◌, append_assoc, length, length-append, refl, sym, ap, subst, ◌∙◌, arith, true≢false}
 use Rattle.std.specs.Prelude.{Option, Some, None, is_some, is_none, unwrap_or, Result, Ok, Err, All}
 use Rattle.std.specs.List.{list_any}
@@ -343,7 +344,8 @@ module _ (L : Layout) (enough : 5 ≤ L.nodes) (ts : List (ℕ × Event)) (t : �
   call_key : (w : ℕ) (op : Op) (k : ℕ) → Calls c w op k → IsKey k
   call_key w op k called = (call_walks c.state.memory (knows (of c.state w)) (search_of o.searches w).call (search_of o.searches w).walks (record { op = op; key = k }) (sym (ap (λ (l : Option (List Search)). (search_of (unwrap_or l []) w).call) o.are) ∙ called) (o.law.walks w)).0
 
-  -- a leaf that a call keeps as flagged after the turn, and that is not reached then, it kept so before
+  -- a leaf that a call keeps as flagged after the turn, and that is not reached then, it kept so
+  -- before
   flagged_back : (w : ℕ) (n : NodeId) → IsStill w → (own_search c' w).flagged ≡ Some n → (Reached c'.state.memory n.slot → ⊥) → (own_search c w).flagged ≡ Some n
   flagged_back w n still now gone = by (own_turn L w c t o)
     where

@@ -1,4 +1,5 @@
--- Each ordered run has a history: its calls, in the order of their moments, as a history of one plain set.
+-- Each ordered run has a history: its calls, in the order of their moments, as a history of one
+-- plain set.
 use Rattle.std.proofs.Common.{◌≡◌, ◌+◌, ℕ, ◌≤◌, inl, inr, ◌⊎◌, true, false, List, [], ◌∷◌, ◌++◌, append_assoc, append-nil, length, map, refl, sym, ap, subst, ◌∙◌, arith, true≢false}
 use Rattle.std.specs.Prelude.{Option, Some, unwrap_or, Ok, Contains, All}
 use Rattle.nm_edge.specs.declared.edge.Side.{Side}

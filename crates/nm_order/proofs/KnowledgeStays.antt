@@ -1,4 +1,5 @@
--- While a pin stands, what its worker knows is only added to: an edge that it reads again is the same in what it had known of it.
+-- While a pin stands, what its worker knows is only added to: an edge that it reads again is the
+-- same in what it had known of it.
 use Rattle.std.proofs.Common.{◌≡◌, ◌≢◌, ℕ, ◌≤◌, ◌⊎◌, inl, inr, eqb, ◌==◌, Bool, true, false, cond, not, ◌&&◌, ◌||◌, List, [], refl, sym, ap, ◌∙◌, arith, true≢false}
 use Rattle.std.specs.Prelude.{Option, Some, None, is_none, unwrap_or}
 use Rattle.std.proofs.lemmas.Bool.{cond_both, eqb-true, eq-eqb, ne_eqb, and_parts, or_cases, not-false}
@@ -48,7 +49,8 @@ pub record Renews (old new : Edge) : Type 0 where
   pub tag : old.tag ≡ true → new.tag ≡ true
   pub frozen : old.tag ≡ true → new ≡ old
 
--- the pin stands and what is known grows: each word is the one that was known, or renews the one in memory
+-- the pin stands and what is known grows: each word is the one that was known, or renews the one in
+-- memory
 pub record Stays (m : Memory) (k l : Knowledge) : Type 0 where
   pub pin : l.brief.pin ≡ k.brief.pin
   pub known : StillKnown k l

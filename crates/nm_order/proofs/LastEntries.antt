@@ -1,4 +1,5 @@
--- A part of an ordered run that ends with an entry: the configuration before the turn of that entry, and what its worker knew then.
+-- A part of an ordered run that ends with an entry: the configuration before the turn of that
+-- entry, and what its worker knew then.
 use Rattle.std.proofs.Common.{◌≡◌, ℕ, zero, suc, ◌<◌, ◌≤◌, inl, inr, ◌==◌, Bool, true, false, List, [], ◌∷◌, ◌++◌, refl, sym, ap, subst, ◌∙◌, arith, true≢false}
 use Rattle.std.specs.Prelude.{Option, Some, None, IfSome, All}
 use Rattle.std.proofs.lemmas.Bool.{eqb-true, or_cases}

@@ -1,4 +1,5 @@
--- Where a walk that began after the flag came to the flagged leaf, the edge by which it came was read as flagged.
+-- Where a walk that began after the flag came to the flagged leaf, the edge by which it came was
+-- read as flagged.
 use Rattle.std.proofs.Common.{◌≡◌, ◌≢◌, ℕ, ◌⊎◌, inl, inr, eqb, ◌==◌, Bool, true, false, cond, not, ◌&&◌, ◌||◌, List, [], ◌∷◌, refl, sym, ap, subst, ◌∙◌, arith, true≢false}
 use Rattle.std.specs.Prelude.{Option, Some, None, is_none}
 use Rattle.std.specs.List.{list_any}
@@ -41,7 +42,8 @@ use Rattle.nm_order.proofs.FlaggedPaths.{LeadsFlagged}
 use Rattle.nm_order.proofs.FlaggedSteps.{leads_flagged_still}
 use Rattle.nm_order.proofs.FlaggedLeaves.{AllPlaces, places_walked, flag_leads}
 
--- an arrival after the flag of slot n: from its slot flagged edges alone lead to n, and where it is n, it came by an edge known flagged
+-- an arrival after the flag of slot n: from its slot flagged edges alone lead to n, and where it is
+-- n, it came by an edge known flagged
 pub record LedFlagged (m : Memory) (k : Knowledge) (n x p : ℕ) (d : Side) : Type 0 where
   pub known : knows k x ≡ true
   pub leads : LeadsFlagged m n x

@@ -1,5 +1,5 @@
--- What holds of each slot to which the walks after a call's flag can go on, where it holds of each slot that the call's search comes to now:
--- each event that is in order keeps it.
+-- What holds of each slot to which the walks after a call's flag can go on, where it holds of each
+-- slot that the call's search comes to now: each event that is in order keeps it.
 use Rattle.std.proofs.Common.{◌≡◌, ℕ, false, List, sym, ap, subst, ◌∙◌, arith, get_or-set_same, get_or-set_other}
 use Rattle.std.specs.Prelude.{Option, Some, slice_get}
 use native.Mathlib.Decide.{ℕ_discrete}

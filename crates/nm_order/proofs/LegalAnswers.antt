@@ -1,4 +1,5 @@
--- Over a whole ordered run: an answer that changes nothing was right at a moment since the pin of its call.
+-- Over a whole ordered run: an answer that changes nothing was right at a moment since the pin of
+-- its call.
 use Rattle.std.proofs.Common.{◌≡◌, ◌≢◌, ℕ, ◌≤◌, Bool, true, false, not, List, [], refl, sym, ap, subst, ◌∙◌, true≢false}
 use Rattle.std.specs.Prelude.{Option, Some, None, is_none, slice_get, unwrap_or, All}
 use Rattle.std.specs.List.{list_any}

@@ -1,5 +1,6 @@
--- The births that a worker had stored in the nodes of its won link stand in memory while its pin does: each of these nodes is reached, or was cut under
--- the pin, and then it waits in a queue with no label below the pin's epoch. So nobody has it in private.
+-- The births that a worker had stored in the nodes of its won link stand in memory while its pin
+-- does: each of these nodes is reached, or was cut under the pin, and then it waits in a queue with
+-- no label below the pin's epoch. So nobody has it in private.
 use Rattle.std.proofs.Common.{◌≡◌, ◌≢◌, ℕ, zero, suc, ◌+◌, ◌-◌, ◌<◌, ◌≤◌, ◌⊎◌, inl, inr, ◌==◌, Bool, true, false, cond, ◌||◌, List, [], ◌∷◌, ◌++◌, length, map, refl, sym, ap, subst, ◌∙◌, arith, true≢false, Result, Ok}
 use Rattle.std.specs.Prelude.{Option, Some, None, IsSome, is_some, is_none, slice_get, option_map, unwrap_or, drop, All, Contains}
 use Rattle.std.proofs.lemmas.Bool.{cond-true, eqb-true, eq-eqb, or_cases}

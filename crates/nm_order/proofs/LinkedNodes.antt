@@ -1,4 +1,5 @@
--- A link that is won names its new node with the birth in its slot: the birth was stored, since a key was.
+-- A link that is won names its new node with the birth in its slot: the birth was stored, since a
+-- key was.
 use Rattle.std.proofs.Common.{◌≡◌, ℕ, Bool, true, false, cond, ◌||◌, refl, sym, ap, ◌∙◌, true≢false}
 use Rattle.std.specs.Prelude.{Option, Some, None, is_some, unwrap_or, Result, Ok, Err}
 use Rattle.std.proofs.lemmas.Bool.{and_parts}

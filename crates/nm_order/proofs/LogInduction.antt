@@ -1,4 +1,5 @@
--- What holds of the empty log, and of a log with one entry more, holds of every part of an ordered run.
+-- What holds of the empty log, and of a log with one entry more, holds of every part of an ordered
+-- run.
 use Rattle.std.proofs.Common.{ℕ, List, [], ◌∷◌, ◌++◌, sym, subst}
 use Rattle.std.proofs.lemmas.List.{append-nil, append_assoc}
 use Rattle.nm_edge.specs.Layouts.{Layout}

@@ -1,5 +1,5 @@
--- The slots to which a search comes that goes on from a known slot: what holds of each of them outlasts one edge that is exchanged,
--- where it holds of what the root's own search comes to now.
+-- The slots to which a search comes that goes on from a known slot: what holds of each of them
+-- outlasts one edge that is exchanged, where it holds of what the root's own search comes to now.
 use Rattle.std.proofs.Common.{◌≡◌, ◌≢◌, ℕ, List, [], ◌∷◌, ◌++◌, append-nil, refl, sym, ap, subst, ◌∙◌}
 use Rattle.std.specs.Prelude.{Option, Some, None}
 use Rattle.nm_edge.specs.declared.edge.Side.{Side}

@@ -1,4 +1,5 @@
--- What each change of the tree leaves of its order: of each node's key in its interval, and of searches that go on from known slots.
+-- What each change of the tree leaves of its order: of each node's key in its interval, and of
+-- searches that go on from known slots.
 use Rattle.std.proofs.Common.{◌≡◌, ◌≢◌, ℕ, ◌<◌, ◌≤◌, true, List, [], ◌∷◌, sym, ap, subst, ◌∙◌, arith, true≢false}
 use Rattle.std.specs.Prelude.{nat_lt}
 use mathlib.Core.Path.{fun_ext}

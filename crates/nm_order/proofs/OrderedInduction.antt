@@ -1,4 +1,5 @@
--- What the opening of an ordered core has, and each event that is in order keeps, every ordered run keeps.
+-- What the opening of an ordered core has, and each event that is in order keeps, every ordered run
+-- keeps.
 use Rattle.std.proofs.Common.{◌≡◌, ℕ, suc, ◌≤◌, List, [], ◌∷◌, replicate, refl, sym, ap, subst, ◌∙◌, arith}
 use Rattle.std.specs.Prelude.{Option, Some, None, option_map, All}
 use Rattle.std.proofs.lemmas.Option.{none-some, same_Some}

@@ -168,7 +168,8 @@ module _ (L : Layout) (enough : 5 ≤ L.nodes) (c : Configuration) (o : IsOrdere
       by false is not_leaf = (Left, eqb-false (node m x).left.slot 0 is)
       by true is not_leaf = (Right, eqb-false (node m x).right.slot 0 not_leaf)
 
-  -- the search for k comes to an internal node that is reached, where one comes that goes on from it
+  -- the search for k comes to an internal node that is reached, where one comes that goes on from
+  -- it
   pub lies_onward : (k x : ℕ) → Onward (child c.state.memory) (key c.state.memory) k x → Reached c.state.memory x → is_leaf (node c.state.memory x) ≡ false → InInterval c.state.memory k x
   lies_onward k x onward r inner = let d = has_child x inner in in_interval k x r (onward [] r.path d.0 tt d.1 r.ends)
 

@@ -1,4 +1,5 @@
--- A link that is in order: a walk of its call ended at the leaf, so the search for its key comes to the parent, and the new nodes are in order.
+-- A link that is in order: a walk of its call ended at the leaf, so the search for its key comes to
+-- the parent, and the new nodes are in order.
 use Rattle.std.proofs.Common.{◌≡◌, ◌≢◌, ℕ, ◌<◌, inl, inr, ◌⊎◌, ◌==◌, Bool, true, false, cond, not, ◌&&◌, List, [], ◌∷◌, ◌++◌, refl, sym, ap, subst, ◌∙◌, arith, true≢false}
 use Rattle.std.specs.Prelude.{Option, Some, None, nat_lt, slice_get}
 use Rattle.std.specs.List.{list_any}

@@ -1,5 +1,6 @@
--- What holds of each slot to which a search can go on from a known one, where it holds of each slot that the root's own search comes to now:
--- each event that is allowed keeps it, and a look that takes walks on.
+-- What holds of each slot to which a search can go on from a known one, where it holds of each slot
+-- that the root's own search comes to now: each event that is allowed keeps it, and a look that
+-- takes walks on.
 use Rattle.std.proofs.Common.{◌≡◌, ◌≢◌, ℕ, ◌<◌, inl, inr, ◌⊎◌, eqb, ◌==◌, Bool, true, false, cond, not, ◌&&◌, ◌||◌, List, [], ◌∷◌, ◌++◌, map, refl, sym, ap, subst, ◌∙◌, arith}
 use Rattle.std.specs.Prelude.{Option, Some, None, is_none, nat_lt, slice_get}
 use Rattle.std.specs.List.{list_any}
@@ -54,7 +55,8 @@ lasting m x = record { birth = (node m x).birth; key = (node m x).key; leaf = is
 
 -- ---- what a look adds
 
--- of each slot in the walks after a look: it was there, or an edge led to it by which a walk went on
+-- of each slot in the walks after a look: it was there, or an edge led to it by which a walk went
+-- on
 walked_each : (P : ℕ → Type 0) (k : ℕ) (ws : List Arrival) (x : ℕ) (f : Field) (r : Reply) → ((i : ℕ) (a : Arrival) → slice_get ws i ≡ Some a → P a.slot)
     → ((d : Side) (e : Edge) → f ≡ EdgeOn d → r ≡ EdgeIs e → (is_first x d ≡ true) ⊎ (list_any (goes_on k x d) ws ≡ true) → P e.slot)
     → (i : ℕ) (a : Arrival) → slice_get (walked k ws x f r) i ≡ Some a → P a.slot

@@ -1,4 +1,5 @@
--- Trees in order: each node's key lies in its interval, and searches from a slot that a search has come to. Both outlast a splice and a link.
+-- Trees in order: each node's key lies in its interval, and searches from a slot that a search has
+-- come to. Both outlast a splice and a link.
 use Rattle.std.proofs.Common.{◌≡◌, ◌≢◌, ℕ, inl, inr, ◌⊎◌, eqb, Bool, true, false, ◌&&◌, List, [], ◌∷◌, ◌++◌, append-nil, refl, sym, ap, subst, ◌∙◌}
 use Rattle.std.specs.Prelude.{Option, Some, None}
 use Rattle.std.proofs.lemmas.Bool.{eqb-true, and_parts, ne_eqb, and_left}
@@ -16,7 +17,8 @@ use Rattle.nm_order.proofs.Searching.{Keys, goes-append, goes_first, goes_on, go
 abbrev pub InOrder : Children → Keys → Type 0
 InOrder c v = (q : List Side) → follow c 1 q ≢ 0 → GoesBy c v (v (follow c 1 q)) 1 q
 
--- where a search for k that goes on from z comes to an internal node that is reached, the search from the root comes to it too
+-- where a search for k that goes on from z comes to an internal node that is reached, the search
+-- from the root comes to it too
 abbrev pub Onward : Children → Keys → ℕ → ℕ → Type 0
 Onward c v k z = (q r : List Side) (f : Side) → GoesBy c v k z q → c (follow c z q) f ≢ 0 → follow c 1 r ≡ follow c z q → GoesBy c v k 1 r
 
@@ -93,8 +95,9 @@ module _ (c c' : Children) (v : Keys) (a : ℕ) (d : Side) (way : List Side) (g 
 
 -- ---- a link
 
--- p, on the path front, leads by d to a leaf; new, which no path comes to, is over that leaf and the new leaf far, in the order of their keys.
--- The search for the key of far comes to p, and goes on by d
+-- p, on the path front, leads by d to a leaf; new, which no path comes to, is over that leaf and
+-- the new leaf far, in the order of their keys. The search for the key of far comes to p, and goes
+-- on by d
 pub record Linking (c c' : Children) (v : Keys) (p : ℕ) (d : Side) (leaf new far : ℕ) (dl : Side) : Type 0 where
   pub nothing : (e : Side) → c 0 e ≡ 0
   pub alone : (q r : List Side) → follow c 1 q ≢ 0 → follow c 1 q ≡ follow c 1 r → q ≡ r

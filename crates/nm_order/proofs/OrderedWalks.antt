@@ -1,5 +1,6 @@
--- What the walks of a search keep, however the tree is changed: each slot that they came to is known, its key is as it was read,
--- it was led to in order, and a search that goes on from it comes to its place.
+-- What the walks of a search keep, however the tree is changed: each slot that they came to is
+-- known, its key is as it was read, it was led to in order, and a search that goes on from it comes
+-- to its place.
 use Rattle.std.proofs.Common.{◌≡◌, ◌≢◌, ℕ, inl, inr, ◌⊎◌, ◌==◌, Bool, true, false, cond, ◌&&◌, ◌||◌, List, [], ◌∷◌, ◌++◌, map, refl, sym, ap, subst, ◌∙◌, true≢false}
 use Rattle.std.specs.Prelude.{Option, Some, None, is_none, slice_get}
 use Rattle.std.specs.List.{list_any}
@@ -29,7 +30,8 @@ turned k (Some v) d h = (v, refl, is_side-true (side_of k v) d h)
 
 -- ---- the law
 
--- an arrival comes from the left edge of slot 2, or from a slot to which the walk had come, and whose key turned it there
+-- an arrival comes from the left edge of slot 2, or from a slot to which the walk had come, and
+-- whose key turned it there
 pub data CameFrom (k : ℕ) (ws : List Arrival) (a : Arrival) : Type 0 where
   FromRoot : a.parent ≡ 2 → a.side ≡ Left → CameFrom k ws a
   FromSlot : (i : ℕ) (b : Arrival) → slice_get ws i ≡ Some b → b.slot ≡ a.parent → turns k b.key a.side ≡ true → CameFrom k ws a
@@ -138,7 +140,8 @@ arrived c v known k ws x parent d there on from law = cond_both (list_any (is_by
     more a (FromRoot p s) = FromRoot p s
     more a (FromSlot i b at slot turn) = FromSlot i b (get_stays ws (new_arrival x parent d ∷ []) i b at) slot turn
 
--- an edge is looked at. Where a walk goes on by it to a slot, that slot is known from then on; the root's own search comes to slot 2, and goes on to its left
+-- an edge is looked at. Where a walk goes on by it to a slot, that slot is known from then on; the
+-- root's own search comes to slot 2, and goes on to its left
 pub edge_looked : (c : Children) (v : Keys) (known : ℕ → Bool) (k : ℕ) (ws : List Arrival) (x : ℕ) (d : Side) → ((is_first x d ≡ true) ⊎ (list_any (goes_on k x d) ws ≡ true) → c x d ≢ 0 → known (c x d) ≡ true)
     → Onward c v k (c 2 Left) → WalkLaw c v known k ws → WalkLaw c v known k (walk_edge k ws x d (c x d))
 edge_looked c v known k ws x d meets first law = cond_both (c x d == 0) (map (ended k x d) ws) (cond (is_first x d || list_any (goes_on k x d) ws) (with_arrival ws (c x d) x d) ws) (WalkLaw c v known k)

@@ -1,4 +1,5 @@
--- A worker that is not pinned has no call and no unlabelled cut: a leave ends the call and is refused while a label is missing, and what adds to either asks for a pin.
+-- A worker that is not pinned has no call and no unlabelled cut: a leave ends the call and is
+-- refused while a label is missing, and what adds to either asks for a pin.
 use Rattle.std.proofs.Common.{◌≡◌, ℕ, ◌≤◌, ◌==◌, false, List, [], ◌∷◌, ◌++◌, refl, sym, ap, subst, ◌∙◌, true≢false}
 use Rattle.std.specs.Prelude.{Option, Some, None, is_none}
 use Rattle.std.proofs.lemmas.Bool.{cond_both}

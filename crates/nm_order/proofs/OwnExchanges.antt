@@ -1,5 +1,6 @@
--- An exchange that a call may win once, a link or a flag: a worker's log since its pin has one where the search says so, and none elsewhere;
--- and that one was won at a moment of the run, under the pin that stands.
+-- An exchange that a call may win once, a link or a flag: a worker's log since its pin has one
+-- where the search says so, and none elsewhere; and that one was won at a moment of the run, under
+-- the pin that stands.
 use Rattle.std.proofs.Common.{◌≡◌, ℕ, suc, ◌+◌, ◌≤◌, inl, inr, ◌⊎◌, Bool, true, false, cond, ◌||◌, List, [], ◌∷◌, ◌++◌, length, refl, sym, ap, subst, ◌∙◌, arith, true≢false, length-append}
 use Rattle.std.specs.Prelude.{filter, Some, None, Ok, All}
 use Rattle.std.specs.List.{list_any}
@@ -22,7 +23,8 @@ use Rattle.nm_order.proofs.RunMoments.{entries, stands_behind}
 use Rattle.nm_order.proofs.OwnTurns.{own_search, OwnTurn, own_turn, call_stays}
 use Rattle.nm_order.proofs.OwnTurns.OwnTurn.{Quiet, Own}
 
--- entries of a log by which a search gets a mark, which it has under the pin from then on; only a call of one operation without the mark may have them
+-- entries of a log by which a search gets a mark, which it has under the pin from then on; only a
+-- call of one operation without the mark may have them
 pub record IsOnce (is_such : Entry → Bool) (did : Search → Bool) (op : Op) : Type 0 where
   pub anew : (S : Search) (e : Event) (r : Reply) → begins_anew (e, r) ≡ true → did (searched S e r) ≡ false
   pub kept : (S : Search) (e : Event) (r : Reply) → begins_anew (e, r) ≡ false → is_such (e, r) ≡ false → did (searched S e r) ≡ did S

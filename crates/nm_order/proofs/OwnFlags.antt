@@ -1,4 +1,5 @@
--- A flag that is won is one of a call to delete: it marks the edge to a reached leaf, which has that call's key.
+-- A flag that is won is one of a call to delete: it marks the edge to a reached leaf, which has
+-- that call's key.
 use Rattle.std.proofs.Common.{◌≡◌, ◌≢◌, ℕ, ◌≤◌, ◌==◌, Bool, true, false, cond, not, ◌&&◌, ◌||◌, [], ◌∷◌, ◌++◌, refl, sym, ap, subst, ◌∙◌, arith}
 use Rattle.std.specs.Prelude.{Option, Some, None, is_none, Result, Ok, Err, slice_get}
 use Rattle.std.proofs.lemmas.Bool.{and_parts, and_from, or_parts, not-false, eqb-true, eq-eqb}

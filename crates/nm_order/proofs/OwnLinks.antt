@@ -158,7 +158,8 @@ unfolding searched
 flag_done S (Flag p d leaf) (Flagged n) such = refl
 flag_done S e r such = absurd (true≢false (sym such))
 
--- a flag in order is of a call to delete that has not flagged, where a walk of it ended at the leaf, and that had its key
+-- a flag in order is of a call to delete that has not flagged, where a walk of it ended at the
+-- leaf, and that had its key
 pub record MayFlag (S : Search) (p : ℕ) (d : Side) (leaf : ℕ) : Type 0 where
   pub call : Call
   pub is_call : S.call ≡ Some call

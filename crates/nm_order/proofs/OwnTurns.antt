@@ -1,4 +1,5 @@
--- Each turn of an ordered run, as one worker's search sees it: it leaves the search and the log as they are, or it is the worker's own, in order, and both learn of it.
+-- Each turn of an ordered run, as one worker's search sees it: it leaves the search and the log as
+-- they are, or it is the worker's own, in order, and both learn of it.
 use Rattle.std.proofs.Common.{◌≡◌, ℕ, suc, ◌≤◌, ◌==◌, Bool, true, false, cond, List, [], ◌∷◌, refl, sym, ap, ◌∙◌, arith, get_or-set_same, get_or-set_other}
 use Rattle.std.specs.Prelude.{Option, Some, None, Ok, option_map, unwrap_or, All}
 use Rattle.std.specs.List.{list_any}

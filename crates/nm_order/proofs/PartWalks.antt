@@ -1,4 +1,5 @@
--- A walk in a worker's part of a run since its pin is one in its log since its pin: the joins by which it may have resigned are no looks of a walk.
+-- A walk in a worker's part of a run since its pin is one in its log since its pin: the joins by
+-- which it may have resigned are no looks of a walk.
 use Rattle.std.proofs.Common.{◌≡◌, ℕ, ◌==◌, Bool, true, false, cond, ◌||◌, List, [], ◌∷◌, ◌++◌, append-nil, refl, sym, ap, subst, ◌∙◌}
 use Rattle.std.specs.Prelude.{Result, Ok, Err, filter}
 use Rattle.std.proofs.lemmas.List.Elements.{filter-append}

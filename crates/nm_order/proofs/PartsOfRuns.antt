@@ -1,4 +1,5 @@
--- What a worker knows is what its part of the run tells, and a part that ends with an entry ends at the turn of that entry.
+-- What a worker knows is what its part of the run tells, and a part that ends with an entry ends at
+-- the turn of that entry.
 use Rattle.std.proofs.Common.{◌≡◌, ◌≢◌, ℕ, ◌<◌, inl, inr, eqb, ◌==◌, Bool, true, false, cond, ◌||◌, List, [], ◌∷◌, ◌++◌, length, refl, sym, ap, subst, ◌∙◌, arith, true≢false, Result, Ok, Err}
 use Rattle.std.specs.Prelude.{Option, Some, None}
 use Rattle.std.proofs.lemmas.Bool.{eqb-true, eqb-false, eq-eqb, ne_eqb, cond-true, cond-false, or_cases, or_parts}

@@ -1,4 +1,5 @@
--- Over a whole ordered run: an answer tells which links and flags its call won, and a true insert and a true delete have their moment.
+-- Over a whole ordered run: an answer tells which links and flags its call won, and a true insert
+-- and a true delete have their moment.
 use Rattle.std.proofs.Common.{◌≡◌, ℕ, zero, suc, ◌≤◌, inl, inr, ◌⊎◌, ◌==◌, Bool, true, false, cond, List, [], ◌∷◌, ◌++◌, refl, sym, ap, subst, ◌∙◌, arith, true≢false}
 use Rattle.std.specs.Prelude.{Option, Some, None, is_some, Ok, unwrap_or, All}
 use Rattle.std.proofs.lemmas.Bool.{eq-eqb}

@@ -1,5 +1,6 @@
--- Over a whole ordered run: each slot to which a walk of a standing call came was reached since the pin, with the call's key in its interval.
--- A walk of a call is one for any key, and the call is the same at each moment since its pin.
+-- Over a whole ordered run: each slot to which a walk of a standing call came was reached since the
+-- pin, with the call's key in its interval. A walk of a call is one for any key, and the call is
+-- the same at each moment since its pin.
 use Rattle.std.proofs.Common.{◌≡◌, ℕ, ◌<◌, ◌≤◌, inl, inr, length, List, [], ◌++◌, refl, sym, ap, subst, ◌∙◌, arith}
 use Rattle.std.specs.Prelude.{Option, Some, None, Result, Ok, Err, slice_get, unwrap_or, All}
 use Rattle.std.proofs.lemmas.Bool.{cases_lt}

@@ -1,4 +1,5 @@
--- What a search knows of a call, by the log since its pin: its arrivals are those of that part, and its later ones those of the part behind the flag.
+-- What a search knows of a call, by the log since its pin: its arrivals are those of that part, and
+-- its later ones those of the part behind the flag.
 use Rattle.std.proofs.Common.{◌≡◌, ℕ, Bool, true, false, cond, ◌||◌, List, [], ◌∷◌, ◌++◌, append_assoc, true≢false, refl, sym, ap, subst, ◌∙◌}
 use Rattle.std.specs.Prelude.{Option, Some, None, is_some, All}
 use Rattle.std.specs.List.{list_any}

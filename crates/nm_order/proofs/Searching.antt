@@ -1,4 +1,5 @@
--- Searches in a tree of two children and a key for each slot: where they go, and where they go after one edge is exchanged.
+-- Searches in a tree of two children and a key for each slot: where they go, and where they go
+-- after one edge is exchanged.
 use Rattle.std.proofs.Common.{◌≡◌, ◌≢◌, ℕ, eqb, Bool, true, false, cond, ◌&&◌, List, [], ◌∷◌, ◌++◌, refl, sym, ap, subst, ◌∙◌}
 use Rattle.std.specs.Prelude.{Some, None}
 use Rattle.std.proofs.lemmas.Bool.{eqb-true, and_parts}

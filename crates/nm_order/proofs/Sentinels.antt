@@ -1,4 +1,5 @@
--- The five fixed nodes: their keys, that the three leaves among them are always reached, and that none of them has a flagged edge.
+-- The five fixed nodes: their keys, that the three leaves among them are always reached, and that
+-- none of them has a flagged edge.
 use Rattle.std.proofs.Common.{◌≡◌, ◌≢◌, inl, inr, ◌&&◌, ℕ, zero, suc, ◌≤◌, true, List, [], ◌∷◌, refl, sym, ap, subst, ◌∙◌, arith}
 use Rattle.std.specs.Prelude.{None, nat_lt, slice_index_or}
 use Rattle.std.proofs.lemmas.Bool.{cases_lt, or_parts}

@@ -1,4 +1,5 @@
--- What one turn of an ordered run does to the set: a link that is won adds a key, a cut takes the keys of its leaves, and nothing else changes it.
+-- What one turn of an ordered run does to the set: a link that is won adds a key, a cut takes the
+-- keys of its leaves, and nothing else changes it.
 use Rattle.std.proofs.Common.{◌≡◌, ℕ, ◌≤◌, ◌==◌, Bool, true, false, cond, List, refl, sym, ap, subst, ◌∙◌, true≢false}
 use Rattle.std.specs.Prelude.{Option, Some, None, Result, Ok, Contains, ◌↔◌}
 use Rattle.std.proofs.lemmas.Bool.{eq-eqb, and_from}

@@ -1,5 +1,6 @@
--- Over a whole ordered run, for any key and under any pin: each slot to which a walk came in a worker's log since its pin was reached since the pin,
--- with the walk's key in its interval, and keeps it there while it is an internal node that is reached.
+-- Over a whole ordered run, for any key and under any pin: each slot to which a walk came in a
+-- worker's log since its pin was reached since the pin, with the walk's key in its interval, and
+-- keeps it there while it is an internal node that is reached.
 use Rattle.std.proofs.Common.{◌≡◌, ◌≢◌, ℕ, ◌≤◌, ◌==◌, Bool, true, false, cond, ◌||◌, List, [], ◌∷◌, ◌++◌, append_assoc, refl, sym, ap, subst, ◌∙◌, arith}
 use Rattle.std.specs.Prelude.{Option, Some, None, All}
 use Rattle.std.specs.List.{list_any}
@@ -34,7 +35,8 @@ use Rattle.nm_order.proofs.CallWalks.{others_stay, own_knows}
 use Rattle.nm_order.proofs.StaleWalks.{IsOnWay, HoldsOfWalks, of_no_walks, weaker, walks_outlast, own_walks}
 
 module _ (L : Layout) (u k : ℕ) where
-  -- at a moment of a run, under a pin that stands since, the slot was reached and in the interval, and that lasts of it
+  -- at a moment of a run, under a pin that stands since, the slot was reached and in the interval,
+  -- and that lasts of it
   record WasAt (ts : List (ℕ × Event)) (x : ℕ) (n : Lasting) : Type 0 where
     before : List (ℕ × Event)
     since : List (ℕ × Event)

@@ -1,5 +1,6 @@
--- What holds of each slot to which the walks for a key came in a worker's log, call or none: each event that is in order keeps it,
--- and a look that takes a walk on gives it to the slot to which it leads.
+-- What holds of each slot to which the walks for a key came in a worker's log, call or none: each
+-- event that is in order keeps it, and a look that takes a walk on gives it to the slot to which it
+-- leads.
 use Rattle.std.proofs.Common.{◌≡◌, ◌≢◌, ℕ, ◌<◌, inl, inr, true, false, List, [], ◌∷◌, ◌++◌, append_assoc, sym, ap, subst, ◌∙◌, arith}
 use Rattle.std.specs.Prelude.{None}
 use Rattle.nm_edge.specs.Edges.{Edge}
@@ -32,13 +33,15 @@ use Rattle.nm_order.proofs.CallWalks.{own_knows, null_looked}
 use Rattle.nm_order.proofs.LogParts.{part_grows, part_itself, part_within, part_ends}
 use Rattle.nm_order.proofs.WalksAfter.{nothing_comes}
 
--- a worker knows the slot; and a search for k that goes on from it keeps to its place, and comes only to slots of which W holds, with what lasts of them
+-- a worker knows the slot; and a search for k that goes on from it keeps to its place, and comes
+-- only to slots of which W holds, with what lasts of them
 pub record IsOnWay (s : State) (u k : ℕ) (W : ℕ → Lasting → Type 0) (x : ℕ) : Type 0 where
   pub known : knows (of s u) x ≡ true
   pub onward : k < infinity_1 → Onward (child s.memory) (key s.memory) k x
   pub each : k < infinity_1 → EachOnward (child s.memory) (key s.memory) (lasting s.memory) k W x
 
--- so it is of each slot to which a walk for k came in the log, the keys that these walks read are those of their slots, and where one ended its worker knows a leaf
+-- so it is of each slot to which a walk for k came in the log, the keys that these walks read are
+-- those of their slots, and where one ended its worker knows a leaf
 pub record HoldsOfWalks (s : State) (u k : ℕ) (W : ℕ → Lasting → Type 0) (log : List Entry) : Type 0 where
   pub comes : (slot parent : ℕ) (side : Side) → WalkComes k log slot parent side → IsOnWay s u k W slot
   pub reads : (slot parent : ℕ) (side : Side) (v : ℕ) → WalkReads k log slot parent side v → key s.memory slot ≡ v
@@ -94,8 +97,8 @@ module _ (s : State) (h : ℕ → ℕ) (law : Lawful s h) (w : ℕ) (births : Ea
 
 -- ---- a look
 
--- what an entry tells of a state, where it is a look that a walk may take: its edge leads there, which the worker then knows, or is null, by which it knows
--- a leaf; and its key is that
+-- what an entry tells of a state, where it is a look that a walk may take: its edge leads there,
+-- which the worker then knows, or is null, by which it knows a leaf; and its key is that
 record IsTold (t : State) (u : ℕ) (shared known : ℕ → Type 0) (e : Entry) : Type 0 where
   edge : (x : ℕ) (d : Side) (n : Edge) → (Look x (EdgeOn d), EdgeIs n) ≡ e → child t.memory x d ≡ n.slot
   met : (x : ℕ) (d : Side) (n : Edge) → (Look x (EdgeOn d), EdgeIs n) ≡ e → shared x → n.slot ≢ 0 → knows (of t u) n.slot ≡ true

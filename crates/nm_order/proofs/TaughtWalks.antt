@@ -1,4 +1,5 @@
--- What a look teaches of the walks of a call: each is a lemma on a list of arrivals, said of the log that ends with the look.
+-- What a look teaches of the walks of a call: each is a lemma on a list of arrivals, said of the
+-- log that ends with the look.
 use Rattle.std.proofs.Common.{◌≡◌, ◌≢◌, ℕ, ◌≤◌, Bool, true, false, List, [], ◌∷◌, ◌++◌, refl, sym, ap, subst, ◌∙◌, arith}
 use Rattle.std.specs.Prelude.{Some, IsSome, Contains}
 use Rattle.nm_edge.specs.Layouts.{Layout}

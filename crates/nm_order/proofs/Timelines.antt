@@ -1,4 +1,5 @@
--- Acts that go along a run: at each moment calls that change nothing and that the set answers so then, and at each turn the changes that it makes.
+-- Acts that go along a run: at each moment calls that change nothing and that the set answers so
+-- then, and at each turn the changes that it makes.
 use Rattle.std.proofs.Common.{◌≡◌, ℕ, ◌+◌, ◌<◌, ◌≤◌, ◌⊎◌, inl, inr, Bool, true, false, not, List, [], ◌∷◌, ◌++◌, append_assoc, append-nil, length, map, sym, ap, subst, ◌∙◌, arith, true≢false}
 use Rattle.std.specs.Prelude.{◌↔◌, Some, Ok, Contains}
 use Rattle.nm_model.specs.declared.reply.Reply.{Reply}

@@ -1,4 +1,5 @@
--- In every ordered run each key stands unflagged as often as it was linked, less as often as it was flagged.
+-- In every ordered run each key stands unflagged as often as it was linked, less as often as it was
+-- flagged.
 use Rattle.std.proofs.Common.{◌≡◌, ◌≢◌, ℕ, ◌+◌, ◌≤◌, inl, inr, ◌⊎◌, ◌==◌, Bool, true, false, cond, ◌&&◌, List, [], ◌∷◌, ◌++◌, refl, sym, ap, subst, ◌∙◌, arith, true≢false}
 use Rattle.std.specs.Prelude.{Option, Some, None, unwrap_or, Result, Ok, All}
 use Rattle.std.proofs.lemmas.Bool.{and_parts, eqb-true, eqb-false}

@@ -1,4 +1,5 @@
--- What an event that is allowed does to the tree: nothing that matters, one field of a private slot, a link, or a splice.
+-- What an event that is allowed does to the tree: nothing that matters, one field of a private
+-- slot, a link, or a splice.
 use Rattle.std.proofs.Common.{◌≡◌, ◌≢◌, ℕ, ◌+◌, ◌<◌, List, eqb, Bool, true, false, cond, not, ◌&&◌, ◌||◌, length, refl, sym, ap, ◌∙◌, arith, get_or-set_other}
 use Rattle.std.specs.Prelude.{nat_lt}
 use Rattle.std.proofs.lemmas.Bool.{cond_both, cond-false, eqb-true, and_parts, or_parts, not-false}

@@ -1,4 +1,5 @@
--- A walk that has ended tells whether its key was in the set at a moment since the pin, for any key and under any pin.
+-- A walk that has ended tells whether its key was in the set at a moment since the pin, for any key
+-- and under any pin.
 use Rattle.std.proofs.Common.{◌≡◌, ◌≢◌, ℕ, suc, ◌<◌, ◌≤◌, ◌==◌, inl, inr, Bool, true, false, cond, List, [], ◌∷◌, ◌++◌, append_assoc, length, refl, sym, ap, subst, ◌∙◌, arith}
 use Rattle.std.specs.Prelude.{Option, Some, None, All}
 use Rattle.std.specs.List.{list_any}

@@ -1,4 +1,5 @@
--- The arrivals of each call are its walks, and its later arrivals those of its walks behind the flag.
+-- The arrivals of each call are its walks, and its later arrivals those of its walks behind the
+-- flag.
 use Rattle.std.proofs.Common.{◌≡◌, ℕ, ◌<◌, ◌≤◌, List, [], sym, subst}
 use Rattle.std.specs.Prelude.{Some, All}
 use Rattle.nm_edge.specs.Layouts.{Layout}

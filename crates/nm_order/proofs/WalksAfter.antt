@@ -1,4 +1,5 @@
--- Lists alone: where the keys that the walks of a log read are told by one function of slots, each walk of the log is an arrival.
+-- Lists alone: where the keys that the walks of a log read are told by one function of slots, each
+-- walk of the log is an arrival.
 use Rattle.std.proofs.Common.{◌≡◌, ℕ, inl, inr, true, List, [], ◌∷◌, ◌++◌, append_assoc, refl, sym, ap, subst, ◌∙◌}
 use Rattle.std.proofs.lemmas.List.{append-nil}
 use Rattle.std.specs.Prelude.{Some, All, Contains}
@@ -109,7 +110,8 @@ nothing_comes k = record {
     no_walk looks slot parent side (begins n there) p = elim p [ ]
     no_walk looks slot parent side (leads_on {looks = before} {slot = above} leads v n there) p = no_last before (Look above Key, KeyIs v) ((Look above (EdgeOn (side_of k v)), EdgeIs n) ∷ []) p
 
--- where each part of the log from its start has only arrivals of its walks, and the keys that walks read are told by one function
+-- where each part of the log from its start has only arrivals of its walks, and the keys that walks
+-- read are told by one function
 module _ (k : ℕ) (keys : ℕ → ℕ) (log : List Entry) (sound : (part more : List Entry) → part ++ more ≡ log → All (IsOfWalk k part) (walks_after k [] part)) (are : ReadingsAre keys k log) where
   from_part : (rest part : List Entry) → part ++ rest ≡ log → HasWalks k part (walks_after k [] part) → HasWalks k log (walks_after k [] log)
   from_part [] part is has = subst (λ (es : List Entry). HasWalks k es (walks_after k [] es)) (sym (append-nil part) ∙ is) has

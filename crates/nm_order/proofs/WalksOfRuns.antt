@@ -1,4 +1,5 @@
--- In every ordered run the keys that a worker's walks read since its pin are those of their slots now, and so its arrivals are its walks.
+-- In every ordered run the keys that a worker's walks read since its pin are those of their slots
+-- now, and so its arrivals are its walks.
 use Rattle.std.proofs.Common.{◌≡◌, ℕ, zero, suc, ◌<◌, ◌≤◌, inl, inr, ◌==◌, Bool, true, false, cond, List, [], ◌∷◌, ◌++◌, append_assoc, refl, sym, ap, subst, ◌∙◌, arith, Result}
 use Rattle.std.specs.Prelude.{Option, Some, None, IfSome, option_map, replicate, All, Contains, slice_get}
 use Rattle.std.proofs.lemmas.List.{append-nil}

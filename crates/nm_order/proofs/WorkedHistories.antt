@@ -1,4 +1,5 @@
--- A worked schedule, an insert and then a delete: its numbers by computation, and what the laws say of it.
+-- A worked schedule, an insert and then a delete: its numbers by computation, and what the laws say
+-- of it.
 use Rattle.std.proofs.Common.{◌≡◌, ℕ, true, List, [], map, take, drop, refl, subst}
 use Rattle.nm_edge.specs.Layouts.{Layout}
 use Rattle.nm_model.specs.declared.event.Op.TheVariants.{Insert, Delete}
@@ -32,7 +33,8 @@ no_other : links_of 4 L turns ≡ 0
 unfolding how_often trace_in after_in outcome_in next_in refused_in applied_in searched refusal reply write learn refused applied
 no_other = refl
 
--- the insert's pin was confirmed by turn 2, the delete's by turn 20; the insert was answered by turn 18, and the delete by the last
+-- the insert's pin was confirmed by turn 2, the delete's by turn 20; the insert was answered by
+-- turn 18, and the delete by the last
 insert_pin : pin_of L (take 18 turns) 0 ≡ 2
 unfolding trace_in after_in outcome_in next_in refused_in applied_in searched refusal reply write learn refused applied
 insert_pin = refl

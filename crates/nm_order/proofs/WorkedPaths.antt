@@ -1,4 +1,5 @@
--- A worked schedule: a walk under a pin for no call, which goes on by edges that were cut off, and what the law says of it.
+-- A worked schedule: a walk under a pin for no call, which goes on by edges that were cut off, and
+-- what the law says of it.
 use Rattle.std.proofs.Common.{◌≡◌, ℕ, List, [], ◌∷◌, ◌++◌, refl, arith, lit≤}
 use Rattle.std.specs.Prelude.{true, false}
 use Rattle.nm_edge.specs.Edges.{Edge, to}

@@ -1,4 +1,5 @@
--- The moment of an answer, by the log of its worker alone: whatever the run was of which that log is a part.
+-- The moment of an answer, by the log of its worker alone: whatever the run was of which that log
+-- is a part.
 use Rattle.std.specs.Prelude.{◌≡◌, ℕ, ◌≤◌, Bool, true, false, List, [], ◌∷◌, ◌++◌, Some}
 use Rattle.nm_edge.specs.Layouts.{Layout}
 use Rattle.nm_edge.specs.declared.node.NodeId.{NodeId}
@@ -15,7 +16,8 @@ use Rattle.nm_order.specs.Exchanges.{MayAnswer, HasInserted, HasFlagged}
 use Rattle.nm_order.specs.Removals.{HasDeleted}
 use Rattle.nm_order.specs.Legal.{WasLegal}
 
--- the moment of an answer, in the run up to it: the link of a true insert, the cut of a true delete's leaf, and for any other answer a moment at which it was right
+-- the moment of an answer, in the run up to it: the link of a true insert, the cut of a true
+-- delete's leaf, and for any other answer a moment at which it was right
 abbrev pub HasMoment : Layout → List (ℕ × Event) → ℕ → Op → ℕ → Bool → Type 0
 HasMoment L before w Has k answer = WasLegal L before w Has k answer
 HasMoment L before w Insert k true = HasInserted L before w k
@@ -24,7 +26,8 @@ HasMoment L before w Delete k true = HasDeleted L before w k
 HasMoment L before w Delete k false = WasLegal L before w Delete k false
 
 -- a run goes up to the worker's answer, which has its moment before, and on from there
-pub record IsAnsweredIn (L : Layout) (turns : List (ℕ × Event)) (w : ℕ) (op : Op) (k : ℕ) (answer : Bool) : Type 0 where
+pub record IsAnsweredIn (L : Layout) (turns : List (ℕ × Event)) (w : ℕ) (op : Op) (k : ℕ)
+    (answer : Bool) : Type 0 where
   pub before : List (ℕ × Event)
   pub since : List (ℕ × Event)
   pub is_run : turns ≡ before ++ (w, LeaveWith answer) ∷ since
@@ -37,14 +40,21 @@ HasItsMoment L w log op k answer = (l : IsLogOf L w log) → IsAnsweredIn L l.tu
 
 -- an answer that a log ends with, of a call whose pin the log confirmed last, has its moment
 abbrev pub AnswersHaveMoments : Type 0
-AnswersHaveMoments = (L : Layout) → 5 ≤ L.nodes → (w : ℕ) (log : List Entry) (op : Op) (k : ℕ) (answer : Bool) → (search_after idle log).call ≡ Some (record { op = op; key = k }) → HasItsMoment L w (log ++ (LeaveWith answer, Departed) ∷ []) op k answer
+AnswersHaveMoments = (L : Layout) → 5 ≤ L.nodes
+    → (w : ℕ) (log : List Entry) (op : Op) (k : ℕ) (answer : Bool)
+    → (search_after idle log).call ≡ Some (record { op = op; key = k })
+    → HasItsMoment L w (log ++ (LeaveWith answer, Departed) ∷ []) op k answer
 
 -- ---- a delete that is not answered yet
 
--- in each ordered run of which a log is the worker's part, its call to delete k has flagged that leaf, under the pin that stands
+-- in each ordered run of which a log is the worker's part, its call to delete k has flagged that
+-- leaf, under the pin that stands
 abbrev pub IsPendingIn : Layout → ℕ → List Entry → ℕ → NodeId → Type 0
 IsPendingIn L w log k n = (l : IsLogOf L w log) → (f : HasFlagged L l.turns w k) × (f.flagged ≡ n)
 
 -- a log that tells of a flagged leaf is that of a delete which is pending
 abbrev pub PendingDeletesHaveFlagged : Type 0
-PendingDeletesHaveFlagged = (L : Layout) → 5 ≤ L.nodes → (w : ℕ) (log : List Entry) (k : ℕ) (n : NodeId) → (search_after idle log).call ≡ Some (record { op = Delete; key = k }) → (search_after idle log).flagged ≡ Some n → IsPendingIn L w log k n
+PendingDeletesHaveFlagged = (L : Layout) → 5 ≤ L.nodes
+    → (w : ℕ) (log : List Entry) (k : ℕ) (n : NodeId)
+    → (search_after idle log).call ≡ Some (record { op = Delete; key = k })
+    → (search_after idle log).flagged ≡ Some n → IsPendingIn L w log k n

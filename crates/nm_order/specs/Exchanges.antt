@@ -1,4 +1,5 @@
--- Links and flags that a call won, by its worker's log since the pin, and the answers that they stand for.
+-- Links and flags that a call won, by its worker's log since the pin, and the answers that they
+-- stand for.
 use Rattle.std.specs.Prelude.{◌≡◌, ℕ, Bool, true, false, List, [], ◌∷◌, ◌++◌, length, filter, Ok}
 use Rattle.nm_edge.specs.Layouts.{Layout}
 use Rattle.nm_edge.specs.declared.edge.Side.{Side}
@@ -45,16 +46,22 @@ flags_told _ _ = 0
 
 -- since its pin a worker won just the links that its answer stands for
 abbrev pub AnswersTellLinks : Layout → List (ℕ × Event) → Type 0
-AnswersTellLinks L turns = (w : ℕ) (op : Op) (k : ℕ) (answer : Bool) → MayAnswer (after_in (ordered L) turns) w op k answer → how_many is_won_link w (trace_in (ordered L) turns) ≡ links_told op answer
+AnswersTellLinks L turns = (w : ℕ) (op : Op) (k : ℕ) (answer : Bool)
+    → MayAnswer (after_in (ordered L) turns) w op k answer
+    → how_many is_won_link w (trace_in (ordered L) turns) ≡ links_told op answer
 
 -- and just the flags
 abbrev pub AnswersTellFlags : Layout → List (ℕ × Event) → Type 0
-AnswersTellFlags L turns = (w : ℕ) (op : Op) (k : ℕ) (answer : Bool) → MayAnswer (after_in (ordered L) turns) w op k answer → how_many is_won_flag w (trace_in (ordered L) turns) ≡ flags_told op answer
+AnswersTellFlags L turns = (w : ℕ) (op : Op) (k : ℕ) (answer : Bool)
+    → MayAnswer (after_in (ordered L) turns) w op k answer
+    → how_many is_won_flag w (trace_in (ordered L) turns) ≡ flags_told op answer
 
 -- a worker that may leave without an answer won neither
 abbrev pub SilentLeavesWonNothing : Layout → List (ℕ × Event) → Type 0
-SilentLeavesWonNothing L turns = (w : ℕ) → outcome_in (after_in (ordered L) turns) (w, Leave) ≡ Ok Departed
-    → (how_many is_won_link w (trace_in (ordered L) turns) ≡ 0) × (how_many is_won_flag w (trace_in (ordered L) turns) ≡ 0)
+SilentLeavesWonNothing L turns =
+    (w : ℕ) → outcome_in (after_in (ordered L) turns) (w, Leave) ≡ Ok Departed
+    → (how_many is_won_link w (trace_in (ordered L) turns) ≡ 0)
+    × (how_many is_won_flag w (trace_in (ordered L) turns) ≡ 0)
 
 -- ---- the moment of an insert
 
@@ -70,13 +77,17 @@ pub record HasInserted (L : Layout) (turns : List (ℕ × Event)) (w k : ℕ) : 
   pub linked : NodeId
   pub is_run : turns ≡ before ++ (w, Link parent side leaf new) ∷ since
   pub called : IsCalled (after_in (ordered L) before) w Insert k
-  pub won : outcome_in (after_in (ordered L) before) (w, Link parent side leaf new) ≡ Ok (Linked linked)
-  pub gains : Gains (after_in (ordered L) before).state.memory (next_in (after_in (ordered L) before) (w, Link parent side leaf new)).state.memory k
-  pub stands : PinStands w (trace_in (next_in (after_in (ordered L) before) (w, Link parent side leaf new)) since)
+  pub won : outcome_in (after_in (ordered L) before) (w, Link parent side leaf new)
+      ≡ Ok (Linked linked)
+  pub gains : Gains (after_in (ordered L) before).state.memory
+      (next_in (after_in (ordered L) before) (w, Link parent side leaf new)).state.memory k
+  pub stands : PinStands w (trace_in
+      (next_in (after_in (ordered L) before) (w, Link parent side leaf new)) since)
 
 -- a call that may answer its insert with true has inserted its key
 abbrev pub TrueInsertsHaveInserted : Layout → List (ℕ × Event) → Type 0
-TrueInsertsHaveInserted L turns = (w k : ℕ) → MayAnswer (after_in (ordered L) turns) w Insert k true → HasInserted L turns w k
+TrueInsertsHaveInserted L turns =
+    (w k : ℕ) → MayAnswer (after_in (ordered L) turns) w Insert k true → HasInserted L turns w k
 
 -- ---- the moment of a delete's flag
 
@@ -91,10 +102,13 @@ pub record HasFlagged (L : Layout) (turns : List (ℕ × Event)) (w k : ℕ) : T
   pub flagged : NodeId
   pub is_run : turns ≡ before ++ (w, Flag parent side leaf) ∷ since
   pub called : IsCalled (after_in (ordered L) before) w Delete k
-  pub won : outcome_in (after_in (ordered L) before) (w, Flag parent side leaf) ≡ Ok (Flagged flagged)
+  pub won : outcome_in (after_in (ordered L) before) (w, Flag parent side leaf)
+      ≡ Ok (Flagged flagged)
   pub marks : Marks (after_in (ordered L) before).state.memory parent side leaf flagged k
-  pub stands : PinStands w (trace_in (next_in (after_in (ordered L) before) (w, Flag parent side leaf)) since)
+  pub stands : PinStands w (trace_in
+      (next_in (after_in (ordered L) before) (w, Flag parent side leaf)) since)
 
 -- a call that may answer its delete with true has flagged its leaf
 abbrev pub TrueDeletesHaveFlagged : Layout → List (ℕ × Event) → Type 0
-TrueDeletesHaveFlagged L turns = (w k : ℕ) → MayAnswer (after_in (ordered L) turns) w Delete k true → HasFlagged L turns w k
+TrueDeletesHaveFlagged L turns =
+    (w k : ℕ) → MayAnswer (after_in (ordered L) turns) w Delete k true → HasFlagged L turns w k

@@ -1,4 +1,5 @@
--- Facts that stay: what a worker's log tells it under one pin, in pieces that no later event of that pin takes back.
+-- Facts that stay: what a worker's log tells it under one pin, in pieces that no later event of
+-- that pin takes back.
 use Rattle.std.specs.Prelude.{◌≡◌, ℕ, ◌≤◌, true, false, List, [], ◌∷◌, ◌++◌, Some, Contains}
 use Rattle.nm_edge.specs.Edges.{Edge}
 use Rattle.nm_edge.specs.Keys.{IsKey}
@@ -29,7 +30,8 @@ pub data Fact : Type 0 where
   -- it knows that slot; and as a leaf
   KnowsSlot : ℕ → Fact
   KnowsLeaf : ℕ → Fact
-  -- the edge of a slot on a side is tagged, and leads to another slot; is flagged, and leads to another
+  -- the edge of a slot on a side is tagged, and leads to another slot; is flagged, and leads to
+  -- another
   IsTagged : ℕ → Side → ℕ → Fact
   IsFlagged : ℕ → Side → ℕ → Fact
   -- the edge of a slot on a side is tagged, and is this one, with this flag too
@@ -38,7 +40,8 @@ pub data Fact : Type 0 where
   IsBorn : ℕ → ℕ → Fact
   -- the pin is for a call of that operation on that key
   CallIs : Op → ℕ → Fact
-  -- a walk of the call, for a key, came to a slot by a parent's edge on a side; it read a key there; and it ended there
+  -- a walk of the call, for a key, came to a slot by a parent's edge on a side; it read a key
+  -- there; and it ended there
   Came : Since → ℕ → ℕ → ℕ → Side → Fact
   ReadKey : Since → ℕ → ℕ → ℕ → Side → ℕ → Fact
   EndedAt : Since → ℕ → ℕ → ℕ → Side → ℕ → Fact
@@ -65,14 +68,18 @@ abbrev pub HoldsIn : Knowledge → Search → Fact → Type 0
 HoldsIn known s (IsPinned epoch) = known.brief.pin ≡ Some epoch
 HoldsIn known s (KnowsSlot slot) = knows known slot ≡ true
 HoldsIn known s (KnowsLeaf slot) = knows_leaf known slot ≡ true
-HoldsIn known s (IsTagged slot side to) = (e : Edge) × (read known slot side ≡ Some e) × (e.tag ≡ true) × (e.slot ≡ to)
-HoldsIn known s (IsFlagged slot side to) = (e : Edge) × (read known slot side ≡ Some e) × (e.flag ≡ true) × (e.slot ≡ to)
+HoldsIn known s (IsTagged slot side to) =
+    (e : Edge) × (read known slot side ≡ Some e) × (e.tag ≡ true) × (e.slot ≡ to)
+HoldsIn known s (IsFlagged slot side to) =
+    (e : Edge) × (read known slot side ≡ Some e) × (e.flag ≡ true) × (e.slot ≡ to)
 HoldsIn known s (IsFrozen slot side e) = (read known slot side ≡ Some e) × (e.tag ≡ true)
 HoldsIn known s (IsBorn slot birth) = (seen_of known slot).birth ≡ Some birth
 HoldsIn known s (CallIs op key) = s.call ≡ Some (record { op = op; key = key })
 HoldsIn known s (Came since k slot parent side) = Arrived s since k slot parent side
-HoldsIn known s (ReadKey since k slot parent side key) = (a : Arrived s since k slot parent side) × (a.arrival.key ≡ Some key)
-HoldsIn known s (EndedAt since k slot parent side key) = (a : Arrived s since k slot parent side) × (a.arrival.key ≡ Some key) × (a.arrival.ended ≡ true)
+HoldsIn known s (ReadKey since k slot parent side key) =
+    (a : Arrived s since k slot parent side) × (a.arrival.key ≡ Some key)
+HoldsIn known s (EndedAt since k slot parent side key) =
+    (a : Arrived s since k slot parent side) × (a.arrival.key ≡ Some key) × (a.arrival.ended ≡ true)
 
 -- the log of worker w tells the fact, by the knowledge and the search that it tells
 abbrev pub Holds : Layout → ℕ → List Entry → Fact → Type 0
@@ -91,34 +98,48 @@ abbrev pub IsTrueIn : State → ℕ → Fact → Type 0
 IsTrueIn s w (IsPinned epoch) = note s.memory w ≡ Some epoch
 IsTrueIn s w (KnowsSlot slot) = IsShared s slot
 IsTrueIn s w (KnowsLeaf slot) = is_leaf (node s.memory slot) ≡ true
-IsTrueIn s w (IsTagged slot side to) = ((edge s.memory slot side).tag ≡ true) × (child s.memory slot side ≡ to)
-IsTrueIn s w (IsFlagged slot side to) = ((edge s.memory slot side).flag ≡ true) × (child s.memory slot side ≡ to)
+IsTrueIn s w (IsTagged slot side to) =
+    ((edge s.memory slot side).tag ≡ true) × (child s.memory slot side ≡ to)
+IsTrueIn s w (IsFlagged slot side to) =
+    ((edge s.memory slot side).flag ≡ true) × (child s.memory slot side ≡ to)
 IsTrueIn s w (IsFrozen slot side e) = (edge s.memory slot side ≡ e) × (e.tag ≡ true)
 IsTrueIn s w (IsBorn slot birth) = (node s.memory slot).birth ≡ birth
 IsTrueIn s w (CallIs op key) = IsKey key
 IsTrueIn s w (Came since k slot parent side) = IsShared s slot
 IsTrueIn s w (ReadKey since k slot parent side key) = (node s.memory slot).key ≡ key
-IsTrueIn s w (EndedAt since k slot parent side key) = (is_leaf (node s.memory slot) ≡ true) × ((node s.memory slot).key ≡ key)
+IsTrueIn s w (EndedAt since k slot parent side key) =
+    (is_leaf (node s.memory slot) ≡ true) × ((node s.memory slot).key ≡ key)
 
--- in every ordered run, each fact that a worker's part holds is true of the state to which the run leads
+-- in every ordered run, each fact that a worker's part holds is true of the state to which the run
+-- leads
 abbrev pub FactsAreTrue : Type 0
-FactsAreTrue = (L : Layout) → 5 ≤ L.nodes → (w : ℕ) (log : List Entry) (l : IsLogOf L w log) (fact : Fact) → Holds L w log fact → IsTrueIn (after_in (ordered L) l.turns).state w fact
+FactsAreTrue = (L : Layout) → 5 ≤ L.nodes
+    → (w : ℕ) (log : List Entry) (l : IsLogOf L w log) (fact : Fact) → Holds L w log fact
+    → IsTrueIn (after_in (ordered L) l.turns).state w fact
 
 -- ---- facts stay
 
--- while no pin begins or ends, each fact that a worker's log holds is held by it with one entry more
+-- while no pin begins or ends, each fact that a worker's log holds is held by it with one entry
+-- more
 abbrev pub FactsStay : Type 0
-FactsStay = (L : Layout) → 5 ≤ L.nodes → (w : ℕ) (log : List Entry) (entry : Entry) → IsLogOf L w (log ++ entry ∷ []) → begins_anew entry ≡ false → (fact : Fact) → Holds L w log fact → Holds L w (log ++ entry ∷ []) fact
+FactsStay = (L : Layout) → 5 ≤ L.nodes → (w : ℕ) (log : List Entry) (entry : Entry)
+    → IsLogOf L w (log ++ entry ∷ []) → begins_anew entry ≡ false → (fact : Fact)
+    → Holds L w log fact → Holds L w (log ++ entry ∷ []) fact
 
 -- ---- flagged edges
 
--- a slot of which a worker knows a flagged edge is one of the pool's range: none of the fixed nodes has one
+-- a slot of which a worker knows a flagged edge is one of the pool's range: none of the fixed nodes
+-- has one
 abbrev pub FlaggedSlotsStandHigh : Type 0
-FlaggedSlotsStandHigh = (L : Layout) → 5 ≤ L.nodes → (w : ℕ) (log : List Entry) → IsLogOf L w log → (x to : ℕ) (side : Side) → Holds L w log (IsFlagged x side to) → 6 ≤ x
+FlaggedSlotsStandHigh = (L : Layout) → 5 ≤ L.nodes → (w : ℕ) (log : List Entry) → IsLogOf L w log
+    → (x to : ℕ) (side : Side) → Holds L w log (IsFlagged x side to) → 6 ≤ x
 
 -- ---- the leaf that a call flagged
 
--- where a walk that began after the flag came to the flagged leaf, the edge by which it came is known flagged
+-- where a walk that began after the flag came to the flagged leaf, the edge by which it came is
+-- known flagged
 abbrev pub LaterWalksFindTheFlag : Type 0
-LaterWalksFindTheFlag = (L : Layout) → 5 ≤ L.nodes → (w : ℕ) (log : List Entry) → IsLogOf L w log → (n : NodeId) (k parent : ℕ) (side : Side)
-    → (search_after idle log).flagged ≡ Some n → Holds L w log (Came TheFlag k n.slot parent side) → Holds L w log (IsFlagged parent side n.slot)
+LaterWalksFindTheFlag = (L : Layout) → 5 ≤ L.nodes → (w : ℕ) (log : List Entry) → IsLogOf L w log
+    → (n : NodeId) (k parent : ℕ) (side : Side)
+    → (search_after idle log).flagged ≡ Some n → Holds L w log (Came TheFlag k n.slot parent side)
+    → Holds L w log (IsFlagged parent side n.slot)

@@ -12,7 +12,8 @@ use Rattle.nm_model.specs.Ordered.{Configuration, search_of, outcome_in}
 use Rattle.nm_model.specs.Walks.{Entry, begins_anew, GrowsTo}
 use Rattle.nm_order.specs.WalksToArrivals.{is_won_flag, since_flag}
 
--- the first flag that a log won is one of that node: the log is what was before it, the flag, and the part behind it
+-- the first flag that a log won is one of that node: the log is what was before it, the flag, and
+-- the part behind it
 pub record HasWonFlag (log : List Entry) (n : NodeId) : Type 0 where
   pub before : List Entry
   pub parent : ℕ
@@ -30,9 +31,13 @@ NoSecondFlag log = All (λ e. is_won_flag e ≡ false) (since_flag log)
 
 -- in an ordered core the flag of a call stays while the pin stands
 abbrev pub FlagsStay : Type 0
-FlagsStay = (c : Configuration) (searches : List Search) → c.searches ≡ Some searches → (w : ℕ) (e : Event) (r : Reply) → outcome_in c (w, e) ≡ Ok r → begins_anew (e, r) ≡ false
-    → (n : NodeId) → (search_of searches w).flagged ≡ Some n → (searched (search_of searches w) e r).flagged ≡ Some n
+FlagsStay = (c : Configuration) (searches : List Search) → c.searches ≡ Some searches
+    → (w : ℕ) (e : Event) (r : Reply) → outcome_in c (w, e) ≡ Ok r → begins_anew (e, r) ≡ false
+    → (n : NodeId) → (search_of searches w).flagged ≡ Some n
+    → (searched (search_of searches w) e r).flagged ≡ Some n
 
 -- and so does each arrival of a walk that began after it, with its key and its end once it has them
 abbrev pub LaterArrivalsOnlyGrow : Type 0
-LaterArrivalsOnlyGrow = (s : Search) (e : Event) (r : Reply) → begins_anew (e, r) ≡ false → (a : Arrival) → Contains s.later a → (b : Arrival) × Contains (searched s e r).later b × GrowsTo a b
+LaterArrivalsOnlyGrow = (s : Search) (e : Event) (r : Reply) → begins_anew (e, r) ≡ false
+    → (a : Arrival) → Contains s.later a
+    → (b : Arrival) × Contains (searched s e r).later b × GrowsTo a b

@@ -1,4 +1,5 @@
--- What a worker has in its hands, as its log tells it: private slots, and the queues of the ledgers that it holds.
+-- What a worker has in its hands, as its log tells it: private slots, and the queues of the ledgers
+-- that it holds.
 use Rattle.std.specs.Prelude.{◌≡◌, ℕ, ◌<◌, ◌≤◌, false, true, List, ◌++◌, map, Some, None, IsSome, slice_get}
 use Rattle.nm_edge.specs.Layouts.{Layout}
 use Rattle.nm_model.specs.declared.ledger.Ledger.{Ledger}
@@ -23,21 +24,27 @@ pub record AreApart (L : Layout) (k : Knowledge) : Type 0 where
   pub private : (x : ℕ) → is_private k x ≡ true → IsPooled L x
   pub waiting : (o i : ℕ) (e : Queued) → WaitsAt k o i e → IsPooled L e.node.slot
   pub shared : (o i : ℕ) (e : Queued) → WaitsAt k o i e → is_private k e.node.slot ≡ false
-  pub once : (o p i j : ℕ) (e f : Queued) → WaitsAt k o i e → WaitsAt k p j f → e.node.slot ≡ f.node.slot → (o ≡ p) × (i ≡ j)
+  pub once : (o p i j : ℕ) (e f : Queued) → WaitsAt k o i e → WaitsAt k p j f
+      → e.node.slot ≡ f.node.slot → (o ≡ p) × (i ≡ j)
   pub origins : (o : ℕ) → IsSome (held k.ledgers o) → o < L.workers
 
 -- the hands of each worker, as its part of any ordered run tells them
 abbrev pub HandsAreApart : Type 0
-HandsAreApart = (L : Layout) → 5 ≤ L.nodes → (w : ℕ) (log : List Entry) → IsLogOf L w log → AreApart L (known_by L w log)
+HandsAreApart = (L : Layout) → 5 ≤ L.nodes → (w : ℕ) (log : List Entry) → IsLogOf L w log
+    → AreApart L (known_by L w log)
 
 -- ---- the ledgers that it holds
 
--- of each ledger that worker w holds, what was retired is what was freed and then what waits, in this order; and an entry without a label waits
--- in the own queue alone, after a cut that its brief tells of
+-- of each ledger that worker w holds, what was retired is what was freed and then what waits, in
+-- this order; and an entry without a label waits in the own queue alone, after a cut that its brief
+-- tells of
 pub record LedgersAreKept (w : ℕ) (k : Knowledge) : Type 0 where
-  pub split : (o : ℕ) (l : Ledger) → held k.ledgers o ≡ Some l → l.retired ≡ l.freed ++ map node_in l.queue
-  pub labelled : (o i : ℕ) (e : Queued) → WaitsAt k o i e → e.label ≡ None → (o ≡ w) × (k.brief.unlabelled ≡ true)
+  pub split : (o : ℕ) (l : Ledger) → held k.ledgers o ≡ Some l
+      → l.retired ≡ l.freed ++ map node_in l.queue
+  pub labelled : (o i : ℕ) (e : Queued) → WaitsAt k o i e → e.label ≡ None
+      → (o ≡ w) × (k.brief.unlabelled ≡ true)
 
 -- the ledgers of each worker, as its part of any ordered run tells them
 abbrev pub HeldLedgersAreKept : Type 0
-HeldLedgersAreKept = (L : Layout) → 5 ≤ L.nodes → (w : ℕ) (log : List Entry) → IsLogOf L w log → LedgersAreKept w (known_by L w log)
+HeldLedgersAreKept = (L : Layout) → 5 ≤ L.nodes → (w : ℕ) (log : List Entry) → IsLogOf L w log
+    → LedgersAreKept w (known_by L w log)

@@ -1,4 +1,5 @@
--- The set's history: the calls of a run, in the order of their moments, as a history of one plain set.
+-- The set's history: the calls of a run, in the order of their moments, as a history of one plain
+-- set.
 use Rattle.std.specs.Prelude.{Contains, ◌≡◌, ◌⊎◌, ◌↔◌, ℕ, ◌+◌, ◌<◌, ◌≤◌, Bool, true, false, not, List, [], ◌∷◌, ◌++◌, length, map, Ok, if◌then◌else◌}
 use Rattle.std.specs.List.{list_any}
 use Rattle.nm_edge.specs.Keys.{IsKey}
@@ -57,15 +58,17 @@ abbrev pub IsAmong : List Act → Act → Type 0
 IsAmong [] a = ⊥
 IsAmong (b ∷ acts) a = (b ≡ a) ⊎ IsAmong acts a
 
--- an act may stand behind one of that moment, which was quiet where it changed nothing: it is later, or of the same moment,
--- and then it is no change where the one before it was quiet
+-- an act may stand behind one of that moment, which was quiet where it changed nothing: it is
+-- later, or of the same moment, and then it is no change where the one before it was quiet
 abbrev pub ComesNext : ℕ → Bool → Act → Type 0
-ComesNext m quiet a = (m < a.moment) ⊎ ((m ≡ a.moment) × (quiet ≡ true → changes a.op a.answer ≡ false))
+ComesNext m quiet a = (m < a.moment)
+    ⊎ ((m ≡ a.moment) × (quiet ≡ true → changes a.op a.answer ≡ false))
 
 -- acts in the order of their moments, at each moment changes before answers that change nothing
 abbrev pub InOrderOfMoments : ℕ → Bool → List Act → Type 0
 InOrderOfMoments m quiet [] = Unit {0}
-InOrderOfMoments m quiet (a ∷ acts) = ComesNext m quiet a × InOrderOfMoments a.moment (not (changes a.op a.answer)) acts
+InOrderOfMoments m quiet (a ∷ acts) =
+    ComesNext m quiet a × InOrderOfMoments a.moment (not (changes a.op a.answer)) acts
 
 -- both are of one call: of one worker, under one pin
 abbrev pub SameCall : Act → Act → Type 0
@@ -78,16 +81,19 @@ EachOnce (a ∷ acts) = ((b : Act) → IsAmong acts b → SameCall a b → ⊥) 
 
 -- ---- calls of a run
 
--- the number of the last of these turns, the first of which is number n, by which a worker confirmed or left a pin; so_far, where there is none
+-- the number of the last of these turns, the first of which is number n, by which a worker
+-- confirmed or left a pin; so_far, where there is none
 abbrev pub last_anew : ℕ → ℕ → ℕ → List Turn → ℕ
 last_anew w so_far n [] = so_far
-last_anew w so_far n (t ∷ turns) = last_anew w (if list_any begins_anew (log_of w (t ∷ [])) then n else so_far) (n + 1) turns
+last_anew w so_far n (t ∷ turns) =
+    last_anew w (if list_any begins_anew (log_of w (t ∷ [])) then n else so_far) (n + 1) turns
 
 -- the number of the turn that confirmed a worker's pin, which stands
 abbrev pub pin_of : Layout → List (ℕ × Event) → ℕ → ℕ
 pin_of L turns w = last_anew w 0 0 (trace_in (ordered L) turns)
 
--- the call of a worker's pin has made its change: an insert has linked, or the leaf that a delete flagged is cut
+-- the call of a worker's pin has made its change: an insert has linked, or the leaf that a delete
+-- flagged is cut
 abbrev pub HasChanged : Layout → List (ℕ × Event) → ℕ → Op → ℕ → Type 0
 HasChanged L turns w Has k = ⊥
 HasChanged L turns w Insert k = HasInserted L turns w k
@@ -97,10 +103,15 @@ HasChanged L turns w Delete k = HasDeleted L turns w k
 -- and its moment is one of the call, later than its pin and no later than its answer (Herlihy and
 -- Wing, completions of a history)
 pub data IsAct (L : Layout) (turns : List (ℕ × Event)) (a : Act) : Type 0 where
-  IsAnswered : (before since : List (ℕ × Event)) → turns ≡ before ++ (a.worker, LeaveWith a.answer) ∷ since → MayAnswer (after_in (ordered L) before) a.worker a.op a.key a.answer
-      → a.pin ≡ pin_of L before a.worker → a.pin < a.moment → a.moment ≤ length before → IsAct L turns a
-  IsPending : IsCalled (after_in (ordered L) turns) a.worker a.op a.key → HasChanged L turns a.worker a.op a.key → a.answer ≡ true
-      → a.pin ≡ pin_of L turns a.worker → a.pin < a.moment → a.moment ≤ length turns → IsAct L turns a
+  IsAnswered : (before since : List (ℕ × Event))
+      → turns ≡ before ++ (a.worker, LeaveWith a.answer) ∷ since
+      → MayAnswer (after_in (ordered L) before) a.worker a.op a.key a.answer
+      → a.pin ≡ pin_of L before a.worker → a.pin < a.moment → a.moment ≤ length before
+      → IsAct L turns a
+  IsPending : IsCalled (after_in (ordered L) turns) a.worker a.op a.key
+      → HasChanged L turns a.worker a.op a.key → a.answer ≡ true
+      → a.pin ≡ pin_of L turns a.worker → a.pin < a.moment → a.moment ≤ length turns
+      → IsAct L turns a
 
 -- an act of a call, by its worker, pin, operation, key and answer
 pub record HasAct (acts : List Act) (w pin : ℕ) (op : Op) (k : ℕ) (answer : Bool) : Type 0 where
@@ -129,7 +140,8 @@ pub record HasInARow (acts : List Act) (ks : List ℕ) (moment : ℕ) (Is : Act 
 
 -- an act is the true delete that flagged one of these nodes
 abbrev pub IsDeleteOf : Layout → List (ℕ × Event) → List NodeId → Act → Type 0
-IsDeleteOf L before ns a = (a.op ≡ Delete) × (a.answer ≡ true) × (f : HasFlagged L before a.worker a.key) × Contains ns f.flagged
+IsDeleteOf L before ns a = (a.op ≡ Delete) × (a.answer ≡ true)
+    × (f : HasFlagged L before a.worker a.key) × Contains ns f.flagged
 
 -- the acts up to a moment lead a plain set, empty at first, to these keys
 pub record LeadsTo (acts : List Act) (moment : ℕ) (keys : ℕ → Type 0) : Type 0 where
@@ -148,15 +160,27 @@ pub record IsHistory (L : Layout) (turns : List (ℕ × Event)) (acts : List Act
   pub replays : Replays nothing acts (InSet (after_in (ordered L) turns).state.memory)
   pub in_order : InOrderOfMoments 0 false acts
   pub once : EachOnce acts
-  -- a link that is won is the moment of its own insert, and a cut that of the deletes whose leaves it cuts, in its order
-  pub links : (before since : List (ℕ × Event)) (w parent : ℕ) (side : Side) (leaf new : ℕ) (n : NodeId) (k : ℕ) → turns ≡ before ++ (w, Link parent side leaf new) ∷ since → outcome_in (after_in (ordered L) before) (w, Link parent side leaf new) ≡ Ok (Linked n)
-      → IsCalled (after_in (ordered L) before) w Insert k → HasInARow acts (k ∷ []) (length before + 1) (λ a. (a.worker ≡ w) × (a.op ≡ Insert) × (a.answer ≡ true))
-  pub cuts : (before since : List (ℕ × Event)) (turn : ℕ × Event) (ns : List NodeId) → turns ≡ before ++ turn ∷ since → outcome_in (after_in (ordered L) before) turn ≡ Ok (Cut ns)
-      → HasInARow acts (leaf_keys (after_in (ordered L) before).state.memory (slots_of ns)) (length before + 1) (IsDeleteOf L before ns)
-  pub moments : (before since : List (ℕ × Event)) → turns ≡ before ++ since → LeadsTo acts (length before) (InSet (after_in (ordered L) before).state.memory)
+  -- a link that is won is the moment of its own insert, and a cut that of the deletes whose leaves
+  -- it cuts, in its order
+  pub links : (before since : List (ℕ × Event)) (w parent : ℕ) (side : Side) (leaf new : ℕ)
+      (n : NodeId) (k : ℕ) → turns ≡ before ++ (w, Link parent side leaf new) ∷ since
+      → outcome_in (after_in (ordered L) before) (w, Link parent side leaf new) ≡ Ok (Linked n)
+      → IsCalled (after_in (ordered L) before) w Insert k
+      → HasInARow acts (k ∷ []) (length before + 1)
+      (λ a. (a.worker ≡ w) × (a.op ≡ Insert) × (a.answer ≡ true))
+  pub cuts : (before since : List (ℕ × Event)) (turn : ℕ × Event) (ns : List NodeId)
+      → turns ≡ before ++ turn ∷ since → outcome_in (after_in (ordered L) before) turn ≡ Ok (Cut ns)
+      → HasInARow acts (leaf_keys (after_in (ordered L) before).state.memory (slots_of ns))
+      (length before + 1) (IsDeleteOf L before ns)
+  pub moments : (before since : List (ℕ × Event)) → turns ≡ before ++ since
+      → LeadsTo acts (length before) (InSet (after_in (ordered L) before).state.memory)
   pub each : (a : Act) → IsAmong acts a → IsAct L turns a
-  pub answered : (before since : List (ℕ × Event)) (w : ℕ) (op : Op) (k : ℕ) (answer : Bool) → turns ≡ before ++ (w, LeaveWith answer) ∷ since → MayAnswer (after_in (ordered L) before) w op k answer → HasAct acts w (pin_of L before w) op k answer
-  pub pending : (w : ℕ) (op : Op) (k : ℕ) → IsCalled (after_in (ordered L) turns) w op k → HasChanged L turns w op k → HasAct acts w (pin_of L turns w) op k true
+  pub answered : (before since : List (ℕ × Event)) (w : ℕ) (op : Op) (k : ℕ) (answer : Bool)
+      → turns ≡ before ++ (w, LeaveWith answer) ∷ since
+      → MayAnswer (after_in (ordered L) before) w op k answer
+      → HasAct acts w (pin_of L before w) op k answer
+  pub pending : (w : ℕ) (op : Op) (k : ℕ) → IsCalled (after_in (ordered L) turns) w op k
+      → HasChanged L turns w op k → HasAct acts w (pin_of L turns w) op k true
 
 -- the run has a history (Herlihy and Wing, section 3, linearizability)
 abbrev pub HasHistory : Layout → List (ℕ × Event) → Type 0

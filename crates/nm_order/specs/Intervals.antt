@@ -1,4 +1,5 @@
--- The interval of a node: the keys whose search from the root comes to it; and what ordered runs keep of it.
+-- The interval of a node: the keys whose search from the root comes to it; and what ordered runs
+-- keep of it.
 use Rattle.std.specs.Prelude.{◌≡◌, ◌⊎◌, ◌↔◌, ℕ, ◌<◌, ◌≤◌, true, false, Contains, AllPairs, Ok, List, [], ◌∷◌, slice_get, All, Some}
 use Rattle.nm_edge.specs.Edges.{to}
 use Rattle.nm_edge.specs.Layouts.{Layout}
@@ -22,7 +23,8 @@ pub use Rattle.nm_model.specs.Ordered.{HasKey}
 -- section 3.1)
 abbrev pub GoesBy : (ℕ → Side → ℕ) → (ℕ → ℕ) → ℕ → ℕ → List Side → Type 0
 GoesBy children keys k s [] = Unit {0}
-GoesBy children keys k s (side ∷ sides) = (side_of k (keys s) ≡ side) × GoesBy children keys k (children s side) sides
+GoesBy children keys k s (side ∷ sides) =
+    (side_of k (keys s) ≡ side) × GoesBy children keys k (children s side) sides
 
 abbrev pub key : Memory → ℕ → ℕ
 key m x = (node m x).key
@@ -37,15 +39,18 @@ pub record InInterval (m : Memory) (k x : ℕ) : Type 0 where
 -- in every run of an ordered core of at least 5 nodes from its opening, with calls for keys of the
 -- set: of the configuration to which it leads
 abbrev pub OfEachOrdered : (Configuration → Type 0) → Type 0
-OfEachOrdered P = (L : Layout) → 5 ≤ L.nodes → (turns : List (ℕ × Event)) → All (λ t. HasKey t.1) turns → P (after_in (ordered L) turns)
+OfEachOrdered P = (L : Layout) → 5 ≤ L.nodes → (turns : List (ℕ × Event))
+    → All (λ t. HasKey t.1) turns → P (after_in (ordered L) turns)
 
 -- each reached node's key lies in its interval
 abbrev pub KeysLieInIntervals : Configuration → Type 0
-KeysLieInIntervals c = (x : ℕ) → Reached c.state.memory x → InInterval c.state.memory (key c.state.memory x) x
+KeysLieInIntervals c = (x : ℕ) → Reached c.state.memory x
+    → InInterval c.state.memory (key c.state.memory x) x
 
 -- no two reached leaves have one key
 abbrev pub LeavesHaveTheirOwnKeys : Configuration → Type 0
-LeavesHaveTheirOwnKeys c = (x y : ℕ) → Reached c.state.memory x → Reached c.state.memory y → is_leaf (node c.state.memory x) ≡ true → is_leaf (node c.state.memory y) ≡ true
+LeavesHaveTheirOwnKeys c = (x y : ℕ) → Reached c.state.memory x → Reached c.state.memory y
+    → is_leaf (node c.state.memory x) ≡ true → is_leaf (node c.state.memory y) ≡ true
     → key c.state.memory x ≡ key c.state.memory y → x ≡ y
 
 -- an arrival of a walk of the call under a worker's pin, for that key
@@ -60,11 +65,13 @@ pub record HasCome (c : Configuration) (u k : ℕ) (a : Arrival) : Type 0 where
 
 -- where an internal node to which a walk came is reached now, the walk's key is in its interval now
 abbrev pub WalksStayInOrder : Configuration → Type 0
-WalksStayInOrder c = (u k : ℕ) (a : Arrival) → HasCome c u k a → Reached c.state.memory a.slot → is_leaf (node c.state.memory a.slot) ≡ false → InInterval c.state.memory k a.slot
+WalksStayInOrder c = (u k : ℕ) (a : Arrival) → HasCome c u k a → Reached c.state.memory a.slot
+    → is_leaf (node c.state.memory a.slot) ≡ false → InInterval c.state.memory k a.slot
 
 -- the key that a walk read at a slot is that slot's key now
 abbrev pub WalksReadKeys : Configuration → Type 0
-WalksReadKeys c = (u k n : ℕ) (a : Arrival) → HasCome c u k a → a.key ≡ Some n → key c.state.memory a.slot ≡ n
+WalksReadKeys c = (u k n : ℕ) (a : Arrival) → HasCome c u k a → a.key ≡ Some n
+    → key c.state.memory a.slot ≡ n
 
 -- ---- the set
 
@@ -88,13 +95,16 @@ pub record Gains (before after : Memory) (k : ℕ) : Type 0 where
 
 -- a link that is won is one of a call to insert, and the set gains that call's key
 abbrev pub LinksInsert : Configuration → Type 0
-LinksInsert c = (w p : ℕ) (side : Side) (leaf new : ℕ) (n : NodeId) → outcome_in c (w, Link p side leaf new) ≡ Ok (Linked n)
-    → (k : ℕ) × IsCalled c w Insert k × Gains c.state.memory (next_in c (w, Link p side leaf new)).state.memory k
+LinksInsert c = (w p : ℕ) (side : Side) (leaf new : ℕ) (n : NodeId)
+    → outcome_in c (w, Link p side leaf new) ≡ Ok (Linked n)
+    → (k : ℕ) × IsCalled c w Insert k
+    × Gains c.state.memory (next_in c (w, Link p side leaf new)).state.memory k
 
 -- a flag was won on the edge from a reached parent to a reached leaf with key k; the edge was not
 -- marked, and the answer names that leaf with its birth (Natarajan and Mittal, section 3.2,
 -- injection)
-pub record Marks (m : Memory) (parent : ℕ) (side : Side) (leaf : ℕ) (flagged : NodeId) (k : ℕ) : Type 0 where
+pub record Marks (m : Memory) (parent : ℕ) (side : Side) (leaf : ℕ) (flagged : NodeId)
+    (k : ℕ) : Type 0 where
   pub parent_reached : Reached m parent
   pub unmarked : edge m parent side ≡ to leaf
   pub reached : Reached m leaf
@@ -104,7 +114,8 @@ pub record Marks (m : Memory) (parent : ℕ) (side : Side) (leaf : ℕ) (flagged
 
 -- a flag that is won is one of a call to delete, and marks the leaf of that call's key
 abbrev pub FlagsMarkLeaves : Configuration → Type 0
-FlagsMarkLeaves c = (w p : ℕ) (side : Side) (leaf : ℕ) (n : NodeId) → outcome_in c (w, Flag p side leaf) ≡ Ok (Flagged n)
+FlagsMarkLeaves c = (w p : ℕ) (side : Side) (leaf : ℕ) (n : NodeId)
+    → outcome_in c (w, Flag p side leaf) ≡ Ok (Flagged n)
     → (k : ℕ) × IsCalled c w Delete k × Marks c.state.memory p side leaf n k
 
 -- the keys that a core tells are those of the set, without the sentinels

@@ -28,7 +28,8 @@ changes Delete answer = answer
 
 -- at a moment under the pin that stands since, a plain set of the keys of the reached leaves gives
 -- the answer to the call (Herlihy and Wing)
-pub record WasLegal (L : Layout) (turns : List (ℕ × Event)) (w : ℕ) (op : Op) (k : ℕ) (answer : Bool) : Type 0 where
+pub record WasLegal (L : Layout) (turns : List (ℕ × Event)) (w : ℕ) (op : Op) (k : ℕ)
+    (answer : Bool) : Type 0 where
   pub before : List (ℕ × Event)
   pub since : List (ℕ × Event)
   pub is_run : turns ≡ before ++ since
@@ -38,4 +39,6 @@ pub record WasLegal (L : Layout) (turns : List (ℕ × Event)) (w : ℕ) (op : O
 
 -- an answer that changes nothing was right at a moment since the pin
 abbrev pub OtherAnswersWereLegal : Layout → List (ℕ × Event) → Type 0
-OtherAnswersWereLegal L turns = (w : ℕ) (op : Op) (k : ℕ) (answer : Bool) → MayAnswer (after_in (ordered L) turns) w op k answer → changes op answer ≡ false → WasLegal L turns w op k answer
+OtherAnswersWereLegal L turns =
+    (w : ℕ) (op : Op) (k : ℕ) (answer : Bool) → MayAnswer (after_in (ordered L) turns) w op k answer
+    → changes op answer ≡ false → WasLegal L turns w op k answer

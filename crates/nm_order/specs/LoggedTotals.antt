@@ -13,7 +13,8 @@ use Rattle.nm_order.specs.WalksToArrivals.{is_won_flag}
 -- how many entries of a log are such, in calls for k, after what was told of the call before
 unfoldable pub log_often : (Entry → Bool) → ℕ → Search → List Entry → ℕ
 log_often is_such k s [] = 0
-log_often is_such k s (e ∷ es) = (if is_such e && is_for k s.call then 1 else 0) + log_often is_such k (searched s e.0 e.1) es
+log_often is_such k s (e ∷ es) =
+    (if is_such e && is_for k s.call then 1 else 0) + log_often is_such k (searched s e.0 e.1) es
 
 -- the sum over workers 0 to n - 1
 abbrev pub sum_of : (ℕ → ℕ) → ℕ → ℕ
@@ -22,5 +23,8 @@ sum_of f (suc n) = sum_of f n + f n
 
 -- the links, and the flags, of a run are those in its workers' parts
 abbrev pub TotalsAreInTheLogs : Layout → List (ℕ × Event) → Type 0
-TotalsAreInTheLogs L turns = (k : ℕ) → (links_of k L turns ≡ sum_of (λ w. log_often is_won_link k idle (part_of w (trace_in (ordered L) turns))) L.workers)
-    × (flags_of k L turns ≡ sum_of (λ w. log_often is_won_flag k idle (part_of w (trace_in (ordered L) turns))) L.workers)
+TotalsAreInTheLogs L turns = (k : ℕ)
+    → (links_of k L turns ≡ sum_of
+    (λ w. log_often is_won_link k idle (part_of w (trace_in (ordered L) turns))) L.workers)
+    × (flags_of k L turns ≡ sum_of
+    (λ w. log_often is_won_flag k idle (part_of w (trace_in (ordered L) turns))) L.workers)

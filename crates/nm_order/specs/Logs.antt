@@ -45,4 +45,5 @@ pub record IsLogOf (L : Layout) (w : ℕ) (log : List Entry) : Type 0 where
 -- in every ordered run, what a worker knows is what its part tells
 abbrev pub LogsTellWhatIsKnown : Type 0
 LogsTellWhatIsKnown = (L : Layout) (turns : List (ℕ × Event)) (w : ℕ) → w < L.workers
-    → of (after_in (ordered L) turns).state w ≡ known_by L w (part_of w (trace_in (ordered L) turns))
+    → of (after_in (ordered L) turns).state w
+    ≡ known_by L w (part_of w (trace_in (ordered L) turns))

@@ -13,7 +13,8 @@ use Rattle.nm_order.specs.Intervals.{HasKey, IsCalled, InInterval}
 
 -- in every ordered run, of its layout and its turns
 abbrev pub OfEachOrderedRun : (Layout → List (ℕ × Event) → Type 0) → Type 0
-OfEachOrderedRun P = (L : Layout) → 5 ≤ L.nodes → (turns : List (ℕ × Event)) → All (λ t. HasKey t.1) turns → P L turns
+OfEachOrderedRun P = (L : Layout) → 5 ≤ L.nodes → (turns : List (ℕ × Event))
+    → All (λ t. HasKey t.1) turns → P L turns
 
 -- in these turns the worker confirms no pin and leaves none
 abbrev pub PinStands : ℕ → List Turn → Type 0
@@ -22,7 +23,8 @@ PinStands u turns = list_any begins_anew (log_of u turns) ≡ false
 -- at a moment of the run, under a pin for the call that stands since, the slot was reached and the
 -- search for the key came to it; and its node then is its node at the end: birth and key are the
 -- same, and it is a leaf where it was one (O'Hearn and others)
-pub record WasReached (c : Configuration) (turns : List (ℕ × Event)) (u : ℕ) (op : Op) (k x : ℕ) : Type 0 where
+pub record WasReached (c : Configuration) (turns : List (ℕ × Event)) (u : ℕ) (op : Op)
+    (k x : ℕ) : Type 0 where
   pub before : List (ℕ × Event)
   pub since : List (ℕ × Event)
   pub is_run : turns ≡ before ++ since
@@ -30,6 +32,9 @@ pub record WasReached (c : Configuration) (turns : List (ℕ × Event)) (u : ℕ
   pub stands : PinStands u (trace_in (after_in c before) since)
   pub reached : Reached (after_in c before).state.memory x
   pub lies : InInterval (after_in c before).state.memory k x
-  pub same_birth : (node (after_in c before).state.memory x).birth ≡ (node (after_in c turns).state.memory x).birth
-  pub same_key : (node (after_in c before).state.memory x).key ≡ (node (after_in c turns).state.memory x).key
-  pub same_kind : is_leaf (node (after_in c before).state.memory x) ≡ is_leaf (node (after_in c turns).state.memory x)
+  pub same_birth : (node (after_in c before).state.memory x).birth
+      ≡ (node (after_in c turns).state.memory x).birth
+  pub same_key : (node (after_in c before).state.memory x).key
+      ≡ (node (after_in c turns).state.memory x).key
+  pub same_kind : is_leaf (node (after_in c before).state.memory x)
+      ≡ is_leaf (node (after_in c turns).state.memory x)

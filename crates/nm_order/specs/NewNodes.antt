@@ -10,4 +10,5 @@ use Rattle.nm_model.specs.Runs.{State, outcome}
 -- in every run, of plain cores too: a link that is won names the new node, with the birth that
 -- stands in its slot
 abbrev pub LinksNameNewNodes : State → Type 0
-LinksNameNewNodes s = (w parent : ℕ) (side : Side) (leaf new : ℕ) (n : NodeId) → outcome s (w, Link parent side leaf new) ≡ Ok (Linked n) → n ≡ named s.memory new
+LinksNameNewNodes s = (w parent : ℕ) (side : Side) (leaf new : ℕ) (n : NodeId)
+    → outcome s (w, Link parent side leaf new) ≡ Ok (Linked n) → n ≡ named s.memory new

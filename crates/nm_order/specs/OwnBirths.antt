@@ -1,4 +1,5 @@
--- Births that a worker's own log tells while its pin stands: those that it looked at, and those that it had stored in the two nodes of a link that it won.
+-- Births that a worker's own log tells while its pin stands: those that it looked at, and those
+-- that it had stored in the two nodes of a link that it won.
 use Rattle.std.specs.Prelude.{◌≡◌, ℕ, ◌<◌, ◌==◌, ◌||◌, List, [], ◌∷◌, if◌then◌else◌, Option, Some, None, unwrap_or}
 use Rattle.nm_edge.specs.Layouts.{Layout}
 use Rattle.nm_model.specs.declared.event.Event.{Event}
@@ -15,11 +16,15 @@ use Rattle.nm_order.specs.Logs.{part_of, known_by}
 abbrev pub no_births : ℕ → Option ℕ
 no_births x = None
 
--- the two nodes of a link with the births that were stored in them: the new node, and of the two nodes under it the one beside the leaf
+-- the two nodes of a link with the births that were stored in them: the new node, and of the two
+-- nodes under it the one beside the leaf
 abbrev pub with_linked : (ℕ → Option ℕ) → Knowledge → ℕ → ℕ → ℕ → Option ℕ
-with_linked births k leaf new x = if (x == new) || (x == unwrap_or (beside (draft_of k new) leaf) 0) then (draft_of k x).birth else births x
+with_linked births k leaf new x =
+    if (x == new) || (x == unwrap_or (beside (draft_of k new) leaf) 0) then (draft_of k x).birth
+    else births x
 
--- what an entry adds to these births, by what its worker knew before it: a link that is won adds its two nodes, and a pin that is confirmed or left takes all back
+-- what an entry adds to these births, by what its worker knew before it: a link that is won adds
+-- its two nodes, and a pin that is confirmed or left takes all back
 abbrev pub stored_by : Knowledge → (ℕ → Option ℕ) → Entry → ℕ → Option ℕ
 stored_by k births (Link parent side leaf new, Linked n) = with_linked births k leaf new
 stored_by k births entry = if begins_anew entry then no_births else births
@@ -39,4 +44,6 @@ births_by L w log x = or_else (seen_of (known_by L w log) x).birth (stored_in L 
 
 -- in every ordered run each of them stands in its slot
 abbrev pub OwnBirthsStand : Layout → List (ℕ × Event) → Type 0
-OwnBirthsStand L turns = (w x b : ℕ) → w < L.workers → births_by L w (part_of w (trace_in (ordered L) turns)) x ≡ Some b → (node (after_in (ordered L) turns).state.memory x).birth ≡ b
+OwnBirthsStand L turns = (w x b : ℕ) → w < L.workers
+    → births_by L w (part_of w (trace_in (ordered L) turns)) x ≡ Some b
+    → (node (after_in (ordered L) turns).state.memory x).birth ≡ b

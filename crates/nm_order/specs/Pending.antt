@@ -10,7 +10,8 @@ use Rattle.nm_model.specs.Paths.{Reached}
 use Rattle.nm_model.specs.Ordered.{ordered, outcome_in, after_in}
 use Rattle.nm_order.specs.Exchanges.{HasFlagged}
 
--- one delete to which a leaf belongs: a call under a pin that stands has flagged it, and no other such call has
+-- one delete to which a leaf belongs: a call under a pin that stands has flagged it, and no other
+-- such call has
 pub record IsOfOneDelete (L : Layout) (turns : List (ℕ × Event)) (n : NodeId) : Type 0 where
   pub worker : ℕ
   pub key : ℕ
@@ -20,10 +21,16 @@ pub record IsOfOneDelete (L : Layout) (turns : List (ℕ × Event)) (n : NodeId)
 
 -- a flagged edge of a reached node leads to the leaf of one delete, which is not answered yet
 abbrev pub FlaggedLeavesArePending : Layout → List (ℕ × Event) → Type 0
-FlaggedLeavesArePending L turns = (parent : ℕ) (side : Side) → Reached (after_in (ordered L) turns).state.memory parent → (edge (after_in (ordered L) turns).state.memory parent side).flag ≡ true
-    → IsOfOneDelete L turns (named (after_in (ordered L) turns).state.memory (child (after_in (ordered L) turns).state.memory parent side))
+FlaggedLeavesArePending L turns =
+    (parent : ℕ) (side : Side) → Reached (after_in (ordered L) turns).state.memory parent
+    → (edge (after_in (ordered L) turns).state.memory parent side).flag ≡ true
+    → IsOfOneDelete L turns (named (after_in (ordered L) turns).state.memory
+    (child (after_in (ordered L) turns).state.memory parent side))
 
 -- each leaf of a cut is that of one delete, which is not answered yet
 abbrev pub CutLeavesAreOfOneDelete : Layout → List (ℕ × Event) → Type 0
-CutLeavesAreOfOneDelete L turns = (cut : ℕ × Event) (ns : List NodeId) → outcome_in (after_in (ordered L) turns) cut ≡ Ok (Cut ns) → (n : NodeId) → Contains ns n → is_leaf (node (after_in (ordered L) turns).state.memory n.slot) ≡ true
+CutLeavesAreOfOneDelete L turns =
+    (cut : ℕ × Event) (ns : List NodeId) → outcome_in (after_in (ordered L) turns) cut ≡ Ok (Cut ns)
+    → (n : NodeId) → Contains ns n
+    → is_leaf (node (after_in (ordered L) turns).state.memory n.slot) ≡ true
     → IsOfOneDelete L turns n

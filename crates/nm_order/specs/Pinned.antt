@@ -22,7 +22,9 @@ abbrev pub pinned_after : Option ℕ → List Entry → Option ℕ
 pinned_after pin [] = pin
 pinned_after pin (entry ∷ entries) = pinned_after (pinned_by pin entry) entries
 
--- in every run, a worker is pinned at an epoch just where the last sight of it that was answered `pinned` is at that epoch,
--- and no leave of it came behind
+-- in every run, a worker is pinned at an epoch just where the last sight of it that was answered
+-- `pinned` is at that epoch, and no leave of it came behind
 abbrev pub PinsAreTold : Type 0
-PinsAreTold = (L : Layout) → 5 ≤ L.nodes → (turns : List (ℕ × Event)) (w : ℕ) → (of (after (start L) turns) w).brief.pin ≡ pinned_after None (log_of w (trace (start L) turns))
+PinsAreTold = (L : Layout) → 5 ≤ L.nodes → (turns : List (ℕ × Event)) (w : ℕ)
+    → (of (after (start L) turns) w).brief.pin
+    ≡ pinned_after None (log_of w (trace (start L) turns))

@@ -22,7 +22,8 @@ left_by_advance (Moved e) = Some e
 left_by_advance (Behind e) = Some e
 left_by_advance _ = None
 
--- the epoch that an event with its reply tells: a sight the one that it found, an advance the one that stands after it
+-- the epoch that an event with its reply tells: a sight the one that it found, an advance the one
+-- that stands after it
 abbrev pub epoch_read : Event → Reply → Option ℕ
 epoch_read Sight r = sight_epoch r
 epoch_read (SightFor op key) r = sight_epoch r
@@ -43,4 +44,5 @@ pub record ReadLast (log : List Entry) (seen : Option ℕ) (epoch : ℕ) : Type 
 
 -- the epoch that a worker has read last is the greatest that it has read
 abbrev pub EpochsAreReadInOrder : Type 0
-EpochsAreReadInOrder = (L : Layout) → 5 ≤ L.nodes → (w : ℕ) (log : List Entry) → IsLogOf L w log → (epoch : ℕ) → HasRead log epoch → ReadLast log (known_by L w log).brief.seen epoch
+EpochsAreReadInOrder = (L : Layout) → 5 ≤ L.nodes → (w : ℕ) (log : List Entry) → IsLogOf L w log
+    → (epoch : ℕ) → HasRead log epoch → ReadLast log (known_by L w log).brief.seen epoch

@@ -28,13 +28,18 @@ pub record EndsBefore (L : Layout) (turns : List (ℕ × Event)) (a : Act) (n : 
 -- confirmed comes first; and so do the calls of each worker (Herlihy and Wing, section 2, real-time
 -- order)
 pub record KeepsRealTime (L : Layout) (turns : List (ℕ × Event)) (acts : List Act) : Type 0 where
-  pub apart : (a b : Act) → IsAmong acts a → IsAmong acts b → EndsBefore L turns a b.pin → Precedes acts a b
-  pub own : (a b : Act) → IsAmong acts a → IsAmong acts b → a.worker ≡ b.worker → a.pin < b.pin → Precedes acts a b
+  pub apart : (a b : Act) → IsAmong acts a → IsAmong acts b → EndsBefore L turns a b.pin
+      → Precedes acts a b
+  pub own : (a b : Act) → IsAmong acts a → IsAmong acts b → a.worker ≡ b.worker → a.pin < b.pin
+      → Precedes acts a b
 
 -- of each call a history has one act
 abbrev pub HistoriesHaveOneActACall : Layout → List (ℕ × Event) → Type 0
-HistoriesHaveOneActACall L turns = (acts : List Act) → IsHistory L turns acts → (a b : Act) → IsAmong acts a → IsAmong acts b → SameCall a b → a ≡ b
+HistoriesHaveOneActACall L turns =
+    (acts : List Act) → IsHistory L turns acts → (a b : Act) → IsAmong acts a → IsAmong acts b
+    → SameCall a b → a ≡ b
 
 -- each history of a run keeps that order
 abbrev pub HistoriesKeepRealTime : Layout → List (ℕ × Event) → Type 0
-HistoriesKeepRealTime L turns = (acts : List Act) → IsHistory L turns acts → KeepsRealTime L turns acts
+HistoriesKeepRealTime L turns =
+    (acts : List Act) → IsHistory L turns acts → KeepsRealTime L turns acts

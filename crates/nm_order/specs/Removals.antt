@@ -1,4 +1,5 @@
--- The moment of a delete: the cut that contains the leaf which it flagged; and what a cut takes from the set.
+-- The moment of a delete: the cut that contains the leaf which it flagged; and what a cut takes
+-- from the set.
 use Rattle.std.specs.Prelude.{◌≡◌, ◌↔◌, ℕ, true, List, ◌∷◌, ◌++◌, Contains, Ok}
 use Rattle.nm_edge.specs.Layouts.{Layout}
 use Rattle.nm_edge.specs.declared.node.NodeId.{NodeId}
@@ -25,7 +26,8 @@ pub record Loses (before after : Memory) (ns : List NodeId) : Type 0 where
 
 -- a cut takes from the set just the keys of its leaves
 abbrev pub CutsTakeTheirKeys : Configuration → Type 0
-CutsTakeTheirKeys c = (turn : ℕ × Event) (ns : List NodeId) → outcome_in c turn ≡ Ok (Cut ns) → Loses c.state.memory (next_in c turn).state.memory ns
+CutsTakeTheirKeys c = (turn : ℕ × Event) (ns : List NodeId) → outcome_in c turn ≡ Ok (Cut ns)
+    → Loses c.state.memory (next_in c turn).state.memory ns
 
 -- under the pin that stands since, the worker's call to delete k had flagged its leaf, and
 -- somebody's splice cut that leaf (Natarajan and Mittal, section 3.2, cleanup, with helpers)
@@ -42,4 +44,5 @@ pub record HasDeleted (L : Layout) (turns : List (ℕ × Event)) (w k : ℕ) : T
 
 -- a true delete is a cut of the leaf that it flagged, by now
 abbrev pub TrueDeletesHaveDeleted : Layout → List (ℕ × Event) → Type 0
-TrueDeletesHaveDeleted L turns = (w k : ℕ) → MayAnswer (after_in (ordered L) turns) w Delete k true → HasDeleted L turns w k
+TrueDeletesHaveDeleted L turns =
+    (w k : ℕ) → MayAnswer (after_in (ordered L) turns) w Delete k true → HasDeleted L turns w k

@@ -1,4 +1,5 @@
--- Stale paths, for any key and under any pin: where the walks in a worker's log came since its pin was confirmed, for a call or for none.
+-- Stale paths, for any key and under any pin: where the walks in a worker's log came since its pin
+-- was confirmed, for a call or for none.
 use Rattle.std.specs.Prelude.{◌≡◌, ℕ, ◌<◌, false, List, [], ◌++◌, Some}
 use Rattle.nm_edge.specs.Layouts.{Layout}
 use Rattle.nm_edge.specs.declared.edge.Side.{Side}
@@ -31,20 +32,31 @@ pub record WasReachedSince (c : Configuration) (turns : List (ℕ × Event)) (u 
   pub stands : PinStands u (trace_in (after_in c before) since)
   pub reached : Reached (after_in c before).state.memory x
   pub lies : InInterval (after_in c before).state.memory k x
-  pub same_birth : (node (after_in c before).state.memory x).birth ≡ (node (after_in c turns).state.memory x).birth
-  pub same_key : (node (after_in c before).state.memory x).key ≡ (node (after_in c turns).state.memory x).key
-  pub same_kind : is_leaf (node (after_in c before).state.memory x) ≡ is_leaf (node (after_in c turns).state.memory x)
+  pub same_birth : (node (after_in c before).state.memory x).birth
+      ≡ (node (after_in c turns).state.memory x).birth
+  pub same_key : (node (after_in c before).state.memory x).key
+      ≡ (node (after_in c turns).state.memory x).key
+  pub same_kind : is_leaf (node (after_in c before).state.memory x)
+      ≡ is_leaf (node (after_in c turns).state.memory x)
 
--- each slot to which a walk for k came in a worker's log since its pin was reached since the pin, with k in its interval. The key may be any that
--- is below the key of slot 2: each walk begins at the left edge of slot 2, and the searches for all other keys turn right at slot 1 or 2
+-- each slot to which a walk for k came in a worker's log since its pin was reached since the pin,
+-- with k in its interval. The key may be any that is below the key of slot 2: each walk begins at
+-- the left edge of slot 2, and the searches for all other keys turn right at slot 1 or 2
 abbrev pub AnyWalkWasReached : Layout → List (ℕ × Event) → Type 0
-AnyWalkWasReached L turns = (u k slot parent : ℕ) (side : Side) → k < infinity_1 → WalkComes k (log_under_pin L turns u) slot parent side → WasReachedSince (ordered L) turns u k slot
+AnyWalkWasReached L turns = (u k slot parent : ℕ) (side : Side) → k < infinity_1
+    → WalkComes k (log_under_pin L turns u) slot parent side
+    → WasReachedSince (ordered L) turns u k slot
 
 -- and where it is an internal node that is reached now, k is in its interval now
 abbrev pub AnyWalkStaysInOrder : Layout → List (ℕ × Event) → Type 0
-AnyWalkStaysInOrder L turns = (u k slot parent : ℕ) (side : Side) → k < infinity_1 → WalkComes k (log_under_pin L turns u) slot parent side
-    → Reached (after_in (ordered L) turns).state.memory slot → is_leaf (node (after_in (ordered L) turns).state.memory slot) ≡ false → InInterval (after_in (ordered L) turns).state.memory k slot
+AnyWalkStaysInOrder L turns = (u k slot parent : ℕ) (side : Side) → k < infinity_1
+    → WalkComes k (log_under_pin L turns u) slot parent side
+    → Reached (after_in (ordered L) turns).state.memory slot
+    → is_leaf (node (after_in (ordered L) turns).state.memory slot) ≡ false
+    → InInterval (after_in (ordered L) turns).state.memory k slot
 
 -- the key that a walk read at a slot is that slot's key now, whatever the walk's own key is
 abbrev pub AnyWalkReadsKeys : Layout → List (ℕ × Event) → Type 0
-AnyWalkReadsKeys L turns = (u k slot parent : ℕ) (side : Side) (v : ℕ) → WalkReads k (log_under_pin L turns u) slot parent side v → key (after_in (ordered L) turns).state.memory slot ≡ v
+AnyWalkReadsKeys L turns = (u k slot parent : ℕ) (side : Side) (v : ℕ)
+    → WalkReads k (log_under_pin L turns u) slot parent side v
+    → key (after_in (ordered L) turns).state.memory slot ≡ v

@@ -27,23 +27,32 @@ pub record EdgeLearned (holds : Fact → Type 0) (x : ℕ) (side : Side) (e : Ed
 
 -- an edge that is told of a known slot is read, with its marks and its slot
 abbrev pub EdgesAreLearned : Layout → ℕ → List Entry → Entry → Type 0
-EdgesAreLearned L w log entry = (x : ℕ) (side : Side) (e : Edge) → TellsEdge entry x side e → Holds L w log (KnowsSlot x) → EdgeLearned (Holds L w (log ++ entry ∷ [])) x side e
+EdgesAreLearned L w log entry =
+    (x : ℕ) (side : Side) (e : Edge) → TellsEdge entry x side e → Holds L w log (KnowsSlot x)
+    → EdgeLearned (Holds L w (log ++ entry ∷ [])) x side e
 
 -- an edge that was tagged is known as tagged
 abbrev pub TagsAreLearned : Layout → ℕ → List Entry → Entry → Type 0
-TagsAreLearned L w log entry = (x : ℕ) (side : Side) (e : Edge) → entry ≡ (Tag x side, Was e) → Holds L w (log ++ entry ∷ []) (IsTagged x side e.slot)
+TagsAreLearned L w log entry =
+    (x : ℕ) (side : Side) (e : Edge) → entry ≡ (Tag x side, Was e)
+    → Holds L w (log ++ entry ∷ []) (IsTagged x side e.slot)
 
 -- and is just the one that was there, with the tag
 abbrev pub TagsFreeze : Layout → ℕ → List Entry → Entry → Type 0
-TagsFreeze L w log entry = (x : ℕ) (side : Side) (e : Edge) → entry ≡ (Tag x side, Was e) → Holds L w (log ++ entry ∷ []) (IsFrozen x side (tagged e))
+TagsFreeze L w log entry = (x : ℕ) (side : Side) (e : Edge) → entry ≡ (Tag x side, Was e)
+    → Holds L w (log ++ entry ∷ []) (IsFrozen x side (tagged e))
 
 -- an edge whose flag was won is known as flagged
 abbrev pub FlagsAreLearned : Layout → ℕ → List Entry → Entry → Type 0
-FlagsAreLearned L w log entry = (p leaf : ℕ) (side : Side) (n : NodeId) → entry ≡ (Flag p side leaf, Flagged n) → Holds L w (log ++ entry ∷ []) (IsFlagged p side leaf)
+FlagsAreLearned L w log entry =
+    (p leaf : ℕ) (side : Side) (n : NodeId) → entry ≡ (Flag p side leaf, Flagged n)
+    → Holds L w (log ++ entry ∷ []) (IsFlagged p side leaf)
 
 -- a birth that was looked at is known
 abbrev pub BirthsAreLearned : Layout → ℕ → List Entry → Entry → Type 0
-BirthsAreLearned L w log entry = (x b : ℕ) → entry ≡ (Look x Birth, BirthIs b) → Holds L w log (KnowsSlot x) → Holds L w (log ++ entry ∷ []) (IsBorn x b)
+BirthsAreLearned L w log entry =
+    (x b : ℕ) → entry ≡ (Look x Birth, BirthIs b) → Holds L w log (KnowsSlot x)
+    → Holds L w (log ++ entry ∷ []) (IsBorn x b)
 
 -- what a pin for a call tells at once
 pub record PinLearned (holds : Fact → Type 0) (op : Op) (key epoch : ℕ) : Type 0 where
@@ -54,29 +63,42 @@ pub record PinLearned (holds : Fact → Type 0) (op : Op) (key epoch : ℕ) : Ty
 
 -- each pin that is confirmed for a call tells that
 abbrev pub PinsAreLearned : Layout → ℕ → List Entry → Entry → Type 0
-PinsAreLearned L w log entry = (op : Op) (key epoch : ℕ) → entry ≡ (SightFor op key, Pinned epoch) → PinLearned (Holds L w (log ++ entry ∷ [])) op key epoch
+PinsAreLearned L w log entry =
+    (op : Op) (key epoch : ℕ) → entry ≡ (SightFor op key, Pinned epoch)
+    → PinLearned (Holds L w (log ++ entry ∷ [])) op key epoch
 
 -- ---- walks
 
--- the walks since the pin are those of a call; those since the flag are there once the call has won it
+-- the walks since the pin are those of a call; those since the flag are there once the call has won
+-- it
 abbrev pub Walks : Layout → ℕ → List Entry → Since → ℕ → Type 0
 Walks L w log ThePin k = (op : Op) × Holds L w log (CallIs op k)
-Walks L w log TheFlag k = (op : Op) × Holds L w log (CallIs op k) × IsSome (search_after idle log).flagged
+Walks L w log TheFlag k = (op : Op) × Holds L w log (CallIs op k)
+    × IsSome (search_after idle log).flagged
 
 -- a look at the left edge of slot 2 begins a walk
 abbrev pub WalksBegin : Layout → ℕ → List Entry → Entry → Type 0
-WalksBegin L w log entry = (since : Since) (k : ℕ) (e : Edge) → Walks L w log since k → entry ≡ (Look 2 (EdgeOn Left), EdgeIs e) → e.slot ≢ 0 → Holds L w (log ++ entry ∷ []) (Came since k e.slot 2 Left)
+WalksBegin L w log entry = (since : Since) (k : ℕ) (e : Edge) → Walks L w log since k
+    → entry ≡ (Look 2 (EdgeOn Left), EdgeIs e) → e.slot ≢ 0
+    → Holds L w (log ++ entry ∷ []) (Came since k e.slot 2 Left)
 
 -- a walk that has come to a slot reads the key that is looked at there
 abbrev pub WalksLearnKeys : Layout → ℕ → List Entry → Entry → Type 0
-WalksLearnKeys L w log entry = (since : Since) (k x parent v : ℕ) (side : Side) → Holds L w log (Came since k x parent side) → entry ≡ (Look x Key, KeyIs v) → Holds L w (log ++ entry ∷ []) (ReadKey since k x parent side v)
+WalksLearnKeys L w log entry =
+    (since : Since) (k x parent v : ℕ) (side : Side) → Holds L w log (Came since k x parent side)
+    → entry ≡ (Look x Key, KeyIs v)
+    → Holds L w (log ++ entry ∷ []) (ReadKey since k x parent side v)
 
 -- a walk that has read a key goes on by the edge on the side of its own key
 abbrev pub WalksGoOn : Layout → ℕ → List Entry → Entry → Type 0
-WalksGoOn L w log entry = (since : Since) (k x parent v : ℕ) (side : Side) (e : Edge) → Holds L w log (ReadKey since k x parent side v) → entry ≡ (Look x (EdgeOn (side_of k v)), EdgeIs e) → e.slot ≢ 0
+WalksGoOn L w log entry = (since : Since) (k x parent v : ℕ) (side : Side) (e : Edge)
+    → Holds L w log (ReadKey since k x parent side v)
+    → entry ≡ (Look x (EdgeOn (side_of k v)), EdgeIs e) → e.slot ≢ 0
     → Holds L w (log ++ entry ∷ []) (Came since k e.slot x (side_of k v))
 
 -- and ends where that edge is null
 abbrev pub WalksEnd : Layout → ℕ → List Entry → Entry → Type 0
-WalksEnd L w log entry = (since : Since) (k x parent v : ℕ) (side : Side) (e : Edge) → Holds L w log (ReadKey since k x parent side v) → entry ≡ (Look x (EdgeOn (side_of k v)), EdgeIs e) → e.slot ≡ 0
+WalksEnd L w log entry = (since : Since) (k x parent v : ℕ) (side : Side) (e : Edge)
+    → Holds L w log (ReadKey since k x parent side v)
+    → entry ≡ (Look x (EdgeOn (side_of k v)), EdgeIs e) → e.slot ≡ 0
     → Holds L w (log ++ entry ∷ []) (EndedAt since k x parent side v)

@@ -1,4 +1,5 @@
--- What the last entry of a log tells, by what its worker knew before: laws that a caller may rely on when it looks.
+-- What the last entry of a log tells, by what its worker knew before: laws that a caller may rely
+-- on when it looks.
 use Rattle.std.specs.Prelude.{◌≡◌, ◌≢◌, ℕ, ◌<◌, ◌≤◌, ◌==◌, true, false, List, [], ◌∷◌, ◌++◌, Some, option_map, slice_get, if◌then◌else◌}
 use Rattle.nm_edge.specs.Edges.{Edge, other}
 use Rattle.nm_edge.specs.Layouts.{Layout}
@@ -20,36 +21,47 @@ use Rattle.nm_order.specs.Facts.Fact.{KnowsSlot, IsTagged, IsFlagged, IsBorn}
 
 -- of each part of an ordered run that ends with an entry
 abbrev pub OfEachEntry : (Layout → ℕ → List Entry → Entry → Type 0) → Type 0
-OfEachEntry P = (L : Layout) → 5 ≤ L.nodes → (w : ℕ) (log : List Entry) (entry : Entry) → IsLogOf L w (log ++ entry ∷ []) → P L w log entry
+OfEachEntry P = (L : Layout) → 5 ≤ L.nodes → (w : ℕ) (log : List Entry) (entry : Entry)
+    → IsLogOf L w (log ++ entry ∷ []) → P L w log entry
 
 -- an entry that tells an edge, as it was found: a look, an exchange that was lost, or a tag
 -- (Natarajan and Mittal, section 3.2)
 pub data TellsEdge : Entry → ℕ → Side → Edge → Type 0 where
   ByLook : (x : ℕ) (side : Side) (e : Edge) → TellsEdge (Look x (EdgeOn side), EdgeIs e) x side e
-  ByLink : (x leaf new : ℕ) (side : Side) (e : Edge) → TellsEdge (Link x side leaf new, Lost e) x side e
+  ByLink : (x leaf new : ℕ) (side : Side) (e : Edge)
+      → TellsEdge (Link x side leaf new, Lost e) x side e
   ByFlag : (x leaf : ℕ) (side : Side) (e : Edge) → TellsEdge (Flag x side leaf, Lost e) x side e
   ByTag : (x : ℕ) (side : Side) (e : Edge) → TellsEdge (Tag x side, Was e) x side e
-  BySplice : (x s p : ℕ) (side keep : Side) (e : Edge) → TellsEdge (Splice x side s p keep, Lost e) x side e
+  BySplice : (x s p : ℕ) (side keep : Side) (e : Edge)
+      → TellsEdge (Splice x side s p keep, Lost e) x side e
 
 -- where an edge is known tagged, its twin is told as flagged
 abbrev pub TwinsAreToldFlagged : Layout → ℕ → List Entry → Entry → Type 0
-TwinsAreToldFlagged L w log entry = (x : ℕ) (side : Side) (e : Edge) (to : ℕ) → TellsEdge entry x side e → Holds L w log (IsTagged x (other side) to) → e.flag ≡ true
+TwinsAreToldFlagged L w log entry =
+    (x : ℕ) (side : Side) (e : Edge) (to : ℕ) → TellsEdge entry x side e
+    → Holds L w log (IsTagged x (other side) to) → e.flag ≡ true
 
 -- where an edge is known flagged, it is told as flagged and leads there still
 abbrev pub FlagsAreTold : Layout → ℕ → List Entry → Entry → Type 0
-FlagsAreTold L w log entry = (x : ℕ) (side : Side) (e : Edge) (to : ℕ) → TellsEdge entry x side e → Holds L w log (IsFlagged x side to) → (e.flag ≡ true) × (e.slot ≡ to)
+FlagsAreTold L w log entry = (x : ℕ) (side : Side) (e : Edge) (to : ℕ) → TellsEdge entry x side e
+    → Holds L w log (IsFlagged x side to) → (e.flag ≡ true) × (e.slot ≡ to)
 
 -- a flagged edge of a known slot leads to a slot of the pool's range
 abbrev pub FlaggedEdgesLeadHigh : Layout → ℕ → List Entry → Entry → Type 0
-FlaggedEdgesLeadHigh L w log entry = (x : ℕ) (side : Side) (e : Edge) → TellsEdge entry x side e → Holds L w log (KnowsSlot x) → e.flag ≡ true → 6 ≤ e.slot
+FlaggedEdgesLeadHigh L w log entry =
+    (x : ℕ) (side : Side) (e : Edge) → TellsEdge entry x side e → Holds L w log (KnowsSlot x)
+    → e.flag ≡ true → 6 ≤ e.slot
 
 -- and is an edge of such a slot: none of the fixed nodes has a flagged edge
 abbrev pub FlaggedEdgesStandHigh : Layout → ℕ → List Entry → Entry → Type 0
-FlaggedEdgesStandHigh L w log entry = (x : ℕ) (side : Side) (e : Edge) → TellsEdge entry x side e → Holds L w log (KnowsSlot x) → e.flag ≡ true → 6 ≤ x
+FlaggedEdgesStandHigh L w log entry =
+    (x : ℕ) (side : Side) (e : Edge) → TellsEdge entry x side e → Holds L w log (KnowsSlot x)
+    → e.flag ≡ true → 6 ≤ x
 
 -- an edge leads to a slot of the layout
 abbrev pub EdgesStayInside : Layout → ℕ → List Entry → Entry → Type 0
-EdgesStayInside L w log entry = (x : ℕ) (side : Side) (e : Edge) → TellsEdge entry x side e → e.slot ≤ L.nodes
+EdgesStayInside L w log entry =
+    (x : ℕ) (side : Side) (e : Edge) → TellsEdge entry x side e → e.slot ≤ L.nodes
 
 -- the left edge of slot 2 is never null
 abbrev pub RootLeads : Layout → ℕ → List Entry → Entry → Type 0
@@ -63,15 +75,18 @@ TagsLead L w log entry = (x : ℕ) (side : Side) (e : Edge) → entry ≡ (Tag x
 abbrev pub LowKeysStandHigh : Layout → ℕ → List Entry → Entry → Type 0
 LowKeysStandHigh L w log entry = (x n : ℕ) → entry ≡ (Look x Key, KeyIs n) → n < infinity_0 → 6 ≤ x
 
--- a slot that is claimed is in none of the worker's hands: it does not hold it, know it, nor have it in a queue
+-- a slot that is claimed is in none of the worker's hands: it does not hold it, know it, nor have
+-- it in a queue
 pub record IsNew (L : Layout) (w : ℕ) (log : List Entry) (x : ℕ) : Type 0 where
   pub not_held : is_private (known_by L w log) x ≡ false
   pub not_known : knows (known_by L w log) x ≡ false
-  pub not_queued : (origin i : ℕ) (e : Queued) → slice_get (queue_of (held (known_by L w log).ledgers origin)) i ≡ Some e → e.node.slot ≢ x
+  pub not_queued : (origin i : ℕ) (e : Queued)
+      → slice_get (queue_of (held (known_by L w log).ledgers origin)) i ≡ Some e → e.node.slot ≢ x
 
 -- a slot that is claimed is one of 6 to nodes, and new to the worker
 abbrev pub ClaimsAreNew : Layout → ℕ → List Entry → Entry → Type 0
-ClaimsAreNew L w log entry = (x y : ℕ) → entry ≡ (Claim x, Claimed y) → (y ≡ x) × (6 ≤ x) × (x ≤ L.nodes) × IsNew L w log x
+ClaimsAreNew L w log entry = (x y : ℕ) → entry ≡ (Claim x, Claimed y)
+    → (y ≡ x) × (6 ≤ x) × (x ≤ L.nodes) × IsNew L w log x
 
 -- ---- answers that name nodes
 
@@ -80,24 +95,45 @@ ClaimsAreNew L w log entry = (x y : ℕ) → entry ≡ (Claim x, Claimed y) → 
 -- nodes so known: each slot and then its leaf, downwards (Natarajan and Mittal, section 3.2,
 -- cleanup; for whole chains ours)
 pub data FrozenTo (holds : Fact → Type 0) (p : ℕ) (keep : Side) : ℕ → List NodeId → Type 0 where
-  ends_there : {leaf birth leaf_birth to : ℕ} → holds (IsTagged p keep to) → holds (IsFlagged p (other keep) leaf) → holds (IsBorn p birth) → holds (IsBorn leaf leaf_birth)
-      → FrozenTo holds p keep p (record { slot = p; birth = birth } ∷ record { slot = leaf; birth = leaf_birth } ∷ [])
-  goes_down : {slot to leaf birth leaf_birth : ℕ} {nodes : List NodeId} (side : Side) → holds (IsTagged slot side to) → holds (IsFlagged slot (other side) leaf) → holds (IsBorn slot birth) → holds (IsBorn leaf leaf_birth)
-      → FrozenTo holds p keep to nodes → FrozenTo holds p keep slot (record { slot = slot; birth = birth } ∷ record { slot = leaf; birth = leaf_birth } ∷ nodes)
+  ends_there : {leaf birth leaf_birth to : ℕ} → holds (IsTagged p keep to)
+      → holds (IsFlagged p (other keep) leaf) → holds (IsBorn p birth)
+      → holds (IsBorn leaf leaf_birth)
+      → FrozenTo holds p keep p
+      (record { slot = p; birth = birth } ∷ record { slot = leaf; birth = leaf_birth } ∷ [])
+  goes_down : {slot to leaf birth leaf_birth : ℕ} {nodes : List NodeId} (side : Side)
+      → holds (IsTagged slot side to) → holds (IsFlagged slot (other side) leaf)
+      → holds (IsBorn slot birth) → holds (IsBorn leaf leaf_birth)
+      → FrozenTo holds p keep to nodes
+      → FrozenTo holds p keep slot
+      (record { slot = slot; birth = birth } ∷ record { slot = leaf; birth = leaf_birth }
+      ∷ nodes)
 
 -- a splice that is won answers just the nodes of the chain as it was known
 abbrev pub CutsAreAsKnown : Layout → ℕ → List Entry → Entry → Type 0
-CutsAreAsKnown L w log entry = (a s p : ℕ) (side keep : Side) (ns known : List NodeId) → entry ≡ (Splice a side s p keep, Cut ns) → FrozenTo (Holds L w log) p keep s known → ns ≡ known
+CutsAreAsKnown L w log entry =
+    (a s p : ℕ) (side keep : Side) (ns known : List NodeId)
+    → entry ≡ (Splice a side s p keep, Cut ns) → FrozenTo (Holds L w log) p keep s known
+    → ns ≡ known
 
--- the nodes of a splice that is won enter its worker's own queue at the end, without a label; the other ledgers stay
+-- the nodes of a splice that is won enter its worker's own queue at the end, without a label; the
+-- other ledgers stay
 abbrev pub CutsEnterTheQueue : Layout → ℕ → List Entry → Entry → Type 0
-CutsEnterTheQueue L w log entry = (a s p : ℕ) (side keep : Side) (ns : List NodeId) → entry ≡ (Splice a side s p keep, Cut ns) → (o : ℕ)
-    → held (known_by L w (log ++ entry ∷ [])).ledgers o ≡ (if o == w then option_map (with_cut ns) (held (known_by L w log).ledgers o) else held (known_by L w log).ledgers o)
+CutsEnterTheQueue L w log entry =
+    (a s p : ℕ) (side keep : Side) (ns : List NodeId) → entry ≡ (Splice a side s p keep, Cut ns)
+    → (o : ℕ)
+    → held (known_by L w (log ++ entry ∷ [])).ledgers o
+    ≡ (if o == w then option_map (with_cut ns) (held (known_by L w log).ledgers o)
+    else held (known_by L w log).ledgers o)
 
 -- a flag that is won answers the leaf with its birth as it was known
 abbrev pub FlagsAreAsKnown : Layout → ℕ → List Entry → Entry → Type 0
-FlagsAreAsKnown L w log entry = (p leaf birth : ℕ) (side : Side) (n : NodeId) → entry ≡ (Flag p side leaf, Flagged n) → Holds L w log (IsBorn leaf birth) → n ≡ record { slot = leaf; birth = birth }
+FlagsAreAsKnown L w log entry =
+    (p leaf birth : ℕ) (side : Side) (n : NodeId) → entry ≡ (Flag p side leaf, Flagged n)
+    → Holds L w log (IsBorn leaf birth) → n ≡ record { slot = leaf; birth = birth }
 
--- a chain that is frozen by the facts of a log is one that a splice may cut off, by the worker's own knowledge
+-- a chain that is frozen by the facts of a log is one that a splice may cut off, by the worker's
+-- own knowledge
 abbrev pub FrozenChainsMayBeCut : Type 0
-FrozenChainsMayBeCut = (L : Layout) → 5 ≤ L.nodes → (w : ℕ) (log : List Entry) → IsLogOf L w log → (s p : ℕ) (keep : Side) (nodes : List NodeId) → FrozenTo (Holds L w log) p keep s nodes → is_frozen L (known_by L w log) s p keep ≡ true
+FrozenChainsMayBeCut = (L : Layout) → 5 ≤ L.nodes → (w : ℕ) (log : List Entry) → IsLogOf L w log
+    → (s p : ℕ) (keep : Side) (nodes : List NodeId) → FrozenTo (Holds L w log) p keep s nodes
+    → is_frozen L (known_by L w log) s p keep ≡ true

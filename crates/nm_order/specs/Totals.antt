@@ -55,18 +55,25 @@ pub record StandsUnflagged (m : Memory) (k : ℕ) : Type 0 where
   pub leaf : is_leaf (node m (child m parent side)) ≡ true
   pub has_key : key m (child m parent side) ≡ k
 
--- a number of links and a number of flags are such that the key stands as often as the first less the second, which is once or never
+-- a number of links and a number of flags are such that the key stands as often as the first less
+-- the second, which is once or never
 abbrev pub Agree : ℕ → ℕ → Type 0 → Type 0
 Agree links flags Stands = ((links ≡ flags + 1) × Stands) ⊎ ((links ≡ flags) × (Stands → ⊥))
 
--- each key of the set stands unflagged as often as calls for it won a link, less as often as they won a flag: once or never
+-- each key of the set stands unflagged as often as calls for it won a link, less as often as they
+-- won a flag: once or never
 abbrev pub TotalsAgree : Layout → List (ℕ × Event) → Type 0
-TotalsAgree L turns = (k : ℕ) → IsKey k → Agree (links_of k L turns) (flags_of k L turns) (StandsUnflagged (after_in (ordered L) turns).state.memory k)
+TotalsAgree L turns = (k : ℕ) → IsKey k
+    → Agree (links_of k L turns) (flags_of k L turns)
+    (StandsUnflagged (after_in (ordered L) turns).state.memory k)
 
 -- no delete is pending: no call whose pin stands has flagged a leaf
 abbrev pub NothingIsPending : Layout → List (ℕ × Event) → Type 0
 NothingIsPending L turns = (w k : ℕ) → HasFlagged L turns w k → ⊥
 
--- then each key of the set is in it as often as calls for it won a link, less as often as they won a flag: once or never
+-- then each key of the set is in it as often as calls for it won a link, less as often as they won
+-- a flag: once or never
 abbrev pub TotalsAreTheSet : Layout → List (ℕ × Event) → Type 0
-TotalsAreTheSet L turns = NothingIsPending L turns → (k : ℕ) → IsKey k → Agree (links_of k L turns) (flags_of k L turns) (InSet (after_in (ordered L) turns).state.memory k)
+TotalsAreTheSet L turns = NothingIsPending L turns → (k : ℕ) → IsKey k
+    → Agree (links_of k L turns) (flags_of k L turns)
+    (InSet (after_in (ordered L) turns).state.memory k)

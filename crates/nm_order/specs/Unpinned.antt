@@ -13,4 +13,6 @@ pub record HasNoCall (k : Knowledge) (s : Search) : Type 0 where
 
 -- each worker that is not pinned, by its part of any ordered run
 abbrev pub UnpinnedWorkersHaveNoCall : Type 0
-UnpinnedWorkersHaveNoCall = (L : Layout) → 5 ≤ L.nodes → (w : ℕ) (log : List Entry) → IsLogOf L w log → (known_by L w log).brief.pin ≡ None → HasNoCall (known_by L w log) (search_after idle log)
+UnpinnedWorkersHaveNoCall = (L : Layout) → 5 ≤ L.nodes → (w : ℕ) (log : List Entry)
+    → IsLogOf L w log → (known_by L w log).brief.pin ≡ None
+    → HasNoCall (known_by L w log) (search_after idle log)

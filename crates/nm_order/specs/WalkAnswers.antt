@@ -1,4 +1,5 @@
--- What a walk tells that has ended, for any key and under any pin, for a call or for none: whether its key was in the set at a moment since the pin.
+-- What a walk tells that has ended, for any key and under any pin, for a call or for none: whether
+-- its key was in the set at a moment since the pin.
 use Rattle.std.specs.Prelude.{◌≡◌, ℕ, ◌==◌, ◌<◌, ◌≤◌, Bool, List, [], ◌++◌, length, None, All}
 use Rattle.nm_edge.specs.Layouts.{Layout}
 use Rattle.nm_edge.specs.declared.edge.Side.{Side}
@@ -15,7 +16,8 @@ use Rattle.nm_order.specs.StalePaths.{HasPin, log_under_pin}
 
 -- at a moment of the run, under a pin that stands since, a plain set of the keys of the reached
 -- leaves answers so whether k is in it (O'Hearn and others)
-pub record WasSoUnderPin (L : Layout) (turns : List (ℕ × Event)) (w k : ℕ) (answer : Bool) : Type 0 where
+pub record WasSoUnderPin (L : Layout) (turns : List (ℕ × Event)) (w k : ℕ)
+    (answer : Bool) : Type 0 where
   pub before : List (ℕ × Event)
   pub since : List (ℕ × Event)
   pub is_run : turns ≡ before ++ since
@@ -27,11 +29,13 @@ pub record WasSoUnderPin (L : Layout) (turns : List (ℕ × Event)) (w k : ℕ) 
 -- own key was in the set then. The key may be any that is below the key of slot 2 (O'Hearn and
 -- others)
 abbrev pub AnyWalkTells : Layout → List (ℕ × Event) → Type 0
-AnyWalkTells L turns = (u k slot parent : ℕ) (side : Side) (v : ℕ) → k < infinity_1 → WalkEnds k (log_under_pin L turns u) slot parent side v → WasSoUnderPin L turns u k (v == k)
+AnyWalkTells L turns = (u k slot parent : ℕ) (side : Side) (v : ℕ) → k < infinity_1
+    → WalkEnds k (log_under_pin L turns u) slot parent side v → WasSoUnderPin L turns u k (v == k)
 
 -- at a moment of the run that is later than an earlier run, and at which the worker was pinned, a
 -- plain set of the keys of the reached leaves answers so whether k is in it (O'Hearn and others)
-pub record WasSoSince (L : Layout) (past turns : List (ℕ × Event)) (w k : ℕ) (answer : Bool) : Type 0 where
+pub record WasSoSince (L : Layout) (past turns : List (ℕ × Event)) (w k : ℕ)
+    (answer : Bool) : Type 0 where
   pub before : List (ℕ × Event)
   pub since : List (ℕ × Event)
   pub is_run : turns ≡ before ++ since
@@ -42,6 +46,10 @@ pub record WasSoSince (L : Layout) (past turns : List (ℕ × Event)) (w k : ℕ
 -- of a worker that was not pinned at the end of an earlier run: a walk that has ended in its log
 -- since its pin tells of a moment later than that run (O'Hearn and others)
 abbrev pub WalksTellOfTheirPin : Type 0
-WalksTellOfTheirPin = (L : Layout) → 5 ≤ L.nodes → (w : ℕ) → w < L.workers → (past more : List (ℕ × Event)) → All (λ t. HasKey t.1) (past ++ more)
-    → (known_by L w (part_of w (trace_in (ordered L) past))).brief.pin ≡ None → (log : List Entry) → part_of w (trace_in (ordered L) (past ++ more)) ≡ log
-    → (k slot parent : ℕ) (side : Side) (v : ℕ) → k < infinity_1 → WalkEnds k (since_pin [] log) slot parent side v → WasSoSince L past (past ++ more) w k (v == k)
+WalksTellOfTheirPin = (L : Layout) → 5 ≤ L.nodes → (w : ℕ) → w < L.workers
+    → (past more : List (ℕ × Event)) → All (λ t. HasKey t.1) (past ++ more)
+    → (known_by L w (part_of w (trace_in (ordered L) past))).brief.pin ≡ None → (log : List Entry)
+    → part_of w (trace_in (ordered L) (past ++ more)) ≡ log
+    → (k slot parent : ℕ) (side : Side) (v : ℕ) → k < infinity_1
+    → WalkEnds k (since_pin [] log) slot parent side v
+    → WasSoSince L past (past ++ more) w k (v == k)

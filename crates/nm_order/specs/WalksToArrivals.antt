@@ -1,4 +1,5 @@
--- The arrivals that an ordered core keeps of a call are the walks of its log: those since the pin, and those since the flag.
+-- The arrivals that an ordered core keeps of a call are the walks of its log: those since the pin,
+-- and those since the flag.
 use Rattle.std.specs.Prelude.{◌≡◌, ◌↔◌, ℕ, ◌<◌, ◌≤◌, Bool, true, false, List, [], ◌∷◌, if◌then◌else◌, Some, All, Contains}
 use Rattle.nm_edge.specs.Layouts.{Layout}
 use Rattle.nm_edge.specs.declared.edge.Side.{Side}
@@ -27,7 +28,8 @@ since_flag (e ∷ es) = if is_won_flag e then es else since_flag es
 -- ---- arrivals and walks
 
 -- the list has an arrival at the slot by the parent's edge on the side, of which P holds
-pub record HasArrival (arrivals : List Arrival) (slot parent : ℕ) (side : Side) (P : Arrival → Type 0) : Type 0 where
+pub record HasArrival (arrivals : List Arrival) (slot parent : ℕ) (side : Side)
+    (P : Arrival → Type 0) : Type 0 where
   pub arrival : Arrival
   pub there : Contains arrivals arrival
   pub at_slot : arrival.slot ≡ slot
@@ -38,20 +40,29 @@ pub record HasArrival (arrivals : List Arrival) (slot parent : ℕ) (side : Side
 -- a walk came to a slot by an edge exactly where there is an arrival by that edge (Natarajan and
 -- Mittal, section 3.2, seek)
 abbrev pub ComingsAreArrivals : ℕ → List Entry → List Arrival → Type 0
-ComingsAreArrivals k log arrivals = (slot parent : ℕ) (side : Side) → WalkComes k log slot parent side ↔ HasArrival arrivals slot parent side (λ a. Unit {0})
+ComingsAreArrivals k log arrivals =
+    (slot parent : ℕ) (side : Side) → WalkComes k log slot parent side
+    ↔ HasArrival arrivals slot parent side (λ a. Unit {0})
 
 -- and looked at the slot's key exactly where the arrival has that key (Natarajan and Mittal,
 -- section 3.2, seek)
 abbrev pub ReadingsAreArrivals : ℕ → List Entry → List Arrival → Type 0
-ReadingsAreArrivals k log arrivals = (slot parent : ℕ) (side : Side) (key : ℕ) → WalkReads k log slot parent side key ↔ HasArrival arrivals slot parent side (λ a. a.key ≡ Some key)
+ReadingsAreArrivals k log arrivals =
+    (slot parent : ℕ) (side : Side) (key : ℕ) → WalkReads k log slot parent side key
+    ↔ HasArrival arrivals slot parent side (λ a. a.key ≡ Some key)
 
 -- and ended there exactly where the arrival with that key has ended (Natarajan and Mittal, section
 -- 3.2, seek)
 abbrev pub EndsAreArrivals : ℕ → List Entry → List Arrival → Type 0
-EndsAreArrivals k log arrivals = (slot parent : ℕ) (side : Side) (key : ℕ) → WalkEnds k log slot parent side key ↔ HasArrival arrivals slot parent side (λ a. (a.key ≡ Some key) × (a.ended ≡ true))
+EndsAreArrivals k log arrivals =
+    (slot parent : ℕ) (side : Side) (key : ℕ) → WalkEnds k log slot parent side key
+    ↔ HasArrival arrivals slot parent side (λ a. (a.key ≡ Some key) × (a.ended ≡ true))
 
--- in every ordered run, of each worker's call: of its key, the worker's log since the pin, and what the core keeps of the call
+-- in every ordered run, of each worker's call: of its key, the worker's log since the pin, and what
+-- the core keeps of the call
 abbrev pub OfEachCall : (ℕ → List Entry → Search → Type 0) → Type 0
-OfEachCall P = (L : Layout) → 5 ≤ L.nodes → (turns : List (ℕ × Event)) → All (λ t. HasKey t.1) turns → (w : ℕ) → w < L.workers
-    → (searches : List Search) → (after_in (ordered L) turns).searches ≡ Some searches → (call : Call) → (search_of searches w).call ≡ Some call
+OfEachCall P = (L : Layout) → 5 ≤ L.nodes → (turns : List (ℕ × Event)) → All (λ t. HasKey t.1) turns
+    → (w : ℕ) → w < L.workers
+    → (searches : List Search) → (after_in (ordered L) turns).searches ≡ Some searches
+    → (call : Call) → (search_of searches w).call ≡ Some call
     → P call.key (since_pin [] (log_of w (trace_in (ordered L) turns))) (search_of searches w)

@@ -1,4 +1,5 @@
--- What tests keep of a worker over calls: its pass, with the queue of what it cut and the count of its splices.
+-- What tests keep of a worker over calls: its pass, with the queue of what it cut and the count of
+-- its splices.
 use Rattle.std.specs.Prelude.{◌≡◌, ◌≤◌, ℕ, List, length}
 use Rattle.nm_edge.specs.declared.node.NodeId.{NodeId}
 use Rattle.nm_steps.specs.Rules.{knowledge}
@@ -22,6 +23,7 @@ pub record IsAtRest (b : Board) (p : Stand) (es : List Waiting) (count : ℕ) : 
   pub rests : IsResting p
 
 -- or has flagged that leaf to delete a key
-pub record IsPendingFor (b : Board) (p : Stand) (es : List Waiting) (count k : ℕ) (n : NodeId) : Type 0 where
+pub record IsPendingFor (b : Board) (p : Stand) (es : List Waiting) (count k : ℕ)
+    (n : NodeId) : Type 0 where
   pub kept : IsKept b p es count
   pub removing : IsRemoving p k n

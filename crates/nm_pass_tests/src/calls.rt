@@ -1,4 +1,5 @@
-//! Calls of the set over passes: look-ups by two threads, and inserts and deletes of several workers, one call after another.
+//! Calls of the set over passes: look-ups by two threads, and inserts and deletes of several
+//! workers, one call after another.
 ghost use Rattle.std.specs.Prelude.{◌≡◌};
 ghost use Rattle.nm_steps.specs.Steps.{IsOf, IsSamePass};
 ghost use Rattle.nm_epoch.specs.Resting.{IsResting};
@@ -138,7 +139,8 @@ fn one_worker_inserts_and_deletes(rt: HostRuntime) -> Result<(), Fail> {
     Ok(())
 }
 
-/// An insert beside a leaf that another worker has flagged cuts it off: its one try is lost, and the next is won.
+/// An insert beside a leaf that another worker has flagged cuts it off: its one try is lost, and
+/// the next is won.
 #[test]
 fn an_insert_helps_a_delete(rt: HostRuntime) -> Result<(), Fail> {
     let (shared, passes) = Shared::new(rt.alloc(), Layout::new(11, 2)?)?;
@@ -162,8 +164,8 @@ fn an_insert_helps_a_delete(rt: HostRuntime) -> Result<(), Fail> {
     Ok(())
 }
 
-/// Two workers flag a leaf each and tag the edge beside it, so that a third cuts a chain of three internal nodes off by one splice,
-/// with the flagged leaf beside each.
+/// Two workers flag a leaf each and tag the edge beside it, so that a third cuts a chain of three
+/// internal nodes off by one splice, with the flagged leaf beside each.
 #[test]
 fn one_splice_cuts_a_chain_of_three(rt: HostRuntime) -> Result<(), Fail> {
     let (shared, passes) = Shared::new(rt.alloc(), Layout::new(13, 3)?)?;

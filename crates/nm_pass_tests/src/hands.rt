@@ -12,7 +12,8 @@ use nm_pool::{Fit, Placement};
 use nm_steps::{Pass, Shared};
 use std::process::Abort;
 
-/// One worker: its pass, where it looks for free slots, the room of its walks, the queue of what it cut, and how many splices it has won.
+/// One worker: its pass, where it looks for free slots, the room of its walks, the queue of what it
+/// cut, and how many splices it has won.
 #[derive(Drop)]
 pub(super) struct Hand {
     pub(super) pass: Pass,
@@ -98,7 +99,8 @@ pub(super) fn deletes(rt: &impl Abort, shared: &Shared, hand: &mut Hand, key: Ke
 /// Deletes by one try, which flags the leaf and no more.
 pub(super) fn flags(rt: &impl Abort, shared: &Shared, hand: &mut Hand, key: Key) -> NodeId
     requires rests { IsAtRest shared.now hand.old.pass hand.old.queue.items hand.old.splices }
-    ensures pending { IsPendingFor shared.now hand.new.pass hand.new.queue.items hand.new.splices key result }
+    ensures pending { IsPendingFor shared.now hand.new.pass hand.new.queue.items hand.new.splices
+        key result }
 {
     let Err(Missed::Unfinished(leaf)) = delete(
         shared,
@@ -115,7 +117,8 @@ pub(super) fn flags(rt: &impl Abort, shared: &Shared, hand: &mut Hand, key: Key)
 }
 
 pub(super) fn finishes(rt: &impl Abort, shared: &Shared, hand: &mut Hand, key: Key, leaf: NodeId)
-    requires pending { IsPendingFor shared.now hand.old.pass hand.old.queue.items hand.old.splices key leaf }
+    requires pending { IsPendingFor shared.now hand.old.pass hand.old.queue.items hand.old.splices
+        key leaf }
     ensures rests { IsAtRest shared.now hand.new.pass hand.new.queue.items hand.new.splices }
 {
     let finished = finish(
@@ -139,8 +142,10 @@ pub(super) fn cannot_finish(
     key: Key,
     leaf: NodeId,
 )
-    requires pending { IsPendingFor shared.now hand.old.pass hand.old.queue.items hand.old.splices key leaf }
-    ensures pending { IsPendingFor shared.now hand.new.pass hand.new.queue.items hand.new.splices key leaf }
+    requires pending { IsPendingFor shared.now hand.old.pass hand.old.queue.items hand.old.splices
+        key leaf }
+    ensures pending { IsPendingFor shared.now hand.new.pass hand.new.queue.items hand.new.splices
+        key leaf }
 {
     let finished = finish(
         shared,
@@ -155,9 +160,11 @@ pub(super) fn cannot_finish(
     assert!(rt; !finished);
 }
 
-/// A cleanup that stops before its splice: the edge beside the flagged leaf is tagged. Whether the leaf was found.
+/// A cleanup that stops before its splice: the edge beside the flagged leaf is tagged. Whether the
+/// leaf was found.
 pub(super) fn tag_beside(shared: &Shared, hand: &mut Hand, key: Key, leaf: NodeId) -> bool
-    requires { IsPendingFor shared.now hand.old.pass hand.old.queue.items hand.old.splices key leaf }
+    requires { IsPendingFor shared.now hand.old.pass hand.old.queue.items hand.old.splices key
+        leaf }
     ensures { IsPendingFor shared.now hand.new.pass hand.new.queue.items hand.new.splices key leaf }
 {
     let mut chain = Chain::new();

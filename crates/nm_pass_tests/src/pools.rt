@@ -13,7 +13,8 @@ use std::thread::{Threads, join};
 /// Eight nodes: slots 6, 7 and 8 are in the pool.
 const NODES: u32 = 8;
 
-/// The words of eight nodes and two workers: the epoch, two notes, four a node, and one row of the pool.
+/// The words of eight nodes and two workers: the epoch, two notes, four a node, and one row of the
+/// pool.
 const WORDS: usize = 36;
 
 const ROUNDS: u32 = 1000;
@@ -199,7 +200,8 @@ fn together(one: Claimed, two: Claimed) -> Claimed {
     Ok(nodes)
 }
 
-/// Four workers claim until no slot is left, each in a thread of its own: what they claimed, together.
+/// Four workers claim until no slot is left, each in a thread of its own: what they claimed,
+/// together.
 fn claim_by_four<R: Threads + Sync>(
     rt: &R,
     alloc: Global,
@@ -252,7 +254,8 @@ fn all_four(shared: &Shared, mut passes: Vec<Pass>) -> ((Pass, Pass), (Pass, Pas
     ((one, two), (three, four))
 }
 
-/// Whether these nodes, sorted by slot, stand one each in the slots from 6 on and below an end, each the first of its slot.
+/// Whether these nodes, sorted by slot, stand one each in the slots from 6 on and below an end,
+/// each the first of its slot.
 fn stand_in_turn(nodes: &[NodeId], end: u32) -> bool {
     nodes
         .iter()

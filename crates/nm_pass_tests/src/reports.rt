@@ -13,7 +13,8 @@ use nm_steps::{Pass, Shared};
 use std::process::Abort;
 use std::test::Fail;
 
-/// 135 nodes and 2 workers: 1 word for the epoch, 2 for the notes, 540 for the nodes, and 3 rows of the pool.
+/// 135 nodes and 2 workers: 1 word for the epoch, 2 for the notes, 540 for the nodes, and 3 rows of
+/// the pool.
 const NODES: u32 = 135;
 
 const WORKERS: u32 = 2;
@@ -121,7 +122,8 @@ fn inserted(rt: &(impl Abort + AllocGlobal), shared: &Shared, pass: Pass, keys: 
     one
 }
 
-/// The left edge of slot 2 leads to slot 6, which has the key infinity and leads to slots 7 and 3; slot 7 has the key 5; and both have the birth 1.
+/// The left edge of slot 2 leads to slot 6, which has the key infinity and leads to slots 7 and 3;
+/// slot 7 has the key 5; and both have the birth 1.
 #[test]
 fn the_words_of_an_insert(rt: HostRuntime) -> Result<(), Fail> {
     let (shared, passes) = Shared::new(rt.alloc(), Layout::new(7, 1)?)?;

@@ -1,4 +1,5 @@
--- A worker may claim a slot of the pool's range, and of a private one look at the birth, raise it, and give the slot back.
+-- A worker may claim a slot of the pool's range, and of a private one look at the birth, raise it,
+-- and give the slot back.
 use Rattle.std.proofs.Common.{◌≡◌, ℕ, ◌+◌, ◌≤◌, ◌<◌, ◌==◌, Bool, true, false, not, ◌||◌, ◌&&◌, cond, List, [], refl, ap, ◌∙◌, arith}
 use Rattle.std.specs.Prelude.{Option, Some, None, is_some, is_none, nat_lt}
 use Rattle.std.proofs.lemmas.Bool.{cond-false, le-ltb, eq-eqb, ne_eqb}

@@ -16,14 +16,16 @@ use Rattle.nm_pool.specs.Takes.{Doing, DoneBelow, FoundTaken}
 
 -- the slot was claimed, found worn, with the greatest birth, and given back
 abbrev pub FoundWorn : Doing
-FoundWorn s old new = new ≡ old ++ (Claim s, Claimed s) ∷ (Look s Birth, BirthIs last_number) ∷ (Give s, Returned s) ∷ []
+FoundWorn s old new = new ≡ old ++ (Claim s, Claimed s) ∷ (Look s Birth, BirthIs last_number)
+    ∷ (Give s, Returned s) ∷ []
 
 -- the slot was claimed, and the birth that was found there was raised by one, to that of the node
 pub record MadeNew (n : NodeId) (old new : List Entry) : Type 0 where
   pub birth : ℕ
   pub below : birth < last_number
   pub raised : n.birth ≡ birth + 1
-  pub entries : new ≡ old ++ (Claim n.slot, Claimed n.slot) ∷ (Look n.slot Birth, BirthIs birth) ∷ (Fill n.slot Birth (birth + 1), Filled) ∷ []
+  pub entries : new ≡ old ++ (Claim n.slot, Claimed n.slot) ∷ (Look n.slot Birth, BirthIs birth)
+      ∷ (Fill n.slot Birth (birth + 1), Filled) ∷ []
 
 -- the slot was found taken, or worn and given back
 abbrev pub PassedOver : Doing
@@ -111,7 +113,8 @@ IsClaimBy fit.Near nodes old new r = IsNearClaim nodes old new r
 -- the same of so many tries
 abbrev pub IsClaimOfFew : ℕ → ℕ → List Entry → List Entry → Option NodeId → Type 0
 IsClaimOfFew limit nodes old new (Some n) = ClaimsPast limit nodes old new n
-IsClaimOfFew limit nodes old new None = (slots : List ℕ) × (length slots ≤ limit) × DoneAt (PassedWithin nodes) slots old new
+IsClaimOfFew limit nodes old new None =
+    (slots : List ℕ) × (length slots ≤ limit) × DoneAt (PassedWithin nodes) slots old new
 
 -- ---- a try of one slot
 

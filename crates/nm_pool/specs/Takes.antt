@@ -27,7 +27,8 @@ Doing = ℕ → List Entry → List Entry → Type 0
 -- it was done at so many slots one after the other, from a first one upwards
 abbrev pub DoneInTurn : Doing → ℕ → ℕ → List Entry → List Entry → Type 0
 DoneInTurn Done from zero old new = new ≡ old
-DoneInTurn Done from (suc n) old new = (mid : List Entry) × DoneInTurn Done from n old mid × Done (from + n) mid new
+DoneInTurn Done from (suc n) old new =
+    (mid : List Entry) × DoneInTurn Done from n old mid × Done (from + n) mid new
 
 -- it was done at each slot from one on and below another, in this order
 abbrev pub DoneBelow : Doing → ℕ → ℕ → List Entry → List Entry → Type 0

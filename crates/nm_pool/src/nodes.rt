@@ -25,14 +25,16 @@ pub(crate) enum Tried {
     Got(NodeId),
 }
 
-/// Takes a slot out of the pool to be a new node: the lowest that it finds there with a birth below 2^62, which it raises by one.
+/// Takes a slot out of the pool to be a new node: the lowest that it finds there with a birth below
+/// 2^62, which it raises by one.
 ///
-/// `Some(node)`: the slot is private to the worker, which had it nowhere before; the birth that was found there and 1 more is stored in it, and each lesser slot
-/// above 5 was found taken or worn in this call; a worn one is back in the pool. `None`: each slot above 5 was.
-/// At most three steps a slot.
+/// `Some(node)`: the slot is private to the worker, which had it nowhere before; the birth that was
+/// found there and 1 more is stored in it, and each lesser slot above 5 was found taken or worn in
+/// this call; a worn one is back in the pool. `None`: each slot above 5 was. At most three steps a
+/// slot.
 ///
-/// Slots come back to the pool by epoch-based reclamation (Fraser, Practical lock-freedom, 2004, chapter 5); the births tell apart
-/// the nodes that stood in one slot.
+/// Slots come back to the pool by epoch-based reclamation (Fraser, Practical lock-freedom, 2004,
+/// chapter 5); the births tell apart the nodes that stood in one slot.
 pub fn claim(shared: &Shared, pass: &mut Pass) -> Option<NodeId>
     requires { IsOf shared.now pass.old }
     ensures same { IsSamePass pass.old pass.new }
@@ -40,9 +42,11 @@ pub fn claim(shared: &Shared, pass: &mut Pass) -> Option<NodeId>
     ensures run { IsInRun pass.new }
     ensures part { IsClaim shared.now.layout.nodes pass.old.view.log pass.new.view.log result }
     ensures made { IfSome result (IsNewNode (knowledge pass.new.view)) }
-    ensures new { IfSome result (λ node. IsNew pass.old.view.layout pass.old.view.number pass.old.view.log node.slot) }
+    ensures new { IfSome result
+        (λ node. IsNew pass.old.view.layout pass.old.view.number pass.old.view.log node.slot) }
     ensures learned { LearnsSlots (knowledge pass.old.view) (knowledge pass.new.view) }
-    ensures steps { length pass.new.view.log ≤ length pass.old.view.log + 3 * shared.now.layout.nodes }
+    ensures steps { length pass.new.view.log
+        ≤ length pass.old.view.log + 3 * shared.now.layout.nodes }
 {
     let nodes = shared.layout().nodes();
     claim_between(shared, pass, FIRST_SLOT, nodes + 1)
@@ -59,7 +63,8 @@ pub(crate) fn claim_between(shared: &Shared, pass: &mut Pass, from: u32, to: u32
     ensures run { (from < to) ⊎ IsInRun pass.old → IsInRun pass.new }
     ensures part { IsClaimBetween from to pass.old.view.log pass.new.view.log result }
     ensures made { IfSome result (IsNewNode (knowledge pass.new.view)) }
-    ensures new { IfSome result (λ node. IsNew pass.old.view.layout pass.old.view.number pass.old.view.log node.slot) }
+    ensures new { IfSome result
+        (λ node. IsNew pass.old.view.layout pass.old.view.number pass.old.view.log node.slot) }
     ensures learned { LearnsSlots (knowledge pass.old.view) (knowledge pass.new.view) }
 {
     for slot in from..to {
@@ -70,7 +75,8 @@ pub(crate) fn claim_between(shared: &Shared, pass: &mut Pass, from: u32, to: u32
     None
 }
 
-/// Gives a private node back to the pool, in one step. Its birth stays, so that the slot's next node has another.
+/// Gives a private node back to the pool, in one step. Its birth stays, so that the slot's next
+/// node has another.
 pub fn give(shared: &Shared, pass: &mut Pass, node: NodeId)
     requires own { IsOf shared.now pass.old }
     requires private { is_private (knowledge pass.old.view) node.slot ≡ true }
@@ -92,7 +98,8 @@ pub(crate) fn try_slot(shared: &Shared, pass: &mut Pass, slot: u32) -> Tried
     ensures run { IsInRun pass.new }
     ensures part { IsTried slot pass.old.view.log pass.new.view.log result }
     ensures made { IfGot result (IsNewNode (knowledge pass.new.view)) }
-    ensures new { IfGot result (λ node. IsNew pass.old.view.layout pass.old.view.number pass.old.view.log node.slot) }
+    ensures new { IfGot result
+        (λ node. IsNew pass.old.view.layout pass.old.view.number pass.old.view.log node.slot) }
     ensures learned { LearnsSlots (knowledge pass.old.view) (knowledge pass.new.view) }
 {
     if !shared.claim(pass, slot) {

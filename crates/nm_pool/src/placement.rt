@@ -22,12 +22,13 @@ const SLOTS_OF_A_ROW: u32 = 64;
 pub enum Fit {
     /// From slot 6 upwards at each claim: first fit.
     Lowest,
-    /// First the slots that the worker gave back last, up to four; then from its cursor upwards, and round, beginning where a peek at the pool shows a slot:
-    /// next fit.
+    /// First the slots that the worker gave back last, up to four; then from its cursor upwards,
+    /// and round, beginning where a peek at the pool shows a slot: next fit.
     Near,
 }
 
-/// The slots that a worker gave back last, the last one first and 0 for none, and the slot from which it looks on.
+/// The slots that a worker gave back last, the last one first and 0 for none, and the slot from
+/// which it looks on.
 #[derive(Clone, Copy)]
 pub(crate) struct Near {
     recent: [u32; RECENT],
@@ -56,8 +57,9 @@ impl Near {
     }
 }
 
-/// The first slot from this one upwards, and round, that a peek at the pool's rows shows to be there; this one where none shows any. So a claim in a pool
-/// that is nearly dry passes the rows that are empty at a look each. What a peek shows may be otherwise at the claim, which tells.
+/// The first slot from this one upwards, and round, that a peek at the pool's rows shows to be
+/// there; this one where none shows any. So a claim in a pool that is nearly dry passes the rows
+/// that are empty at a look each. What a peek shows may be otherwise at the claim, which tells.
 fn shown_from(shared: &Shared, first: u32) -> u32
     requires low { 5 < first }
     requires high { first ≤ shared.now.layout.nodes }
@@ -90,9 +92,11 @@ fn left_in_row(slot: u32) -> u32
     SLOTS_OF_A_ROW - (slot - 1) % SLOTS_OF_A_ROW
 }
 
-/// Where one worker looks for a free slot; contracts see which fit it is. It may remember any slots: a slot counts only as it is found.
+/// Where one worker looks for a free slot; contracts see which fit it is. It may remember any
+/// slots: a slot counts only as it is found.
 ///
-/// First fit and next fit are those of storage allocation (Knuth, The Art of Computer Programming, volume 1, section 2.5).
+/// First fit and next fit are those of storage allocation (Knuth, The Art of Computer Programming,
+/// volume 1, section 2.5).
 #[derive(Drop)]
 pub struct Placement {
     fit: Fit,
@@ -108,7 +112,8 @@ impl Model for Placement {
 }
 
 impl Placement {
-    /// The placement of a worker that has given nothing back. `cursor` is the slot from which a near one looks first; where the pool has no such slot, slot 6.
+    /// The placement of a worker that has given nothing back. `cursor` is the slot from which a
+    /// near one looks first; where the pool has no such slot, slot 6.
     pub fn new(fit: Fit, cursor: u32) -> Placement
         ensures { result ≡ fit }
     {
@@ -128,7 +133,8 @@ impl Placement {
         self.fit
     }
 
-    /// Remembers a slot that was given back, so that a near claim tries it first. The one that was remembered longest of four is forgotten.
+    /// Remembers a slot that was given back, so that a near claim tries it first. The one that was
+    /// remembered longest of four is forgotten.
     pub fn keep(&mut self, slot: u32)
         ensures { self.new ≡ self.old }
     {
@@ -137,20 +143,25 @@ impl Placement {
     }
 }
 
-/// Takes a slot out of the pool to be a new node, as `claim` does, with the slots tried in the order of a placement.
+/// Takes a slot out of the pool to be a new node, as `claim` does, with the slots tried in the
+/// order of a placement.
 ///
-/// `Fit::Lowest`: the very same. `Fit::Near`: `Some(node)`: fewer than `nodes` slots were found taken or worn in this call, and then this one in the pool.
-/// `None`: at most `nodes` were, and each slot above 5 is among them. At most three steps a slot, and 3 `nodes` in all.
+/// `Fit::Lowest`: the very same. `Fit::Near`: `Some(node)`: fewer than `nodes` slots were found
+/// taken or worn in this call, and then this one in the pool. `None`: at most `nodes` were, and
+/// each slot above 5 is among them. At most three steps a slot, and 3 `nodes` in all.
 pub fn claim_by(shared: &Shared, pass: &mut Pass, placement: &mut Placement) -> Option<NodeId>
     requires { IsOf shared.now pass.old }
     ensures same { IsSamePass pass.old pass.new }
     ensures past { HasSeenAllOf pass.new pass.old }
     ensures run { IsInRun pass.new }
-    ensures part { IsClaimBy placement.old shared.now.layout.nodes pass.old.view.log pass.new.view.log result }
+    ensures part { IsClaimBy placement.old shared.now.layout.nodes pass.old.view.log
+        pass.new.view.log result }
     ensures made { IfSome result (IsNewNode (knowledge pass.new.view)) }
-    ensures new { IfSome result (λ node. IsNew pass.old.view.layout pass.old.view.number pass.old.view.log node.slot) }
+    ensures new { IfSome result
+        (λ node. IsNew pass.old.view.layout pass.old.view.number pass.old.view.log node.slot) }
     ensures learned { LearnsSlots (knowledge pass.old.view) (knowledge pass.new.view) }
-    ensures steps { length pass.new.view.log ≤ length pass.old.view.log + 3 * shared.now.layout.nodes }
+    ensures steps { length pass.new.view.log
+        ≤ length pass.old.view.log + 3 * shared.now.layout.nodes }
     ensures fit { placement.new ≡ placement.old }
 {
     match placement.fit {
@@ -159,7 +170,8 @@ pub fn claim_by(shared: &Shared, pass: &mut Pass, placement: &mut Placement) -> 
     }
 }
 
-/// A slot that was given back last, or else the first that is found from the cursor upwards, and round.
+/// A slot that was given back last, or else the first that is found from the cursor upwards, and
+/// round.
 fn claim_near(shared: &Shared, pass: &mut Pass, near: &mut Near) -> Option<NodeId>
     requires { IsOf shared.now pass.old }
     ensures same { IsSamePass pass.old pass.new }
@@ -167,7 +179,8 @@ fn claim_near(shared: &Shared, pass: &mut Pass, near: &mut Near) -> Option<NodeI
     ensures run { IsInRun pass.new }
     ensures part { IsNearClaim shared.now.layout.nodes pass.old.view.log pass.new.view.log result }
     ensures made { IfSome result (IsNewNode (knowledge pass.new.view)) }
-    ensures new { IfSome result (λ node. IsNew pass.old.view.layout pass.old.view.number pass.old.view.log node.slot) }
+    ensures new { IfSome result
+        (λ node. IsNew pass.old.view.layout pass.old.view.number pass.old.view.log node.slot) }
     ensures learned { LearnsSlots (knowledge pass.old.view) (knowledge pass.new.view) }
 {
     if let Some(node) = claim_recent(shared, pass, near) {
@@ -186,16 +199,19 @@ fn claim_near(shared: &Shared, pass: &mut Pass, near: &mut Near) -> Option<NodeI
     Some(node)
 }
 
-/// The first of the slots that were given back last which is found in the pool and is not worn. Each one that is tried is forgotten.
+/// The first of the slots that were given back last which is found in the pool and is not worn.
+/// Each one that is tried is forgotten.
 fn claim_recent(shared: &Shared, pass: &mut Pass, near: &mut Near) -> Option<NodeId>
     requires { IsOf shared.now pass.old }
     ensures same { IsSamePass pass.old pass.new }
     ensures past { HasSeenAllOf pass.new pass.old }
     ensures run { IsInRun pass.old → IsInRun pass.new }
     ensures found { IfSome result (λ _. IsInRun pass.new) }
-    ensures part { IsClaimOfFew 4 shared.now.layout.nodes pass.old.view.log pass.new.view.log result }
+    ensures part { IsClaimOfFew 4 shared.now.layout.nodes pass.old.view.log pass.new.view.log
+        result }
     ensures made { IfSome result (IsNewNode (knowledge pass.new.view)) }
-    ensures new { IfSome result (λ node. IsNew pass.old.view.layout pass.old.view.number pass.old.view.log node.slot) }
+    ensures new { IfSome result
+        (λ node. IsNew pass.old.view.layout pass.old.view.number pass.old.view.log node.slot) }
     ensures learned { LearnsSlots (knowledge pass.old.view) (knowledge pass.new.view) }
 {
     for round in 0..RECENT {
@@ -214,9 +230,11 @@ fn try_hint(shared: &Shared, pass: &mut Pass, slot: u32) -> Option<NodeId>
     ensures past { HasSeenAllOf pass.new pass.old }
     ensures run { IsInRun pass.old → IsInRun pass.new }
     ensures found { IfSome result (λ _. IsInRun pass.new) }
-    ensures part { IsClaimOfFew 1 shared.now.layout.nodes pass.old.view.log pass.new.view.log result }
+    ensures part { IsClaimOfFew 1 shared.now.layout.nodes pass.old.view.log pass.new.view.log
+        result }
     ensures made { IfSome result (IsNewNode (knowledge pass.new.view)) }
-    ensures new { IfSome result (λ node. IsNew pass.old.view.layout pass.old.view.number pass.old.view.log node.slot) }
+    ensures new { IfSome result
+        (λ node. IsNew pass.old.view.layout pass.old.view.number pass.old.view.log node.slot) }
     ensures learned { LearnsSlots (knowledge pass.old.view) (knowledge pass.new.view) }
 {
     if slot < FIRST_SLOT || shared.layout().nodes() < slot {

@@ -11,10 +11,12 @@ ghost use Rattle.nm_steps.specs.Steps.{IsSamePass};
 
 use nm_steps::{Pass, Shared};
 
-/// Takes a slot out of the pool: the first that it finds there, from one slot upwards, by one claim each.
+/// Takes a slot out of the pool: the first that it finds there, from one slot upwards, by one claim
+/// each.
 ///
-/// `Some(slot)`: the slot is private to the worker, without birth; the worker had it nowhere before, and each lesser one, from the first on, was found taken in this call.
-/// `None`: each slot from the first on was. At most one step a slot.
+/// `Some(slot)`: the slot is private to the worker, without birth; the worker had it nowhere
+/// before, and each lesser one, from the first on, was found taken in this call. `None`: each slot
+/// from the first on was. At most one step a slot.
 pub fn take(shared: &Shared, pass: &mut Pass, from: u32) -> Option<u32>
     requires own { IsOf shared.now pass.old }
     requires from { 5 < from }
@@ -24,7 +26,8 @@ pub fn take(shared: &Shared, pass: &mut Pass, from: u32) -> Option<u32>
     ensures part { IsTake from shared.now.layout.nodes pass.old.view.log pass.new.view.log result }
     ensures private { IfSome result (λ slot. is_private (knowledge pass.new.view) slot ≡ true) }
     ensures unborn { IfSome result (IsUnborn (knowledge pass.new.view)) }
-    ensures new { IfSome result (IsNew pass.old.view.layout pass.old.view.number pass.old.view.log) }
+    ensures new { IfSome result
+        (IsNew pass.old.view.layout pass.old.view.number pass.old.view.log) }
     ensures learned { LearnsSlots (knowledge pass.old.view) (knowledge pass.new.view) }
     ensures steps { length pass.new.view.log ≤ length pass.old.view.log + shared.now.layout.nodes }
 {
@@ -41,7 +44,8 @@ fn take_first(shared: &Shared, pass: &mut Pass, from: u32) -> Option<u32>
     ensures part { IsTake from shared.now.layout.nodes pass.old.view.log pass.new.view.log result }
     ensures private { IfSome result (λ slot. is_private (knowledge pass.new.view) slot ≡ true) }
     ensures unborn { IfSome result (IsUnborn (knowledge pass.new.view)) }
-    ensures new { IfSome result (IsNew pass.old.view.layout pass.old.view.number pass.old.view.log) }
+    ensures new { IfSome result
+        (IsNew pass.old.view.layout pass.old.view.number pass.old.view.log) }
     ensures learned { LearnsSlots (knowledge pass.old.view) (knowledge pass.new.view) }
 {
     let nodes = shared.layout().nodes();

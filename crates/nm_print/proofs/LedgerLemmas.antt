@@ -13,7 +13,8 @@ opening_state : (L : Layout) (is_ordered : Bool) → (opening_of L is_ordered).s
 opening_state L true = refl
 opening_state L false = refl
 
--- and in every run of a core that is ordered or not, since it is a run of the events that were allowed
+-- and in every run of a core that is ordered or not, since it is a run of the events that were
+-- allowed
 pub each_is_told : (L : Layout) (is_ordered : Bool) (turns : List (ℕ × Event)) (w : ℕ) → w < L.workers → IsSome (ledger_of (after_in (opening_of L is_ordered) turns).state w)
 each_is_told L is_ordered turns w lt =
     let c = opening_of L is_ordered in

@@ -1,4 +1,5 @@
--- What the last state is told by: the ledger of each worker, the epoch, how many slots stand where, and in an ordered file the keys of the set.
+-- What the last state is told by: the ledger of each worker, the epoch, how many slots stand where,
+-- and in an ordered file the keys of the set.
 use Rattle.std.specs.Prelude.{ℕ, Bool, true, false, zero, suc, List, [], ◌∷◌, ◌++◌, codes, decimal, Option, Some, None}
 use Rattle.nm_edge.specs.declared.node.NodeId.{NodeId}
 use Rattle.nm_model.specs.declared.ledger.Queued.{Queued}
@@ -82,4 +83,5 @@ keys_line_in false s = []
 
 -- what the last state of a file with that header is told by
 unfoldable pub last_lines : Header → State → List ℕ
-last_lines header s = workers_lines s header.layout.workers ++ (epoch_line s.memory.epoch ++ (places_line (counts s) ++ keys_line_in header.is_ordered s))
+last_lines header s = workers_lines s header.layout.workers
+    ++ (epoch_line s.memory.epoch ++ (places_line (counts s) ++ keys_line_in header.is_ordered s))

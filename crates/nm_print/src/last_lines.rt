@@ -1,4 +1,5 @@
-//! The last lines: the ledger of each worker, the epoch, how many slots stand where, and in an ordered file the keys of the set.
+//! The last lines: the ledger of each worker, the epoch, how many slots stand where, and in an
+//! ordered file the keys of the set.
 ghost use Rattle.std.specs.Prelude.{◌≡◌, ◌<◌, ◌++◌, ℕ, Bool, List, codes, Some, IsSome, OnOk};
 ghost use Rattle.nm_edge.specs.Layouts.{Layout};
 ghost use Rattle.nm_model.specs.declared.event.Event.{Event};
@@ -68,7 +69,8 @@ fn put_nodes_line(
     what: &[u8],
     nodes: &[NodeId],
 ) -> Result<(), AllocError>
-    ensures { OnOk result (out.new.items ≡ out.old.items ++ spec.worker_line worker what.now (spec.nodes nodes.now)) }
+    ensures { OnOk result (out.new.items
+        ≡ out.old.items ++ spec.worker_line worker what.now (spec.nodes nodes.now)) }
 {
     put_number(out, b"worker ", u64::from(worker))?;
     out.extend_from_slice(what)?;
@@ -78,7 +80,8 @@ fn put_nodes_line(
 
 /// Appends the line of the queue of what a worker's splices cut off.
 fn put_queue_line(out: &mut Vec<u8>, worker: u32, entries: &[Queued]) -> Result<(), AllocError>
-    ensures { OnOk result (out.new.items ≡ out.old.items ++ spec.worker_line worker (codes " queue") (spec.queue entries.now)) }
+    ensures { OnOk result (out.new.items
+        ≡ out.old.items ++ spec.worker_line worker (codes " queue") (spec.queue entries.now)) }
 {
     put_number(out, b"worker ", u64::from(worker))?;
     out.extend_from_slice(b" queue")?;
@@ -88,7 +91,8 @@ fn put_queue_line(out: &mut Vec<u8>, worker: u32, entries: &[Queued]) -> Result<
 
 /// Appends the three lines of a worker's ledger.
 fn put_ledger(out: &mut Vec<u8>, worker: u32, ledger: &Ledger) -> Result<(), AllocError>
-    ensures { OnOk result (out.new.items ≡ out.old.items ++ spec.ledger_lines worker (Some ledger.now)) }
+    ensures { OnOk result (out.new.items
+        ≡ out.old.items ++ spec.ledger_lines worker (Some ledger.now)) }
 {
     put_nodes_line(out, worker, b" retired", ledger.retired.as_slice())?;
     put_nodes_line(out, worker, b" freed", ledger.freed.as_slice())?;
@@ -97,7 +101,8 @@ fn put_ledger(out: &mut Vec<u8>, worker: u32, ledger: &Ledger) -> Result<(), All
 
 /// Appends the lines of each worker by number.
 fn put_ledgers(out: &mut Vec<u8>, workers: u32, core: &Core) -> Result<(), AllocError>
-    ensures { OnOk result (out.new.items ≡ out.old.items ++ spec.workers_lines core.now.state workers) }
+    ensures { OnOk result (out.new.items
+        ≡ out.old.items ++ spec.workers_lines core.now.state workers) }
 {
     for worker in 0..workers {
         if let Some(ledger) = core.ledger(worker) {
@@ -158,7 +163,8 @@ pub fn put_keys_line(out: &mut Vec<u8>, keys: &[Key]) -> Result<(), AllocError>
 
 /// Appends the line of the keys, in an ordered file alone.
 fn put_keys_in(out: &mut Vec<u8>, is_ordered: bool, core: &Core) -> Result<(), AllocError>
-    ensures { OnOk result (out.new.items ≡ out.old.items ++ spec.keys_line_in is_ordered core.now.state) }
+    ensures { OnOk result (out.new.items
+        ≡ out.old.items ++ spec.keys_line_in is_ordered core.now.state) }
 {
     if !is_ordered {
         return Ok(());
@@ -170,7 +176,8 @@ fn put_keys_in(out: &mut Vec<u8>, is_ordered: bool, core: &Core) -> Result<(), A
 /// Appends what the last state of a file with that header is told by.
 #[tactic(auto, unfolding(crate::specs::LastLines::last_lines))]
 pub fn put_last_lines(out: &mut Vec<u8>, header: &Header, core: &Core) -> Result<(), AllocError>
-    ensures { OnOk result (out.new.items ≡ out.old.items ++ spec.last_lines header.now core.now.state) }
+    ensures { OnOk result (out.new.items
+        ≡ out.old.items ++ spec.last_lines header.now core.now.state) }
 {
     put_ledgers(out, header.layout.workers(), core)?;
     put_epoch(out, core.epoch())?;
@@ -178,7 +185,10 @@ pub fn put_last_lines(out: &mut Vec<u8>, header: &Header, core: &Core) -> Result
     put_keys_in(out, header.is_ordered, core)
 }
 
-/// Each worker of a tree has a ledger, whatever was done and by whom, in an ordered core or not, so each has its three lines.
+/// Each worker of a tree has a ledger, whatever was done and by whom, in an ordered core or not, so
+/// each has its three lines.
 pub fn each_worker_is_told()
-    ensures { (L : Layout) (is_ordered : Bool) (turns : List (ℕ × Event)) (worker : ℕ) → worker < L.workers → IsSome (ledger_of (after_in (opening_of L is_ordered) turns).state worker) }
+    ensures { (L : Layout) (is_ordered : Bool) (turns : List (ℕ × Event)) (worker : ℕ)
+        → worker < L.workers → IsSome
+        (ledger_of (after_in (opening_of L is_ordered) turns).state worker) }
 {}

@@ -16,7 +16,8 @@ pub fn put_number(out: &mut Vec<u8>, word: &[u8], n: u64) -> Result<(), AllocErr
     out.extend_from_slice(buffer.format(n).as_bytes())
 }
 
-/// Appends a word, and an edge: its slot, followed by `f` where it is flagged and `t` where it is tagged.
+/// Appends a word, and an edge: its slot, followed by `f` where it is flagged and `t` where it is
+/// tagged.
 fn put_edge(out: &mut Vec<u8>, word: &[u8], edge: Edge) -> Result<(), AllocError>
     ensures { OnOk result (out.new.items ≡ out.old.items ++ (word.now ++ spec.edge edge)) }
 {
@@ -50,7 +51,8 @@ pub fn put_spaced_nodes(out: &mut Vec<u8>, nodes: &[NodeId]) -> Result<(), Alloc
 
 /// Appends `cut` and the nodes, each after a space.
 fn put_cut(out: &mut Vec<u8>, nodes: &[NodeId]) -> Result<(), AllocError>
-    ensures { OnOk result (out.new.items ≡ out.old.items ++ (codes "cut" ++ spec.spaced_nodes nodes.now)) }
+    ensures { OnOk result (out.new.items
+        ≡ out.old.items ++ (codes "cut" ++ spec.spaced_nodes nodes.now)) }
 {
     out.extend_from_slice(b"cut")?;
     put_spaced_nodes(out, nodes)

@@ -19,7 +19,8 @@ use Rattle.nm_print.specs.LastLines.{workers_lines, epoch_line, places_line, las
 abbrev pub lines_with : List (List ℕ) → List Turn → List ℕ
 lines_with [] turns = []
 lines_with (line ∷ lines) [] = []
-lines_with (line ∷ lines) (turn ∷ turns) = line ++ codes " = " ++ outcome turn.outcome ++ codes "\n" ++ lines_with lines turns
+lines_with (line ∷ lines) (turn ∷ turns) =
+    line ++ codes " = " ++ outcome turn.outcome ++ codes "\n" ++ lines_with lines turns
 
 -- the core that plays a file with that header, at its opening
 abbrev pub opening : Header → Configuration
@@ -27,16 +28,19 @@ opening header = opening_of header.layout header.is_ordered
 
 -- what is written for a schedule whose lines from the second on are these
 abbrev pub text_of : Schedule → List (List ℕ) → List ℕ
-text_of s lines = lines_with lines (trace_in (opening s.header) s.entries) ++ last_lines s.header (after_in (opening s.header) s.entries).state
+text_of s lines = lines_with lines (trace_in (opening s.header) s.entries)
+    ++ last_lines s.header (after_in (opening s.header) s.entries).state
 
 -- what the last state of a file that is not ordered is told by
 abbrev pub plain_lines : ℕ → State → List ℕ
-plain_lines workers s = workers_lines s workers ++ (epoch_line s.memory.epoch ++ places_line (counts s))
+plain_lines workers s = workers_lines s workers
+    ++ (epoch_line s.memory.epoch ++ places_line (counts s))
 
 -- a file that is not ordered is told by a run of states, without a line of keys
 abbrev pub PlainFilesAreRuns : Type 0
 PlainFilesAreRuns = (L : Layout) (ts : List (ℕ × Event)) (lines : List (List ℕ))
-    → text_of (record { header = record { layout = L; is_ordered = false }; entries = ts }) lines ≡ lines_with lines (trace (start L) ts) ++ plain_lines L.workers (after (start L) ts)
+    → text_of (record { header = record { layout = L; is_ordered = false }; entries = ts }) lines
+    ≡ lines_with lines (trace (start L) ts) ++ plain_lines L.workers (after (start L) ts)
 
 -- what is written for a file, or its first faulty line with the least reason
 abbrev pub output_of : List ℕ → Result (List ℕ) Fault

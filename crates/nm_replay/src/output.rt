@@ -15,7 +15,8 @@ use std::alloc::{AllocError, Global};
 
 /// Appends a line of the file with what its event was answered.
 fn put_line(out: &mut Vec<u8>, line: &[u8], turn: &Turn) -> Result<(), AllocError>
-    ensures { OnOk result (out.new.items ≡ out.old.items ++ (line.now ++ codes " = " ++ outcome turn.now.outcome ++ codes "\n")) }
+    ensures { OnOk result (out.new.items
+        ≡ out.old.items ++ (line.now ++ codes " = " ++ outcome turn.now.outcome ++ codes "\n")) }
 {
     out.extend_from_slice(line)?;
     out.extend_from_slice(b" = ")?;
@@ -31,7 +32,8 @@ pub fn text_of(
     header: &Header,
     core: &Core,
 ) -> Result<Vec<u8>, AllocError>
-    ensures { IfOk result (λ v. v.items ≡ spec.lines_with (parts body.now) turns.now ++ last_lines header.now core.now.state) }
+    ensures { IfOk result (λ v. v.items
+        ≡ spec.lines_with (parts body.now) turns.now ++ last_lines header.now core.now.state) }
 {
     let mut out = Vec::new(alloc);
     let mut rest = Some(body);
@@ -47,7 +49,8 @@ pub fn text_of(
     Ok(out)
 }
 
-/// A file that is not ordered, of version 1 or 2, is told by a run of states, each event answered as a plain core answers it, and has no line of keys.
+/// A file that is not ordered, of version 1 or 2, is told by a run of states, each event answered
+/// as a plain core answers it, and has no line of keys.
 pub fn plain_files_are_runs()
     ensures { spec.PlainFilesAreRuns }
 {}

@@ -45,25 +45,34 @@ fn output(alloc: Global, bytes: &[u8]) -> Result<Vec<u8>, RunFault>
     }
 }
 
-/// Plays the schedule that the reader gives, and writes each of its lines with what the event was answered,
-/// and then what the last state is told by: each worker's ledger, the epoch, how many slots stand where,
-/// and in an ordered file the keys of the set.
+/// Plays the schedule that the reader gives, and writes each of its lines with what the event was
+/// answered, and then what the last state is told by: each worker's ledger, the epoch, how many
+/// slots stand where, and in an ordered file the keys of the set.
 ///
-/// Everything is read before a line is checked, and nothing is written before all lines are checked and run.
-/// An event that the core refuses is written with the number of the refusal, and is no fault.
+/// Everything is read before a line is checked, and nothing is written before all lines are checked
+/// and run. An event that the core refuses is written with the number of the refusal, and is no
+/// fault.
 pub fn replay<R: Read, W: Write>(
     alloc: Global,
     reader: &mut R,
     writer: &mut W,
 ) -> Result<(), RunFault>
     // The output of the input is written, and nothing else.
-    ensures ok { OnOk result (IfSome (R.remaining reader.old) (λ input. Writes (output_of input) (W.contents writer.old) (W.contents writer.new))) }
+    ensures ok { OnOk result (IfSome (R.remaining reader.old)
+        (λ input. Writes (output_of input) (W.contents writer.old) (W.contents writer.new))) }
     // The first faulty line is answered, with the least reason.
-    ensures line { IfErr result (λ e. IfSome (R.remaining reader.old) (λ input. IfLine e (λ line reason. output_of input ≡ Err (record { line = line; reason = reason })))) }
+    ensures line { IfErr result
+        (λ e. IfSome (R.remaining reader.old)
+        (λ input. IfLine e (λ line reason. output_of input
+        ≡ Err (record { line = line; reason = reason })))) }
     // A writer is first asked where no line is faulty.
-    ensures write { IfErr result (λ e. e ≡ RunFault.Write → IfSome (R.remaining reader.old) (λ input. IsOk (output_of input))) }
+    ensures write { IfErr result
+        (λ e. e ≡ RunFault.Write
+        → IfSome (R.remaining reader.old) (λ input. IsOk (output_of input))) }
     // However it was judged, the input was read to its end, or to the limit.
-    ensures read { HasJudged result → IfSome (R.remaining reader.old) (λ input. R.remaining reader.new ≡ Some (drop LIMIT input)) }
+    ensures read { HasJudged result
+        → IfSome (R.remaining reader.old)
+        (λ input. R.remaining reader.new ≡ Some (drop LIMIT input)) }
     // Nothing is written unless all was right.
     ensures unwritten { IfErr result (λ e. e ≢ RunFault.Write → writer.new ≡ writer.old) }
 {

@@ -96,8 +96,8 @@ within_split n (q ∷ ps) p a = let rest = within_split n ps p a.1 in ((a.0, res
 
 -- ---- a walk
 
--- of the tree below slot 1, at most n deep: the keys found and those of the parts that wait are all keys,
--- and the slots visited and those of the parts that wait are all slots
+-- of the tree below slot 1, at most n deep: the keys found and those of the parts that wait are all
+-- keys, and the slots visited and those of the parts that wait are all slots
 pub record IsWalk (n : ℕ) (m : Memory) (done : ℕ) (found : List ℕ) (waiting : List Subtree) : Type 0 where
   pub told : found ++ pending m waiting ≡ keys_below n m 1
   pub counted : done + spread m waiting ≡ length (tree_slots n m 1)
@@ -168,7 +168,8 @@ few_found n m done found waiting w =
 pub few_visited : (n : ℕ) (m : Memory) (done : ℕ) (found : List ℕ) (waiting : List Subtree) → IsWalk n m done found waiting → done ≤ length (tree_slots n m 1)
 few_visited n m done found waiting w = let all = w.counted in omega (arith, all)
 
--- where no more slots are reached than there are, a slot that is visited is one of them, and there is room for its key
+-- where no more slots are reached than there are, a slot that is visited is one of them, and there
+-- is room for its key
 pub room_left : (n : ℕ) (m : Memory) (done : ℕ) (found : List ℕ) (all rest : List Subtree) (p : Subtree) (x : Node) → ((y : ℕ) (side : Side) → child m y side ≤ n)
     → all ≡ rest ++ p ∷ [] → p.slot ≢ 0 → p.depth ≢ 0 → x ≡ node m p.slot → length (tree_slots n m 1) ≤ n
     → IsWalk n m done found all → (done + 1 ≤ n) × (length found + length (option_to_list (set_key x)) ≤ n)

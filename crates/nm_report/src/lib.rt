@@ -1,4 +1,5 @@
-//! What the words of a closed tree tell: the keys of the set, and how many slots are free and reached.
+//! What the words of a closed tree tell: the keys of the set, and how many slots are free and
+//! reached.
 #![tactic(auto)]
 
 mod reading;

@@ -13,7 +13,8 @@ use nm_steps::Words;
 fn edge(words: &Words, layout: Layout, slot: u32, side: Side) -> Edge
     requires ended { IsEndOf layout words.now }
     requires slot { IsSlot layout slot }
-    ensures { (e : IsEndOf layout words.now) → result ≡ edge (end_of layout words.now e).memory slot side }
+    ensures { (e : IsEndOf layout words.now)
+        → result ≡ edge (end_of layout words.now e).memory slot side }
 {
     let word = words.word(layout.edge(slot, side) as usize);
     Edge::of_word(word)
@@ -23,7 +24,8 @@ fn edge(words: &Words, layout: Layout, slot: u32, side: Side) -> Edge
 pub fn node(words: &Words, layout: Layout, slot: u32) -> Node
     requires ended { IsEndOf layout words.now }
     requires slot { IsSlot layout slot }
-    ensures { (e : IsEndOf layout words.now) → result ≡ node (end_of layout words.now e).memory slot }
+    ensures { (e : IsEndOf layout words.now)
+        → result ≡ node (end_of layout words.now e).memory slot }
 {
     let key = words.word(layout.key(slot) as usize);
     let birth = words.word(layout.birth(slot) as usize);
@@ -39,7 +41,8 @@ pub fn node(words: &Words, layout: Layout, slot: u32) -> Node
 fn is_free(words: &Words, layout: Layout, slot: u32) -> bool
     requires ended { IsEndOf layout words.now }
     requires slot { IsSlot layout slot }
-    ensures { (e : IsEndOf layout words.now) → result ≡ in_pool (end_of layout words.now e).memory slot }
+    ensures { (e : IsEndOf layout words.now)
+        → result ≡ in_pool (end_of layout words.now e).memory slot }
 {
     let place = layout.pool(slot);
     let word = words.word(place.word as usize);

@@ -15,7 +15,8 @@ use nm_steps::Words;
 /// What the words of a closed tree tell.
 #[derive(Debug, Drop)]
 pub struct Found {
-    /// The keys of the set, ascending: those of the reached leaves, flagged ones too, without the three infinite keys.
+    /// The keys of the set, ascending: those of the reached leaves, flagged ones too, without the
+    /// three infinite keys.
     pub keys: Vec<Key>,
     /// How many slots are in the pool.
     pub free: u32,
@@ -23,16 +24,22 @@ pub struct Found {
     pub reached: u32,
 }
 
-/// Reads the words of a closed tree: the keys of the set, how many slots are free, and how many are reached.
+/// Reads the words of a closed tree: the keys of the set, how many slots are free, and how many are
+/// reached.
 ///
-/// It takes no memory beside the room, and cannot fail. A stack takes the place of recursion, so the tree may be as deep as it has nodes.
+/// It takes no memory beside the room, and cannot fail. A stack takes the place of recursion, so
+/// the tree may be as deep as it has nodes.
 pub fn read(words: &Words, room: Room) -> Found
     requires { IsEndOf room words.now }
-    ensures keys { (e : IsEndOf room words.now) → result.keys.items ≡ keys (end_of room words.now e) }
-    ensures set { (e : IsEndOf room words.now) (k : ℕ) → Contains result.keys.items k ↔ InSet (end_of room words.now e).memory k × (k < infinity_0) }
+    ensures keys { (e : IsEndOf room words.now)
+        → result.keys.items ≡ keys (end_of room words.now e) }
+    ensures set { (e : IsEndOf room words.now) (k : ℕ) → Contains result.keys.items k
+        ↔ InSet (end_of room words.now e).memory k × (k < infinity_0) }
     ensures ascending { AllPairs (λ j k. j < k) result.keys.items }
-    ensures free { (e : IsEndOf room words.now) → result.free ≡ (counts (end_of room words.now e)).pool }
-    ensures reached { (e : IsEndOf room words.now) → result.reached ≡ (counts (end_of room words.now e)).reached }
+    ensures free { (e : IsEndOf room words.now)
+        → result.free ≡ (counts (end_of room words.now e)).pool }
+    ensures reached { (e : IsEndOf room words.now)
+        → result.reached ≡ (counts (end_of room words.now e)).reached }
 {
     let Room {
         layout,

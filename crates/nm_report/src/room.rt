@@ -6,9 +6,11 @@ use nm_model::keys::Subtree;
 use std::alloc::{AllocError, Global};
 use std::marker::Model;
 
-/// All memory that the report on a tree takes: room for the keys, and for the parts of the tree that wait.
+/// All memory that the report on a tree takes: room for the keys, and for the parts of the tree
+/// that wait.
 ///
-/// It is made before the tree is closed, so that nothing can fail afterwards. A contract sees it as the layout of the tree.
+/// It is made before the tree is closed, so that nothing can fail afterwards. A contract sees it as
+/// the layout of the tree.
 #[derive(Drop)]
 pub struct Room {
     pub(crate) layout: Layout,
@@ -24,12 +26,13 @@ impl Model for Room {
 
     ghost view = { λ r. r.layout };
 
-    ghost invariant = { λ r. (r.keys.items ≡ []) × (r.waiting.items ≡ []) × (r.layout.nodes ≤ vec_capacity r.keys) × (r.layout.nodes + 1 ≤ vec_capacity r.waiting) };
+    ghost invariant = { λ r. (r.keys.items ≡ []) × (r.waiting.items ≡ [])
+        × (r.layout.nodes ≤ vec_capacity r.keys) × (r.layout.nodes + 1 ≤ vec_capacity r.waiting) };
 }
 
 impl Room {
-    /// Room for the report on a tree of that layout: one key a node, and one part a node and one more.
-    /// It fails only where memory runs out.
+    /// Room for the report on a tree of that layout: one key a node, and one part a node and one
+    /// more. It fails only where memory runs out.
     pub fn new(alloc: Global, layout: Layout) -> Result<Room, AllocError>
         ensures { IfOk result (λ room. room ≡ layout) }
     {

@@ -23,7 +23,9 @@ fn put_key(found: &mut Vec<Key>, key: Option<Key>)
 // The parts below a node wait, the left one in front.
 fn put_below(waiting: &mut Vec<Subtree>, node: &Node, depth: u32)
     requires { length waiting.old.items + 2 ≤ vec_capacity waiting.old }
-    ensures items { waiting.new.items ≡ waiting.old.items ++ record { slot = node.now.right.slot; depth = depth } ∷ record { slot = node.now.left.slot; depth = depth } ∷ [] }
+    ensures items { waiting.new.items
+        ≡ waiting.old.items ++ record { slot = node.now.right.slot; depth = depth }
+        ∷ record { slot = node.now.left.slot; depth = depth } ∷ [] }
     ensures room { vec_capacity waiting.old ≤ vec_capacity waiting.new }
 {
     waiting
@@ -47,8 +49,10 @@ pub fn walk(words: &Words, layout: Layout, found: &mut Vec<Key>, waiting: &mut V
     requires root { waiting.old.items ≡ record { slot = 1; depth = layout.nodes } ∷ [] }
     requires key_room { layout.nodes ≤ vec_capacity found.old }
     requires part_room { layout.nodes + 1 ≤ vec_capacity waiting.old }
-    ensures keys { (e : IsEndOf layout words.now) → found.new.items ≡ keys (end_of layout words.now e) }
-    ensures visited { (e : IsEndOf layout words.now) → result ≡ length (tree_slots layout.nodes (end_of layout words.now e).memory 1) }
+    ensures keys { (e : IsEndOf layout words.now)
+        → found.new.items ≡ keys (end_of layout words.now e) }
+    ensures visited { (e : IsEndOf layout words.now)
+        → result ≡ length (tree_slots layout.nodes (end_of layout words.now e).memory 1) }
 {
     let mut visited = 0;
     while let Some(part) = waiting.pop() {

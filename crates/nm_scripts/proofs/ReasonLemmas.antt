@@ -27,7 +27,8 @@ use Rattle.nm_scripts.specs.Headers.{word, is_serial, limits_of, header_of, head
 use Rattle.nm_scripts.specs.Scripts.{entry_of, with_worker, line_of, first_line_of}
 use Rattle.nm_scripts.specs.Reasons.{asked_of, has_fields, has_numbers, has_heir, has_key, holds_of, holds, line_reasons, header_holds_of, header_holds, header_reasons}
 
--- what a kind's arguments say: which test fails first, and that a key is not too great where there is an heir
+-- what a kind's arguments say: which test fails first, and that a key is not too great where there
+-- is an heir
 abbrev Says : Bool → Bool → Bool → Bool → Result Call Reason → Type 0
 Says false numbers heir key said = said ≡ Err reason.Fields
 Says true false heir key said = said ≡ Err reason.Number
@@ -81,7 +82,8 @@ call_says workers Resign (a ∷ b ∷ more) = refl
 
 -- ---- a line
 
--- what is wrong with a worker, its own number before the heir, and both before a key that is too great
+-- what is wrong with a worker, its own number before the heir, and both before a key that is too
+-- great
 worker_least : (header : Header) (a k : List ℕ) (fs : List (List ℕ)) (kind : Kind) (said : Result Call Reason) → list_all is_field (a ∷ k ∷ fs) ≡ true → kind_of header.may_resign k ≡ Ok kind → has_fields (asked_of kind) fs ≡ true → has_numbers (asked_of kind) fs ≡ true
     → (heir key : Bool) → has_heir header.layout.workers (asked_of kind) fs ≡ heir → has_key (asked_of kind) fs ≡ key → Says true true heir key said
     → reason_in (with_worker (worker_of header.layout.workers a) said) ≡ find (holds_of header false (a ∷ k ∷ fs)) line_reasons

@@ -1,4 +1,5 @@
--- The first line of a script: its command and version, how many nodes and workers it is for, and how many tries each call has.
+-- The first line of a script: its command and version, how many nodes and workers it is for, and
+-- how many tries each call has.
 use Rattle.std.specs.Prelude.{◌≡◌, ℕ, List, [], ◌∷◌, codes, Bool, true, false, Result, Ok, Err, if◌then◌else◌}
 use Rattle.std.specs.Str.{bytes_eq}
 use Rattle.nm_edge.specs.Layouts.{dense}
@@ -24,13 +25,16 @@ is_serial Stress = false
 -- the sizes that a version of the format allows, and whether its workers may resign
 abbrev pub limits_by : Command → List ℕ → Result Limits Reason
 limits_by command version =
-    if bytes_eq version (codes "1") then Ok (record { nodes = 65536; workers = 32; may_resign = false })
-    else if bytes_eq version (codes "2") then Ok (record { nodes = 1048576; workers = 64; may_resign = is_serial command })
+    if bytes_eq version (codes "1")
+    then Ok (record { nodes = 65536; workers = 32; may_resign = false })
+    else if bytes_eq version (codes "2")
+    then Ok (record { nodes = 1048576; workers = 64; may_resign = is_serial command })
     else Err reason.Header
 
 -- what a version of the command's format allows: the sizes, and whether its workers may resign
 abbrev pub limits_of : Command → List ℕ → List ℕ → Result Limits Reason
-limits_of command given version = if bytes_eq given (word command) then limits_by command version else Err reason.Header
+limits_of command given version =
+    if bytes_eq given (word command) then limits_by command version else Err reason.Header
 
 -- 7 nodes or more, 1 worker or more, no more than the version allows, and 1 to 1,000,000 tries
 abbrev pub header_within : Limits → ℕ → ℕ → ℕ → Result Header Reason
@@ -49,7 +53,8 @@ header_by limits nodes workers tries = do
 
 -- the header by its fields, in a file for that command
 unfoldable pub header_of : Command → List (List ℕ) → Result Header Reason
-header_of command (given ∷ version ∷ nodes ∷ workers ∷ tries ∷ []) = limits_of command given version >>= λ limits. header_by limits nodes workers tries
+header_of command (given ∷ version ∷ nodes ∷ workers ∷ tries ∷ []) =
+    limits_of command given version >>= λ limits. header_by limits nodes workers tries
 header_of command _ = Err reason.Header
 
 -- workers may resign in files of `serial` alone

@@ -59,7 +59,8 @@ has_key asked fs = true
 
 -- a test of the kind's arguments fails, where there is such a kind
 abbrev pub fails_of : HeaderOf → (Asked → List (List ℕ) → Bool) → List (List ℕ) → Bool
-fails_of header test fs = fails_at (λ kind. test (asked_of kind) (drop 2 fs)) (kind_of header.may_resign (kind_field fs))
+fails_of header test fs = fails_at (λ kind. test (asked_of kind) (drop 2 fs))
+    (kind_of header.may_resign (kind_field fs))
 
 -- `holds_of`, `header_holds_of`: the reason holds of a line, and of the first line
 abbrev pub holds_of : HeaderOf → Bool → List (List ℕ) → Reason → Bool
@@ -67,8 +68,11 @@ holds_of header long fs Long = long
 holds_of header long fs Form = not (list_all is_field fs) || nat_lt (length fs) 2
 holds_of header long fs Kind = not (is_ok (kind_of header.may_resign (kind_field fs)))
 holds_of header long fs Fields = fails_of header has_fields fs
-holds_of header long fs Number = not (is_ok (place (worker_field fs))) || fails_of header has_numbers fs
-holds_of header long fs Worker = fails_at (λ w. nat_lt w header.layout.workers) (place (worker_field fs)) || fails_of header (has_heir header.layout.workers) fs
+holds_of header long fs Number =
+    not (is_ok (place (worker_field fs))) || fails_of header has_numbers fs
+holds_of header long fs Worker =
+    fails_at (λ w. nat_lt w header.layout.workers) (place (worker_field fs))
+    || fails_of header (has_heir header.layout.workers) fs
 holds_of header long fs Key = fails_of header has_key fs
 holds_of header long fs _ = false
 
@@ -84,19 +88,27 @@ line_reasons = Long ∷ Form ∷ Kind ∷ Fields ∷ Number ∷ Worker ∷ Key �
 
 -- the limits that the first two of five fields name
 abbrev pub header_limits : CommandOf → List (List ℕ) → Result Limits Reason
-header_limits command (word ∷ version ∷ nodes ∷ workers ∷ tries ∷ []) = limits_of command word version
+header_limits command (word ∷ version ∷ nodes ∷ workers ∷ tries ∷ []) =
+    limits_of command word version
 header_limits command _ = Err Header
 
 -- the third field, the fourth and the fifth are numbers
 abbrev pub has_counts : List (List ℕ) → Bool
-has_counts fs = is_ok (number (slice_index_or fs 2 [])) && (is_ok (number (slice_index_or fs 3 [])) && is_ok (number (slice_index_or fs 4 [])))
+has_counts fs = is_ok (number (slice_index_or fs 2 []))
+    && (is_ok (number (slice_index_or fs 3 [])) && is_ok (number (slice_index_or fs 4 [])))
 
 abbrev pub header_holds_of : CommandOf → Bool → List (List ℕ) → Reason → Bool
 header_holds_of command long fs Long = long
 header_holds_of command long fs Header = not (is_ok (header_limits command fs) && has_counts fs)
-header_holds_of command long fs Nodes = fails_at (λ limits. not (is_no_size 7 limits.nodes (slice_index_or fs 2 []))) (header_limits command fs)
-header_holds_of command long fs Workers = fails_at (λ limits. not (is_no_size 1 limits.workers (slice_index_or fs 3 []))) (header_limits command fs)
-header_holds_of command long fs Tries = fails_at (λ limits. not (is_no_size 1 1000000 (slice_index_or fs 4 []))) (header_limits command fs)
+header_holds_of command long fs Nodes =
+    fails_at (λ limits. not (is_no_size 7 limits.nodes (slice_index_or fs 2 [])))
+    (header_limits command fs)
+header_holds_of command long fs Workers =
+    fails_at (λ limits. not (is_no_size 1 limits.workers (slice_index_or fs 3 [])))
+    (header_limits command fs)
+header_holds_of command long fs Tries =
+    fails_at (λ limits. not (is_no_size 1 1000000 (slice_index_or fs 4 [])))
+    (header_limits command fs)
 header_holds_of command long fs _ = false
 
 -- the reason holds of the first line

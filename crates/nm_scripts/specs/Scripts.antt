@@ -13,7 +13,8 @@ use Rattle.nm_scripts.specs.declared.header.Header.{Header}
 use Rattle.nm_scripts.specs.Calls.{kind_of, call_of, IsAllowed}
 use Rattle.nm_scripts.specs.Headers.{header_of, SerialAlone}
 
--- a call with its worker: what is wrong with the worker comes before a key that is too great, and its number before an heir that is none
+-- a call with its worker: what is wrong with the worker comes before a key that is too great, and
+-- its number before an heir that is none
 abbrev pub with_worker : Result ℕ Reason → Result Call Reason → Result (ℕ × Call) Reason
 with_worker worker (Ok call) = worker >>= λ w. Ok (w, call)
 with_worker worker (Err reason.Worker) = worker >>= λ w. Err reason.Worker
@@ -24,19 +25,22 @@ with_worker worker (Err r) = Err r
 unfoldable pub entry_of : Header → List (List ℕ) → Result (ℕ × Call) Reason
 entry_of header (worker ∷ kind ∷ arguments) = do
   kind ← kind_of header.may_resign kind
-  with_worker (worker_of header.layout.workers worker) (call_of header.layout.workers kind arguments)
+  with_worker (worker_of header.layout.workers worker)
+      (call_of header.layout.workers kind arguments)
 entry_of header _ = Err reason.Form
 
 -- the worker is one of the header's, and its call one that the file may have
 abbrev pub IsEntryOf : Header → ℕ × Call → Type 0
-IsEntryOf header e = (e.0 < header.layout.workers) × IsAllowed header.layout.workers header.may_resign e.1
+IsEntryOf header e = (e.0 < header.layout.workers)
+    × IsAllowed header.layout.workers header.may_resign e.1
 
 abbrev pub ResignsInSerial : Command → Header → Type 0
 ResignsInSerial command header = SerialAlone command header.may_resign
 
 -- what a line says in a script with that header
 abbrev pub line_of : Header → List ℕ → Result (ℕ × Call) Reason
-line_of header line = if list_all is_field (fields line) then entry_of header (fields line) else Err reason.Form
+line_of header line = if list_all is_field (fields line) then entry_of header (fields line)
+    else Err reason.Form
 
 abbrev pub first_line_of : Command → List ℕ → Result Header Reason
 first_line_of command line = header_of command (fields line)

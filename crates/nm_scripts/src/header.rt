@@ -60,11 +60,13 @@ fn is_serial(command: Command) -> bool
     }
 }
 
-/// The limits of a version of the format: of 1, 65,536 nodes and 32 workers; of 2, as many as a layout can have. In version 2 of `serial` workers may resign.
+/// The limits of a version of the format: of 1, 65,536 nodes and 32 workers; of 2, as many as a
+/// layout can have. In version 2 of `serial` workers may resign.
 fn limits_by(command: Command, version: &[u8]) -> Result<Limits, Reason>
     ensures limits { result ≡ spec.limits_by command version.now }
     ensures stress { IfOk result (λ limits. SerialAlone command limits.may_resign) }
-    ensures few { IfOk result (λ limits. (limits.nodes ≤ MOST_NODES) × (limits.workers ≤ MOST_WORKERS)) }
+    ensures few { IfOk result (λ limits. (limits.nodes ≤ MOST_NODES)
+        × (limits.workers ≤ MOST_WORKERS)) }
 {
     if version == b"1".as_slice() {
         Ok(Limits {
@@ -87,7 +89,8 @@ fn limits_by(command: Command, version: &[u8]) -> Result<Limits, Reason>
 fn limits_of(command: Command, word: &[u8], version: &[u8]) -> Result<Limits, Reason>
     ensures limits { result ≡ spec.limits_of command word.now version.now }
     ensures stress { IfOk result (λ limits. SerialAlone command limits.may_resign) }
-    ensures few { IfOk result (λ limits. (limits.nodes ≤ MOST_NODES) × (limits.workers ≤ MOST_WORKERS)) }
+    ensures few { IfOk result (λ limits. (limits.nodes ≤ MOST_NODES)
+        × (limits.workers ≤ MOST_WORKERS)) }
 {
     if word == command.word() {
         limits_by(command, version)

@@ -15,8 +15,9 @@ use crate::header::{Command, Header, header_of};
 use nm_files::fault::Reason;
 use nm_files::line::{fields_of, is_formed, worker_of};
 
-/// A call with its worker. What is wrong with the worker comes before a key that is too great, and after all else; its number in a wrong spelling
-/// also comes before an heir that is none of the workers.
+/// A call with its worker. What is wrong with the worker comes before a key that is too great, and
+/// after all else; its number in a wrong spelling also comes before an heir that is none of the
+/// workers.
 fn with_worker(
     worker: Result<u32, Reason>,
     call: Result<Call, Reason>,
@@ -73,8 +74,13 @@ pub fn first_line_of(command: Command, line: &[u8]) -> Result<Header, Reason>
     header_of(command, fields_of(line).as_slice())
 }
 
-/// The reason that is answered for a line is the first that holds of it in the order of their numbers, so the least; and a line is right exactly where none holds.
+/// The reason that is answered for a line is the first that holds of it in the order of their
+/// numbers, so the least; and a line is right exactly where none holds.
 pub fn least_reason()
-    ensures first_line { (command : CommandOf) (line : List ℕ) → reason_of (checked 1 line (spec.first_line_of command line)) ≡ find (header_holds command line) header_reasons }
-    ensures other_line { (header : HeaderOf) (number : ℕ) (line : List ℕ) → reason_of (checked number line (spec.line_of header line)) ≡ find (holds header number line) line_reasons }
+    ensures first_line { (command : CommandOf) (line : List ℕ)
+        → reason_of (checked 1 line (spec.first_line_of command line))
+        ≡ find (header_holds command line) header_reasons }
+    ensures other_line { (header : HeaderOf) (number : ℕ) (line : List ℕ)
+        → reason_of (checked number line (spec.line_of header line))
+        ≡ find (holds header number line) line_reasons }
 {}

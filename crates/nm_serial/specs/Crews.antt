@@ -39,18 +39,21 @@ HasDoneAt b tries c (Some w) (Some z) a = HasMade b tries c w z a
 abbrev pub HasLeft : Hand → Hand → Hand → Option Hand → Answer → Type 0
 HasLeft heir leaver z None a = HasResigned heir leaver z × (a ≡ answer.Resigned)
 HasLeft heir leaver z (Some w) a = (z ≡ heir) × (w ≡ leaver)
-    × ((IsSome leaver.held × (a ≡ answer.Refused refused.Held)) ⊎ ((leaver.held ≡ None) × IsSome leaver.pending × (a ≡ answer.Pending)))
+    × ((IsSome leaver.held × (a ≡ answer.Refused refused.Held))
+    ⊎ ((leaver.held ≡ None) × IsSome leaver.pending × (a ≡ answer.Pending)))
 
 -- ---- one line
 
 -- where either has resigned, or they are one, nothing is done
-pub record IsGone (leaver heir : ℕ) (crew : List (Option Hand)) (a : Answer) (after : List (Option Hand)) : Type 0 where
+pub record IsGone (leaver heir : ℕ) (crew : List (Option Hand)) (a : Answer)
+    (after : List (Option Hand)) : Type 0 where
   pub why : (leaver ≡ heir) ⊎ ((worker_at crew leaver ≡ None) ⊎ (worker_at crew heir ≡ None))
   pub same : after ≡ crew
   pub told : a ≡ answer.Refused refused.Gone
 
 -- else the leaver resigns to its heir, or may not, by the contract of resigning
-pub record HasAsked (leaver heir : ℕ) (crew : List (Option Hand)) (a : Answer) (after : List (Option Hand)) : Type 0 where
+pub record HasAsked (leaver heir : ℕ) (crew : List (Option Hand)) (a : Answer)
+    (after : List (Option Hand)) : Type 0 where
   pub two : leaver ≢ heir
   pub taking : Hand
   pub leaving : Hand
@@ -62,12 +65,18 @@ pub record HasAsked (leaver heir : ℕ) (crew : List (Option Hand)) (a : Answer)
   pub places : after ≡ slice_set (slice_set crew heir (Some taken)) leaver still
 
 -- a line of the worker of that number, by its answer
-abbrev pub PlaysLine : Board → ℕ → ℕ → Call → List (Option Hand) → Answer → List (Option Hand) → Type 0
-PlaysLine b tries n (Resign heir) crew a after = IsGone n heir crew a after ⊎ HasAsked n heir crew a after
-PlaysLine b tries n c crew a after = (z : Option Hand) × HasDoneAt b tries c (worker_at crew n) z a × (after ≡ slice_set crew n z)
+abbrev pub PlaysLine : Board → ℕ → ℕ → Call → List (Option Hand) → Answer → List (Option Hand)
+    → Type 0
+PlaysLine b tries n (Resign heir) crew a after =
+    IsGone n heir crew a after ⊎ HasAsked n heir crew a after
+PlaysLine b tries n c crew a after =
+    (z : Option Hand) × HasDoneAt b tries c (worker_at crew n) z a × (after ≡ slice_set crew n z)
 
 -- all lines, one after the other
-abbrev pub PlaysAll : Board → ℕ → List (ℕ × Call) → List Answer → List (Option Hand) → List (Option Hand) → Type 0
+abbrev pub PlaysAll : Board → ℕ → List (ℕ × Call) → List Answer → List (Option Hand)
+    → List (Option Hand) → Type 0
 PlaysAll b tries [] [] crew z = z ≡ crew
-PlaysAll b tries (e ∷ es) (a ∷ more) crew z = (mid : List (Option Hand)) × PlaysLine b tries e.0 e.1 crew a mid × PlaysAll b tries es more mid z
+PlaysAll b tries (e ∷ es) (a ∷ more) crew z =
+    (mid : List (Option Hand)) × PlaysLine b tries e.0 e.1 crew a mid
+    × PlaysAll b tries es more mid z
 PlaysAll b tries _ _ crew z = ⊥

@@ -13,16 +13,20 @@ use Rattle.nm_tree.specs.Workers.{Hand, HasOrigin, IsLedger, waiting_in}
 abbrev pub worker_lines : List Counts → List HeldQueue → List ℕ
 worker_lines [] hs = []
 worker_lines (c ∷ cs) [] = []
-worker_lines (c ∷ cs) (h ∷ hs) = worker_line h.origin c.retired c.freed h.queue.items ++ worker_lines cs hs
+worker_lines (c ∷ cs) (h ∷ hs) =
+    worker_line h.origin c.retired c.freed h.queue.items ++ worker_lines cs hs
 
 -- all last lines
 abbrev pub last_lines : List Counts → List HeldQueue → List ℕ → ℕ → ℕ → List ℕ
-last_lines counts queues keys free reached = worker_lines counts queues ++ (keys_line keys ++ places_line free reached (waiting_in queues))
+last_lines counts queues keys free reached =
+    worker_lines counts queues ++ (keys_line keys ++ places_line free reached (waiting_in queues))
 
--- by the first of these that holds its queue: the ledger of an origin; and nothing is said where none does
+-- by the first of these that holds its queue: the ledger of an origin; and nothing is said where
+-- none does
 abbrev pub IsCounted : ℕ → List Hand → Counts → Type 0
 IsCounted o [] c = Unit {0}
-IsCounted o (w ∷ ws) c = (HasOrigin o w.queues × IsLedger w.pass.view o c) ⊎ (NoneHas o w.queues × IsCounted o ws c)
+IsCounted o (w ∷ ws) c = (HasOrigin o w.queues × IsLedger w.pass.view o c)
+    ⊎ (NoneHas o w.queues × IsCounted o ws c)
 
 -- one of these workers holds the queue of that origin, and that is the ledger of it
 pub record IsTold (ws : List Hand) (o : ℕ) (c : Counts) : Type 0 where
@@ -36,8 +40,9 @@ abbrev pub AreTold : List Hand → ℕ → List Counts → Type 0
 AreTold ws o [] = Unit {0}
 AreTold ws o (c ∷ cs) = IsTold ws o c × AreTold ws (suc o) cs
 
--- The tree of these workers was closed, and the text tells its report: a line of each worker, resigned or not, with its ledger by the worker that
--- holds its queue, and with that queue; the keys; and how many slots are free, reached and queued
+-- The tree of these workers was closed, and the text tells its report: a line of each worker,
+-- resigned or not, with its ledger by the worker that holds its queue, and with that queue; the
+-- keys; and how many slots are free, reached and queued
 pub record IsEnding (b : Board) (ws : List Hand) (text : List ℕ) : Type 0 where
   pub counts : List Counts
   pub queues : List HeldQueue

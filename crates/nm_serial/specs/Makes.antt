@@ -36,7 +36,8 @@ HasChanged did a = (r : Result Bool Fault) × did r × (of_change r ≡ Some a)
 
 -- a call that a held worker may not make
 abbrev pub HasSearched : (Result Bool Fault → Type 0) → Hand → Hand → Answer → Type 0
-HasSearched did w z a = (IsSome w.held × IsRefusedAs (answer.Refused refused.Held) w z a) ⊎ ((w.held ≡ None) × HasChanged did a)
+HasSearched did w z a = (IsSome w.held × IsRefusedAs (answer.Refused refused.Held) w z a)
+    ⊎ ((w.held ≡ None) × HasChanged did a)
 
 -- a pin of the caller
 abbrev pub HasHeld : ℕ → Hand → Hand → Answer → Type 0
@@ -50,14 +51,19 @@ HasUnpinned w z a = ((w.held ≡ None) × IsRefusedAs (answer.Refused refused.Id
 
 -- an advance of the epoch, among so many workers
 abbrev pub HasMoved : ℕ → Hand → Hand → Answer → Type 0
-HasMoved workers w z a = KeepsPlace w z × ((r : Advance) × IsAdvance workers w.pass.view.number (epochs w.pass).pin w.pass.view.log z.pass.view.log r × (a ≡ of_advance r))
+HasMoved workers w z a = KeepsPlace w z
+    × ((r : Advance) × IsAdvance workers w.pass.view.number (epochs w.pass).pin w.pass.view.log
+    z.pass.view.log r × (a ≡ of_advance r))
 
 -- a collection
 abbrev pub HasCollected : Hand → Hand → Answer → Type 0
-HasCollected w z a = KeepsPlace w z × ((c : Collected) × IsCollection c.epoch w.queues w.pass.view.log z.pass.view.log × HaveLost c.epoch w.queues z.queues
+HasCollected w z a = KeepsPlace w z
+    × ((c : Collected) × IsCollection c.epoch w.queues w.pass.view.log z.pass.view.log
+    × HaveLost c.epoch w.queues z.queues
     × (c.freed ≡ length (ripe_of c.epoch w.queues)) × (a ≡ of_collection c))
 
--- a call that is its worker's alone, with so many tries: as the call of the set does, by what it answers
+-- a call that is its worker's alone, with so many tries: as the call of the set does, by what it
+-- answers
 abbrev pub HasMade : Board → ℕ → Call → Hand → Hand → Answer → Type 0
 HasMade b tries (Has k) w z a = HasSearched (HasAnswered b.layout.nodes tries k w z) w z a
 HasMade b tries (Insert k) w z a = HasSearched (HasInserted b.layout.nodes tries k w z) w z a
@@ -79,20 +85,27 @@ HasStopped stops line w z stop.NoMemory = Unit {0}
 -- its calls with the numbers of their lines, from this number on
 abbrev pub own_lines : ℕ → ℕ → List (ℕ × Call) → List (ℕ × Call)
 own_lines n line [] = []
-own_lines n line (e ∷ es) = if e.0 == n then (line, e.1) ∷ own_lines n (line + 1) es else own_lines n (line + 1) es
+own_lines n line (e ∷ es) = if e.0 == n then (line, e.1) ∷ own_lines n (line + 1) es
+    else own_lines n (line + 1) es
 
 -- each of these lines, one after the other, was let and made its call, and was answered so
-abbrev pub PlaysEach : (ℕ → ℕ → Type 0) → Board → ℕ → ℕ → List (ℕ × Call) → List Answer → Hand → Hand → Type 0
+abbrev pub PlaysEach : (ℕ → ℕ → Type 0) → Board → ℕ → ℕ → List (ℕ × Call) → List Answer → Hand
+    → Hand → Type 0
 PlaysEach lets b tries n [] [] w z = z ≡ w
-PlaysEach lets b tries n (l ∷ ls) (a ∷ more) w z = lets n l.0 × ((mid : Hand) × HasMade b tries l.1 w mid a × PlaysEach lets b tries n ls more mid z)
+PlaysEach lets b tries n (l ∷ ls) (a ∷ more) w z =
+    lets n l.0 × ((mid : Hand) × HasMade b tries l.1 w mid a
+    × PlaysEach lets b tries n ls more mid z)
 PlaysEach lets b tries n _ _ w z = ⊥
 
 -- a worker has played its lines, among those of a script from this number on
-abbrev pub PlaysOwn : (ℕ → ℕ → Type 0) → Board → ℕ → ℕ → ℕ → List (ℕ × Call) → List Answer → Hand → Hand → Type 0
-PlaysOwn lets b tries n line es answers w z = PlaysEach lets b tries n (own_lines n line es) answers w z
+abbrev pub PlaysOwn : (ℕ → ℕ → Type 0) → Board → ℕ → ℕ → ℕ → List (ℕ × Call) → List Answer → Hand
+    → Hand → Type 0
+PlaysOwn lets b tries n line es answers w z =
+    PlaysEach lets b tries n (own_lines n line es) answers w z
 
 -- once it had played those of its lines that stand before it, the gate stopped it before this one
-pub record PlaysUpTo (lets stops : ℕ → ℕ → Type 0) (b : Board) (tries n : ℕ) (ls : List (ℕ × Call)) (line : ℕ) (w z : Hand) : Type 0 where
+pub record PlaysUpTo (lets stops : ℕ → ℕ → Type 0) (b : Board) (tries n : ℕ) (ls : List (ℕ × Call))
+    (line : ℕ) (w z : Hand) : Type 0 where
   pub before : List (ℕ × Call)
   pub call : Call
   pub after : List (ℕ × Call)
@@ -102,6 +115,8 @@ pub record PlaysUpTo (lets stops : ℕ → ℕ → Type 0) (b : Board) (tries n 
   pub stopped : stops n line
 
 -- why a worker has not played its lines, among those of a script from this number on
-abbrev pub StopsOwn : (ℕ → ℕ → Type 0) → (ℕ → ℕ → Type 0) → Board → ℕ → ℕ → ℕ → List (ℕ × Call) → Hand → Hand → Stop → Type 0
-StopsOwn lets stops b tries n line es w z (stop.Gate l) = PlaysUpTo lets stops b tries n (own_lines n line es) l w z
+abbrev pub StopsOwn : (ℕ → ℕ → Type 0) → (ℕ → ℕ → Type 0) → Board → ℕ → ℕ → ℕ → List (ℕ × Call)
+    → Hand → Hand → Stop → Type 0
+StopsOwn lets stops b tries n line es w z (stop.Gate l) =
+    PlaysUpTo lets stops b tries n (own_lines n line es) l w z
 StopsOwn lets stops b tries n line es w z stop.NoMemory = Unit {0}

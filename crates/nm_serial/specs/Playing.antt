@@ -5,9 +5,11 @@ use Rattle.nm_files.specs.declared.fault.RunFault.TheVariants as run
 use Rattle.nm_scripts.specs.declared.header.Command.{Command}
 use Rattle.nm_scripts.specs.Scripts.{script_of}
 
--- the fault of a run: a faulty line is told by the file alone, and a gate or a thread stops only a script that is right
+-- the fault of a run: a faulty line is told by the file alone, and a gate or a thread stops only a
+-- script that is right
 abbrev pub FailsSo : Command → List ℕ → RunFault → Type 0
-FailsSo command bytes (run.Line line reason) = script_of command bytes ≡ Err (record { line = line; reason = reason })
+FailsSo command bytes (run.Line line reason) =
+    script_of command bytes ≡ Err (record { line = line; reason = reason })
 FailsSo command bytes run.NoMemory = Unit {0}
 FailsSo command bytes run.Read = ⊥
 FailsSo command bytes run.Write = ⊥

@@ -18,15 +18,17 @@ use Rattle.nm_serial.specs.Stops.{IfStopped}
 use Rattle.nm_serial.specs.Threads.{HaveAllPlayed, all_rows, fault_in}
 use Rattle.nm_serial.specs.declared.threads.Played.{Played}
 
--- a tree of a script's sizes, with its workers, who have done nothing yet, and each of whose claims takes the lowest slot that it can
+-- a tree of a script's sizes, with its workers, who have done nothing yet, and each of whose claims
+-- takes the lowest slot that it can
 pub record IsOpened (s : Script) (tree : Board) (workers : List Hand) : Type 0 where
   pub sizes : tree.layout ≡ s.header.layout
   pub new : AreNew tree 0 workers
   pub all : length workers ≡ s.header.layout.workers
   pub fit : HaveFit Lowest workers
 
--- Of `serial`: the lines are played one after the other on a new tree, each by the contract of its call; each line stands with what it was
--- answered; and then come the last lines, of that tree closed by those that have not resigned
+-- Of `serial`: the lines are played one after the other on a new tree, each by the contract of its
+-- call; each line stands with what it was answered; and then come the last lines, of that tree
+-- closed by those that have not resigned
 pub record IsSerialText (s : Script) (rows : List (List ℕ)) (text : List ℕ) : Type 0 where
   pub tree : Board
   pub workers : List Hand
@@ -38,9 +40,11 @@ pub record IsSerialText (s : Script) (rows : List (List ℕ)) (text : List ℕ) 
   pub ends : IsEnding tree (present crew) ending
   pub text_is : text ≡ lines rows answers ++ ending
 
--- Of `stress`: each worker has played its lines on one new tree, one after the other, and none was stopped; the lines of each worker stand with what
--- they were answered, worker by worker; and then come the last lines, of that tree closed by all workers
-pub record IsStressText (lets stops : ℕ → ℕ → Type 0) (s : Script) (rows : List (List ℕ)) (text : List ℕ) : Type 0 where
+-- Of `stress`: each worker has played its lines on one new tree, one after the other, and none was
+-- stopped; the lines of each worker stand with what they were answered, worker by worker; and then
+-- come the last lines, of that tree closed by all workers
+pub record IsStressText (lets stops : ℕ → ℕ → Type 0) (s : Script) (rows : List (List ℕ))
+    (text : List ℕ) : Type 0 where
   pub tree : Board
   pub workers : List Hand
   pub opened : IsOpened s tree workers
@@ -51,7 +55,8 @@ pub record IsStressText (lets stops : ℕ → ℕ → Type 0) (s : Script) (rows
   pub ends : IsEnding tree (map (λ p. p.worker) ended) ending
   pub text_is : text ≡ all_rows rows s.entries ended ++ ending
 
--- Of `stress`, where the gate stopped workers: this one is the first of them, and it was stopped before this line; none was refused memory
+-- Of `stress`, where the gate stopped workers: this one is the first of them, and it was stopped
+-- before this line; none was refused memory
 pub record IsGateStop (lets stops : ℕ → ℕ → Type 0) (s : Script) (worker line : ℕ) : Type 0 where
   pub tree : Board
   pub workers : List Hand
@@ -61,13 +66,19 @@ pub record IsGateStop (lets stops : ℕ → ℕ → Type 0) (s : Script) (worker
   pub first : fault_in ended ≡ Some (run.Gate worker line)
 
 -- the text is one for the script that the bytes of a file say, with its lines from the second on
-abbrev pub IsWritten : (Script → List (List ℕ) → List ℕ → Type 0) → Command → List ℕ → List ℕ → Type 0
-IsWritten IsText command bytes text = (s : Script) × (script_of command bytes ≡ Ok s) × IsText s (drop 1 (parts bytes)) text
+abbrev pub IsWritten : (Script → List (List ℕ) → List ℕ → Type 0) → Command → List ℕ → List ℕ
+    → Type 0
+IsWritten IsText command bytes text =
+    (s : Script) × (script_of command bytes ≡ Ok s) × IsText s (drop 1 (parts bytes)) text
 
 -- a writer gained such a text
-abbrev pub Writes : (Script → List (List ℕ) → List ℕ → Type 0) → Command → List ℕ → Option (List ℕ) → Option (List ℕ) → Type 0
-Writes IsText command bytes old new = (text : List ℕ) × IsWritten IsText command bytes text × Appends old new text
+abbrev pub Writes : (Script → List (List ℕ) → List ℕ → Type 0) → Command → List ℕ → Option (List ℕ)
+    → Option (List ℕ) → Type 0
+Writes IsText command bytes old new =
+    (text : List ℕ) × IsWritten IsText command bytes text × Appends old new text
 
 -- of a gate's stop: the script that the bytes of a file say was stopped so
 abbrev pub IfGate : (Script → ℕ → ℕ → Type 0) → Command → List ℕ → RunFault → Type 0
-IfGate IsStopped command bytes e = IfStopped (λ worker line. (s : Script) × (script_of command bytes ≡ Ok s) × IsStopped s worker line) e
+IfGate IsStopped command bytes e =
+    IfStopped (λ worker line. (s : Script) × (script_of command bytes ≡ Ok s)
+    × IsStopped s worker line) e

@@ -13,8 +13,10 @@ use Rattle.nm_serial.specs.declared.own_lines.Stop.TheVariants as stop
 use Rattle.nm_serial.specs.declared.threads.Played.{Played}
 use Rattle.nm_serial.specs.Makes.{PlaysOwn, StopsOwn}
 
--- a worker has played its lines of a script, one after the other; or its gate stopped it before one of them, or it was refused memory
-pub record HasPlayed (lets stops : ℕ → ℕ → Type 0) (b : Board) (tries : ℕ) (es : List (ℕ × Call)) (w z : Hand) (answers : Result (Vec Answer Global) Stop) : Type 0 where
+-- a worker has played its lines of a script, one after the other; or its gate stopped it before one
+-- of them, or it was refused memory
+pub record HasPlayed (lets stops : ℕ → ℕ → Type 0) (b : Board) (tries : ℕ) (es : List (ℕ × Call))
+    (w z : Hand) (answers : Result (Vec Answer Global) Stop) : Type 0 where
   pub own : IsOf b z.pass
   pub number : z.pass.view.number ≡ w.pass.view.number
   pub queues : length z.queues ≡ length w.queues
@@ -22,11 +24,15 @@ pub record HasPlayed (lets stops : ℕ → ℕ → Type 0) (b : Board) (tries : 
   pub stopped : IfErr answers (StopsOwn lets stops b tries w.pass.view.number 2 es w z)
 
 -- each of the workers has, in their order
-pub record HaveAllPlayed (lets stops : ℕ → ℕ → Type 0) (b : Board) (tries : ℕ) (es : List (ℕ × Call)) (ws : List Hand) (ps : List Played) : Type 0 where
+pub record HaveAllPlayed (lets stops : ℕ → ℕ → Type 0) (b : Board) (tries : ℕ)
+    (es : List (ℕ × Call)) (ws : List Hand) (ps : List Played) : Type 0 where
   pub all : length ps ≡ length ws
-  pub each : (k : ℕ) (w : Hand) (p : Played) → k < length ws → HasPlayed lets stops b tries es (slice_index_or ws k w) (slice_index_or ps k p).worker (slice_index_or ps k p).answers
+  pub each : (k : ℕ) (w : Hand) (p : Played) → k < length ws
+      → HasPlayed lets stops b tries es (slice_index_or ws k w) (slice_index_or ps k p).worker
+      (slice_index_or ps k p).answers
 
--- why a worker stopped, with what the later ones did: want of memory of any of them, and else the gate's stop of the first
+-- why a worker stopped, with what the later ones did: want of memory of any of them, and else the
+-- gate's stop of the first
 abbrev pub fault_before : ℕ → Result (Vec Answer Global) Stop → Option RunFault → Option RunFault
 fault_before n (Ok v) later = later
 fault_before n (Err stop.NoMemory) later = Some run.NoMemory
@@ -53,4 +59,5 @@ answers_of (Err s) = []
 -- the lines of each worker with what they were answered, worker by worker
 abbrev pub all_rows : List (List ℕ) → List (ℕ × Call) → List Played → List ℕ
 all_rows rows es [] = []
-all_rows rows es (p ∷ ps) = lines (own_rows p.worker.pass.view.number rows es) (answers_of p.answers) ++ all_rows rows es ps
+all_rows rows es (p ∷ ps) = lines (own_rows p.worker.pass.view.number rows es)
+    (answers_of p.answers) ++ all_rows rows es ps

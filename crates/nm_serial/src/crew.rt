@@ -35,7 +35,8 @@ pub(crate) fn leave(tree: &Tree, heir: Worker, leaver: Worker) -> (Worker, Optio
     requires leaver { IsOf tree.now leaver.pass }
     ensures heir { IsOf tree.now result.0.pass }
     ensures leaver { IfSome result.1 (λ w. IsOf tree.now w.pass) }
-    ensures whole { stands_for (Some result.0) + stands_for result.1 ≡ stands_for (Some heir) + stands_for (Some leaver) }
+    ensures whole { stands_for (Some result.0) + stands_for result.1
+        ≡ stands_for (Some heir) + stands_for (Some leaver) }
     ensures did { HasLeft heir leaver result.0 result.1 result.2 }
 {
     match tree.resign(heir, leaver) {

@@ -1,8 +1,8 @@
 //! What lets a worker go on.
 ghost use Rattle.std.specs.Prelude.{◌≡◌, ℕ, false, true};
 
-/// Is asked by each worker before each of its lines: a line is played only where the gate lets the worker go on with it. How often it is asked for a line is
-/// not promised.
+/// Is asked by each worker before each of its lines: a line is played only where the gate lets the
+/// worker go on with it. How often it is asked for a line is not promised.
 pub trait Gate: Sync {
     /// What a gate knows of a worker that it lets go on with the line of that number.
     ghost lets: { Self → ℕ → ℕ → Type 0 };

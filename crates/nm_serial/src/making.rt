@@ -15,7 +15,9 @@ fn has(tree: &Tree, worker: &mut Worker, key: Key, tries: u32) -> Option<Answer>
     ensures own { IsOf tree.now worker.new.pass }
     ensures number { worker.new.pass.view.number ≡ worker.old.pass.view.number }
     ensures queues { length worker.new.queues ≡ length worker.old.queues }
-    ensures did { IfSome result (HasSearched (HasAnswered tree.now.layout.nodes tries key worker.old worker.new) worker.old worker.new) }
+    ensures did { IfSome result
+        (HasSearched (HasAnswered tree.now.layout.nodes tries key worker.old worker.new) worker.old
+        worker.new) }
 {
     if worker.held().is_some() {
         return Some(Answer::Refused(Refusal::Held));
@@ -30,7 +32,9 @@ fn insert(tree: &Tree, worker: &mut Worker, key: Key, tries: u32) -> Option<Answ
     ensures own { IsOf tree.now worker.new.pass }
     ensures number { worker.new.pass.view.number ≡ worker.old.pass.view.number }
     ensures queues { length worker.new.queues ≡ length worker.old.queues }
-    ensures did { IfSome result (HasSearched (HasInserted tree.now.layout.nodes tries key worker.old worker.new) worker.old worker.new) }
+    ensures did { IfSome result
+        (HasSearched (HasInserted tree.now.layout.nodes tries key worker.old worker.new) worker.old
+        worker.new) }
 {
     if worker.held().is_some() {
         return Some(Answer::Refused(Refusal::Held));
@@ -45,7 +49,9 @@ fn delete(tree: &Tree, worker: &mut Worker, key: Key, tries: u32) -> Option<Answ
     ensures own { IsOf tree.now worker.new.pass }
     ensures number { worker.new.pass.view.number ≡ worker.old.pass.view.number }
     ensures queues { length worker.new.queues ≡ length worker.old.queues }
-    ensures did { IfSome result (HasSearched (HasDeleted tree.now.layout.nodes tries key worker.old worker.new) worker.old worker.new) }
+    ensures did { IfSome result
+        (HasSearched (HasDeleted tree.now.layout.nodes tries key worker.old worker.new) worker.old
+        worker.new) }
 {
     if worker.held().is_some() {
         return Some(Answer::Refused(Refusal::Held));
@@ -82,7 +88,8 @@ fn unpin(tree: &Tree, worker: &mut Worker) -> Answer
     Answer::Left
 }
 
-/// A call that is its worker's alone, unless the worker may not make it; `None` where memory was refused.
+/// A call that is its worker's alone, unless the worker may not make it; `None` where memory was
+/// refused.
 #[tactic(auto, using(crate::proofs::CrewLemmas::keeps_many, crate::proofs::CrewLemmas::lost_many))]
 pub(crate) fn make(tree: &Tree, worker: &mut Worker, call: Call, tries: u32) -> Option<Answer>
     requires own { IsOf tree.now worker.old.pass }

@@ -33,7 +33,8 @@ use std::thread::Threads;
 /// Why a worker stopped, with what the later ones did.
 fn fault_before(part: &Played, later: Option<RunFault>) -> Option<RunFault>
     requires { IfSome later IsStop }
-    ensures fault { result ≡ spec.fault_before part.now.worker.pass.view.number part.now.answers later }
+    ensures fault { result ≡ spec.fault_before part.now.worker.pass.view.number part.now.answers
+        later }
     ensures stop { IfSome result IsStop }
 {
     match part.answers {
@@ -49,7 +50,8 @@ fn fault_before(part: &Played, later: Option<RunFault>) -> Option<RunFault>
     }
 }
 
-/// Why they have not all played their lines: want of memory first, and else the gate's stop of the first one.
+/// Why they have not all played their lines: want of memory first, and else the gate's stop of the
+/// first one.
 fn fault_of(played: &[Played]) -> Option<RunFault>
     ensures fault { result ≡ fault_in played.now }
     ensures stop { IfSome result IsStop }
@@ -67,7 +69,8 @@ fn put_own_lines(
     worker: u32,
     answers: &[Answer],
 ) -> Result<(), AllocError>
-    ensures { OnOk result (out.new.items ≡ out.old.items ++ lines (own_rows worker (parts body.now) calls.now) answers.now) }
+    ensures { OnOk result (out.new.items
+        ≡ out.old.items ++ lines (own_rows worker (parts body.now) calls.now) answers.now) }
 {
     let mut rest = Some(body);
     let mut left = answers;
@@ -105,7 +108,8 @@ fn put_all_lines(
     calls: &[(u32, Call)],
     played: &[Played],
 ) -> Result<(), AllocError>
-    ensures { OnOk result (out.new.items ≡ out.old.items ++ all_rows (parts body.now) calls.now played.now) }
+    ensures { OnOk result (out.new.items
+        ≡ out.old.items ++ all_rows (parts body.now) calls.now played.now) }
 {
     for part in played {
         put_own_lines(out, body, calls, part.worker.number(), answers_of(part))?;
@@ -134,8 +138,13 @@ fn text_of<R: Threads + Wait + Sync, G: Gate>(
 ) -> Result<Vec<u8>, RunFault>
     requires plain { All (λ e. IsOwn e.1) script.now.calls.items }
     requires few { length script.now.calls.items ≤ 100000 }
-    ensures text { IfOk result (λ v. IsStressText (G.lets gate.now) (G.stops gate.now) (record { header = script.now.header; entries = script.now.calls.items }) (parts script.now.body.now) v.items) }
-    ensures gate { IfErr result (IfStopped (IsGateStop (G.lets gate.now) (G.stops gate.now) (record { header = script.now.header; entries = script.now.calls.items }))) }
+    ensures text { IfOk result
+        (λ v. IsStressText (G.lets gate.now) (G.stops gate.now)
+        (record { header = script.now.header; entries = script.now.calls.items })
+        (parts script.now.body.now) v.items) }
+    ensures gate { IfErr result
+        (IfStopped (IsGateStop (G.lets gate.now) (G.stops gate.now)
+        (record { header = script.now.header; entries = script.now.calls.items }))) }
     ensures stop { IfErr result IsStop }
 {
     let (tree, workers) = open(alloc, &script.header)?;
@@ -164,18 +173,24 @@ fn output<R: Threads + Wait + Sync, G: Gate>(
     gate: &G,
 ) -> Result<Vec<u8>, RunFault>
     ensures ends { EndsSo Stress bytes.now result }
-    ensures text { IfOk result (λ v. IsWritten (IsStressText (G.lets gate.now) (G.stops gate.now)) Stress bytes.now v.items) }
-    ensures gate { IfErr result (IfGate (IsGateStop (G.lets gate.now) (G.stops gate.now)) Stress bytes.now) }
+    ensures text { IfOk result
+        (λ v. IsWritten (IsStressText (G.lets gate.now) (G.stops gate.now)) Stress bytes.now
+        v.items) }
+    ensures gate { IfErr result
+        (IfGate (IsGateStop (G.lets gate.now) (G.stops gate.now)) Stress bytes.now) }
 {
     let script = script_of(alloc, Command::Stress, bytes)?;
     text_of(rt, alloc, &script, gate)
 }
 
-/// Makes the calls of the script that the reader gives on a tree, those of each worker in their order in a thread of its own, and writes the lines
-/// of each worker with what the calls were answered, and then what is left of the closed tree.
+/// Makes the calls of the script that the reader gives on a tree, those of each worker in their
+/// order in a thread of its own, and writes the lines of each worker with what the calls were
+/// answered, and then what is left of the closed tree.
 ///
-/// Everything is read before a line is checked, and nothing is written before all threads have ended and the tree is closed. The gate is asked
-/// before each line. The threads start together, once the last of them is made. `Thread` comes before `NoMemory` of a call, and that before `Gate`, which names the least worker that was stopped.
+/// Everything is read before a line is checked, and nothing is written before all threads have
+/// ended and the tree is closed. The gate is asked before each line. The threads start together,
+/// once the last of them is made. `Thread` comes before `NoMemory` of a call, and that before
+/// `Gate`, which names the least worker that was stopped.
 pub fn stress<R: Threads + Wait + Sync, I: Read, W: Write, G: Gate>(
     rt: &R,
     alloc: Global,
@@ -183,18 +198,32 @@ pub fn stress<R: Threads + Wait + Sync, I: Read, W: Write, G: Gate>(
     writer: &mut W,
     gate: &G,
 ) -> Result<(), RunFault>
-    // The lines of each worker, played one after the other on a new tree that all share, are written with what they were answered, and then what the closed tree tells, and nothing else.
-    ensures ok { OnOk result (IfSome (I.remaining reader.old) (λ input. Writes (IsStressText (G.lets gate.now) (G.stops gate.now)) Stress input (W.contents writer.old) (W.contents writer.new))) }
-    // The gate is told where it stopped workers, and none was refused memory: of the least of them, with the line before which it was stopped.
-    ensures gate { IfErr result (λ e. IfSome (I.remaining reader.old) (λ input. IfGate (IsGateStop (G.lets gate.now) (G.stops gate.now)) Stress input e)) }
+    // The lines of each worker, played one after the other on a new tree that all share, are
+    // written with what they were answered, and then what the closed tree tells, and nothing else.
+    ensures ok { OnOk result (IfSome (I.remaining reader.old)
+        (λ input. Writes (IsStressText (G.lets gate.now) (G.stops gate.now)) Stress input
+        (W.contents writer.old) (W.contents writer.new))) }
+    // The gate is told where it stopped workers, and none was refused memory: of the least of them,
+    // with the line before which it was stopped.
+    ensures gate { IfErr result
+        (λ e. IfSome (I.remaining reader.old)
+        (λ input. IfGate (IsGateStop (G.lets gate.now) (G.stops gate.now)) Stress input e)) }
     // It ends well only where no line is faulty.
-    ensures right { OnOk result (IfSome (I.remaining reader.old) (λ input. IsOk (script_of Stress input))) }
+    ensures right { OnOk result
+        (IfSome (I.remaining reader.old) (λ input. IsOk (script_of Stress input))) }
     // The first faulty line is answered, with the least reason.
-    ensures line { IfErr result (λ e. IfSome (I.remaining reader.old) (λ input. IfLine e (λ line reason. script_of Stress input ≡ Err (record { line = line; reason = reason })))) }
+    ensures line { IfErr result
+        (λ e. IfSome (I.remaining reader.old)
+        (λ input. IfLine e (λ line reason. script_of Stress input
+        ≡ Err (record { line = line; reason = reason })))) }
     // A writer is first asked where no line is faulty.
-    ensures write { IfErr result (λ e. e ≡ RunFault.Write → IfSome (I.remaining reader.old) (λ input. IsOk (script_of Stress input))) }
+    ensures write { IfErr result
+        (λ e. e ≡ RunFault.Write
+        → IfSome (I.remaining reader.old) (λ input. IsOk (script_of Stress input))) }
     // However it was judged, the input was read to its end, or to the limit.
-    ensures read { HasJudged result → IfSome (I.remaining reader.old) (λ input. I.remaining reader.new ≡ Some (drop LIMIT input)) }
+    ensures read { HasJudged result
+        → IfSome (I.remaining reader.old)
+        (λ input. I.remaining reader.new ≡ Some (drop LIMIT input)) }
     // Nothing is written unless all was right.
     ensures unwritten { IfErr result (λ e. e ≢ RunFault.Write → writer.new ≡ writer.old) }
 {

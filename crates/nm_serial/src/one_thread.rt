@@ -61,7 +61,8 @@ fn left_of(alloc: Global, crew: Vec<Option<Worker>>) -> Result<Vec<Worker>, Allo
     Ok(workers)
 }
 
-/// The worker at a place resigns to the one at another. Where either has resigned, or they are one, nothing is done.
+/// The worker at a place resigns to the one at another. Where either has resigned, or they are one,
+/// nothing is done.
 fn resign(tree: &Tree, crew: &mut Vec<Option<Worker>>, leaver: usize, heir: usize) -> Answer
     requires own { AreOf tree.now crew.old.items }
     requires leaver { leaver < length crew.old.items }
@@ -69,7 +70,8 @@ fn resign(tree: &Tree, crew: &mut Vec<Option<Worker>>, leaver: usize, heir: usiz
     ensures own { AreOf tree.now crew.new.items }
     ensures count { length crew.new.items ≡ length crew.old.items }
     ensures whole { sum_by stands_for crew.new.items ≡ sum_by stands_for crew.old.items }
-    ensures did { IsGone leaver heir crew.old.items result crew.new.items ⊎ HasAsked leaver heir crew.old.items result crew.new.items }
+    ensures did { IsGone leaver heir crew.old.items result crew.new.items
+        ⊎ HasAsked leaver heir crew.old.items result crew.new.items }
 {
     if leaver == heir || crew[leaver].is_none() || crew[heir].is_none() {
         return Answer::Refused(Refusal::Gone);
@@ -100,7 +102,8 @@ fn play_line(
     ensures own { AreOf tree.now crew.new.items }
     ensures count { length crew.new.items ≡ length crew.old.items }
     ensures whole { sum_by stands_for crew.new.items ≡ sum_by stands_for crew.old.items }
-    ensures did { IfSome result (λ a. PlaysLine tree.now header.now.tries worker call.now crew.old.items a crew.new.items) }
+    ensures did { IfSome result
+        (λ a. PlaysLine tree.now header.now.tries worker call.now crew.old.items a crew.new.items) }
 {
     match call {
         Call::Resign(heir) => Some(resign(tree, crew, worker as usize, *heir as usize)),
@@ -121,7 +124,8 @@ fn play(
     requires allowed { All (IsEntryOf header.now) calls.now }
     ensures own { AreOf tree.now crew.new.items }
     ensures whole { sum_by stands_for crew.new.items ≡ sum_by stands_for crew.old.items }
-    ensures did { IfOk result (λ v. PlaysAll tree.now header.now.tries calls.now v.items crew.old.items crew.new.items) }
+    ensures did { IfOk result (λ v. PlaysAll tree.now header.now.tries calls.now v.items
+        crew.old.items crew.new.items) }
     ensures err { IfErr result (λ e. e ≡ RunFault.NoMemory) }
 {
     let mut answers = Vec::new(alloc);
@@ -137,7 +141,9 @@ fn play(
 /// What is written for a script.
 fn text_of(alloc: Global, script: &Script<'_>) -> Result<Vec<u8>, RunFault>
     requires { All (IsEntryOf script.now.header) script.now.calls.items }
-    ensures text { IfOk result (λ v. IsSerialText (record { header = script.now.header; entries = script.now.calls.items }) (parts script.now.body.now) v.items) }
+    ensures text { IfOk result
+        (λ v. IsSerialText (record { header = script.now.header; entries = script.now.calls.items })
+        (parts script.now.body.now) v.items) }
     ensures err { IfErr result (λ e. e ≡ RunFault.NoMemory) }
 {
     let (tree, workers) = open(alloc, &script.header)?;
@@ -178,25 +184,39 @@ fn output(alloc: Global, bytes: &[u8]) -> Result<Vec<u8>, RunFault>
     text_of(alloc, &script)
 }
 
-/// Makes the calls of the script that the reader gives on a tree, in one thread and in their order, and writes each of its lines with what the
-/// call was answered, and then what is left of the closed tree.
+/// Makes the calls of the script that the reader gives on a tree, in one thread and in their order,
+/// and writes each of its lines with what the call was answered, and then what is left of the
+/// closed tree.
 ///
-/// Everything is read before a line is checked, and nothing is written before all calls are made and the tree is closed.
+/// Everything is read before a line is checked, and nothing is written before all calls are made
+/// and the tree is closed.
 pub fn serial<R: Read, W: Write>(
     alloc: Global,
     reader: &mut R,
     writer: &mut W,
 ) -> Result<(), RunFault>
-    // What the script's lines, played one after the other on a new tree, were answered is written, and what the closed tree tells, and nothing else.
-    ensures ok { OnOk result (IfSome (R.remaining reader.old) (λ input. Writes IsSerialText Command.Serial input (W.contents writer.old) (W.contents writer.new))) }
+    // What the script's lines, played one after the other on a new tree, were answered is written,
+    // and what the closed tree tells, and nothing else.
+    ensures ok { OnOk result (IfSome (R.remaining reader.old)
+        (λ input. Writes IsSerialText Command.Serial input (W.contents writer.old)
+        (W.contents writer.new))) }
     // A script is played only where it is right.
-    ensures right { OnOk result (IfSome (R.remaining reader.old) (λ input. IsOk (scripts.script_of Command.Serial input))) }
+    ensures right { OnOk result
+        (IfSome (R.remaining reader.old) (λ input. IsOk (scripts.script_of Command.Serial input))) }
     // The first faulty line is answered, with the least reason.
-    ensures line { IfErr result (λ e. IfSome (R.remaining reader.old) (λ input. IfLine e (λ line reason. scripts.script_of Command.Serial input ≡ Err (record { line = line; reason = reason })))) }
+    ensures line { IfErr result
+        (λ e. IfSome (R.remaining reader.old)
+        (λ input. IfLine e (λ line reason. scripts.script_of Command.Serial input
+        ≡ Err (record { line = line; reason = reason })))) }
     // A writer is first asked where no line is faulty.
-    ensures write { IfErr result (λ e. e ≡ RunFault.Write → IfSome (R.remaining reader.old) (λ input. IsOk (scripts.script_of Command.Serial input))) }
+    ensures write { IfErr result
+        (λ e. e ≡ RunFault.Write
+        → IfSome (R.remaining reader.old)
+        (λ input. IsOk (scripts.script_of Command.Serial input))) }
     // However it was judged, the input was read to its end, or to the limit.
-    ensures read { HasJudged result → IfSome (R.remaining reader.old) (λ input. R.remaining reader.new ≡ Some (drop LIMIT input)) }
+    ensures read { HasJudged result
+        → IfSome (R.remaining reader.old)
+        (λ input. R.remaining reader.new ≡ Some (drop LIMIT input)) }
     // Neither a gate nor a thread ends it.
     ensures alone { IfErr result IsOfOneThread }
     // Nothing is written unless all was right.

@@ -15,7 +15,8 @@ use nm_scripts::header::Header;
 use nm_tree::{CloseError, CloseReason, Counts, Fit, Report, Tree, Worker};
 use std::alloc::{AllocError, Global};
 
-/// The tree of a header with its workers, which claim the lowest slot that they can, so that a script tells which slots it uses.
+/// The tree of a header with its workers, which claim the lowest slot that they can, so that a
+/// script tells which slots it uses.
 pub(crate) fn open(alloc: Global, header: &Header) -> Result<(Tree, Vec<Worker>), RunFault>
     ensures layout { IfOk result (λ r. r.0.layout ≡ header.now.layout) }
     ensures new { IfOk result (λ r. AreNew r.0 0 r.1.items) }
@@ -29,7 +30,8 @@ pub(crate) fn open(alloc: Global, header: &Header) -> Result<(Tree, Vec<Worker>)
     }
 }
 
-/// What is counted of an origin, by the worker that holds its queue; nothing where none of these does.
+/// What is counted of an origin, by the worker that holds its queue; nothing where none of these
+/// does.
 fn counts_of(workers: &[Worker], origin: u32) -> Counts
     ensures { IsCounted origin workers.now result }
 {
@@ -52,7 +54,9 @@ fn counts_of(workers: &[Worker], origin: u32) -> Counts
 /// The same of each origin in the order of their numbers.
 fn all_counts(alloc: Global, workers: &[Worker], origins: u32) -> Result<Vec<Counts>, AllocError>
     ensures all { IfOk result (λ v. length v.items ≡ origins) }
-    ensures each { IfOk result (λ v. (o : ℕ) (c : _) → o < origins → IsCounted o workers.now (slice_index_or v.items o c)) }
+    ensures each { IfOk result
+        (λ v. (o : ℕ) (c : _) → o < origins
+        → IsCounted o workers.now (slice_index_or v.items o c)) }
 {
     let mut all = Vec::new(alloc);
     for origin in 0..origins {
@@ -73,7 +77,8 @@ fn queued_in(queues: &[HeldQueue]) -> u64
     queued
 }
 
-/// Appends a line of each queue's worker, by what is counted of it, and takes all out of the queues.
+/// Appends a line of each queue's worker, by what is counted of it, and takes all out of the
+/// queues.
 fn put_workers(
     out: &mut Vec<u8>,
     counts: &[Counts],
@@ -98,7 +103,9 @@ fn put_workers(
 /// Appends the last lines: a line of each worker, the keys, and how many slots stand where.
 fn put_report(out: &mut Vec<u8>, counts: &[Counts], report: &mut Report) -> Result<(), AllocError>
     requires few { waiting_in report.old.queues.items < 2 ^ 64 }
-    ensures { OnOk result (out.new.items ≡ out.old.items ++ last_lines counts.now report.old.queues.items report.old.keys.items report.old.free report.old.reached) }
+    ensures { OnOk result (out.new.items
+        ≡ out.old.items ++ last_lines counts.now report.old.queues.items report.old.keys.items
+        report.old.free report.old.reached) }
 {
     let queued = queued_in(report.queues.as_slice());
     put_workers(out, counts, report.queues.as_mut_slice())?;
@@ -117,7 +124,8 @@ pub(crate) fn put_end(
     requires own { All (λ w. IsOf tree w.pass) workers.items }
     requires whole { given_in workers.items ≡ tree.layout.workers }
     requires origins { origins ≡ tree.layout.workers }
-    ensures text { OnOk result ((text : _) × IsEnding tree workers.items text × (out.new.items ≡ out.old.items ++ text)) }
+    ensures text { OnOk result
+        ((text : _) × IsEnding tree workers.items text × (out.new.items ≡ out.old.items ++ text)) }
     ensures err { IfErr result (λ e. e ≡ RunFault.NoMemory) }
 {
     let Ok(counts) = all_counts(alloc, workers.as_slice(), origins) else {

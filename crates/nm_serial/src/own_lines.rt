@@ -33,8 +33,11 @@ fn play_line<G: Gate>(
     ensures own { IsOf tree.now worker.new.pass }
     ensures number { worker.new.pass.view.number ≡ worker.old.pass.view.number }
     ensures queues { length worker.new.queues ≡ length worker.old.queues }
-    ensures did { IfOk result (λ a. G.lets gate.now worker.old.pass.view.number line × HasMade tree.now tries call.now worker.old worker.new a) }
-    ensures stopped { IfErr result (HasStopped (G.stops gate.now worker.old.pass.view.number line) line worker.old worker.new) }
+    ensures did { IfOk result (λ a. G.lets gate.now worker.old.pass.view.number line
+        × HasMade tree.now tries call.now worker.old worker.new a) }
+    ensures stopped { IfErr result
+        (HasStopped (G.stops gate.now worker.old.pass.view.number line) line worker.old
+        worker.new) }
 {
     if !gate.turn(worker.number(), line) {
         return Err(Stop::Gate { line });
@@ -60,8 +63,11 @@ pub(crate) fn play_own<G: Gate>(
     ensures own { IsOf tree.now worker.new.pass }
     ensures number { worker.new.pass.view.number ≡ worker.old.pass.view.number }
     ensures queues { length worker.new.queues ≡ length worker.old.queues }
-    ensures did { IfOk result (λ v. PlaysOwn (G.lets gate.now) tree.now tries worker.old.pass.view.number 2 calls.now v.items worker.old worker.new) }
-    ensures stopped { IfErr result (StopsOwn (G.lets gate.now) (G.stops gate.now) tree.now tries worker.old.pass.view.number 2 calls.now worker.old worker.new) }
+    ensures did { IfOk result (λ v. PlaysOwn (G.lets gate.now) tree.now tries
+        worker.old.pass.view.number 2 calls.now v.items worker.old worker.new) }
+    ensures stopped { IfErr result
+        (StopsOwn (G.lets gate.now) (G.stops gate.now) tree.now tries worker.old.pass.view.number 2
+        calls.now worker.old worker.new) }
 {
     let number = worker.number();
     let mut answers = Vec::new(alloc);

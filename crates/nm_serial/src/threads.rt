@@ -37,7 +37,8 @@ struct PlaysAll<'a, G: Gate> {
 impl<'a, G: Gate> Promise<Played> for PlaysAll<'a, G> {
     ghost use Rattle.nm_serial.specs.Threads.{HasPlayed};
 
-    ghost kept_by = { λ p r. HasPlayed (G.lets p.gate.now) (G.stops p.gate.now) p.tree.now p.tries p.calls.now p.was.value r.worker r.answers };
+    ghost kept_by = { λ p r. HasPlayed (G.lets p.gate.now) (G.stops p.gate.now) p.tree.now p.tries
+        p.calls.now p.was.value r.worker r.answers };
 }
 
 /// All lines of a worker, which is handed back.
@@ -52,7 +53,8 @@ fn play_all<G: Gate>(
     requires own { IsOf tree.now worker.pass }
     requires plain { All (λ e. IsOwn e.1) calls.now }
     requires few { length calls.now ≤ 100000 }
-    ensures { HasPlayed (G.lets gate.now) (G.stops gate.now) tree.now tries calls.now worker result.worker result.answers }
+    ensures { HasPlayed (G.lets gate.now) (G.stops gate.now) tree.now tries calls.now worker
+        result.worker result.answers }
 {
     let answers = play_own(alloc, gate, tree, &mut worker, tries, calls);
     Played { worker, answers }
@@ -78,7 +80,10 @@ fn start_one<'s, R: Wait + Sync, E, G: Gate>(
     requires own { IsOf tree.now worker.pass }
     requires plain { All (λ e. IsOwn e.1) calls.now }
     requires few { length calls.now ≤ 100000 }
-    ensures started { IfOk result (λ h. (h.promise.gate.now ≡ gate.now) × (h.promise.tree.now ≡ tree.now) × (h.promise.tries ≡ tries) × (h.promise.calls.now ≡ calls.now) × (h.promise.was.value ≡ worker)) }
+    ensures started { IfOk result
+        (λ h. (h.promise.gate.now ≡ gate.now) × (h.promise.tree.now ≡ tree.now)
+        × (h.promise.tries ≡ tries) × (h.promise.calls.now ≡ calls.now)
+        × (h.promise.was.value ≡ worker)) }
     ensures refused { IfErr result IsRefusal }
 {
     let promise = PlaysAll {
@@ -91,8 +96,10 @@ fn start_one<'s, R: Wait + Sync, E, G: Gate>(
     let started = scope.spawn_with(
         promise,
         move || -> Played
-            requires { IsOf tree.now worker.pass × All (λ e. IsOwn e.1) calls.now × (length calls.now ≤ 100000) }
-            ensures { HasPlayed (G.lets gate.entry.now) (G.stops gate.entry.now) tree.entry.now tries calls.entry.now worker result.worker result.answers }
+            requires { IsOf tree.now worker.pass × All (λ e. IsOwn e.1) calls.now
+                × (length calls.now ≤ 100000) }
+            ensures { HasPlayed (G.lets gate.entry.now) (G.stops gate.entry.now) tree.entry.now
+                tries calls.entry.now worker result.worker result.answers }
         {
             wait_for(rt, start);
             play_all(alloc, gate, tree, tries, calls, worker)
@@ -104,8 +111,9 @@ fn start_one<'s, R: Wait + Sync, E, G: Gate>(
     }
 }
 
-/// Makes a thread for each worker, which all start together once the last is made, and waits for all of them, in the scope that they run in. Where one
-/// cannot be made, the others start as this returns.
+/// Makes a thread for each worker, which all start together once the last is made, and waits for
+/// all of them, in the scope that they run in. Where one cannot be made, the others start as this
+/// returns.
 fn play_each<'s, R: Threads + Wait + Sync, E, G: Gate>(
     rt: &'s R,
     scope: &Scope<'s, E>,
@@ -120,7 +128,9 @@ fn play_each<'s, R: Threads + Wait + Sync, E, G: Gate>(
     requires own { All (λ w. IsOf tree.now w.pass) workers.items }
     requires plain { All (λ e. IsOwn e.1) calls.now }
     requires few { length calls.now ≤ 100000 }
-    ensures played { IfOk result (λ v. HaveAllPlayed (G.lets gate.now) (G.stops gate.now) tree.now tries calls.now workers.items v.items) }
+    ensures played { IfOk result
+        (λ v. HaveAllPlayed (G.lets gate.now) (G.stops gate.now) tree.now tries calls.now
+        workers.items v.items) }
     ensures refused { IfErr result IsRefusal }
 {
     let held_back = start.write(rt);
@@ -136,7 +146,8 @@ fn play_each<'s, R: Threads + Wait + Sync, E, G: Gate>(
     }
 }
 
-/// Plays each worker's lines in a thread of its own. All threads have ended when it returns, also where one was refused.
+/// Plays each worker's lines in a thread of its own. All threads have ended when it returns, also
+/// where one was refused.
 pub(crate) fn play_apart<R: Threads + Wait + Sync, G: Gate>(
     rt: &R,
     alloc: Global,
@@ -149,7 +160,9 @@ pub(crate) fn play_apart<R: Threads + Wait + Sync, G: Gate>(
     requires own { All (λ w. IsOf tree.now w.pass) workers.items }
     requires plain { All (λ e. IsOwn e.1) calls.now }
     requires few { length calls.now ≤ 100000 }
-    ensures played { IfOk result (λ v. HaveAllPlayed (G.lets gate.now) (G.stops gate.now) tree.now tries calls.now workers.items v.items) }
+    ensures played { IfOk result
+        (λ v. HaveAllPlayed (G.lets gate.now) (G.stops gate.now) tree.now tries calls.now
+        workers.items v.items) }
     ensures refused { IfErr result IsRefusal }
 {
     let start = RwLock::new(());
@@ -158,8 +171,11 @@ pub(crate) fn play_apart<R: Threads + Wait + Sync, G: Gate>(
         thread::scope_env(),
         rt,
         |scope| -> Result<Vec<Played>, RunFault>
-            requires { All (λ w. IsOf tree.now w.pass) workers.items × All (λ e. IsOwn e.1) calls.now × (length calls.now ≤ 100000) }
-            ensures { IfOk result (λ v. HaveAllPlayed (G.lets gate.entry.now) (G.stops gate.entry.now) tree.entry.now tries calls.entry.now workers.items v.items) × IfErr result IsRefusal }
+            requires { All (λ w. IsOf tree.now w.pass) workers.items
+                × All (λ e. IsOwn e.1) calls.now × (length calls.now ≤ 100000) }
+            ensures { IfOk result
+                (λ v. HaveAllPlayed (G.lets gate.entry.now) (G.stops gate.entry.now) tree.entry.now
+                tries calls.entry.now workers.items v.items) × IfErr result IsRefusal }
         { play_each(rt, scope, start, alloc, gate, tree, tries, calls, workers) },
     )
 }

@@ -283,7 +283,8 @@ delete_left L t k o w z (Err call.Unfinished) none l = (l.did.1, l.did.2)
 still : (n t : ℕ) (w z : Hand) → LeavesFinish n t w z (Err call.Unfinished) → z.pending ≡ w.pending
 still n t w z l = l.did.2 ∙ sym l.did.1
 
--- a finish that is asked for: nothing is pending behind an answer, and behind none what was pending is so still
+-- a finish that is asked for: nothing is pending behind an answer, and behind none what was pending
+-- is so still
 finish_err : (n t : ℕ) (w z : Hand) (lost : Lost) → LeavesFinish n t w z (Err lost) → lost ≡ call.Unfinished
 finish_err n t w z call.Unfinished l = refl
 finish_err n t w z call.Busy l = absurd l.did
@@ -388,7 +389,8 @@ delete_flags (Err call.NoMemory) = refl
 delete_flags (Err call.Unfinished) = refl
 delete_flags (Err call.Pending) = refl
 
--- behind calls that lost each of their tries nothing is pending, held or won, and the pass has gone on
+-- behind calls that lost each of their tries nothing is pending, held or won, and the pass has gone
+-- on
 record IsOnward (w z : Hand) : Type 0 where
   none : z.pending ≡ None
   free : z.held ≡ None

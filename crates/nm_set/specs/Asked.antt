@@ -1,4 +1,5 @@
--- What each call leaves of its member's worker: what the tree's call of the same name leaves, where the worker may be asked.
+-- What each call leaves of its member's worker: what the tree's call of the same name leaves, where
+-- the worker may be asked.
 use Rattle.std.specs.Prelude.{◌≡◌, ◌+◌, ◌*◌, ◌≤◌, ℕ, Bool, length, None, IsSome, Result, Ok, Err, IfOk, IfErr, All}
 use Rattle.nm_model.specs.declared.event.Event.TheVariants.{Leave}
 use Rattle.nm_model.specs.declared.event.Op.TheVariants.{Has, Insert, Delete}
@@ -31,7 +32,8 @@ use Rattle.nm_set.specs.declared.fault.NotHeld.{NotHeld}
 
 -- how much longer the log of a call may be
 abbrev pub HasBound : ℕ → ℕ → Hand → Hand → Type 0
-HasBound nodes tries w z = length z.pass.view.log ≤ length w.pass.view.log + tries * (4 * nodes + 8 * chain_bound) + 6 * nodes + 10
+HasBound nodes tries w z = length z.pass.view.log
+    ≤ length w.pass.view.log + tries * (4 * nodes + 8 * chain_bound) + 6 * nodes + 10
 
 -- `LeavesHas`, `LeavesInsert`, `LeavesDelete`, `LeavesFinish`, `LeavesPin`, `LeavesUnpin`,
 -- `LeavesAdvance`, `LeavesBehind`, `LeavesCollect`: what a call of the tree leaves of its worker:
@@ -111,7 +113,8 @@ pub record LeavesUnpin (w z : Hand) : Type 0 where
 pub record LeavesAdvance (workers : ℕ) (w z : Hand) (a : Advance) : Type 0 where
   pub same : IsSamePass w.pass z.pass
   pub past : HasSeenAllOf z.pass w.pass
-  pub did : IsAdvance workers w.pass.view.number (epochs w.pass).pin w.pass.view.log z.pass.view.log a
+  pub did : IsAdvance workers w.pass.view.number (epochs w.pass).pin w.pass.view.log z.pass.view.log
+      a
   pub place : KeepsPlace w z
   pub queues : z.queues ≡ w.queues
   pub steps : length z.pass.view.log ≤ length w.pass.view.log + workers + 1
@@ -121,7 +124,8 @@ pub record LeavesAdvance (workers : ℕ) (w z : Hand) (a : Advance) : Type 0 whe
 pub record LeavesBehind (workers : ℕ) (w z : Hand) (b : Behind) : Type 0 where
   pub same : IsSamePass w.pass z.pass
   pub past : HasSeenAllOf z.pass w.pass
-  pub did : IsBehind workers w.pass.view.number (epochs w.pass).pin w.pass.view.log z.pass.view.log b
+  pub did : IsBehind workers w.pass.view.number (epochs w.pass).pin w.pass.view.log z.pass.view.log
+      b
   pub place : KeepsPlace w z
   pub queues : z.queues ≡ w.queues
   pub steps : length z.pass.view.log ≤ length w.pass.view.log + workers
@@ -144,8 +148,10 @@ pub record LeavesCollect (nodes : ℕ) (w z : Hand) (c : Collected) : Type 0 whe
 
 -- ---- where the worker may be asked
 
--- a worker that its caller holds is not asked, and nothing has changed; else the call leaves what the tree's does
-abbrev pub Asked : (Hand → Hand → Result Bool Lost → Type 0) → Hand → Hand → Result Bool Fault → Type 0
+-- a worker that its caller holds is not asked, and nothing has changed; else the call leaves what
+-- the tree's does
+abbrev pub Asked : (Hand → Hand → Result Bool Lost → Type 0) → Hand → Hand → Result Bool Fault
+    → Type 0
 Asked leaves w z (Ok b) = (w.held ≡ None) × leaves w z (Ok b)
 Asked leaves w z (Err (fault.Call f)) = (w.held ≡ None) × leaves w z (Err f)
 Asked leaves w z (Err fault.Held) = IsSome w.held × (z ≡ w)

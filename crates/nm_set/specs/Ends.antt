@@ -12,8 +12,9 @@ use Rattle.nm_set.specs.declared.fault.CloseReason.{CloseReason}
 use Rattle.nm_set.specs.declared.fault.CloseReason.TheVariants as because
 use Rattle.nm_set.specs.Seats.{AreOwn, Seated, Standing}
 
--- The tree of the set was closed with the workers that the set kept, each as it came, and then with those that were at home; which these had been is
--- not said, but that there are none where a refused close had gathered all
+-- The tree of the set was closed with the workers that the set kept, each as it came, and then with
+-- those that were at home; which these had been is not said, but that there are none where a
+-- refused close had gathered all
 pub record EndsSet (s : Standing) (r : Report) : Type 0 where
   pub home : List Hand
   pub own : AreOwn s.board (s.kept ++ home)
@@ -27,9 +28,11 @@ told_reason tree.NoMemory = because.NoMemory
 
 -- a tree that has these workers was not closed for that reason, which is one of the tree's
 abbrev pub IsTreesReason : Board → List Hand → CloseReason → Type 0
-IsTreesReason b ws why = (of_tree : Reason) × (why ≡ told_reason of_tree) × IsCloseReason b ws of_tree
+IsTreesReason b ws why = (of_tree : Reason) × (why ≡ told_reason of_tree)
+    × IsCloseReason b ws of_tree
 
--- a set whose workers were gathered keeps what it kept, and then those that were at home; and by them its tree was not closed for that reason
+-- a set whose workers were gathered keeps what it kept, and then those that were at home; and by
+-- them its tree was not closed for that reason
 pub record HasGathered (s : Standing) (why : Reason) (t : Standing) : Type 0 where
   pub board : t.board ≡ s.board
   pub fit : t.fit ≡ s.fit
@@ -55,13 +58,16 @@ IsLeftOpen s because.NoMemory t = IsAsBefore s t ⊎ HasGathered s tree.NoMemory
 abbrev pub set_of : Seated → Standing
 set_of m = record { board = m.board; fit = m.hand.fit; closing = false; kept = m.hand ∷ [] }
 
--- the tree of the member was closed with the member's worker, as it is, and then with those that were at home
+-- the tree of the member was closed with the member's worker, as it is, and then with those that
+-- were at home
 abbrev pub EndsMember : Seated → Report → Type 0
 EndsMember m r = EndsSet (set_of m) r
 
--- how a member stands that has not ended its set: it is as it was; or a set whose workers were gathered keeps the member's, and then those that were at
--- home, and its tree was not closed for the reason that is told
+-- how a member stands that has not ended its set: it is as it was; or a set whose workers were
+-- gathered keeps the member's, and then those that were at home, and its tree was not closed for
+-- the reason that is told
 abbrev pub IsNotEnded : Seated → EndError → Type 0
 IsNotEnded m (Away n) = n ≡ m
 IsNotEnded m (NoMemory n) = n ≡ m
-IsNotEnded m (Gathered e) = (why : Reason) × (e.reason ≡ told_reason why) × HasGathered (set_of m) why e.set
+IsNotEnded m (Gathered e) = (why : Reason) × (e.reason ≡ told_reason why)
+    × HasGathered (set_of m) why e.set

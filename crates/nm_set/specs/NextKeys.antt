@@ -17,7 +17,8 @@ pub record LeavesNext (nodes tries key : ℕ) (w z : Hand) (r : Result (Option �
   pub did : HasLooked tries (tries * most_looks nodes 1) w z r
   pub moment : IfOk r (WasNext w.pass z.pass key)
   pub won : HasWon w.pass.view.log z.pass.view.log 0 0
-  pub steps : length z.pass.view.log ≤ length w.pass.view.log + 3 * tries + tries * most_looks nodes 1 + 2
+  pub steps : length z.pass.view.log
+      ≤ length w.pass.view.log + 3 * tries + tries * most_looks nodes 1 + 2
   pub queues : z.queues ≡ w.queues
   pub held : z.held ≡ None
   pub fit : z.fit ≡ w.fit
@@ -25,6 +26,8 @@ pub record LeavesNext (nodes tries key : ℕ) (w z : Hand) (r : Result (Option �
 
 -- a worker that its caller holds is not asked, and nothing has changed; else that is left
 abbrev pub AskedNext : ℕ → ℕ → ℕ → Hand → Hand → Result (Option ℕ) Fault → Type 0
-AskedNext nodes tries key w z (Ok found) = (w.held ≡ None) × LeavesNext nodes tries key w z (Ok found)
-AskedNext nodes tries key w z (Err (fault.Call f)) = (w.held ≡ None) × LeavesNext nodes tries key w z (Err f)
+AskedNext nodes tries key w z (Ok found) =
+    (w.held ≡ None) × LeavesNext nodes tries key w z (Ok found)
+AskedNext nodes tries key w z (Err (fault.Call f)) =
+    (w.held ≡ None) × LeavesNext nodes tries key w z (Err f)
 AskedNext nodes tries key w z (Err fault.Held) = IsSome w.held × (z ≡ w)

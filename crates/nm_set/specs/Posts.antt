@@ -32,8 +32,8 @@ pub record IsLetter (b : Board) (i : ℕ) (p : Posted) (note : Notice) : Type 0 
   pub table : note.table ≡ b.table
   pub told : ComesBehind b i p note.past
 
--- a worker has heard the note that worker i left: all that it had seen before, and what worker i had seen then, comes before all that it does from now
--- on; and it has done nothing
+-- a worker has heard the note that worker i left: all that it had seen before, and what worker i
+-- had seen then, comes before all that it does from now on; and it has done nothing
 pub record HasHeardOf (b : Board) (i : ℕ) (p : Posted) (w z : Hand) : Type 0 where
   pub same : HasHeard w.pass z.pass
   pub past : HasSeenAllOf z.pass w.pass
@@ -41,7 +41,8 @@ pub record HasHeardOf (b : Board) (i : ℕ) (p : Posted) (w z : Hand) : Type 0 w
   pub rest : z ≡ record w { pass = z.pass }
   pub between : IsBetweenCalls z
 
--- where there was a note, it was heard; else, and where another worker is at that post, nothing has changed
+-- where there was a note, it was heard; else, and where another worker is at that post, nothing has
+-- changed
 abbrev pub Hears : Board → ℕ → Hand → Hand → Result (Option Posted) PostFault → Type 0
 Hears b i w z (Ok (Some p)) = HasHeardOf b i p w z
 Hears b i w z (Ok None) = z ≡ w
@@ -50,4 +51,5 @@ Hears b i w z (Err posting.Number) = ⊥
 
 -- that no worker has the number is told exactly where none has, and nothing has changed
 abbrev pub Reads : Board → ℕ → Hand → Hand → Result (Option Posted) PostFault → Type 0
-Reads b i w z r = ((i < b.layout.workers) × Hears b i w z r) ⊎ ((b.layout.workers ≤ i) × (r ≡ Err posting.Number) × (z ≡ w))
+Reads b i w z r = ((i < b.layout.workers) × Hears b i w z r)
+    ⊎ ((b.layout.workers ≤ i) × (r ≡ Err posting.Number) × (z ≡ w))

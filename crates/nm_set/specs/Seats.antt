@@ -19,8 +19,9 @@ pub record Seated : Type 0 where
   pub board : Board
   pub hand : Hand
 
--- what clauses see of a set: its tree, by which fit its workers claim, whether a refused close has gathered them, and the workers that it keeps, as
--- they were when they came: those of members that were kept, and behind a refused close all that were gathered
+-- what clauses see of a set: its tree, by which fit its workers claim, whether a refused close has
+-- gathered them, and the workers that it keeps, as they were when they came: those of members that
+-- were kept, and behind a refused close all that were gathered
 pub record Standing : Type 0 where
   pub board : Board
   pub fit : Fit
@@ -71,7 +72,8 @@ told_staying tree.Pending = because.Pending
 
 -- the tree has a worker of that number, which was at home, and may not resign for that reason
 abbrev pub IsResidentThatStays : Seated → ℕ → Reason → Type 0
-IsResidentThatStays m i why = (i < m.board.layout.workers) × (w : Hand) × IsResident m.board m.hand.fit i w × IsReason w why
+IsResidentThatStays m i why = (i < m.board.layout.workers) × (w : Hand)
+    × IsResident m.board m.hand.fit i w × IsReason w why
 
 -- why the worker of that number has not resigned to a member: the tree has none of that number, or
 -- it is not at home; or it is one of the tree's, and held, or has a pending key
@@ -81,7 +83,8 @@ IsStaying m i because.Away = i < m.board.layout.workers
 IsStaying m i because.Held = IsResidentThatStays m i tree.Held
 IsStaying m i because.Pending = IsResidentThatStays m i tree.Pending
 
--- whether a worker is with a member is told of an open set, and of the numbers of its tree; that the answer is right is in no clause
+-- whether a worker is with a member is told of an open set, and of the numbers of its tree; that
+-- the answer is right is in no clause
 abbrev pub TellsAway : Standing → ℕ → Result Bool MemberFault → Type 0
 TellsAway s i (Ok away) = (s.closing ≡ false) × (i < s.board.layout.workers)
 TellsAway s i (Err taking.Number) = (s.closing ≡ false) × (s.board.layout.workers ≤ i)

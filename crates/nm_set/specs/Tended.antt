@@ -1,4 +1,5 @@
--- Calls that tend the set: one that loses its tries is made again, a delete is finished, and the nodes that wait are collected.
+-- Calls that tend the set: one that loses its tries is made again, a delete is finished, and the
+-- nodes that wait are collected.
 use Rattle.std.specs.Prelude.{◌≡◌, ◌≢◌, ◌⊎◌, ◌+◌, ◌*◌, ◌≤◌, ◌<◌, ℕ, zero, suc, Bool, true, length, drop, List, [], ◌∷◌, Some, None, IsSome, Result, Ok, Err, IfOk}
 use Rattle.nm_edge.specs.Layouts.{Layout}
 use Rattle.nm_edge.specs.declared.node.NodeId.{NodeId}
@@ -28,7 +29,8 @@ OnlyLoses o h g = (h.origin ≡ o) ⊎ ((n : ℕ) × (g.queue.items ≡ drop n h
 -- the same origins, and so each queue of another origin than that
 abbrev pub OthersOnlyLose : ℕ → List HeldQueue → List HeldQueue → Type 0
 OthersOnlyLose o [] [] = Unit {0}
-OthersOnlyLose o (h ∷ hs) (g ∷ gs) = (g.origin ≡ h.origin) × OnlyLoses o h g × OthersOnlyLose o hs gs
+OthersOnlyLose o (h ∷ hs) (g ∷ gs) =
+    (g.origin ≡ h.origin) × OnlyLoses o h g × OthersOnlyLose o hs gs
 OthersOnlyLose o _ _ = ⊥
 
 -- the worker has gone on, in so many steps at most: the same pass, which has seen more, not held,
@@ -49,8 +51,10 @@ abbrev pub InARow : (Hand → Hand → Type 0) → ℕ → Hand → Hand → Typ
 InARow step zero w z = z ≡ w
 InARow step (suc n) w z = (m : Hand) × InARow step n w m × step m z
 
--- a call is made again while it tells `lost`, so many times at most; what the last one tells is told
-pub record IsAsked {R : Type 0} (leaves : Hand → Hand → R → Type 0) (lost : R) (rounds : ℕ) (w z : Hand) (r : R) : Type 0 where
+-- a call is made again while it tells `lost`, so many times at most; what the last one tells is
+-- told
+pub record IsAsked {R : Type 0} (leaves : Hand → Hand → R → Type 0) (lost : R) (rounds : ℕ)
+    (w z : Hand) (r : R) : Type 0 where
   pub before : ℕ
   pub begun : Hand
   pub each : InARow (λ x y. leaves x y lost) before w begun
@@ -75,7 +79,8 @@ Deletes b h k w z r = IsAsked (Asked (LeavesDelete b.layout.nodes h.tries k)) bu
 
 -- the delete that is pending, if one is, while it is not finished
 abbrev pub Finishes : Board → Habit → Hand → Hand → Result Bool Lost → Type 0
-Finishes b h w z r = IsAsked (LeavesFinish b.layout.nodes h.tries) (Err call.Unfinished) h.rounds w z r
+Finishes b h w z r = IsAsked (LeavesFinish b.layout.nodes h.tries) (Err call.Unfinished) h.rounds w
+    z r
 
 -- ---- collecting
 
@@ -92,14 +97,16 @@ pub record IsRelieved (b : Board) (w z : Hand) : Type 0 where
 
 -- so it is where so many nodes wait; else nothing has changed
 abbrev pub IsTidied : Board → ℕ → Hand → Hand → Type 0
-IsTidied b many w z = ((many ≤ waiting_in w.queues) × IsRelieved b w z) ⊎ ((waiting_in w.queues < many) × (z ≡ w))
+IsTidied b many w z = ((many ≤ waiting_in w.queues) × IsRelieved b w z)
+    ⊎ ((waiting_in w.queues < many) × (z ≡ w))
 
 -- ---- the three calls
 
 -- no slot is told to be free only behind a collection, and by an insert that was made once more
 abbrev pub InsertsOn : Board → Habit → ℕ → Hand → Hand → Result Bool Fault → Type 0
 InsertsOn b h k w z r = (Inserts b h k w z r × (r ≢ Err (fault.Call call.Full)))
-    ⊎ ((x y : Hand) × Inserts b h k w x (Err (fault.Call call.Full)) × IsRelieved b x y × Inserts b h k y z r)
+    ⊎ ((x y : Hand) × Inserts b h k w x (Err (fault.Call call.Full)) × IsRelieved b x y
+    × Inserts b h k y z r)
 
 -- what a finish tells, as a delete tells it
 abbrev pub of_finish : Result Bool Lost → Result Bool Fault
@@ -109,11 +116,14 @@ of_finish (Err lost) = Err (fault.Call lost)
 -- a delete whose leaf is flagged goes on with that
 abbrev pub DeletesOn : Board → Habit → ℕ → Hand → Hand → Result Bool Fault → Type 0
 DeletesOn b h k w z r = (Deletes b h k w z r × (r ≢ Err (fault.Call call.Unfinished)))
-    ⊎ ((x : Hand) × (f : Result Bool Lost) × Deletes b h k w x (Err (fault.Call call.Unfinished)) × Finishes b h x z f × (r ≡ of_finish f))
+    ⊎ ((x : Hand) × (f : Result Bool Lost) × Deletes b h k w x (Err (fault.Call call.Unfinished))
+    × Finishes b h x z f × (r ≡ of_finish f))
 
--- first the delete of an earlier call is finished, where one is pending; what is told of where it is not, is that
+-- first the delete of an earlier call is finished, where one is pending; what is told of where it
+-- is not, is that
 abbrev pub FinishesThen : Board → Habit → (Hand → Type 0) → Hand → Hand → Result Bool Fault → Type 0
-FinishesThen b h rest w z r = (Finishes b h w z (Err call.Unfinished) × (r ≡ Err (fault.Call call.Pending)))
+FinishesThen b h rest w z r = (Finishes b h w z (Err call.Unfinished)
+    × (r ≡ Err (fault.Call call.Pending)))
     ⊎ ((answer : Bool) × (x : Hand) × Finishes b h w x (Ok answer) × rest x)
 
 -- `Contains`, `Adds`, `Removes`: first the delete of an earlier call is finished, and then each of
@@ -122,16 +132,19 @@ abbrev pub Contains : Board → Habit → ℕ → Hand → Hand → Result Bool 
 Contains b h k w z r = FinishesThen b h (λ x. Looks b h k x z r) w z r
 
 abbrev pub Adds : Board → Habit → ℕ → Hand → Hand → Result Bool Fault → Type 0
-Adds b h k w z r = FinishesThen b h (λ x. (y : Hand) × IsTidied b h.collect_after x y × InsertsOn b h k y z r) w z r
+Adds b h k w z r = FinishesThen b h
+    (λ x. (y : Hand) × IsTidied b h.collect_after x y × InsertsOn b h k y z r) w z r
 
 abbrev pub Removes : Board → Habit → ℕ → Hand → Hand → Result Bool Fault → Type 0
-Removes b h k w z r = FinishesThen b h (λ x. (y : Hand) × IsTidied b h.collect_after x y × DeletesOn b h k y z r) w z r
+Removes b h k w z r = FinishesThen b h
+    (λ x. (y : Hand) × IsTidied b h.collect_after x y × DeletesOn b h k y z r) w z r
 
 -- ---- what a caller has of each
 
 -- nothing is pending, but where that is told: of this call's key, or as it was before
 abbrev pub IsLeft : ℕ → Hand → Hand → Result Bool Fault → Type 0
-IsLeft k w z (Err (fault.Call call.Unfinished)) = (leaf : NodeId) × (z.pending ≡ Some (record { key = k; leaf = leaf }))
+IsLeft k w z (Err (fault.Call call.Unfinished)) =
+    (leaf : NodeId) × (z.pending ≡ Some (record { key = k; leaf = leaf }))
 IsLeft k w z (Err (fault.Call call.Pending)) = IsSome w.pending × (z.pending ≡ w.pending)
 IsLeft k w z _ = z.pending ≡ None
 
@@ -145,20 +158,23 @@ flags_told Delete (Ok true) = 1
 flags_told Delete (Err (fault.Call call.Unfinished)) = 1
 flags_told _ _ = 0
 
--- the steps of a round at most: those of a call of the tree, two moves of the epoch and a collection
+-- the steps of a round at most: those of a call of the tree, two moves of the epoch and a
+-- collection
 abbrev pub round_bound : ℕ → Layout → ℕ
 round_bound tries L = tries * (4 * L.nodes + 8 * chain_bound) + 7 * L.nodes + 2 * L.workers + 12
 
--- the answer has its moment behind all that the worker had seen before this call; it has won what it tells and no more, and has gone on in so many
--- rounds at most
-pub record Tends (b : Board) (h : Habit) (op : Op) (k : ℕ) (w z : Hand) (r : Result Bool Fault) : Type 0 where
+-- the answer has its moment behind all that the worker had seen before this call; it has won what
+-- it tells and no more, and has gone on in so many rounds at most
+pub record Tends (b : Board) (h : Habit) (op : Op) (k : ℕ) (w z : Hand)
+    (r : Result Bool Fault) : Type 0 where
   pub moment : IfOk r (AnswerHasMoment w.pass z.pass op k)
   pub left : IsLeft k w z r
   pub won : HasWon w.pass.view.log z.pass.view.log (links_told op r) (flags_told op r)
   pub on : GoesOn ((3 * h.rounds + 5) * round_bound h.tries b.layout) w z
 
 -- the call did this, and a caller has that
-pub record HasTended (does : Hand → Hand → Result Bool Fault → Type 0) (b : Board) (h : Habit) (op : Op) (k : ℕ) (w z : Hand) (r : Result Bool Fault) : Type 0 where
+pub record HasTended (does : Hand → Hand → Result Bool Fault → Type 0) (b : Board) (h : Habit)
+    (op : Op) (k : ℕ) (w z : Hand) (r : Result Bool Fault) : Type 0 where
   pub did : does w z r
   pub tends : Tends b h op k w z r
 

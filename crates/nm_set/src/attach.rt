@@ -5,7 +5,8 @@ ghost use Rattle.nm_set.specs.Seats.{IsAnyResident};
 use crate::home::Home;
 use crate::seat::Guest;
 
-/// Looks at each seat once, in the order of the numbers, and takes the first worker that is at home.
+/// Looks at each seat once, in the order of the numbers, and takes the first worker that is at
+/// home.
 pub(crate) fn take_any(home: &Home) -> Option<Guest>
     ensures { IfSome result (λ g. IsAnyResident home.now.tree home.now.fit g.worker) }
 {

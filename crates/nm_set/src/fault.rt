@@ -4,7 +4,8 @@ use thiserror::Error;
 /// Why `has`, `insert` or `delete` has not answered.
 #[derive(Clone, Copy, Debug, Error, PartialEq, Eq)]
 pub enum Fault {
-    /// The caller holds the worker: it is pinned until `unpin`. Nothing has changed, and there was no step.
+    /// The caller holds the worker: it is pinned until `unpin`. Nothing has changed, and there was
+    /// no step.
     #[error("the worker is held")]
     Held,
     /// The tree's call has not answered.

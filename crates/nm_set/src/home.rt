@@ -33,7 +33,8 @@ impl Model for Home {
 
     ghost view = { λ h. h.site };
 
-    ghost invariant = { λ h. AreSeats h.site 0 h.seats.items × (length h.seats.items ≡ h.site.tree.layout.workers) };
+    ghost invariant = { λ h. AreSeats h.site 0 h.seats.items
+        × (length h.seats.items ≡ h.site.tree.layout.workers) };
 }
 
 /// Why a worker is not at home.
@@ -65,7 +66,9 @@ impl Home {
 
     /// Takes a worker from its seat.
     pub(crate) fn take(&self, number: u32) -> Result<Guest, Absence>
-        ensures taken { IfOk result (λ g. IsResident self.now.tree self.now.fit number g.worker × (number < self.now.tree.layout.workers)) }
+        ensures taken { IfOk result
+            (λ g. IsResident self.now.tree self.now.fit number g.worker
+            × (number < self.now.tree.layout.workers)) }
         ensures number { IsErrOf result Absence.Number ↔ (self.now.tree.layout.workers ≤ number) }
     {
         let Some(seat) = self.seats.get(number as usize) else {
@@ -105,7 +108,8 @@ impl Home {
 
     /// The post of a worker. `None`: there is none of that number.
     pub(crate) fn post_of(&self, number: u32) -> Option<&Post>
-        ensures some { IfSome result (λ p. (p.now ≡ (self.now, number)) × (number < self.now.tree.layout.workers)) }
+        ensures some { IfSome result
+            (λ p. (p.now ≡ (self.now, number)) × (number < self.now.tree.layout.workers)) }
         ensures none { IfNone result (self.now.tree.layout.workers ≤ number) }
     {
         Some(self.seats.get(number as usize)?.post())

@@ -1,8 +1,10 @@
-//! The set as values that own what they need, so that calls have no condition: a `Set` gives out its `Member`s, one for each worker, and each of
-//! them keeps the tree alive. A member that is closed goes home, and can be taken again, by any thread.
+//! The set as values that own what they need, so that calls have no condition: a `Set` gives out
+//! its `Member`s, one for each worker, and each of them keeps the tree alive. A member that is
+//! closed goes home, and can be taken again, by any thread.
 //!
-//! What a caller of `nm_tree` has to show is known here of each member, by its type: that its worker is one of the tree's. What may be wrong while
-//! a program runs is told as a fault, before any step.
+//! What a caller of `nm_tree` has to show is known here of each member, by its type: that its
+//! worker is one of the tree's. What may be wrong while a program runs is told as a fault, before
+//! any step.
 #![tactic(auto)]
 
 mod attach;

@@ -26,7 +26,8 @@ use std::alloc::Global;
 use std::marker::Model;
 use std::sync::Arc;
 
-/// One worker of a set. It may go to another thread between two calls, and the tree lives as long as it does. Dropped, it goes home as by `close`.
+/// One worker of a set. It may go to another thread between two calls, and the tree lives as long
+/// as it does. Dropped, it goes home as by `close`.
 pub struct Member {
     home: Arc<Home, Global>,
     guest: Guest,
@@ -41,7 +42,8 @@ impl Model for Member {
 
     ghost view = { λ m. record { board = (arc_value m.home).tree; hand = m.guest.worker } };
 
-    ghost invariant = { λ m. IsOwn (arc_value m.home).tree m.guest.worker × (m.guest.worker.fit ≡ (arc_value m.home).fit) };
+    ghost invariant = { λ m. IsOwn (arc_value m.home).tree m.guest.worker
+        × (m.guest.worker.fit ≡ (arc_value m.home).fit) };
 }
 
 /// A member has not taken over a worker. It is as it was.
@@ -68,13 +70,15 @@ impl Member {
         self.guest.worker.number()
     }
 
-    /// What the worker has seen is a run of an ordered core of the set's sizes, its log is its part of that, it has not resigned in it, and the turns
-    /// that it has seen have the headline and a history: `Worker::is_of_a_run` of `nm_tree`. And it is one of the set's. It does nothing.
+    /// What the worker has seen is a run of an ordered core of the set's sizes, its log is its part
+    /// of that, it has not resigned in it, and the turns that it has seen have the headline and a
+    /// history: `Worker::is_of_a_run` of `nm_tree`. And it is one of the set's. It does nothing.
     pub fn is_of_a_run(&self)
         ensures own { IsOwn self.now.board self.now.hand }
         ensures seen { HasSeen self.now.hand.pass.view }
         ensures turns { HasSeenTurns self.now.hand.pass.view }
-        ensures run { IsOfRun self.now.hand.pass.view.layout self.now.hand.pass.view.number self.now.hand.pass.view.log }
+        ensures run { IsOfRun self.now.hand.pass.view.layout self.now.hand.pass.view.number
+            self.now.hand.pass.view.log }
         ensures fits { IsLayout self.now.hand.pass.view.layout }
     {
         self.guest.worker.is_of_a_run();
@@ -85,7 +89,8 @@ impl Member {
     /// `Held`: the caller holds the worker. Other faults are the tree's.
     pub fn has(&mut self, key: Key, tries: u32) -> Result<bool, Fault>
         ensures board { self.new.board ≡ self.old.board }
-        ensures did { Asked (LeavesHas self.old.board.layout.nodes tries key) self.old.hand self.new.hand result }
+        ensures did { Asked (LeavesHas self.old.board.layout.nodes tries key) self.old.hand
+            self.new.hand result }
     {
         if self.guest.worker.held().is_some() {
             return Err(Fault::Held);
@@ -96,12 +101,14 @@ impl Member {
         }
     }
 
-    /// Whether the set has each of these keys, which their `found` tells then: `Tree::has_many` of `nm_tree`.
+    /// Whether the set has each of these keys, which their `found` tells then: `Tree::has_many` of
+    /// `nm_tree`.
     ///
     /// `Held`: the caller holds the worker. Other faults are the tree's.
     pub fn has_many(&mut self, queries: &mut [Query], tries: u32) -> Result<(), Fault>
         ensures board { self.new.board ≡ self.old.board }
-        ensures did { AskedMany self.old.board.layout.nodes tries queries.old queries.new self.old.hand self.new.hand result }
+        ensures did { AskedMany self.old.board.layout.nodes tries queries.old queries.new
+            self.old.hand self.new.hand result }
     {
         if self.guest.worker.held().is_some() {
             return Err(Fault::Held);
@@ -116,12 +123,14 @@ impl Member {
         }
     }
 
-    /// The least key of the set that is not below `key`, or `None` where there is none: `Tree::next` of `nm_tree`.
+    /// The least key of the set that is not below `key`, or `None` where there is none:
+    /// `Tree::next` of `nm_tree`.
     ///
     /// `Held`: the caller holds the worker. Other faults are the tree's.
     pub fn next(&mut self, key: Key, tries: u32) -> Result<Option<Key>, Fault>
         ensures board { self.new.board ≡ self.old.board }
-        ensures did { AskedNext self.old.board.layout.nodes tries key self.old.hand self.new.hand result }
+        ensures did { AskedNext self.old.board.layout.nodes tries key self.old.hand self.new.hand
+            result }
     {
         if self.guest.worker.held().is_some() {
             return Err(Fault::Held);
@@ -137,7 +146,8 @@ impl Member {
     /// `Held`: the caller holds the worker. Other faults are the tree's.
     pub fn insert(&mut self, key: Key, tries: u32) -> Result<bool, Fault>
         ensures board { self.new.board ≡ self.old.board }
-        ensures did { Asked (LeavesInsert self.old.board.layout.nodes tries key) self.old.hand self.new.hand result }
+        ensures did { Asked (LeavesInsert self.old.board.layout.nodes tries key) self.old.hand
+            self.new.hand result }
     {
         if self.guest.worker.held().is_some() {
             return Err(Fault::Held);
@@ -150,10 +160,12 @@ impl Member {
 
     /// Deletes a key, and answers whether it was in the set: `Tree::delete` of `nm_tree`.
     ///
-    /// `Held`: the caller holds the worker. Other faults are the tree's; behind `Unfinished` the key is pending, and `finish` goes on.
+    /// `Held`: the caller holds the worker. Other faults are the tree's; behind `Unfinished` the
+    /// key is pending, and `finish` goes on.
     pub fn delete(&mut self, key: Key, tries: u32) -> Result<bool, Fault>
         ensures board { self.new.board ≡ self.old.board }
-        ensures did { Asked (LeavesDelete self.old.board.layout.nodes tries key) self.old.hand self.new.hand result }
+        ensures did { Asked (LeavesDelete self.old.board.layout.nodes tries key) self.old.hand
+            self.new.hand result }
     {
         if self.guest.worker.held().is_some() {
             return Err(Fault::Held);
@@ -164,10 +176,12 @@ impl Member {
         }
     }
 
-    /// Goes on with the delete that is pending: `Tree::finish` of `nm_tree`, with its faults. False with no step where none is pending.
+    /// Goes on with the delete that is pending: `Tree::finish` of `nm_tree`, with its faults. False
+    /// with no step where none is pending.
     pub fn finish(&mut self, tries: u32) -> Result<bool, nm_tree::Fault>
         ensures board { self.new.board ≡ self.old.board }
-        ensures did { LeavesFinish self.old.board.layout.nodes tries self.old.hand self.new.hand result }
+        ensures did { LeavesFinish self.old.board.layout.nodes tries self.old.hand self.new.hand
+            result }
     {
         self.home.tree().finish(&mut self.guest.worker, tries)
     }
@@ -205,7 +219,8 @@ impl Member {
     /// Moves the epoch on by one, if no worker holds it back: `Tree::advance` of `nm_tree`.
     pub fn advance(&mut self) -> Advance
         ensures board { self.new.board ≡ self.old.board }
-        ensures did { LeavesAdvance self.old.board.layout.workers self.old.hand self.new.hand result }
+        ensures did { LeavesAdvance self.old.board.layout.workers self.old.hand self.new.hand
+            result }
     {
         self.home.tree().advance(&mut self.guest.worker)
     }
@@ -213,12 +228,14 @@ impl Member {
     /// Which workers hold the epoch back, this one included: `Tree::behind` of `nm_tree`.
     pub fn behind(&mut self) -> Behind
         ensures board { self.new.board ≡ self.old.board }
-        ensures did { LeavesBehind self.old.board.layout.workers self.old.hand self.new.hand result }
+        ensures did { LeavesBehind self.old.board.layout.workers self.old.hand self.new.hand
+            result }
     {
         self.home.tree().behind(&mut self.guest.worker)
     }
 
-    /// Frees what is ripe at the front of each queue that the worker holds: `Tree::collect` of `nm_tree`.
+    /// Frees what is ripe at the front of each queue that the worker holds: `Tree::collect` of
+    /// `nm_tree`.
     pub fn collect(&mut self) -> Collected
         ensures board { self.new.board ≡ self.old.board }
         ensures did { LeavesCollect self.old.board.layout.nodes self.old.hand self.new.hand result }
@@ -226,7 +243,8 @@ impl Member {
         self.home.tree().collect(&mut self.guest.worker)
     }
 
-    /// A note of all that the worker has seen, for another member of this set: `Tree::note` of `nm_tree`. No step, no lock and no memory.
+    /// A note of all that the worker has seen, for another member of this set: `Tree::note` of
+    /// `nm_tree`. No step, no lock and no memory.
     pub fn note(&mut self) -> Note
         ensures same { self.new ≡ self.old }
         ensures note { IsNoteOf self.old.hand.pass result }
@@ -235,10 +253,12 @@ impl Member {
         self.home.tree().note(&mut self.guest.worker)
     }
 
-    /// The worker hears a note of another member of this set: all that it is asked from then on comes behind all that the other one had done when the
-    /// note was made: `Tree::hear` of `nm_tree`. No step, no lock and no memory.
+    /// The worker hears a note of another member of this set: all that it is asked from then on
+    /// comes behind all that the other one had done when the note was made: `Tree::hear` of
+    /// `nm_tree`. No step, no lock and no memory.
     ///
-    /// The note must be of this set, which nobody can test: so this call has a condition, and it is for a caller that proves what it has heard.
+    /// The note must be of this set, which nobody can test: so this call has a condition, and it is
+    /// for a caller that proves what it has heard.
     pub fn hear(&mut self, note: Note)
         requires table { note.table ≡ self.old.board.table }
         ensures board { self.new.board ≡ self.old.board }
@@ -251,8 +271,9 @@ impl Member {
         self.home.tree().hear(&mut self.guest.worker, note);
     }
 
-    /// Leaves a note of all that the worker has seen on its post, in place of its earlier one, for any other member of this set to `read`: what it has
-    /// won so far. No step, no lock and no memory.
+    /// Leaves a note of all that the worker has seen on its post, in place of its earlier one, for
+    /// any other member of this set to `read`: what it has won so far. No step, no lock and no
+    /// memory.
     ///
     /// `None`: a reader has the earlier note at this moment, and that stays.
     pub fn post(&mut self) -> Option<Posted>
@@ -263,11 +284,13 @@ impl Member {
         leave_letter(self.home.tree(), post, &mut self.guest.worker)
     }
 
-    /// The worker hears the note that the worker of a number has left by `post`, and leaves it there for others: all that it is asked from then on comes
-    /// behind all that the other one had seen when it left the note. What that one had won by then; `None` where it has left none. No step, no lock
-    /// and no memory.
+    /// The worker hears the note that the worker of a number has left by `post`, and leaves it
+    /// there for others: all that it is asked from then on comes behind all that the other one had
+    /// seen when it left the note. What that one had won by then; `None` where it has left none. No
+    /// step, no lock and no memory.
     ///
-    /// `Number`: the tree has no worker of that number. `Busy`: another member is at that post at this moment. Nothing has changed.
+    /// `Number`: the tree has no worker of that number. `Busy`: another member is at that post at
+    /// this moment. Nothing has changed.
     pub fn read(&mut self, number: u32) -> Result<Option<Posted>, PostFault>
         ensures board { self.new.board ≡ self.old.board }
         ensures heard { Reads self.old.board number self.old.hand self.new.hand result }
@@ -278,7 +301,8 @@ impl Member {
         read_letter(self.home.tree(), post, &mut self.guest.worker)
     }
 
-    /// The key of a delete that has flagged its leaf and not answered yet; `finish` goes on with it.
+    /// The key of a delete that has flagged its leaf and not answered yet; `finish` goes on with
+    /// it.
     pub fn pending(&self) -> Option<Key>
         ensures { result ≡ option_map (λ (n : Delete). n.key) self.now.hand.pending }
     {
@@ -306,7 +330,8 @@ impl Member {
         self.guest.worker.queue_len()
     }
 
-    /// The worker goes home, with all that it holds, is held at or has pending, and can be taken again by `Set::member`. Of its tree nothing changes.
+    /// The worker goes home, with all that it holds, is held at or has pending, and can be taken
+    /// again by `Set::member`. Of its tree nothing changes.
     pub fn close(self) {
         let (home, guest) = self.apart();
         home.receive(guest);
@@ -323,7 +348,8 @@ impl Member {
         (home, guest)
     }
 
-    /// The worker stays with these, as it is, and does not come back to its seat. There is room for it.
+    /// The worker stays with these, as it is, and does not come back to its seat. There is room for
+    /// it.
     pub(crate) fn stay_with(self, workers: &mut Vec<Worker>)
         requires { length workers.old.items < vec_capacity workers.old }
         ensures items { workers.new.items ≡ workers.old.items ++ self.hand ∷ [] }
@@ -334,12 +360,16 @@ impl Member {
         guest.stay_with(workers);
     }
 
-    /// A worker that is at home resigns to this one: `Tree::resign` of `nm_tree`. It never comes back; this one holds all that it held.
+    /// A worker that is at home resigns to this one: `Tree::resign` of `nm_tree`. It never comes
+    /// back; this one holds all that it held.
     ///
-    /// Refused, nothing has changed: the leaver is at home, as it was, and the member is handed back as it was. `Number`: the tree has no worker of
-    /// that number. `Away`: it is not at home. `Held`, `Pending`: it went home so.
+    /// Refused, nothing has changed: the leaver is at home, as it was, and the member is handed
+    /// back as it was. `Number`: the tree has no worker of that number. `Away`: it is not at home.
+    /// `Held`, `Pending`: it went home so.
     pub fn resign(self, leaver: u32) -> Result<Member, ResignError>
-        ensures done { IfOk result (λ m. (m.board ≡ self.board) × (w : Hand) × IsResident self.board self.hand.fit leaver w × HasResigned self.hand w m.hand) }
+        ensures done { IfOk result
+            (λ m. (m.board ≡ self.board) × (w : Hand) × IsResident self.board self.hand.fit leaver w
+            × HasResigned self.hand w m.hand) }
         ensures refused { IfErr result (λ e. e.member ≡ self) }
         ensures reason { IfErr result (λ e. IsStaying self leaver e.reason) }
     {

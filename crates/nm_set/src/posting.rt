@@ -33,8 +33,8 @@ impl Fits for Letter {
     ghost fits = { λ place l. IsLetter place.0.tree place.1 l.posted l.note };
 }
 
-/// Where one worker of one tree leaves its letter. Its word is `FREE` until it has left one, `PRESENT` while a letter lies there, and `MARKED` while a
-/// reader has that in its hands.
+/// Where one worker of one tree leaves its letter. Its word is `FREE` until it has left one,
+/// `PRESENT` while a letter lies there, and `MARKED` while a reader has that in its hands.
 pub(crate) type Post = Counted<Option<Letter>>;
 
 /// A post where no letter was left yet.
@@ -44,8 +44,9 @@ pub(crate) fn empty_post(place: &(Site, u32)) -> Post
     Counted::new(None, place)
 }
 
-/// A worker leaves a letter on its own post, in place of its earlier one, with a note of all that it has seen: what it has won so far. `None`: a reader
-/// has the earlier one at this moment, and that stays.
+/// A worker leaves a letter on its own post, in place of its earlier one, with a note of all that
+/// it has seen: what it has won so far. `None`: a reader has the earlier one at this moment, and
+/// that stays.
 pub(crate) fn leave_letter(tree: &Tree, post: &Post, worker: &mut Worker) -> Option<Posted>
     requires own { IsOf tree.now worker.old.pass }
     requires tree { post.now.0.tree ≡ tree.now }
@@ -74,7 +75,8 @@ fn tally_of(worker: &Worker) -> Posted
     }
 }
 
-/// A worker hears the letter on a post and leaves it there, with a note of all that it has seen then: what had been won. `None`: no letter was left.
+/// A worker hears the letter on a post and leaves it there, with a note of all that it has seen
+/// then: what had been won. `None`: no letter was left.
 pub(crate) fn read_letter(
     tree: &Tree,
     post: &Post,
@@ -123,10 +125,11 @@ fn lay_first(post: &Post, letter: Letter) -> bool
     false
 }
 
-/// Takes the letter on a post into its hands, until `put_back`; `None` in the inner place where none was left yet. `None` in the outer one: another worker
-/// is at the post.
+/// Takes the letter on a post into its hands, until `put_back`; `None` in the inner place where
+/// none was left yet. `None` in the outer one: another worker is at the post.
 fn take_up(post: &Post) -> Option<Option<Letter>>
-    ensures { IfSome result (λ found. IfSome found (λ l. IsLetter post.now.0.tree post.now.1 l.posted l.note)) }
+    ensures { IfSome result (λ found. IfSome found
+        (λ l. IsLetter post.now.0.tree post.now.1 l.posted l.note)) }
 {
     let (found, claim) = post.turn(PRESENT, TAKEN);
     if found == PRESENT {
@@ -136,7 +139,8 @@ fn take_up(post: &Post) -> Option<Option<Letter>>
     if found == FREE { Some(None) } else { None }
 }
 
-/// Puts a letter back on the post from which it was taken. Only who took it up puts it back: so the post is as it was left then.
+/// Puts a letter back on the post from which it was taken. Only who took it up puts it back: so the
+/// post is as it was left then.
 fn put_back(post: &Post, letter: Letter)
     requires { IsLetter post.now.0.tree post.now.1 letter.posted letter.note }
 {

@@ -22,8 +22,9 @@ impl Fits for Resident {
     ghost fits = { λ place r. IsResident place.0.tree place.0.fit place.1 r.worker };
 }
 
-/// The place of one worker of one tree. The word of its chair is `FREE` while the worker is at home, `PRESENT` while it is away, and `MARKED` once it
-/// has resigned or is kept by the set, and so does not come back.
+/// The place of one worker of one tree. The word of its chair is `FREE` while the worker is at
+/// home, `PRESENT` while it is away, and `MARKED` once it has resigned or is kept by the set, and
+/// so does not come back.
 #[derive(Drop)]
 pub(crate) struct Seat {
     chair: Counted<Option<Resident>>,
@@ -56,8 +57,9 @@ impl Seat {
     }
 }
 
-/// A worker that sits on no seat: a member has it, or it is on its way to one or from one. It is not `Drop`: whoever has it hands it on, on each
-/// way out of each function, or takes it apart here. So no worker is lost by a way out that was not thought of.
+/// A worker that sits on no seat: a member has it, or it is on its way to one or from one. It is
+/// not `Drop`: whoever has it hands it on, on each way out of each function, or takes it apart
+/// here. So no worker is lost by a way out that was not thought of.
 pub(crate) struct Guest {
     pub(crate) worker: Worker,
 }
@@ -88,8 +90,9 @@ impl Guest {
         }
     }
 
-    /// The worker sits down on its seat. Only the worker that sits there leaves it empty, so that it is empty when that one comes home: where it were
-    /// not, which no clause can tell of a seat, the worker would end here.
+    /// The worker sits down on its seat. Only the worker that sits there leaves it empty, so that
+    /// it is empty when that one comes home: where it were not, which no clause can tell of a seat,
+    /// the worker would end here.
     pub(crate) fn sit_down(self, seat: &Seat)
         requires { IsResident seat.now.0.tree seat.now.0.fit seat.now.1 self.worker }
     {
@@ -164,7 +167,9 @@ pub(crate) fn unite(tree: &Tree, heir: Guest, leaver: Guest) -> Result<Guest, St
     requires heir { IsOf tree.now heir.worker.pass }
     requires leaver { IsOf tree.now leaver.worker.pass }
     ensures done { IfOk result (λ g. HasResigned heir.worker leaver.worker g.worker) }
-    ensures refused { IfErr result (λ s. IsReason leaver.worker s.reason × (s.heir.worker ≡ heir.worker) × (s.leaver.worker ≡ leaver.worker)) }
+    ensures refused { IfErr result
+        (λ s. IsReason leaver.worker s.reason × (s.heir.worker ≡ heir.worker)
+        × (s.leaver.worker ≡ leaver.worker)) }
 {
     let Guest { worker: heir } = heir;
     let Guest { worker: leaver } = leaver;

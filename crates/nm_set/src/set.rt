@@ -1,4 +1,5 @@
-//! Sets: a tree that gives out its workers as members, and is closed when all of them are at home, or with the set.
+//! Sets: a tree that gives out its workers as members, and is closed when all of them are at home,
+//! or with the set.
 ghost use Rattle.std.specs.Prelude.{◌≡◌, ◌<◌, ◌≤◌, ◌↔◌, ◌⊎◌, ◌++◌, ◌∷◌, [], true, false, length, IfOk, IfErr, IsErrOf, OnOk, OnErr};
 ghost use Rattle.std.specs.Arc.{arc_value};
 ghost use Rattle.nm_edge.specs.Layouts.{spaced};
@@ -47,8 +48,8 @@ impl Model for Set {
     ghost invariant = { λ s. AreOwn (site_of s.state).tree s.kept.items };
 }
 
-/// A set was not closed. Behind `Away` it is as it was; behind the others its workers may have been gathered, so that only `close` goes on. No worker is
-/// lost: those that it keeps are as they came.
+/// A set was not closed. Behind `Away` it is as it was; behind the others its workers may have been
+/// gathered, so that only `close` goes on. No worker is lost: those that it keeps are as they came.
 #[derive(Drop)]
 pub struct CloseError {
     pub reason: CloseReason,
@@ -62,15 +63,20 @@ pub struct KeepError {
 }
 
 impl Set {
-    /// The empty set, in a tree with room for `nodes` nodes, 7 to 268,435,456, for 1 to 64 workers, whose announcements have cache lines of their own; a
-    /// new node takes the lowest free slot: `Tree::spaced` of `nm_tree` with the lowest fit.
+    /// The empty set, in a tree with room for `nodes` nodes, 7 to 268,435,456, for 1 to 64 workers,
+    /// whose announcements have cache lines of their own; a new node takes the lowest free slot:
+    /// `Tree::spaced` of `nm_tree` with the lowest fit.
     ///
     /// `NoMemory`: nothing is kept.
     pub fn lowest(alloc: Global, nodes: u32, workers: u32) -> Result<Set, NewError>
-        ensures open { IfOk result (λ s. (s.closing ≡ false) × (s.kept ≡ []) × (s.board.layout ≡ spaced nodes workers)) }
+        ensures open { IfOk result
+            (λ s. (s.closing ≡ false) × (s.kept ≡ []) × (s.board.layout ≡ spaced nodes workers)) }
         ensures fit { IfOk result (λ s. s.fit ≡ Fit.Lowest) }
-        ensures nodes { IsErrOf result NewError.Nodes ↔ ((nodes < LEAST_NODES) ⊎ (MOST_SPACED_NODES < nodes)) }
-        ensures workers { IsErrOf result NewError.Workers ↔ ((LEAST_NODES ≤ nodes) × (nodes ≤ MOST_SPACED_NODES) × ((workers < 1) ⊎ (MOST_WORKERS < workers))) }
+        ensures nodes { IsErrOf result NewError.Nodes
+            ↔ ((nodes < LEAST_NODES) ⊎ (MOST_SPACED_NODES < nodes)) }
+        ensures workers { IsErrOf result NewError.Workers
+            ↔ ((LEAST_NODES ≤ nodes) × (nodes ≤ MOST_SPACED_NODES)
+            × ((workers < 1) ⊎ (MOST_WORKERS < workers))) }
     {
         let (tree, workers) = Tree::spaced(alloc, nodes, workers, Fit::Lowest)?;
         let site = Site {
@@ -80,12 +86,17 @@ impl Set {
         settle(alloc, site, workers)
     }
 
-    /// The same, but each worker looks for a free slot near those that it took and gave back last: `Tree::spaced` with the near one.
+    /// The same, but each worker looks for a free slot near those that it took and gave back last:
+    /// `Tree::spaced` with the near one.
     pub fn near(alloc: Global, nodes: u32, workers: u32) -> Result<Set, NewError>
-        ensures open { IfOk result (λ s. (s.closing ≡ false) × (s.kept ≡ []) × (s.board.layout ≡ spaced nodes workers)) }
+        ensures open { IfOk result
+            (λ s. (s.closing ≡ false) × (s.kept ≡ []) × (s.board.layout ≡ spaced nodes workers)) }
         ensures fit { IfOk result (λ s. s.fit ≡ Fit.Near) }
-        ensures nodes { IsErrOf result NewError.Nodes ↔ ((nodes < LEAST_NODES) ⊎ (MOST_SPACED_NODES < nodes)) }
-        ensures workers { IsErrOf result NewError.Workers ↔ ((LEAST_NODES ≤ nodes) × (nodes ≤ MOST_SPACED_NODES) × ((workers < 1) ⊎ (MOST_WORKERS < workers))) }
+        ensures nodes { IsErrOf result NewError.Nodes
+            ↔ ((nodes < LEAST_NODES) ⊎ (MOST_SPACED_NODES < nodes)) }
+        ensures workers { IsErrOf result NewError.Workers
+            ↔ ((LEAST_NODES ≤ nodes) × (nodes ≤ MOST_SPACED_NODES)
+            × ((workers < 1) ⊎ (MOST_WORKERS < workers))) }
     {
         let (tree, workers) = Tree::spaced(alloc, nodes, workers, Fit::Near)?;
         let site = Site {
@@ -99,8 +110,11 @@ impl Set {
     ///
     /// `Number`: the tree has no worker of that number. `Away`: the worker is not at home.
     pub fn member(&self, number: u32) -> Result<Member, MemberFault>
-        ensures member { IfOk result (λ m. (m.board ≡ self.now.board) × IsResident self.now.board self.now.fit number m.hand) }
-        ensures number { IsErrOf result MemberFault.Number ↔ ((self.now.closing ≡ false) × (self.now.board.layout.workers ≤ number)) }
+        ensures member { IfOk result
+            (λ m. (m.board ≡ self.now.board)
+            × IsResident self.now.board self.now.fit number m.hand) }
+        ensures number { IsErrOf result MemberFault.Number
+            ↔ ((self.now.closing ≡ false) × (self.now.board.layout.workers ≤ number)) }
         ensures closing { IsErrOf result MemberFault.Closing ↔ (self.now.closing ≡ true) }
     {
         let home = match &self.state {
@@ -120,12 +134,15 @@ impl Set {
         }
     }
 
-    /// Gives out a worker that is at home, with all that it held when it went home, where the caller names no number: the one with the least.
+    /// Gives out a worker that is at home, with all that it held when it went home, where the
+    /// caller names no number: the one with the least.
     ///
-    /// `Away`: each seat was empty when it was looked at, once each, one after the other. That no worker was at home at one moment is not said: one
-    /// may have gone home to a seat behind the look at it.
+    /// `Away`: each seat was empty when it was looked at, once each, one after the other. That no
+    /// worker was at home at one moment is not said: one may have gone home to a seat behind the
+    /// look at it.
     pub fn attach(&self) -> Result<Member, MemberFault>
-        ensures member { IfOk result (λ m. (m.board ≡ self.now.board) × IsAnyResident self.now.board self.now.fit m.hand) }
+        ensures member { IfOk result
+            (λ m. (m.board ≡ self.now.board) × IsAnyResident self.now.board self.now.fit m.hand) }
         ensures number { IsErrOf result MemberFault.Number → ⊥ }
         ensures closing { IsErrOf result MemberFault.Closing ↔ (self.now.closing ≡ true) }
     {
@@ -141,8 +158,9 @@ impl Set {
         }
     }
 
-    /// Whether `close` would miss the worker of a number, since a member has it, as its seat was found: so a program learns which member it has lost. One
-    /// that has resigned is with its heir, and one that the set keeps with the set: false.
+    /// Whether `close` would miss the worker of a number, since a member has it, as its seat was
+    /// found: so a program learns which member it has lost. One that has resigned is with its heir,
+    /// and one that the set keeps with the set: false.
     ///
     /// `Number`: the tree has no worker of that number. `Closing`: a close has gathered all.
     pub fn is_away(&self, number: u32) -> Result<bool, MemberFault>
@@ -157,14 +175,17 @@ impl Set {
         }
     }
 
-    /// The set keeps the worker of a member that has done its part, with all that it did, holds and has pending, for `close`. It is not at home, so
-    /// no `member` gives it out; what the member was answered, the report of the set then takes into account, as `close` says.
+    /// The set keeps the worker of a member that has done its part, with all that it did, holds and
+    /// has pending, for `close`. It is not at home, so no `member` gives it out; what the member
+    /// was answered, the report of the set then takes into account, as `close` says.
     ///
-    /// The member must be of this set, which nobody can test: so this call has a condition, and it is for a caller that proves something of the
-    /// report. Others close their members. A growth may be refused, and then nothing has changed.
+    /// The member must be of this set, which nobody can test: so this call has a condition, and it
+    /// is for a caller that proves something of the report. Others close their members. A growth
+    /// may be refused, and then nothing has changed.
     pub fn keep(&mut self, member: Member) -> Result<(), KeepError>
         requires own { member.board ≡ self.old.board }
-        ensures kept { OnOk result (self.new ≡ record self.old { kept = self.old.kept ++ member.hand ∷ [] }) }
+        ensures kept { OnOk result
+            (self.new ≡ record self.old { kept = self.old.kept ++ member.hand ∷ [] }) }
         ensures same { OnErr result (self.new ≡ self.old) }
         ensures refused { IfErr result (λ e. e.member ≡ member) }
     {
@@ -177,11 +198,13 @@ impl Set {
         }
     }
 
-    /// Ends the set when all its members are at home or kept, and tells what is left: `Tree::close` of `nm_tree`, over the workers that the set keeps and
-    /// those that are at home. A worker may be held or have a pending key.
+    /// Ends the set when all its members are at home or kept, and tells what is left: `Tree::close`
+    /// of `nm_tree`, over the workers that the set keeps and those that are at home. A worker may
+    /// be held or have a pending key.
     ///
-    /// `Away`: a member is neither closed nor kept; the set is as it was. `NotAll`, `NoMemory`: see `CloseReason`; the set keeps all workers that it
-    /// has gathered, and `close` can be called again.
+    /// `Away`: a member is neither closed nor kept; the set is as it was. `NotAll`, `NoMemory`: see
+    /// `CloseReason`; the set keeps all workers that it has gathered, and `close` can be called
+    /// again.
     pub fn close(self) -> Result<Report, CloseError>
         ensures closed { IfOk result (EndsSet self) }
         ensures refused { IfErr result (λ e. IsLeftOpen self e.reason e.set) }
@@ -217,12 +240,15 @@ fn settle(alloc: Global, site: Site, workers: Vec<Worker>) -> Result<Set, NewErr
     }
 }
 
-/// The tree, with the workers that were kept and then all that are at home, where no member has the home too.
+/// The tree, with the workers that were kept and then all that are at home, where no member has the
+/// home too.
 fn gather(home: Arc<Home, Global>, kept: Vec<Worker>) -> Result<(Site, Vec<Worker>), CloseError>
     requires own { AreOwn (arc_value home).tree kept.items }
     ensures site { IfOk result (λ g. g.0 ≡ arc_value home) }
-    ensures all { IfOk result (λ g. AreOwn (arc_value home).tree g.1.items × BeginsWith kept.items g.1.items) }
-    ensures reason { IfErr result (λ e. (e.reason ≡ CloseReason.Away) ⊎ (e.reason ≡ CloseReason.NoMemory)) }
+    ensures all { IfOk result (λ g. AreOwn (arc_value home).tree g.1.items
+        × BeginsWith kept.items g.1.items) }
+    ensures reason { IfErr result
+        (λ e. (e.reason ≡ CloseReason.Away) ⊎ (e.reason ≡ CloseReason.NoMemory)) }
     ensures refused { IfErr result (λ e. e.set ≡ open_set (arc_value home) kept.items) }
 {
     let mut workers = kept;
@@ -253,7 +279,8 @@ fn left_open(home: Arc<Home, Global>, kept: Vec<Worker>, reason: CloseReason) ->
 /// Closes a tree whose workers were gathered.
 pub(crate) fn end(site: Site, workers: Vec<Worker>) -> Result<Report, CloseError>
     requires own { AreOwn site.tree workers.items }
-    ensures closed { IfOk result (λ r. IsClosed site.tree workers.items r.queues.items r.keys.items r.free r.reached) }
+    ensures closed { IfOk result
+        (λ r. IsClosed site.tree workers.items r.queues.items r.keys.items r.free r.reached) }
     ensures refused { IfErr result (λ e. e.set ≡ closing_set site workers.items) }
     ensures reason { IfErr result (λ e. IsTreesReason site.tree workers.items e.reason) }
 {

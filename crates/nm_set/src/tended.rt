@@ -1,4 +1,5 @@
-//! Calls that tend the set: a call that has lost its tries is made again, a delete that has begun is finished, and retired nodes are collected.
+//! Calls that tend the set: a call that has lost its tries is made again, a delete that has begun
+//! is finished, and retired nodes are collected.
 ghost use Rattle.std.specs.Prelude.{◌≡◌, ◌≢◌, true, false, None, Err};
 ghost use Rattle.nm_tree.specs.declared.fault.Fault.TheVariants as lost;
 ghost use Rattle.nm_set.specs.Tended.{busy, Looks, Inserts, Deletes, Finishes, IsRelieved, IsTidied, InsertsOn, DeletesOn, TendsHas, TendsInsert, TendsDelete};
@@ -8,17 +9,19 @@ use crate::member::Member;
 use nm_edge::Key;
 use nm_tree::Fault as CallFault;
 
-/// What a call that tends the set may spend, and when it collects. Such a call takes at most 3 `rounds` + 5 rounds, each of at most
-/// `tries` * (4 `nodes` + 512) + 7 `nodes` + 2 `workers` + 12 steps.
+/// What a call that tends the set may spend, and when it collects. Such a call takes at most 3
+/// `rounds` + 5 rounds, each of at most `tries` * (4 `nodes` + 512) + 7 `nodes` + 2 `workers` + 12
+/// steps.
 #[repr(C)]
 #[derive(Clone, Copy, Debug, PartialEq, Eq)]
 pub struct Habit {
     /// The tries of each call of the tree. With fewer than 2 no remove answers true at once.
     pub tries: u32,
-    /// How often a call that has lost each of its tries is made again, and how often a delete that has begun is gone on with.
+    /// How often a call that has lost each of its tries is made again, and how often a delete that
+    /// has begun is gone on with.
     pub rounds: u32,
-    /// From how many waiting nodes on an insert or a remove first moves the epoch on and collects. While another worker stays pinned, each of these
-    /// looks for it again.
+    /// From how many waiting nodes on an insert or a remove first moves the epoch on and collects.
+    /// While another worker stays pinned, each of these looks for it again.
     pub collect_after: u32,
 }
 
@@ -60,11 +63,13 @@ fn is_unfinished(told: &Result<bool, Fault>) -> bool
 impl Member {
     /// Whether the set has the key.
     ///
-    /// A look-up that has lost each of its tries is made again, `rounds` times at most. Before the first one the delete of an earlier call is
-    /// finished, where one is pending, by `rounds` and one calls of `finish` at most. So nothing is pending behind an answer, and behind `Busy`.
+    /// A look-up that has lost each of its tries is made again, `rounds` times at most. Before the
+    /// first one the delete of an earlier call is finished, where one is pending, by `rounds` and
+    /// one calls of `finish` at most. So nothing is pending behind an answer, and behind `Busy`.
     ///
-    /// `Held`: the caller holds the worker; nothing has changed. `Pending`: the delete of the earlier call is not finished, and this call has done
-    /// nothing else. `Busy`: each of the look-ups has lost each of its tries, or there might be none.
+    /// `Held`: the caller holds the worker; nothing has changed. `Pending`: the delete of the
+    /// earlier call is not finished, and this call has done nothing else. `Busy`: each of the
+    /// look-ups has lost each of its tries, or there might be none.
     pub fn contains(&mut self, key: Key, habit: &Habit) -> Result<bool, Fault>
         ensures board { self.new.board ≡ self.old.board }
         ensures did { TendsHas self.old.board habit.now key self.old.hand self.new.hand result }
@@ -80,12 +85,15 @@ impl Member {
 
     /// Inserts a key, and answers whether it was not in the set.
     ///
-    /// As `contains` does, it finishes the delete of an earlier call, and makes an insert that has lost each of its tries again. Where
-    /// `collect_after` nodes or more wait in the queues that the worker holds, it first asks the epoch to move on, twice, and collects; so it does
-    /// where no slot was free, and then inserts once more. Nothing is pending behind an answer, `Busy`, `Full` and `NoMemory`.
+    /// As `contains` does, it finishes the delete of an earlier call, and makes an insert that has
+    /// lost each of its tries again. Where `collect_after` nodes or more wait in the queues that
+    /// the worker holds, it first asks the epoch to move on, twice, and collects; so it does where
+    /// no slot was free, and then inserts once more. Nothing is pending behind an answer, `Busy`,
+    /// `Full` and `NoMemory`.
     ///
-    /// `Held`, `Pending`, `Busy`: as `contains` tells them. `Full`: no slot was free for a new node, and none behind the collection either.
-    /// `NoMemory`: the room of a try was refused, and nothing of the insert stands but help given to others.
+    /// `Held`, `Pending`, `Busy`: as `contains` tells them. `Full`: no slot was free for a new
+    /// node, and none behind the collection either. `NoMemory`: the room of a try was refused, and
+    /// nothing of the insert stands but help given to others.
     pub fn add(&mut self, key: Key, habit: &Habit) -> Result<bool, Fault>
         ensures board { self.new.board ≡ self.old.board }
         ensures did { TendsInsert self.old.board habit.now key self.old.hand self.new.hand result }
@@ -100,15 +108,18 @@ impl Member {
         self.insert_on(key, habit)
     }
 
-    /// Deletes a key, and answers whether it was in the set: true once the leaf with the key is cut off.
+    /// Deletes a key, and answers whether it was in the set: true once the leaf with the key is cut
+    /// off.
     ///
-    /// As `contains` does, it finishes the delete of an earlier call, and makes a delete that has lost each of its tries again; one that has flagged
-    /// its leaf goes on by `rounds` and one calls of `finish` at most. It collects first where `add` does. Nothing is pending behind an answer,
-    /// `Busy` and `NoMemory`.
+    /// As `contains` does, it finishes the delete of an earlier call, and makes a delete that has
+    /// lost each of its tries again; one that has flagged its leaf goes on by `rounds` and one
+    /// calls of `finish` at most. It collects first where `add` does. Nothing is pending behind an
+    /// answer, `Busy` and `NoMemory`.
     ///
-    /// `Held`, `Pending`, `Busy`: as `contains` tells them. `NoMemory`: the room of a try was refused before the leaf was flagged. `Unfinished`: the
-    /// leaf is flagged, so that the key goes and no other delete of it answers true, and it is not known to be cut off: the key is pending, and the
-    /// next call that tends the set finishes it first.
+    /// `Held`, `Pending`, `Busy`: as `contains` tells them. `NoMemory`: the room of a try was
+    /// refused before the leaf was flagged. `Unfinished`: the leaf is flagged, so that the key goes
+    /// and no other delete of it answers true, and it is not known to be cut off: the key is
+    /// pending, and the next call that tends the set finishes it first.
     pub fn remove(&mut self, key: Key, habit: &Habit) -> Result<bool, Fault>
         ensures board { self.new.board ≡ self.old.board }
         ensures did { TendsDelete self.old.board habit.now key self.old.hand self.new.hand result }

@@ -1,4 +1,5 @@
--- The machine values of a place, what it holds, and what a call on the box of its owner passes. Assumes `Logic`.
+-- The machine values of a place, what it holds, and what a call on the box of its owner passes.
+-- Assumes `Logic`.
 use Rattle.std.proofs.Common.{◌≡◌, ℕ, List, [], ◌∷◌, ◌++◌, refl, subst, lit<}
 use seplogic.Ra.Ura.{Ura}
 use mir.Syntax.{Dict, Callee, impl, method, no_args, tnil, tcons, dnil}

@@ -1,4 +1,5 @@
--- What a call that looks several keys up tells and leaves: m is the worker before the call, n the worker after it, and o the outcome that is told.
+-- What a call that looks several keys up tells and leaves: m is the worker before the call, n the
+-- worker after it, and o the outcome that is told.
 use Rattle.std.specs.Prelude.{◌≡◌, ◌⊎◌, ℕ, Bool, true, false, List, map, All, Result, Ok, Err, IfOk, IfErr}
 use Rattle.nm_edge.specs.Keys.{IsKey}
 use Rattle.nm_calls.specs.declared.many.Query.{Query}
@@ -36,7 +37,8 @@ abbrev pub of_many : Result (Unit {0}) Fault → Outcome
 of_many (Ok u) = outcome.Done
 of_many (Err f) = of_fault f
 
--- the worker's call looks these keys up, and what it answers is told; its answers are written where it has answered, and else nothing is
+-- the worker's call looks these keys up, and what it answers is told; its answers are written where
+-- it has answered, and else nothing is
 pub record LooksUp (tries : ℕ) (old new : List Lookup) (m n : Seated) (o : Outcome) : Type 0 where
   pub asked : List Query
   pub answered : List Query
@@ -50,4 +52,5 @@ pub record LooksUp (tries : ℕ) (old new : List Lookup) (m n : Seated) (o : Out
 
 -- the one or the other
 abbrev pub DoesHasMany : ℕ → List Lookup → List Lookup → Seated → Seated → Outcome → Type 0
-DoesHasMany tries old new m n o = (IsUnasked old o × (n ≡ m) × (new ≡ old)) ⊎ LooksUp tries old new m n o
+DoesHasMany tries old new m n o =
+    (IsUnasked old o × (n ≡ m) × (new ≡ old)) ⊎ LooksUp tries old new m n o

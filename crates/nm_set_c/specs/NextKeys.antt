@@ -1,4 +1,5 @@
--- What a call for the next key tells and leaves: m is the worker before the call, n the worker after it, and o the outcome that is told.
+-- What a call for the next key tells and leaves: m is the worker before the call, n the worker
+-- after it, and o the outcome that is told.
 use Rattle.std.specs.Prelude.{◌≡◌, ◌⊎◌, ℕ, Option, Some, None, Result, Ok, Err}
 use Rattle.nm_edge.specs.Keys.{IsKey}
 use Rattle.nm_set.specs.declared.fault.Fault.{Fault}
@@ -30,4 +31,6 @@ pub record TellsNext (tries key old found : ℕ) (m n : Seated) (o : Outcome) : 
 
 -- a number that is no key is told as such, and all is as it was
 abbrev pub DoesNext : ℕ → ℕ → ℕ → ℕ → Seated → Seated → Outcome → Type 0
-DoesNext tries key old found m n o = (IsKey key × TellsNext tries key old found m n o) ⊎ ((IsKey key → ⊥) × (o ≡ outcome.Key) × (n ≡ m) × (found ≡ old))
+DoesNext tries key old found m n o =
+    (IsKey key × TellsNext tries key old found m n o)
+    ⊎ ((IsKey key → ⊥) × (o ≡ outcome.Key) × (n ≡ m) × (found ≡ old))

@@ -1,4 +1,5 @@
--- Notes that workers leave for each other: m is the worker before the call, n the worker after it, and o the outcome that is told.
+-- Notes that workers leave for each other: m is the worker before the call, n the worker after it,
+-- and o the outcome that is told.
 use Rattle.std.specs.Prelude.{◌≡◌, ℕ, Option, Some, None, Result, Ok, Err}
 use Rattle.nm_set.specs.Posts.{HasTally, Reads}
 use Rattle.nm_set.specs.Seats.{Seated}
@@ -26,7 +27,8 @@ IsTally (Some p) m = HasTally p m.hand.pass.view.log
 IsTally None m = Unit {0}
 
 -- `DoesPost`, `DoesRead`: a note is left, or heard, and its numbers are written
-pub record DoesPost (old_links links old_flags flags : ℕ) (m n : Seated) (o : Outcome) : Type 0 where
+pub record DoesPost (old_links links old_flags flags : ℕ) (m n : Seated)
+    (o : Outcome) : Type 0 where
   pub left : Option Posted
   pub told : o ≡ of_post left
   pub written : AreWritten left old_links links old_flags flags
@@ -46,7 +48,8 @@ abbrev pub heard_by : Result (Option Posted) PostFault → Option Posted
 heard_by (Ok heard) = heard
 heard_by (Err why) = None
 
-pub record DoesRead (number old_links links old_flags flags : ℕ) (m n : Seated) (o : Outcome) : Type 0 where
+pub record DoesRead (number old_links links old_flags flags : ℕ) (m n : Seated)
+    (o : Outcome) : Type 0 where
   pub answer : Result (Option Posted) PostFault
   pub told : o ≡ of_read answer
   pub written : AreWritten (heard_by answer) old_links links old_flags flags

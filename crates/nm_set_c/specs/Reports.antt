@@ -1,4 +1,5 @@
--- What calls on a report tell and leave: r is the report before the call, q the one after it, and o the outcome that is told.
+-- What calls on a report tell and leave: r is the report before the call, q the one after it, and o
+-- the outcome that is told.
 use Rattle.std.specs.Prelude.{◌≡◌, ◌≢◌, ◌⊎◌, ℕ, length, [], ◌∷◌, Option, Some, None, slice_get}
 use Rattle.nm_epoch.specs.declared.collecting.Entry.{Entry}
 use Rattle.nm_epoch.specs.declared.collecting.HeldQueue.{HeldQueue}
@@ -55,12 +56,15 @@ pub record HasQueue (worker : ℕ) (h : HeldQueue) (r q : Report) : Type 0 where
   pub free : q.free ≡ r.free
   pub reached : q.reached ≡ r.reached
 
--- the oldest node of the queue, which is left without it; no, where none waits; or there is no such queue
-abbrev pub IsTakenOut : Option HeldQueue → ℕ → Waiting → Waiting → Report → Report → Outcome → Type 0
+-- the oldest node of the queue, which is left without it; no, where none waits; or there is no such
+-- queue
+abbrev pub IsTakenOut : Option HeldQueue → ℕ → Waiting → Waiting → Report → Report → Outcome
+    → Type 0
 IsTakenOut None worker old new r q o = (o ≡ outcome.Number) × (new ≡ old) × (q ≡ r)
 IsTakenOut (Some h) worker old new r q o =
     ((o ≡ outcome.No) × (h.queue.items ≡ []) × (new ≡ old) × HasQueue worker h r q)
-    ⊎ ((o ≡ outcome.Yes) × (e : Entry) × (g : HeldQueue) × (h.queue.items ≡ e ∷ g.queue.items) × (g.origin ≡ h.origin) × IsEntry new e × HasQueue worker g r q)
+    ⊎ ((o ≡ outcome.Yes) × (e : Entry) × (g : HeldQueue) × (h.queue.items ≡ e ∷ g.queue.items)
+    × (g.origin ≡ h.origin) × IsEntry new e × HasQueue worker g r q)
 
 -- the oldest node of a queue is written and taken out; of the report nothing else changes
 abbrev pub TakesOldest : ℕ → Waiting → Waiting → Report → Report → Outcome → Type 0

@@ -33,31 +33,40 @@ pub record IsNewSet (f : Fit) (nodes workers : ℕ) (s : Standing) : Type 0 wher
   pub fit : s.fit ≡ f
   pub layout : s.board.layout ≡ spaced nodes workers
 
--- with sizes that fit, the handle has a new set, or memory was refused; else which size does not fit is told, the nodes first
+-- with sizes that fit, the handle has a new set, or memory was refused; else which size does not
+-- fit is told, the nodes first
 abbrev pub IsMade : Fit → ℕ → ℕ → Hold → Outcome → Type 0
 IsMade f nodes workers new o =
-    ((o ≡ outcome.Done) × HasNodes nodes × HasWorkers workers × (s : Standing) × (new ≡ Open (Set s)) × IsNewSet f nodes workers s)
+    ((o ≡ outcome.Done) × HasNodes nodes × HasWorkers workers × (s : Standing)
+    × (new ≡ Open (Set s)) × IsNewSet f nodes workers s)
     ⊎ (((o ≡ outcome.NoMemory) × HasNodes nodes × HasWorkers workers × (new ≡ Closed))
     ⊎ (((o ≡ outcome.Nodes) × (HasNodes nodes → ⊥) × (new ≡ Closed))
     ⊎ ((o ≡ outcome.Workers) × HasNodes nodes × (HasWorkers workers → ⊥) × (new ≡ Closed))))
 
 -- a closed handle owns a new set; one that is open already, or in use, is as it was
 abbrev pub MakesSet : Fit → ℕ → ℕ → Hold → Hold → Outcome → Type 0
-MakesSet f nodes workers old new o = CannotOpen old new o ⊎ ((old ≡ Closed) × IsMade f nodes workers new o)
+MakesSet f nodes workers old new o =
+    CannotOpen old new o ⊎ ((old ≡ Closed) × IsMade f nodes workers new o)
 
 -- ---- a worker of a set
 
--- what a set gives: a worker of its tree with that fit, of which this holds, or why not; which faults there are is up to the call
-abbrev pub Gives : (Standing → Hand → Type 0) → (Standing → MemberFault → Type 0) → Owner → Result Seated Outcome → Type 0
+-- what a set gives: a worker of its tree with that fit, of which this holds, or why not; which
+-- faults there are is up to the call
+abbrev pub Gives : (Standing → Hand → Type 0) → (Standing → MemberFault → Type 0) → Owner
+    → Result Seated Outcome → Type 0
 Gives which faults (Set s) (Ok m) = (s.closing ≡ false) × (m.board ≡ s.board) × which s m.hand
-Gives which faults (Set s) (Err o) = (why : MemberFault) × (o ≡ of_taking why) × ((why ≡ taking.Closing) ↔ (s.closing ≡ true)) × faults s why
+Gives which faults (Set s) (Err o) =
+    (why : MemberFault) × (o ≡ of_taking why) × ((why ≡ taking.Closing) ↔ (s.closing ≡ true))
+    × faults s why
 Gives which faults (Worker m) r = r ≡ Err outcome.Kind
 Gives which faults (Ended r) t = t ≡ Err outcome.Kind
 Gives which faults Nothing r = r ≡ Err outcome.Kind
 
--- the handle has what was given, or memory was refused and it is closed; or nothing was given, why is told, and it is closed
+-- the handle has what was given, or memory was refused and it is closed; or nothing was given, why
+-- is told, and it is closed
 abbrev pub Keeps : Result Seated Outcome → Hold → Outcome → Type 0
-Keeps (Ok m) new o = ((o ≡ outcome.Done) × (new ≡ Open (Worker m))) ⊎ ((o ≡ outcome.NoMemory) × (new ≡ Closed))
+Keeps (Ok m) new o = ((o ≡ outcome.Done) × (new ≡ Open (Worker m)))
+    ⊎ ((o ≡ outcome.NoMemory) × (new ≡ Closed))
 Keeps (Err why) new o = (o ≡ why) × (new ≡ Closed)
 
 -- by the handle of the worker, which must be closed, and that of the set, which stays as it is
@@ -65,7 +74,8 @@ abbrev pub Takes : (Owner → Result Seated Outcome → Type 0) → Hold → Hol
 Takes gives set old new o =
     CannotOpen old new o
     ⊎ (((old ≡ Closed) × (new ≡ Closed) × IsRefused set set o)
-    ⊎ ((old ≡ Closed) × (x : Owner) × (set ≡ Open x) × (r : Result Seated Outcome) × gives x r × Keeps r new o))
+    ⊎ ((old ≡ Closed) × (x : Owner) × (set ≡ Open x) × (r : Result Seated Outcome) × gives x r
+    × Keeps r new o))
 
 -- the worker of a number
 abbrev pub IsNumbered : ℕ → Standing → Hand → Type 0
@@ -74,11 +84,13 @@ IsNumbered number s w = IsResident s.board s.fit number w
 -- `NumberFaults`, `AnyFaults`: that the number is none of the tree's is told exactly of an open set
 -- where it is none; and not told where any worker is asked for
 abbrev pub NumberFaults : ℕ → Standing → MemberFault → Type 0
-NumberFaults number s why = (why ≡ taking.Number) ↔ ((s.closing ≡ false) × (s.board.layout.workers ≤ number))
+NumberFaults number s why = (why ≡ taking.Number)
+    ↔ ((s.closing ≡ false) × (s.board.layout.workers ≤ number))
 
 -- a closed handle owns the worker of that number
 abbrev pub TakesWorker : ℕ → Hold → Hold → Hold → Outcome → Type 0
-TakesWorker number set old new o = Takes (Gives (IsNumbered number) (NumberFaults number)) set old new o
+TakesWorker number set old new o =
+    Takes (Gives (IsNumbered number) (NumberFaults number)) set old new o
 
 -- any worker
 abbrev pub IsAny : Standing → Hand → Type 0
@@ -100,7 +112,8 @@ of_missing (Err why) = of_taking why
 
 -- what the set tells of the worker of a number
 abbrev pub MissesOwned : ℕ → Owner → Outcome → Type 0
-MissesOwned number (Set s) o = (r : Result Bool MemberFault) × (o ≡ of_missing r) × TellsAway s number r
+MissesOwned number (Set s) o =
+    (r : Result Bool MemberFault) × (o ≡ of_missing r) × TellsAway s number r
 MissesOwned number (Worker m) o = o ≡ outcome.Kind
 MissesOwned number (Ended r) o = o ≡ outcome.Kind
 MissesOwned number Nothing o = o ≡ outcome.Kind
@@ -115,7 +128,8 @@ Misses number set o = IsRefused set set o ⊎ ((x : Owner) × (set ≡ Open x) �
 abbrev pub IsEnded : Standing → Owner → Outcome → Type 0
 IsEnded s new o =
     ((o ≡ outcome.Done) × (r : Report) × (new ≡ Ended r) × EndsSet s r)
-    ⊎ ((why : CloseReason) × (o ≡ of_reason why) × (t : Standing) × (new ≡ Set t) × IsLeftOpen s why t)
+    ⊎ ((why : CloseReason) × (o ≡ of_reason why) × (t : Standing) × (new ≡ Set t)
+    × IsLeftOpen s why t)
 
 -- `EndsOwner`, `EndsHandle`: a set's handle owns its report, by what it owned and by the handle;
 -- anything else is refused
@@ -126,16 +140,19 @@ EndsOwner (Ended r) new o = (o ≡ outcome.Kind) × (new ≡ Ended r)
 EndsOwner Nothing new o = (o ≡ outcome.Kind) × (new ≡ Nothing)
 
 abbrev pub EndsHandle : Hold → Hold → Outcome → Type 0
-EndsHandle old new o = IsRefused old new o ⊎ ((x : Owner) × (old ≡ Open x) × (y : Owner) × (new ≡ Open y) × EndsOwner x y o)
+EndsHandle old new o = IsRefused old new o
+    ⊎ ((x : Owner) × (old ≡ Open x) × (y : Owner) × (new ≡ Open y) × EndsOwner x y o)
 
 -- ---- the end of a set by its last worker
 
--- there is the report; or the worker still, as it was; or why its tree was not closed is told, and there is the set, with the worker and those at home
+-- there is the report; or the worker still, as it was; or why its tree was not closed is told, and
+-- there is the set, with the worker and those at home
 abbrev pub IsEndedBy : Seated → Owner → Outcome → Type 0
 IsEndedBy m new o =
     ((o ≡ outcome.Done) × (r : Report) × (new ≡ Ended r) × EndsMember m r)
     ⊎ ((((o ≡ outcome.Away) ⊎ (o ≡ outcome.NoMemory)) × (new ≡ Worker m))
-    ⊎ ((why : Reason) × (o ≡ of_reason (told_reason why)) × (t : Standing) × (new ≡ Set t) × HasGathered (set_of m) why t))
+    ⊎ ((why : Reason) × (o ≡ of_reason (told_reason why)) × (t : Standing) × (new ≡ Set t)
+    × HasGathered (set_of m) why t))
 
 -- `EndsByOwner`, `EndsByHandle`: the handle of a set's last worker owns what stands there then, by
 -- what it owned and by the handle; anything else is refused
@@ -146,10 +163,12 @@ EndsByOwner (Ended r) new o = (o ≡ outcome.Kind) × (new ≡ Ended r)
 EndsByOwner Nothing new o = (o ≡ outcome.Kind) × (new ≡ Nothing)
 
 abbrev pub EndsByHandle : Hold → Hold → Outcome → Type 0
-EndsByHandle old new o = IsRefused old new o ⊎ ((x : Owner) × (old ≡ Open x) × (y : Owner) × (new ≡ Open y) × EndsByOwner x y o)
+EndsByHandle old new o = IsRefused old new o
+    ⊎ ((x : Owner) × (old ≡ Open x) × (y : Owner) × (new ≡ Open y) × EndsByOwner x y o)
 
 -- ---- what any handle owns
 
 -- it is given up: the handle is closed, and it told whether it was open
 abbrev pub GivesUp : Hold → Hold → Outcome → Type 0
-GivesUp old new o = IsRefused old new o ⊎ ((x : Owner) × (old ≡ Open x) × (o ≡ outcome.Done) × (new ≡ Closed))
+GivesUp old new o = IsRefused old new o
+    ⊎ ((x : Owner) × (old ≡ Open x) × (o ≡ outcome.Done) × (new ≡ Closed))

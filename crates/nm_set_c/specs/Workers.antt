@@ -1,4 +1,5 @@
--- What calls on a worker tell and leave: m is the worker before the call, n the worker after it, and o the outcome that is told.
+-- What calls on a worker tell and leave: m is the worker before the call, n the worker after it,
+-- and o the outcome that is told.
 use Rattle.std.specs.Prelude.{◌≡◌, ◌⊎◌, ℕ, Bool, option_map, Option, Some, None, Result, Ok, Err}
 use Rattle.nm_edge.specs.Keys.{IsKey}
 use Rattle.nm_epoch.specs.declared.answers.Advance.{Advance}
@@ -26,7 +27,8 @@ use Rattle.nm_set_c.specs.declared.workers.Ledger.{Ledger}
 -- ---- keys
 
 -- the worker's call answers, and what it answers is told
-pub record Answers (leaves : Hand → Hand → Result Bool Lost → Type 0) (m n : Seated) (o : Outcome) : Type 0 where
+pub record Answers (leaves : Hand → Hand → Result Bool Lost → Type 0) (m n : Seated)
+    (o : Outcome) : Type 0 where
   pub answer : Result Bool Fault
   pub told : o ≡ of_answer answer
   pub board : n.board ≡ m.board
@@ -57,7 +59,8 @@ pub record DoesFinish (tries : ℕ) (m n : Seated) (o : Outcome) : Type 0 where
 -- ---- keys, by calls that tend the set
 
 -- the member's call that tends the set answers, and what it answers is told
-pub record AnswersTending (does : Hand → Hand → Result Bool Fault → Type 0) (m n : Seated) (o : Outcome) : Type 0 where
+pub record AnswersTending (does : Hand → Hand → Result Bool Fault → Type 0) (m n : Seated)
+    (o : Outcome) : Type 0 where
   pub answer : Result Bool Fault
   pub told : o ≡ of_answer answer
   pub board : n.board ≡ m.board
@@ -126,7 +129,8 @@ advance_worker (advance.Held w e) old = w
 advance_worker (advance.Lost e) old = old
 advance_worker advance.Spent old = old
 
-pub record DoesAdvance (old_epoch epoch old_worker worker : ℕ) (m n : Seated) (o : Outcome) : Type 0 where
+pub record DoesAdvance (old_epoch epoch old_worker worker : ℕ) (m n : Seated)
+    (o : Outcome) : Type 0 where
   pub answer : Advance
   pub told : o ≡ of_advance answer
   pub epoch_told : epoch ≡ advance_epoch answer old_epoch
@@ -137,12 +141,14 @@ pub record DoesAdvance (old_epoch epoch old_worker worker : ℕ) (m n : Seated) 
 pub record DoesBehind (epoch mask : ℕ) (m n : Seated) (o : Outcome) : Type 0 where
   pub told : o ≡ outcome.Done
   pub board : n.board ≡ m.board
-  pub did : LeavesBehind m.board.layout.workers m.hand n.hand (record { epoch = epoch; mask = mask })
+  pub did : LeavesBehind m.board.layout.workers m.hand n.hand
+      (record { epoch = epoch; mask = mask })
 
 pub record DoesCollect (epoch freed : ℕ) (m n : Seated) (o : Outcome) : Type 0 where
   pub told : o ≡ outcome.Done
   pub board : n.board ≡ m.board
-  pub did : LeavesCollect m.board.layout.nodes m.hand n.hand (record { epoch = epoch; freed = freed })
+  pub did : LeavesCollect m.board.layout.nodes m.hand n.hand
+      (record { epoch = epoch; freed = freed })
 
 -- ---- what is read of a worker
 
@@ -166,7 +172,14 @@ abbrev pub pending_key : Hand → Option ℕ
 pending_key w = option_map (λ (u : Unfinished). u.key) w.pending
 
 abbrev pub counts_of : Ledger → Counts
-counts_of l = record { links = l.links; flags = l.flags; splices = l.splices; retired = l.retired; freed = l.freed; queued = l.queued }
+counts_of l = record {
+  links = l.links;
+  flags = l.flags;
+  splices = l.splices;
+  retired = l.retired;
+  freed = l.freed;
+  queued = l.queued;
+}
 
 pub record TellsLedger (ledger : Ledger) (m n : Seated) (o : Outcome) : Type 0 where
   pub told : o ≡ outcome.Done
@@ -175,8 +188,10 @@ pub record TellsLedger (ledger : Ledger) (m n : Seated) (o : Outcome) : Type 0 w
 
 -- ---- the end of another worker
 
--- the worker of that number, which was at home, has resigned to this one; or it has not, for the reason that is told, and this one is as it was
+-- the worker of that number, which was at home, has resigned to this one; or it has not, for the
+-- reason that is told, and this one is as it was
 abbrev pub DoesResign : ℕ → Seated → Seated → Outcome → Type 0
 DoesResign leaver m n o =
-    ((o ≡ outcome.Done) × (n.board ≡ m.board) × (w : Hand) × IsResident m.board m.hand.fit leaver w × HasResigned m.hand w n.hand)
+    ((o ≡ outcome.Done) × (n.board ≡ m.board) × (w : Hand) × IsResident m.board m.hand.fit leaver w
+    × HasResigned m.hand w n.hand)
     ⊎ ((why : ResignReason) × (o ≡ of_staying why) × IsStaying m leaver why × (n ≡ m))

@@ -10,8 +10,9 @@ use nm_set::EndError;
 use std::alloc::Global;
 use std::mem::replace;
 
-/// Ends the set when all its workers are closed: `Set::close` of `nm_set`. `Done`, and the handle owns the report from then on. `Away`, `NotAll`,
-/// `NoMemory`: the handle owns the set still. `Closed`, `InUse`, `Kind`.
+/// Ends the set when all its workers are closed: `Set::close` of `nm_set`. `Done`, and the handle
+/// owns the report from then on. `Away`, `NotAll`, `NoMemory`: the handle owns the set still.
+/// `Closed`, `InUse`, `Kind`.
 #[unsafe(no_mangle)]
 pub extern "C" fn nm_set_close(alloc: Global, set: &mut Handle) -> i32
     ensures { Tells (EndsHandle (held_by set.old) (held_by set.new)) result }
@@ -39,10 +40,12 @@ fn end(owner: Owner) -> (Owner, Outcome)
     }
 }
 
-/// Ends the set by its last worker, once its own handle was dropped and all its other workers are closed: `Member::end` of `nm_set`. `Done`, and the
-/// handle owns the report from then on, which is told of the tree on which this worker has worked, and of all that it has done. `Away`: the handle of
-/// the set or that of another worker is open still; `NoMemory`: both leave the worker as it was. `NotAll`, and `NoMemory` behind the point where all
-/// workers were gathered: the handle owns the set from then on, and only `nm_set_close` goes on. `Closed`, `InUse`, `Kind`.
+/// Ends the set by its last worker, once its own handle was dropped and all its other workers are
+/// closed: `Member::end` of `nm_set`. `Done`, and the handle owns the report from then on, which is
+/// told of the tree on which this worker has worked, and of all that it has done. `Away`: the
+/// handle of the set or that of another worker is open still; `NoMemory`: both leave the worker as
+/// it was. `NotAll`, and `NoMemory` behind the point where all workers were gathered: the handle
+/// owns the set from then on, and only `nm_set_close` goes on. `Closed`, `InUse`, `Kind`.
 #[unsafe(no_mangle)]
 pub extern "C" fn nm_worker_end(alloc: Global, worker: &mut Handle) -> i32
     ensures { Tells (EndsByHandle (held_by worker.old) (held_by worker.new)) result }

@@ -13,8 +13,8 @@ use crate::owner::Owner;
 use nm_set::{Advance, CallPinFault, Member, PinFault};
 use std::alloc::Global;
 
-/// Pins the epoch for the caller, until unpin, and writes it: `Member::pin` of `nm_set`. `Done`; `Busy`, with the epoch last read written;
-/// `Pending`, `Held`; `Closed`, `InUse`, `Kind`.
+/// Pins the epoch for the caller, until unpin, and writes it: `Member::pin` of `nm_set`. `Done`;
+/// `Busy`, with the epoch last read written; `Pending`, `Held`; `Closed`, `InUse`, `Kind`.
 #[unsafe(no_mangle)]
 pub extern "C" fn nm_worker_pin(
     alloc: Global,
@@ -22,7 +22,8 @@ pub extern "C" fn nm_worker_pin(
     tries: u32,
     epoch: &mut u64,
 ) -> i32
-    ensures { Tells (OfWorker (DoesPin tries epoch.old epoch.new) (epoch.new ≡ epoch.old) (held_by worker.old) (held_by worker.new)) result }
+    ensures { Tells (OfWorker (DoesPin tries epoch.old epoch.new) (epoch.new ≡ epoch.old)
+        (held_by worker.old) (held_by worker.new)) result }
 {
     let mut owner = match worker.claim(alloc) {
         Ok(owner) => owner,
@@ -53,7 +54,8 @@ fn pin(member: &mut Member, tries: u32, epoch: &mut u64) -> Outcome
     }
 }
 
-/// Ends the caller's pin: `Done`, or `NotHeld`: `Member::unpin` of `nm_set`. `Closed`, `InUse`, `Kind`.
+/// Ends the caller's pin: `Done`, or `NotHeld`: `Member::unpin` of `nm_set`. `Closed`, `InUse`,
+/// `Kind`.
 #[unsafe(no_mangle)]
 pub extern "C" fn nm_worker_unpin(alloc: Global, worker: &mut Handle) -> i32
     ensures { Tells (OfWorker (DoesUnpin) ⊤ (held_by worker.old) (held_by worker.new)) result }
@@ -79,8 +81,9 @@ fn unpin(member: &mut Member) -> Outcome
     }
 }
 
-/// Moves the epoch on by one, if no worker holds it back: `Member::advance` of `nm_set`. `Done` and the new epoch; `Behind`, that a worker is, with
-/// its number and the epoch that it announces; `Lost` and the epoch to which another worker moved it; `Spent`. `Closed`, `InUse`, `Kind`.
+/// Moves the epoch on by one, if no worker holds it back: `Member::advance` of `nm_set`. `Done` and
+/// the new epoch; `Behind`, that a worker is, with its number and the epoch that it announces;
+/// `Lost` and the epoch to which another worker moved it; `Spent`. `Closed`, `InUse`, `Kind`.
 #[unsafe(no_mangle)]
 pub extern "C" fn nm_worker_advance(
     alloc: Global,
@@ -88,7 +91,9 @@ pub extern "C" fn nm_worker_advance(
     epoch: &mut u64,
     behind: &mut u32,
 ) -> i32
-    ensures { Tells (OfWorker (DoesAdvance epoch.old epoch.new behind.old behind.new) ((epoch.new ≡ epoch.old) × (behind.new ≡ behind.old)) (held_by worker.old) (held_by worker.new)) result }
+    ensures { Tells (OfWorker (DoesAdvance epoch.old epoch.new behind.old behind.new)
+        ((epoch.new ≡ epoch.old) × (behind.new ≡ behind.old)) (held_by worker.old)
+        (held_by worker.new)) result }
 {
     let mut owner = match worker.claim(alloc) {
         Ok(owner) => owner,
@@ -126,8 +131,9 @@ fn advance(member: &mut Member, epoch: &mut u64, behind: &mut u32) -> Outcome
     }
 }
 
-/// Which workers hold the epoch back: `Done`, the epoch, and a mask with bit w set exactly where worker w was found announcing another one:
-/// `Member::behind` of `nm_set`. `Closed`, `InUse`, `Kind`.
+/// Which workers hold the epoch back: `Done`, the epoch, and a mask with bit w set exactly where
+/// worker w was found announcing another one: `Member::behind` of `nm_set`. `Closed`, `InUse`,
+/// `Kind`.
 #[unsafe(no_mangle)]
 pub extern "C" fn nm_worker_behind(
     alloc: Global,
@@ -135,7 +141,9 @@ pub extern "C" fn nm_worker_behind(
     epoch: &mut u64,
     mask: &mut u64,
 ) -> i32
-    ensures { Tells (OfWorker (DoesBehind epoch.new mask.new) ((epoch.new ≡ epoch.old) × (mask.new ≡ mask.old)) (held_by worker.old) (held_by worker.new)) result }
+    ensures { Tells (OfWorker (DoesBehind epoch.new mask.new)
+        ((epoch.new ≡ epoch.old) × (mask.new ≡ mask.old)) (held_by worker.old) (held_by worker.new))
+        result }
 {
     let mut owner = match worker.claim(alloc) {
         Ok(owner) => owner,
@@ -158,8 +166,8 @@ fn behind(member: &mut Member, epoch: &mut u64, mask: &mut u64) -> Outcome
     Outcome::Done
 }
 
-/// Frees what is ripe in the queues that the worker holds: `Done`, the epoch, and how many nodes were freed: `Member::collect` of `nm_set`.
-/// `Closed`, `InUse`, `Kind`.
+/// Frees what is ripe in the queues that the worker holds: `Done`, the epoch, and how many nodes
+/// were freed: `Member::collect` of `nm_set`. `Closed`, `InUse`, `Kind`.
 #[unsafe(no_mangle)]
 pub extern "C" fn nm_worker_collect(
     alloc: Global,
@@ -167,7 +175,9 @@ pub extern "C" fn nm_worker_collect(
     epoch: &mut u64,
     freed: &mut u64,
 ) -> i32
-    ensures { Tells (OfWorker (DoesCollect epoch.new freed.new) ((epoch.new ≡ epoch.old) × (freed.new ≡ freed.old)) (held_by worker.old) (held_by worker.new)) result }
+    ensures { Tells (OfWorker (DoesCollect epoch.new freed.new)
+        ((epoch.new ≡ epoch.old) × (freed.new ≡ freed.old)) (held_by worker.old)
+        (held_by worker.new)) result }
 {
     let mut owner = match worker.claim(alloc) {
         Ok(owner) => owner,

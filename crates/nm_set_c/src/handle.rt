@@ -10,14 +10,16 @@ use crate::word::swap;
 use std::alloc::Global;
 use std::hint::spin_loop;
 
-/// How often a call looks at a handle of a set that another call has, before it tells so: some tenths of a second, so that a thread which the system
-/// stops as it takes a worker is waited for.
+/// How often a call looks at a handle of a set that another call has, before it tells so: some
+/// tenths of a second, so that a thread which the system stops as it takes a worker is waited for.
 const LOOKS: u32 = 1 << 23;
 
-/// A handle for C: what it owns, and whether a call has it at this moment. Both words are zero while it is closed.
+/// A handle for C: what it owns, and whether a call has it at this moment. Both words are zero
+/// while it is closed.
 ///
-/// A call takes the handle by one atomic exchange before it reads what is owned, and gives it back by another one behind its last write. So of two
-/// threads that use one handle at once the second finds it in use, and touches nothing.
+/// A call takes the handle by one atomic exchange before it reads what is owned, and gives it back
+/// by another one behind its last write. So of two threads that use one handle at once the second
+/// finds it in use, and touches nothing.
 #[repr(C)]
 #[derive(Drop)]
 pub struct Handle {
@@ -36,7 +38,8 @@ impl Handle {
         }
     }
 
-    /// Takes what the handle owns for one call, which gives it back by `put` or ends it by `shut`: until then the handle is in use.
+    /// Takes what the handle owns for one call, which gives it back by `put` or ends it by `shut`:
+    /// until then the handle is in use.
     ///
     /// `Closed`, `InUse`: the handle is as it was.
     pub(crate) fn claim(&mut self, alloc: Global) -> Result<Box<Owner>, Outcome>
@@ -71,7 +74,8 @@ impl Handle {
         self.claim(alloc)
     }
 
-    /// Takes a handle that is closed for a call that opens it by `put`, or leaves it closed by `shut`.
+    /// Takes a handle that is closed for a call that opens it by `put`, or leaves it closed by
+    /// `shut`.
     ///
     /// `Open`, `InUse`: the handle is as it was.
     pub(crate) fn reserve(&mut self, alloc: Global) -> Result<(), Outcome>

@@ -14,10 +14,12 @@ use nm_edge::Key;
 use nm_set::Member;
 use std::alloc::Global;
 
-/// Whether the set has the key: `Member::has` of `nm_set`. `Yes`, `No`, `Key`, `Busy`, `Pending`, `Held`, `NoMemory`; `Closed`, `InUse`, `Kind`.
+/// Whether the set has the key: `Member::has` of `nm_set`. `Yes`, `No`, `Key`, `Busy`, `Pending`,
+/// `Held`, `NoMemory`; `Closed`, `InUse`, `Kind`.
 #[unsafe(no_mangle)]
 pub extern "C" fn nm_worker_has(alloc: Global, worker: &mut Handle, key: u64, tries: u32) -> i32
-    ensures { Tells (OfWorker (DoesHas tries key) ⊤ (held_by worker.old) (held_by worker.new)) result }
+    ensures { Tells (OfWorker (DoesHas tries key) ⊤ (held_by worker.old) (held_by worker.new))
+        result }
 {
     let mut owner = match worker.claim(alloc) {
         Ok(owner) => owner,
@@ -43,11 +45,12 @@ fn has(member: &mut Member, key: u64, tries: u32) -> Outcome
     }
 }
 
-/// Inserts a key: `Yes` where it was not in the set, `No` where it was: `Member::insert` of `nm_set`. `Key`, `Busy`, `Full`, `Pending`, `Held`,
-/// `NoMemory`; `Closed`, `InUse`, `Kind`.
+/// Inserts a key: `Yes` where it was not in the set, `No` where it was: `Member::insert` of
+/// `nm_set`. `Key`, `Busy`, `Full`, `Pending`, `Held`, `NoMemory`; `Closed`, `InUse`, `Kind`.
 #[unsafe(no_mangle)]
 pub extern "C" fn nm_worker_insert(alloc: Global, worker: &mut Handle, key: u64, tries: u32) -> i32
-    ensures { Tells (OfWorker (DoesInsert tries key) ⊤ (held_by worker.old) (held_by worker.new)) result }
+    ensures { Tells (OfWorker (DoesInsert tries key) ⊤ (held_by worker.old) (held_by worker.new))
+        result }
 {
     let mut owner = match worker.claim(alloc) {
         Ok(owner) => owner,
@@ -73,11 +76,12 @@ fn insert(member: &mut Member, key: u64, tries: u32) -> Outcome
     }
 }
 
-/// Deletes a key: `Yes` where it was in the set, `No` where it was not: `Member::delete` of `nm_set`. `Key`, `Busy`, `Unfinished`, `Pending`,
-/// `Held`, `NoMemory`; `Closed`, `InUse`, `Kind`.
+/// Deletes a key: `Yes` where it was in the set, `No` where it was not: `Member::delete` of
+/// `nm_set`. `Key`, `Busy`, `Unfinished`, `Pending`, `Held`, `NoMemory`; `Closed`, `InUse`, `Kind`.
 #[unsafe(no_mangle)]
 pub extern "C" fn nm_worker_delete(alloc: Global, worker: &mut Handle, key: u64, tries: u32) -> i32
-    ensures { Tells (OfWorker (DoesDelete tries key) ⊤ (held_by worker.old) (held_by worker.new)) result }
+    ensures { Tells (OfWorker (DoesDelete tries key) ⊤ (held_by worker.old) (held_by worker.new))
+        result }
 {
     let mut owner = match worker.claim(alloc) {
         Ok(owner) => owner,
@@ -103,11 +107,13 @@ fn delete(member: &mut Member, key: u64, tries: u32) -> Outcome
     }
 }
 
-/// Goes on with the delete that is pending: `Yes` where it has answered now, `No` where none is pending: `Member::finish` of `nm_set`.
-/// `Unfinished`: the key is pending still; `Closed`, `InUse`, `Kind`.
+/// Goes on with the delete that is pending: `Yes` where it has answered now, `No` where none is
+/// pending: `Member::finish` of `nm_set`. `Unfinished`: the key is pending still; `Closed`,
+/// `InUse`, `Kind`.
 #[unsafe(no_mangle)]
 pub extern "C" fn nm_worker_finish(alloc: Global, worker: &mut Handle, tries: u32) -> i32
-    ensures { Tells (OfWorker (DoesFinish tries) ⊤ (held_by worker.old) (held_by worker.new)) result }
+    ensures { Tells (OfWorker (DoesFinish tries) ⊤ (held_by worker.old) (held_by worker.new))
+        result }
 {
     let mut owner = match worker.claim(alloc) {
         Ok(owner) => owner,

@@ -26,8 +26,9 @@ pub struct Lookup {
     pub found: u64,
 }
 
-/// Whether the set has each of these keys: `Member::has_many` of `nm_set`. `Done`, and each `found` is written; `Key`, where one of the numbers is no
-/// key; `Busy`, `Pending`, `Held`, `NoMemory`; `Closed`, `InUse`, `Kind`.
+/// Whether the set has each of these keys: `Member::has_many` of `nm_set`. `Done`, and each `found`
+/// is written; `Key`, where one of the numbers is no key; `Busy`, `Pending`, `Held`, `NoMemory`;
+/// `Closed`, `InUse`, `Kind`.
 #[unsafe(no_mangle)]
 pub extern "C" fn nm_worker_has_many(
     alloc: Global,
@@ -35,7 +36,8 @@ pub extern "C" fn nm_worker_has_many(
     lookups: &mut [Lookup],
     tries: u32,
 ) -> i32
-    ensures { Tells (OfWorker (DoesHasMany tries lookups.old lookups.new) (lookups.new ≡ lookups.old) (held_by worker.old) (held_by worker.new)) result }
+    ensures { Tells (OfWorker (DoesHasMany tries lookups.old lookups.new)
+        (lookups.new ≡ lookups.old) (held_by worker.old) (held_by worker.new)) result }
 {
     let mut owner = match worker.claim(alloc) {
         Ok(owner) => owner,
@@ -68,7 +70,8 @@ fn has_many(alloc: Global, member: &mut Member, lookups: &mut [Lookup], tries: u
 /// Asks the worker for all of these.
 fn ask(member: &mut Member, queries: &mut Vec<Query>, tries: u32) -> Result<(), Fault>
     ensures board { member.new.board ≡ member.old.board }
-    ensures did { AskedMany member.old.board.layout.nodes tries queries.old.items queries.new.items member.old.hand member.new.hand result }
+    ensures did { AskedMany member.old.board.layout.nodes tries queries.old.items queries.new.items
+        member.old.hand member.new.hand result }
 {
     member.has_many(queries.as_mut_slice(), tries)
 }

@@ -14,8 +14,9 @@ use nm_edge::Key;
 use nm_set::Member;
 use std::alloc::Global;
 
-/// The least key of the set that is not below `key`: `Member::next` of `nm_set`. `Yes`, and it is written; `No`, where there is none; `Key`, `Busy`,
-/// `Pending`, `Held`, `NoMemory`; `Closed`, `InUse`, `Kind`.
+/// The least key of the set that is not below `key`: `Member::next` of `nm_set`. `Yes`, and it is
+/// written; `No`, where there is none; `Key`, `Busy`, `Pending`, `Held`, `NoMemory`; `Closed`,
+/// `InUse`, `Kind`.
 #[unsafe(no_mangle)]
 pub extern "C" fn nm_worker_next(
     alloc: Global,
@@ -24,7 +25,8 @@ pub extern "C" fn nm_worker_next(
     tries: u32,
     found: &mut u64,
 ) -> i32
-    ensures { Tells (OfWorker (DoesNext tries key found.old found.new) (found.new ≡ found.old) (held_by worker.old) (held_by worker.new)) result }
+    ensures { Tells (OfWorker (DoesNext tries key found.old found.new) (found.new ≡ found.old)
+        (held_by worker.old) (held_by worker.new)) result }
 {
     let mut owner = match worker.claim(alloc) {
         Ok(owner) => owner,

@@ -1,4 +1,5 @@
-//! Notes of what a worker has seen, by its handle: left on its post, and read by another worker of its set.
+//! Notes of what a worker has seen, by its handle: left on its post, and read by another worker of
+//! its set.
 #![tactic(auto, using(crate::proofs::Owners::refused_worker, crate::proofs::Owners::told_worker, crate::proofs::Owners::other_worker))]
 
 ghost use Rattle.std.specs.Prelude.{◌≡◌};
@@ -13,8 +14,9 @@ use crate::owner::Owner;
 use nm_set::{Member, PostFault};
 use std::alloc::Global;
 
-/// Leaves a note of all that the worker has seen, in place of its earlier one, and writes the links and the flags that it has won so far: `Done`:
-/// `Member::post` of `nm_set`. `Busy`: a reader has the earlier note at this moment. `Closed`, `InUse`, `Kind`.
+/// Leaves a note of all that the worker has seen, in place of its earlier one, and writes the links
+/// and the flags that it has won so far: `Done`: `Member::post` of `nm_set`. `Busy`: a reader has
+/// the earlier note at this moment. `Closed`, `InUse`, `Kind`.
 #[unsafe(no_mangle)]
 pub extern "C" fn nm_worker_post(
     alloc: Global,
@@ -22,7 +24,9 @@ pub extern "C" fn nm_worker_post(
     links: &mut u64,
     flags: &mut u64,
 ) -> i32
-    ensures { Tells (OfWorker (DoesPost links.old links.new flags.old flags.new) ((links.new ≡ links.old) × (flags.new ≡ flags.old)) (held_by worker.old) (held_by worker.new)) result }
+    ensures { Tells (OfWorker (DoesPost links.old links.new flags.old flags.new)
+        ((links.new ≡ links.old) × (flags.new ≡ flags.old)) (held_by worker.old)
+        (held_by worker.new)) result }
 {
     let mut owner = match worker.claim(alloc) {
         Ok(owner) => owner,
@@ -49,8 +53,9 @@ fn post(member: &mut Member, links: &mut u64, flags: &mut u64) -> Outcome
     }
 }
 
-/// Hears the note that the worker of a number has left, and writes the links and the flags that that one had won then: `Yes`; `No`, where it has left
-/// none: `Member::read` of `nm_set`. `Number`; `Busy`: another worker is at that note at this moment. `Closed`, `InUse`, `Kind`.
+/// Hears the note that the worker of a number has left, and writes the links and the flags that
+/// that one had won then: `Yes`; `No`, where it has left none: `Member::read` of `nm_set`.
+/// `Number`; `Busy`: another worker is at that note at this moment. `Closed`, `InUse`, `Kind`.
 #[unsafe(no_mangle)]
 pub extern "C" fn nm_worker_read(
     alloc: Global,
@@ -59,7 +64,9 @@ pub extern "C" fn nm_worker_read(
     links: &mut u64,
     flags: &mut u64,
 ) -> i32
-    ensures { Tells (OfWorker (DoesRead number links.old links.new flags.old flags.new) ((links.new ≡ links.old) × (flags.new ≡ flags.old)) (held_by worker.old) (held_by worker.new)) result }
+    ensures { Tells (OfWorker (DoesRead number links.old links.new flags.old flags.new)
+        ((links.new ≡ links.old) × (flags.new ≡ flags.old)) (held_by worker.old)
+        (held_by worker.new)) result }
 {
     let mut owner = match worker.claim(alloc) {
         Ok(owner) => owner,

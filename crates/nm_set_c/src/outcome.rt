@@ -4,7 +4,8 @@ ghost use Rattle.nm_set_c.specs.Outcomes.{code_of, of_bool, of_lost, of_fault, o
 
 use nm_set::{CallFault, CloseReason, Fault, MemberFault, NewError, ResignReason};
 
-/// What came of a call. Faults have left everything as it was, where their own line does not say more.
+/// What came of a call. Faults have left everything as it was, where their own line does not say
+/// more.
 #[derive(Clone, Copy, Debug, PartialEq, Eq)]
 pub enum Outcome {
     /// The answer is no.
@@ -29,7 +30,8 @@ pub enum Outcome {
     Workers,
     /// Memory was refused.
     NoMemory,
-    /// Each try was lost, or there might be none. Nothing of the call stands but help given to others.
+    /// Each try was lost, or there might be none. Nothing of the call stands but help given to
+    /// others.
     Busy,
     /// No slots were free for the two new nodes of an insert.
     Full,

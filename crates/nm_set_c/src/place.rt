@@ -10,7 +10,8 @@ use std::ptr::null_mut;
 
 /// One word, null while it is empty. Else it owns a set, a worker or a report, in a box.
 ///
-/// To drop a full one frees nothing, so each function takes what it owns first, and gives it back or drops that.
+/// To drop a full one frees nothing, so each function takes what it owns first, and gives it back
+/// or drops that.
 #[repr(C)]
 #[derive(Drop)]
 pub struct Place {
@@ -59,7 +60,8 @@ impl Place {
 
     /// Takes what the place owns, and leaves it empty.
     pub(crate) fn take(&mut self, alloc: Global) -> Option<Box<Owner>>
-        ensures taken { MatchOption result (self.old.held ≡ None) (λ b. self.old.held ≡ Some b.value) }
+        ensures taken { MatchOption result (self.old.held ≡ None)
+            (λ b. self.old.held ≡ Some b.value) }
         ensures left { self.new.held ≡ None }
     {
         std::mem::replace(self, Place::closed(alloc)).into_box()

@@ -25,7 +25,8 @@ pub struct Waiting {
     pub label: u64,
 }
 
-/// How many slots are free, and how many are reached from the root, the five fixed ones left out: `Done`. `Closed`, `InUse`, `Kind`.
+/// How many slots are free, and how many are reached from the root, the five fixed ones left out:
+/// `Done`. `Closed`, `InUse`, `Kind`.
 #[unsafe(no_mangle)]
 pub extern "C" fn nm_report_slots(
     alloc: Global,
@@ -33,7 +34,9 @@ pub extern "C" fn nm_report_slots(
     free: &mut u32,
     reached: &mut u32,
 ) -> i32
-    ensures { Tells (OfReport (TellsSlots free.new reached.new) ((free.new ≡ free.old) × (reached.new ≡ reached.old)) (held_by report.old) (held_by report.new)) result }
+    ensures { Tells (OfReport (TellsSlots free.new reached.new)
+        ((free.new ≡ free.old) × (reached.new ≡ reached.old)) (held_by report.old)
+        (held_by report.new)) result }
 {
     let mut owner = match report.claim(alloc) {
         Ok(owner) => owner,
@@ -58,7 +61,8 @@ fn slots(report: &mut Report, free: &mut u32, reached: &mut u32) -> Outcome
 /// How many keys the set had: `Done`. `Closed`, `InUse`, `Kind`.
 #[unsafe(no_mangle)]
 pub extern "C" fn nm_report_keys(alloc: Global, report: &mut Handle, count: &mut u64) -> i32
-    ensures { Tells (OfReport (TellsKeys count.new) (count.new ≡ count.old) (held_by report.old) (held_by report.new)) result }
+    ensures { Tells (OfReport (TellsKeys count.new) (count.new ≡ count.old) (held_by report.old)
+        (held_by report.new)) result }
 {
     let mut owner = match report.claim(alloc) {
         Ok(owner) => owner,
@@ -79,7 +83,8 @@ fn keys(report: &mut Report, count: &mut u64) -> Outcome
     Outcome::Done
 }
 
-/// The key at an index, from 0 on, by which the keys ascend: `Done`, or `Number` where there are no more. `Closed`, `InUse`, `Kind`.
+/// The key at an index, from 0 on, by which the keys ascend: `Done`, or `Number` where there are no
+/// more. `Closed`, `InUse`, `Kind`.
 #[unsafe(no_mangle)]
 pub extern "C" fn nm_report_key(
     alloc: Global,
@@ -87,7 +92,8 @@ pub extern "C" fn nm_report_key(
     index: u64,
     key: &mut u64,
 ) -> i32
-    ensures { Tells (OfReport (TellsKey index key.old key.new) (key.new ≡ key.old) (held_by report.old) (held_by report.new)) result }
+    ensures { Tells (OfReport (TellsKey index key.old key.new) (key.new ≡ key.old)
+        (held_by report.old) (held_by report.new)) result }
 {
     let mut owner = match report.claim(alloc) {
         Ok(owner) => owner,
@@ -113,7 +119,8 @@ fn key_at(report: &mut Report, index: u64, key: &mut u64) -> Outcome
     }
 }
 
-/// How many nodes wait of those that a worker's splices cut off: `Done`, or `Number` where there is no such worker. `Closed`, `InUse`, `Kind`.
+/// How many nodes wait of those that a worker's splices cut off: `Done`, or `Number` where there is
+/// no such worker. `Closed`, `InUse`, `Kind`.
 #[unsafe(no_mangle)]
 pub extern "C" fn nm_report_queue(
     alloc: Global,
@@ -121,7 +128,8 @@ pub extern "C" fn nm_report_queue(
     worker: u32,
     nodes: &mut u64,
 ) -> i32
-    ensures { Tells (OfReport (TellsQueue worker nodes.old nodes.new) (nodes.new ≡ nodes.old) (held_by report.old) (held_by report.new)) result }
+    ensures { Tells (OfReport (TellsQueue worker nodes.old nodes.new) (nodes.new ≡ nodes.old)
+        (held_by report.old) (held_by report.new)) result }
 {
     let mut owner = match report.claim(alloc) {
         Ok(owner) => owner,
@@ -147,8 +155,8 @@ fn queue_of(report: &mut Report, worker: u32, nodes: &mut u64) -> Outcome
     }
 }
 
-/// Takes the oldest node out of a worker's queue: `Yes` and the node, `No` where none waits any more, `Number` where there is no such worker.
-/// `Closed`, `InUse`, `Kind`.
+/// Takes the oldest node out of a worker's queue: `Yes` and the node, `No` where none waits any
+/// more, `Number` where there is no such worker. `Closed`, `InUse`, `Kind`.
 #[unsafe(no_mangle)]
 pub extern "C" fn nm_report_waiting(
     alloc: Global,
@@ -156,7 +164,8 @@ pub extern "C" fn nm_report_waiting(
     worker: u32,
     waiting: &mut Waiting,
 ) -> i32
-    ensures { Tells (OfReport (TakesOldest worker waiting.old waiting.new) (waiting.new ≡ waiting.old) (held_by report.old) (held_by report.new)) result }
+    ensures { Tells (OfReport (TakesOldest worker waiting.old waiting.new)
+        (waiting.new ≡ waiting.old) (held_by report.old) (held_by report.new)) result }
 {
     let mut owner = match report.claim(alloc) {
         Ok(owner) => owner,

@@ -12,8 +12,9 @@ use crate::owner::Owner;
 use nm_set::{Member, Set};
 use std::alloc::Global;
 
-/// Makes the empty set, in a tree with room for `nodes` nodes, 7 to 268,435,456, for 1 to 64 workers; a new node takes the lowest free slot:
-/// `Set::lowest` of `nm_set`. `Done`, and the handle is open; `Open`, `InUse`, `Nodes`, `Workers`, `NoMemory`.
+/// Makes the empty set, in a tree with room for `nodes` nodes, 7 to 268,435,456, for 1 to 64
+/// workers; a new node takes the lowest free slot: `Set::lowest` of `nm_set`. `Done`, and the
+/// handle is open; `Open`, `InUse`, `Nodes`, `Workers`, `NoMemory`.
 #[unsafe(no_mangle)]
 pub extern "C" fn nm_set_lowest(alloc: Global, set: &mut Handle, nodes: u32, workers: u32) -> i32
     ensures { Tells (MakesSet Lowest nodes workers (held_by set.old) (held_by set.new)) result }
@@ -31,7 +32,8 @@ pub extern "C" fn nm_set_lowest(alloc: Global, set: &mut Handle, nodes: u32, wor
     }
 }
 
-/// The same, but each worker looks for a free slot near those that it took and gave back last: `Set::near` of `nm_set`.
+/// The same, but each worker looks for a free slot near those that it took and gave back last:
+/// `Set::near` of `nm_set`.
 #[unsafe(no_mangle)]
 pub extern "C" fn nm_set_near(alloc: Global, set: &mut Handle, nodes: u32, workers: u32) -> i32
     ensures { Tells (MakesSet Near nodes workers (held_by set.old) (held_by set.new)) result }
@@ -52,7 +54,8 @@ pub extern "C" fn nm_set_near(alloc: Global, set: &mut Handle, nodes: u32, worke
 /// Opens a handle that was kept for that.
 fn open(alloc: Global, handle: &mut Handle, owner: Owner) -> Outcome
     requires closed { handle.old.place.held ≡ None }
-    ensures { ((result ≡ Outcome.Done) × (held_by handle.new ≡ Open owner)) ⊎ ((result ≡ Outcome.NoMemory) × (held_by handle.new ≡ Closed)) }
+    ensures { ((result ≡ Outcome.Done) × (held_by handle.new ≡ Open owner))
+        ⊎ ((result ≡ Outcome.NoMemory) × (held_by handle.new ≡ Closed)) }
 {
     match Box::new(alloc, owner) {
         Ok(made) => {
@@ -66,11 +69,13 @@ fn open(alloc: Global, handle: &mut Handle, owner: Owner) -> Outcome
     }
 }
 
-/// Takes the worker of a number, with all that it held when it went home: `Set::member` of `nm_set`. `Done`, and the worker's handle is open; `Open`,
-/// `InUse` (of the worker's handle), `Number`, `Away`, `Closing`, `Uncounted`, `NoMemory`; `Closed`, `InUse`, `Kind` (of the set's handle).
+/// Takes the worker of a number, with all that it held when it went home: `Set::member` of
+/// `nm_set`. `Done`, and the worker's handle is open; `Open`, `InUse` (of the worker's handle),
+/// `Number`, `Away`, `Closing`, `Uncounted`, `NoMemory`; `Closed`, `InUse`, `Kind` (of the set's
+/// handle).
 ///
-/// Several threads may take workers by one handle of a set: each has it for the moment of the take alone, and looks again for a while where it finds
-/// another one there.
+/// Several threads may take workers by one handle of a set: each has it for the moment of the take
+/// alone, and looks again for a while where it finds another one there.
 #[unsafe(no_mangle)]
 pub extern "C" fn nm_set_worker(
     alloc: Global,
@@ -78,7 +83,8 @@ pub extern "C" fn nm_set_worker(
     worker: &mut Handle,
     number: u32,
 ) -> i32
-    ensures worker { Tells (TakesWorker number (held_by set.old) (held_by worker.old) (held_by worker.new)) result }
+    ensures worker { Tells (TakesWorker number (held_by set.old) (held_by worker.old)
+        (held_by worker.new)) result }
     ensures set { held_by set.new ≡ held_by set.old }
 {
     match worker.reserve(alloc) {
@@ -123,11 +129,12 @@ fn keep(alloc: Global, worker: &mut Handle, given: Result<Member, Outcome>) -> O
     }
 }
 
-/// Takes a worker that is at home, where the caller names no number, the one with the least number: `Set::attach` of `nm_set`. Else as
-/// `nm_set_worker`, but no `Number`.
+/// Takes a worker that is at home, where the caller names no number, the one with the least number:
+/// `Set::attach` of `nm_set`. Else as `nm_set_worker`, but no `Number`.
 #[unsafe(no_mangle)]
 pub extern "C" fn nm_set_attach(alloc: Global, set: &mut Handle, worker: &mut Handle) -> i32
-    ensures worker { Tells (Attaches (held_by set.old) (held_by worker.old) (held_by worker.new)) result }
+    ensures worker { Tells (Attaches (held_by set.old) (held_by worker.old) (held_by worker.new))
+        result }
     ensures set { held_by set.new ≡ held_by set.old }
 {
     match worker.reserve(alloc) {
@@ -158,8 +165,8 @@ fn any_of(owner: &Owner) -> Result<Member, Outcome>
     }
 }
 
-/// Whether a close would miss the worker of a number, since a handle has it: `Yes`, `No`: `Set::is_away` of `nm_set`. `Number`, `Closing`; `Closed`,
-/// `InUse`, `Kind`.
+/// Whether a close would miss the worker of a number, since a handle has it: `Yes`, `No`:
+/// `Set::is_away` of `nm_set`. `Number`, `Closing`; `Closed`, `InUse`, `Kind`.
 #[unsafe(no_mangle)]
 pub extern "C" fn nm_set_away(alloc: Global, set: &mut Handle, number: u32) -> i32
     ensures told { Tells (Misses number (held_by set.old)) result }
@@ -186,8 +193,9 @@ fn is_away(owner: &Owner, number: u32) -> Outcome
     }
 }
 
-/// Gives up what a handle owns, and closes the handle: a worker goes home, and can be taken again; a set that was not closed is left to its
-/// workers, the last of which ends it; a report is forgotten. `Done`; `Closed`, `InUse`.
+/// Gives up what a handle owns, and closes the handle: a worker goes home, and can be taken again;
+/// a set that was not closed is left to its workers, the last of which ends it; a report is
+/// forgotten. `Done`; `Closed`, `InUse`.
 #[unsafe(no_mangle)]
 pub extern "C" fn nm_drop(alloc: Global, handle: &mut Handle) -> i32
     ensures { Tells (GivesUp (held_by handle.old) (held_by handle.new)) result }

@@ -14,7 +14,8 @@ use nm_edge::Key;
 use nm_set::{Habit, Member};
 use std::alloc::Global;
 
-/// Whether the set has the key: `Member::contains` of `nm_set`. `Yes`, `No`, `Key`, `Busy`, `Pending`, `Held`; `Closed`, `InUse`, `Kind`.
+/// Whether the set has the key: `Member::contains` of `nm_set`. `Yes`, `No`, `Key`, `Busy`,
+/// `Pending`, `Held`; `Closed`, `InUse`, `Kind`.
 #[unsafe(no_mangle)]
 pub extern "C" fn nm_worker_contains(
     alloc: Global,
@@ -22,7 +23,8 @@ pub extern "C" fn nm_worker_contains(
     key: u64,
     habit: &Habit,
 ) -> i32
-    ensures { Tells (OfWorker (DoesContains habit.now key) ⊤ (held_by worker.old) (held_by worker.new)) result }
+    ensures { Tells (OfWorker (DoesContains habit.now key) ⊤ (held_by worker.old)
+        (held_by worker.new)) result }
 {
     let mut owner = match worker.claim(alloc) {
         Ok(owner) => owner,
@@ -48,11 +50,12 @@ fn contains(member: &mut Member, key: u64, habit: &Habit) -> Outcome
     }
 }
 
-/// Inserts a key: `Yes` where it was not in the set, `No` where it was: `Member::add` of `nm_set`. `Key`, `Busy`, `Full`, `Pending`, `Held`,
-/// `NoMemory`; `Closed`, `InUse`, `Kind`.
+/// Inserts a key: `Yes` where it was not in the set, `No` where it was: `Member::add` of `nm_set`.
+/// `Key`, `Busy`, `Full`, `Pending`, `Held`, `NoMemory`; `Closed`, `InUse`, `Kind`.
 #[unsafe(no_mangle)]
 pub extern "C" fn nm_worker_add(alloc: Global, worker: &mut Handle, key: u64, habit: &Habit) -> i32
-    ensures { Tells (OfWorker (DoesAdd habit.now key) ⊤ (held_by worker.old) (held_by worker.new)) result }
+    ensures { Tells (OfWorker (DoesAdd habit.now key) ⊤ (held_by worker.old) (held_by worker.new))
+        result }
 {
     let mut owner = match worker.claim(alloc) {
         Ok(owner) => owner,
@@ -78,8 +81,8 @@ fn add(member: &mut Member, key: u64, habit: &Habit) -> Outcome
     }
 }
 
-/// Deletes a key: `Yes` where it was in the set, `No` where it was not: `Member::remove` of `nm_set`. `Key`, `Busy`, `Unfinished`, `Pending`,
-/// `Held`, `NoMemory`; `Closed`, `InUse`, `Kind`.
+/// Deletes a key: `Yes` where it was in the set, `No` where it was not: `Member::remove` of
+/// `nm_set`. `Key`, `Busy`, `Unfinished`, `Pending`, `Held`, `NoMemory`; `Closed`, `InUse`, `Kind`.
 #[unsafe(no_mangle)]
 pub extern "C" fn nm_worker_remove(
     alloc: Global,
@@ -87,7 +90,8 @@ pub extern "C" fn nm_worker_remove(
     key: u64,
     habit: &Habit,
 ) -> i32
-    ensures { Tells (OfWorker (DoesRemove habit.now key) ⊤ (held_by worker.old) (held_by worker.new)) result }
+    ensures { Tells (OfWorker (DoesRemove habit.now key) ⊤ (held_by worker.old)
+        (held_by worker.new)) result }
 {
     let mut owner = match worker.claim(alloc) {
         Ok(owner) => owner,

@@ -11,10 +11,12 @@ const MINOR: u32 = 1;
 
 const PATCH: u32 = 0;
 
-/// The version of the library that a program runs with, where the header tells the one that it was compiled with: `Done`.
+/// The version of the library that a program runs with, where the header tells the one that it was
+/// compiled with: `Done`.
 #[unsafe(no_mangle)]
 pub extern "C" fn nm_set_version(major: &mut u32, minor: &mut u32, patch: &mut u32) -> i32
-    ensures { Tells (λ o. (o ≡ Outcome.Done) × (major.new ≡ MAJOR) × (minor.new ≡ MINOR) × (patch.new ≡ PATCH)) result }
+    ensures { Tells (λ o. (o ≡ Outcome.Done) × (major.new ≡ MAJOR) × (minor.new ≡ MINOR)
+        × (patch.new ≡ PATCH)) result }
 {
     *major = MAJOR;
     *minor = MINOR;

@@ -37,7 +37,8 @@ pub struct Ledger {
 /// The worker's number: `Done`. `Closed`, `InUse`, `Kind`.
 #[unsafe(no_mangle)]
 pub extern "C" fn nm_worker_number(alloc: Global, worker: &mut Handle, number: &mut u32) -> i32
-    ensures { Tells (OfWorker (λ m. TellsNumber m.hand.pass.view.number number.new m) (number.new ≡ number.old) (held_by worker.old) (held_by worker.new)) result }
+    ensures { Tells (OfWorker (λ m. TellsNumber m.hand.pass.view.number number.new m)
+        (number.new ≡ number.old) (held_by worker.old) (held_by worker.new)) result }
 {
     let mut owner = match worker.claim(alloc) {
         Ok(owner) => owner,
@@ -61,7 +62,8 @@ fn number_of(member: &mut Member, number: &mut u32) -> Outcome
 /// How many nodes wait in the queues that the worker holds: `Done`. `Closed`, `InUse`, `Kind`.
 #[unsafe(no_mangle)]
 pub extern "C" fn nm_worker_queue_len(alloc: Global, worker: &mut Handle, nodes: &mut u64) -> i32
-    ensures { Tells (OfWorker (λ m. TellsNumber (waiting_in m.hand.queues) nodes.new m) (nodes.new ≡ nodes.old) (held_by worker.old) (held_by worker.new)) result }
+    ensures { Tells (OfWorker (λ m. TellsNumber (waiting_in m.hand.queues) nodes.new m)
+        (nodes.new ≡ nodes.old) (held_by worker.old) (held_by worker.new)) result }
 {
     let mut owner = match worker.claim(alloc) {
         Ok(owner) => owner,
@@ -76,16 +78,19 @@ pub extern "C" fn nm_worker_queue_len(alloc: Global, worker: &mut Handle, nodes:
 }
 
 fn queue_len(member: &mut Member, nodes: &mut u64) -> Outcome
-    ensures { TellsNumber (waiting_in member.old.hand.queues) nodes.new member.old member.new result }
+    ensures { TellsNumber (waiting_in member.old.hand.queues) nodes.new member.old member.new
+        result }
 {
     *nodes = member.queue_len();
     Outcome::Done
 }
 
-/// The key of a delete that has flagged its leaf and not answered yet: `Yes` and the key, or `No`. `Closed`, `InUse`, `Kind`.
+/// The key of a delete that has flagged its leaf and not answered yet: `Yes` and the key, or `No`.
+/// `Closed`, `InUse`, `Kind`.
 #[unsafe(no_mangle)]
 pub extern "C" fn nm_worker_pending(alloc: Global, worker: &mut Handle, key: &mut u64) -> i32
-    ensures { Tells (OfWorker (λ m. TellsOption (pending_key m.hand) key.old key.new m) (key.new ≡ key.old) (held_by worker.old) (held_by worker.new)) result }
+    ensures { Tells (OfWorker (λ m. TellsOption (pending_key m.hand) key.old key.new m)
+        (key.new ≡ key.old) (held_by worker.old) (held_by worker.new)) result }
 {
     let mut owner = match worker.claim(alloc) {
         Ok(owner) => owner,
@@ -100,7 +105,8 @@ pub extern "C" fn nm_worker_pending(alloc: Global, worker: &mut Handle, key: &mu
 }
 
 fn pending(member: &mut Member, key: &mut u64) -> Outcome
-    ensures { TellsOption (pending_key member.old.hand) key.old key.new member.old member.new result }
+    ensures { TellsOption (pending_key member.old.hand) key.old key.new member.old member.new
+        result }
 {
     match member.pending() {
         Some(pending) => {
@@ -111,10 +117,12 @@ fn pending(member: &mut Member, key: &mut u64) -> Outcome
     }
 }
 
-/// The epoch at which the worker is held, from a pin until its unpin: `Yes` and the epoch, or `No`. `Closed`, `InUse`, `Kind`.
+/// The epoch at which the worker is held, from a pin until its unpin: `Yes` and the epoch, or `No`.
+/// `Closed`, `InUse`, `Kind`.
 #[unsafe(no_mangle)]
 pub extern "C" fn nm_worker_held(alloc: Global, worker: &mut Handle, epoch: &mut u64) -> i32
-    ensures { Tells (OfWorker (λ m. TellsOption m.hand.held epoch.old epoch.new m) (epoch.new ≡ epoch.old) (held_by worker.old) (held_by worker.new)) result }
+    ensures { Tells (OfWorker (λ m. TellsOption m.hand.held epoch.old epoch.new m)
+        (epoch.new ≡ epoch.old) (held_by worker.old) (held_by worker.new)) result }
 {
     let mut owner = match worker.claim(alloc) {
         Ok(owner) => owner,
@@ -143,7 +151,8 @@ fn held(member: &mut Member, epoch: &mut u64) -> Outcome
 /// What this worker has won, and what became of what it cut off: `Done`. `Closed`, `InUse`, `Kind`.
 #[unsafe(no_mangle)]
 pub extern "C" fn nm_worker_ledger(alloc: Global, worker: &mut Handle, ledger: &mut Ledger) -> i32
-    ensures { Tells (OfWorker (TellsLedger ledger.new) (ledger.new ≡ ledger.old) (held_by worker.old) (held_by worker.new)) result }
+    ensures { Tells (OfWorker (TellsLedger ledger.new) (ledger.new ≡ ledger.old)
+        (held_by worker.old) (held_by worker.new)) result }
 {
     let mut owner = match worker.claim(alloc) {
         Ok(owner) => owner,
@@ -172,12 +181,14 @@ fn ledger_of(member: &mut Member, ledger: &mut Ledger) -> Outcome
     Outcome::Done
 }
 
-/// A worker that is at home resigns to this one, which then holds all that it held, and it never comes back: `Done`: `Member::resign` of `nm_set`.
-/// `Number`, `Away`, `Held` and `Pending` tell what stands against it. `Closed`, `InUse`, `Kind`.
+/// A worker that is at home resigns to this one, which then holds all that it held, and it never
+/// comes back: `Done`: `Member::resign` of `nm_set`. `Number`, `Away`, `Held` and `Pending` tell
+/// what stands against it. `Closed`, `InUse`, `Kind`.
 #[tactic(auto, using(crate::proofs::Owners::refused_worker, crate::proofs::Owners::owned_worker))]
 #[unsafe(no_mangle)]
 pub extern "C" fn nm_worker_resign(alloc: Global, worker: &mut Handle, leaver: u32) -> i32
-    ensures { Tells (OfWorker (DoesResign leaver) ⊤ (held_by worker.old) (held_by worker.new)) result }
+    ensures { Tells (OfWorker (DoesResign leaver) ⊤ (held_by worker.old) (held_by worker.new))
+        result }
 {
     let mut owner = match worker.claim(alloc) {
         Ok(owner) => owner,

@@ -1,4 +1,5 @@
--- An event that a worker's own log allows makes a run longer by one turn, and changes the one word that it touches.
+-- An event that a worker's own log allows makes a run longer by one turn, and changes the one word
+-- that it touches.
 use Rattle.std.proofs.Common.{◌≡◌, ℕ, zero, suc, get_or, true≢false, length, not, ◌≢◌, ne_eqb, ◌<◌, ◌≤◌, ◌==◌, Bool, true, false, ◌||◌, cond, List, [], ◌∷◌, ◌++◌, refl, sym, ap, ◌∙◌, subst, arith, Result, Ok}
 use Rattle.std.specs.Prelude.{Option, Some, None, IfSome, All, nat_le}
 use Rattle.std.proofs.lemmas.List.{append_assoc}

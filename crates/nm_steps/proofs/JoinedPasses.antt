@@ -34,7 +34,8 @@ module _ (it mid after : Seat Unit View) (number : ℕ) (brief : Brief) (w : Vie
   view : after.me.0 ≡ record (joined it.me.0 w) { past = now; heard = [] }
   view = both.is ∙ ap (λ (m : View × List (ℕ × Unit)). record m.0 { past = now; heard = [] }) me
 
-  -- the first pass with the joined view: its epochs are as they were, and its log ends with the join
+  -- the first pass with the joined view: its epochs are as they were, and its log ends with the
+  -- join
   pub joined_tied : HasSeen after.me.0 → Tied after number brief
   joined_tied seen =
       let drafts : (knowledge (joined it.me.0 w)).drafts ≡ (knowledge it.me.0).drafts =

@@ -202,7 +202,8 @@ module _ (L : Layout) (words : List ℕ) (views : List View) (id : ℕ) (v : Vie
 abbrev no_step : Step Unit
 no_step = step 0 0 0 0 none
 
--- THE STEP: an event that the own log allows may be made at its word, by any operation that leaves the word that the event leaves
+-- THE STEP: an event that the own log allows may be made at its word, by any operation that leaves
+-- the word that the event leaves
 pub allows : (L : Layout) (slots id : ℕ) (v : View) (e : Event) (i : ℕ) (f said : ℕ → ℕ)
     → v.spent ≡ false → v.layout ≡ L → i ≡ word L (touched v.number e) → May L v.number v.log e
     → ((n : ℕ) → f n ≡ left_word v.layout (knowledge v) e n)
@@ -235,7 +236,8 @@ allows L slots id v e i f said alive layout index may change tell s k homes at s
       word = subst (λ (x : Layout). is_store e ≡ false → said (slice_index s.words i) ≡ word_at x (after_in (ordered x) f.turns).state.memory (touched v.number e)) same f.word;
     }
 
--- what every operation asks of its caller, where the pass is ready; d is the event that the `Play` names
+-- what every operation asks of its caller, where the pass is ready; d is the event that the `Play`
+-- names
 asked : (L : Layout) (z : TableId) (slots : ℕ) (it : Seat Unit View) (d e : Event) (i : ℕ) (f said : ℕ → ℕ)
     → d ≡ e → IsReady (record { table = z; layout = L }) it e i → Changes e it.me.0 f
     → ((n : ℕ) → (told it.me.0.layout (knowledge it.me.0) (known_births it.me.0) e (said n) ≡ told it.me.0.layout (knowledge it.me.0) (known_births it.me.0) e n) × (is_store e ≡ false → said n ≡ n))

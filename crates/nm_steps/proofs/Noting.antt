@@ -1,4 +1,5 @@
--- What a step leaves of a pass: the epochs that it mirrors, and its log, which is a part of a run still.
+-- What a step leaves of a pass: the epochs that it mirrors, and its log, which is a part of a run
+-- still.
 use Rattle.std.proofs.Common.{◌≡◌, ◌≢◌, ℕ, ◌<◌, ◌≤◌, ◌+◌, ◌==◌, Bool, true, false, ◌||◌, cond, List, [], ◌∷◌, ◌++◌, refl, sym, ap, subst, ◌∙◌, eq-eqb, true≢false}
 use Rattle.std.specs.Prelude.{Option, Some, None, IfSome}
 use Rattle.nm_model.specs.Maps.{is_number}

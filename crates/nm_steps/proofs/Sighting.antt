@@ -1,4 +1,5 @@
--- What a sight answers: the epoch is no greater than the greatest, and the rest is told by the worker's own epochs.
+-- What a sight answers: the epoch is no greater than the greatest, and the rest is told by the
+-- worker's own epochs.
 use Rattle.std.proofs.Common.{◌≡◌, ◌==◌, ◌≤◌, ℕ, refl, subst, ap, ◌∙◌}
 use Rattle.std.specs.Prelude.{Option, Some, None, IfSome}
 use Rattle.std.proofs.lemmas.Bool.{cond_both}

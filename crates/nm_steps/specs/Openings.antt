@@ -8,7 +8,12 @@ use Rattle.nm_words.specs.Packing.{Fits, words_of}
 -- a memory of zeros: nothing was written yet, every slot is blank, and none is in the pool
 -- (Natarajan and Mittal, section 3.1)
 abbrev pub untouched : Layout → Memory
-untouched L = record { epoch = 0; notes = replicate L.workers None; nodes = replicate (L.nodes + 1) blank; pool = replicate (L.nodes + 1) false }
+untouched L = record {
+  epoch = 0;
+  notes = replicate L.workers None;
+  nodes = replicate (L.nodes + 1) blank;
+  pool = replicate (L.nodes + 1) false;
+}
 
 -- the fixed nodes stand, and no slot is in the pool (Natarajan and Mittal, section 3.1)
 abbrev pub planted : Layout → Memory
@@ -16,8 +21,10 @@ planted L = record (opening L) { pool = replicate (L.nodes + 1) false }
 
 -- the fixed nodes stand, and the slots from 6 on below s are in the pool
 abbrev pub given_below : Layout → ℕ → Memory
-given_below L s = record (opening L) { pool = replicate 6 false ++ (replicate (s - 6) true ++ replicate (L.nodes + 1 - s) false) }
+given_below L s = record (opening L)
+    { pool = replicate 6 false ++ (replicate (s - 6) true ++ replicate (L.nodes + 1 - s) false) }
 
 -- the words of any memory become those of it with this node, of the same birth
 abbrev pub Plants : Layout → List ℕ → List ℕ → ℕ → Node → Type 0
-Plants L before after s x = (m : Memory) → Fits L m → before ≡ words_of L m → (node m s).birth ≡ x.birth → after ≡ words_of L (put_node m s x)
+Plants L before after s x = (m : Memory) → Fits L m → before ≡ words_of L m
+    → (node m s).birth ≡ x.birth → after ≡ words_of L (put_node m s x)

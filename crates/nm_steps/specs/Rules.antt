@@ -1,4 +1,5 @@
--- The rule: the logs of all workers are a run of the ordered core, and the words are those of its memory.
+-- The rule: the logs of all workers are a run of the ordered core, and the words are those of its
+-- memory.
 use Rattle.std.specs.Prelude.{◌≡◌, ◌<◌, ℕ, Option, zero, suc, Bool, true, false, cond, eqb, ltb, List, [], ◌∷◌, ◌++◌, All}
 use Rattle.std.specs.List.{sum_by, count_by}
 use mathlib.Core.Option.{some}
@@ -69,8 +70,10 @@ pub record Runs (L : Layout) (words : List ℕ) (views : List View) : Type 0 whe
   pub turns : List (ℕ × Event)
   pub keys : All (λ t. HasKey t.1) turns
   pub words_are : words ≡ words_of L (after_in (ordered L) turns).state.memory
-  pub shown : (i : ℕ) (v : View) → get_elem? views i ≡ some v → IsShown L (trace_in (ordered L) turns) v
-  pub here : (i : ℕ) (v : View) → get_elem? views i ≡ some v → v.spent ≡ false → (knowledge v).gone ≡ false
+  pub shown : (i : ℕ) (v : View) → get_elem? views i ≡ some v
+      → IsShown L (trace_in (ordered L) turns) v
+  pub here : (i : ℕ) (v : View) → get_elem? views i ≡ some v → v.spent ≡ false
+      → (knowledge v).gone ≡ false
   pub once : (w : ℕ) → sum_by (stands w) views ≡ once_below w L.workers
   pub lags : (i : ℕ) (v : View) → get_elem? views i ≡ some v → LagsBehind turns v
 
@@ -83,8 +86,24 @@ numbers_from k (suc n) = held k [] ∷ numbers_from (suc k) n
 
 -- a view of these, the first of them its own
 abbrev pub viewing : Layout → List Held → View
-viewing L [] = record { layout = L; spent = true; number = 0; log = []; others = []; past = []; heard = [] }
-viewing L (h ∷ hs) = record { layout = L; spent = false; number = h.number; log = h.log; others = hs; past = []; heard = [] }
+viewing L [] = record {
+  layout = L;
+  spent = true;
+  number = 0;
+  log = [];
+  others = [];
+  past = [];
+  heard = [];
+}
+viewing L (h ∷ hs) = record {
+  layout = L;
+  spent = false;
+  number = h.number;
+  log = h.log;
+  others = hs;
+  past = [];
+  heard = [];
+}
 
 -- `everybody`, `own_alone`, `the_others`: a view that stands for all; for its own worker alone; for
 -- those that joined it alone
@@ -107,7 +126,10 @@ passing w = (Join w.number, Joined (knowledge w).ledgers)
 
 -- the first view stands for both, with the other's logs beside its own, and the join is in both
 abbrev pub joined : View → View → View
-joined v w = record v { log = v.log ++ passing w ∷ []; others = v.others ++ held w.number (w.log ++ passing w ∷ []) ∷ w.others }
+joined v w = record v {
+  log = v.log ++ passing w ∷ [];
+  others = v.others ++ held w.number (w.log ++ passing w ∷ []) ∷ w.others;
+}
 
 -- a view that has heard what another one has seen
 abbrev pub informed : View → View → View
@@ -123,9 +145,14 @@ noted_down v = record nobody { past = v.past }
 
 -- ---- a step
 
--- an event with the reply that the word n gives enters the log, and has been seen behind these turns
+-- an event with the reply that the word n gives enters the log, and has been seen behind these
+-- turns
 abbrev pub logged : View → Event → ℕ → List (ℕ × Event) → View
-logged v e n turns = record v { log = v.log ++ (e, told v.layout (knowledge v) (known_births v) e n) ∷ []; past = turns ++ (v.number, e) ∷ [] }
+logged v e n turns = record v {
+  log = v.log ++ (e, told v.layout (knowledge v) (known_births v) e n)
+      ∷ [];
+  past = turns ++ (v.number, e) ∷ [];
+}
 
 -- it is a store, which finds nothing
 abbrev pub is_store : Event → Bool
@@ -144,12 +171,15 @@ pub record IsFound (L : Layout) (w : ℕ) (log : List Entry) (e : Event) (n : �
   pub keys : All (λ t. HasKey t.1) turns
   pub is_part : log ≡ part_of w (trace_in (ordered L) turns)
   pub here : (known_by L w log).gone ≡ false
-  pub word : is_store e ≡ false → n ≡ word_at L (after_in (ordered L) turns).state.memory (touched w e)
+  pub word : is_store e ≡ false
+      → n ≡ word_at L (after_in (ordered L) turns).state.memory (touched w e)
 
--- what a step tells its seat: the event is in its log with its reply, in a run that goes on from the one that it had seen, and which it has now seen
--- with this turn at its end; and nothing else changed
+-- what a step tells its seat: the event is in its log with its reply, in a run that goes on from
+-- the one that it had seen, and which it has now seen with this turn at its end; and nothing else
+-- changed
 abbrev pub Did : Event → Step Unit → Me Unit View → ℕ → Me Unit View → Type 0
-Did e s me n after = (f : IsFound me.0.layout me.0.number me.0.log e n) × (after ≡ (logged me.0 e n f.turns, me.1)) × Extends f.turns me.0.past
+Did e s me n after = (f : IsFound me.0.layout me.0.number me.0.log e n)
+    × (after ≡ (logged me.0 e n f.turns, me.1)) × Extends f.turns me.0.past
 
 -- the rule that the table keeps between any two steps
 abbrev pub Kept : Layout → State Unit View → Type 0

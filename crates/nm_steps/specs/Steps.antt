@@ -48,7 +48,8 @@ IsAsLooked k m _ = Unit {0}
 -- raises was looked at
 pub record May (L : Layout) (w : ℕ) (log : List Entry) (e : Event) : Type 0 where
   pub looked : HasLooked (known_by L w log) e
-  pub allowed : (m : Memory) → IsAsLooked (known_by L w log) m e → refusal L m (known_by L w log) w e ≡ None
+  pub allowed : (m : Memory) → IsAsLooked (known_by L w log) m e
+      → refusal L m (known_by L w log) w e ≡ None
   pub ordered : disorder (known_by L w log) (search_after idle log) e ≡ None
   pub births : BirthsAreKnown L (known_by L w log) (births_by L w log) e
   pub key : HasKey e
@@ -99,7 +100,8 @@ Changes e v f = (n : ℕ) → f n ≡ left_word v.layout (knowledge v) e n
 -- a store, whose reply does not depend on the word that it finds
 pub record IsBlind (e : Event) (v : View) : Type 0 where
   pub store : is_store e ≡ true
-  pub same : (n m : ℕ) → told v.layout (knowledge v) (known_births v) e n ≡ told v.layout (knowledge v) (known_births v) e m
+  pub same : (n m : ℕ) → told v.layout (knowledge v) (known_births v) e n
+      ≡ told v.layout (knowledge v) (known_births v) e m
 
 -- ---- a pass and its steps
 
@@ -112,9 +114,11 @@ pub record IsOf (b : Board) (p : Stand) : Type 0 where
 abbrev pub MayStep : Stand → Event → Type 0
 MayStep p e = May p.view.layout p.view.number p.view.log e
 
--- what each step function ensures: this event with this reply is in the log, more has been seen, and nothing else changed
+-- what each step function ensures: this event with this reply is in the log, more has been seen,
+-- and nothing else changed
 abbrev pub Stepped : Stand → Stand → Event → Reply → Type 0
-Stepped p q e r = q ≡ record p { view = record p.view { log = p.view.log ++ (e, r) ∷ []; past = q.view.past } }
+Stepped p q e r = q ≡ record p
+    { view = record p.view { log = p.view.log ++ (e, r) ∷ []; past = q.view.past } }
 
 -- and what has been seen: a run that goes on from what had been, with this event as its last turn
 pub record HasTurn (p q : Stand) (e : Event) : Type 0 where
@@ -135,14 +139,16 @@ pub record IsInRun (p : Stand) : Type 0 where
   pub fits : IsLayout p.view.layout
   pub run : IsOfRun p.view.layout p.view.number p.view.log
 
--- what a view has seen is an ordered run, its log is its worker's part of that, and the worker has not resigned
+-- what a view has seen is an ordered run, its log is its worker's part of that, and the worker has
+-- not resigned
 pub record HasSeen (v : View) : Type 0 where
   pub worker : v.number < v.layout.workers
   pub keys : All (λ t. HasKey t.1) v.past
   pub is_part : part_of v.number (trace_in (ordered v.layout) v.past) ≡ v.log
   pub here : (knowledge v).gone ≡ false
 
--- what a pass keeps of its log: its number and epochs, that its private slots are ones of the pool's range, and that the run which it has seen has the log as its part
+-- what a pass keeps of its log: its number and epochs, that its private slots are ones of the
+-- pool's range, and that the run which it has seen has the log as its part
 pub record Tied (it : Seat Unit View) (number : ℕ) (brief : Brief) : Type 0 where
   pub empty : it.me.1 ≡ []
   pub alive : it.me.0.spent ≡ false
@@ -170,7 +176,8 @@ fresh_view L k = viewing L (held k [] ∷ [])
 -- passes of workers k and on, which have done nothing yet
 abbrev pub AreFresh : Board → ℕ → List Stand → Type 0
 AreFresh b k [] = Unit {0}
-AreFresh b k (p ∷ ps) = (p.table ≡ b.table) × (p.view ≡ fresh_view b.layout k) × AreFresh b (suc k) ps
+AreFresh b k (p ∷ ps) = (p.table ≡ b.table) × (p.view ≡ fresh_view b.layout k)
+    × AreFresh b (suc k) ps
 
 -- the first pass stands for both
 abbrev pub HasJoined : Stand → Stand → Stand → Type 0
@@ -193,7 +200,8 @@ IsNoteOf p note = note ≡ record { table = p.table; past = p.view.past }
 abbrev pub HasHeard : Stand → Stand → Type 0
 HasHeard p q = q ≡ record p { view = record p.view { past = q.view.past } }
 
--- some ordered run ends with these words, and goes on from what the view has seen; the view's logs are its parts, each once
+-- some ordered run ends with these words, and goes on from what the view has seen; the view's logs
+-- are its parts, each once
 pub record Ends (L : Layout) (words : List ℕ) (view : View) : Type 0 where
   pub fits : IsLayout L
   pub turns : List (ℕ × Event)
@@ -244,14 +252,16 @@ flag_reply v leaf r = exchange_reply (Flagged (known_as (known_births v) leaf)) 
 
 -- the nodes of the known way, each with the birth that is known
 abbrev pub nodes_cut : View → ℕ → ℕ → Side → List NodeId
-nodes_cut v s p keep = map (known_as (known_births v)) (cut_by (knowledge v) s (unwrap_or (way v.layout.nodes (knowledge v) s p) []) keep)
+nodes_cut v s p keep = map (known_as (known_births v))
+    (cut_by (knowledge v) s (unwrap_or (way v.layout.nodes (knowledge v) s p) []) keep)
 
 abbrev pub splice_reply : View → ℕ → ℕ → Side → Result Unit Edge → Reply
 splice_reply v s p keep r = exchange_reply (Cut (nodes_cut v s p keep)) r
 
 -- a private slot is returned, and the front of a queue is freed
 abbrev pub give_reply : View → ℕ → Reply
-give_reply v s = if is_private (knowledge v) s then Returned s else Freed (node_of (front_of (knowledge v).ledgers s))
+give_reply v s = if is_private (knowledge v) s then Returned s
+    else Freed (node_of (front_of (knowledge v).ledgers s))
 
 -- ---- what a pass mirrors
 
@@ -283,7 +293,8 @@ sight_of b e = if b.unlabelled then Labelled e else confirmed b.pin b.note e
 abbrev pub IsSight : Brief → Reply → Type 0
 IsSight b r = (e : ℕ) × (e ≤ last_number) × (r ≡ sight_of b e)
 
--- an advance is won where it found the epoch last read, and then the next one stands; else another was found
+-- an advance is won where it found the epoch last read, and then the next one stands; else another
+-- was found
 abbrev pub IsAdvanceFrom : Option ℕ → Result ℕ ℕ → Type 0
 IsAdvanceFrom seen (Ok e) = (s : ℕ) × (seen ≡ Some s) × (e ≡ s + 1)
 IsAdvanceFrom seen (Err e) = (s : ℕ) × (seen ≡ Some s) × (e ≢ s)

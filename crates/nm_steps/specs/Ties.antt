@@ -6,7 +6,8 @@ use Rattle.nm_steps.specs.declared.view.View.{View}
 use Rattle.nm_steps.specs.Rules.{stands, once_below, Extends}
 use Rattle.nm_steps.specs.Steps.{IsOfRun, HasSeen}
 
--- the seat is not spent, its own log is its worker's part of some run, the worker has not resigned, and each number stands once at most, below the number of workers
+-- the seat is not spent, its own log is its worker's part of some run, the worker has not resigned,
+-- and each number stands once at most, below the number of workers
 pub record StandsInRun (v : View) : Type 0 where
   pub alive : v.spent ≡ false
   pub fits : IsLayout v.layout
@@ -21,4 +22,5 @@ pub record HasSeenBoth (before after : View) : Type 0 where
 
 -- a read that changes no word, by which the seat sees the run so far, and which tells this
 abbrev pub Tells : Step Unit → Me Unit View → ℕ → Me Unit View → Type 0
-Tells s me n after = (after.1 ≡ me.1) × HasSeenBoth me.0 after.0 × HasSeen after.0 × StandsInRun after.0
+Tells s me n after = (after.1 ≡ me.1) × HasSeenBoth me.0 after.0 × HasSeen after.0
+    × StandsInRun after.0

@@ -11,7 +11,8 @@ use nm_edge::Key;
 use nm_model::{Brief, Event, Op};
 
 impl Shared {
-    /// Reads the global epoch. It confirms a pin where the worker announces that epoch, and labels a cut.
+    /// Reads the global epoch. It confirms a pin where the worker announces that epoch, and labels
+    /// a cut.
     pub fn sight(&self, pass: &mut Pass) -> Sighted
         requires { IsOf self.now pass.old }
         ensures step { Stepped pass.old pass.new Sight (sight_reply result) }
@@ -101,7 +102,8 @@ impl Shared {
         if found == 0 { None } else { Some(found - 1) }
     }
 
-    /// Moves the global epoch from the one last read to the next: the new one, or the one that was found in the place of the old.
+    /// Moves the global epoch from the one last read to the next: the new one, or the one that was
+    /// found in the place of the old.
     pub fn advance(&self, pass: &mut Pass) -> Result<u64, u64>
         requires own { IsOf self.now pass.old }
         requires may { MayStep pass.old Advance }

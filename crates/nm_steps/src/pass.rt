@@ -1,7 +1,7 @@
 //! The table with its layout, and one worker's seat with what its log says.
 //!
-//! The table is a private field: the modules below this one alone reach it, and every other one steps by the five operations of `acts`,
-//! each of which is one operation on one word.
+//! The table is a private field: the modules below this one alone reach it, and every other one
+//! steps by the five operations of `acts`, each of which is one operation on one word.
 ghost use Rattle.std.specs.Prelude.{◌≡◌, ◌<◌, ℕ, true};
 ghost use Rattle.nm_edge.specs.Layouts.{IsLayout};
 ghost use Rattle.nm_model.specs.Knowledge.{is_private};
@@ -105,8 +105,9 @@ impl Pass {
         self.brief.unlabelled
     }
 
-    /// The pass's log is its number's part of some run of an ordered core, and the worker has not resigned in it: each law of such parts
-    /// holds of it. One such run is what the pass has seen, so each law of runs holds of that. It does nothing.
+    /// The pass's log is its number's part of some run of an ordered core, and the worker has not
+    /// resigned in it: each law of such parts holds of it. One such run is what the pass has seen,
+    /// so each law of runs holds of that. It does nothing.
     pub fn is_of_a_run(&self)
         ensures run { IsOfRun self.now.view.layout self.now.view.number self.now.view.log }
         ensures seen { HasSeen self.now.view }
@@ -117,7 +118,8 @@ impl Pass {
 
     /// Each of the worker's private slots is one of 6 to nodes. It does nothing.
     pub fn holds_pooled_slots(&self)
-        ensures { (x : ℕ) → is_private (knowledge self.now.view) x ≡ true → IsPooled self.now.view.layout x }
+        ensures { (x : ℕ) → is_private (knowledge self.now.view) x ≡ true
+            → IsPooled self.now.view.layout x }
     {
         let _brief = self.brief;
     }

@@ -9,14 +9,16 @@ use crate::pass::{Pass, Shared};
 use nm_model::Event;
 
 impl Shared {
-    /// Takes a slot out of the pool; false where it was not there. One that is taken was in none of the worker's hands.
+    /// Takes a slot out of the pool; false where it was not there. One that is taken was in none of
+    /// the worker's hands.
     pub fn claim(&self, pass: &mut Pass, slot: u32) -> bool
         requires own { IsOf self.now pass.old }
         requires may { MayStep pass.old (Claim slot) }
         ensures step { Stepped pass.old pass.new (Claim slot) (claim_reply slot result) }
         ensures past { HasTurn pass.old pass.new (Claim slot) }
         ensures run { IsInRun pass.new }
-        ensures new { result ≡ true → IsNew pass.old.view.layout pass.old.view.number pass.old.view.log slot }
+        ensures new { result ≡ true
+            → IsNew pass.old.view.layout pass.old.view.number pass.old.view.log slot }
     {
         let place = self.layout.pool(slot);
         let word = place.word as usize;
@@ -25,7 +27,8 @@ impl Shared {
         found & place.mask != 0
     }
 
-    /// Puts a slot back into the pool: a private one, or the front of a queue that the worker holds.
+    /// Puts a slot back into the pool: a private one, or the front of a queue that the worker
+    /// holds.
     pub fn give(&self, pass: &mut Pass, slot: u32)
         requires own { IsOf self.now pass.old }
         requires may { MayStep pass.old (Give slot) }
@@ -38,8 +41,9 @@ impl Shared {
         self.mark(&mut pass.seat, word, place.mask, Event::Give(slot));
     }
 
-    /// Which slots of a slot's row of the pool seem to be there: a bit each, the lowest slot's first. It is no step, stands in no log, and tells nothing: who
-    /// looks for a free slot may begin where it shows one.
+    /// Which slots of a slot's row of the pool seem to be there: a bit each, the lowest slot's
+    /// first. It is no step, stands in no log, and tells nothing: who looks for a free slot may
+    /// begin where it shows one.
     pub fn peek_row(&self, slot: u32) -> u64
         requires { IsSlot self.now.layout slot }
     {

@@ -94,7 +94,8 @@ impl Shared {
         self.store(&mut pass.seat, word, birth, event);
     }
 
-    /// Puts a private internal node, over the leaf and a private leaf, in the place of the leaf. Lost: the edge that was found.
+    /// Puts a private internal node, over the leaf and a private leaf, in the place of the leaf.
+    /// Lost: the edge that was found.
     pub fn link(
         &self,
         pass: &mut Pass,
@@ -105,7 +106,8 @@ impl Shared {
     ) -> Result<(), Edge>
         requires own { IsOf self.now pass.old }
         requires may { MayStep pass.old (Link parent side leaf new) }
-        ensures step { Stepped pass.old pass.new (Link parent side leaf new) (link_reply pass.old.view new result) }
+        ensures step { Stepped pass.old pass.new (Link parent side leaf new)
+            (link_reply pass.old.view new result) }
         ensures past { HasTurn pass.old pass.new (Link parent side leaf new) }
         ensures run { IsInRun pass.new }
     {
@@ -124,7 +126,8 @@ impl Shared {
     pub fn flag(&self, pass: &mut Pass, parent: u32, side: Side, leaf: u32) -> Result<(), Edge>
         requires own { IsOf self.now pass.old }
         requires may { MayStep pass.old (Flag parent side leaf) }
-        ensures step { Stepped pass.old pass.new (Flag parent side leaf) (flag_reply pass.old.view leaf result) }
+        ensures step { Stepped pass.old pass.new (Flag parent side leaf)
+            (flag_reply pass.old.view leaf result) }
         ensures past { HasTurn pass.old pass.new (Flag parent side leaf) }
         ensures run { IsInRun pass.new }
     {
@@ -152,8 +155,9 @@ impl Shared {
         edge_of(self.mark(&mut pass.seat, word, TAG, event))
     }
 
-    /// Cuts the nodes from the successor down to the parent off, with the flagged leaf beside each: the ancestor's edge leads
-    /// from then on where the parent's edge on the side `keep` leads, which is known to be `kept`. Lost: the edge that was found.
+    /// Cuts the nodes from the successor down to the parent off, with the flagged leaf beside each:
+    /// the ancestor's edge leads from then on where the parent's edge on the side `keep` leads,
+    /// which is known to be `kept`. Lost: the edge that was found.
     pub fn splice(
         &self,
         pass: &mut Pass,
@@ -167,7 +171,8 @@ impl Shared {
         requires own { IsOf self.now pass.old }
         requires may { MayStep pass.old (Splice ancestor side successor parent keep) }
         requires kept { read (knowledge pass.old.view) parent keep ≡ Some kept }
-        ensures step { Stepped pass.old pass.new (Splice ancestor side successor parent keep) (splice_reply pass.old.view successor parent keep result) }
+        ensures step { Stepped pass.old pass.new (Splice ancestor side successor parent keep)
+            (splice_reply pass.old.view successor parent keep result) }
         ensures past { HasTurn pass.old pass.new (Splice ancestor side successor parent keep) }
         ensures run { IsInRun pass.new }
     {

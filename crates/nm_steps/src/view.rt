@@ -11,8 +11,8 @@ pub struct Held {
     pub log: LinkedList<(Event, Reply)>,
 }
 
-/// What a seat knows: the logs of the workers that it stands for, its own apart, the run so far as it was at its last step,
-/// and one of which a note told. No value of it is made.
+/// What a seat knows: the logs of the workers that it stands for, its own apart, the run so far as
+/// it was at its last step, and one of which a note told. No value of it is made.
 pub struct View {
     pub layout: Layout,
     pub spent: bool,

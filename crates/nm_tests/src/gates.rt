@@ -77,7 +77,8 @@ impl Gate for Turns {
 
     ghost stops = { λ gate worker line. ⊤ };
 
-    /// Waits until the other worker has asked for the line behind this one, and so has done the one before it.
+    /// Waits until the other worker has asked for the line behind this one, and so has done the one
+    /// before it.
     fn turn(&self, worker: u32, line: u32) -> bool {
         self.mark(worker, line);
         if line == 2 || LAST_TURN < line {
@@ -122,7 +123,8 @@ fn look_up<R: Threads + Wait + Sync>(
     stress(rt, alloc, &mut reader, writer, &UpTo { last })
 }
 
-/// The lines of each worker stand in their order; and of the workers that their gate stops the least is told, at its line, and nothing is written.
+/// The lines of each worker stand in their order; and of the workers that their gate stops the
+/// least is told, at its line, and nothing is written.
 #[test]
 fn the_least_worker_that_its_gate_stops_is_told(rt: HostRuntime) {
     let mut writer = Vec::new(rt.alloc());
@@ -138,7 +140,8 @@ fn the_least_worker_that_its_gate_stops_is_told(rt: HostRuntime) {
     assert!(&rt; writer.is_empty());
 }
 
-/// Worker 1 stays pinned over a delete and two moves of the epoch, and what was cut off is freed once it has left.
+/// Worker 1 stays pinned over a delete and two moves of the epoch, and what was cut off is freed
+/// once it has left.
 const IN_TURNS: &str = "\
 stress 2 16 2 4
 0 insert 5

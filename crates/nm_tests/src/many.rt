@@ -1,4 +1,5 @@
-//! Many workers, each in a thread of its own, over few keys. Under `rt try --test` it needs `--seconds 600`.
+//! Many workers, each in a thread of its own, over few keys. Under `rt try --test` it needs
+//! `--seconds 600`.
 use super::gates::Open;
 use nm_serial::stress;
 use std::alloc::{AllocError, Global};

@@ -136,7 +136,8 @@ fn a_set_closes_when_all_are_at_home(rt: HostRuntime) -> Result<(), Fail> {
     Ok(())
 }
 
-/// Members come from the least number on, tend their set, and are closed with it where it keeps them.
+/// Members come from the least number on, tend their set, and are closed with it where it keeps
+/// them.
 #[test]
 fn a_kept_member_is_closed_with_its_set(rt: HostRuntime) -> Result<(), Fail> {
     let mut set = Set::near(rt.alloc(), 256, 16)?;
@@ -195,7 +196,8 @@ fn the_last_member_ends_its_set(rt: HostRuntime) -> Result<(), Fail> {
     Ok(())
 }
 
-/// A note is heard as often as it is read, and tells what its worker had won; a set tells which workers a close would miss.
+/// A note is heard as often as it is read, and tells what its worker had won; a set tells which
+/// workers a close would miss.
 #[test]
 fn members_leave_notes(rt: HostRuntime) -> Result<(), Fail> {
     let set = Set::near(rt.alloc(), 64, 3)?;
@@ -263,7 +265,8 @@ fn stays(rt: &impl Abort, heir: Member, leaver: u32) -> (ResignReason, Member) {
     }
 }
 
-/// Inserts so many keys, each a step of two behind the other, and deletes every fourth. How many answers were true.
+/// Inserts so many keys, each a step of two behind the other, and deletes every fourth. How many
+/// answers were true.
 fn works(mut member: Member, from: u64, keys: u64) -> u64 {
     let mut done = 0u64;
     for turn in 0..keys {

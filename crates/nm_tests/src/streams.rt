@@ -1,4 +1,5 @@
-//! Readers and writers that fail at each call in turn, or give and take little at a time: `replay`, `serial` and `stress`.
+//! Readers and writers that fail at each call in turn, or give and take little at a time: `replay`,
+//! `serial` and `stress`.
 use super::gates::Open;
 use nm_files::fault::{Reason, RunFault};
 use nm_replay::replay;
@@ -211,7 +212,8 @@ fn failing_readers(rt: HostRuntime) {
     }
 }
 
-/// A writer fails at each of its calls in turn, the flush at the end too; and one that takes nothing has failed.
+/// A writer fails at each of its calls in turn, the flush at the end too; and one that takes
+/// nothing has failed.
 #[test]
 fn failing_writers(rt: HostRuntime) {
     for (command, input, output) in RUNS {

@@ -1,4 +1,5 @@
--- What a worker has in its hands is what its turns tell: what it claimed, and has neither given back nor linked since.
+-- What a worker has in its hands is what its turns tell: what it claimed, and has neither given
+-- back nor linked since.
 use Rattle.std.proofs.Common.{◌≡◌, ℕ, ◌==◌, eqb, Bool, true, false, cond, not, ◌||◌, ◌&&◌, List, [], ◌∷◌, refl, sym, ap, subst, ◌∙◌, true≢false}
 use Rattle.std.specs.Prelude.{Option, Some, None, is_some, unwrap_or, nat_lt, Result, Ok, Err}
 use Rattle.std.proofs.lemmas.Bool.{cond_both, eqb-true, eq-eqb, not-false}

@@ -1,4 +1,5 @@
--- The headline of every run: its sentences hold of each part of the turns, since a part of a run is a run.
+-- The headline of every run: its sentences hold of each part of the turns, since a part of a run is
+-- a run.
 use Rattle.std.proofs.Common.{◌≡◌, ℕ, ◌≤◌, List, ◌++◌, sym, subst}
 use Rattle.std.specs.Prelude.{Bool, All}
 use Rattle.nm_edge.specs.Layouts.{Layout, IsLayout}

@@ -1,4 +1,5 @@
--- Each ordered run has a history by its turns alone: the call of a worker's pin is what its turns tell.
+-- Each ordered run has a history by its turns alone: the call of a worker's pin is what its turns
+-- tell.
 use Rattle.std.proofs.Common.{◌≡◌, ℕ, zero, suc, ◌+◌, ◌<◌, ◌≤◌, ◌==◌, inl, inr, Bool, true, false, cond, ◌||◌, List, [], ◌∷◌, ◌++◌, length, append-nil, append_assoc, length-append, refl, sym, ap, subst, ◌∙◌, arith, true≢false}
 use Rattle.std.specs.Prelude.{Option, Some, None, nat_le, map, filter, slice_index_or, unwrap_or, Result, Ok, Err, All, AllPairs, Contains}
 use Rattle.std.specs.List.{list_any}

@@ -1,4 +1,5 @@
--- What was freed was freed behind its cut: so grace tells of each node that was freed that its readers have left since.
+-- What was freed was freed behind its cut: so grace tells of each node that was freed that its
+-- readers have left since.
 use Rattle.std.proofs.Common.{◌≡◌, ℕ, ◌+◌, Bool, cond, ◌||◌, List, [], ◌∷◌, ◌++◌, length, append_assoc, refl, sym, ap, subst, ◌∙◌, arith}
 use Rattle.std.specs.Prelude.{Result, Ok, Some, Contains, slice_get}
 use Rattle.std.specs.List.{list_any}

@@ -1,4 +1,5 @@
--- What is read is what the turns have written: a look or a scan is answered by the memory, which is that of the words.
+-- What is read is what the turns have written: a look or a scan is answered by the memory, which is
+-- that of the words.
 use Rattle.std.proofs.Common.{◌≡◌, ℕ, inl, inr, Bool, List, ◌∷◌, ◌++◌, refl, sym, ap, subst, ◌∙◌}
 use Rattle.std.specs.Prelude.{Option, Some, None, Result, Ok, Err}
 use Rattle.nm_edge.specs.Layouts.{Layout, IsLayout}

@@ -1,4 +1,5 @@
--- Runs of any core from its opening, and their parts: a part of the turns of a run is the turns of a part of its events.
+-- Runs of any core from its opening, and their parts: a part of the turns of a run is the turns of
+-- a part of its events.
 use Rattle.std.proofs.Common.{◌≡◌, ℕ, suc, ◌≤◌, Bool, true, false, List, [], ◌∷◌, ◌++◌, length, take, refl, sym, ap, subst, ◌∙◌, arith}
 use Rattle.std.specs.Prelude.{Option, Some, None}
 use Rattle.nm_edge.specs.Layouts.{Layout, IsLayout}

@@ -1,4 +1,5 @@
--- What a worker has touched stays for as long as it has not left: it knows the slot, and what is known is in no pool and in nobody's hands.
+-- What a worker has touched stays for as long as it has not left: it knows the slot, and what is
+-- known is in no pool and in nobody's hands.
 use Rattle.std.proofs.Common.{◌≡◌, ◌≢◌, ℕ, zero, suc, ◌==◌, inl, inr, ◌⊎◌, Bool, true, false, cond, not, ◌||◌, ◌&&◌, List, [], ◌∷◌, ◌++◌, refl, sym, ap, subst, ◌∙◌, arith, true≢false}
 use Rattle.std.specs.Prelude.{Option, Some, None, is_some, is_none, nat_lt, Result, Ok, Err, Contains, All}
 use Rattle.std.specs.List.{list_any}

@@ -1,4 +1,5 @@
--- The words at each moment are those that the turns have written: what an event writes is told by it and by its reply.
+-- The words at each moment are those that the turns have written: what an event writes is told by
+-- it and by its reply.
 use Rattle.std.proofs.Common.{◌≡◌, ℕ, ◌+◌, Bool, true, false, cond, List, [], ◌∷◌, set, refl, sym, ap, ◌∙◌}
 use Rattle.std.specs.Prelude.{Option, Some, None, Ok, Err}
 use Rattle.std.proofs.lemmas.List.{set-get_or}

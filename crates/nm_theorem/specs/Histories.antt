@@ -1,4 +1,5 @@
--- The second page: each run of an ordered core is a history of one plain set, by the words and the turns alone.
+-- The second page: each run of an ordered core is a history of one plain set, by the words and the
+-- turns alone.
 use Rattle.std.specs.Prelude.{◌≡◌, ℕ, ◌+◌, ◌<◌, ◌≤◌, ◌==◌, nat_le, Bool, true, List, [], ◌∷◌, ◌++◌, length, filter, AllPairs, Contains, Option, Some, None, Result, Ok, if◌then◌else◌}
 use Rattle.nm_edge.specs.Layouts.{Layout}
 use Rattle.nm_edge.specs.declared.edge.Side.{Side}
@@ -15,13 +16,15 @@ use Rattle.nm_model.specs.Headline.{words_after, slots_of}
 use Rattle.nm_order.specs.Intervals.{InSet}
 use Rattle.nm_order.specs.History.{Act, IsAmong, Replays, nothing, leaf_keys, HasInARow}
 
--- a call that has begun and is not answered: the number of the turn that confirmed its pin, its operation and its key
+-- a call that has begun and is not answered: the number of the turn that confirmed its pin, its
+-- operation and its key
 pub record Called : Type 0 where
   pub pin : ℕ
   pub op : Op
   pub key : ℕ
 
--- the call of a worker's pin after its turn of that number: a sight for a call that was answered `pinned` begins it, and it ends with that pin
+-- the call of a worker's pin after its turn of that number: a sight for a call that was answered
+-- `pinned` begins it, and it ends with that pin
 abbrev pub call_by : ℕ → Option Called → Event → Result Reply Refused → Option Called
 call_by n so_far (SightFor op key) (Ok (Pinned e)) = Some (record { pin = n; op = op; key = key })
 call_by n so_far Sight (Ok (Pinned e)) = None
@@ -73,7 +76,8 @@ pub record IsHistory (L : Layout) (turns : List Turn) (acts : List Act) : Type 0
   pub each : (a : Act) → IsAmong acts a → IsAct turns a
   pub answered : (before since : List Turn) (w : ℕ) (answer : Bool) (c : Called) → turns ≡ before ++ record { worker = w; event = LeaveWith answer; outcome = Ok Departed } ∷ since
       → call_of w before ≡ Some c → HasAct acts w c answer
-  -- a won link is the moment of its own insert, and a cut that of the deletes which flagged its leaves: they stand in a row, in the order of the cut
+  -- a won link is the moment of its own insert, and a cut that of the deletes which flagged its
+  -- leaves: they stand in a row, in the order of the cut
   pub links : (before since : List Turn) (w p : ℕ) (side : Side) (leaf new : ℕ) (n : NodeId) → turns ≡ before ++ record { worker = w; event = Link p side leaf new; outcome = Ok (Linked n) } ∷ since
       → (a : Act) × IsAmong acts a × (a.worker ≡ w) × (a.moment ≡ length before + 1) × IsInCall before Insert a
   pub cuts : (before since : List Turn) (t : Turn) (ns : List NodeId) → turns ≡ before ++ t ∷ since → t.outcome ≡ Ok (Cut ns)

@@ -1,4 +1,5 @@
--- A worked schedule, on which each sentence of the two pages has something to say; and sentences that are wrong of it.
+-- A worked schedule, on which each sentence of the two pages has something to say; and sentences
+-- that are wrong of it.
 use Rattle.std.specs.Prelude.{◌≡◌, ℕ, true, false, List, [], ◌∷◌, ◌++◌, map, take, Contains, Ok, Err}
 use Rattle.nm_edge.specs.Layouts.{Layout, dense}
 use Rattle.nm_edge.specs.declared.edge.Side.TheVariants.{Left, Right}
@@ -114,13 +115,15 @@ pub record IsWorked : Type 0 where
   -- it is a run of an ordered core
   pub is_run : trace_in (ordered layout) (map turn_of turns) ≡ turns
   -- the splice cuts node 6, and nothing but 6 and 7
-  pub cuts : (x : ℕ) → IsCut (words_after layout before) (after_turn (words_after layout before) cut) x → Contains (6 ∷ 7 ∷ []) x
+  pub cuts : (x : ℕ) → IsCut (words_after layout before)
+      (after_turn (words_after layout before) cut) x → Contains (6 ∷ 7 ∷ []) x
   pub cut_6 : IsCut (words_after layout before) (after_turn (words_after layout before) cut) 6
   -- node 6 is freed, and node 7 waits
   pub all : cuts_of 0 turns ≡ n 6 1 ∷ n 7 1 ∷ []
   pub freed : freed_of 0 turns ≡ n 6 1 ∷ []
   pub waits : waits_of 0 turns ≡ n 7 1 ∷ []
-  -- both workers are pinned at the cut; worker 1 leaves between the cut and the free, and not before the epoch was to move a second time
+  -- both workers are pinned at the cut; worker 1 leaves between the cut and the free, and not
+  -- before the epoch was to move a second time
   pub remover : IsPinned 0 before
   pub reader : IsPinned 1 before
   pub left : HasLeft 1 (waiting ++ leaving)
@@ -134,11 +137,18 @@ pub record IsWorked : Type 0 where
   pub in_hands : StandsAt layout turns 8 (InHands 0)
   pub let_go : StandsAt layout turns 6 (InHands 0) → ⊥
   -- each history of it has an act of the insert, and one of the delete
-  pub inserts : (acts : List Act) → IsHistory layout turns acts → HasAct acts 0 (record { pin = 5; op = Insert; key = 10 }) true
-  pub deletes : (acts : List Act) → IsHistory layout turns acts → HasAct acts 0 (record { pin = 22; op = Delete; key = 10 }) true
-  -- the one at the moment of the link, and the other at that of the cut, which is that of the key of its leaf alone
-  pub linked : (acts : List Act) → IsHistory layout turns acts → (a : Act) × IsAmong acts a × (a.worker ≡ 0) × (a.moment ≡ 20) × IsInCall (take 19 inserting) Insert a
-  pub deleted : (acts : List Act) → IsHistory layout turns acts → HasInARow acts (10 ∷ []) 33 (λ a. IsInCall before Delete a × HasFlagged before a.worker (n 6 1 ∷ n 7 1 ∷ []))
+  pub inserts : (acts : List Act) → IsHistory layout turns acts
+      → HasAct acts 0 (record { pin = 5; op = Insert; key = 10 }) true
+  pub deletes : (acts : List Act) → IsHistory layout turns acts
+      → HasAct acts 0 (record { pin = 22; op = Delete; key = 10 }) true
+  -- the one at the moment of the link, and the other at that of the cut, which is that of the key
+  -- of its leaf alone
+  pub linked : (acts : List Act) → IsHistory layout turns acts
+      → (a : Act) × IsAmong acts a × (a.worker ≡ 0) × (a.moment ≡ 20)
+      × IsInCall (take 19 inserting) Insert a
+  pub deleted : (acts : List Act) → IsHistory layout turns acts
+      → HasInARow acts (10 ∷ []) 33
+      (λ a. IsInCall before Delete a × HasFlagged before a.worker (n 6 1 ∷ n 7 1 ∷ []))
 
 -- ---- wrong sentences
 
@@ -148,29 +158,39 @@ WaitsComeFirst turns = (w : ℕ) → waits_of w turns ++ freed_of w turns ≡ cu
 
 -- that everybody leaves between a cut and a free, pinned or not
 abbrev pub EverybodyLeaves : List Turn → Type 0
-EverybodyLeaves turns = (before between rest : List Turn) (cut free : Turn) (n : NodeId) → turns ≡ before ++ cut ∷ (between ++ free ∷ rest) → Contains (nodes_cut_of cut.outcome) n → Contains (nodes_freed_of free.outcome) n → (w : ℕ) → HasLeft w between
+EverybodyLeaves turns = (before between rest : List Turn) (cut free : Turn) (n : NodeId)
+    → turns ≡ before ++ cut ∷ (between ++ free ∷ rest) → Contains (nodes_cut_of cut.outcome) n
+    → Contains (nodes_freed_of free.outcome) n → (w : ℕ) → HasLeft w between
 
 -- that nobody who was pinned at a cut is pinned two turns behind it
 abbrev pub LeavesAtOnce : List Turn → Type 0
-LeavesAtOnce turns = (before between rest : List Turn) (cut free : Turn) (n : NodeId) → turns ≡ before ++ cut ∷ (between ++ free ∷ rest) → Contains (nodes_cut_of cut.outcome) n → Contains (nodes_freed_of free.outcome) n → (w : ℕ) → IsPinned w before
+LeavesAtOnce turns = (before between rest : List Turn) (cut free : Turn) (n : NodeId)
+    → turns ≡ before ++ cut ∷ (between ++ free ∷ rest) → Contains (nodes_cut_of cut.outcome) n
+    → Contains (nodes_freed_of free.outcome) n → (w : ℕ) → IsPinned w before
     → HasLeft w (take 2 between)
 
 -- that a node is freed as soon as it is cut
 abbrev pub NothingWaits : List Turn → Type 0
-NothingWaits turns = (so_far rest : List Turn) (w : ℕ) → turns ≡ so_far ++ rest → waits_of w so_far ≡ []
+NothingWaits turns = (so_far rest : List Turn) (w : ℕ) → turns ≡ so_far ++ rest
+    → waits_of w so_far ≡ []
 
 -- that no turn cuts anything
 abbrev pub NothingIsCut : List Turn → Type 0
-NothingIsCut turns = (before rest : List Turn) (t : Turn) → turns ≡ before ++ t ∷ rest → nodes_cut_of t.outcome ≡ []
+NothingIsCut turns = (before rest : List Turn) (t : Turn) → turns ≡ before ++ t ∷ rest
+    → nodes_cut_of t.outcome ≡ []
 
 -- that a slot that was claimed stays in its worker's hands
 abbrev pub ClaimsStay : List Turn → Type 0
-ClaimsStay turns = (before rest : List Turn) (w s : ℕ) → turns ≡ before ++ record { worker = w; event = Claim s; outcome = Ok (Claimed s) } ∷ rest → StandsAt layout turns s (InHands w)
+ClaimsStay turns = (before rest : List Turn) (w s : ℕ)
+    → turns ≡ before ++ record { worker = w; event = Claim s; outcome = Ok (Claimed s) } ∷ rest
+    → StandsAt layout turns s (InHands w)
 
 -- that what a worker has touched stays for ever
 abbrev pub StaysForEver : List Turn → Type 0
-StaysForEver turns = (before between rest : List Turn) (t : Turn) (r : Reply) (x : ℕ) → turns ≡ before ++ t ∷ (between ++ rest) → t.outcome ≡ Ok r → Contains (touched t.event) x
-    → has_after (opening layout) t.worker x false before ≡ false → IsStill layout before (before ++ t ∷ between) x
+StaysForEver turns = (before between rest : List Turn) (t : Turn) (r : Reply) (x : ℕ)
+    → turns ≡ before ++ t ∷ (between ++ rest) → t.outcome ≡ Ok r → Contains (touched t.event) x
+    → has_after (opening layout) t.worker x false before ≡ false
+    → IsStill layout before (before ++ t ∷ between) x
 
 -- all of these are wrong
 pub record AreWrong : Type 0 where

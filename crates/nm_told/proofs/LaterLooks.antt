@@ -1,4 +1,5 @@
--- A look-up whose pin was confirmed behind a true insert is true, where no delete of the key has won a flag.
+-- A look-up whose pin was confirmed behind a true insert is true, where no delete of the key has
+-- won a flag.
 use Rattle.std.proofs.Common.{◌≡◌, ℕ, ◌<◌, ◌≤◌, Bool, true, List, [], ◌∷◌, ◌++◌, length, sym, ap, subst, ◌∙◌, arith}
 use Rattle.std.specs.Prelude.{All}
 use Rattle.nm_edge.specs.Layouts.{Layout}

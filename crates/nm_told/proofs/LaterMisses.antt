@@ -1,4 +1,5 @@
--- A look-up whose pin was confirmed behind a true delete is false, where no insert of the key has put it back.
+-- A look-up whose pin was confirmed behind a true delete is false, where no insert of the key has
+-- put it back.
 use Rattle.std.proofs.Common.{◌≡◌, inl, inr, ℕ, ◌<◌, ◌≤◌, Bool, true, false, not, List, [], ◌∷◌, ◌++◌, length, sym, ap, subst, ◌∙◌, arith}
 use Rattle.std.specs.Prelude.{All}
 use Rattle.nm_edge.specs.Layouts.{Layout}

@@ -1,4 +1,5 @@
--- A plain set keeps a key while no delete of it is answered true, and lacks one while no insert of it is.
+-- A plain set keeps a key while no delete of it is answered true, and lacks one while no insert of
+-- it is.
 use Rattle.std.proofs.Common.{◌≡◌, inl, inr, ℕ, Bool, true, false, List, [], ◌∷◌, ◌++◌, refl, sym, subst}
 use Rattle.nm_model.specs.declared.event.Op.{Op}
 use Rattle.nm_model.specs.declared.event.Op.TheVariants.{Has, Insert, Delete}

@@ -59,7 +59,8 @@ in_runs_without L enough k w u start first second last e f keys log s log' answe
     let pin = h.pinned in
     misses L enough last keys k start none w u answer (answered_on L last first w Delete k true (goes_on_through last second first f e) i) s.pinned (answered_in L second last u log' Has k answer h) (omega (arith, pin, a, b))
 
--- one has inserted the key, behind all that it had seen as start; of two, before: it has seen what one had seen; after: it has looked the key up
+-- one has inserted the key, behind all that it had seen as start; of two, before: it has seen what
+-- one had seen; after: it has looked the key up
 module _ (k : ℕ) (start one before after : Stand) (fits : IsLayout after.view.layout) (layout : one.view.layout ≡ after.view.layout) (inserted : AnswerHasMoment start one Insert k true)
     (told : HasSeenAllOf before one) (answer : Bool) (answered : AnswerHasMoment before after Has k answer) (grown : HasSeenAllOf after before) (seen : HasSeen after.view) (none : NoneFlagged after.view.layout after.view.past k) where
   pub told_finds : answer ≡ true
@@ -68,7 +69,8 @@ module _ (k : ℕ) (start one before after : Stand) (fits : IsLayout after.view.
       in_runs after.view.layout (let least = fits.least in omega arith) k one.view.number after.view.number one.view.past before.view.past after.view.past told.goes_on grown.goes_on seen.keys
       (subst (λ (l : Layout). IsAnsweredIn l one.view.past one.view.number Insert k true) layout insert) answered.log answer answered.since none
 
--- one has deleted the key, behind all that it had seen as start; of two, before: it has seen what one had seen; after: it has looked the key up
+-- one has deleted the key, behind all that it had seen as start; of two, before: it has seen what
+-- one had seen; after: it has looked the key up
 module _ (k : ℕ) (start one before after : Stand) (fits : IsLayout after.view.layout) (layout : one.view.layout ≡ after.view.layout) (deleted : AnswerHasMoment start one Delete k true)
     (told : HasSeenAllOf before one) (answer : Bool) (answered : AnswerHasMoment before after Has k answer) (grown : HasSeenAllOf after before) (seen : HasSeen after.view)
     (none : NoneInserted after.view.layout start.view.past after.view.past k) where

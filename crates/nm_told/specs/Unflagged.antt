@@ -6,4 +6,5 @@ use Rattle.nm_order.specs.Exchanges.{HasFlagged}
 
 -- at no moment of the run has somebody's call to delete the key won a flag
 abbrev pub NoneFlagged : Layout → List (ℕ × Event) → ℕ → Type 0
-NoneFlagged L turns k = (before since : List (ℕ × Event)) (w : ℕ) → turns ≡ before ++ since → HasFlagged L before w k → ⊥
+NoneFlagged L turns k = (before since : List (ℕ × Event)) (w : ℕ) → turns ≡ before ++ since
+    → HasFlagged L before w k → ⊥

@@ -1,4 +1,5 @@
-//! What one worker inserted another one finds, once it was told; and what the report of a set tells.
+//! What one worker inserted another one finds, once it was told; and what the report of a set
+//! tells.
 #![tactic(auto)]
 
 ghost use Rattle.std.specs.Prelude.{◌≡◌, ◌≢◌, ◌≤◌, true, [], length, IfOk, IfSome};
@@ -37,8 +38,9 @@ pub fn tell(shared: &Shared, from: &mut Pass, to: &mut Pass)
     shared.hear(to, note);
 }
 
-/// Looks a key up, by a worker that was told of an insert of it by another one, which was answered true. It is found, unless a delete of it has won a
-/// flag in the run that the worker has then seen.
+/// Looks a key up, by a worker that was told of an insert of it by another one, which was answered
+/// true. It is found, unless a delete of it has won a flag in the run that the worker has then
+/// seen.
 pub fn look_behind(
     shared: &Shared,
     one: &mut Pass,
@@ -52,7 +54,8 @@ pub fn look_behind(
     ensures one { one.new ≡ one.old }
     ensures two { IsSamePass two.old two.new }
     ensures flags { won_flags two.new.view.log ≡ won_flags two.old.view.log }
-    ensures found { (start : Stand) → AnswerHasMoment start one.old Insert key true → NoneFlagged two.new.view.layout two.new.view.past key → IfOk result (λ b. b ≡ true) }
+    ensures found { (start : Stand) → AnswerHasMoment start one.old Insert key true
+        → NoneFlagged two.new.view.layout two.new.view.past key → IfOk result (λ b. b ≡ true) }
 {
     tell(shared, one, two);
     let found = has(shared, two, key, tries);
@@ -60,7 +63,8 @@ pub fn look_behind(
     found
 }
 
-/// One worker inserts a key, and then another one that was told of it looks it up. `None`: a call was not answered, or the key had been in the set.
+/// One worker inserts a key, and then another one that was told of it looks it up. `None`: a call
+/// was not answered, or the key had been in the set.
 pub fn insert_then_look(
     shared: &Shared,
     one: &mut Pass,
@@ -82,7 +86,8 @@ pub fn insert_then_look(
     ensures flags_one { won_flags one.new.view.log ≡ won_flags one.old.view.log }
     ensures two { IsSamePass two.old two.new }
     ensures flags_two { won_flags two.new.view.log ≡ won_flags two.old.view.log }
-    ensures found { NoneFlagged two.new.view.layout two.new.view.past key → IfSome result (λ b. b ≡ true) }
+    ensures found { NoneFlagged two.new.view.layout two.new.view.past key
+        → IfSome result (λ b. b ≡ true) }
 {
     let mut chain = Chain::new();
     match insert(
@@ -93,7 +98,8 @@ pub fn insert_then_look(
     }
 }
 
-/// The same by both workers of a table that has two, neither of which had done anything: where both calls were answered, the key is found.
+/// The same by both workers of a table that has two, neither of which had done anything: where both
+/// calls were answered, the key is found.
 pub fn insert_then_look_alone(
     shared: &Shared,
     one: &mut Pass,

@@ -1,4 +1,5 @@
-//! What the report of a set tells a caller that lets it keep its member, or ends it by its last one, by the clauses of `nm_set` alone.
+//! What the report of a set tells a caller that lets it keep its member, or ends it by its last
+//! one, by the clauses of `nm_set` alone.
 ghost use Rattle.std.specs.Prelude.{◌≡◌, [], true, IfSome, Contains};
 ghost use Rattle.nm_told.specs.Adding.{HasAdded};
 
@@ -6,8 +7,8 @@ use nm_edge::Key;
 use nm_set::{Member, Report, Set};
 use std::alloc::Global;
 
-/// A set of one worker, whose member inserts a key and is kept. `None`: the insert was not answered true, or memory was refused. Else the report of the
-/// closed set has the key.
+/// A set of one worker, whose member inserts a key and is kept. `None`: the insert was not answered
+/// true, or memory was refused. Else the report of the closed set has the key.
 pub fn insert_then_report(alloc: Global, nodes: u32, key: Key, tries: u32) -> Option<Report>
     ensures { IfSome result (λ r. Contains r.keys.items key) }
 {
@@ -23,7 +24,8 @@ pub fn insert_then_report(alloc: Global, nodes: u32, key: Key, tries: u32) -> Op
     close_with(set, member, key)
 }
 
-/// Inserts a key by a member that has flagged nothing, and tells whether it was so and was answered true.
+/// Inserts a key by a member that has flagged nothing, and tells whether it was so and was answered
+/// true.
 fn add(member: &mut Member, key: Key, tries: u32) -> bool
     ensures board { member.new.board ≡ member.old.board }
     ensures added { result ≡ true → HasAdded key member.new.hand }
@@ -56,8 +58,8 @@ fn close_with(set: Set, member: Member, key: Key) -> Option<Report>
     }
 }
 
-/// A set of one worker, whose member inserts a key and then ends it. `None`: the insert was not answered true, or memory was refused. Else the report has
-/// the key.
+/// A set of one worker, whose member inserts a key and then ends it. `None`: the insert was not
+/// answered true, or memory was refused. Else the report has the key.
 pub fn insert_then_end(alloc: Global, nodes: u32, key: Key, tries: u32) -> Option<Report>
     ensures { IfSome result (λ r. Contains r.keys.items key) }
 {

@@ -22,7 +22,8 @@ fn insert_one(tree: &Tree, mut worker: Worker, key: Key, tries: u32) -> Inserted
     requires own { IsOf tree.now worker.pass }
     requires free { worker.held ≡ None }
     ensures own { IsOf tree.now result.worker.pass }
-    ensures moment { result.is_new ≡ true → AnswerHasMoment worker.pass result.worker.pass Insert key true }
+    ensures moment { result.is_new ≡ true
+        → AnswerHasMoment worker.pass result.worker.pass Insert key true }
 {
     match tree.insert(&mut worker, key, tries) {
         Ok(true) => Inserted {
@@ -52,8 +53,10 @@ pub fn insert_both<R: Threads + Sync>(
     requires second_free { two.held ≡ None }
     ensures one { IsOf tree.now result.0.worker.pass }
     ensures two { IsOf tree.now result.1.worker.pass }
-    ensures first { result.0.is_new ≡ true → AnswerHasMoment one.pass result.0.worker.pass Insert left true }
-    ensures second { result.1.is_new ≡ true → AnswerHasMoment two.pass result.1.worker.pass Insert right true }
+    ensures first { result.0.is_new ≡ true
+        → AnswerHasMoment one.pass result.0.worker.pass Insert left true }
+    ensures second { result.1.is_new ≡ true
+        → AnswerHasMoment two.pass result.1.worker.pass Insert right true }
 {
     join(
         rt,
@@ -61,19 +64,22 @@ pub fn insert_both<R: Threads + Sync>(
             requires own { IsOf tree.now one.pass }
             requires free { one.held ≡ None }
             ensures own { IsOf tree.entry.now result.worker.pass }
-            ensures moment { result.is_new ≡ true → AnswerHasMoment one.pass result.worker.pass Insert left true }
+            ensures moment { result.is_new ≡ true
+                → AnswerHasMoment one.pass result.worker.pass Insert left true }
         { insert_one(tree, one, left, tries) },
         move || -> Inserted
             requires own { IsOf tree.now two.pass }
             requires free { two.held ≡ None }
             ensures own { IsOf tree.entry.now result.worker.pass }
-            ensures moment { result.is_new ≡ true → AnswerHasMoment two.pass result.worker.pass Insert right true }
+            ensures moment { result.is_new ≡ true
+                → AnswerHasMoment two.pass result.worker.pass Insert right true }
         { insert_one(tree, two, right, tries) },
     )
 }
 
-/// A third worker is told what both have seen, and looks up what each of them has inserted. `None`: a look-up was not answered. Else each key is found,
-/// unless a delete of it has won a flag in the run that the worker has then seen.
+/// A third worker is told what both have seen, and looks up what each of them has inserted. `None`:
+/// a look-up was not answered. Else each key is found, unless a delete of it has won a flag in the
+/// run that the worker has then seen.
 pub fn find_both(
     tree: &Tree,
     one: &mut Worker,
@@ -87,16 +93,21 @@ pub fn find_both(
     requires two { IsOf tree.now two.old.pass }
     requires reader { IsOf tree.now reader.old.pass }
     requires free { reader.old.held ≡ None }
-    ensures first { (start : Stand) → AnswerHasMoment start one.old.pass Insert left true → NoneFlagged tree.now.layout reader.new.pass.view.past left → IfSome result (λ b. b.0 ≡ true) }
-    ensures second { (start : Stand) → AnswerHasMoment start two.old.pass Insert right true → NoneFlagged tree.now.layout reader.new.pass.view.past right → IfSome result (λ b. b.1 ≡ true) }
+    ensures first { (start : Stand) → AnswerHasMoment start one.old.pass Insert left true
+        → NoneFlagged tree.now.layout reader.new.pass.view.past left
+        → IfSome result (λ b. b.0 ≡ true) }
+    ensures second { (start : Stand) → AnswerHasMoment start two.old.pass Insert right true
+        → NoneFlagged tree.now.layout reader.new.pass.view.past right
+        → IfSome result (λ b. b.1 ≡ true) }
 {
     let first = look_told(tree, one, reader, left, tries).ok()?;
     let second = look_told(tree, two, reader, right, tries).ok()?;
     Some((first, second))
 }
 
-/// Two threads insert a key each, and then a third worker, which is told of both, looks both keys up. `None`: a call was not answered, or a key had been in
-/// the set. Else both are found, unless a delete of one of them has begun to take it away.
+/// Two threads insert a key each, and then a third worker, which is told of both, looks both keys
+/// up. `None`: a call was not answered, or a key had been in the set. Else both are found, unless a
+/// delete of one of them has begun to take it away.
 pub fn insert_both_then_find<R: Threads + Sync>(
     rt: &R,
     tree: &Tree,
@@ -113,8 +124,10 @@ pub fn insert_both_then_find<R: Threads + Sync>(
     requires first_free { one.held ≡ None }
     requires second_free { two.held ≡ None }
     requires free { reader.old.held ≡ None }
-    ensures first { NoneFlagged tree.now.layout reader.new.pass.view.past left → IfSome result (λ b. b.0 ≡ true) }
-    ensures second { NoneFlagged tree.now.layout reader.new.pass.view.past right → IfSome result (λ b. b.1 ≡ true) }
+    ensures first { NoneFlagged tree.now.layout reader.new.pass.view.past left
+        → IfSome result (λ b. b.0 ≡ true) }
+    ensures second { NoneFlagged tree.now.layout reader.new.pass.view.past right
+        → IfSome result (λ b. b.1 ≡ true) }
 {
     let (first, second) = insert_both(rt, tree, one, two, left, right, tries);
     let Inserted {

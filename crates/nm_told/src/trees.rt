@@ -24,9 +24,10 @@ pub fn tell_worker(tree: &Tree, from: &mut Worker, to: &mut Worker)
     tree.hear(to, note);
 }
 
-/// A look-up by a worker that was told what another one has seen. A key whose insert by that one was answered true is found, unless a delete of it has
-/// won a flag in the run that the worker has then seen. One whose delete was answered true is not found, unless an insert of it, behind all that the
-/// deleter had seen before its call, is answered true or has won a link in that run.
+/// A look-up by a worker that was told what another one has seen. A key whose insert by that one
+/// was answered true is found, unless a delete of it has won a flag in the run that the worker has
+/// then seen. One whose delete was answered true is not found, unless an insert of it, behind all
+/// that the deleter had seen before its call, is answered true or has won a link in that run.
 pub fn look_told(
     tree: &Tree,
     one: &mut Worker,
@@ -41,8 +42,12 @@ pub fn look_told(
     ensures two { IsSamePass two.old.pass two.new.pass }
     ensures past { HasSeenAllOf two.new.pass two.old.pass }
     ensures held { two.new.held ≡ None }
-    ensures found { (start : Stand) → AnswerHasMoment start one.old.pass Insert key true → NoneFlagged two.new.pass.view.layout two.new.pass.view.past key → IfOk result (λ b. b ≡ true) }
-    ensures missed { (start : Stand) → AnswerHasMoment start one.old.pass Delete key true → NoneInserted two.new.pass.view.layout start.view.past two.new.pass.view.past key → IfOk result (λ b. b ≡ false) }
+    ensures found { (start : Stand) → AnswerHasMoment start one.old.pass Insert key true
+        → NoneFlagged two.new.pass.view.layout two.new.pass.view.past key
+        → IfOk result (λ b. b ≡ true) }
+    ensures missed { (start : Stand) → AnswerHasMoment start one.old.pass Delete key true
+        → NoneInserted two.new.pass.view.layout start.view.past two.new.pass.view.past key
+        → IfOk result (λ b. b ≡ false) }
 {
     tell_worker(tree, one, two);
     let found = tree.has(two, key, tries);
@@ -50,8 +55,9 @@ pub fn look_told(
     found
 }
 
-/// One worker inserts a key, and then another one that was told of it looks it up. `None`: a call was not answered, or the key had been in the set.
-/// Else it is found, unless a delete of it has begun to take it away.
+/// One worker inserts a key, and then another one that was told of it looks it up. `None`: a call
+/// was not answered, or the key had been in the set. Else it is found, unless a delete of it has
+/// begun to take it away.
 pub fn insert_then_find(
     tree: &Tree,
     one: &mut Worker,
@@ -63,7 +69,8 @@ pub fn insert_then_find(
     requires two { IsOf tree.now two.old.pass }
     requires first_free { one.old.held ≡ None }
     requires free { two.old.held ≡ None }
-    ensures found { NoneFlagged two.new.pass.view.layout two.new.pass.view.past key → IfSome result (λ b. b ≡ true) }
+    ensures found { NoneFlagged two.new.pass.view.layout two.new.pass.view.past key
+        → IfSome result (λ b. b ≡ true) }
 {
     match tree.insert(one, key, tries) {
         Ok(true) => look_told(tree, one, two, key, tries).ok(),
@@ -71,8 +78,9 @@ pub fn insert_then_find(
     }
 }
 
-/// One worker deletes a key, and then another one that was told of it looks it up. `None`: a call was not answered, or the key was not in the set.
-/// Else it is not found, unless an insert, behind all that the deleter had seen before, has put it back.
+/// One worker deletes a key, and then another one that was told of it looks it up. `None`: a call
+/// was not answered, or the key was not in the set. Else it is not found, unless an insert, behind
+/// all that the deleter had seen before, has put it back.
 pub fn delete_then_miss(
     tree: &Tree,
     deleter: &mut Worker,
@@ -84,7 +92,8 @@ pub fn delete_then_miss(
     requires reader { IsOf tree.now reader.old.pass }
     requires first_free { deleter.old.held ≡ None }
     requires free { reader.old.held ≡ None }
-    ensures missed { NoneInserted reader.new.pass.view.layout deleter.old.pass.view.past reader.new.pass.view.past key → IfSome result (λ b. b ≡ false) }
+    ensures missed { NoneInserted reader.new.pass.view.layout deleter.old.pass.view.past
+        reader.new.pass.view.past key → IfSome result (λ b. b ≡ false) }
 {
     match tree.delete(deleter, key, tries) {
         Ok(true) => look_told(tree, deleter, reader, key, tries).ok(),

@@ -75,7 +75,8 @@ module _ (L : Layout) (fits : IsLayout L) (turns : List (ℕ × Event)) (for_key
         (λ k has. (each_core_tells_the_set L (enough_nodes L fits) turns for_keys k).1 ((set k).0 has))
         (λ k has. (set k).1 ((each_core_tells_the_set L (enough_nodes L fits) turns for_keys k).0 has))
 
-    -- with no delete pending each key is told as often as it was linked less as often as it was flagged
+    -- with no delete pending each key is told as often as it was linked less as often as it was
+    -- flagged
     pub totals_of : NothingIsPending L turns → (k : ℕ) → IsKey k → Agree (links_of k L turns) (flags_of k L turns) (Contains kept k)
     totals_of none k is = agree (each_total_is_the_set L (enough_nodes L fits) turns for_keys none k is)
       where

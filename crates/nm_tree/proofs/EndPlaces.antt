@@ -1,4 +1,5 @@
--- At a tree's end nobody has a slot in hands, and the one that stands for all holds what the run's end tells.
+-- At a tree's end nobody has a slot in hands, and the one that stands for all holds what the run's
+-- end tells.
 use Rattle.std.proofs.Common.{◌≡◌, ℕ, inl, inr, true, false, List, length, refl, sym, ap, ◌∙◌}
 use Rattle.std.specs.Prelude.{Some, slice_get}
 use Rattle.std.proofs.lemmas.Bool.{cases_lt}

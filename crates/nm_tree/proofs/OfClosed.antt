@@ -1,4 +1,5 @@
--- What follows of each closed tree: its queues are the rest of the cuts, each slot stands once, its report is as a core tells, and its run is as every run.
+-- What follows of each closed tree: its queues are the rest of the cuts, each slot stands once, its
+-- report is as a core tells, and its run is as every run.
 use Rattle.std.proofs.Common.{◌≡◌, ℕ, zero, suc, ◌<◌, ◌≤◌, inl, inr, true, List, [], ◌∷◌, ◌++◌, map, length, append-nil, refl, sym, ap, ◌∙◌, subst, arith, true≢false}
 use Rattle.std.specs.Prelude.{◌↔◌, ◌-◌, Contains, Some, false, filter, option_map, slice_get}
 use Rattle.std.proofs.lemmas.Bool.{cases_lt}

@@ -21,7 +21,8 @@ use Rattle.nm_tree.proofs.Changing.{log_of_own}
 more_capped : (a b w v l : ℕ) → a ≡ capped w → b ≡ min (a + l) (2 ^ 64 - 1) → v ≡ w + l → b ≡ capped v
 more_capped a b w v l was sum more = omega (arith, was, sum, more)
 
--- what a call leaves of the own queue, with its account: so many links and flags more, and the splices counted anew
+-- what a call leaves of the own queue, with its account: so many links and flags more, and the
+-- splices counted anew
 pub record IsNoted (q : Stand) (h g : HeldQueue) (a b : Account) (l f : ℕ) : Type 0 where
   pub queue : IsQueueOf (knowledge q.view) q.view.number g.queue.items
   pub few : length g.queue.items ≤ q.view.layout.nodes

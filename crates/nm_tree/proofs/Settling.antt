@@ -1,4 +1,5 @@
--- Where nothing is pending of the workers with which a tree is closed, nothing is pending in its run.
+-- Where nothing is pending of the workers with which a tree is closed, nothing is pending in its
+-- run.
 use Rattle.std.proofs.Common.{◌≡◌, ℕ, ◌≤◌, inl, inr, List, [], ◌∷◌, ◌++◌, length, sym, ap, subst, ◌∙◌, arith}
 use Rattle.std.specs.Prelude.{Option, Some, None}
 use Rattle.nm_edge.specs.Layouts.{Layout}

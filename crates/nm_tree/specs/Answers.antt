@@ -30,26 +30,36 @@ IsFree w z = (w.pending ≡ None) × (z.pending ≡ None)
 
 -- what a look-up leaves of its worker, by its answer (Natarajan and Mittal, section 3.2)
 abbrev pub HasAnswered : ℕ → ℕ → ℕ → Hand → Hand → Result Bool Fault → Type 0
-HasAnswered nodes tries k w z (Ok b) = IsFree w z × HasDid nodes tries k w.pass.view.log z.pass.view.log b
-HasAnswered nodes tries k w z (Err fault.Busy) = IsFree w z × HasMissed nodes tries k w.pass.view.log z.pass.view.log
+HasAnswered nodes tries k w z (Ok b) =
+    IsFree w z × HasDid nodes tries k w.pass.view.log z.pass.view.log b
+HasAnswered nodes tries k w z (Err fault.Busy) =
+    IsFree w z × HasMissed nodes tries k w.pass.view.log z.pass.view.log
 HasAnswered nodes tries k w z (Err fault.Pending) = IsRefused w z
 HasAnswered nodes tries k w z (Err _) = ⊥
 
 -- an insert, in the same way (Natarajan and Mittal, section 3.2)
 abbrev pub HasInserted : ℕ → ℕ → ℕ → Hand → Hand → Result Bool Fault → Type 0
-HasInserted nodes tries k w z (Ok b) = IsFree w z × InsertDid w.fit nodes tries k w.pass.view.log z.pass.view.log (Ok b)
-HasInserted nodes tries k w z (Err fault.Busy) = IsFree w z × InsertDid w.fit nodes tries k w.pass.view.log z.pass.view.log (Err lost.Busy)
-HasInserted nodes tries k w z (Err fault.Full) = IsFree w z × InsertDid w.fit nodes tries k w.pass.view.log z.pass.view.log (Err lost.Full)
-HasInserted nodes tries k w z (Err fault.NoMemory) = IsFree w z × InsertDid w.fit nodes tries k w.pass.view.log z.pass.view.log (Err lost.NoMemory)
+HasInserted nodes tries k w z (Ok b) =
+    IsFree w z × InsertDid w.fit nodes tries k w.pass.view.log z.pass.view.log (Ok b)
+HasInserted nodes tries k w z (Err fault.Busy) =
+    IsFree w z × InsertDid w.fit nodes tries k w.pass.view.log z.pass.view.log (Err lost.Busy)
+HasInserted nodes tries k w z (Err fault.Full) =
+    IsFree w z × InsertDid w.fit nodes tries k w.pass.view.log z.pass.view.log (Err lost.Full)
+HasInserted nodes tries k w z (Err fault.NoMemory) =
+    IsFree w z × InsertDid w.fit nodes tries k w.pass.view.log z.pass.view.log (Err lost.NoMemory)
 HasInserted nodes tries k w z (Err fault.Pending) = IsRefused w z
 HasInserted nodes tries k w z (Err fault.Unfinished) = ⊥
 
 -- a delete (Natarajan and Mittal, section 3.2)
 abbrev pub HasDeleted : ℕ → ℕ → ℕ → Hand → Hand → Result Bool Fault → Type 0
-HasDeleted nodes tries k w z (Ok b) = IsFree w z × DeleteDid nodes tries k w.pass.view.log z.pass.view.log (Ok b)
-HasDeleted nodes tries k w z (Err fault.Busy) = IsFree w z × DeleteDid nodes tries k w.pass.view.log z.pass.view.log (Err missed.Busy)
-HasDeleted nodes tries k w z (Err fault.NoMemory) = IsFree w z × DeleteDid nodes tries k w.pass.view.log z.pass.view.log (Err missed.NoMemory)
-HasDeleted nodes tries k w z (Err fault.Unfinished) = (w.pending ≡ None) × (leaf : NodeId) × (z.pending ≡ Some (record { key = k; leaf = leaf }))
+HasDeleted nodes tries k w z (Ok b) =
+    IsFree w z × DeleteDid nodes tries k w.pass.view.log z.pass.view.log (Ok b)
+HasDeleted nodes tries k w z (Err fault.Busy) =
+    IsFree w z × DeleteDid nodes tries k w.pass.view.log z.pass.view.log (Err missed.Busy)
+HasDeleted nodes tries k w z (Err fault.NoMemory) =
+    IsFree w z × DeleteDid nodes tries k w.pass.view.log z.pass.view.log (Err missed.NoMemory)
+HasDeleted nodes tries k w z (Err fault.Unfinished) =
+    (w.pending ≡ None) × (leaf : NodeId) × (z.pending ≡ Some (record { key = k; leaf = leaf }))
     × DeleteDid nodes tries k w.pass.view.log z.pass.view.log (Err (missed.Unfinished leaf))
 HasDeleted nodes tries k w z (Err fault.Pending) = IsRefused w z
 HasDeleted nodes tries k w z (Err fault.Full) = ⊥
@@ -57,8 +67,12 @@ HasDeleted nodes tries k w z (Err fault.Full) = ⊥
 -- what is left to do of a delete (Natarajan and Mittal, section 3.2)
 abbrev pub HasFinished : ℕ → ℕ → Hand → Hand → Result Bool Fault → Type 0
 HasFinished nodes tries w z (Ok false) = (w.pending ≡ None) × (z ≡ w)
-HasFinished nodes tries w z (Ok true) = (n : Unfinished) × (w.pending ≡ Some n) × (z.pending ≡ None) × FinishDid nodes n.key n.leaf tries w.pass.view.log z.pass.view.log true
-HasFinished nodes tries w z (Err fault.Unfinished) = (n : Unfinished) × (w.pending ≡ Some n) × (z.pending ≡ Some n) × FinishDid nodes n.key n.leaf tries w.pass.view.log z.pass.view.log false
+HasFinished nodes tries w z (Ok true) =
+    (n : Unfinished) × (w.pending ≡ Some n) × (z.pending ≡ None)
+    × FinishDid nodes n.key n.leaf tries w.pass.view.log z.pass.view.log true
+HasFinished nodes tries w z (Err fault.Unfinished) =
+    (n : Unfinished) × (w.pending ≡ Some n) × (z.pending ≡ Some n)
+    × FinishDid nodes n.key n.leaf tries w.pass.view.log z.pass.view.log false
 HasFinished nodes tries w z (Err _) = ⊥
 
 -- ---- what a call has won, by its answer: for an insert a link where it is true
@@ -88,24 +102,33 @@ InsertLacks z _ = Unit {0}
 -- a delete too; and one whose leaf is flagged lacks room, or has lost each try behind the flag
 abbrev pub DeleteLacks : ℕ → ℕ → ℕ → Hand → Hand → Fault → Type 0
 DeleteLacks nodes tries k w z fault.NoMemory = LacksRoom z
-DeleteLacks nodes tries k w z fault.Unfinished = LacksRoom z ⊎ ((leaf : NodeId) × LosesAfterFlag nodes tries k w.pass.view.log z.pass.view.log leaf)
+DeleteLacks nodes tries k w z fault.Unfinished =
+    LacksRoom z ⊎ ((leaf : NodeId)
+    × LosesAfterFlag nodes tries k w.pass.view.log z.pass.view.log leaf)
 DeleteLacks nodes tries k w z _ = Unit {0}
 
 -- what is left of a delete: it lacks room, or has lost each try
 abbrev pub FinishLacks : ℕ → ℕ → Hand → Hand → Fault → Type 0
-FinishLacks nodes tries w z _ = LacksRoom z ⊎ ((n : Unfinished) × (w.pending ≡ Some n) × LosesEachTry nodes n.key n.leaf tries w.pass.view.log z.pass.view.log)
+FinishLacks nodes tries w z _ =
+    LacksRoom z ⊎ ((n : Unfinished) × (w.pending ≡ Some n)
+    × LosesEachTry nodes n.key n.leaf tries w.pass.view.log z.pass.view.log)
 
 -- the delete that was pending is answered, and it is one behind all that the worker had seen
 -- whenever it had no call, as before the call that began the delete: its leaf was cut at a moment
 -- of it (Herlihy and Wing)
 abbrev pub FinishHasMoment : Hand → Hand → Result Bool Fault → Type 0
-FinishHasMoment w z (Ok true) = (n : Unfinished) × (w.pending ≡ Some n) × ((o : Stand) → HadNoCall o w.pass → AnswerHasMoment o z.pass Delete n.key true)
+FinishHasMoment w z (Ok true) =
+    (n : Unfinished) × (w.pending ≡ Some n)
+    × ((o : Stand) → HadNoCall o w.pass → AnswerHasMoment o z.pass Delete n.key true)
 FinishHasMoment w z _ = Unit {0}
 
 -- a pin for the caller (Fraser, section 5)
 abbrev pub HasPinned : ℕ → Hand → Hand → Result ℕ PinFault → Type 0
-HasPinned tries w z (Ok epoch) = IsFree w z × (z.held ≡ Some epoch) × PinsSo Sight tries w.pass.view.log z.pass.view.log epoch
-HasPinned tries w z (Err (pinning.Moved epoch)) = IsFree w z × (z.held ≡ None) × ((epochs z.pass).seen ≡ Some epoch) × IsMoved Sight tries w.pass.view.log z.pass.view.log
+HasPinned tries w z (Ok epoch) =
+    IsFree w z × (z.held ≡ Some epoch) × PinsSo Sight tries w.pass.view.log z.pass.view.log epoch
+HasPinned tries w z (Err (pinning.Moved epoch)) =
+    IsFree w z × (z.held ≡ None) × ((epochs z.pass).seen ≡ Some epoch)
+    × IsMoved Sight tries w.pass.view.log z.pass.view.log
 HasPinned tries w z (Err pinning.Pending) = IsRefused w z
 
 -- what is pending or held is so still

@@ -31,7 +31,8 @@ abbrev pub AreAllOf : Board → List Hand → Type 0
 AreAllOf b [] = Unit {0}
 AreAllOf b (w ∷ ws) = IsOf b w.pass × AreAllOf b ws
 
--- for how many workers these stand: their own numbers, and those of the workers that resigned to them
+-- for how many workers these stand: their own numbers, and those of the workers that resigned to
+-- them
 abbrev pub given_in : List Hand → ℕ
 given_in ws = sum_by (λ (w : Hand). length w.queues) ws
 
@@ -60,7 +61,8 @@ abbrev pub AreFrom : ℕ → List HeldQueue → Type 0
 AreFrom i [] = Unit {0}
 AreFrom i (h ∷ hs) = (h.origin ≡ i) × AreFrom (suc i) hs
 
--- where a slot above 5 may stand at a tree's end: in the pool, at the end of a path from the root, or in a worker's queue of the report at an index
+-- where a slot above 5 may stand at a tree's end: in the pool, at the end of a path from the root,
+-- or in a worker's queue of the report at an index
 pub data EndPlace : Type 0 where
   Free : EndPlace
   OnPath : List Side → EndPlace
@@ -70,7 +72,8 @@ pub data EndPlace : Type 0 where
 abbrev pub EndsAt : Memory → List HeldQueue → ℕ → EndPlace → Type 0
 EndsAt m hs x Free = in_pool m x ≡ true
 EndsAt m hs x (OnPath path) = at m path ≡ x
-EndsAt m hs x (Waiting w i) = (h : HeldQueue) × (e : Entry) × (slice_get hs w ≡ Some h) × (slice_get h.queue.items i ≡ Some e) × (e.node.slot ≡ x)
+EndsAt m hs x (Waiting w i) = (h : HeldQueue) × (e : Entry) × (slice_get hs w ≡ Some h)
+    × (slice_get h.queue.items i ≡ Some e) × (e.node.slot ≡ x)
 
 -- it stands at exactly one of these
 pub record EndsOnce (m : Memory) (hs : List HeldQueue) (x : ℕ) : Type 0 where
@@ -78,9 +81,11 @@ pub record EndsOnce (m : Memory) (hs : List HeldQueue) (x : ℕ) : Type 0 where
   pub here : EndsAt m hs x place
   pub only : (other : EndPlace) → EndsAt m hs x other → other ≡ place
 
--- The theorem, of a tree. The logs of all workers are the parts of these turns, and by them its words came from those of the empty tree, each turn writing
--- what its reply tells. The turns have the headline, and are a history of one plain set; the report's queue of each worker is what then waits of its
--- cuts, its keys are those of that set, and nobody has a slot in hands: so each slot above 5 is in the pool, on one path, or at one index of one queue
+-- The theorem, of a tree. The logs of all workers are the parts of these turns, and by them its
+-- words came from those of the empty tree, each turn writing what its reply tells. The turns have
+-- the headline, and are a history of one plain set; the report's queue of each worker is what then
+-- waits of its cuts, its keys are those of that set, and nobody has a slot in hands: so each slot
+-- above 5 is in the pool, on one path, or at one index of one queue
 pub record IsOfTurns (L : Layout) (turns : List Turn) (words : List ℕ) (all : View) (queues : List HeldQueue) (kept : List ℕ) : Type 0 where
   pub shown : IsShown L turns all
   pub written : words ≡ words_of L (words_after L turns)
@@ -90,11 +95,15 @@ pub record IsOfTurns (L : Layout) (turns : List Turn) (words : List ℕ) (all : 
   pub set : (k : ℕ) → Contains kept k ↔ InSet (words_after L turns) k × (k < infinity_0)
   pub no_hands : (w x : ℕ) → has_after (opening L) w x false turns ≡ false
 
--- One worker stands for all that were given. Some run ends with the tree's words, of which their logs are the parts, and it goes on from what each of them
--- had seen, so all that they were answered was answered in it. Of its turns and of the report the theorem holds. The report has one queue a worker of the
--- tree, in the order of their numbers, each as it was, with the labels by the logs; the keys, which ascend; and how many slots the words have in the
--- pool, and reached from the root, the five fixed ones left out. Where nothing was pending of the workers that were given, no delete is pending in the run
-pub record IsClosed (b : Board) (ws : List Hand) (queues : List HeldQueue) (kept : List ℕ) (free reached : ℕ) : Type 0 where
+-- One worker stands for all that were given. Some run ends with the tree's words, of which their
+-- logs are the parts, and it goes on from what each of them had seen, so all that they were
+-- answered was answered in it. Of its turns and of the report the theorem holds. The report has one
+-- queue a worker of the tree, in the order of their numbers, each as it was, with the labels by the
+-- logs; the keys, which ascend; and how many slots the words have in the pool, and reached from the
+-- root, the five fixed ones left out. Where nothing was pending of the workers that were given, no
+-- delete is pending in the run
+pub record IsClosed (b : Board) (ws : List Hand) (queues : List HeldQueue) (kept : List ℕ)
+    (free reached : ℕ) : Type 0 where
   pub words : List ℕ
   pub turns : List Turn
   pub headline : IsOfTurns b.layout turns words (all_joined ws) queues kept
@@ -114,19 +123,25 @@ pub record IsClosed (b : Board) (ws : List Hand) (queues : List HeldQueue) (kept
 
 -- of the turns and the queues of every tree that was closed
 abbrev pub OfEachClosed : (Layout → List Turn → List HeldQueue → Type 0) → Type 0
-OfEachClosed P = (b : Board) (ws : List Hand) (queues : List HeldQueue) (kept : List ℕ) (free reached : ℕ) → (is : IsClosed b ws queues kept free reached) → P b.layout is.turns queues
+OfEachClosed P = (b : Board) (ws : List Hand) (queues : List HeldQueue) (kept : List ℕ)
+    (free reached : ℕ) → (is : IsClosed b ws queues kept free reached) → P b.layout is.turns queues
 
 -- of the run that ends with its words
 abbrev pub OfEachClosedRun : (Layout → List (ℕ × Event) → Type 0) → Type 0
-OfEachClosedRun P = (b : Board) (ws : List Hand) (queues : List HeldQueue) (kept : List ℕ) (free reached : ℕ) → (is : IsClosed b ws queues kept free reached) → P b.layout is.ends.turns
+OfEachClosedRun P = (b : Board) (ws : List Hand) (queues : List HeldQueue) (kept : List ℕ)
+    (free reached : ℕ) → (is : IsClosed b ws queues kept free reached) → P b.layout is.ends.turns
 
 -- of that run and of all that the report tells
-abbrev pub OfEachReport : (Layout → List (ℕ × Event) → List HeldQueue → List ℕ → ℕ → ℕ → Type 0) → Type 0
-OfEachReport P = (b : Board) (ws : List Hand) (queues : List HeldQueue) (kept : List ℕ) (free reached : ℕ) → (is : IsClosed b ws queues kept free reached) → P b.layout is.ends.turns queues kept free reached
+abbrev pub OfEachReport : (Layout → List (ℕ × Event) → List HeldQueue → List ℕ → ℕ → ℕ → Type 0)
+    → Type 0
+OfEachReport P = (b : Board) (ws : List Hand) (queues : List HeldQueue) (kept : List ℕ)
+    (free reached : ℕ) → (is : IsClosed b ws queues kept free reached)
+    → P b.layout is.ends.turns queues kept free reached
 
 -- just as many workers were given as the tree has
 abbrev pub AllWereGiven : Type 0
-AllWereGiven = (b : Board) (ws : List Hand) (queues : List HeldQueue) (kept : List ℕ) (free reached : ℕ) → IsClosed b ws queues kept free reached → given_in ws ≡ b.layout.workers
+AllWereGiven = (b : Board) (ws : List Hand) (queues : List HeldQueue) (kept : List ℕ)
+    (free reached : ℕ) → IsClosed b ws queues kept free reached → given_in ws ≡ b.layout.workers
 
 -- the free slots, the reached ones and those that wait are all slots but the five fixed ones
 abbrev pub AllSlotsAreTold : Layout → List (ℕ × Event) → List HeldQueue → List ℕ → ℕ → ℕ → Type 0
@@ -135,21 +150,30 @@ AllSlotsAreTold L run queues kept free reached = free + reached + waiting_in que
 -- a core tells the same behind that run: the same keys, and the same counts, with no slot private
 abbrev pub IsAsACoreTells : Layout → List (ℕ × Event) → List HeldQueue → List ℕ → ℕ → ℕ → Type 0
 IsAsACoreTells L run queues kept free reached =
-    (kept ≡ keys (after_in (ordered L) run).state) × (counts (after_in (ordered L) run).state ≡ record { pool = free; private = 0; reached = reached; queued = waiting_in queues })
+    (kept ≡ keys (after_in (ordered L) run).state)
+    × (counts (after_in (ordered L) run).state
+    ≡ record { pool = free; private = 0; reached = reached; queued = waiting_in queues })
 
--- with no delete pending each key is told as often as calls for it won a link, less as often as they won a flag: once or never
+-- with no delete pending each key is told as often as calls for it won a link, less as often as
+-- they won a flag: once or never
 abbrev pub KeysAreTheTotals : Layout → List (ℕ × Event) → List HeldQueue → List ℕ → ℕ → ℕ → Type 0
-KeysAreTheTotals L run queues kept free reached = NothingIsPending L run → (k : ℕ) → IsKey k → Agree (links_of k L run) (flags_of k L run) (Contains kept k)
+KeysAreTheTotals L run queues kept free reached =
+    NothingIsPending L run → (k : ℕ) → IsKey k
+    → Agree (links_of k L run) (flags_of k L run) (Contains kept k)
 
 -- what the splices of a worker cut off is what was freed of it and then its queue of the report
 abbrev pub QueuesAreTheRest : Layout → List Turn → List HeldQueue → Type 0
-QueuesAreTheRest L turns queues = (w : ℕ) (h : HeldQueue) → slice_get queues w ≡ Some h → freed_of w turns ++ map (λ (e : Entry). e.node) h.queue.items ≡ cuts_of w turns
+QueuesAreTheRest L turns queues =
+    (w : ℕ) (h : HeldQueue) → slice_get queues w ≡ Some h
+    → freed_of w turns ++ map (λ (e : Entry). e.node) h.queue.items ≡ cuts_of w turns
 
 -- each slot above 5 stands once
 abbrev pub EachSlotEndsOnce : Layout → List Turn → List HeldQueue → Type 0
-EachSlotEndsOnce L turns queues = (x : ℕ) → 6 ≤ x → x ≤ L.nodes → EndsOnce (words_after L turns) queues x
+EachSlotEndsOnce L turns queues =
+    (x : ℕ) → 6 ≤ x → x ≤ L.nodes → EndsOnce (words_after L turns) queues x
 
 -- why a tree was not closed
 abbrev pub IsCloseReason : Board → List Hand → CloseReason → Type 0
-IsCloseReason b ws (because.NotAll given made) = (given ≡ given_in ws) × (made ≡ b.layout.workers) × (given < made)
+IsCloseReason b ws (because.NotAll given made) =
+    (given ≡ given_in ws) × (made ≡ b.layout.workers) × (given < made)
 IsCloseReason b ws because.NoMemory = b.layout.workers ≤ given_in ws

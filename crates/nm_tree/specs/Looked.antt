@@ -9,7 +9,9 @@ use Rattle.nm_tree.specs.Workers.{Hand}
 -- what a call leaves of its worker that walks under a pin for no call, by its answer, with so many
 -- looks at most (Natarajan and Mittal, section 3.2)
 abbrev pub HasLooked : {X : Type 0} → ℕ → ℕ → Hand → Hand → Result X Fault → Type 0
-HasLooked tries most w z (Ok _) = IsFree w z × LooksUnderPin tries most w.pass.view.log z.pass.view.log
-HasLooked tries most w z (Err fault.Busy) = IsFree w z × LooksOrMoves tries most w.pass.view.log z.pass.view.log
+HasLooked tries most w z (Ok _) =
+    IsFree w z × LooksUnderPin tries most w.pass.view.log z.pass.view.log
+HasLooked tries most w z (Err fault.Busy) =
+    IsFree w z × LooksOrMoves tries most w.pass.view.log z.pass.view.log
 HasLooked tries most w z (Err fault.Pending) = IsRefused w z
 HasLooked tries most w z (Err _) = ⊥

@@ -24,8 +24,10 @@ merged hs [] = hs
 merged hs (g ∷ gs) = inserted g (merged hs gs)
 
 -- and their accounts, in the same order
-abbrev pub merged_accounts : List HeldQueue → List Account → List HeldQueue → List Account → List Account
-merged_accounts hs xs (g ∷ gs) (y ∷ ys) = insert (merged_accounts hs xs gs ys) (place_in g.origin (merged hs gs)) y
+abbrev pub merged_accounts : List HeldQueue → List Account → List HeldQueue → List Account
+    → List Account
+merged_accounts hs xs (g ∷ gs) (y ∷ ys) =
+    insert (merged_accounts hs xs gs ys) (place_in g.origin (merged hs gs)) y
 merged_accounts hs xs _ _ = xs
 
 -- the leaver was in the midst of nothing; one step, by which the heir's pass stands for both, and

@@ -15,8 +15,8 @@ use Rattle.nm_theorem.specs.Histories.{HasHistory}
 use Rattle.nm_steps.specs.declared.view.View.{View}
 use Rattle.nm_steps.specs.Rules.{IsShown, Kept}
 
--- the logs in the views of all seats are the parts of these turns, by which the words came from those of the empty tree; and the turns have the
--- headline, and are a history of one plain set
+-- the logs in the views of all seats are the parts of these turns, by which the words came from
+-- those of the empty tree; and the turns have the headline, and are a history of one plain set
 pub record IsOfTurnsSoFar (L : Layout) (s : State Unit View) : Type 0 where
   pub turns : List Turn
   pub shown : (i : ℕ) (v : View) → get_elem? s.views i ≡ some v → IsShown L turns v
@@ -34,7 +34,8 @@ EachMomentIsOfTurns = (L : Layout) (s : State Unit View) → Kept L s → IsOfTu
 abbrev pub turns_seen : View → List Turn
 turns_seen v = trace_in (ordered v.layout) v.past
 
--- these turns have the headline and are a history of one plain set, and the worker's log is its part of them
+-- these turns have the headline and are a history of one plain set, and the worker's log is its
+-- part of them
 pub record HasSeenTurns (v : View) : Type 0 where
   pub own : part_of v.number (turns_seen v) ≡ v.log
   pub headline : Headline v.layout (turns_seen v)

@@ -24,4 +24,5 @@ HaveNothingPending (w ∷ ws) = HasNothingPending w × HaveNothingPending ws
 
 -- a worker with nothing pending that takes over from another such one has nothing pending
 abbrev pub HeirsHaveNothingPending : Type 0
-HeirsHaveNothingPending = (heir leaver z : Hand) → HasResigned heir leaver z → HasNothingPending heir → HasNothingPending leaver → HasNothingPending z
+HeirsHaveNothingPending = (heir leaver z : Hand) → HasResigned heir leaver z
+    → HasNothingPending heir → HasNothingPending leaver → HasNothingPending z

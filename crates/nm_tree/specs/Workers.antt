@@ -24,8 +24,9 @@ use Rattle.nm_tree.specs.declared.worker.Unfinished.{Unfinished}
 use Rattle.nm_tree.specs.declared.worker.Standing.{Standing}
 use Rattle.nm_tree.specs.declared.worker.Standing.TheVariants as standing
 
--- what clauses see of a worker: its pass; the queues that it holds; the delete that is pending, with its key and the leaf that it flagged;
--- the epoch at which the caller holds it; and in which order it tries the slots of the pool
+-- what clauses see of a worker: its pass; the queues that it holds; the delete that is pending,
+-- with its key and the leaf that it flagged; the epoch at which the caller holds it; and in which
+-- order it tries the slots of the pool
 pub record Hand : Type 0 where
   pub pass : Stand
   pub queues : List HeldQueue
@@ -83,10 +84,12 @@ StandsAt (suc i) o (h ∷ hs) = StandsAt i o hs
 -- the same origins, and each queue but that of one origin as it was
 abbrev pub KeepsOthers : ℕ → List HeldQueue → List HeldQueue → Type 0
 KeepsOthers o [] [] = Unit {0}
-KeepsOthers o (h ∷ hs) (g ∷ gs) = (g.origin ≡ h.origin) × ((h.origin ≡ o) ⊎ (g ≡ h)) × KeepsOthers o hs gs
+KeepsOthers o (h ∷ hs) (g ∷ gs) =
+    (g.origin ≡ h.origin) × ((h.origin ≡ o) ⊎ (g ≡ h)) × KeepsOthers o hs gs
 KeepsOthers o _ _ = ⊥
 
--- each has the blocks that it had, or, where some were taken, none more than what waits and the room of a try ask for
+-- each has the blocks that it had, or, where some were taken, none more than what waits and the
+-- room of a try ask for
 abbrev pub TakeRoom : List HeldQueue → List HeldQueue → Type 0
 TakeRoom [] [] = Unit {0}
 TakeRoom (h ∷ hs) (g ∷ gs) = TakesRoom h.queue g.queue × TakeRoom hs gs
@@ -111,7 +114,8 @@ abbrev pub log_among : ℕ → List Held → List Entry
 log_among o [] = []
 log_among o (h ∷ hs) = if h.number == o then h.log else log_among o hs
 
--- the log of a worker for whom a pass stands: its own one, or one that joined it, directly or through others
+-- the log of a worker for whom a pass stands: its own one, or one that joined it, directly or
+-- through others
 abbrev pub log_of : View → ℕ → List Entry
 log_of v o = log_among o (is_held v.number v.log ∷ v.others)
 
@@ -130,7 +134,8 @@ pub record IsAccount (v : View) (h : HeldQueue) (a : Account) : Type 0 where
   pub freed : a.freed ≡ capped (length (ledger_in v h.origin).freed)
   pub waiting : a.waiting ≡ length h.queue.items
   pub few : length h.queue.items ≤ v.layout.nodes
-  pub split : length (ledger_in v h.origin).retired ≡ length (ledger_in v h.origin).freed + length h.queue.items
+  pub split : length (ledger_in v h.origin).retired
+      ≡ length (ledger_in v h.origin).freed + length h.queue.items
 
 -- these are the accounts of these queues
 abbrev pub AreAccounts : View → List HeldQueue → List Account → Type 0
@@ -145,7 +150,14 @@ account_in (a ∷ xs) o = if a.origin == o then Some a else account_in xs o
 
 -- what an account tells
 abbrev pub counts_in : Account → Counts
-counts_in a = record { links = a.links; flags = a.flags; splices = a.splices; retired = capped (a.freed + a.waiting); freed = a.freed; queued = a.waiting }
+counts_in a = record {
+  links = a.links;
+  flags = a.flags;
+  splices = a.splices;
+  retired = capped (a.freed + a.waiting);
+  freed = a.freed;
+  queued = a.waiting;
+}
 
 -- the same as numbers that a caller reads, 2^64 - 1 where they are greater: what was won by the
 -- worker of an origin, by its log, and what became of the nodes that it cut off, by their ledger
@@ -165,7 +177,10 @@ ArePaired _ _ = ⊥
 
 -- what has left a queue was freed
 abbrev pub noted_for : HeldQueue → Account → Account
-noted_for h a = record a { freed = capped (a.freed + (a.waiting - length h.queue.items)); waiting = length h.queue.items }
+noted_for h a = record a {
+  freed = capped (a.freed + (a.waiting - length h.queue.items));
+  waiting = length h.queue.items;
+}
 
 -- each account has noted what its queue has lost
 abbrev pub HaveNoted : List HeldQueue → List Account → List Account → Type 0
@@ -181,12 +196,14 @@ pub record IsKept (p : Stand) (h : HeldQueue) (a : Account) : Type 0 where
 
 -- the ledgers of other origins are as they were
 abbrev pub OnlyOwnLedger : Stand → Stand → Type 0
-OnlyOwnLedger p q = (o : ℕ) → o ≢ p.view.number → held (knowledge q.view).ledgers o ≡ held (knowledge p.view).ledgers o
+OnlyOwnLedger p q = (o : ℕ) → o ≢ p.view.number
+    → held (knowledge q.view).ledgers o ≡ held (knowledge p.view).ledgers o
 
 -- ---- between two calls
 
--- the queues are those of all ledgers that the worker holds, by ascending origin, each with all that waits in it, labelled; no slot is private;
--- and it is pinned only where it is held or a key is pending
+-- the queues are those of all ledgers that the worker holds, by ascending origin, each with all
+-- that waits in it, labelled; no slot is private; and it is pinned only where it is held or a key
+-- is pending
 pub record IsBetweenCalls (w : Hand) : Type 0 where
   pub queues : AreHeld (knowledge w.pass.view) w.queues
   pub all : (o : ℕ) → IsSome (held (knowledge w.pass.view).ledgers o) → HasOrigin o w.queues
@@ -209,8 +226,9 @@ abbrev pub HoldNoSlot : Layout → List Held → Type 0
 HoldNoSlot L [] = Unit {0}
 HoldNoSlot L (h ∷ hs) = (length (known_by L h.number h.log).drafts ≡ 0) × HoldNoSlot L hs
 
--- these are its accounts, one a queue, 64 at most; the own queue stands at that index; the queues are those of the workers for whom it stands,
--- of which those that resigned hold no slot; and there is room for r queues and s accounts, one of each worker
+-- these are its accounts, one a queue, 64 at most; the own queue stands at that index; the queues
+-- are those of the workers for whom it stands, of which those that resigned hold no slot; and there
+-- is room for r queues and s accounts, one of each worker
 pub record IsWorker (w : Hand) (xs : List Account) (home r s : ℕ) : Type 0 where
   pub between : IsBetweenCalls w
   pub accounts : AreAccounts w.pass.view w.queues xs
@@ -225,7 +243,8 @@ pub record IsWorker (w : Hand) (xs : List Account) (home r s : ℕ) : Type 0 whe
 -- workers k and on, in the order of their numbers, which have done nothing yet
 abbrev pub AreNew : Board → ℕ → List Hand → Type 0
 AreNew b k [] = Unit {0}
-AreNew b k (w ∷ ws) = (w.pass.table ≡ b.table) × (w.pass.view ≡ fresh_view b.layout k) × (w.pending ≡ None) × (w.held ≡ None)
+AreNew b k (w ∷ ws) = (w.pass.table ≡ b.table) × (w.pass.view ≡ fresh_view b.layout k)
+    × (w.pending ≡ None) × (w.held ≡ None)
     × (map (λ (h : HeldQueue). h.queue.items) w.queues ≡ [] ∷ []) × AreNew b (suc k) ws
 
 -- a pass that has done nothing yet
@@ -249,7 +268,8 @@ HaveFit f (w ∷ ws) = (w.fit ≡ f) × HaveFit f ws
 
 -- its worker, with an empty queue of its own
 abbrev pub IsNewWorker : Fit → Stand → Hand → Type 0
-IsNewWorker f p w = (w.pass ≡ p) × (w.pending ≡ None) × (w.held ≡ None) × (map (λ (h : HeldQueue). h.queue.items) w.queues ≡ [] ∷ []) × (w.fit ≡ f)
+IsNewWorker f p w = (w.pass ≡ p) × (w.pending ≡ None) × (w.held ≡ None)
+    × (map (λ (h : HeldQueue). h.queue.items) w.queues ≡ [] ∷ []) × (w.fit ≡ f)
 
 -- the workers of these passes, in their order
 abbrev pub AreMade : Fit → List Stand → List Hand → Type 0

@@ -39,13 +39,17 @@ fn insert_with(
     requires kept { IsKept pass.old own.old account.old }
     ensures same { IsSamePass pass.old pass.new }
     ensures past { HasSeenAllOf pass.new pass.old }
-    ensures did { InsertDid placement.old shared.now.layout.nodes tries key pass.old.view.log pass.new.view.log result }
+    ensures did { InsertDid placement.old shared.now.layout.nodes tries key pass.old.view.log
+        pass.new.view.log result }
     ensures refused { IsErrOf result Lost.NoMemory → own.new.queue.spare < cut_bound }
     ensures moment { IfOk result (AnswerHasMoment pass.old pass.new Insert key) }
-    ensures steps { length pass.new.view.log ≤ length pass.old.view.log + tries * (4 * shared.now.layout.nodes + 8 * chain_bound) + 6 * shared.now.layout.nodes + 10 }
+    ensures steps { length pass.new.view.log
+        ≤ length pass.old.view.log + tries * (4 * shared.now.layout.nodes + 8 * chain_bound)
+        + 6 * shared.now.layout.nodes + 10 }
     ensures won { HasWon pass.old.view.log pass.new.view.log (links_of_insert result) 0 }
     ensures rests { IsResting pass.new }
-    ensures private { (slot : ℕ) → get (knowledge pass.new.view).drafts slot ≡ get (knowledge pass.old.view).drafts slot }
+    ensures private { (slot : ℕ)
+        → get (knowledge pass.new.view).drafts slot ≡ get (knowledge pass.old.view).drafts slot }
     ensures kept { IsKept pass.new own.new account.new }
     ensures room { TakesRoom own.old.queue own.new.queue }
     ensures others { OnlyOwnLedger pass.old pass.new }
@@ -81,10 +85,15 @@ fn delete_with(
     requires kept { IsKept pass.old own.old account.old }
     ensures same { IsSamePass pass.old pass.new }
     ensures past { HasSeenAllOf pass.new pass.old }
-    ensures did { DeleteDid shared.now.layout.nodes tries key pass.old.view.log pass.new.view.log result }
-    ensures refused { IfErr result (LacksRoomOr (LosesAfterFlag shared.now.layout.nodes tries key pass.old.view.log pass.new.view.log) own.new.queue.spare) }
+    ensures did { DeleteDid shared.now.layout.nodes tries key pass.old.view.log pass.new.view.log
+        result }
+    ensures refused { IfErr result
+        (LacksRoomOr (LosesAfterFlag shared.now.layout.nodes tries key pass.old.view.log
+        pass.new.view.log) own.new.queue.spare) }
     ensures moment { IfOk result (AnswerHasMoment pass.old pass.new Delete key) }
-    ensures steps { length pass.new.view.log ≤ length pass.old.view.log + tries * (4 * shared.now.layout.nodes + 8 * chain_bound) + 6 * shared.now.layout.nodes + 10 }
+    ensures steps { length pass.new.view.log
+        ≤ length pass.old.view.log + tries * (4 * shared.now.layout.nodes + 8 * chain_bound)
+        + 6 * shared.now.layout.nodes + 10 }
     ensures won { HasWon pass.old.view.log pass.new.view.log 0 (flags_of_delete result) }
     ensures after { AfterDelete key pass.new result }
     ensures private { (knowledge pass.new.view).drafts ≡ (knowledge pass.old.view).drafts }
@@ -141,10 +150,17 @@ fn finish_with(
     requires kept { IsKept pass.old own.old account.old }
     ensures same { IsSamePass pass.old pass.new }
     ensures past { HasSeenAllOf pass.new pass.old }
-    ensures did { FinishDid shared.now.layout.nodes pending.now.key pending.now.leaf tries pass.old.view.log pass.new.view.log result }
-    ensures refused { result ≡ false → (own.new.queue.spare < cut_bound) ⊎ LosesEachTry shared.now.layout.nodes pending.now.key pending.now.leaf tries pass.old.view.log pass.new.view.log }
-    ensures moment { result ≡ true → (o : Stand) → HadNoCall o pass.old → AnswerHasMoment o pass.new Delete pending.now.key true }
-    ensures steps { length pass.new.view.log ≤ length pass.old.view.log + tries * (4 * shared.now.layout.nodes + 8 * chain_bound) + 6 * shared.now.layout.nodes + 10 }
+    ensures did { FinishDid shared.now.layout.nodes pending.now.key pending.now.leaf tries
+        pass.old.view.log pass.new.view.log result }
+    ensures refused { result ≡ false
+        → (own.new.queue.spare < cut_bound)
+        ⊎ LosesEachTry shared.now.layout.nodes pending.now.key pending.now.leaf tries
+        pass.old.view.log pass.new.view.log }
+    ensures moment { result ≡ true → (o : Stand) → HadNoCall o pass.old
+        → AnswerHasMoment o pass.new Delete pending.now.key true }
+    ensures steps { length pass.new.view.log
+        ≤ length pass.old.view.log + tries * (4 * shared.now.layout.nodes + 8 * chain_bound)
+        + 6 * shared.now.layout.nodes + 10 }
     ensures won { HasWon pass.old.view.log pass.new.view.log 0 0 }
     ensures rests { result ≡ true → IsResting pass.new }
     ensures removing { result ≡ false → IsRemoving pass.new pending.now.key pending.now.leaf }
@@ -170,10 +186,11 @@ fn finish_with(
 impl Tree {
     /// Inserts a key, and answers whether it was not in the set.
     ///
-    /// A try is a walk with its answer, or a link of two new nodes with at most one cleanup of help. Room for 128 entries is made before each
-    /// try, that of the first one before the pin, in the fewest blocks, and no other memory is taken. `Pending`: a key is pending. `Busy`, `Full`,
-    /// `NoMemory`: see `Fault`. The worker is not held.
-    /// (The insert of Natarajan and Mittal, section 3.2.)
+    /// A try is a walk with its answer, or a link of two new nodes with at most one cleanup of
+    /// help. Room for 128 entries is made before each try, that of the first one before the pin, in
+    /// the fewest blocks, and no other memory is taken. `Pending`: a key is pending. `Busy`,
+    /// `Full`, `NoMemory`: see `Fault`. The worker is not held. (The insert of Natarajan and
+    /// Mittal, section 3.2.)
     pub fn insert(&self, worker: &mut Worker, key: Key, tries: u32) -> Result<bool, Fault>
         requires own { IsOf self.now worker.old.pass }
         requires free { worker.old.held ≡ None }
@@ -182,9 +199,14 @@ impl Tree {
         ensures did { HasInserted self.now.layout.nodes tries key worker.old worker.new result }
         ensures lacks { IfErr result (InsertLacks worker.new) }
         ensures moment { IfOk result (AnswerHasMoment worker.old.pass worker.new.pass Insert key) }
-        ensures won { HasWon worker.old.pass.view.log worker.new.pass.view.log (links_won result) 0 }
-        ensures steps { length worker.new.pass.view.log ≤ length worker.old.pass.view.log + tries * (4 * self.now.layout.nodes + 8 * chain_bound) + 6 * self.now.layout.nodes + 10 }
-        ensures queues { KeepsOthers worker.old.pass.view.number worker.old.queues worker.new.queues }
+        ensures won { HasWon worker.old.pass.view.log worker.new.pass.view.log (links_won result)
+            0 }
+        ensures steps { length worker.new.pass.view.log
+            ≤ length worker.old.pass.view.log
+            + tries * (4 * self.now.layout.nodes + 8 * chain_bound) + 6 * self.now.layout.nodes
+            + 10 }
+        ensures queues { KeepsOthers worker.old.pass.view.number worker.old.queues
+            worker.new.queues }
         ensures blocks { TakeRoom worker.old.queues worker.new.queues }
         ensures held { worker.new.held ≡ None }
         ensures fit { worker.new.fit ≡ worker.old.fit }
@@ -212,24 +234,33 @@ impl Tree {
         }
     }
 
-    /// Deletes a key, and answers whether it was in the set: true once the leaf with the key is cut off.
+    /// Deletes a key, and answers whether it was in the set: true once the leaf with the key is cut
+    /// off.
     ///
-    /// A try to flag ends with the answer that the key is not there or with a flag, won or lost, with at most one cleanup of help where it is lost;
-    /// from the flag on each cleanup is a try, so that true takes two of them at least. Room for 128 entries is made before each try, that of the
-    /// first one before the pin, in the fewest blocks, and no other memory is taken. `Unfinished`: the leaf is flagged, all tries were made or
-    /// the room of one was refused, and the key is pending: `finish` goes on. `Pending`, `Busy`, `NoMemory`: see `Fault`. The worker is not held.
-    /// (The delete of Natarajan and Mittal, section 3.2.)
+    /// A try to flag ends with the answer that the key is not there or with a flag, won or lost,
+    /// with at most one cleanup of help where it is lost; from the flag on each cleanup is a try,
+    /// so that true takes two of them at least. Room for 128 entries is made before each try, that
+    /// of the first one before the pin, in the fewest blocks, and no other memory is taken.
+    /// `Unfinished`: the leaf is flagged, all tries were made or the room of one was refused, and
+    /// the key is pending: `finish` goes on. `Pending`, `Busy`, `NoMemory`: see `Fault`. The worker
+    /// is not held. (The delete of Natarajan and Mittal, section 3.2.)
     pub fn delete(&self, worker: &mut Worker, key: Key, tries: u32) -> Result<bool, Fault>
         requires own { IsOf self.now worker.old.pass }
         requires free { worker.old.held ≡ None }
         ensures same { IsSamePass worker.old.pass worker.new.pass }
         ensures past { HasSeenAllOf worker.new.pass worker.old.pass }
         ensures did { HasDeleted self.now.layout.nodes tries key worker.old worker.new result }
-        ensures lacks { IfErr result (DeleteLacks self.now.layout.nodes tries key worker.old worker.new) }
+        ensures lacks { IfErr result
+            (DeleteLacks self.now.layout.nodes tries key worker.old worker.new) }
         ensures moment { IfOk result (AnswerHasMoment worker.old.pass worker.new.pass Delete key) }
-        ensures won { HasWon worker.old.pass.view.log worker.new.pass.view.log 0 (flags_won result) }
-        ensures steps { length worker.new.pass.view.log ≤ length worker.old.pass.view.log + tries * (4 * self.now.layout.nodes + 8 * chain_bound) + 6 * self.now.layout.nodes + 10 }
-        ensures queues { KeepsOthers worker.old.pass.view.number worker.old.queues worker.new.queues }
+        ensures won { HasWon worker.old.pass.view.log worker.new.pass.view.log 0
+            (flags_won result) }
+        ensures steps { length worker.new.pass.view.log
+            ≤ length worker.old.pass.view.log
+            + tries * (4 * self.now.layout.nodes + 8 * chain_bound) + 6 * self.now.layout.nodes
+            + 10 }
+        ensures queues { KeepsOthers worker.old.pass.view.number worker.old.queues
+            worker.new.queues }
         ensures blocks { TakeRoom worker.old.queues worker.new.queues }
         ensures held { worker.new.held ≡ None }
         ensures fit { worker.new.fit ≡ worker.old.fit }
@@ -259,21 +290,28 @@ impl Tree {
         }
     }
 
-    /// Goes on with the delete that is pending: true once its leaf is cut off. False with no step where none is pending.
+    /// Goes on with the delete that is pending: true once its leaf is cut off. False with no step
+    /// where none is pending.
     ///
-    /// Each cleanup is a try, which walks first. Room for 128 entries is made before each try, in the fewest blocks, and no other memory is taken.
-    /// `Unfinished`: all tries were made or the room of one was refused, and the key is pending still.
-    /// (The cleanup mode of Natarajan and Mittal's delete, section 3.2.)
+    /// Each cleanup is a try, which walks first. Room for 128 entries is made before each try, in
+    /// the fewest blocks, and no other memory is taken. `Unfinished`: all tries were made or the
+    /// room of one was refused, and the key is pending still. (The cleanup mode of Natarajan and
+    /// Mittal's delete, section 3.2.)
     pub fn finish(&self, worker: &mut Worker, tries: u32) -> Result<bool, Fault>
         requires own { IsOf self.now worker.old.pass }
         ensures same { IsSamePass worker.old.pass worker.new.pass }
         ensures past { HasSeenAllOf worker.new.pass worker.old.pass }
         ensures did { HasFinished self.now.layout.nodes tries worker.old worker.new result }
-        ensures lacks { IfErr result (FinishLacks self.now.layout.nodes tries worker.old worker.new) }
+        ensures lacks { IfErr result
+            (FinishLacks self.now.layout.nodes tries worker.old worker.new) }
         ensures moment { FinishHasMoment worker.old worker.new result }
         ensures won { HasWon worker.old.pass.view.log worker.new.pass.view.log 0 0 }
-        ensures steps { length worker.new.pass.view.log ≤ length worker.old.pass.view.log + tries * (4 * self.now.layout.nodes + 8 * chain_bound) + 6 * self.now.layout.nodes + 10 }
-        ensures queues { KeepsOthers worker.old.pass.view.number worker.old.queues worker.new.queues }
+        ensures steps { length worker.new.pass.view.log
+            ≤ length worker.old.pass.view.log
+            + tries * (4 * self.now.layout.nodes + 8 * chain_bound) + 6 * self.now.layout.nodes
+            + 10 }
+        ensures queues { KeepsOthers worker.old.pass.view.number worker.old.queues
+            worker.new.queues }
         ensures blocks { TakeRoom worker.old.queues worker.new.queues }
         ensures held { worker.new.held ≡ worker.old.held }
         ensures fit { worker.new.fit ≡ worker.old.fit }

@@ -35,10 +35,12 @@ pub struct CloseError {
     pub workers: Vec<Worker>,
 }
 
-/// What stood in a tree at its end. The free and the reached slots and the nodes that wait are together all its nodes but the five fixed ones.
+/// What stood in a tree at its end. The free and the reached slots and the nodes that wait are
+/// together all its nodes but the five fixed ones.
 #[derive(Drop)]
 pub struct Report {
-    /// The nodes that wait, oldest first, with their labels: one queue a worker, in the order of the workers' numbers.
+    /// The nodes that wait, oldest first, with their labels: one queue a worker, in the order of
+    /// the workers' numbers.
     pub queues: Vec<HeldQueue>,
     /// The keys of the set, ascending, and those of leaves that are flagged and not cut off.
     pub keys: Vec<Key>,
@@ -49,15 +51,19 @@ pub struct Report {
 }
 
 impl Tree {
-    /// Ends the tree and all its workers, and tells what is left. The workers may come in any order, and may be held or have a pending key; a
-    /// worker that resigned comes with its heir. All memory is taken before the first step; at most one step a worker, and none of the last.
+    /// Ends the tree and all its workers, and tells what is left. The workers may come in any
+    /// order, and may be held or have a pending key; a worker that resigned comes with its heir.
+    /// All memory is taken before the first step; at most one step a worker, and none of the last.
     ///
-    /// `NotAll`: fewer workers were given than the tree has. `NoMemory`: the room of the report was refused. The tree and its workers are handed
-    /// back as they were.
+    /// `NotAll`: fewer workers were given than the tree has. `NoMemory`: the room of the report was
+    /// refused. The tree and its workers are handed back as they were.
     pub fn close(self, workers: Vec<Worker>) -> Result<Report, CloseError>
         requires own { AreAllOf self workers.items }
-        ensures closed { IfOk result (λ r. IsClosed self workers.items r.queues.items r.keys.items r.free r.reached) }
-        ensures refused { IfErr result (λ e. IsCloseReason self workers.items e.reason × (e.tree ≡ self) × (e.workers.items ≡ workers.items)) }
+        ensures closed { IfOk result
+            (λ r. IsClosed self workers.items r.queues.items r.keys.items r.free r.reached) }
+        ensures refused { IfErr result
+            (λ e. IsCloseReason self workers.items e.reason × (e.tree ≡ self)
+            × (e.workers.items ≡ workers.items)) }
     {
         let layout = self.shared.layout();
         let made = layout.workers();
@@ -85,7 +91,8 @@ fn close_all(tree: Tree, workers: Vec<Worker>, room: Room) -> Report
     requires own { AreAllOf tree workers.items }
     requires all { tree.layout.workers ≤ given_in workers.items }
     requires room { room ≡ tree.layout }
-    ensures { IsClosed tree workers.items result.queues.items result.keys.items result.free result.reached }
+    ensures { IsClosed tree workers.items result.queues.items result.keys.items result.free
+        result.reached }
 {
     let Tree { shared } = tree;
     let Worker {
@@ -111,11 +118,14 @@ fn close_all(tree: Tree, workers: Vec<Worker>, room: Room) -> Report
     }
 }
 
-/// What follows of every tree that was closed: just as many workers were given as it has; what the splices of each worker cut off is what was freed of
-/// it and then its queue of the report; each slot above 5 stands once, in the pool, on one path, or at one index of one queue, and so the free slots, the
-/// reached ones and those that wait are all of these; a core tells the same keys and counts behind the run that ends with the tree's words, and none
-/// private. That run has a history; each key of its set stands on an unflagged edge as often as calls for it won a link, less as often as they won a
-/// flag, both by the logs of all workers; and with no delete pending so often, once or never, each key is told.
+/// What follows of every tree that was closed: just as many workers were given as it has; what the
+/// splices of each worker cut off is what was freed of it and then its queue of the report; each
+/// slot above 5 stands once, in the pool, on one path, or at one index of one queue, and so the
+/// free slots, the reached ones and those that wait are all of these; a core tells the same keys
+/// and counts behind the run that ends with the tree's words, and none private. That run has a
+/// history; each key of its set stands on an unflagged edge as often as calls for it won a link,
+/// less as often as they won a flag, both by the logs of all workers; and with no delete pending so
+/// often, once or never, each key is told.
 pub fn closed_trees_are_accounted_for()
     ensures given { AllWereGiven }
     ensures accounted { OfEachClosed QueuesAreTheRest }

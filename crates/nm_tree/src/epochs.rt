@@ -23,10 +23,11 @@ use nm_pool::Placement;
 use nm_steps::{Pass, Shared};
 
 impl Tree {
-    /// Pins the epoch for the caller, until `unpin`: the worker is held at the epoch that is answered, and what it holds back is not freed.
-    /// It takes no memory.
+    /// Pins the epoch for the caller, until `unpin`: the worker is held at the epoch that is
+    /// answered, and what it holds back is not freed. It takes no memory.
     ///
-    /// `Moved`: the epoch moved on in each of `tries` tries; with 0 tries it was only read. `Pending`: a key is pending. The worker is not held.
+    /// `Moved`: the epoch moved on in each of `tries` tries; with 0 tries it was only read.
+    /// `Pending`: a key is pending. The worker is not held.
     pub fn pin(&self, worker: &mut Worker, tries: u32) -> Result<u64, PinFault>
         requires own { IsOf self.now worker.old.pass }
         requires free { worker.old.held ≡ None }
@@ -34,7 +35,8 @@ impl Tree {
         ensures past { HasSeenAllOf worker.new.pass worker.old.pass }
         ensures did { HasPinned tries worker.old worker.new result }
         ensures queues { worker.new.queues ≡ worker.old.queues }
-        ensures steps { length worker.new.pass.view.log ≤ length worker.old.pass.view.log + (3 * tries + 1) }
+        ensures steps { length worker.new.pass.view.log
+            ≤ length worker.old.pass.view.log + (3 * tries + 1) }
         ensures fit { worker.new.fit ≡ worker.old.fit }
         ensures between { IsBetweenCalls worker.new }
     {
@@ -66,53 +68,64 @@ impl Tree {
         worker.standing = Standing::Resting;
     }
 
-    /// Moves the epoch on by one, if no worker holds it back; see `Advance`. It may be called at any time, and takes no memory. At most as many
-    /// steps as there are workers, and one.
+    /// Moves the epoch on by one, if no worker holds it back; see `Advance`. It may be called at
+    /// any time, and takes no memory. At most as many steps as there are workers, and one.
     pub fn advance(&self, worker: &mut Worker) -> Advance
         requires own { IsOf self.now worker.old.pass }
         ensures same { IsSamePass worker.old.pass worker.new.pass }
         ensures past { HasSeenAllOf worker.new.pass worker.old.pass }
-        ensures did { IsAdvance self.now.layout.workers worker.old.pass.view.number (epochs worker.old.pass).pin worker.old.pass.view.log worker.new.pass.view.log result }
+        ensures did { IsAdvance self.now.layout.workers worker.old.pass.view.number
+            (epochs worker.old.pass).pin worker.old.pass.view.log worker.new.pass.view.log result }
         ensures place { KeepsPlace worker.old worker.new }
         ensures queues { worker.new.queues ≡ worker.old.queues }
-        ensures steps { length worker.new.pass.view.log ≤ length worker.old.pass.view.log + self.now.layout.workers + 1 }
+        ensures steps { length worker.new.pass.view.log
+            ≤ length worker.old.pass.view.log + self.now.layout.workers + 1 }
         ensures fit { worker.new.fit ≡ worker.old.fit }
         ensures between { IsBetweenCalls worker.new }
     {
         advance(&self.shared, &mut worker.pass)
     }
 
-    /// Which workers hold the epoch back, this one included. It may be called at any time, and takes no memory. At most as many steps as there are workers.
+    /// Which workers hold the epoch back, this one included. It may be called at any time, and
+    /// takes no memory. At most as many steps as there are workers.
     pub fn behind(&self, worker: &mut Worker) -> Behind
         requires own { IsOf self.now worker.old.pass }
         ensures same { IsSamePass worker.old.pass worker.new.pass }
         ensures past { HasSeenAllOf worker.new.pass worker.old.pass }
-        ensures did { IsBehind self.now.layout.workers worker.old.pass.view.number (epochs worker.old.pass).pin worker.old.pass.view.log worker.new.pass.view.log result }
+        ensures did { IsBehind self.now.layout.workers worker.old.pass.view.number
+            (epochs worker.old.pass).pin worker.old.pass.view.log worker.new.pass.view.log result }
         ensures place { KeepsPlace worker.old worker.new }
         ensures queues { worker.new.queues ≡ worker.old.queues }
-        ensures steps { length worker.new.pass.view.log ≤ length worker.old.pass.view.log + self.now.layout.workers }
+        ensures steps { length worker.new.pass.view.log
+            ≤ length worker.old.pass.view.log + self.now.layout.workers }
         ensures fit { worker.new.fit ≡ worker.old.fit }
         ensures between { IsBetweenCalls worker.new }
     {
         behind(&self.shared, &mut worker.pass)
     }
 
-    /// Reads the epoch, and frees what is ripe at the front of each queue that the worker holds, origin by origin: exactly the longest front of
-    /// nodes whose labels are at least two below that epoch, which is not below any that this worker had read. Their slots may be claimed again.
-    /// Where one of them was cut, whoever was pinned then has left since, as far as the worker has now seen (`grace`: Fraser, section 5.2.3).
-    /// It may be called at any time, and takes no memory.
+    /// Reads the epoch, and frees what is ripe at the front of each queue that the worker holds,
+    /// origin by origin: exactly the longest front of nodes whose labels are at least two below
+    /// that epoch, which is not below any that this worker had read. Their slots may be claimed
+    /// again. Where one of them was cut, whoever was pinned then has left since, as far as the
+    /// worker has now seen (`grace`: Fraser, section 5.2.3). It may be called at any time, and
+    /// takes no memory.
     pub fn collect(&self, worker: &mut Worker) -> Collected
         requires own { IsOf self.now worker.old.pass }
         ensures same { IsSamePass worker.old.pass worker.new.pass }
         ensures past { HasSeenAllOf worker.new.pass worker.old.pass }
-        ensures did { IsCollection result.epoch worker.old.queues worker.old.pass.view.log worker.new.pass.view.log }
+        ensures did { IsCollection result.epoch worker.old.queues worker.old.pass.view.log
+            worker.new.pass.view.log }
         ensures freed { result.freed ≡ length (ripe_of result.epoch worker.old.queues) }
         ensures lost { HaveLost result.epoch worker.old.queues worker.new.queues }
-        ensures grace { All (λ (e : Entry). IsFreedInGrace worker.new.pass.view e.node) (ripe_of result.epoch worker.old.queues) }
+        ensures grace { All (λ (e : Entry). IsFreedInGrace worker.new.pass.view e.node)
+            (ripe_of result.epoch worker.old.queues) }
         ensures blocks { blocks_of worker.new.queues ≡ blocks_of worker.old.queues }
-        ensures newest { (epoch : ℕ) → HasRead worker.old.pass.view.log epoch → epoch ≤ result.epoch }
+        ensures newest { (epoch : ℕ) → HasRead worker.old.pass.view.log epoch
+            → epoch ≤ result.epoch }
         ensures place { KeepsPlace worker.old worker.new }
-        ensures steps { length worker.new.pass.view.log ≤ length worker.old.pass.view.log + self.now.layout.nodes }
+        ensures steps { length worker.new.pass.view.log
+            ≤ length worker.old.pass.view.log + self.now.layout.nodes }
         ensures fit { worker.new.fit ≡ worker.old.fit }
         ensures between { IsBetweenCalls worker.new }
     {
@@ -146,7 +159,8 @@ fn collect_all(
     ensures blocks { blocks_of queues.new.items ≡ blocks_of queues.old.items }
     ensures newest { (epoch : ℕ) → HasRead pass.old.view.log epoch → epoch ≤ result.epoch }
     ensures queues { AreHeld (knowledge pass.new.view) queues.new.items }
-    ensures others { KeepsOthers result.epoch queues.old.items (knowledge pass.old.view) (knowledge pass.new.view) }
+    ensures others { KeepsOthers result.epoch queues.old.items (knowledge pass.old.view)
+        (knowledge pass.new.view) }
     ensures retired { KeepsRetired (knowledge pass.old.view) (knowledge pass.new.view) }
     ensures steps { length pass.new.view.log ≤ length pass.old.view.log + shared.now.layout.nodes }
     ensures settles { Settles pass.old pass.new }

@@ -15,11 +15,13 @@ use nm_calls::{Busy, has};
 use nm_edge::Key;
 
 impl Tree {
-    /// Whether the set has the key, by the key of the leaf at which the walk for it ends, flagged or not. It takes no memory.
+    /// Whether the set has the key, by the key of the leaf at which the walk for it ends, flagged
+    /// or not. It takes no memory.
     ///
-    /// `Busy`: `tries` is 0, and there was no step; or the pin was lost in each of `tries` tries; or each of `tries` walks had looked at as
-    /// many nodes as there are, and none had ended. `Pending`: a key is pending. The worker is not held.
-    /// (The search of Natarajan and Mittal, section 3.2.)
+    /// `Busy`: `tries` is 0, and there was no step; or the pin was lost in each of `tries` tries;
+    /// or each of `tries` walks had looked at as many nodes as there are, and none had ended.
+    /// `Pending`: a key is pending. The worker is not held. (The search of Natarajan and Mittal,
+    /// section 3.2.)
     pub fn has(&self, worker: &mut Worker, key: Key, tries: u32) -> Result<bool, Fault>
         requires own { IsOf self.now worker.old.pass }
         requires free { worker.old.held ≡ None }
@@ -28,7 +30,10 @@ impl Tree {
         ensures did { HasAnswered self.now.layout.nodes tries key worker.old worker.new result }
         ensures moment { IfOk result (AnswerHasMoment worker.old.pass worker.new.pass Has key) }
         ensures won { HasWon worker.old.pass.view.log worker.new.pass.view.log 0 0 }
-        ensures steps { length worker.new.pass.view.log ≤ length worker.old.pass.view.log + tries * (4 * self.now.layout.nodes + 8 * chain_bound) + 6 * self.now.layout.nodes + 10 }
+        ensures steps { length worker.new.pass.view.log
+            ≤ length worker.old.pass.view.log
+            + tries * (4 * self.now.layout.nodes + 8 * chain_bound) + 6 * self.now.layout.nodes
+            + 10 }
         ensures queues { worker.new.queues ≡ worker.old.queues }
         ensures held { worker.new.held ≡ None }
         ensures fit { worker.new.fit ≡ worker.old.fit }

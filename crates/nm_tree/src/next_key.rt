@@ -14,23 +14,30 @@ use nm_calls::{Busy, next};
 use nm_edge::Key;
 
 impl Tree {
-    /// The least key of the set that is not below `key`, or `None` where there is none, as walks find it. With `Some(found)` the set had `found` at
-    /// a moment of this call, and of each key from `key` on below `found` there was a moment of this call at which the set did not have it; with
-    /// `None` so of each key from `key` on. The moments of two keys may differ: the answer is weakly consistent, as the iterators of Java's
-    /// `ConcurrentSkipListSet`. Each is later than all that the worker had seen before. It takes no memory.
+    /// The least key of the set that is not below `key`, or `None` where there is none, as walks
+    /// find it. With `Some(found)` the set had `found` at a moment of this call, and of each key
+    /// from `key` on below `found` there was a moment of this call at which the set did not have
+    /// it; with `None` so of each key from `key` on. The moments of two keys may differ: the answer
+    /// is weakly consistent, as the iterators of Java's `ConcurrentSkipListSet`. Each is later than
+    /// all that the worker had seen before. It takes no memory.
     ///
-    /// `Busy`: `tries` is 0, and there was no step; or the pin was lost in each of `tries` tries; or a walk had looked at as many nodes as there
-    /// are, and had not ended; or `tries` walks were not enough: in a tree at rest two are, which no clause tells. `Pending`: a key is pending. The
-    /// worker is not held. At most `tries` * (3 `nodes` + 4) + 2 steps. (The search of Natarajan and Mittal, section 3.2.)
+    /// `Busy`: `tries` is 0, and there was no step; or the pin was lost in each of `tries` tries;
+    /// or a walk had looked at as many nodes as there are, and had not ended; or `tries` walks were
+    /// not enough: in a tree at rest two are, which no clause tells. `Pending`: a key is pending.
+    /// The worker is not held. At most `tries` * (3 `nodes` + 4) + 2 steps. (The search of
+    /// Natarajan and Mittal, section 3.2.)
     pub fn next(&self, worker: &mut Worker, key: Key, tries: u32) -> Result<Option<Key>, Fault>
         requires own { IsOf self.now worker.old.pass }
         requires free { worker.old.held ≡ None }
         ensures same { IsSamePass worker.old.pass worker.new.pass }
         ensures past { HasSeenAllOf worker.new.pass worker.old.pass }
-        ensures did { HasLooked tries (tries * most_looks self.now.layout.nodes 1) worker.old worker.new result }
+        ensures did { HasLooked tries (tries * most_looks self.now.layout.nodes 1) worker.old
+            worker.new result }
         ensures moment { IfOk result (WasNext worker.old.pass worker.new.pass key) }
         ensures won { HasWon worker.old.pass.view.log worker.new.pass.view.log 0 0 }
-        ensures steps { length worker.new.pass.view.log ≤ length worker.old.pass.view.log + 3 * tries + tries * most_looks self.now.layout.nodes 1 + 2 }
+        ensures steps { length worker.new.pass.view.log
+            ≤ length worker.old.pass.view.log + 3 * tries
+            + tries * most_looks self.now.layout.nodes 1 + 2 }
         ensures queues { worker.new.queues ≡ worker.old.queues }
         ensures held { worker.new.held ≡ None }
         ensures fit { worker.new.fit ≡ worker.old.fit }

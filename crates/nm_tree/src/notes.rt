@@ -9,11 +9,13 @@ use crate::worker::Worker;
 use nm_steps::Note;
 
 impl Tree {
-    /// A note of all that the worker has seen, its own calls and those of others that came before them. It may go to another thread, with a message
-    /// or in any other way, and does nothing where it is dropped. It may be made at any time, and the worker stays as it is: no step, no word that is
-    /// written, no lock and no memory.
+    /// A note of all that the worker has seen, its own calls and those of others that came before
+    /// them. It may go to another thread, with a message or in any other way, and does nothing
+    /// where it is dropped. It may be made at any time, and the worker stays as it is: no step, no
+    /// word that is written, no lock and no memory.
     ///
-    /// Calls of workers that have told each other nothing are in some order, of which their callers know nothing; `hear` makes it known.
+    /// Calls of workers that have told each other nothing are in some order, of which their callers
+    /// know nothing; `hear` makes it known.
     pub fn note(&self, worker: &mut Worker) -> Note
         requires own { IsOf self.now worker.old.pass }
         ensures same { worker.new ≡ worker.old }
@@ -22,9 +24,11 @@ impl Tree {
         self.shared.note(&mut worker.pass)
     }
 
-    /// The worker hears a note of a worker of this tree: all that it is asked from then on comes behind all that the other one had done when the note
-    /// was made. So a key whose insert was answered true before is found, unless a delete of it has won a flag in what the worker has then seen. It
-    /// may hear at any time, held or with a key pending. One read of the epoch, which is in no log: no word is written, no lock and no memory.
+    /// The worker hears a note of a worker of this tree: all that it is asked from then on comes
+    /// behind all that the other one had done when the note was made. So a key whose insert was
+    /// answered true before is found, unless a delete of it has won a flag in what the worker has
+    /// then seen. It may hear at any time, held or with a key pending. One read of the epoch, which
+    /// is in no log: no word is written, no lock and no memory.
     pub fn hear(&self, worker: &mut Worker, note: Note)
         requires own { IsOf self.now worker.old.pass }
         requires table { note.table ≡ self.now.table }

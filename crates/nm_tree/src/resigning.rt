@@ -17,7 +17,8 @@ pub enum ResignReason {
     /// The caller holds the leaver: it is pinned until `unpin`.
     #[error("the leaver is held")]
     Held,
-    /// The leaver has flagged a leaf which is not known to be cut off: it is pinned until `finish` answers true.
+    /// The leaver has flagged a leaf which is not known to be cut off: it is pinned until `finish`
+    /// answers true.
     #[error("the leaver has a pending key")]
     Pending,
 }
@@ -31,17 +32,20 @@ pub struct ResignFault {
 }
 
 impl Tree {
-    /// The leaver resigns: its heir holds all queues that it held, each in its order, and `collect` of the heir frees from them too. One step,
-    /// and no memory. It is for a thread that ends before the others. Both are workers of this tree; the heir may be held or have a pending key.
-    /// The heir has then seen all that both had seen.
+    /// The leaver resigns: its heir holds all queues that it held, each in its order, and `collect`
+    /// of the heir frees from them too. One step, and no memory. It is for a thread that ends
+    /// before the others. Both are workers of this tree; the heir may be held or have a pending
+    /// key. The heir has then seen all that both had seen.
     ///
-    /// `Held`: the leaver is held. `Pending`: it has a pending key. Both workers are handed back as they were, after no step.
-    /// (Limbo lists that are passed on: Fraser, Practical lock-freedom, section 5.2.3.)
+    /// `Held`: the leaver is held. `Pending`: it has a pending key. Both workers are handed back as
+    /// they were, after no step. (Limbo lists that are passed on: Fraser, Practical lock-freedom,
+    /// section 5.2.3.)
     pub fn resign(&self, heir: Worker, leaver: Worker) -> Result<Worker, ResignFault>
         requires heir { IsOf self.now heir.pass }
         requires leaver { IsOf self.now leaver.pass }
         ensures done { IfOk result (HasResigned heir leaver) }
-        ensures refused { IfErr result (λ f. IsReason leaver f.reason × (f.heir ≡ heir) × (f.leaver ≡ leaver)) }
+        ensures refused { IfErr result
+            (λ f. IsReason leaver f.reason × (f.heir ≡ heir) × (f.leaver ≡ leaver)) }
     {
         let reason = match leaver.standing {
             Standing::Held(_) => ResignReason::Held,
@@ -108,11 +112,15 @@ fn take_over(
     mut theirs: Vec<Account>,
 )
     requires room { length queues.old.items + length more.items ≤ vec_capacity queues.old }
-    requires account_room { length queues.old.items + length more.items ≤ vec_capacity accounts.old }
-    requires paired { (length accounts.old.items ≡ length queues.old.items) × (length theirs.items ≡ length more.items) }
+    requires account_room { length queues.old.items + length more.items
+        ≤ vec_capacity accounts.old }
+    requires paired { (length accounts.old.items ≡ length queues.old.items)
+        × (length theirs.items ≡ length more.items) }
     ensures queues { queues.new.items ≡ merged queues.old.items more.items }
-    ensures accounts { accounts.new.items ≡ merged_accounts queues.old.items accounts.old.items more.items theirs.items }
-    ensures capacity { (vec_capacity queues.new ≡ vec_capacity queues.old) × (vec_capacity accounts.new ≡ vec_capacity accounts.old) }
+    ensures accounts { accounts.new.items
+        ≡ merged_accounts queues.old.items accounts.old.items more.items theirs.items }
+    ensures capacity { (vec_capacity queues.new ≡ vec_capacity queues.old)
+        × (vec_capacity accounts.new ≡ vec_capacity accounts.old) }
 {
     while let Some(queue) = more.pop() {
         let Some(account) = theirs.pop() else {
@@ -126,7 +134,8 @@ fn take_over(
 
 /// Puts an item at an index. There is room for it.
 fn put_at<T: Drop>(items: &mut Vec<T>, place: usize, item: T)
-    requires { (place ≤ length items.old.items) × (length items.old.items < vec_capacity items.old) }
+    requires { (place ≤ length items.old.items)
+        × (length items.old.items < vec_capacity items.old) }
     ensures items { items.new.items ≡ insert items.old.items place item }
     ensures capacity { vec_capacity items.new ≡ vec_capacity items.old }
 {

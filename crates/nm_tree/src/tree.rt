@@ -31,25 +31,31 @@ impl Model for Tree {
 }
 
 impl Tree {
-    /// The empty set with room for `nodes` nodes, 7 to 1,048,576 with five fixed ones, and its workers, 1 to 64, in the order of their
-    /// numbers from 0 on. A key takes two nodes, and a removed node is free again some time after its removal. A new node takes the lowest slot
+    /// The empty set with room for `nodes` nodes, 7 to 1,048,576 with five fixed ones, and its
+    /// workers, 1 to 64, in the order of their numbers from 0 on. A key takes two nodes, and a
+    /// removed node is free again some time after its removal. A new node takes the lowest slot
     /// that its worker finds free.
     ///
-    /// `NoMemory`: nothing is kept. The room in which a worker may take over the queues of others is made here.
+    /// `NoMemory`: nothing is kept. The room in which a worker may take over the queues of others
+    /// is made here.
     pub fn new(alloc: Global, nodes: u32, workers: u32) -> Result<(Tree, Vec<Worker>), NewError>
         ensures layout { IfOk result (λ r. r.0.layout ≡ dense nodes workers) }
         ensures count { IfOk result (λ r. length r.1.items ≡ workers) }
         ensures new { IfOk result (λ r. AreNew r.0 0 r.1.items) }
         ensures fit { IfOk result (λ r. HaveFit Fit.Lowest r.1.items) }
         ensures ready { IfOk result (λ r. All (IsReady r.0) r.1.items) }
-        ensures nodes { IsErrOf result NewError.Nodes ↔ ((nodes < LEAST_NODES) ⊎ (MOST_NODES < nodes)) }
-        ensures workers { IsErrOf result NewError.Workers ↔ ((LEAST_NODES ≤ nodes) × (nodes ≤ MOST_NODES) × ((workers < 1) ⊎ (MOST_WORKERS < workers))) }
+        ensures nodes { IsErrOf result NewError.Nodes
+            ↔ ((nodes < LEAST_NODES) ⊎ (MOST_NODES < nodes)) }
+        ensures workers { IsErrOf result NewError.Workers
+            ↔ ((LEAST_NODES ≤ nodes) × (nodes ≤ MOST_NODES)
+            × ((workers < 1) ⊎ (MOST_WORKERS < workers))) }
     {
         Tree::of(alloc, layout_of(nodes, workers)?, Fit::Lowest)
     }
 
-    /// The same, but a worker looks for a free slot first among the last four that it gave back, and then from its cursor upwards, and round. So
-    /// a claim takes few steps where most slots are free, and which slot a new node takes is not told beforehand.
+    /// The same, but a worker looks for a free slot first among the last four that it gave back,
+    /// and then from its cursor upwards, and round. So a claim takes few steps where most slots are
+    /// free, and which slot a new node takes is not told beforehand.
     ///
     /// (Next fit: Knuth, The Art of Computer Programming, volume 1, section 2.5.)
     pub fn near(alloc: Global, nodes: u32, workers: u32) -> Result<(Tree, Vec<Worker>), NewError>
@@ -58,15 +64,19 @@ impl Tree {
         ensures new { IfOk result (λ r. AreNew r.0 0 r.1.items) }
         ensures fit { IfOk result (λ r. HaveFit Fit.Near r.1.items) }
         ensures ready { IfOk result (λ r. All (IsReady r.0) r.1.items) }
-        ensures nodes { IsErrOf result NewError.Nodes ↔ ((nodes < LEAST_NODES) ⊎ (MOST_NODES < nodes)) }
-        ensures workers { IsErrOf result NewError.Workers ↔ ((LEAST_NODES ≤ nodes) × (nodes ≤ MOST_NODES) × ((workers < 1) ⊎ (MOST_WORKERS < workers))) }
+        ensures nodes { IsErrOf result NewError.Nodes
+            ↔ ((nodes < LEAST_NODES) ⊎ (MOST_NODES < nodes)) }
+        ensures workers { IsErrOf result NewError.Workers
+            ↔ ((LEAST_NODES ≤ nodes) × (nodes ≤ MOST_NODES)
+            × ((workers < 1) ⊎ (MOST_WORKERS < workers))) }
     {
         Tree::of(alloc, layout_of(nodes, workers)?, Fit::Near)
     }
 
-    /// The same as `near` or, with `Fit::Lowest`, as `new`, but each announcement has a cache line of its own, and no node lies in two lines, so that
-    /// workers in threads of their own disturb each other less; and there may be more nodes, 7 to 268,435,456. It takes 32 bytes a node and a bit, 64 a
-    /// worker, the same again while it is made, and time for each node.
+    /// The same as `near` or, with `Fit::Lowest`, as `new`, but each announcement has a cache line
+    /// of its own, and no node lies in two lines, so that workers in threads of their own disturb
+    /// each other less; and there may be more nodes, 7 to 268,435,456. It takes 32 bytes a node and
+    /// a bit, 64 a worker, the same again while it is made, and time for each node.
     pub fn spaced(
         alloc: Global,
         nodes: u32,
@@ -78,13 +88,17 @@ impl Tree {
         ensures new { IfOk result (λ r. AreNew r.0 0 r.1.items) }
         ensures fit { IfOk result (λ r. HaveFit fit r.1.items) }
         ensures ready { IfOk result (λ r. All (IsReady r.0) r.1.items) }
-        ensures nodes { IsErrOf result NewError.Nodes ↔ ((nodes < LEAST_NODES) ⊎ (MOST_SPACED_NODES < nodes)) }
-        ensures workers { IsErrOf result NewError.Workers ↔ ((LEAST_NODES ≤ nodes) × (nodes ≤ MOST_SPACED_NODES) × ((workers < 1) ⊎ (MOST_WORKERS < workers))) }
+        ensures nodes { IsErrOf result NewError.Nodes
+            ↔ ((nodes < LEAST_NODES) ⊎ (MOST_SPACED_NODES < nodes)) }
+        ensures workers { IsErrOf result NewError.Workers
+            ↔ ((LEAST_NODES ≤ nodes) × (nodes ≤ MOST_SPACED_NODES)
+            × ((workers < 1) ⊎ (MOST_WORKERS < workers))) }
     {
         Tree::of(alloc, spaced_layout_of(nodes, workers)?, fit)
     }
 
-    /// The empty set of a layout and its workers, which claim by that fit. The only error is `NoMemory`, and then nothing is kept.
+    /// The empty set of a layout and its workers, which claim by that fit. The only error is
+    /// `NoMemory`, and then nothing is kept.
     pub fn of(alloc: Global, layout: Layout, fit: Fit) -> Result<(Tree, Vec<Worker>), NewError>
         ensures layout { IfOk result (λ r. r.0.layout ≡ layout) }
         ensures count { IfOk result (λ r. length r.1.items ≡ layout.workers) }
@@ -101,7 +115,8 @@ impl Tree {
     }
 }
 
-/// A worker of a pass that has done nothing yet, with room for the queues of all origins. Its cursor stands behind a share of the slots for each lesser number.
+/// A worker of a pass that has done nothing yet, with room for the queues of all origins. Its
+/// cursor stands behind a share of the slots for each lesser number.
 fn worker_of(
     alloc: Global,
     pass: Pass,

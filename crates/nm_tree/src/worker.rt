@@ -48,7 +48,8 @@ pub(crate) struct Account {
     pub(crate) waiting: u32,
 }
 
-/// What a worker has won, and what became of the nodes that its splices cut off. Each count but the last stays where it is at 2^64 - 1.
+/// What a worker has won, and what became of the nodes that its splices cut off. Each count but the
+/// last stays where it is at 2^64 - 1.
 #[derive(Clone, Copy, Debug, PartialEq, Eq)]
 pub struct Counts {
     /// The links that it has won: each put a new key into the set.
@@ -65,7 +66,8 @@ pub struct Counts {
     pub queued: u64,
 }
 
-/// One worker of a tree: what a thread needs to make calls on it. It may go to another thread between two calls.
+/// One worker of a tree: what a thread needs to make calls on it. It may go to another thread
+/// between two calls.
 #[derive(Drop)]
 pub struct Worker {
     pub(crate) pass: Pass,
@@ -86,9 +88,23 @@ impl Model for Worker {
 
     ghost Value = { Hand };
 
-    ghost view = { λ w. record { pass = w.pass; queues = w.queues.items; pending = pending_in w.standing; held = held_in w.standing; fit = w.placement } };
+    ghost view = { λ w. record {
+      pass = w.pass;
+      queues = w.queues.items;
+      pending = pending_in w.standing;
+      held = held_in w.standing;
+      fit = w.placement;
+    } };
 
-    ghost invariant = { λ w. IsWorker (record { pass = w.pass; queues = w.queues.items; pending = pending_in w.standing; held = held_in w.standing; fit = w.placement }) w.accounts.items w.home (vec_capacity w.queues) (vec_capacity w.accounts) };
+    ghost invariant = { λ w. IsWorker
+        (record {
+          pass = w.pass;
+          queues = w.queues.items;
+          pending = pending_in w.standing;
+          held = held_in w.standing;
+          fit = w.placement;
+        }) w.accounts.items w.home
+        (vec_capacity w.queues) (vec_capacity w.accounts) };
 }
 
 impl Worker {
@@ -136,7 +152,8 @@ impl Worker {
         counts_of(&self.accounts[self.home])
     }
 
-    /// The same of the worker of an origin whose queue this one holds; `None` where it does not hold it.
+    /// The same of the worker of an origin whose queue this one holds; `None` where it does not
+    /// hold it.
     pub fn ledger_of(&self, origin: u32) -> Option<Counts>
         ensures some { IfSome result (IsLedger self.now.pass.view origin) }
         ensures held { IfSome result (λ _. HasOrigin origin self.now.queues) }
@@ -148,10 +165,12 @@ impl Worker {
         }
     }
 
-    /// The key of a delete that has flagged its leaf and not answered yet; `finish` goes on with it.
+    /// The key of a delete that has flagged its leaf and not answered yet; `finish` goes on with
+    /// it.
     pub fn pending(&self) -> Option<Key>
         ensures key { result ≡ option_map (λ (n : Delete). n.key) self.now.pending }
-        ensures flagged { IfSome self.now.pending (λ (n : Delete). HasFlaggedIt self.now.pass n.key n.leaf) }
+        ensures flagged { IfSome self.now.pending
+            (λ (n : Delete). HasFlaggedIt self.now.pass n.key n.leaf) }
     {
         match self.standing {
             Standing::Pending(unfinished) => Some(unfinished.key),
@@ -159,13 +178,15 @@ impl Worker {
         }
     }
 
-    /// What the worker has seen is a run of an ordered core of the tree's sizes, its log is its part of that, and it has not resigned in it. So
-    /// each law of runs holds of what it has seen, and each law of such parts of its log; and the turns that it has seen have the headline and a
-    /// history. It does nothing.
+    /// What the worker has seen is a run of an ordered core of the tree's sizes, its log is its
+    /// part of that, and it has not resigned in it. So each law of runs holds of what it has seen,
+    /// and each law of such parts of its log; and the turns that it has seen have the headline and
+    /// a history. It does nothing.
     pub fn is_of_a_run(&self)
         ensures seen { HasSeen self.now.pass.view }
         ensures turns { HasSeenTurns self.now.pass.view }
-        ensures run { IsOfRun self.now.pass.view.layout self.now.pass.view.number self.now.pass.view.log }
+        ensures run { IsOfRun self.now.pass.view.layout self.now.pass.view.number
+            self.now.pass.view.log }
         ensures fits { IsLayout self.now.pass.view.layout }
     {
         self.pass.is_of_a_run();

@@ -1,4 +1,5 @@
-//! Calls of a tree, in one thread with each answer compared, and by workers in threads of their own.
+//! Calls of a tree, in one thread with each answer compared, and by workers in threads of their
+//! own.
 ghost use Rattle.std.specs.Prelude.{◌≡◌, length, IfOk};
 ghost use Rattle.nm_steps.specs.Steps.{IsOf};
 ghost use Rattle.nm_tree.specs.Plays.{IsReady};

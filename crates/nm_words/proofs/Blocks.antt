@@ -1,5 +1,5 @@
--- Lists of blocks of one length, one after the other; lists of a head and three parts; and what a function says of each number up to a bound:
--- one element read, and one written.
+-- Lists of blocks of one length, one after the other; lists of a head and three parts; and what a
+-- function says of each number up to a bound: one element read, and one written.
 use Rattle.std.proofs.Common.{◌≡◌, ◌≢◌, ℕ, zero, suc, ◌+◌, ◌*◌, ◌<◌, ◌≤◌, List, [], ◌∷◌, ◌++◌, length, get_or, set, map, take, drop, refl, sym, ap, ◌∙◌, arith, get_or-set_same, get_or-set_other, length-set, length-append, get_or-append-add, ext_get_or, flat_map}
 use Rattle.std.specs.List.{range_with_len}
 use Rattle.std.proofs.Math.Nat.{mul-zero, mul-suc}

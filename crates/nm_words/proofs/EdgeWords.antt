@@ -1,4 +1,5 @@
--- What the word of an edge tells: the edge, and whether it is the unmarked one to a slot; and the word with its tag.
+-- What the word of an edge tells: the edge, and whether it is the unmarked one to a slot; and the
+-- word with its tag.
 use Rattle.std.proofs.Common.{◌≡◌, ◌≢◌, ℕ, ◌+◌, ◌*◌, ◌/◌, ◌%◌, ◌<◌, ◌==◌, Bool, true, false, cond, not, ◌&&◌, ap, ◌∙◌, lit<, arith}
 use Rattle.std.specs.Prelude.{bit_or}
 use Rattle.std.specs.Int.Bits.{or_zero_r}

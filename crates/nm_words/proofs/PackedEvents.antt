@@ -91,7 +91,8 @@ module _ (s : State) (h : ℕ → ℕ) (law : Lawful s h) (w : ℕ) where
       go (Splice a side x p keep) ok = high_from 1 s.layout.nodes a (or_parts (outside 1 s.layout.nodes a) (outside 6 s.layout.nodes x || outside 6 s.layout.nodes p) (passed _ _ _ ok).0).0
       go (Join v) ok = tt
 
-  -- an edge that may be tagged is not null: its twin is flagged, and a shared node has two children or none
+  -- an edge that may be tagged is not null: its twin is flagged, and a shared node has two children
+  -- or none
   not_null : (p : ℕ) (side : Side) → Allowed s w (Tag p side) → child s.memory p side ≢ 0
   unfolding refusal
   not_null p side ok' null = flagged (read (of s w) p (other side)) refl twin

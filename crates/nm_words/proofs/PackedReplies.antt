@@ -1,4 +1,5 @@
--- The reply of each event that is allowed is told by what its worker knows and the word that it finds: in every state of every run.
+-- The reply of each event that is allowed is told by what its worker knows and the word that it
+-- finds: in every state of every run.
 use Rattle.std.proofs.Common.{◌≡◌, ℕ, suc, ◌+◌, ◌-◌, ◌*◌, ◌%◌, ◌==◌, All, Bool, true, false, cond, List, ◌∷◌, [], map, refl, sym, ap, ap₂, ◌∙◌, arith, true≢false}
 use Rattle.std.specs.Prelude.{Option, Some, None, IsSome, unwrap_or, bit_and}
 use Rattle.std.proofs.lemmas.Bool.{eq-eqb, ne_eqb}

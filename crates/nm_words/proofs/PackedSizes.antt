@@ -1,4 +1,5 @@
--- The numbers of a memory are in their range in every state of every run, and so each word is below 2^64, where the keys are.
+-- The numbers of a memory are in their range in every state of every run, and so each word is below
+-- 2^64, where the keys are.
 use Rattle.std.proofs.Common.{◌≡◌, ◌≢◌, ℕ, zero, suc, ◌+◌, ◌-◌, ◌*◌, ◌^◌, ◌<◌, ◌≤◌, ◌==◌, Bool, true, false, cond, not, ◌&&◌, ◌||◌, List, ◌∷◌, [], set, get_or, take, drop, refl, sym, ap, subst, ◌∙◌, arith, length-take, lit<}
 use Rattle.std.specs.Prelude.{All, Option, Some, None, is_none, is_some, nat_le, nat_lt, unwrap_or}
 use Rattle.std.proofs.lemmas.Bool.{cond_both, or_parts, leb-false, eqb-false, eqb-true, not-false}

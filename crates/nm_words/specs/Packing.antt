@@ -73,16 +73,19 @@ EachFieldHasAWord = (L : Layout) (m : Memory) → Fits L m → length (words_of 
 
 -- the word in the list at the number of a field is the word of that field
 abbrev pub EachWordIsItsField : Type 0
-EachWordIsItsField = (L : Layout) (m : Memory) (f : Field) → Fits L m → IsField L f → word_at L m f ≡ field_word m f
+EachWordIsItsField = (L : Layout) (m : Memory) (f : Field) → Fits L m → IsField L f
+    → word_at L m f ≡ field_word m f
 
 -- a slot's bit is set exactly where the slot is in the pool
 abbrev pub EachBitIsItsSlot : Type 0
 EachBitIsItsSlot = (L : Layout) (m : Memory) (s : ℕ) → Fits L m → IsSlot L s
-    → bit_and (pool_word_at L m s) (pool_place L s).mask ≡ (if in_pool m s then (pool_place L s).mask else 0)
+    → bit_and (pool_word_at L m s) (pool_place L s).mask
+    ≡ (if in_pool m s then (pool_place L s).mask else 0)
 
 -- bits of a row that are no slot's are 0
 abbrev pub SpareBitsAreZero : Type 0
-SpareBitsAreZero = (L : Layout) (m : Memory) (r i : ℕ) → Fits L m → r < rows L → i < 64 → L.nodes ≤ 64 * r + i
+SpareBitsAreZero = (L : Layout) (m : Memory) (r i : ℕ) → Fits L m → r < rows L → i < 64
+    → L.nodes ≤ 64 * r + i
     → bit_and (word_at L m (at_row r)) (2 ^ i) ≡ 0
 
 -- the memory of a state fits its layout
@@ -91,7 +94,8 @@ StateFits s = Fits s.layout s.memory
 
 -- the five fixed slots are never in the pool
 abbrev pub FixedBitsAreZero : State → Type 0
-FixedBitsAreZero s = (x : ℕ) → 1 ≤ x → x ≤ 5 → bit_and (pool_word_at s.layout s.memory x) (pool_place s.layout x).mask ≡ 0
+FixedBitsAreZero s = (x : ℕ) → 1 ≤ x → x ≤ 5
+    → bit_and (pool_word_at s.layout s.memory x) (pool_place s.layout x).mask ≡ 0
 
 -- ---- writing: laws
 
@@ -106,11 +110,13 @@ with_pool_word L m s n = slice_set (words_of L m) (pool_place L s).word n
 -- `EpochIsOneWord`, `NoteIsOneWord`, `KeyIsOneWord`, `EdgeIsOneWord`, `BirthIsOneWord`: a memory
 -- with another epoch, note, key, edge or birth has that one word changed, and no other
 abbrev pub EpochIsOneWord : Type 0
-EpochIsOneWord = (L : Layout) (m : Memory) (e : ℕ) → words_of L (record m { epoch = e }) ≡ with_word L m at_epoch e
+EpochIsOneWord = (L : Layout) (m : Memory) (e : ℕ)
+    → words_of L (record m { epoch = e }) ≡ with_word L m at_epoch e
 
 abbrev pub NoteIsOneWord : Type 0
 NoteIsOneWord = (L : Layout) (m : Memory) (w : ℕ) (o : Option ℕ) → Fits L m → w < L.workers
-    → words_of L (record m { notes = slice_set m.notes w o }) ≡ with_word L m (at_note w) (note_word o)
+    → words_of L (record m { notes = slice_set m.notes w o })
+    ≡ with_word L m (at_note w) (note_word o)
 
 abbrev pub KeyIsOneWord : Type 0
 KeyIsOneWord = (L : Layout) (m : Memory) (s key : ℕ) → Fits L m → IsSlot L s
@@ -122,17 +128,20 @@ EdgeIsOneWord = (L : Layout) (m : Memory) (s : ℕ) (side : Side) (e : Edge) →
 
 abbrev pub BirthIsOneWord : Type 0
 BirthIsOneWord = (L : Layout) (m : Memory) (s birth : ℕ) → Fits L m → IsSlot L s
-    → words_of L (put_node m s (record (node m s) { birth = birth })) ≡ with_word L m (at_birth s) birth
+    → words_of L (put_node m s (record (node m s) { birth = birth }))
+    ≡ with_word L m (at_birth s) birth
 
 -- a slot that leaves the pool clears its bit
 abbrev pub TakingClearsABit : Type 0
 TakingClearsABit = (L : Layout) (m : Memory) (s : ℕ) → Fits L m → IsSlot L s
-    → words_of L (record m { pool = slice_set m.pool s false }) ≡ with_pool_word L m s (bit_and (pool_word_at L m s) (2 ^ 64 - 1 - (pool_place L s).mask))
+    → words_of L (record m { pool = slice_set m.pool s false })
+    ≡ with_pool_word L m s (bit_and (pool_word_at L m s) (2 ^ 64 - 1 - (pool_place L s).mask))
 
 -- a slot that comes to the pool sets its bit
 abbrev pub GivingSetsABit : Type 0
 GivingSetsABit = (L : Layout) (m : Memory) (s : ℕ) → Fits L m → IsSlot L s
-    → words_of L (record m { pool = slice_set m.pool s true }) ≡ with_pool_word L m s (bit_or (pool_word_at L m s) (pool_place L s).mask)
+    → words_of L (record m { pool = slice_set m.pool s true })
+    ≡ with_pool_word L m s (bit_or (pool_word_at L m s) (pool_place L s).mask)
 
 -- ---- events
 
@@ -145,7 +154,8 @@ field_of s Birth = at_birth s
 abbrev pub row_of : ℕ → Field
 row_of s = at_row ((s - 1) / 64)
 
--- the field whose word an event reads or writes. (A join touches none, and the epoch stands for it.)
+-- the field whose word an event reads or writes. (A join touches none, and the epoch stands for
+-- it.)
 abbrev pub touched : ℕ → Event → Field
 touched w Sight = at_epoch
 touched w (SightFor op key) = at_epoch
@@ -191,7 +201,8 @@ abbrev pub EventsTouchOneWord : State → Type 0
 EventsTouchOneWord s = (w : ℕ) (e : Event) → refused s w e ≡ None
     → IsField s.layout (touched w e)
     × (words_of s.layout (next s (w, e)).memory
-    ≡ with_word s.layout s.memory (touched w e) (left_word s.layout (of s w) e (word_at s.layout s.memory (touched w e))))
+    ≡ with_word s.layout s.memory (touched w e)
+    (left_word s.layout (of s w) e (word_at s.layout s.memory (touched w e))))
 
 -- one list is the other, or it differs from it in one element
 abbrev pub AtMostOne : List ℕ → List ℕ → Type 0
@@ -199,7 +210,8 @@ AtMostOne ns ms = (ms ≡ ns) ⊎ ((i : ℕ) × (n : ℕ) × (i < length ns) × 
 
 -- no turn, refused ones and joins too, changes more than one word
 abbrev pub AtMostOneWordChanges : State → Type 0
-AtMostOneWordChanges s = (turn : ℕ × Event) → AtMostOne (words_of s.layout s.memory) (words_of s.layout (next s turn).memory)
+AtMostOneWordChanges s = (turn : ℕ × Event)
+    → AtMostOne (words_of s.layout s.memory) (words_of s.layout (next s turn).memory)
 
 -- ---- sizes
 
@@ -213,7 +225,8 @@ pub record InRange (L : Layout) (m : Memory) : Type 0 where
 
 -- where the keys are below 2^64, each word is
 abbrev pub WordsAreBelow : Type 0
-WordsAreBelow = (L : Layout) (m : Memory) (f : Field) → Fits L m → InRange L m → L.nodes < 2 ^ 32 → ((s : ℕ) → (node m s).key < 2 ^ 64)
+WordsAreBelow = (L : Layout) (m : Memory) (f : Field) → Fits L m → InRange L m → L.nodes < 2 ^ 32
+    → ((s : ℕ) → (node m s).key < 2 ^ 64)
     → IsField L f → word_at L m f < 2 ^ 64
 
 -- the memory of a state is in range
@@ -232,11 +245,14 @@ StoresAWord _ = Unit {0}
 
 -- in every run of events whose stored keys are below 2^64
 abbrev pub WordsStayBelow : Type 0
-WordsStayBelow = (L : Layout) → 5 ≤ L.nodes → L.nodes < 2 ^ 32 → (turns : List (ℕ × Event)) → All (λ t. StoresAWord t.1) turns
+WordsStayBelow = (L : Layout) → 5 ≤ L.nodes → L.nodes < 2 ^ 32 → (turns : List (ℕ × Event))
+    → All (λ t. StoresAWord t.1) turns
     → (f : Field) → IsField L f → word_at L (after (start L) turns).memory f < 2 ^ 64
 
 -- ---- an example
 
--- the last rows of the opening of 135 nodes and 2 workers: slots 6 to 64, 65 to 128 and 129 to 135 are in the pool
+-- the last rows of the opening of 135 nodes and 2 workers: slots 6 to 64, 65 to 128 and 129 to 135
+-- are in the pool
 abbrev pub OpeningOf135 : Type 0
-OpeningOf135 = drop 543 (words_of (dense 135 2) (opening (dense 135 2))) ≡ (2 ^ 64 - 32) ∷ (2 ^ 64 - 1) ∷ 127 ∷ []
+OpeningOf135 = drop 543 (words_of (dense 135 2) (opening (dense 135 2)))
+    ≡ (2 ^ 64 - 32) ∷ (2 ^ 64 - 1) ∷ 127 ∷ []

@@ -1,4 +1,5 @@
--- The reply of an event, told by what its worker knows, the births that are known, and the one word that it finds.
+-- The reply of an event, told by what its worker knows, the births that are known, and the one word
+-- that it finds.
 use Rattle.std.specs.Prelude.{◌≡◌, ℕ, ◌+◌, ◌-◌, ◌*◌, ◌==◌, map, bit_and, if◌then◌else◌, Option, Some, None, IsSome, unwrap_or, [], All}
 use Rattle.nm_edge.specs.Edges.{edge_in}
 use Rattle.nm_edge.specs.Layouts.{Layout}
@@ -38,7 +39,8 @@ known_as births s = record { slot = s; birth = unwrap_or (births s) 0 }
 -- Natarajan and Mittal, section 3.2)
 abbrev pub BirthsAreKnown : Layout → Knowledge → Births → Event → Type 0
 BirthsAreKnown L k births (Flag p side leaf) = IsSome (births leaf)
-BirthsAreKnown L k births (Splice a side s p keep) = All (λ x. IsSome (births x)) (cut_by k s (unwrap_or (way L.nodes k s p) []) keep)
+BirthsAreKnown L k births (Splice a side s p keep) =
+    All (λ x. IsSome (births x)) (cut_by k s (unwrap_or (way L.nodes k s p) []) keep)
 BirthsAreKnown L k births (Join v) = ⊥
 BirthsAreKnown L k births _ = Unit {0}
 
@@ -59,16 +61,23 @@ told L k births (LeaveWith answer) n = Departed
 told L k births (Scan u) n = reply_scan (noted_in n)
 told L k births Advance n = if is_number k.brief.seen n then Moved (n + 1) else Behind n
 told L k births (Claim s) n = if bit_and n (pool_place L s).mask == 0 then Taken else Claimed s
-told L k births (Give s) n = if is_private k s then Returned s else Freed (node_of (front_of k.ledgers s))
+told L k births (Give s) n = if is_private k s then Returned s
+    else Freed (node_of (front_of k.ledgers s))
 told L k births (Look s f) n = told_look f n
 told L k births (Fill s f v) n = Filled
-told L k births (Link p side leaf new) n = if n == 4 * leaf then Linked (node_linked k new) else Lost (edge_in n)
-told L k births (Flag p side leaf) n = if n == 4 * leaf then Flagged (known_as births leaf) else Lost (edge_in n)
+told L k births (Link p side leaf new) n =
+    if n == 4 * leaf then Linked (node_linked k new) else Lost (edge_in n)
+told L k births (Flag p side leaf) n =
+    if n == 4 * leaf then Flagged (known_as births leaf) else Lost (edge_in n)
 told L k births (Tag p side) n = Was (edge_in n)
-told L k births (Splice a side s p keep) n = if n == 4 * s then Cut (map (known_as births) (cut_by k s (unwrap_or (way L.nodes k s p) []) keep)) else Lost (edge_in n)
+told L k births (Splice a side s p keep) n =
+    if n == 4 * s then Cut (map (known_as births)
+    (cut_by k s (unwrap_or (way L.nodes k s p) []) keep)) else Lost (edge_in n)
 told L k births (Join v) n = Joined []
 
--- an event that is allowed is answered so, by the word that it touches, for any births that stand in memory
+-- an event that is allowed is answered so, by the word that it touches, for any births that stand
+-- in memory
 abbrev pub RepliesAreTold : State → Type 0
-RepliesAreTold s = (w : ℕ) (e : Event) (births : Births) → BirthsAreIn s.memory births → refused s w e ≡ None → BirthsAreKnown s.layout (of s w) births e
+RepliesAreTold s = (w : ℕ) (e : Event) (births : Births) → BirthsAreIn s.memory births
+    → refused s w e ≡ None → BirthsAreKnown s.layout (of s w) births e
     → reply_of s w e ≡ told s.layout (of s w) births e (word_at s.layout s.memory (touched w e))

@@ -1,4 +1,5 @@
-//! A whole memory as its words, in the order of the layout, with the laws of reading and writing one word. Nothing here runs.
+//! A whole memory as its words, in the order of the layout, with the laws of reading and writing
+//! one word. Nothing here runs.
 #![tactic(auto)]
 
 mod packing;

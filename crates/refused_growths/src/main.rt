@@ -1,5 +1,6 @@
-//! Plays inserts and deletes whose growths may be refused, and closes the tree. A call that is refused has changed nothing, but for the help that it gave,
-//! and is made again: so each run prints the same lines, whichever one growth was refused in it (`.ci/refused`).
+//! Plays inserts and deletes whose growths may be refused, and closes the tree. A call that is
+//! refused has changed nothing, but for the help that it gave, and is made again: so each run
+//! prints the same lines, whichever one growth was refused in it (`.ci/refused`).
 #![tactic(auto)]
 
 ghost use Rattle.std.specs.Prelude.{◌≡◌, [], ◌∷◌, All, IfOk, length};
@@ -34,7 +35,8 @@ fn open(alloc: Global) -> Result<(Tree, Worker, Worker, Vec<Worker>)>
     Ok((tree, first, second, workers))
 }
 
-/// What a call must leave where it is refused: whether the key is in the set, and how many nodes wait.
+/// What a call must leave where it is refused: whether the key is in the set, and how many nodes
+/// wait.
 fn seen(tree: &Tree, worker: &mut Worker, key: Key) -> (Result<bool, Fault>, u64)
     requires { IsReady tree.now worker.old }
     ensures { IsReady tree.now worker.new }
@@ -42,7 +44,8 @@ fn seen(tree: &Tree, worker: &mut Worker, key: Key) -> (Result<bool, Fault>, u64
     (tree.has(worker, key, TRIES), worker.queue_len())
 }
 
-/// Inserts a key, once more where memory was refused. `None`: the refused call has changed something.
+/// Inserts a key, once more where memory was refused. `None`: the refused call has changed
+/// something.
 fn insert(tree: &Tree, worker: &mut Worker, key: Key) -> Option<Result<bool, Fault>>
     requires { IsReady tree.now worker.old }
     ensures { IsReady tree.now worker.new }
@@ -58,7 +61,8 @@ fn insert(tree: &Tree, worker: &mut Worker, key: Key) -> Option<Result<bool, Fau
     Some(tree.insert(worker, key, TRIES))
 }
 
-/// Deletes a key, once more where memory was refused, and finishes what it left. `None`: the refused call has changed something.
+/// Deletes a key, once more where memory was refused, and finishes what it left. `None`: the
+/// refused call has changed something.
 fn delete(tree: &Tree, worker: &mut Worker, key: Key) -> Option<Result<bool, Fault>>
     requires { IsReady tree.now worker.old }
     ensures { IsReady tree.now worker.new }
@@ -77,9 +81,11 @@ fn delete(tree: &Tree, worker: &mut Worker, key: Key) -> Option<Result<bool, Fau
     Some(tree.delete(worker, key, TRIES))
 }
 
-/// One worker flags a key, by a delete with a single try, which is made once more where memory was refused. The other one deletes the key too, helps, and
-/// finds at its second try, for which it asks for memory again, that the key has gone; refused there, it has helped and done no more. Then the first one
-/// finishes, in the room that its delete has made, so that no growth is there to be refused. `None`: a refused call has changed something else.
+/// One worker flags a key, by a delete with a single try, which is made once more where memory was
+/// refused. The other one deletes the key too, helps, and finds at its second try, for which it
+/// asks for memory again, that the key has gone; refused there, it has helped and done no more.
+/// Then the first one finishes, in the room that its delete has made, so that no growth is there to
+/// be refused. `None`: a refused call has changed something else.
 fn help(
     tree: &Tree,
     flagging: &mut Worker,
@@ -159,7 +165,8 @@ fn both(mut workers: Vec<Worker>, first: Worker, second: Worker) -> Result<Vec<W
     Ok(workers)
 }
 
-/// Closes the tree, once more where memory was refused. `None`: a refused call has not handed back both workers.
+/// Closes the tree, once more where memory was refused. `None`: a refused call has not handed back
+/// both workers.
 fn close(tree: Tree, workers: Vec<Worker>) -> Option<Report>
     requires { AreAllOf tree workers.items }
 {

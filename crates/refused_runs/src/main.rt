@@ -1,5 +1,6 @@
-//! Plays schedules on cores whose growths may be refused. A run that stops for want of memory must leave what the events leave that it counts, played alone
-//! on another core; then the rest is run. So each run prints the same lines, whichever one growth was refused in it (`.ci/refused`).
+//! Plays schedules on cores whose growths may be refused. A run that stops for want of memory must
+//! leave what the events leave that it counts, played alone on another core; then the rest is run.
+//! So each run prints the same lines, whichever one growth was refused in it (`.ci/refused`).
 #![tactic(auto)]
 
 mod schedules;
@@ -94,9 +95,11 @@ fn is_left_by(
     are_alike(core, &other)
 }
 
-/// Runs the events on a core at its opening. Where memory is refused, it compares what is left with what the events leave that were done, and runs the rest.
+/// Runs the events on a core at its opening. Where memory is refused, it compares what is left with
+/// what the events leave that were done, and runs the rest.
 fn play(alloc: Global, is_ordered: bool, events: &[(u32, Event)]) -> Result<Core>
-    ensures { IfOk result (λ core. core ≡ after_in (opening_of (dense NODES WORKERS) is_ordered) events.now) }
+    ensures { IfOk result (λ core. core
+        ≡ after_in (opening_of (dense NODES WORKERS) is_ordered) events.now) }
 {
     let mut core = open(alloc, is_ordered)?;
     let Err(error) = core.run(listed(alloc, events)?) else {

@@ -2,8 +2,9 @@
 use nm_core::{Event, Field, Op};
 use nm_edge::{Key, Side};
 
-/// Worker 0 links three leaves and deletes one of them as far as its tag; worker 1 deletes another, cuts off both with one splice, and resigns; worker 0
-/// moves the epoch on and frees the four nodes, of which it tries one too early.
+/// Worker 0 links three leaves and deletes one of them as far as its tag; worker 1 deletes another,
+/// cuts off both with one splice, and resigns; worker 0 moves the epoch on and frees the four
+/// nodes, of which it tries one too early.
 pub(crate) const CHAIN: [(u32, Event); 70] = [
     (0, Event::Sight),
     (0, Event::Announce),

@@ -37,7 +37,8 @@ impl Model for Grown {
 
     ghost view = { λ g. tt };
 
-    ghost invariant = { λ g. All (λ w. IsReady g.tree w) g.workers.items × All (λ w. IsReady g.tree w) g.others.items };
+    ghost invariant = { λ g. All (λ w. IsReady g.tree w) g.workers.items
+        × All (λ w. IsReady g.tree w) g.others.items };
 }
 
 /// The workers of a tree, those of the threads and those that no thread has.
@@ -107,14 +108,16 @@ impl Grown {
         Ok(())
     }
 
-    /// Plays a load, each worker that takes part in a thread of its own. An error: the workers are lost.
+    /// Plays a load, each worker that takes part in a thread of its own. An error: the workers are
+    /// lost.
     pub fn play<R: Threads + Sync>(&mut self, rt: &R, alloc: Global, load: Load) -> Result<()> {
         let workers = mem::replace(&mut self.workers, Vec::new(alloc));
         self.workers = play_all(rt, &self.tree, workers, self.habits, load, &self.totals)?;
         Ok(())
     }
 
-    /// Closes the tree, and prints what was changed and what is left. An error where keys or slots do not add up.
+    /// Closes the tree, and prints what was changed and what is left. An error where keys or slots
+    /// do not add up.
     pub fn close(self, rt: &impl Print, name: &str, nodes: u32) -> Result<()> {
         let Grown {
             tree,

@@ -1,8 +1,9 @@
 //! What the threads of a round do.
 use nm_edge::Key;
 
-/// A part of a round: how many of 100 calls are look-ups, how many threads make calls, how many each makes, and from how many keys they draw.
-/// The other calls are inserts and deletes, about as many of each.
+/// A part of a round: how many of 100 calls are look-ups, how many threads make calls, how many
+/// each makes, and from how many keys they draw. The other calls are inserts and deletes, about as
+/// many of each.
 #[derive(Clone, Copy, Debug, PartialEq, Eq)]
 pub struct Load {
     pub lookups: u64,

@@ -1,11 +1,15 @@
-//! Times mixed calls on two trees, one that claims the lowest free slot and one that claims near by, beside those on a `BTreeSet` behind a `Mutex`;
-//! and shows at the end that what each tree was told to keep is there.
+//! Times mixed calls on two trees, one that claims the lowest free slot and one that claims near
+//! by, beside those on a `BTreeSet` behind a `Mutex`; and shows at the end that what each tree was
+//! told to keep is there.
 //!
-//! The arguments are how many rounds there are, how many keys the sets have at first, how many nodes the trees have room for, how far apart the
-//! numbers of the threads' workers are (1 to 21), after how many of its calls a thread moves the epoch on and frees what is ripe (at least 1), and
-//! then the parts of a round, each by how many of 100 calls are look-ups, how many threads there are (at most 4), how many calls each makes, and how
-//! many it makes on the tree that claims the lowest slot, which may be fewer. Keys are drawn from twice as many as the sets have at first, so that
-//! about half of them are found. Standard output has what was changed and what is left, standard error the times in microseconds.
+//! The arguments are how many rounds there are, how many keys the sets have at first, how many
+//! nodes the trees have room for, how far apart the numbers of the threads' workers are (1 to 21),
+//! after how many of its calls a thread moves the epoch on and frees what is ripe (at least 1), and
+//! then the parts of a round, each by how many of 100 calls are look-ups, how many threads there
+//! are (at most 4), how many calls each makes, and how many it makes on the tree that claims the
+//! lowest slot, which may be fewer. Keys are drawn from twice as many as the sets have at first, so
+//! that about half of them are found. Standard output has what was changed and what is left,
+//! standard error the times in microseconds.
 #![tactic(auto)]
 
 mod grown;
@@ -26,7 +30,8 @@ use std::sync::Wait;
 use std::thread::Threads;
 use std::time::{Clock, Duration, Instant};
 
-/// A part of a round: a load, and how many calls a thread makes on the tree that claims the lowest slot.
+/// A part of a round: a load, and how many calls a thread makes on the tree that claims the lowest
+/// slot.
 #[derive(Clone, Copy)]
 struct Part {
     load: Load,

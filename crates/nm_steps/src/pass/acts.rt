@@ -1,4 +1,5 @@
-//! The operations on one word, each for any event that leaves that word so, and the peek, which is no step. No other file reaches the table's words.
+//! The operations on one word, each for any event that leaves that word so, and the peek, which is
+//! no step. No other file reaches the table's words.
 ghost use Rattle.std.specs.Prelude.{◌≡◌, ◌<◌, ◌==◌, bit_and, bit_or};
 ghost use prog.Atomic.{either};
 ghost use Rattle.nm_edge.specs.Words.{words};
@@ -65,7 +66,8 @@ impl Shared {
 }
 
 impl Shared {
-    /// Reads the word outside of all logs: what was found tells nothing that a proof could use, so it may only decide what is tried first.
+    /// Reads the word outside of all logs: what was found tells nothing that a proof could use, so
+    /// it may only decide what is tried first.
     pub(crate) fn peek(&self, word: usize) -> u64
         requires { word < words self.now.layout }
     {
@@ -75,7 +77,8 @@ impl Shared {
 
 fn load_as<D: Doing>(words: &Words, seat: &mut Place, word: usize, event: &Event) -> u64
     requires pick { D.event ≡ event.now }
-    requires ready { IsReady (record { table = words.now.table_id; layout = words.now.key }) seat.old event.now word }
+    requires ready { IsReady (record { table = words.now.table_id; layout = words.now.key })
+        seat.old event.now word }
     requires changes { Changes event.now seat.old.me.0 (λ n. n) }
     ensures { IsDone seat.old seat.new event.now result }
 {
@@ -85,7 +88,8 @@ fn load_as<D: Doing>(words: &Words, seat: &mut Place, word: usize, event: &Event
 
 fn store_as<D: Doing>(words: &Words, seat: &mut Place, word: usize, new: u64, event: &Event)
     requires pick { D.event ≡ event.now }
-    requires ready { IsReady (record { table = words.now.table_id; layout = words.now.key }) seat.old event.now word }
+    requires ready { IsReady (record { table = words.now.table_id; layout = words.now.key })
+        seat.old event.now word }
     requires changes { Changes event.now seat.old.me.0 (λ n. new) }
     requires blind { IsBlind event.now seat.old.me.0 }
     ensures { IsDone seat.old seat.new event.now new }
@@ -96,7 +100,8 @@ fn store_as<D: Doing>(words: &Words, seat: &mut Place, word: usize, new: u64, ev
 
 fn mark_as<D: Doing>(words: &Words, seat: &mut Place, word: usize, mask: u64, event: &Event) -> u64
     requires pick { D.event ≡ event.now }
-    requires ready { IsReady (record { table = words.now.table_id; layout = words.now.key }) seat.old event.now word }
+    requires ready { IsReady (record { table = words.now.table_id; layout = words.now.key })
+        seat.old event.now word }
     requires changes { Changes event.now seat.old.me.0 (λ n. bit_or n mask) }
     ensures { IsDone seat.old seat.new event.now result }
 {
@@ -106,7 +111,8 @@ fn mark_as<D: Doing>(words: &Words, seat: &mut Place, word: usize, mask: u64, ev
 
 fn clear_as<D: Doing>(words: &Words, seat: &mut Place, word: usize, mask: u64, event: &Event) -> u64
     requires pick { D.event ≡ event.now }
-    requires ready { IsReady (record { table = words.now.table_id; layout = words.now.key }) seat.old event.now word }
+    requires ready { IsReady (record { table = words.now.table_id; layout = words.now.key })
+        seat.old event.now word }
     requires changes { Changes event.now seat.old.me.0 (λ n. bit_and n mask) }
     ensures { IsDone seat.old seat.new event.now result }
 {
@@ -123,7 +129,8 @@ fn exchange_as<D: Doing>(
     event: &Event,
 ) -> u64
     requires pick { D.event ≡ event.now }
-    requires ready { IsReady (record { table = words.now.table_id; layout = words.now.key }) seat.old event.now word }
+    requires ready { IsReady (record { table = words.now.table_id; layout = words.now.key })
+        seat.old event.now word }
     requires changes { Changes event.now seat.old.me.0 (λ n. either (n == old) new n) }
     ensures { IsDone seat.old seat.new event.now result }
 {

@@ -20,12 +20,13 @@ impl Model for Words {
 
     ghost view = { λ w. w.closed.words.items };
 
-    ghost invariant = { λ w. ((k : ℕ) → 0 ≤ k → k < w.closed.words.len → slice_index_or w.closed.words.filled k false ≡ true) × (w.closed.slots.len ≡ 0) };
+    ghost invariant = { λ w. ((k : ℕ) → 0 ≤ k → k < w.closed.words.len
+        → slice_index_or w.closed.words.filled k false ≡ true) × (w.closed.slots.len ≡ 0) };
 }
 
 impl Shared {
-    /// Ends the table. The words are those at the end of some run, of which the logs of the pass are parts.
-    /// It takes the table, so that no pass can step any more.
+    /// Ends the table. The words are those at the end of some run, of which the logs of the pass
+    /// are parts. It takes the table, so that no pass can step any more.
     pub fn close(self, pass: Pass) -> Words
         requires { IsOf self pass }
         ensures ends { Ends self.layout result pass.view }

@@ -19,10 +19,11 @@ impl Join<View> for Unite {
 }
 
 impl Shared {
-    /// The first pass stands for both, and takes over the ledgers that the second one's worker holds. That worker resigns;
-    /// it must have no private slot and no unlabelled cut. One step, which is in both logs. It reads the epoch's word and changes no word.
-    /// What it has seen goes on from what both had seen.
-    /// No number stands twice in the pass, so that no worker's ledger was held by both.
+    /// The first pass stands for both, and takes over the ledgers that the second one's worker
+    /// holds. That worker resigns; it must have no private slot and no unlabelled cut. One step,
+    /// which is in both logs. It reads the epoch's word and changes no word. What it has seen goes
+    /// on from what both had seen. No number stands twice in the pass, so that no worker's ledger
+    /// was held by both.
     pub fn join(&self, pass: Pass, other: Pass) -> Pass
         requires first { IsOf self.now pass }
         requires second { IsOf self.now other }

@@ -25,8 +25,8 @@ impl Split<View> for Deal {
 }
 
 impl Shared {
-    /// The empty tree, and a pass for each worker, in the order of their numbers. No worker has done anything yet.
-    /// The only error is `NoMemory`.
+    /// The empty tree, and a pass for each worker, in the order of their numbers. No worker has
+    /// done anything yet. The only error is `NoMemory`.
     pub fn new(alloc: Global, layout: Layout) -> Result<(Shared, Vec<Pass>), NewError>
         ensures layout { IfOk result (λ r. r.0.layout ≡ layout) }
         ensures count { IfOk result (λ r. length r.1.items ≡ layout.workers) }

@@ -8,7 +8,8 @@ use crate::view::{Place, Ties, View};
 use atomic_table::{Join, Split};
 use std::marker::Model;
 
-/// What a pass had seen when the note was made. It may go to another thread, and it does nothing where it is dropped.
+/// What a pass had seen when the note was made. It may go to another thread, and it does nothing
+/// where it is dropped.
 #[derive(Drop)]
 pub struct Note {
     seat: Place,
@@ -59,8 +60,9 @@ impl Shared {
         }
     }
 
-    /// The pass hears a note: what it has seen goes on from then on from what the note tells, and from what it had seen itself.
-    /// So all that it does comes, in the one run, behind all that the note's pass had done. It is no step, and no log tells of it.
+    /// The pass hears a note: what it has seen goes on from then on from what the note tells, and
+    /// from what it had seen itself. So all that it does comes, in the one run, behind all that the
+    /// note's pass had done. It is no step, and no log tells of it.
     pub fn hear(&self, pass: &mut Pass, note: Note)
         requires own { IsOf self.now pass.old }
         requires table { note.table ≡ self.now.table }

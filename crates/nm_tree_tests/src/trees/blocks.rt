@@ -16,8 +16,8 @@ fn round(tree: &Tree, worker: &mut Worker, key: Key) -> bool
     inserted && deleted && collected.freed == 2
 }
 
-/// The first delete makes room for 128 entries in four blocks, and a later one needs a fifth, since a block is empty only once all of its
-/// places were used; from then on no block more is taken.
+/// The first delete makes room for 128 entries in four blocks, and a later one needs a fifth, since
+/// a block is empty only once all of its places were used; from then on no block more is taken.
 #[test]
 fn blocks_are_used_again(rt: HostRuntime) -> Result<(), Fail> {
     let (tree, mut first, _second) = two_of(&rt, 16)?;

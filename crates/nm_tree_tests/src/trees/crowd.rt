@@ -88,7 +88,8 @@ pub(super) fn waiting(report: &Report) -> u32 {
 /// What a tree tells at its end, all of whose workers are given.
 pub(super) fn report_of(rt: &impl Abort, tree: Tree, workers: Vec<Worker>) -> Report
     requires { AreAllOf tree workers.items }
-    ensures sum { result.free + result.reached + waiting_in result.queues.items ≡ tree.layout.nodes - 5 }
+    ensures sum { result.free + result.reached + waiting_in result.queues.items
+        ≡ tree.layout.nodes - 5 }
 {
     let Ok(report) = tree.close(workers) else {
         panic!(rt; "not closed")
@@ -96,8 +97,9 @@ pub(super) fn report_of(rt: &impl Abort, tree: Tree, workers: Vec<Worker>) -> Re
     report
 }
 
-/// So many workers insert and delete the same keys, move the epoch on and collect, each in a thread of its own: the report has as many keys as
-/// their true answers add up to, and each slot is free, reached or waits.
+/// So many workers insert and delete the same keys, move the epoch on and collect, each in a thread
+/// of its own: the report has as many keys as their true answers add up to, and each slot is free,
+/// reached or waits.
 fn adds_up<R: Threads + Sync + Abort + AllocGlobal>(
     rt: &R,
     workers: u32,

@@ -6,7 +6,8 @@ use std::thread::{Threads, join};
 
 const TRIES: u32 = 100;
 
-/// Inserts every second key below 200 from a first one on: the worker, and how many of them were not in the set.
+/// Inserts every second key below 200 from a first one on: the worker, and how many of them were
+/// not in the set.
 fn fill(tree: &Tree, mut worker: Worker, first: u64) -> (Worker, u64)
     requires { IsReady tree.now worker }
     ensures { IsReady tree.now result.0 }

@@ -51,7 +51,8 @@ fn each_worker_looks_from_a_cursor_of_its_own(rt: HostRuntime) -> Result<(), Fai
     Ok(())
 }
 
-/// Worker 0 deletes, frees both nodes, and takes their slots again, the one that was freed last for the first node.
+/// Worker 0 deletes, frees both nodes, and takes their slots again, the one that was freed last for
+/// the first node.
 #[test]
 fn slots_that_were_freed_are_taken_first(rt: HostRuntime) -> Result<(), Fail> {
     let (tree, mut first, second) = near_of(&rt, 16)?;

@@ -40,7 +40,8 @@ fn drain(tree: &Tree, first: &mut Worker, second: &mut Worker) -> u64
     ours.saturating_add(theirs)
 }
 
-/// What two workers cut off while a third is pinned waits until it has left, so that at last no slot is free for a new node; and then all of it is freed.
+/// What two workers cut off while a third is pinned waits until it has left, so that at last no
+/// slot is free for a new node; and then all of it is freed.
 #[test]
 fn a_pinned_reader_holds_all_back(rt: HostRuntime) -> Result<(), Fail> {
     let (tree, first, second, mut reader) = three_of(&rt, 64)?;

@@ -1,4 +1,5 @@
-//! Workers that stop: while pinned, while a delete is pending, and one that only pins beside three that change the set.
+//! Workers that stop: while pinned, while a delete is pending, and one that only pins beside three
+//! that change the set.
 ghost use Rattle.std.specs.Prelude.{All, IfOk};
 ghost use Rattle.nm_steps.specs.Steps.{IsOf};
 ghost use Rattle.nm_tree.specs.Plays.{IsReady};
@@ -10,8 +11,8 @@ use nm_tree::Behind;
 use std::alloc::AllocError;
 use std::thread::{Threads, map_vec};
 
-/// Worker 1 has stopped at epoch 0, and no slot is free. Worker 0 moves the epoch on by one and no further, frees nothing, finds no slot, and is told
-/// who is behind.
+/// Worker 1 has stopped at epoch 0, and no slot is free. Worker 0 moves the epoch on by one and no
+/// further, frees nothing, finds no slot, and is told who is behind.
 fn is_held_back(rt: &impl Abort, tree: &Tree, first: &mut Worker, second: &mut Worker)
     requires first { IsOf tree.now first.old.pass }
     requires second { IsOf tree.now second.old.pass }
@@ -68,7 +69,8 @@ fn a_worker_stops_while_pinned(rt: HostRuntime) -> Result<(), Fail> {
     Ok(())
 }
 
-/// Worker 1 stops once it has flagged its leaf. The other's insert helps: it cuts the leaf off, and links its own behind it.
+/// Worker 1 stops once it has flagged its leaf. The other's insert helps: it cuts the leaf off, and
+/// links its own behind it.
 #[test]
 fn a_worker_stops_while_pending(rt: HostRuntime) -> Result<(), Fail> {
     let (tree, mut first, mut second) = two_of(&rt, 9)?;
@@ -138,7 +140,8 @@ fn play_each<R: Threads + Sync>(
     )
 }
 
-/// Three workers insert, delete, advance and collect on 64 nodes beside one that only pins: each slot above 5 is free, reached or waits at the end.
+/// Three workers insert, delete, advance and collect on 64 nodes beside one that only pins: each
+/// slot above 5 is free, reached or waits at the end.
 fn adds_up<R: Threads + Sync + Abort + AllocGlobal>(rt: &R) -> Result<(), Fail> {
     let (tree, workers) = Tree::new(rt.alloc(), 64, 4)?;
     let played = play_each(rt, &tree, workers)?;

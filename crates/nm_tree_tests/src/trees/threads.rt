@@ -96,7 +96,8 @@ fn there(tree: &Tree, worker: &mut Worker) -> u32
     found
 }
 
-/// Two workers insert and delete the same ten keys: their true answers add up to what is in the tree.
+/// Two workers insert and delete the same ten keys: their true answers add up to what is in the
+/// tree.
 #[test]
 fn true_answers_add_up(rt: HostRuntime) -> Result<(), Fail> {
     let (tree, first, second) = two_of(&rt, 256)?;

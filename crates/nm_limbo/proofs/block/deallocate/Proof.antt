@@ -1,4 +1,5 @@
--- `deallocate` makes the block of its empty fields, and hands it back with the allocator's token. Assumes `Logic`.
+-- `deallocate` makes the block of its empty fields, and hands it back with the allocator's token.
+-- Assumes `Logic`.
 use mathlib.Core.Path.{◌≡◌, refl, sym, ap, subst}
 use Prim.Native.Nat.{ℕ}
 use mathlib.Core.List.{List, [], ◌∷◌, ◌++◌}

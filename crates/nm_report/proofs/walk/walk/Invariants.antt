@@ -4,7 +4,8 @@ use Rattle.nm_report.specs.Ended.{IsEndOf, end_of}
 use Rattle.nm_report.proofs.Parts.{IsWalk, steps}
 use Rattle.nm_report.proofs.walk.walk.Given as goal
 
--- the walk so far; no more parts wait than slots were visited, and one; and there is room for all keys and parts
+-- the walk so far; no more parts wait than slots were visited, and one; and there is room for all
+-- keys and parts
 abbrev pub invariant-loop-part : goal.invariant-loop-part
 invariant-loop-part l = record {
   walk : (e : IsEndOf l.layout l.words) → IsWalk l.layout.nodes (end_of l.layout l.words e).memory l.visited l.found.items l.waiting.items;

@@ -100,14 +100,17 @@ module _ (E : El) (Z : Al) {M : Type 1} {𝓤 : Ura M} (𝓛 : Logic 𝓤) (C : 
       qed 𝓛 Had ∵ enter ! C Λ (function E Z) (vptr rb ro ∷ word last.ptr ∷ word room.ptr ∷ mark ∷ []) _ $ alloc_all ! (λ l. pass_all ! refl ((tt, tt), (word-Good [] last.ptr, (word-Good [] room.ptr, ((tt, (tt, tt)), tt)))) $
       let En : Env 𝓤 H = env (function E Z).locals l in
       opens ! tt (Ch E Z) {h = d} rb ro (λ vs. move ! (1 ∷ []) $ fsplit ! $ move ! (1 ∷ []) $ fsplit3 ! $
-      -- [the places; the links; the deeds; the mark; its cell; the open borrow; obs; auth; the room; the deed]
+      -- [the places; the links; the deeds; the mark; its cell; the open borrow; obs; auth; the
+      -- room; the deed]
       move ! (9 ∷ []) $ rewrite ! 0 (λ (x : Z.row.Denot × Ptr). ‵ (deed_owns (R E) (token Z x.0) x.1)) (λ i. (asked.3 i, asked.2 i)) refl $
       move ! (3 ∷ 0 ∷ []) $ use2 𝓛 (‵ (deeds_own (R E) (token Z d.alloc) new.blocks)) (deeds_grow E 𝓛 (token Z d.alloc) d.blocks p) $
-      -- [the deeds; the places; the links; the mark; its cell; the open borrow; obs; auth; the room]
+      -- [the deeds; the places; the links; the mark; its cell; the open borrow; obs; auth; the
+      -- room]
       move ! (2 ∷ []) $ use1 𝓛 (‵ (link_owns t null_ptr) ⊛ ‵ (Upto d.blocks)) (last_out 𝓛 n d.blocks long) $ split ! $
       in_a_block ! t (λ a. link_owns a null_ptr) (id⊢ 𝓤 (never 𝓤)) (λ lb lo el. pointer_out ! null_ptr lb (lo + 0) $
       move ! (9 ∷ []) $ in_a_block ! p (room_owns (R E)) (fst∗ 𝓤 (never 𝓤) (never 𝓤)) (λ b o e. fsplit ! $
-      -- [the room of the new link; the new places; the last link's cell; the other links; the deeds; the places; the mark; its cell; the open borrow; obs; auth]
+      -- [the room of the new link; the new places; the last link's cell; the other links; the
+      -- deeds; the places; the mark; its cell; the open borrow; obs; auth]
       sets ! (is ! (of_opd ! (get_in ! (fld ! refl (stop !)) (sub ! 0 refl (whole !)))) (ap ptr_val e)) refl (tt, tt) $
       sets ! (is ! (of_opd ! (get_in ! (fld ! refl (stop !)) (sub ! 0 refl (whole !)))) (ap ptr_val (asked.0.1 ∙ el))) refl (tt, tt) $ first ! $ blocks ! $
       assigns ! (of_opd ! (lit ! tt)) (through ! refl (fld ! refl (stop !))) (init ! 0 refl (Ptr-Good null_ptr)) $
@@ -115,7 +118,8 @@ module _ (E : El) (Z : Al) {M : Type 1} {𝓤 : Ura M} (𝓛 : Logic 𝓤) (C : 
       exec ! C Λ En (after 3 (function E Z).body) (at_ret En Post) $ sets ! (is ! (agg ! (and_then ! (get ! refl) (no_more !))) (ap word (sym e))) refl (word-Good [] p) $
       pointer_in ! null_ptr b (o + 0) $ rewrite ! 0 (λ (a : Ptr). ‵ (link_owns a null_ptr)) (sym e) refl $
       move ! (2 ∷ []) $ pointer_in ! (block_ptr b o) lb (lo + 0) $ rewrite ! 0 (λ (a : Ptr × Ptr). ‵ (link_owns a.0 a.1)) (λ i. (sym el i, sym e i)) refl $
-      -- [the last link; the new link; the new places; the other links; the deeds; the places; the mark; ..]
+      -- [the last link; the new link; the new places; the other links; the deeds; the places; the
+      -- mark; ..]
       move ! (0 ∷ 1 ∷ 3 ∷ []) $ use3 𝓛 (‵ (links_own new.blocks)) (last_in 𝓛 n d.blocks p long) $
       -- [the links; the new places; the deeds; the places; the mark; ..]
       move ! (1 ∷ []) $ rewrite ! 0 (λ (a : Ptr). ‵ (Cells E a none)) (sym e) refl $ move ! (3 ∷ 0 ∷ []) $

@@ -131,7 +131,8 @@ module _ (E : El) (Z : Al) {M : Type 1} {𝓤 : Ura M} (𝓛 : Logic 𝓤) (C : 
       pick ! (λ v. learn ! (λ good. split ! $ sets_last ! (of_opd ! (load ! (through ! refl (stop !)) (look ! 0 refl))) refl good $
       exec ! C Λ En (after 1 (function E Z).body) (at_ret En Post) $ sets ! (of_opd ! (get ! refl)) refl good $
       use1 𝓛 (‵ (froom (elτ E) b (index * s + base))) (𝓛.laws.at_room (elτ E) b (index * s + base) v) $ as_raw ! (elτ E) b (index * s + base) $
-      -- [the room; what the item owns; the block's other places; the other blocks'; the links and deeds; the mark; its cell; the open borrow; obs; auth]
+      -- [the room; what the item owns; the block's other places; the other blocks'; the links and
+      -- deeds; the mark; its cell; the open borrow; obs; auth]
       move ! (0 ∷ 2 ∷ 3 ∷ 4 ∷ 5 ∷ 6 ∷ 7 ∷ 8 ∷ 9 ∷ []) $
       use2 𝓛 (‵ (slots (R E) b base left)) (slot_in E 𝓛 b base cs index within None) $
       flt_i ! (length left * s) (2 ^ 63) (subst (λ k. k * s < 2 ^ 63) (sym (length-set cs index None)) small) $ fjoin ! $

@@ -1,4 +1,5 @@
--- `unlink_first` takes the first block out, as room for its fields and the right to free it. Assumes `Logic`.
+-- `unlink_first` takes the first block out, as room for its fields and the right to free it.
+-- Assumes `Logic`.
 use mathlib.Core.Path.{◌≡◌, refl, sym, ap, subst, ◌∙◌}
 use Prim.Native.Nat.{ℕ, ◌+◌}
 use mathlib.Core.List.{List, [], ◌∷◌, ◌++◌}
@@ -113,7 +114,8 @@ module _ (E : El) (Z : Al) {M : Type 1} {𝓤 : Ura M} (𝓛 : Logic 𝓤) (C : 
       opens ! tt (Ch E Z) {h = d} rb ro (λ vs. move ! (1 ∷ []) $ fsplit ! $ move ! (1 ∷ []) $
       rewrite ! 0 (λ (qs : List Ptr). ‵ (chain_owns (R E) (token Z d.alloc) qs d.slots)) cut refl $ fsplit3 ! $ move ! (1 ∷ []) $ fsplit ! $
       in_a_block ! p (λ a. link_owns a on) (id⊢ 𝓤 (never 𝓤)) (λ b o e. pointer_out ! on b (o + 0) $
-      -- [the link's cell; the other links; the places; the deeds; the mark; its cell; the open borrow; obs; auth]
+      -- [the link's cell; the other links; the places; the deeds; the mark; its cell; the open
+      -- borrow; obs; auth]
       sets ! (is ! (of_opd ! (get_in ! (fld ! refl (stop !)) (sub ! 0 refl (whole !)))) (ap ptr_val e)) refl (tt, tt) $ first ! $ blocks ! $
       sets_last ! (of_opd ! (load ! (through ! refl (fld ! refl (stop !))) (look ! 0 refl))) refl (Ptr-Good on) $
       exec ! C Λ En (after 2 (function E Z).body) (at_ret En Post) $ sets ! (of_opd ! (get ! refl)) refl (Ptr-Good on) $
@@ -122,9 +124,11 @@ module _ (E : El) (Z : Al) {M : Type 1} {𝓤 : Ura M} (𝓛 : Logic 𝓤) (C : 
       sets ! (agg ! (and_then ! (get ! refl) (and_then ! (get ! refl) (and_then ! (get ! refl) (no_more !))))) refl typed $
       stale ! on b (o + 0) $ rewrite ! 0 (λ (a : Ptr). ‵ (room_for ty_ptr (next_of a))) (sym e) refl $
       move ! (2 ∷ []) $ fsplit ! $ rewrite ! 0 (λ (cs : List (Place E)). ‵ (Cells E p cs)) asked.1 refl $
-      -- [the block's places; the others'; the room of its link; the other links; the deeds; the mark; ..]
+      -- [the block's places; the others'; the room of its link; the other links; the deeds; the
+      -- mark; ..]
       move ! (4 ∷ []) $ fsplit ! $
-      -- [its deed; the other deeds; its places; the others'; the room of its link; the other links; the mark; ..]
+      -- [its deed; the other deeds; its places; the others'; the room of its link; the other links;
+      -- the mark; ..]
       move ! (3 ∷ 5 ∷ 1 ∷ []) $ fjoin3 ! $
       -- [the other blocks; its deed; its places; the room of its link; the mark; ..]
       move ! (4 ∷ 0 ∷ []) $ fjoin ! $ move ! (4 ∷ 0 ∷ 5 ∷ 6 ∷ 7 ∷ []) $ closes ! tt (Ch E Z) new vs rb ro $

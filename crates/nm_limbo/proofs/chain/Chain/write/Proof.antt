@@ -122,7 +122,8 @@ module _ (E : El) (Z : Al) {M : Type 1} {𝓤 : Ura M} (𝓛 : Logic 𝓤) (C : 
       sets ! (bin ! (get ! refl) (get ! refl) tt) refl (tt, tt) $
       use1 𝓛 (‵ (slot (R E) b (index * s + base) (get_or cs index None)) ⊛ ‵ (Besides E 𝓛 b base cs index)) (slot_out E 𝓛 b base cs index within) $ split ! $
       rewrite ! 0 (λ (c : Place E). ‵ (slot (R E) b (index * s + base) c)) empty refl $ as_written ! (elτ E) b (index * s + base) $
-      -- [the room; the block's other places; the other blocks'; the links and deeds; the mark; its cell; the open borrow; obs; auth; what the item owns]
+      -- [the room; the block's other places; the other blocks'; the links and deeds; the mark; its
+      -- cell; the open borrow; obs; auth; what the item owns]
       sets ! (of_opd ! (get ! refl)) refl good_item $ assigns_last ! (of_opd ! (get ! refl)) (through ! refl (stop !)) (init ! 0 refl good_item) $
       exec ! C Λ En (after 1 (function E Z).body) (at_ret En Post) $ sets ! (of_opd ! (unit_lit !)) refl (tt, tt) $
       move ! (0 ∷ 9 ∷ []) $ use2 𝓛 (‵ (slot (R E) b (index * s + base) (Some item))) (value_in 0 E.row E.laws 𝓛 item b (index * s + base) v_item) $
