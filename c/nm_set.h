@@ -168,9 +168,9 @@ nm_outcome nm_set_version(uint32_t *major, uint32_t *minor, uint32_t *patch);
 /* Makes the empty set, in a tree with room for 7 to 268,435,456 nodes, for 1 to 64 workers. n keys
  * take 2 n + 5 nodes, and a node that was removed is free again only after two moves of the epoch.
  * A node takes 32 bytes and a bit, twice as much while the set is made, which takes time for each
- * node; a worker takes 64, so that what it announces lies in a cache line of its own. A new node
- * takes the lowest free slot, which takes long where there are many. NM_DONE, and the handle owns
- * the set; NM_OPEN, NM_NODES, NM_WORKERS, NM_NO_MEMORY. */
+ * node; a worker takes 4,096, so that what it announces lies in a page of its own. A new node takes
+ * the lowest free slot, which takes long where there are many. NM_DONE, and the handle owns the set;
+ * NM_OPEN, NM_NODES, NM_WORKERS, NM_NO_MEMORY. */
 nm_outcome nm_set_lowest(nm_handle *set, uint32_t nodes, uint32_t workers);
 
 /* The same, but each worker looks for a free slot near those that it took and gave back last: the one

@@ -33,8 +33,7 @@ pub struct Options {
     /// The room in nodes, 7 to 268,435,456. n keys take 2 n + 5, and the removed nodes that wait take
     /// theirs: give it several times that.
     pub nodes: u32,
-    /// The workers, 1 to 64: so many threads can make calls at one time. One more than a multiple
-    /// of four is best for how nodes lie in cache lines.
+    /// The workers, 1 to 64: so many threads can make calls at one time.
     pub workers: u32,
     /// Which free slot a new node takes.
     pub placement: Placement,

@@ -33,8 +33,8 @@ IsField L (at_birth s) = IsSlot L s
 IsField L (at_row r) = r < rows L
 
 -- the first word behind the epoch's and the notes of so many workers. With no gap the words stand
--- side by side. With a gap of 7 notes are 8 words apart, a cache line; two words of the epoch's
--- line are thought to stand before it, so that each note begins a line, and so does the first node
+-- side by side. With a gap of 511 notes are 512 words apart, a page; two words of the epoch's page
+-- are thought to stand before it, so that each note begins a page, and so does the first node
 abbrev pub behind_notes : Layout → ℕ → ℕ
 behind_notes L w = 1 + (L.gap - 2) + (1 + L.gap) * w
 

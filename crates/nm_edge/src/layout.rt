@@ -13,7 +13,7 @@ pub const LEAST_NODES: u32 = 7;
 /// The greatest number of nodes of a layout whose words stand side by side.
 pub const MOST_NODES: u32 = 1_048_576;
 
-/// The greatest number of nodes of a layout whose announcements have cache lines of their own.
+/// The greatest number of nodes of a layout whose announcements have pages of their own.
 pub const MOST_SPACED_NODES: u32 = 268_435_456;
 
 /// The greatest number of workers.
@@ -23,15 +23,17 @@ pub const MOST_WORKERS: u32 = 64;
 /// given back.
 pub const FIRST_SLOT: u32 = 6;
 
-/// How many words stand behind a note that has a cache line of its own: the rest of its 64 bytes.
-const LINE_GAP: u32 = 7;
+/// How many words stand behind a note that has a page of its own: the rest of its 4,096 bytes. A
+/// cache line of its own would not do: processors fetch lines of a page ahead, and so those that
+/// walks read there would bring announcements along.
+const PAGE_GAP: u32 = 511;
 
-/// How many words of the epoch's line stand before the epoch's own: those in which an allocator
+/// How many words of the epoch's page stand before the epoch's own: those in which an allocator
 /// keeps what it knows of a large block.
 const BEFORE_EPOCH: u32 = 2;
 
 /// How many nodes a tree has room for, the five fixed ones counted, how many workers share it, and
-/// whether their announcements have cache lines of their own.
+/// whether their announcements have pages of their own.
 #[derive(Clone, Copy, Debug, PartialEq, Eq)]
 pub struct Layout {
     nodes: u32,
@@ -107,8 +109,8 @@ impl Layout {
     }
 
     /// The layout of so many nodes, 7 to 268,435,456, and 1 to 64 workers, in which each
-    /// announcement has a cache line of its own, and no node lies in two lines, where the words
-    /// begin 16 bytes behind the beginning of a line, as large blocks of glibc's `malloc` do.
+    /// announcement has a page of its own, and no node lies in two cache lines, where the words begin
+    /// 16 bytes behind the beginning of a page, as large blocks of glibc's `malloc` do.
     pub fn spaced(nodes: u32, workers: u32) -> Result<Layout, LayoutError>
         ensures layout { IfOk result (λ layout. layout ≡ spaced nodes workers) }
         ensures nodes { IsErrOf result LayoutError.Nodes
@@ -117,13 +119,13 @@ impl Layout {
             (λ e. e ≡ LayoutError.Workers → (workers < 1) ⊎ (MOST_WORKERS < workers)) }
         ensures fits { IfOk result IsLayout }
     {
-        Layout::within(MOST_SPACED_NODES, nodes, workers, LINE_GAP)
+        Layout::within(MOST_SPACED_NODES, nodes, workers, PAGE_GAP)
     }
 
     /// The layout of so many nodes, 7 to `most`, and 1 to 64 workers, with that gap.
     fn within(most: u32, nodes: u32, workers: u32, gap: u32) -> Result<Layout, LayoutError>
         requires most { most ≤ MOST_SPACED_NODES }
-        requires gap { (gap ≡ 0) ⊎ (gap ≡ LINE_GAP) }
+        requires gap { (gap ≡ 0) ⊎ (gap ≡ PAGE_GAP) }
         ensures layout { IfOk result
             (λ layout. layout ≡ record { nodes = nodes; workers = workers; gap = gap }) }
         ensures nodes { IsErrOf result LayoutError.Nodes
@@ -165,8 +167,8 @@ impl Layout {
     }
 
     /// How many words there are: one for the epoch, one a worker, four a node, and one for each 64
-    /// slots of the pool, in this order. Where announcements have lines of their own, each has the
-    /// seven words behind it too, and five words stand behind the epoch's.
+    /// slots of the pool, in this order. Where announcements have pages of their own, each has the
+    /// 511 words behind it too, and 509 words stand behind the epoch's.
     pub fn words(self) -> u32
         ensures { result ≡ words self }
     {
@@ -239,9 +241,9 @@ impl Layout {
 /// The number of the first word behind the epoch's and the notes of so many workers, with that gap
 /// behind each.
 fn notes_end(gap: u32, workers: u32) -> u32
-    requires { (workers ≤ MOST_WORKERS) × ((gap ≡ 0) ⊎ (gap ≡ LINE_GAP)) }
+    requires { (workers ≤ MOST_WORKERS) × ((gap ≡ 0) ⊎ (gap ≡ PAGE_GAP)) }
     ensures word { result ≡ 1 + (gap - 2) + (1 + gap) * workers }
-    ensures few { result ≤ 518 }
+    ensures few { result ≤ 33278 }
 {
     1 + gap.saturating_sub(BEFORE_EPOCH) + (1 + gap) * workers
 }

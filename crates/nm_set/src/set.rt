@@ -64,7 +64,7 @@ pub struct KeepError {
 
 impl Set {
     /// The empty set, in a tree with room for `nodes` nodes, 7 to 268,435,456, for 1 to 64 workers,
-    /// whose announcements have cache lines of their own; a new node takes the lowest free slot:
+    /// whose announcements have pages of their own; a new node takes the lowest free slot:
     /// `Tree::spaced` of `nm_tree` with the lowest fit.
     ///
     /// `NoMemory`: nothing is kept.

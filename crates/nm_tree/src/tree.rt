@@ -73,10 +73,10 @@ impl Tree {
         Tree::of(alloc, layout_of(nodes, workers)?, Fit::Near)
     }
 
-    /// The same as `near` or, with `Fit::Lowest`, as `new`, but each announcement has a cache line
-    /// of its own, and no node lies in two lines, so that workers in threads of their own disturb
+    /// The same as `near` or, with `Fit::Lowest`, as `new`, but each announcement has a page of its
+    /// own, and no node lies in two cache lines, so that workers in threads of their own disturb
     /// each other less; and there may be more nodes, 7 to 268,435,456. It takes 32 bytes a node and
-    /// a bit, 64 a worker, the same again while it is made, and time for each node.
+    /// a bit, 4,096 a worker, the same again while it is made, and time for each node.
     pub fn spaced(
         alloc: Global,
         nodes: u32,
