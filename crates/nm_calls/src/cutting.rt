@@ -41,9 +41,10 @@ pub fn choose(shared: &Shared, pass: &mut Pass, spot: &Spot) -> Option<Kept>
     ensures again { (to : ℕ) → Tells pass.old (IsFlagged spot.now.parent spot.now.side to)
         → result ≡ Some (record { side = other spot.now.side; leaf = to }) }
 {
+    let layout = shared.layout();
     let across = spot.side.other();
-    let on = look_edge(shared, pass, spot.parent, spot.side);
-    let off = look_edge(shared, pass, spot.parent, across);
+    let on = look_edge(shared, layout, pass, spot.parent, spot.side);
+    let off = look_edge(shared, layout, pass, spot.parent, across);
     if on.flag() {
         Some(Kept {
             side: across,
@@ -73,7 +74,7 @@ fn freeze_one(shared: &Shared, pass: &mut Pass, slot: u32, side: Side) -> (NodeI
     ensures on { GoesOn pass.old pass.new }
     ensures only { OnlyLooks pass.old pass.new }
 {
-    let leaf = look_edge(shared, pass, slot, side.other()).slot();
+    let leaf = look_edge(shared, shared.layout(), pass, slot, side.other()).slot();
     let birth = look_birth(shared, pass, slot);
     let leaf_birth = look_birth(shared, pass, leaf);
     (

@@ -9,11 +9,13 @@ ghost use Rattle.nm_calls.specs.Telling.{Tells, GoesOn, OnlyLooks, IsInRun, IsPi
 ghost use Rattle.nm_calls.specs.Walks.{Reads, edge_on};
 
 use crate::spot::side_at;
-use nm_edge::{Edge, Side};
+use nm_edge::{Edge, Layout, Side};
 use nm_steps::{Pass, Shared};
 
-/// Reads the key of a known node, below 2^64. A key of the set stands above slot 5 alone.
-pub fn look_key(shared: &Shared, pass: &mut Pass, slot: u32) -> u64
+/// Reads the key of a known node, below 2^64, by the sizes that the caller keeps in its hands. A
+/// key of the set stands above slot 5 alone.
+pub fn look_key(shared: &Shared, layout: Layout, pass: &mut Pass, slot: u32) -> u64
+    requires layout { layout ≡ shared.now.layout }
     requires own { IsOf shared.now pass.old }
     requires run { IsInRun pass.old }
     requires pinned { IsPinnedSomewhere pass.old }
@@ -24,13 +26,14 @@ pub fn look_key(shared: &Shared, pass: &mut Pass, slot: u32) -> u64
     ensures only { OnlyLooks pass.old pass.new }
     ensures told { KeyTold pass.old pass.new slot result }
 {
-    let key = shared.look_key(pass, slot);
+    let key = shared.look_key(layout, pass, slot);
     pass.is_of_a_run();
     key
 }
 
-/// Reads an edge of a known node. The node to which it leads is known from then on.
-pub fn look_edge(shared: &Shared, pass: &mut Pass, slot: u32, side: Side) -> Edge
+/// Reads an edge of a known node, by such sizes. The node to which it leads is known from then on.
+pub fn look_edge(shared: &Shared, layout: Layout, pass: &mut Pass, slot: u32, side: Side) -> Edge
+    requires layout { layout ≡ shared.now.layout }
     requires own { IsOf shared.now pass.old }
     requires run { IsInRun pass.old }
     requires pinned { IsPinnedSomewhere pass.old }
@@ -41,7 +44,7 @@ pub fn look_edge(shared: &Shared, pass: &mut Pass, slot: u32, side: Side) -> Edg
     ensures only { OnlyLooks pass.old pass.new }
     ensures told { EdgeTold pass.old pass.new slot side result }
 {
-    let edge = shared.look_edge(pass, slot, side);
+    let edge = shared.look_edge(layout, pass, slot, side);
     pass.is_of_a_run();
     edge
 }
@@ -57,7 +60,14 @@ pub struct Onward {
 
 /// Reads the key of a known node and both of its edges, and then compares the keys, so that no read
 /// waits for the comparison. Three looks.
-pub(crate) fn read_node(shared: &Shared, pass: &mut Pass, slot: u32, key: u64) -> Onward
+pub(crate) fn read_node(
+    shared: &Shared,
+    layout: Layout,
+    pass: &mut Pass,
+    slot: u32,
+    key: u64,
+) -> Onward
+    requires layout { layout ≡ shared.now.layout }
     requires own { IsOf shared.now pass.old }
     requires run { IsInRun pass.old }
     requires pinned { IsPinnedSomewhere pass.old }
@@ -70,9 +80,9 @@ pub(crate) fn read_node(shared: &Shared, pass: &mut Pass, slot: u32, key: u64) -
     ensures only { OnlyLooks pass.old pass.new }
     ensures told { OnwardTold pass.old pass.new key slot result.found result.side result.next }
 {
-    let found = look_key(shared, pass, slot);
-    let left = look_edge(shared, pass, slot, Side::Left);
-    let right = look_edge(shared, pass, slot, Side::Right);
+    let found = look_key(shared, layout, pass, slot);
+    let left = look_edge(shared, layout, pass, slot, Side::Left);
+    let right = look_edge(shared, layout, pass, slot, Side::Right);
     let side = side_at(key, found);
     let next = edge_at(side, left, right);
     Onward { found, side, next }

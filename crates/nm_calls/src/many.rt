@@ -10,7 +10,7 @@ ghost use Rattle.nm_calls.specs.Won.{HasWon, won_splices};
 
 use crate::looking::{Onward, look_edge, read_node};
 use crate::lookup::Busy;
-use nm_edge::{Key, Side};
+use nm_edge::{Key, Layout, Side};
 use nm_epoch::{pin, unpin};
 use nm_steps::{Pass, Shared};
 
@@ -104,10 +104,11 @@ fn walk_all(shared: &Shared, pass: &mut Pass, queries: &mut [Query]) -> bool
     ensures only { OnlyLooks pass.old pass.new }
 {
     // One look at the left edge of slot 2 serves all of them.
-    let first = look_edge(shared, pass, 2, Side::Left).slot();
+    let layout = shared.layout();
+    let first = look_edge(shared, layout, pass, 2, Side::Left).slot();
     begin_each(queries, first);
-    for _turn in 0..shared.layout().nodes() {
-        take_turns(shared, pass, queries);
+    for _turn in 0..layout.nodes() {
+        take_turns(shared, layout, pass, queries);
         if have_ended(queries) {
             return true;
         }
@@ -127,7 +128,8 @@ fn begin_each(queries: &mut [Query], first: u32)
 }
 
 /// Takes each walk that has not ended a node further.
-fn take_turns(shared: &Shared, pass: &mut Pass, queries: &mut [Query])
+fn take_turns(shared: &Shared, layout: Layout, pass: &mut Pass, queries: &mut [Query])
+    requires layout { layout ≡ shared.now.layout }
     requires own { IsOf shared.now pass.old }
     requires run { IsInRun pass.old }
     requires pinned { IsPinnedSomewhere pass.old }
@@ -141,12 +143,13 @@ fn take_turns(shared: &Shared, pass: &mut Pass, queries: &mut [Query])
     ensures only { OnlyLooks pass.old pass.new }
 {
     for index in 0..queries.len() {
-        take_turn(shared, pass, &mut queries[index]);
+        take_turn(shared, layout, pass, &mut queries[index]);
     }
 }
 
 /// Takes a walk a node further, if it has not ended. At most three looks.
-fn take_turn(shared: &Shared, pass: &mut Pass, query: &mut Query)
+fn take_turn(shared: &Shared, layout: Layout, pass: &mut Pass, query: &mut Query)
+    requires layout { layout ≡ shared.now.layout }
     requires own { IsOf shared.now pass.old }
     requires run { IsInRun pass.old }
     requires pinned { IsPinnedSomewhere pass.old }
@@ -162,7 +165,7 @@ fn take_turn(shared: &Shared, pass: &mut Pass, query: &mut Query)
     if query.node == 0 {
         return;
     }
-    let on = read_node(shared, pass, query.node, query.key.get());
+    let on = read_node(shared, layout, pass, query.node, query.key.get());
     read_so(query, &on);
 }
 

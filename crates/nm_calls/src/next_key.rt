@@ -123,18 +123,19 @@ fn walk_down(shared: &Shared, pass: &mut Pass, from: u64) -> Descent
     ensures on { GoesOn pass.old pass.new }
     ensures only { OnlyLooks pass.old pass.new }
 {
-    let first = look_edge(shared, pass, 2, Side::Left).slot();
+    let layout = shared.layout();
+    let first = look_edge(shared, layout, pass, 2, Side::Left).slot();
     let mut walk = Descent {
         from,
         bound: INFINITY_0,
         node: first,
         found: 0,
     };
-    for _node in 0..shared.layout().nodes() {
+    for _node in 0..layout.nodes() {
         if walk.node == 0 {
             return walk;
         }
-        let on = read_node(shared, pass, walk.node, from);
+        let on = read_node(shared, layout, pass, walk.node, from);
         walk = read_so(&walk, &on);
     }
     walk

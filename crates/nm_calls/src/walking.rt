@@ -31,10 +31,11 @@ pub fn find(shared: &Shared, pass: &mut Pass, key: u64) -> Option<u64>
         (λ v. (leaf parent : ℕ) × (side : SideOf)
         × HasFound pass.old pass.new key leaf parent side v) }
 {
-    let mut spot = first(look_edge(shared, pass, 2, Side::Left));
-    for _below in 0..shared.layout().nodes() - 1 {
+    let layout = shared.layout();
+    let mut spot = first(look_edge(shared, layout, pass, 2, Side::Left));
+    for _below in 0..layout.nodes() - 1 {
         let node = spot.edge.slot();
-        let on = read_node(shared, pass, node, key);
+        let on = read_node(shared, layout, pass, node, key);
         if on.next.slot() == 0 {
             return Some(on.found);
         }
@@ -70,10 +71,11 @@ pub fn seek(shared: &Shared, pass: &mut Pass, key: u64, chain: &mut Chain) -> Op
         (λ r. HasFound pass.old pass.new key r.spot.edge.slot r.spot.parent r.spot.side r.key) }
 {
     chain.clear();
-    let mut spot = first(look_edge(shared, pass, 2, Side::Left));
-    for _below in 0..shared.layout().nodes() - 1 {
+    let layout = shared.layout();
+    let mut spot = first(look_edge(shared, layout, pass, 2, Side::Left));
+    for _below in 0..layout.nodes() - 1 {
         let node = spot.edge.slot();
-        let on = read_node(shared, pass, node, key);
+        let on = read_node(shared, layout, pass, node, key);
         if on.next.slot() == 0 {
             return Some(end_at(&spot, on.found));
         }

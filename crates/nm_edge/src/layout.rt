@@ -109,8 +109,8 @@ impl Layout {
     }
 
     /// The layout of so many nodes, 7 to 268,435,456, and 1 to 64 workers, in which each
-    /// announcement has a page of its own, and no node lies in two cache lines, where the words begin
-    /// 16 bytes behind the beginning of a page, as large blocks of glibc's `malloc` do.
+    /// announcement has a page of its own, and no node lies in two cache lines, where the words
+    /// begin 16 bytes behind the beginning of a page, as large blocks of glibc's `malloc` do.
     pub fn spaced(nodes: u32, workers: u32) -> Result<Layout, LayoutError>
         ensures layout { IfOk result (λ layout. layout ≡ spaced nodes workers) }
         ensures nodes { IsErrOf result LayoutError.Nodes

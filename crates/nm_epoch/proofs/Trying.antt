@@ -1,23 +1,25 @@
 -- A try to pin: an announcement, and the sight that confirms it or not.
-use Rattle.std.proofs.Common.{◌≡◌, ℕ, ◌==◌, Bool, true, false, cond, refl, ap, ◌∙◌}
-use Rattle.std.specs.Prelude.{Option, Some, None, IsSome, is_some}
-use Rattle.std.proofs.lemmas.Bool.{cond_both, eqb-true}
+use Rattle.std.proofs.Common.{◌≡◌, ◌≢◌, ℕ, zero, suc, ◌==◌, Bool, true, false, cond, refl, sym, ap, ◌∙◌}
+use Rattle.std.specs.Prelude.{List, [], ◌∷◌, ◌++◌, Option, Some, None, Result, Ok, Err, IsSome, IfOk, IfErr, is_some}
+use Rattle.std.proofs.lemmas.Bool.{cond_both}
 use Rattle.nm_model.specs.declared.knowledge.Brief.{Brief}
-use Rattle.nm_model.specs.declared.event.Event.TheVariants.{Sight, Announce}
+use Rattle.nm_model.specs.declared.event.Event.{Event}
+use Rattle.nm_model.specs.declared.event.Event.TheVariants.{Sight, Announce, Leave}
 use Rattle.nm_model.specs.declared.reply.Reply.{Reply}
-use Rattle.nm_model.specs.declared.reply.Reply.TheVariants.{Saw, Labelled, Pinned, Missed, Announced}
+use Rattle.nm_model.specs.declared.reply.Reply.TheVariants.{Saw, Labelled, Pinned, Missed, Announced, Departed}
 use Rattle.nm_model.specs.Step.{confirmed}
 use Rattle.nm_model.specs.Knowledge.{Knowledge}
 use Rattle.nm_model.specs.Learning.{learn, rooted}
-use Rattle.nm_model.specs.Searches.{Search, idle, searched, begun}
+use Rattle.nm_model.specs.Walks.{Entry}
+use Rattle.nm_model.specs.Searches.{Search, searched, begun}
 use Rattle.nm_order.specs.Intervals.{HasKey}
 use Rattle.nm_steps.specs.Rules.{knowledge}
-use Rattle.nm_steps.specs.Steps.{Stand, MayStep, Stepped, IsSight, noted, noted_sight, sight_of}
+use Rattle.nm_steps.specs.Steps.{Stand, MayStep, Stepped, IsSight, noted, noted_sight, sight_of, pin_reply}
 use Rattle.nm_steps.proofs.Noting.{may_sight}
 use Rattle.nm_epoch.specs.declared.pinning.Confirming.{Confirming}
 use Rattle.nm_epoch.specs.declared.pinning.Confirming.TheVariants.{Plain, For}
-use Rattle.nm_epoch.specs.Resting.{IsResting, IsPinnedAt, IsTrying, KeepsHands, epochs, search}
-use Rattle.nm_epoch.specs.Tries.{confirming, call_of}
+use Rattle.nm_epoch.specs.Resting.{IsResting, IsPinnedAt, IsTrying, HasAnnounced, KeepsHands, epochs, search}
+use Rattle.nm_epoch.specs.Tries.{WonTry, LostTry, LostTries, IsMoved, looked, confirming, call_of}
 use Rattle.nm_epoch.proofs.Entries.{epochs_after, search_is}
 use Rattle.nm_epoch.proofs.KeptHands.{is_quiet, is_label, known_after_step, hands_kept, kept_on}
 use Rattle.nm_epoch.proofs.Allowed.{may_sight_for}
@@ -53,13 +55,6 @@ try_keeps p q r by a answer first second silent = kept_on p q r (hands_kept p q 
 
 -- ---- announced
 
--- it announces a, is not pinned, and has no call
-pub record HasAnnounced (a : ℕ) (p : Stand) : Type 0 where
-  pub note : (epochs p).note ≡ Some a
-  pub unpinned : (epochs p).pin ≡ None
-  pub labelled : (epochs p).unlabelled ≡ false
-  pub idle : search p ≡ idle
-
 pub announced : (p q : Stand) (a : ℕ) → Stepped p q Announce (Announced a) → IsTrying p → HasAnnounced a q
 unfolding searched
 announced p q a step t =
@@ -92,30 +87,24 @@ never_saw a x p h s = let r = reply_is a p (Saw x) h s in cond_both (a == r.0) (
 pub never_labelled : (a x : ℕ) (p : Stand) → HasAnnounced a p → IsSight (epochs p) (Labelled x) → ⊥
 never_labelled a x p h s = let r = reply_is a p (Labelled x) h s in cond_both (a == r.0) (Pinned r.0) (Missed r.0) (λ y. Labelled x ≡ y → ⊥) (λ _ e. cc) (λ _ e. cc) r.1
 
--- it is pinned at what it announces
-pinned_there : (a x : ℕ) (p : Stand) → HasAnnounced a p → IsSight (epochs p) (Pinned x) → a ≡ x
-pinned_there a x p h s =
-    let r = reply_is a p (Pinned x) h s in
-    cond_both (a == r.0) (Pinned r.0) (Missed r.0) (λ y. Pinned x ≡ y → a ≡ x) (λ is e. let at = eqb-true a r.0 is in cc) (λ _ e. cc) r.1
-
 -- ---- won and lost
 
-pub won : (p q : Stand) (by : Confirming) (a e : ℕ) → HasAnnounced a p → IsSight (epochs p) (Pinned e) → Stepped p q (confirming by) (Pinned e) → IsPinnedAt e (call_of by) q
-won p q by a e h s step =
+won : (p q : Stand) (by : Confirming) (a e : ℕ) → HasAnnounced a p → e ≡ a → Stepped p q (confirming by) (Pinned e) → IsPinnedAt e (call_of by) q
+won p q by a e h same step =
     let after = epochs_after p q (confirming by) (Pinned e) step ∙ noted_confirming by (epochs p) (Pinned e) in
     record {
       seen = ap (λ (b : Brief). b.seen) after;
-      note = ap (λ (b : Brief). b.note) after ∙ (h.note ∙ ap (λ (n : ℕ). Some n) (pinned_there a e p h s));
+      note = ap (λ (b : Brief). b.note) after ∙ (h.note ∙ ap (λ (n : ℕ). Some n) (sym same));
       pin = ap (λ (b : Brief). b.pin) after;
       labelled = ap (λ (b : Brief). b.unlabelled) after ∙ h.labelled;
       begun = search_is p q (confirming by) (Pinned e) step ∙ searched_confirming by (search p) (Pinned e);
       known = ap (λ (k : Knowledge). k.known) (known_after_step p q (confirming by) (Pinned e) step) ∙ roots_known by p.view.number (knowledge p.view) e;
     }
 
-pub lost_seen : (p q : Stand) (by : Confirming) (e : ℕ) → Stepped p q (confirming by) (Missed e) → (epochs q).seen ≡ Some e
+lost_seen : (p q : Stand) (by : Confirming) (e : ℕ) → Stepped p q (confirming by) (Missed e) → (epochs q).seen ≡ Some e
 lost_seen p q by e step = ap (λ (b : Brief). b.seen) (epochs_after p q (confirming by) (Missed e) step ∙ noted_confirming by (epochs p) (Missed e))
 
-pub lost : (p q : Stand) (by : Confirming) (a e : ℕ) → HasAnnounced a p → Stepped p q (confirming by) (Missed e) → IsTrying q
+lost : (p q : Stand) (by : Confirming) (a e : ℕ) → HasAnnounced a p → Stepped p q (confirming by) (Missed e) → IsTrying q
 lost p q by a e h step =
     let after = epochs_after p q (confirming by) (Missed e) step ∙ noted_confirming by (epochs p) (Missed e) in
     record {
@@ -124,6 +113,43 @@ lost p q by a e h step =
       labelled = ap (λ (b : Brief). b.unlabelled) after ∙ h.labelled;
       idle = search_is p q (confirming by) (Missed e) step ∙ (searched_confirming by (search p) (Missed e) ∙ h.idle);
     }
+
+-- ---- by what the sight answered
+
+pub at_won : (p q : Stand) (by : Confirming) (a : ℕ) (r : Result ℕ ℕ) → HasAnnounced a p → IfOk r (λ e. e ≡ a) → Stepped p q (confirming by) (pin_reply r) → IfOk r (λ e. IsPinnedAt e (call_of by) q)
+at_won p q by a (Ok e) h same step = won p q by a e h same step
+at_won p q by a (Err e) h same step = tt
+
+pub tries_lost : (p q : Stand) (by : Confirming) (a : ℕ) (r : Result ℕ ℕ) → HasAnnounced a p → Stepped p q (confirming by) (pin_reply r) → IfErr r (λ e. IsTrying q)
+tries_lost p q by a (Ok e) h step = tt
+tries_lost p q by a (Err e) h step = lost p q by a e h step
+
+pub sees_lost : (p q : Stand) (by : Confirming) (r : Result ℕ ℕ) → Stepped p q (confirming by) (pin_reply r) → IfErr r (λ e. (epochs q).seen ≡ Some e)
+sees_lost p q by (Ok e) step = tt
+sees_lost p q by (Err e) step = lost_seen p q by e step
+
+-- the log grows by an announcement and then the sight
+logs : (p q r : Stand) (by : Confirming) (a : ℕ) (answer : Reply) → Stepped p q Announce (Announced a) → Stepped q r (confirming by) answer
+    → r.view.log ≡ (p.view.log ++ (Announce, Announced a) ∷ []) ++ (confirming by, answer) ∷ []
+logs p q r by a answer first second =
+    ap (λ (s : Stand). s.view.log) second ∙ ap (λ (l : List Entry). l ++ (confirming by, answer) ∷ []) (ap (λ (s : Stand). s.view.log) first)
+
+pub won_try : (p q r : Stand) (by : Confirming) (a : ℕ) (x : Result ℕ ℕ) → Stepped p q Announce (Announced a) → Stepped q r (confirming by) (pin_reply x) → IfOk x (λ e. WonTry (confirming by) e p.view.log r.view.log)
+won_try p q r by a (Ok e) first second = (a, logs p q r by a (Pinned e) first second)
+won_try p q r by a (Err e) first second = tt
+
+pub lost_try : (p q r : Stand) (by : Confirming) (a : ℕ) (x : Result ℕ ℕ) → Stepped p q Announce (Announced a) → Stepped q r (confirming by) (pin_reply x) → IfErr x (λ e. LostTry (confirming by) p.view.log r.view.log)
+lost_try p q r by a (Ok e) first second = tt
+lost_try p q r by a (Err e) first second = (a, e, logs p q r by a (Missed e) first second)
+
+-- each of the tries was lost, and there was one
+pub moved : (by : Event) (tries : ℕ) (old mid new : List Entry) (first : ℕ) → tries ≢ 0 → LostTries by tries (looked old first) mid → new ≡ mid ++ (Leave, Departed) ∷ [] → IsMoved by tries old new
+moved by zero old mid new first some lost is = absurd (some refl)
+moved by (suc n) old mid new first some lost is = (first, mid, lost, is)
+
+pub no_label : (x : Result ℕ ℕ) → is_label (pin_reply x) ≡ false
+no_label (Ok e) = refl
+no_label (Err e) = refl
 
 -- ---- the first sight
 

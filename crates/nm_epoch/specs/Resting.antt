@@ -55,6 +55,13 @@ pub record IsTrying (p : Stand) : Type 0 where
   pub labelled : (epochs p).unlabelled ≡ false
   pub idle : search p ≡ idle
 
+-- it announces a and is not pinned, no cut of its waits for a label, and it has no call
+pub record HasAnnounced (a : ℕ) (p : Stand) : Type 0 where
+  pub note : (epochs p).note ≡ Some a
+  pub unpinned : (epochs p).pin ≡ None
+  pub labelled : (epochs p).unlabelled ≡ false
+  pub idle : search p ≡ idle
+
 -- it is pinned, or announces nothing: not in the midst of a pin
 abbrev pub IsSettled : Stand → Type 0
 IsSettled p = IsSome (epochs p).pin ⊎ ((epochs p).note ≡ None)

@@ -2,8 +2,8 @@
 ghost use Rattle.std.specs.Prelude.{◌≡◌, ◌+◌, ◌*◌, ◌≤◌, length, Some, None, IfOk, IfErr, MatchResult};
 ghost use Rattle.nm_model.specs.declared.event.Event.TheVariants.{Sight, SightFor};
 ghost use Rattle.nm_order.specs.Intervals.{HasKey};
-ghost use Rattle.nm_steps.specs.Steps.{IsInRun, IsOf, IsSight, MayStep, Stepped, sight_reply, HasSeenAllOf};
-ghost use Rattle.nm_epoch.specs.Resting.{IsResting, IsUnpinned, IsPinnedAt, IsTrying, KeepsHands, epochs};
+ghost use Rattle.nm_steps.specs.Steps.{IsInRun, IsOf, MayStep, Stepped, pin_reply, HasSeenAllOf};
+ghost use Rattle.nm_epoch.specs.Resting.{IsResting, IsUnpinned, IsPinnedAt, IsTrying, HasAnnounced, KeepsHands, epochs};
 ghost use Rattle.nm_steps.specs.Steps.{IsSamePass};
 ghost use Rattle.nm_epoch.specs.Tries.{IsPinned, IsMoved, LostTry, WonTry, confirming, call_of};
 
@@ -19,18 +19,24 @@ enum Confirming {
     For(Op, Key),
 }
 
-/// Reads the epoch, to confirm a pin.
-fn confirm(shared: &Shared, pass: &mut Pass, by: &Confirming) -> Sighted
+/// Reads the epoch, to confirm a pin: `Ok` where it is the announced one still, at which the worker
+/// is pinned now, else the one that was found in its place.
+fn confirm(shared: &Shared, pass: &mut Pass, announced: u64, by: &Confirming) -> Result<u64, u64>
     requires own { IsOf shared.now pass.old }
     requires may { MayStep pass.old (confirming by.now) }
-    ensures step { Stepped pass.old pass.new (confirming by.now) (sight_reply result) }
+    requires announced { HasAnnounced announced pass.old }
+    ensures step { Stepped pass.old pass.new (confirming by.now) (pin_reply result) }
+    ensures same { IfOk result (λ e. e ≡ announced) }
     ensures past { HasSeenAllOf pass.new pass.old }
     ensures run { IsInRun pass.new }
-    ensures reply { IsSight (epochs pass.old) (sight_reply result) }
 {
     match by {
-        Confirming::Plain => shared.sight(pass),
-        Confirming::For(op, key) => shared.sight_for(pass, *op, *key),
+        Confirming::Plain => match shared.sight(pass) {
+            Sighted::Pinned(epoch) => Ok(epoch),
+            Sighted::Missed(epoch) => Err(epoch),
+            Sighted::Saw(_) | Sighted::Labelled(_) => unreachable!(),
+        },
+        Confirming::For(op, key) => shared.sight_for(pass, announced, *op, *key),
     }
 }
 
@@ -52,12 +58,8 @@ fn attempt(shared: &Shared, pass: &mut Pass, by: &Confirming) -> Result<u64, u64
     ensures last { IfErr result (λ e. (epochs pass.new).seen ≡ Some e) }
     ensures hands { KeepsHands pass.old pass.new }
 {
-    shared.announce(pass);
-    match confirm(shared, pass, by) {
-        Sighted::Pinned(epoch) => Ok(epoch),
-        Sighted::Missed(epoch) => Err(epoch),
-        Sighted::Saw(_) | Sighted::Labelled(_) => unreachable!(),
-    }
+    let announced = shared.announce(pass);
+    confirm(shared, pass, announced, by)
 }
 
 /// Reads the epoch, and then tries so often to pin it.
@@ -77,9 +79,8 @@ fn pin_by(shared: &Shared, pass: &mut Pass, tries: u32, by: &Confirming) -> Resu
     ensures rests { IfErr result (λ m. IsResting pass.new) }
     ensures hands { KeepsHands pass.old pass.new }
 {
-    let Sighted::Saw(first) = shared.sight(pass) else {
-        unreachable!()
-    };
+    pass.is_of_a_run();
+    let first = shared.sight_idle(pass);
     let mut epoch = first;
     if tries == 0 {
         return Err(Moved { epoch });

@@ -49,8 +49,8 @@ pub fn layout_of(nodes: u32, workers: u32) -> Result<Layout, NewError>
     }
 }
 
-/// The layout of so many nodes and workers, in which each announcement has a page of its own, or why
-/// there is none: 7 to 268,435,456 nodes, and 1 to 64 workers. It is never for want of memory.
+/// The layout of so many nodes and workers, in which each announcement has a page of its own, or
+/// why there is none: 7 to 268,435,456 nodes, and 1 to 64 workers. It is never for want of memory.
 pub fn spaced_layout_of(nodes: u32, workers: u32) -> Result<Layout, NewError>
     ensures layout { IfOk result (λ layout. layout ≡ spaced nodes workers) }
     ensures fits { IfOk result IsLayout }

@@ -2,7 +2,7 @@
 use Rattle.nm_model.specs.declared.event.Event.{Event}
 use Rattle.nm_steps.specs.Steps.{Stand, HasTurn, HasSeenAllOf}
 use Rattle.nm_steps.proofs.Growing.{goes_on_itself, goes_on_through, goes_on_by}
-use Rattle.std.proofs.Common.{ℕ, sym, subst, List, ◌∷◌, ◌++◌, []}
+use Rattle.std.proofs.Common.{ℕ, sym, subst, List}
 use Rattle.nm_steps.specs.Rules.{Extends}
 
 pub seen_itself : (p : Stand) → HasSeenAllOf p p

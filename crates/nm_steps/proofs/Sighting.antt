@@ -1,15 +1,20 @@
 -- What a sight answers: the epoch is no greater than the greatest, and the rest is told by the
 -- worker's own epochs.
-use Rattle.std.proofs.Common.{◌≡◌, ◌==◌, ◌≤◌, ℕ, refl, subst, ap, ◌∙◌}
+use Rattle.std.proofs.Common.{◌≡◌, ◌≢◌, ◌==◌, ◌≤◌, ℕ, Bool, cond, false, refl, sym, subst, ap, ◌∙◌, eq-eqb}
 use Rattle.std.specs.Prelude.{Option, Some, None, IfSome}
-use Rattle.std.proofs.lemmas.Bool.{cond_both}
+use Rattle.std.proofs.lemmas.Bool.{cond_both, ne_eqb}
 use Rattle.atomic_table.specs.declared.shared.Seat.{Seat}
 use Rattle.nm_model.specs.declared.knowledge.Brief.{Brief}
 use Rattle.nm_model.specs.declared.reply.Reply.{Reply}
+use Rattle.nm_edge.specs.Layouts.{Layout}
+use Rattle.nm_model.specs.declared.event.Op.{Op}
+use Rattle.nm_model.specs.declared.event.Event.TheVariants.{Sight, SightFor}
 use Rattle.nm_model.specs.declared.reply.Reply.TheVariants.{Labelled, Pinned, Missed}
+use Rattle.nm_model.specs.Knowledge.{Knowledge}
 use Rattle.nm_model.specs.Step.{last_number, confirmed}
 use Rattle.nm_steps.specs.declared.view.View.{View}
-use Rattle.nm_steps.specs.Steps.{Tied, IsSight, noted_sight, sight_of}
+use Rattle.nm_steps.specs.Steps.{Tied, IsSight, noted, noted_sight, sight_of}
+use Rattle.nm_words.specs.Told.{told}
 
 seen_confirmed : (b : Brief) (pin announced : Option ℕ) (n : ℕ) → (noted_sight b (confirmed pin announced n)).seen ≡ Some n
 seen_confirmed b (Some p) announced n = refl
@@ -25,3 +30,29 @@ sight_answers after number brief new old r n tied is reply same = (
   subst (λ (o : Option ℕ). IfSome o (λ e. e ≤ last_number)) (ap (λ (b : Brief). b.seen) is ∙ (ap (λ (x : Reply). (noted_sight brief x).seen) reply ∙ seen_sighted brief n)) tied.small,
   reply ∙ ap (λ (b : Brief). sight_of b n) same,
 )
+
+-- ---- by a worker whose standing is known
+
+-- with no pin and no cut that waits for a label, by what is announced
+by_note : (b : Brief) (o : Option ℕ) (n : ℕ) → b.pin ≡ None → b.note ≡ o → b.unlabelled ≡ false → sight_of b n ≡ confirmed None o n
+by_note b o n unpinned note labelled =
+    ap (λ (x : Bool). cond x (Labelled n) (confirmed b.pin b.note n)) labelled
+    ∙ (ap (λ (p : Option ℕ). confirmed p b.note n) unpinned ∙ ap (λ (a : Option ℕ). confirmed None a n) note)
+
+pub noted_idle : (L : Layout) (k : Knowledge) (births : ℕ → Option ℕ) (b : Brief) (n : ℕ) → b ≡ k.brief → k.brief.pin ≡ None → k.brief.note ≡ None → k.brief.unlabelled ≡ false
+    → record b { seen = Some n } ≡ noted b Sight (told L k births Sight n)
+noted_idle L k births b n same unpinned silent labelled = sym (ap (noted b Sight) (by_note k.brief None n unpinned silent labelled))
+
+at_note : (a n : ℕ) → n ≡ a → confirmed None (Some a) n ≡ Pinned n
+at_note a n same = ap (λ (x : Bool). cond x (Pinned n) (Missed n)) (eq-eqb a n (sym same))
+
+off_note : (a n : ℕ) → n ≢ a → confirmed None (Some a) n ≡ Missed n
+off_note a n other = ap (λ (x : Bool). cond x (Pinned n) (Missed n)) (ne_eqb a n (λ e. other (sym e)))
+
+pub noted_pin : (L : Layout) (k : Knowledge) (births : ℕ → Option ℕ) (op : Op) (key : ℕ) (b : Brief) (a n : ℕ) → b ≡ k.brief → k.brief.pin ≡ None → k.brief.note ≡ Some a → k.brief.unlabelled ≡ false → n ≡ a
+    → record b { seen = Some n; pin = Some n } ≡ noted b (SightFor op key) (told L k births (SightFor op key) n)
+noted_pin L k births op key b a n same unpinned note labelled found = sym (ap (noted b (SightFor op key)) (by_note k.brief (Some a) n unpinned note labelled ∙ at_note a n found))
+
+pub noted_miss : (L : Layout) (k : Knowledge) (births : ℕ → Option ℕ) (op : Op) (key : ℕ) (b : Brief) (a n : ℕ) → b ≡ k.brief → k.brief.pin ≡ None → k.brief.note ≡ Some a → k.brief.unlabelled ≡ false → n ≢ a
+    → record b { seen = Some n } ≡ noted b (SightFor op key) (told L k births (SightFor op key) n)
+noted_miss L k births op key b a n same unpinned note labelled found = sym (ap (noted b (SightFor op key)) (by_note k.brief (Some a) n unpinned note labelled ∙ off_note a n found))

@@ -225,6 +225,10 @@ sight_reply (seeing.Labelled e) = Labelled e
 sight_reply (seeing.Pinned e) = Pinned e
 sight_reply (seeing.Missed e) = Missed e
 
+abbrev pub pin_reply : Result ℕ ℕ → Reply
+pin_reply (Ok e) = Pinned e
+pin_reply (Err e) = Missed e
+
 abbrev pub scan_reply : Option ℕ → Reply
 scan_reply None = Idle
 scan_reply (Some e) = In e

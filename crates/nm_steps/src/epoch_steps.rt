@@ -1,9 +1,9 @@
 //! The steps on the epoch and on notes.
-ghost use Rattle.std.specs.Prelude.{◌≡◌, ◌<◌, Some};
+ghost use Rattle.std.specs.Prelude.{◌≡◌, ◌<◌, Some, None, false, IfOk};
 ghost use Rattle.nm_model.specs.declared.event.Event.TheVariants.{Sight, SightFor, Announce, Leave, LeaveWith, Scan, Advance};
-ghost use Rattle.nm_model.specs.declared.reply.Reply.TheVariants.{Announced, Departed};
+ghost use Rattle.nm_model.specs.declared.reply.Reply.TheVariants.{Saw, Announced, Departed};
 ghost use Rattle.nm_steps.specs.Rules.{knowledge};
-ghost use Rattle.nm_steps.specs.Steps.{IsOf, IsInRun, IsSight, MayStep, Stepped, HasTurn, sight_reply, scan_reply, advance_reply, IsAdvanceFrom, sight_of, noted_sight};
+ghost use Rattle.nm_steps.specs.Steps.{IsOf, IsInRun, IsSight, MayStep, Stepped, HasTurn, sight_reply, pin_reply, scan_reply, advance_reply, IsAdvanceFrom, sight_of, noted_sight};
 
 use crate::answers::Sighted;
 use crate::pass::{Pass, Shared};
@@ -27,21 +27,48 @@ impl Shared {
         reply
     }
 
-    /// Reads the global epoch to confirm a pin, for an operation on a key that begins with it.
-    pub fn sight_for(&self, pass: &mut Pass, op: Op, key: Key) -> Sighted
+    /// Reads the global epoch, by a worker that is not pinned and announces nothing, and no cut of
+    /// which waits for a label: so the epoch is all that this tells.
+    pub fn sight_idle(&self, pass: &mut Pass) -> u64
+        requires own { IsOf self.now pass.old }
+        requires unpinned { (knowledge pass.old.view).brief.pin ≡ None }
+        requires silent { (knowledge pass.old.view).brief.note ≡ None }
+        requires labelled { (knowledge pass.old.view).brief.unlabelled ≡ false }
+        ensures step { Stepped pass.old pass.new Sight (Saw result) }
+        ensures past { HasTurn pass.old pass.new Sight }
+        ensures run { IsInRun pass.new }
+    {
+        let word = self.layout.epoch() as usize;
+        let epoch = self.load(&mut pass.seat, word, Event::Sight);
+        pass.brief.seen = Some(epoch);
+        epoch
+    }
+
+    /// Reads the global epoch again, to confirm a pin for an operation on a key that begins with
+    /// it, by a worker that announces `announced` and is not pinned, and no cut of which waits for
+    /// a label. `Ok`: the epoch is that one still, and the worker is pinned. `Err`: another one was
+    /// found.
+    pub fn sight_for(&self, pass: &mut Pass, announced: u64, op: Op, key: Key) -> Result<u64, u64>
         requires own { IsOf self.now pass.old }
         requires may { MayStep pass.old (SightFor op key) }
-        ensures step { Stepped pass.old pass.new (SightFor op key) (sight_reply result) }
+        requires unpinned { (knowledge pass.old.view).brief.pin ≡ None }
+        requires note { (knowledge pass.old.view).brief.note ≡ Some announced }
+        requires labelled { (knowledge pass.old.view).brief.unlabelled ≡ false }
+        ensures step { Stepped pass.old pass.new (SightFor op key) (pin_reply result) }
+        ensures same { IfOk result (λ e. e ≡ announced) }
         ensures past { HasTurn pass.old pass.new (SightFor op key) }
         ensures run { IsInRun pass.new }
-        ensures reply { IsSight (knowledge pass.old.view).brief (sight_reply result) }
     {
         let word = self.layout.epoch() as usize;
         let event = Event::SightFor(op, key);
         let found = self.load(&mut pass.seat, word, event);
-        let reply = sighted(pass.brief, found);
-        note_sight(&mut pass.brief, reply);
-        reply
+        pass.brief.seen = Some(found);
+        if found == announced {
+            pass.brief.pin = Some(found);
+            Ok(found)
+        } else {
+            Err(found)
+        }
     }
 
     /// Announces the epoch last read, and answers it.

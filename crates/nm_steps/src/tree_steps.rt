@@ -10,34 +10,41 @@ ghost use Rattle.nm_steps.specs.Rules.{knowledge};
 ghost use Rattle.nm_steps.specs.Steps.{IsOf, IsInRun, MayStep, Stepped, HasTurn, link_reply, flag_reply, splice_reply};
 
 use crate::pass::{Pass, Shared};
-use nm_edge::{Edge, Side};
+use nm_edge::{Edge, Layout, Side};
 use nm_model::{Event, Field};
 
 /// The tag's bit of an edge's word.
 const TAG: u64 = 2;
 
 impl Shared {
-    /// Reads the key of a known node.
-    pub fn look_key(&self, pass: &mut Pass, slot: u32) -> u64
+    /// Reads the key of a known node. The caller keeps the sizes in its own hands (`layout`), since
+    /// an operation may have changed all that is shared, so that they would be loaded again for
+    /// each node.
+    pub fn look_key(&self, layout: Layout, pass: &mut Pass, slot: u32) -> u64
+        requires layout { layout ≡ self.now.layout }
         requires own { IsOf self.now pass.old }
         requires may { MayStep pass.old (Look slot KeyOf) }
         ensures step { Stepped pass.old pass.new (Look slot KeyOf) (KeyIs result) }
         ensures past { HasTurn pass.old pass.new (Look slot KeyOf) }
         ensures run { IsInRun pass.new }
     {
-        let word = self.layout.key(slot) as usize;
+        let _own = self.layout;
+        let word = layout.key(slot) as usize;
         self.load(&mut pass.seat, word, Event::Look(slot, Field::Key))
     }
 
-    /// Reads an edge of a known node. Its slot is known from then on.
-    pub fn look_edge(&self, pass: &mut Pass, slot: u32, side: Side) -> Edge
+    /// Reads an edge of a known node, by sizes that the caller keeps, as `look_key` does. Its slot
+    /// is known from then on.
+    pub fn look_edge(&self, layout: Layout, pass: &mut Pass, slot: u32, side: Side) -> Edge
+        requires layout { layout ≡ self.now.layout }
         requires own { IsOf self.now pass.old }
         requires may { MayStep pass.old (Look slot (EdgeOn side)) }
         ensures step { Stepped pass.old pass.new (Look slot (EdgeOn side)) (EdgeIs result) }
         ensures past { HasTurn pass.old pass.new (Look slot (EdgeOn side)) }
         ensures run { IsInRun pass.new }
     {
-        let word = self.layout.edge(slot, side) as usize;
+        let _own = self.layout;
+        let word = layout.edge(slot, side) as usize;
         let event = Event::Look(slot, Field::Edge(side));
         edge_of(self.load(&mut pass.seat, word, event))
     }

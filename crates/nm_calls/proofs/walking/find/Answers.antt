@@ -46,7 +46,7 @@ returns-then-slot-eq0-clause-steps c =
     let last = (reads_add c.args.key c.slot-node.result c.loop-below.pass.view.log c.read_node-on.new.pass.view.log c.read_node-on.result c.read_node-on.ensures.looks).steps in
     let below = c.loop-below-test.true in
     let nodes = c.nodes-below-end.ensures.nodes in
-    let layout = ap (λ (L : Layout). L.nodes) c.layout.ensures in
+    let layout = ap (λ (L : Layout). L.nodes) c.layout-layout.ensures in
     omega (arith, above, last, below, nodes, layout)
 
 pub returns-clause-steps : goal.returns-clause-steps
@@ -54,5 +54,5 @@ returns-clause-steps c =
     let above = (walk_adds c.args.key c.loop-below._below c.args.pass.now.view.log c.loop-below.pass.view.log c.loop-below.spot c.loop-below.invariant.walk.0 c.loop-below.invariant.walk.1).steps in
     let within = c.loop-below.auto._below-end in
     let nodes = c.nodes-below-end.ensures.nodes in
-    let layout = ap (λ (L : Layout). L.nodes) c.layout.ensures in
+    let layout = ap (λ (L : Layout). L.nodes) c.layout-layout.ensures in
     omega (arith, above, within, nodes, layout)

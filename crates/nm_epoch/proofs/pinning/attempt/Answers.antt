@@ -1,34 +1,31 @@
-use Rattle.std.proofs.Common.{⊎_elim}
 use Rattle.nm_epoch.proofs.Allowed.{may_announce}
-use Rattle.nm_epoch.proofs.Trying.{announced, announced_may, never_saw, never_labelled, won, lost, lost_seen}
-use Rattle.std.proofs.Common.{refl}
-use Rattle.nm_model.specs.declared.reply.Reply.TheVariants.{Pinned, Missed}
-use Rattle.nm_epoch.proofs.Trying.{try_keeps}
+use Rattle.nm_epoch.proofs.Trying.{announced, announced_may, at_won, tries_lost, sees_lost, won_try, lost_try, try_keeps, no_label}
+use Rattle.nm_steps.specs.Steps.{pin_reply}
 use Rattle.nm_epoch.proofs.pinning.attempt.Goals as goal
 
-pub announce-requires-clause-may : goal.announce-requires-clause-may
-announce-requires-clause-may c = may_announce c.args.pass.now c.requires.trying.seen c.requires.trying.unpinned
+pub announce-announced-requires-clause-may : goal.announce-announced-requires-clause-may
+announce-announced-requires-clause-may c = may_announce c.args.pass.now c.requires.trying.seen c.requires.trying.unpinned
 
 pub confirm-requires-clause-may : goal.confirm-requires-clause-may
-confirm-requires-clause-may c = announced_may c.announce.result c.announce.new.pass c.args.by.now (announced c.args.pass.now c.announce.new.pass c.announce.result c.announce.ensures.step c.requires.trying) c.requires.key
+confirm-requires-clause-may c = announced_may c.announce-announced.result c.announce-announced.new.pass c.args.by.now (announced c.args.pass.now c.announce-announced.new.pass c.announce-announced.result c.announce-announced.ensures.step c.requires.trying) c.requires.key
 
-pub unreachable-requires : goal.unreachable-requires
-unreachable-requires c =
-    let h = announced c.args.pass.now c.announce.new.pass c.announce.result c.announce.ensures.step c.requires.trying in
-    ⊎_elim (λ s. never_saw c.announce.result s.0 c.announce.new.pass h (rw s.1 at c.confirm.ensures.reply))
-    (λ l. never_labelled c.announce.result l.0 c.announce.new.pass h (rw l.1 at c.confirm.ensures.reply)) c.in-Saw.is
+pub confirm-requires-clause-announced : goal.confirm-requires-clause-announced
+confirm-requires-clause-announced c = announced c.args.pass.now c.announce-announced.new.pass c.announce-announced.result c.announce-announced.ensures.step c.requires.trying
 
-pub returns-in-Pinned-clause-at : goal.returns-in-Pinned-clause-at
-returns-in-Pinned-clause-at c = won c.announce.new.pass c.confirm.new.pass c.args.by.now c.announce.result c.in-Pinned.epoch (announced c.args.pass.now c.announce.new.pass c.announce.result c.announce.ensures.step c.requires.trying) c.in-Pinned.ensures.reply c.in-Pinned.ensures.step
+pub returns-clause-won : goal.returns-clause-won
+returns-clause-won c = won_try c.args.pass.now c.announce-announced.new.pass c.confirm.new.pass c.args.by.now c.announce-announced.result c.confirm.result c.announce-announced.ensures.step c.confirm.ensures.step
 
-pub returns-in-Missed-clause-trying : goal.returns-in-Missed-clause-trying
-returns-in-Missed-clause-trying c = lost c.announce.new.pass c.confirm.new.pass c.args.by.now c.announce.result c.in-Missed.epoch (announced c.args.pass.now c.announce.new.pass c.announce.result c.announce.ensures.step c.requires.trying) c.in-Missed.ensures.step
+pub returns-clause-lost : goal.returns-clause-lost
+returns-clause-lost c = lost_try c.args.pass.now c.announce-announced.new.pass c.confirm.new.pass c.args.by.now c.announce-announced.result c.confirm.result c.announce-announced.ensures.step c.confirm.ensures.step
 
-pub returns-in-Missed-clause-last : goal.returns-in-Missed-clause-last
-returns-in-Missed-clause-last c = lost_seen c.announce.new.pass c.confirm.new.pass c.args.by.now c.in-Missed.epoch c.in-Missed.ensures.step
+pub returns-clause-at : goal.returns-clause-at
+returns-clause-at c = at_won c.announce-announced.new.pass c.confirm.new.pass c.args.by.now c.announce-announced.result c.confirm.result (announced c.args.pass.now c.announce-announced.new.pass c.announce-announced.result c.announce-announced.ensures.step c.requires.trying) c.confirm.ensures.same c.confirm.ensures.step
 
-pub returns-in-Pinned-clause-hands : goal.returns-in-Pinned-clause-hands
-returns-in-Pinned-clause-hands c = try_keeps c.args.pass.now c.announce.new.pass c.confirm.new.pass c.args.by.now c.announce.result (Pinned c.in-Pinned.epoch) c.announce.ensures.step c.in-Pinned.ensures.step refl
+pub returns-clause-trying : goal.returns-clause-trying
+returns-clause-trying c = tries_lost c.announce-announced.new.pass c.confirm.new.pass c.args.by.now c.announce-announced.result c.confirm.result (announced c.args.pass.now c.announce-announced.new.pass c.announce-announced.result c.announce-announced.ensures.step c.requires.trying) c.confirm.ensures.step
 
-pub returns-in-Missed-clause-hands : goal.returns-in-Missed-clause-hands
-returns-in-Missed-clause-hands c = try_keeps c.args.pass.now c.announce.new.pass c.confirm.new.pass c.args.by.now c.announce.result (Missed c.in-Missed.epoch) c.announce.ensures.step c.in-Missed.ensures.step refl
+pub returns-clause-last : goal.returns-clause-last
+returns-clause-last c = sees_lost c.announce-announced.new.pass c.confirm.new.pass c.args.by.now c.confirm.result c.confirm.ensures.step
+
+pub returns-clause-hands : goal.returns-clause-hands
+returns-clause-hands c = try_keeps c.args.pass.now c.announce-announced.new.pass c.confirm.new.pass c.args.by.now c.announce-announced.result (pin_reply c.confirm.result) c.announce-announced.ensures.step c.confirm.ensures.step (no_label c.confirm.result)

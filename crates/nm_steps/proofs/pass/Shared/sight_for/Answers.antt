@@ -1,21 +1,26 @@
 use Rattle.std.proofs.Common.{rules}
 use Rattle.nm_steps.proofs.Noting.{ready, has_turn, in_run_after, tied_after}
-use Rattle.nm_steps.specs.Rules.{knowledge}
-use Rattle.nm_steps.specs.Steps.{sight_reply}
-use Rattle.nm_steps.proofs.Sighting.{sight_answers}
+use Rattle.nm_steps.specs.Rules.{knowledge, known_births}
+use Rattle.nm_steps.proofs.Sighting.{noted_pin, noted_miss}
 use Rattle.nm_steps.proofs.pass.Shared.sight_for.Goals as goal
 
 pub load-found-requires-clause-ready : goal.load-found-requires-clause-ready
 load-found-requires-clause-ready c = rw (← c.self.view_is) (ready _ _ _ _ _ _ _ _ c.self.invariant c.pass.invariant (search rules) (search rules) (rw (← c.pass.view_is) at c.requires.may) c.epoch-word.ensures)
 
 pub invariant_of-pass : goal.invariant_of-pass
-invariant_of-pass c = tied_after _ _ _ _ _ _ _ c.pass.invariant (rw (← c.pass.view_is) at c.requires.may) c.load-found.ensures (search rules)
+invariant_of-pass c = tied_after _ _ _ _ _ _ _ c.pass.invariant (rw (← c.pass.view_is) at c.requires.may) c.load-found.ensures (noted_pin c.pass.inside.seat.me.0.layout (knowledge c.pass.inside.seat.me.0) (known_births c.pass.inside.seat.me.0) c.args.op c.args.key c.pass.inside.brief c.args.announced c.load-found.result c.pass.invariant.brief_is (rw (← c.pass.view_is) at c.requires.unpinned) (rw (← c.pass.view_is) at c.requires.note) (rw (← c.pass.view_is) at c.requires.labelled) (search rules))
 
-pub returns-clause-reply : goal.returns-clause-reply
-returns-clause-reply c = sight_answers _ _ c.pass.inside.brief c.note_sight.new.brief (knowledge c.args.pass.now.view).brief (sight_reply c.sighted-reply.result) c.load-found.result (tied_after _ _ _ _ c.note_sight.new.brief _ _ c.pass.invariant (rw (← c.pass.view_is) at c.requires.may) c.load-found.ensures (search rules)) c.note_sight.ensures c.sighted-reply.ensures (search rules)
+pub invariant_of-pass-else-found-announced : goal.invariant_of-pass-else-found-announced
+invariant_of-pass-else-found-announced c = tied_after _ _ _ _ _ _ _ c.pass.invariant (rw (← c.pass.view_is) at c.requires.may) c.load-found.ensures (noted_miss c.pass.inside.seat.me.0.layout (knowledge c.pass.inside.seat.me.0) (known_births c.pass.inside.seat.me.0) c.args.op c.args.key c.pass.inside.brief c.args.announced c.load-found.result c.pass.invariant.brief_is (rw (← c.pass.view_is) at c.requires.unpinned) (rw (← c.pass.view_is) at c.requires.note) (rw (← c.pass.view_is) at c.requires.labelled) (search rules))
 
-pub returns-clause-run : goal.returns-clause-run
-returns-clause-run c = in_run_after _ _ _ _ _ _ c.pass.invariant (rw (← c.pass.view_is) at c.requires.may) c.load-found.ensures
+pub returns-then-found-announced-clause-run : goal.returns-then-found-announced-clause-run
+returns-then-found-announced-clause-run c = in_run_after _ _ _ _ _ _ c.pass.invariant (rw (← c.pass.view_is) at c.requires.may) c.load-found.ensures
 
-pub returns-clause-past : goal.returns-clause-past
-returns-clause-past c = rw (← c.pass.view_is) (has_turn _ _ _ _ c.load-found.ensures)
+pub returns-else-found-announced-clause-run : goal.returns-else-found-announced-clause-run
+returns-else-found-announced-clause-run c = in_run_after _ _ _ _ _ _ c.pass.invariant (rw (← c.pass.view_is) at c.requires.may) c.load-found.ensures
+
+pub returns-then-found-announced-clause-past : goal.returns-then-found-announced-clause-past
+returns-then-found-announced-clause-past c = rw (← c.pass.view_is) (has_turn _ _ _ _ c.load-found.ensures)
+
+pub returns-else-found-announced-clause-past : goal.returns-else-found-announced-clause-past
+returns-else-found-announced-clause-past c = rw (← c.pass.view_is) (has_turn _ _ _ _ c.load-found.ensures)
