@@ -1,5 +1,6 @@
-/* Preloaded into a program, refuses one of its growths: the one of the number that REFUSE tells, from 1, counted from the program's start over malloc,
-   calloc and realloc in all of its threads. Where it does, it writes a line to file descriptor 9. */
+/* Preloaded into a program, refuses one of its growths: the one of the number that REFUSE tells,
+   from 1, counted from the program's start over malloc, calloc and realloc in all of its threads.
+   Where it does, it writes a line to file descriptor 9. */
 #include <errno.h>
 #include <stdatomic.h>
 #include <stdbool.h>
@@ -34,4 +35,6 @@ void *malloc(size_t size) { return is_refused() ? NULL : __libc_malloc(size); }
 
 void *calloc(size_t count, size_t size) { return is_refused() ? NULL : __libc_calloc(count, size); }
 
-void *realloc(void *block, size_t size) { return is_refused() ? NULL : __libc_realloc(block, size); }
+void *realloc(void *block, size_t size) {
+    return is_refused() ? NULL : __libc_realloc(block, size);
+}

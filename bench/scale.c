@@ -1,5 +1,6 @@
-/* Four threads fill a set with many keys, look each of them up and one beside it that is not there; then the set is closed, and its report must have
- * each key once, ascending. Prints the times. The first argument is how many keys. */
+/* Four threads fill a set with many keys, look each of them up and one beside it that is not there;
+ * then the set is closed, and its report must have each key once, ascending. Prints the times. The
+ * first argument is how many keys. */
 #define _POSIX_C_SOURCE 199309L
 #include "holds.h"
 #include "nm_set.h"
@@ -10,7 +11,8 @@
 
 enum { THREADS = 4, LINE = 64 };
 
-/* An odd number: its products by different numbers differ, also without their highest bit, and are scattered, so that the tree is low. */
+/* An odd number: its products by different numbers differ, also without their highest bit, and are
+ * scattered, so that the tree is low. */
 static const uint64_t SCATTER = UINT64_C(0x9E3779B97F4A7C15);
 
 typedef struct part {
@@ -32,7 +34,8 @@ static double now(void) {
 static void *fill(void *own) {
     part *mine = own;
     for (uint64_t i = 0; i < mine->keys; i++)
-        CHECK(nm_worker_add(&mine->worker, key_of(mine->first + i * THREADS), &nm_usual_habit) == NM_YES);
+        CHECK(nm_worker_add(&mine->worker, key_of(mine->first + i * THREADS), &nm_usual_habit) ==
+              NM_YES);
     return NULL;
 }
 
@@ -49,7 +52,8 @@ static void *look(void *own) {
 static double together(part *parts, void *(*work)(void *)) {
     pthread_t threads[THREADS];
     double begun = now();
-    for (int i = 0; i < THREADS; i++) CHECK(pthread_create(&threads[i], NULL, work, &parts[i]) == 0);
+    for (int i = 0; i < THREADS; i++)
+        CHECK(pthread_create(&threads[i], NULL, work, &parts[i]) == 0);
     for (int i = 0; i < THREADS; i++) CHECK(pthread_join(threads[i], NULL) == 0);
     return now() - begun;
 }
@@ -78,8 +82,10 @@ int main(int count, char **words) {
         CHECK(nm_set_attach(&set, &parts[i].worker) == NM_DONE);
     }
     double filled = together(parts, fill), looked = together(parts, look);
-    printf("filled in %.2f seconds, %.2f million keys a second\n", filled, (double)keys / filled / 1e6);
-    printf("looked up in %.2f seconds, %.2f million look-ups a second\n", looked, 2 * (double)keys / looked / 1e6);
+    printf("filled in %.2f seconds, %.2f million keys a second\n", filled,
+        (double)keys / filled / 1e6);
+    printf("looked up in %.2f seconds, %.2f million look-ups a second\n", looked,
+        2 * (double)keys / looked / 1e6);
     for (int i = 0; i < THREADS; i++) CHECK(nm_drop(&parts[i].worker) == NM_DONE);
     begun = now();
     CHECK(nm_set_close(&set) == NM_DONE);

@@ -1,5 +1,6 @@
-/* Look-ups of random keys by one thread, one by one and several in a call, of the same set by turns. Prints, for each size of the set and of the call, the
- * medians of the processor time of a look-up, and of each round's ratio. */
+/* Look-ups of random keys by one thread, one by one and several in a call, of the same set by
+ * turns. Prints, for each size of the set and of the call, the medians of the processor time of a
+ * look-up, and of each round's ratio. */
 #define _POSIX_C_SOURCE 199309L
 #include "holds.h"
 #include "nm_set.h"
@@ -30,7 +31,8 @@ static uint64_t any_key(uint64_t *seed, uint64_t keys) {
     return draw(seed) % (2 * keys) * SCATTER >> 1;
 }
 
-/* Nanoseconds a look-up of so many in a call; 1: by the call for one key. Adds to `found` how many were found. */
+/* Nanoseconds a look-up of so many in a call; 1: by the call for one key. Adds to `found` how many
+ * were found. */
 static double looked(nm_handle *worker, uint64_t keys, size_t together, uint64_t *found) {
     uint64_t seed = 88172645463325252u;
     nm_lookup lookups[MOST];
@@ -67,8 +69,10 @@ int main(void) {
     puts("| Keys | In a call | One by one | Together | Ratio |\n|---|---|---|---|---|");
     for (size_t s = 0; s < sizeof sizes / sizeof *sizes; s++) {
         nm_handle set = NM_CLOSED_HANDLE, worker = NM_CLOSED_HANDLE;
-        CHECK(nm_set_near(&set, (uint32_t)(4 * sizes[s] + 64), 64) == NM_DONE && nm_set_attach(&set, &worker) == NM_DONE);
-        for (uint64_t i = 0; i < sizes[s]; i++) CHECK(nm_worker_insert(&worker, 2 * i * SCATTER >> 1, TRIES) == NM_YES);
+        CHECK(nm_set_near(&set, (uint32_t)(4 * sizes[s] + 64), 64) == NM_DONE &&
+              nm_set_attach(&set, &worker) == NM_DONE);
+        for (uint64_t i = 0; i < sizes[s]; i++)
+            CHECK(nm_worker_insert(&worker, 2 * i * SCATTER >> 1, TRIES) == NM_YES);
         for (size_t c = 0; c < sizeof calls / sizeof *calls; c++) {
             double alone[ROUNDS], together[ROUNDS], ratio[ROUNDS];
             for (int round = 0; round < ROUNDS; round++) {
@@ -78,10 +82,12 @@ int main(void) {
                 ratio[round] = alone[round] / together[round];
                 CHECK(one == many);
             }
-            printf("| %" PRIu64 " | %zu | %.0f | %.0f | %.2f |\n", sizes[s], calls[c], median(alone), median(together), median(ratio));
+            printf("| %" PRIu64 " | %zu | %.0f | %.0f | %.2f |\n", sizes[s], calls[c],
+                median(alone), median(together), median(ratio));
             fflush(stdout);
         }
-        CHECK(nm_drop(&worker) == NM_DONE && nm_set_close(&set) == NM_DONE && nm_drop(&set) == NM_DONE);
+        CHECK(nm_drop(&worker) == NM_DONE && nm_set_close(&set) == NM_DONE &&
+              nm_drop(&set) == NM_DONE);
     }
     return 0;
 }

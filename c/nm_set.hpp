@@ -36,8 +36,8 @@ inline bool answered(nm_outcome outcome) {
     return outcome != NM_NO;
 }
 
-// Owns what its handle does. One thread at a time uses it, for a call that is const too: of two that
-// do, the second is told NM_IN_USE.
+// Owns what its handle does. One thread at a time uses it, for a call that is const too: of two
+// that do, the second is told NM_IN_USE.
 class Owner {
 public:
     Owner(Owner &&from) noexcept
@@ -179,7 +179,8 @@ public:
     [[nodiscard]] nm_outcome try_has_many(std::vector<nm_lookup> &lookups,
                                           std::uint32_t most = tries) noexcept {
         nm_lookup none{};
-        return nm_worker_has_many(&handle_, lookups.empty() ? &none : lookups.data(), lookups.size(), most);
+        return nm_worker_has_many(
+            &handle_, lookups.empty() ? &none : lookups.data(), lookups.size(), most);
     }
 
     // The least key of the set that is not below this one.
@@ -353,9 +354,9 @@ public:
         return nm_worker_resign(&handle_, leaver);
     }
 
-    // Ends the set, once that and its other workers are closed; this is a closed owner then. NM_AWAY
-    // while another owner of it is open. NM_NO_MEMORY: this call can be made again, and may be the
-    // only one that goes on. What is proved of the report stands at nm_worker_end.
+    // Ends the set, once that and its other workers are closed; this is a closed owner then.
+    // NM_AWAY while another owner of it is open. NM_NO_MEMORY: this call can be made again, and may
+    // be the only one that goes on. What is proved of the report stands at nm_worker_end.
     Report end() {
         Report report;
         detail::answered(try_end(report));
@@ -377,10 +378,10 @@ private:
     friend class Set;
 };
 
-// A set. Several threads may take workers of one at the same time, by `worker` and by `attach`, with
-// no lock. It is closed, moved and destroyed by one thread, while no other is in a call of it. Its
-// workers are with other threads; it may be destroyed before them: then the last of them ends the
-// tree.
+// A set. Several threads may take workers of one at the same time, by `worker` and by `attach`,
+// with no lock. It is closed, moved and destroyed by one thread, while no other is in a call of it.
+// Its workers are with other threads; it may be destroyed before them: then the last of them ends
+// the tree.
 class Set : public detail::Owner {
 public:
     // The workers of a set where the caller names no number.

@@ -1,5 +1,7 @@
-/* Notes in threads. Each of four threads inserts keys, leaves a note after each, and then says in a number of the program's own how many links that told of.
- * Each reads the notes of the others: one that was read after that number tells of no fewer links, and finds the keys of that many inserts. */
+/* Notes in threads. Each of four threads inserts keys, leaves a note after each, and then says in a
+ * number of the program's own how many links that told of. Each reads the notes of the others: one
+ * that was read after that number tells of no fewer links, and finds the keys of that many inserts.
+ */
 #include "holds.h"
 #include "nm_set.h"
 
@@ -18,20 +20,25 @@ static atomic_uint_fast64_t left[THREADS], started, busy;
 static void post(nm_handle *worker, uint64_t wanted) {
     uint64_t links = 0, flags = 0;
     nm_outcome told;
-    while ((told = nm_worker_post(worker, &links, &flags)) == NM_BUSY) atomic_fetch_add(&busy, 1), sched_yield();
+    while ((told = nm_worker_post(worker, &links, &flags)) == NM_BUSY)
+        atomic_fetch_add(&busy, 1), sched_yield();
     CHECK(told == NM_DONE && links == wanted && flags == 0);
 }
 
 static uint64_t read_links(nm_handle *worker, uint32_t number) {
     uint64_t links = 0, flags = 0;
     nm_outcome told;
-    while ((told = nm_worker_read(worker, number, &links, &flags)) == NM_BUSY) atomic_fetch_add(&busy, 1), sched_yield();
+    while ((told = nm_worker_read(worker, number, &links, &flags)) == NM_BUSY)
+        atomic_fetch_add(&busy, 1), sched_yield();
     CHECK(told == NM_YES ? links > 0 && flags == 0 : told == NM_NO && links == 0);
     return links;
 }
 
-/* The keys of a thread, in the order in which it inserts them: scattered, since keys in their order would make a long path. */
-static uint64_t key_of(uint64_t thread, uint64_t index) { return (index * THREADS + thread) * 7919 % 100003; }
+/* The keys of a thread, in the order in which it inserts them: scattered, since keys in their order
+ * would make a long path. */
+static uint64_t key_of(uint64_t thread, uint64_t index) {
+    return (index * THREADS + thread) * 7919 % 100003;
+}
 
 /* Reads the note of another thread. */
 static void look(nm_handle *worker, uint64_t other) {
@@ -60,11 +67,13 @@ int main(void) {
     pthread_t made[THREADS];
     nm_handle worker = NM_CLOSED_HANDLE;
     CHECK(nm_set_near(&set, NODES, WORKERS) == NM_DONE);
-    for (int i = 0; i < THREADS; i++) CHECK(pthread_create(&made[i], NULL, work, (void *)(uintptr_t)i) == 0);
+    for (int i = 0; i < THREADS; i++)
+        CHECK(pthread_create(&made[i], NULL, work, (void *)(uintptr_t)i) == 0);
     for (int i = 0; i < THREADS; i++) CHECK(pthread_join(made[i], NULL) == 0);
     CHECK(nm_set_worker(&set, &worker, 1) == NM_DONE);
     for (uint32_t i = 0; i < THREADS; i++) CHECK(read_links(&worker, i * APART) == KEYS);
     CHECK(nm_drop(&worker) == NM_DONE && nm_set_close(&set) == NM_DONE && nm_drop(&set) == NM_DONE);
-    printf("%d notes were left and read; %" PRIuFAST64 " calls found another thread at the post\n", THREADS * KEYS, (uint_fast64_t)busy);
+    printf("%d notes were left and read; %" PRIuFAST64 " calls found another thread at the post\n",
+        THREADS * KEYS, (uint_fast64_t)busy);
     return 0;
 }

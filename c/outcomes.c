@@ -1,4 +1,5 @@
-/* Each function once and more, by one thread, and each outcome that one thread can meet without a refusal of memory. */
+/* Each function once and more, by one thread, and each outcome that one thread can meet without a
+ * refusal of memory. */
 #include "holds.h"
 #include "nm_set.h"
 
@@ -12,7 +13,8 @@ static void each_tells(nm_handle *worker, uint64_t key, nm_outcome wanted) {
     nm_lookup lookup = {key, NOT_WRITTEN};
     uint64_t found = NOT_WRITTEN;
     CHECK(nm_worker_has(worker, key, TRIES) == wanted);
-    CHECK(nm_worker_has_many(worker, &lookup, 1, TRIES) == wanted && lookup.key == key && lookup.found == NOT_WRITTEN);
+    CHECK(nm_worker_has_many(worker, &lookup, 1, TRIES) == wanted && lookup.key == key &&
+          lookup.found == NOT_WRITTEN);
     CHECK(nm_worker_next(worker, key, TRIES, &found) == wanted && found == NOT_WRITTEN);
     CHECK(nm_worker_insert(worker, key, TRIES) == wanted);
     CHECK(nm_worker_delete(worker, key, TRIES) == wanted);
@@ -36,19 +38,27 @@ static void is_refused(nm_handle *handle, nm_outcome worker, nm_outcome report) 
         each_tending_tells(handle, 5, worker);
         CHECK(nm_worker_finish(handle, TRIES) == worker);
         CHECK(nm_worker_pin(handle, TRIES, &wide) == worker && nm_worker_unpin(handle) == worker);
-        CHECK(nm_worker_advance(handle, &wide, &narrow) == worker && nm_worker_behind(handle, &wide, &other) == worker);
-        CHECK(nm_worker_collect(handle, &wide, &other) == worker && nm_worker_number(handle, &narrow) == worker);
-        CHECK(nm_worker_queue_len(handle, &wide) == worker && nm_worker_pending(handle, &wide) == worker);
-        CHECK(nm_worker_held(handle, &wide) == worker && nm_worker_ledger(handle, &ledger) == worker);
+        CHECK(nm_worker_advance(handle, &wide, &narrow) == worker &&
+              nm_worker_behind(handle, &wide, &other) == worker);
+        CHECK(nm_worker_collect(handle, &wide, &other) == worker &&
+              nm_worker_number(handle, &narrow) == worker);
+        CHECK(nm_worker_queue_len(handle, &wide) == worker &&
+              nm_worker_pending(handle, &wide) == worker);
+        CHECK(
+            nm_worker_held(handle, &wide) == worker && nm_worker_ledger(handle, &ledger) == worker);
         CHECK(nm_worker_resign(handle, 0) == worker && nm_worker_end(handle) == worker);
-        CHECK(nm_worker_post(handle, &wide, &other) == worker && nm_worker_read(handle, 0, &wide, &other) == worker);
+        CHECK(nm_worker_post(handle, &wide, &other) == worker &&
+              nm_worker_read(handle, 0, &wide, &other) == worker);
     }
     if (report != NM_DONE) {
-        CHECK(nm_report_slots(handle, &narrow, &second) == report && nm_report_keys(handle, &wide) == report);
-        CHECK(nm_report_key(handle, 0, &wide) == report && nm_report_queue(handle, 0, &wide) == report);
+        CHECK(nm_report_slots(handle, &narrow, &second) == report &&
+              nm_report_keys(handle, &wide) == report);
+        CHECK(nm_report_key(handle, 0, &wide) == report &&
+              nm_report_queue(handle, 0, &wide) == report);
         CHECK(nm_report_waiting(handle, 0, &waiting) == report);
     }
-    CHECK(wide == NOT_WRITTEN && other == NOT_WRITTEN && narrow == NOT_WRITTEN && second == NOT_WRITTEN);
+    CHECK(wide == NOT_WRITTEN && other == NOT_WRITTEN && narrow == NOT_WRITTEN &&
+          second == NOT_WRITTEN);
     CHECK(ledger.links == NOT_WRITTEN && waiting.slot == NOT_WRITTEN);
 }
 
@@ -56,7 +66,8 @@ static void sizes(void) {
     nm_handle set = NM_CLOSED_HANDLE;
     CHECK(nm_set_lowest(&set, 6, 1) == NM_NODES && nm_set_near(&set, 268435457, 65) == NM_NODES);
     CHECK(nm_set_lowest(&set, 7, 0) == NM_WORKERS && nm_set_near(&set, 7, 65) == NM_WORKERS);
-    CHECK(nm_set_near(&set, 1048577, 64) == NM_DONE && nm_set_lowest(&set, 7, 1) == NM_OPEN && nm_set_near(&set, 7, 1) == NM_OPEN);
+    CHECK(nm_set_near(&set, 1048577, 64) == NM_DONE && nm_set_lowest(&set, 7, 1) == NM_OPEN &&
+          nm_set_near(&set, 7, 1) == NM_OPEN);
     CHECK(nm_drop(&set) == NM_DONE && nm_drop(&set) == NM_CLOSED && set.at == NULL);
 }
 
@@ -66,7 +77,8 @@ static void kinds(void) {
     CHECK(nm_set_worker(&set, &worker, 0) == NM_OPEN && nm_set_worker(&set, &none, 1) == NM_NUMBER);
     CHECK(nm_set_worker(&set, &none, 0) == NM_AWAY && nm_set_close(&set) == NM_AWAY);
     nm_handle other = NM_CLOSED_HANDLE;
-    CHECK(nm_set_worker(&none, &other, 0) == NM_CLOSED && nm_set_worker(&worker, &other, 0) == NM_KIND);
+    CHECK(nm_set_worker(&none, &other, 0) == NM_CLOSED &&
+          nm_set_worker(&worker, &other, 0) == NM_KIND);
     CHECK(nm_set_close(&none) == NM_CLOSED && nm_set_close(&worker) == NM_KIND);
     is_refused(&none, NM_CLOSED, NM_CLOSED);
     is_refused(&set, NM_KIND, NM_KIND);
@@ -83,49 +95,70 @@ static void answers(void) {
     nm_handle set = NM_CLOSED_HANDLE, worker = NM_CLOSED_HANDLE;
     CHECK(nm_set_near(&set, 7, 2) == NM_DONE && nm_set_worker(&set, &worker, 1) == NM_DONE);
     CHECK(nm_worker_has(&worker, 5, 0) == NM_BUSY && nm_worker_has(&worker, 5, TRIES) == NM_NO);
-    CHECK(nm_worker_insert(&worker, 5, TRIES) == NM_YES && nm_worker_insert(&worker, 5, TRIES) == NM_NO);
-    CHECK(nm_worker_has(&worker, 5, TRIES) == NM_YES && nm_worker_insert(&worker, 6, TRIES) == NM_FULL);
+    CHECK(nm_worker_insert(&worker, 5, TRIES) == NM_YES &&
+          nm_worker_insert(&worker, 5, TRIES) == NM_NO);
+    CHECK(nm_worker_has(&worker, 5, TRIES) == NM_YES &&
+          nm_worker_insert(&worker, 6, TRIES) == NM_FULL);
     nm_lookup lookups[3] = {{6, NOT_WRITTEN}, {5, NOT_WRITTEN}, {4, NOT_WRITTEN}};
     CHECK(nm_worker_has_many(&worker, lookups, 3, 0) == NM_BUSY && lookups[1].found == NOT_WRITTEN);
-    CHECK(nm_worker_has_many(&worker, lookups, 3, TRIES) == NM_DONE && nm_worker_has_many(&worker, lookups, 0, TRIES) == NM_DONE);
-    CHECK(lookups[0].found == 0 && lookups[1].found == 1 && lookups[2].found == 0 && lookups[1].key == 5);
-    CHECK(nm_worker_delete(&worker, 6, TRIES) == NM_NO && nm_worker_finish(&worker, TRIES) == NM_NO);
+    CHECK(nm_worker_has_many(&worker, lookups, 3, TRIES) == NM_DONE &&
+          nm_worker_has_many(&worker, lookups, 0, TRIES) == NM_DONE);
+    CHECK(lookups[0].found == 0 && lookups[1].found == 1 && lookups[2].found == 0 &&
+          lookups[1].key == 5);
+    CHECK(
+        nm_worker_delete(&worker, 6, TRIES) == NM_NO && nm_worker_finish(&worker, TRIES) == NM_NO);
     uint64_t key = NOT_WRITTEN;
-    CHECK(nm_worker_next(&worker, 6, TRIES, &key) == NM_NO && nm_worker_next(&worker, 0, 0, &key) == NM_BUSY && key == NOT_WRITTEN);
-    CHECK(nm_worker_next(&worker, 0, TRIES, &key) == NM_YES && key == 5 && nm_worker_next(&worker, 5, TRIES, &key) == NM_YES && key == 5);
+    CHECK(nm_worker_next(&worker, 6, TRIES, &key) == NM_NO &&
+          nm_worker_next(&worker, 0, 0, &key) == NM_BUSY && key == NOT_WRITTEN);
+    CHECK(nm_worker_next(&worker, 0, TRIES, &key) == NM_YES && key == 5 &&
+          nm_worker_next(&worker, 5, TRIES, &key) == NM_YES && key == 5);
     key = NOT_WRITTEN;
     CHECK(nm_worker_pending(&worker, &key) == NM_NO && key == NOT_WRITTEN);
-    CHECK(nm_worker_delete(&worker, 5, 1) == NM_UNFINISHED && nm_worker_finish(&worker, 0) == NM_UNFINISHED);
+    CHECK(nm_worker_delete(&worker, 5, 1) == NM_UNFINISHED &&
+          nm_worker_finish(&worker, 0) == NM_UNFINISHED);
     CHECK(nm_worker_pending(&worker, &key) == NM_YES && key == 5);
     each_tells(&worker, 5, NM_PENDING);
     CHECK(nm_worker_pin(&worker, TRIES, &key) == NM_PENDING && key == 5);
-    CHECK(nm_worker_finish(&worker, TRIES) == NM_YES && nm_worker_delete(&worker, 5, TRIES) == NM_NO);
-    CHECK(nm_drop(&set) == NM_DONE && nm_worker_has(&worker, 5, TRIES) == NM_NO && nm_drop(&worker) == NM_DONE);
+    CHECK(
+        nm_worker_finish(&worker, TRIES) == NM_YES && nm_worker_delete(&worker, 5, TRIES) == NM_NO);
+    CHECK(nm_drop(&set) == NM_DONE && nm_worker_has(&worker, 5, TRIES) == NM_NO &&
+          nm_drop(&worker) == NM_DONE);
 }
 
-/* Calls that tend the set, where two slots are free: a delete that has begun is finished first, a full set is collected, and nothing is made again
- * that might have no try. */
+/* Calls that tend the set, where two slots are free: a delete that has begun is finished first, a
+ * full set is collected, and nothing is made again that might have no try. */
 static void tended(void) {
     const nm_habit *usual = &nm_usual_habit, none = {0, 0, 64};
     nm_handle set = NM_CLOSED_HANDLE, worker = NM_CLOSED_HANDLE, reader = NM_CLOSED_HANDLE;
     uint64_t told = NOT_WRITTEN;
     CHECK(nm_set_lowest(&set, 7, 2) == NM_DONE && nm_set_worker(&set, &worker, 0) == NM_DONE);
-    CHECK(nm_worker_contains(&worker, 5, usual) == NM_NO && nm_worker_remove(&worker, 5, usual) == NM_NO);
+    CHECK(nm_worker_contains(&worker, 5, usual) == NM_NO &&
+          nm_worker_remove(&worker, 5, usual) == NM_NO);
     CHECK(nm_worker_add(&worker, 5, usual) == NM_YES && nm_worker_add(&worker, 5, usual) == NM_NO);
-    CHECK(nm_worker_contains(&worker, 5, usual) == NM_YES && nm_worker_add(&worker, 6, usual) == NM_FULL);
+    CHECK(nm_worker_contains(&worker, 5, usual) == NM_YES &&
+          nm_worker_add(&worker, 6, usual) == NM_FULL);
     each_tending_tells(&worker, UINT64_MAX - 2, NM_KEY);
-    CHECK(nm_worker_contains(&worker, 5, &none) == NM_BUSY && nm_worker_add(&worker, 6, &none) == NM_BUSY);
-    CHECK(nm_worker_remove(&worker, 5, &none) == NM_BUSY && nm_worker_pending(&worker, &told) == NM_NO);
+    CHECK(nm_worker_contains(&worker, 5, &none) == NM_BUSY &&
+          nm_worker_add(&worker, 6, &none) == NM_BUSY);
+    CHECK(nm_worker_remove(&worker, 5, &none) == NM_BUSY &&
+          nm_worker_pending(&worker, &told) == NM_NO);
     for (int turn = 0; turn < 100; turn++)
-        CHECK(nm_worker_remove(&worker, 5, usual) == NM_YES && nm_worker_add(&worker, 5, usual) == NM_YES);
-    CHECK(nm_worker_delete(&worker, 5, 1) == NM_UNFINISHED && nm_worker_contains(&worker, 5, &none) == NM_PENDING);
-    CHECK(nm_worker_pending(&worker, &told) == NM_YES && told == 5 && nm_worker_contains(&worker, 5, usual) == NM_NO);
-    CHECK(nm_worker_pending(&worker, &told) == NM_NO && nm_worker_queue_len(&worker, &told) == NM_DONE && told == 2);
+        CHECK(nm_worker_remove(&worker, 5, usual) == NM_YES &&
+              nm_worker_add(&worker, 5, usual) == NM_YES);
+    CHECK(nm_worker_delete(&worker, 5, 1) == NM_UNFINISHED &&
+          nm_worker_contains(&worker, 5, &none) == NM_PENDING);
+    CHECK(nm_worker_pending(&worker, &told) == NM_YES && told == 5 &&
+          nm_worker_contains(&worker, 5, usual) == NM_NO);
+    CHECK(nm_worker_pending(&worker, &told) == NM_NO &&
+          nm_worker_queue_len(&worker, &told) == NM_DONE && told == 2);
     CHECK(nm_worker_add(&worker, 6, usual) == NM_YES && nm_set_worker(&set, &reader, 1) == NM_DONE);
-    CHECK(nm_worker_pin(&reader, TRIES, &told) == NM_DONE && nm_worker_remove(&worker, 6, usual) == NM_YES);
+    CHECK(nm_worker_pin(&reader, TRIES, &told) == NM_DONE &&
+          nm_worker_remove(&worker, 6, usual) == NM_YES);
     CHECK(nm_worker_add(&worker, 7, usual) == NM_FULL && nm_worker_unpin(&reader) == NM_DONE);
-    CHECK(nm_worker_add(&worker, 7, usual) == NM_YES && nm_drop(&reader) == NM_DONE && nm_drop(&worker) == NM_DONE);
-    CHECK(nm_set_close(&set) == NM_DONE && nm_report_key(&set, 0, &told) == NM_DONE && told == 7 && nm_drop(&set) == NM_DONE);
+    CHECK(nm_worker_add(&worker, 7, usual) == NM_YES && nm_drop(&reader) == NM_DONE &&
+          nm_drop(&worker) == NM_DONE);
+    CHECK(nm_set_close(&set) == NM_DONE && nm_report_key(&set, 0, &told) == NM_DONE && told == 7 &&
+          nm_drop(&set) == NM_DONE);
 }
 
 /* Each remove first frees what waits, where that is the habit. */
@@ -136,10 +169,12 @@ static void collected(void) {
     CHECK(nm_set_near(&set, 4096, 3) == NM_DONE && nm_set_attach(&set, &worker) == NM_DONE);
     for (uint64_t key = 0; key < 500; key++) {
         uint64_t nodes = NOT_WRITTEN;
-        CHECK(nm_worker_add(&worker, key, &often) == NM_YES && nm_worker_remove(&worker, key, &often) == NM_YES);
+        CHECK(nm_worker_add(&worker, key, &often) == NM_YES &&
+              nm_worker_remove(&worker, key, &often) == NM_YES);
         CHECK(nm_worker_queue_len(&worker, &nodes) == NM_DONE && nodes <= 8);
     }
-    CHECK(nm_worker_ledger(&worker, &ledger) == NM_DONE && ledger.retired == 1000 && ledger.freed >= 990);
+    CHECK(nm_worker_ledger(&worker, &ledger) == NM_DONE && ledger.retired == 1000 &&
+          ledger.freed >= 990);
     CHECK(nm_drop(&worker) == NM_DONE && nm_drop(&set) == NM_DONE);
 }
 
@@ -150,17 +185,22 @@ static void epochs(void) {
     uint32_t behind = NOT_WRITTEN;
     CHECK(nm_set_lowest(&set, 64, 4) == NM_DONE);
     CHECK(nm_set_worker(&set, &reader, 2) == NM_DONE && nm_set_worker(&set, &writer, 0) == NM_DONE);
-    CHECK(nm_worker_unpin(&reader) == NM_NOT_HELD && nm_worker_held(&reader, &epoch) == NM_NO && epoch == NOT_WRITTEN);
+    CHECK(nm_worker_unpin(&reader) == NM_NOT_HELD && nm_worker_held(&reader, &epoch) == NM_NO &&
+          epoch == NOT_WRITTEN);
     CHECK(nm_worker_pin(&reader, 0, &epoch) == NM_BUSY && epoch == 0);
-    CHECK(nm_worker_pin(&reader, TRIES, &epoch) == NM_DONE && nm_worker_pin(&reader, TRIES, &epoch) == NM_HELD);
+    CHECK(nm_worker_pin(&reader, TRIES, &epoch) == NM_DONE &&
+          nm_worker_pin(&reader, TRIES, &epoch) == NM_HELD);
     each_tells(&reader, 5, NM_HELD);
     each_tending_tells(&reader, 5, NM_HELD);
-    CHECK(nm_worker_insert(&writer, 5, TRIES) == NM_YES && nm_worker_delete(&writer, 5, TRIES) == NM_YES);
-    CHECK(nm_worker_advance(&writer, &epoch, &behind) == NM_DONE && epoch == 1 && behind == NOT_WRITTEN);
+    CHECK(nm_worker_insert(&writer, 5, TRIES) == NM_YES &&
+          nm_worker_delete(&writer, 5, TRIES) == NM_YES);
+    CHECK(nm_worker_advance(&writer, &epoch, &behind) == NM_DONE && epoch == 1 &&
+          behind == NOT_WRITTEN);
     CHECK(nm_worker_advance(&writer, &epoch, &behind) == NM_BEHIND && epoch == 0 && behind == 2);
     CHECK(nm_worker_behind(&writer, &epoch, &mask) == NM_DONE && epoch == 1 && mask == 4);
     CHECK(nm_worker_collect(&writer, &epoch, &freed) == NM_DONE && epoch == 1 && freed == 0);
-    CHECK(nm_worker_held(&reader, &mask) == NM_YES && mask == 0 && nm_worker_unpin(&reader) == NM_DONE);
+    CHECK(nm_worker_held(&reader, &mask) == NM_YES && mask == 0 &&
+          nm_worker_unpin(&reader) == NM_DONE);
     CHECK(nm_worker_advance(&writer, &epoch, &behind) == NM_DONE && epoch == 2);
     CHECK(nm_worker_collect(&writer, &epoch, &freed) == NM_DONE && epoch == 2 && freed == 2);
     CHECK(nm_drop(&reader) == NM_DONE && nm_drop(&writer) == NM_DONE && nm_drop(&set) == NM_DONE);
@@ -175,30 +215,41 @@ static void ends(void) {
     nm_waiting waiting;
     CHECK(nm_set_lowest(&set, 64, 3) == NM_DONE);
     CHECK(nm_set_worker(&set, &heir, 0) == NM_DONE && nm_set_worker(&set, &leaver, 1) == NM_DONE);
-    for (uint64_t each = 1; each <= 3; each++) CHECK(nm_worker_insert(&leaver, 10 - each, TRIES) == NM_YES);
+    for (uint64_t each = 1; each <= 3; each++)
+        CHECK(nm_worker_insert(&leaver, 10 - each, TRIES) == NM_YES);
     CHECK(nm_worker_delete(&leaver, 8, TRIES) == NM_YES);
-    CHECK(nm_worker_ledger(&leaver, &ledger) == NM_DONE && ledger.links == 3 && ledger.flags == 1 && ledger.splices == 1);
+    CHECK(nm_worker_ledger(&leaver, &ledger) == NM_DONE && ledger.links == 3 && ledger.flags == 1 &&
+          ledger.splices == 1);
     CHECK(ledger.retired == 2 && ledger.freed == 0 && ledger.queued == 2);
-    CHECK(nm_worker_number(&leaver, &number) == NM_DONE && number == 1 && nm_worker_resign(&heir, 1) == NM_AWAY);
-    CHECK(nm_drop(&leaver) == NM_DONE && nm_worker_resign(&heir, 3) == NM_NUMBER && nm_worker_resign(&heir, 1) == NM_DONE);
-    CHECK(nm_worker_queue_len(&heir, &nodes) == NM_DONE && nodes == 2 && nm_set_worker(&set, &leaver, 1) == NM_AWAY);
+    CHECK(nm_worker_number(&leaver, &number) == NM_DONE && number == 1 &&
+          nm_worker_resign(&heir, 1) == NM_AWAY);
+    CHECK(nm_drop(&leaver) == NM_DONE && nm_worker_resign(&heir, 3) == NM_NUMBER &&
+          nm_worker_resign(&heir, 1) == NM_DONE);
+    CHECK(nm_worker_queue_len(&heir, &nodes) == NM_DONE && nodes == 2 &&
+          nm_set_worker(&set, &leaver, 1) == NM_AWAY);
     CHECK(nm_drop(&heir) == NM_DONE && nm_set_close(&set) == NM_DONE);
     CHECK(nm_report_keys(&set, &count) == NM_DONE && count == 2);
-    CHECK(nm_report_key(&set, 0, &key) == NM_DONE && key == 7 && nm_report_key(&set, 1, &key) == NM_DONE && key == 9);
+    CHECK(nm_report_key(&set, 0, &key) == NM_DONE && key == 7 &&
+          nm_report_key(&set, 1, &key) == NM_DONE && key == 9);
     CHECK(nm_report_key(&set, 2, &key) == NM_NUMBER && key == 9);
-    CHECK(nm_report_slots(&set, &free_slots, &reached) == NM_DONE && free_slots == 53 && reached == 4);
-    CHECK(nm_report_queue(&set, 0, &nodes) == NM_DONE && nodes == 0 && nm_report_queue(&set, 1, &nodes) == NM_DONE && nodes == 2);
-    CHECK(nm_report_queue(&set, 3, &nodes) == NM_NUMBER && nm_report_waiting(&set, 3, &waiting) == NM_NUMBER);
+    CHECK(nm_report_slots(&set, &free_slots, &reached) == NM_DONE && free_slots == 53 &&
+          reached == 4);
+    CHECK(nm_report_queue(&set, 0, &nodes) == NM_DONE && nodes == 0 &&
+          nm_report_queue(&set, 1, &nodes) == NM_DONE && nodes == 2);
+    CHECK(nm_report_queue(&set, 3, &nodes) == NM_NUMBER &&
+          nm_report_waiting(&set, 3, &waiting) == NM_NUMBER);
     CHECK(nm_report_waiting(&set, 0, &waiting) == NM_NO);
-    CHECK(nm_report_waiting(&set, 1, &waiting) == NM_YES && waiting.birth == 1 && waiting.label == 0);
+    CHECK(
+        nm_report_waiting(&set, 1, &waiting) == NM_YES && waiting.birth == 1 && waiting.label == 0);
     uint32_t oldest = waiting.slot;
-    CHECK(nm_report_waiting(&set, 1, &waiting) == NM_YES && waiting.slot != oldest && nm_report_waiting(&set, 1, &waiting) == NM_NO);
+    CHECK(nm_report_waiting(&set, 1, &waiting) == NM_YES && waiting.slot != oldest &&
+          nm_report_waiting(&set, 1, &waiting) == NM_NO);
     CHECK(nm_report_queue(&set, 1, &nodes) == NM_DONE && nodes == 0);
     CHECK(nm_drop(&set) == NM_DONE);
 }
 
-/* A worker that goes home as it is held, or with a key pending, does not resign, and is held or has its key still when it is taken again, with all that
- * it has won and that waits. */
+/* A worker that goes home as it is held, or with a key pending, does not resign, and is held or has
+ * its key still when it is taken again, with all that it has won and that waits. */
 static void away(void) {
     nm_handle set = NM_CLOSED_HANDLE, heir = NM_CLOSED_HANDLE, leaver = NM_CLOSED_HANDLE;
     uint64_t epoch = NOT_WRITTEN, key = NOT_WRITTEN, nodes = NOT_WRITTEN;
@@ -207,63 +258,89 @@ static void away(void) {
     CHECK(nm_set_worker(&set, &heir, 0) == NM_DONE && nm_set_worker(&set, &leaver, 1) == NM_DONE);
     CHECK(nm_worker_pin(&leaver, TRIES, &epoch) == NM_DONE && nm_drop(&leaver) == NM_DONE);
     CHECK(nm_worker_resign(&heir, 1) == NM_HELD && nm_set_worker(&set, &leaver, 1) == NM_DONE);
-    CHECK(nm_worker_held(&leaver, &key) == NM_YES && key == epoch && nm_worker_unpin(&leaver) == NM_DONE);
+    CHECK(nm_worker_held(&leaver, &key) == NM_YES && key == epoch &&
+          nm_worker_unpin(&leaver) == NM_DONE);
     CHECK(nm_worker_insert(&leaver, 5, TRIES) == NM_YES);
     CHECK(nm_worker_delete(&leaver, 5, 1) == NM_UNFINISHED && nm_drop(&leaver) == NM_DONE);
     CHECK(nm_worker_resign(&heir, 1) == NM_PENDING && nm_set_worker(&set, &leaver, 1) == NM_DONE);
-    CHECK(nm_worker_pending(&leaver, &key) == NM_YES && key == 5 && nm_worker_finish(&leaver, TRIES) == NM_YES);
+    CHECK(nm_worker_pending(&leaver, &key) == NM_YES && key == 5 &&
+          nm_worker_finish(&leaver, TRIES) == NM_YES);
     CHECK(nm_drop(&leaver) == NM_DONE && nm_set_worker(&set, &leaver, 1) == NM_DONE);
-    CHECK(nm_worker_queue_len(&leaver, &nodes) == NM_DONE && nodes == 2 && nm_worker_ledger(&leaver, &ledger) == NM_DONE);
-    CHECK(ledger.links == 1 && ledger.flags == 1 && ledger.splices == 1 && ledger.retired == 2 && ledger.freed == 0 && ledger.queued == 2);
+    CHECK(nm_worker_queue_len(&leaver, &nodes) == NM_DONE && nodes == 2 &&
+          nm_worker_ledger(&leaver, &ledger) == NM_DONE);
+    CHECK(ledger.links == 1 && ledger.flags == 1 && ledger.splices == 1 && ledger.retired == 2 &&
+          ledger.freed == 0 && ledger.queued == 2);
     CHECK(nm_drop(&leaver) == NM_DONE && nm_drop(&heir) == NM_DONE && nm_drop(&set) == NM_DONE);
 }
 
-/* A note is heard as often as it is read, tells what its worker had won when it left it, and is the latest one. */
+/* A note is heard as often as it is read, tells what its worker had won when it left it, and is the
+ * latest one. */
 static void notes(void) {
     nm_handle set = NM_CLOSED_HANDLE, writer = NM_CLOSED_HANDLE, reader = NM_CLOSED_HANDLE;
     uint64_t links = NOT_WRITTEN, flags = NOT_WRITTEN;
-    CHECK(nm_set_near(&set, 64, 2) == NM_DONE && nm_set_worker(&set, &writer, 1) == NM_DONE && nm_set_worker(&set, &reader, 0) == NM_DONE);
-    CHECK(nm_worker_read(&reader, 1, &links, &flags) == NM_NO && nm_worker_read(&reader, 2, &links, &flags) == NM_NUMBER);
+    CHECK(nm_set_near(&set, 64, 2) == NM_DONE && nm_set_worker(&set, &writer, 1) == NM_DONE &&
+          nm_set_worker(&set, &reader, 0) == NM_DONE);
+    CHECK(nm_worker_read(&reader, 1, &links, &flags) == NM_NO &&
+          nm_worker_read(&reader, 2, &links, &flags) == NM_NUMBER);
     CHECK(links == NOT_WRITTEN && flags == NOT_WRITTEN);
-    CHECK(nm_worker_insert(&writer, 5, TRIES) == NM_YES && nm_worker_insert(&writer, 6, TRIES) == NM_YES);
+    CHECK(nm_worker_insert(&writer, 5, TRIES) == NM_YES &&
+          nm_worker_insert(&writer, 6, TRIES) == NM_YES);
     CHECK(nm_worker_post(&writer, &links, &flags) == NM_DONE && links == 2 && flags == 0);
     CHECK(nm_worker_delete(&writer, 5, TRIES) == NM_YES);
-    for (int turn = 0; turn < 3; turn++) CHECK(nm_worker_read(&reader, 1, &links, &flags) == NM_YES && links == 2 && flags == 0);
-    CHECK(nm_worker_has(&reader, 6, TRIES) == NM_YES && nm_worker_read(&writer, 1, &links, &flags) == NM_YES && links == 2);
+    for (int turn = 0; turn < 3; turn++)
+        CHECK(nm_worker_read(&reader, 1, &links, &flags) == NM_YES && links == 2 && flags == 0);
+    CHECK(nm_worker_has(&reader, 6, TRIES) == NM_YES &&
+          nm_worker_read(&writer, 1, &links, &flags) == NM_YES && links == 2);
     CHECK(nm_worker_post(&writer, &links, &flags) == NM_DONE && links == 2 && flags == 1);
     CHECK(nm_worker_read(&reader, 1, &links, &flags) == NM_YES && links == 2 && flags == 1);
-    CHECK(nm_drop(&writer) == NM_DONE && nm_worker_read(&reader, 1, &links, &flags) == NM_YES && links == 2 && flags == 1);
+    CHECK(nm_drop(&writer) == NM_DONE && nm_worker_read(&reader, 1, &links, &flags) == NM_YES &&
+          links == 2 && flags == 1);
     CHECK(nm_drop(&reader) == NM_DONE && nm_set_close(&set) == NM_DONE && nm_drop(&set) == NM_DONE);
 }
 
-/* A set tells which worker a close would miss: one that a handle has, and not one that has resigned. Where one is lost the others go on, and tell its keys. */
+/* A set tells which worker a close would miss: one that a handle has, and not one that has
+ * resigned. Where one is lost the others go on, and tell its keys. */
 static void missed(void) {
     nm_handle set = NM_CLOSED_HANDLE, lost = NM_CLOSED_HANDLE, other = NM_CLOSED_HANDLE;
     uint64_t key = NOT_WRITTEN;
-    CHECK(nm_set_away(&set, 0) == NM_CLOSED && nm_set_near(&set, 64, 3) == NM_DONE && nm_set_away(&set, 3) == NM_NUMBER);
-    CHECK(nm_set_away(&set, 0) == NM_NO && nm_set_worker(&set, &lost, 1) == NM_DONE && nm_set_worker(&set, &other, 0) == NM_DONE);
+    CHECK(nm_set_away(&set, 0) == NM_CLOSED && nm_set_near(&set, 64, 3) == NM_DONE &&
+          nm_set_away(&set, 3) == NM_NUMBER);
+    CHECK(nm_set_away(&set, 0) == NM_NO && nm_set_worker(&set, &lost, 1) == NM_DONE &&
+          nm_set_worker(&set, &other, 0) == NM_DONE);
     CHECK(nm_set_away(&lost, 0) == NM_KIND && nm_worker_insert(&lost, 5, TRIES) == NM_YES);
-    CHECK(nm_worker_resign(&other, 2) == NM_DONE && nm_set_away(&set, 2) == NM_NO && nm_set_away(&set, 0) == NM_YES);
-    CHECK(nm_drop(&other) == NM_DONE && nm_set_away(&set, 0) == NM_NO && nm_set_away(&set, 1) == NM_YES);
+    CHECK(nm_worker_resign(&other, 2) == NM_DONE && nm_set_away(&set, 2) == NM_NO &&
+          nm_set_away(&set, 0) == NM_YES);
+    CHECK(nm_drop(&other) == NM_DONE && nm_set_away(&set, 0) == NM_NO &&
+          nm_set_away(&set, 1) == NM_YES);
     CHECK(nm_set_close(&set) == NM_AWAY && nm_set_away(&set, 1) == NM_YES);
-    CHECK(nm_set_worker(&set, &other, 0) == NM_DONE && nm_worker_insert(&other, 7, TRIES) == NM_YES);
-    CHECK(nm_worker_next(&other, 0, TRIES, &key) == NM_YES && key == 5 && nm_worker_next(&other, 6, TRIES, &key) == NM_YES && key == 7);
+    CHECK(
+        nm_set_worker(&set, &other, 0) == NM_DONE && nm_worker_insert(&other, 7, TRIES) == NM_YES);
+    CHECK(nm_worker_next(&other, 0, TRIES, &key) == NM_YES && key == 5 &&
+          nm_worker_next(&other, 6, TRIES, &key) == NM_YES && key == 7);
     CHECK(nm_worker_next(&other, 8, TRIES, &key) == NM_NO && nm_drop(&other) == NM_DONE);
-    CHECK(nm_drop(&lost) == NM_DONE && nm_set_away(&set, 1) == NM_NO && nm_set_close(&set) == NM_DONE);
+    CHECK(nm_drop(&lost) == NM_DONE && nm_set_away(&set, 1) == NM_NO &&
+          nm_set_close(&set) == NM_DONE);
     CHECK(nm_set_away(&set, 1) == NM_KIND && nm_drop(&set) == NM_DONE);
 }
 
-/* The last worker ends its set, held as it may be, and not while the set's handle or that of another worker is open. */
+/* The last worker ends its set, held as it may be, and not while the set's handle or that of
+ * another worker is open. */
 static void ended(void) {
     nm_handle set = NM_CLOSED_HANDLE, last = NM_CLOSED_HANDLE, other = NM_CLOSED_HANDLE;
     uint64_t told = NOT_WRITTEN;
-    CHECK(nm_set_near(&set, 64, 3) == NM_DONE && nm_set_worker(&set, &last, 1) == NM_DONE && nm_set_worker(&set, &other, 0) == NM_DONE);
-    CHECK(nm_worker_insert(&last, 5, TRIES) == NM_YES && nm_worker_insert(&other, 6, TRIES) == NM_YES);
-    CHECK(nm_worker_end(&set) == NM_KIND && nm_worker_end(&last) == NM_AWAY && nm_drop(&set) == NM_DONE && nm_worker_end(&set) == NM_CLOSED);
-    CHECK(nm_worker_end(&last) == NM_AWAY && nm_worker_end(&other) == NM_AWAY && nm_worker_delete(&last, 6, TRIES) == NM_YES);
-    CHECK(nm_drop(&other) == NM_DONE && nm_worker_pin(&last, TRIES, &told) == NM_DONE && nm_worker_end(&last) == NM_DONE);
+    CHECK(nm_set_near(&set, 64, 3) == NM_DONE && nm_set_worker(&set, &last, 1) == NM_DONE &&
+          nm_set_worker(&set, &other, 0) == NM_DONE);
+    CHECK(nm_worker_insert(&last, 5, TRIES) == NM_YES &&
+          nm_worker_insert(&other, 6, TRIES) == NM_YES);
+    CHECK(nm_worker_end(&set) == NM_KIND && nm_worker_end(&last) == NM_AWAY &&
+          nm_drop(&set) == NM_DONE && nm_worker_end(&set) == NM_CLOSED);
+    CHECK(nm_worker_end(&last) == NM_AWAY && nm_worker_end(&other) == NM_AWAY &&
+          nm_worker_delete(&last, 6, TRIES) == NM_YES);
+    CHECK(nm_drop(&other) == NM_DONE && nm_worker_pin(&last, TRIES, &told) == NM_DONE &&
+          nm_worker_end(&last) == NM_DONE);
     CHECK(nm_worker_end(&last) == NM_KIND && nm_report_keys(&last, &told) == NM_DONE && told == 1);
-    CHECK(nm_report_key(&last, 0, &told) == NM_DONE && told == 5 && nm_report_queue(&last, 1, &told) == NM_DONE && told == 2);
+    CHECK(nm_report_key(&last, 0, &told) == NM_DONE && told == 5 &&
+          nm_report_queue(&last, 1, &told) == NM_DONE && told == 2);
     CHECK(nm_drop(&last) == NM_DONE && nm_worker_end(&last) == NM_CLOSED);
 }
 
@@ -282,44 +359,55 @@ static void texts(void) {
 static void versions(void) {
     uint32_t major = NOT_WRITTEN, minor = NOT_WRITTEN, patch = NOT_WRITTEN;
     CHECK(nm_set_version(&major, &minor, &patch) == NM_DONE);
-    CHECK(major == NM_SET_VERSION_MAJOR && minor == NM_SET_VERSION_MINOR && patch == NM_SET_VERSION_PATCH);
+    CHECK(major == NM_SET_VERSION_MAJOR && minor == NM_SET_VERSION_MINOR &&
+          patch == NM_SET_VERSION_PATCH);
 }
 
 /* Workers are handed out from the least number on, and none where all are away. */
 static void attached(void) {
     enum { WORKERS = 18 };
-    nm_handle set = NM_CLOSED_HANDLE, workers[WORKERS] = {NM_CLOSED_HANDLE}, none = NM_CLOSED_HANDLE;
+    nm_handle set = NM_CLOSED_HANDLE, workers[WORKERS] = {NM_CLOSED_HANDLE},
+              none = NM_CLOSED_HANDLE;
     uint32_t number = NOT_WRITTEN;
     CHECK(nm_set_attach(&set, &none) == NM_CLOSED && nm_set_near(&set, 64, WORKERS) == NM_DONE);
     for (int i = 0; i < WORKERS; i++) {
-        CHECK(nm_set_attach(&set, &workers[i]) == NM_DONE && nm_set_attach(&set, &workers[i]) == NM_OPEN);
+        CHECK(nm_set_attach(&set, &workers[i]) == NM_DONE &&
+              nm_set_attach(&set, &workers[i]) == NM_OPEN);
         CHECK(nm_worker_number(&workers[i], &number) == NM_DONE && number == (uint32_t)i);
     }
     CHECK(nm_set_attach(&set, &none) == NM_AWAY && nm_set_attach(&workers[0], &none) == NM_KIND);
     CHECK(nm_drop(&workers[4]) == NM_DONE && nm_set_attach(&set, &none) == NM_DONE);
     CHECK(nm_worker_number(&none, &number) == NM_DONE && number == 4 && nm_drop(&none) == NM_DONE);
     for (int i = 0; i < WORKERS; i++) CHECK(nm_drop(&workers[i]) == (i == 4 ? NM_CLOSED : NM_DONE));
-    CHECK(nm_set_close(&set) == NM_DONE && nm_set_attach(&set, &none) == NM_KIND && nm_drop(&set) == NM_DONE);
+    CHECK(nm_set_close(&set) == NM_DONE && nm_set_attach(&set, &none) == NM_KIND &&
+          nm_drop(&set) == NM_DONE);
 }
 
-/* A handle that another call has tells so to each function, keeps what it owns, and is as good as before when that call is done. */
+/* A handle that another call has tells so to each function, keeps what it owns, and is as good as
+ * before when that call is done. */
 static void used(void) {
     nm_handle set = NM_CLOSED_HANDLE, worker = NM_CLOSED_HANDLE, other = NM_CLOSED_HANDLE;
     CHECK(nm_set_near(&set, 64, 2) == NM_DONE && nm_set_worker(&set, &worker, 0) == NM_DONE);
     worker.in_use = 1;
     void *owned = worker.at;
     is_refused(&worker, NM_IN_USE, NM_IN_USE);
-    CHECK(nm_drop(&worker) == NM_IN_USE && nm_set_worker(&set, &worker, 1) == NM_IN_USE && nm_set_attach(&set, &worker) == NM_IN_USE);
-    CHECK(nm_set_near(&worker, 64, 2) == NM_IN_USE && nm_set_close(&worker) == NM_IN_USE && worker.at == owned);
+    CHECK(nm_drop(&worker) == NM_IN_USE && nm_set_worker(&set, &worker, 1) == NM_IN_USE &&
+          nm_set_attach(&set, &worker) == NM_IN_USE);
+    CHECK(nm_set_near(&worker, 64, 2) == NM_IN_USE && nm_set_close(&worker) == NM_IN_USE &&
+          worker.at == owned);
     worker.in_use = 0;
     CHECK(nm_worker_insert(&worker, 5, TRIES) == NM_YES);
     set.in_use = 1;
-    CHECK(nm_set_worker(&set, &other, 1) == NM_IN_USE && nm_set_attach(&set, &other) == NM_IN_USE && nm_set_close(&set) == NM_IN_USE);
+    CHECK(nm_set_worker(&set, &other, 1) == NM_IN_USE && nm_set_attach(&set, &other) == NM_IN_USE &&
+          nm_set_close(&set) == NM_IN_USE);
     CHECK(nm_set_away(&set, 0) == NM_IN_USE);
     CHECK(other.at == NULL && other.in_use == 0);
     set.in_use = 0;
-    CHECK(nm_set_worker(&set, &set, 1) == NM_OPEN && nm_set_worker(&worker, &worker, 1) == NM_OPEN && nm_set_worker(&other, &other, 1) == NM_IN_USE);
-    CHECK(nm_set_attach(&set, &other) == NM_DONE && nm_drop(&other) == NM_DONE && nm_drop(&worker) == NM_DONE);
+    CHECK(nm_set_worker(&set, &set, 1) == NM_OPEN &&
+          nm_set_worker(&worker, &worker, 1) == NM_OPEN &&
+          nm_set_worker(&other, &other, 1) == NM_IN_USE);
+    CHECK(nm_set_attach(&set, &other) == NM_DONE && nm_drop(&other) == NM_DONE &&
+          nm_drop(&worker) == NM_DONE);
     CHECK(nm_set_close(&set) == NM_DONE && nm_drop(&set) == NM_DONE);
 }
 

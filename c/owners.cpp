@@ -1,5 +1,5 @@
-// Owners in C++: four threads, each with a worker that was moved into it, fill one set; then its report is compared. And what owners do when they are
-// moved, are destroyed, or meet a fault.
+// Owners in C++: four threads, each with a worker that was moved into it, fill one set; then its
+// report is compared. And what owners do when they are moved, are destroyed, or meet a fault.
 #include "nm_set.hpp"
 
 #include <cstdio>
@@ -16,8 +16,11 @@ constexpr std::uint64_t keys_of_each = 1000;
 constexpr std::uint32_t threads_at_work = 4;
 constexpr std::uint32_t apart = 8;
 
-static_assert(!std::is_copy_constructible_v<nm::Worker> && !std::is_copy_assignable_v<nm::Set>, "an owner is not copied");
-static_assert(std::is_nothrow_move_constructible_v<nm::Worker> && std::is_nothrow_move_assignable_v<nm::Report>, "an owner can be moved");
+static_assert(!std::is_copy_constructible_v<nm::Worker> && !std::is_copy_assignable_v<nm::Set>,
+    "an owner is not copied");
+static_assert(std::is_nothrow_move_constructible_v<nm::Worker> &&
+                  std::is_nothrow_move_assignable_v<nm::Report>,
+    "an owner can be moved");
 
 void check(bool holds, int line) {
     if (holds) return;
@@ -51,21 +54,24 @@ void fill(nm::Worker worker, std::uint64_t first) {
         if (number % 32 == 1 && worker.advance().moved()) worker.collect();
     }
     nm_ledger ledger = worker.ledger();
-    CHECK(ledger.links == keys_of_each && ledger.flags == keys_of_each / 2 && ledger.queued <= ledger.retired);
+    CHECK(ledger.links == keys_of_each && ledger.flags == keys_of_each / 2 &&
+          ledger.queued <= ledger.retired);
 }
 
 void threads_fill_a_set() {
     constexpr std::uint32_t nodes = 16384;
     nm::Set set = nm::Set::near(nodes, threads_at_work * apart);
     std::vector<std::thread> threads;
-    for (std::uint32_t number = 0; number < threads_at_work; number++) threads.emplace_back(fill, set.worker(number * apart), number);
+    for (std::uint32_t number = 0; number < threads_at_work; number++)
+        threads.emplace_back(fill, set.worker(number * apart), number);
     for (std::thread &thread : threads) thread.join();
     std::vector<std::uint64_t> wanted;
     for (std::uint64_t key = 0; key < keys_of_each * threads_at_work; key++)
         if (key / threads_at_work % 2 == 0) wanted.push_back(key);
     std::vector<std::uint64_t> passed;
     nm::Worker reader = set.worker(0);
-    for (std::optional<std::uint64_t> key = reader.next(0); key; key = reader.next(*key + 1)) passed.push_back(*key);
+    for (std::optional<std::uint64_t> key = reader.next(0); key; key = reader.next(*key + 1))
+        passed.push_back(*key);
     CHECK(passed == wanted);
     reader.close();
     nm::Report report = set.close();
@@ -84,19 +90,23 @@ void threads_fill_a_set() {
 void owners_are_moved() {
     nm::Set set = nm::Set::lowest(64, 2);
     nm::Worker first = set.worker(0);
-    CHECK(thrown([&] { (void)set.worker(0); }) == NM_AWAY && thrown([&] { set.close(); }) == NM_AWAY);
+    CHECK(
+        thrown([&] { (void)set.worker(0); }) == NM_AWAY && thrown([&] { set.close(); }) == NM_AWAY);
     nm::Worker moved = std::move(first);
     CHECK(moved.insert(5) && !moved.insert(5) && moved.has(5) && moved.erase(5) && !moved.erase(5));
-    CHECK(thrown([&] { (void)first.has(5); }) == NM_CLOSED && thrown([&] { first.advance(); }) == NM_CLOSED);
+    CHECK(thrown([&] { (void)first.has(5); }) == NM_CLOSED &&
+          thrown([&] { first.advance(); }) == NM_CLOSED);
     CHECK(moved.number() == 0 && moved.queue_len() == 2);
     moved = set.worker(1);
     CHECK(moved.number() == 1);
     moved.take_over(0);
     CHECK(moved.queue_len() == 2 && thrown([&] { (void)set.worker(0); }) == NM_AWAY);
-    CHECK(moved.pin() == 0 && moved.held() == std::optional<std::uint64_t>(0) && thrown([&] { (void)moved.has(5); }) == NM_HELD);
+    CHECK(moved.pin() == 0 && moved.held() == std::optional<std::uint64_t>(0) &&
+          thrown([&] { (void)moved.has(5); }) == NM_HELD);
     moved.unpin();
     CHECK(!moved.held() && thrown([&] { moved.unpin(); }) == NM_NOT_HELD);
-    CHECK(moved.advance().epoch == 1 && moved.advance().epoch == 2 && moved.behind().mask == 0 && moved.collect().freed == 2);
+    CHECK(moved.advance().epoch == 1 && moved.advance().epoch == 2 && moved.behind().mask == 0 &&
+          moved.collect().freed == 2);
 }
 
 void a_worker_outlives_its_set() {
@@ -109,12 +119,15 @@ void a_worker_outlives_its_set() {
 }
 
 void faults_are_told() {
-    CHECK(thrown([] { (void)nm::Set::near(6, 1); }) == NM_NODES && thrown([] { (void)nm::Set::lowest(7, 65); }) == NM_WORKERS);
+    CHECK(thrown([] { (void)nm::Set::near(6, 1); }) == NM_NODES &&
+          thrown([] { (void)nm::Set::lowest(7, 65); }) == NM_WORKERS);
     nm::Set set = nm::Set::lowest(7, 1);
     nm::Worker worker = set.worker(0);
-    CHECK(thrown([&] { worker.insert(UINT64_MAX); }) == NM_KEY && thrown([&] { (void)worker.has(5, 0); }) == NM_BUSY);
+    CHECK(thrown([&] { worker.insert(UINT64_MAX); }) == NM_KEY &&
+          thrown([&] { (void)worker.has(5, 0); }) == NM_BUSY);
     CHECK(worker.insert(5) && thrown([&] { worker.insert(6); }) == NM_FULL);
-    CHECK(thrown([&] { worker.erase(5, 1); }) == NM_UNFINISHED && worker.pending() == std::optional<std::uint64_t>(5) && worker.finish());
+    CHECK(thrown([&] { worker.erase(5, 1); }) == NM_UNFINISHED &&
+          worker.pending() == std::optional<std::uint64_t>(5) && worker.finish());
 }
 
 // The page's first steps: a worker that is closed lets its set be closed.
@@ -169,9 +182,11 @@ void notes_are_heard() {
     nm::Set set = nm::Set::near(64, 2);
     nm::Worker writer = set.worker(1), reader = set.worker(0);
     nm::Won won{77, 77};
-    CHECK(!reader.read(1) && thrown([&] { reader.read(2); }) == NM_NUMBER && reader.try_read(won, 1) == NM_NO && won.links == 77);
+    CHECK(!reader.read(1) && thrown([&] { reader.read(2); }) == NM_NUMBER &&
+          reader.try_read(won, 1) == NM_NO && won.links == 77);
     CHECK(writer.insert(5) && writer.try_post(won) == NM_DONE && won.links == 1 && won.flags == 0);
-    CHECK(writer.erase(5) && reader.read(1)->flags == 0 && writer.post()->flags == 1 && reader.read(1)->flags == 1);
+    CHECK(writer.erase(5) && reader.read(1)->flags == 0 && writer.post()->flags == 1 &&
+          reader.read(1)->flags == 1);
     reader.close();
     CHECK(set.is_away(1) && !set.is_away(0) && thrown([&] { (void)set.is_away(2); }) == NM_NUMBER);
 }

@@ -1,4 +1,5 @@
-/* Makes each call again where memory was refused. With any one growth refused it writes what it writes without, which is in refused.out. */
+/* Makes each call again where memory was refused. With any one growth refused it writes what it
+ * writes without, which is in refused.out. */
 #include "holds.h"
 #include "nm_set.h"
 
@@ -17,7 +18,8 @@ static void make(nm_handle *set) {
 /* A worker that memory was refused for is at home still. */
 static void take(nm_handle *set, nm_handle *worker, uint32_t number) {
     nm_outcome told;
-    while ((told = nm_set_worker(set, worker, number)) == NM_NO_MEMORY) CHECK(worker->at == NULL && set->at != NULL);
+    while ((told = nm_set_worker(set, worker, number)) == NM_NO_MEMORY)
+        CHECK(worker->at == NULL && set->at != NULL);
     CHECK(told == NM_DONE);
 }
 
@@ -31,15 +33,18 @@ static nm_outcome insert(nm_handle *worker, uint64_t key) {
 /* A refused delete has left its key in the set, or it is pending. */
 static nm_outcome delete(nm_handle *worker, uint64_t key) {
     nm_outcome told;
-    while ((told = nm_worker_delete(worker, key, TRIES)) == NM_NO_MEMORY) CHECK(nm_worker_has(worker, key, TRIES) == NM_YES);
+    while ((told = nm_worker_delete(worker, key, TRIES)) == NM_NO_MEMORY)
+        CHECK(nm_worker_has(worker, key, TRIES) == NM_YES);
     while (told == NM_UNFINISHED) told = nm_worker_finish(worker, TRIES);
     return told;
 }
 
-/* The same by calls that tend the set: a refused one has left the key as it was, and nothing pending. */
+/* The same by calls that tend the set: a refused one has left the key as it was, and nothing
+ * pending. */
 static nm_outcome add(nm_handle *worker, uint64_t key) {
     nm_outcome told;
-    while ((told = nm_worker_add(worker, key, &nm_usual_habit)) == NM_NO_MEMORY) CHECK(nm_worker_contains(worker, key, &nm_usual_habit) == NM_NO);
+    while ((told = nm_worker_add(worker, key, &nm_usual_habit)) == NM_NO_MEMORY)
+        CHECK(nm_worker_contains(worker, key, &nm_usual_habit) == NM_NO);
     return told;
 }
 
@@ -47,18 +52,21 @@ static nm_outcome remove_key(nm_handle *worker, uint64_t key) {
     nm_outcome told;
     uint64_t pending;
     while ((told = nm_worker_remove(worker, key, &nm_usual_habit)) == NM_NO_MEMORY)
-        CHECK(nm_worker_pending(worker, &pending) == NM_NO && nm_worker_contains(worker, key, &nm_usual_habit) == NM_YES);
+        CHECK(nm_worker_pending(worker, &pending) == NM_NO &&
+              nm_worker_contains(worker, key, &nm_usual_habit) == NM_YES);
     return told;
 }
 
-/* A worker whose calls tend the set: nine of ten of its keys are removed, each behind a collection where enough nodes wait. */
+/* A worker whose calls tend the set: nine of ten of its keys are removed, each behind a collection
+ * where enough nodes wait. */
 static void tend(nm_handle *worker) {
     for (uint64_t key = KEYS; key < KEYS + TENDED; key++) CHECK(add(worker, key) == NM_YES);
     for (uint64_t key = KEYS; key < KEYS + TENDED; key++)
         if (key % 10 != 0) CHECK(remove_key(worker, key) == NM_YES);
 }
 
-/* Behind a close that was refused memory, the workers are gathered, so that nothing but close goes on; or the set gives them out as before. */
+/* Behind a close that was refused memory, the workers are gathered, so that nothing but close goes
+ * on; or the set gives them out as before. */
 static void end(nm_handle *set) {
     nm_outcome told;
     while ((told = nm_set_close(set)) == NM_NO_MEMORY) {
@@ -69,7 +77,8 @@ static void end(nm_handle *set) {
     CHECK(told == NM_DONE);
 }
 
-/* Behind an end that was refused memory the handle owns its worker as before, or the set, whose workers were gathered. */
+/* Behind an end that was refused memory the handle owns its worker as before, or the set, whose
+ * workers were gathered. */
 static void end_by(nm_handle *worker) {
     nm_outcome told;
     uint32_t number;
@@ -86,19 +95,24 @@ static void end_by(nm_handle *worker) {
 static void tell(nm_handle *report) {
     uint64_t count, key, first, second, third;
     uint32_t free_slots, reached;
-    CHECK(nm_report_keys(report, &count) == NM_DONE && nm_report_slots(report, &free_slots, &reached) == NM_DONE);
-    CHECK(nm_report_queue(report, 0, &first) == NM_DONE && nm_report_queue(report, 1, &second) == NM_DONE);
+    CHECK(nm_report_keys(report, &count) == NM_DONE &&
+          nm_report_slots(report, &free_slots, &reached) == NM_DONE);
+    CHECK(nm_report_queue(report, 0, &first) == NM_DONE &&
+          nm_report_queue(report, 1, &second) == NM_DONE);
     CHECK(nm_report_queue(report, 2, &third) == NM_DONE);
     printf("keys");
     for (uint64_t index = 0; index < count; index++) {
         CHECK(nm_report_key(report, index, &key) == NM_DONE);
         printf(" %" PRIu64, key);
     }
-    printf("\nfree %" PRIu32 " reached %" PRIu32 " waiting %" PRIu64 ", %" PRIu64 " and %" PRIu64 "\n", free_slots, reached, first, second, third);
+    printf("\nfree %" PRIu32 " reached %" PRIu32 " waiting %" PRIu64 ", %" PRIu64 " and %" PRIu64
+           "\n",
+        free_slots, reached, first, second, third);
 }
 
 int main(void) {
-    nm_handle set = NM_CLOSED_HANDLE, first = NM_CLOSED_HANDLE, second = NM_CLOSED_HANDLE, third = NM_CLOSED_HANDLE;
+    nm_handle set = NM_CLOSED_HANDLE, first = NM_CLOSED_HANDLE, second = NM_CLOSED_HANDLE,
+              third = NM_CLOSED_HANDLE;
     make(&set);
     take(&set, &first, 0);
     take(&set, &second, 1);

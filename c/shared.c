@@ -1,6 +1,7 @@
-/* One handle, several threads, and no lock of theirs. Four threads take their workers from one handle of a set, again and again; and two threads make
- * calls by one handle of a worker at the same time, which is a fault of the program: each call answers, or is told that the handle is in use, and
- * nothing is lost. */
+/* One handle, several threads, and no lock of theirs. Four threads take their workers from one
+ * handle of a set, again and again; and two threads make calls by one handle of a worker at the
+ * same time, which is a fault of the program: each call answers, or is told that the handle is in
+ * use, and nothing is lost. */
 #include "holds.h"
 #include "nm_set.h"
 
@@ -9,18 +10,28 @@
 #include <stdatomic.h>
 #include <stdio.h>
 
-enum { THREADS = 4, WORKERS = 37, NODES = 65536, KEYS = 1000, TURNS = 2000, CALLS = 200000, TRIES = 64 };
+enum {
+    THREADS = 4,
+    WORKERS = 37,
+    NODES = 65536,
+    KEYS = 1000,
+    TURNS = 2000,
+    CALLS = 200000,
+    TRIES = 64
+};
 
 static nm_handle set = NM_CLOSED_HANDLE, shared = NM_CLOSED_HANDLE;
 static atomic_uint_fast64_t inserted, deleted, refused;
 
-/* A thread attaches itself and goes home, again and again. Nobody else takes so many workers that none is left. */
+/* A thread attaches itself and goes home, again and again. Nobody else takes so many workers that
+ * none is left. */
 static void *attach(void *given) {
     (void)given;
     for (int turn = 0; turn < TURNS; turn++) {
         nm_handle worker = NM_CLOSED_HANDLE;
         CHECK(nm_set_attach(&set, &worker) == NM_DONE && nm_set_attach(&set, &worker) == NM_OPEN);
-        if (turn < KEYS) CHECK(nm_worker_insert(&worker, (uint64_t)turn * 7919 % 10007, TRIES) >= NM_NO);
+        if (turn < KEYS)
+            CHECK(nm_worker_insert(&worker, (uint64_t)turn * 7919 % 10007, TRIES) >= NM_NO);
         CHECK(nm_drop(&worker) == NM_DONE && nm_drop(&worker) == NM_CLOSED);
     }
     return NULL;
@@ -33,7 +44,8 @@ static void count(nm_outcome told, atomic_uint_fast64_t *won) {
     else CHECK(told == NM_NO);
 }
 
-/* Two threads insert and delete one key each by the same handle, and one of them gives it up at last. */
+/* Two threads insert and delete one key each by the same handle, and one of them gives it up at
+ * last. */
 static void *misuse(void *given) {
     uint64_t key = (uint64_t)(uintptr_t)given, epoch, freed;
     uint32_t behind;
@@ -53,7 +65,8 @@ static void *misuse(void *given) {
 
 static void run(void *(*work)(void *), int threads) {
     pthread_t made[THREADS];
-    for (int i = 0; i < threads; i++) CHECK(pthread_create(&made[i], NULL, work, (void *)(uintptr_t)(20000 + i)) == 0);
+    for (int i = 0; i < threads; i++)
+        CHECK(pthread_create(&made[i], NULL, work, (void *)(uintptr_t)(20000 + i)) == 0);
     for (int i = 0; i < threads; i++) CHECK(pthread_join(made[i], NULL) == 0);
 }
 
@@ -66,9 +79,12 @@ int main(void) {
     run(misuse, 2);
     CHECK(nm_worker_ledger(&shared, &after) == NM_DONE && after.links - before.links == inserted);
     CHECK(after.flags - before.flags == deleted);
-    CHECK(nm_set_close(&set) == NM_AWAY && nm_drop(&shared) == NM_DONE && nm_set_close(&set) == NM_DONE);
-    CHECK(nm_report_keys(&set, &count_of_keys) == NM_DONE && count_of_keys == KEYS + inserted - deleted);
+    CHECK(nm_set_close(&set) == NM_AWAY && nm_drop(&shared) == NM_DONE &&
+          nm_set_close(&set) == NM_DONE);
+    CHECK(nm_report_keys(&set, &count_of_keys) == NM_DONE &&
+          count_of_keys == KEYS + inserted - deleted);
     CHECK(nm_drop(&set) == NM_DONE);
-    printf("%d threads took %d workers; %" PRIuFAST64 " calls found their handle in use\n", THREADS, THREADS * TURNS, (uint_fast64_t)refused);
+    printf("%d threads took %d workers; %" PRIuFAST64 " calls found their handle in use\n", THREADS,
+        THREADS * TURNS, (uint_fast64_t)refused);
     return 0;
 }

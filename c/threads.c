@@ -1,6 +1,7 @@
-/* Four threads insert, delete and look up the same keys, each by a worker of its own, two of them by calls that tend the set. Then the set is
- * closed, and its report is compared with what the calls answered: a key is in the set exactly where it was inserted once more than deleted, and each
- * slot stands somewhere. */
+/* Four threads insert, delete and look up the same keys, each by a worker of its own, two of them
+ * by calls that tend the set. Then the set is closed, and its report is compared with what the
+ * calls answered: a key is in the set exactly where it was inserted once more than deleted, and
+ * each slot stands somewhere. */
 #include "holds.h"
 #include "nm_set.h"
 
@@ -8,13 +9,23 @@
 #include <pthread.h>
 #include <stdio.h>
 
-enum { THREADS = 4, APART = 8, NODES = 4096, FIXED = 5, KEYS = 256, CALLS = 100000, TRIES = 64, TEND_EVERY = 64 };
+enum {
+    THREADS = 4,
+    APART = 8,
+    NODES = 4096,
+    FIXED = 5,
+    KEYS = 256,
+    CALLS = 100000,
+    TRIES = 64,
+    TEND_EVERY = 64
+};
 
 typedef struct part {
     nm_handle worker;
     int tends;           /* whether its calls tend the set */
     uint64_t seed;
-    int balance[KEYS];   /* of each key, how often this thread inserted it, less how often it deleted it */
+    int balance[KEYS]; /* of each key, how often this thread inserted it, less how often it deleted
+                          it */
     uint64_t inserted, deleted, found;
 } part;
 
@@ -35,15 +46,18 @@ static void tend(part *own) {
 }
 
 static nm_outcome try_insert(part *own, uint64_t key) {
-    return own->tends ? nm_worker_add(&own->worker, key, &nm_usual_habit) : nm_worker_insert(&own->worker, key, TRIES);
+    return own->tends ? nm_worker_add(&own->worker, key, &nm_usual_habit)
+                      : nm_worker_insert(&own->worker, key, TRIES);
 }
 
 static nm_outcome try_delete(part *own, uint64_t key) {
-    return own->tends ? nm_worker_remove(&own->worker, key, &nm_usual_habit) : nm_worker_delete(&own->worker, key, TRIES);
+    return own->tends ? nm_worker_remove(&own->worker, key, &nm_usual_habit)
+                      : nm_worker_delete(&own->worker, key, TRIES);
 }
 
 static nm_outcome try_has(part *own, uint64_t key) {
-    return own->tends ? nm_worker_contains(&own->worker, key, &nm_usual_habit) : nm_worker_has(&own->worker, key, TRIES);
+    return own->tends ? nm_worker_contains(&own->worker, key, &nm_usual_habit)
+                      : nm_worker_has(&own->worker, key, TRIES);
 }
 
 /* Inserts a key, however often that takes. */
@@ -122,7 +136,8 @@ static uint64_t take_waiting(nm_handle *report) {
         for (uint64_t taken = 0; taken < nodes; taken++) {
             label = waiting.label;
             CHECK(nm_report_waiting(report, worker, &waiting) == NM_YES);
-            CHECK(waiting.slot > FIXED && waiting.slot <= NODES && waiting.birth > 0 && waiting.label >= label);
+            CHECK(waiting.slot > FIXED && waiting.slot <= NODES && waiting.birth > 0 &&
+                  waiting.label >= label);
         }
         CHECK(nm_report_waiting(report, worker, &waiting) == NM_NO);
         all += nodes;

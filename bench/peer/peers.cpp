@@ -1,7 +1,7 @@
 // One set of bench/peers, the one that the first argument names. Reads rows "KEYS LOOKUPS THREADS
 // MILLIS" from standard input, and answers each with its million calls a second of all threads: a
-// new set of so many random keys, half of its range, for which the threads then make calls on random
-// keys of the range, so many look-ups of 100 and of the rest as many inserts as deletes.
+// new set of so many random keys, half of its range, for which the threads then make calls on
+// random keys of the range, so many look-ups of 100 and of the rest as many inserts as deletes.
 #include "nm_set.h"
 #include "plain.hpp"
 
@@ -36,7 +36,8 @@ std::size_t nodes_for(std::size_t keys) { return 8 * keys + 4096; }
 
 struct ProvedSet {
     ProvedSet(std::size_t keys, unsigned threads) {
-        if (nm_set_near(&set, static_cast<std::uint32_t>(nodes_for(keys)), threads) != NM_DONE) std::abort();
+        if (nm_set_near(&set, static_cast<std::uint32_t>(nodes_for(keys)), threads) != NM_DONE)
+            std::abort();
     }
     ~ProvedSet() { nm_drop(&set); }
     nm_handle set = NM_CLOSED_HANDLE;
@@ -46,7 +47,9 @@ struct ProvedSet {
             if (nm_set_attach(&of.set, &handle) != NM_DONE) std::abort();
         }
         ~Worker() { nm_drop(&handle); }
-        bool contains(Key key) { return nm_worker_contains(&handle, key, &nm_usual_habit) == NM_YES; }
+        bool contains(Key key) {
+            return nm_worker_contains(&handle, key, &nm_usual_habit) == NM_YES;
+        }
         bool add(Key key) { return nm_worker_add(&handle, key, &nm_usual_habit) == NM_YES; }
         bool remove(Key key) { return nm_worker_remove(&handle, key, &nm_usual_habit) == NM_YES; }
         nm_handle handle = NM_CLOSED_HANDLE;
@@ -101,7 +104,8 @@ struct OwnKey {
 
 using EllenTraits = cds::container::ellen_bintree::make_set_traits<
     cds::container::ellen_bintree::key_extractor<OwnKey>, cds::opt::less<std::less<Key>>>::type;
-using AvlTraits = cds::container::bronson_avltree::make_traits<cds::opt::less<std::less<Key>>>::type;
+using AvlTraits =
+    cds::container::bronson_avltree::make_traits<cds::opt::less<std::less<Key>>>::type;
 using SkipTraits = cds::container::skip_list::make_traits<cds::opt::less<std::less<Key>>>::type;
 
 using EllenSet = CdsSet<cds::container::EllenBinTreeSet<Reclaimer, Key, Key, EllenTraits>>;
@@ -169,7 +173,8 @@ template <class Set> double rate(const Row &row) {
     begins = true;
     std::this_thread::sleep_for(std::chrono::milliseconds(row.millis));
     ends = true;
-    double micros = std::chrono::duration<double, std::micro>(std::chrono::steady_clock::now() - begun).count();
+    double micros =
+        std::chrono::duration<double, std::micro>(std::chrono::steady_clock::now() - begun).count();
     unsigned long all = 0;
     for (auto &thread : threads) thread.join();
     for (unsigned long made : calls) all += made;
@@ -216,9 +221,9 @@ int named(const std::string &name) {
 
 }  // namespace
 
-// Each set is made as the first one of a program is: in blocks of its own, which begin a page. Without
-// this, glibc takes large blocks from its heap once one was given back, and announcements that are to
-// have cache lines of their own may then lie in two.
+// Each set is made as the first one of a program is: in blocks of its own, which begin a page.
+// Without this, glibc takes large blocks from its heap once one was given back, and announcements
+// that are to have cache lines of their own may then lie in two.
 int main(int count, char **words) {
     mallopt(M_MMAP_THRESHOLD, 128 * 1024);
     return count == 2 ? named(words[1]) : 2;

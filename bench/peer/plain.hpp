@@ -32,7 +32,8 @@ struct alignas(64) Line {
     Word word;
 };
 
-constexpr std::uint64_t infinity_0 = UINT64_MAX - 2, infinity_1 = UINT64_MAX - 1, infinity_2 = UINT64_MAX;
+constexpr std::uint64_t infinity_0 = UINT64_MAX - 2, infinity_1 = UINT64_MAX - 1,
+                        infinity_2 = UINT64_MAX;
 constexpr unsigned collect_after = 64;
 
 class Set {
@@ -52,7 +53,8 @@ private:
     }
 
     void inner(std::uint64_t slot, std::uint64_t key, std::uint64_t left, std::uint64_t right) {
-        nodes_[slot].key.store(key), nodes_[slot].left.store(Edge::to(left)), nodes_[slot].right.store(Edge::to(right));
+        nodes_[slot].key.store(key), nodes_[slot].left.store(Edge::to(left)),
+            nodes_[slot].right.store(Edge::to(right));
     }
 
     void give(std::uint64_t slot) { pool_[slot / 64].fetch_or(std::uint64_t{1} << slot % 64); }
@@ -66,7 +68,8 @@ private:
 // One thread's access.
 class Worker {
 public:
-    Worker(Set &set, unsigned number) : set_(set), note_(set.notes_[number].word), row_(number * 8 % set.pool_.size()) {}
+    Worker(Set &set, unsigned number)
+        : set_(set), note_(set.notes_[number].word), row_(number * 8 % set.pool_.size()) {}
 
     bool contains(std::uint64_t key) {
         pin();
@@ -173,11 +176,13 @@ private:
         }
     }
 
-    // Cuts off the chain that ends at the parent, of which one edge is flagged: whether this call did.
+    // Cuts off the chain that ends at the parent, of which one edge is flagged: whether this call
+    // did.
     bool clean_up(std::uint64_t key, const Found &at) {
         Node &parent = set_.nodes_[at.parent];
         bool is_left = key < parent.key.load();
-        Word *removed = is_left ? &parent.left : &parent.right, *kept = is_left ? &parent.right : &parent.left;
+        Word *removed = is_left ? &parent.left : &parent.right,
+             *kept = is_left ? &parent.right : &parent.left;
         if (!(removed->load() & Edge::flag)) std::swap(removed, kept);
         std::uint64_t stays = kept->fetch_or(Edge::tag), old = Edge::to(at.successor);
         if (!child(at.ancestor, key).compare_exchange_strong(old, stays & ~Edge::tag)) return false;
@@ -218,7 +223,8 @@ private:
 
     // A free slot, looked for from the last row on; 0 where none was found.
     std::uint64_t claim() {
-        for (std::size_t rows = set_.pool_.size(); rows--; row_ = row_ + 1 == set_.pool_.size() ? 0 : row_ + 1) {
+        for (std::size_t rows = set_.pool_.size(); rows--;
+             row_ = row_ + 1 == set_.pool_.size() ? 0 : row_ + 1) {
             for (std::uint64_t row = set_.pool_[row_].load(); row; row = set_.pool_[row_].load()) {
                 std::uint64_t bit = row & -row;
                 if (!(set_.pool_[row_].fetch_and(~bit) & bit)) continue;

@@ -1,5 +1,6 @@
-/* A walk from inside the library, as a debugger makes it, or the handler of a crash, comes to the program that called it: for each of the library's functions
- * it is told how its caller is found. The walks begin in malloc, which the library calls: c/check links this with --wrap=malloc. */
+/* A walk from inside the library, as a debugger makes it, or the handler of a crash, comes to the
+ * program that called it: for each of the library's functions it is told how its caller is found.
+ * The walks begin in malloc, which the library calls: c/check links this with --wrap=malloc. */
 #include "../holds.h"
 #include "nm_set.h"
 
@@ -20,7 +21,8 @@ static int walks, strays;
 void *__wrap_malloc(size_t size) {
     void *walk[DEEP];
     int depth = backtrace(walk, DEEP), found = 0;
-    for (int i = 0; i < depth; i++) found |= (const char *)walk[i] > __start_callers && (const char *)walk[i] < __stop_callers;
+    for (int i = 0; i < depth; i++)
+        found |= (const char *)walk[i] > __start_callers && (const char *)walk[i] < __stop_callers;
     walks++;
     strays += !found;
     return __real_malloc(size);
