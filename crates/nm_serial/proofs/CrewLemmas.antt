@@ -4,7 +4,7 @@ use Rattle.std.specs.Prelude.{sum_by}
 use Rattle.std.proofs.lemmas.List.{length-map, append-nil, length-set, set-set, set_comm, get_or-set_other}
 use Rattle.std.proofs.lemmas.List.Elements.{All-nil, All-cons, All-head, All-tail, All-set, at_read}
 use Rattle.std.proofs.lemmas.List.Sums.{sum_by-cons, sum_by-set}
-use Rattle.nm_answers.specs.declared.answer.Answer.{Answer}
+use Rattle.nm_serial.specs.declared.answer.Answer.{Answer}
 use Rattle.nm_epoch.specs.declared.collecting.HeldQueue.{HeldQueue}
 use Rattle.nm_epoch.specs.Collecting.{HaveLost}
 use Rattle.nm_scripts.specs.declared.call.Call.{Call}
@@ -14,15 +14,15 @@ use Rattle.nm_tree.specs.Closing.{given_in}
 use Rattle.nm_tree.specs.Resigning.{merged}
 use Rattle.nm_tree.specs.Workers.{Hand, AreNew, KeepsOthers}
 use Rattle.nm_tree.proofs.Merging.{length-merged}
-use Rattle.nm_serial.specs.Crews.{AreOf, HasAsked, HasDoneAt, HasLeft, PlaysAll, PlaysLine, present, stands_for, worker_at}
-use Rattle.nm_serial.specs.Makes.{IsOwn}
+use Rattle.nm_serial.specs.Crews.{AreCrewOf, HasAsked, HasDoneAt, HasResignedOrStayed, PlaysAll, PlaysLine, present, stands_for, worker_at}
+use Rattle.nm_serial.specs.Makes.{IsOwnCall}
 
 -- a place is written
-pub placed : (b : Board) (crew : List (Option Hand)) (i : ℕ) (o : Option Hand) → IfSome o (λ w. IsOf b w.pass) → AreOf b crew → AreOf b (slice_set crew i o)
+pub placed : (b : Board) (crew : List (Option Hand)) (i : ℕ) (o : Option Hand) → IfSome o (λ w. IsOf b w.pass) → AreCrewOf b crew → AreCrewOf b (slice_set crew i o)
 placed b crew i o own all = All-set (λ o. IfSome o (λ w. IsOf b w.pass)) crew i o own all
 
 -- it is left empty
-pub emptied : (b : Board) (crew : List (Option Hand)) (i : ℕ) (o : Option Hand) → o ≡ None → AreOf b crew → AreOf b (slice_set crew i o)
+pub emptied : (b : Board) (crew : List (Option Hand)) (i : ℕ) (o : Option Hand) → o ≡ None → AreCrewOf b crew → AreCrewOf b (slice_set crew i o)
 emptied b crew i o none all = placed b crew i o (rw none tt) all
 
 -- ---- how many workers they stand for
@@ -73,7 +73,7 @@ pub present_all : (ws : List Hand) → present (map Some ws) ≡ ws
 present_all [] = refl
 present_all (w ∷ ws) = ap (λ l. w ∷ l) (present_all ws)
 
-pub present_are_of : (b : Board) (crew : List (Option Hand)) → AreOf b crew → All (λ w. IsOf b w.pass) (present crew)
+pub present_are_of : (b : Board) (crew : List (Option Hand)) → AreCrewOf b crew → All (λ w. IsOf b w.pass) (present crew)
 present_are_of b [] all = All-nil (λ (w : Hand). IsOf b w.pass)
 present_are_of b (None ∷ crew) all = present_are_of b crew (All-tail (λ (o : Option Hand). IfSome o (λ w. IsOf b w.pass)) None crew all)
 present_are_of b (Some w ∷ crew) all =
@@ -83,7 +83,7 @@ present_are_of b (Some w ∷ crew) all =
 -- ---- lines
 
 -- a call that is its worker's alone
-pub own_line_at : (b : Board) (tries n : ℕ) (call : Call) (crew : List (Option Hand)) (z : Option Hand) (a : Answer) → IsOwn call → HasDoneAt b tries call (worker_at crew n) z a → PlaysLine b tries n call crew a (slice_set crew n z)
+pub own_line_at : (b : Board) (tries n : ℕ) (call : Call) (crew : List (Option Hand)) (z : Option Hand) (a : Answer) → IsOwnCall call → HasDoneAt b tries call (worker_at crew n) z a → PlaysLine b tries n call crew a (slice_set crew n z)
 own_line_at b tries n (Has k) crew z a own did = (z, did, refl)
 own_line_at b tries n (Insert k) crew z a own did = (z, did, refl)
 own_line_at b tries n (Delete k) crew z a own did = (z, did, refl)
@@ -124,7 +124,7 @@ module _ (crew : List (Option Hand)) (leaver heir : ℕ) (taking leaving taken :
   leaver_is : worker_at crew leaver ≡ Some leaving
   leaver_is = sym (get_or-set_other crew heir leaver e None two) ∙ leaver_was
 
-  pub has_asked : (a : Answer) → HasLeft taking leaving taken still a → HasAsked leaver heir crew a (slice_set (slice_set (slice_set (slice_set crew heir e) leaver f) heir (Some taken)) leaver still)
+  pub has_asked : (a : Answer) → HasResignedOrStayed taking leaving taken still a → HasAsked leaver heir crew a (slice_set (slice_set (slice_set (slice_set crew heir e) leaver f) heir (Some taken)) leaver still)
   has_asked a did = record { two = two; taking = taking; leaving = leaving; taken = taken; still = still; heir_is = heir_is; leaver_is = leaver_is; did = did; places = written crew heir leaver (Some taken) still e f two }
 
   pub resigning_keeps_whole : heir < length crew → leaver < length crew → stands_for (Some taken) + stands_for still ≡ stands_for (Some taking) + stands_for (Some leaving)
@@ -144,7 +144,7 @@ whole_at_end b ws left crew after n new many sizes places kept is =
     ap given_in is ∙ present_stand_for after ∙ kept ∙ start ∙ many ∙ sym sizes
 
 -- each call but a resigning is its worker's alone
-pub is_own : (call : Call) → ((heir : ℕ) → call ≡ Resign heir → ⊥) → IsOwn call
+pub is_own : (call : Call) → ((heir : ℕ) → call ≡ Resign heir → ⊥) → IsOwnCall call
 is_own (Has k) isnt = tt
 is_own (Insert k) isnt = tt
 is_own (Delete k) isnt = tt
@@ -156,6 +156,6 @@ is_own Collect isnt = tt
 is_own (Resign heir) isnt = absurd (isnt heir refl)
 
 -- a call that was answered is a line
-pub made_line : (b : Board) (tries n : ℕ) (call : Call) (crew : List (Option Hand)) (o z : Option Hand) (r : Option Answer) → IsOwn call → worker_at crew n ≡ o → IfSome r (HasDoneAt b tries call o z) → IfSome r (λ a. PlaysLine b tries n call crew a (slice_set crew n z))
+pub made_line : (b : Board) (tries n : ℕ) (call : Call) (crew : List (Option Hand)) (o z : Option Hand) (r : Option Answer) → IsOwnCall call → worker_at crew n ≡ o → IfSome r (HasDoneAt b tries call o z) → IfSome r (λ a. PlaysLine b tries n call crew a (slice_set crew n z))
 made_line b tries n call crew o z None own at did = tt
 made_line b tries n call crew o z (Some a) own at did = own_line_at b tries n call crew z a own (rw at did)

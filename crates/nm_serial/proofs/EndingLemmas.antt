@@ -14,7 +14,7 @@ use Rattle.nm_scripts.specs.declared.header.Command.{Command}
 use Rattle.nm_scripts.specs.Scripts.{Script, first_line_of, line_of, script_of}
 use Rattle.nm_serial.specs.Playing.{FailsSo, EndsSo, IsOfOneThread}
 use Rattle.nm_serial.specs.Stops.{IfStopped}
-use Rattle.nm_serial.specs.Texts.{IfGate, IsWritten, Writes}
+use Rattle.nm_serial.specs.Texts.{IfGate, IsWritten, WritesText}
 
 -- what the bytes up to the limit say is what all say
 same_script : (command : Command) (input : List ℕ) → script_of command (take 12100122 input) ≡ script_of command input
@@ -93,7 +93,7 @@ whole_read command input s is =
 
 -- so a text for what was read is one for all
 pub tells_text : (IsText : Script → List (List ℕ) → List ℕ → Type 0) (command : Command) (known : Option (List ℕ)) (bytes text : List ℕ) (old new : Option (List ℕ)) → IfSome known (λ input. bytes ≡ take 12100122 input) → IsWritten IsText command bytes text → Appends old new text
-    → IfSome known (λ input. Writes IsText command input old new)
+    → IfSome known (λ input. WritesText IsText command input old new)
 tells_text IsText command None bytes text old new read written wrote = tt
 tells_text IsText command (Some input) bytes text old new read written wrote =
     let whole : bytes ≡ input = read ∙ whole_read command input written.0 (sym (ap (script_of command) read) ∙ written.1) in

@@ -1,3 +1,4 @@
+pub mod LineLemmas
 pub mod PlayLemmas
 pub mod ThreadLemmas
 pub mod WorkerLemmas

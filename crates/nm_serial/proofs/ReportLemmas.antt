@@ -8,7 +8,7 @@ use Rattle.nm_tree.specs.Workers.{Hand, HasOrigin}
 use Rattle.nm_tree.proofs.EndWorkers.{from_has}
 use Rattle.nm_tree.proofs.Freeing.{not_both}
 use Rattle.nm_tree.proofs.Merging.{merged_has}
-use Rattle.nm_serial.specs.Endings.{IsCounted, IsTold, AreTold}
+use Rattle.nm_serial.specs.Endings.{IsCountedByHolder, IsTold, AreTold}
 
 -- one of these workers holds the queue of that origin
 abbrev pub OneHas : ℕ → List Hand → Type 0
@@ -24,7 +24,7 @@ one_has o (w ∷ u ∷ ws) has = elim (merged_has o (all_merged (u ∷ ws)) w.qu
 ]
 
 -- so what is counted is told
-pub counted_is_told : (o : ℕ) (ws : List Hand) (c : Counts) → IsCounted o ws c → OneHas o ws → IsTold ws o c
+pub counted_is_told : (o : ℕ) (ws : List Hand) (c : Counts) → IsCountedByHolder o ws c → OneHas o ws → IsTold ws o c
 counted_is_told o [] c counted has = absurd has
 counted_is_told o (w ∷ ws) c (inl first) has = record { holder = w; among = (0, (let l : 0 < suc (length ws) = omega arith in l), refl); holds = first.0; ledger = first.1 }
 counted_is_told o (w ∷ ws) c (inr rest) (inl has) = absurd (not_both o w.queues has rest.0)
@@ -42,7 +42,7 @@ all_are_told ws o (c ∷ cs) each = (
 
 -- what is told of the closed tree
 pub closed_is_told : (b : Board) (ws : List Hand) (queues : List HeldQueue) (keys : List ℕ) (free reached : ℕ) (cs : List Counts) → IsClosed b ws queues keys free reached → length cs ≡ b.layout.workers
-    → ((o : ℕ) (c : Counts) → o < b.layout.workers → IsCounted o ws (slice_index_or cs o c)) → AreTold ws 0 cs
+    → ((o : ℕ) (c : Counts) → o < b.layout.workers → IsCountedByHolder o ws (slice_index_or cs o c)) → AreTold ws 0 cs
 closed_is_told b ws queues keys free reached cs closed all counted =
     all_are_told ws 0 cs (λ k d lt.
     let below : k < b.layout.workers = omega (arith, lt, all) in
@@ -50,5 +50,5 @@ closed_is_told b ws queues keys free reached cs closed all counted =
     let has : HasOrigin (0 + k) queues = from_has 0 queues closed.each (0 + k) (omega arith) (omega (arith, below, same)) in
     let merged : HasOrigin (0 + k) (all_merged ws) = subst (λ (hs : List HeldQueue). HasOrigin (0 + k) hs) closed.merged has in
     let zero-more : 0 + k ≡ k = omega arith in
-    let counted' : IsCounted (0 + k) ws (slice_index_or cs k d) = subst (λ n. IsCounted n ws (slice_index_or cs k d)) (sym zero-more) (counted k d below) in
+    let counted' : IsCountedByHolder (0 + k) ws (slice_index_or cs k d) = subst (λ n. IsCountedByHolder n ws (slice_index_or cs k d)) (sym zero-more) (counted k d below) in
     counted_is_told (0 + k) ws (slice_index_or cs k d) counted' (one_has (0 + k) ws merged))

@@ -1,8 +1,8 @@
 -- The workers of a script that one thread plays: at each number its worker, until it resigns.
 use Rattle.std.specs.Prelude.{◌≡◌, ◌≢◌, ◌⊎◌, ℕ, List, [], ◌∷◌, length, slice_index_or, slice_set, All, Option, Some, None, IsSome, IfSome}
-use Rattle.nm_answers.specs.declared.answer.Answer.{Answer}
-use Rattle.nm_answers.specs.declared.answer.Answer.TheVariants as answer
-use Rattle.nm_answers.specs.declared.answer.Refusal.TheVariants as refused
+use Rattle.nm_serial.specs.declared.answer.Answer.{Answer}
+use Rattle.nm_serial.specs.declared.answer.Answer.TheVariants as answer
+use Rattle.nm_serial.specs.declared.answer.Refusal.TheVariants as refused
 use Rattle.nm_scripts.specs.declared.call.Call.{Call}
 use Rattle.nm_scripts.specs.declared.call.Call.TheVariants.{Resign}
 use Rattle.nm_steps.specs.Steps.{Board, IsOf}
@@ -11,8 +11,8 @@ use Rattle.nm_tree.specs.Workers.{Hand}
 use Rattle.nm_serial.specs.Makes.{HasMade}
 
 -- the workers of a script that one thread plays, at their places, are of that tree
-abbrev pub AreOf : Board → List (Option Hand) → Type 0
-AreOf b crew = All (λ o. IfSome o (λ w. IsOf b w.pass)) crew
+abbrev pub AreCrewOf : Board → List (Option Hand) → Type 0
+AreCrewOf b crew = All (λ o. IfSome o (λ w. IsOf b w.pass)) crew
 
 -- the worker of that number, unless it has resigned
 abbrev pub worker_at : List (Option Hand) → ℕ → Option Hand
@@ -36,9 +36,9 @@ HasDoneAt b tries c (Some w) None a = ⊥
 HasDoneAt b tries c (Some w) (Some z) a = HasMade b tries c w z a
 
 -- a worker has resigned to its heir; or it is held, or has a pending key, and nothing has changed
-abbrev pub HasLeft : Hand → Hand → Hand → Option Hand → Answer → Type 0
-HasLeft heir leaver z None a = HasResigned heir leaver z × (a ≡ answer.Resigned)
-HasLeft heir leaver z (Some w) a = (z ≡ heir) × (w ≡ leaver)
+abbrev pub HasResignedOrStayed : Hand → Hand → Hand → Option Hand → Answer → Type 0
+HasResignedOrStayed heir leaver z None a = HasResigned heir leaver z × (a ≡ answer.Resigned)
+HasResignedOrStayed heir leaver z (Some w) a = (z ≡ heir) × (w ≡ leaver)
     × ((IsSome leaver.held × (a ≡ answer.Refused refused.Held))
     ⊎ ((leaver.held ≡ None) × IsSome leaver.pending × (a ≡ answer.Pending)))
 
@@ -61,7 +61,7 @@ pub record HasAsked (leaver heir : ℕ) (crew : List (Option Hand)) (a : Answer)
   pub still : Option Hand
   pub heir_is : worker_at crew heir ≡ Some taking
   pub leaver_is : worker_at crew leaver ≡ Some leaving
-  pub did : HasLeft taking leaving taken still a
+  pub did : HasResignedOrStayed taking leaving taken still a
   pub places : after ≡ slice_set (slice_set crew heir (Some taken)) leaver still
 
 -- a line of the worker of that number, by its answer

@@ -1,6 +1,6 @@
 -- The last lines of a script, and what of the closed tree they tell.
 use Rattle.std.specs.Prelude.{◌≡◌, ◌⊎◌, ℕ, suc, List, [], ◌∷◌, ◌++◌, length, Contains}
-use Rattle.nm_answers.specs.Endings.{worker_line, places_line}
+use Rattle.nm_serial.specs.ClosedLines.{closed_worker_line, closed_places_line}
 use Rattle.nm_epoch.specs.declared.collecting.HeldQueue.{HeldQueue}
 use Rattle.nm_epoch.specs.Collecting.{NoneHas}
 use Rattle.nm_print.specs.LastLines.{keys_line}
@@ -14,19 +14,19 @@ abbrev pub worker_lines : List Counts → List HeldQueue → List ℕ
 worker_lines [] hs = []
 worker_lines (c ∷ cs) [] = []
 worker_lines (c ∷ cs) (h ∷ hs) =
-    worker_line h.origin c.retired c.freed h.queue.items ++ worker_lines cs hs
+    closed_worker_line h.origin c.retired c.freed h.queue.items ++ worker_lines cs hs
 
 -- all last lines
-abbrev pub last_lines : List Counts → List HeldQueue → List ℕ → ℕ → ℕ → List ℕ
-last_lines counts queues keys free reached =
-    worker_lines counts queues ++ (keys_line keys ++ places_line free reached (waiting_in queues))
+abbrev pub ending_lines : List Counts → List HeldQueue → List ℕ → ℕ → ℕ → List ℕ
+ending_lines counts queues keys free reached =
+    worker_lines counts queues ++ (keys_line keys ++ closed_places_line free reached (waiting_in queues))
 
 -- by the first of these that holds its queue: the ledger of an origin; and nothing is said where
 -- none does
-abbrev pub IsCounted : ℕ → List Hand → Counts → Type 0
-IsCounted o [] c = Unit {0}
-IsCounted o (w ∷ ws) c = (HasOrigin o w.queues × IsLedger w.pass.view o c)
-    ⊎ (NoneHas o w.queues × IsCounted o ws c)
+abbrev pub IsCountedByHolder : ℕ → List Hand → Counts → Type 0
+IsCountedByHolder o [] c = Unit {0}
+IsCountedByHolder o (w ∷ ws) c = (HasOrigin o w.queues × IsLedger w.pass.view o c)
+    ⊎ (NoneHas o w.queues × IsCountedByHolder o ws c)
 
 -- one of these workers holds the queue of that origin, and that is the ledger of it
 pub record IsTold (ws : List Hand) (o : ℕ) (c : Counts) : Type 0 where
@@ -52,4 +52,4 @@ pub record IsEnding (b : Board) (ws : List Hand) (text : List ℕ) : Type 0 wher
   pub closed : IsClosed b ws queues keys free reached
   pub all : length counts ≡ b.layout.workers
   pub told : AreTold ws 0 counts
-  pub text_is : text ≡ last_lines counts queues keys free reached
+  pub text_is : text ≡ ending_lines counts queues keys free reached

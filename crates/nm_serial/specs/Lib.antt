@@ -1,3 +1,6 @@
+pub mod Answers
+pub mod AnswerLines
+pub mod ClosedLines
 pub mod Makes
 pub mod Threads
 pub mod Stops

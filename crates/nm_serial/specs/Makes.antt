@@ -1,9 +1,9 @@
 -- What a line of a script does to its worker, by its answer.
 use Rattle.std.specs.Prelude.{◌≡◌, ◌⊎◌, ◌==◌, ◌+◌, if◌then◌else◌, List, [], ◌∷◌, ◌++◌, ℕ, Bool, Some, None, IsSome, Result, length}
-use Rattle.nm_answers.specs.declared.answer.Answer.{Answer}
-use Rattle.nm_answers.specs.declared.answer.Answer.TheVariants as answer
-use Rattle.nm_answers.specs.declared.answer.Refusal.TheVariants as refused
-use Rattle.nm_answers.specs.Answers.{of_change, of_pin, of_advance, of_collection}
+use Rattle.nm_serial.specs.declared.answer.Answer.{Answer}
+use Rattle.nm_serial.specs.declared.answer.Answer.TheVariants as answer
+use Rattle.nm_serial.specs.declared.answer.Refusal.TheVariants as refused
+use Rattle.nm_serial.specs.Answers.{change_answer, pin_answer, advance_answer, collection_answer}
 use Rattle.nm_epoch.specs.declared.answers.Advance.{Advance}
 use Rattle.nm_epoch.specs.declared.collecting.Collected.{Collected}
 use Rattle.nm_epoch.specs.Collecting.{IsCollection, HaveLost, ripe_of}
@@ -22,45 +22,45 @@ use Rattle.nm_serial.specs.declared.own_lines.Stop.{Stop}
 use Rattle.nm_serial.specs.declared.own_lines.Stop.TheVariants as stop
 
 -- a call that is its worker's alone
-abbrev pub IsOwn : Call → Type 0
-IsOwn (Resign heir) = ⊥
-IsOwn _ = Unit {0}
+abbrev pub IsOwnCall : Call → Type 0
+IsOwnCall (Resign heir) = ⊥
+IsOwnCall _ = Unit {0}
 
 -- no call was made, for this reason
-abbrev pub IsRefusedAs : Answer → Hand → Hand → Answer → Type 0
-IsRefusedAs why w z a = (z ≡ w) × (a ≡ why)
+abbrev pub IsAnsweredUnchanged : Answer → Hand → Hand → Answer → Type 0
+IsAnsweredUnchanged why w z a = (z ≡ w) × (a ≡ why)
 
 -- the call ended so, and that is what was answered
-abbrev pub HasChanged : (Result Bool Fault → Type 0) → Answer → Type 0
-HasChanged did a = (r : Result Bool Fault) × did r × (of_change r ≡ Some a)
+abbrev pub HasAnsweredCall : (Result Bool Fault → Type 0) → Answer → Type 0
+HasAnsweredCall did a = (r : Result Bool Fault) × did r × (change_answer r ≡ Some a)
 
 -- a call that a held worker may not make
 abbrev pub HasSearched : (Result Bool Fault → Type 0) → Hand → Hand → Answer → Type 0
-HasSearched did w z a = (IsSome w.held × IsRefusedAs (answer.Refused refused.Held) w z a)
-    ⊎ ((w.held ≡ None) × HasChanged did a)
+HasSearched did w z a = (IsSome w.held × IsAnsweredUnchanged (answer.Refused refused.Held) w z a)
+    ⊎ ((w.held ≡ None) × HasAnsweredCall did a)
 
 -- a pin of the caller
 abbrev pub HasHeld : ℕ → Hand → Hand → Answer → Type 0
-HasHeld tries w z a = (IsSome w.held × IsRefusedAs (answer.Refused refused.Held) w z a)
-    ⊎ ((w.held ≡ None) × ((r : Result ℕ PinFault) × HasPinned tries w z r × (a ≡ of_pin r)))
+HasHeld tries w z a = (IsSome w.held × IsAnsweredUnchanged (answer.Refused refused.Held) w z a)
+    ⊎ ((w.held ≡ None) × ((r : Result ℕ PinFault) × HasPinned tries w z r × (a ≡ pin_answer r)))
 
 -- its end
 abbrev pub HasUnpinned : Hand → Hand → Answer → Type 0
-HasUnpinned w z a = ((w.held ≡ None) × IsRefusedAs (answer.Refused refused.Idle) w z a)
+HasUnpinned w z a = ((w.held ≡ None) × IsAnsweredUnchanged (answer.Refused refused.Idle) w z a)
     ⊎ (IsSome w.held × (z.held ≡ None) × Stepped w.pass z.pass Leave Departed × (a ≡ answer.Left))
 
 -- an advance of the epoch, among so many workers
 abbrev pub HasMoved : ℕ → Hand → Hand → Answer → Type 0
 HasMoved workers w z a = KeepsPlace w z
     × ((r : Advance) × IsAdvance workers w.pass.view.number (epochs w.pass).pin w.pass.view.log
-    z.pass.view.log r × (a ≡ of_advance r))
+    z.pass.view.log r × (a ≡ advance_answer r))
 
 -- a collection
 abbrev pub HasCollected : Hand → Hand → Answer → Type 0
 HasCollected w z a = KeepsPlace w z
     × ((c : Collected) × IsCollection c.epoch w.queues w.pass.view.log z.pass.view.log
     × HaveLost c.epoch w.queues z.queues
-    × (c.freed ≡ length (ripe_of c.epoch w.queues)) × (a ≡ of_collection c))
+    × (c.freed ≡ length (ripe_of c.epoch w.queues)) × (a ≡ collection_answer c))
 
 -- a call that is its worker's alone, with so many tries: as the call of the set does, by what it
 -- answers
@@ -68,7 +68,7 @@ abbrev pub HasMade : Board → ℕ → Call → Hand → Hand → Answer → Typ
 HasMade b tries (Has k) w z a = HasSearched (HasAnswered b.layout.nodes tries k w z) w z a
 HasMade b tries (Insert k) w z a = HasSearched (HasInserted b.layout.nodes tries k w z) w z a
 HasMade b tries (Delete k) w z a = HasSearched (HasDeleted b.layout.nodes tries k w z) w z a
-HasMade b tries Finish w z a = HasChanged (HasFinished b.layout.nodes tries w z) a
+HasMade b tries Finish w z a = HasAnsweredCall (HasFinished b.layout.nodes tries w z) a
 HasMade b tries Pin w z a = HasHeld tries w z a
 HasMade b tries Unpin w z a = HasUnpinned w z a
 HasMade b tries Move w z a = HasMoved b.layout.workers w z a

@@ -1,8 +1,8 @@
 -- What is written for a script.
 use Rattle.std.specs.Prelude.{◌≡◌, ℕ, List, ◌++◌, length, map, drop, Some, None, Option, Ok}
 use Rattle.std.specs.Io.KnownBytes.{Appends}
-use Rattle.nm_answers.specs.declared.answer.Answer.{Answer}
-use Rattle.nm_answers.specs.Texts.{lines}
+use Rattle.nm_serial.specs.declared.answer.Answer.{Answer}
+use Rattle.nm_serial.specs.AnswerLines.{lines}
 use Rattle.nm_files.specs.declared.fault.RunFault.{RunFault}
 use Rattle.nm_files.specs.declared.fault.RunFault.TheVariants as run
 use Rattle.nm_files.specs.Lines.{parts}
@@ -72,9 +72,9 @@ IsWritten IsText command bytes text =
     (s : Script) × (script_of command bytes ≡ Ok s) × IsText s (drop 1 (parts bytes)) text
 
 -- a writer gained such a text
-abbrev pub Writes : (Script → List (List ℕ) → List ℕ → Type 0) → Command → List ℕ → Option (List ℕ)
+abbrev pub WritesText : (Script → List (List ℕ) → List ℕ → Type 0) → Command → List ℕ → Option (List ℕ)
     → Option (List ℕ) → Type 0
-Writes IsText command bytes old new =
+WritesText IsText command bytes old new =
     (text : List ℕ) × IsWritten IsText command bytes text × Appends old new text
 
 -- of a gate's stop: the script that the bytes of a file say was stopped so

@@ -1,8 +1,8 @@
 -- Workers in threads of their own.
 use Rattle.std.specs.Prelude.{◌≡◌, ◌<◌, ◌==◌, ◌++◌, if◌then◌else◌, ℕ, List, [], ◌∷◌, length, slice_index_or, Option, Some, None, Result, Ok, Err, IfOk, IfErr, Vec}
 use Rattle.std.specs.Global.{Global}
-use Rattle.nm_answers.specs.declared.answer.Answer.{Answer}
-use Rattle.nm_answers.specs.Texts.{lines}
+use Rattle.nm_serial.specs.declared.answer.Answer.{Answer}
+use Rattle.nm_serial.specs.AnswerLines.{lines}
 use Rattle.nm_files.specs.declared.fault.RunFault.{RunFault}
 use Rattle.nm_files.specs.declared.fault.RunFault.TheVariants as run
 use Rattle.nm_scripts.specs.declared.call.Call.{Call}

@@ -1,11 +1,11 @@
 //! The workers of a script that one thread plays.
 ghost use Rattle.std.specs.Prelude.{◌≡◌, ◌+◌, IfSome};
-ghost use Rattle.nm_serial.specs.Crews.{HasDoneAt, HasLeft, stands_for};
-ghost use Rattle.nm_serial.specs.Makes.{IsOwn};
+ghost use Rattle.nm_serial.specs.Crews.{HasDoneAt, HasResignedOrStayed, stands_for};
+ghost use Rattle.nm_serial.specs.Makes.{IsOwnCall};
 ghost use Rattle.nm_steps.specs.Steps.{IsOf};
 
+use crate::answer::{Answer, Refusal};
 use crate::making::make;
-use nm_answers::answer::{Answer, Refusal};
 use nm_scripts::call::Call;
 use nm_tree::{ResignReason, Tree, Worker};
 
@@ -17,7 +17,7 @@ pub(crate) fn make_at(
     tries: u32,
 ) -> Option<Answer>
     requires own { IfSome place.old (λ w. IsOf tree.now w.pass) }
-    requires alone { IsOwn call }
+    requires alone { IsOwnCall call }
     ensures own { IfSome place.new (λ w. IsOf tree.now w.pass) }
     ensures whole { stands_for place.new ≡ stands_for place.old }
     ensures did { IfSome result (HasDoneAt tree.now tries call place.old place.new) }
@@ -37,7 +37,7 @@ pub(crate) fn leave(tree: &Tree, heir: Worker, leaver: Worker) -> (Worker, Optio
     ensures leaver { IfSome result.1 (λ w. IsOf tree.now w.pass) }
     ensures whole { stands_for (Some result.0) + stands_for result.1
         ≡ stands_for (Some heir) + stands_for (Some leaver) }
-    ensures did { HasLeft heir leaver result.0 result.1 result.2 }
+    ensures did { HasResignedOrStayed heir leaver result.0 result.1 result.2 }
 {
     match tree.resign(heir, leaver) {
         Ok(heir) => (heir, None, Answer::Resigned),

@@ -1,6 +1,9 @@
 //! Scripts played on the real tree: a file of calls in, what each call answered out.
 #![tactic(auto)]
 
+pub mod answer;
+pub mod answer_lines;
+pub mod closed_lines;
 mod crew;
 mod gate;
 mod making;

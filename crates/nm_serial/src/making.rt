@@ -1,10 +1,10 @@
 //! One line of a worker: a call of the set, or a refusal without a call.
 ghost use Rattle.std.specs.Prelude.{◌≡◌, length, IfSome};
 ghost use Rattle.nm_steps.specs.Steps.{IsOf};
-ghost use Rattle.nm_serial.specs.Makes.{HasMade, HasSearched, IsOwn, HasHeld, HasUnpinned};
+ghost use Rattle.nm_serial.specs.Makes.{HasMade, HasSearched, IsOwnCall, HasHeld, HasUnpinned};
 ghost use Rattle.nm_tree.specs.Answers.{HasAnswered, HasInserted, HasDeleted};
 
-use nm_answers::answer::{Answer, Refusal, of_advance, of_change, of_collection, of_pin};
+use crate::answer::{Answer, Refusal, of_advance, of_change, of_collection, of_pin};
 use nm_edge::Key;
 use nm_scripts::call::Call;
 use nm_tree::{Tree, Worker};
@@ -93,7 +93,7 @@ fn unpin(tree: &Tree, worker: &mut Worker) -> Answer
 #[tactic(auto, using(crate::proofs::CrewLemmas::keeps_many, crate::proofs::CrewLemmas::lost_many))]
 pub(crate) fn make(tree: &Tree, worker: &mut Worker, call: Call, tries: u32) -> Option<Answer>
     requires own { IsOf tree.now worker.old.pass }
-    requires alone { IsOwn call }
+    requires alone { IsOwnCall call }
     ensures own { IsOf tree.now worker.new.pass }
     ensures number { worker.new.pass.view.number ≡ worker.old.pass.view.number }
     ensures queues { length worker.new.queues ≡ length worker.old.queues }

@@ -1,23 +1,23 @@
 //! `stress`: the calls of each worker of a script in a thread of its own.
 ghost use Rattle.std.specs.Prelude.{◌≡◌, ◌≢◌, ◌≤◌, ◌++◌, drop, length, map, All, Some, IfSome, IfOk, OnOk, IfErr, IsOk};
-ghost use Rattle.nm_answers.specs.Texts.{lines};
+ghost use Rattle.nm_serial.specs.AnswerLines.{lines};
 ghost use Rattle.nm_files.specs.Files.{HasJudged, IfLine};
 ghost use Rattle.nm_files.specs.Lines.{parts};
 ghost use Rattle.nm_scripts.specs.Scripts.{script_of};
 ghost use Rattle.nm_scripts.specs.declared.header.Command.TheVariants.{Stress};
-ghost use Rattle.nm_serial.specs.Makes.{IsOwn};
+ghost use Rattle.nm_serial.specs.Makes.{IsOwnCall};
 ghost use Rattle.nm_serial.specs.Playing.{EndsSo};
 ghost use Rattle.nm_serial.specs.Stops.{IfStopped, IsStop};
-ghost use Rattle.nm_serial.specs.Texts.{IfGate, IsGateStop, IsStressText, IsWritten, Writes};
+ghost use Rattle.nm_serial.specs.Texts.{IfGate, IsGateStop, IsStressText, IsWritten, WritesText};
 ghost use Rattle.nm_serial.specs.Threads.{all_rows, fault_in, own_rows};
 ghost use Rattle.nm_serial.specs.Threads as spec;
 
+use crate::answer::Answer;
+use crate::answer_lines::put_line;
 use crate::gate::Gate;
 use crate::outcome::{open, put_end};
 use crate::own_lines::Stop;
 use crate::threads::{Played, play_apart};
-use nm_answers::answer::Answer;
-use nm_answers::text::put_line;
 use nm_files::fault::RunFault;
 use nm_files::pieces::cut;
 use nm_files::stream::{LIMIT, input_of, write_text};
@@ -136,7 +136,7 @@ fn text_of<R: Threads + Wait + Sync, G: Gate>(
     script: &Script<'_>,
     gate: &G,
 ) -> Result<Vec<u8>, RunFault>
-    requires plain { All (λ e. IsOwn e.1) script.now.calls.items }
+    requires plain { All (λ e. IsOwnCall e.1) script.now.calls.items }
     requires few { length script.now.calls.items ≤ 100000 }
     ensures text { IfOk result
         (λ v. IsStressText (G.lets gate.now) (G.stops gate.now)
@@ -201,7 +201,7 @@ pub fn stress<R: Threads + Wait + Sync, I: Read, W: Write, G: Gate>(
     // The lines of each worker, played one after the other on a new tree that all share, are
     // written with what they were answered, and then what the closed tree tells, and nothing else.
     ensures ok { OnOk result (IfSome (I.remaining reader.old)
-        (λ input. Writes (IsStressText (G.lets gate.now) (G.stops gate.now)) Stress input
+        (λ input. WritesText (IsStressText (G.lets gate.now) (G.stops gate.now)) Stress input
         (W.contents writer.old) (W.contents writer.new))) }
     // The gate is told where it stopped workers, and none was refused memory: of the least of them,
     // with the line before which it was stopped.

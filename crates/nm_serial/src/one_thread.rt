@@ -5,14 +5,14 @@ ghost use Rattle.nm_files.specs.Lines.{parts};
 ghost use Rattle.nm_scripts.specs.Scripts.{IsEntryOf};
 ghost use Rattle.nm_scripts.specs.Scripts as scripts;
 ghost use Rattle.nm_steps.specs.Steps.{IsOf};
-ghost use Rattle.nm_serial.specs.Crews.{AreOf, HasAsked, IsGone, PlaysAll, PlaysLine, present, stands_for};
+ghost use Rattle.nm_serial.specs.Crews.{AreCrewOf, HasAsked, IsGone, PlaysAll, PlaysLine, present, stands_for};
 ghost use Rattle.nm_serial.specs.Playing.{EndsSo, IsOfOneThread};
-ghost use Rattle.nm_serial.specs.Texts.{IsSerialText, IsWritten, Writes};
+ghost use Rattle.nm_serial.specs.Texts.{IsSerialText, IsWritten, WritesText};
 
+use crate::answer::{Answer, Refusal};
+use crate::answer_lines::put_lines;
 use crate::crew::{leave, make_at};
 use crate::outcome::{open, put_end};
-use nm_answers::answer::{Answer, Refusal};
-use nm_answers::text::put_lines;
 use nm_files::fault::RunFault;
 use nm_files::stream::{LIMIT, input_of, write_text};
 use nm_scripts::call::Call;
@@ -29,7 +29,7 @@ fn crew_of(
     workers: Vec<Worker>,
 ) -> Result<Vec<Option<Worker>>, AllocError>
     requires own { All (λ w. IsOf tree.now w.pass) workers.items }
-    ensures own { IfOk result (λ crew. AreOf tree.now crew.items) }
+    ensures own { IfOk result (λ crew. AreCrewOf tree.now crew.items) }
     ensures places { IfOk result (λ crew. crew.items ≡ map Some workers.items) }
 {
     let mut crew = Vec::new(alloc);
@@ -64,10 +64,10 @@ fn left_of(alloc: Global, crew: Vec<Option<Worker>>) -> Result<Vec<Worker>, Allo
 /// The worker at a place resigns to the one at another. Where either has resigned, or they are one,
 /// nothing is done.
 fn resign(tree: &Tree, crew: &mut Vec<Option<Worker>>, leaver: usize, heir: usize) -> Answer
-    requires own { AreOf tree.now crew.old.items }
+    requires own { AreCrewOf tree.now crew.old.items }
     requires leaver { leaver < length crew.old.items }
     requires heir { heir < length crew.old.items }
-    ensures own { AreOf tree.now crew.new.items }
+    ensures own { AreCrewOf tree.now crew.new.items }
     ensures count { length crew.new.items ≡ length crew.old.items }
     ensures whole { sum_by stands_for crew.new.items ≡ sum_by stands_for crew.old.items }
     ensures did { IsGone leaver heir crew.old.items result crew.new.items
@@ -96,10 +96,10 @@ fn play_line(
     worker: u32,
     call: &Call,
 ) -> Option<Answer>
-    requires own { AreOf tree.now crew.old.items }
+    requires own { AreCrewOf tree.now crew.old.items }
     requires count { length crew.old.items ≡ header.now.layout.workers }
     requires allowed { IsEntryOf header.now (worker, call.now) }
-    ensures own { AreOf tree.now crew.new.items }
+    ensures own { AreCrewOf tree.now crew.new.items }
     ensures count { length crew.new.items ≡ length crew.old.items }
     ensures whole { sum_by stands_for crew.new.items ≡ sum_by stands_for crew.old.items }
     ensures did { IfSome result
@@ -119,10 +119,10 @@ fn play(
     header: &Header,
     calls: &[(u32, Call)],
 ) -> Result<Vec<Answer>, RunFault>
-    requires own { AreOf tree.now crew.old.items }
+    requires own { AreCrewOf tree.now crew.old.items }
     requires count { length crew.old.items ≡ header.now.layout.workers }
     requires allowed { All (IsEntryOf header.now) calls.now }
-    ensures own { AreOf tree.now crew.new.items }
+    ensures own { AreCrewOf tree.now crew.new.items }
     ensures whole { sum_by stands_for crew.new.items ≡ sum_by stands_for crew.old.items }
     ensures did { IfOk result (λ v. PlaysAll tree.now header.now.tries calls.now v.items
         crew.old.items crew.new.items) }
@@ -198,7 +198,7 @@ pub fn serial<R: Read, W: Write>(
     // What the script's lines, played one after the other on a new tree, were answered is written,
     // and what the closed tree tells, and nothing else.
     ensures ok { OnOk result (IfSome (R.remaining reader.old)
-        (λ input. Writes IsSerialText Command.Serial input (W.contents writer.old)
+        (λ input. WritesText IsSerialText Command.Serial input (W.contents writer.old)
         (W.contents writer.new))) }
     // A script is played only where it is right.
     ensures right { OnOk result

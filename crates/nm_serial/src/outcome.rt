@@ -5,9 +5,9 @@ ghost use Rattle.nm_steps.specs.Steps.{IsOf};
 ghost use Rattle.nm_pool.specs.declared.placement.Fit.TheVariants.{Lowest};
 ghost use Rattle.nm_tree.specs.Closing.{given_in};
 ghost use Rattle.nm_tree.specs.Workers.{AreNew, HaveFit, waiting_in};
-ghost use Rattle.nm_serial.specs.Endings.{IsCounted, IsEnding, worker_lines, last_lines};
+ghost use Rattle.nm_serial.specs.Endings.{IsCountedByHolder, IsEnding, worker_lines, ending_lines};
 
-use nm_answers::ending::{put_closed_places, put_worker};
+use crate::closed_lines::{put_closed_places, put_worker};
 use nm_epoch::HeldQueue;
 use nm_files::fault::RunFault;
 use nm_print::last_lines::put_keys_line;
@@ -33,7 +33,7 @@ pub(crate) fn open(alloc: Global, header: &Header) -> Result<(Tree, Vec<Worker>)
 /// What is counted of an origin, by the worker that holds its queue; nothing where none of these
 /// does.
 fn counts_of(workers: &[Worker], origin: u32) -> Counts
-    ensures { IsCounted origin workers.now result }
+    ensures { IsCountedByHolder origin workers.now result }
 {
     let Some((first, rest)) = workers.split_first() else {
         return Counts {
@@ -56,7 +56,7 @@ fn all_counts(alloc: Global, workers: &[Worker], origins: u32) -> Result<Vec<Cou
     ensures all { IfOk result (λ v. length v.items ≡ origins) }
     ensures each { IfOk result
         (λ v. (o : ℕ) (c : _) → o < origins
-        → IsCounted o workers.now (slice_index_or v.items o c)) }
+        → IsCountedByHolder o workers.now (slice_index_or v.items o c)) }
 {
     let mut all = Vec::new(alloc);
     for origin in 0..origins {
@@ -104,7 +104,7 @@ fn put_workers(
 fn put_report(out: &mut Vec<u8>, counts: &[Counts], report: &mut Report) -> Result<(), AllocError>
     requires few { waiting_in report.old.queues.items < 2 ^ 64 }
     ensures { OnOk result (out.new.items
-        ≡ out.old.items ++ last_lines counts.now report.old.queues.items report.old.keys.items
+        ≡ out.old.items ++ ending_lines counts.now report.old.queues.items report.old.keys.items
         report.old.free report.old.reached) }
 {
     let queued = queued_in(report.queues.as_slice());

@@ -1,11 +1,11 @@
 //! The lines of one worker, in their order.
 ghost use Rattle.std.specs.Prelude.{◌≡◌, ◌≤◌, All, length, IfOk, IfErr};
 ghost use Rattle.nm_steps.specs.Steps.{IsOf};
-ghost use Rattle.nm_serial.specs.Makes.{HasMade, HasStopped, IsOwn, PlaysOwn, StopsOwn};
+ghost use Rattle.nm_serial.specs.Makes.{HasMade, HasStopped, IsOwnCall, PlaysOwn, StopsOwn};
 
+use crate::answer::Answer;
 use crate::gate::Gate;
 use crate::making::make;
-use nm_answers::answer::Answer;
 use nm_scripts::call::Call;
 use nm_tree::{Tree, Worker};
 use std::alloc::Global;
@@ -29,7 +29,7 @@ fn play_line<G: Gate>(
     call: &Call,
 ) -> Result<Answer, Stop>
     requires own { IsOf tree.now worker.old.pass }
-    requires plain { IsOwn call.now }
+    requires plain { IsOwnCall call.now }
     ensures own { IsOf tree.now worker.new.pass }
     ensures number { worker.new.pass.view.number ≡ worker.old.pass.view.number }
     ensures queues { length worker.new.queues ≡ length worker.old.queues }
@@ -58,7 +58,7 @@ pub(crate) fn play_own<G: Gate>(
     calls: &[(u32, Call)],
 ) -> Result<Vec<Answer>, Stop>
     requires own { IsOf tree.now worker.old.pass }
-    requires plain { All (λ e. IsOwn e.1) calls.now }
+    requires plain { All (λ e. IsOwnCall e.1) calls.now }
     requires few { length calls.now ≤ 100000 }
     ensures own { IsOf tree.now worker.new.pass }
     ensures number { worker.new.pass.view.number ≡ worker.old.pass.view.number }

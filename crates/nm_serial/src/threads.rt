@@ -1,13 +1,13 @@
 //! Each worker's lines in a thread of its own.
 ghost use Rattle.std.specs.Prelude.{◌≡◌, ◌≤◌, All, length, IfOk, IfErr};
 ghost use Rattle.nm_steps.specs.Steps.{IsOf};
-ghost use Rattle.nm_serial.specs.Makes.{IsOwn};
+ghost use Rattle.nm_serial.specs.Makes.{IsOwnCall};
 ghost use Rattle.nm_serial.specs.Stops.{IsRefusal};
 ghost use Rattle.nm_serial.specs.Threads.{HasPlayed, HaveAllPlayed};
 
+use crate::answer::Answer;
 use crate::gate::Gate;
 use crate::own_lines::{Stop, play_own};
-use nm_answers::answer::Answer;
 use nm_files::fault::RunFault;
 use nm_scripts::call::Call;
 use nm_tree::{Tree, Worker};
@@ -51,7 +51,7 @@ fn play_all<G: Gate>(
     mut worker: Worker,
 ) -> Played
     requires own { IsOf tree.now worker.pass }
-    requires plain { All (λ e. IsOwn e.1) calls.now }
+    requires plain { All (λ e. IsOwnCall e.1) calls.now }
     requires few { length calls.now ≤ 100000 }
     ensures { HasPlayed (G.lets gate.now) (G.stops gate.now) tree.now tries calls.now worker
         result.worker result.answers }
@@ -78,7 +78,7 @@ fn start_one<'s, R: Wait + Sync, E, G: Gate>(
     worker: Worker,
 ) -> Result<PromisedHandle<Played, PlaysAll<'s, G>>, RunFault>
     requires own { IsOf tree.now worker.pass }
-    requires plain { All (λ e. IsOwn e.1) calls.now }
+    requires plain { All (λ e. IsOwnCall e.1) calls.now }
     requires few { length calls.now ≤ 100000 }
     ensures started { IfOk result
         (λ h. (h.promise.gate.now ≡ gate.now) × (h.promise.tree.now ≡ tree.now)
@@ -96,7 +96,7 @@ fn start_one<'s, R: Wait + Sync, E, G: Gate>(
     let started = scope.spawn_with(
         promise,
         move || -> Played
-            requires { IsOf tree.now worker.pass × All (λ e. IsOwn e.1) calls.now
+            requires { IsOf tree.now worker.pass × All (λ e. IsOwnCall e.1) calls.now
                 × (length calls.now ≤ 100000) }
             ensures { HasPlayed (G.lets gate.entry.now) (G.stops gate.entry.now) tree.entry.now
                 tries calls.entry.now worker result.worker result.answers }
@@ -126,7 +126,7 @@ fn play_each<'s, R: Threads + Wait + Sync, E, G: Gate>(
     workers: Vec<Worker>,
 ) -> Result<Vec<Played>, RunFault>
     requires own { All (λ w. IsOf tree.now w.pass) workers.items }
-    requires plain { All (λ e. IsOwn e.1) calls.now }
+    requires plain { All (λ e. IsOwnCall e.1) calls.now }
     requires few { length calls.now ≤ 100000 }
     ensures played { IfOk result
         (λ v. HaveAllPlayed (G.lets gate.now) (G.stops gate.now) tree.now tries calls.now
@@ -158,7 +158,7 @@ pub(crate) fn play_apart<R: Threads + Wait + Sync, G: Gate>(
     workers: Vec<Worker>,
 ) -> Result<Vec<Played>, RunFault>
     requires own { All (λ w. IsOf tree.now w.pass) workers.items }
-    requires plain { All (λ e. IsOwn e.1) calls.now }
+    requires plain { All (λ e. IsOwnCall e.1) calls.now }
     requires few { length calls.now ≤ 100000 }
     ensures played { IfOk result
         (λ v. HaveAllPlayed (G.lets gate.now) (G.stops gate.now) tree.now tries calls.now
@@ -172,7 +172,7 @@ pub(crate) fn play_apart<R: Threads + Wait + Sync, G: Gate>(
         rt,
         |scope| -> Result<Vec<Played>, RunFault>
             requires { All (λ w. IsOf tree.now w.pass) workers.items
-                × All (λ e. IsOwn e.1) calls.now × (length calls.now ≤ 100000) }
+                × All (λ e. IsOwnCall e.1) calls.now × (length calls.now ≤ 100000) }
             ensures { IfOk result
                 (λ v. HaveAllPlayed (G.lets gate.entry.now) (G.stops gate.entry.now) tree.entry.now
                 tries calls.entry.now workers.items v.items) × IfErr result IsRefusal }

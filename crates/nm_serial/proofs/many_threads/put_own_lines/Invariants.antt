@@ -1,6 +1,6 @@
 use Rattle.std.proofs.Common.{◌≡◌, ◌++◌, drop}
 use Rattle.std.specs.Option.{option_copied}
-use Rattle.nm_answers.specs.Texts.{lines}
+use Rattle.nm_serial.specs.AnswerLines.{lines}
 use Rattle.nm_files.specs.Lines.{parts, further}
 use Rattle.nm_serial.specs.Threads.{own_rows}
 use Rattle.nm_serial.proofs.many_threads.put_own_lines.Given as goal

@@ -1,7 +1,7 @@
 use Rattle.std.proofs.Common.{◌≡◌, ◌<◌, ◌∙◌, ℕ, length, slice_index_or, refl, arith}
 use Rattle.nm_tree.specs.declared.worker.Counts.{Counts}
 use Rattle.nm_tree.proofs.OfClosed.{all_slots_are_told}
-use Rattle.nm_serial.specs.Endings.{IsCounted, last_lines}
+use Rattle.nm_serial.specs.Endings.{IsCountedByHolder, ending_lines}
 use Rattle.nm_serial.proofs.ReportLemmas.{closed_is_told}
 use Rattle.nm_serial.proofs.WorkerLemmas.{all_are_of}
 use Rattle.nm_serial.proofs.outcome.put_end.Goals as goal
@@ -24,8 +24,8 @@ returns-in-Ok-put_report-clause-text c =
     let report = c.in-Ok-close.report in
     let closed = c.in-Ok-close.ensures.closed in
     let all : length counts ≡ c.args.tree.layout.workers = c.in-Ok.ensures.all ∙ c.requires.origins in
-    let each : (o : ℕ) (d : Counts) → o < c.args.tree.layout.workers → IsCounted o c.args.workers.items (slice_index_or counts o d) = λ o d lt. rw c.as_slice.ensures.value at (c.in-Ok.ensures.each o d (let n = c.requires.origins in omega (arith, n, lt))) in (
-      last_lines counts report.queues.items report.keys.items report.free report.reached,
+    let each : (o : ℕ) (d : Counts) → o < c.args.tree.layout.workers → IsCountedByHolder o c.args.workers.items (slice_index_or counts o d) = λ o d lt. rw c.as_slice.ensures.value at (c.in-Ok.ensures.each o d (let n = c.requires.origins in omega (arith, n, lt))) in (
+      ending_lines counts report.queues.items report.keys.items report.free report.reached,
       record {
         counts = counts;
         queues = report.queues.items;

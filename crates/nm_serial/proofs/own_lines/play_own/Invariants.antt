@@ -1,5 +1,5 @@
 use Rattle.std.proofs.Common.{◌≡◌, ◌+◌, ◌++◌, List, drop, length}
-use Rattle.nm_answers.specs.declared.answer.Answer.{Answer}
+use Rattle.nm_serial.specs.declared.answer.Answer.{Answer}
 use Rattle.nm_tree.specs.Workers.{Hand}
 use Rattle.nm_steps.specs.Steps.{IsOf}
 use Rattle.nm_serial.specs.Makes.{PlaysOwn, StopsOwn}

@@ -1,8 +1,8 @@
 -- Lines with what they were answered.
 use Rattle.std.proofs.Common.{◌≡◌, ℕ, ◌≤◌, List, [], ◌∷◌, ◌++◌, length, drop, refl, sym, ◌∙◌}
 use Rattle.std.proofs.lemmas.List.{append-nil, drop_all}
-use Rattle.nm_answers.specs.declared.answer.Answer.{Answer}
-use Rattle.nm_answers.specs.Texts.{lines}
+use Rattle.nm_serial.specs.declared.answer.Answer.{Answer}
+use Rattle.nm_serial.specs.AnswerLines.{lines}
 
 pub no_answers : (ls : List (List ℕ)) → lines ls [] ≡ []
 no_answers [] = refl

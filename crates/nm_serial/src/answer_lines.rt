@@ -1,7 +1,7 @@
 //! How what a line was answered is written.
 ghost use Rattle.std.specs.Prelude.{◌≡◌, ◌++◌, codes, OnOk};
 ghost use Rattle.nm_files.specs.Lines.{parts};
-ghost use Rattle.nm_answers.specs.Texts as spec;
+ghost use Rattle.nm_serial.specs.AnswerLines as spec;
 
 use crate::answer::{Answer, Refusal};
 use nm_files::pieces::cut;
@@ -25,7 +25,7 @@ fn put_numbers(
 
 /// The words of a line that made no call.
 fn refusal_word(refusal: Refusal) -> &'static [u8]
-    ensures { result.now ≡ spec.refusal refusal }
+    ensures { result.now ≡ spec.refusal_words refusal }
 {
     match refusal {
         Refusal::Gone => b"refused gone",

@@ -1,6 +1,6 @@
 //! What a line of a script is answered.
 ghost use Rattle.std.specs.Prelude.{◌≡◌};
-ghost use Rattle.nm_answers.specs.Answers as spec;
+ghost use Rattle.nm_serial.specs.Answers as spec;
 
 use nm_tree::{Advance, Collected, Fault, PinFault};
 
@@ -51,7 +51,7 @@ pub enum Answer {
 /// What a look-up, an insert, a delete or a finish has answered; `None` where it was refused
 /// memory.
 pub fn of_change(changed: Result<bool, Fault>) -> Option<Answer>
-    ensures { result ≡ spec.of_change changed }
+    ensures { result ≡ spec.change_answer changed }
 {
     match changed {
         Ok(answer) => Some(Answer::Said(answer)),
@@ -65,7 +65,7 @@ pub fn of_change(changed: Result<bool, Fault>) -> Option<Answer>
 
 /// What a pin has answered.
 pub fn of_pin(pinned: Result<u64, PinFault>) -> Answer
-    ensures { result ≡ spec.of_pin pinned }
+    ensures { result ≡ spec.pin_answer pinned }
 {
     match pinned {
         Ok(epoch) => Answer::Pinned(epoch),
@@ -76,7 +76,7 @@ pub fn of_pin(pinned: Result<u64, PinFault>) -> Answer
 
 /// What an advance of the epoch has answered.
 pub fn of_advance(advance: Advance) -> Answer
-    ensures { result ≡ spec.of_advance advance }
+    ensures { result ≡ spec.advance_answer advance }
 {
     match advance {
         Advance::Moved { epoch } => Answer::Moved(epoch),
@@ -88,7 +88,7 @@ pub fn of_advance(advance: Advance) -> Answer
 
 /// What a collection has answered.
 pub fn of_collection(collected: Collected) -> Answer
-    ensures { result ≡ spec.of_collection collected }
+    ensures { result ≡ spec.collection_answer collected }
 {
     Answer::Collected {
         epoch: collected.epoch,

@@ -1,7 +1,7 @@
 //! The last lines: what became of the nodes that each worker cut off, the keys of the set, and how
 //! many slots stand where.
 ghost use Rattle.std.specs.Prelude.{◌≡◌, ◌++◌, codes, OnOk};
-ghost use Rattle.nm_answers.specs.Endings as spec;
+ghost use Rattle.nm_serial.specs.ClosedLines as spec;
 
 use nm_epoch::Entry;
 use nm_limbo::BlockQueue;
@@ -12,7 +12,7 @@ use std::alloc::AllocError;
 
 /// Appends the entries of a queue, each after a space, and takes them out of it.
 fn put_spaced_entries(out: &mut Vec<u8>, queue: &mut BlockQueue<Entry>) -> Result<(), AllocError>
-    ensures { OnOk result (out.new.items ≡ out.old.items ++ spec.spaced_entries queue.old.items) }
+    ensures { OnOk result (out.new.items ≡ out.old.items ++ spec.spaced_waiting queue.old.items) }
 {
     while let Some(entry) = queue.pop() {
         let queued = Queued {
@@ -26,7 +26,7 @@ fn put_spaced_entries(out: &mut Vec<u8>, queue: &mut BlockQueue<Entry>) -> Resul
 
 /// Appends each entry of a queue after a space, or a dash where there is none.
 fn put_queue(out: &mut Vec<u8>, queue: &mut BlockQueue<Entry>) -> Result<(), AllocError>
-    ensures { OnOk result (out.new.items ≡ out.old.items ++ spec.queue queue.old.items) }
+    ensures { OnOk result (out.new.items ≡ out.old.items ++ spec.waiting_text queue.old.items) }
 {
     if queue.is_empty() {
         return out.extend_from_slice(b" -");
@@ -36,7 +36,7 @@ fn put_queue(out: &mut Vec<u8>, queue: &mut BlockQueue<Entry>) -> Result<(), All
 
 /// Appends the line of a worker: how many nodes its splices cut off, how many of them were freed,
 /// and those that wait, which are taken out of the queue.
-#[tactic(auto, unfolding(crate::specs::Endings::worker_line))]
+#[tactic(auto, unfolding(crate::specs::ClosedLines::closed_worker_line))]
 pub fn put_worker(
     out: &mut Vec<u8>,
     worker: u32,
@@ -45,7 +45,7 @@ pub fn put_worker(
     queue: &mut BlockQueue<Entry>,
 ) -> Result<(), AllocError>
     ensures { OnOk result (out.new.items
-        ≡ out.old.items ++ spec.worker_line worker retired freed queue.old.items) }
+        ≡ out.old.items ++ spec.closed_worker_line worker retired freed queue.old.items) }
 {
     put_number(out, b"worker ", u64::from(worker))?;
     put_number(out, b" retired ", retired)?;
@@ -57,14 +57,14 @@ pub fn put_worker(
 
 /// Appends the line of how many slots above 5 are in the pool, reached from the root, and in
 /// queues.
-#[tactic(auto, unfolding(crate::specs::Endings::places_line))]
+#[tactic(auto, unfolding(crate::specs::ClosedLines::closed_places_line))]
 pub fn put_closed_places(
     out: &mut Vec<u8>,
     pool: u32,
     reached: u32,
     queued: u64,
 ) -> Result<(), AllocError>
-    ensures { OnOk result (out.new.items ≡ out.old.items ++ spec.places_line pool reached queued) }
+    ensures { OnOk result (out.new.items ≡ out.old.items ++ spec.closed_places_line pool reached queued) }
 {
     put_number(out, b"places pool ", u64::from(pool))?;
     put_number(out, b" reached ", u64::from(reached))?;

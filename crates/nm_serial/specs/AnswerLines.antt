@@ -1,19 +1,19 @@
 -- How answers are written.
 use Rattle.std.specs.Prelude.{ℕ, true, false, List, [], ◌∷◌, ◌++◌, codes, decimal}
-use Rattle.nm_answers.specs.declared.answer.Refusal.{Refusal}
-use Rattle.nm_answers.specs.declared.answer.Refusal.TheVariants as refused
-use Rattle.nm_answers.specs.declared.answer.Answer.{Answer}
-use Rattle.nm_answers.specs.declared.answer.Answer.TheVariants.{Said, Busy, Full, Unfinished, Pending, Pinned, Moved, Left, Held, Lost, Spent, Collected, Resigned, Refused}
+use Rattle.nm_serial.specs.declared.answer.Refusal.{Refusal}
+use Rattle.nm_serial.specs.declared.answer.Refusal.TheVariants as refused
+use Rattle.nm_serial.specs.declared.answer.Answer.{Answer}
+use Rattle.nm_serial.specs.declared.answer.Answer.TheVariants.{Said, Busy, Full, Unfinished, Pending, Pinned, Moved, Left, Held, Lost, Spent, Collected, Resigned, Refused}
 
 -- a word and two numbers with a word between them
 abbrev pub two_numbers : List ℕ → ℕ → List ℕ → ℕ → List ℕ
 two_numbers word first between second = (word ++ decimal first) ++ (between ++ decimal second)
 
 -- how a refusal is spelled
-abbrev pub refusal : Refusal → List ℕ
-refusal refused.Gone = codes "refused gone"
-refusal refused.Held = codes "refused held"
-refusal refused.Idle = codes "refused idle"
+abbrev pub refusal_words : Refusal → List ℕ
+refusal_words refused.Gone = codes "refused gone"
+refusal_words refused.Held = codes "refused held"
+refusal_words refused.Idle = codes "refused idle"
 
 -- how an answer is spelled
 abbrev pub answer : Answer → List ℕ
@@ -31,7 +31,7 @@ answer (Lost e) = codes "lost " ++ decimal e
 answer Spent = codes "spent"
 answer (Collected e n) = two_numbers (codes "epoch ") e (codes " freed ") n
 answer Resigned = codes "resigned"
-answer (Refused r) = refusal r
+answer (Refused r) = refusal_words r
 
 -- a line of the file with what it was answered
 abbrev pub line : List ℕ → Answer → List ℕ

@@ -1,0 +1,36 @@
+-- What a line of a script is answered, by what its call answered.
+use Rattle.std.specs.Prelude.{ℕ, Bool, Option, Some, None, Result, Ok, Err}
+use Rattle.nm_epoch.specs.declared.answers.Advance.{Advance}
+use Rattle.nm_epoch.specs.declared.answers.Advance.TheVariants as advance
+use Rattle.nm_epoch.specs.declared.collecting.Collected.{Collected}
+use Rattle.nm_tree.specs.declared.fault.Fault.{Fault}
+use Rattle.nm_tree.specs.declared.fault.Fault.TheVariants as fault
+use Rattle.nm_tree.specs.declared.fault.PinFault.{PinFault}
+use Rattle.nm_tree.specs.declared.fault.PinFault.TheVariants as pinning
+use Rattle.nm_serial.specs.declared.answer.Answer.{Answer}
+use Rattle.nm_serial.specs.declared.answer.Answer.TheVariants as answer
+
+-- of has, insert, delete and finish; nothing where memory was refused
+abbrev pub change_answer : Result Bool Fault → Option Answer
+change_answer (Ok b) = Some (answer.Said b)
+change_answer (Err fault.Busy) = Some answer.Busy
+change_answer (Err fault.Full) = Some answer.Full
+change_answer (Err fault.NoMemory) = None
+change_answer (Err fault.Unfinished) = Some answer.Unfinished
+change_answer (Err fault.Pending) = Some answer.Pending
+
+-- `pin_answer`, `advance_answer`, `collection_answer`: of a pin, of a move of the epoch, and of a
+-- collection
+abbrev pub pin_answer : Result ℕ PinFault → Answer
+pin_answer (Ok epoch) = answer.Pinned epoch
+pin_answer (Err (pinning.Moved epoch)) = answer.Moved epoch
+pin_answer (Err pinning.Pending) = answer.Pending
+
+abbrev pub advance_answer : Advance → Answer
+advance_answer (advance.Moved epoch) = answer.Moved epoch
+advance_answer (advance.Held worker epoch) = answer.Held worker epoch
+advance_answer (advance.Lost epoch) = answer.Lost epoch
+advance_answer advance.Spent = answer.Spent
+
+abbrev pub collection_answer : Collected → Answer
+collection_answer c = answer.Collected c.epoch c.freed
