@@ -6,3 +6,4 @@ pub mod FileLemmas
 pub mod ReasonLemmas
 pub mod StreamLemmas
 pub mod LimitLemmas
+pub mod ResultLemmas

@@ -19,7 +19,8 @@ use Rattle.nm_files.specs.Chain.{◌>>=◌}
 use Rattle.nm_files.specs.Lines.{number, is_numeral, place, fields, is_field}
 use Rattle.nm_files.specs.Kinds.{word, kinds, kind_of, event_of, node_field, side_of, op_of, answer_of, key, is_key, sight_for, leave_with, scan, claim, give, look, fill, link, flag, tag, splice}
 use Rattle.nm_files.specs.Schedules.{entry_of, with_worker, worker_of, line_of, first_line_of}
-use Rattle.nm_files.specs.Headers.{limits_of, header_of, header_by, header_within, count, not_within}
+use Rattle.nm_files.specs.Headers.{limits_of, header_of, header_by, header_within, count}
+use Rattle.nm_model.specs.Step.{outside}
 use Rattle.nm_files.specs.declared.header.Limits.{Limits}
 use Rattle.nm_files.specs.declared.header.Header.{Header}
 use Rattle.nm_files.specs.Files.{at, checked, is_long}
@@ -320,9 +321,9 @@ two_least command version nodes workers limits named =
       | inl e ↦ rw (header_said, named, e) refl
       | inr n ↦ elim (number_gives workers) [
         | inl e ↦ rw (header_said, named, n.1, e) refl
-        | inr w ↦ elim (cases_Bool (not_within 7 limits.nodes n.0)) [
+        | inr w ↦ elim (cases_Bool (outside 7 limits.nodes n.0)) [
           | inl y ↦ rw (header_said, named, n.1, w.1, y) refl
-          | inr y ↦ elim (cases_Bool (not_within 1 limits.workers w.0)) [ inl z ↦ rw (header_said, named, n.1, w.1, y, z) refl | inr z ↦ rw (header_said, named, n.1, w.1, y, z) refl ]
+          | inr y ↦ elim (cases_Bool (outside 1 limits.workers w.0)) [ inl z ↦ rw (header_said, named, n.1, w.1, y, z) refl | inr z ↦ rw (header_said, named, n.1, w.1, y, z) refl ]
         ]
       ]
     ]

@@ -1,6 +1,6 @@
 -- The first line of a schedule: its version, how many nodes and workers it is for, and whether its
 -- core is ordered.
-use Rattle.std.specs.Prelude.{ℕ, List, [], ◌∷◌, codes, Bool, true, false, ◌||◌, nat_lt, Result, Ok, Err, if◌then◌else◌}
+use Rattle.std.specs.Prelude.{ℕ, List, [], ◌∷◌, codes, Bool, true, false, Result, Ok, Err, if◌then◌else◌}
 use Rattle.std.specs.Str.{bytes_eq}
 use Rattle.nm_edge.specs.Layouts.{dense}
 use Rattle.nm_files.specs.declared.fault.Reason.{Reason}
@@ -9,6 +9,7 @@ use Rattle.nm_files.specs.declared.header.Limits.{Limits}
 use Rattle.nm_files.specs.declared.header.Header.{Header}
 use Rattle.nm_files.specs.Chain.{◌>>=◌}
 use Rattle.nm_files.specs.Lines.{number}
+use Rattle.nm_model.specs.Step.{outside}
 
 -- the sizes that a version of the format allows, and whether an ordered core plays it
 abbrev pub limits_by : List ℕ → Result Limits Reason
@@ -35,15 +36,11 @@ in_header (Err r) = Err reason.Header
 abbrev pub count : List ℕ → Result ℕ Reason
 count field = in_header (number field)
 
--- not low to high
-abbrev pub not_within : ℕ → ℕ → ℕ → Bool
-not_within low high n = nat_lt n low || nat_lt high n
-
 -- 7 nodes or more, 1 worker or more, and no more than the version allows
 abbrev pub header_within : Limits → ℕ → ℕ → Result Header Reason
 header_within limits nodes workers =
-    if not_within 7 limits.nodes nodes then Err reason.Nodes
-    else if not_within 1 limits.workers workers then Err reason.Workers
+    if outside 7 limits.nodes nodes then Err reason.Nodes
+    else if outside 1 limits.workers workers then Err reason.Workers
     else Ok (record { layout = dense nodes workers; is_ordered = limits.is_ordered })
 
 unfoldable pub header_by : Limits → List ℕ → List ℕ → Result Header Reason

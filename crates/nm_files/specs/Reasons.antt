@@ -9,7 +9,8 @@ use Rattle.nm_files.specs.Lines.{fields, is_field, number, place}
 use Rattle.nm_files.specs.Kinds.{kind_of, node_field, side_of, op_of, answer_of, is_key, is_of_operation}
 use Rattle.nm_files.specs.declared.header.Limits.{Limits}
 use Rattle.nm_files.specs.declared.header.Header.{Header as HeaderOf}
-use Rattle.nm_files.specs.Headers.{limits_of, not_within}
+use Rattle.nm_files.specs.Headers.{limits_of}
+use Rattle.nm_model.specs.Step.{outside}
 use Rattle.nm_files.specs.Files.{Fault, is_long}
 
 -- ---- the arguments of each kind
@@ -127,7 +128,7 @@ header_limits _ = Err Header
 
 -- a number of the header is above or below what there may be, where it is a number
 abbrev pub is_no_size : ℕ → ℕ → List ℕ → Bool
-is_no_size least most field = fails_at (λ n. not (not_within least most n)) (number field)
+is_no_size least most field = fails_at (λ n. not (outside least most n)) (number field)
 
 abbrev pub header_holds_of : Bool → List (List ℕ) → Reason → Bool
 header_holds_of long fs Long = long

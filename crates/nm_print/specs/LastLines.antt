@@ -8,30 +8,30 @@ use Rattle.nm_model.specs.Runs.{State}
 use Rattle.nm_model.specs.Reports.{ledger_of, counts, keys}
 use Rattle.nm_model.specs.declared.places.Places.{Places}
 use Rattle.nm_files.specs.declared.header.Header.{Header}
-use Rattle.nm_print.specs.Replies.{node, spaced_nodes}
+use Rattle.nm_print.specs.Replies.{node_text, spaced_nodes}
 
 -- each node after a space, or a dash where there is none
-abbrev pub nodes : List NodeId → List ℕ
-nodes [] = codes " -"
-nodes (n ∷ ns) = spaced_nodes (n ∷ ns)
+abbrev pub nodes_text : List NodeId → List ℕ
+nodes_text [] = codes " -"
+nodes_text (n ∷ ns) = spaced_nodes (n ∷ ns)
 
 -- the label of an entry, or a dash while it has none
-abbrev pub label : Option ℕ → List ℕ
-label None = codes "-"
-label (Some e) = decimal e
+abbrev pub label_text : Option ℕ → List ℕ
+label_text None = codes "-"
+label_text (Some e) = decimal e
 
 -- a node, an at sign and its label
-abbrev pub entry : Queued → List ℕ
-entry q = node q.node ++ (codes "@" ++ label q.label)
+abbrev pub entry_text : Queued → List ℕ
+entry_text q = node_text q.node ++ (codes "@" ++ label_text q.label)
 
 abbrev pub spaced_entries : List Queued → List ℕ
 spaced_entries [] = []
-spaced_entries (q ∷ qs) = (codes " " ++ entry q) ++ spaced_entries qs
+spaced_entries (q ∷ qs) = (codes " " ++ entry_text q) ++ spaced_entries qs
 
 -- each entry after a space, or a dash where there is none
-abbrev pub queue : List Queued → List ℕ
-queue [] = codes " -"
-queue (q ∷ qs) = spaced_entries (q ∷ qs)
+abbrev pub queue_text : List Queued → List ℕ
+queue_text [] = codes " -"
+queue_text (q ∷ qs) = spaced_entries (q ∷ qs)
 
 -- a line of what a worker's splices cut off
 abbrev pub worker_line : ℕ → List ℕ → List ℕ → List ℕ
@@ -41,9 +41,9 @@ worker_line worker what list = codes "worker " ++ decimal worker ++ (what ++ (li
 abbrev pub ledger_lines : ℕ → Option Ledger → List ℕ
 ledger_lines worker None = []
 ledger_lines worker (Some l) =
-    worker_line worker (codes " retired") (nodes l.retired)
-    ++ (worker_line worker (codes " freed") (nodes l.freed)
-    ++ worker_line worker (codes " queue") (queue l.queue))
+    worker_line worker (codes " retired") (nodes_text l.retired)
+    ++ (worker_line worker (codes " freed") (nodes_text l.freed)
+    ++ worker_line worker (codes " queue") (queue_text l.queue))
 
 -- the lines of the first so many workers, by number
 abbrev pub workers_lines : State → ℕ → List ℕ
@@ -68,13 +68,13 @@ spaced_numbers [] = []
 spaced_numbers (k ∷ ks) = (codes " " ++ decimal k) ++ spaced_numbers ks
 
 -- each number after a space, or a dash where there is none
-abbrev pub numbers : List ℕ → List ℕ
-numbers [] = codes " -"
-numbers (k ∷ ks) = spaced_numbers (k ∷ ks)
+abbrev pub numbers_text : List ℕ → List ℕ
+numbers_text [] = codes " -"
+numbers_text (k ∷ ks) = spaced_numbers (k ∷ ks)
 
 -- the keys of the set from left to right
 abbrev pub keys_line : List ℕ → List ℕ
-keys_line ks = codes "keys" ++ (numbers ks ++ codes "\n")
+keys_line ks = codes "keys" ++ (numbers_text ks ++ codes "\n")
 
 -- the line of the keys, in an ordered file alone
 abbrev pub keys_line_in : Bool → State → List ℕ

@@ -24,46 +24,47 @@ refusal_number NotOrdered = 12
 refusal_number NoAnswer = 13
 
 -- a slot, followed by f where the edge is flagged and t where it is tagged
-abbrev pub edge : Edge → List ℕ
-edge e = decimal e.slot ++ ((if e.flag then codes "f" else []) ++ (if e.tag then codes "t" else []))
+abbrev pub edge_text : Edge → List ℕ
+edge_text e = decimal e.slot
+    ++ ((if e.flag then codes "f" else []) ++ (if e.tag then codes "t" else []))
 
 -- a slot, a dot and a birth
-abbrev pub node : NodeId → List ℕ
-node n = decimal n.slot ++ (codes "." ++ decimal n.birth)
+abbrev pub node_text : NodeId → List ℕ
+node_text n = decimal n.slot ++ (codes "." ++ decimal n.birth)
 
 -- each node after a space
 abbrev pub spaced_nodes : List NodeId → List ℕ
 spaced_nodes [] = []
-spaced_nodes (n ∷ ns) = (codes " " ++ node n) ++ spaced_nodes ns
+spaced_nodes (n ∷ ns) = (codes " " ++ node_text n) ++ spaced_nodes ns
 
 -- how a reply is spelled
-abbrev pub reply : Reply → List ℕ
-reply (Saw e) = codes "saw " ++ decimal e
-reply (Labelled e) = codes "label " ++ decimal e
-reply (Pinned e) = codes "pinned " ++ decimal e
-reply (Missed e) = codes "lost " ++ decimal e
-reply (Announced e) = codes "announced " ++ decimal e
-reply Departed = codes "left"
-reply Idle = codes "idle"
-reply (In e) = codes "in " ++ decimal e
-reply (Moved e) = codes "moved " ++ decimal e
-reply (Behind e) = codes "lost " ++ decimal e
-reply (Claimed s) = codes "claimed " ++ decimal s
-reply Taken = codes "lost"
-reply (Returned s) = codes "returned " ++ decimal s
-reply (Freed n) = codes "freed " ++ node n
-reply (KeyIs k) = codes "key " ++ decimal k
-reply (BirthIs b) = codes "birth " ++ decimal b
-reply (EdgeIs e) = codes "edge " ++ edge e
-reply Filled = codes "filled"
-reply (Linked n) = codes "linked " ++ node n
-reply (Flagged n) = codes "flagged " ++ node n
-reply (Was e) = codes "was " ++ edge e
-reply (Cut ns) = codes "cut" ++ spaced_nodes ns
-reply (Lost e) = codes "lost " ++ edge e
-reply (Joined ls) = codes "joined"
+abbrev pub reply_text : Reply → List ℕ
+reply_text (Saw e) = codes "saw " ++ decimal e
+reply_text (Labelled e) = codes "label " ++ decimal e
+reply_text (Pinned e) = codes "pinned " ++ decimal e
+reply_text (Missed e) = codes "lost " ++ decimal e
+reply_text (Announced e) = codes "announced " ++ decimal e
+reply_text Departed = codes "left"
+reply_text Idle = codes "idle"
+reply_text (In e) = codes "in " ++ decimal e
+reply_text (Moved e) = codes "moved " ++ decimal e
+reply_text (Behind e) = codes "lost " ++ decimal e
+reply_text (Claimed s) = codes "claimed " ++ decimal s
+reply_text Taken = codes "lost"
+reply_text (Returned s) = codes "returned " ++ decimal s
+reply_text (Freed n) = codes "freed " ++ node_text n
+reply_text (KeyIs k) = codes "key " ++ decimal k
+reply_text (BirthIs b) = codes "birth " ++ decimal b
+reply_text (EdgeIs e) = codes "edge " ++ edge_text e
+reply_text Filled = codes "filled"
+reply_text (Linked n) = codes "linked " ++ node_text n
+reply_text (Flagged n) = codes "flagged " ++ node_text n
+reply_text (Was e) = codes "was " ++ edge_text e
+reply_text (Cut ns) = codes "cut" ++ spaced_nodes ns
+reply_text (Lost e) = codes "lost " ++ edge_text e
+reply_text (Joined ls) = codes "joined"
 
 -- what an event was answered
-abbrev pub outcome : Result Reply Refused → List ℕ
-outcome (Ok r) = reply r
-outcome (Err r) = codes "refused " ++ decimal (refusal_number r)
+abbrev pub outcome_text : Result Reply Refused → List ℕ
+outcome_text (Ok r) = reply_text r
+outcome_text (Err r) = codes "refused " ++ decimal (refusal_number r)

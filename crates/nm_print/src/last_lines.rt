@@ -16,7 +16,7 @@ use std::alloc::AllocError;
 
 /// Appends each node after a space, or a dash where there is none.
 fn put_nodes(out: &mut Vec<u8>, nodes: &[NodeId]) -> Result<(), AllocError>
-    ensures { OnOk result (out.new.items ≡ out.old.items ++ spec.nodes nodes.now) }
+    ensures { OnOk result (out.new.items ≡ out.old.items ++ spec.nodes_text nodes.now) }
 {
     if nodes.is_empty() {
         return out.extend_from_slice(b" -");
@@ -26,7 +26,7 @@ fn put_nodes(out: &mut Vec<u8>, nodes: &[NodeId]) -> Result<(), AllocError>
 
 /// Appends a label, or a dash where there is none yet.
 fn put_label(out: &mut Vec<u8>, label: Option<u64>) -> Result<(), AllocError>
-    ensures { OnOk result (out.new.items ≡ out.old.items ++ (codes "@" ++ spec.label label)) }
+    ensures { OnOk result (out.new.items ≡ out.old.items ++ (codes "@" ++ spec.label_text label)) }
 {
     match label {
         Some(epoch) => put_number(out, b"@", epoch),
@@ -36,7 +36,7 @@ fn put_label(out: &mut Vec<u8>, label: Option<u64>) -> Result<(), AllocError>
 
 /// Appends a space, and an entry of a queue: its node, an at sign and its label.
 pub fn put_entry(out: &mut Vec<u8>, entry: Queued) -> Result<(), AllocError>
-    ensures { OnOk result (out.new.items ≡ out.old.items ++ (codes " " ++ spec.entry entry)) }
+    ensures { OnOk result (out.new.items ≡ out.old.items ++ (codes " " ++ spec.entry_text entry)) }
 {
     put_node(out, b" ", entry.node)?;
     put_label(out, entry.label)
@@ -54,7 +54,7 @@ fn put_spaced_entries(out: &mut Vec<u8>, entries: &[Queued]) -> Result<(), Alloc
 
 /// Appends each entry of a queue after a space, or a dash where there is none.
 fn put_queue(out: &mut Vec<u8>, entries: &[Queued]) -> Result<(), AllocError>
-    ensures { OnOk result (out.new.items ≡ out.old.items ++ spec.queue entries.now) }
+    ensures { OnOk result (out.new.items ≡ out.old.items ++ spec.queue_text entries.now) }
 {
     if entries.is_empty() {
         return out.extend_from_slice(b" -");
@@ -70,7 +70,7 @@ fn put_nodes_line(
     nodes: &[NodeId],
 ) -> Result<(), AllocError>
     ensures { OnOk result (out.new.items
-        ≡ out.old.items ++ spec.worker_line worker what.now (spec.nodes nodes.now)) }
+        ≡ out.old.items ++ spec.worker_line worker what.now (spec.nodes_text nodes.now)) }
 {
     put_number(out, b"worker ", u64::from(worker))?;
     out.extend_from_slice(what)?;
@@ -81,7 +81,7 @@ fn put_nodes_line(
 /// Appends the line of the queue of what a worker's splices cut off.
 fn put_queue_line(out: &mut Vec<u8>, worker: u32, entries: &[Queued]) -> Result<(), AllocError>
     ensures { OnOk result (out.new.items
-        ≡ out.old.items ++ spec.worker_line worker (codes " queue") (spec.queue entries.now)) }
+        ≡ out.old.items ++ spec.worker_line worker (codes " queue") (spec.queue_text entries.now)) }
 {
     put_number(out, b"worker ", u64::from(worker))?;
     out.extend_from_slice(b" queue")?;
@@ -144,7 +144,7 @@ fn put_spaced_keys(out: &mut Vec<u8>, keys: &[Key]) -> Result<(), AllocError>
 
 /// Appends each key after a space, or a dash where there is none.
 fn put_keys(out: &mut Vec<u8>, keys: &[Key]) -> Result<(), AllocError>
-    ensures { OnOk result (out.new.items ≡ out.old.items ++ spec.numbers keys.now) }
+    ensures { OnOk result (out.new.items ≡ out.old.items ++ spec.numbers_text keys.now) }
 {
     if keys.is_empty() {
         return out.extend_from_slice(b" -");

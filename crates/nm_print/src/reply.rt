@@ -19,7 +19,7 @@ pub fn put_number(out: &mut Vec<u8>, word: &[u8], n: u64) -> Result<(), AllocErr
 /// Appends a word, and an edge: its slot, followed by `f` where it is flagged and `t` where it is
 /// tagged.
 fn put_edge(out: &mut Vec<u8>, word: &[u8], edge: Edge) -> Result<(), AllocError>
-    ensures { OnOk result (out.new.items ≡ out.old.items ++ (word.now ++ spec.edge edge)) }
+    ensures { OnOk result (out.new.items ≡ out.old.items ++ (word.now ++ spec.edge_text edge)) }
 {
     put_number(out, word, u64::from(edge.slot()))?;
     if edge.flag() {
@@ -33,7 +33,7 @@ fn put_edge(out: &mut Vec<u8>, word: &[u8], edge: Edge) -> Result<(), AllocError
 
 /// Appends a word, and a node: its slot, a dot and its birth.
 pub fn put_node(out: &mut Vec<u8>, word: &[u8], node: NodeId) -> Result<(), AllocError>
-    ensures { OnOk result (out.new.items ≡ out.old.items ++ (word.now ++ spec.node node)) }
+    ensures { OnOk result (out.new.items ≡ out.old.items ++ (word.now ++ spec.node_text node)) }
 {
     put_number(out, word, u64::from(node.slot))?;
     put_number(out, b".", node.birth)
@@ -60,7 +60,7 @@ fn put_cut(out: &mut Vec<u8>, nodes: &[NodeId]) -> Result<(), AllocError>
 
 /// Appends a reply.
 fn put_reply(out: &mut Vec<u8>, reply: &Reply) -> Result<(), AllocError>
-    ensures { OnOk result (out.new.items ≡ out.old.items ++ spec.reply reply.now) }
+    ensures { OnOk result (out.new.items ≡ out.old.items ++ spec.reply_text reply.now) }
 {
     match reply {
         Reply::Saw(epoch) => put_number(out, b"saw ", *epoch),
@@ -113,7 +113,7 @@ fn refusal_number(refused: Refused) -> u64
 
 /// Appends what an event was answered.
 pub fn put_outcome(out: &mut Vec<u8>, outcome: &Result<Reply, Refused>) -> Result<(), AllocError>
-    ensures { OnOk result (out.new.items ≡ out.old.items ++ spec.outcome outcome.now) }
+    ensures { OnOk result (out.new.items ≡ out.old.items ++ spec.outcome_text outcome.now) }
 {
     match outcome {
         Ok(reply) => put_reply(out, reply),

@@ -36,11 +36,3 @@ tells_text (Some input) bytes text old new read is wrote = rw (sym (enough (Some
 pub tells_right : (known : Option (List ℕ)) (bytes text : List ℕ) → IfSome known (λ input. bytes ≡ take 12100122 input) → output_of bytes ≡ Ok text → IfSome known (λ input. IsOk (output_of input))
 tells_right None bytes text read is = tt
 tells_right (Some input) bytes text read is = rw (sym (enough (Some input) bytes read) ∙ is) refl
-
-pub ok_then : {X E : Type 0} {P Q : Type 0} (r : Result X E) → (P → Q) → OnOk r P → OnOk r Q
-ok_then (Ok x) f p = f p
-ok_then (Err e) f p = tt
-
-pub err_always : {X E : Type 0} (r : Result X E) (P : E → Type 0) → ((e : E) → P e) → IfErr r P
-err_always (Ok x) P p = tt
-err_always (Err e) P p = p e

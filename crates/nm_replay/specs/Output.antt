@@ -12,7 +12,7 @@ use Rattle.nm_files.specs.Chain.{◌>>=◌}
 use Rattle.nm_files.specs.Lines.{parts}
 use Rattle.nm_files.specs.Files.{Fault}
 use Rattle.nm_files.specs.Schedules.{Schedule, schedule_of}
-use Rattle.nm_print.specs.Replies.{outcome}
+use Rattle.nm_print.specs.Replies.{outcome_text}
 use Rattle.nm_print.specs.LastLines.{workers_lines, epoch_line, places_line, last_lines}
 
 -- each line with what its event was answered
@@ -20,16 +20,16 @@ abbrev pub lines_with : List (List ℕ) → List Turn → List ℕ
 lines_with [] turns = []
 lines_with (line ∷ lines) [] = []
 lines_with (line ∷ lines) (turn ∷ turns) =
-    line ++ codes " = " ++ outcome turn.outcome ++ codes "\n" ++ lines_with lines turns
+    line ++ codes " = " ++ outcome_text turn.outcome ++ codes "\n" ++ lines_with lines turns
 
 -- the core that plays a file with that header, at its opening
-abbrev pub opening : Header → Configuration
-opening header = opening_of header.layout header.is_ordered
+abbrev pub opening_core : Header → Configuration
+opening_core header = opening_of header.layout header.is_ordered
 
 -- what is written for a schedule whose lines from the second on are these
 abbrev pub text_of : Schedule → List (List ℕ) → List ℕ
-text_of s lines = lines_with lines (trace_in (opening s.header) s.entries)
-    ++ last_lines s.header (after_in (opening s.header) s.entries).state
+text_of s lines = lines_with lines (trace_in (opening_core s.header) s.entries)
+    ++ last_lines s.header (after_in (opening_core s.header) s.entries).state
 
 -- what the last state of a file that is not ordered is told by
 abbrev pub plain_lines : ℕ → State → List ℕ

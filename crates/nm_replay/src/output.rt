@@ -1,7 +1,7 @@
 //! What is written for a schedule.
 ghost use Rattle.std.specs.Prelude.{◌≡◌, ◌++◌, codes, IfOk, OnOk};
 ghost use Rattle.nm_files.specs.Lines.{parts};
-ghost use Rattle.nm_print.specs.Replies.{outcome};
+ghost use Rattle.nm_print.specs.Replies.{outcome_text};
 ghost use Rattle.nm_print.specs.LastLines.{last_lines};
 ghost use Rattle.nm_replay.specs.Output as spec;
 
@@ -16,7 +16,8 @@ use std::alloc::{AllocError, Global};
 /// Appends a line of the file with what its event was answered.
 fn put_line(out: &mut Vec<u8>, line: &[u8], turn: &Turn) -> Result<(), AllocError>
     ensures { OnOk result (out.new.items
-        ≡ out.old.items ++ (line.now ++ codes " = " ++ outcome turn.now.outcome ++ codes "\n")) }
+        ≡ out.old.items
+        ++ (line.now ++ codes " = " ++ outcome_text turn.now.outcome ++ codes "\n")) }
 {
     out.extend_from_slice(line)?;
     out.extend_from_slice(b" = ")?;

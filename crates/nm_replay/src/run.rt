@@ -1,7 +1,7 @@
 //! The commands, from a reader to a writer.
 ghost use Rattle.std.specs.Prelude.{◌≡◌, ◌≢◌, drop, Some, IfSome, IfOk, OnOk, IfErr, IsOk};
 ghost use Rattle.nm_files.specs.Files.{Gives, IfLine, HasJudged};
-ghost use Rattle.nm_replay.specs.Output.{opening, output_of, Writes};
+ghost use Rattle.nm_replay.specs.Output.{opening_core, output_of, Writes};
 
 use crate::output::text_of;
 use nm_core::Core;
@@ -14,7 +14,7 @@ use std::io::{Read, Write};
 
 /// The core that plays a file with that header, at its opening.
 fn core_of(alloc: Global, header: &Header) -> Result<Core, RunFault>
-    ensures opening { IfOk result (λ core. core ≡ opening header.now) }
+    ensures opening { IfOk result (λ core. core ≡ opening_core header.now) }
     ensures err { IfErr result (λ e. e ≡ RunFault.NoMemory) }
 {
     match Core::of(alloc, header.layout, header.is_ordered) {

@@ -1,6 +1,7 @@
 //! The kinds of call that a line may name: a word and arguments of each.
 ghost use Rattle.std.specs.Prelude.{◌≡◌, ◌<◌, map, IfOk};
-ghost use Rattle.nm_scripts.specs.Calls.{MayStand, Fits};
+ghost use Rattle.nm_files.specs.Kinds.{alone};
+ghost use Rattle.nm_scripts.specs.Calls.{MayStand, FitsKind};
 ghost use Rattle.nm_scripts.specs.Calls as spec;
 
 use nm_edge::Key;
@@ -54,7 +55,7 @@ const KINDS: [Kind; 9] = [
 impl Kind {
     /// The word by which a line names it.
     pub fn word(self) -> &'static [u8]
-        ensures { result.now ≡ spec.word self }
+        ensures { result.now ≡ spec.call_word self }
     {
         match self {
             Kind::Has => b"has",
@@ -72,8 +73,8 @@ impl Kind {
     /// The call of this kind with these arguments, in a file of so many workers.
     /// `Fields` comes before `Number`, and `Number` before `Worker`, of the heir, and `Key`.
     pub fn call(self, workers: u32, arguments: &[&[u8]]) -> Result<Call, Reason>
-        ensures call { result ≡ spec.call_of workers self (map (λ f. f.now) arguments.now) }
-        ensures fits { IfOk result (Fits workers self) }
+        ensures call { result ≡ spec.call_of_kind workers self (map (λ f. f.now) arguments.now) }
+        ensures fits { IfOk result (FitsKind workers self) }
     {
         match self {
             Kind::Has => has(arguments),
@@ -91,7 +92,7 @@ impl Kind {
 
 /// The kind whose word this is, of those that every file may have.
 fn named(given: &[u8]) -> Result<Kind, Reason>
-    ensures { result ≡ spec.named given.now }
+    ensures { result ≡ spec.call_named given.now }
 {
     for kind in KINDS {
         if given == kind.word() {
@@ -103,7 +104,7 @@ fn named(given: &[u8]) -> Result<Kind, Reason>
 
 /// The kind whose word this is, in a file that has lines of resigning or not; else `Kind`.
 pub fn kind_of(may_resign: bool, given: &[u8]) -> Result<Kind, Reason>
-    ensures kind { result ≡ spec.kind_of may_resign given.now }
+    ensures kind { result ≡ spec.call_kind_of may_resign given.now }
     ensures may { IfOk result (MayStand may_resign) }
 {
     let kind = named(given)?;
@@ -115,7 +116,7 @@ pub fn kind_of(may_resign: bool, given: &[u8]) -> Result<Kind, Reason>
 
 /// A call without arguments.
 fn alone(arguments: &[&[u8]], call: Call) -> Result<Call, Reason>
-    ensures call { result ≡ spec.alone (map (λ f. f.now) arguments.now) call }
+    ensures call { result ≡ alone (map (λ f. f.now) arguments.now) call }
     ensures given { IfOk result (λ c. c ≡ call) }
 {
     match arguments {
@@ -133,37 +134,37 @@ fn one_key(arguments: &[&[u8]]) -> Result<Key, Reason>
     key_of(key)
 }
 
-#[tactic(auto, unfolding(crate::specs::Calls::has))]
+#[tactic(auto, unfolding(crate::specs::Calls::has_call))]
 fn has(arguments: &[&[u8]]) -> Result<Call, Reason>
-    ensures call { result ≡ spec.has (map (λ f. f.now) arguments.now) }
-    ensures fits { IfOk result (Fits 0 Kind.Has) }
+    ensures call { result ≡ spec.has_call (map (λ f. f.now) arguments.now) }
+    ensures fits { IfOk result (FitsKind 0 Kind.Has) }
 {
     let key = one_key(arguments)?;
     Ok(Call::Has(key))
 }
 
-#[tactic(auto, unfolding(crate::specs::Calls::insert))]
+#[tactic(auto, unfolding(crate::specs::Calls::insert_call))]
 fn insert(arguments: &[&[u8]]) -> Result<Call, Reason>
-    ensures call { result ≡ spec.insert (map (λ f. f.now) arguments.now) }
-    ensures fits { IfOk result (Fits 0 Kind.Insert) }
+    ensures call { result ≡ spec.insert_call (map (λ f. f.now) arguments.now) }
+    ensures fits { IfOk result (FitsKind 0 Kind.Insert) }
 {
     let key = one_key(arguments)?;
     Ok(Call::Insert(key))
 }
 
-#[tactic(auto, unfolding(crate::specs::Calls::delete))]
+#[tactic(auto, unfolding(crate::specs::Calls::delete_call))]
 fn delete(arguments: &[&[u8]]) -> Result<Call, Reason>
-    ensures call { result ≡ spec.delete (map (λ f. f.now) arguments.now) }
-    ensures fits { IfOk result (Fits 0 Kind.Delete) }
+    ensures call { result ≡ spec.delete_call (map (λ f. f.now) arguments.now) }
+    ensures fits { IfOk result (FitsKind 0 Kind.Delete) }
 {
     let key = one_key(arguments)?;
     Ok(Call::Delete(key))
 }
 
-#[tactic(auto, unfolding(crate::specs::Calls::resign))]
+#[tactic(auto, unfolding(crate::specs::Calls::resign_call))]
 fn resign(workers: u32, arguments: &[&[u8]]) -> Result<Call, Reason>
-    ensures call { result ≡ spec.resign workers (map (λ f. f.now) arguments.now) }
-    ensures fits { IfOk result (Fits workers Kind.Resign) }
+    ensures call { result ≡ spec.resign_call workers (map (λ f. f.now) arguments.now) }
+    ensures fits { IfOk result (FitsKind workers Kind.Resign) }
 {
     let heir = one(arguments)?;
     let heir = worker_of(workers, heir)?;

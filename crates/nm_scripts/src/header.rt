@@ -22,7 +22,7 @@ pub enum Command {
 impl Command {
     /// The word by which a header names it.
     pub fn word(self) -> &'static [u8]
-        ensures { result.now ≡ spec.word self }
+        ensures { result.now ≡ spec.command_word self }
     {
         match self {
             Command::Serial => b"serial",
@@ -63,7 +63,7 @@ fn is_serial(command: Command) -> bool
 /// The limits of a version of the format: of 1, 65,536 nodes and 32 workers; of 2, as many as a
 /// layout can have. In version 2 of `serial` workers may resign.
 fn limits_by(command: Command, version: &[u8]) -> Result<Limits, Reason>
-    ensures limits { result ≡ spec.limits_by command version.now }
+    ensures limits { result ≡ spec.script_limits_by command version.now }
     ensures stress { IfOk result (λ limits. SerialAlone command limits.may_resign) }
     ensures few { IfOk result (λ limits. (limits.nodes ≤ MOST_NODES)
         × (limits.workers ≤ MOST_WORKERS)) }
@@ -87,7 +87,7 @@ fn limits_by(command: Command, version: &[u8]) -> Result<Limits, Reason>
 
 /// The limits of a version of the command's format, where the first word names that command.
 fn limits_of(command: Command, word: &[u8], version: &[u8]) -> Result<Limits, Reason>
-    ensures limits { result ≡ spec.limits_of command word.now version.now }
+    ensures limits { result ≡ spec.script_limits_of command word.now version.now }
     ensures stress { IfOk result (λ limits. SerialAlone command limits.may_resign) }
     ensures few { IfOk result (λ limits. (limits.nodes ≤ MOST_NODES)
         × (limits.workers ≤ MOST_WORKERS)) }
@@ -102,7 +102,7 @@ fn limits_of(command: Command, word: &[u8], version: &[u8]) -> Result<Limits, Re
 /// The header of so many nodes, workers and tries.
 fn header_within(limits: Limits, nodes: u64, workers: u64, tries: u64) -> Result<Header, Reason>
     requires { (limits.nodes ≤ MOST_NODES) × (limits.workers ≤ MOST_WORKERS) }
-    ensures says { result ≡ spec.header_within limits nodes workers tries }
+    ensures says { result ≡ spec.script_header_within limits nodes workers tries }
     ensures may { IfOk result (λ h. h.may_resign ≡ limits.may_resign) }
 {
     if nodes < u64::from(LEAST_NODES) || u64::from(limits.nodes) < nodes {
@@ -126,10 +126,10 @@ fn header_within(limits: Limits, nodes: u64, workers: u64, tries: u64) -> Result
 }
 
 /// The header by its last three fields.
-#[tactic(auto, unfolding(crate::specs::Headers::header_by))]
+#[tactic(auto, unfolding(crate::specs::Headers::script_header_by))]
 fn header_by(limits: Limits, nodes: &[u8], workers: &[u8], tries: &[u8]) -> Result<Header, Reason>
     requires { (limits.nodes ≤ MOST_NODES) × (limits.workers ≤ MOST_WORKERS) }
-    ensures says { result ≡ spec.header_by limits nodes.now workers.now tries.now }
+    ensures says { result ≡ spec.script_header_by limits nodes.now workers.now tries.now }
     ensures may { IfOk result (λ h. h.may_resign ≡ limits.may_resign) }
 {
     let nodes = count(nodes)?;
@@ -139,9 +139,9 @@ fn header_by(limits: Limits, nodes: &[u8], workers: &[u8], tries: &[u8]) -> Resu
 }
 
 /// What the fields of the first line say, in a file for that command.
-#[tactic(auto, unfolding(crate::specs::Headers::header_of))]
+#[tactic(auto, unfolding(crate::specs::Headers::script_header_of))]
 pub fn header_of(command: Command, fields: &[&[u8]]) -> Result<Header, Reason>
-    ensures says { result ≡ spec.header_of command (map (λ f. f.now) fields.now) }
+    ensures says { result ≡ spec.script_header_of command (map (λ f. f.now) fields.now) }
     ensures stress { IfOk result (λ h. SerialAlone command h.may_resign) }
 {
     let [word, version, nodes, workers, tries] = fields else {

@@ -2,10 +2,10 @@
 ghost use Rattle.std.specs.Prelude.{◌≡◌, ◌<◌, ℕ, List, map, Ok, IfOk};
 ghost use Rattle.std.specs.List.{find};
 ghost use Rattle.nm_files.specs.Files.{checked};
-ghost use Rattle.nm_files.specs.Reasons.{reason_of};
+ghost use Rattle.nm_files.specs.Reasons.{reason_of, line_reasons};
 ghost use Rattle.nm_scripts.specs.declared.header.Command.{Command as CommandOf};
 ghost use Rattle.nm_scripts.specs.declared.header.Header.{Header as HeaderOf};
-ghost use Rattle.nm_scripts.specs.Reasons.{holds, line_reasons, header_holds, header_reasons};
+ghost use Rattle.nm_scripts.specs.Reasons.{script_holds, script_header_holds, script_header_reasons};
 ghost use Rattle.nm_scripts.specs.Calls.{IsAllowed};
 ghost use Rattle.nm_scripts.specs.Scripts.{IsEntryOf};
 ghost use Rattle.nm_scripts.specs.Scripts as spec;
@@ -22,7 +22,7 @@ fn with_worker(
     worker: Result<u32, Reason>,
     call: Result<Call, Reason>,
 ) -> Result<(u32, Call), Reason>
-    ensures says { result ≡ spec.with_worker worker call }
+    ensures says { result ≡ spec.call_with_worker worker call }
     ensures both { IfOk result (λ e. (worker ≡ Ok e.0) × (call ≡ Ok e.1)) }
 {
     match call {
@@ -40,9 +40,9 @@ fn with_worker(
 }
 
 /// The worker and the call of a line, by its fields.
-#[tactic(auto, unfolding(crate::specs::Scripts::entry_of))]
+#[tactic(auto, unfolding(crate::specs::Scripts::script_entry_of))]
 fn entry_of(header: &Header, fields: &[&[u8]]) -> Result<(u32, Call), Reason>
-    ensures says { result ≡ spec.entry_of header.now (map (λ f. f.now) fields.now) }
+    ensures says { result ≡ spec.script_entry_of header.now (map (λ f. f.now) fields.now) }
     ensures allowed { IfOk result (IsEntryOf header.now) }
 {
     match fields {
@@ -57,7 +57,7 @@ fn entry_of(header: &Header, fields: &[&[u8]]) -> Result<(u32, Call), Reason>
 
 /// The worker and the call that a line says, in a script with that header.
 pub fn line_of(header: &Header, line: &[u8]) -> Result<(u32, Call), Reason>
-    ensures says { result ≡ spec.line_of header.now line.now }
+    ensures says { result ≡ spec.script_line_of header.now line.now }
     ensures allowed { IfOk result (IsEntryOf header.now) }
 {
     if !is_formed(line) {
@@ -68,7 +68,7 @@ pub fn line_of(header: &Header, line: &[u8]) -> Result<(u32, Call), Reason>
 
 /// What the first line says, in a file for that command.
 pub fn first_line_of(command: Command, line: &[u8]) -> Result<Header, Reason>
-    ensures says { result ≡ spec.first_line_of command line.now }
+    ensures says { result ≡ spec.script_first_line_of command line.now }
     ensures stress { IfOk result (spec.ResignsInSerial command) }
 {
     header_of(command, fields_of(line).as_slice())
@@ -78,9 +78,9 @@ pub fn first_line_of(command: Command, line: &[u8]) -> Result<Header, Reason>
 /// numbers, so the least; and a line is right exactly where none holds.
 pub fn least_reason()
     ensures first_line { (command : CommandOf) (line : List ℕ)
-        → reason_of (checked 1 line (spec.first_line_of command line))
-        ≡ find (header_holds command line) header_reasons }
+        → reason_of (checked 1 line (spec.script_first_line_of command line))
+        ≡ find (script_header_holds command line) script_header_reasons }
     ensures other_line { (header : HeaderOf) (number : ℕ) (line : List ℕ)
-        → reason_of (checked number line (spec.line_of header line))
-        ≡ find (holds header number line) line_reasons }
+        → reason_of (checked number line (spec.script_line_of header line))
+        ≡ find (script_holds header number line) line_reasons }
 {}

@@ -23,7 +23,7 @@ pub struct Script<'a> {
 
 fn header_at(command: Command, line: &[u8]) -> Result<Header, RunFault>
     ensures says { Gives (λ h. h) result
-        (checked 1 line.now (spec.first_line_of command line.now)) }
+        (checked 1 line.now (spec.script_first_line_of command line.now)) }
     ensures stress { IfOk result (ResignsInSerial command) }
 {
     if is_long(1, line) {
@@ -37,7 +37,7 @@ fn header_at(command: Command, line: &[u8]) -> Result<Header, RunFault>
 
 fn call_at(number: u32, header: &Header, line: &[u8]) -> Result<(u32, Call), RunFault>
     ensures says { Gives (λ e. e) result
-        (checked number line.now (spec.line_of header.now line.now)) }
+        (checked number line.now (spec.script_line_of header.now line.now)) }
     ensures number { OnOk result (number ≤ 100001) }
     ensures allowed { IfOk result (IsEntryOf header.now) }
 {
@@ -53,7 +53,7 @@ fn call_at(number: u32, header: &Header, line: &[u8]) -> Result<(u32, Call), Run
 /// The calls of the lines from the second on.
 fn calls_of(alloc: Global, header: &Header, body: &[u8]) -> Result<Vec<(u32, Call)>, RunFault>
     ensures says { Gives (λ v. v.items) result
-        (entries_from (spec.line_of header.now) 2 (parts body.now)) }
+        (entries_from (spec.script_line_of header.now) 2 (parts body.now)) }
     ensures allowed { IfOk result (λ v. All (IsEntryOf header.now) v.items) }
     ensures few { IfOk result (λ v. length v.items ≤ 100000) }
 {

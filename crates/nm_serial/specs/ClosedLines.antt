@@ -2,7 +2,7 @@
 use Rattle.std.specs.Prelude.{ℕ, List, [], ◌∷◌, ◌++◌, codes, decimal, map}
 use Rattle.nm_epoch.specs.declared.collecting.Entry.{Entry}
 use Rattle.nm_epoch.specs.Collecting.{queued}
-use Rattle.nm_print.specs.LastLines.{spaced_entries, queue}
+use Rattle.nm_print.specs.LastLines.{spaced_entries, queue_text}
 
 -- each entry after a space
 abbrev pub spaced_waiting : List Entry → List ℕ
@@ -10,7 +10,7 @@ spaced_waiting es = spaced_entries (map queued es)
 
 -- each entry after a space, or a dash where there is none
 abbrev pub waiting_text : List Entry → List ℕ
-waiting_text es = queue (map queued es)
+waiting_text es = queue_text (map queued es)
 
 -- how many nodes a worker's splices cut off, how many of them were freed, and those that wait
 unfoldable pub closed_worker_line : ℕ → ℕ → ℕ → List Entry → List ℕ

@@ -19,7 +19,8 @@ worker_lines (c ∷ cs) (h ∷ hs) =
 -- all last lines
 abbrev pub ending_lines : List Counts → List HeldQueue → List ℕ → ℕ → ℕ → List ℕ
 ending_lines counts queues keys free reached =
-    worker_lines counts queues ++ (keys_line keys ++ closed_places_line free reached (waiting_in queues))
+    worker_lines counts queues
+    ++ (keys_line keys ++ closed_places_line free reached (waiting_in queues))
 
 -- by the first of these that holds its queue: the ledger of an origin; and nothing is said where
 -- none does

@@ -72,8 +72,8 @@ IsWritten IsText command bytes text =
     (s : Script) × (script_of command bytes ≡ Ok s) × IsText s (drop 1 (parts bytes)) text
 
 -- a writer gained such a text
-abbrev pub WritesText : (Script → List (List ℕ) → List ℕ → Type 0) → Command → List ℕ → Option (List ℕ)
-    → Option (List ℕ) → Type 0
+abbrev pub WritesText : (Script → List (List ℕ) → List ℕ → Type 0) → Command → List ℕ
+    → Option (List ℕ) → Option (List ℕ) → Type 0
 WritesText IsText command bytes old new =
     (text : List ℕ) × IsWritten IsText command bytes text × Appends old new text
 

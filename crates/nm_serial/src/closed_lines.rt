@@ -64,7 +64,8 @@ pub fn put_closed_places(
     reached: u32,
     queued: u64,
 ) -> Result<(), AllocError>
-    ensures { OnOk result (out.new.items ≡ out.old.items ++ spec.closed_places_line pool reached queued) }
+    ensures { OnOk result (out.new.items
+        ≡ out.old.items ++ spec.closed_places_line pool reached queued) }
 {
     put_number(out, b"places pool ", u64::from(pool))?;
     put_number(out, b" reached ", u64::from(reached))?;

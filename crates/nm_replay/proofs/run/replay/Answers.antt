@@ -1,5 +1,6 @@
 use Rattle.std.proofs.lemmas.Result.{err_from_is_err_and}
-use Rattle.nm_replay.proofs.LimitLemmas.{tells_fault, tells_text, tells_right, ok_then, err_always}
+use Rattle.nm_replay.proofs.LimitLemmas.{tells_fault, tells_text, tells_right}
+use Rattle.nm_files.proofs.ResultLemmas.{ok_then, err_always}
 use Rattle.nm_replay.proofs.run.replay.Goals as goal
 
 pub returns-in_err-text-clause-line : goal.returns-in_err-text-clause-line

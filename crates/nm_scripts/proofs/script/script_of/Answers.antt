@@ -3,31 +3,31 @@ use Rattle.std.proofs.lemmas.Result.{err_from_is_err_and}
 use Rattle.nm_files.specs.Chain.{◌>>=◌}
 use Rattle.nm_files.specs.Lines.{parts}
 use Rattle.nm_files.specs.Files.{checked, entries_from}
-use Rattle.nm_scripts.specs.Scripts.{first_line_of, line_of}
+use Rattle.nm_scripts.specs.Scripts.{script_first_line_of, script_line_of}
 use Rattle.nm_files.proofs.FileLemmas.{opens, opens_not, fails_first, pieces_full}
 use Rattle.nm_scripts.proofs.script.script_of.Goals as goal
 
 pub returns-in_default-clause-says : goal.returns-in_default-clause-says
 returns-in_default-clause-says c =
     let cut : parts c.args.bytes.now ≡ c.cut.result.0.now ∷ [] = rw c.in_default.is at c.cut.ensures.pieces in
-    rw c.cut_off.ensures (opens_not (first_line_of c.args.command) line_of (parts c.args.bytes.now) c.cut.result.0.now cut)
+    rw c.cut_off.ensures (opens_not (script_first_line_of c.args.command) script_line_of (parts c.args.bytes.now) c.cut.result.0.now cut)
 
 pub returns-in_err-header-clause-says : goal.returns-in_err-header-clause-says
 returns-in_err-header-clause-says c =
     let cut : parts c.args.bytes.now ≡ c.cut.result.0.now ∷ parts c.in-Some.body.now = rw c.in-Some.is at c.cut.ensures.pieces in
     let p = err_from_is_err_and c.from_residual.result c.from_residual.ensures.1 in
-    let whole = opens (first_line_of c.args.command) line_of (parts c.args.bytes.now) c.cut.result.0.now (parts c.in-Some.body.now) cut (pieces_full 10 c.in-Some.body.now) in
-    rw (p.1, p.2, whole) (fails_first c.in_err-header.field-0.0 (checked 1 c.cut.result.0.now (first_line_of c.args.command c.cut.result.0.now)) (λ header. entries_from (line_of header) 2 (parts c.in-Some.body.now) >>= λ entries. Ok (record { header = header; entries = entries })) c.in_err-header.ensures.says)
+    let whole = opens (script_first_line_of c.args.command) script_line_of (parts c.args.bytes.now) c.cut.result.0.now (parts c.in-Some.body.now) cut (pieces_full 10 c.in-Some.body.now) in
+    rw (p.1, p.2, whole) (fails_first c.in_err-header.field-0.0 (checked 1 c.cut.result.0.now (script_first_line_of c.args.command c.cut.result.0.now)) (λ header. entries_from (script_line_of header) 2 (parts c.in-Some.body.now) >>= λ entries. Ok (record { header = header; entries = entries })) c.in_err-header.ensures.says)
 
 pub returns-in_err-calls-clause-says : goal.returns-in_err-calls-clause-says
 returns-in_err-calls-clause-says c =
     let cut : parts c.args.bytes.now ≡ c.cut.result.0.now ∷ parts c.in-Some.body.now = rw c.in-Some.is at c.cut.ensures.pieces in
     let p = err_from_is_err_and c.from_residual-in_err-calls.result c.from_residual-in_err-calls.ensures.1 in
-    let whole = opens (first_line_of c.args.command) line_of (parts c.args.bytes.now) c.cut.result.0.now (parts c.in-Some.body.now) cut (pieces_full 10 c.in-Some.body.now) in
-    rw (p.1, p.2, whole, c.in_ok-header.ensures.says) (fails_first c.in_err-calls.field-0.0 (entries_from (line_of c.in_ok-header.header) 2 (parts c.in-Some.body.now)) (λ entries. Ok (record { header = c.in_ok-header.header; entries = entries })) c.in_err-calls.ensures.says)
+    let whole = opens (script_first_line_of c.args.command) script_line_of (parts c.args.bytes.now) c.cut.result.0.now (parts c.in-Some.body.now) cut (pieces_full 10 c.in-Some.body.now) in
+    rw (p.1, p.2, whole, c.in_ok-header.ensures.says) (fails_first c.in_err-calls.field-0.0 (entries_from (script_line_of c.in_ok-header.header) 2 (parts c.in-Some.body.now)) (λ entries. Ok (record { header = c.in_ok-header.header; entries = entries })) c.in_err-calls.ensures.says)
 
 pub returns-clause-says : goal.returns-clause-says
 returns-clause-says c =
     let cut : parts c.args.bytes.now ≡ c.cut.result.0.now ∷ parts c.in-Some.body.now = rw c.in-Some.is at c.cut.ensures.pieces in
-    let whole = opens (first_line_of c.args.command) line_of (parts c.args.bytes.now) c.cut.result.0.now (parts c.in-Some.body.now) cut (pieces_full 10 c.in-Some.body.now) in
+    let whole = opens (script_first_line_of c.args.command) script_line_of (parts c.args.bytes.now) c.cut.result.0.now (parts c.in-Some.body.now) cut (pieces_full 10 c.in-Some.body.now) in
     rw (whole, c.in_ok-header.ensures.says, c.in_ok-calls.ensures.says) refl
