@@ -3,8 +3,8 @@ ghost use Rattle.std.specs.Prelude.{All, IfOk};
 ghost use Rattle.nm_tree.specs.Plays.{IsReady};
 
 use crate::habits::Habits;
-use crate::load::Load;
-use crate::trees::{Totals, fill_all, play_all};
+use crate::load::{Load, Totals};
+use crate::trees::{fill_all, play_all};
 use anyhow::{Context, Result, ensure};
 use nm_tree::{Fit, Report, Tree, Worker};
 use std::alloc::{AllocError, Global};
@@ -19,7 +19,7 @@ pub struct Sizes {
     pub keys: u64,
 }
 
-/// A tree, the workers of the threads, those that no thread has, and what was changed in it.
+/// A tree, the workers of the threads, those that no thread has, and what was done in it.
 #[derive(Drop)]
 pub struct Grown {
     tree: Tree,
@@ -116,8 +116,8 @@ impl Grown {
         Ok(())
     }
 
-    /// Closes the tree, and prints what was changed and what is left. An error where keys or slots
-    /// do not add up.
+    /// Closes the tree, and prints what was done and what is left. An error where keys or slots do
+    /// not add up.
     pub fn close(self, rt: &impl Print, name: &str, nodes: u32) -> Result<()> {
         let Grown {
             tree,
@@ -128,18 +128,9 @@ impl Grown {
         } = self;
         workers.append(&mut others)?;
         let report = tree.close(workers).ok().context("a report")?;
-        let inserted = totals.inserted.into_inner();
-        let deleted = totals.deleted.into_inner();
-        let left = report.keys.len() as u64;
         let taken = u64::from(report.reached).wrapping_add(waiting(&report));
         let slots = taken.wrapping_add(u64::from(report.free));
-        println!(rt;
-            "{name}: {inserted} keys were inserted and {deleted} deleted, and {left} are left"
-        )?;
-        ensure!(
-            inserted.wrapping_sub(deleted) == left,
-            "the keys do not add up"
-        );
+        totals.tell(rt, name, report.keys.len() as u64)?;
         ensure!(
             slots.wrapping_add(5) == u64::from(nodes),
             "the slots do not add up"

@@ -1,5 +1,7 @@
 //! What the threads of a round do.
+use anyhow::{Result, ensure};
 use nm_edge::Key;
+use std::sync::atomic::{AtomicU64, Ordering};
 
 /// A part of a round: how many of 100 calls are look-ups, how many threads make calls, how many
 /// each makes, and from how many keys they draw. The other calls are inserts and deletes, about as
@@ -20,42 +22,90 @@ pub enum Call {
     Delete(Key),
 }
 
-/// What one thread has changed in a set.
+/// What came of a call.
 #[derive(Clone, Copy, Debug, PartialEq, Eq)]
-pub struct Changes {
-    pub inserted: u64,
-    pub deleted: u64,
-}
-
-/// What a call has changed in a set.
-#[derive(Clone, Copy, Debug, PartialEq, Eq)]
-pub enum Change {
+pub enum Done {
     Nothing,
+    Found,
     Inserted,
     Deleted,
 }
 
-impl Changes {
-    pub fn none() -> Changes {
-        Changes {
+/// How many keys one thread has found, inserted and deleted.
+#[derive(Clone, Copy, Debug, PartialEq, Eq)]
+pub struct Tally {
+    found: u64,
+    inserted: u64,
+    deleted: u64,
+}
+
+impl Tally {
+    pub fn none() -> Tally {
+        Tally {
+            found: 0,
             inserted: 0,
             deleted: 0,
         }
     }
 
-    /// The same with one change more.
-    pub fn with(self, change: Change) -> Changes {
-        match change {
-            Change::Nothing => self,
-            Change::Inserted => Changes {
+    /// The same with one call more.
+    pub fn with(self, done: Done) -> Tally {
+        match done {
+            Done::Nothing => self,
+            Done::Found => Tally {
+                found: self.found.wrapping_add(1),
+                ..self
+            },
+            Done::Inserted => Tally {
                 inserted: self.inserted.wrapping_add(1),
                 ..self
             },
-            Change::Deleted => Changes {
+            Done::Deleted => Tally {
                 deleted: self.deleted.wrapping_add(1),
                 ..self
             },
         }
+    }
+}
+
+/// How many keys all threads have found, inserted and deleted in a set.
+#[derive(Drop)]
+pub struct Totals {
+    found: AtomicU64,
+    inserted: AtomicU64,
+    deleted: AtomicU64,
+}
+
+impl Totals {
+    pub fn none() -> Totals {
+        Totals {
+            found: AtomicU64::new(0),
+            inserted: AtomicU64::new(0),
+            deleted: AtomicU64::new(0),
+        }
+    }
+
+    /// Adds what a thread has done.
+    pub fn add(&self, tally: Tally) {
+        self.found.fetch_add(tally.found, Ordering::SeqCst);
+        self.inserted.fetch_add(tally.inserted, Ordering::SeqCst);
+        self.deleted.fetch_add(tally.deleted, Ordering::SeqCst);
+    }
+
+    /// Prints them, and how many keys are left in the set of that name. An error where these do not
+    /// add up.
+    pub fn tell(self, rt: &impl Print, name: &str, left: u64) -> Result<()> {
+        let found = self.found.into_inner();
+        let inserted = self.inserted.into_inner();
+        let deleted = self.deleted.into_inner();
+        println!(rt;
+            "{name}: {found} keys were found, {inserted} inserted, {deleted} deleted, {left} are left"
+        )?;
+        ensure!(
+            inserted.wrapping_sub(deleted) == left,
+            "the keys do not add up"
+        );
+        Ok(())
     }
 }
 

@@ -1,60 +1,78 @@
 //! Loads on a `BTreeSet` behind a `Mutex`.
-use crate::load::{Call, Change, Changes, Load, key_of};
+use crate::load::{Call, Done, Load, Tally, Totals, key_of};
 use anyhow::{Context, Result};
 use std::alloc::{AllocError, Global};
 use std::collections::BTreeSet;
 use std::sync::{Mutex, Wait};
 use std::thread::{self, Threads};
 
-/// The ordered set behind its lock.
-pub type Locked = Mutex<BTreeSet<u64>>;
-
-/// A set of the first so many keys.
-pub fn filled(alloc: Global, keys: u64) -> Result<Locked> {
-    let mut set = BTreeSet::new(alloc);
-    for number in 0..keys {
-        let key = key_of(number).context("a key")?;
-        set.insert(key.get())?;
-    }
-    Ok(Mutex::new(set))
+/// An ordered set behind its lock, and what was done in it.
+#[derive(Drop)]
+pub struct Locked {
+    keys: Mutex<BTreeSet<u64>>,
+    totals: Totals,
 }
 
-/// Makes a call, and tells what it changed.
-fn make(rt: &impl Wait, set: &Locked, call: Call) -> Result<Change, AllocError> {
-    let mut keys = set.lock(rt);
-    let (changed, change) = match call {
-        Call::Has(key) => (keys.contains(&key.get()), Change::Nothing),
-        Call::Insert(key) => (keys.insert(key.get())?, Change::Inserted),
-        Call::Delete(key) => (keys.remove(&key.get()), Change::Deleted),
+/// Makes a call, and tells what came of it.
+fn make(rt: &impl Wait, keys: &Mutex<BTreeSet<u64>>, call: Call) -> Result<Done, AllocError> {
+    let mut keys = keys.lock(rt);
+    let (answer, done) = match call {
+        Call::Has(key) => (keys.contains(&key.get()), Done::Found),
+        Call::Insert(key) => (keys.insert(key.get())?, Done::Inserted),
+        Call::Delete(key) => (keys.remove(&key.get()), Done::Deleted),
     };
-    Ok(if changed { change } else { Change::Nothing })
+    Ok(if answer { done } else { Done::Nothing })
 }
 
 /// One thread's calls.
-fn play(rt: &impl Wait, set: &Locked, thread: u32, load: Load) -> Changes {
-    let mut changes = Changes::none();
+fn play(rt: &impl Wait, keys: &Mutex<BTreeSet<u64>>, thread: u32, load: Load) -> Tally {
+    let mut tally = Tally::none();
     for turn in 0..load.calls {
         if let Some(call) = load.call(thread, turn) {
-            if let Ok(change) = make(rt, set, call) {
-                changes = changes.with(change);
+            if let Ok(done) = make(rt, keys, call) {
+                tally = tally.with(done);
             }
         }
     }
-    changes
+    tally
 }
 
-/// The calls of all threads: what each has changed.
-pub fn play_all<R: Threads + Wait + Sync>(
-    rt: &R,
-    alloc: Global,
-    set: &Locked,
-    load: Load,
-) -> Result<Vec<Changes>, AllocError> {
-    let count = load.threads as usize;
-    thread::map_indices(
-        rt,
-        alloc,
-        count,
-        &|thread| play(rt, set, thread as u32, load),
-    )
+impl Locked {
+    /// A set of the first so many keys.
+    pub fn filled(alloc: Global, count: u64) -> Result<Locked> {
+        let mut keys = BTreeSet::new(alloc);
+        let mut tally = Tally::none();
+        for number in 0..count {
+            let key = key_of(number).context("a key")?;
+            if keys.insert(key.get())? {
+                tally = tally.with(Done::Inserted);
+            }
+        }
+        let totals = Totals::none();
+        totals.add(tally);
+        Ok(Locked {
+            keys: Mutex::new(keys),
+            totals,
+        })
+    }
+
+    /// Plays a load, each thread its own calls.
+    pub fn play<R: Threads + Wait + Sync>(
+        &self,
+        rt: &R,
+        alloc: Global,
+        load: Load,
+    ) -> Result<(), AllocError> {
+        let count = load.threads as usize;
+        let one = |thread: usize| self.totals.add(play(rt, &self.keys, thread as u32, load));
+        thread::map_indices(rt, alloc, count, &one)?;
+        Ok(())
+    }
+
+    /// Prints what was done and what is left. An error where the keys do not add up.
+    pub fn close<R: Wait + Print>(self, rt: &R, name: &str) -> Result<()> {
+        let Locked { keys, totals } = self;
+        let left = keys.lock(rt).len() as u64;
+        totals.tell(rt, name, left)
+    }
 }

@@ -1,6 +1,6 @@
-//! Times mixed calls on two trees, one that claims the lowest free slot and one that claims near
-//! by, beside those on a `BTreeSet` behind a `Mutex`; and shows at the end that what each tree was
-//! told to keep is there.
+//! Times look-ups and mixed calls on two trees, one that claims the lowest free slot and one that
+//! claims near by, beside those on a `BTreeSet` behind a `Mutex`; and shows at the end that what
+//! each set was told to keep is there.
 //!
 //! The arguments are how many rounds there are, how many keys the sets have at first, how many
 //! nodes the trees have room for, how far apart the numbers of the threads' workers are (1 to 21),
@@ -8,8 +8,8 @@
 //! then the parts of a round, each by how many of 100 calls are look-ups, how many threads there
 //! are (at most 4), how many calls each makes, and how many it makes on the tree that claims the
 //! lowest slot, which may be fewer. Keys are drawn from twice as many as the sets have at first, so
-//! that about half of them are found. Standard output has what was changed and what is left,
-//! standard error the times in microseconds.
+//! that about half of them are found. Standard output has what was found and changed and what is
+//! left, standard error the times in microseconds.
 #![tactic(auto)]
 
 mod grown;
@@ -78,7 +78,7 @@ fn time_locked<R: Threads + Wait + Sync + AllocGlobal + Clock + Eprint>(
     load: Load,
 ) -> Result<()> {
     let start = Instant::now(rt)?;
-    let _ = locked::play_all(rt, rt.alloc(), set, load)?;
+    set.play(rt, rt.alloc(), load)?;
     tell(rt, "locked", load, start.elapsed(rt)?)
 }
 
@@ -106,7 +106,7 @@ fn open<R: Threads + Sync>(rt: &R, alloc: Global, sizes: Sizes, habits: Habits) 
     lowest.fill(rt, alloc, sizes.keys)?;
     let mut near = Grown::near(alloc, sizes.nodes, habits)?;
     near.fill(rt, alloc, sizes.keys)?;
-    let locked = locked::filled(alloc, sizes.keys)?;
+    let locked = Locked::filled(alloc, sizes.keys)?;
     Ok(Sets {
         lowest,
         near,
@@ -114,7 +114,7 @@ fn open<R: Threads + Sync>(rt: &R, alloc: Global, sizes: Sizes, habits: Habits) 
     })
 }
 
-/// Opens the three sets, lets them race, and closes the trees.
+/// Opens the three sets, lets them race, and closes them.
 fn compare<R: Threads + Wait + Sync + AllocGlobal + Clock + Print + Eprint>(
     rt: &R,
     sizes: Sizes,
@@ -127,7 +127,8 @@ fn compare<R: Threads + Wait + Sync + AllocGlobal + Clock + Print + Eprint>(
         race(rt, &mut sets, parts)?;
     }
     sets.lowest.close(rt, "lowest", sizes.nodes)?;
-    sets.near.close(rt, "near", sizes.nodes)
+    sets.near.close(rt, "near", sizes.nodes)?;
+    sets.locked.close(rt, "locked")
 }
 
 /// The arguments as numbers.

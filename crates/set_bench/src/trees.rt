@@ -3,10 +3,9 @@ ghost use Rattle.std.specs.Prelude.{All, IfOk};
 ghost use Rattle.nm_tree.specs.Plays.{IsReady};
 
 use crate::habits::{Habits, THREADS};
-use crate::load::{Call, Change, Changes, Load, key_of};
+use crate::load::{Call, Done, Load, Tally, Totals, key_of};
 use nm_tree::{Fault, Tree, Worker};
 use std::alloc::AllocError;
-use std::sync::atomic::{AtomicU64, Ordering};
 use std::thread::{self, Threads};
 
 const TRIES: u32 = 100;
@@ -14,35 +13,13 @@ const TRIES: u32 = 100;
 /// Into so many shares the keys are parted that the sets have at first.
 const SHARES: u64 = THREADS as u64;
 
-/// What all threads have changed in a tree.
-#[derive(Drop)]
-pub struct Totals {
-    pub inserted: AtomicU64,
-    pub deleted: AtomicU64,
-}
-
-impl Totals {
-    pub fn none() -> Totals {
-        Totals {
-            inserted: AtomicU64::new(0),
-            deleted: AtomicU64::new(0),
-        }
-    }
-
-    /// Adds what a thread has changed.
-    fn add(&self, changes: Changes) {
-        self.inserted.fetch_add(changes.inserted, Ordering::SeqCst);
-        self.deleted.fetch_add(changes.deleted, Ordering::SeqCst);
-    }
-}
-
 /// Inserts a worker's share of the first so many keys.
 fn fill(tree: &Tree, mut worker: Worker, habits: Habits, keys: u64, totals: &Totals) -> Worker
     requires { IsReady tree.now worker }
     ensures { IsReady tree.now result }
 {
     let thread = u64::from(habits.thread(&worker));
-    let mut changes = Changes::none();
+    let mut tally = Tally::none();
     for number in 0..keys {
         if number % SHARES != thread {
             continue;
@@ -50,9 +27,9 @@ fn fill(tree: &Tree, mut worker: Worker, habits: Habits, keys: u64, totals: &Tot
         let Some(key) = key_of(number) else {
             continue;
         };
-        changes = changes.with(make(tree, &mut worker, Call::Insert(key)));
+        tally = tally.with(make(tree, &mut worker, Call::Insert(key)));
     }
-    totals.add(changes);
+    totals.add(tally);
     worker
 }
 
@@ -84,54 +61,54 @@ fn tend(tree: &Tree, worker: &mut Worker)
     let _ = tree.collect(worker);
 }
 
-/// Makes a call, or finishes a delete that was left unfinished, and tells what it changed.
-fn make(tree: &Tree, worker: &mut Worker, call: Call) -> Change
+/// Makes a call, or finishes a delete that was left unfinished, and tells what came of it.
+fn make(tree: &Tree, worker: &mut Worker, call: Call) -> Done
     requires { IsReady tree.now worker.old }
     ensures { IsReady tree.now worker.new }
 {
-    let (answer, change) = match call {
-        Call::Has(key) => (tree.has(worker, key, TRIES), Change::Nothing),
-        Call::Insert(key) => (tree.insert(worker, key, TRIES), Change::Inserted),
-        Call::Delete(key) => (tree.delete(worker, key, TRIES), Change::Deleted),
+    let (answer, done) = match call {
+        Call::Has(key) => (tree.has(worker, key, TRIES), Done::Found),
+        Call::Insert(key) => (tree.insert(worker, key, TRIES), Done::Inserted),
+        Call::Delete(key) => (tree.delete(worker, key, TRIES), Done::Deleted),
     };
     match answer {
-        Ok(true) => change,
+        Ok(true) => done,
         Err(Fault::Unfinished | Fault::Pending) => finish(tree, worker),
         Err(Fault::Full) => {
             tend(tree, worker);
-            Change::Nothing
+            Done::Nothing
         }
-        Ok(false) | Err(Fault::Busy | Fault::NoMemory) => Change::Nothing,
+        Ok(false) | Err(Fault::Busy | Fault::NoMemory) => Done::Nothing,
     }
 }
 
 /// Finishes a delete.
-fn finish(tree: &Tree, worker: &mut Worker) -> Change
+fn finish(tree: &Tree, worker: &mut Worker) -> Done
     requires { IsReady tree.now worker.old }
     ensures { IsReady tree.now worker.new }
 {
     if tree.finish(worker, TRIES) == Ok(true) {
-        return Change::Deleted;
+        return Done::Deleted;
     }
-    Change::Nothing
+    Done::Nothing
 }
 
 /// One thread's calls.
-fn play(tree: &Tree, worker: &mut Worker, habits: Habits, load: Load) -> Changes
+fn play(tree: &Tree, worker: &mut Worker, habits: Habits, load: Load) -> Tally
     requires { IsReady tree.now worker.old }
     ensures { IsReady tree.now worker.new }
 {
     let thread = habits.thread(worker);
-    let mut changes = Changes::none();
+    let mut tally = Tally::none();
     for turn in 0..load.calls {
         if let Some(call) = load.call(thread, turn) {
-            changes = changes.with(make(tree, worker, call));
+            tally = tally.with(make(tree, worker, call));
         }
         if turn % habits.tend == 0 && load.lookups < 100 {
             tend(tree, worker);
         }
     }
-    changes
+    tally
 }
 
 /// One worker's calls, none where the load has fewer threads.
@@ -140,8 +117,7 @@ fn take_part(tree: &Tree, mut worker: Worker, habits: Habits, load: Load, totals
     ensures { IsReady tree.now result }
 {
     if habits.thread(&worker) < load.threads {
-        let changes = play(tree, &mut worker, habits, load);
-        totals.add(changes);
+        totals.add(play(tree, &mut worker, habits, load));
     }
     worker
 }

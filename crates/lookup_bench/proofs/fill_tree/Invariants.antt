@@ -1,5 +1,0 @@
-use Rattle.nm_tree.specs.Plays.{IsReady}
-use Rattle.lookup_bench.proofs.fill_tree.Given as goal
-
-abbrev pub invariant-loop-number : goal.invariant-loop-number
-invariant-loop-number l = IsReady l.fn.tree l.worker

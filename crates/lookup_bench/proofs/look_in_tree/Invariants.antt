@@ -1,5 +1,0 @@
-use Rattle.nm_tree.specs.Plays.{IsReady}
-use Rattle.lookup_bench.proofs.look_in_tree.Given as goal
-
-abbrev pub invariant-loop-turn : goal.invariant-loop-turn
-invariant-loop-turn l = IsReady l.fn.tree l.worker
