@@ -99,7 +99,7 @@ impl Totals {
         let inserted = self.inserted.into_inner();
         let deleted = self.deleted.into_inner();
         println!(rt;
-            "{name}: {found} keys were found, {inserted} inserted, {deleted} deleted, {left} are left"
+            "{name}: {found} keys found, {inserted} inserted, {deleted} deleted, {left} left"
         )?;
         ensure!(
             inserted.wrapping_sub(deleted) == left,
