@@ -1,13 +1,10 @@
--- What the last state is told by: the ledger of each worker, the epoch, how many slots stand where,
--- and in an ordered file the keys of the set.
-use Rattle.std.specs.Prelude.{ℕ, Bool, true, false, zero, suc, List, [], ◌∷◌, ◌++◌, codes, decimal, Option, Some, None}
+-- The lines that a last state is told by: a worker's ledger, the epoch, how many slots stand where,
+-- and the keys of the set.
+use Rattle.std.specs.Prelude.{ℕ, List, [], ◌∷◌, ◌++◌, codes, decimal, Option, Some, None}
 use Rattle.nm_edge.specs.declared.node.NodeId.{NodeId}
 use Rattle.nm_model.specs.declared.ledger.Queued.{Queued}
 use Rattle.nm_model.specs.declared.ledger.Ledger.{Ledger}
-use Rattle.nm_model.specs.Runs.{State}
-use Rattle.nm_model.specs.Reports.{ledger_of, counts, keys}
 use Rattle.nm_model.specs.declared.places.Places.{Places}
-use Rattle.nm_files.specs.declared.header.Header.{Header}
 use Rattle.nm_print.specs.Replies.{node_text, spaced_nodes}
 
 -- each node after a space, or a dash where there is none
@@ -45,11 +42,6 @@ ledger_lines worker (Some l) =
     ++ (worker_line worker (codes " freed") (nodes_text l.freed)
     ++ worker_line worker (codes " queue") (queue_text l.queue))
 
--- the lines of the first so many workers, by number
-abbrev pub workers_lines : State → ℕ → List ℕ
-workers_lines s zero = []
-workers_lines s (suc n) = workers_lines s n ++ ledger_lines n (ledger_of s n)
-
 -- how the epoch is spelled
 abbrev pub epoch_line : ℕ → List ℕ
 epoch_line e = codes "epoch " ++ decimal e ++ codes "\n"
@@ -75,13 +67,3 @@ numbers_text (k ∷ ks) = spaced_numbers (k ∷ ks)
 -- the keys of the set from left to right
 abbrev pub keys_line : List ℕ → List ℕ
 keys_line ks = codes "keys" ++ (numbers_text ks ++ codes "\n")
-
--- the line of the keys, in an ordered file alone
-abbrev pub keys_line_in : Bool → State → List ℕ
-keys_line_in true s = keys_line (keys s)
-keys_line_in false s = []
-
--- what the last state of a file with that header is told by
-unfoldable pub last_lines : Header → State → List ℕ
-last_lines header s = workers_lines s header.layout.workers
-    ++ (epoch_line s.memory.epoch ++ (places_line (counts s) ++ keys_line_in header.is_ordered s))

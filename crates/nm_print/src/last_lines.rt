@@ -1,16 +1,10 @@
-//! The last lines: the ledger of each worker, the epoch, how many slots stand where, and in an
-//! ordered file the keys of the set.
-ghost use Rattle.std.specs.Prelude.{◌≡◌, ◌<◌, ◌++◌, ℕ, Bool, List, codes, Some, IsSome, OnOk};
-ghost use Rattle.nm_edge.specs.Layouts.{Layout};
-ghost use Rattle.nm_model.specs.declared.event.Event.{Event};
-ghost use Rattle.nm_model.specs.Ordered.{opening_of, after_in};
-ghost use Rattle.nm_model.specs.Reports.{ledger_of};
+//! The lines that a last state is told by: a worker's ledger, the epoch, how many slots stand
+//! where, and the keys of the set.
+ghost use Rattle.std.specs.Prelude.{◌≡◌, ◌++◌, codes, Some, OnOk};
 ghost use Rattle.nm_print.specs.LastLines as spec;
 
 use crate::reply::{put_node, put_number, put_spaced_nodes};
-use nm_core::Core;
 use nm_edge::{Key, NodeId};
-use nm_files::header::Header;
 use nm_model::{Ledger, Places, Queued};
 use std::alloc::AllocError;
 
@@ -90,7 +84,7 @@ fn put_queue_line(out: &mut Vec<u8>, worker: u32, entries: &[Queued]) -> Result<
 }
 
 /// Appends the three lines of a worker's ledger.
-fn put_ledger(out: &mut Vec<u8>, worker: u32, ledger: &Ledger) -> Result<(), AllocError>
+pub fn put_ledger(out: &mut Vec<u8>, worker: u32, ledger: &Ledger) -> Result<(), AllocError>
     ensures { OnOk result (out.new.items
         ≡ out.old.items ++ spec.ledger_lines worker (Some ledger.now)) }
 {
@@ -99,21 +93,8 @@ fn put_ledger(out: &mut Vec<u8>, worker: u32, ledger: &Ledger) -> Result<(), All
     put_queue_line(out, worker, ledger.queue.as_slice())
 }
 
-/// Appends the lines of each worker by number.
-fn put_ledgers(out: &mut Vec<u8>, workers: u32, core: &Core) -> Result<(), AllocError>
-    ensures { OnOk result (out.new.items
-        ≡ out.old.items ++ spec.workers_lines core.now.state workers) }
-{
-    for worker in 0..workers {
-        if let Some(ledger) = core.ledger(worker) {
-            put_ledger(out, worker, ledger)?;
-        }
-    }
-    Ok(())
-}
-
 /// Appends the line of the epoch.
-fn put_epoch(out: &mut Vec<u8>, epoch: u64) -> Result<(), AllocError>
+pub fn put_epoch(out: &mut Vec<u8>, epoch: u64) -> Result<(), AllocError>
     ensures { OnOk result (out.new.items ≡ out.old.items ++ spec.epoch_line epoch) }
 {
     put_number(out, b"epoch ", epoch)?;
@@ -122,7 +103,7 @@ fn put_epoch(out: &mut Vec<u8>, epoch: u64) -> Result<(), AllocError>
 
 /// Appends the line of how many slots stand where.
 #[tactic(auto, unfolding(crate::specs::LastLines::places_line))]
-fn put_places(out: &mut Vec<u8>, places: Places) -> Result<(), AllocError>
+pub fn put_places(out: &mut Vec<u8>, places: Places) -> Result<(), AllocError>
     ensures { OnOk result (out.new.items ≡ out.old.items ++ spec.places_line places) }
 {
     put_number(out, b"places pool ", u64::from(places.pool))?;
@@ -160,35 +141,3 @@ pub fn put_keys_line(out: &mut Vec<u8>, keys: &[Key]) -> Result<(), AllocError>
     put_keys(out, keys)?;
     out.extend_from_slice(b"\n")
 }
-
-/// Appends the line of the keys, in an ordered file alone.
-fn put_keys_in(out: &mut Vec<u8>, is_ordered: bool, core: &Core) -> Result<(), AllocError>
-    ensures { OnOk result (out.new.items
-        ≡ out.old.items ++ spec.keys_line_in is_ordered core.now.state) }
-{
-    if !is_ordered {
-        return Ok(());
-    }
-    let keys = core.keys()?;
-    put_keys_line(out, keys.as_slice())
-}
-
-/// Appends what the last state of a file with that header is told by.
-#[tactic(auto, unfolding(crate::specs::LastLines::last_lines))]
-pub fn put_last_lines(out: &mut Vec<u8>, header: &Header, core: &Core) -> Result<(), AllocError>
-    ensures { OnOk result (out.new.items
-        ≡ out.old.items ++ spec.last_lines header.now core.now.state) }
-{
-    put_ledgers(out, header.layout.workers(), core)?;
-    put_epoch(out, core.epoch())?;
-    put_places(out, core.places())?;
-    put_keys_in(out, header.is_ordered, core)
-}
-
-/// Each worker of a tree has a ledger, whatever was done and by whom, in an ordered core or not, so
-/// each has its three lines.
-pub fn each_worker_is_told()
-    ensures { (L : Layout) (is_ordered : Bool) (turns : List (ℕ × Event)) (worker : ℕ)
-        → worker < L.workers → IsSome
-        (ledger_of (after_in (opening_of L is_ordered) turns).state worker) }
-{}

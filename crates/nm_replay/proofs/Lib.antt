@@ -1,3 +1,4 @@
+pub mod LedgerLemmas
 pub mod LimitLemmas
 pub mod PlainLemmas
 pub mod ReplyLemmas

@@ -1,1 +1,2 @@
+pub mod LastState
 pub mod Output

@@ -13,7 +13,8 @@ use Rattle.nm_files.specs.Lines.{parts}
 use Rattle.nm_files.specs.Files.{Fault}
 use Rattle.nm_files.specs.Schedules.{Schedule, schedule_of}
 use Rattle.nm_print.specs.Replies.{outcome_text}
-use Rattle.nm_print.specs.LastLines.{workers_lines, epoch_line, places_line, last_lines}
+use Rattle.nm_print.specs.LastLines.{epoch_line, places_line}
+use Rattle.nm_replay.specs.LastState.{workers_lines, last_lines}
 
 -- each line with what its event was answered
 abbrev pub lines_with : List (List ℕ) → List Turn → List ℕ

@@ -2,14 +2,14 @@
 ghost use Rattle.std.specs.Prelude.{◌≡◌, ◌++◌, codes, IfOk, OnOk};
 ghost use Rattle.nm_files.specs.Lines.{parts};
 ghost use Rattle.nm_print.specs.Replies.{outcome_text};
-ghost use Rattle.nm_print.specs.LastLines.{last_lines};
+ghost use Rattle.nm_replay.specs.LastState.{last_lines};
 ghost use Rattle.nm_replay.specs.Output as spec;
 
+use crate::last_state::put_last_lines;
 use nm_core::Core;
 use nm_files::header::Header;
 use nm_files::pieces::cut;
 use nm_model::Turn;
-use nm_print::last_lines::put_last_lines;
 use nm_print::reply::put_outcome;
 use std::alloc::{AllocError, Global};
 
