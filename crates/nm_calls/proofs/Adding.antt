@@ -13,7 +13,7 @@ use Rattle.nm_model.specs.declared.event.Event.TheVariants.{Sight, SightFor}
 use Rattle.nm_model.specs.Walks.{Entry}
 use Rattle.nm_order.specs.Exchanges.{is_won_link}
 use Rattle.nm_order.specs.WalksToArrivals.{is_won_flag}
-use Rattle.nm_epoch.specs.Tries.{LostTry, WonTry, LostTries, IsPinned, IsMoved}
+use Rattle.nm_epoch.specs.Tries.{LostTry, WonTry, LostTries, IsPinnedBy, IsMoved}
 use Rattle.nm_pool.specs.Takes.{DoneInTurn}
 use Rattle.nm_pool.specs.Claims.{DoneAt, PassedOver, PassedWithin, IsClaim, IsClaimBy}
 use Rattle.nm_pool.specs.declared.placement.Fit.{Fit}
@@ -24,7 +24,7 @@ use Rattle.nm_calls.specs.declared.spot.ChainEdge.{ChainEdge}
 use Rattle.nm_calls.specs.declared.spot.End.{End}
 use Rattle.nm_calls.specs.declared.spot.Spot.{Spot}
 use Rattle.nm_calls.specs.Bounds.{chain_bound}
-use Rattle.nm_calls.specs.Walks.{Reads, Walks, Ends, IsTooLong, IsBroken, Seeks, Finds}
+use Rattle.nm_calls.specs.Walks.{Reads, Walks, EndsAtLeaf, IsTooLong, IsBroken, Seeks, Finds}
 use Rattle.nm_calls.specs.Calls.{LostWalks}
 use Rattle.nm_calls.specs.Cleanups.{Chooses, FreezesOne, Freezes, Prepares, CutsOff, CleanupLost, CleanupWon}
 use Rattle.nm_calls.specs.Won.{is_won_splice, won_links, won_flags, won_splices, capped, HasWon}
@@ -122,7 +122,7 @@ walk_adds k zero old new s c w = adds_these _ old new w.3
 walk_adds k (suc n) old new s c w =
     adds_in (1 + 3 * suc n) old new (omega arith) (adds_then old w.0 new (walk_adds k n old w.0 w.1 w.2 w.4) (reads_add k w.1.edge.slot w.0 new w.3 w.6))
 
-pub end_adds : (nodes k : ℕ) (old new : List Entry) (s : Spot) (c : List ChainEdge) (key : ℕ) → Ends nodes k old new s c key → Adds 0 0 0 (3 * nodes) old new
+pub end_adds : (nodes k : ℕ) (old new : List Entry) (s : Spot) (c : List ChainEdge) (key : ℕ) → EndsAtLeaf nodes k old new s c key → Adds 0 0 0 (3 * nodes) old new
 end_adds nodes k old new s c key e =
     let few = e.3 in
     adds_in (3 * nodes) old new (omega (arith, few)) (adds_then old e.1 new (walk_adds k e.0 old e.1 s c e.4) (reads_add k s.edge.slot e.1 new e.2 e.6))
@@ -170,7 +170,7 @@ lost_tries_add by zero old new h = adds_none old new h
 lost_tries_add by (suc n) old new h =
     adds_in (2 * suc n) old new (omega arith) (adds_then old h.0 new (lost_tries_add by n old h.0 h.1) (lost_try_adds by h.0 new h.2))
 
-pin_adds_by : {by : Event} → Confirms by → (tries : ℕ) (old new : List Entry) (e : ℕ) → IsPinned by tries old new e → Adds 0 0 0 (2 * tries + 1) old new
+pin_adds_by : {by : Event} → Confirms by → (tries : ℕ) (old new : List Entry) (e : ℕ) → IsPinnedBy by tries old new e → Adds 0 0 0 (2 * tries + 1) old new
 pin_adds_by by tries old new e h =
     let few = h.3 in
     let first = adds_these _ old _ refl in
@@ -184,14 +184,14 @@ moved_adds_by by (suc n) old new h =
     let lost = lost_tries_add by (suc n) _ h.1 h.2 in
     adds_in (2 * suc n + 2) old new (omega arith) (adds_then old _ new first (adds_then _ h.1 new lost (adds_these _ h.1 new h.3)))
 
-pub pin_adds : (op : Op) (key tries : ℕ) (old new : List Entry) (e : ℕ) → IsPinned (SightFor op key) tries old new e → Adds 0 0 0 (2 * tries + 1) old new
+pub pin_adds : (op : Op) (key tries : ℕ) (old new : List Entry) (e : ℕ) → IsPinnedBy (SightFor op key) tries old new e → Adds 0 0 0 (2 * tries + 1) old new
 pin_adds op key tries old new e h = pin_adds_by (ForCall op key) tries old new e h
 
 pub moved_adds : (op : Op) (key tries : ℕ) (old new : List Entry) → IsMoved (SightFor op key) tries old new → Adds 0 0 0 (2 * tries + 2) old new
 moved_adds op key tries old new h = moved_adds_by (ForCall op key) tries old new h
 
 -- of a pin for no call
-pub plain_pin_adds : (tries : ℕ) (old new : List Entry) (e : ℕ) → IsPinned Sight tries old new e → Adds 0 0 0 (2 * tries + 1) old new
+pub plain_pin_adds : (tries : ℕ) (old new : List Entry) (e : ℕ) → IsPinnedBy Sight tries old new e → Adds 0 0 0 (2 * tries + 1) old new
 plain_pin_adds tries old new e h = pin_adds_by Plainly tries old new e h
 
 pub plain_moved_adds : (tries : ℕ) (old new : List Entry) → IsMoved Sight tries old new → Adds 0 0 0 (2 * tries + 2) old new

@@ -8,7 +8,7 @@ use Rattle.nm_model.specs.declared.event.Event.TheVariants.{SightFor}
 use Rattle.nm_model.specs.declared.event.Op.TheVariants.{Delete}
 use Rattle.nm_model.specs.declared.reply.Reply.TheVariants.{Flagged, Lost}
 use Rattle.nm_model.specs.Walks.{Entry}
-use Rattle.nm_epoch.specs.Tries.{IsPinned}
+use Rattle.nm_epoch.specs.Tries.{IsPinnedBy}
 use Rattle.nm_calls.specs.declared.deleting.Injected.{Injected}
 use Rattle.nm_calls.specs.declared.deleting.Injected.TheVariants as injected
 use Rattle.nm_calls.specs.declared.deleting.Injection.TheVariants as injection
@@ -170,7 +170,7 @@ finish_adds nodes k n tries old new true h =
 finish_adds nodes k n tries old new false (inl h) = let part = removal_adds nodes k n tries old new removal.Refused h in (part.0, adds_in _ old new (omega arith) part.1)
 finish_adds nodes k n tries old new false (inr h) = let part = removal_adds nodes k n tries old new removal.Spent h in (part.0, adds_in _ old new (omega arith) part.1)
 
-module _ (nodes tries k : ℕ) (old pinned new : List Entry) (e : ℕ) (pin : IsPinned (SightFor Delete k) tries old pinned e) (r : Result Bool Missed) (h : DeleteFinishes nodes tries k pinned new r) where
+module _ (nodes tries k : ℕ) (old pinned new : List Entry) (e : ℕ) (pin : IsPinnedBy (SightFor Delete k) tries old pinned e) (r : Result Bool Missed) (h : DeleteFinishes nodes tries k pinned new r) where
   all : AddsFlags (flags_of_delete r) (2 * tries + 1 + (tries * most nodes + 1)) old new
   all = let part = delete_adds nodes tries k pinned new r h in (0 + part.0, adds_after old pinned new (pin_adds Delete k tries old pinned e pin) part.1)
 

@@ -7,7 +7,7 @@ use Rattle.nm_model.specs.declared.event.Event.TheVariants.{SightFor}
 use Rattle.nm_model.specs.declared.event.Op.TheVariants.{Insert}
 use Rattle.nm_model.specs.declared.reply.Reply.TheVariants.{Linked, Lost}
 use Rattle.nm_model.specs.Walks.{Entry}
-use Rattle.nm_epoch.specs.Tries.{IsPinned}
+use Rattle.nm_epoch.specs.Tries.{IsPinnedBy}
 use Rattle.nm_pool.specs.declared.placement.Fit.{Fit}
 use Rattle.nm_calls.specs.declared.growing.Fork.{Fork}
 use Rattle.nm_calls.specs.declared.inserting.Fault.{Fault}
@@ -167,7 +167,7 @@ insert_did fit nodes tries k old new (Err fault.Busy) h = inr (inr h)
 insert_did fit nodes tries k old new (Err fault.NoMemory) h = inr h
 insert_did fit nodes tries k old new (Err fault.Full) h = h
 
-module _ (fit : Fit) (nodes tries k : ℕ) (old pinned new : List Entry) (e : ℕ) (pin : IsPinned (SightFor Insert k) tries old pinned e) (r : Result Bool Fault) (h : Finishes fit nodes tries k pinned new r) where
+module _ (fit : Fit) (nodes tries k : ℕ) (old pinned new : List Entry) (e : ℕ) (pin : IsPinnedBy (SightFor Insert k) tries old pinned e) (r : Result Bool Fault) (h : Finishes fit nodes tries k pinned new r) where
   all : AddsLinks (links_of_insert r) (2 * tries + 1 + (tries * most nodes + (6 * nodes + 4))) old new
   all = let part = finishes_add fit nodes tries k pinned new r h in (0 + part.0, adds_after old pinned new (pin_adds Insert k tries old pinned e pin) part.1)
 

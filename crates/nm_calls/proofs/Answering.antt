@@ -24,7 +24,7 @@ use Rattle.nm_epoch.proofs.Allowed.{passes}
 use Rattle.nm_epoch.proofs.Entries.{epochs_after, search_is}
 use Rattle.nm_epoch.proofs.KeptHands.{known_after_step}
 use Rattle.nm_epoch.proofs.Labels.{drafts_stay}
-use Rattle.nm_calls.specs.Leaving.{EndedWith, ShowsAnswer, IsAnswer, OnlyLabels}
+use Rattle.nm_calls.specs.Leaving.{EndedWith, ShowsAnswer, IsItsAnswer, OnlyLabels}
 
 -- ---- answers
 
@@ -59,7 +59,7 @@ module _ (p : Stand) (k : ℕ) where
   ]
   shown Delete false s = and_from (list_any (ended_beside k) (search p).walks) (is_none (search p).flagged) (beside_key s.0.0 s.0.1 s.0.2 s.0.3) (ap is_none s.1)
 
-pub may_answer_so : (p : Stand) (answer : Bool) → (epochs p).unlabelled ≡ false → IsAnswer p answer → MayStep p (LeaveWith answer)
+pub may_answer_so : (p : Stand) (answer : Bool) → (epochs p).unlabelled ≡ false → IsItsAnswer p answer → MayStep p (LeaveWith answer)
 unfolding refusal
 may_answer_so p answer labelled is = record {
   looked = tt;

@@ -31,7 +31,7 @@ use Rattle.nm_steps.specs.Rules.{knowledge}
 use Rattle.nm_steps.specs.Steps.{Stand, Stepped, IsSamePass}
 use Rattle.nm_steps.proofs.AfterSteps.{TellsRun, run_after, is_join}
 use Rattle.nm_calls.specs.Telling.{IsInRun}
-use Rattle.nm_calls.specs.Making.{draft, KeepsOthers, KeepsAllBut, OnlyMakes}
+use Rattle.nm_calls.specs.Making.{draft, KeepsOtherSlots, KeepsAllBut, OnlyMakes}
 use Rattle.nm_calls.proofs.Looks.{enough}
 use Rattle.nm_calls.proofs.Makes.{get_draft, drafts_ascend, without_it, without_another, put_there, put_another, makes, after_step, search_then}
 
@@ -313,7 +313,7 @@ module _ (p q : Stand) (s : ℕ) (step : Stepped p q (Give s) (Returned s)) wher
     pub is_given : is_private (knowledge q.view) s ≡ false
     is_given = ap (λ (k : Knowledge). is_private k s) returned ∙ ap is_some (without_it (knowledge p.view).drafts s order)
 
-    pub given_others : KeepsOthers s p q
+    pub given_others : KeepsOtherSlots s p q
     given_others x ne = ap (λ (k : Knowledge). get k.drafts x) returned ∙ without_another (knowledge p.view).drafts s x order ne
 
 -- ---- what a claimed node has

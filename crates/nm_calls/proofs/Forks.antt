@@ -21,10 +21,10 @@ use Rattle.nm_calls.specs.declared.growing.Fork.{Fork}
 use Rattle.nm_calls.specs.declared.growing.Inner.{Inner}
 use Rattle.nm_calls.specs.declared.spot.End.{End}
 use Rattle.nm_calls.specs.Telling.{Tells, GoesOn, OnlyLooks}
-use Rattle.nm_calls.specs.Making.{draft, with_node, IsFilled, IsInserting, KeepsOthers, OnlyMakes}
-use Rattle.nm_calls.specs.Leaving.{EndedWith, IsAnswer}
+use Rattle.nm_calls.specs.Making.{draft, with_node, IsFilled, IsInserting, KeepsOtherSlots, OnlyMakes}
+use Rattle.nm_calls.specs.Leaving.{EndedWith, IsItsAnswer}
 use Rattle.nm_calls.proofs.KeptLedgers.{ledgers_then}
-use Rattle.nm_calls.specs.Inserts.{IsReady, IfReady, HoldsFork, HasFork, OnlyTries, HasGrown, HasNotGrown, inner_of, MayGrow}
+use Rattle.nm_calls.specs.Inserts.{HasBothNodes, IfReady, HoldsFork, HasFork, OnlyTries, HasGrown, HasNotGrown, inner_of, MayGrow}
 
 -- a filled slot, and one that stayed so while another was filled
 filled_so : (p q : Stand) (s birth key left right : ℕ) → (draft p s).birth ≡ Some birth → get (knowledge q.view).drafts s ≡ Some (with_node (draft p s) key left right) → IsFilled q s birth key left right
@@ -63,8 +63,8 @@ as_fork q key other leaf new fresh birth i is ne f = go (nat_lt key other) refl
     go false more = let at : i ≡ node false = is ∙ ap node more in let least = ltb-false key other more in inr (omega (arith, ne, least), subst (λ (j : Inner). IsFilled q new birth j.key j.left j.right) at f)
 
 pub inserting : (p r q : Stand) (key : ℕ) (e : End) (f : Fork) (i : Inner) → MayGrow p key e f → i ≡ inner_of key e.key e.spot.edge.slot f.fresh.slot
-    → GoesOn p r → OnlyMakes p r → get (knowledge r.view).drafts f.new.slot ≡ Some (with_node (draft p f.new.slot) i.key i.left i.right) → KeepsOthers f.new.slot p r
-    → GoesOn r q → OnlyMakes r q → get (knowledge q.view).drafts f.fresh.slot ≡ Some (with_node (draft r f.fresh.slot) key 0 0) → KeepsOthers f.fresh.slot r q
+    → GoesOn p r → OnlyMakes p r → get (knowledge r.view).drafts f.new.slot ≡ Some (with_node (draft p f.new.slot) i.key i.left i.right) → KeepsOtherSlots f.new.slot p r
+    → GoesOn r q → OnlyMakes r q → get (knowledge q.view).drafts f.fresh.slot ≡ Some (with_node (draft r f.fresh.slot) key 0 0) → KeepsOtherSlots f.fresh.slot r q
     → IsInserting q e.spot.parent e.spot.side e.spot.edge.slot f.new.slot f.fresh.slot
 inserting p r q key e f i may is on only new others on' only' fresh others' = record {
   key = key;
@@ -84,7 +84,7 @@ inserting p r q key e f i may is on only new others on' only' fresh others' = re
 
 -- ---- the new nodes over steps
 
-ready_kept : (p q : Stand) (f : Fork) → IsSamePass p q → (knowledge q.view).drafts ≡ (knowledge p.view).drafts → IsReady p f → IsReady q f
+ready_kept : (p q : Stand) (f : Fork) → IsSamePass p q → (knowledge q.view).drafts ≡ (knowledge p.view).drafts → HasBothNodes p f → HasBothNodes q f
 ready_kept p q f same is r =
     let at = λ (s : ℕ). same_draft p q s (ap (λ m. get m s) is) in
     let low : q.view.layout ≡ p.view.layout = ap (λ (x : Stand). x.view.layout) same in
@@ -131,7 +131,7 @@ held_fork o p f made is h = subst (λ (g : Option Fork). HasFork o p g) is h
 -- ---- a link may be tried where a walk has ended
 
 pub may_grow : (b : Board) (p r q : Stand) (key : ℕ) (e : End) (c : List ChainEdge) (made : Fork) → q.view.layout ≡ b.layout → Tells p (CallIs Insert key) → (search p).linked ≡ false → GoesOn p r → OnlyLooks p r
-    → HasEnded (Tells r) b.layout.nodes e.spot c → HasFound p r key e.spot.edge.slot e.spot.parent e.spot.side e.key → e.key ≢ key → GoesOn r q → OnlyMakes r q → IsReady q made → MayGrow q key e made
+    → HasEnded (Tells r) b.layout.nodes e.spot c → HasFound p r key e.spot.edge.slot e.spot.parent e.spot.side e.key → e.key ≢ key → GoesOn r q → OnlyMakes r q → HasBothNodes q made → MayGrow q key e made
 may_grow b p r q key e c made layout call unlinked on only ended found other on' only' ready = record {
   call = on'.keeps (CallIs Insert key) (on.keeps (CallIs Insert key) call);
   unlinked = ap (λ (s : Search). s.linked) only'.search ∙ (only.linked ∙ unlinked);
@@ -165,6 +165,6 @@ tries_then o p q same a b = record {
 }
 
 -- the answer of an insert whose key was found
-pub found_answer : (p q : Stand) (k : ℕ) → GoesOn p q → (search q).linked ≡ (search p).linked → (search p).linked ≡ false → Tells p (CallIs Insert k) → ((leaf : ℕ) × EndedWith p ThePin k leaf k) → IsAnswer q false
+pub found_answer : (p q : Stand) (k : ℕ) → GoesOn p q → (search q).linked ≡ (search p).linked → (search p).linked ≡ false → Tells p (CallIs Insert k) → ((leaf : ℕ) × EndedWith p ThePin k leaf k) → IsItsAnswer q false
 found_answer p q k on linked unlinked call ended =
     (Insert, k, on.keeps (CallIs Insert k) call, ((ended.0, (ended.1.0, ended.1.1, on.keeps (EndedAt ThePin k ended.0 ended.1.0 ended.1.1 k) ended.1.2)), linked ∙ unlinked))

@@ -13,10 +13,10 @@ use Rattle.nm_order.specs.Told.FrozenTo.{ends_there, goes_down}
 use Rattle.nm_steps.specs.Steps.{Stand}
 use Rattle.nm_calls.specs.Cleanups.{FrozenAt, FreezesOne, Freezes, top}
 use Rattle.nm_calls.specs.Telling.{Tells, GoesOn}
-use Rattle.nm_calls.specs.Walks.{Leads}
+use Rattle.nm_calls.specs.Walks.{ChainLeads}
 use Rattle.nm_calls.specs.declared.spot.ChainEdge.{ChainEdge}
 
-pub top_of : (H : Fact → Type 0) (t : ℕ) (c : List ChainEdge) (p : ℕ) → Leads H t c p → top c p ≡ t
+pub top_of : (H : Fact → Type 0) (t : ℕ) (c : List ChainEdge) (p : ℕ) → ChainLeads H t c p → top c p ≡ t
 top_of H t [] p way = sym way
 top_of H t (l ∷ c) p way = way.0
 

@@ -13,7 +13,7 @@ use Rattle.nm_steps.specs.Steps.{Stand, Stepped, HasSeen, IsSamePass, HasSeenAll
 use Rattle.nm_epoch.specs.Resting.{epochs}
 use Rattle.nm_calls.specs.declared.looking.Onward.{Onward}
 use Rattle.nm_calls.specs.declared.many.Query.{Query}
-use Rattle.nm_calls.specs.InTurns.{HasBegun, IsUnderWay, key_of, read_on}
+use Rattle.nm_calls.specs.InTurns.{HasBegun, IsUnderWay, key_of, query_read}
 use Rattle.nm_calls.specs.PlainWalks.{AddsLooks, HasComeTo, WasSo}
 use Rattle.nm_calls.specs.Telling.{Tells, GoesOn, EdgeTold, OnwardTold}
 use Rattle.nm_calls.specs.Walks.{Reads}
@@ -52,7 +52,7 @@ begun_so p q e step told queries all i d below = by (slice_index_or queries i d)
 
 -- ---- and goes on
 
-pub gone_on : (p q : Stand) (query : Query) (on : Onward) → Reads query.key query.node p.view.log q.view.log on → OnwardTold p q query.key query.node on.found on.side on.next → IsUnderWay p query → query.node ≢ 0 → IsUnderWay q (read_on query on)
+pub gone_on : (p q : Stand) (query : Query) (on : Onward) → Reads query.key query.node p.view.log q.view.log on → OnwardTold p q query.key query.node on.found on.side on.next → IsUnderWay p query → query.node ≢ 0 → IsUnderWay q (query_read query on)
 gone_on p q query on r told u some = record {
   is_key = u.is_key;
   comes = λ more. comes_on p q query.key query.node on r (u.comes some) more;

@@ -18,7 +18,7 @@ use Rattle.nm_epoch.proofs.KeptHands.{known_after_step}
 use Rattle.nm_calls.specs.declared.spot.ChainEdge.{ChainEdge}
 use Rattle.nm_calls.specs.declared.spot.Spot.{Spot}
 use Rattle.nm_calls.specs.Telling.{IsInRun}
-use Rattle.nm_calls.specs.Cleanups.{HasCut, KeepsLedgers, freed_of}
+use Rattle.nm_calls.specs.Cleanups.{HasCut, KeepsLedgers, freed_of_origin}
 use Rattle.nm_calls.proofs.Looks.{enough}
 
 -- ---- ledgers that stay
@@ -34,7 +34,7 @@ ledgers_then o p q same a b =
     let number : p.view.number ≡ o.view.number = ap (λ (x : Stand). x.view.number) same in
     record {
       others = λ x other. b.others x (λ is. other (is ∙ number)) ∙ a.others x other;
-      freed = subst (λ (n : ℕ). freed_of (knowledge q.view) n ≡ freed_of (knowledge p.view) n) number b.freed ∙ a.freed;
+      freed = subst (λ (n : ℕ). freed_of_origin (knowledge q.view) n ≡ freed_of_origin (knowledge p.view) n) number b.freed ∙ a.freed;
     }
 
 -- ---- a cut, and its label

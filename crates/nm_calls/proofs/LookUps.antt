@@ -22,7 +22,7 @@ use Rattle.nm_order.proofs.ArrivalsOfLooks.{any_there}
 use Rattle.nm_steps.specs.Steps.{Stand, MayStep}
 use Rattle.nm_steps.proofs.AfterSteps.{TellsRun, run_after}
 use Rattle.nm_epoch.specs.Resting.{IsPinnedAt, KeepsHands, epochs, search}
-use Rattle.nm_epoch.specs.Tries.{IsPinned}
+use Rattle.nm_epoch.specs.Tries.{IsPinnedBy}
 use Rattle.nm_epoch.proofs.Allowed.{passes}
 use Rattle.nm_calls.specs.Calls.{LostWalks, HasMissed}
 use Rattle.nm_calls.specs.Telling.{Tells, IsInRun, IsPinnedSomewhere, OnlyLooks}
@@ -43,7 +43,7 @@ module _ (p : Stand) (epoch : ℕ) (op : Op) (key : ℕ) (at : IsPinnedAt epoch 
   call_is = ap (λ (s : Search). s.call) at.begun
 
 -- its log is of a run
-pub pinned_in_run : (old : List Entry) (q : Stand) (op : Op) (key tries epoch : ℕ) → IsPinned (SightFor op key) tries old q.view.log epoch → IsLayout q.view.layout → TellsRun q → IsInRun q
+pub pinned_in_run : (old : List Entry) (q : Stand) (op : Op) (key tries epoch : ℕ) → IsPinnedBy (SightFor op key) tries old q.view.log epoch → IsLayout q.view.layout → TellsRun q → IsInRun q
 pinned_in_run old q op key tries epoch pin fits tells =
     record { fits = fits; run = run_after (record q { view = record q.view { log = _ } }) q (SightFor op key) (Pinned epoch) pin.5.1 refl tells }
 
@@ -84,6 +84,6 @@ looks_keep p q only = record {
 
 -- ---- all walks broken off
 
-pub missed : (nodes tries k : ℕ) (old a z new : List Entry) (epoch : ℕ) → tries ≢ 0 → IsPinned (SightFor Has k) tries old a epoch → LostWalks nodes k tries a z → new ≡ z ++ (Leave, Departed) ∷ [] → HasMissed nodes tries k old new
+pub missed : (nodes tries k : ℕ) (old a z new : List Entry) (epoch : ℕ) → tries ≢ 0 → IsPinnedBy (SightFor Has k) tries old a epoch → LostWalks nodes k tries a z → new ≡ z ++ (Leave, Departed) ∷ [] → HasMissed nodes tries k old new
 missed nodes zero k old a z new epoch some pin lost leaves = absurd (some refl)
 missed nodes (suc t) k old a z new epoch some pin lost leaves = inr (a, z, epoch, pin, lost, leaves)

@@ -34,7 +34,7 @@ use Rattle.nm_steps.specs.Steps.{Stand, MayStep, Stepped}
 use Rattle.nm_steps.proofs.AfterSteps.{TellsRun, run_after, is_join}
 use Rattle.nm_steps.proofs.Presence.{known_push}
 use Rattle.nm_calls.specs.Telling.{IsInRun, GoesOn}
-use Rattle.nm_calls.specs.Making.{draft, IsFilled, KeepsOthers, OnlyMakes, with_node}
+use Rattle.nm_calls.specs.Making.{draft, IsFilled, KeepsOtherSlots, OnlyMakes, with_node}
 use Rattle.nm_calls.proofs.Looks.{inside}
 
 -- ---- drafts
@@ -178,7 +178,7 @@ module _ (p q : Stand) (s : ℕ) (f : Field) (v : ℕ) (step : Stepped p q (Fill
   pub filled_draft : draft q s ≡ filled_in (draft p s) f v
   filled_draft = get_draft q s (filled_in (draft p s) f v) filled_there
 
-  pub filled_others : KeepsOthers s p q
+  pub filled_others : KeepsOtherSlots s p q
   filled_others x ne =
       ap (λ (k : Knowledge). get k.drafts x) filled_known
       ∙ put_another (knowledge p.view).drafts s (filled_in (draft p s) f v) x ne

@@ -16,7 +16,7 @@ use Rattle.nm_order.specs.Facts.Fact.{KnowsSlot, KnowsLeaf, IsFlagged, IsBorn, C
 use Rattle.nm_order.proofs.LaterFlagLaws.{later_walks_find}
 use Rattle.nm_steps.specs.Steps.{Stand, IsSamePass}
 use Rattle.nm_epoch.specs.Resting.{epochs, search}
-use Rattle.nm_epoch.specs.Tries.{IsPinned}
+use Rattle.nm_epoch.specs.Tries.{IsPinnedBy}
 use Rattle.nm_epoch.specs.declared.collecting.Entry.{Entry as Waiting}
 use Rattle.nm_calls.specs.declared.deleting.Missed.{Missed}
 use Rattle.nm_calls.specs.declared.deleting.Missed.TheVariants as missed
@@ -30,7 +30,7 @@ use Rattle.nm_calls.specs.Walks.{HasEnded, HasFound}
 use Rattle.nm_calls.specs.Marking.{IsToBeFlagged, FlagWon}
 use Rattle.nm_calls.specs.Leaving.{ShowsAnswer}
 use Rattle.nm_calls.specs.Cleanups.{HasCleaned, OnlyCleans, CleanupLost}
-use Rattle.nm_calls.specs.Deletes.{IsRemoving, MayFlag, HasFlagged, leaf_of, OnlyInjects, IsRemoval, RemovalAfter, LosesAfterFlag, LacksRoomOr, FlagsThen, PinsForDelete, DeleteDid}
+use Rattle.nm_calls.specs.Deletes.{IsRemoving, MayFlag, HasWonItsFlag, leaf_of, OnlyInjects, IsRemoval, RemovalAfter, LosesAfterFlag, LacksRoomOr, FlagsThen, PinsForDelete, DeleteDid}
 use Rattle.nm_calls.proofs.GoingOn.{pinned_still}
 use Rattle.nm_calls.proofs.KeptLedgers.{ledgers_then}
 use Rattle.nm_calls.proofs.Looks.{enough}
@@ -93,7 +93,7 @@ to_be_flagged p q k r b may on only born = record {
   unflagged = only.flagged ∙ may.unflagged;
 }
 
-pub has_flagged : (o p q : Stand) (r : End) (b : ℕ) → p.view.log ≡ o.view.log ++ (Look r.spot.edge.slot Birth, BirthIs b) ∷ [] → Tells p (IsBorn r.spot.edge.slot b) → GoesOn p q → FlagWon p q r.spot.parent r.spot.side (leaf_of r b) → HasFlagged o q r b
+pub has_flagged : (o p q : Stand) (r : End) (b : ℕ) → p.view.log ≡ o.view.log ++ (Look r.spot.edge.slot Birth, BirthIs b) ∷ [] → Tells p (IsBorn r.spot.edge.slot b) → GoesOn p q → FlagWon p q r.spot.parent r.spot.side (leaf_of r b) → HasWonItsFlag o q r b
 has_flagged o p q r b looked born on won = record {
   part = ap (λ (x : Stand). x.view.log) won.step ∙ ap (λ (log : List Entry). log ++ (Flag r.spot.parent r.spot.side r.spot.edge.slot, Flagged (leaf_of r b)) ∷ []) looked;
   flagged = won.flagged;
@@ -140,14 +140,14 @@ delete_did nodes tries k old new (Err missed.NoMemory) h = inr h
 delete_did nodes tries k old new (Err (missed.Unfinished n)) h = h
 
 -- why it gave up, told from before its pin
-pub lacks_room : (nodes tries k : ℕ) (old pinned new : List Entry) (epoch spare : ℕ) (m : Missed) → IsPinned (SightFor Delete k) tries old pinned epoch
+pub lacks_room : (nodes tries k : ℕ) (old pinned new : List Entry) (epoch spare : ℕ) (m : Missed) → IsPinnedBy (SightFor Delete k) tries old pinned epoch
     → LacksRoomOr (λ n. FlagsThen nodes tries k n pinned new removal.Spent) spare m → LacksRoomOr (LosesAfterFlag nodes tries k old new) spare m
 lacks_room nodes tries k old pinned new epoch spare missed.Busy pin why = why
 lacks_room nodes tries k old pinned new epoch spare missed.NoMemory pin why = why
 lacks_room nodes tries k old pinned new epoch spare (missed.Unfinished n) pin (inl less) = inl less
 lacks_room nodes tries k old pinned new epoch spare (missed.Unfinished n) pin (inr lost) = inr (pinned, epoch, pin, lost)
 
-pub each_lacks_room : (nodes tries k : ℕ) (old pinned new : List Entry) (epoch spare : ℕ) (r : Result Bool Missed) → IsPinned (SightFor Delete k) tries old pinned epoch
+pub each_lacks_room : (nodes tries k : ℕ) (old pinned new : List Entry) (epoch spare : ℕ) (r : Result Bool Missed) → IsPinnedBy (SightFor Delete k) tries old pinned epoch
     → IfErr r (LacksRoomOr (λ n. FlagsThen nodes tries k n pinned new removal.Spent) spare) → IfErr r (LacksRoomOr (LosesAfterFlag nodes tries k old new) spare)
 each_lacks_room nodes tries k old pinned new epoch spare (Ok b) pin why = why
 each_lacks_room nodes tries k old pinned new epoch spare (Err m) pin why = lacks_room nodes tries k old pinned new epoch spare m pin why

@@ -9,15 +9,15 @@ use Rattle.nm_order.specs.Taught.{EdgeLearned}
 use Rattle.nm_calls.specs.declared.looking.Onward.{Onward}
 use Rattle.nm_calls.specs.declared.spot.ChainEdge.{ChainEdge}
 use Rattle.nm_calls.specs.declared.spot.Spot.{Spot}
-use Rattle.nm_calls.specs.Walks.{begin, onto, chained, chain_onto, Reads, Walks, Leads, IsAt}
+use Rattle.nm_calls.specs.Walks.{begin, onto, chained, chain_onto, Reads, Walks, ChainLeads, IsAt}
 
 -- ---- facts that stay
 
-pub leads_kept : (H J : Fact → Type 0) → ((f : Fact) → H f → J f) → (s : ℕ) (c : List ChainEdge) (q : ℕ) → Leads H s c q → Leads J s c q
+pub leads_kept : (H J : Fact → Type 0) → ((f : Fact) → H f → J f) → (s : ℕ) (c : List ChainEdge) (q : ℕ) → ChainLeads H s c q → ChainLeads J s c q
 leads_kept H J k s [] q h = h
 leads_kept H J k s (l ∷ c) q h = (h.0, h.1, k (IsTagged s l.side h.1) h.2, k (KnowsSlot h.1) h.3, leads_kept H J k h.1 c q h.4)
 
-leads_on : (H : Fact → Type 0) (s : ℕ) (c : List ChainEdge) (q : ℕ) (d : Side) (t : ℕ) → Leads H s c q → H (IsTagged q d t) → H (KnowsSlot t) → Leads H s (c ++ chained q d ∷ []) t
+leads_on : (H : Fact → Type 0) (s : ℕ) (c : List ChainEdge) (q : ℕ) (d : Side) (t : ℕ) → ChainLeads H s c q → H (IsTagged q d t) → H (KnowsSlot t) → ChainLeads H s (c ++ chained q d ∷ []) t
 leads_on H s [] q d t h tag known = rw h (refl, t, tag, known, refl)
 leads_on H s (l ∷ c) q d t h tag known = (h.0, h.1, h.2, h.3, leads_on H h.1 c q d t h.4 tag known)
 

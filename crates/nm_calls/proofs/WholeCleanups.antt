@@ -28,7 +28,7 @@ use Rattle.nm_calls.specs.declared.cutting.Kept.{Kept}
 use Rattle.nm_calls.specs.declared.spot.ChainEdge.{ChainEdge}
 use Rattle.nm_calls.specs.declared.spot.Spot.{Spot}
 use Rattle.nm_calls.specs.Telling.{Tells, IsInRun, GoesOn, OnlyLooks}
-use Rattle.nm_calls.specs.Walks.{Leads, IsAt}
+use Rattle.nm_calls.specs.Walks.{ChainLeads, IsAt}
 use Rattle.nm_calls.specs.Marking.{IsToBeCut, OnlyCuts, SpliceWon}
 use Rattle.nm_calls.specs.Leaving.{OnlyLabels}
 use Rattle.nm_calls.specs.Cleanups.{Chooses, FreezesOne, Freezes, Prepares, CutsOff, CleanupLost, top, HasCut, OnlyCleans}
@@ -42,8 +42,8 @@ module _ (p q : Stand) (s : Spot) (c : List ChainEdge) (at : IsAt (Tells p) s c)
   pub at_top : top c s.parent ≡ s.successor
   at_top = top_of (Tells p) s.successor c s.parent at.way
 
-  pub way_there : GoesOn p q → Leads (Tells q) (top c s.parent) c s.parent
-  way_there on = subst (λ (t : ℕ). Leads (Tells q) t c s.parent) (sym at_top) (leads_kept (Tells p) (Tells q) (λ fact holds. on.keeps fact holds) s.successor c s.parent at.way)
+  pub way_there : GoesOn p q → ChainLeads (Tells q) (top c s.parent) c s.parent
+  way_there on = subst (λ (t : ℕ). ChainLeads (Tells q) t c s.parent) (sym at_top) (leads_kept (Tells p) (Tells q) (λ fact holds. on.keeps fact holds) s.successor c s.parent at.way)
 
   pub knows_top : GoesOn p q → Tells q (KnowsSlot (top c s.parent))
   knows_top on = subst (λ (t : ℕ). Tells q (KnowsSlot t)) (sym at_top) (on.keeps (KnowsSlot s.successor) at.successor)

@@ -4,10 +4,10 @@ use Rattle.nm_model.specs.declared.event.Event.TheVariants.{SightFor, Leave, Lea
 use Rattle.nm_model.specs.declared.event.Op.TheVariants.{Has}
 use Rattle.nm_model.specs.declared.reply.Reply.TheVariants.{Departed}
 use Rattle.nm_model.specs.Walks.{Entry}
-use Rattle.nm_epoch.specs.Tries.{IsPinned, IsMoved}
+use Rattle.nm_epoch.specs.Tries.{IsPinnedBy, IsMoved}
 use Rattle.nm_calls.specs.declared.spot.ChainEdge.{ChainEdge}
 use Rattle.nm_calls.specs.declared.spot.Spot.{Spot}
-use Rattle.nm_calls.specs.Walks.{Ends, IsTooLong}
+use Rattle.nm_calls.specs.Walks.{EndsAtLeaf, IsTooLong}
 
 -- so many walks in a row were broken off
 abbrev pub LostWalks : ℕ → ℕ → ℕ → List Entry → List Entry → Type 0
@@ -20,7 +20,7 @@ LostWalks nodes k (suc t) old new =
 pub record HasDid (nodes tries k : ℕ) (old new : List Entry) (answer : Bool) : Type 0 where
   pub pinned : List Entry
   pub epoch : ℕ
-  pub pin : IsPinned (SightFor Has k) tries old pinned epoch
+  pub pin : IsPinnedBy (SightFor Has k) tries old pinned epoch
   pub broken : ℕ
   pub few : broken < tries
   pub begun : List Entry
@@ -29,7 +29,7 @@ pub record HasDid (nodes tries k : ℕ) (old new : List Entry) (answer : Bool) :
   pub spot : Spot
   pub chain : List ChainEdge
   pub key : ℕ
-  pub walk : Ends nodes k begun ended spot chain key
+  pub walk : EndsAtLeaf nodes k begun ended spot chain key
   pub answers : answer ≡ (key == k)
   pub leaves : new ≡ ended ++ (LeaveWith answer, Departed) ∷ []
 
@@ -39,5 +39,5 @@ abbrev pub HasMissed : ℕ → ℕ → ℕ → List Entry → List Entry → Typ
 HasMissed nodes zero k old new = new ≡ old
 HasMissed nodes (suc t) k old new =
     IsMoved (SightFor Has k) (suc t) old new
-    ⊎ ((a z : List Entry) × (epoch : ℕ) × IsPinned (SightFor Has k) (suc t) old a epoch
+    ⊎ ((a z : List Entry) × (epoch : ℕ) × IsPinnedBy (SightFor Has k) (suc t) old a epoch
     × LostWalks nodes k (suc t) a z × (new ≡ z ++ (Leave, Departed) ∷ []))

@@ -99,8 +99,8 @@ CleanupWon s c ns epoch old new =
 -- ---- what a won splice leaves of the pass, and a whole cleanup
 
 -- the node, a slot with its birth, is one of these
-abbrev pub IsAmong : NodeId → List NodeId → Type 0
-IsAmong n ns = is_flagged_in (Some n) ns ≡ true
+abbrev pub IsOneOfNodes : NodeId → List NodeId → Type 0
+IsOneOfNodes n ns = is_flagged_in (Some n) ns ≡ true
 
 -- these nodes were cut off and wait for their label; and where the edge by which the walk ended is
 -- known flagged, its leaf is one of them
@@ -112,7 +112,7 @@ pub record HasCut (s : Spot) (c : List ChainEdge) (ns : List NodeId) (p q : Stan
       else held (knowledge p.view).ledgers o)
   pub epochs : (knowledge q.view).brief ≡ record (knowledge p.view).brief { unlabelled = true }
   pub leaf : (to b : ℕ) → Tells p (IsFlagged s.parent s.side to) → Tells p (IsBorn to b)
-      → IsAmong (record { slot = to; birth = b }) ns
+      → IsOneOfNodes (record { slot = to; birth = b }) ns
   pub cut : (search_after idle q.view.log).cut
       ≡ ((search_after idle p.view.log).cut
       || is_flagged_in (search_after idle p.view.log).flagged ns)
@@ -124,15 +124,16 @@ pub record HasCutNothing (s : Spot) (c : List ChainEdge) (p q : Stand) : Type 0 
 
 -- the nodes that were freed of an origin's ledger, where the worker holds it (Fraser, section
 -- 5.2.3; by origin ours)
-abbrev pub freed_of : Knowledge → ℕ → Option (List NodeId)
-freed_of k o = option_map (λ (l : Ledger). l.freed) (held k.ledgers o)
+abbrev pub freed_of_origin : Knowledge → ℕ → Option (List NodeId)
+freed_of_origin k o = option_map (λ (l : Ledger). l.freed) (held k.ledgers o)
 
 -- each ledger of another origin is as it was, and nothing was freed of the own one (Fraser, section
 -- 5.2.3; by origin ours)
 pub record KeepsLedgers (p q : Stand) : Type 0 where
   pub others : (o : ℕ) → o ≢ p.view.number
       → held (knowledge q.view).ledgers o ≡ held (knowledge p.view).ledgers o
-  pub freed : freed_of (knowledge q.view) p.view.number ≡ freed_of (knowledge p.view) p.view.number
+  pub freed : freed_of_origin (knowledge q.view) p.view.number
+      ≡ freed_of_origin (knowledge p.view) p.view.number
 
 -- these nodes were cut off and labelled, and are at the end of the queue, with the flagged leaf
 -- among them
@@ -143,7 +144,7 @@ pub record HasCleaned (s : Spot) (c : List ChainEdge) (p q : Stand)
   pub part : CleanupWon s c nodes epoch p.view.log q.view.log
   pub queue : fs ≡ es ++ map (labelled_so epoch) nodes
   pub leaf : (to b : ℕ) → Tells p (IsFlagged s.parent s.side to) → Tells p (IsBorn to b)
-      → IsAmong (record { slot = to; birth = b }) nodes
+      → IsOneOfNodes (record { slot = to; birth = b }) nodes
   pub cut : (search_after idle q.view.log).cut
       ≡ ((search_after idle p.view.log).cut
       || is_flagged_in (search_after idle p.view.log).flagged nodes)

@@ -13,7 +13,7 @@ use Rattle.nm_order.specs.Facts.Fact.{KnowsSlot, KnowsLeaf, IsFlagged, IsBorn, C
 use Rattle.nm_steps.specs.Rules.{knowledge}
 use Rattle.nm_steps.specs.Steps.{Stand}
 use Rattle.nm_epoch.specs.Resting.{IsResting, epochs, search}
-use Rattle.nm_epoch.specs.Tries.{IsPinned, IsMoved}
+use Rattle.nm_epoch.specs.Tries.{IsPinnedBy, IsMoved}
 use Rattle.nm_calls.specs.declared.deleting.Injected.{Injected}
 use Rattle.nm_calls.specs.declared.deleting.Injected.TheVariants as injected
 use Rattle.nm_calls.specs.declared.deleting.Injection.{Injection}
@@ -28,7 +28,7 @@ use Rattle.nm_calls.specs.Bounds.{chain_bound, cut_bound}
 use Rattle.nm_calls.specs.Telling.{Tells, IsInRun, IsPinnedSomewhere}
 use Rattle.nm_calls.specs.Walks.{Seeks, IsBroken, IsAt}
 use Rattle.nm_calls.specs.Leaving.{ShowsAnswer}
-use Rattle.nm_calls.specs.Cleanups.{CleanupWon, CleanupLost, IsAmong, KeepsLedgers}
+use Rattle.nm_calls.specs.Cleanups.{CleanupWon, CleanupLost, IsOneOfNodes, KeepsLedgers}
 use Rattle.nm_calls.specs.Inserts.{Helps}
 
 -- ---- a try to flag
@@ -77,7 +77,7 @@ abbrev pub Removes : ℕ → ℕ → NodeId → List Entry → List Entry → Ty
 Removes nodes k n old new = (r : End) × (c : List ChainEdge)
     × ((Seeks nodes k old new c (Some r) × (r.spot.edge.slot ≢ n.slot))
     ⊎ ((mid : List Entry) × (ns : List NodeId) × (epoch : ℕ) × Seeks nodes k old mid c (Some r)
-    × (r.spot.edge.slot ≡ n.slot) × CleanupWon r.spot c ns epoch mid new × IsAmong n ns))
+    × (r.spot.edge.slot ≡ n.slot) × CleanupWon r.spot c ns epoch mid new × IsOneOfNodes n ns))
 
 -- a walk that was broken off, or a lost cleanup by a walk that ended at the flagged leaf
 abbrev pub RemovesNothing : ℕ → ℕ → NodeId → List Entry → List Entry → Type 0
@@ -124,7 +124,7 @@ looks_and_flags r b reply old =
 
 -- the flag is won: the leaf is the one that the call flagged, and the edge to it is known as
 -- flagged
-pub record HasFlagged (p q : Stand) (r : End) (b : ℕ) : Type 0 where
+pub record HasWonItsFlag (p q : Stand) (r : End) (b : ℕ) : Type 0 where
   pub part : q.view.log ≡ looks_and_flags r b (Flagged (leaf_of r b)) p.view.log
   pub flagged : (search q).flagged ≡ Some (leaf_of r b)
   pub edge : Tells q (IsFlagged r.spot.parent r.spot.side r.spot.edge.slot)
@@ -195,7 +195,7 @@ abbrev pub RemovalAfter : ℕ → ℕ → End → List ChainEdge → ℕ → ℕ
     → Type 0
 RemovalAfter nodes k r c b left old new removal.Removed =
     ((left ≢ 0) × (ns : List NodeId) × (epoch : ℕ) × CleanupWon r.spot c ns epoch old new
-    × IsAmong (leaf_of r b) ns)
+    × IsOneOfNodes (leaf_of r b) ns)
     ⊎ ((t : ℕ) × (mid : List Entry) × (left ≡ t + 1) × CleanupLost r.spot c old mid
     × IsRemoval nodes k (leaf_of r b) t mid new removal.Removed)
 RemovalAfter nodes k r c b left old new removal.Refused =
@@ -237,7 +237,7 @@ DeleteFinishes nodes tries k old new (Err (missed.Unfinished n)) =
 -- a pin for the delete, and then what finishes it
 abbrev pub PinsForDelete : ℕ → ℕ → ℕ → List Entry → List Entry → Result Bool Missed → Type 0
 PinsForDelete nodes tries k old new r =
-    (pinned : List Entry) × (epoch : ℕ) × IsPinned (SightFor Delete k) tries old pinned epoch
+    (pinned : List Entry) × (epoch : ℕ) × IsPinnedBy (SightFor Delete k) tries old pinned epoch
     × DeleteFinishes nodes tries k pinned new r
 
 -- a whole delete, by its answer (Natarajan and Mittal, section 3.2, delete)
@@ -263,7 +263,7 @@ LosesEachTry nodes k n tries old new = IsRemoval nodes k n tries old new removal
 -- a pin and a flag that was won, and behind it each try was lost
 abbrev pub LosesAfterFlag : ℕ → ℕ → ℕ → List Entry → List Entry → NodeId → Type 0
 LosesAfterFlag nodes tries k old new n =
-    (pinned : List Entry) × (epoch : ℕ) × IsPinned (SightFor Delete k) tries old pinned epoch
+    (pinned : List Entry) × (epoch : ℕ) × IsPinnedBy (SightFor Delete k) tries old pinned epoch
     × FlagsThen nodes tries k n pinned new removal.Spent
 
 -- why a delete gave up: what is left has less room than a try asks; or, once the leaf is flagged,

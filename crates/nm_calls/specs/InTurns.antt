@@ -22,8 +22,8 @@ abbrev pub HasBegun : ℕ → Query → Type 0
 HasBegun first q = IsKey q.key × (q.node ≡ first)
 
 -- where its walk has read its node so (Natarajan and Mittal, section 3.2)
-abbrev pub read_on : Query → Onward → Query
-read_on q on = record { key = q.key; found = on.found == q.key; node = on.next.slot }
+abbrev pub query_read : Query → Onward → Query
+query_read q on = record { key = q.key; found = on.found == q.key; node = on.next.slot }
 
 abbrev pub key_of : Query → ℕ
 key_of q = q.key

@@ -18,7 +18,7 @@ use Rattle.nm_steps.specs.Steps.{Stand}
 use Rattle.nm_epoch.specs.Resting.{epochs, search}
 use Rattle.nm_calls.specs.declared.growing.Fork.{Fork}
 use Rattle.nm_calls.specs.declared.growing.Inner.{Inner}
-use Rattle.nm_epoch.specs.Tries.{IsPinned, IsMoved}
+use Rattle.nm_epoch.specs.Tries.{IsPinnedBy, IsMoved}
 use Rattle.nm_calls.specs.declared.inserting.Fault.{Fault}
 use Rattle.nm_calls.specs.declared.inserting.Fault.TheVariants as fault
 use Rattle.nm_calls.specs.declared.inserting.Attempt.{Attempt}
@@ -34,7 +34,7 @@ use Rattle.nm_calls.specs.Cleanups.{CleanupWon, CleanupLost, KeepsLedgers}
 -- ---- two private nodes
 
 -- both are private, with their births
-pub record IsReady (p : Stand) (f : Fork) : Type 0 where
+pub record HasBothNodes (p : Stand) (f : Fork) : Type 0 where
   pub apart : f.new.slot ≢ f.fresh.slot
   pub new_birth : (draft p f.new.slot).birth ≡ Some f.new.birth
   pub fresh_birth : (draft p f.fresh.slot).birth ≡ Some f.fresh.birth
@@ -49,7 +49,7 @@ KeepsBut f o p = (s : ℕ) → s ≢ f.new.slot → s ≢ f.fresh.slot
 -- the private slots are those that there were, and with them two new nodes, if the call has made
 -- them
 pub record HoldsFork (o p : Stand) (f : Fork) : Type 0 where
-  pub ready : IsReady p f
+  pub ready : HasBothNodes p f
   pub others : KeepsBut f o p
   pub new_was : get (knowledge o.view).drafts f.new.slot ≡ None
   pub fresh_was : get (knowledge o.view).drafts f.fresh.slot ≡ None
@@ -63,7 +63,7 @@ HasFork o p (Some f) = HoldsFork o p f
 -- the new nodes, if there are some, are ready
 abbrev pub IfReady : Stand → Option Fork → Type 0
 IfReady p None = Unit {0}
-IfReady p (Some f) = IsReady p f
+IfReady p (Some f) = HasBothNodes p f
 
 -- both nodes are given back, if there are any
 abbrev pub Returns : Option Fork → List Entry → List Entry → Type 0
@@ -100,7 +100,7 @@ pub record MayGrow (p : Stand) (key : ℕ) (r : End) (f : Fork) : Type 0 where
   pub within : r.spot.edge.slot ≤ p.view.layout.nodes
   pub ended : Tells p (EndedAt ThePin key r.spot.edge.slot r.spot.parent r.spot.side r.key)
   pub other : r.key ≢ key
-  pub ready : IsReady p f
+  pub ready : HasBothNodes p f
 
 -- both nodes were filled, and a link of them was tried at the edge by which the walk ended
 abbrev pub Grows : ℕ → End → Fork → Reply → List Entry → List Entry → Type 0
@@ -128,7 +128,7 @@ pub record HasNotGrown (p q : Stand) (key : ℕ) (r : End) (f : Fork) (e : Edge)
   pub part : Grows key r f (Lost e) p.view.log q.view.log
   pub linked : (search q).linked ≡ (search p).linked
   pub others : KeepsBut f p q
-  pub ready : IsReady q f
+  pub ready : HasBothNodes q f
   pub learned : EdgeLearned (Tells q) r.spot.parent r.spot.side e
 
 -- ---- one try
@@ -238,7 +238,7 @@ Finishes fit nodes tries k old new (Err fault.NoMemory) =
 -- a pin for the insert, and then what finishes it
 abbrev pub PinsThen : Fit → ℕ → ℕ → ℕ → List Entry → List Entry → Result Bool Fault → Type 0
 PinsThen fit nodes tries k old new r =
-    (pinned : List Entry) × (epoch : ℕ) × IsPinned (SightFor Insert k) tries old pinned epoch
+    (pinned : List Entry) × (epoch : ℕ) × IsPinnedBy (SightFor Insert k) tries old pinned epoch
     × Finishes fit nodes tries k pinned new r
 
 -- Busy: there may be no try, and there was no step; or each try of the pin was lost; or each try

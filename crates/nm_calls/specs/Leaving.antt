@@ -30,8 +30,8 @@ ShowsAnswer p Delete k false =
     ((leaf v : ℕ) × (v ≢ k) × EndedWith p ThePin k leaf v) × ((search p).flagged ≡ None)
 
 -- the call under the pin may leave with that answer
-abbrev pub IsAnswer : Stand → Bool → Type 0
-IsAnswer p answer = (op : Op) × (k : ℕ) × Tells p (CallIs op k) × ShowsAnswer p op k answer
+abbrev pub IsItsAnswer : Stand → Bool → Type 0
+IsItsAnswer p answer = (op : Op) × (k : ℕ) × Tells p (CallIs op k) × ShowsAnswer p op k answer
 
 -- nothing has changed but the label of the cut, and the epoch that was read
 pub record OnlyLabels (epoch : ℕ) (p q : Stand) : Type 0 where

@@ -36,8 +36,8 @@ pub record IsFilled (p : Stand) (slot birth key left right : ℕ) : Type 0 where
 -- ---- what a step leaves
 
 -- each other slot is private with what was stored there, or is not private, as it was
-abbrev pub KeepsOthers : ℕ → Stand → Stand → Type 0
-KeepsOthers slot p q = (s : ℕ) → s ≢ slot
+abbrev pub KeepsOtherSlots : ℕ → Stand → Stand → Type 0
+KeepsOtherSlots slot p q = (s : ℕ) → s ≢ slot
     → get (knowledge q.view).drafts s ≡ get (knowledge p.view).drafts s
 
 -- so does each slot but the claimed one, if one was claimed

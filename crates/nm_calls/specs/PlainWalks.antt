@@ -7,7 +7,7 @@ use Rattle.nm_model.specs.declared.reply.Reply.TheVariants.{Departed}
 use Rattle.nm_model.specs.Walks.{Entry, since_pin, WalkComes, WalkEnds}
 use Rattle.nm_order.specs.WalkAnswers.{WasSoSince}
 use Rattle.nm_steps.specs.Steps.{Stand}
-use Rattle.nm_epoch.specs.Tries.{IsPinned, IsMoved}
+use Rattle.nm_epoch.specs.Tries.{IsPinnedBy, IsMoved}
 
 -- ---- what is added to the log
 
@@ -26,7 +26,7 @@ pub record AddsLooks (most : ℕ) (old new : List Entry) : Type 0 where
 pub record LooksUnderPin (tries most : ℕ) (old new : List Entry) : Type 0 where
   pub pinned : List Entry
   pub epoch : ℕ
-  pub pin : IsPinned Sight tries old pinned epoch
+  pub pin : IsPinnedBy Sight tries old pinned epoch
   pub looked : List Entry
   pub looks : AddsLooks most pinned looked
   pub leaves : new ≡ looked ++ (Leave, Departed) ∷ []

@@ -8,7 +8,7 @@ use Rattle.nm_model.specs.Searches.{idle, side_of}
 use Rattle.nm_model.specs.Walks.{search_after}
 use Rattle.nm_order.specs.Facts.{Since, Fact, Holds}
 use Rattle.nm_order.specs.Facts.Fact.{IsPinned, IsTagged, IsFlagged, Came, ReadKey, EndedAt}
-use Rattle.nm_order.specs.Taught.{Walks, EdgeLearned}
+use Rattle.nm_order.specs.Taught.{WalksAreFor, EdgeLearned}
 use Rattle.nm_steps.specs.Rules.{knowledge}
 use Rattle.nm_steps.specs.Steps.{Stand}
 pub use Rattle.nm_steps.specs.Steps.{IsInRun}
@@ -57,7 +57,7 @@ pub record EdgeTold (p q : Stand) (x : ℕ) (side : Side) (e : Edge) : Type 0 wh
   pub high : e.flag ≡ true → 6 ≤ e.slot
   pub owner : e.flag ≡ true → 6 ≤ x
   pub root : x ≡ 2 → side ≡ Left → e.slot ≢ 0
-  pub begins : (since : Since) (k : ℕ) → Walks p.view.layout p.view.number p.view.log since k
+  pub begins : (since : Since) (k : ℕ) → WalksAreFor p.view.layout p.view.number p.view.log since k
       → x ≡ 2 → side ≡ Left → Tells q (Came since k e.slot 2 Left)
   pub goes : (since : Since) (k parent v : ℕ) (up : Side) → Tells p (ReadKey since k x parent up v)
       → side ≡ side_of k v → e.slot ≢ 0 → Tells q (Came since k e.slot x side)

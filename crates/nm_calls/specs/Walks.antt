@@ -10,7 +10,7 @@ use Rattle.nm_model.specs.Searches.{side_of}
 use Rattle.nm_model.specs.Walks.{Entry}
 use Rattle.nm_order.specs.Facts.{Since, Fact}
 use Rattle.nm_order.specs.Facts.Fact.{KnowsSlot, KnowsLeaf, IsTagged, Came, EndedAt}
-use Rattle.nm_order.specs.Taught.{Walks as HasWalks}
+use Rattle.nm_order.specs.Taught.{WalksAreFor as HasWalks}
 use Rattle.nm_steps.specs.Steps.{Stand}
 use Rattle.nm_calls.specs.declared.looking.Onward.{Onward}
 use Rattle.nm_calls.specs.declared.spot.ChainEdge.{ChainEdge}
@@ -82,8 +82,8 @@ Walks k (suc n) old new s c =
 
 -- a walk to the leaf that the edge of s leads to, whose key this is; with slot 2 and the leaf it
 -- looked at no more than `nodes` nodes (Natarajan and Mittal, section 3.2, seek)
-abbrev pub Ends : ℕ → ℕ → List Entry → List Entry → Spot → List ChainEdge → ℕ → Type 0
-Ends nodes k old new s c key =
+abbrev pub EndsAtLeaf : ℕ → ℕ → List Entry → List Entry → Spot → List ChainEdge → ℕ → Type 0
+EndsAtLeaf nodes k old new s c key =
     (n : ℕ) × (mid : List Entry) × (on : Onward) × (n + 2 ≤ nodes) × Walks k n old mid s c
     × (on.next.slot ≡ 0)
     × Reads k s.edge.slot mid new on × (on.found ≡ key)
@@ -107,22 +107,24 @@ IsBroken nodes k old new = IsTooLong nodes k old new ⊎ IsTooDeep nodes k old n
 
 -- what a walk finds that remembers nothing: the leaf's key
 abbrev pub Finds : ℕ → ℕ → List Entry → List Entry → Option ℕ → Type 0
-Finds nodes k old new (Some key) = (s : Spot) × (c : List ChainEdge) × Ends nodes k old new s c key
+Finds nodes k old new (Some key) = (s : Spot) × (c : List ChainEdge)
+    × EndsAtLeaf nodes k old new s c key
 Finds nodes k old new None = IsTooLong nodes k old new
 
 -- what a walk finds that remembers its chain, which has 64 nodes at most with the parent (Natarajan
 -- and Mittal, section 3.2, seek)
 abbrev pub Seeks : ℕ → ℕ → List Entry → List Entry → List ChainEdge → Option End → Type 0
-Seeks nodes k old new c (Some r) = Ends nodes k old new r.spot c r.key × (length c < chain_bound)
+Seeks nodes k old new c (Some r) = EndsAtLeaf nodes k old new r.spot c r.key
+    × (length c < chain_bound)
 Seeks nodes k old new c None = IsBroken nodes k old new
 
 -- ---- what is known where it stands
 
 -- by tagged edges the chain leads from s to q
-abbrev pub Leads : (Fact → Type 0) → ℕ → List ChainEdge → ℕ → Type 0
-Leads H s [] q = s ≡ q
-Leads H s (l ∷ c) q = (l.slot ≡ s) × (t : ℕ) × H (IsTagged s l.side t) × H (KnowsSlot t)
-    × Leads H t c q
+abbrev pub ChainLeads : (Fact → Type 0) → ℕ → List ChainEdge → ℕ → Type 0
+ChainLeads H s [] q = s ≡ q
+ChainLeads H s (l ∷ c) q = (l.slot ≡ s) × (t : ℕ) × H (IsTagged s l.side t) × H (KnowsSlot t)
+    × ChainLeads H t c q
 
 -- what is known of the nodes of a spot and of its chain
 pub record IsAt (H : Fact → Type 0) (s : Spot) (c : List ChainEdge) : Type 0 where
@@ -131,7 +133,7 @@ pub record IsAt (H : Fact → Type 0) (s : Spot) (c : List ChainEdge) : Type 0 w
   pub parent : H (KnowsSlot s.parent)
   pub node : H (KnowsSlot s.edge.slot)
   pub tagged : s.edge.tag ≡ true → H (IsTagged s.parent s.side s.edge.slot)
-  pub way : Leads H s.successor c s.parent
+  pub way : ChainLeads H s.successor c s.parent
 
 -- and where it has ended: that its leaf is one
 pub record HasEnded (H : Fact → Type 0) (nodes : ℕ) (s : Spot) (c : List ChainEdge) : Type 0 where
@@ -140,8 +142,8 @@ pub record HasEnded (H : Fact → Type 0) (nodes : ℕ) (s : Spot) (c : List Cha
   pub within : s.edge.slot ≤ nodes
 
 -- each kind of walk that the call has came so to the slot
-abbrev pub HasCome : Stand → Stand → ℕ → Spot → Type 0
-HasCome p q k s = (since : Since) → HasWalks p.view.layout p.view.number p.view.log since k
+abbrev pub EachWalkHasCome : Stand → Stand → ℕ → Spot → Type 0
+EachWalkHasCome p q k s = (since : Since) → HasWalks p.view.layout p.view.number p.view.log since k
     → Tells q (Came since k s.edge.slot s.parent s.side)
 
 -- or ended so at the leaf, with its key

@@ -7,7 +7,7 @@ ghost use Rattle.nm_order.specs.Told.{FrozenTo};
 ghost use Rattle.nm_steps.specs.Steps.{IsOf, IsSamePass, HasSeenAllOf};
 ghost use Rattle.nm_calls.specs.Bounds.{cut_bound};
 ghost use Rattle.nm_calls.specs.Telling.{Tells, GoesOn, OnlyLooks, IsInRun, IsPinnedSomewhere};
-ghost use Rattle.nm_calls.specs.Walks.{Leads};
+ghost use Rattle.nm_calls.specs.Walks.{ChainLeads};
 ghost use Rattle.nm_calls.specs.Cleanups.{Chooses, FrozenAt, Freezes, top};
 
 use crate::cleaning::CutNodes;
@@ -121,7 +121,7 @@ pub fn freeze(
     requires own { IsOf shared.now pass.old }
     requires run { IsInRun pass.old }
     requires pinned { IsPinnedSomewhere pass.old }
-    requires way { Leads (Tells pass.old) (top chain.now parent) chain.now parent }
+    requires way { ChainLeads (Tells pass.old) (top chain.now parent) chain.now parent }
     requires known { Tells pass.old (KnowsSlot (top chain.now parent)) }
     requires tagged { (to : ℕ) × Tells pass.old (IsTagged parent keep to) }
     requires room { length nodes.old.items + 2 * (length chain.now + 1) ≤ cut_bound }

@@ -16,7 +16,7 @@ ghost use Rattle.nm_calls.specs.Marking.{OnlyFlags};
 ghost use Rattle.nm_calls.specs.Moments.{AnswerHasMoment, HadNoCall};
 ghost use Rattle.nm_calls.specs.Cleanups.{OnlyCleans, KeepsLedgers};
 ghost use Rattle.nm_calls.specs.Won.{won_splices, capped, HasWon, flags_of_delete};
-ghost use Rattle.nm_calls.specs.Deletes.{IsRemoving, Removes, RemovesNothing, IsRemoval, IfRemoved, MayFlag, HasFlagged, HasNotFlagged, IsFlagTry, ShowsFlag, OnlyInjects, IsInjection, ShowsInjection, RemovalAfter, leaf_of, DeleteFinishes, DeleteDid, LosesAfterFlag, LacksRoomOr, FlagsThen, LosesEachTry, AfterDelete, FinishDid};
+ghost use Rattle.nm_calls.specs.Deletes.{IsRemoving, Removes, RemovesNothing, IsRemoval, IfRemoved, MayFlag, HasWonItsFlag, HasNotFlagged, IsFlagTry, ShowsFlag, OnlyInjects, IsInjection, ShowsInjection, RemovalAfter, leaf_of, DeleteFinishes, DeleteDid, LosesAfterFlag, LacksRoomOr, FlagsThen, LosesEachTry, AfterDelete, FinishDid};
 
 use crate::cleaning::cleanup;
 use crate::inserting::{help, make_room};
@@ -172,7 +172,7 @@ fn flag_at(shared: &Shared, pass: &mut Pass, key: u64, end: &End) -> Result<u64,
     requires may { MayFlag pass.old key end.now }
     ensures same { IsSamePass pass.old pass.new }
     ensures past { HasSeenAllOf pass.new pass.old }
-    ensures won { IfOk result (λ b. HasFlagged pass.old pass.new end.now b) }
+    ensures won { IfOk result (λ b. HasWonItsFlag pass.old pass.new end.now b) }
     ensures lost { IfErr result (λ e. HasNotFlagged pass.old pass.new end.now e) }
     ensures on { GoesOn pass.old pass.new }
     ensures only { OnlyFlags pass.old pass.new }

@@ -9,7 +9,7 @@ ghost use Rattle.nm_steps.specs.Steps.{Stand, IsOf, MayStep, Stepped, HasSeenAll
 ghost use Rattle.nm_epoch.specs.Resting.{IsResting, KeepsHands, epochs, search};
 ghost use Rattle.nm_epoch.specs.Collecting.{TakesLabels};
 ghost use Rattle.nm_calls.specs.Telling.{Tells, GoesOn, IsInRun};
-ghost use Rattle.nm_calls.specs.Leaving.{IsAnswer, OnlyLabels};
+ghost use Rattle.nm_calls.specs.Leaving.{IsItsAnswer, OnlyLabels};
 ghost use Rattle.nm_calls.specs.Moments.{AnswerHasMoment, HadNoCall};
 
 use nm_epoch::{label as label_cut, unpin, unpin_with};
@@ -54,7 +54,7 @@ pub(crate) fn leave_with(shared: &Shared, pass: &mut Pass, answer: bool)
 pub fn answer(shared: &Shared, pass: &mut Pass, answer: bool)
     requires own { IsOf shared.now pass.old }
     requires labelled { (epochs pass.old).unlabelled ≡ false }
-    requires shown { IsAnswer pass.old answer }
+    requires shown { IsItsAnswer pass.old answer }
     ensures step { Stepped pass.old pass.new (LeaveWith answer) Departed }
     ensures past { HasSeenAllOf pass.new pass.old }
     ensures moment { (o : Stand) (op : Op) (k : ℕ) → HadNoCall o pass.old

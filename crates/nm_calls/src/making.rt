@@ -12,7 +12,7 @@ ghost use Rattle.nm_pool.specs.Takes.{LearnsSlots};
 ghost use Rattle.nm_steps.specs.Rules.{knowledge};
 ghost use Rattle.nm_steps.specs.Steps.{IsOf, IsSamePass, Stepped, HasSeenAllOf};
 ghost use Rattle.nm_calls.specs.Telling.{Tells, GoesOn, IsInRun, IsPinnedSomewhere};
-ghost use Rattle.nm_calls.specs.Making.{draft, KeepsOthers, KeepsAllBut, OnlyMakes, with_node, HasFilled, IsInserting, HasLinked, HasLost};
+ghost use Rattle.nm_calls.specs.Making.{draft, KeepsOtherSlots, KeepsAllBut, OnlyMakes, with_node, HasFilled, IsInserting, HasLinked, HasLost};
 
 use nm_edge::{Edge, NodeId, Side};
 use nm_pool::{Placement, claim_by};
@@ -57,7 +57,7 @@ pub fn give(shared: &Shared, pass: &mut Pass, node: NodeId)
     ensures past { HasSeenAllOf pass.new pass.old }
     ensures on { GoesOn pass.old pass.new }
     ensures given { is_private (knowledge pass.new.view) node.slot ≡ false }
-    ensures others { KeepsOthers node.slot pass.old pass.new }
+    ensures others { KeepsOtherSlots node.slot pass.old pass.new }
     ensures only { OnlyMakes pass.old pass.new }
 {
     nm_pool::give(shared, pass, node);
@@ -76,7 +76,7 @@ pub fn fill(shared: &Shared, pass: &mut Pass, slot: u32, key: u64, left: u32, ri
     ensures on { GoesOn pass.old pass.new }
     ensures filled { get (knowledge pass.new.view).drafts slot
         ≡ Some (with_node (draft pass.old slot) key left right) }
-    ensures others { KeepsOthers slot pass.old pass.new }
+    ensures others { KeepsOtherSlots slot pass.old pass.new }
     ensures only { OnlyMakes pass.old pass.new }
 {
     pass.holds_pooled_slots();

@@ -4,7 +4,7 @@ ghost use Rattle.nm_edge.specs.Keys.{IsKey};
 ghost use Rattle.nm_order.specs.Facts.Fact.{KnowsSlot};
 ghost use Rattle.nm_steps.specs.Steps.{IsOf, IsSamePass, HasSeenAllOf};
 ghost use Rattle.nm_epoch.specs.Resting.{IsResting, KeepsHands};
-ghost use Rattle.nm_calls.specs.InTurns.{AddsLooks, LooksUnderPin, LooksOrMoves, HasBegun, IsUnderWay, WasSo, key_of, most_looks, read_on};
+ghost use Rattle.nm_calls.specs.InTurns.{AddsLooks, LooksUnderPin, LooksOrMoves, HasBegun, IsUnderWay, WasSo, key_of, most_looks, query_read};
 ghost use Rattle.nm_calls.specs.Telling.{Tells, GoesOn, OnlyLooks, IsInRun, IsPinnedSomewhere};
 ghost use Rattle.nm_calls.specs.Won.{HasWon, won_splices};
 
@@ -172,7 +172,7 @@ fn take_turn(shared: &Shared, layout: Layout, pass: &mut Pass, query: &mut Query
 /// The query's walk has read its node so. Two words are written, and not the query: each turn of
 /// each walk comes here.
 fn read_so(query: &mut Query, on: &Onward)
-    ensures query { query.new ≡ read_on query.old on.now }
+    ensures query { query.new ≡ query_read query.old on.now }
     ensures key { IsKey query.old.key }
 {
     query.found = on.found == query.key.get();

@@ -13,8 +13,8 @@ use Rattle.nm_model.specs.declared.event.Event.{Event}
 use Rattle.nm_model.specs.declared.event.Event.TheVariants.{LeaveWith}
 use Rattle.nm_model.specs.Ordered.{HasKey, ordered, after_in, trace_in, outcome_in, next_in, refused_in, applied_in}
 use Rattle.nm_model.specs.Paths.{Reached}
-use Rattle.nm_model.specs.Places.{EachSlotInOnePlace, OnePlace}
-use Rattle.nm_model.specs.Places.Place.{OnPath, InQueue}
+use Rattle.nm_model.specs.Places.{EachSlotInOnePlace, OneSlotPlace}
+use Rattle.nm_model.specs.Places.SlotPlace.{OnPath, InQueue}
 use Rattle.nm_model.specs.Reports.{ordered_report}
 use Rattle.nm_model.specs.Runs.{refused, applied}
 use Rattle.nm_model.specs.Schedules.{IsAsWorkedInOrder}
@@ -24,9 +24,9 @@ use Rattle.nm_model.specs.Learning.{learn}
 use Rattle.nm_laws.proofs.OnePlace.{each_slot_has_one_place}
 use Rattle.nm_order.specs.Intervals.{IsCalled}
 use Rattle.nm_order.specs.Exchanges.{MayAnswer}
-use Rattle.nm_order.specs.Removals.{HasDeleted}
-use Rattle.nm_order.specs.History.{Act, IsAmong, SameCall, EachOnce, IsAct, HasAct, IsHistory, pin_of}
-use Rattle.nm_order.specs.History.IsAct.{IsAnswered, IsPending}
+use Rattle.nm_order.specs.Removals.{HasWonDelete}
+use Rattle.nm_order.specs.History.{Act, IsAmong, SameCall, EachOnce, IsActOfRun, HasActOfCall, IsRunHistory, pin_of}
+use Rattle.nm_order.specs.History.IsActOfRun.{IsAnswered, IsPending}
 use Rattle.nm_order.proofs.OrderedLaws.{each_ordered}
 use Rattle.nm_order.proofs.KeyTests.{all_keys}
 use Rattle.nm_order.proofs.HistoryLaws.{from_changed}
@@ -92,7 +92,7 @@ record IsOf (a : Act) (w p : ℕ) (op : Op) (k : ℕ) (answer : Bool) : Type 0 w
 same_call : (a : Act) (w p : ℕ) (op : Op) (k : ℕ) (answer : Bool) → w ≡ a.worker → p ≡ a.pin → answer ≡ a.answer → ◌≡◌ {A = Call} (record { op = op; key = k }) (record { op = a.op; key = a.key }) → IsOf a w p op k answer
 same_call a w p op k answer worker pin is_answer call = record { worker = worker; pin = pin; is_op = ap (λ (c : Call). c.op) call; key = ap (λ (c : Call). c.key) call; is_answer = is_answer }
 
-told_as : (acts : List Act) (b a : Act) → IsAmong acts b → IsOf a b.worker b.pin b.op b.key b.answer → HasAct acts a.worker a.pin a.op a.key a.answer
+told_as : (acts : List Act) (b a : Act) → IsAmong acts b → IsOf a b.worker b.pin b.op b.key b.answer → HasActOfCall acts a.worker a.pin a.op a.key a.answer
 told_as acts b a there of = record { act = b; among = there; worker = of.worker; is_pin = of.pin; is_op = of.is_op; is_key = of.key; is_answer = of.is_answer }
 
 -- the answer by turn n, where the call was worked out
@@ -157,7 +157,7 @@ leaf_waits : EachSlotInOnePlace (after_in (ordered L) ts).state → Reached (aft
 unfolding after_in trace_in outcome_in next_in refused_in applied_in searched refusal reply write learn refused applied
 leaf_waits places r = apart (one.only (OnPath r.path) r.ends ∙ sym (one.only (InQueue 1 1 1) refl))
   where
-    one : OnePlace (after_in (ordered L) ts).state 7
+    one : OneSlotPlace (after_in (ordered L) ts).state 7
     one = places 7 (λ z. cc) (lit≤ tt)
 
     apart : OnPath r.path ≡ InQueue 1 1 1 → ⊥
@@ -166,20 +166,20 @@ leaf_waits places r = apart (one.only (OnPath r.path) r.ends ∙ sym (one.only (
 places_now : EachSlotInOnePlace (after_in (ordered L) ts).state
 places_now = let o = each_ordered L enough ts keys in subst EachSlotInOnePlace (sym o.leads) (each_slot_has_one_place L enough o.events)
 
-delete_did : HasDeleted L ts 0 5
+delete_did : HasWonDelete L ts 0 5
 unfolding after_in trace_in outcome_in next_in refused_in applied_in searched refusal reply write learn refused applied
 delete_did = from_changed L enough ts keys 0 Delete 5 refl (record { slot = 7; birth = 1 }, refl, leaf_waits places_now)
 
-each_helped : (a : Act) → IsAmong helped.acts a → IsAct L ts a
-each_helped a (inl is) = subst (IsAct L ts) is (IsAnswered (take 17 ts) (drop 18 ts) refl first_may (sym first_pin) (lit< tt) (lit≤ tt))
-each_helped a (inr (inl is)) = subst (IsAct L ts) is (IsPending delete_called delete_did refl (sym delete_pin) (lit< tt) (lit≤ tt))
-each_helped a (inr (inr (inl is))) = subst (IsAct L ts) is (IsAnswered (take 51 ts) (drop 52 ts) refl second_may (sym second_pin) (lit< tt) (lit≤ tt))
+each_helped : (a : Act) → IsAmong helped.acts a → IsActOfRun L ts a
+each_helped a (inl is) = subst (IsActOfRun L ts) is (IsAnswered (take 17 ts) (drop 18 ts) refl first_may (sym first_pin) (lit< tt) (lit≤ tt))
+each_helped a (inr (inl is)) = subst (IsActOfRun L ts) is (IsPending delete_called delete_did refl (sym delete_pin) (lit< tt) (lit≤ tt))
+each_helped a (inr (inr (inl is))) = subst (IsActOfRun L ts) is (IsAnswered (take 51 ts) (drop 52 ts) refl second_may (sym second_pin) (lit< tt) (lit≤ tt))
 each_helped a (inr (inr (inr none))) = absurd none
 
-found_helped : (acts : List Act) → IsHistory L ts acts → (a : Act) → IsAmong helped.acts a → HasAct acts a.worker a.pin a.op a.key a.answer
-found_helped acts h a (inl is) = subst (λ (a : Act). HasAct acts a.worker a.pin a.op a.key a.answer) is (subst (λ (p : ℕ). HasAct acts 0 p Insert 5 true) first_pin (h.answered (take 17 ts) (drop 18 ts) 0 Insert 5 true refl first_may))
-found_helped acts h a (inr (inl is)) = subst (λ (a : Act). HasAct acts a.worker a.pin a.op a.key a.answer) is (subst (λ (p : ℕ). HasAct acts 0 p Delete 5 true) delete_pin (h.pending 0 Delete 5 delete_called delete_did))
-found_helped acts h a (inr (inr (inl is))) = subst (λ (a : Act). HasAct acts a.worker a.pin a.op a.key a.answer) is (subst (λ (p : ℕ). HasAct acts 1 p Insert 6 true) second_pin (h.answered (take 51 ts) (drop 52 ts) 1 Insert 6 true refl second_may))
+found_helped : (acts : List Act) → IsRunHistory L ts acts → (a : Act) → IsAmong helped.acts a → HasActOfCall acts a.worker a.pin a.op a.key a.answer
+found_helped acts h a (inl is) = subst (λ (a : Act). HasActOfCall acts a.worker a.pin a.op a.key a.answer) is (subst (λ (p : ℕ). HasActOfCall acts 0 p Insert 5 true) first_pin (h.answered (take 17 ts) (drop 18 ts) 0 Insert 5 true refl first_may))
+found_helped acts h a (inr (inl is)) = subst (λ (a : Act). HasActOfCall acts a.worker a.pin a.op a.key a.answer) is (subst (λ (p : ℕ). HasActOfCall acts 0 p Delete 5 true) delete_pin (h.pending 0 Delete 5 delete_called delete_did))
+found_helped acts h a (inr (inr (inl is))) = subst (λ (a : Act). HasActOfCall acts a.worker a.pin a.op a.key a.answer) is (subst (λ (p : ℕ). HasActOfCall acts 1 p Insert 6 true) second_pin (h.answered (take 51 ts) (drop 52 ts) 1 Insert 6 true refl second_may))
 found_helped acts h a (inr (inr (inr none))) = absurd none
 
 six_alone : (j : ℕ) → (((⊥ ⊎ (j ≡ 5)) × (j ≡ 5 → ⊥)) ⊎ (j ≡ 6) → Contains (6 ∷ []) j) × (Contains (6 ∷ []) j → ((⊥ ⊎ (j ≡ 5)) × (j ≡ 5 → ⊥)) ⊎ (j ≡ 6))
@@ -208,10 +208,10 @@ two_answers x (inl is) = inl is
 two_answers x (inr (inl is)) = inr is
 two_answers x (inr (inr none)) = absurd none
 
-only_helped : (acts : List Act) → IsHistory L ts acts → (a : Act) → IsAmong acts a → HasAct helped.acts a.worker a.pin a.op a.key a.answer
+only_helped : (acts : List Act) → IsRunHistory L ts acts → (a : Act) → IsAmong acts a → HasActOfCall helped.acts a.worker a.pin a.op a.key a.answer
 only_helped acts h a there = by (h.each a there)
   where
-    by : IsAct L ts a → HasAct helped.acts a.worker a.pin a.op a.key a.answer
+    by : IsActOfRun L ts a → HasActOfCall helped.acts a.worker a.pin a.op a.key a.answer
     by (IsAnswered before since run may pin later within) = elim (two_answers _ (listed_in L ts 17 0 2 Insert 5 first_may first_pin a before since run)) [
       | inl is ↦ told_as helped.acts (record { worker = 0; pin = 2; op = Insert; key = 5; answer = true; moment = 17 }) a (inl refl) (answered_as L ts 17 0 2 Insert 5 first_may first_pin a before since run may pin is)
       | inr is ↦ told_as helped.acts (record { worker = 1; pin = 28; op = Insert; key = 6; answer = true; moment = 51 }) a (inr (inr (inl refl))) (answered_as L ts 51 1 28 Insert 6 second_may second_pin a before since run may pin is)
@@ -269,16 +269,16 @@ delete_5_pin : pin_of M (take 35 us) 0 ≡ 25
 unfolding after_in trace_in outcome_in next_in refused_in applied_in searched refusal reply write learn refused applied
 delete_5_pin = refl
 
-each_stale : (a : Act) → IsAmong stale.acts a → IsAct M us a
-each_stale a (inl is) = subst (IsAct M us) is (IsAnswered (take 17 us) (drop 18 us) refl insert_may (sym insert_pin) (lit< tt) (lit≤ tt))
-each_stale a (inr (inl is)) = subst (IsAct M us) is (IsAnswered (take 38 us) (drop 39 us) refl look_may (sym look_pin) (lit< tt) (lit≤ tt))
-each_stale a (inr (inr (inl is))) = subst (IsAct M us) is (IsAnswered (take 35 us) (drop 36 us) refl delete_5_may (sym delete_5_pin) (lit< tt) (lit≤ tt))
+each_stale : (a : Act) → IsAmong stale.acts a → IsActOfRun M us a
+each_stale a (inl is) = subst (IsActOfRun M us) is (IsAnswered (take 17 us) (drop 18 us) refl insert_may (sym insert_pin) (lit< tt) (lit≤ tt))
+each_stale a (inr (inl is)) = subst (IsActOfRun M us) is (IsAnswered (take 38 us) (drop 39 us) refl look_may (sym look_pin) (lit< tt) (lit≤ tt))
+each_stale a (inr (inr (inl is))) = subst (IsActOfRun M us) is (IsAnswered (take 35 us) (drop 36 us) refl delete_5_may (sym delete_5_pin) (lit< tt) (lit≤ tt))
 each_stale a (inr (inr (inr none))) = absurd none
 
-found_stale : (acts : List Act) → IsHistory M us acts → (a : Act) → IsAmong stale.acts a → HasAct acts a.worker a.pin a.op a.key a.answer
-found_stale acts h a (inl is) = subst (λ (a : Act). HasAct acts a.worker a.pin a.op a.key a.answer) is (subst (λ (p : ℕ). HasAct acts 0 p Insert 5 true) insert_pin (h.answered (take 17 us) (drop 18 us) 0 Insert 5 true refl insert_may))
-found_stale acts h a (inr (inl is)) = subst (λ (a : Act). HasAct acts a.worker a.pin a.op a.key a.answer) is (subst (λ (p : ℕ). HasAct acts 1 p Has 5 true) look_pin (h.answered (take 38 us) (drop 39 us) 1 Has 5 true refl look_may))
-found_stale acts h a (inr (inr (inl is))) = subst (λ (a : Act). HasAct acts a.worker a.pin a.op a.key a.answer) is (subst (λ (p : ℕ). HasAct acts 0 p Delete 5 true) delete_5_pin (h.answered (take 35 us) (drop 36 us) 0 Delete 5 true refl delete_5_may))
+found_stale : (acts : List Act) → IsRunHistory M us acts → (a : Act) → IsAmong stale.acts a → HasActOfCall acts a.worker a.pin a.op a.key a.answer
+found_stale acts h a (inl is) = subst (λ (a : Act). HasActOfCall acts a.worker a.pin a.op a.key a.answer) is (subst (λ (p : ℕ). HasActOfCall acts 0 p Insert 5 true) insert_pin (h.answered (take 17 us) (drop 18 us) 0 Insert 5 true refl insert_may))
+found_stale acts h a (inr (inl is)) = subst (λ (a : Act). HasActOfCall acts a.worker a.pin a.op a.key a.answer) is (subst (λ (p : ℕ). HasActOfCall acts 1 p Has 5 true) look_pin (h.answered (take 38 us) (drop 39 us) 1 Has 5 true refl look_may))
+found_stale acts h a (inr (inr (inl is))) = subst (λ (a : Act). HasActOfCall acts a.worker a.pin a.op a.key a.answer) is (subst (λ (p : ℕ). HasActOfCall acts 0 p Delete 5 true) delete_5_pin (h.answered (take 35 us) (drop 36 us) 0 Delete 5 true refl delete_5_may))
 found_stale acts h a (inr (inr (inr none))) = absurd none
 
 -- at last nobody has a call
@@ -296,10 +296,10 @@ three_answers x (inr (inl is)) = inr (inl is)
 three_answers x (inr (inr (inl is))) = inr (inr is)
 three_answers x (inr (inr (inr none))) = absurd none
 
-only_stale : (acts : List Act) → IsHistory M us acts → (a : Act) → IsAmong acts a → HasAct stale.acts a.worker a.pin a.op a.key a.answer
+only_stale : (acts : List Act) → IsRunHistory M us acts → (a : Act) → IsAmong acts a → HasActOfCall stale.acts a.worker a.pin a.op a.key a.answer
 only_stale acts h a there = by (h.each a there)
   where
-    by : IsAct M us a → HasAct stale.acts a.worker a.pin a.op a.key a.answer
+    by : IsActOfRun M us a → HasActOfCall stale.acts a.worker a.pin a.op a.key a.answer
     by (IsAnswered before since run may pin later within) = elim (three_answers _ (listed_in M us 17 0 2 Insert 5 insert_may insert_pin a before since run)) [
       | inl is ↦ told_as stale.acts (record { worker = 0; pin = 2; op = Insert; key = 5; answer = true; moment = 17 }) a (inl refl) (answered_as M us 17 0 2 Insert 5 insert_may insert_pin a before since run may pin is)
       | inr (inl is) ↦ told_as stale.acts (record { worker = 0; pin = 25; op = Delete; key = 5; answer = true; moment = 34 }) a (inr (inr (inl refl))) (answered_as M us 35 0 25 Delete 5 delete_5_may delete_5_pin a before since run may pin is)

@@ -9,7 +9,7 @@ use Rattle.nm_model.specs.declared.event.Event.TheVariants.{Sight, SightFor, Ann
 use Rattle.nm_model.specs.declared.reply.Reply.TheVariants.{Saw, Labelled, Pinned, Announced, Departed, Claimed, KeyIs, EdgeIs, Filled, Linked, Flagged, Was, Cut}
 use Rattle.nm_model.specs.Ordered.{turn_of}
 use Rattle.nm_model.specs.Schedules.{Worked, IsAsWorkedInOrder, t, e, n, q, l}
-use Rattle.nm_order.specs.History.{Act, IsAmong, Replays, nothing, InOrderOfMoments, EachOnce, IsAct, HasAct, IsHistory}
+use Rattle.nm_order.specs.History.{Act, IsAmong, Replays, nothing, InOrderOfMoments, EachOnce, IsActOfRun, HasActOfCall, IsRunHistory}
 
 -- the acts that were worked out by hand, and the keys of the set at last
 pub record Told : Type 0 where
@@ -28,11 +28,11 @@ pub record IsAsTold (x : Told) : Type 0 where
   pub replays : Replays nothing x.acts (Contains x.keys)
   pub in_order : InOrderOfMoments 0 false x.acts
   pub once : EachOnce x.acts
-  pub each : (a : Act) → IsAmong x.acts a → IsAct x.schedule.layout (events_of x) a
-  pub found : (acts : List Act) → IsHistory x.schedule.layout (events_of x) acts → (a : Act)
-      → IsAmong x.acts a → HasAct acts a.worker a.pin a.op a.key a.answer
-  pub only : (acts : List Act) → IsHistory x.schedule.layout (events_of x) acts → (a : Act)
-      → IsAmong acts a → HasAct x.acts a.worker a.pin a.op a.key a.answer
+  pub each : (a : Act) → IsAmong x.acts a → IsActOfRun x.schedule.layout (events_of x) a
+  pub found : (acts : List Act) → IsRunHistory x.schedule.layout (events_of x) acts → (a : Act)
+      → IsAmong x.acts a → HasActOfCall acts a.worker a.pin a.op a.key a.answer
+  pub only : (acts : List Act) → IsRunHistory x.schedule.layout (events_of x) acts → (a : Act)
+      → IsAmong acts a → HasActOfCall x.acts a.worker a.pin a.op a.key a.answer
 
 -- worker 0 inserts 5, and flags its leaf to delete it. Worker 1, which inserts 6, comes to the
 -- flagged leaf, cuts it off and links. The delete is never answered, and its moment is the other's

@@ -3,7 +3,7 @@
 use Rattle.std.specs.Prelude.{◌≡◌, ℕ, List, ◌++◌, take, IsSome, All}
 use Rattle.nm_model.specs.declared.event.Event.{Event}
 use Rattle.nm_model.specs.Ordered.{Configuration, HasKey, IsReached, ordered, opening_of, after_in, trace_in}
-use Rattle.nm_order.specs.History.{HasHistory}
+use Rattle.nm_order.specs.History.{RunHasHistory}
 use Rattle.nm_model.specs.Headline.{Headline}
 use Rattle.nm_order.specs.Intervals.{KeysLieInIntervals, LeavesHaveTheirOwnKeys, WalksStayInOrder, WalksReadKeys}
 
@@ -20,7 +20,7 @@ HasPast c = IsSome c.searches → (past : List (ℕ × Event)) × IsPast c past
 -- behind them they have a history
 abbrev pub HasHistoriesBehind : Configuration → List (ℕ × Event) → Type 0
 HasHistoriesBehind c turns = (past : List (ℕ × Event)) → IsPast c past → (i : ℕ)
-    → HasHistory c.state.layout (past ++ take i turns)
+    → RunHasHistory c.state.layout (past ++ take i turns)
 
 -- the tree of an ordered core is in order, and stale paths do no harm (Natarajan and Mittal,
 -- section 3.1)

@@ -25,7 +25,7 @@ pub fn worked_schedules()
     ensures helping { IsAsWorked worked.helping }
     ensures order_and_age { IsAsWorked worked.order_and_age }
     ensures refusals { IsAsWorked worked.refusals }
-    ensures joining { IsAsWorked worked.joining }
+    ensures joining { IsAsWorked worked.resigning_schedule }
     ensures insert_in_order { IsAsWorkedInOrder worked.insert_in_order (5 ∷ []) }
     ensures delete_in_order { IsAsWorkedInOrder worked.delete_in_order [] }
 {}

@@ -10,10 +10,10 @@ use Rattle.nm_model.specs.declared.reply.Reply.{Reply}
 use Rattle.nm_model.specs.declared.reply.Reply.TheVariants.{Saw, Labelled, Pinned, Missed, Announced, Departed, Idle, In, Moved, Behind}
 use Rattle.nm_model.specs.Knowledge.{Knowledge}
 use Rattle.nm_model.specs.Learning.{learn, learn_sight, learn_scan}
-use Rattle.nm_model.specs.Step.{confirmed}
+use Rattle.nm_model.specs.Step.{confirmed, reply_scan}
 use Rattle.nm_model.specs.Walks.{Entry}
 use Rattle.nm_steps.specs.Rules.{knowledge}
-use Rattle.nm_steps.specs.Steps.{Stand, Stepped, IsSamePass, IsSight, scan_reply, sight_of}
+use Rattle.nm_steps.specs.Steps.{Stand, Stepped, IsSamePass, IsSight, sight_of}
 use Rattle.nm_steps.proofs.Presence.{known_push}
 use Rattle.nm_epoch.specs.Resting.{KeepsHands, epochs}
 use Rattle.nm_epoch.specs.Scans.{LooksAt}
@@ -110,14 +110,14 @@ kept_on o p q a b = record {
 pub kept_still : (p : Stand) → KeepsHands p p
 kept_still p = record { private = refl; labelled = λ none'. none'; ledgers = λ none'. refl }
 
-scan_is_silent : (found : Option ℕ) → is_label (scan_reply found) ≡ false
+scan_is_silent : (found : Option ℕ) → is_label (reply_scan found) ≡ false
 scan_is_silent None = refl
 scan_is_silent (Some e) = refl
 
 -- ---- a look at a worker
 
 module _ (me v : ℕ) (pin found : Option ℕ) (p q : Stand) (same : IsSamePass p q) (look : LooksAt me pin v found p.view.log q.view.log) where
-  scanned : q.view.log ≡ p.view.log ++ (Scan v, scan_reply found) ∷ [] → Stepped p q (Scan v) (scan_reply found)
+  scanned : q.view.log ≡ p.view.log ++ (Scan v, reply_scan found) ∷ [] → Stepped p q (Scan v) (reply_scan found)
   scanned more = same ∙ ap (λ (log : List Entry). record p { view = record p.view { log = log; past = q.view.past } }) more
 
   unmoved : q.view.log ≡ p.view.log → q ≡ record p { view = record p.view { past = q.view.past } }
@@ -126,19 +126,19 @@ module _ (me v : ℕ) (pin found : Option ℕ) (p q : Stand) (same : IsSamePass 
   pub look_keeps : KeepsHands p q
   look_keeps = ⊎_elim
       (λ (own : (v ≡ me) × (found ≡ pin) × (q.view.log ≡ p.view.log)). subst (λ (x : Stand). KeepsHands p x) (sym (unmoved own.2)) (record { private = refl; labelled = λ none'. none'; ledgers = λ none'. refl }))
-      (λ (other : (v ≢ me) × (q.view.log ≡ p.view.log ++ (Scan v, scan_reply found) ∷ [])). hands_kept p q (Scan v) (scan_reply found) (scanned other.1) refl (λ _. scan_is_silent found))
+      (λ (other : (v ≢ me) × (q.view.log ≡ p.view.log ++ (Scan v, reply_scan found) ∷ [])). hands_kept p q (Scan v) (reply_scan found) (scanned other.1) refl (λ _. scan_is_silent found))
       look
 
-  scan_known : (w : ℕ) (k : Knowledge) → (learn w k (Scan v) (scan_reply found)).known ≡ k.known
+  scan_known : (w : ℕ) (k : Knowledge) → (learn w k (Scan v) (reply_scan found)).known ≡ k.known
   unfolding learn
   scan_known w k = go found
     where
-      go : (o : Option ℕ) → (learn w k (Scan v) (scan_reply o)).known ≡ k.known
+      go : (o : Option ℕ) → (learn w k (Scan v) (reply_scan o)).known ≡ k.known
       go None = refl
       go (Some e) = refl
 
   pub look_known : (knowledge q.view).known ≡ (knowledge p.view).known
   look_known = ⊎_elim
       (λ (own : (v ≡ me) × (found ≡ pin) × (q.view.log ≡ p.view.log)). ap (λ (x : Stand). (knowledge x.view).known) (unmoved own.2))
-      (λ (other : (v ≢ me) × (q.view.log ≡ p.view.log ++ (Scan v, scan_reply found) ∷ [])). ap (λ (k : Knowledge). k.known) (known_after_step p q (Scan v) (scan_reply found) (scanned other.1)) ∙ scan_known p.view.number (knowledge p.view))
+      (λ (other : (v ≢ me) × (q.view.log ≡ p.view.log ++ (Scan v, reply_scan found) ∷ [])). ap (λ (k : Knowledge). k.known) (known_after_step p q (Scan v) (reply_scan found) (scanned other.1)) ∙ scan_known p.view.number (knowledge p.view))
       look

@@ -8,13 +8,13 @@ use Rattle.nm_model.specs.Maps.{is_number}
 use Rattle.nm_model.specs.Knowledge.{Knowledge, newcomer}
 use Rattle.nm_model.specs.Learning.{learn}
 use Rattle.nm_model.specs.Answers.{IsRow}
-use Rattle.nm_model.specs.Step.{others_scanned}
+use Rattle.nm_model.specs.Step.{others_scanned, reply_scan}
 use Rattle.nm_model.specs.Walks.{Entry}
 use Rattle.nm_laws.proofs.Learned.{learn_idle, learn_in}
 use Rattle.nm_laws.proofs.Shapes.{row_learn}
 use Rattle.nm_order.specs.Logs.{known_after}
 use Rattle.nm_steps.specs.Rules.{knowledge}
-use Rattle.nm_steps.specs.Steps.{Stand, Stepped, scan_reply}
+use Rattle.nm_steps.specs.Steps.{Stand, Stepped}
 use Rattle.nm_steps.proofs.Presence.{known_push}
 use Rattle.nm_epoch.specs.Resting.{epochs, marks}
 use Rattle.nm_epoch.specs.Scans.{lets_pass}
@@ -33,14 +33,14 @@ one_for_each p = (rows p.view.layout.workers p.view.number (newcomer p.view.layo
 
 -- ---- a scan
 
-scan_marks : (w : ℕ) (k : Knowledge) (v e : ℕ) (found : Option ℕ) → k.brief.seen ≡ Some e → (learn w k (Scan v) (scan_reply found)).scanned ≡ slice_set k.scanned v (lets_pass found e)
+scan_marks : (w : ℕ) (k : Knowledge) (v e : ℕ) (found : Option ℕ) → k.brief.seen ≡ Some e → (learn w k (Scan v) (reply_scan found)).scanned ≡ slice_set k.scanned v (lets_pass found e)
 scan_marks w k v e None seen = ap (λ (x : Knowledge). x.scanned) (learn_idle w k v)
 scan_marks w k v e (Some a) seen = ap (λ (x : Knowledge). x.scanned) (learn_in w k v a) ∙ ap (λ (o : Option ℕ). slice_set k.scanned v (is_number o a)) seen
 
-pub marks_after : (p q : Stand) (v e : ℕ) (found : Option ℕ) → Stepped p q (Scan v) (scan_reply found) → (epochs p).seen ≡ Some e → marks q ≡ slice_set (marks p) v (lets_pass found e)
+pub marks_after : (p q : Stand) (v e : ℕ) (found : Option ℕ) → Stepped p q (Scan v) (reply_scan found) → (epochs p).seen ≡ Some e → marks q ≡ slice_set (marks p) v (lets_pass found e)
 marks_after p q v e found step seen =
     ap (λ (x : Stand). marks x) step
-    ∙ (ap (λ (k : Knowledge). k.scanned) (known_push p.view.number p.view.layout p.view.log (Scan v, scan_reply found)) ∙ scan_marks p.view.number (knowledge p.view) v e found seen)
+    ∙ (ap (λ (k : Knowledge). k.scanned) (known_push p.view.number p.view.layout p.view.log (Scan v, reply_scan found)) ∙ scan_marks p.view.number (knowledge p.view) v e found seen)
 
 -- ---- all others
 

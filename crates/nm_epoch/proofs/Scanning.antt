@@ -10,7 +10,8 @@ use Rattle.nm_model.specs.declared.knowledge.Brief.{Brief}
 use Rattle.nm_model.specs.declared.reply.Reply.{Reply}
 use Rattle.nm_model.specs.Searches.{searched}
 use Rattle.nm_model.specs.Walks.{Entry}
-use Rattle.nm_steps.specs.Steps.{Stand, Stepped, scan_reply}
+use Rattle.nm_model.specs.Step.{reply_scan}
+use Rattle.nm_steps.specs.Steps.{Stand, Stepped}
 use Rattle.nm_epoch.specs.Resting.{Settles, epochs, search, marks}
 use Rattle.nm_steps.specs.Steps.{IsSamePass}
 use Rattle.nm_epoch.specs.Scans.{IsSightOf, LooksAt, SightThenScans, IsLooking, lets_pass}
@@ -33,20 +34,20 @@ module _ (me v : ℕ) (pin found : Option ℕ) (p q : Stand) (same : IsSamePass 
   pub look_epochs : epochs q ≡ epochs p
   look_epochs = ⊎_elim
       (λ (own : (v ≡ me) × (found ≡ pin) × (q.view.log ≡ p.view.log)). ap (λ (x : Stand). epochs x) (stays_put p q same own.2))
-      (λ (other : (v ≢ me) × (q.view.log ≡ p.view.log ++ (Scan v, scan_reply found) ∷ [])). epochs_after p q (Scan v) (scan_reply found) (stepped_by p q (Scan v) (scan_reply found) same other.1))
+      (λ (other : (v ≢ me) × (q.view.log ≡ p.view.log ++ (Scan v, reply_scan found) ∷ [])). epochs_after p q (Scan v) (reply_scan found) (stepped_by p q (Scan v) (reply_scan found) same other.1))
       look
 
   pub look_search : search q ≡ search p
   unfolding searched
   look_search = ⊎_elim
       (λ (own : (v ≡ me) × (found ≡ pin) × (q.view.log ≡ p.view.log)). ap (λ (x : Stand). search x) (stays_put p q same own.2))
-      (λ (other : (v ≢ me) × (q.view.log ≡ p.view.log ++ (Scan v, scan_reply found) ∷ [])). search_is p q (Scan v) (scan_reply found) (stepped_by p q (Scan v) (scan_reply found) same other.1))
+      (λ (other : (v ≢ me) × (q.view.log ≡ p.view.log ++ (Scan v, reply_scan found) ∷ [])). search_is p q (Scan v) (reply_scan found) (stepped_by p q (Scan v) (reply_scan found) same other.1))
       look
 
   look_marks : (e : ℕ) → (epochs p).seen ≡ Some e → ((v ≡ me) × (marks q ≡ marks p)) ⊎ (marks q ≡ slice_set (marks p) v (lets_pass found e))
   look_marks e seen = ⊎_elim
       (λ (own : (v ≡ me) × (found ≡ pin) × (q.view.log ≡ p.view.log)). inl (own.0, ap (λ (x : Stand). marks x) (stays_put p q same own.2)))
-      (λ (other : (v ≢ me) × (q.view.log ≡ p.view.log ++ (Scan v, scan_reply found) ∷ [])). inr (marks_after p q v e found (stepped_by p q (Scan v) (scan_reply found) same other.1) seen))
+      (λ (other : (v ≢ me) × (q.view.log ≡ p.view.log ++ (Scan v, reply_scan found) ∷ [])). inr (marks_after p q v e found (stepped_by p q (Scan v) (reply_scan found) same other.1) seen))
       look
 
   -- what a sight settled stays settled
@@ -86,7 +87,7 @@ looking_on me e v found old p q same look lets below h =
       part = subst (λ (o : Option ℕ). SightThenScans me o e (v + 1) old q.view.log) pin (rw (add-one v) more);
       seen = ap (λ (b : Brief). b.seen) still ∙ h.seen;
       own = λ less. subst (λ (o : Option ℕ). lets_pass o e ≡ true) pin (dite (ℕ_discrete v me)
-          (λ (here : v ≡ me). ⊎_elim (λ (x : (v ≡ me) × (found ≡ (epochs p).pin) × (q.view.log ≡ p.view.log)). subst (λ (o : Option ℕ). lets_pass o e ≡ true) x.1 lets) (λ (x : (v ≢ me) × (q.view.log ≡ p.view.log ++ (Scan v, scan_reply found) ∷ [])). absurd (x.0 here)) look)
+          (λ (here : v ≡ me). ⊎_elim (λ (x : (v ≡ me) × (found ≡ (epochs p).pin) × (q.view.log ≡ p.view.log)). subst (λ (o : Option ℕ). lets_pass o e ≡ true) x.1 lets) (λ (x : (v ≢ me) × (q.view.log ≡ p.view.log ++ (Scan v, reply_scan found) ∷ [])). absurd (x.0 here)) look)
           (λ (ne : v ≢ me). h.own (omega arith)));
       marked = marked_on me v (epochs p).pin found p q same look e h.seen lets (rw (one_for_each p) below) h.marked;
     }

@@ -22,10 +22,11 @@ use Rattle.nm_steps.proofs.Presence.{known_push}
 use Rattle.nm_epoch.specs.declared.collecting.Entry.{Entry}
 use Rattle.nm_epoch.specs.declared.collecting.HeldQueue.{HeldQueue}
 use Rattle.nm_steps.specs.Steps.{IsSamePass}
-use Rattle.nm_epoch.specs.Scans.{IsSightOf, epoch_in}
+use Rattle.nm_epoch.specs.Scans.{IsSightOf}
 use Rattle.nm_epoch.specs.Collecting.{queued, IsQueueOf, AreHeld, KeepsRetired, ledgers_seen, retired_of}
 use Rattle.nm_epoch.specs.Resting.{epochs}
 use Rattle.nm_epoch.proofs.KeptHands.{known_after_step}
+use Rattle.nm_order.specs.Reads.{sight_epoch}
 
 -- ---- labels that are there stay
 
@@ -43,7 +44,7 @@ shown_labelled e (Some l) es is = ap (λ (q : List Queued). Some (map (with_labe
 abbrev pub Sights : Knowledge → Knowledge → Type 0
 Sights k l = (l.ledgers ≡ k.ledgers) ⊎ ((e : ℕ) × (l.ledgers ≡ label e k.ledgers))
 
-sights : (w : ℕ) (k : Knowledge) (r : Reply) (e : ℕ) → epoch_in r ≡ Some e → Sights k (learn w k Sight r)
+sights : (w : ℕ) (k : Knowledge) (r : Reply) (e : ℕ) → sight_epoch r ≡ Some e → Sights k (learn w k Sight r)
 sights w k (Saw x) e is = rw (learn_saw w k x) (inl refl)
 sights w k (Labelled x) e is = rw (learn_labelled w k x) (inr (x, refl))
 sights w k (Pinned x) e is = rw (learn_pinned w k x) (inl refl)
@@ -100,17 +101,17 @@ after_sight : (w : ℕ) (k : Knowledge) (e : ℕ) → (learn w k Sight (sight_of
 unfolding learn
 after_sight w k e = ledgers_by k.brief.unlabelled k e
 
-found_there : (pin announced : Option ℕ) (e : ℕ) → epoch_in (confirmed pin announced e) ≡ Some e
+found_there : (pin announced : Option ℕ) (e : ℕ) → sight_epoch (confirmed pin announced e) ≡ Some e
 found_there (Some p) announced e = refl
 found_there None None e = refl
-found_there None (Some a) e = cond_both (a == e) (Pinned e) (Missed e) (λ r. epoch_in r ≡ Some e) (λ _. refl) (λ _. refl)
+found_there None (Some a) e = cond_both (a == e) (Pinned e) (Missed e) (λ r. sight_epoch r ≡ Some e) (λ _. refl) (λ _. refl)
 
-epoch_found : (b : Brief) (e : ℕ) → epoch_in (sight_of b e) ≡ Some e
-epoch_found b e = cond_both b.unlabelled (Labelled e) (confirmed b.pin b.note e) (λ r. epoch_in r ≡ Some e) (λ _. refl) (λ _. found_there b.pin b.note e)
+epoch_found : (b : Brief) (e : ℕ) → sight_epoch (sight_of b e) ≡ Some e
+epoch_found b e = cond_both b.unlabelled (Labelled e) (confirmed b.pin b.note e) (λ r. sight_epoch r ≡ Some e) (λ _. refl) (λ _. found_there b.pin b.note e)
 
-pub ledgers_after : (p q : Stand) (r : Reply) (e : ℕ) → Stepped p q Sight r → IsSight (epochs p) r → epoch_in r ≡ Some e → (knowledge q.view).ledgers ≡ ledgers_seen e (knowledge p.view)
+pub ledgers_after : (p q : Stand) (r : Reply) (e : ℕ) → Stepped p q Sight r → IsSight (epochs p) r → sight_epoch r ≡ Some e → (knowledge q.view).ledgers ≡ ledgers_seen e (knowledge p.view)
 ledgers_after p q r e step sight is =
-    let same : sight.0 ≡ e = same_Some sight.0 e (sym (epoch_found (epochs p) sight.0) ∙ (sym (ap epoch_in sight.2) ∙ is)) in
+    let same : sight.0 ≡ e = same_Some sight.0 e (sym (epoch_found (epochs p) sight.0) ∙ (sym (ap sight_epoch sight.2) ∙ is)) in
     ap (λ (k : Knowledge). k.ledgers) (known_after_step p q Sight r step)
     ∙ (ap (λ (x : Reply). (learn p.view.number (knowledge p.view) Sight x).ledgers) sight.2
     ∙ (after_sight p.view.number (knowledge p.view) sight.0 ∙ ap (λ (n : ℕ). ledgers_seen n (knowledge p.view)) same))

@@ -14,20 +14,20 @@ use Rattle.nm_model.specs.Searches.{Search, searched, begun}
 use Rattle.nm_steps.specs.Rules.{knowledge}
 use Rattle.nm_steps.specs.Steps.{Stand, Stepped, IsSight, noted_sight, sight_of}
 use Rattle.nm_epoch.specs.Resting.{IsSettled, Settles, epochs, search}
-use Rattle.nm_epoch.specs.Scans.{epoch_in}
 use Rattle.nm_epoch.proofs.Entries.{epochs_after, search_is}
 use Rattle.nm_epoch.proofs.KeptHands.{known_after_step}
+use Rattle.nm_order.specs.Reads.{sight_epoch}
 
 -- ---- the epoch read
 
-seen_told : (b : Brief) (r : Reply) (e : ℕ) → epoch_in r ≡ Some e → (noted_sight b r).seen ≡ Some e
+seen_told : (b : Brief) (r : Reply) (e : ℕ) → sight_epoch r ≡ Some e → (noted_sight b r).seen ≡ Some e
 seen_told b (Saw x) e h = h
 seen_told b (Labelled x) e h = h
 seen_told b (Pinned x) e h = h
 seen_told b (Missed x) e h = h
 seen_told b _ e h = absurd (none-some e h)
 
-pub read_seen : (p q : Stand) (r : Reply) (e : ℕ) → Stepped p q Sight r → epoch_in r ≡ Some e → (epochs q).seen ≡ Some e
+pub read_seen : (p q : Stand) (r : Reply) (e : ℕ) → Stepped p q Sight r → sight_epoch r ≡ Some e → (epochs q).seen ≡ Some e
 read_seen p q r e step is = ap (λ (b : Brief). b.seen) (epochs_after p q Sight r step) ∙ seen_told (epochs p) r e is
 
 -- ---- labels

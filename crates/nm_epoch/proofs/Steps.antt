@@ -6,15 +6,14 @@ use Rattle.nm_model.specs.declared.event.Event.{Event}
 use Rattle.nm_model.specs.declared.event.Event.TheVariants.{Sight, Announce, Leave, Scan}
 use Rattle.nm_model.specs.declared.reply.Reply.{Reply}
 use Rattle.nm_model.specs.declared.reply.Reply.TheVariants.{Saw, Pinned, Missed, Announced, Departed}
-use Rattle.nm_model.specs.Step.{last_number}
+use Rattle.nm_model.specs.Step.{last_number, reply_scan}
 use Rattle.nm_model.specs.Walks.{Entry}
-use Rattle.nm_steps.specs.Steps.{scan_reply}
 use Rattle.nm_epoch.specs.declared.answers.Advance.{Advance}
 use Rattle.nm_epoch.specs.declared.answers.Advance.TheVariants.{Moved, Held, Lost, Spent}
 use Rattle.nm_epoch.specs.declared.answers.Moved.{Moved as LostPin}
 use Rattle.nm_epoch.specs.Scans.{IsSightOf, LooksAt, AllLetPass, SightThenScans, IsAdvance}
 use Rattle.nm_epoch.specs.Watches.{AllWatched, SightThenWatch}
-use Rattle.nm_epoch.specs.Tries.{LostTries, IsPinned, IsMoved, looked}
+use Rattle.nm_epoch.specs.Tries.{LostTries, IsPinnedBy, IsMoved, after_sight}
 
 pub longer : (old new more : List Entry) → new ≡ old ++ more → length new ≡ length old + length more
 longer old new more is = ap (λ (log : List Entry). length log) is ∙ length-append old more
@@ -28,7 +27,7 @@ one_longer old new x is = longer old new (x ∷ []) is
 look_steps : (me v : ℕ) (pin found : Option ℕ) (old new : List Entry) → LooksAt me pin v found old new → ((v ≡ me) × (length new ≡ length old)) ⊎ ((v ≢ me) × (length new ≡ length old + 1))
 look_steps me v pin found old new look = ⊎_elim
     (λ (own : (v ≡ me) × (found ≡ pin) × (new ≡ old)). inl (own.0, ap (λ (log : List Entry). length log) own.2))
-    (λ (other : (v ≢ me) × (new ≡ old ++ (Scan v, scan_reply found) ∷ [])). inr (other.0, one_longer old new (Scan v, scan_reply found) other.1)) look
+    (λ (other : (v ≢ me) × (new ≡ old ++ (Scan v, reply_scan found) ∷ [])). inr (other.0, one_longer old new (Scan v, reply_scan found) other.1)) look
 
 one_at_most : (me v : ℕ) (pin found : Option ℕ) (old new : List Entry) → LooksAt me pin v found old new → length new ≤ length old + 1
 one_at_most me v pin found old new look = elim (look_steps me v pin found old new look) [
@@ -111,14 +110,14 @@ lost_steps by (suc n) old new is =
     let last = try_steps by is.2.0 (Missed is.2.1) is.0 new is.2.2 in
     omega (arith, before, last)
 
-first_step : (old : List Entry) (e : ℕ) → length (looked old e) ≡ length old + 1
-first_step old e = one_longer old (looked old e) (Sight, Saw e) refl
+first_step : (old : List Entry) (e : ℕ) → length (after_sight old e) ≡ length old + 1
+first_step old e = one_longer old (after_sight old e) (Sight, Saw e) refl
 
-pinned_steps : (by : Event) (tries : ℕ) (old new : List Entry) (e : ℕ) → IsPinned by tries old new e → length new ≤ length old + (3 * tries + 1)
+pinned_steps : (by : Event) (tries : ℕ) (old new : List Entry) (e : ℕ) → IsPinnedBy by tries old new e → length new ≤ length old + (3 * tries + 1)
 pinned_steps by tries old new e is =
     let below = is.3 in
     let first = first_step old is.0 in
-    let lost = lost_steps by is.1 (looked old is.0) is.2 is.4 in
+    let lost = lost_steps by is.1 (after_sight old is.0) is.2 is.4 in
     let won = try_steps by is.5.0 (Pinned e) is.2 new is.5.1 in
     omega (arith, below, first, lost, won)
 
@@ -126,10 +125,10 @@ moved_steps : (by : Event) (tries : ℕ) (old new : List Entry) → IsMoved by t
 moved_steps by zero old new is = let first = one_longer old new (Sight, Saw is.0) is.1 in omega (arith, first)
 moved_steps by (suc n) old new is =
     let first = first_step old is.0 in
-    let lost = lost_steps by (suc n) (looked old is.0) is.1 is.2 in
+    let lost = lost_steps by (suc n) (after_sight old is.0) is.1 is.2 in
     let left = one_longer is.1 new (Leave, Departed) is.3 in
     omega (arith, first, lost, left)
 
-pub pin_steps : (by : Event) (tries : ℕ) (old new : List Entry) (r : Result ℕ LostPin) → IfOk r (λ e. IsPinned by tries old new e) → IfErr r (λ m. IsMoved by tries old new) → length new ≤ length old + (3 * tries + 1)
+pub pin_steps : (by : Event) (tries : ℕ) (old new : List Entry) (r : Result ℕ LostPin) → IfOk r (λ e. IsPinnedBy by tries old new e) → IfErr r (λ m. IsMoved by tries old new) → length new ≤ length old + (3 * tries + 1)
 pin_steps by tries old new (Ok e) pinned moved = pinned_steps by tries old new e pinned
 pin_steps by tries old new (Err m) pinned moved = moved_steps by tries old new moved

@@ -19,7 +19,7 @@ use Rattle.nm_steps.proofs.Noting.{may_sight}
 use Rattle.nm_epoch.specs.declared.pinning.Confirming.{Confirming}
 use Rattle.nm_epoch.specs.declared.pinning.Confirming.TheVariants.{Plain, For}
 use Rattle.nm_epoch.specs.Resting.{IsResting, IsPinnedAt, IsTrying, HasAnnounced, KeepsHands, epochs, search}
-use Rattle.nm_epoch.specs.Tries.{WonTry, LostTry, LostTries, IsMoved, looked, confirming, call_of}
+use Rattle.nm_epoch.specs.Tries.{WonTry, LostTry, LostTries, IsMoved, after_sight, confirming, call_confirmed}
 use Rattle.nm_epoch.proofs.Entries.{epochs_after, search_is}
 use Rattle.nm_epoch.proofs.KeptHands.{is_quiet, is_label, known_after_step, hands_kept, kept_on}
 use Rattle.nm_epoch.proofs.Allowed.{may_sight_for}
@@ -30,7 +30,7 @@ noted_confirming : (by : Confirming) (b : Brief) (r : Reply) → noted b (confir
 noted_confirming Plain b r = refl
 noted_confirming (For op key) b r = refl
 
-searched_confirming : (by : Confirming) (s : Search) (r : Reply) → searched s (confirming by) r ≡ begun s (call_of by) r
+searched_confirming : (by : Confirming) (s : Search) (r : Reply) → searched s (confirming by) r ≡ begun s (call_confirmed by) r
 unfolding searched
 searched_confirming Plain s r = refl
 searched_confirming (For op key) s r = refl
@@ -89,7 +89,7 @@ never_labelled a x p h s = let r = reply_is a p (Labelled x) h s in cond_both (a
 
 -- ---- won and lost
 
-won : (p q : Stand) (by : Confirming) (a e : ℕ) → HasAnnounced a p → e ≡ a → Stepped p q (confirming by) (Pinned e) → IsPinnedAt e (call_of by) q
+won : (p q : Stand) (by : Confirming) (a e : ℕ) → HasAnnounced a p → e ≡ a → Stepped p q (confirming by) (Pinned e) → IsPinnedAt e (call_confirmed by) q
 won p q by a e h same step =
     let after = epochs_after p q (confirming by) (Pinned e) step ∙ noted_confirming by (epochs p) (Pinned e) in
     record {
@@ -116,7 +116,7 @@ lost p q by a e h step =
 
 -- ---- by what the sight answered
 
-pub at_won : (p q : Stand) (by : Confirming) (a : ℕ) (r : Result ℕ ℕ) → HasAnnounced a p → IfOk r (λ e. e ≡ a) → Stepped p q (confirming by) (pin_reply r) → IfOk r (λ e. IsPinnedAt e (call_of by) q)
+pub at_won : (p q : Stand) (by : Confirming) (a : ℕ) (r : Result ℕ ℕ) → HasAnnounced a p → IfOk r (λ e. e ≡ a) → Stepped p q (confirming by) (pin_reply r) → IfOk r (λ e. IsPinnedAt e (call_confirmed by) q)
 at_won p q by a (Ok e) h same step = won p q by a e h same step
 at_won p q by a (Err e) h same step = tt
 
@@ -143,7 +143,7 @@ lost_try p q r by a (Ok e) first second = tt
 lost_try p q r by a (Err e) first second = (a, e, logs p q r by a (Missed e) first second)
 
 -- each of the tries was lost, and there was one
-pub moved : (by : Event) (tries : ℕ) (old mid new : List Entry) (first : ℕ) → tries ≢ 0 → LostTries by tries (looked old first) mid → new ≡ mid ++ (Leave, Departed) ∷ [] → IsMoved by tries old new
+pub moved : (by : Event) (tries : ℕ) (old mid new : List Entry) (first : ℕ) → tries ≢ 0 → LostTries by tries (after_sight old first) mid → new ≡ mid ++ (Leave, Departed) ∷ [] → IsMoved by tries old new
 moved by zero old mid new first some lost is = absurd (some refl)
 moved by (suc n) old mid new first some lost is = (first, mid, lost, is)
 

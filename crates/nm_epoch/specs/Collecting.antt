@@ -94,8 +94,9 @@ ledgers_seen epoch k = if k.brief.unlabelled then label epoch k.ledgers else k.l
 
 -- the ledgers of all origins of which none of these queues is are as that sight left them: as they
 -- were, or with the label that was missing
-abbrev pub KeepsOthers : ℕ → List HeldQueue → Knowledge → Knowledge → Type 0
-KeepsOthers epoch hs k l = (o : ℕ) → NoneHas o hs → held l.ledgers o ≡ held (ledgers_seen epoch k) o
+abbrev pub KeepsOtherLedgers : ℕ → List HeldQueue → Knowledge → Knowledge → Type 0
+KeepsOtherLedgers epoch hs k l = (o : ℕ) → NoneHas o hs
+    → held l.ledgers o ≡ held (ledgers_seen epoch k) o
 
 -- what was retired, of an origin whose ledger is held
 abbrev pub retired_of : Knowledge → ℕ → Option (List NodeId)

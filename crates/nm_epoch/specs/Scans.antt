@@ -3,30 +3,23 @@ use Rattle.std.specs.Prelude.{◌≡◌, ◌≢◌, ◌+◌, ◌⊎◌, ◌<◌,
 use Rattle.nm_model.specs.declared.event.Event.TheVariants as event
 use Rattle.nm_model.specs.declared.reply.Reply.{Reply}
 use Rattle.nm_model.specs.declared.reply.Reply.TheVariants as reply
-use Rattle.nm_model.specs.Step.{last_number}
+use Rattle.nm_model.specs.Step.{last_number, reply_scan}
 use Rattle.nm_model.specs.Walks.{Entry}
-use Rattle.nm_steps.specs.Steps.{Stand, scan_reply}
+use Rattle.nm_steps.specs.Steps.{Stand}
 use Rattle.nm_epoch.specs.Resting.{epochs, marks}
 use Rattle.nm_epoch.specs.declared.answers.Advance.{Advance}
 use Rattle.nm_epoch.specs.declared.answers.Advance.TheVariants.{Moved, Held, Lost, Spent}
-
--- the epoch that a sight's reply tells
-abbrev pub epoch_in : Reply → Option ℕ
-epoch_in (reply.Saw e) = Some e
-epoch_in (reply.Labelled e) = Some e
-epoch_in (reply.Pinned e) = Some e
-epoch_in (reply.Missed e) = Some e
-epoch_in _ = None
+use Rattle.nm_order.specs.Reads.{sight_epoch}
 
 -- one sight, which found the epoch e
 abbrev pub IsSightOf : ℕ → List Entry → List Entry → Type 0
-IsSightOf e old new = (r : Reply) × (epoch_in r ≡ Some e) × (new ≡ old ++ (event.Sight, r) ∷ [])
+IsSightOf e old new = (r : Reply) × (sight_epoch r ≡ Some e) × (new ≡ old ++ (event.Sight, r) ∷ [])
 
 -- worker v was found so: by one scan, or, where it is worker me itself, by its own pin and no step
 abbrev pub LooksAt : ℕ → Option ℕ → ℕ → Option ℕ → List Entry → List Entry → Type 0
 LooksAt me pin v found old new =
     ((v ≡ me) × (found ≡ pin) × (new ≡ old))
-    ⊎ ((v ≢ me) × (new ≡ old ++ (event.Scan v, scan_reply found) ∷ []))
+    ⊎ ((v ≢ me) × (new ≡ old ++ (event.Scan v, reply_scan found) ∷ []))
 
 -- a worker that was found so, idle or at an epoch, does not hold the epoch e back
 abbrev pub lets_pass : Option ℕ → ℕ → Bool

@@ -14,9 +14,9 @@ confirming Plain = Sight
 confirming (For op key) = SightFor op key
 
 -- and the call that begins with it
-abbrev pub call_of : Confirming → Option Call
-call_of Plain = None
-call_of (For op key) = Some (record { op = op; key = key })
+abbrev pub call_confirmed : Confirming → Option Call
+call_confirmed Plain = None
+call_confirmed (For op key) = Some (record { op = op; key = key })
 
 -- an announce, followed at once by that sight, which answered `Missed`
 abbrev pub LostTry : Event → List Entry → List Entry → Type 0
@@ -33,17 +33,17 @@ LostTries by zero old new = new ≡ old
 LostTries by (suc n) old new = (mid : List Entry) × LostTries by n old mid × LostTry by mid new
 
 -- one sight, which found the epoch e
-abbrev pub looked : List Entry → ℕ → List Entry
-looked old e = old ++ (Sight, Saw e) ∷ []
+abbrev pub after_sight : List Entry → ℕ → List Entry
+after_sight old e = old ++ (Sight, Saw e) ∷ []
 
 -- one sight, fewer lost tries than there may be, and one that was won (Fraser, section 5)
-abbrev pub IsPinned : Event → ℕ → List Entry → List Entry → ℕ → Type 0
-IsPinned by tries old new e = (first n : ℕ) × (mid : List Entry) × (n < tries)
-    × LostTries by n (looked old first) mid × WonTry by e mid new
+abbrev pub IsPinnedBy : Event → ℕ → List Entry → List Entry → ℕ → Type 0
+IsPinnedBy by tries old new e = (first n : ℕ) × (mid : List Entry) × (n < tries)
+    × LostTries by n (after_sight old first) mid × WonTry by e mid new
 
 -- one sight, as many lost tries as there may be, and a leave; with no tries the sight alone
 -- (Fraser, section 5)
 abbrev pub IsMoved : Event → ℕ → List Entry → List Entry → Type 0
-IsMoved by zero old new = (first : ℕ) × (new ≡ looked old first)
+IsMoved by zero old new = (first : ℕ) × (new ≡ after_sight old first)
 IsMoved by (suc n) old new = (first : ℕ) × (mid : List Entry)
-    × LostTries by (suc n) (looked old first) mid × (new ≡ mid ++ (Leave, Departed) ∷ [])
+    × LostTries by (suc n) (after_sight old first) mid × (new ≡ mid ++ (Leave, Departed) ∷ [])

@@ -8,7 +8,7 @@ ghost use Rattle.nm_steps.specs.Rules.{knowledge};
 ghost use Rattle.nm_steps.specs.Steps.{IsInRun, IsOf, MayStep, Stepped, give_reply, HasSeenAllOf};
 ghost use Rattle.nm_epoch.specs.Resting.{Settles, epochs, search};
 ghost use Rattle.nm_steps.specs.Steps.{IsSamePass};
-ghost use Rattle.nm_epoch.specs.Collecting.{IsQueueOf, AreHeld, KeepsRetired, NoneHas, HaveLost, KeepsOthers, ripe_front, ripe_part, ripe_of, rest_of, blocks_of, freeing, IsCollection};
+ghost use Rattle.nm_epoch.specs.Collecting.{IsQueueOf, AreHeld, KeepsRetired, NoneHas, HaveLost, KeepsOtherLedgers, ripe_front, ripe_part, ripe_of, rest_of, blocks_of, freeing, IsCollection};
 
 use crate::looking::read;
 use nm_edge::{MOST_WORKERS, NodeId};
@@ -197,7 +197,7 @@ pub fn collect(
     ensures lost { HaveLost result.epoch queues.old queues.new }
     ensures blocks { blocks_of queues.new ≡ blocks_of queues.old }
     ensures queues { AreHeld (knowledge pass.new.view) queues.new }
-    ensures others { KeepsOthers result.epoch queues.old (knowledge pass.old.view)
+    ensures others { KeepsOtherLedgers result.epoch queues.old (knowledge pass.old.view)
         (knowledge pass.new.view) }
     ensures retired { KeepsRetired (knowledge pass.old.view) (knowledge pass.new.view) }
     ensures steps { length pass.new.view.log ≤ length pass.old.view.log + shared.now.layout.nodes }

@@ -6,13 +6,14 @@ ghost use Rattle.nm_epoch.specs.Resting.{Settles, KeepsHands, epochs};
 ghost use Rattle.nm_steps.specs.Steps.{IsSamePass};
 ghost use Rattle.nm_steps.specs.Rules.{knowledge};
 ghost use Rattle.nm_epoch.specs.Collecting.{ledgers_seen};
-ghost use Rattle.nm_epoch.specs.Scans.{IsSightOf, LooksAt, epoch_in, lets_pass};
+ghost use Rattle.nm_epoch.specs.Scans.{IsSightOf, LooksAt, lets_pass};
+ghost use Rattle.nm_order.specs.Reads.{sight_epoch};
 
 use nm_steps::{Pass, Shared, Sighted};
 
 /// The epoch that a sight found.
 fn epoch_of(sighted: Sighted) -> u64
-    ensures { epoch_in (sight_reply sighted) ≡ Some result }
+    ensures { sight_epoch (sight_reply sighted) ≡ Some result }
 {
     match sighted {
         Sighted::Saw(epoch)

@@ -5,7 +5,7 @@ ghost use Rattle.nm_order.specs.Intervals.{HasKey};
 ghost use Rattle.nm_steps.specs.Steps.{IsInRun, IsOf, MayStep, Stepped, pin_reply, HasSeenAllOf};
 ghost use Rattle.nm_epoch.specs.Resting.{IsResting, IsUnpinned, IsPinnedAt, IsTrying, HasAnnounced, KeepsHands, epochs};
 ghost use Rattle.nm_steps.specs.Steps.{IsSamePass};
-ghost use Rattle.nm_epoch.specs.Tries.{IsPinned, IsMoved, LostTry, WonTry, confirming, call_of};
+ghost use Rattle.nm_epoch.specs.Tries.{IsPinnedBy, IsMoved, LostTry, WonTry, confirming, call_confirmed};
 
 use crate::answers::Moved;
 use nm_edge::Key;
@@ -51,7 +51,7 @@ fn attempt(shared: &Shared, pass: &mut Pass, by: &Confirming) -> Result<u64, u64
     ensures run { IsInRun pass.new }
     ensures won { IfOk result (λ e. WonTry (confirming by.now) e pass.old.view.log
         pass.new.view.log) }
-    ensures at { IfOk result (λ e. IsPinnedAt e (call_of by.now) pass.new) }
+    ensures at { IfOk result (λ e. IsPinnedAt e (call_confirmed by.now) pass.new) }
     ensures lost { IfErr result
         (λ e. LostTry (confirming by.now) pass.old.view.log pass.new.view.log) }
     ensures trying { IfErr result (λ e. IsTrying pass.new) }
@@ -71,8 +71,8 @@ fn pin_by(shared: &Shared, pass: &mut Pass, tries: u32, by: &Confirming) -> Resu
     ensures past { HasSeenAllOf pass.new pass.old }
     ensures run { IsInRun pass.new }
     ensures pinned { IfOk result
-        (λ e. IsPinned (confirming by.now) tries pass.old.view.log pass.new.view.log e) }
-    ensures at { IfOk result (λ e. IsPinnedAt e (call_of by.now) pass.new) }
+        (λ e. IsPinnedBy (confirming by.now) tries pass.old.view.log pass.new.view.log e) }
+    ensures at { IfOk result (λ e. IsPinnedAt e (call_confirmed by.now) pass.new) }
     ensures moved { IfErr result
         (λ m. IsMoved (confirming by.now) tries pass.old.view.log pass.new.view.log) }
     ensures last { IfErr result (λ m. (epochs pass.new).seen ≡ Some m.epoch) }
@@ -113,7 +113,8 @@ pub fn pin(shared: &Shared, pass: &mut Pass, tries: u32) -> Result<u64, Moved>
     ensures same { IsSamePass pass.old pass.new }
     ensures past { HasSeenAllOf pass.new pass.old }
     ensures run { IsInRun pass.new }
-    ensures pinned { IfOk result (λ e. IsPinned Sight tries pass.old.view.log pass.new.view.log e) }
+    ensures pinned { IfOk result
+        (λ e. IsPinnedBy Sight tries pass.old.view.log pass.new.view.log e) }
     ensures at { IfOk result (λ e. IsPinnedAt e None pass.new) }
     ensures moved { IfErr result (λ m. IsMoved Sight tries pass.old.view.log pass.new.view.log) }
     ensures last { IfErr result (λ m. (epochs pass.new).seen ≡ Some m.epoch) }
@@ -133,7 +134,7 @@ pub fn pin_for(shared: &Shared, pass: &mut Pass, tries: u32, op: Op, key: Key) -
     ensures past { HasSeenAllOf pass.new pass.old }
     ensures run { IsInRun pass.new }
     ensures pinned { IfOk result
-        (λ e. IsPinned (SightFor op key) tries pass.old.view.log pass.new.view.log e) }
+        (λ e. IsPinnedBy (SightFor op key) tries pass.old.view.log pass.new.view.log e) }
     ensures at { IfOk result (λ e. IsPinnedAt e (Some (record { op = op; key = key })) pass.new) }
     ensures moved { IfErr result
         (λ m. IsMoved (SightFor op key) tries pass.old.view.log pass.new.view.log) }

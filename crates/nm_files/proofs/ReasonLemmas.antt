@@ -17,13 +17,13 @@ use Rattle.nm_files.specs.declared.kind.Kind.{Kind}
 use Rattle.nm_files.specs.declared.kind.Kind.TheVariants.{Sight, Announce, Leave, Scan, Advance, Claim, Give, Look, Fill, Link, Flag, Tag, Splice}
 use Rattle.nm_files.specs.Chain.{◌>>=◌}
 use Rattle.nm_files.specs.Lines.{number, is_numeral, place, fields, is_field}
-use Rattle.nm_files.specs.Kinds.{word, kinds, kind_of, event_of, node_field, side_of, op_of, answer_of, key, is_key, sight_for, leave_with, scan, claim, give, look, fill, link, flag, tag, splice}
+use Rattle.nm_files.specs.Kinds.{kind_word, kinds, kind_of, event_of, node_field, side_named, op_of, answer_of, is_key, sight_for, leave_with, scan, claim, give, look, fill, link, flag, tag, splice}
 use Rattle.nm_files.specs.Schedules.{entry_of, with_worker, worker_of, line_of, first_line_of}
 use Rattle.nm_files.specs.Headers.{limits_of, header_of, header_by, header_within, count}
 use Rattle.nm_model.specs.Step.{outside}
 use Rattle.nm_files.specs.declared.header.Limits.{Limits}
 use Rattle.nm_files.specs.declared.header.Header.{Header}
-use Rattle.nm_files.specs.Files.{at, checked, is_long}
+use Rattle.nm_files.specs.Files.{at_line, checked, is_long}
 use Rattle.nm_files.specs.Reasons.{has_words, has_numbers, has_key, holds_of, holds, line_reasons, header_holds_of, header_holds, header_reasons, reason_of}
 
 -- what a function gives: this fault alone, or a value
@@ -44,7 +44,7 @@ place_gives f =
       | inr v ↦ elim (cases_Bool (nat_lt v.0 (2 ^ 32))) [ inl y ↦ inr (v.0, rw (v.1, y) refl) | inr n ↦ inl (rw (v.1, n) refl) ]
     ]
 
-side_gives : (f : List ℕ) → Gives reason.Fields (side_of f)
+side_gives : (f : List ℕ) → Gives reason.Fields (side_named f)
 side_gives f =
     elim (cases_Bool (bytes_eq f (codes "left"))) [
       | inl y ↦ inr (side.Left, rw y refl)
@@ -174,8 +174,8 @@ event_says is_ordered Fill (a ∷ b ∷ c ∷ []) =
 event_says is_ordered Fill (a ∷ b ∷ c ∷ z ∷ more) = rw (and_false (is_ok (node_field b))) refl
 event_says is_ordered Link [] = refl
 event_says is_ordered Link (a ∷ []) = refl
-event_says is_ordered Link (a ∷ b ∷ []) = rw (and_false (is_ok (side_of b))) refl
-event_says is_ordered Link (a ∷ b ∷ c ∷ []) = rw (and_false (is_ok (side_of b))) refl
+event_says is_ordered Link (a ∷ b ∷ []) = rw (and_false (is_ok (side_named b))) refl
+event_says is_ordered Link (a ∷ b ∷ c ∷ []) = rw (and_false (is_ok (side_named b))) refl
 event_says is_ordered Link (a ∷ b ∷ c ∷ d ∷ []) =
     elim (side_gives b) [
       | inl e ↦ rw (e) refl
@@ -190,10 +190,10 @@ event_says is_ordered Link (a ∷ b ∷ c ∷ d ∷ []) =
         ]
       ]
     ]
-event_says is_ordered Link (a ∷ b ∷ c ∷ d ∷ z ∷ more) = rw (and_false (is_ok (side_of b))) refl
+event_says is_ordered Link (a ∷ b ∷ c ∷ d ∷ z ∷ more) = rw (and_false (is_ok (side_named b))) refl
 event_says is_ordered Flag [] = refl
 event_says is_ordered Flag (a ∷ []) = refl
-event_says is_ordered Flag (a ∷ b ∷ []) = rw (and_false (is_ok (side_of b))) refl
+event_says is_ordered Flag (a ∷ b ∷ []) = rw (and_false (is_ok (side_named b))) refl
 event_says is_ordered Flag (a ∷ b ∷ c ∷ []) =
     elim (side_gives b) [
       | inl e ↦ rw (e) refl
@@ -205,7 +205,7 @@ event_says is_ordered Flag (a ∷ b ∷ c ∷ []) =
         ]
       ]
     ]
-event_says is_ordered Flag (a ∷ b ∷ c ∷ z ∷ more) = rw (and_false (is_ok (side_of b))) refl
+event_says is_ordered Flag (a ∷ b ∷ c ∷ z ∷ more) = rw (and_false (is_ok (side_named b))) refl
 event_says is_ordered Tag [] = refl
 event_says is_ordered Tag (a ∷ []) = refl
 event_says is_ordered Tag (a ∷ b ∷ []) =
@@ -216,12 +216,12 @@ event_says is_ordered Tag (a ∷ b ∷ []) =
         | inr xa ↦ rw (xb.1, xa.1) (event.Tag xa.0 xb.0, refl)
       ]
     ]
-event_says is_ordered Tag (a ∷ b ∷ z ∷ more) = rw (and_false (is_ok (side_of b))) refl
+event_says is_ordered Tag (a ∷ b ∷ z ∷ more) = rw (and_false (is_ok (side_named b))) refl
 event_says is_ordered Splice [] = refl
 event_says is_ordered Splice (a ∷ []) = refl
-event_says is_ordered Splice (a ∷ b ∷ []) = rw (and_false (is_ok (side_of b))) refl
-event_says is_ordered Splice (a ∷ b ∷ c ∷ []) = rw (and_false (is_ok (side_of b))) refl
-event_says is_ordered Splice (a ∷ b ∷ c ∷ d ∷ []) = rw (and_false (is_ok (side_of b))) refl
+event_says is_ordered Splice (a ∷ b ∷ []) = rw (and_false (is_ok (side_named b))) refl
+event_says is_ordered Splice (a ∷ b ∷ c ∷ []) = rw (and_false (is_ok (side_named b))) refl
+event_says is_ordered Splice (a ∷ b ∷ c ∷ d ∷ []) = rw (and_false (is_ok (side_named b))) refl
 event_says is_ordered Splice (a ∷ b ∷ c ∷ d ∷ e ∷ []) =
     elim (side_gives b) [
       | inl e ↦ rw (e) refl
@@ -239,7 +239,7 @@ event_says is_ordered Splice (a ∷ b ∷ c ∷ d ∷ e ∷ []) =
         ]
       ]
     ]
-event_says is_ordered Splice (a ∷ b ∷ c ∷ d ∷ e ∷ z ∷ more) = rw (and_false (is_ok (side_of e)), and_false (is_ok (side_of b))) refl
+event_says is_ordered Splice (a ∷ b ∷ c ∷ d ∷ e ∷ z ∷ more) = rw (and_false (is_ok (side_named e)), and_false (is_ok (side_named b))) refl
 
 -- ---- a line
 
@@ -248,7 +248,7 @@ abbrev pub reason_in : {X : Type 0} → Result X Reason → Option Reason
 reason_in (Ok x) = None
 reason_in (Err r) = Some r
 
-pub reason_at : {X : Type 0} (number : ℕ) (said : Result X Reason) → reason_of (at number said) ≡ reason_in said
+pub reason_at : {X : Type 0} (number : ℕ) (said : Result X Reason) → reason_of (at_line number said) ≡ reason_in said
 reason_at number (Ok x) = refl
 reason_at number (Err r) = refl
 
@@ -292,7 +292,7 @@ entry_least header (a ∷ []) formed = rw formed refl
 entry_least header (a ∷ k ∷ fs) formed =
     let two : nat_lt (length (a ∷ k ∷ fs)) 2 ≡ false = le-ltb (length (a ∷ k ∷ fs)) 2 (omega arith) in
     let o = header.is_ordered in
-    elim (found_gives (find (λ kind. bytes_eq k (word kind)) kinds)) [
+    elim (found_gives (find (λ kind. bytes_eq k (kind_word kind)) kinds)) [
       | inl e ↦ rw (e, formed, two) refl
       | inr x ↦ let e = event_least header a k fs x.0 (event_of o x.0 fs) (has_words o x.0 fs) (has_numbers o x.0 fs) formed x.1 refl refl (event_says o x.0 fs) in rw (x.1) (rw (x.1) at e)
     ]

@@ -31,13 +31,13 @@ reason_number reason.Key = 12
 abbrev pub is_long : ℕ → List ℕ → Bool
 is_long number line = nat_lt 100001 number || nat_lt 120 (length line)
 
-abbrev pub at : {X : Type 0} → ℕ → Result X Reason → Result X Fault
-at number (Ok x) = Ok x
-at number (Err r) = Err (record { line = number; reason = r })
+abbrev pub at_line : {X : Type 0} → ℕ → Result X Reason → Result X Fault
+at_line number (Ok x) = Ok x
+at_line number (Err r) = Err (record { line = number; reason = r })
 
 -- what the line of this number says, unless it is long
 abbrev pub checked : {X : Type 0} → ℕ → List ℕ → Result X Reason → Result X Fault
-checked number line says = at number (if is_long number line then Err reason.Long else says)
+checked number line says = at_line number (if is_long number line then Err reason.Long else says)
 
 -- what is wrong with a line that no newline ends
 abbrev pub cut_off : ℕ → List ℕ → Fault
@@ -86,9 +86,9 @@ Fails (run.Gate worker line) said = ⊥
 Fails run.Thread said = ⊥
 
 -- what a function returned, seen by view, is what the file says, unless memory ran out
-abbrev pub Gives : {X Y : Type 0} → (X → Y) → Result X RunFault → Result Y Fault → Type 0
-Gives view (Ok x) said = said ≡ Ok (view x)
-Gives view (Err e) said = Fails e said
+abbrev pub GivesWhatIsSaid : {X Y : Type 0} → (X → Y) → Result X RunFault → Result Y Fault → Type 0
+GivesWhatIsSaid view (Ok x) said = said ≡ Ok (view x)
+GivesWhatIsSaid view (Err e) said = Fails e said
 
 -- of a faulty line
 abbrev pub IfLine : RunFault → (ℕ → Reason → Type 0) → Type 0

@@ -20,20 +20,20 @@ use Rattle.nm_files.specs.Chain.{◌>>=◌}
 use Rattle.nm_files.specs.Lines.{number, place}
 
 -- the word of each kind
-abbrev pub word : Kind → List ℕ
-word Sight = codes "sight"
-word Announce = codes "announce"
-word Leave = codes "leave"
-word Scan = codes "scan"
-word Advance = codes "advance"
-word Claim = codes "claim"
-word Give = codes "give"
-word Look = codes "look"
-word Fill = codes "fill"
-word Link = codes "link"
-word Flag = codes "flag"
-word Tag = codes "tag"
-word Splice = codes "splice"
+abbrev pub kind_word : Kind → List ℕ
+kind_word Sight = codes "sight"
+kind_word Announce = codes "announce"
+kind_word Leave = codes "leave"
+kind_word Scan = codes "scan"
+kind_word Advance = codes "advance"
+kind_word Claim = codes "claim"
+kind_word Give = codes "give"
+kind_word Look = codes "look"
+kind_word Fill = codes "fill"
+kind_word Link = codes "link"
+kind_word Flag = codes "flag"
+kind_word Tag = codes "tag"
+kind_word Splice = codes "splice"
 
 -- the kinds that a schedule may have
 abbrev pub kinds : List Kind
@@ -42,7 +42,7 @@ kinds = Sight ∷ Announce ∷ Leave ∷ Scan ∷ Advance ∷ Claim ∷ Give ∷
 
 -- the kind whose word this is
 abbrev pub kind_of : List ℕ → Result Kind Reason
-kind_of given = ok_or (find (λ kind. bytes_eq given (word kind)) kinds) reason.Kind
+kind_of given = ok_or (find (λ kind. bytes_eq given (kind_word kind)) kinds) reason.Kind
 
 -- a field of a node
 abbrev pub node_field : List ℕ → Result Field Reason
@@ -54,8 +54,8 @@ node_field given =
     else Err reason.Fields
 
 -- a side of a node
-abbrev pub side_of : List ℕ → Result Side Reason
-side_of given =
+abbrev pub side_named : List ℕ → Result Side Reason
+side_named given =
     if bytes_eq given (codes "left") then Ok side.Left
     else if bytes_eq given (codes "right") then Ok side.Right
     else Err reason.Fields
@@ -80,8 +80,8 @@ abbrev pub is_key : ℕ → Bool
 is_key n = nat_le n (2 ^ 64 - 4)
 
 -- a key of the set
-abbrev pub key : List ℕ → Result ℕ Reason
-key field = do
+abbrev pub key_field : List ℕ → Result ℕ Reason
+key_field field = do
   n ← number field
   if is_key n then Ok n else Err reason.Key
 
@@ -121,7 +121,7 @@ unfoldable pub sight_for : List (List ℕ) → Result Event Reason
 sight_for arguments = do
   a ← two arguments
   op ← op_of a.0
-  key ← key a.1
+  key ← key_field a.1
   Ok (event.SightFor op key)
 
 -- `sight`, `leave`, `leave_with`, `scan`, `claim`, `give`, `look`, `fill`, `link`, `flag`, `tag`,
@@ -181,7 +181,7 @@ fill arguments = do
 unfoldable pub link : List (List ℕ) → Result Event Reason
 link arguments = do
   a ← four arguments
-  end ← side_of a.1
+  end ← side_named a.1
   parent ← place a.0
   leaf ← place a.2
   new ← place a.3
@@ -190,7 +190,7 @@ link arguments = do
 unfoldable pub flag : List (List ℕ) → Result Event Reason
 flag arguments = do
   a ← three arguments
-  end ← side_of a.1
+  end ← side_named a.1
   parent ← place a.0
   leaf ← place a.2
   Ok (event.Flag parent end leaf)
@@ -198,15 +198,15 @@ flag arguments = do
 unfoldable pub tag : List (List ℕ) → Result Event Reason
 tag arguments = do
   a ← two arguments
-  end ← side_of a.1
+  end ← side_named a.1
   parent ← place a.0
   Ok (event.Tag parent end)
 
 unfoldable pub splice : List (List ℕ) → Result Event Reason
 splice arguments = do
   a ← five arguments
-  end ← side_of a.1
-  keep ← side_of a.4
+  end ← side_named a.1
+  keep ← side_named a.4
   ancestor ← place a.0
   successor ← place a.2
   parent ← place a.3

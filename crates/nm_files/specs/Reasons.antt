@@ -6,7 +6,7 @@ use Rattle.nm_files.specs.declared.fault.Reason.TheVariants.{Long, Header, Nodes
 use Rattle.nm_files.specs.declared.kind.Kind.{Kind as KindOf}
 use Rattle.nm_files.specs.declared.kind.Kind.TheVariants.{Sight, Announce, Leave, Scan, Advance, Claim, Give, Look, Fill, Link, Flag, Tag, Splice}
 use Rattle.nm_files.specs.Lines.{fields, is_field, number, place}
-use Rattle.nm_files.specs.Kinds.{kind_of, node_field, side_of, op_of, answer_of, is_key, is_of_operation}
+use Rattle.nm_files.specs.Kinds.{kind_of, node_field, side_named, op_of, answer_of, is_key, is_of_operation}
 use Rattle.nm_files.specs.declared.header.Limits.{Limits}
 use Rattle.nm_files.specs.declared.header.Header.{Header as HeaderOf}
 use Rattle.nm_files.specs.Headers.{limits_of}
@@ -33,7 +33,7 @@ abbrev pub a_field : Argument
 a_field = record { is_word = λ f. is_ok (node_field f); is_number = λ f. true }
 
 abbrev pub a_side : Argument
-a_side = record { is_word = λ f. is_ok (side_of f); is_number = λ f. true }
+a_side = record { is_word = λ f. is_ok (side_named f); is_number = λ f. true }
 
 abbrev pub an_op : Argument
 an_op = record { is_word = λ f. is_ok (op_of f); is_number = λ f. true }

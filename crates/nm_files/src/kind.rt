@@ -46,7 +46,7 @@ const KINDS: [Kind; 13] = [
 impl Kind {
     /// The word by which a line names it.
     pub fn word(self) -> &'static [u8]
-        ensures { result.now ≡ spec.word self }
+        ensures { result.now ≡ spec.kind_word self }
     {
         match self {
             Kind::Sight => b"sight",
@@ -353,7 +353,7 @@ fn answer_of(given: &[u8]) -> Result<bool, Reason>
 
 /// The key of the set that a field spells; above those of the set, `Key`.
 pub fn key_of(field: &[u8]) -> Result<Key, Reason>
-    ensures { result ≡ spec.key field.now }
+    ensures { result ≡ spec.key_field field.now }
 {
     let n = number(field)?;
     match Key::new(n) {
@@ -364,7 +364,7 @@ pub fn key_of(field: &[u8]) -> Result<Key, Reason>
 
 /// The side of a node that a word names.
 fn side_of(given: &[u8]) -> Result<Side, Reason>
-    ensures { result ≡ spec.side_of given.now }
+    ensures { result ≡ spec.side_named given.now }
 {
     if given == b"left".as_slice() {
         Ok(Side::Left)

@@ -1,7 +1,7 @@
 //! A schedule: the sizes of a tree, and events of workers in their order.
 ghost use Rattle.std.specs.Prelude.{◌≡◌, ◌≤◌, drop, IfOk, OnOk};
 ghost use Rattle.nm_files.specs.Lines.{parts};
-ghost use Rattle.nm_files.specs.Files.{Gives, checked, entries_from};
+ghost use Rattle.nm_files.specs.Files.{GivesWhatIsSaid, checked, entries_from};
 ghost use Rattle.nm_files.specs.Files as files;
 ghost use Rattle.nm_files.specs.Schedules as spec;
 
@@ -51,7 +51,7 @@ pub fn cut_off(number: u32, line: &[u8]) -> RunFault
 }
 
 fn header_at(line: &[u8]) -> Result<Header, RunFault>
-    ensures { Gives (λ h. h) result (checked 1 line.now (spec.first_line_of line.now)) }
+    ensures { GivesWhatIsSaid (λ h. h) result (checked 1 line.now (spec.first_line_of line.now)) }
 {
     if is_long(1, line) {
         return Err(fault(1, Reason::Long));
@@ -63,7 +63,7 @@ fn header_at(line: &[u8]) -> Result<Header, RunFault>
 }
 
 fn event_at(number: u32, header: &Header, line: &[u8]) -> Result<(u32, Event), RunFault>
-    ensures says { Gives (λ e. e) result
+    ensures says { GivesWhatIsSaid (λ e. e) result
         (checked number line.now (spec.line_of header.now line.now)) }
     ensures number { OnOk result (number ≤ 100001) }
 {
@@ -78,7 +78,7 @@ fn event_at(number: u32, header: &Header, line: &[u8]) -> Result<(u32, Event), R
 
 /// The events of the lines from the second on.
 fn events_of(alloc: Global, header: &Header, body: &[u8]) -> Result<Vec<(u32, Event)>, RunFault>
-    ensures { Gives (λ v. v.items) result
+    ensures { GivesWhatIsSaid (λ v. v.items) result
         (entries_from (spec.line_of header.now) 2 (parts body.now)) }
 {
     let mut events = Vec::new(alloc);
@@ -101,8 +101,8 @@ fn events_of(alloc: Global, header: &Header, body: &[u8]) -> Result<Vec<(u32, Ev
 
 /// What the bytes of a file say.
 pub fn schedule_of(alloc: Global, bytes: &[u8]) -> Result<Schedule<'_>, RunFault>
-    ensures says { Gives (λ s. record { header = s.header; entries = s.events.items }) result
-        (spec.schedule_of bytes.now) }
+    ensures says { GivesWhatIsSaid (λ s. record { header = s.header; entries = s.events.items })
+        result (spec.schedule_of bytes.now) }
     ensures body { IfOk result (λ s. drop 1 (parts bytes.now) ≡ parts s.body.now) }
 {
     let (line, body) = cut(bytes, b'\n');

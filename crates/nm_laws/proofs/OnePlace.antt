@@ -4,9 +4,9 @@ use Rattle.std.specs.Prelude.{Option, Some, None, is_some, option_map, slice_get
 use Rattle.std.proofs.lemmas.Option.{none-some}
 use Rattle.nm_model.specs.declared.ledger.Ledger.{Ledger}
 use Rattle.nm_model.specs.Ledgers.{held, queue_of}
-use Rattle.nm_model.specs.Places.{Place, slot_of, StandsAt, OnePlace, EachSlotInOnePlace}
+use Rattle.nm_model.specs.Places.{SlotPlace, slot_of, SlotStandsAt, OneSlotPlace, EachSlotInOnePlace}
 use Rattle.nm_model.specs.Laws.{OfEachState}
-use Rattle.nm_model.specs.Places.Place.{InPool, PrivateTo, OnPath, InQueue}
+use Rattle.nm_model.specs.Places.SlotPlace.{InPool, PrivateTo, OnPath, InQueue}
 use Rattle.nm_model.specs.Runs.{State, of, start, after}
 use Rattle.nm_laws.proofs.Reaches.{IsReachable}
 use Rattle.nm_laws.proofs.Holders.{Holders}
@@ -17,13 +17,13 @@ use Rattle.nm_laws.proofs.Lawful.{IsLawful, lawful, reachable_is_lawful}
 
 module _ (s : State) (h : ℕ → ℕ) (holders : Holders s h) (x : ℕ) where
   -- a spot, as the place where a state has it
-  abbrev place_of : Spot → Place
+  abbrev place_of : Spot → SlotPlace
   place_of SpotInPool = InPool
   place_of (SpotPrivateTo w) = PrivateTo w
   place_of (SpotOnPath path) = OnPath path
   place_of (SpotInQueue o i) = InQueue (h o) o i
 
-  there : (p : Spot) → Stands (picture s h) x p → StandsAt s x (place_of p)
+  there : (p : Spot) → Stands (picture s h) x p → SlotStandsAt s x (place_of p)
   there SpotInPool is = is
   there (SpotPrivateTo w) is = is
   there (SpotOnPath path) is = is
@@ -34,10 +34,10 @@ module _ (s : State) (h : ℕ → ℕ) (holders : Holders s h) (x : ℕ) where
   holder_is w o i None is at = absurd (none-some x at)
   holder_is w o i (Some l) is at = holders.only w o (ap is_some is)
 
-  pub one_place : Once (picture s h) x → OnePlace s x
+  pub one_place : Once (picture s h) x → OneSlotPlace s x
   one_place once = record { place = place_of once.place; here = there once.place once.here; only = back }
     where
-      back : (q : Place) → StandsAt s x q → q ≡ place_of once.place
+      back : (q : SlotPlace) → SlotStandsAt s x q → q ≡ place_of once.place
       back InPool is = ap place_of (once.only SpotInPool is)
       back (PrivateTo w) is = ap place_of (once.only (SpotPrivateTo w) is)
       back (OnPath path) is = ap place_of (once.only (SpotOnPath path) is)

@@ -3,7 +3,7 @@ use Rattle.std.proofs.Common.{◌≡◌, ℕ, ◌-◌, ◌<◌, ◌≤◌, List,
 use Rattle.std.proofs.lemmas.List.{length-drop, take-replicate, drop-replicate}
 use Rattle.std.specs.Prelude.{Option, None}
 use denote.RawPtr.{Ptr, null_ptr}
-use Rattle.nm_limbo.specs.Blocks.{first_of, IsLast}
+use Rattle.nm_limbo.specs.Blocks.{first_block_of, IsLast}
 use Rattle.nm_limbo.specs.List.{IsLinked}
 
 IsLast-tail : (p : Ptr) (ps : List Ptr) (l : Ptr) → IsLast (p ∷ ps) l → 0 < length ps → IsLast ps l
@@ -13,7 +13,7 @@ IsLast-tail p (q ∷ ps) l last some =
     (some, last.1 ∙ ap (λ k. get_or (p ∷ q ∷ ps) k null_ptr) on)
 
 pub linked_after : {X : Type 0} (ps qs : List Ptr) (cs ds : List (Option X)) (f g l : Ptr) (n : ℕ)
-    → IsLinked ps cs f l n → ps ≡ f ∷ qs → ds ≡ drop 32 cs → g ≡ first_of qs → IsLinked qs ds g l (n - 1)
+    → IsLinked ps cs f l n → ps ≡ f ∷ qs → ds ≡ drop 32 cs → g ≡ first_block_of qs → IsLinked qs ds g l (n - 1)
 linked_after ps qs cs ds f g l n is cut rest on =
     let long = ap length cut in let short = ap length rest ∙ length-drop 32 cs in
     record {

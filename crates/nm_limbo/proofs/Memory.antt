@@ -28,7 +28,7 @@ use Rattle.core.proofs.alloc.Calls.{Al}
 use Rattle.core.proofs.slots.Leases.{P}
 use Rattle.circular_buffer.specs.Ownership.{cells_own, cells_lent}
 use Rattle.circular_buffer.proofs.Memory.{Place}
-use Rattle.nm_limbo.specs.Blocks.{first_of}
+use Rattle.nm_limbo.specs.Blocks.{first_block_of}
 use Rattle.nm_limbo.specs.Ownership.{link_owns, links_own, places_of, deed_owns, deeds_own, places_own, chain_lent}
 use Rattle.nm_limbo.specs.contracts.chain.Chain as Chain
 
@@ -40,12 +40,12 @@ module _ (E : El) (Z : Al) where
 abbrev pub nth : List Ptr → ℕ → Ptr
 nth ps k = get_or ps k null_ptr
 
-pub first_nth : (ps : List Ptr) → first_of ps ≡ nth ps 0
+pub first_nth : (ps : List Ptr) → first_block_of ps ≡ nth ps 0
 first_nth [] = refl
 first_nth (p ∷ ps) = refl
 
 -- the blocks after the first
-pub past_first : (ps : List Ptr) → 0 < length ps → (rest : List Ptr) × (ps ≡ first_of ps ∷ rest)
+pub past_first : (ps : List Ptr) → 0 < length ps → (rest : List Ptr) × (ps ≡ first_block_of ps ∷ rest)
 past_first [] lt = absurd (omega arith)
 past_first (p ∷ ps) lt = (ps, refl)
 

@@ -3,13 +3,13 @@ use Rattle.std.specs.Prelude.{◌≡◌, ℕ, ◌-◌, ◌<◌, List, [], ◌∷
 use denote.RawPtr.{Ptr, null_ptr}
 
 -- where the first of the blocks lies
-abbrev pub first_of : List Ptr → Ptr
-first_of [] = null_ptr
-first_of (p ∷ ps) = p
+abbrev pub first_block_of : List Ptr → Ptr
+first_block_of [] = null_ptr
+first_block_of (p ∷ ps) = p
 
 -- the first of the blocks lies at p
 abbrev pub IsFirst : List Ptr → Ptr → Type 0
-IsFirst ps p = (0 < length ps) × (p ≡ first_of ps)
+IsFirst ps p = (0 < length ps) × (p ≡ first_block_of ps)
 
 -- the last of the blocks lies at p
 abbrev pub IsLast : List Ptr → Ptr → Type 0

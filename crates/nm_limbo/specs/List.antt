@@ -2,7 +2,7 @@
 use Rattle.std.specs.Prelude.{◌≡◌, ℕ, ◌*◌, ◌<◌, List, length, Option, refl}
 use Rattle.std.specs.Coded.{Coded, code_by, coded×, coded_list, coded_option, coded_ℕ}
 use denote.RawPtr.{Ptr}
-use Rattle.nm_limbo.specs.Blocks.{first_of, IsLast}
+use Rattle.nm_limbo.specs.Blocks.{first_block_of, IsLast}
 
 -- the places of the blocks in order, the number of the blocks, and the allocator that they go back
 -- to
@@ -29,5 +29,5 @@ pub record IsLinked {X : Type 0} (ps : List Ptr) (cs : List (Option X)) (f l : P
     (n : ℕ) : Type 0 where
   pub count : n ≡ length ps
   pub places : length cs ≡ 32 * length ps
-  pub first : f ≡ first_of ps
+  pub first : f ≡ first_block_of ps
   pub last : 0 < length ps → IsLast ps l

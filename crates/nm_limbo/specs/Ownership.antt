@@ -10,7 +10,7 @@ use denote.Memory.{lone}
 use denote.Sharing.{nothing, beside}
 use denote.RawPtr.{Ptr, RawPtr, lies_at, room_for, ◌+ₚ◌}
 use Rattle.circular_buffer.specs.Ownership.{cells_own, cells_lent}
-use Rattle.nm_limbo.specs.Blocks.{first_of}
+use Rattle.nm_limbo.specs.Blocks.{first_block_of}
 
 -- where the link lies in the block at p
 abbrev pub next_of : Ptr → Ptr
@@ -23,7 +23,7 @@ link_owns p q = lies_at RawPtr full_share (next_of p) q
 -- each block leads on to the next one, and the last to none
 abbrev pub links_own : List Ptr → Fml
 links_own [] = ftrue
-links_own (p ∷ ps) = fsep (link_owns p (first_of ps)) (links_own ps)
+links_own (p ∷ ps) = fsep (link_owns p (first_block_of ps)) (links_own ps)
 
 module _ (R : RattleType) where
   -- the 32 places of a block, as the code writes their type

@@ -2,7 +2,7 @@
 ghost use Rattle.std.specs.Prelude.{◌≡◌, ◌+◌, ◌-◌, ◌*◌, ◌<◌, List, [], ◌∷◌, ◌++◌, Option, Some, None, length, take, drop, replicate, get_or, slice_set};
 ghost use denote.RawPtr.{Ptr};
 ghost use Rattle.circular_buffer.specs.Places.{IsFilled};
-ghost use Rattle.nm_limbo.specs.Blocks.{first_of, IsFirst, IsLast, IsEmptyAt};
+ghost use Rattle.nm_limbo.specs.Blocks.{first_block_of, IsFirst, IsLast, IsEmptyAt};
 ghost use Rattle.nm_limbo.specs.Ownership.{chain_owns, chain_lent};
 
 use crate::block::{BlockPtr, Deed, Room};
@@ -89,7 +89,7 @@ impl<T, A: Allocator> Chain<T, A> {
         ensures chain { (self.old.blocks ≡ first.ptr ∷ self.new.blocks)
             × (self.new.slots ≡ drop 32 self.old.slots) × (self.new.alloc ≡ self.old.alloc) }
         ensures taken { (result.1.at ≡ result.0.ptr) × (result.1.alloc ≡ self.old.alloc)
-            × (result.2.ptr ≡ first_of self.new.blocks) }
+            × (result.2.ptr ≡ first_block_of self.new.blocks) }
     {
         let ptr = first.ptr;
         let next = unsafe { (*ptr).next };

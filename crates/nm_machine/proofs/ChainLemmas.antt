@@ -12,7 +12,7 @@ use Rattle.nm_model.specs.Maps.{get, put}
 use Rattle.nm_model.specs.Knowledge.{Knowledge, unread, read, slot_read, leads_on, slot_on, before_way, way}
 use Rattle.nm_model.proofs.Tables.{get-put}
 use Rattle.nm_model.proofs.Ways.{some_before}
-use Rattle.nm_machine.specs.Chains.{next_of, next_in, from_next, leads_to, IsRight, Remembers}
+use Rattle.nm_machine.specs.Chains.{next_slot_of, next_slot_in, from_next, leads_to, IsRight, Remembers}
 use Rattle.nm_machine.specs.declared.found_steps.ChainStep.{ChainStep}
 
 -- ---- ways
@@ -38,16 +38,16 @@ way_leads zero k s p = refl
 way_leads (suc n) k s p = one_step k s (λ t. way n k t p) (λ t. leads_to n k.known t p) (λ t. way_leads n k t p) (s == p) (leads_on k s Left) (leads_on k s Right)
 
 module _ (n m : ℕ) (known : List (ℕ × Seen)) (s p : ℕ) (more : n ≡ m + 1) where
-  turn : leads_to n known s p ≡ (s == p) || from_next (next_in known s) (λ t. leads_to m known t p)
+  turn : leads_to n known s p ≡ (s == p) || from_next (next_slot_in known s) (λ t. leads_to m known t p)
   turn = rw (more, add-one) refl
 
   -- at the last node
   pub leads_here : s ≡ p → leads_to n known s p ≡ true
-  leads_here same = turn ∙ ap (λ b. b || from_next (next_in known s) (λ t. leads_to m known t p)) (eq-eqb s p same)
+  leads_here same = turn ∙ ap (λ b. b || from_next (next_slot_in known s) (λ t. leads_to m known t p)) (eq-eqb s p same)
 
   -- where the chain goes on, or ends
-  pub leads_from : s ≢ p → (o : Option ℕ) → next_in known s ≡ o → leads_to n known s p ≡ from_next o (λ t. leads_to m known t p)
-  leads_from apart o is = turn ∙ ap (λ b. b || from_next (next_in known s) (λ t. leads_to m known t p)) (ne_eqb s p apart) ∙ ap (λ x. from_next x (λ t. leads_to m known t p)) is
+  pub leads_from : s ≢ p → (o : Option ℕ) → next_slot_in known s ≡ o → leads_to n known s p ≡ from_next o (λ t. leads_to m known t p)
+  leads_from apart o is = turn ∙ ap (λ b. b || from_next (next_slot_in known s) (λ t. leads_to m known t p)) (ne_eqb s p apart) ∙ ap (λ x. from_next x (λ t. leads_to m known t p)) is
 
 -- ---- the memory
 
@@ -61,24 +61,24 @@ unfolding Remembers
 remembers_place known steps x none h = All-push (IsRight known) steps x h (λ some. absurd (some none))
 
 -- a step that was found
-pub remembers_step : (known : List (ℕ × Seen)) (steps : List ChainStep) (i : ℕ) (x : ChainStep) → next_in known x.slot ≡ Some x.next.slot → Remembers known steps → Remembers known (set steps i x)
+pub remembers_step : (known : List (ℕ × Seen)) (steps : List ChainStep) (i : ℕ) (x : ChainStep) → next_slot_in known x.slot ≡ Some x.next.slot → Remembers known steps → Remembers known (set steps i x)
 unfolding Remembers
 remembers_step known steps i x is h = All-set (IsRight known) steps i x (λ some. is) h
 
 -- of a node from which no chain went on, or from which it goes on to the same slot, something is
 -- known
-module _ (known : List (ℕ × Seen)) (s : ℕ) (n : Seen) (kept : (next_in known s ≡ None) ⊎ (next_in known s ≡ next_of n)) where
-  next_kept : (q t : ℕ) → next_in known q ≡ Some t → next_in (put known s n) q ≡ Some t
-  next_kept q t is = ap (λ o. next_of (unwrap_or o unread)) (get-put known s n q) ∙ go (eqb q s) refl
+module _ (known : List (ℕ × Seen)) (s : ℕ) (n : Seen) (kept : (next_slot_in known s ≡ None) ⊎ (next_slot_in known s ≡ next_slot_of n)) where
+  next_kept : (q t : ℕ) → next_slot_in known q ≡ Some t → next_slot_in (put known s n) q ≡ Some t
+  next_kept q t is = ap (λ o. next_slot_of (unwrap_or o unread)) (get-put known s n q) ∙ go (eqb q s) refl
     where
-      go : (b : Bool) → eqb q s ≡ b → next_of (unwrap_or (cond b (Some n) (get known q)) unread) ≡ Some t
+      go : (b : Bool) → eqb q s ≡ b → next_slot_of (unwrap_or (cond b (Some n) (get known q)) unread) ≡ Some t
       go false apart = is
       go true same = by kept
         where
-          here : next_in known s ≡ Some t
-          here = ap (next_in known) (sym (eqb-true q s same)) ∙ is
+          here : next_slot_in known s ≡ Some t
+          here = ap (next_slot_in known) (sym (eqb-true q s same)) ∙ is
 
-          by : (next_in known s ≡ None) ⊎ (next_in known s ≡ next_of n) → next_of n ≡ Some t
+          by : (next_slot_in known s ≡ None) ⊎ (next_slot_in known s ≡ next_slot_of n) → next_slot_of n ≡ Some t
           by (inl none) = absurd (let e : ◌≡◌ {A = Option ℕ} None (Some t) = sym none ∙ here in cc)
           by (inr to) = sym to ∙ here
 
@@ -87,6 +87,6 @@ module _ (known : List (ℕ × Seen)) (s : ℕ) (n : Seen) (kept : (next_in know
   remembers_kept steps h i d below some = next_kept _ _ (h i d below some)
 
 -- a step that stands in it
-pub remembers_at : (known : List (ℕ × Seen)) (steps : List ChainStep) (i : ℕ) (x : ChainStep) → i < length steps → x ≡ slice_index_or steps i x → x.next.slot ≢ 0 → Remembers known steps → next_in known x.slot ≡ Some x.next.slot
+pub remembers_at : (known : List (ℕ × Seen)) (steps : List ChainStep) (i : ℕ) (x : ChainStep) → i < length steps → x ≡ slice_index_or steps i x → x.next.slot ≢ 0 → Remembers known steps → next_slot_in known x.slot ≡ Some x.next.slot
 unfolding Remembers
 remembers_at known steps i x below is some h = subst (λ (y : ChainStep). IsRight known y) (sym is) (h i x below) some

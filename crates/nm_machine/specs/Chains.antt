@@ -11,13 +11,15 @@ abbrev pub goes_by : Option Edge → Option Edge → Bool
 goes_by edge twin = is_tagged edge && (is_flagged twin && not (is_flagged edge))
 
 -- the slot to which a chain leads on from a node of which this is known, where it does
-abbrev pub next_of : Seen → Option ℕ
-next_of n = if goes_by n.left n.right then Some (slot_read n.left) else if goes_by n.right n.left
-    then Some (slot_read n.right) else None
+abbrev pub next_slot_of : Seen → Option ℕ
+next_slot_of n =
+    if goes_by n.left n.right then Some (slot_read n.left)
+    else if goes_by n.right n.left then Some (slot_read n.right)
+    else None
 
 -- the same by the slot
-abbrev pub next_in : List (ℕ × Seen) → ℕ → Option ℕ
-next_in known s = next_of (unwrap_or (get known s) unread)
+abbrev pub next_slot_in : List (ℕ × Seen) → ℕ → Option ℕ
+next_slot_in known s = next_slot_of (unwrap_or (get known s) unread)
 
 abbrev pub from_next : Option ℕ → (ℕ → Bool) → Bool
 from_next None test = false
@@ -27,13 +29,13 @@ from_next (Some s) test = test s
 abbrev pub leads_to : ℕ → List (ℕ × Seen) → ℕ → ℕ → Bool
 leads_to zero known s p = false
 leads_to (suc fuel) known s p =
-    (s == p) || from_next (next_in known s) (λ t. leads_to fuel known t p)
+    (s == p) || from_next (next_slot_in known s) (λ t. leads_to fuel known t p)
 
 -- ---- what was found of chains
 
 -- a step that was found is the one that the chain makes from its slot
 abbrev pub IsRight : List (ℕ × Seen) → ChainStep → Type 0
-IsRight known x = x.next.slot ≢ 0 → next_in known x.slot ≡ Some x.next.slot
+IsRight known x = x.next.slot ≢ 0 → next_slot_in known x.slot ≡ Some x.next.slot
 
 -- each step that was noted is right by what is known
 unfoldable pub Remembers : List (ℕ × Seen) → List ChainStep → Type 0

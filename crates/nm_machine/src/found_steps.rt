@@ -1,7 +1,7 @@
 //! The steps of chains that were found, so that none is looked for twice.
 ghost use Rattle.std.specs.Prelude.{◌≡◌, ◌<◌, ℕ, List, true, length, Some, IfSome};
 ghost use Rattle.nm_model.specs.declared.knowledge.Seen.{Seen};
-ghost use Rattle.nm_machine.specs.Chains.{Remembers, next_in};
+ghost use Rattle.nm_machine.specs.Chains.{Remembers, next_slot_in};
 
 use nm_model::slot_map::SlotMap;
 use std::alloc::{AllocError, Global};
@@ -65,7 +65,7 @@ impl FoundSteps {
     /// The node after this one, where it was found.
     pub fn next(&self, node: &ChainNode) -> Option<ChainNode>
         ensures { (known : List (ℕ × Seen)) → Remembers known self.now
-            → IfSome result (λ next. next_in known node.now.slot ≡ Some next.slot) }
+            → IfSome result (λ next. next_slot_in known node.now.slot ≡ Some next.slot) }
     {
         match self.steps.get(node.index as usize) {
             Some(step) if step.slot == node.slot && step.next.slot != 0 => Some(step.next),
@@ -112,7 +112,7 @@ impl FoundSteps {
 
     /// The chain was found to lead on from one node to another.
     pub fn learn(&mut self, node: &ChainNode, next: &ChainNode)
-        ensures { (known : List (ℕ × Seen)) → next_in known node.now.slot ≡ Some next.now.slot
+        ensures { (known : List (ℕ × Seen)) → next_slot_in known node.now.slot ≡ Some next.now.slot
             → Remembers known self.old → Remembers known self.new }
     {
         if self.is_at(node.slot, node.index) {

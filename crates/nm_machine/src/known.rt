@@ -5,7 +5,7 @@ ghost use Rattle.nm_edge.specs.Edges.{other};
 ghost use Rattle.nm_model.specs.Maps.{get, put, has};
 ghost use Rattle.nm_model.specs.Knowledge.{read_on, slot_read};
 ghost use Rattle.nm_model.specs.Learning.{rooted};
-ghost use Rattle.nm_machine.specs.Chains.{Remembers, goes_by, next_of, next_in, leads_to};
+ghost use Rattle.nm_machine.specs.Chains.{Remembers, goes_by, next_slot_of, next_slot_in, leads_to};
 ghost use Rattle.nm_machine.specs.declared.found_steps.ChainNode.{ChainNode};
 
 use crate::found_steps::{ChainNode, FoundSteps};
@@ -102,7 +102,7 @@ impl Known {
     // The node to which the chain leads on from another.
     fn next(&mut self, node: &ChainNode) -> Option<ChainNode>
         ensures next { option_map (λ (n : ChainNode). n.slot) result
-            ≡ next_in self.old node.now.slot }
+            ≡ next_slot_in self.old node.now.slot }
         ensures same { self.new ≡ self.old }
     {
         match self.found.next(node) {
@@ -114,7 +114,7 @@ impl Known {
     // The same by what is known, which is kept.
     fn find_next(&mut self, node: &ChainNode) -> Option<ChainNode>
         ensures next { option_map (λ (n : ChainNode). n.slot) result
-            ≡ next_in self.old node.now.slot }
+            ≡ next_slot_in self.old node.now.slot }
         ensures same { self.new ≡ self.old }
     {
         let slot = next_in(&self.seen, node.slot)?;
@@ -171,7 +171,7 @@ fn slot_read(edge: Option<Edge>) -> u32
 
 // The slot to which a chain leads on from a node of which this is known.
 fn next_of(seen: &Seen) -> Option<u32>
-    ensures { result ≡ next_of seen.now }
+    ensures { result ≡ next_slot_of seen.now }
 {
     if goes_by(seen, Side::Left) {
         return Some(slot_read(seen.left));
@@ -184,7 +184,7 @@ fn next_of(seen: &Seen) -> Option<u32>
 
 // The same by the slot of the node.
 fn next_in(known: &SlotMap<Seen>, slot: u32) -> Option<u32>
-    ensures { result ≡ next_in known.now slot }
+    ensures { result ≡ next_slot_in known.now slot }
 {
     match known.get(slot) {
         Some(seen) => next_of(&seen),
@@ -194,8 +194,8 @@ fn next_in(known: &SlotMap<Seen>, slot: u32) -> Option<u32>
 
 // Whether, once this is known of a node, no chain that led on from it leads elsewhere.
 fn keeps_chains(known: &SlotMap<Seen>, slot: u32, seen: &Seen) -> bool
-    ensures { result ≡ true → (next_in known.now slot ≡ None)
-        ⊎ (next_in known.now slot ≡ next_of seen.now) }
+    ensures { result ≡ true → (next_slot_in known.now slot ≡ None)
+        ⊎ (next_slot_in known.now slot ≡ next_slot_of seen.now) }
 {
     let next = next_in(known, slot);
     next.is_none() || next == next_of(seen)

@@ -11,7 +11,7 @@ use Rattle.nm_model.specs.declared.ledger.Queued.{Queued}
 use Rattle.nm_model.specs.declared.indices.Indices.{Indices}
 use Rattle.nm_model.specs.Maps.{get, put}
 use Rattle.nm_model.specs.Queues.{front_at, entry_at, with_label}
-use Rattle.nm_model.specs.Indexing.{with_index, is_at_least, IsCovered, Covers, IsQueue}
+use Rattle.nm_model.specs.Indexing.{with_index, is_at_least, IsCovered, Covers, IsIndexedQueue}
 use Rattle.nm_model.proofs.Tables.{get-put}
 
 -- ---- what keeps the indices right
@@ -75,12 +75,12 @@ covers_more indices es n slot d is inside h i e below = rw (get-put indices slot
 
 -- ---- a queue that gets more entries
 
-module _ (xs ys all : List Queued) (n departed done : ℕ) (indices : List (ℕ × Indices)) (queue : IsQueue xs departed done indices) (is : all ≡ xs ++ ys) (before : n ≡ length xs) where
+module _ (xs ys all : List Queued) (n departed done : ℕ) (indices : List (ℕ × Indices)) (queue : IsIndexedQueue xs departed done indices) (is : all ≡ xs ++ ys) (before : n ≡ length xs) where
   pub covers_those_before : Covers indices all n
   covers_those_before = rw (is, before) (covers_front indices xs ys queue.covered)
 
   -- the new entries are noted
-  pub queue_appended : (new : List (ℕ × Indices)) → Covers new all (length all) → IsQueue all departed done new
+  pub queue_appended : (new : List (ℕ × Indices)) → Covers new all (length all) → IsIndexedQueue all departed done new
   queue_appended new covered = record {
     departed_fits = omega (arith, queue.departed_fits, ap length is, length-append xs ys);
     done_fits = omega (arith, queue.done_fits, ap length is, length-append xs ys);
@@ -89,7 +89,7 @@ module _ (xs ys all : List Queued) (n departed done : ℕ) (indices : List (ℕ 
   }
 
   -- they could not all be noted, and are taken back
-  pub queue_restored : (new : List (ℕ × Indices)) (cut : List Queued) → cut ≡ take n all → Covers new all n → IsQueue cut departed done new
+  pub queue_restored : (new : List (ℕ × Indices)) (cut : List Queued) → cut ≡ take n all → Covers new all n → IsIndexedQueue cut departed done new
   queue_restored new cut taken covered = rw (taken, is, before, take_at xs ys (length xs) refl) (record {
     departed_fits = queue.departed_fits;
     done_fits = queue.done_fits;

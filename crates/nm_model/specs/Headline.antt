@@ -53,12 +53,12 @@ words_after L turns = words_from (opening L) turns
 -- ---- reads
 
 -- a reply to a look tells the word that stands, and one to a scan the announcement
-abbrev pub Tells : Memory → Event → Reply → Type 0
-Tells m (Look s Key) r = r ≡ KeyIs (node m s).key
-Tells m (Look s (EdgeOn side)) r = r ≡ EdgeIs (edge m s side)
-Tells m (Look s Birth) r = r ≡ BirthIs (node m s).birth
-Tells m (Scan u) r = (r ≡ Idle) × (note m u ≡ None) ⊎ (e : ℕ) × (r ≡ In e) × (note m u ≡ Some e)
-Tells m _ r = Unit {0}
+abbrev pub TellsWhatStands : Memory → Event → Reply → Type 0
+TellsWhatStands m (Look s Key) r = r ≡ KeyIs (node m s).key
+TellsWhatStands m (Look s (EdgeOn side)) r = r ≡ EdgeIs (edge m s side)
+TellsWhatStands m (Look s Birth) r = r ≡ BirthIs (node m s).birth
+TellsWhatStands m (Scan u) r = (r ≡ Idle) × (note m u ≡ None) ⊎ (e : ℕ) × (r ≡ In e) × (note m u ≡ Some e)
+TellsWhatStands m _ r = Unit {0}
 
 -- ---- cuts
 
@@ -255,7 +255,7 @@ NothingIsPulledAway L turns = (before between rest : List Turn) (t : Turn) (r : 
 -- the theorem, of the turns of a run
 pub record Headline (L : Layout) (turns : List Turn) : Type 0 where
   -- what is read is what the turns have written
-  pub reads : (before rest : List Turn) (t : Turn) (r : Reply) → turns ≡ before ++ t ∷ rest → t.outcome ≡ Ok r → Tells (words_after L before) t.event r
+  pub reads : (before rest : List Turn) (t : Turn) (r : Reply) → turns ≡ before ++ t ∷ rest → t.outcome ≡ Ok r → TellsWhatStands (words_after L before) t.event r
   -- each turn cuts just the nodes that it says it cut
   pub cuts : (before rest : List Turn) (t : Turn) → turns ≡ before ++ t ∷ rest → CutsItsNodes (words_after L before) t
   -- at each moment what was freed and then what waits of each worker's cuts are these cuts, in

@@ -32,7 +32,7 @@ Covers indices entries n = (i : ℕ) (d : Queued) → i < n
 -- a queue is kept with the entries that have left: so many; so many entries have a label, which no
 -- further one changes; and the indices say where the entries of each slot stand: by slot, the index
 -- of its last entry, and one that its others are not behind
-pub record IsQueue (entries : List Queued) (departed done : ℕ)
+pub record IsIndexedQueue (entries : List Queued) (departed done : ℕ)
     (indices : List (ℕ × Indices)) : Type 0 where
   pub departed_fits : departed ≤ length entries
   pub done_fits : done ≤ length entries

@@ -10,30 +10,30 @@ use Rattle.nm_model.specs.Runs.{State, of}
 
 -- where a slot may stand: in the pool; private to a worker; at the end of a path from the root;
 -- or in a worker's hands, at an index of the queue of an origin
-pub data Place : Type 0 where
-  InPool : Place
-  PrivateTo : ℕ → Place
-  OnPath : List Side → Place
-  InQueue : ℕ → ℕ → ℕ → Place
+pub data SlotPlace : Type 0 where
+  InPool : SlotPlace
+  PrivateTo : ℕ → SlotPlace
+  OnPath : List Side → SlotPlace
+  InQueue : ℕ → ℕ → ℕ → SlotPlace
 
 abbrev pub slot_of : Queued → ℕ
 slot_of e = e.node.slot
 
 -- the slot stands in that place
-abbrev pub StandsAt : State → ℕ → Place → Type 0
-StandsAt s x InPool = in_pool s.memory x ≡ true
-StandsAt s x (PrivateTo w) = is_private (of s w) x ≡ true
-StandsAt s x (OnPath path) = at s.memory path ≡ x
-StandsAt s x (InQueue w origin i) =
+abbrev pub SlotStandsAt : State → ℕ → SlotPlace → Type 0
+SlotStandsAt s x InPool = in_pool s.memory x ≡ true
+SlotStandsAt s x (PrivateTo w) = is_private (of s w) x ≡ true
+SlotStandsAt s x (OnPath path) = at s.memory path ≡ x
+SlotStandsAt s x (InQueue w origin i) =
     option_map slot_of (slice_get (queue_of (held (of s w).ledgers origin)) i) ≡ Some x
 
 -- it stands in exactly one place: the pool, one worker's hands, one path, or one index of one queue
 -- that one worker holds
-pub record OnePlace (s : State) (x : ℕ) : Type 0 where
-  pub place : Place
-  pub here : StandsAt s x place
-  pub only : (other : Place) → StandsAt s x other → other ≡ place
+pub record OneSlotPlace (s : State) (x : ℕ) : Type 0 where
+  pub place : SlotPlace
+  pub here : SlotStandsAt s x place
+  pub only : (other : SlotPlace) → SlotStandsAt s x other → other ≡ place
 
 -- of every slot
 abbrev pub EachSlotInOnePlace : State → Type 0
-EachSlotInOnePlace s = (x : ℕ) → x ≢ 0 → x ≤ s.layout.nodes → OnePlace s x
+EachSlotInOnePlace s = (x : ℕ) → x ≢ 0 → x ≤ s.layout.nodes → OneSlotPlace s x

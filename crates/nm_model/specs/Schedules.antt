@@ -508,8 +508,8 @@ refusals = record {
 }
 
 -- a worker with a private slot can't resign; then it does, and takes no step any more
-abbrev pub joining : Worked
-joining = record {
+abbrev pub resigning_schedule : Worked
+resigning_schedule = record {
   layout = dense 7 2;
   turns =
       t 0 (Join 2) (Err NoWorker) ∷

@@ -24,13 +24,13 @@ pub struct Queue {
 impl Model for Queue {
     ghost use Rattle.std.specs.Prelude.{List, drop};
     ghost use Rattle.nm_model.specs.declared.ledger.Queued.{Queued};
-    ghost use Rattle.nm_model.specs.Indexing.{IsQueue};
+    ghost use Rattle.nm_model.specs.Indexing.{IsIndexedQueue};
 
     ghost Value = { List Queued };
 
     ghost view = { λ q. drop q.departed q.entries.items };
 
-    ghost invariant = { λ q. IsQueue q.entries.items q.departed q.labelled q.indices };
+    ghost invariant = { λ q. IsIndexedQueue q.entries.items q.departed q.labelled q.indices };
 }
 
 impl Queue {

@@ -20,8 +20,8 @@ use Rattle.nm_model.specs.Ordered.{Configuration, ordered, search_of, next_in, o
 use Rattle.nm_laws.proofs.Configurations.{after_in-append, allowed_outcome}
 use Rattle.nm_order.specs.Logs.{takes_part, part_of}
 use Rattle.nm_order.specs.Moments.{PinStands}
-use Rattle.nm_order.specs.Exchanges.{MayAnswer, HasInserted}
-use Rattle.nm_order.specs.Removals.{HasDeleted}
+use Rattle.nm_order.specs.Exchanges.{MayAnswer, HasWonInsert}
+use Rattle.nm_order.specs.Removals.{HasWonDelete}
 use Rattle.nm_order.specs.Legal.{WasLegal}
 use Rattle.nm_order.specs.History.{last_anew, pin_of}
 use Rattle.nm_order.specs.Answered.{HasMoment}
@@ -80,7 +80,7 @@ module _ (L : Layout) (enough : 5 ≤ L.nodes) where
         let long : length before ≡ length m.before + length m.since = ap (λ (l : List (ℕ × Event)). length l) m.is_run ∙ length-append m.before m.since in
         (omega (arith, stays, less), omega (arith, long))
 
-    inserted_later : (m : HasInserted L before w k) → (pin_of L before w < length m.before + 1) × (length m.before + 1 ≤ length before)
+    inserted_later : (m : HasWonInsert L before w k) → (pin_of L before w < length m.before + 1) × (length m.before + 1 ≤ length before)
     unfolding after_in
     inserted_later m =
         let stays : pin_of L before w ≡ pin_of L (m.before ++ link ∷ []) w =
@@ -98,7 +98,7 @@ module _ (L : Layout) (enough : 5 ≤ L.nodes) where
         by true = omega arith
         by false = pin_at_most m.before w
 
-    deleted_later : (m : HasDeleted L before w k) → (pin_of L before w < length m.before + 1) × (length m.before + 1 ≤ length before)
+    deleted_later : (m : HasWonDelete L before w k) → (pin_of L before w < length m.before + 1) × (length m.before + 1 ≤ length before)
     deleted_later m =
         let stays : pin_of L before w ≡ pin_of L m.before w = ap (λ (l : List (ℕ × Event)). pin_of L l w) m.is_run ∙ pin_stays L m.before (m.cut ∷ m.since) w m.stands in
         let most = pin_at_most m.before w in

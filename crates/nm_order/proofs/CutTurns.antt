@@ -13,8 +13,8 @@ use Rattle.nm_model.specs.declared.reply.Reply.TheVariants.{Cut}
 use Rattle.nm_model.specs.declared.reply.Refused.{Refused}
 use Rattle.nm_model.specs.Memory.{named}
 use Rattle.nm_model.specs.Paths.{Reached, IsCut}
-use Rattle.nm_model.specs.Places.{Place, StandsAt, OnePlace}
-use Rattle.nm_model.specs.Places.Place.{InPool, PrivateTo, OnPath, InQueue}
+use Rattle.nm_model.specs.Places.{SlotPlace, SlotStandsAt, OneSlotPlace}
+use Rattle.nm_model.specs.Places.SlotPlace.{InPool, PrivateTo, OnPath, InQueue}
 use Rattle.nm_model.specs.Laws.{slots_of}
 use Rattle.nm_model.specs.Runs.{State, start, after, next, outcome}
 use Rattle.nm_model.specs.Ordered.{Configuration, refused_in, next_in, outcome_in}
@@ -68,11 +68,11 @@ module _ (L : Layout) (enough : 5 ≤ L.nodes) where
     pub reached_or : (x : ℕ) → x ≢ 0 → x ≤ L.nodes → Reached c.state.memory x ⊎ (Reached c.state.memory x → ⊥)
     reached_or x some inside = by one.place refl one.here
       where
-        one : OnePlace c.state x
-        one = subst (λ (s : State). x ≤ s.layout.nodes → OnePlace s x) (sym o.leads) (each_slot_has_one_place L enough o.events x some) (subst (λ (m : Layout). x ≤ m.nodes) (sym layout_is) inside)
+        one : OneSlotPlace c.state x
+        one = subst (λ (s : State). x ≤ s.layout.nodes → OneSlotPlace s x) (sym o.leads) (each_slot_has_one_place L enough o.events x some) (subst (λ (m : Layout). x ≤ m.nodes) (sym layout_is) inside)
 
-        by : (p : Place) → one.place ≡ p → StandsAt c.state x one.place → Reached c.state.memory x ⊎ (Reached c.state.memory x → ⊥)
-        by (OnPath path) is here = inl (record { path = path; ends = subst (StandsAt c.state x) is here; is_slot = some })
+        by : (p : SlotPlace) → one.place ≡ p → SlotStandsAt c.state x one.place → Reached c.state.memory x ⊎ (Reached c.state.memory x → ⊥)
+        by (OnPath path) is here = inl (record { path = path; ends = subst (SlotStandsAt c.state x) is here; is_slot = some })
         by InPool is here = inr (λ r. differ (one.only (OnPath r.path) r.ends ∙ is))
           where
             differ : {q : List Side} → OnPath q ≡ InPool → ⊥

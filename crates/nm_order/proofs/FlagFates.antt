@@ -33,7 +33,7 @@ use Rattle.nm_laws.proofs.Configurations.{after_in-append, refused_next, allowed
 use Rattle.nm_order.specs.Intervals.{HasKey, IsCalled, InInterval, Marks, key}
 use Rattle.nm_order.specs.Moments.{OfEachOrderedRun, PinStands}
 use Rattle.nm_order.specs.Exchanges.{MayAnswer, HasFlagged}
-use Rattle.nm_order.specs.Removals.{HasDeleted, TrueDeletesHaveDeleted}
+use Rattle.nm_order.specs.Removals.{HasWonDelete, TrueDeletesHaveDeleted}
 use Rattle.nm_order.specs.Facts.Since.{TheFlag}
 use Rattle.nm_order.proofs.OrderedLaws.{IsOrdered, neither, ordered_next, each_ordered, law_of_state, keys_lie, one_leaf_for}
 use Rattle.nm_order.proofs.OrderedInduction.{IsKept, each_run_keeps}
@@ -171,7 +171,7 @@ module _ (L : Layout) (enough : 5 ≤ L.nodes) where
     pub later : LaterEnds c w n
 
   pub record CutSince (ts : List (ℕ × Event)) (w k : ℕ) (n : NodeId) : Type 0 where
-    pub deleted : HasDeleted L ts w k
+    pub deleted : HasWonDelete L ts w k
     pub is_node : deleted.flag.flagged ≡ n
     pub gone : Reached (after_in (ordered L) ts).state.memory n.slot → ⊥
 
@@ -450,10 +450,10 @@ module _ (L : Layout) (enough : 5 ≤ L.nodes) where
         same : b.1.slot ≡ n.slot
         same = ends (record { op = Delete; key = k }) is_call b.0 b.1 b.2 [] tt some (leaf_is L enough (after_in (ordered L) turns) end w b.1.slot (kept.ends TheFlag b.0 b.1 there (and_parts b.1.ended (not (b.1.slot == n.slot)) b.3).0))
 
-    has_deleted : HasDeleted L turns w k
+    has_deleted : HasWonDelete L turns w k
     has_deleted = by (own_search (after_in (ordered L) turns) w).flagged refl (shown L enough turns keys w Delete k true may)
       where
-        by : (o : Option NodeId) → (own_search (after_in (ordered L) turns) w).flagged ≡ o → has_removed (own_search (after_in (ordered L) turns) w) o ≡ true → HasDeleted L turns w k
+        by : (o : Option NodeId) → (own_search (after_in (ordered L) turns) w).flagged ≡ o → has_removed (own_search (after_in (ordered L) turns) w) o ≡ true → HasWonDelete L turns w k
         by None is removed = absurd (true≢false (sym removed))
         by (Some n) is removed = on f.fate
           where
@@ -463,8 +463,8 @@ module _ (L : Layout) (enough : 5 ≤ L.nodes) where
             same_key : f.k ≡ k
             same_key = ap (λ (c : Call). c.key) (same_Some (record { op = Delete; key = f.k }) (record { op = Delete; key = k }) (sym f.is_call ∙ is_own_call (after_in (ordered L) turns) w Delete k may.called))
 
-            on : StandsStill (after_in (ordered L) turns) w n ⊎ CutSince turns w f.k n → HasDeleted L turns w k
-            on (inr cut) = subst (HasDeleted L turns w) same_key cut.deleted
+            on : StandsStill (after_in (ordered L) turns) w n ⊎ CutSince turns w f.k n → HasWonDelete L turns w k
+            on (inr cut) = subst (HasWonDelete L turns w) same_key cut.deleted
             on (inl still) = elim (or_cases (own_search (after_in (ordered L) turns) w).cut (list_any (ended_elsewhere n.slot) (own_search (after_in (ordered L) turns) w).later) removed) [
               | inl own ↦ absurd (true≢false (sym own ∙ still.uncut))
               | inr elsewhere ↦ absurd (not_elsewhere n still.later elsewhere)

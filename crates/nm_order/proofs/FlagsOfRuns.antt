@@ -18,7 +18,7 @@ use Rattle.nm_model.specs.Ordered.{ordered, search_of, refused_in, after_in, tra
 use Rattle.nm_laws.proofs.SearchesGrow.{only_grow}
 use Rattle.nm_order.specs.Intervals.{HasKey}
 use Rattle.nm_order.specs.WalksToArrivals.{is_won_flag, since_flag, OfEachCall}
-use Rattle.nm_order.specs.FlagsOfCalls.{HasWonFlag, FlagsAreTold, NoSecondFlag}
+use Rattle.nm_order.specs.FlagsOfCalls.{HasWonFlag, FlagsAreKept, NoSecondFlag}
 use Rattle.nm_order.proofs.SearchesOfLogs.{has_flag, since_flag_more, begun_anew, knows_log}
 use Rattle.nm_order.proofs.WalksOfRuns.{LogGrows, log_grows, search-append, since_pin-append, has_searches, over_turns, log_after, known_after, is_known, of_each_call}
 use Rattle.nm_order.proofs.WalksOfRuns.LogGrows.{Same, Longer}
@@ -139,7 +139,7 @@ module _ (L : Layout) (enough : 5 ≤ L.nodes) (w : ℕ) (inside : w < L.workers
   unfolding trace_in
   one_flag = over_turns OneFlag (λ call is. refl) (λ ts t keys once call is. still_once ts t once call is)
 
-  flag_told : (ts : List (ℕ × Event)) → All (λ t. HasKey t.1) ts → (call : Call) → (known ts).call ≡ Some call → FlagsAreTold (since_pin [] (log ts)) (known ts)
+  flag_told : (ts : List (ℕ × Event)) → All (λ t. HasKey t.1) ts → (call : Call) → (known ts).call ≡ Some call → FlagsAreKept (since_pin [] (log ts)) (known ts)
   flag_told ts keys call is n = (there, λ h. keeps_log (log ts) call is ∙ flag_left (since_pin [] (log ts)) n (one_flag ts keys call is) h)
     where
       there : (known ts).flagged ≡ Some n → HasWonFlag (since_pin [] (log ts)) n
@@ -150,8 +150,8 @@ module _ (L : Layout) (enough : 5 ≤ L.nodes) (w : ℕ) (inside : w < L.workers
 
 -- ---- the laws
 
-pub each_flag_is_told : OfEachCall (λ k log s. FlagsAreTold log s)
-each_flag_is_told = of_each_call (λ k log s. FlagsAreTold log s) (λ L enough turns keys w inside call is. flag_told L enough w inside turns keys call is)
+pub each_flag_is_told : OfEachCall (λ k log s. FlagsAreKept log s)
+each_flag_is_told = of_each_call (λ k log s. FlagsAreKept log s) (λ L enough turns keys w inside call is. flag_told L enough w inside turns keys call is)
 
 pub no_second_flag : OfEachCall (λ k log s. NoSecondFlag log)
 no_second_flag = of_each_call (λ k log s. NoSecondFlag log) (λ L enough turns keys w inside call is. none_won (since_flag (since_pin [] (log L enough w inside turns))) (one_flag L enough w inside turns keys call is))

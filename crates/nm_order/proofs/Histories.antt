@@ -28,7 +28,7 @@ use Rattle.nm_laws.proofs.SearchesGrow.{only_grow}
 use Rattle.nm_order.specs.Intervals.{HasKey, IsCalled, Gains, Marks, key}
 use Rattle.nm_order.specs.Exchanges.{MayAnswer, is_won_link}
 use Rattle.nm_order.specs.Legal.{changes, WasLegal}
-use Rattle.nm_order.specs.History.{Act, IsAmong, SameCall, EachOnce, HasAct, pin_of}
+use Rattle.nm_order.specs.History.{Act, IsAmong, SameCall, EachOnce, HasActOfCall, pin_of}
 use Rattle.nm_order.proofs.OrderedMoments.{Lasting, call_walks}
 use Rattle.nm_order.proofs.OrderedLaws.{IsOrdered, ordered_next, each_ordered, law_of_state, each_link_inserts}
 use Rattle.nm_order.proofs.OwnFlags.{each_flag_marks}
@@ -73,11 +73,11 @@ pub record Kept (L : Layout) (ts : List (ℕ × Event)) (acts : List Act) : Type
   pub follows : Follows (ordered L) ts 0 acts
   pub once : EachOnce acts
   pub each : (a : Act) → IsAmong acts a → ActState L ts a
-  pub live : (w : ℕ) (op : Op) (k : ℕ) → Calls (after_in (ordered L) ts) w op k → Changed (after_in (ordered L) ts) w op → HasAct acts w (pin_of L ts w) op k true
+  pub live : (w : ℕ) (op : Op) (k : ℕ) → Calls (after_in (ordered L) ts) w op k → Changed (after_in (ordered L) ts) w op → HasActOfCall acts w (pin_of L ts w) op k true
 
 -- each answered call has its act
 abbrev pub Answered : Layout → List (ℕ × Event) → List Act → Type 0
-Answered L ts acts = (before since : List (ℕ × Event)) (w : ℕ) (op : Op) (k : ℕ) (answer : Bool) → ts ≡ before ++ (w, LeaveWith answer) ∷ since → MayAnswer (after_in (ordered L) before) w op k answer → HasAct acts w (pin_of L before w) op k answer
+Answered L ts acts = (before since : List (ℕ × Event)) (w : ℕ) (op : Op) (k : ℕ) (answer : Bool) → ts ≡ before ++ (w, LeaveWith answer) ∷ since → MayAnswer (after_in (ordered L) before) w op k answer → HasActOfCall acts w (pin_of L before w) op k answer
 
 -- ---- entries
 
@@ -243,7 +243,7 @@ module _ (L : Layout) (enough : 5 ≤ L.nodes) (ts : List (ℕ × Event)) (t : �
     changes : TurnChanges c t (length ts + 1) made
     once : EachOnce made
     each : (a : Act) → IsAmong made a → NewAct a
-    live : (w : ℕ) (op : Op) (k : ℕ) → IsStill w → Calls c w op k → Changed c' w op → Changed c w op ⊎ HasAct made w (pin_of L ts w) op k true
+    live : (w : ℕ) (op : Op) (k : ℕ) → IsStill w → Calls c w op k → Changed c' w op → Changed c w op ⊎ HasActOfCall made w (pin_of L ts w) op k true
 
   new_state : (a : Act) → NewAct a → ActState L (ts ++ t ∷ []) a
   new_state a n = Live
@@ -284,10 +284,10 @@ module _ (L : Layout) (enough : 5 ≤ L.nodes) (ts : List (ℕ × Event)) (t : �
   once_join [] ys a b apart = b
   once_join (x ∷ xs) ys a b apart = ((λ y there same. elim (among_either xs ys y there) [ inl l ↦ a.0 y l same | inr r ↦ apart x y (inl refl) r same ]), once_join xs ys a.1 b (λ z y l r. apart z y (inr l) r))
 
-  has_left : (xs ys : List Act) (w pin : ℕ) (op : Op) (k : ℕ) (answer : Bool) → HasAct xs w pin op k answer → HasAct (xs ++ ys) w pin op k answer
+  has_left : (xs ys : List Act) (w pin : ℕ) (op : Op) (k : ℕ) (answer : Bool) → HasActOfCall xs w pin op k answer → HasActOfCall (xs ++ ys) w pin op k answer
   has_left xs ys w pin op k answer h = record { act = h.act; among = among_left xs ys h.act h.among; worker = h.worker; is_pin = h.is_pin; is_op = h.is_op; is_key = h.is_key; is_answer = h.is_answer }
 
-  has_right : (xs ys : List Act) (w pin : ℕ) (op : Op) (k : ℕ) (answer : Bool) → HasAct ys w pin op k answer → HasAct (xs ++ ys) w pin op k answer
+  has_right : (xs ys : List Act) (w pin : ℕ) (op : Op) (k : ℕ) (answer : Bool) → HasActOfCall ys w pin op k answer → HasActOfCall (xs ++ ys) w pin op k answer
   has_right xs ys w pin op k answer h = record { act = h.act; among = among_right xs ys h.act h.among; worker = h.worker; is_pin = h.is_pin; is_op = h.is_op; is_key = h.is_key; is_answer = h.is_answer }
 
   -- a call that begins by the turn has made no change
@@ -319,7 +319,7 @@ module _ (L : Layout) (enough : 5 ≤ L.nodes) (ts : List (ℕ × Event)) (t : �
     live = live;
   }
     where
-      live : (w : ℕ) (op : Op) (k : ℕ) → Calls (after_in (ordered L) (ts ++ t ∷ [])) w op k → Changed (after_in (ordered L) (ts ++ t ∷ [])) w op → HasAct (acts ++ m.made) w (pin_of L (ts ++ t ∷ []) w) op k true
+      live : (w : ℕ) (op : Op) (k : ℕ) → Calls (after_in (ordered L) (ts ++ t ∷ [])) w op k → Changed (after_in (ordered L) (ts ++ t ∷ [])) w op → HasActOfCall (acts ++ m.made) w (pin_of L (ts ++ t ∷ []) w) op k true
       live w op k called did = go (list_any begins_anew (entries w c t)) refl
         where
           did' : Changed c' w op
@@ -328,14 +328,14 @@ module _ (L : Layout) (enough : 5 ≤ L.nodes) (ts : List (ℕ × Event)) (t : �
           called' : Calls c' w op k
           called' = sym (ap (λ (d : Configuration). (own_search d w).call) (one_more L enough ts t)) ∙ called
 
-          go : (b : Bool) → list_any begins_anew (entries w c t) ≡ b → HasAct (acts ++ m.made) w (pin_of L (ts ++ t ∷ []) w) op k true
+          go : (b : Bool) → list_any begins_anew (entries w c t) ≡ b → HasActOfCall (acts ++ m.made) w (pin_of L (ts ++ t ∷ []) w) op k true
           go true anew = absurd (begun_fresh w op anew did')
-          go false still = subst (λ (p : ℕ). HasAct (acts ++ m.made) w p op k true) (sym (pin_more L ts t w ∙ ap (λ (b : Bool). cond b (length ts) (pin_of L ts w)) still)) (by (m.live w op k still was did'))
+          go false still = subst (λ (p : ℕ). HasActOfCall (acts ++ m.made) w p op k true) (sym (pin_more L ts t w ∙ ap (λ (b : Bool). cond b (length ts) (pin_of L ts w)) still)) (by (m.live w op k still was did'))
             where
               was : Calls c w op k
               was = sym (goes w still).call ∙ called'
 
-              by : Changed c w op ⊎ HasAct m.made w (pin_of L ts w) op k true → HasAct (acts ++ m.made) w (pin_of L ts w) op k true
+              by : Changed c w op ⊎ HasActOfCall m.made w (pin_of L ts w) op k true → HasActOfCall (acts ++ m.made) w (pin_of L ts w) op k true
               by (inl old) = has_left acts m.made w (pin_of L ts w) op k true (kept.live w op k was old)
               by (inr new) = has_right acts m.made w (pin_of L ts w) op k true new
 
@@ -468,11 +468,11 @@ module _ (L : Layout) (enough : 5 ≤ L.nodes) (ts : List (ℕ × Event)) (t : �
           apart : (m : NodeId) (ns : List NodeId) → Linked m ≡ Cut ns → ⊥
           apart m ns e = cc
 
-      live : (w : ℕ) (op : Op) (k : ℕ) → IsStill w → Calls c w op k → Changed c' w op → Changed c w op ⊎ HasAct (act ∷ []) w (pin_of L ts w) op k true
+      live : (w : ℕ) (op : Op) (k : ℕ) → IsStill w → Calls c w op k → Changed c' w op → Changed c w op ⊎ HasActOfCall (act ∷ []) w (pin_of L ts w) op k true
       live w Has k still call did = inl did
       live w Insert k still call did = by (own_turn L w c t o)
         where
-          by : OwnTurn w c t → ((own_search c w).linked ≡ true) ⊎ HasAct (act ∷ []) w (pin_of L ts w) Insert k true
+          by : OwnTurn w c t → ((own_search c w).linked ≡ true) ⊎ HasActOfCall (act ∷ []) w (pin_of L ts w) Insert k true
           by (Quiet same none) = inl (ap (λ (S : Search). S.linked) (sym same) ∙ did)
           by (Own q is won' here learned order) = inr (record {
             act = act;
@@ -530,7 +530,7 @@ module _ (L : Layout) (enough : 5 ≤ L.nodes) (ts : List (ℕ × Event)) (t : �
           key_is : key c.state.memory (m.each a there).0 ≡ f.call.key
           key_is = ap (λ (y : Lasting). y.key) f.lasts
 
-      live : (w : ℕ) (op : Op) (k : ℕ) → IsStill w → Calls c w op k → Changed c' w op → Changed c w op ⊎ HasAct m.made w (pin_of L ts w) op k true
+      live : (w : ℕ) (op : Op) (k : ℕ) → IsStill w → Calls c w op k → Changed c' w op → Changed c w op ⊎ HasActOfCall m.made w (pin_of L ts w) op k true
       live w Has k still call did = inl did
       live w Insert k still call did = inl (linked_back w still plain did)
       live w Delete k still call x = by (flagged_fate w x.0 was x.2)
@@ -541,7 +541,7 @@ module _ (L : Layout) (enough : 5 ≤ L.nodes) (ts : List (ℕ × Event)) (t : �
           f : FlaggedLeaf c.state (own_search c w) w x.0
           f = own_flagged L enough ts before w x.0 was
 
-          by : (Reached c.state.memory x.0.slot → ⊥) ⊎ IsCut c.state.memory c'.state.memory x.0.slot → Changed c w Delete ⊎ HasAct m.made w (pin_of L ts w) Delete k true
+          by : (Reached c.state.memory x.0.slot → ⊥) ⊎ IsCut c.state.memory c'.state.memory x.0.slot → Changed c w Delete ⊎ HasActOfCall m.made w (pin_of L ts w) Delete k true
           by (inl gone) = inl (x.0, was, gone)
           by (inr cut) =
               let d = m.all x.0.slot (ap (λ (y : Lasting). y.leaf) f.lasts) cut in
@@ -648,8 +648,8 @@ module _ (L : Layout) (enough : 5 ≤ L.nodes) (ts : List (ℕ × Event)) (t : �
   record Inserted (acts : List Act) (q : QuietAnswer) : Type 0 where
     acts' : List Act
     kept : Kept L (ts ++ t ∷ []) acts'
-    still_has : (w pin : ℕ) (op : Op) (k : ℕ) (answer : Bool) → HasAct acts w pin op k answer → HasAct acts' w pin op k answer
-    answered : HasAct acts' t.0 (pin_of L ts t.0) q.op q.k q.answer
+    still_has : (w pin : ℕ) (op : Op) (k : ℕ) (answer : Bool) → HasActOfCall acts w pin op k answer → HasActOfCall acts' w pin op k answer
+    answered : HasActOfCall acts' t.0 (pin_of L ts t.0) q.op q.k q.answer
 
   module _ (acts : List Act) (old : Kept L ts acts) (q : QuietAnswer) where
     m : Made
@@ -744,7 +744,7 @@ module _ (L : Layout) (enough : 5 ≤ L.nodes) (ts : List (ℕ × Event)) (t : �
     among_still : (xs ys : List Act) (a b : Act) → IsAmong (xs ++ ys) b → IsAmong (xs ++ a ∷ ys) b
     among_still xs ys a b there = elim (among_either xs ys b there) [ inl l ↦ among_left xs (a ∷ ys) b l | inr r ↦ among_right xs (a ∷ ys) b (inr r) ]
 
-    has_still : (w pin : ℕ) (op : Op) (k : ℕ) (answer : Bool) → HasAct (acts ++ m.made) w pin op k answer → HasAct (put.before ++ quiet_act ∷ put.behind) w pin op k answer
+    has_still : (w pin : ℕ) (op : Op) (k : ℕ) (answer : Bool) → HasActOfCall (acts ++ m.made) w pin op k answer → HasActOfCall (put.before ++ quiet_act ∷ put.behind) w pin op k answer
     has_still w pin op k answer h = record {
       act = h.act;
       among = among_still put.before put.behind quiet_act h.act (subst (λ (l : List Act). IsAmong l h.act) put.are h.among);
@@ -838,7 +838,7 @@ module _ (L : Layout) (enough : 5 ≤ L.nodes) (ts : List (ℕ × Event)) (t : �
       with_quiet : (q : QuietAnswer) (i : Inserted acts q) → Answered L (ts ++ t ∷ []) i.acts'
       with_quiet q i first since w op k answer is may = by (split_last ts first since (w, LeaveWith answer) t is)
         where
-          by : ((rest : List (ℕ × Event)) × (since ≡ rest ++ t ∷ []) × (ts ≡ first ++ (w, LeaveWith answer) ∷ rest)) ⊎ ((first ≡ ts) × (t ≡ (w, LeaveWith answer))) → HasAct i.acts' w (pin_of L first w) op k answer
+          by : ((rest : List (ℕ × Event)) × (since ≡ rest ++ t ∷ []) × (ts ≡ first ++ (w, LeaveWith answer) ∷ rest)) ⊎ ((first ≡ ts) × (t ≡ (w, LeaveWith answer))) → HasActOfCall i.acts' w (pin_of L first w) op k answer
           by (inl s) = i.still_has w (pin_of L first w) op k answer (answered first s.0 w op k answer s.2 may)
           by (inr s) = record {
             act = i.answered.act;
@@ -865,15 +865,15 @@ module _ (L : Layout) (enough : 5 ≤ L.nodes) (ts : List (ℕ × Event)) (t : �
       without : (QuietAnswer → ⊥) → Answered L (ts ++ t ∷ []) (acts ++ made_by.made)
       without none first since w op k answer is may = by (split_last ts first since (w, LeaveWith answer) t is)
         where
-          by : ((rest : List (ℕ × Event)) × (since ≡ rest ++ t ∷ []) × (ts ≡ first ++ (w, LeaveWith answer) ∷ rest)) ⊎ ((first ≡ ts) × (t ≡ (w, LeaveWith answer))) → HasAct (acts ++ made_by.made) w (pin_of L first w) op k answer
+          by : ((rest : List (ℕ × Event)) × (since ≡ rest ++ t ∷ []) × (ts ≡ first ++ (w, LeaveWith answer) ∷ rest)) ⊎ ((first ≡ ts) × (t ≡ (w, LeaveWith answer))) → HasActOfCall (acts ++ made_by.made) w (pin_of L first w) op k answer
           by (inl s) = has_left acts made_by.made w (pin_of L first w) op k answer (answered first s.0 w op k answer s.2 may)
-          by (inr s) = subst (λ (l : List (ℕ × Event)). HasAct (acts ++ made_by.made) w (pin_of L l w) op k answer) (sym s.0) (on (changes op answer) refl)
+          by (inr s) = subst (λ (l : List (ℕ × Event)). HasActOfCall (acts ++ made_by.made) w (pin_of L l w) op k answer) (sym s.0) (on (changes op answer) refl)
             where
               may' : MayAnswer c w op k answer
               may' = subst (λ (l : List (ℕ × Event)). MayAnswer (after_in (ordered L) l) w op k answer) s.0 may
 
-              on : (b : Bool) → changes op answer ≡ b → HasAct (acts ++ made_by.made) w (pin_of L ts w) op k answer
+              on : (b : Bool) → changes op answer ≡ b → HasActOfCall (acts ++ made_by.made) w (pin_of L ts w) op k answer
               on true changing =
                   let d = did_change w op k answer may' changing in
-                  subst (λ (b : Bool). HasAct (acts ++ made_by.made) w (pin_of L ts w) op k b) (sym d.1) (has_left acts made_by.made w (pin_of L ts w) op k true (kept.live w op k (is_own_call c w op k may'.called) d.0))
+                  subst (λ (b : Bool). HasActOfCall (acts ++ made_by.made) w (pin_of L ts w) op k b) (sym d.1) (has_left acts made_by.made w (pin_of L ts w) op k true (kept.live w op k (is_own_call c w op k may'.called) d.0))
               on false plain = absurd (none (subst (λ (u : ℕ). t ≡ (u, LeaveWith answer) → MayAnswer c u op k answer → QuietAnswer) (ap (λ (u : ℕ × Event). u.0) s.1) (λ is may. record { op = op; k = k; answer = answer; is = is; may = may; plain = plain }) s.1 may'))

@@ -24,10 +24,10 @@ use Rattle.nm_model.specs.Ordered.{Configuration, outcome_in, ordered, search_of
 use Rattle.nm_model.proofs.Numbers.{repeated}
 use Rattle.nm_order.specs.Intervals.{key, HasKey, InSet, IsCalled}
 use Rattle.nm_order.specs.Moments.{OfEachOrderedRun, PinStands}
-use Rattle.nm_order.specs.Exchanges.{HasInserted, HasFlagged}
-use Rattle.nm_order.specs.Removals.{HasDeleted}
-use Rattle.nm_order.specs.History.{Act, IsAmong, nothing, HasChanged, IsAct, leaf_keys, HasInARow, IsDeleteOf, LeadsTo, HasHistory}
-use Rattle.nm_order.specs.History.IsAct.{IsAnswered, IsPending}
+use Rattle.nm_order.specs.Exchanges.{HasWonInsert, HasFlagged}
+use Rattle.nm_order.specs.Removals.{HasWonDelete}
+use Rattle.nm_order.specs.History.{Act, IsAmong, nothing, HasChanged, IsActOfRun, leaf_keys, HasInARow, IsDeleteOf, LeadsTo, RunHasHistory}
+use Rattle.nm_order.specs.History.IsActOfRun.{IsAnswered, IsPending}
 use Rattle.nm_order.proofs.OrderedLaws.{IsOrdered, each_ordered}
 use Rattle.nm_order.proofs.OwnTurns.{own_search, stands_parts}
 use Rattle.nm_order.proofs.OwnLinks.{links_once}
@@ -79,7 +79,7 @@ module _ (L : Layout) (enough : 5 ≤ L.nodes) where
 
   module _ (ts : List (ℕ × Event)) (keys : All (λ t. HasKey t.1) ts) (w : ℕ) where
     -- an insert that has linked
-    inserted_changed : (k : ℕ) → HasInserted L ts w k → Changed (after_in (ordered L) ts) w Insert
+    inserted_changed : (k : ℕ) → HasWonInsert L ts w k → Changed (after_in (ordered L) ts) w Insert
     inserted_changed k f = subst (λ (l : List (ℕ × Event)). Changed (after_in (ordered L) l) w Insert) (sym whole)
         (changed_through w Insert f.since (f.before ++ turn ∷ []) keys'
         (subst (λ (d : Configuration). PinStands w (trace_in d f.since)) (sym (one_more L enough f.before turn)) f.stands)
@@ -101,7 +101,7 @@ module _ (L : Layout) (enough : 5 ≤ L.nodes) where
         now = ap (λ (S : Search). S.linked) (own_learns L enough (after_in (ordered L) f.before) then_ordered w (Link f.parent f.side f.leaf f.new) (Linked f.linked) f.won) ∙ links_once.done (own_search (after_in (ordered L) f.before) w) (Link f.parent f.side f.leaf f.new) (Linked f.linked) refl
 
     -- a delete whose leaf is cut
-    deleted_changed : (k : ℕ) → HasDeleted L ts w k → Changed (after_in (ordered L) ts) w Delete
+    deleted_changed : (k : ℕ) → HasWonDelete L ts w k → Changed (after_in (ordered L) ts) w Delete
     deleted_changed k f = subst (λ (l : List (ℕ × Event)). Changed (after_in (ordered L) l) w Delete) (sym whole)
         (changed_through w Delete f.since (f.before ++ f.cut ∷ []) keys'
         (subst (λ (d : Configuration). PinStands w (trace_in d f.since)) (sym (one_more L enough f.before f.cut)) parts.1)
@@ -150,13 +150,13 @@ module _ (L : Layout) (enough : 5 ≤ L.nodes) where
         same_key : f.k ≡ k
         same_key = ap (λ (c : Call). c.key) (same_Some (record { op = Delete; key = f.k }) (record { op = Delete; key = k }) (sym f.is_call ∙ called))
 
-        on : StandsStill L enough (after_in (ordered L) ts) w x.0 ⊎ CutSince L enough ts w f.k x.0 → HasDeleted L ts w k
+        on : StandsStill L enough (after_in (ordered L) ts) w x.0 ⊎ CutSince L enough ts w f.k x.0 → HasWonDelete L ts w k
         on (inl still) = absurd (x.2 still.reached)
-        on (inr cut) = subst (HasDeleted L ts w) same_key cut.deleted
+        on (inr cut) = subst (HasWonDelete L ts w) same_key cut.deleted
 
   -- ---- the history
 
-  is_act : (ts : List (ℕ × Event)) → All (λ t. HasKey t.1) ts → (a : Act) → ActState L ts a → IsAct L ts a
+  is_act : (ts : List (ℕ × Event)) → All (λ t. HasKey t.1) ts → (a : Act) → ActState L ts a → IsActOfRun L ts a
   is_act ts keys a (Ended before since is may pin later within past) = IsAnswered before since is may pin later within
   is_act ts keys a (Live called did answer pin later within) = IsPending (is_called ts keys a.worker a.op a.key called) (from_changed ts keys a.worker a.op a.key called did) answer pin later within
 
@@ -170,7 +170,7 @@ module _ (L : Layout) (enough : 5 ≤ L.nodes) where
     replays = replays_from (InSet (opening L)) nothing s.first (InSet (after_in (ordered L) before).state.memory) (λ k small. ((λ x. empty_first L k small x), (λ none. absurd none))) s.replays;
   }
 
-  has_history : (ts : List (ℕ × Event)) → All (λ t. HasKey t.1) ts → HasHistory L ts
+  has_history : (ts : List (ℕ × Event)) → All (λ t. HasKey t.1) ts → RunHasHistory L ts
   has_history ts keys = by (acts_of ts keys)
     where
       row_of : (acts : List Act) → Kept L ts acts → (before since : List (ℕ × Event)) (t : ℕ × Event) → ts ≡ before ++ t ∷ since → Row (after_in (ordered L) before) t (0 + length before + 1) acts
@@ -217,7 +217,7 @@ module _ (L : Layout) (enough : 5 ≤ L.nodes) where
               same_key : f.k ≡ b.key
               same_key = ap (λ (c : Call). c.key) (same_Some (record { op = Delete; key = f.k }) leaf.call (sym f.is_call ∙ leaf.is_call)) ∙ (sym (ap (λ (y : Lasting). y.key) leaf.lasts) ∙ w.3)
 
-      by : (acts : List Act) × Kept L ts acts × Answered L ts acts → HasHistory L ts
+      by : (acts : List Act) × Kept L ts acts × Answered L ts acts → RunHasHistory L ts
       by acts = (
         acts.0,
         record {
@@ -233,5 +233,5 @@ module _ (L : Layout) (enough : 5 ≤ L.nodes) where
         },
       )
 
-pub each_run_has_a_history : OfEachOrderedRun HasHistory
+pub each_run_has_a_history : OfEachOrderedRun RunHasHistory
 each_run_has_a_history L enough turns keys = has_history L enough turns keys

@@ -14,8 +14,8 @@ use Rattle.nm_model.specs.Ordered.{ordered, after_in, trace_in, HasKey}
 use Rattle.nm_order.specs.Moments.{OfEachOrderedRun}
 use Rattle.nm_order.specs.Exchanges.{MayAnswer}
 use Rattle.nm_order.specs.Legal.{changes}
-use Rattle.nm_order.specs.History.{Act, IsAmong, SameCall, EachOnce, ComesNext, InOrderOfMoments, last_anew, pin_of, IsAct, IsHistory}
-use Rattle.nm_order.specs.History.IsAct.{IsAnswered, IsPending}
+use Rattle.nm_order.specs.History.{Act, IsAmong, SameCall, EachOnce, ComesNext, InOrderOfMoments, last_anew, pin_of, IsActOfRun, IsRunHistory}
+use Rattle.nm_order.specs.History.IsActOfRun.{IsAnswered, IsPending}
 use Rattle.nm_order.specs.RealTime.{Precedes, EndsBefore, KeepsRealTime, HistoriesKeepRealTime, HistoriesHaveOneActACall}
 use Rattle.nm_order.proofs.RunMoments.{entries, allowed_entries}
 use Rattle.nm_order.proofs.RunExchanges.{first_keys, is_own_call}
@@ -113,13 +113,13 @@ module _ (L : Layout) (enough : 5 ≤ L.nodes) where
 
   module _ (turns : List (ℕ × Event)) (keys : All (λ t. HasKey t.1) turns) where
     -- an act of a call that was answered is no later than the answer
-    within_answer : (a : Act) → IsAct L turns a → (n : ℕ) → (e : EndsBefore L turns a n) → a.moment ≤ length e.before
+    within_answer : (a : Act) → IsActOfRun L turns a → (n : ℕ) → (e : EndsBefore L turns a n) → a.moment ≤ length e.before
     within_answer a act n e = by act
       where
         below : a.pin < length e.before
         below = let is = e.is_pin in let lt = own_below a.worker a.op a.key a.answer e.before e.may (first_keys e.before ((a.worker, LeaveWith a.answer) ∷ e.since) (subst (λ (l : List (ℕ × Event)). All (λ t. HasKey t.1) l) e.is_run keys)) in omega arith
 
-        by : IsAct L turns a → a.moment ≤ length e.before
+        by : IsActOfRun L turns a → a.moment ≤ length e.before
         by (IsAnswered first rest is may pin later within) = elim (cases_lt (length e.before) (length first)) [
           | inl less ↦ absurd (let b = below in let p = past_in a.worker a.op a.key a.answer e.before e.may e.since first ((a.worker, LeaveWith a.answer) ∷ rest) (sym e.is_run ∙ is) less in omega arith)
           | inr le ↦ omega arith
@@ -127,24 +127,24 @@ module _ (L : Layout) (enough : 5 ≤ L.nodes) where
         by (IsPending called did true' pin later within) =
             absurd (let b = below in let p = subst (λ (l : List (ℕ × Event)). length e.before ≤ pin_of L l a.worker) (sym e.is_run) (past_all a.worker a.op a.key a.answer e.before e.may e.since) in omega arith)
 
-    begins_later : (b : Act) → IsAct L turns b → b.pin < b.moment
+    begins_later : (b : Act) → IsActOfRun L turns b → b.pin < b.moment
     begins_later b (IsAnswered first rest is may pin later within) = later
     begins_later b (IsPending called did true' pin later within) = later
 
     -- a pin's number is no greater than the last of its worker
-    pin_at_most : (b : Act) → IsAct L turns b → b.pin ≤ pin_of L turns b.worker
+    pin_at_most : (b : Act) → IsActOfRun L turns b → b.pin ≤ pin_of L turns b.worker
     pin_at_most b (IsAnswered first rest is may pin later within) = let g = subst (λ (l : List (ℕ × Event)). pin_of L first b.worker ≤ pin_of L l b.worker) (sym is) (pin_grows L first ((b.worker, LeaveWith b.answer) ∷ rest) b.worker) in omega arith
     pin_at_most b (IsPending called did true' pin later within) = omega arith
 
     -- two acts of one worker
-    own_later : (a b : Act) → IsAct L turns a → IsAct L turns b → a.worker ≡ b.worker → a.pin < b.pin → a.moment < b.moment
+    own_later : (a b : Act) → IsActOfRun L turns a → IsActOfRun L turns b → a.worker ≡ b.worker → a.pin < b.pin → a.moment < b.moment
     own_later a b (IsPending called did true' pin later within) other same less = absurd (let m = subst (λ (w : ℕ). b.pin ≤ pin_of L turns w) (sym same) (pin_at_most b other) in omega arith)
     own_later a b (IsAnswered first rest is may pin later within) other same less = by other
       where
         enough' : length first ≤ b.pin → b.moment ≡ b.moment → b.pin < b.moment → a.moment < b.moment
         enough' le e lt = omega arith
 
-        by : IsAct L turns b → a.moment < b.moment
+        by : IsActOfRun L turns b → a.moment < b.moment
         by (IsPending called did true' pin' later' within') = enough' (let p = subst (λ (l : List (ℕ × Event)). length first ≤ pin_of L l a.worker) (sym is) (past_all a.worker a.op a.key a.answer first may rest) in let e = ap (pin_of L turns) same in omega arith) refl later'
         by (IsAnswered first' rest' is' may' pin' later' within') = elim (cases_lt (length first) (length first')) [
           | inl longer ↦ enough' (let p = past_in a.worker a.op a.key a.answer first may rest first' ((b.worker, LeaveWith b.answer) ∷ rest') (sym is ∙ is') longer in let e = ap (pin_of L first') same in omega arith) refl later'
@@ -152,7 +152,7 @@ module _ (L : Layout) (enough : 5 ≤ L.nodes) where
               let g = subst (λ (l : List (ℕ × Event)). pin_of L first' b.worker ≤ pin_of L l b.worker) (sym m.1) (pin_grows L first' m.0 b.worker) in let e = ap (pin_of L first) same in omega arith)
         ]
 
-    keeps_real_time : (acts : List Act) → IsHistory L turns acts → KeepsRealTime L turns acts
+    keeps_real_time : (acts : List Act) → IsRunHistory L turns acts → KeepsRealTime L turns acts
     keeps_real_time acts h = record {
       apart = λ a b there there' ends. by_moments 0 false acts h.in_order a b there there' (let p = within_answer a (h.each a there) b.pin ends in let q = begins_later b (h.each b there') in let e = ends.early in omega arith);
       own = λ a b there there' same less. by_moments 0 false acts h.in_order a b there there' (own_later a b (h.each a there) (h.each b there') same less);

@@ -20,7 +20,7 @@ use Rattle.nm_model.specs.Ordered.{Configuration, ordered, search_of, disorder, 
 use Rattle.nm_order.specs.Intervals.{HasKey, IsCalled, Gains, Marks}
 use Rattle.nm_order.specs.Moments.{OfEachOrderedRun, PinStands}
 use Rattle.nm_order.specs.WalksToArrivals.{is_won_flag}
-use Rattle.nm_order.specs.Exchanges.{how_many, is_won_link, links_told, flags_told, MayAnswer, AnswersTellLinks, AnswersTellFlags, SilentLeavesWonNothing, HasInserted, TrueInsertsHaveInserted, HasFlagged, TrueDeletesHaveFlagged}
+use Rattle.nm_order.specs.Exchanges.{how_many, is_won_link, links_told, flags_told, MayAnswer, AnswersTellLinks, AnswersTellFlags, SilentLeavesWonNothing, HasWonInsert, TrueInsertsHaveInserted, HasFlagged, TrueDeletesHaveFlagged}
 use Rattle.nm_model.proofs.Numbers.{repeated}
 use Rattle.nm_order.proofs.OrderedLaws.{IsOrdered, each_ordered, each_link_inserts}
 use Rattle.nm_order.proofs.OwnFlags.{each_flag_marks}
@@ -100,10 +100,10 @@ module _ (L : Layout) (enough : 5 ≤ L.nodes) where
 
     -- ---- the moment of an insert
 
-    pub linked_at : (k : ℕ) → IsCalled (after_in (ordered L) turns) w Insert k → (own_search (after_in (ordered L) turns) w).linked ≡ true → HasInserted L turns w k
+    pub linked_at : (k : ℕ) → IsCalled (after_in (ordered L) turns) w Insert k → (own_search (after_in (ordered L) turns) w).linked ≡ true → HasWonInsert L turns w k
     linked_at k called has = go (won_in is_won_link has_linked Insert links_once L enough w turns keys (ordered L) (at_opening L enough) has)
       where
-        made : (at : WonAt is_won_link has_linked Insert links_once L enough w (ordered L) turns) → IsLinkEntry at.turn.1 at.reply → HasInserted L turns w k
+        made : (at : WonAt is_won_link has_linked Insert links_once L enough w (ordered L) turns) → IsLinkEntry at.turn.1 at.reply → HasWonInsert L turns w k
         made at l = record {
           before = at.before;
           since = at.since;
@@ -132,7 +132,7 @@ module _ (L : Layout) (enough : 5 ≤ L.nodes) where
             same_key = ap (λ (c : Call). c.key) (same_Some (record { op = Insert; key = inserts.0 }) (record { op = Insert; key = k })
                 (sym (is_own_call (after_in (ordered L) at.before) w Insert inserts.0 inserts.1) ∙ (sym at.same_call ∙ is_own_call (after_in (ordered L) turns) w Insert k called)))
 
-        go : ((own_search (ordered L) w).linked ≡ true) × PinStands w (trace_in (ordered L) turns) ⊎ WonAt is_won_link has_linked Insert links_once L enough w (ordered L) turns → HasInserted L turns w k
+        go : ((own_search (ordered L) w).linked ≡ true) × PinStands w (trace_in (ordered L) turns) ⊎ WonAt is_won_link has_linked Insert links_once L enough w (ordered L) turns → HasWonInsert L turns w k
         go (inl first) = absurd (true≢false (sym first.0 ∙ ap (λ (s : Search). s.linked) (idle_first L w)))
         go (inr at) = made at (link_entry at.turn.1 at.reply at.such)
 

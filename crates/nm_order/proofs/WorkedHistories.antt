@@ -12,7 +12,7 @@ use Rattle.nm_model.specs.Learning.{learn}
 use Rattle.nm_model.specs.Schedules.{delete_in_order}
 use Rattle.nm_order.specs.Exchanges.{MayAnswer}
 use Rattle.nm_order.specs.Totals.{how_often, links_of, flags_of}
-use Rattle.nm_order.specs.History.{pin_of, HasAct, HasHistory}
+use Rattle.nm_order.specs.History.{pin_of, HasActOfCall, RunHasHistory}
 
 abbrev L : Layout
 L = delete_in_order.layout
@@ -53,8 +53,8 @@ unfolding trace_in after_in outcome_in next_in refused_in applied_in searched re
 delete_answers = record { called = record { searches = _; are = refl; is_call = refl }; leaves = refl }
 
 -- so a history of this schedule has both calls
-both : (h : HasHistory L turns) → HasAct h.0 0 2 Insert 5 true × HasAct h.0 0 20 Delete 5 true
+both : (h : RunHasHistory L turns) → HasActOfCall h.0 0 2 Insert 5 true × HasActOfCall h.0 0 20 Delete 5 true
 both h = (
-  subst (λ (p : ℕ). HasAct h.0 0 p Insert 5 true) insert_pin (h.1.answered (take 18 turns) (drop 19 turns) 0 Insert 5 true refl insert_answers),
-  subst (λ (p : ℕ). HasAct h.0 0 p Delete 5 true) delete_pin (h.1.answered (take 43 turns) [] 0 Delete 5 true refl delete_answers),
+  subst (λ (p : ℕ). HasActOfCall h.0 0 p Insert 5 true) insert_pin (h.1.answered (take 18 turns) (drop 19 turns) 0 Insert 5 true refl insert_answers),
+  subst (λ (p : ℕ). HasActOfCall h.0 0 p Delete 5 true) delete_pin (h.1.answered (take 43 turns) [] 0 Delete 5 true refl delete_answers),
 )

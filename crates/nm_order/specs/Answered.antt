@@ -12,17 +12,17 @@ use Rattle.nm_model.specs.Searches.{idle}
 use Rattle.nm_model.specs.Walks.{Entry, search_after}
 use Rattle.nm_model.specs.Ordered.{ordered, after_in}
 use Rattle.nm_order.specs.Logs.{IsLogOf}
-use Rattle.nm_order.specs.Exchanges.{MayAnswer, HasInserted, HasFlagged}
-use Rattle.nm_order.specs.Removals.{HasDeleted}
+use Rattle.nm_order.specs.Exchanges.{MayAnswer, HasWonInsert, HasFlagged}
+use Rattle.nm_order.specs.Removals.{HasWonDelete}
 use Rattle.nm_order.specs.Legal.{WasLegal}
 
 -- the moment of an answer, in the run up to it: the link of a true insert, the cut of a true
 -- delete's leaf, and for any other answer a moment at which it was right
 abbrev pub HasMoment : Layout → List (ℕ × Event) → ℕ → Op → ℕ → Bool → Type 0
 HasMoment L before w Has k answer = WasLegal L before w Has k answer
-HasMoment L before w Insert k true = HasInserted L before w k
+HasMoment L before w Insert k true = HasWonInsert L before w k
 HasMoment L before w Insert k false = WasLegal L before w Insert k false
-HasMoment L before w Delete k true = HasDeleted L before w k
+HasMoment L before w Delete k true = HasWonDelete L before w k
 HasMoment L before w Delete k false = WasLegal L before w Delete k false
 
 -- a run goes up to the worker's answer, which has its moment before, and on from there

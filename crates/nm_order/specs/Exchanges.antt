@@ -67,7 +67,7 @@ SilentLeavesWonNothing L turns =
 
 -- under the pin that stands since, the worker's call to insert k won a link, and by it the set
 -- gained k, which was not in it, and nothing else (Natarajan and Mittal, section 3.2, insert)
-pub record HasInserted (L : Layout) (turns : List (ℕ × Event)) (w k : ℕ) : Type 0 where
+pub record HasWonInsert (L : Layout) (turns : List (ℕ × Event)) (w k : ℕ) : Type 0 where
   pub before : List (ℕ × Event)
   pub since : List (ℕ × Event)
   pub parent : ℕ
@@ -87,7 +87,7 @@ pub record HasInserted (L : Layout) (turns : List (ℕ × Event)) (w k : ℕ) : 
 -- a call that may answer its insert with true has inserted its key
 abbrev pub TrueInsertsHaveInserted : Layout → List (ℕ × Event) → Type 0
 TrueInsertsHaveInserted L turns =
-    (w k : ℕ) → MayAnswer (after_in (ordered L) turns) w Insert k true → HasInserted L turns w k
+    (w k : ℕ) → MayAnswer (after_in (ordered L) turns) w Insert k true → HasWonInsert L turns w k
 
 -- ---- the moment of a delete's flag
 

@@ -22,8 +22,8 @@ pub record HasWonFlag (log : List Entry) (n : NodeId) : Type 0 where
   pub is : log ≡ before ++ (Flag parent side leaf, Flagged n) ∷ since_flag log
 
 -- what is kept as flagged is the node of that flag
-abbrev pub FlagsAreTold : List Entry → Search → Type 0
-FlagsAreTold log s = (n : NodeId) → s.flagged ≡ Some n ↔ HasWonFlag log n
+abbrev pub FlagsAreKept : List Entry → Search → Type 0
+FlagsAreKept log s = (n : NodeId) → s.flagged ≡ Some n ↔ HasWonFlag log n
 
 -- behind the first flag that was won no other is
 abbrev pub NoSecondFlag : List Entry → Type 0

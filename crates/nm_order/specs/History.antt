@@ -17,8 +17,8 @@ use Rattle.nm_model.specs.Memory.{Memory, node, is_leaf}
 use Rattle.nm_model.specs.Walks.{log_of, begins_anew}
 use Rattle.nm_model.specs.Ordered.{ordered, outcome_in, after_in, trace_in}
 use Rattle.nm_order.specs.Intervals.{InSet, IsCalled}
-use Rattle.nm_order.specs.Exchanges.{MayAnswer, HasInserted, HasFlagged}
-use Rattle.nm_order.specs.Removals.{HasDeleted}
+use Rattle.nm_order.specs.Exchanges.{MayAnswer, HasWonInsert, HasFlagged}
+use Rattle.nm_order.specs.Removals.{HasWonDelete}
 use Rattle.nm_order.specs.Legal.{Gives, changes}
 
 -- a call with its answer, at a moment: the number of turns made until then. A call is named by its
@@ -96,25 +96,26 @@ pin_of L turns w = last_anew w 0 0 (trace_in (ordered L) turns)
 -- flagged is cut
 abbrev pub HasChanged : Layout → List (ℕ × Event) → ℕ → Op → ℕ → Type 0
 HasChanged L turns w Has k = ⊥
-HasChanged L turns w Insert k = HasInserted L turns w k
-HasChanged L turns w Delete k = HasDeleted L turns w k
+HasChanged L turns w Insert k = HasWonInsert L turns w k
+HasChanged L turns w Delete k = HasWonDelete L turns w k
 
 -- an act of a run: a call with its answer, or one that has made its change and is not answered yet;
 -- and its moment is one of the call, later than its pin and no later than its answer (Herlihy and
 -- Wing, completions of a history)
-pub data IsAct (L : Layout) (turns : List (ℕ × Event)) (a : Act) : Type 0 where
+pub data IsActOfRun (L : Layout) (turns : List (ℕ × Event)) (a : Act) : Type 0 where
   IsAnswered : (before since : List (ℕ × Event))
       → turns ≡ before ++ (a.worker, LeaveWith a.answer) ∷ since
       → MayAnswer (after_in (ordered L) before) a.worker a.op a.key a.answer
       → a.pin ≡ pin_of L before a.worker → a.pin < a.moment → a.moment ≤ length before
-      → IsAct L turns a
+      → IsActOfRun L turns a
   IsPending : IsCalled (after_in (ordered L) turns) a.worker a.op a.key
       → HasChanged L turns a.worker a.op a.key → a.answer ≡ true
       → a.pin ≡ pin_of L turns a.worker → a.pin < a.moment → a.moment ≤ length turns
-      → IsAct L turns a
+      → IsActOfRun L turns a
 
 -- an act of a call, by its worker, pin, operation, key and answer
-pub record HasAct (acts : List Act) (w pin : ℕ) (op : Op) (k : ℕ) (answer : Bool) : Type 0 where
+pub record HasActOfCall (acts : List Act) (w pin : ℕ) (op : Op) (k : ℕ)
+    (answer : Bool) : Type 0 where
   pub act : Act
   pub among : IsAmong acts act
   pub worker : act.worker ≡ w
@@ -156,7 +157,7 @@ pub record LeadsTo (acts : List Act) (moment : ℕ) (keys : ℕ → Type 0) : Ty
 -- their change, each once, in the order of their moments, and those of one cut in that cut's order;
 -- and one plain set, empty at first, gives each its answer, and has at each moment, and at last,
 -- the keys of the tree then (Herlihy and Wing, section 3, linearizability)
-pub record IsHistory (L : Layout) (turns : List (ℕ × Event)) (acts : List Act) : Type 0 where
+pub record IsRunHistory (L : Layout) (turns : List (ℕ × Event)) (acts : List Act) : Type 0 where
   pub replays : Replays nothing acts (InSet (after_in (ordered L) turns).state.memory)
   pub in_order : InOrderOfMoments 0 false acts
   pub once : EachOnce acts
@@ -174,14 +175,14 @@ pub record IsHistory (L : Layout) (turns : List (ℕ × Event)) (acts : List Act
       (length before + 1) (IsDeleteOf L before ns)
   pub moments : (before since : List (ℕ × Event)) → turns ≡ before ++ since
       → LeadsTo acts (length before) (InSet (after_in (ordered L) before).state.memory)
-  pub each : (a : Act) → IsAmong acts a → IsAct L turns a
+  pub each : (a : Act) → IsAmong acts a → IsActOfRun L turns a
   pub answered : (before since : List (ℕ × Event)) (w : ℕ) (op : Op) (k : ℕ) (answer : Bool)
       → turns ≡ before ++ (w, LeaveWith answer) ∷ since
       → MayAnswer (after_in (ordered L) before) w op k answer
-      → HasAct acts w (pin_of L before w) op k answer
+      → HasActOfCall acts w (pin_of L before w) op k answer
   pub pending : (w : ℕ) (op : Op) (k : ℕ) → IsCalled (after_in (ordered L) turns) w op k
-      → HasChanged L turns w op k → HasAct acts w (pin_of L turns w) op k true
+      → HasChanged L turns w op k → HasActOfCall acts w (pin_of L turns w) op k true
 
 -- the run has a history (Herlihy and Wing, section 3, linearizability)
-abbrev pub HasHistory : Layout → List (ℕ × Event) → Type 0
-HasHistory L turns = (acts : List Act) × IsHistory L turns acts
+abbrev pub RunHasHistory : Layout → List (ℕ × Event) → Type 0
+RunHasHistory L turns = (acts : List Act) × IsRunHistory L turns acts

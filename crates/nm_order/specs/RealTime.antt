@@ -5,7 +5,7 @@ use Rattle.nm_model.specs.declared.event.Event.{Event}
 use Rattle.nm_model.specs.declared.event.Event.TheVariants.{LeaveWith}
 use Rattle.nm_model.specs.Ordered.{ordered, after_in}
 use Rattle.nm_order.specs.Exchanges.{MayAnswer}
-use Rattle.nm_order.specs.History.{Act, IsAmong, SameCall, pin_of, IsHistory}
+use Rattle.nm_order.specs.History.{Act, IsAmong, SameCall, pin_of, IsRunHistory}
 
 -- one act stands before another (Herlihy and Wing, section 2, real-time order)
 pub record Precedes (acts : List Act) (a b : Act) : Type 0 where
@@ -36,10 +36,10 @@ pub record KeepsRealTime (L : Layout) (turns : List (ℕ × Event)) (acts : List
 -- of each call a history has one act
 abbrev pub HistoriesHaveOneActACall : Layout → List (ℕ × Event) → Type 0
 HistoriesHaveOneActACall L turns =
-    (acts : List Act) → IsHistory L turns acts → (a b : Act) → IsAmong acts a → IsAmong acts b
+    (acts : List Act) → IsRunHistory L turns acts → (a b : Act) → IsAmong acts a → IsAmong acts b
     → SameCall a b → a ≡ b
 
 -- each history of a run keeps that order
 abbrev pub HistoriesKeepRealTime : Layout → List (ℕ × Event) → Type 0
 HistoriesKeepRealTime L turns =
-    (acts : List Act) → IsHistory L turns acts → KeepsRealTime L turns acts
+    (acts : List Act) → IsRunHistory L turns acts → KeepsRealTime L turns acts

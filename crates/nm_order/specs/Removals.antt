@@ -31,7 +31,7 @@ CutsTakeTheirKeys c = (turn : ℕ × Event) (ns : List NodeId) → outcome_in c 
 
 -- under the pin that stands since, the worker's call to delete k had flagged its leaf, and
 -- somebody's splice cut that leaf (Natarajan and Mittal, section 3.2, cleanup, with helpers)
-pub record HasDeleted (L : Layout) (turns : List (ℕ × Event)) (w k : ℕ) : Type 0 where
+pub record HasWonDelete (L : Layout) (turns : List (ℕ × Event)) (w k : ℕ) : Type 0 where
   pub before : List (ℕ × Event)
   pub cut : ℕ × Event
   pub since : List (ℕ × Event)
@@ -45,4 +45,4 @@ pub record HasDeleted (L : Layout) (turns : List (ℕ × Event)) (w k : ℕ) : T
 -- a true delete is a cut of the leaf that it flagged, by now
 abbrev pub TrueDeletesHaveDeleted : Layout → List (ℕ × Event) → Type 0
 TrueDeletesHaveDeleted L turns =
-    (w k : ℕ) → MayAnswer (after_in (ordered L) turns) w Delete k true → HasDeleted L turns w k
+    (w k : ℕ) → MayAnswer (after_in (ordered L) turns) w Delete k true → HasWonDelete L turns w k

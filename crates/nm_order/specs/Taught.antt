@@ -71,14 +71,14 @@ PinsAreLearned L w log entry =
 
 -- the walks since the pin are those of a call; those since the flag are there once the call has won
 -- it
-abbrev pub Walks : Layout → ℕ → List Entry → Since → ℕ → Type 0
-Walks L w log ThePin k = (op : Op) × Holds L w log (CallIs op k)
-Walks L w log TheFlag k = (op : Op) × Holds L w log (CallIs op k)
+abbrev pub WalksAreFor : Layout → ℕ → List Entry → Since → ℕ → Type 0
+WalksAreFor L w log ThePin k = (op : Op) × Holds L w log (CallIs op k)
+WalksAreFor L w log TheFlag k = (op : Op) × Holds L w log (CallIs op k)
     × IsSome (search_after idle log).flagged
 
 -- a look at the left edge of slot 2 begins a walk
 abbrev pub WalksBegin : Layout → ℕ → List Entry → Entry → Type 0
-WalksBegin L w log entry = (since : Since) (k : ℕ) (e : Edge) → Walks L w log since k
+WalksBegin L w log entry = (since : Since) (k : ℕ) (e : Edge) → WalksAreFor L w log since k
     → entry ≡ (Look 2 (EdgeOn Left), EdgeIs e) → e.slot ≢ 0
     → Holds L w (log ++ entry ∷ []) (Came since k e.slot 2 Left)
 

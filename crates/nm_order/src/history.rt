@@ -2,7 +2,7 @@
 //! ends in mid-call.
 ghost use Rattle.nm_order.specs.Answered.{AnswersHaveMoments, PendingDeletesHaveFlagged};
 ghost use Rattle.nm_order.specs.AnsweredSince.{AnswersAreOfTheirCalls};
-ghost use Rattle.nm_order.specs.History.{HasHistory};
+ghost use Rattle.nm_order.specs.History.{RunHasHistory};
 ghost use Rattle.nm_order.specs.Intervals.{OfEachOrdered};
 ghost use Rattle.nm_order.specs.LoggedTotals.{TotalsAreInTheLogs};
 ghost use Rattle.nm_order.specs.Legal.{OtherAnswersWereLegal};
@@ -51,7 +51,7 @@ pub fn totals_agree()
 /// before another's pin was confirmed comes first; and so do the calls of each worker. (Herlihy and
 /// Wing, Linearizability, TOPLAS 1990.)
 pub fn runs_are_histories()
-    ensures history { OfEachOrderedRun HasHistory }
+    ensures history { OfEachOrderedRun RunHasHistory }
     ensures real_time { OfEachOrderedRun HistoriesKeepRealTime }
     ensures one_act { OfEachOrderedRun HistoriesHaveOneActACall }
 {}

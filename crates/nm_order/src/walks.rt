@@ -2,7 +2,7 @@
 //! log tells of its walks.
 ghost use Rattle.std.specs.Prelude.{All};
 ghost use Rattle.nm_model.specs.Walks.{IsOfWalk};
-ghost use Rattle.nm_order.specs.FlagsOfCalls.{FlagsAreTold, FlagsStay, LaterArrivalsOnlyGrow, NoSecondFlag};
+ghost use Rattle.nm_order.specs.FlagsOfCalls.{FlagsAreKept, FlagsStay, LaterArrivalsOnlyGrow, NoSecondFlag};
 ghost use Rattle.nm_order.specs.WalksToArrivals.{ComingsAreArrivals, EndsAreArrivals, OfEachCall, ReadingsAreArrivals, since_flag};
 
 /// The arrivals that a core keeps of a call are the walks for its key in the log since the pin,
@@ -28,7 +28,7 @@ pub fn walks_after_the_flag()
 /// A call wins one flag at most. The core keeps its node: the log since the pin is a part without a
 /// won flag, that flag, and the part behind it.
 pub fn flags_are_told()
-    ensures told { OfEachCall (λ k log s. FlagsAreTold log s) }
+    ensures told { OfEachCall (λ k log s. FlagsAreKept log s) }
     ensures once { OfEachCall (λ k log s. NoSecondFlag log) }
 {}
 

@@ -11,7 +11,7 @@ use Rattle.nm_calls.specs.Deletes.{IsRemoving}
 use Rattle.nm_calls.specs.Won.{won_splices, capped}
 
 -- its queue and its count are those of its log
-pub record IsKept (b : Board) (p : Stand) (es : List Waiting) (count : ℕ) : Type 0 where
+pub record KeepsItsQueue (b : Board) (p : Stand) (es : List Waiting) (count : ℕ) : Type 0 where
   pub own : IsOf b p
   pub queue : IsQueueOf (knowledge p.view) p.view.number es
   pub few : length es ≤ b.layout.nodes
@@ -19,11 +19,11 @@ pub record IsKept (b : Board) (p : Stand) (es : List Waiting) (count : ℕ) : Ty
 
 -- and it rests
 pub record IsAtRest (b : Board) (p : Stand) (es : List Waiting) (count : ℕ) : Type 0 where
-  pub kept : IsKept b p es count
+  pub kept : KeepsItsQueue b p es count
   pub rests : IsResting p
 
 -- or has flagged that leaf to delete a key
 pub record IsPendingFor (b : Board) (p : Stand) (es : List Waiting) (count k : ℕ)
     (n : NodeId) : Type 0 where
-  pub kept : IsKept b p es count
+  pub kept : KeepsItsQueue b p es count
   pub removing : IsRemoving p k n

@@ -7,7 +7,7 @@ use Rattle.std.proofs.lemmas.List.{length-append}
 use Rattle.nm_edge.specs.declared.node.NodeId.{NodeId}
 use Rattle.nm_model.specs.Walks.{Entry}
 use Rattle.nm_pool.specs.Takes.{Doing, DoneInTurn}
-use Rattle.nm_pool.specs.Claims.{PassedOver, PassedWithin, DoneAt, IsAmong, IsClaim, IsClaimBetween, IsClaimOfFew, IsNearClaim}
+use Rattle.nm_pool.specs.Claims.{PassedOver, PassedWithin, DoneAt, IsOneOfSlots, IsClaim, IsClaimBetween, IsClaimOfFew, IsNearClaim}
 
 -- ---- a range as a list, from its end
 
@@ -19,7 +19,7 @@ length-down : (from n : ℕ) → length (down from n) ≡ n
 length-down from zero = refl
 length-down from (suc n) = let less = length-down from n in omega (arith, less)
 
-among_down : (s from n : ℕ) → from ≤ s → s < from + n → IsAmong s (down from n)
+among_down : (s from n : ℕ) → from ≤ s → s < from + n → IsOneOfSlots s (down from n)
 among_down s from zero low high = absurd (omega (arith, low, high))
 among_down s from (suc n) low high =
     elim (eq-or-lt_of_le (let le : s ≤ from + n = omega (arith, high) in le)) [
@@ -37,12 +37,12 @@ joined : (Done : Doing) (xs ys : List ℕ) (old mid new : List Entry) → DoneAt
 joined Done xs [] old mid new a b = subst (DoneAt Done xs old) (sym b) a
 joined Done xs (y ∷ ys) old mid new a b = (b.0, joined Done xs ys old mid b.0 a b.1, b.2)
 
-among_left : (s : ℕ) (xs ys : List ℕ) → IsAmong s xs → IsAmong s (xs ++ ys)
+among_left : (s : ℕ) (xs ys : List ℕ) → IsOneOfSlots s xs → IsOneOfSlots s (xs ++ ys)
 among_left s [] ys among = absurd among
 among_left s (x ∷ xs) ys (inl here) = inl here
 among_left s (x ∷ xs) ys (inr later) = inr (among_left s xs ys later)
 
-among_right : (s : ℕ) (xs ys : List ℕ) → IsAmong s ys → IsAmong s (xs ++ ys)
+among_right : (s : ℕ) (xs ys : List ℕ) → IsOneOfSlots s ys → IsOneOfSlots s (xs ++ ys)
 among_right s [] ys among = among
 among_right s (x ∷ xs) ys among = inr (among_right s xs ys among)
 

@@ -76,9 +76,9 @@ abbrev pub PassedWithin : ℕ → Doing
 PassedWithin nodes s old new = (6 ≤ s) × (s ≤ nodes) × PassedOver s old new
 
 -- the slot is one of these
-abbrev pub IsAmong : ℕ → List ℕ → Type 0
-IsAmong s [] = ⊥
-IsAmong s (x ∷ xs) = (x ≡ s) ⊎ IsAmong s xs
+abbrev pub IsOneOfSlots : ℕ → List ℕ → Type 0
+IsOneOfSlots s [] = ⊥
+IsOneOfSlots s (x ∷ xs) = (x ≡ s) ⊎ IsOneOfSlots s xs
 
 -- that node was made in the end, and fewer slots than a limit were passed over before
 pub record ClaimsPast (limit nodes : ℕ) (old new : List Entry) (n : NodeId) : Type 0 where
@@ -94,7 +94,7 @@ pub record ClaimsPast (limit nodes : ℕ) (old new : List Entry) (n : NodeId) : 
 pub record PassesAll (nodes : ℕ) (old new : List Entry) : Type 0 where
   pub slots : List ℕ
   pub few : length slots ≤ nodes
-  pub all : (s : ℕ) → 6 ≤ s → s ≤ nodes → IsAmong s slots
+  pub all : (s : ℕ) → 6 ≤ s → s ≤ nodes → IsOneOfSlots s slots
   pub passed : DoneAt (PassedWithin nodes) slots old new
 
 -- what a near claim leaves in the log, by its answer: slots above 5 were passed over, in any order,

@@ -1,6 +1,6 @@
 //! The commands, from a reader to a writer.
 ghost use Rattle.std.specs.Prelude.{◌≡◌, ◌≢◌, drop, Some, IfSome, IfOk, OnOk, IfErr, IsOk};
-ghost use Rattle.nm_files.specs.Files.{Gives, IfLine, HasJudged};
+ghost use Rattle.nm_files.specs.Files.{GivesWhatIsSaid, IfLine, HasJudged};
 ghost use Rattle.nm_replay.specs.Output.{opening_core, output_of, Writes};
 
 use crate::output::text_of;
@@ -25,7 +25,7 @@ fn core_of(alloc: Global, header: &Header) -> Result<Core, RunFault>
 
 /// What is written for the bytes of a file.
 fn output(alloc: Global, bytes: &[u8]) -> Result<Vec<u8>, RunFault>
-    ensures { Gives (λ v. v.items) result (output_of bytes.now) }
+    ensures { GivesWhatIsSaid (λ v. v.items) result (output_of bytes.now) }
 {
     let schedule = schedule_of(alloc, bytes)?;
     let mut core = core_of(alloc, &schedule.header)?;

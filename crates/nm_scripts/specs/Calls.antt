@@ -6,7 +6,7 @@ use Rattle.std.specs.Str.{bytes_eq}
 use Rattle.nm_files.specs.declared.fault.Reason.{Reason}
 use Rattle.nm_files.specs.declared.fault.Reason.TheVariants as reason
 use Rattle.nm_files.specs.Chain.{◌>>=◌}
-use Rattle.nm_files.specs.Kinds.{alone, key, one}
+use Rattle.nm_files.specs.Kinds.{alone, key_field, one}
 use Rattle.nm_files.specs.Schedules.{worker_of}
 use Rattle.nm_scripts.specs.declared.call.Call.{Call}
 use Rattle.nm_scripts.specs.declared.call.Call.TheVariants as call
@@ -45,7 +45,7 @@ call_kind_of may_resign given = call_named given >>= λ kind. allowed may_resign
 unfoldable pub one_key : List (List ℕ) → Result ℕ Reason
 one_key arguments = do
   a ← one arguments
-  key a
+  key_field a
 
 -- the call of each kind by its arguments
 unfoldable pub has_call : List (List ℕ) → Result Call Reason

@@ -1,7 +1,7 @@
 //! A script: the sizes of a tree, and calls of workers in their order.
 ghost use Rattle.std.specs.Prelude.{◌≡◌, ◌≤◌, drop, length, All, IfOk, OnOk};
 ghost use Rattle.nm_files.specs.Lines.{parts};
-ghost use Rattle.nm_files.specs.Files.{Gives, checked, entries_from};
+ghost use Rattle.nm_files.specs.Files.{GivesWhatIsSaid, checked, entries_from};
 ghost use Rattle.nm_scripts.specs.Scripts.{IsEntryOf, ResignsInSerial};
 ghost use Rattle.nm_scripts.specs.Scripts as spec;
 
@@ -22,7 +22,7 @@ pub struct Script<'a> {
 }
 
 fn header_at(command: Command, line: &[u8]) -> Result<Header, RunFault>
-    ensures says { Gives (λ h. h) result
+    ensures says { GivesWhatIsSaid (λ h. h) result
         (checked 1 line.now (spec.script_first_line_of command line.now)) }
     ensures stress { IfOk result (ResignsInSerial command) }
 {
@@ -36,7 +36,7 @@ fn header_at(command: Command, line: &[u8]) -> Result<Header, RunFault>
 }
 
 fn call_at(number: u32, header: &Header, line: &[u8]) -> Result<(u32, Call), RunFault>
-    ensures says { Gives (λ e. e) result
+    ensures says { GivesWhatIsSaid (λ e. e) result
         (checked number line.now (spec.script_line_of header.now line.now)) }
     ensures number { OnOk result (number ≤ 100001) }
     ensures allowed { IfOk result (IsEntryOf header.now) }
@@ -52,7 +52,7 @@ fn call_at(number: u32, header: &Header, line: &[u8]) -> Result<(u32, Call), Run
 
 /// The calls of the lines from the second on.
 fn calls_of(alloc: Global, header: &Header, body: &[u8]) -> Result<Vec<(u32, Call)>, RunFault>
-    ensures says { Gives (λ v. v.items) result
+    ensures says { GivesWhatIsSaid (λ v. v.items) result
         (entries_from (spec.script_line_of header.now) 2 (parts body.now)) }
     ensures allowed { IfOk result (λ v. All (IsEntryOf header.now) v.items) }
     ensures few { IfOk result (λ v. length v.items ≤ 100000) }
@@ -78,8 +78,8 @@ fn calls_of(alloc: Global, header: &Header, body: &[u8]) -> Result<Vec<(u32, Cal
 /// What the bytes of a file for that command say. A faulty file is answered by its first faulty
 /// line, numbered from 1, and the least reason of that line.
 pub fn script_of(alloc: Global, command: Command, bytes: &[u8]) -> Result<Script<'_>, RunFault>
-    ensures says { Gives (λ s. record { header = s.header; entries = s.calls.items }) result
-        (spec.script_of command bytes.now) }
+    ensures says { GivesWhatIsSaid (λ s. record { header = s.header; entries = s.calls.items })
+        result (spec.script_of command bytes.now) }
     ensures body { IfOk result (λ s. drop 1 (parts bytes.now) ≡ parts s.body.now) }
     ensures allowed { IfOk result (λ s. All (IsEntryOf s.header) s.calls.items) }
     ensures stress { IfOk result (λ s. ResignsInSerial command s.header) }

@@ -12,7 +12,7 @@ use Rattle.nm_scripts.specs.declared.call.Call.TheVariants.{Has, Insert, Delete,
 use Rattle.nm_steps.specs.Steps.{Board, IsOf}
 use Rattle.nm_tree.specs.Closing.{given_in}
 use Rattle.nm_tree.specs.Resigning.{merged}
-use Rattle.nm_tree.specs.Workers.{Hand, AreNew, KeepsOthers}
+use Rattle.nm_tree.specs.Workers.{Hand, AreNew, KeepsOtherQueues}
 use Rattle.nm_tree.proofs.Merging.{length-merged}
 use Rattle.nm_serial.specs.Crews.{AreCrewOf, HasAsked, HasDoneAt, HasResignedOrStayed, PlaysAll, PlaysLine, present, stands_for, worker_at}
 use Rattle.nm_serial.specs.Makes.{IsOwnCall}
@@ -28,7 +28,7 @@ emptied b crew i o none all = placed b crew i o (rw none tt) all
 -- ---- how many workers they stand for
 
 -- the queues that a call leaves are as many
-pub keeps_many : (o : ℕ) (hs gs : List HeldQueue) → KeepsOthers o hs gs → length gs ≡ length hs
+pub keeps_many : (o : ℕ) (hs gs : List HeldQueue) → KeepsOtherQueues o hs gs → length gs ≡ length hs
 keeps_many o [] [] keeps = refl
 keeps_many o [] (g ∷ gs) keeps = absurd keeps
 keeps_many o (h ∷ hs) [] keeps = absurd keeps

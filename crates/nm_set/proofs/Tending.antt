@@ -23,14 +23,14 @@ use Rattle.nm_calls.specs.Won.{HasWon}
 use Rattle.nm_tree.specs.declared.fault.Fault.{Fault as Lost}
 use Rattle.nm_tree.specs.declared.fault.Fault.TheVariants as call
 use Rattle.nm_tree.specs.declared.worker.Unfinished.{Unfinished}
-use Rattle.nm_tree.specs.Workers.{Hand, IsAs, IsBetweenCalls, KeepsOthers}
+use Rattle.nm_tree.specs.Workers.{Hand, IsAs, IsBetweenCalls, KeepsOtherQueues}
 use Rattle.nm_tree.specs.Answers.{links_won, flags_won}
 use Rattle.nm_tree.proofs.Quiet.{Quiet, advanced, collected}
 use Rattle.nm_set.specs.declared.fault.Fault.{Fault}
 use Rattle.nm_set.specs.declared.fault.Fault.TheVariants as fault
 use Rattle.nm_set.specs.declared.tended.Habit.{Habit}
 use Rattle.nm_set.specs.Asked.{Asked, LeavesHas, LeavesInsert, LeavesDelete, LeavesFinish, LeavesAdvance, LeavesCollect}
-use Rattle.nm_set.specs.Tended.{OnlyLoses, OthersOnlyLose, GoesOn, InARow, IsAsked, busy, Looks, Inserts, Deletes, Finishes, IsRelieved, IsTidied, InsertsOn, of_finish, DeletesOn, IsLeft, links_told, flags_told, round_bound, Tends}
+use Rattle.nm_set.specs.Tended.{OnlyLoses, OthersOnlyLose, GoesOnTended, InARow, IsAsked, busy, Looks, Inserts, Deletes, FinishesPending, IsRelieved, IsTidied, InsertsOn, of_finish, DeletesOn, IsLeft, links_told_by, flags_told_by, round_bound, Tends}
 use Rattle.std.specs.List.{prefix_len}
 
 -- nothing is not there
@@ -60,7 +60,7 @@ kept_one : (o : ℕ) (h g : HeldQueue) → (h.origin ≡ o) ⊎ (g ≡ h) → On
 kept_one o h g (inl e) = inl e
 kept_one o h g (inr e) = inr (0, ap (λ (q : HeldQueue). q.queue.items) e)
 
-pub lose_by_call : (o : ℕ) (hs gs : List HeldQueue) → KeepsOthers o hs gs → OthersOnlyLose o hs gs
+pub lose_by_call : (o : ℕ) (hs gs : List HeldQueue) → KeepsOtherQueues o hs gs → OthersOnlyLose o hs gs
 lose_by_call o [] [] a = tt
 lose_by_call o [] (g ∷ gs) a = absurd a
 lose_by_call o (h ∷ hs) [] a = absurd a
@@ -91,7 +91,7 @@ follows_then o p q first second = record {
   past = seen_through o p q first.past second.past;
 }
 
-pub goes_then : {m n : ℕ} (w x z : Hand) → GoesOn m w x → GoesOn n x z → GoesOn (m + n) w z
+pub goes_then : {m n : ℕ} (w x z : Hand) → GoesOnTended m w x → GoesOnTended n x z → GoesOnTended (m + n) w z
 goes_then {m} {n} w x z a b =
     let both = follows_then w.pass x.pass z.pass (record { same = a.same; past = a.past }) (record { same = b.same; past = b.past }) in
     let number = ap (λ (p : Stand). p.view.number) a.same in
@@ -107,17 +107,17 @@ goes_then {m} {n} w x z a b =
       between = b.between;
     }
 
-pub goes_more : (m n : ℕ) (w z : Hand) → m ≤ n → GoesOn m w z → GoesOn n w z
+pub goes_more : (m n : ℕ) (w z : Hand) → m ≤ n → GoesOnTended m w z → GoesOnTended n w z
 goes_more m n w z le a = let few = a.steps in record { same = a.same; past = a.past; queues = a.queues; steps = omega (arith, few, le); held = a.held; fit = a.fit; between = a.between }
 
-pub goes_nowhere : (w : Hand) → w.held ≡ None → IsBetweenCalls w → GoesOn 0 w w
+pub goes_nowhere : (w : Hand) → w.held ≡ None → IsBetweenCalls w → GoesOnTended 0 w w
 goes_nowhere w free between = record { same = refl; past = seen_itself w.pass; queues = lose_nothing w.pass.view.number w.queues; steps = omega arith; held = free; fit = refl; between = between }
 
 -- a call of the tree is in one round
 in_round : (t : ℕ) (L : Layout) (a b x : ℕ) → x ≡ t * (4 * L.nodes + 512) → b ≤ a + x + 6 * L.nodes + 10 → b ≤ a + (x + 7 * L.nodes + 2 * L.workers + 12)
 in_round t L a b x is few = omega (arith, few)
 
-goes_has : (L : Layout) (t k : ℕ) (w z : Hand) (r : Result Bool Lost) → LeavesHas L.nodes t k w z r → GoesOn (round_bound t L) w z
+goes_has : (L : Layout) (t k : ℕ) (w z : Hand) (r : Result Bool Lost) → LeavesHas L.nodes t k w z r → GoesOnTended (round_bound t L) w z
 goes_has L t k w z r l = record {
   same = l.same;
   past = l.past;
@@ -128,7 +128,7 @@ goes_has L t k w z r l = record {
   between = l.between;
 }
 
-goes_insert : (L : Layout) (t k : ℕ) (w z : Hand) (r : Result Bool Lost) → LeavesInsert L.nodes t k w z r → GoesOn (round_bound t L) w z
+goes_insert : (L : Layout) (t k : ℕ) (w z : Hand) (r : Result Bool Lost) → LeavesInsert L.nodes t k w z r → GoesOnTended (round_bound t L) w z
 goes_insert L t k w z r l = record {
   same = l.same;
   past = l.past;
@@ -139,7 +139,7 @@ goes_insert L t k w z r l = record {
   between = l.between;
 }
 
-goes_delete : (L : Layout) (t k : ℕ) (w z : Hand) (r : Result Bool Lost) → LeavesDelete L.nodes t k w z r → GoesOn (round_bound t L) w z
+goes_delete : (L : Layout) (t k : ℕ) (w z : Hand) (r : Result Bool Lost) → LeavesDelete L.nodes t k w z r → GoesOnTended (round_bound t L) w z
 goes_delete L t k w z r l = record {
   same = l.same;
   past = l.past;
@@ -150,7 +150,7 @@ goes_delete L t k w z r l = record {
   between = l.between;
 }
 
-goes_finish : (L : Layout) (t : ℕ) (w z : Hand) (r : Result Bool Lost) → w.held ≡ None → LeavesFinish L.nodes t w z r → GoesOn (round_bound t L) w z
+goes_finish : (L : Layout) (t : ℕ) (w z : Hand) (r : Result Bool Lost) → w.held ≡ None → LeavesFinish L.nodes t w z r → GoesOnTended (round_bound t L) w z
 goes_finish L t w z r free l = record {
   same = l.same;
   past = l.past;
@@ -161,7 +161,7 @@ goes_finish L t w z r free l = record {
   between = l.between;
 }
 
-goes_advance : (m : ℕ) (w z : Hand) → {a : _} → w.held ≡ None → LeavesAdvance m w z a → GoesOn (m + 1) w z
+goes_advance : (m : ℕ) (w z : Hand) → {a : _} → w.held ≡ None → LeavesAdvance m w z a → GoesOnTended (m + 1) w z
 goes_advance m w z free l = let few = l.steps in record {
   same = l.same;
   past = l.past;
@@ -172,7 +172,7 @@ goes_advance m w z free l = let few = l.steps in record {
   between = l.between;
 }
 
-goes_collect : (n : ℕ) (w z : Hand) → {c : _} → w.held ≡ None → LeavesCollect n w z c → GoesOn n w z
+goes_collect : (n : ℕ) (w z : Hand) → {c : _} → w.held ≡ None → LeavesCollect n w z c → GoesOnTended n w z
 goes_collect n w z {c} free l = record {
   same = l.same;
   past = l.past;
@@ -183,7 +183,7 @@ goes_collect n w z {c} free l = record {
   between = l.between;
 }
 
-goes_relieved : (b : Board) (t : ℕ) (w z : Hand) → w.held ≡ None → IsRelieved b w z → GoesOn (round_bound t b.layout) w z
+goes_relieved : (b : Board) (t : ℕ) (w z : Hand) → w.held ≡ None → IsRelieved b w z → GoesOnTended (round_bound t b.layout) w z
 goes_relieved b t w z free r =
     let m = b.layout.workers in
     let first = goes_advance m w r.once free r.moves in
@@ -191,23 +191,23 @@ goes_relieved b t w z free r =
     let third = goes_collect b.layout.nodes r.twice z second.held r.collects in
     goes_more ((m + 1) + (m + 1) + b.layout.nodes) (round_bound t b.layout) w z (omega arith) (goes_then w r.twice z (goes_then w r.once r.twice first second) third)
 
-goes_tidied : (b : Board) (t many : ℕ) (w z : Hand) → w.held ≡ None → IsBetweenCalls w → IsTidied b many w z → GoesOn (round_bound t b.layout) w z
+goes_tidied : (b : Board) (t many : ℕ) (w z : Hand) → w.held ≡ None → IsBetweenCalls w → IsTidied b many w z → GoesOnTended (round_bound t b.layout) w z
 goes_tidied b t many w z free between (inl did) = goes_relieved b t w z free did.1
-goes_tidied b t many w z free between (inr did) = subst (GoesOn (round_bound t b.layout) w) (sym did.1) (goes_more 0 (round_bound t b.layout) w w (omega arith) (goes_nowhere w free between))
+goes_tidied b t many w z free between (inr did) = subst (GoesOnTended (round_bound t b.layout) w) (sym did.1) (goes_more 0 (round_bound t b.layout) w w (omega arith) (goes_nowhere w free between))
 
 -- ---- steps in a row
 
-goes_in_a_row : (step : Hand → Hand → Type 0) (most : ℕ) → ((x y : Hand) → x.held ≡ None → step x y → GoesOn most x y) → (n : ℕ) (w x z : Hand) → w.held ≡ None → InARow step n w x → (x.held ≡ None → GoesOn most x z) → GoesOn (suc n * most) w z
+goes_in_a_row : (step : Hand → Hand → Type 0) (most : ℕ) → ((x y : Hand) → x.held ≡ None → step x y → GoesOnTended most x y) → (n : ℕ) (w x z : Hand) → w.held ≡ None → InARow step n w x → (x.held ≡ None → GoesOnTended most x z) → GoesOnTended (suc n * most) w z
 goes_in_a_row step most each zero w x z free row last =
     let one = suc-mul 0 most in
-    goes_more most (suc 0 * most) w z (omega (arith, one)) (subst (λ (y : Hand). GoesOn most y z) row (last (ap (λ (y : Hand). y.held) row ∙ free)))
+    goes_more most (suc 0 * most) w z (omega (arith, one)) (subst (λ (y : Hand). GoesOnTended most y z) row (last (ap (λ (y : Hand). y.held) row ∙ free)))
 goes_in_a_row step most each (suc n) w x z free (m, row, made) last =
     let first = goes_in_a_row step most each n w m x free row (λ held. each m x held made) in
     let one = suc-mul (suc n) most in
     goes_more (suc n * most + most) (suc (suc n) * most) w z (omega (arith, one)) (goes_then w x z first (last first.held))
 
-goes_asked : {R : Type 0} (leaves : Hand → Hand → R → Type 0) (lost : R) (most : ℕ) → ((x y : Hand) (r : R) → x.held ≡ None → leaves x y r → GoesOn most x y)
-    → (rounds : ℕ) (w z : Hand) (r : R) → w.held ≡ None → IsAsked leaves lost rounds w z r → GoesOn (suc rounds * most) w z
+goes_asked : {R : Type 0} (leaves : Hand → Hand → R → Type 0) (lost : R) (most : ℕ) → ((x y : Hand) (r : R) → x.held ≡ None → leaves x y r → GoesOnTended most x y)
+    → (rounds : ℕ) (w z : Hand) (r : R) → w.held ≡ None → IsAsked leaves lost rounds w z r → GoesOnTended (suc rounds * most) w z
 goes_asked leaves lost most each rounds w z r free a =
     let few = a.few in
     goes_more (suc a.before * most) (suc rounds * most) w z (mul-le-mul_right most (omega (arith, few)))
@@ -292,37 +292,37 @@ finish_err n t w z call.Full l = absurd l.did
 finish_err n t w z call.NoMemory l = absurd l.did
 finish_err n t w z call.Pending l = absurd l.did
 
-pub finishes_err : (b : Board) (h : Habit) (w z : Hand) (lost : Lost) → Finishes b h w z (Err lost) → lost ≡ call.Unfinished
+pub finishes_err : (b : Board) (h : Habit) (w z : Hand) (lost : Lost) → FinishesPending b h w z (Err lost) → lost ≡ call.Unfinished
 finishes_err b h w z lost f = finish_err b.layout.nodes h.tries f.begun z lost f.last
 
 -- what was pending is so where the last finish begins
-pends : (b : Board) (h : Habit) (w z : Hand) (r : Result Bool Lost) (f : Finishes b h w z r) → f.begun.pending ≡ w.pending
+pends : (b : Board) (h : Habit) (w z : Hand) (r : Result Bool Lost) (f : FinishesPending b h w z r) → f.begun.pending ≡ w.pending
 pends b h w z r f = keeps_in_a_row (λ (x : Hand). x.pending ≡ w.pending) (λ x y. LeavesFinish b.layout.nodes h.tries x y (Err call.Unfinished)) (λ x y at made. still b.layout.nodes h.tries x y made ∙ at) f.before w f.begun refl f.each
 
 finished : (n t : ℕ) (w z : Hand) (answer : Bool) → LeavesFinish n t w z (Ok answer) → z.pending ≡ None
 finished n t w z true l = l.did.2
 finished n t w z false l = ap (λ (y : Hand). y.pending) l.did.1 ∙ l.did.0
 
-goes_finishes : (b : Board) (h : Habit) (w z : Hand) (r : Result Bool Lost) → w.held ≡ None → Finishes b h w z r → GoesOn (suc h.rounds * round_bound h.tries b.layout) w z
+goes_finishes : (b : Board) (h : Habit) (w z : Hand) (r : Result Bool Lost) → w.held ≡ None → FinishesPending b h w z r → GoesOnTended (suc h.rounds * round_bound h.tries b.layout) w z
 goes_finishes b h w z r free f = goes_asked (LeavesFinish b.layout.nodes h.tries) (Err call.Unfinished) (round_bound h.tries b.layout) (λ x y q held made. goes_finish b.layout h.tries x y q held made) h.rounds w z r free f
 
 -- ---- calls that are made again
 
-goes_looks : (b : Board) (h : Habit) (k : ℕ) (w z : Hand) (r : Result Bool Fault) → w.held ≡ None → Looks b h k w z r → GoesOn (suc h.rounds * round_bound h.tries b.layout) w z
+goes_looks : (b : Board) (h : Habit) (k : ℕ) (w z : Hand) (r : Result Bool Fault) → w.held ≡ None → Looks b h k w z r → GoesOnTended (suc h.rounds * round_bound h.tries b.layout) w z
 goes_looks b h k w z r free a =
-    let each : (x y : Hand) (q : Result Bool Fault) → x.held ≡ None → Asked (LeavesHas b.layout.nodes h.tries k) x y q → GoesOn (round_bound h.tries b.layout) x y
+    let each : (x y : Hand) (q : Result Bool Fault) → x.held ≡ None → Asked (LeavesHas b.layout.nodes h.tries k) x y q → GoesOnTended (round_bound h.tries b.layout) x y
     = λ x y q held made. (let told = asked_free (LeavesHas b.layout.nodes h.tries k) x y q held made in goes_has b.layout h.tries k x y told.0 told.1) in
     goes_asked (Asked (LeavesHas b.layout.nodes h.tries k)) busy (round_bound h.tries b.layout) each h.rounds w z r free a
 
-goes_inserts : (b : Board) (h : Habit) (k : ℕ) (w z : Hand) (r : Result Bool Fault) → w.held ≡ None → Inserts b h k w z r → GoesOn (suc h.rounds * round_bound h.tries b.layout) w z
+goes_inserts : (b : Board) (h : Habit) (k : ℕ) (w z : Hand) (r : Result Bool Fault) → w.held ≡ None → Inserts b h k w z r → GoesOnTended (suc h.rounds * round_bound h.tries b.layout) w z
 goes_inserts b h k w z r free a =
-    let each : (x y : Hand) (q : Result Bool Fault) → x.held ≡ None → Asked (LeavesInsert b.layout.nodes h.tries k) x y q → GoesOn (round_bound h.tries b.layout) x y
+    let each : (x y : Hand) (q : Result Bool Fault) → x.held ≡ None → Asked (LeavesInsert b.layout.nodes h.tries k) x y q → GoesOnTended (round_bound h.tries b.layout) x y
     = λ x y q held made. (let told = asked_free (LeavesInsert b.layout.nodes h.tries k) x y q held made in goes_insert b.layout h.tries k x y told.0 told.1) in
     goes_asked (Asked (LeavesInsert b.layout.nodes h.tries k)) busy (round_bound h.tries b.layout) each h.rounds w z r free a
 
-goes_deletes : (b : Board) (h : Habit) (k : ℕ) (w z : Hand) (r : Result Bool Fault) → w.held ≡ None → Deletes b h k w z r → GoesOn (suc h.rounds * round_bound h.tries b.layout) w z
+goes_deletes : (b : Board) (h : Habit) (k : ℕ) (w z : Hand) (r : Result Bool Fault) → w.held ≡ None → Deletes b h k w z r → GoesOnTended (suc h.rounds * round_bound h.tries b.layout) w z
 goes_deletes b h k w z r free a =
-    let each : (x y : Hand) (q : Result Bool Fault) → x.held ≡ None → Asked (LeavesDelete b.layout.nodes h.tries k) x y q → GoesOn (round_bound h.tries b.layout) x y
+    let each : (x y : Hand) (q : Result Bool Fault) → x.held ≡ None → Asked (LeavesDelete b.layout.nodes h.tries k) x y q → GoesOnTended (round_bound h.tries b.layout) x y
     = λ x y q held made. (let told = asked_free (LeavesDelete b.layout.nodes h.tries k) x y q held made in goes_delete b.layout h.tries k x y told.0 told.1) in
     goes_asked (Asked (LeavesDelete b.layout.nodes h.tries k)) busy (round_bound h.tries b.layout) each h.rounds w z r free a
 
@@ -370,17 +370,17 @@ tidied_wins : (b : Board) (many : ℕ) (w z : Hand) → IsTidied b many w z → 
 tidied_wins b many w z (inl did) = relieved_wins b w z did.1
 tidied_wins b many w z (inr did) = subst (λ (y : Hand). Wins w y 0 0) (sym did.1) (wins_nothing w)
 
-finishes_wins : (b : Board) (h : Habit) (w z : Hand) (r : Result Bool Lost) → Finishes b h w z r → Wins w z 0 0
+finishes_wins : (b : Board) (h : Habit) (w z : Hand) (r : Result Bool Lost) → FinishesPending b h w z r → Wins w z 0 0
 finishes_wins b h w z r f =
     let before = keeps_in_a_row (λ (x : Hand). Wins w x 0 0) (λ x y. LeavesFinish b.layout.nodes h.tries x y (Err call.Unfinished)) (λ x y at made. wins_after 0 0 w x y at made.won) f.before w f.begun (wins_nothing w) f.each in
     wins_after 0 0 w f.begun z before f.last.won
 
-insert_links : (l : Result Bool Lost) → links_won l ≡ links_told Insert (of_finish l)
+insert_links : (l : Result Bool Lost) → links_won l ≡ links_told_by Insert (of_finish l)
 insert_links (Ok true) = refl
 insert_links (Ok false) = refl
 insert_links (Err lost) = refl
 
-delete_flags : (l : Result Bool Lost) → flags_won l ≡ flags_told Delete (of_finish l)
+delete_flags : (l : Result Bool Lost) → flags_won l ≡ flags_told_by Delete (of_finish l)
 delete_flags (Ok true) = refl
 delete_flags (Ok false) = refl
 delete_flags (Err call.Busy) = refl
@@ -424,7 +424,7 @@ begun_delete b h k w z r none free a = keeps_in_a_row (IsOnward w) (λ x y. Aske
 record IsTold (op : Op) (k : ℕ) (o z : Hand) (r : Result Bool Fault) : Type 0 where
   moment : IfOk r (AnswerHasMoment o.pass z.pass op k)
   left : IsLeft k o z r
-  won : Wins o z (links_told op r) (flags_told op r)
+  won : Wins o z (links_told_by op r) (flags_told_by op r)
 
 look_told : (b : Board) (h : Habit) (k : ℕ) (o w z : Hand) (r : Result Bool Fault) → HasSeenAllOf w.pass o.pass → Wins o w 0 0 → w.pending ≡ None → w.held ≡ None → Looks b h k w z r → IsTold Has k o z r
 look_told b h k o w z r past won none free a =
@@ -468,7 +468,7 @@ rests w none free between =
     ap (λ (s : Search). s.call) resting.idle
 
 -- a delete that is finished: y is where it began, with no call, and x where its leaf was flagged
-finish_told : (b : Board) (h : Habit) (k : ℕ) (leaf : NodeId) (o y x z : Hand) (f : Result Bool Lost) → HasSeenAllOf y.pass o.pass → Wins o x 0 1 → HadNoCall y.pass x.pass → x.pending ≡ Some (record { key = k; leaf = leaf }) → Finishes b h x z f → IsTold Delete k o z (of_finish f)
+finish_told : (b : Board) (h : Habit) (k : ℕ) (leaf : NodeId) (o y x z : Hand) (f : Result Bool Lost) → HasSeenAllOf y.pass o.pass → Wins o x 0 1 → HadNoCall y.pass x.pass → x.pending ≡ Some (record { key = k; leaf = leaf }) → FinishesPending b h x z f → IsTold Delete k o z (of_finish f)
 finish_told b h k leaf o y x z (Ok true) past won had is a =
     let mine : Unfinished = record { key = k; leaf = leaf } in
     let begun = follow_in_a_row (λ p q. LeavesFinish b.layout.nodes h.tries p q (Err call.Unfinished)) (λ p q made. record { same = made.same; past = made.past }) a.before x a.begun a.each in
@@ -495,30 +495,30 @@ finish_told b h k leaf o y x z (Err call.Pending) past won had is a = absurd a.l
 
 -- ---- the rounds of a call
 
-rounds_then : (m n most : ℕ) (w x z : Hand) → GoesOn (m * most) w x → GoesOn (n * most) x z → GoesOn ((m + n) * most) w z
+rounds_then : (m n most : ℕ) (w x z : Hand) → GoesOnTended (m * most) w x → GoesOnTended (n * most) x z → GoesOnTended ((m + n) * most) w z
 rounds_then m n most w x z first second =
     let both = add-mul m n most in
     goes_more (m * most + n * most) ((m + n) * most) w z (omega (arith, both)) (goes_then w x z first second)
 
-one_round : (most : ℕ) (w z : Hand) → GoesOn most w z → GoesOn (1 * most) w z
+one_round : (most : ℕ) (w z : Hand) → GoesOnTended most w z → GoesOnTended (1 * most) w z
 one_round most w z a = goes_more most (1 * most) w z (omega arith) a
 
-in_all : (r m most : ℕ) (w z : Hand) → m ≤ 3 * r + 5 → GoesOn (m * most) w z → GoesOn ((3 * r + 5) * most) w z
+in_all : (r m most : ℕ) (w z : Hand) → m ≤ 3 * r + 5 → GoesOnTended (m * most) w z → GoesOnTended ((3 * r + 5) * most) w z
 in_all r m most w z few a = goes_more (m * most) ((3 * r + 5) * most) w z (mul-le-mul_right most few) a
 
 -- ---- the three calls
 
 -- who tells of an earlier call's delete has won nothing
-wins_pending : (op : Op) (w z : Hand) → Wins w z 0 0 → Wins w z (links_told op (Err (fault.Call call.Pending))) (flags_told op (Err (fault.Call call.Pending)))
+wins_pending : (op : Op) (w z : Hand) → Wins w z 0 0 → Wins w z (links_told_by op (Err (fault.Call call.Pending))) (flags_told_by op (Err (fault.Call call.Pending)))
 wins_pending Has w z won = won
 wins_pending Insert w z won = won
 wins_pending Delete w z won = won
 
 -- where the delete of an earlier call is not finished, nothing else is done
-pub pending_tends : (b : Board) (h : Habit) (op : Op) (k : ℕ) (w z : Hand) (lost : Lost) → w.held ≡ None → Finishes b h w z (Err lost) → Finishes b h w z (Err call.Unfinished) × Tends b h op k w z (Err (fault.Call call.Pending))
+pub pending_tends : (b : Board) (h : Habit) (op : Op) (k : ℕ) (w z : Hand) (lost : Lost) → w.held ≡ None → FinishesPending b h w z (Err lost) → FinishesPending b h w z (Err call.Unfinished) × Tends b h op k w z (Err (fault.Call call.Pending))
 pending_tends b h op k w z lost free f =
     let unfinished = finishes_err b h w z lost f in
-    let told = subst (λ (e : Lost). Finishes b h w z (Err e)) unfinished f in
+    let told = subst (λ (e : Lost). FinishesPending b h w z (Err e)) unfinished f in
     let kept = still b.layout.nodes h.tries told.begun z told.last ∙ pends b h w z (Err call.Unfinished) told in
     let there : IsSome w.pending = subst IsSome (pends b h w z (Err call.Unfinished) told) (subst IsSome (sym told.last.did.1) refl) in
     (told, record { moment = tt; left = (there, kept); won = wins_pending op w z (finishes_wins b h w z (Err call.Unfinished) told); on = in_all h.rounds (suc h.rounds) (round_bound h.tries b.layout) w z (omega arith) (goes_finishes b h w z (Err call.Unfinished) free told) })
@@ -527,12 +527,12 @@ pending_tends b h op k w z lost free f =
 record IsSettled (b : Board) (h : Habit) (w x : Hand) : Type 0 where
   none : x.pending ≡ None
   won : Wins w x 0 0
-  on : GoesOn (suc h.rounds * round_bound h.tries b.layout) w x
+  on : GoesOnTended (suc h.rounds * round_bound h.tries b.layout) w x
 
-settled : (b : Board) (h : Habit) (w x : Hand) (answer : Bool) → w.held ≡ None → Finishes b h w x (Ok answer) → IsSettled b h w x
+settled : (b : Board) (h : Habit) (w x : Hand) (answer : Bool) → w.held ≡ None → FinishesPending b h w x (Ok answer) → IsSettled b h w x
 settled b h w x answer free f = record { none = finished b.layout.nodes h.tries f.begun x answer f.last; won = finishes_wins b h w x (Ok answer) f; on = goes_finishes b h w x (Ok answer) free f }
 
-pub contains_tends : (b : Board) (h : Habit) (k : ℕ) (w x z : Hand) (answer : Bool) (r : Result Bool Fault) → w.held ≡ None → Finishes b h w x (Ok answer) → Looks b h k x z r → Tends b h Has k w z r
+pub contains_tends : (b : Board) (h : Habit) (k : ℕ) (w x z : Hand) (answer : Bool) (r : Result Bool Fault) → w.held ≡ None → FinishesPending b h w x (Ok answer) → Looks b h k x z r → Tends b h Has k w z r
 contains_tends b h k w x z answer r free f looks =
     let at = settled b h w x answer free f in
     let most = round_bound h.tries b.layout in
@@ -548,7 +548,7 @@ contains_tends b h k w x z answer r free f looks =
 record IsReady (b : Board) (h : Habit) (w y : Hand) : Type 0 where
   none : y.pending ≡ None
   won : Wins w y 0 0
-  on : GoesOn ((suc h.rounds + 1) * round_bound h.tries b.layout) w y
+  on : GoesOnTended ((suc h.rounds + 1) * round_bound h.tries b.layout) w y
 
 relieved_place : (b : Board) (w z : Hand) → IsRelieved b w z → z.pending ≡ w.pending
 relieved_place b w z r = r.collects.place.0 ∙ (r.moves_again.place.0 ∙ r.moves.place.0)
@@ -557,7 +557,7 @@ tidied_place : (b : Board) (many : ℕ) (w z : Hand) → IsTidied b many w z →
 tidied_place b many w z (inl did) = relieved_place b w z did.1
 tidied_place b many w z (inr did) = ap (λ (y : Hand). y.pending) did.1
 
-ready : (b : Board) (h : Habit) (w x y : Hand) (answer : Bool) → w.held ≡ None → Finishes b h w x (Ok answer) → IsTidied b h.collect_after x y → IsReady b h w y
+ready : (b : Board) (h : Habit) (w x y : Hand) (answer : Bool) → w.held ≡ None → FinishesPending b h w x (Ok answer) → IsTidied b h.collect_after x y → IsReady b h w y
 ready b h w x y answer free f tidied =
     let at = settled b h w x answer free f in
     let most = round_bound h.tries b.layout in
@@ -568,7 +568,7 @@ ready b h w x y answer free f tidied =
     }
 
 -- an insert, and one more behind a collection
-inserts_on : (b : Board) (h : Habit) (k : ℕ) (o w z : Hand) (r : Result Bool Fault) → HasSeenAllOf w.pass o.pass → Wins o w 0 0 → w.pending ≡ None → w.held ≡ None → InsertsOn b h k w z r → IsTold Insert k o z r × GoesOn ((suc h.rounds + 1 + suc h.rounds) * round_bound h.tries b.layout) w z
+inserts_on : (b : Board) (h : Habit) (k : ℕ) (o w z : Hand) (r : Result Bool Fault) → HasSeenAllOf w.pass o.pass → Wins o w 0 0 → w.pending ≡ None → w.held ≡ None → InsertsOn b h k w z r → IsTold Insert k o z r × GoesOnTended ((suc h.rounds + 1 + suc h.rounds) * round_bound h.tries b.layout) w z
 inserts_on b h k o w z r past won none free (inl (did, known)) =
     let most = round_bound h.tries b.layout in
     (insert_told b h k o w z r past won none free did, goes_more (suc h.rounds * most) ((suc h.rounds + 1 + suc h.rounds) * most) w z (mul-le-mul_right most (omega arith)) (goes_inserts b h k w z r free did))
@@ -581,7 +581,7 @@ inserts_on b h k o w z r past won none free (inr (x, y, first, relieved, again))
     let told = insert_told b h k o y z r seen (wins_after 0 0 o x y full.won (relieved_wins b x y relieved)) (relieved_place b x y relieved ∙ full.left) behind.held again in
     (told, rounds_then (suc h.rounds + 1) (suc h.rounds) most w y z (rounds_then (suc h.rounds) 1 most w x y before (one_round most x y behind)) (goes_inserts b h k y z r behind.held again))
 
-pub adds_tend : (b : Board) (h : Habit) (k : ℕ) (w x y z : Hand) (answer : Bool) (r : Result Bool Fault) → w.held ≡ None → Finishes b h w x (Ok answer) → IsTidied b h.collect_after x y → InsertsOn b h k y z r → Tends b h Insert k w z r
+pub adds_tend : (b : Board) (h : Habit) (k : ℕ) (w x y z : Hand) (answer : Bool) (r : Result Bool Fault) → w.held ≡ None → FinishesPending b h w x (Ok answer) → IsTidied b h.collect_after x y → InsertsOn b h k y z r → Tends b h Insert k w z r
 adds_tend b h k w x y z answer r free f tidied did =
     let at = ready b h w x y answer free f tidied in
     let most = round_bound h.tries b.layout in
@@ -594,7 +594,7 @@ adds_tend b h k w x y z answer r free f tidied did =
     }
 
 -- a delete, and what is left to do of it
-deletes_on : (b : Board) (h : Habit) (k : ℕ) (o w z : Hand) (r : Result Bool Fault) → HasSeenAllOf w.pass o.pass → Wins o w 0 0 → HasSeen w.pass.view → w.pending ≡ None → w.held ≡ None → IsBetweenCalls w → DeletesOn b h k w z r → IsTold Delete k o z r × GoesOn ((suc h.rounds + suc h.rounds) * round_bound h.tries b.layout) w z
+deletes_on : (b : Board) (h : Habit) (k : ℕ) (o w z : Hand) (r : Result Bool Fault) → HasSeenAllOf w.pass o.pass → Wins o w 0 0 → HasSeen w.pass.view → w.pending ≡ None → w.held ≡ None → IsBetweenCalls w → DeletesOn b h k w z r → IsTold Delete k o z r × GoesOnTended ((suc h.rounds + suc h.rounds) * round_bound h.tries b.layout) w z
 deletes_on b h k o w z r past won seen none free between (inl (did, known)) =
     let most = round_bound h.tries b.layout in
     (delete_told b h k o w z r past won none free did, goes_more (suc h.rounds * most) ((suc h.rounds + suc h.rounds) * most) w z (mul-le-mul_right most (omega arith)) (goes_deletes b h k w z r free did))
@@ -606,7 +606,7 @@ deletes_on b h k o w z r past won seen none free between (inr (x, f, first, rest
     let told = finish_told b h k flagged.left.0 o w x z f past flagged.won had flagged.left.1 rest in
     (subst (λ (q : Result Bool Fault). IsTold Delete k o z q) (sym is) told, rounds_then (suc h.rounds) (suc h.rounds) most w x z before (goes_finishes b h x z f before.held rest))
 
-pub removes_tend : (b : Board) (h : Habit) (k : ℕ) (w x y z : Hand) (answer : Bool) (r : Result Bool Fault) → w.held ≡ None → Finishes b h w x (Ok answer) → IsTidied b h.collect_after x y → HasSeen y.pass.view → DeletesOn b h k y z r → Tends b h Delete k w z r
+pub removes_tend : (b : Board) (h : Habit) (k : ℕ) (w x y z : Hand) (answer : Bool) (r : Result Bool Fault) → w.held ≡ None → FinishesPending b h w x (Ok answer) → IsTidied b h.collect_after x y → HasSeen y.pass.view → DeletesOn b h k y z r → Tends b h Delete k w z r
 removes_tend b h k w x y z answer r free f tidied seen did =
     let at = ready b h w x y answer free f tidied in
     let most = round_bound h.tries b.layout in

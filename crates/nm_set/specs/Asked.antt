@@ -21,7 +21,7 @@ use Rattle.nm_tree.specs.declared.fault.Fault.{Fault as Lost}
 use Rattle.nm_tree.specs.declared.fault.PinFault.{PinFault as Unpinned}
 use Rattle.nm_tree.specs.Answers.{HasAnswered, HasInserted, HasDeleted, HasFinished, FinishHasMoment, InsertLacks, DeleteLacks, FinishLacks, HasPinned, KeepsPlace, links_won, flags_won}
 use Rattle.nm_tree.specs.Running.{IsFreedInGrace}
-use Rattle.nm_tree.specs.Workers.{Hand, IsBetweenCalls, KeepsOthers, TakeRoom}
+use Rattle.nm_tree.specs.Workers.{Hand, IsBetweenCalls, KeepsOtherQueues, TakeRoom}
 use Rattle.nm_set.specs.declared.fault.Fault.{Fault}
 use Rattle.nm_set.specs.declared.fault.Fault.TheVariants as fault
 use Rattle.nm_set.specs.declared.fault.PinFault.{PinFault}
@@ -58,7 +58,7 @@ pub record LeavesInsert (nodes tries k : ℕ) (w z : Hand) (r : Result Bool Lost
   pub moment : IfOk r (AnswerHasMoment w.pass z.pass Insert k)
   pub won : HasWon w.pass.view.log z.pass.view.log (links_won r) 0
   pub steps : HasBound nodes tries w z
-  pub queues : KeepsOthers w.pass.view.number w.queues z.queues
+  pub queues : KeepsOtherQueues w.pass.view.number w.queues z.queues
   pub blocks : TakeRoom w.queues z.queues
   pub held : z.held ≡ None
   pub fit : z.fit ≡ w.fit
@@ -72,7 +72,7 @@ pub record LeavesDelete (nodes tries k : ℕ) (w z : Hand) (r : Result Bool Lost
   pub moment : IfOk r (AnswerHasMoment w.pass z.pass Delete k)
   pub won : HasWon w.pass.view.log z.pass.view.log 0 (flags_won r)
   pub steps : HasBound nodes tries w z
-  pub queues : KeepsOthers w.pass.view.number w.queues z.queues
+  pub queues : KeepsOtherQueues w.pass.view.number w.queues z.queues
   pub blocks : TakeRoom w.queues z.queues
   pub held : z.held ≡ None
   pub fit : z.fit ≡ w.fit
@@ -86,7 +86,7 @@ pub record LeavesFinish (nodes tries : ℕ) (w z : Hand) (r : Result Bool Lost) 
   pub moment : FinishHasMoment w z r
   pub won : HasWon w.pass.view.log z.pass.view.log 0 0
   pub steps : HasBound nodes tries w z
-  pub queues : KeepsOthers w.pass.view.number w.queues z.queues
+  pub queues : KeepsOtherQueues w.pass.view.number w.queues z.queues
   pub blocks : TakeRoom w.queues z.queues
   pub held : z.held ≡ w.held
   pub fit : z.fit ≡ w.fit

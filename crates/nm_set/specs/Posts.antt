@@ -50,6 +50,6 @@ Hears b i w z (Err posting.Busy) = z ≡ w
 Hears b i w z (Err posting.Number) = ⊥
 
 -- that no worker has the number is told exactly where none has, and nothing has changed
-abbrev pub Reads : Board → ℕ → Hand → Hand → Result (Option Posted) PostFault → Type 0
-Reads b i w z r = ((i < b.layout.workers) × Hears b i w z r)
+abbrev pub ReadsNote : Board → ℕ → Hand → Hand → Result (Option Posted) PostFault → Type 0
+ReadsNote b i w z r = ((i < b.layout.workers) × Hears b i w z r)
     ⊎ ((b.layout.workers ≤ i) × (r ≡ Err posting.Number) × (z ≡ w))

@@ -35,7 +35,7 @@ OthersOnlyLose o _ _ = ⊥
 
 -- the worker has gone on, in so many steps at most: the same pass, which has seen more, not held,
 -- between two calls
-pub record GoesOn (most : ℕ) (w z : Hand) : Type 0 where
+pub record GoesOnTended (most : ℕ) (w z : Hand) : Type 0 where
   pub same : IsSamePass w.pass z.pass
   pub past : HasSeenAllOf z.pass w.pass
   pub queues : OthersOnlyLose w.pass.view.number w.queues z.queues
@@ -78,9 +78,9 @@ abbrev pub Deletes : Board → Habit → ℕ → Hand → Hand → Result Bool F
 Deletes b h k w z r = IsAsked (Asked (LeavesDelete b.layout.nodes h.tries k)) busy h.rounds w z r
 
 -- the delete that is pending, if one is, while it is not finished
-abbrev pub Finishes : Board → Habit → Hand → Hand → Result Bool Lost → Type 0
-Finishes b h w z r = IsAsked (LeavesFinish b.layout.nodes h.tries) (Err call.Unfinished) h.rounds w
-    z r
+abbrev pub FinishesPending : Board → Habit → Hand → Hand → Result Bool Lost → Type 0
+FinishesPending b h w z r =
+    IsAsked (LeavesFinish b.layout.nodes h.tries) (Err call.Unfinished) h.rounds w z r
 
 -- ---- collecting
 
@@ -117,17 +117,17 @@ of_finish (Err lost) = Err (fault.Call lost)
 abbrev pub DeletesOn : Board → Habit → ℕ → Hand → Hand → Result Bool Fault → Type 0
 DeletesOn b h k w z r = (Deletes b h k w z r × (r ≢ Err (fault.Call call.Unfinished)))
     ⊎ ((x : Hand) × (f : Result Bool Lost) × Deletes b h k w x (Err (fault.Call call.Unfinished))
-    × Finishes b h x z f × (r ≡ of_finish f))
+    × FinishesPending b h x z f × (r ≡ of_finish f))
 
 -- first the delete of an earlier call is finished, where one is pending; what is told of where it
 -- is not, is that
 abbrev pub FinishesThen : Board → Habit → (Hand → Type 0) → Hand → Hand → Result Bool Fault → Type 0
-FinishesThen b h rest w z r = (Finishes b h w z (Err call.Unfinished)
+FinishesThen b h rest w z r = (FinishesPending b h w z (Err call.Unfinished)
     × (r ≡ Err (fault.Call call.Pending)))
-    ⊎ ((answer : Bool) × (x : Hand) × Finishes b h w x (Ok answer) × rest x)
+    ⊎ ((answer : Bool) × (x : Hand) × FinishesPending b h w x (Ok answer) × rest x)
 
--- `Contains`, `Adds`, `Removes`: first the delete of an earlier call is finished, and then each of
--- the three calls is made
+-- `Contains`, `Adds`, `RemovesTended`: first the delete of an earlier call is finished, and then
+-- each of the three calls is made
 abbrev pub Contains : Board → Habit → ℕ → Hand → Hand → Result Bool Fault → Type 0
 Contains b h k w z r = FinishesThen b h (λ x. Looks b h k x z r) w z r
 
@@ -135,8 +135,8 @@ abbrev pub Adds : Board → Habit → ℕ → Hand → Hand → Result Bool Faul
 Adds b h k w z r = FinishesThen b h
     (λ x. (y : Hand) × IsTidied b h.collect_after x y × InsertsOn b h k y z r) w z r
 
-abbrev pub Removes : Board → Habit → ℕ → Hand → Hand → Result Bool Fault → Type 0
-Removes b h k w z r = FinishesThen b h
+abbrev pub RemovesTended : Board → Habit → ℕ → Hand → Hand → Result Bool Fault → Type 0
+RemovesTended b h k w z r = FinishesThen b h
     (λ x. (y : Hand) × IsTidied b h.collect_after x y × DeletesOn b h k y z r) w z r
 
 -- ---- what a caller has of each
@@ -148,15 +148,15 @@ IsLeft k w z (Err (fault.Call call.Unfinished)) =
 IsLeft k w z (Err (fault.Call call.Pending)) = IsSome w.pending × (z.pending ≡ w.pending)
 IsLeft k w z _ = z.pending ≡ None
 
--- `links_told`, `flags_told`: the links and the flags that it has won, by what it tells
-abbrev pub links_told : Op → Result Bool Fault → ℕ
-links_told Insert (Ok true) = 1
-links_told _ _ = 0
+-- `links_told_by`, `flags_told_by`: the links and the flags that it has won, by what it tells
+abbrev pub links_told_by : Op → Result Bool Fault → ℕ
+links_told_by Insert (Ok true) = 1
+links_told_by _ _ = 0
 
-abbrev pub flags_told : Op → Result Bool Fault → ℕ
-flags_told Delete (Ok true) = 1
-flags_told Delete (Err (fault.Call call.Unfinished)) = 1
-flags_told _ _ = 0
+abbrev pub flags_told_by : Op → Result Bool Fault → ℕ
+flags_told_by Delete (Ok true) = 1
+flags_told_by Delete (Err (fault.Call call.Unfinished)) = 1
+flags_told_by _ _ = 0
 
 -- the steps of a round at most: those of a call of the tree, two moves of the epoch and a
 -- collection
@@ -169,8 +169,8 @@ pub record Tends (b : Board) (h : Habit) (op : Op) (k : ℕ) (w z : Hand)
     (r : Result Bool Fault) : Type 0 where
   pub moment : IfOk r (AnswerHasMoment w.pass z.pass op k)
   pub left : IsLeft k w z r
-  pub won : HasWon w.pass.view.log z.pass.view.log (links_told op r) (flags_told op r)
-  pub on : GoesOn ((3 * h.rounds + 5) * round_bound h.tries b.layout) w z
+  pub won : HasWon w.pass.view.log z.pass.view.log (links_told_by op r) (flags_told_by op r)
+  pub on : GoesOnTended ((3 * h.rounds + 5) * round_bound h.tries b.layout) w z
 
 -- the call did this, and a caller has that
 pub record HasTended (does : Hand → Hand → Result Bool Fault → Type 0) (b : Board) (h : Habit)
@@ -191,4 +191,4 @@ abbrev pub TendsInsert : Board → Habit → ℕ → Hand → Hand → Result Bo
 TendsInsert b h k w z r = UnlessHeld (HasTended (Adds b h k) b h Insert k w z r) w z r
 
 abbrev pub TendsDelete : Board → Habit → ℕ → Hand → Hand → Result Bool Fault → Type 0
-TendsDelete b h k w z r = UnlessHeld (HasTended (Removes b h k) b h Delete k w z r) w z r
+TendsDelete b h k w z r = UnlessHeld (HasTended (RemovesTended b h k) b h Delete k w z r) w z r

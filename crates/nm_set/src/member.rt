@@ -12,7 +12,7 @@ ghost use Rattle.nm_tree.specs.declared.worker.Unfinished.{Unfinished as Delete}
 ghost use Rattle.nm_set.specs.Asked.{Asked, AskedToPin, AskedToUnpin, LeavesHas, LeavesInsert, LeavesDelete, LeavesFinish, LeavesAdvance, LeavesBehind, LeavesCollect};
 ghost use Rattle.nm_set.specs.InTurns.{AskedMany};
 ghost use Rattle.nm_set.specs.NextKeys.{AskedNext};
-ghost use Rattle.nm_set.specs.Posts.{HasTally, Reads};
+ghost use Rattle.nm_set.specs.Posts.{HasTally, ReadsNote};
 ghost use Rattle.nm_set.specs.Seats.{IsOwn, IsResident, IsStaying, told_absence, told_staying};
 
 use crate::fault::{Fault, NotHeld, PinFault, PostFault, ResignReason};
@@ -293,7 +293,7 @@ impl Member {
     /// this moment. Nothing has changed.
     pub fn read(&mut self, number: u32) -> Result<Option<Posted>, PostFault>
         ensures board { self.new.board ≡ self.old.board }
-        ensures heard { Reads self.old.board number self.old.hand self.new.hand result }
+        ensures heard { ReadsNote self.old.board number self.old.hand self.new.hand result }
     {
         let Some(post) = self.home.post_of(number) else {
             return Err(PostFault::Number);

@@ -2,7 +2,7 @@
 //! is finished, and retired nodes are collected.
 ghost use Rattle.std.specs.Prelude.{◌≡◌, ◌≢◌, true, false, None, Err};
 ghost use Rattle.nm_tree.specs.declared.fault.Fault.TheVariants as lost;
-ghost use Rattle.nm_set.specs.Tended.{busy, Looks, Inserts, Deletes, Finishes, IsRelieved, IsTidied, InsertsOn, DeletesOn, TendsHas, TendsInsert, TendsDelete};
+ghost use Rattle.nm_set.specs.Tended.{busy, Looks, Inserts, Deletes, FinishesPending, IsRelieved, IsTidied, InsertsOn, DeletesOn, TendsHas, TendsInsert, TendsDelete};
 
 use crate::fault::Fault;
 use crate::member::Member;
@@ -228,7 +228,7 @@ impl Member {
     /// What is left to do of a delete, until it is done.
     fn finish_again(&mut self, habit: &Habit) -> Result<bool, CallFault>
         ensures board { self.new.board ≡ self.old.board }
-        ensures did { Finishes self.old.board habit.now self.old.hand self.new.hand result }
+        ensures did { FinishesPending self.old.board habit.now self.old.hand self.new.hand result }
     {
         for _round in 0..habit.rounds {
             if let Ok(answer) = self.finish(habit.tries) {

@@ -12,17 +12,17 @@ use Rattle.nm_set_c.specs.declared.many.Lookup.{Lookup}
 use Rattle.nm_set_c.specs.declared.outcome.Outcome.{Outcome}
 use Rattle.nm_set_c.specs.declared.outcome.Outcome.TheVariants as outcome
 
-abbrev pub number_of : Lookup → ℕ
-number_of l = l.key
+abbrev pub key_looked_up : Lookup → ℕ
+key_looked_up l = l.key
 
 -- a query with its answer, as it is written
-abbrev pub bit_of : Bool → ℕ
-bit_of true = 1
-bit_of false = 0
+abbrev pub found_bit : Bool → ℕ
+found_bit true = 1
+found_bit false = 0
 
 -- a query with its answer, as it is written
 abbrev pub lookup_of : Query → Lookup
-lookup_of q = record { key = q.key; found = bit_of q.found }
+lookup_of q = record { key = q.key; found = found_bit q.found }
 
 -- each of the numbers is a key
 abbrev pub AreKeys : List Lookup → Type 0
@@ -42,7 +42,7 @@ of_many (Err f) = of_fault f
 pub record LooksUp (tries : ℕ) (old new : List Lookup) (m n : Seated) (o : Outcome) : Type 0 where
   pub asked : List Query
   pub answered : List Query
-  pub keys : map key_of asked ≡ map number_of old
+  pub keys : map key_of asked ≡ map key_looked_up old
   pub answer : Result (Unit {0}) Fault
   pub told : o ≡ of_many answer
   pub board : n.board ≡ m.board

@@ -1,7 +1,7 @@
 -- Notes that workers leave for each other: m is the worker before the call, n the worker after it,
 -- and o the outcome that is told.
 use Rattle.std.specs.Prelude.{◌≡◌, ℕ, Option, Some, None, Result, Ok, Err}
-use Rattle.nm_set.specs.Posts.{HasTally, Reads}
+use Rattle.nm_set.specs.Posts.{HasTally, ReadsNote}
 use Rattle.nm_set.specs.Seats.{Seated}
 use Rattle.nm_set.specs.declared.fault.PostFault.{PostFault}
 use Rattle.nm_set.specs.declared.fault.PostFault.TheVariants as posting
@@ -54,4 +54,4 @@ pub record DoesRead (number old_links links old_flags flags : ℕ) (m n : Seated
   pub told : o ≡ of_read answer
   pub written : AreWritten (heard_by answer) old_links links old_flags flags
   pub board : n.board ≡ m.board
-  pub heard : Reads m.board number m.hand n.hand answer
+  pub heard : ReadsNote m.board number m.hand n.hand answer

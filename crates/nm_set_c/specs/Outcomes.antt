@@ -44,13 +44,13 @@ code_of outcome.Uncounted = negsuc 20
 code_of outcome.InUse = negsuc 21
 
 -- a number that tells an outcome of which this holds
-abbrev pub Tells : (Outcome → Type 0) → ℤ → Type 0
-Tells P n = (o : Outcome) × (n ≡ code_of o) × P o
+abbrev pub IsCodeOf : (Outcome → Type 0) → ℤ → Type 0
+IsCodeOf P n = (o : Outcome) × (n ≡ code_of o) × P o
 
 -- ---- what the calls of a set and its workers answer, as outcomes
 
--- `of_bool`, `of_lost`, `of_fault`, `of_answer`, `of_finish`, `of_new`, `of_taking`, `of_staying`,
--- `of_reason`: the outcome of what a call of `nm_set` answers
+-- `of_bool`, `of_lost`, `of_fault`, `of_answer`, `of_finished`, `of_new`, `of_taking`,
+-- `of_staying`, `of_reason`: the outcome of what a call of `nm_set` answers
 abbrev pub of_bool : Bool → Outcome
 of_bool true = outcome.Yes
 of_bool false = outcome.No
@@ -70,9 +70,9 @@ abbrev pub of_answer : Result Bool Fault → Outcome
 of_answer (Ok b) = of_bool b
 of_answer (Err f) = of_fault f
 
-abbrev pub of_finish : Result Bool Lost → Outcome
-of_finish (Ok b) = of_bool b
-of_finish (Err f) = of_lost f
+abbrev pub of_finished : Result Bool Lost → Outcome
+of_finished (Ok b) = of_bool b
+of_finished (Err f) = of_lost f
 
 abbrev pub of_new : NewError → Outcome
 of_new making.Nodes = outcome.Nodes

@@ -22,13 +22,13 @@ pub record TellsKeys (count : ℕ) (r q : Report) (o : Outcome) : Type 0 where
   pub same : q ≡ r
 
 -- what stands at an index is written; or there is nothing, and nothing is written
-abbrev pub IsFound : Option ℕ → ℕ → ℕ → Outcome → Type 0
-IsFound None old new o = (o ≡ outcome.Number) × (new ≡ old)
-IsFound (Some k) old new o = (o ≡ outcome.Done) × (new ≡ k)
+abbrev pub IsFoundAt : Option ℕ → ℕ → ℕ → Outcome → Type 0
+IsFoundAt None old new o = (o ≡ outcome.Number) × (new ≡ old)
+IsFoundAt (Some k) old new o = (o ≡ outcome.Done) × (new ≡ k)
 
 -- `TellsKey`, `TellsQueue`: what a report says at an index is written, and it is as it was
 pub record TellsKey (index old key : ℕ) (r q : Report) (o : Outcome) : Type 0 where
-  pub found : IsFound (slice_get r.keys.items index) old key o
+  pub found : IsFoundAt (slice_get r.keys.items index) old key o
   pub same : q ≡ r
 
 -- how many nodes of a queue wait

@@ -52,15 +52,15 @@ MakesSet f nodes workers old new o =
 
 -- what a set gives: a worker of its tree with that fit, of which this holds, or why not; which
 -- faults there are is up to the call
-abbrev pub Gives : (Standing → Hand → Type 0) → (Standing → MemberFault → Type 0) → Owner
+abbrev pub GivesWorker : (Standing → Hand → Type 0) → (Standing → MemberFault → Type 0) → Owner
     → Result Seated Outcome → Type 0
-Gives which faults (Set s) (Ok m) = (s.closing ≡ false) × (m.board ≡ s.board) × which s m.hand
-Gives which faults (Set s) (Err o) =
+GivesWorker which faults (Set s) (Ok m) = (s.closing ≡ false) × (m.board ≡ s.board) × which s m.hand
+GivesWorker which faults (Set s) (Err o) =
     (why : MemberFault) × (o ≡ of_taking why) × ((why ≡ taking.Closing) ↔ (s.closing ≡ true))
     × faults s why
-Gives which faults (Worker m) r = r ≡ Err outcome.Kind
-Gives which faults (Ended r) t = t ≡ Err outcome.Kind
-Gives which faults Nothing r = r ≡ Err outcome.Kind
+GivesWorker which faults (Worker m) r = r ≡ Err outcome.Kind
+GivesWorker which faults (Ended r) t = t ≡ Err outcome.Kind
+GivesWorker which faults Nothing r = r ≡ Err outcome.Kind
 
 -- the handle has what was given, or memory was refused and it is closed; or nothing was given, why
 -- is told, and it is closed
@@ -70,8 +70,9 @@ Keeps (Ok m) new o = ((o ≡ outcome.Done) × (new ≡ Open (Worker m)))
 Keeps (Err why) new o = (o ≡ why) × (new ≡ Closed)
 
 -- by the handle of the worker, which must be closed, and that of the set, which stays as it is
-abbrev pub Takes : (Owner → Result Seated Outcome → Type 0) → Hold → Hold → Hold → Outcome → Type 0
-Takes gives set old new o =
+abbrev pub TakesByHandles : (Owner → Result Seated Outcome → Type 0) → Hold → Hold → Hold
+    → Outcome → Type 0
+TakesByHandles gives set old new o =
     CannotOpen old new o
     ⊎ (((old ≡ Closed) × (new ≡ Closed) × IsRefused set set o)
     ⊎ ((old ≡ Closed) × (x : Owner) × (set ≡ Open x) × (r : Result Seated Outcome) × gives x r
@@ -90,7 +91,7 @@ NumberFaults number s why = (why ≡ taking.Number)
 -- a closed handle owns the worker of that number
 abbrev pub TakesWorker : ℕ → Hold → Hold → Hold → Outcome → Type 0
 TakesWorker number set old new o =
-    Takes (Gives (IsNumbered number) (NumberFaults number)) set old new o
+    TakesByHandles (GivesWorker (IsNumbered number) (NumberFaults number)) set old new o
 
 -- any worker
 abbrev pub IsAny : Standing → Hand → Type 0
@@ -101,7 +102,7 @@ AnyFaults s why = why ≡ taking.Number → ⊥
 
 -- a closed handle owns a worker, of any number
 abbrev pub Attaches : Hold → Hold → Hold → Outcome → Type 0
-Attaches set old new o = Takes (Gives IsAny AnyFaults) set old new o
+Attaches set old new o = TakesByHandles (GivesWorker IsAny AnyFaults) set old new o
 
 -- ---- a worker that is missed
 

@@ -19,7 +19,7 @@ use Rattle.nm_set.specs.declared.fault.ResignReason.{ResignReason}
 use Rattle.nm_set.specs.declared.tended.Habit.{Habit}
 use Rattle.nm_set.specs.Seats.{Seated, IsResident, IsStaying}
 use Rattle.nm_set.specs.Tended.{TendsHas, TendsInsert, TendsDelete}
-use Rattle.nm_set_c.specs.Outcomes.{of_answer, of_finish, of_staying}
+use Rattle.nm_set_c.specs.Outcomes.{of_answer, of_finished, of_staying}
 use Rattle.nm_set_c.specs.declared.outcome.Outcome.{Outcome}
 use Rattle.nm_set_c.specs.declared.outcome.Outcome.TheVariants as outcome
 use Rattle.nm_set_c.specs.declared.workers.Ledger.{Ledger}
@@ -52,7 +52,7 @@ DoesDelete tries k m n o = OfKey k (Answers (LeavesDelete m.board.layout.nodes t
 
 pub record DoesFinish (tries : ℕ) (m n : Seated) (o : Outcome) : Type 0 where
   pub answer : Result Bool Lost
-  pub told : o ≡ of_finish answer
+  pub told : o ≡ of_finished answer
   pub board : n.board ≡ m.board
   pub did : LeavesFinish m.board.layout.nodes tries m.hand n.hand answer
 

@@ -1,6 +1,6 @@
 //! The end of a set, by its own handle or by that of its last worker.
 ghost use Rattle.nm_set_c.specs.Handles.{held_by};
-ghost use Rattle.nm_set_c.specs.Outcomes.{Tells};
+ghost use Rattle.nm_set_c.specs.Outcomes.{IsCodeOf};
 ghost use Rattle.nm_set_c.specs.Sets.{EndsHandle, EndsOwner, EndsByHandle, EndsByOwner};
 
 use crate::handle::Handle;
@@ -15,7 +15,7 @@ use std::mem::replace;
 /// `Closed`, `InUse`, `Kind`.
 #[unsafe(no_mangle)]
 pub extern "C" fn nm_set_close(alloc: Global, set: &mut Handle) -> i32
-    ensures { Tells (EndsHandle (held_by set.old) (held_by set.new)) result }
+    ensures { IsCodeOf (EndsHandle (held_by set.old) (held_by set.new)) result }
 {
     let mut owner = match set.claim_soon(alloc) {
         Ok(owner) => owner,
@@ -48,7 +48,7 @@ fn end(owner: Owner) -> (Owner, Outcome)
 /// owns the set from then on, and only `nm_set_close` goes on. `Closed`, `InUse`, `Kind`.
 #[unsafe(no_mangle)]
 pub extern "C" fn nm_worker_end(alloc: Global, worker: &mut Handle) -> i32
-    ensures { Tells (EndsByHandle (held_by worker.old) (held_by worker.new)) result }
+    ensures { IsCodeOf (EndsByHandle (held_by worker.old) (held_by worker.new)) result }
 {
     let mut owner = match worker.claim(alloc) {
         Ok(owner) => owner,

@@ -3,7 +3,7 @@
 
 ghost use Rattle.std.specs.Prelude.{◌≡◌, ⊤};
 ghost use Rattle.nm_set_c.specs.Handles.{held_by};
-ghost use Rattle.nm_set_c.specs.Outcomes.{Tells};
+ghost use Rattle.nm_set_c.specs.Outcomes.{IsCodeOf};
 ghost use Rattle.nm_set_c.specs.Owners.{OfWorker};
 ghost use Rattle.nm_set_c.specs.Workers.{DoesPin, DoesUnpin, DoesAdvance, DoesBehind, DoesCollect};
 
@@ -22,7 +22,7 @@ pub extern "C" fn nm_worker_pin(
     tries: u32,
     epoch: &mut u64,
 ) -> i32
-    ensures { Tells (OfWorker (DoesPin tries epoch.old epoch.new) (epoch.new ≡ epoch.old)
+    ensures { IsCodeOf (OfWorker (DoesPin tries epoch.old epoch.new) (epoch.new ≡ epoch.old)
         (held_by worker.old) (held_by worker.new)) result }
 {
     let mut owner = match worker.claim(alloc) {
@@ -58,7 +58,7 @@ fn pin(member: &mut Member, tries: u32, epoch: &mut u64) -> Outcome
 /// `Kind`.
 #[unsafe(no_mangle)]
 pub extern "C" fn nm_worker_unpin(alloc: Global, worker: &mut Handle) -> i32
-    ensures { Tells (OfWorker (DoesUnpin) ⊤ (held_by worker.old) (held_by worker.new)) result }
+    ensures { IsCodeOf (OfWorker (DoesUnpin) ⊤ (held_by worker.old) (held_by worker.new)) result }
 {
     let mut owner = match worker.claim(alloc) {
         Ok(owner) => owner,
@@ -91,7 +91,7 @@ pub extern "C" fn nm_worker_advance(
     epoch: &mut u64,
     behind: &mut u32,
 ) -> i32
-    ensures { Tells (OfWorker (DoesAdvance epoch.old epoch.new behind.old behind.new)
+    ensures { IsCodeOf (OfWorker (DoesAdvance epoch.old epoch.new behind.old behind.new)
         ((epoch.new ≡ epoch.old) × (behind.new ≡ behind.old)) (held_by worker.old)
         (held_by worker.new)) result }
 {
@@ -141,7 +141,7 @@ pub extern "C" fn nm_worker_behind(
     epoch: &mut u64,
     mask: &mut u64,
 ) -> i32
-    ensures { Tells (OfWorker (DoesBehind epoch.new mask.new)
+    ensures { IsCodeOf (OfWorker (DoesBehind epoch.new mask.new)
         ((epoch.new ≡ epoch.old) × (mask.new ≡ mask.old)) (held_by worker.old) (held_by worker.new))
         result }
 {
@@ -175,7 +175,7 @@ pub extern "C" fn nm_worker_collect(
     epoch: &mut u64,
     freed: &mut u64,
 ) -> i32
-    ensures { Tells (OfWorker (DoesCollect epoch.new freed.new)
+    ensures { IsCodeOf (OfWorker (DoesCollect epoch.new freed.new)
         ((epoch.new ≡ epoch.old) × (freed.new ≡ freed.old)) (held_by worker.old)
         (held_by worker.new)) result }
 {

@@ -3,7 +3,7 @@
 
 ghost use Rattle.std.specs.Prelude.{◌≡◌, ⊤};
 ghost use Rattle.nm_set_c.specs.Handles.{held_by};
-ghost use Rattle.nm_set_c.specs.Outcomes.{Tells};
+ghost use Rattle.nm_set_c.specs.Outcomes.{IsCodeOf};
 ghost use Rattle.nm_set_c.specs.Owners.{OfWorker};
 ghost use Rattle.nm_set_c.specs.Workers.{DoesHas, DoesInsert, DoesDelete, DoesFinish};
 
@@ -18,7 +18,7 @@ use std::alloc::Global;
 /// `Held`, `NoMemory`; `Closed`, `InUse`, `Kind`.
 #[unsafe(no_mangle)]
 pub extern "C" fn nm_worker_has(alloc: Global, worker: &mut Handle, key: u64, tries: u32) -> i32
-    ensures { Tells (OfWorker (DoesHas tries key) ⊤ (held_by worker.old) (held_by worker.new))
+    ensures { IsCodeOf (OfWorker (DoesHas tries key) ⊤ (held_by worker.old) (held_by worker.new))
         result }
 {
     let mut owner = match worker.claim(alloc) {
@@ -49,7 +49,7 @@ fn has(member: &mut Member, key: u64, tries: u32) -> Outcome
 /// `nm_set`. `Key`, `Busy`, `Full`, `Pending`, `Held`, `NoMemory`; `Closed`, `InUse`, `Kind`.
 #[unsafe(no_mangle)]
 pub extern "C" fn nm_worker_insert(alloc: Global, worker: &mut Handle, key: u64, tries: u32) -> i32
-    ensures { Tells (OfWorker (DoesInsert tries key) ⊤ (held_by worker.old) (held_by worker.new))
+    ensures { IsCodeOf (OfWorker (DoesInsert tries key) ⊤ (held_by worker.old) (held_by worker.new))
         result }
 {
     let mut owner = match worker.claim(alloc) {
@@ -80,7 +80,7 @@ fn insert(member: &mut Member, key: u64, tries: u32) -> Outcome
 /// `nm_set`. `Key`, `Busy`, `Unfinished`, `Pending`, `Held`, `NoMemory`; `Closed`, `InUse`, `Kind`.
 #[unsafe(no_mangle)]
 pub extern "C" fn nm_worker_delete(alloc: Global, worker: &mut Handle, key: u64, tries: u32) -> i32
-    ensures { Tells (OfWorker (DoesDelete tries key) ⊤ (held_by worker.old) (held_by worker.new))
+    ensures { IsCodeOf (OfWorker (DoesDelete tries key) ⊤ (held_by worker.old) (held_by worker.new))
         result }
 {
     let mut owner = match worker.claim(alloc) {
@@ -112,7 +112,7 @@ fn delete(member: &mut Member, key: u64, tries: u32) -> Outcome
 /// `InUse`, `Kind`.
 #[unsafe(no_mangle)]
 pub extern "C" fn nm_worker_finish(alloc: Global, worker: &mut Handle, tries: u32) -> i32
-    ensures { Tells (OfWorker (DoesFinish tries) ⊤ (held_by worker.old) (held_by worker.new))
+    ensures { IsCodeOf (OfWorker (DoesFinish tries) ⊤ (held_by worker.old) (held_by worker.new))
         result }
 {
     let mut owner = match worker.claim(alloc) {

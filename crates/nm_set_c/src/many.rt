@@ -5,8 +5,8 @@ ghost use Rattle.std.specs.Prelude.{◌≡◌, length, map, IfOk, IfErr};
 ghost use Rattle.nm_calls.specs.InTurns.{key_of};
 ghost use Rattle.nm_set.specs.InTurns.{AskedMany};
 ghost use Rattle.nm_set_c.specs.Handles.{held_by};
-ghost use Rattle.nm_set_c.specs.Lookups.{AreKeys, DoesHasMany, IsUnasked, lookup_of, number_of};
-ghost use Rattle.nm_set_c.specs.Outcomes.{Tells};
+ghost use Rattle.nm_set_c.specs.Lookups.{AreKeys, DoesHasMany, IsUnasked, lookup_of, key_looked_up};
+ghost use Rattle.nm_set_c.specs.Outcomes.{IsCodeOf};
 ghost use Rattle.nm_set_c.specs.Owners.{OfWorker};
 
 use crate::handle::Handle;
@@ -36,7 +36,7 @@ pub extern "C" fn nm_worker_has_many(
     lookups: &mut [Lookup],
     tries: u32,
 ) -> i32
-    ensures { Tells (OfWorker (DoesHasMany tries lookups.old lookups.new)
+    ensures { IsCodeOf (OfWorker (DoesHasMany tries lookups.old lookups.new)
         (lookups.new ≡ lookups.old) (held_by worker.old) (held_by worker.new)) result }
 {
     let mut owner = match worker.claim(alloc) {
@@ -78,7 +78,7 @@ fn ask(member: &mut Member, queries: &mut Vec<Query>, tries: u32) -> Result<(), 
 
 /// A query of each of these keys.
 fn queries_of(alloc: Global, lookups: &[Lookup]) -> Result<Vec<Query>, Outcome>
-    ensures keys { IfOk result (λ v. map key_of v.items ≡ map number_of lookups.now) }
+    ensures keys { IfOk result (λ v. map key_of v.items ≡ map key_looked_up lookups.now) }
     ensures unasked { IfErr result (λ o. IsUnasked lookups.now o) }
 {
     let Ok(mut queries) = Vec::with_capacity(alloc, lookups.len()) else {

@@ -4,7 +4,7 @@
 ghost use Rattle.std.specs.Prelude.{◌≡◌};
 ghost use Rattle.nm_set_c.specs.Handles.{held_by};
 ghost use Rattle.nm_set_c.specs.NextKeys.{DoesNext};
-ghost use Rattle.nm_set_c.specs.Outcomes.{Tells};
+ghost use Rattle.nm_set_c.specs.Outcomes.{IsCodeOf};
 ghost use Rattle.nm_set_c.specs.Owners.{OfWorker};
 
 use crate::handle::Handle;
@@ -25,7 +25,7 @@ pub extern "C" fn nm_worker_next(
     tries: u32,
     found: &mut u64,
 ) -> i32
-    ensures { Tells (OfWorker (DoesNext tries key found.old found.new) (found.new ≡ found.old)
+    ensures { IsCodeOf (OfWorker (DoesNext tries key found.old found.new) (found.new ≡ found.old)
         (held_by worker.old) (held_by worker.new)) result }
 {
     let mut owner = match worker.claim(alloc) {

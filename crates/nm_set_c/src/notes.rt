@@ -5,7 +5,7 @@
 ghost use Rattle.std.specs.Prelude.{◌≡◌};
 ghost use Rattle.nm_set_c.specs.Handles.{held_by};
 ghost use Rattle.nm_set_c.specs.Notes.{DoesPost, DoesRead};
-ghost use Rattle.nm_set_c.specs.Outcomes.{Tells};
+ghost use Rattle.nm_set_c.specs.Outcomes.{IsCodeOf};
 ghost use Rattle.nm_set_c.specs.Owners.{OfWorker};
 
 use crate::handle::Handle;
@@ -24,7 +24,7 @@ pub extern "C" fn nm_worker_post(
     links: &mut u64,
     flags: &mut u64,
 ) -> i32
-    ensures { Tells (OfWorker (DoesPost links.old links.new flags.old flags.new)
+    ensures { IsCodeOf (OfWorker (DoesPost links.old links.new flags.old flags.new)
         ((links.new ≡ links.old) × (flags.new ≡ flags.old)) (held_by worker.old)
         (held_by worker.new)) result }
 {
@@ -64,7 +64,7 @@ pub extern "C" fn nm_worker_read(
     links: &mut u64,
     flags: &mut u64,
 ) -> i32
-    ensures { Tells (OfWorker (DoesRead number links.old links.new flags.old flags.new)
+    ensures { IsCodeOf (OfWorker (DoesRead number links.old links.new flags.old flags.new)
         ((links.new ≡ links.old) × (flags.new ≡ flags.old)) (held_by worker.old)
         (held_by worker.new)) result }
 {

@@ -3,7 +3,7 @@
 
 ghost use Rattle.std.specs.Prelude.{◌≡◌};
 ghost use Rattle.nm_set_c.specs.Handles.{held_by};
-ghost use Rattle.nm_set_c.specs.Outcomes.{Tells};
+ghost use Rattle.nm_set_c.specs.Outcomes.{IsCodeOf};
 ghost use Rattle.nm_set_c.specs.Owners.{OfReport};
 ghost use Rattle.nm_set_c.specs.Reports.{TellsSlots, TellsKeys, TellsKey, TellsQueue, TakesOldest};
 
@@ -34,7 +34,7 @@ pub extern "C" fn nm_report_slots(
     free: &mut u32,
     reached: &mut u32,
 ) -> i32
-    ensures { Tells (OfReport (TellsSlots free.new reached.new)
+    ensures { IsCodeOf (OfReport (TellsSlots free.new reached.new)
         ((free.new ≡ free.old) × (reached.new ≡ reached.old)) (held_by report.old)
         (held_by report.new)) result }
 {
@@ -61,7 +61,7 @@ fn slots(report: &mut Report, free: &mut u32, reached: &mut u32) -> Outcome
 /// How many keys the set had: `Done`. `Closed`, `InUse`, `Kind`.
 #[unsafe(no_mangle)]
 pub extern "C" fn nm_report_keys(alloc: Global, report: &mut Handle, count: &mut u64) -> i32
-    ensures { Tells (OfReport (TellsKeys count.new) (count.new ≡ count.old) (held_by report.old)
+    ensures { IsCodeOf (OfReport (TellsKeys count.new) (count.new ≡ count.old) (held_by report.old)
         (held_by report.new)) result }
 {
     let mut owner = match report.claim(alloc) {
@@ -92,7 +92,7 @@ pub extern "C" fn nm_report_key(
     index: u64,
     key: &mut u64,
 ) -> i32
-    ensures { Tells (OfReport (TellsKey index key.old key.new) (key.new ≡ key.old)
+    ensures { IsCodeOf (OfReport (TellsKey index key.old key.new) (key.new ≡ key.old)
         (held_by report.old) (held_by report.new)) result }
 {
     let mut owner = match report.claim(alloc) {
@@ -128,7 +128,7 @@ pub extern "C" fn nm_report_queue(
     worker: u32,
     nodes: &mut u64,
 ) -> i32
-    ensures { Tells (OfReport (TellsQueue worker nodes.old nodes.new) (nodes.new ≡ nodes.old)
+    ensures { IsCodeOf (OfReport (TellsQueue worker nodes.old nodes.new) (nodes.new ≡ nodes.old)
         (held_by report.old) (held_by report.new)) result }
 {
     let mut owner = match report.claim(alloc) {
@@ -164,7 +164,7 @@ pub extern "C" fn nm_report_waiting(
     worker: u32,
     waiting: &mut Waiting,
 ) -> i32
-    ensures { Tells (OfReport (TakesOldest worker waiting.old waiting.new)
+    ensures { IsCodeOf (OfReport (TakesOldest worker waiting.old waiting.new)
         (waiting.new ≡ waiting.old) (held_by report.old) (held_by report.new)) result }
 {
     let mut owner = match report.claim(alloc) {

@@ -3,8 +3,8 @@ ghost use Rattle.std.specs.Prelude.{◌≡◌, ◌⊎◌, None};
 ghost use Rattle.nm_pool.specs.declared.placement.Fit.TheVariants.{Lowest, Near};
 ghost use Rattle.nm_set_c.specs.Handles.{held_by};
 ghost use Rattle.nm_set_c.specs.Handles.Hold.{Closed, Open};
-ghost use Rattle.nm_set_c.specs.Outcomes.{Tells};
-ghost use Rattle.nm_set_c.specs.Sets.{MakesSet, Gives, Keeps, TakesWorker, IsNumbered, NumberFaults, Attaches, IsAny, AnyFaults, Misses, MissesOwned, GivesUp};
+ghost use Rattle.nm_set_c.specs.Outcomes.{IsCodeOf};
+ghost use Rattle.nm_set_c.specs.Sets.{MakesSet, GivesWorker, Keeps, TakesWorker, IsNumbered, NumberFaults, Attaches, IsAny, AnyFaults, Misses, MissesOwned, GivesUp};
 
 use crate::handle::Handle;
 use crate::outcome::Outcome;
@@ -17,7 +17,7 @@ use std::alloc::Global;
 /// handle is open; `Open`, `InUse`, `Nodes`, `Workers`, `NoMemory`.
 #[unsafe(no_mangle)]
 pub extern "C" fn nm_set_lowest(alloc: Global, set: &mut Handle, nodes: u32, workers: u32) -> i32
-    ensures { Tells (MakesSet Lowest nodes workers (held_by set.old) (held_by set.new)) result }
+    ensures { IsCodeOf (MakesSet Lowest nodes workers (held_by set.old) (held_by set.new)) result }
 {
     match set.reserve(alloc) {
         Ok(()) => {}
@@ -36,7 +36,7 @@ pub extern "C" fn nm_set_lowest(alloc: Global, set: &mut Handle, nodes: u32, wor
 /// `Set::near` of `nm_set`.
 #[unsafe(no_mangle)]
 pub extern "C" fn nm_set_near(alloc: Global, set: &mut Handle, nodes: u32, workers: u32) -> i32
-    ensures { Tells (MakesSet Near nodes workers (held_by set.old) (held_by set.new)) result }
+    ensures { IsCodeOf (MakesSet Near nodes workers (held_by set.old) (held_by set.new)) result }
 {
     match set.reserve(alloc) {
         Ok(()) => {}
@@ -83,7 +83,7 @@ pub extern "C" fn nm_set_worker(
     worker: &mut Handle,
     number: u32,
 ) -> i32
-    ensures worker { Tells (TakesWorker number (held_by set.old) (held_by worker.old)
+    ensures worker { IsCodeOf (TakesWorker number (held_by set.old) (held_by worker.old)
         (held_by worker.new)) result }
     ensures set { held_by set.new ≡ held_by set.old }
 {
@@ -104,7 +104,7 @@ pub extern "C" fn nm_set_worker(
 }
 
 fn member_of(owner: &Owner, number: u32) -> Result<Member, Outcome>
-    ensures { Gives (IsNumbered number) (NumberFaults number) owner.now result }
+    ensures { GivesWorker (IsNumbered number) (NumberFaults number) owner.now result }
 {
     let Owner::Set(set) = owner else {
         return Err(Outcome::Kind);
@@ -133,7 +133,7 @@ fn keep(alloc: Global, worker: &mut Handle, given: Result<Member, Outcome>) -> O
 /// `Set::attach` of `nm_set`. Else as `nm_set_worker`, but no `Number`.
 #[unsafe(no_mangle)]
 pub extern "C" fn nm_set_attach(alloc: Global, set: &mut Handle, worker: &mut Handle) -> i32
-    ensures worker { Tells (Attaches (held_by set.old) (held_by worker.old) (held_by worker.new))
+    ensures worker { IsCodeOf (Attaches (held_by set.old) (held_by worker.old) (held_by worker.new))
         result }
     ensures set { held_by set.new ≡ held_by set.old }
 {
@@ -154,7 +154,7 @@ pub extern "C" fn nm_set_attach(alloc: Global, set: &mut Handle, worker: &mut Ha
 }
 
 fn any_of(owner: &Owner) -> Result<Member, Outcome>
-    ensures { Gives IsAny AnyFaults owner.now result }
+    ensures { GivesWorker IsAny AnyFaults owner.now result }
 {
     let Owner::Set(set) = owner else {
         return Err(Outcome::Kind);
@@ -169,7 +169,7 @@ fn any_of(owner: &Owner) -> Result<Member, Outcome>
 /// `Set::is_away` of `nm_set`. `Number`, `Closing`; `Closed`, `InUse`, `Kind`.
 #[unsafe(no_mangle)]
 pub extern "C" fn nm_set_away(alloc: Global, set: &mut Handle, number: u32) -> i32
-    ensures told { Tells (Misses number (held_by set.old)) result }
+    ensures told { IsCodeOf (Misses number (held_by set.old)) result }
     ensures set { held_by set.new ≡ held_by set.old }
 {
     let owner = match set.claim_soon(alloc) {
@@ -198,7 +198,7 @@ fn is_away(owner: &Owner, number: u32) -> Outcome
 /// forgotten. `Done`; `Closed`, `InUse`.
 #[unsafe(no_mangle)]
 pub extern "C" fn nm_drop(alloc: Global, handle: &mut Handle) -> i32
-    ensures { Tells (GivesUp (held_by handle.old) (held_by handle.new)) result }
+    ensures { IsCodeOf (GivesUp (held_by handle.old) (held_by handle.new)) result }
 {
     let owner = match handle.claim(alloc) {
         Ok(owner) => owner,

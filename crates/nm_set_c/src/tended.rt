@@ -3,7 +3,7 @@
 
 ghost use Rattle.std.specs.Prelude.{◌≡◌, ⊤};
 ghost use Rattle.nm_set_c.specs.Handles.{held_by};
-ghost use Rattle.nm_set_c.specs.Outcomes.{Tells};
+ghost use Rattle.nm_set_c.specs.Outcomes.{IsCodeOf};
 ghost use Rattle.nm_set_c.specs.Owners.{OfWorker};
 ghost use Rattle.nm_set_c.specs.Workers.{DoesContains, DoesAdd, DoesRemove};
 
@@ -23,7 +23,7 @@ pub extern "C" fn nm_worker_contains(
     key: u64,
     habit: &Habit,
 ) -> i32
-    ensures { Tells (OfWorker (DoesContains habit.now key) ⊤ (held_by worker.old)
+    ensures { IsCodeOf (OfWorker (DoesContains habit.now key) ⊤ (held_by worker.old)
         (held_by worker.new)) result }
 {
     let mut owner = match worker.claim(alloc) {
@@ -54,8 +54,8 @@ fn contains(member: &mut Member, key: u64, habit: &Habit) -> Outcome
 /// `Key`, `Busy`, `Full`, `Pending`, `Held`, `NoMemory`; `Closed`, `InUse`, `Kind`.
 #[unsafe(no_mangle)]
 pub extern "C" fn nm_worker_add(alloc: Global, worker: &mut Handle, key: u64, habit: &Habit) -> i32
-    ensures { Tells (OfWorker (DoesAdd habit.now key) ⊤ (held_by worker.old) (held_by worker.new))
-        result }
+    ensures { IsCodeOf (OfWorker (DoesAdd habit.now key) ⊤ (held_by worker.old)
+        (held_by worker.new)) result }
 {
     let mut owner = match worker.claim(alloc) {
         Ok(owner) => owner,
@@ -90,7 +90,7 @@ pub extern "C" fn nm_worker_remove(
     key: u64,
     habit: &Habit,
 ) -> i32
-    ensures { Tells (OfWorker (DoesRemove habit.now key) ⊤ (held_by worker.old)
+    ensures { IsCodeOf (OfWorker (DoesRemove habit.now key) ⊤ (held_by worker.old)
         (held_by worker.new)) result }
 {
     let mut owner = match worker.claim(alloc) {

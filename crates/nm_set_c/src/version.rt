@@ -1,6 +1,6 @@
 //! The library's version.
 ghost use Rattle.std.specs.Prelude.{◌≡◌};
-ghost use Rattle.nm_set_c.specs.Outcomes.{Tells};
+ghost use Rattle.nm_set_c.specs.Outcomes.{IsCodeOf};
 
 use crate::outcome::Outcome;
 
@@ -15,7 +15,7 @@ const PATCH: u32 = 0;
 /// compiled with: `Done`.
 #[unsafe(no_mangle)]
 pub extern "C" fn nm_set_version(major: &mut u32, minor: &mut u32, patch: &mut u32) -> i32
-    ensures { Tells (λ o. (o ≡ Outcome.Done) × (major.new ≡ MAJOR) × (minor.new ≡ MINOR)
+    ensures { IsCodeOf (λ o. (o ≡ Outcome.Done) × (major.new ≡ MAJOR) × (minor.new ≡ MINOR)
         × (patch.new ≡ PATCH)) result }
 {
     *major = MAJOR;

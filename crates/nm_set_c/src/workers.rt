@@ -4,7 +4,7 @@
 ghost use Rattle.std.specs.Prelude.{◌≡◌, ⊤};
 ghost use Rattle.nm_tree.specs.Workers.{waiting_in};
 ghost use Rattle.nm_set_c.specs.Handles.{held_by};
-ghost use Rattle.nm_set_c.specs.Outcomes.{Tells};
+ghost use Rattle.nm_set_c.specs.Outcomes.{IsCodeOf};
 ghost use Rattle.nm_set_c.specs.Handles.Hold.{Open};
 ghost use Rattle.nm_set_c.specs.Owners.{OfWorker, OwnsWorker};
 ghost use Rattle.nm_set_c.specs.Workers.{DoesResign, TellsNumber, TellsOption, TellsLedger, pending_key};
@@ -37,7 +37,7 @@ pub struct Ledger {
 /// The worker's number: `Done`. `Closed`, `InUse`, `Kind`.
 #[unsafe(no_mangle)]
 pub extern "C" fn nm_worker_number(alloc: Global, worker: &mut Handle, number: &mut u32) -> i32
-    ensures { Tells (OfWorker (λ m. TellsNumber m.hand.pass.view.number number.new m)
+    ensures { IsCodeOf (OfWorker (λ m. TellsNumber m.hand.pass.view.number number.new m)
         (number.new ≡ number.old) (held_by worker.old) (held_by worker.new)) result }
 {
     let mut owner = match worker.claim(alloc) {
@@ -62,7 +62,7 @@ fn number_of(member: &mut Member, number: &mut u32) -> Outcome
 /// How many nodes wait in the queues that the worker holds: `Done`. `Closed`, `InUse`, `Kind`.
 #[unsafe(no_mangle)]
 pub extern "C" fn nm_worker_queue_len(alloc: Global, worker: &mut Handle, nodes: &mut u64) -> i32
-    ensures { Tells (OfWorker (λ m. TellsNumber (waiting_in m.hand.queues) nodes.new m)
+    ensures { IsCodeOf (OfWorker (λ m. TellsNumber (waiting_in m.hand.queues) nodes.new m)
         (nodes.new ≡ nodes.old) (held_by worker.old) (held_by worker.new)) result }
 {
     let mut owner = match worker.claim(alloc) {
@@ -89,7 +89,7 @@ fn queue_len(member: &mut Member, nodes: &mut u64) -> Outcome
 /// `Closed`, `InUse`, `Kind`.
 #[unsafe(no_mangle)]
 pub extern "C" fn nm_worker_pending(alloc: Global, worker: &mut Handle, key: &mut u64) -> i32
-    ensures { Tells (OfWorker (λ m. TellsOption (pending_key m.hand) key.old key.new m)
+    ensures { IsCodeOf (OfWorker (λ m. TellsOption (pending_key m.hand) key.old key.new m)
         (key.new ≡ key.old) (held_by worker.old) (held_by worker.new)) result }
 {
     let mut owner = match worker.claim(alloc) {
@@ -121,7 +121,7 @@ fn pending(member: &mut Member, key: &mut u64) -> Outcome
 /// `Closed`, `InUse`, `Kind`.
 #[unsafe(no_mangle)]
 pub extern "C" fn nm_worker_held(alloc: Global, worker: &mut Handle, epoch: &mut u64) -> i32
-    ensures { Tells (OfWorker (λ m. TellsOption m.hand.held epoch.old epoch.new m)
+    ensures { IsCodeOf (OfWorker (λ m. TellsOption m.hand.held epoch.old epoch.new m)
         (epoch.new ≡ epoch.old) (held_by worker.old) (held_by worker.new)) result }
 {
     let mut owner = match worker.claim(alloc) {
@@ -151,7 +151,7 @@ fn held(member: &mut Member, epoch: &mut u64) -> Outcome
 /// What this worker has won, and what became of what it cut off: `Done`. `Closed`, `InUse`, `Kind`.
 #[unsafe(no_mangle)]
 pub extern "C" fn nm_worker_ledger(alloc: Global, worker: &mut Handle, ledger: &mut Ledger) -> i32
-    ensures { Tells (OfWorker (TellsLedger ledger.new) (ledger.new ≡ ledger.old)
+    ensures { IsCodeOf (OfWorker (TellsLedger ledger.new) (ledger.new ≡ ledger.old)
         (held_by worker.old) (held_by worker.new)) result }
 {
     let mut owner = match worker.claim(alloc) {
@@ -187,7 +187,7 @@ fn ledger_of(member: &mut Member, ledger: &mut Ledger) -> Outcome
 #[tactic(auto, using(crate::proofs::Owners::refused_worker, crate::proofs::Owners::owned_worker))]
 #[unsafe(no_mangle)]
 pub extern "C" fn nm_worker_resign(alloc: Global, worker: &mut Handle, leaver: u32) -> i32
-    ensures { Tells (OfWorker (DoesResign leaver) ⊤ (held_by worker.old) (held_by worker.new))
+    ensures { IsCodeOf (OfWorker (DoesResign leaver) ⊤ (held_by worker.old) (held_by worker.new))
         result }
 {
     let mut owner = match worker.claim(alloc) {

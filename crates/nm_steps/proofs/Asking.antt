@@ -26,7 +26,7 @@ use Rattle.nm_order.specs.Logs.{known_by, IsLogOf}
 use Rattle.nm_order.proofs.HeldSlots.{hands_are_apart}
 use Rattle.nm_order.proofs.PartsOfRuns.{logs_tell}
 use Rattle.nm_order.proofs.OrderedLaws.{IsOrdered, each_ordered}
-use Rattle.nm_words.specs.Packing.{Fits, InRange, StateFits, StateIsInRange, NullEdgesAreUnmarked, word_at, field_of, touched}
+use Rattle.nm_words.specs.Packing.{Fits, InRange, StateFits, StateIsInRange, NullEdgesAreUnmarked, word_at, field_of, touched_field}
 use Rattle.nm_words.proofs.PackedEvents.{each_state_fits}
 use Rattle.nm_words.proofs.PackedReads.{each_word_is_its_field}
 use Rattle.nm_edge.proofs.Packing.{unpacked_word}
@@ -142,7 +142,7 @@ module _ (L : Layout) (w : ℕ) (log : List Entry) where
 -- ---- words of edges
 
 -- where an edge's word is found, it is that of an edge
-pub finds_edge : (L : Layout) (w : ℕ) (log : List Entry) (e : Event) (n x : ℕ) (side : Side) → IsFound L w log e n → is_store e ≡ false → touched w e ≡ at_edge x side → IsSlot L x → is_word n ≡ true
+pub finds_edge : (L : Layout) (w : ℕ) (log : List Entry) (e : Event) (n x : ℕ) (side : Side) → IsFound L w log e n → is_store e ≡ false → touched_field w e ≡ at_edge x side → IsSlot L x → is_word n ≡ true
 finds_edge L w log e n x side f loads at slot = is_some_true (is_word n) (edge_in n) (edge s.memory x side) (ap unpacked found_is ∙ unpacked_word (edge s.memory x side) marks (let size = range.edges x side in let most = f.fits.most in let below : (edge s.memory x side).slot < 2 ^ 32 = omega (arith, size, most) in below))
   where
     enough : 5 ≤ L.nodes
@@ -181,7 +181,7 @@ module _ (L : Layout) (w : ℕ) (log : List Entry) (own : w < L.workers) where
   of_node s (EdgeOn side) slot = slot
   of_node s Birth slot = slot
 
-  pub within : (e : Event) → May L w log e → IsField L (touched w e)
+  pub within : (e : Event) → May L w log e → IsField L (touched_field w e)
   within Sight may = tt
   within (SightFor op key) may = tt
   within Announce may = own

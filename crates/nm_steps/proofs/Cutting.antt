@@ -20,7 +20,7 @@ use Rattle.nm_order.specs.Logs.{part_of, known_by}
 use Rattle.nm_words.specs.Packing.{words_of}
 use Rattle.nm_steps.specs.declared.view.Held.{Held}
 use Rattle.nm_steps.specs.declared.view.View.{View}
-use Rattle.nm_steps.specs.Rules.{held, holdings, knowledge, stands, once_below, LogsAre, IsShown, LagsBehind, Runs, Kept, numbers_from, viewing, everybody, own_alone, the_others, nobody, passing, informed, joining, noted_down}
+use Rattle.nm_steps.specs.Rules.{held_log, holdings, knowledge, stands, once_below, LogsAre, IsShown, LagsBehind, Runs, Kept, numbers_from, viewing, everybody, own_alone, the_others, nobody, passing, informed, joining_view, noted_down}
 use Rattle.nm_steps.specs.Steps.{HasEmptyHands, Board, Stand, fresh_view, AreFresh, Ends}
 use Rattle.nm_steps.proofs.Counts.{sum_after, at_most_sum, both_at_most_sum}
 use Rattle.nm_steps.proofs.Growing.{goes_on_itself, goes_on_from_nothing, goes_on_by, behind_by}
@@ -54,7 +54,7 @@ times-cons w h hs = sum_by-cons (λ (x : Held). cond (eqb w x.number) 1 0) h hs
 
 once_between : (w k n : ℕ) → times w (numbers_from k n) ≡ cond (ltb w k) 0 (cond (ltb w (k + n)) 1 0)
 once_between w k zero = grind (arith, nat_tests)
-once_between w k (suc n) = let e = times-cons w (held k []) (numbers_from (suc k) n) in let r = once_between w (suc k) n in grind (arith, nat_tests, e, r)
+once_between w k (suc n) = let e = times-cons w (held_log k []) (numbers_from (suc k) n) in let r = once_between w (suc k) n in grind (arith, nat_tests, e, r)
 
 pub opens : (L : Layout) (words : List ℕ) → IsLayout L → words ≡ words_of L (memory.opening L) → Kept L (opening words [] (everybody L))
 unfolding after_in trace_in
@@ -180,7 +180,7 @@ deals L id k v is below =
       subst (LogsAre v.layout L t) (sym (live (own_alone v) alive)) (b.0, b.1, tt),
     ))
     (λ h. ((λ _. subst (λ (x : View). (knowledge x).gone ≡ false) (sym (left_others L k v is below)) (fresh_here L (k + 1) (L.workers - (k + 1)))), h))
-    (λ w. omega (arith, ap (times w) (held_by v.layout v.others), ap (times w) (live (own_alone v) alive), ap (times w) (live v alive), times-cons w (held v.number v.log) v.others, times-cons w (held v.number v.log) []))
+    (λ w. omega (arith, ap (times w) (held_by v.layout v.others), ap (times w) (live (own_alone v) alive), ap (times w) (live v alive), times-cons w (held_log v.number v.log) v.others, times-cons w (held_log v.number v.log) []))
     (λ ts b. (nothing_seen v.layout v.others ts, record { past = b.past; heard = b.heard }))
   where
     nothing_seen : (l : Layout) (hs : List Held) (ts : List (ℕ × Event)) → LagsBehind ts (viewing l hs)
@@ -210,7 +210,7 @@ hears L id v other w spent s k at apart at' = record {
     was = sym (set_else s.views id other (informed v w) apart) ∙ at'
 
     no_log : (n : ℕ) → stands n w ≡ 0
-    no_log n = ap (λ (b : Bool). times n (cond b [] (held w.number w.log ∷ w.others))) spent
+    no_log n = ap (λ (b : Bool). times n (cond b [] (held_log w.number w.log ∷ w.others))) spent
 
     each : (P : View → Type 0) → P (informed v w) → P nobody → ((j : ℕ) (u : View) → get_elem? s.views j ≡ some u → P u)
         → (j : ℕ) (u : View) → get_elem? (set (set s.views id (informed v w)) other nobody) j ≡ some u → P u
@@ -228,10 +228,10 @@ module _ (L : Layout) (id : ℕ) (v : View) (other : ℕ) (w : View) (alive : v.
   abbrev before : List Turn
   before = trace_in (ordered L) k.turns
 
-  first_log : LogsAre v.layout L before (held v.number v.log ∷ v.others)
+  first_log : LogsAre v.layout L before (held_log v.number v.log ∷ v.others)
   first_log = subst (LogsAre v.layout L before) (live v alive) (k.shown id v at)
 
-  second_log : LogsAre w.layout L before (held w.number w.log ∷ w.others)
+  second_log : LogsAre w.layout L before (held_log w.number w.log ∷ w.others)
   second_log = subst (LogsAre w.layout L before) (live w alive') (k.shown other w at')
 
   -- how often a number stands in both together
@@ -242,7 +242,7 @@ module _ (L : Layout) (id : ℕ) (v : View) (other : ℕ) (w : View) (alive : v.
   own_counts = (stands_live v alive, stands_live w alive')
 
   cross : (n : ℕ) → (stands n v ≡ cond (eqb n v.number) 1 0 + times n v.others) × (stands n w ≡ cond (eqb n w.number) 1 0 + times n w.others)
-  cross n = (ap (times n) (live v alive) ∙ times-cons n (held v.number v.log) v.others, ap (times n) (live w alive') ∙ times-cons n (held w.number w.log) w.others)
+  cross n = (ap (times n) (live v alive) ∙ times-cons n (held_log v.number v.log) v.others, ap (times n) (live w alive') ∙ times-cons n (held_log w.number w.log) w.others)
 
   ones : (once_below v.number L.workers ≤ 1) × (once_below w.number L.workers ≤ 1)
   ones = ((once_is v.number L.workers).0, (once_is w.number L.workers).0)
@@ -311,13 +311,13 @@ module _ (L : Layout) (id : ℕ) (v : View) (other : ℕ) (w : View) (alive : v.
         rec (let q : 0 + times v.number hs ≡ 0 = rw is at one in omega arith) (let q : 0 + times w.number hs ≡ 0 = rw too at two in omega arith),
       )
 
-  together : IsShown L (trace_in (ordered L) more) (joining v w)
+  together : IsShown L (trace_in (ordered L) more) (joining_view v w)
   together =
       let x = shares v.number in let y = shares w.number in let p = cross v.number in let q = cross w.number in
-      subst (LogsAre v.layout L (trace_in (ordered L) more)) (sym (live (joining v w) alive)) (
+      subst (LogsAre v.layout L (trace_in (ordered L) more)) (sym (live (joining_view v w) alive)) (
         first_log.0,
         ap (λ (l : List Entry). l ++ passing w ∷ []) first_log.1 ∙ sym heirs_part,
-        logs_both v.layout w.layout L (trace_in (ordered L) more) v.others (held w.number (w.log ++ passing w ∷ []) ∷ w.others) (first_log.0 ∙ sym second_log.0)
+        logs_both v.layout w.layout L (trace_in (ordered L) more) v.others (held_log w.number (w.log ++ passing w ∷ []) ∷ w.others) (first_log.0 ∙ sym second_log.0)
             (kept_by v.layout v.others (omega (arith, own_counts, ones)) (omega (arith, own_counts, ones)) first_log.2) (
               second_log.0,
               ap (λ (l : List Entry). l ++ passing w ∷ []) second_log.1 ∙ sym leavers_part,
@@ -332,28 +332,28 @@ module _ (L : Layout) (id : ℕ) (v : View) (other : ℕ) (w : View) (alive : v.
       (omega (arith, both_at_most_sum (stands w.number) s.views j other u w ne' is at', k.once w.number, own_counts.1, ones.1))
       (k.shown j u is)
 
-  counted : (n : ℕ) → stands n (joining v w) ≡ stands n v + stands n w
+  counted : (n : ℕ) → stands n (joining_view v w) ≡ stands n v + stands n w
   counted n = omega (
     arith,
     cross n,
-    ap (times n) (live (joining v w) alive),
-    times-cons n (held v.number (v.log ++ passing w ∷ [])) (v.others ++ held w.number (w.log ++ passing w ∷ []) ∷ w.others),
-    sum_by-append (λ (h : Held). cond (eqb n h.number) 1 0) v.others (held w.number (w.log ++ passing w ∷ []) ∷ w.others),
-    times-cons n (held w.number (w.log ++ passing w ∷ [])) w.others,
+    ap (times n) (live (joining_view v w) alive),
+    times-cons n (held_log v.number (v.log ++ passing w ∷ [])) (v.others ++ held_log w.number (w.log ++ passing w ∷ []) ∷ w.others),
+    sum_by-append (λ (h : Held). cond (eqb n h.number) 1 0) v.others (held_log w.number (w.log ++ passing w ∷ []) ∷ w.others),
+    times-cons n (held_log w.number (w.log ++ passing w ∷ [])) w.others,
   )
 
-  at'' : get_elem? (set s.views id (joining v w)) other ≡ some w
-  at'' = set_else s.views id other (joining v w) apart ∙ at'
+  at'' : get_elem? (set s.views id (joining_view v w)) other ≡ some w
+  at'' = set_else s.views id other (joining_view v w) apart ∙ at'
 
-  here_joined : IsHere (joining v w)
+  here_joined : IsHere (joining_view v w)
   here_joined e =
       ap (λ x. x.gone) (known_push v.number v.layout v.log (passing w))
       ∙ (gone_kept v.number (knowledge v) (Join w.number) reply (ne_eqb w.number v.number (λ same. differ (sym same))) ∙ k.here id v at alive)
 
-  behind_joined : LagsBehind more (joining v w)
+  behind_joined : LagsBehind more (joining_view v w)
   behind_joined = record { past = goes_on_by k.turns v.past (v.number, Join w.number) (k.lags id v at).past; heard = goes_on_by k.turns w.past (v.number, Join w.number) (k.lags other w at').past }
 
-  joint : Runs L s.words (set (set s.views id (joining v w)) other nobody)
+  joint : Runs L s.words (set (set s.views id (joining_view v w)) other nobody)
   joint = record {
     fits = k.fits;
     turns = more;
@@ -362,27 +362,27 @@ module _ (L : Layout) (id : ℕ) (v : View) (other : ℕ) (w : View) (alive : v.
     shown = λ j u is.
         ⊎_elim
         (λ (x : (j ≡ other) × (nobody ≡ u)). subst (IsShown L (trace_in (ordered L) more)) x.1 tt)
-        (λ (x : (j ≢ other) × (get_elem? (set s.views id (joining v w)) j ≡ some u)).
-        ⊎_elim (λ (y : (j ≡ id) × (joining v w ≡ u)). subst (IsShown L (trace_in (ordered L) more)) y.1 together) (λ (y : (j ≢ id) × (get_elem? s.views j ≡ some u)). elsewhere j u y.0 x.0 y.1) (at_set s.views id j (joining v w) u x.1))
-        (at_set (set s.views id (joining v w)) other j nobody u is);
+        (λ (x : (j ≢ other) × (get_elem? (set s.views id (joining_view v w)) j ≡ some u)).
+        ⊎_elim (λ (y : (j ≡ id) × (joining_view v w ≡ u)). subst (IsShown L (trace_in (ordered L) more)) y.1 together) (λ (y : (j ≢ id) × (get_elem? s.views j ≡ some u)). elsewhere j u y.0 x.0 y.1) (at_set s.views id j (joining_view v w) u x.1))
+        (at_set (set s.views id (joining_view v w)) other j nobody u is);
     here = λ j u is.
         ⊎_elim
         (λ (x : (j ≡ other) × (nobody ≡ u)). subst IsHere x.1 (λ e. absurd (true≢false e)))
-        (λ (x : (j ≢ other) × (get_elem? (set s.views id (joining v w)) j ≡ some u)).
-        ⊎_elim (λ (y : (j ≡ id) × (joining v w ≡ u)). subst IsHere y.1 here_joined) (λ (y : (j ≢ id) × (get_elem? s.views j ≡ some u)). k.here j u y.1) (at_set s.views id j (joining v w) u x.1))
-        (at_set (set s.views id (joining v w)) other j nobody u is);
-    once = λ n. omega (arith, sum_after (stands n) (set s.views id (joining v w)) other w nobody at'', sum_after (stands n) s.views id v (joining v w) at, counted n, k.once n);
+        (λ (x : (j ≢ other) × (get_elem? (set s.views id (joining_view v w)) j ≡ some u)).
+        ⊎_elim (λ (y : (j ≡ id) × (joining_view v w ≡ u)). subst IsHere y.1 here_joined) (λ (y : (j ≢ id) × (get_elem? s.views j ≡ some u)). k.here j u y.1) (at_set s.views id j (joining_view v w) u x.1))
+        (at_set (set s.views id (joining_view v w)) other j nobody u is);
+    once = λ n. omega (arith, sum_after (stands n) (set s.views id (joining_view v w)) other w nobody at'', sum_after (stands n) s.views id v (joining_view v w) at, counted n, k.once n);
     lags = λ j u is.
         ⊎_elim
         (λ (x : (j ≡ other) × (nobody ≡ u)). subst (LagsBehind more) x.1 (record { past = goes_on_from_nothing more; heard = goes_on_from_nothing more }))
-        (λ (x : (j ≢ other) × (get_elem? (set s.views id (joining v w)) j ≡ some u)).
-        ⊎_elim (λ (y : (j ≡ id) × (joining v w ≡ u)). subst (LagsBehind more) y.1 behind_joined) (λ (y : (j ≢ id) × (get_elem? s.views j ≡ some u)). behind_by k.turns (v.number, Join w.number) u (k.lags j u y.1)) (at_set s.views id j (joining v w) u x.1))
-        (at_set (set s.views id (joining v w)) other j nobody u is);
+        (λ (x : (j ≢ other) × (get_elem? (set s.views id (joining_view v w)) j ≡ some u)).
+        ⊎_elim (λ (y : (j ≡ id) × (joining_view v w ≡ u)). subst (LagsBehind more) y.1 behind_joined) (λ (y : (j ≢ id) × (get_elem? s.views j ≡ some u)). behind_by k.turns (v.number, Join w.number) u (k.lags j u y.1)) (at_set s.views id j (joining_view v w) u x.1))
+        (at_set (set s.views id (joining_view v w)) other j nobody u is);
   }
 
 -- the first stands for both, and the join is an event of both
-pub joins : (L : Layout) (id : ℕ) (v : View) (other : ℕ) (w : View) → v.spent ≡ false → w.spent ≡ false → HasEmptyHands (knowledge w) → Joins (Kept L) id v other w (joining v w) nobody
-joins L id v other w alive alive' hands s k at apart at' = joint L id v other w alive alive' hands s k at apart (sym (set_else s.views id other (joining v w) apart) ∙ at')
+pub joins : (L : Layout) (id : ℕ) (v : View) (other : ℕ) (w : View) → v.spent ≡ false → w.spent ≡ false → HasEmptyHands (knowledge w) → Joins (Kept L) id v other w (joining_view v w) nobody
+joins L id v other w alive alive' hands s k at apart at' = joint L id v other w alive alive' hands s k at apart (sym (set_else s.views id other (joining_view v w) apart) ∙ at')
 
 pub fresh_push : (b : Board) (k n : ℕ) (ps : List Stand) (p : Stand) → AreFresh b k ps → k + length ps ≡ n → p.table ≡ b.table → p.view ≡ fresh_view b.layout n → AreFresh b k (ps ++ p ∷ [])
 fresh_push b k n [] p a e t v = (t, v ∙ ap (fresh_view b.layout) (omega arith), tt)

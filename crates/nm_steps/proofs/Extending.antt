@@ -33,7 +33,7 @@ use Rattle.nm_order.specs.OwnBirths.{births_by}
 use Rattle.nm_order.proofs.LinkedBirths.{own_births_stand}
 use Rattle.nm_order.proofs.PartsOfRuns.{logs_tell, part_tells_search}
 use Rattle.nm_order.proofs.OrderedLaws.{IsOrdered, each_ordered}
-use Rattle.nm_words.specs.Packing.{words_of, word_at, touched, left_word, with_word, EventsTouchOneWord}
+use Rattle.nm_words.specs.Packing.{words_of, word_at, touched_field, left_word, with_word, EventsTouchOneWord}
 use Rattle.nm_words.specs.Told.{BirthsAreIn, told, BirthsAreKnown, RepliesAreTold}
 use Rattle.nm_words.proofs.PackedEvents.{each_event_touches_one_word}
 use Rattle.nm_words.proofs.PackedReplies.{each_reply_is_told}
@@ -163,27 +163,27 @@ module _ (L : Layout) (w : ℕ) (log : List Entry) (turns : List (ℕ × Event))
     accepted = both_none (refused c.state w e) (disorder_in c w e) no_refusal in_order
 
     abbrev found : ℕ
-    found = word_at L c.state.memory (touched w e)
+    found = word_at L c.state.memory (touched_field w e)
 
-    touching : IsField c.state.layout (touched w e) × (words_of c.state.layout (next c.state (w, e)).memory ≡ with_word c.state.layout c.state.memory (touched w e) (left_word c.state.layout (of c.state w) e (word_at c.state.layout c.state.memory (touched w e))))
+    touching : IsField c.state.layout (touched_field w e) × (words_of c.state.layout (next c.state (w, e)).memory ≡ with_word c.state.layout c.state.memory (touched_field w e) (left_word c.state.layout (of c.state w) e (word_at c.state.layout c.state.memory (touched_field w e))))
     touching = subst EventsTouchOneWord (sym o.leads) (each_event_touches_one_word L enough o.events) w e no_refusal
 
-    pub field : IsField L (touched w e)
-    field = subst (λ (l : Layout). IsField l (touched w e)) layout_is touching.0
+    pub field : IsField L (touched_field w e)
+    field = subst (λ (l : Layout). IsField l (touched_field w e)) layout_is touching.0
 
     -- the words after the event
-    pub words_after : words_of L (after_in (ordered L) (turns ++ (w, e) ∷ [])).state.memory ≡ with_word L c.state.memory (touched w e) (left_word L k e found)
+    pub words_after : words_of L (after_in (ordered L) (turns ++ (w, e) ∷ [])).state.memory ≡ with_word L c.state.memory (touched_field w e) (left_word L k e found)
     unfolding after_in
     words_after =
         ap (λ (d : Configuration). words_of L d.state.memory) (after_in-append (ordered L) turns ((w, e) ∷ []))
         ∙ (ap (λ (s : State). words_of L s.memory) (sym (allowed_state c (w, e) accepted))
-        ∙ (ap (λ (l : Layout). words_of l (next c.state (w, e)).memory) (sym layout_is) ∙ (touching.1 ∙ as_known (λ l x. with_word l c.state.memory (touched w e) (left_word l x e (word_at l c.state.memory (touched w e)))))))
+        ∙ (ap (λ (l : Layout). words_of l (next c.state (w, e)).memory) (sym layout_is) ∙ (touching.1 ∙ as_known (λ l x. with_word l c.state.memory (touched_field w e) (left_word l x e (word_at l c.state.memory (touched_field w e)))))))
 
     -- and its reply
     pub reply_is : reply_of c.state w e ≡ told L k (births_by L w log) e found
     reply_is =
         subst RepliesAreTold (sym o.leads) (each_reply_is_told L enough o.events) w e (births_by L w log) births_are_in no_refusal (holds_there (λ l x. BirthsAreKnown l x (births_by L w log) e) may.births)
-        ∙ as_known (λ l x. told l x (births_by L w log) e (word_at l c.state.memory (touched w e)))
+        ∙ as_known (λ l x. told l x (births_by L w log) e (word_at l c.state.memory (touched_field w e)))
 
     -- the trace of one turn more
     pub trace_after : trace_in (ordered L) (turns ++ (w, e) ∷ []) ≡ trace_in (ordered L) turns ++ record { worker = w; event = e; outcome = Ok (told L k (births_by L w log) e found) } ∷ []

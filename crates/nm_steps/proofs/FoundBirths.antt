@@ -10,13 +10,13 @@ use Rattle.nm_model.specs.Walks.{Entry}
 use Rattle.nm_model.specs.Ordered.{ordered, after_in}
 use Rattle.nm_laws.proofs.Reachable.{layout_kept}
 use Rattle.nm_order.proofs.OrderedLaws.{IsOrdered, each_ordered}
-use Rattle.nm_words.specs.Packing.{Fits, InRange, StateFits, StateIsInRange, word_at, touched}
+use Rattle.nm_words.specs.Packing.{Fits, InRange, StateFits, StateIsInRange, word_at, touched_field}
 use Rattle.nm_words.proofs.PackedEvents.{each_state_fits}
 use Rattle.nm_words.proofs.PackedReads.{each_word_is_its_field}
 use Rattle.nm_words.proofs.PackedSizes.{each_state_in_range}
 use Rattle.nm_steps.specs.Rules.{is_store, IsFound}
 
-pub finds_birth : (L : Layout) (w : ℕ) (log : List Entry) (e : Event) (n x : ℕ) → IsFound L w log e n → is_store e ≡ false → touched w e ≡ at_birth x → IsSlot L x → n ≤ last_number
+pub finds_birth : (L : Layout) (w : ℕ) (log : List Entry) (e : Event) (n x : ℕ) → IsFound L w log e n → is_store e ≡ false → touched_field w e ≡ at_birth x → IsSlot L x → n ≤ last_number
 finds_birth L w log e n x f loads at slot = let most = range.births x in let is = found_is in omega (arith, most, is)
   where
     enough : 5 ≤ L.nodes

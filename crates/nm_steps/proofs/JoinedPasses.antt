@@ -15,7 +15,7 @@ use Rattle.nm_model.specs.Learning.{learn, resigned, inheriting}
 use Rattle.nm_model.specs.Maps.{has}
 use Rattle.nm_order.specs.Hands.{IsPooled}
 use Rattle.nm_steps.specs.declared.view.View.{View}
-use Rattle.nm_steps.specs.Rules.{knowledge, joined, joining, passing, Extends}
+use Rattle.nm_steps.specs.Rules.{knowledge, joined, joining_view, passing, Extends}
 use Rattle.nm_steps.specs.Steps.{Tied, HasSeen}
 use Rattle.nm_steps.specs.Ties.{HasSeenBoth}
 use Rattle.nm_steps.proofs.Noting.{brief_is_noted}
@@ -27,7 +27,7 @@ unfolding learn
 drafts_stay w v k ls = cond_both (w == v) (resigned k) (inheriting k ls) (λ (x : Knowledge). x.drafts ≡ k.drafts) (λ _. refl) (λ _. refl)
 
 -- the seat after the join, and after the read behind it
-module _ (it mid after : Seat Unit View) (number : ℕ) (brief : Brief) (w : View) (tied : Tied it number brief) (me : mid.me ≡ (joining it.me.0 w, it.me.1)) (slots : after.me.1 ≡ mid.me.1) (both : HasSeenBoth mid.me.0 after.me.0) where
+module _ (it mid after : Seat Unit View) (number : ℕ) (brief : Brief) (w : View) (tied : Tied it number brief) (me : mid.me ≡ (joining_view it.me.0 w, it.me.1)) (slots : after.me.1 ≡ mid.me.1) (both : HasSeenBoth mid.me.0 after.me.0) where
   abbrev now : List (ℕ × Event)
   now = after.me.0.past
 

@@ -23,12 +23,12 @@ use Rattle.nm_model.specs.Walks.{Entry}
 use Rattle.nm_model.specs.Ordered.{ordered, after_in, trace_in}
 use Rattle.nm_order.specs.Logs.{takes_part, is_leaver, part_of, known_by}
 use Rattle.nm_order.specs.OwnBirths.{births_by}
-use Rattle.nm_words.specs.Packing.{words_of, word_at, touched, left_word}
+use Rattle.nm_words.specs.Packing.{words_of, word_at, touched_field, left_word}
 use Rattle.nm_words.specs.Told.{told}
 use Rattle.nm_steps.specs.declared.view.Held.{Held}
 use Rattle.nm_steps.specs.declared.view.View.{View}
-use Rattle.nm_steps.specs.Rules.{held, holdings, knowledge, known_births, stands, once_below, LogsAre, IsShown, LagsBehind, Runs, Kept, logged, is_store, IsFound, Did}
-use Rattle.nm_steps.specs.Steps.{May, IsReady, IsDone, Changes, IsBlind}
+use Rattle.nm_steps.specs.Rules.{held_log, holdings, knowledge, known_births, stands, once_below, LogsAre, IsShown, LagsBehind, Runs, Kept, logged, is_store, IsFound, Did}
+use Rattle.nm_steps.specs.Steps.{May, IsReadyFor, IsDone, Changes, IsBlind}
 use Rattle.nm_steps.proofs.Counts.{at_most_sum, both_at_most_sum, sum_after}
 use Rattle.nm_steps.proofs.Growing.{goes_on_itself, goes_on_by, behind_by}
 use Rattle.nm_steps.proofs.Presence.{gone_kept, known_push}
@@ -41,13 +41,13 @@ once_is w n = cases (ltb w n) refl
     cases true e = (omega arith, λ h. grind (arith, nat_tests))
     cases false e = (omega arith, λ h. absurd (omega arith))
 
-pub live : (v : View) → v.spent ≡ false → holdings v ≡ held v.number v.log ∷ v.others
-live v h = ap (λ (b : Bool). cond b [] (held v.number v.log ∷ v.others)) h
+pub live : (v : View) → v.spent ≡ false → holdings v ≡ held_log v.number v.log ∷ v.others
+live v h = ap (λ (b : Bool). cond b [] (held_log v.number v.log ∷ v.others)) h
 
 pub stands_live : (v : View) → v.spent ≡ false → stands v.number v ≡ 1 + count_by (λ h. eqb v.number h.number) v.others
 stands_live v h =
     ap (count_by (λ (x : Held). eqb v.number x.number)) (live v h)
-    ∙ sum_by-cons (λ (x : Held). cond (eqb v.number x.number) 1 0) (held v.number v.log) v.others
+    ∙ sum_by-cons (λ (x : Held). cond (eqb v.number x.number) 1 0) (held_log v.number v.log) v.others
     ∙ ap (λ (b : Bool). cond b 1 0 + count_by (λ (x : Held). eqb v.number x.number) v.others) (eq-eqb v.number v.number refl)
 
 -- ---- the part of a trace with one turn more
@@ -85,11 +85,11 @@ left_same L w log e r may = gone_kept w (known_by L w log) e r (no_leaver L w lo
 
 module _ (L : Layout) (words : List ℕ) (views : List View) (id : ℕ) (v : View) (e : Event) (i : ℕ)
     (k : Runs L words views) (at : get_elem? views id ≡ some v) (alive : v.spent ≡ false) (layout : v.layout ≡ L)
-    (index : i ≡ word L (touched v.number e)) (may : May L v.number v.log e) where
+    (index : i ≡ word L (touched_field v.number e)) (may : May L v.number v.log e) where
   abbrev trace : List Turn
   trace = trace_in (ordered L) k.turns
 
-  mine : LogsAre v.layout L trace (held v.number v.log ∷ v.others)
+  mine : LogsAre v.layout L trace (held_log v.number v.log ∷ v.others)
   mine = subst (LogsAre v.layout L trace) (live v alive) (k.shown id v at)
 
   counted : (sum_by (stands v.number) views ≡ 1) × (v.number < L.workers)
@@ -109,7 +109,7 @@ module _ (L : Layout) (words : List ℕ) (views : List View) (id : ℕ) (v : Vie
   abbrev found : ℕ
   found = slice_index words i
 
-  found_is : found ≡ word_at L (after_in (ordered L) k.turns).state.memory (touched v.number e)
+  found_is : found ≡ word_at L (after_in (ordered L) k.turns).state.memory (touched_field v.number e)
   found_is = λ j. slice_index (k.words_are j) (index j)
 
   pub is_found : IsFound L v.number v.log e found
@@ -121,8 +121,8 @@ module _ (L : Layout) (words : List ℕ) (views : List View) (id : ℕ) (v : Vie
   abbrev now : View
   now = logged v e found k.turns
 
-  reply_is : told L (known_by L v.number v.log) (births_by L v.number v.log) e (word_at L (after_in (ordered L) k.turns).state.memory (touched v.number e)) ≡ reply
-  reply_is = ap (λ (l : Layout). told l (known_by l v.number v.log) (births_by l v.number v.log) e (word_at L (after_in (ordered L) k.turns).state.memory (touched v.number e))) (sym layout) ∙ ap (told v.layout (knowledge v) (known_births v) e) (sym found_is)
+  reply_is : told L (known_by L v.number v.log) (births_by L v.number v.log) e (word_at L (after_in (ordered L) k.turns).state.memory (touched_field v.number e)) ≡ reply
+  reply_is = ap (λ (l : Layout). told l (known_by l v.number v.log) (births_by l v.number v.log) e (word_at L (after_in (ordered L) k.turns).state.memory (touched_field v.number e))) (sym layout) ∙ ap (told v.layout (knowledge v) (known_births v) e) (sym found_is)
 
   trace_is : trace_in (ordered L) more ≡ trace ++ one_turn v.number e reply ∷ []
   trace_is = trace_after L v.number v.log k.turns part e may ∙ ap (λ (r : Reply). trace ++ one_turn v.number e r ∷ []) reply_is
@@ -178,8 +178,8 @@ module _ (L : Layout) (words : List ℕ) (views : List View) (id : ℕ) (v : Vie
   same_stands : (w : ℕ) → stands w now ≡ stands w v
   same_stands w =
       ap (count_by (λ (x : Held). eqb w x.number)) (live now alive)
-      ∙ sum_by-cons (λ (x : Held). cond (eqb w x.number) 1 0) (held v.number now.log) v.others
-      ∙ sym (sum_by-cons (λ (x : Held). cond (eqb w x.number) 1 0) (held v.number v.log) v.others)
+      ∙ sum_by-cons (λ (x : Held). cond (eqb w x.number) 1 0) (held_log v.number now.log) v.others
+      ∙ sym (sum_by-cons (λ (x : Held). cond (eqb w x.number) 1 0) (held_log v.number v.log) v.others)
       ∙ sym (ap (count_by (λ (x : Held). eqb w x.number)) (live v alive))
 
   words_now : slice_set words i (left_word v.layout (knowledge v) e found) ≡ words_of L (after_in (ordered L) more).state.memory
@@ -205,7 +205,7 @@ no_step = step 0 0 0 0 none
 -- THE STEP: an event that the own log allows may be made at its word, by any operation that leaves
 -- the word that the event leaves
 pub allows : (L : Layout) (slots id : ℕ) (v : View) (e : Event) (i : ℕ) (f said : ℕ → ℕ)
-    → v.spent ≡ false → v.layout ≡ L → i ≡ word L (touched v.number e) → May L v.number v.log e
+    → v.spent ≡ false → v.layout ≡ L → i ≡ word L (touched_field v.number e) → May L v.number v.log e
     → ((n : ℕ) → f n ≡ left_word v.layout (knowledge v) e n)
     → ((n : ℕ) → (told v.layout (knowledge v) (known_births v) e (said n) ≡ told v.layout (knowledge v) (known_births v) e n) × (is_store e ≡ false → said n ≡ n))
     → Allows (Kept L) slots id (v, []) i f (λ n. Did e no_step (v, []) (said n))
@@ -233,18 +233,18 @@ allows L slots id v e i f said alive layout index may change tell s k homes at s
       keys = f.keys;
       is_part = subst (λ (x : Layout). v.log ≡ part_of v.number (trace_in (ordered x) f.turns)) same f.is_part;
       here = subst (λ (x : Layout). (known_by x v.number v.log).gone ≡ false) same f.here;
-      word = subst (λ (x : Layout). is_store e ≡ false → said (slice_index s.words i) ≡ word_at x (after_in (ordered x) f.turns).state.memory (touched v.number e)) same f.word;
+      word = subst (λ (x : Layout). is_store e ≡ false → said (slice_index s.words i) ≡ word_at x (after_in (ordered x) f.turns).state.memory (touched_field v.number e)) same f.word;
     }
 
 -- what every operation asks of its caller, where the pass is ready; d is the event that the `Play`
 -- names
 asked : (L : Layout) (z : TableId) (slots : ℕ) (it : Seat Unit View) (d e : Event) (i : ℕ) (f said : ℕ → ℕ)
-    → d ≡ e → IsReady (record { table = z; layout = L }) it e i → Changes e it.me.0 f
+    → d ≡ e → IsReadyFor (record { table = z; layout = L }) it e i → Changes e it.me.0 f
     → ((n : ℕ) → (told it.me.0.layout (knowledge it.me.0) (known_births it.me.0) e (said n) ≡ told it.me.0.layout (knowledge it.me.0) (known_births it.me.0) e n) × (is_store e ≡ false → said n ≡ n))
     → (it.table_id ≡ z) × (i < z.words) × Allows (Kept L) slots it.id it.me i f (λ n. Did d no_step it.me (said n))
 asked L z slots it d e i f said pick r change tell = (
   r.table,
-  subst (λ (k : ℕ). k < z.words) (sym r.word) (subst (λ (k : ℕ). word L (touched it.me.0.number e) < k) (sym r.words) (fields_within L (touched it.me.0.number e) r.within)),
+  subst (λ (k : ℕ). k < z.words) (sym r.word) (subst (λ (k : ℕ). word L (touched_field it.me.0.number e) < k) (sym r.words) (fields_within L (touched_field it.me.0.number e) r.within)),
   subst (λ (x : Event). Allows (Kept L) slots it.id it.me i f (λ n. Did x no_step it.me (said n))) (sym pick)
       (subst (λ (c : List (ℕ × Unit)). Allows (Kept L) slots it.id (it.me.0, c) i f (λ n. Did e no_step (it.me.0, c) (said n))) (sym r.empty)
       (allows L slots it.id it.me.0 e i f said r.alive r.layout r.word r.may change tell)),
@@ -256,11 +256,11 @@ is_done it after d e n pick table seat did = subst (λ (x : Event). IsDone it af
 
 -- the same where the `Play` is told the word that was found, and where it is told the one stored
 pub asked_plainly : (L : Layout) (z : TableId) (slots : ℕ) (it : Seat Unit View) (d e : Event) (i : ℕ) (f : ℕ → ℕ)
-    → d ≡ e → IsReady (record { table = z; layout = L }) it e i → Changes e it.me.0 f
+    → d ≡ e → IsReadyFor (record { table = z; layout = L }) it e i → Changes e it.me.0 f
     → (it.table_id ≡ z) × (i < z.words) × Allows (Kept L) slots it.id it.me i f (Did d no_step it.me)
 asked_plainly L z slots it d e i f pick r change = asked L z slots it d e i f (λ n. n) pick r change (λ n. (refl, λ h. refl))
 
 pub asked_blind : (L : Layout) (z : TableId) (slots : ℕ) (it : Seat Unit View) (d e : Event) (i new : ℕ)
-    → d ≡ e → IsReady (record { table = z; layout = L }) it e i → Changes e it.me.0 (λ _. new) → IsBlind e it.me.0
+    → d ≡ e → IsReadyFor (record { table = z; layout = L }) it e i → Changes e it.me.0 (λ _. new) → IsBlind e it.me.0
     → (it.table_id ≡ z) × (i < z.words) × Allows (Kept L) slots it.id it.me i (λ _. new) (λ _. Did d no_step it.me new)
 asked_blind L z slots it d e i new pick r change blind = asked L z slots it d e i (λ _. new) (λ _. new) pick r change (λ n. (blind.same new n, λ h. absurd (true≢false (sym blind.store ∙ h))))

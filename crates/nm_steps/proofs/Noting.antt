@@ -23,11 +23,11 @@ use Rattle.nm_model.specs.Ordered.{ordered, after_in, trace_in}
 use Rattle.nm_order.specs.Hands.{IsPooled}
 use Rattle.nm_order.specs.Logs.{is_leaver, part_of, known_by, IsLogOf}
 use Rattle.nm_order.specs.OwnBirths.{births_by}
-use Rattle.nm_words.specs.Packing.{word_at, touched}
+use Rattle.nm_words.specs.Packing.{word_at, touched_field}
 use Rattle.nm_words.specs.Told.{told}
 use Rattle.nm_steps.specs.declared.view.View.{View}
 use Rattle.nm_steps.specs.Rules.{knowledge, known_births, logged, is_store, IsFound}
-use Rattle.nm_steps.specs.Steps.{Stand, May, IsReady, IsDone, HasTurn, IsOfRun, IsInRun, HasSeen, Tied, Laid, noted, noted_sight}
+use Rattle.nm_steps.specs.Steps.{Stand, May, IsReadyFor, IsDone, HasTurn, IsOfRun, IsInRun, HasSeen, Tied, Laid, noted, noted_sight}
 use Rattle.nm_steps.proofs.Presence.{gone_kept, known_push}
 use Rattle.nm_steps.proofs.Asking.{within, seen_small, private_pooled}
 use Rattle.nm_steps.proofs.Extending.{IsPartOf, keys-append, trace_after}
@@ -95,10 +95,10 @@ module _ (L : Layout) (w : ℕ) (log : List Entry) (e : Event) (n : ℕ) (f : Is
   part : IsPartOf L w log f.turns
   part = record { fits = f.fits; keys = f.keys; worker = f.worker; is_part = f.is_part; here = f.here }
 
-  reply_is : told L (known_by L w log) (births_by L w log) e (word_at L (after_in (ordered L) f.turns).state.memory (touched w e)) ≡ told L (known_by L w log) (births_by L w log) e n
+  reply_is : told L (known_by L w log) (births_by L w log) e (word_at L (after_in (ordered L) f.turns).state.memory (touched_field w e)) ≡ told L (known_by L w log) (births_by L w log) e n
   reply_is = go (is_store e) refl
     where
-      go : (b : Bool) → is_store e ≡ b → told L (known_by L w log) (births_by L w log) e (word_at L (after_in (ordered L) f.turns).state.memory (touched w e)) ≡ told L (known_by L w log) (births_by L w log) e n
+      go : (b : Bool) → is_store e ≡ b → told L (known_by L w log) (births_by L w log) e (word_at L (after_in (ordered L) f.turns).state.memory (touched_field w e)) ≡ told L (known_by L w log) (births_by L w log) e n
       go true is = store_is_blind L (known_by L w log) (births_by L w log) e _ n is
       go false is = ap (told L (known_by L w log) (births_by L w log) e) (sym (f.word is))
 
@@ -144,7 +144,7 @@ small_seen None small = tt
 small_seen (Some s) small = small s refl
 
 pub ready : (z : TableId) (key L : Layout) (it : Seat Unit View) (number : ℕ) (brief : Brief) (e : Event) (i : ℕ)
-    → Laid z key L → Tied it number brief → it.table_id ≡ z → it.me.0.layout ≡ L → May it.me.0.layout it.me.0.number it.me.0.log e → i ≡ word L (touched number e) → IsReady (record { table = z; layout = L }) it e i
+    → Laid z key L → Tied it number brief → it.table_id ≡ z → it.me.0.layout ≡ L → May it.me.0.layout it.me.0.number it.me.0.log e → i ≡ word L (touched_field number e) → IsReadyFor (record { table = z; layout = L }) it e i
 ready z key L it number brief e i laid tied table same may index =
     let k : May L it.me.0.number it.me.0.log e = subst (λ (l : Layout). May l it.me.0.number it.me.0.log e) same may in
     let own : it.me.0.number < L.workers = subst (λ (n : ℕ). n < L.workers) tied.number_is (subst (λ (l : Layout). number < l.workers) same tied.worker) in
@@ -155,13 +155,13 @@ ready z key L it number brief e i laid tied table same may index =
       alive = tied.alive;
       layout = same;
       within = within L it.me.0.number it.me.0.log own e k;
-      word = index ∙ ap (λ (w : ℕ). word L (touched w e)) tied.number_is;
+      word = index ∙ ap (λ (w : ℕ). word L (touched_field w e)) tied.number_is;
       may = k;
     }
 
 -- the layout that the table was made for is the one of its rule
-pub ready_by_key : (z : TableId) (key L : Layout) (it : Seat Unit View) (e : Event) (i : ℕ) → Laid z key L → IsReady (record { table = z; layout = L }) it e i → IsReady (record { table = z; layout = key }) it e i
-ready_by_key z key L it e i laid r = subst (λ (l : Layout). IsReady (record { table = z; layout = l }) it e i) (sym laid.key_is) r
+pub ready_by_key : (z : TableId) (key L : Layout) (it : Seat Unit View) (e : Event) (i : ℕ) → Laid z key L → IsReadyFor (record { table = z; layout = L }) it e i → IsReadyFor (record { table = z; layout = key }) it e i
+ready_by_key z key L it e i laid r = subst (λ (l : Layout). IsReadyFor (record { table = z; layout = l }) it e i) (sym laid.key_is) r
 
 -- after a step its log is of a run
 pub in_run_after : (it after : Seat Unit View) (number : ℕ) (brief : Brief) (e : Event) (n : ℕ) → Tied it number brief → May it.me.0.layout it.me.0.number it.me.0.log e → IsDone it after e n → IsInRun (standing after)

@@ -15,9 +15,9 @@ use Rattle.nm_model.specs.declared.event.Event.{Event}
 use Rattle.nm_model.specs.Ordered.{ordered, trace_in}
 use Rattle.nm_order.specs.Logs.{part_of, known_by}
 use Rattle.nm_steps.specs.declared.view.View.{View}
-use Rattle.nm_steps.specs.Rules.{held, knowledge, stands, once_below, LogsAre, IsShown, LagsBehind, Runs, Kept}
+use Rattle.nm_steps.specs.Rules.{held_log, knowledge, stands, once_below, LogsAre, IsShown, LagsBehind, Runs, Kept}
 use Rattle.nm_steps.specs.Steps.{Laid}
-use Rattle.nm_steps.specs.Ties.{StandsInRun, Tells}
+use Rattle.nm_steps.specs.Ties.{StandsInRun, TellsItsStanding}
 use Rattle.nm_steps.proofs.Counts.{at_most_sum, sum_after}
 use Rattle.nm_steps.proofs.Growing.{goes_on_itself, goes_on_from_nothing}
 use Rattle.nm_steps.proofs.Keeping.{live, stands_live, once_is}
@@ -25,13 +25,13 @@ use Rattle.nm_steps.proofs.Keeping.{live, stands_live, once_is}
 -- the log of a seat's own worker is its part of the run
 own_part : (L : Layout) (words : List ℕ) (views : List View) (id : ℕ) (v : View) → (k : Runs L words views) → get_elem? views id ≡ some v → v.spent ≡ false → v.layout ≡ L → part_of v.number (trace_in (ordered v.layout) k.turns) ≡ v.log
 own_part L words views id v k at alive layout =
-    let mine : LogsAre v.layout L (trace_in (ordered L) k.turns) (held v.number v.log ∷ v.others) = subst (LogsAre v.layout L (trace_in (ordered L) k.turns)) (live v alive) (k.shown id v at) in
+    let mine : LogsAre v.layout L (trace_in (ordered L) k.turns) (held_log v.number v.log ∷ v.others) = subst (LogsAre v.layout L (trace_in (ordered L) k.turns)) (live v alive) (k.shown id v at) in
     ap (λ (l : Layout). part_of v.number (trace_in (ordered l) k.turns)) layout ∙ sym mine.1
 
 -- the view of a seat stands in the run of its table
 pub stands_in_run : (L : Layout) (words : List ℕ) (views : List View) (id : ℕ) (v : View) → Runs L words views → get_elem? views id ≡ some v → v.spent ≡ false → v.layout ≡ L → StandsInRun v
 stands_in_run L words views id v k at alive layout =
-    let mine : LogsAre v.layout L (trace_in (ordered L) k.turns) (held v.number v.log ∷ v.others) = subst (LogsAre v.layout L (trace_in (ordered L) k.turns)) (live v alive) (k.shown id v at) in
+    let mine : LogsAre v.layout L (trace_in (ordered L) k.turns) (held_log v.number v.log ∷ v.others) = subst (LogsAre v.layout L (trace_in (ordered L) k.turns)) (live v alive) (k.shown id v at) in
     let once : (w : ℕ) → stands w v ≤ once_below w L.workers = λ w. omega (arith, at_most_sum (stands w) views id v at, k.once w) in
     let below : v.number < L.workers = (once_is v.number L.workers).1 (omega (arith, once v.number, stands_live v alive)) in
     record {
@@ -69,7 +69,7 @@ module _ (L : Layout) (words : List ℕ) (views : List View) (id : ℕ) (v : Vie
     lags = each_at (LagsBehind k.turns) (record { past = goes_on_itself k.turns; heard = goes_on_from_nothing k.turns }) k.lags;
   }
 
-ties : (L : Layout) (slots id : ℕ) (v : View) (i : ℕ) → v.spent ≡ false → v.layout ≡ L → Allows (Kept L) slots id (v, []) i (λ n. n) (Tells (step slots i 0 0 none) (v, []))
+ties : (L : Layout) (slots id : ℕ) (v : View) (i : ℕ) → v.spent ≡ false → v.layout ≡ L → Allows (Kept L) slots id (v, []) i (λ n. n) (TellsItsStanding (step slots i 0 0 none) (v, []))
 ties L slots id v i alive layout s k homes at small =
     let same_words : slice_set s.words i (slice_index s.words i) ≡ s.words = set-get_or s.words i 0 in
     let stands = stands_in_run L s.words s.views id v k at alive layout in (
@@ -92,9 +92,9 @@ ties L slots id v i alive layout s k homes at small =
 
 -- what the read asks of a seat
 pub may_tie : (z : TableId) (key L : Layout) (it : Seat Unit View) (i : ℕ) → Laid z key L → it.table_id ≡ z → it.me.0.spent ≡ false → it.me.1 ≡ [] → it.me.0.layout ≡ L → i ≡ word L at_epoch
-    → (it.table_id ≡ z) × (i < z.words) × Allows (Kept key) z.slots it.id it.me i (λ n. n) (Tells (step z.slots i 0 0 none) it.me)
+    → (it.table_id ≡ z) × (i < z.words) × Allows (Kept key) z.slots it.id it.me i (λ n. n) (TellsItsStanding (step z.slots i 0 0 none) it.me)
 may_tie z key L it i laid table alive empty layout index = (
   table,
   subst (λ (k : ℕ). k < z.words) (sym index) (subst (λ (k : ℕ). word L at_epoch < k) (sym laid.words_are) (fields_within L at_epoch tt)),
-  subst (λ (c : List (ℕ × Unit)). Allows (Kept key) z.slots it.id (it.me.0, c) i (λ n. n) (Tells (step z.slots i 0 0 none) (it.me.0, c))) (sym empty) (ties key z.slots it.id it.me.0 i alive (layout ∙ sym laid.key_is)),
+  subst (λ (c : List (ℕ × Unit)). Allows (Kept key) z.slots it.id (it.me.0, c) i (λ n. n) (TellsItsStanding (step z.slots i 0 0 none) (it.me.0, c))) (sym empty) (ties key z.slots it.id it.me.0 i alive (layout ∙ sym laid.key_is)),
 )

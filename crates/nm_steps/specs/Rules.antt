@@ -16,17 +16,17 @@ use Rattle.nm_model.specs.Ordered.{ordered, after_in, trace_in}
 use Rattle.nm_order.specs.Intervals.{HasKey}
 use Rattle.nm_order.specs.Logs.{part_of, known_by}
 use Rattle.nm_order.specs.OwnBirths.{births_by}
-use Rattle.nm_words.specs.Packing.{words_of, word_at, touched}
+use Rattle.nm_words.specs.Packing.{words_of, word_at, touched_field}
 use Rattle.nm_words.specs.Told.{told}
 use Rattle.nm_steps.specs.declared.view.Held.{Held}
 use Rattle.nm_steps.specs.declared.view.View.{View}
 
-abbrev pub held : ℕ → List Entry → Held
-held w log = record { number = w; log = log }
+abbrev pub held_log : ℕ → List Entry → Held
+held_log w log = record { number = w; log = log }
 
 -- the logs that a view has; a spent one has none
 abbrev pub holdings : View → List Held
-holdings v = cond v.spent [] (held v.number v.log ∷ v.others)
+holdings v = cond v.spent [] (held_log v.number v.log ∷ v.others)
 
 -- what a view's own worker knows, by its log
 abbrev pub knowledge : View → Knowledge
@@ -82,7 +82,7 @@ pub record Runs (L : Layout) (words : List ℕ) (views : List View) : Type 0 whe
 -- the numbers from k on, n of them
 abbrev pub numbers_from : ℕ → ℕ → List Held
 numbers_from k zero = []
-numbers_from k (suc n) = held k [] ∷ numbers_from (suc k) n
+numbers_from k (suc n) = held_log k [] ∷ numbers_from (suc k) n
 
 -- a view of these, the first of them its own
 abbrev pub viewing : Layout → List Held → View
@@ -128,7 +128,7 @@ passing w = (Join w.number, Joined (knowledge w).ledgers)
 abbrev pub joined : View → View → View
 joined v w = record v {
   log = v.log ++ passing w ∷ [];
-  others = v.others ++ held w.number (w.log ++ passing w ∷ []) ∷ w.others;
+  others = v.others ++ held_log w.number (w.log ++ passing w ∷ []) ∷ w.others;
 }
 
 -- a view that has heard what another one has seen
@@ -136,8 +136,8 @@ abbrev pub informed : View → View → View
 informed v w = record v { heard = w.past }
 
 -- until the next step
-abbrev pub joining : View → View → View
-joining v w = informed (joined v w) w
+abbrev pub joining_view : View → View → View
+joining_view v w = informed (joined v w) w
 
 -- a view that stands for nobody, and has seen what this one has
 abbrev pub noted_down : View → View
@@ -172,7 +172,7 @@ pub record IsFound (L : Layout) (w : ℕ) (log : List Entry) (e : Event) (n : �
   pub is_part : log ≡ part_of w (trace_in (ordered L) turns)
   pub here : (known_by L w log).gone ≡ false
   pub word : is_store e ≡ false
-      → n ≡ word_at L (after_in (ordered L) turns).state.memory (touched w e)
+      → n ≡ word_at L (after_in (ordered L) turns).state.memory (touched_field w e)
 
 -- what a step tells its seat: the event is in its log with its reply, in a run that goes on from
 -- the one that it had seen, and which it has now seen with this turn at its end; and nothing else

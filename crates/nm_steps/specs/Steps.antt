@@ -24,19 +24,19 @@ use Rattle.nm_order.specs.Intervals.{HasKey}
 use Rattle.nm_order.specs.Logs.{part_of, known_by, IsLogOf}
 use Rattle.nm_order.specs.OwnBirths.{births_by}
 use Rattle.nm_order.specs.Hands.{IsPooled}
-use Rattle.nm_words.specs.Packing.{touched, left_word, words_of}
+use Rattle.nm_words.specs.Packing.{touched_field, left_word, words_of}
 use Rattle.nm_words.specs.Told.{told, known_as, BirthsAreKnown}
 use Rattle.nm_steps.specs.declared.answers.Sighted.{Sighted}
 use Rattle.nm_steps.specs.declared.answers.Sighted.TheVariants as seeing
 use Rattle.nm_steps.specs.declared.view.View.{View}
-use Rattle.nm_steps.specs.Rules.{held, knowledge, known_births, viewing, joined, logged, is_store, stands, once_below, Extends, IsShown, IsFound}
+use Rattle.nm_steps.specs.Rules.{held_log, knowledge, known_births, viewing, joined, logged, is_store, stands, once_below, Extends, IsShown, IsFound}
 
 -- ---- what a worker's own log allows
 
 -- the birth word that a fill raises was looked at
-abbrev pub HasLooked : Knowledge → Event → Type 0
-HasLooked k (Fill s Birth v) = IsSome (draft_of k s).looked
-HasLooked k _ = Unit {0}
+abbrev pub HasLookedAtBirth : Knowledge → Event → Type 0
+HasLookedAtBirth k (Fill s Birth v) = IsSome (draft_of k s).looked
+HasLookedAtBirth k _ = Unit {0}
 
 -- and it is so in a memory
 abbrev pub IsAsLooked : Knowledge → Memory → Event → Type 0
@@ -47,7 +47,7 @@ IsAsLooked k m _ = Unit {0}
 -- as the birth that was looked at is so; the births that its reply names are known, and one that it
 -- raises was looked at
 pub record May (L : Layout) (w : ℕ) (log : List Entry) (e : Event) : Type 0 where
-  pub looked : HasLooked (known_by L w log) e
+  pub looked : HasLookedAtBirth (known_by L w log) e
   pub allowed : (m : Memory) → IsAsLooked (known_by L w log) m e
       → refusal L m (known_by L w log) w e ≡ None
   pub ordered : disorder (known_by L w log) (search_after idle log) e ≡ None
@@ -75,14 +75,14 @@ pub record Stand : Type 0 where
 -- ---- one operation on one word
 
 -- the pass of this seat can do this event, by the word i
-pub record IsReady (b : Board) (it : Seat Unit View) (e : Event) (i : ℕ) : Type 0 where
+pub record IsReadyFor (b : Board) (it : Seat Unit View) (e : Event) (i : ℕ) : Type 0 where
   pub table : it.table_id ≡ b.table
   pub words : b.table.words ≡ words b.layout
   pub empty : it.me.1 ≡ []
   pub alive : it.me.0.spent ≡ false
   pub layout : it.me.0.layout ≡ b.layout
-  pub within : IsField b.layout (touched it.me.0.number e)
-  pub word : i ≡ word b.layout (touched it.me.0.number e)
+  pub within : IsField b.layout (touched_field it.me.0.number e)
+  pub word : i ≡ word b.layout (touched_field it.me.0.number e)
   pub may : May b.layout it.me.0.number it.me.0.log e
 
 -- the event is done, with the reply that this word gives
@@ -171,7 +171,7 @@ pub record Laid (z : TableId) (key L : Layout) : Type 0 where
 
 -- a worker's view before its first step
 abbrev pub fresh_view : Layout → ℕ → View
-fresh_view L k = viewing L (held k [] ∷ [])
+fresh_view L k = viewing L (held_log k [] ∷ [])
 
 -- passes of workers k and on, which have done nothing yet
 abbrev pub AreFresh : Board → ℕ → List Stand → Type 0
@@ -217,7 +217,7 @@ IsSamePass p q = q ≡ record p { view = record p.view { log = q.view.log; past 
 
 -- ---- replies, by what the step functions answer
 
--- `sight_reply`, `scan_reply`, `advance_reply`, `claim_reply`, `splice_reply`: the reply of an
+-- `sight_reply`, `pin_reply`, `advance_reply`, `claim_reply`, `splice_reply`: the reply of an
 -- event, by what its step function answers
 abbrev pub sight_reply : Sighted → Reply
 sight_reply (seeing.Saw e) = Saw e
@@ -228,10 +228,6 @@ sight_reply (seeing.Missed e) = Missed e
 abbrev pub pin_reply : Result ℕ ℕ → Reply
 pin_reply (Ok e) = Pinned e
 pin_reply (Err e) = Missed e
-
-abbrev pub scan_reply : Option ℕ → Reply
-scan_reply None = Idle
-scan_reply (Some e) = In e
 
 abbrev pub advance_reply : Result ℕ ℕ → Reply
 advance_reply (Ok e) = Moved e

@@ -21,6 +21,6 @@ pub record HasSeenBoth (before after : View) : Type 0 where
   pub heard : Extends after.past before.heard
 
 -- a read that changes no word, by which the seat sees the run so far, and which tells this
-abbrev pub Tells : Step Unit → Me Unit View → ℕ → Me Unit View → Type 0
-Tells s me n after = (after.1 ≡ me.1) × HasSeenBoth me.0 after.0 × HasSeen after.0
+abbrev pub TellsItsStanding : Step Unit → Me Unit View → ℕ → Me Unit View → Type 0
+TellsItsStanding s me n after = (after.1 ≡ me.1) × HasSeenBoth me.0 after.0 × HasSeen after.0
     × StandsInRun after.0

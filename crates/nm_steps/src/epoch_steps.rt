@@ -2,8 +2,9 @@
 ghost use Rattle.std.specs.Prelude.{◌≡◌, ◌<◌, Some, None, false, IfOk};
 ghost use Rattle.nm_model.specs.declared.event.Event.TheVariants.{Sight, SightFor, Announce, Leave, LeaveWith, Scan, Advance};
 ghost use Rattle.nm_model.specs.declared.reply.Reply.TheVariants.{Saw, Announced, Departed};
+ghost use Rattle.nm_model.specs.Step.{reply_scan};
 ghost use Rattle.nm_steps.specs.Rules.{knowledge};
-ghost use Rattle.nm_steps.specs.Steps.{IsOf, IsInRun, IsSight, MayStep, Stepped, HasTurn, sight_reply, pin_reply, scan_reply, advance_reply, IsAdvanceFrom, sight_of, noted_sight};
+ghost use Rattle.nm_steps.specs.Steps.{IsOf, IsInRun, IsSight, MayStep, Stepped, HasTurn, sight_reply, pin_reply, advance_reply, IsAdvanceFrom, sight_of, noted_sight};
 
 use crate::answers::Sighted;
 use crate::pass::{Pass, Shared};
@@ -120,7 +121,7 @@ impl Shared {
     pub fn scan(&self, pass: &mut Pass, worker: u32) -> Option<u64>
         requires own { IsOf self.now pass.old }
         requires may { MayStep pass.old (Scan worker) }
-        ensures step { Stepped pass.old pass.new (Scan worker) (scan_reply result) }
+        ensures step { Stepped pass.old pass.new (Scan worker) (reply_scan result) }
         ensures past { HasTurn pass.old pass.new (Scan worker) }
         ensures run { IsInRun pass.new }
     {

@@ -61,9 +61,9 @@ impl<D: Doing> Play<(), View> for Does<D> {
 pub struct Ties;
 
 impl Play<(), View> for Ties {
-    ghost use Rattle.nm_steps.specs.Ties.{Tells};
+    ghost use Rattle.nm_steps.specs.Ties.{TellsItsStanding};
 
-    ghost then = { Tells };
+    ghost then = { TellsItsStanding };
 }
 
 pub(crate) type Words = atomic_table::Shared<(), View, Layout, Law>;

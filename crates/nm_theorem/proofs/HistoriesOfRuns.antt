@@ -27,8 +27,8 @@ use Rattle.nm_laws.proofs.SearchesGrow.{only_grow}
 use Rattle.nm_order.specs.Intervals.{InSet, IsCalled}
 use Rattle.nm_order.specs.Exchanges.{MayAnswer, HasFlagged as LawHasFlagged}
 use Rattle.nm_order.specs.Logs.{IsLogOf}
-use Rattle.nm_order.specs.History.{Act, IsAmong, EachOnce, ComesNext, InOrderOfMoments, HasInARow, IsDeleteOf, leaf_keys, last_anew, pin_of, LeadsTo, Replays, nothing, IsHistory as LawIsHistory, IsAct as LawIsAct, HasAct as LawHasAct}
-use Rattle.nm_order.specs.History.IsAct.{IsAnswered as LawAnswered, IsPending as LawPending}
+use Rattle.nm_order.specs.History.{Act, IsAmong, EachOnce, ComesNext, InOrderOfMoments, HasInARow, IsDeleteOf, leaf_keys, last_anew, pin_of, LeadsTo, Replays, nothing, IsRunHistory as LawIsHistory, IsActOfRun as LawIsAct, HasActOfCall as LawHasAct}
+use Rattle.nm_order.specs.History.IsActOfRun.{IsAnswered as LawAnswered, IsPending as LawPending}
 use Rattle.nm_order.proofs.OrderedLaws.{IsOrdered, ordered_next, each_ordered, each_link_inserts}
 use Rattle.nm_order.proofs.OwnTurns.{own_search, OwnTurn, own_turn}
 use Rattle.nm_order.proofs.OwnTurns.OwnTurn.{Quiet, Own}
@@ -38,7 +38,7 @@ use Rattle.nm_order.proofs.WalksOfRuns.{trace_in-append}
 use Rattle.nm_order.proofs.HistoryLaws.{each_run_has_a_history}
 use Rattle.nm_order.proofs.RealTime.{begins_with}
 use Rattle.nm_model.specs.Headline.{words_after, slots_of}
-use Rattle.nm_theorem.specs.Histories.{Called, called_in, call_by, call_after, call_of, IsAct, HasAct, IsInCall, HasFlagged, IsHistory, HasHistory}
+use Rattle.nm_theorem.specs.Histories.{Called, called_in, call_by, call_after, call_begun, IsAct, HasAct, IsInCall, HasFlaggedOneOf, IsHistory, HasHistory}
 use Rattle.nm_theorem.specs.Histories.IsAct.{IsAnswered, IsPending}
 use Rattle.nm_theorem.specs.EachRun.{IsPartOfTurns}
 use Rattle.nm_theorem.proofs.Runs.{Parts, parts_of, Head, head_of, told_in, enough_of}
@@ -130,14 +130,14 @@ module _ (L : Layout) (enough : 5 ≤ L.nodes) (w : ℕ) where
   none_first = ap (λ (S : Search). S.call) (repeated L.workers w idle)
 
   -- the call that a run leaves a worker in is what its turns tell
-  pub call_is : (ts : List (ℕ × Event)) → All (λ t. HasKey t.1) ts → call_of w (trace_in (ordered L) ts) ≡ with_pin (pin_of L ts w) (own_search (after_in (ordered L) ts) w).call
+  pub call_is : (ts : List (ℕ × Event)) → All (λ t. HasKey t.1) ts → call_begun w (trace_in (ordered L) ts) ≡ with_pin (pin_of L ts w) (own_search (after_in (ordered L) ts) w).call
   call_is ts keys = ap (λ (x : Option Call). call_after w 0 (with_pin 0 x) (trace_in (ordered L) ts)) (sym none_first) ∙ calls_from ts keys (ordered L) (at_opening L enough) 0 0
 
   -- so a call that is told is one, and the other way round
-  pub is_called : (ts : List (ℕ × Event)) → All (λ t. HasKey t.1) ts → (op : Op) (k : ℕ) → IsCalled (after_in (ordered L) ts) w op k → call_of w (trace_in (ordered L) ts) ≡ Some (record { pin = pin_of L ts w; op = op; key = k })
+  pub is_called : (ts : List (ℕ × Event)) → All (λ t. HasKey t.1) ts → (op : Op) (k : ℕ) → IsCalled (after_in (ordered L) ts) w op k → call_begun w (trace_in (ordered L) ts) ≡ Some (record { pin = pin_of L ts w; op = op; key = k })
   is_called ts keys op k called = call_is ts keys ∙ ap (with_pin (pin_of L ts w)) (is_own_call (after_in (ordered L) ts) w op k called)
 
-  pub called_is : (ts : List (ℕ × Event)) → All (λ t. HasKey t.1) ts → (c : Called) → call_of w (trace_in (ordered L) ts) ≡ Some c → (c.pin ≡ pin_of L ts w) × IsCalled (after_in (ordered L) ts) w c.op c.key
+  pub called_is : (ts : List (ℕ × Event)) → All (λ t. HasKey t.1) ts → (c : Called) → call_begun w (trace_in (ordered L) ts) ≡ Some c → (c.pin ≡ pin_of L ts w) × IsCalled (after_in (ordered L) ts) w c.op c.key
   called_is ts keys c is = go (own_search (after_in (ordered L) ts) w).call refl (sym (call_is ts keys) ∙ is)
     where
       o : IsOrdered L (after_in (ordered L) ts)
@@ -229,18 +229,18 @@ call_join w n so [] ys = ap (λ (m : ℕ). call_after w m so ys) (omega arith)
 call_join w n so (x ∷ xs) ys = call_join w (n + 1) (cond (x.worker == w) (call_by n so x.event x.outcome) so) xs ys
     ∙ ap (λ (m : ℕ). call_after w m (call_after w n so (x ∷ xs)) ys) (omega arith)
 
-still_called : (w : ℕ) (first mid : List Turn) (c : Called) → call_of w (first ++ mid) ≡ Some c → c.pin < length first → call_of w first ≡ Some c
-still_called w first mid c is less = kept_calls w (0 + length first) (call_of w first) mid c (sym (call_join w 0 None first mid) ∙ is) (omega (arith, less))
+still_called : (w : ℕ) (first mid : List Turn) (c : Called) → call_begun w (first ++ mid) ≡ Some c → c.pin < length first → call_begun w first ≡ Some c
+still_called w first mid c is less = kept_calls w (0 + length first) (call_begun w first) mid c (sym (call_join w 0 None first mid) ∙ is) (omega (arith, less))
 
 -- a turn that neither confirms a pin nor leaves one
 abbrev LeavesCalls : Turn → Type 0
 LeavesCalls t = (n : ℕ) (so : Option Called) → call_by n so t.event t.outcome ≡ so
 
-call_stays : (w : ℕ) (before : List Turn) (t : Turn) → LeavesCalls t → call_of w (before ++ t ∷ []) ≡ call_of w before
+call_stays : (w : ℕ) (before : List Turn) (t : Turn) → LeavesCalls t → call_begun w (before ++ t ∷ []) ≡ call_begun w before
 call_stays w before t same = call_join w 0 None before (t ∷ []) ∙ go (t.worker == w)
   where
-    go : (b : Bool) → cond b (call_by (0 + length before) (call_of w before) t.event t.outcome) (call_of w before) ≡ call_of w before
-    go true = same (0 + length before) (call_of w before)
+    go : (b : Bool) → cond b (call_by (0 + length before) (call_begun w before) t.event t.outcome) (call_begun w before) ≡ call_begun w before
+    go true = same (0 + length before) (call_begun w before)
     go false = refl
 
 cut_leaves : (e : Event) (ns : List NodeId) (n : ℕ) (so : Option Called) → call_by n so e (Ok (Cut ns)) ≡ so
@@ -255,14 +255,14 @@ module _ (turns before since : List Turn) (t : Turn) (all : turns ≡ before ++ 
   whole_then : turns ≡ (before ++ t ∷ []) ++ since
   whole_then = all ∙ sym (append_assoc before (t ∷ []) since)
 
-  call_then : (a : Act) → a.moment ≡ length before + 1 → IsAct turns a → call_of a.worker before ≡ Some (called_in a)
+  call_then : (a : Act) → a.moment ≡ length before + 1 → IsAct turns a → call_begun a.worker before ≡ Some (called_in a)
   call_then a at (IsAnswered first rest is called late early) =
       let mid = begins_with (before ++ t ∷ []) since first (record { worker = a.worker; event = LeaveWith a.answer; outcome = Ok Departed } ∷ rest) (sym whole_then ∙ is) (let size = length-append before (t ∷ []) in omega (arith, size, at, early)) in
       sym (call_stays a.worker before t same)
-      ∙ still_called a.worker (before ++ t ∷ []) mid.0 (called_in a) (ap (call_of a.worker) (sym mid.1) ∙ called) (let size = length-append before (t ∷ []) in omega (arith, size, at, late))
+      ∙ still_called a.worker (before ++ t ∷ []) mid.0 (called_in a) (ap (call_begun a.worker) (sym mid.1) ∙ called) (let size = length-append before (t ∷ []) in omega (arith, size, at, late))
   call_then a at (IsPending called late early) =
       sym (call_stays a.worker before t same)
-      ∙ still_called a.worker (before ++ t ∷ []) since (called_in a) (ap (call_of a.worker) (sym whole_then) ∙ called) (let size = length-append before (t ∷ []) in omega (arith, size, at, late))
+      ∙ still_called a.worker (before ++ t ∷ []) since (called_in a) (ap (call_begun a.worker) (sym whole_then) ∙ called) (let size = length-append before (t ∷ []) in omega (arith, size, at, late))
 
 -- the length of a part of a trace is that of its events
 length_trace : (c : Configuration) (ts : List (ℕ × Event)) → length (trace_in c ts) ≡ length ts
@@ -277,7 +277,7 @@ unfolding trace_in
 told_at L ts before since w e r all is = ap (trace_in (ordered L)) all ∙ (trace_in-append (ordered L) before ((w, e) ∷ since)
     ∙ ap (λ (o : Result Reply Refused). trace_in (ordered L) before ++ record { worker = w; event = e; outcome = o } ∷ trace_in (next_in (after_in (ordered L) before) (w, e)) since) is)
 
-has_flagged : (L : Layout) (ts : List (ℕ × Event)) (w k : ℕ) (ns : List NodeId) (f : LawHasFlagged L ts w k) → Contains ns f.flagged → HasFlagged (trace_in (ordered L) ts) w ns
+has_flagged : (L : Layout) (ts : List (ℕ × Event)) (w k : ℕ) (ns : List NodeId) (f : LawHasFlagged L ts w k) → Contains ns f.flagged → HasFlaggedOneOf (trace_in (ordered L) ts) w ns
 has_flagged L ts w k ns f among = (
   f.parent,
   f.side,
@@ -308,7 +308,7 @@ module _ (L : Layout) (fits : IsLayout L) (ts : List (ℕ × Event)) (keys : All
       later (let e = length_trace (ordered L) ts in omega (arith, e, early))
 
   answered : (before since : List Turn) (w : ℕ) (answer : Bool) (c : Called) → turns ≡ before ++ record { worker = w; event = LeaveWith answer; outcome = Ok Departed } ∷ since
-      → call_of w before ≡ Some c → HasAct acts w c answer
+      → call_begun w before ≡ Some c → HasAct acts w c answer
   answered before since w answer c all is = by (law.answered p.early h.others w c.op c.key answer whole may)
     where
       p : Parts (ordered L) ts before (record { worker = w; event = LeaveWith answer; outcome = Ok Departed } ∷ since)
@@ -327,7 +327,7 @@ module _ (L : Layout) (fits : IsLayout L) (ts : List (ℕ × Event)) (keys : All
       leaves = ap (outcome_in (after_in (ordered L) p.early)) (sym event_is) ∙ ap (λ (t : Turn). t.outcome) (sym h.turn_is)
 
       call : (c.pin ≡ pin_of L p.early w) × IsCalled (after_in (ordered L) p.early) w c.op c.key
-      call = called_is L (enough_of L fits) w p.early (keys_of p.early p.late p.all) c (ap (call_of w) (sym p.first_is) ∙ is)
+      call = called_is L (enough_of L fits) w p.early (keys_of p.early p.late p.all) c (ap (call_begun w) (sym p.first_is) ∙ is)
 
       may : MayAnswer (after_in (ordered L) p.early) w c.op c.key answer
       may = record { called = call.1; leaves = leaves }
@@ -394,7 +394,7 @@ module _ (L : Layout) (fits : IsLayout L) (ts : List (ℕ × Event)) (keys : All
           (a, there, own.0, now, (call_then turns before since (record { worker = w; event = Link p side leaf new; outcome = Ok (Linked n) }) all (λ n so. refl) a now (each a (law.each a there)), own.1, own.2))
 
   cuts : (before since : List Turn) (t : Turn) (ns : List NodeId) → turns ≡ before ++ t ∷ since → t.outcome ≡ Ok (Cut ns)
-      → HasInARow acts (leaf_keys (words_after L before) (slots_of ns)) (length before + 1) (λ a. IsInCall before Delete a × HasFlagged before a.worker ns)
+      → HasInARow acts (leaf_keys (words_after L before) (slots_of ns)) (length before + 1) (λ a. IsInCall before Delete a × HasFlaggedOneOf before a.worker ns)
   cuts before since t ns all is = record {
     front = row.front;
     row = row.row;
@@ -404,7 +404,7 @@ module _ (L : Layout) (fits : IsLayout L) (ts : List (ℕ × Event)) (keys : All
     at = now;
     each = λ a there. let own = row.each a there in (
       (call_then turns before since t all (λ n so. ap (call_by n so t.event) is ∙ cut_leaves t.event ns n so) a (now a there) (each a (law.each a (subst (λ (l : List Act). IsAmong l a) (sym row.are) (among_row row.front row.row row.back a there)))), own.0, own.1),
-      subst (λ (us : List Turn). HasFlagged us a.worker ns) (sym x.before_is) (has_flagged L x.early a.worker a.key ns own.2 own.3),
+      subst (λ (us : List Turn). HasFlaggedOneOf us a.worker ns) (sym x.before_is) (has_flagged L x.early a.worker a.key ns own.2 own.3),
     );
   }
     where

@@ -13,8 +13,8 @@ use Rattle.nm_model.specs.Memory.{Memory, in_pool}
 use Rattle.nm_model.specs.Ledgers.{held, queue_of}
 use Rattle.nm_model.specs.Laws.{node_in}
 use Rattle.nm_model.specs.Paths.{at}
-use Rattle.nm_model.specs.Places.{Place as LawPlace, slot_of, StandsAt as LawStandsAt, OnePlace as LawOnePlace}
-use Rattle.nm_model.specs.Places.Place.{InPool as LawInPool, PrivateTo as LawPrivateTo, OnPath as LawOnPath, InQueue as LawInQueue}
+use Rattle.nm_model.specs.Places.{SlotPlace as LawPlace, slot_of, SlotStandsAt as LawStandsAt, OneSlotPlace as LawOnePlace}
+use Rattle.nm_model.specs.Places.SlotPlace.{InPool as LawInPool, PrivateTo as LawPrivateTo, OnPath as LawOnPath, InQueue as LawInQueue}
 use Rattle.nm_model.specs.Runs.{State, of}
 use Rattle.nm_model.specs.Ordered.{opening_of, after_in, trace_in}
 use Rattle.nm_laws.proofs.OnePlace.{lawful_places}

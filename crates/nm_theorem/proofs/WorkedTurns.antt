@@ -18,10 +18,10 @@ use Rattle.nm_model.specs.Learning.{learn}
 use Rattle.nm_model.specs.Runs.{refused, applied}
 use Rattle.nm_model.specs.Ordered.{ordered, HasKey, trace_in, turn_of, outcome_in, next_in, refused_in, applied_in}
 use Rattle.nm_model.specs.Headline.{words_after, CutsItsNodes, IsPinned, Headline}
-use Rattle.nm_theorem.specs.Worked.{layout, inserting, deleting, cut, waiting, leaving, free, claim, before, turns, before_look, look, IsWorked, AreWrong}
+use Rattle.nm_theorem.specs.Worked.{layout, inserting, deleting, cut, waiting, leaving, free_turn, claim_turn, before, worked_turns, before_look, look_turn, IsWorked, AreWrong}
 use Rattle.nm_theorem.proofs.HeadlineOfRuns.{headline}
 
-is_run : trace_in (ordered layout) (map turn_of turns) ≡ turns
+is_run : trace_in (ordered layout) (map turn_of worked_turns) ≡ worked_turns
 unfolding trace_in outcome_in next_in refused_in applied_in refused applied refusal reply write learn searched
 is_run = refl
 
@@ -44,17 +44,17 @@ each_key (t ∷ ts) all (suc i) d below = each_key ts (and_parts (is_keyed t.eve
 fits : IsLayout layout
 fits = record { least = omega arith; most = omega arith; some = omega arith; few = omega arith; gaps = inl refl }
 
-keys : All (λ t. HasKey t.1) (map turn_of turns)
+keys : All (λ t. HasKey t.1) (map turn_of worked_turns)
 unfolding is_keyed
-keys = each_key turns refl
+keys = each_key worked_turns refl
 
-has_headline : Headline layout turns
-has_headline = subst (Headline layout) is_run (headline layout fits true (map turn_of turns) keys)
+has_headline : Headline layout worked_turns
+has_headline = subst (Headline layout) is_run (headline layout fits true (map turn_of worked_turns) keys)
 
 -- ---- what is so
 
 cut_just : CutsItsNodes (words_after layout before) cut
-cut_just = has_headline.cuts before ((waiting ++ leaving) ++ free ∷ claim ∷ []) cut refl
+cut_just = has_headline.cuts before ((waiting ++ leaving) ++ free_turn ∷ claim_turn ∷ []) cut refl
 
 never : {A : Type 0} → false ≡ true → A
 never e = absurd (true≢false (sym e))
@@ -77,16 +77,16 @@ is_worked = record {
   reader = reader;
   left = refl;
   stayed = λ left. never left;
-  still = has_headline.stays before_look (cut ∷ waiting) (leaving ++ free ∷ claim ∷ []) look (EdgeIs (e 7 true false)) 6 refl refl (0, omega arith, refl) refl (λ left. never left);
+  still = has_headline.stays before_look (cut ∷ waiting) (leaving ++ free_turn ∷ claim_turn ∷ []) look_turn (EdgeIs (e 7 true false)) 6 refl refl (0, omega arith, refl) refl (λ left. never left);
   on_path = refl;
   in_pool = refl;
   waiting_there = refl;
   in_hands = refl;
   let_go = λ has. never has;
-  inserts = λ acts h. h.answered inserting (drop 1 deleting ++ cut ∷ ((waiting ++ leaving) ++ free ∷ claim ∷ [])) 0 true (record { pin = 5; op = Insert; key = 10 }) refl refl;
-  deletes = λ acts h. h.answered (before ++ cut ∷ take 1 waiting) (drop 2 waiting ++ (leaving ++ free ∷ claim ∷ [])) 0 true (record { pin = 22; op = Delete; key = 10 }) refl refl;
-  linked = λ acts h. h.links (take 19 inserting) (deleting ++ cut ∷ ((waiting ++ leaving) ++ free ∷ claim ∷ [])) 0 2 Left 3 6 (n 6 1) refl;
-  deleted = λ acts h. h.cuts before ((waiting ++ leaving) ++ free ∷ claim ∷ []) cut (n 6 1 ∷ n 7 1 ∷ []) refl refl;
+  inserts = λ acts h. h.answered inserting (drop 1 deleting ++ cut ∷ ((waiting ++ leaving) ++ free_turn ∷ claim_turn ∷ [])) 0 true (record { pin = 5; op = Insert; key = 10 }) refl refl;
+  deletes = λ acts h. h.answered (before ++ cut ∷ take 1 waiting) (drop 2 waiting ++ (leaving ++ free_turn ∷ claim_turn ∷ [])) 0 true (record { pin = 22; op = Delete; key = 10 }) refl refl;
+  linked = λ acts h. h.links (take 19 inserting) (deleting ++ cut ∷ ((waiting ++ leaving) ++ free_turn ∷ claim_turn ∷ [])) 0 2 Left 3 6 (n 6 1) refl;
+  deleted = λ acts h. h.cuts before ((waiting ++ leaving) ++ free_turn ∷ claim_turn ∷ []) cut (n 6 1 ∷ n 7 1 ∷ []) refl refl;
 }
 
 -- ---- what is wrong
@@ -109,10 +109,10 @@ same_first x y xs ys e = cc
 pub are_wrong : AreWrong
 are_wrong = record {
   waits_first = λ says. some_slot (n 7 1) (n 6 1) refl (same_first (n 7 1) (n 6 1) (n 6 1 ∷ []) (n 7 1 ∷ []) (says 0)) refl;
-  everybody = λ says. never (says before (waiting ++ leaving) (claim ∷ []) cut free (n 6 1) refl in_cut in_free 2);
-  at_once = λ says. never (says before (waiting ++ leaving) (claim ∷ []) cut free (n 6 1) refl in_cut in_free 1 reader);
-  nothing_waits = λ says. no_node (n 7 1) [] (says turns [] 0 refl);
-  nothing_cut = λ says. no_node (n 6 1) (n 7 1 ∷ []) (says before ((waiting ++ leaving) ++ free ∷ claim ∷ []) cut refl);
-  stay = λ says. never (says (take 9 turns) (drop 10 turns) 0 6 refl);
-  for_ever = λ says. true≢false (says before_look (cut ∷ ((waiting ++ leaving) ++ free ∷ [])) (claim ∷ []) look (EdgeIs (e 7 true false)) 6 refl refl (0, omega arith, refl) refl).pooled;
+  everybody = λ says. never (says before (waiting ++ leaving) (claim_turn ∷ []) cut free_turn (n 6 1) refl in_cut in_free 2);
+  at_once = λ says. never (says before (waiting ++ leaving) (claim_turn ∷ []) cut free_turn (n 6 1) refl in_cut in_free 1 reader);
+  nothing_waits = λ says. no_node (n 7 1) [] (says worked_turns [] 0 refl);
+  nothing_cut = λ says. no_node (n 6 1) (n 7 1 ∷ []) (says before ((waiting ++ leaving) ++ free_turn ∷ claim_turn ∷ []) cut refl);
+  stay = λ says. never (says (take 9 worked_turns) (drop 10 worked_turns) 0 6 refl);
+  for_ever = λ says. true≢false (says before_look (cut ∷ ((waiting ++ leaving) ++ free_turn ∷ [])) (claim_turn ∷ []) look_turn (EdgeIs (e 7 true false)) 6 refl refl (0, omega arith, refl) refl).pooled;
 }

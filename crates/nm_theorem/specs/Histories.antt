@@ -39,8 +39,8 @@ call_after w n so_far (t ∷ ts) = call_after w (n + 1) (if t.worker == w then c
 
 -- the call of a worker's pin, by its turns: begun by a sight for it that was answered `pinned`,
 -- with the number of that turn
-abbrev pub call_of : ℕ → List Turn → Option Called
-call_of w turns = call_after w 0 None turns
+abbrev pub call_begun : ℕ → List Turn → Option Called
+call_begun w turns = call_after w 0 None turns
 
 -- the call of an act
 abbrev pub called_in : Act → Called
@@ -50,8 +50,8 @@ called_in a = record { pin = a.pin; op = a.op; key = a.key }
 -- moment, a number of turns, is one of the call (Herlihy and Wing)
 pub data IsAct (turns : List Turn) (a : Act) : Type 0 where
   IsAnswered : (before since : List Turn) → turns ≡ before ++ record { worker = a.worker; event = LeaveWith a.answer; outcome = Ok Departed } ∷ since
-      → call_of a.worker before ≡ Some (called_in a) → a.pin < a.moment → a.moment ≤ length before → IsAct turns a
-  IsPending : call_of a.worker turns ≡ Some (called_in a) → a.pin < a.moment → a.moment ≤ length turns → IsAct turns a
+      → call_begun a.worker before ≡ Some (called_in a) → a.pin < a.moment → a.moment ≤ length before → IsAct turns a
+  IsPending : call_begun a.worker turns ≡ Some (called_in a) → a.pin < a.moment → a.moment ≤ length turns → IsAct turns a
 
 -- the act of a call, with that answer
 abbrev pub HasAct : List Act → ℕ → Called → Bool → Type 0
@@ -59,11 +59,11 @@ HasAct acts w c answer = (a : Act) × IsAmong acts a × (a.worker ≡ w) × (cal
 
 -- an act of the call that its worker is in after these turns: of that operation, and answered true
 abbrev pub IsInCall : List Turn → Op → Act → Type 0
-IsInCall turns op a = (call_of a.worker turns ≡ Some (called_in a)) × (a.op ≡ op) × (a.answer ≡ true)
+IsInCall turns op a = (call_begun a.worker turns ≡ Some (called_in a)) × (a.op ≡ op) × (a.answer ≡ true)
 
 -- a flag that the worker has won names one of these nodes
-abbrev pub HasFlagged : List Turn → ℕ → List NodeId → Type 0
-HasFlagged turns w ns = (p : ℕ) × (side : Side) × (s : ℕ) × (n : NodeId) × Contains turns (record { worker = w; event = Flag p side s; outcome = Ok (Flagged n) }) × Contains ns n
+abbrev pub HasFlaggedOneOf : List Turn → ℕ → List NodeId → Type 0
+HasFlaggedOneOf turns w ns = (p : ℕ) × (side : Side) × (s : ℕ) × (n : NodeId) × Contains turns (record { worker = w; event = Flag p side s; outcome = Ok (Flagged n) }) × Contains ns n
 
 -- the acts are the answered calls and some of those that are not answered yet, each once, in the
 -- order of moments that lie within the calls; and one plain set, empty at first, gives each its
@@ -75,13 +75,13 @@ pub record IsHistory (L : Layout) (turns : List Turn) (acts : List Act) : Type 0
   pub once : AllPairs (λ (a b : Act). (a.worker ≡ b.worker) × (a.pin ≡ b.pin) → ⊥) acts
   pub each : (a : Act) → IsAmong acts a → IsAct turns a
   pub answered : (before since : List Turn) (w : ℕ) (answer : Bool) (c : Called) → turns ≡ before ++ record { worker = w; event = LeaveWith answer; outcome = Ok Departed } ∷ since
-      → call_of w before ≡ Some c → HasAct acts w c answer
+      → call_begun w before ≡ Some c → HasAct acts w c answer
   -- a won link is the moment of its own insert, and a cut that of the deletes which flagged its
   -- leaves: they stand in a row, in the order of the cut
   pub links : (before since : List Turn) (w p : ℕ) (side : Side) (leaf new : ℕ) (n : NodeId) → turns ≡ before ++ record { worker = w; event = Link p side leaf new; outcome = Ok (Linked n) } ∷ since
       → (a : Act) × IsAmong acts a × (a.worker ≡ w) × (a.moment ≡ length before + 1) × IsInCall before Insert a
   pub cuts : (before since : List Turn) (t : Turn) (ns : List NodeId) → turns ≡ before ++ t ∷ since → t.outcome ≡ Ok (Cut ns)
-      → HasInARow acts (leaf_keys (words_after L before) (slots_of ns)) (length before + 1) (λ a. IsInCall before Delete a × HasFlagged before a.worker ns)
+      → HasInARow acts (leaf_keys (words_after L before) (slots_of ns)) (length before + 1) (λ a. IsInCall before Delete a × HasFlaggedOneOf before a.worker ns)
 
 -- the turns have a history
 abbrev pub HasHistory : Layout → List Turn → Type 0

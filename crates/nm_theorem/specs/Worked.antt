@@ -18,7 +18,7 @@ use Rattle.nm_model.specs.Schedules.{t, e, n}
 use Rattle.nm_order.specs.History.{Act, IsAmong, HasInARow}
 use Rattle.nm_model.specs.Headline.{words_after, after_turn, nodes_cut_of, nodes_freed_of, cuts_of, freed_of, waits_of, IsPinned, HasLeft, StandsAt, has_after, touched, IsStill}
 use Rattle.nm_model.specs.Headline.Place.{InPool, InHands, OnPath, Waits}
-use Rattle.nm_theorem.specs.Histories.{IsHistory, HasAct, IsInCall, HasFlagged}
+use Rattle.nm_theorem.specs.Histories.{IsHistory, HasAct, IsInCall, HasFlaggedOneOf}
 
 abbrev pub layout : Layout
 layout = dense 8 2
@@ -90,38 +90,38 @@ leaving =
     t 0 Advance (Ok (Moved 2)) ∷
     []
 
-abbrev pub free : Turn
-free = t 0 (Give 6) (Ok (Freed (n 6 1)))
+abbrev pub free_turn : Turn
+free_turn = t 0 (Give 6) (Ok (Freed (n 6 1)))
 
-abbrev pub claim : Turn
-claim = t 0 (Claim 8) (Ok (Claimed 8))
+abbrev pub claim_turn : Turn
+claim_turn = t 0 (Claim 8) (Ok (Claimed 8))
 
 -- the turns before the cut, and all of them
 abbrev pub before : List Turn
 before = inserting ++ deleting
 
-abbrev pub turns : List Turn
-turns = before ++ cut ∷ ((waiting ++ leaving) ++ free ∷ claim ∷ [])
+abbrev pub worked_turns : List Turn
+worked_turns = before ++ cut ∷ ((waiting ++ leaving) ++ free_turn ∷ claim_turn ∷ [])
 
 -- the turns before worker 1 looks at node 6, that look, and those behind it up to the cut
 abbrev pub before_look : List Turn
 before_look = inserting ++ take 11 deleting
 
-abbrev pub look : Turn
-look = t 1 (Look 6 (EdgeOn Left)) (Ok (EdgeIs (e 7 true false)))
+abbrev pub look_turn : Turn
+look_turn = t 1 (Look 6 (EdgeOn Left)) (Ok (EdgeIs (e 7 true false)))
 
 -- what the two pages say of it
 pub record IsWorked : Type 0 where
   -- it is a run of an ordered core
-  pub is_run : trace_in (ordered layout) (map turn_of turns) ≡ turns
+  pub is_run : trace_in (ordered layout) (map turn_of worked_turns) ≡ worked_turns
   -- the splice cuts node 6, and nothing but 6 and 7
   pub cuts : (x : ℕ) → IsCut (words_after layout before)
       (after_turn (words_after layout before) cut) x → Contains (6 ∷ 7 ∷ []) x
   pub cut_6 : IsCut (words_after layout before) (after_turn (words_after layout before) cut) 6
   -- node 6 is freed, and node 7 waits
-  pub all : cuts_of 0 turns ≡ n 6 1 ∷ n 7 1 ∷ []
-  pub freed : freed_of 0 turns ≡ n 6 1 ∷ []
-  pub waits : waits_of 0 turns ≡ n 7 1 ∷ []
+  pub all : cuts_of 0 worked_turns ≡ n 6 1 ∷ n 7 1 ∷ []
+  pub freed : freed_of 0 worked_turns ≡ n 6 1 ∷ []
+  pub waits : waits_of 0 worked_turns ≡ n 7 1 ∷ []
   -- both workers are pinned at the cut; worker 1 leaves between the cut and the free, and not
   -- before the epoch was to move a second time
   pub remover : IsPinned 0 before
@@ -129,26 +129,26 @@ pub record IsWorked : Type 0 where
   pub left : HasLeft 1 (waiting ++ leaving)
   pub stayed : HasLeft 1 waiting → ⊥
   -- node 6, which worker 1 has looked at, is still that node until it leaves, though it is cut
-  pub still : IsStill layout before_look (before_look ++ look ∷ cut ∷ waiting) 6
+  pub still : IsStill layout before_look (before_look ++ look_turn ∷ cut ∷ waiting) 6
   -- there is a slot in each kind of place
   pub on_path : StandsAt layout inserting 6 (OnPath (Left ∷ Left ∷ []))
-  pub in_pool : StandsAt layout turns 6 InPool
-  pub waiting_there : StandsAt layout turns 7 (Waits 0 0)
-  pub in_hands : StandsAt layout turns 8 (InHands 0)
-  pub let_go : StandsAt layout turns 6 (InHands 0) → ⊥
+  pub in_pool : StandsAt layout worked_turns 6 InPool
+  pub waiting_there : StandsAt layout worked_turns 7 (Waits 0 0)
+  pub in_hands : StandsAt layout worked_turns 8 (InHands 0)
+  pub let_go : StandsAt layout worked_turns 6 (InHands 0) → ⊥
   -- each history of it has an act of the insert, and one of the delete
-  pub inserts : (acts : List Act) → IsHistory layout turns acts
+  pub inserts : (acts : List Act) → IsHistory layout worked_turns acts
       → HasAct acts 0 (record { pin = 5; op = Insert; key = 10 }) true
-  pub deletes : (acts : List Act) → IsHistory layout turns acts
+  pub deletes : (acts : List Act) → IsHistory layout worked_turns acts
       → HasAct acts 0 (record { pin = 22; op = Delete; key = 10 }) true
   -- the one at the moment of the link, and the other at that of the cut, which is that of the key
   -- of its leaf alone
-  pub linked : (acts : List Act) → IsHistory layout turns acts
+  pub linked : (acts : List Act) → IsHistory layout worked_turns acts
       → (a : Act) × IsAmong acts a × (a.worker ≡ 0) × (a.moment ≡ 20)
       × IsInCall (take 19 inserting) Insert a
-  pub deleted : (acts : List Act) → IsHistory layout turns acts
+  pub deleted : (acts : List Act) → IsHistory layout worked_turns acts
       → HasInARow acts (10 ∷ []) 33
-      (λ a. IsInCall before Delete a × HasFlagged before a.worker (n 6 1 ∷ n 7 1 ∷ []))
+      (λ a. IsInCall before Delete a × HasFlaggedOneOf before a.worker (n 6 1 ∷ n 7 1 ∷ []))
 
 -- ---- wrong sentences
 
@@ -194,10 +194,10 @@ StaysForEver turns = (before between rest : List Turn) (t : Turn) (r : Reply) (x
 
 -- all of these are wrong
 pub record AreWrong : Type 0 where
-  pub waits_first : WaitsComeFirst turns → ⊥
-  pub everybody : EverybodyLeaves turns → ⊥
-  pub at_once : LeavesAtOnce turns → ⊥
-  pub nothing_waits : NothingWaits turns → ⊥
-  pub nothing_cut : NothingIsCut turns → ⊥
-  pub stay : ClaimsStay turns → ⊥
-  pub for_ever : StaysForEver turns → ⊥
+  pub waits_first : WaitsComeFirst worked_turns → ⊥
+  pub everybody : EverybodyLeaves worked_turns → ⊥
+  pub at_once : LeavesAtOnce worked_turns → ⊥
+  pub nothing_waits : NothingWaits worked_turns → ⊥
+  pub nothing_cut : NothingIsCut worked_turns → ⊥
+  pub stay : ClaimsStay worked_turns → ⊥
+  pub for_ever : StaysForEver worked_turns → ⊥

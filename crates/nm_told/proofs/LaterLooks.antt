@@ -10,8 +10,8 @@ use Rattle.nm_model.specs.declared.event.Event.TheVariants.{LeaveWith}
 use Rattle.nm_model.specs.Ordered.{ordered, after_in, HasKey}
 use Rattle.nm_order.specs.Exchanges.{MayAnswer}
 use Rattle.nm_order.specs.Answered.{IsAnsweredIn}
-use Rattle.nm_order.specs.History.{Act, Replays, pin_of, HasChanged, IsAct, HasAct, IsHistory, changed}
-use Rattle.nm_order.specs.History.IsAct.{IsAnswered, IsPending}
+use Rattle.nm_order.specs.History.{Act, Replays, pin_of, HasChanged, IsActOfRun, HasActOfCall, IsRunHistory, changed}
+use Rattle.nm_order.specs.History.IsActOfRun.{IsAnswered, IsPending}
 use Rattle.nm_order.specs.RealTime.{Precedes}
 use Rattle.nm_order.proofs.HistoryLaws.{each_run_has_a_history}
 use Rattle.nm_order.proofs.RealTime.{histories_keep_real_time}
@@ -22,7 +22,7 @@ use Rattle.nm_told.proofs.Replayed.{IsTrueDelete, between_among, passes, keeps, 
 -- ---- a look-up behind an insert
 
 module _ (L : Layout) (enough : 5 ≤ L.nodes) (turns : List (ℕ × Event)) (keys : All (λ t. HasKey t.1) turns) (k : ℕ) (none : NoneFlagged L turns k) where
-  no_delete : (a : Act) → IsAct L turns a → IsTrueDelete k a → ⊥
+  no_delete : (a : Act) → IsActOfRun L turns a → IsTrueDelete k a → ⊥
   no_delete a (IsAnswered before since is may pin later within) d =
       let as_delete : MayAnswer (after_in (ordered L) before) a.worker Delete k true =
       subst (λ (o : Op). MayAnswer (after_in (ordered L) before) a.worker o k true) d.0
@@ -36,7 +36,7 @@ module _ (L : Layout) (enough : 5 ≤ L.nodes) (turns : List (ℕ × Event)) (ke
     pub finds : answer ≡ true
     finds = by (each_run_has_a_history L enough turns keys)
       where
-        by : (acts : List Act) × IsHistory L turns acts → answer ≡ true
+        by : (acts : List Act) × IsRunHistory L turns acts → answer ≡ true
         by (acts, history) = sym b.is_answer ∙ passes nothing' last p.front (a.act ∷ (p.between ++ b.act ∷ p.back)) all (b.act.answer ≡ true) (λ U r.
             keeps k (changed U a.act.op a.act.key a.act.answer) last p.between (b.act ∷ p.back) (λ x among. no_delete x (history.each x (between_among acts x p.front (a.act ∷ []) p.between (b.act ∷ p.back) p.are among)))
             r.2 (added U k a.act.op a.act.key a.act.answer a.is_op a.is_key a.is_answer) (b.act.answer ≡ true)
@@ -48,10 +48,10 @@ module _ (L : Layout) (enough : 5 ≤ L.nodes) (turns : List (ℕ × Event)) (ke
             last : ℕ → Type 0
             last = Rattle.nm_order.specs.Intervals.InSet (after_in (ordered L) turns).state.memory
 
-            a : HasAct acts w (pin_of L i.before w) Insert k true
+            a : HasActOfCall acts w (pin_of L i.before w) Insert k true
             a = history.answered i.before i.since w Insert k true i.is_run i.may
 
-            b : HasAct acts u (pin_of L h.before u) Has k answer
+            b : HasActOfCall acts u (pin_of L h.before u) Has k answer
             b = history.answered h.before h.since u Has k answer h.is_run h.may
 
             p : Precedes acts a.act b.act

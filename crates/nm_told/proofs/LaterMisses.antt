@@ -10,8 +10,8 @@ use Rattle.nm_model.specs.declared.event.Event.TheVariants.{LeaveWith}
 use Rattle.nm_model.specs.Ordered.{ordered, after_in, HasKey}
 use Rattle.nm_order.specs.Answered.{IsAnsweredIn}
 use Rattle.nm_order.specs.Exchanges.{MayAnswer}
-use Rattle.nm_order.specs.History.{Act, IsAmong, Replays, ComesNext, InOrderOfMoments, pin_of, HasChanged, IsAct, HasAct, IsHistory, changed}
-use Rattle.nm_order.specs.History.IsAct.{IsAnswered, IsPending}
+use Rattle.nm_order.specs.History.{Act, IsAmong, Replays, ComesNext, InOrderOfMoments, pin_of, HasChanged, IsActOfRun, HasActOfCall, IsRunHistory, changed}
+use Rattle.nm_order.specs.History.IsActOfRun.{IsAnswered, IsPending}
 use Rattle.nm_order.specs.Intervals.{InSet, IsCalled}
 use Rattle.nm_order.specs.Legal.{changes}
 use Rattle.nm_order.specs.RealTime.{Precedes}
@@ -43,11 +43,11 @@ ahead (y ∷ xs) ys x (inr there) = inr (ahead xs ys x there)
 -- ---- a look-up behind a delete
 
 module _ (L : Layout) (enough : 5 ≤ L.nodes) (turns : List (ℕ × Event)) (keys : All (λ t. HasKey t.1) turns) (k : ℕ) (start : List (ℕ × Event)) (none : NoneInserted L start turns k) where
-  begins_later : (a : Act) → IsAct L turns a → a.pin < a.moment
+  begins_later : (a : Act) → IsActOfRun L turns a → a.pin < a.moment
   begins_later a (IsAnswered before since is may pin later within) = later
   begins_later a (IsPending called did true' pin later within) = later
 
-  no_insert : (a : Act) → IsAct L turns a → length start ≤ a.moment → IsTrueInsert k a → ⊥
+  no_insert : (a : Act) → IsActOfRun L turns a → length start ≤ a.moment → IsTrueInsert k a → ⊥
   no_insert a (IsAnswered before since is may pin later within) sooner i =
       none.answered before since a.worker (is ∙ ap (λ (b : Bool). before ++ (a.worker, LeaveWith b) ∷ since) i.2) (omega (arith, within, sooner))
       (subst (λ (o : Op). MayAnswer (after_in (ordered L) before) a.worker o k true) i.0
@@ -60,7 +60,7 @@ module _ (L : Layout) (enough : 5 ≤ L.nodes) (turns : List (ℕ × Event)) (ke
     pub misses : answer ≡ false
     misses = by (each_run_has_a_history L enough turns keys)
       where
-        by : (acts : List Act) × IsHistory L turns acts → answer ≡ false
+        by : (acts : List Act) × IsRunHistory L turns acts → answer ≡ false
         by (acts, history) = sym b.is_answer ∙ passes nothing' last p.front (a.act ∷ (p.between ++ b.act ∷ p.back)) all (b.act.answer ≡ false) (λ U r.
             lacks k (changed U a.act.op a.act.key a.act.answer) last p.between (b.act ∷ p.back)
             (λ x among. no_insert x (history.each x (between_among acts x p.front (a.act ∷ []) p.between (b.act ∷ p.back) p.are among))
@@ -74,10 +74,10 @@ module _ (L : Layout) (enough : 5 ≤ L.nodes) (turns : List (ℕ × Event)) (ke
             last : ℕ → Type 0
             last = InSet (after_in (ordered L) turns).state.memory
 
-            a : HasAct acts w (pin_of L i.before w) Delete k true
+            a : HasActOfCall acts w (pin_of L i.before w) Delete k true
             a = history.answered i.before i.since w Delete k true i.is_run i.may
 
-            b : HasAct acts u (pin_of L h.before u) Has k answer
+            b : HasActOfCall acts u (pin_of L h.before u) Has k answer
             b = history.answered h.before h.since u Has k answer h.is_run h.may
 
             p : Precedes acts a.act b.act

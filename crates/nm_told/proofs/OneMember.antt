@@ -8,7 +8,7 @@ use Rattle.nm_model.specs.declared.event.Event.{Event}
 use Rattle.nm_model.specs.declared.event.Event.TheVariants.{LeaveWith}
 use Rattle.nm_model.specs.Searches.{idle}
 use Rattle.nm_model.specs.Ordered.{ordered, trace_in}
-use Rattle.nm_order.specs.Exchanges.{HasInserted, HasFlagged}
+use Rattle.nm_order.specs.Exchanges.{HasWonInsert, HasFlagged}
 use Rattle.nm_order.specs.WalksToArrivals.{is_won_flag}
 use Rattle.nm_order.specs.Logs.{part_of}
 use Rattle.nm_order.specs.LoggedTotals.{log_often}
@@ -17,11 +17,11 @@ use Rattle.nm_calls.specs.Won.{capped, won_flags}
 use Rattle.nm_epoch.specs.declared.collecting.HeldQueue.{HeldQueue}
 use Rattle.nm_steps.specs.declared.view.Held.{Held}
 use Rattle.nm_steps.specs.declared.view.View.{View}
-use Rattle.nm_steps.specs.Rules.{held, holdings, passing, joined, stands, once_below, LogsAre}
+use Rattle.nm_steps.specs.Rules.{held_log, holdings, passing, joined, stands, once_below, LogsAre}
 use Rattle.nm_steps.specs.Steps.{Board}
 use Rattle.nm_steps.proofs.Keeping.{once_is}
 use Rattle.nm_tree.specs.declared.closing.Report.{Report}
-use Rattle.nm_tree.specs.Workers.{Hand, HasNumber, log_of}
+use Rattle.nm_tree.specs.Workers.{Hand, HasNumber, log_held_of}
 use Rattle.nm_tree.specs.Closing.{IsClosed, all_joined}
 use Rattle.nm_tree.proofs.Heirs.{times, has_times}
 use Rattle.nm_tree.proofs.OfClosed.{each_closed_log, keys_are_the_totals}
@@ -32,7 +32,7 @@ use Rattle.nm_told.proofs.Counting.{linked_once, flagged_once, none_in, no_sum}
 
 -- ---- what a counter tells
 
-pub own_log : (v : View) → log_of v v.number ≡ v.log
+pub own_log : (v : View) → log_held_of v v.number ≡ v.log
 own_log v = rw (eq-eqb v.number v.number refl) refl
 
 pub capped_none : (n : ℕ) → capped n ≡ 0 → n ≡ 0
@@ -44,8 +44,8 @@ alive_joined : (b : Board) (u : Hand) (us : List Hand) → AreOwn b (u ∷ us) �
 alive_joined b u [] own = own.0.alive
 alive_joined b u (x ∷ us) own = alive_joined b x us own.1
 
-live : (o : ℕ) (v : View) → v.spent ≡ false → stands o v ≡ times o (held v.number v.log ∷ v.others)
-live o v alive = ap (λ (s : Bool). times o (cond s [] (held v.number v.log ∷ v.others))) alive
+live : (o : ℕ) (v : View) → v.spent ≡ false → stands o v ≡ times o (held_log v.number v.log ∷ v.others)
+live o v alive = ap (λ (s : Bool). times o (cond s [] (held_log v.number v.log ∷ v.others))) alive
 
 behind : (o : ℕ) (xs : List Held) (h : Held) (ys : List Held) → h.number ≡ o → HasNumber o (xs ++ h ∷ ys)
 behind o [] h ys is = inl is
@@ -71,13 +71,13 @@ module _ (b : Board) (z u : Hand) (us : List Hand) (one : b.layout.workers ≡ 1
   not_two =
       let a : first.number ≡ 0 = below_one (times first.number both) first.number (has_times first.number both (inl refl)) (few first.number) in
       let n = z.pass.view.number in
-      let there : HasNumber n both = inr (behind n first.others (held n (z.pass.view.log ++ passing z.pass.view ∷ [])) z.pass.view.others refl) in
+      let there : HasNumber n both = inr (behind n first.others (held_log n (z.pass.view.log ++ passing z.pass.view ∷ [])) z.pass.view.others refl) in
       let c : n ≡ 0 = below_one (times n both) n (has_times n both there) (few n) in
-      let rest : List Held = first.others ++ held n (z.pass.view.log ++ passing z.pass.view ∷ []) ∷ z.pass.view.others in
-      let inside : HasNumber n rest = behind n first.others (held n (z.pass.view.log ++ passing z.pass.view ∷ [])) z.pass.view.others refl in
+      let rest : List Held = first.others ++ held_log n (z.pass.view.log ++ passing z.pass.view ∷ []) ∷ z.pass.view.others in
+      let inside : HasNumber n rest = behind n first.others (held_log n (z.pass.view.log ++ passing z.pass.view ∷ [])) z.pass.view.others refl in
       let more : 1 ≤ times 0 rest = subst (λ (o : ℕ). 1 ≤ times o rest) c (has_times n rest inside) in
       let head : ◌≡◌ {A = ℕ} (cond (eqb 0 first.number) 1 0) 1 = ap (λ (s : Bool). cond {A = ℕ} s 1 0) (eq-eqb 0 first.number (sym a)) in
-      let sum : times 0 both ≡ cond (eqb 0 first.number) 1 0 + times 0 rest = sum_by-cons (λ (x : Held). cond (eqb 0 x.number) 1 0) (held first.number (first.log ++ passing z.pass.view ∷ [])) rest in
+      let sum : times 0 both ≡ cond (eqb 0 first.number) 1 0 + times 0 rest = sum_by-cons (λ (x : Held). cond (eqb 0 x.number) 1 0) (held_log first.number (first.log ++ passing z.pass.view ∷ [])) rest in
       let few0 : times 0 both ≤ 1 = few 0 in
       absurd (omega (arith, more, head, sum, few0))
 
@@ -89,7 +89,7 @@ module _ (b : Board) (z : Hand) (k : ℕ) (queues : List HeldQueue) (kept : List
   parts : z.pass.view.log ≡ part_of z.pass.view.number (trace_in (ordered b.layout) is.ends.turns)
   parts =
       let v = z.pass.view in
-      let P : Bool → Type 0 = λ s. LogsAre v.layout b.layout (trace_in (ordered b.layout) is.ends.turns) (cond s [] (held v.number v.log ∷ v.others)) in
+      let P : Bool → Type 0 = λ s. LogsAre v.layout b.layout (trace_in (ordered b.layout) is.ends.turns) (cond s [] (held_log v.number v.log ∷ v.others)) in
       let shown : P false = subst P own.alive is.ends.shown in
       shown.1
 
@@ -98,7 +98,7 @@ module _ (b : Board) (z : Hand) (k : ℕ) (queues : List HeldQueue) (kept : List
       let v = z.pass.view in
       let once = subst (λ (n : ℕ). stands v.number v ≤ once_below v.number n) one (is.ends.once v.number) in
       let all = live v.number v own.alive in
-      let some' = has_times v.number (held v.number v.log ∷ v.others) (inl refl) in
+      let some' = has_times v.number (held_log v.number v.log ∷ v.others) (inl refl) in
       below_one (stands v.number v) v.number (omega (arith, all, some')) once
 
   unflagged : (w : ℕ) → w < 1 → won_flags (part_of w (trace_in (ordered b.layout) is.ends.turns)) ≡ 0
@@ -118,7 +118,7 @@ module _ (b : Board) (z : Hand) (k : ℕ) (queues : List HeldQueue) (kept : List
       let v = z.pass.view in
       let rest : List (ℕ × Event) = ((v.number, LeaveWith true) ∷ a.since) ++ is.ends.past.more in
       let run : is.ends.turns ≡ a.before ++ rest = is.ends.past.is ∙ (ap (λ (us : List (ℕ × Event)). us ++ is.ends.past.more) a.is_run ∙ append_assoc a.before ((v.number, LeaveWith true) ∷ a.since) is.ends.past.more) in
-      let moment : HasInserted b.layout a.before v.number k = subst (λ (L : Layout). HasInserted L a.before v.number k) own.own.layout a.moment in
+      let moment : HasWonInsert b.layout a.before v.number k = subst (λ (L : Layout). HasWonInsert L a.before v.number k) own.own.layout a.moment in
       let P : List (ℕ × Event) → Type 0 = λ us. 1 ≤ links_of k b.layout us in
       subst P (sym run) (linked_once b.layout a.before rest v.number k moment)
 

@@ -18,7 +18,7 @@ use Rattle.nm_calls.specs.Won.{capped, won_links, won_flags, won_splices}
 use Rattle.nm_pool.specs.declared.placement.Fit.{Fit}
 use Rattle.nm_tree.specs.declared.worker.Account.{Account}
 use Rattle.nm_tree.specs.declared.worker.Unfinished.{Unfinished}
-use Rattle.nm_tree.specs.Workers.{Hand, IsAs, IsWorker, IsAccount, AreAccounts, IsKept, AreOf, HasOrigin, StandsAt, OnlyOwnLedger, log_of, log_among, ledger_in}
+use Rattle.nm_tree.specs.Workers.{Hand, IsAs, IsWorker, IsAccount, AreAccounts, IsKept, AreOf, HasOrigin, QueueStandsAt, OnlyOwnLedger, log_held_of, log_among, ledger_in}
 use Rattle.nm_tree.proofs.QueueLists.{stands_there, stands_after, held_there, held_after, has_after, had_before, ascend_after, not_none, origin_at}
 use Rattle.nm_tree.proofs.Numbers.{numbers_stay, resigned_stay, room_stays}
 
@@ -31,7 +31,7 @@ own_log : (b : Bool) (x y : List LogEntry) → b ≡ true → (if b then x else 
 own_log b x y is = let P : Bool → Type 0 = λ c. (if c then x else y) ≡ x in subst P (sym is) refl
 
 -- the log of another worker is as it was
-pub log_of_another : (p q : Stand) → IsSamePass p q → (o : ℕ) → o ≢ p.view.number → log_of q.view o ≡ log_of p.view o
+pub log_of_another : (p q : Stand) → IsSamePass p q → (o : ℕ) → o ≢ p.view.number → log_held_of q.view o ≡ log_held_of p.view o
 log_of_another p q same o other =
     let is : (p.view.number == o) ≡ false = ne_eqb p.view.number o (λ e. other (sym e)) in
     let at : (q.view.number == o) ≡ false = ap (λ (x : Stand). x.view.number == o) same ∙ is in
@@ -39,7 +39,7 @@ log_of_another p q same o other =
     ∙ (ap (λ (x : Stand). log_among o x.view.others) same ∙ sym (other_log (p.view.number == o) p.view.log (log_among o p.view.others) is))
 
 -- the own log is that of the own number
-pub log_of_own : (p : Stand) → log_of p.view p.view.number ≡ p.view.log
+pub log_of_own : (p : Stand) → log_held_of p.view p.view.number ≡ p.view.log
 log_of_own p = own_log (p.view.number == p.view.number) p.view.log (log_among p.view.number p.view.others) (eq-eqb p.view.number p.view.number refl)
 
 pub ledger_of_another : (p q : Stand) → OnlyOwnLedger p q → (o : ℕ) → o ≢ p.view.number → ledger_in q.view o ≡ ledger_in p.view o
@@ -69,14 +69,14 @@ other_accounts p q (h ∷ hs) [] same others none are = absurd are
 other_accounts p q (h ∷ hs) (a ∷ xs) same others none are =
     (another_account p q h a same others (λ e. none.0 (sym e)) are.0, other_accounts p q hs xs same others none.1 are.1)
 
-pub accounts_within : (v : View) (i o : ℕ) (hs : List HeldQueue) (xs : List Account) → StandsAt i o hs → AreAccounts v hs xs → i < length xs
+pub accounts_within : (v : View) (i o : ℕ) (hs : List HeldQueue) (xs : List Account) → QueueStandsAt i o hs → AreAccounts v hs xs → i < length xs
 accounts_within v i o [] xs s are = absurd s
 accounts_within v i o (h ∷ hs) [] s are = absurd are
 accounts_within v zero o (h ∷ hs) (a ∷ xs) s are = omega arith
 accounts_within v (suc i) o (h ∷ hs) (a ∷ xs) s are = let more = accounts_within v i o hs xs s are.1 in omega arith
 
 account_there : (v : View) (i o : ℕ) (hs : List HeldQueue) (xs : List Account) (h : HeldQueue) (a : Account)
-    → StandsAt i o hs → AreAccounts v hs xs → h ≡ slice_index_or hs i h → a ≡ slice_index_or xs i a → IsAccount v h a
+    → QueueStandsAt i o hs → AreAccounts v hs xs → h ≡ slice_index_or hs i h → a ≡ slice_index_or xs i a → IsAccount v h a
 account_there v i o [] xs h a s are is at = absurd s
 account_there v i o (g ∷ hs) [] h a s are is at = absurd are
 account_there v zero o (g ∷ hs) (b ∷ xs) h a s are is at =
@@ -86,7 +86,7 @@ account_there v zero o (g ∷ hs) (b ∷ xs) h a s are is at =
 account_there v (suc i) o (g ∷ hs) (b ∷ xs) h a s are is at = account_there v i o hs xs h a s are.1 is at
 
 accounts_after : (p q : Stand) (i : ℕ) (hs : List HeldQueue) (xs : List Account) (g : HeldQueue) (b : Account) → IsSamePass p q → OnlyOwnLedger p q
-    → AreHeld (knowledge p.view) hs → StandsAt i p.view.number hs → IsAccount q.view g b → AreAccounts p.view hs xs → AreAccounts q.view (slice_set hs i g) (slice_set xs i b)
+    → AreHeld (knowledge p.view) hs → QueueStandsAt i p.view.number hs → IsAccount q.view g b → AreAccounts p.view hs xs → AreAccounts q.view (slice_set hs i g) (slice_set xs i b)
 accounts_after p q i [] xs g b same others held s is are = absurd s
 accounts_after p q i (h ∷ hs) [] g b same others held s is are = absurd are
 accounts_after p q zero (h ∷ hs) (a ∷ xs) g b same others held s is are =
@@ -109,7 +109,7 @@ kept_there w xs home h a is there at =
 
 -- an origin whose ledger is held has its queue still
 origin_stays : (w : Hand) (q : Stand) (home : ℕ) (g : HeldQueue) → ((o : ℕ) → IsSome (held (knowledge w.pass.view).ledgers o) → HasOrigin o w.queues) → OnlyOwnLedger w.pass q
-    → StandsAt home w.pass.view.number w.queues → g.origin ≡ w.pass.view.number → (o : ℕ) → IsSome (held (knowledge q.view).ledgers o) → HasOrigin o (slice_set w.queues home g)
+    → QueueStandsAt home w.pass.view.number w.queues → g.origin ≡ w.pass.view.number → (o : ℕ) → IsSome (held (knowledge q.view).ledgers o) → HasOrigin o (slice_set w.queues home g)
 origin_stays w q home g all others s own o some' =
     elim (eqb_tells o w.pass.view.number) [
       | inl own' ↦ let P : ℕ → Type 0 = λ x. HasOrigin x (slice_set w.queues home g) in subst P (sym own'.1) (origin_at home w.pass.view.number (slice_set w.queues home g) (stands_after home w.pass.view.number home w.queues g s own))
@@ -117,7 +117,7 @@ origin_stays w q home g all others s own o some' =
     ]
 
 -- the queues are those of the same workers
-numbers_after : (v : View) (i o : ℕ) (hs : List HeldQueue) (g : HeldQueue) → StandsAt i o hs → g.origin ≡ o → AreOf v hs → AreOf v (slice_set hs i g)
+numbers_after : (v : View) (i o : ℕ) (hs : List HeldQueue) (g : HeldQueue) → QueueStandsAt i o hs → g.origin ≡ o → AreOf v hs → AreOf v (slice_set hs i g)
 numbers_after v i o hs g s e is = record {
   each = λ x has. is.each x (had_before x i o hs g s e has);
   all = λ x has. has_after x i o hs g s e (is.all x has);
@@ -141,7 +141,7 @@ changed {r} {s} w xs home q n e g b is same kept others private stands =
       };
       accounts = accounts_after w.pass q home w.queues xs g b same others is.between.queues is.own kept.account is.accounts;
       few = let P : ℕ → Type 0 = λ n. n ≤ 64 in subst P (sym (length-set w.queues home g)) is.few;
-      own = let P : ℕ → Type 0 = λ o. StandsAt home o (slice_set w.queues home g) in subst P (sym number) (stands_after home w.pass.view.number home w.queues g is.own own);
+      own = let P : ℕ → Type 0 = λ o. QueueStandsAt home o (slice_set w.queues home g) in subst P (sym number) (stands_after home w.pass.view.number home w.queues g is.own own);
       numbers = numbers_stay w.pass q (slice_set w.queues home g) same (numbers_after w.pass.view home w.pass.view.number w.queues g is.own own is.numbers);
       resigned = resigned_stay w.pass q same is.resigned;
       alive = ap (λ (x : Stand). x.view.spent) same ∙ is.alive;

@@ -12,13 +12,13 @@ use Rattle.nm_steps.specs.Rules.{knowledge}
 use Rattle.nm_steps.specs.Steps.{Stand, IsSamePass, IsInRun}
 use Rattle.nm_epoch.specs.declared.collecting.Entry.{Entry}
 use Rattle.nm_epoch.specs.declared.collecting.HeldQueue.{HeldQueue}
-use Rattle.nm_epoch.specs.Collecting.{IsQueueOf, AreHeld, NoneHas, HaveLost, KeepsOthers, KeepsRetired, rest_of, is_ripe}
+use Rattle.nm_epoch.specs.Collecting.{IsQueueOf, AreHeld, NoneHas, HaveLost, KeepsOtherLedgers, KeepsRetired, rest_of, is_ripe}
 use Rattle.nm_epoch.specs.Resting.{epochs}
 use Rattle.nm_calls.specs.Won.{capped, won_links, won_flags, won_splices}
 use Rattle.nm_pool.specs.declared.placement.Fit.{Fit}
 use Rattle.nm_tree.specs.declared.worker.Account.{Account}
 use Rattle.nm_tree.specs.declared.worker.Unfinished.{Unfinished}
-use Rattle.nm_tree.specs.Workers.{Hand, IsAs, IsWorker, IsAccount, AreAccounts, ArePaired, HaveNoted, noted_for, HasOrigin, AreAbove, Ascend, StandsAt, log_of, ledger_in}
+use Rattle.nm_tree.specs.Workers.{Hand, IsAs, IsWorker, IsAccount, AreAccounts, ArePaired, HaveNoted, noted_for, HasOrigin, AreAbove, Ascend, QueueStandsAt, log_held_of, ledger_in}
 use Rattle.nm_tree.proofs.HeldLedgers.{split_in_run, retired_alike}
 use Rattle.nm_tree.proofs.Numbers.{numbers_stay, resigned_stay, room_stays}
 use Rattle.nm_tree.proofs.Quiet.{Quiet, each_as_before}
@@ -82,7 +82,7 @@ ascend_still epoch [] (g ∷ gs) lost up = absurd lost
 ascend_still epoch (h ∷ hs) [] lost up = absurd lost
 ascend_still epoch (h ∷ hs) (g ∷ gs) lost up = let P : ℕ → Type 0 = λ n. AreAbove n gs in subst P (sym lost.0) (above_still epoch h.origin hs gs lost.2 up)
 
-stands_still_at : (epoch i o : ℕ) (hs gs : List HeldQueue) → HaveLost epoch hs gs → StandsAt i o hs → StandsAt i o gs
+stands_still_at : (epoch i o : ℕ) (hs gs : List HeldQueue) → HaveLost epoch hs gs → QueueStandsAt i o hs → QueueStandsAt i o gs
 stands_still_at epoch i o [] gs lost s = absurd s
 stands_still_at epoch i o (h ∷ hs) [] lost s = absurd lost
 stands_still_at epoch zero o (h ∷ hs) (g ∷ gs) lost s = lost.0 ∙ s
@@ -100,7 +100,7 @@ seen_quietly : (u : Bool) (epoch : ℕ) (ls : List (Option Ledger)) → u ≡ fa
 seen_quietly true epoch ls is = absurd (cc)
 seen_quietly false epoch ls is = refl
 
-all_still : (epoch : ℕ) (p q : Stand) (hs gs : List HeldQueue) → (epochs p).unlabelled ≡ false → HaveLost epoch hs gs → KeepsOthers epoch hs (knowledge p.view) (knowledge q.view)
+all_still : (epoch : ℕ) (p q : Stand) (hs gs : List HeldQueue) → (epochs p).unlabelled ≡ false → HaveLost epoch hs gs → KeepsOtherLedgers epoch hs (knowledge p.view) (knowledge q.view)
     → ((o : ℕ) → IsSome (held (knowledge p.view).ledgers o) → HasOrigin o hs) → (o : ℕ) → IsSome (held (knowledge q.view).ledgers o) → HasOrigin o gs
 all_still epoch p q hs gs labelled lost others all o some' =
     elim (has_or_none o hs) [
@@ -128,9 +128,9 @@ freed_account epoch p q h g a b same run quiet' retired was is origin items old 
     let alike = retired_alike p.view q.view h.origin h.queue.items g.queue.items was is_there (retired h.origin) in
     let freed' : b.freed ≡ capped (a.freed + (a.waiting - length g.queue.items)) = ap (λ (x : Account). x.freed) noted in
     let F : ℕ → Type 0 = λ o. b.freed ≡ capped (length (ledger_in q.view o).freed) in
-    let L : ℕ → Type 0 = λ o. a.links ≡ capped (won_links (log_of q.view o)) in
-    let G : ℕ → Type 0 = λ o. a.flags ≡ capped (won_flags (log_of q.view o)) in
-    let S : ℕ → Type 0 = λ o. a.splices ≡ capped (won_splices (log_of q.view o)) in
+    let L : ℕ → Type 0 = λ o. a.links ≡ capped (won_links (log_held_of q.view o)) in
+    let G : ℕ → Type 0 = λ o. a.flags ≡ capped (won_flags (log_held_of q.view o)) in
+    let S : ℕ → Type 0 = λ o. a.splices ≡ capped (won_splices (log_held_of q.view o)) in
     record {
       origin = ap (λ (x : Account). x.origin) noted ∙ (old.origin ∙ sym origin);
       links = ap (λ (x : Account). x.links) noted ∙ subst L (sym origin) (old.links ∙ ap capped (sym (each_as_before won_links p q same quiet'.links h.origin)));
@@ -158,11 +158,11 @@ freed_accounts epoch p q (h ∷ hs) (g ∷ gs) (a ∷ xs) (b ∷ ys) same run qu
 -- ---- a whole worker
 
 pub collected : {r s r' s' : ℕ} {f : Fit} (epoch : ℕ) (w : Hand) (xs ys : List Account) (home : ℕ) (q : Stand) (gs : List HeldQueue) (n : Option Unfinished) (e : Option ℕ) → r' ≡ r → s' ≡ s → IsWorker w xs home r s → IsSamePass w.pass q → IsInRun q
-    → Quiet w.pass.view.log q.view.log → (epochs w.pass).unlabelled ≡ false → HaveLost epoch w.queues gs → AreHeld (knowledge q.view) gs → KeepsOthers epoch w.queues (knowledge w.pass.view) (knowledge q.view)
+    → Quiet w.pass.view.log q.view.log → (epochs w.pass).unlabelled ≡ false → HaveLost epoch w.queues gs → AreHeld (knowledge q.view) gs → KeepsOtherLedgers epoch w.queues (knowledge w.pass.view) (knowledge q.view)
     → KeepsRetired (knowledge w.pass.view) (knowledge q.view) → (knowledge q.view).drafts ≡ (knowledge w.pass.view).drafts → HaveNoted gs xs ys → IsAs q n e
     → IsWorker (record { pass = q; queues = gs; pending = n; held = e; fit = f }) ys home r' s'
 collected {r} {s} {r'} {s'} epoch w xs ys home q gs n e same_room same_account_room is same run quiet' labelled lost held' others retired drafts noted stands =
-    let P : ℕ → Type 0 = λ o. StandsAt home o gs in
+    let P : ℕ → Type 0 = λ o. QueueStandsAt home o gs in
     record {
       between = record {
         queues = held';

@@ -18,7 +18,7 @@ use Rattle.nm_laws.proofs.Shapes.{row_learn}
 use Rattle.nm_order.specs.Logs.{known_after}
 use Rattle.nm_steps.specs.declared.view.Held.{Held}
 use Rattle.nm_steps.specs.declared.view.View.{View}
-use Rattle.nm_steps.specs.Rules.{held as is_held, knowledge, stands, passing, joined}
+use Rattle.nm_steps.specs.Rules.{held_log, knowledge, stands, passing, joined}
 use Rattle.nm_steps.specs.Ties.{StandsInRun}
 use Rattle.nm_steps.proofs.Keeping.{live, once_is}
 use Rattle.nm_steps.proofs.Presence.{known_push}
@@ -27,7 +27,7 @@ use Rattle.nm_epoch.specs.Collecting.{AreHeld}
 use Rattle.nm_calls.specs.Won.{capped, won_links, won_flags, won_splices}
 use Rattle.nm_calls.proofs.Adding.{adds_these}
 use Rattle.nm_tree.specs.declared.worker.Account.{Account}
-use Rattle.nm_tree.specs.Workers.{IsAccount, AreAccounts, AreOf, HasNumber, HasOrigin, log_among, log_of, ledger_in}
+use Rattle.nm_tree.specs.Workers.{IsAccount, AreAccounts, AreOf, HasNumber, HasOrigin, log_among, log_held_of, ledger_in}
 use Rattle.nm_tree.proofs.Freeing.{has_or_none}
 use Rattle.nm_tree.proofs.HeldLedgers.{ledger_held}
 use Rattle.nm_tree.proofs.Merging.{AreApart}
@@ -66,7 +66,7 @@ has_times o (h ∷ hs) (inl is) =
 has_times o (h ∷ hs) (inr has) = let rest = has_times o hs has in let all = times-cons o h hs in omega (arith, rest, all)
 
 abbrev pub logs : View → List Held
-logs v = is_held v.number v.log ∷ v.others
+logs v = held_log v.number v.log ∷ v.others
 
 has_number_front : (o : ℕ) (hs gs : List Held) → HasNumber o hs → HasNumber o (hs ++ gs)
 has_number_front o [] gs has = absurd has
@@ -110,7 +110,7 @@ among_back o (h ∷ hs) gs none' = skip (h.number == o) (ne_eqb h.number o (λ a
     skip b is = let P : Bool → Type 0 = λ c. (if c then h.log else log_among o (hs ++ gs)) ≡ log_among o (hs ++ gs) in subst P (sym is) refl
 
 -- an own log that a join entered tells what it told
-own_alike : (f : List Entry → ℕ) (o n : ℕ) (old new : List Entry) (others : List Held) → f new ≡ f old → f (log_among o (is_held n new ∷ others)) ≡ f (log_among o (is_held n old ∷ others))
+own_alike : (f : List Entry → ℕ) (o n : ℕ) (old new : List Entry) (others : List Held) → f new ≡ f old → f (log_among o (held_log n new ∷ others)) ≡ f (log_among o (held_log n old ∷ others))
 own_alike f o n old new others same = by (n == o)
   where
     by : (b : Bool) → f (if b then new else log_among o others) ≡ f (if b then old else log_among o others)
@@ -124,7 +124,7 @@ module _ (v w : View) (run : StandsInRun (joined v w)) where
   j = joined v w
 
   abbrev theirs : List Held
-  theirs = is_held w.number (w.log ++ passing w ∷ []) ∷ w.others
+  theirs = held_log w.number (w.log ++ passing w ∷ []) ∷ w.others
 
   same_number : (o : ℕ) → HasNumber o (logs w) → HasNumber o theirs
   same_number o has = has
@@ -132,9 +132,9 @@ module _ (v w : View) (run : StandsInRun (joined v w)) where
   -- no number is in both
   pub apart : (o : ℕ) → HasNumber o (logs v) → HasNumber o (logs w) → ⊥
   apart o first second =
-      let all : stands o j ≡ times o (is_held v.number (v.log ++ passing w ∷ []) ∷ (v.others ++ theirs)) = ap (times o) (live j run.alive) in
-      let cut : times o (is_held v.number (v.log ++ passing w ∷ []) ∷ (v.others ++ theirs)) ≡ times o (is_held v.number (v.log ++ passing w ∷ []) ∷ v.others) + times o theirs = times-append o (is_held v.number (v.log ++ passing w ∷ []) ∷ v.others) theirs in
-      let a : 1 ≤ times o (is_held v.number (v.log ++ passing w ∷ []) ∷ v.others) = has_times o (is_held v.number (v.log ++ passing w ∷ []) ∷ v.others) first in
+      let all : stands o j ≡ times o (held_log v.number (v.log ++ passing w ∷ []) ∷ (v.others ++ theirs)) = ap (times o) (live j run.alive) in
+      let cut : times o (held_log v.number (v.log ++ passing w ∷ []) ∷ (v.others ++ theirs)) ≡ times o (held_log v.number (v.log ++ passing w ∷ []) ∷ v.others) + times o theirs = times-append o (held_log v.number (v.log ++ passing w ∷ []) ∷ v.others) theirs in
+      let a : 1 ≤ times o (held_log v.number (v.log ++ passing w ∷ []) ∷ v.others) = has_times o (held_log v.number (v.log ++ passing w ∷ []) ∷ v.others) first in
       let b : 1 ≤ times o theirs = has_times o theirs second in
       let most = run.once o in
       let one = (once_is o j.layout.workers).0 in
@@ -200,15 +200,15 @@ module _ (v w : View) (run : StandsInRun (joined v w)) where
       )
 
       -- what is counted of each
-      first_log : (f : List Entry → ℕ) → f (v.log ++ passing w ∷ []) ≡ f v.log → (o : ℕ) → HasOrigin o hs → f (log_of j o) ≡ f (log_of v o)
+      first_log : (f : List Entry → ℕ) → f (v.log ++ passing w ∷ []) ≡ f v.log → (o : ℕ) → HasOrigin o hs → f (log_held_of j o) ≡ f (log_held_of v o)
       first_log f same_log o has =
-          ap f (among_front o (is_held v.number (v.log ++ passing w ∷ []) ∷ v.others) theirs (of_first.each o has)) ∙ own_alike f o v.number v.log (v.log ++ passing w ∷ []) v.others same_log
+          ap f (among_front o (held_log v.number (v.log ++ passing w ∷ []) ∷ v.others) theirs (of_first.each o has)) ∙ own_alike f o v.number v.log (v.log ++ passing w ∷ []) v.others same_log
 
-      second_log : (f : List Entry → ℕ) → f (w.log ++ passing w ∷ []) ≡ f w.log → (o : ℕ) → HasOrigin o gs → f (log_of j o) ≡ f (log_of w o)
+      second_log : (f : List Entry → ℕ) → f (w.log ++ passing w ∷ []) ≡ f w.log → (o : ℕ) → HasOrigin o gs → f (log_held_of j o) ≡ f (log_held_of w o)
       second_log f same_log o has =
-          ap f (among_back o (is_held v.number (v.log ++ passing w ∷ []) ∷ v.others) theirs (λ first. apart o first (of_second.each o has))) ∙ own_alike f o w.number w.log (w.log ++ passing w ∷ []) w.others same_log
+          ap f (among_back o (held_log v.number (v.log ++ passing w ∷ []) ∷ v.others) theirs (λ first. apart o first (of_second.each o has))) ∙ own_alike f o w.number w.log (w.log ++ passing w ∷ []) w.others same_log
 
-      account_kept : (u : View) (x : HeldQueue) (a : Account) → (f : (f : List Entry → ℕ) → (f (u.log ++ passing w ∷ []) ≡ f u.log) → f (log_of j x.origin) ≡ f (log_of u x.origin))
+      account_kept : (u : View) (x : HeldQueue) (a : Account) → (f : (f : List Entry → ℕ) → (f (u.log ++ passing w ∷ []) ≡ f u.log) → f (log_held_of j x.origin) ≡ f (log_held_of u x.origin))
           → held (knowledge j).ledgers x.origin ≡ held (knowledge u).ledgers x.origin → j.layout ≡ u.layout → IsAccount u x a → IsAccount j x a
       account_kept u x a counts ledger layout is =
           let q = quiet_join u.log w in

@@ -8,7 +8,7 @@ use Rattle.nm_epoch.specs.declared.collecting.HeldQueue.{HeldQueue}
 use Rattle.nm_epoch.specs.Collecting.{IsQueueOf, AreHeld, NoneHas}
 use Rattle.nm_calls.specs.Won.{capped}
 use Rattle.nm_tree.specs.declared.worker.Account.{Account}
-use Rattle.nm_tree.specs.Workers.{IsAccount, AreAccounts, IsLedger, StandsAt, HasOrigin, account_in, counts_in, ledger_in}
+use Rattle.nm_tree.specs.Workers.{IsAccount, AreAccounts, IsLedger, QueueStandsAt, HasOrigin, account_in, counts_in, ledger_in}
 use Rattle.nm_tree.proofs.HeldLedgers.{ledger_waits}
 
 capped_sum : (a f w l r : ℕ) → a ≡ capped f → w ≡ l → r ≡ f + l → capped (a + w) ≡ capped r
@@ -24,7 +24,7 @@ account_told v h a is queue = record {
   queued = is.waiting ∙ sym (ledger_waits v h.origin h.queue.items queue);
 }
 
-pub own_told : (v : View) (i o : ℕ) (hs : List HeldQueue) (xs : List Account) (a : Account) → StandsAt i o hs → AreAccounts v hs xs → AreHeld (knowledge v) hs → a ≡ slice_index_or xs i a → IsLedger v o (counts_in a)
+pub own_told : (v : View) (i o : ℕ) (hs : List HeldQueue) (xs : List Account) (a : Account) → QueueStandsAt i o hs → AreAccounts v hs xs → AreHeld (knowledge v) hs → a ≡ slice_index_or xs i a → IsLedger v o (counts_in a)
 own_told v i o [] xs a s are held is = absurd s
 own_told v i o (h ∷ hs) [] a s are held is = absurd are
 own_told v zero o (h ∷ hs) (b ∷ xs) a s are held is =

@@ -8,7 +8,7 @@ use Rattle.nm_steps.specs.declared.view.View.{View}
 use Rattle.nm_epoch.specs.declared.collecting.HeldQueue.{HeldQueue}
 use Rattle.nm_epoch.specs.Collecting.{AreHeld, IsQueueOf, NoneHas}
 use Rattle.nm_tree.specs.declared.worker.Account.{Account}
-use Rattle.nm_tree.specs.Workers.{IsAccount, AreAccounts, HasOrigin, AreAbove, Ascend, StandsAt}
+use Rattle.nm_tree.specs.Workers.{IsAccount, AreAccounts, HasOrigin, AreAbove, Ascend, QueueStandsAt}
 use Rattle.nm_tree.specs.Resigning.{place_in, inserted, merged, merged_accounts}
 
 -- ---- how many
@@ -127,7 +127,7 @@ ascend_inserted g (h ∷ hs) none' up = by (nat_lt h.origin g.origin) refl
     by false is = let ne = none'.0 in ((let q : g.origin < h.origin = grind (arith, nat_tests, is, ne) in q), up)
 
 -- an origin that they have stands at its place
-pub stands_at_place : (o : ℕ) (hs : List HeldQueue) → Ascend hs → HasOrigin o hs → StandsAt (place_in o hs) o hs
+pub stands_at_place : (o : ℕ) (hs : List HeldQueue) → Ascend hs → HasOrigin o hs → QueueStandsAt (place_in o hs) o hs
 stands_at_place o [] up has = absurd has
 stands_at_place o (h ∷ hs) up has = by (nat_lt h.origin o) refl (λ has'. stands_at_place o hs (tail_up h hs up) has') has
   where
@@ -140,7 +140,7 @@ stands_at_place o (h ∷ hs) up has = by (nat_lt h.origin o) refl (λ has'. stan
     above_has m (g ∷ gs) above (inl is) = let a = above.0 in omega (arith, a, is)
     above_has m (g ∷ gs) above (inr has') = let a = above.0 in let b = above_has g.origin gs above.1 has' in omega (arith, a, b)
 
-    by : (b : Bool) → nat_lt h.origin o ≡ b → (HasOrigin o hs → StandsAt (place_in o hs) o hs) → HasOrigin o (h ∷ hs) → StandsAt (if b then suc (place_in o hs) else 0) o (h ∷ hs)
+    by : (b : Bool) → nat_lt h.origin o ≡ b → (HasOrigin o hs → QueueStandsAt (place_in o hs) o hs) → HasOrigin o (h ∷ hs) → QueueStandsAt (if b then suc (place_in o hs) else 0) o (h ∷ hs)
     by true is rest (inl at) = absurd (grind (arith, nat_tests, is, at))
     by true is rest (inr has') = rest has'
     by false is rest (inl at) = at

@@ -9,7 +9,7 @@ use Rattle.nm_edge.specs.Layouts.{Layout}
 use Rattle.nm_model.specs.declared.trace.Turn.{Turn}
 use Rattle.nm_model.specs.Headline.{StandsAt, Place, has_after, waits_of, freed_of, words_after}
 use Rattle.nm_model.specs.Headline.Place.{InPool, InHands, OnPath as ByPath, Waits}
-use Rattle.nm_order.specs.History.{HasHistory}
+use Rattle.nm_order.specs.History.{RunHasHistory}
 use Rattle.nm_order.specs.Intervals.{InSet}
 use Rattle.nm_order.specs.LoggedTotals.{TotalsAreInTheLogs}
 use Rattle.nm_order.specs.Totals.{TotalsAgree}
@@ -119,7 +119,7 @@ pub queues_are_the_rest : OfEachClosed QueuesAreTheRest
 queues_are_the_rest b ws queues kept free reached is w h at =
     ap (λ (ns : List NodeId). freed_of w is.turns ++ ns) (is.headline.waiting w h at) ∙ (is.headline.headline.queues is.turns [] (sym (append-nil is.turns))).queues w
 
-pub each_closed_run_has_a_history : OfEachClosedRun HasHistory
+pub each_closed_run_has_a_history : OfEachClosedRun RunHasHistory
 each_closed_run_has_a_history b ws queues kept free reached is = each_run_has_a_history b.layout (enough_nodes b.layout is.ends.fits) is.ends.turns is.ends.keys
 
 pub each_closed_total_agrees : OfEachClosedRun TotalsAgree

@@ -19,7 +19,7 @@ use Rattle.nm_calls.specs.Won.{capped, won_links, won_flags, won_splices}
 use Rattle.nm_pool.specs.declared.placement.Fit.{Fit}
 use Rattle.nm_tree.specs.declared.worker.Account.{Account}
 use Rattle.nm_tree.specs.Plays.{IsReady}
-use Rattle.nm_tree.specs.Workers.{Hand, HaveFit, IsWorker, IsAccount, HasOrigin, HasNumber, HoldNoSlot, HaveWorkers, IsFresh, AreAllFresh, IsNewWorker, AreMade, AreNew, log_of, ledger_in}
+use Rattle.nm_tree.specs.Workers.{Hand, HaveFit, IsWorker, IsAccount, HasOrigin, HasNumber, HoldNoSlot, HaveWorkers, IsFresh, AreAllFresh, IsNewWorker, AreMade, AreNew, log_held_of, ledger_in}
 use Rattle.nm_tree.proofs.Changing.{log_of_own}
 
 -- ---- one worker
@@ -30,7 +30,7 @@ blank o = record { origin = o; links = 0; flags = 0; splices = 0; freed = 0; wai
 
 fresh_account : (p : Stand) (h : HeldQueue) → HasDoneNothing p → h.origin ≡ p.view.number → h.queue.items ≡ [] → IsAccount p.view h (blank h.origin)
 fresh_account p h d own empty =
-    let log : log_of p.view h.origin ≡ [] = ap (λ (o : ℕ). log_of p.view o) own ∙ (log_of_own p ∙ d.log) in
+    let log : log_held_of p.view h.origin ≡ [] = ap (λ (o : ℕ). log_held_of p.view o) own ∙ (log_of_own p ∙ d.log) in
     let ledger : ledger_in p.view h.origin ≡ fresh_ledger = ap (λ (o : ℕ). ledger_in p.view o) own ∙ ap (λ (l : Option Ledger). unwrap_or l fresh_ledger) d.ledger in
     let none' : length h.queue.items ≡ 0 = ap (λ (es : List Entry). length es) empty in
     let r : length (ledger_in p.view h.origin).retired ≡ 0 = ap (λ (l : Ledger). length l.retired) ledger in

@@ -10,10 +10,10 @@ use Rattle.nm_steps.specs.Steps.{Stand, IsSamePass, IsInRun}
 use Rattle.nm_epoch.specs.declared.collecting.Entry.{Entry}
 use Rattle.nm_epoch.specs.declared.collecting.HeldQueue.{HeldQueue}
 use Rattle.nm_epoch.specs.Collecting.{IsQueueOf}
-use Rattle.nm_calls.specs.Cleanups.{KeepsLedgers, freed_of}
+use Rattle.nm_calls.specs.Cleanups.{KeepsLedgers, freed_of_origin}
 use Rattle.nm_calls.specs.Won.{capped, won_links, won_flags, won_splices, HasWon}
 use Rattle.nm_tree.specs.declared.worker.Account.{Account}
-use Rattle.nm_tree.specs.Workers.{IsKept, log_of, ledger_in}
+use Rattle.nm_tree.specs.Workers.{IsKept, log_held_of, ledger_in}
 use Rattle.nm_tree.proofs.HeldLedgers.{ledger_held, ledger_waits, split_in_run}
 use Rattle.nm_tree.proofs.Changing.{log_of_own}
 
@@ -34,10 +34,10 @@ pub record IsNoted (q : Stand) (h g : HeldQueue) (a b : Account) (l f : ℕ) : T
   pub freed : b.freed ≡ a.freed
   pub waiting : b.waiting ≡ length g.queue.items
 
-freed_alike : (p q : Stand) (o : ℕ) (es fs : List Entry) → IsQueueOf (knowledge p.view) o es → IsQueueOf (knowledge q.view) o fs → freed_of (knowledge q.view) o ≡ freed_of (knowledge p.view) o → length (ledger_in q.view o).freed ≡ length (ledger_in p.view o).freed
+freed_alike : (p q : Stand) (o : ℕ) (es fs : List Entry) → IsQueueOf (knowledge p.view) o es → IsQueueOf (knowledge q.view) o fs → freed_of_origin (knowledge q.view) o ≡ freed_of_origin (knowledge p.view) o → length (ledger_in q.view o).freed ≡ length (ledger_in p.view o).freed
 freed_alike p q o es fs was is same =
-    let old : freed_of (knowledge p.view) o ≡ Some (ledger_in p.view o).freed = ap (option_map (λ (l : Ledger). l.freed)) (ledger_held p.view o es was) in
-    let new : freed_of (knowledge q.view) o ≡ Some (ledger_in q.view o).freed = ap (option_map (λ (l : Ledger). l.freed)) (ledger_held q.view o fs is) in
+    let old : freed_of_origin (knowledge p.view) o ≡ Some (ledger_in p.view o).freed = ap (option_map (λ (l : Ledger). l.freed)) (ledger_held p.view o es was) in
+    let new : freed_of_origin (knowledge q.view) o ≡ Some (ledger_in q.view o).freed = ap (option_map (λ (l : Ledger). l.freed)) (ledger_held q.view o fs is) in
     ap (λ (ns : List NodeId). length ns) (same_Some _ _ (sym new ∙ (same ∙ old)))
 
 split_after : (p q : Stand) (h g : HeldQueue) (a : Account) → IsKept p h a → (q ≡ p) ⊎ IsInRun q → IsQueueOf (knowledge q.view) q.view.number g.queue.items
@@ -58,11 +58,11 @@ pub kept_after : (p q : Stand) (h g : HeldQueue) (a b : Account) (l f : ℕ) →
 kept_after p q h g a b l f kept same run won ledgers noted =
     let number : q.view.number ≡ p.view.number = ap (λ (x : Stand). x.view.number) same in
     let own : g.origin ≡ q.view.number = noted.same_origin ∙ (kept.own ∙ sym number) in
-    let log : log_of q.view g.origin ≡ q.view.log = ap (λ (o : ℕ). log_of q.view o) own ∙ log_of_own q in
-    let log_was : log_of p.view h.origin ≡ p.view.log = ap (λ (o : ℕ). log_of p.view o) kept.own ∙ log_of_own p in
+    let log : log_held_of q.view g.origin ≡ q.view.log = ap (λ (o : ℕ). log_held_of q.view o) own ∙ log_of_own q in
+    let log_was : log_held_of p.view h.origin ≡ p.view.log = ap (λ (o : ℕ). log_held_of p.view o) kept.own ∙ log_of_own p in
     let queue_was : IsQueueOf (knowledge p.view) q.view.number h.queue.items = let P : ℕ → Type 0 = λ o. IsQueueOf (knowledge p.view) o h.queue.items in subst P (sym number) kept.queue in
-    let freed_same : freed_of (knowledge q.view) q.view.number ≡ freed_of (knowledge p.view) q.view.number =
-    let P : ℕ → Type 0 = λ o. freed_of (knowledge q.view) o ≡ freed_of (knowledge p.view) o in subst P (sym number) ledgers.freed in
+    let freed_same : freed_of_origin (knowledge q.view) q.view.number ≡ freed_of_origin (knowledge p.view) q.view.number =
+    let P : ℕ → Type 0 = λ o. freed_of_origin (knowledge q.view) o ≡ freed_of_origin (knowledge p.view) o in subst P (sym number) ledgers.freed in
     let freed = freed_alike p q q.view.number h.queue.items g.queue.items queue_was noted.queue freed_same in
     let freed_was : a.freed ≡ capped (length (ledger_in p.view q.view.number).freed) =
     let P : ℕ → Type 0 = λ o. a.freed ≡ capped (length (ledger_in p.view o).freed) in subst P (kept.own ∙ sym number) kept.account.freed in
@@ -73,8 +73,8 @@ kept_after p q h g a b l f kept same run won ledgers noted =
       queue = noted.queue;
       account = record {
         origin = noted.origin ∙ (kept.account.origin ∙ sym noted.same_origin);
-        links = more_capped a.links b.links (won_links p.view.log) (won_links (log_of q.view g.origin)) l (kept.account.links ∙ ap (λ (x : List LogEntry). capped (won_links x)) log_was) noted.links (ap won_links log ∙ won.links);
-        flags = more_capped a.flags b.flags (won_flags p.view.log) (won_flags (log_of q.view g.origin)) f (kept.account.flags ∙ ap (λ (x : List LogEntry). capped (won_flags x)) log_was) noted.flags (ap won_flags log ∙ won.flags);
+        links = more_capped a.links b.links (won_links p.view.log) (won_links (log_held_of q.view g.origin)) l (kept.account.links ∙ ap (λ (x : List LogEntry). capped (won_links x)) log_was) noted.links (ap won_links log ∙ won.links);
+        flags = more_capped a.flags b.flags (won_flags p.view.log) (won_flags (log_held_of q.view g.origin)) f (kept.account.flags ∙ ap (λ (x : List LogEntry). capped (won_flags x)) log_was) noted.flags (ap won_flags log ∙ won.flags);
         splices = noted.splices ∙ ap (λ (x : List LogEntry). capped (won_splices x)) (sym log);
         freed = subst R (sym own) (noted.freed ∙ (freed_was ∙ ap capped (sym freed)));
         waiting = noted.waiting;

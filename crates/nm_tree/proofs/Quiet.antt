@@ -12,13 +12,13 @@ use Rattle.nm_epoch.specs.declared.answers.Advance.TheVariants as advance
 use Rattle.nm_epoch.specs.declared.collecting.Entry.{Entry as Waiting}
 use Rattle.nm_epoch.specs.Collecting.{freeing}
 use Rattle.nm_epoch.specs.Scans.{LooksAt, AllLetPass, SightThenScans, IsAdvance}
-use Rattle.nm_epoch.specs.Tries.{LostTries, IsPinned, IsMoved}
+use Rattle.nm_epoch.specs.Tries.{LostTries, IsPinnedBy, IsMoved}
 use Rattle.nm_epoch.specs.Watches.{AllWatched, SightThenWatch}
 use Rattle.nm_calls.specs.declared.lookup.Busy.{Busy}
 use Rattle.nm_calls.specs.Calls.{HasDid, HasMissed}
 use Rattle.nm_calls.specs.Won.{won_links, won_flags, won_splices, HasWon}
 use Rattle.nm_calls.proofs.Adding.{Adds, adds_none, adds_these, pin_adds, moved_adds, lost_walks_add, end_adds}
-use Rattle.nm_tree.specs.Workers.{log_among, log_of}
+use Rattle.nm_tree.specs.Workers.{log_among, log_held_of}
 
 -- nothing was won between a log and a later one
 pub record Quiet (old new : List Entry) : Type 0 where
@@ -72,7 +72,7 @@ lost_tries zero old new h = quiet_none old new h
 lost_tries (suc n) old new h =
     quiet_then old h.0 new (lost_tries n old h.0 h.1) (quiet_then h.0 _ new (quiet h.0 _ (adds_these _ h.0 _ refl)) (quiet _ new (adds_these _ _ new h.2.2)))
 
-pub pinned : (tries : ℕ) (old new : List Entry) (e : ℕ) → IsPinned event.Sight tries old new e → Quiet old new
+pub pinned : (tries : ℕ) (old new : List Entry) (e : ℕ) → IsPinnedBy event.Sight tries old new e → Quiet old new
 pinned tries old new e h =
     quiet_then old _ new (quiet old _ (adds_these _ old _ refl))
     (quiet_then _ h.2 new (lost_tries h.1 _ h.2 h.4) (quiet_then h.2 _ new (quiet h.2 _ (adds_these _ h.2 _ refl)) (quiet _ new (adds_these _ _ new h.5.1))))
@@ -141,7 +141,7 @@ pick f b true x y u v is own others = let P : Bool → Type 0 = λ d. f (if d th
 pick f b false x y u v is own others = let P : Bool → Type 0 = λ d. f (if d then x else u) ≡ f v in subst P (sym is) (ap f others)
 
 -- what is counted of each of them is as it was, where it is so of the own one
-pub each_as_before : (f : List Entry → ℕ) (p q : Stand) → IsSamePass p q → f q.view.log ≡ f p.view.log → (o : ℕ) → f (log_of q.view o) ≡ f (log_of p.view o)
+pub each_as_before : (f : List Entry → ℕ) (p q : Stand) → IsSamePass p q → f q.view.log ≡ f p.view.log → (o : ℕ) → f (log_held_of q.view o) ≡ f (log_held_of p.view o)
 each_as_before f p q same own o =
     pick f (q.view.number == o) (p.view.number == o) q.view.log p.view.log (log_among o q.view.others) (log_among o p.view.others)
     (ap (λ (x : Stand). x.view.number == o) same)

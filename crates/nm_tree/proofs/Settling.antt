@@ -14,7 +14,7 @@ use Rattle.nm_order.proofs.NothingPends.{nothing_pends}
 use Rattle.nm_report.specs.Ended.{IsEndOf}
 use Rattle.nm_steps.specs.declared.view.Held.{Held}
 use Rattle.nm_steps.specs.declared.view.View.{View}
-use Rattle.nm_steps.specs.Rules.{IsShown, LogsAre, held, joined, passing}
+use Rattle.nm_steps.specs.Rules.{IsShown, LogsAre, held_log, joined, passing}
 use Rattle.nm_steps.specs.Steps.{Stand}
 use Rattle.nm_tree.specs.declared.worker.Account.{Account}
 use Rattle.nm_tree.specs.Closing.{AreFrom, StandsForAll, all_joined}
@@ -37,7 +37,7 @@ both_tell (h ∷ hs) gs none more = (none.0, both_tell hs gs none.1 more)
 
 joined_tell : (v w : View) → TellNoFlag (logs v) → TellNoFlag (logs w) → TellNoFlag (logs (joined v w))
 joined_tell v w first second =
-    (with_join v.log w first.0, both_tell v.others (held w.number (w.log ++ passing w ∷ []) ∷ w.others) first.1 (with_join w.log w second.0, second.1))
+    (with_join v.log w first.0, both_tell v.others (held_log w.number (w.log ++ passing w ∷ []) ∷ w.others) first.1 (with_join w.log w second.0, second.1))
 
 -- the log of a worker of that number tells of none
 one_tells : (l L : Layout) (t : List Turn) (hs : List Held) → LogsAre l L t hs → TellNoFlag hs → (u : ℕ) → HasNumber u hs → (search_after idle (part_of u t)).flagged ≡ None

@@ -22,7 +22,7 @@ use Rattle.nm_tree.specs.declared.worker.Account.{Account}
 use Rattle.nm_tree.specs.declared.worker.Standing.{Standing}
 use Rattle.nm_tree.specs.declared.worker.Standing.TheVariants as standing
 use Rattle.nm_tree.specs.declared.worker.Unfinished.{Unfinished}
-use Rattle.nm_tree.specs.Workers.{Hand, pending_in, held_in, IsAs, IsHolding, IsWorker, IsAccount, AreAccounts, StandsAt, ledger_in}
+use Rattle.nm_tree.specs.Workers.{Hand, pending_in, held_in, IsAs, IsHolding, IsWorker, IsAccount, AreAccounts, QueueStandsAt, ledger_in}
 use Rattle.nm_tree.proofs.QueueLists.{queue_stays}
 use Rattle.nm_tree.proofs.Numbers.{numbers_stay, resigned_stay, room_stays}
 use Rattle.nm_tree.proofs.Quiet.{Quiet, each_as_before}
@@ -63,7 +63,7 @@ pub stays : {r s : ℕ} {f : Fit} (w : Hand) (xs : List Account) (home : ℕ) (q
     → (knowledge q.view).drafts ≡ (knowledge w.pass.view).drafts → (knowledge q.view).ledgers ≡ (knowledge w.pass.view).ledgers → IsAs q n e
     → IsWorker (record { pass = q; queues = w.queues; pending = n; held = e; fit = f }) xs home r s
 stays {r} {s} w xs home q n e is same none' drafts ledgers stands =
-    let P : ℕ → Type 0 = λ number. StandsAt home number w.queues in
+    let P : ℕ → Type 0 = λ number. QueueStandsAt home number w.queues in
     record {
       between = record {
         queues = all_held (knowledge w.pass.view) (knowledge q.view) w.queues ledgers is.between.queues;

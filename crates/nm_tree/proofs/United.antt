@@ -19,7 +19,7 @@ use Rattle.nm_order.proofs.HeldSlots.{hands_are_apart}
 use Rattle.nm_order.proofs.LastEntries.{search_more}
 use Rattle.nm_steps.specs.declared.view.Held.{Held}
 use Rattle.nm_steps.specs.declared.view.View.{View}
-use Rattle.nm_steps.specs.Rules.{held as is_held, knowledge, passing, joined}
+use Rattle.nm_steps.specs.Rules.{held_log, knowledge, passing, joined}
 use Rattle.nm_steps.specs.Steps.{Stand, HasEmptyHands, IsInRun}
 use Rattle.nm_steps.specs.Ties.{StandsInRun}
 use Rattle.nm_steps.proofs.Presence.{known_push}
@@ -78,13 +78,13 @@ has_logs : (v w : View) (o : ℕ) → HasNumber o (logs v) ⊎ HasNumber o (logs
 has_logs v w o (inl (inl is)) = inl is
 has_logs v w o (inl (inr has)) = inr (front v.others has)
   where
-    front : (hs : List Held) → HasNumber o hs → HasNumber o (hs ++ is_held w.number (w.log ++ passing w ∷ []) ∷ w.others)
+    front : (hs : List Held) → HasNumber o hs → HasNumber o (hs ++ held_log w.number (w.log ++ passing w ∷ []) ∷ w.others)
     front [] has' = absurd has'
     front (h ∷ hs) (inl is) = inl is
     front (h ∷ hs) (inr has') = inr (front hs has')
 has_logs v w o (inr has) = inr (back v.others)
   where
-    back : (hs : List Held) → HasNumber o (hs ++ is_held w.number (w.log ++ passing w ∷ []) ∷ w.others)
+    back : (hs : List Held) → HasNumber o (hs ++ held_log w.number (w.log ++ passing w ∷ []) ∷ w.others)
     back [] = has
     back (h ∷ hs) = inr (back hs)
 
@@ -95,7 +95,7 @@ logs_have v w o (inr has) = elim (part v.others has) [
   | inr back ↦ inr back
 ]
   where
-    part : (hs : List Held) → HasNumber o (hs ++ is_held w.number (w.log ++ passing w ∷ []) ∷ w.others) → HasNumber o hs ⊎ HasNumber o (logs w)
+    part : (hs : List Held) → HasNumber o (hs ++ held_log w.number (w.log ++ passing w ∷ []) ∷ w.others) → HasNumber o hs ⊎ HasNumber o (logs w)
     part [] has' = inr has'
     part (h ∷ hs) (inl is) = inl (inl is)
     part (h ∷ hs) (inr has') = elim (part hs has') [
@@ -189,8 +189,8 @@ module _ {r s r' s' : ℕ} (p u : Hand) (xs ys : List Account) (home home' : ℕ
     few = let f = few_queues in let sum = length-merged p.queues u.queues in let most = run.fits.few in omega (arith, f, sum, most);
     own = stands_at_place v.number all ascends (all_numbers v.number (inl refl));
     numbers = record { each = each_number; all = all_numbers };
-    resigned = let P : Layout → Type 0 = λ L. HoldNoSlot L (is_held w.number (w.log ++ passing w ∷ []) ∷ w.others) in
-        hold_no_slot v.layout v.others (is_held w.number (w.log ++ passing w ∷ []) ∷ w.others) is.resigned (subst P (sym same) (no_slot w (empty_hands u more.between), more.resigned));
+    resigned = let P : Layout → Type 0 = λ L. HoldNoSlot L (held_log w.number (w.log ++ passing w ∷ []) ∷ w.others) in
+        hold_no_slot v.layout v.others (held_log w.number (w.log ++ passing w ∷ []) ∷ w.others) is.resigned (subst P (sym same) (no_slot w (empty_hands u more.between), more.resigned));
     alive = is.alive;
     room = is.room;
     account_room = is.account_room;

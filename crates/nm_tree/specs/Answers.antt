@@ -8,7 +8,7 @@ use Rattle.nm_calls.specs.Deletes.{DeleteDid, FinishDid, LosesEachTry, LosesAfte
 use Rattle.nm_calls.specs.Inserts.{InsertDid}
 use Rattle.nm_calls.specs.Moments.{AnswerHasMoment, HadNoCall}
 use Rattle.nm_calls.specs.Won.{links_of_insert, flags_of_delete}
-use Rattle.nm_epoch.specs.Tries.{IsPinned as PinsSo, IsMoved}
+use Rattle.nm_epoch.specs.Tries.{IsPinnedBy as PinsSo, IsMoved}
 use Rattle.nm_model.specs.declared.event.Event.TheVariants.{Sight}
 use Rattle.nm_model.specs.declared.event.Op.TheVariants.{Delete}
 use Rattle.nm_tree.specs.declared.fault.PinFault.{PinFault}
@@ -21,8 +21,8 @@ use Rattle.nm_epoch.specs.Resting.{epochs}
 use Rattle.nm_steps.specs.Steps.{Stand}
 
 -- a key is pending, and nothing has changed
-abbrev pub IsRefused : Hand → Hand → Type 0
-IsRefused w z = IsSome w.pending × (z ≡ w)
+abbrev pub IsPendingStill : Hand → Hand → Type 0
+IsPendingStill w z = IsSome w.pending × (z ≡ w)
 
 -- no key was pending, and none is
 abbrev pub IsFree : Hand → Hand → Type 0
@@ -34,7 +34,7 @@ HasAnswered nodes tries k w z (Ok b) =
     IsFree w z × HasDid nodes tries k w.pass.view.log z.pass.view.log b
 HasAnswered nodes tries k w z (Err fault.Busy) =
     IsFree w z × HasMissed nodes tries k w.pass.view.log z.pass.view.log
-HasAnswered nodes tries k w z (Err fault.Pending) = IsRefused w z
+HasAnswered nodes tries k w z (Err fault.Pending) = IsPendingStill w z
 HasAnswered nodes tries k w z (Err _) = ⊥
 
 -- an insert, in the same way (Natarajan and Mittal, section 3.2)
@@ -47,7 +47,7 @@ HasInserted nodes tries k w z (Err fault.Full) =
     IsFree w z × InsertDid w.fit nodes tries k w.pass.view.log z.pass.view.log (Err lost.Full)
 HasInserted nodes tries k w z (Err fault.NoMemory) =
     IsFree w z × InsertDid w.fit nodes tries k w.pass.view.log z.pass.view.log (Err lost.NoMemory)
-HasInserted nodes tries k w z (Err fault.Pending) = IsRefused w z
+HasInserted nodes tries k w z (Err fault.Pending) = IsPendingStill w z
 HasInserted nodes tries k w z (Err fault.Unfinished) = ⊥
 
 -- a delete (Natarajan and Mittal, section 3.2)
@@ -61,7 +61,7 @@ HasDeleted nodes tries k w z (Err fault.NoMemory) =
 HasDeleted nodes tries k w z (Err fault.Unfinished) =
     (w.pending ≡ None) × (leaf : NodeId) × (z.pending ≡ Some (record { key = k; leaf = leaf }))
     × DeleteDid nodes tries k w.pass.view.log z.pass.view.log (Err (missed.Unfinished leaf))
-HasDeleted nodes tries k w z (Err fault.Pending) = IsRefused w z
+HasDeleted nodes tries k w z (Err fault.Pending) = IsPendingStill w z
 HasDeleted nodes tries k w z (Err fault.Full) = ⊥
 
 -- what is left to do of a delete (Natarajan and Mittal, section 3.2)
@@ -129,7 +129,7 @@ HasPinned tries w z (Ok epoch) =
 HasPinned tries w z (Err (pinning.Moved epoch)) =
     IsFree w z × (z.held ≡ None) × ((epochs z.pass).seen ≡ Some epoch)
     × IsMoved Sight tries w.pass.view.log z.pass.view.log
-HasPinned tries w z (Err pinning.Pending) = IsRefused w z
+HasPinned tries w z (Err pinning.Pending) = IsPendingStill w z
 
 -- what is pending or held is so still
 abbrev pub KeepsPlace : Hand → Hand → Type 0

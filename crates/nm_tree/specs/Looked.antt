@@ -3,7 +3,7 @@ use Rattle.std.specs.Prelude.{ℕ, Result, Ok, Err}
 use Rattle.nm_calls.specs.PlainWalks.{LooksUnderPin, LooksOrMoves}
 use Rattle.nm_tree.specs.declared.fault.Fault.{Fault}
 use Rattle.nm_tree.specs.declared.fault.Fault.TheVariants as fault
-use Rattle.nm_tree.specs.Answers.{IsRefused, IsFree}
+use Rattle.nm_tree.specs.Answers.{IsPendingStill, IsFree}
 use Rattle.nm_tree.specs.Workers.{Hand}
 
 -- what a call leaves of its worker that walks under a pin for no call, by its answer, with so many
@@ -13,5 +13,5 @@ HasLooked tries most w z (Ok _) =
     IsFree w z × LooksUnderPin tries most w.pass.view.log z.pass.view.log
 HasLooked tries most w z (Err fault.Busy) =
     IsFree w z × LooksOrMoves tries most w.pass.view.log z.pass.view.log
-HasLooked tries most w z (Err fault.Pending) = IsRefused w z
+HasLooked tries most w z (Err fault.Pending) = IsPendingStill w z
 HasLooked tries most w z (Err _) = ⊥

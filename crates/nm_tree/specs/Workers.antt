@@ -8,7 +8,7 @@ use Rattle.nm_model.specs.Walks.{Entry}
 use Rattle.nm_order.specs.Logs.{known_by}
 use Rattle.nm_steps.specs.declared.view.Held.{Held}
 use Rattle.nm_steps.specs.declared.view.View.{View}
-use Rattle.nm_steps.specs.Rules.{knowledge, held as is_held}
+use Rattle.nm_steps.specs.Rules.{knowledge, held_log}
 use Rattle.nm_steps.specs.Steps.{Board, Stand, fresh_view}
 use Rattle.nm_epoch.specs.declared.collecting.HeldQueue.{HeldQueue}
 use Rattle.nm_epoch.specs.Collecting.{AreHeld, IsQueueOf}
@@ -76,17 +76,17 @@ Ascend [] = Unit {0}
 Ascend (h ∷ hs) = AreAbove h.origin hs
 
 -- the queue of that origin stands at that index
-abbrev pub StandsAt : ℕ → ℕ → List HeldQueue → Type 0
-StandsAt i o [] = ⊥
-StandsAt zero o (h ∷ hs) = h.origin ≡ o
-StandsAt (suc i) o (h ∷ hs) = StandsAt i o hs
+abbrev pub QueueStandsAt : ℕ → ℕ → List HeldQueue → Type 0
+QueueStandsAt i o [] = ⊥
+QueueStandsAt zero o (h ∷ hs) = h.origin ≡ o
+QueueStandsAt (suc i) o (h ∷ hs) = QueueStandsAt i o hs
 
 -- the same origins, and each queue but that of one origin as it was
-abbrev pub KeepsOthers : ℕ → List HeldQueue → List HeldQueue → Type 0
-KeepsOthers o [] [] = Unit {0}
-KeepsOthers o (h ∷ hs) (g ∷ gs) =
-    (g.origin ≡ h.origin) × ((h.origin ≡ o) ⊎ (g ≡ h)) × KeepsOthers o hs gs
-KeepsOthers o _ _ = ⊥
+abbrev pub KeepsOtherQueues : ℕ → List HeldQueue → List HeldQueue → Type 0
+KeepsOtherQueues o [] [] = Unit {0}
+KeepsOtherQueues o (h ∷ hs) (g ∷ gs) =
+    (g.origin ≡ h.origin) × ((h.origin ≡ o) ⊎ (g ≡ h)) × KeepsOtherQueues o hs gs
+KeepsOtherQueues o _ _ = ⊥
 
 -- each has the blocks that it had, or, where some were taken, none more than what waits and the
 -- room of a try ask for
@@ -116,8 +116,8 @@ log_among o (h ∷ hs) = if h.number == o then h.log else log_among o hs
 
 -- the log of a worker for whom a pass stands: its own one, or one that joined it, directly or
 -- through others
-abbrev pub log_of : View → ℕ → List Entry
-log_of v o = log_among o (is_held v.number v.log ∷ v.others)
+abbrev pub log_held_of : View → ℕ → List Entry
+log_held_of v o = log_among o (held_log v.number v.log ∷ v.others)
 
 -- the ledger of an origin, where it is held
 abbrev pub ledger_in : View → ℕ → Ledger
@@ -128,9 +128,9 @@ ledger_in v o = unwrap_or (held (knowledge v).ledgers o) fresh_ledger
 -- and what waits
 pub record IsAccount (v : View) (h : HeldQueue) (a : Account) : Type 0 where
   pub origin : a.origin ≡ h.origin
-  pub links : a.links ≡ capped (won_links (log_of v h.origin))
-  pub flags : a.flags ≡ capped (won_flags (log_of v h.origin))
-  pub splices : a.splices ≡ capped (won_splices (log_of v h.origin))
+  pub links : a.links ≡ capped (won_links (log_held_of v h.origin))
+  pub flags : a.flags ≡ capped (won_flags (log_held_of v h.origin))
+  pub splices : a.splices ≡ capped (won_splices (log_held_of v h.origin))
   pub freed : a.freed ≡ capped (length (ledger_in v h.origin).freed)
   pub waiting : a.waiting ≡ length h.queue.items
   pub few : length h.queue.items ≤ v.layout.nodes
@@ -162,9 +162,9 @@ counts_in a = record {
 -- the same as numbers that a caller reads, 2^64 - 1 where they are greater: what was won by the
 -- worker of an origin, by its log, and what became of the nodes that it cut off, by their ledger
 pub record IsLedger (v : View) (o : ℕ) (c : Counts) : Type 0 where
-  pub links : c.links ≡ capped (won_links (log_of v o))
-  pub flags : c.flags ≡ capped (won_flags (log_of v o))
-  pub splices : c.splices ≡ capped (won_splices (log_of v o))
+  pub links : c.links ≡ capped (won_links (log_held_of v o))
+  pub flags : c.flags ≡ capped (won_flags (log_held_of v o))
+  pub splices : c.splices ≡ capped (won_splices (log_held_of v o))
   pub retired : c.retired ≡ capped (length (ledger_in v o).retired)
   pub freed : c.freed ≡ capped (length (ledger_in v o).freed)
   pub queued : c.queued ≡ length (ledger_in v o).queue
@@ -218,8 +218,8 @@ HasNumber o (h ∷ hs) = (h.number ≡ o) ⊎ HasNumber o hs
 
 -- the queues are those of the workers for whom the pass stands
 pub record AreOf (v : View) (hs : List HeldQueue) : Type 0 where
-  pub each : (o : ℕ) → HasOrigin o hs → HasNumber o (is_held v.number v.log ∷ v.others)
-  pub all : (o : ℕ) → HasNumber o (is_held v.number v.log ∷ v.others) → HasOrigin o hs
+  pub each : (o : ℕ) → HasOrigin o hs → HasNumber o (held_log v.number v.log ∷ v.others)
+  pub all : (o : ℕ) → HasNumber o (held_log v.number v.log ∷ v.others) → HasOrigin o hs
 
 -- by these logs no slot is private to their workers
 abbrev pub HoldNoSlot : Layout → List Held → Type 0
@@ -233,7 +233,7 @@ pub record IsWorker (w : Hand) (xs : List Account) (home r s : ℕ) : Type 0 whe
   pub between : IsBetweenCalls w
   pub accounts : AreAccounts w.pass.view w.queues xs
   pub few : length w.queues ≤ 64
-  pub own : StandsAt home w.pass.view.number w.queues
+  pub own : QueueStandsAt home w.pass.view.number w.queues
   pub alive : w.pass.view.spent ≡ false
   pub numbers : AreOf w.pass.view w.queues
   pub resigned : HoldNoSlot w.pass.view.layout w.pass.view.others

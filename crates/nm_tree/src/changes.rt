@@ -12,7 +12,7 @@ ghost use Rattle.nm_calls.specs.Deletes.{IsRemoving, DeleteDid, AfterDelete, Fin
 ghost use Rattle.nm_calls.specs.Inserts.{InsertDid};
 ghost use Rattle.nm_calls.specs.Moments.{AnswerHasMoment, HadNoCall};
 ghost use Rattle.nm_calls.specs.Won.{HasWon, links_of_insert, flags_of_delete};
-ghost use Rattle.nm_tree.specs.Workers.{IsBetweenCalls, KeepsOthers, TakeRoom, IsKept, OnlyOwnLedger};
+ghost use Rattle.nm_tree.specs.Workers.{IsBetweenCalls, KeepsOtherQueues, TakeRoom, IsKept, OnlyOwnLedger};
 
 use crate::fault::Fault;
 use crate::tree::Tree;
@@ -205,7 +205,7 @@ impl Tree {
             ≤ length worker.old.pass.view.log
             + tries * (4 * self.now.layout.nodes + 8 * chain_bound) + 6 * self.now.layout.nodes
             + 10 }
-        ensures queues { KeepsOthers worker.old.pass.view.number worker.old.queues
+        ensures queues { KeepsOtherQueues worker.old.pass.view.number worker.old.queues
             worker.new.queues }
         ensures blocks { TakeRoom worker.old.queues worker.new.queues }
         ensures held { worker.new.held ≡ None }
@@ -259,7 +259,7 @@ impl Tree {
             ≤ length worker.old.pass.view.log
             + tries * (4 * self.now.layout.nodes + 8 * chain_bound) + 6 * self.now.layout.nodes
             + 10 }
-        ensures queues { KeepsOthers worker.old.pass.view.number worker.old.queues
+        ensures queues { KeepsOtherQueues worker.old.pass.view.number worker.old.queues
             worker.new.queues }
         ensures blocks { TakeRoom worker.old.queues worker.new.queues }
         ensures held { worker.new.held ≡ None }
@@ -310,7 +310,7 @@ impl Tree {
             ≤ length worker.old.pass.view.log
             + tries * (4 * self.now.layout.nodes + 8 * chain_bound) + 6 * self.now.layout.nodes
             + 10 }
-        ensures queues { KeepsOthers worker.old.pass.view.number worker.old.queues
+        ensures queues { KeepsOtherQueues worker.old.pass.view.number worker.old.queues
             worker.new.queues }
         ensures blocks { TakeRoom worker.old.queues worker.new.queues }
         ensures held { worker.new.held ≡ worker.old.held }

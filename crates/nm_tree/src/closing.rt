@@ -1,7 +1,7 @@
 //! The end of a tree.
 ghost use Rattle.std.specs.Prelude.{◌≡◌, ◌<◌, ◌≤◌, length, min, IfOk, IfErr};
 ghost use Rattle.nm_steps.specs.Steps.{IsOf};
-ghost use Rattle.nm_order.specs.History.{HasHistory};
+ghost use Rattle.nm_order.specs.History.{RunHasHistory};
 ghost use Rattle.nm_order.specs.LoggedTotals.{TotalsAreInTheLogs};
 ghost use Rattle.nm_order.specs.Totals.{TotalsAgree};
 ghost use Rattle.nm_tree.specs.Closing.{AllSlotsAreTold, AllWereGiven, AreAllOf, EachSlotEndsOnce, IsAsACoreTells, IsClosed, IsCloseReason, GoesOnFromAll};
@@ -132,7 +132,7 @@ pub fn closed_trees_are_accounted_for()
     ensures once { OfEachClosed EachSlotEndsOnce }
     ensures sum { OfEachReport AllSlotsAreTold }
     ensures told { OfEachReport IsAsACoreTells }
-    ensures history { OfEachClosedRun HasHistory }
+    ensures history { OfEachClosedRun RunHasHistory }
     ensures totals { OfEachClosedRun TotalsAgree }
     ensures logs { OfEachClosedRun TotalsAreInTheLogs }
     ensures settled { OfEachReport KeysAreTheTotals }

@@ -9,7 +9,7 @@ ghost use Rattle.nm_steps.specs.Rules.{knowledge};
 ghost use Rattle.nm_epoch.specs.Scans.{IsAdvance};
 ghost use Rattle.nm_epoch.specs.Watches.{IsBehind};
 ghost use Rattle.nm_epoch.specs.declared.collecting.Entry.{Entry};
-ghost use Rattle.nm_epoch.specs.Collecting.{AreHeld, IsCollection, HaveLost, KeepsOthers, KeepsRetired, blocks_of, ripe_of};
+ghost use Rattle.nm_epoch.specs.Collecting.{AreHeld, IsCollection, HaveLost, KeepsOtherLedgers, KeepsRetired, blocks_of, ripe_of};
 ghost use Rattle.nm_tree.specs.Answers.{HasPinned, KeepsPlace};
 ghost use Rattle.nm_tree.specs.Running.{IsFreedInGrace};
 ghost use Rattle.nm_tree.specs.Workers.{IsBetweenCalls, ArePaired, HaveNoted};
@@ -159,7 +159,7 @@ fn collect_all(
     ensures blocks { blocks_of queues.new.items ≡ blocks_of queues.old.items }
     ensures newest { (epoch : ℕ) → HasRead pass.old.view.log epoch → epoch ≤ result.epoch }
     ensures queues { AreHeld (knowledge pass.new.view) queues.new.items }
-    ensures others { KeepsOthers result.epoch queues.old.items (knowledge pass.old.view)
+    ensures others { KeepsOtherLedgers result.epoch queues.old.items (knowledge pass.old.view)
         (knowledge pass.new.view) }
     ensures retired { KeepsRetired (knowledge pass.old.view) (knowledge pass.new.view) }
     ensures steps { length pass.new.view.log ≤ length pass.old.view.log + shared.now.layout.nodes }

@@ -20,7 +20,7 @@ use Rattle.nm_model.specs.Knowledge.{knows, read, is_flagged}
 use Rattle.nm_model.specs.Step.{outside, is_edge, exchanged, filled, kept, refusal, write}
 use Rattle.nm_model.specs.Runs.{State, of, start, refusal_of, refused, applied, unless_refused, next, after}
 use Rattle.nm_model.specs.Laws.{OfEachState}
-use Rattle.nm_words.specs.Packing.{Fits, words_of, word_at, field_of, touched, filling, left_word, with_word, AtMostOne, StateFits, FixedBitsAreZero, EventsTouchOneWord, AtMostOneWordChanges}
+use Rattle.nm_words.specs.Packing.{Fits, words_of, word_at, field_of, touched_field, filling, left_word, with_word, AtMostOne, StateFits, FixedBitsAreZero, EventsTouchOneWord, AtMostOneWordChanges}
 use Rattle.nm_laws.proofs.Steps.{Allowed, allowed, passed, third, fourth}
 use Rattle.nm_laws.proofs.Pictures.{InReach}
 use Rattle.nm_laws.proofs.Views.{picture}
@@ -69,11 +69,11 @@ module _ (s : State) (h : ℕ → ℕ) (law : Lawful s h) (w : ℕ) where
   pub range : (x : ℕ) → outside 6 s.layout.nodes x ≡ false → IsSlot s.layout x
   range x ok = let r = high_from 6 s.layout.nodes x ok in (omega (arith, r.0), r.1)
 
-  pub touches_field : (e : Event) → Allowed s w e → IsField s.layout (touched w e)
+  pub touches_field : (e : Event) → Allowed s w e → IsField s.layout (touched_field w e)
   unfolding refusal
   touches_field e ok' = go e ok'.event
     where
-      go : (e : Event) → refusal_of s w e ≡ None → IsField s.layout (touched w e)
+      go : (e : Event) → refusal_of s w e ≡ None → IsField s.layout (touched_field w e)
       go Sight ok = tt
       go (SightFor op key) ok = tt
       go Announce ok = ok'.worker
@@ -114,11 +114,11 @@ module _ (s : State) (h : ℕ → ℕ) (law : Lawful s h) (w : ℕ) where
           let none = law.tree.twins p side live null in
           absurd (omega (arith, high, none))
 
-  one_word : (e : Event) → Allowed s w e → words_of s.layout (write s.memory (of s w) w e) ≡ with_word s.layout s.memory (touched w e) (left_word s.layout (of s w) e (word_at s.layout s.memory (touched w e)))
+  one_word : (e : Event) → Allowed s w e → words_of s.layout (write s.memory (of s w) w e) ≡ with_word s.layout s.memory (touched_field w e) (left_word s.layout (of s w) e (word_at s.layout s.memory (touched_field w e)))
   unfolding refusal write
   one_word e ok' = go e ok' (touches_field e ok')
     where
-      go : (e : Event) → Allowed s w e → IsField s.layout (touched w e) → words_of s.layout (write s.memory (of s w) w e) ≡ with_word s.layout s.memory (touched w e) (left_word s.layout (of s w) e (word_at s.layout s.memory (touched w e)))
+      go : (e : Event) → Allowed s w e → IsField s.layout (touched_field w e) → words_of s.layout (write s.memory (of s w) w e) ≡ with_word s.layout s.memory (touched_field w e) (left_word s.layout (of s w) e (word_at s.layout s.memory (touched_field w e)))
       go Sight ok at = unchanged s.layout s.memory 0
       go (SightFor op key) ok at = unchanged s.layout s.memory 0
       go Announce ok at = note_written s.layout s.memory w _ fits at
@@ -168,9 +168,9 @@ module _ (s : State) (k : IsLawful s) where
       go None is =
           let touch = events_touch_one_word t.0 t.1 is in
           inr (
-            word s.layout (touched t.0 t.1),
-            left_word s.layout (of s t.0) t.1 (word_at s.layout s.memory (touched t.0 t.1)),
-            omega (arith, fields_within s.layout (touched t.0 t.1) touch.0, all_words s.layout s.memory state_fits),
+            word s.layout (touched_field t.0 t.1),
+            left_word s.layout (of s t.0) t.1 (word_at s.layout s.memory (touched_field t.0 t.1)),
+            omega (arith, fields_within s.layout (touched_field t.0 t.1) touch.0, all_words s.layout s.memory state_fits),
             ap (λ (o : Option Refused). words_of s.layout (unless_refused o s (applied s t.0 t.1)).memory) (sym is) ∙ touch.1,
           )
 

@@ -20,7 +20,7 @@ use Rattle.nm_model.specs.Knowledge.{way, cut_by}
 use Rattle.nm_model.specs.Step.{reply, reply_look, reply_scan, reply_exchange, refusal}
 use Rattle.nm_model.specs.Runs.{State, of, start, reply_of, after}
 use Rattle.nm_model.specs.Laws.{OfEachState}
-use Rattle.nm_words.specs.Packing.{Fits, note_word, word_at, pool_word_at, touched, field_of}
+use Rattle.nm_words.specs.Packing.{Fits, note_word, word_at, pool_word_at, touched_field, field_of}
 use Rattle.nm_words.specs.Told.{Births, BirthsAreIn, noted_in, known_as, BirthsAreKnown, told, told_look, RepliesAreTold}
 use Rattle.nm_laws.proofs.Steps.{Allowed, allowed, passed}
 use Rattle.nm_laws.proofs.Lawful.{IsLawful, lawful}
@@ -66,14 +66,14 @@ module _ (s : State) (k : IsLawful s) (w : ℕ) (births : Births) (stand : Birth
   nodes_known [] all = refl
   nodes_known (x ∷ xs) all = ap₂ (λ (n : NodeId) (ns : List NodeId). n ∷ ns) (node_known x (all 0 x (omega arith))) (nodes_known xs (λ i d h. all (suc i) d (omega (arith, h))))
 
-  reply_told : (e : Event) → Allowed s w e → BirthsAreKnown s.layout (of s w) births e → reply_of s w e ≡ told s.layout (of s w) births e (word_at s.layout s.memory (touched w e))
+  reply_told : (e : Event) → Allowed s w e → BirthsAreKnown s.layout (of s w) births e → reply_of s w e ≡ told s.layout (of s w) births e (word_at s.layout s.memory (touched_field w e))
   unfolding refusal reply
   reply_told e ok known = go e ok (touches_field s k.holder k.law w e ok) known
     where
       fits : Fits s.layout s.memory
       fits = fits_of s k.holder k.law
 
-      go : (e : Event) → Allowed s w e → IsField s.layout (touched w e) → BirthsAreKnown s.layout (of s w) births e → reply_of s w e ≡ told s.layout (of s w) births e (word_at s.layout s.memory (touched w e))
+      go : (e : Event) → Allowed s w e → IsField s.layout (touched_field w e) → BirthsAreKnown s.layout (of s w) births e → reply_of s w e ≡ told s.layout (of s w) births e (word_at s.layout s.memory (touched_field w e))
       go Sight ok at known = refl
       go (SightFor op key) ok at known = refl
       go Announce ok at known = refl

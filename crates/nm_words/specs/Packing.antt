@@ -156,23 +156,23 @@ row_of s = at_row ((s - 1) / 64)
 
 -- the field whose word an event reads or writes. (A join touches none, and the epoch stands for
 -- it.)
-abbrev pub touched : ℕ → Event → Field
-touched w Sight = at_epoch
-touched w (SightFor op key) = at_epoch
-touched w Announce = at_note w
-touched w Leave = at_note w
-touched w (LeaveWith answer) = at_note w
-touched w (Scan u) = at_note u
-touched w Advance = at_epoch
-touched w (Claim s) = row_of s
-touched w (Give s) = row_of s
-touched w (Look s f) = field_of s f
-touched w (Fill s f v) = field_of s f
-touched w (Link p side leaf new) = at_edge p side
-touched w (Flag p side leaf) = at_edge p side
-touched w (Tag p side) = at_edge p side
-touched w (Splice a side s p keep) = at_edge a side
-touched w (Join v) = at_epoch
+abbrev pub touched_field : ℕ → Event → Field
+touched_field w Sight = at_epoch
+touched_field w (SightFor op key) = at_epoch
+touched_field w Announce = at_note w
+touched_field w Leave = at_note w
+touched_field w (LeaveWith answer) = at_note w
+touched_field w (Scan u) = at_note u
+touched_field w Advance = at_epoch
+touched_field w (Claim s) = row_of s
+touched_field w (Give s) = row_of s
+touched_field w (Look s f) = field_of s f
+touched_field w (Fill s f v) = field_of s f
+touched_field w (Link p side leaf new) = at_edge p side
+touched_field w (Flag p side leaf) = at_edge p side
+touched_field w (Tag p side) = at_edge p side
+touched_field w (Splice a side s p keep) = at_edge a side
+touched_field w (Join v) = at_epoch
 
 -- a field of a node is filled with a number, an edge with the unmarked one to a slot
 abbrev pub filling : NodeField → ℕ → ℕ
@@ -199,10 +199,10 @@ left_word L k _ n = n
 -- an event that is allowed touches one word of all, and leaves that one as it says
 abbrev pub EventsTouchOneWord : State → Type 0
 EventsTouchOneWord s = (w : ℕ) (e : Event) → refused s w e ≡ None
-    → IsField s.layout (touched w e)
+    → IsField s.layout (touched_field w e)
     × (words_of s.layout (next s (w, e)).memory
-    ≡ with_word s.layout s.memory (touched w e)
-    (left_word s.layout (of s w) e (word_at s.layout s.memory (touched w e))))
+    ≡ with_word s.layout s.memory (touched_field w e)
+    (left_word s.layout (of s w) e (word_at s.layout s.memory (touched_field w e))))
 
 -- one list is the other, or it differs from it in one element
 abbrev pub AtMostOne : List ℕ → List ℕ → Type 0

@@ -17,7 +17,7 @@ use Rattle.nm_model.specs.Memory.{Memory, node}
 use Rattle.nm_model.specs.Knowledge.{Knowledge, is_private, way, cut_by}
 use Rattle.nm_model.specs.Step.{reply_sight, reply_scan, node_of, node_linked}
 use Rattle.nm_model.specs.Runs.{State, of, refused, reply_of}
-use Rattle.nm_words.specs.Packing.{word_at, touched}
+use Rattle.nm_words.specs.Packing.{word_at, touched_field}
 
 -- what a note's word says
 abbrev pub noted_in : ℕ → Option ℕ
@@ -80,4 +80,5 @@ told L k births (Join v) n = Joined []
 abbrev pub RepliesAreTold : State → Type 0
 RepliesAreTold s = (w : ℕ) (e : Event) (births : Births) → BirthsAreIn s.memory births
     → refused s w e ≡ None → BirthsAreKnown s.layout (of s w) births e
-    → reply_of s w e ≡ told s.layout (of s w) births e (word_at s.layout s.memory (touched w e))
+    → reply_of s w e
+    ≡ told s.layout (of s w) births e (word_at s.layout s.memory (touched_field w e))

@@ -3,7 +3,7 @@
 ghost use Rattle.std.specs.Prelude.{◌≡◌, ◌<◌, ◌==◌, bit_and, bit_or};
 ghost use prog.Atomic.{either};
 ghost use Rattle.nm_edge.specs.Words.{words};
-ghost use Rattle.nm_steps.specs.Steps.{IsReady, IsDone, Changes, IsBlind};
+ghost use Rattle.nm_steps.specs.Steps.{IsReadyFor, IsDone, Changes, IsBlind};
 
 use crate::pass::Shared;
 use crate::view::{Does, Doing, Place, Words};
@@ -13,7 +13,7 @@ use std::marker::Brand;
 impl Shared {
     /// Reads the word.
     pub(crate) fn load(&self, seat: &mut Place, word: usize, event: Event) -> u64
-        requires ready { IsReady self.now seat.old event word }
+        requires ready { IsReadyFor self.now seat.old event word }
         requires changes { Changes event seat.old.me.0 (λ n. n) }
         ensures { IsDone seat.old seat.new event result }
     {
@@ -22,7 +22,7 @@ impl Shared {
 
     /// Stores the word.
     pub(crate) fn store(&self, seat: &mut Place, word: usize, new: u64, event: Event)
-        requires ready { IsReady self.now seat.old event word }
+        requires ready { IsReadyFor self.now seat.old event word }
         requires changes { Changes event seat.old.me.0 (λ n. new) }
         requires blind { IsBlind event seat.old.me.0 }
         ensures { IsDone seat.old seat.new event new }
@@ -32,7 +32,7 @@ impl Shared {
 
     /// Sets bits of the word; the word before.
     pub(crate) fn mark(&self, seat: &mut Place, word: usize, mask: u64, event: Event) -> u64
-        requires ready { IsReady self.now seat.old event word }
+        requires ready { IsReadyFor self.now seat.old event word }
         requires changes { Changes event seat.old.me.0 (λ n. bit_or n mask) }
         ensures { IsDone seat.old seat.new event result }
     {
@@ -41,7 +41,7 @@ impl Shared {
 
     /// Keeps the bits of the mask alone; the word before.
     pub(crate) fn clear(&self, seat: &mut Place, word: usize, mask: u64, event: Event) -> u64
-        requires ready { IsReady self.now seat.old event word }
+        requires ready { IsReadyFor self.now seat.old event word }
         requires changes { Changes event seat.old.me.0 (λ n. bit_and n mask) }
         ensures { IsDone seat.old seat.new event result }
     {
@@ -57,7 +57,7 @@ impl Shared {
         new: u64,
         event: Event,
     ) -> u64
-        requires ready { IsReady self.now seat.old event word }
+        requires ready { IsReadyFor self.now seat.old event word }
         requires changes { Changes event seat.old.me.0 (λ n. either (n == old) new n) }
         ensures { IsDone seat.old seat.new event result }
     {
@@ -77,7 +77,7 @@ impl Shared {
 
 fn load_as<D: Doing>(words: &Words, seat: &mut Place, word: usize, event: &Event) -> u64
     requires pick { D.event ≡ event.now }
-    requires ready { IsReady (record { table = words.now.table_id; layout = words.now.key })
+    requires ready { IsReadyFor (record { table = words.now.table_id; layout = words.now.key })
         seat.old event.now word }
     requires changes { Changes event.now seat.old.me.0 (λ n. n) }
     ensures { IsDone seat.old seat.new event.now result }
@@ -88,7 +88,7 @@ fn load_as<D: Doing>(words: &Words, seat: &mut Place, word: usize, event: &Event
 
 fn store_as<D: Doing>(words: &Words, seat: &mut Place, word: usize, new: u64, event: &Event)
     requires pick { D.event ≡ event.now }
-    requires ready { IsReady (record { table = words.now.table_id; layout = words.now.key })
+    requires ready { IsReadyFor (record { table = words.now.table_id; layout = words.now.key })
         seat.old event.now word }
     requires changes { Changes event.now seat.old.me.0 (λ n. new) }
     requires blind { IsBlind event.now seat.old.me.0 }
@@ -100,7 +100,7 @@ fn store_as<D: Doing>(words: &Words, seat: &mut Place, word: usize, new: u64, ev
 
 fn mark_as<D: Doing>(words: &Words, seat: &mut Place, word: usize, mask: u64, event: &Event) -> u64
     requires pick { D.event ≡ event.now }
-    requires ready { IsReady (record { table = words.now.table_id; layout = words.now.key })
+    requires ready { IsReadyFor (record { table = words.now.table_id; layout = words.now.key })
         seat.old event.now word }
     requires changes { Changes event.now seat.old.me.0 (λ n. bit_or n mask) }
     ensures { IsDone seat.old seat.new event.now result }
@@ -111,7 +111,7 @@ fn mark_as<D: Doing>(words: &Words, seat: &mut Place, word: usize, mask: u64, ev
 
 fn clear_as<D: Doing>(words: &Words, seat: &mut Place, word: usize, mask: u64, event: &Event) -> u64
     requires pick { D.event ≡ event.now }
-    requires ready { IsReady (record { table = words.now.table_id; layout = words.now.key })
+    requires ready { IsReadyFor (record { table = words.now.table_id; layout = words.now.key })
         seat.old event.now word }
     requires changes { Changes event.now seat.old.me.0 (λ n. bit_and n mask) }
     ensures { IsDone seat.old seat.new event.now result }
@@ -129,7 +129,7 @@ fn exchange_as<D: Doing>(
     event: &Event,
 ) -> u64
     requires pick { D.event ≡ event.now }
-    requires ready { IsReady (record { table = words.now.table_id; layout = words.now.key })
+    requires ready { IsReadyFor (record { table = words.now.table_id; layout = words.now.key })
         seat.old event.now word }
     requires changes { Changes event.now seat.old.me.0 (λ n. either (n == old) new n) }
     ensures { IsDone seat.old seat.new event.now result }

@@ -11,9 +11,9 @@ use atomic_table::Join;
 pub(crate) struct Unite;
 
 impl Join<View> for Unite {
-    ghost use Rattle.nm_steps.specs.Rules.{joining, nobody};
+    ghost use Rattle.nm_steps.specs.Rules.{joining_view, nobody};
 
-    ghost both = { joining };
+    ghost both = { joining_view };
 
     ghost spent = { nobody };
 }

@@ -5,7 +5,7 @@ use Rattle.nm_order.specs.Facts.Fact.{KnowsSlot, IsTagged}
 use Rattle.nm_order.specs.Told.{FrozenTo}
 use Rattle.nm_calls.specs.Cleanups.{top}
 use Rattle.nm_calls.specs.Telling.{Tells}
-use Rattle.nm_calls.specs.Walks.{Leads}
+use Rattle.nm_calls.specs.Walks.{ChainLeads}
 use Rattle.nm_calls.specs.declared.spot.ChainEdge.{ChainEdge}
 use Rattle.nm_calls.proofs.Freezing.{top_of, frozen_end, frozen_above}
 use Rattle.nm_calls.proofs.GoingOn.{pinned_still}
@@ -15,7 +15,7 @@ use Rattle.nm_calls.proofs.cutting.+freeze.Goals as goal
 pub add_frozen-requires-in-Some-clause-tagged : goal.add_frozen-requires-in-Some-clause-tagged
 add_frozen-requires-in-Some-clause-tagged t c =
     let split : c.args.chain.now ≡ c.in-Some.edge.now ∷ c.in-Some.rest.now = c.in-Some.ensures.cases.0 in
-    let way : Leads (Tells c.args.pass.now) c.in-Some.edge.now.slot (c.in-Some.edge.now ∷ c.in-Some.rest.now) c.args.parent = subst (λ (ch : List ChainEdge). Leads (Tells c.args.pass.now) (top ch c.args.parent) ch c.args.parent) split c.requires.way in
+    let way : ChainLeads (Tells c.args.pass.now) c.in-Some.edge.now.slot (c.in-Some.edge.now ∷ c.in-Some.rest.now) c.args.parent = subst (λ (ch : List ChainEdge). ChainLeads (Tells c.args.pass.now) (top ch c.args.parent) ch c.args.parent) split c.requires.way in
     (way.1, way.2)
 
 pub freeze-requires : goal.freeze-requires
@@ -24,10 +24,10 @@ freeze-requires t c =
     let r = c.add_frozen-in-Some.new.pass in
     let rest = c.in-Some.rest.now in
     let split : c.args.chain.now ≡ c.in-Some.edge.now ∷ rest = c.in-Some.ensures.cases.0 in
-    let way : Leads (Tells p) c.in-Some.edge.now.slot (c.in-Some.edge.now ∷ rest) c.args.parent = subst (λ (ch : List ChainEdge). Leads (Tells p) (top ch c.args.parent) ch c.args.parent) split c.requires.way in
+    let way : ChainLeads (Tells p) c.in-Some.edge.now.slot (c.in-Some.edge.now ∷ rest) c.args.parent = subst (λ (ch : List ChainEdge). ChainLeads (Tells p) (top ch c.args.parent) ch c.args.parent) split c.requires.way in
     let keeps = c.add_frozen-in-Some.ensures.on.keeps in
     let at : top rest c.args.parent ≡ way.1 = top_of (Tells p) way.1 rest c.args.parent way.4 in
-    let below : Leads (Tells r) (top rest c.args.parent) rest c.args.parent = subst (λ (s : ℕ). Leads (Tells r) s rest c.args.parent) (sym at) (leads_kept (Tells p) (Tells r) keeps way.1 rest c.args.parent way.4) in
+    let below : ChainLeads (Tells r) (top rest c.args.parent) rest c.args.parent = subst (λ (s : ℕ). ChainLeads (Tells r) s rest c.args.parent) (sym at) (leads_kept (Tells p) (Tells r) keeps way.1 rest c.args.parent way.4) in
     let known : Tells r (KnowsSlot (top rest c.args.parent)) = subst (λ (s : ℕ). Tells r (KnowsSlot s)) (sym at) (keeps (KnowsSlot way.1) way.3) in
     let longer : length c.args.chain.now ≡ suc (length rest) = ap (λ (ch : List ChainEdge). length ch) split in
     let frozen = c.add_frozen-in-Some.ensures.frozen in
@@ -52,7 +52,7 @@ returns-in-Some-clause-frozen t c =
     let q = c.freeze.new.pass in
     let rest = c.in-Some.rest.now in
     let split : c.args.chain.now ≡ c.in-Some.edge.now ∷ rest = c.in-Some.ensures.cases.0 in
-    let way : Leads (Tells p) c.in-Some.edge.now.slot (c.in-Some.edge.now ∷ rest) c.args.parent = subst (λ (ch : List ChainEdge). Leads (Tells p) (top ch c.args.parent) ch c.args.parent) split c.requires.way in
+    let way : ChainLeads (Tells p) c.in-Some.edge.now.slot (c.in-Some.edge.now ∷ rest) c.args.parent = subst (λ (ch : List ChainEdge). ChainLeads (Tells p) (top ch c.args.parent) ch c.args.parent) split c.requires.way in
     let at : top rest c.args.parent ≡ way.1 = top_of (Tells p) way.1 rest c.args.parent way.4 in
     let one = c.add_frozen-in-Some.ensures.frozen in
     let later = c.freeze.ensures.frozen in

@@ -3,7 +3,7 @@ use Rattle.nm_order.specs.Facts.Fact.{KnowsSlot}
 use Rattle.nm_steps.specs.Steps.{IsSamePass, HasSeenAllOf}
 use Rattle.nm_calls.specs.declared.spot.ChainEdge.{ChainEdge}
 use Rattle.nm_calls.specs.Telling.{Tells, GoesOn, OnlyLooks}
-use Rattle.nm_calls.specs.Walks.{Walks, HasCome}
+use Rattle.nm_calls.specs.Walks.{Walks, EachWalkHasCome}
 use Rattle.nm_calls.proofs.walking.find.Given as goal
 
 abbrev pub invariant-loop-below : goal.invariant-loop-below
@@ -14,5 +14,5 @@ invariant-loop-below l = record {
   known : Tells l.pass (KnowsSlot l.spot.edge.slot);
   on : GoesOn l.fn.pass l.pass;
   only : OnlyLooks l.fn.pass l.pass;
-  come : HasCome l.fn.pass l.pass l.key l.spot;
+  come : EachWalkHasCome l.fn.pass l.pass l.key l.spot;
 }

@@ -2,7 +2,7 @@ use Rattle.std.proofs.Common.{◌<◌, ◌≤◌, length}
 use Rattle.nm_steps.specs.Steps.{IsSamePass, HasSeenAllOf}
 use Rattle.nm_calls.specs.Bounds.{chain_bound}
 use Rattle.nm_calls.specs.Telling.{Tells, GoesOn, OnlyLooks}
-use Rattle.nm_calls.specs.Walks.{Walks, IsAt, HasCome}
+use Rattle.nm_calls.specs.Walks.{Walks, IsAt, EachWalkHasCome}
 use Rattle.nm_calls.proofs.walking.seek.Given as goal
 
 abbrev pub invariant-loop-below : goal.invariant-loop-below
@@ -15,5 +15,5 @@ invariant-loop-below l = record {
   short : length l.chain.items < chain_bound;
   on : GoesOn l.fn.pass l.pass;
   only : OnlyLooks l.fn.pass l.pass;
-  come : HasCome l.fn.pass l.pass l.key l.spot;
+  come : EachWalkHasCome l.fn.pass l.pass l.key l.spot;
 }

@@ -47,7 +47,7 @@ use Rattle.core.proofs.slots.Leases.{args}
 use Rattle.circular_buffer.specs.Places.{IsFilled}
 use Rattle.circular_buffer.specs.Ownership.{slot_lent, cells_lent}
 use Rattle.circular_buffer.proofs.Memory.{sz, Place, word_had, filled_within, slot_seen}
-use Rattle.nm_limbo.specs.Blocks.{first_of, IsFirst}
+use Rattle.nm_limbo.specs.Blocks.{first_block_of, IsFirst}
 use Rattle.nm_limbo.specs.Ownership.{places_offset, places_of, chain_lent}
 use Rattle.nm_limbo.proofs.Blocks.{Bp}
 use Rattle.nm_limbo.proofs.Memory.{Ch, past_first, first_seen}
@@ -100,7 +100,7 @@ module _ (E : El) (Z : Al) {M : Type 1} {𝓤 : Ura M} (𝓛 : Logic 𝓤) (C : 
 
   walk : Asks E Z d front index → index < 2 ^ 64 → ent 𝓤 (⋆ 𝓛 Had) (WpFn 𝓤 H C Λ (function E Z) (vptr rb ro ∷ word front.ptr ∷ vint w64 index ∷ []) Post)
   walk asked fits_index =
-      let x = asked.2.0 in let p : Ptr = first_of d.blocks in let cs : List (Place E) = take 32 d.slots in
+      let x = asked.2.0 in let p : Ptr = first_block_of d.blocks in let cs : List (Place E) = take 32 d.slots in
       let more = past_first d.blocks asked.0.0 in
       let inside : index < length d.slots = filled_within d.slots index x asked.2.1 in
       let within : index < length cs = omega (arith, length-take 32 d.slots, asked.1, inside) in

@@ -44,7 +44,7 @@ use Rattle.core.proofs.mem.Param.{El, R}
 use Rattle.core.proofs.alloc.Calls.{Al, token}
 use Rattle.core.proofs.slots.Leases.{args}
 use Rattle.circular_buffer.proofs.Memory.{Place, Mark, mark, mark_made, word_had, word_made, says_both, three_val, three_of}
-use Rattle.nm_limbo.specs.Blocks.{first_of, IsFirst}
+use Rattle.nm_limbo.specs.Blocks.{first_block_of, IsFirst}
 use Rattle.nm_limbo.specs.Ownership.{chain_owns, next_of, link_owns}
 use Rattle.nm_limbo.proofs.Blocks.{Bp, Rm, Dd}
 use Rattle.nm_limbo.proofs.Memory.{Ch, Cells, past_first, pointer_out, stale}
@@ -72,7 +72,7 @@ module _ (E : El) (Z : Al) where
   Gives0 d front r new = (d.blocks ≡ front.ptr ∷ new.blocks) × (new.slots ≡ drop 32 d.slots) × (new.alloc ≡ d.alloc)
 
   abbrev Gives1 : (Ch E Z).Denot → (Bp E).Denot → (Out).Denot → (Ch E Z).Denot → Type 0
-  Gives1 d front r new = (r.1.at ≡ r.0.ptr) × (r.1.alloc ≡ d.alloc) × (r.2.ptr ≡ first_of new.blocks)
+  Gives1 d front r new = (r.1.at ≡ r.0.ptr) × (r.1.alloc ≡ d.alloc) × (r.2.ptr ≡ first_block_of new.blocks)
 
   abbrev spec : {M : Type 1} {𝓤 : Ura M} (𝓛 : Logic 𝓤) → Clauses 𝓤 ended
   spec {𝓤 = 𝓤} 𝓛 κs a = record { ghost = Unit {0}; requires = λ _. fact 𝓤 (Asks a.0.now a.1.0); ensures = λ _ r w. sep 𝓤 (fact 𝓤 (Gives0 a.0.now a.1.0 r w.0.now)) (fact 𝓤 (Gives1 a.0.now a.1.0 r w.0.now)) }
@@ -100,7 +100,7 @@ module _ (E : El) (Z : Al) {M : Type 1} {𝓤 : Ura M} (𝓛 : Logic 𝓤) (C : 
 
   walk : us0 ≡ vptr rb ro ∷ [] → Asks E Z d front → ent 𝓤 (⋆ 𝓛 Had) (WpFn 𝓤 H C Λ (function E Z) (vptr rb ro ∷ word front.ptr ∷ []) Post)
   walk passed asked =
-      let p : Ptr = front.ptr in let more = past_first d.blocks asked.0.0 in let ps : List Ptr = more.0 in let on : Ptr = first_of ps in
+      let p : Ptr = front.ptr in let more = past_first d.blocks asked.0.0 in let ps : List Ptr = more.0 in let on : Ptr = first_block_of ps in
       let cut : d.blocks ≡ p ∷ ps = more.1 ∙ ap (λ a. a ∷ ps) (sym asked.0.1) in
       let none : List (Place E) = replicate 32 None in
       let new : (Ch E Z).Denot = record { mark = d.mark; blocks = ps; slots = drop 32 d.slots; alloc = d.alloc } in
