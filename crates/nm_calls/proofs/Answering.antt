@@ -22,9 +22,9 @@ use Rattle.nm_steps.specs.Steps.{Stand, MayStep, Stepped}
 use Rattle.nm_epoch.specs.Resting.{epochs, search}
 use Rattle.nm_epoch.proofs.Allowed.{passes}
 use Rattle.nm_epoch.proofs.Entries.{epochs_after, search_is}
-use Rattle.nm_epoch.proofs.KeptHands.{known_after_step}
 use Rattle.nm_epoch.proofs.Labels.{drafts_stay}
 use Rattle.nm_calls.specs.Leaving.{EndedWith, ShowsAnswer, IsItsAnswer, OnlyLabels}
+use Rattle.nm_pool.proofs.PrivateSlots.{known_after_step}
 
 -- ---- answers
 

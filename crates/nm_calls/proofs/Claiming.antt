@@ -27,13 +27,14 @@ use Rattle.nm_pool.specs.Claims.{DoneAt, IsNewNode, FoundWorn, MadeNew, PassedOv
 use Rattle.nm_pool.specs.declared.placement.Fit.{Fit}
 use Rattle.nm_pool.specs.declared.placement.Fit.TheVariants as fit
 use Rattle.nm_pool.specs.Takes.{DoneInTurn, FoundTaken, LearnsSlots}
+use Rattle.nm_pool.proofs.PrivateSlots.{known_after_step, put_another, put_there}
 use Rattle.nm_steps.specs.Rules.{knowledge}
 use Rattle.nm_steps.specs.Steps.{Stand, Stepped, IsSamePass}
 use Rattle.nm_steps.proofs.AfterSteps.{TellsRun, run_after, is_join}
 use Rattle.nm_calls.specs.Telling.{IsInRun}
 use Rattle.nm_calls.specs.Making.{draft, KeepsOtherSlots, KeepsAllBut, OnlyMakes}
 use Rattle.nm_calls.proofs.Looks.{enough}
-use Rattle.nm_calls.proofs.Makes.{get_draft, drafts_ascend, without_it, without_another, put_there, put_another, makes, after_step, search_then}
+use Rattle.nm_calls.proofs.Makes.{get_draft, drafts_ascend, without_it, without_another, makes, search_then}
 
 -- ---- the call's search is as it was
 
@@ -300,7 +301,7 @@ module _ (p q : Stand) (f : Fit) (nodes : ℕ) (o : Option NodeId) (same : IsSam
 
 module _ (p q : Stand) (s : ℕ) (step : Stepped p q (Give s) (Returned s)) where
   returned : knowledge q.view ≡ record (knowledge p.view) { drafts = without (knowledge p.view).drafts s }
-  returned = after_step p q (Give s) (Returned s) step ∙ learn_returned p.view.number (knowledge p.view) s s
+  returned = known_after_step p q (Give s) (Returned s) step ∙ learn_returned p.view.number (knowledge p.view) s s
 
   pub only_given : OnlyMakes p q
   unfolding searched

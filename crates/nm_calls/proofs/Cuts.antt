@@ -34,14 +34,15 @@ use Rattle.nm_order.proofs.ToldNodes.{flag_known, tag_known, onward_is, cuts_are
 use Rattle.nm_steps.specs.Rules.{knowledge}
 use Rattle.nm_steps.specs.Steps.{Stand, MayStep, Stepped, nodes_cut, splice_reply}
 use Rattle.nm_steps.proofs.AfterSteps.{TellsRun}
+use Rattle.nm_steps.proofs.Extending.{neither}
 use Rattle.nm_calls.specs.Telling.{Tells, IsInRun, IsPinnedSomewhere}
 use Rattle.nm_calls.specs.Marking.{IsToBeCut, OnlyCuts, SpliceWon, SpliceLost}
-use Rattle.nm_calls.proofs.Looks.{enough, known_inside, inside, grown}
+use Rattle.nm_calls.proofs.Looks.{enough, known_inside, grown}
 use Rattle.nm_order.proofs.LinkedBirths.{is_looked}
-use Rattle.nm_epoch.proofs.Allowed.{passes_then, neither}
 use Rattle.nm_epoch.proofs.Entries.{search_is}
-use Rattle.nm_epoch.proofs.KeptHands.{known_after_step}
 use Rattle.nm_calls.proofs.Marks.{slot_inside, only_reads, edge_found}
+use Rattle.nm_pool.proofs.Allowing.{not_outside, passes_then}
+use Rattle.nm_pool.proofs.PrivateSlots.{known_after_step}
 
 -- ---- the births of a frozen chain
 
@@ -141,7 +142,7 @@ may_splice p a side s x keep kept run pin f =
       looked = tt;
       allowed = λ m h. passes_then (outside 1 n a || (outside 6 n s || outside 6 n x)) NoSlot _
           (neither (outside 1 n a) (outside 6 n s || outside 6 n x) (slot_inside p a run f.knows_ancestor)
-          (neither (outside 6 n s) (outside 6 n x) (inside 6 n s first_high below.1) (inside 6 n x last_high last.1)))
+          (neither (outside 6 n s) (outside 6 n x) (not_outside 6 n s first_high below.1) (not_outside 6 n x last_high last.1)))
           (passes_then (is_none k.brief.pin) NotPinned _ (ap is_none pin.1)
           (passes_then (not (knows k a && knows k s)) NotHeld _ (ap not (and_from (knows k a) (knows k s) f.knows_ancestor first))
           (passes_then (not (is_frozen L k s x keep)) NotFrozen None (ap not frozen) refl)));

@@ -1,6 +1,6 @@
 -- Two new nodes, filled and linked.
 use Rattle.std.proofs.Common.{◌≡◌, ◌≢◌, ◌<◌, ◌≤◌, ◌⊎◌, List, inl, inr, ℕ, Bool, true, false, cond, refl, sym, ap, subst, ◌∙◌, arith}
-use Rattle.std.specs.Prelude.{Option, Some, None, nat_lt, unwrap_or}
+use Rattle.std.specs.Prelude.{Option, Some, None, nat_lt}
 use Rattle.std.proofs.lemmas.Bool.{ltb-true, ltb-false}
 use native.Mathlib.Decide.{ℕ_discrete}
 use Rattle.nm_edge.specs.Edges.{Edge}
@@ -9,7 +9,6 @@ use Rattle.nm_calls.specs.declared.spot.ChainEdge.{ChainEdge}
 use Rattle.nm_calls.specs.Walks.{HasEnded, HasFound}
 use Rattle.nm_model.specs.declared.event.Op.TheVariants.{Insert}
 use Rattle.nm_model.specs.declared.knowledge.Draft.{Draft}
-use Rattle.nm_model.specs.Knowledge.{unfilled}
 use Rattle.nm_model.specs.Maps.{get}
 use Rattle.nm_model.specs.Searches.{Search}
 use Rattle.nm_order.specs.Facts.Since.{ThePin}
@@ -25,30 +24,7 @@ use Rattle.nm_calls.specs.Making.{draft, with_node, IsFilled, IsInserting, Keeps
 use Rattle.nm_calls.specs.Leaving.{EndedWith, IsItsAnswer}
 use Rattle.nm_calls.proofs.KeptLedgers.{ledgers_then}
 use Rattle.nm_calls.specs.Inserts.{HasBothNodes, IfReady, HoldsFork, HasFork, OnlyTries, HasGrown, HasNotGrown, inner_of, MayGrow}
-
--- a filled slot, and one that stayed so while another was filled
-filled_so : (p q : Stand) (s birth key left right : ℕ) → (draft p s).birth ≡ Some birth → get (knowledge q.view).drafts s ≡ Some (with_node (draft p s) key left right) → IsFilled q s birth key left right
-filled_so p q s birth key left right born is =
-    let d : draft q s ≡ with_node (draft p s) key left right = ap (λ (o : Option Draft). unwrap_or o unfilled) is in
-    record {
-      has_birth = ap (λ (x : Draft). x.birth) d ∙ born;
-      has_key = ap (λ (x : Draft). x.key) d;
-      has_left = ap (λ (x : Draft). x.left) d;
-      has_right = ap (λ (x : Draft). x.right) d;
-    }
-
-same_draft : (p q : Stand) (s : ℕ) → get (knowledge q.view).drafts s ≡ get (knowledge p.view).drafts s → draft q s ≡ draft p s
-same_draft p q s is = ap (λ (o : Option Draft). unwrap_or o unfilled) is
-
-filled_still : (p q : Stand) (s birth key left right : ℕ) → get (knowledge q.view).drafts s ≡ get (knowledge p.view).drafts s → IsFilled p s birth key left right → IsFilled q s birth key left right
-filled_still p q s birth key left right is f =
-    let d = same_draft p q s is in
-    record {
-      has_birth = ap (λ (x : Draft). x.birth) d ∙ f.has_birth;
-      has_key = ap (λ (x : Draft). x.key) d ∙ f.has_key;
-      has_left = ap (λ (x : Draft). x.left) d ∙ f.has_left;
-      has_right = ap (λ (x : Draft). x.right) d ∙ f.has_right;
-    }
+use Rattle.nm_calls.proofs.Makes.{is_filled, same_draft, is_filled_still}
 
 -- the internal node that a fork asks for
 as_fork : (q : Stand) (key other leaf new fresh birth : ℕ) (i : Inner) → i ≡ inner_of key other leaf fresh → other ≢ key → IsFilled q new birth i.key i.left i.right
@@ -76,9 +52,9 @@ inserting p r q key e f i may is on only new others on' only' fresh others' = re
     new_birth = f.new.birth;
     fresh_birth = f.fresh.birth;
     apart = may.ready.apart;
-    as_leaf = filled_so r q f.fresh.slot f.fresh.birth key 0 0 (ap (λ (d : Draft). d.birth) (same_draft p r f.fresh.slot (others f.fresh.slot (λ same. may.ready.apart (sym same)))) ∙ may.ready.fresh_birth) fresh;
+    as_leaf = is_filled r q f.fresh.slot f.fresh.birth key 0 0 (ap (λ (d : Draft). d.birth) (same_draft p r f.fresh.slot (others f.fresh.slot (λ same. may.ready.apart (sym same)))) ∙ may.ready.fresh_birth) fresh;
     as_fork = as_fork q key e.key e.spot.edge.slot f.new.slot f.fresh.slot f.new.birth i is may.other
-        (filled_still r q f.new.slot f.new.birth i.key i.left i.right (others' f.new.slot may.ready.apart) (filled_so p r f.new.slot f.new.birth i.key i.left i.right may.ready.new_birth new));
+        (is_filled_still r q f.new.slot f.new.birth i.key i.left i.right (others' f.new.slot may.ready.apart) (is_filled p r f.new.slot f.new.birth i.key i.left i.right may.ready.new_birth new));
   };
 }
 

@@ -14,12 +14,12 @@ use Rattle.nm_laws.proofs.Learned.{learn_labelled}
 use Rattle.nm_order.proofs.HeldLedgers.{held_ledgers_are_kept}
 use Rattle.nm_steps.specs.Rules.{knowledge}
 use Rattle.nm_steps.specs.Steps.{Stand, Stepped, IsSamePass}
-use Rattle.nm_epoch.proofs.KeptHands.{known_after_step}
 use Rattle.nm_calls.specs.declared.spot.ChainEdge.{ChainEdge}
 use Rattle.nm_calls.specs.declared.spot.Spot.{Spot}
 use Rattle.nm_calls.specs.Telling.{IsInRun}
 use Rattle.nm_calls.specs.Cleanups.{HasCut, KeepsLedgers, freed_of_origin}
 use Rattle.nm_calls.proofs.Looks.{enough}
+use Rattle.nm_pool.proofs.PrivateSlots.{known_after_step}
 
 -- ---- ledgers that stay
 

@@ -35,8 +35,10 @@ use Rattle.nm_steps.specs.Steps.{Stand, MayStep, Stepped, link_reply}
 use Rattle.nm_steps.proofs.AfterSteps.{TellsRun}
 use Rattle.nm_calls.specs.Telling.{Tells, IsInRun, GoesOn, IsPinnedSomewhere}
 use Rattle.nm_calls.specs.Making.{draft, IsFork, IsInserting, HasLinked, HasLost}
-use Rattle.nm_calls.proofs.Looks.{enough, known_inside, inside, grown, told_after, goes_on}
-use Rattle.nm_calls.proofs.Makes.{private_from_birth, drafts_ascend, without_it, without_another, passes, after_step, search_then}
+use Rattle.nm_calls.proofs.Looks.{enough, known_inside, grown, told_after, goes_on}
+use Rattle.nm_calls.proofs.Makes.{private_from_birth, drafts_ascend, without_it, without_another, search_then}
+use Rattle.nm_pool.proofs.Allowing.{not_outside, passes_then}
+use Rattle.nm_pool.proofs.PrivateSlots.{known_after_step}
 
 -- ---- what the drafts of the new nodes show
 
@@ -147,13 +149,13 @@ module _ (p : Stand) (parent : ℕ) (side : Side) (leaf new fresh : ℕ) (i : Is
       let L : Layout = p.view.layout in
       record {
         looked = tt;
-        allowed = λ m h. passes (outside 1 L.nodes parent || (outside 1 L.nodes leaf || outside 6 L.nodes new)) NoSlot _
-            (ap (λ (b : Bool). b || (outside 1 L.nodes leaf || outside 6 L.nodes new)) (inside 1 L.nodes parent above.0 above.1)
-            ∙ (ap (λ (b : Bool). b || outside 6 L.nodes new) (inside 1 L.nodes leaf below.0 below.1) ∙ inside 6 L.nodes new own.0 own.1))
-            (passes (is_none k.brief.pin) NotPinned _ (ap is_none pin.1)
-            (passes (not (knows k parent && (knows k leaf && knows_leaf k leaf))) NotHeld _ (ap not (and_from (knows k parent) _ known (and_from (knows k leaf) _ held leafy)))
-            (passes (not (is_private k new)) NotPrivate _ (ap not new_private)
-            (passes (not (is_linkable k new leaf)) NotReady _ (ap not linkable) refl))));
+        allowed = λ m h. passes_then (outside 1 L.nodes parent || (outside 1 L.nodes leaf || outside 6 L.nodes new)) NoSlot _
+            (ap (λ (b : Bool). b || (outside 1 L.nodes leaf || outside 6 L.nodes new)) (not_outside 1 L.nodes parent above.0 above.1)
+            ∙ (ap (λ (b : Bool). b || outside 6 L.nodes new) (not_outside 1 L.nodes leaf below.0 below.1) ∙ not_outside 6 L.nodes new own.0 own.1))
+            (passes_then (is_none k.brief.pin) NotPinned _ (ap is_none pin.1)
+            (passes_then (not (knows k parent && (knows k leaf && knows_leaf k leaf))) NotHeld _ (ap not (and_from (knows k parent) _ known (and_from (knows k leaf) _ held leafy)))
+            (passes_then (not (is_private k new)) NotPrivate _ (ap not new_private)
+            (passes_then (not (is_linkable k new leaf)) NotReady _ (ap not linkable) refl))));
         ordered = in_order;
         births = tt;
         key = tt;
@@ -174,7 +176,7 @@ module _ (p q : Stand) (parent : ℕ) (side : Side) (leaf new fresh : ℕ) where
   link_won run i step =
       let k : Knowledge = knowledge p.view in
       let n : NodeId = node_linked k new in
-      let at : knowledge q.view ≡ linked_in k leaf new = after_step p q (Link parent side leaf new) (Linked n) step ∙ learn_linked p.view.number k parent side leaf new n in
+      let at : knowledge q.view ≡ linked_in k leaf new = known_after_step p q (Link parent side leaf new) (Linked n) step ∙ learn_linked p.view.number k parent side leaf new n in
       let drafts_now : (knowledge q.view).drafts ≡ without (without k.drafts new) fresh = ap (λ (x : Knowledge). x.drafts) at ∙ ap (without (without k.drafts new)) (is_fresh p parent side leaf new fresh i) in
       let order : Ascends k.drafts = drafts_ascend p.view.layout (enough p.view.layout run.fits) p.view.number p.view.log run.run.is_part in
       let later : Ascends (without k.drafts new) = ascends-without k.drafts new order in
@@ -194,7 +196,7 @@ module _ (p q : Stand) (parent : ℕ) (side : Side) (leaf new fresh : ℕ) where
       let k : Knowledge = knowledge p.view in
       let L : Layout = p.view.layout in
       let entry : Entry = (Link parent side leaf new, Lost e) in
-      let at : knowledge q.view ≡ read_edge k parent side e = after_step p q (Link parent side leaf new) (Lost e) step ∙ learn_link_lost p.view.number k parent side leaf new e in
+      let at : knowledge q.view ≡ read_edge k parent side e = known_after_step p q (Link parent side leaf new) (Lost e) step ∙ learn_link_lost p.view.number k parent side leaf new e in
       let search_now : search_after idle q.view.log ≡ search_after idle p.view.log = search_then p q (Link parent side leaf new) (Lost e) step in
       let low = enough L (subst (λ (s : Stand). IsLayout s.view.layout) step fits) in
       let learned = edges_are_learned L low p.view.number p.view.log entry (grown p q (Link parent side leaf new) (Lost e) step refl fits tells) parent side e (ByLink parent leaf new side e) known in

@@ -1,7 +1,7 @@
 -- A look at a known node is allowed under a pin, and its log goes on.
 use Rattle.std.proofs.Common.{◌≡◌, ℕ, ◌≤◌, Bool, true, false, not, cond, ◌&&◌, ◌||◌, List, [], ◌∷◌, ◌++◌, refl, sym, ap, subst, ◌∙◌, arith}
-use Rattle.std.specs.Prelude.{Option, Some, None, is_none, nat_lt}
-use Rattle.std.proofs.lemmas.Bool.{le-ltb, cond-false}
+use Rattle.std.specs.Prelude.{Option, Some, None, is_none}
+use Rattle.std.proofs.lemmas.Bool.{cond-false}
 use Rattle.nm_edge.specs.Edges.{Edge}
 use Rattle.nm_edge.specs.Layouts.{Layout, IsLayout}
 use Rattle.nm_edge.specs.declared.edge.Side.{Side}
@@ -20,6 +20,7 @@ use Rattle.nm_model.specs.Searches.{Search, idle, searched, look_for, side_of}
 use Rattle.nm_model.specs.declared.arrivals.Call.{Call}
 use Rattle.nm_model.specs.Learning.{learn, look_known, look_private}
 use Rattle.nm_laws.proofs.Learned.{learn_look}
+use Rattle.nm_laws.proofs.Retired.{layout_after}
 use Rattle.nm_order.proofs.FactLaws.{facts_are_true}
 use Rattle.nm_order.proofs.PartsOfRuns.{logs_tell}
 use Rattle.nm_steps.proofs.Presence.{known_push}
@@ -34,11 +35,12 @@ use Rattle.nm_order.proofs.LastEntries.{ToldBy, told_by_part, search_more}
 use Rattle.nm_order.proofs.OrderedLaws.{law_of_state}
 use Rattle.nm_order.proofs.TaughtFacts.{edges_are_learned, births_are_learned}
 use Rattle.nm_order.proofs.TaughtWalks.{walks_begin, walks_learn_keys, walks_go_on, walks_end}
-use Rattle.nm_order.proofs.ToldLaws.{same_layout, twins_are_told, flags_are_told, flagged_lead_high, flagged_stand_high, edges_stay_inside, root_leads, low_keys_stand_high}
+use Rattle.nm_order.proofs.ToldLaws.{twins_are_told, flags_are_told, flagged_lead_high, flagged_stand_high, edges_stay_inside, root_leads, low_keys_stand_high}
 use Rattle.nm_steps.specs.Rules.{knowledge}
 use Rattle.nm_steps.specs.Steps.{Stand, MayStep, Stepped}
 use Rattle.nm_steps.proofs.AfterSteps.{TellsRun, run_after, is_join}
 use Rattle.nm_calls.specs.Telling.{Tells, IsInRun, GoesOn, OnlyLooks, IsPinnedSomewhere, KeyTold, EdgeTold}
+use Rattle.nm_pool.proofs.Allowing.{not_outside}
 
 pub enough : (L : Layout) → IsLayout L → 5 ≤ L.nodes
 enough L fits = let least = fits.least in omega arith
@@ -53,11 +55,8 @@ known_inside L w log fits l x known = go (told_by_part L (enough L fits) w l.wor
     go told =
         let c : Configuration = after_in (ordered L) l.turns in
         let law = law_of_state L (enough L fits) c told.is_ordered in
-        let layout : c.state.layout ≡ L = ap (λ (s : State). s.layout) told.is_ordered.leads ∙ same_layout L told.is_ordered.events in
+        let layout : c.state.layout ≡ L = ap (λ (s : State). s.layout) told.is_ordered.leads ∙ layout_after L told.is_ordered.events in
         subst (λ (M : Layout). (1 ≤ x) × (x ≤ M.nodes)) layout (law.1.tree.known w x (ap (λ (k : Knowledge). knows k x) (told.knows ∙ ap (known_by L w) l.is_part) ∙ known))
-
-pub inside : (low n s : ℕ) → low ≤ s → s ≤ n → outside low n s ≡ false
-inside low n s least most = ap (λ (b : Bool). b || nat_lt n s) (le-ltb s low least) ∙ le-ltb n s most
 
 -- the checks of a look, one after the other
 no_refusal : (a b c : Bool) → a ≡ false → b ≡ false → c ≡ false → cond a (Some NoSlot) (cond b (Some NotPinned) (cond c (Some NotHeld) None)) ≡ None
@@ -75,7 +74,7 @@ may_look p x f run pin known =
     record {
       looked = tt;
       allowed = λ m h. no_refusal (outside 1 p.view.layout.nodes x) (not (is_private k x) && is_none k.brief.pin) (not (is_private k x) && not (knows k x))
-          (inside 1 p.view.layout.nodes x range.0 range.1) (right_false (not (is_private k x)) (is_none k.brief.pin) (ap is_none pin.1)) (right_false (not (is_private k x)) (not (knows k x)) (ap not known));
+          (not_outside 1 p.view.layout.nodes x range.0 range.1) (right_false (not (is_private k x)) (is_none k.brief.pin) (ap is_none pin.1)) (right_false (not (is_private k x)) (not (knows k x)) (ap not known));
       ordered = refl;
       births = tt;
       key = tt;

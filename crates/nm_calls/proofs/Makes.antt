@@ -1,5 +1,5 @@
 -- What the steps that make nodes ask and leave.
-use Rattle.std.proofs.Common.{◌≡◌, ◌≢◌, ℕ, ◌≤◌, eqb, Bool, true, false, true≢false, not, cond, ◌&&◌, ◌||◌, List, refl, sym, ap, subst, ◌∙◌}
+use Rattle.std.proofs.Common.{◌≡◌, ◌≢◌, ℕ, ◌≤◌, eqb, Bool, true, false, true≢false, not, ◌&&◌, ◌||◌, List, refl, sym, ap, subst, ◌∙◌}
 use Rattle.std.specs.Prelude.{Option, Some, None, IsSome, is_some, is_none, unwrap_or, nat_lt}
 use Rattle.std.proofs.lemmas.Bool.{le-ltb, cond-true, cond-false, eq-eqb, ne_eqb}
 use Rattle.nm_edge.specs.Layouts.{Layout, IsLayout}
@@ -10,19 +10,18 @@ use Rattle.nm_model.specs.declared.event.Field.{Field}
 use Rattle.nm_model.specs.declared.event.Field.TheVariants.{Key as KeyOf, Edge as EdgeOn}
 use Rattle.nm_model.specs.declared.knowledge.Draft.{Draft}
 use Rattle.nm_model.specs.declared.knowledge.Seen.{Seen}
-use Rattle.nm_model.specs.declared.reply.Refused.{Refused}
 use Rattle.nm_model.specs.declared.reply.Refused.TheVariants.{NoSlot, NotPrivate, NotReady}
 use Rattle.nm_model.specs.declared.reply.Reply.{Reply}
 use Rattle.nm_model.specs.declared.reply.Reply.TheVariants.{Filled}
 use Rattle.nm_model.specs.Knowledge.{Knowledge, unfilled, is_private, read, seen_of, knows_leaf}
-use Rattle.nm_model.specs.Learning.{learn, filled_in}
+use Rattle.nm_model.specs.Learning.{filled_in}
 use Rattle.nm_model.specs.Maps.{get, put, without, has}
 use Rattle.nm_model.specs.Ordered.{ordered, after_in, trace_in}
 use Rattle.nm_model.specs.Searches.{Search, idle, searched}
 use Rattle.nm_model.specs.Step.{refusal, outside}
 use Rattle.nm_model.specs.Walks.{Entry, search_after}
 use Rattle.nm_laws.proofs.Learned.{learn_filled}
-use Rattle.nm_model.proofs.Tables.{Ascends, get-put, get-without}
+use Rattle.nm_model.proofs.Tables.{Ascends, get-without}
 use Rattle.nm_order.specs.Facts.{Fact, HoldsIn}
 use Rattle.nm_order.specs.Facts.Fact.{IsPinned, KnowsSlot, KnowsLeaf, IsTagged, IsFlagged, IsFrozen, IsBorn, CallIs, Came, ReadKey, EndedAt}
 use Rattle.nm_order.specs.Hands.{IsPooled}
@@ -32,10 +31,10 @@ use Rattle.nm_order.proofs.OrderedLaws.{law_of_state}
 use Rattle.nm_steps.specs.Rules.{knowledge}
 use Rattle.nm_steps.specs.Steps.{Stand, MayStep, Stepped}
 use Rattle.nm_steps.proofs.AfterSteps.{TellsRun, run_after, is_join}
-use Rattle.nm_steps.proofs.Presence.{known_push}
 use Rattle.nm_calls.specs.Telling.{IsInRun, GoesOn}
 use Rattle.nm_calls.specs.Making.{draft, IsFilled, KeepsOtherSlots, OnlyMakes, with_node}
-use Rattle.nm_calls.proofs.Looks.{inside}
+use Rattle.nm_pool.proofs.Allowing.{not_outside, passes_then}
+use Rattle.nm_pool.proofs.PrivateSlots.{known_after_step, put_another, put_there}
 
 -- ---- drafts
 
@@ -68,12 +67,6 @@ without_it m s order = get-without m s s order ∙ cond-true (eqb s s) None (get
 pub without_another : (m : List (ℕ × Draft)) (s x : ℕ) → Ascends m → x ≢ s → get (without m s) x ≡ get m x
 without_another m s x order ne = get-without m s x order ∙ cond-false (eqb x s) None (get m x) (ne_eqb x s ne)
 
-pub put_another : (m : List (ℕ × Draft)) (s : ℕ) (d : Draft) (x : ℕ) → x ≢ s → get (put m s d) x ≡ get m x
-put_another m s d x ne = get-put m s d x ∙ cond-false (eqb x s) (Some d) (get m x) (ne_eqb x s ne)
-
-pub put_there : (m : List (ℕ × Draft)) (s : ℕ) (d : Draft) → get (put m s d) s ≡ Some d
-put_there m s d = get-put m s d s ∙ cond-true (eqb s s) (Some d) (get m s) (eq-eqb s s refl)
-
 -- ---- steps on private slots leave every fact
 
 held_still : (k l : Knowledge) (s t : Search) → l.brief ≡ k.brief → l.known ≡ k.known → t ≡ s → (fact : Fact) → HoldsIn k s fact → HoldsIn l t fact
@@ -102,10 +95,6 @@ in_run_after p q e r step other fits tells = record { fits = fits; run = run_aft
 pub both_make : (p q r : Stand) → OnlyMakes p q → OnlyMakes q r → OnlyMakes p r
 both_make p q r a b = record { epochs = b.epochs ∙ a.epochs; known = b.known ∙ a.known; ledgers = b.ledgers ∙ a.ledgers; search = b.search ∙ a.search }
 
--- what is known after a step
-pub after_step : (p q : Stand) (e : Event) (r : Reply) → Stepped p q e r → knowledge q.view ≡ learn p.view.number (knowledge p.view) e r
-after_step p q e r step = ap (λ (s : Stand). knowledge s.view) step ∙ known_push p.view.number p.view.layout p.view.log (e, r)
-
 pub search_then : (p q : Stand) (e : Event) (r : Reply) → Stepped p q e r → search_after idle q.view.log ≡ searched (search_after idle p.view.log) e r
 search_then p q e r step = ap (λ (s : Stand). search_after idle s.view.log) step ∙ search_more idle p.view.log (e, r)
 
@@ -129,10 +118,6 @@ pub record Fillable (p : Stand) (s : ℕ) : Type 0 where
 pub fillable : (p : Stand) (s : ℕ) → IsSome (draft p s).birth → ((x : ℕ) → is_private (knowledge p.view) x ≡ true → IsPooled p.view.layout x) → Fillable p s
 fillable p s born pooled = let range = pooled s (private_from_birth p s born) in record { least = range.0; most = range.1; born = born }
 
--- a check that passes, and those that follow
-pub passes : (b : Bool) (r : Refused) (o : Option Refused) → b ≡ false → o ≡ None → cond b (Some r) o ≡ None
-passes b r o is rest = cond-false b (Some r) o is ∙ rest
-
 not_none : {X : Type 0} (o : Option X) → is_some o ≡ true → is_none o ≡ false
 not_none None h = sym h
 not_none (Some x) h = refl
@@ -145,9 +130,9 @@ module _ (p : Stand) (s : ℕ) (f : Fillable p s) where
   unfolding refusal
   may_fill_key key = record {
     looked = tt;
-    allowed = λ m h. passes (outside 6 p.view.layout.nodes s || false) NoSlot _ (ap (λ (x : Bool). x || false) (inside 6 p.view.layout.nodes s f.least f.most))
-        (passes (not (is_private (knowledge p.view) s)) NotPrivate _ (ap not own)
-        (passes (is_none (draft p s).birth) NotReady _ (not_none (draft p s).birth f.born) refl));
+    allowed = λ m h. passes_then (outside 6 p.view.layout.nodes s || false) NoSlot _ (ap (λ (x : Bool). x || false) (not_outside 6 p.view.layout.nodes s f.least f.most))
+        (passes_then (not (is_private (knowledge p.view) s)) NotPrivate _ (ap not own)
+        (passes_then (is_none (draft p s).birth) NotReady _ (not_none (draft p s).birth f.born) refl));
     ordered = refl;
     births = tt;
     key = tt;
@@ -157,10 +142,10 @@ module _ (p : Stand) (s : ℕ) (f : Fillable p s) where
   unfolding refusal
   may_fill_edge side child within = record {
     looked = tt;
-    allowed = λ m h. passes (outside 6 p.view.layout.nodes s || (true && nat_lt p.view.layout.nodes child)) NoSlot _
-        (ap (λ (x : Bool). x || nat_lt p.view.layout.nodes child) (inside 6 p.view.layout.nodes s f.least f.most) ∙ le-ltb p.view.layout.nodes child within)
-        (passes (not (is_private (knowledge p.view) s)) NotPrivate _ (ap not own)
-        (passes (is_none (draft p s).birth) NotReady _ (not_none (draft p s).birth f.born) refl));
+    allowed = λ m h. passes_then (outside 6 p.view.layout.nodes s || (true && nat_lt p.view.layout.nodes child)) NoSlot _
+        (ap (λ (x : Bool). x || nat_lt p.view.layout.nodes child) (not_outside 6 p.view.layout.nodes s f.least f.most) ∙ le-ltb p.view.layout.nodes child within)
+        (passes_then (not (is_private (knowledge p.view) s)) NotPrivate _ (ap not own)
+        (passes_then (is_none (draft p s).birth) NotReady _ (not_none (draft p s).birth f.born) refl));
     ordered = refl;
     births = tt;
     key = tt;
@@ -168,7 +153,7 @@ module _ (p : Stand) (s : ℕ) (f : Fillable p s) where
 
 module _ (p q : Stand) (s : ℕ) (f : Field) (v : ℕ) (step : Stepped p q (Fill s f v) Filled) where
   filled_known : knowledge q.view ≡ record (knowledge p.view) { drafts = put (knowledge p.view).drafts s (filled_in (draft p s) f v) }
-  filled_known = after_step p q (Fill s f v) Filled step ∙ learn_filled p.view.number (knowledge p.view) s f v
+  filled_known = known_after_step p q (Fill s f v) Filled step ∙ learn_filled p.view.number (knowledge p.view) s f v
 
   pub filled_there : get (knowledge q.view).drafts s ≡ Some (filled_in (draft p s) f v)
   filled_there =

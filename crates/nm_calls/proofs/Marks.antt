@@ -32,18 +32,19 @@ use Rattle.nm_words.specs.Told.{known_as}
 use Rattle.nm_steps.specs.Rules.{knowledge, known_births}
 use Rattle.nm_steps.specs.Steps.{Stand, MayStep, Stepped, flag_reply}
 use Rattle.nm_steps.proofs.AfterSteps.{TellsRun, is_join}
+use Rattle.nm_steps.proofs.Extending.{neither}
 use Rattle.nm_calls.specs.Telling.{Tells, IsInRun, OnlyLooks, IsPinnedSomewhere}
 use Rattle.nm_calls.specs.Marking.{TagTold, EdgeFound, IsToBeFlagged, OnlyFlags, FlagWon, FlagLost}
-use Rattle.nm_epoch.proofs.Allowed.{passes_then, neither}
 use Rattle.nm_epoch.proofs.Entries.{search_is}
-use Rattle.nm_epoch.proofs.KeptHands.{known_after_step}
-use Rattle.nm_calls.proofs.Looks.{enough, known_inside, inside, grown, told_after}
+use Rattle.nm_calls.proofs.Looks.{enough, known_inside, grown, told_after}
+use Rattle.nm_pool.proofs.Allowing.{not_outside, passes_then}
+use Rattle.nm_pool.proofs.PrivateSlots.{known_after_step}
 
 -- ---- checks
 
 -- a known slot is in the layout
 pub slot_inside : (p : Stand) (x : ℕ) → IsInRun p → Tells p (KnowsSlot x) → outside 1 p.view.layout.nodes x ≡ false
-slot_inside p x run known = let range = known_inside p.view.layout p.view.number p.view.log run.fits run.run.is_part x known in inside 1 p.view.layout.nodes x range.0 range.1
+slot_inside p x run known = let range = known_inside p.view.layout p.view.number p.view.log run.fits run.run.is_part x known in not_outside 1 p.view.layout.nodes x range.0 range.1
 
 -- ---- what a step leaves
 
@@ -152,7 +153,7 @@ may_flag p x side leaf run pin f =
     let s : Search = search_after idle p.view.log in
     record {
       looked = tt;
-      allowed = λ m h. passes_then (outside 1 n x || outside 6 n leaf) NoSlot _ (neither (outside 1 n x) (outside 6 n leaf) (slot_inside p x run f.knows_parent) (inside 6 n leaf f.high range.1))
+      allowed = λ m h. passes_then (outside 1 n x || outside 6 n leaf) NoSlot _ (neither (outside 1 n x) (outside 6 n leaf) (slot_inside p x run f.knows_parent) (not_outside 6 n leaf f.high range.1))
           (passes_then (is_none k.brief.pin) NotPinned _ (ap is_none pin.1)
           (passes_then (not (knows k x && (knows k leaf && knows_leaf k leaf))) NotHeld None
           (ap not (and_from (knows k x) (knows k leaf && knows_leaf k leaf) f.knows_parent (and_from (knows k leaf) (knows_leaf k leaf) f.knows_leaf f.is_leaf))) refl));

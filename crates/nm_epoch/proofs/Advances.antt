@@ -16,8 +16,9 @@ use Rattle.nm_epoch.specs.Resting.{Settles, KeepsHands, epochs}
 use Rattle.nm_steps.specs.Steps.{IsSamePass}
 use Rattle.nm_epoch.specs.Scans.{LooksAt, SightThenScans, IsAdvance, IsLooking, lets_pass}
 use Rattle.nm_epoch.proofs.Entries.{epochs_after, search_is}
-use Rattle.nm_epoch.proofs.KeptHands.{is_label, known_after_step, hands_kept, kept_on}
+use Rattle.nm_epoch.proofs.KeptHands.{is_label, hands_kept, kept_on}
 use Rattle.nm_epoch.proofs.Scanning.{look_epochs}
+use Rattle.nm_pool.proofs.PrivateSlots.{known_after_step}
 
 -- ---- the last step
 

@@ -16,24 +16,20 @@ use Rattle.nm_laws.proofs.Steps.{passed}
 use Rattle.nm_steps.specs.declared.view.View.{View}
 use Rattle.nm_steps.specs.Rules.{knowledge}
 use Rattle.nm_steps.specs.Steps.{Stand, MayStep, fresh_view}
+use Rattle.nm_steps.proofs.Extending.{neither}
 use Rattle.nm_epoch.specs.Resting.{IsResting, IsPinnedAt, epochs, search, marks}
 use Rattle.nm_epoch.specs.Scans.{IsLooking, lets_pass}
 use Rattle.nm_epoch.proofs.Marks.{one_for_each, all_others}
+use Rattle.nm_pool.proofs.Allowing.{passes_then}
 
 -- a check that does not fail, with none behind it
 pub passes : (b : Bool) (r : Refused) → b ≡ false → cond b (Some r) None ≡ None
 passes b r is = ap (λ (x : Bool). cond x (Some r) None) is
 
-pub passes_then : (b : Bool) (r : Refused) (o : Option Refused) → b ≡ false → o ≡ None → cond b (Some r) o ≡ None
-passes_then b r o is rest = ap (λ (x : Bool). cond x (Some r) o) is ∙ rest
-
 -- a value that is there
 is_there : (o : Option ℕ) → IsSome o → is_none o ≡ false
 is_there None h = sym h
 is_there (Some e) h = refl
-
-pub neither : (a b : Bool) → a ≡ false → b ≡ false → (a || b) ≡ false
-neither a b x y = ap (λ (c : Bool). c || b) x ∙ y
 
 pub may_announce : (p : Stand) → IsSome (epochs p).seen → (epochs p).pin ≡ None → MayStep p Announce
 unfolding refusal

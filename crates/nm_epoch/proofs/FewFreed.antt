@@ -19,7 +19,8 @@ use Rattle.nm_epoch.specs.declared.collecting.Entry.{Entry}
 use Rattle.nm_epoch.specs.declared.collecting.HeldQueue.{HeldQueue}
 use Rattle.nm_epoch.specs.Collecting.{AreHeld, IsQueueOf, IsCollection, NoneHas, queued, freeing, is_ripe, ripe_part, ripe_of}
 use Rattle.nm_epoch.proofs.Fronts.{shown_queue}
-use Rattle.nm_epoch.proofs.Steps.{longer, one_longer}
+use Rattle.nm_epoch.proofs.Steps.{one_longer}
+use Rattle.nm_pool.proofs.Steps.{longer_by}
 
 abbrev slots : List Entry → List ℕ
 slots es = map (λ (e : Entry). e.node.slot) es
@@ -158,6 +159,6 @@ collect_steps L k epoch hs old new apart has some is =
     let few = few_slots L k apart hs some has in
     let ripe = all_ripe_few epoch hs in
     let first = one_longer old is.0 _ is.1.2 in
-    let rest = longer is.0 new (map freeing (ripe_of epoch hs)) is.2 in
+    let rest = longer_by is.0 new (map freeing (ripe_of epoch hs)) is.2 in
     let freed = length-map (ripe_of epoch hs) freeing in
     omega (arith, few, ripe, first, rest, freed)

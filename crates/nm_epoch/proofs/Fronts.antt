@@ -1,6 +1,6 @@
 -- The front of a held queue: it may be freed, and what the worker knows then.
 use Rattle.std.proofs.Common.{◌≡◌, ◌≢◌, ℕ, zero, suc, ◌+◌, ◌≤◌, ◌==◌, Bool, true, false, cond, ◌||◌, List, [], ◌∷◌, map, drop, refl, sym, ap, subst, ◌∙◌, arith}
-use Rattle.std.specs.Prelude.{Option, Some, None, is_some, is_none, option_map, slice_get, nat_lt}
+use Rattle.std.specs.Prelude.{Option, Some, None, is_some, is_none, option_map, slice_get}
 use Rattle.std.proofs.lemmas.Bool.{cond-true, cond-false, eq-eqb, eqb-true, le-ltb}
 use Rattle.std.proofs.lemmas.Option.{none-some, same_Some}
 use Rattle.nm_edge.specs.declared.node.NodeId.{NodeId}
@@ -19,12 +19,14 @@ use Rattle.nm_laws.proofs.Learned.{learn_freed}
 use Rattle.nm_steps.specs.Rules.{knowledge}
 use Rattle.nm_steps.specs.Steps.{Stand, MayStep, Stepped, give_reply}
 use Rattle.nm_steps.proofs.Presence.{known_push}
+use Rattle.nm_steps.proofs.Extending.{neither}
 use Rattle.nm_epoch.specs.declared.collecting.Entry.{Entry}
 use Rattle.nm_epoch.specs.Resting.{epochs, search}
 use Rattle.nm_epoch.specs.Collecting.{queued, IsQueueOf, KeepsRetired}
 use Rattle.nm_order.specs.Hands.{WaitsAt, AreApart}
-use Rattle.nm_epoch.proofs.Allowed.{passes, passes_then, neither}
+use Rattle.nm_epoch.proofs.Allowed.{passes}
 use Rattle.nm_epoch.proofs.Entries.{epochs_after, search_is}
+use Rattle.nm_pool.proofs.Allowing.{not_outside, passes_then}
 
 -- ---- lists alone
 
@@ -69,9 +71,6 @@ retired_freed : (ls : List (Option Ledger)) (n : NodeId) (j : ℕ) → retired_i
 retired_freed [] n j = refl
 retired_freed (l ∷ ls) n j = retired_by (is_some (front_at (queue_of l) n.slot)) l ls n (retired_freed ls n) j
 
-inside : (low n s : ℕ) → low ≤ s → s ≤ n → outside low n s ≡ false
-inside low n s least most = neither (nat_lt s low) (nat_lt n s) (le-ltb s low least) (le-ltb n s most)
-
 -- ---- the front of a held queue
 
 module _ (p : Stand) (o : ℕ) (x : Entry) (es : List Entry) (has : IsQueueOf (knowledge p.view) o (x ∷ es)) (apart : AreApart p.view.layout (knowledge p.view)) where
@@ -104,7 +103,7 @@ module _ (p : Stand) (o : ℕ) (x : Entry) (es : List Entry) (has : IsQueueOf (k
   unfolding refusal
   may_free epoch seen ripe = record {
     looked = tt;
-    allowed = λ m h. passes_then (outside 6 p.view.layout.nodes s) NoSlot _ (let range = apart.waiting o 0 (queued x) waits in inside 6 p.view.layout.nodes s range.0 range.1)
+    allowed = λ m h. passes_then (outside 6 p.view.layout.nodes s) NoSlot _ (let range = apart.waiting o 0 (queued x) waits in not_outside 6 p.view.layout.nodes s range.0 range.1)
         (ap (λ (b : Bool). first (cond b [] (free_checks k s))) (apart.shared o 0 (queued x) waits)
         ∙ passes_then (is_none (queued_entry k.ledgers s)) NotPrivate _ (ap (λ (y : Option Queued). is_none y) entry)
         (passes_then (is_none k.brief.seen || has_no_label (queued_entry k.ledgers s)) NotReady _ (neither (is_none k.brief.seen) (has_no_label (queued_entry k.ledgers s)) (ap (λ (y : Option ℕ). is_none y) seen) (ap has_no_label entry))

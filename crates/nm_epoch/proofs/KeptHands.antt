@@ -14,9 +14,9 @@ use Rattle.nm_model.specs.Step.{confirmed, reply_scan}
 use Rattle.nm_model.specs.Walks.{Entry}
 use Rattle.nm_steps.specs.Rules.{knowledge}
 use Rattle.nm_steps.specs.Steps.{Stand, Stepped, IsSamePass, IsSight, sight_of}
-use Rattle.nm_steps.proofs.Presence.{known_push}
 use Rattle.nm_epoch.specs.Resting.{KeepsHands, epochs}
 use Rattle.nm_epoch.specs.Scans.{LooksAt}
+use Rattle.nm_pool.proofs.PrivateSlots.{known_after_step}
 
 -- a step on the epoch or on a note
 abbrev pub is_quiet : Event → Bool
@@ -72,9 +72,6 @@ learn_keeps w k Leave _ q = as_it_was k _
 learn_keeps w k (LeaveWith answer) _ q = as_it_was k _
 learn_keeps w k Advance _ q = as_it_was k _
 learn_keeps w k _ _ q = absurd (true≢false (sym q))
-
-pub known_after_step : (p q : Stand) (e : Event) (r : Reply) → Stepped p q e r → knowledge q.view ≡ learn p.view.number (knowledge p.view) e r
-known_after_step p q e r step = ap (λ (x : Stand). knowledge x.view) step ∙ known_push p.view.number p.view.layout p.view.log (e, r)
 
 pub hands_kept : (p q : Stand) (e : Event) (r : Reply) → Stepped p q e r → is_quiet e ≡ true → ((epochs p).unlabelled ≡ false → is_label r ≡ false) → KeepsHands p q
 hands_kept p q e r step quiet silent =

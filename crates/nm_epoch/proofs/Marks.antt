@@ -21,12 +21,12 @@ use Rattle.nm_epoch.specs.Scans.{lets_pass}
 
 -- ---- one for each worker
 
-rows : (n w : ℕ) (k : Knowledge) (log : List Entry) → IsRow n k → IsRow n (known_after w k log)
-rows n w k [] h = h
-rows n w k (x ∷ log) h = rows n w (learn w k x.0 x.1) log (row_learn n w k x.0 x.1 h)
+pub row_after : (n w : ℕ) (k : Knowledge) (log : List Entry) → IsRow n k → IsRow n (known_after w k log)
+row_after n w k [] h = h
+row_after n w k (x ∷ log) h = row_after n w (learn w k x.0 x.1) log (row_learn n w k x.0 x.1 h)
 
 pub one_for_each : (p : Stand) → length (marks p) ≡ p.view.layout.workers
-one_for_each p = (rows p.view.layout.workers p.view.number (newcomer p.view.layout p.view.number) p.view.log (record {
+one_for_each p = (row_after p.view.layout.workers p.view.number (newcomer p.view.layout p.view.number) p.view.log (record {
   scanned = length-replicate p.view.layout.workers false;
   ledgers = length-set _ _ _ ∙ length-replicate p.view.layout.workers None;
 })).scanned

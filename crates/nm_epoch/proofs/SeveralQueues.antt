@@ -14,7 +14,7 @@ use Rattle.nm_epoch.specs.Collecting.{IsQueueOf, AreHeld, NoneHas, HaveLost, fre
 abbrev pub StaysBut : (ℕ → Type 0) → Knowledge → Knowledge → Type 0
 StaysBut Changes k l = (o : ℕ) → Changes o → held l.ledgers o ≡ held k.ledgers o
 
-queue_stays : (k l : Knowledge) (o : ℕ) (es : List Entry) → held l.ledgers o ≡ held k.ledgers o → IsQueueOf k o es → IsQueueOf l o es
+pub queue_stays : (k l : Knowledge) (o : ℕ) (es : List Entry) → held l.ledgers o ≡ held k.ledgers o → IsQueueOf k o es → IsQueueOf l o es
 queue_stays k l o es same has = ap (λ (y : Option Ledger). option_map (λ (x : Ledger). x.queue) y) same ∙ has
 
 -- one ledger has changed, and these queues are of others

@@ -25,8 +25,9 @@ use Rattle.nm_steps.specs.Steps.{IsSamePass}
 use Rattle.nm_epoch.specs.Scans.{IsSightOf}
 use Rattle.nm_epoch.specs.Collecting.{queued, IsQueueOf, AreHeld, KeepsRetired, ledgers_seen, retired_of}
 use Rattle.nm_epoch.specs.Resting.{epochs}
-use Rattle.nm_epoch.proofs.KeptHands.{known_after_step}
 use Rattle.nm_order.specs.Reads.{sight_epoch}
+use Rattle.nm_order.proofs.ReadEpochs.{confirmed_finds}
+use Rattle.nm_pool.proofs.PrivateSlots.{known_after_step}
 
 -- ---- labels that are there stay
 
@@ -101,13 +102,8 @@ after_sight : (w : ℕ) (k : Knowledge) (e : ℕ) → (learn w k Sight (sight_of
 unfolding learn
 after_sight w k e = ledgers_by k.brief.unlabelled k e
 
-found_there : (pin announced : Option ℕ) (e : ℕ) → sight_epoch (confirmed pin announced e) ≡ Some e
-found_there (Some p) announced e = refl
-found_there None None e = refl
-found_there None (Some a) e = cond_both (a == e) (Pinned e) (Missed e) (λ r. sight_epoch r ≡ Some e) (λ _. refl) (λ _. refl)
-
 epoch_found : (b : Brief) (e : ℕ) → sight_epoch (sight_of b e) ≡ Some e
-epoch_found b e = cond_both b.unlabelled (Labelled e) (confirmed b.pin b.note e) (λ r. sight_epoch r ≡ Some e) (λ _. refl) (λ _. found_there b.pin b.note e)
+epoch_found b e = cond_both b.unlabelled (Labelled e) (confirmed b.pin b.note e) (λ r. sight_epoch r ≡ Some e) (λ _. refl) (λ _. confirmed_finds b.pin b.note e)
 
 pub ledgers_after : (p q : Stand) (r : Reply) (e : ℕ) → Stepped p q Sight r → IsSight (epochs p) r → sight_epoch r ≡ Some e → (knowledge q.view).ledgers ≡ ledgers_seen e (knowledge p.view)
 ledgers_after p q r e step sight is =

@@ -1,7 +1,6 @@
 -- How many steps the calls on the epoch take at most.
 use Rattle.std.proofs.Common.{◌≡◌, ◌≢◌, ◌⊎◌, inl, inr, ⊎_elim, ℕ, zero, suc, ◌+◌, ◌*◌, ◌≤◌, ◌<◌, List, [], ◌∷◌, ◌++◌, length, refl, ap, ◌∙◌, arith}
 use Rattle.std.specs.Prelude.{Option, Some, Result, Ok, Err, IfOk, IfErr}
-use Rattle.std.proofs.lemmas.List.{length-append}
 use Rattle.nm_model.specs.declared.event.Event.{Event}
 use Rattle.nm_model.specs.declared.event.Event.TheVariants.{Sight, Announce, Leave, Scan}
 use Rattle.nm_model.specs.declared.reply.Reply.{Reply}
@@ -14,12 +13,10 @@ use Rattle.nm_epoch.specs.declared.answers.Moved.{Moved as LostPin}
 use Rattle.nm_epoch.specs.Scans.{IsSightOf, LooksAt, AllLetPass, SightThenScans, IsAdvance}
 use Rattle.nm_epoch.specs.Watches.{AllWatched, SightThenWatch}
 use Rattle.nm_epoch.specs.Tries.{LostTries, IsPinnedBy, IsMoved, after_sight}
-
-pub longer : (old new more : List Entry) → new ≡ old ++ more → length new ≡ length old + length more
-longer old new more is = ap (λ (log : List Entry). length log) is ∙ length-append old more
+use Rattle.nm_pool.proofs.Steps.{longer_by}
 
 pub one_longer : (old new : List Entry) (x : Entry) → new ≡ old ++ x ∷ [] → length new ≡ length old + 1
-one_longer old new x is = longer old new (x ∷ []) is
+one_longer old new x is = longer_by old new (x ∷ []) is
 
 -- ---- looks at the workers
 

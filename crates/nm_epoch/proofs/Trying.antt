@@ -21,8 +21,9 @@ use Rattle.nm_epoch.specs.declared.pinning.Confirming.TheVariants.{Plain, For}
 use Rattle.nm_epoch.specs.Resting.{IsResting, IsPinnedAt, IsTrying, HasAnnounced, KeepsHands, epochs, search}
 use Rattle.nm_epoch.specs.Tries.{WonTry, LostTry, LostTries, IsMoved, after_sight, confirming, call_confirmed}
 use Rattle.nm_epoch.proofs.Entries.{epochs_after, search_is}
-use Rattle.nm_epoch.proofs.KeptHands.{is_quiet, is_label, known_after_step, hands_kept, kept_on}
+use Rattle.nm_epoch.proofs.KeptHands.{is_quiet, is_label, hands_kept, kept_on}
 use Rattle.nm_epoch.proofs.Allowed.{may_sight_for}
+use Rattle.nm_pool.proofs.PrivateSlots.{known_after_step}
 
 -- ---- the confirming sight
 

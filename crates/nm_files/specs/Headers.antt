@@ -1,6 +1,6 @@
 -- The first line of a schedule: its version, how many nodes and workers it is for, and whether its
 -- core is ordered.
-use Rattle.std.specs.Prelude.{ℕ, List, [], ◌∷◌, codes, Bool, true, false, Result, Ok, Err, if◌then◌else◌}
+use Rattle.std.specs.Prelude.{ℕ, List, [], ◌∷◌, codes, true, false, Result, Ok, Err, if◌then◌else◌}
 use Rattle.std.specs.Str.{bytes_eq}
 use Rattle.nm_edge.specs.Layouts.{dense}
 use Rattle.nm_files.specs.declared.fault.Reason.{Reason}

@@ -29,7 +29,7 @@ unfolding refused_in
 refused_plain s w e = or_else_none (refused s w e)
 
 -- what a configuration allows, its state allows
-allowed_by_state : (c : Configuration) (w : ℕ) (e : Event) → refused_in c w e ≡ None → refused c.state w e ≡ None
+pub allowed_by_state : (c : Configuration) (w : ℕ) (e : Event) → refused_in c w e ≡ None → refused c.state w e ≡ None
 unfolding refused_in
 allowed_by_state c w e = go (refused c.state w e) (disorder_in c w e)
   where
@@ -153,7 +153,7 @@ by_events P step (t ∷ ts) c p = by_events P step ts (next_in c t) (go (refused
     go (Some r) is = rw (refused_next c t r is) p
     go None is = rw (allowed_next c t is) (step c t.0 t.1 p)
 
-same_layout : (c : Configuration) (w : ℕ) (e : Event) → (applied_in c w e).state.layout ≡ c.state.layout
+pub same_layout : (c : Configuration) (w : ℕ) (e : Event) → (applied_in c w e).state.layout ≡ c.state.layout
 unfolding applied_in applied
 same_layout c w e = refl
 
@@ -179,7 +179,7 @@ pub reached_answered : (c new : Configuration) (w : ℕ) (e : Event) (reply : Re
 reached_answered c new w e reply (Ok r) key reached answer ok err = rw ok (reached_applied c w e key answer.0 reached)
 reached_answered c new w e reply (Err why) key reached answer ok err = rw err reached
 
-opening_state : (L : Layout) (b : Bool) → (opening_of L b).state ≡ start L
+pub opening_state : (L : Layout) (b : Bool) → (opening_of L b).state ≡ start L
 opening_state L true = refl
 opening_state L false = refl
 

@@ -28,6 +28,7 @@ use Rattle.nm_laws.proofs.TreeSlots.{is_to-true}
 use Rattle.nm_laws.proofs.TreeSplice.{splice_shown, cut_is, named_slots}
 use Rattle.nm_laws.proofs.TreeSteps.{Lawful, high_from}
 use Rattle.nm_laws.proofs.Lawful.{lawful}
+use Rattle.nm_laws.proofs.Outcomes.{same_reply}
 
 -- ---- what is among a list
 
@@ -46,9 +47,6 @@ pub record Won (s : State) (w a : ℕ) (d : Side) (x p : ℕ) (keep : Side) (ns 
   pub nodes : cut_nodes s.layout s.memory (of s w) x p keep ≡ ns
   pub next_is : next s (w, Splice a d x p keep) ≡ applied s w (Splice a d x p keep)
 
-same_ok : (r q : Reply) → ◌≡◌ {A = Result Reply Refused} (Ok r) (Ok q) → r ≡ q
-same_ok r q h = cc
-
 same_cut : (ns ms : List NodeId) → Cut ns ≡ Cut ms → ns ≡ ms
 same_cut ns ms h = cc
 
@@ -65,7 +63,7 @@ won_splice s w a d x p keep ns h = go (refused s w (Splice a d x p keep)) refl h
 
     go : (o : Option Refused) → refused s w (Splice a d x p keep) ≡ o → answered o (reply s.layout s.memory (of s w) (Splice a d x p keep)) ≡ Ok (Cut ns) → Won s w a d x p keep ns
     go None is h =
-        let k = by (is_to (edge s.memory a d) x) refl (same_ok _ _ h) in
+        let k = by (is_to (edge s.memory a d) x) refl (same_reply _ _ h) in
         record { ok = allowed s w (Splice a d x p keep) is; won = k.0; nodes = k.1; next_is = ap (λ o. unless_refused o s (applied s w (Splice a d x p keep))) is }
     go (Some r) is h = absurd (differ r h)
 

@@ -1,7 +1,7 @@
 -- What was freed is what gives freed: a give takes the front of a queue that its worker holds, and
 -- nothing else frees.
 use Rattle.std.proofs.Common.{◌≡◌, ℕ, zero, suc, ◌-◌, ◌<◌, ◌==◌, ◌⊎◌, inl, inr, Bool, true, false, ◌||◌, cond, List, [], ◌∷◌, ◌++◌, map, length, drop, append-nil, append_assoc, refl, sym, ap, subst, ◌∙◌, arith, get_or-set_same}
-use Rattle.std.specs.Prelude.{Option, Some, None, is_some, option_map, slice_get, filter, Result, Ok, Err}
+use Rattle.std.specs.Prelude.{Option, Some, None, is_some, option_map, slice_get, filter, Result, Ok}
 use native.Mathlib.Decide.{ℕ_discrete}
 use Rattle.std.proofs.lemmas.Bool.{and_from, and_parts, eq-eqb, eqb-true, false_from_ne_true}
 use Rattle.std.proofs.lemmas.Option.{none-some, same_Some}
@@ -34,14 +34,9 @@ use Rattle.nm_laws.proofs.Origins.OriginStep.{Unchanged, Relabelled, Extended, S
 use Rattle.nm_laws.proofs.Retired.{retired_in, Balanced, retired_step, fresh_at_start, is_the_cuts, freed_then_queue}
 use Rattle.nm_laws.proofs.Turns.{LawfulTurn, lawful_turn}
 use Rattle.nm_laws.proofs.Once.{freed_in, OnceLaw, once_turn, IsSound, sound_start}
+use Rattle.nm_laws.proofs.Outcomes.{same_reply, no_reply}
 
 -- ---- a give takes a front
-
-same_reply : (q r : Reply) → ◌≡◌ {A = Result Reply Refused} (Ok q) (Ok r) → q ≡ r
-same_reply q r e = cc
-
-no_reply : (q : Refused) (r : Reply) → ◌≡◌ {A = Result Reply Refused} (Err q) (Ok r) → ⊥
-no_reply q r e = cc
 
 module _ (s : State) (staffed : Staffed s) (w : ℕ) (e : Event) (n : NodeId) where
   front_moved : Allowed s w e → next s (w, e) ≡ applied s w e → reply_of s w e ≡ Freed n → ((v : ℕ) → e ≡ Join v → ⊥) → FreesAFront s (w, e) n

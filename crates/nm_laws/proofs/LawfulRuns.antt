@@ -52,7 +52,7 @@ record Head (s : State) (ts : List (ℕ × Event)) (turn : Turn) (rest : List Tu
   turn_is : turn ≡ told s event
   rest_is : rest ≡ trace (next s event) others
 
-same_head : (x y : Turn) (xs ys : List Turn) → x ∷ xs ≡ y ∷ ys → (x ≡ y) × (xs ≡ ys)
+pub same_head : (x y : Turn) (xs ys : List Turn) → x ∷ xs ≡ y ∷ ys → (x ≡ y) × (xs ≡ ys)
 same_head x y xs ys e = (cc, cc)
 
 no_turn : (x : Turn) (xs : List Turn) → [] ≡ x ∷ xs → ⊥
@@ -87,7 +87,7 @@ take-trace zero s ts = refl
 take-trace (suc i) s [] = refl
 take-trace (suc i) s (t ∷ ts) = ap (λ (rest : List Turn). told s t ∷ rest) (take-trace i (next s t) ts)
 
-take_first : (xs ys : List (ℕ × Event)) → take (length xs) (xs ++ ys) ≡ xs
+pub take_first : (xs ys : List (ℕ × Event)) → take (length xs) (xs ++ ys) ≡ xs
 take_first [] ys = refl
 take_first (x ∷ xs) ys = ap (λ (zs : List (ℕ × Event)). x ∷ zs) (take_first xs ys)
 

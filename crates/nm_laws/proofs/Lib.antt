@@ -1,3 +1,4 @@
+pub mod Outcomes
 pub mod Steps
 pub mod Sizes
 pub mod Learned

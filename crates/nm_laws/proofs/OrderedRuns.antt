@@ -1,7 +1,7 @@
 -- What one run of any core keeps: a turn that is refused may be told as any other refused one, so
 -- an ordered run is told as a plain run is.
 use Rattle.std.proofs.Common.{◌≡◌, ℕ, zero, suc, ◌==◌, Bool, true, false, cond, ◌&&◌, ◌||◌, List, [], ◌∷◌, ◌++◌, length, take, refl, sym, ap, subst, ◌∙◌, arith}
-use Rattle.std.specs.Prelude.{Option, Some, None, filter, Result, Ok, Err}
+use Rattle.std.specs.Prelude.{Option, Some, None, filter, Ok, Err}
 use Rattle.std.specs.List.{list_any}
 use Rattle.std.proofs.lemmas.Bool.{le-leb}
 use Rattle.nm_edge.specs.declared.node.NodeId.{NodeId}
@@ -19,6 +19,7 @@ use Rattle.nm_model.specs.Headline.{departs, leaves}
 use Rattle.nm_model.specs.Traces.{IsLawfulRun}
 use Rattle.nm_laws.proofs.LawfulRuns.{GraceInRun, grace, lawful_run}
 use Rattle.nm_laws.proofs.Configurations.{refused_next, refused_outcome, allowed_state, allowed_outcome, state_outcome, reached_state}
+use Rattle.nm_laws.proofs.Outcomes.{no_reply}
 
 -- ---- traces that differ in their refused turns alone
 
@@ -31,9 +32,6 @@ Alike [] [] = Unit {0}
 Alike [] (y ∷ ys) = ⊥
 Alike (x ∷ xs) [] = ⊥
 Alike (x ∷ xs) (y ∷ ys) = AlikeTurn x y × Alike xs ys
-
-no_reply : (q : Refused) (r : Reply) → ◌≡◌ {A = Result Reply Refused} (Err q) (Ok r) → ⊥
-no_reply q r e = cc
 
 same_reply : (x y : Turn) (r : Reply) → AlikeTurn x y → y.outcome ≡ Ok r → x.outcome ≡ Ok r
 same_reply x y r (Same e) is = ap (λ (t : Turn). t.outcome) e ∙ is

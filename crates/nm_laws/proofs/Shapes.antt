@@ -1,22 +1,20 @@
 -- Each event keeps the shape of a state: there is a word and a worker for each that the layout has.
-use Rattle.std.proofs.Common.{◌≡◌, ◌<◌, ◌-◌, ◌==◌, ℕ, true, cond, eqb, List, [], ◌∷◌, length, replicate, set, refl, ◌∙◌, subst, arith}
-use Rattle.std.specs.Prelude.{Option, None, option_map, is_some}
+use Rattle.std.proofs.Common.{◌≡◌, ◌<◌, ◌-◌, ◌==◌, ℕ, true, cond, eqb, [], ◌∷◌, length, replicate, set, refl, ◌∙◌, subst, arith}
+use Rattle.std.specs.Prelude.{None}
 use Rattle.std.proofs.lemmas.Bool.{cond_both, or_parts}
 use Rattle.std.proofs.lemmas.List.{length-set, length-replicate, length-map}
 use Rattle.std.proofs.lemmas.List.Elements.{All-set, All-get_or}
 use Rattle.std.proofs.lemmas.List.FromFn.{length-map-range_with_len, get_or-map-range_with_len}
 use Rattle.nm_edge.specs.Layouts.{Layout, IsLayout}
-use Rattle.nm_edge.specs.declared.node.NodeId.{NodeId}
 use Rattle.nm_model.specs.declared.event.Field.TheVariants.{Edge as EdgeOn, Birth}
 use Rattle.nm_model.specs.declared.event.Field.{Field}
 use Rattle.nm_model.specs.declared.event.Event.{Event}
 use Rattle.nm_model.specs.declared.event.Event.TheVariants.{Sight, SightFor, Announce, Leave, LeaveWith, Scan, Advance, Claim, Give, Look, Fill, Link, Flag, Tag, Splice, Join}
 use Rattle.nm_model.specs.declared.reply.Reply.{Reply}
 use Rattle.nm_model.specs.declared.reply.Reply.TheVariants.{Saw, Labelled, Pinned, Missed, Announced, Departed, Idle, In, Moved, Behind, Claimed, Returned, Freed, BirthIs, EdgeIs, Filled, Linked, Flagged, Was, Cut, Lost, Joined}
-use Rattle.nm_model.specs.declared.ledger.Ledger.{Ledger}
 use Rattle.nm_model.specs.Maps.{is_number}
 use Rattle.nm_model.specs.Memory.{blank}
-use Rattle.nm_model.specs.Ledgers.{queue_of, front_at, free, with_freed, taken_over}
+use Rattle.nm_model.specs.Ledgers.{taken_over}
 use Rattle.nm_model.specs.Knowledge.{Knowledge, newcomer, is_private}
 use Rattle.nm_model.specs.Learning.{learn, learn_sight, learn_scan, look_private, look_known, forgotten}
 use Rattle.nm_model.specs.Runs.{State, of, start, is_no_worker, join_refusal, applied}
@@ -24,19 +22,9 @@ use Rattle.nm_laws.proofs.Reaches.{IsReachable}
 use Rattle.nm_model.specs.Answers.{IsShaped, IsRow}
 use Rattle.nm_laws.proofs.Steps.{Allowed, passed, by_steps, is_worker}
 use Rattle.nm_laws.proofs.Sizes.{written_as_long}
+use Rattle.nm_laws.proofs.Held.{length-free, length-taken_over}
 
 -- ---- one worker
-
-length-free : (ls : List (Option Ledger)) (n : NodeId) → length (free ls n) ≡ length ls
-length-free [] n = refl
-length-free (l ∷ ls) n =
-    cond_both (is_some (front_at (queue_of l) n.slot)) (option_map (with_freed n) l ∷ ls) (l ∷ free ls n) (λ xs. length xs ≡ length (l ∷ ls))
-    (λ _. refl) (λ _. let rest = length-free ls n in omega (arith, rest))
-
-length-taken_over : (ls ms : List (Option Ledger)) → length (taken_over ls ms) ≡ length ls
-length-taken_over [] ms = refl
-length-taken_over (l ∷ ls) [] = refl
-length-taken_over (l ∷ ls) (m ∷ ms) = let rest = length-taken_over ls ms in omega (arith, rest)
 
 length-saw : (k : Knowledge) (e : ℕ) → length (cond (is_number k.brief.seen e) k.scanned (forgotten k.scanned)) ≡ length k.scanned
 length-saw k e = cond_both (is_number k.brief.seen e) k.scanned (forgotten k.scanned) (λ xs. length xs ≡ length k.scanned) (λ _. refl) (λ _. length-replicate _ _)
@@ -125,7 +113,7 @@ shaped_step s w (Join v) h allowed =
     }
 shaped_step s w e h allowed = shaped_by s w e _ h (row_learn s.layout.workers w (of s w) e _ (row_of s w h allowed.worker))
 
-row_newcomer : (L : Layout) (w : ℕ) → IsRow L.workers (newcomer L w)
+pub row_newcomer : (L : Layout) (w : ℕ) → IsRow L.workers (newcomer L w)
 row_newcomer L w = record { scanned = length-replicate _ _; ledgers = length-set _ _ _ ∙ length-replicate _ _ }
 
 shaped_start : (L : Layout) → IsLayout L → IsShaped (start L)

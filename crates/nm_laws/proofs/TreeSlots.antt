@@ -183,7 +183,7 @@ free_view N m kn h w s e n inside f holder unseen law = law_of N (freed (view m 
 
 -- ---- look, fill
 
-has_put_own : (k : Knowledge) (s : ℕ) (n : Draft) → is_private k s ≡ true → (x : ℕ) → has (put k.drafts s n) x ≡ is_private k x
+pub has_put_own : (k : Knowledge) (s : ℕ) (n : Draft) → is_private k s ≡ true → (x : ℕ) → has (put k.drafts s n) x ≡ is_private k x
 has_put_own k s n own x = ap is_some (get-put k.drafts s n x) ∙ go (eqb x s) refl
   where
     go : (b : Bool) → eqb x s ≡ b → is_some (cond b (Some n) (get k.drafts x)) ≡ is_private k x

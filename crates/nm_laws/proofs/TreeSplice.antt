@@ -41,7 +41,7 @@ leads_on-parts k s d h =
     let two = and_parts (is_flagged (read k s (other d))) (not (is_flagged (read k s d))) one.1 in
     (one.0, two.0)
 
-onward_leads : (k : Knowledge) (s : ℕ) (d : Side) → onward k s ≡ Some d → leads_on k s d ≡ true
+pub onward_leads : (k : Knowledge) (s : ℕ) (d : Side) → onward k s ≡ Some d → leads_on k s d ≡ true
 onward_leads k s d h = go (leads_on k s Left) (leads_on k s Right) refl refl h
   where
     go : (a b : Bool) → leads_on k s Left ≡ a → leads_on k s Right ≡ b → cond a (Some Left) (cond b (Some Right) None) ≡ Some d → leads_on k s d ≡ true

@@ -180,7 +180,7 @@ edges_view m kn h p d e inside = record {
 abbrev pub seen_in : List (ℕ × Seen) → ℕ → Seen
 seen_in m x = unwrap_or (get m x) unread
 
-seen_put : (m : List (ℕ × Seen)) (s : ℕ) (n : Seen) (x : ℕ) → seen_in (put m s n) x ≡ cond (eqb x s) n (seen_in m x)
+pub seen_put : (m : List (ℕ × Seen)) (s : ℕ) (n : Seen) (x : ℕ) → seen_in (put m s n) x ≡ cond (eqb x s) n (seen_in m x)
 seen_put m s n x = ap (λ o. unwrap_or o unread) (get-put m s n x) ∙ go (eqb x s)
   where
     go : (b : Bool) → unwrap_or (cond b (Some n) (get m x)) unread ≡ cond b n (seen_in m x)

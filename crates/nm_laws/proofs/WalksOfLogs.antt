@@ -93,9 +93,9 @@ same_side Left Right is = absurd (true≢false (sym is))
 same_side Right Left is = absurd (true≢false (sym is))
 
 -- where a walk goes on by a side, its key is known, and that is the side
-turning : (k : ℕ) (o : Option ℕ) (side : Side) → turns k o side ≡ true → (v : ℕ) × (o ≡ Some v) × (side_of k v ≡ side)
-turning k None side is = absurd (true≢false (sym is))
-turning k (Some v) side is = (v, refl, same_side (side_of k v) side is)
+pub turned : (k : ℕ) (o : Option ℕ) (side : Side) → turns k o side ≡ true → (v : ℕ) × (o ≡ Some v) × (side_of k v ≡ side)
+turned k None side is = absurd (true≢false (sym is))
+turned k (Some v) side is = (v, refl, same_side (side_of k v) side is)
 
 module _ (k : ℕ) (log : List Entry) (slot : ℕ) (side : Side) (e : Edge) where
   abbrev edge_look : Entry
@@ -111,7 +111,7 @@ module _ (k : ℕ) (log : List Entry) (slot : ℕ) (side : Side) (e : Edge) wher
   ending null a w = cond_both (goes_on k slot side a) (record a { ended = true }) a (IsOfWalk k (log ++ edge_look ∷ []))
       (λ both.
       let parts = and_parts (a.slot == slot) (turns k a.key side) both in
-      let turn = turning k a.key side parts.1 in
+      let turn = turned k a.key side parts.1 in
       let r = w.reads turn.0 turn.1 in
       let old = more k log edge_look a w in
       record {
@@ -148,7 +148,7 @@ module _ (k : ℕ) (log : List Entry) (slot : ℕ) (side : Side) (e : Edge) wher
   next_comes there a is w =
       let parts = and_parts (a.slot == slot) (turns k a.key side) is in
       let at = eqb-true a.slot slot parts.0 in
-      let turn = turning k a.key side parts.1 in
+      let turn = turned k a.key side parts.1 in
       let r = w.reads turn.0 turn.1 in
       subst (λ (d : Side). WalkComes k (log ++ edge_look ∷ []) e.slot slot d) turn.2
       (subst (λ (x : ℕ). WalkComes k (log ++ edge_look ∷ []) e.slot x (side_of k turn.0)) at

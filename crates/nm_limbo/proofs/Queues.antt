@@ -6,7 +6,7 @@ use Rattle.std.specs.Prelude.{Option, Some, None}
 use Rattle.circular_buffer.specs.Places.{somes}
 use Rattle.nm_limbo.specs.Blocks.{IsEmptyAt}
 use Rattle.nm_limbo.specs.List.{BlockList, block_list}
-use Rattle.nm_limbo.specs.Queue.{BlockQueue, block_queue, popped, laid, items_in, left_in, queue_of, IsBalanced, IsPopped, IsLaid, IsQueue}
+use Rattle.nm_limbo.specs.Queue.{BlockQueue, block_queue, popped, laid, items_in, left_in, block_queue_of, IsBalanced, IsPopped, IsLaid, IsQueue}
 use Rattle.nm_limbo.proofs.Lists.{take_empty, drop_empty}
 
 module _ {X : Type 0} where
@@ -87,7 +87,7 @@ popped_gives q r x ys spare blocks more was is gives = (
 module _ {X A : Type 0} where
   -- what lies in the blocks says which queue they are
   pub queue_made : (used empty : BlockList X A) (p n : ℕ) (xs : List X) (s : ℕ) (a : A) → IsLaid used empty p xs s a → n ≡ length xs
-      → IsQueue used empty p n a × (queue_of used empty p n ≡ block_queue xs (s + length empty.slots) (used.blocks + empty.blocks))
+      → IsQueue used empty p n a × (block_queue_of used empty p n ≡ block_queue xs (s + length empty.slots) (used.blocks + empty.blocks))
   queue_made used empty p n xs s a is count =
       let items : xs ≡ somes used.slots = sym (ap somes is.laid_out ∙ somes_laid p xs s) in
       let left : s ≡ length used.slots - (p + n) = omega (arith, is.whole) in (
@@ -98,9 +98,9 @@ module _ {X A : Type 0} where
   pub used_up : (used empty : BlockList X A) (p : ℕ) (xs : List X) (s : ℕ) (a : A) → IsLaid used empty p xs s a → popped (block_queue xs (s + length empty.slots) (used.blocks + empty.blocks)) ≡ p
   used_up used empty p xs s a is = omega (arith, is.whole, is.places.0, is.places.1)
 
-  pub queue_balanced : (used empty : BlockList X A) (p n : ℕ) (a : A) (q : BlockQueue X) → IsQueue used empty p n a → queue_of used empty p n ≡ q → IsBalanced q
+  pub queue_balanced : (used empty : BlockList X A) (p n : ℕ) (a : A) (q : BlockQueue X) → IsQueue used empty p n a → block_queue_of used empty p n ≡ q → IsBalanced q
   queue_balanced used empty p n a q is view =
-      let l = is.1 in let all : IsBalanced (queue_of used empty p n) = (omega (arith, l.whole, l.places.0, l.places.1), omega (arith, l.whole, l.places.0, l.places.1, l.front)) in subst IsBalanced view all
+      let l = is.1 in let all : IsBalanced (block_queue_of used empty p n) = (omega (arith, l.whole, l.places.0, l.places.1), omega (arith, l.whole, l.places.0, l.places.1, l.front)) in subst IsBalanced view all
 
   module _ (used empty : BlockList X A) (p : ℕ) (s : ℕ) (a : A) where
     -- a pop of the first item
@@ -217,7 +217,7 @@ module _ {X A : Type 0} where
         }
 
   -- where there are items, the first lies after the used-up places
-  pub front_at : (used empty : BlockList X A) (p n : ℕ) (a : A) (q : BlockQueue X) → IsQueue used empty p n a → 0 < n → queue_of used empty p n ≡ q
+  pub front_at : (used empty : BlockList X A) (p n : ℕ) (a : A) (q : BlockQueue X) → IsQueue used empty p n a → 0 < n → block_queue_of used empty p n ≡ q
       → (p < 32) × ((x : X) × (get_or used.slots p None ≡ Some x)) × ((x : X) → get_or used.slots p None ≡ Some x → Some x ≡ slice_get q.items 0)
   front_at used empty p n a q is some view =
       let e = first_item (items_in used) (omega (arith, is.0)) in let s = left_in used p n in
@@ -230,7 +230,7 @@ module _ {X A : Type 0} where
     left = left_in used p n
 
     -- x is at the front
-    fronted : IsQueue used empty p n a → 0 < n → queue_of used empty p n ≡ q → get_or used.slots p None ≡ Some x
+    fronted : IsQueue used empty p n a → 0 < n → block_queue_of used empty p n ≡ q → get_or used.slots p None ≡ Some x
         → (ys : List X) × IsLaid used empty p (x ∷ ys) left a × (n ≡ length ys + 1) × (q ≡ block_queue (x ∷ ys) (left + length empty.slots) (used.blocks + empty.blocks)) × (popped q ≡ p)
     fronted is some view at =
         let e = first_item (items_in used) (omega (arith, is.0)) in
@@ -242,16 +242,16 @@ module _ {X A : Type 0} where
         (e.1, now, omega (arith, is.0), was, ap popped was ∙ used_up used empty p (x ∷ e.1) left a now)
 
     -- what moving the front block requires, once its last item is out
-    pub pop_last_requires : IsQueue used empty p n a → 0 < n → queue_of used empty p n ≡ q → get_or used.slots p None ≡ Some x → p ≡ 31
+    pub pop_last_requires : IsQueue used empty p n a → 0 < n → block_queue_of used empty p n ≡ q → get_or used.slots p None ≡ Some x → p ≡ 31
         → read ≡ block_list (set used.slots p None) used.blocks used.alloc
         → (0 < read.blocks) × (take 32 read.slots ≡ replicate 32 None) × (empty.alloc ≡ read.alloc) × (empty.blocks < 2 ^ 31)
     pop_last_requires is some view at last er =
         let f = fronted is some view at in let blocks = ap (λ l. l.blocks) er in
         (omega (arith, f.1.whole, f.1.places.0), used_up_first used empty p left a x f.0 read f.1 last er, is.1.alloc.1 ∙ sym (ap (λ l. l.alloc) er ∙ is.1.alloc.0), omega (arith, is.1.small))
 
-    pub pop_within : IsQueue used empty p n a → 0 < n → queue_of used empty p n ≡ q → get_or used.slots p None ≡ Some x → p < 31
+    pub pop_within : IsQueue used empty p n a → 0 < n → block_queue_of used empty p n ≡ q → get_or used.slots p None ≡ Some x → p < 31
         → read ≡ block_list (set used.slots p None) used.blocks used.alloc
-        → IsQueue read empty (p + 1) (n - 1) a × (r ≡ queue_of read empty (p + 1) (n - 1) → IsPopped q r x)
+        → IsQueue read empty (p + 1) (n - 1) a × (r ≡ block_queue_of read empty (p + 1) (n - 1) → IsPopped q r x)
     pop_within is some view at lt er =
         let f = fronted is some view at in let made = queue_made read empty (p + 1) (n - 1) f.0 left a (popped_within used empty p left a x f.0 read f.1 lt er) (omega (arith, f.2)) in
         let sum : left + length empty.slots ≡ left + length empty.slots + 0 = omega arith in
@@ -261,10 +261,10 @@ module _ {X A : Type 0} where
               (now ∙ made.1 ∙ (λ i. block_queue f.0 (sum i) (blocks i))) (freed_none (popped q) (omega (arith, f.4))),
         )
 
-    pub pop_last : (new free : BlockList X A) → IsQueue used empty p n a → 0 < n → queue_of used empty p n ≡ q → get_or used.slots p None ≡ Some x → p ≡ 31
+    pub pop_last : (new free : BlockList X A) → IsQueue used empty p n a → 0 < n → block_queue_of used empty p n ≡ q → get_or used.slots p None ≡ Some x → p ≡ 31
         → read ≡ block_list (set used.slots p None) used.blocks used.alloc → new ≡ block_list (drop 32 read.slots) (read.blocks - 1) read.alloc
         → free ≡ block_list (empty.slots ++ replicate 32 None) (empty.blocks + 1) empty.alloc
-        → IsQueue new free 0 (n - 1) a × (r ≡ queue_of new free 0 (n - 1) → IsPopped q r x)
+        → IsQueue new free 0 (n - 1) a × (r ≡ block_queue_of new free 0 (n - 1) → IsPopped q r x)
     pop_last new free is some view at last er en ef =
         let f = fronted is some view at in let laid = popped_last used empty p left a x f.0 read new free f.1 last er en ef in
         let made = queue_made new free 0 (n - 1) f.0 left a laid (omega (arith, f.2)) in
@@ -285,23 +285,23 @@ module _ {X A : Type 0} where
     abbrev rest : ℕ
     rest = left_in used p n
 
-    seen : IsQueue used empty p n a → queue_of used empty p n ≡ q → IsLaid used empty p q.items rest a × (n ≡ length q.items)
+    seen : IsQueue used empty p n a → block_queue_of used empty p n ≡ q → IsLaid used empty p q.items rest a × (n ≡ length q.items)
     seen is view = let items = ap (λ w. w.items) view in (subst (λ xs. IsLaid used empty p xs rest a) items is.1, is.0 ∙ ap length items)
 
-    pub ready : IsQueue used empty p n a → queue_of used empty p n ≡ q → p + n < length used.slots → IsReady used empty p n a q
+    pub ready : IsQueue used empty p n a → block_queue_of used empty p n ≡ q → p + n < length used.slots → IsReady used empty p n a q
     ready is view lt =
         let s = seen is view in let more : rest ≡ suc (rest - 1) = omega arith in
         (rest - 1, subst (λ k. IsLaid used empty p q.items k a) more s.0, s.1, omega (arith, ap (λ w. w.spare) view), ap (λ w. w.blocks) view)
 
-    some_empty : IsQueue used empty p n a → queue_of used empty p n ≡ q → p + n ≡ length used.slots → 0 < q.spare → 0 < empty.blocks
+    some_empty : IsQueue used empty p n a → block_queue_of used empty p n ≡ q → p + n ≡ length used.slots → 0 < q.spare → 0 < empty.blocks
     some_empty is view full some = omega (arith, ap (λ w. w.spare) view, is.1.places.1)
 
-    pub full_requires : IsQueue used empty p n a → queue_of used empty p n ≡ q → p + n ≡ length used.slots → 0 < q.spare
+    pub full_requires : IsQueue used empty p n a → block_queue_of used empty p n ≡ q → p + n ≡ length used.slots → 0 < q.spare
         → (0 < empty.blocks) × (take 32 empty.slots ≡ replicate 32 None) × (used.alloc ≡ empty.alloc) × (used.blocks < 2 ^ 31)
     full_requires is view full some =
         let e = some_empty is view full some in (e, first_empty used empty p rest a (items_in used) is.1 e, is.1.alloc.0 ∙ sym is.1.alloc.1, omega (arith, is.1.small))
 
-    pub ready_full : (new free : BlockList X A) → IsQueue used empty p n a → queue_of used empty p n ≡ q → p + n ≡ length used.slots → 0 < q.spare
+    pub ready_full : (new free : BlockList X A) → IsQueue used empty p n a → block_queue_of used empty p n ≡ q → p + n ≡ length used.slots → 0 < q.spare
         → free ≡ block_list (drop 32 empty.slots) (empty.blocks - 1) empty.alloc → new ≡ block_list (used.slots ++ replicate 32 None) (used.blocks + 1) used.alloc
         → IsReady new free p n a q
     ready_full new free is view full some ef en =
@@ -317,7 +317,7 @@ module _ {X A : Type 0} where
         (some, omega (arith, is.2), at, spare_at used empty p (suc is.0) a q.items is.0 (32 * (used.blocks - 1) + i) is.1 refl (omega (arith, is.2)))
 
     pub push_made : (k : ℕ) (x : X) (new : BlockList X A) → IsReady used empty p n a q → k ≡ p + n → new ≡ block_list (set used.slots k (Some x)) used.blocks used.alloc
-        → IsQueue new empty p (n + 1) a × (queue_of new empty p (n + 1) ≡ block_queue (q.items ++ x ∷ []) (q.spare - 1) q.blocks)
+        → IsQueue new empty p (n + 1) a × (block_queue_of new empty p (n + 1) ≡ block_queue (q.items ++ x ∷ []) (q.spare - 1) q.blocks)
     push_made k x new is at e =
         let count = length-append q.items (x ∷ []) in let blocks = ap (λ l. l.blocks) e in
         let made = queue_made new empty p (n + 1) (q.items ++ x ∷ []) is.0 a (pushed used empty p (suc is.0) a q.items is.0 k x new is.1 refl (omega (arith, is.2)) e) (omega (arith, is.2)) in
@@ -325,7 +325,7 @@ module _ {X A : Type 0} where
         (made.0, made.1 ∙ (λ i. block_queue (q.items ++ x ∷ []) (spare i) (same i)))
 
     -- one more block, where few items and few spare places call for it
-    pub block_added : (free : BlockList X A) → IsQueue used empty p n a → queue_of used empty p n ≡ q → q.spare < 1024 → length q.items ≤ 536870912
+    pub block_added : (free : BlockList X A) → IsQueue used empty p n a → block_queue_of used empty p n ≡ q → q.spare < 1024 → length q.items ≤ 536870912
         → free ≡ block_list (empty.slots ++ replicate 32 None) (empty.blocks + 1) empty.alloc → IsQueue used free p n a
     block_added free is view spare items ef =
         let s = seen is view in let left = ap (λ w. w.spare) view in

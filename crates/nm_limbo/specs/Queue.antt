@@ -57,8 +57,8 @@ module _ {X A : Type 0} where
 
   -- the queue in the blocks in use and the empty ones after them, of which the first p places are
   -- used up, and the next n are the items'
-  abbrev pub queue_of : BlockList X A → BlockList X A → ℕ → ℕ → BlockQueue X
-  queue_of used empty p n = block_queue (items_in used) (left_in used p n + length empty.slots)
+  abbrev pub block_queue_of : BlockList X A → BlockList X A → ℕ → ℕ → BlockQueue X
+  block_queue_of used empty p n = block_queue (items_in used) (left_in used p n + length empty.slots)
       (used.blocks + empty.blocks)
 
   -- in the blocks in use lie p used-up places, the items xs and s empty places, and every place of

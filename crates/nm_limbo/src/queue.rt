@@ -33,13 +33,13 @@ pub struct BlockQueue<T, A: Allocator = Global> {
 }
 
 impl<T, A: Allocator> Model for BlockQueue<T, A> {
-    ghost use Rattle.nm_limbo.specs.Queue.{BlockQueue, block_queue_code, queue_of, IsQueue};
+    ghost use Rattle.nm_limbo.specs.Queue.{BlockQueue, block_queue_code, block_queue_of, IsQueue};
 
     ghost Value = { BlockQueue T };
 
     ghost coded = { block_queue_code T.code };
 
-    ghost view = { λ q. queue_of q.used q.empty q.popped q.len };
+    ghost view = { λ q. block_queue_of q.used q.empty q.popped q.len };
 
     ghost invariant = { λ q. IsQueue q.used q.empty q.popped q.len q.alloc };
 }

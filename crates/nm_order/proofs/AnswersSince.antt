@@ -32,7 +32,7 @@ use Rattle.nm_order.proofs.LoggedAnswers.{moment_of}
 use Rattle.nm_order.proofs.OrderedLaws.{each_ordered}
 use Rattle.nm_order.proofs.OwnTurns.{own_search, call_stays}
 use Rattle.nm_order.proofs.PartsOfRuns.{own_adds}
-use Rattle.nm_order.proofs.PinNumbers.{traced, pin_more, pin_stays, pin_below, last-join}
+use Rattle.nm_order.proofs.PinNumbers.{pin_more, pin_stays, pin_below, last-join, length_trace}
 use Rattle.nm_order.proofs.RealTime.{last_grows, begins_with}
 use Rattle.nm_order.proofs.RunExchanges.{first_keys, is_own_call}
 use Rattle.nm_order.proofs.RunMoments.{entries}
@@ -70,7 +70,7 @@ anew_or_stands w p n (x ∷ xs) le = by (list_any begins_anew (log_of w (x ∷ [
 module _ (L : Layout) (enough : 5 ≤ L.nodes) where
   -- the number of a pin is below that of the next turn but one
   pin_at_most : (ts : List (ℕ × Event)) (w : ℕ) → pin_of L ts w ≤ length ts
-  pin_at_most ts w = let g = (last_grows w 0 0 (trace_in (ordered L) ts) (omega arith)).1 in let t = traced (ordered L) ts in omega (arith, g, t)
+  pin_at_most ts w = let g = (last_grows w 0 0 (trace_in (ordered L) ts) (omega arith)).1 in let t = length_trace (ordered L) ts in omega (arith, g, t)
 
   module _ (before : List (ℕ × Event)) (keys : All (λ t. HasKey t.1) before) (w k : ℕ) where
     legal_later : (op : Op) (answer : Bool) (m : WasLegal L before w op k answer) → (pin_of L before w < length m.before) × (length m.before ≤ length before)
@@ -153,9 +153,9 @@ module _ (L : Layout) (enough : 5 ≤ L.nodes) (w : ℕ) (below : w < L.workers)
 
   -- the pin of the call was confirmed behind the past
   pinned : length past ≤ pin_of L last.before w
-  pinned = elim (anew_or_stands w (pin_of L past w) (length (trace_in (ordered L) past)) (trace_in (after_in (ordered L) past) goes_on.0) (let m = pin_at_most L enough past w in let t = traced (ordered L) past in omega (arith, m, t))) [
+  pinned = elim (anew_or_stands w (pin_of L past w) (length (trace_in (ordered L) past)) (trace_in (after_in (ordered L) past) goes_on.0) (let m = pin_at_most L enough past w in let t = length_trace (ordered L) past in omega (arith, m, t))) [
     | inl stands ↦ absurd (none-some (record { op = op; key = k }) (sym (own_call past past_keys _ refl ∙ no_call) ∙ (sym (stayed stands) ∙ (own_call last.before last.keys log last.is_before ∙ called))))
-    | inr anew ↦ (let j = joined in let t = traced (ordered L) past in omega (arith, anew, j, t))
+    | inr anew ↦ (let j = joined in let t = length_trace (ordered L) past in omega (arith, anew, j, t))
   ]
     where
       joined : pin_of L last.before w ≡ last_anew w (pin_of L past w) (length (trace_in (ordered L) past)) (trace_in (after_in (ordered L) past) goes_on.0)

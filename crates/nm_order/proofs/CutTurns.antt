@@ -26,8 +26,9 @@ use Rattle.nm_laws.proofs.Stays.{nothing_else_cuts, only_splices_answer_cuts}
 use Rattle.nm_laws.proofs.Cuts.{cuts_just, cuts_name_births}
 use Rattle.nm_laws.proofs.SplicedEdges.{IsFrozenChain, cuts_go_down}
 use Rattle.nm_laws.proofs.Configurations.{refused_next, refused_outcome, allowed_state, allowed_outcome, state_outcome}
+use Rattle.nm_laws.proofs.Outcomes.{same_reply}
+use Rattle.nm_laws.proofs.Retired.{layout_after}
 use Rattle.nm_order.proofs.OrderedLaws.{IsOrdered, ordered_next, law_of_state}
-use Rattle.nm_order.proofs.ToldLaws.{same_layout}
 
 -- ---- replies
 
@@ -38,9 +39,6 @@ is_cut _ = false
 pub cut_shown : (r : Reply) → is_cut r ≡ true → (ns : List NodeId) × (r ≡ Cut ns)
 cut_shown (Cut ns) h = (ns, refl)
 cut_shown r h = absurd (true≢false (sym h))
-
-same_ok : (r q : Reply) → ◌≡◌ {A = Result Reply Refused} (Ok r) (Ok q) → r ≡ q
-same_ok r q h = cc
 
 -- ---- lists
 
@@ -57,7 +55,7 @@ mapped_among f xs x c =
 module _ (L : Layout) (enough : 5 ≤ L.nodes) where
   module _ (c : Configuration) (o : IsOrdered L c) where
     pub layout_is : c.state.layout ≡ L
-    layout_is = ap (λ (s : State). s.layout) o.leads ∙ same_layout L o.events
+    layout_is = ap (λ (s : State). s.layout) o.leads ∙ layout_after L o.events
 
     pub reached_inside : (x : ℕ) → Reached c.state.memory x → x ≤ L.nodes
     reached_inside x r =
@@ -178,7 +176,7 @@ module _ (L : Layout) (enough : 5 ≤ L.nodes) where
       by (Ok q) is gone = on (is_cut q) refl
         where
           on : (b : Bool) → is_cut q ≡ b → CutOrNot c t x
-          on false other = absurd (gone (uncut_stays c t o (λ ns cut. true≢false (ap is_cut (same_ok (Cut ns) q (sym cut ∙ is)) ∙ other)) x r))
+          on false other = absurd (gone (uncut_stays c t o (λ ns cut. true≢false (ap is_cut (same_reply (Cut ns) q (sym cut ∙ is)) ∙ other)) x r))
           on true cut =
               let ns = cut_shown q cut in
               let shows = cut_shows c t o ns.0 (is ∙ ap (λ (y : Reply). Ok y) ns.1) in

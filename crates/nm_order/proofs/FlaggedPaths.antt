@@ -1,18 +1,18 @@
 -- Where each edge to a slot that paths come to is flagged, it stays so, whatever happens: a link
 -- finds no such edge, and a splice copies the flag.
-use Rattle.std.proofs.Common.{◌≡◌, ◌≢◌, ℕ, zero, suc, ◌<◌, eqb, Bool, true, false, cond, ◌&&◌, List, [], ◌∷◌, ◌++◌, length, refl, sym, ap, subst, ◌∙◌, arith}
+use Rattle.std.proofs.Common.{◌≡◌, ◌≢◌, ℕ, zero, suc, ◌<◌, eqb, Bool, true, false, ◌&&◌, List, [], ◌∷◌, ◌++◌, length, refl, sym, ap, subst, ◌∙◌, arith}
 use Rattle.std.specs.Prelude.{Option, Some, None}
 use native.Mathlib.Decide.{ℕ_discrete}
 use Rattle.std.proofs.lemmas.Bool.{cond-true, cond-false, eqb-true, and_parts}
 use Rattle.std.proofs.lemmas.Option.{none-some, same_Some}
 use Rattle.nm_edge.specs.Edges.{Edge}
 use Rattle.nm_edge.specs.declared.edge.Side.{Side}
-use Rattle.nm_edge.specs.declared.edge.Side.TheVariants.{Left, Right}
 use Rattle.nm_model.specs.Memory.{Memory, edge, child, put_edge}
-use Rattle.nm_model.specs.Knowledge.{Knowledge, read, is_tagged, slot_read, leads_on, onward, before_way, way}
+use Rattle.nm_model.specs.Knowledge.{Knowledge, read, is_tagged, slot_read, onward, before_way, way}
 use Rattle.nm_model.specs.Paths.{follow}
 use Rattle.nm_laws.proofs.Trees.{Children, same_side, same_side-true, same_follow, follow-append}
 use Rattle.nm_laws.proofs.Views.{edge_put}
+use Rattle.nm_laws.proofs.TreeSplice.{onward_leads}
 use Rattle.nm_model.proofs.Ways.{way_here, way_next, way_end}
 
 -- each edge to slot n that paths from x come to is flagged
@@ -83,14 +83,6 @@ filled_apart m m' n x z same never good path d is =
     step y d on = subst (λ (t : ℕ). On (child m) x t) (ap (λ (g : Edge). g.slot) (sym (same y d (off y on)))) (on_next (child m) x y d on)
 
 -- ---- the way of a splice
-
-onward_leads : (k : Knowledge) (s : ℕ) (d : Side) → onward k s ≡ Some d → leads_on k s d ≡ true
-onward_leads k s d h = go (leads_on k s Left) (leads_on k s Right) refl refl h
-  where
-    go : (a b : Bool) → leads_on k s Left ≡ a → leads_on k s Right ≡ b → cond a (Some Left) (cond b (Some Right) None) ≡ Some d → leads_on k s d ≡ true
-    go true b i j h = ap (leads_on k s) (sym (same_Some Left d h)) ∙ i
-    go false true i j h = ap (leads_on k s) (sym (same_Some Right d h)) ∙ j
-    go false false i j h = absurd (none-some d h)
 
 -- the way that a worker knows leads to where it ends
 pub way_ends : (c : Children) (k : Knowledge) → ((y : ℕ) (d : Side) → is_tagged (read k y d) ≡ true → slot_read (read k y d) ≡ c y d) → (fuel s p : ℕ) (sides : List Side) → way fuel k s p ≡ Some sides → follow c s sides ≡ p

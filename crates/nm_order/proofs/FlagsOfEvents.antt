@@ -1,6 +1,6 @@
 -- One event: an ordered core refuses a second flag of a call, so its flag stays, and the arrivals
 -- behind it only grow.
-use Rattle.std.proofs.Common.{◌≡◌, ℕ, Bool, true, false, List, true≢false, refl, sym, ap, subst, ◌∙◌, Result, Ok, Err}
+use Rattle.std.proofs.Common.{◌≡◌, ℕ, Bool, true, false, List, true≢false, refl, sym, ap, subst, ◌∙◌, Result, Ok}
 use Rattle.std.specs.Prelude.{Option, Some, None, is_none, Contains}
 use Rattle.std.specs.List.{list_any}
 use Rattle.std.proofs.lemmas.Bool.{and_parts, not-false}
@@ -24,6 +24,7 @@ use Rattle.nm_model.specs.Searches.{Search, searched, look_for}
 use Rattle.nm_model.specs.Walks.{Entry, GrowsTo, begins_anew}
 use Rattle.nm_model.specs.Ordered.{Configuration, search_of, may_flag_at, deletes, flags_in_order, disorder, disorder_in, disorder_among, refused_in, outcome_in}
 use Rattle.nm_laws.proofs.Steps.{passed}
+use Rattle.nm_laws.proofs.Outcomes.{no_reply}
 use Rattle.nm_order.specs.WalksToArrivals.{is_won_flag}
 use Rattle.nm_order.specs.FlagsOfCalls.{FlagsStay, LaterArrivalsOnlyGrow}
 use Rattle.nm_order.proofs.ArrivalsOfLooks.{grows_by}
@@ -96,12 +97,6 @@ pub kept_flag : (o : Option NodeId) (e : Event) (r : Reply) → is_won_flag (e, 
 kept_flag o (Flag p side leaf) (Flagged n) is = absurd (true≢false is)
 kept_flag o e r is = refl
 
-same_ok : (r q : Reply) → ◌≡◌ {A = Result Reply Refused} (Ok r) (Ok q) → r ≡ q
-same_ok r q h = cc
-
-differ : (x : Refused) (r : Reply) → ◌≡◌ {A = Result Reply Refused} (Err x) (Ok r) → ⊥
-differ x r h = cc
-
 -- a won flag is allowed only where there was none
 pub first_flag : (c : Configuration) (searches : List Search) → c.searches ≡ Some searches → (w : ℕ) (e : Event) (r : Reply) → refused_in c w e ≡ None → is_won_flag (e, r) ≡ true → (search_of searches w).flagged ≡ None
 first_flag c searches are w e r allowed won =
@@ -114,7 +109,7 @@ flags_stay c searches are w e r answers stands n has = flag_added (search_of sea
   where
     allowed : (o : Option Refused) → refused_in c w e ≡ o → ◌≡◌ {A = Result Reply Refused} (answered o (reply_of c.state w e)) (Ok r) → refused_in c w e ≡ None
     allowed None is told = is
-    allowed (Some x) is told = absurd (differ x r told)
+    allowed (Some x) is told = absurd (no_reply x r told)
 
     by : (b : Bool) → is_won_flag (e, r) ≡ b → flag_by (search_of searches w).flagged (e, r) ≡ Some n
     by true won = absurd (none-some n (sym (first_flag c searches are w e r (allowed (refused_in c w e) refl answers) won) ∙ has))

@@ -22,6 +22,7 @@ use Rattle.nm_model.proofs.Ways.{way_here, way_next, some_before}
 use Rattle.nm_laws.proofs.Pictures.{IsLive}
 use Rattle.nm_laws.proofs.Views.{picture}
 use Rattle.nm_laws.proofs.TreeSteps.{Lawful}
+use Rattle.nm_laws.proofs.Retired.{layout_after}
 use Rattle.nm_order.specs.Logs.{known_by}
 use Rattle.nm_order.specs.Facts.{Fact, HoldsIn, Holds}
 use Rattle.nm_order.specs.Facts.Fact.{IsTagged, IsFlagged}
@@ -30,7 +31,6 @@ use Rattle.nm_order.specs.Told.FrozenTo.{ends_there, goes_down}
 use Rattle.nm_order.proofs.OrderedLaws.{law_of_state}
 use Rattle.nm_order.proofs.LastEntries.{ToldBy, told_by_part}
 use Rattle.nm_order.proofs.FactLaws.{told_holds}
-use Rattle.nm_order.proofs.ToldLaws.{same_layout}
 use Rattle.nm_order.proofs.ToldNodes.{frozen_so}
 
 -- ---- chains without loops
@@ -211,7 +211,7 @@ frozen_chains_may_be_cut L enough w log l x p keep nodes frozen = by told
     by : ToldBy L w log (after_in (ordered L) l.turns) → is_frozen L (known_by L w log) x p keep ≡ true
     by t =
         let law = law_of_state L enough (after_in (ordered L) l.turns) t.is_ordered in
-        let layout : (after_in (ordered L) l.turns).state.layout ≡ L = ap (λ (s : State). s.layout) t.is_ordered.leads ∙ same_layout L t.is_ordered.events in
+        let layout : (after_in (ordered L) l.turns).state.layout ≡ L = ap (λ (s : State). s.layout) t.is_ordered.leads ∙ layout_after L t.is_ordered.events in
         subst (λ (M : Layout). is_frozen M (known_by L w log) x p keep ≡ true) layout
         (subst (λ (k : Knowledge). is_frozen (after_in (ordered L) l.turns).state.layout k x p keep ≡ true) t.knows
         (frozen_known (after_in (ordered L) l.turns).state law.0 law.1 w (search_of t.is_ordered.searches w)

@@ -15,12 +15,12 @@ use Rattle.nm_laws.proofs.TreeSteps.{Lawful}
 use Rattle.nm_laws.proofs.Pictures.{Spot, Stands, nowhere_else}
 use Rattle.nm_laws.proofs.Pictures.Spot.{PrivateTo, InQueue}
 use Rattle.nm_laws.proofs.Views.{picture}
+use Rattle.nm_laws.proofs.Retired.{layout_after}
 use Rattle.nm_order.specs.Logs.{part_of, known_by}
 use Rattle.nm_order.specs.Hands.{WaitsAt, IsPooled, AreApart, HandsAreApart}
 use Rattle.nm_order.proofs.OrderedLaws.{law_of_state}
 use Rattle.nm_order.proofs.LastEntries.{ToldBy, told_by_part}
 use Rattle.nm_order.proofs.ToldClaims.{queued_so}
-use Rattle.nm_order.proofs.ToldLaws.{same_layout}
 
 module _ (s : State) (h : ℕ → ℕ) (law : Lawful s h) (w : ℕ) where
   in_queue : (o i : ℕ) (e : Queued) → WaitsAt (of s w) o i e → (picture s h).queue o i ≡ Some e.node.slot
@@ -64,6 +64,6 @@ hands_are_apart L enough w log l = go (told_by_part L enough w l.worker l.turns 
     go told =
         let c : Configuration = after_in (ordered L) l.turns in
         let law = law_of_state L enough c told.is_ordered in
-        let layout : c.state.layout ≡ L = ap (λ (s : State). s.layout) told.is_ordered.leads ∙ same_layout L told.is_ordered.events in
+        let layout : c.state.layout ≡ L = ap (λ (s : State). s.layout) told.is_ordered.leads ∙ layout_after L told.is_ordered.events in
         subst (λ (M : Layout). AreApart M (known_by L w log)) layout
         (subst (λ (k : Knowledge). AreApart c.state.layout k) (told.knows ∙ ap (known_by L w) l.is_part) (hands c.state law.0 law.1 w))

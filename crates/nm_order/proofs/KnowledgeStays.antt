@@ -1,7 +1,7 @@
 -- While a pin stands, what its worker knows is only added to: an edge that it reads again is the
 -- same in what it had known of it.
-use Rattle.std.proofs.Common.{◌≡◌, ◌≢◌, ℕ, ◌≤◌, ◌⊎◌, inl, inr, eqb, ◌==◌, Bool, true, false, cond, not, ◌&&◌, ◌||◌, List, [], refl, sym, ap, ◌∙◌, arith, true≢false}
-use Rattle.std.specs.Prelude.{Option, Some, None, is_none, unwrap_or}
+use Rattle.std.proofs.Common.{◌≡◌, ◌≢◌, ℕ, ◌≤◌, ◌⊎◌, inl, inr, eqb, ◌==◌, Bool, true, false, cond, not, ◌&&◌, ◌||◌, [], refl, sym, ap, ◌∙◌, arith, true≢false}
+use Rattle.std.specs.Prelude.{Option, Some, None, is_none}
 use Rattle.std.proofs.lemmas.Bool.{cond_both, eqb-true, eq-eqb, ne_eqb, and_parts, or_cases, not-false}
 use Rattle.nm_edge.specs.Edges.{Edge, is_to, other, tagged}
 use Rattle.nm_edge.specs.declared.edge.Side.{Side}
@@ -14,18 +14,17 @@ use Rattle.nm_model.specs.declared.reply.Reply.{Reply}
 use Rattle.nm_model.specs.declared.reply.Reply.TheVariants.{Saw, Labelled, Pinned, Missed, Announced, Departed, Idle, In, Moved, Behind, Claimed, Returned, Freed, BirthIs, EdgeIs, Filled, Linked, Flagged, Was, Cut, Lost, Joined}
 use Rattle.nm_model.specs.declared.reply.Refused.TheVariants.{NoSlot, NotPinned, NotHeld, NotFrozen}
 use Rattle.nm_model.specs.declared.knowledge.Seen.{Seen}
-use Rattle.nm_model.specs.Maps.{get, put}
 use Rattle.nm_model.specs.Memory.{Memory, node, edge, child}
-use Rattle.nm_model.specs.Knowledge.{Knowledge, knows, unread, is_private, seen_of, read, read_on, is_flagged, is_null, knows_leaf}
+use Rattle.nm_model.specs.Knowledge.{Knowledge, knows, is_private, seen_of, read, read_on, is_flagged, is_null, knows_leaf}
 use Rattle.nm_model.specs.Learning.{learn, learn_sight, learn_scan, look_known, look_private, met, with_read, read_edge, flag_to, resigned, inheriting}
 use Rattle.nm_model.specs.Step.{outside, refusal, reply, reply_exchange}
 use Rattle.nm_model.specs.Runs.{State, of, refusal_of, reply_of}
 use Rattle.nm_model.specs.Walks.{begins_anew}
 use Rattle.nm_laws.proofs.Steps.{Allowed, third, fourth}
-use Rattle.nm_model.proofs.Tables.{get-put, has_put_there}
+use Rattle.nm_model.proofs.Tables.{has_put_there}
 use Rattle.nm_laws.proofs.Trees.{same_side, same_side-true}
 use Rattle.nm_laws.proofs.Pictures.{IsLive}
-use Rattle.nm_laws.proofs.Views.{picture, seen_in, seen_met, has_met_there, read_after, read_birth}
+use Rattle.nm_laws.proofs.Views.{picture, seen_met, has_met_there, read_after, read_birth, seen_put}
 use Rattle.nm_laws.proofs.TreeSteps.{Lawful}
 use Rattle.nm_order.proofs.SearchSteps.{StillKnown, still_read}
 
@@ -56,14 +55,6 @@ pub record Stays (m : Memory) (k l : Knowledge) : Type 0 where
   pub known : StillKnown k l
   pub reads : (x : ℕ) (d : Side) → (read l x d ≡ read k x d) ⊎ ((e : Edge) × (read l x d ≡ Some e) × Renews (edge m x d) e)
   pub births : (x : ℕ) → ((seen_of l x).birth ≡ (seen_of k x).birth) ⊎ ((seen_of l x).birth ≡ Some (node m x).birth)
-
--- what is known of a slot after one slot's words were put down
-pub seen_put : (m : List (ℕ × Seen)) (s : ℕ) (n : Seen) (x : ℕ) → seen_in (put m s n) x ≡ cond (eqb x s) n (seen_in m x)
-seen_put m s n x = ap (λ o. unwrap_or o unread) (get-put m s n x) ∙ go (eqb x s)
-  where
-    go : (b : Bool) → unwrap_or (cond b (Some n) (get m x)) unread ≡ cond b n (seen_in m x)
-    go true = refl
-    go false = refl
 
 module _ (m : Memory) (k : Knowledge) where
   quiet : (l : Knowledge) → l.known ≡ k.known → l.brief.pin ≡ k.brief.pin → Stays m k l

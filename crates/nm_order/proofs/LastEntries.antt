@@ -39,7 +39,7 @@ pub record ToldBy (L : Layout) (w : ℕ) (log : List Entry) (c : Configuration) 
   pub knows : of c.state w ≡ known_by L w log
   pub search : search_of is_ordered.searches w ≡ search_after idle log
 
-at_some : (o : Option (List Search)) (ss : List Search) (P : List Search → Type 0) → o ≡ Some ss → IfSome o P → P ss
+pub at_some : (o : Option (List Search)) (ss : List Search) (P : List Search → Type 0) → o ≡ Some ss → IfSome o P → P ss
 at_some None ss P is h = absurd (go is)
   where
     go : ◌≡◌ {A = Option (List Search)} None (Some ss) → ⊥

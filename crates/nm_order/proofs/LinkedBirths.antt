@@ -45,7 +45,7 @@ use Rattle.nm_laws.proofs.TreeSlots.{known_live}
 use Rattle.nm_laws.proofs.Origins.{OriginStep, Turned, turned, ledger_at, cut_at}
 use Rattle.nm_laws.proofs.Origins.OriginStep.{Unchanged, Relabelled, Extended, Shortened}
 use Rattle.nm_laws.proofs.KnownBirths.{written_same}
-use Rattle.nm_laws.proofs.Configurations.{refused_next, allowed_outcome, allowed_state, state_outcome}
+use Rattle.nm_laws.proofs.Configurations.{refused_next, allowed_outcome, allowed_state, state_outcome, allowed_by_state}
 use Rattle.nm_order.specs.Intervals.{HasKey}
 use Rattle.nm_order.specs.Logs.{takes_part, part_of, known_after, known_by}
 use Rattle.nm_order.specs.Moments.{OfEachOrderedRun}
@@ -62,7 +62,8 @@ use Rattle.nm_order.proofs.CallWalks.{own_knows}
 use Rattle.nm_order.proofs.KnowledgeStays.{learned_stays, answers}
 use Rattle.nm_order.proofs.LastEntries.{PartOf, part_or}
 use Rattle.nm_order.proofs.LastEntries.PartOf.{Own, Resigns}
-use Rattle.nm_order.proofs.PartsOfRuns.{allowed_by_state, partaking, apart, refused_adds, others_add, own_adds, next_state, logs_tell}
+use Rattle.nm_order.proofs.PartsOfRuns.{partaking, apart, refused_adds, others_add, own_adds, next_state, logs_tell}
+use Rattle.nm_order.proofs.RunExchanges.{opening_ordered}
 
 -- ---- a slot that waits in a queue, with no label below an epoch
 
@@ -433,10 +434,6 @@ module _ (L : Layout) (enough : 5 ≤ L.nodes) (w : ℕ) where
               (rest births (other_turn c t has o why births stand none)))
 
 -- ---- the law
-
-opening_ordered : (L : Layout) → 5 ≤ L.nodes → IsOrdered L (ordered L)
-unfolding after_in
-opening_ordered L enough = each_ordered L enough [] (λ i d below. absurd (omega (arith, below)))
 
 pub own_births_stand : OfEachOrderedRun OwnBirthsStand
 own_births_stand L enough turns keys w x b below is = by (seen_of (known_by L w (part_of w (trace_in (ordered L) turns))) x).birth refl is

@@ -1,11 +1,10 @@
 -- A link that is won names its new node with the birth in its slot: the birth was stored, since a
 -- key was.
 use Rattle.std.proofs.Common.{◌≡◌, ℕ, Bool, true, false, cond, ◌||◌, refl, sym, ap, ◌∙◌, true≢false}
-use Rattle.std.specs.Prelude.{Option, Some, None, is_some, unwrap_or, Result, Ok, Err}
+use Rattle.std.specs.Prelude.{Option, Some, None, is_some, unwrap_or, Ok}
 use Rattle.std.proofs.lemmas.Bool.{and_parts}
 use Rattle.nm_edge.specs.Edges.{is_to}
 use Rattle.nm_model.specs.declared.event.Event.TheVariants.{Link}
-use Rattle.nm_model.specs.declared.reply.Reply.{Reply}
 use Rattle.nm_model.specs.declared.reply.Reply.TheVariants.{Linked, Lost}
 use Rattle.nm_model.specs.declared.reply.Refused.{Refused}
 use Rattle.nm_model.specs.declared.knowledge.Draft.{Draft}
@@ -21,13 +20,8 @@ use Rattle.nm_laws.proofs.TreeSteps.{link_checked}
 use Rattle.nm_laws.proofs.Births.{BornFirst}
 use Rattle.nm_laws.proofs.KnownBirths.{each_birth_stands}
 use Rattle.nm_laws.proofs.Once.{sound}
+use Rattle.nm_laws.proofs.Outcomes.{same_reply, no_reply}
 use Rattle.nm_order.specs.NewNodes.{LinksNameNewNodes}
-
-same_reply : (q r : Reply) → ◌≡◌ {A = Result Reply Refused} (Ok q) (Ok r) → q ≡ r
-same_reply q r e = cc
-
-no_reply : (x : Refused) (r : Reply) → ◌≡◌ {A = Result Reply Refused} (Err x) (Ok r) → ⊥
-no_reply x r e = cc
 
 module _ (s : State) (births : EachBirthStands s) (born : (w : ℕ) → BornFirst (of s w)) where
   -- a private slot whose key was stored has its birth stored, and so it stands

@@ -13,18 +13,17 @@ use Rattle.nm_model.specs.Runs.{State}
 use Rattle.nm_model.specs.Searches.{Search, idle}
 use Rattle.nm_model.specs.Walks.{search_after}
 use Rattle.nm_model.specs.Ordered.{Configuration, ordered, after_in, trace_in, refused_in, outcome_in, search_of, HasKey}
-use Rattle.nm_laws.proofs.Configurations.{refused_outcome}
+use Rattle.nm_laws.proofs.Configurations.{refused_outcome, allowed_by_state}
 use Rattle.nm_laws.proofs.Steps.{allowed}
+use Rattle.nm_laws.proofs.Retired.{layout_after}
 use Rattle.nm_order.specs.Exchanges.{HasFlagged}
 use Rattle.nm_order.specs.Logs.{part_of}
 use Rattle.nm_order.specs.Totals.{NothingIsPending}
 use Rattle.nm_order.proofs.LastEntries.{ToldBy, told_by_part}
 use Rattle.nm_order.proofs.OrderedLaws.{IsOrdered, each_ordered}
 use Rattle.nm_order.proofs.OwnTurns.{own_search}
-use Rattle.nm_order.proofs.PartsOfRuns.{allowed_by_state}
 use Rattle.nm_order.proofs.PendingLeaves.{flag_noted}
 use Rattle.nm_order.proofs.RunExchanges.{first_keys}
-use Rattle.nm_order.proofs.ToldLaws.{same_layout}
 
 module _ (L : Layout) (enough : 5 ≤ L.nodes) (turns : List (ℕ × Event)) (keys : All (λ t. HasKey t.1) turns) where
   none_flagged : (w : ℕ) → w < L.workers → (search_after idle (part_of w (trace_in (ordered L) turns))).flagged ≡ None → (k : ℕ) → HasFlagged L turns w k → ⊥
@@ -50,7 +49,7 @@ module _ (L : Layout) (enough : 5 ≤ L.nodes) (turns : List (ℕ × Event)) (ke
       here = each_ordered L enough f.before (first_keys f.before ((w, event) ∷ f.since) (subst (All (λ t. HasKey t.1)) f.is_run keys))
 
       layout : before.state.layout ≡ L
-      layout = ap (λ (s : State). s.layout) here.leads ∙ same_layout L here.events
+      layout = ap (λ (s : State). s.layout) here.leads ∙ layout_after L here.events
 
       no : (r : Refused) (q : Reply) → ◌≡◌ {A = Result Reply Refused} (Err r) (Ok q) → ⊥
       no r q h = cc

@@ -14,11 +14,10 @@ use Rattle.nm_model.specs.Ordered.{Configuration, ordered, search_of, learned_fr
 use Rattle.nm_laws.proofs.Steps.{Allowed, allowed}
 use Rattle.nm_laws.proofs.TreeSteps.{Lawful}
 use Rattle.nm_laws.proofs.KnownBirths.{each_birth_stands}
-use Rattle.nm_laws.proofs.Configurations.{refused_next, allowed_next}
+use Rattle.nm_laws.proofs.Configurations.{refused_next, allowed_next, allowed_by_state}
 use Rattle.nm_order.specs.Intervals.{HasKey}
 use Rattle.nm_order.proofs.OrderedSteps.{OrderLaw}
 use Rattle.nm_order.proofs.OrderedLaws.{IsOrdered, ordered_next, each_ordered, law_of_state}
-use Rattle.nm_order.proofs.PartsOfRuns.{allowed_by_state}
 
 -- what a configuration allows is in order
 in_order : (c : Configuration) (w : ℕ) (e : Event) → refused_in c w e ≡ None → disorder_in c w e ≡ None

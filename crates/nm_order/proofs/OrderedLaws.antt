@@ -1,6 +1,6 @@
 -- The order of the set, in every ordered run.
 use Rattle.std.proofs.Common.{◌≡◌, ◌≢◌, ℕ, suc, ◌<◌, ◌≤◌, inl, inr, ◌⊎◌, ◌==◌, Bool, true, false, cond, ◌&&◌, List, [], ◌∷◌, ◌++◌, refl, sym, ap, subst, ◌∙◌, arith, true≢false}
-use Rattle.std.specs.Prelude.{◌↔◌, Contains, Option, Some, None, Result, Ok, Err, option_map, replicate, All}
+use Rattle.std.specs.Prelude.{◌↔◌, Contains, Option, Some, None, Result, Ok, option_map, replicate, All}
 use Rattle.std.proofs.lemmas.Bool.{eqb-true, eqb-false, eq-eqb, and_parts, and_from}
 use Rattle.std.proofs.lemmas.List.{length-replicate}
 use Rattle.std.proofs.lemmas.Option.{none-some, same_Some, slice_get-get_or, slice_get_within, get_or_from_slice_get}
@@ -41,6 +41,7 @@ use Rattle.nm_order.proofs.TreeChanges.{WonLink, won_link}
 use Rattle.nm_order.proofs.OrderedWalks.{WalkLaw}
 use Rattle.nm_order.proofs.OrderedKeys.{Under, under, found, keys_ascend}
 use Rattle.nm_laws.proofs.TreeCount.{reached_once}
+use Rattle.nm_laws.proofs.Outcomes.{same_reply, no_reply}
 use Rattle.nm_order.proofs.OrderedSteps.{ForCall, OrderLaw, order_step, LinkOfCall, link_of_call}
 
 -- ---- the opening
@@ -181,12 +182,6 @@ module _ (L : Layout) (enough : 5 ≤ L.nodes) (c : Configuration) (o : IsOrdere
 
 -- ---- a link that is won
 
-same_ok : (r q : Reply) → ◌≡◌ {A = Result Reply Refused} (Ok r) (Ok q) → r ≡ q
-same_ok r q h = cc
-
-differ : (x : Refused) (r : Reply) → ◌≡◌ {A = Result Reply Refused} (Err x) (Ok r) → ⊥
-differ x r h = cc
-
 module _ (L : Layout) (enough : 5 ≤ L.nodes) (c : Configuration) (o : IsOrdered L c) where
   h : ℕ → ℕ
   h = (law_of_state L enough c o).0
@@ -263,8 +258,8 @@ module _ (L : Layout) (enough : 5 ≤ L.nodes) (c : Configuration) (o : IsOrdere
     where
       go : (r : Option Refused) → or_else (refused c.state w (Link p d leaf new)) (disorder_in c w (Link p d leaf new)) ≡ r → ◌≡◌ {A = Result Reply Refused} (answered r (cond (is_to (edge c.state.memory p d) leaf) (Linked (node_linked (of c.state w) new)) (Lost (edge c.state.memory p d)))) (Ok (Linked n))
           → (k : ℕ) × IsCalled c w Insert k × Gains c.state.memory (unless_refused_in r c (applied_in c w (Link p d leaf new))).state.memory k
-      go (Some x) none is = absurd (differ x (Linked n) is)
-      go None none is = won (is_to (edge c.state.memory p d) leaf) refl (same_ok _ _ is)
+      go (Some x) none is = absurd (no_reply x (Linked n) is)
+      go None none is = won (is_to (edge c.state.memory p d) leaf) refl (same_reply _ _ is)
         where
           parts : (refused c.state w (Link p d leaf new) ≡ None) × (disorder_in c w (Link p d leaf new) ≡ None)
           parts = neither (refused c.state w (Link p d leaf new)) (disorder_in c w (Link p d leaf new)) none

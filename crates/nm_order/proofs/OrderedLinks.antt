@@ -22,7 +22,7 @@ use Rattle.nm_order.specs.Intervals.{GoesBy, key}
 use Rattle.nm_laws.proofs.Trees.{Exchanged, follow-append}
 use Rattle.nm_model.proofs.Lists.{any_at}
 use Rattle.nm_order.proofs.OrderedTrees.{Linking}
-use Rattle.nm_order.proofs.OrderedWalks.{WalkLaw, CameFrom, is_side-true, turned}
+use Rattle.nm_order.proofs.OrderedWalks.{WalkLaw, CameFrom, is_side-true}
 use Rattle.nm_order.proofs.OrderedWalks.CameFrom.{FromRoot, FromSlot}
 use Rattle.nm_laws.proofs.Pictures.{IsOnPath, alone, null_below}
 use Rattle.nm_laws.proofs.Splices.{live_on_path, unmarked_not_queued}
@@ -31,6 +31,7 @@ use Rattle.nm_laws.proofs.Links.{IsLink}
 use Rattle.nm_model.proofs.Numbers.{number_is}
 use Rattle.nm_laws.proofs.TreeLink.{Linkable}
 use Rattle.nm_laws.proofs.TreeSteps.{Lawful}
+use Rattle.nm_laws.proofs.WalksOfLogs.{turned}
 use Rattle.nm_order.proofs.OrderedChanges.{FixedKeys, left_of, off_root}
 
 right_of : (k n : ℕ) → (k < n → ⊥) → side_of k n ≡ Right

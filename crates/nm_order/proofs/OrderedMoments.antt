@@ -36,10 +36,11 @@ use Rattle.nm_laws.proofs.Pictures.{IsOnPath, alone}
 use Rattle.nm_laws.proofs.Splices.{live_on_path, unmarked_not_queued}
 use Rattle.nm_laws.proofs.Views.{picture}
 use Rattle.nm_laws.proofs.TreeSteps.{Lawful}
+use Rattle.nm_laws.proofs.WalksOfLogs.{turned}
 use Rattle.nm_order.proofs.OrderedTrees.{Onward}
 use Rattle.nm_order.proofs.TreeChanges.{TreeChange, tree_change}
 use Rattle.nm_order.proofs.TreeChanges.TreeChange.{Kept, Filled, Linked, Spliced}
-use Rattle.nm_order.proofs.OrderedWalks.{WalkLaw, is_side-true, turned}
+use Rattle.nm_order.proofs.OrderedWalks.{WalkLaw, is_side-true}
 use Rattle.nm_order.proofs.OrderedChanges.{FixedKeys, left_of, off_known}
 use Rattle.nm_order.proofs.OrderedSteps.{ForCall}
 use Rattle.nm_order.proofs.OnwardSlots.{EachOnward, EachNow, straight_to, each_exchanged, each_apart, each_same}

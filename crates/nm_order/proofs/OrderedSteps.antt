@@ -67,7 +67,7 @@ abbrev StillKnownBy : (ℕ → Bool) → (ℕ → Bool) → Type 0
 StillKnownBy known more = (x : ℕ) → known x ≡ true → more x ≡ true
 
 -- a slot that was met is known
-met_is_known : (m : List (ℕ × Seen)) (x : ℕ) → x ≢ 0 → has (met m x) x ≡ true
+pub met_is_known : (m : List (ℕ × Seen)) (x : ℕ) → x ≢ 0 → has (met m x) x ≡ true
 met_is_known m x some = cond_both (x == 0) m (cond (has m x) m (put m x unread)) (λ l. has l x ≡ true) (λ z. absurd (some (eqb-true x 0 z)))
     (λ _. cond_both (has m x) m (put m x unread) (λ l. has l x ≡ true) (λ h. h) (λ _. has_put_there m x unread x (inl refl)))
 

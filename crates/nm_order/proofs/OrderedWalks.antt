@@ -2,7 +2,7 @@
 -- known, its key is as it was read, it was led to in order, and a search that goes on from it comes
 -- to its place.
 use Rattle.std.proofs.Common.{◌≡◌, ◌≢◌, ℕ, inl, inr, ◌⊎◌, ◌==◌, Bool, true, false, cond, ◌&&◌, ◌||◌, List, [], ◌∷◌, ◌++◌, map, refl, sym, ap, subst, ◌∙◌, true≢false}
-use Rattle.std.specs.Prelude.{Option, Some, None, is_none, slice_get}
+use Rattle.std.specs.Prelude.{Some, is_none, slice_get}
 use Rattle.std.specs.List.{list_any}
 use Rattle.std.proofs.lemmas.Bool.{cond_both, eqb-true, and_parts, or_cases, eq-eqb}
 use Rattle.std.proofs.lemmas.Option.{none-some, same_Some}
@@ -12,6 +12,7 @@ use Rattle.nm_model.specs.declared.arrivals.Arrival.{Arrival}
 use Rattle.nm_model.specs.Searches.{side_of, is_side, turns, is_by, goes_on, is_first, new_arrival, with_arrival, keyed, ended, walk_edge}
 use Rattle.nm_model.proofs.Lists.{any_at, mapped_at, map_at, more_at, get_stays}
 use Rattle.nm_laws.proofs.Trees.{Children}
+use Rattle.nm_laws.proofs.WalksOfLogs.{turned}
 use Rattle.nm_order.proofs.Searching.{Keys}
 use Rattle.nm_order.proofs.OrderedTrees.{Onward}
 
@@ -22,11 +23,6 @@ is_side-true Left Left h = refl
 is_side-true Left Right h = absurd (true≢false (sym h))
 is_side-true Right Left h = absurd (true≢false (sym h))
 is_side-true Right Right h = refl
-
--- a key that was read turns to that side
-pub turned : (k : ℕ) (o : Option ℕ) (d : Side) → turns k o d ≡ true → (v : ℕ) × (o ≡ Some v) × (side_of k v ≡ d)
-turned k None d h = absurd (true≢false (sym h))
-turned k (Some v) d h = (v, refl, is_side-true (side_of k v) d h)
 
 -- ---- the law
 

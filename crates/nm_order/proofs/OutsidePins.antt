@@ -22,12 +22,12 @@ use Rattle.nm_model.specs.Step.{refusal}
 use Rattle.nm_model.specs.Walks.{Entry, search_after}
 use Rattle.nm_laws.proofs.Epochs.{alike_link, alike_flag, alike_tag, alike_splice}
 use Rattle.nm_laws.proofs.Steps.{allowed, passed, second}
+use Rattle.nm_laws.proofs.Configurations.{allowed_by_state}
 use Rattle.nm_order.specs.Logs.{known_by, IsLogOf}
 use Rattle.nm_order.specs.Unpinned.{HasNoCall, UnpinnedWorkersHaveNoCall}
 use Rattle.nm_order.proofs.LastEntries.{known_more, search_more, PartOf, LastEntry, last_entry}
 use Rattle.nm_order.proofs.LastEntries.PartOf.{Own, Resigns}
 use Rattle.nm_order.proofs.LogInduction.{each_log}
-use Rattle.nm_order.proofs.PartsOfRuns.{allowed_by_state}
 
 abbrev Law : Knowledge → Search → Type 0
 Law k s = k.brief.pin ≡ None → HasNoCall k s
@@ -45,23 +45,23 @@ after_sight k s call _ law = law
 same_brief : (k l : Knowledge) (s : Search) → l.brief ≡ k.brief → Law k s → Law l s
 same_brief k l s same law = λ pin. let had = law (sym (ap (λ (b : Brief). b.pin) same) ∙ pin) in record { labelled = ap (λ (b : Brief). b.unlabelled) same ∙ had.labelled; idle = had.idle }
 
-scan_stays : (k : Knowledge) (u : ℕ) (r : Reply) → (learn_scan k u r).brief ≡ k.brief
-scan_stays k u Idle = refl
-scan_stays k u (In e) = refl
-scan_stays k u _ = refl
+pub brief_scan : (k : Knowledge) (u : ℕ) (r : Reply) → (learn_scan k u r).brief ≡ k.brief
+brief_scan k u Idle = refl
+brief_scan k u (In e) = refl
+brief_scan k u _ = refl
 
-private_stays : (k : Knowledge) (x : ℕ) (f : Field) (r : Reply) → (look_private k x f r).brief ≡ k.brief
-private_stays k x Birth (BirthIs b) = refl
-private_stays k x _ _ = refl
+pub brief_look_private : (k : Knowledge) (x : ℕ) (f : Field) (r : Reply) → (look_private k x f r).brief ≡ k.brief
+brief_look_private k x Birth (BirthIs b) = refl
+brief_look_private k x _ _ = refl
 
-known_stays : (k : Knowledge) (x : ℕ) (f : Field) (r : Reply) → (look_known k x f r).brief ≡ k.brief
-known_stays k x (EdgeOn side) (EdgeIs e) = refl
-known_stays k x Birth (BirthIs b) = refl
-known_stays k x _ _ = refl
+pub brief_look_known : (k : Knowledge) (x : ℕ) (f : Field) (r : Reply) → (look_known k x f r).brief ≡ k.brief
+brief_look_known k x (EdgeOn side) (EdgeIs e) = refl
+brief_look_known k x Birth (BirthIs b) = refl
+brief_look_known k x _ _ = refl
 
 look_stays : (w : ℕ) (k : Knowledge) (x : ℕ) (f : Field) (r : Reply) → (learn w k (Look x f) r).brief ≡ k.brief
 unfolding learn
-look_stays w k x f r = cond_both (is_private k x) (look_private k x f r) (look_known k x f r) (λ (l : Knowledge). l.brief ≡ k.brief) (λ _. private_stays k x f r) (λ _. known_stays k x f r)
+look_stays w k x f r = cond_both (is_private k x) (look_private k x f r) (look_known k x f r) (λ (l : Knowledge). l.brief ≡ k.brief) (λ _. brief_look_private k x f r) (λ _. brief_look_known k x f r)
 
 join_stays : (w : ℕ) (k : Knowledge) (v : ℕ) (r : Reply) → (learn w k (Join v) r).brief ≡ k.brief
 unfolding learn
@@ -84,7 +84,7 @@ module _ (L : Layout) (m : Memory) (w : ℕ) (k : Knowledge) (s : Search) (law :
   after_event Leave Departed ok = λ pin. record { labelled = (passed _ _ _ ok).0; idle = refl }
   after_event (LeaveWith answer) Departed ok = λ pin. record { labelled = (passed _ _ _ ok).0; idle = refl }
   after_event Announce (Announced e) ok = λ pin. record { labelled = (law pin).labelled; idle = (law pin).idle }
-  after_event (Scan u) r ok = same_brief k (learn_scan k u r) s (scan_stays k u r) law
+  after_event (Scan u) r ok = same_brief k (learn_scan k u r) s (brief_scan k u r) law
   after_event Advance (Moved e) ok = λ pin. record { labelled = (law pin).labelled; idle = (law pin).idle }
   after_event Advance (Behind e) ok = λ pin. record { labelled = (law pin).labelled; idle = (law pin).idle }
   after_event (Claim x) (Claimed y) ok = λ pin. record { labelled = (law pin).labelled; idle = (law pin).idle }

@@ -1,7 +1,7 @@
 -- A flag that is won is one of a call to delete: it marks the edge to a reached leaf, which has
 -- that call's key.
 use Rattle.std.proofs.Common.{◌≡◌, ◌≢◌, ℕ, ◌≤◌, ◌==◌, Bool, true, false, cond, not, ◌&&◌, ◌||◌, [], ◌∷◌, ◌++◌, refl, sym, ap, subst, ◌∙◌, arith}
-use Rattle.std.specs.Prelude.{Option, Some, None, is_none, Result, Ok, Err, slice_get}
+use Rattle.std.specs.Prelude.{Option, Some, None, is_none, Result, Ok, slice_get}
 use Rattle.std.proofs.lemmas.Bool.{and_parts, and_from, or_parts, not-false, eqb-true, eq-eqb}
 use Rattle.nm_edge.specs.Edges.{Edge, to, is_to}
 use Rattle.nm_edge.specs.Layouts.{Layout}
@@ -34,6 +34,7 @@ use Rattle.nm_laws.proofs.Splices.{live_on_path, unmarked_not_queued}
 use Rattle.nm_laws.proofs.TreeSlots.{is_to-true, known_live, leaf_known}
 use Rattle.nm_laws.proofs.TreeSteps.{Lawful, high_from}
 use Rattle.nm_laws.proofs.Views.{picture}
+use Rattle.nm_laws.proofs.Outcomes.{same_reply, no_reply}
 use Rattle.nm_order.proofs.OrderedMoments.{call_walks}
 use Rattle.nm_order.proofs.OrderedLaws.{IsOrdered, neither, each_ordered, law_of_state}
 use Rattle.nm_order.proofs.OwnLinks.{MayFlag, may_flag}
@@ -92,12 +93,6 @@ module _ (s : State) (h : ℕ → ℕ) (law : Lawful s h) (w p : ℕ) (d : Side)
 
 -- ---- the call
 
-same_ok : (r q : Reply) → ◌≡◌ {A = Result Reply Refused} (Ok r) (Ok q) → r ≡ q
-same_ok r q h = cc
-
-differ : (x : Refused) (r : Reply) → ◌≡◌ {A = Result Reply Refused} (Err x) (Ok r) → ⊥
-differ x r h = cc
-
 same_flagged : (n q : NodeId) → Flagged n ≡ Flagged q → n ≡ q
 same_flagged n q h = cc
 
@@ -136,8 +131,8 @@ module _ (L : Layout) (enough : 5 ≤ L.nodes) (c : Configuration) (o : IsOrdere
     where
       go : (r : Option Refused) → or_else (refused c.state w (Flag p d leaf)) (disorder_in c w (Flag p d leaf)) ≡ r → ◌≡◌ {A = Result Reply Refused} (answered r (cond (is_to (edge c.state.memory p d) leaf) (Flagged (named c.state.memory leaf)) (Lost (edge c.state.memory p d)))) (Ok (Flagged n))
           → (k : ℕ) × IsCalled c w Delete k × Marks c.state.memory p d leaf n k
-      go (Some x) none is = absurd (differ x (Flagged n) is)
-      go None none is = won (is_to (edge c.state.memory p d) leaf) refl (same_ok _ _ is)
+      go (Some x) none is = absurd (no_reply x (Flagged n) is)
+      go None none is = won (is_to (edge c.state.memory p d) leaf) refl (same_reply _ _ is)
         where
           parts : (refused c.state w (Flag p d leaf) ≡ None) × (disorder_in c w (Flag p d leaf) ≡ None)
           parts = neither (refused c.state w (Flag p d leaf)) (disorder_in c w (Flag p d leaf)) none

@@ -14,8 +14,7 @@ use Rattle.nm_model.specs.Step.{write}
 use Rattle.nm_model.specs.Runs.{State, of, reply_of, refused, applied}
 use Rattle.nm_model.specs.Searches.{Search, searched}
 use Rattle.nm_model.specs.Walks.{Entry, logged_by, log_of, search_after}
-use Rattle.nm_model.specs.Maps.{or_else}
-use Rattle.nm_model.specs.Ordered.{Configuration, ordered, disorder_in, refused_in, applied_in, next_in, outcome_in, after_in, trace_in}
+use Rattle.nm_model.specs.Ordered.{Configuration, ordered, refused_in, applied_in, next_in, outcome_in, after_in, trace_in}
 use Rattle.nm_laws.proofs.Steps.{Allowed, allowed}
 use Rattle.nm_laws.proofs.Sizes.{Staffed, staffed_step, staffed_start}
 use Rattle.nm_laws.proofs.Epochs.{other_worker}
@@ -25,19 +24,10 @@ use Rattle.nm_laws.proofs.Views.{of_moved}
 use Rattle.nm_laws.proofs.Lawful.{applied_is, JoinOrNot, join_or_not}
 use Rattle.nm_laws.proofs.Lawful.JoinOrNot.{IsJoin, IsNone}
 use Rattle.nm_laws.proofs.Learned.{learn_joined}
-use Rattle.nm_laws.proofs.Configurations.{refused_next, refused_outcome, allowed_next, allowed_outcome}
+use Rattle.nm_laws.proofs.Configurations.{refused_next, refused_outcome, allowed_next, allowed_outcome, allowed_by_state}
 use Rattle.nm_order.specs.Logs.{is_leaver, takes_part, part_of, known_after, LogsTellWhatIsKnown}
 
 -- ---- one event
-
--- what a configuration allows, its state allows
-pub allowed_by_state : (c : Configuration) (w : ℕ) (e : Event) → refused_in c w e ≡ None → refused c.state w e ≡ None
-unfolding refused_in
-allowed_by_state c w e = go (refused c.state w e) (disorder_in c w e)
-  where
-    go : (o d : Option Refused) → or_else o d ≡ None → o ≡ None
-    go None d is = refl
-    go (Some r) d is = is
 
 module _ (s : State) (staffed : Staffed s) (u w : ℕ) where
   inside : (v : ℕ) → v < s.layout.workers → v < length s.workers

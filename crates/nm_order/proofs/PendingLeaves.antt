@@ -1,7 +1,7 @@
 -- In every ordered run each flagged edge of a reached node leads to the leaf that a standing call
 -- keeps as flagged.
 use Rattle.std.proofs.Common.{◌≡◌, ℕ, zero, suc, ◌-◌, ◌≤◌, map, inl, inr, ◌⊎◌, ◌==◌, Bool, true, false, cond, List, [], ◌∷◌, ◌++◌, refl, sym, ap, subst, ◌∙◌, arith, true≢false}
-use Rattle.std.specs.Prelude.{Option, Some, None, is_some, is_none, unwrap_or, Result, Ok, Contains, All, ◌↔◌, slice_get}
+use Rattle.std.specs.Prelude.{Option, Some, None, is_some, is_none, unwrap_or, Ok, Contains, All, ◌↔◌, slice_get}
 use Rattle.std.specs.List.{list_any}
 use Rattle.std.proofs.lemmas.Bool.{eq-eqb, eqb-true, and_parts, and_from, or_cases}
 use Rattle.std.proofs.lemmas.Option.{none-some, same_Some, slice_get-get_or, slice_get_within, get_or_from_slice_get}
@@ -39,6 +39,7 @@ use Rattle.nm_laws.proofs.EachState.{each_knower_pinned}
 use Rattle.nm_laws.proofs.Pictures.{reached_live}
 use Rattle.nm_laws.proofs.Views.{picture}
 use Rattle.nm_laws.proofs.Configurations.{refused_next, allowed_outcome}
+use Rattle.nm_laws.proofs.Outcomes.{same_reply}
 use Rattle.nm_order.specs.Intervals.{HasKey, IsCalled}
 use Rattle.nm_order.specs.Exchanges.{HasFlagged}
 use Rattle.nm_order.proofs.OrderedMoments.{Lasting}
@@ -97,9 +98,6 @@ pub flag_kept_so : (S : Search) (y leaf : ℕ) (g : Side) (n : NodeId) → (sear
 unfolding searched
 flag_kept_so S y leaf g n = refl
 
-same_ok : (r q : Reply) → ◌≡◌ {A = Result Reply Refused} (Ok r) (Ok q) → r ≡ q
-same_ok r q h = cc
-
 -- an event that is answered enters the log of its worker
 filled : (b : Bool) (x : Entry) → b ≡ true → ◌≡◌ {A = List Entry} (cond b (x ∷ []) []) [] → ⊥
 filled true x t none = cc
@@ -112,7 +110,7 @@ module _ (L : Layout) (enough : 5 ≤ L.nodes) where
     where
       by : OwnTurn w c (w, e) → own_search (next_in c (w, e)) w ≡ searched (own_search c w) e r
       by (Quiet same none) = absurd (filled (w == w) (e, r) (eq-eqb w w refl) (sym (allowed_entries w c (w, e) r is) ∙ none))
-      by (Own q own won here learned order) = learned ∙ ap (searched (own_search c w) e) (same_ok q r (sym won ∙ is))
+      by (Own q own won here learned order) = learned ∙ ap (searched (own_search c w) e) (same_reply q r (sym won ∙ is))
 
   -- a flagged edge of a reached node leads to a slot
   pub flag_leads_high : (c : Configuration) → IsOrdered L c → (y : ℕ) (g : Side) → Reached c.state.memory y → (edge c.state.memory y g).flag ≡ true → 6 ≤ child c.state.memory y g

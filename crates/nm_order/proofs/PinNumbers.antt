@@ -40,10 +40,10 @@ last-append : (w p n : ℕ) (xs : List Turn) (t : Turn) → last_anew w p n (xs 
 last-append w p n [] t = ap (λ (m : ℕ). cond (list_any begins_anew (log_of w (t ∷ []))) m p) (omega arith)
 last-append w p n (x ∷ xs) t = last-append w (cond (list_any begins_anew (log_of w (x ∷ []))) n p) (n + 1) xs t ∙ ap (λ (m : ℕ). cond (list_any begins_anew (log_of w (t ∷ []))) m (last_anew w (cond (list_any begins_anew (log_of w (x ∷ []))) n p) (n + 1) xs)) (omega arith)
 
-pub traced : (c : Configuration) (ts : List (ℕ × Event)) → length (trace_in c ts) ≡ length ts
+pub length_trace : (c : Configuration) (ts : List (ℕ × Event)) → length (trace_in c ts) ≡ length ts
 unfolding trace_in
-traced c [] = refl
-traced c (t ∷ ts) = ap suc (traced (next_in c t) ts)
+length_trace c [] = refl
+length_trace c (t ∷ ts) = ap suc (length_trace (next_in c t) ts)
 
 one_trace : (c : Configuration) (t : ℕ × Event) → trace_in c (t ∷ []) ≡ record { worker = t.0; event = t.1; outcome = outcome_in c t } ∷ []
 unfolding trace_in
@@ -52,7 +52,7 @@ one_trace c t = refl
 pub pin_more : (L : Layout) (ts : List (ℕ × Event)) (t : ℕ × Event) (w : ℕ) → pin_of L (ts ++ t ∷ []) w ≡ cond (list_any begins_anew (entries w (after_in (ordered L) ts) t)) (length ts) (pin_of L ts w)
 pin_more L ts t w = ap (last_anew w 0 0) (trace_in-append (ordered L) ts (t ∷ []) ∙ ap (λ (l : List Turn). trace_in (ordered L) ts ++ l) (one_trace (after_in (ordered L) ts) t))
     ∙ (last-append w 0 0 (trace_in (ordered L) ts) (record { worker = t.0; event = t.1; outcome = outcome_in (after_in (ordered L) ts) t })
-    ∙ λ i. cond (list_any begins_anew (append-nil (entries w (after_in (ordered L) ts) t) i)) ((plain (length (trace_in (ordered L) ts)) ∙ traced (ordered L) ts) i) (pin_of L ts w))
+    ∙ λ i. cond (list_any begins_anew (append-nil (entries w (after_in (ordered L) ts) t) i)) ((plain (length (trace_in (ordered L) ts)) ∙ length_trace (ordered L) ts) i) (pin_of L ts w))
   where
     plain : (n : ℕ) → 0 + n ≡ n
     plain n = omega arith

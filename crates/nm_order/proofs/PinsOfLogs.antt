@@ -19,7 +19,7 @@ use Rattle.nm_order.specs.Pinned.{pinned_by, pinned_after, PinsAreTold}
 use Rattle.nm_order.proofs.KnowledgeStays.{learned_stays, answers}
 use Rattle.nm_order.proofs.CallWalks.{others_stay, own_knows}
 
-pinned_join : (pin : Option ℕ) (xs ys : List Entry) → pinned_after pin (xs ++ ys) ≡ pinned_after (pinned_after pin xs) ys
+pub pinned_join : (pin : Option ℕ) (xs ys : List Entry) → pinned_after pin (xs ++ ys) ≡ pinned_after (pinned_after pin xs) ys
 pinned_join pin [] ys = refl
 pinned_join pin (x ∷ xs) ys = pinned_join (pinned_by pin x) xs ys
 

@@ -75,13 +75,13 @@ stays w k _ _ is = refl
 
 -- ---- it is not below the epoch
 
-found : (pin announced : Option ℕ) (n : ℕ) → sight_epoch (confirmed pin announced n) ≡ Some n
-found (Some p) announced n = refl
-found None None n = refl
-found None (Some a) n = cond_both (a == n) _ _ (λ r. sight_epoch r ≡ Some n) (λ _. refl) (λ _. refl)
+pub confirmed_finds : (pin announced : Option ℕ) (n : ℕ) → sight_epoch (confirmed pin announced n) ≡ Some n
+confirmed_finds (Some p) announced n = refl
+confirmed_finds None None n = refl
+confirmed_finds None (Some a) n = cond_both (a == n) _ _ (λ r. sight_epoch r ≡ Some n) (λ _. refl) (λ _. refl)
 
 sight_finds : (k : Knowledge) (n : ℕ) → sight_epoch (reply_sight k n) ≡ Some n
-sight_finds k n = cond_both k.brief.unlabelled _ _ (λ r. sight_epoch r ≡ Some n) (λ _. refl) (λ _. found k.brief.pin k.brief.note n)
+sight_finds k n = cond_both k.brief.unlabelled _ _ (λ r. sight_epoch r ≡ Some n) (λ _. refl) (λ _. confirmed_finds k.brief.pin k.brief.note n)
 
 not_below : (s : State) (w : ℕ) (event : Event) (e : ℕ) → epoch_read event (reply_of s w event) ≡ Some e → s.memory.epoch ≤ e
 unfolding reply

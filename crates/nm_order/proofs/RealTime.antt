@@ -35,11 +35,11 @@ splits [] b there = absurd there
 splits (x ∷ acts) b (inl is) = record { front = []; back = acts; are = ap (λ (y : Act). y ∷ acts) is }
 splits (x ∷ acts) b (inr there) = let s = splits acts b there in record { front = x ∷ s.front; back = s.back; are = ap (λ (l : List Act). x ∷ l) s.are }
 
-none_sooner : (m : ℕ) (quiet : Bool) (x : Act) → ComesNext m quiet x → m ≤ x.moment
+pub none_sooner : (m : ℕ) (quiet : Bool) (x : Act) → ComesNext m quiet x → m ≤ x.moment
 none_sooner m quiet x (inl later) = omega arith
 none_sooner m quiet x (inr same) = let e = same.0 in omega arith
 
-all_later : (m : ℕ) (quiet : Bool) (acts : List Act) → InOrderOfMoments m quiet acts → (a : Act) → IsAmong acts a → m ≤ a.moment
+pub all_later : (m : ℕ) (quiet : Bool) (acts : List Act) → InOrderOfMoments m quiet acts → (a : Act) → IsAmong acts a → m ≤ a.moment
 all_later m quiet [] o a there = absurd there
 all_later m quiet (x ∷ acts) o a (inl is) = subst (λ (y : Act). m ≤ y.moment) is (none_sooner m quiet x o.0)
 all_later m quiet (x ∷ acts) o a (inr there) = let first = none_sooner m quiet x o.0 in let rest = all_later x.moment (not (changes x.op x.answer)) acts o.1 a there in omega arith

@@ -35,9 +35,9 @@ use Rattle.nm_order.proofs.OwnLinks.{has_linked, has_flagged, IsLinkEntry, link_
 idle_first : (L : Layout) (w : ℕ) → own_search (ordered L) w ≡ idle
 idle_first L w = repeated L.workers w idle
 
-pub at_opening : (L : Layout) → 5 ≤ L.nodes → IsOrdered L (ordered L)
+pub opening_ordered : (L : Layout) → 5 ≤ L.nodes → IsOrdered L (ordered L)
 unfolding after_in
-at_opening L enough = each_ordered L enough [] (λ i d below. absurd (omega (arith, below)))
+opening_ordered L enough = each_ordered L enough [] (λ i d below. absurd (omega (arith, below)))
 
 -- the keys of a first part of a run
 pub first_keys : (before since : List (ℕ × Event)) → All (λ t. HasKey t.1) (before ++ since) → All (λ t. HasKey t.1) before
@@ -69,13 +69,13 @@ module _ (L : Layout) (enough : 5 ≤ L.nodes) where
     end = each_ordered L enough turns keys
 
     links : Counted is_won_link has_linked Insert links_once (own_search (after_in (ordered L) turns) w) (since_pin [] (log_of w (trace_in (ordered L) turns)))
-    links = counted_after is_won_link has_linked Insert links_once L enough w turns keys (ordered L) (at_opening L enough) [] (record {
+    links = counted_after is_won_link has_linked Insert links_once L enough w turns keys (ordered L) (opening_ordered L enough) [] (record {
       number = sym (ap (λ (s : Search). cond s.linked 1 0) (idle_first L w));
       is_op = λ has call is. absurd (true≢false (sym has ∙ ap (λ (s : Search). s.linked) (idle_first L w)));
     })
 
     flags : Counted is_won_flag has_flagged Delete flags_once (own_search (after_in (ordered L) turns) w) (since_pin [] (log_of w (trace_in (ordered L) turns)))
-    flags = counted_after is_won_flag has_flagged Delete flags_once L enough w turns keys (ordered L) (at_opening L enough) [] (record {
+    flags = counted_after is_won_flag has_flagged Delete flags_once L enough w turns keys (ordered L) (opening_ordered L enough) [] (record {
       number = sym (ap (λ (s : Search). cond (is_some s.flagged) 1 0) (idle_first L w));
       is_op = λ has call is. absurd (true≢false (sym has ∙ ap (λ (s : Search). is_some s.flagged) (idle_first L w)));
     })
@@ -101,7 +101,7 @@ module _ (L : Layout) (enough : 5 ≤ L.nodes) where
     -- ---- the moment of an insert
 
     pub linked_at : (k : ℕ) → IsCalled (after_in (ordered L) turns) w Insert k → (own_search (after_in (ordered L) turns) w).linked ≡ true → HasWonInsert L turns w k
-    linked_at k called has = go (won_in is_won_link has_linked Insert links_once L enough w turns keys (ordered L) (at_opening L enough) has)
+    linked_at k called has = go (won_in is_won_link has_linked Insert links_once L enough w turns keys (ordered L) (opening_ordered L enough) has)
       where
         made : (at : WonAt is_won_link has_linked Insert links_once L enough w (ordered L) turns) → IsLinkEntry at.turn.1 at.reply → HasWonInsert L turns w k
         made at l = record {
@@ -139,7 +139,7 @@ module _ (L : Layout) (enough : 5 ≤ L.nodes) where
     -- ---- the moment of a delete's flag
 
     flagged_at : (k : ℕ) → IsCalled (after_in (ordered L) turns) w Delete k → has_flagged (own_search (after_in (ordered L) turns) w) ≡ true → HasFlagged L turns w k
-    flagged_at k called has = go (won_in is_won_flag has_flagged Delete flags_once L enough w turns keys (ordered L) (at_opening L enough) has)
+    flagged_at k called has = go (won_in is_won_flag has_flagged Delete flags_once L enough w turns keys (ordered L) (opening_ordered L enough) has)
       where
         made : (at : WonAt is_won_flag has_flagged Delete flags_once L enough w (ordered L) turns) → IsFlagEntry at.turn.1 at.reply → HasFlagged L turns w k
         made at l = record {

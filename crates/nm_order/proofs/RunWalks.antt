@@ -23,12 +23,12 @@ use Rattle.nm_order.specs.Moments.{WasReached}
 use Rattle.nm_order.specs.StalePaths.{WasReachedSince}
 use Rattle.nm_laws.proofs.Configurations.{refused_outcome, allowed_outcome, after_in-append}
 use Rattle.nm_laws.proofs.WalksOfLogs.{arrivals_are_walks}
+use Rattle.nm_laws.proofs.Retired.{layout_after}
 use Rattle.nm_order.proofs.OrderedMoments.{call_walks}
 use Rattle.nm_order.proofs.OrderedLaws.{IsOrdered, each_ordered}
 use Rattle.nm_order.proofs.OwnTurns.{own_search, call_stays}
 use Rattle.nm_order.proofs.RunExchanges.{is_own_call}
 use Rattle.nm_order.proofs.WalksOfRuns.{is_known, all_before, all_behind}
-use Rattle.nm_order.proofs.ToldLaws.{same_layout}
 use Rattle.nm_order.proofs.StaleRuns.{any_walk_was_reached}
 
 -- an event that is allowed is answered by its reply
@@ -57,7 +57,7 @@ module _ (L : Layout) (enough : 5 ≤ L.nodes) (turns : List (ℕ × Event)) (ke
   ]
     where
       sized : length called.searches ≡ L.workers
-      sized = ap length (same_Some called.searches o.searches (sym called.are ∙ o.are)) ∙ (o.law.sized ∙ (ap (λ (s : State). s.layout.workers) o.leads ∙ ap (λ (l : Layout). l.workers) (same_layout L o.events)))
+      sized = ap length (same_Some called.searches o.searches (sym called.are ∙ o.are)) ∙ (o.law.sized ∙ (ap (λ (s : State). s.layout.workers) o.leads ∙ ap (λ (l : Layout). l.workers) (layout_after L o.events)))
 
   -- an arrival is that of a walk since the pin
   pub walk_of : (i : ℕ) (a : Arrival) → slice_get (own_search (after_in (ordered L) turns) w).walks i ≡ Some a → IsOfWalk k (since_pin [] (log_of w (trace_in (ordered L) turns))) a

@@ -1,7 +1,7 @@
 -- What an entry teaches of edges and births, and what a pin for a call knows at once.
-use Rattle.std.proofs.Common.{◌≡◌, ◌≢◌, ℕ, ◌≤◌, inl, inr, eqb, ◌==◌, Bool, true, false, not, cond, ◌&&◌, ◌||◌, List, [], ◌∷◌, ◌++◌, refl, sym, ap, subst, ◌∙◌}
+use Rattle.std.proofs.Common.{◌≡◌, ◌≢◌, ℕ, ◌≤◌, inr, eqb, ◌==◌, Bool, true, false, not, ◌&&◌, ◌||◌, List, [], ◌∷◌, ◌++◌, refl, sym, ap, subst, ◌∙◌}
 use Rattle.std.specs.Prelude.{Option, Some}
-use Rattle.std.proofs.lemmas.Bool.{cond_both, cond-true, cond-false, eqb-true, eq-eqb, ne_eqb, and_from}
+use Rattle.std.proofs.lemmas.Bool.{cond-true, cond-false, eq-eqb, ne_eqb, and_from}
 use Rattle.nm_edge.specs.Edges.{Edge, tagged}
 use Rattle.nm_edge.specs.Layouts.{Layout}
 use Rattle.nm_edge.specs.declared.edge.Side.{Side}
@@ -10,36 +10,31 @@ use Rattle.nm_model.specs.declared.event.Event.TheVariants.{SightFor, Look, Tag}
 use Rattle.nm_model.specs.declared.event.Field.TheVariants.{Edge as EdgeOn, Birth}
 use Rattle.nm_model.specs.declared.knowledge.Seen.{Seen}
 use Rattle.nm_model.specs.declared.reply.Reply.TheVariants.{Pinned, BirthIs, EdgeIs, Was}
-use Rattle.nm_model.specs.Knowledge.{Knowledge, knows, is_private, seen_of, read, knows_leaf, is_null, unread}
+use Rattle.nm_model.specs.Knowledge.{Knowledge, knows, is_private, seen_of, read, knows_leaf, is_null}
 use Rattle.nm_model.specs.Learning.{learn, look_known, look_private, met, read_edge, with_read, flag_to, pinned, saw}
-use Rattle.nm_model.specs.Maps.{has, put}
 use Rattle.nm_model.specs.Searches.{Search, idle, searched}
 use Rattle.nm_model.specs.Walks.{Entry, search_after}
 use Rattle.nm_laws.proofs.Learned.{learn_look, learn_link_lost, learn_flagged, learn_flag_lost, learn_was, learn_splice_lost, learn_sight_for, learn_pinned}
 use Rattle.nm_model.proofs.Tables.{has_put_there}
 use Rattle.nm_laws.proofs.Trees.{same_side, same_side-refl}
-use Rattle.nm_laws.proofs.Views.{read_after, read_birth}
+use Rattle.nm_laws.proofs.Views.{read_after, read_birth, seen_put}
 use Rattle.nm_order.specs.Logs.{known_by, IsLogOf}
 use Rattle.nm_order.specs.Facts.{Holds}
 use Rattle.nm_order.specs.Taught.{EdgeLearned, EdgesAreLearned, TagsAreLearned, TagsFreeze, FlagsAreLearned, BirthsAreLearned, PinsAreLearned}
 use Rattle.nm_order.specs.Told.{TellsEdge, OfEachEntry}
 use Rattle.nm_order.specs.Told.TellsEdge.{ByLook, ByLink, ByFlag, ByTag, BySplice}
-use Rattle.nm_order.proofs.KnowledgeStays.{seen_put}
 use Rattle.nm_order.proofs.LastEntries.{known_more, search_more, LastEntry, last_entry}
 use Rattle.nm_order.proofs.ToldLaws.{lawful_before, live_then, tags_lead}
+use Rattle.nm_order.proofs.OrderedSteps.{met_is_known}
 
 -- ---- an edge that was read
-
-met_itself : (m : List (ℕ × Seen)) (s : ℕ) → s ≢ 0 → has (met m s) s ≡ true
-met_itself m s some = cond_both (s == 0) m (cond (has m s) m (put m s unread)) (λ l. has l s ≡ true) (λ null. absurd (some (eqb-true s 0 null)))
-    (λ _. cond_both (has m s) m (put m s unread) (λ l. has l s ≡ true) (λ there. there) (λ _. has_put_there m s unread s (inl refl)))
 
 module _ (k : Knowledge) (x : ℕ) (side : Side) (e : Edge) where
   pub is_read : read (read_edge k x side e) x side ≡ Some e
   is_read = read_after k x side e x side ∙ cond-true (eqb x x && same_side side side) (Some e) (read k x side) (and_from (eqb x x) (same_side side side) (eq-eqb x x refl) (same_side-refl side))
 
   leads_known : e.slot ≢ 0 → knows (read_edge k x side e) e.slot ≡ true
-  leads_known some = has_put_there (met k.known e.slot) x (with_read (seen_of k x) side e) e.slot (inr (met_itself k.known e.slot some))
+  leads_known some = has_put_there (met k.known e.slot) x (with_read (seen_of k x) side e) e.slot (inr (met_is_known k.known e.slot some))
 
   null_known : e.slot ≡ 0 → knows_leaf (read_edge k x side e) x ≡ true
   null_known null = go side is_read

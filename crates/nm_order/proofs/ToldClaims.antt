@@ -22,9 +22,10 @@ use Rattle.nm_laws.proofs.TreeSteps.{Lawful, high_from}
 use Rattle.nm_laws.proofs.Pictures.{Spot, Stands, nowhere_else}
 use Rattle.nm_laws.proofs.Pictures.Spot.{InPool, PrivateTo, InQueue}
 use Rattle.nm_laws.proofs.Views.{picture, held_queue}
+use Rattle.nm_laws.proofs.Retired.{layout_after}
 use Rattle.nm_order.specs.Told.{IsNew, OfEachEntry, ClaimsAreNew}
 use Rattle.nm_order.proofs.LastEntries.{LastEntry, last_entry}
-use Rattle.nm_order.proofs.ToldLaws.{lawful_before, allowed_before, live_then, same_layout}
+use Rattle.nm_order.proofs.ToldLaws.{lawful_before, allowed_before, live_then}
 
 -- a claim that is answered so found the slot in the pool
 claimed_from : (s : State) (w x y : ℕ) → reply_of s w (Claim x) ≡ Claimed y → (in_pool s.memory x ≡ true) × (y ≡ x)
@@ -76,7 +77,7 @@ claims_are_new L enough w log entry l x y is = go (last_entry L enough w log ent
         let law = lawful_before L enough w log entry last in
         let from = claimed_from s last.by x y (subst (λ (e : Entry). reply_of s last.by e.0 ≡ e.1) is last.replied) in
         let range = in_range s last.by x (subst (λ (e : Event). Allowed s last.by e) (ap (λ (e : Entry). e.0) is) (allowed_before L enough w log entry last)) in
-        let layout : s.layout ≡ L = ap (λ (s : State). s.layout) last.told.is_ordered.leads ∙ same_layout L last.told.is_ordered.events in
+        let layout : s.layout ≡ L = ap (λ (s : State). s.layout) last.told.is_ordered.leads ∙ layout_after L last.told.is_ordered.events in
         let free = from_pool s law.0 law.1 w x from.0 in (
           from.1,
           range.0,

@@ -15,17 +15,18 @@ use Rattle.nm_model.specs.Runs.{State}
 use Rattle.nm_model.specs.Walks.{Entry}
 use Rattle.nm_laws.proofs.Held.{held-retire_same, held-retire_other}
 use Rattle.nm_laws.proofs.Learned.{learn_cut}
+use Rattle.nm_laws.proofs.Retired.{layout_after}
 use Rattle.nm_order.specs.Logs.{known_by}
 use Rattle.nm_order.specs.Told.{OfEachEntry, CutsEnterTheQueue}
 use Rattle.nm_order.proofs.LastEntries.{known_more, LastEntry, last_entry}
-use Rattle.nm_order.proofs.ToldLaws.{lawful_before, same_layout}
+use Rattle.nm_order.proofs.ToldLaws.{lawful_before}
 
 -- the ledgers of a worker have one place for each worker
 ledgers_long : (L : Layout) (enough : 5 ≤ L.nodes) (w : ℕ) (log : List Entry) (entry : Entry) → LastEntry L w log entry → length (known_by L w log).ledgers ≡ L.workers
 ledgers_long L enough w log entry last =
     let law = lawful_before L enough w log entry last in
     ap (λ (k : Knowledge). length k.ledgers) (sym last.told.knows)
-    ∙ (law.1.holders.sizes w ∙ (ap (λ (s : State). s.layout.workers) last.told.is_ordered.leads ∙ ap (λ (M : Layout). M.workers) (same_layout L last.told.is_ordered.events)))
+    ∙ (law.1.holders.sizes w ∙ (ap (λ (s : State). s.layout.workers) last.told.is_ordered.leads ∙ ap (λ (M : Layout). M.workers) (layout_after L last.told.is_ordered.events)))
 
 retired : (ls : List (Option Ledger)) (w o : ℕ) (ns : List NodeId) → w < length ls → held (retire ls w ns) o ≡ cond (o == w) (option_map (with_cut ns) (held ls o)) (held ls o)
 retired ls w o ns inside = elim (ℕ_discrete o w) [

@@ -14,20 +14,21 @@ use Rattle.nm_model.specs.declared.reply.Refused.TheVariants.{NoSlot}
 use Rattle.nm_model.specs.Memory.{Memory, node, edge, child, infinity_0}
 use Rattle.nm_model.specs.Knowledge.{knows}
 use Rattle.nm_model.specs.Step.{outside, refusal, reply}
-use Rattle.nm_model.specs.Runs.{State, of, start, after, reply_of, applied}
+use Rattle.nm_model.specs.Runs.{State, of, reply_of}
 use Rattle.nm_model.specs.Walks.{Entry}
 use Rattle.nm_model.specs.Ordered.{search_of}
-use Rattle.nm_laws.proofs.Steps.{Allowed, allowed, passed, by_steps}
+use Rattle.nm_laws.proofs.Steps.{Allowed, allowed, passed}
 use Rattle.nm_laws.proofs.TreeSteps.{Lawful, high_from}
 use Rattle.nm_laws.proofs.Pictures.{IsLive}
 use Rattle.nm_laws.proofs.Views.{picture}
+use Rattle.nm_laws.proofs.Configurations.{allowed_by_state}
+use Rattle.nm_laws.proofs.Retired.{layout_after}
 use Rattle.nm_order.specs.Logs.{known_by}
 use Rattle.nm_order.specs.Facts.{Fact, HoldsIn, Holds, IsTrueIn}
 use Rattle.nm_order.specs.Facts.Fact.{KnowsSlot, IsTagged, IsFlagged}
 use Rattle.nm_order.specs.Told.{TellsEdge, OfEachEntry, TwinsAreToldFlagged, FlagsAreTold, FlaggedEdgesLeadHigh, EdgesStayInside, RootLeads, TagsLead, LowKeysStandHigh, FlaggedEdgesStandHigh}
 use Rattle.nm_order.specs.Told.TellsEdge.{ByLook, ByLink, ByFlag, ByTag, BySplice}
 use Rattle.nm_order.proofs.OrderedLaws.{law_of_state}
-use Rattle.nm_order.proofs.PartsOfRuns.{allowed_by_state}
 use Rattle.nm_order.proofs.Sentinels.{sentinels_of, sentinel_is_high, flags_stand_high}
 use Rattle.nm_order.proofs.KnowledgeStays.{Answers, answers}
 use Rattle.nm_order.proofs.LastEntries.{PartOf, LastEntry, last_entry}
@@ -113,16 +114,6 @@ flagged_lead_high L enough w log entry l x side e tells known flag = go (last_en
         let is : e ≡ edge s.memory x side = told_edge s.memory entry x side e (is_answered L enough w log entry last) tells in
         rw is (law.1.tree.flags x side (live_then s law.0 law.1 w x (holds_then L enough w log entry last (KnowsSlot x) known)) (ap (λ (y : Edge). y.flag) (sym is) ∙ flag))
 
-applied_layout : (s : State) (w : ℕ) (e : Event) → (applied s w e).layout ≡ s.layout
-unfolding applied
-applied_layout s w e = refl
-
-pub same_layout : (L : Layout) (turns : List (ℕ × Event)) → (after (start L) turns).layout ≡ L
-same_layout L turns = by_steps (λ s. s.layout ≡ L) step turns (start L) refl
-  where
-    step : (s : State) (w : ℕ) (e : Event) → s.layout ≡ L → Allowed s w e → (applied s w e).layout ≡ L
-    step s w e is ok = applied_layout s w e ∙ is
-
 pub edges_stay_inside : OfEachEntry EdgesStayInside
 edges_stay_inside L enough w log entry l x side e tells = go (last_entry L enough w log entry l)
   where
@@ -130,7 +121,7 @@ edges_stay_inside L enough w log entry l x side e tells = go (last_entry L enoug
     go last =
         let law = lawful_before L enough w log entry last in
         let o = last.told.is_ordered in
-        let layout : last.before.state.layout ≡ L = ap (λ (s : State). s.layout) o.leads ∙ same_layout L o.events in
+        let layout : last.before.state.layout ≡ L = ap (λ (s : State). s.layout) o.leads ∙ layout_after L o.events in
         rw (told_edge last.before.state.memory entry x side e (is_answered L enough w log entry last) tells) (subst (λ (M : Layout). child last.before.state.memory x side ≤ M.nodes) layout (law.1.tree.within x side))
 
 pub root_leads : OfEachEntry RootLeads

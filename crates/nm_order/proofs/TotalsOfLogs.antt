@@ -15,7 +15,8 @@ use Rattle.nm_model.specs.Walks.{Entry, logged_by, log_of}
 use Rattle.nm_model.specs.Ordered.{Configuration, ordered, refused_in, next_in, outcome_in, trace_in}
 use Rattle.nm_model.proofs.Numbers.{repeated}
 use Rattle.nm_laws.proofs.Steps.{allowed}
-use Rattle.nm_laws.proofs.Configurations.{refused_outcome}
+use Rattle.nm_laws.proofs.Configurations.{refused_outcome, allowed_by_state}
+use Rattle.nm_laws.proofs.Retired.{layout_after}
 use Rattle.nm_order.specs.Intervals.{HasKey}
 use Rattle.nm_order.specs.Logs.{part_of, is_leaver}
 use Rattle.nm_order.specs.Moments.{OfEachOrderedRun}
@@ -25,12 +26,10 @@ use Rattle.nm_order.specs.Totals.{is_for, call_of, is_so, once, how_often}
 use Rattle.nm_order.specs.LoggedTotals.{log_often, sum_of, TotalsAreInTheLogs}
 use Rattle.nm_order.proofs.OrderedLaws.{IsOrdered, ordered_next}
 use Rattle.nm_order.proofs.RunMoments.{entries, allowed_entries}
-use Rattle.nm_order.proofs.RunExchanges.{at_opening}
 use Rattle.nm_order.proofs.OwnTurns.{own_search, OwnTurn, own_turn}
 use Rattle.nm_order.proofs.OwnTurns.OwnTurn.{Quiet, Own}
-use Rattle.nm_order.proofs.ToldLaws.{same_layout}
-use Rattle.nm_order.proofs.PartsOfRuns.{allowed_by_state}
 use Rattle.nm_order.proofs.TotalsOfRuns.{once_none}
+use Rattle.nm_order.proofs.RunExchanges.{opening_ordered}
 
 -- ---- sums
 
@@ -150,7 +149,7 @@ module _ (is_such : Entry → Bool) (k : ℕ) (L : Layout) (enough : 5 ≤ L.nod
   ]
     where
       layout : c.state.layout ≡ L
-      layout = ap (λ (s : State). s.layout) o.leads ∙ same_layout L o.events
+      layout = ap (λ (s : State). s.layout) o.leads ∙ layout_after L o.events
 
       none : L.workers ≤ t.0 → (q : Option Refused) → refused_in c t.0 t.1 ≡ q → once is_such k c t ≡ 0
       none past (Some x) why = once_none is_such k c t (ap (is_so is_such t.1) (refused_outcome c t x why))
@@ -174,7 +173,7 @@ module _ (is_such : Entry → Bool) (k : ℕ) (L : Layout) (enough : 5 ≤ L.nod
 
   logs_told : ((v : ℕ) (r : Reply) → is_such (Join v, r) ≡ false) → (turns : List (ℕ × Event)) → All (λ t. HasKey t.1) turns → how_often is_such k (ordered L) turns ≡ sum_of (λ w. log_often is_such k idle (part_of w (trace_in (ordered L) turns))) L.workers
   unfolding log_is
-  logs_told no_join turns keys = logs_of turns keys (ordered L) (at_opening L enough)
+  logs_told no_join turns keys = logs_of turns keys (ordered L) (opening_ordered L enough)
       ∙ sum_same (log_is (ordered L) turns) (λ w. log_often is_such k idle (part_of w (trace_in (ordered L) turns))) L.workers
       (λ w. ap (λ (S : Search). log_often is_such k S (log_of w (trace_in (ordered L) turns))) (repeated L.workers w idle) ∙ sym (part_often is_such no_join k w (trace_in (ordered L) turns) idle))
 

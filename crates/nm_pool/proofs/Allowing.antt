@@ -15,12 +15,12 @@ use Rattle.nm_model.specs.Walks.{Entry}
 use Rattle.nm_order.specs.Logs.{known_by}
 use Rattle.nm_steps.specs.Steps.{May}
 
-inside : (low n s : ℕ) → low ≤ s → s ≤ n → outside low n s ≡ false
-inside low n s least most = ap (λ (b : Bool). b || nat_lt n s) (le-ltb s low least) ∙ le-ltb n s most
+pub not_outside : (low n s : ℕ) → low ≤ s → s ≤ n → outside low n s ≡ false
+not_outside low n s least most = ap (λ (b : Bool). b || nat_lt n s) (le-ltb s low least) ∙ le-ltb n s most
 
--- a check that passes, and those that follow
-passes : (b : Bool) (r : Refused) (o : Option Refused) → b ≡ false → o ≡ None → cond b (Some r) o ≡ None
-passes b r o is rest = cond-false b (Some r) o is ∙ rest
+-- a check that passes_then, and those that follow
+pub passes_then : (b : Bool) (r : Refused) (o : Option Refused) → b ≡ false → o ≡ None → cond b (Some r) o ≡ None
+passes_then b r o is rest = cond-false b (Some r) o is ∙ rest
 
 module _ (L : Layout) (w : ℕ) (log : List Entry) (s : ℕ) (least : 6 ≤ s) (most : s ≤ L.nodes) where
   abbrev k : Knowledge
@@ -30,7 +30,7 @@ module _ (L : Layout) (w : ℕ) (log : List Entry) (s : ℕ) (least : 6 ≤ s) (
   unfolding refusal
   may_claim = record {
     looked = tt;
-    allowed = λ m h. passes (outside 6 L.nodes s) NoSlot None (inside 6 L.nodes s least most) refl;
+    allowed = λ m h. passes_then (outside 6 L.nodes s) NoSlot None (not_outside 6 L.nodes s least most) refl;
     ordered = refl;
     births = tt;
     key = tt;
@@ -44,7 +44,7 @@ module _ (L : Layout) (w : ℕ) (log : List Entry) (s : ℕ) (least : 6 ≤ s) (
     unfolding refusal
     may_give = record {
       looked = tt;
-      allowed = λ m h. passes (outside 6 L.nodes s) NoSlot (first (cond (is_private k s) [] (free_checks k s))) (inside 6 L.nodes s least most) (ap (λ (x : Bool). first (cond x [] (free_checks k s))) own);
+      allowed = λ m h. passes_then (outside 6 L.nodes s) NoSlot (first (cond (is_private k s) [] (free_checks k s))) (not_outside 6 L.nodes s least most) (ap (λ (x : Bool). first (cond x [] (free_checks k s))) own);
       ordered = refl;
       births = tt;
       key = tt;
@@ -54,9 +54,9 @@ module _ (L : Layout) (w : ℕ) (log : List Entry) (s : ℕ) (least : 6 ≤ s) (
     unfolding refusal
     may_look = record {
       looked = tt;
-      allowed = λ m h. passes (outside 1 L.nodes s) NoSlot _ (inside 1 L.nodes s (omega arith) most)
-          (passes (not (is_private k s) && is_none k.brief.pin) NotPinned _ (others (is_none k.brief.pin))
-          (passes (not (is_private k s) && not (knows k s)) NotHeld None (others (not (knows k s))) refl));
+      allowed = λ m h. passes_then (outside 1 L.nodes s) NoSlot _ (not_outside 1 L.nodes s (omega arith) most)
+          (passes_then (not (is_private k s) && is_none k.brief.pin) NotPinned _ (others (is_none k.brief.pin))
+          (passes_then (not (is_private k s) && not (knows k s)) NotHeld None (others (not (knows k s))) refl));
       ordered = refl;
       births = tt;
       key = tt;
@@ -73,10 +73,10 @@ module _ (L : Layout) (w : ℕ) (log : List Entry) (s : ℕ) (least : 6 ≤ s) (
       unfolding refusal
       may_raise = record {
         looked = ap is_some looked;
-        allowed = λ m h. passes (outside 6 L.nodes s || false) NoSlot _ (ap (λ (x : Bool). x || false) (inside 6 L.nodes s least most))
-            (passes (not (is_private k s)) NotPrivate _ (ap not own)
-            (passes (is_early (draft_of k s) Birth (b + 1) (node m s).birth) NotReady _ (in_time (node m s).birth (h b looked))
-            (passes ((node m s).birth == last_number) Spent None (unspent (node m s).birth (h b looked)) refl)));
+        allowed = λ m h. passes_then (outside 6 L.nodes s || false) NoSlot _ (ap (λ (x : Bool). x || false) (not_outside 6 L.nodes s least most))
+            (passes_then (not (is_private k s)) NotPrivate _ (ap not own)
+            (passes_then (is_early (draft_of k s) Birth (b + 1) (node m s).birth) NotReady _ (in_time (node m s).birth (h b looked))
+            (passes_then ((node m s).birth == last_number) Spent None (unspent (node m s).birth (h b looked)) refl)));
         ordered = refl;
         births = tt;
         key = tt;

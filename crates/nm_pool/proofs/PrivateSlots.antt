@@ -35,30 +35,30 @@ one_more Done from s old mid new le each here =
 
 -- ---- what a step adds
 
-stepped : (p q : Stand) (e : Event) (r : Reply) → Stepped p q e r → knowledge q.view ≡ learn p.view.number (knowledge p.view) e r
-stepped p q e r is = ap (λ (s : Stand). knowledge s.view) is ∙ known_push p.view.number p.view.layout p.view.log (e, r)
+pub known_after_step : (p q : Stand) (e : Event) (r : Reply) → Stepped p q e r → knowledge q.view ≡ learn p.view.number (knowledge p.view) e r
+known_after_step p q e r is = ap (λ (s : Stand). knowledge s.view) is ∙ known_push p.view.number p.view.layout p.view.log (e, r)
 
 abbrev with_draft : Knowledge → ℕ → Draft → Knowledge
 with_draft k s d = record k { drafts = put k.drafts s d }
 
 after_taken : (p q : Stand) (s : ℕ) → Stepped p q (Claim s) Taken → knowledge q.view ≡ knowledge p.view
-after_taken p q s is = stepped p q (Claim s) Taken is ∙ learn_taken p.view.number (knowledge p.view) s
+after_taken p q s is = known_after_step p q (Claim s) Taken is ∙ learn_taken p.view.number (knowledge p.view) s
 
 after_claimed : (p q : Stand) (s t : ℕ) → Stepped p q (Claim s) (Claimed t) → knowledge q.view ≡ with_draft (knowledge p.view) s unfilled
-after_claimed p q s t is = stepped p q (Claim s) (Claimed t) is ∙ learn_claimed p.view.number (knowledge p.view) s t
+after_claimed p q s t is = known_after_step p q (Claim s) (Claimed t) is ∙ learn_claimed p.view.number (knowledge p.view) s t
 
 after_returned : (p q : Stand) (s t : ℕ) → Stepped p q (Give s) (Returned t) → knowledge q.view ≡ record (knowledge p.view) { drafts = without (knowledge p.view).drafts s }
-after_returned p q s t is = stepped p q (Give s) (Returned t) is ∙ learn_returned p.view.number (knowledge p.view) s t
+after_returned p q s t is = known_after_step p q (Give s) (Returned t) is ∙ learn_returned p.view.number (knowledge p.view) s t
 
 after_look : (p q : Stand) (s b : ℕ) → is_private (knowledge p.view) s ≡ true → Stepped p q (Look s Birth) (BirthIs b)
     → knowledge q.view ≡ with_draft (knowledge p.view) s (record (draft_of (knowledge p.view) s) { looked = Some b })
 after_look p q s b own is =
-    stepped p q (Look s Birth) (BirthIs b) is
+    known_after_step p q (Look s Birth) (BirthIs b) is
     ∙ (learn_look p.view.number (knowledge p.view) s Birth (BirthIs b)
     ∙ cond-true (is_private (knowledge p.view) s) (look_private (knowledge p.view) s Birth (BirthIs b)) (look_known (knowledge p.view) s Birth (BirthIs b)) own)
 
 after_filled : (p q : Stand) (s v : ℕ) → Stepped p q (Fill s Birth v) Filled → knowledge q.view ≡ with_draft (knowledge p.view) s (filled_in (draft_of (knowledge p.view) s) Birth v)
-after_filled p q s v is = stepped p q (Fill s Birth v) Filled is ∙ learn_filled p.view.number (knowledge p.view) s Birth v
+after_filled p q s v is = known_after_step p q (Fill s Birth v) Filled is ∙ learn_filled p.view.number (knowledge p.view) s Birth v
 
 -- ---- the layout
 
@@ -72,7 +72,7 @@ within_pass b p q s own same most = rw (ap (λ (x : Stand). x.view.layout) same 
 abbrev pub HasDraft : Knowledge → ℕ → Draft → Type 0
 HasDraft k s d = get k.drafts s ≡ Some d
 
-put_there : (m : List (ℕ × Draft)) (s : ℕ) (d : Draft) → get (put m s d) s ≡ Some d
+pub put_there : (m : List (ℕ × Draft)) (s : ℕ) (d : Draft) → get (put m s d) s ≡ Some d
 put_there m s d = get-put m s d s ∙ cond-true _ (Some d) (get m s) (eq-eqb s s refl)
 
 pub private_of : (k : Knowledge) (s : ℕ) (d : Draft) → HasDraft k s d → is_private k s ≡ true
@@ -118,8 +118,8 @@ without_other (e ∷ es) s q ne = by (is_eq (nat_cmp s e.0)) (at_eqb s e.0) (wit
     by true is later = sym (ap (λ (b : Bool). cond b (Some e.1) (get es q)) (at_eqb q e.0) ∙ cond-false (eqb q e.0) (Some e.1) (get es q) (ne_eqb q e.0 (λ at. ne (at ∙ sym (eqb-true s e.0 (sym is))))))
     by false is later = ap (cond (is_eq (nat_cmp q e.0)) (Some e.1)) later
 
-put_other : (m : List (ℕ × Draft)) (s : ℕ) (d : Draft) (q : ℕ) → q ≢ s → get (put m s d) q ≡ get m q
-put_other m s d q ne = get-put m s d q ∙ cond-false (eqb q s) (Some d) (get m q) (ne_eqb q s ne)
+pub put_another : (m : List (ℕ × Draft)) (s : ℕ) (d : Draft) (q : ℕ) → q ≢ s → get (put m s d) q ≡ get m q
+put_another m s d q ne = get-put m s d q ∙ cond-false (eqb q s) (Some d) (get m q) (ne_eqb q s ne)
 
 -- nothing but one slot was learned
 pub record LearnsOf (t : ℕ) (before after : Knowledge) : Type 0 where
@@ -141,7 +141,7 @@ learns_drafts t k l m is others = record {
 }
 
 learns_put : (t : ℕ) (k l : Knowledge) (d : Draft) → l ≡ with_draft k t d → LearnsOf t k l
-learns_put t k l d is = learns_drafts t k l (put k.drafts t d) is (put_other k.drafts t d)
+learns_put t k l d is = learns_drafts t k l (put k.drafts t d) is (put_another k.drafts t d)
 
 pub learns_claim : (p q : Stand) (s t : ℕ) → Stepped p q (Claim s) (Claimed t) → LearnsOf s (knowledge p.view) (knowledge q.view)
 learns_claim p q s t is = learns_put s (knowledge p.view) (knowledge q.view) _ (after_claimed p q s t is)

@@ -13,8 +13,8 @@ use Rattle.nm_pool.specs.declared.placement.Fit.TheVariants as fit
 abbrev TakesFew : ℕ → Doing → Type 0
 TakesFew most Done = (s : ℕ) (old new : List Entry) → Done s old new → length new ≤ length old + most
 
-longer : (old new more : List Entry) → new ≡ old ++ more → length new ≡ length old + length more
-longer old new more is = ap (λ (log : List Entry). length log) is ∙ length-append old more
+pub longer_by : (old new more : List Entry) → new ≡ old ++ more → length new ≡ length old + length more
+longer_by old new more is = ap (λ (log : List Entry). length log) is ∙ length-append old more
 
 few_in_turn : (most : ℕ) (Done : Doing) → TakesFew most Done → (from n : ℕ) (old new : List Entry) → DoneInTurn Done from n old new → length new ≤ length old + most * n
 few_in_turn most Done few from zero old new done = let same : length new ≡ length old = ap (λ (log : List Entry). length log) done in omega (arith, same)
@@ -25,17 +25,17 @@ few_in_turn most Done few from (suc n) old new done =
     omega (arith, before, last, more)
 
 one_if_taken : TakesFew 1 FoundTaken
-one_if_taken s old new is = let l = longer old new _ is in omega (arith, l)
+one_if_taken s old new is = let l = longer_by old new _ is in omega (arith, l)
 
 three_at_most : TakesFew 3 PassedOver
-three_at_most s old new (inl taken) = let l = longer old new _ taken in omega (arith, l)
-three_at_most s old new (inr worn) = let l = longer old new _ worn in omega (arith, l)
+three_at_most s old new (inl taken) = let l = longer_by old new _ taken in omega (arith, l)
+three_at_most s old new (inr worn) = let l = longer_by old new _ worn in omega (arith, l)
 
 pub take_steps : (from nodes : ℕ) (old new : List Entry) (o : Option ℕ) → 5 < from → IsTake from nodes old new o → length new ≤ length old + nodes
 take_steps from nodes old new None high is = let few = few_in_turn 1 FoundTaken one_if_taken from (nodes + 1 - from) old new is in omega (arith, few, high)
 take_steps from nodes old new (Some s) high t =
     let few = few_in_turn 1 FoundTaken one_if_taken from (s - from) old t.before t.taken in
-    let l = longer t.before new _ t.claimed in
+    let l = longer_by t.before new _ t.claimed in
     let least = t.least in
     let most = t.most in
     omega (arith, few, l, least, most, high)
@@ -51,7 +51,7 @@ pub claim_steps : (f : Fit) (nodes : ℕ) (old new : List Entry) (o : Option Nod
 claim_steps fit.Lowest nodes old new None is = let few = few_in_turn 3 PassedOver three_at_most 6 (nodes + 1 - 6) old new is in omega (arith, few)
 claim_steps fit.Lowest nodes old new (Some n) c =
     let few = few_in_turn 3 PassedOver three_at_most 6 (n.slot - 6) old c.before c.passed in
-    let l = longer c.before new _ c.made.entries in
+    let l = longer_by c.before new _ c.made.entries in
     let least = c.least in
     let most = c.most in
     omega (arith, few, l, least, most)
@@ -61,6 +61,6 @@ claim_steps fit.Near nodes old new None p =
     omega (arith, steps, few)
 claim_steps fit.Near nodes old new (Some n) c =
     let steps = few_at nodes c.slots old c.before c.passed in
-    let l = longer c.before new _ c.made.entries in
+    let l = longer_by c.before new _ c.made.entries in
     let few = c.few in
     omega (arith, steps, l, few)

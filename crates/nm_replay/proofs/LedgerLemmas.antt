@@ -1,17 +1,13 @@
 -- Each worker is told of.
-use Rattle.std.proofs.Common.{◌≡◌, ℕ, Bool, true, false, ◌<◌, List, map, refl, sym, ap, subst, ◌∙◌}
+use Rattle.std.proofs.Common.{◌≡◌, ℕ, Bool, ◌<◌, List, map, sym, ap, subst, ◌∙◌}
 use Rattle.std.specs.Prelude.{IsSome}
 use Rattle.nm_edge.specs.Layouts.{Layout}
 use Rattle.nm_model.specs.declared.event.Event.{Event}
 use Rattle.nm_model.specs.Runs.{State, start, after}
 use Rattle.nm_model.specs.Ordered.{opening_of, after_in, trace_in, accepted, turn_of}
 use Rattle.nm_model.specs.Reports.{ledger_of}
-use Rattle.nm_laws.proofs.Configurations.{ordered_runs}
+use Rattle.nm_laws.proofs.Configurations.{ordered_runs, opening_state}
 use Rattle.nm_core.proofs.HeldLedgers.{each_has_a_ledger}
-
-opening_state : (L : Layout) (is_ordered : Bool) → (opening_of L is_ordered).state ≡ start L
-opening_state L true = refl
-opening_state L false = refl
 
 -- and in every run of a core that is ordered or not, since it is a run of the events that were
 -- allowed

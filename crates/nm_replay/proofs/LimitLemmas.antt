@@ -1,6 +1,6 @@
 -- What a run tells of its input, by the bytes that it read.
-use Rattle.std.proofs.Common.{◌≡◌, ℕ, List, ◌++◌, take, Result, Ok, Err, refl, sym, ap, ◌∙◌}
-use Rattle.std.specs.Prelude.{Option, Some, None, IfSome, OnOk, IfErr, IsOk}
+use Rattle.std.proofs.Common.{◌≡◌, ℕ, List, ◌++◌, take, Ok, Err, refl, sym, ap, ◌∙◌}
+use Rattle.std.specs.Prelude.{Option, Some, None, IfSome, IsOk}
 use Rattle.std.specs.Io.KnownBytes.{Appends}
 use Rattle.nm_files.specs.declared.fault.RunFault.{RunFault}
 use Rattle.nm_files.specs.declared.fault.RunFault.TheVariants as run

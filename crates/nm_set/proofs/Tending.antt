@@ -231,8 +231,8 @@ asked_free leaves w z (Err fault.Held) free did = none_there w.held free did.0
 
 -- ---- moments
 
-longer : (run earlier : List (ℕ × Event)) → Extends run earlier → length earlier ≤ length run
-longer run earlier e =
+pub no_shorter : (run earlier : List (ℕ × Event)) → Extends run earlier → length earlier ≤ length run
+no_shorter run earlier e =
     let whole : length run ≡ length earlier + length e.more = ap (λ (ts : List (ℕ × Event)). length ts) e.is ∙ length-append earlier e.more in
     omega (arith, whole)
 
@@ -240,7 +240,7 @@ longer run earlier e =
 pub moment_since : (o p q : Stand) (op : Op) (k : ℕ) (answer : Bool) → HasSeenAllOf p o → AnswerHasMoment p q op k answer → AnswerHasMoment o q op k answer
 moment_since o p q op k answer past m =
     let s = m.since in
-    let seen = longer p.view.past o.view.past past.goes_on in
+    let seen = no_shorter p.view.past o.view.past past.goes_on in
     let pinned = s.pinned in
     record {
       log = m.log;

@@ -1,7 +1,7 @@
 -- What an event that a worker may take tells of its worker and its arguments.
 use Rattle.std.proofs.Common.{◌≡◌, ℕ, ◌^◌, ◌<◌, ◌≤◌, Bool, true, false, not, ◌||◌, ◌&&◌, zero, suc, get_or, cond, List, [], ◌∷◌, refl, sym, ap, subst, ◌∙◌, true≢false, arith}
 use Rattle.std.specs.Prelude.{Option, Some, None, IsSome, is_none, is_some, nat_lt, unwrap_or}
-use Rattle.std.proofs.lemmas.Bool.{or_parts, leb-false, ltb-false}
+use Rattle.std.proofs.lemmas.Bool.{or_parts, leb-false}
 use Rattle.std.proofs.lemmas.Option.{none-some}
 use Rattle.nm_edge.specs.Edges.{Edge, IsEdge, edge_in, is_word, unpacked, word_of}
 use Rattle.nm_edge.specs.Layouts.{Layout, IsLayout}
@@ -34,6 +34,7 @@ use Rattle.nm_edge.proofs.Words.{places_are_rows}
 use Rattle.nm_words.proofs.MarkedEdges.{each_null_unmarked}
 use Rattle.nm_words.proofs.PackedSizes.{each_state_in_range}
 use Rattle.nm_laws.proofs.Reachable.{layout_kept}
+use Rattle.nm_laws.proofs.TreeSteps.{high_from}
 use Rattle.nm_steps.specs.Rules.{is_store, IsFound}
 use Rattle.nm_steps.specs.Steps.{May, IsAsLooked}
 
@@ -73,11 +74,8 @@ module _ (L : Layout) (w : ℕ) (log : List Entry) where
 
 -- ---- slots
 
-inside : (low n s : ℕ) → outside low n s ≡ false → (low ≤ s) × (s ≤ n)
-inside low n s h = let parts = or_parts (nat_lt s low) (nat_lt n s) h in (ltb-false s low parts.0, ltb-false n s parts.1)
-
 slot_of : (low n s : ℕ) → 1 ≤ low → outside low n s ≡ false → (1 ≤ s) × (s ≤ n)
-slot_of low n s some h = let is = inside low n s h in (let a = is.0 in omega (arith, a, some), is.1)
+slot_of low n s some h = let is = high_from low n s h in (let a = is.0 in omega (arith, a, some), is.1)
 
 module _ (L : Layout) (w : ℕ) (log : List Entry) where
   pub claim_slot : (s : ℕ) → May L w log (Claim s) → IsSlot L s

@@ -25,8 +25,9 @@ use Rattle.nm_steps.specs.Steps.{HasEmptyHands, Board, Stand, fresh_view, AreFre
 use Rattle.nm_steps.proofs.Counts.{sum_after, at_most_sum, both_at_most_sum}
 use Rattle.nm_steps.proofs.Growing.{goes_on_itself, goes_on_from_nothing, goes_on_by, behind_by}
 use Rattle.nm_steps.proofs.Presence.{gone_kept, known_push}
-use Rattle.nm_steps.proofs.Extending.{IsPartOf, keys-append, words_after_join, trace_after_join}
+use Rattle.nm_steps.proofs.Extending.{IsPartOf, words_after_join, trace_after_join}
 use Rattle.nm_steps.proofs.Keeping.{live, stands_live, once_is, one_turn, part_grows, part_stays}
+use Rattle.nm_laws.proofs.Configurations.{keys_more}
 
 -- ---- the opening
 
@@ -46,10 +47,10 @@ fresh_here : (L : Layout) (k n : ℕ) → (knowledge (viewing L (numbers_from k 
 fresh_here L k zero = refl
 fresh_here L k (suc n) = refl
 
-abbrev times : ℕ → List Held → ℕ
+abbrev pub times : ℕ → List Held → ℕ
 times w hs = count_by (λ h. eqb w h.number) hs
 
-times-cons : (w : ℕ) (h : Held) (hs : List Held) → times w (h ∷ hs) ≡ cond (eqb w h.number) 1 0 + times w hs
+pub times-cons : (w : ℕ) (h : Held) (hs : List Held) → times w (h ∷ hs) ≡ cond (eqb w h.number) 1 0 + times w hs
 times-cons w h hs = sum_by-cons (λ (x : Held). cond (eqb w x.number) 1 0) h hs
 
 once_between : (w k n : ℕ) → times w (numbers_from k n) ≡ cond (ltb w k) 0 (cond (ltb w (k + n)) 1 0)
@@ -357,7 +358,7 @@ module _ (L : Layout) (id : ℕ) (v : View) (other : ℕ) (w : View) (alive : v.
   joint = record {
     fits = k.fits;
     turns = more;
-    keys = keys-append k.turns (v.number, Join w.number) k.keys tt;
+    keys = keys_more k.turns (v.number, Join w.number) k.keys tt;
     words_are = k.words_are ∙ sym (words_after_join L v.number w.number v.log w.log k.turns heir leaver differ empty);
     shown = λ j u is.
         ⊎_elim

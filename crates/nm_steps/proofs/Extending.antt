@@ -1,9 +1,7 @@
 -- An event that a worker's own log allows makes a run longer by one turn, and changes the one word
 -- that it touches.
-use Rattle.std.proofs.Common.{◌≡◌, ℕ, zero, suc, get_or, true≢false, length, not, ◌≢◌, ne_eqb, ◌<◌, ◌≤◌, ◌==◌, Bool, true, false, ◌||◌, cond, List, [], ◌∷◌, ◌++◌, refl, sym, ap, ◌∙◌, subst, arith, Result, Ok}
-use Rattle.std.specs.Prelude.{Option, Some, None, IfSome, All, nat_le}
-use Rattle.std.proofs.lemmas.List.{append_assoc}
-use Rattle.std.proofs.lemmas.List.Elements.{All-append}
+use Rattle.std.proofs.Common.{◌≡◌, ℕ, true≢false, length, not, ◌≢◌, ne_eqb, ◌<◌, ◌≤◌, ◌==◌, Bool, true, false, ◌||◌, cond, List, [], ◌∷◌, ◌++◌, refl, sym, ap, ◌∙◌, subst, arith, Result, Ok}
+use Rattle.std.specs.Prelude.{Option, Some, None, All, nat_le}
 use Rattle.std.proofs.lemmas.Bool.{leb-true}
 use Rattle.nm_edge.specs.Layouts.{Layout, IsLayout}
 use Rattle.nm_edge.specs.Words.{IsField}
@@ -14,25 +12,26 @@ use Rattle.nm_model.specs.declared.reply.Reply.{Reply}
 use Rattle.nm_model.specs.declared.reply.Reply.TheVariants.{Joined}
 use Rattle.nm_model.specs.declared.reply.Refused.{Refused}
 use Rattle.nm_model.specs.declared.reply.Refused.TheVariants.{NoWorker, NotReady}
-use Rattle.nm_model.specs.declared.trace.Turn.{Turn}
 use Rattle.nm_model.specs.Maps.{or_else}
 use Rattle.nm_model.specs.Knowledge.{Knowledge}
 use Rattle.nm_model.specs.Step.{first, ◌refuses◌, refusal, write}
 use Rattle.nm_model.specs.Runs.{State, of, start, next, applied, refused, refusal_of, reply_of, is_no_worker, join_refusal}
 use Rattle.nm_model.specs.Lawful.{BirthsStand, EachBirthStands}
-use Rattle.nm_model.specs.Walks.{Entry, logged_by, log_of, search_after}
+use Rattle.nm_model.specs.Walks.{Entry, log_of, search_after}
 use Rattle.nm_model.specs.Searches.{Search, idle}
-use Rattle.nm_model.specs.Ordered.{Configuration, ordered, search_of, disorder, disorder_in, disorder_among, refused_in, applied_in, next_in, outcome_in, after_in, trace_in}
+use Rattle.nm_model.specs.Ordered.{Configuration, ordered, search_of, disorder, disorder_in, disorder_among, refused_in, applied_in, next_in, after_in, trace_in}
 use Rattle.nm_laws.proofs.Configurations.{after_in-append, allowed_next, allowed_outcome, allowed_state}
 use Rattle.nm_laws.proofs.KnownBirths.{each_birth_stands}
 use Rattle.nm_laws.proofs.LogsOfRuns.{searches_tell}
 use Rattle.nm_laws.proofs.Reachable.{layout_kept}
 use Rattle.nm_order.specs.Intervals.{HasKey}
-use Rattle.nm_order.specs.Logs.{takes_part, part_of, known_by}
+use Rattle.nm_order.specs.Logs.{part_of, known_by}
 use Rattle.nm_order.specs.OwnBirths.{births_by}
 use Rattle.nm_order.proofs.LinkedBirths.{own_births_stand}
 use Rattle.nm_order.proofs.PartsOfRuns.{logs_tell, part_tells_search}
 use Rattle.nm_order.proofs.OrderedLaws.{IsOrdered, each_ordered}
+use Rattle.nm_order.proofs.LastEntries.{at_some}
+use Rattle.nm_order.proofs.WalksOfRuns.{trace_in-append}
 use Rattle.nm_words.specs.Packing.{words_of, word_at, touched_field, left_word, with_word, EventsTouchOneWord}
 use Rattle.nm_words.specs.Told.{BirthsAreIn, told, BirthsAreKnown, RepliesAreTold}
 use Rattle.nm_words.proofs.PackedEvents.{each_event_touches_one_word}
@@ -40,24 +39,6 @@ use Rattle.nm_words.proofs.PackedReplies.{each_reply_is_told}
 use Rattle.nm_steps.specs.Steps.{May, IsAsLooked, HasEmptyHands}
 
 -- ---- traces
-
-pub trace_in-append : (c : Configuration) (ts us : List (ℕ × Event)) → trace_in c (ts ++ us) ≡ trace_in c ts ++ trace_in (after_in c ts) us
-unfolding trace_in after_in
-trace_in-append c [] us = refl
-trace_in-append c (t ∷ ts) us = λ i. record { worker = t.0; event = t.1; outcome = outcome_in c t } ∷ trace_in-append (next_in c t) ts us i
-
-pub part-append : (w : ℕ) (ts us : List Turn) → part_of w (ts ++ us) ≡ part_of w ts ++ part_of w us
-part-append w [] us = refl
-part-append w (t ∷ ts) us =
-    let own : List Entry = cond (takes_part w t.worker t.event) (logged_by t) [] in
-    ap (λ (l : List Entry). own ++ l) (part-append w ts us) ∙ sym (append_assoc own (part_of w ts) (part_of w us))
-
-pub keys-append : (ts : List (ℕ × Event)) (t : ℕ × Event) → All (λ u. HasKey u.1) ts → HasKey t.1 → All (λ u. HasKey u.1) (ts ++ t ∷ [])
-keys-append ts t keys key = All-append (λ (u : ℕ × Event). HasKey u.1) ts (t ∷ []) keys one
-  where
-    one : (i : ℕ) (d : ℕ × Event) → i < 1 → HasKey (get_or (t ∷ []) i d).1
-    one zero d below = key
-    one (suc i) d below = absurd (omega arith)
 
 -- ---- one more turn
 
@@ -83,11 +64,8 @@ there s w e below here none = go (nat_le s.layout.workers w) (of s w).gone refl 
 both_none : (a b : Option Refused) → a ≡ None → b ≡ None → or_else a b ≡ None
 both_none a b p q = rw (p, q) refl
 
-some_is : (o : Option (List Search)) (ss : List Search) (P : List Search → Type 0) → o ≡ Some ss → IfSome o P → P ss
-some_is o ss P is holds = rw is at holds
-
-or_false : (a b : Bool) → a ≡ false → b ≡ false → (a || b) ≡ false
-or_false a b p q = rw (p, q) refl
+pub neither : (a b : Bool) → a ≡ false → b ≡ false → (a || b) ≡ false
+neither a b p q = rw (p, q) refl
 
 not_le : (n w : ℕ) → w < n → nat_le n w ≡ false
 not_le n w below = go (nat_le n w) refl
@@ -140,7 +118,7 @@ module _ (L : Layout) (w : ℕ) (log : List Entry) (turns : List (ℕ × Event))
 
   search_is : search_of o.searches w ≡ search_after idle log
   search_is =
-      some_is (c.searches) o.searches (λ ss. search_of ss w ≡ search_after idle (log_of w (trace_in (ordered L) turns))) o.are (searches_tell L turns w p.worker)
+      at_some (c.searches) o.searches (λ ss. search_of ss w ≡ search_after idle (log_of w (trace_in (ordered L) turns))) o.are (searches_tell L turns w p.worker)
       ∙ (sym (part_tells_search w (trace_in (ordered L) turns) idle) ∙ ap (search_after idle) (sym p.is_part))
 
   module _ (e : Event) (may : May L w log e) where
@@ -198,12 +176,12 @@ module _ (L : Layout) (u w : ℕ) (heirs leavers : List Entry) (turns : List (�
   d = after_in (ordered L) turns
 
   worker_is_there : (v : ℕ) (log : List Entry) → IsPartOf L v log turns → is_no_worker d.state v ≡ false
-  worker_is_there v log p = or_false (nat_le d.state.layout.workers v) (of d.state v).gone (not_le d.state.layout.workers v (subst (λ (l : Layout). v < l.workers) (sym (layout_is L v log turns p)) p.worker)) (ap (λ (x : Knowledge). x.gone) (knows L v log turns p) ∙ p.here)
+  worker_is_there v log p = neither (nat_le d.state.layout.workers v) (of d.state v).gone (not_le d.state.layout.workers v (subst (λ (l : Layout). v < l.workers) (sym (layout_is L v log turns p)) p.worker)) (ap (λ (x : Knowledge). x.gone) (knows L v log turns p) ∙ p.here)
 
   join_allowed : join_refusal d.state u w ≡ None
   join_allowed =
-      both_pass _ _ NoWorker NotReady (or_false (w == u) (is_no_worker d.state w) (ne_eqb w u (λ same. differ (sym same))) (worker_is_there w leavers q))
-      (or_false (not (length (of d.state w).drafts == 0)) (of d.state w).brief.unlabelled
+      both_pass _ _ NoWorker NotReady (neither (w == u) (is_no_worker d.state w) (ne_eqb w u (λ same. differ (sym same))) (worker_is_there w leavers q))
+      (neither (not (length (of d.state w).drafts == 0)) (of d.state w).brief.unlabelled
       (ap (λ (x : Knowledge). not (length x.drafts == 0)) (knows L w leavers turns q) ∙ ap (λ (n : ℕ). not (n == 0)) hands.drafts)
       (ap (λ (x : Knowledge). x.brief.unlabelled) (knows L w leavers turns q) ∙ hands.labelled))
 

@@ -23,6 +23,7 @@ use Rattle.nm_model.specs.Walks.{Entry}
 use Rattle.nm_model.specs.Ordered.{ordered, after_in, trace_in}
 use Rattle.nm_order.specs.Logs.{takes_part, is_leaver, part_of, known_by}
 use Rattle.nm_order.specs.OwnBirths.{births_by}
+use Rattle.nm_order.proofs.AnswersSince.{part-append}
 use Rattle.nm_words.specs.Packing.{words_of, word_at, touched_field, left_word}
 use Rattle.nm_words.specs.Told.{told}
 use Rattle.nm_steps.specs.declared.view.Held.{Held}
@@ -32,7 +33,8 @@ use Rattle.nm_steps.specs.Steps.{May, IsReadyFor, IsDone, Changes, IsBlind}
 use Rattle.nm_steps.proofs.Counts.{at_most_sum, both_at_most_sum, sum_after}
 use Rattle.nm_steps.proofs.Growing.{goes_on_itself, goes_on_by, behind_by}
 use Rattle.nm_steps.proofs.Presence.{gone_kept, known_push}
-use Rattle.nm_steps.proofs.Extending.{IsPartOf, part-append, keys-append, words_after, trace_after}
+use Rattle.nm_steps.proofs.Extending.{IsPartOf, words_after, trace_after}
+use Rattle.nm_laws.proofs.Configurations.{keys_more}
 
 pub once_is : (w n : ℕ) → (once_below w n ≤ 1) × (1 ≤ once_below w n → w < n)
 once_is w n = cases (ltb w n) refl
@@ -191,7 +193,7 @@ module _ (L : Layout) (words : List ℕ) (views : List View) (id : ℕ) (v : Vie
   next = record {
     fits = k.fits;
     turns = more;
-    keys = keys-append k.turns (v.number, e) k.keys may.key;
+    keys = keys_more k.turns (v.number, e) k.keys may.key;
     words_are = words_now;
     shown = shown_after;
     here = here_after;

@@ -8,21 +8,20 @@ use Rattle.atomic_table.specs.Seated.{TableId}
 use Rattle.atomic_table.specs.declared.shared.Seat.{Seat}
 use Rattle.nm_edge.specs.Layouts.{Layout, IsLayout}
 use Rattle.nm_edge.specs.Words.{word}
-use Rattle.nm_model.specs.declared.event.Field.{Field}
-use Rattle.nm_model.specs.declared.event.Field.TheVariants.{Edge as EdgeOn, Birth}
 use Rattle.nm_model.specs.declared.event.Event.{Event}
 use Rattle.nm_model.specs.declared.event.Event.TheVariants.{Sight, SightFor, Announce, Leave, LeaveWith, Scan, Advance, Claim, Give, Look, Fill, Link, Flag, Tag, Splice, Join}
 use Rattle.nm_model.specs.declared.reply.Reply.{Reply}
-use Rattle.nm_model.specs.declared.reply.Reply.TheVariants.{Saw, Labelled, Pinned, Missed, Announced, Departed, Idle, In, Moved, Behind, Claimed, Returned, Freed, BirthIs, EdgeIs, Filled, Linked, Flagged, Was, Cut, Lost, Joined}
+use Rattle.nm_model.specs.declared.reply.Reply.TheVariants.{Saw, Labelled, Pinned, Missed, Announced, Departed, Moved, Behind, Claimed, Returned, Freed, Filled, Linked, Flagged, Was, Cut, Lost, Joined}
 use Rattle.nm_model.specs.declared.knowledge.Brief.{Brief}
 use Rattle.nm_model.specs.Knowledge.{Knowledge, is_private}
-use Rattle.nm_model.specs.Learning.{learn, learn_sight, learn_scan, look_private, look_known, resigned, inheriting}
+use Rattle.nm_model.specs.Learning.{learn, learn_sight, look_private, look_known, resigned, inheriting}
 use Rattle.nm_model.specs.Step.{last_number, refusal}
 use Rattle.nm_model.specs.Walks.{Entry}
 use Rattle.nm_model.specs.Ordered.{ordered, after_in, trace_in}
 use Rattle.nm_order.specs.Hands.{IsPooled}
 use Rattle.nm_order.specs.Logs.{is_leaver, part_of, known_by, IsLogOf}
 use Rattle.nm_order.specs.OwnBirths.{births_by}
+use Rattle.nm_order.proofs.OutsidePins.{brief_scan, brief_look_private, brief_look_known}
 use Rattle.nm_words.specs.Packing.{word_at, touched_field}
 use Rattle.nm_words.specs.Told.{told}
 use Rattle.nm_steps.specs.declared.view.View.{View}
@@ -30,8 +29,9 @@ use Rattle.nm_steps.specs.Rules.{knowledge, known_births, logged, is_store, IsFo
 use Rattle.nm_steps.specs.Steps.{Stand, May, IsReadyFor, IsDone, HasTurn, IsOfRun, IsInRun, HasSeen, Tied, Laid, noted, noted_sight}
 use Rattle.nm_steps.proofs.Presence.{gone_kept, known_push}
 use Rattle.nm_steps.proofs.Asking.{within, seen_small, private_pooled}
-use Rattle.nm_steps.proofs.Extending.{IsPartOf, keys-append, trace_after}
+use Rattle.nm_steps.proofs.Extending.{IsPartOf, trace_after}
 use Rattle.nm_steps.proofs.Keeping.{no_leaver, part_grows}
+use Rattle.nm_laws.proofs.Configurations.{keys_more}
 
 -- ---- epochs
 
@@ -41,20 +41,6 @@ brief_sight k (Labelled e) = refl
 brief_sight k (Pinned e) = refl
 brief_sight k (Missed e) = refl
 brief_sight k _ = refl
-
-brief_scan : (k : Knowledge) (u : ℕ) (r : Reply) → (learn_scan k u r).brief ≡ k.brief
-brief_scan k u Idle = refl
-brief_scan k u (In e) = refl
-brief_scan k u _ = refl
-
-brief_look_private : (k : Knowledge) (s : ℕ) (f : Field) (r : Reply) → (look_private k s f r).brief ≡ k.brief
-brief_look_private k s Birth (BirthIs b) = refl
-brief_look_private k s _ _ = refl
-
-brief_look_known : (k : Knowledge) (s : ℕ) (f : Field) (r : Reply) → (look_known k s f r).brief ≡ k.brief
-brief_look_known k s (EdgeOn side) (EdgeIs e) = refl
-brief_look_known k s Birth (BirthIs b) = refl
-brief_look_known k s _ _ = refl
 
 pub brief_is_noted : (w : ℕ) (k : Knowledge) (e : Event) (r : Reply) → (learn w k e r).brief ≡ noted k.brief e r
 unfolding learn
@@ -107,7 +93,7 @@ module _ (L : Layout) (w : ℕ) (log : List Entry) (e : Event) (n : ℕ) (f : Is
   log_grows = record {
     worker = f.worker;
     turns = f.turns ++ (w, e) ∷ [];
-    keys = keys-append f.turns (w, e) f.keys may.key;
+    keys = keys_more f.turns (w, e) f.keys may.key;
     is_part =
         ap (part_of w) (trace_after L w log f.turns part e may)
         ∙ (part_grows w (trace_in (ordered L) f.turns) w e _ (ap (λ (b : Bool). b || is_leaver w e) (eq-eqb w w refl))

@@ -11,7 +11,8 @@ use Rattle.nm_model.specs.declared.reply.Reply.TheVariants.{Saw, Labelled, Pinne
 use Rattle.nm_model.specs.Knowledge.{Knowledge, is_private}
 use Rattle.nm_model.specs.Learning.{learn, learn_sight, learn_scan, look_private, look_known, resigned, inheriting}
 use Rattle.nm_model.specs.Walks.{Entry}
-use Rattle.nm_order.specs.Logs.{is_leaver, known_after, known_by}
+use Rattle.nm_order.specs.Logs.{is_leaver, known_by}
+use Rattle.nm_order.proofs.LastEntries.{known_more}
 
 gone_sight : (k : Knowledge) (r : Reply) → (learn_sight k r).gone ≡ k.gone
 gone_sight k (Saw e) = refl
@@ -61,10 +62,6 @@ gone_kept w k (Join v) (Joined ls) h = ap (λ x. x.gone) (cond-false (w == v) (r
 gone_kept w k _ _ h = refl
 
 -- ---- one entry more
-
-known_more : (w : ℕ) (k : Knowledge) (log : List Entry) (x : Entry) → known_after w k (log ++ x ∷ []) ≡ learn w (known_after w k log) x.0 x.1
-known_more w k [] x = refl
-known_more w k (y ∷ log) x = known_more w (learn w k y.0 y.1) log x
 
 pub known_push : (w : ℕ) (L : Layout) (log : List Entry) (x : Entry) → known_by L w (log ++ x ∷ []) ≡ learn w (known_by L w log) x.0 x.1
 known_push w L log x = known_more w _ log x

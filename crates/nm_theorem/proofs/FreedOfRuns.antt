@@ -20,12 +20,13 @@ use Rattle.nm_model.specs.Runs.{State, of, start, after, trace, refused, outcome
 use Rattle.nm_model.specs.Laws.{node_in, OneHolder, FreesAFront, NoNodeTwice}
 use Rattle.nm_model.specs.Ordered.{Configuration, opening_of, refused_in, next_in, outcome_in, after_in, trace_in, accepted, turn_of, disorder_in}
 use Rattle.nm_model.proofs.Lists.{get_right, get_stays}
-use Rattle.nm_laws.proofs.Configurations.{ordered_runs, refused_outcome, allowed_outcome, state_outcome}
+use Rattle.nm_laws.proofs.Configurations.{ordered_runs, refused_outcome, allowed_outcome, state_outcome, opening_state}
 use Rattle.nm_laws.proofs.FreedNodes.{IsIn, among_in, in_among, frees_front, each_queue_is_the_rest}
 use Rattle.nm_laws.proofs.Once.{no_node_is_cut_twice}
 use Rattle.nm_laws.proofs.Retired.{is_the_cuts, each_ledger_has_one_holder}
+use Rattle.nm_laws.proofs.Outcomes.{no_reply}
 use Rattle.nm_model.specs.Headline.{nodes_cut_of, nodes_freed_of, cuts_of, freed_by, is_among, freed_of, waits_of, AreFreedInTurn}
-use Rattle.nm_theorem.proofs.Runs.{Parts, parts_of, Head, head_of, enough_of, opening_state, lawful_opening, lawful_after, layout_next}
+use Rattle.nm_theorem.proofs.Runs.{Parts, parts_of, Head, head_of, enough_of, lawful_opening, lawful_after, layout_next}
 use Rattle.nm_theorem.proofs.GraceOfRuns.{freed_outcome}
 
 -- ---- refused turns
@@ -155,15 +156,12 @@ freeing (t ∷ ts) n there = go (Contains-append_cases (nodes_freed_of t.outcome
     go (inl here) rest = record { first = []; turn = t; rest = ts; all = refl; is = freed_outcome n t.outcome here }
     go (inr later) rest = let r = rest later in record { first = t ∷ r.first; turn = r.turn; rest = r.rest; all = ap (λ (us : List Turn). t ∷ us) r.all; is = r.is }
 
-no_answer : (q : Refused) (r : Reply) → ◌≡◌ {A = Result Reply Refused} (Err q) (Ok r) → ⊥
-no_answer q r e = cc
-
 -- what a configuration answers, its state answers
 pub state_says : (c : Configuration) (t : ℕ × Event) (r : Reply) → outcome_in c t ≡ Ok r → outcome c.state t ≡ Ok r
 state_says c t r is = go (refused_in c t.0 t.1) refl
   where
     go : (o : Option Refused) → refused_in c t.0 t.1 ≡ o → outcome c.state t ≡ Ok r
-    go (Some q) why = absurd (no_answer q r (sym (refused_outcome c t q why) ∙ is))
+    go (Some q) why = absurd (no_reply q r (sym (refused_outcome c t q why) ∙ is))
     go None why = state_outcome c t why ∙ (sym (allowed_outcome c t why) ∙ is)
 
 -- ---- runs

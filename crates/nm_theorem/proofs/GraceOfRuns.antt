@@ -15,12 +15,12 @@ use Rattle.nm_model.specs.Runs.{State, of, after, trace}
 use Rattle.nm_model.specs.Ordered.{opening_of, after_in, trace_in, accepted, turn_of}
 use Rattle.nm_model.specs.Walks.{Entry, logged_by, log_of}
 use Rattle.nm_order.specs.Pinned.{pinned_by, pinned_after}
-use Rattle.nm_order.proofs.PinsOfLogs.{pins_are_told}
+use Rattle.nm_order.proofs.PinsOfLogs.{pins_are_told, pinned_join}
 use Rattle.nm_order.proofs.WalksOfRuns.{log-append}
-use Rattle.nm_laws.proofs.Configurations.{ordered_runs}
+use Rattle.nm_laws.proofs.Configurations.{ordered_runs, opening_state}
 use Rattle.nm_laws.proofs.OrderedRuns.{grace_in}
 use Rattle.nm_model.specs.Headline.{nodes_cut_of, nodes_freed_of, confirms, departs, leaves, IsPinned, Grace}
-use Rattle.nm_theorem.proofs.Runs.{Parts, parts_of, reached_opening, enough_of, opening_state, take_first}
+use Rattle.nm_theorem.proofs.Runs.{Parts, parts_of, reached_opening, enough_of, take_first}
 
 -- ---- outcomes
 
@@ -34,10 +34,6 @@ freed_outcome n (Ok (Freed m)) (suc k, b, e) = absurd (omega (arith, b))
 freed_outcome n o c = absurd (let b = c.1 in omega (arith, b))
 
 -- ---- who is pinned
-
-pinned_join : (pin : Option ℕ) (xs ys : List Entry) → pinned_after pin (xs ++ ys) ≡ pinned_after (pinned_after pin xs) ys
-pinned_join pin [] ys = refl
-pinned_join pin (x ∷ xs) ys = pinned_join (pinned_by pin x) xs ys
 
 -- an entry that is no leave leaves a pin
 entry_stays : (e : ℕ) (v : Event) (r : Reply) → departs v (Ok r) ≡ false → (d : ℕ) × (pinned_by (Some e) (v, r) ≡ Some d)

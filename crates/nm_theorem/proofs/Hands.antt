@@ -26,16 +26,16 @@ use Rattle.nm_model.specs.Runs.{State, of, reply_of, applied}
 use Rattle.nm_model.specs.Ordered.{Configuration, opening_of, refused_in, next_in, applied_in, outcome_in, after_in, trace_in}
 use Rattle.nm_model.proofs.Tables.{get-put, get-without, Ascends, ascends-without}
 use Rattle.nm_laws.proofs.Steps.{Allowed, allowed, second}
-use Rattle.nm_laws.proofs.Configurations.{refused_next, refused_outcome, allowed_next, allowed_outcome}
+use Rattle.nm_laws.proofs.Configurations.{refused_next, refused_outcome, allowed_next, allowed_outcome, opening_state, allowed_by_state}
 use Rattle.nm_laws.proofs.Lawful.{IsLawful}
 use Rattle.nm_laws.proofs.Pins.{all_new}
-use Rattle.nm_laws.proofs.TreeSlots.{known_live}
+use Rattle.nm_laws.proofs.TreeSlots.{known_live, has_put_own}
 use Rattle.nm_laws.proofs.TreeSteps.{Lawful, LinkChecked, link_checked}
 use Rattle.nm_order.specs.Logs.{is_leaver}
-use Rattle.nm_order.proofs.PartsOfRuns.{allowed_by_state, partaking, apart}
+use Rattle.nm_order.proofs.PartsOfRuns.{partaking, apart}
 use Rattle.nm_order.proofs.TreeChanges.{WonLink, won_link}
 use Rattle.nm_model.specs.Headline.{takes, lets_go, has_after}
-use Rattle.nm_theorem.proofs.Runs.{opening_state, lawful_opening, lawful_next}
+use Rattle.nm_theorem.proofs.Runs.{lawful_opening, lawful_next}
 use Rattle.nm_theorem.proofs.WrittenWords.{turn_writes, opening_words}
 
 -- ---- what one worker has after an event with its reply
@@ -55,13 +55,6 @@ record NewLeaf (m : Memory) (k : Knowledge) (leaf new : ℕ) : Type 0 where
   side : Side
   over_leaf : child m new side ≡ leaf
   over_far : child m new (other side) ≡ far
-
-has_put_own : (k : Knowledge) (s : ℕ) (n : Draft) → is_private k s ≡ true → (x : ℕ) → has (put k.drafts s n) x ≡ is_private k x
-has_put_own k s n own x = ap is_some (get-put k.drafts s n x) ∙ go (eqb x s) refl
-  where
-    go : (b : Bool) → eqb x s ≡ b → is_some (cond b (Some n) (get k.drafts x)) ≡ is_private k x
-    go true e = sym (ap (is_private k) (eqb-true x s e) ∙ own)
-    go false e = refl
 
 module _ (m : Memory) (w : ℕ) (k : Knowledge) (asc : Ascends k.drafts) (x : ℕ) where
   by_sight : (r : Reply) → is_private (learn_sight k r) x ≡ is_private k x

@@ -27,16 +27,17 @@ use Rattle.nm_laws.proofs.SearchesGrow.{only_grow}
 use Rattle.nm_order.specs.Intervals.{InSet, IsCalled}
 use Rattle.nm_order.specs.Exchanges.{MayAnswer, HasFlagged as LawHasFlagged}
 use Rattle.nm_order.specs.Logs.{IsLogOf}
-use Rattle.nm_order.specs.History.{Act, IsAmong, EachOnce, ComesNext, InOrderOfMoments, HasInARow, IsDeleteOf, leaf_keys, last_anew, pin_of, LeadsTo, Replays, nothing, IsRunHistory as LawIsHistory, IsActOfRun as LawIsAct, HasActOfCall as LawHasAct}
+use Rattle.nm_order.specs.History.{Act, IsAmong, EachOnce, InOrderOfMoments, HasInARow, IsDeleteOf, leaf_keys, last_anew, pin_of, LeadsTo, Replays, nothing, IsRunHistory as LawIsHistory, IsActOfRun as LawIsAct, HasActOfCall as LawHasAct}
 use Rattle.nm_order.specs.History.IsActOfRun.{IsAnswered as LawAnswered, IsPending as LawPending}
 use Rattle.nm_order.proofs.OrderedLaws.{IsOrdered, ordered_next, each_ordered, each_link_inserts}
 use Rattle.nm_order.proofs.OwnTurns.{own_search, OwnTurn, own_turn}
 use Rattle.nm_order.proofs.OwnTurns.OwnTurn.{Quiet, Own}
-use Rattle.nm_order.proofs.RunExchanges.{at_opening, first_keys, is_own_call}
+use Rattle.nm_order.proofs.RunExchanges.{first_keys, is_own_call, opening_ordered}
 use Rattle.nm_order.proofs.RunMoments.{entries}
 use Rattle.nm_order.proofs.WalksOfRuns.{trace_in-append}
 use Rattle.nm_order.proofs.HistoryLaws.{each_run_has_a_history}
-use Rattle.nm_order.proofs.RealTime.{begins_with}
+use Rattle.nm_order.proofs.RealTime.{begins_with, none_sooner}
+use Rattle.nm_order.proofs.PinNumbers.{length_trace}
 use Rattle.nm_model.specs.Headline.{words_after, slots_of}
 use Rattle.nm_theorem.specs.Histories.{Called, called_in, call_by, call_after, call_begun, IsAct, HasAct, IsInCall, HasFlaggedOneOf, IsHistory, HasHistory}
 use Rattle.nm_theorem.specs.Histories.IsAct.{IsAnswered, IsPending}
@@ -131,7 +132,7 @@ module _ (L : Layout) (enough : 5 ≤ L.nodes) (w : ℕ) where
 
   -- the call that a run leaves a worker in is what its turns tell
   pub call_is : (ts : List (ℕ × Event)) → All (λ t. HasKey t.1) ts → call_begun w (trace_in (ordered L) ts) ≡ with_pin (pin_of L ts w) (own_search (after_in (ordered L) ts) w).call
-  call_is ts keys = ap (λ (x : Option Call). call_after w 0 (with_pin 0 x) (trace_in (ordered L) ts)) (sym none_first) ∙ calls_from ts keys (ordered L) (at_opening L enough) 0 0
+  call_is ts keys = ap (λ (x : Option Call). call_after w 0 (with_pin 0 x) (trace_in (ordered L) ts)) (sym none_first) ∙ calls_from ts keys (ordered L) (opening_ordered L enough) 0 0
 
   -- so a call that is told is one, and the other way round
   pub is_called : (ts : List (ℕ × Event)) → All (λ t. HasKey t.1) ts → (op : Op) (k : ℕ) → IsCalled (after_in (ordered L) ts) w op k → call_begun w (trace_in (ordered L) ts) ≡ Some (record { pin = pin_of L ts w; op = op; key = k })
@@ -157,14 +158,10 @@ module _ (L : Layout) (enough : 5 ≤ L.nodes) (w : ℕ) where
 
 -- ---- the history
 
-later : (m : ℕ) (quiet : Bool) (a : Act) → ComesNext m quiet a → m ≤ a.moment
-later m quiet a (inl less) = omega (arith, less)
-later m quiet a (inr same) = let e = same.0 in omega (arith, e)
-
 all_later : (acts : List Act) (m : ℕ) (quiet : Bool) → InOrderOfMoments m quiet acts → (j : ℕ) (d : Act) → j < length acts → m ≤ (slice_index_or acts j d).moment
 all_later [] m quiet up j d below = absurd (omega (arith, below))
-all_later (a ∷ acts) m quiet up zero d below = later m quiet a up.0
-all_later (a ∷ acts) m quiet up (suc j) d below = let first = later m quiet a up.0 in let rest = all_later acts a.moment _ up.1 j d (omega (arith, below)) in omega (arith, first, rest)
+all_later (a ∷ acts) m quiet up zero d below = none_sooner m quiet a up.0
+all_later (a ∷ acts) m quiet up (suc j) d below = let first = none_sooner m quiet a up.0 in let rest = all_later acts a.moment _ up.1 j d (omega (arith, below)) in omega (arith, first, rest)
 
 acts_in_order : (acts : List Act) (m : ℕ) (quiet : Bool) → InOrderOfMoments m quiet acts → AllPairs (λ (a b : Act). a.moment ≤ b.moment) acts
 acts_in_order [] m quiet up i j d less below = absurd (omega (arith, below))
@@ -185,7 +182,7 @@ each_once (a ∷ acts) once zero (suc j) d less below same = once.0 (slice_index
 each_once (a ∷ acts) once (suc i) zero d less below same = absurd (omega (arith, less))
 each_once (a ∷ acts) once (suc i) (suc j) d less below same = each_once acts once.1 i j d (omega (arith, less)) (omega (arith, below)) same
 
--- the acts up to a moment, where those behind are later
+-- the acts up to a moment, where those behind are none_sooner
 abbrev up_to : ℕ → List Act → List Act
 up_to m acts = filter (λ (a : Act). nat_le a.moment m) acts
 
@@ -264,12 +261,6 @@ module _ (turns before since : List Turn) (t : Turn) (all : turns ≡ before ++ 
       sym (call_stays a.worker before t same)
       ∙ still_called a.worker (before ++ t ∷ []) since (called_in a) (ap (call_begun a.worker) (sym whole_then) ∙ called) (let size = length-append before (t ∷ []) in omega (arith, size, at, late))
 
--- the length of a part of a trace is that of its events
-length_trace : (c : Configuration) (ts : List (ℕ × Event)) → length (trace_in c ts) ≡ length ts
-unfolding trace_in
-length_trace c [] = refl
-length_trace c (t ∷ ts) = ap (λ (n : ℕ). suc n) (length_trace (next_in c t) ts)
-
 -- where the events are split at one, so are the turns
 told_at : (L : Layout) (ts before since : List (ℕ × Event)) (w : ℕ) (e : Event) (r : Reply) → ts ≡ before ++ (w, e) ∷ since → outcome_in (after_in (ordered L) before) (w, e) ≡ Ok r
     → trace_in (ordered L) ts ≡ trace_in (ordered L) before ++ record { worker = w; event = e; outcome = Ok r } ∷ trace_in (next_in (after_in (ordered L) before) (w, e)) since
@@ -299,13 +290,13 @@ module _ (L : Layout) (fits : IsLayout L) (ts : List (ℕ × Event)) (keys : All
   words_of us = run_words L fits true us
 
   each : (a : Act) → LawIsAct L ts a → IsAct turns a
-  each a (LawAnswered before since all may pin later early) =
+  each a (LawAnswered before since all may pin none_sooner early) =
       IsAnswered (trace_in (ordered L) before) (trace_in (next_in (after_in (ordered L) before) (a.worker, LeaveWith a.answer)) since) (told_at L ts before since a.worker (LeaveWith a.answer) Departed all may.leaves)
       (is_called L (enough_of L fits) a.worker before (keys_of before ((a.worker, LeaveWith a.answer) ∷ since) all) a.op a.key may.called ∙ ap (λ (p : ℕ). Some (record { pin = p; op = a.op; key = a.key })) (sym pin))
-      later (let e = length_trace (ordered L) before in omega (arith, e, early))
-  each a (LawPending called changed answer pin later early) =
+      none_sooner (let e = length_trace (ordered L) before in omega (arith, e, early))
+  each a (LawPending called changed answer pin none_sooner early) =
       IsPending (is_called L (enough_of L fits) a.worker ts keys a.op a.key called ∙ ap (λ (p : ℕ). Some (record { pin = p; op = a.op; key = a.key })) (sym pin))
-      later (let e = length_trace (ordered L) ts in omega (arith, e, early))
+      none_sooner (let e = length_trace (ordered L) ts in omega (arith, e, early))
 
   answered : (before since : List Turn) (w : ℕ) (answer : Bool) (c : Called) → turns ≡ before ++ record { worker = w; event = LeaveWith answer; outcome = Ok Departed } ∷ since
       → call_begun w before ≡ Some c → HasAct acts w c answer

@@ -18,9 +18,10 @@ use Rattle.nm_model.specs.Places.SlotPlace.{InPool as LawInPool, PrivateTo as La
 use Rattle.nm_model.specs.Runs.{State, of}
 use Rattle.nm_model.specs.Ordered.{opening_of, after_in, trace_in}
 use Rattle.nm_laws.proofs.OnePlace.{lawful_places}
+use Rattle.nm_laws.proofs.Configurations.{opening_state}
 use Rattle.nm_model.specs.Headline.{waits_of, words_after, Place, StandsAt, OnePlace}
 use Rattle.nm_model.specs.Headline.Place.{InPool, InHands, OnPath, Waits}
-use Rattle.nm_theorem.proofs.Runs.{opening_state, lawful_opening, lawful_after, layout_after}
+use Rattle.nm_theorem.proofs.Runs.{lawful_opening, lawful_after, layout_after}
 use Rattle.nm_theorem.proofs.WrittenWords.{run_words}
 use Rattle.nm_theorem.proofs.FreedOfRuns.{holds, past_waits, waits_is}
 use Rattle.nm_theorem.proofs.Hands.{run_hands}

@@ -6,12 +6,11 @@ use Rattle.nm_edge.specs.Layouts.{Layout, IsLayout}
 use Rattle.nm_model.specs.declared.event.Event.{Event}
 use Rattle.nm_model.specs.declared.reply.Refused.{Refused}
 use Rattle.nm_model.specs.declared.trace.Turn.{Turn}
-use Rattle.nm_model.specs.Runs.{applied, start}
 use Rattle.nm_model.specs.Ordered.{Configuration, IsReached, opening_of, refused_in, applied_in, next_in, outcome_in, after_in, trace_in}
 use Rattle.nm_laws.proofs.Steps.{allowed}
 use Rattle.nm_laws.proofs.Lawful.{IsLawful, lawful_start, lawful_step}
-use Rattle.nm_laws.proofs.Configurations.{refused_next, allowed_next, reached_plain, reached_ordered}
-use Rattle.nm_order.proofs.PartsOfRuns.{allowed_by_state}
+use Rattle.nm_laws.proofs.Configurations.{refused_next, allowed_next, reached_plain, reached_ordered, opening_state, allowed_by_state, same_layout}
+use Rattle.nm_laws.proofs.LawfulRuns.{same_head, take_first as first_of}
 
 -- a turn as the trace tells it
 abbrev pub told_in : Configuration → ℕ × Event → Turn
@@ -32,9 +31,6 @@ pub record Head (c : Configuration) (ts : List (ℕ × Event)) (turn : Turn) (re
   pub all : ts ≡ event ∷ others
   pub turn_is : turn ≡ told_in c event
   pub rest_is : rest ≡ trace_in (next_in c event) others
-
-same_head : (x y : Turn) (xs ys : List Turn) → x ∷ xs ≡ y ∷ ys → (x ≡ y) × (xs ≡ ys)
-same_head x y xs ys e = (cc, cc)
 
 no_turn : (x : Turn) (xs : List Turn) → [] ≡ x ∷ xs → ⊥
 no_turn x xs e = cc
@@ -70,10 +66,6 @@ reached_opening L fits false = reached_plain L fits
 pub enough_of : (L : Layout) → IsLayout L → 5 ≤ L.nodes
 enough_of L fits = let e = fits.least in omega arith
 
-pub opening_state : (L : Layout) (b : Bool) → (opening_of L b).state ≡ start L
-opening_state L true = refl
-opening_state L false = refl
-
 pub lawful_opening : (L : Layout) → IsLayout L → (b : Bool) → IsLawful (opening_of L b).state
 lawful_opening L fits b = subst IsLawful (sym (opening_state L b)) (lawful_start L (enough_of L fits))
 
@@ -92,10 +84,6 @@ lawful_after (t ∷ ts) c lawful = lawful_after ts (next_in c t) (lawful_next c 
 
 -- ---- the layout
 
-same_layout : (c : Configuration) (w : ℕ) (e : Event) → (applied_in c w e).state.layout ≡ c.state.layout
-unfolding applied_in applied
-same_layout c w e = refl
-
 pub layout_next : (c : Configuration) (t : ℕ × Event) → (next_in c t).state.layout ≡ c.state.layout
 layout_next c t = go (refused_in c t.0 t.1) refl
   where
@@ -109,10 +97,6 @@ layout_after [] c = refl
 layout_after (t ∷ ts) c = layout_after ts (next_in c t) ∙ layout_next c t
 
 -- ---- the first events, by their number
-
-first_of : (xs ys : List (ℕ × Event)) → take (length xs) (xs ++ ys) ≡ xs
-first_of [] ys = refl
-first_of (x ∷ xs) ys = ap (λ (zs : List (ℕ × Event)). x ∷ zs) (first_of xs ys)
 
 pub take_first : (ts early late : List (ℕ × Event)) (n : ℕ) → ts ≡ early ++ late → length early ≡ n → take n ts ≡ early
 take_first ts early late n all size = ap (take n) all ∙ (ap (λ (m : ℕ). take m (early ++ late)) (sym size) ∙ first_of early late)

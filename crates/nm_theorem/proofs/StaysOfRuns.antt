@@ -1,7 +1,7 @@
 -- What a worker has touched stays for as long as it has not left: it knows the slot, and what is
 -- known is in no pool and in nobody's hands.
 use Rattle.std.proofs.Common.{◌≡◌, ◌≢◌, ℕ, zero, suc, ◌==◌, inl, inr, ◌⊎◌, Bool, true, false, cond, not, ◌||◌, ◌&&◌, List, [], ◌∷◌, ◌++◌, refl, sym, ap, subst, ◌∙◌, arith, true≢false}
-use Rattle.std.specs.Prelude.{Option, Some, None, is_some, is_none, nat_lt, Result, Ok, Err, Contains, All}
+use Rattle.std.specs.Prelude.{Option, Some, None, is_some, is_none, nat_lt, Result, Ok, Contains, All}
 use Rattle.std.specs.List.{list_any}
 use native.Mathlib.Decide.{ℕ_discrete}
 use Rattle.std.proofs.lemmas.Bool.{cond_both, and_parts, or_parts, not-false, eq-eqb, false_from_ne_true, and_from}
@@ -24,7 +24,7 @@ use Rattle.nm_model.specs.Runs.{State, of, reply_of, applied}
 use Rattle.nm_model.specs.Walks.{begins_anew}
 use Rattle.nm_model.specs.Ordered.{Configuration, HasKey, opening_of, refused_in, next_in, applied_in, outcome_in, after_in, trace_in}
 use Rattle.nm_laws.proofs.Steps.{Allowed, allowed, second, third, fourth}
-use Rattle.nm_laws.proofs.Configurations.{refused_next, refused_outcome, allowed_next, allowed_outcome, after_in-append, reached_state}
+use Rattle.nm_laws.proofs.Configurations.{refused_next, refused_outcome, allowed_next, allowed_outcome, after_in-append, reached_state, allowed_by_state}
 use Rattle.nm_laws.proofs.Lawful.{IsLawful}
 use Rattle.nm_laws.proofs.LawfulRuns.{lawful_state}
 use Rattle.nm_laws.proofs.KnownBirths.{written_same}
@@ -32,9 +32,9 @@ use Rattle.nm_laws.proofs.Pictures.{IsLive}
 use Rattle.nm_laws.proofs.TreeSlots.{known_live, tag_known}
 use Rattle.nm_laws.proofs.TreeSteps.{Lawful, LinkChecked, link_checked}
 use Rattle.nm_laws.proofs.Views.{view}
+use Rattle.nm_laws.proofs.Outcomes.{no_reply}
 use Rattle.nm_order.proofs.CallWalks.{others_stay, own_knows, memory_after}
 use Rattle.nm_order.proofs.KnowledgeStays.{learned_stays, answers}
-use Rattle.nm_order.proofs.PartsOfRuns.{allowed_by_state}
 use Rattle.nm_order.proofs.WalksOfRuns.{trace_in-append, all_before}
 use Rattle.nm_model.specs.Headline.{departs, leaves, has_after, words_after, touched, NothingIsPulledAway}
 use Rattle.nm_theorem.proofs.Runs.{Parts, parts_of, Head, head_of, told_in, reached_opening, lawful_opening, lawful_next, lawful_after}
@@ -230,16 +230,12 @@ trace_first : (c : Configuration) (t : ℕ × Event) (ts : List (ℕ × Event)) 
 unfolding trace_in
 trace_first c t ts = refl
 
--- what was answered was allowed
-no_answer : (q : Refused) (r : Reply) → ◌≡◌ {A = Result Reply Refused} (Err q) (Ok r) → ⊥
-no_answer q r e = cc
-
-was_allowed : (c : Configuration) (t : ℕ × Event) (r : Reply) → outcome_in c t ≡ Ok r → refused_in c t.0 t.1 ≡ None
+pub was_allowed : (c : Configuration) (t : ℕ × Event) (r : Reply) → outcome_in c t ≡ Ok r → refused_in c t.0 t.1 ≡ None
 was_allowed c t r is = go (refused_in c t.0 t.1) refl
   where
     go : (o : Option Refused) → refused_in c t.0 t.1 ≡ o → refused_in c t.0 t.1 ≡ None
     go None why = why
-    go (Some q) why = absurd (no_answer q r (sym (refused_outcome c t q why) ∙ is))
+    go (Some q) why = absurd (no_reply q r (sym (refused_outcome c t q why) ∙ is))
 
 -- a leave touches nothing
 touch_is_no_leave : (e : Event) (o : Result Reply Refused) (x : ℕ) → Contains (touched e) x → departs e o ≡ true → ⊥

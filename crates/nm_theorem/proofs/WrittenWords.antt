@@ -17,18 +17,18 @@ use Rattle.nm_model.specs.Knowledge.{is_private, read}
 use Rattle.nm_model.specs.Learning.{flag_to}
 use Rattle.nm_model.specs.Ledgers.{front_of}
 use Rattle.nm_model.specs.Step.{reply, write, kept, cut_nodes, node_linked, node_of}
-use Rattle.nm_model.specs.Runs.{State, of, reply_of, applied}
+use Rattle.nm_model.specs.Runs.{State, of, reply_of}
 use Rattle.nm_model.specs.Ordered.{Configuration, opening_of, refused_in, next_in, applied_in, after_in, trace_in}
 use Rattle.nm_laws.proofs.Steps.{Allowed, allowed}
 use Rattle.nm_laws.proofs.Cuts.{shown}
 use Rattle.nm_laws.proofs.TreeSlots.{tag_known}
 use Rattle.nm_laws.proofs.TreeSteps.{Lawful}
 use Rattle.nm_laws.proofs.Lawful.{IsLawful}
-use Rattle.nm_laws.proofs.Configurations.{refused_next, refused_outcome, allowed_next, allowed_outcome}
-use Rattle.nm_order.proofs.PartsOfRuns.{allowed_by_state}
+use Rattle.nm_laws.proofs.Configurations.{refused_next, refused_outcome, allowed_next, allowed_outcome, opening_state, allowed_by_state}
 use Rattle.nm_model.specs.Headline.{written, after_turn, words_from, words_after}
 use Rattle.nm_theorem.specs.EachRun.{WordsAreWritten}
-use Rattle.nm_theorem.proofs.Runs.{told_in, opening_state, lawful_opening, lawful_next}
+use Rattle.nm_theorem.proofs.Runs.{told_in, lawful_opening, lawful_next}
+use Rattle.nm_order.proofs.CallWalks.{memory_after}
 
 put_back : (m : Memory) (s : ℕ) (b : Bool) → in_pool m s ≡ b → record m { pool = set m.pool s b } ≡ m
 put_back m s b is = ap (λ (xs : List Bool). record m { pool = xs }) (ap (λ (x : Bool). set m.pool s x) (sym is) ∙ set-get_or m.pool s false)
@@ -105,16 +105,12 @@ none_written m w (Tag p side) q = refl
 none_written m w (Splice a d x p keep) q = refl
 none_written m w e q = refl
 
-writes_applied : (s : State) (w : ℕ) (e : Event) → (applied s w e).memory ≡ write s.memory (of s w) w e
-unfolding applied
-writes_applied s w e = refl
-
 pub turn_writes : (c : Configuration) (t : ℕ × Event) → IsLawful c.state → after_turn c.state.memory (told_in c t) ≡ (next_in c t).state.memory
 unfolding applied_in
 turn_writes c t lawful = go (refused_in c t.0 t.1) refl
   where
     after_applied : (applied_in c t.0 t.1).state.memory ≡ write c.state.memory (of c.state t.0) t.0 t.1
-    after_applied = writes_applied c.state t.0 t.1
+    after_applied = memory_after c.state t.0 t.1
 
     go : (o : Option Refused) → refused_in c t.0 t.1 ≡ o → after_turn c.state.memory (told_in c t) ≡ (next_in c t).state.memory
     go (Some r) is = ap (written c.state.memory t.0 t.1) (refused_outcome c t r is) ∙ (none_written c.state.memory t.0 t.1 r ∙ ap (λ (d : Configuration). d.state.memory) (sym (refused_next c t r is)))

@@ -1,6 +1,6 @@
 -- A flag that was won stands in the log of its worker.
 use Rattle.std.proofs.Common.{◌≡◌, ◌≢◌, ℕ, suc, ◌+◌, ◌<◌, ◌≤◌, Bool, true, false, cond, ◌||◌, eq-eqb, List, [], ◌∷◌, ◌++◌, append_assoc, length, length-append, refl, sym, ap, subst, ◌∙◌, arith}
-use Rattle.std.specs.Prelude.{Option, Some, None, Result, Ok, Err, All, filter}
+use Rattle.std.specs.Prelude.{Ok, All, filter}
 use Rattle.std.proofs.lemmas.List.Elements.{filter-append}
 use native.Mathlib.Decide.{ℕ_discrete}
 use Rattle.nm_edge.specs.Layouts.{Layout}
@@ -8,11 +8,9 @@ use Rattle.nm_model.specs.declared.event.Event.{Event}
 use Rattle.nm_model.specs.declared.event.Event.TheVariants.{Flag}
 use Rattle.nm_model.specs.declared.reply.Reply.{Reply}
 use Rattle.nm_model.specs.declared.reply.Reply.TheVariants.{Flagged}
-use Rattle.nm_model.specs.declared.reply.Refused.{Refused}
 use Rattle.nm_model.specs.Runs.{State, refused, start}
 use Rattle.nm_model.specs.Walks.{Entry, logged_by}
 use Rattle.nm_model.specs.Ordered.{Configuration, ordered, refused_in, disorder_in, next_in, outcome_in, after_in, trace_in, HasKey}
-use Rattle.nm_laws.proofs.Configurations.{refused_outcome}
 use Rattle.nm_laws.proofs.Reachable.{layout_kept}
 use Rattle.nm_laws.proofs.Steps.{allowed}
 use Rattle.nm_order.specs.Logs.{takes_part, part_of}
@@ -23,27 +21,17 @@ use Rattle.nm_order.proofs.RunExchanges.{first_keys}
 use Rattle.nm_order.proofs.WalksOfRuns.{trace_in-append}
 use Rattle.nm_calls.specs.Won.{won_flags}
 use Rattle.nm_told.specs.Unflagged.{NoneFlagged}
+use Rattle.nm_theorem.proofs.StaysOfRuns.{was_allowed}
 
 both_flags : (xs ys : List Entry) → won_flags (xs ++ ys) ≡ won_flags xs + won_flags ys
 both_flags xs ys = ap (λ (l : List Entry). length l) (filter-append is_won_flag xs ys) ∙ length-append (filter is_won_flag xs) (filter is_won_flag ys)
-
--- an event that is replied to is allowed, and its worker is one of the layout's
-is_allowed : (c : Configuration) (t : ℕ × Event) (r : Reply) → outcome_in c t ≡ Ok r → refused_in c t.0 t.1 ≡ None
-is_allowed c t r is = go (refused_in c t.0 t.1) refl
-  where
-    differ : (x : Refused) → ◌≡◌ {A = Result Reply Refused} (Err x) (Ok r) → ⊥
-    differ x e = cc
-
-    go : (o : Option Refused) → refused_in c t.0 t.1 ≡ o → refused_in c t.0 t.1 ≡ None
-    go None why = why
-    go (Some x) why = absurd (differ x (sym (refused_outcome c t x why) ∙ is))
 
 worker_below : (L : Layout) → 5 ≤ L.nodes → (ts : List (ℕ × Event)) → All (λ t. HasKey t.1) ts → (t : ℕ × Event) (r : Reply) → outcome_in (after_in (ordered L) ts) t ≡ Ok r → t.0 < L.workers
 unfolding refused_in
 worker_below L enough ts keys t r is =
     let o : IsOrdered L (after_in (ordered L) ts) = each_ordered L enough ts keys in
     let layout : (after_in (ordered L) ts).state.layout ≡ L = ap (λ (s : State). s.layout) o.leads ∙ layout_kept (start L) o.events in
-    subst (λ (l : Layout). t.0 < l.workers) layout (allowed (after_in (ordered L) ts).state t.0 t.1 (neither (refused (after_in (ordered L) ts).state t.0 t.1) (disorder_in (after_in (ordered L) ts) t.0 t.1) (is_allowed (after_in (ordered L) ts) t r is)).0).worker
+    subst (λ (l : Layout). t.0 < l.workers) layout (allowed (after_in (ordered L) ts).state t.0 t.1 (neither (refused (after_in (ordered L) ts).state t.0 t.1) (disorder_in (after_in (ordered L) ts) t.0 t.1) (was_allowed (after_in (ordered L) ts) t r is)).0).worker
 
 flag_adds : (c : Configuration) (w p : ℕ) (side : Rattle.nm_edge.specs.declared.edge.Side.Side) (leaf : ℕ) (n : Rattle.nm_edge.specs.declared.node.NodeId.NodeId) (rest : List (ℕ × Event)) → outcome_in c (w, Flag p side leaf) ≡ Ok (Flagged n)
     → part_of w (trace_in c ((w, Flag p side leaf) ∷ rest)) ≡ (Flag p side leaf, Flagged n) ∷ part_of w (trace_in (next_in c (w, Flag p side leaf)) rest)

@@ -1,6 +1,6 @@
 -- A look-up whose pin was confirmed behind a true delete is false, where no insert of the key has
 -- put it back.
-use Rattle.std.proofs.Common.{◌≡◌, inl, inr, ℕ, ◌<◌, ◌≤◌, Bool, true, false, not, List, [], ◌∷◌, ◌++◌, length, sym, ap, subst, ◌∙◌, arith}
+use Rattle.std.proofs.Common.{◌≡◌, ℕ, ◌<◌, ◌≤◌, Bool, true, false, not, List, [], ◌∷◌, ◌++◌, length, sym, ap, subst, ◌∙◌, arith}
 use Rattle.std.specs.Prelude.{All}
 use Rattle.nm_edge.specs.Layouts.{Layout}
 use Rattle.nm_model.specs.declared.event.Op.{Op}
@@ -10,35 +10,21 @@ use Rattle.nm_model.specs.declared.event.Event.TheVariants.{LeaveWith}
 use Rattle.nm_model.specs.Ordered.{ordered, after_in, HasKey}
 use Rattle.nm_order.specs.Answered.{IsAnsweredIn}
 use Rattle.nm_order.specs.Exchanges.{MayAnswer}
-use Rattle.nm_order.specs.History.{Act, IsAmong, Replays, ComesNext, InOrderOfMoments, pin_of, HasChanged, IsActOfRun, HasActOfCall, IsRunHistory, changed}
+use Rattle.nm_order.specs.History.{Act, IsAmong, Replays, InOrderOfMoments, pin_of, HasChanged, IsActOfRun, HasActOfCall, IsRunHistory, changed}
 use Rattle.nm_order.specs.History.IsActOfRun.{IsAnswered, IsPending}
 use Rattle.nm_order.specs.Intervals.{InSet, IsCalled}
 use Rattle.nm_order.specs.Legal.{changes}
 use Rattle.nm_order.specs.RealTime.{Precedes}
 use Rattle.nm_order.proofs.HistoryLaws.{each_run_has_a_history}
-use Rattle.nm_order.proofs.RealTime.{histories_keep_real_time}
+use Rattle.nm_order.proofs.RealTime.{histories_keep_real_time, all_later}
 use Rattle.nm_told.specs.Uninserted.{NoneInserted}
-use Rattle.nm_told.proofs.Replayed.{IsTrueInsert, between_among, passes, lacks, taken, missed}
+use Rattle.nm_told.proofs.Replayed.{IsTrueInsert, between_among, passes, lacks, taken, missed, ahead}
 
 -- ---- acts behind an act are no sooner
-
-none_sooner : (m : ℕ) (quiet : Bool) (x : Act) → ComesNext m quiet x → m ≤ x.moment
-none_sooner m quiet x (inl less) = omega (arith, less)
-none_sooner m quiet x (inr same) = let e = same.0 in omega (arith, e)
-
-all_later : (m : ℕ) (quiet : Bool) (acts : List Act) → InOrderOfMoments m quiet acts → (a : Act) → IsAmong acts a → m ≤ a.moment
-all_later m quiet [] o a there = absurd there
-all_later m quiet (x ∷ acts) o a (inl is) = subst (λ (y : Act). m ≤ y.moment) is (none_sooner m quiet x o.0)
-all_later m quiet (x ∷ acts) o a (inr there) = let first = none_sooner m quiet x o.0 in let rest = all_later x.moment (not (changes x.op x.answer)) acts o.1 a there in omega (arith, first, rest)
 
 behind_act : (m : ℕ) (quiet : Bool) (front : List Act) (a : Act) (more : List Act) → InOrderOfMoments m quiet (front ++ a ∷ more) → (x : Act) → IsAmong more x → a.moment ≤ x.moment
 behind_act m quiet [] a more o x there = all_later a.moment (not (changes a.op a.answer)) more o.1 x there
 behind_act m quiet (y ∷ front) a more o x there = behind_act y.moment (not (changes y.op y.answer)) front a more o.1 x there
-
-ahead : (xs ys : List Act) (x : Act) → IsAmong xs x → IsAmong (xs ++ ys) x
-ahead [] ys x there = absurd there
-ahead (y ∷ xs) ys x (inl is) = inl is
-ahead (y ∷ xs) ys x (inr there) = inr (ahead xs ys x there)
 
 -- ---- a look-up behind a delete
 

@@ -20,10 +20,11 @@ use Rattle.nm_steps.specs.declared.view.View.{View}
 use Rattle.nm_steps.specs.Rules.{held_log, holdings, passing, joined, stands, once_below, LogsAre}
 use Rattle.nm_steps.specs.Steps.{Board}
 use Rattle.nm_steps.proofs.Keeping.{once_is}
+use Rattle.nm_steps.proofs.Cutting.{times}
 use Rattle.nm_tree.specs.declared.closing.Report.{Report}
 use Rattle.nm_tree.specs.Workers.{Hand, HasNumber, log_held_of}
 use Rattle.nm_tree.specs.Closing.{IsClosed, all_joined}
-use Rattle.nm_tree.proofs.Heirs.{times, has_times}
+use Rattle.nm_tree.proofs.Heirs.{has_times}
 use Rattle.nm_tree.proofs.OfClosed.{each_closed_log, keys_are_the_totals}
 use Rattle.nm_set.specs.Seats.{AreOwn, IsOwn, Standing}
 use Rattle.nm_set.specs.Ends.{EndsSet}

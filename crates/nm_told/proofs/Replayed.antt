@@ -23,7 +23,7 @@ behind : (xs ys : List Act) (x : Act) → IsAmong ys x → IsAmong (xs ++ ys) x
 behind [] ys x there = there
 behind (y ∷ xs) ys x there = inr (behind xs ys x there)
 
-ahead : (xs ys : List Act) (x : Act) → IsAmong xs x → IsAmong (xs ++ ys) x
+pub ahead : (xs ys : List Act) (x : Act) → IsAmong xs x → IsAmong (xs ++ ys) x
 ahead [] ys x there = absurd there
 ahead (y ∷ xs) ys x (inl is) = inl is
 ahead (y ∷ xs) ys x (inr there) = inr (ahead xs ys x there)

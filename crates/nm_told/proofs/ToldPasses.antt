@@ -19,6 +19,7 @@ use Rattle.nm_told.specs.Unflagged.{NoneFlagged}
 use Rattle.nm_told.specs.Uninserted.{NoneInserted}
 use Rattle.nm_told.proofs.LaterLooks.{finds}
 use Rattle.nm_told.proofs.LaterMisses.{misses}
+use Rattle.nm_set.proofs.Tending.{no_shorter}
 
 -- what was answered in a run was answered in each that goes on from it
 answered_on : (L : Layout) (run earlier : List (ℕ × Event)) (w : ℕ) (op : Op) (k : ℕ) (answer : Bool) → Extends run earlier → IsAnsweredIn L earlier w op k answer → IsAnsweredIn L run w op k answer
@@ -29,9 +30,6 @@ answered_on L run earlier w op k answer e i = record {
   may = i.may;
   moment = i.moment;
 }
-
-longer : (run earlier : List (ℕ × Event)) → Extends run earlier → length earlier ≤ length run
-longer run earlier e = let l = ap (λ (l : List (ℕ × Event)). length l) e.is in let a = length-append earlier e.more in omega (arith, l, a)
 
 shorter : (L : Layout) (run : List (ℕ × Event)) (w : ℕ) (op : Op) (k : ℕ) (answer : Bool) (i : IsAnsweredIn L run w op k answer) → length i.before < length run
 shorter L run w op k answer i = let l = ap (λ (l : List (ℕ × Event)). length l) i.is_run in let a = length-append i.before ((w, LeaveWith answer) ∷ i.since) in omega (arith, l, a)
@@ -44,7 +42,7 @@ in_runs : (L : Layout) → 5 ≤ L.nodes → (k w u : ℕ) (first second last : 
     → IsAnsweredIn L first w Insert k true → (log : List Entry) (answer : Bool) → IsAnsweredSince L second last u log Has k answer → NoneFlagged L last k → answer ≡ true
 unfolding answered_on answered_in
 in_runs L enough k w u first second last e f keys i log answer h none =
-    let a = longer second first e in
+    let a = no_shorter second first e in
     let b = shorter L first w Insert k true i in
     let pin = h.pinned in
     finds L enough last keys k none w u answer (answered_on L last first w Insert k true (goes_on_through last second first f e) i) (answered_in L second last u log Has k answer h) (omega (arith, pin, a, b))
@@ -54,7 +52,7 @@ in_runs_without : (L : Layout) → 5 ≤ L.nodes → (k w u : ℕ) (start first 
 unfolding answered_on answered_in
 in_runs_without L enough k w u start first second last e f keys log s log' answer h none =
     let i = answered_in L start first w log Delete k true s in
-    let a = longer second first e in
+    let a = no_shorter second first e in
     let b = shorter L first w Delete k true i in
     let pin = h.pinned in
     misses L enough last keys k start none w u answer (answered_on L last first w Delete k true (goes_on_through last second first f e) i) s.pinned (answered_in L second last u log' Has k answer h) (omega (arith, pin, a, b))

@@ -17,6 +17,7 @@ use Rattle.nm_steps.specs.Rules.{Extends, IsShown, joined, knowledge, stands, on
 use Rattle.nm_steps.specs.Steps.{Board, Stand, IsOf, Ends, HasJoined, HasSeenAllOf}
 use Rattle.nm_steps.proofs.Growing.{goes_on_itself, goes_on_from_nothing, goes_on_through}
 use Rattle.nm_steps.proofs.Keeping.{live, once_is}
+use Rattle.nm_steps.proofs.Cutting.{times}
 use Rattle.nm_epoch.specs.declared.collecting.HeldQueue.{HeldQueue}
 use Rattle.nm_epoch.specs.Collecting.{AreHeld}
 use Rattle.nm_tree.specs.declared.worker.Account.{Account}
@@ -25,7 +26,7 @@ use Rattle.nm_tree.specs.Closing.{AreAllOf, AreFrom, GoesOnFromAll, IsClosed, Is
 use Rattle.nm_tree.proofs.EndLaws.{ascend_of}
 use Rattle.nm_tree.proofs.EndTheorem.{of_turns_at_end}
 use Rattle.nm_tree.proofs.Settling.{settles}
-use Rattle.nm_tree.proofs.Heirs.{logs, times, has_times}
+use Rattle.nm_tree.proofs.Heirs.{logs, has_times}
 use Rattle.nm_tree.proofs.Merging.{length-merged}
 
 -- ---- the workers one by one

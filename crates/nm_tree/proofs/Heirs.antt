@@ -1,12 +1,9 @@
 -- A worker that stands for another one too.
 use Rattle.std.proofs.Common.{◌≡◌, ◌≢◌, ℕ, ◌+◌, ◌≤◌, ◌⊎◌, ◌==◌, inl, inr, Bool, true, false, eqb, cond, List, [], ◌∷◌, ◌++◌, length, refl, sym, ap, ◌∙◌, subst, arith}
 use Rattle.std.specs.Prelude.{Option, Some, None, IsSome, is_some, unwrap_or, if◌then◌else◌}
-use Rattle.std.specs.List.{count_by}
 use Rattle.std.proofs.lemmas.Bool.{cond-false, ne_eqb, eq-eqb}
-use Rattle.std.proofs.lemmas.List.{length-set, length-replicate}
-use Rattle.std.proofs.lemmas.List.Sums.{sum_by-cons, sum_by-append}
+use Rattle.std.proofs.lemmas.List.Sums.{sum_by-append}
 use Rattle.nm_edge.specs.Layouts.{Layout}
-use Rattle.nm_model.specs.Answers.{IsRow}
 use Rattle.nm_model.specs.declared.ledger.Ledger.{Ledger}
 use Rattle.nm_model.specs.Knowledge.{Knowledge, newcomer}
 use Rattle.nm_model.specs.Learning.{learn, resigned, inheriting}
@@ -14,16 +11,18 @@ use Rattle.nm_model.specs.Ledgers.{held, fresh_ledger}
 use Rattle.nm_model.specs.Maps.{or_else}
 use Rattle.nm_model.specs.Walks.{Entry}
 use Rattle.nm_laws.proofs.Held.{held-taken_over}
-use Rattle.nm_laws.proofs.Shapes.{row_learn}
-use Rattle.nm_order.specs.Logs.{known_after}
+use Rattle.nm_laws.proofs.Shapes.{row_newcomer}
 use Rattle.nm_steps.specs.declared.view.Held.{Held}
 use Rattle.nm_steps.specs.declared.view.View.{View}
 use Rattle.nm_steps.specs.Rules.{held_log, knowledge, stands, passing, joined}
 use Rattle.nm_steps.specs.Ties.{StandsInRun}
 use Rattle.nm_steps.proofs.Keeping.{live, once_is}
 use Rattle.nm_steps.proofs.Presence.{known_push}
+use Rattle.nm_steps.proofs.Cutting.{times, times-cons}
 use Rattle.nm_epoch.specs.declared.collecting.HeldQueue.{HeldQueue}
 use Rattle.nm_epoch.specs.Collecting.{AreHeld}
+use Rattle.nm_epoch.proofs.Marks.{row_after}
+use Rattle.nm_epoch.proofs.SeveralQueues.{queue_stays}
 use Rattle.nm_calls.specs.Won.{capped, won_links, won_flags, won_splices}
 use Rattle.nm_calls.proofs.Adding.{adds_these}
 use Rattle.nm_tree.specs.declared.worker.Account.{Account}
@@ -31,28 +30,12 @@ use Rattle.nm_tree.specs.Workers.{IsAccount, AreAccounts, AreOf, HasNumber, HasO
 use Rattle.nm_tree.proofs.Freeing.{has_or_none}
 use Rattle.nm_tree.proofs.HeldLedgers.{ledger_held}
 use Rattle.nm_tree.proofs.Merging.{AreApart}
-use Rattle.nm_tree.proofs.QueueLists.{queue_stays}
 use Rattle.nm_tree.proofs.Quiet.{Quiet, quiet}
 
 -- ---- as many ledgers as workers, by any log
 
-row_newcomer : (L : Layout) (w : ℕ) → IsRow L.workers (newcomer L w)
-row_newcomer L w = record { scanned = length-replicate _ _; ledgers = length-set _ _ _ ∙ length-replicate _ _ }
-
-row_after : (n w : ℕ) (k : Knowledge) (log : List Entry) → IsRow n k → IsRow n (known_after w k log)
-row_after n w k [] is = is
-row_after n w k (e ∷ log) is = row_after n w (learn w k e.0 e.1) log (row_learn n w k e.0 e.1 is)
-
 pub ledgers_long : (v : View) → length (knowledge v).ledgers ≡ v.layout.workers
 ledgers_long v = (row_after v.layout.workers v.number (newcomer v.layout v.number) v.log (row_newcomer v.layout v.number)).ledgers
-
--- ---- the numbers of a view
-
-abbrev pub times : ℕ → List Held → ℕ
-times w hs = count_by (λ h. eqb w h.number) hs
-
-times-cons : (w : ℕ) (h : Held) (hs : List Held) → times w (h ∷ hs) ≡ cond (eqb w h.number) 1 0 + times w hs
-times-cons w h hs = sum_by-cons (λ (x : Held). cond (eqb w x.number) 1 0) h hs
 
 times-append : (w : ℕ) (hs gs : List Held) → times w (hs ++ gs) ≡ times w hs + times w gs
 times-append w hs gs = sum_by-append (λ (x : Held). cond (eqb w x.number) 1 0) hs gs

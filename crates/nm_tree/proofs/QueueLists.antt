@@ -1,12 +1,11 @@
 -- The queues that a worker holds, one of which is its own.
 use Rattle.std.proofs.Common.{◌≡◌, ◌≢◌, ℕ, zero, suc, ◌<◌, inl, inr, List, [], ◌∷◌, length, refl, sym, ap, ◌∙◌, subst, arith}
-use Rattle.std.specs.Prelude.{slice_index_or, slice_set, option_map}
-use Rattle.nm_model.specs.declared.ledger.Ledger.{Ledger}
+use Rattle.std.specs.Prelude.{slice_index_or, slice_set}
 use Rattle.nm_model.specs.Knowledge.{Knowledge}
 use Rattle.nm_model.specs.Ledgers.{held}
-use Rattle.nm_epoch.specs.declared.collecting.Entry.{Entry}
 use Rattle.nm_epoch.specs.declared.collecting.HeldQueue.{HeldQueue}
 use Rattle.nm_epoch.specs.Collecting.{IsQueueOf, AreHeld, NoneHas}
+use Rattle.nm_epoch.proofs.SeveralQueues.{queue_stays}
 use Rattle.nm_calls.specs.Bounds.{cut_bound}
 use Rattle.nm_calls.specs.Rooms.{TakesRoom}
 use Rattle.nm_calls.proofs.Rooms.{takes_none}
@@ -77,10 +76,6 @@ pub others_after : (i o : ℕ) (hs : List HeldQueue) (g : HeldQueue) → QueueSt
 others_after i o [] g s e = absurd s
 others_after zero o (h ∷ hs) g s e = (e ∙ sym s, inl s, others_stay o hs)
 others_after (suc i) o (h ∷ hs) g s e = (refl, inr refl, others_after i o hs g s e)
-
--- a queue of a ledger that stays is that of the ledger still
-pub queue_stays : (k l : Knowledge) (o : ℕ) (es : List Entry) → held l.ledgers o ≡ held k.ledgers o → IsQueueOf k o es → IsQueueOf l o es
-queue_stays k l o es same is = ap (option_map (λ (x : Ledger). x.queue)) same ∙ is
 
 -- queues none of which is of origin o are held still where the other ledgers stay
 pub held_but : (k l : Knowledge) (o : ℕ) (hs : List HeldQueue) → ((x : ℕ) → x ≢ o → held l.ledgers x ≡ held k.ledgers x) → NoneHas o hs → AreHeld k hs → AreHeld l hs

@@ -14,6 +14,7 @@ use Rattle.nm_steps.specs.Steps.{Stand, IsSamePass}
 use Rattle.nm_epoch.specs.declared.collecting.HeldQueue.{HeldQueue}
 use Rattle.nm_epoch.specs.Collecting.{AreHeld}
 use Rattle.nm_epoch.specs.Resting.{IsResting, IsSettled, Settles, IsPinnedAt, epochs}
+use Rattle.nm_epoch.proofs.SeveralQueues.{queue_stays}
 use Rattle.nm_calls.specs.Deletes.{IsRemoving}
 use Rattle.nm_calls.specs.Telling.{IsInRun}
 use Rattle.nm_calls.specs.Won.{capped, won_links, won_flags, won_splices}
@@ -23,7 +24,6 @@ use Rattle.nm_tree.specs.declared.worker.Standing.{Standing}
 use Rattle.nm_tree.specs.declared.worker.Standing.TheVariants as standing
 use Rattle.nm_tree.specs.declared.worker.Unfinished.{Unfinished}
 use Rattle.nm_tree.specs.Workers.{Hand, pending_in, held_in, IsAs, IsHolding, IsWorker, IsAccount, AreAccounts, QueueStandsAt, ledger_in}
-use Rattle.nm_tree.proofs.QueueLists.{queue_stays}
 use Rattle.nm_tree.proofs.Numbers.{numbers_stay, resigned_stay, room_stays}
 use Rattle.nm_tree.proofs.Quiet.{Quiet, each_as_before}
 

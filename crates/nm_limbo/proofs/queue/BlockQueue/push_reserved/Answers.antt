@@ -1,5 +1,5 @@
 use Rattle.std.proofs.Common.{◌≡◌, ◌∷◌, [], ◌++◌, ◌+◌, ◌-◌, ◌*◌, refl, sym, subst, arith}
-use Rattle.nm_limbo.specs.Queue.{block_queue, queue_of, IsQueue}
+use Rattle.nm_limbo.specs.Queue.{block_queue, block_queue_of, IsQueue}
 use Rattle.nm_limbo.proofs.Queues.{IsReady, ready, ready_full, full_requires, place_in, push_made, queue_balanced}
 use Rattle.nm_limbo.proofs.queue.BlockQueue.push_reserved.Given.{Over}
 use Rattle.nm_limbo.proofs.queue.BlockQueue.push_reserved.Goals as goal
@@ -13,7 +13,7 @@ take_block-requires g c =
 -- the fields once the item is written
 written : (g : Over) (c : goal.After-self-1 g)
     → IsQueue c.write.new.self c.if-filled-blocks.self-inside.empty c.if-filled-blocks.self-inside.popped (c.if-filled-blocks.self-inside.len + 1) c.if-filled-blocks.self-inside.alloc
-    × (queue_of c.write.new.self c.if-filled-blocks.self-inside.empty c.if-filled-blocks.self-inside.popped (c.if-filled-blocks.self-inside.len + 1) ≡ block_queue (c.args.self.now.items ++ c.args.item ∷ []) (c.args.self.now.spare - 1) c.args.self.now.blocks)
+    × (block_queue_of c.write.new.self c.if-filled-blocks.self-inside.empty c.if-filled-blocks.self-inside.popped (c.if-filled-blocks.self-inside.len + 1) ≡ block_queue (c.args.self.now.items ++ c.args.item ∷ []) (c.args.self.now.spare - 1) c.args.self.now.blocks)
 written g c =
     let q = c.self.inside in let now = c.args.self.now in let j = c.if-filled-blocks.self-inside in let blocks = c.blocks-2.ensures in
     let is : IsReady j.used j.empty j.popped j.len j.alloc now × (j.popped ≡ q.popped) × (j.len ≡ q.len) = elim c.if-filled-blocks.branch [
