@@ -56,9 +56,9 @@ struct ProvedSet {
     };
 };
 
-struct PlainSet : plain::Set {
+template <class Access> struct PlainSet : plain::Set {
     PlainSet(std::size_t keys, unsigned threads) : plain::Set(nodes_for(keys), threads) {}
-    using Worker = plain::Worker;
+    using Worker = Access;
 };
 
 struct LockedSet {
@@ -206,7 +206,8 @@ template <class Set> int serve_cds() {
 
 int named(const std::string &name) {
     if (name == "set") return serve<ProvedSet>();
-    if (name == "plain") return serve<PlainSet>();
+    if (name == "plain") return serve<PlainSet<plain::Worker>>();
+    if (name == "handles") return serve<PlainSet<plain::Handle>>();
     if (name == "locked") return serve<LockedSet>();
 #ifdef HAS_CDS
     if (name == "ellen") return serve_cds<EllenSet>();

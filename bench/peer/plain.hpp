@@ -242,6 +242,28 @@ private:
     std::deque<Waiting> waiting_;
 };
 
+// A worker behind a handle, as the set's are: of two calls that have it at the same time the second
+// is refused, so each call takes it by one atomic exchange, and gives it back.
+class Handle {
+public:
+    Handle(Set &set, unsigned number) : worker_(set, number) {}
+
+    bool contains(std::uint64_t key) { return take() && give(worker_.contains(key)); }
+    bool add(std::uint64_t key) { return take() && give(worker_.add(key)); }
+    bool remove(std::uint64_t key) { return take() && give(worker_.remove(key)); }
+
+private:
+    bool take() { return in_use_.exchange(1) == 0; }
+
+    bool give(bool answer) {
+        in_use_.store(0);
+        return answer;
+    }
+
+    Word in_use_{0};
+    Worker worker_;
+};
+
 }  // namespace plain
 
 #endif
