@@ -1,6 +1,6 @@
 #!/bin/sh
-# Runs each test of nm_limbo, and limbo_bench with 5,000 items, under valgrind. Fails where valgrind reports a wrong read or write, or a block that
-# was not given back.
+# Runs each test of nm_limbo, and limbo_bench with 5,000 items, under valgrind. Fails where valgrind
+# reports a wrong read or write, or a block that was not given back.
 set -eu
 cd "$(dirname "$0")/../crates"
 told=$(mktemp)
@@ -13,7 +13,8 @@ build() {
 
 # Runs a program under valgrind.
 watch() {
-    valgrind --quiet --error-exitcode=1 --leak-check=full --errors-for-leak-kinds=all "$@" >"$told" 2>&1 || { cat "$told"; echo "under valgrind: $*"; exit 1; }
+    valgrind --quiet --error-exitcode=1 --leak-check=full --errors-for-leak-kinds=all "$@" \
+        >"$told" 2>&1 || { cat "$told"; echo "under valgrind: $*"; exit 1; }
 }
 
 build nm_limbo test

@@ -297,7 +297,8 @@ def source(crate, path):
     functions, types = [], []
     for at, kind, name, _ in owners:
         inner = text[at : text.find("\n}", at)] if text.find("{", at) >= 0 else ""
-        begun = [(it.start(), it.end() - 1) for it in re.finditer(r"^ +ghost [^{;]*\{", inner, re.M)]
+        begins = re.finditer(r"^ +ghost [^{;]*\{", inner, re.M)
+        begun = [(it.start(), it.end() - 1) for it in begins]
         ghosts = "\n".join(inner[start : closing(inner, end) + 1] for start, end in begun)
         words = words_above(text, at) if kind != "impl" else ""
         types.append(Type(crate, path, name, words, ghosts))

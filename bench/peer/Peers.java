@@ -10,7 +10,8 @@ public final class Peers {
         return index * 0x9E3779B97F4A7C15L >>> 1;
     }
 
-    private static double rate(int keys, int lookups, int threads, int millis) throws InterruptedException {
+    private static double rate(int keys, int lookups, int threads, int millis)
+            throws InterruptedException {
         ConcurrentSkipListSet<Long> set = new ConcurrentSkipListSet<>();
         CountDownLatch ready = new CountDownLatch(threads), begins = new CountDownLatch(1);
         long[] calls = new long[threads * 16];
@@ -63,7 +64,8 @@ public final class Peers {
     public static void main(String[] words) throws InterruptedException {
         Scanner rows = new Scanner(System.in);
         while (rows.hasNextInt()) {
-            System.out.printf(java.util.Locale.ROOT, "%.4f%n", rate(rows.nextInt(), rows.nextInt(), rows.nextInt(), rows.nextInt()));
+            double found = rate(rows.nextInt(), rows.nextInt(), rows.nextInt(), rows.nextInt());
+            System.out.printf(java.util.Locale.ROOT, "%.4f%n", found);
             System.out.flush();
         }
     }

@@ -17,7 +17,13 @@ fn scattered(index: u64) -> u64 {
 }
 
 /// The calls that a thread makes until the end, behind its part of the keys.
-fn calls(set: &Mutex<BTreeSet<u64>>, row: &[u64], number: u64, ready: &Barrier, ends: &AtomicBool) -> u64 {
+fn calls(
+    set: &Mutex<BTreeSet<u64>>,
+    row: &[u64],
+    number: u64,
+    ready: &Barrier,
+    ends: &AtomicBool,
+) -> u64 {
     let (keys, lookups, threads) = (row[0], row[1], row[2]);
     let mut seed = 88_172_645_463_325_252 + number * 1_000_003;
     for _ in (number..keys).step_by(threads as usize) {
@@ -45,7 +51,9 @@ fn rate(row: &[u64]) -> f64 {
     let ready = Barrier::new(row[2] as usize + 1);
     std::thread::scope(|scope| {
         let (set, ends, ready) = (&set, &ends, &ready);
-        let threads: Vec<_> = (0..row[2]).map(|number| scope.spawn(move || calls(set, row, number, ready, ends))).collect();
+        let threads: Vec<_> = (0..row[2])
+            .map(|number| scope.spawn(move || calls(set, row, number, ready, ends)))
+            .collect();
         ready.wait();
         let begun = Instant::now();
         std::thread::sleep(Duration::from_millis(row[3]));
@@ -57,7 +65,11 @@ fn rate(row: &[u64]) -> f64 {
 
 fn main() {
     for line in std::io::stdin().lock().lines() {
-        let row: Vec<u64> = line.unwrap().split_whitespace().map(|word| word.parse().unwrap()).collect();
+        let row: Vec<u64> = line
+            .unwrap()
+            .split_whitespace()
+            .map(|word| word.parse().unwrap())
+            .collect();
         println!("{:.4}", rate(&row));
     }
 }

@@ -69,8 +69,8 @@ class InUse(Fault):
 
 
 class OutOfRange(Fault, ValueError):
-    """A key above 2^64 - 4 or below 0, a number of nodes that is not 7 to 268,435,456, one of workers
-    that is not 1 to 64, or the number of no worker."""
+    """A key above 2^64 - 4 or below 0, a number of nodes that is not 7 to 268,435,456, one of
+    workers that is not 1 to 64, or the number of no worker."""
 
 
 _TEXTS = {

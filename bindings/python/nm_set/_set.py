@@ -248,8 +248,8 @@ class Set:
         lowest: bool = False,
         tending: Tending = Tending(),
     ) -> None:
-        """The empty set with room for 7 to 268,435,456 nodes, for 1 to 64 workers; n keys take 2 n +
-        5 nodes, and the removed nodes that wait take theirs. With `lowest` new nodes take the
+        """The empty set with room for 7 to 268,435,456 nodes, for 1 to 64 workers; n keys take
+        2 n + 5 nodes, and the removed nodes that wait take theirs. With `lowest` new nodes take the
         lowest free slot, which takes long where there are many."""
         self._handle = _Handle()
         room, count = _narrow(nodes, c.NODES), _narrow(workers, c.WORKERS)
@@ -599,10 +599,10 @@ class Worker:
         return self._with(call)
 
     def post(self) -> Posted:
-        """Leaves a note of all that the worker has seen, in place of its earlier one, and tells what
-        it has won so far. No answer of the set depends on notes: they are for who proves something
-        of the order of two workers' calls. It raises `Contention` where a reader has the earlier
-        note at this moment."""
+        """Leaves a note of all that the worker has seen, in place of its earlier one, and tells
+        what it has won so far. No answer of the set depends on notes: they are for who proves
+        something of the order of two workers' calls. It raises `Contention` where a reader has the
+        earlier note at this moment."""
 
         def call(hand: _Hand) -> Posted:
             links, flags = c_uint64(), c_uint64()

@@ -99,17 +99,18 @@ class KeysInUse(unittest.TestCase):
 
 class Notes(unittest.TestCase):
     def test_a_worker_reads_the_note_of_another_one(self) -> None:
-        with Set(64, workers=2) as numbers, numbers.worker(0) as writer, numbers.worker(1) as reader:
-            self.assertIsNone(reader.read(0))
-            for number in (2, 2**32):
-                with self.assertRaises(nm_set.OutOfRange):
-                    reader.read(number)
-            writer.add(5)
-            self.assertEqual(writer.post(), nm_set.Posted(links=1, flags=0))
-            self.assertEqual(reader.read(0), nm_set.Posted(links=1, flags=0))
-            writer.discard(5)
-            self.assertEqual(reader.read(0), nm_set.Posted(links=1, flags=0))
-            self.assertEqual((writer.post(), reader.read(0)), (nm_set.Posted(1, 1),) * 2)
+        with Set(64, workers=2) as numbers:
+            with numbers.worker(0) as writer, numbers.worker(1) as reader:
+                self.assertIsNone(reader.read(0))
+                for number in (2, 2**32):
+                    with self.assertRaises(nm_set.OutOfRange):
+                        reader.read(number)
+                writer.add(5)
+                self.assertEqual(writer.post(), nm_set.Posted(links=1, flags=0))
+                self.assertEqual(reader.read(0), nm_set.Posted(links=1, flags=0))
+                writer.discard(5)
+                self.assertEqual(reader.read(0), nm_set.Posted(links=1, flags=0))
+                self.assertEqual((writer.post(), reader.read(0)), (nm_set.Posted(1, 1),) * 2)
 
 
 class Workers(unittest.TestCase):

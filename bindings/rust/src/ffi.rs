@@ -19,7 +19,8 @@ use std::cell::UnsafeCell;
 use std::ffi::c_int;
 use std::ptr::null_mut;
 
-/// `nm_handle`: a word that is null, or owns a set, a worker or a report, and whether a call has it.
+/// `nm_handle`: a word that is null, or owns a set, a worker or a report, and whether a call has
+/// it.
 #[repr(C)]
 struct Word {
     at: *mut u8,

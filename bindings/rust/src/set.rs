@@ -30,8 +30,8 @@ pub enum Placement {
 /// ```
 #[derive(Clone, Debug, PartialEq, Eq)]
 pub struct Options {
-    /// The room in nodes, 7 to 268,435,456. n keys take 2 n + 5, and the removed nodes that wait take
-    /// theirs: give it several times that.
+    /// The room in nodes, 7 to 268,435,456. n keys take 2 n + 5, and the removed nodes that wait
+    /// take theirs: give it several times that.
     pub nodes: u32,
     /// The workers, 1 to 64: so many threads can make calls at one time.
     pub workers: u32,

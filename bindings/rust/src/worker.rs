@@ -205,9 +205,9 @@ impl Worker {
         ledger
     }
 
-    /// Leaves a note of all that the worker has seen, in place of its earlier one, and tells what it
-    /// has won so far. No answer of the set depends on notes: they are for who proves something of
-    /// the order of two workers' calls. `Busy`: a reader has the earlier note at this moment.
+    /// Leaves a note of all that the worker has seen, in place of its earlier one, and tells what
+    /// it has won so far. No answer of the set depends on notes: they are for who proves something
+    /// of the order of two workers' calls. `Busy`: a reader has the earlier note at this moment.
     pub fn post(&mut self) -> Result<Posted, Fault> {
         let Posted {
             mut links,
