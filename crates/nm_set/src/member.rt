@@ -87,6 +87,7 @@ impl Member {
     /// Whether the set has the key: `Tree::has` of `nm_tree`.
     ///
     /// `Held`: the caller holds the worker. Other faults are the tree's.
+    #[inline(always)]
     pub fn has(&mut self, key: Key, tries: u32) -> Result<bool, Fault>
         ensures board { self.new.board ≡ self.old.board }
         ensures did { Asked (LeavesHas self.old.board.layout.nodes tries key) self.old.hand

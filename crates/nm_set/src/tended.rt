@@ -226,6 +226,7 @@ impl Member {
     }
 
     /// What is left to do of a delete, until it is done.
+    #[inline(always)]
     fn finish_again(&mut self, habit: &Habit) -> Result<bool, CallFault>
         ensures board { self.new.board ≡ self.old.board }
         ensures did { FinishesPending self.old.board habit.now self.old.hand self.new.hand result }

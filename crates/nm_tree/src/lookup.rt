@@ -22,6 +22,7 @@ impl Tree {
     /// or each of `tries` walks had looked at as many nodes as there are, and none had ended.
     /// `Pending`: a key is pending. The worker is not held. (The search of Natarajan and Mittal,
     /// section 3.2.)
+    #[inline]
     pub fn has(&self, worker: &mut Worker, key: Key, tries: u32) -> Result<bool, Fault>
         requires own { IsOf self.now worker.old.pass }
         requires free { worker.old.held ≡ None }
