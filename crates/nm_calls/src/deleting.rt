@@ -7,7 +7,7 @@ ghost use Rattle.nm_steps.specs.Rules.{knowledge};
 ghost use Rattle.nm_steps.specs.Steps.{Stand, IsOf, IsSamePass, HasSeenAllOf};
 ghost use Rattle.nm_epoch.specs.Collecting.{IsQueueOf};
 ghost use Rattle.nm_epoch.specs.Resting.{IsResting, epochs, search};
-ghost use Rattle.nm_calls.specs.Bounds.{chain_bound, cut_bound};
+ghost use Rattle.nm_calls.specs.Bounds.{chain_bound, cut_bound, IsWithinBound};
 ghost use Rattle.nm_calls.specs.Rooms.{FillsUp, TakesRoom};
 ghost use Rattle.nm_calls.specs.Telling.{Tells, GoesOn, IsInRun, IsPinnedSomewhere};
 ghost use Rattle.nm_calls.specs.Walks.{IsAt};
@@ -438,9 +438,8 @@ pub fn delete(
         pass.new.view.log) queue.new.spare) }
     ensures moment { IfOk result (AnswerHasMoment pass.old pass.new Delete key) }
     ensures won { HasWon pass.old.view.log pass.new.view.log 0 (flags_of_delete result) }
-    ensures steps { length pass.new.view.log
-        ≤ length pass.old.view.log + tries * (4 * shared.now.layout.nodes + 8 * chain_bound)
-        + 6 * shared.now.layout.nodes + 10 }
+    ensures steps { IsWithinBound shared.now.layout.nodes tries pass.old.view.log
+        pass.new.view.log }
     ensures run { (pass.new ≡ pass.old) ⊎ IsInRun pass.new }
     ensures after { AfterDelete key pass.new result }
     ensures private { (knowledge pass.new.view).drafts ≡ (knowledge pass.old.view).drafts }
@@ -493,9 +492,8 @@ pub fn finish(
     ensures moment { result ≡ true → (o : Stand) → HadNoCall o pass.old
         → AnswerHasMoment o pass.new Delete key true }
     ensures won { HasWon pass.old.view.log pass.new.view.log 0 0 }
-    ensures steps { length pass.new.view.log
-        ≤ length pass.old.view.log + tries * (4 * shared.now.layout.nodes + 8 * chain_bound)
-        + 6 * shared.now.layout.nodes + 10 }
+    ensures steps { IsWithinBound shared.now.layout.nodes tries pass.old.view.log
+        pass.new.view.log }
     ensures run { IsInRun pass.new }
     ensures rests { result ≡ true → IsResting pass.new }
     ensures removing { result ≡ false → IsRemoving pass.new key leaf }

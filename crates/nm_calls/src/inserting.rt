@@ -6,7 +6,7 @@ ghost use Rattle.nm_steps.specs.Rules.{knowledge};
 ghost use Rattle.nm_steps.specs.Steps.{Stand, IsOf, IsSamePass, HasSeenAllOf};
 ghost use Rattle.nm_epoch.specs.Collecting.{IsQueueOf};
 ghost use Rattle.nm_epoch.specs.Resting.{IsResting, epochs, search};
-ghost use Rattle.nm_calls.specs.Bounds.{chain_bound, cut_bound};
+ghost use Rattle.nm_calls.specs.Bounds.{chain_bound, cut_bound, IsWithinBound};
 ghost use Rattle.nm_calls.specs.Rooms.{FillsUp, TakesRoom};
 ghost use Rattle.nm_calls.specs.Telling.{Tells, GoesOn, IsInRun, IsPinnedSomewhere};
 ghost use Rattle.nm_calls.specs.Walks.{IsAt};
@@ -292,9 +292,8 @@ pub fn insert(
     ensures refused { IsErrOf result Fault.NoMemory → queue.new.spare < cut_bound }
     ensures moment { IfOk result (AnswerHasMoment pass.old pass.new Insert key) }
     ensures won { HasWon pass.old.view.log pass.new.view.log (links_of_insert result) 0 }
-    ensures steps { length pass.new.view.log
-        ≤ length pass.old.view.log + tries * (4 * shared.now.layout.nodes + 8 * chain_bound)
-        + 6 * shared.now.layout.nodes + 10 }
+    ensures steps { IsWithinBound shared.now.layout.nodes tries pass.old.view.log
+        pass.new.view.log }
     ensures run { (pass.new ≡ pass.old) ⊎ IsInRun pass.new }
     ensures rests { IsResting pass.new }
     ensures private { HasFork pass.old pass.new None }

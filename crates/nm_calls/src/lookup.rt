@@ -1,9 +1,9 @@
 //! A look-up.
-ghost use Rattle.std.specs.Prelude.{◌≡◌, ◌≤◌, ◌+◌, ◌*◌, length, IfOk, IfErr};
+ghost use Rattle.std.specs.Prelude.{◌≡◌, IfOk, IfErr};
 ghost use Rattle.nm_model.specs.declared.event.Op.TheVariants.{Has};
 ghost use Rattle.nm_steps.specs.Steps.{IsOf, IsSamePass, HasSeenAllOf};
 ghost use Rattle.nm_epoch.specs.Resting.{IsResting, KeepsHands};
-ghost use Rattle.nm_calls.specs.Bounds.{chain_bound};
+ghost use Rattle.nm_calls.specs.Bounds.{IsWithinBound};
 ghost use Rattle.nm_calls.specs.Calls.{HasDid, HasMissed};
 ghost use Rattle.nm_calls.specs.Moments.{AnswerHasMoment};
 ghost use Rattle.nm_calls.specs.Won.{HasWon, won_splices};
@@ -39,9 +39,8 @@ pub fn has(shared: &Shared, pass: &mut Pass, key: Key, tries: u32) -> Result<boo
         (λ e. HasMissed shared.now.layout.nodes tries key pass.old.view.log pass.new.view.log) }
     ensures won { HasWon pass.old.view.log pass.new.view.log 0 0 }
     ensures uncut { won_splices pass.new.view.log ≡ won_splices pass.old.view.log }
-    ensures steps { length pass.new.view.log
-        ≤ length pass.old.view.log + tries * (4 * shared.now.layout.nodes + 8 * chain_bound)
-        + 6 * shared.now.layout.nodes + 10 }
+    ensures steps { IsWithinBound shared.now.layout.nodes tries pass.old.view.log
+        pass.new.view.log }
     ensures rests { IsResting pass.new }
     ensures hands { KeepsHands pass.old pass.new }
 {

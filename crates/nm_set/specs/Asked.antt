@@ -14,7 +14,7 @@ use Rattle.nm_epoch.specs.Collecting.{IsCollection, HaveLost, blocks_of, ripe_of
 use Rattle.nm_epoch.specs.Resting.{epochs}
 use Rattle.nm_epoch.specs.Scans.{IsAdvance}
 use Rattle.nm_epoch.specs.Watches.{IsBehind}
-use Rattle.nm_calls.specs.Bounds.{chain_bound}
+use Rattle.nm_calls.specs.Bounds.{IsWithinBound}
 use Rattle.nm_calls.specs.Moments.{AnswerHasMoment}
 use Rattle.nm_calls.specs.Won.{HasWon}
 use Rattle.nm_tree.specs.declared.fault.Fault.{Fault as Lost}
@@ -32,8 +32,7 @@ use Rattle.nm_set.specs.declared.fault.NotHeld.{NotHeld}
 
 -- how much longer the log of a call may be
 abbrev pub HasBound : ℕ → ℕ → Hand → Hand → Type 0
-HasBound nodes tries w z = length z.pass.view.log
-    ≤ length w.pass.view.log + tries * (4 * nodes + 8 * chain_bound) + 6 * nodes + 10
+HasBound nodes tries w z = IsWithinBound nodes tries w.pass.view.log z.pass.view.log
 
 -- `LeavesHas`, `LeavesInsert`, `LeavesDelete`, `LeavesFinish`, `LeavesPin`, `LeavesUnpin`,
 -- `LeavesAdvance`, `LeavesBehind`, `LeavesCollect`: what a call of the tree leaves of its worker:

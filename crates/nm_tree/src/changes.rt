@@ -1,8 +1,8 @@
 //! Inserts, deletes, and what is left to do of a delete.
-ghost use Rattle.std.specs.Prelude.{◌≡◌, ◌⊎◌, ◌+◌, ◌*◌, ◌<◌, ◌≤◌, ℕ, true, false, length, None, IfOk, IfErr, IsErrOf};
+ghost use Rattle.std.specs.Prelude.{◌≡◌, ◌⊎◌, ◌<◌, ℕ, true, false, None, IfOk, IfErr, IsErrOf};
 ghost use Rattle.nm_model.specs.declared.event.Op.TheVariants.{Insert, Delete};
 ghost use Rattle.nm_steps.specs.Steps.{Stand, IsOf, IsSamePass, HasSeenAllOf};
-ghost use Rattle.nm_calls.specs.Bounds.{chain_bound, cut_bound};
+ghost use Rattle.nm_calls.specs.Bounds.{cut_bound, IsWithinBound};
 ghost use Rattle.nm_calls.specs.Rooms.{TakesRoom};
 ghost use Rattle.nm_tree.specs.Answers.{HasInserted, HasDeleted, HasFinished, FinishHasMoment, InsertLacks, DeleteLacks, FinishLacks, links_won, flags_won};
 ghost use Rattle.nm_model.specs.Maps.{get};
@@ -43,9 +43,8 @@ fn insert_with(
         pass.new.view.log result }
     ensures refused { IsErrOf result Lost.NoMemory → own.new.queue.spare < cut_bound }
     ensures moment { IfOk result (AnswerHasMoment pass.old pass.new Insert key) }
-    ensures steps { length pass.new.view.log
-        ≤ length pass.old.view.log + tries * (4 * shared.now.layout.nodes + 8 * chain_bound)
-        + 6 * shared.now.layout.nodes + 10 }
+    ensures steps { IsWithinBound shared.now.layout.nodes tries pass.old.view.log
+        pass.new.view.log }
     ensures won { HasWon pass.old.view.log pass.new.view.log (links_of_insert result) 0 }
     ensures rests { IsResting pass.new }
     ensures private { (slot : ℕ)
@@ -91,9 +90,8 @@ fn delete_with(
         (LacksRoomOr (LosesAfterFlag shared.now.layout.nodes tries key pass.old.view.log
         pass.new.view.log) own.new.queue.spare) }
     ensures moment { IfOk result (AnswerHasMoment pass.old pass.new Delete key) }
-    ensures steps { length pass.new.view.log
-        ≤ length pass.old.view.log + tries * (4 * shared.now.layout.nodes + 8 * chain_bound)
-        + 6 * shared.now.layout.nodes + 10 }
+    ensures steps { IsWithinBound shared.now.layout.nodes tries pass.old.view.log
+        pass.new.view.log }
     ensures won { HasWon pass.old.view.log pass.new.view.log 0 (flags_of_delete result) }
     ensures after { AfterDelete key pass.new result }
     ensures private { (knowledge pass.new.view).drafts ≡ (knowledge pass.old.view).drafts }
@@ -158,9 +156,8 @@ fn finish_with(
         pass.old.view.log pass.new.view.log }
     ensures moment { result ≡ true → (o : Stand) → HadNoCall o pass.old
         → AnswerHasMoment o pass.new Delete pending.now.key true }
-    ensures steps { length pass.new.view.log
-        ≤ length pass.old.view.log + tries * (4 * shared.now.layout.nodes + 8 * chain_bound)
-        + 6 * shared.now.layout.nodes + 10 }
+    ensures steps { IsWithinBound shared.now.layout.nodes tries pass.old.view.log
+        pass.new.view.log }
     ensures won { HasWon pass.old.view.log pass.new.view.log 0 0 }
     ensures rests { result ≡ true → IsResting pass.new }
     ensures removing { result ≡ false → IsRemoving pass.new pending.now.key pending.now.leaf }
@@ -201,10 +198,8 @@ impl Tree {
         ensures moment { IfOk result (AnswerHasMoment worker.old.pass worker.new.pass Insert key) }
         ensures won { HasWon worker.old.pass.view.log worker.new.pass.view.log (links_won result)
             0 }
-        ensures steps { length worker.new.pass.view.log
-            ≤ length worker.old.pass.view.log
-            + tries * (4 * self.now.layout.nodes + 8 * chain_bound) + 6 * self.now.layout.nodes
-            + 10 }
+        ensures steps { IsWithinBound self.now.layout.nodes tries worker.old.pass.view.log
+            worker.new.pass.view.log }
         ensures queues { KeepsOtherQueues worker.old.pass.view.number worker.old.queues
             worker.new.queues }
         ensures blocks { TakeRoom worker.old.queues worker.new.queues }
@@ -255,10 +250,8 @@ impl Tree {
         ensures moment { IfOk result (AnswerHasMoment worker.old.pass worker.new.pass Delete key) }
         ensures won { HasWon worker.old.pass.view.log worker.new.pass.view.log 0
             (flags_won result) }
-        ensures steps { length worker.new.pass.view.log
-            ≤ length worker.old.pass.view.log
-            + tries * (4 * self.now.layout.nodes + 8 * chain_bound) + 6 * self.now.layout.nodes
-            + 10 }
+        ensures steps { IsWithinBound self.now.layout.nodes tries worker.old.pass.view.log
+            worker.new.pass.view.log }
         ensures queues { KeepsOtherQueues worker.old.pass.view.number worker.old.queues
             worker.new.queues }
         ensures blocks { TakeRoom worker.old.queues worker.new.queues }
@@ -306,10 +299,8 @@ impl Tree {
             (FinishLacks self.now.layout.nodes tries worker.old worker.new) }
         ensures moment { FinishHasMoment worker.old worker.new result }
         ensures won { HasWon worker.old.pass.view.log worker.new.pass.view.log 0 0 }
-        ensures steps { length worker.new.pass.view.log
-            ≤ length worker.old.pass.view.log
-            + tries * (4 * self.now.layout.nodes + 8 * chain_bound) + 6 * self.now.layout.nodes
-            + 10 }
+        ensures steps { IsWithinBound self.now.layout.nodes tries worker.old.pass.view.log
+            worker.new.pass.view.log }
         ensures queues { KeepsOtherQueues worker.old.pass.view.number worker.old.queues
             worker.new.queues }
         ensures blocks { TakeRoom worker.old.queues worker.new.queues }

@@ -1,7 +1,7 @@
 //! Look-ups.
-ghost use Rattle.std.specs.Prelude.{◌≡◌, ◌+◌, ◌*◌, ◌≤◌, length, None, IfOk};
+ghost use Rattle.std.specs.Prelude.{◌≡◌, None, IfOk};
 ghost use Rattle.nm_model.specs.declared.event.Op.TheVariants.{Has};
-ghost use Rattle.nm_calls.specs.Bounds.{chain_bound};
+ghost use Rattle.nm_calls.specs.Bounds.{IsWithinBound};
 ghost use Rattle.nm_calls.specs.Moments.{AnswerHasMoment};
 ghost use Rattle.nm_calls.specs.Won.{HasWon};
 ghost use Rattle.nm_steps.specs.Steps.{IsOf, IsSamePass, HasSeenAllOf};
@@ -31,10 +31,8 @@ impl Tree {
         ensures did { HasAnswered self.now.layout.nodes tries key worker.old worker.new result }
         ensures moment { IfOk result (AnswerHasMoment worker.old.pass worker.new.pass Has key) }
         ensures won { HasWon worker.old.pass.view.log worker.new.pass.view.log 0 0 }
-        ensures steps { length worker.new.pass.view.log
-            ≤ length worker.old.pass.view.log
-            + tries * (4 * self.now.layout.nodes + 8 * chain_bound) + 6 * self.now.layout.nodes
-            + 10 }
+        ensures steps { IsWithinBound self.now.layout.nodes tries worker.old.pass.view.log
+            worker.new.pass.view.log }
         ensures queues { worker.new.queues ≡ worker.old.queues }
         ensures held { worker.new.held ≡ None }
         ensures fit { worker.new.fit ≡ worker.old.fit }
