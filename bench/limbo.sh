@@ -3,7 +3,7 @@
 # VecDeque that hold 900 items throughout, three times over, and prints the times. Fails where the
 # queue took more than twice the deque's time.
 set -e
-cd "$(dirname "$0")/../crates/limbo_bench"
-rt run -- "${1:-10000000}" 2>&1 | awk '
+cd "$(dirname "$0")"
+./program limbo_bench "${1:-10000000}" 2>&1 | awk '
     / percent$/ { print; percent = $(NF - 1); if (least == "" || percent < least) least = percent }
     END { if (least == "") { print "no time was printed"; exit 1 } exit least > 200 }'
