@@ -22,10 +22,9 @@ enum {
 
 typedef struct part {
     nm_handle worker;
-    int tends;           /* whether its calls tend the set */
+    int tends; /* whether its calls tend the set */
     uint64_t seed;
-    int balance[KEYS]; /* of each key, how often this thread inserted it, less how often it deleted
-                          it */
+    int balance[KEYS]; /* of each key, how many of its inserts answered yes, less such deletes */
     uint64_t inserted, deleted, found;
 } part;
 
