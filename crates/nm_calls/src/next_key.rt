@@ -7,7 +7,7 @@ ghost use Rattle.nm_steps.specs.Steps.{IsOf, IsSamePass, HasSeenAllOf};
 ghost use Rattle.nm_epoch.specs.Resting.{IsResting, KeepsHands};
 ghost use Rattle.nm_calls.specs.NextKeys.{IsDescent, IsNextBy, WasNext, read_below};
 ghost use Rattle.nm_calls.specs.PlainWalks.{AddsLooks, HasEndedSo, LooksUnderPin, LooksOrMoves, most_looks};
-ghost use Rattle.nm_calls.specs.Telling.{Tells, GoesOn, OnlyLooks, IsInRun, IsPinnedSomewhere};
+ghost use Rattle.nm_calls.specs.Telling.{Tells, GoesOn, OnlyLooks, IsPinnedIn};
 ghost use Rattle.nm_calls.specs.Won.{HasWon, won_splices};
 
 use crate::looking::{Onward, look_edge, read_node};
@@ -76,13 +76,9 @@ pub fn next(shared: &Shared, pass: &mut Pass, key: Key, tries: u32) -> Result<Op
 /// The next key from `key` on, by walks each of which begins where the keys of the last one ended,
 /// `tries` of them at most.
 fn walk_up(shared: &Shared, pass: &mut Pass, key: u64, tries: u32) -> Result<Option<Key>, Busy>
-    requires own { IsOf shared.now pass.old }
-    requires run { IsInRun pass.old }
-    requires pinned { IsPinnedSomewhere pass.old }
+    requires pinned { IsPinnedIn shared.now pass.old }
     requires known { Tells pass.old (KnowsSlot 2) }
     requires key { IsKey key }
-    ensures same { IsSamePass pass.old pass.new }
-    ensures past { HasSeenAllOf pass.new pass.old }
     ensures looks { AddsLooks (tries * most_looks shared.now.layout.nodes 1) pass.old.view.log
         pass.new.view.log }
     ensures next { IfOk result (IsNextBy (HasEndedSo pass.new) key) }
@@ -109,13 +105,9 @@ fn walk_up(shared: &Shared, pass: &mut Pass, key: u64, tries: u32) -> Result<Opt
 /// The walk for a key and those above it that go the same way, to its end, or until it has read as
 /// many nodes as there are.
 fn walk_down(shared: &Shared, pass: &mut Pass, from: u64) -> Descent
-    requires own { IsOf shared.now pass.old }
-    requires run { IsInRun pass.old }
-    requires pinned { IsPinnedSomewhere pass.old }
+    requires pinned { IsPinnedIn shared.now pass.old }
     requires known { Tells pass.old (KnowsSlot 2) }
     requires key { IsKey from }
-    ensures same { IsSamePass pass.old pass.new }
-    ensures past { HasSeenAllOf pass.new pass.old }
     ensures looks { AddsLooks (most_looks shared.now.layout.nodes 1) pass.old.view.log
         pass.new.view.log }
     ensures under_way { IsDescent pass.new result }

@@ -2,6 +2,7 @@ pub mod Workers
 pub mod Answers
 pub mod Looked
 pub mod InTurns
+pub mod Calls
 pub mod Resigning
 pub mod Settled
 pub mod Closing

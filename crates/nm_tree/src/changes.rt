@@ -4,7 +4,6 @@ ghost use Rattle.nm_model.specs.declared.event.Op.TheVariants.{Insert, Delete};
 ghost use Rattle.nm_steps.specs.Steps.{Stand, IsOf, IsSamePass, HasSeenAllOf};
 ghost use Rattle.nm_calls.specs.Bounds.{cut_bound, IsWithinBound};
 ghost use Rattle.nm_calls.specs.Rooms.{TakesRoom};
-ghost use Rattle.nm_tree.specs.Answers.{HasInserted, HasDeleted, HasFinished, FinishHasMoment, InsertLacks, DeleteLacks, FinishLacks, links_won, flags_won};
 ghost use Rattle.nm_model.specs.Maps.{get};
 ghost use Rattle.nm_steps.specs.Rules.{knowledge};
 ghost use Rattle.nm_epoch.specs.Resting.{IsResting};
@@ -12,12 +11,13 @@ ghost use Rattle.nm_calls.specs.Deletes.{IsRemoving, DeleteDid, AfterDelete, Fin
 ghost use Rattle.nm_calls.specs.Inserts.{InsertDid};
 ghost use Rattle.nm_calls.specs.Moments.{AnswerHasMoment, HadNoCall};
 ghost use Rattle.nm_calls.specs.Won.{HasWon, links_of_insert, flags_of_delete};
-ghost use Rattle.nm_tree.specs.Workers.{IsBetweenCalls, KeepsOtherQueues, TakeRoom, IsKept, OnlyOwnLedger};
+ghost use Rattle.nm_tree.specs.Workers.{IsKept, OnlyOwnLedger};
+ghost use Rattle.nm_tree.specs.Calls.{LeavesInsert, LeavesDelete, LeavesFinish};
 
 use crate::fault::Fault;
 use crate::tree::Tree;
 use crate::worker::{Account, Standing, Unfinished, Worker};
-use nm_calls::{Chain, Fault as Lost, Missed, delete, finish, insert};
+use nm_calls::{Fault as Lost, Missed, Workspace, delete, finish, insert};
 use nm_edge::Key;
 use nm_epoch::HeldQueue;
 use nm_pool::Placement;
@@ -30,7 +30,7 @@ fn insert_with(
     placement: &mut Placement,
     key: Key,
     tries: u32,
-    chain: &mut Chain,
+    workspace: &mut Workspace,
     own: &mut HeldQueue,
     account: &mut Account,
 ) -> Result<bool, Lost>
@@ -60,7 +60,7 @@ fn insert_with(
         placement,
         key,
         tries,
-        chain,
+        workspace,
         &mut own.queue,
         &mut account.splices,
     );
@@ -75,7 +75,7 @@ fn delete_with(
     pass: &mut Pass,
     key: Key,
     tries: u32,
-    chain: &mut Chain,
+    workspace: &mut Workspace,
     own: &mut HeldQueue,
     account: &mut Account,
 ) -> Result<bool, Missed>
@@ -104,7 +104,7 @@ fn delete_with(
         pass,
         key,
         tries,
-        chain,
+        workspace,
         &mut own.queue,
         &mut account.splices,
     );
@@ -139,7 +139,7 @@ fn finish_with(
     pass: &mut Pass,
     pending: &Unfinished,
     tries: u32,
-    chain: &mut Chain,
+    workspace: &mut Workspace,
     own: &mut HeldQueue,
     account: &mut Account,
 ) -> bool
@@ -172,7 +172,7 @@ fn finish_with(
         pending.key,
         pending.leaf,
         tries,
-        chain,
+        workspace,
         &mut own.queue,
         &mut account.splices,
     );
@@ -191,21 +191,7 @@ impl Tree {
     pub fn insert(&self, worker: &mut Worker, key: Key, tries: u32) -> Result<bool, Fault>
         requires own { IsOf self.now worker.old.pass }
         requires free { worker.old.held ≡ None }
-        ensures same { IsSamePass worker.old.pass worker.new.pass }
-        ensures past { HasSeenAllOf worker.new.pass worker.old.pass }
-        ensures did { HasInserted self.now.layout.nodes tries key worker.old worker.new result }
-        ensures lacks { IfErr result (InsertLacks worker.new) }
-        ensures moment { IfOk result (AnswerHasMoment worker.old.pass worker.new.pass Insert key) }
-        ensures won { HasWon worker.old.pass.view.log worker.new.pass.view.log (links_won result)
-            0 }
-        ensures steps { IsWithinBound self.now.layout.nodes tries worker.old.pass.view.log
-            worker.new.pass.view.log }
-        ensures queues { KeepsOtherQueues worker.old.pass.view.number worker.old.queues
-            worker.new.queues }
-        ensures blocks { TakeRoom worker.old.queues worker.new.queues }
-        ensures held { worker.new.held ≡ None }
-        ensures fit { worker.new.fit ≡ worker.old.fit }
-        ensures between { IsBetweenCalls worker.new }
+        ensures { LeavesInsert self.now.layout.nodes tries key worker.old worker.new result }
     {
         if let Standing::Pending(_) = worker.standing {
             return Err(Fault::Pending);
@@ -218,7 +204,7 @@ impl Tree {
             &mut worker.placement,
             key,
             tries,
-            &mut worker.chain,
+            &mut worker.workspace,
             own,
             account,
         ) {
@@ -242,22 +228,7 @@ impl Tree {
     pub fn delete(&self, worker: &mut Worker, key: Key, tries: u32) -> Result<bool, Fault>
         requires own { IsOf self.now worker.old.pass }
         requires free { worker.old.held ≡ None }
-        ensures same { IsSamePass worker.old.pass worker.new.pass }
-        ensures past { HasSeenAllOf worker.new.pass worker.old.pass }
-        ensures did { HasDeleted self.now.layout.nodes tries key worker.old worker.new result }
-        ensures lacks { IfErr result
-            (DeleteLacks self.now.layout.nodes tries key worker.old worker.new) }
-        ensures moment { IfOk result (AnswerHasMoment worker.old.pass worker.new.pass Delete key) }
-        ensures won { HasWon worker.old.pass.view.log worker.new.pass.view.log 0
-            (flags_won result) }
-        ensures steps { IsWithinBound self.now.layout.nodes tries worker.old.pass.view.log
-            worker.new.pass.view.log }
-        ensures queues { KeepsOtherQueues worker.old.pass.view.number worker.old.queues
-            worker.new.queues }
-        ensures blocks { TakeRoom worker.old.queues worker.new.queues }
-        ensures held { worker.new.held ≡ None }
-        ensures fit { worker.new.fit ≡ worker.old.fit }
-        ensures between { IsBetweenCalls worker.new }
+        ensures { LeavesDelete self.now.layout.nodes tries key worker.old worker.new result }
     {
         if let Standing::Pending(_) = worker.standing {
             return Err(Fault::Pending);
@@ -269,7 +240,7 @@ impl Tree {
             &mut worker.pass,
             key,
             tries,
-            &mut worker.chain,
+            &mut worker.workspace,
             own,
             account,
         ) {
@@ -292,21 +263,7 @@ impl Tree {
     /// Mittal's delete, section 3.2.)
     pub fn finish(&self, worker: &mut Worker, tries: u32) -> Result<bool, Fault>
         requires own { IsOf self.now worker.old.pass }
-        ensures same { IsSamePass worker.old.pass worker.new.pass }
-        ensures past { HasSeenAllOf worker.new.pass worker.old.pass }
-        ensures did { HasFinished self.now.layout.nodes tries worker.old worker.new result }
-        ensures lacks { IfErr result
-            (FinishLacks self.now.layout.nodes tries worker.old worker.new) }
-        ensures moment { FinishHasMoment worker.old worker.new result }
-        ensures won { HasWon worker.old.pass.view.log worker.new.pass.view.log 0 0 }
-        ensures steps { IsWithinBound self.now.layout.nodes tries worker.old.pass.view.log
-            worker.new.pass.view.log }
-        ensures queues { KeepsOtherQueues worker.old.pass.view.number worker.old.queues
-            worker.new.queues }
-        ensures blocks { TakeRoom worker.old.queues worker.new.queues }
-        ensures held { worker.new.held ≡ worker.old.held }
-        ensures fit { worker.new.fit ≡ worker.old.fit }
-        ensures between { IsBetweenCalls worker.new }
+        ensures { LeavesFinish self.now.layout.nodes tries worker.old worker.new result }
     {
         let Standing::Pending(pending) = worker.standing else {
             return Ok(false);
@@ -318,7 +275,7 @@ impl Tree {
             &mut worker.pass,
             &pending,
             tries,
-            &mut worker.chain,
+            &mut worker.workspace,
             own,
             account,
         ) {

@@ -6,7 +6,7 @@ ghost use Rattle.nm_tree.specs.Plays.{IsReady};
 ghost use Rattle.nm_tree.specs.Workers.{AreNew, AreAllFresh, AreMade, HaveFit, HaveWorkers, IsFresh, IsNewWorker};
 
 use crate::worker::{Account, Standing, Worker};
-use nm_calls::Chain;
+use nm_calls::Workspace;
 use nm_edge::{FIRST_SLOT, LEAST_NODES, Layout, MOST_NODES, MOST_SPACED_NODES, MOST_WORKERS};
 use nm_epoch::HeldQueue;
 use nm_limbo::BlockQueue;
@@ -151,7 +151,7 @@ fn worker_of(
         accounts,
         home: 0,
         standing: Standing::Resting,
-        chain: Chain::new(),
+        workspace: Workspace::new(),
     })
 }
 

@@ -22,11 +22,11 @@ returns-clause-did c =
 pub returns-in_default-clause-won : goal.returns-in_default-clause-won
 returns-in_default-clause-won c = has_won _ _ (moved_adds Delete c.args.key c.args.tries c.args.pass.now.view.log c.pin_for.new.pass.view.log c.in_default.ensures.moved)
 
-pub returns-in_default-clause-counted : goal.returns-in_default-clause-counted
-returns-in_default-clause-counted c = counts_on _ _ _ (moved_adds Delete c.args.key c.args.tries c.args.pass.now.view.log c.pin_for.new.pass.view.log c.in_default.ensures.moved) c.requires.counted
+pub returns-in_default-clause-kept : goal.returns-in_default-clause-kept
+returns-in_default-clause-kept c = record { queue = search rules; counted = counts_on _ _ _ (moved_adds Delete c.args.key c.args.tries c.args.pass.now.view.log c.pin_for.new.pass.view.log c.in_default.ensures.moved) c.requires.kept.counted }
 
-pub delete_pinned-requires-clause-counted : goal.delete_pinned-requires-clause-counted
-delete_pinned-requires-clause-counted c = counts_on _ _ _ (pin_adds Delete c.args.key c.args.tries c.args.pass.now.view.log c.pin_for.new.pass.view.log c.in-Ok._epoch c.in-Ok.ensures.pinned) c.requires.counted
+pub delete_pinned-requires-clause-kept : goal.delete_pinned-requires-clause-kept
+delete_pinned-requires-clause-kept c = record { queue = search rules; counted = counts_on _ _ _ (pin_adds Delete c.args.key c.args.tries c.args.pass.now.view.log c.pin_for.new.pass.view.log c.in-Ok._epoch c.in-Ok.ensures.pinned) c.requires.kept.counted }
 
 pub returns-clause-won : goal.returns-clause-won
 returns-clause-won c = delete_wins c.args.shared.now.layout.nodes c.args.tries c.args.key c.args.pass.now.view.log c.pin_for.new.pass.view.log c.delete_pinned.new.pass.view.log c.in-Ok._epoch c.in-Ok.ensures.pinned c.delete_pinned.result (subst (λ k. DeleteFinishes c.args.shared.now.layout.nodes c.args.tries k c.pin_for.new.pass.view.log c.delete_pinned.new.pass.view.log c.delete_pinned.result) c.get.ensures.number c.delete_pinned.ensures.part)
@@ -38,7 +38,7 @@ pub make_room-requires : goal.make_room-requires
 make_room-requires c = record { few = may_grow_first c.args.shared.now c.args.pass.now c.args.queue.now.items c.requires.own c.is_of_a_run.ensures.fits c.requires.few }
 
 pub returns-clause-few : goal.returns-clause-few
-returns-clause-few c = few_in_table c.args.shared.now c.args.pass.now c.delete_pinned.new.pass c.delete_pinned.new.queue.items c.requires.own (search rules) c.delete_pinned.ensures.run c.delete_pinned.ensures.queue
+returns-clause-few c = few_in_table c.args.shared.now c.args.pass.now c.delete_pinned.new.pass c.delete_pinned.new.queue.items c.requires.own (search rules) c.delete_pinned.ensures.run c.delete_pinned.ensures.kept.queue
 
 pub returns-clause-moment : goal.returns-clause-moment
 returns-clause-moment c =

@@ -42,14 +42,14 @@ pub returns-in-Spent-clause-steps : goal.returns-in-Spent-clause-steps
 returns-in-Spent-clause-steps c = finish_steps c.args.shared.now.layout.nodes c.args.key c.args.leaf c.args.tries c.args.pass.now.view.log c.remove.new.pass.view.log false (inr (subst (λ k. IsRemoval c.args.shared.now.layout.nodes k c.args.leaf c.args.tries c.args.pass.now.view.log c.remove.new.pass.view.log removal.Spent) c.get.ensures.number c.in-Spent.ensures.part))
 
 pub returns-in-Removed-clause-few : goal.returns-in-Removed-clause-few
-returns-in-Removed-clause-few c = few_in_table c.args.shared.now c.args.pass.now c.remove.new.pass c.remove.new.queue.items c.requires.own c.remove.ensures.same c.remove.ensures.on.run c.remove.ensures.queue
+returns-in-Removed-clause-few c = few_in_table c.args.shared.now c.args.pass.now c.remove.new.pass c.remove.new.queue.items c.requires.own c.remove.ensures.on.same c.remove.ensures.on.run c.remove.ensures.kept.queue
 
 pub returns-in-Refused-clause-few : goal.returns-in-Refused-clause-few
-returns-in-Refused-clause-few c = few_in_table c.args.shared.now c.args.pass.now c.remove.new.pass c.remove.new.queue.items c.requires.own c.remove.ensures.same c.remove.ensures.on.run c.remove.ensures.queue
+returns-in-Refused-clause-few c = few_in_table c.args.shared.now c.args.pass.now c.remove.new.pass c.remove.new.queue.items c.requires.own c.remove.ensures.on.same c.remove.ensures.on.run c.remove.ensures.kept.queue
 
 pub returns-in-Spent-clause-few : goal.returns-in-Spent-clause-few
-returns-in-Spent-clause-few c = few_in_table c.args.shared.now c.args.pass.now c.remove.new.pass c.remove.new.queue.items c.requires.own c.remove.ensures.same c.remove.ensures.on.run c.remove.ensures.queue
+returns-in-Spent-clause-few c = few_in_table c.args.shared.now c.args.pass.now c.remove.new.pass c.remove.new.queue.items c.requires.own c.remove.ensures.on.same c.remove.ensures.on.run c.remove.ensures.kept.queue
 
 pub returns-in-Removed-clause-moment : goal.returns-in-Removed-clause-moment
 returns-in-Removed-clause-moment c = λ yes o had.
-    c.answer.ensures.moment o Delete c.args.key (no_call_on o c.args.pass.now c.remove.new.pass had c.remove.ensures.same c.remove.ensures.past) (c.remove.ensures.on.keeps (CallIs Delete c.args.key) c.requires.removing.call)
+    c.answer.ensures.moment o Delete c.args.key (no_call_on o c.args.pass.now c.remove.new.pass had c.remove.ensures.on.same c.remove.ensures.on.past) (c.remove.ensures.on.keeps (CallIs Delete c.args.key) c.requires.removing.call)

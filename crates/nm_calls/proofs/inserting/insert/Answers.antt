@@ -20,11 +20,11 @@ returns-clause-did c =
 pub returns-in_default-clause-won : goal.returns-in_default-clause-won
 returns-in_default-clause-won c = has_won _ _ (moved_adds Insert c.args.key c.args.tries c.args.pass.now.view.log c.pin_for.new.pass.view.log c.in_default.ensures.moved)
 
-pub returns-in_default-clause-counted : goal.returns-in_default-clause-counted
-returns-in_default-clause-counted c = counts_on _ _ _ (moved_adds Insert c.args.key c.args.tries c.args.pass.now.view.log c.pin_for.new.pass.view.log c.in_default.ensures.moved) c.requires.counted
+pub returns-in_default-clause-kept : goal.returns-in_default-clause-kept
+returns-in_default-clause-kept c = record { queue = search rules; counted = counts_on _ _ _ (moved_adds Insert c.args.key c.args.tries c.args.pass.now.view.log c.pin_for.new.pass.view.log c.in_default.ensures.moved) c.requires.kept.counted }
 
-pub insert_pinned-requires-clause-counted : goal.insert_pinned-requires-clause-counted
-insert_pinned-requires-clause-counted c = counts_on _ _ _ (pin_adds Insert c.args.key c.args.tries c.args.pass.now.view.log c.pin_for.new.pass.view.log c.in-Ok._epoch c.in-Ok.ensures.pinned) c.requires.counted
+pub insert_pinned-requires-clause-kept : goal.insert_pinned-requires-clause-kept
+insert_pinned-requires-clause-kept c = record { queue = search rules; counted = counts_on _ _ _ (pin_adds Insert c.args.key c.args.tries c.args.pass.now.view.log c.pin_for.new.pass.view.log c.in-Ok._epoch c.in-Ok.ensures.pinned) c.requires.kept.counted }
 
 pub returns-clause-won : goal.returns-clause-won
 returns-clause-won c = insert_wins c.args.placement.now c.args.shared.now.layout.nodes c.args.tries c.args.key c.args.pass.now.view.log c.pin_for.new.pass.view.log c.insert_pinned.new.pass.view.log c.in-Ok._epoch c.in-Ok.ensures.pinned c.insert_pinned.result (subst (λ k. Finishes c.args.placement.now c.args.shared.now.layout.nodes c.args.tries k c.pin_for.new.pass.view.log c.insert_pinned.new.pass.view.log c.insert_pinned.result) c.get.ensures.number c.insert_pinned.ensures.part)
@@ -36,7 +36,7 @@ pub make_room-requires : goal.make_room-requires
 make_room-requires c = record { few = may_grow_first c.args.shared.now c.args.pass.now c.args.queue.now.items c.requires.own c.is_of_a_run.ensures.fits c.requires.few }
 
 pub returns-clause-few : goal.returns-clause-few
-returns-clause-few c = few_in_table c.args.shared.now c.args.pass.now c.insert_pinned.new.pass c.insert_pinned.new.queue.items c.requires.own (search rules) c.insert_pinned.ensures.run c.insert_pinned.ensures.queue
+returns-clause-few c = few_in_table c.args.shared.now c.args.pass.now c.insert_pinned.new.pass c.insert_pinned.new.queue.items c.requires.own (search rules) c.insert_pinned.ensures.run c.insert_pinned.ensures.kept.queue
 
 pub returns-clause-moment : goal.returns-clause-moment
 returns-clause-moment c =

@@ -1,4 +1,4 @@
-use Rattle.std.proofs.Common.{◌≡◌, ◌+◌, ◌*◌, length, nat_eq, refl, ap, subst, ◌∙◌, arith}
+use Rattle.std.proofs.Common.{rules, ◌≡◌, ◌+◌, ◌*◌, length, nat_eq, refl, ap, subst, ◌∙◌, arith}
 use Rattle.std.proofs.Math.Nat.{mul-le-mul_right}
 use Rattle.std.specs.Prelude.{Some}
 use Rattle.nm_model.specs.declared.knowledge.Brief.{Brief}
@@ -8,7 +8,7 @@ use Rattle.nm_order.specs.Facts.Fact.{KnowsSlot, CallIs}
 use Rattle.nm_order.specs.Facts.Since.{ThePin}
 use Rattle.nm_steps.specs.Steps.{Stand}
 use Rattle.nm_epoch.proofs.Allowed.{may_leave}
-use Rattle.nm_calls.proofs.GoingOn.{only_then, pinned_still}
+use Rattle.nm_calls.proofs.GoingOn.{only_then, pinned_in_still}
 use Rattle.nm_calls.proofs.LookUps.{is_pinned, knows_second, call_is, may_answer, missed}
 use Rattle.nm_calls.proofs.Adding.{most, adds_then, adds_these, has_won, cuts_none, within_call, mul_below, pin_adds, moved_adds, lost_walks_add, finds_adds}
 use Rattle.nm_calls.specs.Moments.{HadNoCall}
@@ -17,7 +17,8 @@ use Rattle.nm_calls.proofs.Moments.{no_call_on}
 use Rattle.nm_calls.proofs.lookup.has.Goals as goal
 
 pub find-requires-clause-pinned : goal.find-requires-clause-pinned
-find-requires-clause-pinned c = pinned_still c.pin_for.new.pass c.loop-walk.pass c.loop-walk.invariant.on (is_pinned c.pin_for.new.pass c.in-Ok._epoch Has c.args.key c.in-Ok.ensures.at)
+find-requires-clause-pinned c = pinned_in_still c.args.shared.now c.pin_for.new.pass c.loop-walk.pass c.loop-walk.invariant.on
+    (record { own = search rules; run = search rules; pin = is_pinned c.pin_for.new.pass c.in-Ok._epoch Has c.args.key c.in-Ok.ensures.at })
 
 pub find-requires-clause-known : goal.find-requires-clause-known
 find-requires-clause-known c = c.loop-walk.invariant.on.keeps (KnowsSlot 2) (knows_second c.pin_for.new.pass c.in-Ok._epoch Has c.args.key c.in-Ok.ensures.at)
@@ -136,7 +137,7 @@ returns-in-Some-clause-moment c =
     let p = c.loop-walk.pass in
     let call = call_is a c.in-Ok._epoch Has c.args.key c.in-Ok.ensures.at in
     let pinned : HadNoCall o a = record { seen = c.is_of_a_run.ensures.seen; same = c.pin_for.ensures.same; past = c.pin_for.ensures.past; call = ap (λ (s : Search). s.call) c.requires.rests.idle } in
-    let walked = no_call_on o p c.find.new.pass (no_call_on o a p pinned c.loop-walk.invariant.same c.loop-walk.invariant.past) c.find.ensures.same c.find.ensures.past in
+    let walked = no_call_on o p c.find.new.pass (no_call_on o a p pinned c.loop-walk.invariant.on.same c.loop-walk.invariant.on.past) c.find.ensures.on.same c.find.ensures.on.past in
     c.leave_with.ensures.moment o Has c.args.key walked (c.in-Some.ensures.on.keeps (CallIs Has c.args.key) (c.loop-walk.invariant.on.keeps (CallIs Has c.args.key) call))
 
 pub returns-in-Some-clause-did : goal.returns-in-Some-clause-did

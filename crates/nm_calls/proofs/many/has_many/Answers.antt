@@ -32,7 +32,7 @@ returns-then-ended-clause-moment c =
     let walked = c.walk_all-ended.ensures in
     let first : IsSamePass o p = search rules in
     let last : IsSamePass p q = c.unpin.ensures.step ∙ ap (λ (l : List Entry). record p { view = record p.view { log = l; past = q.view.past } }) (sym (ap (λ (s : Stand). s.view.log) c.unpin.ensures.step)) in
-    all_were_so o p q c.is_of_a_run.ensures.seen c.is_of_a_run.ensures.fits c.requires.rests.unpinned first (seen_through o a p c.pin.ensures.past walked.past) c.is_of_a_run-2.ensures.seen last c.unpin.ensures.past
+    all_were_so o p q c.is_of_a_run.ensures.seen c.is_of_a_run.ensures.fits c.requires.rests.unpinned first (seen_through o a p c.pin.ensures.past walked.on.past) c.is_of_a_run-2.ensures.seen last c.unpin.ensures.past
     c.walk_all-ended.new.queries walked.under_way (walked.ended c.if-ended.true)
 
 pub returns-then-ended-clause-won : goal.returns-then-ended-clause-won

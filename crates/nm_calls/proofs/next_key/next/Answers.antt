@@ -34,7 +34,7 @@ returns-clause-moment c =
     let walked = c.walk_up-found.ensures in
     let first : IsSamePass o p = search rules in
     let last : IsSamePass p q = c.unpin.ensures.step ∙ ap (λ (l : List Entry). record p { view = record p.view { log = l; past = q.view.past } }) (sym (ap (λ (s : Stand). s.view.log) c.unpin.ensures.step)) in
-    let so = was_so o p q c.is_of_a_run.ensures.seen c.is_of_a_run.ensures.fits c.requires.rests.unpinned first (seen_through o a p c.pin.ensures.past walked.past) c.is_of_a_run-2.ensures.seen last c.unpin.ensures.past in
+    let so = was_so o p q c.is_of_a_run.ensures.seen c.is_of_a_run.ensures.fits c.requires.rests.unpinned first (seen_through o a p c.pin.ensures.past walked.on.past) c.is_of_a_run-2.ensures.seen last c.unpin.ensures.past in
     IfOk-weaker c.walk_up-found.result _ _ (λ found n. next_by (HasEndedSo p) (WasSo o q) so c.args.key found (subst (λ (k : ℕ). IsNextBy (HasEndedSo p) k found) c.get.ensures.number n)) walked.next
 
 pub returns-clause-won : goal.returns-clause-won
