@@ -1,4 +1,4 @@
-use Rattle.std.proofs.Common.{rules, add-one}
+use Rattle.std.proofs.Common.{add-one}
 use Rattle.nm_calls.proofs.GoingOn.{goes_then}
 use Rattle.nm_calls.proofs.Removals.{cleans_then, removing_on}
 use Rattle.nm_calls.proofs.Rooms.{takes_then, takes_fills}

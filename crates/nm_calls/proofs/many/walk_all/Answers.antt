@@ -1,4 +1,4 @@
-use Rattle.std.proofs.Common.{rules, ◌<◌, ◌*◌, length, ap, subst, arith}
+use Rattle.std.proofs.Common.{◌<◌, ◌*◌, length, ap, subst, arith}
 use Rattle.std.specs.Prelude.{All}
 use Rattle.nm_edge.specs.Layouts.{Layout}
 use Rattle.nm_edge.specs.declared.edge.Side.TheVariants.{Left}

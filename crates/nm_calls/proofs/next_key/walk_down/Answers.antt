@@ -1,4 +1,4 @@
-use Rattle.std.proofs.Common.{rules, ◌+◌, ◌*◌, ℕ, refl, sym, ap, subst, ◌∙◌, arith}
+use Rattle.std.proofs.Common.{◌+◌, ◌*◌, ℕ, refl, sym, ap, subst, ◌∙◌, arith}
 use Rattle.nm_edge.specs.declared.edge.Side.TheVariants.{Left}
 use Rattle.nm_model.specs.Memory.{infinity_0}
 use Rattle.nm_calls.specs.NextKeys.{IsDescent}

@@ -1,4 +1,3 @@
-use Rattle.std.proofs.Common.{rules}
 use Rattle.nm_order.specs.Facts.Fact.{KnowsSlot}
 use Rattle.nm_calls.specs.NextKeys.{IsNextBy}
 use Rattle.nm_calls.specs.PlainWalks.{HasEndedSo, most_looks}
