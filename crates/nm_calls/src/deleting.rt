@@ -1,12 +1,12 @@
 //! Deletes.
-ghost use Rattle.std.specs.Prelude.{◌≡◌, ◌≢◌, ◌⊎◌, ◌<◌, ◌≤◌, ◌+◌, ◌*◌, length, true, false, None, IfOk, IfErr};
+ghost use Rattle.std.specs.Prelude.{◌≡◌, ◌≢◌, ◌⊎◌, ◌<◌, ◌≤◌, length, true, false, None, IfOk, IfErr};
 ghost use Rattle.nm_model.specs.Memory.{infinity_0};
 ghost use Rattle.nm_model.specs.declared.event.Op.TheVariants.{Delete};
 ghost use Rattle.nm_order.specs.Facts.Fact.{IsFlagged};
 ghost use Rattle.nm_steps.specs.Rules.{knowledge};
 ghost use Rattle.nm_steps.specs.Steps.{Stand, IsOf, IsSamePass, HasSeenAllOf};
 ghost use Rattle.nm_epoch.specs.Resting.{IsResting, search};
-ghost use Rattle.nm_calls.specs.Bounds.{chain_bound, cut_bound, IsWithinBound};
+ghost use Rattle.nm_calls.specs.Bounds.{chain_bound, cut_bound};
 ghost use Rattle.nm_calls.specs.Rooms.{FillsUp, TakesRoom};
 ghost use Rattle.nm_calls.specs.Telling.{Tells, GoesOn, IsInRun, IsPinnedIn};
 ghost use Rattle.nm_calls.specs.Walks.{IsAt};
@@ -14,8 +14,7 @@ ghost use Rattle.nm_calls.specs.Leaving.{ShowsAnswer, IsInCall, HasChangedNothin
 ghost use Rattle.nm_calls.specs.Marking.{OnlyFlags};
 ghost use Rattle.nm_calls.specs.Moments.{AnswerHasMoment, HadNoCall};
 ghost use Rattle.nm_calls.specs.Cleanups.{OnlyCleans, KeepsLedgers, HoldsCuts};
-ghost use Rattle.nm_calls.specs.Won.{HasWon, flags_of_delete};
-ghost use Rattle.nm_calls.specs.Deletes.{IsRemoving, Removes, RemovesNothing, IsRemoval, IfRemoved, MayFlag, HasWonItsFlag, HasNotFlagged, IsFlagTry, ShowsFlag, OnlyInjects, IsInjection, ShowsInjection, RemovalAfter, leaf_of, DeleteFinishes, DeleteDid, LosesAfterFlag, LacksRoomOr, FlagsThen, LosesEachTry, AfterDelete, FinishDid};
+ghost use Rattle.nm_calls.specs.Deletes.{IsRemoving, Removes, RemovesNothing, IsRemoval, IfRemoved, MayFlag, HasWonItsFlag, HasNotFlagged, IsFlagTry, ShowsFlag, OnlyInjects, IsInjection, ShowsInjection, RemovalAfter, leaf_of, DeleteFinishes, LosesAfterFlag, LacksRoomOr, FlagsThen, LosesEachTry, AfterDelete, AfterFinish, RestsOrRemoves};
 
 use crate::cleaning::cleanup;
 use crate::inserting::{help, make_room};
@@ -329,7 +328,7 @@ fn delete_pinned(
     ensures moment { (o : Stand) → HadNoCall o pass.old
         → IfOk result (AnswerHasMoment o pass.new Delete key) }
     ensures run { IsInRun pass.new }
-    ensures after { AfterDelete key pass.new result }
+    ensures stands { RestsOrRemoves key pass.new result }
     ensures private { (knowledge pass.new.view).drafts ≡ (knowledge pass.old.view).drafts }
     ensures kept { HoldsCuts pass.new queue.new splices.new }
     ensures blocks { TakesRoom queue.old queue.new }
@@ -387,24 +386,13 @@ pub fn delete(
     requires rests { IsResting pass.old }
     requires kept { HoldsCuts pass.old queue.old splices.old }
     requires few { length queue.old.items ≤ shared.now.layout.nodes }
-    ensures same { IsSamePass pass.old pass.new }
-    ensures past { HasSeenAllOf pass.new pass.old }
-    ensures did { DeleteDid shared.now.layout.nodes tries key pass.old.view.log pass.new.view.log
-        result }
+    ensures after { AfterDelete shared.now.layout.nodes tries key pass.old pass.new result }
     ensures refused { IfErr result
         (LacksRoomOr (LosesAfterFlag shared.now.layout.nodes tries key pass.old.view.log
         pass.new.view.log) queue.new.spare) }
-    ensures moment { IfOk result (AnswerHasMoment pass.old pass.new Delete key) }
-    ensures won { HasWon pass.old.view.log pass.new.view.log 0 (flags_of_delete result) }
-    ensures steps { IsWithinBound shared.now.layout.nodes tries pass.old.view.log
-        pass.new.view.log }
-    ensures run { (pass.new ≡ pass.old) ⊎ IsInRun pass.new }
-    ensures after { AfterDelete key pass.new result }
-    ensures private { (knowledge pass.new.view).drafts ≡ (knowledge pass.old.view).drafts }
     ensures kept { HoldsCuts pass.new queue.new splices.new }
     ensures blocks { TakesRoom queue.old queue.new }
     ensures few { length queue.new.items ≤ shared.now.layout.nodes }
-    ensures ledgers { KeepsLedgers pass.old pass.new }
 {
     if tries == 0 {
         return Err(Missed::Busy);
@@ -437,23 +425,10 @@ pub fn finish(
     requires own { IsOf shared.now pass.old }
     requires removing { IsRemoving pass.old key leaf }
     requires kept { HoldsCuts pass.old queue.old splices.old }
-    ensures same { IsSamePass pass.old pass.new }
-    ensures past { HasSeenAllOf pass.new pass.old }
-    ensures did { FinishDid shared.now.layout.nodes key leaf tries pass.old.view.log
-        pass.new.view.log result }
+    ensures after { AfterFinish shared.now.layout.nodes key leaf tries pass.old pass.new result }
     ensures refused { result ≡ false
         → (queue.new.spare < cut_bound)
         ⊎ LosesEachTry shared.now.layout.nodes key leaf tries pass.old.view.log pass.new.view.log }
-    ensures moment { result ≡ true → (o : Stand) → HadNoCall o pass.old
-        → AnswerHasMoment o pass.new Delete key true }
-    ensures won { HasWon pass.old.view.log pass.new.view.log 0 0 }
-    ensures steps { IsWithinBound shared.now.layout.nodes tries pass.old.view.log
-        pass.new.view.log }
-    ensures run { IsInRun pass.new }
-    ensures rests { result ≡ true → IsResting pass.new }
-    ensures removing { result ≡ false → IsRemoving pass.new key leaf }
-    ensures private { (knowledge pass.new.view).drafts ≡ (knowledge pass.old.view).drafts }
-    ensures ledgers { KeepsLedgers pass.old pass.new }
     ensures kept { HoldsCuts pass.new queue.new splices.new }
     ensures blocks { TakesRoom queue.old queue.new }
     ensures few { length queue.new.items ≤ shared.now.layout.nodes }

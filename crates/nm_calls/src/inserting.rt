@@ -1,17 +1,16 @@
 //! Inserts.
-ghost use Rattle.std.specs.Prelude.{◌≡◌, ◌⊎◌, ◌<◌, ◌≤◌, ◌+◌, ◌*◌, true, false, length, None, IfOk, IsErrOf};
+ghost use Rattle.std.specs.Prelude.{◌≡◌, ◌<◌, ◌≤◌, ◌*◌, true, false, length, None, IfOk, IsErrOf};
 ghost use Rattle.nm_model.specs.declared.event.Op.TheVariants.{Insert};
 ghost use Rattle.nm_steps.specs.Steps.{Stand, IsOf, IsSamePass, HasSeenAllOf};
 ghost use Rattle.nm_epoch.specs.Resting.{IsResting, search};
-ghost use Rattle.nm_calls.specs.Bounds.{chain_bound, cut_bound, IsWithinBound};
+ghost use Rattle.nm_calls.specs.Bounds.{chain_bound, cut_bound};
 ghost use Rattle.nm_calls.specs.Rooms.{FillsUp, TakesRoom};
 ghost use Rattle.nm_calls.specs.Telling.{Tells, GoesOn, IsInRun, IsPinnedIn};
 ghost use Rattle.nm_calls.specs.Walks.{IsAt};
 ghost use Rattle.nm_calls.specs.Making.{OnlyMakes};
 ghost use Rattle.nm_calls.specs.Moments.{AnswerHasMoment, HadNoCall};
 ghost use Rattle.nm_calls.specs.Cleanups.{OnlyCleans, KeepsLedgers, HoldsCuts};
-ghost use Rattle.nm_calls.specs.Won.{HasWon, links_of_insert};
-ghost use Rattle.nm_calls.specs.Inserts.{HasFork, Helps, asks_help, IsReadied, IsTry, OnlyTries, ShowsTry, Finishes, InsertDid};
+ghost use Rattle.nm_calls.specs.Inserts.{HasFork, Helps, asks_help, IsReadied, IsTry, OnlyTries, ShowsTry, Finishes, AfterInsert};
 ghost use Rattle.nm_calls.specs.Leaving.{IsInCall, HasChangedNothing};
 
 use crate::cleaning::cleanup;
@@ -259,22 +258,12 @@ pub fn insert(
     requires rests { IsResting pass.old }
     requires kept { HoldsCuts pass.old queue.old splices.old }
     requires few { length queue.old.items ≤ shared.now.layout.nodes }
-    ensures same { IsSamePass pass.old pass.new }
-    ensures past { HasSeenAllOf pass.new pass.old }
-    ensures did { InsertDid placement.old shared.now.layout.nodes tries key pass.old.view.log
-        pass.new.view.log result }
+    ensures after { AfterInsert placement.old shared.now.layout.nodes tries key pass.old pass.new
+        result }
     ensures refused { IsErrOf result Fault.NoMemory → queue.new.spare < cut_bound }
-    ensures moment { IfOk result (AnswerHasMoment pass.old pass.new Insert key) }
-    ensures won { HasWon pass.old.view.log pass.new.view.log (links_of_insert result) 0 }
-    ensures steps { IsWithinBound shared.now.layout.nodes tries pass.old.view.log
-        pass.new.view.log }
-    ensures run { (pass.new ≡ pass.old) ⊎ IsInRun pass.new }
-    ensures rests { IsResting pass.new }
-    ensures private { HasFork pass.old pass.new None }
     ensures kept { HoldsCuts pass.new queue.new splices.new }
     ensures few { length queue.new.items ≤ shared.now.layout.nodes }
     ensures blocks { TakesRoom queue.old queue.new }
-    ensures ledgers { KeepsLedgers pass.old pass.new }
     ensures fit { placement.new ≡ placement.old }
 {
     if tries == 0 {

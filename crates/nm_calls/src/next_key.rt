@@ -1,14 +1,13 @@
 //! The next key of a set that is in use.
-ghost use Rattle.std.specs.Prelude.{◌≡◌, ◌<◌, ◌≤◌, ◌+◌, ◌*◌, ℕ, length, IfOk, IfErr};
+ghost use Rattle.std.specs.Prelude.{◌≡◌, ◌<◌, ◌≤◌, ◌*◌, ℕ, IfOk};
 ghost use Rattle.nm_edge.specs.Keys.{IsKey};
 ghost use Rattle.nm_model.specs.Searches.{side_of};
 ghost use Rattle.nm_order.specs.Facts.Fact.{KnowsSlot};
-ghost use Rattle.nm_steps.specs.Steps.{IsOf, IsSamePass, HasSeenAllOf};
-ghost use Rattle.nm_epoch.specs.Resting.{IsResting, KeepsHands};
-ghost use Rattle.nm_calls.specs.NextKeys.{IsDescent, IsNextBy, WasNext, read_below};
-ghost use Rattle.nm_calls.specs.PlainWalks.{AddsLooks, HasEndedSo, LooksUnderPin, LooksOrMoves, most_looks};
+ghost use Rattle.nm_steps.specs.Steps.{IsOf};
+ghost use Rattle.nm_epoch.specs.Resting.{IsResting};
+ghost use Rattle.nm_calls.specs.NextKeys.{IsDescent, IsNextBy, read_below, AfterNext};
+ghost use Rattle.nm_calls.specs.PlainWalks.{AddsLooks, HasEndedSo, most_looks};
 ghost use Rattle.nm_calls.specs.Telling.{Tells, GoesOn, OnlyLooks, IsPinnedIn};
-ghost use Rattle.nm_calls.specs.Won.{HasWon, won_splices};
 
 use crate::looking::{Onward, look_edge, read_node};
 use crate::lookup::Busy;
@@ -45,20 +44,7 @@ struct Descent {
 pub fn next(shared: &Shared, pass: &mut Pass, key: Key, tries: u32) -> Result<Option<Key>, Busy>
     requires own { IsOf shared.now pass.old }
     requires rests { IsResting pass.old }
-    ensures same { IsSamePass pass.old pass.new }
-    ensures past { HasSeenAllOf pass.new pass.old }
-    ensures did { IfOk result (λ f. LooksUnderPin tries
-        (tries * most_looks shared.now.layout.nodes 1) pass.old.view.log pass.new.view.log) }
-    ensures moment { IfOk result (WasNext pass.old pass.new key) }
-    ensures missed { IfErr result
-        (λ e. LooksOrMoves tries (tries * most_looks shared.now.layout.nodes 1) pass.old.view.log
-        pass.new.view.log) }
-    ensures won { HasWon pass.old.view.log pass.new.view.log 0 0 }
-    ensures uncut { won_splices pass.new.view.log ≡ won_splices pass.old.view.log }
-    ensures steps { length pass.new.view.log
-        ≤ length pass.old.view.log + 3 * tries + tries * most_looks shared.now.layout.nodes 1 + 2 }
-    ensures rests { IsResting pass.new }
-    ensures hands { KeepsHands pass.old pass.new }
+    ensures { AfterNext shared.now.layout.nodes tries key pass.old pass.new result }
 {
     if tries == 0 {
         return Err(Busy);

@@ -1,17 +1,13 @@
 //! Inserts, deletes, and what is left to do of a delete.
-ghost use Rattle.std.specs.Prelude.{◌≡◌, ◌⊎◌, ◌<◌, ℕ, true, false, None, IfOk, IfErr, IsErrOf};
-ghost use Rattle.nm_model.specs.declared.event.Op.TheVariants.{Insert, Delete};
-ghost use Rattle.nm_steps.specs.Steps.{Stand, IsOf, IsSamePass, HasSeenAllOf};
-ghost use Rattle.nm_calls.specs.Bounds.{cut_bound, IsWithinBound};
+ghost use Rattle.std.specs.Prelude.{◌≡◌, ◌⊎◌, ◌<◌, true, false, None, IfErr, IsErrOf};
+ghost use Rattle.nm_steps.specs.Steps.{IsOf};
+ghost use Rattle.nm_calls.specs.Bounds.{cut_bound};
 ghost use Rattle.nm_calls.specs.Rooms.{TakesRoom};
-ghost use Rattle.nm_model.specs.Maps.{get};
-ghost use Rattle.nm_steps.specs.Rules.{knowledge};
 ghost use Rattle.nm_epoch.specs.Resting.{IsResting};
-ghost use Rattle.nm_calls.specs.Deletes.{IsRemoving, DeleteDid, AfterDelete, FinishDid, LosesEachTry, LosesAfterFlag, LacksRoomOr};
-ghost use Rattle.nm_calls.specs.Inserts.{InsertDid};
-ghost use Rattle.nm_calls.specs.Moments.{AnswerHasMoment, HadNoCall};
-ghost use Rattle.nm_calls.specs.Won.{HasWon, links_of_insert, flags_of_delete};
-ghost use Rattle.nm_tree.specs.Workers.{IsKept, OnlyOwnLedger};
+ghost use Rattle.nm_calls.specs.Deletes.{IsRemoving, AfterDelete, LosesEachTry, LosesAfterFlag, LacksRoomOr, AfterFinish};
+ghost use Rattle.nm_calls.specs.Inserts.{AfterInsert};
+ghost use Rattle.nm_calls.specs.Won.{links_of_insert, flags_of_delete};
+ghost use Rattle.nm_tree.specs.Workers.{IsKept};
 ghost use Rattle.nm_tree.specs.Calls.{LeavesInsert, LeavesDelete, LeavesFinish};
 
 use crate::fault::Fault;
@@ -37,21 +33,11 @@ fn insert_with(
     requires own { IsOf shared.now pass.old }
     requires rests { IsResting pass.old }
     requires kept { IsKept pass.old own.old account.old }
-    ensures same { IsSamePass pass.old pass.new }
-    ensures past { HasSeenAllOf pass.new pass.old }
-    ensures did { InsertDid placement.old shared.now.layout.nodes tries key pass.old.view.log
-        pass.new.view.log result }
+    ensures after { AfterInsert placement.old shared.now.layout.nodes tries key pass.old pass.new
+        result }
     ensures refused { IsErrOf result Lost.NoMemory → own.new.queue.spare < cut_bound }
-    ensures moment { IfOk result (AnswerHasMoment pass.old pass.new Insert key) }
-    ensures steps { IsWithinBound shared.now.layout.nodes tries pass.old.view.log
-        pass.new.view.log }
-    ensures won { HasWon pass.old.view.log pass.new.view.log (links_of_insert result) 0 }
-    ensures rests { IsResting pass.new }
-    ensures private { (slot : ℕ)
-        → get (knowledge pass.new.view).drafts slot ≡ get (knowledge pass.old.view).drafts slot }
     ensures kept { IsKept pass.new own.new account.new }
     ensures room { TakesRoom own.old.queue own.new.queue }
-    ensures others { OnlyOwnLedger pass.old pass.new }
     ensures fit { placement.new ≡ placement.old }
 {
     let answer = insert(
@@ -82,22 +68,12 @@ fn delete_with(
     requires own { IsOf shared.now pass.old }
     requires rests { IsResting pass.old }
     requires kept { IsKept pass.old own.old account.old }
-    ensures same { IsSamePass pass.old pass.new }
-    ensures past { HasSeenAllOf pass.new pass.old }
-    ensures did { DeleteDid shared.now.layout.nodes tries key pass.old.view.log pass.new.view.log
-        result }
+    ensures after { AfterDelete shared.now.layout.nodes tries key pass.old pass.new result }
     ensures refused { IfErr result
         (LacksRoomOr (LosesAfterFlag shared.now.layout.nodes tries key pass.old.view.log
         pass.new.view.log) own.new.queue.spare) }
-    ensures moment { IfOk result (AnswerHasMoment pass.old pass.new Delete key) }
-    ensures steps { IsWithinBound shared.now.layout.nodes tries pass.old.view.log
-        pass.new.view.log }
-    ensures won { HasWon pass.old.view.log pass.new.view.log 0 (flags_of_delete result) }
-    ensures after { AfterDelete key pass.new result }
-    ensures private { (knowledge pass.new.view).drafts ≡ (knowledge pass.old.view).drafts }
     ensures kept { IsKept pass.new own.new account.new }
     ensures room { TakesRoom own.old.queue own.new.queue }
-    ensures others { OnlyOwnLedger pass.old pass.new }
 {
     let answer = delete(
         shared,
@@ -146,25 +122,14 @@ fn finish_with(
     requires own { IsOf shared.now pass.old }
     requires removing { IsRemoving pass.old pending.now.key pending.now.leaf }
     requires kept { IsKept pass.old own.old account.old }
-    ensures same { IsSamePass pass.old pass.new }
-    ensures past { HasSeenAllOf pass.new pass.old }
-    ensures did { FinishDid shared.now.layout.nodes pending.now.key pending.now.leaf tries
-        pass.old.view.log pass.new.view.log result }
+    ensures after { AfterFinish shared.now.layout.nodes pending.now.key pending.now.leaf tries pass.old
+        pass.new result }
     ensures refused { result ≡ false
         → (own.new.queue.spare < cut_bound)
         ⊎ LosesEachTry shared.now.layout.nodes pending.now.key pending.now.leaf tries
         pass.old.view.log pass.new.view.log }
-    ensures moment { result ≡ true → (o : Stand) → HadNoCall o pass.old
-        → AnswerHasMoment o pass.new Delete pending.now.key true }
-    ensures steps { IsWithinBound shared.now.layout.nodes tries pass.old.view.log
-        pass.new.view.log }
-    ensures won { HasWon pass.old.view.log pass.new.view.log 0 0 }
-    ensures rests { result ≡ true → IsResting pass.new }
-    ensures removing { result ≡ false → IsRemoving pass.new pending.now.key pending.now.leaf }
-    ensures private { (knowledge pass.new.view).drafts ≡ (knowledge pass.old.view).drafts }
     ensures kept { IsKept pass.new own.new account.new }
     ensures room { TakesRoom own.old.queue own.new.queue }
-    ensures others { OnlyOwnLedger pass.old pass.new }
 {
     let done = finish(
         shared,

@@ -19,15 +19,15 @@ returns-in-Refused-clause-part c = (c.inject.new.workspace.chain.items, c.inject
 pub returns-in-Spent-clause-part : goal.returns-in-Spent-clause-part
 returns-in-Spent-clause-part c = (c.inject.new.workspace.chain.items, c.inject.new.pass.view.log, c.in-Spent.ensures.part, ap (λ (x : Stand). x.view.log) c.leave-in-Spent.ensures.step)
 
-pub returns-in-Refused-remove_after-clause-after : goal.returns-in-Refused-remove_after-clause-after
-returns-in-Refused-remove_after-clause-after c =
+pub returns-in-Refused-remove_after-clause-stands : goal.returns-in-Refused-remove_after-clause-stands
+returns-in-Refused-remove_after-clause-stands c =
     let shows = c.in-Flagged.ensures.shows in
     let n = leaf_of c.in-Flagged.end c.in-Flagged.birth in
     let there = removing_from c.args.pass.now c.inject.new.pass c.args.key n c.requires.pinned.pin c.requires.call c.requires.unchanged.labelled c.inject.ensures.on c.inject.ensures.only shows.0 shows.2 in
     rw c.leaf_at-leaf.ensures (removing_on c.inject.new.pass c.remove_after.new.pass c.args.key n there c.remove_after.ensures.on c.remove_after.ensures.only)
 
-pub returns-in-Spent-remove_after-clause-after : goal.returns-in-Spent-remove_after-clause-after
-returns-in-Spent-remove_after-clause-after c =
+pub returns-in-Spent-remove_after-clause-stands : goal.returns-in-Spent-remove_after-clause-stands
+returns-in-Spent-remove_after-clause-stands c =
     let shows = c.in-Flagged.ensures.shows in
     let n = leaf_of c.in-Flagged.end c.in-Flagged.birth in
     let there = removing_from c.args.pass.now c.inject.new.pass c.args.key n c.requires.pinned.pin c.requires.call c.requires.unchanged.labelled c.inject.ensures.on c.inject.ensures.only shows.0 shows.2 in

@@ -44,8 +44,8 @@ delete_with-requires-clause-kept c = kept_there _ _ c.worker.inside.home _ _ c.w
 
 pub invariant_of-worker : goal.invariant_of-worker
 invariant_of-worker c =
-    changed _ _ c.worker.inside.home c.delete_with.new.pass _ _ c.delete_with.new.own c.delete_with.new.account c.worker.invariant c.delete_with.ensures.same c.delete_with.ensures.kept
-    c.delete_with.ensures.others (λ slot. ap (λ ds. get ds slot) c.delete_with.ensures.private) (rests_as c.delete_with.new.pass c.worker.inside.standing (resting_in c.worker.inside.standing (ap (λ (w : Hand). w.held) c.worker.view_is ∙ c.requires.free) c.in_default.not-Pending) c.in-Ok.ensures.after)
+    changed _ _ c.worker.inside.home c.delete_with.new.pass _ _ c.delete_with.new.own c.delete_with.new.account c.worker.invariant c.delete_with.ensures.after.same c.delete_with.ensures.kept
+    c.delete_with.ensures.after.ledgers.others (λ slot. ap (λ ds. get ds slot) c.delete_with.ensures.after.private) (rests_as c.delete_with.new.pass c.worker.inside.standing (resting_in c.worker.inside.standing (ap (λ (w : Hand). w.held) c.worker.view_is ∙ c.requires.free) c.in_default.not-Pending) c.in-Ok.ensures.after.stands)
 
 pub returns-in-Ok : goal.returns-in-Ok
 returns-in-Ok c = record {
@@ -53,7 +53,7 @@ returns-in-Ok c = record {
   past = search (rules, seen_all);
   did = (
       deleted_so _ _ c.args.tries c.args.key _ _ (record { pass = c.delete_with.new.pass; queues = slice_set c.worker.inside.queues.items c.worker.inside.home c.delete_with.new.own; pending = pending_in c.worker.inside.standing; held = held_in c.worker.inside.standing; fit = c.worker.inside.placement })
-      (Ok c.in-Ok.answer) c.self.view_is c.worker.view_is (free_in c.worker.inside.standing (resting_in c.worker.inside.standing (ap (λ (w : Hand). w.held) c.worker.view_is ∙ c.requires.free) c.in_default.not-Pending), c.in-Ok.ensures.did)
+      (Ok c.in-Ok.answer) c.self.view_is c.worker.view_is (free_in c.worker.inside.standing (resting_in c.worker.inside.standing (ap (λ (w : Hand). w.held) c.worker.view_is ∙ c.requires.free) c.in_default.not-Pending), c.in-Ok.ensures.after.did)
       );
   lacks = search rules;
   moment = search rules;
@@ -61,7 +61,7 @@ returns-in-Ok c = record {
   steps = search rules;
   queues = (
       rw (← c.worker.view_is)
-      (others_after c.worker.inside.home c.worker.inside.pass.view.number c.worker.inside.queues.items c.delete_with.new.own c.worker.invariant.own (c.delete_with.ensures.kept.own ∙ ap (λ (x : Stand). x.view.number) c.delete_with.ensures.same))
+      (others_after c.worker.inside.home c.worker.inside.pass.view.number c.worker.inside.queues.items c.delete_with.new.own c.worker.invariant.own (c.delete_with.ensures.kept.own ∙ ap (λ (x : Stand). x.view.number) c.delete_with.ensures.after.same))
       );
   blocks = rw (← c.worker.view_is) (room_after c.worker.inside.home _ c.worker.inside.queues.items _ c.delete_with.new.own c.worker.invariant.own c.index_mut-own.ensures.value c.delete_with.ensures.room);
   held = search rules;
@@ -71,8 +71,8 @@ returns-in-Ok c = record {
 
 pub invariant_of-worker-in-Err-Busy : goal.invariant_of-worker-in-Err-Busy
 invariant_of-worker-in-Err-Busy c =
-    changed _ _ c.worker.inside.home c.delete_with.new.pass _ _ c.delete_with.new.own c.delete_with.new.account c.worker.invariant c.delete_with.ensures.same c.delete_with.ensures.kept
-    c.delete_with.ensures.others (λ slot. ap (λ ds. get ds slot) c.delete_with.ensures.private) (rests_as c.delete_with.new.pass c.worker.inside.standing (resting_in c.worker.inside.standing (ap (λ (w : Hand). w.held) c.worker.view_is ∙ c.requires.free) c.in_default.not-Pending) (rw c.in-Err-Busy.field-0-is at c.in-Err-Busy.ensures.after))
+    changed _ _ c.worker.inside.home c.delete_with.new.pass _ _ c.delete_with.new.own c.delete_with.new.account c.worker.invariant c.delete_with.ensures.after.same c.delete_with.ensures.kept
+    c.delete_with.ensures.after.ledgers.others (λ slot. ap (λ ds. get ds slot) c.delete_with.ensures.after.private) (rests_as c.delete_with.new.pass c.worker.inside.standing (resting_in c.worker.inside.standing (ap (λ (w : Hand). w.held) c.worker.view_is ∙ c.requires.free) c.in_default.not-Pending) (rw c.in-Err-Busy.field-0-is at c.in-Err-Busy.ensures.after.stands))
 
 pub returns-in-Err-Busy : goal.returns-in-Err-Busy
 returns-in-Err-Busy c = record {
@@ -80,7 +80,7 @@ returns-in-Err-Busy c = record {
   past = search (rules, seen_all);
   did = (
       deleted_so _ _ c.args.tries c.args.key _ _ (record { pass = c.delete_with.new.pass; queues = slice_set c.worker.inside.queues.items c.worker.inside.home c.delete_with.new.own; pending = pending_in c.worker.inside.standing; held = held_in c.worker.inside.standing; fit = c.worker.inside.placement })
-      (Err fault.Busy) c.self.view_is c.worker.view_is (free_in c.worker.inside.standing (resting_in c.worker.inside.standing (ap (λ (w : Hand). w.held) c.worker.view_is ∙ c.requires.free) c.in_default.not-Pending), (let P : Missed → Type 0 = λ m. DeleteDid c.self.inside.shared.layout.nodes c.args.tries c.args.key c.worker.inside.pass.view.log c.delete_with.new.pass.view.log (Err m) in subst P c.in-Err-Busy.field-0-is c.in-Err-Busy.ensures.did))
+      (Err fault.Busy) c.self.view_is c.worker.view_is (free_in c.worker.inside.standing (resting_in c.worker.inside.standing (ap (λ (w : Hand). w.held) c.worker.view_is ∙ c.requires.free) c.in_default.not-Pending), (let P : Missed → Type 0 = λ m. DeleteDid c.self.inside.shared.layout.nodes c.args.tries c.args.key c.worker.inside.pass.view.log c.delete_with.new.pass.view.log (Err m) in subst P c.in-Err-Busy.field-0-is c.in-Err-Busy.ensures.after.did))
       );
   lacks = search rules;
   moment = search rules;
@@ -88,7 +88,7 @@ returns-in-Err-Busy c = record {
   steps = search rules;
   queues = (
       rw (← c.worker.view_is)
-      (others_after c.worker.inside.home c.worker.inside.pass.view.number c.worker.inside.queues.items c.delete_with.new.own c.worker.invariant.own (c.delete_with.ensures.kept.own ∙ ap (λ (x : Stand). x.view.number) c.delete_with.ensures.same))
+      (others_after c.worker.inside.home c.worker.inside.pass.view.number c.worker.inside.queues.items c.delete_with.new.own c.worker.invariant.own (c.delete_with.ensures.kept.own ∙ ap (λ (x : Stand). x.view.number) c.delete_with.ensures.after.same))
       );
   blocks = rw (← c.worker.view_is) (room_after c.worker.inside.home _ c.worker.inside.queues.items _ c.delete_with.new.own c.worker.invariant.own c.index_mut-own.ensures.value c.delete_with.ensures.room);
   held = search rules;
@@ -98,8 +98,8 @@ returns-in-Err-Busy c = record {
 
 pub invariant_of-worker-in-Err-NoMemory : goal.invariant_of-worker-in-Err-NoMemory
 invariant_of-worker-in-Err-NoMemory c =
-    changed _ _ c.worker.inside.home c.delete_with.new.pass _ _ c.delete_with.new.own c.delete_with.new.account c.worker.invariant c.delete_with.ensures.same c.delete_with.ensures.kept
-    c.delete_with.ensures.others (λ slot. ap (λ ds. get ds slot) c.delete_with.ensures.private) (rests_as c.delete_with.new.pass c.worker.inside.standing (resting_in c.worker.inside.standing (ap (λ (w : Hand). w.held) c.worker.view_is ∙ c.requires.free) c.in_default.not-Pending) (rw c.in-Err-NoMemory.field-0-is at c.in-Err-NoMemory.ensures.after))
+    changed _ _ c.worker.inside.home c.delete_with.new.pass _ _ c.delete_with.new.own c.delete_with.new.account c.worker.invariant c.delete_with.ensures.after.same c.delete_with.ensures.kept
+    c.delete_with.ensures.after.ledgers.others (λ slot. ap (λ ds. get ds slot) c.delete_with.ensures.after.private) (rests_as c.delete_with.new.pass c.worker.inside.standing (resting_in c.worker.inside.standing (ap (λ (w : Hand). w.held) c.worker.view_is ∙ c.requires.free) c.in_default.not-Pending) (rw c.in-Err-NoMemory.field-0-is at c.in-Err-NoMemory.ensures.after.stands))
 
 pub returns-in-Err-NoMemory : goal.returns-in-Err-NoMemory
 returns-in-Err-NoMemory c = record {
@@ -107,7 +107,7 @@ returns-in-Err-NoMemory c = record {
   past = search (rules, seen_all);
   did = (
       deleted_so _ _ c.args.tries c.args.key _ _ (record { pass = c.delete_with.new.pass; queues = slice_set c.worker.inside.queues.items c.worker.inside.home c.delete_with.new.own; pending = pending_in c.worker.inside.standing; held = held_in c.worker.inside.standing; fit = c.worker.inside.placement })
-      (Err fault.NoMemory) c.self.view_is c.worker.view_is (free_in c.worker.inside.standing (resting_in c.worker.inside.standing (ap (λ (w : Hand). w.held) c.worker.view_is ∙ c.requires.free) c.in_default.not-Pending), (let P : Missed → Type 0 = λ m. DeleteDid c.self.inside.shared.layout.nodes c.args.tries c.args.key c.worker.inside.pass.view.log c.delete_with.new.pass.view.log (Err m) in subst P c.in-Err-NoMemory.field-0-is c.in-Err-NoMemory.ensures.did))
+      (Err fault.NoMemory) c.self.view_is c.worker.view_is (free_in c.worker.inside.standing (resting_in c.worker.inside.standing (ap (λ (w : Hand). w.held) c.worker.view_is ∙ c.requires.free) c.in_default.not-Pending), (let P : Missed → Type 0 = λ m. DeleteDid c.self.inside.shared.layout.nodes c.args.tries c.args.key c.worker.inside.pass.view.log c.delete_with.new.pass.view.log (Err m) in subst P c.in-Err-NoMemory.field-0-is c.in-Err-NoMemory.ensures.after.did))
       );
   lacks = (
       let P : Missed → Type 0 = λ m. LacksRoomOr (LosesAfterFlag c.self.inside.shared.layout.nodes c.args.tries c.args.key c.worker.inside.pass.view.log c.delete_with.new.pass.view.log) c.delete_with.new.own.queue.spare m in
@@ -118,7 +118,7 @@ returns-in-Err-NoMemory c = record {
   steps = search rules;
   queues = (
       rw (← c.worker.view_is)
-      (others_after c.worker.inside.home c.worker.inside.pass.view.number c.worker.inside.queues.items c.delete_with.new.own c.worker.invariant.own (c.delete_with.ensures.kept.own ∙ ap (λ (x : Stand). x.view.number) c.delete_with.ensures.same))
+      (others_after c.worker.inside.home c.worker.inside.pass.view.number c.worker.inside.queues.items c.delete_with.new.own c.worker.invariant.own (c.delete_with.ensures.kept.own ∙ ap (λ (x : Stand). x.view.number) c.delete_with.ensures.after.same))
       );
   blocks = rw (← c.worker.view_is) (room_after c.worker.inside.home _ c.worker.inside.queues.items _ c.delete_with.new.own c.worker.invariant.own c.index_mut-own.ensures.value c.delete_with.ensures.room);
   held = search rules;
@@ -128,8 +128,8 @@ returns-in-Err-NoMemory c = record {
 
 pub invariant_of-worker-in-Err-Unfinished : goal.invariant_of-worker-in-Err-Unfinished
 invariant_of-worker-in-Err-Unfinished c =
-    changed _ _ c.worker.inside.home c.delete_with.new.pass _ _ c.delete_with.new.own c.delete_with.new.account c.worker.invariant c.delete_with.ensures.same c.delete_with.ensures.kept
-    c.delete_with.ensures.others (λ slot. ap (λ ds. get ds slot) c.delete_with.ensures.private) (rw c.in-Err-Unfinished.field-0-is at c.in-Err-Unfinished.ensures.after)
+    changed _ _ c.worker.inside.home c.delete_with.new.pass _ _ c.delete_with.new.own c.delete_with.new.account c.worker.invariant c.delete_with.ensures.after.same c.delete_with.ensures.kept
+    c.delete_with.ensures.after.ledgers.others (λ slot. ap (λ ds. get ds slot) c.delete_with.ensures.after.private) (rw c.in-Err-Unfinished.field-0-is at c.in-Err-Unfinished.ensures.after.stands)
 
 pub returns-in-Err-Unfinished : goal.returns-in-Err-Unfinished
 returns-in-Err-Unfinished c = record {
@@ -137,7 +137,7 @@ returns-in-Err-Unfinished c = record {
   past = search (rules, seen_all);
   did = (
       deleted_so _ _ c.args.tries c.args.key _ _ (record { pass = c.delete_with.new.pass; queues = slice_set c.worker.inside.queues.items c.worker.inside.home c.delete_with.new.own; pending = Some (record { key = c.args.key; leaf = c.in-Err-Unfinished.leaf }); held = None; fit = c.worker.inside.placement })
-      (Err fault.Unfinished) c.self.view_is c.worker.view_is ((free_in c.worker.inside.standing (resting_in c.worker.inside.standing (ap (λ (w : Hand). w.held) c.worker.view_is ∙ c.requires.free) c.in_default.not-Pending)).0, c.in-Err-Unfinished.leaf, refl, (let P : Missed → Type 0 = λ m. DeleteDid c.self.inside.shared.layout.nodes c.args.tries c.args.key c.worker.inside.pass.view.log c.delete_with.new.pass.view.log (Err m) in subst P c.in-Err-Unfinished.field-0-is c.in-Err-Unfinished.ensures.did))
+      (Err fault.Unfinished) c.self.view_is c.worker.view_is ((free_in c.worker.inside.standing (resting_in c.worker.inside.standing (ap (λ (w : Hand). w.held) c.worker.view_is ∙ c.requires.free) c.in_default.not-Pending)).0, c.in-Err-Unfinished.leaf, refl, (let P : Missed → Type 0 = λ m. DeleteDid c.self.inside.shared.layout.nodes c.args.tries c.args.key c.worker.inside.pass.view.log c.delete_with.new.pass.view.log (Err m) in subst P c.in-Err-Unfinished.field-0-is c.in-Err-Unfinished.ensures.after.did))
       );
   lacks = (
       let P : Missed → Type 0 = λ m. LacksRoomOr (LosesAfterFlag c.self.inside.shared.layout.nodes c.args.tries c.args.key c.worker.inside.pass.view.log c.delete_with.new.pass.view.log) c.delete_with.new.own.queue.spare m in
@@ -152,7 +152,7 @@ returns-in-Err-Unfinished c = record {
   steps = search rules;
   queues = (
       rw (← c.worker.view_is)
-      (others_after c.worker.inside.home c.worker.inside.pass.view.number c.worker.inside.queues.items c.delete_with.new.own c.worker.invariant.own (c.delete_with.ensures.kept.own ∙ ap (λ (x : Stand). x.view.number) c.delete_with.ensures.same))
+      (others_after c.worker.inside.home c.worker.inside.pass.view.number c.worker.inside.queues.items c.delete_with.new.own c.worker.invariant.own (c.delete_with.ensures.kept.own ∙ ap (λ (x : Stand). x.view.number) c.delete_with.ensures.after.same))
       );
   blocks = rw (← c.worker.view_is) (room_after c.worker.inside.home _ c.worker.inside.queues.items _ c.delete_with.new.own c.worker.invariant.own c.index_mut-own.ensures.value c.delete_with.ensures.room);
   held = search rules;

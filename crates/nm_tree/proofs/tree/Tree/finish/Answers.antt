@@ -41,8 +41,8 @@ finish_with-requires-clause-kept c = kept_there _ _ c.worker.inside.home _ _ c.w
 
 pub invariant_of-worker : goal.invariant_of-worker
 invariant_of-worker c =
-    changed _ _ c.worker.inside.home c.finish_with.new.pass _ _ c.finish_with.new.own c.finish_with.new.account c.worker.invariant c.finish_with.ensures.same c.finish_with.ensures.kept
-    c.finish_with.ensures.others (λ slot. ap (λ ds. get ds slot) c.finish_with.ensures.private) (removing_in c.finish_with.new.pass c.worker.inside.standing _ c.in-Pending.is (c.finish_with.ensures.removing c.if-not-finish_with.true))
+    changed _ _ c.worker.inside.home c.finish_with.new.pass _ _ c.finish_with.new.own c.finish_with.new.account c.worker.invariant c.finish_with.ensures.after.same c.finish_with.ensures.kept
+    c.finish_with.ensures.after.ledgers.others (λ slot. ap (λ ds. get ds slot) c.finish_with.ensures.after.private) (removing_in c.finish_with.new.pass c.worker.inside.standing _ c.in-Pending.is (c.finish_with.ensures.after.removing c.if-not-finish_with.true))
 
 pub returns-then-not-finish_with : goal.returns-then-not-finish_with
 returns-then-not-finish_with c = record {
@@ -61,7 +61,7 @@ returns-then-not-finish_with c = record {
   steps = search rules;
   queues = (
       rw (← c.worker.view_is)
-      (others_after c.worker.inside.home c.worker.inside.pass.view.number c.worker.inside.queues.items c.finish_with.new.own c.worker.invariant.own (c.finish_with.ensures.kept.own ∙ ap (λ (x : Stand). x.view.number) c.finish_with.ensures.same))
+      (others_after c.worker.inside.home c.worker.inside.pass.view.number c.worker.inside.queues.items c.finish_with.new.own c.worker.invariant.own (c.finish_with.ensures.kept.own ∙ ap (λ (x : Stand). x.view.number) c.finish_with.ensures.after.same))
       );
   blocks = rw (← c.worker.view_is) (room_after c.worker.inside.home _ c.worker.inside.queues.items _ c.finish_with.new.own c.worker.invariant.own c.index_mut-own.ensures.value c.finish_with.ensures.room);
   held = search rules;
@@ -71,8 +71,8 @@ returns-then-not-finish_with c = record {
 
 pub invariant_of-worker-2 : goal.invariant_of-worker-2
 invariant_of-worker-2 c =
-    changed _ _ c.worker.inside.home c.finish_with.new.pass _ _ c.finish_with.new.own c.finish_with.new.account c.worker.invariant c.finish_with.ensures.same c.finish_with.ensures.kept
-    c.finish_with.ensures.others (λ slot. ap (λ ds. get ds slot) c.finish_with.ensures.private) (c.finish_with.ensures.rests c.if-not-finish_with.false)
+    changed _ _ c.worker.inside.home c.finish_with.new.pass _ _ c.finish_with.new.own c.finish_with.new.account c.worker.invariant c.finish_with.ensures.after.same c.finish_with.ensures.kept
+    c.finish_with.ensures.after.ledgers.others (λ slot. ap (λ ds. get ds slot) c.finish_with.ensures.after.private) (c.finish_with.ensures.after.rests c.if-not-finish_with.false)
 
 pub returns : goal.returns
 returns c = record {
@@ -80,19 +80,19 @@ returns c = record {
   past = search (rules, seen_all);
   did = (
       finished_so _ _ c.args.tries _ _ (record { pass = c.finish_with.new.pass; queues = slice_set c.worker.inside.queues.items c.worker.inside.home c.finish_with.new.own; pending = None; held = None; fit = c.worker.inside.placement })
-      (Ok true) c.self.view_is c.worker.view_is (c.in-Pending.pending, ap pending_in c.in-Pending.is, refl, rw c.if-not-finish_with.false at c.finish_with.ensures.did)
+      (Ok true) c.self.view_is c.worker.view_is (c.in-Pending.pending, ap pending_in c.in-Pending.is, refl, rw c.if-not-finish_with.false at c.finish_with.ensures.after.did)
       );
   lacks = search rules;
   moment = (
       let n = c.in-Pending.pending in
       let P : Hand → Type 0 = λ w. (o : Stand) → HadNoCall o w.pass → AnswerHasMoment o c.finish_with.new.pass Delete n.key true in
-      (n, ap (λ (w : Hand). w.pending) (sym c.worker.view_is) ∙ ap pending_in c.in-Pending.is, subst P c.worker.view_is (c.finish_with.ensures.moment c.if-not-finish_with.false))
+      (n, ap (λ (w : Hand). w.pending) (sym c.worker.view_is) ∙ ap pending_in c.in-Pending.is, subst P c.worker.view_is (c.finish_with.ensures.after.moment c.if-not-finish_with.false))
       );
   won = search rules;
   steps = search rules;
   queues = (
       rw (← c.worker.view_is)
-      (others_after c.worker.inside.home c.worker.inside.pass.view.number c.worker.inside.queues.items c.finish_with.new.own c.worker.invariant.own (c.finish_with.ensures.kept.own ∙ ap (λ (x : Stand). x.view.number) c.finish_with.ensures.same))
+      (others_after c.worker.inside.home c.worker.inside.pass.view.number c.worker.inside.queues.items c.finish_with.new.own c.worker.invariant.own (c.finish_with.ensures.kept.own ∙ ap (λ (x : Stand). x.view.number) c.finish_with.ensures.after.same))
       );
   blocks = rw (← c.worker.view_is) (room_after c.worker.inside.home _ c.worker.inside.queues.items _ c.finish_with.new.own c.worker.invariant.own c.index_mut-own.ensures.value c.finish_with.ensures.room);
   held = search rules;

@@ -49,8 +49,8 @@ resting c = resting_in c.worker.inside.standing (ap (λ (w : Hand). w.held) c.wo
 
 pub invariant_of-worker : goal.invariant_of-worker
 invariant_of-worker c =
-    changed _ _ c.worker.inside.home c.insert_with.new.pass _ _ c.insert_with.new.own c.insert_with.new.account c.worker.invariant c.insert_with.ensures.same c.insert_with.ensures.kept
-    c.insert_with.ensures.others c.insert_with.ensures.private (rests_as c.insert_with.new.pass c.worker.inside.standing (resting c) c.insert_with.ensures.rests)
+    changed _ _ c.worker.inside.home c.insert_with.new.pass _ _ c.insert_with.new.own c.insert_with.new.account c.worker.invariant c.insert_with.ensures.after.same c.insert_with.ensures.kept
+    c.insert_with.ensures.after.ledgers.others c.insert_with.ensures.after.private (rests_as c.insert_with.new.pass c.worker.inside.standing (resting c) c.insert_with.ensures.after.rests)
 
 pub returns : goal.returns
 returns c = record {
@@ -58,16 +58,16 @@ returns c = record {
   past = search (rules, seen_all);
   did = (
       elim c.match-insert_with.branch [
-        | in-Ok w ↦ inserted_so _ _ c.args.tries c.args.key _ _ _ (Ok _) _ c.self.view_is c.worker.view_is w.result-is (free_in c.worker.inside.standing (resting c), w.in-Ok.ensures.did)
+        | in-Ok w ↦ inserted_so _ _ c.args.tries c.args.key _ _ _ (Ok _) _ c.self.view_is c.worker.view_is w.result-is (free_in c.worker.inside.standing (resting c), w.in-Ok.ensures.after.did)
         | in-Err-Busy w ↦
             let P : Lost → Type 0 = λ m. InsertDid c.worker.inside.placement c.self.inside.shared.layout.nodes c.args.tries c.args.key c.worker.inside.pass.view.log c.insert_with.new.pass.view.log (Err m) in
-            inserted_so _ _ c.args.tries c.args.key _ _ _ (Err fault.Busy) _ c.self.view_is c.worker.view_is w.result-is (free_in c.worker.inside.standing (resting c), subst P w.in-Err-Busy.field-0-is w.in-Err-Busy.ensures.did)
+            inserted_so _ _ c.args.tries c.args.key _ _ _ (Err fault.Busy) _ c.self.view_is c.worker.view_is w.result-is (free_in c.worker.inside.standing (resting c), subst P w.in-Err-Busy.field-0-is w.in-Err-Busy.ensures.after.did)
         | in-Err-Full w ↦
             let P : Lost → Type 0 = λ m. InsertDid c.worker.inside.placement c.self.inside.shared.layout.nodes c.args.tries c.args.key c.worker.inside.pass.view.log c.insert_with.new.pass.view.log (Err m) in
-            inserted_so _ _ c.args.tries c.args.key _ _ _ (Err fault.Full) _ c.self.view_is c.worker.view_is w.result-is (free_in c.worker.inside.standing (resting c), subst P w.in-Err-Full.field-0-is w.in-Err-Full.ensures.did)
+            inserted_so _ _ c.args.tries c.args.key _ _ _ (Err fault.Full) _ c.self.view_is c.worker.view_is w.result-is (free_in c.worker.inside.standing (resting c), subst P w.in-Err-Full.field-0-is w.in-Err-Full.ensures.after.did)
         | in-Err-NoMemory w ↦
             let P : Lost → Type 0 = λ m. InsertDid c.worker.inside.placement c.self.inside.shared.layout.nodes c.args.tries c.args.key c.worker.inside.pass.view.log c.insert_with.new.pass.view.log (Err m) in
-            inserted_so _ _ c.args.tries c.args.key _ _ _ (Err fault.NoMemory) _ c.self.view_is c.worker.view_is w.result-is (free_in c.worker.inside.standing (resting c), subst P w.in-Err-NoMemory.field-0-is w.in-Err-NoMemory.ensures.did)
+            inserted_so _ _ c.args.tries c.args.key _ _ _ (Err fault.NoMemory) _ c.self.view_is c.worker.view_is w.result-is (free_in c.worker.inside.standing (resting c), subst P w.in-Err-NoMemory.field-0-is w.in-Err-NoMemory.ensures.after.did)
       ]
       );
   lacks = (
@@ -84,7 +84,7 @@ returns c = record {
   steps = search rules;
   queues = (
       rw (← c.worker.view_is)
-      (others_after c.worker.inside.home c.worker.inside.pass.view.number c.worker.inside.queues.items c.insert_with.new.own c.worker.invariant.own (c.insert_with.ensures.kept.own ∙ ap (λ (x : Stand). x.view.number) c.insert_with.ensures.same))
+      (others_after c.worker.inside.home c.worker.inside.pass.view.number c.worker.inside.queues.items c.insert_with.new.own c.worker.invariant.own (c.insert_with.ensures.kept.own ∙ ap (λ (x : Stand). x.view.number) c.insert_with.ensures.after.same))
       );
   blocks = rw (← c.worker.view_is) (room_after c.worker.inside.home _ c.worker.inside.queues.items _ c.insert_with.new.own c.worker.invariant.own c.index_mut-own.ensures.value c.insert_with.ensures.room);
   held = search rules;
