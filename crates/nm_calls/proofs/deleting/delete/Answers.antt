@@ -14,26 +14,27 @@ use Rattle.nm_calls.proofs.Waiting.{may_grow_first, few_in_table}
 use Rattle.nm_calls.proofs.deleting.delete.Goals as goal
 
 pub returns-clause-after : goal.returns-clause-after
-returns-clause-after c = record {
-  same = search rules;
-  past = search (rules, seen_all);
-  did = (
-      let a = c.pin_for.new.pass.view.log in
-      let new = c.delete_pinned.new.pass.view.log in
-      delete_did c.args.shared.now.layout.nodes c.args.tries c.args.key c.args.pass.now.view.log new c.delete_pinned.result
-      (a, c.in-Ok._epoch, c.in-Ok.ensures.pinned, subst (λ k. DeleteFinishes c.args.shared.now.layout.nodes c.args.tries k a new c.delete_pinned.result) c.get.ensures.number c.delete_pinned.ensures.part)
-      );
-  moment = (
-      let pinned : HadNoCall c.args.pass.now c.pin_for.new.pass = record { seen = c.is_of_a_run.ensures.seen; same = c.pin_for.ensures.same; past = c.pin_for.ensures.past; call = ap (λ (s : Search). s.call) c.requires.rests.idle } in
-      subst (λ k. IfOk c.delete_pinned.result (AnswerHasMoment c.args.pass.now c.delete_pinned.new.pass Delete k)) c.get.ensures.number (c.delete_pinned.ensures.moment c.args.pass.now pinned)
-      );
-  won = delete_wins c.args.shared.now.layout.nodes c.args.tries c.args.key c.args.pass.now.view.log c.pin_for.new.pass.view.log c.delete_pinned.new.pass.view.log c.in-Ok._epoch c.in-Ok.ensures.pinned c.delete_pinned.result (subst (λ k. DeleteFinishes c.args.shared.now.layout.nodes c.args.tries k c.pin_for.new.pass.view.log c.delete_pinned.new.pass.view.log c.delete_pinned.result) c.get.ensures.number c.delete_pinned.ensures.part);
-  steps = delete_steps c.args.shared.now.layout.nodes c.args.tries c.args.key c.args.pass.now.view.log c.pin_for.new.pass.view.log c.delete_pinned.new.pass.view.log c.in-Ok._epoch c.in-Ok.ensures.pinned c.delete_pinned.result (subst (λ k. DeleteFinishes c.args.shared.now.layout.nodes c.args.tries k c.pin_for.new.pass.view.log c.delete_pinned.new.pass.view.log c.delete_pinned.result) c.get.ensures.number c.delete_pinned.ensures.part);
-  run = search rules;
-  stands = search rules;
-  private = search rules;
-  ledgers = search rules;
-}
+returns-clause-after c =
+    let nodes = c.args.shared.now.layout.nodes in
+    let old = c.args.pass.now.view.log in
+    let a = c.pin_for.new.pass.view.log in
+    let new = c.delete_pinned.new.pass.view.log in
+    let part = subst (λ k. DeleteFinishes nodes c.args.tries k a new c.delete_pinned.result) c.get.ensures.number c.delete_pinned.ensures.part in
+    record {
+      same = search rules;
+      past = search (rules, seen_all);
+      did = delete_did nodes c.args.tries c.args.key old new c.delete_pinned.result (a, c.in-Ok._epoch, c.in-Ok.ensures.pinned, part);
+      moment = (
+          let pinned : HadNoCall c.args.pass.now c.pin_for.new.pass = record { seen = c.is_of_a_run.ensures.seen; same = c.pin_for.ensures.same; past = c.pin_for.ensures.past; call = ap (λ (s : Search). s.call) c.requires.rests.idle } in
+          subst (λ k. IfOk c.delete_pinned.result (AnswerHasMoment c.args.pass.now c.delete_pinned.new.pass Delete k)) c.get.ensures.number (c.delete_pinned.ensures.moment c.args.pass.now pinned)
+          );
+      won = delete_wins nodes c.args.tries c.args.key old a new c.in-Ok._epoch c.in-Ok.ensures.pinned c.delete_pinned.result part;
+      steps = delete_steps nodes c.args.tries c.args.key old a new c.in-Ok._epoch c.in-Ok.ensures.pinned c.delete_pinned.result part;
+      run = search rules;
+      stands = search rules;
+      private = search rules;
+      ledgers = search rules;
+    }
 
 pub returns-in_default-clause-after : goal.returns-in_default-clause-after
 returns-in_default-clause-after c = record {

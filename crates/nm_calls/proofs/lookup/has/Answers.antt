@@ -42,142 +42,115 @@ unpin-requires-clause-may c =
     may_leave c.loop-walk.pass (ap (λ (b : Brief). b.unlabelled) only.epochs ∙ at.labelled) (only.linked ∙ ap (λ (s : Search). s.linked) at.begun) (only.flagged ∙ ap (λ (s : Search). s.flagged) at.begun)
 
 pub returns : goal.returns
-returns c = record {
-  same = search rules;
-  past = search (rules, seen_all);
-  did = search rules;
-  moment = search rules;
-  missed = (
-      let past = c.loop-walk-test.false in
-      let within = c.loop-walk.auto._walk-end in
-      let all : c.loop-walk._walk ≡ c.args.tries = omega (arith, past, within) in
-      missed c.args.shared.now.layout.nodes c.args.tries c.args.key c.args.pass.now.view.log c.pin_for.new.pass.view.log c.loop-walk.pass.view.log c.unpin.new.pass.view.log c.in-Ok._epoch c.if-tries-eq0.false c.in-Ok.ensures.pinned
-      (rw (← all) c.loop-walk.invariant.lost) (ap (λ (s : Stand). s.view.log) c.unpin.ensures.step)
-      );
-  won = (
-      let nodes = c.args.shared.now.layout.nodes in
-      let old = c.args.pass.now.view.log in
-      let a = c.pin_for.new.pass.view.log in
-      let p = c.loop-walk.pass.view.log in
-      let new = c.unpin.new.pass.view.log in
-      has_won old new
-      (adds_then old a new (pin_adds Has c.args.key c.args.tries old a c.in-Ok._epoch c.in-Ok.ensures.pinned)
-      (adds_then a p new (lost_walks_add nodes c.args.key c.loop-walk._walk a p c.loop-walk.invariant.lost) (adds_these _ p new (ap (λ (s : Stand). s.view.log) c.unpin.ensures.step))))
-      );
-  uncut = (
-      let nodes = c.args.shared.now.layout.nodes in
-      let old = c.args.pass.now.view.log in
-      let a = c.pin_for.new.pass.view.log in
-      let p = c.loop-walk.pass.view.log in
-      let new = c.unpin.new.pass.view.log in
-      cuts_none old new
-      (adds_then old a new (pin_adds Has c.args.key c.args.tries old a c.in-Ok._epoch c.in-Ok.ensures.pinned)
-      (adds_then a p new (lost_walks_add nodes c.args.key c.loop-walk._walk a p c.loop-walk.invariant.lost) (adds_these _ p new (ap (λ (s : Stand). s.view.log) c.unpin.ensures.step))))
-      );
-  steps = (
-      let nodes = c.args.shared.now.layout.nodes in
-      let old = c.args.pass.now.view.log in
-      let a = c.pin_for.new.pass.view.log in
-      let p = c.loop-walk.pass.view.log in
-      let new = c.unpin.new.pass.view.log in
-      let pin = (pin_adds Has c.args.key c.args.tries old a c.in-Ok._epoch c.in-Ok.ensures.pinned).steps in
-      let lost = (lost_walks_add nodes c.args.key c.loop-walk._walk a p c.loop-walk.invariant.lost).steps in
-      let last = (adds_these _ p new (ap (λ (s : Stand). s.view.log) c.unpin.ensures.step)).steps in
-      let few = mul-le-mul_right (most nodes) c.loop-walk.auto._walk-end in
-      within_call nodes c.args.tries (length old) (length new) (2 * c.args.tries + c.args.tries * most nodes + 10) (omega (arith, pin, lost, last, few)) (omega arith)
-      );
-  rests = search rules;
-  hands = search rules;
-}
+returns c =
+    let nodes = c.args.shared.now.layout.nodes in
+    let tries = c.args.tries in
+    let old = c.args.pass.now.view.log in
+    let a = c.pin_for.new.pass.view.log in
+    let p = c.loop-walk.pass.view.log in
+    let new = c.unpin.new.pass.view.log in
+    let left = ap (λ (s : Stand). s.view.log) c.unpin.ensures.step in
+    let pin = pin_adds Has c.args.key tries old a c.in-Ok._epoch c.in-Ok.ensures.pinned in
+    let lost = lost_walks_add nodes c.args.key c.loop-walk._walk a p c.loop-walk.invariant.lost in
+    let last = adds_these _ p new left in
+    let added = adds_then old a new pin (adds_then a p new lost last) in
+    record {
+      same = search rules;
+      past = search (rules, seen_all);
+      did = search rules;
+      moment = search rules;
+      missed = (
+          let past = c.loop-walk-test.false in
+          let within = c.loop-walk.auto._walk-end in
+          let all : c.loop-walk._walk ≡ tries = omega (arith, past, within) in
+          missed nodes tries c.args.key old a p new c.in-Ok._epoch c.if-tries-eq0.false c.in-Ok.ensures.pinned (rw (← all) c.loop-walk.invariant.lost) left
+          );
+      won = has_won old new added;
+      uncut = cuts_none old new added;
+      steps = (
+          let pin_steps = pin.steps in
+          let lost_steps = lost.steps in
+          let last_steps = last.steps in
+          let few = mul-le-mul_right (most nodes) c.loop-walk.auto._walk-end in
+          within_call nodes tries (length old) (length new) (2 * tries + tries * most nodes + 10) (omega (arith, pin_steps, lost_steps, last_steps, few)) (omega arith)
+          );
+      rests = search rules;
+      hands = search rules;
+    }
 
 pub returns-in_default : goal.returns-in_default
-returns-in_default c = record {
-  same = search rules;
-  past = search (rules, seen_all);
-  did = search rules;
-  moment = search rules;
-  missed = search rules;
-  won = has_won _ _ (moved_adds Has c.args.key c.args.tries c.args.pass.now.view.log c.pin_for.new.pass.view.log c.in_default.ensures.moved);
-  uncut = cuts_none _ _ (moved_adds Has c.args.key c.args.tries c.args.pass.now.view.log c.pin_for.new.pass.view.log c.in_default.ensures.moved);
-  steps = search rules;
-  rests = search rules;
-  hands = search rules;
-}
+returns-in_default c =
+    let added = moved_adds Has c.args.key c.args.tries c.args.pass.now.view.log c.pin_for.new.pass.view.log c.in_default.ensures.moved in
+    record {
+      same = search rules;
+      past = search (rules, seen_all);
+      did = search rules;
+      moment = search rules;
+      missed = search rules;
+      won = has_won _ _ added;
+      uncut = cuts_none _ _ added;
+      steps = search rules;
+      rests = search rules;
+      hands = search rules;
+    }
 
 pub returns-in-Some : goal.returns-in-Some
-returns-in-Some c = record {
-  same = search rules;
-  past = search (rules, seen_all);
-  did = (
-      let p = c.loop-walk.pass.view.log in
-      let q = c.find.new.pass.view.log in
-      let found = c.in-Some.found in
-      let walk = subst (λ k. Finds c.args.shared.now.layout.nodes k p q (Some found)) c.get.ensures.number c.in-Some.ensures.walk in
-      record {
-        pinned = c.pin_for.new.pass.view.log;
-        epoch = c.in-Ok._epoch;
-        pin = c.in-Ok.ensures.pinned;
-        broken = c.loop-walk._walk;
-        few = c.loop-walk-test.true;
-        begun = p;
-        lost = c.loop-walk.invariant.lost;
-        ended = q;
-        spot = walk.0;
-        chain = walk.1;
-        key = found;
-        walk = walk.2;
-        answers = ap (nat_eq found) c.get-in-Some.ensures.number;
-        leaves = ap (λ (s : Stand). s.view.log) c.leave_with.ensures.step;
-      }
-      );
-  moment = (
-      let o = c.args.pass.now in
-      let a = c.pin_for.new.pass in
-      let p = c.loop-walk.pass in
-      let call = call_is a c.in-Ok._epoch Has c.args.key c.in-Ok.ensures.at in
-      let pinned : HadNoCall o a = record { seen = c.is_of_a_run.ensures.seen; same = c.pin_for.ensures.same; past = c.pin_for.ensures.past; call = ap (λ (s : Search). s.call) c.requires.rests.idle } in
-      let walked = no_call_on o p c.find.new.pass (no_call_on o a p pinned c.loop-walk.invariant.on.same c.loop-walk.invariant.on.past) c.find.ensures.on.same c.find.ensures.on.past in
-      c.leave_with.ensures.moment o Has c.args.key walked (c.in-Some.ensures.on.keeps (CallIs Has c.args.key) (c.loop-walk.invariant.on.keeps (CallIs Has c.args.key) call))
-      );
-  missed = search rules;
-  won = (
-      let nodes = c.args.shared.now.layout.nodes in
-      let old = c.args.pass.now.view.log in
-      let a = c.pin_for.new.pass.view.log in
-      let p = c.loop-walk.pass.view.log in
-      let q = c.find.new.pass.view.log in
-      let new = c.leave_with.new.pass.view.log in
-      has_won old new
-      (adds_then old a new (pin_adds Has c.args.key c.args.tries old a c.in-Ok._epoch c.in-Ok.ensures.pinned)
-      (adds_then a p new (lost_walks_add nodes c.args.key c.loop-walk._walk a p c.loop-walk.invariant.lost)
-      (adds_then p q new (finds_adds nodes c.get.result p q (Some c.in-Some.found) c.in-Some.ensures.walk) (adds_these _ q new (ap (λ (s : Stand). s.view.log) c.leave_with.ensures.step)))))
-      );
-  uncut = (
-      let nodes = c.args.shared.now.layout.nodes in
-      let old = c.args.pass.now.view.log in
-      let a = c.pin_for.new.pass.view.log in
-      let p = c.loop-walk.pass.view.log in
-      let q = c.find.new.pass.view.log in
-      let new = c.leave_with.new.pass.view.log in
-      cuts_none old new
-      (adds_then old a new (pin_adds Has c.args.key c.args.tries old a c.in-Ok._epoch c.in-Ok.ensures.pinned)
-      (adds_then a p new (lost_walks_add nodes c.args.key c.loop-walk._walk a p c.loop-walk.invariant.lost)
-      (adds_then p q new (finds_adds nodes c.get.result p q (Some c.in-Some.found) c.in-Some.ensures.walk) (adds_these _ q new (ap (λ (s : Stand). s.view.log) c.leave_with.ensures.step)))))
-      );
-  steps = (
-      let nodes = c.args.shared.now.layout.nodes in
-      let old = c.args.pass.now.view.log in
-      let a = c.pin_for.new.pass.view.log in
-      let p = c.loop-walk.pass.view.log in
-      let q = c.find.new.pass.view.log in
-      let new = c.leave_with.new.pass.view.log in
-      let pin = (pin_adds Has c.args.key c.args.tries old a c.in-Ok._epoch c.in-Ok.ensures.pinned).steps in
-      let lost = (lost_walks_add nodes c.args.key c.loop-walk._walk a p c.loop-walk.invariant.lost).steps in
-      let walk = c.find.ensures.steps in
-      let last = (adds_these _ q new (ap (λ (s : Stand). s.view.log) c.leave_with.ensures.step)).steps in
-      let few = mul_below c.loop-walk._walk c.args.tries (most nodes) c.loop-walk-test.true in
-      within_call nodes c.args.tries (length old) (length new) (2 * c.args.tries + c.args.tries * most nodes + 10) (omega (arith, pin, lost, walk, last, few)) (omega arith)
-      );
-  rests = search rules;
-  hands = search rules;
-}
+returns-in-Some c =
+    let nodes = c.args.shared.now.layout.nodes in
+    let tries = c.args.tries in
+    let old = c.args.pass.now.view.log in
+    let a = c.pin_for.new.pass.view.log in
+    let p = c.loop-walk.pass.view.log in
+    let q = c.find.new.pass.view.log in
+    let new = c.leave_with.new.pass.view.log in
+    let found = c.in-Some.found in
+    let left = ap (λ (s : Stand). s.view.log) c.leave_with.ensures.step in
+    let pin = pin_adds Has c.args.key tries old a c.in-Ok._epoch c.in-Ok.ensures.pinned in
+    let lost = lost_walks_add nodes c.args.key c.loop-walk._walk a p c.loop-walk.invariant.lost in
+    let last = adds_these _ q new left in
+    let walks = finds_adds nodes c.get.result p q (Some found) c.in-Some.ensures.walk in
+    let added = adds_then old a new pin (adds_then a p new lost (adds_then p q new walks last)) in
+    record {
+      same = search rules;
+      past = search (rules, seen_all);
+      did = (
+          let walk = subst (λ k. Finds nodes k p q (Some found)) c.get.ensures.number c.in-Some.ensures.walk in
+          record {
+            pinned = a;
+            epoch = c.in-Ok._epoch;
+            pin = c.in-Ok.ensures.pinned;
+            broken = c.loop-walk._walk;
+            few = c.loop-walk-test.true;
+            begun = p;
+            lost = c.loop-walk.invariant.lost;
+            ended = q;
+            spot = walk.0;
+            chain = walk.1;
+            key = found;
+            walk = walk.2;
+            answers = ap (nat_eq found) c.get-in-Some.ensures.number;
+            leaves = left;
+          }
+          );
+      moment = (
+          let o = c.args.pass.now in
+          let begun = c.pin_for.new.pass in
+          let call = call_is begun c.in-Ok._epoch Has c.args.key c.in-Ok.ensures.at in
+          let pinned : HadNoCall o begun = record { seen = c.is_of_a_run.ensures.seen; same = c.pin_for.ensures.same; past = c.pin_for.ensures.past; call = ap (λ (s : Search). s.call) c.requires.rests.idle } in
+          let walked = no_call_on o c.loop-walk.pass c.find.new.pass (no_call_on o begun c.loop-walk.pass pinned c.loop-walk.invariant.on.same c.loop-walk.invariant.on.past) c.find.ensures.on.same c.find.ensures.on.past in
+          c.leave_with.ensures.moment o Has c.args.key walked (c.in-Some.ensures.on.keeps (CallIs Has c.args.key) (c.loop-walk.invariant.on.keeps (CallIs Has c.args.key) call))
+          );
+      missed = search rules;
+      won = has_won old new added;
+      uncut = cuts_none old new added;
+      steps = (
+          let pin_steps = pin.steps in
+          let lost_steps = lost.steps in
+          let walk_steps = c.find.ensures.steps in
+          let last_steps = last.steps in
+          let few = mul_below c.loop-walk._walk tries (most nodes) c.loop-walk-test.true in
+          within_call nodes tries (length old) (length new) (2 * tries + tries * most nodes + 10) (omega (arith, pin_steps, lost_steps, walk_steps, last_steps, few)) (omega arith)
+          );
+      rests = search rules;
+      hands = search rules;
+    }
