@@ -1,10 +1,11 @@
--- What each call leaves of its worker: all that the call ensures, as one record.
+-- What a call asks of its worker, and what each call leaves of it: all that it ensures, as one
+-- record.
 use Rattle.std.specs.Prelude.{◌≡◌, ◌+◌, ◌*◌, ◌≤◌, ℕ, Bool, List, length, map, Option, None, Result, IfOk, IfErr, All}
 use Rattle.nm_model.specs.declared.event.Event.TheVariants.{Leave}
 use Rattle.nm_model.specs.declared.event.Op.TheVariants.{Has, Insert, Delete}
 use Rattle.nm_model.specs.declared.reply.Reply.TheVariants.{Departed}
 use Rattle.nm_order.specs.Reads.{HasRead}
-use Rattle.nm_steps.specs.Steps.{IsSamePass, HasSeenAllOf, Stepped}
+use Rattle.nm_steps.specs.Steps.{Board, IsOf, IsSamePass, HasSeenAllOf, Stepped}
 use Rattle.nm_epoch.specs.declared.answers.Advance.{Advance}
 use Rattle.nm_epoch.specs.declared.answers.Behind.{Behind}
 use Rattle.nm_epoch.specs.declared.collecting.Collected.{Collected}
@@ -27,6 +28,11 @@ use Rattle.nm_tree.specs.InTurns.{HasAnsweredMany}
 use Rattle.nm_tree.specs.Looked.{HasLooked}
 use Rattle.nm_tree.specs.Running.{IsFreedInGrace}
 use Rattle.nm_tree.specs.Workers.{Hand, IsBetweenCalls, KeepsOtherQueues, TakeRoom}
+
+-- the worker is one of this tree's, and its caller does not hold it
+pub record MayCall (b : Board) (w : Hand) : Type 0 where
+  pub own : IsOf b w.pass
+  pub free : w.held ≡ None
 
 -- `LeavesHas`, `LeavesInsert`, `LeavesDelete`, `LeavesFinish`: by its answer, of a worker that was
 -- so and is so now. It is the same pass, which has seen all that it had seen (`same`, `past`); what

@@ -6,5 +6,4 @@ pub mod Calls
 pub mod Resigning
 pub mod Settled
 pub mod Closing
-pub mod Plays
 pub mod Running

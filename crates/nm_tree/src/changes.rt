@@ -1,5 +1,5 @@
 //! Inserts, deletes, and what is left to do of a delete.
-ghost use Rattle.std.specs.Prelude.{◌≡◌, ◌⊎◌, ◌<◌, true, false, None, IfErr, IsErrOf};
+ghost use Rattle.std.specs.Prelude.{◌≡◌, ◌⊎◌, ◌<◌, true, false, IfErr, IsErrOf};
 ghost use Rattle.nm_steps.specs.Steps.{IsOf};
 ghost use Rattle.nm_calls.specs.Bounds.{cut_bound};
 ghost use Rattle.nm_calls.specs.Rooms.{TakesRoom};
@@ -8,7 +8,7 @@ ghost use Rattle.nm_calls.specs.Deletes.{IsRemoving, AfterDelete, LosesEachTry, 
 ghost use Rattle.nm_calls.specs.Inserts.{AfterInsert};
 ghost use Rattle.nm_calls.specs.Won.{links_of_insert, flags_of_delete};
 ghost use Rattle.nm_tree.specs.Workers.{IsKept};
-ghost use Rattle.nm_tree.specs.Calls.{LeavesInsert, LeavesDelete, LeavesFinish};
+ghost use Rattle.nm_tree.specs.Calls.{MayCall, LeavesInsert, LeavesDelete, LeavesFinish};
 
 use crate::fault::Fault;
 use crate::tree::Tree;
@@ -154,8 +154,7 @@ impl Tree {
     /// `Full`, `NoMemory`: see `Fault`. The worker is not held. (The insert of Natarajan and
     /// Mittal, section 3.2.)
     pub fn insert(&self, worker: &mut Worker, key: Key, tries: u32) -> Result<bool, Fault>
-        requires own { IsOf self.now worker.old.pass }
-        requires free { worker.old.held ≡ None }
+        requires { MayCall self.now worker.old }
         ensures { LeavesInsert self.now.layout.nodes tries key worker.old worker.new result }
     {
         if let Standing::Pending(_) = worker.standing {
@@ -191,8 +190,7 @@ impl Tree {
     /// the key is pending: `finish` goes on. `Pending`, `Busy`, `NoMemory`: see `Fault`. The worker
     /// is not held. (The delete of Natarajan and Mittal, section 3.2.)
     pub fn delete(&self, worker: &mut Worker, key: Key, tries: u32) -> Result<bool, Fault>
-        requires own { IsOf self.now worker.old.pass }
-        requires free { worker.old.held ≡ None }
+        requires { MayCall self.now worker.old }
         ensures { LeavesDelete self.now.layout.nodes tries key worker.old worker.new result }
     {
         if let Standing::Pending(_) = worker.standing {

@@ -1,12 +1,12 @@
 //! Pins of the caller, and moving the epoch on.
-ghost use Rattle.std.specs.Prelude.{ℕ, ◌≡◌, ◌+◌, ◌≤◌, length, Some, None, IsSome, vec_capacity};
+ghost use Rattle.std.specs.Prelude.{ℕ, ◌≡◌, ◌+◌, ◌≤◌, length, Some, IsSome, vec_capacity};
 ghost use Rattle.nm_order.specs.Reads.{HasRead};
 ghost use Rattle.nm_steps.specs.Steps.{IsOf, IsInRun, IsSamePass, HasSeenAllOf};
 ghost use Rattle.nm_epoch.specs.Resting.{Settles};
 ghost use Rattle.nm_steps.specs.Rules.{knowledge};
 ghost use Rattle.nm_epoch.specs.Collecting.{AreHeld, IsCollection, HaveLost, KeepsOtherLedgers, KeepsRetired, blocks_of, ripe_of};
 ghost use Rattle.nm_tree.specs.Workers.{ArePaired, HaveNoted};
-ghost use Rattle.nm_tree.specs.Calls.{LeavesPin, LeavesUnpin, LeavesAdvance, LeavesBehind, LeavesCollect};
+ghost use Rattle.nm_tree.specs.Calls.{MayCall, LeavesPin, LeavesUnpin, LeavesAdvance, LeavesBehind, LeavesCollect};
 
 use crate::fault::PinFault;
 use crate::tree::Tree;
@@ -23,8 +23,7 @@ impl Tree {
     /// `Moved`: the epoch moved on in each of `tries` tries; with 0 tries it was only read.
     /// `Pending`: a key is pending. The worker is not held.
     pub fn pin(&self, worker: &mut Worker, tries: u32) -> Result<u64, PinFault>
-        requires own { IsOf self.now worker.old.pass }
-        requires free { worker.old.held ≡ None }
+        requires { MayCall self.now worker.old }
         ensures { LeavesPin tries worker.old worker.new result }
     {
         if let Standing::Pending(_) = worker.standing {

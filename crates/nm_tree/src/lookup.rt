@@ -1,7 +1,5 @@
 //! Look-ups.
-ghost use Rattle.std.specs.Prelude.{◌≡◌, None};
-ghost use Rattle.nm_steps.specs.Steps.{IsOf};
-ghost use Rattle.nm_tree.specs.Calls.{LeavesHas};
+ghost use Rattle.nm_tree.specs.Calls.{MayCall, LeavesHas};
 
 use crate::fault::Fault;
 use crate::tree::Tree;
@@ -19,8 +17,7 @@ impl Tree {
     /// section 3.2.)
     #[inline]
     pub fn has(&self, worker: &mut Worker, key: Key, tries: u32) -> Result<bool, Fault>
-        requires own { IsOf self.now worker.old.pass }
-        requires free { worker.old.held ≡ None }
+        requires { MayCall self.now worker.old }
         ensures { LeavesHas self.now.layout.nodes tries key worker.old worker.new result }
     {
         if let Standing::Pending(_) = worker.standing {

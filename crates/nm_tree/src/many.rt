@@ -1,7 +1,5 @@
 //! Look-ups of several keys under one pin.
-ghost use Rattle.std.specs.Prelude.{◌≡◌, None};
-ghost use Rattle.nm_steps.specs.Steps.{IsOf};
-ghost use Rattle.nm_tree.specs.Calls.{LeavesHasMany};
+ghost use Rattle.nm_tree.specs.Calls.{MayCall, LeavesHasMany};
 
 use crate::fault::Fault;
 use crate::tree::Tree;
@@ -25,8 +23,7 @@ impl Tree {
         queries: &mut [Query],
         tries: u32,
     ) -> Result<(), Fault>
-        requires own { IsOf self.now worker.old.pass }
-        requires free { worker.old.held ≡ None }
+        requires { MayCall self.now worker.old }
         ensures { LeavesHasMany self.now.layout.nodes tries queries.old queries.new worker.old
             worker.new result }
     {

@@ -1,7 +1,5 @@
 //! The next key of a set that is in use.
-ghost use Rattle.std.specs.Prelude.{◌≡◌, None};
-ghost use Rattle.nm_steps.specs.Steps.{IsOf};
-ghost use Rattle.nm_tree.specs.Calls.{LeavesNext};
+ghost use Rattle.nm_tree.specs.Calls.{MayCall, LeavesNext};
 
 use crate::fault::Fault;
 use crate::tree::Tree;
@@ -23,8 +21,7 @@ impl Tree {
     /// The worker is not held. At most `tries` * (3 `nodes` + 4) + 2 steps. (The search of
     /// Natarajan and Mittal, section 3.2.)
     pub fn next(&self, worker: &mut Worker, key: Key, tries: u32) -> Result<Option<Key>, Fault>
-        requires own { IsOf self.now worker.old.pass }
-        requires free { worker.old.held ≡ None }
+        requires { MayCall self.now worker.old }
         ensures { LeavesNext self.now.layout.nodes tries key worker.old worker.new result }
     {
         if let Standing::Pending(_) = worker.standing {

@@ -2,7 +2,7 @@
 ghost use Rattle.std.specs.Prelude.{All, ◌≡◌, ◌≢◌, ◌<◌, ◌≤◌, ◌⊎◌, ◌↔◌, length, IfOk, IfErr, IsErrOf};
 ghost use Rattle.nm_edge.specs.Layouts.{dense, spaced};
 ghost use Rattle.nm_steps.specs.Steps.{AreFresh};
-ghost use Rattle.nm_tree.specs.Plays.{IsReady};
+ghost use Rattle.nm_tree.specs.Calls.{MayCall};
 ghost use Rattle.nm_tree.specs.Workers.{AreNew, AreAllFresh, AreMade, HaveFit, HaveWorkers, IsFresh, IsNewWorker};
 
 use crate::worker::{Account, Standing, Worker};
@@ -43,7 +43,7 @@ impl Tree {
         ensures count { IfOk result (λ r. length r.1.items ≡ workers) }
         ensures new { IfOk result (λ r. AreNew r.0 0 r.1.items) }
         ensures fit { IfOk result (λ r. HaveFit Fit.Lowest r.1.items) }
-        ensures ready { IfOk result (λ r. All (IsReady r.0) r.1.items) }
+        ensures ready { IfOk result (λ r. All (MayCall r.0) r.1.items) }
         ensures nodes { IsErrOf result NewError.Nodes
             ↔ ((nodes < LEAST_NODES) ⊎ (MOST_NODES < nodes)) }
         ensures workers { IsErrOf result NewError.Workers
@@ -63,7 +63,7 @@ impl Tree {
         ensures count { IfOk result (λ r. length r.1.items ≡ workers) }
         ensures new { IfOk result (λ r. AreNew r.0 0 r.1.items) }
         ensures fit { IfOk result (λ r. HaveFit Fit.Near r.1.items) }
-        ensures ready { IfOk result (λ r. All (IsReady r.0) r.1.items) }
+        ensures ready { IfOk result (λ r. All (MayCall r.0) r.1.items) }
         ensures nodes { IsErrOf result NewError.Nodes
             ↔ ((nodes < LEAST_NODES) ⊎ (MOST_NODES < nodes)) }
         ensures workers { IsErrOf result NewError.Workers
@@ -87,7 +87,7 @@ impl Tree {
         ensures count { IfOk result (λ r. length r.1.items ≡ workers) }
         ensures new { IfOk result (λ r. AreNew r.0 0 r.1.items) }
         ensures fit { IfOk result (λ r. HaveFit fit r.1.items) }
-        ensures ready { IfOk result (λ r. All (IsReady r.0) r.1.items) }
+        ensures ready { IfOk result (λ r. All (MayCall r.0) r.1.items) }
         ensures nodes { IsErrOf result NewError.Nodes
             ↔ ((nodes < LEAST_NODES) ⊎ (MOST_SPACED_NODES < nodes)) }
         ensures workers { IsErrOf result NewError.Workers
@@ -104,7 +104,7 @@ impl Tree {
         ensures count { IfOk result (λ r. length r.1.items ≡ layout.workers) }
         ensures new { IfOk result (λ r. AreNew r.0 0 r.1.items) }
         ensures fit { IfOk result (λ r. HaveFit fit r.1.items) }
-        ensures ready { IfOk result (λ r. All (IsReady r.0) r.1.items) }
+        ensures ready { IfOk result (λ r. All (MayCall r.0) r.1.items) }
         ensures memory { IfErr result (λ e. e ≡ NewError.NoMemory) }
     {
         let (shared, passes) = Shared::new(alloc, layout)?;
