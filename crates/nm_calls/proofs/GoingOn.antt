@@ -10,7 +10,7 @@ use Rattle.nm_order.specs.Taught.{EdgeLearned}
 use Rattle.nm_steps.specs.Steps.{Board, Stand, IsOf, IsSamePass}
 use Rattle.nm_steps.proofs.Seeing.{seen_through}
 use Rattle.nm_calls.specs.declared.spot.Spot.{Spot}
-use Rattle.nm_calls.specs.Leaving.{IsInCall}
+use Rattle.nm_calls.specs.Leaving.{IsPinnedForCall}
 use Rattle.nm_calls.specs.Telling.{Tells, GoesOn, OnlyLooks, IsPinnedSomewhere, IsPinnedIn, KeyTold, EdgeTold, OnwardTold}
 use Rattle.nm_calls.specs.Walks.{begin, onto, edge_on, EachWalkHasCome, HasFound}
 use Rattle.nm_calls.proofs.Standing.{onto-edge, onto-parent}
@@ -49,8 +49,8 @@ pub pinned_in_still : (b : Board) (p q : Stand) → GoesOn p q → IsPinnedIn b 
 pinned_in_still b p q on at = record { own = own_still b p q at.own on.same; run = on.run; pin = pinned_still p q on at.pin }
 
 -- and it is in its call still
-pub in_call_still : (op : Op) (k : ℕ) (p q : Stand) → GoesOn p q → IsInCall op k p → IsInCall op k q
-in_call_still op k p q on call = record { root = on.keeps (KnowsSlot 1) call.root; known = on.keeps (KnowsSlot 2) call.known; call = on.keeps (CallIs op k) call.call }
+pub call_still : (op : Op) (k : ℕ) (p q : Stand) → GoesOn p q → IsPinnedForCall op k p → IsPinnedForCall op k q
+call_still op k p q on call = record { root = on.keeps (KnowsSlot 1) call.root; known = on.keeps (KnowsSlot 2) call.known; call = on.keeps (CallIs op k) call.call }
 
 -- ---- walks
 

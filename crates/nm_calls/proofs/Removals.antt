@@ -28,7 +28,7 @@ use Rattle.nm_calls.specs.declared.spot.Spot.{Spot}
 use Rattle.nm_calls.specs.Telling.{Tells, IsInRun, GoesOn, OnlyLooks, IsPinnedSomewhere}
 use Rattle.nm_calls.specs.Walks.{HasEnded, HasFound}
 use Rattle.nm_calls.specs.Marking.{IsToBeFlagged, FlagWon}
-use Rattle.nm_calls.specs.Leaving.{ShowsAnswer, IsInCall}
+use Rattle.nm_calls.specs.Leaving.{ShowsAnswer, IsPinnedForCall}
 use Rattle.nm_calls.specs.Cleanups.{HasCleaned, OnlyCleans, CleanupLost}
 use Rattle.nm_calls.specs.Deletes.{IsRemoving, MayFlag, HasWonItsFlag, leaf_of, OnlyInjects, IsRemoval, RemovalAfter, LosesAfterFlag, LacksRoomOr, FlagsThen, PinsForDelete, DeleteDid}
 use Rattle.nm_calls.proofs.GoingOn.{pinned_still}
@@ -115,7 +115,7 @@ may_flag_there p q k nodes r c call unflagged low on only ended high found is = 
 
 -- ---- a flag that was won
 
-pub removing_from : (p q : Stand) (k : ℕ) (n : NodeId) → IsPinnedSomewhere p → IsInCall Delete k p → (epochs p).unlabelled ≡ false → GoesOn p q → OnlyInjects p q
+pub removing_from : (p q : Stand) (k : ℕ) (n : NodeId) → IsPinnedSomewhere p → IsPinnedForCall Delete k p → (epochs p).unlabelled ≡ false → GoesOn p q → OnlyInjects p q
     → (search q).flagged ≡ Some n → Tells q (IsBorn n.slot n.birth) → IsRemoving q k n
 removing_from p q k n pin call labelled on only flagged born = record {
   run = on.run;

@@ -13,7 +13,7 @@ use Rattle.nm_epoch.specs.Resting.{epochs, search}
 use Rattle.nm_calls.specs.Telling.{Tells}
 
 -- the pin is one for a call of that operation on k, which knows the slots where walks begin
-pub record IsInCall (op : Op) (k : ℕ) (p : Stand) : Type 0 where
+pub record IsPinnedForCall (op : Op) (k : ℕ) (p : Stand) : Type 0 where
   pub root : Tells p (KnowsSlot 1)
   pub known : Tells p (KnowsSlot 2)
   pub call : Tells p (CallIs op k)

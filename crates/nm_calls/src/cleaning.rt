@@ -91,15 +91,18 @@ pub fn cleanup(
     requires room { cut_bound ≤ queue.old.spare }
     requires kept { HoldsCuts pass.old queue.old splices.old }
     ensures won { result ≡ true
-        → HasCleaned spot.now workspace.old.chain.items pass.old pass.new queue.old.items queue.new.items }
-    ensures lost { result ≡ false → HasCutNothing spot.now workspace.old.chain.items pass.old pass.new }
+        → HasCleaned spot.now workspace.old.chain.items pass.old pass.new queue.old.items
+        queue.new.items }
+    ensures lost { result ≡ false
+        → HasCutNothing spot.now workspace.old.chain.items pass.old pass.new }
     ensures untouched { result ≡ false → queue.new ≡ queue.old }
     ensures chain { workspace.new.chain ≡ workspace.old.chain }
     ensures kept { HoldsCuts pass.new queue.new splices.new }
     ensures fills { FillsUp queue.old queue.new }
     ensures on { GoesOn pass.old pass.new }
     ensures only { OnlyCleans pass.old pass.new }
-    ensures steps { length pass.new.view.log ≤ length pass.old.view.log + 3 * length workspace.old.chain.items + 8 }
+    ensures steps { length pass.new.view.log
+        ≤ length pass.old.view.log + 3 * length workspace.old.chain.items + 8 }
 {
     if !cut_off(
         shared,

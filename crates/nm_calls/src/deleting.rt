@@ -10,7 +10,7 @@ ghost use Rattle.nm_calls.specs.Bounds.{chain_bound, cut_bound};
 ghost use Rattle.nm_calls.specs.Rooms.{FillsUp, TakesRoom};
 ghost use Rattle.nm_calls.specs.Telling.{Tells, GoesOn, IsInRun, IsPinnedIn};
 ghost use Rattle.nm_calls.specs.Walks.{IsAt};
-ghost use Rattle.nm_calls.specs.Leaving.{ShowsAnswer, IsInCall, HasChangedNothing};
+ghost use Rattle.nm_calls.specs.Leaving.{ShowsAnswer, IsPinnedForCall, HasChangedNothing};
 ghost use Rattle.nm_calls.specs.Marking.{OnlyFlags};
 ghost use Rattle.nm_calls.specs.Moments.{AnswerHasMoment, HadNoCall};
 ghost use Rattle.nm_calls.specs.Cleanups.{OnlyCleans, KeepsLedgers, HoldsCuts};
@@ -182,7 +182,7 @@ fn try_flag(
     splices: &mut u64,
 ) -> Injected
     requires pinned { IsPinnedIn shared.now pass.old }
-    requires call { IsInCall Delete key pass.old }
+    requires call { IsPinnedForCall Delete key pass.old }
     requires low { key < infinity_0 }
     requires unflagged { (search pass.old).flagged ≡ None }
     requires room { cut_bound ≤ queue.old.spare }
@@ -221,13 +221,13 @@ fn inject(
     splices: &mut u64,
 ) -> Injection
     requires pinned { IsPinnedIn shared.now pass.old }
-    requires call { IsInCall Delete key pass.old }
+    requires call { IsPinnedForCall Delete key pass.old }
     requires low { key < infinity_0 }
     requires unflagged { (search pass.old).flagged ≡ None }
     requires room { cut_bound ≤ queue.old.spare }
     requires kept { HoldsCuts pass.old queue.old splices.old }
-    ensures part { IsInjection shared.now.layout.nodes key tries workspace.new.chain.items pass.old.view.log
-        pass.new.view.log result }
+    ensures part { IsInjection shared.now.layout.nodes key tries workspace.new.chain.items
+        pass.old.view.log pass.new.view.log result }
     ensures refused { result ≡ Injection.Refused → queue.new.spare < cut_bound }
     ensures shows { ShowsInjection key workspace.new.chain.items pass.new result }
     ensures on { GoesOn pass.old pass.new }
@@ -269,8 +269,8 @@ fn remove_after(
     requires at { IsAt (Tells pass.old) end.now.spot workspace.old.chain.items }
     requires few { length workspace.old.chain.items < chain_bound }
     requires kept { HoldsCuts pass.old queue.old splices.old }
-    ensures part { RemovalAfter shared.now.layout.nodes key end.now workspace.old.chain.items birth left
-        pass.old.view.log pass.new.view.log result }
+    ensures part { RemovalAfter shared.now.layout.nodes key end.now workspace.old.chain.items birth
+        left pass.old.view.log pass.new.view.log result }
     ensures refused { result ≡ Removal.Refused → queue.new.spare < cut_bound }
     ensures shows { IfRemoved result (ShowsAnswer pass.new Delete key true) }
     ensures on { GoesOn pass.old pass.new }
@@ -313,7 +313,7 @@ fn delete_pinned(
     splices: &mut u64,
 ) -> Result<bool, Missed>
     requires pinned { IsPinnedIn shared.now pass.old }
-    requires call { IsInCall Delete key pass.old }
+    requires call { IsPinnedForCall Delete key pass.old }
     requires low { key < infinity_0 }
     requires unchanged { HasChangedNothing pass.old }
     requires room { cut_bound ≤ queue.old.spare }

@@ -11,7 +11,7 @@ ghost use Rattle.nm_calls.specs.Making.{OnlyMakes};
 ghost use Rattle.nm_calls.specs.Moments.{AnswerHasMoment, HadNoCall};
 ghost use Rattle.nm_calls.specs.Cleanups.{OnlyCleans, KeepsLedgers, HoldsCuts};
 ghost use Rattle.nm_calls.specs.Inserts.{HasFork, Helps, asks_help, IsReadied, IsTry, OnlyTries, ShowsTry, Finishes, AfterInsert};
-ghost use Rattle.nm_calls.specs.Leaving.{IsInCall, HasChangedNothing};
+ghost use Rattle.nm_calls.specs.Leaving.{IsPinnedForCall, HasChangedNothing};
 
 use crate::cleaning::cleanup;
 use crate::growing::{Fork, claim_fork, give_back, grow};
@@ -97,7 +97,8 @@ pub(crate) fn help(
     requires few { length workspace.old.chain.items < chain_bound }
     requires room { cut_bound ≤ queue.old.spare }
     requires kept { HoldsCuts pass.old queue.old splices.old }
-    ensures part { Helps end.now workspace.old.chain.items found pass.old.view.log pass.new.view.log }
+    ensures part { Helps end.now workspace.old.chain.items found pass.old.view.log
+        pass.new.view.log }
     ensures chain { workspace.new.chain ≡ workspace.old.chain }
     ensures on { GoesOn pass.old pass.new }
     ensures only { OnlyCleans pass.old pass.new }
@@ -122,7 +123,7 @@ fn try_insert(
     splices: &mut u64,
 ) -> Attempt
     requires pinned { IsPinnedIn shared.now pass.old }
-    requires call { IsInCall Insert key pass.old }
+    requires call { IsPinnedForCall Insert key pass.old }
     requires unlinked { (search pass.old).linked ≡ false }
     requires room { cut_bound ≤ queue.old.spare }
     requires kept { HoldsCuts pass.old queue.old splices.old }
@@ -184,7 +185,7 @@ fn insert_pinned(
     splices: &mut u64,
 ) -> Result<bool, Fault>
     requires pinned { IsPinnedIn shared.now pass.old }
-    requires call { IsInCall Insert key pass.old }
+    requires call { IsPinnedForCall Insert key pass.old }
     requires unchanged { HasChangedNothing pass.old }
     requires room { cut_bound ≤ queue.old.spare }
     requires kept { HoldsCuts pass.old queue.old splices.old }

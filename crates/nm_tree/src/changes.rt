@@ -122,8 +122,8 @@ fn finish_with(
     requires own { IsOf shared.now pass.old }
     requires removing { IsRemoving pass.old pending.now.key pending.now.leaf }
     requires kept { IsKept pass.old own.old account.old }
-    ensures after { AfterFinish shared.now.layout.nodes pending.now.key pending.now.leaf tries pass.old
-        pass.new result }
+    ensures after { AfterFinish shared.now.layout.nodes pending.now.key pending.now.leaf tries
+        pass.old pass.new result }
     ensures refused { result ≡ false
         → (own.new.queue.spare < cut_bound)
         ⊎ LosesEachTry shared.now.layout.nodes pending.now.key pending.now.leaf tries

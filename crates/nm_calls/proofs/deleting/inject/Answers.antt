@@ -1,12 +1,12 @@
 use Rattle.std.proofs.Common.{rules, add-one, arith, ◌∙◌}
 use Rattle.nm_model.specs.declared.event.Op.TheVariants.{Delete}
-use Rattle.nm_calls.proofs.GoingOn.{goes_then, in_call_still}
+use Rattle.nm_calls.proofs.GoingOn.{goes_then, call_still}
 use Rattle.nm_calls.proofs.Rooms.{takes_then, takes_fills, later_refused}
 use Rattle.nm_calls.proofs.Waiting.{may_grow_more}
 use Rattle.nm_calls.proofs.deleting.inject.Goals as goal
 
 pub try_flag-requires-clause-call : goal.try_flag-requires-clause-call
-try_flag-requires-clause-call c = in_call_still Delete c.args.key c.args.pass.now c.loop-round.pass c.loop-round.invariant.on c.requires.call
+try_flag-requires-clause-call c = call_still Delete c.args.key c.args.pass.now c.loop-round.pass c.loop-round.invariant.on c.requires.call
 
 pub make_room-requires : goal.make_room-requires
 make_room-requires c = record { few = may_grow_more c.loop-round.pass c.loop-round.queue.items c.loop-round.invariant.on.run c.loop-round.invariant.kept.queue }

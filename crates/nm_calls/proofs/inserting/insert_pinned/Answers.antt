@@ -10,7 +10,7 @@ use Rattle.nm_calls.specs.Inserts.{HasFork, IsTry}
 use Rattle.nm_steps.specs.Steps.{Stand}
 use Rattle.nm_calls.proofs.Adding.{adds_then, adds_these, counts_on}
 use Rattle.nm_calls.proofs.AddingInserts.{back_adds}
-use Rattle.nm_calls.proofs.GoingOn.{goes_then, in_call_still}
+use Rattle.nm_calls.proofs.GoingOn.{goes_then, call_still}
 use Rattle.nm_calls.proofs.Moments.{no_call_on}
 use Rattle.nm_calls.proofs.Forks.{if_ready, none_left, tries_then, found_answer}
 use Rattle.nm_calls.proofs.Rooms.{takes_then, takes_fills, later_refused}
@@ -22,7 +22,7 @@ returns-then-not-make_room-clause-private c =
     none_left c.args.pass.now c.give_back.new.pass c.leave.new.pass c.leave.ensures.hands.private (c.give_back.ensures.given c.args.pass.now c.loop-round.invariant.has)
 
 pub try_insert-requires-clause-call : goal.try_insert-requires-clause-call
-try_insert-requires-clause-call c = in_call_still Insert c.args.key c.args.pass.now c.loop-round.pass c.loop-round.invariant.on c.requires.call
+try_insert-requires-clause-call c = call_still Insert c.args.key c.args.pass.now c.loop-round.pass c.loop-round.invariant.on c.requires.call
 
 pub give_back-requires-in-Found-clause-ready : goal.give_back-requires-in-Found-clause-ready
 give_back-requires-in-Found-clause-ready c = if_ready c.args.pass.now c.try_insert.new.pass c.try_insert.new.fork (c.try_insert.ensures.has c.args.pass.now c.loop-round.invariant.has)
