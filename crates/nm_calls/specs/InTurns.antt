@@ -1,15 +1,15 @@
 -- Look-ups of several keys under one pin, whose walks go on in turns.
-use Rattle.std.specs.Prelude.{◌≡◌, ◌≢◌, ◌==◌, ℕ, ◌+◌, ◌*◌, ◌≤◌, List, length, map, All, Result, IfOk, IfErr}
+use Rattle.std.specs.Prelude.{◌≡◌, ◌≢◌, ◌==◌, ◌+◌, ◌*◌, ◌≤◌, ℕ, List, length, map, All, Result, IfOk, IfErr}
 use Rattle.nm_edge.specs.Keys.{IsKey}
 use Rattle.nm_order.specs.Facts.Fact.{KnowsSlot}
 use Rattle.nm_steps.specs.Steps.{Stand, IsSamePass, HasSeenAllOf}
+use Rattle.nm_epoch.specs.Resting.{IsResting, KeepsHands}
+use Rattle.nm_calls.specs.declared.lookup.Busy.{Busy}
 use Rattle.nm_calls.specs.declared.looking.Onward.{Onward}
 use Rattle.nm_calls.specs.declared.many.Query.{Query}
 use Rattle.nm_calls.specs.Telling.{Tells}
 pub use Rattle.nm_calls.specs.PlainWalks.{AddsLooks, LooksUnderPin, LooksOrMoves, HasComeTo, HasEndedSo, WasSo, most_looks}
-use Rattle.nm_calls.specs.declared.lookup.Busy.{Busy}
 use Rattle.nm_calls.specs.Won.{HasWon, won_splices}
-use Rattle.nm_epoch.specs.Resting.{IsResting, KeepsHands}
 
 -- its walk has come to a known node, which it reads next, or has ended with its answer, where it
 -- has none to read (Natarajan and Mittal, section 3.2)

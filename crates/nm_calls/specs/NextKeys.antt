@@ -1,16 +1,16 @@
 -- The least key that is not below a given one, in a set that is in use.
-use Rattle.std.specs.Prelude.{◌≡◌, ◌≢◌, ◌<◌, ◌≤◌, ◌==◌, ℕ, Bool, true, false, Option, Some, None, ◌+◌, ◌*◌, length, Result, IfOk, IfErr}
+use Rattle.std.specs.Prelude.{◌≡◌, ◌≢◌, ◌<◌, ◌≤◌, ◌==◌, ◌+◌, ◌*◌, ℕ, Bool, true, false, Option, Some, None, length, Result, IfOk, IfErr}
 use Rattle.nm_edge.specs.Keys.{IsKey}
 use Rattle.nm_model.specs.Memory.{infinity_0}
 use Rattle.nm_order.specs.Facts.Fact.{KnowsSlot}
 use Rattle.nm_steps.specs.Steps.{Stand, IsSamePass, HasSeenAllOf}
+use Rattle.nm_epoch.specs.Resting.{IsResting, KeepsHands}
+use Rattle.nm_calls.specs.declared.lookup.Busy.{Busy}
 use Rattle.nm_calls.specs.declared.looking.Onward.{Onward}
 use Rattle.nm_calls.specs.declared.next_key.Descent.{Descent}
 use Rattle.nm_calls.specs.PlainWalks.{HasComeTo, HasEndedSo, WasSo, LooksUnderPin, LooksOrMoves, most_looks}
 use Rattle.nm_calls.specs.Telling.{Tells}
-use Rattle.nm_calls.specs.declared.lookup.Busy.{Busy}
 use Rattle.nm_calls.specs.Won.{HasWon, won_splices}
-use Rattle.nm_epoch.specs.Resting.{IsResting, KeepsHands}
 
 -- where `Was j answer` says of a key j, at a moment of its own, whether the set had it: it had this
 -- key, which is not below `key`, and no key between them; or no key from `key` on

@@ -71,12 +71,12 @@ fn push_labelled(queue: &mut BlockQueue<Entry>, nodes: &[NodeId], label: u64)
     }
 }
 
-/// A cleanup by a walk that ended at this spot with this chain, and whether it is won. Won: the
-/// chain from the successor down to the parent is cut off with the flagged leaf beside each of its
-/// nodes, labelled at once, and waits at the end of the queue. Lost: it has only looked, and tagged
-/// an edge. `splices` counts the worker's won splices, up to 2^64 - 1. It takes no memory. At most
-/// 3 steps for each node of the chain, and 8 more. (The cleanup of Natarajan and Mittal, section
-/// 3.2, for a whole chain.)
+/// A cleanup by a walk that ended at this spot with the chain of this workspace, which stays, and
+/// whether it is won. Won: the chain from the successor down to the parent is cut off with the
+/// flagged leaf beside each of its nodes, labelled at once, and waits at the end of the queue.
+/// Lost: it has only looked, and tagged an edge. `splices` counts the worker's won splices, up to
+/// 2^64 - 1. It takes no memory. At most 3 steps for each node of the chain, and 8 more. (The
+/// cleanup of Natarajan and Mittal, section 3.2, for a whole chain.)
 pub fn cleanup(
     shared: &Shared,
     pass: &mut Pass,
