@@ -17,6 +17,7 @@ ASIDE = re.compile(r"(?:pub )?(?:use|mod|module) ")
 FIXITY = re.compile(r"infix\w* ")
 IMPORT = re.compile(r"(?:pub |ghost )*use ([\w.◌]+)\.\{([^}]*)\}")
 FIELD = re.compile(r"(?:pub )?([\w'-]+)")
+FIELD_LINE = re.compile(r"  (?:pub )?([\w'-]+) : ")
 GROUP = re.compile(r"((?:`[^`]+`(?:, )?)+): ")
 QUOTED = re.compile(r"`([^`]+)`")
 HEADING = "-- ----"
@@ -68,6 +69,7 @@ class Definition(NamedTuple):
     words: str
     names: frozenset
     parts: tuple
+    fields: tuple
     lines: int
 
     @property
@@ -107,7 +109,7 @@ class ModuleReader:
         within = WITHIN.match(line)
         opens = OPENS.match(line, within.end() if within else 0)
         if opens:
-            self.open(opens[1], self.inner if within else self.comment)
+            self.open(opens[1], self.inner if within else self.comment, "record " in opens[0])
         elif self.found:
             self.note_part(line)
         self.comment = []
@@ -120,21 +122,23 @@ class ModuleReader:
             self.head = " ".join(self.comment)
         self.comment, self.inner = [], []
 
-    def open(self, name, comment):
+    def open(self, name, comment, is_record):
         words, lines, self.inner, self.fixities = " ".join(comment), self.fixities, [], 0
         found = {"name": name, "words": words, "names": set(), "parts": [], "lines": lines}
-        self.found.append(found)
+        self.found.append({**found, "fields": [], "is_record": is_record})
 
     def note_part(self, line):
-        field = FIELD.match(line.strip())
+        field, of_record = FIELD.match(line.strip()), FIELD_LINE.match(line)
         if self.inner and field:
             self.found[-1]["parts"].append((field[1], " ".join(self.inner)))
+        if self.found[-1]["is_record"] and of_record:
+            self.found[-1]["fields"].append(of_record[1])
         self.inner = []
 
     def module(self):
         made = [
             Definition(self.crate, self.name, it["name"], it["words"], frozenset(it["names"]),
-                       tuple(it["parts"]), it["lines"])
+                       tuple(it["parts"]), tuple(it["fields"]), it["lines"])
             for it in self.found
         ]
         return Module(self.crate, self.name, self.head or "", made)
@@ -323,6 +327,13 @@ def named(function, clause):
     """The definitions that a clause names, in their order, each once."""
     known = imports(function.crate, function.path)
     return list(dict.fromkeys(known[it] for it in NAME.findall(clause.text) if it in known))
+
+
+def record_of(function, clause):
+    """The record that a clause says as a whole, whose fields are what it promises; else None."""
+    known, first = imports(function.crate, function.path), NAME.match(clause.text)
+    place = known.get(first[0]) if first else None
+    return definitions()[place] if place and definitions()[place].fields else None
 
 
 CITES = re.compile(r"^use Rattle\.(\w+)\.proofs\.(\w+)(?=\.\{| as |$)", re.M)

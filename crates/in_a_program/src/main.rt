@@ -1,7 +1,7 @@
 //! Inserts a key, looks it up and deletes it, and frees the two nodes that were cut off.
 #![tactic(auto)]
 
-ghost use Rattle.nm_tree.specs.Plays.{IsReady};
+ghost use Rattle.nm_tree.specs.Calls.{MayCall};
 
 use anyhow::{Context, Result};
 use nm_edge::Key;
@@ -11,8 +11,8 @@ const TRIES: u32 = 64;
 
 /// Whether the key was inserted, found and deleted.
 fn visit(tree: &Tree, worker: &mut Worker, key: Key) -> Result<(bool, bool, bool), Fault>
-    requires { IsReady tree.now worker.old }
-    ensures { IsReady tree.now worker.new }
+    requires { MayCall tree.now worker.old }
+    ensures { MayCall tree.now worker.new }
 {
     let inserted = tree.insert(worker, key, TRIES)?;
     let found = tree.has(worker, key, TRIES)?;
@@ -23,8 +23,8 @@ fn visit(tree: &Tree, worker: &mut Worker, key: Key) -> Result<(bool, bool, bool
 /// Moves the epoch on twice, unless others hold it back, and frees what has waited for that: how
 /// many nodes may be used again.
 fn tidy(tree: &Tree, worker: &mut Worker) -> u64
-    requires { IsReady tree.now worker.old }
-    ensures { IsReady tree.now worker.new }
+    requires { MayCall tree.now worker.old }
+    ensures { MayCall tree.now worker.new }
 {
     tree.advance(worker);
     tree.advance(worker);

@@ -23,7 +23,7 @@ use Rattle.nm_order.specs.Logs.{known_by, IsLogOf}
 use Rattle.nm_order.proofs.LastEntries.{known_more, search_more, log_before}
 use Rattle.nm_order.proofs.ToldClaims.{claims_are_new}
 use Rattle.nm_order.specs.Told.{IsNew}
-use Rattle.nm_pool.specs.Claims.{DoneAt, IsNewNode, FoundWorn, MadeNew, PassedOver, PassedWithin, IsClaim, IsClaimBy}
+use Rattle.nm_pool.specs.Claims.{DoneAt, IsNewNode, FoundWorn, MadeNew, PassedOver, PassedWithin, IsClaimBy}
 use Rattle.nm_pool.specs.declared.placement.Fit.{Fit}
 use Rattle.nm_pool.specs.declared.placement.Fit.TheVariants as fit
 use Rattle.nm_pool.specs.Takes.{DoneInTurn, FoundTaken, LearnsSlots}

@@ -1,19 +1,34 @@
 -- Looks go on from one to the next.
-use Rattle.std.proofs.Common.{◌≡◌, ◌≢◌, ℕ, refl, ◌∙◌}
+use Rattle.std.proofs.Common.{◌≡◌, ◌≢◌, ℕ, refl, ap, ◌∙◌}
 use Rattle.nm_edge.specs.Edges.{Edge}
 use Rattle.nm_edge.specs.declared.edge.Side.{Side}
 use Rattle.nm_edge.specs.declared.edge.Side.TheVariants.{Left, Right}
 use Rattle.nm_model.specs.Searches.{side_of}
-use Rattle.nm_order.specs.Facts.Fact.{KnowsSlot, KnowsLeaf, IsTagged, IsFlagged, IsPinned, Came, ReadKey, EndedAt}
+use Rattle.nm_model.specs.declared.event.Op.{Op}
+use Rattle.nm_order.specs.Facts.Fact.{KnowsSlot, KnowsLeaf, IsTagged, IsFlagged, IsPinned, CallIs, Came, ReadKey, EndedAt}
 use Rattle.nm_order.specs.Taught.{EdgeLearned}
-use Rattle.nm_steps.specs.Steps.{Stand}
+use Rattle.nm_steps.specs.Steps.{Board, Stand, IsOf, IsSamePass}
+use Rattle.nm_steps.proofs.Seeing.{seen_through}
 use Rattle.nm_calls.specs.declared.spot.Spot.{Spot}
-use Rattle.nm_calls.specs.Telling.{Tells, GoesOn, OnlyLooks, IsPinnedSomewhere, KeyTold, EdgeTold, OnwardTold}
+use Rattle.nm_calls.specs.Leaving.{IsPinnedForCall}
+use Rattle.nm_calls.specs.Telling.{Tells, GoesOn, OnlyLooks, IsPinnedSomewhere, IsPinnedIn, KeyTold, EdgeTold, OnwardTold}
 use Rattle.nm_calls.specs.Walks.{begin, onto, edge_on, EachWalkHasCome, HasFound}
 use Rattle.nm_calls.proofs.Standing.{onto-edge, onto-parent}
 
+pub same_then : (o p q : Stand) → IsSamePass o p → IsSamePass p q → IsSamePass o q
+same_then o p q first second = second ∙ ap (λ (z : Stand). record z { view = record z.view { log = q.view.log; past = q.view.past } }) first
+
 pub goes_then : (o p q : Stand) → GoesOn o p → GoesOn p q → GoesOn o q
-goes_then o p q a b = record { run = b.run; keeps = λ fact holds. b.keeps fact (a.keeps fact holds) }
+goes_then o p q a b = record {
+  same = same_then o p q a.same b.same;
+  past = seen_through o p q a.past b.past;
+  run = b.run;
+  keeps = λ fact holds. b.keeps fact (a.keeps fact holds);
+}
+
+-- a pass of this table that goes on is one
+pub own_still : (b : Board) (p q : Stand) → IsOf b p → IsSamePass p q → IsOf b q
+own_still b p q own same = record { table = ap (λ (z : Stand). z.table) same ∙ own.table; layout = ap (λ (z : Stand). z.view.layout) same ∙ own.layout }
 
 pub only_then : (o p q : Stand) → OnlyLooks o p → OnlyLooks p q → OnlyLooks o q
 only_then o p q a b = record {
@@ -29,6 +44,13 @@ only_then o p q a b = record {
 -- the pin stands
 pub pinned_still : (p q : Stand) → GoesOn p q → IsPinnedSomewhere p → IsPinnedSomewhere q
 pinned_still p q on pin = (pin.0, on.keeps (IsPinned pin.0) pin.1)
+
+pub pinned_in_still : (b : Board) (p q : Stand) → GoesOn p q → IsPinnedIn b p → IsPinnedIn b q
+pinned_in_still b p q on at = record { own = own_still b p q at.own on.same; run = on.run; pin = pinned_still p q on at.pin }
+
+-- and it is in its call still
+pub call_still : (op : Op) (k : ℕ) (p q : Stand) → GoesOn p q → IsPinnedForCall op k p → IsPinnedForCall op k q
+call_still op k p q on call = record { root = on.keeps (KnowsSlot 1) call.root; known = on.keeps (KnowsSlot 2) call.known; call = on.keeps (CallIs op k) call.call }
 
 -- ---- walks
 

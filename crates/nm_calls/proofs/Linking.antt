@@ -31,7 +31,7 @@ use Rattle.nm_order.specs.Hands.{IsPooled}
 use Rattle.nm_order.specs.Told.TellsEdge.{ByLink}
 use Rattle.nm_order.proofs.TaughtFacts.{edges_are_learned}
 use Rattle.nm_steps.specs.Rules.{knowledge}
-use Rattle.nm_steps.specs.Steps.{Stand, MayStep, Stepped, link_reply}
+use Rattle.nm_steps.specs.Steps.{Stand, MayStep, Stepped, HasSeenAllOf, link_reply}
 use Rattle.nm_steps.proofs.AfterSteps.{TellsRun}
 use Rattle.nm_calls.specs.Telling.{Tells, IsInRun, GoesOn, IsPinnedSomewhere}
 use Rattle.nm_calls.specs.Making.{draft, IsFork, IsInserting, HasLinked, HasLost}
@@ -168,8 +168,8 @@ module _ (p q : Stand) (parent : ℕ) (side : Side) (leaf new fresh : ℕ) where
   stands_anew (Ok u) = refl
   stands_anew (Err e) = refl
 
-  pub link_goes_on : (r : Result Unit Edge) → Stepped p q (Link parent side leaf new) (link_reply p.view new r) → IsLayout q.view.layout → TellsRun q → GoesOn p q
-  link_goes_on r step fits tells = goes_on p q (Link parent side leaf new) (link_reply p.view new r) step refl (stands_anew r) fits tells
+  pub link_goes_on : (r : Result Unit Edge) → Stepped p q (Link parent side leaf new) (link_reply p.view new r) → HasSeenAllOf q p → IsLayout q.view.layout → TellsRun q → GoesOn p q
+  link_goes_on r step past fits tells = goes_on p q (Link parent side leaf new) (link_reply p.view new r) step past refl (stands_anew r) fits tells
 
   pub link_won : IsInRun p → IsInserting p parent side leaf new fresh → Stepped p q (Link parent side leaf new) (Linked (node_linked (knowledge p.view) new)) → HasLinked p q parent side leaf new fresh
   unfolding searched

@@ -1,5 +1,5 @@
 -- A look at a known node is allowed under a pin, and its log goes on.
-use Rattle.std.proofs.Common.{◌≡◌, ℕ, ◌≤◌, Bool, true, false, not, cond, ◌&&◌, ◌||◌, List, [], ◌∷◌, ◌++◌, refl, sym, ap, subst, ◌∙◌, arith}
+use Rattle.std.proofs.Common.{◌≡◌, ℕ, ◌≤◌, Bool, true, false, not, cond, ◌&&◌, List, [], ◌∷◌, ◌++◌, refl, sym, ap, subst, ◌∙◌, arith}
 use Rattle.std.specs.Prelude.{Option, Some, None, is_none}
 use Rattle.std.proofs.lemmas.Bool.{cond-false}
 use Rattle.nm_edge.specs.Edges.{Edge}
@@ -37,7 +37,7 @@ use Rattle.nm_order.proofs.TaughtFacts.{edges_are_learned, births_are_learned}
 use Rattle.nm_order.proofs.TaughtWalks.{walks_begin, walks_learn_keys, walks_go_on, walks_end}
 use Rattle.nm_order.proofs.ToldLaws.{twins_are_told, flags_are_told, flagged_lead_high, flagged_stand_high, edges_stay_inside, root_leads, low_keys_stand_high}
 use Rattle.nm_steps.specs.Rules.{knowledge}
-use Rattle.nm_steps.specs.Steps.{Stand, MayStep, Stepped}
+use Rattle.nm_steps.specs.Steps.{Stand, MayStep, Stepped, HasSeenAllOf}
 use Rattle.nm_steps.proofs.AfterSteps.{TellsRun, run_after, is_join}
 use Rattle.nm_calls.specs.Telling.{Tells, IsInRun, GoesOn, OnlyLooks, IsPinnedSomewhere, KeyTold, EdgeTold}
 use Rattle.nm_pool.proofs.Allowing.{not_outside}
@@ -91,10 +91,12 @@ grown p q e r step other fits tells =
 pub told_after : (p q : Stand) (e : Event) (r : Reply) → Stepped p q e r → (fact : Fact) → Holds p.view.layout p.view.number (p.view.log ++ (e, r) ∷ []) fact → Tells q fact
 told_after p q e r step fact holds = subst (λ (s : Stand). Tells s fact) (sym step) holds
 
-pub goes_on : (p q : Stand) (e : Event) (r : Reply) → Stepped p q e r → is_join e ≡ false → begins_anew (e, r) ≡ false → IsLayout q.view.layout → TellsRun q → GoesOn p q
-goes_on p q e r step other stands fits tells =
+pub goes_on : (p q : Stand) (e : Event) (r : Reply) → Stepped p q e r → HasSeenAllOf q p → is_join e ≡ false → begins_anew (e, r) ≡ false → IsLayout q.view.layout → TellsRun q → GoesOn p q
+goes_on p q e r step past other stands fits tells =
     let layout : IsLayout p.view.layout = subst (λ (s : Stand). IsLayout s.view.layout) step fits in
     record {
+      same = step ∙ ap (λ (log : List Entry). record p { view = record p.view { log = log; past = q.view.past } }) (sym (ap (λ (s : Stand). s.view.log) step));
+      past = past;
       run = record { fits = fits; run = run_after p q e r (ap (λ (s : Stand). s.view.log) step) other tells };
       keeps = λ fact holds. told_after p q e r step fact (facts_stay p.view.layout (enough p.view.layout layout) p.view.number p.view.log (e, r) (grown p q e r step other fits tells) stands fact holds);
     }

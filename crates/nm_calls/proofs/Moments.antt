@@ -1,6 +1,6 @@
 -- The moment of an answer, by what the log tells of its call and what its pass has seen.
 use Rattle.std.proofs.Common.{◌≡◌, ◌<◌, ◌≤◌, ℕ, Bool, List, [], ◌∷◌, ◌++◌, refl, sym, ap, subst, ◌∙◌}
-use Rattle.std.specs.Prelude.{Option, Some, None, All}
+use Rattle.std.specs.Prelude.{Some, None, All}
 use Rattle.nm_edge.specs.Layouts.{Layout, IsLayout}
 use Rattle.nm_edge.specs.declared.node.NodeId.{NodeId}
 use Rattle.nm_model.specs.declared.event.Event.{Event}
@@ -23,10 +23,8 @@ use Rattle.nm_steps.proofs.Seeing.{seen_through}
 use Rattle.nm_calls.specs.Telling.{Tells}
 use Rattle.nm_calls.specs.Deletes.{IsRemoving}
 use Rattle.nm_calls.specs.Moments.{AnswerHasMoment, HadNoCall, HasFlaggedIt}
+use Rattle.nm_calls.proofs.GoingOn.{same_then}
 use Rattle.nm_calls.proofs.Looks.{enough}
-
-same_then : (o p q : Stand) → IsSamePass o p → IsSamePass p q → IsSamePass o q
-same_then o p q first second = second ∙ ap (λ (z : Stand). record z { view = record z.view { log = q.view.log; past = q.view.past } }) first
 
 -- further on
 pub no_call_on : (o p q : Stand) → HadNoCall o p → IsSamePass p q → HasSeenAllOf q p → HadNoCall o q

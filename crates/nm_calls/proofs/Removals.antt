@@ -28,7 +28,7 @@ use Rattle.nm_calls.specs.declared.spot.Spot.{Spot}
 use Rattle.nm_calls.specs.Telling.{Tells, IsInRun, GoesOn, OnlyLooks, IsPinnedSomewhere}
 use Rattle.nm_calls.specs.Walks.{HasEnded, HasFound}
 use Rattle.nm_calls.specs.Marking.{IsToBeFlagged, FlagWon}
-use Rattle.nm_calls.specs.Leaving.{ShowsAnswer}
+use Rattle.nm_calls.specs.Leaving.{ShowsAnswer, IsPinnedForCall}
 use Rattle.nm_calls.specs.Cleanups.{HasCleaned, OnlyCleans, CleanupLost}
 use Rattle.nm_calls.specs.Deletes.{IsRemoving, MayFlag, HasWonItsFlag, leaf_of, OnlyInjects, IsRemoval, RemovalAfter, LosesAfterFlag, LacksRoomOr, FlagsThen, PinsForDelete, DeleteDid}
 use Rattle.nm_calls.proofs.GoingOn.{pinned_still}
@@ -115,14 +115,14 @@ may_flag_there p q k nodes r c call unflagged low on only ended high found is = 
 
 -- ---- a flag that was won
 
-pub removing_from : (p q : Stand) (k : ℕ) (n : NodeId) → IsPinnedSomewhere p → Tells p (KnowsSlot 1) → Tells p (KnowsSlot 2) → Tells p (CallIs Delete k) → (epochs p).unlabelled ≡ false → GoesOn p q → OnlyInjects p q
+pub removing_from : (p q : Stand) (k : ℕ) (n : NodeId) → IsPinnedSomewhere p → IsPinnedForCall Delete k p → (epochs p).unlabelled ≡ false → GoesOn p q → OnlyInjects p q
     → (search q).flagged ≡ Some n → Tells q (IsBorn n.slot n.birth) → IsRemoving q k n
-removing_from p q k n pin root known call labelled on only flagged born = record {
+removing_from p q k n pin call labelled on only flagged born = record {
   run = on.run;
   pinned = pinned_still p q on pin;
-  root = on.keeps (KnowsSlot 1) root;
-  known = on.keeps (KnowsSlot 2) known;
-  call = on.keeps (CallIs Delete k) call;
+  root = on.keeps (KnowsSlot 1) call.root;
+  known = on.keeps (KnowsSlot 2) call.known;
+  call = on.keeps (CallIs Delete k) call.call;
   flagged = flagged;
   born = born;
   labelled = only.labelled labelled;

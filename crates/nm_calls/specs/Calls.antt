@@ -1,13 +1,19 @@
--- What a look-up leaves in the log.
-use Rattle.std.specs.Prelude.{◌≡◌, ◌⊎◌, ◌<◌, ◌==◌, ℕ, zero, suc, Bool, List, [], ◌∷◌, ◌++◌}
+-- What a look-up leaves in the log, and of its pass.
+use Rattle.std.specs.Prelude.{◌≡◌, ◌⊎◌, ◌<◌, ◌==◌, ℕ, zero, suc, Bool, List, [], ◌∷◌, ◌++◌, Result, IfOk, IfErr}
 use Rattle.nm_model.specs.declared.event.Event.TheVariants.{SightFor, Leave, LeaveWith}
 use Rattle.nm_model.specs.declared.event.Op.TheVariants.{Has}
 use Rattle.nm_model.specs.declared.reply.Reply.TheVariants.{Departed}
 use Rattle.nm_model.specs.Walks.{Entry}
+use Rattle.nm_steps.specs.Steps.{Stand, IsSamePass, HasSeenAllOf}
+use Rattle.nm_epoch.specs.Resting.{IsResting, KeepsHands}
 use Rattle.nm_epoch.specs.Tries.{IsPinnedBy, IsMoved}
+use Rattle.nm_calls.specs.declared.lookup.Busy.{Busy}
 use Rattle.nm_calls.specs.declared.spot.ChainEdge.{ChainEdge}
 use Rattle.nm_calls.specs.declared.spot.Spot.{Spot}
+use Rattle.nm_calls.specs.Bounds.{IsWithinBound}
+use Rattle.nm_calls.specs.Moments.{AnswerHasMoment}
 use Rattle.nm_calls.specs.Walks.{EndsAtLeaf, IsTooLong}
+use Rattle.nm_calls.specs.Won.{HasWon, won_splices}
 
 -- so many walks in a row were broken off
 abbrev pub LostWalks : ℕ → ℕ → ℕ → List Entry → List Entry → Type 0
@@ -41,3 +47,18 @@ HasMissed nodes (suc t) k old new =
     IsMoved (SightFor Has k) (suc t) old new
     ⊎ ((a z : List Entry) × (epoch : ℕ) × IsPinnedBy (SightFor Has k) (suc t) old a epoch
     × LostWalks nodes k (suc t) a z × (new ≡ z ++ (Leave, Departed) ∷ []))
+
+-- what a look-up leaves of its pass, by its answer: the same pass, which has seen all that it had
+-- seen; what was done, or why not; an answer that was right at a moment of the call; no exchange
+-- that was won; the longest log; and it rests, with the hands that it had
+pub record AfterHas (nodes tries k : ℕ) (p q : Stand) (r : Result Bool Busy) : Type 0 where
+  pub same : IsSamePass p q
+  pub past : HasSeenAllOf q p
+  pub did : IfOk r (HasDid nodes tries k p.view.log q.view.log)
+  pub moment : IfOk r (AnswerHasMoment p q Has k)
+  pub missed : IfErr r (λ e. HasMissed nodes tries k p.view.log q.view.log)
+  pub won : HasWon p.view.log q.view.log 0 0
+  pub uncut : won_splices q.view.log ≡ won_splices p.view.log
+  pub steps : IsWithinBound nodes tries p.view.log q.view.log
+  pub rests : IsResting q
+  pub hands : KeepsHands p q

@@ -14,12 +14,14 @@ use Rattle.nm_model.specs.Walks.{Entry, search_after}
 use Rattle.nm_order.specs.Facts.Fact.{IsFlagged, IsBorn}
 use Rattle.nm_steps.specs.Rules.{knowledge}
 use Rattle.nm_steps.specs.Steps.{Stand}
-use Rattle.nm_epoch.specs.Collecting.{labelled_so}
+use Rattle.nm_epoch.specs.Collecting.{IsQueueOf, labelled_so}
 use Rattle.nm_epoch.specs.declared.collecting.Entry.{Entry as Waiting}
+use Rattle.nm_limbo.specs.Queue.{BlockQueue}
 use Rattle.nm_calls.specs.declared.cutting.Kept.{Kept}
 use Rattle.nm_calls.specs.declared.spot.ChainEdge.{ChainEdge}
 use Rattle.nm_calls.specs.declared.spot.Spot.{Spot}
 use Rattle.nm_calls.specs.Telling.{Tells, OnlyLooks}
+use Rattle.nm_calls.specs.Won.{won_splices, capped}
 
 -- both edges of the parent were looked at, first the one on the walk's side
 abbrev pub after_both : Spot → List Entry → Edge → Edge → List Entry
@@ -95,6 +97,13 @@ CleanupLost s c old new = Chooses s old new None
 abbrev pub CleanupWon : Spot → List ChainEdge → List NodeId → ℕ → List Entry → List Entry → Type 0
 CleanupWon s c ns epoch old new =
     (mid : List Entry) × CutsOff s c ns old mid × (new ≡ mid ++ (Sight, Labelled epoch) ∷ [])
+
+-- ---- what a worker keeps of its cuts
+
+-- the queue is the one of what its splices cut off, and the count is that of its won splices
+pub record HoldsCuts (p : Stand) (q : BlockQueue Waiting) (splices : ℕ) : Type 0 where
+  pub queue : IsQueueOf (knowledge p.view) p.view.number q.items
+  pub counted : splices ≡ capped (won_splices p.view.log)
 
 -- ---- what a won splice leaves of the pass, and a whole cleanup
 

@@ -1,5 +1,5 @@
 -- Deletes: what each part of them leaves.
-use Rattle.std.specs.Prelude.{◌≡◌, ◌≢◌, ◌⊎◌, ℕ, zero, suc, ◌+◌, ◌<◌, List, [], ◌∷◌, ◌++◌, ◌≤◌, length, false, true, Bool, Some, None, Result, Ok, Err}
+use Rattle.std.specs.Prelude.{◌≡◌, ◌≢◌, ◌⊎◌, ℕ, zero, suc, ◌+◌, ◌<◌, List, [], ◌∷◌, ◌++◌, ◌≤◌, length, false, true, Bool, Some, None, Result, Ok, Err, IfOk}
 use Rattle.nm_edge.specs.Edges.{Edge}
 use Rattle.nm_edge.specs.declared.node.NodeId.{NodeId}
 use Rattle.nm_model.specs.declared.event.Event.TheVariants.{SightFor, Leave, LeaveWith, Look, Flag}
@@ -11,7 +11,7 @@ use Rattle.nm_model.specs.Walks.{Entry}
 use Rattle.nm_order.specs.Facts.Since.{ThePin}
 use Rattle.nm_order.specs.Facts.Fact.{KnowsSlot, KnowsLeaf, IsFlagged, IsBorn, CallIs, EndedAt}
 use Rattle.nm_steps.specs.Rules.{knowledge}
-use Rattle.nm_steps.specs.Steps.{Stand}
+use Rattle.nm_steps.specs.Steps.{Stand, IsSamePass, HasSeenAllOf}
 use Rattle.nm_epoch.specs.Resting.{IsResting, epochs, search}
 use Rattle.nm_epoch.specs.Tries.{IsPinnedBy, IsMoved}
 use Rattle.nm_calls.specs.declared.deleting.Injected.{Injected}
@@ -24,12 +24,14 @@ use Rattle.nm_calls.specs.declared.deleting.Removal.{Removal}
 use Rattle.nm_calls.specs.declared.deleting.Removal.TheVariants as removal
 use Rattle.nm_calls.specs.declared.spot.ChainEdge.{ChainEdge}
 use Rattle.nm_calls.specs.declared.spot.End.{End}
-use Rattle.nm_calls.specs.Bounds.{chain_bound, cut_bound}
+use Rattle.nm_calls.specs.Bounds.{chain_bound, cut_bound, IsWithinBound}
 use Rattle.nm_calls.specs.Telling.{Tells, IsInRun, IsPinnedSomewhere}
 use Rattle.nm_calls.specs.Walks.{Seeks, IsBroken, IsAt}
 use Rattle.nm_calls.specs.Leaving.{ShowsAnswer}
 use Rattle.nm_calls.specs.Cleanups.{CleanupWon, CleanupLost, IsOneOfNodes, KeepsLedgers}
 use Rattle.nm_calls.specs.Inserts.{Helps}
+use Rattle.nm_calls.specs.Moments.{AnswerHasMoment, HadNoCall}
+use Rattle.nm_calls.specs.Won.{HasWon, flags_of_delete}
 
 -- ---- a try to flag
 
@@ -250,11 +252,11 @@ DeleteDid nodes tries k old new (Err missed.NoMemory) =
 DeleteDid nodes tries k old new r = PinsForDelete nodes tries k old new r
 
 -- the worker rests, or stays pinned for the leaf that it flagged
-abbrev pub AfterDelete : ℕ → Stand → Result Bool Missed → Type 0
-AfterDelete k q (Ok b) = IsResting q
-AfterDelete k q (Err missed.Busy) = IsResting q
-AfterDelete k q (Err missed.NoMemory) = IsResting q
-AfterDelete k q (Err (missed.Unfinished n)) = IsRemoving q k n
+abbrev pub RestsOrRemoves : ℕ → Stand → Result Bool Missed → Type 0
+RestsOrRemoves k q (Ok b) = IsResting q
+RestsOrRemoves k q (Err missed.Busy) = IsResting q
+RestsOrRemoves k q (Err missed.NoMemory) = IsResting q
+RestsOrRemoves k q (Err (missed.Unfinished n)) = IsRemoving q k n
 
 -- each try to remove the leaf was lost
 abbrev pub LosesEachTry : ℕ → ℕ → NodeId → ℕ → List Entry → List Entry → Type 0
@@ -282,3 +284,33 @@ FinishDid nodes k n tries old new true =
 FinishDid nodes k n tries old new false =
     IsRemoval nodes k n tries old new removal.Refused
     ⊎ IsRemoval nodes k n tries old new removal.Spent
+
+-- what a delete leaves of its pass, by its answer: as of an insert, but that the flag that was won
+-- is told, and that it rests or stays pinned for the leaf
+pub record AfterDelete (nodes tries k : ℕ) (p q : Stand) (r : Result Bool Missed) : Type 0 where
+  pub same : IsSamePass p q
+  pub past : HasSeenAllOf q p
+  pub did : DeleteDid nodes tries k p.view.log q.view.log r
+  pub moment : IfOk r (AnswerHasMoment p q Delete k)
+  pub won : HasWon p.view.log q.view.log 0 (flags_of_delete r)
+  pub steps : IsWithinBound nodes tries p.view.log q.view.log
+  pub run : (q ≡ p) ⊎ IsInRun q
+  pub stands : RestsOrRemoves k q r
+  pub private : (knowledge q.view).drafts ≡ (knowledge p.view).drafts
+  pub ledgers : KeepsLedgers p q
+
+-- and what is left to do of one leaves: the answer true was right at a moment of its call, and then
+-- it rests; else it stays pinned for the leaf
+pub record AfterFinish (nodes k : ℕ) (n : NodeId) (tries : ℕ) (p q : Stand)
+    (r : Bool) : Type 0 where
+  pub same : IsSamePass p q
+  pub past : HasSeenAllOf q p
+  pub did : FinishDid nodes k n tries p.view.log q.view.log r
+  pub moment : r ≡ true → (o : Stand) → HadNoCall o p → AnswerHasMoment o q Delete k true
+  pub won : HasWon p.view.log q.view.log 0 0
+  pub steps : IsWithinBound nodes tries p.view.log q.view.log
+  pub run : IsInRun q
+  pub rests : r ≡ true → IsResting q
+  pub removing : r ≡ false → IsRemoving q k n
+  pub private : (knowledge q.view).drafts ≡ (knowledge p.view).drafts
+  pub ledgers : KeepsLedgers p q

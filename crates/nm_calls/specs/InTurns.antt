@@ -1,12 +1,15 @@
 -- Look-ups of several keys under one pin, whose walks go on in turns.
-use Rattle.std.specs.Prelude.{◌≡◌, ◌≢◌, ◌==◌, ℕ}
+use Rattle.std.specs.Prelude.{◌≡◌, ◌≢◌, ◌==◌, ◌+◌, ◌*◌, ◌≤◌, ℕ, List, length, map, All, Result, IfOk, IfErr}
 use Rattle.nm_edge.specs.Keys.{IsKey}
 use Rattle.nm_order.specs.Facts.Fact.{KnowsSlot}
-use Rattle.nm_steps.specs.Steps.{Stand}
+use Rattle.nm_steps.specs.Steps.{Stand, IsSamePass, HasSeenAllOf}
+use Rattle.nm_epoch.specs.Resting.{IsResting, KeepsHands}
+use Rattle.nm_calls.specs.declared.lookup.Busy.{Busy}
 use Rattle.nm_calls.specs.declared.looking.Onward.{Onward}
 use Rattle.nm_calls.specs.declared.many.Query.{Query}
 use Rattle.nm_calls.specs.Telling.{Tells}
 pub use Rattle.nm_calls.specs.PlainWalks.{AddsLooks, LooksUnderPin, LooksOrMoves, HasComeTo, HasEndedSo, WasSo, most_looks}
+use Rattle.nm_calls.specs.Won.{HasWon, won_splices}
 
 -- its walk has come to a known node, which it reads next, or has ended with its answer, where it
 -- has none to read (Natarajan and Mittal, section 3.2)
@@ -27,3 +30,22 @@ query_read q on = record { key = q.key; found = on.found == q.key; node = on.nex
 
 abbrev pub key_of : Query → ℕ
 key_of q = q.key
+
+-- what a look-up of these queries, which are those then, leaves of its pass, by its answer: as of a
+-- look-up of one key, but that each answer was right at a moment of the call and the keys stay
+pub record AfterHasMany (nodes tries : ℕ) (old new : List Query) (p q : Stand)
+    (r : Result (Unit {0}) Busy) : Type 0 where
+  pub same : IsSamePass p q
+  pub past : HasSeenAllOf q p
+  pub did : IfOk r
+      (λ u. LooksUnderPin tries (most_looks nodes (length old)) p.view.log q.view.log)
+  pub keys : map key_of new ≡ map key_of old
+  pub moment : IfOk r (λ u. All (λ query. WasSo p q query.key query.found) new)
+  pub missed : IfErr r
+      (λ e. LooksOrMoves tries (most_looks nodes (length old)) p.view.log q.view.log)
+  pub won : HasWon p.view.log q.view.log 0 0
+  pub uncut : won_splices q.view.log ≡ won_splices p.view.log
+  pub steps : length q.view.log
+      ≤ length p.view.log + 3 * tries + most_looks nodes (length old) + 2
+  pub rests : IsResting q
+  pub hands : KeepsHands p q

@@ -1,5 +1,5 @@
 -- Inserts: the two new nodes that a call keeps over its tries, and what each part of it leaves.
-use Rattle.std.specs.Prelude.{◌≡◌, ◌≢◌, ◌≤◌, ◌⊎◌, ℕ, zero, suc, ◌<◌, ◌==◌, nat_lt, Bool, true, false, ◌&&◌, ◌||◌, if◌then◌else◌, List, [], ◌∷◌, ◌++◌, Option, Some, None, Result, Ok, Err}
+use Rattle.std.specs.Prelude.{◌≡◌, ◌≢◌, ◌≤◌, ◌⊎◌, ℕ, zero, suc, ◌<◌, ◌==◌, nat_lt, Bool, true, false, ◌&&◌, ◌||◌, if◌then◌else◌, List, [], ◌∷◌, ◌++◌, Option, Some, None, Result, Ok, Err, IfOk}
 use Rattle.nm_edge.specs.Edges.{Edge}
 use Rattle.nm_edge.specs.declared.node.NodeId.{NodeId}
 use Rattle.nm_model.specs.declared.event.Event.TheVariants.{SightFor, Leave, LeaveWith, Give, Link}
@@ -14,8 +14,8 @@ use Rattle.nm_order.specs.Taught.{EdgeLearned}
 use Rattle.nm_pool.specs.Claims.{IsClaimBy}
 use Rattle.nm_pool.specs.declared.placement.Fit.{Fit}
 use Rattle.nm_steps.specs.Rules.{knowledge}
-use Rattle.nm_steps.specs.Steps.{Stand}
-use Rattle.nm_epoch.specs.Resting.{epochs, search}
+use Rattle.nm_steps.specs.Steps.{Stand, IsSamePass, HasSeenAllOf, IsInRun}
+use Rattle.nm_epoch.specs.Resting.{epochs, search, IsResting}
 use Rattle.nm_calls.specs.declared.growing.Fork.{Fork}
 use Rattle.nm_calls.specs.declared.growing.Inner.{Inner}
 use Rattle.nm_epoch.specs.Tries.{IsPinnedBy, IsMoved}
@@ -30,6 +30,9 @@ use Rattle.nm_calls.specs.Making.{draft, fills}
 use Rattle.nm_calls.specs.Walks.{Seeks, IsBroken}
 use Rattle.nm_calls.specs.Leaving.{EndedWith}
 use Rattle.nm_calls.specs.Cleanups.{CleanupWon, CleanupLost, KeepsLedgers}
+use Rattle.nm_calls.specs.Bounds.{IsWithinBound}
+use Rattle.nm_calls.specs.Moments.{AnswerHasMoment}
+use Rattle.nm_calls.specs.Won.{HasWon, links_of_insert}
 
 -- ---- two private nodes
 
@@ -251,3 +254,20 @@ InsertDid fit nodes tries k old new (Err fault.Busy) =
 InsertDid fit nodes tries k old new (Err fault.NoMemory) =
     ((tries ≢ 0) × (new ≡ old)) ⊎ PinsThen fit nodes tries k old new (Err fault.NoMemory)
 InsertDid fit nodes tries k old new r = PinsThen fit nodes tries k old new r
+
+-- what an insert leaves of its pass, by its answer: the same pass, which has seen all that it had
+-- seen; what was done; an answer that was right at a moment of the call; the link that was won; the
+-- longest log; it is in a run where it made a step; and it rests, with the private slots that it
+-- had, and ledgers but for the nodes that it cut
+pub record AfterInsert (fit : Fit) (nodes tries k : ℕ) (p q : Stand)
+    (r : Result Bool Fault) : Type 0 where
+  pub same : IsSamePass p q
+  pub past : HasSeenAllOf q p
+  pub did : InsertDid fit nodes tries k p.view.log q.view.log r
+  pub moment : IfOk r (AnswerHasMoment p q Insert k)
+  pub won : HasWon p.view.log q.view.log (links_of_insert r) 0
+  pub steps : IsWithinBound nodes tries p.view.log q.view.log
+  pub run : (q ≡ p) ⊎ IsInRun q
+  pub rests : IsResting q
+  pub private : HasFork p q None
+  pub ledgers : KeepsLedgers p q

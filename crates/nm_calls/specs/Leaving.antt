@@ -1,4 +1,4 @@
--- Which answers a log shows, and what a label leaves.
+-- What a call knows from its pin on, which answers a log shows, and what a label leaves.
 use Rattle.std.specs.Prelude.{◌≡◌, ◌≢◌, ◌⊎◌, ℕ, Bool, true, false, Some, None}
 use Rattle.nm_edge.specs.declared.edge.Side.{Side}
 use Rattle.nm_edge.specs.declared.node.NodeId.{NodeId}
@@ -6,11 +6,23 @@ use Rattle.nm_model.specs.declared.event.Op.{Op}
 use Rattle.nm_model.specs.declared.event.Op.TheVariants.{Has, Insert, Delete}
 use Rattle.nm_order.specs.Facts.{Since}
 use Rattle.nm_order.specs.Facts.Since.{ThePin, TheFlag}
-use Rattle.nm_order.specs.Facts.Fact.{CallIs, EndedAt}
+use Rattle.nm_order.specs.Facts.Fact.{KnowsSlot, CallIs, EndedAt}
 use Rattle.nm_steps.specs.Rules.{knowledge}
 use Rattle.nm_steps.specs.Steps.{Stand}
 use Rattle.nm_epoch.specs.Resting.{epochs, search}
 use Rattle.nm_calls.specs.Telling.{Tells}
+
+-- the pin is one for a call of that operation on k, which knows the slots where walks begin
+pub record IsPinnedForCall (op : Op) (k : ℕ) (p : Stand) : Type 0 where
+  pub root : Tells p (KnowsSlot 1)
+  pub known : Tells p (KnowsSlot 2)
+  pub call : Tells p (CallIs op k)
+
+-- under the pin nothing was linked and nothing flagged, and no cut waits for its label
+pub record HasChangedNothing (p : Stand) : Type 0 where
+  pub labelled : (epochs p).unlabelled ≡ false
+  pub unlinked : (search p).linked ≡ false
+  pub unflagged : (search p).flagged ≡ None
 
 -- a walk of the call for k ended at a leaf with key v
 abbrev pub EndedWith : Stand → Since → ℕ → ℕ → ℕ → Type 0

@@ -1,13 +1,16 @@
 -- The least key that is not below a given one, in a set that is in use.
-use Rattle.std.specs.Prelude.{◌≡◌, ◌≢◌, ◌<◌, ◌≤◌, ◌==◌, ℕ, Bool, true, false, Option, Some, None}
+use Rattle.std.specs.Prelude.{◌≡◌, ◌≢◌, ◌<◌, ◌≤◌, ◌==◌, ◌+◌, ◌*◌, ℕ, Bool, true, false, Option, Some, None, length, Result, IfOk, IfErr}
 use Rattle.nm_edge.specs.Keys.{IsKey}
 use Rattle.nm_model.specs.Memory.{infinity_0}
 use Rattle.nm_order.specs.Facts.Fact.{KnowsSlot}
-use Rattle.nm_steps.specs.Steps.{Stand}
+use Rattle.nm_steps.specs.Steps.{Stand, IsSamePass, HasSeenAllOf}
+use Rattle.nm_epoch.specs.Resting.{IsResting, KeepsHands}
+use Rattle.nm_calls.specs.declared.lookup.Busy.{Busy}
 use Rattle.nm_calls.specs.declared.looking.Onward.{Onward}
 use Rattle.nm_calls.specs.declared.next_key.Descent.{Descent}
-use Rattle.nm_calls.specs.PlainWalks.{HasComeTo, HasEndedSo, WasSo}
+use Rattle.nm_calls.specs.PlainWalks.{HasComeTo, HasEndedSo, WasSo, LooksUnderPin, LooksOrMoves, most_looks}
 use Rattle.nm_calls.specs.Telling.{Tells}
+use Rattle.nm_calls.specs.Won.{HasWon, won_splices}
 
 -- where `Was j answer` says of a key j, at a moment of its own, whether the set had it: it had this
 -- key, which is not below `key`, and no key between them; or no key from `key` on
@@ -39,3 +42,19 @@ read_below d bound on = record {
   node = on.next.slot;
   found = on.found;
 }
+
+-- ---- the whole call
+
+-- what a call for the next key leaves of its pass, by its answer: as of a look-up, but that what it
+-- tells of keys was so at moments of the call
+pub record AfterNext (nodes tries k : ℕ) (p q : Stand) (r : Result (Option ℕ) Busy) : Type 0 where
+  pub same : IsSamePass p q
+  pub past : HasSeenAllOf q p
+  pub did : IfOk r (λ f. LooksUnderPin tries (tries * most_looks nodes 1) p.view.log q.view.log)
+  pub moment : IfOk r (WasNext p q k)
+  pub missed : IfErr r (λ e. LooksOrMoves tries (tries * most_looks nodes 1) p.view.log q.view.log)
+  pub won : HasWon p.view.log q.view.log 0 0
+  pub uncut : won_splices q.view.log ≡ won_splices p.view.log
+  pub steps : length q.view.log ≤ length p.view.log + 3 * tries + tries * most_looks nodes 1 + 2
+  pub rests : IsResting q
+  pub hands : KeepsHands p q

@@ -10,7 +10,7 @@ use Rattle.nm_order.specs.Facts.{Since, Fact, Holds}
 use Rattle.nm_order.specs.Facts.Fact.{IsPinned, IsTagged, IsFlagged, Came, ReadKey, EndedAt}
 use Rattle.nm_order.specs.Taught.{WalksAreFor, EdgeLearned}
 use Rattle.nm_steps.specs.Rules.{knowledge}
-use Rattle.nm_steps.specs.Steps.{Stand}
+use Rattle.nm_steps.specs.Steps.{Board, Stand, IsOf, IsSamePass, HasSeenAllOf}
 pub use Rattle.nm_steps.specs.Steps.{IsInRun}
 
 -- the pass's log tells the fact
@@ -21,8 +21,17 @@ Tells p fact = Holds p.view.layout p.view.number p.view.log fact
 abbrev pub IsPinnedSomewhere : Stand → Type 0
 IsPinnedSomewhere p = (epoch : ℕ) × Tells p (IsPinned epoch)
 
--- it is in a run still, and tells each fact that it told
+-- the pass is one of this table's, in a run, and pinned: what a look asks
+pub record IsPinnedIn (b : Board) (p : Stand) : Type 0 where
+  pub own : IsOf b p
+  pub run : IsInRun p
+  pub pin : IsPinnedSomewhere p
+
+-- it is the same pass, has seen all that it had seen, is in a run still, and tells each fact that
+-- it told
 pub record GoesOn (p q : Stand) : Type 0 where
+  pub same : IsSamePass p q
+  pub past : HasSeenAllOf q p
   pub run : IsInRun q
   pub keeps : (fact : Fact) → Tells p fact → Tells q fact
 

@@ -1,32 +1,22 @@
 //! Whole cleanups: a frozen chain is cut off, labelled, and waits in the worker's queue.
 ghost use Rattle.std.specs.Prelude.{◌≡◌, ◌<◌, ◌≤◌, ◌+◌, ◌*◌, ◌++◌, true, false, length, map};
-ghost use Rattle.nm_steps.specs.Rules.{knowledge};
-ghost use Rattle.nm_steps.specs.Steps.{IsOf, IsSamePass, HasSeenAllOf};
-ghost use Rattle.nm_epoch.specs.Collecting.{IsQueueOf, labelled_so};
+ghost use Rattle.nm_epoch.specs.Collecting.{labelled_so};
 ghost use Rattle.nm_calls.specs.Bounds.{chain_bound, cut_bound};
 ghost use Rattle.nm_calls.specs.Rooms.{FillsUp};
-ghost use Rattle.nm_calls.specs.Telling.{Tells, GoesOn, IsInRun, IsPinnedSomewhere};
+ghost use Rattle.nm_calls.specs.Telling.{Tells, GoesOn, IsPinnedIn};
 ghost use Rattle.nm_calls.specs.Walks.{IsAt};
 ghost use Rattle.nm_calls.specs.Marking.{OnlyCuts};
-ghost use Rattle.nm_calls.specs.Won.{won_splices, capped};
-ghost use Rattle.nm_calls.specs.Cleanups.{HasCut, HasCutNothing, HasCleaned, OnlyCleans};
+ghost use Rattle.nm_calls.specs.Cleanups.{HasCut, HasCutNothing, HasCleaned, OnlyCleans, HoldsCuts};
 
 use crate::cutting::{choose, freeze};
 use crate::leaving::label;
 use crate::marking::{splice, tag};
 use crate::spot::{ChainEdge, Spot};
-use arrayvec::ArrayVec;
+use crate::workspace::{CutNodes, Workspace};
 use nm_edge::NodeId;
 use nm_epoch::Entry;
 use nm_limbo::BlockQueue;
 use nm_steps::{Pass, Shared};
-
-/// How many nodes a splice cuts off at most: `CHAIN_BOUND` internal ones, and the flagged leaf
-/// beside each.
-pub const CUT_BOUND: usize = 128;
-
-/// The nodes that a splice cuts off.
-pub type CutNodes = ArrayVec<NodeId, CUT_BOUND>;
 
 /// A cleanup up to its splice, and whether that is won.
 fn cut_off(
@@ -36,13 +26,9 @@ fn cut_off(
     chain: &[ChainEdge],
     nodes: &mut CutNodes,
 ) -> bool
-    requires own { IsOf shared.now pass.old }
-    requires run { IsInRun pass.old }
-    requires pinned { IsPinnedSomewhere pass.old }
+    requires pinned { IsPinnedIn shared.now pass.old }
     requires at { IsAt (Tells pass.old) spot.now chain.now }
     requires few { length chain.now < chain_bound }
-    ensures same { IsSamePass pass.old pass.new }
-    ensures past { HasSeenAllOf pass.new pass.old }
     ensures won { result ≡ true → HasCut spot.now chain.now nodes.new.items pass.old pass.new }
     ensures lost { result ≡ false → HasCutNothing spot.now chain.now pass.old pass.new }
     ensures on { GoesOn pass.old pass.new }
@@ -85,47 +71,50 @@ fn push_labelled(queue: &mut BlockQueue<Entry>, nodes: &[NodeId], label: u64)
     }
 }
 
-/// A cleanup by a walk that ended at this spot with this chain, and whether it is won. Won: the
-/// chain from the successor down to the parent is cut off with the flagged leaf beside each of its
-/// nodes, labelled at once, and waits at the end of the queue. Lost: it has only looked, and tagged
-/// an edge. `splices` counts the worker's won splices, up to 2^64 - 1. It takes no memory. At most
-/// 3 steps for each node of the chain, and 8 more. (The cleanup of Natarajan and Mittal, section
-/// 3.2, for a whole chain.)
+/// A cleanup by a walk that ended at this spot with the chain of this workspace, which stays, and
+/// whether it is won. Won: the chain from the successor down to the parent is cut off with the
+/// flagged leaf beside each of its nodes, labelled at once, and waits at the end of the queue.
+/// Lost: it has only looked, and tagged an edge. `splices` counts the worker's won splices, up to
+/// 2^64 - 1. It takes no memory. At most 3 steps for each node of the chain, and 8 more. (The
+/// cleanup of Natarajan and Mittal, section 3.2, for a whole chain.)
 pub fn cleanup(
     shared: &Shared,
     pass: &mut Pass,
     spot: &Spot,
-    chain: &[ChainEdge],
+    workspace: &mut Workspace,
     queue: &mut BlockQueue<Entry>,
     splices: &mut u64,
 ) -> bool
-    requires own { IsOf shared.now pass.old }
-    requires run { IsInRun pass.old }
-    requires pinned { IsPinnedSomewhere pass.old }
-    requires at { IsAt (Tells pass.old) spot.now chain.now }
-    requires few { length chain.now < chain_bound }
+    requires pinned { IsPinnedIn shared.now pass.old }
+    requires at { IsAt (Tells pass.old) spot.now workspace.old.chain.items }
+    requires few { length workspace.old.chain.items < chain_bound }
     requires room { cut_bound ≤ queue.old.spare }
-    requires queue { IsQueueOf (knowledge pass.old.view) pass.old.view.number queue.old.items }
-    requires counted { splices.old ≡ capped (won_splices pass.old.view.log) }
-    ensures same { IsSamePass pass.old pass.new }
-    ensures past { HasSeenAllOf pass.new pass.old }
+    requires kept { HoldsCuts pass.old queue.old splices.old }
     ensures won { result ≡ true
-        → HasCleaned spot.now chain.now pass.old pass.new queue.old.items queue.new.items }
-    ensures lost { result ≡ false → HasCutNothing spot.now chain.now pass.old pass.new }
+        → HasCleaned spot.now workspace.old.chain.items pass.old pass.new queue.old.items
+        queue.new.items }
+    ensures lost { result ≡ false
+        → HasCutNothing spot.now workspace.old.chain.items pass.old pass.new }
     ensures untouched { result ≡ false → queue.new ≡ queue.old }
-    ensures queue { IsQueueOf (knowledge pass.new.view) pass.new.view.number queue.new.items }
+    ensures chain { workspace.new.chain ≡ workspace.old.chain }
+    ensures kept { HoldsCuts pass.new queue.new splices.new }
     ensures fills { FillsUp queue.old queue.new }
     ensures on { GoesOn pass.old pass.new }
     ensures only { OnlyCleans pass.old pass.new }
-    ensures steps { length pass.new.view.log ≤ length pass.old.view.log + 3 * length chain.now + 8 }
-    ensures counted { splices.new ≡ capped (won_splices pass.new.view.log) }
+    ensures steps { length pass.new.view.log
+        ≤ length pass.old.view.log + 3 * length workspace.old.chain.items + 8 }
 {
-    let mut nodes = CutNodes::new();
-    if !cut_off(shared, pass, spot, chain, &mut nodes) {
+    if !cut_off(
+        shared,
+        pass,
+        spot,
+        workspace.chain.as_slice(),
+        &mut workspace.nodes,
+    ) {
         return false;
     }
     let epoch = label(shared, pass);
-    push_labelled(queue, nodes.as_slice(), epoch);
+    push_labelled(queue, workspace.nodes.as_slice(), epoch);
     *splices = splices.saturating_add(1);
     true
 }

@@ -4,15 +4,14 @@ ghost use Rattle.nm_edge.specs.Edges.{other};
 ghost use Rattle.nm_edge.specs.declared.node.NodeId.{NodeId as Node};
 ghost use Rattle.nm_order.specs.Facts.Fact.{KnowsSlot, IsTagged, IsFlagged};
 ghost use Rattle.nm_order.specs.Told.{FrozenTo};
-ghost use Rattle.nm_steps.specs.Steps.{IsOf, IsSamePass, HasSeenAllOf};
 ghost use Rattle.nm_calls.specs.Bounds.{cut_bound};
-ghost use Rattle.nm_calls.specs.Telling.{Tells, GoesOn, OnlyLooks, IsInRun, IsPinnedSomewhere};
+ghost use Rattle.nm_calls.specs.Telling.{Tells, GoesOn, OnlyLooks, IsPinnedIn};
 ghost use Rattle.nm_calls.specs.Walks.{ChainLeads};
 ghost use Rattle.nm_calls.specs.Cleanups.{Chooses, FrozenAt, Freezes, top};
 
-use crate::cleaning::CutNodes;
 use crate::looking::{look_birth, look_edge};
 use crate::spot::{ChainEdge, Spot};
+use crate::workspace::CutNodes;
 use nm_edge::{NodeId, Side};
 use nm_steps::{Pass, Shared};
 
@@ -26,12 +25,8 @@ pub struct Kept {
 /// The edge to keep of the parent at which a walk stands, where one of its edges is flagged: two
 /// looks. (The cleanup of Natarajan and Mittal, section 3.2.)
 pub fn choose(shared: &Shared, pass: &mut Pass, spot: &Spot) -> Option<Kept>
-    requires own { IsOf shared.now pass.old }
-    requires run { IsInRun pass.old }
-    requires pinned { IsPinnedSomewhere pass.old }
+    requires pinned { IsPinnedIn shared.now pass.old }
     requires known { Tells pass.old (KnowsSlot spot.now.parent) }
-    ensures same { IsSamePass pass.old pass.new }
-    ensures past { HasSeenAllOf pass.new pass.old }
     ensures looks { Chooses spot.now pass.old.view.log pass.new.view.log result }
     ensures on { GoesOn pass.old pass.new }
     ensures only { OnlyLooks pass.old pass.new }
@@ -63,13 +58,9 @@ pub fn choose(shared: &Shared, pass: &mut Pass, spot: &Spot) -> Option<Kept>
 /// Looks at a node whose edge on a side is tagged, and at the flagged leaf beside: both, with their
 /// births. Three looks.
 fn freeze_one(shared: &Shared, pass: &mut Pass, slot: u32, side: Side) -> (NodeId, NodeId)
-    requires own { IsOf shared.now pass.old }
-    requires run { IsInRun pass.old }
-    requires pinned { IsPinnedSomewhere pass.old }
+    requires pinned { IsPinnedIn shared.now pass.old }
     requires known { Tells pass.old (KnowsSlot slot) }
     requires tagged { (to : ℕ) × Tells pass.old (IsTagged slot side to) }
-    ensures same { IsSamePass pass.old pass.new }
-    ensures past { HasSeenAllOf pass.new pass.old }
     ensures frozen { FrozenAt pass.old pass.new slot side result.0 result.1 }
     ensures on { GoesOn pass.old pass.new }
     ensures only { OnlyLooks pass.old pass.new }
@@ -88,14 +79,10 @@ fn freeze_one(shared: &Shared, pass: &mut Pass, slot: u32, side: Side) -> (NodeI
 
 /// Adds a node whose edge on a side is tagged, and the flagged leaf beside it.
 fn add_frozen(shared: &Shared, pass: &mut Pass, slot: u32, side: Side, nodes: &mut CutNodes)
-    requires own { IsOf shared.now pass.old }
-    requires run { IsInRun pass.old }
-    requires pinned { IsPinnedSomewhere pass.old }
+    requires pinned { IsPinnedIn shared.now pass.old }
     requires known { Tells pass.old (KnowsSlot slot) }
     requires tagged { (to : ℕ) × Tells pass.old (IsTagged slot side to) }
     requires room { length nodes.old.items + 2 ≤ cut_bound }
-    ensures same { IsSamePass pass.old pass.new }
-    ensures past { HasSeenAllOf pass.new pass.old }
     ensures frozen { (node leaf : Node) × FrozenAt pass.old pass.new slot side node leaf
         × (nodes.new.items ≡ nodes.old.items ++ node ∷ leaf ∷ []) }
     ensures on { GoesOn pass.old pass.new }
@@ -118,15 +105,11 @@ pub fn freeze(
     keep: Side,
     nodes: &mut CutNodes,
 )
-    requires own { IsOf shared.now pass.old }
-    requires run { IsInRun pass.old }
-    requires pinned { IsPinnedSomewhere pass.old }
+    requires pinned { IsPinnedIn shared.now pass.old }
     requires way { ChainLeads (Tells pass.old) (top chain.now parent) chain.now parent }
     requires known { Tells pass.old (KnowsSlot (top chain.now parent)) }
     requires tagged { (to : ℕ) × Tells pass.old (IsTagged parent keep to) }
     requires room { length nodes.old.items + 2 * (length chain.now + 1) ≤ cut_bound }
-    ensures same { IsSamePass pass.old pass.new }
-    ensures past { HasSeenAllOf pass.new pass.old }
     ensures frozen { (ns : List Node) × (nodes.new.items ≡ nodes.old.items ++ ns)
         × FrozenTo (Tells pass.new) parent keep (top chain.now parent) ns }
     ensures size { length nodes.new.items ≡ length nodes.old.items + 2 * (length chain.now + 1) }

@@ -1,30 +1,29 @@
 //! Deletes.
-ghost use Rattle.std.specs.Prelude.{◌≡◌, ◌≢◌, ◌⊎◌, ◌<◌, ◌≤◌, ◌+◌, ◌*◌, length, true, false, None, IfOk, IfErr};
+ghost use Rattle.std.specs.Prelude.{◌≡◌, ◌≢◌, ◌⊎◌, ◌<◌, ◌≤◌, length, true, false, None, IfOk, IfErr};
 ghost use Rattle.nm_model.specs.Memory.{infinity_0};
 ghost use Rattle.nm_model.specs.declared.event.Op.TheVariants.{Delete};
-ghost use Rattle.nm_order.specs.Facts.Fact.{KnowsSlot, IsFlagged, CallIs};
+ghost use Rattle.nm_order.specs.Facts.Fact.{IsFlagged};
 ghost use Rattle.nm_steps.specs.Rules.{knowledge};
 ghost use Rattle.nm_steps.specs.Steps.{Stand, IsOf, IsSamePass, HasSeenAllOf};
-ghost use Rattle.nm_epoch.specs.Collecting.{IsQueueOf};
-ghost use Rattle.nm_epoch.specs.Resting.{IsResting, epochs, search};
-ghost use Rattle.nm_calls.specs.Bounds.{chain_bound, cut_bound, IsWithinBound};
+ghost use Rattle.nm_epoch.specs.Resting.{IsResting, search};
+ghost use Rattle.nm_calls.specs.Bounds.{chain_bound, cut_bound};
 ghost use Rattle.nm_calls.specs.Rooms.{FillsUp, TakesRoom};
-ghost use Rattle.nm_calls.specs.Telling.{Tells, GoesOn, IsInRun, IsPinnedSomewhere};
+ghost use Rattle.nm_calls.specs.Telling.{Tells, GoesOn, IsInRun, IsPinnedIn};
 ghost use Rattle.nm_calls.specs.Walks.{IsAt};
-ghost use Rattle.nm_calls.specs.Leaving.{ShowsAnswer};
+ghost use Rattle.nm_calls.specs.Leaving.{ShowsAnswer, IsPinnedForCall, HasChangedNothing};
 ghost use Rattle.nm_calls.specs.Marking.{OnlyFlags};
 ghost use Rattle.nm_calls.specs.Moments.{AnswerHasMoment, HadNoCall};
-ghost use Rattle.nm_calls.specs.Cleanups.{OnlyCleans, KeepsLedgers};
-ghost use Rattle.nm_calls.specs.Won.{won_splices, capped, HasWon, flags_of_delete};
-ghost use Rattle.nm_calls.specs.Deletes.{IsRemoving, Removes, RemovesNothing, IsRemoval, IfRemoved, MayFlag, HasWonItsFlag, HasNotFlagged, IsFlagTry, ShowsFlag, OnlyInjects, IsInjection, ShowsInjection, RemovalAfter, leaf_of, DeleteFinishes, DeleteDid, LosesAfterFlag, LacksRoomOr, FlagsThen, LosesEachTry, AfterDelete, FinishDid};
+ghost use Rattle.nm_calls.specs.Cleanups.{OnlyCleans, KeepsLedgers, HoldsCuts};
+ghost use Rattle.nm_calls.specs.Deletes.{IsRemoving, Removes, RemovesNothing, IsRemoval, IfRemoved, MayFlag, HasWonItsFlag, HasNotFlagged, IsFlagTry, ShowsFlag, OnlyInjects, IsInjection, ShowsInjection, RemovalAfter, leaf_of, DeleteFinishes, LosesAfterFlag, LacksRoomOr, FlagsThen, LosesEachTry, AfterDelete, AfterFinish, RestsOrRemoves};
 
 use crate::cleaning::cleanup;
 use crate::inserting::{help, make_room};
 use crate::leaving::{answer, leave};
 use crate::looking::look_birth;
 use crate::marking::flag;
-use crate::spot::{Chain, End};
+use crate::spot::End;
 use crate::walking::seek;
+use crate::workspace::Workspace;
 use nm_edge::{Edge, Key, NodeId};
 use nm_epoch::{Entry, pin_for};
 use nm_limbo::BlockQueue;
@@ -92,18 +91,14 @@ fn try_remove(
     pass: &mut Pass,
     key: u64,
     leaf: NodeId,
-    chain: &mut Chain,
+    workspace: &mut Workspace,
     queue: &mut BlockQueue<Entry>,
     splices: &mut u64,
 ) -> bool
     requires own { IsOf shared.now pass.old }
-    requires run { IsInRun pass.old }
     requires removing { IsRemoving pass.old key leaf }
     requires room { cut_bound ≤ queue.old.spare }
-    requires queue { IsQueueOf (knowledge pass.old.view) pass.old.view.number queue.old.items }
-    requires counted { splices.old ≡ capped (won_splices pass.old.view.log) }
-    ensures same { IsSamePass pass.old pass.new }
-    ensures past { HasSeenAllOf pass.new pass.old }
+    requires kept { HoldsCuts pass.old queue.old splices.old }
     ensures removed { result ≡ true
         → Removes shared.now.layout.nodes key leaf pass.old.view.log pass.new.view.log }
     ensures shows { result ≡ true → ShowsAnswer pass.new Delete key true }
@@ -111,17 +106,16 @@ fn try_remove(
         → RemovesNothing shared.now.layout.nodes key leaf pass.old.view.log pass.new.view.log }
     ensures on { GoesOn pass.old pass.new }
     ensures only { OnlyCleans pass.old pass.new }
-    ensures queue { IsQueueOf (knowledge pass.new.view) pass.new.view.number queue.new.items }
+    ensures kept { HoldsCuts pass.new queue.new splices.new }
     ensures fills { FillsUp queue.old queue.new }
-    ensures counted { splices.new ≡ capped (won_splices pass.new.view.log) }
 {
-    let Some(end) = seek(shared, pass, key, chain) else {
+    let Some(end) = seek(shared, pass, key, &mut workspace.chain) else {
         return false;
     };
     if !leads_to(&end, leaf.slot) {
         return true;
     }
-    cleanup(shared, pass, &end.spot, chain.as_slice(), queue, splices)
+    cleanup(shared, pass, &end.spot, workspace, queue, splices)
 }
 
 /// Up to so many tries to remove the leaf that the call has flagged.
@@ -131,32 +125,27 @@ fn remove(
     key: u64,
     leaf: NodeId,
     tries: u32,
-    chain: &mut Chain,
+    workspace: &mut Workspace,
     queue: &mut BlockQueue<Entry>,
     splices: &mut u64,
 ) -> Removal
     requires own { IsOf shared.now pass.old }
-    requires run { IsInRun pass.old }
     requires removing { IsRemoving pass.old key leaf }
-    requires queue { IsQueueOf (knowledge pass.old.view) pass.old.view.number queue.old.items }
-    requires counted { splices.old ≡ capped (won_splices pass.old.view.log) }
-    ensures same { IsSamePass pass.old pass.new }
-    ensures past { HasSeenAllOf pass.new pass.old }
+    requires kept { HoldsCuts pass.old queue.old splices.old }
     ensures part { IsRemoval shared.now.layout.nodes key leaf tries pass.old.view.log
         pass.new.view.log result }
     ensures refused { result ≡ Removal.Refused → queue.new.spare < cut_bound }
     ensures shows { IfRemoved result (ShowsAnswer pass.new Delete key true) }
     ensures on { GoesOn pass.old pass.new }
     ensures only { OnlyCleans pass.old pass.new }
-    ensures queue { IsQueueOf (knowledge pass.new.view) pass.new.view.number queue.new.items }
+    ensures kept { HoldsCuts pass.new queue.new splices.new }
     ensures blocks { TakesRoom queue.old queue.new }
-    ensures counted { splices.new ≡ capped (won_splices pass.new.view.log) }
 {
     for _round in 0..tries {
         if !make_room(queue) {
             return Removal::Refused;
         }
-        if try_remove(shared, pass, key, leaf, chain, queue, splices) {
+        if try_remove(shared, pass, key, leaf, workspace, queue, splices) {
             return Removal::Removed;
         }
     }
@@ -166,12 +155,8 @@ fn remove(
 /// Looks at the birth of the leaf at which the walk ended, which won answers, and flags the edge to
 /// it. Lost: the edge that was found.
 fn flag_at(shared: &Shared, pass: &mut Pass, key: u64, end: &End) -> Result<u64, Edge>
-    requires own { IsOf shared.now pass.old }
-    requires run { IsInRun pass.old }
-    requires pinned { IsPinnedSomewhere pass.old }
+    requires pinned { IsPinnedIn shared.now pass.old }
     requires may { MayFlag pass.old key end.now }
-    ensures same { IsSamePass pass.old pass.new }
-    ensures past { HasSeenAllOf pass.new pass.old }
     ensures won { IfOk result (λ b. HasWonItsFlag pass.old pass.new end.now b) }
     ensures lost { IfErr result (λ e. HasNotFlagged pass.old pass.new end.now e) }
     ensures on { GoesOn pass.old pass.new }
@@ -192,33 +177,25 @@ fn try_flag(
     shared: &Shared,
     pass: &mut Pass,
     key: u64,
-    chain: &mut Chain,
+    workspace: &mut Workspace,
     queue: &mut BlockQueue<Entry>,
     splices: &mut u64,
 ) -> Injected
-    requires own { IsOf shared.now pass.old }
-    requires run { IsInRun pass.old }
-    requires pinned { IsPinnedSomewhere pass.old }
-    requires root { Tells pass.old (KnowsSlot 1) }
-    requires known { Tells pass.old (KnowsSlot 2) }
-    requires call { Tells pass.old (CallIs Delete key) }
+    requires pinned { IsPinnedIn shared.now pass.old }
+    requires call { IsPinnedForCall Delete key pass.old }
     requires low { key < infinity_0 }
     requires unflagged { (search pass.old).flagged ≡ None }
     requires room { cut_bound ≤ queue.old.spare }
-    requires queue { IsQueueOf (knowledge pass.old.view) pass.old.view.number queue.old.items }
-    requires counted { splices.old ≡ capped (won_splices pass.old.view.log) }
-    ensures same { IsSamePass pass.old pass.new }
-    ensures past { HasSeenAllOf pass.new pass.old }
-    ensures part { IsFlagTry shared.now.layout.nodes key chain.new.items pass.old.view.log
+    requires kept { HoldsCuts pass.old queue.old splices.old }
+    ensures part { IsFlagTry shared.now.layout.nodes key workspace.new.chain.items pass.old.view.log
         pass.new.view.log result }
-    ensures shows { ShowsFlag key chain.new.items pass.old pass.new result }
+    ensures shows { ShowsFlag key workspace.new.chain.items pass.old pass.new result }
     ensures on { GoesOn pass.old pass.new }
     ensures only { OnlyInjects pass.old pass.new }
-    ensures queue { IsQueueOf (knowledge pass.new.view) pass.new.view.number queue.new.items }
+    ensures kept { HoldsCuts pass.new queue.new splices.new }
     ensures fills { FillsUp queue.old queue.new }
-    ensures counted { splices.new ≡ capped (won_splices pass.new.view.log) }
 {
-    let Some(end) = seek(shared, pass, key, chain) else {
+    let Some(end) = seek(shared, pass, key, &mut workspace.chain) else {
         return Injected::Lost;
     };
     if end.key != key {
@@ -227,7 +204,7 @@ fn try_flag(
     match flag_at(shared, pass, key, &end) {
         Ok(birth) => Injected::Flagged(end, birth),
         Err(found) => {
-            help(shared, pass, &end, found, chain.as_slice(), queue, splices);
+            help(shared, pass, &end, found, workspace, queue, splices);
             Injected::Lost
         }
     }
@@ -239,38 +216,30 @@ fn inject(
     pass: &mut Pass,
     key: u64,
     tries: u32,
-    chain: &mut Chain,
+    workspace: &mut Workspace,
     queue: &mut BlockQueue<Entry>,
     splices: &mut u64,
 ) -> Injection
-    requires own { IsOf shared.now pass.old }
-    requires run { IsInRun pass.old }
-    requires pinned { IsPinnedSomewhere pass.old }
-    requires root { Tells pass.old (KnowsSlot 1) }
-    requires known { Tells pass.old (KnowsSlot 2) }
-    requires call { Tells pass.old (CallIs Delete key) }
+    requires pinned { IsPinnedIn shared.now pass.old }
+    requires call { IsPinnedForCall Delete key pass.old }
     requires low { key < infinity_0 }
     requires unflagged { (search pass.old).flagged ≡ None }
     requires room { cut_bound ≤ queue.old.spare }
-    requires queue { IsQueueOf (knowledge pass.old.view) pass.old.view.number queue.old.items }
-    requires counted { splices.old ≡ capped (won_splices pass.old.view.log) }
-    ensures same { IsSamePass pass.old pass.new }
-    ensures past { HasSeenAllOf pass.new pass.old }
-    ensures part { IsInjection shared.now.layout.nodes key tries chain.new.items pass.old.view.log
-        pass.new.view.log result }
+    requires kept { HoldsCuts pass.old queue.old splices.old }
+    ensures part { IsInjection shared.now.layout.nodes key tries workspace.new.chain.items
+        pass.old.view.log pass.new.view.log result }
     ensures refused { result ≡ Injection.Refused → queue.new.spare < cut_bound }
-    ensures shows { ShowsInjection key chain.new.items pass.new result }
+    ensures shows { ShowsInjection key workspace.new.chain.items pass.new result }
     ensures on { GoesOn pass.old pass.new }
     ensures only { OnlyInjects pass.old pass.new }
-    ensures queue { IsQueueOf (knowledge pass.new.view) pass.new.view.number queue.new.items }
+    ensures kept { HoldsCuts pass.new queue.new splices.new }
     ensures blocks { TakesRoom queue.old queue.new }
-    ensures counted { splices.new ≡ capped (won_splices pass.new.view.log) }
 {
     for round in 0..tries {
         if !make_room(queue) {
             return Injection::Refused;
         }
-        match try_flag(shared, pass, key, chain, queue, splices) {
+        match try_flag(shared, pass, key, workspace, queue, splices) {
             Injected::Absent => return Injection::Absent,
             Injected::Flagged(end, birth) => {
                 return Injection::Flagged(end, birth, tries - round - 1);
@@ -289,30 +258,25 @@ fn remove_after(
     end: &End,
     birth: u64,
     left: u32,
-    chain: &mut Chain,
+    workspace: &mut Workspace,
     queue: &mut BlockQueue<Entry>,
     splices: &mut u64,
 ) -> Removal
     requires own { IsOf shared.now pass.old }
-    requires run { IsInRun pass.old }
     requires removing { IsRemoving pass.old key (leaf_of end.now birth) }
     requires edge { Tells pass.old
         (IsFlagged end.now.spot.parent end.now.spot.side end.now.spot.edge.slot) }
-    requires at { IsAt (Tells pass.old) end.now.spot chain.old.items }
-    requires few { length chain.old.items < chain_bound }
-    requires queue { IsQueueOf (knowledge pass.old.view) pass.old.view.number queue.old.items }
-    requires counted { splices.old ≡ capped (won_splices pass.old.view.log) }
-    ensures same { IsSamePass pass.old pass.new }
-    ensures past { HasSeenAllOf pass.new pass.old }
-    ensures part { RemovalAfter shared.now.layout.nodes key end.now chain.old.items birth left
-        pass.old.view.log pass.new.view.log result }
+    requires at { IsAt (Tells pass.old) end.now.spot workspace.old.chain.items }
+    requires few { length workspace.old.chain.items < chain_bound }
+    requires kept { HoldsCuts pass.old queue.old splices.old }
+    ensures part { RemovalAfter shared.now.layout.nodes key end.now workspace.old.chain.items birth
+        left pass.old.view.log pass.new.view.log result }
     ensures refused { result ≡ Removal.Refused → queue.new.spare < cut_bound }
     ensures shows { IfRemoved result (ShowsAnswer pass.new Delete key true) }
     ensures on { GoesOn pass.old pass.new }
     ensures only { OnlyCleans pass.old pass.new }
-    ensures queue { IsQueueOf (knowledge pass.new.view) pass.new.view.number queue.new.items }
+    ensures kept { HoldsCuts pass.new queue.new splices.new }
     ensures blocks { TakesRoom queue.old queue.new }
-    ensures counted { splices.new ≡ capped (won_splices pass.new.view.log) }
 {
     if left == 0 {
         return Removal::Spent;
@@ -320,11 +284,11 @@ fn remove_after(
     if !make_room(queue) {
         return Removal::Refused;
     }
-    if cleanup(shared, pass, &end.spot, chain.as_slice(), queue, splices) {
+    if cleanup(shared, pass, &end.spot, workspace, queue, splices) {
         return Removal::Removed;
     }
     let leaf = leaf_at(end, birth);
-    remove(shared, pass, key, leaf, left - 1, chain, queue, splices)
+    remove(shared, pass, key, leaf, left - 1, workspace, queue, splices)
 }
 
 /// The leaf at which a walk ended, with its birth.
@@ -344,23 +308,16 @@ fn delete_pinned(
     pass: &mut Pass,
     key: u64,
     tries: u32,
-    chain: &mut Chain,
+    workspace: &mut Workspace,
     queue: &mut BlockQueue<Entry>,
     splices: &mut u64,
 ) -> Result<bool, Missed>
-    requires own { IsOf shared.now pass.old }
-    requires run { IsInRun pass.old }
-    requires pinned { IsPinnedSomewhere pass.old }
-    requires root { Tells pass.old (KnowsSlot 1) }
-    requires known { Tells pass.old (KnowsSlot 2) }
-    requires call { Tells pass.old (CallIs Delete key) }
+    requires pinned { IsPinnedIn shared.now pass.old }
+    requires call { IsPinnedForCall Delete key pass.old }
     requires low { key < infinity_0 }
-    requires labelled { (epochs pass.old).unlabelled ≡ false }
-    requires unlinked { (search pass.old).linked ≡ false }
-    requires unflagged { (search pass.old).flagged ≡ None }
+    requires unchanged { HasChangedNothing pass.old }
     requires room { cut_bound ≤ queue.old.spare }
-    requires queue { IsQueueOf (knowledge pass.old.view) pass.old.view.number queue.old.items }
-    requires counted { splices.old ≡ capped (won_splices pass.old.view.log) }
+    requires kept { HoldsCuts pass.old queue.old splices.old }
     ensures same { IsSamePass pass.old pass.new }
     ensures past { HasSeenAllOf pass.new pass.old }
     ensures part { DeleteFinishes shared.now.layout.nodes tries key pass.old.view.log
@@ -371,14 +328,13 @@ fn delete_pinned(
     ensures moment { (o : Stand) → HadNoCall o pass.old
         → IfOk result (AnswerHasMoment o pass.new Delete key) }
     ensures run { IsInRun pass.new }
-    ensures after { AfterDelete key pass.new result }
+    ensures stands { RestsOrRemoves key pass.new result }
     ensures private { (knowledge pass.new.view).drafts ≡ (knowledge pass.old.view).drafts }
-    ensures queue { IsQueueOf (knowledge pass.new.view) pass.new.view.number queue.new.items }
+    ensures kept { HoldsCuts pass.new queue.new splices.new }
     ensures blocks { TakesRoom queue.old queue.new }
     ensures ledgers { KeepsLedgers pass.old pass.new }
-    ensures counted { splices.new ≡ capped (won_splices pass.new.view.log) }
 {
-    match inject(shared, pass, key, tries, chain, queue, splices) {
+    match inject(shared, pass, key, tries, workspace, queue, splices) {
         Injection::Absent => {
             answer(shared, pass, false);
             Ok(false)
@@ -393,7 +349,9 @@ fn delete_pinned(
         }
         Injection::Flagged(end, birth, left) => {
             let leaf = leaf_at(&end, birth);
-            match remove_after(shared, pass, key, &end, birth, left, chain, queue, splices) {
+            match remove_after(
+                shared, pass, key, &end, birth, left, workspace, queue, splices,
+            ) {
                 Removal::Removed => {
                     answer(shared, pass, true);
                     Ok(true)
@@ -413,41 +371,28 @@ fn delete_pinned(
 ///
 /// At most `tries` * (4 `nodes` + 512) + 6 `nodes` + 10 steps. `Ok(true)` and `Unfinished`: just
 /// one flag was won, and no link; else neither. `splices` counts the worker's won splices, up to
-/// 2^64 - 1. What stands in `chain` is not looked at: it is the room of the walks. (The delete of
-/// Natarajan and Mittal, section 3.2.)
+/// 2^64 - 1. What stands in `workspace` is not looked at. (The delete of Natarajan and Mittal,
+/// section 3.2.)
 pub fn delete(
     shared: &Shared,
     pass: &mut Pass,
     key: Key,
     tries: u32,
-    chain: &mut Chain,
+    workspace: &mut Workspace,
     queue: &mut BlockQueue<Entry>,
     splices: &mut u64,
 ) -> Result<bool, Missed>
     requires own { IsOf shared.now pass.old }
     requires rests { IsResting pass.old }
-    requires queue { IsQueueOf (knowledge pass.old.view) pass.old.view.number queue.old.items }
+    requires kept { HoldsCuts pass.old queue.old splices.old }
     requires few { length queue.old.items ≤ shared.now.layout.nodes }
-    requires counted { splices.old ≡ capped (won_splices pass.old.view.log) }
-    ensures same { IsSamePass pass.old pass.new }
-    ensures past { HasSeenAllOf pass.new pass.old }
-    ensures did { DeleteDid shared.now.layout.nodes tries key pass.old.view.log pass.new.view.log
-        result }
+    ensures after { AfterDelete shared.now.layout.nodes tries key pass.old pass.new result }
     ensures refused { IfErr result
         (LacksRoomOr (LosesAfterFlag shared.now.layout.nodes tries key pass.old.view.log
         pass.new.view.log) queue.new.spare) }
-    ensures moment { IfOk result (AnswerHasMoment pass.old pass.new Delete key) }
-    ensures won { HasWon pass.old.view.log pass.new.view.log 0 (flags_of_delete result) }
-    ensures steps { IsWithinBound shared.now.layout.nodes tries pass.old.view.log
-        pass.new.view.log }
-    ensures run { (pass.new ≡ pass.old) ⊎ IsInRun pass.new }
-    ensures after { AfterDelete key pass.new result }
-    ensures private { (knowledge pass.new.view).drafts ≡ (knowledge pass.old.view).drafts }
-    ensures queue { IsQueueOf (knowledge pass.new.view) pass.new.view.number queue.new.items }
+    ensures kept { HoldsCuts pass.new queue.new splices.new }
     ensures blocks { TakesRoom queue.old queue.new }
     ensures few { length queue.new.items ≤ shared.now.layout.nodes }
-    ensures ledgers { KeepsLedgers pass.old pass.new }
-    ensures counted { splices.new ≡ capped (won_splices pass.new.view.log) }
 {
     if tries == 0 {
         return Err(Missed::Busy);
@@ -459,52 +404,45 @@ pub fn delete(
     let Ok(_epoch) = pin_for(shared, pass, tries, Op::Delete, key) else {
         return Err(Missed::Busy);
     };
-    delete_pinned(shared, pass, key.get(), tries, chain, queue, splices)
+    delete_pinned(shared, pass, key.get(), tries, workspace, queue, splices)
 }
 
 /// Goes on to remove the leaf that the worker has flagged: whether it is cut off, and the worker
 /// rests. Else it stays pinned. Room for a cleanup is made before each try, in the fewest blocks,
 /// and no other memory is taken. At most `tries` * (4 `nodes` + 512) + 6 `nodes` + 10 steps; no
 /// link and no flag is won. `splices` counts the worker's won splices, up to 2^64 - 1. What stands
-/// in `chain` is not looked at: it is the room of the walks.
+/// in `workspace` is not looked at.
 pub fn finish(
     shared: &Shared,
     pass: &mut Pass,
     key: Key,
     leaf: NodeId,
     tries: u32,
-    chain: &mut Chain,
+    workspace: &mut Workspace,
     queue: &mut BlockQueue<Entry>,
     splices: &mut u64,
 ) -> bool
     requires own { IsOf shared.now pass.old }
-    requires run { IsInRun pass.old }
     requires removing { IsRemoving pass.old key leaf }
-    requires queue { IsQueueOf (knowledge pass.old.view) pass.old.view.number queue.old.items }
-    requires counted { splices.old ≡ capped (won_splices pass.old.view.log) }
-    ensures same { IsSamePass pass.old pass.new }
-    ensures past { HasSeenAllOf pass.new pass.old }
-    ensures did { FinishDid shared.now.layout.nodes key leaf tries pass.old.view.log
-        pass.new.view.log result }
+    requires kept { HoldsCuts pass.old queue.old splices.old }
+    ensures after { AfterFinish shared.now.layout.nodes key leaf tries pass.old pass.new result }
     ensures refused { result ≡ false
         → (queue.new.spare < cut_bound)
         ⊎ LosesEachTry shared.now.layout.nodes key leaf tries pass.old.view.log pass.new.view.log }
-    ensures moment { result ≡ true → (o : Stand) → HadNoCall o pass.old
-        → AnswerHasMoment o pass.new Delete key true }
-    ensures won { HasWon pass.old.view.log pass.new.view.log 0 0 }
-    ensures steps { IsWithinBound shared.now.layout.nodes tries pass.old.view.log
-        pass.new.view.log }
-    ensures run { IsInRun pass.new }
-    ensures rests { result ≡ true → IsResting pass.new }
-    ensures removing { result ≡ false → IsRemoving pass.new key leaf }
-    ensures private { (knowledge pass.new.view).drafts ≡ (knowledge pass.old.view).drafts }
-    ensures ledgers { KeepsLedgers pass.old pass.new }
-    ensures queue { IsQueueOf (knowledge pass.new.view) pass.new.view.number queue.new.items }
+    ensures kept { HoldsCuts pass.new queue.new splices.new }
     ensures blocks { TakesRoom queue.old queue.new }
     ensures few { length queue.new.items ≤ shared.now.layout.nodes }
-    ensures counted { splices.new ≡ capped (won_splices pass.new.view.log) }
 {
-    match remove(shared, pass, key.get(), leaf, tries, chain, queue, splices) {
+    match remove(
+        shared,
+        pass,
+        key.get(),
+        leaf,
+        tries,
+        workspace,
+        queue,
+        splices,
+    ) {
         Removal::Removed => {
             answer(shared, pass, true);
             true

@@ -1,7 +1,7 @@
 //! The two new nodes of an insert: claimed, filled and linked, or given back.
-ghost use Rattle.std.specs.Prelude.{◌≡◌, ◌≢◌, None, IfOk, IfErr};
-ghost use Rattle.nm_steps.specs.Steps.{IsOf, IsSamePass, Stand, HasSeenAllOf};
-ghost use Rattle.nm_calls.specs.Telling.{GoesOn, IsInRun, IsPinnedSomewhere};
+ghost use Rattle.std.specs.Prelude.{◌≡◌, None, IfOk, IfErr};
+ghost use Rattle.nm_steps.specs.Steps.{IsOf, Stand};
+ghost use Rattle.nm_calls.specs.Telling.{GoesOn, IsInRun, IsPinnedIn};
 ghost use Rattle.nm_calls.specs.Making.{OnlyMakes};
 ghost use Rattle.nm_calls.specs.Inserts.{ClaimsFork, HasFork, IfReady, Returns, inner_of, MayGrow, KeepsCall, HasGrown, HasNotGrown};
 
@@ -35,8 +35,6 @@ pub(crate) fn claim_fork(
 ) -> Option<Fork>
     requires own { IsOf shared.now pass.old }
     requires run { IsInRun pass.old }
-    ensures same { IsSamePass pass.old pass.new }
-    ensures past { HasSeenAllOf pass.new pass.old }
     ensures part { ClaimsFork placement.old shared.now.layout.nodes pass.old.view.log
         pass.new.view.log result }
     ensures on { GoesOn pass.old pass.new }
@@ -83,12 +81,8 @@ pub(crate) fn grow(
     end: &End,
     fork: &Fork,
 ) -> Result<(), Edge>
-    requires own { IsOf shared.now pass.old }
-    requires run { IsInRun pass.old }
-    requires pinned { IsPinnedSomewhere pass.old }
+    requires pinned { IsPinnedIn shared.now pass.old }
     requires may { MayGrow pass.old key end.now fork.now }
-    ensures same { IsSamePass pass.old pass.new }
-    ensures past { HasSeenAllOf pass.new pass.old }
     ensures on { GoesOn pass.old pass.new }
     ensures call { KeepsCall pass.old pass.new }
     ensures won { IfOk result (λ _. HasGrown pass.old pass.new key end.now fork.now) }
@@ -122,8 +116,6 @@ pub(crate) fn give_back(
     requires ready { IfReady pass.old fork.now }
     ensures part { Returns fork.now pass.old.view.log pass.new.view.log }
     ensures given { (o : Stand) → HasFork o pass.old fork.now → HasFork o pass.new None }
-    ensures same { IsSamePass pass.old pass.new }
-    ensures past { HasSeenAllOf pass.new pass.old }
     ensures on { GoesOn pass.old pass.new }
     ensures only { OnlyMakes pass.old pass.new }
     ensures fit { placement.new ≡ placement.old }

@@ -1,26 +1,24 @@
 //! Inserts.
-ghost use Rattle.std.specs.Prelude.{◌≡◌, ◌⊎◌, ◌<◌, ◌≤◌, ◌+◌, ◌*◌, true, false, length, None, IfOk, IsErrOf};
+ghost use Rattle.std.specs.Prelude.{◌≡◌, ◌<◌, ◌≤◌, ◌*◌, true, false, length, None, IfOk, IsErrOf};
 ghost use Rattle.nm_model.specs.declared.event.Op.TheVariants.{Insert};
-ghost use Rattle.nm_order.specs.Facts.Fact.{KnowsSlot, CallIs};
-ghost use Rattle.nm_steps.specs.Rules.{knowledge};
 ghost use Rattle.nm_steps.specs.Steps.{Stand, IsOf, IsSamePass, HasSeenAllOf};
-ghost use Rattle.nm_epoch.specs.Collecting.{IsQueueOf};
-ghost use Rattle.nm_epoch.specs.Resting.{IsResting, epochs, search};
-ghost use Rattle.nm_calls.specs.Bounds.{chain_bound, cut_bound, IsWithinBound};
+ghost use Rattle.nm_epoch.specs.Resting.{IsResting, search};
+ghost use Rattle.nm_calls.specs.Bounds.{chain_bound, cut_bound};
 ghost use Rattle.nm_calls.specs.Rooms.{FillsUp, TakesRoom};
-ghost use Rattle.nm_calls.specs.Telling.{Tells, GoesOn, IsInRun, IsPinnedSomewhere};
+ghost use Rattle.nm_calls.specs.Telling.{Tells, GoesOn, IsInRun, IsPinnedIn};
 ghost use Rattle.nm_calls.specs.Walks.{IsAt};
 ghost use Rattle.nm_calls.specs.Making.{OnlyMakes};
 ghost use Rattle.nm_calls.specs.Moments.{AnswerHasMoment, HadNoCall};
-ghost use Rattle.nm_calls.specs.Cleanups.{OnlyCleans, KeepsLedgers};
-ghost use Rattle.nm_calls.specs.Won.{won_splices, capped, HasWon, links_of_insert};
-ghost use Rattle.nm_calls.specs.Inserts.{HasFork, Helps, asks_help, IsReadied, IsTry, OnlyTries, ShowsTry, Finishes, InsertDid};
+ghost use Rattle.nm_calls.specs.Cleanups.{OnlyCleans, KeepsLedgers, HoldsCuts};
+ghost use Rattle.nm_calls.specs.Inserts.{HasFork, Helps, asks_help, IsReadied, IsTry, OnlyTries, ShowsTry, Finishes, AfterInsert};
+ghost use Rattle.nm_calls.specs.Leaving.{IsPinnedForCall, HasChangedNothing};
 
-use crate::cleaning::{CUT_BOUND, cleanup};
+use crate::cleaning::cleanup;
 use crate::growing::{Fork, claim_fork, give_back, grow};
 use crate::leaving::{answer, leave};
-use crate::spot::{Chain, ChainEdge, End};
+use crate::spot::End;
 use crate::walking::seek;
+use crate::workspace::{CUT_BOUND, Workspace};
 use nm_edge::{Edge, Key};
 use nm_epoch::{Entry, pin_for};
 use nm_limbo::BlockQueue;
@@ -61,8 +59,6 @@ fn ready(
 ) -> Option<Fork>
     requires own { IsOf shared.now pass.old }
     requires run { IsInRun pass.old }
-    ensures same { IsSamePass pass.old pass.new }
-    ensures past { HasSeenAllOf pass.new pass.old }
     ensures part { IsReadied placement.old shared.now.layout.nodes fork.old fork.new result
         pass.old.view.log pass.new.view.log }
     ensures on { GoesOn pass.old pass.new }
@@ -92,29 +88,25 @@ pub(crate) fn help(
     pass: &mut Pass,
     end: &End,
     found: Edge,
-    chain: &[ChainEdge],
+    workspace: &mut Workspace,
     queue: &mut BlockQueue<Entry>,
     splices: &mut u64,
 )
-    requires own { IsOf shared.now pass.old }
-    requires run { IsInRun pass.old }
-    requires pinned { IsPinnedSomewhere pass.old }
-    requires at { IsAt (Tells pass.old) end.now.spot chain.now }
-    requires few { length chain.now < chain_bound }
+    requires pinned { IsPinnedIn shared.now pass.old }
+    requires at { IsAt (Tells pass.old) end.now.spot workspace.old.chain.items }
+    requires few { length workspace.old.chain.items < chain_bound }
     requires room { cut_bound ≤ queue.old.spare }
-    requires queue { IsQueueOf (knowledge pass.old.view) pass.old.view.number queue.old.items }
-    requires counted { splices.old ≡ capped (won_splices pass.old.view.log) }
-    ensures same { IsSamePass pass.old pass.new }
-    ensures past { HasSeenAllOf pass.new pass.old }
-    ensures part { Helps end.now chain.now found pass.old.view.log pass.new.view.log }
+    requires kept { HoldsCuts pass.old queue.old splices.old }
+    ensures part { Helps end.now workspace.old.chain.items found pass.old.view.log
+        pass.new.view.log }
+    ensures chain { workspace.new.chain ≡ workspace.old.chain }
     ensures on { GoesOn pass.old pass.new }
     ensures only { OnlyCleans pass.old pass.new }
-    ensures queue { IsQueueOf (knowledge pass.new.view) pass.new.view.number queue.new.items }
+    ensures kept { HoldsCuts pass.new queue.new splices.new }
     ensures fills { FillsUp queue.old queue.new }
-    ensures counted { splices.new ≡ capped (won_splices pass.new.view.log) }
 {
     if asks_help(end, found) {
-        let _ = cleanup(shared, pass, &end.spot, chain, queue, splices);
+        let _ = cleanup(shared, pass, &end.spot, workspace, queue, splices);
     }
 }
 
@@ -125,36 +117,28 @@ fn try_insert(
     pass: &mut Pass,
     placement: &mut Placement,
     key: u64,
-    chain: &mut Chain,
+    workspace: &mut Workspace,
     fork: &mut Option<Fork>,
     queue: &mut BlockQueue<Entry>,
     splices: &mut u64,
 ) -> Attempt
-    requires own { IsOf shared.now pass.old }
-    requires run { IsInRun pass.old }
-    requires pinned { IsPinnedSomewhere pass.old }
-    requires root { Tells pass.old (KnowsSlot 1) }
-    requires known { Tells pass.old (KnowsSlot 2) }
-    requires call { Tells pass.old (CallIs Insert key) }
+    requires pinned { IsPinnedIn shared.now pass.old }
+    requires call { IsPinnedForCall Insert key pass.old }
     requires unlinked { (search pass.old).linked ≡ false }
     requires room { cut_bound ≤ queue.old.spare }
-    requires queue { IsQueueOf (knowledge pass.old.view) pass.old.view.number queue.old.items }
+    requires kept { HoldsCuts pass.old queue.old splices.old }
     requires fork { (o : Stand) × HasFork o pass.old fork.old }
-    requires counted { splices.old ≡ capped (won_splices pass.old.view.log) }
-    ensures same { IsSamePass pass.old pass.new }
-    ensures past { HasSeenAllOf pass.new pass.old }
     ensures part { IsTry placement.old shared.now.layout.nodes key fork.old fork.new
         pass.old.view.log pass.new.view.log result }
     ensures on { GoesOn pass.old pass.new }
     ensures only { OnlyTries pass.old pass.new }
     ensures shows { ShowsTry key pass.old pass.new result }
     ensures has { (o : Stand) → HasFork o pass.old fork.old → HasFork o pass.new fork.new }
-    ensures queue { IsQueueOf (knowledge pass.new.view) pass.new.view.number queue.new.items }
+    ensures kept { HoldsCuts pass.new queue.new splices.new }
     ensures fills { FillsUp queue.old queue.new }
-    ensures counted { splices.new ≡ capped (won_splices pass.new.view.log) }
     ensures fit { placement.new ≡ placement.old }
 {
-    let Some(end) = seek(shared, pass, key, chain) else {
+    let Some(end) = seek(shared, pass, key, &mut workspace.chain) else {
         return Attempt::Lost;
     };
     if end.key == key {
@@ -169,7 +153,7 @@ fn try_insert(
             Attempt::Linked
         }
         Err(found) => {
-            help(shared, pass, &end, found, chain.as_slice(), queue, splices);
+            help(shared, pass, &end, found, workspace, queue, splices);
             Attempt::Lost
         }
     }
@@ -196,22 +180,15 @@ fn insert_pinned(
     placement: &mut Placement,
     key: u64,
     tries: u32,
-    chain: &mut Chain,
+    workspace: &mut Workspace,
     queue: &mut BlockQueue<Entry>,
     splices: &mut u64,
 ) -> Result<bool, Fault>
-    requires own { IsOf shared.now pass.old }
-    requires run { IsInRun pass.old }
-    requires pinned { IsPinnedSomewhere pass.old }
-    requires root { Tells pass.old (KnowsSlot 1) }
-    requires known { Tells pass.old (KnowsSlot 2) }
-    requires call { Tells pass.old (CallIs Insert key) }
-    requires labelled { (epochs pass.old).unlabelled ≡ false }
-    requires unlinked { (search pass.old).linked ≡ false }
-    requires unflagged { (search pass.old).flagged ≡ None }
+    requires pinned { IsPinnedIn shared.now pass.old }
+    requires call { IsPinnedForCall Insert key pass.old }
+    requires unchanged { HasChangedNothing pass.old }
     requires room { cut_bound ≤ queue.old.spare }
-    requires queue { IsQueueOf (knowledge pass.old.view) pass.old.view.number queue.old.items }
-    requires counted { splices.old ≡ capped (won_splices pass.old.view.log) }
+    requires kept { HoldsCuts pass.old queue.old splices.old }
     ensures same { IsSamePass pass.old pass.new }
     ensures past { HasSeenAllOf pass.new pass.old }
     ensures part { Finishes placement.old shared.now.layout.nodes tries key pass.old.view.log
@@ -222,10 +199,9 @@ fn insert_pinned(
     ensures run { IsInRun pass.new }
     ensures rests { IsResting pass.new }
     ensures private { HasFork pass.old pass.new None }
-    ensures queue { IsQueueOf (knowledge pass.new.view) pass.new.view.number queue.new.items }
+    ensures kept { HoldsCuts pass.new queue.new splices.new }
     ensures blocks { TakesRoom queue.old queue.new }
     ensures ledgers { KeepsLedgers pass.old pass.new }
-    ensures counted { splices.new ≡ capped (won_splices pass.new.view.log) }
     ensures fit { placement.new ≡ placement.old }
 {
     let mut fork: Option<Fork> = None;
@@ -236,7 +212,7 @@ fn insert_pinned(
             return Err(Fault::NoMemory);
         }
         match try_insert(
-            shared, pass, placement, key, chain, &mut fork, queue, splices,
+            shared, pass, placement, key, workspace, &mut fork, queue, splices,
         ) {
             Attempt::Found => {
                 give_back(shared, pass, placement, &fork);
@@ -268,40 +244,27 @@ fn insert_pinned(
 /// other memory is taken. At most `tries` * (4 `nodes` + 512) + 6 `nodes` + 10 steps. `Ok(true)`:
 /// just one link was won, and no flag; else neither. New nodes are claimed in the order of
 /// `placement`, which stays of its fit. `splices` counts the worker's won splices, up to 2^64 - 1.
-/// What stands in `chain` is not looked at: it is the room of the walks. (The insert of Natarajan
-/// and Mittal, section 3.2.)
+/// What stands in `workspace` is not looked at. (The insert of Natarajan and Mittal, section 3.2.)
 pub fn insert(
     shared: &Shared,
     pass: &mut Pass,
     placement: &mut Placement,
     key: Key,
     tries: u32,
-    chain: &mut Chain,
+    workspace: &mut Workspace,
     queue: &mut BlockQueue<Entry>,
     splices: &mut u64,
 ) -> Result<bool, Fault>
     requires own { IsOf shared.now pass.old }
     requires rests { IsResting pass.old }
-    requires queue { IsQueueOf (knowledge pass.old.view) pass.old.view.number queue.old.items }
+    requires kept { HoldsCuts pass.old queue.old splices.old }
     requires few { length queue.old.items ≤ shared.now.layout.nodes }
-    requires counted { splices.old ≡ capped (won_splices pass.old.view.log) }
-    ensures same { IsSamePass pass.old pass.new }
-    ensures past { HasSeenAllOf pass.new pass.old }
-    ensures did { InsertDid placement.old shared.now.layout.nodes tries key pass.old.view.log
-        pass.new.view.log result }
+    ensures after { AfterInsert placement.old shared.now.layout.nodes tries key pass.old pass.new
+        result }
     ensures refused { IsErrOf result Fault.NoMemory → queue.new.spare < cut_bound }
-    ensures moment { IfOk result (AnswerHasMoment pass.old pass.new Insert key) }
-    ensures won { HasWon pass.old.view.log pass.new.view.log (links_of_insert result) 0 }
-    ensures steps { IsWithinBound shared.now.layout.nodes tries pass.old.view.log
-        pass.new.view.log }
-    ensures run { (pass.new ≡ pass.old) ⊎ IsInRun pass.new }
-    ensures rests { IsResting pass.new }
-    ensures private { HasFork pass.old pass.new None }
-    ensures queue { IsQueueOf (knowledge pass.new.view) pass.new.view.number queue.new.items }
+    ensures kept { HoldsCuts pass.new queue.new splices.new }
     ensures few { length queue.new.items ≤ shared.now.layout.nodes }
     ensures blocks { TakesRoom queue.old queue.new }
-    ensures ledgers { KeepsLedgers pass.old pass.new }
-    ensures counted { splices.new ≡ capped (won_splices pass.new.view.log) }
     ensures fit { placement.new ≡ placement.old }
 {
     if tries == 0 {
@@ -320,7 +283,7 @@ pub fn insert(
         placement,
         key.get(),
         tries,
-        chain,
+        workspace,
         queue,
         splices,
     )

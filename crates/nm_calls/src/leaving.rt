@@ -1,15 +1,15 @@
 //! Answers of a call, and the label of a cut, asked for by what the log tells.
-ghost use Rattle.std.specs.Prelude.{◌≡◌, ℕ, false, true, None};
+ghost use Rattle.std.specs.Prelude.{◌≡◌, ℕ, false, true};
 ghost use Rattle.nm_model.specs.declared.event.Event.TheVariants.{Sight, Leave, LeaveWith};
 ghost use Rattle.nm_model.specs.declared.event.Op.{Op};
 ghost use Rattle.nm_model.specs.declared.reply.Reply.TheVariants.{Labelled, Departed};
 ghost use Rattle.nm_order.specs.Facts.Fact.{CallIs};
 ghost use Rattle.nm_steps.specs.Rules.{knowledge};
 ghost use Rattle.nm_steps.specs.Steps.{Stand, IsOf, MayStep, Stepped, HasSeenAllOf};
-ghost use Rattle.nm_epoch.specs.Resting.{IsResting, KeepsHands, epochs, search};
+ghost use Rattle.nm_epoch.specs.Resting.{IsResting, KeepsHands, epochs};
 ghost use Rattle.nm_epoch.specs.Collecting.{TakesLabels};
 ghost use Rattle.nm_calls.specs.Telling.{Tells, GoesOn, IsInRun};
-ghost use Rattle.nm_calls.specs.Leaving.{IsItsAnswer, OnlyLabels};
+ghost use Rattle.nm_calls.specs.Leaving.{IsItsAnswer, OnlyLabels, HasChangedNothing};
 ghost use Rattle.nm_calls.specs.Moments.{AnswerHasMoment, HadNoCall};
 
 use nm_epoch::{label as label_cut, unpin, unpin_with};
@@ -19,9 +19,7 @@ use nm_steps::{Pass, Shared};
 /// step.
 pub fn leave(shared: &Shared, pass: &mut Pass)
     requires own { IsOf shared.now pass.old }
-    requires labelled { (epochs pass.old).unlabelled ≡ false }
-    requires unlinked { (search pass.old).linked ≡ false }
-    requires unflagged { (search pass.old).flagged ≡ None }
+    requires unchanged { HasChangedNothing pass.old }
     ensures step { Stepped pass.old pass.new Leave Departed }
     ensures past { HasSeenAllOf pass.new pass.old }
     ensures run { IsInRun pass.new }
@@ -73,7 +71,6 @@ pub fn label(shared: &Shared, pass: &mut Pass) -> u64
     requires run { IsInRun pass.old }
     requires cut { (epochs pass.old).unlabelled ≡ true }
     ensures step { Stepped pass.old pass.new Sight (Labelled result) }
-    ensures past { HasSeenAllOf pass.new pass.old }
     ensures on { GoesOn pass.old pass.new }
     ensures only { OnlyLabels result pass.old pass.new }
     ensures queues { TakesLabels result (knowledge pass.old.view) (knowledge pass.new.view) }

@@ -17,8 +17,9 @@ mod marking;
 mod next_key;
 mod spot;
 mod walking;
+mod workspace;
 
-pub use cleaning::{CUT_BOUND, CutNodes, cleanup};
+pub use cleaning::cleanup;
 pub use cutting::{Kept, choose, freeze};
 pub use deleting::{Missed, delete, finish};
 pub use growing::Fork;
@@ -32,3 +33,4 @@ pub use marking::{flag, splice, tag};
 pub use next_key::next;
 pub use spot::{CHAIN_BOUND, Chain, ChainEdge, End, Spot};
 pub use walking::{find, seek};
+pub use workspace::{CUT_BOUND, CutNodes, Workspace};

@@ -4,8 +4,8 @@ ghost use Rattle.nm_model.specs.declared.event.Event.TheVariants.{Look};
 ghost use Rattle.nm_model.specs.declared.event.Field.TheVariants.{Key as KeyOf, Edge as EdgeOn, Birth};
 ghost use Rattle.nm_model.specs.declared.reply.Reply.TheVariants.{KeyIs, EdgeIs, BirthIs};
 ghost use Rattle.nm_order.specs.Facts.Fact.{KnowsSlot, IsBorn};
-ghost use Rattle.nm_steps.specs.Steps.{IsOf, IsSamePass, Stepped, HasSeenAllOf};
-ghost use Rattle.nm_calls.specs.Telling.{Tells, GoesOn, OnlyLooks, IsInRun, IsPinnedSomewhere, EdgeTold, KeyTold, OnwardTold};
+ghost use Rattle.nm_steps.specs.Steps.{Stepped};
+ghost use Rattle.nm_calls.specs.Telling.{Tells, GoesOn, OnlyLooks, EdgeTold, KeyTold, OnwardTold, IsPinnedIn};
 ghost use Rattle.nm_calls.specs.Walks.{Reads, edge_on};
 
 use crate::spot::side_at;
@@ -16,12 +16,9 @@ use nm_steps::{Pass, Shared};
 /// key of the set stands above slot 5 alone.
 pub fn look_key(shared: &Shared, layout: Layout, pass: &mut Pass, slot: u32) -> u64
     requires layout { layout ≡ shared.now.layout }
-    requires own { IsOf shared.now pass.old }
-    requires run { IsInRun pass.old }
-    requires pinned { IsPinnedSomewhere pass.old }
+    requires pinned { IsPinnedIn shared.now pass.old }
     requires known { Tells pass.old (KnowsSlot slot) }
     ensures step { Stepped pass.old pass.new (Look slot KeyOf) (KeyIs result) }
-    ensures past { HasSeenAllOf pass.new pass.old }
     ensures on { GoesOn pass.old pass.new }
     ensures only { OnlyLooks pass.old pass.new }
     ensures told { KeyTold pass.old pass.new slot result }
@@ -34,12 +31,9 @@ pub fn look_key(shared: &Shared, layout: Layout, pass: &mut Pass, slot: u32) -> 
 /// Reads an edge of a known node, by such sizes. The node to which it leads is known from then on.
 pub fn look_edge(shared: &Shared, layout: Layout, pass: &mut Pass, slot: u32, side: Side) -> Edge
     requires layout { layout ≡ shared.now.layout }
-    requires own { IsOf shared.now pass.old }
-    requires run { IsInRun pass.old }
-    requires pinned { IsPinnedSomewhere pass.old }
+    requires pinned { IsPinnedIn shared.now pass.old }
     requires known { Tells pass.old (KnowsSlot slot) }
     ensures step { Stepped pass.old pass.new (Look slot (EdgeOn side)) (EdgeIs result) }
-    ensures past { HasSeenAllOf pass.new pass.old }
     ensures on { GoesOn pass.old pass.new }
     ensures only { OnlyLooks pass.old pass.new }
     ensures told { EdgeTold pass.old pass.new slot side result }
@@ -68,12 +62,8 @@ pub(crate) fn read_node(
     key: u64,
 ) -> Onward
     requires layout { layout ≡ shared.now.layout }
-    requires own { IsOf shared.now pass.old }
-    requires run { IsInRun pass.old }
-    requires pinned { IsPinnedSomewhere pass.old }
+    requires pinned { IsPinnedIn shared.now pass.old }
     requires known { Tells pass.old (KnowsSlot slot) }
-    ensures same { IsSamePass pass.old pass.new }
-    ensures past { HasSeenAllOf pass.new pass.old }
     ensures looks { Reads key slot pass.old.view.log pass.new.view.log result }
     ensures within { result.next.slot ≤ shared.now.layout.nodes }
     ensures on { GoesOn pass.old pass.new }
@@ -100,12 +90,9 @@ fn edge_at(side: Side, left: Edge, right: Edge) -> Edge
 
 /// Reads the birth of a known node, at most 2^62.
 pub fn look_birth(shared: &Shared, pass: &mut Pass, slot: u32) -> u64
-    requires own { IsOf shared.now pass.old }
-    requires run { IsInRun pass.old }
-    requires pinned { IsPinnedSomewhere pass.old }
+    requires pinned { IsPinnedIn shared.now pass.old }
     requires known { Tells pass.old (KnowsSlot slot) }
     ensures step { Stepped pass.old pass.new (Look slot Birth) (BirthIs result) }
-    ensures past { HasSeenAllOf pass.new pass.old }
     ensures on { GoesOn pass.old pass.new }
     ensures only { OnlyLooks pass.old pass.new }
     ensures born { Tells pass.new (IsBorn slot result) }

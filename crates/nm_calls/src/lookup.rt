@@ -1,12 +1,8 @@
 //! A look-up.
-ghost use Rattle.std.specs.Prelude.{◌≡◌, IfOk, IfErr};
 ghost use Rattle.nm_model.specs.declared.event.Op.TheVariants.{Has};
-ghost use Rattle.nm_steps.specs.Steps.{IsOf, IsSamePass, HasSeenAllOf};
-ghost use Rattle.nm_epoch.specs.Resting.{IsResting, KeepsHands};
-ghost use Rattle.nm_calls.specs.Bounds.{IsWithinBound};
-ghost use Rattle.nm_calls.specs.Calls.{HasDid, HasMissed};
-ghost use Rattle.nm_calls.specs.Moments.{AnswerHasMoment};
-ghost use Rattle.nm_calls.specs.Won.{HasWon, won_splices};
+ghost use Rattle.nm_steps.specs.Steps.{IsOf};
+ghost use Rattle.nm_epoch.specs.Resting.{IsResting};
+ghost use Rattle.nm_calls.specs.Calls.{AfterHas};
 
 use crate::leaving::leave_with;
 use crate::walking::find;
@@ -30,19 +26,7 @@ pub struct Busy;
 pub fn has(shared: &Shared, pass: &mut Pass, key: Key, tries: u32) -> Result<bool, Busy>
     requires own { IsOf shared.now pass.old }
     requires rests { IsResting pass.old }
-    ensures same { IsSamePass pass.old pass.new }
-    ensures past { HasSeenAllOf pass.new pass.old }
-    ensures did { IfOk result (λ b. HasDid shared.now.layout.nodes tries key pass.old.view.log
-        pass.new.view.log b) }
-    ensures moment { IfOk result (AnswerHasMoment pass.old pass.new Has key) }
-    ensures missed { IfErr result
-        (λ e. HasMissed shared.now.layout.nodes tries key pass.old.view.log pass.new.view.log) }
-    ensures won { HasWon pass.old.view.log pass.new.view.log 0 0 }
-    ensures uncut { won_splices pass.new.view.log ≡ won_splices pass.old.view.log }
-    ensures steps { IsWithinBound shared.now.layout.nodes tries pass.old.view.log
-        pass.new.view.log }
-    ensures rests { IsResting pass.new }
-    ensures hands { KeepsHands pass.old pass.new }
+    ensures { AfterHas shared.now.layout.nodes tries key pass.old pass.new result }
 {
     if tries == 0 {
         return Err(Busy);

@@ -10,8 +10,8 @@ ghost use Rattle.nm_order.specs.Told.{IsNew};
 ghost use Rattle.nm_pool.specs.Claims.{IsClaimBy, IsNewNode};
 ghost use Rattle.nm_pool.specs.Takes.{LearnsSlots};
 ghost use Rattle.nm_steps.specs.Rules.{knowledge};
-ghost use Rattle.nm_steps.specs.Steps.{IsOf, IsSamePass, Stepped, HasSeenAllOf};
-ghost use Rattle.nm_calls.specs.Telling.{Tells, GoesOn, IsInRun, IsPinnedSomewhere};
+ghost use Rattle.nm_steps.specs.Steps.{IsOf, Stepped};
+ghost use Rattle.nm_calls.specs.Telling.{Tells, GoesOn, IsInRun, IsPinnedIn};
 ghost use Rattle.nm_calls.specs.Making.{draft, KeepsOtherSlots, KeepsAllBut, OnlyMakes, with_node, HasFilled, IsInserting, HasLinked, HasLost};
 
 use nm_edge::{Edge, NodeId, Side};
@@ -26,8 +26,6 @@ use nm_steps::{Pass, Shared};
 pub fn claim(shared: &Shared, pass: &mut Pass, placement: &mut Placement) -> Option<NodeId>
     requires own { IsOf shared.now pass.old }
     requires run { IsInRun pass.old }
-    ensures same { IsSamePass pass.old pass.new }
-    ensures past { HasSeenAllOf pass.new pass.old }
     ensures part { IsClaimBy placement.old shared.now.layout.nodes pass.old.view.log
         pass.new.view.log result }
     ensures steps { length pass.new.view.log
@@ -54,7 +52,6 @@ pub fn give(shared: &Shared, pass: &mut Pass, node: NodeId)
     requires run { IsInRun pass.old }
     requires birth { (draft pass.old node.slot).birth ≡ Some node.birth }
     ensures step { Stepped pass.old pass.new (Give node.slot) (Returned node.slot) }
-    ensures past { HasSeenAllOf pass.new pass.old }
     ensures on { GoesOn pass.old pass.new }
     ensures given { is_private (knowledge pass.new.view) node.slot ≡ false }
     ensures others { KeepsOtherSlots node.slot pass.old pass.new }
@@ -72,7 +69,6 @@ pub fn fill(shared: &Shared, pass: &mut Pass, slot: u32, key: u64, left: u32, ri
     requires left { left ≤ pass.old.view.layout.nodes }
     requires right { right ≤ pass.old.view.layout.nodes }
     ensures steps { HasFilled pass.old pass.new slot key left right }
-    ensures past { HasSeenAllOf pass.new pass.old }
     ensures on { GoesOn pass.old pass.new }
     ensures filled { get (knowledge pass.new.view).drafts slot
         ≡ Some (with_node (draft pass.old slot) key left right) }
@@ -100,15 +96,11 @@ pub fn link(
     new: u32,
     fresh: u32,
 ) -> Result<(), Edge>
-    requires own { IsOf shared.now pass.old }
-    requires run { IsInRun pass.old }
-    requires pinned { IsPinnedSomewhere pass.old }
+    requires pinned { IsPinnedIn shared.now pass.old }
     requires parent { Tells pass.old (KnowsSlot parent) }
     requires known { Tells pass.old (KnowsSlot leaf) }
     requires leaf { Tells pass.old (KnowsLeaf leaf) }
     requires inserts { IsInserting pass.old parent side leaf new fresh }
-    ensures same { IsSamePass pass.old pass.new }
-    ensures past { HasSeenAllOf pass.new pass.old }
     ensures on { GoesOn pass.old pass.new }
     ensures won { IfOk result (λ _. HasLinked pass.old pass.new parent side leaf new fresh) }
     ensures lost { IfErr result (HasLost pass.old pass.new parent side leaf new) }

@@ -1,12 +1,11 @@
 //! Look-ups of several keys under one pin, whose walks go on in turns.
-ghost use Rattle.std.specs.Prelude.{◌≡◌, ◌≤◌, ◌+◌, ◌*◌, length, map, true, All, IfOk, IfErr};
+ghost use Rattle.std.specs.Prelude.{◌≡◌, ◌*◌, length, map, true, All};
 ghost use Rattle.nm_edge.specs.Keys.{IsKey};
 ghost use Rattle.nm_order.specs.Facts.Fact.{KnowsSlot};
-ghost use Rattle.nm_steps.specs.Steps.{IsOf, IsSamePass, HasSeenAllOf};
-ghost use Rattle.nm_epoch.specs.Resting.{IsResting, KeepsHands};
-ghost use Rattle.nm_calls.specs.InTurns.{AddsLooks, LooksUnderPin, LooksOrMoves, HasBegun, IsUnderWay, WasSo, key_of, most_looks, query_read};
-ghost use Rattle.nm_calls.specs.Telling.{Tells, GoesOn, OnlyLooks, IsInRun, IsPinnedSomewhere};
-ghost use Rattle.nm_calls.specs.Won.{HasWon, won_splices};
+ghost use Rattle.nm_steps.specs.Steps.{IsOf};
+ghost use Rattle.nm_epoch.specs.Resting.{IsResting};
+ghost use Rattle.nm_calls.specs.InTurns.{AddsLooks, HasBegun, IsUnderWay, key_of, most_looks, query_read, AfterHasMany};
+ghost use Rattle.nm_calls.specs.Telling.{Tells, GoesOn, OnlyLooks, IsPinnedIn};
 
 use crate::looking::{Onward, look_edge, read_node};
 use crate::lookup::Busy;
@@ -54,24 +53,8 @@ pub fn has_many(
 ) -> Result<(), Busy>
     requires own { IsOf shared.now pass.old }
     requires rests { IsResting pass.old }
-    ensures same { IsSamePass pass.old pass.new }
-    ensures past { HasSeenAllOf pass.new pass.old }
-    ensures did { IfOk result (λ u. LooksUnderPin tries
-        (most_looks shared.now.layout.nodes (length queries.old)) pass.old.view.log
-        pass.new.view.log) }
-    ensures keys { map key_of queries.new ≡ map key_of queries.old }
-    ensures moment { IfOk result
-        (λ u. All (λ q. WasSo pass.old pass.new q.key q.found) queries.new) }
-    ensures missed { IfErr result
-        (λ e. LooksOrMoves tries (most_looks shared.now.layout.nodes (length queries.old))
-        pass.old.view.log pass.new.view.log) }
-    ensures won { HasWon pass.old.view.log pass.new.view.log 0 0 }
-    ensures uncut { won_splices pass.new.view.log ≡ won_splices pass.old.view.log }
-    ensures steps { length pass.new.view.log
-        ≤ length pass.old.view.log + 3 * tries
-        + most_looks shared.now.layout.nodes (length queries.old) + 2 }
-    ensures rests { IsResting pass.new }
-    ensures hands { KeepsHands pass.old pass.new }
+    ensures { AfterHasMany shared.now.layout.nodes tries queries.old queries.new pass.old
+        pass.new result }
 {
     if tries == 0 {
         return Err(Busy);
@@ -89,12 +72,8 @@ pub fn has_many(
 /// Walks for each of these keys, in turns, until all walks have ended. False where they have taken
 /// as many turns as there are nodes.
 fn walk_all(shared: &Shared, pass: &mut Pass, queries: &mut [Query]) -> bool
-    requires own { IsOf shared.now pass.old }
-    requires run { IsInRun pass.old }
-    requires pinned { IsPinnedSomewhere pass.old }
+    requires pinned { IsPinnedIn shared.now pass.old }
     requires known { Tells pass.old (KnowsSlot 2) }
-    ensures same { IsSamePass pass.old pass.new }
-    ensures past { HasSeenAllOf pass.new pass.old }
     ensures looks { AddsLooks (most_looks shared.now.layout.nodes (length queries.old))
         pass.old.view.log pass.new.view.log }
     ensures under_way { All (IsUnderWay pass.new) queries.new }
@@ -130,12 +109,8 @@ fn begin_each(queries: &mut [Query], first: u32)
 /// Takes each walk that has not ended a node further.
 fn take_turns(shared: &Shared, layout: Layout, pass: &mut Pass, queries: &mut [Query])
     requires layout { layout ≡ shared.now.layout }
-    requires own { IsOf shared.now pass.old }
-    requires run { IsInRun pass.old }
-    requires pinned { IsPinnedSomewhere pass.old }
+    requires pinned { IsPinnedIn shared.now pass.old }
     requires under_way { All (IsUnderWay pass.old) queries.old }
-    ensures same { IsSamePass pass.old pass.new }
-    ensures past { HasSeenAllOf pass.new pass.old }
     ensures looks { AddsLooks (3 * length queries.old) pass.old.view.log pass.new.view.log }
     ensures under_way { All (IsUnderWay pass.new) queries.new }
     ensures keys { map key_of queries.new ≡ map key_of queries.old }
@@ -150,12 +125,8 @@ fn take_turns(shared: &Shared, layout: Layout, pass: &mut Pass, queries: &mut [Q
 /// Takes a walk a node further, if it has not ended. At most three looks.
 fn take_turn(shared: &Shared, layout: Layout, pass: &mut Pass, query: &mut Query)
     requires layout { layout ≡ shared.now.layout }
-    requires own { IsOf shared.now pass.old }
-    requires run { IsInRun pass.old }
-    requires pinned { IsPinnedSomewhere pass.old }
+    requires pinned { IsPinnedIn shared.now pass.old }
     requires under_way { IsUnderWay pass.old query.old }
-    ensures same { IsSamePass pass.old pass.new }
-    ensures past { HasSeenAllOf pass.new pass.old }
     ensures looks { AddsLooks 3 pass.old.view.log pass.new.view.log }
     ensures under_way { IsUnderWay pass.new query.new }
     ensures key { query.new.key ≡ query.old.key }

@@ -7,8 +7,8 @@ ghost use Rattle.nm_model.specs.declared.event.Event.TheVariants.{Tag};
 ghost use Rattle.nm_model.specs.declared.reply.Reply.TheVariants.{Was};
 ghost use Rattle.nm_order.specs.Facts.Fact.{KnowsSlot, IsFlagged, IsBorn};
 ghost use Rattle.nm_order.specs.Told.{FrozenTo};
-ghost use Rattle.nm_steps.specs.Steps.{IsOf, IsSamePass, Stepped, HasSeenAllOf};
-ghost use Rattle.nm_calls.specs.Telling.{Tells, GoesOn, OnlyLooks, IsInRun, IsPinnedSomewhere};
+ghost use Rattle.nm_steps.specs.Steps.{Stepped};
+ghost use Rattle.nm_calls.specs.Telling.{Tells, GoesOn, OnlyLooks, IsPinnedIn};
 ghost use Rattle.nm_calls.specs.Marking.{TagTold, IsToBeFlagged, OnlyFlags, FlagWon, FlagLost, IsToBeCut, OnlyCuts, SpliceWon, SpliceLost};
 
 use nm_edge::{Edge, Side};
@@ -17,13 +17,10 @@ use nm_steps::{Pass, Shared};
 /// Tags an edge of a known node whose other edge is known to be flagged, and answers the edge as it
 /// was. It is never null.
 pub fn tag(shared: &Shared, pass: &mut Pass, parent: u32, side: Side) -> Edge
-    requires own { IsOf shared.now pass.old }
-    requires run { IsInRun pass.old }
-    requires pinned { IsPinnedSomewhere pass.old }
+    requires pinned { IsPinnedIn shared.now pass.old }
     requires known { Tells pass.old (KnowsSlot parent) }
     requires beside { (to : ℕ) × Tells pass.old (IsFlagged parent (other side) to) }
     ensures step { Stepped pass.old pass.new (Tag parent side) (Was result) }
-    ensures past { HasSeenAllOf pass.new pass.old }
     ensures on { GoesOn pass.old pass.new }
     ensures only { OnlyLooks pass.old pass.new }
     ensures told { TagTold pass.old pass.new parent side result }
@@ -43,12 +40,8 @@ pub fn flag(
     side: Side,
     leaf: u32,
 ) -> Result<(), Edge>
-    requires own { IsOf shared.now pass.old }
-    requires run { IsInRun pass.old }
-    requires pinned { IsPinnedSomewhere pass.old }
+    requires pinned { IsPinnedIn shared.now pass.old }
     requires found { IsToBeFlagged pass.old parent side leaf }
-    ensures same { IsSamePass pass.old pass.new }
-    ensures past { HasSeenAllOf pass.new pass.old }
     ensures won { IfOk result (λ _. (b : ℕ) → Tells pass.old (IsBorn leaf b)
         → FlagWon pass.old pass.new parent side (record { slot = leaf; birth = b })) }
     ensures lost { IfErr result (λ e. FlagLost pass.old pass.new parent side leaf e) }
@@ -74,12 +67,8 @@ pub fn splice(
     keep: Side,
     kept: Edge,
 ) -> Result<(), Edge>
-    requires own { IsOf shared.now pass.old }
-    requires run { IsInRun pass.old }
-    requires pinned { IsPinnedSomewhere pass.old }
+    requires pinned { IsPinnedIn shared.now pass.old }
     requires frozen { IsToBeCut pass.old ancestor successor parent keep kept }
-    ensures same { IsSamePass pass.old pass.new }
-    ensures past { HasSeenAllOf pass.new pass.old }
     ensures won { IfOk result (λ _. (ns : List NodeId)
         → FrozenTo (Tells pass.old) parent keep successor ns
         → SpliceWon pass.old pass.new ancestor side successor parent keep ns) }

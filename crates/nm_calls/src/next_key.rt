@@ -1,14 +1,13 @@
 //! The next key of a set that is in use.
-ghost use Rattle.std.specs.Prelude.{◌≡◌, ◌<◌, ◌≤◌, ◌+◌, ◌*◌, ℕ, length, IfOk, IfErr};
+ghost use Rattle.std.specs.Prelude.{◌≡◌, ◌<◌, ◌≤◌, ◌*◌, ℕ, IfOk};
 ghost use Rattle.nm_edge.specs.Keys.{IsKey};
 ghost use Rattle.nm_model.specs.Searches.{side_of};
 ghost use Rattle.nm_order.specs.Facts.Fact.{KnowsSlot};
-ghost use Rattle.nm_steps.specs.Steps.{IsOf, IsSamePass, HasSeenAllOf};
-ghost use Rattle.nm_epoch.specs.Resting.{IsResting, KeepsHands};
-ghost use Rattle.nm_calls.specs.NextKeys.{IsDescent, IsNextBy, WasNext, read_below};
-ghost use Rattle.nm_calls.specs.PlainWalks.{AddsLooks, HasEndedSo, LooksUnderPin, LooksOrMoves, most_looks};
-ghost use Rattle.nm_calls.specs.Telling.{Tells, GoesOn, OnlyLooks, IsInRun, IsPinnedSomewhere};
-ghost use Rattle.nm_calls.specs.Won.{HasWon, won_splices};
+ghost use Rattle.nm_steps.specs.Steps.{IsOf};
+ghost use Rattle.nm_epoch.specs.Resting.{IsResting};
+ghost use Rattle.nm_calls.specs.NextKeys.{IsDescent, IsNextBy, read_below, AfterNext};
+ghost use Rattle.nm_calls.specs.PlainWalks.{AddsLooks, HasEndedSo, most_looks};
+ghost use Rattle.nm_calls.specs.Telling.{Tells, GoesOn, OnlyLooks, IsPinnedIn};
 
 use crate::looking::{Onward, look_edge, read_node};
 use crate::lookup::Busy;
@@ -45,20 +44,7 @@ struct Descent {
 pub fn next(shared: &Shared, pass: &mut Pass, key: Key, tries: u32) -> Result<Option<Key>, Busy>
     requires own { IsOf shared.now pass.old }
     requires rests { IsResting pass.old }
-    ensures same { IsSamePass pass.old pass.new }
-    ensures past { HasSeenAllOf pass.new pass.old }
-    ensures did { IfOk result (λ f. LooksUnderPin tries
-        (tries * most_looks shared.now.layout.nodes 1) pass.old.view.log pass.new.view.log) }
-    ensures moment { IfOk result (WasNext pass.old pass.new key) }
-    ensures missed { IfErr result
-        (λ e. LooksOrMoves tries (tries * most_looks shared.now.layout.nodes 1) pass.old.view.log
-        pass.new.view.log) }
-    ensures won { HasWon pass.old.view.log pass.new.view.log 0 0 }
-    ensures uncut { won_splices pass.new.view.log ≡ won_splices pass.old.view.log }
-    ensures steps { length pass.new.view.log
-        ≤ length pass.old.view.log + 3 * tries + tries * most_looks shared.now.layout.nodes 1 + 2 }
-    ensures rests { IsResting pass.new }
-    ensures hands { KeepsHands pass.old pass.new }
+    ensures { AfterNext shared.now.layout.nodes tries key pass.old pass.new result }
 {
     if tries == 0 {
         return Err(Busy);
@@ -76,13 +62,9 @@ pub fn next(shared: &Shared, pass: &mut Pass, key: Key, tries: u32) -> Result<Op
 /// The next key from `key` on, by walks each of which begins where the keys of the last one ended,
 /// `tries` of them at most.
 fn walk_up(shared: &Shared, pass: &mut Pass, key: u64, tries: u32) -> Result<Option<Key>, Busy>
-    requires own { IsOf shared.now pass.old }
-    requires run { IsInRun pass.old }
-    requires pinned { IsPinnedSomewhere pass.old }
+    requires pinned { IsPinnedIn shared.now pass.old }
     requires known { Tells pass.old (KnowsSlot 2) }
     requires key { IsKey key }
-    ensures same { IsSamePass pass.old pass.new }
-    ensures past { HasSeenAllOf pass.new pass.old }
     ensures looks { AddsLooks (tries * most_looks shared.now.layout.nodes 1) pass.old.view.log
         pass.new.view.log }
     ensures next { IfOk result (IsNextBy (HasEndedSo pass.new) key) }
@@ -109,13 +91,9 @@ fn walk_up(shared: &Shared, pass: &mut Pass, key: u64, tries: u32) -> Result<Opt
 /// The walk for a key and those above it that go the same way, to its end, or until it has read as
 /// many nodes as there are.
 fn walk_down(shared: &Shared, pass: &mut Pass, from: u64) -> Descent
-    requires own { IsOf shared.now pass.old }
-    requires run { IsInRun pass.old }
-    requires pinned { IsPinnedSomewhere pass.old }
+    requires pinned { IsPinnedIn shared.now pass.old }
     requires known { Tells pass.old (KnowsSlot 2) }
     requires key { IsKey from }
-    ensures same { IsSamePass pass.old pass.new }
-    ensures past { HasSeenAllOf pass.new pass.old }
     ensures looks { AddsLooks (most_looks shared.now.layout.nodes 1) pass.old.view.log
         pass.new.view.log }
     ensures under_way { IsDescent pass.new result }

@@ -1,11 +1,10 @@
 //! The walk for a key.
-ghost use Rattle.std.specs.Prelude.{◌≡◌, ◌<◌, ◌≤◌, ◌+◌, ◌*◌, ℕ, IfSome, length};
+ghost use Rattle.std.specs.Prelude.{◌<◌, ◌≤◌, ◌+◌, ◌*◌, ℕ, IfSome, length};
 ghost use Rattle.nm_model.specs.Memory.{infinity_0};
 ghost use Rattle.nm_edge.specs.declared.edge.Side.{Side as SideOf};
 ghost use Rattle.nm_order.specs.Facts.Fact.{KnowsSlot};
-ghost use Rattle.nm_steps.specs.Steps.{IsOf, IsSamePass, HasSeenAllOf};
 ghost use Rattle.nm_calls.specs.Bounds.{chain_bound};
-ghost use Rattle.nm_calls.specs.Telling.{Tells, GoesOn, OnlyLooks, IsInRun, IsPinnedSomewhere};
+ghost use Rattle.nm_calls.specs.Telling.{Tells, GoesOn, OnlyLooks, IsPinnedIn};
 ghost use Rattle.nm_calls.specs.Walks.{Finds, Seeks, HasEnded, HasFound};
 
 use crate::looking::{look_edge, read_node};
@@ -16,12 +15,8 @@ use nm_steps::{Pass, Shared};
 /// The key of the leaf at the end of the walk for a key, which remembers nothing else; `None` where
 /// the walk had looked at as many nodes as there are. At most three steps a node of the table.
 pub fn find(shared: &Shared, pass: &mut Pass, key: u64) -> Option<u64>
-    requires own { IsOf shared.now pass.old }
-    requires run { IsInRun pass.old }
-    requires pinned { IsPinnedSomewhere pass.old }
+    requires pinned { IsPinnedIn shared.now pass.old }
     requires known { Tells pass.old (KnowsSlot 2) }
-    ensures same { IsSamePass pass.old pass.new }
-    ensures past { HasSeenAllOf pass.new pass.old }
     ensures walk { Finds shared.now.layout.nodes key pass.old.view.log pass.new.view.log result }
     ensures steps { length pass.new.view.log
         ≤ length pass.old.view.log + 3 * shared.now.layout.nodes }
@@ -50,13 +45,9 @@ pub fn find(shared: &Shared, pass: &mut Pass, key: u64) -> Option<u64>
 /// of the table. (The seek of Natarajan and Mittal, section 3.2, which here remembers the whole
 /// chain.)
 pub fn seek(shared: &Shared, pass: &mut Pass, key: u64, chain: &mut Chain) -> Option<End>
-    requires own { IsOf shared.now pass.old }
-    requires run { IsInRun pass.old }
-    requires pinned { IsPinnedSomewhere pass.old }
+    requires pinned { IsPinnedIn shared.now pass.old }
     requires root { Tells pass.old (KnowsSlot 1) }
     requires known { Tells pass.old (KnowsSlot 2) }
-    ensures same { IsSamePass pass.old pass.new }
-    ensures past { HasSeenAllOf pass.new pass.old }
     ensures walk { Seeks shared.now.layout.nodes key pass.old.view.log pass.new.view.log
         chain.new.items result }
     ensures ended { IfSome result

@@ -8,13 +8,13 @@ use Rattle.nm_model.specs.declared.ledger.Ledger.{Ledger}
 use Rattle.nm_model.specs.Ledgers.{held}
 use Rattle.nm_order.specs.Facts.Fact.{KnowsSlot, IsBorn, CallIs}
 use Rattle.nm_steps.specs.Rules.{knowledge}
-use Rattle.nm_steps.specs.Steps.{Board, Stand, IsSamePass}
+use Rattle.nm_steps.specs.Steps.{Board, Stand}
 use Rattle.nm_epoch.specs.declared.collecting.Entry.{Entry as Waiting}
 use Rattle.nm_calls.specs.Telling.{GoesOn, OnlyLooks}
 use Rattle.nm_calls.specs.Deletes.{IsRemoving}
 use Rattle.nm_pass_tests.specs.Plays.{IsPendingFor}
 use Rattle.nm_calls.proofs.Adding.{Adds, counts_on}
-use Rattle.nm_calls.proofs.GoingOn.{pinned_still}
+use Rattle.nm_calls.proofs.GoingOn.{pinned_still, own_still}
 
 pub removing_still : (p q : Stand) (k : ℕ) (n : NodeId) → IsRemoving p k n → GoesOn p q → OnlyLooks p q → IsRemoving q k n
 removing_still p q k n r on only = record {
@@ -28,12 +28,12 @@ removing_still p q k n r on only = record {
   labelled = ap (λ (b : Brief). b.unlabelled) only.epochs ∙ r.labelled;
 }
 
-pub pending_still : {l f m : ℕ} (b : Board) (p q : Stand) (es : List Waiting) (count k : ℕ) (n : NodeId) → IsPendingFor b p es count k n → IsSamePass p q → GoesOn p q → OnlyLooks p q → Adds l f 0 m p.view.log q.view.log
+pub pending_still : {l f m : ℕ} (b : Board) (p q : Stand) (es : List Waiting) (count k : ℕ) (n : NodeId) → IsPendingFor b p es count k n → GoesOn p q → OnlyLooks p q → Adds l f 0 m p.view.log q.view.log
     → IsPendingFor b q es count k n
-pending_still b p q es count k n pending same on only adds = record {
+pending_still b p q es count k n pending on only adds = record {
   kept = record {
-    own = record { table = ap (λ (s : Stand). s.table) same ∙ pending.kept.own.table; layout = ap (λ (s : Stand). s.view.layout) same ∙ pending.kept.own.layout };
-    queue = ap (λ (w : ℕ). option_map (λ (l : Ledger). l.queue) (held (knowledge q.view).ledgers w)) (ap (λ (s : Stand). s.view.number) same)
+    own = own_still b p q pending.kept.own on.same;
+    queue = ap (λ (w : ℕ). option_map (λ (l : Ledger). l.queue) (held (knowledge q.view).ledgers w)) (ap (λ (s : Stand). s.view.number) on.same)
         ∙ (ap (λ (ls : List (Option Ledger)). option_map (λ (l : Ledger). l.queue) (held ls p.view.number)) only.ledgers ∙ pending.kept.queue);
     few = pending.kept.few;
     counted = counts_on count p.view.log q.view.log adds pending.kept.counted;

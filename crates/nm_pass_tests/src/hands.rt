@@ -4,7 +4,7 @@ ghost use Rattle.nm_steps.specs.Steps.{IsOf};
 ghost use Rattle.nm_calls.specs.Fresh.{HasDoneNothing};
 ghost use Rattle.nm_pass_tests.specs.Plays.{IsAtRest, IsPendingFor};
 
-use nm_calls::{Chain, Fault, Missed, choose, delete, finish, has, insert, seek, tag};
+use nm_calls::{Chain, Fault, Missed, Workspace, choose, delete, finish, has, insert, seek, tag};
 use nm_edge::{Key, NodeId};
 use nm_epoch::Entry;
 use nm_limbo::BlockQueue;
@@ -12,13 +12,13 @@ use nm_pool::{Fit, Placement};
 use nm_steps::{Pass, Shared};
 use std::process::Abort;
 
-/// One worker: its pass, where it looks for free slots, the room of its walks, the queue of what it
-/// cut, and how many splices it has won.
+/// One worker: its pass, where it looks for free slots, the room of its walks and cleanups, the
+/// queue of what it cut, and how many splices it has won.
 #[derive(Drop)]
 pub(super) struct Hand {
     pub(super) pass: Pass,
     placement: Placement,
-    chain: Chain,
+    workspace: Workspace,
     pub(super) queue: BlockQueue<Entry>,
     pub(super) splices: u64,
 }
@@ -33,7 +33,7 @@ pub(super) fn starting(shared: &Shared, pass: Pass, queue: BlockQueue<Entry>) ->
     Hand {
         pass,
         placement: Placement::new(Fit::Lowest, 6),
-        chain: Chain::new(),
+        workspace: Workspace::new(),
         queue,
         splices: 0,
     }
@@ -71,7 +71,7 @@ pub(super) fn inserts(
         &mut hand.placement,
         key,
         tries,
-        &mut hand.chain,
+        &mut hand.workspace,
         &mut hand.queue,
         &mut hand.splices,
     );
@@ -87,7 +87,7 @@ pub(super) fn deletes(rt: &impl Abort, shared: &Shared, hand: &mut Hand, key: Ke
         &mut hand.pass,
         key,
         2,
-        &mut hand.chain,
+        &mut hand.workspace,
         &mut hand.queue,
         &mut hand.splices,
     ) else {
@@ -107,7 +107,7 @@ pub(super) fn flags(rt: &impl Abort, shared: &Shared, hand: &mut Hand, key: Key)
         &mut hand.pass,
         key,
         1,
-        &mut hand.chain,
+        &mut hand.workspace,
         &mut hand.queue,
         &mut hand.splices,
     ) else {
@@ -127,7 +127,7 @@ pub(super) fn finishes(rt: &impl Abort, shared: &Shared, hand: &mut Hand, key: K
         key,
         leaf,
         1,
-        &mut hand.chain,
+        &mut hand.workspace,
         &mut hand.queue,
         &mut hand.splices,
     );
@@ -153,7 +153,7 @@ pub(super) fn cannot_finish(
         key,
         leaf,
         0,
-        &mut hand.chain,
+        &mut hand.workspace,
         &mut hand.queue,
         &mut hand.splices,
     );

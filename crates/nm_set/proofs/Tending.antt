@@ -29,7 +29,8 @@ use Rattle.nm_tree.proofs.Quiet.{Quiet, advanced, collected}
 use Rattle.nm_set.specs.declared.fault.Fault.{Fault}
 use Rattle.nm_set.specs.declared.fault.Fault.TheVariants as fault
 use Rattle.nm_set.specs.declared.tended.Habit.{Habit}
-use Rattle.nm_set.specs.Asked.{Asked, LeavesHas, LeavesInsert, LeavesDelete, LeavesFinish, LeavesAdvance, LeavesCollect}
+use Rattle.nm_tree.specs.Calls.{LeavesHas, LeavesInsert, LeavesDelete, LeavesFinish, LeavesAdvance, LeavesCollect}
+use Rattle.nm_set.specs.Asked.{Asked}
 use Rattle.nm_set.specs.Tended.{OnlyLoses, OthersOnlyLose, GoesOnTended, InARow, IsAsked, busy, Looks, Inserts, Deletes, FinishesPending, IsRelieved, IsTidied, InsertsOn, of_finish, DeletesOn, IsLeft, links_told_by, flags_told_by, round_bound, Tends}
 use Rattle.std.specs.List.{prefix_len}
 

@@ -18,7 +18,8 @@ use Rattle.nm_tree.specs.Workers.{Hand, IsBetweenCalls, waiting_in}
 use Rattle.nm_set.specs.declared.fault.Fault.{Fault}
 use Rattle.nm_set.specs.declared.fault.Fault.TheVariants as fault
 use Rattle.nm_set.specs.declared.tended.Habit.{Habit}
-use Rattle.nm_set.specs.Asked.{Asked, LeavesHas, LeavesInsert, LeavesDelete, LeavesFinish, LeavesAdvance, LeavesCollect}
+use Rattle.nm_tree.specs.Calls.{LeavesHas, LeavesInsert, LeavesDelete, LeavesFinish, LeavesAdvance, LeavesCollect}
+use Rattle.nm_set.specs.Asked.{Asked}
 
 -- ---- what a worker has come to
 

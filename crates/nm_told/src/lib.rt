@@ -16,7 +16,7 @@ mod sets;
 mod threads;
 mod trees;
 
-use nm_calls::{Busy, Chain, has, insert};
+use nm_calls::{Busy, Workspace, has, insert};
 use nm_edge::Key;
 use nm_epoch::Entry;
 use nm_limbo::BlockQueue;
@@ -89,9 +89,16 @@ pub fn insert_then_look(
     ensures found { NoneFlagged two.new.view.layout two.new.view.past key
         → IfSome result (λ b. b ≡ true) }
 {
-    let mut chain = Chain::new();
+    let mut workspace = Workspace::new();
     match insert(
-        shared, one, placement, key, tries, &mut chain, queue, splices,
+        shared,
+        one,
+        placement,
+        key,
+        tries,
+        &mut workspace,
+        queue,
+        splices,
     ) {
         Ok(true) => look_behind(shared, one, two, key, tries).ok(),
         _ => None,

@@ -18,7 +18,7 @@ use Rattle.nm_calls.specs.Fresh.{HasDoneNothing}
 use Rattle.nm_calls.specs.Won.{capped, won_links, won_flags, won_splices}
 use Rattle.nm_pool.specs.declared.placement.Fit.{Fit}
 use Rattle.nm_tree.specs.declared.worker.Account.{Account}
-use Rattle.nm_tree.specs.Plays.{IsReady}
+use Rattle.nm_tree.specs.Calls.{MayCall}
 use Rattle.nm_tree.specs.Workers.{Hand, HaveFit, IsWorker, IsAccount, HasOrigin, HasNumber, HoldNoSlot, HaveWorkers, IsFresh, AreAllFresh, IsNewWorker, AreMade, AreNew, log_held_of, ledger_in}
 use Rattle.nm_tree.proofs.Changing.{log_of_own}
 
@@ -128,7 +128,7 @@ all_fit f (p ∷ ps) [] made = absurd made
 all_fit f (p ∷ ps) (w ∷ ws) made = (made.0.4, all_fit f ps ws made.1)
 
 -- each worker of a new tree is ready for a call
-pub new_are_ready : (b : Board) (i : ℕ) (ws : List Hand) → AreNew b i ws → (k : ℕ) (d : Hand) → k < length ws → IsReady b (slice_index_or ws k d)
+pub new_are_ready : (b : Board) (i : ℕ) (ws : List Hand) → AreNew b i ws → (k : ℕ) (d : Hand) → k < length ws → MayCall b (slice_index_or ws k d)
 new_are_ready b i [] new k d less = absurd (omega (arith, less))
 new_are_ready b i (w ∷ ws) new zero d less = record { own = record { table = new.0; layout = ap (λ (v : View). v.layout) new.1 }; free = new.3 }
 new_are_ready b i (w ∷ ws) new (suc k) d less = new_are_ready b (suc i) ws new.5 k d (omega (arith, less))

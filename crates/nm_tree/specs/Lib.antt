@@ -2,8 +2,8 @@ pub mod Workers
 pub mod Answers
 pub mod Looked
 pub mod InTurns
+pub mod Calls
 pub mod Resigning
 pub mod Settled
 pub mod Closing
-pub mod Plays
 pub mod Running

@@ -1,23 +1,19 @@
 //! Inserts, deletes, and what is left to do of a delete.
-ghost use Rattle.std.specs.Prelude.{◌≡◌, ◌⊎◌, ◌<◌, ℕ, true, false, None, IfOk, IfErr, IsErrOf};
-ghost use Rattle.nm_model.specs.declared.event.Op.TheVariants.{Insert, Delete};
-ghost use Rattle.nm_steps.specs.Steps.{Stand, IsOf, IsSamePass, HasSeenAllOf};
-ghost use Rattle.nm_calls.specs.Bounds.{cut_bound, IsWithinBound};
+ghost use Rattle.std.specs.Prelude.{◌≡◌, ◌⊎◌, ◌<◌, true, false, IfErr, IsErrOf};
+ghost use Rattle.nm_steps.specs.Steps.{IsOf};
+ghost use Rattle.nm_calls.specs.Bounds.{cut_bound};
 ghost use Rattle.nm_calls.specs.Rooms.{TakesRoom};
-ghost use Rattle.nm_tree.specs.Answers.{HasInserted, HasDeleted, HasFinished, FinishHasMoment, InsertLacks, DeleteLacks, FinishLacks, links_won, flags_won};
-ghost use Rattle.nm_model.specs.Maps.{get};
-ghost use Rattle.nm_steps.specs.Rules.{knowledge};
 ghost use Rattle.nm_epoch.specs.Resting.{IsResting};
-ghost use Rattle.nm_calls.specs.Deletes.{IsRemoving, DeleteDid, AfterDelete, FinishDid, LosesEachTry, LosesAfterFlag, LacksRoomOr};
-ghost use Rattle.nm_calls.specs.Inserts.{InsertDid};
-ghost use Rattle.nm_calls.specs.Moments.{AnswerHasMoment, HadNoCall};
-ghost use Rattle.nm_calls.specs.Won.{HasWon, links_of_insert, flags_of_delete};
-ghost use Rattle.nm_tree.specs.Workers.{IsBetweenCalls, KeepsOtherQueues, TakeRoom, IsKept, OnlyOwnLedger};
+ghost use Rattle.nm_calls.specs.Deletes.{IsRemoving, AfterDelete, LosesEachTry, LosesAfterFlag, LacksRoomOr, AfterFinish};
+ghost use Rattle.nm_calls.specs.Inserts.{AfterInsert};
+ghost use Rattle.nm_calls.specs.Won.{links_of_insert, flags_of_delete};
+ghost use Rattle.nm_tree.specs.Workers.{IsKept};
+ghost use Rattle.nm_tree.specs.Calls.{MayCall, LeavesInsert, LeavesDelete, LeavesFinish};
 
 use crate::fault::Fault;
 use crate::tree::Tree;
 use crate::worker::{Account, Standing, Unfinished, Worker};
-use nm_calls::{Chain, Fault as Lost, Missed, delete, finish, insert};
+use nm_calls::{Fault as Lost, Missed, Workspace, delete, finish, insert};
 use nm_edge::Key;
 use nm_epoch::HeldQueue;
 use nm_pool::Placement;
@@ -30,28 +26,18 @@ fn insert_with(
     placement: &mut Placement,
     key: Key,
     tries: u32,
-    chain: &mut Chain,
+    workspace: &mut Workspace,
     own: &mut HeldQueue,
     account: &mut Account,
 ) -> Result<bool, Lost>
     requires own { IsOf shared.now pass.old }
     requires rests { IsResting pass.old }
     requires kept { IsKept pass.old own.old account.old }
-    ensures same { IsSamePass pass.old pass.new }
-    ensures past { HasSeenAllOf pass.new pass.old }
-    ensures did { InsertDid placement.old shared.now.layout.nodes tries key pass.old.view.log
-        pass.new.view.log result }
+    ensures after { AfterInsert placement.old shared.now.layout.nodes tries key pass.old pass.new
+        result }
     ensures refused { IsErrOf result Lost.NoMemory → own.new.queue.spare < cut_bound }
-    ensures moment { IfOk result (AnswerHasMoment pass.old pass.new Insert key) }
-    ensures steps { IsWithinBound shared.now.layout.nodes tries pass.old.view.log
-        pass.new.view.log }
-    ensures won { HasWon pass.old.view.log pass.new.view.log (links_of_insert result) 0 }
-    ensures rests { IsResting pass.new }
-    ensures private { (slot : ℕ)
-        → get (knowledge pass.new.view).drafts slot ≡ get (knowledge pass.old.view).drafts slot }
     ensures kept { IsKept pass.new own.new account.new }
     ensures room { TakesRoom own.old.queue own.new.queue }
-    ensures others { OnlyOwnLedger pass.old pass.new }
     ensures fit { placement.new ≡ placement.old }
 {
     let answer = insert(
@@ -60,7 +46,7 @@ fn insert_with(
         placement,
         key,
         tries,
-        chain,
+        workspace,
         &mut own.queue,
         &mut account.splices,
     );
@@ -75,36 +61,26 @@ fn delete_with(
     pass: &mut Pass,
     key: Key,
     tries: u32,
-    chain: &mut Chain,
+    workspace: &mut Workspace,
     own: &mut HeldQueue,
     account: &mut Account,
 ) -> Result<bool, Missed>
     requires own { IsOf shared.now pass.old }
     requires rests { IsResting pass.old }
     requires kept { IsKept pass.old own.old account.old }
-    ensures same { IsSamePass pass.old pass.new }
-    ensures past { HasSeenAllOf pass.new pass.old }
-    ensures did { DeleteDid shared.now.layout.nodes tries key pass.old.view.log pass.new.view.log
-        result }
+    ensures after { AfterDelete shared.now.layout.nodes tries key pass.old pass.new result }
     ensures refused { IfErr result
         (LacksRoomOr (LosesAfterFlag shared.now.layout.nodes tries key pass.old.view.log
         pass.new.view.log) own.new.queue.spare) }
-    ensures moment { IfOk result (AnswerHasMoment pass.old pass.new Delete key) }
-    ensures steps { IsWithinBound shared.now.layout.nodes tries pass.old.view.log
-        pass.new.view.log }
-    ensures won { HasWon pass.old.view.log pass.new.view.log 0 (flags_of_delete result) }
-    ensures after { AfterDelete key pass.new result }
-    ensures private { (knowledge pass.new.view).drafts ≡ (knowledge pass.old.view).drafts }
     ensures kept { IsKept pass.new own.new account.new }
     ensures room { TakesRoom own.old.queue own.new.queue }
-    ensures others { OnlyOwnLedger pass.old pass.new }
 {
     let answer = delete(
         shared,
         pass,
         key,
         tries,
-        chain,
+        workspace,
         &mut own.queue,
         &mut account.splices,
     );
@@ -139,32 +115,21 @@ fn finish_with(
     pass: &mut Pass,
     pending: &Unfinished,
     tries: u32,
-    chain: &mut Chain,
+    workspace: &mut Workspace,
     own: &mut HeldQueue,
     account: &mut Account,
 ) -> bool
     requires own { IsOf shared.now pass.old }
     requires removing { IsRemoving pass.old pending.now.key pending.now.leaf }
     requires kept { IsKept pass.old own.old account.old }
-    ensures same { IsSamePass pass.old pass.new }
-    ensures past { HasSeenAllOf pass.new pass.old }
-    ensures did { FinishDid shared.now.layout.nodes pending.now.key pending.now.leaf tries
-        pass.old.view.log pass.new.view.log result }
+    ensures after { AfterFinish shared.now.layout.nodes pending.now.key pending.now.leaf tries
+        pass.old pass.new result }
     ensures refused { result ≡ false
         → (own.new.queue.spare < cut_bound)
         ⊎ LosesEachTry shared.now.layout.nodes pending.now.key pending.now.leaf tries
         pass.old.view.log pass.new.view.log }
-    ensures moment { result ≡ true → (o : Stand) → HadNoCall o pass.old
-        → AnswerHasMoment o pass.new Delete pending.now.key true }
-    ensures steps { IsWithinBound shared.now.layout.nodes tries pass.old.view.log
-        pass.new.view.log }
-    ensures won { HasWon pass.old.view.log pass.new.view.log 0 0 }
-    ensures rests { result ≡ true → IsResting pass.new }
-    ensures removing { result ≡ false → IsRemoving pass.new pending.now.key pending.now.leaf }
-    ensures private { (knowledge pass.new.view).drafts ≡ (knowledge pass.old.view).drafts }
     ensures kept { IsKept pass.new own.new account.new }
     ensures room { TakesRoom own.old.queue own.new.queue }
-    ensures others { OnlyOwnLedger pass.old pass.new }
 {
     let done = finish(
         shared,
@@ -172,7 +137,7 @@ fn finish_with(
         pending.key,
         pending.leaf,
         tries,
-        chain,
+        workspace,
         &mut own.queue,
         &mut account.splices,
     );
@@ -189,23 +154,8 @@ impl Tree {
     /// `Full`, `NoMemory`: see `Fault`. The worker is not held. (The insert of Natarajan and
     /// Mittal, section 3.2.)
     pub fn insert(&self, worker: &mut Worker, key: Key, tries: u32) -> Result<bool, Fault>
-        requires own { IsOf self.now worker.old.pass }
-        requires free { worker.old.held ≡ None }
-        ensures same { IsSamePass worker.old.pass worker.new.pass }
-        ensures past { HasSeenAllOf worker.new.pass worker.old.pass }
-        ensures did { HasInserted self.now.layout.nodes tries key worker.old worker.new result }
-        ensures lacks { IfErr result (InsertLacks worker.new) }
-        ensures moment { IfOk result (AnswerHasMoment worker.old.pass worker.new.pass Insert key) }
-        ensures won { HasWon worker.old.pass.view.log worker.new.pass.view.log (links_won result)
-            0 }
-        ensures steps { IsWithinBound self.now.layout.nodes tries worker.old.pass.view.log
-            worker.new.pass.view.log }
-        ensures queues { KeepsOtherQueues worker.old.pass.view.number worker.old.queues
-            worker.new.queues }
-        ensures blocks { TakeRoom worker.old.queues worker.new.queues }
-        ensures held { worker.new.held ≡ None }
-        ensures fit { worker.new.fit ≡ worker.old.fit }
-        ensures between { IsBetweenCalls worker.new }
+        requires { MayCall self.now worker.old }
+        ensures { LeavesInsert self.now.layout.nodes tries key worker.old worker.new result }
     {
         if let Standing::Pending(_) = worker.standing {
             return Err(Fault::Pending);
@@ -218,7 +168,7 @@ impl Tree {
             &mut worker.placement,
             key,
             tries,
-            &mut worker.chain,
+            &mut worker.workspace,
             own,
             account,
         ) {
@@ -240,24 +190,8 @@ impl Tree {
     /// the key is pending: `finish` goes on. `Pending`, `Busy`, `NoMemory`: see `Fault`. The worker
     /// is not held. (The delete of Natarajan and Mittal, section 3.2.)
     pub fn delete(&self, worker: &mut Worker, key: Key, tries: u32) -> Result<bool, Fault>
-        requires own { IsOf self.now worker.old.pass }
-        requires free { worker.old.held ≡ None }
-        ensures same { IsSamePass worker.old.pass worker.new.pass }
-        ensures past { HasSeenAllOf worker.new.pass worker.old.pass }
-        ensures did { HasDeleted self.now.layout.nodes tries key worker.old worker.new result }
-        ensures lacks { IfErr result
-            (DeleteLacks self.now.layout.nodes tries key worker.old worker.new) }
-        ensures moment { IfOk result (AnswerHasMoment worker.old.pass worker.new.pass Delete key) }
-        ensures won { HasWon worker.old.pass.view.log worker.new.pass.view.log 0
-            (flags_won result) }
-        ensures steps { IsWithinBound self.now.layout.nodes tries worker.old.pass.view.log
-            worker.new.pass.view.log }
-        ensures queues { KeepsOtherQueues worker.old.pass.view.number worker.old.queues
-            worker.new.queues }
-        ensures blocks { TakeRoom worker.old.queues worker.new.queues }
-        ensures held { worker.new.held ≡ None }
-        ensures fit { worker.new.fit ≡ worker.old.fit }
-        ensures between { IsBetweenCalls worker.new }
+        requires { MayCall self.now worker.old }
+        ensures { LeavesDelete self.now.layout.nodes tries key worker.old worker.new result }
     {
         if let Standing::Pending(_) = worker.standing {
             return Err(Fault::Pending);
@@ -269,7 +203,7 @@ impl Tree {
             &mut worker.pass,
             key,
             tries,
-            &mut worker.chain,
+            &mut worker.workspace,
             own,
             account,
         ) {
@@ -292,21 +226,7 @@ impl Tree {
     /// Mittal's delete, section 3.2.)
     pub fn finish(&self, worker: &mut Worker, tries: u32) -> Result<bool, Fault>
         requires own { IsOf self.now worker.old.pass }
-        ensures same { IsSamePass worker.old.pass worker.new.pass }
-        ensures past { HasSeenAllOf worker.new.pass worker.old.pass }
-        ensures did { HasFinished self.now.layout.nodes tries worker.old worker.new result }
-        ensures lacks { IfErr result
-            (FinishLacks self.now.layout.nodes tries worker.old worker.new) }
-        ensures moment { FinishHasMoment worker.old worker.new result }
-        ensures won { HasWon worker.old.pass.view.log worker.new.pass.view.log 0 0 }
-        ensures steps { IsWithinBound self.now.layout.nodes tries worker.old.pass.view.log
-            worker.new.pass.view.log }
-        ensures queues { KeepsOtherQueues worker.old.pass.view.number worker.old.queues
-            worker.new.queues }
-        ensures blocks { TakeRoom worker.old.queues worker.new.queues }
-        ensures held { worker.new.held ≡ worker.old.held }
-        ensures fit { worker.new.fit ≡ worker.old.fit }
-        ensures between { IsBetweenCalls worker.new }
+        ensures { LeavesFinish self.now.layout.nodes tries worker.old worker.new result }
     {
         let Standing::Pending(pending) = worker.standing else {
             return Ok(false);
@@ -318,7 +238,7 @@ impl Tree {
             &mut worker.pass,
             &pending,
             tries,
-            &mut worker.chain,
+            &mut worker.workspace,
             own,
             account,
         ) {

@@ -102,7 +102,7 @@ fn close_all(tree: Tree, workers: Vec<Worker>, room: Room) -> Report
         accounts: _,
         home: _,
         standing: _,
-        chain: _,
+        workspace: _,
     } = unite_all(&shared, workers);
     let words = shared.close(pass);
     let Found {

@@ -1,18 +1,12 @@
 //! Pins of the caller, and moving the epoch on.
-ghost use Rattle.std.specs.Prelude.{ℕ, ◌≡◌, ◌≢◌, ◌+◌, ◌*◌, ◌≤◌, length, Some, None, IsSome, IfOk, All, vec_capacity};
-ghost use Rattle.nm_model.specs.declared.event.Event.TheVariants.{Leave};
-ghost use Rattle.nm_model.specs.declared.reply.Reply.TheVariants.{Departed};
+ghost use Rattle.std.specs.Prelude.{ℕ, ◌≡◌, ◌+◌, ◌≤◌, length, Some, IsSome, vec_capacity};
 ghost use Rattle.nm_order.specs.Reads.{HasRead};
-ghost use Rattle.nm_steps.specs.Steps.{IsOf, IsInRun, IsSamePass, Stepped, HasSeenAllOf};
-ghost use Rattle.nm_epoch.specs.Resting.{Settles, epochs};
+ghost use Rattle.nm_steps.specs.Steps.{IsOf, IsInRun, IsSamePass, HasSeenAllOf};
+ghost use Rattle.nm_epoch.specs.Resting.{Settles};
 ghost use Rattle.nm_steps.specs.Rules.{knowledge};
-ghost use Rattle.nm_epoch.specs.Scans.{IsAdvance};
-ghost use Rattle.nm_epoch.specs.Watches.{IsBehind};
-ghost use Rattle.nm_epoch.specs.declared.collecting.Entry.{Entry};
 ghost use Rattle.nm_epoch.specs.Collecting.{AreHeld, IsCollection, HaveLost, KeepsOtherLedgers, KeepsRetired, blocks_of, ripe_of};
-ghost use Rattle.nm_tree.specs.Answers.{HasPinned, KeepsPlace};
-ghost use Rattle.nm_tree.specs.Running.{IsFreedInGrace};
-ghost use Rattle.nm_tree.specs.Workers.{IsBetweenCalls, ArePaired, HaveNoted};
+ghost use Rattle.nm_tree.specs.Workers.{ArePaired, HaveNoted};
+ghost use Rattle.nm_tree.specs.Calls.{MayCall, LeavesPin, LeavesUnpin, LeavesAdvance, LeavesBehind, LeavesCollect};
 
 use crate::fault::PinFault;
 use crate::tree::Tree;
@@ -29,16 +23,8 @@ impl Tree {
     /// `Moved`: the epoch moved on in each of `tries` tries; with 0 tries it was only read.
     /// `Pending`: a key is pending. The worker is not held.
     pub fn pin(&self, worker: &mut Worker, tries: u32) -> Result<u64, PinFault>
-        requires own { IsOf self.now worker.old.pass }
-        requires free { worker.old.held ≡ None }
-        ensures same { IsSamePass worker.old.pass worker.new.pass }
-        ensures past { HasSeenAllOf worker.new.pass worker.old.pass }
-        ensures did { HasPinned tries worker.old worker.new result }
-        ensures queues { worker.new.queues ≡ worker.old.queues }
-        ensures steps { length worker.new.pass.view.log
-            ≤ length worker.old.pass.view.log + (3 * tries + 1) }
-        ensures fit { worker.new.fit ≡ worker.old.fit }
-        ensures between { IsBetweenCalls worker.new }
+        requires { MayCall self.now worker.old }
+        ensures { LeavesPin tries worker.old worker.new result }
     {
         if let Standing::Pending(_) = worker.standing {
             return Err(PinFault::Pending);
@@ -56,13 +42,7 @@ impl Tree {
     pub fn unpin(&self, worker: &mut Worker)
         requires own { IsOf self.now worker.old.pass }
         requires held { IsSome worker.old.held }
-        ensures step { Stepped worker.old.pass worker.new.pass Leave Departed }
-        ensures past { HasSeenAllOf worker.new.pass worker.old.pass }
-        ensures queues { worker.new.queues ≡ worker.old.queues }
-        ensures pending { worker.new.pending ≡ None }
-        ensures held { worker.new.held ≡ None }
-        ensures fit { worker.new.fit ≡ worker.old.fit }
-        ensures between { IsBetweenCalls worker.new }
+        ensures { LeavesUnpin worker.old worker.new }
     {
         leave(&self.shared, &mut worker.pass);
         worker.standing = Standing::Resting;
@@ -72,16 +52,7 @@ impl Tree {
     /// any time, and takes no memory. At most as many steps as there are workers, and one.
     pub fn advance(&self, worker: &mut Worker) -> Advance
         requires own { IsOf self.now worker.old.pass }
-        ensures same { IsSamePass worker.old.pass worker.new.pass }
-        ensures past { HasSeenAllOf worker.new.pass worker.old.pass }
-        ensures did { IsAdvance self.now.layout.workers worker.old.pass.view.number
-            (epochs worker.old.pass).pin worker.old.pass.view.log worker.new.pass.view.log result }
-        ensures place { KeepsPlace worker.old worker.new }
-        ensures queues { worker.new.queues ≡ worker.old.queues }
-        ensures steps { length worker.new.pass.view.log
-            ≤ length worker.old.pass.view.log + self.now.layout.workers + 1 }
-        ensures fit { worker.new.fit ≡ worker.old.fit }
-        ensures between { IsBetweenCalls worker.new }
+        ensures { LeavesAdvance self.now.layout.workers worker.old worker.new result }
     {
         advance(&self.shared, &mut worker.pass)
     }
@@ -90,16 +61,7 @@ impl Tree {
     /// takes no memory. At most as many steps as there are workers.
     pub fn behind(&self, worker: &mut Worker) -> Behind
         requires own { IsOf self.now worker.old.pass }
-        ensures same { IsSamePass worker.old.pass worker.new.pass }
-        ensures past { HasSeenAllOf worker.new.pass worker.old.pass }
-        ensures did { IsBehind self.now.layout.workers worker.old.pass.view.number
-            (epochs worker.old.pass).pin worker.old.pass.view.log worker.new.pass.view.log result }
-        ensures place { KeepsPlace worker.old worker.new }
-        ensures queues { worker.new.queues ≡ worker.old.queues }
-        ensures steps { length worker.new.pass.view.log
-            ≤ length worker.old.pass.view.log + self.now.layout.workers }
-        ensures fit { worker.new.fit ≡ worker.old.fit }
-        ensures between { IsBetweenCalls worker.new }
+        ensures { LeavesBehind self.now.layout.workers worker.old worker.new result }
     {
         behind(&self.shared, &mut worker.pass)
     }
@@ -112,22 +74,7 @@ impl Tree {
     /// takes no memory.
     pub fn collect(&self, worker: &mut Worker) -> Collected
         requires own { IsOf self.now worker.old.pass }
-        ensures same { IsSamePass worker.old.pass worker.new.pass }
-        ensures past { HasSeenAllOf worker.new.pass worker.old.pass }
-        ensures did { IsCollection result.epoch worker.old.queues worker.old.pass.view.log
-            worker.new.pass.view.log }
-        ensures freed { result.freed ≡ length (ripe_of result.epoch worker.old.queues) }
-        ensures lost { HaveLost result.epoch worker.old.queues worker.new.queues }
-        ensures grace { All (λ (e : Entry). IsFreedInGrace worker.new.pass.view e.node)
-            (ripe_of result.epoch worker.old.queues) }
-        ensures blocks { blocks_of worker.new.queues ≡ blocks_of worker.old.queues }
-        ensures newest { (epoch : ℕ) → HasRead worker.old.pass.view.log epoch
-            → epoch ≤ result.epoch }
-        ensures place { KeepsPlace worker.old worker.new }
-        ensures steps { length worker.new.pass.view.log
-            ≤ length worker.old.pass.view.log + self.now.layout.nodes }
-        ensures fit { worker.new.fit ≡ worker.old.fit }
-        ensures between { IsBetweenCalls worker.new }
+        ensures { LeavesCollect self.now.layout.nodes worker.old worker.new result }
     {
         let collected = collect_all(
             &self.shared,

@@ -1,10 +1,5 @@
 //! Look-ups of several keys under one pin.
-ghost use Rattle.std.specs.Prelude.{◌≡◌, ◌+◌, ◌*◌, ◌≤◌, length, map, None, All, IfOk};
-ghost use Rattle.nm_calls.specs.InTurns.{WasSo, key_of, most_looks};
-ghost use Rattle.nm_calls.specs.Won.{HasWon};
-ghost use Rattle.nm_steps.specs.Steps.{IsOf, IsSamePass, HasSeenAllOf};
-ghost use Rattle.nm_tree.specs.InTurns.{HasAnsweredMany};
-ghost use Rattle.nm_tree.specs.Workers.{IsBetweenCalls};
+ghost use Rattle.nm_tree.specs.Calls.{MayCall, LeavesHasMany};
 
 use crate::fault::Fault;
 use crate::tree::Tree;
@@ -28,23 +23,9 @@ impl Tree {
         queries: &mut [Query],
         tries: u32,
     ) -> Result<(), Fault>
-        requires own { IsOf self.now worker.old.pass }
-        requires free { worker.old.held ≡ None }
-        ensures same { IsSamePass worker.old.pass worker.new.pass }
-        ensures past { HasSeenAllOf worker.new.pass worker.old.pass }
-        ensures did { HasAnsweredMany self.now.layout.nodes tries (length queries.old) worker.old
+        requires { MayCall self.now worker.old }
+        ensures { LeavesHasMany self.now.layout.nodes tries queries.old queries.new worker.old
             worker.new result }
-        ensures keys { map key_of queries.new ≡ map key_of queries.old }
-        ensures moment { IfOk result
-            (λ u. All (λ q. WasSo worker.old.pass worker.new.pass q.key q.found) queries.new) }
-        ensures won { HasWon worker.old.pass.view.log worker.new.pass.view.log 0 0 }
-        ensures steps { length worker.new.pass.view.log
-            ≤ length worker.old.pass.view.log + 3 * tries
-            + most_looks self.now.layout.nodes (length queries.old) + 2 }
-        ensures queues { worker.new.queues ≡ worker.old.queues }
-        ensures held { worker.new.held ≡ None }
-        ensures fit { worker.new.fit ≡ worker.old.fit }
-        ensures between { IsBetweenCalls worker.new }
     {
         if let Standing::Pending(_) = worker.standing {
             return Err(Fault::Pending);

@@ -1,11 +1,5 @@
 //! The next key of a set that is in use.
-ghost use Rattle.std.specs.Prelude.{◌≡◌, ◌+◌, ◌*◌, ◌≤◌, length, None, IfOk};
-ghost use Rattle.nm_calls.specs.NextKeys.{WasNext};
-ghost use Rattle.nm_calls.specs.PlainWalks.{most_looks};
-ghost use Rattle.nm_calls.specs.Won.{HasWon};
-ghost use Rattle.nm_steps.specs.Steps.{IsOf, IsSamePass, HasSeenAllOf};
-ghost use Rattle.nm_tree.specs.Looked.{HasLooked};
-ghost use Rattle.nm_tree.specs.Workers.{IsBetweenCalls};
+ghost use Rattle.nm_tree.specs.Calls.{MayCall, LeavesNext};
 
 use crate::fault::Fault;
 use crate::tree::Tree;
@@ -27,21 +21,8 @@ impl Tree {
     /// The worker is not held. At most `tries` * (3 `nodes` + 4) + 2 steps. (The search of
     /// Natarajan and Mittal, section 3.2.)
     pub fn next(&self, worker: &mut Worker, key: Key, tries: u32) -> Result<Option<Key>, Fault>
-        requires own { IsOf self.now worker.old.pass }
-        requires free { worker.old.held ≡ None }
-        ensures same { IsSamePass worker.old.pass worker.new.pass }
-        ensures past { HasSeenAllOf worker.new.pass worker.old.pass }
-        ensures did { HasLooked tries (tries * most_looks self.now.layout.nodes 1) worker.old
-            worker.new result }
-        ensures moment { IfOk result (WasNext worker.old.pass worker.new.pass key) }
-        ensures won { HasWon worker.old.pass.view.log worker.new.pass.view.log 0 0 }
-        ensures steps { length worker.new.pass.view.log
-            ≤ length worker.old.pass.view.log + 3 * tries
-            + tries * most_looks self.now.layout.nodes 1 + 2 }
-        ensures queues { worker.new.queues ≡ worker.old.queues }
-        ensures held { worker.new.held ≡ None }
-        ensures fit { worker.new.fit ≡ worker.old.fit }
-        ensures between { IsBetweenCalls worker.new }
+        requires { MayCall self.now worker.old }
+        ensures { LeavesNext self.now.layout.nodes tries key worker.old worker.new result }
     {
         if let Standing::Pending(_) = worker.standing {
             return Err(Fault::Pending);

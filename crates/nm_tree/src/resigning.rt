@@ -79,7 +79,7 @@ pub(crate) fn unite(shared: &Shared, heir: Worker, leaver: Worker) -> Worker
         mut accounts,
         home: _,
         standing,
-        chain,
+        workspace,
     } = heir;
     let Worker {
         pass: other,
@@ -88,7 +88,7 @@ pub(crate) fn unite(shared: &Shared, heir: Worker, leaver: Worker) -> Worker
         accounts: theirs,
         home: _,
         standing: _,
-        chain: _,
+        workspace: _,
     } = leaver;
     let pass = shared.join(pass, other);
     take_over(&mut queues, &mut accounts, more, theirs);
@@ -100,7 +100,7 @@ pub(crate) fn unite(shared: &Shared, heir: Worker, leaver: Worker) -> Worker
         accounts,
         home,
         standing,
-        chain,
+        workspace,
     }
 }
 

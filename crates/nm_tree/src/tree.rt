@@ -2,11 +2,11 @@
 ghost use Rattle.std.specs.Prelude.{All, ◌≡◌, ◌≢◌, ◌<◌, ◌≤◌, ◌⊎◌, ◌↔◌, length, IfOk, IfErr, IsErrOf};
 ghost use Rattle.nm_edge.specs.Layouts.{dense, spaced};
 ghost use Rattle.nm_steps.specs.Steps.{AreFresh};
-ghost use Rattle.nm_tree.specs.Plays.{IsReady};
+ghost use Rattle.nm_tree.specs.Calls.{MayCall};
 ghost use Rattle.nm_tree.specs.Workers.{AreNew, AreAllFresh, AreMade, HaveFit, HaveWorkers, IsFresh, IsNewWorker};
 
 use crate::worker::{Account, Standing, Worker};
-use nm_calls::Chain;
+use nm_calls::Workspace;
 use nm_edge::{FIRST_SLOT, LEAST_NODES, Layout, MOST_NODES, MOST_SPACED_NODES, MOST_WORKERS};
 use nm_epoch::HeldQueue;
 use nm_limbo::BlockQueue;
@@ -43,7 +43,7 @@ impl Tree {
         ensures count { IfOk result (λ r. length r.1.items ≡ workers) }
         ensures new { IfOk result (λ r. AreNew r.0 0 r.1.items) }
         ensures fit { IfOk result (λ r. HaveFit Fit.Lowest r.1.items) }
-        ensures ready { IfOk result (λ r. All (IsReady r.0) r.1.items) }
+        ensures ready { IfOk result (λ r. All (MayCall r.0) r.1.items) }
         ensures nodes { IsErrOf result NewError.Nodes
             ↔ ((nodes < LEAST_NODES) ⊎ (MOST_NODES < nodes)) }
         ensures workers { IsErrOf result NewError.Workers
@@ -63,7 +63,7 @@ impl Tree {
         ensures count { IfOk result (λ r. length r.1.items ≡ workers) }
         ensures new { IfOk result (λ r. AreNew r.0 0 r.1.items) }
         ensures fit { IfOk result (λ r. HaveFit Fit.Near r.1.items) }
-        ensures ready { IfOk result (λ r. All (IsReady r.0) r.1.items) }
+        ensures ready { IfOk result (λ r. All (MayCall r.0) r.1.items) }
         ensures nodes { IsErrOf result NewError.Nodes
             ↔ ((nodes < LEAST_NODES) ⊎ (MOST_NODES < nodes)) }
         ensures workers { IsErrOf result NewError.Workers
@@ -87,7 +87,7 @@ impl Tree {
         ensures count { IfOk result (λ r. length r.1.items ≡ workers) }
         ensures new { IfOk result (λ r. AreNew r.0 0 r.1.items) }
         ensures fit { IfOk result (λ r. HaveFit fit r.1.items) }
-        ensures ready { IfOk result (λ r. All (IsReady r.0) r.1.items) }
+        ensures ready { IfOk result (λ r. All (MayCall r.0) r.1.items) }
         ensures nodes { IsErrOf result NewError.Nodes
             ↔ ((nodes < LEAST_NODES) ⊎ (MOST_SPACED_NODES < nodes)) }
         ensures workers { IsErrOf result NewError.Workers
@@ -104,7 +104,7 @@ impl Tree {
         ensures count { IfOk result (λ r. length r.1.items ≡ layout.workers) }
         ensures new { IfOk result (λ r. AreNew r.0 0 r.1.items) }
         ensures fit { IfOk result (λ r. HaveFit fit r.1.items) }
-        ensures ready { IfOk result (λ r. All (IsReady r.0) r.1.items) }
+        ensures ready { IfOk result (λ r. All (MayCall r.0) r.1.items) }
         ensures memory { IfErr result (λ e. e ≡ NewError.NoMemory) }
     {
         let (shared, passes) = Shared::new(alloc, layout)?;
@@ -151,7 +151,7 @@ fn worker_of(
         accounts,
         home: 0,
         standing: Standing::Resting,
-        chain: Chain::new(),
+        workspace: Workspace::new(),
     })
 }
 

@@ -8,7 +8,7 @@ ghost use Rattle.nm_tree.specs.Running.{HasSeenTurns};
 ghost use Rattle.nm_tree.specs.Workers.{waiting_in, blocks_in, account_in, counts_in, IsLedger, HasOrigin};
 ghost use Rattle.nm_tree.specs.declared.worker.Unfinished.{Unfinished as Delete};
 
-use nm_calls::Chain;
+use nm_calls::Workspace;
 use nm_edge::{Key, NodeId};
 use nm_epoch::HeldQueue;
 use nm_pool::Placement;
@@ -78,8 +78,8 @@ pub struct Worker {
     pub(crate) accounts: Vec<Account>,
     pub(crate) home: usize,
     pub(crate) standing: Standing,
-    // The room in which walks remember chains, made once: filling it costs more than a walk.
-    pub(crate) chain: Chain,
+    // The room of its walks and cleanups, made once: filling it costs more than a walk.
+    pub(crate) workspace: Workspace,
 }
 
 impl Model for Worker {

@@ -2,7 +2,7 @@
 //! own.
 ghost use Rattle.std.specs.Prelude.{◌≡◌, length, IfOk};
 ghost use Rattle.nm_steps.specs.Steps.{IsOf};
-ghost use Rattle.nm_tree.specs.Plays.{IsReady};
+ghost use Rattle.nm_tree.specs.Calls.{MayCall};
 ghost use Rattle.nm_tree.specs.Workers.{AreNew};
 
 use nm_edge::Key;
@@ -124,7 +124,7 @@ fn make(rt: &impl Abort, tree: &Tree, worker: &mut Worker, call: Call, tries: u3
 
 /// A tree and its two workers.
 fn two_of(rt: &(impl Abort + AllocGlobal), nodes: u32) -> Result<(Tree, Worker, Worker), Fail>
-    ensures { IfOk result (λ r. IsReady r.0 r.1 × IsReady r.0 r.2) }
+    ensures { IfOk result (λ r. MayCall r.0 r.1 × MayCall r.0 r.2) }
 {
     let (tree, mut workers) = Tree::new(rt.alloc(), nodes, 2)?;
     let Some(second) = workers.pop() else {

@@ -5,7 +5,7 @@
 
 ghost use Rattle.std.specs.Prelude.{◌≡◌, [], ◌∷◌, All, IfOk, length};
 ghost use Rattle.nm_tree.specs.Closing.{AreAllOf};
-ghost use Rattle.nm_tree.specs.Plays.{IsReady};
+ghost use Rattle.nm_tree.specs.Calls.{MayCall};
 
 use anyhow::{Context, Result};
 use nm_edge::Key;
@@ -16,7 +16,7 @@ const TRIES: u32 = 4;
 
 /// A tree of 16 nodes and its two workers, made again where memory was refused.
 fn made(alloc: Global) -> Result<(Tree, Vec<Worker>), NewError>
-    ensures ready { IfOk result (λ r. All (λ w. IsReady r.0 w) r.1.items) }
+    ensures ready { IfOk result (λ r. All (λ w. MayCall r.0 w) r.1.items) }
     ensures count { IfOk result (λ r. length r.1.items ≡ 2) }
 {
     match Tree::new(alloc, 16, 2) {
@@ -27,7 +27,7 @@ fn made(alloc: Global) -> Result<(Tree, Vec<Worker>), NewError>
 
 /// Such a tree and its workers; and the list in which they stood, with room for both.
 fn open(alloc: Global) -> Result<(Tree, Worker, Worker, Vec<Worker>)>
-    ensures { IfOk result (λ r. IsReady r.0 r.1 × IsReady r.0 r.2 × (r.3.items ≡ [])) }
+    ensures { IfOk result (λ r. MayCall r.0 r.1 × MayCall r.0 r.2 × (r.3.items ≡ [])) }
 {
     let (tree, mut workers) = made(alloc).context("the tree")?;
     let second = workers.pop().context("worker 1")?;
@@ -38,8 +38,8 @@ fn open(alloc: Global) -> Result<(Tree, Worker, Worker, Vec<Worker>)>
 /// What a call must leave where it is refused: whether the key is in the set, and how many nodes
 /// wait.
 fn seen(tree: &Tree, worker: &mut Worker, key: Key) -> (Result<bool, Fault>, u64)
-    requires { IsReady tree.now worker.old }
-    ensures { IsReady tree.now worker.new }
+    requires { MayCall tree.now worker.old }
+    ensures { MayCall tree.now worker.new }
 {
     (tree.has(worker, key, TRIES), worker.queue_len())
 }
@@ -47,8 +47,8 @@ fn seen(tree: &Tree, worker: &mut Worker, key: Key) -> (Result<bool, Fault>, u64
 /// Inserts a key, once more where memory was refused. `None`: the refused call has changed
 /// something.
 fn insert(tree: &Tree, worker: &mut Worker, key: Key) -> Option<Result<bool, Fault>>
-    requires { IsReady tree.now worker.old }
-    ensures { IsReady tree.now worker.new }
+    requires { MayCall tree.now worker.old }
+    ensures { MayCall tree.now worker.new }
 {
     let before = seen(tree, worker, key);
     let answer = tree.insert(worker, key, TRIES);
@@ -64,8 +64,8 @@ fn insert(tree: &Tree, worker: &mut Worker, key: Key) -> Option<Result<bool, Fau
 /// Deletes a key, once more where memory was refused, and finishes what it left. `None`: the
 /// refused call has changed something.
 fn delete(tree: &Tree, worker: &mut Worker, key: Key) -> Option<Result<bool, Fault>>
-    requires { IsReady tree.now worker.old }
-    ensures { IsReady tree.now worker.new }
+    requires { MayCall tree.now worker.old }
+    ensures { MayCall tree.now worker.new }
 {
     let before = seen(tree, worker, key);
     let answer = tree.delete(worker, key, TRIES);
@@ -92,10 +92,10 @@ fn help(
     helping: &mut Worker,
     key: Key,
 ) -> Option<[Result<bool, Fault>; 3]>
-    requires flagging { IsReady tree.now flagging.old }
-    requires helping { IsReady tree.now helping.old }
-    ensures flagging { IsReady tree.now flagging.new }
-    ensures helping { IsReady tree.now helping.new }
+    requires flagging { MayCall tree.now flagging.old }
+    requires helping { MayCall tree.now helping.old }
+    ensures flagging { MayCall tree.now flagging.new }
+    ensures helping { MayCall tree.now helping.new }
 {
     let mut flagged = tree.delete(flagging, key, 1);
     if flagged == Err(Fault::NoMemory) {
@@ -115,8 +115,8 @@ fn help(
 
 /// Moves the epoch on twice, and frees what is ripe.
 fn drain(tree: &Tree, worker: &mut Worker) -> u64
-    requires { IsReady tree.now worker.old }
-    ensures { IsReady tree.now worker.new }
+    requires { MayCall tree.now worker.old }
+    ensures { MayCall tree.now worker.new }
 {
     let _ = tree.advance(worker);
     let _ = tree.advance(worker);
@@ -134,10 +134,10 @@ struct Played {
 
 /// Worker 0 inserts a key three times: it is deleted by worker 1, by both at once, and by worker 0.
 fn play(tree: &Tree, first: &mut Worker, second: &mut Worker, key: Key) -> Played
-    requires first { IsReady tree.now first.old }
-    requires second { IsReady tree.now second.old }
-    ensures first { IsReady tree.now first.new }
-    ensures second { IsReady tree.now second.new }
+    requires first { MayCall tree.now first.old }
+    requires second { MayCall tree.now second.old }
+    ensures first { MayCall tree.now first.new }
+    ensures second { MayCall tree.now second.new }
 {
     let inserted = insert(tree, first, key);
     let deleted = delete(tree, second, key);

@@ -1,6 +1,6 @@
 //! A tree with all its workers, from its filling to its end.
 ghost use Rattle.std.specs.Prelude.{All, IfOk};
-ghost use Rattle.nm_tree.specs.Plays.{IsReady};
+ghost use Rattle.nm_tree.specs.Calls.{MayCall};
 
 use crate::habits::Habits;
 use crate::load::{Load, Totals};
@@ -31,14 +31,14 @@ pub struct Grown {
 
 impl Model for Grown {
     ghost use Rattle.std.specs.Prelude.{All};
-    ghost use Rattle.nm_tree.specs.Plays.{IsReady};
+    ghost use Rattle.nm_tree.specs.Calls.{MayCall};
 
     ghost Value = { Unit {0} };
 
     ghost view = { λ g. tt };
 
-    ghost invariant = { λ g. All (λ w. IsReady g.tree w) g.workers.items
-        × All (λ w. IsReady g.tree w) g.others.items };
+    ghost invariant = { λ g. All (λ w. MayCall g.tree w) g.workers.items
+        × All (λ w. MayCall g.tree w) g.others.items };
 }
 
 /// The workers of a tree, those of the threads and those that no thread has.
@@ -49,9 +49,9 @@ struct Crew {
 
 /// Parts the workers of a tree.
 fn parted(alloc: Global, tree: &Tree, all: Vec<Worker>, habits: Habits) -> Result<Crew, AllocError>
-    requires { All (λ w. IsReady tree.now w) all.items }
-    ensures threads { IfOk result (λ p. All (λ w. IsReady tree.now w) p.workers.items) }
-    ensures others { IfOk result (λ p. All (λ w. IsReady tree.now w) p.others.items) }
+    requires { All (λ w. MayCall tree.now w) all.items }
+    ensures threads { IfOk result (λ p. All (λ w. MayCall tree.now w) p.workers.items) }
+    ensures others { IfOk result (λ p. All (λ w. MayCall tree.now w) p.others.items) }
 {
     let mut workers = Vec::new(alloc);
     let mut others = Vec::new(alloc);
@@ -77,7 +77,7 @@ fn waiting(report: &Report) -> u64 {
 impl Grown {
     /// An empty tree with its workers.
     fn of(alloc: Global, tree: Tree, workers: Vec<Worker>, habits: Habits) -> Result<Grown>
-        requires { All (λ w. IsReady tree w) workers.items }
+        requires { All (λ w. MayCall tree w) workers.items }
     {
         let Crew { workers, others } = parted(alloc, &tree, workers, habits)?;
         Ok(Grown {

@@ -1,6 +1,6 @@
 //! Loads on a `Tree`.
 ghost use Rattle.std.specs.Prelude.{All, IfOk};
-ghost use Rattle.nm_tree.specs.Plays.{IsReady};
+ghost use Rattle.nm_tree.specs.Calls.{MayCall};
 
 use crate::habits::{Habits, THREADS};
 use crate::load::{Call, Done, Load, Tally, Totals, key_of};
@@ -15,8 +15,8 @@ const SHARES: u64 = THREADS as u64;
 
 /// Inserts a worker's share of the first so many keys.
 fn fill(tree: &Tree, mut worker: Worker, habits: Habits, keys: u64, totals: &Totals) -> Worker
-    requires { IsReady tree.now worker }
-    ensures { IsReady tree.now result }
+    requires { MayCall tree.now worker }
+    ensures { MayCall tree.now result }
 {
     let thread = u64::from(habits.thread(&worker));
     let mut tally = Tally::none();
@@ -42,20 +42,20 @@ pub fn fill_all<R: Threads + Sync>(
     keys: u64,
     totals: &Totals,
 ) -> Result<Vec<Worker>, AllocError>
-    requires { All (λ w. IsReady tree.now w) workers.items }
-    ensures { IfOk result (λ v. All (λ w. IsReady tree.now w) v.items) }
+    requires { All (λ w. MayCall tree.now w) workers.items }
+    ensures { IfOk result (λ v. All (λ w. MayCall tree.now w) v.items) }
 {
     let one = |worker: Worker| -> Worker
-        requires { IsReady tree.now worker }
-        ensures { IsReady tree.entry.now result }
+        requires { MayCall tree.now worker }
+        ensures { MayCall tree.entry.now result }
     { fill(tree, worker, habits, keys, totals) };
     thread::map_vec(rt, workers, &one)
 }
 
 /// Moves the epoch on, if no worker holds it back, and frees what is ripe.
 fn tend(tree: &Tree, worker: &mut Worker)
-    requires { IsReady tree.now worker.old }
-    ensures { IsReady tree.now worker.new }
+    requires { MayCall tree.now worker.old }
+    ensures { MayCall tree.now worker.new }
 {
     let _ = tree.advance(worker);
     let _ = tree.collect(worker);
@@ -63,8 +63,8 @@ fn tend(tree: &Tree, worker: &mut Worker)
 
 /// Makes a call, or finishes a delete that was left unfinished, and tells what came of it.
 fn make(tree: &Tree, worker: &mut Worker, call: Call) -> Done
-    requires { IsReady tree.now worker.old }
-    ensures { IsReady tree.now worker.new }
+    requires { MayCall tree.now worker.old }
+    ensures { MayCall tree.now worker.new }
 {
     let (answer, done) = match call {
         Call::Has(key) => (tree.has(worker, key, TRIES), Done::Found),
@@ -84,8 +84,8 @@ fn make(tree: &Tree, worker: &mut Worker, call: Call) -> Done
 
 /// Finishes a delete.
 fn finish(tree: &Tree, worker: &mut Worker) -> Done
-    requires { IsReady tree.now worker.old }
-    ensures { IsReady tree.now worker.new }
+    requires { MayCall tree.now worker.old }
+    ensures { MayCall tree.now worker.new }
 {
     if tree.finish(worker, TRIES) == Ok(true) {
         return Done::Deleted;
@@ -95,8 +95,8 @@ fn finish(tree: &Tree, worker: &mut Worker) -> Done
 
 /// One thread's calls.
 fn play(tree: &Tree, worker: &mut Worker, habits: Habits, load: Load) -> Tally
-    requires { IsReady tree.now worker.old }
-    ensures { IsReady tree.now worker.new }
+    requires { MayCall tree.now worker.old }
+    ensures { MayCall tree.now worker.new }
 {
     let thread = habits.thread(worker);
     let mut tally = Tally::none();
@@ -113,8 +113,8 @@ fn play(tree: &Tree, worker: &mut Worker, habits: Habits, load: Load) -> Tally
 
 /// One worker's calls, none where the load has fewer threads.
 fn take_part(tree: &Tree, mut worker: Worker, habits: Habits, load: Load, totals: &Totals) -> Worker
-    requires { IsReady tree.now worker }
-    ensures { IsReady tree.now result }
+    requires { MayCall tree.now worker }
+    ensures { MayCall tree.now result }
 {
     if habits.thread(&worker) < load.threads {
         totals.add(play(tree, &mut worker, habits, load));
@@ -131,12 +131,12 @@ pub fn play_all<R: Threads + Sync>(
     load: Load,
     totals: &Totals,
 ) -> Result<Vec<Worker>, AllocError>
-    requires { All (λ w. IsReady tree.now w) workers.items }
-    ensures { IfOk result (λ v. All (λ w. IsReady tree.now w) v.items) }
+    requires { All (λ w. MayCall tree.now w) workers.items }
+    ensures { IfOk result (λ v. All (λ w. MayCall tree.now w) v.items) }
 {
     let one = |worker: Worker| -> Worker
-        requires { IsReady tree.now worker }
-        ensures { IsReady tree.entry.now result }
+        requires { MayCall tree.now worker }
+        ensures { MayCall tree.entry.now result }
     { take_part(tree, worker, habits, load, totals) };
     thread::map_vec(rt, workers, &one)
 }

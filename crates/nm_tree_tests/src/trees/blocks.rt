@@ -1,12 +1,12 @@
 //! The blocks of a worker's queue.
-ghost use Rattle.nm_tree.specs.Plays.{IsReady};
+ghost use Rattle.nm_tree.specs.Calls.{MayCall};
 
 use super::*;
 
 /// Inserts and deletes a key, moves the epoch on twice and collects: whether each call did so.
 fn round(tree: &Tree, worker: &mut Worker, key: Key) -> bool
-    requires { IsReady tree.now worker.old }
-    ensures { IsReady tree.now worker.new }
+    requires { MayCall tree.now worker.old }
+    ensures { MayCall tree.now worker.new }
 {
     let inserted = tree.insert(worker, key, 4) == Ok(true);
     let deleted = tree.delete(worker, key, 4) == Ok(true);

@@ -2,7 +2,7 @@
 ghost use Rattle.std.specs.Prelude.{◌≡◌, ◌+◌, ◌-◌, All, IfOk};
 ghost use Rattle.nm_steps.specs.Steps.{IsOf};
 ghost use Rattle.nm_tree.specs.Closing.{AreAllOf};
-ghost use Rattle.nm_tree.specs.Plays.{IsReady};
+ghost use Rattle.nm_tree.specs.Calls.{MayCall};
 ghost use Rattle.nm_tree.specs.Workers.{waiting_in};
 
 use super::threads::{ROUNDS, Score, TRIES, rounds};
@@ -27,15 +27,15 @@ fn play_all<R: Threads + Sync>(
     workers: Vec<Worker>,
     count: u32,
 ) -> Result<Vec<Played>, AllocError>
-    requires { All (λ w. IsReady tree.now w) workers.items }
-    ensures { IfOk result (λ v. All (λ p. IsReady tree.now p.worker) v.items) }
+    requires { All (λ w. MayCall tree.now w) workers.items }
+    ensures { IfOk result (λ v. All (λ p. MayCall tree.now p.worker) v.items) }
 {
     map_vec(
         rt,
         workers,
         &|worker: Worker| -> Played
-            requires { IsReady tree.now worker }
-            ensures { IsReady tree.entry.now result.worker }
+            requires { MayCall tree.now worker }
+            ensures { MayCall tree.entry.now result.worker }
         {
             let from = worker.number();
             let (worker, score) = rounds(tree, worker, from, count);
@@ -46,7 +46,7 @@ fn play_all<R: Threads + Sync>(
 
 /// The worker with no delete pending, and the score of both.
 fn settled(tree: &Tree, played: Played, so_far: Score) -> (Worker, Score)
-    requires { IsReady tree.now played.worker }
+    requires { MayCall tree.now played.worker }
     ensures { IsOf tree.now result.0.pass }
 {
     let Played { mut worker, score } = played;
@@ -64,7 +64,7 @@ pub(super) fn gathered(
     tree: &Tree,
     played: Vec<Played>,
 ) -> Result<(Vec<Worker>, Score), AllocError>
-    requires { All (λ p. IsReady tree.now p.worker) played.items }
+    requires { All (λ p. MayCall tree.now p.worker) played.items }
     ensures { IfOk result (λ r. AreAllOf tree.now r.0.items) }
 {
     let mut workers = Vec::new(alloc);

@@ -1,5 +1,5 @@
 //! The example of `docs/USING.md`.
-ghost use Rattle.nm_tree.specs.Plays.{IsReady};
+ghost use Rattle.nm_tree.specs.Calls.{MayCall};
 
 use super::*;
 use std::thread::{Threads, join};
@@ -9,8 +9,8 @@ const TRIES: u32 = 100;
 /// Inserts every second key below 200 from a first one on: the worker, and how many of them were
 /// not in the set.
 fn fill(tree: &Tree, mut worker: Worker, first: u64) -> (Worker, u64)
-    requires { IsReady tree.now worker }
-    ensures { IsReady tree.now result.0 }
+    requires { MayCall tree.now worker }
+    ensures { MayCall tree.now result.0 }
 {
     let mut inserted = 0u64;
     for number in 0..100u64 {
@@ -31,20 +31,20 @@ pub(super) fn fill_both<R: Threads + Sync>(
     one: Worker,
     two: Worker,
 ) -> ((Worker, u64), (Worker, u64))
-    requires one { IsReady tree.now one }
-    requires two { IsReady tree.now two }
-    ensures one { IsReady tree.now result.0.0 }
-    ensures two { IsReady tree.now result.1.0 }
+    requires one { MayCall tree.now one }
+    requires two { MayCall tree.now two }
+    ensures one { MayCall tree.now result.0.0 }
+    ensures two { MayCall tree.now result.1.0 }
 {
     join(
         rt,
         move || -> (Worker, u64)
-            requires { IsReady tree.now one }
-            ensures { IsReady tree.entry.now result.0 }
+            requires { MayCall tree.now one }
+            ensures { MayCall tree.entry.now result.0 }
         { fill(tree, one, 0) },
         move || -> (Worker, u64)
-            requires { IsReady tree.now two }
-            ensures { IsReady tree.entry.now result.0 }
+            requires { MayCall tree.now two }
+            ensures { MayCall tree.entry.now result.0 }
         { fill(tree, two, 1) },
     )
 }

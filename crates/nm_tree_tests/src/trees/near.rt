@@ -1,6 +1,6 @@
 //! Trees whose workers claim by next fit.
 ghost use Rattle.std.specs.Prelude.{◌≡◌, IfOk};
-ghost use Rattle.nm_tree.specs.Plays.{IsReady};
+ghost use Rattle.nm_tree.specs.Calls.{MayCall};
 
 use super::endings::{both, each_deletes_one, report_of, step, waiting};
 use super::example::fill_both;
@@ -8,7 +8,7 @@ use super::*;
 
 /// A tree and its two workers.
 fn near_of(rt: &(impl Abort + AllocGlobal), nodes: u32) -> Result<(Tree, Worker, Worker), Fail>
-    ensures { IfOk result (λ r. IsReady r.0 r.1 × IsReady r.0 r.2) }
+    ensures { IfOk result (λ r. MayCall r.0 r.1 × MayCall r.0 r.2) }
 {
     let (tree, mut workers) = Tree::near(rt.alloc(), nodes, 2)?;
     let Some(second) = workers.pop() else {

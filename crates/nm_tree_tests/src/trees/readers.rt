@@ -1,7 +1,7 @@
 //! A reader that stays pinned while others fill and drain the tree in threads of their own.
 ghost use Rattle.std.specs.Prelude.{◌≡◌, IfOk};
 ghost use Rattle.nm_steps.specs.Steps.{IsOf};
-ghost use Rattle.nm_tree.specs.Plays.{IsReady};
+ghost use Rattle.nm_tree.specs.Calls.{MayCall};
 
 use super::threads::by_two;
 use super::*;
@@ -11,7 +11,7 @@ fn three_of(
     rt: &(impl Abort + AllocGlobal),
     nodes: u32,
 ) -> Result<(Tree, Worker, Worker, Worker), Fail>
-    ensures { IfOk result (λ r. IsReady r.0 r.1 × IsReady r.0 r.2 × IsReady r.0 r.3) }
+    ensures { IfOk result (λ r. MayCall r.0 r.1 × MayCall r.0 r.2 × MayCall r.0 r.3) }
 {
     let (tree, mut workers) = Tree::new(rt.alloc(), nodes, 3)?;
     let Some(third) = workers.pop() else {

@@ -2,7 +2,7 @@
 //! that change the set.
 ghost use Rattle.std.specs.Prelude.{All, IfOk};
 ghost use Rattle.nm_steps.specs.Steps.{IsOf};
-ghost use Rattle.nm_tree.specs.Plays.{IsReady};
+ghost use Rattle.nm_tree.specs.Calls.{MayCall};
 
 use super::crowd::{Played, gathered, report_of, waiting};
 use super::threads::{ROUNDS, Score, TRIES, rounds};
@@ -94,8 +94,8 @@ fn a_worker_stops_while_pending(rt: HostRuntime) -> Result<(), Fail> {
 
 /// Pins and leaves, again and again.
 fn pins(tree: &Tree, mut worker: Worker) -> Worker
-    requires { IsReady tree.now worker }
-    ensures { IsReady tree.now result }
+    requires { MayCall tree.now worker }
+    ensures { MayCall tree.now result }
 {
     for _ in 0..ROUNDS {
         if let Ok(_epoch) = tree.pin(&mut worker, TRIES) {
@@ -107,8 +107,8 @@ fn pins(tree: &Tree, mut worker: Worker) -> Worker
 
 /// The rounds of a worker, of which the last one only pins.
 fn rounds_of(tree: &Tree, worker: Worker) -> Played
-    requires { IsReady tree.now worker }
-    ensures { IsReady tree.now result.worker }
+    requires { MayCall tree.now worker }
+    ensures { MayCall tree.now result.worker }
 {
     let number = worker.number();
     if number == 3 {
@@ -127,15 +127,15 @@ fn play_each<R: Threads + Sync>(
     tree: &Tree,
     workers: Vec<Worker>,
 ) -> Result<Vec<Played>, AllocError>
-    requires { All (λ w. IsReady tree.now w) workers.items }
-    ensures { IfOk result (λ v. All (λ p. IsReady tree.now p.worker) v.items) }
+    requires { All (λ w. MayCall tree.now w) workers.items }
+    ensures { IfOk result (λ v. All (λ p. MayCall tree.now p.worker) v.items) }
 {
     map_vec(
         rt,
         workers,
         &|worker: Worker| -> Played
-            requires { IsReady tree.now worker }
-            ensures { IsReady tree.entry.now result.worker }
+            requires { MayCall tree.now worker }
+            ensures { MayCall tree.entry.now result.worker }
         { rounds_of(tree, worker) },
     )
 }

@@ -1,5 +1,5 @@
 //! Workers in threads of their own.
-ghost use Rattle.nm_tree.specs.Plays.{IsReady};
+ghost use Rattle.nm_tree.specs.Calls.{MayCall};
 
 use super::*;
 use std::thread::{Threads, join};
@@ -30,8 +30,8 @@ fn counted(count: u32, answer: Result<bool, Fault>) -> u32 {
 
 /// Inserts a key and deletes the next one, ends what is pending, moves the epoch on and collects.
 fn round(tree: &Tree, worker: &mut Worker, key: Key, next: Key, so_far: Score) -> Score
-    requires { IsReady tree.now worker.old }
-    ensures { IsReady tree.now worker.new }
+    requires { MayCall tree.now worker.old }
+    ensures { MayCall tree.now worker.new }
 {
     let inserted = counted(so_far.inserted, tree.insert(worker, key, TRIES));
     let deleted = counted(so_far.deleted, tree.delete(worker, next, TRIES));
@@ -43,8 +43,8 @@ fn round(tree: &Tree, worker: &mut Worker, key: Key, next: Key, so_far: Score) -
 
 /// So many rounds over ten keys.
 pub(super) fn rounds(tree: &Tree, mut worker: Worker, from: u32, count: u32) -> (Worker, Score)
-    requires { IsReady tree.now worker }
-    ensures { IsReady tree.now result.0 }
+    requires { MayCall tree.now worker }
+    ensures { MayCall tree.now result.0 }
 {
     let mut so_far = Score::default();
     for turn in 0..count {
@@ -64,28 +64,28 @@ pub(super) fn by_two<R: Threads + Sync>(
     one: Worker,
     two: Worker,
 ) -> ((Worker, Score), (Worker, Score))
-    requires one { IsReady tree.now one }
-    requires two { IsReady tree.now two }
-    ensures one { IsReady tree.now result.0.0 }
-    ensures two { IsReady tree.now result.1.0 }
+    requires one { MayCall tree.now one }
+    requires two { MayCall tree.now two }
+    ensures one { MayCall tree.now result.0.0 }
+    ensures two { MayCall tree.now result.1.0 }
 {
     join(
         rt,
         move || -> (Worker, Score)
-            requires { IsReady tree.now one }
-            ensures { IsReady tree.entry.now result.0 }
+            requires { MayCall tree.now one }
+            ensures { MayCall tree.entry.now result.0 }
         { rounds(tree, one, 0, ROUNDS) },
         move || -> (Worker, Score)
-            requires { IsReady tree.now two }
-            ensures { IsReady tree.entry.now result.0 }
+            requires { MayCall tree.now two }
+            ensures { MayCall tree.entry.now result.0 }
         { rounds(tree, two, 7, ROUNDS) },
     )
 }
 
 /// How many of the ten keys are in the set.
 fn there(tree: &Tree, worker: &mut Worker) -> u32
-    requires { IsReady tree.now worker.old }
-    ensures { IsReady tree.now worker.new }
+    requires { MayCall tree.now worker.old }
+    ensures { MayCall tree.now worker.new }
 {
     let mut found = 0u32;
     for number in 0..KEYS {

@@ -1,4 +1,4 @@
-use Rattle.std.proofs.Common.{rules, ◌≡◌, ℕ, suc, ◌+◌, List, [], ◌∷◌, ◌++◌, length, sym, ap, subst, ◌∙◌, arith}
+use Rattle.std.proofs.Common.{◌≡◌, ℕ, suc, ◌+◌, List, [], ◌∷◌, ◌++◌, length, sym, ap, subst, ◌∙◌, arith}
 use Rattle.std.proofs.lemmas.List.{length-append, append_assoc, nil_from_length}
 use Rattle.nm_edge.specs.declared.node.NodeId.{NodeId}
 use Rattle.nm_order.specs.Facts.Fact.{KnowsSlot, IsTagged}
@@ -8,7 +8,7 @@ use Rattle.nm_calls.specs.Telling.{Tells}
 use Rattle.nm_calls.specs.Walks.{ChainLeads}
 use Rattle.nm_calls.specs.declared.spot.ChainEdge.{ChainEdge}
 use Rattle.nm_calls.proofs.Freezing.{top_of, frozen_end, frozen_above}
-use Rattle.nm_calls.proofs.GoingOn.{pinned_still}
+use Rattle.nm_calls.proofs.GoingOn.{pinned_in_still}
 use Rattle.nm_calls.proofs.Standing.{leads_kept}
 use Rattle.nm_calls.proofs.cutting.+freeze.Goals as goal
 
@@ -33,7 +33,7 @@ freeze-requires t c =
     let frozen = c.add_frozen-in-Some.ensures.frozen in
     let more : length c.add_frozen-in-Some.new.nodes.items ≡ length c.args.nodes.now.items + 2 = ap (λ (ns : List NodeId). length ns) frozen.3 ∙ length-append c.args.nodes.now.items (frozen.0 ∷ frozen.1 ∷ []) in
     let room = c.requires.room in
-    (omega (arith, longer), (search rules, (c.add_frozen-in-Some.ensures.on.run, (pinned_still p r c.add_frozen-in-Some.ensures.on c.requires.pinned, (below, (known, ((c.requires.tagged.0, keeps (IsTagged c.args.parent c.args.keep c.requires.tagged.0) c.requires.tagged.1), omega (arith, longer, more, room))))))))
+    (omega (arith, longer), (pinned_in_still c.args.shared.now p r c.add_frozen-in-Some.ensures.on c.requires.pinned, (below, (known, ((c.requires.tagged.0, keeps (IsTagged c.args.parent c.args.keep c.requires.tagged.0) c.requires.tagged.1), omega (arith, longer, more, room))))))
 
 pub returns-in-None-clause-frozen : goal.returns-in-None-clause-frozen
 returns-in-None-clause-frozen t c =

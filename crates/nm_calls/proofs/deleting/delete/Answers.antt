@@ -1,5 +1,6 @@
 use Rattle.std.proofs.Common.{rules, ap, subst}
 use Rattle.std.specs.Prelude.{IfOk, IfErr}
+use Rattle.nm_steps.proofs.Seeing.{seen_all}
 use Rattle.nm_calls.specs.Deletes.{DeleteFinishes, FlagsThen, LacksRoomOr}
 use Rattle.nm_calls.specs.declared.deleting.Removal.TheVariants as removal
 use Rattle.nm_model.specs.Searches.{Search}
@@ -12,38 +13,54 @@ use Rattle.nm_calls.proofs.Rooms.{takes_then}
 use Rattle.nm_calls.proofs.Waiting.{may_grow_first, few_in_table}
 use Rattle.nm_calls.proofs.deleting.delete.Goals as goal
 
-pub returns-clause-did : goal.returns-clause-did
-returns-clause-did c =
+pub returns-clause-after : goal.returns-clause-after
+returns-clause-after c =
+    let nodes = c.args.shared.now.layout.nodes in
+    let old = c.args.pass.now.view.log in
     let a = c.pin_for.new.pass.view.log in
     let new = c.delete_pinned.new.pass.view.log in
-    delete_did c.args.shared.now.layout.nodes c.args.tries c.args.key c.args.pass.now.view.log new c.delete_pinned.result
-    (a, c.in-Ok._epoch, c.in-Ok.ensures.pinned, subst (λ k. DeleteFinishes c.args.shared.now.layout.nodes c.args.tries k a new c.delete_pinned.result) c.get.ensures.number c.delete_pinned.ensures.part)
+    let part = subst (λ k. DeleteFinishes nodes c.args.tries k a new c.delete_pinned.result) c.get.ensures.number c.delete_pinned.ensures.part in
+    record {
+      same = search rules;
+      past = search (rules, seen_all);
+      did = delete_did nodes c.args.tries c.args.key old new c.delete_pinned.result (a, c.in-Ok._epoch, c.in-Ok.ensures.pinned, part);
+      moment = (
+          let pinned : HadNoCall c.args.pass.now c.pin_for.new.pass = record { seen = c.is_of_a_run.ensures.seen; same = c.pin_for.ensures.same; past = c.pin_for.ensures.past; call = ap (λ (s : Search). s.call) c.requires.rests.idle } in
+          subst (λ k. IfOk c.delete_pinned.result (AnswerHasMoment c.args.pass.now c.delete_pinned.new.pass Delete k)) c.get.ensures.number (c.delete_pinned.ensures.moment c.args.pass.now pinned)
+          );
+      won = delete_wins nodes c.args.tries c.args.key old a new c.in-Ok._epoch c.in-Ok.ensures.pinned c.delete_pinned.result part;
+      steps = delete_steps nodes c.args.tries c.args.key old a new c.in-Ok._epoch c.in-Ok.ensures.pinned c.delete_pinned.result part;
+      run = search rules;
+      stands = search rules;
+      private = search rules;
+      ledgers = search rules;
+    }
 
-pub returns-in_default-clause-won : goal.returns-in_default-clause-won
-returns-in_default-clause-won c = has_won _ _ (moved_adds Delete c.args.key c.args.tries c.args.pass.now.view.log c.pin_for.new.pass.view.log c.in_default.ensures.moved)
+pub returns-in_default-clause-after : goal.returns-in_default-clause-after
+returns-in_default-clause-after c = record {
+  same = search rules;
+  past = search (rules, seen_all);
+  did = search rules;
+  moment = search rules;
+  won = has_won _ _ (moved_adds Delete c.args.key c.args.tries c.args.pass.now.view.log c.pin_for.new.pass.view.log c.in_default.ensures.moved);
+  steps = search rules;
+  run = search rules;
+  stands = search rules;
+  private = search rules;
+  ledgers = search rules;
+}
 
-pub returns-in_default-clause-counted : goal.returns-in_default-clause-counted
-returns-in_default-clause-counted c = counts_on _ _ _ (moved_adds Delete c.args.key c.args.tries c.args.pass.now.view.log c.pin_for.new.pass.view.log c.in_default.ensures.moved) c.requires.counted
+pub returns-in_default-clause-kept : goal.returns-in_default-clause-kept
+returns-in_default-clause-kept c = record { queue = search rules; counted = counts_on _ _ _ (moved_adds Delete c.args.key c.args.tries c.args.pass.now.view.log c.pin_for.new.pass.view.log c.in_default.ensures.moved) c.requires.kept.counted }
 
-pub delete_pinned-requires-clause-counted : goal.delete_pinned-requires-clause-counted
-delete_pinned-requires-clause-counted c = counts_on _ _ _ (pin_adds Delete c.args.key c.args.tries c.args.pass.now.view.log c.pin_for.new.pass.view.log c.in-Ok._epoch c.in-Ok.ensures.pinned) c.requires.counted
-
-pub returns-clause-won : goal.returns-clause-won
-returns-clause-won c = delete_wins c.args.shared.now.layout.nodes c.args.tries c.args.key c.args.pass.now.view.log c.pin_for.new.pass.view.log c.delete_pinned.new.pass.view.log c.in-Ok._epoch c.in-Ok.ensures.pinned c.delete_pinned.result (subst (λ k. DeleteFinishes c.args.shared.now.layout.nodes c.args.tries k c.pin_for.new.pass.view.log c.delete_pinned.new.pass.view.log c.delete_pinned.result) c.get.ensures.number c.delete_pinned.ensures.part)
-
-pub returns-clause-steps : goal.returns-clause-steps
-returns-clause-steps c = delete_steps c.args.shared.now.layout.nodes c.args.tries c.args.key c.args.pass.now.view.log c.pin_for.new.pass.view.log c.delete_pinned.new.pass.view.log c.in-Ok._epoch c.in-Ok.ensures.pinned c.delete_pinned.result (subst (λ k. DeleteFinishes c.args.shared.now.layout.nodes c.args.tries k c.pin_for.new.pass.view.log c.delete_pinned.new.pass.view.log c.delete_pinned.result) c.get.ensures.number c.delete_pinned.ensures.part)
+pub delete_pinned-requires-clause-kept : goal.delete_pinned-requires-clause-kept
+delete_pinned-requires-clause-kept c = record { queue = search rules; counted = counts_on _ _ _ (pin_adds Delete c.args.key c.args.tries c.args.pass.now.view.log c.pin_for.new.pass.view.log c.in-Ok._epoch c.in-Ok.ensures.pinned) c.requires.kept.counted }
 
 pub make_room-requires : goal.make_room-requires
 make_room-requires c = record { few = may_grow_first c.args.shared.now c.args.pass.now c.args.queue.now.items c.requires.own c.is_of_a_run.ensures.fits c.requires.few }
 
 pub returns-clause-few : goal.returns-clause-few
-returns-clause-few c = few_in_table c.args.shared.now c.args.pass.now c.delete_pinned.new.pass c.delete_pinned.new.queue.items c.requires.own (search rules) c.delete_pinned.ensures.run c.delete_pinned.ensures.queue
-
-pub returns-clause-moment : goal.returns-clause-moment
-returns-clause-moment c =
-    let pinned : HadNoCall c.args.pass.now c.pin_for.new.pass = record { seen = c.is_of_a_run.ensures.seen; same = c.pin_for.ensures.same; past = c.pin_for.ensures.past; call = ap (λ (s : Search). s.call) c.requires.rests.idle } in
-    subst (λ k. IfOk c.delete_pinned.result (AnswerHasMoment c.args.pass.now c.delete_pinned.new.pass Delete k)) c.get.ensures.number (c.delete_pinned.ensures.moment c.args.pass.now pinned)
+returns-clause-few c = few_in_table c.args.shared.now c.args.pass.now c.delete_pinned.new.pass c.delete_pinned.new.queue.items c.requires.own (search rules) c.delete_pinned.ensures.run c.delete_pinned.ensures.kept.queue
 
 pub returns-clause-refused : goal.returns-clause-refused
 returns-clause-refused c =

@@ -11,38 +11,38 @@ use Rattle.nm_calls.proofs.deleting.delete_pinned.Goals as goal
 pub remove_after-requires-clause-removing : goal.remove_after-requires-clause-removing
 remove_after-requires-clause-removing c =
     let shows = c.in-Flagged.ensures.shows in
-    removing_from c.args.pass.now c.inject.new.pass c.args.key (leaf_of c.in-Flagged.end c.in-Flagged.birth) c.requires.pinned c.requires.root c.requires.known c.requires.call c.requires.labelled c.inject.ensures.on c.inject.ensures.only shows.0 shows.2
+    removing_from c.args.pass.now c.inject.new.pass c.args.key (leaf_of c.in-Flagged.end c.in-Flagged.birth) c.requires.pinned.pin c.requires.call c.requires.unchanged.labelled c.inject.ensures.on c.inject.ensures.only shows.0 shows.2
 
 pub returns-in-Refused-clause-part : goal.returns-in-Refused-clause-part
-returns-in-Refused-clause-part c = (c.inject.new.chain.items, c.inject.new.pass.view.log, c.in-Refused.ensures.part, ap (λ (x : Stand). x.view.log) c.leave.ensures.step)
+returns-in-Refused-clause-part c = (c.inject.new.workspace.chain.items, c.inject.new.pass.view.log, c.in-Refused.ensures.part, ap (λ (x : Stand). x.view.log) c.leave.ensures.step)
 
 pub returns-in-Spent-clause-part : goal.returns-in-Spent-clause-part
-returns-in-Spent-clause-part c = (c.inject.new.chain.items, c.inject.new.pass.view.log, c.in-Spent.ensures.part, ap (λ (x : Stand). x.view.log) c.leave-in-Spent.ensures.step)
+returns-in-Spent-clause-part c = (c.inject.new.workspace.chain.items, c.inject.new.pass.view.log, c.in-Spent.ensures.part, ap (λ (x : Stand). x.view.log) c.leave-in-Spent.ensures.step)
 
-pub returns-in-Refused-remove_after-clause-after : goal.returns-in-Refused-remove_after-clause-after
-returns-in-Refused-remove_after-clause-after c =
+pub returns-in-Refused-remove_after-clause-stands : goal.returns-in-Refused-remove_after-clause-stands
+returns-in-Refused-remove_after-clause-stands c =
     let shows = c.in-Flagged.ensures.shows in
     let n = leaf_of c.in-Flagged.end c.in-Flagged.birth in
-    let there = removing_from c.args.pass.now c.inject.new.pass c.args.key n c.requires.pinned c.requires.root c.requires.known c.requires.call c.requires.labelled c.inject.ensures.on c.inject.ensures.only shows.0 shows.2 in
+    let there = removing_from c.args.pass.now c.inject.new.pass c.args.key n c.requires.pinned.pin c.requires.call c.requires.unchanged.labelled c.inject.ensures.on c.inject.ensures.only shows.0 shows.2 in
     rw c.leaf_at-leaf.ensures (removing_on c.inject.new.pass c.remove_after.new.pass c.args.key n there c.remove_after.ensures.on c.remove_after.ensures.only)
 
-pub returns-in-Spent-remove_after-clause-after : goal.returns-in-Spent-remove_after-clause-after
-returns-in-Spent-remove_after-clause-after c =
+pub returns-in-Spent-remove_after-clause-stands : goal.returns-in-Spent-remove_after-clause-stands
+returns-in-Spent-remove_after-clause-stands c =
     let shows = c.in-Flagged.ensures.shows in
     let n = leaf_of c.in-Flagged.end c.in-Flagged.birth in
-    let there = removing_from c.args.pass.now c.inject.new.pass c.args.key n c.requires.pinned c.requires.root c.requires.known c.requires.call c.requires.labelled c.inject.ensures.on c.inject.ensures.only shows.0 shows.2 in
+    let there = removing_from c.args.pass.now c.inject.new.pass c.args.key n c.requires.pinned.pin c.requires.call c.requires.unchanged.labelled c.inject.ensures.on c.inject.ensures.only shows.0 shows.2 in
     rw c.leaf_at-leaf.ensures (removing_on c.inject.new.pass c.remove_after.new.pass c.args.key n there c.remove_after.ensures.on c.remove_after.ensures.only)
 
 pub returns-in-Absent-clause-moment : goal.returns-in-Absent-clause-moment
 returns-in-Absent-clause-moment c = λ o had.
-    c.answer.ensures.moment o Delete c.args.key (no_call_on o c.args.pass.now c.inject.new.pass had c.inject.ensures.same c.inject.ensures.past) (c.inject.ensures.on.keeps (CallIs Delete c.args.key) c.requires.call)
+    c.answer.ensures.moment o Delete c.args.key (no_call_on o c.args.pass.now c.inject.new.pass had c.inject.ensures.on.same c.inject.ensures.on.past) (c.inject.ensures.on.keeps (CallIs Delete c.args.key) c.requires.call.call)
 
 pub returns-in-Removed-clause-moment : goal.returns-in-Removed-clause-moment
 returns-in-Removed-clause-moment c = λ o had.
     let call = CallIs Delete c.args.key in
-    let injected = no_call_on o c.args.pass.now c.inject.new.pass had c.inject.ensures.same c.inject.ensures.past in
-    c.answer-in-Removed.ensures.moment o Delete c.args.key (no_call_on o c.inject.new.pass c.remove_after.new.pass injected c.remove_after.ensures.same c.remove_after.ensures.past)
-    (c.remove_after.ensures.on.keeps call (c.inject.ensures.on.keeps call c.requires.call))
+    let injected = no_call_on o c.args.pass.now c.inject.new.pass had c.inject.ensures.on.same c.inject.ensures.on.past in
+    c.answer-in-Removed.ensures.moment o Delete c.args.key (no_call_on o c.inject.new.pass c.remove_after.new.pass injected c.remove_after.ensures.on.same c.remove_after.ensures.on.past)
+    (c.remove_after.ensures.on.keeps call (c.inject.ensures.on.keeps call c.requires.call.call))
 
 pub returns-in-Removed-clause-blocks : goal.returns-in-Removed-clause-blocks
 returns-in-Removed-clause-blocks c = takes_then c.args.queue.now c.inject.new.queue c.remove_after.new.queue c.inject.ensures.blocks c.remove_after.ensures.blocks

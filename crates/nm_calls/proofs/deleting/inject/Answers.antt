@@ -1,33 +1,25 @@
 use Rattle.std.proofs.Common.{rules, add-one, arith, ◌∙◌}
-use Rattle.nm_steps.proofs.Seeing.{seen_through}
-use Rattle.nm_order.specs.Facts.Fact.{KnowsSlot}
-use Rattle.nm_calls.proofs.GoingOn.{goes_then}
+use Rattle.nm_model.specs.declared.event.Op.TheVariants.{Delete}
+use Rattle.nm_calls.proofs.GoingOn.{goes_then, call_still}
 use Rattle.nm_calls.proofs.Rooms.{takes_then, takes_fills, later_refused}
 use Rattle.nm_calls.proofs.Waiting.{may_grow_more}
 use Rattle.nm_calls.proofs.deleting.inject.Goals as goal
 
-pub try_flag-requires-clause-root : goal.try_flag-requires-clause-root
-try_flag-requires-clause-root c = c.loop-round.invariant.on.keeps (KnowsSlot 1) c.requires.root
-
-pub try_flag-requires-clause-known : goal.try_flag-requires-clause-known
-try_flag-requires-clause-known c = c.loop-round.invariant.on.keeps (KnowsSlot 2) c.requires.known
+pub try_flag-requires-clause-call : goal.try_flag-requires-clause-call
+try_flag-requires-clause-call c = call_still Delete c.args.key c.args.pass.now c.loop-round.pass c.loop-round.invariant.on c.requires.call
 
 pub make_room-requires : goal.make_room-requires
-make_room-requires c = record { few = may_grow_more c.loop-round.pass c.loop-round.queue.items c.loop-round.invariant.run c.loop-round.invariant.queue }
+make_room-requires c = record { few = may_grow_more c.loop-round.pass c.loop-round.queue.items c.loop-round.invariant.on.run c.loop-round.invariant.kept.queue }
 
 pub loop-round-preserved : goal.loop-round-preserved
 loop-round-preserved c = record {
-  same = search rules;
-  past = seen_through _ _ _ c.loop-round.invariant.past c.try_flag.ensures.past;
-  lost = rw add-one (c.try_flag.new.chain.items, c.loop-round.pass.view.log, c.loop-round.invariant.lost, c.in-Lost.ensures.part);
-  run = c.try_flag.ensures.on.run;
+  lost = rw add-one (c.try_flag.new.workspace.chain.items, c.loop-round.pass.view.log, c.loop-round.invariant.lost, c.in-Lost.ensures.part);
   on = goes_then c.args.pass.now c.loop-round.pass c.try_flag.new.pass c.loop-round.invariant.on c.try_flag.ensures.on;
   only = search rules;
   unflagged = c.in-Lost.ensures.shows ∙ c.loop-round.invariant.unflagged;
   first = λ none'. omega (arith, none');
   blocks = takes_fills c.args.queue.now c.make_room.new.queue c.try_flag.new.queue (takes_then c.args.queue.now c.loop-round.queue c.make_room.new.queue c.loop-round.invariant.blocks c.make_room.ensures.blocks) c.try_flag.ensures.fills;
-  queue = c.try_flag.ensures.queue;
-  counted = c.try_flag.ensures.counted;
+  kept = c.try_flag.ensures.kept;
 }
 
 pub returns-then-not-make_room-clause-part : goal.returns-then-not-make_room-clause-part

@@ -1,27 +1,22 @@
-use Rattle.std.proofs.Common.{rules, add-one}
+use Rattle.std.proofs.Common.{add-one}
 use Rattle.nm_calls.proofs.GoingOn.{goes_then}
 use Rattle.nm_calls.proofs.Removals.{cleans_then, removing_on}
 use Rattle.nm_calls.proofs.Rooms.{takes_then, takes_fills}
 use Rattle.nm_calls.proofs.Waiting.{may_grow_more}
-use Rattle.nm_steps.proofs.Seeing.{seen_through}
 use Rattle.nm_calls.proofs.deleting.remove.Goals as goal
 
 pub loop-round-preserved : goal.loop-round-preserved
 loop-round-preserved c = record {
-  same = search rules;
-  past = seen_through _ _ _ c.loop-round.invariant.past c.try_remove.ensures.past;
   lost = rw add-one (c.loop-round.pass.view.log, c.loop-round.invariant.lost, c.try_remove.ensures.lost c.if-try_remove.false);
-  run = c.try_remove.ensures.on.run;
   removing = removing_on c.loop-round.pass c.try_remove.new.pass c.args.key c.args.leaf c.loop-round.invariant.removing c.try_remove.ensures.on c.try_remove.ensures.only;
   on = goes_then c.args.pass.now c.loop-round.pass c.try_remove.new.pass c.loop-round.invariant.on c.try_remove.ensures.on;
-  only = cleans_then c.args.pass.now c.loop-round.pass c.try_remove.new.pass c.loop-round.invariant.same c.loop-round.invariant.only c.try_remove.ensures.only;
+  only = cleans_then c.args.pass.now c.loop-round.pass c.try_remove.new.pass c.loop-round.invariant.on.same c.loop-round.invariant.only c.try_remove.ensures.only;
   blocks = takes_fills c.args.queue.now c.make_room.new.queue c.try_remove.new.queue (takes_then c.args.queue.now c.loop-round.queue c.make_room.new.queue c.loop-round.invariant.blocks c.make_room.ensures.blocks) c.try_remove.ensures.fills;
-  queue = c.try_remove.ensures.queue;
-  counted = c.try_remove.ensures.counted;
+  kept = c.try_remove.ensures.kept;
 }
 
 pub make_room-requires : goal.make_room-requires
-make_room-requires c = record { few = may_grow_more c.loop-round.pass c.loop-round.queue.items c.loop-round.invariant.run c.loop-round.invariant.queue }
+make_room-requires c = record { few = may_grow_more c.loop-round.pass c.loop-round.queue.items c.loop-round.invariant.on.run c.loop-round.invariant.kept.queue }
 
 pub returns-then-not-make_room-clause-blocks : goal.returns-then-not-make_room-clause-blocks
 returns-then-not-make_room-clause-blocks c = takes_then c.args.queue.now c.loop-round.queue c.make_room.new.queue c.loop-round.invariant.blocks c.make_room.ensures.blocks

@@ -1,7 +1,5 @@
-use Rattle.std.proofs.Common.{◌-◌, List, inl, arith, subst}
+use Rattle.std.proofs.Common.{◌-◌, inl, arith, subst}
 use Rattle.nm_edge.specs.declared.node.NodeId.{NodeId}
-use Rattle.nm_calls.specs.declared.spot.ChainEdge.{ChainEdge}
-use Rattle.nm_calls.specs.Cleanups.{CleanupWon, CleanupLost}
 use Rattle.nm_calls.specs.Deletes.{IsRemoval, leaf_of}
 use Rattle.nm_calls.proofs.Removals.{removing_on, removal_after}
 use Rattle.nm_calls.proofs.Rooms.{takes_then, takes_fills}
@@ -11,7 +9,7 @@ use Rattle.nm_calls.proofs.deleting.remove_after.Goals as goal
 pub returns-then-cleanup-clause-part : goal.returns-then-cleanup-clause-part
 returns-then-cleanup-clause-part c =
     let w = c.cleanup.ensures.won c.if-cleanup.true in
-    inl (c.if-left-eq0.false, w.nodes, w.epoch, subst (λ (ch : List ChainEdge). CleanupWon c.args.end.now.spot ch w.nodes w.epoch c.args.pass.now.view.log c.cleanup.new.pass.view.log) c.as_slice.ensures.value w.part, w.leaf c.args.end.now.spot.edge.slot c.args.birth c.requires.edge c.requires.removing.born)
+    inl (c.if-left-eq0.false, w.nodes, w.epoch, w.part, w.leaf c.args.end.now.spot.edge.slot c.args.birth c.requires.edge c.requires.removing.born)
 
 pub remove-requires-clause-removing : goal.remove-requires-clause-removing
 remove-requires-clause-removing c =
@@ -23,12 +21,12 @@ returns-clause-part c =
     let mid = c.cleanup.new.pass.view.log in
     let lost = (c.cleanup.ensures.lost c.if-cleanup.false).part in
     let some = c.if-left-eq0.false in
-    removal_after c.args.shared.now.layout.nodes c.args.key r c.args.chain.now.items c.args.birth c.args.left (c.args.left - 1) c.args.pass.now.view.log mid c.remove.new.pass.view.log c.remove.result (omega (arith, some))
-    (subst (λ (ch : List ChainEdge). CleanupLost r.spot ch c.args.pass.now.view.log mid) c.as_slice.ensures.value lost)
+    removal_after c.args.shared.now.layout.nodes c.args.key r c.args.workspace.now.chain.items c.args.birth c.args.left (c.args.left - 1) c.args.pass.now.view.log mid c.remove.new.pass.view.log c.remove.result (omega (arith, some))
+    lost
     (subst (λ (n : NodeId). IsRemoval c.args.shared.now.layout.nodes c.args.key n (c.args.left - 1) mid c.remove.new.pass.view.log c.remove.result) c.leaf_at-leaf.ensures c.remove.ensures.part)
 
 pub make_room-requires : goal.make_room-requires
-make_room-requires c = record { few = may_grow_more c.args.pass.now c.args.queue.now.items c.requires.run c.requires.queue }
+make_room-requires c = record { few = may_grow_more c.args.pass.now c.args.queue.now.items c.requires.removing.run c.requires.kept.queue }
 
 pub returns-then-cleanup-clause-blocks : goal.returns-then-cleanup-clause-blocks
 returns-then-cleanup-clause-blocks c = takes_fills c.args.queue.now c.make_room.new.queue c.cleanup.new.queue c.make_room.ensures.blocks c.cleanup.ensures.fills

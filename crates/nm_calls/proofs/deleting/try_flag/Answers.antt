@@ -1,10 +1,8 @@
-use Rattle.std.proofs.Common.{List, inr, sym, subst, ◌∙◌}
+use Rattle.std.proofs.Common.{rules, inr, ◌∙◌}
 use Rattle.nm_model.specs.declared.event.Op.TheVariants.{Delete}
 use Rattle.nm_order.specs.Facts.Since.{ThePin}
-use Rattle.nm_calls.specs.declared.spot.ChainEdge.{ChainEdge}
 use Rattle.nm_calls.specs.Telling.{Tells}
-use Rattle.nm_calls.specs.Walks.{IsAt}
-use Rattle.nm_calls.specs.Inserts.{Helps}
+use Rattle.nm_calls.proofs.GoingOn.{goes_then}
 use Rattle.nm_calls.proofs.Standing.{at_kept}
 use Rattle.nm_calls.proofs.Removals.{may_flag_there}
 use Rattle.nm_calls.proofs.Adding.{counts_on, adds_then, seeks_adds}
@@ -14,53 +12,65 @@ use Rattle.nm_calls.proofs.deleting.try_flag.Goals as goal
 pub returns-then-end-key-clause-shows : goal.returns-then-end-key-clause-shows
 returns-then-end-key-clause-shows c =
     let e = c.in-Some.end in
-    ((e.spot.edge.slot, e.key, c.if-end-key.true, (e.spot.parent, e.spot.side, c.in-Some.ensures.found ThePin (Delete, c.requires.call))), c.seek.ensures.only.flagged ∙ c.requires.unflagged)
+    ((e.spot.edge.slot, e.key, c.if-end-key.true, (e.spot.parent, e.spot.side, c.in-Some.ensures.found ThePin (Delete, c.requires.call.call))), c.seek.ensures.only.flagged ∙ c.requires.unflagged)
 
 pub flag_at-requires-clause-may : goal.flag_at-requires-clause-may
 flag_at-requires-clause-may c =
-    may_flag_there c.args.pass.now c.seek.new.pass c.args.key c.args.shared.now.layout.nodes c.in-Some.end c.seek.new.chain.items c.requires.call c.requires.unflagged c.requires.low c.seek.ensures.on c.seek.ensures.only
+    may_flag_there c.args.pass.now c.seek.new.pass c.args.key c.args.shared.now.layout.nodes c.in-Some.end c.seek.new.chain.items c.requires.call.call c.requires.unflagged c.requires.low c.seek.ensures.on c.seek.ensures.only
     c.in-Some.ensures.ended c.in-Some.ensures.high c.in-Some.ensures.found c.if-end-key.false
 
 pub help-requires-clause-at : goal.help-requires-clause-at
 help-requires-clause-at c =
-    subst (λ (ch : List ChainEdge). IsAt (Tells c.flag_at.new.pass) c.in-Some.end.spot ch) (sym c.as_slice.ensures.value)
-    (at_kept (Tells c.seek.new.pass) (Tells c.flag_at.new.pass) (λ fact holds. c.flag_at.ensures.on.keeps fact holds) c.in-Some.end.spot c.seek.new.chain.items c.in-Some.ensures.ended.at)
+    at_kept (Tells c.seek.new.pass) (Tells c.flag_at.new.pass) (λ fact holds. c.flag_at.ensures.on.keeps fact holds) c.in-Some.end.spot c.seek.new.chain.items c.in-Some.ensures.ended.at
 
 pub returns-in-Ok-clause-shows : goal.returns-in-Ok-clause-shows
 returns-in-Ok-clause-shows c =
     let w = c.in-Ok.ensures.won in
     (w.flagged, w.edge, w.born, at_kept (Tells c.seek.new.pass) (Tells c.flag_at.new.pass) (λ fact holds. c.flag_at.ensures.on.keeps fact holds) c.in-Some.end.spot c.seek.new.chain.items c.in-Some.ensures.ended.at, c.in-Some.ensures.few)
 
+pub returns-in-Err-clause-on : goal.returns-in-Err-clause-on
+returns-in-Err-clause-on c =
+    let q = c.help.new.pass in
+    goes_then c.args.pass.now c.seek.new.pass q c.seek.ensures.on (goes_then c.seek.new.pass c.flag_at.new.pass q c.flag_at.ensures.on c.help.ensures.on)
+
 pub returns-in-Err-clause-part : goal.returns-in-Err-clause-part
 returns-in-Err-clause-part c =
     let w = c.in-Err.ensures.lost in
     let r = c.in-Some.end in
-    inr (
+    rw c.help.ensures.chain (inr (
       r,
       w.birth,
       c.in-Err.found,
       c.flag_at.new.pass.view.log,
       record { ended = c.seek.new.pass.view.log; walk = c.in-Some.ensures.walk; same = c.if-end-key.false; entries = w.part },
-      subst (λ (ch : List ChainEdge). Helps r ch c.in-Err.found c.flag_at.new.pass.view.log c.help.new.pass.view.log) c.as_slice.ensures.value c.help.ensures.part,
-    )
+      c.help.ensures.part,
+    ))
 
-pub returns-in_default-clause-counted : goal.returns-in_default-clause-counted
-returns-in_default-clause-counted c = counts_on _ _ _ (seeks_adds c.args.shared.now.layout.nodes c.args.key c.args.pass.now.view.log c.seek.new.pass.view.log c.seek.new.chain.items c.seek.result c.seek.ensures.walk) c.requires.counted
+pub returns-in_default-clause-kept : goal.returns-in_default-clause-kept
+returns-in_default-clause-kept c = record { queue = search rules; counted = counts_on _ _ _ (seeks_adds c.args.shared.now.layout.nodes c.args.key c.args.pass.now.view.log c.seek.new.pass.view.log c.seek.new.chain.items c.seek.result c.seek.ensures.walk) c.requires.kept.counted }
 
-pub returns-then-end-key-clause-counted : goal.returns-then-end-key-clause-counted
-returns-then-end-key-clause-counted c = counts_on _ _ _ (seeks_adds c.args.shared.now.layout.nodes c.args.key c.args.pass.now.view.log c.seek.new.pass.view.log c.seek.new.chain.items c.seek.result c.seek.ensures.walk) c.requires.counted
+pub returns-then-end-key-clause-kept : goal.returns-then-end-key-clause-kept
+returns-then-end-key-clause-kept c = record { queue = search rules; counted = counts_on _ _ _ (seeks_adds c.args.shared.now.layout.nodes c.args.key c.args.pass.now.view.log c.seek.new.pass.view.log c.seek.new.chain.items c.seek.result c.seek.ensures.walk) c.requires.kept.counted }
 
-pub help-requires-clause-counted : goal.help-requires-clause-counted
-help-requires-clause-counted c =
-    let old = c.args.pass.now.view.log in
-    let mid = c.seek.new.pass.view.log in
-    let new = c.flag_at.new.pass.view.log in
-    let lost = c.in-Err.ensures.lost in
-    counts_on _ old new (adds_then old mid new (seeks_adds c.args.shared.now.layout.nodes c.args.key c.args.pass.now.view.log c.seek.new.pass.view.log c.seek.new.chain.items c.seek.result c.seek.ensures.walk) (flag_lost_adds c.in-Some.end lost.birth c.in-Err.found mid new lost.part)) c.requires.counted
+pub help-requires-clause-kept : goal.help-requires-clause-kept
+help-requires-clause-kept c = record {
+  queue = search rules;
+  counted = (
+      let old = c.args.pass.now.view.log in
+      let mid = c.seek.new.pass.view.log in
+      let new = c.flag_at.new.pass.view.log in
+      let lost = c.in-Err.ensures.lost in
+      counts_on _ old new (adds_then old mid new (seeks_adds c.args.shared.now.layout.nodes c.args.key c.args.pass.now.view.log c.seek.new.pass.view.log c.seek.new.chain.items c.seek.result c.seek.ensures.walk) (flag_lost_adds c.in-Some.end lost.birth c.in-Err.found mid new lost.part)) c.requires.kept.counted
+      );
+}
 
-pub returns-in-Ok-clause-counted : goal.returns-in-Ok-clause-counted
-returns-in-Ok-clause-counted c =
-    let old = c.args.pass.now.view.log in
-    let mid = c.seek.new.pass.view.log in
-    let new = c.flag_at.new.pass.view.log in
-    counts_on _ old new (adds_then old mid new (seeks_adds c.args.shared.now.layout.nodes c.args.key c.args.pass.now.view.log c.seek.new.pass.view.log c.seek.new.chain.items c.seek.result c.seek.ensures.walk) (flag_won_adds c.in-Some.end c.in-Ok.birth mid new c.in-Ok.ensures.won.part)) c.requires.counted
+pub returns-in-Ok-clause-kept : goal.returns-in-Ok-clause-kept
+returns-in-Ok-clause-kept c = record {
+  queue = search rules;
+  counted = (
+      let old = c.args.pass.now.view.log in
+      let mid = c.seek.new.pass.view.log in
+      let new = c.flag_at.new.pass.view.log in
+      counts_on _ old new (adds_then old mid new (seeks_adds c.args.shared.now.layout.nodes c.args.key c.args.pass.now.view.log c.seek.new.pass.view.log c.seek.new.chain.items c.seek.result c.seek.ensures.walk) (flag_won_adds c.in-Some.end c.in-Ok.birth mid new c.in-Ok.ensures.won.part)) c.requires.kept.counted
+      );
+}

@@ -1,7 +1,5 @@
-use Rattle.std.proofs.Common.{List, inl, inr, subst, ◌∙◌}
+use Rattle.std.proofs.Common.{rules, inl, inr, ◌∙◌}
 use Rattle.nm_order.specs.Facts.Fact.{IsBorn}
-use Rattle.nm_calls.specs.declared.spot.ChainEdge.{ChainEdge}
-use Rattle.nm_calls.specs.Cleanups.{CleanupWon}
 use Rattle.nm_calls.proofs.Removals.{elsewhere_shows, found_flagged, cleanup_shows}
 use Rattle.nm_calls.proofs.Adding.{counts_on, seeks_adds}
 use Rattle.nm_calls.proofs.deleting.try_remove.Goals as goal
@@ -28,7 +26,7 @@ returns-clause-removed c = λ yes.
         w.epoch,
         c.in-Some.ensures.walk,
         c.leads_to.ensures.yes c.if-not-leads_to.false,
-        subst (λ (ch : List ChainEdge). CleanupWon c.in-Some.end.spot ch w.nodes w.epoch c.seek.new.pass.view.log c.cleanup.new.pass.view.log) c.as_slice.ensures.value w.part,
+        w.part,
         w.leaf c.args.leaf.slot c.args.leaf.birth edge (c.seek.ensures.on.keeps (IsBorn c.args.leaf.slot c.args.leaf.birth) c.requires.removing.born),
       ),
     )
@@ -39,14 +37,14 @@ returns-clause-shows c = λ yes.
     let n = c.args.leaf in
     let p = c.seek.new.pass in
     let edge = found_flagged c.args.pass.now p c.args.key n e.spot.edge.slot e.spot.parent e.key e.spot.side c.requires.removing c.seek.ensures.on.run c.seek.ensures.only.flagged c.in-Some.ensures.found (c.leads_to.ensures.yes c.if-not-leads_to.false) in
-    cleanup_shows p c.cleanup.new.pass e.spot c.as_slice.result.now _ _ c.args.key n (c.cleanup.ensures.won yes) (c.seek.ensures.only.flagged ∙ c.requires.removing.flagged) c.cleanup.ensures.only.flagged edge
+    cleanup_shows p c.cleanup.new.pass e.spot c.seek.new.chain.items _ _ c.args.key n (c.cleanup.ensures.won yes) (c.seek.ensures.only.flagged ∙ c.requires.removing.flagged) c.cleanup.ensures.only.flagged edge
     (c.seek.ensures.on.keeps (IsBorn n.slot n.birth) c.requires.removing.born)
 
-pub returns-in_default-clause-counted : goal.returns-in_default-clause-counted
-returns-in_default-clause-counted c = counts_on _ _ _ (seeks_adds c.args.shared.now.layout.nodes c.args.key c.args.pass.now.view.log c.seek.new.pass.view.log c.seek.new.chain.items c.seek.result c.seek.ensures.walk) c.requires.counted
+pub returns-in_default-clause-kept : goal.returns-in_default-clause-kept
+returns-in_default-clause-kept c = record { queue = search rules; counted = counts_on _ _ _ (seeks_adds c.args.shared.now.layout.nodes c.args.key c.args.pass.now.view.log c.seek.new.pass.view.log c.seek.new.chain.items c.seek.result c.seek.ensures.walk) c.requires.kept.counted }
 
-pub returns-then-not-leads_to-clause-counted : goal.returns-then-not-leads_to-clause-counted
-returns-then-not-leads_to-clause-counted c = counts_on _ _ _ (seeks_adds c.args.shared.now.layout.nodes c.args.key c.args.pass.now.view.log c.seek.new.pass.view.log c.seek.new.chain.items c.seek.result c.seek.ensures.walk) c.requires.counted
+pub returns-then-not-leads_to-clause-kept : goal.returns-then-not-leads_to-clause-kept
+returns-then-not-leads_to-clause-kept c = record { queue = search rules; counted = counts_on _ _ _ (seeks_adds c.args.shared.now.layout.nodes c.args.key c.args.pass.now.view.log c.seek.new.pass.view.log c.seek.new.chain.items c.seek.result c.seek.ensures.walk) c.requires.kept.counted }
 
-pub cleanup-requires-clause-counted : goal.cleanup-requires-clause-counted
-cleanup-requires-clause-counted c = counts_on _ _ _ (seeks_adds c.args.shared.now.layout.nodes c.args.key c.args.pass.now.view.log c.seek.new.pass.view.log c.seek.new.chain.items c.seek.result c.seek.ensures.walk) c.requires.counted
+pub cleanup-requires-clause-kept : goal.cleanup-requires-clause-kept
+cleanup-requires-clause-kept c = record { queue = search rules; counted = counts_on _ _ _ (seeks_adds c.args.shared.now.layout.nodes c.args.key c.args.pass.now.view.log c.seek.new.pass.view.log c.seek.new.chain.items c.seek.result c.seek.ensures.walk) c.requires.kept.counted }

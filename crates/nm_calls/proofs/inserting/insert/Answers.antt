@@ -1,6 +1,7 @@
 use Rattle.std.proofs.Common.{rules, ap, subst}
 use Rattle.std.specs.Prelude.{IfOk}
 use Rattle.nm_model.specs.declared.event.Op.TheVariants.{Insert}
+use Rattle.nm_steps.proofs.Seeing.{seen_all}
 use Rattle.nm_calls.specs.Inserts.{Finishes}
 use Rattle.nm_model.specs.Searches.{Search}
 use Rattle.nm_calls.specs.Moments.{AnswerHasMoment, HadNoCall}
@@ -10,38 +11,54 @@ use Rattle.nm_calls.proofs.Rooms.{takes_then}
 use Rattle.nm_calls.proofs.Waiting.{may_grow_first, few_in_table}
 use Rattle.nm_calls.proofs.inserting.insert.Goals as goal
 
-pub returns-clause-did : goal.returns-clause-did
-returns-clause-did c =
+pub returns-clause-after : goal.returns-clause-after
+returns-clause-after c =
+    let nodes = c.args.shared.now.layout.nodes in
+    let old = c.args.pass.now.view.log in
     let a = c.pin_for.new.pass.view.log in
     let new = c.insert_pinned.new.pass.view.log in
-    insert_did c.args.placement.now c.args.shared.now.layout.nodes c.args.tries c.args.key c.args.pass.now.view.log new c.insert_pinned.result
-    (a, c.in-Ok._epoch, c.in-Ok.ensures.pinned, subst (λ k. Finishes c.args.placement.now c.args.shared.now.layout.nodes c.args.tries k a new c.insert_pinned.result) c.get.ensures.number c.insert_pinned.ensures.part)
+    let part = subst (λ k. Finishes c.args.placement.now nodes c.args.tries k a new c.insert_pinned.result) c.get.ensures.number c.insert_pinned.ensures.part in
+    record {
+      same = search rules;
+      past = search (rules, seen_all);
+      did = insert_did c.args.placement.now nodes c.args.tries c.args.key old new c.insert_pinned.result (a, c.in-Ok._epoch, c.in-Ok.ensures.pinned, part);
+      moment = (
+          let pinned : HadNoCall c.args.pass.now c.pin_for.new.pass = record { seen = c.is_of_a_run.ensures.seen; same = c.pin_for.ensures.same; past = c.pin_for.ensures.past; call = ap (λ (s : Search). s.call) c.requires.rests.idle } in
+          subst (λ k. IfOk c.insert_pinned.result (AnswerHasMoment c.args.pass.now c.insert_pinned.new.pass Insert k)) c.get.ensures.number (c.insert_pinned.ensures.moment c.args.pass.now pinned)
+          );
+      won = insert_wins c.args.placement.now nodes c.args.tries c.args.key old a new c.in-Ok._epoch c.in-Ok.ensures.pinned c.insert_pinned.result part;
+      steps = insert_steps c.args.placement.now nodes c.args.tries c.args.key old a new c.in-Ok._epoch c.in-Ok.ensures.pinned c.insert_pinned.result part;
+      run = search rules;
+      rests = search rules;
+      private = search rules;
+      ledgers = search rules;
+    }
 
-pub returns-in_default-clause-won : goal.returns-in_default-clause-won
-returns-in_default-clause-won c = has_won _ _ (moved_adds Insert c.args.key c.args.tries c.args.pass.now.view.log c.pin_for.new.pass.view.log c.in_default.ensures.moved)
+pub returns-in_default-clause-after : goal.returns-in_default-clause-after
+returns-in_default-clause-after c = record {
+  same = search rules;
+  past = search (rules, seen_all);
+  did = search rules;
+  moment = search rules;
+  won = has_won _ _ (moved_adds Insert c.args.key c.args.tries c.args.pass.now.view.log c.pin_for.new.pass.view.log c.in_default.ensures.moved);
+  steps = search rules;
+  run = search rules;
+  rests = search rules;
+  private = search rules;
+  ledgers = search rules;
+}
 
-pub returns-in_default-clause-counted : goal.returns-in_default-clause-counted
-returns-in_default-clause-counted c = counts_on _ _ _ (moved_adds Insert c.args.key c.args.tries c.args.pass.now.view.log c.pin_for.new.pass.view.log c.in_default.ensures.moved) c.requires.counted
+pub returns-in_default-clause-kept : goal.returns-in_default-clause-kept
+returns-in_default-clause-kept c = record { queue = search rules; counted = counts_on _ _ _ (moved_adds Insert c.args.key c.args.tries c.args.pass.now.view.log c.pin_for.new.pass.view.log c.in_default.ensures.moved) c.requires.kept.counted }
 
-pub insert_pinned-requires-clause-counted : goal.insert_pinned-requires-clause-counted
-insert_pinned-requires-clause-counted c = counts_on _ _ _ (pin_adds Insert c.args.key c.args.tries c.args.pass.now.view.log c.pin_for.new.pass.view.log c.in-Ok._epoch c.in-Ok.ensures.pinned) c.requires.counted
-
-pub returns-clause-won : goal.returns-clause-won
-returns-clause-won c = insert_wins c.args.placement.now c.args.shared.now.layout.nodes c.args.tries c.args.key c.args.pass.now.view.log c.pin_for.new.pass.view.log c.insert_pinned.new.pass.view.log c.in-Ok._epoch c.in-Ok.ensures.pinned c.insert_pinned.result (subst (λ k. Finishes c.args.placement.now c.args.shared.now.layout.nodes c.args.tries k c.pin_for.new.pass.view.log c.insert_pinned.new.pass.view.log c.insert_pinned.result) c.get.ensures.number c.insert_pinned.ensures.part)
-
-pub returns-clause-steps : goal.returns-clause-steps
-returns-clause-steps c = insert_steps c.args.placement.now c.args.shared.now.layout.nodes c.args.tries c.args.key c.args.pass.now.view.log c.pin_for.new.pass.view.log c.insert_pinned.new.pass.view.log c.in-Ok._epoch c.in-Ok.ensures.pinned c.insert_pinned.result (subst (λ k. Finishes c.args.placement.now c.args.shared.now.layout.nodes c.args.tries k c.pin_for.new.pass.view.log c.insert_pinned.new.pass.view.log c.insert_pinned.result) c.get.ensures.number c.insert_pinned.ensures.part)
+pub insert_pinned-requires-clause-kept : goal.insert_pinned-requires-clause-kept
+insert_pinned-requires-clause-kept c = record { queue = search rules; counted = counts_on _ _ _ (pin_adds Insert c.args.key c.args.tries c.args.pass.now.view.log c.pin_for.new.pass.view.log c.in-Ok._epoch c.in-Ok.ensures.pinned) c.requires.kept.counted }
 
 pub make_room-requires : goal.make_room-requires
 make_room-requires c = record { few = may_grow_first c.args.shared.now c.args.pass.now c.args.queue.now.items c.requires.own c.is_of_a_run.ensures.fits c.requires.few }
 
 pub returns-clause-few : goal.returns-clause-few
-returns-clause-few c = few_in_table c.args.shared.now c.args.pass.now c.insert_pinned.new.pass c.insert_pinned.new.queue.items c.requires.own (search rules) c.insert_pinned.ensures.run c.insert_pinned.ensures.queue
-
-pub returns-clause-moment : goal.returns-clause-moment
-returns-clause-moment c =
-    let pinned : HadNoCall c.args.pass.now c.pin_for.new.pass = record { seen = c.is_of_a_run.ensures.seen; same = c.pin_for.ensures.same; past = c.pin_for.ensures.past; call = ap (λ (s : Search). s.call) c.requires.rests.idle } in
-    subst (λ k. IfOk c.insert_pinned.result (AnswerHasMoment c.args.pass.now c.insert_pinned.new.pass Insert k)) c.get.ensures.number (c.insert_pinned.ensures.moment c.args.pass.now pinned)
+returns-clause-few c = few_in_table c.args.shared.now c.args.pass.now c.insert_pinned.new.pass c.insert_pinned.new.queue.items c.requires.own (search rules) c.insert_pinned.ensures.run c.insert_pinned.ensures.kept.queue
 
 pub returns-clause-blocks : goal.returns-clause-blocks
 returns-clause-blocks c = takes_then c.args.queue.now c.make_room.new.queue c.insert_pinned.new.queue c.make_room.ensures.blocks c.insert_pinned.ensures.blocks

@@ -2,7 +2,7 @@ use Rattle.std.proofs.Common.{rules, add-one, arith, refl, ap, subst, ◌∙◌}
 use Rattle.std.specs.Prelude.{Option, None}
 use Rattle.nm_model.specs.declared.event.Op.TheVariants.{Insert}
 use Rattle.nm_model.specs.Searches.{Search}
-use Rattle.nm_order.specs.Facts.Fact.{KnowsSlot, CallIs}
+use Rattle.nm_order.specs.Facts.Fact.{CallIs}
 use Rattle.nm_calls.specs.declared.growing.Fork.{Fork}
 use Rattle.nm_pool.specs.declared.placement.Fit.{Fit}
 use Rattle.nm_calls.specs.declared.inserting.Attempt.TheVariants as attempt
@@ -10,23 +10,19 @@ use Rattle.nm_calls.specs.Inserts.{HasFork, IsTry}
 use Rattle.nm_steps.specs.Steps.{Stand}
 use Rattle.nm_calls.proofs.Adding.{adds_then, adds_these, counts_on}
 use Rattle.nm_calls.proofs.AddingInserts.{back_adds}
-use Rattle.nm_calls.proofs.GoingOn.{goes_then}
+use Rattle.nm_calls.proofs.GoingOn.{goes_then, call_still}
 use Rattle.nm_calls.proofs.Moments.{no_call_on}
 use Rattle.nm_calls.proofs.Forks.{if_ready, none_left, tries_then, found_answer}
 use Rattle.nm_calls.proofs.Rooms.{takes_then, takes_fills, later_refused}
 use Rattle.nm_calls.proofs.Waiting.{may_grow_more}
-use Rattle.nm_steps.proofs.Seeing.{seen_through}
 use Rattle.nm_calls.proofs.inserting.insert_pinned.Goals as goal
 
 pub returns-then-not-make_room-clause-private : goal.returns-then-not-make_room-clause-private
 returns-then-not-make_room-clause-private c =
     none_left c.args.pass.now c.give_back.new.pass c.leave.new.pass c.leave.ensures.hands.private (c.give_back.ensures.given c.args.pass.now c.loop-round.invariant.has)
 
-pub try_insert-requires-clause-root : goal.try_insert-requires-clause-root
-try_insert-requires-clause-root c = c.loop-round.invariant.on.keeps (KnowsSlot 1) c.requires.root
-
-pub try_insert-requires-clause-known : goal.try_insert-requires-clause-known
-try_insert-requires-clause-known c = c.loop-round.invariant.on.keeps (KnowsSlot 2) c.requires.known
+pub try_insert-requires-clause-call : goal.try_insert-requires-clause-call
+try_insert-requires-clause-call c = call_still Insert c.args.key c.args.pass.now c.loop-round.pass c.loop-round.invariant.on c.requires.call
 
 pub give_back-requires-in-Found-clause-ready : goal.give_back-requires-in-Found-clause-ready
 give_back-requires-in-Found-clause-ready c = if_ready c.args.pass.now c.try_insert.new.pass c.try_insert.new.fork (c.try_insert.ensures.has c.args.pass.now c.loop-round.invariant.has)
@@ -35,7 +31,7 @@ pub answer-requires-clause-shown : goal.answer-requires-clause-shown
 answer-requires-clause-shown c =
     let shows = c.in-Found.ensures.shows in
     found_answer c.try_insert.new.pass c.give_back-in-Found.new.pass c.args.key c.give_back-in-Found.ensures.on (ap (λ (s : Search). s.linked) c.give_back-in-Found.ensures.only.search) (shows.1 ∙ c.loop-round.invariant.unlinked)
-    (c.try_insert.ensures.on.keeps (CallIs Insert c.args.key) (c.loop-round.invariant.on.keeps (CallIs Insert c.args.key) c.requires.call)) shows.0
+    (c.try_insert.ensures.on.keeps (CallIs Insert c.args.key) (c.loop-round.invariant.on.keeps (CallIs Insert c.args.key) c.requires.call.call)) shows.0
 
 pub returns-in-Found-clause-private : goal.returns-in-Found-clause-private
 returns-in-Found-clause-private c =
@@ -53,18 +49,15 @@ returns-in-Full-clause-private c =
 
 pub loop-round-preserved : goal.loop-round-preserved
 loop-round-preserved c = record {
-  same = search rules;
-  past = seen_through _ _ _ c.loop-round.invariant.past c.try_insert.ensures.past;
   lost = rw add-one (c.loop-round.fork, c.loop-round.pass.view.log, c.loop-round.invariant.lost, subst (λ (f : Fit). IsTry f c.args.shared.now.layout.nodes c.args.key c.loop-round.fork c.try_insert.new.fork c.loop-round.pass.view.log c.try_insert.new.pass.view.log attempt.Lost) c.loop-round.invariant.fit c.in-Lost.ensures.part);
   on = goes_then c.args.pass.now c.loop-round.pass c.try_insert.new.pass c.loop-round.invariant.on c.try_insert.ensures.on;
-  only = tries_then c.args.pass.now c.loop-round.pass c.try_insert.new.pass c.loop-round.invariant.same c.loop-round.invariant.only c.try_insert.ensures.only;
+  only = tries_then c.args.pass.now c.loop-round.pass c.try_insert.new.pass c.loop-round.invariant.on.same c.loop-round.invariant.only c.try_insert.ensures.only;
   unlinked = c.in-Lost.ensures.shows ∙ c.loop-round.invariant.unlinked;
   has = c.try_insert.ensures.has c.args.pass.now c.loop-round.invariant.has;
   first = λ none'. omega (arith, none');
   blocks = takes_fills c.args.queue.now c.make_room.new.queue c.try_insert.new.queue (takes_then c.args.queue.now c.loop-round.queue c.make_room.new.queue c.loop-round.invariant.blocks c.make_room.ensures.blocks) c.try_insert.ensures.fills;
-  queue = c.try_insert.ensures.queue;
+  kept = c.try_insert.ensures.kept;
   fit = c.try_insert.ensures.fit ∙ c.loop-round.invariant.fit;
-  counted = c.try_insert.ensures.counted;
 }
 
 pub returns-clause-private : goal.returns-clause-private
@@ -72,29 +65,33 @@ returns-clause-private c =
     none_left c.args.pass.now c.give_back-2.new.pass c.leave-2.new.pass c.leave-2.ensures.hands.private (c.give_back-2.ensures.given c.args.pass.now c.loop-round.invariant.has)
 
 pub make_room-requires : goal.make_room-requires
-make_room-requires c = record { few = may_grow_more c.loop-round.pass c.loop-round.queue.items c.loop-round.invariant.on.run c.loop-round.invariant.queue }
+make_room-requires c = record { few = may_grow_more c.loop-round.pass c.loop-round.queue.items c.loop-round.invariant.on.run c.loop-round.invariant.kept.queue }
 
 pub returns-in-Found-clause-moment : goal.returns-in-Found-clause-moment
 returns-in-Found-clause-moment c = λ o had.
     let call = CallIs Insert c.args.key in
-    let round = no_call_on o c.args.pass.now c.loop-round.pass had c.loop-round.invariant.same c.loop-round.invariant.past in
-    let tried = no_call_on o c.loop-round.pass c.try_insert.new.pass round c.try_insert.ensures.same c.try_insert.ensures.past in
-    c.answer.ensures.moment o Insert c.args.key (no_call_on o c.try_insert.new.pass c.give_back-in-Found.new.pass tried c.give_back-in-Found.ensures.same c.give_back-in-Found.ensures.past)
-    (c.give_back-in-Found.ensures.on.keeps call (c.try_insert.ensures.on.keeps call (c.loop-round.invariant.on.keeps call c.requires.call)))
+    let round = no_call_on o c.args.pass.now c.loop-round.pass had c.loop-round.invariant.on.same c.loop-round.invariant.on.past in
+    let tried = no_call_on o c.loop-round.pass c.try_insert.new.pass round c.try_insert.ensures.on.same c.try_insert.ensures.on.past in
+    c.answer.ensures.moment o Insert c.args.key (no_call_on o c.try_insert.new.pass c.give_back-in-Found.new.pass tried c.give_back-in-Found.ensures.on.same c.give_back-in-Found.ensures.on.past)
+    (c.give_back-in-Found.ensures.on.keeps call (c.try_insert.ensures.on.keeps call (c.loop-round.invariant.on.keeps call c.requires.call.call)))
 
 pub returns-in-Linked-clause-moment : goal.returns-in-Linked-clause-moment
 returns-in-Linked-clause-moment c = λ o had.
     let call = CallIs Insert c.args.key in
-    let round = no_call_on o c.args.pass.now c.loop-round.pass had c.loop-round.invariant.same c.loop-round.invariant.past in
-    c.answer-in-Linked.ensures.moment o Insert c.args.key (no_call_on o c.loop-round.pass c.try_insert.new.pass round c.try_insert.ensures.same c.try_insert.ensures.past)
-    (c.try_insert.ensures.on.keeps call (c.loop-round.invariant.on.keeps call c.requires.call))
+    let round = no_call_on o c.args.pass.now c.loop-round.pass had c.loop-round.invariant.on.same c.loop-round.invariant.on.past in
+    c.answer-in-Linked.ensures.moment o Insert c.args.key (no_call_on o c.loop-round.pass c.try_insert.new.pass round c.try_insert.ensures.on.same c.try_insert.ensures.on.past)
+    (c.try_insert.ensures.on.keeps call (c.loop-round.invariant.on.keeps call c.requires.call.call))
 
-pub returns-in-Found-clause-counted : goal.returns-in-Found-clause-counted
-returns-in-Found-clause-counted c =
-    let tried = c.try_insert.new.pass.view.log in
-    let back = c.give_back-in-Found.new.pass.view.log in
-    let new = c.answer.new.pass.view.log in
-    counts_on _ tried new (adds_then tried back new (back_adds c.try_insert.new.fork tried back c.give_back-in-Found.ensures.part) (adds_these _ back new (ap (λ (s : Stand). s.view.log) c.answer.ensures.step))) c.try_insert.ensures.counted
+pub returns-in-Found-clause-kept : goal.returns-in-Found-clause-kept
+returns-in-Found-clause-kept c = record {
+  queue = search rules;
+  counted = (
+      let tried = c.try_insert.new.pass.view.log in
+      let back = c.give_back-in-Found.new.pass.view.log in
+      let new = c.answer.new.pass.view.log in
+      counts_on _ tried new (adds_then tried back new (back_adds c.try_insert.new.fork tried back c.give_back-in-Found.ensures.part) (adds_these _ back new (ap (λ (s : Stand). s.view.log) c.answer.ensures.step))) c.try_insert.ensures.kept.counted
+      );
+}
 
 pub returns-then-not-make_room-clause-part : goal.returns-then-not-make_room-clause-part
 returns-then-not-make_room-clause-part c = (

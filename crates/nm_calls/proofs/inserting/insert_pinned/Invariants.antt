@@ -1,19 +1,14 @@
 use Rattle.std.proofs.Common.{◌≡◌, ◌≤◌, false}
-use Rattle.nm_steps.specs.Rules.{knowledge}
-use Rattle.nm_steps.specs.Steps.{IsSamePass, HasSeenAllOf}
-use Rattle.nm_epoch.specs.Collecting.{IsQueueOf}
 use Rattle.nm_epoch.specs.Resting.{search}
 use Rattle.nm_calls.specs.Bounds.{cut_bound}
 use Rattle.nm_calls.specs.Rooms.{TakesRoom}
 use Rattle.nm_calls.specs.Telling.{GoesOn}
-use Rattle.nm_calls.specs.Won.{capped, won_splices}
 use Rattle.nm_calls.specs.Inserts.{HasFork, LostInserts, OnlyTries}
+use Rattle.nm_calls.specs.Cleanups.{HoldsCuts}
 use Rattle.nm_calls.proofs.inserting.insert_pinned.Given as goal
 
 abbrev pub invariant-loop-round : goal.invariant-loop-round
 invariant-loop-round l = record {
-  same : IsSamePass l.fn.pass l.pass;
-  past : HasSeenAllOf l.pass l.fn.pass;
   lost : LostInserts l.fn.placement l.shared.layout.nodes l.key l._round l.fork l.fn.pass.view.log l.pass.view.log;
   on : GoesOn l.fn.pass l.pass;
   only : OnlyTries l.fn.pass l.pass;
@@ -21,7 +16,6 @@ invariant-loop-round l = record {
   has : HasFork l.fn.pass l.pass l.fork;
   first : l._round ≡ 0 → cut_bound ≤ l.queue.spare;
   blocks : TakesRoom l.fn.queue l.queue;
-  queue : IsQueueOf (knowledge l.pass.view) l.pass.view.number l.queue.items;
+  kept : HoldsCuts l.pass l.queue l.splices;
   fit : l.placement ≡ l.fn.placement;
-  counted : l.splices ≡ capped (won_splices l.pass.view.log);
 }

@@ -1,15 +1,12 @@
-use Rattle.std.proofs.Common.{rules, List, inr, sym, subst}
+use Rattle.std.proofs.Common.{rules, inr, sym, subst}
 use Rattle.nm_model.specs.declared.event.Op.TheVariants.{Insert}
 use Rattle.nm_order.specs.Facts.Since.{ThePin}
 use Rattle.nm_order.specs.Facts.Fact.{EndedAt}
-use Rattle.nm_calls.specs.declared.spot.ChainEdge.{ChainEdge}
 use Rattle.nm_calls.specs.Telling.{Tells}
-use Rattle.nm_calls.specs.Walks.{IsAt}
 use Rattle.nm_calls.specs.Inserts.{HasFork, HoldsFork}
 use Rattle.nm_calls.proofs.GoingOn.{goes_then}
 use Rattle.nm_calls.proofs.Standing.{at_kept}
 use Rattle.nm_calls.proofs.Forks.{kept_fork, lost_fork, linked_fork, held_fork, may_grow}
-use Rattle.nm_calls.specs.Inserts.{Helps}
 use Rattle.nm_calls.proofs.Adding.{counts_on, adds_then, seeks_adds}
 use Rattle.nm_calls.proofs.AddingInserts.{readied_adds, grows_won, grows_lost}
 use Rattle.nm_calls.proofs.inserting.try_insert.Goals as goal
@@ -17,70 +14,92 @@ use Rattle.nm_calls.proofs.inserting.try_insert.Goals as goal
 pub returns-then-end-key-clause-shows : goal.returns-then-end-key-clause-shows
 returns-then-end-key-clause-shows c =
     let e = c.in-Some.end in
-    let ended = c.in-Some.ensures.found ThePin (Insert, c.requires.call) in
+    let ended = c.in-Some.ensures.found ThePin (Insert, c.requires.call.call) in
     ((e.spot.edge.slot, (e.spot.parent, e.spot.side, subst (λ n. Tells c.seek.new.pass (EndedAt ThePin c.args.key e.spot.edge.slot e.spot.parent e.spot.side n)) c.if-end-key.true ended)), c.seek.ensures.only.linked)
 
 pub returns-in_default-ready-clause-has : goal.returns-in_default-ready-clause-has
-returns-in_default-ready-clause-has c = λ o has. c.ready.ensures.has o (kept_fork o c.args.pass.now c.seek.new.pass c.args.fork.now c.seek.ensures.same c.seek.ensures.only.private has)
+returns-in_default-ready-clause-has c = λ o has. c.ready.ensures.has o (kept_fork o c.args.pass.now c.seek.new.pass c.args.fork.now c.seek.ensures.on.same c.seek.ensures.only.private has)
 
 pub grow-requires-clause-may : goal.grow-requires-clause-may
 grow-requires-clause-may c =
     let o = c.requires.fork.0 in
-    let has = c.ready.ensures.has o (kept_fork o c.args.pass.now c.seek.new.pass c.args.fork.now c.seek.ensures.same c.seek.ensures.only.private c.requires.fork.1) in
+    let has = c.ready.ensures.has o (kept_fork o c.args.pass.now c.seek.new.pass c.args.fork.now c.seek.ensures.on.same c.seek.ensures.only.private c.requires.fork.1) in
     let made = held_fork o c.ready.new.pass c.ready.new.fork c.in-Some-ready.made c.in-Some-ready.ensures.part.0 has in
-    may_grow c.args.shared.now c.args.pass.now c.seek.new.pass c.ready.new.pass c.args.key c.in-Some.end c.seek.new.chain.items c.in-Some-ready.made (search rules) c.requires.call c.requires.unlinked
+    may_grow c.args.shared.now c.args.pass.now c.seek.new.pass c.ready.new.pass c.args.key c.in-Some.end c.seek.new.chain.items c.in-Some-ready.made (search rules) c.requires.call.call c.requires.unlinked
     c.seek.ensures.on c.seek.ensures.only c.in-Some.ensures.ended c.in-Some.ensures.found c.if-end-key.false c.ready.ensures.on c.ready.ensures.only made.ready
 
 pub help-requires-clause-at : goal.help-requires-clause-at
 help-requires-clause-at c =
     let on = goes_then c.seek.new.pass c.ready.new.pass c.grow.new.pass c.ready.ensures.on c.grow.ensures.on in
-    subst (λ (ch : List ChainEdge). IsAt (Tells c.grow.new.pass) c.in-Some.end.spot ch) (sym c.as_slice.ensures.value)
-    (at_kept (Tells c.seek.new.pass) (Tells c.grow.new.pass) (λ fact holds. on.keeps fact holds) c.in-Some.end.spot c.seek.new.chain.items c.in-Some.ensures.ended.at)
+    at_kept (Tells c.seek.new.pass) (Tells c.grow.new.pass) (λ fact holds. on.keeps fact holds) c.in-Some.end.spot c.seek.new.chain.items c.in-Some.ensures.ended.at
+
+pub returns-in-Ok-clause-on : goal.returns-in-Ok-clause-on
+returns-in-Ok-clause-on c =
+    let q = c.grow.new.pass in
+    goes_then c.args.pass.now c.seek.new.pass q c.seek.ensures.on (goes_then c.seek.new.pass c.ready.new.pass q c.ready.ensures.on c.grow.ensures.on)
+
+pub returns-in-Err-clause-on : goal.returns-in-Err-clause-on
+returns-in-Err-clause-on c =
+    let q = c.help.new.pass in
+    let grown = goes_then c.ready.new.pass c.grow.new.pass q c.grow.ensures.on c.help.ensures.on in
+    goes_then c.args.pass.now c.seek.new.pass q c.seek.ensures.on (goes_then c.seek.new.pass c.ready.new.pass q c.ready.ensures.on grown)
 
 pub returns-in-Ok-clause-has : goal.returns-in-Ok-clause-has
 returns-in-Ok-clause-has c = λ o has.
-    let there = c.ready.ensures.has o (kept_fork o c.args.pass.now c.seek.new.pass c.args.fork.now c.seek.ensures.same c.seek.ensures.only.private has) in
+    let there = c.ready.ensures.has o (kept_fork o c.args.pass.now c.seek.new.pass c.args.fork.now c.seek.ensures.on.same c.seek.ensures.only.private has) in
     linked_fork o c.ready.new.pass c.grow.new.pass c.args.key c.in-Some.end c.in-Some-ready.made (held_fork o c.ready.new.pass c.ready.new.fork c.in-Some-ready.made c.in-Some-ready.ensures.part.0 there) c.in-Ok.ensures.won
 
 pub returns-in-Err-clause-has : goal.returns-in-Err-clause-has
 returns-in-Err-clause-has c = λ o has.
-    let there = c.ready.ensures.has o (kept_fork o c.args.pass.now c.seek.new.pass c.args.fork.now c.seek.ensures.same c.seek.ensures.only.private has) in
+    let there = c.ready.ensures.has o (kept_fork o c.args.pass.now c.seek.new.pass c.args.fork.now c.seek.ensures.on.same c.seek.ensures.only.private has) in
     let is = c.in-Some-ready.ensures.part.0 in
     let now : HoldsFork o c.grow.new.pass c.in-Some-ready.made =
     lost_fork o c.ready.new.pass c.grow.new.pass c.args.key c.in-Some.end c.in-Some-ready.made c.in-Err.found (held_fork o c.ready.new.pass c.ready.new.fork c.in-Some-ready.made is there) c.in-Err.ensures.lost in
-    kept_fork o c.grow.new.pass c.help.new.pass c.ready.new.fork c.help.ensures.same c.help.ensures.only.private (subst (λ f. HasFork o c.grow.new.pass f) (sym is) now)
+    kept_fork o c.grow.new.pass c.help.new.pass c.ready.new.fork c.help.ensures.on.same c.help.ensures.only.private (subst (λ f. HasFork o c.grow.new.pass f) (sym is) now)
 
-pub returns-in_default-clause-counted : goal.returns-in_default-clause-counted
-returns-in_default-clause-counted c = counts_on _ _ _ (seeks_adds c.args.shared.now.layout.nodes c.args.key c.args.pass.now.view.log c.seek.new.pass.view.log c.seek.new.chain.items c.seek.result c.seek.ensures.walk) c.requires.counted
+pub returns-in_default-clause-kept : goal.returns-in_default-clause-kept
+returns-in_default-clause-kept c = record { queue = search rules; counted = counts_on _ _ _ (seeks_adds c.args.shared.now.layout.nodes c.args.key c.args.pass.now.view.log c.seek.new.pass.view.log c.seek.new.chain.items c.seek.result c.seek.ensures.walk) c.requires.kept.counted }
 
-pub returns-then-end-key-clause-counted : goal.returns-then-end-key-clause-counted
-returns-then-end-key-clause-counted c = counts_on _ _ _ (seeks_adds c.args.shared.now.layout.nodes c.args.key c.args.pass.now.view.log c.seek.new.pass.view.log c.seek.new.chain.items c.seek.result c.seek.ensures.walk) c.requires.counted
+pub returns-then-end-key-clause-kept : goal.returns-then-end-key-clause-kept
+returns-then-end-key-clause-kept c = record { queue = search rules; counted = counts_on _ _ _ (seeks_adds c.args.shared.now.layout.nodes c.args.key c.args.pass.now.view.log c.seek.new.pass.view.log c.seek.new.chain.items c.seek.result c.seek.ensures.walk) c.requires.kept.counted }
 
-pub returns-in_default-ready-clause-counted : goal.returns-in_default-ready-clause-counted
-returns-in_default-ready-clause-counted c =
-    let nodes = c.args.shared.now.layout.nodes in
-    let old = c.args.pass.now.view.log in
-    let mid = c.seek.new.pass.view.log in
-    let claimed = c.ready.new.pass.view.log in
-    counts_on _ old claimed (adds_then old mid claimed (seeks_adds c.args.shared.now.layout.nodes c.args.key c.args.pass.now.view.log c.seek.new.pass.view.log c.seek.new.chain.items c.seek.result c.seek.ensures.walk) (readied_adds c.args.placement.now nodes c.args.fork.now c.ready.new.fork c.ready.result mid claimed c.ready.ensures.part)) c.requires.counted
+pub returns-in_default-ready-clause-kept : goal.returns-in_default-ready-clause-kept
+returns-in_default-ready-clause-kept c = record {
+  queue = search rules;
+  counted = (
+      let nodes = c.args.shared.now.layout.nodes in
+      let old = c.args.pass.now.view.log in
+      let mid = c.seek.new.pass.view.log in
+      let claimed = c.ready.new.pass.view.log in
+      counts_on _ old claimed (adds_then old mid claimed (seeks_adds c.args.shared.now.layout.nodes c.args.key c.args.pass.now.view.log c.seek.new.pass.view.log c.seek.new.chain.items c.seek.result c.seek.ensures.walk) (readied_adds c.args.placement.now nodes c.args.fork.now c.ready.new.fork c.ready.result mid claimed c.ready.ensures.part)) c.requires.kept.counted
+      );
+}
 
-pub help-requires-clause-counted : goal.help-requires-clause-counted
-help-requires-clause-counted c =
-    let nodes = c.args.shared.now.layout.nodes in
-    let old = c.args.pass.now.view.log in
-    let mid = c.seek.new.pass.view.log in
-    let claimed = c.ready.new.pass.view.log in
-    let new = c.grow.new.pass.view.log in
-    counts_on _ old new (adds_then old mid new (seeks_adds c.args.shared.now.layout.nodes c.args.key c.args.pass.now.view.log c.seek.new.pass.view.log c.seek.new.chain.items c.seek.result c.seek.ensures.walk) (adds_then mid claimed new (readied_adds c.args.placement.now nodes c.args.fork.now c.ready.new.fork c.ready.result mid claimed c.ready.ensures.part) (grows_lost c.args.key c.in-Some.end c.in-Some-ready.made c.in-Err.found claimed new c.in-Err.ensures.lost.part))) c.requires.counted
+pub help-requires-clause-kept : goal.help-requires-clause-kept
+help-requires-clause-kept c = record {
+  queue = search rules;
+  counted = (
+      let nodes = c.args.shared.now.layout.nodes in
+      let old = c.args.pass.now.view.log in
+      let mid = c.seek.new.pass.view.log in
+      let claimed = c.ready.new.pass.view.log in
+      let new = c.grow.new.pass.view.log in
+      counts_on _ old new (adds_then old mid new (seeks_adds c.args.shared.now.layout.nodes c.args.key c.args.pass.now.view.log c.seek.new.pass.view.log c.seek.new.chain.items c.seek.result c.seek.ensures.walk) (adds_then mid claimed new (readied_adds c.args.placement.now nodes c.args.fork.now c.ready.new.fork c.ready.result mid claimed c.ready.ensures.part) (grows_lost c.args.key c.in-Some.end c.in-Some-ready.made c.in-Err.found claimed new c.in-Err.ensures.lost.part))) c.requires.kept.counted
+      );
+}
 
-pub returns-in-Ok-clause-counted : goal.returns-in-Ok-clause-counted
-returns-in-Ok-clause-counted c =
-    let nodes = c.args.shared.now.layout.nodes in
-    let old = c.args.pass.now.view.log in
-    let mid = c.seek.new.pass.view.log in
-    let claimed = c.ready.new.pass.view.log in
-    let new = c.grow.new.pass.view.log in
-    counts_on _ old new (adds_then old mid new (seeks_adds c.args.shared.now.layout.nodes c.args.key c.args.pass.now.view.log c.seek.new.pass.view.log c.seek.new.chain.items c.seek.result c.seek.ensures.walk) (adds_then mid claimed new (readied_adds c.args.placement.now nodes c.args.fork.now c.ready.new.fork c.ready.result mid claimed c.ready.ensures.part) (grows_won c.args.key c.in-Some.end c.in-Some-ready.made claimed new c.in-Ok.ensures.won.part))) c.requires.counted
+pub returns-in-Ok-clause-kept : goal.returns-in-Ok-clause-kept
+returns-in-Ok-clause-kept c = record {
+  queue = search rules;
+  counted = (
+      let nodes = c.args.shared.now.layout.nodes in
+      let old = c.args.pass.now.view.log in
+      let mid = c.seek.new.pass.view.log in
+      let claimed = c.ready.new.pass.view.log in
+      let new = c.grow.new.pass.view.log in
+      counts_on _ old new (adds_then old mid new (seeks_adds c.args.shared.now.layout.nodes c.args.key c.args.pass.now.view.log c.seek.new.pass.view.log c.seek.new.chain.items c.seek.result c.seek.ensures.walk) (adds_then mid claimed new (readied_adds c.args.placement.now nodes c.args.fork.now c.ready.new.fork c.ready.result mid claimed c.ready.ensures.part) (grows_won c.args.key c.in-Some.end c.in-Some-ready.made claimed new c.in-Ok.ensures.won.part))) c.requires.kept.counted
+      );
+}
 
 pub returns-in-Err-clause-part : goal.returns-in-Err-clause-part
 returns-in-Err-clause-part c =
@@ -94,5 +113,5 @@ returns-in-Err-clause-part c =
       c.grow.new.pass.view.log,
       record { ended = c.seek.new.pass.view.log; walk = c.in-Some.ensures.walk; other = c.if-end-key.false; claimed = c.ready.new.pass.view.log; readies = ready.1; grows = c.in-Err.ensures.lost.part },
       ready.0,
-      subst (λ (ch : List ChainEdge). Helps r ch c.in-Err.found c.grow.new.pass.view.log c.help.new.pass.view.log) c.as_slice.ensures.value c.help.ensures.part,
+      c.help.ensures.part,
     )

@@ -4,7 +4,7 @@ use Rattle.nm_calls.proofs.Looks.{goes_on}
 use Rattle.nm_calls.proofs.leaving.label.Goals as goal
 
 pub returns-clause-on : goal.returns-clause-on
-returns-clause-on c = goes_on c.args.pass.now c.label-epoch.new.pass _ _ c.label-epoch.ensures.step refl refl c.is_of_a_run.ensures.fits c.is_of_a_run.ensures.run
+returns-clause-on c = goes_on c.args.pass.now c.label-epoch.new.pass _ _ c.label-epoch.ensures.step c.label-epoch.ensures.past refl refl c.is_of_a_run.ensures.fits c.is_of_a_run.ensures.run
 
 pub returns-clause-only : goal.returns-clause-only
 returns-clause-only c = only_labels c.args.pass.now c.label-epoch.new.pass c.label-epoch.result c.label-epoch.ensures.step

@@ -1,16 +1,15 @@
 use Rattle.nm_order.specs.Facts.Fact.{KnowsSlot}
-use Rattle.nm_calls.proofs.GoingOn.{goes_then, only_then, pinned_still, told_onward}
-use Rattle.nm_steps.proofs.Seeing.{seen_through}
+use Rattle.nm_calls.proofs.GoingOn.{goes_then, only_then, pinned_in_still, told_onward}
 use Rattle.nm_calls.proofs.looking.read_node.Goals as goal
 
 pub look_edge-left-requires-clause-pinned : goal.look_edge-left-requires-clause-pinned
-look_edge-left-requires-clause-pinned c = pinned_still c.args.pass.now c.look_key-found.new.pass c.look_key-found.ensures.on c.requires.pinned
+look_edge-left-requires-clause-pinned c = pinned_in_still c.args.shared.now c.args.pass.now c.look_key-found.new.pass c.look_key-found.ensures.on c.requires.pinned
 
 pub look_edge-left-requires-clause-known : goal.look_edge-left-requires-clause-known
 look_edge-left-requires-clause-known c = c.look_key-found.ensures.on.keeps (KnowsSlot c.args.slot) c.requires.known
 
 pub look_edge-right-requires-clause-pinned : goal.look_edge-right-requires-clause-pinned
-look_edge-right-requires-clause-pinned c = pinned_still c.look_key-found.new.pass c.look_edge-left.new.pass c.look_edge-left.ensures.on (pinned_still c.args.pass.now c.look_key-found.new.pass c.look_key-found.ensures.on c.requires.pinned)
+look_edge-right-requires-clause-pinned c = pinned_in_still c.args.shared.now c.look_key-found.new.pass c.look_edge-left.new.pass c.look_edge-left.ensures.on (pinned_in_still c.args.shared.now c.args.pass.now c.look_key-found.new.pass c.look_key-found.ensures.on c.requires.pinned)
 
 pub look_edge-right-requires-clause-known : goal.look_edge-right-requires-clause-known
 look_edge-right-requires-clause-known c = c.look_edge-left.ensures.on.keeps (KnowsSlot c.args.slot) (c.look_key-found.ensures.on.keeps (KnowsSlot c.args.slot) c.requires.known)
@@ -39,6 +38,3 @@ returns-clause-told c =
     let q = c.look_edge-right.new.pass in
     rw c.edge_at-next.ensures (told_onward o r s q c.args.key c.args.slot c.look_key-found.result c.look_edge-left.result c.look_edge-right.result
     c.look_key-found.ensures.told c.look_edge-left.ensures.told c.look_edge-right.ensures.told c.look_edge-left.ensures.on c.look_edge-right.ensures.on c.side_at-side.result c.side_at-side.ensures)
-
-pub returns-clause-past : goal.returns-clause-past
-returns-clause-past c = seen_through _ _ _ c.look_key-found.ensures.past (seen_through _ _ _ c.look_edge-left.ensures.past c.look_edge-right.ensures.past)

@@ -1,4 +1,4 @@
-use Rattle.std.proofs.Common.{◌≡◌, ◌+◌, ◌*◌, length, nat_eq, refl, ap, subst, ◌∙◌, arith}
+use Rattle.std.proofs.Common.{rules, ◌≡◌, ◌+◌, ◌*◌, length, nat_eq, refl, ap, subst, ◌∙◌, arith}
 use Rattle.std.proofs.Math.Nat.{mul-le-mul_right}
 use Rattle.std.specs.Prelude.{Some}
 use Rattle.nm_model.specs.declared.knowledge.Brief.{Brief}
@@ -8,7 +8,8 @@ use Rattle.nm_order.specs.Facts.Fact.{KnowsSlot, CallIs}
 use Rattle.nm_order.specs.Facts.Since.{ThePin}
 use Rattle.nm_steps.specs.Steps.{Stand}
 use Rattle.nm_epoch.proofs.Allowed.{may_leave}
-use Rattle.nm_calls.proofs.GoingOn.{only_then, pinned_still}
+use Rattle.nm_steps.proofs.Seeing.{seen_all}
+use Rattle.nm_calls.proofs.GoingOn.{only_then, pinned_in_still}
 use Rattle.nm_calls.proofs.LookUps.{is_pinned, knows_second, call_is, may_answer, missed}
 use Rattle.nm_calls.proofs.Adding.{most, adds_then, adds_these, has_won, cuts_none, within_call, mul_below, pin_adds, moved_adds, lost_walks_add, finds_adds}
 use Rattle.nm_calls.specs.Moments.{HadNoCall}
@@ -17,7 +18,8 @@ use Rattle.nm_calls.proofs.Moments.{no_call_on}
 use Rattle.nm_calls.proofs.lookup.has.Goals as goal
 
 pub find-requires-clause-pinned : goal.find-requires-clause-pinned
-find-requires-clause-pinned c = pinned_still c.pin_for.new.pass c.loop-walk.pass c.loop-walk.invariant.on (is_pinned c.pin_for.new.pass c.in-Ok._epoch Has c.args.key c.in-Ok.ensures.at)
+find-requires-clause-pinned c = pinned_in_still c.args.shared.now c.pin_for.new.pass c.loop-walk.pass c.loop-walk.invariant.on
+    (record { own = search rules; run = search rules; pin = is_pinned c.pin_for.new.pass c.in-Ok._epoch Has c.args.key c.in-Ok.ensures.at })
 
 pub find-requires-clause-known : goal.find-requires-clause-known
 find-requires-clause-known c = c.loop-walk.invariant.on.keeps (KnowsSlot 2) (knows_second c.pin_for.new.pass c.in-Ok._epoch Has c.args.key c.in-Ok.ensures.at)
@@ -39,125 +41,116 @@ unpin-requires-clause-may c =
     let only = c.loop-walk.invariant.only in
     may_leave c.loop-walk.pass (ap (λ (b : Brief). b.unlabelled) only.epochs ∙ at.labelled) (only.linked ∙ ap (λ (s : Search). s.linked) at.begun) (only.flagged ∙ ap (λ (s : Search). s.flagged) at.begun)
 
-pub returns-clause-missed : goal.returns-clause-missed
-returns-clause-missed c =
-    let past = c.loop-walk-test.false in
-    let within = c.loop-walk.auto._walk-end in
-    let all : c.loop-walk._walk ≡ c.args.tries = omega (arith, past, within) in
-    missed c.args.shared.now.layout.nodes c.args.tries c.args.key c.args.pass.now.view.log c.pin_for.new.pass.view.log c.loop-walk.pass.view.log c.unpin.new.pass.view.log c.in-Ok._epoch c.if-tries-eq0.false c.in-Ok.ensures.pinned
-    (rw (← all) c.loop-walk.invariant.lost) (ap (λ (s : Stand). s.view.log) c.unpin.ensures.step)
-
-pub returns-in_default-clause-won : goal.returns-in_default-clause-won
-returns-in_default-clause-won c = has_won _ _ (moved_adds Has c.args.key c.args.tries c.args.pass.now.view.log c.pin_for.new.pass.view.log c.in_default.ensures.moved)
-
-pub returns-in_default-clause-uncut : goal.returns-in_default-clause-uncut
-returns-in_default-clause-uncut c = cuts_none _ _ (moved_adds Has c.args.key c.args.tries c.args.pass.now.view.log c.pin_for.new.pass.view.log c.in_default.ensures.moved)
-
-pub returns-in-Some-clause-won : goal.returns-in-Some-clause-won
-returns-in-Some-clause-won c =
+pub returns : goal.returns
+returns c =
     let nodes = c.args.shared.now.layout.nodes in
-    let old = c.args.pass.now.view.log in
-    let a = c.pin_for.new.pass.view.log in
-    let p = c.loop-walk.pass.view.log in
-    let q = c.find.new.pass.view.log in
-    let new = c.leave_with.new.pass.view.log in
-    has_won old new
-    (adds_then old a new (pin_adds Has c.args.key c.args.tries old a c.in-Ok._epoch c.in-Ok.ensures.pinned)
-    (adds_then a p new (lost_walks_add nodes c.args.key c.loop-walk._walk a p c.loop-walk.invariant.lost)
-    (adds_then p q new (finds_adds nodes c.get.result p q (Some c.in-Some.found) c.in-Some.ensures.walk) (adds_these _ q new (ap (λ (s : Stand). s.view.log) c.leave_with.ensures.step)))))
-
-pub returns-in-Some-clause-uncut : goal.returns-in-Some-clause-uncut
-returns-in-Some-clause-uncut c =
-    let nodes = c.args.shared.now.layout.nodes in
-    let old = c.args.pass.now.view.log in
-    let a = c.pin_for.new.pass.view.log in
-    let p = c.loop-walk.pass.view.log in
-    let q = c.find.new.pass.view.log in
-    let new = c.leave_with.new.pass.view.log in
-    cuts_none old new
-    (adds_then old a new (pin_adds Has c.args.key c.args.tries old a c.in-Ok._epoch c.in-Ok.ensures.pinned)
-    (adds_then a p new (lost_walks_add nodes c.args.key c.loop-walk._walk a p c.loop-walk.invariant.lost)
-    (adds_then p q new (finds_adds nodes c.get.result p q (Some c.in-Some.found) c.in-Some.ensures.walk) (adds_these _ q new (ap (λ (s : Stand). s.view.log) c.leave_with.ensures.step)))))
-
-pub returns-in-Some-clause-steps : goal.returns-in-Some-clause-steps
-returns-in-Some-clause-steps c =
-    let nodes = c.args.shared.now.layout.nodes in
-    let old = c.args.pass.now.view.log in
-    let a = c.pin_for.new.pass.view.log in
-    let p = c.loop-walk.pass.view.log in
-    let q = c.find.new.pass.view.log in
-    let new = c.leave_with.new.pass.view.log in
-    let pin = (pin_adds Has c.args.key c.args.tries old a c.in-Ok._epoch c.in-Ok.ensures.pinned).steps in
-    let lost = (lost_walks_add nodes c.args.key c.loop-walk._walk a p c.loop-walk.invariant.lost).steps in
-    let walk = c.find.ensures.steps in
-    let last = (adds_these _ q new (ap (λ (s : Stand). s.view.log) c.leave_with.ensures.step)).steps in
-    let few = mul_below c.loop-walk._walk c.args.tries (most nodes) c.loop-walk-test.true in
-    within_call nodes c.args.tries (length old) (length new) (2 * c.args.tries + c.args.tries * most nodes + 10) (omega (arith, pin, lost, walk, last, few)) (omega arith)
-
-pub returns-clause-won : goal.returns-clause-won
-returns-clause-won c =
-    let nodes = c.args.shared.now.layout.nodes in
+    let tries = c.args.tries in
     let old = c.args.pass.now.view.log in
     let a = c.pin_for.new.pass.view.log in
     let p = c.loop-walk.pass.view.log in
     let new = c.unpin.new.pass.view.log in
-    has_won old new
-    (adds_then old a new (pin_adds Has c.args.key c.args.tries old a c.in-Ok._epoch c.in-Ok.ensures.pinned)
-    (adds_then a p new (lost_walks_add nodes c.args.key c.loop-walk._walk a p c.loop-walk.invariant.lost) (adds_these _ p new (ap (λ (s : Stand). s.view.log) c.unpin.ensures.step))))
-
-pub returns-clause-uncut : goal.returns-clause-uncut
-returns-clause-uncut c =
-    let nodes = c.args.shared.now.layout.nodes in
-    let old = c.args.pass.now.view.log in
-    let a = c.pin_for.new.pass.view.log in
-    let p = c.loop-walk.pass.view.log in
-    let new = c.unpin.new.pass.view.log in
-    cuts_none old new
-    (adds_then old a new (pin_adds Has c.args.key c.args.tries old a c.in-Ok._epoch c.in-Ok.ensures.pinned)
-    (adds_then a p new (lost_walks_add nodes c.args.key c.loop-walk._walk a p c.loop-walk.invariant.lost) (adds_these _ p new (ap (λ (s : Stand). s.view.log) c.unpin.ensures.step))))
-
-pub returns-clause-steps : goal.returns-clause-steps
-returns-clause-steps c =
-    let nodes = c.args.shared.now.layout.nodes in
-    let old = c.args.pass.now.view.log in
-    let a = c.pin_for.new.pass.view.log in
-    let p = c.loop-walk.pass.view.log in
-    let new = c.unpin.new.pass.view.log in
-    let pin = (pin_adds Has c.args.key c.args.tries old a c.in-Ok._epoch c.in-Ok.ensures.pinned).steps in
-    let lost = (lost_walks_add nodes c.args.key c.loop-walk._walk a p c.loop-walk.invariant.lost).steps in
-    let last = (adds_these _ p new (ap (λ (s : Stand). s.view.log) c.unpin.ensures.step)).steps in
-    let few = mul-le-mul_right (most nodes) c.loop-walk.auto._walk-end in
-    within_call nodes c.args.tries (length old) (length new) (2 * c.args.tries + c.args.tries * most nodes + 10) (omega (arith, pin, lost, last, few)) (omega arith)
-
-pub returns-in-Some-clause-moment : goal.returns-in-Some-clause-moment
-returns-in-Some-clause-moment c =
-    let o = c.args.pass.now in
-    let a = c.pin_for.new.pass in
-    let p = c.loop-walk.pass in
-    let call = call_is a c.in-Ok._epoch Has c.args.key c.in-Ok.ensures.at in
-    let pinned : HadNoCall o a = record { seen = c.is_of_a_run.ensures.seen; same = c.pin_for.ensures.same; past = c.pin_for.ensures.past; call = ap (λ (s : Search). s.call) c.requires.rests.idle } in
-    let walked = no_call_on o p c.find.new.pass (no_call_on o a p pinned c.loop-walk.invariant.same c.loop-walk.invariant.past) c.find.ensures.same c.find.ensures.past in
-    c.leave_with.ensures.moment o Has c.args.key walked (c.in-Some.ensures.on.keeps (CallIs Has c.args.key) (c.loop-walk.invariant.on.keeps (CallIs Has c.args.key) call))
-
-pub returns-in-Some-clause-did : goal.returns-in-Some-clause-did
-returns-in-Some-clause-did c =
-    let p = c.loop-walk.pass.view.log in
-    let q = c.find.new.pass.view.log in
-    let found = c.in-Some.found in
-    let walk = subst (λ k. Finds c.args.shared.now.layout.nodes k p q (Some found)) c.get.ensures.number c.in-Some.ensures.walk in
+    let left = ap (λ (s : Stand). s.view.log) c.unpin.ensures.step in
+    let pin = pin_adds Has c.args.key tries old a c.in-Ok._epoch c.in-Ok.ensures.pinned in
+    let lost = lost_walks_add nodes c.args.key c.loop-walk._walk a p c.loop-walk.invariant.lost in
+    let last = adds_these _ p new left in
+    let added = adds_then old a new pin (adds_then a p new lost last) in
     record {
-      pinned = c.pin_for.new.pass.view.log;
-      epoch = c.in-Ok._epoch;
-      pin = c.in-Ok.ensures.pinned;
-      broken = c.loop-walk._walk;
-      few = c.loop-walk-test.true;
-      begun = p;
-      lost = c.loop-walk.invariant.lost;
-      ended = q;
-      spot = walk.0;
-      chain = walk.1;
-      key = found;
-      walk = walk.2;
-      answers = ap (nat_eq found) c.get-in-Some.ensures.number;
-      leaves = ap (λ (s : Stand). s.view.log) c.leave_with.ensures.step;
+      same = search rules;
+      past = search (rules, seen_all);
+      did = search rules;
+      moment = search rules;
+      missed = (
+          let past = c.loop-walk-test.false in
+          let within = c.loop-walk.auto._walk-end in
+          let all : c.loop-walk._walk ≡ tries = omega (arith, past, within) in
+          missed nodes tries c.args.key old a p new c.in-Ok._epoch c.if-tries-eq0.false c.in-Ok.ensures.pinned (rw (← all) c.loop-walk.invariant.lost) left
+          );
+      won = has_won old new added;
+      uncut = cuts_none old new added;
+      steps = (
+          let pin_steps = pin.steps in
+          let lost_steps = lost.steps in
+          let last_steps = last.steps in
+          let few = mul-le-mul_right (most nodes) c.loop-walk.auto._walk-end in
+          within_call nodes tries (length old) (length new) (2 * tries + tries * most nodes + 10) (omega (arith, pin_steps, lost_steps, last_steps, few)) (omega arith)
+          );
+      rests = search rules;
+      hands = search rules;
+    }
+
+pub returns-in_default : goal.returns-in_default
+returns-in_default c =
+    let added = moved_adds Has c.args.key c.args.tries c.args.pass.now.view.log c.pin_for.new.pass.view.log c.in_default.ensures.moved in
+    record {
+      same = search rules;
+      past = search (rules, seen_all);
+      did = search rules;
+      moment = search rules;
+      missed = search rules;
+      won = has_won _ _ added;
+      uncut = cuts_none _ _ added;
+      steps = search rules;
+      rests = search rules;
+      hands = search rules;
+    }
+
+pub returns-in-Some : goal.returns-in-Some
+returns-in-Some c =
+    let nodes = c.args.shared.now.layout.nodes in
+    let tries = c.args.tries in
+    let old = c.args.pass.now.view.log in
+    let a = c.pin_for.new.pass.view.log in
+    let p = c.loop-walk.pass.view.log in
+    let q = c.find.new.pass.view.log in
+    let new = c.leave_with.new.pass.view.log in
+    let found = c.in-Some.found in
+    let left = ap (λ (s : Stand). s.view.log) c.leave_with.ensures.step in
+    let pin = pin_adds Has c.args.key tries old a c.in-Ok._epoch c.in-Ok.ensures.pinned in
+    let lost = lost_walks_add nodes c.args.key c.loop-walk._walk a p c.loop-walk.invariant.lost in
+    let last = adds_these _ q new left in
+    let walks = finds_adds nodes c.get.result p q (Some found) c.in-Some.ensures.walk in
+    let added = adds_then old a new pin (adds_then a p new lost (adds_then p q new walks last)) in
+    record {
+      same = search rules;
+      past = search (rules, seen_all);
+      did = (
+          let walk = subst (λ k. Finds nodes k p q (Some found)) c.get.ensures.number c.in-Some.ensures.walk in
+          record {
+            pinned = a;
+            epoch = c.in-Ok._epoch;
+            pin = c.in-Ok.ensures.pinned;
+            broken = c.loop-walk._walk;
+            few = c.loop-walk-test.true;
+            begun = p;
+            lost = c.loop-walk.invariant.lost;
+            ended = q;
+            spot = walk.0;
+            chain = walk.1;
+            key = found;
+            walk = walk.2;
+            answers = ap (nat_eq found) c.get-in-Some.ensures.number;
+            leaves = left;
+          }
+          );
+      moment = (
+          let o = c.args.pass.now in
+          let begun = c.pin_for.new.pass in
+          let call = call_is begun c.in-Ok._epoch Has c.args.key c.in-Ok.ensures.at in
+          let pinned : HadNoCall o begun = record { seen = c.is_of_a_run.ensures.seen; same = c.pin_for.ensures.same; past = c.pin_for.ensures.past; call = ap (λ (s : Search). s.call) c.requires.rests.idle } in
+          let walked = no_call_on o c.loop-walk.pass c.find.new.pass (no_call_on o begun c.loop-walk.pass pinned c.loop-walk.invariant.on.same c.loop-walk.invariant.on.past) c.find.ensures.on.same c.find.ensures.on.past in
+          c.leave_with.ensures.moment o Has c.args.key walked (c.in-Some.ensures.on.keeps (CallIs Has c.args.key) (c.loop-walk.invariant.on.keeps (CallIs Has c.args.key) call))
+          );
+      missed = search rules;
+      won = has_won old new added;
+      uncut = cuts_none old new added;
+      steps = (
+          let pin_steps = pin.steps in
+          let lost_steps = lost.steps in
+          let walk_steps = c.find.ensures.steps in
+          let last_steps = last.steps in
+          let few = mul_below c.loop-walk._walk tries (most nodes) c.loop-walk-test.true in
+          within_call nodes tries (length old) (length new) (2 * tries + tries * most nodes + 10) (omega (arith, pin_steps, lost_steps, walk_steps, last_steps, few)) (omega arith)
+          );
+      rests = search rules;
+      hands = search rules;
     }

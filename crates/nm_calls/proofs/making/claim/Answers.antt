@@ -26,5 +26,5 @@ returns-clause-only c =
 pub returns-clause-on : goal.returns-clause-on
 returns-clause-on c =
     let e = c.claim_by-claimed.ensures in
-    makes_go_on c.args.pass.now c.claim_by-claimed.new.pass (returns-clause-only c)
+    makes_go_on c.args.pass.now c.claim_by-claimed.new.pass (returns-clause-only c) e.same e.past
     (claim_in_run c.args.pass.now c.claim_by-claimed.new.pass c.args.placement.now c.args.shared.now.layout.nodes c.claim_by-claimed.result e.same e.part c.requires.run c.is_of_a_run.ensures.fits c.is_of_a_run.ensures.run)

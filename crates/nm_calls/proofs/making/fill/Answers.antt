@@ -1,9 +1,10 @@
-use Rattle.std.proofs.Common.{refl, sym, ap, subst, ◌∙◌, ◌≤◌}
+use Rattle.std.proofs.Common.{rules, refl, sym, ap, subst, ◌∙◌, ◌≤◌}
 use Rattle.nm_edge.specs.declared.edge.Side.TheVariants.{Left, Right}
 use Rattle.nm_model.specs.declared.event.Field.TheVariants.{Key as KeyOf, Edge as EdgeOn}
 use Rattle.nm_model.specs.declared.knowledge.Draft.{Draft}
 use Rattle.nm_model.specs.Learning.{filled_in}
 use Rattle.nm_steps.specs.Steps.{Stand}
+use Rattle.nm_steps.proofs.Seeing.{seen_all}
 use Rattle.std.specs.Prelude.{Some}
 use Rattle.nm_calls.proofs.Makes.{fillable, fillable_still, may_fill_key, may_fill_edge, filled_there, filled_draft, filled_others, only_filled, both_make, makes_go_on, in_run_after}
 use Rattle.nm_calls.proofs.making.fill.Goals as goal
@@ -63,4 +64,4 @@ returns-clause-on c =
     let p = c.args.pass.now in
     let r = c.fill_edge.new.pass in
     let t = c.fill_edge-2.new.pass in
-    makes_go_on p t (returns-clause-only c) (in_run_after r t _ _ c.fill_edge-2.ensures.step refl c.is_of_a_run.ensures.fits c.is_of_a_run.ensures.run)
+    makes_go_on p t (returns-clause-only c) (search rules) (search (rules, seen_all)) (in_run_after r t _ _ c.fill_edge-2.ensures.step refl c.is_of_a_run.ensures.fits c.is_of_a_run.ensures.run)

@@ -1,21 +1,31 @@
-use Rattle.std.proofs.Common.{rules, ◌∙◌, List, length, sym, ap}
+use Rattle.std.proofs.Common.{rules, ◌∙◌, List, length, sym, ap, arith}
 use Rattle.nm_model.specs.declared.knowledge.Brief.{Brief}
 use Rattle.nm_model.specs.Searches.{Search}
 use Rattle.nm_model.specs.Walks.{Entry}
 use Rattle.nm_steps.specs.Steps.{Stand, IsSamePass}
-use Rattle.nm_steps.proofs.Seeing.{seen_through}
+use Rattle.nm_steps.proofs.Seeing.{seen_through, seen_all}
 use Rattle.nm_epoch.proofs.Allowed.{may_leave}
 use Rattle.nm_calls.specs.InTurns.{most_looks}
+use Rattle.nm_calls.specs.PlainWalks.{LooksUnderPin}
 use Rattle.nm_calls.proofs.Adding.{has_won, cuts_none, plain_moved_adds}
 use Rattle.nm_calls.proofs.InTurnsLooks.{all_were_so}
 use Rattle.nm_calls.proofs.PlainLooks.{call_adds}
 use Rattle.nm_calls.proofs.many.has_many.Goals as goal
 
-pub returns-in_default-clause-won : goal.returns-in_default-clause-won
-returns-in_default-clause-won c = has_won _ _ (plain_moved_adds c.args.tries c.args.pass.now.view.log c.pin.new.pass.view.log c.in_default.ensures.moved)
-
-pub returns-in_default-clause-uncut : goal.returns-in_default-clause-uncut
-returns-in_default-clause-uncut c = cuts_none _ _ (plain_moved_adds c.args.tries c.args.pass.now.view.log c.pin.new.pass.view.log c.in_default.ensures.moved)
+pub returns-in_default : goal.returns-in_default
+returns-in_default c = record {
+  same = search rules;
+  past = search (rules, seen_all);
+  did = search rules;
+  keys = search rules;
+  moment = search rules;
+  missed = search rules;
+  won = has_won _ _ (plain_moved_adds c.args.tries c.args.pass.now.view.log c.pin.new.pass.view.log c.in_default.ensures.moved);
+  uncut = cuts_none _ _ (plain_moved_adds c.args.tries c.args.pass.now.view.log c.pin.new.pass.view.log c.in_default.ensures.moved);
+  steps = search rules;
+  rests = search rules;
+  hands = search rules;
+}
 
 pub unpin-requires-clause-may : goal.unpin-requires-clause-may
 unpin-requires-clause-may c =
@@ -23,30 +33,54 @@ unpin-requires-clause-may c =
     let only = c.walk_all-ended.ensures.only in
     may_leave c.walk_all-ended.new.pass (ap (λ (b : Brief). b.unlabelled) only.epochs ∙ at.labelled) (only.linked ∙ ap (λ (s : Search). s.linked) at.begun) (only.flagged ∙ ap (λ (s : Search). s.flagged) at.begun)
 
-pub returns-then-ended-clause-moment : goal.returns-then-ended-clause-moment
-returns-then-ended-clause-moment c =
-    let o = c.args.pass.now in
-    let a = c.pin.new.pass in
-    let p = c.walk_all-ended.new.pass in
-    let q = c.unpin.new.pass in
-    let walked = c.walk_all-ended.ensures in
-    let first : IsSamePass o p = search rules in
-    let last : IsSamePass p q = c.unpin.ensures.step ∙ ap (λ (l : List Entry). record p { view = record p.view { log = l; past = q.view.past } }) (sym (ap (λ (s : Stand). s.view.log) c.unpin.ensures.step)) in
-    all_were_so o p q c.is_of_a_run.ensures.seen c.is_of_a_run.ensures.fits c.requires.rests.unpinned first (seen_through o a p c.pin.ensures.past walked.past) c.is_of_a_run-2.ensures.seen last c.unpin.ensures.past
-    c.walk_all-ended.new.queries walked.under_way (walked.ended c.if-ended.true)
+pub returns-then-ended : goal.returns-then-ended
+returns-then-ended c =
+    let most = most_looks c.args.shared.now.layout.nodes (length c.args.queries.now) in
+    let old = c.args.pass.now.view.log in
+    let new = c.unpin.new.pass.view.log in
+    let did : LooksUnderPin c.args.tries most old new = record { pinned = c.pin.new.pass.view.log; epoch = c.in-Ok._epoch; pin = c.in-Ok.ensures.pinned; looked = c.walk_all-ended.new.pass.view.log; looks = c.walk_all-ended.ensures.looks; leaves = ap (λ (s : Stand). s.view.log) c.unpin.ensures.step } in
+    let added = call_adds c.args.tries most old new did in
+    record {
+      same = search rules;
+      past = search (rules, seen_all);
+      did = search rules;
+      keys = search rules;
+      moment = (
+          let o = c.args.pass.now in
+          let a = c.pin.new.pass in
+          let p = c.walk_all-ended.new.pass in
+          let q = c.unpin.new.pass in
+          let walked = c.walk_all-ended.ensures in
+          let first : IsSamePass o p = search rules in
+          let last : IsSamePass p q = c.unpin.ensures.step ∙ ap (λ (l : List Entry). record p { view = record p.view { log = l; past = q.view.past } }) (sym (ap (λ (s : Stand). s.view.log) c.unpin.ensures.step)) in
+          all_were_so o p q c.is_of_a_run.ensures.seen c.is_of_a_run.ensures.fits c.requires.rests.unpinned first (seen_through o a p c.pin.ensures.past walked.on.past) c.is_of_a_run-2.ensures.seen last c.unpin.ensures.past
+          c.walk_all-ended.new.queries walked.under_way (walked.ended c.if-ended.true)
+          );
+      missed = search rules;
+      won = has_won _ _ added;
+      uncut = cuts_none _ _ added;
+      steps = (let few = added.steps in omega (arith, few));
+      rests = search rules;
+      hands = search rules;
+    }
 
-pub returns-then-ended-clause-won : goal.returns-then-ended-clause-won
-returns-then-ended-clause-won c = has_won _ _ (call_adds c.args.tries (most_looks c.args.shared.now.layout.nodes (length c.args.queries.now)) c.args.pass.now.view.log c.unpin.new.pass.view.log
-    (record { pinned = c.pin.new.pass.view.log; epoch = c.in-Ok._epoch; pin = c.in-Ok.ensures.pinned; looked = c.walk_all-ended.new.pass.view.log; looks = c.walk_all-ended.ensures.looks; leaves = ap (λ (s : Stand). s.view.log) c.unpin.ensures.step }))
-
-pub returns-then-ended-clause-uncut : goal.returns-then-ended-clause-uncut
-returns-then-ended-clause-uncut c = cuts_none _ _ (call_adds c.args.tries (most_looks c.args.shared.now.layout.nodes (length c.args.queries.now)) c.args.pass.now.view.log c.unpin.new.pass.view.log
-    (record { pinned = c.pin.new.pass.view.log; epoch = c.in-Ok._epoch; pin = c.in-Ok.ensures.pinned; looked = c.walk_all-ended.new.pass.view.log; looks = c.walk_all-ended.ensures.looks; leaves = ap (λ (s : Stand). s.view.log) c.unpin.ensures.step }))
-
-pub returns-else-ended-clause-won : goal.returns-else-ended-clause-won
-returns-else-ended-clause-won c = has_won _ _ (call_adds c.args.tries (most_looks c.args.shared.now.layout.nodes (length c.args.queries.now)) c.args.pass.now.view.log c.unpin.new.pass.view.log
-    (record { pinned = c.pin.new.pass.view.log; epoch = c.in-Ok._epoch; pin = c.in-Ok.ensures.pinned; looked = c.walk_all-ended.new.pass.view.log; looks = c.walk_all-ended.ensures.looks; leaves = ap (λ (s : Stand). s.view.log) c.unpin.ensures.step }))
-
-pub returns-else-ended-clause-uncut : goal.returns-else-ended-clause-uncut
-returns-else-ended-clause-uncut c = cuts_none _ _ (call_adds c.args.tries (most_looks c.args.shared.now.layout.nodes (length c.args.queries.now)) c.args.pass.now.view.log c.unpin.new.pass.view.log
-    (record { pinned = c.pin.new.pass.view.log; epoch = c.in-Ok._epoch; pin = c.in-Ok.ensures.pinned; looked = c.walk_all-ended.new.pass.view.log; looks = c.walk_all-ended.ensures.looks; leaves = ap (λ (s : Stand). s.view.log) c.unpin.ensures.step }))
+pub returns-else-ended : goal.returns-else-ended
+returns-else-ended c =
+    let most = most_looks c.args.shared.now.layout.nodes (length c.args.queries.now) in
+    let old = c.args.pass.now.view.log in
+    let new = c.unpin.new.pass.view.log in
+    let did : LooksUnderPin c.args.tries most old new = record { pinned = c.pin.new.pass.view.log; epoch = c.in-Ok._epoch; pin = c.in-Ok.ensures.pinned; looked = c.walk_all-ended.new.pass.view.log; looks = c.walk_all-ended.ensures.looks; leaves = ap (λ (s : Stand). s.view.log) c.unpin.ensures.step } in
+    let added = call_adds c.args.tries most old new did in
+    record {
+      same = search rules;
+      past = search (rules, seen_all);
+      did = search rules;
+      keys = search rules;
+      moment = search rules;
+      missed = search rules;
+      won = has_won _ _ added;
+      uncut = cuts_none _ _ added;
+      steps = (let few = added.steps in omega (arith, few));
+      rests = search rules;
+      hands = search rules;
+    }

@@ -1,7 +1,6 @@
 use Rattle.std.proofs.Common.{rules, ◌∙◌, ◌+◌, ◌*◌, arith}
 use Rattle.std.proofs.Math.Seq.{map-set_same}
 use Rattle.std.proofs.lemmas.List.Elements.{All-set}
-use Rattle.nm_steps.proofs.Seeing.{seen_through}
 use Rattle.nm_calls.specs.InTurns.{IsUnderWay, key_of}
 use Rattle.nm_calls.proofs.GoingOn.{goes_then, only_then}
 use Rattle.nm_calls.proofs.InTurnsLooks.{all_still}
@@ -16,8 +15,6 @@ loop-index-preserved c =
     let held = c.loop-index.invariant in
     let did = c.take_turn.ensures in
     record {
-      same = search rules;
-      past = seen_through _ _ _ held.past did.past;
       looks = looks_in (3 * (c.loop-index.index + 1)) o.view.log q.view.log (omega arith) (looks_then o.view.log p.view.log q.view.log held.looks did.looks);
       under_way = All-set (IsUnderWay q) c.loop-index.queries c.loop-index.index c.take_turn.new.query did.under_way (all_still p q did.looks did.on c.loop-index.queries held.under_way);
       keys = map-set_same key_of c.loop-index.queries c.loop-index.index c.take_turn.new.query c.index-queries-index.result (search rules) ∙ held.keys;

@@ -1,14 +1,11 @@
 use Rattle.std.proofs.Common.{◌≡◌, ◌*◌, map}
 use Rattle.std.specs.Prelude.{All}
-use Rattle.nm_steps.specs.Steps.{IsSamePass, HasSeenAllOf}
 use Rattle.nm_calls.specs.InTurns.{AddsLooks, IsUnderWay, key_of}
 use Rattle.nm_calls.specs.Telling.{GoesOn, OnlyLooks}
 use Rattle.nm_calls.proofs.many.take_turns.Given as goal
 
 abbrev pub invariant-loop-index : goal.invariant-loop-index
 invariant-loop-index l = record {
-  same : IsSamePass l.fn.pass l.pass;
-  past : HasSeenAllOf l.pass l.fn.pass;
   looks : AddsLooks (3 * l.index) l.fn.pass.view.log l.pass.view.log;
   under_way : All (IsUnderWay l.pass) l.queries;
   keys : map key_of l.queries ≡ map key_of l.fn.queries;

@@ -1,4 +1,4 @@
-use Rattle.std.proofs.Common.{rules, ◌<◌, ◌*◌, length, ap, subst, arith}
+use Rattle.std.proofs.Common.{◌<◌, ◌*◌, length, ap, subst, arith}
 use Rattle.std.specs.Prelude.{All}
 use Rattle.nm_edge.specs.Layouts.{Layout}
 use Rattle.nm_edge.specs.declared.edge.Side.TheVariants.{Left}
@@ -14,8 +14,6 @@ loop-turn-init c =
     let q = c.look_edge.new.pass in
     let edge = c.look_edge.result in
     record {
-      same = search rules;
-      past = c.look_edge.ensures.past;
       looks = looks_in _ o.view.log q.view.log (omega arith) (look_added o q 2 Left edge c.look_edge.ensures.step);
       under_way = begun_so o q edge c.look_edge.ensures.step c.look_edge.ensures.told c.begin_each.new.queries (subst (λ n. All (HasBegun n) c.begin_each.new.queries) c.slot-first.ensures c.begin_each.ensures.begun);
       keys = c.begin_each.ensures.keys;

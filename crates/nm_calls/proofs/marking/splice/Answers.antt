@@ -1,16 +1,17 @@
 use Rattle.std.proofs.Common.{refl}
 use Rattle.nm_calls.proofs.Cuts.{may_splice, splices_won, splices_lost, only_cuts}
+use Rattle.nm_steps.proofs.Seeing.{seen_by_turn}
 use Rattle.nm_calls.proofs.Looks.{goes_on}
 use Rattle.nm_calls.proofs.marking.splice.Goals as goal
 
 pub splice-won-requires-clause-may : goal.splice-won-requires-clause-may
-splice-won-requires-clause-may c = may_splice c.args.pass.now c.args.ancestor c.args.side c.args.successor c.args.parent c.args.keep c.args.kept c.requires.run c.requires.pinned c.requires.frozen
+splice-won-requires-clause-may c = may_splice c.args.pass.now c.args.ancestor c.args.side c.args.successor c.args.parent c.args.keep c.args.kept c.requires.pinned.run c.requires.pinned.pin c.requires.frozen
 
 pub splice-won-requires-clause-kept : goal.splice-won-requires-clause-kept
 splice-won-requires-clause-kept c = c.requires.frozen.kept_so.0
 
 pub returns-clause-on : goal.returns-clause-on
-returns-clause-on c = goes_on c.args.pass.now c.splice-won.new.pass _ _ c.splice-won.ensures.step refl refl c.is_of_a_run.ensures.fits c.is_of_a_run.ensures.run
+returns-clause-on c = goes_on c.args.pass.now c.splice-won.new.pass _ _ c.splice-won.ensures.step (seen_by_turn _ _ _ c.splice-won.ensures.past) refl refl c.is_of_a_run.ensures.fits c.is_of_a_run.ensures.run
 
 pub returns-clause-only : goal.returns-clause-only
 returns-clause-only c = only_cuts c.args.pass.now c.splice-won.new.pass c.args.ancestor c.args.side c.args.successor c.args.parent c.args.keep c.splice-won.result c.splice-won.ensures.step

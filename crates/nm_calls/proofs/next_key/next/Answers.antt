@@ -1,23 +1,31 @@
-use Rattle.std.proofs.Common.{rules, ◌*◌, ◌∙◌, List, sym, ap, subst, ℕ}
+use Rattle.std.proofs.Common.{rules, ◌*◌, ◌∙◌, List, sym, ap, subst, ℕ, arith}
 use Rattle.std.proofs.lemmas.Result.{IfOk-weaker}
 use Rattle.nm_model.specs.declared.knowledge.Brief.{Brief}
 use Rattle.nm_model.specs.Searches.{Search}
 use Rattle.nm_model.specs.Walks.{Entry}
 use Rattle.nm_steps.specs.Steps.{Stand, IsSamePass}
-use Rattle.nm_steps.proofs.Seeing.{seen_through}
+use Rattle.nm_steps.proofs.Seeing.{seen_through, seen_all}
 use Rattle.nm_epoch.proofs.Allowed.{may_leave}
 use Rattle.nm_calls.specs.NextKeys.{IsNextBy}
-use Rattle.nm_calls.specs.PlainWalks.{HasEndedSo, WasSo, most_looks}
+use Rattle.nm_calls.specs.PlainWalks.{HasEndedSo, WasSo, most_looks, LooksUnderPin}
 use Rattle.nm_calls.proofs.Adding.{has_won, cuts_none, plain_moved_adds}
 use Rattle.nm_calls.proofs.NextLooks.{next_by}
 use Rattle.nm_calls.proofs.PlainLooks.{was_so, call_adds}
 use Rattle.nm_calls.proofs.next_key.next.Goals as goal
 
-pub returns-in_default-clause-won : goal.returns-in_default-clause-won
-returns-in_default-clause-won c = has_won _ _ (plain_moved_adds c.args.tries c.args.pass.now.view.log c.pin.new.pass.view.log c.in_default.ensures.moved)
-
-pub returns-in_default-clause-uncut : goal.returns-in_default-clause-uncut
-returns-in_default-clause-uncut c = cuts_none _ _ (plain_moved_adds c.args.tries c.args.pass.now.view.log c.pin.new.pass.view.log c.in_default.ensures.moved)
+pub returns-in_default : goal.returns-in_default
+returns-in_default c = record {
+  same = search rules;
+  past = search (rules, seen_all);
+  did = search rules;
+  moment = search rules;
+  missed = search rules;
+  won = has_won _ _ (plain_moved_adds c.args.tries c.args.pass.now.view.log c.pin.new.pass.view.log c.in_default.ensures.moved);
+  uncut = cuts_none _ _ (plain_moved_adds c.args.tries c.args.pass.now.view.log c.pin.new.pass.view.log c.in_default.ensures.moved);
+  steps = search rules;
+  rests = search rules;
+  hands = search rules;
+}
 
 pub unpin-requires-clause-may : goal.unpin-requires-clause-may
 unpin-requires-clause-may c =
@@ -25,22 +33,32 @@ unpin-requires-clause-may c =
     let only = c.walk_up-found.ensures.only in
     may_leave c.walk_up-found.new.pass (ap (λ (b : Brief). b.unlabelled) only.epochs ∙ at.labelled) (only.linked ∙ ap (λ (s : Search). s.linked) at.begun) (only.flagged ∙ ap (λ (s : Search). s.flagged) at.begun)
 
-pub returns-clause-moment : goal.returns-clause-moment
-returns-clause-moment c =
-    let o = c.args.pass.now in
-    let a = c.pin.new.pass in
-    let p = c.walk_up-found.new.pass in
-    let q = c.unpin.new.pass in
-    let walked = c.walk_up-found.ensures in
-    let first : IsSamePass o p = search rules in
-    let last : IsSamePass p q = c.unpin.ensures.step ∙ ap (λ (l : List Entry). record p { view = record p.view { log = l; past = q.view.past } }) (sym (ap (λ (s : Stand). s.view.log) c.unpin.ensures.step)) in
-    let so = was_so o p q c.is_of_a_run.ensures.seen c.is_of_a_run.ensures.fits c.requires.rests.unpinned first (seen_through o a p c.pin.ensures.past walked.past) c.is_of_a_run-2.ensures.seen last c.unpin.ensures.past in
-    IfOk-weaker c.walk_up-found.result _ _ (λ found n. next_by (HasEndedSo p) (WasSo o q) so c.args.key found (subst (λ (k : ℕ). IsNextBy (HasEndedSo p) k found) c.get.ensures.number n)) walked.next
-
-pub returns-clause-won : goal.returns-clause-won
-returns-clause-won c = has_won _ _ (call_adds c.args.tries (c.args.tries * most_looks c.args.shared.now.layout.nodes 1) c.args.pass.now.view.log c.unpin.new.pass.view.log
-    (record { pinned = c.pin.new.pass.view.log; epoch = c.in-Ok._epoch; pin = c.in-Ok.ensures.pinned; looked = c.walk_up-found.new.pass.view.log; looks = c.walk_up-found.ensures.looks; leaves = ap (λ (s : Stand). s.view.log) c.unpin.ensures.step }))
-
-pub returns-clause-uncut : goal.returns-clause-uncut
-returns-clause-uncut c = cuts_none _ _ (call_adds c.args.tries (c.args.tries * most_looks c.args.shared.now.layout.nodes 1) c.args.pass.now.view.log c.unpin.new.pass.view.log
-    (record { pinned = c.pin.new.pass.view.log; epoch = c.in-Ok._epoch; pin = c.in-Ok.ensures.pinned; looked = c.walk_up-found.new.pass.view.log; looks = c.walk_up-found.ensures.looks; leaves = ap (λ (s : Stand). s.view.log) c.unpin.ensures.step }))
+pub returns : goal.returns
+returns c =
+    let most = c.args.tries * most_looks c.args.shared.now.layout.nodes 1 in
+    let old = c.args.pass.now.view.log in
+    let new = c.unpin.new.pass.view.log in
+    let did : LooksUnderPin c.args.tries most old new = record { pinned = c.pin.new.pass.view.log; epoch = c.in-Ok._epoch; pin = c.in-Ok.ensures.pinned; looked = c.walk_up-found.new.pass.view.log; looks = c.walk_up-found.ensures.looks; leaves = ap (λ (s : Stand). s.view.log) c.unpin.ensures.step } in
+    let added = call_adds c.args.tries most old new did in
+    record {
+      same = search rules;
+      past = search (rules, seen_all);
+      did = search rules;
+      moment = (
+          let o = c.args.pass.now in
+          let a = c.pin.new.pass in
+          let p = c.walk_up-found.new.pass in
+          let q = c.unpin.new.pass in
+          let walked = c.walk_up-found.ensures in
+          let first : IsSamePass o p = search rules in
+          let last : IsSamePass p q = c.unpin.ensures.step ∙ ap (λ (l : List Entry). record p { view = record p.view { log = l; past = q.view.past } }) (sym (ap (λ (s : Stand). s.view.log) c.unpin.ensures.step)) in
+          let so = was_so o p q c.is_of_a_run.ensures.seen c.is_of_a_run.ensures.fits c.requires.rests.unpinned first (seen_through o a p c.pin.ensures.past walked.on.past) c.is_of_a_run-2.ensures.seen last c.unpin.ensures.past in
+          IfOk-weaker c.walk_up-found.result _ _ (λ found n. next_by (HasEndedSo p) (WasSo o q) so c.args.key found (subst (λ (k : ℕ). IsNextBy (HasEndedSo p) k found) c.get.ensures.number n)) walked.next
+          );
+      missed = search rules;
+      won = has_won _ _ added;
+      uncut = cuts_none _ _ added;
+      steps = (let few = added.steps in omega (arith, few));
+      rests = search rules;
+      hands = search rules;
+    }

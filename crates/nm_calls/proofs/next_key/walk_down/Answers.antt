@@ -1,7 +1,6 @@
-use Rattle.std.proofs.Common.{rules, ◌+◌, ◌*◌, ℕ, refl, sym, ap, subst, ◌∙◌, arith}
+use Rattle.std.proofs.Common.{◌+◌, ◌*◌, ℕ, refl, sym, ap, subst, ◌∙◌, arith}
 use Rattle.nm_edge.specs.declared.edge.Side.TheVariants.{Left}
 use Rattle.nm_model.specs.Memory.{infinity_0}
-use Rattle.nm_steps.proofs.Seeing.{seen_through}
 use Rattle.nm_calls.specs.NextKeys.{IsDescent}
 use Rattle.nm_calls.specs.Telling.{OnwardTold}
 use Rattle.nm_calls.specs.Walks.{Reads}
@@ -18,8 +17,6 @@ loop-node-init c =
     let edge = c.look_edge.result in
     let did = c.look_edge.ensures in
     record {
-      same = search rules;
-      past = did.past;
       looks = looks_in _ o.view.log q.view.log (omega arith) (look_added o q 2 Left edge did.step);
       under_way = subst (λ (n : ℕ). IsDescent q (record { from = c.args.from; bound = infinity_0; node = n; found = 0 })) (sym c.slot-first.ensures)
           (descent_begins o q edge did.step did.told c.args.from c.requires.key);
@@ -39,8 +36,6 @@ loop-node-preserved c =
     let did = c.read_node-on.ensures in
     let now = c.read_so-walk.ensures in
     record {
-      same = search rules;
-      past = seen_through _ _ _ held.past did.past;
       looks = looks_in (1 + (c.loop-node._node + 1) * (3 * 1)) o.view.log q.view.log (omega arith)
           (looks_then o.view.log p.view.log q.view.log held.looks (read_added c.args.from walk.node p.view.log q.view.log on did.looks));
       under_way = subst (IsDescent q) (sym now.walk)

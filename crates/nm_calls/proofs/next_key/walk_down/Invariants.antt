@@ -1,5 +1,4 @@
 use Rattle.std.proofs.Common.{◌≡◌, ◌+◌, ◌*◌}
-use Rattle.nm_steps.specs.Steps.{IsSamePass, HasSeenAllOf}
 use Rattle.nm_calls.specs.NextKeys.{IsDescent}
 use Rattle.nm_calls.specs.PlainWalks.{AddsLooks}
 use Rattle.nm_calls.specs.Telling.{GoesOn, OnlyLooks}
@@ -7,8 +6,6 @@ use Rattle.nm_calls.proofs.next_key.walk_down.Given as goal
 
 abbrev pub invariant-loop-node : goal.invariant-loop-node
 invariant-loop-node l = record {
-  same : IsSamePass l.fn.pass l.pass;
-  past : HasSeenAllOf l.pass l.fn.pass;
   looks : AddsLooks (1 + l._node * (3 * 1)) l.fn.pass.view.log l.pass.view.log;
   under_way : IsDescent l.pass l.walk;
   from : l.walk.from ≡ l.from;

@@ -1,6 +1,4 @@
-use Rattle.std.proofs.Common.{rules}
 use Rattle.nm_order.specs.Facts.Fact.{KnowsSlot}
-use Rattle.nm_steps.proofs.Seeing.{seen_through}
 use Rattle.nm_calls.specs.NextKeys.{IsNextBy}
 use Rattle.nm_calls.specs.PlainWalks.{HasEndedSo, most_looks}
 use Rattle.nm_calls.proofs.GoingOn.{goes_then, only_then}
@@ -46,8 +44,6 @@ loop-walk-preserved c =
     let did = c.walk_down-walk.ensures in
     let earlier = earlier_still p q did.looks c.args.key c.loop-walk.from held.none_below in
     record {
-      same = search rules;
-      past = seen_through _ _ _ held.past did.past;
       looks = walks_then c.loop-walk._walk (most_looks c.args.shared.now.layout.nodes 1) o.view.log p.view.log q.view.log held.looks did.looks;
       is_key = next_is_key q c.args.key c.loop-walk.from walk did.under_way did.from c.if-walk-ne0.false held.above earlier c.else-from-walk.either c.if-walk-2.false;
       above = next_above q c.args.key c.loop-walk.from walk did.under_way did.from c.if-walk-ne0.false held.above earlier c.else-from-walk.either;

@@ -1,14 +1,11 @@
 use Rattle.std.proofs.Common.{◌≤◌, ◌<◌, ◌*◌, ℕ, false}
 use Rattle.nm_edge.specs.Keys.{IsKey}
-use Rattle.nm_steps.specs.Steps.{IsSamePass, HasSeenAllOf}
 use Rattle.nm_calls.specs.PlainWalks.{AddsLooks, HasEndedSo, most_looks}
 use Rattle.nm_calls.specs.Telling.{GoesOn, OnlyLooks}
 use Rattle.nm_calls.proofs.next_key.walk_up.Given as goal
 
 abbrev pub invariant-loop-walk : goal.invariant-loop-walk
 invariant-loop-walk l = record {
-  same : IsSamePass l.fn.pass l.pass;
-  past : HasSeenAllOf l.pass l.fn.pass;
   looks : AddsLooks (l._walk * most_looks l.shared.layout.nodes 1) l.fn.pass.view.log l.pass.view.log;
   is_key : IsKey l.from;
   above : l.fn.key ≤ l.from;

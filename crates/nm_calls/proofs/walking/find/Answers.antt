@@ -1,15 +1,14 @@
-use Rattle.std.proofs.Common.{rules, ◌≡◌, subst, sym, ap, ◌∙◌, arith}
+use Rattle.std.proofs.Common.{◌≡◌, subst, sym, ap, ◌∙◌, arith}
 use Rattle.nm_edge.specs.Layouts.{Layout}
 use Rattle.nm_calls.specs.Telling.{OnwardTold}
 use Rattle.nm_calls.specs.Walks.{Reads}
 use Rattle.nm_calls.proofs.Adding.{reads_add, walk_adds}
-use Rattle.nm_calls.proofs.GoingOn.{goes_then, only_then, pinned_still, come_on, found_so}
+use Rattle.nm_calls.proofs.GoingOn.{goes_then, only_then, pinned_in_still, come_on, found_so}
 use Rattle.nm_calls.proofs.Standing.{walk_on}
-use Rattle.nm_steps.proofs.Seeing.{seen_through}
 use Rattle.nm_calls.proofs.walking.find.Goals as goal
 
 pub read_node-on-requires-clause-pinned : goal.read_node-on-requires-clause-pinned
-read_node-on-requires-clause-pinned c = pinned_still c.args.pass.now c.loop-below.pass c.loop-below.invariant.on c.requires.pinned
+read_node-on-requires-clause-pinned c = pinned_in_still c.args.shared.now c.args.pass.now c.loop-below.pass c.loop-below.invariant.on c.requires.pinned
 
 pub returns-then-slot-eq0-clause-found : goal.returns-then-slot-eq0-clause-found
 returns-then-slot-eq0-clause-found c =
@@ -31,8 +30,6 @@ loop-below-preserved c =
     let told : OnwardTold p q c.args.key t.edge.slot on.found on.side on.next = subst (λ n. OnwardTold p q c.args.key n on.found on.side on.next) c.slot-node.ensures c.read_node-on.ensures.told in
     let read : Reads c.args.key t.edge.slot p.view.log q.view.log on = subst (λ n. Reads c.args.key n p.view.log q.view.log on) c.slot-node.ensures c.read_node-on.ensures.looks in
     record {
-      same = search rules;
-      past = seen_through _ _ _ c.loop-below.invariant.past c.read_node-on.ensures.past;
       walk = (_, walk_on c.args.key c.loop-below._below o.view.log p.view.log q.view.log t c.further-spot.result c.loop-below.invariant.walk.0 on c.loop-below.invariant.walk.1 read c.further-spot.ensures.spot some);
       known = rw c.further-spot.ensures.edge (told.learned.leads some);
       on = goes_then o p q c.loop-below.invariant.on c.read_node-on.ensures.on;

@@ -5,13 +5,12 @@ use Rattle.nm_steps.specs.Steps.{Stand}
 use Rattle.nm_calls.specs.Telling.{Tells, OnwardTold}
 use Rattle.nm_calls.specs.Walks.{Reads}
 use Rattle.nm_calls.proofs.Adding.{reads_add, walk_adds}
-use Rattle.nm_calls.proofs.GoingOn.{goes_then, only_then, pinned_still, come_first, come_on, found_so}
+use Rattle.nm_calls.proofs.GoingOn.{goes_then, only_then, pinned_in_still, come_first, come_on, found_so}
 use Rattle.nm_calls.proofs.Standing.{walk_on, at_kept, at_begin, at_onto}
-use Rattle.nm_steps.proofs.Seeing.{seen_through}
 use Rattle.nm_calls.proofs.walking.seek.Goals as goal
 
 pub read_node-on-requires-clause-pinned : goal.read_node-on-requires-clause-pinned
-read_node-on-requires-clause-pinned c = pinned_still c.args.pass.now c.loop-below.pass c.loop-below.invariant.on c.requires.pinned
+read_node-on-requires-clause-pinned c = pinned_in_still c.args.shared.now c.args.pass.now c.loop-below.pass c.loop-below.invariant.on c.requires.pinned
 
 pub returns-then-slot-eq0-clause-found : goal.returns-then-slot-eq0-clause-found
 returns-then-slot-eq0-clause-found c =
@@ -35,8 +34,6 @@ loop-below-preserved c =
     let more = c.extend.ensures.more c.if-not-extend.false in
     let kept = at_kept (Tells p) (Tells q) c.read_node-on.ensures.on.keeps t c.loop-below.chain.items c.loop-below.invariant.at in
     record {
-      same = search rules;
-      past = seen_through _ _ _ c.loop-below.invariant.past c.read_node-on.ensures.past;
       walk = rw more (walk_on c.args.key c.loop-below._below o.view.log p.view.log q.view.log t c.further-spot.result c.loop-below.chain.items on c.loop-below.invariant.walk read c.further-spot.ensures.spot some);
       at = rw (c.further-spot.ensures.spot, more) (at_onto (Tells q) t c.loop-below.chain.items on.side on.next kept told.learned some);
       within = rw c.further-spot.ensures.edge c.read_node-on.ensures.within;
@@ -68,11 +65,9 @@ loop-below-init c =
     let some = c.look_edge.ensures.told.root refl refl in
     let none' : c.clear.new.self.items ≡ [] = search rules in
     record {
-      same = search rules;
-      past = c.look_edge.ensures.past;
       walk = rw (c.first-spot.ensures, none') (refl, refl, some, ap (λ (s : Stand). s.view.log) c.look_edge.ensures.step);
       at = rw (c.first-spot.ensures, none') (at_begin (Tells p) e (c.look_edge.ensures.on.keeps (KnowsSlot 1) c.requires.root) (c.look_edge.ensures.on.keeps (KnowsSlot 2) c.requires.known) c.look_edge.ensures.told.learned some);
-      within = rw c.first-spot.ensures (rw (← c.requires.own.layout) c.look_edge.ensures.told.within);
+      within = rw c.first-spot.ensures (rw (← c.requires.pinned.own.layout) c.look_edge.ensures.told.within);
       short = rw none' (omega arith);
       on = c.look_edge.ensures.on;
       only = c.look_edge.ensures.only;

@@ -1,5 +1,4 @@
 use Rattle.std.proofs.Common.{◌<◌, ◌≤◌, length}
-use Rattle.nm_steps.specs.Steps.{IsSamePass, HasSeenAllOf}
 use Rattle.nm_calls.specs.Bounds.{chain_bound}
 use Rattle.nm_calls.specs.Telling.{Tells, GoesOn, OnlyLooks}
 use Rattle.nm_calls.specs.Walks.{Walks, IsAt, EachWalkHasCome}
@@ -7,8 +6,6 @@ use Rattle.nm_calls.proofs.walking.seek.Given as goal
 
 abbrev pub invariant-loop-below : goal.invariant-loop-below
 invariant-loop-below l = record {
-  same : IsSamePass l.fn.pass l.pass;
-  past : HasSeenAllOf l.pass l.fn.pass;
   walk : Walks l.key l._below l.fn.pass.view.log l.pass.view.log l.spot l.chain.items;
   at : IsAt (Tells l.pass) l.spot l.chain.items;
   within : l.spot.edge.slot ≤ l.shared.layout.nodes;

@@ -1,5 +1,5 @@
-use Rattle.nm_tree.specs.Plays.{IsReady}
+use Rattle.nm_tree.specs.Calls.{MayCall}
 use Rattle.set_bench.proofs.trees.fill.Given as goal
 
 abbrev pub invariant-loop-number : goal.invariant-loop-number
-invariant-loop-number l = IsReady l.fn.tree l.worker
+invariant-loop-number l = MayCall l.fn.tree l.worker

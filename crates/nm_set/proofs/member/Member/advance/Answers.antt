@@ -2,11 +2,11 @@ use Rattle.std.proofs.Common.{◌∙◌, ap, subst}
 use Rattle.nm_steps.specs.Steps.{Board}
 use Rattle.nm_set.specs.declared.home.Site.{Site}
 use Rattle.nm_set.specs.Seats.{Seated}
-use Rattle.nm_set.specs.Asked.{LeavesAdvance}
+use Rattle.nm_tree.specs.Calls.{LeavesAdvance}
 use Rattle.nm_set.proofs.member.Member.advance.Goals as goal
 
 pub returns-clause-did : goal.returns-clause-did
 returns-clause-did c =
     let P : Seated → Type 0 = λ s. LeavesAdvance s.board.layout.workers s.hand c.advance.new.worker c.advance.result in
     let Q : Board → Type 0 = λ b. LeavesAdvance b.layout.workers c.self.inside.guest.worker c.advance.new.worker c.advance.result in
-    subst P c.self.view_is (subst Q (c.tree.ensures ∙ ap (λ (s : Site). s.tree) c.deref.ensures) (record { same = c.advance.ensures.same; past = c.advance.ensures.past; did = c.advance.ensures.did; place = c.advance.ensures.place; queues = c.advance.ensures.queues; steps = c.advance.ensures.steps; fit = c.advance.ensures.fit; between = c.advance.ensures.between }))
+    subst P c.self.view_is (subst Q (c.tree.ensures ∙ ap (λ (s : Site). s.tree) c.deref.ensures) c.advance.ensures)

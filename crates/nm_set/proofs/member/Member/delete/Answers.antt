@@ -5,7 +5,8 @@ use Rattle.nm_tree.specs.declared.fault.Fault.{Fault as Lost}
 use Rattle.nm_set.specs.declared.fault.Fault.{Fault}
 use Rattle.nm_set.specs.declared.home.Site.{Site}
 use Rattle.nm_set.specs.Seats.{Seated}
-use Rattle.nm_set.specs.Asked.{Asked, LeavesDelete}
+use Rattle.nm_tree.specs.Calls.{LeavesDelete}
+use Rattle.nm_set.specs.Asked.{Asked}
 use Rattle.nm_set.proofs.member.Member.delete.Goals as goal
 use Rattle.nm_set.proofs.member.Member.delete.Goals.{in-Ok, in-Err}
 
@@ -15,7 +16,7 @@ returns-clause-did c =
     let Q : Board → Type 0 = λ b. LeavesDelete b.layout.nodes c.args.tries c.args.key c.self.inside.guest.worker c.delete.new.worker c.delete.result in
     let R : Result Bool Lost → Type 0 = λ r. LeavesDelete c.args.self.now.board.layout.nodes c.args.tries c.args.key c.args.self.now.hand c.delete.new.worker r in
     let S : Result Bool Fault → Type 0 = λ r. Asked (LeavesDelete c.args.self.now.board.layout.nodes c.args.tries c.args.key) c.args.self.now.hand c.delete.new.worker r in
-    let did : R c.delete.result = subst P c.self.view_is (subst Q (c.tree.ensures ∙ ap (λ (s : Site). s.tree) c.deref.ensures) (record { same = c.delete.ensures.same; past = c.delete.ensures.past; did = c.delete.ensures.did; lacks = c.delete.ensures.lacks; moment = c.delete.ensures.moment; won = c.delete.ensures.won; steps = c.delete.ensures.steps; queues = c.delete.ensures.queues; blocks = c.delete.ensures.blocks; held = c.delete.ensures.held; fit = c.delete.ensures.fit; between = c.delete.ensures.between })) in
+    let did : R c.delete.result = subst P c.self.view_is (subst Q (c.tree.ensures ∙ ap (λ (s : Site). s.tree) c.deref.ensures) c.delete.ensures) in
     let free : c.args.self.now.hand.held ≡ None = search rules in
     elim c.match-delete.branch [
       | in-Ok w ↦ subst S (sym w.result-is) (free, subst R w.in-Ok.is did)

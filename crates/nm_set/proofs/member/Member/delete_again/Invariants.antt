@@ -1,5 +1,6 @@
 use Rattle.std.proofs.Common.{◌≡◌}
-use Rattle.nm_set.specs.Asked.{Asked, LeavesDelete}
+use Rattle.nm_tree.specs.Calls.{LeavesDelete}
+use Rattle.nm_set.specs.Asked.{Asked}
 use Rattle.nm_set.specs.Tended.{InARow, busy}
 use Rattle.nm_set.proofs.member.Member.delete_again.Given as goal
 

@@ -5,7 +5,8 @@ use Rattle.nm_tree.specs.declared.fault.Fault.{Fault as Lost}
 use Rattle.nm_set.specs.declared.fault.Fault.{Fault}
 use Rattle.nm_set.specs.declared.home.Site.{Site}
 use Rattle.nm_set.specs.Seats.{Seated}
-use Rattle.nm_set.specs.Asked.{Asked, LeavesHas}
+use Rattle.nm_tree.specs.Calls.{LeavesHas}
+use Rattle.nm_set.specs.Asked.{Asked}
 use Rattle.nm_set.proofs.member.Member.has.Goals as goal
 use Rattle.nm_set.proofs.member.Member.has.Goals.{in-Ok, in-Err}
 
@@ -15,7 +16,7 @@ returns-clause-did c =
     let Q : Board → Type 0 = λ b. LeavesHas b.layout.nodes c.args.tries c.args.key c.self.inside.guest.worker c.has.new.worker c.has.result in
     let R : Result Bool Lost → Type 0 = λ r. LeavesHas c.args.self.now.board.layout.nodes c.args.tries c.args.key c.args.self.now.hand c.has.new.worker r in
     let S : Result Bool Fault → Type 0 = λ r. Asked (LeavesHas c.args.self.now.board.layout.nodes c.args.tries c.args.key) c.args.self.now.hand c.has.new.worker r in
-    let did : R c.has.result = subst P c.self.view_is (subst Q (c.tree.ensures ∙ ap (λ (s : Site). s.tree) c.deref.ensures) (record { same = c.has.ensures.same; past = c.has.ensures.past; did = c.has.ensures.did; moment = c.has.ensures.moment; won = c.has.ensures.won; steps = c.has.ensures.steps; queues = c.has.ensures.queues; held = c.has.ensures.held; fit = c.has.ensures.fit; between = c.has.ensures.between })) in
+    let did : R c.has.result = subst P c.self.view_is (subst Q (c.tree.ensures ∙ ap (λ (s : Site). s.tree) c.deref.ensures) c.has.ensures) in
     let free : c.args.self.now.hand.held ≡ None = search rules in
     elim c.match-has.branch [
       | in-Ok w ↦ subst S (sym w.result-is) (free, subst R w.in-Ok.is did)

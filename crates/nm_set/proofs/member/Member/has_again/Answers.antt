@@ -1,6 +1,7 @@
 use Rattle.std.proofs.Common.{◌≡◌, refl, subst, arith}
 use Rattle.nm_steps.specs.Steps.{Board}
-use Rattle.nm_set.specs.Asked.{Asked, LeavesHas}
+use Rattle.nm_tree.specs.Calls.{LeavesHas}
+use Rattle.nm_set.specs.Asked.{Asked}
 use Rattle.nm_set.proofs.member.Member.has_again.Goals as goal
 
 pub returns-then-not-is_busy-clause-did : goal.returns-then-not-is_busy-clause-did

@@ -5,7 +5,8 @@ use Rattle.nm_tree.specs.declared.fault.Fault.{Fault as Lost}
 use Rattle.nm_set.specs.declared.fault.Fault.{Fault}
 use Rattle.nm_set.specs.declared.home.Site.{Site}
 use Rattle.nm_set.specs.Seats.{Seated}
-use Rattle.nm_set.specs.InTurns.{AskedMany, LeavesHasMany}
+use Rattle.nm_tree.specs.Calls.{LeavesHasMany}
+use Rattle.nm_set.specs.InTurns.{AskedMany}
 use Rattle.nm_set.proofs.member.Member.has_many.Goals as goal
 use Rattle.nm_set.proofs.member.Member.has_many.Goals.{in-Ok, in-Err}
 
@@ -15,7 +16,7 @@ returns-clause-did c =
     let Q : Board → Type 0 = λ b. LeavesHasMany b.layout.nodes c.args.tries c.args.queries.now c.has_many.new.queries c.self.inside.guest.worker c.has_many.new.worker c.has_many.result in
     let R : Result (Unit {0}) Lost → Type 0 = λ r. LeavesHasMany c.args.self.now.board.layout.nodes c.args.tries c.args.queries.now c.has_many.new.queries c.args.self.now.hand c.has_many.new.worker r in
     let S : Result (Unit {0}) Fault → Type 0 = λ r. AskedMany c.args.self.now.board.layout.nodes c.args.tries c.args.queries.now c.has_many.new.queries c.args.self.now.hand c.has_many.new.worker r in
-    let did : R c.has_many.result = subst P c.self.view_is (subst Q (c.tree.ensures ∙ ap (λ (s : Site). s.tree) c.deref.ensures) (record { same = c.has_many.ensures.same; past = c.has_many.ensures.past; did = c.has_many.ensures.did; keys = c.has_many.ensures.keys; moment = c.has_many.ensures.moment; won = c.has_many.ensures.won; steps = c.has_many.ensures.steps; queues = c.has_many.ensures.queues; held = c.has_many.ensures.held; fit = c.has_many.ensures.fit; between = c.has_many.ensures.between })) in
+    let did : R c.has_many.result = subst P c.self.view_is (subst Q (c.tree.ensures ∙ ap (λ (s : Site). s.tree) c.deref.ensures) c.has_many.ensures) in
     let free : c.args.self.now.hand.held ≡ None = search rules in
     elim c.match-has_many.branch [
       | in-Ok w ↦ subst S (sym w.result-is) (free, subst R w.in-Ok.is did)

@@ -5,7 +5,8 @@ use Rattle.nm_tree.specs.declared.fault.Fault.{Fault as Lost}
 use Rattle.nm_set.specs.declared.fault.Fault.{Fault}
 use Rattle.nm_set.specs.declared.home.Site.{Site}
 use Rattle.nm_set.specs.Seats.{Seated}
-use Rattle.nm_set.specs.Asked.{Asked, LeavesInsert}
+use Rattle.nm_tree.specs.Calls.{LeavesInsert}
+use Rattle.nm_set.specs.Asked.{Asked}
 use Rattle.nm_set.proofs.member.Member.insert.Goals as goal
 use Rattle.nm_set.proofs.member.Member.insert.Goals.{in-Ok, in-Err}
 
@@ -15,7 +16,7 @@ returns-clause-did c =
     let Q : Board → Type 0 = λ b. LeavesInsert b.layout.nodes c.args.tries c.args.key c.self.inside.guest.worker c.insert.new.worker c.insert.result in
     let R : Result Bool Lost → Type 0 = λ r. LeavesInsert c.args.self.now.board.layout.nodes c.args.tries c.args.key c.args.self.now.hand c.insert.new.worker r in
     let S : Result Bool Fault → Type 0 = λ r. Asked (LeavesInsert c.args.self.now.board.layout.nodes c.args.tries c.args.key) c.args.self.now.hand c.insert.new.worker r in
-    let did : R c.insert.result = subst P c.self.view_is (subst Q (c.tree.ensures ∙ ap (λ (s : Site). s.tree) c.deref.ensures) (record { same = c.insert.ensures.same; past = c.insert.ensures.past; did = c.insert.ensures.did; lacks = c.insert.ensures.lacks; moment = c.insert.ensures.moment; won = c.insert.ensures.won; steps = c.insert.ensures.steps; queues = c.insert.ensures.queues; blocks = c.insert.ensures.blocks; held = c.insert.ensures.held; fit = c.insert.ensures.fit; between = c.insert.ensures.between })) in
+    let did : R c.insert.result = subst P c.self.view_is (subst Q (c.tree.ensures ∙ ap (λ (s : Site). s.tree) c.deref.ensures) c.insert.ensures) in
     let free : c.args.self.now.hand.held ≡ None = search rules in
     elim c.match-insert.branch [
       | in-Ok w ↦ subst S (sym w.result-is) (free, subst R w.in-Ok.is did)

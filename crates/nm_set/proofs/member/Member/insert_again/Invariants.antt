@@ -1,5 +1,6 @@
 use Rattle.std.proofs.Common.{◌≡◌}
-use Rattle.nm_set.specs.Asked.{Asked, LeavesInsert}
+use Rattle.nm_tree.specs.Calls.{LeavesInsert}
+use Rattle.nm_set.specs.Asked.{Asked}
 use Rattle.nm_set.specs.Tended.{InARow, busy}
 use Rattle.nm_set.proofs.member.Member.insert_again.Given as goal
 

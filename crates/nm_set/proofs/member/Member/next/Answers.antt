@@ -5,7 +5,8 @@ use Rattle.nm_tree.specs.declared.fault.Fault.{Fault as Lost}
 use Rattle.nm_set.specs.declared.fault.Fault.{Fault}
 use Rattle.nm_set.specs.declared.home.Site.{Site}
 use Rattle.nm_set.specs.Seats.{Seated}
-use Rattle.nm_set.specs.NextKeys.{AskedNext, LeavesNext}
+use Rattle.nm_tree.specs.Calls.{LeavesNext}
+use Rattle.nm_set.specs.NextKeys.{AskedNext}
 use Rattle.nm_set.proofs.member.Member.next.Goals as goal
 use Rattle.nm_set.proofs.member.Member.next.Goals.{in-Ok, in-Err}
 
@@ -15,7 +16,7 @@ returns-clause-did c =
     let Q : Board → Type 0 = λ b. LeavesNext b.layout.nodes c.args.tries c.args.key c.self.inside.guest.worker c.next.new.worker c.next.result in
     let R : Result (Option ℕ) Lost → Type 0 = λ r. LeavesNext c.args.self.now.board.layout.nodes c.args.tries c.args.key c.args.self.now.hand c.next.new.worker r in
     let S : Result (Option ℕ) Fault → Type 0 = λ r. AskedNext c.args.self.now.board.layout.nodes c.args.tries c.args.key c.args.self.now.hand c.next.new.worker r in
-    let did : R c.next.result = subst P c.self.view_is (subst Q (c.tree.ensures ∙ ap (λ (s : Site). s.tree) c.deref.ensures) (record { same = c.next.ensures.same; past = c.next.ensures.past; did = c.next.ensures.did; moment = c.next.ensures.moment; won = c.next.ensures.won; steps = c.next.ensures.steps; queues = c.next.ensures.queues; held = c.next.ensures.held; fit = c.next.ensures.fit; between = c.next.ensures.between })) in
+    let did : R c.next.result = subst P c.self.view_is (subst Q (c.tree.ensures ∙ ap (λ (s : Site). s.tree) c.deref.ensures) c.next.ensures) in
     let free : c.args.self.now.hand.held ≡ None = search rules in
     elim c.match-next.branch [
       | in-Ok w ↦ subst S (sym w.result-is) (free, subst R w.in-Ok.is did)

@@ -1,5 +1,6 @@
+use Rattle.nm_steps.proofs.Seeing.{seen_all}
 use Rattle.nm_tree.proofs.RunningTurns.{collected_in_grace}
-use Rattle.std.proofs.Common.{ℕ, ◌≤◌, subst}
+use Rattle.std.proofs.Common.{rules, ℕ, ◌≤◌, subst}
 use Rattle.std.specs.Prelude.{All}
 use Rattle.nm_order.specs.Reads.{HasRead}
 use Rattle.nm_epoch.specs.declared.collecting.Entry.{Entry}
@@ -22,12 +23,21 @@ invariant_of-worker c =
     (collected_quietly _ part.0 _ part.1.0 _ part.1.2 part.2) (labelled c.worker.inside.pass _ _ was) c.collect_all-collected.ensures.lost c.collect_all-collected.ensures.queues c.collect_all-collected.ensures.others c.collect_all-collected.ensures.retired
     c.collect_all-collected.ensures.private (rw c.as_slice.ensures.value at c.note_all.ensures.noted) (stands_still c.worker.inside.pass c.collect_all-collected.new.pass _ _ was c.collect_all-collected.ensures.settles c.collect_all-collected.ensures.run)
 
-pub returns-clause-between : goal.returns-clause-between
-returns-clause-between c = (invariant_of-worker c).between
-
-pub returns-clause-newest : goal.returns-clause-newest
-returns-clause-newest c = subst (λ (w : Hand). (epoch : ℕ) → HasRead w.pass.view.log epoch → epoch ≤ c.collect_all-collected.result.epoch) c.worker.view_is c.collect_all-collected.ensures.newest
-
-pub returns-clause-grace : goal.returns-clause-grace
-returns-clause-grace c = subst (λ (w : Hand). All (λ (e : Entry). IsFreedInGrace c.collect_all-collected.new.pass.view e.node) (ripe_of c.collect_all-collected.result.epoch w.queues)) c.worker.view_is
-    (collected_in_grace c.collect_all-collected.new.pass.view c.worker.inside.pass.view.log c.collect_all-collected.result.epoch c.worker.inside.queues.items c.is_of_a_run.ensures.fits c.is_of_a_run.ensures.seen c.collect_all-collected.ensures.part)
+pub returns : goal.returns
+returns c = record {
+  same = search rules;
+  past = search (rules, seen_all);
+  did = search rules;
+  freed = search rules;
+  lost = search rules;
+  grace = (
+      subst (λ (w : Hand). All (λ (e : Entry). IsFreedInGrace c.collect_all-collected.new.pass.view e.node) (ripe_of c.collect_all-collected.result.epoch w.queues)) c.worker.view_is
+      (collected_in_grace c.collect_all-collected.new.pass.view c.worker.inside.pass.view.log c.collect_all-collected.result.epoch c.worker.inside.queues.items c.is_of_a_run.ensures.fits c.is_of_a_run.ensures.seen c.collect_all-collected.ensures.part)
+      );
+  blocks = search rules;
+  newest = subst (λ (w : Hand). (epoch : ℕ) → HasRead w.pass.view.log epoch → epoch ≤ c.collect_all-collected.result.epoch) c.worker.view_is c.collect_all-collected.ensures.newest;
+  place = search rules;
+  steps = search rules;
+  fit = search rules;
+  between = (invariant_of-worker c).between;
+}

@@ -1,4 +1,5 @@
-use Rattle.std.proofs.Common.{◌≡◌, ap, ◌∙◌}
+use Rattle.std.proofs.Common.{rules, ◌≡◌, ap, ◌∙◌}
+use Rattle.nm_steps.proofs.Seeing.{seen_all}
 use Rattle.nm_tree.specs.declared.worker.Standing.TheVariants as standing
 use Rattle.nm_tree.specs.Workers.{Hand}
 use Rattle.nm_tree.proofs.Quiet.{quiet_so}
@@ -16,12 +17,22 @@ invariant_of-worker c =
     c.has_many.ensures.hands.private (c.has_many.ensures.hands.ledgers was.labelled)
     (rests_as c.has_many.new.pass c.worker.inside.standing (resting c) c.has_many.ensures.rests)
 
-pub returns-clause-between : goal.returns-clause-between
-returns-clause-between c = (invariant_of-worker c).between
-
-pub returns-clause-did : goal.returns-clause-did
-returns-clause-did c =
-    elim c.match-has_many.branch [
-      | in-Ok w ↦ rw (w.result-is, ← c.worker.view_is, ← c.self.view_is) (free_in c.worker.inside.standing (resting c), w.in-Ok.ensures.did)
-      | in-Err w ↦ rw (w.result-is, ← c.worker.view_is, ← c.self.view_is) (free_in c.worker.inside.standing (resting c), w.in-Err.ensures.missed)
-    ]
+pub returns : goal.returns
+returns c = record {
+  same = search rules;
+  past = search (rules, seen_all);
+  did = (
+      elim c.match-has_many.branch [
+        | in-Ok w ↦ rw (w.result-is, ← c.worker.view_is, ← c.self.view_is) (free_in c.worker.inside.standing (resting c), w.in-Ok.ensures.did)
+        | in-Err w ↦ rw (w.result-is, ← c.worker.view_is, ← c.self.view_is) (free_in c.worker.inside.standing (resting c), w.in-Err.ensures.missed)
+      ]
+      );
+  keys = search rules;
+  moment = search rules;
+  won = search rules;
+  steps = search rules;
+  queues = search rules;
+  held = search rules;
+  fit = search rules;
+  between = (invariant_of-worker c).between;
+}

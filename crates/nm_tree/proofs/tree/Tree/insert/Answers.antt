@@ -1,6 +1,7 @@
-use Rattle.std.proofs.Common.{◌≡◌, ap, subst, ◌∙◌, arith}
+use Rattle.std.proofs.Common.{rules, ◌≡◌, ap, subst, ◌∙◌, arith}
 use Rattle.std.specs.Prelude.{Ok, Err}
 use Rattle.nm_steps.specs.Steps.{Stand}
+use Rattle.nm_steps.proofs.Seeing.{seen_all}
 use Rattle.nm_tree.specs.declared.worker.Standing.TheVariants as standing
 use Rattle.nm_tree.specs.Workers.{Hand}
 use Rattle.nm_tree.proofs.QueueLists.{lacks_after, others_stay, others_after, stands_within, room_stays, room_after}
@@ -13,8 +14,21 @@ use Rattle.nm_tree.proofs.Telling.{inserted_so}
 use Rattle.nm_tree.proofs.tree.Tree.insert.Goals as goal
 use Rattle.nm_tree.proofs.tree.Tree.insert.Goals.{in-Ok, in-Err-Busy, in-Err-Full, in-Err-NoMemory}
 
-pub returns-in-Pending-clause-queues : goal.returns-in-Pending-clause-queues
-returns-in-Pending-clause-queues c = others_stay c.args.worker.now.pass.view.number c.args.worker.now.queues
+pub returns-in-Pending : goal.returns-in-Pending
+returns-in-Pending c = record {
+  same = search rules;
+  past = search (rules, seen_all);
+  did = search rules;
+  lacks = search rules;
+  moment = search rules;
+  won = search rules;
+  steps = search rules;
+  queues = others_stay c.args.worker.now.pass.view.number c.args.worker.now.queues;
+  blocks = room_stays c.args.worker.now.queues;
+  held = search rules;
+  fit = search rules;
+  between = search rules;
+}
 
 pub index_mut-own-requires : goal.index_mut-own-requires
 index_mut-own-requires c = omega (arith, stands_within c.worker.inside.home _ c.worker.inside.queues.items c.worker.invariant.own, c.worker.inside.queues.ok.0)
@@ -35,45 +49,45 @@ resting c = resting_in c.worker.inside.standing (ap (λ (w : Hand). w.held) c.wo
 
 pub invariant_of-worker : goal.invariant_of-worker
 invariant_of-worker c =
-    changed _ _ c.worker.inside.home c.insert_with.new.pass _ _ c.insert_with.new.own c.insert_with.new.account c.worker.invariant c.insert_with.ensures.same c.insert_with.ensures.kept
-    c.insert_with.ensures.others c.insert_with.ensures.private (rests_as c.insert_with.new.pass c.worker.inside.standing (resting c) c.insert_with.ensures.rests)
+    changed _ _ c.worker.inside.home c.insert_with.new.pass _ _ c.insert_with.new.own c.insert_with.new.account c.worker.invariant c.insert_with.ensures.after.same c.insert_with.ensures.kept
+    c.insert_with.ensures.after.ledgers.others c.insert_with.ensures.after.private (rests_as c.insert_with.new.pass c.worker.inside.standing (resting c) c.insert_with.ensures.after.rests)
 
-pub returns-clause-did : goal.returns-clause-did
-returns-clause-did c =
-    elim c.match-insert_with.branch [
-      | in-Ok w ↦ inserted_so _ _ c.args.tries c.args.key _ _ _ (Ok _) _ c.self.view_is c.worker.view_is w.result-is (free_in c.worker.inside.standing (resting c), w.in-Ok.ensures.did)
-      | in-Err-Busy w ↦
-          let P : Lost → Type 0 = λ m. InsertDid c.worker.inside.placement c.self.inside.shared.layout.nodes c.args.tries c.args.key c.worker.inside.pass.view.log c.insert_with.new.pass.view.log (Err m) in
-          inserted_so _ _ c.args.tries c.args.key _ _ _ (Err fault.Busy) _ c.self.view_is c.worker.view_is w.result-is (free_in c.worker.inside.standing (resting c), subst P w.in-Err-Busy.field-0-is w.in-Err-Busy.ensures.did)
-      | in-Err-Full w ↦
-          let P : Lost → Type 0 = λ m. InsertDid c.worker.inside.placement c.self.inside.shared.layout.nodes c.args.tries c.args.key c.worker.inside.pass.view.log c.insert_with.new.pass.view.log (Err m) in
-          inserted_so _ _ c.args.tries c.args.key _ _ _ (Err fault.Full) _ c.self.view_is c.worker.view_is w.result-is (free_in c.worker.inside.standing (resting c), subst P w.in-Err-Full.field-0-is w.in-Err-Full.ensures.did)
-      | in-Err-NoMemory w ↦
-          let P : Lost → Type 0 = λ m. InsertDid c.worker.inside.placement c.self.inside.shared.layout.nodes c.args.tries c.args.key c.worker.inside.pass.view.log c.insert_with.new.pass.view.log (Err m) in
-          inserted_so _ _ c.args.tries c.args.key _ _ _ (Err fault.NoMemory) _ c.self.view_is c.worker.view_is w.result-is (free_in c.worker.inside.standing (resting c), subst P w.in-Err-NoMemory.field-0-is w.in-Err-NoMemory.ensures.did)
-    ]
-
-pub returns-clause-queues : goal.returns-clause-queues
-returns-clause-queues c =
-    rw (← c.worker.view_is)
-    (others_after c.worker.inside.home c.worker.inside.pass.view.number c.worker.inside.queues.items c.insert_with.new.own c.worker.invariant.own (c.insert_with.ensures.kept.own ∙ ap (λ (x : Stand). x.view.number) c.insert_with.ensures.same))
-
-pub returns-clause-between : goal.returns-clause-between
-returns-clause-between c = (invariant_of-worker c).between
-
-pub returns-clause-lacks : goal.returns-clause-lacks
-returns-clause-lacks c =
-    elim c.match-insert_with.branch [
-      | in-Ok w ↦ rw w.result-is tt
-      | in-Err-Busy w ↦ rw w.result-is tt
-      | in-Err-Full w ↦ rw w.result-is tt
-      | in-Err-NoMemory w ↦ rw w.result-is
-          (lacks_after c.worker.inside.home _ _ c.worker.inside.queues.items c.insert_with.new.own c.worker.invariant.own c.insert_with.ensures.kept.own (w.in-Err-NoMemory.ensures.refused (ap (λ (m : Lost). Err m) w.in-Err-NoMemory.field-0-is)))
-    ]
-
-pub returns-in-Pending-clause-blocks : goal.returns-in-Pending-clause-blocks
-returns-in-Pending-clause-blocks c = room_stays c.args.worker.now.queues
-
-pub returns-clause-blocks : goal.returns-clause-blocks
-returns-clause-blocks c =
-    rw (← c.worker.view_is) (room_after c.worker.inside.home _ c.worker.inside.queues.items _ c.insert_with.new.own c.worker.invariant.own c.index_mut-own.ensures.value c.insert_with.ensures.room)
+pub returns : goal.returns
+returns c = record {
+  same = search rules;
+  past = search (rules, seen_all);
+  did = (
+      elim c.match-insert_with.branch [
+        | in-Ok w ↦ inserted_so _ _ c.args.tries c.args.key _ _ _ (Ok _) _ c.self.view_is c.worker.view_is w.result-is (free_in c.worker.inside.standing (resting c), w.in-Ok.ensures.after.did)
+        | in-Err-Busy w ↦
+            let P : Lost → Type 0 = λ m. InsertDid c.worker.inside.placement c.self.inside.shared.layout.nodes c.args.tries c.args.key c.worker.inside.pass.view.log c.insert_with.new.pass.view.log (Err m) in
+            inserted_so _ _ c.args.tries c.args.key _ _ _ (Err fault.Busy) _ c.self.view_is c.worker.view_is w.result-is (free_in c.worker.inside.standing (resting c), subst P w.in-Err-Busy.field-0-is w.in-Err-Busy.ensures.after.did)
+        | in-Err-Full w ↦
+            let P : Lost → Type 0 = λ m. InsertDid c.worker.inside.placement c.self.inside.shared.layout.nodes c.args.tries c.args.key c.worker.inside.pass.view.log c.insert_with.new.pass.view.log (Err m) in
+            inserted_so _ _ c.args.tries c.args.key _ _ _ (Err fault.Full) _ c.self.view_is c.worker.view_is w.result-is (free_in c.worker.inside.standing (resting c), subst P w.in-Err-Full.field-0-is w.in-Err-Full.ensures.after.did)
+        | in-Err-NoMemory w ↦
+            let P : Lost → Type 0 = λ m. InsertDid c.worker.inside.placement c.self.inside.shared.layout.nodes c.args.tries c.args.key c.worker.inside.pass.view.log c.insert_with.new.pass.view.log (Err m) in
+            inserted_so _ _ c.args.tries c.args.key _ _ _ (Err fault.NoMemory) _ c.self.view_is c.worker.view_is w.result-is (free_in c.worker.inside.standing (resting c), subst P w.in-Err-NoMemory.field-0-is w.in-Err-NoMemory.ensures.after.did)
+      ]
+      );
+  lacks = (
+      elim c.match-insert_with.branch [
+        | in-Ok w ↦ rw w.result-is tt
+        | in-Err-Busy w ↦ rw w.result-is tt
+        | in-Err-Full w ↦ rw w.result-is tt
+        | in-Err-NoMemory w ↦ rw w.result-is
+            (lacks_after c.worker.inside.home _ _ c.worker.inside.queues.items c.insert_with.new.own c.worker.invariant.own c.insert_with.ensures.kept.own (w.in-Err-NoMemory.ensures.refused (ap (λ (m : Lost). Err m) w.in-Err-NoMemory.field-0-is)))
+      ]
+      );
+  moment = search rules;
+  won = search rules;
+  steps = search rules;
+  queues = (
+      rw (← c.worker.view_is)
+      (others_after c.worker.inside.home c.worker.inside.pass.view.number c.worker.inside.queues.items c.insert_with.new.own c.worker.invariant.own (c.insert_with.ensures.kept.own ∙ ap (λ (x : Stand). x.view.number) c.insert_with.ensures.after.same))
+      );
+  blocks = rw (← c.worker.view_is) (room_after c.worker.inside.home _ c.worker.inside.queues.items _ c.insert_with.new.own c.worker.invariant.own c.index_mut-own.ensures.value c.insert_with.ensures.room);
+  held = search rules;
+  fit = search rules;
+  between = (invariant_of-worker c).between;
+}

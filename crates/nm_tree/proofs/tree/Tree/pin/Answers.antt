@@ -1,4 +1,5 @@
-use Rattle.std.proofs.Common.{ap, refl, ◌∙◌}
+use Rattle.std.proofs.Common.{rules, ap, refl, ◌∙◌}
+use Rattle.nm_steps.proofs.Seeing.{seen_all}
 use Rattle.nm_tree.specs.Workers.{Hand, held_in}
 use Rattle.nm_tree.proofs.Quiet.{pinned, moved_on}
 use Rattle.nm_tree.proofs.Staying.{stays, resting_in, rests_in, rests_as, free_in, held_at}
@@ -16,14 +17,24 @@ invariant_of-worker-in-Err c =
     stays _ _ c.worker.inside.home c.pin.new.pass _ _ c.worker.invariant c.pin.ensures.same (moved_on c.args.tries _ _ c.in-Err.ensures.moved) c.pin.ensures.hands.private (c.pin.ensures.hands.ledgers was.labelled)
     (rests_as c.pin.new.pass c.worker.inside.standing (resting_in c.worker.inside.standing (ap (λ (w : Hand). w.held) c.worker.view_is ∙ c.requires.free) c.in_default.not-Pending) c.in-Err.ensures.rests)
 
-pub returns-in-Ok-clause-between : goal.returns-in-Ok-clause-between
-returns-in-Ok-clause-between c = (invariant_of-worker c).between
+pub returns-in-Ok : goal.returns-in-Ok
+returns-in-Ok c = record {
+  same = search rules;
+  past = search (rules, seen_all);
+  did = rw (← c.worker.view_is) (((free_in c.worker.inside.standing (resting_in c.worker.inside.standing (ap (λ (w : Hand). w.held) c.worker.view_is ∙ c.requires.free) c.in_default.not-Pending)).0, refl), refl, c.in-Ok.ensures.pinned);
+  queues = search rules;
+  steps = search rules;
+  fit = search rules;
+  between = (invariant_of-worker c).between;
+}
 
-pub returns-in-Err-clause-between : goal.returns-in-Err-clause-between
-returns-in-Err-clause-between c = (invariant_of-worker-in-Err c).between
-
-pub returns-in-Ok-clause-did : goal.returns-in-Ok-clause-did
-returns-in-Ok-clause-did c = rw (← c.worker.view_is) (((free_in c.worker.inside.standing (resting_in c.worker.inside.standing (ap (λ (w : Hand). w.held) c.worker.view_is ∙ c.requires.free) c.in_default.not-Pending)).0, refl), refl, c.in-Ok.ensures.pinned)
-
-pub returns-in-Err-clause-did : goal.returns-in-Err-clause-did
-returns-in-Err-clause-did c = rw (← c.worker.view_is) (free_in c.worker.inside.standing (resting_in c.worker.inside.standing (ap (λ (w : Hand). w.held) c.worker.view_is ∙ c.requires.free) c.in_default.not-Pending), ap held_in (resting_in c.worker.inside.standing (ap (λ (w : Hand). w.held) c.worker.view_is ∙ c.requires.free) c.in_default.not-Pending), c.in-Err.ensures.last, c.in-Err.ensures.moved)
+pub returns-in-Err : goal.returns-in-Err
+returns-in-Err c = record {
+  same = search rules;
+  past = search (rules, seen_all);
+  did = rw (← c.worker.view_is) (free_in c.worker.inside.standing (resting_in c.worker.inside.standing (ap (λ (w : Hand). w.held) c.worker.view_is ∙ c.requires.free) c.in_default.not-Pending), ap held_in (resting_in c.worker.inside.standing (ap (λ (w : Hand). w.held) c.worker.view_is ∙ c.requires.free) c.in_default.not-Pending), c.in-Err.ensures.last, c.in-Err.ensures.moved);
+  queues = search rules;
+  steps = search rules;
+  fit = search rules;
+  between = (invariant_of-worker-in-Err c).between;
+}
