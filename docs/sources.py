@@ -329,10 +329,19 @@ def named(function, clause):
     return list(dict.fromkeys(known[it] for it in NAME.findall(clause.text) if it in known))
 
 
+def at_top(text):
+    """A clause's text without what stands in brackets."""
+    while (less := re.sub(r"\([^()]*\)", "", text)) != text:
+        text = less
+    return text
+
+
 def record_of(function, clause):
-    """The record that a clause says as a whole, whose fields are what it promises; else None."""
+    """The record that a clause says as a whole, whose fields are what it promises; else None. A
+    premise, or one of several facts, is not the whole."""
     known, first = imports(function.crate, function.path), NAME.match(clause.text)
-    place = known.get(first[0]) if first else None
+    is_whole = first and not re.search(r"[→⊎×≡≢≤<]", at_top(clause.text))
+    place = known.get(first[0]) if is_whole else None
     return definitions()[place] if place and definitions()[place].fields else None
 
 
