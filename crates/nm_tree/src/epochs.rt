@@ -79,7 +79,7 @@ impl Tree {
         let collected = collect_all(
             &self.shared,
             &mut worker.pass,
-            &mut worker.placement,
+            &mut worker.workspace.placement,
             &mut worker.queues,
         );
         worker.pass.is_of_a_run();

@@ -1,3 +1,4 @@
+use Rattle.std.proofs.Common.{◌≡◌}
 use Rattle.nm_calls.specs.Rooms.{TakesRoom}
 use Rattle.nm_calls.specs.Telling.{GoesOn}
 use Rattle.nm_calls.specs.Cleanups.{OnlyCleans, HoldsCuts}
@@ -11,5 +12,6 @@ invariant-loop-round l = record {
   on : GoesOn l.fn.pass l.pass;
   only : OnlyCleans l.fn.pass l.pass;
   blocks : TakesRoom l.fn.queue l.queue;
-  kept : HoldsCuts l.pass l.queue l.splices;
+  kept : HoldsCuts l.pass l.queue l.workspace.splices;
+  fit : l.workspace.placement ≡ l.fn.workspace.placement;
 }

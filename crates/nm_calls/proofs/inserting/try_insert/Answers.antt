@@ -71,7 +71,7 @@ returns-in_default-ready-clause-kept c = record {
       let old = c.args.pass.now.view.log in
       let mid = c.seek.new.pass.view.log in
       let claimed = c.ready.new.pass.view.log in
-      counts_on _ old claimed (adds_then old mid claimed (seeks_adds c.args.shared.now.layout.nodes c.args.key c.args.pass.now.view.log c.seek.new.pass.view.log c.seek.new.chain.items c.seek.result c.seek.ensures.walk) (readied_adds c.args.placement.now nodes c.args.fork.now c.ready.new.fork c.ready.result mid claimed c.ready.ensures.part)) c.requires.kept.counted
+      counts_on _ old claimed (adds_then old mid claimed (seeks_adds c.args.shared.now.layout.nodes c.args.key c.args.pass.now.view.log c.seek.new.pass.view.log c.seek.new.chain.items c.seek.result c.seek.ensures.walk) (readied_adds c.args.workspace.now.placement nodes c.args.fork.now c.ready.new.fork c.ready.result mid claimed c.ready.ensures.part)) c.requires.kept.counted
       );
 }
 
@@ -84,7 +84,7 @@ help-requires-clause-kept c = record {
       let mid = c.seek.new.pass.view.log in
       let claimed = c.ready.new.pass.view.log in
       let new = c.grow.new.pass.view.log in
-      counts_on _ old new (adds_then old mid new (seeks_adds c.args.shared.now.layout.nodes c.args.key c.args.pass.now.view.log c.seek.new.pass.view.log c.seek.new.chain.items c.seek.result c.seek.ensures.walk) (adds_then mid claimed new (readied_adds c.args.placement.now nodes c.args.fork.now c.ready.new.fork c.ready.result mid claimed c.ready.ensures.part) (grows_lost c.args.key c.in-Some.end c.in-Some-ready.made c.in-Err.found claimed new c.in-Err.ensures.lost.part))) c.requires.kept.counted
+      counts_on _ old new (adds_then old mid new (seeks_adds c.args.shared.now.layout.nodes c.args.key c.args.pass.now.view.log c.seek.new.pass.view.log c.seek.new.chain.items c.seek.result c.seek.ensures.walk) (adds_then mid claimed new (readied_adds c.args.workspace.now.placement nodes c.args.fork.now c.ready.new.fork c.ready.result mid claimed c.ready.ensures.part) (grows_lost c.args.key c.in-Some.end c.in-Some-ready.made c.in-Err.found claimed new c.in-Err.ensures.lost.part))) c.requires.kept.counted
       );
 }
 
@@ -97,7 +97,7 @@ returns-in-Ok-clause-kept c = record {
       let mid = c.seek.new.pass.view.log in
       let claimed = c.ready.new.pass.view.log in
       let new = c.grow.new.pass.view.log in
-      counts_on _ old new (adds_then old mid new (seeks_adds c.args.shared.now.layout.nodes c.args.key c.args.pass.now.view.log c.seek.new.pass.view.log c.seek.new.chain.items c.seek.result c.seek.ensures.walk) (adds_then mid claimed new (readied_adds c.args.placement.now nodes c.args.fork.now c.ready.new.fork c.ready.result mid claimed c.ready.ensures.part) (grows_won c.args.key c.in-Some.end c.in-Some-ready.made claimed new c.in-Ok.ensures.won.part))) c.requires.kept.counted
+      counts_on _ old new (adds_then old mid new (seeks_adds c.args.shared.now.layout.nodes c.args.key c.args.pass.now.view.log c.seek.new.pass.view.log c.seek.new.chain.items c.seek.result c.seek.ensures.walk) (adds_then mid claimed new (readied_adds c.args.workspace.now.placement nodes c.args.fork.now c.ready.new.fork c.ready.result mid claimed c.ready.ensures.part) (grows_won c.args.key c.in-Some.end c.in-Some-ready.made claimed new c.in-Ok.ensures.won.part))) c.requires.kept.counted
       );
 }
 
