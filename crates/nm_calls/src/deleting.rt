@@ -4,7 +4,7 @@ ghost use Rattle.nm_model.specs.Memory.{infinity_0};
 ghost use Rattle.nm_model.specs.declared.event.Op.TheVariants.{Delete};
 ghost use Rattle.nm_order.specs.Facts.Fact.{IsFlagged};
 ghost use Rattle.nm_steps.specs.Rules.{knowledge};
-ghost use Rattle.nm_steps.specs.Steps.{Stand, IsOf, IsSamePass, HasSeenAllOf};
+ghost use Rattle.nm_steps.specs.Steps.{Stand, IsOf, Continues};
 ghost use Rattle.nm_epoch.specs.Resting.{IsResting, search};
 ghost use Rattle.nm_calls.specs.Bounds.{chain_bound, cut_bound};
 ghost use Rattle.nm_calls.specs.Rooms.{FillsUp, TakesRoom};
@@ -333,8 +333,7 @@ fn delete_pinned(
     requires unchanged { HasChangedNothing pass.old }
     requires room { cut_bound ≤ queue.old.spare }
     requires kept { HoldsCuts pass.old queue.old workspace.old.splices }
-    ensures same { IsSamePass pass.old pass.new }
-    ensures past { HasSeenAllOf pass.new pass.old }
+    ensures on { Continues pass.old pass.new }
     ensures part { DeleteFinishes shared.now.layout.nodes tries key pass.old.view.log
         pass.new.view.log result }
     ensures refused { IfErr result
@@ -342,7 +341,6 @@ fn delete_pinned(
         pass.new.view.log Removal.Spent) queue.new.spare) }
     ensures moment { (o : Stand) → HadNoCall o pass.old
         → IfOk result (AnswerHasMoment o pass.new Delete key) }
-    ensures run { IsInRun pass.new }
     ensures stands { RestsOrRemoves key pass.new result }
     ensures private { (knowledge pass.new.view).drafts ≡ (knowledge pass.old.view).drafts }
     ensures kept { HoldsCuts pass.new queue.new workspace.new.splices }

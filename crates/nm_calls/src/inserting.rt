@@ -1,7 +1,7 @@
 //! Inserts.
 ghost use Rattle.std.specs.Prelude.{◌≡◌, ◌<◌, ◌≤◌, ◌*◌, true, false, length, None, IfOk, IsErrOf};
 ghost use Rattle.nm_model.specs.declared.event.Op.TheVariants.{Insert};
-ghost use Rattle.nm_steps.specs.Steps.{Stand, IsOf, IsSamePass, HasSeenAllOf};
+ghost use Rattle.nm_steps.specs.Steps.{Stand, IsOf, Continues};
 ghost use Rattle.nm_epoch.specs.Resting.{IsResting, search};
 ghost use Rattle.nm_calls.specs.Bounds.{chain_bound, cut_bound};
 ghost use Rattle.nm_calls.specs.Rooms.{FillsUp, TakesRoom};
@@ -186,14 +186,12 @@ fn insert_pinned(
     requires unchanged { HasChangedNothing pass.old }
     requires room { cut_bound ≤ queue.old.spare }
     requires kept { HoldsCuts pass.old queue.old workspace.old.splices }
-    ensures same { IsSamePass pass.old pass.new }
-    ensures past { HasSeenAllOf pass.new pass.old }
+    ensures on { Continues pass.old pass.new }
     ensures part { Finishes workspace.old.placement shared.now.layout.nodes tries key
         pass.old.view.log pass.new.view.log result }
     ensures refused { IsErrOf result Fault.NoMemory → queue.new.spare < cut_bound }
     ensures moment { (o : Stand) → HadNoCall o pass.old
         → IfOk result (AnswerHasMoment o pass.new Insert key) }
-    ensures run { IsInRun pass.new }
     ensures rests { IsResting pass.new }
     ensures private { HasFork pass.old pass.new None }
     ensures kept { HoldsCuts pass.new queue.new workspace.new.splices }

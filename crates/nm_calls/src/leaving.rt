@@ -5,7 +5,7 @@ ghost use Rattle.nm_model.specs.declared.event.Op.{Op};
 ghost use Rattle.nm_model.specs.declared.reply.Reply.TheVariants.{Labelled, Departed};
 ghost use Rattle.nm_order.specs.Facts.Fact.{CallIs};
 ghost use Rattle.nm_steps.specs.Rules.{knowledge};
-ghost use Rattle.nm_steps.specs.Steps.{Stand, IsOf, MayStep, Stepped, TakesStep};
+ghost use Rattle.nm_steps.specs.Steps.{Stand, IsOf, MayStep, TakesStep, Stepped};
 ghost use Rattle.nm_epoch.specs.Resting.{IsResting, KeepsHands, epochs};
 ghost use Rattle.nm_epoch.specs.Collecting.{TakesLabels};
 ghost use Rattle.nm_calls.specs.Telling.{Tells, GoesOn, IsInRun};

@@ -13,7 +13,7 @@ ghost use Rattle.nm_calls.specs.Marking.{TagTold, IsToBeFlagged, OnlyFlags, Flag
 
 use crate::spot::Spot;
 use nm_edge::{Edge, Side};
-use nm_steps::{Pass, Shared};
+use nm_steps::{FrozenChain, Pass, Shared};
 
 /// Tags an edge of a known node whose other edge is known to be flagged, and answers the edge as it
 /// was. It is never null.
@@ -78,15 +78,14 @@ pub fn splice(
     ensures on { GoesOn pass.old pass.new }
     ensures only { OnlyCuts pass.old pass.new }
 {
-    let won = shared.splice(
-        pass,
-        spot.ancestor,
-        spot.above,
-        spot.successor,
-        spot.parent,
+    let chain = FrozenChain {
+        ancestor: spot.ancestor,
+        side: spot.above,
+        successor: spot.successor,
+        parent: spot.parent,
         keep,
-        kept,
-    );
+    };
+    let won = shared.splice(pass, chain, kept);
     pass.is_of_a_run();
     won
 }

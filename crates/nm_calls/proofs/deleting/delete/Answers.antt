@@ -25,7 +25,7 @@ returns-clause-after c =
       past = search (rules, seen_all);
       did = delete_did nodes c.args.tries c.args.key old new c.delete_pinned.result (a, c.in-Ok._epoch, c.in-Ok.ensures.pinned, part);
       moment = (
-          let pinned : HadNoCall c.args.pass.now c.pin_for.new.pass = record { seen = c.is_of_a_run.ensures.seen; same = c.pin_for.ensures.same; past = c.pin_for.ensures.past; call = ap (λ (s : Search). s.call) c.requires.rests.idle } in
+          let pinned : HadNoCall c.args.pass.now c.pin_for.new.pass = record { seen = c.is_of_a_run.ensures.seen; same = c.pin_for.ensures.on.same; past = c.pin_for.ensures.on.past; call = ap (λ (s : Search). s.call) c.requires.rests.idle } in
           subst (λ k. IfOk c.delete_pinned.result (AnswerHasMoment c.args.pass.now c.delete_pinned.new.pass Delete k)) c.get.ensures.number (c.delete_pinned.ensures.moment c.args.pass.now pinned)
           );
       won = delete_wins nodes c.args.tries c.args.key old a new c.in-Ok._epoch c.in-Ok.ensures.pinned c.delete_pinned.result part;
@@ -60,7 +60,7 @@ pub make_room-requires : goal.make_room-requires
 make_room-requires c = record { few = may_grow_first c.args.shared.now c.args.pass.now c.args.queue.now.items c.requires.own c.is_of_a_run.ensures.fits c.requires.few }
 
 pub returns-clause-few : goal.returns-clause-few
-returns-clause-few c = few_in_table c.args.shared.now c.args.pass.now c.delete_pinned.new.pass c.delete_pinned.new.queue.items c.requires.own (search rules) c.delete_pinned.ensures.run c.delete_pinned.ensures.kept.queue
+returns-clause-few c = few_in_table c.args.shared.now c.args.pass.now c.delete_pinned.new.pass c.delete_pinned.new.queue.items c.requires.own (search rules) c.delete_pinned.ensures.on.run c.delete_pinned.ensures.kept.queue
 
 pub returns-clause-refused : goal.returns-clause-refused
 returns-clause-refused c =

@@ -14,7 +14,7 @@ remove_after-requires-clause-removing c =
     removing_from c.args.pass.now c.inject.new.pass c.args.key (leaf_of c.in-Flagged.flagged.end c.in-Flagged.flagged.birth) c.requires.pinned.pin c.requires.call c.requires.unchanged.labelled c.inject.ensures.on c.inject.ensures.only shows.0 shows.2
 
 pub returns-in-Refused-clause-part : goal.returns-in-Refused-clause-part
-returns-in-Refused-clause-part c = (c.inject.new.workspace.chain.items, c.inject.new.pass.view.log, c.in-Refused.ensures.part, ap (λ (x : Stand). x.view.log) c.leave.ensures.step)
+returns-in-Refused-clause-part c = (c.inject.new.workspace.chain.items, c.inject.new.pass.view.log, c.in-Refused.ensures.part, ap (λ (x : Stand). x.view.log) c.leave.ensures.took.step)
 
 pub returns-in-Spent-clause-part : goal.returns-in-Spent-clause-part
 returns-in-Spent-clause-part c = (c.inject.new.workspace.chain.items, c.inject.new.pass.view.log, c.in-Spent.ensures.part, ap (λ (x : Stand). x.view.log) c.leave-in-Spent.ensures.step)

@@ -20,7 +20,7 @@ returns-in-Removed-clause-after c =
     let did : FinishDid nodes c.args.pending.now.key c.args.pending.now.leaf c.args.tries old new true = (
       mid,
       subst (λ k. IsRemoval nodes k c.args.pending.now.leaf c.args.tries old mid removal.Removed) c.get-key.ensures.number c.in-Removed.ensures.part,
-      ap (λ (x : Stand). x.view.log) c.answer.ensures.step,
+      ap (λ (x : Stand). x.view.log) c.answer.ensures.took.step,
     ) in
     record {
       same = search rules;

@@ -89,7 +89,7 @@ returns-in-Found-clause-kept c = record {
       let tried = c.try_insert.new.pass.view.log in
       let back = c.give_back-in-Found.new.pass.view.log in
       let new = c.answer.new.pass.view.log in
-      counts_on _ tried new (adds_then tried back new (back_adds c.try_insert.new.fork tried back c.give_back-in-Found.ensures.part) (adds_these _ back new (ap (λ (s : Stand). s.view.log) c.answer.ensures.step))) c.try_insert.ensures.kept.counted
+      counts_on _ tried new (adds_then tried back new (back_adds c.try_insert.new.fork tried back c.give_back-in-Found.ensures.part) (adds_these _ back new (ap (λ (s : Stand). s.view.log) c.answer.ensures.took.step))) c.try_insert.ensures.kept.counted
       );
 }
 
@@ -103,7 +103,7 @@ returns-then-not-make_room-clause-part c = (
   c.loop-round-test.true,
   c.loop-round.invariant.lost,
   c.give_back.ensures.part,
-  ap (λ (s : Stand). s.view.log) c.leave.ensures.step,
+  ap (λ (s : Stand). s.view.log) c.leave.ensures.took.step,
 )
 
 pub returns-then-not-make_room-clause-blocks : goal.returns-then-not-make_room-clause-blocks

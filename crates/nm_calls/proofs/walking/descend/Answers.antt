@@ -1,4 +1,4 @@
-use Rattle.std.proofs.Common.{rules, ◌≡◌, ◌≢◌, ◌<◌, [], length, refl, ap, subst, sym, ◌∙◌, arith}
+use Rattle.std.proofs.Common.{◌≡◌, ◌≢◌, ◌+◌, [], refl, ap, subst, sym, ◌∙◌, arith}
 use Rattle.nm_edge.specs.Layouts.{Layout}
 use Rattle.nm_order.specs.Facts.Fact.{KnowsSlot}
 use Rattle.nm_steps.specs.Steps.{Stand}
@@ -8,7 +8,7 @@ use Rattle.nm_calls.specs.Telling.{Tells, OnwardTold}
 use Rattle.nm_calls.specs.Walks.{Reads, IsWalking, chain_onto}
 use Rattle.nm_calls.proofs.GoingOn.{pinned_in_still, come_first}
 use Rattle.nm_calls.proofs.Standing.{at_begin}
-use Rattle.nm_calls.proofs.Walking.{no_chain, walks_on, walks_out}
+use Rattle.nm_calls.proofs.Walked.{no_chain, walks_on, walks_out}
 use Rattle.nm_calls.proofs.walking.descend.Goals as goal
 
 pub read_node-on-requires-clause-pinned : goal.read_node-on-requires-clause-pinned
@@ -47,3 +47,17 @@ loop-below-preserved c =
           (walks_on nodes c.args.key c.loop-below.below c.args.pass.now p q t [] on c.loop-below.invariant.walking read c.read_node-on.ensures.on c.read_node-on.ensures.only told
           some c.read_node-on.ensures.within (rw none' (omega arith)) c.further-spot.result c.further-spot.ensures.spot c.further-spot.ensures.edge);
     }
+
+pub returns-then-slot-eq0-clause-came : goal.returns-then-slot-eq0-clause-came
+returns-then-slot-eq0-clause-came c =
+    let p = c.loop-below.pass in
+    let q = c.read_node-on.new.pass in
+    let t = c.loop-below.spot in
+    let on = c.read_node-on.result in
+    let told : OnwardTold p q c.args.key t.edge.slot on.found on.side on.next = subst (λ n. OnwardTold p q c.args.key n on.found on.side on.next) c.slot-node.ensures c.read_node-on.ensures.told in
+    let read : Reads c.args.key t.edge.slot p.view.log q.view.log on = subst (λ n. Reads c.args.key n p.view.log q.view.log on) c.slot-node.ensures c.read_node-on.ensures.looks in
+    let below = c.loop-below-test.true in
+    let nodes = c.nodes-most.ensures.nodes in
+    let layout = ap (λ (L : Layout). L.nodes) c.layout-layout.ensures in
+    walks_out c.args.shared.now.layout.nodes c.args.key c.loop-below.below c.args.pass.now p q t [] on c.loop-below.invariant.walking read c.read_node-on.ensures.on c.read_node-on.ensures.only told
+    (sym c.slot.ensures ∙ c.if-slot-eq0.true) (omega (arith, below, nodes, layout)) c.end_at.result c.end_at.ensures.spot c.end_at.ensures.key
