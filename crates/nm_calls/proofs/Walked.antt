@@ -33,5 +33,7 @@ module _ (nodes k n : ℕ) (o p q : Stand) (t : Spot) (c : List ChainEdge) (on :
   walks_out null few r spot key = rw (spot, key) (record {
     walk = (n, p.view.log, on, few, w.walk, null, read, refl);
     ended = record { at = at_kept (Tells p) (Tells q) goes.keeps t c w.at; leaf = told.learned.leaf null; within = w.within };
+    few = w.short;
+    high = told.high;
     found = found_so o p q k on.found t on.side on.next w.come told null;
   })

@@ -6,6 +6,7 @@ use Rattle.nm_edge.specs.declared.edge.Side.TheVariants.{Left, Right}
 use Rattle.nm_model.specs.declared.event.Event.TheVariants.{Look}
 use Rattle.nm_model.specs.declared.event.Field.TheVariants.{Key as KeyOf, Edge as EdgeOn}
 use Rattle.nm_model.specs.declared.reply.Reply.TheVariants.{KeyIs, EdgeIs}
+use Rattle.nm_model.specs.Memory.{infinity_0}
 use Rattle.nm_model.specs.Searches.{side_of}
 use Rattle.nm_model.specs.Walks.{Entry}
 use Rattle.nm_order.specs.Facts.{Since, Fact}
@@ -166,10 +167,12 @@ pub record IsWalking (nodes k n : ℕ) (o p : Stand) (s : Spot) (c : List ChainE
   pub only : OnlyLooks o p
   pub come : EachWalkHasCome o p k s
 
--- or it has ended
+-- or it has ended, at a leaf above slot 5 where its key is below the sentinels
 pub record HasWalked (nodes k : ℕ) (o p : Stand) (c : List ChainEdge) (r : End) : Type 0 where
   pub walk : EndsAtLeaf nodes k o.view.log p.view.log r.spot c r.key
   pub ended : HasEnded (Tells p) nodes r.spot c
+  pub few : length c < chain_bound
+  pub high : r.key < infinity_0 → 6 ≤ r.spot.edge.slot
   pub found : HasFound o p k r.spot.edge.slot r.spot.parent r.spot.side r.key
 
 -- the part of it that goes by untagged edges alone, so that its chain is empty: it has ended, or

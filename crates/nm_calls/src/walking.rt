@@ -1,11 +1,9 @@
 //! The walk for a key.
-ghost use Rattle.std.specs.Prelude.{◌<◌, ◌≤◌, ◌+◌, ◌*◌, ℕ, IfSome, length};
-ghost use Rattle.nm_model.specs.Memory.{infinity_0};
+ghost use Rattle.std.specs.Prelude.{◌≤◌, ◌+◌, ◌*◌, ℕ, IfSome, length};
 ghost use Rattle.nm_edge.specs.declared.edge.Side.{Side as SideOf};
 ghost use Rattle.nm_order.specs.Facts.Fact.{KnowsSlot};
-ghost use Rattle.nm_calls.specs.Bounds.{chain_bound};
 ghost use Rattle.nm_calls.specs.Telling.{Tells, GoesOn, OnlyLooks, IsPinnedIn};
-ghost use Rattle.nm_calls.specs.Walks.{Finds, Seeks, HasDescended, HasEnded, HasFound};
+ghost use Rattle.nm_calls.specs.Walks.{Finds, Seeks, HasDescended, HasFound, HasWalked};
 
 use crate::looking::{look_edge, read_node};
 use crate::spot::{Chain, Descent, End, end_at, extend, first, further};
@@ -50,16 +48,12 @@ pub fn seek(shared: &Shared, pass: &mut Pass, key: u64, chain: &mut Chain) -> Op
     requires known { Tells pass.old (KnowsSlot 2) }
     ensures walk { Seeks shared.now.layout.nodes key pass.old.view.log pass.new.view.log
         chain.new.items result }
-    ensures ended { IfSome result
-        (λ r. HasEnded (Tells pass.new) shared.now.layout.nodes r.spot chain.new.items) }
-    ensures few { IfSome result (λ r. length chain.new.items < chain_bound) }
-    ensures high { IfSome result (λ r. r.key < infinity_0 → 6 ≤ r.spot.edge.slot) }
+    ensures came { IfSome result
+        (HasWalked shared.now.layout.nodes key pass.old pass.new chain.new.items) }
     ensures steps { length pass.new.view.log
         ≤ length pass.old.view.log + 3 * shared.now.layout.nodes }
     ensures on { GoesOn pass.old pass.new }
     ensures only { OnlyLooks pass.old pass.new }
-    ensures found { IfSome result
-        (λ r. HasFound pass.old pass.new key r.spot.edge.slot r.spot.parent r.spot.side r.key) }
 {
     chain.clear();
     let (mut spot, below) = match descend(shared, pass, key) {

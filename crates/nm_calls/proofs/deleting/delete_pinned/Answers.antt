@@ -17,7 +17,7 @@ pub returns-in-Refused-clause-part : goal.returns-in-Refused-clause-part
 returns-in-Refused-clause-part c = (c.inject.new.workspace.chain.items, c.inject.new.pass.view.log, c.in-Refused.ensures.part, ap (λ (x : Stand). x.view.log) c.leave.ensures.took.step)
 
 pub returns-in-Spent-clause-part : goal.returns-in-Spent-clause-part
-returns-in-Spent-clause-part c = (c.inject.new.workspace.chain.items, c.inject.new.pass.view.log, c.in-Spent.ensures.part, ap (λ (x : Stand). x.view.log) c.leave-in-Spent.ensures.step)
+returns-in-Spent-clause-part c = (c.inject.new.workspace.chain.items, c.inject.new.pass.view.log, c.in-Spent.ensures.part, ap (λ (x : Stand). x.view.log) c.leave-in-Spent.ensures.took.step)
 
 pub returns-in-Refused-remove_after-clause-stands : goal.returns-in-Refused-remove_after-clause-stands
 returns-in-Refused-remove_after-clause-stands c =

@@ -12,21 +12,21 @@ use Rattle.nm_calls.proofs.deleting.try_flag.Goals as goal
 pub returns-then-end-key-clause-shows : goal.returns-then-end-key-clause-shows
 returns-then-end-key-clause-shows c =
     let e = c.in-Some.end in
-    ((e.spot.edge.slot, e.key, c.if-end-key.true, (e.spot.parent, e.spot.side, c.in-Some.ensures.found ThePin (Delete, c.requires.call.call))), c.seek.ensures.only.flagged ∙ c.requires.unflagged)
+    ((e.spot.edge.slot, e.key, c.if-end-key.true, (e.spot.parent, e.spot.side, c.in-Some.ensures.came.found ThePin (Delete, c.requires.call.call))), c.seek.ensures.only.flagged ∙ c.requires.unflagged)
 
 pub flag_at-requires-clause-may : goal.flag_at-requires-clause-may
 flag_at-requires-clause-may c =
     may_flag_there c.args.pass.now c.seek.new.pass c.args.key c.args.shared.now.layout.nodes c.in-Some.end c.seek.new.chain.items c.requires.call.call c.requires.unflagged c.requires.low c.seek.ensures.on c.seek.ensures.only
-    c.in-Some.ensures.ended c.in-Some.ensures.high c.in-Some.ensures.found c.if-end-key.false
+    c.in-Some.ensures.came.ended c.in-Some.ensures.came.high c.in-Some.ensures.came.found c.if-end-key.false
 
 pub help-requires-clause-at : goal.help-requires-clause-at
 help-requires-clause-at c =
-    at_kept (Tells c.seek.new.pass) (Tells c.flag_at.new.pass) (λ fact holds. c.flag_at.ensures.on.keeps fact holds) c.in-Some.end.spot c.seek.new.chain.items c.in-Some.ensures.ended.at
+    at_kept (Tells c.seek.new.pass) (Tells c.flag_at.new.pass) (λ fact holds. c.flag_at.ensures.on.keeps fact holds) c.in-Some.end.spot c.seek.new.chain.items c.in-Some.ensures.came.ended.at
 
 pub returns-in-Ok-clause-shows : goal.returns-in-Ok-clause-shows
 returns-in-Ok-clause-shows c =
     let w = c.in-Ok.ensures.won in
-    (w.flagged, w.edge, w.born, at_kept (Tells c.seek.new.pass) (Tells c.flag_at.new.pass) (λ fact holds. c.flag_at.ensures.on.keeps fact holds) c.in-Some.end.spot c.seek.new.chain.items c.in-Some.ensures.ended.at, c.in-Some.ensures.few)
+    (w.flagged, w.edge, w.born, at_kept (Tells c.seek.new.pass) (Tells c.flag_at.new.pass) (λ fact holds. c.flag_at.ensures.on.keeps fact holds) c.in-Some.end.spot c.seek.new.chain.items c.in-Some.ensures.came.ended.at, c.in-Some.ensures.came.few)
 
 pub returns-in-Err-clause-on : goal.returns-in-Err-clause-on
 returns-in-Err-clause-on c =

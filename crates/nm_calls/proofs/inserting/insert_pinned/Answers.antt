@@ -123,4 +123,4 @@ returns-in-Full-clause-part c =
     let h : IsTry c.args.workspace.now.placement c.args.shared.now.layout.nodes c.args.key c.loop-round.fork c.try_insert.new.fork c.loop-round.pass.view.log c.try_insert.new.pass.view.log attempt.Full =
     subst (λ (f : Fit). IsTry f c.args.shared.now.layout.nodes c.args.key c.loop-round.fork c.try_insert.new.fork c.loop-round.pass.view.log c.try_insert.new.pass.view.log attempt.Full) c.loop-round.invariant.fit c.in-Full.ensures.part in
     let full : IsTry c.args.workspace.now.placement c.args.shared.now.layout.nodes c.args.key c.loop-round.fork None c.loop-round.pass.view.log c.try_insert.new.pass.view.log attempt.Full = (h.0, h.1, h.2, h.3, h.4, h.5, refl, h.7) in
-    (c.try_insert.new.pass.view.log, (c.loop-round._round, c.loop-round.fork, c.loop-round.pass.view.log, c.loop-round-test.true, c.loop-round.invariant.lost, full), ap (λ (s : Stand). s.view.log) c.leave-in-Full.ensures.step)
+    (c.try_insert.new.pass.view.log, (c.loop-round._round, c.loop-round.fork, c.loop-round.pass.view.log, c.loop-round-test.true, c.loop-round.invariant.lost, full), ap (λ (s : Stand). s.view.log) c.leave-in-Full.ensures.took.step)

@@ -14,7 +14,7 @@ use Rattle.nm_calls.proofs.inserting.try_insert.Goals as goal
 pub returns-then-end-key-clause-shows : goal.returns-then-end-key-clause-shows
 returns-then-end-key-clause-shows c =
     let e = c.in-Some.end in
-    let ended = c.in-Some.ensures.found ThePin (Insert, c.requires.call.call) in
+    let ended = c.in-Some.ensures.came.found ThePin (Insert, c.requires.call.call) in
     ((e.spot.edge.slot, (e.spot.parent, e.spot.side, subst (λ n. Tells c.seek.new.pass (EndedAt ThePin c.args.key e.spot.edge.slot e.spot.parent e.spot.side n)) c.if-end-key.true ended)), c.seek.ensures.only.linked)
 
 pub returns-in_default-ready-clause-has : goal.returns-in_default-ready-clause-has
@@ -26,12 +26,12 @@ grow-requires-clause-may c =
     let has = c.ready.ensures.has o (kept_fork o c.args.pass.now c.seek.new.pass c.args.fork.now c.seek.ensures.on.same c.seek.ensures.only.private c.requires.fork.1) in
     let made = held_fork o c.ready.new.pass c.ready.new.fork c.in-Some-ready.made c.in-Some-ready.ensures.part.0 has in
     may_grow c.args.shared.now c.args.pass.now c.seek.new.pass c.ready.new.pass c.args.key c.in-Some.end c.seek.new.chain.items c.in-Some-ready.made (search rules) c.requires.call.call c.requires.unlinked
-    c.seek.ensures.on c.seek.ensures.only c.in-Some.ensures.ended c.in-Some.ensures.found c.if-end-key.false c.ready.ensures.on c.ready.ensures.only made.ready
+    c.seek.ensures.on c.seek.ensures.only c.in-Some.ensures.came.ended c.in-Some.ensures.came.found c.if-end-key.false c.ready.ensures.on c.ready.ensures.only made.ready
 
 pub help-requires-clause-at : goal.help-requires-clause-at
 help-requires-clause-at c =
     let on = goes_then c.seek.new.pass c.ready.new.pass c.grow.new.pass c.ready.ensures.on c.grow.ensures.on in
-    at_kept (Tells c.seek.new.pass) (Tells c.grow.new.pass) (λ fact holds. on.keeps fact holds) c.in-Some.end.spot c.seek.new.chain.items c.in-Some.ensures.ended.at
+    at_kept (Tells c.seek.new.pass) (Tells c.grow.new.pass) (λ fact holds. on.keeps fact holds) c.in-Some.end.spot c.seek.new.chain.items c.in-Some.ensures.came.ended.at
 
 pub returns-in-Ok-clause-on : goal.returns-in-Ok-clause-on
 returns-in-Ok-clause-on c =
