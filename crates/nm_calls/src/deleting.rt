@@ -8,7 +8,7 @@ ghost use Rattle.nm_steps.specs.Steps.{Stand, IsOf, Continues};
 ghost use Rattle.nm_epoch.specs.Resting.{IsResting, search};
 ghost use Rattle.nm_calls.specs.Bounds.{chain_bound, cut_bound};
 ghost use Rattle.nm_calls.specs.Rooms.{FillsUp, TakesRoom};
-ghost use Rattle.nm_calls.specs.Telling.{Tells, GoesOn, IsInRun, IsPinnedIn};
+ghost use Rattle.nm_calls.specs.Telling.{Tells, GoesOn, IsPinnedIn};
 ghost use Rattle.nm_calls.specs.Walks.{IsAt};
 ghost use Rattle.nm_calls.specs.Leaving.{ShowsAnswer, IsPinnedForCall, HasChangedNothing};
 ghost use Rattle.nm_calls.specs.Marking.{OnlyFlags};

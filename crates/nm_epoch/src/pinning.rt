@@ -1,5 +1,5 @@
 //! Pinning an epoch.
-ghost use Rattle.std.specs.Prelude.{◌≡◌, ◌+◌, ◌*◌, ◌≤◌, length, Some, None, IfOk, IfErr, MatchResult};
+ghost use Rattle.std.specs.Prelude.{◌≡◌, ◌+◌, ◌*◌, ◌≤◌, length, Some, None, IfOk, IfErr};
 ghost use Rattle.nm_model.specs.declared.event.Event.TheVariants.{Sight, SightFor};
 ghost use Rattle.nm_order.specs.Intervals.{HasKey};
 ghost use Rattle.nm_steps.specs.Steps.{IsOf, MayStep, pin_reply, Continues, TakesStep};

@@ -1,5 +1,5 @@
 //! Slots taken out of the pool to be new nodes, and given back.
-ghost use Rattle.std.specs.Prelude.{◌≡◌, ◌⊎◌, ◌+◌, ◌*◌, ◌≤◌, ◌<◌, true, Some, length, IfSome};
+ghost use Rattle.std.specs.Prelude.{◌≡◌, ◌+◌, ◌*◌, ◌≤◌, ◌<◌, true, Some, length, IfSome};
 ghost use Rattle.nm_model.specs.declared.event.Event.TheVariants.{Give};
 ghost use Rattle.nm_model.specs.declared.reply.Reply.TheVariants.{Returned};
 ghost use Rattle.nm_model.specs.Knowledge.{is_private, draft_of};

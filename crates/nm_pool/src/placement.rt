@@ -3,7 +3,7 @@ ghost use Rattle.std.specs.Prelude.{◌≡◌, ◌+◌, ◌*◌, ◌≤◌, ◌<
 ghost use Rattle.nm_order.specs.Told.{IsNew};
 ghost use Rattle.nm_steps.specs.Rules.{knowledge};
 ghost use Rattle.nm_steps.specs.Steps.{Continues, IsInRun, IsOf};
-ghost use Rattle.nm_pool.specs.Claims.{IsClaimBetween, IsClaimBy, IsClaimOfFew, IsNearClaim, IsNewNode};
+ghost use Rattle.nm_pool.specs.Claims.{IsClaimBy, IsClaimOfFew, IsNearClaim, IsNewNode};
 ghost use Rattle.nm_pool.specs.Takes.{LearnsSlots};
 
 use crate::nodes::{Tried, claim, claim_between, try_slot};

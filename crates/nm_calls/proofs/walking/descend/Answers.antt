@@ -2,8 +2,6 @@ use Rattle.std.proofs.Common.{◌≡◌, ◌≢◌, ◌+◌, [], refl, ap, subst
 use Rattle.nm_edge.specs.Layouts.{Layout}
 use Rattle.nm_order.specs.Facts.Fact.{KnowsSlot}
 use Rattle.nm_steps.specs.Steps.{Stand}
-use Rattle.nm_calls.specs.declared.spot.ChainEdge.{ChainEdge}
-use Rattle.nm_calls.specs.Bounds.{chain_bound}
 use Rattle.nm_calls.specs.Telling.{Tells, OnwardTold}
 use Rattle.nm_calls.specs.Walks.{Reads, IsWalking, chain_onto}
 use Rattle.nm_calls.proofs.GoingOn.{pinned_in_still, come_first}

@@ -1,4 +1,4 @@
-use Rattle.std.proofs.Common.{◌≡◌, ◌≢◌, ◌+◌, ap, subst, sym, ◌∙◌, arith}
+use Rattle.std.proofs.Common.{◌≢◌, ◌+◌, ap, subst, sym, ◌∙◌, arith}
 use Rattle.nm_edge.specs.Layouts.{Layout}
 use Rattle.nm_calls.specs.Telling.{OnwardTold}
 use Rattle.nm_calls.specs.Walks.{Reads, IsWalking}

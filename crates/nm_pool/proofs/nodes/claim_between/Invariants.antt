@@ -1,4 +1,4 @@
-use Rattle.std.proofs.Common.{◌<◌, ◌≤◌, ◌⊎◌}
+use Rattle.std.proofs.Common.{◌≤◌}
 use Rattle.nm_steps.specs.Rules.{knowledge}
 use Rattle.nm_pool.specs.Takes.{DoneBelow, LearnsSlots}
 use Rattle.nm_steps.specs.Steps.{Continues}

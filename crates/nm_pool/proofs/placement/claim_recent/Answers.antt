@@ -1,4 +1,3 @@
-use Rattle.std.proofs.Common.{rules}
 use Rattle.std.specs.Prelude.{None}
 use Rattle.nm_steps.specs.Rules.{knowledge}
 use Rattle.nm_pool.proofs.AnyOrder.{few_then}

@@ -1,6 +1,6 @@
 use Rattle.std.proofs.Common.{rules, ap}
 use Rattle.nm_steps.specs.Steps.{Stand}
-use Rattle.nm_steps.proofs.Seeing.{seen_all}
+use Rattle.nm_steps.proofs.Seeing.{seen_by_turn}
 use Rattle.nm_tree.proofs.Quiet.{left}
 use Rattle.nm_tree.proofs.Staying.{stays, labelled}
 use Rattle.nm_tree.proofs.tree.Tree.unpin.Goals as goal
@@ -13,7 +13,7 @@ invariant_of-worker c =
 pub returns : goal.returns
 returns c = record {
   step = search rules;
-  past = search (rules, seen_all);
+  past = (let seen = seen_by_turn _ _ _ c.leave.ensures.took.past in search (rules, seen));
   queues = search rules;
   pending = search rules;
   held = search rules;
