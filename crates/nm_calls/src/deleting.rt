@@ -1,6 +1,5 @@
 //! Deletes.
 ghost use Rattle.std.specs.Prelude.{◌≡◌, ◌≢◌, ◌⊎◌, ◌<◌, ◌≤◌, length, true, false, None, IfOk, IfErr};
-ghost use Rattle.nm_model.specs.Memory.{infinity_0};
 ghost use Rattle.nm_model.specs.declared.event.Op.TheVariants.{Delete};
 ghost use Rattle.nm_order.specs.Facts.Fact.{IsFlagged};
 ghost use Rattle.nm_steps.specs.Rules.{knowledge};
@@ -108,28 +107,30 @@ fn try_remove(
     pass: &mut Pass,
     workspace: &mut Workspace,
     queue: &mut BlockQueue<Entry>,
-    key: u64,
-    leaf: NodeId,
+    pending: &Unfinished,
 ) -> bool
     requires own { IsOf shared.now pass.old }
-    requires removing { IsRemoving pass.old key leaf }
+    requires removing { IsRemoving pass.old pending.now.key pending.now.leaf }
     requires room { cut_bound ≤ queue.old.spare }
     requires kept { HoldsCuts pass.old queue.old workspace.old.splices }
     ensures removed { result ≡ true
-        → Removes shared.now.layout.nodes key leaf pass.old.view.log pass.new.view.log }
-    ensures shows { result ≡ true → ShowsAnswer pass.new Delete key true }
+        → Removes shared.now.layout.nodes pending.now.key pending.now.leaf pass.old.view.log
+        pass.new.view.log }
+    ensures shows { result ≡ true → ShowsAnswer pass.new Delete pending.now.key true }
     ensures lost { result ≡ false
-        → RemovesNothing shared.now.layout.nodes key leaf pass.old.view.log pass.new.view.log }
+        → RemovesNothing shared.now.layout.nodes pending.now.key pending.now.leaf
+        pass.old.view.log pass.new.view.log }
     ensures on { GoesOn pass.old pass.new }
     ensures only { OnlyCleans pass.old pass.new }
     ensures kept { HoldsCuts pass.new queue.new workspace.new.splices }
     ensures fills { FillsUp queue.old queue.new }
     ensures fit { workspace.new.placement ≡ workspace.old.placement }
 {
+    let key = pending.key.get();
     let Some(end) = seek(shared, pass, key, &mut workspace.chain) else {
         return false;
     };
-    if !leads_to(&end, leaf.slot) {
+    if !leads_to(&end, pending.leaf.slot) {
         return true;
     }
     cleanup(shared, pass, workspace, queue, &end.spot)
@@ -141,17 +142,16 @@ fn remove(
     pass: &mut Pass,
     workspace: &mut Workspace,
     queue: &mut BlockQueue<Entry>,
-    key: u64,
-    leaf: NodeId,
+    pending: &Unfinished,
     tries: u32,
 ) -> Removal
     requires own { IsOf shared.now pass.old }
-    requires removing { IsRemoving pass.old key leaf }
+    requires removing { IsRemoving pass.old pending.now.key pending.now.leaf }
     requires kept { HoldsCuts pass.old queue.old workspace.old.splices }
-    ensures part { IsRemoval shared.now.layout.nodes key leaf tries pass.old.view.log
-        pass.new.view.log result }
+    ensures part { IsRemoval shared.now.layout.nodes pending.now.key pending.now.leaf tries
+        pass.old.view.log pass.new.view.log result }
     ensures refused { result ≡ Removal.Refused → queue.new.spare < cut_bound }
-    ensures shows { IfRemoved result (ShowsAnswer pass.new Delete key true) }
+    ensures shows { IfRemoved result (ShowsAnswer pass.new Delete pending.now.key true) }
     ensures on { GoesOn pass.old pass.new }
     ensures only { OnlyCleans pass.old pass.new }
     ensures kept { HoldsCuts pass.new queue.new workspace.new.splices }
@@ -162,7 +162,7 @@ fn remove(
         if !make_room(queue) {
             return Removal::Refused;
         }
-        if try_remove(shared, pass, workspace, queue, key, leaf) {
+        if try_remove(shared, pass, workspace, queue, pending) {
             return Removal::Removed;
         }
     }
@@ -195,11 +195,10 @@ fn try_flag(
     pass: &mut Pass,
     workspace: &mut Workspace,
     queue: &mut BlockQueue<Entry>,
-    key: u64,
+    key: Key,
 ) -> Injected
     requires pinned { IsPinnedIn shared.now pass.old }
     requires call { IsPinnedForCall Delete key pass.old }
-    requires low { key < infinity_0 }
     requires unflagged { (search pass.old).flagged ≡ None }
     requires room { cut_bound ≤ queue.old.spare }
     requires kept { HoldsCuts pass.old queue.old workspace.old.splices }
@@ -212,13 +211,14 @@ fn try_flag(
     ensures fills { FillsUp queue.old queue.new }
     ensures fit { workspace.new.placement ≡ workspace.old.placement }
 {
-    let Some(end) = seek(shared, pass, key, &mut workspace.chain) else {
+    let sought = key.get();
+    let Some(end) = seek(shared, pass, sought, &mut workspace.chain) else {
         return Injected::Lost;
     };
-    if end.key != key {
+    if end.key != sought {
         return Injected::Absent;
     }
-    match flag_at(shared, pass, key, &end) {
+    match flag_at(shared, pass, sought, &end) {
         Ok(birth) => Injected::Flagged(end, birth),
         Err(found) => {
             help(shared, pass, workspace, queue, &end, found);
@@ -233,12 +233,11 @@ fn inject(
     pass: &mut Pass,
     workspace: &mut Workspace,
     queue: &mut BlockQueue<Entry>,
-    key: u64,
+    key: Key,
     tries: u32,
 ) -> Injection
     requires pinned { IsPinnedIn shared.now pass.old }
     requires call { IsPinnedForCall Delete key pass.old }
-    requires low { key < infinity_0 }
     requires unflagged { (search pass.old).flagged ≡ None }
     requires room { cut_bound ≤ queue.old.spare }
     requires kept { HoldsCuts pass.old queue.old workspace.old.splices }
@@ -274,7 +273,7 @@ fn remove_after(
     pass: &mut Pass,
     workspace: &mut Workspace,
     queue: &mut BlockQueue<Entry>,
-    key: u64,
+    key: Key,
     flagged: &FlaggedLeaf,
 ) -> Removal
     requires own { IsOf shared.now pass.old }
@@ -304,7 +303,8 @@ fn remove_after(
         return Removal::Removed;
     }
     let leaf = leaf_at(flagged);
-    remove(shared, pass, workspace, queue, key, leaf, flagged.left - 1)
+    let pending = Unfinished { key, leaf };
+    remove(shared, pass, workspace, queue, &pending, flagged.left - 1)
 }
 
 /// The flagged leaf, a slot with its birth.
@@ -324,12 +324,11 @@ fn delete_pinned(
     pass: &mut Pass,
     workspace: &mut Workspace,
     queue: &mut BlockQueue<Entry>,
-    key: u64,
+    key: Key,
     tries: u32,
 ) -> Result<bool, Missed>
     requires pinned { IsPinnedIn shared.now pass.old }
     requires call { IsPinnedForCall Delete key pass.old }
-    requires low { key < infinity_0 }
     requires unchanged { HasChangedNothing pass.old }
     requires room { cut_bound ≤ queue.old.spare }
     requires kept { HoldsCuts pass.old queue.old workspace.old.splices }
@@ -414,7 +413,7 @@ pub fn delete(
     let Ok(_epoch) = pin_for(shared, pass, tries, Op::Delete, key) else {
         return Err(Missed::Busy);
     };
-    delete_pinned(shared, pass, workspace, queue, key.get(), tries)
+    delete_pinned(shared, pass, workspace, queue, key, tries)
 }
 
 /// Goes on to remove the leaf that the worker has flagged: whether it is cut off, and the worker
@@ -443,8 +442,7 @@ pub fn finish(
     ensures few { length queue.new.items ≤ shared.now.layout.nodes }
     ensures fit { workspace.new.placement ≡ workspace.old.placement }
 {
-    let key = pending.key.get();
-    match remove(shared, pass, workspace, queue, key, pending.leaf, tries) {
+    match remove(shared, pass, workspace, queue, pending, tries) {
         Removal::Removed => {
             answer(shared, pass, true);
             true

@@ -1,10 +1,9 @@
-use Rattle.std.proofs.Common.{rules, true, false, inl, inr, ap, subst}
+use Rattle.std.proofs.Common.{rules, true, false, inl, inr, ap}
 use Rattle.nm_model.specs.declared.event.Op.TheVariants.{Delete}
 use Rattle.nm_order.specs.Facts.Fact.{CallIs}
 use Rattle.nm_steps.specs.Steps.{Stand}
 use Rattle.nm_steps.proofs.Seeing.{seen_all}
-use Rattle.nm_calls.specs.declared.deleting.Removal.TheVariants as removal
-use Rattle.nm_calls.specs.Deletes.{IsRemoval, FinishDid}
+use Rattle.nm_calls.specs.Deletes.{FinishDid}
 use Rattle.nm_calls.proofs.Moments.{no_call_on}
 use Rattle.nm_calls.proofs.Removals.{removing_on}
 use Rattle.nm_calls.proofs.AddingDeletes.{finish_wins, finish_steps}
@@ -19,7 +18,7 @@ returns-in-Removed-clause-after c =
     let new = c.answer.new.pass.view.log in
     let did : FinishDid nodes c.args.pending.now.key c.args.pending.now.leaf c.args.tries old new true = (
       mid,
-      subst (λ k. IsRemoval nodes k c.args.pending.now.leaf c.args.tries old mid removal.Removed) c.get-key.ensures.number c.in-Removed.ensures.part,
+      c.in-Removed.ensures.part,
       ap (λ (x : Stand). x.view.log) c.answer.ensures.took.step,
     ) in
     record {
@@ -41,7 +40,7 @@ returns-in-Refused-clause-after c =
     let nodes = c.args.shared.now.layout.nodes in
     let old = c.args.pass.now.view.log in
     let new = c.remove.new.pass.view.log in
-    let did : FinishDid nodes c.args.pending.now.key c.args.pending.now.leaf c.args.tries old new false = inl (subst (λ k. IsRemoval nodes k c.args.pending.now.leaf c.args.tries old new removal.Refused) c.get-key.ensures.number c.in-Refused.ensures.part) in
+    let did : FinishDid nodes c.args.pending.now.key c.args.pending.now.leaf c.args.tries old new false = inl c.in-Refused.ensures.part in
     record {
       same = search rules;
       past = search (rules, seen_all);
@@ -61,7 +60,7 @@ returns-in-Spent-clause-after c =
     let nodes = c.args.shared.now.layout.nodes in
     let old = c.args.pass.now.view.log in
     let new = c.remove.new.pass.view.log in
-    let did : FinishDid nodes c.args.pending.now.key c.args.pending.now.leaf c.args.tries old new false = inr (subst (λ k. IsRemoval nodes k c.args.pending.now.leaf c.args.tries old new removal.Spent) c.get-key.ensures.number c.in-Spent.ensures.part) in
+    let did : FinishDid nodes c.args.pending.now.key c.args.pending.now.leaf c.args.tries old new false = inr c.in-Spent.ensures.part in
     record {
       same = search rules;
       past = search (rules, seen_all);

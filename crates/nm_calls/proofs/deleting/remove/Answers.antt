@@ -8,7 +8,7 @@ use Rattle.nm_calls.proofs.deleting.remove.Goals as goal
 pub loop-round-preserved : goal.loop-round-preserved
 loop-round-preserved c = record {
   lost = rw add-one (c.loop-round.pass.view.log, c.loop-round.invariant.lost, c.try_remove.ensures.lost c.if-try_remove.false);
-  removing = removing_on c.loop-round.pass c.try_remove.new.pass c.args.key c.args.leaf c.loop-round.invariant.removing c.try_remove.ensures.on c.try_remove.ensures.only;
+  removing = removing_on c.loop-round.pass c.try_remove.new.pass c.args.pending.now.key c.args.pending.now.leaf c.loop-round.invariant.removing c.try_remove.ensures.on c.try_remove.ensures.only;
   on = goes_then c.args.pass.now c.loop-round.pass c.try_remove.new.pass c.loop-round.invariant.on c.try_remove.ensures.on;
   only = cleans_then c.args.pass.now c.loop-round.pass c.try_remove.new.pass c.loop-round.invariant.on.same c.loop-round.invariant.only c.try_remove.ensures.only;
   blocks = takes_fills c.args.queue.now c.make_room.new.queue c.try_remove.new.queue (takes_then c.args.queue.now c.loop-round.queue c.make_room.new.queue c.loop-round.invariant.blocks c.make_room.ensures.blocks) c.try_remove.ensures.fills;
