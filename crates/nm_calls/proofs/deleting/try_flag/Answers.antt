@@ -75,3 +75,11 @@ returns-in-Ok-clause-kept c = record {
       counts_on _ old new (adds_then old mid new (seeks_adds c.args.shared.now.layout.nodes c.get-sought.result c.args.pass.now.view.log c.seek.new.pass.view.log c.seek.new.chain.items c.seek.result c.seek.ensures.walk) (flag_won_adds c.in-Some.end c.in-Ok.birth mid new c.in-Ok.ensures.won.part)) c.requires.kept.counted
       );
 }
+
+pub returns-in-Ok-clause-part : goal.returns-in-Ok-clause-part
+returns-in-Ok-clause-part c = record {
+  ended = c.seek.new.pass.view.log;
+  walk = rw c.get-sought.ensures.number at c.in-Some.ensures.walk;
+  same = rw c.get-sought.ensures.number at c.if-end-sought.false;
+  entries = c.in-Ok.ensures.won.part;
+}
