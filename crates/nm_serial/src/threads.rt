@@ -9,7 +9,8 @@ use crate::answer::Answer;
 use crate::gate::Gate;
 use crate::own_lines::{Lines, Stop, play_own};
 use nm_files::fault::RunFault;
-use nm_tree::Worker;
+use nm_scripts::call::Call;
+use nm_tree::{Tree, Worker};
 use std::alloc::Global;
 use std::snapshot::Snapshot;
 use std::sync::{RwLock, Wait};
@@ -26,16 +27,18 @@ pub(crate) struct Played {
 /// What a thread promises of its worker, which was this one.
 #[derive(Drop)]
 struct PlaysAll<'a, G: Gate> {
-    lines: &'a Lines<'a, G>,
+    gate: &'a G,
+    tree: &'a Tree,
+    tries: u32,
+    calls: &'a [(u32, Call)],
     was: Snapshot<Worker>,
 }
 
 impl<'a, G: Gate> Promise<Played> for PlaysAll<'a, G> {
     ghost use Rattle.nm_serial.specs.Threads.{HasPlayed};
 
-    ghost kept_by = { λ p r. HasPlayed (G.lets p.lines.now.gate.now) (G.stops p.lines.now.gate.now)
-        p.lines.now.tree.now p.lines.now.tries p.lines.now.calls.now p.was.value r.worker
-        r.answers };
+    ghost kept_by = { λ p r. HasPlayed (G.lets p.gate.now) (G.stops p.gate.now) p.tree.now p.tries
+        p.calls.now p.was.value r.worker r.answers };
 }
 
 /// All lines of a worker, which is handed back.
@@ -61,32 +64,45 @@ fn start_one<'s, R: Wait + Sync, E, G: Gate>(
     scope: &Scope<'s, E>,
     start: &'s RwLock<()>,
     alloc: Global,
-    lines: &'s Lines<'s, G>,
+    lines: &Lines<'s, G>,
     worker: Worker,
 ) -> Result<PromisedHandle<Played, PlaysAll<'s, G>>, RunFault>
     requires own { IsOf lines.now.tree.now worker.pass }
     requires plain { All (λ e. IsOwnCall e.1) lines.now.calls.now }
     requires few { length lines.now.calls.now ≤ 100000 }
     ensures started { IfOk result
-        (λ h. (h.promise.lines.now ≡ lines.now) × (h.promise.was.value ≡ worker)) }
+        (λ h. (h.promise.gate.now ≡ lines.now.gate.now) × (h.promise.tree.now ≡ lines.now.tree.now)
+        × (h.promise.tries ≡ lines.now.tries) × (h.promise.calls.now ≡ lines.now.calls.now)
+        × (h.promise.was.value ≡ worker)) }
     ensures refused { IfErr result IsRefusal }
 {
+    let gate = lines.gate;
+    let tree = lines.tree;
+    let tries = lines.tries;
+    let calls = lines.calls;
     let promise = PlaysAll {
-        lines,
+        gate,
+        tree,
+        tries,
+        calls,
         was: Snapshot::of(&worker),
     };
     let started = scope.spawn_with(
         promise,
         move || -> Played
-            requires { IsOf lines.now.tree.now worker.pass
-                × All (λ e. IsOwnCall e.1) lines.now.calls.now
-                × (length lines.now.calls.now ≤ 100000) }
-            ensures { HasPlayed (G.lets lines.entry.now.gate.now) (G.stops lines.entry.now.gate.now)
-                lines.entry.now.tree.now lines.entry.now.tries lines.entry.now.calls.now worker
-                result.worker result.answers }
+            requires { IsOf tree.now worker.pass × All (λ e. IsOwnCall e.1) calls.now
+                × (length calls.now ≤ 100000) }
+            ensures { HasPlayed (G.lets gate.entry.now) (G.stops gate.entry.now) tree.entry.now
+                tries calls.entry.now worker result.worker result.answers }
         {
             wait_for(rt, start);
-            play_all(alloc, lines, worker)
+            let lines = Lines {
+                gate,
+                tree,
+                tries,
+                calls,
+            };
+            play_all(alloc, &lines, worker)
         },
     );
     match started {
@@ -103,7 +119,7 @@ fn play_each<'s, R: Threads + Wait + Sync, E, G: Gate>(
     scope: &Scope<'s, E>,
     start: &'s RwLock<()>,
     alloc: Global,
-    lines: &'s Lines<'s, G>,
+    lines: &Lines<'s, G>,
     workers: Vec<Worker>,
 ) -> Result<Vec<Played>, RunFault>
     requires own { All (λ w. IsOf lines.now.tree.now w.pass) workers.items }
@@ -145,17 +161,27 @@ pub(crate) fn play_apart<R: Threads + Wait + Sync, G: Gate>(
 {
     let start = RwLock::new(());
     let start = &start;
+    let gate = lines.gate;
+    let tree = lines.tree;
+    let tries = lines.tries;
+    let calls = lines.calls;
     thread::scope(
         thread::scope_env(),
         rt,
         |scope| -> Result<Vec<Played>, RunFault>
-            requires { All (λ w. IsOf lines.now.tree.now w.pass) workers.items
-                × All (λ e. IsOwnCall e.1) lines.now.calls.now
-                × (length lines.now.calls.now ≤ 100000) }
+            requires { All (λ w. IsOf tree.now w.pass) workers.items
+                × All (λ e. IsOwnCall e.1) calls.now × (length calls.now ≤ 100000) }
             ensures { IfOk result
-                (λ v. HaveAllPlayed (G.lets lines.entry.now.gate.now)
-                (G.stops lines.entry.now.gate.now) lines.entry.now.tree.now lines.entry.now.tries
-                lines.entry.now.calls.now workers.items v.items) × IfErr result IsRefusal }
-        { play_each(rt, scope, start, alloc, lines, workers) },
+                (λ v. HaveAllPlayed (G.lets gate.entry.now) (G.stops gate.entry.now) tree.entry.now
+                tries calls.entry.now workers.items v.items) × IfErr result IsRefusal }
+        {
+            let lines = Lines {
+                gate,
+                tree,
+                tries,
+                calls,
+            };
+            play_each(rt, scope, start, alloc, &lines, workers)
+        },
     )
 }

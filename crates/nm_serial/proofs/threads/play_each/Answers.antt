@@ -12,7 +12,7 @@ loop-worker-preserved g c =
     record {
       left = rw append_assoc (rw s.0 at c.loop-worker.invariant.left);
       count = omega (arith, more, c.push.new.self.ok.0);
-      each = λ k w d lt. rw pushed (each_pushed (λ u h. (h.promise.lines.now ≡ c.args.lines.now) × (h.promise.was.value ≡ u)) c.loop-worker.yielded c.loop-worker.handles.items c.in-Some.worker c.in_ok-handle.handle same c.loop-worker.invariant.each c.in_ok-handle.ensures.started k w d lt);
+      each = λ k w d lt. rw pushed (each_pushed (λ u h. (h.promise.gate.now ≡ c.args.lines.now.gate.now) × (h.promise.tree.now ≡ c.args.lines.now.tree.now) × (h.promise.tries ≡ c.args.lines.now.tries) × (h.promise.calls.now ≡ c.args.lines.now.calls.now) × (h.promise.was.value ≡ u)) c.loop-worker.yielded c.loop-worker.handles.items c.in-Some.worker c.in_ok-handle.handle same c.loop-worker.invariant.each c.in_ok-handle.ensures.started k w d lt);
     }
 
 pub returns-in-Ok-clause-played : goal.returns-in-Ok-clause-played
@@ -26,6 +26,6 @@ returns-in-Ok-clause-played g c =
           let promised = (c.in-Ok.ensures.each k p (omega (arith, counted, c.loop-worker.invariant.count, lt))).1 in
           let it = c.loop-worker.invariant.each k w promised.handle (omega (arith, counted, lt)) in
           let held = rw (sym promised.handle_is) at it in
-          let kept = rw (held.0, held.1, whole) at promised.kept in
+          let kept = rw (held.0, held.1, held.2, held.3, held.4, whole) at promised.kept in
           kept;
     }
