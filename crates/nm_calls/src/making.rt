@@ -39,6 +39,7 @@ pub struct Fork {
 ///
 /// `Some(node)`: the slot is private to the worker, which had it nowhere before; its birth is
 /// stored there, and nothing else is. At most three steps a slot.
+#[inline(always)]
 pub fn claim(shared: &Shared, pass: &mut Pass, placement: &mut Placement) -> Option<NodeId>
     requires own { IsOf shared.now pass.old }
     requires run { IsInRun pass.old }

@@ -42,6 +42,7 @@ pub fn find(shared: &Shared, pass: &mut Pass, key: u64) -> Option<u64>
 /// as there are, or where the chain would hold 65 nodes with the parent. At most three steps a node
 /// of the table. (The seek of Natarajan and Mittal, section 3.2, which here remembers the whole
 /// chain.)
+#[inline(always)]
 pub fn seek(shared: &Shared, pass: &mut Pass, key: u64, chain: &mut Chain) -> Option<End>
     requires pinned { IsPinnedIn shared.now pass.old }
     requires root { Tells pass.old (KnowsSlot 1) }

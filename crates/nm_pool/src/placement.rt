@@ -27,8 +27,8 @@ pub enum Fit {
     Near,
 }
 
-/// The slots that a worker gave back last, the last one first and 0 for none, and the slot from
-/// which it looks on.
+/// The slots that a worker gave back last, the last one first, with 0 for none behind them all, and
+/// the slot from which it looks on.
 #[derive(Clone, Copy)]
 pub(crate) struct Near {
     recent: [u32; RECENT],
@@ -211,6 +211,9 @@ fn claim_recent(shared: &Shared, pass: &mut Pass, near: &mut Near) -> Option<Nod
 {
     for round in 0..RECENT {
         let slot = near.take_recent();
+        if slot == 0 {
+            return None;
+        }
         if let Some(node) = try_hint(shared, pass, slot) {
             return Some(node);
         }
