@@ -9,6 +9,7 @@ use Rattle.nm_model.specs.declared.event.Op.TheVariants.{Delete}
 use Rattle.nm_model.specs.declared.reply.Reply.TheVariants.{Flagged, Lost}
 use Rattle.nm_model.specs.Walks.{Entry}
 use Rattle.nm_epoch.specs.Tries.{IsPinnedBy}
+use Rattle.nm_calls.specs.declared.deleting.FlaggedLeaf.{FlaggedLeaf}
 use Rattle.nm_calls.specs.declared.deleting.Injected.{Injected}
 use Rattle.nm_calls.specs.declared.deleting.Injected.TheVariants as injected
 use Rattle.nm_calls.specs.declared.deleting.Injection.TheVariants as injection
@@ -91,18 +92,18 @@ removal_adds nodes k n tries old new removal.Refused h =
     (0, adds_in _ old new (omega (arith, all)) (lost_removals_add nodes k n h.0 old new h.2))
 removal_adds nodes k n tries old new removal.Spent h = (0, lost_removals_add nodes k n tries old new h)
 
-module _ (nodes k : ℕ) (r : End) (c : List ChainEdge) (few : length c < chain_bound) (b left : ℕ) (old new : List Entry) where
-  then_removal : (m : Removal) (t : ℕ) (mid : List Entry) → left ≡ t + 1 → CleanupLost r.spot c old mid → IsRemoval nodes k (leaf_of r b) t mid new m → AddsFlags 0 (left * most nodes) old new
+module _ (nodes k : ℕ) (f : FlaggedLeaf) (c : List ChainEdge) (few : length c < chain_bound) (old new : List Entry) where
+  then_removal : (m : Removal) (t : ℕ) (mid : List Entry) → f.left ≡ t + 1 → CleanupLost f.end.spot c old mid → IsRemoval nodes k (leaf_of f.end f.birth) t mid new m → AddsFlags 0 (f.left * most nodes) old new
   then_removal m t mid is lost h =
-      let rest = removal_adds nodes k (leaf_of r b) t mid new m h in
-      let all : t * most nodes + most nodes ≡ left * most nodes = sym (suc-mul t (most nodes)) ∙ ap (λ (n : ℕ). n * most nodes) (let same : suc t ≡ left = omega (arith, is) in same) in
-      (0 + rest.0, adds_in _ old new (omega (arith, all, few)) (adds_then old mid new (not_cleaned_adds r.spot c old mid lost) rest.1))
+      let rest = removal_adds nodes k (leaf_of f.end f.birth) t mid new m h in
+      let all : t * most nodes + most nodes ≡ f.left * most nodes = sym (suc-mul t (most nodes)) ∙ ap (λ (n : ℕ). n * most nodes) (let same : suc t ≡ f.left = omega (arith, is) in same) in
+      (0 + rest.0, adds_in _ old new (omega (arith, all, few)) (adds_then old mid new (not_cleaned_adds f.end.spot c old mid lost) rest.1))
 
-  after_adds : (m : Removal) → RemovalAfter nodes k r c b left old new m → AddsFlags 0 (left * most nodes) old new
+  after_adds : (m : Removal) → RemovalAfter nodes k f c old new m → AddsFlags 0 (f.left * most nodes) old new
   after_adds removal.Removed (inl h) =
       let some = h.0 in
-      let all = mul_below 0 left (most nodes) (omega (arith, some)) in
-      (1, adds_in _ old new (omega (arith, all, few)) (cleaned_adds r.spot c h.1 h.2 old new h.3))
+      let all = mul_below 0 f.left (most nodes) (omega (arith, some)) in
+      (1, adds_in _ old new (omega (arith, all, few)) (cleaned_adds f.end.spot c h.1 h.2 old new h.3))
   after_adds removal.Removed (inr h) = then_removal removal.Removed h.0 h.1 h.2 h.3 h.4
   after_adds removal.Refused (inl h) = (0, adds_in _ old new (omega arith) (adds_none old new h.1))
   after_adds removal.Refused (inr h) = then_removal removal.Refused h.0 h.1 h.2 h.3 h.4
@@ -113,17 +114,15 @@ module _ (nodes k : ℕ) (r : End) (c : List ChainEdge) (few : length c < chain_
 
 flags_then_add : (nodes tries k : ℕ) (n : NodeId) (old new : List Entry) (m : Removal) → FlagsThen nodes tries k n old new m → AddsFlags 1 (tries * most nodes) old new
 flags_then_add nodes tries k n old new m h =
-    let r = h.0 in
+    let f = h.0 in
     let c = h.1 in
-    let b = h.2 in
-    let left = h.3 in
-    let mid = h.4 in
-    let part = h.6 in
+    let mid = h.2 in
+    let part = h.4 in
     let few = part.4.walk.1 in
     let lost = lost_flags_add nodes k part.0 old part.1 part.3 in
-    let flag = try_adds nodes k c part.1 mid (injected.Flagged r b) part.4 in
-    let rest = after_adds nodes k r c few b left mid new m h.7 in
-    let all : part.0 * most nodes + left * most nodes + most nodes ≡ tries * most nodes = products part.0 left tries (most nodes) part.2 in
+    let flag = try_adds nodes k c part.1 mid (injected.Flagged f.end f.birth) part.4 in
+    let rest = after_adds nodes k f c few mid new m h.5 in
+    let all : part.0 * most nodes + f.left * most nodes + most nodes ≡ tries * most nodes = products part.0 f.left tries (most nodes) part.2 in
     (lost.0 + (flag.0 + rest.0), adds_in _ old new (omega (arith, all)) (adds_then old part.1 new lost.1 (adds_then part.1 mid new flag.1 rest.1)))
   where
     products : (t left tries n : ℕ) → t + (left + 1) ≡ tries → t * n + left * n + n ≡ tries * n

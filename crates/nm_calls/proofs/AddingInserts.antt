@@ -9,7 +9,7 @@ use Rattle.nm_model.specs.declared.reply.Reply.TheVariants.{Linked, Lost}
 use Rattle.nm_model.specs.Walks.{Entry}
 use Rattle.nm_epoch.specs.Tries.{IsPinnedBy}
 use Rattle.nm_pool.specs.declared.placement.Fit.{Fit}
-use Rattle.nm_calls.specs.declared.growing.Fork.{Fork}
+use Rattle.nm_calls.specs.declared.making.Fork.{Fork}
 use Rattle.nm_calls.specs.declared.inserting.Fault.{Fault}
 use Rattle.nm_calls.specs.declared.inserting.Fault.TheVariants as fault
 use Rattle.nm_calls.specs.declared.inserting.Attempt.{Attempt}

@@ -16,8 +16,8 @@ use Rattle.nm_order.specs.Facts.Fact.{KnowsSlot, KnowsLeaf, CallIs, EndedAt}
 use Rattle.nm_steps.specs.Rules.{knowledge}
 use Rattle.nm_steps.specs.Steps.{Board, Stand, IsSamePass}
 use Rattle.nm_epoch.specs.Resting.{search}
-use Rattle.nm_calls.specs.declared.growing.Fork.{Fork}
-use Rattle.nm_calls.specs.declared.growing.Inner.{Inner}
+use Rattle.nm_calls.specs.declared.making.Contents.{Contents}
+use Rattle.nm_calls.specs.declared.making.Fork.{Fork}
 use Rattle.nm_calls.specs.declared.spot.End.{End}
 use Rattle.nm_calls.specs.Telling.{Tells, GoesOn, OnlyLooks}
 use Rattle.nm_calls.specs.Making.{draft, with_node, IsFilled, IsInserting, KeepsOtherSlots, OnlyMakes}
@@ -27,18 +27,18 @@ use Rattle.nm_calls.specs.Inserts.{HasBothNodes, IfReady, HoldsFork, HasFork, On
 use Rattle.nm_calls.proofs.Makes.{is_filled, same_draft, is_filled_still}
 
 -- the internal node that a fork asks for
-as_fork : (q : Stand) (key other leaf new fresh birth : ℕ) (i : Inner) → i ≡ inner_of key other leaf fresh → other ≢ key → IsFilled q new birth i.key i.left i.right
+as_fork : (q : Stand) (key other leaf new fresh birth : ℕ) (i : Contents) → i ≡ inner_of key other leaf fresh → other ≢ key → IsFilled q new birth i.key i.left i.right
     → ((key < other) × IsFilled q new birth other fresh leaf) ⊎ ((other < key) × IsFilled q new birth key leaf fresh)
 as_fork q key other leaf new fresh birth i is ne f = go (nat_lt key other) refl
   where
-    node : Bool → Inner
-    node b = cond {A = Inner} b (record { key = other; left = fresh; right = leaf }) (record { key = key; left = leaf; right = fresh })
+    node : Bool → Contents
+    node b = cond {A = Contents} b (record { key = other; left = fresh; right = leaf }) (record { key = key; left = leaf; right = fresh })
 
     go : (b : Bool) → nat_lt key other ≡ b → ((key < other) × IsFilled q new birth other fresh leaf) ⊎ ((other < key) × IsFilled q new birth key leaf fresh)
-    go true less = let at : i ≡ node true = is ∙ ap node less in inl (ltb-true key other less, subst (λ (j : Inner). IsFilled q new birth j.key j.left j.right) at f)
-    go false more = let at : i ≡ node false = is ∙ ap node more in let least = ltb-false key other more in inr (omega (arith, ne, least), subst (λ (j : Inner). IsFilled q new birth j.key j.left j.right) at f)
+    go true less = let at : i ≡ node true = is ∙ ap node less in inl (ltb-true key other less, subst (λ (j : Contents). IsFilled q new birth j.key j.left j.right) at f)
+    go false more = let at : i ≡ node false = is ∙ ap node more in let least = ltb-false key other more in inr (omega (arith, ne, least), subst (λ (j : Contents). IsFilled q new birth j.key j.left j.right) at f)
 
-pub inserting : (p r q : Stand) (key : ℕ) (e : End) (f : Fork) (i : Inner) → MayGrow p key e f → i ≡ inner_of key e.key e.spot.edge.slot f.fresh.slot
+pub inserting : (p r q : Stand) (key : ℕ) (e : End) (f : Fork) (i : Contents) → MayGrow p key e f → i ≡ inner_of key e.key e.spot.edge.slot f.fresh.slot
     → GoesOn p r → OnlyMakes p r → get (knowledge r.view).drafts f.new.slot ≡ Some (with_node (draft p f.new.slot) i.key i.left i.right) → KeepsOtherSlots f.new.slot p r
     → GoesOn r q → OnlyMakes r q → get (knowledge q.view).drafts f.fresh.slot ≡ Some (with_node (draft r f.fresh.slot) key 0 0) → KeepsOtherSlots f.fresh.slot r q
     → IsInserting q e.spot.parent e.spot.side e.spot.edge.slot f.new.slot f.fresh.slot

@@ -8,15 +8,12 @@ use Rattle.nm_model.specs.declared.event.Op.{Op}
 use Rattle.nm_order.specs.Facts.Fact.{KnowsSlot, KnowsLeaf, IsTagged, IsFlagged, IsPinned, CallIs, Came, ReadKey, EndedAt}
 use Rattle.nm_order.specs.Taught.{EdgeLearned}
 use Rattle.nm_steps.specs.Steps.{Board, Stand, IsOf, IsSamePass}
-use Rattle.nm_steps.proofs.Seeing.{seen_through}
+use Rattle.nm_steps.proofs.Seeing.{same_then, seen_through}
 use Rattle.nm_calls.specs.declared.spot.Spot.{Spot}
 use Rattle.nm_calls.specs.Leaving.{IsPinnedForCall}
 use Rattle.nm_calls.specs.Telling.{Tells, GoesOn, OnlyLooks, IsPinnedSomewhere, IsPinnedIn, KeyTold, EdgeTold, OnwardTold}
 use Rattle.nm_calls.specs.Walks.{begin, onto, edge_on, EachWalkHasCome, HasFound}
 use Rattle.nm_calls.proofs.Standing.{onto-edge, onto-parent}
-
-pub same_then : (o p q : Stand) → IsSamePass o p → IsSamePass p q → IsSamePass o q
-same_then o p q first second = second ∙ ap (λ (z : Stand). record z { view = record z.view { log = q.view.log; past = q.view.past } }) first
 
 pub goes_then : (o p q : Stand) → GoesOn o p → GoesOn p q → GoesOn o q
 goes_then o p q a b = record {

@@ -1,6 +1,7 @@
 pub mod Looks
 pub mod Standing
 pub mod GoingOn
+pub mod Walked
 pub mod LookUps
 pub mod Freezing
 pub mod Marks

@@ -19,11 +19,10 @@ use Rattle.nm_order.proofs.WalksOfRuns.{trace_in-append}
 use Rattle.nm_steps.specs.Rules.{Extends}
 use Rattle.nm_steps.specs.Steps.{Stand, Stepped, HasSeen, IsSamePass, HasSeenAllOf}
 use Rattle.nm_steps.proofs.Growing.{goes_on_through}
-use Rattle.nm_steps.proofs.Seeing.{seen_through}
+use Rattle.nm_steps.proofs.Seeing.{seen_through, same_then}
 use Rattle.nm_calls.specs.Telling.{Tells}
 use Rattle.nm_calls.specs.Deletes.{IsRemoving}
 use Rattle.nm_calls.specs.Moments.{AnswerHasMoment, HadNoCall, HasFlaggedIt}
-use Rattle.nm_calls.proofs.GoingOn.{same_then}
 use Rattle.nm_calls.proofs.Looks.{enough}
 
 -- further on

@@ -18,6 +18,7 @@ use Rattle.nm_steps.specs.Steps.{Stand, IsSamePass}
 use Rattle.nm_epoch.specs.Resting.{epochs, search}
 use Rattle.nm_epoch.specs.Tries.{IsPinnedBy}
 use Rattle.nm_epoch.specs.declared.collecting.Entry.{Entry as Waiting}
+use Rattle.nm_calls.specs.declared.deleting.FlaggedLeaf.{FlaggedLeaf}
 use Rattle.nm_calls.specs.declared.deleting.Missed.{Missed}
 use Rattle.nm_calls.specs.declared.deleting.Missed.TheVariants as missed
 use Rattle.nm_calls.specs.declared.deleting.Removal.{Removal}
@@ -128,10 +129,10 @@ removing_from p q k n pin call labelled on only flagged born = record {
   labelled = only.labelled labelled;
 }
 
-pub removal_after : (nodes k : ℕ) (r : End) (c : List ChainEdge) (b left t : ℕ) (old mid new : List Entry) (m : Removal) → left ≡ t + 1 → CleanupLost r.spot c old mid → IsRemoval nodes k (leaf_of r b) t mid new m → RemovalAfter nodes k r c b left old new m
-removal_after nodes k r c b left t old mid new removal.Removed is lost h = inr (t, mid, is, lost, h)
-removal_after nodes k r c b left t old mid new removal.Refused is lost h = inr (t, mid, is, lost, h)
-removal_after nodes k r c b left t old mid new removal.Spent is lost h = inr (t, mid, is, lost, h)
+pub removal_after : (nodes k : ℕ) (f : FlaggedLeaf) (c : List ChainEdge) (t : ℕ) (old mid new : List Entry) (m : Removal) → f.left ≡ t + 1 → CleanupLost f.end.spot c old mid → IsRemoval nodes k (leaf_of f.end f.birth) t mid new m → RemovalAfter nodes k f c old new m
+removal_after nodes k f c t old mid new removal.Removed is lost h = inr (t, mid, is, lost, h)
+removal_after nodes k f c t old mid new removal.Refused is lost h = inr (t, mid, is, lost, h)
+removal_after nodes k f c t old mid new removal.Spent is lost h = inr (t, mid, is, lost, h)
 
 pub delete_did : (nodes tries k : ℕ) (old new : List Entry) (r : Result Bool Missed) → PinsForDelete nodes tries k old new r → DeleteDid nodes tries k old new r
 delete_did nodes tries k old new (Ok b) h = h

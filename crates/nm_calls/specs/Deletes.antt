@@ -14,6 +14,7 @@ use Rattle.nm_steps.specs.Rules.{knowledge}
 use Rattle.nm_steps.specs.Steps.{Stand, IsSamePass, HasSeenAllOf}
 use Rattle.nm_epoch.specs.Resting.{IsResting, epochs, search}
 use Rattle.nm_epoch.specs.Tries.{IsPinnedBy, IsMoved}
+use Rattle.nm_calls.specs.declared.deleting.FlaggedLeaf.{FlaggedLeaf}
 use Rattle.nm_calls.specs.declared.deleting.Injected.{Injected}
 use Rattle.nm_calls.specs.declared.deleting.Injected.TheVariants as injected
 use Rattle.nm_calls.specs.declared.deleting.Injection.{Injection}
@@ -173,9 +174,9 @@ abbrev pub IsInjection : ℕ → ℕ → ℕ → List ChainEdge → List Entry �
 IsInjection nodes k tries c old new injection.Absent =
     (t : ℕ) × (mid : List Entry) × (t < tries) × LostFlags nodes k t old mid
     × IsFlagTry nodes k c mid new injected.Absent
-IsInjection nodes k tries c old new (injection.Flagged r b left) =
-    (t : ℕ) × (mid : List Entry) × (t + (left + 1) ≡ tries) × LostFlags nodes k t old mid
-    × IsFlagTry nodes k c mid new (injected.Flagged r b)
+IsInjection nodes k tries c old new (injection.Flagged f) =
+    (t : ℕ) × (mid : List Entry) × (t + (f.left + 1) ≡ tries) × LostFlags nodes k t old mid
+    × IsFlagTry nodes k c mid new (injected.Flagged f.end f.birth)
 IsInjection nodes k tries c old new injection.Refused =
     (t : ℕ) × (0 < t) × (t < tries) × LostFlags nodes k t old new
 IsInjection nodes k tries c old new injection.Spent = LostFlags nodes k tries old new
@@ -183,40 +184,40 @@ IsInjection nodes k tries c old new injection.Spent = LostFlags nodes k tries ol
 -- what the log shows behind the tries to flag, by what they came to
 abbrev pub ShowsInjection : ℕ → List ChainEdge → Stand → Injection → Type 0
 ShowsInjection k c q injection.Absent = ShowsAnswer q Delete k false
-ShowsInjection k c q (injection.Flagged r b left) =
-    ((search q).flagged ≡ Some (leaf_of r b))
-    × Tells q (IsFlagged r.spot.parent r.spot.side r.spot.edge.slot)
-    × Tells q (IsBorn r.spot.edge.slot b) × IsAt (Tells q) r.spot c × (length c < chain_bound)
+ShowsInjection k c q (injection.Flagged f) =
+    ((search q).flagged ≡ Some (leaf_of f.end f.birth))
+    × Tells q (IsFlagged f.end.spot.parent f.end.spot.side f.end.spot.edge.slot)
+    × Tells q (IsBorn f.end.spot.edge.slot f.birth) × IsAt (Tells q) f.end.spot c
+    × (length c < chain_bound)
 ShowsInjection k c q _ = (search q).flagged ≡ None
 
 -- ---- the tries to remove, the first of which is a cleanup by the walk of the flag
 
 -- the tries to remove the leaf, from a cleanup by that walk on, by what they came to (Natarajan and
 -- Mittal, section 3.2, delete)
-abbrev pub RemovalAfter : ℕ → ℕ → End → List ChainEdge → ℕ → ℕ → List Entry → List Entry → Removal
+abbrev pub RemovalAfter : ℕ → ℕ → FlaggedLeaf → List ChainEdge → List Entry → List Entry → Removal
     → Type 0
-RemovalAfter nodes k r c b left old new removal.Removed =
-    ((left ≢ 0) × (ns : List NodeId) × (epoch : ℕ) × CleanupWon r.spot c ns epoch old new
-    × IsOneOfNodes (leaf_of r b) ns)
-    ⊎ ((t : ℕ) × (mid : List Entry) × (left ≡ t + 1) × CleanupLost r.spot c old mid
-    × IsRemoval nodes k (leaf_of r b) t mid new removal.Removed)
-RemovalAfter nodes k r c b left old new removal.Refused =
-    ((left ≢ 0) × (new ≡ old))
-    ⊎ ((t : ℕ) × (mid : List Entry) × (left ≡ t + 1) × CleanupLost r.spot c old mid
-    × IsRemoval nodes k (leaf_of r b) t mid new removal.Refused)
-RemovalAfter nodes k r c b left old new removal.Spent =
-    ((left ≡ 0) × (new ≡ old))
-    ⊎ ((t : ℕ) × (mid : List Entry) × (left ≡ t + 1) × CleanupLost r.spot c old mid
-    × IsRemoval nodes k (leaf_of r b) t mid new removal.Spent)
+RemovalAfter nodes k f c old new removal.Removed =
+    ((f.left ≢ 0) × (ns : List NodeId) × (epoch : ℕ) × CleanupWon f.end.spot c ns epoch old new
+    × IsOneOfNodes (leaf_of f.end f.birth) ns)
+    ⊎ ((t : ℕ) × (mid : List Entry) × (f.left ≡ t + 1) × CleanupLost f.end.spot c old mid
+    × IsRemoval nodes k (leaf_of f.end f.birth) t mid new removal.Removed)
+RemovalAfter nodes k f c old new removal.Refused =
+    ((f.left ≢ 0) × (new ≡ old))
+    ⊎ ((t : ℕ) × (mid : List Entry) × (f.left ≡ t + 1) × CleanupLost f.end.spot c old mid
+    × IsRemoval nodes k (leaf_of f.end f.birth) t mid new removal.Refused)
+RemovalAfter nodes k f c old new removal.Spent =
+    ((f.left ≡ 0) × (new ≡ old))
+    ⊎ ((t : ℕ) × (mid : List Entry) × (f.left ≡ t + 1) × CleanupLost f.end.spot c old mid
+    × IsRemoval nodes k (leaf_of f.end f.birth) t mid new removal.Spent)
 
 -- ---- the whole call
 
 -- what a flag that was won leads to
 abbrev pub FlagsThen : ℕ → ℕ → ℕ → NodeId → List Entry → List Entry → Removal → Type 0
 FlagsThen nodes tries k n old new m =
-    (r : End) × (c : List ChainEdge) × (b left : ℕ) × (mid : List Entry) × (n ≡ leaf_of r b)
-    × IsInjection nodes k tries c old mid (injection.Flagged r b left)
-    × RemovalAfter nodes k r c b left mid new m
+    (f : FlaggedLeaf) × (c : List ChainEdge) × (mid : List Entry) × (n ≡ leaf_of f.end f.birth)
+    × IsInjection nodes k tries c old mid (injection.Flagged f) × RemovalAfter nodes k f c mid new m
 
 -- from the pin on, by the answer
 abbrev pub DeleteFinishes : ℕ → ℕ → ℕ → List Entry → List Entry → Result Bool Missed → Type 0

@@ -16,8 +16,8 @@ use Rattle.nm_pool.specs.declared.placement.Fit.{Fit}
 use Rattle.nm_steps.specs.Rules.{knowledge}
 use Rattle.nm_steps.specs.Steps.{Stand, IsSamePass, HasSeenAllOf, IsInRun}
 use Rattle.nm_epoch.specs.Resting.{epochs, search, IsResting}
-use Rattle.nm_calls.specs.declared.growing.Fork.{Fork}
-use Rattle.nm_calls.specs.declared.growing.Inner.{Inner}
+use Rattle.nm_calls.specs.declared.making.Contents.{Contents}
+use Rattle.nm_calls.specs.declared.making.Fork.{Fork}
 use Rattle.nm_epoch.specs.Tries.{IsPinnedBy, IsMoved}
 use Rattle.nm_calls.specs.declared.inserting.Fault.{Fault}
 use Rattle.nm_calls.specs.declared.inserting.Fault.TheVariants as fault
@@ -88,7 +88,7 @@ ClaimsFork fit nodes old new None = IsClaimBy fit nodes old new None
 -- ---- a link of both
 
 -- the new internal node has the greater key, and the leaf with the lesser one is on its left
-abbrev pub inner_of : ℕ → ℕ → ℕ → ℕ → Inner
+abbrev pub inner_of : ℕ → ℕ → ℕ → ℕ → Contents
 inner_of key other leaf fresh =
     if nat_lt key other then record { key = other; left = fresh; right = leaf }
     else record { key = key; left = leaf; right = fresh }
@@ -107,7 +107,7 @@ pub record MayGrow (p : Stand) (key : ℕ) (r : End) (f : Fork) : Type 0 where
 
 -- both nodes were filled, and a link of them was tried at the edge by which the walk ended
 abbrev pub Grows : ℕ → End → Fork → Reply → List Entry → List Entry → Type 0
-Grows key r f reply old new = (i : Inner) × (i ≡ inner_of key r.key r.spot.edge.slot f.fresh.slot)
+Grows key r f reply old new = (i : Contents) × (i ≡ inner_of key r.key r.spot.edge.slot f.fresh.slot)
     × (new ≡ ((old ++ fills f.new.slot i.key i.left i.right) ++ fills f.fresh.slot key 0 0)
     ++ (Link r.spot.parent r.spot.side r.spot.edge.slot f.new.slot, reply) ∷ [])
 

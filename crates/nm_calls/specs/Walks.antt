@@ -6,6 +6,7 @@ use Rattle.nm_edge.specs.declared.edge.Side.TheVariants.{Left, Right}
 use Rattle.nm_model.specs.declared.event.Event.TheVariants.{Look}
 use Rattle.nm_model.specs.declared.event.Field.TheVariants.{Key as KeyOf, Edge as EdgeOn}
 use Rattle.nm_model.specs.declared.reply.Reply.TheVariants.{KeyIs, EdgeIs}
+use Rattle.nm_model.specs.Memory.{infinity_0}
 use Rattle.nm_model.specs.Searches.{side_of}
 use Rattle.nm_model.specs.Walks.{Entry}
 use Rattle.nm_order.specs.Facts.{Since, Fact}
@@ -14,10 +15,12 @@ use Rattle.nm_order.specs.Taught.{WalksAreFor as HasWalks}
 use Rattle.nm_steps.specs.Steps.{Stand}
 use Rattle.nm_calls.specs.declared.looking.Onward.{Onward}
 use Rattle.nm_calls.specs.declared.spot.ChainEdge.{ChainEdge}
+use Rattle.nm_calls.specs.declared.spot.Descent.{Descent}
+use Rattle.nm_calls.specs.declared.spot.Descent.TheVariants.{Ended, Stopped}
 use Rattle.nm_calls.specs.declared.spot.End.{End}
 use Rattle.nm_calls.specs.declared.spot.Spot.{Spot}
 use Rattle.nm_calls.specs.Bounds.{chain_bound}
-use Rattle.nm_calls.specs.Telling.{Tells}
+use Rattle.nm_calls.specs.Telling.{Tells, GoesOn, OnlyLooks}
 
 -- ---- where a walk stands
 
@@ -151,3 +154,29 @@ abbrev pub HasFound : Stand → Stand → ℕ → ℕ → ℕ → Side → ℕ �
 HasFound p q k leaf parent side key =
     (since : Since) → HasWalks p.view.layout p.view.number p.view.log since k
     → Tells q (EndedAt since k leaf parent side key)
+
+-- ---- a walk that remembers its chain, with what is known where it stands
+
+-- in a table of so many nodes it stands at s, n nodes below slot 2
+pub record IsWalking (nodes k n : ℕ) (o p : Stand) (s : Spot) (c : List ChainEdge) : Type 0 where
+  pub walk : Walks k n o.view.log p.view.log s c
+  pub at : IsAt (Tells p) s c
+  pub within : s.edge.slot ≤ nodes
+  pub short : length c < chain_bound
+  pub on : GoesOn o p
+  pub only : OnlyLooks o p
+  pub come : EachWalkHasCome o p k s
+
+-- or it has ended, at a leaf above slot 5 where its key is below the sentinels
+pub record HasWalked (nodes k : ℕ) (o p : Stand) (c : List ChainEdge) (r : End) : Type 0 where
+  pub walk : EndsAtLeaf nodes k o.view.log p.view.log r.spot c r.key
+  pub ended : HasEnded (Tells p) nodes r.spot c
+  pub few : length c < chain_bound
+  pub high : r.key < infinity_0 → 6 ≤ r.spot.edge.slot
+  pub found : HasFound o p k r.spot.edge.slot r.spot.parent r.spot.side r.key
+
+-- the part of it that goes by untagged edges alone, so that its chain is empty: it has ended, or
+-- stands after so many nodes, which are not yet all
+abbrev pub HasDescended : ℕ → ℕ → Stand → Stand → Descent → Type 0
+HasDescended nodes k o p (Ended r) = HasWalked nodes k o p [] r
+HasDescended nodes k o p (Stopped s n) = IsWalking nodes k n o p s [] × (n + 1 ≤ nodes)

@@ -40,16 +40,7 @@ fn cut_off(
     };
     let was = tag(shared, pass, spot.parent, kept.side);
     freeze(shared, pass, chain, spot.parent, kept.side, nodes);
-    let Ok(()) = splice(
-        shared,
-        pass,
-        spot.ancestor,
-        spot.above,
-        spot.successor,
-        spot.parent,
-        kept.side,
-        was.tagged(),
-    ) else {
+    let Ok(()) = splice(shared, pass, spot, kept.side, was.tagged()) else {
         return false;
     };
     true
@@ -74,22 +65,20 @@ fn push_labelled(queue: &mut BlockQueue<Entry>, nodes: &[NodeId], label: u64)
 /// A cleanup by a walk that ended at this spot with the chain of this workspace, which stays, and
 /// whether it is won. Won: the chain from the successor down to the parent is cut off with the
 /// flagged leaf beside each of its nodes, labelled at once, and waits at the end of the queue.
-/// Lost: it has only looked, and tagged an edge. `splices` counts the worker's won splices, up to
-/// 2^64 - 1. It takes no memory. At most 3 steps for each node of the chain, and 8 more. (The
-/// cleanup of Natarajan and Mittal, section 3.2, for a whole chain.)
+/// Lost: it has only looked, and tagged an edge. It takes no memory. At most 3 steps for each node
+/// of the chain, and 8 more. (The cleanup of Natarajan and Mittal, section 3.2, for a whole chain.)
 pub fn cleanup(
     shared: &Shared,
     pass: &mut Pass,
-    spot: &Spot,
     workspace: &mut Workspace,
     queue: &mut BlockQueue<Entry>,
-    splices: &mut u64,
+    spot: &Spot,
 ) -> bool
     requires pinned { IsPinnedIn shared.now pass.old }
     requires at { IsAt (Tells pass.old) spot.now workspace.old.chain.items }
     requires few { length workspace.old.chain.items < chain_bound }
     requires room { cut_bound ≤ queue.old.spare }
-    requires kept { HoldsCuts pass.old queue.old splices.old }
+    requires kept { HoldsCuts pass.old queue.old workspace.old.splices }
     ensures won { result ≡ true
         → HasCleaned spot.now workspace.old.chain.items pass.old pass.new queue.old.items
         queue.new.items }
@@ -97,8 +86,9 @@ pub fn cleanup(
         → HasCutNothing spot.now workspace.old.chain.items pass.old pass.new }
     ensures untouched { result ≡ false → queue.new ≡ queue.old }
     ensures chain { workspace.new.chain ≡ workspace.old.chain }
-    ensures kept { HoldsCuts pass.new queue.new splices.new }
+    ensures kept { HoldsCuts pass.new queue.new workspace.new.splices }
     ensures fills { FillsUp queue.old queue.new }
+    ensures fit { workspace.new.placement ≡ workspace.old.placement }
     ensures on { GoesOn pass.old pass.new }
     ensures only { OnlyCleans pass.old pass.new }
     ensures steps { length pass.new.view.log
@@ -115,6 +105,6 @@ pub fn cleanup(
     }
     let epoch = label(shared, pass);
     push_labelled(queue, workspace.nodes.as_slice(), epoch);
-    *splices = splices.saturating_add(1);
+    workspace.splices = workspace.splices.saturating_add(1);
     true
 }

@@ -1,14 +1,13 @@
 //! Deletes.
 ghost use Rattle.std.specs.Prelude.{◌≡◌, ◌≢◌, ◌⊎◌, ◌<◌, ◌≤◌, length, true, false, None, IfOk, IfErr};
-ghost use Rattle.nm_model.specs.Memory.{infinity_0};
 ghost use Rattle.nm_model.specs.declared.event.Op.TheVariants.{Delete};
 ghost use Rattle.nm_order.specs.Facts.Fact.{IsFlagged};
 ghost use Rattle.nm_steps.specs.Rules.{knowledge};
-ghost use Rattle.nm_steps.specs.Steps.{Stand, IsOf, IsSamePass, HasSeenAllOf};
+ghost use Rattle.nm_steps.specs.Steps.{Stand, IsOf, Continues};
 ghost use Rattle.nm_epoch.specs.Resting.{IsResting, search};
 ghost use Rattle.nm_calls.specs.Bounds.{chain_bound, cut_bound};
 ghost use Rattle.nm_calls.specs.Rooms.{FillsUp, TakesRoom};
-ghost use Rattle.nm_calls.specs.Telling.{Tells, GoesOn, IsInRun, IsPinnedIn};
+ghost use Rattle.nm_calls.specs.Telling.{Tells, GoesOn, IsPinnedIn};
 ghost use Rattle.nm_calls.specs.Walks.{IsAt};
 ghost use Rattle.nm_calls.specs.Leaving.{ShowsAnswer, IsPinnedForCall, HasChangedNothing};
 ghost use Rattle.nm_calls.specs.Marking.{OnlyFlags};
@@ -41,17 +40,34 @@ pub(crate) enum Injected {
     Lost,
 }
 
+/// A leaf that the call has flagged.
+#[derive(Clone, Copy)]
+pub(crate) struct FlaggedLeaf {
+    /// Where the walk ended that found it.
+    pub(crate) end: End,
+    pub(crate) birth: u64,
+    /// How many tries are left to remove it.
+    pub(crate) left: u32,
+}
+
 /// What the tries to flag a leaf came to.
 #[derive(Clone, Copy)]
 pub(crate) enum Injection {
     /// The leaf has another key.
     Absent,
-    /// The leaf at this end is flagged, with this birth, and so many tries are left.
-    Flagged(End, u64, u32),
+    /// This leaf is flagged.
+    Flagged(FlaggedLeaf),
     /// The room of a try was refused.
     Refused,
     /// Each try was lost.
     Spent,
+}
+
+/// A delete that has flagged its leaf and not answered yet.
+#[derive(Clone, Copy)]
+pub struct Unfinished {
+    pub key: Key,
+    pub leaf: NodeId,
 }
 
 /// Why a delete has not answered.
@@ -89,63 +105,64 @@ fn leads_to(end: &End, slot: u32) -> bool
 fn try_remove(
     shared: &Shared,
     pass: &mut Pass,
-    key: u64,
-    leaf: NodeId,
     workspace: &mut Workspace,
     queue: &mut BlockQueue<Entry>,
-    splices: &mut u64,
+    pending: &Unfinished,
 ) -> bool
     requires own { IsOf shared.now pass.old }
-    requires removing { IsRemoving pass.old key leaf }
+    requires removing { IsRemoving pass.old pending.now.key pending.now.leaf }
     requires room { cut_bound ≤ queue.old.spare }
-    requires kept { HoldsCuts pass.old queue.old splices.old }
+    requires kept { HoldsCuts pass.old queue.old workspace.old.splices }
     ensures removed { result ≡ true
-        → Removes shared.now.layout.nodes key leaf pass.old.view.log pass.new.view.log }
-    ensures shows { result ≡ true → ShowsAnswer pass.new Delete key true }
+        → Removes shared.now.layout.nodes pending.now.key pending.now.leaf pass.old.view.log
+        pass.new.view.log }
+    ensures shows { result ≡ true → ShowsAnswer pass.new Delete pending.now.key true }
     ensures lost { result ≡ false
-        → RemovesNothing shared.now.layout.nodes key leaf pass.old.view.log pass.new.view.log }
+        → RemovesNothing shared.now.layout.nodes pending.now.key pending.now.leaf
+        pass.old.view.log pass.new.view.log }
     ensures on { GoesOn pass.old pass.new }
     ensures only { OnlyCleans pass.old pass.new }
-    ensures kept { HoldsCuts pass.new queue.new splices.new }
+    ensures kept { HoldsCuts pass.new queue.new workspace.new.splices }
     ensures fills { FillsUp queue.old queue.new }
+    ensures fit { workspace.new.placement ≡ workspace.old.placement }
 {
+    let key = pending.key.get();
     let Some(end) = seek(shared, pass, key, &mut workspace.chain) else {
         return false;
     };
-    if !leads_to(&end, leaf.slot) {
+    if !leads_to(&end, pending.leaf.slot) {
         return true;
     }
-    cleanup(shared, pass, &end.spot, workspace, queue, splices)
+    cleanup(shared, pass, workspace, queue, &end.spot)
 }
 
 /// Up to so many tries to remove the leaf that the call has flagged.
 fn remove(
     shared: &Shared,
     pass: &mut Pass,
-    key: u64,
-    leaf: NodeId,
-    tries: u32,
     workspace: &mut Workspace,
     queue: &mut BlockQueue<Entry>,
-    splices: &mut u64,
+    pending: &Unfinished,
+    tries: u32,
 ) -> Removal
     requires own { IsOf shared.now pass.old }
-    requires removing { IsRemoving pass.old key leaf }
-    requires kept { HoldsCuts pass.old queue.old splices.old }
-    ensures part { IsRemoval shared.now.layout.nodes key leaf tries pass.old.view.log
-        pass.new.view.log result }
+    requires removing { IsRemoving pass.old pending.now.key pending.now.leaf }
+    requires kept { HoldsCuts pass.old queue.old workspace.old.splices }
+    ensures part { IsRemoval shared.now.layout.nodes pending.now.key pending.now.leaf tries
+        pass.old.view.log pass.new.view.log result }
     ensures refused { result ≡ Removal.Refused → queue.new.spare < cut_bound }
-    ensures shows { IfRemoved result (ShowsAnswer pass.new Delete key true) }
+    ensures shows { IfRemoved result (ShowsAnswer pass.new Delete pending.now.key true) }
     ensures on { GoesOn pass.old pass.new }
     ensures only { OnlyCleans pass.old pass.new }
-    ensures kept { HoldsCuts pass.new queue.new splices.new }
+    ensures kept { HoldsCuts pass.new queue.new workspace.new.splices }
     ensures blocks { TakesRoom queue.old queue.new }
+    ensures fit { workspace.new.placement ≡ workspace.old.placement }
 {
     for _round in 0..tries {
         if !make_room(queue) {
             return Removal::Refused;
         }
-        if try_remove(shared, pass, key, leaf, workspace, queue, splices) {
+        if try_remove(shared, pass, workspace, queue, pending) {
             return Removal::Removed;
         }
     }
@@ -176,35 +193,35 @@ fn flag_at(shared: &Shared, pass: &mut Pass, key: u64, end: &End) -> Result<u64,
 fn try_flag(
     shared: &Shared,
     pass: &mut Pass,
-    key: u64,
     workspace: &mut Workspace,
     queue: &mut BlockQueue<Entry>,
-    splices: &mut u64,
+    key: Key,
 ) -> Injected
     requires pinned { IsPinnedIn shared.now pass.old }
     requires call { IsPinnedForCall Delete key pass.old }
-    requires low { key < infinity_0 }
     requires unflagged { (search pass.old).flagged ≡ None }
     requires room { cut_bound ≤ queue.old.spare }
-    requires kept { HoldsCuts pass.old queue.old splices.old }
+    requires kept { HoldsCuts pass.old queue.old workspace.old.splices }
     ensures part { IsFlagTry shared.now.layout.nodes key workspace.new.chain.items pass.old.view.log
         pass.new.view.log result }
     ensures shows { ShowsFlag key workspace.new.chain.items pass.old pass.new result }
     ensures on { GoesOn pass.old pass.new }
     ensures only { OnlyInjects pass.old pass.new }
-    ensures kept { HoldsCuts pass.new queue.new splices.new }
+    ensures kept { HoldsCuts pass.new queue.new workspace.new.splices }
     ensures fills { FillsUp queue.old queue.new }
+    ensures fit { workspace.new.placement ≡ workspace.old.placement }
 {
-    let Some(end) = seek(shared, pass, key, &mut workspace.chain) else {
+    let sought = key.get();
+    let Some(end) = seek(shared, pass, sought, &mut workspace.chain) else {
         return Injected::Lost;
     };
-    if end.key != key {
+    if end.key != sought {
         return Injected::Absent;
     }
-    match flag_at(shared, pass, key, &end) {
+    match flag_at(shared, pass, sought, &end) {
         Ok(birth) => Injected::Flagged(end, birth),
         Err(found) => {
-            help(shared, pass, &end, found, workspace, queue, splices);
+            help(shared, pass, workspace, queue, &end, found);
             Injected::Lost
         }
     }
@@ -214,35 +231,35 @@ fn try_flag(
 fn inject(
     shared: &Shared,
     pass: &mut Pass,
-    key: u64,
-    tries: u32,
     workspace: &mut Workspace,
     queue: &mut BlockQueue<Entry>,
-    splices: &mut u64,
+    key: Key,
+    tries: u32,
 ) -> Injection
     requires pinned { IsPinnedIn shared.now pass.old }
     requires call { IsPinnedForCall Delete key pass.old }
-    requires low { key < infinity_0 }
     requires unflagged { (search pass.old).flagged ≡ None }
     requires room { cut_bound ≤ queue.old.spare }
-    requires kept { HoldsCuts pass.old queue.old splices.old }
+    requires kept { HoldsCuts pass.old queue.old workspace.old.splices }
     ensures part { IsInjection shared.now.layout.nodes key tries workspace.new.chain.items
         pass.old.view.log pass.new.view.log result }
     ensures refused { result ≡ Injection.Refused → queue.new.spare < cut_bound }
     ensures shows { ShowsInjection key workspace.new.chain.items pass.new result }
     ensures on { GoesOn pass.old pass.new }
     ensures only { OnlyInjects pass.old pass.new }
-    ensures kept { HoldsCuts pass.new queue.new splices.new }
+    ensures kept { HoldsCuts pass.new queue.new workspace.new.splices }
     ensures blocks { TakesRoom queue.old queue.new }
+    ensures fit { workspace.new.placement ≡ workspace.old.placement }
 {
     for round in 0..tries {
         if !make_room(queue) {
             return Injection::Refused;
         }
-        match try_flag(shared, pass, key, workspace, queue, splices) {
+        match try_flag(shared, pass, workspace, queue, key) {
             Injected::Absent => return Injection::Absent,
             Injected::Flagged(end, birth) => {
-                return Injection::Flagged(end, birth, tries - round - 1);
+                let left = tries - round - 1;
+                return Injection::Flagged(FlaggedLeaf { end, birth, left });
             }
             Injected::Lost => {}
         }
@@ -254,50 +271,49 @@ fn inject(
 fn remove_after(
     shared: &Shared,
     pass: &mut Pass,
-    key: u64,
-    end: &End,
-    birth: u64,
-    left: u32,
     workspace: &mut Workspace,
     queue: &mut BlockQueue<Entry>,
-    splices: &mut u64,
+    key: Key,
+    flagged: &FlaggedLeaf,
 ) -> Removal
     requires own { IsOf shared.now pass.old }
-    requires removing { IsRemoving pass.old key (leaf_of end.now birth) }
-    requires edge { Tells pass.old
-        (IsFlagged end.now.spot.parent end.now.spot.side end.now.spot.edge.slot) }
-    requires at { IsAt (Tells pass.old) end.now.spot workspace.old.chain.items }
+    requires removing { IsRemoving pass.old key (leaf_of flagged.now.end flagged.now.birth) }
+    requires edge { Tells pass.old (IsFlagged flagged.now.end.spot.parent
+        flagged.now.end.spot.side flagged.now.end.spot.edge.slot) }
+    requires at { IsAt (Tells pass.old) flagged.now.end.spot workspace.old.chain.items }
     requires few { length workspace.old.chain.items < chain_bound }
-    requires kept { HoldsCuts pass.old queue.old splices.old }
-    ensures part { RemovalAfter shared.now.layout.nodes key end.now workspace.old.chain.items birth
-        left pass.old.view.log pass.new.view.log result }
+    requires kept { HoldsCuts pass.old queue.old workspace.old.splices }
+    ensures part { RemovalAfter shared.now.layout.nodes key flagged.now
+        workspace.old.chain.items pass.old.view.log pass.new.view.log result }
     ensures refused { result ≡ Removal.Refused → queue.new.spare < cut_bound }
     ensures shows { IfRemoved result (ShowsAnswer pass.new Delete key true) }
     ensures on { GoesOn pass.old pass.new }
     ensures only { OnlyCleans pass.old pass.new }
-    ensures kept { HoldsCuts pass.new queue.new splices.new }
+    ensures kept { HoldsCuts pass.new queue.new workspace.new.splices }
     ensures blocks { TakesRoom queue.old queue.new }
+    ensures fit { workspace.new.placement ≡ workspace.old.placement }
 {
-    if left == 0 {
+    if flagged.left == 0 {
         return Removal::Spent;
     }
     if !make_room(queue) {
         return Removal::Refused;
     }
-    if cleanup(shared, pass, &end.spot, workspace, queue, splices) {
+    if cleanup(shared, pass, workspace, queue, &flagged.end.spot) {
         return Removal::Removed;
     }
-    let leaf = leaf_at(end, birth);
-    remove(shared, pass, key, leaf, left - 1, workspace, queue, splices)
+    let leaf = leaf_at(flagged);
+    let pending = Unfinished { key, leaf };
+    remove(shared, pass, workspace, queue, &pending, flagged.left - 1)
 }
 
-/// The leaf at which a walk ended, with its birth.
-fn leaf_at(end: &End, birth: u64) -> NodeId
-    ensures { result ≡ leaf_of end.now birth }
+/// The flagged leaf, a slot with its birth.
+fn leaf_at(flagged: &FlaggedLeaf) -> NodeId
+    ensures { result ≡ leaf_of flagged.now.end flagged.now.birth }
 {
     NodeId {
-        slot: end.spot.edge.slot(),
-        birth,
+        slot: flagged.end.spot.edge.slot(),
+        birth: flagged.birth,
     }
 }
 
@@ -306,20 +322,17 @@ fn leaf_at(end: &End, birth: u64) -> NodeId
 fn delete_pinned(
     shared: &Shared,
     pass: &mut Pass,
-    key: u64,
-    tries: u32,
     workspace: &mut Workspace,
     queue: &mut BlockQueue<Entry>,
-    splices: &mut u64,
+    key: Key,
+    tries: u32,
 ) -> Result<bool, Missed>
     requires pinned { IsPinnedIn shared.now pass.old }
     requires call { IsPinnedForCall Delete key pass.old }
-    requires low { key < infinity_0 }
     requires unchanged { HasChangedNothing pass.old }
     requires room { cut_bound ≤ queue.old.spare }
-    requires kept { HoldsCuts pass.old queue.old splices.old }
-    ensures same { IsSamePass pass.old pass.new }
-    ensures past { HasSeenAllOf pass.new pass.old }
+    requires kept { HoldsCuts pass.old queue.old workspace.old.splices }
+    ensures on { Continues pass.old pass.new }
     ensures part { DeleteFinishes shared.now.layout.nodes tries key pass.old.view.log
         pass.new.view.log result }
     ensures refused { IfErr result
@@ -327,14 +340,14 @@ fn delete_pinned(
         pass.new.view.log Removal.Spent) queue.new.spare) }
     ensures moment { (o : Stand) → HadNoCall o pass.old
         → IfOk result (AnswerHasMoment o pass.new Delete key) }
-    ensures run { IsInRun pass.new }
     ensures stands { RestsOrRemoves key pass.new result }
     ensures private { (knowledge pass.new.view).drafts ≡ (knowledge pass.old.view).drafts }
-    ensures kept { HoldsCuts pass.new queue.new splices.new }
+    ensures kept { HoldsCuts pass.new queue.new workspace.new.splices }
     ensures blocks { TakesRoom queue.old queue.new }
     ensures ledgers { KeepsLedgers pass.old pass.new }
+    ensures fit { workspace.new.placement ≡ workspace.old.placement }
 {
-    match inject(shared, pass, key, tries, workspace, queue, splices) {
+    match inject(shared, pass, workspace, queue, key, tries) {
         Injection::Absent => {
             answer(shared, pass, false);
             Ok(false)
@@ -347,11 +360,9 @@ fn delete_pinned(
             leave(shared, pass);
             Err(Missed::Busy)
         }
-        Injection::Flagged(end, birth, left) => {
-            let leaf = leaf_at(&end, birth);
-            match remove_after(
-                shared, pass, key, &end, birth, left, workspace, queue, splices,
-            ) {
+        Injection::Flagged(flagged) => {
+            let leaf = leaf_at(&flagged);
+            match remove_after(shared, pass, workspace, queue, key, &flagged) {
                 Removal::Removed => {
                     answer(shared, pass, true);
                     Ok(true)
@@ -370,29 +381,27 @@ fn delete_pinned(
 /// taken.
 ///
 /// At most `tries` * (4 `nodes` + 512) + 6 `nodes` + 10 steps. `Ok(true)` and `Unfinished`: just
-/// one flag was won, and no link; else neither. `splices` counts the worker's won splices, up to
-/// 2^64 - 1. What stands in `workspace` is not looked at. (The delete of Natarajan and Mittal,
-/// section 3.2.)
+/// one flag was won, and no link; else neither. (The delete of Natarajan and Mittal, section 3.2.)
 pub fn delete(
     shared: &Shared,
     pass: &mut Pass,
-    key: Key,
-    tries: u32,
     workspace: &mut Workspace,
     queue: &mut BlockQueue<Entry>,
-    splices: &mut u64,
+    key: Key,
+    tries: u32,
 ) -> Result<bool, Missed>
     requires own { IsOf shared.now pass.old }
     requires rests { IsResting pass.old }
-    requires kept { HoldsCuts pass.old queue.old splices.old }
+    requires kept { HoldsCuts pass.old queue.old workspace.old.splices }
     requires few { length queue.old.items ≤ shared.now.layout.nodes }
     ensures after { AfterDelete shared.now.layout.nodes tries key pass.old pass.new result }
     ensures refused { IfErr result
         (LacksRoomOr (LosesAfterFlag shared.now.layout.nodes tries key pass.old.view.log
         pass.new.view.log) queue.new.spare) }
-    ensures kept { HoldsCuts pass.new queue.new splices.new }
+    ensures kept { HoldsCuts pass.new queue.new workspace.new.splices }
     ensures blocks { TakesRoom queue.old queue.new }
     ensures few { length queue.new.items ≤ shared.now.layout.nodes }
+    ensures fit { workspace.new.placement ≡ workspace.old.placement }
 {
     if tries == 0 {
         return Err(Missed::Busy);
@@ -404,45 +413,36 @@ pub fn delete(
     let Ok(_epoch) = pin_for(shared, pass, tries, Op::Delete, key) else {
         return Err(Missed::Busy);
     };
-    delete_pinned(shared, pass, key.get(), tries, workspace, queue, splices)
+    delete_pinned(shared, pass, workspace, queue, key, tries)
 }
 
 /// Goes on to remove the leaf that the worker has flagged: whether it is cut off, and the worker
 /// rests. Else it stays pinned. Room for a cleanup is made before each try, in the fewest blocks,
 /// and no other memory is taken. At most `tries` * (4 `nodes` + 512) + 6 `nodes` + 10 steps; no
-/// link and no flag is won. `splices` counts the worker's won splices, up to 2^64 - 1. What stands
-/// in `workspace` is not looked at.
+/// link and no flag is won.
 pub fn finish(
     shared: &Shared,
     pass: &mut Pass,
-    key: Key,
-    leaf: NodeId,
-    tries: u32,
     workspace: &mut Workspace,
     queue: &mut BlockQueue<Entry>,
-    splices: &mut u64,
+    pending: &Unfinished,
+    tries: u32,
 ) -> bool
     requires own { IsOf shared.now pass.old }
-    requires removing { IsRemoving pass.old key leaf }
-    requires kept { HoldsCuts pass.old queue.old splices.old }
-    ensures after { AfterFinish shared.now.layout.nodes key leaf tries pass.old pass.new result }
+    requires removing { IsRemoving pass.old pending.now.key pending.now.leaf }
+    requires kept { HoldsCuts pass.old queue.old workspace.old.splices }
+    ensures after { AfterFinish shared.now.layout.nodes pending.now.key pending.now.leaf tries
+        pass.old pass.new result }
     ensures refused { result ≡ false
         → (queue.new.spare < cut_bound)
-        ⊎ LosesEachTry shared.now.layout.nodes key leaf tries pass.old.view.log pass.new.view.log }
-    ensures kept { HoldsCuts pass.new queue.new splices.new }
+        ⊎ LosesEachTry shared.now.layout.nodes pending.now.key pending.now.leaf tries
+        pass.old.view.log pass.new.view.log }
+    ensures kept { HoldsCuts pass.new queue.new workspace.new.splices }
     ensures blocks { TakesRoom queue.old queue.new }
     ensures few { length queue.new.items ≤ shared.now.layout.nodes }
+    ensures fit { workspace.new.placement ≡ workspace.old.placement }
 {
-    match remove(
-        shared,
-        pass,
-        key.get(),
-        leaf,
-        tries,
-        workspace,
-        queue,
-        splices,
-    ) {
+    match remove(shared, pass, workspace, queue, pending, tries) {
         Removal::Removed => {
             answer(shared, pass, true);
             true

@@ -5,26 +5,11 @@ ghost use Rattle.nm_calls.specs.Telling.{GoesOn, IsInRun, IsPinnedIn};
 ghost use Rattle.nm_calls.specs.Making.{OnlyMakes};
 ghost use Rattle.nm_calls.specs.Inserts.{ClaimsFork, HasFork, IfReady, Returns, inner_of, MayGrow, KeepsCall, HasGrown, HasNotGrown};
 
-use crate::making::{claim, fill, give, link};
+use crate::making::{Contents, Fork, claim, fill, give, link};
 use crate::spot::End;
-use nm_edge::{Edge, NodeId};
+use nm_edge::Edge;
 use nm_pool::Placement;
 use nm_steps::{Pass, Shared};
-
-/// Two private nodes: a new internal node, and a new leaf to stand below it.
-#[derive(Clone, Copy, Debug, PartialEq, Eq)]
-pub struct Fork {
-    pub new: NodeId,
-    pub fresh: NodeId,
-}
-
-/// What a new internal node has.
-#[derive(Clone, Copy)]
-pub(crate) struct Inner {
-    pub(crate) key: u64,
-    pub(crate) left: u32,
-    pub(crate) right: u32,
-}
 
 /// Claims an internal node and then a leaf. `None`: one of the claims answered nothing, and nothing
 /// is kept.
@@ -54,17 +39,17 @@ pub(crate) fn claim_fork(
 }
 
 /// The new internal node over a leaf with key `other` and a new leaf with another key.
-fn node_over(key: u64, other: u64, leaf: u32, fresh: u32) -> Inner
+fn node_over(key: u64, other: u64, leaf: u32, fresh: u32) -> Contents
     ensures { result ≡ inner_of key other leaf fresh }
 {
     if key < other {
-        Inner {
+        Contents {
             key: other,
             left: fresh,
             right: leaf,
         }
     } else {
-        Inner {
+        Contents {
             key,
             left: leaf,
             right: fresh,
@@ -88,20 +73,16 @@ pub(crate) fn grow(
     ensures won { IfOk result (λ _. HasGrown pass.old pass.new key end.now fork.now) }
     ensures lost { IfErr result (λ e. HasNotGrown pass.old pass.new key end.now fork.now e) }
 {
-    let spot = end.spot;
-    let leaf = spot.edge.slot();
+    let leaf = end.spot.edge.slot();
     let node = node_over(key, end.key, leaf, fork.fresh.slot);
-    fill(shared, pass, fork.new.slot, node.key, node.left, node.right);
-    fill(shared, pass, fork.fresh.slot, key, 0, 0);
-    link(
-        shared,
-        pass,
-        spot.parent,
-        spot.side,
-        leaf,
-        fork.new.slot,
-        fork.fresh.slot,
-    )
+    fill(shared, pass, fork.new.slot, &node);
+    let alone = Contents {
+        key,
+        left: 0,
+        right: 0,
+    };
+    fill(shared, pass, fork.fresh.slot, &alone);
+    link(shared, pass, &end.spot, fork)
 }
 
 /// Gives both nodes back, the internal one first. The placement remembers their slots.

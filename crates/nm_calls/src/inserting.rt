@@ -1,7 +1,7 @@
 //! Inserts.
 ghost use Rattle.std.specs.Prelude.{◌≡◌, ◌<◌, ◌≤◌, ◌*◌, true, false, length, None, IfOk, IsErrOf};
 ghost use Rattle.nm_model.specs.declared.event.Op.TheVariants.{Insert};
-ghost use Rattle.nm_steps.specs.Steps.{Stand, IsOf, IsSamePass, HasSeenAllOf};
+ghost use Rattle.nm_steps.specs.Steps.{Stand, IsOf, Continues};
 ghost use Rattle.nm_epoch.specs.Resting.{IsResting, search};
 ghost use Rattle.nm_calls.specs.Bounds.{chain_bound, cut_bound};
 ghost use Rattle.nm_calls.specs.Rooms.{FillsUp, TakesRoom};
@@ -14,8 +14,9 @@ ghost use Rattle.nm_calls.specs.Inserts.{HasFork, Helps, asks_help, IsReadied, I
 ghost use Rattle.nm_calls.specs.Leaving.{IsPinnedForCall, HasChangedNothing};
 
 use crate::cleaning::cleanup;
-use crate::growing::{Fork, claim_fork, give_back, grow};
+use crate::growing::{claim_fork, give_back, grow};
 use crate::leaving::{answer, leave};
+use crate::making::Fork;
 use crate::spot::End;
 use crate::walking::seek;
 use crate::workspace::{CUT_BOUND, Workspace};
@@ -86,27 +87,27 @@ fn asks_help(end: &End, found: Edge) -> bool
 pub(crate) fn help(
     shared: &Shared,
     pass: &mut Pass,
-    end: &End,
-    found: Edge,
     workspace: &mut Workspace,
     queue: &mut BlockQueue<Entry>,
-    splices: &mut u64,
+    end: &End,
+    found: Edge,
 )
     requires pinned { IsPinnedIn shared.now pass.old }
     requires at { IsAt (Tells pass.old) end.now.spot workspace.old.chain.items }
     requires few { length workspace.old.chain.items < chain_bound }
     requires room { cut_bound ≤ queue.old.spare }
-    requires kept { HoldsCuts pass.old queue.old splices.old }
+    requires kept { HoldsCuts pass.old queue.old workspace.old.splices }
     ensures part { Helps end.now workspace.old.chain.items found pass.old.view.log
         pass.new.view.log }
     ensures chain { workspace.new.chain ≡ workspace.old.chain }
     ensures on { GoesOn pass.old pass.new }
     ensures only { OnlyCleans pass.old pass.new }
-    ensures kept { HoldsCuts pass.new queue.new splices.new }
+    ensures kept { HoldsCuts pass.new queue.new workspace.new.splices }
     ensures fills { FillsUp queue.old queue.new }
+    ensures fit { workspace.new.placement ≡ workspace.old.placement }
 {
     if asks_help(end, found) {
-        let _ = cleanup(shared, pass, &end.spot, workspace, queue, splices);
+        let _ = cleanup(shared, pass, workspace, queue, &end.spot);
     }
 }
 
@@ -115,28 +116,26 @@ pub(crate) fn help(
 fn try_insert(
     shared: &Shared,
     pass: &mut Pass,
-    placement: &mut Placement,
-    key: u64,
     workspace: &mut Workspace,
-    fork: &mut Option<Fork>,
     queue: &mut BlockQueue<Entry>,
-    splices: &mut u64,
+    key: u64,
+    fork: &mut Option<Fork>,
 ) -> Attempt
     requires pinned { IsPinnedIn shared.now pass.old }
     requires call { IsPinnedForCall Insert key pass.old }
     requires unlinked { (search pass.old).linked ≡ false }
     requires room { cut_bound ≤ queue.old.spare }
-    requires kept { HoldsCuts pass.old queue.old splices.old }
+    requires kept { HoldsCuts pass.old queue.old workspace.old.splices }
     requires fork { (o : Stand) × HasFork o pass.old fork.old }
-    ensures part { IsTry placement.old shared.now.layout.nodes key fork.old fork.new
+    ensures part { IsTry workspace.old.placement shared.now.layout.nodes key fork.old fork.new
         pass.old.view.log pass.new.view.log result }
     ensures on { GoesOn pass.old pass.new }
     ensures only { OnlyTries pass.old pass.new }
     ensures shows { ShowsTry key pass.old pass.new result }
     ensures has { (o : Stand) → HasFork o pass.old fork.old → HasFork o pass.new fork.new }
-    ensures kept { HoldsCuts pass.new queue.new splices.new }
+    ensures kept { HoldsCuts pass.new queue.new workspace.new.splices }
     ensures fills { FillsUp queue.old queue.new }
-    ensures fit { placement.new ≡ placement.old }
+    ensures fit { workspace.new.placement ≡ workspace.old.placement }
 {
     let Some(end) = seek(shared, pass, key, &mut workspace.chain) else {
         return Attempt::Lost;
@@ -144,7 +143,7 @@ fn try_insert(
     if end.key == key {
         return Attempt::Found;
     }
-    let Some(made) = ready(shared, pass, placement, fork) else {
+    let Some(made) = ready(shared, pass, &mut workspace.placement, fork) else {
         return Attempt::Full;
     };
     match grow(shared, pass, key, &end, &made) {
@@ -153,7 +152,7 @@ fn try_insert(
             Attempt::Linked
         }
         Err(found) => {
-            help(shared, pass, &end, found, workspace, queue, splices);
+            help(shared, pass, workspace, queue, &end, found);
             Attempt::Lost
         }
     }
@@ -177,45 +176,39 @@ pub(crate) fn make_room(queue: &mut BlockQueue<Entry>) -> bool
 fn insert_pinned(
     shared: &Shared,
     pass: &mut Pass,
-    placement: &mut Placement,
-    key: u64,
-    tries: u32,
     workspace: &mut Workspace,
     queue: &mut BlockQueue<Entry>,
-    splices: &mut u64,
+    key: u64,
+    tries: u32,
 ) -> Result<bool, Fault>
     requires pinned { IsPinnedIn shared.now pass.old }
     requires call { IsPinnedForCall Insert key pass.old }
     requires unchanged { HasChangedNothing pass.old }
     requires room { cut_bound ≤ queue.old.spare }
-    requires kept { HoldsCuts pass.old queue.old splices.old }
-    ensures same { IsSamePass pass.old pass.new }
-    ensures past { HasSeenAllOf pass.new pass.old }
-    ensures part { Finishes placement.old shared.now.layout.nodes tries key pass.old.view.log
-        pass.new.view.log result }
+    requires kept { HoldsCuts pass.old queue.old workspace.old.splices }
+    ensures on { Continues pass.old pass.new }
+    ensures part { Finishes workspace.old.placement shared.now.layout.nodes tries key
+        pass.old.view.log pass.new.view.log result }
     ensures refused { IsErrOf result Fault.NoMemory → queue.new.spare < cut_bound }
     ensures moment { (o : Stand) → HadNoCall o pass.old
         → IfOk result (AnswerHasMoment o pass.new Insert key) }
-    ensures run { IsInRun pass.new }
     ensures rests { IsResting pass.new }
     ensures private { HasFork pass.old pass.new None }
-    ensures kept { HoldsCuts pass.new queue.new splices.new }
+    ensures kept { HoldsCuts pass.new queue.new workspace.new.splices }
     ensures blocks { TakesRoom queue.old queue.new }
     ensures ledgers { KeepsLedgers pass.old pass.new }
-    ensures fit { placement.new ≡ placement.old }
+    ensures fit { workspace.new.placement ≡ workspace.old.placement }
 {
     let mut fork: Option<Fork> = None;
     for _round in 0..tries {
         if !make_room(queue) {
-            give_back(shared, pass, placement, &fork);
+            give_back(shared, pass, &mut workspace.placement, &fork);
             leave(shared, pass);
             return Err(Fault::NoMemory);
         }
-        match try_insert(
-            shared, pass, placement, key, workspace, &mut fork, queue, splices,
-        ) {
+        match try_insert(shared, pass, workspace, queue, key, &mut fork) {
             Attempt::Found => {
-                give_back(shared, pass, placement, &fork);
+                give_back(shared, pass, &mut workspace.placement, &fork);
                 answer(shared, pass, false);
                 return Ok(false);
             }
@@ -230,7 +223,7 @@ fn insert_pinned(
             Attempt::Lost => {}
         }
     }
-    give_back(shared, pass, placement, &fork);
+    give_back(shared, pass, &mut workspace.placement, &fork);
     leave(shared, pass);
     Err(Fault::Busy)
 }
@@ -242,30 +235,28 @@ fn insert_pinned(
 /// A try is a walk with its answer, or a link with at most one cleanup of help. Room for a cleanup
 /// is made before each try, that of the first one before the pin, in the fewest blocks, and no
 /// other memory is taken. At most `tries` * (4 `nodes` + 512) + 6 `nodes` + 10 steps. `Ok(true)`:
-/// just one link was won, and no flag; else neither. New nodes are claimed in the order of
-/// `placement`, which stays of its fit. `splices` counts the worker's won splices, up to 2^64 - 1.
-/// What stands in `workspace` is not looked at. (The insert of Natarajan and Mittal, section 3.2.)
+/// just one link was won, and no flag; else neither. New nodes are claimed in the order of the
+/// workspace's placement, which stays of its fit. (The insert of Natarajan and Mittal, section
+/// 3.2.)
 pub fn insert(
     shared: &Shared,
     pass: &mut Pass,
-    placement: &mut Placement,
-    key: Key,
-    tries: u32,
     workspace: &mut Workspace,
     queue: &mut BlockQueue<Entry>,
-    splices: &mut u64,
+    key: Key,
+    tries: u32,
 ) -> Result<bool, Fault>
     requires own { IsOf shared.now pass.old }
     requires rests { IsResting pass.old }
-    requires kept { HoldsCuts pass.old queue.old splices.old }
+    requires kept { HoldsCuts pass.old queue.old workspace.old.splices }
     requires few { length queue.old.items ≤ shared.now.layout.nodes }
-    ensures after { AfterInsert placement.old shared.now.layout.nodes tries key pass.old pass.new
-        result }
+    ensures after { AfterInsert workspace.old.placement shared.now.layout.nodes tries key pass.old
+        pass.new result }
     ensures refused { IsErrOf result Fault.NoMemory → queue.new.spare < cut_bound }
-    ensures kept { HoldsCuts pass.new queue.new splices.new }
+    ensures kept { HoldsCuts pass.new queue.new workspace.new.splices }
     ensures few { length queue.new.items ≤ shared.now.layout.nodes }
     ensures blocks { TakesRoom queue.old queue.new }
-    ensures fit { placement.new ≡ placement.old }
+    ensures fit { workspace.new.placement ≡ workspace.old.placement }
 {
     if tries == 0 {
         return Err(Fault::Busy);
@@ -277,14 +268,5 @@ pub fn insert(
     let Ok(_epoch) = pin_for(shared, pass, tries, Op::Insert, key) else {
         return Err(Fault::Busy);
     };
-    insert_pinned(
-        shared,
-        pass,
-        placement,
-        key.get(),
-        tries,
-        workspace,
-        queue,
-        splices,
-    )
+    insert_pinned(shared, pass, workspace, queue, key.get(), tries)
 }

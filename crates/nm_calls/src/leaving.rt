@@ -5,7 +5,7 @@ ghost use Rattle.nm_model.specs.declared.event.Op.{Op};
 ghost use Rattle.nm_model.specs.declared.reply.Reply.TheVariants.{Labelled, Departed};
 ghost use Rattle.nm_order.specs.Facts.Fact.{CallIs};
 ghost use Rattle.nm_steps.specs.Rules.{knowledge};
-ghost use Rattle.nm_steps.specs.Steps.{Stand, IsOf, MayStep, Stepped, HasSeenAllOf};
+ghost use Rattle.nm_steps.specs.Steps.{Stand, IsOf, MayStep, TakesStep, Stepped};
 ghost use Rattle.nm_epoch.specs.Resting.{IsResting, KeepsHands, epochs};
 ghost use Rattle.nm_epoch.specs.Collecting.{TakesLabels};
 ghost use Rattle.nm_calls.specs.Telling.{Tells, GoesOn, IsInRun};
@@ -20,9 +20,7 @@ use nm_steps::{Pass, Shared};
 pub fn leave(shared: &Shared, pass: &mut Pass)
     requires own { IsOf shared.now pass.old }
     requires unchanged { HasChangedNothing pass.old }
-    ensures step { Stepped pass.old pass.new Leave Departed }
-    ensures past { HasSeenAllOf pass.new pass.old }
-    ensures run { IsInRun pass.new }
+    ensures took { TakesStep pass.old pass.new Leave Departed }
     ensures rests { IsResting pass.new }
     ensures hands { KeepsHands pass.old pass.new }
 {
@@ -35,11 +33,9 @@ pub fn leave(shared: &Shared, pass: &mut Pass)
 pub(crate) fn leave_with(shared: &Shared, pass: &mut Pass, answer: bool)
     requires own { IsOf shared.now pass.old }
     requires may { MayStep pass.old (LeaveWith answer) }
-    ensures step { Stepped pass.old pass.new (LeaveWith answer) Departed }
-    ensures past { HasSeenAllOf pass.new pass.old }
+    ensures took { TakesStep pass.old pass.new (LeaveWith answer) Departed }
     ensures moment { (o : Stand) (op : Op) (k : ℕ) → HadNoCall o pass.old
         → Tells pass.old (CallIs op k) → AnswerHasMoment o pass.new op k answer }
-    ensures run { IsInRun pass.new }
     ensures rests { IsResting pass.new }
     ensures hands { KeepsHands pass.old pass.new }
 {
@@ -53,11 +49,9 @@ pub fn answer(shared: &Shared, pass: &mut Pass, answer: bool)
     requires own { IsOf shared.now pass.old }
     requires labelled { (epochs pass.old).unlabelled ≡ false }
     requires shown { IsItsAnswer pass.old answer }
-    ensures step { Stepped pass.old pass.new (LeaveWith answer) Departed }
-    ensures past { HasSeenAllOf pass.new pass.old }
+    ensures took { TakesStep pass.old pass.new (LeaveWith answer) Departed }
     ensures moment { (o : Stand) (op : Op) (k : ℕ) → HadNoCall o pass.old
         → Tells pass.old (CallIs op k) → AnswerHasMoment o pass.new op k answer }
-    ensures run { IsInRun pass.new }
     ensures rests { IsResting pass.new }
     ensures hands { KeepsHands pass.old pass.new }
 {

@@ -21,13 +21,12 @@ mod workspace;
 
 pub use cleaning::cleanup;
 pub use cutting::{Kept, choose, freeze};
-pub use deleting::{Missed, delete, finish};
-pub use growing::Fork;
+pub use deleting::{Missed, Unfinished, delete, finish};
 pub use inserting::{Fault, insert};
 pub use leaving::{answer, label, leave};
 pub use looking::{Onward, look_birth, look_edge, look_key};
 pub use lookup::{Busy, has};
-pub use making::{claim, fill, give, link};
+pub use making::{Contents, Fork, claim, fill, give, link};
 pub use many::{Query, has_many};
 pub use marking::{flag, splice, tag};
 pub use next_key::next;

@@ -14,15 +14,32 @@ ghost use Rattle.nm_steps.specs.Steps.{IsOf, Stepped};
 ghost use Rattle.nm_calls.specs.Telling.{Tells, GoesOn, IsInRun, IsPinnedIn};
 ghost use Rattle.nm_calls.specs.Making.{draft, KeepsOtherSlots, KeepsAllBut, OnlyMakes, with_node, HasFilled, IsInserting, HasLinked, HasLost};
 
+use crate::spot::Spot;
 use nm_edge::{Edge, NodeId, Side};
 use nm_pool::{Placement, claim_by};
 use nm_steps::{Pass, Shared};
+
+/// What is stored in a new node: its key, and its edges, which are 0 at a leaf.
+#[derive(Clone, Copy, Debug, PartialEq, Eq)]
+pub struct Contents {
+    pub key: u64,
+    pub left: u32,
+    pub right: u32,
+}
+
+/// Two private nodes: a new internal node, and a new leaf to stand below it.
+#[derive(Clone, Copy, Debug, PartialEq, Eq)]
+pub struct Fork {
+    pub new: NodeId,
+    pub fresh: NodeId,
+}
 
 /// Takes a slot out of the pool to be a new node, with its birth raised by one: the first that it
 /// finds there with a birth below 2^62, in the order of the placement.
 ///
 /// `Some(node)`: the slot is private to the worker, which had it nowhere before; its birth is
 /// stored there, and nothing else is. At most three steps a slot.
+#[inline(always)]
 pub fn claim(shared: &Shared, pass: &mut Pass, placement: &mut Placement) -> Option<NodeId>
     requires own { IsOf shared.now pass.old }
     requires run { IsInRun pass.old }
@@ -62,51 +79,47 @@ pub fn give(shared: &Shared, pass: &mut Pass, node: NodeId)
 }
 
 /// Stores a key and two edges in a private slot whose birth is stored, in three steps.
-pub fn fill(shared: &Shared, pass: &mut Pass, slot: u32, key: u64, left: u32, right: u32)
+pub fn fill(shared: &Shared, pass: &mut Pass, slot: u32, node: &Contents)
     requires own { IsOf shared.now pass.old }
     requires run { IsInRun pass.old }
     requires born { IsSome (draft pass.old slot).birth }
-    requires left { left ≤ pass.old.view.layout.nodes }
-    requires right { right ≤ pass.old.view.layout.nodes }
-    ensures steps { HasFilled pass.old pass.new slot key left right }
+    requires left { node.now.left ≤ pass.old.view.layout.nodes }
+    requires right { node.now.right ≤ pass.old.view.layout.nodes }
+    ensures steps { HasFilled pass.old pass.new slot node.now.key node.now.left node.now.right }
     ensures on { GoesOn pass.old pass.new }
     ensures filled { get (knowledge pass.new.view).drafts slot
-        ≡ Some (with_node (draft pass.old slot) key left right) }
+        ≡ Some (with_node (draft pass.old slot) node.now.key node.now.left node.now.right) }
     ensures others { KeepsOtherSlots slot pass.old pass.new }
     ensures only { OnlyMakes pass.old pass.new }
 {
     pass.holds_pooled_slots();
-    shared.fill_key(pass, slot, key);
-    shared.fill_edge(pass, slot, Side::Left, left);
-    shared.fill_edge(pass, slot, Side::Right, right);
+    shared.fill_key(pass, slot, node.key);
+    shared.fill_edge(pass, slot, Side::Left, node.left);
+    shared.fill_edge(pass, slot, Side::Right, node.right);
     pass.is_of_a_run();
 }
 
-/// Puts a new internal node, over the leaf and the new leaf `fresh`, in the place of the leaf.
-/// Lost: the edge that was found.
+/// Puts the new internal node of a fork, over the leaf and the new leaf, in the place of the leaf
+/// to which the edge of this spot leads. Lost: the edge that was found.
 ///
-/// Only a call to insert the key of `fresh` may do so, once, by the edge by which a walk of it came
-/// to the leaf and ended there.
-pub fn link(
-    shared: &Shared,
-    pass: &mut Pass,
-    parent: u32,
-    side: Side,
-    leaf: u32,
-    new: u32,
-    fresh: u32,
-) -> Result<(), Edge>
+/// Only a call to insert the key of the new leaf may do so, once, by the edge by which a walk of it
+/// came to the leaf and ended there.
+pub fn link(shared: &Shared, pass: &mut Pass, spot: &Spot, fork: &Fork) -> Result<(), Edge>
     requires pinned { IsPinnedIn shared.now pass.old }
-    requires parent { Tells pass.old (KnowsSlot parent) }
-    requires known { Tells pass.old (KnowsSlot leaf) }
-    requires leaf { Tells pass.old (KnowsLeaf leaf) }
-    requires inserts { IsInserting pass.old parent side leaf new fresh }
+    requires parent { Tells pass.old (KnowsSlot spot.now.parent) }
+    requires known { Tells pass.old (KnowsSlot spot.now.edge.slot) }
+    requires leaf { Tells pass.old (KnowsLeaf spot.now.edge.slot) }
+    requires inserts { IsInserting pass.old spot.now.parent spot.now.side spot.now.edge.slot
+        fork.now.new.slot fork.now.fresh.slot }
     ensures on { GoesOn pass.old pass.new }
-    ensures won { IfOk result (λ _. HasLinked pass.old pass.new parent side leaf new fresh) }
-    ensures lost { IfErr result (HasLost pass.old pass.new parent side leaf new) }
+    ensures won { IfOk result (λ _. HasLinked pass.old pass.new spot.now.parent spot.now.side
+        spot.now.edge.slot fork.now.new.slot fork.now.fresh.slot) }
+    ensures lost { IfErr result (HasLost pass.old pass.new spot.now.parent spot.now.side
+        spot.now.edge.slot fork.now.new.slot) }
 {
     pass.holds_pooled_slots();
-    let linked = shared.link(pass, parent, side, leaf, new);
+    let leaf = spot.edge.slot();
+    let linked = shared.link(pass, spot.parent, spot.side, leaf, fork.new.slot);
     pass.is_of_a_run();
     linked
 }

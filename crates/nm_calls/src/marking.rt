@@ -11,8 +11,9 @@ ghost use Rattle.nm_steps.specs.Steps.{Stepped};
 ghost use Rattle.nm_calls.specs.Telling.{Tells, GoesOn, OnlyLooks, IsPinnedIn};
 ghost use Rattle.nm_calls.specs.Marking.{TagTold, IsToBeFlagged, OnlyFlags, FlagWon, FlagLost, IsToBeCut, OnlyCuts, SpliceWon, SpliceLost};
 
+use crate::spot::Spot;
 use nm_edge::{Edge, Side};
-use nm_steps::{Pass, Shared};
+use nm_steps::{FrozenChain, Pass, Shared};
 
 /// Tags an edge of a known node whose other edge is known to be flagged, and answers the edge as it
 /// was. It is never null.
@@ -53,31 +54,38 @@ pub fn flag(
     won
 }
 
-/// Cuts a frozen chain off, from the successor down to the parent, with the flagged leaf beside
-/// each of its nodes: the ancestor's edge leads from then on where the parent's edge on the side
-/// `keep` leads, which is frozen as `kept`. The nodes wait for their label. Lost: the edge that was
-/// found.
+/// Cuts a frozen chain off, from the successor of this spot down to its parent, with the flagged
+/// leaf beside each of its nodes: the ancestor's edge leads from then on where the parent's edge on
+/// the side `keep` leads, which is frozen as `kept`. The nodes wait for their label. Lost: the edge
+/// that was found.
 pub fn splice(
     shared: &Shared,
     pass: &mut Pass,
-    ancestor: u32,
-    side: Side,
-    successor: u32,
-    parent: u32,
+    spot: &Spot,
     keep: Side,
     kept: Edge,
 ) -> Result<(), Edge>
     requires pinned { IsPinnedIn shared.now pass.old }
-    requires frozen { IsToBeCut pass.old ancestor successor parent keep kept }
+    requires frozen { IsToBeCut pass.old spot.now.ancestor spot.now.successor spot.now.parent keep
+        kept }
     ensures won { IfOk result (λ _. (ns : List NodeId)
-        → FrozenTo (Tells pass.old) parent keep successor ns
-        → SpliceWon pass.old pass.new ancestor side successor parent keep ns) }
+        → FrozenTo (Tells pass.old) spot.now.parent keep spot.now.successor ns
+        → SpliceWon pass.old pass.new spot.now.ancestor spot.now.above spot.now.successor
+        spot.now.parent keep ns) }
     ensures lost { IfErr result
-        (λ e. SpliceLost pass.old pass.new ancestor side successor parent keep e) }
+        (λ e. SpliceLost pass.old pass.new spot.now.ancestor spot.now.above spot.now.successor
+        spot.now.parent keep e) }
     ensures on { GoesOn pass.old pass.new }
     ensures only { OnlyCuts pass.old pass.new }
 {
-    let won = shared.splice(pass, ancestor, side, successor, parent, keep, kept);
+    let chain = FrozenChain {
+        ancestor: spot.ancestor,
+        side: spot.above,
+        successor: spot.successor,
+        parent: spot.parent,
+        keep,
+    };
+    let won = shared.splice(pass, chain, kept);
     pass.is_of_a_run();
     won
 }

@@ -50,6 +50,16 @@ pub struct End {
     pub key: u64,
 }
 
+/// What the part of a walk came to that goes by untagged edges alone.
+#[derive(Clone, Copy)]
+pub(crate) enum Descent {
+    /// It has ended at a leaf.
+    Ended(End),
+    /// It stands at this spot, so many nodes below slot 2: the spot's edge is tagged, or the walk
+    /// has looked at as many nodes as there are.
+    Stopped(Spot, u32),
+}
+
 /// The side of a key at a node: left where it is less than the node's.
 pub(crate) fn side_at(key: u64, node: u64) -> Side
     ensures { result ≡ side_of key node }

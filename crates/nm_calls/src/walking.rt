@@ -1,14 +1,12 @@
 //! The walk for a key.
-ghost use Rattle.std.specs.Prelude.{◌<◌, ◌≤◌, ◌+◌, ◌*◌, ℕ, IfSome, length};
-ghost use Rattle.nm_model.specs.Memory.{infinity_0};
+ghost use Rattle.std.specs.Prelude.{◌≤◌, ◌+◌, ◌*◌, ℕ, IfSome, length};
 ghost use Rattle.nm_edge.specs.declared.edge.Side.{Side as SideOf};
 ghost use Rattle.nm_order.specs.Facts.Fact.{KnowsSlot};
-ghost use Rattle.nm_calls.specs.Bounds.{chain_bound};
 ghost use Rattle.nm_calls.specs.Telling.{Tells, GoesOn, OnlyLooks, IsPinnedIn};
-ghost use Rattle.nm_calls.specs.Walks.{Finds, Seeks, HasEnded, HasFound};
+ghost use Rattle.nm_calls.specs.Walks.{Finds, Seeks, HasDescended, HasFound, HasWalked};
 
 use crate::looking::{look_edge, read_node};
-use crate::spot::{Chain, End, end_at, extend, first, further};
+use crate::spot::{Chain, Descent, End, end_at, extend, first, further};
 use nm_edge::Side;
 use nm_steps::{Pass, Shared};
 
@@ -44,27 +42,27 @@ pub fn find(shared: &Shared, pass: &mut Pass, key: u64) -> Option<u64>
 /// as there are, or where the chain would hold 65 nodes with the parent. At most three steps a node
 /// of the table. (The seek of Natarajan and Mittal, section 3.2, which here remembers the whole
 /// chain.)
+#[inline(always)]
 pub fn seek(shared: &Shared, pass: &mut Pass, key: u64, chain: &mut Chain) -> Option<End>
     requires pinned { IsPinnedIn shared.now pass.old }
     requires root { Tells pass.old (KnowsSlot 1) }
     requires known { Tells pass.old (KnowsSlot 2) }
     ensures walk { Seeks shared.now.layout.nodes key pass.old.view.log pass.new.view.log
         chain.new.items result }
-    ensures ended { IfSome result
-        (λ r. HasEnded (Tells pass.new) shared.now.layout.nodes r.spot chain.new.items) }
-    ensures few { IfSome result (λ r. length chain.new.items < chain_bound) }
-    ensures high { IfSome result (λ r. r.key < infinity_0 → 6 ≤ r.spot.edge.slot) }
+    ensures came { IfSome result
+        (HasWalked shared.now.layout.nodes key pass.old pass.new chain.new.items) }
     ensures steps { length pass.new.view.log
         ≤ length pass.old.view.log + 3 * shared.now.layout.nodes }
     ensures on { GoesOn pass.old pass.new }
     ensures only { OnlyLooks pass.old pass.new }
-    ensures found { IfSome result
-        (λ r. HasFound pass.old pass.new key r.spot.edge.slot r.spot.parent r.spot.side r.key) }
 {
     chain.clear();
+    let (mut spot, below) = match descend(shared, pass, key) {
+        Descent::Ended(end) => return Some(end),
+        Descent::Stopped(spot, below) => (spot, below),
+    };
     let layout = shared.layout();
-    let mut spot = first(look_edge(shared, layout, pass, 2, Side::Left));
-    for _below in 0..layout.nodes() - 1 {
+    for _below in below..layout.nodes() - 1 {
         let node = spot.edge.slot();
         let on = read_node(shared, layout, pass, node, key);
         if on.next.slot() == 0 {
@@ -76,4 +74,32 @@ pub fn seek(shared: &Shared, pass: &mut Pass, key: u64, chain: &mut Chain) -> Op
         spot = further(spot, on.side, on.next);
     }
     None
+}
+
+/// The walk for a key as far as it goes by untagged edges, which is nearly always to its leaf: so
+/// long its chain is empty, and its successor is its parent.
+#[inline(always)]
+fn descend(shared: &Shared, pass: &mut Pass, key: u64) -> Descent
+    requires pinned { IsPinnedIn shared.now pass.old }
+    requires root { Tells pass.old (KnowsSlot 1) }
+    requires known { Tells pass.old (KnowsSlot 2) }
+    ensures came { HasDescended shared.now.layout.nodes key pass.old pass.new result }
+    ensures on { GoesOn pass.old pass.new }
+    ensures only { OnlyLooks pass.old pass.new }
+{
+    let layout = shared.layout();
+    let mut spot = first(look_edge(shared, layout, pass, 2, Side::Left));
+    let most = layout.nodes() - 1;
+    for below in 0..most {
+        if spot.edge.tag() {
+            return Descent::Stopped(spot, below);
+        }
+        let node = spot.edge.slot();
+        let on = read_node(shared, layout, pass, node, key);
+        if on.next.slot() == 0 {
+            return Descent::Ended(end_at(&spot, on.found));
+        }
+        spot = further(spot, on.side, on.next);
+    }
+    Descent::Stopped(spot, most)
 }

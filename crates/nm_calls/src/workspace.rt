@@ -1,7 +1,10 @@
-//! The room in which a worker's walks and cleanups work.
+//! What a worker's calls work with.
+ghost use Rattle.std.specs.Prelude.{◌≡◌};
+
 use crate::spot::Chain;
 use arrayvec::ArrayVec;
 use nm_edge::NodeId;
+use nm_pool::Placement;
 
 /// How many nodes a splice cuts off at most: `CHAIN_BOUND` internal ones, and the flagged leaf
 /// beside each.
@@ -10,21 +13,35 @@ pub const CUT_BOUND: usize = 128;
 /// The nodes that a splice cuts off.
 pub type CutNodes = ArrayVec<NodeId, CUT_BOUND>;
 
-/// The room of a worker's walks and cleanups. It is made once and used by all of its calls, since
-/// filling it costs more than a walk. What stands in it before a call is not looked at.
+/// What a worker's calls work with, beside its pass: where it looks for free slots; the room of its
+/// walks and cleanups, which is made once, since filling it costs more than a walk; and the count
+/// of its won splices, which stays where it is at 2^64 - 1.
+///
+/// `insert`, `delete` and `finish` look at neither the chain nor the nodes that stand there before;
+/// `cleanup` takes the chain of the walk from it.
 #[derive(Drop)]
 pub struct Workspace {
+    /// Where the worker looks for free slots.
+    pub placement: Placement,
     /// The chain that the last walk remembers.
     pub chain: Chain,
     /// The nodes that the last cleanup was to cut off.
     pub nodes: CutNodes,
+    /// The splices that the worker has won.
+    pub splices: u64,
 }
 
 impl Workspace {
-    pub fn new() -> Self {
+    /// That of a worker that has won no splice, and looks for free slots there.
+    pub fn new(placement: Placement) -> Self
+        ensures fit { result.placement ≡ placement }
+        ensures splices { result.splices ≡ 0 }
+    {
         Workspace {
+            placement,
             chain: Chain::new(),
             nodes: CutNodes::new(),
+            splices: 0,
         }
     }
 }

@@ -10,10 +10,9 @@ use Rattle.nm_model.specs.Learning.{learn}
 use Rattle.nm_model.specs.Searches.{searched}
 use Rattle.nm_model.specs.Walks.{Entry}
 use Rattle.nm_steps.specs.Rules.{knowledge}
-use Rattle.nm_steps.specs.Steps.{Stand, Stepped, IsAdvanceFrom, advance_reply, noted}
+use Rattle.nm_steps.specs.Steps.{Stand, Stepped, IsAdvanceFrom, advance_reply, noted, IsSamePass}
 use Rattle.nm_epoch.specs.declared.answers.Advance.TheVariants.{Moved, Held, Lost}
 use Rattle.nm_epoch.specs.Resting.{Settles, KeepsHands, epochs}
-use Rattle.nm_steps.specs.Steps.{IsSamePass}
 use Rattle.nm_epoch.specs.Scans.{LooksAt, SightThenScans, IsAdvance, IsLooking, lets_pass}
 use Rattle.nm_epoch.proofs.Entries.{epochs_after, search_is}
 use Rattle.nm_epoch.proofs.KeptHands.{is_label, hands_kept, kept_on}

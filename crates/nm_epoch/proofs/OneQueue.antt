@@ -13,10 +13,9 @@ use Rattle.nm_model.specs.declared.knowledge.Brief.{Brief}
 use Rattle.nm_model.specs.Ledgers.{held}
 use Rattle.nm_model.specs.Walks.{Entry as LogEntry}
 use Rattle.nm_steps.specs.Rules.{knowledge}
-use Rattle.nm_steps.specs.Steps.{Stand, MayStep, Stepped, give_reply}
+use Rattle.nm_steps.specs.Steps.{Stand, MayStep, Stepped, give_reply, IsSamePass}
 use Rattle.nm_epoch.specs.declared.collecting.Entry.{Entry}
 use Rattle.nm_epoch.specs.Resting.{Settles, epochs, search}
-use Rattle.nm_steps.specs.Steps.{IsSamePass}
 use Rattle.nm_order.specs.Hands.{AreApart}
 use Rattle.nm_epoch.specs.Collecting.{IsQueueOf, KeepsRetired, is_ripe, ripe_front, ripe_part, rest_of, freeing}
 use Rattle.nm_epoch.proofs.Fronts.{may_free, freed_reply, queue_after, others_after, retired_stays, epochs_stay, search_stays, nodes_stay, private_stay}

@@ -11,9 +11,8 @@ use Rattle.nm_model.specs.declared.reply.Reply.{Reply}
 use Rattle.nm_model.specs.Searches.{searched}
 use Rattle.nm_model.specs.Walks.{Entry}
 use Rattle.nm_model.specs.Step.{reply_scan}
-use Rattle.nm_steps.specs.Steps.{Stand, Stepped}
+use Rattle.nm_steps.specs.Steps.{Stand, Stepped, IsSamePass}
 use Rattle.nm_epoch.specs.Resting.{Settles, epochs, search, marks}
-use Rattle.nm_steps.specs.Steps.{IsSamePass}
 use Rattle.nm_epoch.specs.Scans.{IsSightOf, LooksAt, SightThenScans, IsLooking, lets_pass}
 use Rattle.nm_epoch.proofs.Entries.{epochs_after, search_is}
 use Rattle.nm_epoch.proofs.KeptHands.{look_known}

@@ -17,11 +17,10 @@ use Rattle.nm_laws.proofs.Held.{held-label}
 use Rattle.nm_laws.proofs.Learned.{learn_saw, learn_labelled, learn_pinned, learn_missed}
 use Rattle.nm_model.specs.Walks.{Entry as LogEntry}
 use Rattle.nm_steps.specs.Rules.{knowledge}
-use Rattle.nm_steps.specs.Steps.{Stand, Stepped, IsSight, sight_of}
+use Rattle.nm_steps.specs.Steps.{Stand, Stepped, IsSight, sight_of, IsSamePass}
 use Rattle.nm_steps.proofs.Presence.{known_push}
 use Rattle.nm_epoch.specs.declared.collecting.Entry.{Entry}
 use Rattle.nm_epoch.specs.declared.collecting.HeldQueue.{HeldQueue}
-use Rattle.nm_steps.specs.Steps.{IsSamePass}
 use Rattle.nm_epoch.specs.Scans.{IsSightOf}
 use Rattle.nm_epoch.specs.Collecting.{queued, IsQueueOf, AreHeld, KeepsRetired, ledgers_seen, retired_of}
 use Rattle.nm_epoch.specs.Resting.{epochs}

@@ -5,9 +5,8 @@ use Rattle.std.proofs.Math.Nat.{two-pow-succ, mod-eq_of_lt, one-mul}
 use Rattle.std.proofs.lemmas.Nat.{pow_below}
 use Rattle.nm_model.specs.declared.knowledge.Brief.{Brief}
 use Rattle.nm_model.specs.Walks.{Entry}
-use Rattle.nm_steps.specs.Steps.{Stand}
+use Rattle.nm_steps.specs.Steps.{Stand, IsSamePass}
 use Rattle.nm_epoch.specs.Resting.{epochs}
-use Rattle.nm_steps.specs.Steps.{IsSamePass}
 use Rattle.nm_epoch.specs.Scans.{LooksAt, lets_pass}
 use Rattle.nm_epoch.specs.Watches.{IsWatching, SightThenWatch, bit_of}
 use Rattle.nm_epoch.proofs.Scanning.{look_epochs}

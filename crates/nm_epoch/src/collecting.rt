@@ -5,9 +5,8 @@ ghost use Rattle.nm_model.specs.Ledgers.{held};
 ghost use Rattle.nm_order.specs.Hands.{AreApart};
 ghost use Rattle.nm_order.specs.Reads.{HasRead};
 ghost use Rattle.nm_steps.specs.Rules.{knowledge};
-ghost use Rattle.nm_steps.specs.Steps.{IsInRun, IsOf, MayStep, Stepped, give_reply, HasSeenAllOf};
+ghost use Rattle.nm_steps.specs.Steps.{IsInRun, IsOf, MayStep, give_reply, Continues, TakesStep};
 ghost use Rattle.nm_epoch.specs.Resting.{Settles, epochs, search};
-ghost use Rattle.nm_steps.specs.Steps.{IsSamePass};
 ghost use Rattle.nm_epoch.specs.Collecting.{IsQueueOf, AreHeld, KeepsRetired, NoneHas, HaveLost, KeepsOtherLedgers, ripe_front, ripe_part, ripe_of, rest_of, blocks_of, freeing, IsCollection};
 
 use crate::looking::read;
@@ -66,9 +65,7 @@ fn drop_front(queue: &mut BlockQueue<Entry>)
 fn free(shared: &Shared, pass: &mut Pass, slot: u32)
     requires own { IsOf shared.now pass.old }
     requires may { MayStep pass.old (Give slot) }
-    ensures step { Stepped pass.old pass.new (Give slot) (give_reply pass.old.view slot) }
-    ensures past { HasSeenAllOf pass.new pass.old }
-    ensures run { IsInRun pass.new }
+    ensures took { TakesStep pass.old pass.new (Give slot) (give_reply pass.old.view slot) }
     ensures apart { AreApart pass.new.view.layout (knowledge pass.new.view) }
 {
     shared.give(pass, slot);
@@ -88,9 +85,7 @@ fn collect_front(
     requires queue { IsQueueOf (knowledge pass.old.view) queue.old.origin queue.old.queue.items }
     requires apart { AreApart pass.old.view.layout (knowledge pass.old.view) }
     requires run { IsInRun pass.old }
-    ensures same { IsSamePass pass.old pass.new }
-    ensures past { HasSeenAllOf pass.new pass.old }
-    ensures run { IsInRun pass.new }
+    ensures on { Continues pass.old pass.new }
     ensures entries { pass.new.view.log
         ≡ pass.old.view.log ++ map freeing (ripe_part epoch queue.old.queue.items) }
     ensures freed { result ≡ length (ripe_part epoch queue.old.queue.items) }
@@ -131,9 +126,7 @@ fn collect_fronts(
     requires few { length queues.old ≤ MOST_WORKERS }
     requires apart { AreApart pass.old.view.layout (knowledge pass.old.view) }
     requires run { IsInRun pass.old }
-    ensures same { IsSamePass pass.old pass.new }
-    ensures past { HasSeenAllOf pass.new pass.old }
-    ensures run { IsInRun pass.new }
+    ensures on { Continues pass.old pass.new }
     ensures entries { pass.new.view.log
         ≡ pass.old.view.log ++ map freeing (ripe_of epoch queues.old) }
     ensures freed { result ≡ length (ripe_of epoch queues.old) }
@@ -189,9 +182,7 @@ pub fn collect(
 ) -> Collected
     requires own { IsOf shared.now pass.old }
     requires queues { AreHeld (knowledge pass.old.view) queues.old }
-    ensures same { IsSamePass pass.old pass.new }
-    ensures past { HasSeenAllOf pass.new pass.old }
-    ensures run { IsInRun pass.new }
+    ensures on { Continues pass.old pass.new }
     ensures part { IsCollection result.epoch queues.old pass.old.view.log pass.new.view.log }
     ensures freed { result.freed ≡ length (ripe_of result.epoch queues.old) }
     ensures lost { HaveLost result.epoch queues.old queues.new }

@@ -3,7 +3,7 @@ ghost use Rattle.std.specs.Prelude.{◌≡◌, false, true};
 ghost use Rattle.nm_model.specs.declared.event.Event.TheVariants.{Sight, Leave, LeaveWith};
 ghost use Rattle.nm_model.specs.declared.reply.Reply.TheVariants.{Labelled, Departed};
 ghost use Rattle.nm_steps.specs.Rules.{knowledge};
-ghost use Rattle.nm_steps.specs.Steps.{IsInRun, IsOf, MayStep, Stepped, HasSeenAllOf};
+ghost use Rattle.nm_steps.specs.Steps.{IsOf, MayStep, TakesStep};
 ghost use Rattle.nm_epoch.specs.Resting.{IsResting, KeepsHands, epochs};
 ghost use Rattle.nm_epoch.specs.Collecting.{TakesLabels};
 
@@ -14,9 +14,7 @@ use nm_steps::{Pass, Shared, Sighted};
 pub fn unpin(shared: &Shared, pass: &mut Pass)
     requires own { IsOf shared.now pass.old }
     requires may { MayStep pass.old Leave }
-    ensures step { Stepped pass.old pass.new Leave Departed }
-    ensures past { HasSeenAllOf pass.new pass.old }
-    ensures run { IsInRun pass.new }
+    ensures took { TakesStep pass.old pass.new Leave Departed }
     ensures rests { IsResting pass.new }
     ensures hands { KeepsHands pass.old pass.new }
 {
@@ -27,9 +25,7 @@ pub fn unpin(shared: &Shared, pass: &mut Pass)
 pub fn unpin_with(shared: &Shared, pass: &mut Pass, answer: bool)
     requires own { IsOf shared.now pass.old }
     requires may { MayStep pass.old (LeaveWith answer) }
-    ensures step { Stepped pass.old pass.new (LeaveWith answer) Departed }
-    ensures past { HasSeenAllOf pass.new pass.old }
-    ensures run { IsInRun pass.new }
+    ensures took { TakesStep pass.old pass.new (LeaveWith answer) Departed }
     ensures rests { IsResting pass.new }
     ensures hands { KeepsHands pass.old pass.new }
 {
@@ -42,9 +38,7 @@ pub fn unpin_with(shared: &Shared, pass: &mut Pass, answer: bool)
 pub fn label(shared: &Shared, pass: &mut Pass) -> u64
     requires own { IsOf shared.now pass.old }
     requires cut { (epochs pass.old).unlabelled ≡ true }
-    ensures step { Stepped pass.old pass.new Sight (Labelled result) }
-    ensures past { HasSeenAllOf pass.new pass.old }
-    ensures run { IsInRun pass.new }
+    ensures took { TakesStep pass.old pass.new Sight (Labelled result) }
     ensures labelled { (epochs pass.new).unlabelled ≡ false }
     ensures private { (knowledge pass.new.view).drafts ≡ (knowledge pass.old.view).drafts }
     ensures queues { TakesLabels result (knowledge pass.old.view) (knowledge pass.new.view) }

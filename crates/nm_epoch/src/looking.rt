@@ -1,9 +1,8 @@
 //! Reading the epoch, and what each worker announces.
 ghost use Rattle.std.specs.Prelude.{◌≡◌, ◌<◌, ◌≤◌, Some, IsSome, MatchOption, true, false};
 ghost use Rattle.nm_model.specs.Step.{last_number};
-ghost use Rattle.nm_steps.specs.Steps.{IsInRun, IsOf, sight_reply, HasSeenAllOf};
+ghost use Rattle.nm_steps.specs.Steps.{IsInRun, IsOf, sight_reply, Continues};
 ghost use Rattle.nm_epoch.specs.Resting.{Settles, KeepsHands, epochs};
-ghost use Rattle.nm_steps.specs.Steps.{IsSamePass};
 ghost use Rattle.nm_steps.specs.Rules.{knowledge};
 ghost use Rattle.nm_epoch.specs.Collecting.{ledgers_seen};
 ghost use Rattle.nm_epoch.specs.Scans.{IsSightOf, LooksAt, lets_pass};
@@ -26,9 +25,7 @@ fn epoch_of(sighted: Sighted) -> u64
 /// Reads the epoch. Where a cut waits for its label, this is the label.
 pub(crate) fn read(shared: &Shared, pass: &mut Pass) -> u64
     requires { IsOf shared.now pass.old }
-    ensures same { IsSamePass pass.old pass.new }
-    ensures past { HasSeenAllOf pass.new pass.old }
-    ensures run { IsInRun pass.new }
+    ensures on { Continues pass.old pass.new }
     ensures step { IsSightOf result pass.old.view.log pass.new.view.log }
     ensures seen { (epochs pass.new).seen ≡ Some result }
     ensures small { result ≤ last_number }
@@ -46,9 +43,8 @@ pub(crate) fn look(shared: &Shared, pass: &mut Pass, me: u32, worker: u32) -> Op
     requires me { me ≡ pass.old.view.number }
     requires there { worker < shared.now.layout.workers }
     requires seen { IsSome (epochs pass.old).seen }
-    ensures same { IsSamePass pass.old pass.new }
-    ensures past { HasSeenAllOf pass.new pass.old }
-    ensures run { IsInRun pass.old → IsInRun pass.new }
+    requires run { IsInRun pass.old }
+    ensures on { Continues pass.old pass.new }
     ensures found { LooksAt me (epochs pass.old).pin worker result pass.old.view.log
         pass.new.view.log }
 {

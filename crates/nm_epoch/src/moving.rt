@@ -1,8 +1,7 @@
 //! Moving the epoch on.
 ghost use Rattle.std.specs.Prelude.{◌≡◌, ◌+◌, ◌≤◌, ◌<◌, length};
-ghost use Rattle.nm_steps.specs.Steps.{IsInRun, IsOf, HasSeenAllOf};
+ghost use Rattle.nm_steps.specs.Steps.{IsOf, Continues};
 ghost use Rattle.nm_epoch.specs.Resting.{Settles, KeepsHands, epochs};
-ghost use Rattle.nm_steps.specs.Steps.{IsSamePass};
 ghost use Rattle.nm_epoch.specs.Scans.{IsAdvance};
 
 use crate::answers::Advance;
@@ -23,9 +22,7 @@ use nm_steps::{Pass, Shared};
 /// goes on once every worker that is pinned has been seen at it.)
 pub fn advance(shared: &Shared, pass: &mut Pass) -> Advance
     requires { IsOf shared.now pass.old }
-    ensures same { IsSamePass pass.old pass.new }
-    ensures past { HasSeenAllOf pass.new pass.old }
-    ensures run { IsInRun pass.new }
+    ensures on { Continues pass.old pass.new }
     ensures part { IsAdvance shared.now.layout.workers pass.old.view.number (epochs pass.new).pin
         pass.old.view.log pass.new.view.log result }
     ensures settles { Settles pass.old pass.new }
@@ -42,9 +39,7 @@ fn move_on(shared: &Shared, pass: &mut Pass, me: u32) -> Advance
     requires own { IsOf shared.now pass.old }
     requires me { me ≡ pass.old.view.number }
     requires there { me < shared.now.layout.workers }
-    ensures same { IsSamePass pass.old pass.new }
-    ensures past { HasSeenAllOf pass.new pass.old }
-    ensures run { IsInRun pass.new }
+    ensures on { Continues pass.old pass.new }
     ensures part { IsAdvance shared.now.layout.workers me (epochs pass.new).pin pass.old.view.log
         pass.new.view.log result }
     ensures settles { Settles pass.old pass.new }

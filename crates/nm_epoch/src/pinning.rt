@@ -1,10 +1,9 @@
 //! Pinning an epoch.
-ghost use Rattle.std.specs.Prelude.{◌≡◌, ◌+◌, ◌*◌, ◌≤◌, length, Some, None, IfOk, IfErr, MatchResult};
+ghost use Rattle.std.specs.Prelude.{◌≡◌, ◌+◌, ◌*◌, ◌≤◌, length, Some, None, IfOk, IfErr};
 ghost use Rattle.nm_model.specs.declared.event.Event.TheVariants.{Sight, SightFor};
 ghost use Rattle.nm_order.specs.Intervals.{HasKey};
-ghost use Rattle.nm_steps.specs.Steps.{IsInRun, IsOf, MayStep, Stepped, pin_reply, HasSeenAllOf};
+ghost use Rattle.nm_steps.specs.Steps.{IsOf, MayStep, pin_reply, Continues, TakesStep};
 ghost use Rattle.nm_epoch.specs.Resting.{IsResting, IsUnpinned, IsPinnedAt, IsTrying, HasAnnounced, KeepsHands, epochs};
-ghost use Rattle.nm_steps.specs.Steps.{IsSamePass};
 ghost use Rattle.nm_epoch.specs.Tries.{IsPinnedBy, IsMoved, LostTry, WonTry, confirming, call_confirmed};
 
 use crate::answers::Moved;
@@ -25,10 +24,8 @@ fn confirm(shared: &Shared, pass: &mut Pass, announced: u64, by: &Confirming) ->
     requires own { IsOf shared.now pass.old }
     requires may { MayStep pass.old (confirming by.now) }
     requires announced { HasAnnounced announced pass.old }
-    ensures step { Stepped pass.old pass.new (confirming by.now) (pin_reply result) }
+    ensures took { TakesStep pass.old pass.new (confirming by.now) (pin_reply result) }
     ensures same { IfOk result (λ e. e ≡ announced) }
-    ensures past { HasSeenAllOf pass.new pass.old }
-    ensures run { IsInRun pass.new }
 {
     match by {
         Confirming::Plain => match shared.sight(pass) {
@@ -46,9 +43,7 @@ fn attempt(shared: &Shared, pass: &mut Pass, by: &Confirming) -> Result<u64, u64
     requires own { IsOf shared.now pass.old }
     requires trying { IsTrying pass.old }
     requires key { HasKey (confirming by.now) }
-    ensures same { IsSamePass pass.old pass.new }
-    ensures past { HasSeenAllOf pass.new pass.old }
-    ensures run { IsInRun pass.new }
+    ensures on { Continues pass.old pass.new }
     ensures won { IfOk result (λ e. WonTry (confirming by.now) e pass.old.view.log
         pass.new.view.log) }
     ensures at { IfOk result (λ e. IsPinnedAt e (call_confirmed by.now) pass.new) }
@@ -68,9 +63,7 @@ fn pin_by(shared: &Shared, pass: &mut Pass, tries: u32, by: &Confirming) -> Resu
     requires own { IsOf shared.now pass.old }
     requires unpinned { IsUnpinned pass.old }
     requires key { HasKey (confirming by.now) }
-    ensures same { IsSamePass pass.old pass.new }
-    ensures past { HasSeenAllOf pass.new pass.old }
-    ensures run { IsInRun pass.new }
+    ensures on { Continues pass.old pass.new }
     ensures pinned { IfOk result
         (λ e. IsPinnedBy (confirming by.now) tries pass.old.view.log pass.new.view.log e) }
     ensures at { IfOk result (λ e. IsPinnedAt e (call_confirmed by.now) pass.new) }
@@ -111,9 +104,7 @@ fn pin_by(shared: &Shared, pass: &mut Pass, tries: u32, by: &Confirming) -> Resu
 pub fn pin(shared: &Shared, pass: &mut Pass, tries: u32) -> Result<u64, Moved>
     requires own { IsOf shared.now pass.old }
     requires unpinned { IsUnpinned pass.old }
-    ensures same { IsSamePass pass.old pass.new }
-    ensures past { HasSeenAllOf pass.new pass.old }
-    ensures run { IsInRun pass.new }
+    ensures on { Continues pass.old pass.new }
     ensures pinned { IfOk result
         (λ e. IsPinnedBy Sight tries pass.old.view.log pass.new.view.log e) }
     ensures at { IfOk result (λ e. IsPinnedAt e None pass.new) }
@@ -132,9 +123,7 @@ pub fn pin(shared: &Shared, pass: &mut Pass, tries: u32) -> Result<u64, Moved>
 pub fn pin_for(shared: &Shared, pass: &mut Pass, tries: u32, op: Op, key: Key) -> Result<u64, Moved>
     requires own { IsOf shared.now pass.old }
     requires unpinned { IsUnpinned pass.old }
-    ensures same { IsSamePass pass.old pass.new }
-    ensures past { HasSeenAllOf pass.new pass.old }
-    ensures run { IsInRun pass.new }
+    ensures on { Continues pass.old pass.new }
     ensures pinned { IfOk result
         (λ e. IsPinnedBy (SightFor op key) tries pass.old.view.log pass.new.view.log e) }
     ensures at { IfOk result (λ e. IsPinnedAt e (Some (record { op = op; key = key })) pass.new) }

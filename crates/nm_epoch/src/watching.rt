@@ -1,8 +1,7 @@
 //! Which workers hold the epoch back.
 ghost use Rattle.std.specs.Prelude.{◌+◌, ◌≤◌, length};
-ghost use Rattle.nm_steps.specs.Steps.{IsInRun, IsOf, HasSeenAllOf};
+ghost use Rattle.nm_steps.specs.Steps.{IsOf, Continues};
 ghost use Rattle.nm_epoch.specs.Resting.{Settles, KeepsHands, epochs};
-ghost use Rattle.nm_steps.specs.Steps.{IsSamePass};
 ghost use Rattle.nm_epoch.specs.Watches.{IsBehind};
 
 use crate::answers::Behind;
@@ -17,9 +16,7 @@ use nm_steps::{Pass, Shared};
 /// holds back all reclamation). Where a cut waits for its label, the first step labels it.
 pub fn behind(shared: &Shared, pass: &mut Pass) -> Behind
     requires { IsOf shared.now pass.old }
-    ensures same { IsSamePass pass.old pass.new }
-    ensures past { HasSeenAllOf pass.new pass.old }
-    ensures run { IsInRun pass.new }
+    ensures on { Continues pass.old pass.new }
     ensures part { IsBehind shared.now.layout.workers pass.old.view.number (epochs pass.new).pin
         pass.old.view.log pass.new.view.log result }
     ensures settles { Settles pass.old pass.new }

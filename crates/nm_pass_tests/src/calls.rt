@@ -134,7 +134,7 @@ fn one_worker_inserts_and_deletes(rt: HostRuntime) -> Result<(), Fail> {
     cannot_finish(&rt, &shared, &mut one, six, leaf);
     finishes(&rt, &shared, &mut one, six, leaf);
     assert_eq!(rt; one.queue.len(), 4);
-    assert_eq!(rt; one.splices, 2);
+    assert_eq!(rt; one.workspace.splices, 2);
     finds(&rt, &shared, &mut one, six, false);
     Ok(())
 }
@@ -154,12 +154,12 @@ fn an_insert_helps_a_delete(rt: HostRuntime) -> Result<(), Fail> {
     finds(&rt, &shared, &mut two, five, true);
     inserts(&rt, &shared, &mut two, six, 1, Err(Fault::Busy));
     assert_eq!(rt; two.queue.len(), 2);
-    assert_eq!(rt; two.splices, 1);
+    assert_eq!(rt; two.workspace.splices, 1);
     finds(&rt, &shared, &mut two, five, false);
     inserts(&rt, &shared, &mut two, six, 1, Ok(true));
     finishes(&rt, &shared, &mut one, five, leaf);
     assert_eq!(rt; one.queue.len(), 0);
-    assert_eq!(rt; one.splices, 0);
+    assert_eq!(rt; one.workspace.splices, 0);
     finds(&rt, &shared, &mut one, six, true);
     Ok(())
 }
@@ -186,7 +186,7 @@ fn one_splice_cuts_a_chain_of_three(rt: HostRuntime) -> Result<(), Fail> {
     assert!(rt; tag_beside(&shared, &mut two, thirty, of_thirty));
     deletes(&rt, &shared, &mut last, ten, true);
     assert_eq!(rt; last.queue.len(), 6);
-    assert_eq!(rt; last.splices, 1);
+    assert_eq!(rt; last.workspace.splices, 1);
     finishes(&rt, &shared, &mut one, forty, of_forty);
     finishes(&rt, &shared, &mut two, thirty, of_thirty);
     assert_eq!(rt; one.queue.len() + two.queue.len(), 0);

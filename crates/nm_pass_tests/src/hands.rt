@@ -4,7 +4,9 @@ ghost use Rattle.nm_steps.specs.Steps.{IsOf};
 ghost use Rattle.nm_calls.specs.Fresh.{HasDoneNothing};
 ghost use Rattle.nm_pass_tests.specs.Plays.{IsAtRest, IsPendingFor};
 
-use nm_calls::{Chain, Fault, Missed, Workspace, choose, delete, finish, has, insert, seek, tag};
+use nm_calls::{
+    Chain, Fault, Missed, Unfinished, Workspace, choose, delete, finish, has, insert, seek, tag,
+};
 use nm_edge::{Key, NodeId};
 use nm_epoch::Entry;
 use nm_limbo::BlockQueue;
@@ -12,15 +14,12 @@ use nm_pool::{Fit, Placement};
 use nm_steps::{Pass, Shared};
 use std::process::Abort;
 
-/// One worker: its pass, where it looks for free slots, the room of its walks and cleanups, the
-/// queue of what it cut, and how many splices it has won.
+/// One worker: its pass, what its calls work with, and the queue of what it cut.
 #[derive(Drop)]
 pub(super) struct Hand {
     pub(super) pass: Pass,
-    placement: Placement,
-    workspace: Workspace,
+    pub(super) workspace: Workspace,
     pub(super) queue: BlockQueue<Entry>,
-    pub(super) splices: u64,
 }
 
 /// A worker that has done nothing.
@@ -28,14 +27,12 @@ pub(super) fn starting(shared: &Shared, pass: Pass, queue: BlockQueue<Entry>) ->
     requires own { IsOf shared.now pass }
     requires new { HasDoneNothing pass }
     requires empty { length queue.items ≡ 0 }
-    ensures { IsAtRest shared.now result.pass result.queue.items result.splices }
+    ensures { IsAtRest shared.now result.pass result.queue.items result.workspace.splices }
 {
     Hand {
         pass,
-        placement: Placement::new(Fit::Lowest, 6),
-        workspace: Workspace::new(),
+        workspace: Workspace::new(Placement::new(Fit::Lowest, 6)),
         queue,
-        splices: 0,
     }
 }
 
@@ -47,8 +44,10 @@ pub(super) fn key(rt: &impl Abort, number: u64) -> Key {
 }
 
 pub(super) fn finds(rt: &impl Abort, shared: &Shared, hand: &mut Hand, key: Key, wanted: bool)
-    requires rests { IsAtRest shared.now hand.old.pass hand.old.queue.items hand.old.splices }
-    ensures rests { IsAtRest shared.now hand.new.pass hand.new.queue.items hand.new.splices }
+    requires rests { IsAtRest shared.now hand.old.pass hand.old.queue.items
+        hand.old.workspace.splices }
+    ensures rests { IsAtRest shared.now hand.new.pass hand.new.queue.items
+        hand.new.workspace.splices }
 {
     let found = has(shared, &mut hand.pass, key, 1);
     assert!(rt; found == Ok(wanted));
@@ -62,34 +61,35 @@ pub(super) fn inserts(
     tries: u32,
     wanted: Result<bool, Fault>,
 )
-    requires rests { IsAtRest shared.now hand.old.pass hand.old.queue.items hand.old.splices }
-    ensures rests { IsAtRest shared.now hand.new.pass hand.new.queue.items hand.new.splices }
+    requires rests { IsAtRest shared.now hand.old.pass hand.old.queue.items
+        hand.old.workspace.splices }
+    ensures rests { IsAtRest shared.now hand.new.pass hand.new.queue.items
+        hand.new.workspace.splices }
 {
     let inserted = insert(
         shared,
         &mut hand.pass,
-        &mut hand.placement,
-        key,
-        tries,
         &mut hand.workspace,
         &mut hand.queue,
-        &mut hand.splices,
+        key,
+        tries,
     );
     assert!(rt; inserted == wanted);
 }
 
 pub(super) fn deletes(rt: &impl Abort, shared: &Shared, hand: &mut Hand, key: Key, wanted: bool)
-    requires rests { IsAtRest shared.now hand.old.pass hand.old.queue.items hand.old.splices }
-    ensures rests { IsAtRest shared.now hand.new.pass hand.new.queue.items hand.new.splices }
+    requires rests { IsAtRest shared.now hand.old.pass hand.old.queue.items
+        hand.old.workspace.splices }
+    ensures rests { IsAtRest shared.now hand.new.pass hand.new.queue.items
+        hand.new.workspace.splices }
 {
     let Ok(deleted) = delete(
         shared,
         &mut hand.pass,
-        key,
-        2,
         &mut hand.workspace,
         &mut hand.queue,
-        &mut hand.splices,
+        key,
+        2,
     ) else {
         panic!(rt; "two tries are enough")
     };
@@ -98,18 +98,18 @@ pub(super) fn deletes(rt: &impl Abort, shared: &Shared, hand: &mut Hand, key: Ke
 
 /// Deletes by one try, which flags the leaf and no more.
 pub(super) fn flags(rt: &impl Abort, shared: &Shared, hand: &mut Hand, key: Key) -> NodeId
-    requires rests { IsAtRest shared.now hand.old.pass hand.old.queue.items hand.old.splices }
-    ensures pending { IsPendingFor shared.now hand.new.pass hand.new.queue.items hand.new.splices
-        key result }
+    requires rests { IsAtRest shared.now hand.old.pass hand.old.queue.items
+        hand.old.workspace.splices }
+    ensures pending { IsPendingFor shared.now hand.new.pass hand.new.queue.items
+        hand.new.workspace.splices key result }
 {
     let Err(Missed::Unfinished(leaf)) = delete(
         shared,
         &mut hand.pass,
-        key,
-        1,
         &mut hand.workspace,
         &mut hand.queue,
-        &mut hand.splices,
+        key,
+        1,
     ) else {
         panic!(rt; "one try flags the leaf")
     };
@@ -117,19 +117,19 @@ pub(super) fn flags(rt: &impl Abort, shared: &Shared, hand: &mut Hand, key: Key)
 }
 
 pub(super) fn finishes(rt: &impl Abort, shared: &Shared, hand: &mut Hand, key: Key, leaf: NodeId)
-    requires pending { IsPendingFor shared.now hand.old.pass hand.old.queue.items hand.old.splices
-        key leaf }
-    ensures rests { IsAtRest shared.now hand.new.pass hand.new.queue.items hand.new.splices }
+    requires pending { IsPendingFor shared.now hand.old.pass hand.old.queue.items
+        hand.old.workspace.splices key leaf }
+    ensures rests { IsAtRest shared.now hand.new.pass hand.new.queue.items
+        hand.new.workspace.splices }
 {
+    let pending = Unfinished { key, leaf };
     let finished = finish(
         shared,
         &mut hand.pass,
-        key,
-        leaf,
-        1,
         &mut hand.workspace,
         &mut hand.queue,
-        &mut hand.splices,
+        &pending,
+        1,
     );
     assert!(rt; finished);
 }
@@ -142,20 +142,19 @@ pub(super) fn cannot_finish(
     key: Key,
     leaf: NodeId,
 )
-    requires pending { IsPendingFor shared.now hand.old.pass hand.old.queue.items hand.old.splices
-        key leaf }
-    ensures pending { IsPendingFor shared.now hand.new.pass hand.new.queue.items hand.new.splices
-        key leaf }
+    requires pending { IsPendingFor shared.now hand.old.pass hand.old.queue.items
+        hand.old.workspace.splices key leaf }
+    ensures pending { IsPendingFor shared.now hand.new.pass hand.new.queue.items
+        hand.new.workspace.splices key leaf }
 {
+    let pending = Unfinished { key, leaf };
     let finished = finish(
         shared,
         &mut hand.pass,
-        key,
-        leaf,
-        0,
         &mut hand.workspace,
         &mut hand.queue,
-        &mut hand.splices,
+        &pending,
+        0,
     );
     assert!(rt; !finished);
 }
@@ -163,9 +162,10 @@ pub(super) fn cannot_finish(
 /// A cleanup that stops before its splice: the edge beside the flagged leaf is tagged. Whether the
 /// leaf was found.
 pub(super) fn tag_beside(shared: &Shared, hand: &mut Hand, key: Key, leaf: NodeId) -> bool
-    requires { IsPendingFor shared.now hand.old.pass hand.old.queue.items hand.old.splices key
-        leaf }
-    ensures { IsPendingFor shared.now hand.new.pass hand.new.queue.items hand.new.splices key leaf }
+    requires { IsPendingFor shared.now hand.old.pass hand.old.queue.items
+        hand.old.workspace.splices key leaf }
+    ensures { IsPendingFor shared.now hand.new.pass hand.new.queue.items
+        hand.new.workspace.splices key leaf }
 {
     let mut chain = Chain::new();
     let Some(end) = seek(shared, &mut hand.pass, key.get(), &mut chain) else {

@@ -113,7 +113,7 @@ fn reads(
 fn inserted(rt: &(impl Abort + AllocGlobal), shared: &Shared, pass: Pass, keys: &[u64]) -> Hand
     requires own { IsOf shared.now pass }
     requires new { HasDoneNothing pass }
-    ensures { IsAtRest shared.now result.pass result.queue.items result.splices }
+    ensures { IsAtRest shared.now result.pass result.queue.items result.workspace.splices }
 {
     let mut one = starting(shared, pass, BlockQueue::new(rt.alloc()));
     for number in keys {

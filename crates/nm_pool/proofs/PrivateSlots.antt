@@ -19,10 +19,9 @@ use Rattle.nm_model.proofs.Tables.{get-put, at_eqb}
 use Rattle.nm_order.specs.Told.{IsNew}
 use Rattle.nm_steps.specs.declared.view.View.{View}
 use Rattle.nm_steps.specs.Rules.{knowledge}
-use Rattle.nm_steps.specs.Steps.{Board, Stand, IsOf, Stepped}
+use Rattle.nm_steps.specs.Steps.{Board, Stand, IsOf, Stepped, IsSamePass}
 use Rattle.nm_steps.proofs.Presence.{known_push}
 use Rattle.nm_pool.specs.Takes.{Doing, DoneBelow, LearnsSlots}
-use Rattle.nm_steps.specs.Steps.{IsSamePass}
 
 -- ---- lists of slots
 

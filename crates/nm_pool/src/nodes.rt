@@ -1,13 +1,12 @@
 //! Slots taken out of the pool to be new nodes, and given back.
-ghost use Rattle.std.specs.Prelude.{◌≡◌, ◌⊎◌, ◌+◌, ◌*◌, ◌≤◌, ◌<◌, true, Some, length, IfSome};
+ghost use Rattle.std.specs.Prelude.{◌≡◌, ◌+◌, ◌*◌, ◌≤◌, ◌<◌, true, Some, length, IfSome};
 ghost use Rattle.nm_model.specs.declared.event.Event.TheVariants.{Give};
 ghost use Rattle.nm_model.specs.declared.reply.Reply.TheVariants.{Returned};
 ghost use Rattle.nm_model.specs.Knowledge.{is_private, draft_of};
 ghost use Rattle.nm_order.specs.Told.{IsNew};
 ghost use Rattle.nm_steps.specs.Rules.{knowledge};
-ghost use Rattle.nm_steps.specs.Steps.{IsInRun, IsOf, Stepped, HasSeenAllOf};
+ghost use Rattle.nm_steps.specs.Steps.{Continues, IsInRun, IsOf, TakesStep};
 ghost use Rattle.nm_pool.specs.Takes.{LearnsSlots};
-ghost use Rattle.nm_steps.specs.Steps.{IsSamePass};
 ghost use Rattle.nm_pool.specs.Claims.{IsClaim, IsClaimBetween, IsTried, IfGot, IsNewNode};
 
 use crate::slots::put;
@@ -37,9 +36,7 @@ pub(crate) enum Tried {
 /// chapter 5); the births tell apart the nodes that stood in one slot.
 pub fn claim(shared: &Shared, pass: &mut Pass) -> Option<NodeId>
     requires { IsOf shared.now pass.old }
-    ensures same { IsSamePass pass.old pass.new }
-    ensures past { HasSeenAllOf pass.new pass.old }
-    ensures run { IsInRun pass.new }
+    ensures on { Continues pass.old pass.new }
     ensures part { IsClaim shared.now.layout.nodes pass.old.view.log pass.new.view.log result }
     ensures made { IfSome result (IsNewNode (knowledge pass.new.view)) }
     ensures new { IfSome result
@@ -48,6 +45,7 @@ pub fn claim(shared: &Shared, pass: &mut Pass) -> Option<NodeId>
     ensures steps { length pass.new.view.log
         ≤ length pass.old.view.log + 3 * shared.now.layout.nodes }
 {
+    pass.is_of_a_run();
     let nodes = shared.layout().nodes();
     claim_between(shared, pass, FIRST_SLOT, nodes + 1)
 }
@@ -58,9 +56,8 @@ pub(crate) fn claim_between(shared: &Shared, pass: &mut Pass, from: u32, to: u32
     requires low { 5 < from }
     requires order { from ≤ to }
     requires high { to ≤ shared.now.layout.nodes + 1 }
-    ensures same { IsSamePass pass.old pass.new }
-    ensures past { HasSeenAllOf pass.new pass.old }
-    ensures run { (from < to) ⊎ IsInRun pass.old → IsInRun pass.new }
+    requires run { IsInRun pass.old }
+    ensures on { Continues pass.old pass.new }
     ensures part { IsClaimBetween from to pass.old.view.log pass.new.view.log result }
     ensures made { IfSome result (IsNewNode (knowledge pass.new.view)) }
     ensures new { IfSome result
@@ -81,9 +78,7 @@ pub fn give(shared: &Shared, pass: &mut Pass, node: NodeId)
     requires own { IsOf shared.now pass.old }
     requires private { is_private (knowledge pass.old.view) node.slot ≡ true }
     requires birth { (draft_of (knowledge pass.old.view) node.slot).birth ≡ Some node.birth }
-    ensures step { Stepped pass.old pass.new (Give node.slot) (Returned node.slot) }
-    ensures past { HasSeenAllOf pass.new pass.old }
-    ensures run { IsInRun pass.new }
+    ensures { TakesStep pass.old pass.new (Give node.slot) (Returned node.slot) }
 {
     put(shared, pass, node.slot);
 }
@@ -93,9 +88,7 @@ pub(crate) fn try_slot(shared: &Shared, pass: &mut Pass, slot: u32) -> Tried
     requires own { IsOf shared.now pass.old }
     requires low { 5 < slot }
     requires high { slot ≤ shared.now.layout.nodes }
-    ensures same { IsSamePass pass.old pass.new }
-    ensures past { HasSeenAllOf pass.new pass.old }
-    ensures run { IsInRun pass.new }
+    ensures on { Continues pass.old pass.new }
     ensures part { IsTried slot pass.old.view.log pass.new.view.log result }
     ensures made { IfGot result (IsNewNode (knowledge pass.new.view)) }
     ensures new { IfGot result

@@ -2,8 +2,8 @@
 ghost use Rattle.std.specs.Prelude.{◌≡◌, ◌+◌, ◌*◌, ◌≤◌, ◌<◌, length, IfSome};
 ghost use Rattle.nm_order.specs.Told.{IsNew};
 ghost use Rattle.nm_steps.specs.Rules.{knowledge};
-ghost use Rattle.nm_steps.specs.Steps.{IsInRun, IsOf, IsSamePass, HasSeenAllOf};
-ghost use Rattle.nm_pool.specs.Claims.{IsClaimBetween, IsClaimBy, IsClaimOfFew, IsNearClaim, IsNewNode};
+ghost use Rattle.nm_steps.specs.Steps.{Continues, IsInRun, IsOf};
+ghost use Rattle.nm_pool.specs.Claims.{IsClaimBy, IsClaimOfFew, IsNearClaim, IsNewNode};
 ghost use Rattle.nm_pool.specs.Takes.{LearnsSlots};
 
 use crate::nodes::{Tried, claim, claim_between, try_slot};
@@ -27,8 +27,8 @@ pub enum Fit {
     Near,
 }
 
-/// The slots that a worker gave back last, the last one first and 0 for none, and the slot from
-/// which it looks on.
+/// The slots that a worker gave back last, the last one first, with 0 for none behind them all, and
+/// the slot from which it looks on.
 #[derive(Clone, Copy)]
 pub(crate) struct Near {
     recent: [u32; RECENT],
@@ -151,9 +151,7 @@ impl Placement {
 /// each slot above 5 is among them. At most three steps a slot, and 3 `nodes` in all.
 pub fn claim_by(shared: &Shared, pass: &mut Pass, placement: &mut Placement) -> Option<NodeId>
     requires { IsOf shared.now pass.old }
-    ensures same { IsSamePass pass.old pass.new }
-    ensures past { HasSeenAllOf pass.new pass.old }
-    ensures run { IsInRun pass.new }
+    ensures on { Continues pass.old pass.new }
     ensures part { IsClaimBy placement.old shared.now.layout.nodes pass.old.view.log
         pass.new.view.log result }
     ensures made { IfSome result (IsNewNode (knowledge pass.new.view)) }
@@ -174,15 +172,14 @@ pub fn claim_by(shared: &Shared, pass: &mut Pass, placement: &mut Placement) -> 
 /// round.
 fn claim_near(shared: &Shared, pass: &mut Pass, near: &mut Near) -> Option<NodeId>
     requires { IsOf shared.now pass.old }
-    ensures same { IsSamePass pass.old pass.new }
-    ensures past { HasSeenAllOf pass.new pass.old }
-    ensures run { IsInRun pass.new }
+    ensures on { Continues pass.old pass.new }
     ensures part { IsNearClaim shared.now.layout.nodes pass.old.view.log pass.new.view.log result }
     ensures made { IfSome result (IsNewNode (knowledge pass.new.view)) }
     ensures new { IfSome result
         (λ node. IsNew pass.old.view.layout pass.old.view.number pass.old.view.log node.slot) }
     ensures learned { LearnsSlots (knowledge pass.old.view) (knowledge pass.new.view) }
 {
+    pass.is_of_a_run();
     if let Some(node) = claim_recent(shared, pass, near) {
         return Some(node);
     }
@@ -202,11 +199,9 @@ fn claim_near(shared: &Shared, pass: &mut Pass, near: &mut Near) -> Option<NodeI
 /// The first of the slots that were given back last which is found in the pool and is not worn.
 /// Each one that is tried is forgotten.
 fn claim_recent(shared: &Shared, pass: &mut Pass, near: &mut Near) -> Option<NodeId>
-    requires { IsOf shared.now pass.old }
-    ensures same { IsSamePass pass.old pass.new }
-    ensures past { HasSeenAllOf pass.new pass.old }
-    ensures run { IsInRun pass.old → IsInRun pass.new }
-    ensures found { IfSome result (λ _. IsInRun pass.new) }
+    requires own { IsOf shared.now pass.old }
+    requires run { IsInRun pass.old }
+    ensures on { Continues pass.old pass.new }
     ensures part { IsClaimOfFew 4 shared.now.layout.nodes pass.old.view.log pass.new.view.log
         result }
     ensures made { IfSome result (IsNewNode (knowledge pass.new.view)) }
@@ -216,6 +211,9 @@ fn claim_recent(shared: &Shared, pass: &mut Pass, near: &mut Near) -> Option<Nod
 {
     for round in 0..RECENT {
         let slot = near.take_recent();
+        if slot == 0 {
+            return None;
+        }
         if let Some(node) = try_hint(shared, pass, slot) {
             return Some(node);
         }
@@ -225,11 +223,9 @@ fn claim_recent(shared: &Shared, pass: &mut Pass, near: &mut Near) -> Option<Nod
 
 /// Tries one slot, if the pool has such a one.
 fn try_hint(shared: &Shared, pass: &mut Pass, slot: u32) -> Option<NodeId>
-    requires { IsOf shared.now pass.old }
-    ensures same { IsSamePass pass.old pass.new }
-    ensures past { HasSeenAllOf pass.new pass.old }
-    ensures run { IsInRun pass.old → IsInRun pass.new }
-    ensures found { IfSome result (λ _. IsInRun pass.new) }
+    requires own { IsOf shared.now pass.old }
+    requires run { IsInRun pass.old }
+    ensures on { Continues pass.old pass.new }
     ensures part { IsClaimOfFew 1 shared.now.layout.nodes pass.old.view.log pass.new.view.log
         result }
     ensures made { IfSome result (IsNewNode (knowledge pass.new.view)) }

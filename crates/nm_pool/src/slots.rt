@@ -5,9 +5,8 @@ ghost use Rattle.nm_model.specs.declared.reply.Reply.TheVariants.{Returned};
 ghost use Rattle.nm_model.specs.Knowledge.{is_private};
 ghost use Rattle.nm_order.specs.Told.{IsNew};
 ghost use Rattle.nm_steps.specs.Rules.{knowledge};
-ghost use Rattle.nm_steps.specs.Steps.{IsInRun, IsOf, Stepped, HasSeenAllOf};
+ghost use Rattle.nm_steps.specs.Steps.{Continues, IsInRun, IsOf, TakesStep};
 ghost use Rattle.nm_pool.specs.Takes.{IsTake, IsUnborn, LearnsSlots};
-ghost use Rattle.nm_steps.specs.Steps.{IsSamePass};
 
 use nm_steps::{Pass, Shared};
 
@@ -20,9 +19,7 @@ use nm_steps::{Pass, Shared};
 pub fn take(shared: &Shared, pass: &mut Pass, from: u32) -> Option<u32>
     requires own { IsOf shared.now pass.old }
     requires from { 5 < from }
-    ensures same { IsSamePass pass.old pass.new }
-    ensures past { HasSeenAllOf pass.new pass.old }
-    ensures run { IsInRun pass.old → IsInRun pass.new }
+    ensures on { Continues pass.old pass.new }
     ensures part { IsTake from shared.now.layout.nodes pass.old.view.log pass.new.view.log result }
     ensures private { IfSome result (λ slot. is_private (knowledge pass.new.view) slot ≡ true) }
     ensures unborn { IfSome result (IsUnborn (knowledge pass.new.view)) }
@@ -31,6 +28,7 @@ pub fn take(shared: &Shared, pass: &mut Pass, from: u32) -> Option<u32>
     ensures learned { LearnsSlots (knowledge pass.old.view) (knowledge pass.new.view) }
     ensures steps { length pass.new.view.log ≤ length pass.old.view.log + shared.now.layout.nodes }
 {
+    pass.is_of_a_run();
     take_first(shared, pass, from)
 }
 
@@ -38,9 +36,8 @@ pub fn take(shared: &Shared, pass: &mut Pass, from: u32) -> Option<u32>
 fn take_first(shared: &Shared, pass: &mut Pass, from: u32) -> Option<u32>
     requires own { IsOf shared.now pass.old }
     requires from { 5 < from }
-    ensures same { IsSamePass pass.old pass.new }
-    ensures past { HasSeenAllOf pass.new pass.old }
-    ensures run { IsInRun pass.old → IsInRun pass.new }
+    requires run { IsInRun pass.old }
+    ensures on { Continues pass.old pass.new }
     ensures part { IsTake from shared.now.layout.nodes pass.old.view.log pass.new.view.log result }
     ensures private { IfSome result (λ slot. is_private (knowledge pass.new.view) slot ≡ true) }
     ensures unborn { IfSome result (IsUnborn (knowledge pass.new.view)) }
@@ -61,9 +58,7 @@ fn take_first(shared: &Shared, pass: &mut Pass, from: u32) -> Option<u32>
 pub fn put(shared: &Shared, pass: &mut Pass, slot: u32)
     requires own { IsOf shared.now pass.old }
     requires private { is_private (knowledge pass.old.view) slot ≡ true }
-    ensures step { Stepped pass.old pass.new (Give slot) (Returned slot) }
-    ensures past { HasSeenAllOf pass.new pass.old }
-    ensures run { IsInRun pass.new }
+    ensures { TakesStep pass.old pass.new (Give slot) (Returned slot) }
 {
     pass.holds_pooled_slots();
     shared.give(pass, slot);

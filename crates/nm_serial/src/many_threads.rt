@@ -16,7 +16,7 @@ use crate::answer::Answer;
 use crate::answer_lines::put_line;
 use crate::gate::Gate;
 use crate::outcome::{open, put_end};
-use crate::own_lines::Stop;
+use crate::own_lines::{Lines, Stop};
 use crate::threads::{Played, play_apart};
 use nm_files::fault::RunFault;
 use nm_files::pieces::cut;
@@ -149,7 +149,13 @@ fn text_of<R: Threads + Wait + Sync, G: Gate>(
 {
     let (tree, workers) = open(alloc, &script.header)?;
     let calls = script.calls.as_slice();
-    let played = play_apart(rt, alloc, gate, &tree, script.header.tries, calls, workers)?;
+    let lines = Lines {
+        gate,
+        tree: &tree,
+        tries: script.header.tries,
+        calls,
+    };
+    let played = play_apart(rt, alloc, &lines, workers)?;
     if let Some(fault) = fault_of(played.as_slice()) {
         return Err(fault);
     }

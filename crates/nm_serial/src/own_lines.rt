@@ -19,30 +19,38 @@ pub(crate) enum Stop {
     NoMemory,
 }
 
+/// What lines are played by: the gate that lets each go on, the tree, how many tries a call has,
+/// and each call with its worker, of which a worker plays its own.
+#[derive(Drop)]
+pub(crate) struct Lines<'a, G: Gate> {
+    pub(crate) gate: &'a G,
+    pub(crate) tree: &'a Tree,
+    pub(crate) tries: u32,
+    pub(crate) calls: &'a [(u32, Call)],
+}
+
 /// One line, once the gate lets the worker go on with it.
 fn play_line<G: Gate>(
-    gate: &G,
-    tree: &Tree,
+    lines: &Lines<'_, G>,
     worker: &mut Worker,
-    tries: u32,
     line: u32,
     call: &Call,
 ) -> Result<Answer, Stop>
-    requires own { IsOf tree.now worker.old.pass }
+    requires own { IsOf lines.now.tree.now worker.old.pass }
     requires plain { IsOwnCall call.now }
-    ensures own { IsOf tree.now worker.new.pass }
+    ensures own { IsOf lines.now.tree.now worker.new.pass }
     ensures number { worker.new.pass.view.number ≡ worker.old.pass.view.number }
     ensures queues { length worker.new.queues ≡ length worker.old.queues }
-    ensures did { IfOk result (λ a. G.lets gate.now worker.old.pass.view.number line
-        × HasMade tree.now tries call.now worker.old worker.new a) }
+    ensures did { IfOk result (λ a. G.lets lines.now.gate.now worker.old.pass.view.number line
+        × HasMade lines.now.tree.now lines.now.tries call.now worker.old worker.new a) }
     ensures stopped { IfErr result
-        (HasStopped (G.stops gate.now worker.old.pass.view.number line) line worker.old
+        (HasStopped (G.stops lines.now.gate.now worker.old.pass.view.number line) line worker.old
         worker.new) }
 {
-    if !gate.turn(worker.number(), line) {
+    if !lines.gate.turn(worker.number(), line) {
         return Err(Stop::Gate { line });
     }
-    match make(tree, worker, *call, tries) {
+    match make(lines.tree, worker, *call, lines.tries) {
         Some(answer) => Ok(answer),
         None => Err(Stop::NoMemory),
     }
@@ -51,30 +59,28 @@ fn play_line<G: Gate>(
 /// All lines of a worker, among those of a script. The second line of the file is the first one.
 pub(crate) fn play_own<G: Gate>(
     alloc: Global,
-    gate: &G,
-    tree: &Tree,
+    lines: &Lines<'_, G>,
     worker: &mut Worker,
-    tries: u32,
-    calls: &[(u32, Call)],
 ) -> Result<Vec<Answer>, Stop>
-    requires own { IsOf tree.now worker.old.pass }
-    requires plain { All (λ e. IsOwnCall e.1) calls.now }
-    requires few { length calls.now ≤ 100000 }
-    ensures own { IsOf tree.now worker.new.pass }
+    requires own { IsOf lines.now.tree.now worker.old.pass }
+    requires plain { All (λ e. IsOwnCall e.1) lines.now.calls.now }
+    requires few { length lines.now.calls.now ≤ 100000 }
+    ensures own { IsOf lines.now.tree.now worker.new.pass }
     ensures number { worker.new.pass.view.number ≡ worker.old.pass.view.number }
     ensures queues { length worker.new.queues ≡ length worker.old.queues }
-    ensures did { IfOk result (λ v. PlaysOwn (G.lets gate.now) tree.now tries
-        worker.old.pass.view.number 2 calls.now v.items worker.old worker.new) }
+    ensures did { IfOk result
+        (λ v. PlaysOwn (G.lets lines.now.gate.now) lines.now.tree.now lines.now.tries
+        worker.old.pass.view.number 2 lines.now.calls.now v.items worker.old worker.new) }
     ensures stopped { IfErr result
-        (StopsOwn (G.lets gate.now) (G.stops gate.now) tree.now tries worker.old.pass.view.number 2
-        calls.now worker.old worker.new) }
+        (StopsOwn (G.lets lines.now.gate.now) (G.stops lines.now.gate.now) lines.now.tree.now
+        lines.now.tries worker.old.pass.view.number 2 lines.now.calls.now worker.old worker.new) }
 {
     let number = worker.number();
     let mut answers = Vec::new(alloc);
     let mut line = 2u32;
-    for entry in calls {
+    for entry in lines.calls {
         if entry.0 == number {
-            let answer = play_line(gate, tree, worker, tries, line, &entry.1)?;
+            let answer = play_line(lines, worker, line, &entry.1)?;
             answers.push(answer).map_err(|_| Stop::NoMemory)?;
         }
         line += 1;

@@ -7,7 +7,7 @@ ghost use Rattle.nm_serial.specs.Threads.{HasPlayed, HaveAllPlayed};
 
 use crate::answer::Answer;
 use crate::gate::Gate;
-use crate::own_lines::{Stop, play_own};
+use crate::own_lines::{Lines, Stop, play_own};
 use nm_files::fault::RunFault;
 use nm_scripts::call::Call;
 use nm_tree::{Tree, Worker};
@@ -42,21 +42,14 @@ impl<'a, G: Gate> Promise<Played> for PlaysAll<'a, G> {
 }
 
 /// All lines of a worker, which is handed back.
-fn play_all<G: Gate>(
-    alloc: Global,
-    gate: &G,
-    tree: &Tree,
-    tries: u32,
-    calls: &[(u32, Call)],
-    mut worker: Worker,
-) -> Played
-    requires own { IsOf tree.now worker.pass }
-    requires plain { All (λ e. IsOwnCall e.1) calls.now }
-    requires few { length calls.now ≤ 100000 }
-    ensures { HasPlayed (G.lets gate.now) (G.stops gate.now) tree.now tries calls.now worker
-        result.worker result.answers }
+fn play_all<G: Gate>(alloc: Global, lines: &Lines<'_, G>, mut worker: Worker) -> Played
+    requires own { IsOf lines.now.tree.now worker.pass }
+    requires plain { All (λ e. IsOwnCall e.1) lines.now.calls.now }
+    requires few { length lines.now.calls.now ≤ 100000 }
+    ensures { HasPlayed (G.lets lines.now.gate.now) (G.stops lines.now.gate.now) lines.now.tree.now
+        lines.now.tries lines.now.calls.now worker result.worker result.answers }
 {
-    let answers = play_own(alloc, gate, tree, &mut worker, tries, calls);
+    let answers = play_own(alloc, lines, &mut worker);
     Played { worker, answers }
 }
 
@@ -71,21 +64,22 @@ fn start_one<'s, R: Wait + Sync, E, G: Gate>(
     scope: &Scope<'s, E>,
     start: &'s RwLock<()>,
     alloc: Global,
-    gate: &'s G,
-    tree: &'s Tree,
-    tries: u32,
-    calls: &'s [(u32, Call)],
+    lines: &Lines<'s, G>,
     worker: Worker,
 ) -> Result<PromisedHandle<Played, PlaysAll<'s, G>>, RunFault>
-    requires own { IsOf tree.now worker.pass }
-    requires plain { All (λ e. IsOwnCall e.1) calls.now }
-    requires few { length calls.now ≤ 100000 }
+    requires own { IsOf lines.now.tree.now worker.pass }
+    requires plain { All (λ e. IsOwnCall e.1) lines.now.calls.now }
+    requires few { length lines.now.calls.now ≤ 100000 }
     ensures started { IfOk result
-        (λ h. (h.promise.gate.now ≡ gate.now) × (h.promise.tree.now ≡ tree.now)
-        × (h.promise.tries ≡ tries) × (h.promise.calls.now ≡ calls.now)
+        (λ h. (h.promise.gate.now ≡ lines.now.gate.now) × (h.promise.tree.now ≡ lines.now.tree.now)
+        × (h.promise.tries ≡ lines.now.tries) × (h.promise.calls.now ≡ lines.now.calls.now)
         × (h.promise.was.value ≡ worker)) }
     ensures refused { IfErr result IsRefusal }
 {
+    let gate = lines.gate;
+    let tree = lines.tree;
+    let tries = lines.tries;
+    let calls = lines.calls;
     let promise = PlaysAll {
         gate,
         tree,
@@ -102,7 +96,13 @@ fn start_one<'s, R: Wait + Sync, E, G: Gate>(
                 tries calls.entry.now worker result.worker result.answers }
         {
             wait_for(rt, start);
-            play_all(alloc, gate, tree, tries, calls, worker)
+            let lines = Lines {
+                gate,
+                tree,
+                tries,
+                calls,
+            };
+            play_all(alloc, &lines, worker)
         },
     );
     match started {
@@ -119,24 +119,21 @@ fn play_each<'s, R: Threads + Wait + Sync, E, G: Gate>(
     scope: &Scope<'s, E>,
     start: &'s RwLock<()>,
     alloc: Global,
-    gate: &'s G,
-    tree: &'s Tree,
-    tries: u32,
-    calls: &'s [(u32, Call)],
+    lines: &Lines<'s, G>,
     workers: Vec<Worker>,
 ) -> Result<Vec<Played>, RunFault>
-    requires own { All (λ w. IsOf tree.now w.pass) workers.items }
-    requires plain { All (λ e. IsOwnCall e.1) calls.now }
-    requires few { length calls.now ≤ 100000 }
+    requires own { All (λ w. IsOf lines.now.tree.now w.pass) workers.items }
+    requires plain { All (λ e. IsOwnCall e.1) lines.now.calls.now }
+    requires few { length lines.now.calls.now ≤ 100000 }
     ensures played { IfOk result
-        (λ v. HaveAllPlayed (G.lets gate.now) (G.stops gate.now) tree.now tries calls.now
-        workers.items v.items) }
+        (λ v. HaveAllPlayed (G.lets lines.now.gate.now) (G.stops lines.now.gate.now)
+        lines.now.tree.now lines.now.tries lines.now.calls.now workers.items v.items) }
     ensures refused { IfErr result IsRefusal }
 {
     let held_back = start.write(rt);
     let mut handles = Vec::new(alloc);
     for worker in workers {
-        let handle = start_one(rt, scope, start, alloc, gate, tree, tries, calls, worker)?;
+        let handle = start_one(rt, scope, start, alloc, lines, worker)?;
         handles.push(handle).map_err(|_| RunFault::NoMemory)?;
     }
     drop(held_back);
@@ -151,22 +148,23 @@ fn play_each<'s, R: Threads + Wait + Sync, E, G: Gate>(
 pub(crate) fn play_apart<R: Threads + Wait + Sync, G: Gate>(
     rt: &R,
     alloc: Global,
-    gate: &G,
-    tree: &Tree,
-    tries: u32,
-    calls: &[(u32, Call)],
+    lines: &Lines<'_, G>,
     workers: Vec<Worker>,
 ) -> Result<Vec<Played>, RunFault>
-    requires own { All (λ w. IsOf tree.now w.pass) workers.items }
-    requires plain { All (λ e. IsOwnCall e.1) calls.now }
-    requires few { length calls.now ≤ 100000 }
+    requires own { All (λ w. IsOf lines.now.tree.now w.pass) workers.items }
+    requires plain { All (λ e. IsOwnCall e.1) lines.now.calls.now }
+    requires few { length lines.now.calls.now ≤ 100000 }
     ensures played { IfOk result
-        (λ v. HaveAllPlayed (G.lets gate.now) (G.stops gate.now) tree.now tries calls.now
-        workers.items v.items) }
+        (λ v. HaveAllPlayed (G.lets lines.now.gate.now) (G.stops lines.now.gate.now)
+        lines.now.tree.now lines.now.tries lines.now.calls.now workers.items v.items) }
     ensures refused { IfErr result IsRefusal }
 {
     let start = RwLock::new(());
     let start = &start;
+    let gate = lines.gate;
+    let tree = lines.tree;
+    let tries = lines.tries;
+    let calls = lines.calls;
     thread::scope(
         thread::scope_env(),
         rt,
@@ -176,6 +174,14 @@ pub(crate) fn play_apart<R: Threads + Wait + Sync, G: Gate>(
             ensures { IfOk result
                 (λ v. HaveAllPlayed (G.lets gate.entry.now) (G.stops gate.entry.now) tree.entry.now
                 tries calls.entry.now workers.items v.items) × IfErr result IsRefusal }
-        { play_each(rt, scope, start, alloc, gate, tree, tries, calls, workers) },
+        {
+            let lines = Lines {
+                gate,
+                tree,
+                tries,
+                calls,
+            };
+            play_each(rt, scope, start, alloc, &lines, workers)
+        },
     )
 }

@@ -22,7 +22,7 @@ use Rattle.nm_calls.specs.Moments.{AnswerHasMoment, HadNoCall}
 use Rattle.nm_calls.specs.Won.{HasWon}
 use Rattle.nm_tree.specs.declared.fault.Fault.{Fault as Lost}
 use Rattle.nm_tree.specs.declared.fault.Fault.TheVariants as call
-use Rattle.nm_tree.specs.declared.worker.Unfinished.{Unfinished}
+use Rattle.nm_calls.specs.declared.deleting.Unfinished.{Unfinished}
 use Rattle.nm_tree.specs.Workers.{Hand, IsAs, IsBetweenCalls, KeepsOtherQueues}
 use Rattle.nm_tree.specs.Answers.{links_won, flags_won}
 use Rattle.nm_tree.proofs.Quiet.{Quiet, advanced, collected}

@@ -8,7 +8,7 @@ ghost use Rattle.nm_epoch.specs.Collecting.{NoneHas};
 ghost use Rattle.nm_tree.specs.Resigning.{HasResigned};
 ghost use Rattle.nm_tree.specs.Running.{HasSeenTurns};
 ghost use Rattle.nm_tree.specs.Workers.{Hand, IsBetweenCalls, IsLedger, waiting_in};
-ghost use Rattle.nm_tree.specs.declared.worker.Unfinished.{Unfinished as Delete};
+ghost use Rattle.nm_calls.specs.declared.deleting.Unfinished.{Unfinished as Delete};
 ghost use Rattle.nm_tree.specs.Calls.{LeavesHas, LeavesInsert, LeavesDelete, LeavesFinish, LeavesAdvance, LeavesBehind, LeavesCollect};
 ghost use Rattle.nm_set.specs.Asked.{Asked, AskedToPin, AskedToUnpin};
 ghost use Rattle.nm_set.specs.InTurns.{AskedMany};

@@ -1,8 +1,10 @@
 -- What a pass has seen goes on from what it had seen.
 use Rattle.nm_model.specs.declared.event.Event.{Event}
-use Rattle.nm_steps.specs.Steps.{Stand, HasTurn, HasSeenAllOf}
+use Rattle.nm_model.specs.declared.reply.Reply.{Reply}
+use Rattle.nm_model.specs.Walks.{Entry}
+use Rattle.nm_steps.specs.Steps.{Stand, Stepped, HasTurn, HasSeenAllOf, IsSamePass, TakesStep, Continues}
 use Rattle.nm_steps.proofs.Growing.{goes_on_itself, goes_on_through, goes_on_by}
-use Rattle.std.proofs.Common.{ℕ, sym, subst, List}
+use Rattle.std.proofs.Common.{ℕ, sym, subst, ap, ◌∙◌, List}
 use Rattle.nm_steps.specs.Rules.{Extends}
 
 pub seen_itself : (p : Stand) → HasSeenAllOf p p
@@ -15,5 +17,21 @@ pub seen_by_turn : (p q : Stand) (e : Event) → HasTurn p q e → HasSeenAllOf 
 seen_by_turn p q e turn = record {
   goes_on = subst (λ (run : List (ℕ × Event)). Extends run p.view.past) (sym turn.is) (goes_on_by turn.before p.view.past (p.view.number, e) turn.extends);
 }
+
+pub same_then : (p q r : Stand) → IsSamePass p q → IsSamePass q r → IsSamePass p r
+same_then p q r first second = second ∙ ap (λ (z : Stand). record z { view = record z.view { log = r.view.log; past = r.view.past } }) first
+
+pub same_by_step : (p q : Stand) (e : Event) (r : Reply) → Stepped p q e r → IsSamePass p q
+same_by_step p q e r step = step ∙ ap (λ (log : List Entry). record p { view = record p.view { log = log; past = q.view.past } }) (sym (ap (λ (z : Stand). z.view.log) step))
+
+pub continues_then : (p q r : Stand) → Continues p q → Continues q r → Continues p r
+continues_then p q r first second = record {
+  same = same_then p q r first.same second.same;
+  past = seen_through p q r first.past second.past;
+  run = second.run;
+}
+
+pub continues_by : (p q : Stand) (e : Event) (r : Reply) → TakesStep p q e r → Continues p q
+continues_by p q e r step = record { same = same_by_step p q e r step.step; past = seen_by_turn p q e step.past; run = step.run }
 
 pub ruleset seen_all = (seen_itself, seen_through, seen_by_turn)

@@ -13,7 +13,7 @@ use Rattle.nm_edge.specs.Words.{word, at_epoch}
 use Rattle.nm_edge.proofs.Words.{fields_within}
 use Rattle.nm_model.specs.declared.event.Event.{Event}
 use Rattle.nm_model.specs.Ordered.{ordered, trace_in}
-use Rattle.nm_order.specs.Logs.{part_of, known_by}
+use Rattle.nm_order.specs.Logs.{part_of}
 use Rattle.nm_steps.specs.declared.view.View.{View}
 use Rattle.nm_steps.specs.Rules.{held_log, knowledge, stands, once_below, LogsAre, IsShown, LagsBehind, Runs, Kept}
 use Rattle.nm_steps.specs.Steps.{Laid}

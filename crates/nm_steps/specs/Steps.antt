@@ -28,6 +28,7 @@ use Rattle.nm_words.specs.Packing.{touched_field, left_word, words_of}
 use Rattle.nm_words.specs.Told.{told, known_as, BirthsAreKnown}
 use Rattle.nm_steps.specs.declared.answers.Sighted.{Sighted}
 use Rattle.nm_steps.specs.declared.answers.Sighted.TheVariants as seeing
+use Rattle.nm_steps.specs.declared.tree_steps.FrozenChain.{FrozenChain}
 use Rattle.nm_steps.specs.declared.view.View.{View}
 use Rattle.nm_steps.specs.Rules.{held_log, knowledge, known_births, viewing, joined, logged, is_store, stands, once_below, Extends, IsShown, IsFound}
 
@@ -110,12 +111,15 @@ pub record IsOf (b : Board) (p : Stand) : Type 0 where
   pub table : p.table ≡ b.table
   pub layout : p.view.layout ≡ b.layout
 
+-- the splice that cuts a frozen chain off
+abbrev pub splice_of : FrozenChain → Event
+splice_of c = Splice c.ancestor c.side c.successor c.parent c.keep
+
 -- what a pass is allowed
 abbrev pub MayStep : Stand → Event → Type 0
 MayStep p e = May p.view.layout p.view.number p.view.log e
 
--- what each step function ensures: this event with this reply is in the log, more has been seen,
--- and nothing else changed
+-- this event with this reply is in the log, more has been seen, and nothing else changed
 abbrev pub Stepped : Stand → Stand → Event → Reply → Type 0
 Stepped p q e r = q ≡ record p
     { view = record p.view { log = p.view.log ++ (e, r) ∷ []; past = q.view.past } }
@@ -138,6 +142,13 @@ pub record IsOfRun (L : Layout) (w : ℕ) (log : List Entry) : Type 0 where
 pub record IsInRun (p : Stand) : Type 0 where
   pub fits : IsLayout p.view.layout
   pub run : IsOfRun p.view.layout p.view.number p.view.log
+
+-- what each step function leaves: the step, as the last turn of what has been seen, and a pass that
+-- is in a run
+pub record TakesStep (p q : Stand) (e : Event) (r : Reply) : Type 0 where
+  pub step : Stepped p q e r
+  pub past : HasTurn p q e
+  pub run : IsInRun q
 
 -- what a view has seen is an ordered run, its log is its worker's part of that, and the worker has
 -- not resigned
@@ -214,6 +225,12 @@ pub record Ends (L : Layout) (words : List ℕ) (view : View) : Type 0 where
 -- nothing but the log and what has been seen changed
 abbrev pub IsSamePass : Stand → Stand → Type 0
 IsSamePass p q = q ≡ record p { view = record p.view { log = q.view.log; past = q.view.past } }
+
+-- what some steps leave: it is the same pass, has seen all that it had seen, and is in a run
+pub record Continues (p q : Stand) : Type 0 where
+  pub same : IsSamePass p q
+  pub past : HasSeenAllOf q p
+  pub run : IsInRun q
 
 -- ---- replies, by what the step functions answer
 

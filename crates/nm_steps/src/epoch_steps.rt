@@ -4,7 +4,7 @@ ghost use Rattle.nm_model.specs.declared.event.Event.TheVariants.{Sight, SightFo
 ghost use Rattle.nm_model.specs.declared.reply.Reply.TheVariants.{Saw, Announced, Departed};
 ghost use Rattle.nm_model.specs.Step.{reply_scan};
 ghost use Rattle.nm_steps.specs.Rules.{knowledge};
-ghost use Rattle.nm_steps.specs.Steps.{IsOf, IsInRun, IsSight, MayStep, Stepped, HasTurn, sight_reply, pin_reply, advance_reply, IsAdvanceFrom, sight_of, noted_sight};
+ghost use Rattle.nm_steps.specs.Steps.{IsOf, IsSight, MayStep, TakesStep, sight_reply, pin_reply, advance_reply, IsAdvanceFrom, sight_of, noted_sight};
 
 use crate::answers::Sighted;
 use crate::pass::{Pass, Shared};
@@ -16,9 +16,7 @@ impl Shared {
     /// a cut.
     pub fn sight(&self, pass: &mut Pass) -> Sighted
         requires { IsOf self.now pass.old }
-        ensures step { Stepped pass.old pass.new Sight (sight_reply result) }
-        ensures past { HasTurn pass.old pass.new Sight }
-        ensures run { IsInRun pass.new }
+        ensures took { TakesStep pass.old pass.new Sight (sight_reply result) }
         ensures reply { IsSight (knowledge pass.old.view).brief (sight_reply result) }
     {
         let word = self.layout.epoch() as usize;
@@ -35,9 +33,7 @@ impl Shared {
         requires unpinned { (knowledge pass.old.view).brief.pin ≡ None }
         requires silent { (knowledge pass.old.view).brief.note ≡ None }
         requires labelled { (knowledge pass.old.view).brief.unlabelled ≡ false }
-        ensures step { Stepped pass.old pass.new Sight (Saw result) }
-        ensures past { HasTurn pass.old pass.new Sight }
-        ensures run { IsInRun pass.new }
+        ensures { TakesStep pass.old pass.new Sight (Saw result) }
     {
         let word = self.layout.epoch() as usize;
         let epoch = self.load(&mut pass.seat, word, Event::Sight);
@@ -55,10 +51,8 @@ impl Shared {
         requires unpinned { (knowledge pass.old.view).brief.pin ≡ None }
         requires note { (knowledge pass.old.view).brief.note ≡ Some announced }
         requires labelled { (knowledge pass.old.view).brief.unlabelled ≡ false }
-        ensures step { Stepped pass.old pass.new (SightFor op key) (pin_reply result) }
+        ensures took { TakesStep pass.old pass.new (SightFor op key) (pin_reply result) }
         ensures same { IfOk result (λ e. e ≡ announced) }
-        ensures past { HasTurn pass.old pass.new (SightFor op key) }
-        ensures run { IsInRun pass.new }
     {
         let word = self.layout.epoch() as usize;
         let event = Event::SightFor(op, key);
@@ -76,9 +70,7 @@ impl Shared {
     pub fn announce(&self, pass: &mut Pass) -> u64
         requires own { IsOf self.now pass.old }
         requires may { MayStep pass.old Announce }
-        ensures step { Stepped pass.old pass.new Announce (Announced result) }
-        ensures past { HasTurn pass.old pass.new Announce }
-        ensures run { IsInRun pass.new }
+        ensures { TakesStep pass.old pass.new Announce (Announced result) }
     {
         let Some(seen) = pass.brief.seen else {
             unreachable!()
@@ -93,9 +85,7 @@ impl Shared {
     pub fn leave(&self, pass: &mut Pass)
         requires own { IsOf self.now pass.old }
         requires may { MayStep pass.old Leave }
-        ensures step { Stepped pass.old pass.new Leave Departed }
-        ensures past { HasTurn pass.old pass.new Leave }
-        ensures run { IsInRun pass.new }
+        ensures { TakesStep pass.old pass.new Leave Departed }
     {
         let word = self.layout.note(pass.number) as usize;
         self.store(&mut pass.seat, word, 0, Event::Leave);
@@ -107,9 +97,7 @@ impl Shared {
     pub fn leave_with(&self, pass: &mut Pass, answer: bool)
         requires own { IsOf self.now pass.old }
         requires may { MayStep pass.old (LeaveWith answer) }
-        ensures step { Stepped pass.old pass.new (LeaveWith answer) Departed }
-        ensures past { HasTurn pass.old pass.new (LeaveWith answer) }
-        ensures run { IsInRun pass.new }
+        ensures { TakesStep pass.old pass.new (LeaveWith answer) Departed }
     {
         let word = self.layout.note(pass.number) as usize;
         self.store(&mut pass.seat, word, 0, Event::LeaveWith(answer));
@@ -121,9 +109,7 @@ impl Shared {
     pub fn scan(&self, pass: &mut Pass, worker: u32) -> Option<u64>
         requires own { IsOf self.now pass.old }
         requires may { MayStep pass.old (Scan worker) }
-        ensures step { Stepped pass.old pass.new (Scan worker) (reply_scan result) }
-        ensures past { HasTurn pass.old pass.new (Scan worker) }
-        ensures run { IsInRun pass.new }
+        ensures { TakesStep pass.old pass.new (Scan worker) (reply_scan result) }
     {
         let word = self.layout.note(worker) as usize;
         let found = self.load(&mut pass.seat, word, Event::Scan(worker));
@@ -135,9 +121,7 @@ impl Shared {
     pub fn advance(&self, pass: &mut Pass) -> Result<u64, u64>
         requires own { IsOf self.now pass.old }
         requires may { MayStep pass.old Advance }
-        ensures step { Stepped pass.old pass.new Advance (advance_reply result) }
-        ensures past { HasTurn pass.old pass.new Advance }
-        ensures run { IsInRun pass.new }
+        ensures took { TakesStep pass.old pass.new Advance (advance_reply result) }
         ensures from { IsAdvanceFrom (knowledge pass.old.view).brief.seen result }
     {
         let Some(seen) = pass.brief.seen else {

@@ -10,4 +10,5 @@ mod view;
 
 pub use answers::Sighted;
 pub use pass::{Note, Pass, Shared, Words};
+pub use tree_steps::FrozenChain;
 pub use view::{Does, Doing, Held, Law, View};

@@ -3,7 +3,7 @@ ghost use Rattle.std.specs.Prelude.{◌≡◌, true};
 ghost use Rattle.nm_edge.specs.Words.{IsSlot};
 ghost use Rattle.nm_model.specs.declared.event.Event.TheVariants.{Claim, Give};
 ghost use Rattle.nm_order.specs.Told.{IsNew};
-ghost use Rattle.nm_steps.specs.Steps.{IsOf, IsInRun, MayStep, Stepped, HasTurn, claim_reply, give_reply};
+ghost use Rattle.nm_steps.specs.Steps.{IsOf, MayStep, TakesStep, claim_reply, give_reply};
 
 use crate::pass::{Pass, Shared};
 use nm_model::Event;
@@ -14,9 +14,7 @@ impl Shared {
     pub fn claim(&self, pass: &mut Pass, slot: u32) -> bool
         requires own { IsOf self.now pass.old }
         requires may { MayStep pass.old (Claim slot) }
-        ensures step { Stepped pass.old pass.new (Claim slot) (claim_reply slot result) }
-        ensures past { HasTurn pass.old pass.new (Claim slot) }
-        ensures run { IsInRun pass.new }
+        ensures took { TakesStep pass.old pass.new (Claim slot) (claim_reply slot result) }
         ensures new { result ≡ true
             → IsNew pass.old.view.layout pass.old.view.number pass.old.view.log slot }
     {
@@ -32,9 +30,7 @@ impl Shared {
     pub fn give(&self, pass: &mut Pass, slot: u32)
         requires own { IsOf self.now pass.old }
         requires may { MayStep pass.old (Give slot) }
-        ensures step { Stepped pass.old pass.new (Give slot) (give_reply pass.old.view slot) }
-        ensures past { HasTurn pass.old pass.new (Give slot) }
-        ensures run { IsInRun pass.new }
+        ensures { TakesStep pass.old pass.new (Give slot) (give_reply pass.old.view slot) }
     {
         let place = self.layout.pool(slot);
         let word = place.word as usize;

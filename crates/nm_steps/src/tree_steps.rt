@@ -1,13 +1,14 @@
 //! The steps on nodes: looks, fills, and the exchanges and marks of edges.
 ghost use Rattle.std.specs.Prelude.{◌≡◌, ◌≤◌, ◌+◌, ◌*◌, true, Some};
 ghost use Rattle.nm_edge.specs.Edges.{edge_in, is_word};
-ghost use Rattle.nm_model.specs.declared.event.Event.TheVariants.{Look, Fill, Link, Flag, Tag, Splice};
+ghost use Rattle.nm_edge.specs.Words.{IsSlot, at_edge, word};
+ghost use Rattle.nm_model.specs.declared.event.Event.TheVariants.{Look, Fill, Link, Flag, Tag};
 ghost use Rattle.nm_model.specs.declared.event.Field.TheVariants.{Key as KeyOf, Edge as EdgeOn, Birth};
 ghost use Rattle.nm_model.specs.declared.reply.Reply.TheVariants.{KeyIs, EdgeIs, BirthIs, Filled, Was};
 ghost use Rattle.nm_model.specs.Knowledge.{read};
 ghost use Rattle.nm_model.specs.Step.{last_number};
 ghost use Rattle.nm_steps.specs.Rules.{knowledge};
-ghost use Rattle.nm_steps.specs.Steps.{IsOf, IsInRun, MayStep, Stepped, HasTurn, link_reply, flag_reply, splice_reply};
+ghost use Rattle.nm_steps.specs.Steps.{IsOf, MayStep, TakesStep, link_reply, flag_reply, splice_of, splice_reply};
 
 use crate::pass::{Pass, Shared};
 use nm_edge::{Edge, Layout, Side};
@@ -15,6 +16,18 @@ use nm_model::{Event, Field};
 
 /// The tag's bit of an edge's word.
 const TAG: u64 = 2;
+
+/// A frozen chain, from the successor down to the parent, whose edge on the side `keep` stays: what
+/// a splice of the ancestor's edge on `side` cuts off (the cleanup of Natarajan and Mittal, section
+/// 3.2).
+#[derive(Clone, Copy, Debug, PartialEq, Eq)]
+pub struct FrozenChain {
+    pub ancestor: u32,
+    pub side: Side,
+    pub successor: u32,
+    pub parent: u32,
+    pub keep: Side,
+}
 
 impl Shared {
     /// Reads the key of a known node. The caller keeps the sizes in its own hands (`layout`), since
@@ -24,9 +37,7 @@ impl Shared {
         requires layout { layout ≡ self.now.layout }
         requires own { IsOf self.now pass.old }
         requires may { MayStep pass.old (Look slot KeyOf) }
-        ensures step { Stepped pass.old pass.new (Look slot KeyOf) (KeyIs result) }
-        ensures past { HasTurn pass.old pass.new (Look slot KeyOf) }
-        ensures run { IsInRun pass.new }
+        ensures { TakesStep pass.old pass.new (Look slot KeyOf) (KeyIs result) }
     {
         let _own = self.layout;
         let word = layout.key(slot) as usize;
@@ -39,12 +50,10 @@ impl Shared {
         requires layout { layout ≡ self.now.layout }
         requires own { IsOf self.now pass.old }
         requires may { MayStep pass.old (Look slot (EdgeOn side)) }
-        ensures step { Stepped pass.old pass.new (Look slot (EdgeOn side)) (EdgeIs result) }
-        ensures past { HasTurn pass.old pass.new (Look slot (EdgeOn side)) }
-        ensures run { IsInRun pass.new }
+        ensures { TakesStep pass.old pass.new (Look slot (EdgeOn side)) (EdgeIs result) }
     {
         let _own = self.layout;
-        let word = layout.edge(slot, side) as usize;
+        let word = edge_word(layout, slot, side);
         let event = Event::Look(slot, Field::Edge(side));
         edge_of(self.load(&mut pass.seat, word, event))
     }
@@ -53,9 +62,7 @@ impl Shared {
     pub fn look_birth(&self, pass: &mut Pass, slot: u32) -> u64
         requires own { IsOf self.now pass.old }
         requires may { MayStep pass.old (Look slot Birth) }
-        ensures step { Stepped pass.old pass.new (Look slot Birth) (BirthIs result) }
-        ensures past { HasTurn pass.old pass.new (Look slot Birth) }
-        ensures run { IsInRun pass.new }
+        ensures took { TakesStep pass.old pass.new (Look slot Birth) (BirthIs result) }
         ensures small { result ≤ last_number }
     {
         let word = self.layout.birth(slot) as usize;
@@ -66,9 +73,7 @@ impl Shared {
     pub fn fill_key(&self, pass: &mut Pass, slot: u32, key: u64)
         requires own { IsOf self.now pass.old }
         requires may { MayStep pass.old (Fill slot KeyOf key) }
-        ensures step { Stepped pass.old pass.new (Fill slot KeyOf key) Filled }
-        ensures past { HasTurn pass.old pass.new (Fill slot KeyOf key) }
-        ensures run { IsInRun pass.new }
+        ensures { TakesStep pass.old pass.new (Fill slot KeyOf key) Filled }
     {
         let word = self.layout.key(slot) as usize;
         let event = Event::Fill(slot, Field::Key, key);
@@ -79,9 +84,7 @@ impl Shared {
     pub fn fill_edge(&self, pass: &mut Pass, slot: u32, side: Side, child: u32)
         requires own { IsOf self.now pass.old }
         requires may { MayStep pass.old (Fill slot (EdgeOn side) child) }
-        ensures step { Stepped pass.old pass.new (Fill slot (EdgeOn side) child) Filled }
-        ensures past { HasTurn pass.old pass.new (Fill slot (EdgeOn side) child) }
-        ensures run { IsInRun pass.new }
+        ensures { TakesStep pass.old pass.new (Fill slot (EdgeOn side) child) Filled }
     {
         let word = self.layout.edge(slot, side) as usize;
         let event = Event::Fill(slot, Field::Edge(side), u64::from(child));
@@ -92,9 +95,7 @@ impl Shared {
     pub fn fill_birth(&self, pass: &mut Pass, slot: u32, birth: u64)
         requires own { IsOf self.now pass.old }
         requires may { MayStep pass.old (Fill slot Birth birth) }
-        ensures step { Stepped pass.old pass.new (Fill slot Birth birth) Filled }
-        ensures past { HasTurn pass.old pass.new (Fill slot Birth birth) }
-        ensures run { IsInRun pass.new }
+        ensures { TakesStep pass.old pass.new (Fill slot Birth birth) Filled }
     {
         let word = self.layout.birth(slot) as usize;
         let event = Event::Fill(slot, Field::Birth, birth);
@@ -113,10 +114,8 @@ impl Shared {
     ) -> Result<(), Edge>
         requires own { IsOf self.now pass.old }
         requires may { MayStep pass.old (Link parent side leaf new) }
-        ensures step { Stepped pass.old pass.new (Link parent side leaf new)
+        ensures { TakesStep pass.old pass.new (Link parent side leaf new)
             (link_reply pass.old.view new result) }
-        ensures past { HasTurn pass.old pass.new (Link parent side leaf new) }
-        ensures run { IsInRun pass.new }
     {
         let word = self.layout.edge(parent, side) as usize;
         let event = Event::Link(parent, side, leaf, new);
@@ -133,10 +132,8 @@ impl Shared {
     pub fn flag(&self, pass: &mut Pass, parent: u32, side: Side, leaf: u32) -> Result<(), Edge>
         requires own { IsOf self.now pass.old }
         requires may { MayStep pass.old (Flag parent side leaf) }
-        ensures step { Stepped pass.old pass.new (Flag parent side leaf)
+        ensures { TakesStep pass.old pass.new (Flag parent side leaf)
             (flag_reply pass.old.view leaf result) }
-        ensures past { HasTurn pass.old pass.new (Flag parent side leaf) }
-        ensures run { IsInRun pass.new }
     {
         let word = self.layout.edge(parent, side) as usize;
         let event = Event::Flag(parent, side, leaf);
@@ -153,9 +150,7 @@ impl Shared {
     pub fn tag(&self, pass: &mut Pass, parent: u32, side: Side) -> Edge
         requires own { IsOf self.now pass.old }
         requires may { MayStep pass.old (Tag parent side) }
-        ensures step { Stepped pass.old pass.new (Tag parent side) (Was result) }
-        ensures past { HasTurn pass.old pass.new (Tag parent side) }
-        ensures run { IsInRun pass.new }
+        ensures { TakesStep pass.old pass.new (Tag parent side) (Was result) }
     {
         let word = self.layout.edge(parent, side) as usize;
         let event = Event::Tag(parent, side);
@@ -165,24 +160,20 @@ impl Shared {
     /// Cuts the nodes from the successor down to the parent off, with the flagged leaf beside each:
     /// the ancestor's edge leads from then on where the parent's edge on the side `keep` leads,
     /// which is known to be `kept`. Lost: the edge that was found.
-    pub fn splice(
-        &self,
-        pass: &mut Pass,
-        ancestor: u32,
-        side: Side,
-        successor: u32,
-        parent: u32,
-        keep: Side,
-        kept: Edge,
-    ) -> Result<(), Edge>
+    pub fn splice(&self, pass: &mut Pass, chain: FrozenChain, kept: Edge) -> Result<(), Edge>
         requires own { IsOf self.now pass.old }
-        requires may { MayStep pass.old (Splice ancestor side successor parent keep) }
-        requires kept { read (knowledge pass.old.view) parent keep ≡ Some kept }
-        ensures step { Stepped pass.old pass.new (Splice ancestor side successor parent keep)
-            (splice_reply pass.old.view successor parent keep result) }
-        ensures past { HasTurn pass.old pass.new (Splice ancestor side successor parent keep) }
-        ensures run { IsInRun pass.new }
+        requires may { MayStep pass.old (splice_of chain) }
+        requires kept { read (knowledge pass.old.view) chain.parent chain.keep ≡ Some kept }
+        ensures { TakesStep pass.old pass.new (splice_of chain)
+            (splice_reply pass.old.view chain.successor chain.parent chain.keep result) }
     {
+        let FrozenChain {
+            ancestor,
+            side,
+            successor,
+            parent,
+            keep,
+        } = chain;
         let word = self.layout.edge(ancestor, side) as usize;
         let event = Event::Splice(ancestor, side, successor, parent, keep);
         let old = word_to(successor);
@@ -193,6 +184,19 @@ impl Shared {
         }
         pass.brief.unlabelled = true;
         Ok(())
+    }
+}
+
+/// The number of the word of a slot's edge, by that of its key: so the looks at one node count from
+/// one number.
+fn edge_word(layout: Layout, slot: u32, side: Side) -> usize
+    requires { IsSlot layout slot }
+    ensures { result ≡ word layout (at_edge slot side) }
+{
+    let key = layout.key(slot) as usize;
+    match side {
+        Side::Left => key + 1,
+        Side::Right => key + 2,
     }
 }
 

@@ -20,7 +20,6 @@ use nm_calls::{Busy, Workspace, has, insert};
 use nm_edge::Key;
 use nm_epoch::Entry;
 use nm_limbo::BlockQueue;
-use nm_pool::Placement;
 use nm_steps::{Pass, Shared};
 pub use sets::insert_then_report;
 pub use threads::{Inserted, find_both, insert_both, insert_both_then_find};
@@ -69,17 +68,16 @@ pub fn insert_then_look(
     shared: &Shared,
     one: &mut Pass,
     two: &mut Pass,
-    placement: &mut Placement,
+    workspace: &mut Workspace,
+    queue: &mut BlockQueue<Entry>,
     key: Key,
     tries: u32,
-    queue: &mut BlockQueue<Entry>,
-    splices: &mut u64,
 ) -> Option<bool>
     requires one { IsOf shared.now one.old }
     requires first_rests { IsResting one.old }
     requires queue { IsQueueOf (knowledge one.old.view) one.old.view.number queue.old.items }
     requires few { length queue.old.items ≤ shared.now.layout.nodes }
-    requires counted { splices.old ≡ capped (won_splices one.old.view.log) }
+    requires counted { workspace.old.splices ≡ capped (won_splices one.old.view.log) }
     requires two { IsOf shared.now two.old }
     requires rests { IsResting two.old }
     ensures one { IsSamePass one.old one.new }
@@ -89,17 +87,7 @@ pub fn insert_then_look(
     ensures found { NoneFlagged two.new.view.layout two.new.view.past key
         → IfSome result (λ b. b ≡ true) }
 {
-    let mut workspace = Workspace::new();
-    match insert(
-        shared,
-        one,
-        placement,
-        key,
-        tries,
-        &mut workspace,
-        queue,
-        splices,
-    ) {
+    match insert(shared, one, workspace, queue, key, tries) {
         Ok(true) => look_behind(shared, one, two, key, tries).ok(),
         _ => None,
     }
@@ -111,11 +99,10 @@ pub fn insert_then_look_alone(
     shared: &Shared,
     one: &mut Pass,
     two: &mut Pass,
-    placement: &mut Placement,
+    workspace: &mut Workspace,
+    queue: &mut BlockQueue<Entry>,
     key: Key,
     tries: u32,
-    queue: &mut BlockQueue<Entry>,
-    splices: &mut u64,
 ) -> Option<bool>
     requires pair { shared.now.layout.workers ≡ 2 }
     requires apart { one.old.view.number ≢ two.old.view.number }
@@ -124,13 +111,13 @@ pub fn insert_then_look_alone(
     requires first_new { one.old.view.log ≡ [] }
     requires queue { IsQueueOf (knowledge one.old.view) one.old.view.number queue.old.items }
     requires few { length queue.old.items ≤ shared.now.layout.nodes }
-    requires counted { splices.old ≡ capped (won_splices one.old.view.log) }
+    requires counted { workspace.old.splices ≡ capped (won_splices one.old.view.log) }
     requires two { IsOf shared.now two.old }
     requires rests { IsResting two.old }
     requires new { two.old.view.log ≡ [] }
     ensures found { IfSome result (λ b. b ≡ true) }
 {
-    let found = insert_then_look(shared, one, two, placement, key, tries, queue, splices);
+    let found = insert_then_look(shared, one, two, workspace, queue, key, tries);
     tell(shared, two, one);
     one.is_of_a_run();
     two.is_of_a_run();

@@ -17,7 +17,7 @@ use Rattle.nm_epoch.specs.Resting.{epochs}
 use Rattle.nm_calls.specs.Won.{capped, won_links, won_flags, won_splices}
 use Rattle.nm_pool.specs.declared.placement.Fit.{Fit}
 use Rattle.nm_tree.specs.declared.worker.Account.{Account}
-use Rattle.nm_tree.specs.declared.worker.Unfinished.{Unfinished}
+use Rattle.nm_calls.specs.declared.deleting.Unfinished.{Unfinished}
 use Rattle.nm_tree.specs.Workers.{Hand, IsAs, IsWorker, IsAccount, AreAccounts, ArePaired, HaveNoted, noted_for, HasOrigin, AreAbove, Ascend, QueueStandsAt, log_held_of, ledger_in}
 use Rattle.nm_tree.proofs.HeldLedgers.{split_in_run, retired_alike}
 use Rattle.nm_tree.proofs.Numbers.{numbers_stay, resigned_stay, room_stays}

@@ -22,7 +22,7 @@ use Rattle.nm_pool.specs.declared.placement.Fit.{Fit}
 use Rattle.nm_tree.specs.declared.worker.Account.{Account}
 use Rattle.nm_tree.specs.declared.worker.Standing.{Standing}
 use Rattle.nm_tree.specs.declared.worker.Standing.TheVariants as standing
-use Rattle.nm_tree.specs.declared.worker.Unfinished.{Unfinished}
+use Rattle.nm_calls.specs.declared.deleting.Unfinished.{Unfinished}
 use Rattle.nm_tree.specs.Workers.{Hand, pending_in, held_in, IsAs, IsHolding, IsWorker, IsAccount, AreAccounts, QueueStandsAt, ledger_in}
 use Rattle.nm_tree.proofs.Numbers.{numbers_stay, resigned_stay, room_stays}
 use Rattle.nm_tree.proofs.Quiet.{Quiet, each_as_before}

@@ -15,7 +15,7 @@ use Rattle.nm_tree.specs.declared.fault.PinFault.{PinFault}
 use Rattle.nm_tree.specs.declared.fault.PinFault.TheVariants as pinning
 use Rattle.nm_tree.specs.declared.fault.Fault.{Fault}
 use Rattle.nm_tree.specs.declared.fault.Fault.TheVariants as fault
-use Rattle.nm_tree.specs.declared.worker.Unfinished.{Unfinished}
+use Rattle.nm_calls.specs.declared.deleting.Unfinished.{Unfinished}
 use Rattle.nm_tree.specs.Workers.{Hand, HasLittleRoom}
 use Rattle.nm_epoch.specs.Resting.{epochs}
 use Rattle.nm_steps.specs.Steps.{Stand}

@@ -12,44 +12,35 @@ ghost use Rattle.nm_tree.specs.Calls.{MayCall, LeavesInsert, LeavesDelete, Leave
 
 use crate::fault::Fault;
 use crate::tree::Tree;
-use crate::worker::{Account, Standing, Unfinished, Worker};
-use nm_calls::{Fault as Lost, Missed, Workspace, delete, finish, insert};
+use crate::worker::{Account, Standing, Worker};
+use nm_calls::{Fault as Lost, Missed, Unfinished, Workspace, delete, finish, insert};
 use nm_edge::Key;
 use nm_epoch::HeldQueue;
-use nm_pool::Placement;
 use nm_steps::{Pass, Shared};
 
 /// An insert with the own queue and its account.
 fn insert_with(
     shared: &Shared,
     pass: &mut Pass,
-    placement: &mut Placement,
-    key: Key,
-    tries: u32,
     workspace: &mut Workspace,
     own: &mut HeldQueue,
     account: &mut Account,
+    key: Key,
+    tries: u32,
 ) -> Result<bool, Lost>
     requires own { IsOf shared.now pass.old }
     requires rests { IsResting pass.old }
     requires kept { IsKept pass.old own.old account.old }
-    ensures after { AfterInsert placement.old shared.now.layout.nodes tries key pass.old pass.new
-        result }
+    ensures after { AfterInsert workspace.old.placement shared.now.layout.nodes tries key pass.old
+        pass.new result }
     ensures refused { IsErrOf result Lost.NoMemory → own.new.queue.spare < cut_bound }
     ensures kept { IsKept pass.new own.new account.new }
     ensures room { TakesRoom own.old.queue own.new.queue }
-    ensures fit { placement.new ≡ placement.old }
+    ensures fit { workspace.new.placement ≡ workspace.old.placement }
 {
-    let answer = insert(
-        shared,
-        pass,
-        placement,
-        key,
-        tries,
-        workspace,
-        &mut own.queue,
-        &mut account.splices,
-    );
+    workspace.splices = account.splices;
+    let answer = insert(shared, pass, workspace, &mut own.queue, key, tries);
+    account.splices = workspace.splices;
     account.links = account.links.saturating_add(links_of(&answer));
     account.waiting = own.queue.len();
     answer
@@ -59,11 +50,11 @@ fn insert_with(
 fn delete_with(
     shared: &Shared,
     pass: &mut Pass,
-    key: Key,
-    tries: u32,
     workspace: &mut Workspace,
     own: &mut HeldQueue,
     account: &mut Account,
+    key: Key,
+    tries: u32,
 ) -> Result<bool, Missed>
     requires own { IsOf shared.now pass.old }
     requires rests { IsResting pass.old }
@@ -74,16 +65,11 @@ fn delete_with(
         pass.new.view.log) own.new.queue.spare) }
     ensures kept { IsKept pass.new own.new account.new }
     ensures room { TakesRoom own.old.queue own.new.queue }
+    ensures fit { workspace.new.placement ≡ workspace.old.placement }
 {
-    let answer = delete(
-        shared,
-        pass,
-        key,
-        tries,
-        workspace,
-        &mut own.queue,
-        &mut account.splices,
-    );
+    workspace.splices = account.splices;
+    let answer = delete(shared, pass, workspace, &mut own.queue, key, tries);
+    account.splices = workspace.splices;
     account.flags = account.flags.saturating_add(flags_of(&answer));
     account.waiting = own.queue.len();
     answer
@@ -113,11 +99,11 @@ fn flags_of(answer: &Result<bool, Missed>) -> u64
 fn finish_with(
     shared: &Shared,
     pass: &mut Pass,
-    pending: &Unfinished,
-    tries: u32,
     workspace: &mut Workspace,
     own: &mut HeldQueue,
     account: &mut Account,
+    pending: &Unfinished,
+    tries: u32,
 ) -> bool
     requires own { IsOf shared.now pass.old }
     requires removing { IsRemoving pass.old pending.now.key pending.now.leaf }
@@ -130,17 +116,11 @@ fn finish_with(
         pass.old.view.log pass.new.view.log }
     ensures kept { IsKept pass.new own.new account.new }
     ensures room { TakesRoom own.old.queue own.new.queue }
+    ensures fit { workspace.new.placement ≡ workspace.old.placement }
 {
-    let done = finish(
-        shared,
-        pass,
-        pending.key,
-        pending.leaf,
-        tries,
-        workspace,
-        &mut own.queue,
-        &mut account.splices,
-    );
+    workspace.splices = account.splices;
+    let done = finish(shared, pass, workspace, &mut own.queue, pending, tries);
+    account.splices = workspace.splices;
     account.waiting = own.queue.len();
     done
 }
@@ -165,12 +145,11 @@ impl Tree {
         match insert_with(
             &self.shared,
             &mut worker.pass,
-            &mut worker.placement,
-            key,
-            tries,
             &mut worker.workspace,
             own,
             account,
+            key,
+            tries,
         ) {
             Ok(answer) => Ok(answer),
             Err(Lost::Busy) => Err(Fault::Busy),
@@ -201,11 +180,11 @@ impl Tree {
         match delete_with(
             &self.shared,
             &mut worker.pass,
-            key,
-            tries,
             &mut worker.workspace,
             own,
             account,
+            key,
+            tries,
         ) {
             Ok(answer) => Ok(answer),
             Err(Missed::Busy) => Err(Fault::Busy),
@@ -236,11 +215,11 @@ impl Tree {
         if !finish_with(
             &self.shared,
             &mut worker.pass,
-            &pending,
-            tries,
             &mut worker.workspace,
             own,
             account,
+            &pending,
+            tries,
         ) {
             return Err(Fault::Unfinished);
         }

@@ -97,7 +97,6 @@ fn close_all(tree: Tree, workers: Vec<Worker>, room: Room) -> Report
     let Tree { shared } = tree;
     let Worker {
         pass,
-        placement: _,
         queues,
         accounts: _,
         home: _,

@@ -1,7 +1,7 @@
 //! Pins of the caller, and moving the epoch on.
 ghost use Rattle.std.specs.Prelude.{ℕ, ◌≡◌, ◌+◌, ◌≤◌, length, Some, IsSome, vec_capacity};
 ghost use Rattle.nm_order.specs.Reads.{HasRead};
-ghost use Rattle.nm_steps.specs.Steps.{IsOf, IsInRun, IsSamePass, HasSeenAllOf};
+ghost use Rattle.nm_steps.specs.Steps.{IsOf, Continues};
 ghost use Rattle.nm_epoch.specs.Resting.{Settles};
 ghost use Rattle.nm_steps.specs.Rules.{knowledge};
 ghost use Rattle.nm_epoch.specs.Collecting.{AreHeld, IsCollection, HaveLost, KeepsOtherLedgers, KeepsRetired, blocks_of, ripe_of};
@@ -79,7 +79,7 @@ impl Tree {
         let collected = collect_all(
             &self.shared,
             &mut worker.pass,
-            &mut worker.placement,
+            &mut worker.workspace.placement,
             &mut worker.queues,
         );
         worker.pass.is_of_a_run();
@@ -97,9 +97,7 @@ fn collect_all(
 ) -> Collected
     requires own { IsOf shared.now pass.old }
     requires queues { AreHeld (knowledge pass.old.view) queues.old.items }
-    ensures same { IsSamePass pass.old pass.new }
-    ensures past { HasSeenAllOf pass.new pass.old }
-    ensures run { IsInRun pass.new }
+    ensures on { Continues pass.old pass.new }
     ensures part { IsCollection result.epoch queues.old.items pass.old.view.log pass.new.view.log }
     ensures freed { result.freed ≡ length (ripe_of result.epoch queues.old.items) }
     ensures lost { HaveLost result.epoch queues.old.items queues.new.items }

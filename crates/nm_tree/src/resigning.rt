@@ -74,7 +74,6 @@ pub(crate) fn unite(shared: &Shared, heir: Worker, leaver: Worker) -> Worker
 {
     let Worker {
         pass,
-        placement,
         mut queues,
         mut accounts,
         home: _,
@@ -83,7 +82,6 @@ pub(crate) fn unite(shared: &Shared, heir: Worker, leaver: Worker) -> Worker
     } = heir;
     let Worker {
         pass: other,
-        placement: _,
         queues: more,
         accounts: theirs,
         home: _,
@@ -95,7 +93,6 @@ pub(crate) fn unite(shared: &Shared, heir: Worker, leaver: Worker) -> Worker
     let home = place_of(queues.as_slice(), pass.number());
     Worker {
         pass,
-        placement,
         queues,
         accounts,
         home,

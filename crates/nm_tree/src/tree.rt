@@ -146,12 +146,11 @@ fn worker_of(
     let cursor = share.saturating_mul(origin).saturating_add(FIRST_SLOT);
     Ok(Worker {
         pass,
-        placement: Placement::new(fit, cursor),
         queues,
         accounts,
         home: 0,
         standing: Standing::Resting,
-        workspace: Workspace::new(),
+        workspace: Workspace::new(Placement::new(fit, cursor)),
     })
 }
 

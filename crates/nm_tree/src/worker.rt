@@ -2,25 +2,17 @@
 ghost use Rattle.std.specs.Prelude.{◌≡◌, ◌<◌, length, option_map, IfSome, IfNone};
 ghost use Rattle.nm_edge.specs.Layouts.{IsLayout};
 ghost use Rattle.nm_steps.specs.Steps.{HasSeen, IsOfRun};
+ghost use Rattle.nm_calls.specs.declared.deleting.Unfinished.{Unfinished as Delete};
 ghost use Rattle.nm_calls.specs.Moments.{HasFlaggedIt};
 ghost use Rattle.nm_epoch.specs.Collecting.{NoneHas};
 ghost use Rattle.nm_tree.specs.Running.{HasSeenTurns};
 ghost use Rattle.nm_tree.specs.Workers.{waiting_in, blocks_in, account_in, counts_in, IsLedger, HasOrigin};
-ghost use Rattle.nm_tree.specs.declared.worker.Unfinished.{Unfinished as Delete};
 
-use nm_calls::Workspace;
-use nm_edge::{Key, NodeId};
+use nm_calls::{Unfinished, Workspace};
+use nm_edge::Key;
 use nm_epoch::HeldQueue;
-use nm_pool::Placement;
 use nm_steps::Pass;
 use std::marker::Model;
-
-/// A delete that has flagged its leaf and not answered yet.
-#[derive(Clone, Copy)]
-pub(crate) struct Unfinished {
-    pub(crate) key: Key,
-    pub(crate) leaf: NodeId,
-}
 
 /// What a worker is in the midst of between two calls.
 #[derive(Clone, Copy)]
@@ -71,14 +63,14 @@ pub struct Counts {
 #[derive(Drop)]
 pub struct Worker {
     pub(crate) pass: Pass,
-    pub(crate) placement: Placement,
     // By ascending origin, with the own one at `home`.
     pub(crate) queues: Vec<HeldQueue>,
     // An account of each queue, in the same order.
     pub(crate) accounts: Vec<Account>,
     pub(crate) home: usize,
     pub(crate) standing: Standing,
-    // The room of its walks and cleanups, made once: filling it costs more than a walk.
+    // Its count of won splices is that of the account at `home` during a call, and is not looked at
+    // between two of them.
     pub(crate) workspace: Workspace,
 }
 
@@ -93,7 +85,7 @@ impl Model for Worker {
       queues = w.queues.items;
       pending = pending_in w.standing;
       held = held_in w.standing;
-      fit = w.placement;
+      fit = w.workspace.placement;
     } };
 
     ghost invariant = { λ w. IsWorker
@@ -102,7 +94,7 @@ impl Model for Worker {
           queues = w.queues.items;
           pending = pending_in w.standing;
           held = held_in w.standing;
-          fit = w.placement;
+          fit = w.workspace.placement;
         }) w.accounts.items w.home
         (vec_capacity w.queues) (vec_capacity w.accounts) };
 }

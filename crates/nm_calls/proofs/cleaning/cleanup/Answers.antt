@@ -42,7 +42,7 @@ returns-clause-kept c = record {
       let new = c.label-epoch.new.pass.view.log in
       let more = (adds_then old mid new (cut_adds c.args.spot.now c.as_slice.result.now c.cut_off.new.nodes.items old mid (c.cut_off.ensures.won c.if-not-cut_off.false).part) (adds_these _ mid new (ap (λ (x : Stand). x.view.log) c.label-epoch.ensures.step))).splices in
       let was = c.requires.kept.counted in
-      let sum = c.saturating_add.ensures in
+      let sum = c.saturating_add-workspace.ensures in
       omega (arith, more, was, sum)
       );
 }

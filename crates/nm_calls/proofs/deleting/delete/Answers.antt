@@ -1,10 +1,7 @@
-use Rattle.std.proofs.Common.{rules, ap, subst}
-use Rattle.std.specs.Prelude.{IfOk, IfErr}
+use Rattle.std.proofs.Common.{rules, ap}
 use Rattle.nm_steps.proofs.Seeing.{seen_all}
-use Rattle.nm_calls.specs.Deletes.{DeleteFinishes, FlagsThen, LacksRoomOr}
-use Rattle.nm_calls.specs.declared.deleting.Removal.TheVariants as removal
 use Rattle.nm_model.specs.Searches.{Search}
-use Rattle.nm_calls.specs.Moments.{AnswerHasMoment, HadNoCall}
+use Rattle.nm_calls.specs.Moments.{HadNoCall}
 use Rattle.nm_calls.proofs.Removals.{delete_did, each_lacks_room}
 use Rattle.nm_model.specs.declared.event.Op.TheVariants.{Delete}
 use Rattle.nm_calls.proofs.Adding.{has_won, counts_on, pin_adds, moved_adds}
@@ -19,14 +16,14 @@ returns-clause-after c =
     let old = c.args.pass.now.view.log in
     let a = c.pin_for.new.pass.view.log in
     let new = c.delete_pinned.new.pass.view.log in
-    let part = subst (λ k. DeleteFinishes nodes c.args.tries k a new c.delete_pinned.result) c.get.ensures.number c.delete_pinned.ensures.part in
+    let part = c.delete_pinned.ensures.part in
     record {
       same = search rules;
       past = search (rules, seen_all);
       did = delete_did nodes c.args.tries c.args.key old new c.delete_pinned.result (a, c.in-Ok._epoch, c.in-Ok.ensures.pinned, part);
       moment = (
-          let pinned : HadNoCall c.args.pass.now c.pin_for.new.pass = record { seen = c.is_of_a_run.ensures.seen; same = c.pin_for.ensures.same; past = c.pin_for.ensures.past; call = ap (λ (s : Search). s.call) c.requires.rests.idle } in
-          subst (λ k. IfOk c.delete_pinned.result (AnswerHasMoment c.args.pass.now c.delete_pinned.new.pass Delete k)) c.get.ensures.number (c.delete_pinned.ensures.moment c.args.pass.now pinned)
+          let pinned : HadNoCall c.args.pass.now c.pin_for.new.pass = record { seen = c.is_of_a_run.ensures.seen; same = c.pin_for.ensures.on.same; past = c.pin_for.ensures.on.past; call = ap (λ (s : Search). s.call) c.requires.rests.idle } in
+          c.delete_pinned.ensures.moment c.args.pass.now pinned
           );
       won = delete_wins nodes c.args.tries c.args.key old a new c.in-Ok._epoch c.in-Ok.ensures.pinned c.delete_pinned.result part;
       steps = delete_steps nodes c.args.tries c.args.key old a new c.in-Ok._epoch c.in-Ok.ensures.pinned c.delete_pinned.result part;
@@ -60,14 +57,14 @@ pub make_room-requires : goal.make_room-requires
 make_room-requires c = record { few = may_grow_first c.args.shared.now c.args.pass.now c.args.queue.now.items c.requires.own c.is_of_a_run.ensures.fits c.requires.few }
 
 pub returns-clause-few : goal.returns-clause-few
-returns-clause-few c = few_in_table c.args.shared.now c.args.pass.now c.delete_pinned.new.pass c.delete_pinned.new.queue.items c.requires.own (search rules) c.delete_pinned.ensures.run c.delete_pinned.ensures.kept.queue
+returns-clause-few c = few_in_table c.args.shared.now c.args.pass.now c.delete_pinned.new.pass c.delete_pinned.new.queue.items c.requires.own (search rules) c.delete_pinned.ensures.on.run c.delete_pinned.ensures.kept.queue
 
 pub returns-clause-refused : goal.returns-clause-refused
 returns-clause-refused c =
     let a = c.pin_for.new.pass.view.log in
     let new = c.delete_pinned.new.pass.view.log in
     each_lacks_room c.args.shared.now.layout.nodes c.args.tries c.args.key c.args.pass.now.view.log a new c.in-Ok._epoch c.delete_pinned.new.queue.spare c.delete_pinned.result c.in-Ok.ensures.pinned
-    (subst (λ k. IfErr c.delete_pinned.result (LacksRoomOr (λ n. FlagsThen c.args.shared.now.layout.nodes c.args.tries k n a new removal.Spent) c.delete_pinned.new.queue.spare)) c.get.ensures.number c.delete_pinned.ensures.refused)
+    c.delete_pinned.ensures.refused
 
 pub returns-clause-blocks : goal.returns-clause-blocks
 returns-clause-blocks c = takes_then c.args.queue.now c.make_room.new.queue c.delete_pinned.new.queue c.make_room.ensures.blocks c.delete_pinned.ensures.blocks

@@ -11,25 +11,25 @@ use Rattle.nm_calls.proofs.deleting.delete_pinned.Goals as goal
 pub remove_after-requires-clause-removing : goal.remove_after-requires-clause-removing
 remove_after-requires-clause-removing c =
     let shows = c.in-Flagged.ensures.shows in
-    removing_from c.args.pass.now c.inject.new.pass c.args.key (leaf_of c.in-Flagged.end c.in-Flagged.birth) c.requires.pinned.pin c.requires.call c.requires.unchanged.labelled c.inject.ensures.on c.inject.ensures.only shows.0 shows.2
+    removing_from c.args.pass.now c.inject.new.pass c.args.key (leaf_of c.in-Flagged.flagged.end c.in-Flagged.flagged.birth) c.requires.pinned.pin c.requires.call c.requires.unchanged.labelled c.inject.ensures.on c.inject.ensures.only shows.0 shows.2
 
 pub returns-in-Refused-clause-part : goal.returns-in-Refused-clause-part
-returns-in-Refused-clause-part c = (c.inject.new.workspace.chain.items, c.inject.new.pass.view.log, c.in-Refused.ensures.part, ap (λ (x : Stand). x.view.log) c.leave.ensures.step)
+returns-in-Refused-clause-part c = (c.inject.new.workspace.chain.items, c.inject.new.pass.view.log, c.in-Refused.ensures.part, ap (λ (x : Stand). x.view.log) c.leave.ensures.took.step)
 
 pub returns-in-Spent-clause-part : goal.returns-in-Spent-clause-part
-returns-in-Spent-clause-part c = (c.inject.new.workspace.chain.items, c.inject.new.pass.view.log, c.in-Spent.ensures.part, ap (λ (x : Stand). x.view.log) c.leave-in-Spent.ensures.step)
+returns-in-Spent-clause-part c = (c.inject.new.workspace.chain.items, c.inject.new.pass.view.log, c.in-Spent.ensures.part, ap (λ (x : Stand). x.view.log) c.leave-in-Spent.ensures.took.step)
 
 pub returns-in-Refused-remove_after-clause-stands : goal.returns-in-Refused-remove_after-clause-stands
 returns-in-Refused-remove_after-clause-stands c =
     let shows = c.in-Flagged.ensures.shows in
-    let n = leaf_of c.in-Flagged.end c.in-Flagged.birth in
+    let n = leaf_of c.in-Flagged.flagged.end c.in-Flagged.flagged.birth in
     let there = removing_from c.args.pass.now c.inject.new.pass c.args.key n c.requires.pinned.pin c.requires.call c.requires.unchanged.labelled c.inject.ensures.on c.inject.ensures.only shows.0 shows.2 in
     rw c.leaf_at-leaf.ensures (removing_on c.inject.new.pass c.remove_after.new.pass c.args.key n there c.remove_after.ensures.on c.remove_after.ensures.only)
 
 pub returns-in-Spent-remove_after-clause-stands : goal.returns-in-Spent-remove_after-clause-stands
 returns-in-Spent-remove_after-clause-stands c =
     let shows = c.in-Flagged.ensures.shows in
-    let n = leaf_of c.in-Flagged.end c.in-Flagged.birth in
+    let n = leaf_of c.in-Flagged.flagged.end c.in-Flagged.flagged.birth in
     let there = removing_from c.args.pass.now c.inject.new.pass c.args.key n c.requires.pinned.pin c.requires.call c.requires.unchanged.labelled c.inject.ensures.on c.inject.ensures.only shows.0 shows.2 in
     rw c.leaf_at-leaf.ensures (removing_on c.inject.new.pass c.remove_after.new.pass c.args.key n there c.remove_after.ensures.on c.remove_after.ensures.only)
 

@@ -1,10 +1,9 @@
-use Rattle.std.proofs.Common.{rules, true, false, inl, inr, ap, subst}
+use Rattle.std.proofs.Common.{rules, true, false, inl, inr, ap}
 use Rattle.nm_model.specs.declared.event.Op.TheVariants.{Delete}
 use Rattle.nm_order.specs.Facts.Fact.{CallIs}
 use Rattle.nm_steps.specs.Steps.{Stand}
 use Rattle.nm_steps.proofs.Seeing.{seen_all}
-use Rattle.nm_calls.specs.declared.deleting.Removal.TheVariants as removal
-use Rattle.nm_calls.specs.Deletes.{IsRemoval, FinishDid}
+use Rattle.nm_calls.specs.Deletes.{FinishDid}
 use Rattle.nm_calls.proofs.Moments.{no_call_on}
 use Rattle.nm_calls.proofs.Removals.{removing_on}
 use Rattle.nm_calls.proofs.AddingDeletes.{finish_wins, finish_steps}
@@ -17,18 +16,18 @@ returns-in-Removed-clause-after c =
     let old = c.args.pass.now.view.log in
     let mid = c.remove.new.pass.view.log in
     let new = c.answer.new.pass.view.log in
-    let did : FinishDid nodes c.args.key c.args.leaf c.args.tries old new true = (
+    let did : FinishDid nodes c.args.pending.now.key c.args.pending.now.leaf c.args.tries old new true = (
       mid,
-      subst (λ k. IsRemoval nodes k c.args.leaf c.args.tries old mid removal.Removed) c.get.ensures.number c.in-Removed.ensures.part,
-      ap (λ (x : Stand). x.view.log) c.answer.ensures.step,
+      c.in-Removed.ensures.part,
+      ap (λ (x : Stand). x.view.log) c.answer.ensures.took.step,
     ) in
     record {
       same = search rules;
       past = search (rules, seen_all);
       did = did;
-      moment = λ yes o had. c.answer.ensures.moment o Delete c.args.key (no_call_on o c.args.pass.now c.remove.new.pass had c.remove.ensures.on.same c.remove.ensures.on.past) (c.remove.ensures.on.keeps (CallIs Delete c.args.key) c.requires.removing.call);
-      won = finish_wins nodes c.args.key c.args.leaf c.args.tries old new true did;
-      steps = finish_steps nodes c.args.key c.args.leaf c.args.tries old new true did;
+      moment = λ yes o had. c.answer.ensures.moment o Delete c.args.pending.now.key (no_call_on o c.args.pass.now c.remove.new.pass had c.remove.ensures.on.same c.remove.ensures.on.past) (c.remove.ensures.on.keeps (CallIs Delete c.args.pending.now.key) c.requires.removing.call);
+      won = finish_wins nodes c.args.pending.now.key c.args.pending.now.leaf c.args.tries old new true did;
+      steps = finish_steps nodes c.args.pending.now.key c.args.pending.now.leaf c.args.tries old new true did;
       run = search rules;
       rests = search rules;
       removing = search rules;
@@ -41,17 +40,17 @@ returns-in-Refused-clause-after c =
     let nodes = c.args.shared.now.layout.nodes in
     let old = c.args.pass.now.view.log in
     let new = c.remove.new.pass.view.log in
-    let did : FinishDid nodes c.args.key c.args.leaf c.args.tries old new false = inl (subst (λ k. IsRemoval nodes k c.args.leaf c.args.tries old new removal.Refused) c.get.ensures.number c.in-Refused.ensures.part) in
+    let did : FinishDid nodes c.args.pending.now.key c.args.pending.now.leaf c.args.tries old new false = inl c.in-Refused.ensures.part in
     record {
       same = search rules;
       past = search (rules, seen_all);
       did = did;
       moment = search rules;
-      won = finish_wins nodes c.args.key c.args.leaf c.args.tries old new false did;
-      steps = finish_steps nodes c.args.key c.args.leaf c.args.tries old new false did;
+      won = finish_wins nodes c.args.pending.now.key c.args.pending.now.leaf c.args.tries old new false did;
+      steps = finish_steps nodes c.args.pending.now.key c.args.pending.now.leaf c.args.tries old new false did;
       run = search rules;
       rests = search rules;
-      removing = λ no. removing_on c.args.pass.now c.remove.new.pass c.args.key c.args.leaf c.requires.removing c.remove.ensures.on c.remove.ensures.only;
+      removing = λ no. removing_on c.args.pass.now c.remove.new.pass c.args.pending.now.key c.args.pending.now.leaf c.requires.removing c.remove.ensures.on c.remove.ensures.only;
       private = search rules;
       ledgers = search rules;
     }
@@ -61,17 +60,17 @@ returns-in-Spent-clause-after c =
     let nodes = c.args.shared.now.layout.nodes in
     let old = c.args.pass.now.view.log in
     let new = c.remove.new.pass.view.log in
-    let did : FinishDid nodes c.args.key c.args.leaf c.args.tries old new false = inr (subst (λ k. IsRemoval nodes k c.args.leaf c.args.tries old new removal.Spent) c.get.ensures.number c.in-Spent.ensures.part) in
+    let did : FinishDid nodes c.args.pending.now.key c.args.pending.now.leaf c.args.tries old new false = inr c.in-Spent.ensures.part in
     record {
       same = search rules;
       past = search (rules, seen_all);
       did = did;
       moment = search rules;
-      won = finish_wins nodes c.args.key c.args.leaf c.args.tries old new false did;
-      steps = finish_steps nodes c.args.key c.args.leaf c.args.tries old new false did;
+      won = finish_wins nodes c.args.pending.now.key c.args.pending.now.leaf c.args.tries old new false did;
+      steps = finish_steps nodes c.args.pending.now.key c.args.pending.now.leaf c.args.tries old new false did;
       run = search rules;
       rests = search rules;
-      removing = λ no. removing_on c.args.pass.now c.remove.new.pass c.args.key c.args.leaf c.requires.removing c.remove.ensures.on c.remove.ensures.only;
+      removing = λ no. removing_on c.args.pass.now c.remove.new.pass c.args.pending.now.key c.args.pending.now.leaf c.requires.removing c.remove.ensures.on c.remove.ensures.only;
       private = search rules;
       ledgers = search rules;
     }

@@ -20,6 +20,7 @@ loop-round-preserved c = record {
   first = λ none'. omega (arith, none');
   blocks = takes_fills c.args.queue.now c.make_room.new.queue c.try_flag.new.queue (takes_then c.args.queue.now c.loop-round.queue c.make_room.new.queue c.loop-round.invariant.blocks c.make_room.ensures.blocks) c.try_flag.ensures.fills;
   kept = c.try_flag.ensures.kept;
+  fit = c.try_flag.ensures.fit ∙ c.loop-round.invariant.fit;
 }
 
 pub returns-then-not-make_room-clause-part : goal.returns-then-not-make_room-clause-part

@@ -16,5 +16,6 @@ invariant-loop-round l = record {
   unflagged : (search l.pass).flagged ≡ None;
   first : l.round ≡ 0 → cut_bound ≤ l.queue.spare;
   blocks : TakesRoom l.fn.queue l.queue;
-  kept : HoldsCuts l.pass l.queue l.splices;
+  kept : HoldsCuts l.pass l.queue l.workspace.splices;
+  fit : l.workspace.placement ≡ l.fn.workspace.placement;
 }

@@ -1,4 +1,4 @@
-use Rattle.std.proofs.Common.{add-one}
+use Rattle.std.proofs.Common.{add-one, ◌∙◌}
 use Rattle.nm_calls.proofs.GoingOn.{goes_then}
 use Rattle.nm_calls.proofs.Removals.{cleans_then, removing_on}
 use Rattle.nm_calls.proofs.Rooms.{takes_then, takes_fills}
@@ -8,11 +8,12 @@ use Rattle.nm_calls.proofs.deleting.remove.Goals as goal
 pub loop-round-preserved : goal.loop-round-preserved
 loop-round-preserved c = record {
   lost = rw add-one (c.loop-round.pass.view.log, c.loop-round.invariant.lost, c.try_remove.ensures.lost c.if-try_remove.false);
-  removing = removing_on c.loop-round.pass c.try_remove.new.pass c.args.key c.args.leaf c.loop-round.invariant.removing c.try_remove.ensures.on c.try_remove.ensures.only;
+  removing = removing_on c.loop-round.pass c.try_remove.new.pass c.args.pending.now.key c.args.pending.now.leaf c.loop-round.invariant.removing c.try_remove.ensures.on c.try_remove.ensures.only;
   on = goes_then c.args.pass.now c.loop-round.pass c.try_remove.new.pass c.loop-round.invariant.on c.try_remove.ensures.on;
   only = cleans_then c.args.pass.now c.loop-round.pass c.try_remove.new.pass c.loop-round.invariant.on.same c.loop-round.invariant.only c.try_remove.ensures.only;
   blocks = takes_fills c.args.queue.now c.make_room.new.queue c.try_remove.new.queue (takes_then c.args.queue.now c.loop-round.queue c.make_room.new.queue c.loop-round.invariant.blocks c.make_room.ensures.blocks) c.try_remove.ensures.fills;
   kept = c.try_remove.ensures.kept;
+  fit = c.try_remove.ensures.fit ∙ c.loop-round.invariant.fit;
 }
 
 pub make_room-requires : goal.make_room-requires

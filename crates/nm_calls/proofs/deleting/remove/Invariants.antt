@@ -1,3 +1,4 @@
+use Rattle.std.proofs.Common.{◌≡◌}
 use Rattle.nm_calls.specs.Rooms.{TakesRoom}
 use Rattle.nm_calls.specs.Telling.{GoesOn}
 use Rattle.nm_calls.specs.Cleanups.{OnlyCleans, HoldsCuts}
@@ -6,10 +7,11 @@ use Rattle.nm_calls.proofs.deleting.remove.Given as goal
 
 abbrev pub invariant-loop-round : goal.invariant-loop-round
 invariant-loop-round l = record {
-  lost : LostRemovals l.shared.layout.nodes l.key l.leaf l._round l.fn.pass.view.log l.pass.view.log;
-  removing : IsRemoving l.pass l.key l.leaf;
+  lost : LostRemovals l.shared.layout.nodes l.pending.key l.pending.leaf l._round l.fn.pass.view.log l.pass.view.log;
+  removing : IsRemoving l.pass l.pending.key l.pending.leaf;
   on : GoesOn l.fn.pass l.pass;
   only : OnlyCleans l.fn.pass l.pass;
   blocks : TakesRoom l.fn.queue l.queue;
-  kept : HoldsCuts l.pass l.queue l.splices;
+  kept : HoldsCuts l.pass l.queue l.workspace.splices;
+  fit : l.workspace.placement ≡ l.fn.workspace.placement;
 }

@@ -9,21 +9,21 @@ use Rattle.nm_calls.proofs.deleting.remove_after.Goals as goal
 pub returns-then-cleanup-clause-part : goal.returns-then-cleanup-clause-part
 returns-then-cleanup-clause-part c =
     let w = c.cleanup.ensures.won c.if-cleanup.true in
-    inl (c.if-left-eq0.false, w.nodes, w.epoch, w.part, w.leaf c.args.end.now.spot.edge.slot c.args.birth c.requires.edge c.requires.removing.born)
+    inl (c.if-flagged-eq0.false, w.nodes, w.epoch, w.part, w.leaf c.args.flagged.now.end.spot.edge.slot c.args.flagged.now.birth c.requires.edge c.requires.removing.born)
 
 pub remove-requires-clause-removing : goal.remove-requires-clause-removing
 remove-requires-clause-removing c =
-    rw c.leaf_at-leaf.ensures (removing_on c.args.pass.now c.cleanup.new.pass c.args.key (leaf_of c.args.end.now c.args.birth) c.requires.removing c.cleanup.ensures.on c.cleanup.ensures.only)
+    rw c.leaf_at-leaf.ensures (removing_on c.args.pass.now c.cleanup.new.pass c.args.key (leaf_of c.args.flagged.now.end c.args.flagged.now.birth) c.requires.removing c.cleanup.ensures.on c.cleanup.ensures.only)
 
 pub returns-clause-part : goal.returns-clause-part
 returns-clause-part c =
-    let r = c.args.end.now in
+    let f = c.args.flagged.now in
     let mid = c.cleanup.new.pass.view.log in
     let lost = (c.cleanup.ensures.lost c.if-cleanup.false).part in
-    let some = c.if-left-eq0.false in
-    removal_after c.args.shared.now.layout.nodes c.args.key r c.args.workspace.now.chain.items c.args.birth c.args.left (c.args.left - 1) c.args.pass.now.view.log mid c.remove.new.pass.view.log c.remove.result (omega (arith, some))
+    let some = c.if-flagged-eq0.false in
+    removal_after c.args.shared.now.layout.nodes c.args.key f c.args.workspace.now.chain.items (f.left - 1) c.args.pass.now.view.log mid c.remove.new.pass.view.log c.remove.result (omega (arith, some))
     lost
-    (subst (λ (n : NodeId). IsRemoval c.args.shared.now.layout.nodes c.args.key n (c.args.left - 1) mid c.remove.new.pass.view.log c.remove.result) c.leaf_at-leaf.ensures c.remove.ensures.part)
+    (subst (λ (n : NodeId). IsRemoval c.args.shared.now.layout.nodes c.args.key n (f.left - 1) mid c.remove.new.pass.view.log c.remove.result) c.leaf_at-leaf.ensures c.remove.ensures.part)
 
 pub make_room-requires : goal.make_room-requires
 make_room-requires c = record { few = may_grow_more c.args.pass.now c.args.queue.now.items c.requires.removing.run c.requires.kept.queue }

@@ -1,4 +1,4 @@
-use Rattle.std.proofs.Common.{rules, inr, ◌∙◌}
+use Rattle.std.proofs.Common.{rules, inr, ◌∙◌, arith}
 use Rattle.nm_model.specs.declared.event.Op.TheVariants.{Delete}
 use Rattle.nm_order.specs.Facts.Since.{ThePin}
 use Rattle.nm_calls.specs.Telling.{Tells}
@@ -9,24 +9,25 @@ use Rattle.nm_calls.proofs.Adding.{counts_on, adds_then, seeks_adds}
 use Rattle.nm_calls.proofs.AddingDeletes.{flag_won_adds, flag_lost_adds}
 use Rattle.nm_calls.proofs.deleting.try_flag.Goals as goal
 
-pub returns-then-end-key-clause-shows : goal.returns-then-end-key-clause-shows
-returns-then-end-key-clause-shows c =
+pub returns-then-end-sought-clause-shows : goal.returns-then-end-sought-clause-shows
+returns-then-end-sought-clause-shows c =
     let e = c.in-Some.end in
-    ((e.spot.edge.slot, e.key, c.if-end-key.true, (e.spot.parent, e.spot.side, c.in-Some.ensures.found ThePin (Delete, c.requires.call.call))), c.seek.ensures.only.flagged ∙ c.requires.unflagged)
+    ((e.spot.edge.slot, e.key, (rw c.get-sought.ensures.number at c.if-end-sought.true), (e.spot.parent, e.spot.side, (rw c.get-sought.ensures.number at c.in-Some.ensures.came.found) ThePin (Delete, c.requires.call.call))), c.seek.ensures.only.flagged ∙ c.requires.unflagged)
 
 pub flag_at-requires-clause-may : goal.flag_at-requires-clause-may
 flag_at-requires-clause-may c =
-    may_flag_there c.args.pass.now c.seek.new.pass c.args.key c.args.shared.now.layout.nodes c.in-Some.end c.seek.new.chain.items c.requires.call.call c.requires.unflagged c.requires.low c.seek.ensures.on c.seek.ensures.only
-    c.in-Some.ensures.ended c.in-Some.ensures.high c.in-Some.ensures.found c.if-end-key.false
+    let low = c.get-sought.ensures.fits in
+    may_flag_there c.args.pass.now c.seek.new.pass c.get-sought.result c.args.shared.now.layout.nodes c.in-Some.end c.seek.new.chain.items (rw (← c.get-sought.ensures.number) at c.requires.call.call) c.requires.unflagged (omega (arith, low)) c.seek.ensures.on c.seek.ensures.only
+    c.in-Some.ensures.came.ended c.in-Some.ensures.came.high c.in-Some.ensures.came.found c.if-end-sought.false
 
 pub help-requires-clause-at : goal.help-requires-clause-at
 help-requires-clause-at c =
-    at_kept (Tells c.seek.new.pass) (Tells c.flag_at.new.pass) (λ fact holds. c.flag_at.ensures.on.keeps fact holds) c.in-Some.end.spot c.seek.new.chain.items c.in-Some.ensures.ended.at
+    at_kept (Tells c.seek.new.pass) (Tells c.flag_at.new.pass) (λ fact holds. c.flag_at.ensures.on.keeps fact holds) c.in-Some.end.spot c.seek.new.chain.items c.in-Some.ensures.came.ended.at
 
 pub returns-in-Ok-clause-shows : goal.returns-in-Ok-clause-shows
 returns-in-Ok-clause-shows c =
     let w = c.in-Ok.ensures.won in
-    (w.flagged, w.edge, w.born, at_kept (Tells c.seek.new.pass) (Tells c.flag_at.new.pass) (λ fact holds. c.flag_at.ensures.on.keeps fact holds) c.in-Some.end.spot c.seek.new.chain.items c.in-Some.ensures.ended.at, c.in-Some.ensures.few)
+    (w.flagged, w.edge, w.born, at_kept (Tells c.seek.new.pass) (Tells c.flag_at.new.pass) (λ fact holds. c.flag_at.ensures.on.keeps fact holds) c.in-Some.end.spot c.seek.new.chain.items c.in-Some.ensures.came.ended.at, c.in-Some.ensures.came.few)
 
 pub returns-in-Err-clause-on : goal.returns-in-Err-clause-on
 returns-in-Err-clause-on c =
@@ -42,15 +43,15 @@ returns-in-Err-clause-part c =
       w.birth,
       c.in-Err.found,
       c.flag_at.new.pass.view.log,
-      record { ended = c.seek.new.pass.view.log; walk = c.in-Some.ensures.walk; same = c.if-end-key.false; entries = w.part },
+      record { ended = c.seek.new.pass.view.log; walk = rw c.get-sought.ensures.number at c.in-Some.ensures.walk; same = rw c.get-sought.ensures.number at c.if-end-sought.false; entries = w.part },
       c.help.ensures.part,
     ))
 
 pub returns-in_default-clause-kept : goal.returns-in_default-clause-kept
-returns-in_default-clause-kept c = record { queue = search rules; counted = counts_on _ _ _ (seeks_adds c.args.shared.now.layout.nodes c.args.key c.args.pass.now.view.log c.seek.new.pass.view.log c.seek.new.chain.items c.seek.result c.seek.ensures.walk) c.requires.kept.counted }
+returns-in_default-clause-kept c = record { queue = search rules; counted = counts_on _ _ _ (seeks_adds c.args.shared.now.layout.nodes c.get-sought.result c.args.pass.now.view.log c.seek.new.pass.view.log c.seek.new.chain.items c.seek.result c.seek.ensures.walk) c.requires.kept.counted }
 
-pub returns-then-end-key-clause-kept : goal.returns-then-end-key-clause-kept
-returns-then-end-key-clause-kept c = record { queue = search rules; counted = counts_on _ _ _ (seeks_adds c.args.shared.now.layout.nodes c.args.key c.args.pass.now.view.log c.seek.new.pass.view.log c.seek.new.chain.items c.seek.result c.seek.ensures.walk) c.requires.kept.counted }
+pub returns-then-end-sought-clause-kept : goal.returns-then-end-sought-clause-kept
+returns-then-end-sought-clause-kept c = record { queue = search rules; counted = counts_on _ _ _ (seeks_adds c.args.shared.now.layout.nodes c.get-sought.result c.args.pass.now.view.log c.seek.new.pass.view.log c.seek.new.chain.items c.seek.result c.seek.ensures.walk) c.requires.kept.counted }
 
 pub help-requires-clause-kept : goal.help-requires-clause-kept
 help-requires-clause-kept c = record {
@@ -60,7 +61,7 @@ help-requires-clause-kept c = record {
       let mid = c.seek.new.pass.view.log in
       let new = c.flag_at.new.pass.view.log in
       let lost = c.in-Err.ensures.lost in
-      counts_on _ old new (adds_then old mid new (seeks_adds c.args.shared.now.layout.nodes c.args.key c.args.pass.now.view.log c.seek.new.pass.view.log c.seek.new.chain.items c.seek.result c.seek.ensures.walk) (flag_lost_adds c.in-Some.end lost.birth c.in-Err.found mid new lost.part)) c.requires.kept.counted
+      counts_on _ old new (adds_then old mid new (seeks_adds c.args.shared.now.layout.nodes c.get-sought.result c.args.pass.now.view.log c.seek.new.pass.view.log c.seek.new.chain.items c.seek.result c.seek.ensures.walk) (flag_lost_adds c.in-Some.end lost.birth c.in-Err.found mid new lost.part)) c.requires.kept.counted
       );
 }
 
@@ -71,6 +72,14 @@ returns-in-Ok-clause-kept c = record {
       let old = c.args.pass.now.view.log in
       let mid = c.seek.new.pass.view.log in
       let new = c.flag_at.new.pass.view.log in
-      counts_on _ old new (adds_then old mid new (seeks_adds c.args.shared.now.layout.nodes c.args.key c.args.pass.now.view.log c.seek.new.pass.view.log c.seek.new.chain.items c.seek.result c.seek.ensures.walk) (flag_won_adds c.in-Some.end c.in-Ok.birth mid new c.in-Ok.ensures.won.part)) c.requires.kept.counted
+      counts_on _ old new (adds_then old mid new (seeks_adds c.args.shared.now.layout.nodes c.get-sought.result c.args.pass.now.view.log c.seek.new.pass.view.log c.seek.new.chain.items c.seek.result c.seek.ensures.walk) (flag_won_adds c.in-Some.end c.in-Ok.birth mid new c.in-Ok.ensures.won.part)) c.requires.kept.counted
       );
+}
+
+pub returns-in-Ok-clause-part : goal.returns-in-Ok-clause-part
+returns-in-Ok-clause-part c = record {
+  ended = c.seek.new.pass.view.log;
+  walk = rw c.get-sought.ensures.number at c.in-Some.ensures.walk;
+  same = rw c.get-sought.ensures.number at c.if-end-sought.false;
+  entries = c.in-Ok.ensures.won.part;
 }

@@ -7,7 +7,6 @@ pub link-requires-clause-inserts : goal.link-requires-clause-inserts
 link-requires-clause-inserts c =
     let e = c.args.end.now in
     let f = c.args.fork.now in
-    rw c.slot-leaf.ensures
-    (inserting c.args.pass.now c.fill.new.pass c.fill-2.new.pass c.args.key e f c.node_over-node.result c.requires.may
+    inserting c.args.pass.now c.fill.new.pass c.fill-2.new.pass c.args.key e f c.node_over-node.result c.requires.may
     (c.node_over-node.ensures ∙ ap (λ n. inner_of c.args.key e.key n f.fresh.slot) c.slot-leaf.ensures) c.fill.ensures.on c.fill.ensures.only c.fill.ensures.filled c.fill.ensures.others
-    c.fill-2.ensures.on c.fill-2.ensures.only c.fill-2.ensures.filled c.fill-2.ensures.others)
+    c.fill-2.ensures.on c.fill-2.ensures.only c.fill-2.ensures.filled c.fill-2.ensures.others

@@ -17,17 +17,17 @@ returns-clause-after c =
     let old = c.args.pass.now.view.log in
     let a = c.pin_for.new.pass.view.log in
     let new = c.insert_pinned.new.pass.view.log in
-    let part = subst (λ k. Finishes c.args.placement.now nodes c.args.tries k a new c.insert_pinned.result) c.get.ensures.number c.insert_pinned.ensures.part in
+    let part = subst (λ k. Finishes c.args.workspace.now.placement nodes c.args.tries k a new c.insert_pinned.result) c.get.ensures.number c.insert_pinned.ensures.part in
     record {
       same = search rules;
       past = search (rules, seen_all);
-      did = insert_did c.args.placement.now nodes c.args.tries c.args.key old new c.insert_pinned.result (a, c.in-Ok._epoch, c.in-Ok.ensures.pinned, part);
+      did = insert_did c.args.workspace.now.placement nodes c.args.tries c.args.key old new c.insert_pinned.result (a, c.in-Ok._epoch, c.in-Ok.ensures.pinned, part);
       moment = (
-          let pinned : HadNoCall c.args.pass.now c.pin_for.new.pass = record { seen = c.is_of_a_run.ensures.seen; same = c.pin_for.ensures.same; past = c.pin_for.ensures.past; call = ap (λ (s : Search). s.call) c.requires.rests.idle } in
+          let pinned : HadNoCall c.args.pass.now c.pin_for.new.pass = record { seen = c.is_of_a_run.ensures.seen; same = c.pin_for.ensures.on.same; past = c.pin_for.ensures.on.past; call = ap (λ (s : Search). s.call) c.requires.rests.idle } in
           subst (λ k. IfOk c.insert_pinned.result (AnswerHasMoment c.args.pass.now c.insert_pinned.new.pass Insert k)) c.get.ensures.number (c.insert_pinned.ensures.moment c.args.pass.now pinned)
           );
-      won = insert_wins c.args.placement.now nodes c.args.tries c.args.key old a new c.in-Ok._epoch c.in-Ok.ensures.pinned c.insert_pinned.result part;
-      steps = insert_steps c.args.placement.now nodes c.args.tries c.args.key old a new c.in-Ok._epoch c.in-Ok.ensures.pinned c.insert_pinned.result part;
+      won = insert_wins c.args.workspace.now.placement nodes c.args.tries c.args.key old a new c.in-Ok._epoch c.in-Ok.ensures.pinned c.insert_pinned.result part;
+      steps = insert_steps c.args.workspace.now.placement nodes c.args.tries c.args.key old a new c.in-Ok._epoch c.in-Ok.ensures.pinned c.insert_pinned.result part;
       run = search rules;
       rests = search rules;
       private = search rules;
@@ -58,7 +58,7 @@ pub make_room-requires : goal.make_room-requires
 make_room-requires c = record { few = may_grow_first c.args.shared.now c.args.pass.now c.args.queue.now.items c.requires.own c.is_of_a_run.ensures.fits c.requires.few }
 
 pub returns-clause-few : goal.returns-clause-few
-returns-clause-few c = few_in_table c.args.shared.now c.args.pass.now c.insert_pinned.new.pass c.insert_pinned.new.queue.items c.requires.own (search rules) c.insert_pinned.ensures.run c.insert_pinned.ensures.kept.queue
+returns-clause-few c = few_in_table c.args.shared.now c.args.pass.now c.insert_pinned.new.pass c.insert_pinned.new.queue.items c.requires.own (search rules) c.insert_pinned.ensures.on.run c.insert_pinned.ensures.kept.queue
 
 pub returns-clause-blocks : goal.returns-clause-blocks
 returns-clause-blocks c = takes_then c.args.queue.now c.make_room.new.queue c.insert_pinned.new.queue c.make_room.ensures.blocks c.insert_pinned.ensures.blocks

@@ -3,7 +3,7 @@ use Rattle.std.specs.Prelude.{Option, None}
 use Rattle.nm_model.specs.declared.event.Op.TheVariants.{Insert}
 use Rattle.nm_model.specs.Searches.{Search}
 use Rattle.nm_order.specs.Facts.Fact.{CallIs}
-use Rattle.nm_calls.specs.declared.growing.Fork.{Fork}
+use Rattle.nm_calls.specs.declared.making.Fork.{Fork}
 use Rattle.nm_pool.specs.declared.placement.Fit.{Fit}
 use Rattle.nm_calls.specs.declared.inserting.Attempt.TheVariants as attempt
 use Rattle.nm_calls.specs.Inserts.{HasFork, IsTry}
@@ -89,7 +89,7 @@ returns-in-Found-clause-kept c = record {
       let tried = c.try_insert.new.pass.view.log in
       let back = c.give_back-in-Found.new.pass.view.log in
       let new = c.answer.new.pass.view.log in
-      counts_on _ tried new (adds_then tried back new (back_adds c.try_insert.new.fork tried back c.give_back-in-Found.ensures.part) (adds_these _ back new (ap (λ (s : Stand). s.view.log) c.answer.ensures.step))) c.try_insert.ensures.kept.counted
+      counts_on _ tried new (adds_then tried back new (back_adds c.try_insert.new.fork tried back c.give_back-in-Found.ensures.part) (adds_these _ back new (ap (λ (s : Stand). s.view.log) c.answer.ensures.took.step))) c.try_insert.ensures.kept.counted
       );
 }
 
@@ -103,7 +103,7 @@ returns-then-not-make_room-clause-part c = (
   c.loop-round-test.true,
   c.loop-round.invariant.lost,
   c.give_back.ensures.part,
-  ap (λ (s : Stand). s.view.log) c.leave.ensures.step,
+  ap (λ (s : Stand). s.view.log) c.leave.ensures.took.step,
 )
 
 pub returns-then-not-make_room-clause-blocks : goal.returns-then-not-make_room-clause-blocks
@@ -120,7 +120,7 @@ returns-in-Full-clause-blocks c = takes_fills c.args.queue.now c.make_room.new.q
 
 pub returns-in-Full-clause-part : goal.returns-in-Full-clause-part
 returns-in-Full-clause-part c =
-    let h : IsTry c.args.placement.now c.args.shared.now.layout.nodes c.args.key c.loop-round.fork c.try_insert.new.fork c.loop-round.pass.view.log c.try_insert.new.pass.view.log attempt.Full =
+    let h : IsTry c.args.workspace.now.placement c.args.shared.now.layout.nodes c.args.key c.loop-round.fork c.try_insert.new.fork c.loop-round.pass.view.log c.try_insert.new.pass.view.log attempt.Full =
     subst (λ (f : Fit). IsTry f c.args.shared.now.layout.nodes c.args.key c.loop-round.fork c.try_insert.new.fork c.loop-round.pass.view.log c.try_insert.new.pass.view.log attempt.Full) c.loop-round.invariant.fit c.in-Full.ensures.part in
-    let full : IsTry c.args.placement.now c.args.shared.now.layout.nodes c.args.key c.loop-round.fork None c.loop-round.pass.view.log c.try_insert.new.pass.view.log attempt.Full = (h.0, h.1, h.2, h.3, h.4, h.5, refl, h.7) in
-    (c.try_insert.new.pass.view.log, (c.loop-round._round, c.loop-round.fork, c.loop-round.pass.view.log, c.loop-round-test.true, c.loop-round.invariant.lost, full), ap (λ (s : Stand). s.view.log) c.leave-in-Full.ensures.step)
+    let full : IsTry c.args.workspace.now.placement c.args.shared.now.layout.nodes c.args.key c.loop-round.fork None c.loop-round.pass.view.log c.try_insert.new.pass.view.log attempt.Full = (h.0, h.1, h.2, h.3, h.4, h.5, refl, h.7) in
+    (c.try_insert.new.pass.view.log, (c.loop-round._round, c.loop-round.fork, c.loop-round.pass.view.log, c.loop-round-test.true, c.loop-round.invariant.lost, full), ap (λ (s : Stand). s.view.log) c.leave-in-Full.ensures.took.step)

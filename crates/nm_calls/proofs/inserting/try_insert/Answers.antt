@@ -14,7 +14,7 @@ use Rattle.nm_calls.proofs.inserting.try_insert.Goals as goal
 pub returns-then-end-key-clause-shows : goal.returns-then-end-key-clause-shows
 returns-then-end-key-clause-shows c =
     let e = c.in-Some.end in
-    let ended = c.in-Some.ensures.found ThePin (Insert, c.requires.call.call) in
+    let ended = c.in-Some.ensures.came.found ThePin (Insert, c.requires.call.call) in
     ((e.spot.edge.slot, (e.spot.parent, e.spot.side, subst (λ n. Tells c.seek.new.pass (EndedAt ThePin c.args.key e.spot.edge.slot e.spot.parent e.spot.side n)) c.if-end-key.true ended)), c.seek.ensures.only.linked)
 
 pub returns-in_default-ready-clause-has : goal.returns-in_default-ready-clause-has
@@ -26,12 +26,12 @@ grow-requires-clause-may c =
     let has = c.ready.ensures.has o (kept_fork o c.args.pass.now c.seek.new.pass c.args.fork.now c.seek.ensures.on.same c.seek.ensures.only.private c.requires.fork.1) in
     let made = held_fork o c.ready.new.pass c.ready.new.fork c.in-Some-ready.made c.in-Some-ready.ensures.part.0 has in
     may_grow c.args.shared.now c.args.pass.now c.seek.new.pass c.ready.new.pass c.args.key c.in-Some.end c.seek.new.chain.items c.in-Some-ready.made (search rules) c.requires.call.call c.requires.unlinked
-    c.seek.ensures.on c.seek.ensures.only c.in-Some.ensures.ended c.in-Some.ensures.found c.if-end-key.false c.ready.ensures.on c.ready.ensures.only made.ready
+    c.seek.ensures.on c.seek.ensures.only c.in-Some.ensures.came.ended c.in-Some.ensures.came.found c.if-end-key.false c.ready.ensures.on c.ready.ensures.only made.ready
 
 pub help-requires-clause-at : goal.help-requires-clause-at
 help-requires-clause-at c =
     let on = goes_then c.seek.new.pass c.ready.new.pass c.grow.new.pass c.ready.ensures.on c.grow.ensures.on in
-    at_kept (Tells c.seek.new.pass) (Tells c.grow.new.pass) (λ fact holds. on.keeps fact holds) c.in-Some.end.spot c.seek.new.chain.items c.in-Some.ensures.ended.at
+    at_kept (Tells c.seek.new.pass) (Tells c.grow.new.pass) (λ fact holds. on.keeps fact holds) c.in-Some.end.spot c.seek.new.chain.items c.in-Some.ensures.came.ended.at
 
 pub returns-in-Ok-clause-on : goal.returns-in-Ok-clause-on
 returns-in-Ok-clause-on c =
@@ -71,7 +71,7 @@ returns-in_default-ready-clause-kept c = record {
       let old = c.args.pass.now.view.log in
       let mid = c.seek.new.pass.view.log in
       let claimed = c.ready.new.pass.view.log in
-      counts_on _ old claimed (adds_then old mid claimed (seeks_adds c.args.shared.now.layout.nodes c.args.key c.args.pass.now.view.log c.seek.new.pass.view.log c.seek.new.chain.items c.seek.result c.seek.ensures.walk) (readied_adds c.args.placement.now nodes c.args.fork.now c.ready.new.fork c.ready.result mid claimed c.ready.ensures.part)) c.requires.kept.counted
+      counts_on _ old claimed (adds_then old mid claimed (seeks_adds c.args.shared.now.layout.nodes c.args.key c.args.pass.now.view.log c.seek.new.pass.view.log c.seek.new.chain.items c.seek.result c.seek.ensures.walk) (readied_adds c.args.workspace.now.placement nodes c.args.fork.now c.ready.new.fork c.ready.result mid claimed c.ready.ensures.part)) c.requires.kept.counted
       );
 }
 
@@ -84,7 +84,7 @@ help-requires-clause-kept c = record {
       let mid = c.seek.new.pass.view.log in
       let claimed = c.ready.new.pass.view.log in
       let new = c.grow.new.pass.view.log in
-      counts_on _ old new (adds_then old mid new (seeks_adds c.args.shared.now.layout.nodes c.args.key c.args.pass.now.view.log c.seek.new.pass.view.log c.seek.new.chain.items c.seek.result c.seek.ensures.walk) (adds_then mid claimed new (readied_adds c.args.placement.now nodes c.args.fork.now c.ready.new.fork c.ready.result mid claimed c.ready.ensures.part) (grows_lost c.args.key c.in-Some.end c.in-Some-ready.made c.in-Err.found claimed new c.in-Err.ensures.lost.part))) c.requires.kept.counted
+      counts_on _ old new (adds_then old mid new (seeks_adds c.args.shared.now.layout.nodes c.args.key c.args.pass.now.view.log c.seek.new.pass.view.log c.seek.new.chain.items c.seek.result c.seek.ensures.walk) (adds_then mid claimed new (readied_adds c.args.workspace.now.placement nodes c.args.fork.now c.ready.new.fork c.ready.result mid claimed c.ready.ensures.part) (grows_lost c.args.key c.in-Some.end c.in-Some-ready.made c.in-Err.found claimed new c.in-Err.ensures.lost.part))) c.requires.kept.counted
       );
 }
 
@@ -97,7 +97,7 @@ returns-in-Ok-clause-kept c = record {
       let mid = c.seek.new.pass.view.log in
       let claimed = c.ready.new.pass.view.log in
       let new = c.grow.new.pass.view.log in
-      counts_on _ old new (adds_then old mid new (seeks_adds c.args.shared.now.layout.nodes c.args.key c.args.pass.now.view.log c.seek.new.pass.view.log c.seek.new.chain.items c.seek.result c.seek.ensures.walk) (adds_then mid claimed new (readied_adds c.args.placement.now nodes c.args.fork.now c.ready.new.fork c.ready.result mid claimed c.ready.ensures.part) (grows_won c.args.key c.in-Some.end c.in-Some-ready.made claimed new c.in-Ok.ensures.won.part))) c.requires.kept.counted
+      counts_on _ old new (adds_then old mid new (seeks_adds c.args.shared.now.layout.nodes c.args.key c.args.pass.now.view.log c.seek.new.pass.view.log c.seek.new.chain.items c.seek.result c.seek.ensures.walk) (adds_then mid claimed new (readied_adds c.args.workspace.now.placement nodes c.args.fork.now c.ready.new.fork c.ready.result mid claimed c.ready.ensures.part) (grows_won c.args.key c.in-Some.end c.in-Some-ready.made claimed new c.in-Ok.ensures.won.part))) c.requires.kept.counted
       );
 }
 

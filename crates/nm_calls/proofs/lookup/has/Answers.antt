@@ -49,7 +49,7 @@ returns c =
     let a = c.pin_for.new.pass.view.log in
     let p = c.loop-walk.pass.view.log in
     let new = c.unpin.new.pass.view.log in
-    let left = ap (λ (s : Stand). s.view.log) c.unpin.ensures.step in
+    let left = ap (λ (s : Stand). s.view.log) c.unpin.ensures.took.step in
     let pin = pin_adds Has c.args.key tries old a c.in-Ok._epoch c.in-Ok.ensures.pinned in
     let lost = lost_walks_add nodes c.args.key c.loop-walk._walk a p c.loop-walk.invariant.lost in
     let last = adds_these _ p new left in
@@ -104,7 +104,7 @@ returns-in-Some c =
     let q = c.find.new.pass.view.log in
     let new = c.leave_with.new.pass.view.log in
     let found = c.in-Some.found in
-    let left = ap (λ (s : Stand). s.view.log) c.leave_with.ensures.step in
+    let left = ap (λ (s : Stand). s.view.log) c.leave_with.ensures.took.step in
     let pin = pin_adds Has c.args.key tries old a c.in-Ok._epoch c.in-Ok.ensures.pinned in
     let lost = lost_walks_add nodes c.args.key c.loop-walk._walk a p c.loop-walk.invariant.lost in
     let last = adds_these _ q new left in
@@ -136,7 +136,7 @@ returns-in-Some c =
           let o = c.args.pass.now in
           let begun = c.pin_for.new.pass in
           let call = call_is begun c.in-Ok._epoch Has c.args.key c.in-Ok.ensures.at in
-          let pinned : HadNoCall o begun = record { seen = c.is_of_a_run.ensures.seen; same = c.pin_for.ensures.same; past = c.pin_for.ensures.past; call = ap (λ (s : Search). s.call) c.requires.rests.idle } in
+          let pinned : HadNoCall o begun = record { seen = c.is_of_a_run.ensures.seen; same = c.pin_for.ensures.on.same; past = c.pin_for.ensures.on.past; call = ap (λ (s : Search). s.call) c.requires.rests.idle } in
           let walked = no_call_on o c.loop-walk.pass c.find.new.pass (no_call_on o begun c.loop-walk.pass pinned c.loop-walk.invariant.on.same c.loop-walk.invariant.on.past) c.find.ensures.on.same c.find.ensures.on.past in
           c.leave_with.ensures.moment o Has c.args.key walked (c.in-Some.ensures.on.keeps (CallIs Has c.args.key) (c.loop-walk.invariant.on.keeps (CallIs Has c.args.key) call))
           );

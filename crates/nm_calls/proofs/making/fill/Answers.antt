@@ -18,7 +18,7 @@ fill_edge-requires-clause-may c =
     let q = c.fill_key.new.pass in
     let s = c.args.slot in
     may_fill_edge q s (fillable_still p q s KeyOf _ c.fill_key.ensures.step refl (fillable p s c.requires.born c.holds_pooled_slots.ensures))
-    Left c.args.left (subst (λ (x : Stand). c.args.left ≤ x.view.layout.nodes) (sym c.fill_key.ensures.step) c.requires.left)
+    Left c.args.node.now.left (subst (λ (x : Stand). c.args.node.now.left ≤ x.view.layout.nodes) (sym c.fill_key.ensures.step) c.requires.left)
 
 pub fill_edge-requires-2-clause-may : goal.fill_edge-requires-2-clause-may
 fill_edge-requires-2-clause-may c =
@@ -26,8 +26,8 @@ fill_edge-requires-2-clause-may c =
     let q = c.fill_key.new.pass in
     let r = c.fill_edge.new.pass in
     let s = c.args.slot in
-    may_fill_edge r s (fillable_still q r s (EdgeOn Left) c.args.left c.fill_edge.ensures.step refl (fillable_still p q s KeyOf _ c.fill_key.ensures.step refl (fillable p s c.requires.born c.holds_pooled_slots.ensures)))
-    Right c.args.right (subst (λ (x : Stand). c.args.right ≤ x.view.layout.nodes) (sym c.fill_edge.ensures.step) (subst (λ (x : Stand). c.args.right ≤ x.view.layout.nodes) (sym c.fill_key.ensures.step) c.requires.right))
+    may_fill_edge r s (fillable_still q r s (EdgeOn Left) c.args.node.now.left c.fill_edge.ensures.step refl (fillable_still p q s KeyOf _ c.fill_key.ensures.step refl (fillable p s c.requires.born c.holds_pooled_slots.ensures)))
+    Right c.args.node.now.right (subst (λ (x : Stand). c.args.node.now.right ≤ x.view.layout.nodes) (sym c.fill_edge.ensures.step) (subst (λ (x : Stand). c.args.node.now.right ≤ x.view.layout.nodes) (sym c.fill_key.ensures.step) c.requires.right))
 
 pub returns-clause-filled : goal.returns-clause-filled
 returns-clause-filled c =
@@ -35,10 +35,10 @@ returns-clause-filled c =
     let q = c.fill_key.new.pass in
     let r = c.fill_edge.new.pass in
     let s = c.args.slot in
-    filled_there r c.fill_edge-2.new.pass s (EdgeOn Right) c.args.right c.fill_edge-2.ensures.step
-    ∙ ap (λ (d : Draft). Some (filled_in d (EdgeOn Right) c.args.right))
-    (filled_draft q r s (EdgeOn Left) c.args.left c.fill_edge.ensures.step
-    ∙ ap (λ (d : Draft). filled_in d (EdgeOn Left) c.args.left) (filled_draft p q s KeyOf _ c.fill_key.ensures.step))
+    filled_there r c.fill_edge-2.new.pass s (EdgeOn Right) c.args.node.now.right c.fill_edge-2.ensures.step
+    ∙ ap (λ (d : Draft). Some (filled_in d (EdgeOn Right) c.args.node.now.right))
+    (filled_draft q r s (EdgeOn Left) c.args.node.now.left c.fill_edge.ensures.step
+    ∙ ap (λ (d : Draft). filled_in d (EdgeOn Left) c.args.node.now.left) (filled_draft p q s KeyOf _ c.fill_key.ensures.step))
 
 pub returns-clause-others : goal.returns-clause-others
 returns-clause-others c =
@@ -46,8 +46,8 @@ returns-clause-others c =
     let q = c.fill_key.new.pass in
     let r = c.fill_edge.new.pass in
     let s = c.args.slot in
-    λ x ne. filled_others r c.fill_edge-2.new.pass s (EdgeOn Right) c.args.right c.fill_edge-2.ensures.step x ne
-    ∙ (filled_others q r s (EdgeOn Left) c.args.left c.fill_edge.ensures.step x ne ∙ filled_others p q s KeyOf _ c.fill_key.ensures.step x ne)
+    λ x ne. filled_others r c.fill_edge-2.new.pass s (EdgeOn Right) c.args.node.now.right c.fill_edge-2.ensures.step x ne
+    ∙ (filled_others q r s (EdgeOn Left) c.args.node.now.left c.fill_edge.ensures.step x ne ∙ filled_others p q s KeyOf _ c.fill_key.ensures.step x ne)
 
 pub returns-clause-only : goal.returns-clause-only
 returns-clause-only c =
@@ -56,8 +56,8 @@ returns-clause-only c =
     let r = c.fill_edge.new.pass in
     let s = c.args.slot in
     let t = c.fill_edge-2.new.pass in
-    both_make p r t (both_make p q r (only_filled p q s KeyOf _ c.fill_key.ensures.step) (only_filled q r s (EdgeOn Left) c.args.left c.fill_edge.ensures.step))
-    (only_filled r t s (EdgeOn Right) c.args.right c.fill_edge-2.ensures.step)
+    both_make p r t (both_make p q r (only_filled p q s KeyOf _ c.fill_key.ensures.step) (only_filled q r s (EdgeOn Left) c.args.node.now.left c.fill_edge.ensures.step))
+    (only_filled r t s (EdgeOn Right) c.args.node.now.right c.fill_edge-2.ensures.step)
 
 pub returns-clause-on : goal.returns-clause-on
 returns-clause-on c =

@@ -3,7 +3,7 @@ use Rattle.nm_model.specs.declared.knowledge.Brief.{Brief}
 use Rattle.nm_model.specs.Searches.{Search}
 use Rattle.nm_model.specs.Walks.{Entry}
 use Rattle.nm_steps.specs.Steps.{Stand, IsSamePass}
-use Rattle.nm_steps.proofs.Seeing.{seen_through, seen_all}
+use Rattle.nm_steps.proofs.Seeing.{seen_through, seen_by_turn, seen_all}
 use Rattle.nm_epoch.proofs.Allowed.{may_leave}
 use Rattle.nm_calls.specs.InTurns.{most_looks}
 use Rattle.nm_calls.specs.PlainWalks.{LooksUnderPin}
@@ -38,7 +38,7 @@ returns-then-ended c =
     let most = most_looks c.args.shared.now.layout.nodes (length c.args.queries.now) in
     let old = c.args.pass.now.view.log in
     let new = c.unpin.new.pass.view.log in
-    let did : LooksUnderPin c.args.tries most old new = record { pinned = c.pin.new.pass.view.log; epoch = c.in-Ok._epoch; pin = c.in-Ok.ensures.pinned; looked = c.walk_all-ended.new.pass.view.log; looks = c.walk_all-ended.ensures.looks; leaves = ap (λ (s : Stand). s.view.log) c.unpin.ensures.step } in
+    let did : LooksUnderPin c.args.tries most old new = record { pinned = c.pin.new.pass.view.log; epoch = c.in-Ok._epoch; pin = c.in-Ok.ensures.pinned; looked = c.walk_all-ended.new.pass.view.log; looks = c.walk_all-ended.ensures.looks; leaves = ap (λ (s : Stand). s.view.log) c.unpin.ensures.took.step } in
     let added = call_adds c.args.tries most old new did in
     record {
       same = search rules;
@@ -52,8 +52,8 @@ returns-then-ended c =
           let q = c.unpin.new.pass in
           let walked = c.walk_all-ended.ensures in
           let first : IsSamePass o p = search rules in
-          let last : IsSamePass p q = c.unpin.ensures.step ∙ ap (λ (l : List Entry). record p { view = record p.view { log = l; past = q.view.past } }) (sym (ap (λ (s : Stand). s.view.log) c.unpin.ensures.step)) in
-          all_were_so o p q c.is_of_a_run.ensures.seen c.is_of_a_run.ensures.fits c.requires.rests.unpinned first (seen_through o a p c.pin.ensures.past walked.on.past) c.is_of_a_run-2.ensures.seen last c.unpin.ensures.past
+          let last : IsSamePass p q = c.unpin.ensures.took.step ∙ ap (λ (l : List Entry). record p { view = record p.view { log = l; past = q.view.past } }) (sym (ap (λ (s : Stand). s.view.log) c.unpin.ensures.took.step)) in
+          all_were_so o p q c.is_of_a_run.ensures.seen c.is_of_a_run.ensures.fits c.requires.rests.unpinned first (seen_through o a p c.pin.ensures.on.past walked.on.past) c.is_of_a_run-2.ensures.seen last (seen_by_turn _ _ _ c.unpin.ensures.took.past)
           c.walk_all-ended.new.queries walked.under_way (walked.ended c.if-ended.true)
           );
       missed = search rules;
@@ -69,7 +69,7 @@ returns-else-ended c =
     let most = most_looks c.args.shared.now.layout.nodes (length c.args.queries.now) in
     let old = c.args.pass.now.view.log in
     let new = c.unpin.new.pass.view.log in
-    let did : LooksUnderPin c.args.tries most old new = record { pinned = c.pin.new.pass.view.log; epoch = c.in-Ok._epoch; pin = c.in-Ok.ensures.pinned; looked = c.walk_all-ended.new.pass.view.log; looks = c.walk_all-ended.ensures.looks; leaves = ap (λ (s : Stand). s.view.log) c.unpin.ensures.step } in
+    let did : LooksUnderPin c.args.tries most old new = record { pinned = c.pin.new.pass.view.log; epoch = c.in-Ok._epoch; pin = c.in-Ok.ensures.pinned; looked = c.walk_all-ended.new.pass.view.log; looks = c.walk_all-ended.ensures.looks; leaves = ap (λ (s : Stand). s.view.log) c.unpin.ensures.took.step } in
     let added = call_adds c.args.tries most old new did in
     record {
       same = search rules;

@@ -4,7 +4,7 @@ use Rattle.nm_model.specs.declared.knowledge.Brief.{Brief}
 use Rattle.nm_model.specs.Searches.{Search}
 use Rattle.nm_model.specs.Walks.{Entry}
 use Rattle.nm_steps.specs.Steps.{Stand, IsSamePass}
-use Rattle.nm_steps.proofs.Seeing.{seen_through, seen_all}
+use Rattle.nm_steps.proofs.Seeing.{seen_through, seen_by_turn, seen_all}
 use Rattle.nm_epoch.proofs.Allowed.{may_leave}
 use Rattle.nm_calls.specs.NextKeys.{IsNextBy}
 use Rattle.nm_calls.specs.PlainWalks.{HasEndedSo, WasSo, most_looks, LooksUnderPin}
@@ -38,7 +38,7 @@ returns c =
     let most = c.args.tries * most_looks c.args.shared.now.layout.nodes 1 in
     let old = c.args.pass.now.view.log in
     let new = c.unpin.new.pass.view.log in
-    let did : LooksUnderPin c.args.tries most old new = record { pinned = c.pin.new.pass.view.log; epoch = c.in-Ok._epoch; pin = c.in-Ok.ensures.pinned; looked = c.walk_up-found.new.pass.view.log; looks = c.walk_up-found.ensures.looks; leaves = ap (λ (s : Stand). s.view.log) c.unpin.ensures.step } in
+    let did : LooksUnderPin c.args.tries most old new = record { pinned = c.pin.new.pass.view.log; epoch = c.in-Ok._epoch; pin = c.in-Ok.ensures.pinned; looked = c.walk_up-found.new.pass.view.log; looks = c.walk_up-found.ensures.looks; leaves = ap (λ (s : Stand). s.view.log) c.unpin.ensures.took.step } in
     let added = call_adds c.args.tries most old new did in
     record {
       same = search rules;
@@ -51,8 +51,8 @@ returns c =
           let q = c.unpin.new.pass in
           let walked = c.walk_up-found.ensures in
           let first : IsSamePass o p = search rules in
-          let last : IsSamePass p q = c.unpin.ensures.step ∙ ap (λ (l : List Entry). record p { view = record p.view { log = l; past = q.view.past } }) (sym (ap (λ (s : Stand). s.view.log) c.unpin.ensures.step)) in
-          let so = was_so o p q c.is_of_a_run.ensures.seen c.is_of_a_run.ensures.fits c.requires.rests.unpinned first (seen_through o a p c.pin.ensures.past walked.on.past) c.is_of_a_run-2.ensures.seen last c.unpin.ensures.past in
+          let last : IsSamePass p q = c.unpin.ensures.took.step ∙ ap (λ (l : List Entry). record p { view = record p.view { log = l; past = q.view.past } }) (sym (ap (λ (s : Stand). s.view.log) c.unpin.ensures.took.step)) in
+          let so = was_so o p q c.is_of_a_run.ensures.seen c.is_of_a_run.ensures.fits c.requires.rests.unpinned first (seen_through o a p c.pin.ensures.on.past walked.on.past) c.is_of_a_run-2.ensures.seen last (seen_by_turn _ _ _ c.unpin.ensures.took.past) in
           IfOk-weaker c.walk_up-found.result _ _ (λ found n. next_by (HasEndedSo p) (WasSo o q) so c.args.key found (subst (λ (k : ℕ). IsNextBy (HasEndedSo p) k found) c.get.ensures.number n)) walked.next
           );
       missed = search rules;

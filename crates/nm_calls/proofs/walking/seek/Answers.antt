@@ -1,91 +1,63 @@
-use Rattle.std.proofs.Common.{rules, ◌≡◌, [], refl, ap, subst, sym, ◌∙◌, arith}
+use Rattle.std.proofs.Common.{◌≢◌, ◌+◌, ap, subst, sym, ◌∙◌, arith}
 use Rattle.nm_edge.specs.Layouts.{Layout}
-use Rattle.nm_order.specs.Facts.Fact.{KnowsSlot}
-use Rattle.nm_steps.specs.Steps.{Stand}
-use Rattle.nm_calls.specs.Telling.{Tells, OnwardTold}
-use Rattle.nm_calls.specs.Walks.{Reads}
-use Rattle.nm_calls.proofs.Adding.{reads_add, walk_adds}
-use Rattle.nm_calls.proofs.GoingOn.{goes_then, only_then, pinned_in_still, come_first, come_on, found_so}
-use Rattle.nm_calls.proofs.Standing.{walk_on, at_kept, at_begin, at_onto}
+use Rattle.nm_calls.specs.Telling.{OnwardTold}
+use Rattle.nm_calls.specs.Walks.{Reads, IsWalking}
+use Rattle.nm_calls.proofs.Adding.{end_adds, reads_add, walk_adds}
+use Rattle.nm_calls.proofs.GoingOn.{pinned_in_still}
+use Rattle.nm_calls.proofs.Walked.{walks_on, walks_out}
 use Rattle.nm_calls.proofs.walking.seek.Goals as goal
 
 pub read_node-on-requires-clause-pinned : goal.read_node-on-requires-clause-pinned
-read_node-on-requires-clause-pinned c = pinned_in_still c.args.shared.now c.args.pass.now c.loop-below.pass c.loop-below.invariant.on c.requires.pinned
-
-pub returns-then-slot-eq0-clause-found : goal.returns-then-slot-eq0-clause-found
-returns-then-slot-eq0-clause-found c =
-    let p = c.loop-below.pass in
-    let q = c.read_node-on.new.pass in
-    let t = c.loop-below.spot in
-    let on = c.read_node-on.result in
-    let told : OnwardTold p q c.args.key t.edge.slot on.found on.side on.next = subst (λ n. OnwardTold p q c.args.key n on.found on.side on.next) c.slot-node.ensures c.read_node-on.ensures.told in
-    rw (c.end_at.ensures.spot, c.end_at.ensures.key) (found_so c.args.pass.now p q c.args.key on.found t on.side on.next c.loop-below.invariant.come told (sym c.slot.ensures ∙ c.if-slot-eq0.true))
+read_node-on-requires-clause-pinned c = pinned_in_still c.args.shared.now c.args.pass.now c.loop-below.pass c.loop-below.invariant.walking.on c.requires.pinned
 
 pub loop-below-preserved : goal.loop-below-preserved
 loop-below-preserved c =
-    let o = c.args.pass.now in
     let p = c.loop-below.pass in
     let q = c.read_node-on.new.pass in
     let t = c.loop-below.spot in
     let on = c.read_node-on.result in
-    let some = λ (null : on.next.slot ≡ 0). c.if-slot-eq0.false (c.slot.ensures ∙ null) in
+    let nodes = c.args.shared.now.layout.nodes in
+    let some : on.next.slot ≢ 0 = λ null. c.if-slot-eq0.false (c.slot.ensures ∙ null) in
     let told : OnwardTold p q c.args.key t.edge.slot on.found on.side on.next = subst (λ n. OnwardTold p q c.args.key n on.found on.side on.next) c.slot-node.ensures c.read_node-on.ensures.told in
     let read : Reads c.args.key t.edge.slot p.view.log q.view.log on = subst (λ n. Reads c.args.key n p.view.log q.view.log on) c.slot-node.ensures c.read_node-on.ensures.looks in
     let more = c.extend.ensures.more c.if-not-extend.false in
-    let kept = at_kept (Tells p) (Tells q) c.read_node-on.ensures.on.keeps t c.loop-below.chain.items c.loop-below.invariant.at in
+    let below = c.loop-below-test.true in
+    let size = c.nodes-below-end.ensures.nodes in
+    let layout = ap (λ (L : Layout). L.nodes) c.layout-layout.ensures in
     record {
-      walk = rw more (walk_on c.args.key c.loop-below._below o.view.log p.view.log q.view.log t c.further-spot.result c.loop-below.chain.items on c.loop-below.invariant.walk read c.further-spot.ensures.spot some);
-      at = rw (c.further-spot.ensures.spot, more) (at_onto (Tells q) t c.loop-below.chain.items on.side on.next kept told.learned some);
-      within = rw c.further-spot.ensures.edge c.read_node-on.ensures.within;
-      short = c.extend.ensures.short c.if-not-extend.false;
-      on = goes_then o p q c.loop-below.invariant.on c.read_node-on.ensures.on;
-      only = only_then o p q c.loop-below.invariant.only c.read_node-on.ensures.only;
-      come = come_on o p q c.args.key on.found t c.further-spot.result on.side on.next c.loop-below.invariant.come told some c.further-spot.ensures.spot;
+      inside = omega (arith, below, size, layout);
+      walking = subst (λ chain. IsWalking nodes c.args.key (c.loop-below._below + 1) c.args.pass.now q c.further-spot.result chain) (sym more)
+          (walks_on nodes c.args.key c.loop-below._below c.args.pass.now p q t c.loop-below.chain.items on c.loop-below.invariant.walking read c.read_node-on.ensures.on c.read_node-on.ensures.only told
+          some c.read_node-on.ensures.within (rw (← more) (c.extend.ensures.short c.if-not-extend.false)) c.further-spot.result c.further-spot.ensures.spot c.further-spot.ensures.edge);
     }
 
-pub returns-then-slot-eq0-clause-ended : goal.returns-then-slot-eq0-clause-ended
-returns-then-slot-eq0-clause-ended c =
+pub returns-then-slot-eq0-clause-came : goal.returns-then-slot-eq0-clause-came
+returns-then-slot-eq0-clause-came c =
     let p = c.loop-below.pass in
     let q = c.read_node-on.new.pass in
     let t = c.loop-below.spot in
     let on = c.read_node-on.result in
     let told : OnwardTold p q c.args.key t.edge.slot on.found on.side on.next = subst (λ n. OnwardTold p q c.args.key n on.found on.side on.next) c.slot-node.ensures c.read_node-on.ensures.told in
-    rw c.end_at.ensures.spot
-    (record {
-      at = at_kept (Tells p) (Tells q) c.read_node-on.ensures.on.keeps t c.loop-below.chain.items c.loop-below.invariant.at;
-      leaf = told.learned.leaf (sym c.slot.ensures ∙ c.if-slot-eq0.true);
-      within = c.loop-below.invariant.within;
-    })
-
-pub loop-below-init : goal.loop-below-init
-loop-below-init c =
-    let o = c.args.pass.now in
-    let p = c.look_edge.new.pass in
-    let e = c.look_edge.result in
-    let some = c.look_edge.ensures.told.root refl refl in
-    let none' : c.clear.new.self.items ≡ [] = search rules in
-    record {
-      walk = rw (c.first-spot.ensures, none') (refl, refl, some, ap (λ (s : Stand). s.view.log) c.look_edge.ensures.step);
-      at = rw (c.first-spot.ensures, none') (at_begin (Tells p) e (c.look_edge.ensures.on.keeps (KnowsSlot 1) c.requires.root) (c.look_edge.ensures.on.keeps (KnowsSlot 2) c.requires.known) c.look_edge.ensures.told.learned some);
-      within = rw c.first-spot.ensures (rw (← c.requires.pinned.own.layout) c.look_edge.ensures.told.within);
-      short = rw none' (omega arith);
-      on = c.look_edge.ensures.on;
-      only = c.look_edge.ensures.only;
-      come = come_first o p c.args.key e c.first-spot.result c.look_edge.ensures.told c.first-spot.ensures;
-    }
-
-pub returns-then-slot-eq0-clause-steps : goal.returns-then-slot-eq0-clause-steps
-returns-then-slot-eq0-clause-steps c =
-    let above = (walk_adds c.args.key c.loop-below._below c.args.pass.now.view.log c.loop-below.pass.view.log c.loop-below.spot c.loop-below.chain.items c.loop-below.invariant.walk).steps in
-    let last = (reads_add c.args.key c.slot-node.result c.loop-below.pass.view.log c.read_node-on.new.pass.view.log c.read_node-on.result c.read_node-on.ensures.looks).steps in
+    let read : Reads c.args.key t.edge.slot p.view.log q.view.log on = subst (λ n. Reads c.args.key n p.view.log q.view.log on) c.slot-node.ensures c.read_node-on.ensures.looks in
     let below = c.loop-below-test.true in
     let nodes = c.nodes-below-end.ensures.nodes in
     let layout = ap (λ (L : Layout). L.nodes) c.layout-layout.ensures in
-    omega (arith, above, last, below, nodes, layout)
+    walks_out c.args.shared.now.layout.nodes c.args.key c.loop-below._below c.args.pass.now p q t c.loop-below.chain.items on c.loop-below.invariant.walking read c.read_node-on.ensures.on c.read_node-on.ensures.only told
+    (sym c.slot.ensures ∙ c.if-slot-eq0.true) (omega (arith, below, nodes, layout)) c.end_at.result c.end_at.ensures.spot c.end_at.ensures.key
+
+pub returns-then-slot-eq0-clause-walk : goal.returns-then-slot-eq0-clause-walk
+returns-then-slot-eq0-clause-walk c = let came = returns-then-slot-eq0-clause-came c in (came.walk, came.few)
+
+pub returns-in-Ended-clause-steps : goal.returns-in-Ended-clause-steps
+returns-in-Ended-clause-steps c = (end_adds c.args.shared.now.layout.nodes c.args.key c.args.pass.now.view.log c.descend.new.pass.view.log c.in-Ended.end.spot _ c.in-Ended.end.key c.in-Ended.ensures.came.walk).steps
+
+pub returns-then-slot-eq0-clause-steps : goal.returns-then-slot-eq0-clause-steps
+returns-then-slot-eq0-clause-steps c =
+    (end_adds c.args.shared.now.layout.nodes c.args.key c.args.pass.now.view.log c.read_node-on.new.pass.view.log c.end_at.result.spot c.loop-below.chain.items c.end_at.result.key (returns-then-slot-eq0-clause-came c).walk).steps
 
 pub returns-then-not-extend-clause-steps : goal.returns-then-not-extend-clause-steps
 returns-then-not-extend-clause-steps c =
-    let above = (walk_adds c.args.key c.loop-below._below c.args.pass.now.view.log c.loop-below.pass.view.log c.loop-below.spot c.loop-below.chain.items c.loop-below.invariant.walk).steps in
+    let above = (walk_adds c.args.key c.loop-below._below c.args.pass.now.view.log c.loop-below.pass.view.log c.loop-below.spot c.loop-below.chain.items c.loop-below.invariant.walking.walk).steps in
     let last = (reads_add c.args.key c.slot-node.result c.loop-below.pass.view.log c.read_node-on.new.pass.view.log c.read_node-on.result c.read_node-on.ensures.looks).steps in
     let below = c.loop-below-test.true in
     let nodes = c.nodes-below-end.ensures.nodes in
@@ -94,8 +66,6 @@ returns-then-not-extend-clause-steps c =
 
 pub returns-clause-steps : goal.returns-clause-steps
 returns-clause-steps c =
-    let above = (walk_adds c.args.key c.loop-below._below c.args.pass.now.view.log c.loop-below.pass.view.log c.loop-below.spot c.loop-below.chain.items c.loop-below.invariant.walk).steps in
-    let within = c.loop-below.auto._below-end in
-    let nodes = c.nodes-below-end.ensures.nodes in
-    let layout = ap (λ (L : Layout). L.nodes) c.layout-layout.ensures in
-    omega (arith, above, within, nodes, layout)
+    let above = (walk_adds c.args.key c.loop-below._below c.args.pass.now.view.log c.loop-below.pass.view.log c.loop-below.spot c.loop-below.chain.items c.loop-below.invariant.walking.walk).steps in
+    let inside = c.loop-below.invariant.inside in
+    omega (arith, above, inside)

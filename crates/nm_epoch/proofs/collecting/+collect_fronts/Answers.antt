@@ -12,7 +12,7 @@ collect_fronts-requires t c =
     let few = c.requires.few in
     let all : AreHeld (knowledge c.args.pass.now.view) (c.in-Some.first.now ∷ c.in-Some.rest.now) = subst (λ (hs : List HeldQueue). AreHeld (knowledge c.args.pass.now.view) hs) split c.requires.queues in
     let held' = held_on (knowledge c.args.pass.now.view) (knowledge c.collect_front-here.new.pass.view) c.in-Some.first.now.origin c.in-Some.rest.now all.1 c.collect_front-here.ensures.others all.2 in
-    (omega (arith, longer), (search rules, (search rules, (held', (omega (arith, longer, few), (c.collect_front-here.ensures.apart, c.collect_front-here.ensures.run))))))
+    (omega (arith, longer), (search rules, (search rules, (held', (omega (arith, longer, few), (c.collect_front-here.ensures.apart, c.collect_front-here.ensures.on.run))))))
 
 pub returns-clause-queues : goal.returns-clause-queues
 returns-clause-queues t c =

@@ -1,7 +1,7 @@
 use Rattle.std.proofs.Common.{◌≡◌, sym, ◌∙◌, Some}
 use Rattle.nm_epoch.specs.Collecting.{ripe_front}
 use Rattle.nm_epoch.proofs.OneQueue.{may_collect, collecting_on, dropped_front}
-use Rattle.nm_steps.proofs.Seeing.{seen_through}
+use Rattle.nm_steps.proofs.Seeing.{continues_then, continues_by}
 use Rattle.nm_epoch.proofs.collecting.collect_front.Goals as goal
 
 pub free-requires-clause-may : goal.free-requires-clause-may
@@ -15,9 +15,8 @@ loop-node-preserved c =
     let front = dropped_front c.args.epoch c.loop-node.queue.queue.items c.drop_front.new.queue.items c.in-Some.node c.drop_front.ensures.items ripe in
     record {
       collecting = collecting_on c.args.epoch c.args.queue.now.origin c.args.pass.now c.loop-node.pass c.free.new.pass c.args.queue.now.queue.items c.loop-node.queue.queue.items c.drop_front.new.queue.items front.0 c.in-Some.node
-          c.loop-node.invariant.collecting ripe c.free.ensures.step front.1 c.free.ensures.apart;
-      past = seen_through _ _ _ c.loop-node.invariant.past c.free.ensures.past;
-      run = c.free.ensures.run;
+          c.loop-node.invariant.collecting ripe c.free.ensures.took.step front.1 c.free.ensures.apart;
+      on = continues_then _ _ _ c.loop-node.invariant.on (continues_by _ _ _ _ c.free.ensures.took);
       blocks = c.drop_front.ensures.blocks ∙ c.loop-node.invariant.blocks;
       origin = c.loop-node.invariant.origin;
       fit = c.keep.ensures ∙ c.loop-node.invariant.fit;

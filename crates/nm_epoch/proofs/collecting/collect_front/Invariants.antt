@@ -1,13 +1,12 @@
 use Rattle.std.proofs.Common.{length, ◌≡◌}
-use Rattle.nm_steps.specs.Steps.{IsInRun, HasSeenAllOf}
+use Rattle.nm_steps.specs.Steps.{Continues}
 use Rattle.nm_epoch.proofs.OneQueue.{IsCollecting}
 use Rattle.nm_epoch.proofs.collecting.collect_front.Given as goal
 
 abbrev pub invariant-loop-node : goal.invariant-loop-node
 invariant-loop-node l = record {
   collecting : IsCollecting l.epoch l.fn.queue.origin l.fn.pass l.fn.queue.queue.items l.pass l.queue.queue.items;
-  past : HasSeenAllOf l.pass l.fn.pass;
-  run : IsInRun l.pass;
+  on : Continues l.fn.pass l.pass;
   blocks : l.queue.queue.blocks ≡ l.fn.queue.queue.blocks;
   origin : l.queue.origin ≡ l.fn.queue.origin;
   fit : l.placement ≡ l.fn.placement;

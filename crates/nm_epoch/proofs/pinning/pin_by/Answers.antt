@@ -9,7 +9,7 @@ use Rattle.nm_model.specs.declared.event.Event.TheVariants.{Sight}
 use Rattle.nm_model.specs.declared.reply.Reply.TheVariants.{Saw}
 use Rattle.nm_epoch.proofs.KeptHands.{hands_kept, kept_on}
 use Rattle.nm_epoch.proofs.Left.{leave_keeps}
-use Rattle.nm_steps.proofs.Seeing.{seen_by_turn}
+use Rattle.nm_steps.proofs.Seeing.{continues_by}
 use Rattle.nm_epoch.proofs.pinning.pin_by.Goals as goal
 
 pub sight_idle-first-requires-clause-labelled : goal.sight_idle-first-requires-clause-labelled
@@ -23,9 +23,7 @@ returns-then-tries-eq0-clause-rests c = rests_on c.args.pass.now c.sight_idle-fi
 
 pub loop-round-init : goal.loop-round-init
 loop-round-init c = record {
-  same = search rules;
-  past = seen_by_turn _ _ _ c.sight_idle-first.ensures.past;
-  run = c.sight_idle-first.ensures.run;
+  on = continues_by _ _ _ _ c.sight_idle-first.ensures;
   tries = search rules;
   trying = tries_on c.args.pass.now c.sight_idle-first.new.pass c.sight_idle-first.result (rests_now c.args.pass.now c.is_of_a_run.ensures.run c.is_of_a_run.ensures.fits c.requires.unpinned) c.sight_idle-first.ensures.step;
   hands = hands_kept c.args.pass.now c.sight_idle-first.new.pass Sight (Saw c.sight_idle-first.result) c.sight_idle-first.ensures.step refl (λ _. refl);

@@ -1,4 +1,4 @@
-use Rattle.std.proofs.Common.{rules, ◌≡◌, ◌+◌, ℕ, ap, sym, ◌∙◌, add-zero, arith}
+use Rattle.std.proofs.Common.{◌≡◌, ◌+◌, ℕ, ap, sym, ◌∙◌, add-zero, arith}
 use Rattle.nm_epoch.specs.Resting.{epochs}
 use Rattle.nm_epoch.specs.Watches.{bit_of}
 use Rattle.nm_epoch.proofs.Scanning.{settles_on}
@@ -8,7 +8,7 @@ use Rattle.nm_epoch.proofs.KeptHands.{kept_on, look_keeps}
 use Rattle.nm_steps.specs.Steps.{Stand}
 use Rattle.nm_edge.specs.Layouts.{Layout}
 use Rattle.nm_epoch.proofs.Steps.{watch_steps}
-use Rattle.nm_steps.proofs.Seeing.{seen_through}
+use Rattle.nm_steps.proofs.Seeing.{continues_then}
 use Rattle.nm_epoch.proofs.watching.behind.Goals as goal
 
 pub loop-worker-preserved : goal.loop-worker-preserved
@@ -18,21 +18,19 @@ loop-worker-preserved c =
       | else-is_some w ↦ w.mask-is ∙ (sym (add-zero c.loop-worker.mask) ∙ ap (λ (n : ℕ). c.loop-worker.mask + n) (sym (bit_clear c.elsewhere.result c.look-found.result c.read-epoch.result c.loop-worker.worker c.elsewhere.ensures (sym c.is_some.ensures ∙ w.if-is_some.false))))
     ] in
     record {
-      same = search rules;
-      past = seen_through _ _ _ c.loop-worker.invariant.past c.look-found.ensures.past;
+      on = continues_then _ _ _ c.loop-worker.invariant.on c.look-found.ensures.on;
       watching = watching_on c.number-me.result c.read-epoch.result c.loop-worker.worker c.loop-worker.mask c.if-is_some.mask c.look-found.result c.args.pass.now.view.log c.loop-worker.pass c.look-found.new.pass
-          c.look-found.ensures.same c.look-found.ensures.found sum c.loop-worker.invariant.watching;
-      run = c.look-found.ensures.run c.loop-worker.invariant.run;
-      settles = settles_on c.number-me.result c.loop-worker.worker (epochs c.loop-worker.pass).pin c.look-found.result c.loop-worker.pass c.look-found.new.pass c.look-found.ensures.same c.look-found.ensures.found c.args.pass.now c.loop-worker.invariant.settles;
+          c.look-found.ensures.on.same c.look-found.ensures.found sum c.loop-worker.invariant.watching;
+      settles = settles_on c.number-me.result c.loop-worker.worker (epochs c.loop-worker.pass).pin c.look-found.result c.loop-worker.pass c.look-found.new.pass c.look-found.ensures.on.same c.look-found.ensures.found c.args.pass.now c.loop-worker.invariant.settles;
       hands = kept_on c.args.pass.now c.loop-worker.pass c.look-found.new.pass c.loop-worker.invariant.hands
-          (look_keeps c.number-me.result c.loop-worker.worker (epochs c.loop-worker.pass).pin c.look-found.result c.loop-worker.pass c.look-found.new.pass c.look-found.ensures.same c.look-found.ensures.found);
+          (look_keeps c.number-me.result c.loop-worker.worker (epochs c.loop-worker.pass).pin c.look-found.result c.loop-worker.pass c.look-found.new.pass c.look-found.ensures.on.same c.look-found.ensures.found);
     }
 
 pub returns-clause-steps : goal.returns-clause-steps
 returns-clause-steps c =
     let m : c.workers-workers.result ≡ c.args.shared.now.layout.workers = c.workers-workers.ensures.workers ∙ ap (λ (l : Layout). l.workers) c.layout.ensures in
     let layout : c.args.pass.now.view.layout.workers ≡ c.args.shared.now.layout.workers = ap (λ (l : Layout). l.workers) c.requires.layout in
-    let size : c.read-epoch.new.pass.view.layout.workers ≡ c.args.pass.now.view.layout.workers = ap (λ (p : Stand). p.view.layout.workers) c.read-epoch.ensures.same in
+    let size : c.read-epoch.new.pass.view.layout.workers ≡ c.args.pass.now.view.layout.workers = ap (λ (p : Stand). p.view.layout.workers) c.read-epoch.ensures.on.same in
     let below = c.number-me.ensures.below in
     let past = c.loop-worker-test.false in
     let within = c.loop-worker.auto.worker-end in

@@ -2,7 +2,7 @@ use Rattle.std.proofs.Common.{rules, arith}
 use Rattle.nm_steps.specs.Rules.{knowledge}
 use Rattle.nm_pool.specs.Claims.{PassedOver}
 use Rattle.nm_pool.proofs.PrivateSlots.{one_more, learns_both}
-use Rattle.nm_steps.proofs.Seeing.{seen_through}
+use Rattle.nm_steps.proofs.Seeing.{continues_then}
 use Rattle.nm_pool.proofs.nodes.claim_between.Goals as goal
 
 pub loop-slot-preserved : goal.loop-slot-preserved
@@ -12,9 +12,7 @@ loop-slot-preserved c =
     let new = c.try_slot.new.pass.view in
     let over : PassedOver slot mid.log new.log = search rules in
     record {
-      same = search rules;
-      past = seen_through _ _ _ c.loop-slot.invariant.past c.try_slot.ensures.past;
-      run = λ was. c.try_slot.ensures.run;
+      on = continues_then _ _ _ c.loop-slot.invariant.on c.try_slot.ensures.on;
       within = omega arith;
       passed = one_more PassedOver c.args.from slot c.args.pass.now.view.log mid.log new.log (omega arith) c.loop-slot.invariant.passed over;
       learned = learns_both (knowledge c.args.pass.now.view) (knowledge mid) (knowledge new) c.loop-slot.invariant.learned c.try_slot.ensures.learned;

@@ -8,12 +8,12 @@ use Rattle.nm_serial.proofs.own_lines.play_own.Given as goal
 
 abbrev pub invariant-loop-entry : goal.invariant-loop-entry
 invariant-loop-entry g l = record {
-  own : IsOf l.tree l.worker.pass;
+  own : IsOf l.lines.tree.now l.worker.pass;
   number : l.worker.pass.view.number ≡ l.fn.worker.pass.view.number;
   queues : length l.worker.queues ≡ length l.fn.worker.queues;
   line : l.line ≡ 2 + l.entry-index;
-  goes_on : (more : List Answer) (z : Hand) → PlaysOwn (g.G.Gate.lets l.gate) l.tree l.tries l.number l.line (drop l.entry-index l.calls) more l.worker z
-      → PlaysOwn (g.G.Gate.lets l.gate) l.tree l.tries l.number 2 l.calls (l.answers.items ++ more) l.fn.worker z;
-  stops_on : (s : Stop) (z : Hand) → StopsOwn (g.G.Gate.lets l.gate) (g.G.Gate.stops l.gate) l.tree l.tries l.number l.line (drop l.entry-index l.calls) l.worker z s
-      → StopsOwn (g.G.Gate.lets l.gate) (g.G.Gate.stops l.gate) l.tree l.tries l.number 2 l.calls l.fn.worker z s;
+  goes_on : (more : List Answer) (z : Hand) → PlaysOwn (g.G.Gate.lets l.lines.gate.now) l.lines.tree.now l.lines.tries l.number l.line (drop l.entry-index l.lines.calls.now) more l.worker z
+      → PlaysOwn (g.G.Gate.lets l.lines.gate.now) l.lines.tree.now l.lines.tries l.number 2 l.lines.calls.now (l.answers.items ++ more) l.fn.worker z;
+  stops_on : (s : Stop) (z : Hand) → StopsOwn (g.G.Gate.lets l.lines.gate.now) (g.G.Gate.stops l.lines.gate.now) l.lines.tree.now l.lines.tries l.number l.line (drop l.entry-index l.lines.calls.now) l.worker z s
+      → StopsOwn (g.G.Gate.lets l.lines.gate.now) (g.G.Gate.stops l.lines.gate.now) l.lines.tree.now l.lines.tries l.number 2 l.lines.calls.now l.fn.worker z s;
 }

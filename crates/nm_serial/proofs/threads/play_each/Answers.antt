@@ -12,7 +12,7 @@ loop-worker-preserved g c =
     record {
       left = rw append_assoc (rw s.0 at c.loop-worker.invariant.left);
       count = omega (arith, more, c.push.new.self.ok.0);
-      each = λ k w d lt. rw pushed (each_pushed (λ u h. (h.promise.gate.now ≡ c.args.gate.now) × (h.promise.tree.now ≡ c.args.tree.now) × (h.promise.tries ≡ c.args.tries) × (h.promise.calls.now ≡ c.args.calls.now) × (h.promise.was.value ≡ u)) c.loop-worker.yielded c.loop-worker.handles.items c.in-Some.worker c.in_ok-handle.handle same c.loop-worker.invariant.each c.in_ok-handle.ensures.started k w d lt);
+      each = λ k w d lt. rw pushed (each_pushed (λ u h. (h.promise.gate.now ≡ c.args.lines.now.gate.now) × (h.promise.tree.now ≡ c.args.lines.now.tree.now) × (h.promise.tries ≡ c.args.lines.now.tries) × (h.promise.calls.now ≡ c.args.lines.now.calls.now) × (h.promise.was.value ≡ u)) c.loop-worker.yielded c.loop-worker.handles.items c.in-Some.worker c.in_ok-handle.handle same c.loop-worker.invariant.each c.in_ok-handle.ensures.started k w d lt);
     }
 
 pub returns-in-Ok-clause-played : goal.returns-in-Ok-clause-played

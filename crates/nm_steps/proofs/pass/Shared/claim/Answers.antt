@@ -16,8 +16,9 @@ invariant_of-pass c = tied_after _ _ _ _ _ _ _ c.pass.invariant (rw (← c.pass.
 pub returns-clause-new : goal.returns-clause-new
 returns-clause-new c = λ won. rw (← c.pass.view_is) (claimed_new _ _ _ c.args.slot c.clear-found.result c.clear-found.ensures.found (rw (← c.pass.view_is) at c.requires.may) (search rules))
 
-pub returns-clause-run : goal.returns-clause-run
-returns-clause-run c = in_run_after _ _ _ _ _ _ c.pass.invariant (rw (← c.pass.view_is) at c.requires.may) c.clear-found.ensures
-
-pub returns-clause-past : goal.returns-clause-past
-returns-clause-past c = rw (← c.pass.view_is) (has_turn _ _ _ _ c.clear-found.ensures)
+pub returns-clause-took : goal.returns-clause-took
+returns-clause-took c = record {
+  step = search rules;
+  past = rw (← c.pass.view_is) (has_turn _ _ _ _ c.clear-found.ensures);
+  run = in_run_after _ _ _ _ _ _ c.pass.invariant (rw (← c.pass.view_is) at c.requires.may) c.clear-found.ensures;
+}

@@ -12,8 +12,9 @@ store-requires-clause-ready c = rw (← c.self.view_is) (ready _ _ _ _ _ _ _ _ c
 pub invariant_of-pass : goal.invariant_of-pass
 invariant_of-pass c = tied_after _ _ _ _ _ _ _ c.pass.invariant (rw (← c.pass.view_is, ← c.from.ensures) at c.requires.may) c.store.ensures (search rules)
 
-pub returns-clause-run : goal.returns-clause-run
-returns-clause-run c = in_run_after _ _ _ _ _ _ c.pass.invariant (rw (← c.pass.view_is, ← c.from.ensures) at c.requires.may) c.store.ensures
-
-pub returns-clause-past : goal.returns-clause-past
-returns-clause-past c = rw (← c.pass.view_is, ← c.from.ensures) (has_turn _ _ _ _ c.store.ensures)
+pub returns : goal.returns
+returns c = record {
+  step = search rules;
+  past = rw (← c.pass.view_is, ← c.from.ensures) (has_turn _ _ _ _ c.store.ensures);
+  run = in_run_after _ _ _ _ _ _ c.pass.invariant (rw (← c.pass.view_is, ← c.from.ensures) at c.requires.may) c.store.ensures;
+}

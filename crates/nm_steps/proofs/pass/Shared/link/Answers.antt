@@ -15,8 +15,9 @@ edge_of-requires c = finds_edge _ _ _ _ _ c.args.parent c.args.side c.exchange-f
 pub invariant_of-pass : goal.invariant_of-pass
 invariant_of-pass c = tied_after _ _ _ _ _ _ _ c.pass.invariant (rw (← c.pass.view_is) at c.requires.may) c.exchange-found.ensures (search rules)
 
-pub returns-clause-run : goal.returns-clause-run
-returns-clause-run c = in_run_after _ _ _ _ _ _ c.pass.invariant (rw (← c.pass.view_is) at c.requires.may) c.exchange-found.ensures
-
-pub returns-clause-past : goal.returns-clause-past
-returns-clause-past c = rw (← c.pass.view_is) (has_turn _ _ _ _ c.exchange-found.ensures)
+pub returns : goal.returns
+returns c = record {
+  step = search rules;
+  past = rw (← c.pass.view_is) (has_turn _ _ _ _ c.exchange-found.ensures);
+  run = in_run_after _ _ _ _ _ _ c.pass.invariant (rw (← c.pass.view_is) at c.requires.may) c.exchange-found.ensures;
+}

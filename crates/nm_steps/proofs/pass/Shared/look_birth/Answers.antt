@@ -16,8 +16,9 @@ invariant_of-pass c = tied_after _ _ _ _ _ _ _ c.pass.invariant (rw (← c.pass.
 pub returns-clause-small : goal.returns-clause-small
 returns-clause-small c = finds_birth _ _ _ _ _ c.args.slot c.load.ensures.found refl refl (look_slot _ _ _ c.args.slot _ (rw (← c.pass.view_is) at c.requires.may))
 
-pub returns-clause-run : goal.returns-clause-run
-returns-clause-run c = in_run_after _ _ _ _ _ _ c.pass.invariant (rw (← c.pass.view_is) at c.requires.may) c.load.ensures
-
-pub returns-clause-past : goal.returns-clause-past
-returns-clause-past c = rw (← c.pass.view_is) (has_turn _ _ _ _ c.load.ensures)
+pub returns-clause-took : goal.returns-clause-took
+returns-clause-took c = record {
+  step = search rules;
+  past = rw (← c.pass.view_is) (has_turn _ _ _ _ c.load.ensures);
+  run = in_run_after _ _ _ _ _ _ c.pass.invariant (rw (← c.pass.view_is) at c.requires.may) c.load.ensures;
+}

@@ -3,8 +3,8 @@ use Rattle.nm_steps.proofs.Asking.{look_slot, finds_edge}
 use Rattle.nm_steps.proofs.Noting.{ready, has_turn, in_run_after, tied_after}
 use Rattle.nm_steps.proofs.pass.Shared.look_edge.Goals as goal
 
-pub edge-word-requires : goal.edge-word-requires
-edge-word-requires c = let slot = look_slot _ _ _ c.args.slot _ c.requires.may in search (rules, slot)
+pub edge_word-word-requires : goal.edge_word-word-requires
+edge_word-word-requires c = let slot = look_slot _ _ _ c.args.slot _ c.requires.may in search (rules, slot)
 
 pub load-requires-clause-ready : goal.load-requires-clause-ready
 load-requires-clause-ready c = rw (← c.self.view_is) (ready _ _ _ _ _ _ _ _ c.self.invariant c.pass.invariant (search rules) (search rules) (rw (← c.pass.view_is) at c.requires.may) (search rules))
@@ -15,8 +15,9 @@ edge_of-requires c = finds_edge _ _ _ _ _ c.args.slot c.args.side c.load.ensures
 pub invariant_of-pass : goal.invariant_of-pass
 invariant_of-pass c = tied_after _ _ _ _ _ _ _ c.pass.invariant (rw (← c.pass.view_is) at c.requires.may) c.load.ensures (search rules)
 
-pub returns-clause-run : goal.returns-clause-run
-returns-clause-run c = in_run_after _ _ _ _ _ _ c.pass.invariant (rw (← c.pass.view_is) at c.requires.may) c.load.ensures
-
-pub returns-clause-past : goal.returns-clause-past
-returns-clause-past c = rw (← c.pass.view_is) (has_turn _ _ _ _ c.load.ensures)
+pub returns : goal.returns
+returns c = record {
+  step = search rules;
+  past = rw (← c.pass.view_is) (has_turn _ _ _ _ c.load.ensures);
+  run = in_run_after _ _ _ _ _ _ c.pass.invariant (rw (← c.pass.view_is) at c.requires.may) c.load.ensures;
+}

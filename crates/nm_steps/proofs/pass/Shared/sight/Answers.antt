@@ -14,8 +14,9 @@ invariant_of-pass c = tied_after _ _ _ _ _ _ _ c.pass.invariant (may_sight _ _ _
 pub returns-clause-reply : goal.returns-clause-reply
 returns-clause-reply c = sight_answers _ _ c.pass.inside.brief c.note_sight.new.brief (knowledge c.args.pass.now.view).brief (sight_reply c.sighted-reply.result) c.load-found.result (tied_after _ _ _ _ c.note_sight.new.brief _ _ c.pass.invariant (may_sight _ _ _) c.load-found.ensures (search rules)) c.note_sight.ensures c.sighted-reply.ensures (search rules)
 
-pub returns-clause-run : goal.returns-clause-run
-returns-clause-run c = in_run_after _ _ _ _ _ _ c.pass.invariant (may_sight _ _ _) c.load-found.ensures
-
-pub returns-clause-past : goal.returns-clause-past
-returns-clause-past c = rw (← c.pass.view_is) (has_turn _ _ _ _ c.load-found.ensures)
+pub returns-clause-took : goal.returns-clause-took
+returns-clause-took c = record {
+  step = search rules;
+  past = rw (← c.pass.view_is) (has_turn _ _ _ _ c.load-found.ensures);
+  run = in_run_after _ _ _ _ _ _ c.pass.invariant (may_sight _ _ _) c.load-found.ensures;
+}

@@ -52,7 +52,7 @@ returns-in-Ok c = record {
   same = search rules;
   past = search (rules, seen_all);
   did = (
-      deleted_so _ _ c.args.tries c.args.key _ _ (record { pass = c.delete_with.new.pass; queues = slice_set c.worker.inside.queues.items c.worker.inside.home c.delete_with.new.own; pending = pending_in c.worker.inside.standing; held = held_in c.worker.inside.standing; fit = c.worker.inside.placement })
+      deleted_so _ _ c.args.tries c.args.key _ _ (record { pass = c.delete_with.new.pass; queues = slice_set c.worker.inside.queues.items c.worker.inside.home c.delete_with.new.own; pending = pending_in c.worker.inside.standing; held = held_in c.worker.inside.standing; fit = c.delete_with.new.workspace.placement })
       (Ok c.in-Ok.answer) c.self.view_is c.worker.view_is (free_in c.worker.inside.standing (resting_in c.worker.inside.standing (ap (λ (w : Hand). w.held) c.worker.view_is ∙ c.requires.free) c.in_default.not-Pending), c.in-Ok.ensures.after.did)
       );
   lacks = search rules;
@@ -79,7 +79,7 @@ returns-in-Err-Busy c = record {
   same = search rules;
   past = search (rules, seen_all);
   did = (
-      deleted_so _ _ c.args.tries c.args.key _ _ (record { pass = c.delete_with.new.pass; queues = slice_set c.worker.inside.queues.items c.worker.inside.home c.delete_with.new.own; pending = pending_in c.worker.inside.standing; held = held_in c.worker.inside.standing; fit = c.worker.inside.placement })
+      deleted_so _ _ c.args.tries c.args.key _ _ (record { pass = c.delete_with.new.pass; queues = slice_set c.worker.inside.queues.items c.worker.inside.home c.delete_with.new.own; pending = pending_in c.worker.inside.standing; held = held_in c.worker.inside.standing; fit = c.delete_with.new.workspace.placement })
       (Err fault.Busy) c.self.view_is c.worker.view_is (free_in c.worker.inside.standing (resting_in c.worker.inside.standing (ap (λ (w : Hand). w.held) c.worker.view_is ∙ c.requires.free) c.in_default.not-Pending), (let P : Missed → Type 0 = λ m. DeleteDid c.self.inside.shared.layout.nodes c.args.tries c.args.key c.worker.inside.pass.view.log c.delete_with.new.pass.view.log (Err m) in subst P c.in-Err-Busy.field-0-is c.in-Err-Busy.ensures.after.did))
       );
   lacks = search rules;
@@ -106,7 +106,7 @@ returns-in-Err-NoMemory c = record {
   same = search rules;
   past = search (rules, seen_all);
   did = (
-      deleted_so _ _ c.args.tries c.args.key _ _ (record { pass = c.delete_with.new.pass; queues = slice_set c.worker.inside.queues.items c.worker.inside.home c.delete_with.new.own; pending = pending_in c.worker.inside.standing; held = held_in c.worker.inside.standing; fit = c.worker.inside.placement })
+      deleted_so _ _ c.args.tries c.args.key _ _ (record { pass = c.delete_with.new.pass; queues = slice_set c.worker.inside.queues.items c.worker.inside.home c.delete_with.new.own; pending = pending_in c.worker.inside.standing; held = held_in c.worker.inside.standing; fit = c.delete_with.new.workspace.placement })
       (Err fault.NoMemory) c.self.view_is c.worker.view_is (free_in c.worker.inside.standing (resting_in c.worker.inside.standing (ap (λ (w : Hand). w.held) c.worker.view_is ∙ c.requires.free) c.in_default.not-Pending), (let P : Missed → Type 0 = λ m. DeleteDid c.self.inside.shared.layout.nodes c.args.tries c.args.key c.worker.inside.pass.view.log c.delete_with.new.pass.view.log (Err m) in subst P c.in-Err-NoMemory.field-0-is c.in-Err-NoMemory.ensures.after.did))
       );
   lacks = (
@@ -136,7 +136,7 @@ returns-in-Err-Unfinished c = record {
   same = search rules;
   past = search (rules, seen_all);
   did = (
-      deleted_so _ _ c.args.tries c.args.key _ _ (record { pass = c.delete_with.new.pass; queues = slice_set c.worker.inside.queues.items c.worker.inside.home c.delete_with.new.own; pending = Some (record { key = c.args.key; leaf = c.in-Err-Unfinished.leaf }); held = None; fit = c.worker.inside.placement })
+      deleted_so _ _ c.args.tries c.args.key _ _ (record { pass = c.delete_with.new.pass; queues = slice_set c.worker.inside.queues.items c.worker.inside.home c.delete_with.new.own; pending = Some (record { key = c.args.key; leaf = c.in-Err-Unfinished.leaf }); held = None; fit = c.delete_with.new.workspace.placement })
       (Err fault.Unfinished) c.self.view_is c.worker.view_is ((free_in c.worker.inside.standing (resting_in c.worker.inside.standing (ap (λ (w : Hand). w.held) c.worker.view_is ∙ c.requires.free) c.in_default.not-Pending)).0, c.in-Err-Unfinished.leaf, refl, (let P : Missed → Type 0 = λ m. DeleteDid c.self.inside.shared.layout.nodes c.args.tries c.args.key c.worker.inside.pass.view.log c.delete_with.new.pass.view.log (Err m) in subst P c.in-Err-Unfinished.field-0-is c.in-Err-Unfinished.ensures.after.did))
       );
   lacks = (

@@ -79,7 +79,7 @@ returns c = record {
   same = search rules;
   past = search (rules, seen_all);
   did = (
-      finished_so _ _ c.args.tries _ _ (record { pass = c.finish_with.new.pass; queues = slice_set c.worker.inside.queues.items c.worker.inside.home c.finish_with.new.own; pending = None; held = None; fit = c.worker.inside.placement })
+      finished_so _ _ c.args.tries _ _ (record { pass = c.finish_with.new.pass; queues = slice_set c.worker.inside.queues.items c.worker.inside.home c.finish_with.new.own; pending = None; held = None; fit = c.finish_with.new.workspace.placement })
       (Ok true) c.self.view_is c.worker.view_is (c.in-Pending.pending, ap pending_in c.in-Pending.is, refl, rw c.if-not-finish_with.false at c.finish_with.ensures.after.did)
       );
   lacks = search rules;

@@ -60,13 +60,13 @@ returns c = record {
       elim c.match-insert_with.branch [
         | in-Ok w ↦ inserted_so _ _ c.args.tries c.args.key _ _ _ (Ok _) _ c.self.view_is c.worker.view_is w.result-is (free_in c.worker.inside.standing (resting c), w.in-Ok.ensures.after.did)
         | in-Err-Busy w ↦
-            let P : Lost → Type 0 = λ m. InsertDid c.worker.inside.placement c.self.inside.shared.layout.nodes c.args.tries c.args.key c.worker.inside.pass.view.log c.insert_with.new.pass.view.log (Err m) in
+            let P : Lost → Type 0 = λ m. InsertDid c.worker.inside.workspace.placement c.self.inside.shared.layout.nodes c.args.tries c.args.key c.worker.inside.pass.view.log c.insert_with.new.pass.view.log (Err m) in
             inserted_so _ _ c.args.tries c.args.key _ _ _ (Err fault.Busy) _ c.self.view_is c.worker.view_is w.result-is (free_in c.worker.inside.standing (resting c), subst P w.in-Err-Busy.field-0-is w.in-Err-Busy.ensures.after.did)
         | in-Err-Full w ↦
-            let P : Lost → Type 0 = λ m. InsertDid c.worker.inside.placement c.self.inside.shared.layout.nodes c.args.tries c.args.key c.worker.inside.pass.view.log c.insert_with.new.pass.view.log (Err m) in
+            let P : Lost → Type 0 = λ m. InsertDid c.worker.inside.workspace.placement c.self.inside.shared.layout.nodes c.args.tries c.args.key c.worker.inside.pass.view.log c.insert_with.new.pass.view.log (Err m) in
             inserted_so _ _ c.args.tries c.args.key _ _ _ (Err fault.Full) _ c.self.view_is c.worker.view_is w.result-is (free_in c.worker.inside.standing (resting c), subst P w.in-Err-Full.field-0-is w.in-Err-Full.ensures.after.did)
         | in-Err-NoMemory w ↦
-            let P : Lost → Type 0 = λ m. InsertDid c.worker.inside.placement c.self.inside.shared.layout.nodes c.args.tries c.args.key c.worker.inside.pass.view.log c.insert_with.new.pass.view.log (Err m) in
+            let P : Lost → Type 0 = λ m. InsertDid c.worker.inside.workspace.placement c.self.inside.shared.layout.nodes c.args.tries c.args.key c.worker.inside.pass.view.log c.insert_with.new.pass.view.log (Err m) in
             inserted_so _ _ c.args.tries c.args.key _ _ _ (Err fault.NoMemory) _ c.self.view_is c.worker.view_is w.result-is (free_in c.worker.inside.standing (resting c), subst P w.in-Err-NoMemory.field-0-is w.in-Err-NoMemory.ensures.after.did)
       ]
       );
