@@ -24,8 +24,8 @@ seen_confirmed b None (Some a) n = cond_both (a == n) (Pinned n) (Missed n) (λ 
 pub seen_sighted : (b : Brief) (n : ℕ) → (noted_sight b (sight_of b n)).seen ≡ Some n
 seen_sighted b n = cond_both b.unlabelled (Labelled n) (confirmed b.pin b.note n) (λ r. (noted_sight b r).seen ≡ Some n) (λ _. refl) (λ _. seen_confirmed b b.pin b.note n)
 
-pub sight_answers : (after : Seat Unit View) (number : ℕ) (brief new old : Brief) (r : Reply) (n : ℕ) → Tied after number new → new ≡ noted_sight brief r → r ≡ sight_of brief n → brief ≡ old → IsSight old r
-sight_answers after number brief new old r n tied is reply same = (
+pub sight_answers : (after : Seat Unit View) (number note : ℕ) (brief new old : Brief) (r : Reply) (n : ℕ) → Tied after number note new → new ≡ noted_sight brief r → r ≡ sight_of brief n → brief ≡ old → IsSight old r
+sight_answers after number note brief new old r n tied is reply same = (
   n,
   subst (λ (o : Option ℕ). IfSome o (λ e. e ≤ last_number)) (ap (λ (b : Brief). b.seen) is ∙ (ap (λ (x : Reply). (noted_sight brief x).seen) reply ∙ seen_sighted brief n)) tied.small,
   reply ∙ ap (λ (b : Brief). sight_of b n) same,

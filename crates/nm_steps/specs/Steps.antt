@@ -6,7 +6,7 @@ use Rattle.nm_edge.specs.Edges.{Edge}
 use Rattle.nm_edge.specs.declared.edge.Side.{Side}
 use Rattle.nm_edge.specs.declared.node.NodeId.{NodeId}
 use Rattle.nm_edge.specs.Layouts.{Layout, IsLayout}
-use Rattle.nm_edge.specs.Words.{IsField, word, words}
+use Rattle.nm_edge.specs.Words.{IsField, at_note, word, words}
 use Rattle.nm_model.specs.declared.event.Event.{Event}
 use Rattle.nm_model.specs.declared.event.Event.TheVariants.{Sight, SightFor, Announce, Leave, LeaveWith, Advance, Fill, Splice}
 use Rattle.nm_model.specs.declared.event.Field.TheVariants.{Birth}
@@ -160,10 +160,11 @@ pub record HasSeen (v : View) : Type 0 where
 
 -- what a pass keeps of its log: its number and epochs, that its private slots are ones of the
 -- pool's range, and that the run which it has seen has the log as its part
-pub record Tied (it : Seat Unit View) (number : ℕ) (brief : Brief) : Type 0 where
+pub record Tied (it : Seat Unit View) (number note : ℕ) (brief : Brief) : Type 0 where
   pub empty : it.me.1 ≡ []
   pub alive : it.me.0.spent ≡ false
   pub number_is : number ≡ it.me.0.number
+  pub note_is : note ≡ word it.me.0.layout (at_note number)
   pub brief_is : brief ≡ (knowledge it.me.0).brief
   pub fits : IsLayout it.me.0.layout
   pub worker : number < it.me.0.layout.workers

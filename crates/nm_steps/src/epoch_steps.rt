@@ -75,7 +75,8 @@ impl Shared {
         let Some(seen) = pass.brief.seen else {
             unreachable!()
         };
-        let word = self.layout.note(pass.number) as usize;
+        let _own = self.layout;
+        let word = pass.note_word as usize;
         self.store(&mut pass.seat, word, seen + 1, Event::Announce);
         pass.brief.note = Some(seen);
         seen
@@ -87,7 +88,8 @@ impl Shared {
         requires may { MayStep pass.old Leave }
         ensures { TakesStep pass.old pass.new Leave Departed }
     {
-        let word = self.layout.note(pass.number) as usize;
+        let _own = self.layout;
+        let word = pass.note_word as usize;
         self.store(&mut pass.seat, word, 0, Event::Leave);
         pass.brief.note = None;
         pass.brief.pin = None;
@@ -99,7 +101,8 @@ impl Shared {
         requires may { MayStep pass.old (LeaveWith answer) }
         ensures { TakesStep pass.old pass.new (LeaveWith answer) Departed }
     {
-        let word = self.layout.note(pass.number) as usize;
+        let _own = self.layout;
+        let word = pass.note_word as usize;
         self.store(&mut pass.seat, word, 0, Event::LeaveWith(answer));
         pass.brief.note = None;
         pass.brief.pin = None;

@@ -41,11 +41,13 @@ impl Model for Shared {
     ghost invariant = { λ s. Laid s.table.shared.table_id s.table.shared.key s.layout };
 }
 
-/// One worker: its seat, its number, and what its log says of epochs.
+/// One worker: its seat, its number, the number of the word of its note, and what its log says of
+/// epochs.
 #[derive(Drop)]
 pub struct Pass {
     pub(crate) seat: Place,
     pub(crate) number: u32,
+    pub(crate) note_word: u32,
     pub(crate) brief: Brief,
 }
 
@@ -56,7 +58,7 @@ impl Model for Pass {
 
     ghost view = { λ p. record { table = p.seat.table_id; seat = p.seat.id; view = p.seat.me.0 } };
 
-    ghost invariant = { λ p. Tied p.seat p.number p.brief };
+    ghost invariant = { λ p. Tied p.seat p.number p.note_word p.brief };
 }
 
 impl Shared {

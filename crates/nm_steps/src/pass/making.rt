@@ -52,6 +52,7 @@ fn made(alloc: Global, layout: Layout) -> Result<(Shared, Vec<Pass>), AllocError
         passes.push(Pass {
             seat: own,
             number,
+            note_word: layout.note(number),
             brief: Brief {
                 seen: None,
                 note: None,

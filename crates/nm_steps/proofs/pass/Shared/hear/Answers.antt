@@ -14,17 +14,17 @@ load-requires c =
     (ap (λ m. m.0.layout) c.join_seat.ensures.2 ∙ search rules) c.epoch-epoch.ensures
 
 pub invariant_of-pass : goal.invariant_of-pass
-invariant_of-pass c = heard_tied c.pass.inside.seat c.join_seat.new.seat c.load.new.seat _ _ c.note.inside.seat.me.0 c.pass.invariant c.join_seat.ensures.2 c.load.ensures.2.0 c.load.ensures.2.1 c.load.ensures.2.2
+invariant_of-pass c = heard_tied c.pass.inside.seat c.join_seat.new.seat c.load.new.seat _ _ _ c.note.inside.seat.me.0 c.pass.invariant c.join_seat.ensures.2 c.load.ensures.2.0 c.load.ensures.2.1 c.load.ensures.2.2
 
 pub returns-clause-same : goal.returns-clause-same
 returns-clause-same c = rw (← c.pass.view_is) (λ i. record {
   table = (c.load.ensures.0 ∙ c.join_seat.ensures.0) i;
   seat = (c.load.ensures.1 ∙ c.join_seat.ensures.1) i;
-  view = heard_view c.pass.inside.seat c.join_seat.new.seat c.load.new.seat _ _ c.note.inside.seat.me.0 c.pass.invariant c.join_seat.ensures.2 c.load.ensures.2.0 c.load.ensures.2.1 i;
+  view = heard_view c.pass.inside.seat c.join_seat.new.seat c.load.new.seat _ _ _ c.note.inside.seat.me.0 c.pass.invariant c.join_seat.ensures.2 c.load.ensures.2.0 c.load.ensures.2.1 i;
 })
 
 pub returns-clause-past : goal.returns-clause-past
-returns-clause-past c = record { goes_on = rw (← c.pass.view_is) (heard_past c.pass.inside.seat c.join_seat.new.seat c.load.new.seat _ _ c.note.inside.seat.me.0 c.pass.invariant c.join_seat.ensures.2 c.load.ensures.2.0 c.load.ensures.2.1) }
+returns-clause-past c = record { goes_on = rw (← c.pass.view_is) (heard_past c.pass.inside.seat c.join_seat.new.seat c.load.new.seat _ _ _ c.note.inside.seat.me.0 c.pass.invariant c.join_seat.ensures.2 c.load.ensures.2.0 c.load.ensures.2.1) }
 
 pub returns-clause-heard : goal.returns-clause-heard
-returns-clause-heard c = rw (← c.note.view_is) (heard_note c.pass.inside.seat c.join_seat.new.seat c.load.new.seat _ _ c.note.inside.seat.me.0 c.pass.invariant c.join_seat.ensures.2 c.load.ensures.2.0 c.load.ensures.2.1)
+returns-clause-heard c = rw (← c.note.view_is) (heard_note c.pass.inside.seat c.join_seat.new.seat c.load.new.seat _ _ _ c.note.inside.seat.me.0 c.pass.invariant c.join_seat.ensures.2 c.load.ensures.2.0 c.load.ensures.2.1)

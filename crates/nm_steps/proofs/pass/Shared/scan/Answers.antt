@@ -7,14 +7,14 @@ pub note-word-requires : goal.note-word-requires
 note-word-requires c = let below = scan_below _ _ _ c.args.worker c.requires.may in search (rules, below)
 
 pub load-found-requires-clause-ready : goal.load-found-requires-clause-ready
-load-found-requires-clause-ready c = rw (← c.self.view_is) (ready _ _ _ _ _ _ _ _ c.self.invariant c.pass.invariant (search rules) (search rules) (rw (← c.pass.view_is) at c.requires.may) c.note-word.ensures)
+load-found-requires-clause-ready c = rw (← c.self.view_is) (ready _ _ _ _ _ _ _ _ _ c.self.invariant c.pass.invariant (search rules) (search rules) (rw (← c.pass.view_is) at c.requires.may) c.note-word.ensures)
 
 pub invariant_of-pass : goal.invariant_of-pass
-invariant_of-pass c = tied_after _ _ _ _ _ _ _ c.pass.invariant (rw (← c.pass.view_is) at c.requires.may) c.load-found.ensures (search rules)
+invariant_of-pass c = tied_after _ _ _ _ _ _ _ _ c.pass.invariant (rw (← c.pass.view_is) at c.requires.may) c.load-found.ensures (search rules)
 
 pub returns : goal.returns
 returns c = record {
   step = search rules;
   past = rw (← c.pass.view_is) (has_turn _ _ _ _ c.load-found.ensures);
-  run = in_run_after _ _ _ _ _ _ c.pass.invariant (rw (← c.pass.view_is) at c.requires.may) c.load-found.ensures;
+  run = in_run_after _ _ _ _ _ _ _ c.pass.invariant (rw (← c.pass.view_is) at c.requires.may) c.load-found.ensures;
 }
