@@ -118,17 +118,13 @@ IsClaimOfFew limit nodes old new None =
 
 -- ---- a try of one slot
 
--- that node was made, at that slot
-abbrev pub IsMadeAt : ℕ → List Entry → List Entry → NodeId → Type 0
-IsMadeAt s old new n = (n.slot ≡ s) × MadeNew n old new
-
 -- one slot was tried, by what it came to
 abbrev pub IsTried : ℕ → List Entry → List Entry → Tried → Type 0
 IsTried s old new tried.Taken = FoundTaken s old new
 IsTried s old new tried.Worn = FoundWorn s old new
-IsTried s old new (tried.Got n) = IsMadeAt s old new n
+IsTried s old new (tried.Got b) = MadeNew (record { slot = s; birth = b }) old new
 
--- of the node, where one was got
-abbrev pub IfGot : Tried → (NodeId → Type 0) → Type 0
-IfGot (tried.Got n) P = P n
-IfGot _ P = Unit {0}
+-- of the node, where the slot was got, which then has that birth
+abbrev pub IfGot : ℕ → Tried → (NodeId → Type 0) → Type 0
+IfGot s (tried.Got b) P = P (record { slot = s; birth = b })
+IfGot s _ P = Unit {0}

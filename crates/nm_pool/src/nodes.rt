@@ -20,8 +20,8 @@ pub(crate) enum Tried {
     Taken,
     /// It has the greatest birth, and is in the pool again.
     Worn,
-    /// It is private to the worker now, with its birth raised by one.
-    Got(NodeId),
+    /// It is private to the worker now, with this birth, raised by one.
+    Got(u64),
 }
 
 /// Takes a slot out of the pool to be a new node: the lowest that it finds there with a birth below
@@ -65,8 +65,8 @@ pub(crate) fn claim_between(shared: &Shared, pass: &mut Pass, from: u32, to: u32
     ensures learned { LearnsSlots (knowledge pass.old.view) (knowledge pass.new.view) }
 {
     for slot in from..to {
-        if let Tried::Got(node) = try_slot(shared, pass, slot) {
-            return Some(node);
+        if let Tried::Got(birth) = try_slot(shared, pass, slot) {
+            return Some(NodeId { slot, birth });
         }
     }
     None
@@ -90,8 +90,8 @@ pub(crate) fn try_slot(shared: &Shared, pass: &mut Pass, slot: u32) -> Tried
     requires high { slot ≤ shared.now.layout.nodes }
     ensures on { Continues pass.old pass.new }
     ensures part { IsTried slot pass.old.view.log pass.new.view.log result }
-    ensures made { IfGot result (IsNewNode (knowledge pass.new.view)) }
-    ensures new { IfGot result
+    ensures made { IfGot slot result (IsNewNode (knowledge pass.new.view)) }
+    ensures new { IfGot slot result
         (λ node. IsNew pass.old.view.layout pass.old.view.number pass.old.view.log node.slot) }
     ensures learned { LearnsSlots (knowledge pass.old.view) (knowledge pass.new.view) }
 {
@@ -104,8 +104,5 @@ pub(crate) fn try_slot(shared: &Shared, pass: &mut Pass, slot: u32) -> Tried
         return Tried::Worn;
     }
     shared.fill_birth(pass, slot, birth + 1);
-    Tried::Got(NodeId {
-        slot,
-        birth: birth + 1,
-    })
+    Tried::Got(birth + 1)
 }

@@ -12,7 +12,10 @@ use nm_steps::{Pass, Shared};
 use std::marker::Model;
 
 /// How many of the slots that were given back a worker remembers.
-const RECENT: usize = 4;
+const RECENT: usize = 64;
+
+/// How many of them a claim tries.
+const TRIES: usize = 4;
 
 /// How many slots one row of the pool tells of.
 const SLOTS_OF_A_ROW: u32 = 64;
@@ -22,24 +25,34 @@ const SLOTS_OF_A_ROW: u32 = 64;
 pub enum Fit {
     /// From slot 6 upwards at each claim: first fit.
     Lowest,
-    /// First the slots that the worker gave back last, up to four; then from its cursor upwards,
-    /// and round, beginning where a peek at the pool shows a slot: next fit.
+    /// First slots that the worker gave back, up to four of the last 64, the last one first; then
+    /// from its cursor upwards, and round, beginning where a peek at the pool shows a slot: next
+    /// fit.
     Near,
 }
 
-/// The slots that a worker gave back last, the last one first, with 0 for none behind them all, and
-/// the slot from which it looks on.
+/// The slots that a worker gave back last, in a ring with 0 for none, and the slot from which it
+/// looks on. The last one stands at `last` modulo the ring's length, the others before it.
 #[derive(Clone, Copy)]
 pub(crate) struct Near {
     recent: [u32; RECENT],
+    last: usize,
     cursor: u32,
 }
 
 impl Near {
+    /// Remembers a slot that was given back, in the place of the one that was remembered longest.
+    fn keep(&mut self, slot: u32) {
+        self.last = (self.last % RECENT + 1) % RECENT;
+        self.recent[self.last] = slot;
+    }
+
     /// The slot that was given back last, which is forgotten; 0 for none.
     fn take_recent(&mut self) -> u32 {
-        let [slot, second, third, fourth] = self.recent;
-        self.recent = [second, third, fourth, 0];
+        let last = self.last % RECENT;
+        let slot = self.recent[last];
+        self.recent[last] = 0;
+        self.last = (last + RECENT - 1) % RECENT;
         slot
     }
 
@@ -121,6 +134,7 @@ impl Placement {
             fit,
             near: Near {
                 recent: [0; RECENT],
+                last: 0,
                 cursor,
             },
         }
@@ -134,12 +148,11 @@ impl Placement {
     }
 
     /// Remembers a slot that was given back, so that a near claim tries it first. The one that was
-    /// remembered longest of four is forgotten.
+    /// remembered longest of 64 is forgotten.
     pub fn keep(&mut self, slot: u32)
         ensures { self.new ≡ self.old }
     {
-        let [first, second, third, _] = self.near.recent;
-        self.near.recent = [slot, first, second, third];
+        self.near.keep(slot);
     }
 }
 
@@ -196,8 +209,8 @@ fn claim_near(shared: &Shared, pass: &mut Pass, near: &mut Near) -> Option<NodeI
     Some(node)
 }
 
-/// The first of the slots that were given back last which is found in the pool and is not worn.
-/// Each one that is tried is forgotten.
+/// The first of the slots that were given back last, four at most, which is found in the pool and is
+/// not worn. Each one that is tried is forgotten.
 fn claim_recent(shared: &Shared, pass: &mut Pass, near: &mut Near) -> Option<NodeId>
     requires own { IsOf shared.now pass.old }
     requires run { IsInRun pass.old }
@@ -209,7 +222,7 @@ fn claim_recent(shared: &Shared, pass: &mut Pass, near: &mut Near) -> Option<Nod
         (λ node. IsNew pass.old.view.layout pass.old.view.number pass.old.view.log node.slot) }
     ensures learned { LearnsSlots (knowledge pass.old.view) (knowledge pass.new.view) }
 {
-    for round in 0..RECENT {
+    for round in 0..TRIES {
         let slot = near.take_recent();
         if slot == 0 {
             return None;
@@ -236,8 +249,8 @@ fn try_hint(shared: &Shared, pass: &mut Pass, slot: u32) -> Option<NodeId>
     if slot < FIRST_SLOT || shared.layout().nodes() < slot {
         return None;
     }
-    if let Tried::Got(node) = try_slot(shared, pass, slot) {
-        return Some(node);
+    if let Tried::Got(birth) = try_slot(shared, pass, slot) {
+        return Some(NodeId { slot, birth });
     }
     None
 }
