@@ -19,6 +19,7 @@ use nm_limbo::BlockQueue;
 use nm_steps::{Pass, Shared};
 
 /// A cleanup up to its splice, and whether that is won.
+#[inline(always)]
 fn cut_off(
     shared: &Shared,
     pass: &mut Pass,
@@ -67,6 +68,7 @@ fn push_labelled(queue: &mut BlockQueue<Entry>, nodes: &[NodeId], label: u64)
 /// flagged leaf beside each of its nodes, labelled at once, and waits at the end of the queue.
 /// Lost: it has only looked, and tagged an edge. It takes no memory. At most 3 steps for each node
 /// of the chain, and 8 more. (The cleanup of Natarajan and Mittal, section 3.2, for a whole chain.)
+#[inline(always)]
 pub fn cleanup(
     shared: &Shared,
     pass: &mut Pass,

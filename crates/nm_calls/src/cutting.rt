@@ -24,6 +24,7 @@ pub struct Kept {
 
 /// The edge to keep of the parent at which a walk stands, where one of its edges is flagged: two
 /// looks. (The cleanup of Natarajan and Mittal, section 3.2.)
+#[inline(always)]
 pub fn choose(shared: &Shared, pass: &mut Pass, spot: &Spot) -> Option<Kept>
     requires pinned { IsPinnedIn shared.now pass.old }
     requires known { Tells pass.old (KnowsSlot spot.now.parent) }

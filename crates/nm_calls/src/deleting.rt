@@ -16,7 +16,7 @@ ghost use Rattle.nm_calls.specs.Cleanups.{OnlyCleans, KeepsLedgers, HoldsCuts};
 ghost use Rattle.nm_calls.specs.Deletes.{IsRemoving, Removes, RemovesNothing, IsRemoval, IfRemoved, MayFlag, HasWonItsFlag, HasNotFlagged, IsFlagTry, ShowsFlag, OnlyInjects, IsInjection, ShowsInjection, RemovalAfter, leaf_of, DeleteFinishes, LosesAfterFlag, LacksRoomOr, FlagsThen, LosesEachTry, AfterDelete, AfterFinish, RestsOrRemoves};
 
 use crate::cleaning::cleanup;
-use crate::inserting::{help, make_room};
+use crate::inserting::{help, make_room, make_room_for};
 use crate::leaving::{answer, leave};
 use crate::looking::look_birth;
 use crate::marking::flag;
@@ -252,7 +252,7 @@ fn inject(
     ensures fit { workspace.new.placement ≡ workspace.old.placement }
 {
     for round in 0..tries {
-        if !make_room(queue) {
+        if !make_room_for(queue, round) {
             return Injection::Refused;
         }
         match try_flag(shared, pass, workspace, queue, key) {
@@ -268,6 +268,7 @@ fn inject(
 }
 
 /// Tries to remove the leaf that was flagged at the end of a walk: first by a cleanup by that walk.
+#[inline(always)]
 fn remove_after(
     shared: &Shared,
     pass: &mut Pass,

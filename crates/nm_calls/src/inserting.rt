@@ -84,6 +84,7 @@ fn asks_help(end: &End, found: Edge) -> bool
 
 /// Cleans up by the walk, where the edge that a lost exchange found leads to the same leaf and is
 /// marked.
+#[inline(always)]
 pub(crate) fn help(
     shared: &Shared,
     pass: &mut Pass,
@@ -171,6 +172,19 @@ pub(crate) fn make_room(queue: &mut BlockQueue<Entry>) -> bool
     queue.reserve(CUT_BOUND as u32).is_ok()
 }
 
+/// Makes such room for the try of a round; that of the first one was made before the pin.
+pub(crate) fn make_room_for(queue: &mut BlockQueue<Entry>, round: u32) -> bool
+    requires few { length queue.old.items ≤ 536870912 }
+    requires first { round ≡ 0 → cut_bound ≤ queue.old.spare }
+    ensures items { queue.new.items ≡ queue.old.items }
+    ensures room { result ≡ true → cut_bound ≤ queue.new.spare }
+    ensures refused { result ≡ false → queue.new.spare < cut_bound }
+    ensures more { queue.old.spare ≤ queue.new.spare }
+    ensures blocks { TakesRoom queue.old queue.new }
+{
+    round == 0 || make_room(queue)
+}
+
 /// The tries of an insert, from its pin to its answer. The room of the first one was made before
 /// the pin.
 fn insert_pinned(
@@ -200,8 +214,8 @@ fn insert_pinned(
     ensures fit { workspace.new.placement ≡ workspace.old.placement }
 {
     let mut fork: Option<Fork> = None;
-    for _round in 0..tries {
-        if !make_room(queue) {
+    for round in 0..tries {
+        if !make_room_for(queue, round) {
             give_back(shared, pass, &mut workspace.placement, &fork);
             leave(shared, pass);
             return Err(Fault::NoMemory);

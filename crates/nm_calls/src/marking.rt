@@ -58,6 +58,7 @@ pub fn flag(
 /// leaf beside each of its nodes: the ancestor's edge leads from then on where the parent's edge on
 /// the side `keep` leads, which is frozen as `kept`. The nodes wait for their label. Lost: the edge
 /// that was found.
+#[inline(always)]
 pub fn splice(
     shared: &Shared,
     pass: &mut Pass,

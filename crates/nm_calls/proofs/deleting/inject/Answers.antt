@@ -8,8 +8,11 @@ use Rattle.nm_calls.proofs.deleting.inject.Goals as goal
 pub try_flag-requires-clause-call : goal.try_flag-requires-clause-call
 try_flag-requires-clause-call c = call_still Delete c.args.key c.args.pass.now c.loop-round.pass c.loop-round.invariant.on c.requires.call
 
-pub make_room-requires : goal.make_room-requires
-make_room-requires c = record { few = may_grow_more c.loop-round.pass c.loop-round.queue.items c.loop-round.invariant.on.run c.loop-round.invariant.kept.queue }
+pub make_room_for-requires : goal.make_room_for-requires
+make_room_for-requires c = record {
+  few = may_grow_more c.loop-round.pass c.loop-round.queue.items c.loop-round.invariant.on.run c.loop-round.invariant.kept.queue;
+  first = c.loop-round.invariant.first;
+}
 
 pub loop-round-preserved : goal.loop-round-preserved
 loop-round-preserved c = record {
@@ -18,24 +21,24 @@ loop-round-preserved c = record {
   only = search rules;
   unflagged = c.in-Lost.ensures.shows ∙ c.loop-round.invariant.unflagged;
   first = λ none'. omega (arith, none');
-  blocks = takes_fills c.args.queue.now c.make_room.new.queue c.try_flag.new.queue (takes_then c.args.queue.now c.loop-round.queue c.make_room.new.queue c.loop-round.invariant.blocks c.make_room.ensures.blocks) c.try_flag.ensures.fills;
+  blocks = takes_fills c.args.queue.now c.make_room_for.new.queue c.try_flag.new.queue (takes_then c.args.queue.now c.loop-round.queue c.make_room_for.new.queue c.loop-round.invariant.blocks c.make_room_for.ensures.blocks) c.try_flag.ensures.fills;
   kept = c.try_flag.ensures.kept;
   fit = c.try_flag.ensures.fit ∙ c.loop-round.invariant.fit;
 }
 
-pub returns-then-not-make_room-clause-part : goal.returns-then-not-make_room-clause-part
-returns-then-not-make_room-clause-part c = (
+pub returns-then-not-make_room_for-clause-part : goal.returns-then-not-make_room_for-clause-part
+returns-then-not-make_room_for-clause-part c = (
   c.loop-round.round,
-  later_refused c.loop-round.round c.loop-round.queue c.make_room.new.queue c.loop-round.invariant.first c.make_room.ensures.more (c.make_room.ensures.refused c.if-not-make_room.true),
+  later_refused c.loop-round.round c.loop-round.queue c.make_room_for.new.queue c.loop-round.invariant.first c.make_room_for.ensures.more (c.make_room_for.ensures.refused c.if-not-make_room_for.true),
   c.loop-round-test.true,
   c.loop-round.invariant.lost,
 )
 
-pub returns-then-not-make_room-clause-blocks : goal.returns-then-not-make_room-clause-blocks
-returns-then-not-make_room-clause-blocks c = takes_then c.args.queue.now c.loop-round.queue c.make_room.new.queue c.loop-round.invariant.blocks c.make_room.ensures.blocks
+pub returns-then-not-make_room_for-clause-blocks : goal.returns-then-not-make_room_for-clause-blocks
+returns-then-not-make_room_for-clause-blocks c = takes_then c.args.queue.now c.loop-round.queue c.make_room_for.new.queue c.loop-round.invariant.blocks c.make_room_for.ensures.blocks
 
 pub returns-in-Absent-clause-blocks : goal.returns-in-Absent-clause-blocks
-returns-in-Absent-clause-blocks c = takes_fills c.args.queue.now c.make_room.new.queue c.try_flag.new.queue (takes_then c.args.queue.now c.loop-round.queue c.make_room.new.queue c.loop-round.invariant.blocks c.make_room.ensures.blocks) c.try_flag.ensures.fills
+returns-in-Absent-clause-blocks c = takes_fills c.args.queue.now c.make_room_for.new.queue c.try_flag.new.queue (takes_then c.args.queue.now c.loop-round.queue c.make_room_for.new.queue c.loop-round.invariant.blocks c.make_room_for.ensures.blocks) c.try_flag.ensures.fills
 
 pub returns-in-Flagged-clause-blocks : goal.returns-in-Flagged-clause-blocks
-returns-in-Flagged-clause-blocks c = takes_fills c.args.queue.now c.make_room.new.queue c.try_flag.new.queue (takes_then c.args.queue.now c.loop-round.queue c.make_room.new.queue c.loop-round.invariant.blocks c.make_room.ensures.blocks) c.try_flag.ensures.fills
+returns-in-Flagged-clause-blocks c = takes_fills c.args.queue.now c.make_room_for.new.queue c.try_flag.new.queue (takes_then c.args.queue.now c.loop-round.queue c.make_room_for.new.queue c.loop-round.invariant.blocks c.make_room_for.ensures.blocks) c.try_flag.ensures.fills

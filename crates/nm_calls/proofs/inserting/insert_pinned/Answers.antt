@@ -17,8 +17,8 @@ use Rattle.nm_calls.proofs.Rooms.{takes_then, takes_fills, later_refused}
 use Rattle.nm_calls.proofs.Waiting.{may_grow_more}
 use Rattle.nm_calls.proofs.inserting.insert_pinned.Goals as goal
 
-pub returns-then-not-make_room-clause-private : goal.returns-then-not-make_room-clause-private
-returns-then-not-make_room-clause-private c =
+pub returns-then-not-make_room_for-clause-private : goal.returns-then-not-make_room_for-clause-private
+returns-then-not-make_room_for-clause-private c =
     none_left c.args.pass.now c.give_back.new.pass c.leave.new.pass c.leave.ensures.hands.private (c.give_back.ensures.given c.args.pass.now c.loop-round.invariant.has)
 
 pub try_insert-requires-clause-call : goal.try_insert-requires-clause-call
@@ -55,7 +55,7 @@ loop-round-preserved c = record {
   unlinked = c.in-Lost.ensures.shows ∙ c.loop-round.invariant.unlinked;
   has = c.try_insert.ensures.has c.args.pass.now c.loop-round.invariant.has;
   first = λ none'. omega (arith, none');
-  blocks = takes_fills c.args.queue.now c.make_room.new.queue c.try_insert.new.queue (takes_then c.args.queue.now c.loop-round.queue c.make_room.new.queue c.loop-round.invariant.blocks c.make_room.ensures.blocks) c.try_insert.ensures.fills;
+  blocks = takes_fills c.args.queue.now c.make_room_for.new.queue c.try_insert.new.queue (takes_then c.args.queue.now c.loop-round.queue c.make_room_for.new.queue c.loop-round.invariant.blocks c.make_room_for.ensures.blocks) c.try_insert.ensures.fills;
   kept = c.try_insert.ensures.kept;
   fit = c.try_insert.ensures.fit ∙ c.loop-round.invariant.fit;
 }
@@ -64,8 +64,11 @@ pub returns-clause-private : goal.returns-clause-private
 returns-clause-private c =
     none_left c.args.pass.now c.give_back-2.new.pass c.leave-2.new.pass c.leave-2.ensures.hands.private (c.give_back-2.ensures.given c.args.pass.now c.loop-round.invariant.has)
 
-pub make_room-requires : goal.make_room-requires
-make_room-requires c = record { few = may_grow_more c.loop-round.pass c.loop-round.queue.items c.loop-round.invariant.on.run c.loop-round.invariant.kept.queue }
+pub make_room_for-requires : goal.make_room_for-requires
+make_room_for-requires c = record {
+  few = may_grow_more c.loop-round.pass c.loop-round.queue.items c.loop-round.invariant.on.run c.loop-round.invariant.kept.queue;
+  first = c.loop-round.invariant.first;
+}
 
 pub returns-in-Found-clause-moment : goal.returns-in-Found-clause-moment
 returns-in-Found-clause-moment c = λ o had.
@@ -93,34 +96,34 @@ returns-in-Found-clause-kept c = record {
       );
 }
 
-pub returns-then-not-make_room-clause-part : goal.returns-then-not-make_room-clause-part
-returns-then-not-make_room-clause-part c = (
-  c.loop-round._round,
+pub returns-then-not-make_room_for-clause-part : goal.returns-then-not-make_room_for-clause-part
+returns-then-not-make_room_for-clause-part c = (
+  c.loop-round.round,
   c.loop-round.fork,
   c.loop-round.pass.view.log,
   c.give_back.new.pass.view.log,
-  later_refused c.loop-round._round c.loop-round.queue c.make_room.new.queue c.loop-round.invariant.first c.make_room.ensures.more (c.make_room.ensures.refused c.if-not-make_room.true),
+  later_refused c.loop-round.round c.loop-round.queue c.make_room_for.new.queue c.loop-round.invariant.first c.make_room_for.ensures.more (c.make_room_for.ensures.refused c.if-not-make_room_for.true),
   c.loop-round-test.true,
   c.loop-round.invariant.lost,
   c.give_back.ensures.part,
   ap (λ (s : Stand). s.view.log) c.leave.ensures.took.step,
 )
 
-pub returns-then-not-make_room-clause-blocks : goal.returns-then-not-make_room-clause-blocks
-returns-then-not-make_room-clause-blocks c = takes_then c.args.queue.now c.loop-round.queue c.make_room.new.queue c.loop-round.invariant.blocks c.make_room.ensures.blocks
+pub returns-then-not-make_room_for-clause-blocks : goal.returns-then-not-make_room_for-clause-blocks
+returns-then-not-make_room_for-clause-blocks c = takes_then c.args.queue.now c.loop-round.queue c.make_room_for.new.queue c.loop-round.invariant.blocks c.make_room_for.ensures.blocks
 
 pub returns-in-Found-clause-blocks : goal.returns-in-Found-clause-blocks
-returns-in-Found-clause-blocks c = takes_fills c.args.queue.now c.make_room.new.queue c.try_insert.new.queue (takes_then c.args.queue.now c.loop-round.queue c.make_room.new.queue c.loop-round.invariant.blocks c.make_room.ensures.blocks) c.try_insert.ensures.fills
+returns-in-Found-clause-blocks c = takes_fills c.args.queue.now c.make_room_for.new.queue c.try_insert.new.queue (takes_then c.args.queue.now c.loop-round.queue c.make_room_for.new.queue c.loop-round.invariant.blocks c.make_room_for.ensures.blocks) c.try_insert.ensures.fills
 
 pub returns-in-Linked-clause-blocks : goal.returns-in-Linked-clause-blocks
-returns-in-Linked-clause-blocks c = takes_fills c.args.queue.now c.make_room.new.queue c.try_insert.new.queue (takes_then c.args.queue.now c.loop-round.queue c.make_room.new.queue c.loop-round.invariant.blocks c.make_room.ensures.blocks) c.try_insert.ensures.fills
+returns-in-Linked-clause-blocks c = takes_fills c.args.queue.now c.make_room_for.new.queue c.try_insert.new.queue (takes_then c.args.queue.now c.loop-round.queue c.make_room_for.new.queue c.loop-round.invariant.blocks c.make_room_for.ensures.blocks) c.try_insert.ensures.fills
 
 pub returns-in-Full-clause-blocks : goal.returns-in-Full-clause-blocks
-returns-in-Full-clause-blocks c = takes_fills c.args.queue.now c.make_room.new.queue c.try_insert.new.queue (takes_then c.args.queue.now c.loop-round.queue c.make_room.new.queue c.loop-round.invariant.blocks c.make_room.ensures.blocks) c.try_insert.ensures.fills
+returns-in-Full-clause-blocks c = takes_fills c.args.queue.now c.make_room_for.new.queue c.try_insert.new.queue (takes_then c.args.queue.now c.loop-round.queue c.make_room_for.new.queue c.loop-round.invariant.blocks c.make_room_for.ensures.blocks) c.try_insert.ensures.fills
 
 pub returns-in-Full-clause-part : goal.returns-in-Full-clause-part
 returns-in-Full-clause-part c =
     let h : IsTry c.args.workspace.now.placement c.args.shared.now.layout.nodes c.args.key c.loop-round.fork c.try_insert.new.fork c.loop-round.pass.view.log c.try_insert.new.pass.view.log attempt.Full =
     subst (λ (f : Fit). IsTry f c.args.shared.now.layout.nodes c.args.key c.loop-round.fork c.try_insert.new.fork c.loop-round.pass.view.log c.try_insert.new.pass.view.log attempt.Full) c.loop-round.invariant.fit c.in-Full.ensures.part in
     let full : IsTry c.args.workspace.now.placement c.args.shared.now.layout.nodes c.args.key c.loop-round.fork None c.loop-round.pass.view.log c.try_insert.new.pass.view.log attempt.Full = (h.0, h.1, h.2, h.3, h.4, h.5, refl, h.7) in
-    (c.try_insert.new.pass.view.log, (c.loop-round._round, c.loop-round.fork, c.loop-round.pass.view.log, c.loop-round-test.true, c.loop-round.invariant.lost, full), ap (λ (s : Stand). s.view.log) c.leave-in-Full.ensures.took.step)
+    (c.try_insert.new.pass.view.log, (c.loop-round.round, c.loop-round.fork, c.loop-round.pass.view.log, c.loop-round-test.true, c.loop-round.invariant.lost, full), ap (λ (s : Stand). s.view.log) c.leave-in-Full.ensures.took.step)

@@ -9,12 +9,12 @@ use Rattle.nm_calls.proofs.inserting.insert_pinned.Given as goal
 
 abbrev pub invariant-loop-round : goal.invariant-loop-round
 invariant-loop-round l = record {
-  lost : LostInserts l.fn.workspace.placement l.shared.layout.nodes l.key l._round l.fork l.fn.pass.view.log l.pass.view.log;
+  lost : LostInserts l.fn.workspace.placement l.shared.layout.nodes l.key l.round l.fork l.fn.pass.view.log l.pass.view.log;
   on : GoesOn l.fn.pass l.pass;
   only : OnlyTries l.fn.pass l.pass;
   unlinked : (search l.pass).linked ≡ false;
   has : HasFork l.fn.pass l.pass l.fork;
-  first : l._round ≡ 0 → cut_bound ≤ l.queue.spare;
+  first : l.round ≡ 0 → cut_bound ≤ l.queue.spare;
   blocks : TakesRoom l.fn.queue l.queue;
   kept : HoldsCuts l.pass l.queue l.workspace.splices;
   fit : l.workspace.placement ≡ l.fn.workspace.placement;
