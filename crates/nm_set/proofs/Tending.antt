@@ -1,5 +1,5 @@
 -- What tended calls leave, by what each part of them leaves.
-use Rattle.std.proofs.Common.{◌≡◌, ◌≤◌, ◌⊎◌, inl, inr, true≢false, ℕ, zero, suc, ◌+◌, ◌*◌, Bool, true, false, List, [], ◌∷◌, length, refl, sym, ap, subst, ◌∙◌, arith}
+use Rattle.std.proofs.Common.{◌≡◌, ◌≤◌, ◌⊎◌, inl, inr, true≢false, ℕ, zero, suc, ◌+◌, ◌-◌, ◌*◌, Bool, true, false, List, [], ◌∷◌, length, refl, sym, ap, subst, ◌∙◌, arith}
 use Rattle.std.specs.Prelude.{drop, unwrap_or, Option, Some, None, IsSome, Result, Ok, Err, IfOk}
 use Rattle.std.proofs.Math.Nat.{suc-mul, add-mul, mul-le-mul_right}
 use Rattle.std.proofs.lemmas.List.{drop-drop, length-append}
@@ -195,6 +195,24 @@ goes_relieved b t w z free r =
 goes_tidied : (b : Board) (t many : ℕ) (w z : Hand) → w.held ≡ None → IsBetweenCalls w → IsTidied b many w z → GoesOnTended (round_bound t b.layout) w z
 goes_tidied b t many w z free between (inl did) = goes_relieved b t w z free did.1
 goes_tidied b t many w z free between (inr did) = subst (GoesOnTended (round_bound t b.layout) w) (sym did.1) (goes_more 0 (round_bound t b.layout) w w (omega arith) (goes_nowhere w free between))
+
+-- ---- calls that are made again
+
+-- one step before so many
+row_begins : (step : Hand → Hand → Type 0) (n : ℕ) (w m z : Hand) → step w m → InARow step n m z → InARow step (suc n) w z
+row_begins step zero w m z first rest = (w, refl, subst (step w) (sym rest) first)
+row_begins step (suc n) w m z first (x, rest, last) = (x, row_begins step n w m x first rest, last)
+
+-- where the first call has lost, the others of as many rounds are those of one round less
+pub asked_more : {R : Type 0} (leaves : Hand → Hand → R → Type 0) (lost : R) (rounds : ℕ) (w m z : Hand) (r : R) → 1 ≤ rounds → leaves w m lost → IsAsked leaves lost (rounds - 1) m z r → IsAsked leaves lost rounds w z r
+asked_more leaves lost rounds w m z r some first rest = record {
+  before = suc rest.before;
+  begun = rest.begun;
+  each = row_begins (λ x y. leaves x y lost) rest.before w m rest.begun first rest.each;
+  last = rest.last;
+  few = let few = rest.few in omega (arith, some, few);
+  all = λ told. let all = rest.all told in omega (arith, some, all);
+}
 
 -- ---- steps in a row
 

@@ -146,6 +146,7 @@ impl Member {
     /// Inserts a key, and answers whether it was not in the set: `Tree::insert` of `nm_tree`.
     ///
     /// `Held`: the caller holds the worker. Other faults are the tree's.
+    #[inline(always)]
     pub fn insert(&mut self, key: Key, tries: u32) -> Result<bool, Fault>
         ensures board { self.new.board ≡ self.old.board }
         ensures did { Asked (LeavesInsert self.old.board.layout.nodes tries key) self.old.hand
@@ -164,6 +165,7 @@ impl Member {
     ///
     /// `Held`: the caller holds the worker. Other faults are the tree's; behind `Unfinished` the
     /// key is pending, and `finish` goes on.
+    #[inline(always)]
     pub fn delete(&mut self, key: Key, tries: u32) -> Result<bool, Fault>
         ensures board { self.new.board ≡ self.old.board }
         ensures did { Asked (LeavesDelete self.old.board.layout.nodes tries key) self.old.hand
@@ -180,6 +182,7 @@ impl Member {
 
     /// Goes on with the delete that is pending: `Tree::finish` of `nm_tree`, with its faults. False
     /// with no step where none is pending.
+    #[inline(always)]
     pub fn finish(&mut self, tries: u32) -> Result<bool, nm_tree::Fault>
         ensures board { self.new.board ≡ self.old.board }
         ensures did { LeavesFinish self.old.board.layout.nodes tries self.old.hand self.new.hand

@@ -1,6 +1,6 @@
 //! Calls that tend the set: a call that has lost its tries is made again, a delete that has begun
 //! is finished, and retired nodes are collected.
-ghost use Rattle.std.specs.Prelude.{◌≡◌, ◌≢◌, true, false, None, Err};
+ghost use Rattle.std.specs.Prelude.{◌≡◌, ◌≢◌, ◌≤◌, ◌-◌, true, false, None, Err};
 ghost use Rattle.nm_tree.specs.declared.fault.Fault.TheVariants as lost;
 ghost use Rattle.nm_set.specs.Tended.{busy, Looks, Inserts, Deletes, FinishesPending, IsRelieved, IsTidied, InsertsOn, DeletesOn, TendsHas, TendsInsert, TendsDelete};
 
@@ -58,6 +58,17 @@ fn is_unfinished(told: &Result<bool, Fault>) -> bool
     ensures no { result ≡ false → told.now ≢ Err (Fault.Call lost.Unfinished) }
 {
     matches!(told, Err(Fault::Call(CallFault::Unfinished)))
+}
+
+/// The habit with a round less.
+fn without_one(habit: &Habit) -> Habit
+    requires { 1 ≤ habit.now.rounds }
+    ensures { result ≡ record habit.now { rounds = habit.now.rounds - 1 } }
+{
+    Habit {
+        rounds: habit.rounds - 1,
+        ..*habit
+    }
 }
 
 impl Member {
@@ -145,7 +156,7 @@ impl Member {
             return told;
         }
         self.relieve();
-        self.insert_again(key, habit)
+        self.insert_rounds(key, habit)
     }
 
     /// A delete, and what is left to do of it.
@@ -164,6 +175,8 @@ impl Member {
     }
 
     /// Moves the epoch on twice, unless others hold it back, and collects.
+    #[cold]
+    #[inline(never)]
     fn relieve(&mut self)
         ensures board { self.new.board ≡ self.old.board }
         ensures did { IsRelieved self.old.board self.old.hand self.new.hand }
@@ -183,8 +196,23 @@ impl Member {
         }
     }
 
-    /// Look-ups, until one has not lost each of its tries.
+    /// Look-ups, until one has not lost each of its tries: nearly always it is the first one.
+    #[inline(always)]
     fn has_again(&mut self, key: Key, habit: &Habit) -> Result<bool, Fault>
+        ensures board { self.new.board ≡ self.old.board }
+        ensures did { Looks self.old.board habit.now key self.old.hand self.new.hand result }
+    {
+        let told = self.has(key, habit.tries);
+        if !is_busy(&told) || habit.rounds == 0 {
+            return told;
+        }
+        self.has_rounds(key, &without_one(habit))
+    }
+
+    /// Look-ups, until one has not lost each of its tries.
+    #[cold]
+    #[inline(never)]
+    fn has_rounds(&mut self, key: Key, habit: &Habit) -> Result<bool, Fault>
         ensures board { self.new.board ≡ self.old.board }
         ensures did { Looks self.old.board habit.now key self.old.hand self.new.hand result }
     {
@@ -197,8 +225,23 @@ impl Member {
         self.has(key, habit.tries)
     }
 
-    /// Inserts, until one has not lost each of its tries.
+    /// Inserts, until one has not lost each of its tries: nearly always it is the first one.
+    #[inline(always)]
     fn insert_again(&mut self, key: Key, habit: &Habit) -> Result<bool, Fault>
+        ensures board { self.new.board ≡ self.old.board }
+        ensures did { Inserts self.old.board habit.now key self.old.hand self.new.hand result }
+    {
+        let told = self.insert(key, habit.tries);
+        if !is_busy(&told) || habit.rounds == 0 {
+            return told;
+        }
+        self.insert_rounds(key, &without_one(habit))
+    }
+
+    /// Inserts, until one has not lost each of its tries.
+    #[cold]
+    #[inline(never)]
+    fn insert_rounds(&mut self, key: Key, habit: &Habit) -> Result<bool, Fault>
         ensures board { self.new.board ≡ self.old.board }
         ensures did { Inserts self.old.board habit.now key self.old.hand self.new.hand result }
     {
@@ -211,8 +254,23 @@ impl Member {
         self.insert(key, habit.tries)
     }
 
-    /// Deletes, until one has not lost each of its tries.
+    /// Deletes, until one has not lost each of its tries: nearly always it is the first one.
+    #[inline(always)]
     fn delete_again(&mut self, key: Key, habit: &Habit) -> Result<bool, Fault>
+        ensures board { self.new.board ≡ self.old.board }
+        ensures did { Deletes self.old.board habit.now key self.old.hand self.new.hand result }
+    {
+        let told = self.delete(key, habit.tries);
+        if !is_busy(&told) || habit.rounds == 0 {
+            return told;
+        }
+        self.delete_rounds(key, &without_one(habit))
+    }
+
+    /// Deletes, until one has not lost each of its tries.
+    #[cold]
+    #[inline(never)]
+    fn delete_rounds(&mut self, key: Key, habit: &Habit) -> Result<bool, Fault>
         ensures board { self.new.board ≡ self.old.board }
         ensures did { Deletes self.old.board habit.now key self.old.hand self.new.hand result }
     {

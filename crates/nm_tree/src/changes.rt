@@ -96,6 +96,8 @@ fn flags_of(answer: &Result<bool, Missed>) -> u64
 }
 
 /// What is left to do of a delete, with the own queue and its account.
+#[cold]
+#[inline(never)]
 fn finish_with(
     shared: &Shared,
     pass: &mut Pass,
@@ -203,6 +205,7 @@ impl Tree {
     /// the fewest blocks, and no other memory is taken. `Unfinished`: all tries were made or the
     /// room of one was refused, and the key is pending still. (The cleanup mode of Natarajan and
     /// Mittal's delete, section 3.2.)
+    #[inline(always)]
     pub fn finish(&self, worker: &mut Worker, tries: u32) -> Result<bool, Fault>
         requires own { IsOf self.now worker.old.pass }
         ensures { LeavesFinish self.now.layout.nodes tries worker.old worker.new result }

@@ -1,32 +1,25 @@
-use Rattle.std.proofs.Common.{◌≡◌, refl, subst, arith}
+use Rattle.std.proofs.Common.{◌-◌, refl, subst, arith}
+use Rattle.std.specs.Prelude.{Result, Bool}
 use Rattle.nm_steps.specs.Steps.{Board}
 use Rattle.nm_tree.specs.Calls.{LeavesHas}
+use Rattle.nm_set.specs.declared.fault.Fault.{Fault}
+use Rattle.nm_set.specs.declared.tended.Habit.{Habit}
 use Rattle.nm_set.specs.Asked.{Asked}
+use Rattle.nm_set.specs.Tended.{busy, Looks}
+use Rattle.nm_set.proofs.Tending.{asked_more}
 use Rattle.nm_set.proofs.member.Member.has_again.Goals as goal
-
-pub returns-then-not-is_busy-clause-did : goal.returns-then-not-is_busy-clause-did
-returns-then-not-is_busy-clause-did c =
-    let P : Board → Type 0 = λ b. Asked (LeavesHas b.layout.nodes c.args.habit.now.tries c.args.key) c.loop-round.self.hand c.has-told.new.self.hand c.has-told.result in
-    record {
-      before = c.loop-round._round;
-      begun = c.loop-round.self.hand;
-      each = c.loop-round.invariant.each;
-      last = subst P c.loop-round.invariant.board c.has-told.ensures.did;
-      few = omega (arith, c.loop-round-test.true);
-      all = λ told. absurd (c.if-not-is_busy.ensures.no refl told);
-    }
 
 pub returns-clause-did : goal.returns-clause-did
 returns-clause-did c =
-    let P : Board → Type 0 = λ b. Asked (LeavesHas b.layout.nodes c.args.habit.now.tries c.args.key) c.loop-round.self.hand c.has.new.self.hand c.has.result in
-    let past = c.loop-round-test.false in
-    let within = c.loop-round.auto._round-end in
-    let all : c.loop-round._round ≡ c.args.habit.now.rounds = omega (arith, past, within) in
-    record {
-      before = c.loop-round._round;
-      begun = c.loop-round.self.hand;
-      each = c.loop-round.invariant.each;
-      last = subst P c.loop-round.invariant.board c.has.ensures.did;
-      few = within;
-      all = λ told. all;
-    }
+    let b = c.args.self.now.board in
+    let h = c.args.habit.now in
+    let k = c.args.key in
+    let w = c.args.self.now.hand in
+    let m = c.has-told.new.self.hand in
+    let z = c.has_rounds.new.self.hand in
+    let r = c.has_rounds.result in
+    let some = c.if-habit-eq0.false in
+    let first = subst (λ (t : Result Bool Fault). Asked (LeavesHas b.layout.nodes h.tries k) w m t) (c.if-not-is_busy.ensures.yes refl) c.has-told.ensures.did in
+    let rest : Looks b (record h { rounds = h.rounds - 1 }) k m z r =
+    subst (λ (g : Habit). Looks b g k m z r) c.without_one.ensures (subst (λ (d : Board). Looks d c.without_one.result k m z r) c.has-told.ensures.board c.has_rounds.ensures.did) in
+    asked_more (Asked (LeavesHas b.layout.nodes h.tries k)) busy h.rounds w m z r (omega (arith, some)) first rest

@@ -1,32 +1,25 @@
-use Rattle.std.proofs.Common.{◌≡◌, refl, subst, arith}
+use Rattle.std.proofs.Common.{◌-◌, refl, subst, arith}
+use Rattle.std.specs.Prelude.{Result, Bool}
 use Rattle.nm_steps.specs.Steps.{Board}
 use Rattle.nm_tree.specs.Calls.{LeavesInsert}
+use Rattle.nm_set.specs.declared.fault.Fault.{Fault}
+use Rattle.nm_set.specs.declared.tended.Habit.{Habit}
 use Rattle.nm_set.specs.Asked.{Asked}
+use Rattle.nm_set.specs.Tended.{busy, Inserts}
+use Rattle.nm_set.proofs.Tending.{asked_more}
 use Rattle.nm_set.proofs.member.Member.insert_again.Goals as goal
-
-pub returns-then-not-is_busy-clause-did : goal.returns-then-not-is_busy-clause-did
-returns-then-not-is_busy-clause-did c =
-    let P : Board → Type 0 = λ b. Asked (LeavesInsert b.layout.nodes c.args.habit.now.tries c.args.key) c.loop-round.self.hand c.insert-told.new.self.hand c.insert-told.result in
-    record {
-      before = c.loop-round._round;
-      begun = c.loop-round.self.hand;
-      each = c.loop-round.invariant.each;
-      last = subst P c.loop-round.invariant.board c.insert-told.ensures.did;
-      few = omega (arith, c.loop-round-test.true);
-      all = λ told. absurd (c.if-not-is_busy.ensures.no refl told);
-    }
 
 pub returns-clause-did : goal.returns-clause-did
 returns-clause-did c =
-    let P : Board → Type 0 = λ b. Asked (LeavesInsert b.layout.nodes c.args.habit.now.tries c.args.key) c.loop-round.self.hand c.insert.new.self.hand c.insert.result in
-    let past = c.loop-round-test.false in
-    let within = c.loop-round.auto._round-end in
-    let all : c.loop-round._round ≡ c.args.habit.now.rounds = omega (arith, past, within) in
-    record {
-      before = c.loop-round._round;
-      begun = c.loop-round.self.hand;
-      each = c.loop-round.invariant.each;
-      last = subst P c.loop-round.invariant.board c.insert.ensures.did;
-      few = within;
-      all = λ told. all;
-    }
+    let b = c.args.self.now.board in
+    let h = c.args.habit.now in
+    let k = c.args.key in
+    let w = c.args.self.now.hand in
+    let m = c.insert-told.new.self.hand in
+    let z = c.insert_rounds.new.self.hand in
+    let r = c.insert_rounds.result in
+    let some = c.if-habit-eq0.false in
+    let first = subst (λ (t : Result Bool Fault). Asked (LeavesInsert b.layout.nodes h.tries k) w m t) (c.if-not-is_busy.ensures.yes refl) c.insert-told.ensures.did in
+    let rest : Inserts b (record h { rounds = h.rounds - 1 }) k m z r =
+    subst (λ (g : Habit). Inserts b g k m z r) c.without_one.ensures (subst (λ (d : Board). Inserts d c.without_one.result k m z r) c.insert-told.ensures.board c.insert_rounds.ensures.did) in
+    asked_more (Asked (LeavesInsert b.layout.nodes h.tries k)) busy h.rounds w m z r (omega (arith, some)) first rest

@@ -10,9 +10,9 @@ returns-clause-did c =
     let b = c.args.self.now.board in
     let x = c.insert_again-told.new.self.hand in
     let y = c.relieve.new.self.hand in
-    let z = c.insert_again.new.self.hand in
+    let z = c.insert_rounds.new.self.hand in
     let same : c.insert_again-told.new.self.board ≡ b = c.insert_again-told.ensures.board in
     let first = subst (λ (r : Result Bool Fault). Inserts b c.args.habit.now c.args.key c.args.self.now.hand x r) (c.if-not-is_full.ensures.yes refl) c.insert_again-told.ensures.did in
     let relieved = subst (λ (d : Board). IsRelieved d x y) same c.relieve.ensures.did in
-    let again = subst (λ (d : Board). Inserts d c.args.habit.now c.args.key y z c.insert_again.result) (c.relieve.ensures.board ∙ same) c.insert_again.ensures.did in
+    let again = subst (λ (d : Board). Inserts d c.args.habit.now c.args.key y z c.insert_rounds.result) (c.relieve.ensures.board ∙ same) c.insert_rounds.ensures.did in
     inr (x, y, first, relieved, again)

@@ -2,7 +2,7 @@ use Rattle.std.proofs.Common.{◌≡◌}
 use Rattle.nm_tree.specs.Calls.{LeavesInsert}
 use Rattle.nm_set.specs.Asked.{Asked}
 use Rattle.nm_set.specs.Tended.{InARow, busy}
-use Rattle.nm_set.proofs.member.Member.insert_again.Given as goal
+use Rattle.nm_set.proofs.member.Member.insert_rounds.Given as goal
 
 abbrev pub invariant-loop-round : goal.invariant-loop-round
 invariant-loop-round l = record {

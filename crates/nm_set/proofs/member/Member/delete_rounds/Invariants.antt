@@ -1,11 +1,11 @@
 use Rattle.std.proofs.Common.{◌≡◌}
-use Rattle.nm_tree.specs.Calls.{LeavesHas}
+use Rattle.nm_tree.specs.Calls.{LeavesDelete}
 use Rattle.nm_set.specs.Asked.{Asked}
 use Rattle.nm_set.specs.Tended.{InARow, busy}
-use Rattle.nm_set.proofs.member.Member.has_again.Given as goal
+use Rattle.nm_set.proofs.member.Member.delete_rounds.Given as goal
 
 abbrev pub invariant-loop-round : goal.invariant-loop-round
 invariant-loop-round l = record {
   board : l.self.board ≡ l.fn.self.board;
-  each : InARow (λ x y. Asked (LeavesHas l.fn.self.board.layout.nodes l.habit.tries l.key) x y busy) l._round l.fn.self.hand l.self.hand;
+  each : InARow (λ x y. Asked (LeavesDelete l.fn.self.board.layout.nodes l.habit.tries l.key) x y busy) l._round l.fn.self.hand l.self.hand;
 }
