@@ -22,7 +22,7 @@ pub struct Busy;
 /// was lost in each of `tries` tries; or each of `tries` walks had looked at as many nodes as there
 /// are, and none had ended. At most `tries` * (4 `nodes` + 512) + 6 `nodes` + 10 steps. (The search
 /// of Natarajan and Mittal, section 3.2.)
-#[inline]
+#[inline(always)]
 pub fn has(shared: &Shared, pass: &mut Pass, key: Key, tries: u32) -> Result<bool, Busy>
     requires own { IsOf shared.now pass.old }
     requires rests { IsResting pass.old }

@@ -15,7 +15,7 @@ impl Tree {
     /// or each of `tries` walks had looked at as many nodes as there are, and none had ended.
     /// `Pending`: a key is pending. The worker is not held. (The search of Natarajan and Mittal,
     /// section 3.2.)
-    #[inline]
+    #[inline(always)]
     pub fn has(&self, worker: &mut Worker, key: Key, tries: u32) -> Result<bool, Fault>
         requires { MayCall self.now worker.old }
         ensures { LeavesHas self.now.layout.nodes tries key worker.old worker.new result }
