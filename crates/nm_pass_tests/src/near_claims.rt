@@ -66,24 +66,19 @@ fn a_slot_that_was_given_back_last_is_first(rt: HostRuntime) -> Result<(), Fail>
 }
 
 #[test]
-fn slots_that_were_given_back_are_taken_last_first(rt: HostRuntime) -> Result<(), Fail> {
+fn more_than_four_slots_are_remembered(rt: HostRuntime) -> Result<(), Fail> {
     let (shared, passes) = Shared::new(rt.alloc(), Layout::new(TWELVE, 1)?)?;
     let mut pass = only(&shared, passes);
     let mut near = Placement::new(Fit::Near, 6);
-    for slot in [6, 7, 8, 9, 10] {
-        let Some(node) = claim_by(&shared, &mut pass, &mut near) else {
-            panic!(rt; "there are free slots")
-        };
-        assert_eq!(rt; node.slot, slot);
-        give(&shared, &mut pass, node);
-    }
-    for slot in [6, 7, 8, 9, 10] {
+    for slot in [8, 9, 10, 11, 12] {
         near.keep(slot);
     }
-    for slot in [10, 9, 8, 7, 6] {
-        assert_eq!(rt; claim_by(&shared, &mut pass, &mut near), second_of(slot));
-    }
+    assert_eq!(rt; claim_by(&shared, &mut pass, &mut near), first_of(12));
     assert_eq!(rt; claim_by(&shared, &mut pass, &mut near), first_of(11));
+    assert_eq!(rt; claim_by(&shared, &mut pass, &mut near), first_of(10));
+    assert_eq!(rt; claim_by(&shared, &mut pass, &mut near), first_of(9));
+    assert_eq!(rt; claim_by(&shared, &mut pass, &mut near), first_of(8));
+    assert_eq!(rt; claim_by(&shared, &mut pass, &mut near), first_of(6));
     Ok(())
 }
 
