@@ -48,17 +48,30 @@ private:
     Access worker_;
 };
 
-// A row of the table: what is called, and how many nanoseconds a call takes at least.
+// A row of the table: what is called, how long the calls of a round have taken, and how many
+// nanoseconds a call took in the round that was least.
 struct Row {
     const char *name;
+    double taken = 0;
+    std::size_t calls = 0;
     double least = 1e300;
+
+    void end_round() {
+        least = std::min(least, taken / static_cast<double>(calls));
+        taken = 0, calls = 0;
+    }
 };
 
 using Table = std::array<Row, 8>;
 
 Table new_table() {
-    return {{{"look-up, true"}, {"insert, false"}, {"delete, false"}, {"insert, true"},
-             {"delete, true"}, {"90 look-ups of 100"}, {"50 look-ups of 100"}, {"no look-ups"}}};
+    Table table;
+    const char *names[] = {
+        "look-up, true",     "insert, false",     "delete, false", "insert, true", "delete, true",
+        "90 look-ups of 100", "50 look-ups of 100", "no look-ups",
+    };
+    for (std::size_t row = 0; row < table.size(); row++) table[row].name = names[row];
+    return table;
 }
 
 // Times so many calls, of which `wanted` answer true where that is known.
@@ -72,7 +85,7 @@ void time(Row &row, std::size_t calls, std::size_t wanted, bool is_known, Calls 
                      row.name, trues, calls, wanted);
         std::exit(1);
     }
-    row.least = std::min(row.least, taken.count() / static_cast<double>(calls));
+    row.taken += taken.count(), row.calls += calls;
 }
 
 template <class Call> std::size_t trues_of(const std::vector<Key> &keys, Call call) {
@@ -127,6 +140,7 @@ public:
         for (std::size_t mix = 0; mix < 3; mix++)
             time(table[5 + mix], 400'000, 0, false,
                  [&] { return mixed(mixes_, keys_, looks[mix], random); });
+        for (Row &row : table) row.end_round();
     }
 
     Table table = new_table();
