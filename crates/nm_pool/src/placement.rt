@@ -12,7 +12,7 @@ use nm_steps::{Pass, Shared};
 use std::marker::Model;
 
 /// How many of the slots that were given back a worker remembers.
-const RECENT: usize = 64;
+const RECENT: usize = 16;
 
 /// How many of them a claim tries.
 const TRIES: usize = 4;
@@ -25,7 +25,7 @@ const SLOTS_OF_A_ROW: u32 = 64;
 pub enum Fit {
     /// From slot 6 upwards at each claim: first fit.
     Lowest,
-    /// First slots that the worker gave back, up to four of the last 64, the last one first; then
+    /// First slots that the worker gave back, up to four of the last 16, the last one first; then
     /// from its cursor upwards, and round, beginning where a peek at the pool shows a slot: next
     /// fit.
     Near,
@@ -148,7 +148,7 @@ impl Placement {
     }
 
     /// Remembers a slot that was given back, so that a near claim tries it first. The one that was
-    /// remembered longest of 64 is forgotten.
+    /// remembered longest of 16 is forgotten.
     pub fn keep(&mut self, slot: u32)
         ensures { self.new ≡ self.old }
     {
@@ -209,7 +209,7 @@ fn claim_near(shared: &Shared, pass: &mut Pass, near: &mut Near) -> Option<NodeI
     Some(node)
 }
 
-/// The first of the slots that were given back last, four at most, which is found in the pool and is
+/// Of the slots that were given back last, four at most, the first that is found in the pool and is
 /// not worn. Each one that is tried is forgotten.
 fn claim_recent(shared: &Shared, pass: &mut Pass, near: &mut Near) -> Option<NodeId>
     requires own { IsOf shared.now pass.old }

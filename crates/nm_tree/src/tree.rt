@@ -54,7 +54,7 @@ impl Tree {
     }
 
     /// The same, but a worker looks for a free slot first among those that it gave back last, four
-    /// of the last 64 at most, and then from its cursor upwards, and round. So a claim takes few
+    /// of the last 16 at most, and then from its cursor upwards, and round. So a claim takes few
     /// steps where most slots are free, and which slot a new node takes is not told beforehand.
     ///
     /// (Next fit: Knuth, The Art of Computer Programming, volume 1, section 2.5.)
