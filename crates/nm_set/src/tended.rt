@@ -283,9 +283,23 @@ impl Member {
         self.delete(key, habit.tries)
     }
 
-    /// What is left to do of a delete, until it is done.
+    /// What is left to do of a delete, until it is done: nearly always there is nothing.
     #[inline(always)]
     fn finish_again(&mut self, habit: &Habit) -> Result<bool, CallFault>
+        ensures board { self.new.board ≡ self.old.board }
+        ensures did { FinishesPending self.old.board habit.now self.old.hand self.new.hand result }
+    {
+        let told = self.finish(habit.tries);
+        if told.is_ok() || habit.rounds == 0 {
+            return told;
+        }
+        self.finish_rounds(&without_one(habit))
+    }
+
+    /// What is left to do of a delete, until it is done.
+    #[cold]
+    #[inline(never)]
+    fn finish_rounds(&mut self, habit: &Habit) -> Result<bool, CallFault>
         ensures board { self.new.board ≡ self.old.board }
         ensures did { FinishesPending self.old.board habit.now self.old.hand self.new.hand result }
     {
