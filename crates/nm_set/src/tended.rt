@@ -60,6 +60,14 @@ fn is_unfinished(told: &Result<bool, Fault>) -> bool
     matches!(told, Err(Fault::Call(CallFault::Unfinished)))
 }
 
+/// Whether what is left to do of a delete has lost each of its tries.
+fn is_lost(told: &Result<bool, CallFault>) -> bool
+    ensures yes { result ≡ true → told.now ≡ Err lost.Unfinished }
+    ensures no { result ≡ false → told.now ≢ Err lost.Unfinished }
+{
+    matches!(told, Err(CallFault::Unfinished))
+}
+
 /// The habit with a round less.
 fn without_one(habit: &Habit) -> Habit
     requires { 1 ≤ habit.now.rounds }
@@ -290,7 +298,7 @@ impl Member {
         ensures did { FinishesPending self.old.board habit.now self.old.hand self.new.hand result }
     {
         let told = self.finish(habit.tries);
-        if told.is_ok() || habit.rounds == 0 {
+        if !is_lost(&told) || habit.rounds == 0 {
             return told;
         }
         self.finish_rounds(&without_one(habit))
