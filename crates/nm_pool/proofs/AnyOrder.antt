@@ -99,19 +99,19 @@ is_lowest nodes old new (Some n) c = let below = c.below in record { least = c.l
 
 -- ---- near claims
 
-module _ (nodes first : ℕ) (old a : List Entry) (low : 5 < first) (high : first ≤ nodes) (few : IsClaimOfFew 4 nodes old a None) where
-  -- upwards from the cursor
-  upwards : (b : List Entry) (o : Option NodeId) → IsClaimBetween first (nodes + 1) a b o → IsClaimOfFew (4 + (nodes + 1 - first)) nodes old b o
-  upwards b o up = few_then 4 (nodes + 1 - first) nodes old a b o few (few_between first (nodes + 1) nodes a b o low (omega (arith, high)) (omega arith) up)
+module _ (nodes first : ℕ) (old a : List Entry) (low : 5 < first) (high : first ≤ nodes) (few : IsClaimOfFew 1 nodes old a None) where
+  -- behind a hint, upwards from the cursor
+  upwards : (b : List Entry) (o : Option NodeId) → IsClaimBetween first (nodes + 1) a b o → IsClaimOfFew (1 + (nodes + 1 - first)) nodes old b o
+  upwards b o up = few_then 1 (nodes + 1 - first) nodes old a b o few (few_between first (nodes + 1) nodes a b o low (omega (arith, high)) (omega arith) up)
 
   pub near_above : (b : List Entry) (n : NodeId) → IsClaimBetween first (nodes + 1) a b (Some n) → IsNearClaim nodes old b (Some n)
-  near_above b n up = wider (4 + (nodes + 1 - first)) nodes nodes old b (Some n) (omega (arith, low, high)) (upwards b (Some n) up)
+  near_above b n up = wider (1 + (nodes + 1 - first)) nodes nodes old b (Some n) (omega (arith, low, high)) (upwards b (Some n) up)
 
   module _ (b new : List Entry) (up : IsClaimBetween first (nodes + 1) a b None) where
     pub near_below : (n : NodeId) → IsClaimBetween 6 first b new (Some n) → IsNearClaim nodes old new (Some n)
     near_below n around =
-        wider (4 + (nodes + 1 - first) + (first - 6)) nodes nodes old new (Some n) (omega (arith, low, high))
-        (few_then (4 + (nodes + 1 - first)) (first - 6) nodes old b new (Some n) (upwards b None up) (few_between 6 first nodes b new (Some n) (omega arith) (omega (arith, low)) (omega (arith, high)) around))
+        wider (1 + (nodes + 1 - first) + (first - 6)) nodes nodes old new (Some n) (omega (arith, low, high))
+        (few_then (1 + (nodes + 1 - first)) (first - 6) nodes old b new (Some n) (upwards b None up) (few_between 6 first nodes b new (Some n) (omega arith) (omega (arith, low)) (omega (arith, high)) around))
 
     pub near_nowhere : IsClaimBetween 6 first b new None → IsNearClaim nodes old new None
     near_nowhere around =
@@ -121,10 +121,10 @@ module _ (nodes first : ℕ) (old a : List Entry) (low : 5 < first) (high : firs
         let long_below = length-down 6 (first - 6) in
         let sum = length-append below (above ++ few.0) in
         let part = length-append above few.0 in
-        let four = few.1 in
+        let one = few.1 in
         record {
           slots = below ++ (above ++ few.0);
-          few = omega (arith, low, high, long_above, long_below, sum, part, four);
+          few = omega (arith, low, high, long_above, long_below, sum, part, one);
           all = λ s least most. elim (cases_lt s first) [
             | inl less ↦ among_left s below (above ++ few.0) (among_down s 6 (first - 6) least (omega (arith, less, low)))
             | inr more ↦ among_right s below (above ++ few.0) (among_left s above few.0 (among_down s first (nodes + 1 - first) more (omega (arith, most, high))))

@@ -84,6 +84,7 @@ pub fn give(shared: &Shared, pass: &mut Pass, node: NodeId)
 }
 
 /// Takes one slot out of the pool, if it is there, and raises its birth by one, if it is not worn.
+#[inline(always)]
 pub(crate) fn try_slot(shared: &Shared, pass: &mut Pass, slot: u32) -> Tried
     requires own { IsOf shared.now pass.old }
     requires low { 5 < slot }

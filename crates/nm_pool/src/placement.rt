@@ -1,5 +1,6 @@
 //! Where a worker looks for a free slot.
-ghost use Rattle.std.specs.Prelude.{◌≡◌, ◌+◌, ◌*◌, ◌≤◌, ◌<◌, length, IfSome};
+ghost use Rattle.std.specs.Prelude.{◌≡◌, ◌+◌, ◌*◌, ◌≤◌, ◌<◌, length, List, None, IfSome};
+ghost use Rattle.nm_model.specs.Walks.{Entry};
 ghost use Rattle.nm_order.specs.Told.{IsNew};
 ghost use Rattle.nm_steps.specs.Rules.{knowledge};
 ghost use Rattle.nm_steps.specs.Steps.{Continues, IsInRun, IsOf};
@@ -11,12 +12,6 @@ use nm_edge::{FIRST_SLOT, NodeId};
 use nm_steps::{Pass, Shared};
 use std::marker::Model;
 
-/// How many of the slots that were given back a worker remembers.
-const RECENT: usize = 16;
-
-/// How many of them a claim tries.
-const TRIES: usize = 4;
-
 /// How many slots one row of the pool tells of.
 const SLOTS_OF_A_ROW: u32 = 64;
 
@@ -25,49 +20,24 @@ const SLOTS_OF_A_ROW: u32 = 64;
 pub enum Fit {
     /// From slot 6 upwards at each claim: first fit.
     Lowest,
-    /// First slots that the worker gave back, up to four of the last 16, the last one first; then
-    /// from its cursor upwards, and round, beginning where a peek at the pool shows a slot: next
-    /// fit.
+    /// First the lowest slot that a peek at the pool shows in one row of 64 slots, that of the slot
+    /// which the worker gave back last; then from there upwards, and round, beginning where a peek
+    /// shows a slot: next fit.
     Near,
 }
 
-/// The slots that a worker gave back last, in a ring with 0 for none, and the slot from which it
-/// looks on. The last one stands at `last` modulo the ring's length, the others before it.
-#[derive(Clone, Copy)]
-pub(crate) struct Near {
-    recent: [u32; RECENT],
-    last: usize,
-    cursor: u32,
-}
-
-impl Near {
-    /// Remembers a slot that was given back, in the place of the one that was remembered longest.
-    fn keep(&mut self, slot: u32) {
-        self.last = (self.last % RECENT + 1) % RECENT;
-        self.recent[self.last] = slot;
+/// The lowest slot that a peek at the row of this one shows to be there; 0 where it shows none, or
+/// the pool has no such row.
+#[inline(always)]
+fn shown_beside(shared: &Shared, slot: u32) -> u32 {
+    if slot == 0 || shared.layout().nodes() < slot {
+        return 0;
     }
-
-    /// The slot that was given back last, which is forgotten; 0 for none.
-    fn take_recent(&mut self) -> u32 {
-        let last = self.last % RECENT;
-        let slot = self.recent[last];
-        self.recent[last] = 0;
-        self.last = (last + RECENT - 1) % RECENT;
-        slot
+    let row = shared.peek_row(slot);
+    if row == 0 {
+        return 0;
     }
-
-    /// The slot from which to look on, of those from 6 to `nodes`.
-    fn first(&self, nodes: u32) -> u32
-        requires { FIRST_SLOT ≤ nodes }
-        ensures low { 5 < result }
-        ensures high { result ≤ nodes }
-    {
-        if FIRST_SLOT <= self.cursor && self.cursor <= nodes {
-            self.cursor
-        } else {
-            FIRST_SLOT
-        }
-    }
+    slot - (slot - 1) % SLOTS_OF_A_ROW + row.trailing_zeros()
 }
 
 /// The first slot from this one upwards, and round, that a peek at the pool's rows shows to be
@@ -105,15 +75,16 @@ fn left_in_row(slot: u32) -> u32
     SLOTS_OF_A_ROW - (slot - 1) % SLOTS_OF_A_ROW
 }
 
-/// Where one worker looks for a free slot; contracts see which fit it is. It may remember any
-/// slots: a slot counts only as it is found.
+/// Where one worker looks for a free slot; contracts see which fit it is. It may look beside any
+/// slot: a slot counts only as it is found.
 ///
 /// First fit and next fit are those of storage allocation (Knuth, The Art of Computer Programming,
 /// volume 1, section 2.5).
 #[derive(Drop)]
 pub struct Placement {
     fit: Fit,
-    near: Near,
+    // The slot in whose row a near worker looks first.
+    cursor: u32,
 }
 
 impl Model for Placement {
@@ -125,19 +96,12 @@ impl Model for Placement {
 }
 
 impl Placement {
-    /// The placement of a worker that has given nothing back. `cursor` is the slot from which a
-    /// near one looks first; where the pool has no such slot, slot 6.
+    /// The placement of a worker that has given nothing back. `cursor` is the slot in whose row a
+    /// near one looks first; where the pool has no such slot, it looks from slot 6 on.
     pub fn new(fit: Fit, cursor: u32) -> Placement
         ensures { result ≡ fit }
     {
-        Placement {
-            fit,
-            near: Near {
-                recent: [0; RECENT],
-                last: 0,
-                cursor,
-            },
-        }
+        Placement { fit, cursor }
     }
 
     /// Which fit it is.
@@ -147,12 +111,24 @@ impl Placement {
         self.fit
     }
 
-    /// Remembers a slot that was given back, so that a near claim tries it first. The one that was
-    /// remembered longest of 16 is forgotten.
+    /// Remembers a slot that was given back: a near claim looks in its row first.
     pub fn keep(&mut self, slot: u32)
         ensures { self.new ≡ self.old }
     {
-        self.near.keep(slot);
+        self.cursor = slot;
+    }
+
+    /// The slot from which to look on, of those from 6 to `nodes`.
+    fn first(&self, nodes: u32) -> u32
+        requires { FIRST_SLOT ≤ nodes }
+        ensures low { 5 < result }
+        ensures high { result ≤ nodes }
+    {
+        if FIRST_SLOT <= self.cursor && self.cursor <= nodes {
+            self.cursor
+        } else {
+            FIRST_SLOT
+        }
     }
 }
 
@@ -162,6 +138,7 @@ impl Placement {
 /// `Fit::Lowest`: the very same. `Fit::Near`: `Some(node)`: fewer than `nodes` slots were found
 /// taken or worn in this call, and then this one in the pool. `None`: at most `nodes` were, and
 /// each slot above 5 is among them. At most three steps a slot, and 3 `nodes` in all.
+#[inline(always)]
 pub fn claim_by(shared: &Shared, pass: &mut Pass, placement: &mut Placement) -> Option<NodeId>
     requires { IsOf shared.now pass.old }
     ensures on { Continues pass.old pass.new }
@@ -177,13 +154,14 @@ pub fn claim_by(shared: &Shared, pass: &mut Pass, placement: &mut Placement) -> 
 {
     match placement.fit {
         Fit::Lowest => claim(shared, pass),
-        Fit::Near => claim_near(shared, pass, &mut placement.near),
+        Fit::Near => claim_near(shared, pass, placement),
     }
 }
 
-/// A slot that was given back last, or else the first that is found from the cursor upwards, and
-/// round.
-fn claim_near(shared: &Shared, pass: &mut Pass, near: &mut Near) -> Option<NodeId>
+/// The slot that a peek shows beside the one that was given back last, or else the first that is
+/// found from there upwards, and round.
+#[inline(always)]
+fn claim_near(shared: &Shared, pass: &mut Pass, placement: &mut Placement) -> Option<NodeId>
     requires { IsOf shared.now pass.old }
     ensures on { Continues pass.old pass.new }
     ensures part { IsNearClaim shared.now.layout.nodes pass.old.view.log pass.new.view.log result }
@@ -191,50 +169,48 @@ fn claim_near(shared: &Shared, pass: &mut Pass, near: &mut Near) -> Option<NodeI
     ensures new { IfSome result
         (λ node. IsNew pass.old.view.layout pass.old.view.number pass.old.view.log node.slot) }
     ensures learned { LearnsSlots (knowledge pass.old.view) (knowledge pass.new.view) }
+    ensures fit { placement.new ≡ placement.old }
 {
     pass.is_of_a_run();
-    if let Some(node) = claim_recent(shared, pass, near) {
+    let shown = shown_beside(shared, placement.cursor);
+    if let Some(node) = try_hint(shared, pass, shown) {
         return Some(node);
     }
+    claim_onward(shared, pass, placement)
+}
+
+/// The first slot that is found from the cursor upwards, and round, where no slot is shown beside
+/// it. Behind a hint that came to nothing it makes up a near claim.
+#[cold]
+#[inline(never)]
+fn claim_onward(shared: &Shared, pass: &mut Pass, placement: &mut Placement) -> Option<NodeId>
+    requires own { IsOf shared.now pass.old }
+    requires run { IsInRun pass.old }
+    ensures on { Continues pass.old pass.new }
+    ensures part { (old : List Entry)
+        → IsClaimOfFew 1 shared.now.layout.nodes old pass.old.view.log None
+        → IsNearClaim shared.now.layout.nodes old pass.new.view.log result }
+    ensures made { IfSome result (IsNewNode (knowledge pass.new.view)) }
+    ensures new { IfSome result
+        (λ node. IsNew pass.old.view.layout pass.old.view.number pass.old.view.log node.slot) }
+    ensures learned { LearnsSlots (knowledge pass.old.view) (knowledge pass.new.view) }
+    ensures fit { placement.new ≡ placement.old }
+{
     let nodes = shared.layout().nodes();
-    let first = shown_from(shared, near.first(nodes));
+    let first = shown_from(shared, placement.first(nodes));
     if let Some(node) = claim_between(shared, pass, first, nodes + 1) {
-        near.cursor = node.slot + 1;
+        placement.cursor = node.slot;
         return Some(node);
     }
     let Some(node) = claim_between(shared, pass, FIRST_SLOT, first) else {
         return None;
     };
-    near.cursor = node.slot + 1;
+    placement.cursor = node.slot;
     Some(node)
 }
 
-/// Of the slots that were given back last, four at most, the first that is found in the pool and is
-/// not worn. Each one that is tried is forgotten.
-fn claim_recent(shared: &Shared, pass: &mut Pass, near: &mut Near) -> Option<NodeId>
-    requires own { IsOf shared.now pass.old }
-    requires run { IsInRun pass.old }
-    ensures on { Continues pass.old pass.new }
-    ensures part { IsClaimOfFew 4 shared.now.layout.nodes pass.old.view.log pass.new.view.log
-        result }
-    ensures made { IfSome result (IsNewNode (knowledge pass.new.view)) }
-    ensures new { IfSome result
-        (λ node. IsNew pass.old.view.layout pass.old.view.number pass.old.view.log node.slot) }
-    ensures learned { LearnsSlots (knowledge pass.old.view) (knowledge pass.new.view) }
-{
-    for round in 0..TRIES {
-        let slot = near.take_recent();
-        if slot == 0 {
-            return None;
-        }
-        if let Some(node) = try_hint(shared, pass, slot) {
-            return Some(node);
-        }
-    }
-    None
-}
-
 /// Tries one slot, if the pool has such a one.
+#[inline(always)]
 fn try_hint(shared: &Shared, pass: &mut Pass, slot: u32) -> Option<NodeId>
     requires own { IsOf shared.now pass.old }
     requires run { IsInRun pass.old }

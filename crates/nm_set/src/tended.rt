@@ -60,6 +60,14 @@ fn is_unfinished(told: &Result<bool, Fault>) -> bool
     matches!(told, Err(Fault::Call(CallFault::Unfinished)))
 }
 
+/// Whether what is left to do of a delete has lost each of its tries.
+fn is_lost(told: &Result<bool, CallFault>) -> bool
+    ensures yes { result ≡ true → told.now ≡ Err lost.Unfinished }
+    ensures no { result ≡ false → told.now ≢ Err lost.Unfinished }
+{
+    matches!(told, Err(CallFault::Unfinished))
+}
+
 /// The habit with a round less.
 fn without_one(habit: &Habit) -> Habit
     requires { 1 ≤ habit.now.rounds }
@@ -283,9 +291,23 @@ impl Member {
         self.delete(key, habit.tries)
     }
 
-    /// What is left to do of a delete, until it is done.
+    /// What is left to do of a delete, until it is done: nearly always there is nothing.
     #[inline(always)]
     fn finish_again(&mut self, habit: &Habit) -> Result<bool, CallFault>
+        ensures board { self.new.board ≡ self.old.board }
+        ensures did { FinishesPending self.old.board habit.now self.old.hand self.new.hand result }
+    {
+        let told = self.finish(habit.tries);
+        if !is_lost(&told) || habit.rounds == 0 {
+            return told;
+        }
+        self.finish_rounds(&without_one(habit))
+    }
+
+    /// What is left to do of a delete, until it is done.
+    #[cold]
+    #[inline(never)]
+    fn finish_rounds(&mut self, habit: &Habit) -> Result<bool, CallFault>
         ensures board { self.new.board ≡ self.old.board }
         ensures did { FinishesPending self.old.board habit.now self.old.hand self.new.hand result }
     {

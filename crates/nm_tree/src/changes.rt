@@ -96,8 +96,6 @@ fn flags_of(answer: &Result<bool, Missed>) -> u64
 }
 
 /// What is left to do of a delete, with the own queue and its account.
-#[cold]
-#[inline(never)]
 fn finish_with(
     shared: &Shared,
     pass: &mut Pass,
@@ -207,6 +205,19 @@ impl Tree {
     /// Mittal's delete, section 3.2.)
     #[inline(always)]
     pub fn finish(&self, worker: &mut Worker, tries: u32) -> Result<bool, Fault>
+        requires own { IsOf self.now worker.old.pass }
+        ensures { LeavesFinish self.now.layout.nodes tries worker.old worker.new result }
+    {
+        if let Standing::Pending(_) = worker.standing {
+            return self.finish_pending(worker, tries);
+        }
+        Ok(false)
+    }
+
+    /// `finish`, out of the way of the many calls before which nothing is pending.
+    #[cold]
+    #[inline(never)]
+    fn finish_pending(&self, worker: &mut Worker, tries: u32) -> Result<bool, Fault>
         requires own { IsOf self.now worker.old.pass }
         ensures { LeavesFinish self.now.layout.nodes tries worker.old worker.new result }
     {

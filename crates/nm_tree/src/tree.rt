@@ -53,9 +53,9 @@ impl Tree {
         Tree::of(alloc, layout_of(nodes, workers)?, Fit::Lowest)
     }
 
-    /// The same, but a worker looks for a free slot first among those that it gave back last, four
-    /// of the last 16 at most, and then from its cursor upwards, and round. So a claim takes few
-    /// steps where most slots are free, and which slot a new node takes is not told beforehand.
+    /// The same, but a worker looks for a free slot first in one row of 64, that of the slot which
+    /// it gave back last, and then from there upwards, and round. So a claim takes few steps where
+    /// most slots are free, and which slot a new node takes is not told beforehand.
     ///
     /// (Next fit: Knuth, The Art of Computer Programming, volume 1, section 2.5.)
     pub fn near(alloc: Global, nodes: u32, workers: u32) -> Result<(Tree, Vec<Worker>), NewError>

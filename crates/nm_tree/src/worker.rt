@@ -112,6 +112,9 @@ impl Worker {
     pub fn queue_len(&self) -> u64
         ensures { result ≡ waiting_in self.now.queues }
     {
+        if let [own] = self.queues.as_slice() {
+            return u64::from(own.queue.len());
+        }
         let mut waiting = 0;
         for held in &self.queues {
             waiting += u64::from(held.queue.len());

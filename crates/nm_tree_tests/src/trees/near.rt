@@ -42,31 +42,30 @@ fn two_threads_fill_a_near_set(rt: HostRuntime) -> Result<(), Fail> {
 
 #[test]
 fn each_worker_looks_from_a_cursor_of_its_own(rt: HostRuntime) -> Result<(), Fail> {
-    let (tree, mut first, mut second) = near_of(&rt, 16)?;
+    let (tree, mut first, mut second) = near_of(&rt, 200)?;
     each_deletes_one(&rt, &tree, &mut first, &mut second);
     let mut report = report_of(&rt, tree, both(rt.alloc(), first, second)?);
     assert_eq!(rt; waiting(&mut report, 0), (2, [(6, 1, 0), (7, 1, 0)]));
-    assert_eq!(rt; waiting(&mut report, 1), (2, [(14, 1, 0), (15, 1, 0)]));
-    assert_eq!(rt; (report.free, report.reached), (7, 0));
+    assert_eq!(rt; waiting(&mut report, 1), (2, [(65, 1, 0), (66, 1, 0)]));
+    assert_eq!(rt; (report.free, report.reached), (191, 0));
     Ok(())
 }
 
-/// Worker 0 deletes, frees both nodes, and takes their slots again, the one that was freed last for
-/// the first node.
+/// Worker 1 deletes, frees both nodes, and takes their slots again, in the row from 65 on.
 #[test]
 fn slots_that_were_freed_are_taken_first(rt: HostRuntime) -> Result<(), Fail> {
-    let (tree, mut first, second) = near_of(&rt, 16)?;
-    step(&rt, &tree, &mut first, Call::Insert(5), Answer::Is(true));
-    step(&rt, &tree, &mut first, Call::Delete(5), Answer::Is(true));
-    step(&rt, &tree, &mut first, Call::Advance, moved(1));
-    step(&rt, &tree, &mut first, Call::Advance, moved(2));
+    let (tree, first, mut second) = near_of(&rt, 200)?;
+    step(&rt, &tree, &mut second, Call::Insert(5), Answer::Is(true));
+    step(&rt, &tree, &mut second, Call::Delete(5), Answer::Is(true));
+    step(&rt, &tree, &mut second, Call::Advance, moved(1));
+    step(&rt, &tree, &mut second, Call::Advance, moved(2));
     let freed = Answer::Freed(Collected { epoch: 2, freed: 2 });
-    step(&rt, &tree, &mut first, Call::Collect, freed);
-    step(&rt, &tree, &mut first, Call::Insert(6), Answer::Is(true));
-    step(&rt, &tree, &mut first, Call::Delete(6), Answer::Is(true));
+    step(&rt, &tree, &mut second, Call::Collect, freed);
+    step(&rt, &tree, &mut second, Call::Insert(6), Answer::Is(true));
+    step(&rt, &tree, &mut second, Call::Delete(6), Answer::Is(true));
     let mut report = report_of(&rt, tree, both(rt.alloc(), first, second)?);
-    assert_eq!(rt; waiting(&mut report, 0), (2, [(7, 2, 2), (6, 2, 2)]));
-    assert_eq!(rt; (report.free, report.reached), (9, 0));
+    assert_eq!(rt; waiting(&mut report, 1), (2, [(65, 2, 2), (66, 2, 2)]));
+    assert_eq!(rt; (report.free, report.reached), (193, 0));
     Ok(())
 }
 

@@ -1,20 +1,10 @@
-use Rattle.std.proofs.Common.{rules, inl, inr, sym, None, ap, refl, subst, ◌∙◌, arith}
-use Rattle.std.specs.Prelude.{Ok, slice_set}
-use Rattle.nm_model.specs.Maps.{get}
-use Rattle.nm_model.specs.declared.event.Op.TheVariants.{Delete}
-use Rattle.nm_steps.specs.Steps.{Stand}
-use Rattle.nm_calls.specs.Moments.{AnswerHasMoment, HadNoCall}
+use Rattle.std.proofs.Common.{rules}
 use Rattle.nm_steps.proofs.Seeing.{seen_all}
-use Rattle.nm_tree.specs.Workers.{Hand, pending_in}
-use Rattle.nm_tree.proofs.QueueLists.{lacks_after, others_stay, others_after, stands_within, room_stays, room_after}
-use Rattle.nm_tree.proofs.Changing.{accounts_within, kept_there, changed}
-use Rattle.nm_tree.proofs.Staying.{removing_in}
-use Rattle.std.specs.Prelude.{true}
-use Rattle.nm_tree.proofs.Telling.{finished_so}
+use Rattle.nm_tree.proofs.QueueLists.{others_stay, room_stays}
 use Rattle.nm_tree.proofs.tree.Tree.finish.Goals as goal
 
-pub returns-in_default : goal.returns-in_default
-returns-in_default c = record {
+pub returns : goal.returns
+returns c = record {
   same = search rules;
   past = search (rules, seen_all);
   did = search rules;
@@ -27,75 +17,4 @@ returns-in_default c = record {
   held = search rules;
   fit = search rules;
   between = search rules;
-}
-
-pub index_mut-own-requires : goal.index_mut-own-requires
-index_mut-own-requires c = omega (arith, stands_within c.worker.inside.home _ c.worker.inside.queues.items c.worker.invariant.own, c.worker.inside.queues.ok.0)
-
-pub index_mut-account-requires : goal.index_mut-account-requires
-index_mut-account-requires c =
-    omega (arith, accounts_within c.worker.inside.pass.view c.worker.inside.home _ c.worker.inside.queues.items c.worker.inside.accounts.items c.worker.invariant.own c.worker.invariant.accounts, c.worker.inside.accounts.ok.0)
-
-pub finish_with-requires-clause-kept : goal.finish_with-requires-clause-kept
-finish_with-requires-clause-kept c = kept_there _ _ c.worker.inside.home _ _ c.worker.invariant c.index_mut-own.ensures.value c.index_mut-account.ensures.value
-
-pub invariant_of-worker : goal.invariant_of-worker
-invariant_of-worker c =
-    changed _ _ c.worker.inside.home c.finish_with.new.pass _ _ c.finish_with.new.own c.finish_with.new.account c.worker.invariant c.finish_with.ensures.after.same c.finish_with.ensures.kept
-    c.finish_with.ensures.after.ledgers.others (λ slot. ap (λ ds. get ds slot) c.finish_with.ensures.after.private) (removing_in c.finish_with.new.pass c.worker.inside.standing _ c.in-Pending.is (c.finish_with.ensures.after.removing c.if-not-finish_with.true))
-
-pub returns-then-not-finish_with : goal.returns-then-not-finish_with
-returns-then-not-finish_with c = record {
-  same = search rules;
-  past = search (rules, seen_all);
-  did = search rules;
-  lacks = (
-      rw (← c.self.view_is, ← c.worker.view_is)
-      (elim (c.finish_with.ensures.refused c.if-not-finish_with.true) [
-        | inl less ↦ inl (lacks_after c.worker.inside.home _ _ c.worker.inside.queues.items c.finish_with.new.own c.worker.invariant.own c.finish_with.ensures.kept.own less)
-        | inr lost ↦ inr (c.in-Pending.pending, ap pending_in c.in-Pending.is, lost)
-      ])
-      );
-  moment = search rules;
-  won = search rules;
-  steps = search rules;
-  queues = (
-      rw (← c.worker.view_is)
-      (others_after c.worker.inside.home c.worker.inside.pass.view.number c.worker.inside.queues.items c.finish_with.new.own c.worker.invariant.own (c.finish_with.ensures.kept.own ∙ ap (λ (x : Stand). x.view.number) c.finish_with.ensures.after.same))
-      );
-  blocks = rw (← c.worker.view_is) (room_after c.worker.inside.home _ c.worker.inside.queues.items _ c.finish_with.new.own c.worker.invariant.own c.index_mut-own.ensures.value c.finish_with.ensures.room);
-  held = search rules;
-  fit = search rules;
-  between = (invariant_of-worker c).between;
-}
-
-pub invariant_of-worker-2 : goal.invariant_of-worker-2
-invariant_of-worker-2 c =
-    changed _ _ c.worker.inside.home c.finish_with.new.pass _ _ c.finish_with.new.own c.finish_with.new.account c.worker.invariant c.finish_with.ensures.after.same c.finish_with.ensures.kept
-    c.finish_with.ensures.after.ledgers.others (λ slot. ap (λ ds. get ds slot) c.finish_with.ensures.after.private) (c.finish_with.ensures.after.rests c.if-not-finish_with.false)
-
-pub returns : goal.returns
-returns c = record {
-  same = search rules;
-  past = search (rules, seen_all);
-  did = (
-      finished_so _ _ c.args.tries _ _ (record { pass = c.finish_with.new.pass; queues = slice_set c.worker.inside.queues.items c.worker.inside.home c.finish_with.new.own; pending = None; held = None; fit = c.finish_with.new.workspace.placement })
-      (Ok true) c.self.view_is c.worker.view_is (c.in-Pending.pending, ap pending_in c.in-Pending.is, refl, rw c.if-not-finish_with.false at c.finish_with.ensures.after.did)
-      );
-  lacks = search rules;
-  moment = (
-      let n = c.in-Pending.pending in
-      let P : Hand → Type 0 = λ w. (o : Stand) → HadNoCall o w.pass → AnswerHasMoment o c.finish_with.new.pass Delete n.key true in
-      (n, ap (λ (w : Hand). w.pending) (sym c.worker.view_is) ∙ ap pending_in c.in-Pending.is, subst P c.worker.view_is (c.finish_with.ensures.after.moment c.if-not-finish_with.false))
-      );
-  won = search rules;
-  steps = search rules;
-  queues = (
-      rw (← c.worker.view_is)
-      (others_after c.worker.inside.home c.worker.inside.pass.view.number c.worker.inside.queues.items c.finish_with.new.own c.worker.invariant.own (c.finish_with.ensures.kept.own ∙ ap (λ (x : Stand). x.view.number) c.finish_with.ensures.after.same))
-      );
-  blocks = rw (← c.worker.view_is) (room_after c.worker.inside.home _ c.worker.inside.queues.items _ c.finish_with.new.own c.worker.invariant.own c.index_mut-own.ensures.value c.finish_with.ensures.room);
-  held = search rules;
-  fit = search rules;
-  between = (invariant_of-worker-2 c).between;
 }
