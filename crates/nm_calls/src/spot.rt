@@ -1,5 +1,5 @@
 //! Where a walk stands.
-ghost use Rattle.std.specs.Prelude.{◌≡◌, ◌<◌, ◌≤◌, ◌+◌, true, false, length};
+ghost use Rattle.std.specs.Prelude.{◌≡◌, ◌≢◌, ◌<◌, ◌≤◌, ◌+◌, true, false, length};
 ghost use Rattle.nm_model.specs.Searches.{side_of};
 ghost use Rattle.nm_calls.specs.Bounds.{chain_bound};
 ghost use Rattle.nm_calls.specs.Walks.{begin, onto, chain_onto};
@@ -65,6 +65,15 @@ pub(crate) fn side_at(key: u64, node: u64) -> Side
     ensures { result ≡ side_of key node }
 {
     if key < node { Side::Left } else { Side::Right }
+}
+
+/// Whether this is the null edge, which a leaf has: it has no mark, so one comparison of its word
+/// tells.
+pub(crate) fn is_null(edge: Edge) -> bool
+    ensures yes { result ≡ true → edge.slot ≡ 0 }
+    ensures no { result ≡ false → edge.slot ≢ 0 }
+{
+    edge.is_to(0)
 }
 
 pub(crate) fn end_at(spot: &Spot, key: u64) -> End

@@ -6,7 +6,7 @@ ghost use Rattle.nm_calls.specs.Telling.{Tells, GoesOn, OnlyLooks, IsPinnedIn};
 ghost use Rattle.nm_calls.specs.Walks.{Finds, Seeks, HasDescended, HasFound, HasWalked};
 
 use crate::looking::{look_edge, read_node};
-use crate::spot::{Chain, Descent, End, end_at, extend, first, further};
+use crate::spot::{Chain, Descent, End, end_at, extend, first, further, is_null};
 use nm_edge::Side;
 use nm_steps::{Pass, Shared};
 
@@ -29,7 +29,7 @@ pub fn find(shared: &Shared, pass: &mut Pass, key: u64) -> Option<u64>
     for _below in 0..layout.nodes() - 1 {
         let node = spot.edge.slot();
         let on = read_node(shared, layout, pass, node, key);
-        if on.next.slot() == 0 {
+        if is_null(on.next) {
             return Some(on.found);
         }
         spot = further(spot, on.side, on.next);
@@ -65,7 +65,7 @@ pub fn seek(shared: &Shared, pass: &mut Pass, key: u64, chain: &mut Chain) -> Op
     for _below in below..layout.nodes() - 1 {
         let node = spot.edge.slot();
         let on = read_node(shared, layout, pass, node, key);
-        if on.next.slot() == 0 {
+        if is_null(on.next) {
             return Some(end_at(&spot, on.found));
         }
         if !extend(chain, spot) {
@@ -96,7 +96,7 @@ fn descend(shared: &Shared, pass: &mut Pass, key: u64) -> Descent
         }
         let node = spot.edge.slot();
         let on = read_node(shared, layout, pass, node, key);
-        if on.next.slot() == 0 {
+        if is_null(on.next) {
             return Descent::Ended(end_at(&spot, on.found));
         }
         spot = further(spot, on.side, on.next);

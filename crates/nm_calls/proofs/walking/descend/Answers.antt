@@ -36,7 +36,7 @@ loop-below-preserved c =
     let t = c.loop-below.spot in
     let on = c.read_node-on.result in
     let nodes = c.args.shared.now.layout.nodes in
-    let some : on.next.slot ≢ 0 = λ null. c.if-slot-eq0.false (c.slot.ensures ∙ null) in
+    let some : on.next.slot ≢ 0 = c.is_null.ensures.no c.if-is_null.false in
     let told : OnwardTold p q c.args.key t.edge.slot on.found on.side on.next = subst (λ n. OnwardTold p q c.args.key n on.found on.side on.next) c.slot-node.ensures c.read_node-on.ensures.told in
     let read : Reads c.args.key t.edge.slot p.view.log q.view.log on = subst (λ n. Reads c.args.key n p.view.log q.view.log on) c.slot-node.ensures c.read_node-on.ensures.looks in
     let none' : chain_onto t [] ≡ [] = no_chain t [] (sym c.tag.ensures ∙ c.if-tag.false) in
@@ -46,8 +46,8 @@ loop-below-preserved c =
           some c.read_node-on.ensures.within (rw none' (omega arith)) c.further-spot.result c.further-spot.ensures.spot c.further-spot.ensures.edge);
     }
 
-pub returns-then-slot-eq0-clause-came : goal.returns-then-slot-eq0-clause-came
-returns-then-slot-eq0-clause-came c =
+pub returns-then-is_null-clause-came : goal.returns-then-is_null-clause-came
+returns-then-is_null-clause-came c =
     let p = c.loop-below.pass in
     let q = c.read_node-on.new.pass in
     let t = c.loop-below.spot in
@@ -58,4 +58,4 @@ returns-then-slot-eq0-clause-came c =
     let nodes = c.nodes-most.ensures.nodes in
     let layout = ap (λ (L : Layout). L.nodes) c.layout-layout.ensures in
     walks_out c.args.shared.now.layout.nodes c.args.key c.loop-below.below c.args.pass.now p q t [] on c.loop-below.invariant.walking read c.read_node-on.ensures.on c.read_node-on.ensures.only told
-    (sym c.slot.ensures ∙ c.if-slot-eq0.true) (omega (arith, below, nodes, layout)) c.end_at.result c.end_at.ensures.spot c.end_at.ensures.key
+    (c.is_null.ensures.yes c.if-is_null.true) (omega (arith, below, nodes, layout)) c.end_at.result c.end_at.ensures.spot c.end_at.ensures.key

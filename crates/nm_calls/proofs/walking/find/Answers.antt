@@ -1,4 +1,4 @@
-use Rattle.std.proofs.Common.{◌≡◌, subst, sym, ap, ◌∙◌, arith}
+use Rattle.std.proofs.Common.{subst, ap, arith}
 use Rattle.nm_edge.specs.Layouts.{Layout}
 use Rattle.nm_calls.specs.Telling.{OnwardTold}
 use Rattle.nm_calls.specs.Walks.{Reads}
@@ -10,14 +10,14 @@ use Rattle.nm_calls.proofs.walking.find.Goals as goal
 pub read_node-on-requires-clause-pinned : goal.read_node-on-requires-clause-pinned
 read_node-on-requires-clause-pinned c = pinned_in_still c.args.shared.now c.args.pass.now c.loop-below.pass c.loop-below.invariant.on c.requires.pinned
 
-pub returns-then-slot-eq0-clause-found : goal.returns-then-slot-eq0-clause-found
-returns-then-slot-eq0-clause-found c =
+pub returns-then-is_null-clause-found : goal.returns-then-is_null-clause-found
+returns-then-is_null-clause-found c =
     let p = c.loop-below.pass in
     let q = c.read_node-on.new.pass in
     let t = c.loop-below.spot in
     let on = c.read_node-on.result in
     let told : OnwardTold p q c.args.key t.edge.slot on.found on.side on.next = subst (λ n. OnwardTold p q c.args.key n on.found on.side on.next) c.slot-node.ensures c.read_node-on.ensures.told in
-    (t.edge.slot, t.parent, t.side, found_so c.args.pass.now p q c.args.key on.found t on.side on.next c.loop-below.invariant.come told (sym c.slot.ensures ∙ c.if-slot-eq0.true))
+    (t.edge.slot, t.parent, t.side, found_so c.args.pass.now p q c.args.key on.found t on.side on.next c.loop-below.invariant.come told (c.is_null.ensures.yes c.if-is_null.true))
 
 pub loop-below-preserved : goal.loop-below-preserved
 loop-below-preserved c =
@@ -26,7 +26,7 @@ loop-below-preserved c =
     let q = c.read_node-on.new.pass in
     let t = c.loop-below.spot in
     let on = c.read_node-on.result in
-    let some = λ (null : on.next.slot ≡ 0). c.if-slot-eq0.false (c.slot.ensures ∙ null) in
+    let some = c.is_null.ensures.no c.if-is_null.false in
     let told : OnwardTold p q c.args.key t.edge.slot on.found on.side on.next = subst (λ n. OnwardTold p q c.args.key n on.found on.side on.next) c.slot-node.ensures c.read_node-on.ensures.told in
     let read : Reads c.args.key t.edge.slot p.view.log q.view.log on = subst (λ n. Reads c.args.key n p.view.log q.view.log on) c.slot-node.ensures c.read_node-on.ensures.looks in
     record {
@@ -37,8 +37,8 @@ loop-below-preserved c =
       come = come_on o p q c.args.key on.found t c.further-spot.result on.side on.next c.loop-below.invariant.come told some c.further-spot.ensures.spot;
     }
 
-pub returns-then-slot-eq0-clause-steps : goal.returns-then-slot-eq0-clause-steps
-returns-then-slot-eq0-clause-steps c =
+pub returns-then-is_null-clause-steps : goal.returns-then-is_null-clause-steps
+returns-then-is_null-clause-steps c =
     let above = (walk_adds c.args.key c.loop-below._below c.args.pass.now.view.log c.loop-below.pass.view.log c.loop-below.spot c.loop-below.invariant.walk.0 c.loop-below.invariant.walk.1).steps in
     let last = (reads_add c.args.key c.slot-node.result c.loop-below.pass.view.log c.read_node-on.new.pass.view.log c.read_node-on.result c.read_node-on.ensures.looks).steps in
     let below = c.loop-below-test.true in
