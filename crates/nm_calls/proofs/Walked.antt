@@ -25,7 +25,7 @@ module _ (nodes k n : ℕ) (o p q : Stand) (t : Spot) (on : Onward) (w : IsFindi
 
   -- at a leaf
   pub finds_out : on.next.slot ≡ 0 → n + 2 ≤ nodes → Finds nodes k o.view.log q.view.log (Some on.found) × HasFound o q k t.edge.slot t.parent t.side on.found
-  finds_out null few = ((t, w.walk.0, n, p.view.log, on, few, w.walk.1, null, read, refl), found_so o p q k on.found t on.side on.next w.come told null)
+  finds_out null few = ((t, w.walk.0, (n, p.view.log, on, few, w.walk.1, null, read, refl)), found_so o p q k on.found t on.side on.next w.come told null)
 
 -- ---- a walk that remembers its chain
 

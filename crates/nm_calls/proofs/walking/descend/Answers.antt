@@ -49,7 +49,7 @@ loop-below-preserved c =
     let some : on.next.slot ≢ 0 = c.is_null.ensures.no c.if-is_null.false in
     let told : OnwardTold p q c.args.key t.edge.slot on.found on.side on.next = subst (λ n. OnwardTold p q c.args.key n on.found on.side on.next) c.slot-node.ensures c.read_node-on.ensures.told in
     let read : Reads c.args.key t.edge.slot p.view.log q.view.log on = subst (λ n. Reads c.args.key n p.view.log q.view.log on) c.slot-node.ensures c.read_node-on.ensures.looks in
-    let plain : t.edge.tag ≡ false = (or_parts _ _ (sym c.is_marked.ensures ∙ c.if-is_marked.false)).1 in
+    let plain : t.edge.tag ≡ false = (or_parts t.edge.flag t.edge.tag (sym c.is_marked.ensures ∙ c.if-is_marked.false)).1 in
     let none' : chain_onto t [] ≡ [] = no_chain t [] plain in
     record {
       finding = finds_on nodes c.args.key c.loop-below.below o p q t on c.loop-below.invariant.finding read told some c.further-spot.result c.further-spot.ensures.spot c.further-spot.ensures.edge;

@@ -1,4 +1,4 @@
-use Rattle.std.proofs.Common.{◌+◌, ap, subst, arith}
+use Rattle.std.proofs.Common.{ap, subst, arith}
 use Rattle.nm_edge.specs.Layouts.{Layout}
 use Rattle.nm_calls.specs.Telling.{OnwardTold}
 use Rattle.nm_calls.specs.Walks.{Reads}
@@ -45,7 +45,7 @@ returns-then-is_null c =
     let out = finds_out nodes c.args.key c.loop-below._below o p q t on c.loop-below.invariant.finding read told (c.is_null.ensures.yes c.if-is_null.true) (omega (arith, below, size, layout)) in
     record {
       walk = out.0;
-      steps = (end_adds nodes c.args.key o.view.log q.view.log t out.0.1 on.found out.0.2).steps;
+      steps = (end_adds nodes c.args.key o.view.log q.view.log out.0.0 out.0.1 on.found out.0.2).steps;
       on = goes_then o p q c.loop-below.invariant.on c.read_node-on.ensures.on;
       only = only_then o p q c.loop-below.invariant.only c.read_node-on.ensures.only;
       found = (t.edge.slot, t.parent, t.side, out.1);
