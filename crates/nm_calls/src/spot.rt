@@ -1,5 +1,5 @@
 //! Where a walk stands.
-ghost use Rattle.std.specs.Prelude.{◌≡◌, ◌≢◌, ◌<◌, ◌≤◌, ◌+◌, ◌||◌, true, false, length};
+ghost use Rattle.std.specs.Prelude.{◌≡◌, ◌≢◌, ◌<◌, ◌≤◌, ◌+◌, ◌^◌, ◌||◌, true, false, length};
 ghost use Rattle.nm_model.specs.Searches.{side_of};
 ghost use Rattle.nm_calls.specs.Bounds.{chain_bound};
 ghost use Rattle.nm_calls.specs.Walks.{begin, onto, chain_onto};
@@ -81,6 +81,16 @@ pub(crate) fn is_marked(edge: Edge) -> bool
     ensures { result ≡ (edge.flag || edge.tag) }
 {
     edge.flag() || edge.tag()
+}
+
+/// The slot of an edge of a tree, which has fewer than 2^30. The lower half of the word is enough
+/// for that; and where the edge is known to have no mark, a compiler finds four times the slot, by
+/// which the node's words are numbered, in that half as it stands.
+pub(crate) fn slot_of(edge: Edge) -> u32
+    requires { edge.slot < 2 ^ 30 }
+    ensures { result ≡ edge.slot }
+{
+    edge.pack() as u32 / 4
 }
 
 pub(crate) fn end_at(spot: &Spot, key: u64) -> End

@@ -6,7 +6,9 @@ ghost use Rattle.nm_calls.specs.Telling.{Tells, GoesOn, OnlyLooks, IsPinnedIn};
 ghost use Rattle.nm_calls.specs.Walks.{Finds, Seeks, HasDescended, HasFound, HasRemembered, HasWalked};
 
 use crate::looking::{look_edge, read_node};
-use crate::spot::{Chain, Descent, End, end_at, extend, first, further, is_marked, is_null};
+use crate::spot::{
+    Chain, Descent, End, end_at, extend, first, further, is_marked, is_null, slot_of,
+};
 use nm_edge::Side;
 use nm_steps::{Pass, Shared};
 
@@ -100,7 +102,7 @@ fn descend(shared: &Shared, pass: &mut Pass, key: u64) -> Descent
         if is_marked(spot.edge) {
             return Descent::Stopped(spot, below);
         }
-        let node = spot.edge.slot();
+        let node = slot_of(spot.edge);
         let on = read_node(shared, layout, pass, node, key);
         if is_null(on.next) {
             return Descent::Ended(end_at(&spot, on.found));

@@ -13,6 +13,13 @@ use Rattle.nm_calls.proofs.walking.descend.Goals as goal
 pub read_node-on-requires-clause-pinned : goal.read_node-on-requires-clause-pinned
 read_node-on-requires-clause-pinned c = pinned_in_still c.args.shared.now c.args.pass.now c.loop-below.pass c.loop-below.invariant.on c.requires.pinned
 
+pub slot_of-node-requires : goal.slot_of-node-requires
+slot_of-node-requires c =
+    let within = c.loop-below.invariant.within in
+    let most = c.requires.pinned.run.fits.most in
+    let layout = ap (λ (L : Layout). L.nodes) c.requires.pinned.own.layout in
+    omega (arith, within, most, layout)
+
 pub loop-below-init : goal.loop-below-init
 loop-below-init c =
     let p = c.look_edge.new.pass in
@@ -20,6 +27,7 @@ loop-below-init c =
     let some = c.look_edge.ensures.told.root refl refl in
     let come = come_first c.args.pass.now p c.args.key e c.first-spot.result c.look_edge.ensures.told c.first-spot.ensures in
     record {
+      within = rw c.first-spot.ensures (rw (← c.requires.pinned.own.layout) c.look_edge.ensures.told.within);
       finding = record {
         walk = ([], rw c.first-spot.ensures (refl, refl, some, ap (λ (s : Stand). s.view.log) c.look_edge.ensures.step));
         known = rw c.first-spot.ensures (c.look_edge.ensures.told.learned.leads some);
@@ -47,11 +55,12 @@ loop-below-preserved c =
     let on = c.read_node-on.result in
     let nodes = c.args.shared.now.layout.nodes in
     let some : on.next.slot ≢ 0 = c.is_null.ensures.no c.if-is_null.false in
-    let told : OnwardTold p q c.args.key t.edge.slot on.found on.side on.next = subst (λ n. OnwardTold p q c.args.key n on.found on.side on.next) c.slot-node.ensures c.read_node-on.ensures.told in
-    let read : Reads c.args.key t.edge.slot p.view.log q.view.log on = subst (λ n. Reads c.args.key n p.view.log q.view.log on) c.slot-node.ensures c.read_node-on.ensures.looks in
+    let told : OnwardTold p q c.args.key t.edge.slot on.found on.side on.next = subst (λ n. OnwardTold p q c.args.key n on.found on.side on.next) c.slot_of-node.ensures c.read_node-on.ensures.told in
+    let read : Reads c.args.key t.edge.slot p.view.log q.view.log on = subst (λ n. Reads c.args.key n p.view.log q.view.log on) c.slot_of-node.ensures c.read_node-on.ensures.looks in
     let plain : t.edge.tag ≡ false = (or_parts t.edge.flag t.edge.tag (sym c.is_marked.ensures ∙ c.if-is_marked.false)).1 in
     let none' : chain_onto t [] ≡ [] = no_chain t [] plain in
     record {
+      within = rw c.further-spot.ensures.edge c.read_node-on.ensures.within;
       finding = finds_on nodes c.args.key c.loop-below.below o p q t on c.loop-below.invariant.finding read told some c.further-spot.result c.further-spot.ensures.spot c.further-spot.ensures.edge;
       on = goes_then o p q c.loop-below.invariant.on c.read_node-on.ensures.on;
       only = only_then o p q c.loop-below.invariant.only c.read_node-on.ensures.only;
@@ -68,8 +77,8 @@ returns-then-is_null c =
     let t = c.loop-below.spot in
     let on = c.read_node-on.result in
     let nodes = c.args.shared.now.layout.nodes in
-    let told : OnwardTold p q c.args.key t.edge.slot on.found on.side on.next = subst (λ n. OnwardTold p q c.args.key n on.found on.side on.next) c.slot-node.ensures c.read_node-on.ensures.told in
-    let read : Reads c.args.key t.edge.slot p.view.log q.view.log on = subst (λ n. Reads c.args.key n p.view.log q.view.log on) c.slot-node.ensures c.read_node-on.ensures.looks in
+    let told : OnwardTold p q c.args.key t.edge.slot on.found on.side on.next = subst (λ n. OnwardTold p q c.args.key n on.found on.side on.next) c.slot_of-node.ensures c.read_node-on.ensures.told in
+    let read : Reads c.args.key t.edge.slot p.view.log q.view.log on = subst (λ n. Reads c.args.key n p.view.log q.view.log on) c.slot_of-node.ensures c.read_node-on.ensures.looks in
     let below = c.loop-below-test.true in
     let size = c.nodes-most.ensures.nodes in
     let layout = ap (λ (L : Layout). L.nodes) c.layout-layout.ensures in

@@ -1,4 +1,4 @@
-use Rattle.std.proofs.Common.{[]}
+use Rattle.std.proofs.Common.{◌≤◌, []}
 use Rattle.nm_order.specs.Facts.Fact.{KnowsSlot}
 use Rattle.nm_calls.specs.Telling.{Tells, GoesOn, OnlyLooks}
 use Rattle.nm_calls.specs.Walks.{IsFinding, IsWalking}
@@ -6,6 +6,7 @@ use Rattle.nm_calls.proofs.walking.descend.Given as goal
 
 abbrev pub invariant-loop-below : goal.invariant-loop-below
 invariant-loop-below l = record {
+  within : l.spot.edge.slot ≤ l.shared.layout.nodes;
   finding : IsFinding l.key l.below l.fn.pass l.pass l.spot;
   on : GoesOn l.fn.pass l.pass;
   only : OnlyLooks l.fn.pass l.pass;
