@@ -185,7 +185,7 @@ nm_outcome nm_set_version(uint32_t *major, uint32_t *minor, uint32_t *patch);
  * set; NM_OPEN, NM_NODES, NM_WORKERS, NM_NO_MEMORY. */
 nm_outcome nm_set_lowest(nm_handle *set, uint32_t nodes, uint32_t workers);
 
-/* The same, but each worker looks for a free slot near those that it took and gave back last: the
+/* The same, but each worker looks for a free slot near the one that it found or gave back last: the
  * one to take where nobody compares slots. Give it twice the nodes that the keys take, and two for
  * each key that all workers delete within the longest stall of a thread, since what is removed
  * meanwhile waits for it. */

@@ -12,7 +12,7 @@ use std::sync::Arc;
 /// Which free slot a new node takes.
 #[derive(Clone, Copy, Debug, Default, PartialEq, Eq)]
 pub enum Placement {
-    /// One near those that the worker took and gave back last.
+    /// One near the one that the worker found or gave back last.
     #[default]
     Near,
     /// The lowest, which takes long where there are many.

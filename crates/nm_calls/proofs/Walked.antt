@@ -1,5 +1,6 @@
--- A walk that remembers its chain goes on from where it stands, or ends there.
+-- A walk goes on from where it stands, or ends there.
 use Rattle.std.proofs.Common.{◌≡◌, ◌≢◌, ◌≤◌, ◌<◌, ◌+◌, ℕ, Bool, false, List, [], ◌∷◌, ◌++◌, refl, ap, cond, length}
+use Rattle.std.specs.Prelude.{Some}
 use Rattle.nm_steps.specs.Steps.{Stand}
 use Rattle.nm_calls.specs.declared.looking.Onward.{Onward}
 use Rattle.nm_calls.specs.declared.spot.ChainEdge.{ChainEdge}
@@ -7,9 +8,26 @@ use Rattle.nm_calls.specs.declared.spot.End.{End}
 use Rattle.nm_calls.specs.declared.spot.Spot.{Spot}
 use Rattle.nm_calls.specs.Bounds.{chain_bound}
 use Rattle.nm_calls.specs.Telling.{Tells, GoesOn, OnlyLooks, OnwardTold}
-use Rattle.nm_calls.specs.Walks.{onto, chained, chain_onto, Reads, IsWalking, HasWalked}
+use Rattle.nm_calls.specs.Walks.{onto, chained, chain_onto, Reads, Finds, IsFinding, HasFound, IsWalking, HasWalked}
 use Rattle.nm_calls.proofs.GoingOn.{goes_then, only_then, come_on, found_so}
 use Rattle.nm_calls.proofs.Standing.{walk_on, at_kept, at_onto}
+
+-- ---- a walk that remembers nothing
+
+module _ (nodes k n : ℕ) (o p q : Stand) (t : Spot) (on : Onward) (w : IsFinding k n o p t) (read : Reads k t.edge.slot p.view.log q.view.log on) (told : OnwardTold p q k t.edge.slot on.found on.side on.next) where
+  -- to the next node
+  pub finds_on : on.next.slot ≢ 0 → (s : Spot) → s ≡ onto t on.side on.next → s.edge ≡ on.next → IsFinding k (n + 1) o q s
+  finds_on some s is edge = record {
+    walk = (_, walk_on k n o.view.log p.view.log q.view.log t s w.walk.0 on w.walk.1 read is some);
+    known = rw edge (told.learned.leads some);
+    come = come_on o p q k on.found t s on.side on.next w.come told some is;
+  }
+
+  -- at a leaf
+  pub finds_out : on.next.slot ≡ 0 → n + 2 ≤ nodes → Finds nodes k o.view.log q.view.log (Some on.found) × HasFound o q k t.edge.slot t.parent t.side on.found
+  finds_out null few = ((t, w.walk.0, (n, p.view.log, on, few, w.walk.1, null, read, refl)), found_so o p q k on.found t on.side on.next w.come told null)
+
+-- ---- a walk that remembers its chain
 
 -- by an untagged edge the chain is empty behind it
 pub no_chain : (t : Spot) (c : List ChainEdge) → t.edge.tag ≡ false → chain_onto t c ≡ []

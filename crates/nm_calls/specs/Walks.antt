@@ -155,6 +155,21 @@ HasFound p q k leaf parent side key =
     (since : Since) → HasWalks p.view.layout p.view.number p.view.log since k
     → Tells q (EndedAt since k leaf parent side key)
 
+-- ---- a walk that remembers nothing, with what is known where it stands
+
+-- it stands at s, n nodes below slot 2
+pub record IsFinding (k n : ℕ) (o p : Stand) (s : Spot) : Type 0 where
+  pub walk : (c : List ChainEdge) × Walks k n o.view.log p.view.log s c
+  pub known : Tells p (KnowsSlot s.edge.slot)
+  pub come : EachWalkHasCome o p k s
+
+-- the part of a walk that goes by unmarked edges alone: it has ended, or stands after so many
+-- nodes, which are not yet all
+abbrev pub HasDescended : ℕ → ℕ → Stand → Stand → Descent → Type 0
+HasDescended nodes k o p (Ended r) = Finds nodes k o.view.log p.view.log (Some r.key)
+    × HasFound o p k r.spot.edge.slot r.spot.parent r.spot.side r.key
+HasDescended nodes k o p (Stopped s n) = IsFinding k n o p s × (n + 1 ≤ nodes)
+
 -- ---- a walk that remembers its chain, with what is known where it stands
 
 -- in a table of so many nodes it stands at s, n nodes below slot 2
@@ -175,8 +190,8 @@ pub record HasWalked (nodes k : ℕ) (o p : Stand) (c : List ChainEdge) (r : End
   pub high : r.key < infinity_0 → 6 ≤ r.spot.edge.slot
   pub found : HasFound o p k r.spot.edge.slot r.spot.parent r.spot.side r.key
 
--- the part of it that goes by untagged edges alone, so that its chain is empty: it has ended, or
+-- the part of it that goes by unmarked edges alone, so that its chain is empty: it has ended, or
 -- stands after so many nodes, which are not yet all
-abbrev pub HasDescended : ℕ → ℕ → Stand → Stand → Descent → Type 0
-HasDescended nodes k o p (Ended r) = HasWalked nodes k o p [] r
-HasDescended nodes k o p (Stopped s n) = IsWalking nodes k n o p s [] × (n + 1 ≤ nodes)
+abbrev pub HasRemembered : ℕ → ℕ → Stand → Stand → Descent → Type 0
+HasRemembered nodes k o p (Ended r) = HasWalked nodes k o p [] r
+HasRemembered nodes k o p (Stopped s n) = IsWalking nodes k n o p s [] × (n + 1 ≤ nodes)

@@ -17,7 +17,7 @@ use crate::cleaning::cleanup;
 use crate::growing::{claim_fork, give_back, grow};
 use crate::leaving::{answer, leave};
 use crate::making::Fork;
-use crate::spot::End;
+use crate::spot::{End, is_marked};
 use crate::walking::seek;
 use crate::workspace::{CUT_BOUND, Workspace};
 use nm_edge::{Edge, Key};
@@ -79,7 +79,7 @@ fn ready(
 fn asks_help(end: &End, found: Edge) -> bool
     ensures { result ≡ asks_help end.now found }
 {
-    found.slot() == end.spot.edge.slot() && (found.flag() || found.tag())
+    found.slot() == end.spot.edge.slot() && is_marked(found)
 }
 
 /// Cleans up by the walk, where the edge that a lost exchange found leads to the same leaf and is

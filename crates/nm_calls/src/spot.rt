@@ -1,5 +1,5 @@
 //! Where a walk stands.
-ghost use Rattle.std.specs.Prelude.{◌≡◌, ◌≢◌, ◌<◌, ◌≤◌, ◌+◌, true, false, length};
+ghost use Rattle.std.specs.Prelude.{◌≡◌, ◌≢◌, ◌<◌, ◌≤◌, ◌+◌, ◌^◌, ◌||◌, true, false, length};
 ghost use Rattle.nm_model.specs.Searches.{side_of};
 ghost use Rattle.nm_calls.specs.Bounds.{chain_bound};
 ghost use Rattle.nm_calls.specs.Walks.{begin, onto, chain_onto};
@@ -50,12 +50,12 @@ pub struct End {
     pub key: u64,
 }
 
-/// What the part of a walk came to that goes by untagged edges alone.
+/// What the part of a walk came to that goes by unmarked edges alone.
 #[derive(Clone, Copy)]
 pub(crate) enum Descent {
     /// It has ended at a leaf.
     Ended(End),
-    /// It stands at this spot, so many nodes below slot 2: the spot's edge is tagged, or the walk
+    /// It stands at this spot, so many nodes below slot 2: the spot's edge is marked, or the walk
     /// has looked at as many nodes as there are.
     Stopped(Spot, u32),
 }
@@ -74,6 +74,23 @@ pub(crate) fn is_null(edge: Edge) -> bool
     ensures no { result ≡ false → edge.slot ≢ 0 }
 {
     edge.is_to(0)
+}
+
+/// Whether the edge has a mark: one test of its word.
+pub(crate) fn is_marked(edge: Edge) -> bool
+    ensures { result ≡ (edge.flag || edge.tag) }
+{
+    edge.flag() || edge.tag()
+}
+
+/// The slot of an edge of a tree, which has fewer than 2^30. The lower half of the word is enough
+/// for that; and where the edge is known to have no mark, a compiler finds four times the slot, by
+/// which the node's words are numbered, in that half as it stands.
+pub(crate) fn slot_of(edge: Edge) -> u32
+    requires { edge.slot < 2 ^ 30 }
+    ensures { result ≡ edge.slot }
+{
+    edge.pack() as u32 / 4
 }
 
 pub(crate) fn end_at(spot: &Spot, key: u64) -> End

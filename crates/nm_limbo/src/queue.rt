@@ -103,6 +103,10 @@ impl<T, A: Allocator> BlockQueue<T, A> {
         ensures ok { OnOk result (HasLeast self.old self.new n) }
         ensures refused { IfErr result (λ _. self.new.spare < n) }
     {
+        // Nearly always the empty blocks alone are enough.
+        if self.empty.blocks() >= n.div_ceil(BLOCK_LEN) {
+            return Ok(());
+        }
         while self.spare() < n {
             self.add_block()?;
         }

@@ -21,8 +21,8 @@ pub enum Fit {
     /// From slot 6 upwards at each claim: first fit.
     Lowest,
     /// First the lowest slot that a peek at the pool shows in one row of 64 slots, that of the slot
-    /// which the worker gave back last; then from there upwards, and round, beginning where a peek
-    /// shows a slot: next fit.
+    /// which the worker gave back last or, since then, found further on; then from there upwards,
+    /// and round, beginning where a peek shows a slot: next fit.
     Near,
 }
 
@@ -158,8 +158,8 @@ pub fn claim_by(shared: &Shared, pass: &mut Pass, placement: &mut Placement) -> 
     }
 }
 
-/// The slot that a peek shows beside the one that was given back last, or else the first that is
-/// found from there upwards, and round.
+/// The slot that a peek shows in the cursor's row, or else the first that is found from the cursor
+/// upwards, and round.
 #[inline(always)]
 fn claim_near(shared: &Shared, pass: &mut Pass, placement: &mut Placement) -> Option<NodeId>
     requires { IsOf shared.now pass.old }
@@ -179,8 +179,9 @@ fn claim_near(shared: &Shared, pass: &mut Pass, placement: &mut Placement) -> Op
     claim_onward(shared, pass, placement)
 }
 
-/// The first slot that is found from the cursor upwards, and round, where no slot is shown beside
-/// it. Behind a hint that came to nothing it makes up a near claim.
+/// The first slot that is found from the cursor upwards, and round, where none is shown in its row;
+/// the cursor stands there from then on. Behind a hint that came to nothing it makes up a near
+/// claim.
 #[cold]
 #[inline(never)]
 fn claim_onward(shared: &Shared, pass: &mut Pass, placement: &mut Placement) -> Option<NodeId>

@@ -1,6 +1,6 @@
 -- What tended calls leave, by what each part of them leaves.
 use Rattle.std.proofs.Common.{◌≡◌, ◌≤◌, ◌⊎◌, inl, inr, true≢false, ℕ, zero, suc, ◌+◌, ◌-◌, ◌*◌, Bool, true, false, List, [], ◌∷◌, length, refl, sym, ap, subst, ◌∙◌, arith}
-use Rattle.std.specs.Prelude.{drop, unwrap_or, Option, Some, None, IsSome, Result, Ok, Err, IfOk}
+use Rattle.std.specs.Prelude.{drop, unwrap_or, Option, Some, None, IsSome, Result, Ok, Err, IfOk, is_ok}
 use Rattle.std.proofs.Math.Nat.{suc-mul, add-mul, mul-le-mul_right}
 use Rattle.std.proofs.lemmas.List.{drop-drop, length-append}
 use Rattle.nm_edge.specs.declared.node.NodeId.{NodeId}
@@ -37,6 +37,10 @@ use Rattle.std.specs.List.{prefix_len}
 -- nothing is not there
 none_there : {A B : Type 0} (x : Option A) → x ≡ None → IsSome x → B
 none_there x e is = absurd (true≢false (sym (subst IsSome e is)))
+
+-- an answer is no fault
+pub is_no_fault : {B : Type 0} (answer : Bool) (f : Fault) → Ok answer ≡ Err f → B
+is_no_fault answer f e = absurd (true≢false (ap (λ (q : Result Bool Fault). is_ok q) e))
 
 -- ---- queues
 
@@ -202,6 +206,10 @@ goes_tidied b t many w z free between (inr did) = subst (GoesOnTended (round_bou
 row_begins : (step : Hand → Hand → Type 0) (n : ℕ) (w m z : Hand) → step w m → InARow step n m z → InARow step (suc n) w z
 row_begins step zero w m z first rest = (w, refl, subst (step w) (sym rest) first)
 row_begins step (suc n) w m z first (x, rest, last) = (x, row_begins step n w m x first rest, last)
+
+-- the first call is the last one
+pub asked_once : {R : Type 0} (leaves : Hand → Hand → R → Type 0) (lost : R) (rounds : ℕ) (w z : Hand) (r : R) → leaves w z r → (r ≡ lost → 0 ≡ rounds) → IsAsked leaves lost rounds w z r
+asked_once leaves lost rounds w z r did all = record { before = 0; begun = w; each = refl; last = did; few = omega arith; all = all }
 
 -- where the first call has lost, the others of as many rounds are those of one round less
 pub asked_more : {R : Type 0} (leaves : Hand → Hand → R → Type 0) (lost : R) (rounds : ℕ) (w m z : Hand) (r : R) → 1 ≤ rounds → leaves w m lost → IsAsked leaves lost (rounds - 1) m z r → IsAsked leaves lost rounds w z r

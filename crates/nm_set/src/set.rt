@@ -86,8 +86,8 @@ impl Set {
         settle(alloc, site, workers)
     }
 
-    /// The same, but each worker looks for a free slot near those that it took and gave back last:
-    /// `Tree::spaced` with the near one.
+    /// The same, but each worker looks for a free slot near the one that it found or gave back
+    /// last: `Tree::spaced` with the near one.
     pub fn near(alloc: Global, nodes: u32, workers: u32) -> Result<Set, NewError>
         ensures open { IfOk result
             (λ s. (s.closing ≡ false) × (s.kept ≡ []) × (s.board.layout ≡ spaced nodes workers)) }

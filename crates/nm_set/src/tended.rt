@@ -1,8 +1,12 @@
 //! Calls that tend the set: a call that has lost its tries is made again, a delete that has begun
 //! is finished, and retired nodes are collected.
 ghost use Rattle.std.specs.Prelude.{◌≡◌, ◌≢◌, ◌≤◌, ◌-◌, true, false, None, Err};
+ghost use Rattle.nm_steps.specs.Steps.{HasSeen};
 ghost use Rattle.nm_tree.specs.declared.fault.Fault.TheVariants as lost;
-ghost use Rattle.nm_set.specs.Tended.{busy, Looks, Inserts, Deletes, FinishesPending, IsRelieved, IsTidied, InsertsOn, DeletesOn, TendsHas, TendsInsert, TendsDelete};
+ghost use Rattle.nm_tree.specs.Calls.{LeavesInsert, LeavesDelete};
+ghost use Rattle.nm_tree.specs.Workers.{Hand};
+ghost use Rattle.nm_set.specs.Asked.{Asked};
+ghost use Rattle.nm_set.specs.Tended.{busy, Looks, Inserts, Deletes, FinishesPending, IsRelieved, InsertsOn, DeletesOn, TendsHas, TendsInsert, TendsDelete};
 
 use crate::fault::Fault;
 use crate::member::Member;
@@ -117,14 +121,10 @@ impl Member {
         ensures board { self.new.board ≡ self.old.board }
         ensures did { TendsInsert self.old.board habit.now key self.old.hand self.new.hand result }
     {
-        if self.held().is_some() {
-            return Err(Fault::Held);
+        if self.rests() {
+            return self.add_tending(key, habit);
         }
-        let Ok(_done) = self.finish_again(habit) else {
-            return Err(Fault::Call(CallFault::Pending));
-        };
-        self.tidy(habit);
-        self.insert_on(key, habit)
+        self.add_unrested(key, habit)
     }
 
     /// Deletes a key, and answers whether it was in the set: true once the leaf with the key is cut
@@ -143,23 +143,123 @@ impl Member {
         ensures board { self.new.board ≡ self.old.board }
         ensures did { TendsDelete self.old.board habit.now key self.old.hand self.new.hand result }
     {
+        if self.rests() {
+            return self.remove_tending(key, habit);
+        }
+        self.remove_unrested(key, habit)
+    }
+
+    /// Whether the caller does not hold the worker and nothing is pending, as nearly always. It
+    /// chooses a copy of `add` or `remove` alone: one in which the compiler leaves these tests out.
+    fn rests(&self) -> bool {
+        self.held().is_none() && self.pending().is_none()
+    }
+
+    /// `add`, out of the way of the many calls of a worker that rests.
+    #[cold]
+    #[inline(never)]
+    fn add_unrested(&mut self, key: Key, habit: &Habit) -> Result<bool, Fault>
+        ensures board { self.new.board ≡ self.old.board }
+        ensures did { TendsInsert self.old.board habit.now key self.old.hand self.new.hand result }
+    {
+        self.add_tending(key, habit)
+    }
+
+    /// `remove`, out of the way of the many calls of a worker that rests.
+    #[cold]
+    #[inline(never)]
+    fn remove_unrested(&mut self, key: Key, habit: &Habit) -> Result<bool, Fault>
+        ensures board { self.new.board ≡ self.old.board }
+        ensures did { TendsDelete self.old.board habit.now key self.old.hand self.new.hand result }
+    {
+        self.remove_tending(key, habit)
+    }
+
+    /// `add`, of any worker.
+    #[inline(always)]
+    fn add_tending(&mut self, key: Key, habit: &Habit) -> Result<bool, Fault>
+        ensures board { self.new.board ≡ self.old.board }
+        ensures did { TendsInsert self.old.board habit.now key self.old.hand self.new.hand result }
+    {
         if self.held().is_some() {
             return Err(Fault::Held);
         }
         let Ok(_done) = self.finish_again(habit) else {
             return Err(Fault::Call(CallFault::Pending));
         };
-        self.tidy(habit);
+        if self.queue_len() >= u64::from(habit.collect_after) {
+            return self.add_relieved(key, habit);
+        }
+        self.insert_on(key, habit)
+    }
+
+    /// `remove`, of any worker.
+    #[inline(always)]
+    fn remove_tending(&mut self, key: Key, habit: &Habit) -> Result<bool, Fault>
+        ensures board { self.new.board ≡ self.old.board }
+        ensures did { TendsDelete self.old.board habit.now key self.old.hand self.new.hand result }
+    {
+        if self.held().is_some() {
+            return Err(Fault::Held);
+        }
+        let Ok(_done) = self.finish_again(habit) else {
+            return Err(Fault::Call(CallFault::Pending));
+        };
+        if self.queue_len() >= u64::from(habit.collect_after) {
+            return self.remove_relieved(key, habit);
+        }
         self.is_of_a_run();
         self.delete_on(key, habit)
     }
 
-    /// An insert, and one more behind a collection where no slot was free.
+    /// A collection, and the insert behind it.
+    #[cold]
+    #[inline(never)]
+    fn add_relieved(&mut self, key: Key, habit: &Habit) -> Result<bool, Fault>
+        ensures board { self.new.board ≡ self.old.board }
+        ensures did { (y : Hand) × IsRelieved self.old.board self.old.hand y
+            × InsertsOn self.old.board habit.now key y self.new.hand result }
+    {
+        self.relieve();
+        self.insert_on(key, habit)
+    }
+
+    /// A collection, and the delete behind it.
+    #[cold]
+    #[inline(never)]
+    fn remove_relieved(&mut self, key: Key, habit: &Habit) -> Result<bool, Fault>
+        ensures board { self.new.board ≡ self.old.board }
+        ensures did { (y : Hand) × IsRelieved self.old.board self.old.hand y × HasSeen y.pass.view
+            × DeletesOn self.old.board habit.now key y self.new.hand result }
+    {
+        self.relieve();
+        self.is_of_a_run();
+        self.delete_on(key, habit)
+    }
+
+    /// An insert that is made again while it loses each of its tries, and once more behind a
+    /// collection where no slot was free: nearly always the first one answers.
+    #[inline(always)]
     fn insert_on(&mut self, key: Key, habit: &Habit) -> Result<bool, Fault>
         ensures board { self.new.board ≡ self.old.board }
         ensures did { InsertsOn self.old.board habit.now key self.old.hand self.new.hand result }
     {
-        let told = self.insert_again(key, habit);
+        match self.insert(key, habit.tries) {
+            Ok(answer) => Ok(answer),
+            Err(fault) => self.insert_behind(key, habit, fault),
+        }
+    }
+
+    /// What is done of it behind a first insert that has told this fault.
+    #[cold]
+    #[inline(never)]
+    fn insert_behind(&mut self, key: Key, habit: &Habit, fault: Fault) -> Result<bool, Fault>
+        ensures board { self.new.board ≡ self.old.board }
+        ensures did { (w : Hand)
+            → Asked (LeavesInsert self.old.board.layout.nodes habit.now.tries key) w self.old.hand
+            (Err fault) → InsertsOn self.old.board habit.now key w self.new.hand result }
+    {
+        let told = self.insert_again(key, habit, fault);
         if !is_full(&told) {
             return told;
         }
@@ -167,12 +267,29 @@ impl Member {
         self.insert_rounds(key, habit)
     }
 
-    /// A delete, and what is left to do of it.
+    /// A delete that is made again while it loses each of its tries, and what is left to do of it:
+    /// nearly always the first one answers.
+    #[inline(always)]
     fn delete_on(&mut self, key: Key, habit: &Habit) -> Result<bool, Fault>
         ensures board { self.new.board ≡ self.old.board }
         ensures did { DeletesOn self.old.board habit.now key self.old.hand self.new.hand result }
     {
-        let told = self.delete_again(key, habit);
+        match self.delete(key, habit.tries) {
+            Ok(answer) => Ok(answer),
+            Err(fault) => self.delete_behind(key, habit, fault),
+        }
+    }
+
+    /// What is done of it behind a first delete that has told this fault.
+    #[cold]
+    #[inline(never)]
+    fn delete_behind(&mut self, key: Key, habit: &Habit, fault: Fault) -> Result<bool, Fault>
+        ensures board { self.new.board ≡ self.old.board }
+        ensures did { (w : Hand)
+            → Asked (LeavesDelete self.old.board.layout.nodes habit.now.tries key) w self.old.hand
+            (Err fault) → DeletesOn self.old.board habit.now key w self.new.hand result }
+    {
+        let told = self.delete_again(key, habit, fault);
         if !is_unfinished(&told) {
             return told;
         }
@@ -192,16 +309,6 @@ impl Member {
         self.advance();
         self.advance();
         self.collect();
-    }
-
-    /// Does so where as many nodes wait as the habit says.
-    fn tidy(&mut self, habit: &Habit)
-        ensures board { self.new.board ≡ self.old.board }
-        ensures did { IsTidied self.old.board habit.now.collect_after self.old.hand self.new.hand }
-    {
-        if self.queue_len() >= u64::from(habit.collect_after) {
-            self.relieve();
-        }
     }
 
     /// Look-ups, until one has not lost each of its tries: nearly always it is the first one.
@@ -233,13 +340,15 @@ impl Member {
         self.has(key, habit.tries)
     }
 
-    /// Inserts, until one has not lost each of its tries: nearly always it is the first one.
-    #[inline(always)]
-    fn insert_again(&mut self, key: Key, habit: &Habit) -> Result<bool, Fault>
+    /// Inserts, behind a first one that has told this fault, until one has not lost each of its
+    /// tries.
+    fn insert_again(&mut self, key: Key, habit: &Habit, fault: Fault) -> Result<bool, Fault>
         ensures board { self.new.board ≡ self.old.board }
-        ensures did { Inserts self.old.board habit.now key self.old.hand self.new.hand result }
+        ensures did { (w : Hand)
+            → Asked (LeavesInsert self.old.board.layout.nodes habit.now.tries key) w self.old.hand
+            (Err fault) → Inserts self.old.board habit.now key w self.new.hand result }
     {
-        let told = self.insert(key, habit.tries);
+        let told = Err(fault);
         if !is_busy(&told) || habit.rounds == 0 {
             return told;
         }
@@ -262,13 +371,15 @@ impl Member {
         self.insert(key, habit.tries)
     }
 
-    /// Deletes, until one has not lost each of its tries: nearly always it is the first one.
-    #[inline(always)]
-    fn delete_again(&mut self, key: Key, habit: &Habit) -> Result<bool, Fault>
+    /// Deletes, behind a first one that has told this fault, until one has not lost each of its
+    /// tries.
+    fn delete_again(&mut self, key: Key, habit: &Habit, fault: Fault) -> Result<bool, Fault>
         ensures board { self.new.board ≡ self.old.board }
-        ensures did { Deletes self.old.board habit.now key self.old.hand self.new.hand result }
+        ensures did { (w : Hand)
+            → Asked (LeavesDelete self.old.board.layout.nodes habit.now.tries key) w self.old.hand
+            (Err fault) → Deletes self.old.board habit.now key w self.new.hand result }
     {
-        let told = self.delete(key, habit.tries);
+        let told = Err(fault);
         if !is_busy(&told) || habit.rounds == 0 {
             return told;
         }

@@ -32,7 +32,7 @@ pub extern "C" fn nm_set_lowest(alloc: Global, set: &mut Handle, nodes: u32, wor
     }
 }
 
-/// The same, but each worker looks for a free slot near those that it took and gave back last:
+/// The same, but each worker looks for a free slot near the one that it found or gave back last:
 /// `Set::near` of `nm_set`.
 #[unsafe(no_mangle)]
 pub extern "C" fn nm_set_near(alloc: Global, set: &mut Handle, nodes: u32, workers: u32) -> i32

@@ -1,5 +1,5 @@
 //! Inserts, deletes, and what is left to do of a delete.
-ghost use Rattle.std.specs.Prelude.{◌≡◌, ◌⊎◌, ◌<◌, true, false, IfErr, IsErrOf};
+ghost use Rattle.std.specs.Prelude.{◌≡◌, ◌⊎◌, ◌<◌, ◌+◌, ◌-◌, ◌^◌, min, true, false, IfErr, IsErrOf};
 ghost use Rattle.nm_steps.specs.Steps.{IsOf};
 ghost use Rattle.nm_calls.specs.Bounds.{cut_bound};
 ghost use Rattle.nm_calls.specs.Rooms.{TakesRoom};
@@ -41,7 +41,7 @@ fn insert_with(
     workspace.splices = account.splices;
     let answer = insert(shared, pass, workspace, &mut own.queue, key, tries);
     account.splices = workspace.splices;
-    account.links = account.links.saturating_add(links_of(&answer));
+    account.links = raised(account.links, links_of(&answer));
     account.waiting = own.queue.len();
     answer
 }
@@ -70,9 +70,19 @@ fn delete_with(
     workspace.splices = account.splices;
     let answer = delete(shared, pass, workspace, &mut own.queue, key, tries);
     account.splices = workspace.splices;
-    account.flags = account.flags.saturating_add(flags_of(&answer));
+    account.flags = raised(account.flags, flags_of(&answer));
     account.waiting = own.queue.len();
     answer
+}
+
+/// A count with so many more, of which most calls have none: it stays where it is at 2^64 - 1.
+fn raised(count: u64, more: u64) -> u64
+    ensures { result ≡ min (count + more) (2 ^ 64 - 1) }
+{
+    if more == 0 {
+        return count;
+    }
+    count.saturating_add(more)
 }
 
 /// How many links an insert that answered so has won.

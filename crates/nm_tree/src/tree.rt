@@ -54,8 +54,9 @@ impl Tree {
     }
 
     /// The same, but a worker looks for a free slot first in one row of 64, that of the slot which
-    /// it gave back last, and then from there upwards, and round. So a claim takes few steps where
-    /// most slots are free, and which slot a new node takes is not told beforehand.
+    /// it gave back last or, since then, found further on, and then from there upwards, and round.
+    /// So a claim takes few steps where most slots are free, and which slot a new node takes is not
+    /// told beforehand.
     ///
     /// (Next fit: Knuth, The Art of Computer Programming, volume 1, section 2.5.)
     pub fn near(alloc: Global, nodes: u32, workers: u32) -> Result<(Tree, Vec<Worker>), NewError>

@@ -49,7 +49,7 @@ pub returns-then-is_null-clause-walk : goal.returns-then-is_null-clause-walk
 returns-then-is_null-clause-walk c = let came = returns-then-is_null-clause-came c in (came.walk, came.few)
 
 pub returns-in-Ended-clause-steps : goal.returns-in-Ended-clause-steps
-returns-in-Ended-clause-steps c = (end_adds c.args.shared.now.layout.nodes c.args.key c.args.pass.now.view.log c.descend.new.pass.view.log c.in-Ended.end.spot _ c.in-Ended.end.key c.in-Ended.ensures.came.walk).steps
+returns-in-Ended-clause-steps c = (end_adds c.args.shared.now.layout.nodes c.args.key c.args.pass.now.view.log c.descend.new.pass.view.log c.in-Ended.end.spot _ c.in-Ended.end.key (c.in-Ended.ensures.remembers c.requires.root).walk).steps
 
 pub returns-then-is_null-clause-steps : goal.returns-then-is_null-clause-steps
 returns-then-is_null-clause-steps c =

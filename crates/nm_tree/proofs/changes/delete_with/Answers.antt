@@ -15,7 +15,7 @@ returns-clause-kept c =
       same_origin = refl;
       origin = refl;
       links = (let was = c.requires.kept.account.links in omega (arith, was));
-      flags = (let sum = c.saturating_add-account.ensures in let one = c.flags_of.ensures in omega (arith, sum, one));
+      flags = (let sum = c.raised-account.ensures in let one = c.flags_of.ensures in omega (arith, sum, one));
       splices = c.delete-answer.ensures.kept.counted;
       freed = refl;
       waiting = c.len-account.ensures.len;

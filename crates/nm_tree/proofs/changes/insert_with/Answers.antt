@@ -14,7 +14,7 @@ returns-clause-kept c =
       few = subst P (sym (ap (λ (x : Stand). x.view.layout) c.insert-answer.ensures.after.same ∙ c.requires.own.layout)) c.insert-answer.ensures.few;
       same_origin = refl;
       origin = refl;
-      links = (let sum = c.saturating_add-account.ensures in let one = c.links_of.ensures in omega (arith, sum, one));
+      links = (let sum = c.raised-account.ensures in let one = c.links_of.ensures in omega (arith, sum, one));
       flags = (let was = c.requires.kept.account.flags in omega (arith, was));
       splices = c.insert-answer.ensures.kept.counted;
       freed = refl;

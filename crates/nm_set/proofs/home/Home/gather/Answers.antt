@@ -1,4 +1,4 @@
-use Rattle.std.proofs.Common.{◌≡◌, ◌∙◌, ℕ, suc, List, [], ◌∷◌, ◌++◌, append_assoc, length, length-append, sym, ap, subst, arith}
+use Rattle.std.proofs.Common.{◌∙◌, ℕ, suc, List, [], ◌∷◌, ◌++◌, append_assoc, length, length-append, sym, ap, subst, arith}
 use Rattle.nm_tree.specs.Workers.{Hand}
 use Rattle.nm_set.specs.Seats.{AreOwn, AreSeats, IsOwn}
 use Rattle.nm_set.specs.declared.home.Site.{Site}

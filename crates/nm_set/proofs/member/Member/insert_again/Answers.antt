@@ -1,6 +1,5 @@
 use Rattle.std.proofs.Common.{◌-◌, refl, subst, arith}
 use Rattle.std.specs.Prelude.{Result, Bool}
-use Rattle.nm_steps.specs.Steps.{Board}
 use Rattle.nm_tree.specs.Calls.{LeavesInsert}
 use Rattle.nm_set.specs.declared.fault.Fault.{Fault}
 use Rattle.nm_set.specs.declared.tended.Habit.{Habit}
@@ -14,12 +13,11 @@ returns-clause-did c =
     let b = c.args.self.now.board in
     let h = c.args.habit.now in
     let k = c.args.key in
-    let w = c.args.self.now.hand in
-    let m = c.insert-told.new.self.hand in
+    let m = c.args.self.now.hand in
     let z = c.insert_rounds.new.self.hand in
     let r = c.insert_rounds.result in
     let some = c.if-habit-eq0.false in
-    let first = subst (λ (t : Result Bool Fault). Asked (LeavesInsert b.layout.nodes h.tries k) w m t) (c.if-not-is_busy.ensures.yes refl) c.insert-told.ensures.did in
-    let rest : Inserts b (record h { rounds = h.rounds - 1 }) k m z r =
-    subst (λ (g : Habit). Inserts b g k m z r) c.without_one.ensures (subst (λ (d : Board). Inserts d c.without_one.result k m z r) c.insert-told.ensures.board c.insert_rounds.ensures.did) in
-    asked_more (Asked (LeavesInsert b.layout.nodes h.tries k)) busy h.rounds w m z r (omega (arith, some)) first rest
+    let rest : Inserts b (record h { rounds = h.rounds - 1 }) k m z r = subst (λ (g : Habit). Inserts b g k m z r) c.without_one.ensures c.insert_rounds.ensures.did in
+    λ w first.
+    let lost = subst (λ (t : Result Bool Fault). Asked (LeavesInsert b.layout.nodes h.tries k) w m t) (c.if-not-is_busy.ensures.yes refl) first in
+    asked_more (Asked (LeavesInsert b.layout.nodes h.tries k)) busy h.rounds w m z r (omega (arith, some)) lost rest

@@ -1,18 +1,24 @@
-use Rattle.std.proofs.Common.{◌∙◌, inr, refl, subst}
+use Rattle.std.proofs.Common.{inl, subst}
+use Rattle.std.specs.Prelude.{Ok, Err}
 use Rattle.nm_steps.specs.Steps.{Board}
-use Rattle.std.specs.Prelude.{Result, Bool, ◌≡◌}
-use Rattle.nm_set.specs.declared.fault.Fault.{Fault}
-use Rattle.nm_set.specs.Tended.{Inserts, IsRelieved}
+use Rattle.nm_tree.specs.Calls.{LeavesInsert}
+use Rattle.nm_set.specs.Asked.{Asked}
+use Rattle.nm_set.specs.Tended.{busy, InsertsOn}
+use Rattle.nm_set.proofs.Tending.{asked_once, is_no_fault}
 use Rattle.nm_set.proofs.member.Member.insert_on.Goals as goal
 
-pub returns-clause-did : goal.returns-clause-did
-returns-clause-did c =
-    let b = c.args.self.now.board in
-    let x = c.insert_again-told.new.self.hand in
-    let y = c.relieve.new.self.hand in
-    let z = c.insert_rounds.new.self.hand in
-    let same : c.insert_again-told.new.self.board ≡ b = c.insert_again-told.ensures.board in
-    let first = subst (λ (r : Result Bool Fault). Inserts b c.args.habit.now c.args.key c.args.self.now.hand x r) (c.if-not-is_full.ensures.yes refl) c.insert_again-told.ensures.did in
-    let relieved = subst (λ (d : Board). IsRelieved d x y) same c.relieve.ensures.did in
-    let again = subst (λ (d : Board). Inserts d c.args.habit.now c.args.key y z c.insert_rounds.result) (c.relieve.ensures.board ∙ same) c.insert_rounds.ensures.did in
-    inr (x, y, first, relieved, again)
+pub returns-in-Ok-clause-did : goal.returns-in-Ok-clause-did
+returns-in-Ok-clause-did c =
+    let h = c.args.habit.now in
+    let leaves = Asked (LeavesInsert c.args.self.now.board.layout.nodes h.tries c.args.key) in
+    inl (asked_once leaves busy h.rounds c.args.self.now.hand c.insert.new.self.hand (Ok c.in-Ok.answer) c.in-Ok.ensures.did (λ e. is_no_fault _ _ e), λ e. is_no_fault _ _ e)
+
+pub returns-in-Err-clause-did : goal.returns-in-Err-clause-did
+returns-in-Err-clause-did c =
+    let h = c.args.habit.now in
+    let k = c.args.key in
+    let w = c.args.self.now.hand in
+    let m = c.insert.new.self.hand in
+    let z = c.insert_behind.new.self.hand in
+    let P : Board → Type 0 = λ b. Asked (LeavesInsert b.layout.nodes h.tries k) w m (Err c.in-Err.fault) → InsertsOn b h k w z c.insert_behind.result in
+    subst P c.insert.ensures.board (c.insert_behind.ensures.did w) c.in-Err.ensures.did
