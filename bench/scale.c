@@ -34,7 +34,7 @@ static double now(void) {
 static void *fill(void *own) {
     part *mine = own;
     for (uint64_t i = 0; i < mine->keys; i++)
-        CHECK(nm_worker_add(&mine->worker, key_of(mine->first + i * THREADS), &nm_usual_habit) ==
+        CHECK(nm_worker_insert(&mine->worker, key_of(mine->first + i * THREADS), &nm_usual_habit) ==
               NM_YES);
     return NULL;
 }
@@ -75,7 +75,7 @@ int main(int count, char **words) {
     uint64_t keys = count == 2 ? strtoull(words[1], NULL, 10) : 0;
     CHECK(keys >= THREADS && keys <= 60000000);
     double begun = now();
-    CHECK(nm_set_near(&set, (uint32_t)(2 * keys + 4096), 64) == NM_DONE);
+    CHECK(nm_set_new(&set, (uint32_t)(2 * keys + 4096), 64) == NM_DONE);
     printf("made in %.2f seconds\n", now() - begun);
     for (int i = 0; i < THREADS; i++) {
         parts[i] = (part){.worker = NM_CLOSED_HANDLE, .first = (uint64_t)i, .keys = keys / THREADS};

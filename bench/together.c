@@ -39,13 +39,13 @@ static double looked(nm_handle *worker, uint64_t keys, size_t together, uint64_t
     double begun = spent();
     for (size_t done = 0; done < LOOKUPS; done += together) {
         if (together == 1) {
-            nm_outcome told = nm_worker_has(worker, any_key(&seed, keys), TRIES);
+            nm_outcome told = nm_worker_try_contains(worker, any_key(&seed, keys), TRIES);
             CHECK(told == NM_YES || told == NM_NO);
             *found += told == NM_YES;
             continue;
         }
         for (size_t i = 0; i < together; i++) lookups[i] = (nm_lookup){.key = any_key(&seed, keys)};
-        CHECK(nm_worker_has_many(worker, lookups, together, TRIES) == NM_DONE);
+        CHECK(nm_worker_contains_many(worker, lookups, together, TRIES) == NM_DONE);
         for (size_t i = 0; i < together; i++) *found += lookups[i].found != 0;
     }
     return (spent() - begun) / LOOKUPS;
@@ -69,10 +69,10 @@ int main(void) {
     puts("| Keys | In a call | One by one | Together | Ratio |\n|---|---|---|---|---|");
     for (size_t s = 0; s < sizeof sizes / sizeof *sizes; s++) {
         nm_handle set = NM_CLOSED_HANDLE, worker = NM_CLOSED_HANDLE;
-        CHECK(nm_set_near(&set, (uint32_t)(4 * sizes[s] + 64), 64) == NM_DONE &&
+        CHECK(nm_set_new(&set, (uint32_t)(4 * sizes[s] + 64), 64) == NM_DONE &&
               nm_set_attach(&set, &worker) == NM_DONE);
         for (uint64_t i = 0; i < sizes[s]; i++)
-            CHECK(nm_worker_insert(&worker, 2 * i * SCATTER >> 1, TRIES) == NM_YES);
+            CHECK(nm_worker_try_insert(&worker, 2 * i * SCATTER >> 1, TRIES) == NM_YES);
         for (size_t c = 0; c < sizeof calls / sizeof *calls; c++) {
             double alone[ROUNDS], together[ROUNDS], ratio[ROUNDS];
             for (int round = 0; round < ROUNDS; round++) {

@@ -6,7 +6,7 @@
 #include <stdio.h>
 #include <stdlib.h>
 
-#define CHECK(holds) ((holds) ? (void)0 : fail(__FILE__, __LINE__, #holds))
+#define CHECK(...) ((__VA_ARGS__) ? (void)0 : fail(__FILE__, __LINE__, #__VA_ARGS__))
 
 static void fail(const char *file, int line, const char *what) {
     fprintf(stderr, "%s, line %d: not so: %s\n", file, line, what);

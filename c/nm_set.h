@@ -1,10 +1,11 @@
-/* A set of whole numbers that threads share without locks: a lock-free tree whose removed nodes are
- * reused, with a proof. Keys are 0 to 2^64 - 4. C++ has nm_set.hpp over this.
+/* A set of whole numbers that threads share without locks: a tree whose removed nodes are reused,
+ * with a proof. Keys are 0 to 2^64 - 4. C++ has nm_set.hpp over this, and nm_wait.h has calls of
+ * these that wait.
  *
  *     nm_handle set = NM_CLOSED_HANDLE, worker = NM_CLOSED_HANDLE;
- *     nm_set_near(&set, 8192, 2);              the set, for two workers
+ *     nm_set_new(&set, 8192, 2);               the set, for two workers
  *     nm_set_worker(&set, &worker, 0);         worker 0, for this thread
- *     nm_worker_add(&worker, 5, &nm_usual_habit);    NM_YES: the key was not in the set
+ *     nm_worker_insert(&worker, 5, &nm_usual_habit);    NM_YES: the key was not in the set
  *     nm_drop(&worker);                        worker 0 is at home
  *     nm_set_close(&set);                      the handle owns the report from now on
  *     nm_drop(&set);
@@ -33,12 +34,22 @@
  * calls that have one handle at the same time the second is told NM_IN_USE, and touches nothing.
  * Several threads may take their workers from one handle of a set at once, by nm_set_worker and
  * nm_set_attach, with no lock: each has the handle for the moment of the take alone, and looks
- * again for some tenths of a second where it finds another one there. So does nm_set_close. A
- * worker's handle, and a report's, is for one thread at a time: NM_IN_USE of it tells a fault of
- * the program, which has cost nothing.
+ * again for some tenths of a second where it finds another one there. So do nm_set_away and
+ * nm_set_close. Where a thread loses its processor for longer, they tell NM_IN_USE: call again, as
+ * nm_wait.h does. A worker's handle, and a report's, is for one thread at a time: NM_IN_USE of it
+ * tells a fault of the program, which has cost nothing. A program reads no word of a handle: each
+ * call empties it for its time.
  */
 #ifndef NM_SET_H
 #define NM_SET_H
+
+#ifdef __cplusplus
+#if __cplusplus < 201103L
+#error "nm_set.h needs C++11 or later, and nm_set.hpp C++17: compile with -std=c++17"
+#endif
+#elif !defined __STDC_VERSION__ || __STDC_VERSION__ < 199901L
+#error "nm_set.h needs C99 or later: compile with -std=c99"
+#endif
 
 #include <stddef.h>
 #include <stdint.h>
@@ -70,7 +81,7 @@ typedef enum nm_outcome {
     NM_BUSY = -9,         /* each try was lost, or there might be none: nothing of the call
                              stands but help given to others; call again */
     NM_FULL = -10,        /* no slots were free for the two new nodes of an insert: advance and
-                             collect, and call again */
+                             collect, and call again (nm_wait_insert of nm_wait.h) */
     NM_UNFINISHED = -11,  /* the leaf with the key is flagged and not known to be cut off: the
                              key will go, and is pending until nm_worker_finish */
     NM_PENDING = -12,     /* a key is pending, so that only nm_worker_finish goes on */
@@ -105,20 +116,20 @@ static inline const char *nm_outcome_text(nm_outcome outcome) {
     case NM_NODES: return "the number of nodes is not 7 to 268,435,456";
     case NM_WORKERS: return "the number of workers is not 1 to 64";
     case NM_NO_MEMORY: return "memory was refused";
-    case NM_BUSY: return "each try was lost";
-    case NM_FULL: return "no slots are free for the new nodes";
-    case NM_UNFINISHED: return "the delete has flagged its leaf and is not finished";
-    case NM_PENDING: return "a key is pending";
-    case NM_HELD: return "the worker is held";
-    case NM_NOT_HELD: return "the worker is not held";
+    case NM_BUSY: return "each try was lost to other threads";
+    case NM_FULL: return "no nodes are free for the new key";
+    case NM_UNFINISHED: return "the remove has begun and is not finished: the key will go";
+    case NM_PENDING: return "an earlier remove is not finished";
+    case NM_HELD: return "the worker is pinned";
+    case NM_NOT_HELD: return "the worker is not pinned";
     case NM_BEHIND: return "a worker holds the epoch back";
     case NM_LOST: return "another worker moved the epoch on first";
     case NM_SPENT: return "the epoch is the last one";
-    case NM_AWAY: return "a worker is not at home";
+    case NM_AWAY: return "a worker is with a thread, or each of them is (64 at most)";
     case NM_CLOSING: return "the set is being closed";
     case NM_NOT_ALL: return "fewer workers are at home than the set has";
     case NM_UNCOUNTED: return "there are as many handles as can be counted";
-    case NM_IN_USE: return "another call has the handle";
+    case NM_IN_USE: return "another call has the handle at this moment";
     }
     return "an outcome of another library";
 }
@@ -142,7 +153,7 @@ typedef struct nm_ledger {
     uint64_t queued;   /* those of them that wait */
 } nm_ledger;
 
-/* A key that nm_worker_has_many looks up beside others. */
+/* A key that nm_worker_contains_many looks up beside others. */
 typedef struct nm_lookup {
     uint64_t key;    /* 0 to 2^64 - 4 */
     uint64_t found;  /* 1 where the set had the key, else 0 */
@@ -154,8 +165,8 @@ typedef struct nm_habit {
                                is done at once */
     uint32_t rounds;        /* how often a call that has lost each of its tries is made again,
                                and how often a delete that has begun is gone on with */
-    uint32_t collect_after; /* from how many waiting nodes on an add or a remove first moves the
-                               epoch on and collects */
+    uint32_t collect_after; /* from how many waiting nodes on an insert or a remove first moves
+                               the epoch on and collects */
 } nm_habit;
 
 /* The habit to have where nothing speaks for another one. */
@@ -177,30 +188,36 @@ nm_outcome nm_set_version(uint32_t *major, uint32_t *minor, uint32_t *patch);
 /* ---- a set ----
  * Of a closed handle these tell NM_CLOSED, and of one that owns something else NM_KIND. */
 
-/* Makes the empty set, in a tree with room for 7 to 268,435,456 nodes, for 1 to 64 workers. n keys
- * take 2 n + 5 nodes, and a node that was removed is free again only after two moves of the epoch.
- * A node takes 32 bytes and a bit, twice as much while the set is made, which takes time for each
- * node; a worker takes 4,096, so that what it announces lies in a page of its own. A new node takes
- * the lowest free slot, which takes long where there are many. NM_DONE, and the handle owns the
- * set; NM_OPEN, NM_NODES, NM_WORKERS, NM_NO_MEMORY. */
-nm_outcome nm_set_lowest(nm_handle *set, uint32_t nodes, uint32_t workers);
+/* Makes the empty set, in a radix tree with room for 7 to 268,435,456 nodes, for 1 to 64 workers.
+ * No call walks past 66 nodes, whatever keys come in whatever order. n keys take 2 n + 5 nodes, and
+ * a node that was removed is free again only after two moves of the epoch: so give it twice the
+ * nodes that the keys take, and two for each key that all workers remove within the longest stall
+ * of a thread, since what is removed meanwhile waits for it. A node takes 32 bytes and a bit, twice
+ * as much while the set is made, which takes time for each node; a worker takes 4,096, so that what
+ * it announces lies in a page of its own. Beside that the queues of removed nodes take memory as
+ * they grow, and give it back: behind each call those of all workers take at most 24.25 bytes for
+ * each node that waits, and 7,712 for each worker. NM_DONE, and the handle owns the set; NM_OPEN,
+ * NM_NODES, NM_WORKERS, NM_NO_MEMORY. */
+nm_outcome nm_set_new(nm_handle *set, uint32_t nodes, uint32_t workers);
 
-/* The same, but each worker looks for a free slot near the one that it found or gave back last: the
- * one to take where nobody compares slots. Give it twice the nodes that the keys take, and two for
- * each key that all workers delete within the longest stall of a thread, since what is removed
- * meanwhile waits for it. */
+/* The same, in the tree of Natarajan and Mittal, where keys that come in order make one long path,
+ * which each call walks: for who compares the two. */
 nm_outcome nm_set_near(nm_handle *set, uint32_t nodes, uint32_t workers);
 
-/* Takes the worker of a number, with all that it held when it went home. Handles of threads that
- * are busy at the same time are best kept 64 bytes apart, since each call writes its handle.
- * Several threads may make this call with one handle of a set at once. NM_DONE, and the worker's
- * handle, which must be closed, owns the worker; NM_OPEN (of the worker's handle), NM_NUMBER,
- * NM_AWAY, NM_CLOSING, NM_NO_MEMORY. */
+/* The same as nm_set_near, but a new node takes the lowest free slot, and not one near that which
+ * its worker found or gave back last: for who compares slots. */
+nm_outcome nm_set_lowest(nm_handle *set, uint32_t nodes, uint32_t workers);
+
+/* Takes the worker of a number, with all that it had when it went home, but for a pin: it is not
+ * held. Handles of threads that are busy at the same time are best kept 64 bytes apart: each call
+ * writes its handle. Several threads may make this call with one handle of a set at once. NM_DONE,
+ * and the worker's handle, which must be closed, owns the worker; NM_OPEN (of the worker's handle),
+ * NM_NUMBER, NM_AWAY, NM_CLOSING, NM_NO_MEMORY. */
 nm_outcome nm_set_worker(nm_handle *set, nm_handle *worker, uint32_t number);
 
-/* Takes a worker that is at home, where no number is named: the one with the least number. Several
- * threads may make this call with one handle of a set at once. NM_AWAY: no worker was at home when
- * its place was looked at. Else as nm_set_worker. */
+/* Takes a worker that is at home, where no number is named: the one with the least number, as tests
+ * show. Several threads may make this call with one handle of a set at once. NM_AWAY: no worker was
+ * at home when its place was looked at. Else as nm_set_worker. */
 nm_outcome nm_set_attach(nm_handle *set, nm_handle *worker);
 
 /* Ends the set when all its workers are at home. NM_DONE, and the handle owns the report from then
@@ -216,58 +233,23 @@ nm_outcome nm_set_close(nm_handle *set);
  * taken. */
 nm_outcome nm_set_away(nm_handle *set, uint32_t number);
 
-/* Gives up what any handle owns, and closes the handle: a worker goes home, with all that it holds,
- * and can be taken again; a set that was not closed is left to its workers, the last of which ends
- * it; a report is forgotten. NM_DONE; NM_CLOSED. */
+/* Gives up what any handle owns, and closes the handle: a worker goes home, unpinned, with all else
+ * that it holds, and can be taken again; a set that was not closed is left to its workers, the last
+ * of which ends it; a report is forgotten. NM_DONE; NM_CLOSED. */
 nm_outcome nm_drop(nm_handle *handle);
 
 /* ---- a worker, for a key ----
- * Of a closed handle these and all that follow for a worker tell NM_CLOSED, and of one that owns
- * something else NM_KIND. No call waits for another worker. Where two meet, one of them may lose a
- * try, and a call gives up after so many: some tens are enough, and where they are not, call again.
- * With 0 tries no step is made. */
-
-/* Whether the set has the key. NM_YES, NM_NO; NM_KEY, NM_BUSY, NM_PENDING, NM_HELD. It takes no
- * memory. */
-nm_outcome nm_worker_has(nm_handle *worker, uint64_t key, uint32_t tries);
-
-/* Whether the set has each of so many keys, one behind the other in memory: NM_DONE, and the found
- * of each is written. Each answer was right at a moment of this call, two of them perhaps at
- * different ones. The searches go on in turns, so that the loads of one go on while the others wait
- * for theirs: some eight to sixty-four keys a call are best. lookups is not null, also where count
- * is 0. NM_KEY: one of the numbers is no key. NM_BUSY, NM_PENDING, NM_HELD, NM_NO_MEMORY: no found
- * is written. */
-nm_outcome nm_worker_has_many(nm_handle *worker, nm_lookup *lookups, size_t count, uint32_t tries);
-
-/* The least key of the set that is not below key: NM_YES, and found is written; NM_NO where there
- * is none. The set had found at a moment of this call, and of each key from key on below found, or
- * with NM_NO of each from key on, there was a moment of this call at which the set did not have it;
- * the moments of two keys may differ. So a program goes over the keys of a set in use: it asks for
- * 0, and then for found + 1 until NM_NO, or NM_KEY behind the greatest key. NM_KEY, NM_BUSY,
- * NM_PENDING, NM_HELD: found is not written. It takes no memory. In a set at rest two tries are
- * enough. */
-nm_outcome nm_worker_next(nm_handle *worker, uint64_t key, uint32_t tries, uint64_t *found);
-
-/* Inserts a key: NM_YES where it was not in the set, NM_NO where it was. NM_KEY, NM_BUSY, NM_FULL,
- * NM_PENDING, NM_HELD, NM_NO_MEMORY. */
-nm_outcome nm_worker_insert(nm_handle *worker, uint64_t key, uint32_t tries);
-
-/* Deletes a key: NM_YES where it was in the set, NM_NO where it was not. NM_KEY, NM_BUSY,
- * NM_UNFINISHED, NM_PENDING, NM_HELD, NM_NO_MEMORY. NM_YES takes two tries at least. */
-nm_outcome nm_worker_delete(nm_handle *worker, uint64_t key, uint32_t tries);
-
-/* Goes on with the delete that is pending: NM_YES where it has answered now, NM_NO where none is
- * pending. NM_UNFINISHED: the key is pending still. */
-nm_outcome nm_worker_finish(nm_handle *worker, uint32_t tries);
-
-/* ---- a worker, for a key, by calls that tend the set ----
- * What a program would write round the four calls above: one that has lost each of its tries is
- * made again, a delete that has begun is finished, and where so many removed nodes wait, an add or
- * a remove first moves the epoch on and collects. All of it ends within a bound of steps, which the
- * habit gives. Nothing is pending behind NM_YES, NM_NO, NM_BUSY, NM_FULL and NM_NO_MEMORY.
+ * The calls to begin with: they tend the set. Where two workers meet, one of them may lose a try;
+ * a call that has lost each of its tries is made again, a remove that has begun is finished, and
+ * where so many removed nodes wait, an insert or a remove first moves the epoch on and collects.
+ * All of it ends within a bound of steps, which the habit gives. Nothing is pending behind NM_YES,
+ * NM_NO, NM_BUSY, NM_FULL and NM_NO_MEMORY. No call waits for another worker, as far as malloc and
+ * free do not, which one makes that takes memory for its queue or gives it back.
  *
- * NM_BUSY: each of the calls has lost each of its tries; nothing stands but help given to others.
- * NM_PENDING: the delete of an earlier call is pending still, and nothing else was done. */
+ * Of a closed handle these and all that follow for a worker tell NM_CLOSED, and of one that owns
+ * something else NM_KIND. NM_BUSY: each of the calls has lost each of its tries; nothing stands but
+ * help given to others. NM_PENDING: the remove of an earlier call is pending still, and nothing
+ * else was done. */
 
 /* Whether the set has the key. NM_YES, NM_NO; NM_KEY, NM_BUSY, NM_PENDING, NM_HELD. */
 nm_outcome nm_worker_contains(nm_handle *worker, uint64_t key, const nm_habit *habit);
@@ -275,12 +257,68 @@ nm_outcome nm_worker_contains(nm_handle *worker, uint64_t key, const nm_habit *h
 /* Inserts a key: NM_YES where it was not in the set, NM_NO where it was. NM_FULL: no slots were
  * free, and none behind two moves of the epoch and a collection, if no worker holds it back.
  * NM_KEY, NM_BUSY, NM_PENDING, NM_HELD, NM_NO_MEMORY. */
-nm_outcome nm_worker_add(nm_handle *worker, uint64_t key, const nm_habit *habit);
+nm_outcome nm_worker_insert(nm_handle *worker, uint64_t key, const nm_habit *habit);
 
 /* Deletes a key: NM_YES where it was in the set, NM_NO where it was not. NM_UNFINISHED: the key
  * will go by this call and no other, and is pending; the next call that tends the set finishes it
  * first. NM_KEY, NM_BUSY, NM_PENDING, NM_HELD, NM_NO_MEMORY. */
 nm_outcome nm_worker_remove(nm_handle *worker, uint64_t key, const nm_habit *habit);
+
+/* Takes the least key out of the set: NM_YES, and it is written; NM_NO where there is none. This
+ * call and no other removed the key, and of each lesser one, or with NM_NO of each, there was a
+ * moment of this call at which the set did not have it; the moments of two keys may differ. So
+ * workers that take keys so take none twice, and pass over none that was in the set all along.
+ * NM_BUSY: each round has come to nothing, since others removed the key that was found.
+ * NM_UNFINISHED: the least key goes by this call, and is pending (nm_worker_pending tells it); the
+ * next call that tends the set finishes it first. NM_PENDING, NM_HELD, NM_NO_MEMORY: taken is not
+ * written, also of NM_UNFINISHED. */
+nm_outcome nm_worker_pop_first(nm_handle *worker, const nm_habit *habit, uint64_t *taken);
+
+/* Takes the greatest key out of the set, in the same way. */
+nm_outcome nm_worker_pop_last(nm_handle *worker, const nm_habit *habit, uint64_t *taken);
+
+/* ---- a worker, for a key, by calls of the tree alone ----
+ * These give up after so many tries (NM_BUSY): some tens are enough, and where they are not, call
+ * again. What is to be done behind NM_BUSY, NM_FULL and NM_UNFINISHED, and when to collect, is left
+ * to the program: the calls above do it. With 0 tries no step is made. */
+
+/* Whether the set has the key. NM_YES, NM_NO; NM_KEY, NM_BUSY, NM_PENDING, NM_HELD. It takes no
+ * memory. */
+nm_outcome nm_worker_try_contains(nm_handle *worker, uint64_t key, uint32_t tries);
+
+/* Whether the set has each of so many keys, one behind the other in memory: NM_DONE, and the found
+ * of each is written. Each answer was right at a moment of this call, two of them perhaps at
+ * different ones. The searches go on in turns, so that the loads of one go on while the others wait
+ * for theirs: some eight to sixty-four keys a call are best. lookups is not null, also where count
+ * is 0. NM_KEY: one of the numbers is no key. NM_BUSY, NM_PENDING, NM_HELD, NM_NO_MEMORY: no found
+ * is written. */
+nm_outcome nm_worker_contains_many(nm_handle *worker, nm_lookup *lookups, size_t count,
+                                   uint32_t tries);
+
+/* The least key of the set that is not below key: NM_YES, and found is written; NM_NO where there
+ * is none. The set had found at a moment of this call, and of each key from key on below found, or
+ * with NM_NO of each from key on, there was a moment of this call at which the set did not have it;
+ * the moments of two keys may differ. So a program goes over the keys of a set in use: it asks for
+ * 0, and then for found + 1 until NM_NO, or NM_KEY behind the greatest key. NM_KEY, NM_BUSY,
+ * NM_PENDING, NM_HELD: found is not written. It takes no memory. One try is a try to pin or a
+ * search: give two and more. */
+nm_outcome nm_worker_next(nm_handle *worker, uint64_t key, uint32_t tries, uint64_t *found);
+
+/* The greatest key of the set that is not above key, in the same way: NM_YES, and found is written;
+ * NM_NO where there is none. */
+nm_outcome nm_worker_prev(nm_handle *worker, uint64_t key, uint32_t tries, uint64_t *found);
+
+/* Inserts a key: NM_YES where it was not in the set, NM_NO where it was. NM_KEY, NM_BUSY, NM_FULL,
+ * NM_PENDING, NM_HELD, NM_NO_MEMORY. */
+nm_outcome nm_worker_try_insert(nm_handle *worker, uint64_t key, uint32_t tries);
+
+/* Deletes a key: NM_YES where it was in the set, NM_NO where it was not. NM_KEY, NM_BUSY,
+ * NM_UNFINISHED, NM_PENDING, NM_HELD, NM_NO_MEMORY. NM_YES takes two tries at least. */
+nm_outcome nm_worker_try_remove(nm_handle *worker, uint64_t key, uint32_t tries);
+
+/* Goes on with the delete that is pending: NM_YES where it has answered now, NM_NO where none is
+ * pending. NM_UNFINISHED: the key is pending still. */
+nm_outcome nm_worker_finish(nm_handle *worker, uint32_t tries);
 
 /* ---- a worker, on the epoch ----
  * A node that was cut off waits in its worker's queue until every worker that was pinned at the cut
@@ -303,8 +341,9 @@ nm_outcome nm_worker_advance(nm_handle *worker, uint64_t *epoch, uint32_t *behin
  * where worker w was found announcing another one. */
 nm_outcome nm_worker_behind(nm_handle *worker, uint64_t *epoch, uint64_t *mask);
 
-/* Frees what has waited long enough in the queues that the worker holds. NM_DONE, with the epoch,
- * and how many nodes were freed. */
+/* Frees what has waited long enough in the queues that the worker holds, and gives back the memory
+ * of a queue that neither what waits in it nor 256 more nodes need. NM_DONE, with the epoch, and
+ * how many nodes were freed. */
 nm_outcome nm_worker_collect(nm_handle *worker, uint64_t *epoch, uint64_t *freed);
 
 /* ---- a worker, of itself ---- */
@@ -328,7 +367,8 @@ nm_outcome nm_worker_ledger(nm_handle *worker, nm_ledger *ledger);
 /* ---- notes between workers ----
  * All calls are in one order, in which each has its moment. Of two workers' calls a proof knows
  * that order where a note was handed over; no answer depends on it, and a program that proves
- * nothing can leave it. Both take no step on the tree, no lock and no memory. */
+ * nothing can leave it. That a note lies where it was left, and is the latest that is read there,
+ * tests show. Both take no step on the tree, no lock and no memory. */
 
 /* Leaves a note of all that the worker has seen, in place of its earlier one, and writes how many
  * links and flags it has won so far (nm_ledger has them too). NM_DONE; NM_BUSY: a reader has the
@@ -344,8 +384,8 @@ nm_outcome nm_worker_read(nm_handle *worker, uint32_t number, uint64_t *links, u
 /* ---- the end of a worker ---- */
 
 /* The worker of number leaver, which must be at home, resigns to this one, which then holds all
- * that it held; the leaver never comes back. NM_DONE. NM_NUMBER; NM_AWAY, NM_HELD and NM_PENDING,
- * which are of the leaver. */
+ * that it held; the leaver never comes back. NM_DONE. NM_NUMBER; NM_AWAY and NM_PENDING, which are
+ * of the leaver. */
 nm_outcome nm_worker_resign(nm_handle *worker, uint32_t leaver);
 
 /* Ends the set by its last worker, once nm_drop has closed the handle of the set and those of its

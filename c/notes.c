@@ -44,7 +44,7 @@ static uint64_t key_of(uint64_t thread, uint64_t index) {
 static void look(nm_handle *worker, uint64_t other) {
     uint64_t least = atomic_load(&left[other]), links = read_links(worker, (uint32_t)other * APART);
     CHECK(links >= least && links <= KEYS);
-    if (links > 0) CHECK(nm_worker_has(worker, key_of(other, links - 1), TRIES) == NM_YES);
+    if (links > 0) CHECK(nm_worker_try_contains(worker, key_of(other, links - 1), TRIES) == NM_YES);
 }
 
 static void *work(void *given) {
@@ -54,7 +54,7 @@ static void *work(void *given) {
     atomic_fetch_add(&started, 1);
     while (atomic_load(&started) < THREADS) sched_yield();
     for (uint64_t index = 0; index < KEYS; index++) {
-        CHECK(nm_worker_add(&worker, key_of(own, index), &nm_usual_habit) == NM_YES);
+        CHECK(nm_worker_insert(&worker, key_of(own, index), &nm_usual_habit) == NM_YES);
         post(&worker, index + 1);
         atomic_store(&left[own], index + 1);
         for (uint64_t step = 1; step < THREADS; step++) look(&worker, (own + step) % THREADS);

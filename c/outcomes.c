@@ -12,19 +12,27 @@ enum { TRIES = 64, NOT_WRITTEN = 77 };
 static void each_tells(nm_handle *worker, uint64_t key, nm_outcome wanted) {
     nm_lookup lookup = {key, NOT_WRITTEN};
     uint64_t found = NOT_WRITTEN;
-    CHECK(nm_worker_has(worker, key, TRIES) == wanted);
-    CHECK(nm_worker_has_many(worker, &lookup, 1, TRIES) == wanted && lookup.key == key &&
+    CHECK(nm_worker_try_contains(worker, key, TRIES) == wanted);
+    CHECK(nm_worker_contains_many(worker, &lookup, 1, TRIES) == wanted && lookup.key == key &&
           lookup.found == NOT_WRITTEN);
     CHECK(nm_worker_next(worker, key, TRIES, &found) == wanted && found == NOT_WRITTEN);
-    CHECK(nm_worker_insert(worker, key, TRIES) == wanted);
-    CHECK(nm_worker_delete(worker, key, TRIES) == wanted);
+    CHECK(nm_worker_prev(worker, key, TRIES, &found) == wanted && found == NOT_WRITTEN);
+    CHECK(nm_worker_try_insert(worker, key, TRIES) == wanted);
+    CHECK(nm_worker_try_remove(worker, key, TRIES) == wanted);
 }
 
 /* What any call for a key that tends the set tells. */
 static void each_tending_tells(nm_handle *worker, uint64_t key, nm_outcome wanted) {
     CHECK(nm_worker_contains(worker, key, &nm_usual_habit) == wanted);
-    CHECK(nm_worker_add(worker, key, &nm_usual_habit) == wanted);
+    CHECK(nm_worker_insert(worker, key, &nm_usual_habit) == wanted);
     CHECK(nm_worker_remove(worker, key, &nm_usual_habit) == wanted);
+}
+
+/* What a call that takes a key tells, which is told none. */
+static void each_pop_tells(nm_handle *worker, const nm_habit *habit, nm_outcome wanted) {
+    uint64_t taken = NOT_WRITTEN;
+    CHECK(nm_worker_pop_first(worker, habit, &taken) == wanted && taken == NOT_WRITTEN);
+    CHECK(nm_worker_pop_last(worker, habit, &taken) == wanted && taken == NOT_WRITTEN);
 }
 
 /* What is no open worker, or no report, tells that, and writes nothing. */
@@ -36,6 +44,7 @@ static void is_refused(nm_handle *handle, nm_outcome worker, nm_outcome report) 
     if (worker != NM_DONE) {
         each_tells(handle, 5, worker);
         each_tending_tells(handle, 5, worker);
+        each_pop_tells(handle, &nm_usual_habit, worker);
         CHECK(nm_worker_finish(handle, TRIES) == worker);
         CHECK(nm_worker_pin(handle, TRIES, &wide) == worker && nm_worker_unpin(handle) == worker);
         CHECK(nm_worker_advance(handle, &wide, &narrow) == worker &&
@@ -65,9 +74,10 @@ static void is_refused(nm_handle *handle, nm_outcome worker, nm_outcome report) 
 static void sizes(void) {
     nm_handle set = NM_CLOSED_HANDLE;
     CHECK(nm_set_lowest(&set, 6, 1) == NM_NODES && nm_set_near(&set, 268435457, 65) == NM_NODES);
+    CHECK(nm_set_new(&set, 6, 65) == NM_NODES && nm_set_new(&set, 268435456, 0) == NM_WORKERS);
     CHECK(nm_set_lowest(&set, 7, 0) == NM_WORKERS && nm_set_near(&set, 7, 65) == NM_WORKERS);
     CHECK(nm_set_near(&set, 1048577, 64) == NM_DONE && nm_set_lowest(&set, 7, 1) == NM_OPEN &&
-          nm_set_near(&set, 7, 1) == NM_OPEN);
+          nm_set_near(&set, 7, 1) == NM_OPEN && nm_set_new(&set, 7, 1) == NM_OPEN);
     CHECK(nm_drop(&set) == NM_DONE && nm_drop(&set) == NM_CLOSED && set.at == NULL);
 }
 
@@ -85,7 +95,7 @@ static void kinds(void) {
     is_refused(&worker, NM_DONE, NM_KIND);
     each_tells(&worker, UINT64_MAX - 2, NM_KEY);
     each_tending_tells(&worker, UINT64_MAX - 2, NM_KEY);
-    CHECK(nm_worker_insert(&worker, UINT64_MAX - 3, TRIES) == NM_YES);
+    CHECK(nm_worker_try_insert(&worker, UINT64_MAX - 3, TRIES) == NM_YES);
     CHECK(nm_drop(&worker) == NM_DONE && nm_set_close(&set) == NM_DONE);
     is_refused(&set, NM_KIND, NM_DONE);
     CHECK(nm_drop(&set) == NM_DONE);
@@ -94,34 +104,41 @@ static void kinds(void) {
 static void answers(void) {
     nm_handle set = NM_CLOSED_HANDLE, worker = NM_CLOSED_HANDLE;
     CHECK(nm_set_near(&set, 7, 2) == NM_DONE && nm_set_worker(&set, &worker, 1) == NM_DONE);
-    CHECK(nm_worker_has(&worker, 5, 0) == NM_BUSY && nm_worker_has(&worker, 5, TRIES) == NM_NO);
-    CHECK(nm_worker_insert(&worker, 5, TRIES) == NM_YES &&
-          nm_worker_insert(&worker, 5, TRIES) == NM_NO);
-    CHECK(nm_worker_has(&worker, 5, TRIES) == NM_YES &&
-          nm_worker_insert(&worker, 6, TRIES) == NM_FULL);
+    CHECK(nm_worker_try_contains(&worker, 5, 0) == NM_BUSY &&
+          nm_worker_try_contains(&worker, 5, TRIES) == NM_NO);
+    CHECK(nm_worker_try_insert(&worker, 5, TRIES) == NM_YES &&
+          nm_worker_try_insert(&worker, 5, TRIES) == NM_NO);
+    CHECK(nm_worker_try_contains(&worker, 5, TRIES) == NM_YES &&
+          nm_worker_try_insert(&worker, 6, TRIES) == NM_FULL);
     nm_lookup lookups[3] = {{6, NOT_WRITTEN}, {5, NOT_WRITTEN}, {4, NOT_WRITTEN}};
-    CHECK(nm_worker_has_many(&worker, lookups, 3, 0) == NM_BUSY && lookups[1].found == NOT_WRITTEN);
-    CHECK(nm_worker_has_many(&worker, lookups, 3, TRIES) == NM_DONE &&
-          nm_worker_has_many(&worker, lookups, 0, TRIES) == NM_DONE);
+    CHECK(nm_worker_contains_many(&worker, lookups, 3, 0) == NM_BUSY &&
+          lookups[1].found == NOT_WRITTEN);
+    CHECK(nm_worker_contains_many(&worker, lookups, 3, TRIES) == NM_DONE &&
+          nm_worker_contains_many(&worker, lookups, 0, TRIES) == NM_DONE);
     CHECK(lookups[0].found == 0 && lookups[1].found == 1 && lookups[2].found == 0 &&
           lookups[1].key == 5);
-    CHECK(
-        nm_worker_delete(&worker, 6, TRIES) == NM_NO && nm_worker_finish(&worker, TRIES) == NM_NO);
+    CHECK(nm_worker_try_remove(&worker, 6, TRIES) == NM_NO &&
+          nm_worker_finish(&worker, TRIES) == NM_NO);
     uint64_t key = NOT_WRITTEN;
     CHECK(nm_worker_next(&worker, 6, TRIES, &key) == NM_NO &&
           nm_worker_next(&worker, 0, 0, &key) == NM_BUSY && key == NOT_WRITTEN);
     CHECK(nm_worker_next(&worker, 0, TRIES, &key) == NM_YES && key == 5 &&
           nm_worker_next(&worker, 5, TRIES, &key) == NM_YES && key == 5);
     key = NOT_WRITTEN;
+    CHECK(nm_worker_prev(&worker, 4, TRIES, &key) == NM_NO &&
+          nm_worker_prev(&worker, 9, 0, &key) == NM_BUSY && key == NOT_WRITTEN);
+    CHECK(nm_worker_prev(&worker, UINT64_MAX - 3, TRIES, &key) == NM_YES && key == 5 &&
+          nm_worker_prev(&worker, 5, TRIES, &key) == NM_YES && key == 5);
+    key = NOT_WRITTEN;
     CHECK(nm_worker_pending(&worker, &key) == NM_NO && key == NOT_WRITTEN);
-    CHECK(nm_worker_delete(&worker, 5, 1) == NM_UNFINISHED &&
+    CHECK(nm_worker_try_remove(&worker, 5, 1) == NM_UNFINISHED &&
           nm_worker_finish(&worker, 0) == NM_UNFINISHED);
     CHECK(nm_worker_pending(&worker, &key) == NM_YES && key == 5);
     each_tells(&worker, 5, NM_PENDING);
     CHECK(nm_worker_pin(&worker, TRIES, &key) == NM_PENDING && key == 5);
-    CHECK(
-        nm_worker_finish(&worker, TRIES) == NM_YES && nm_worker_delete(&worker, 5, TRIES) == NM_NO);
-    CHECK(nm_drop(&set) == NM_DONE && nm_worker_has(&worker, 5, TRIES) == NM_NO &&
+    CHECK(nm_worker_finish(&worker, TRIES) == NM_YES &&
+          nm_worker_try_remove(&worker, 5, TRIES) == NM_NO);
+    CHECK(nm_drop(&set) == NM_DONE && nm_worker_try_contains(&worker, 5, TRIES) == NM_NO &&
           nm_drop(&worker) == NM_DONE);
 }
 
@@ -134,28 +151,38 @@ static void tended(void) {
     CHECK(nm_set_lowest(&set, 7, 2) == NM_DONE && nm_set_worker(&set, &worker, 0) == NM_DONE);
     CHECK(nm_worker_contains(&worker, 5, usual) == NM_NO &&
           nm_worker_remove(&worker, 5, usual) == NM_NO);
-    CHECK(nm_worker_add(&worker, 5, usual) == NM_YES && nm_worker_add(&worker, 5, usual) == NM_NO);
+    CHECK(nm_worker_insert(&worker, 5, usual) == NM_YES &&
+          nm_worker_insert(&worker, 5, usual) == NM_NO);
     CHECK(nm_worker_contains(&worker, 5, usual) == NM_YES &&
-          nm_worker_add(&worker, 6, usual) == NM_FULL);
+          nm_worker_insert(&worker, 6, usual) == NM_FULL);
     each_tending_tells(&worker, UINT64_MAX - 2, NM_KEY);
     CHECK(nm_worker_contains(&worker, 5, &none) == NM_BUSY &&
-          nm_worker_add(&worker, 6, &none) == NM_BUSY);
+          nm_worker_insert(&worker, 6, &none) == NM_BUSY);
     CHECK(nm_worker_remove(&worker, 5, &none) == NM_BUSY &&
           nm_worker_pending(&worker, &told) == NM_NO);
     for (int turn = 0; turn < 100; turn++)
         CHECK(nm_worker_remove(&worker, 5, usual) == NM_YES &&
-              nm_worker_add(&worker, 5, usual) == NM_YES);
-    CHECK(nm_worker_delete(&worker, 5, 1) == NM_UNFINISHED &&
+              nm_worker_insert(&worker, 5, usual) == NM_YES);
+    each_pop_tells(&worker, &none, NM_BUSY);
+    CHECK(nm_worker_pop_last(&worker, usual, &told) == NM_YES && told == 5 &&
+          nm_worker_pop_last(&worker, usual, &told) == NM_NO && told == 5);
+    CHECK(nm_worker_insert(&worker, 5, usual) == NM_YES &&
+          nm_worker_pop_first(&worker, usual, &told) == NM_YES && told == 5);
+    CHECK(nm_worker_pop_first(&worker, usual, &told) == NM_NO &&
+          nm_worker_insert(&worker, 5, usual) == NM_YES);
+    CHECK(nm_worker_try_remove(&worker, 5, 1) == NM_UNFINISHED &&
           nm_worker_contains(&worker, 5, &none) == NM_PENDING);
+    each_pop_tells(&worker, &none, NM_PENDING);
     CHECK(nm_worker_pending(&worker, &told) == NM_YES && told == 5 &&
           nm_worker_contains(&worker, 5, usual) == NM_NO);
     CHECK(nm_worker_pending(&worker, &told) == NM_NO &&
           nm_worker_queue_len(&worker, &told) == NM_DONE && told == 2);
-    CHECK(nm_worker_add(&worker, 6, usual) == NM_YES && nm_set_worker(&set, &reader, 1) == NM_DONE);
+    CHECK(nm_worker_insert(&worker, 6, usual) == NM_YES &&
+          nm_set_worker(&set, &reader, 1) == NM_DONE);
     CHECK(nm_worker_pin(&reader, TRIES, &told) == NM_DONE &&
           nm_worker_remove(&worker, 6, usual) == NM_YES);
-    CHECK(nm_worker_add(&worker, 7, usual) == NM_FULL && nm_worker_unpin(&reader) == NM_DONE);
-    CHECK(nm_worker_add(&worker, 7, usual) == NM_YES && nm_drop(&reader) == NM_DONE &&
+    CHECK(nm_worker_insert(&worker, 7, usual) == NM_FULL && nm_worker_unpin(&reader) == NM_DONE);
+    CHECK(nm_worker_insert(&worker, 7, usual) == NM_YES && nm_drop(&reader) == NM_DONE &&
           nm_drop(&worker) == NM_DONE);
     CHECK(nm_set_close(&set) == NM_DONE && nm_report_key(&set, 0, &told) == NM_DONE && told == 7 &&
           nm_drop(&set) == NM_DONE);
@@ -166,10 +193,10 @@ static void collected(void) {
     const nm_habit often = {TRIES, TRIES, 8};
     nm_handle set = NM_CLOSED_HANDLE, worker = NM_CLOSED_HANDLE;
     nm_ledger ledger;
-    CHECK(nm_set_near(&set, 4096, 3) == NM_DONE && nm_set_attach(&set, &worker) == NM_DONE);
+    CHECK(nm_set_new(&set, 4096, 3) == NM_DONE && nm_set_attach(&set, &worker) == NM_DONE);
     for (uint64_t key = 0; key < 500; key++) {
         uint64_t nodes = NOT_WRITTEN;
-        CHECK(nm_worker_add(&worker, key, &often) == NM_YES &&
+        CHECK(nm_worker_insert(&worker, key, &often) == NM_YES &&
               nm_worker_remove(&worker, key, &often) == NM_YES);
         CHECK(nm_worker_queue_len(&worker, &nodes) == NM_DONE && nodes <= 8);
     }
@@ -192,8 +219,9 @@ static void epochs(void) {
           nm_worker_pin(&reader, TRIES, &epoch) == NM_HELD);
     each_tells(&reader, 5, NM_HELD);
     each_tending_tells(&reader, 5, NM_HELD);
-    CHECK(nm_worker_insert(&writer, 5, TRIES) == NM_YES &&
-          nm_worker_delete(&writer, 5, TRIES) == NM_YES);
+    each_pop_tells(&reader, &nm_usual_habit, NM_HELD);
+    CHECK(nm_worker_try_insert(&writer, 5, TRIES) == NM_YES &&
+          nm_worker_try_remove(&writer, 5, TRIES) == NM_YES);
     CHECK(nm_worker_advance(&writer, &epoch, &behind) == NM_DONE && epoch == 1 &&
           behind == NOT_WRITTEN);
     CHECK(nm_worker_advance(&writer, &epoch, &behind) == NM_BEHIND && epoch == 0 && behind == 2);
@@ -216,8 +244,8 @@ static void ends(void) {
     CHECK(nm_set_lowest(&set, 64, 3) == NM_DONE);
     CHECK(nm_set_worker(&set, &heir, 0) == NM_DONE && nm_set_worker(&set, &leaver, 1) == NM_DONE);
     for (uint64_t each = 1; each <= 3; each++)
-        CHECK(nm_worker_insert(&leaver, 10 - each, TRIES) == NM_YES);
-    CHECK(nm_worker_delete(&leaver, 8, TRIES) == NM_YES);
+        CHECK(nm_worker_try_insert(&leaver, 10 - each, TRIES) == NM_YES);
+    CHECK(nm_worker_try_remove(&leaver, 8, TRIES) == NM_YES);
     CHECK(nm_worker_ledger(&leaver, &ledger) == NM_DONE && ledger.links == 3 && ledger.flags == 1 &&
           ledger.splices == 1);
     CHECK(ledger.retired == 2 && ledger.freed == 0 && ledger.queued == 2);
@@ -248,8 +276,9 @@ static void ends(void) {
     CHECK(nm_drop(&set) == NM_DONE);
 }
 
-/* A worker that goes home as it is held, or with a key pending, does not resign, and is held or has
- * its key still when it is taken again, with all that it has won and that waits. */
+/* A worker that goes home as it is held is not held any more when it is taken again. One that goes
+ * home with a key pending does not resign, and has its key still when it is taken again, with all
+ * that it has won and that waits. */
 static void away(void) {
     nm_handle set = NM_CLOSED_HANDLE, heir = NM_CLOSED_HANDLE, leaver = NM_CLOSED_HANDLE;
     uint64_t epoch = NOT_WRITTEN, key = NOT_WRITTEN, nodes = NOT_WRITTEN;
@@ -257,11 +286,10 @@ static void away(void) {
     CHECK(nm_set_near(&set, 64, 2) == NM_DONE);
     CHECK(nm_set_worker(&set, &heir, 0) == NM_DONE && nm_set_worker(&set, &leaver, 1) == NM_DONE);
     CHECK(nm_worker_pin(&leaver, TRIES, &epoch) == NM_DONE && nm_drop(&leaver) == NM_DONE);
-    CHECK(nm_worker_resign(&heir, 1) == NM_HELD && nm_set_worker(&set, &leaver, 1) == NM_DONE);
-    CHECK(nm_worker_held(&leaver, &key) == NM_YES && key == epoch &&
-          nm_worker_unpin(&leaver) == NM_DONE);
-    CHECK(nm_worker_insert(&leaver, 5, TRIES) == NM_YES);
-    CHECK(nm_worker_delete(&leaver, 5, 1) == NM_UNFINISHED && nm_drop(&leaver) == NM_DONE);
+    CHECK(nm_set_worker(&set, &leaver, 1) == NM_DONE);
+    CHECK(nm_worker_held(&leaver, &key) == NM_NO && nm_worker_unpin(&leaver) == NM_NOT_HELD);
+    CHECK(nm_worker_try_insert(&leaver, 5, TRIES) == NM_YES);
+    CHECK(nm_worker_try_remove(&leaver, 5, 1) == NM_UNFINISHED && nm_drop(&leaver) == NM_DONE);
     CHECK(nm_worker_resign(&heir, 1) == NM_PENDING && nm_set_worker(&set, &leaver, 1) == NM_DONE);
     CHECK(nm_worker_pending(&leaver, &key) == NM_YES && key == 5 &&
           nm_worker_finish(&leaver, TRIES) == NM_YES);
@@ -283,13 +311,13 @@ static void notes(void) {
     CHECK(nm_worker_read(&reader, 1, &links, &flags) == NM_NO &&
           nm_worker_read(&reader, 2, &links, &flags) == NM_NUMBER);
     CHECK(links == NOT_WRITTEN && flags == NOT_WRITTEN);
-    CHECK(nm_worker_insert(&writer, 5, TRIES) == NM_YES &&
-          nm_worker_insert(&writer, 6, TRIES) == NM_YES);
+    CHECK(nm_worker_try_insert(&writer, 5, TRIES) == NM_YES &&
+          nm_worker_try_insert(&writer, 6, TRIES) == NM_YES);
     CHECK(nm_worker_post(&writer, &links, &flags) == NM_DONE && links == 2 && flags == 0);
-    CHECK(nm_worker_delete(&writer, 5, TRIES) == NM_YES);
+    CHECK(nm_worker_try_remove(&writer, 5, TRIES) == NM_YES);
     for (int turn = 0; turn < 3; turn++)
         CHECK(nm_worker_read(&reader, 1, &links, &flags) == NM_YES && links == 2 && flags == 0);
-    CHECK(nm_worker_has(&reader, 6, TRIES) == NM_YES &&
+    CHECK(nm_worker_try_contains(&reader, 6, TRIES) == NM_YES &&
           nm_worker_read(&writer, 1, &links, &flags) == NM_YES && links == 2);
     CHECK(nm_worker_post(&writer, &links, &flags) == NM_DONE && links == 2 && flags == 1);
     CHECK(nm_worker_read(&reader, 1, &links, &flags) == NM_YES && links == 2 && flags == 1);
@@ -307,14 +335,14 @@ static void missed(void) {
           nm_set_away(&set, 3) == NM_NUMBER);
     CHECK(nm_set_away(&set, 0) == NM_NO && nm_set_worker(&set, &lost, 1) == NM_DONE &&
           nm_set_worker(&set, &other, 0) == NM_DONE);
-    CHECK(nm_set_away(&lost, 0) == NM_KIND && nm_worker_insert(&lost, 5, TRIES) == NM_YES);
+    CHECK(nm_set_away(&lost, 0) == NM_KIND && nm_worker_try_insert(&lost, 5, TRIES) == NM_YES);
     CHECK(nm_worker_resign(&other, 2) == NM_DONE && nm_set_away(&set, 2) == NM_NO &&
           nm_set_away(&set, 0) == NM_YES);
     CHECK(nm_drop(&other) == NM_DONE && nm_set_away(&set, 0) == NM_NO &&
           nm_set_away(&set, 1) == NM_YES);
     CHECK(nm_set_close(&set) == NM_AWAY && nm_set_away(&set, 1) == NM_YES);
-    CHECK(
-        nm_set_worker(&set, &other, 0) == NM_DONE && nm_worker_insert(&other, 7, TRIES) == NM_YES);
+    CHECK(nm_set_worker(&set, &other, 0) == NM_DONE &&
+          nm_worker_try_insert(&other, 7, TRIES) == NM_YES);
     CHECK(nm_worker_next(&other, 0, TRIES, &key) == NM_YES && key == 5 &&
           nm_worker_next(&other, 6, TRIES, &key) == NM_YES && key == 7);
     CHECK(nm_worker_next(&other, 8, TRIES, &key) == NM_NO && nm_drop(&other) == NM_DONE);
@@ -330,12 +358,12 @@ static void ended(void) {
     uint64_t told = NOT_WRITTEN;
     CHECK(nm_set_near(&set, 64, 3) == NM_DONE && nm_set_worker(&set, &last, 1) == NM_DONE &&
           nm_set_worker(&set, &other, 0) == NM_DONE);
-    CHECK(nm_worker_insert(&last, 5, TRIES) == NM_YES &&
-          nm_worker_insert(&other, 6, TRIES) == NM_YES);
+    CHECK(nm_worker_try_insert(&last, 5, TRIES) == NM_YES &&
+          nm_worker_try_insert(&other, 6, TRIES) == NM_YES);
     CHECK(nm_worker_end(&set) == NM_KIND && nm_worker_end(&last) == NM_AWAY &&
           nm_drop(&set) == NM_DONE && nm_worker_end(&set) == NM_CLOSED);
     CHECK(nm_worker_end(&last) == NM_AWAY && nm_worker_end(&other) == NM_AWAY &&
-          nm_worker_delete(&last, 6, TRIES) == NM_YES);
+          nm_worker_try_remove(&last, 6, TRIES) == NM_YES);
     CHECK(nm_drop(&other) == NM_DONE && nm_worker_pin(&last, TRIES, &told) == NM_DONE &&
           nm_worker_end(&last) == NM_DONE);
     CHECK(nm_worker_end(&last) == NM_KIND && nm_report_keys(&last, &told) == NM_DONE && told == 1);
@@ -350,7 +378,7 @@ static void texts(void) {
         for (int second = NM_IN_USE - 1; second < first; second++)
             CHECK(strcmp(nm_outcome_text((nm_outcome)first), nm_outcome_text((nm_outcome)second)) !=
                   0);
-    CHECK(strcmp(nm_outcome_text(NM_FULL), "no slots are free for the new nodes") == 0);
+    CHECK(strcmp(nm_outcome_text(NM_FULL), "no nodes are free for the new key") == 0);
     CHECK(strcmp(nm_outcome_text((nm_outcome)(NM_DONE + 1)),
                  nm_outcome_text((nm_outcome)(NM_IN_USE - 1))) == 0);
 }
@@ -396,7 +424,7 @@ static void used(void) {
     CHECK(nm_set_near(&worker, 64, 2) == NM_IN_USE && nm_set_close(&worker) == NM_IN_USE &&
           worker.at == owned);
     worker.in_use = 0;
-    CHECK(nm_worker_insert(&worker, 5, TRIES) == NM_YES);
+    CHECK(nm_worker_try_insert(&worker, 5, TRIES) == NM_YES);
     set.in_use = 1;
     CHECK(nm_set_worker(&set, &other, 1) == NM_IN_USE && nm_set_attach(&set, &other) == NM_IN_USE &&
           nm_set_close(&set) == NM_IN_USE);

@@ -1,9 +1,9 @@
-// Owners in C++: four threads, each with a worker that was moved into it, fill one set; then its
-// report is compared. And what owners do when they are moved, are destroyed, or meet a fault.
-#include "nm_set.hpp"
+// Owners in C++: four threads, each with a worker that was moved into it, fill one set by the calls
+// of nm_set.h as they are; then its report is compared. And what owners do when they are moved, are
+// destroyed, or meet a fault.
+#include "thrown.hpp"
 
 #include <cstdio>
-#include <cstdlib>
 #include <optional>
 #include <thread>
 #include <type_traits>
@@ -19,38 +19,23 @@ constexpr std::uint32_t apart = 8;
 static_assert(!std::is_copy_constructible_v<nm::Worker> && !std::is_copy_assignable_v<nm::Set>,
     "an owner is not copied");
 static_assert(std::is_nothrow_move_constructible_v<nm::Worker> &&
-                  std::is_nothrow_move_assignable_v<nm::Report>,
+                  std::is_nothrow_move_assignable_v<nm::Report> &&
+                  std::is_nothrow_move_assignable_v<nm::Set>,
     "an owner can be moved");
 
-void check(bool holds, int line) {
-    if (holds) return;
-    std::fprintf(stderr, "owners.cpp, line %d: not so\n", line);
-    std::exit(1);
-}
-
-#define CHECK(...) check((__VA_ARGS__), __LINE__)
-
-// The outcome that a call throws, or NM_DONE where it throws none.
-template <typename Call>
-nm_outcome thrown(Call call) {
-    try {
-        call();
-    } catch (const nm::Fault &fault) {
-        return fault.outcome();
-    }
-    return NM_DONE;
-}
-
-// Every fourth key, from a first one on, is inserted; and then every second one of these is erased.
+// Every fourth key, from a first one on, is inserted; and then every second one of these is
+// removed.
 void fill(nm::Worker worker, std::uint64_t first) {
     for (std::uint64_t number = 0; number < keys_of_each; number++) {
         std::uint64_t key = first + number * threads_at_work;
-        while (thrown([&] { CHECK(worker.insert(key)); }) == NM_BUSY) {}
+        nm_outcome told = worker.try_insert(key);
+        while (told == NM_BUSY) told = worker.try_insert(key);
+        CHECK(told == NM_YES);
         if (number % 2 == 0) continue;
-        nm_outcome told = thrown([&] { CHECK(worker.erase(key)); });
-        while (told == NM_BUSY) told = thrown([&] { CHECK(worker.erase(key)); });
-        while (told == NM_UNFINISHED) told = thrown([&] { CHECK(worker.finish()); });
-        CHECK(told == NM_DONE && !worker.pending());
+        told = worker.try_remove(key);
+        while (told == NM_BUSY) told = worker.try_remove(key);
+        while (told == NM_UNFINISHED) told = worker.try_finish();
+        CHECK(told == NM_YES && !worker.pending());
         if (number % 32 == 1 && worker.advance().moved()) worker.collect();
     }
     nm_ledger ledger = worker.ledger();
@@ -60,7 +45,7 @@ void fill(nm::Worker worker, std::uint64_t first) {
 
 void threads_fill_a_set() {
     constexpr std::uint32_t nodes = 16384;
-    nm::Set set = nm::Set::near(nodes, threads_at_work * apart);
+    nm::Set set = near_set(nodes, threads_at_work * apart);
     std::vector<std::thread> threads;
     for (std::uint32_t number = 0; number < threads_at_work; number++)
         threads.emplace_back(fill, set.worker(number * apart), number);
@@ -68,12 +53,6 @@ void threads_fill_a_set() {
     std::vector<std::uint64_t> wanted;
     for (std::uint64_t key = 0; key < keys_of_each * threads_at_work; key++)
         if (key / threads_at_work % 2 == 0) wanted.push_back(key);
-    std::vector<std::uint64_t> passed;
-    nm::Worker reader = set.worker(0);
-    for (std::optional<std::uint64_t> key = reader.next(0); key; key = reader.next(*key + 1))
-        passed.push_back(*key);
-    CHECK(passed == wanted);
-    reader.close();
     nm::Report report = set.close();
     CHECK(thrown([&] { (void)set.worker(0); }) == NM_CLOSED);
     CHECK(report.keys() == wanted);
@@ -88,146 +67,184 @@ void threads_fill_a_set() {
 }
 
 void owners_are_moved() {
-    nm::Set set = nm::Set::lowest(64, 2);
+    nm::Set set = near_set(64, 2, nm::Shape::lowest);
     nm::Worker first = set.worker(0);
-    CHECK(
-        thrown([&] { (void)set.worker(0); }) == NM_AWAY && thrown([&] { set.close(); }) == NM_AWAY);
+    CHECK(fault_of([&] { (void)set.worker(0); }).text == "worker 0 is with a thread" &&
+          thrown([&] { (void)set.worker(2); }) == NM_NUMBER);
+    CHECK(fault_of([&] { set.close(); }).text ==
+          "worker 0 is with a thread: close what attach gave first");
     nm::Worker moved = std::move(first);
-    CHECK(moved.insert(5) && !moved.insert(5) && moved.has(5) && moved.erase(5) && !moved.erase(5));
-    CHECK(thrown([&] { (void)first.has(5); }) == NM_CLOSED &&
-          thrown([&] { first.advance(); }) == NM_CLOSED);
+    CHECK(moved.try_insert(5) == NM_YES && moved.try_contains(5) == NM_YES &&
+          moved.try_remove(5) == NM_YES && moved.try_remove(5) == NM_NO);
+    CHECK(first.try_contains(5) == NM_CLOSED && thrown([&] { first.advance(); }) == NM_CLOSED &&
+          thrown([&] { (void)first.contains(5); }) == NM_CLOSED &&
+          thrown([&] { (void)first.first(); }) == NM_CLOSED);
     CHECK(moved.number() == 0 && moved.queue_len() == 2);
-    moved = set.worker(1);
-    CHECK(moved.number() == 1);
-    moved.take_over(0);
-    CHECK(moved.queue_len() == 2 && thrown([&] { (void)set.worker(0); }) == NM_AWAY);
-    CHECK(moved.pin() == 0 && moved.held() == std::optional<std::uint64_t>(0) &&
-          thrown([&] { (void)moved.has(5); }) == NM_HELD);
-    moved.unpin();
-    CHECK(!moved.held() && thrown([&] { moved.unpin(); }) == NM_NOT_HELD);
     CHECK(moved.advance().epoch == 1 && moved.advance().epoch == 2 && moved.behind().mask == 0 &&
           moved.collect().freed == 2);
+    moved = set.worker(1);
+    CHECK(moved.number() == 1 && set.worker(0).number() == 0);
+    nm::Set other = std::move(set);
+    CHECK(!set.is_open() && thrown([&] { set.insert(5); }) == NM_CLOSED &&
+          thrown([&] { (void)set.size(); }) == NM_CLOSED && other.insert(5) && moved.contains(5));
+    other = near_set(64, 1);
+    CHECK(other.empty() && moved.contains(5) && moved.close_set().size() == 1);
 }
 
 void a_worker_outlives_its_set() {
     std::vector<nm::Worker> left;
     {
-        nm::Set set = nm::Set::near(64, 1);
+        nm::Set set = near_set(7, 2);
+        CHECK(set.insert(6) && set.remove(6));
         left.push_back(set.worker(0));
     }
-    CHECK(left.back().insert(7) && left.back().has(7));
+    CHECK(left.back().insert(7) && left.back().contains(7) &&
+          fault_of([&] { left.back().insert(8); }).text == nm_outcome_text(NM_FULL));
 }
 
 void faults_are_told() {
-    CHECK(thrown([] { (void)nm::Set::near(6, 1); }) == NM_NODES &&
-          thrown([] { (void)nm::Set::lowest(7, 65); }) == NM_WORKERS);
-    nm::Set set = nm::Set::lowest(7, 1);
-    nm::Worker worker = set.worker(0);
-    CHECK(thrown([&] { worker.insert(UINT64_MAX); }) == NM_KEY &&
-          thrown([&] { (void)worker.has(5, 0); }) == NM_BUSY);
-    CHECK(worker.insert(5) && thrown([&] { worker.insert(6); }) == NM_FULL);
-    CHECK(thrown([&] { worker.erase(5, 1); }) == NM_UNFINISHED &&
-          worker.pending() == std::optional<std::uint64_t>(5) && worker.finish());
+    CHECK(fault_of([] { nm::Set set(6); }).text ==
+          "the number of nodes is not 7 to 268,435,456: 6");
+    CHECK(fault_of([] { nm::Set set(1ull << 32); }).text ==
+          "the number of nodes is not 7 to 268,435,456: 4,294,967,296");
+    CHECK(fault_of([] { near_set(7, 65); }).text == "the number of workers is not 1 to 64: 65");
+    CHECK(thrown([] { near_set(7, 0); }) == NM_WORKERS);
+    nm::Set set(64);
+    Thrown told = fault_of([&] { set.insert(UINT64_MAX); });
+    CHECK(told.outcome == NM_KEY &&
+          told.text == "the key 18446744073709551615 is not 0 to 18446744073709551612 (2^64 - 4)");
+    CHECK(thrown([&] { set.remove(nm::most_key + 1); }) == NM_KEY &&
+          thrown([&] { (void)set.contains(nm::most_key + 1); }) == NM_KEY &&
+          set.insert(nm::most_key) && set.contains(nm::most_key));
 }
 
-// The page's first steps: a worker that is closed lets its set be closed.
+// A worker that is closed lets its set be closed.
 void owners_are_closed() {
-    nm::Set set;
     nm::Worker worker;
-    CHECK(!set.is_open() && !worker.is_open() && thrown([&] { (void)worker.has(5); }) == NM_CLOSED);
-    CHECK(set.try_worker(worker, 0) == NM_CLOSED && set.try_attach(worker) == NM_CLOSED);
-    set = nm::Set::near(8192, 2);
+    nm::Report report;
+    CHECK(!worker.is_open() && !report.is_open() &&
+          thrown([&] { (void)report.size(); }) == NM_CLOSED);
+    nm::Set set = near_set(8192, 2);
     worker = set.worker(0);
     CHECK(set.is_open() && worker.is_open() && worker.insert(5) &&
-          set.try_worker(worker, 1) == NM_OPEN);
-    nm::Report report;
-    CHECK(set.try_close(report) == NM_AWAY && set.is_open() && !report.is_open());
+          set.try_worker(worker, 1) == NM_OPEN && set.try_attach(worker) == NM_OPEN);
+    CHECK(thrown([&] { set.close(); }) == NM_AWAY && set.is_open() && set.contains(5));
     worker.close();
     worker.close();
-    CHECK(!worker.is_open() && worker.try_insert(6) == NM_CLOSED &&
-          set.try_close(report) == NM_DONE);
+    CHECK(!worker.is_open() && worker.try_insert(6) == NM_CLOSED);
+    report = set.close();
     CHECK(!set.is_open() && report.is_open() && report.size() == 1 &&
-          set.try_close(report) == NM_OPEN);
+          set.try_attach(worker) == NM_CLOSED && set.try_worker(worker, 0) == NM_CLOSED);
+    CHECK(fault_of([&] { set.close(); }).text == "the set is closed");
     report.close();
-    CHECK(!report.is_open() && set.try_close(report) == NM_CLOSED);
+    CHECK(!report.is_open());
 }
 
 // A set that nobody has any more is ended by its last worker, and by no other.
 void a_worker_ends_its_set() {
-    nm::Set set = nm::Set::near(64, 2);
-    nm::Worker last = set.worker(1), other = set.worker(0);
     nm::Report report;
-    CHECK(last.insert(5) && last.insert(6) && last.erase(6) && last.try_end(report) == NM_AWAY);
-    set = nm::Set();
-    CHECK(thrown([&] { last.end(); }) == NM_AWAY && last.is_open() && !report.is_open());
+    nm::Worker last, other;
+    {
+        nm::Set set = near_set(64, 3);
+        last = set.worker(1), other = set.worker(0);
+        CHECK(set.insert(5) && last.insert(6) && last.remove(6));
+        CHECK(thrown([&] { last.close_set(); }) == NM_AWAY && last.is_open());
+    }
+    CHECK(thrown([&] { last.close_set(); }) == NM_AWAY && last.is_open());
     other.close();
-    CHECK(last.try_end(report) == NM_DONE && !last.is_open() && last.try_end(report) == NM_OPEN);
+    report = last.close_set();
+    CHECK(!last.is_open() && thrown([&] { last.close_set(); }) == NM_CLOSED);
     CHECK(report.keys() == std::vector<std::uint64_t>{5} && report.queue_len(1) == 2);
-    CHECK(thrown([&] { last.end(); }) == NM_CLOSED);
 }
 
-// The calls that tend the set, of a set for one key.
-void owners_tend() {
-    nm::Set set = nm::Set::lowest(7, 1);
-    nm::Worker worker = set.worker(0);
-    CHECK(!worker.contains(5) && worker.add(5) && !worker.add(5) && worker.contains(5));
-    CHECK(worker.remove(5) && worker.add(6) && worker.try_add(7) == NM_FULL &&
-          thrown([&] { (void)worker.contains(UINT64_MAX); }) == NM_KEY);
-    CHECK(worker.try_remove(6, nm_habit{0, 0, 0}) == NM_BUSY && worker.try_remove(6) == NM_YES &&
-          !worker.remove(6));
-}
-
-// A note of one worker is heard by another, and a set tells whom a close would miss.
+// A note of one worker is heard by another.
 void notes_are_heard() {
-    nm::Set set = nm::Set::near(64, 2);
+    nm::Set set = near_set(64, 2);
     nm::Worker writer = set.worker(1), reader = set.worker(0);
     nm::Won won{77, 77};
-    CHECK(!reader.read(1) && thrown([&] { reader.read(2); }) == NM_NUMBER &&
-          reader.try_read(won, 1) == NM_NO && won.links == 77);
+    CHECK(reader.try_read(1, won) == NM_NO && reader.try_read(2, won) == NM_NUMBER &&
+          won.links == 77);
     CHECK(writer.insert(5) && writer.try_post(won) == NM_DONE && won.links == 1 && won.flags == 0);
-    CHECK(writer.erase(5) && reader.read(1)->flags == 0 && writer.post()->flags == 1 &&
-          reader.read(1)->flags == 1);
-    reader.close();
-    CHECK(set.is_away(1) && !set.is_away(0) && thrown([&] { (void)set.is_away(2); }) == NM_NUMBER);
+    CHECK(writer.remove(5) && reader.try_read(1, won) == NM_YES && won.flags == 0);
+    CHECK(writer.try_post(won) == NM_DONE && won.flags == 1);
+    CHECK(reader.try_read(1, won) == NM_YES && won.flags == 1);
 }
 
-// Each form that answers tells what the other one throws, and its answer where that answers.
+// The calls that answer an outcome, of a set for one key.
 void outcomes_are_answered() {
-    nm::Set set = nm::Set::lowest(7, 1);
+    nm::Set set = near_set(7, 1, nm::Shape::lowest);
     nm::Worker worker = set.worker(0);
-    std::uint64_t epoch = 77;
-    CHECK(worker.try_has(5) == NM_NO && worker.try_insert(5) == NM_YES &&
-          worker.try_insert(5) == NM_NO && worker.try_has(5) == NM_YES);
+    std::uint64_t epoch = 77, found = 77;
+    std::vector<nm_lookup> lookups{{5, 77}, {6, 77}}, none;
+    CHECK(worker.try_contains(5) == NM_NO && worker.try_insert(5) == NM_YES &&
+          worker.try_insert(5) == NM_NO && worker.try_contains(5) == NM_YES);
+    CHECK(worker.try_contains_many(lookups) == NM_DONE && lookups[0].found == 1 &&
+          lookups[1].found == 0 && worker.try_contains_many(none) == NM_DONE);
+    CHECK(worker.try_lower_bound(6, found) == NM_NO && found == 77 &&
+          worker.try_lower_bound(0, found) == NM_YES && found == 5);
     CHECK(worker.try_insert(6) == NM_FULL && worker.try_insert(UINT64_MAX) == NM_KEY &&
-          worker.try_has(5, 0) == NM_BUSY);
+          worker.try_contains(5, 0) == NM_BUSY);
     CHECK(worker.try_unpin() == NM_NOT_HELD && worker.try_pin(epoch) == NM_DONE && epoch == 0 &&
-          worker.try_has(5) == NM_HELD);
-    CHECK(worker.try_unpin() == NM_DONE && worker.try_erase(5, 1) == NM_UNFINISHED &&
-          worker.try_has(5) == NM_PENDING);
+          worker.try_contains(5) == NM_HELD);
+    CHECK(worker.try_unpin() == NM_DONE && worker.try_remove(5, 1) == NM_UNFINISHED &&
+          worker.try_contains(5) == NM_PENDING && worker.pending());
     CHECK(worker.try_finish(0) == NM_UNFINISHED && worker.try_finish() == NM_YES &&
-          worker.try_finish() == NM_NO && worker.try_erase(5) == NM_NO);
-    CHECK(worker.try_take_over(0) == NM_AWAY && worker.try_take_over(1) == NM_NUMBER);
+          worker.try_finish() == NM_NO && worker.try_remove(5) == NM_NO);
 }
 
 // What a worker and a report tell of themselves they tell of a const owner too.
 void const_owners_tell() {
-    nm::Set set = nm::Set::near(64, 2);
+    nm::Set set = near_set(64, 2);
     nm::Worker worker = set.worker(1);
-    CHECK(worker.insert(5) && worker.insert(6) && worker.erase(6));
+    CHECK(worker.insert(5) && worker.insert(6) && worker.remove(6));
     const nm::Worker &seen = worker;
     CHECK(seen.number() == 1 && seen.queue_len() == 2 && !seen.pending() && !seen.held() &&
-          seen.ledger().links == 2 && seen.behind().mask == 0);
+          seen.ledger().links == 2 && seen.behind().mask == 0 && seen.contains(5));
     worker.close();
     const nm::Report report = set.close();
     CHECK(report.size() == 1 && report.keys() == std::vector<std::uint64_t>{5} &&
           report.queue_len(1) == 2 && report.slots().reached == 2);
 }
 
+// A pin ends with its guard, also where an exception unwinds.
+void pins_end() {
+    nm::Set set = near_set(64, 1);
+    nm::Worker worker = set.attach();
+    {
+        nm::Pin pin = worker.pin();
+        nm::Pin moved = std::move(pin);
+        CHECK(moved.epoch() == 0 && worker.held() == std::optional<std::uint64_t>(0) &&
+              fault_of([&] { (void)worker.contains(5); }).text ==
+                  "the worker is pinned: end its pin first");
+        pin.unpin();
+        CHECK(worker.held());
+    }
+    CHECK(!worker.held() && worker.insert(5));
+    CHECK(thrown([&] {
+        nm::Pin pin = worker.pin();
+        throw nm::Fault(NM_LOST, "as a program may throw");
+    }) == NM_LOST && worker.remove(5));
+}
+
+// A worker that goes home holds nothing back, and has finished its remove.
+void workers_rest_at_home() {
+    nm::Set set = near_set(64, 2);
+    nm::Worker worker = set.worker(0), other = set.worker(1);
+    std::uint64_t epoch = 0;
+    CHECK(worker.try_pin(epoch) == NM_DONE && other.advance().moved() && other.behind().mask == 1);
+    worker.close();
+    CHECK(other.behind().mask == 0);
+    worker = set.worker(0);
+    CHECK(worker.insert(5) && worker.try_remove(5, 1) == NM_UNFINISHED && other.contains(5));
+    worker.close();
+    CHECK(!other.contains(5));
+}
+
 // Threads that attach themselves to one set at the same time get each a worker of its own, from the
 // least number on.
 void threads_attach_themselves() {
     constexpr int rounds = 200;
-    nm::Set set = nm::Set::near(4096);
+    nm::Set set(4096);
     CHECK(set.attach().number() == 0);
     for (int round = 0; round < rounds; round++) {
         std::uint64_t taken[threads_at_work] = {};
@@ -242,12 +259,17 @@ void threads_attach_themselves() {
         CHECK((taken[0] | taken[1] | taken[2] | taken[3]) == 0xf);
     }
     std::vector<nm::Worker> all;
-    for (std::uint64_t each = 0; each < nm::Set::many; each++) all.push_back(set.attach());
+    for (std::uint32_t each = 0; each < set.workers(); each++) all.push_back(set.attach());
     nm::Worker none;
-    CHECK(set.try_attach(none) == NM_AWAY && thrown([&] { (void)set.attach(); }) == NM_AWAY &&
-          all[7].number() == 7 && all.back().number() == 63);
+    CHECK(set.try_attach(none) == NM_AWAY && all[7].number() == 7 && all.back().number() == 63);
+    CHECK(fault_of([&] { (void)set.attach(std::chrono::milliseconds(5)); }).text ==
+          "threads have each of the 64 workers of the set (64 at most)");
+    std::thread later([&] { CHECK(set.attach().number() == 5 && set.insert(5)); });
+    std::this_thread::sleep_for(std::chrono::milliseconds(20));
+    all[5].close();
+    later.join();
     all.clear();
-    CHECK(set.close().size() == 0);
+    CHECK(set.close().size() == 1);
 }
 
 }  // namespace
@@ -259,10 +281,11 @@ int main() {
     faults_are_told();
     owners_are_closed();
     a_worker_ends_its_set();
-    owners_tend();
     notes_are_heard();
     outcomes_are_answered();
     const_owners_tell();
+    pins_end();
+    workers_rest_at_home();
     threads_attach_themselves();
     std::puts("owners own, move and give up");
 }

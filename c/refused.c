@@ -25,7 +25,7 @@ static void take(nm_handle *set, nm_handle *worker, uint32_t number) {
 
 static nm_outcome insert(nm_handle *worker, uint64_t key) {
     nm_outcome told;
-    do told = nm_worker_insert(worker, key, TRIES);
+    do told = nm_worker_try_insert(worker, key, TRIES);
     while (told == NM_NO_MEMORY);
     return told;
 }
@@ -33,8 +33,8 @@ static nm_outcome insert(nm_handle *worker, uint64_t key) {
 /* A refused delete has left its key in the set, or it is pending. */
 static nm_outcome delete(nm_handle *worker, uint64_t key) {
     nm_outcome told;
-    while ((told = nm_worker_delete(worker, key, TRIES)) == NM_NO_MEMORY)
-        CHECK(nm_worker_has(worker, key, TRIES) == NM_YES);
+    while ((told = nm_worker_try_remove(worker, key, TRIES)) == NM_NO_MEMORY)
+        CHECK(nm_worker_try_contains(worker, key, TRIES) == NM_YES);
     while (told == NM_UNFINISHED) told = nm_worker_finish(worker, TRIES);
     return told;
 }
@@ -43,7 +43,7 @@ static nm_outcome delete(nm_handle *worker, uint64_t key) {
  * pending. */
 static nm_outcome add(nm_handle *worker, uint64_t key) {
     nm_outcome told;
-    while ((told = nm_worker_add(worker, key, &nm_usual_habit)) == NM_NO_MEMORY)
+    while ((told = nm_worker_insert(worker, key, &nm_usual_habit)) == NM_NO_MEMORY)
         CHECK(nm_worker_contains(worker, key, &nm_usual_habit) == NM_NO);
     return told;
 }

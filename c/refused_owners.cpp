@@ -1,30 +1,25 @@
 // Owners in C++ where memory was refused: each call is made again, and then ends as without the
 // refusal. With any one growth refused it writes what it writes without: refused_owners.out.
-#include "nm_set.hpp"
+#include "thrown.hpp"
 
 #include <cstdio>
-#include <cstdlib>
+#include <new>
 
 namespace {
 
 constexpr std::uint32_t nodes = 512, workers = 2;
 constexpr std::uint64_t keys = 100, step = 37, modulus = 101;
 
-void check(bool holds, int line) {
-    if (holds) return;
-    std::fprintf(stderr, "refused_owners.cpp, line %d: not so\n", line);
-    std::exit(1);
-}
-
-#define CHECK(...) check((__VA_ARGS__), __LINE__)
-
-// A set that was refused is a fault, and leaves its owner closed. The fault takes memory too.
-nm::Set made() {
+// What a call answers where it is made again each time that memory was refused, to the library or
+// to this program.
+template <typename Call>
+auto at_last(Call call) {
     for (;;) {
         try {
-            return nm::Set::near(nodes, workers);
+            return call();
         } catch (const nm::Fault &fault) {
             CHECK(fault.outcome() == NM_NO_MEMORY);
+        } catch (const std::bad_alloc &) {
         }
     }
 }
@@ -38,28 +33,20 @@ nm::Worker attached(nm::Set &set) {
     return worker;
 }
 
-// A set whose close was refused is the set still.
-nm::Report closed(nm::Set &set) {
-    nm::Report report;
-    nm_outcome told;
-    while ((told = set.try_close(report)) == NM_NO_MEMORY)
-        CHECK(set.is_open() && !report.is_open());
-    CHECK(told == NM_DONE && !set.is_open());
-    return report;
-}
-
 }  // namespace
 
 int main() {
-    nm::Set set = made();
+    nm::Set set = at_last([] { return near_set(nodes, workers); });
     nm::Worker worker = attached(set);
-    for (std::uint64_t number = 0; number < keys; number++) {
+    for (std::uint64_t number = 0; number < keys; number += 2) {
         nm_outcome told;
         while ((told = worker.try_insert(number * step % modulus)) == NM_NO_MEMORY) {}
         CHECK(told == NM_YES);
+        CHECK(at_last([&] { return set.insert((number + 1) * step % modulus); }));
     }
     worker.close();
-    const nm::Report report = closed(set);
+    const nm::Report report = at_last([&] { return set.close(); });
+    CHECK(!set.is_open());
     nm::Slots slots = report.slots();
     std::printf("keys %llu free %u reached %u\n",
                 static_cast<unsigned long long>(report.size()), slots.free, slots.reached);

@@ -31,7 +31,7 @@ static void *attach(void *given) {
         nm_handle worker = NM_CLOSED_HANDLE;
         CHECK(nm_set_attach(&set, &worker) == NM_DONE && nm_set_attach(&set, &worker) == NM_OPEN);
         if (turn < KEYS)
-            CHECK(nm_worker_insert(&worker, (uint64_t)turn * 7919 % 10007, TRIES) >= NM_NO);
+            CHECK(nm_worker_try_insert(&worker, (uint64_t)turn * 7919 % 10007, TRIES) >= NM_NO);
         CHECK(nm_drop(&worker) == NM_DONE && nm_drop(&worker) == NM_CLOSED);
     }
     return NULL;
@@ -50,8 +50,8 @@ static void *misuse(void *given) {
     uint64_t key = (uint64_t)(uintptr_t)given, epoch, freed;
     uint32_t behind;
     for (int call = 0; call < CALLS; call++) {
-        count(nm_worker_insert(&shared, key, TRIES), &inserted);
-        count(nm_worker_delete(&shared, key, TRIES), &deleted);
+        count(nm_worker_try_insert(&shared, key, TRIES), &inserted);
+        count(nm_worker_try_remove(&shared, key, TRIES), &deleted);
         if (call % 16 != 0) continue;
         for (int moves = 0; moves < 2; moves++) {
             nm_outcome moved = nm_worker_advance(&shared, &epoch, &behind);

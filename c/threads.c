@@ -45,18 +45,18 @@ static void tend(part *own) {
 }
 
 static nm_outcome try_insert(part *own, uint64_t key) {
-    return own->tends ? nm_worker_add(&own->worker, key, &nm_usual_habit)
-                      : nm_worker_insert(&own->worker, key, TRIES);
+    return own->tends ? nm_worker_insert(&own->worker, key, &nm_usual_habit)
+                      : nm_worker_try_insert(&own->worker, key, TRIES);
 }
 
 static nm_outcome try_delete(part *own, uint64_t key) {
     return own->tends ? nm_worker_remove(&own->worker, key, &nm_usual_habit)
-                      : nm_worker_delete(&own->worker, key, TRIES);
+                      : nm_worker_try_remove(&own->worker, key, TRIES);
 }
 
 static nm_outcome try_has(part *own, uint64_t key) {
     return own->tends ? nm_worker_contains(&own->worker, key, &nm_usual_habit)
-                      : nm_worker_has(&own->worker, key, TRIES);
+                      : nm_worker_try_contains(&own->worker, key, TRIES);
 }
 
 /* Inserts a key, however often that takes. */
@@ -148,7 +148,7 @@ int main(void) {
     nm_handle set = NM_CLOSED_HANDLE;
     static part parts[THREADS];
     pthread_t threads[THREADS];
-    CHECK(nm_set_near(&set, NODES, THREADS * APART) == NM_DONE);
+    CHECK(nm_set_new(&set, NODES, THREADS * APART) == NM_DONE);
     for (uint32_t i = 0; i < THREADS; i++) {
         parts[i].seed = 88172645463325252u + i;
         parts[i].tends = i % 2 == 1;

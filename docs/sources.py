@@ -16,6 +16,7 @@ WITHIN = re.compile(r"  (?=(?:pub )?(?:abbrev|unfoldable|opaque|record|data) \w)
 ASIDE = re.compile(r"(?:pub )?(?:use|mod|module) ")
 FIXITY = re.compile(r"infix\w* ")
 IMPORT = re.compile(r"(?:pub |ghost )*use ([\w.◌]+)\.\{([^}]*)\}")
+PASSES_ON = re.compile(r"^pub use ([\w.◌]+)\.\{([^}]*)\}", re.M)
 FIELD = re.compile(r"(?:pub )?([\w'-]+)")
 FIELD_LINE = re.compile(r"  (?:pub )?([\w'-]+) : ")
 GROUP = re.compile(r"((?:`[^`]+`(?:, )?)+): ")
@@ -167,15 +168,34 @@ def definitions():
     return {it.place: it for module in every for it in module.definitions}
 
 
-def import_list(text):
-    """What a file of specs/ or src/ imports: the definitions, by the names that it has for them."""
-    found = {}
-    for module, names in IMPORT.findall(text):
+def named_places(text, import_pattern):
+    """What a text imports from files of definitions: the places, by the names that it has for them."""
+    for module, names in import_pattern.findall(text):
         own = re.fullmatch(r"Rattle\.(\w+)\.specs\.(\w+)", module)
         for it in names.split(",") if own else []:
             name, _, alias = it.strip().partition(" as ")
-            if (own[1], own[2], name) in definitions():
-                found[alias or name] = own[1], own[2], name
+            yield alias or name, (own[1], own[2], name)
+
+
+@functools.cache
+def passed_on():
+    """The places at which a file of definitions passes another one's on, with where it has them
+    from."""
+    found = {}
+    for crate, path, text in texts("specs", ".antt"):
+        module = path[: -len(".antt")]
+        found.update(((crate, module, it), place) for it, place in named_places(text, PASSES_ON))
+    return found
+
+
+def import_list(text):
+    """What a file of specs/ or src/ imports: the definitions, by the names that it has for them."""
+    found = {}
+    for name, place in named_places(text, IMPORT):
+        while place not in definitions() and place in passed_on():
+            place = passed_on()[place]
+        if place in definitions():
+            found[name] = place
     return found
 
 
@@ -336,13 +356,21 @@ def at_top(text):
     return text
 
 
+def record_behind(place):
+    """The record that a definition is, or the one of its own file that it names; else None."""
+    own = {it for it in leads_to(place) if it[:2] == place[:2] and definitions()[it].fields}
+    if not definitions()[place].fields and len(own) == 1:
+        (place,) = own
+    return definitions()[place] if definitions()[place].fields else None
+
+
 def record_of(function, clause):
     """The record that a clause says as a whole, whose fields are what it promises; else None. A
     premise, or one of several facts, is not the whole."""
     known, first = imports(function.crate, function.path), NAME.match(clause.text)
     is_whole = first and not re.search(r"[→⊎×≡≢≤<]", at_top(clause.text))
     place = known.get(first[0]) if is_whole else None
-    return definitions()[place] if place and definitions()[place].fields else None
+    return record_behind(place) if place else None
 
 
 CITES = re.compile(r"^use Rattle\.(\w+)\.proofs\.(\w+)(?=\.\{| as |$)", re.M)
@@ -427,6 +455,7 @@ class Edit(NamedTuple):
     words: str
     refused: str
     places: tuple
+    missed: tuple  # the texts to be changed that do not stand once in their file
 
     @property
     def path(self):
@@ -450,18 +479,24 @@ def place_of(crate, path, old):
 
 
 def edit_of(crate, path, in_gate):
-    words, places, at = [], [], ""
+    words, places, missed, at, text, old = [], [], [], "", "", ""
     for line in read(path).splitlines():
-        kind, _, text = line.partition(" ")
+        kind, _, told = line.partition(" ")
         if kind == "#":
-            words.append(text.strip())
+            words.append(told.strip())
         elif kind == "file:":
-            at = text.strip()
+            at = told.strip()
+            text = text_of(crate, "", at)
         elif kind == "old:":
-            places.append(place_of(crate, at, text))
+            places.append(place_of(crate, at, told))
+            missed += [told] if text.count(told) != 1 else []
+            old = told
+        elif kind == "new:":
+            text = text.replace(old, told)
     body, _, refused = " ".join(words).partition(REFUSED)
     name = os.path.basename(path)[: -len(".edit")]
-    return Edit(crate, name, in_gate, body.strip(), refused.strip(), tuple(dict.fromkeys(places)))
+    return Edit(crate, name, in_gate, body.strip(), refused.strip(),
+                tuple(dict.fromkeys(places)), tuple(missed))
 
 
 @functools.cache

@@ -1,4 +1,5 @@
-// bench/calls: nanoseconds of one thread's calls on the set, and on plain.hpp's.
+// bench/calls: nanoseconds of one thread's calls on the set, on one in the paper's shape, and on
+// plain.hpp's.
 #include "nm_set.h"
 #include "plain.hpp"
 
@@ -19,16 +20,18 @@ using Random = std::minstd_rand;
 
 std::size_t nodes_for(std::size_t keys) { return 8 * keys + 4096; }
 
-class ProvedSet {
+using Maker = nm_outcome(nm_handle *, std::uint32_t, std::uint32_t);
+
+template <Maker make> class ProvedSet {
 public:
     explicit ProvedSet(std::size_t keys) {
-        if (nm_set_near(&set_, static_cast<std::uint32_t>(nodes_for(keys)), 1) != NM_DONE ||
+        if (make(&set_, static_cast<std::uint32_t>(nodes_for(keys)), 1) != NM_DONE ||
             nm_set_worker(&set_, &worker_, 0) != NM_DONE)
             std::abort();
     }
     ~ProvedSet() { nm_drop(&worker_), nm_drop(&set_); }
     bool contains(Key key) { return nm_worker_contains(&worker_, key, &nm_usual_habit) == NM_YES; }
-    bool add(Key key) { return nm_worker_add(&worker_, key, &nm_usual_habit) == NM_YES; }
+    bool add(Key key) { return nm_worker_insert(&worker_, key, &nm_usual_habit) == NM_YES; }
     bool remove(Key key) { return nm_worker_remove(&worker_, key, &nm_usual_habit) == NM_YES; }
 
 private:
@@ -151,18 +154,20 @@ private:
 };
 
 void compare(std::size_t keys, unsigned long rounds) {
-    Side<ProvedSet> set(keys);
+    Side<ProvedSet<nm_set_new>> set(keys);
     Side<PlainSet<plain::Worker>> plain(keys);
     Side<PlainSet<plain::Handle>> handles(keys);
+    Side<ProvedSet<nm_set_near>> paper(keys);
     for (unsigned long round = 0; round < rounds; round++) {
         Random random(static_cast<unsigned>(round + 1));
-        set.round(random), plain.round(random), handles.round(random);
+        set.round(random), plain.round(random), handles.round(random), paper.round(random);
     }
     for (std::size_t row = 0; row < set.table.size(); row++) {
         double least = set.table[row].least, object = plain.table[row].least,
-               handle = handles.table[row].least;
-        std::printf("| %zu | %s | %.0f | %.0f | %.2f | %.0f | %.2f |\n", keys,
-                    set.table[row].name, least, object, least / object, handle, least / handle);
+               handle = handles.table[row].least, other = paper.table[row].least;
+        std::printf("| %zu | %s | %.0f | %.0f | %.2f | %.0f | %.2f | %.0f | %.2f |\n", keys,
+                    set.table[row].name, least, object, least / object, handle, least / handle,
+                    other, least / other);
     }
     std::fflush(stdout);
 }
@@ -175,7 +180,8 @@ int main(int, char **words) {
         std::fputs("usage: bench/calls [ROUNDS]\n", stderr);
         return 2;
     }
-    std::puts("| Keys | Call | Set | Plain C++ | Ratio | C++, handles | Ratio |");
-    std::puts("|---|---|---|---|---|---|---|");
+    std::puts("| Keys | Call | Set | Plain C++ | Ratio | C++, handles | Ratio"
+              " | Paper's shape | Ratio |");
+    std::puts("|---|---|---|---|---|---|---|---|---|");
     for (std::size_t keys : {16, 256, 4096, 65536}) compare(keys, rounds);
 }

@@ -36,7 +36,7 @@ std::size_t nodes_for(std::size_t keys) { return 8 * keys + 4096; }
 
 struct ProvedSet {
     ProvedSet(std::size_t keys, unsigned threads) {
-        if (nm_set_near(&set, static_cast<std::uint32_t>(nodes_for(keys)), threads) != NM_DONE)
+        if (nm_set_new(&set, static_cast<std::uint32_t>(nodes_for(keys)), threads) != NM_DONE)
             std::abort();
     }
     ~ProvedSet() { nm_drop(&set); }
@@ -50,7 +50,7 @@ struct ProvedSet {
         bool contains(Key key) {
             return nm_worker_contains(&handle, key, &nm_usual_habit) == NM_YES;
         }
-        bool add(Key key) { return nm_worker_add(&handle, key, &nm_usual_habit) == NM_YES; }
+        bool add(Key key) { return nm_worker_insert(&handle, key, &nm_usual_habit) == NM_YES; }
         bool remove(Key key) { return nm_worker_remove(&handle, key, &nm_usual_habit) == NM_YES; }
         nm_handle handle = NM_CLOSED_HANDLE;
     };

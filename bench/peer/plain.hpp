@@ -1,8 +1,8 @@
 // The same tree and the same reclamation in plain C++, without a proof: what the set is measured
 // against where the question is what its proof costs. The external binary search tree of Natarajan
-// and Mittal (PPoPP 2014), over slots of one array, whose removed nodes wait for two moves of the
-// epoch (Fraser 2004). It is written to be as fast as the same contract allows, and is tested by
-// its answers alone.
+// and Mittal (PPoPP 2014), or the radix tree with its edges (Morrison, JACM 1968), over slots of one
+// array, whose removed nodes wait for two moves of the epoch (Fraser 2004). It is written to be as
+// fast as the same contract allows, and is tested by its answers alone.
 #ifndef PLAIN_HPP
 #define PLAIN_HPP
 
@@ -36,6 +36,19 @@ constexpr std::uint64_t infinity_0 = UINT64_MAX - 2, infinity_1 = UINT64_MAX - 1
                         infinity_2 = UINT64_MAX;
 constexpr unsigned collect_after = 64;
 
+enum class Shape { radix, paper };
+
+// The range of a router: all keys with its bits above its lowest 1.
+inline bool in_range(std::uint64_t key, std::uint64_t router) {
+    return (key ^ router) <= (router ^ (router - 1));
+}
+
+// The router that parts two keys: their bits above the first in which they differ, a 1, zeros.
+inline std::uint64_t router_of(std::uint64_t key, std::uint64_t other) {
+    unsigned bit = 63 - static_cast<unsigned>(__builtin_clzll(key ^ other));
+    return (key > other ? key : other) >> bit << bit;
+}
+
 class Set {
 public:
     Set(std::size_t nodes, unsigned workers)
@@ -46,7 +59,7 @@ public:
     }
 
 private:
-    friend class Worker;
+    template <Shape> friend class BasicWorker;
 
     void leaf(std::uint64_t slot, std::uint64_t key) {
         nodes_[slot].key.store(key), nodes_[slot].left.store(0), nodes_[slot].right.store(0);
@@ -65,10 +78,10 @@ private:
     Line epoch_{};
 };
 
-// One thread's access.
-class Worker {
+// One thread's access to a tree of a shape, which its adds give it.
+template <Shape shape> class BasicWorker {
 public:
-    Worker(Set &set, unsigned number)
+    BasicWorker(Set &set, unsigned number)
         : set_(set), note_(set.notes_[number].word), row_(number * 8 % set.pool_.size()) {}
 
     bool contains(std::uint64_t key) {
@@ -92,13 +105,15 @@ public:
         bool is_new = false;
         pin();
         for (;;) {
-            Found at = seek(key);
+            Found at = seek<shape == Shape::radix>(key);
             std::uint64_t found = set_.nodes_[at.leaf].key.load();
             if (found == key) break;
             if (!inner && (!(inner = claim()) || !(leaf = claim()))) break;
             set_.leaf(leaf, key);
-            if (key < found) set_.inner(inner, found, leaf, at.leaf);
-            else set_.inner(inner, key, at.leaf, leaf);
+            std::uint64_t greater = key < found ? found : key,
+                          parting = shape == Shape::radix ? router_of(key, found) : greater;
+            if (key < found) set_.inner(inner, parting, leaf, at.leaf);
+            else set_.inner(inner, parting, at.leaf, leaf);
             std::uint64_t old = Edge::to(at.leaf);
             if (child(at.parent, key).compare_exchange_strong(old, Edge::to(inner))) {
                 inner = leaf = 0;
@@ -163,14 +178,16 @@ private:
         return key < node.key.load() ? node.left : node.right;
     }
 
-    Found seek(std::uint64_t key) {
+    // The walk for a key to a leaf, or to the first node in whose range it is not.
+    template <bool stops = false> Found seek(std::uint64_t key) {
         std::uint64_t edge = set_.nodes_[2].left.load();
         Found at{1, 2, 2, Edge::slot(edge)};
         for (;;) {
             Node &node = set_.nodes_[at.leaf];
             std::uint64_t left = node.left.load(), right = node.right.load();
             if (left < Edge::to(1)) return at;
-            std::uint64_t next = key < node.key.load() ? left : right;
+            std::uint64_t here = node.key.load(), next = key < here ? left : right;
+            if (stops && !in_range(key, here)) return at;
             if (!(edge & Edge::tag)) at.ancestor = at.parent, at.successor = at.leaf;
             at.parent = at.leaf, at.leaf = Edge::slot(next), edge = next;
         }
@@ -241,6 +258,9 @@ private:
     std::size_t row_;
     std::deque<Waiting> waiting_;
 };
+
+using Worker = BasicWorker<Shape::radix>;
+using PaperWorker = BasicWorker<Shape::paper>;
 
 // A worker behind a handle, as the set's are: of two calls that have it at the same time the second
 // is refused, so each call takes it by one atomic exchange, and gives it back.

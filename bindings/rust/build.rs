@@ -47,7 +47,8 @@ fn main() {
     println!("cargo:rerun-if-changed={}", archive.display());
     if !archive.is_file() {
         println!(
-            "cargo:warning=there is no {}: set NM_SET_LIB_DIR to the folder of {ARCHIVE}",
+            "cargo:warning=there is no {}: set NM_SET_LIB_DIR to the folder of {ARCHIVE}, which \
+             `c/install PREFIX` puts into PREFIX/lib",
             archive.display()
         );
     }

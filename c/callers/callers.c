@@ -34,8 +34,10 @@ IN_CALLERS static void make(nm_handle *set, nm_handle *worker) {
 }
 
 IN_CALLERS static void change(nm_handle *worker) {
-    for (uint64_t key = 0; key < KEYS; key++) CHECK(nm_worker_insert(worker, key, 64) == NM_YES);
-    for (uint64_t key = 0; key < KEYS; key++) CHECK(nm_worker_delete(worker, key, 64) == NM_YES);
+    for (uint64_t key = 0; key < KEYS; key++)
+        CHECK(nm_worker_try_insert(worker, key, 64) == NM_YES);
+    for (uint64_t key = 0; key < KEYS; key++)
+        CHECK(nm_worker_try_remove(worker, key, 64) == NM_YES);
 }
 
 IN_CALLERS static void end(nm_handle *set, nm_handle *worker) {

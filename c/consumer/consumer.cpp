@@ -4,10 +4,8 @@
 #include <cstdio>
 
 int main() {
-    nm::Set set = nm::Set::near(64);
-    nm::Worker worker = set.attach();
-    if (!worker.insert(5) || !worker.has(5)) return 1;
-    worker.close();
+    nm::Set set(64);
+    if (!set.insert(5) || !set.attach().contains(5)) return 1;
     if (set.close().size() != 1) return 1;
     std::printf("nm_set %s: %s\n", NM_SET_VERSION, nm_outcome_text(NM_DONE));
 }

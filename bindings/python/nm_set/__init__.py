@@ -2,17 +2,23 @@
 
     import nm_set
 
-    with nm_set.Set(65_536) as numbers:
-        numbers.add(5)
+    with nm_set.Set([3, 5, 9]) as numbers:
+        numbers.add(4)
         5 in numbers
+        sorted(numbers)
     len(numbers.report)
 """
 
+__version__ = "0.1.0"
+
+from ._backend import is_native
 from ._faults import (
+    MOST_KEY,
     Away,
     Closed,
     Contention,
     Fault,
+    Forked,
     Full,
     Held,
     InUse,
@@ -21,9 +27,8 @@ from ._faults import (
     OutOfRange,
     Unfinished,
 )
-from ._set import MOST_KEY, Ledger, Posted, Report, Set, Tending, Waiting, Worker
-
-__version__ = "0.1.0"
+from ._report import Report, Waiting
+from ._set import Ledger, Posted, Set, Tending, Worker
 
 __all__ = [
     "MOST_KEY",
@@ -31,6 +36,7 @@ __all__ = [
     "Closed",
     "Contention",
     "Fault",
+    "Forked",
     "Full",
     "Held",
     "InUse",
@@ -45,4 +51,6 @@ __all__ = [
     "Unfinished",
     "Waiting",
     "Worker",
+    "__version__",
+    "is_native",
 ]

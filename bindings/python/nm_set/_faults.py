@@ -2,7 +2,15 @@
 
 from __future__ import annotations
 
+from collections.abc import Sequence
+
 from . import _library as c
+
+MOST_KEY = 2**64 - 4
+"""The greatest key."""
+
+MOST_NODES = 268_435_456
+MOST_WORKERS = 64
 
 
 class Fault(Exception):
@@ -13,8 +21,8 @@ class Fault(Exception):
 
 
 class Full(Fault):
-    """No slots were free for the two new nodes of an add, also after a collection. Nothing has
-    changed."""
+    """An add found no free nodes, although it waited for those that are to be freed as long as the
+    set's `Tending` says. Nothing has changed."""
 
     outcome = c.FULL
 
@@ -40,12 +48,13 @@ class Unfinished(Fault):
 
 
 class NoWorker(Fault):
-    """Each worker is with another thread, or was in a call of one as often as it was looked for, 64
-    times. Where no more threads make calls than there are workers, that is not to be expected."""
+    """Each worker is with a thread, and `attach` was not to wait, or waited as long as it was to;
+    or this thread itself has them all, so that a call which waits for one would never end."""
 
 
 class Away(Fault):
-    """A worker is with a thread: it cannot be taken, or its set cannot be closed."""
+    """A worker is with a thread: it cannot be taken, or its set cannot be closed; or the set is
+    open, and so has no report yet."""
 
     outcome = c.AWAY
 
@@ -63,31 +72,37 @@ class Held(Fault):
 
 
 class InUse(Fault):
-    """Another thread is in a call by the worker at this moment. Nothing has changed."""
+    """Another thread is in a call by the worker, and stayed in it. Nothing has changed."""
 
     outcome = c.IN_USE
 
 
+class Forked(Fault, RuntimeError):
+    """The set was made by the process of which this one was forked. Nothing has changed, and the
+    set of that process goes on."""
+
+
 class OutOfRange(Fault, ValueError):
-    """A key above 2^64 - 4 or below 0, a number of nodes that is not 7 to 268,435,456, one of
-    workers that is not 1 to 64, or the number of no worker."""
+    """A key that is not 0 to 2^64 - 4, a number of nodes that is not 7 to 268,435,456, one of
+    workers that is not 1 to 64, the number of no worker, or one of `Tending` that is not 0 to
+    2^32 - 1."""
 
 
 _TEXTS = {
     c.KEY: "the key is not 0 to 2^64 - 4",
     c.NUMBER: "there is no worker of that number",
-    c.NODES: "the number of nodes is not 7 to 268,435,456",
-    c.WORKERS: "the number of workers is not 1 to 64",
+    c.NODES: f"the number of nodes is not 7 to {MOST_NODES:,}",
+    c.WORKERS: f"the number of workers is not 1 to {MOST_WORKERS}",
     c.NO_MEMORY: "memory was refused",
     c.BUSY: "other threads were in the way for longer than the call's bound",
-    c.FULL: "no slots are free for the new nodes",
-    c.UNFINISHED: "the discard has begun and is not finished",
-    c.HELD: "the worker is held",
-    c.NOT_HELD: "the worker is not held",
+    c.FULL: "no nodes are free for the new key",
+    c.UNFINISHED: "the discard has begun and is not finished: the key will go",
+    c.HELD: "the worker is pinned: unpin it first",
+    c.NOT_HELD: "the worker is not pinned",
     c.AWAY: "a worker is with a thread",
-    c.CLOSED: "it is closed",
-    c.CLOSING: "the set is being closed",
-    c.IN_USE: "another thread is in a call by it",
+    c.CLOSED: "the worker is closed",
+    c.CLOSING: "the set is closed",
+    c.IN_USE: "another thread is in a call by the worker",
 }
 
 _KINDS: dict[int, type[Fault]] = {
@@ -97,6 +112,7 @@ _KINDS: dict[int, type[Fault]] = {
     c.WORKERS: OutOfRange,
     c.NO_MEMORY: NoMemory,
     c.BUSY: Contention,
+    c.PENDING: Contention,
     c.FULL: Full,
     c.UNFINISHED: Unfinished,
     c.HELD: Held,
@@ -108,15 +124,44 @@ _KINDS: dict[int, type[Fault]] = {
 }
 
 
-def fault(outcome: int) -> Fault:
-    """The exception of an outcome below 0."""
-    made = _KINDS.get(outcome, Fault)(_TEXTS.get(outcome, f"outcome {outcome} of the library"))
+def fault(outcome: int, text: str | None = None) -> Fault:
+    """The exception of an outcome below 0, by its usual text or another one."""
+    usual = _TEXTS.get(c.BUSY if outcome == c.PENDING else outcome)
+    kind = _KINDS.get(outcome, Fault)
+    made = kind(text or usual or f"the library told outcome {outcome}")
     made.outcome = outcome
     return made
 
 
 def told(outcome: int) -> bool:
-    """Whether the answer is not no; a fault is raised."""
+    """Whether the answer is not no; a fault is raised. Where the discard of an earlier call kept a
+    call from its answer, that is contention."""
     if outcome < 0:
         raise fault(outcome)
     return outcome != 0
+
+
+def key_fault(key: object) -> Fault:
+    """The exception of a whole number that is no key."""
+    return fault(c.KEY, f"the key {key} is not 0 to {MOST_KEY:,} (2^64 - 4)")
+
+
+def closed() -> Fault:
+    """The exception of a call of a set that is closed."""
+    return fault(c.CLOSED, "the set is closed")
+
+
+def forked(process: int) -> Fault:
+    """The exception of a call in another process than the one that made the set."""
+    return Forked(
+        f"the set was made by the process {process}, and this one was forked of it: what it would"
+        " add nobody else would see; make a set in this process"
+    )
+
+
+def those(numbers: Sequence[int]) -> str:
+    """Workers by their numbers, as they stand in a sentence, with its verb."""
+    if len(numbers) == 1:
+        return f"worker {numbers[0]} is"
+    told = ", ".join(str(number) for number in numbers[:-1])
+    return f"workers {told} and {numbers[-1]} are"

@@ -1,63 +1,84 @@
 """The set and its workers.
 
-A worker's handle stays on its seat from its first use until the set is closed, unless a `Worker`
-has it. A call of a thread that has no worker takes the lock of a seat, mostly the one that the
-thread used before, and makes the call by the worker there. No thread waits for the lock of a seat
-but `close`, `Set.worker`, and a worker on its way back. The handle of the set has no lock: by it
-threads take workers at the same time, as the library allows.
+No lock is held, and no step gives back what an earlier one took, so an exception that comes at any
+moment, as a signal handler's does, leaves nothing behind:
+
+- The handles for the calls of the set itself stay open. A call is made by the first of them that is
+  in no other call, which the library tells; where there is none, one more takes a worker.
+- A `Worker` has a handle of its own, which a weak reference gives up as the object ends
+  (`_leases`); so have the set's.
+- What is written down of workers may be late; then the library tells otherwise, and is believed.
+- `close` says first that the set is being closed, and then does what is left to do: another close
+  goes on where one was interrupted.
 """
 
 from __future__ import annotations
 
 import operator
+import os
 import threading
 import time
-from bisect import bisect_left
-from collections import deque
-from collections.abc import Iterable, Iterator
+import weakref
+from collections.abc import Callable, Iterable, Iterator
+from contextlib import suppress
 from ctypes import c_uint32, c_uint64
-from dataclasses import dataclass
+from dataclasses import dataclass, fields
 from types import TracebackType
-from typing import Callable, Optional, SupportsIndex, TypeVar
+from typing import Literal, Optional, SupportsIndex, TypeVar, Union
 
 from . import _library as c
-from ._faults import NoWorker, fault, told
+from ._backend import Calls
+from ._faults import MOST_NODES, MOST_WORKERS, Away, Closed, Full, InUse, NoWorker, OutOfRange
+from ._faults import closed, fault, forked, those, told
+from ._keys import Keys, words_of
+from ._leases import Owner, drop_with, send_home_with
+from ._report import Reader, Report
 
-MOST_KEY = 2**64 - 4
-"""The greatest key."""
-
-_RELIEFS = 4  # how often an add that found the set full lets all collect, and goes on
-_MOVES = 3  # how often a relief moves the epoch on at most
-_SEARCHES = 64  # how often a thread looks for a free seat while others are locked
 _T = TypeVar("_T")
+_NODES = 65_536  # the nodes of a set where none are named
+_MOVES = 3  # how often a relief moves the epoch on at most
+_AT_ONCE = 4  # how often an add that found the set full goes on at once where nodes were freed
+_NAPS = 10  # how often a wait gives other threads their turn before it sleeps
+_NAP = 0.001  # seconds
+_LOOKS = 1_000  # how often a worker that is in another thread's call is looked at again
+
+Shape = Literal["radix", "near", "lowest"]
+MAKERS = {"radix": "nm_set_new", "near": "nm_set_near", "lowest": "nm_set_lowest"}
 
 
-def _key(key: SupportsIndex) -> int:
-    number = operator.index(key)
-    if not 0 <= number <= MOST_KEY:
-        raise fault(c.KEY)
-    return number
-
-
-def _narrow(number: SupportsIndex, outcome: int) -> int:
+def _narrow(number: SupportsIndex, what: str, least: int = 0, most: int = 2**32 - 1) -> int:
     """A number that C takes in 32 bits."""
     value = operator.index(number)
-    if not 0 <= value < 2**32:
-        raise fault(outcome)
+    if not least <= value <= most:
+        raise OutOfRange(f"the number of {what} is not {least} to {most:,}: {value}")
     return value
+
+
+def _nap(turn: int) -> None:
+    """Lets other threads go on: longer, where they had several turns already."""
+    time.sleep(0 if turn < _NAPS else _NAP)
 
 
 @dataclass(frozen=True)
 class Tending:
-    """What a call that tends the set may spend."""
+    """What a call that tends the set may spend. Each number is 0 to 2^32 - 1."""
 
     tries: int = 64
-    """The tries of each call of the tree. With fewer than 2 no discard answers at once."""
+    """The tries of each call of the tree. With fewer than 2 no discard answers at once, and with
+    fewer than 3 not each `at_least`."""
     rounds: int = 64
     """How often a call that has lost each of its tries is made again, and how often a discard that
     has begun is gone on with."""
     collect_after: int = 64
     """From how many waiting nodes on an add or a discard first moves the epoch on and collects."""
+    patience: int = 64
+    """How often an add that found no free nodes, while some wait to be freed, sleeps a millisecond
+    and goes on, before it raises `Full`."""
+
+    def __post_init__(self) -> None:
+        for each in fields(self):
+            number = _narrow(getattr(self, each.name), each.name)
+            object.__setattr__(self, each.name, number)
 
 
 @dataclass(frozen=True)
@@ -82,385 +103,434 @@ class Posted:
     """Its flags: one for each key that it had discarded, a pending one too."""
 
 
-@dataclass(frozen=True)
-class Waiting:
-    """A node that waited in a worker's queue when the set was closed."""
-
-    slot: int
-    birth: int
-    label: int
-
-
-@dataclass(frozen=True)
-class Report:
-    """What a set was closed with."""
-
-    keys: tuple[int, ...]
-    """The keys of the set, ascending."""
-    free: int
-    """How many slots are free."""
-    reached: int
-    """How many slots are reached from the root, the five fixed ones left out."""
-    waiting: tuple[tuple[Waiting, ...], ...]
-    """The nodes that wait of those that each worker cut off, oldest first, in the order of the
-    workers' numbers."""
-
-    def __len__(self) -> int:
-        return len(self.keys)
-
-    def __iter__(self) -> Iterator[int]:
-        return iter(self.keys)
-
-    def __contains__(self, key: SupportsIndex) -> bool:
-        number = operator.index(key)
-        place = bisect_left(self.keys, number)
-        return place < len(self.keys) and self.keys[place] == number
+def _rest(handle: c.Handle, habit: c.HabitWords) -> None:
+    """Gets a worker ready to rest: it holds nothing back, and its discard is finished where the
+    bound allows."""
+    c.quick.nm_worker_unpin(handle)
+    for _ in range(habit.rounds + 1):
+        if c.quick.nm_worker_finish(handle, habit.tries) != c.UNFINISHED:
+            return
 
 
-class _Handle:
-    """A handle, which gives up what it owns."""
-
-    def __init__(self) -> None:
-        self.word = c.Handle()
-
-    def drop(self) -> None:
-        c.exports.nm_drop(self.word)
-
-    def __del__(self) -> None:
-        if c is not None and self.word.at:
-            self.drop()
+def _collect(handle: c.Handle) -> int:
+    """Moves the epoch on as far as can be, and frees what has waited long enough in the queue of a
+    worker that no other call has: how many nodes."""
+    epoch, freed, behind = c_uint64(), c_uint64(), c_uint32()
+    for _ in range(_MOVES):
+        if c.quick.nm_worker_advance(handle, epoch, behind) not in (c.DONE, c.LOST):
+            break
+    c.exports.nm_worker_collect(handle, epoch, freed)
+    return freed.value
 
 
-class _Hand:
-    """The handle of an open worker, for one thread at a time."""
-
-    def __init__(self, handle: _Handle) -> None:
-        self.handle = handle
-        self.word = handle.word
-
-    def has(self, habit: c.HabitWords, key: int) -> bool:
-        return _tended(c.exports.nm_worker_contains(self.word, key, habit))
-
-    def _looked(self, habit: c.HabitWords, call: Callable[[], int]) -> bool:
-        """Makes a call of the library that only looks, behind the discard that is pending, and
-        again where it has lost each of its tries."""
-        c.exports.nm_worker_finish(self.word, habit.tries)
-        for _ in range(habit.rounds):
-            outcome = call()
-            if outcome != c.BUSY:
-                return _tended(outcome)
-        return _tended(call())
-
-    def has_many(self, habit: c.HabitWords, keys: list[int]) -> list[bool]:
-        lookups = (c.LookupWords * max(len(keys), 1))(*((key, 0) for key in keys))
-        self._looked(
-            habit,
-            lambda: c.exports.nm_worker_has_many(self.word, lookups, len(keys), habit.tries),
-        )
-        return [lookup.found != 0 for lookup in lookups[: len(keys)]]
-
-    def at_least(self, habit: c.HabitWords, key: int) -> Optional[int]:
-        found = c_uint64()
-        is_found = self._looked(
-            habit, lambda: c.exports.nm_worker_next(self.word, key, habit.tries, found)
-        )
-        return found.value if is_found else None
-
-    def add(self, habit: c.HabitWords, key: int, relieve: Callable[[_Hand], object]) -> bool:
-        """Adds a key. Where the set is full, although the worker has collected, `relieve` is called
-        and the add made again."""
-        for _ in range(_RELIEFS):
-            outcome = c.exports.nm_worker_add(self.word, key, habit)
-            if outcome != c.FULL:
-                return _tended(outcome)
-            relieve(self)
-        return _tended(c.exports.nm_worker_add(self.word, key, habit))
-
-    def discard(self, habit: c.HabitWords, key: int) -> bool:
-        return _tended(c.exports.nm_worker_remove(self.word, key, habit))
-
-    def advance(self) -> bool:
-        """Moves the epoch on by one: whether it has moved, by this worker or by another one."""
-        epoch, behind = c_uint64(), c_uint32()
-        return c.exports.nm_worker_advance(self.word, epoch, behind) not in (c.BEHIND, c.SPENT)
-
-    def advance_all(self) -> None:
-        for _ in range(_MOVES):
-            if not self.advance():
-                return
-
-    def collect(self) -> int:
-        epoch, freed = c_uint64(), c_uint64()
-        c.exports.nm_worker_collect(self.word, epoch, freed)
-        return freed.value
-
-    def queue_len(self) -> int:
-        nodes = c_uint64()
-        c.exports.nm_worker_queue_len(self.word, nodes)
-        return nodes.value
-
-    def rest(self, habit: c.HabitWords) -> None:
-        """Gets the worker ready to rest: it holds nothing back, and its discard is finished where
-        the bound allows."""
-        c.exports.nm_worker_unpin(self.word)
-        for _ in range(habit.rounds + 1):
-            if c.exports.nm_worker_finish(self.word, habit.tries) >= 0:
-                return
+def _is_open(handle: c.Handle) -> bool:
+    outcome: int = c.quick.nm_worker_number(handle, c_uint32())
+    return outcome != c.CLOSED
 
 
-def _tended(outcome: int) -> bool:
-    """What a call that tends the set tells: contention, where its bound was reached before anything
-    of it stood, also for a discard of before."""
-    return told(c.BUSY if outcome == c.PENDING else outcome)
-
-
-class _Seat:
-    """The place of one worker. `hand` is None while the worker is in the set, or with a thread."""
-
-    def __init__(self) -> None:
-        self.lock = threading.Lock()
-        self.hand: Optional[_Hand] = None
-        self.is_away = False
-
-
-class Set:
+class Set(Keys):
     """A set of the whole numbers from 0 to 2^64 - 4 that threads share without locks.
 
-    Any thread may call it: the set gives it one of its workers for the call, mostly the one that it
-    had before. A thread that makes many calls takes a `Worker` of its own by `attach`.
+    Any thread may call it, by one of the set's workers that is free at that moment; where each is
+    in a call of another thread, or with a `Worker`, the call waits for one. A thread that makes
+    many calls may take a `Worker` of its own by `attach`.
 
     The calls tend the set: one that lost its tries to other threads is made again, a discard that
     has begun is finished, and from so many waiting nodes on the epoch is moved on and the worker's
     removed nodes are collected. What a call may spend is bounded by `Tending`; where that is not
     enough `Contention` is raised, or `Unfinished` of a discard that has begun. All of this is the
-    library's, and proved. That a worker is found for each call, and that before `Full` is raised
-    the removed nodes of all workers that nobody uses are collected too, four times at most, is this
-    module's, which is tested and not proved.
+    library's, and proved. That a worker is found for each call, that removed nodes which wait with
+    workers that nobody uses are collected too, and that an add waits for them before `Full` is
+    raised, is this module's, which is tested and not proved.
 
-    In a child that was forked of a process with threads, no set may be used.
+    A signal handler may make any call, `close` too, and may raise an exception in the middle of
+    any: no call hangs, nothing is lost, and the call that was interrupted was made or was not made.
+    A call behind such a close raises `Closed`. In a forked child each call raises `Forked`.
     """
 
     def __init__(
         self,
-        nodes: SupportsIndex,
+        iterable: Union[Iterable[SupportsIndex], SupportsIndex] = (),
         *,
+        nodes: Optional[SupportsIndex] = None,
         workers: SupportsIndex = 64,
-        lowest: bool = False,
+        shape: Shape = "radix",
         tending: Tending = Tending(),
     ) -> None:
-        """The empty set with room for 7 to 268,435,456 nodes, for 1 to 64 workers; n keys take
-        2 n + 5 nodes, and the removed nodes that wait take theirs. With `lowest` new nodes take the
-        lowest free slot, which takes long where there are many."""
-        self._handle = _Handle()
-        room, count = _narrow(nodes, c.NODES), _narrow(workers, c.WORKERS)
-        make = c.exports.nm_set_lowest if lowest else c.exports.nm_set_near
-        told(make(self._handle.word, room, count))
+        """The set of these keys, or the empty one, with room for 7 to 268,435,456 nodes, for 1 to
+        64 workers. `Set(65_536)` has so many nodes, as `Set(nodes=65_536)` has: where none are
+        named, four for each key that is given, and 65,536 at least. n keys take 2 n + 5 nodes, and
+        the removed nodes that wait to be freed take theirs.
+
+        In a set of the shape "radix" no call goes over more than 66 nodes, whatever keys come in
+        whatever order. "near" and "lowest" are the tree that the order of keys shapes, in which
+        ascending keys cost a step for each key that stands; with "lowest" each new node is the one
+        with the lowest number, which takes long where there are many."""
+        if isinstance(iterable, Iterable):
+            keys = words_of(iterable)
+        elif nodes is None:
+            keys, nodes = words_of(()), operator.index(iterable)
+        else:
+            raise TypeError("the number of nodes is given twice")
+        room = max(_NODES, 4 * len(keys)) if nodes is None else nodes
+        self._nodes, self._tending = _narrow(room, "nodes", 7, MOST_NODES), tending
+        count = _narrow(workers, "workers", 1, MOST_WORKERS)
+        if shape not in MAKERS:
+            raise ValueError(f'the shape is not "radix", "near" or "lowest": {shape!r}')
+        self._process = os.getpid()
         self._habit = c.HabitWords(tending.tries, tending.rounds, tending.collect_after)
-        self._lost: deque[tuple[_Hand, int]] = deque()
-        self._seats = [_Seat() for _ in range(count)]
-        self._numbers = range(count)
-        self._last = threading.local()
+        self._places = (c.Place * count)()
+        self._calls = Calls(self._places, self._habit)
+        self._handles = [place.handle for place in self._places]
+        self._handle = c.Handle()
+        self._owner = Owner()
+        drop_with(self._owner, [self._handle, *self._handles])
+        self._used: set[int] = set()  # the numbers of workers that may have made a call
+        self._taken: dict[int, weakref.ref[Worker]] = {}
+        self._closer = threading.RLock()
+        self._is_closing = False
         self._report: Optional[Report] = None
+        told(getattr(c.exports, MAKERS[shape])(self._handle, self._nodes, count))
+        self._reader = Reader(self._handle, count)
+        self.add_many(keys)
 
-    def _seated(self, number: int) -> Optional[_Hand]:
-        """The worker on a seat whose lock this thread has, taken out of the set where nobody has
-        used it yet."""
-        seat = self._seats[number]
-        if seat.hand is None and not seat.is_away:
-            handle = _Handle()
-            told(c.exports.nm_set_worker(self._handle.word, handle.word, number))
-            seat.hand = _Hand(handle)
-            seat.hand.rest(self._habit)
-        return seat.hand
+    @property
+    def nodes(self) -> int:
+        """For how many nodes it has room."""
+        return self._nodes
 
-    def _free_seat(self, asked: Optional[int]) -> int:
-        """The number of a worker that nobody uses at this moment, on whose seat this thread has the
-        lock now: the one that is asked for, else the first by number. While one was locked, it
-        looks again."""
-        self._find()
-        for _ in range(_SEARCHES):
-            is_one_locked = False
-            for number in self._numbers if asked is None else [asked, *self._numbers]:
-                lock = self._seats[number].lock
-                if not lock.acquire(blocking=False):
-                    is_one_locked = True
-                    continue
-                is_found = False
-                try:
-                    is_found = self._seated(number) is not None
-                finally:
-                    if not is_found:
-                        lock.release()
-                if is_found:
-                    return number
-            if not is_one_locked:
+    @property
+    def workers(self) -> int:
+        """How many workers it has."""
+        return len(self._handles)
+
+    # ---- a worker for each call ----
+
+    def _need_open(self) -> None:
+        if os.getpid() != self._process:
+            raise forked(self._process)
+        if self._is_closing:
+            raise closed()
+
+    def _again(self, call: Callable[..., _T], *arguments: object) -> _T:
+        """Makes a call again that found each handle closed or in use, or no free nodes, until it
+        has one."""
+        waits = fulls = 0
+        while True:
+            try:
+                return call(*arguments)
+            except (Closed, InUse):
+                is_full = False
+            except Full:
+                is_full = True
+            self._need_open()
+            if is_full:
+                self._make_room(fulls)
+                fulls += 1
+            elif not self._hire():
+                self._fail_alone()
+                _nap(waits)
+                waits += 1
+
+    def _note(self, handle: c.Handle) -> Optional[int]:
+        """Writes down the number of a worker that may have made a call."""
+        number = c_uint32()
+        if c.quick.nm_worker_number(handle, number) != c.DONE:
+            return None
+        self._used.add(number.value)
+        return number.value
+
+    def _hire(self) -> bool:
+        """Takes a worker for one more handle of the set, and tells whether there is one more."""
+        for at, handle in enumerate(self._handles):
+            outcome = c.exports.nm_set_attach(self._handle, handle)
+            if outcome in (c.OPEN, c.IN_USE) and at < self._calls.reach:
+                continue
+            if outcome in (c.AWAY, c.IN_USE):
+                return False
+            self._succeed(outcome)
+            _rest(handle, self._habit)
+            self._note(handle)
+            self._calls.reach = max(self._calls.reach, at + 1)
+            return True
+        return False
+
+    def _succeed(self, outcome: int) -> None:
+        """Raises what a take of a worker has told, where it has not taken one."""
+        if outcome in (c.CLOSED, c.KIND, c.CLOSING):
+            raise closed()
+        if outcome not in (c.DONE, c.OPEN):
+            raise fault(outcome)
+
+    def _spare(self, number: Optional[int] = None) -> bool:
+        """Lets a worker of the set's own handles, or the one of a number, go home: whether one
+        went."""
+        for handle in reversed(self._handles):
+            has = self._note(handle)
+            if has is None or number not in (None, has):
+                continue
+            _rest(handle, self._habit)
+            if c.exports.nm_drop(handle) == c.DONE:
+                return True
+        return False
+
+    def _out(self) -> Iterator[Worker]:
+        """Each worker that is with a thread."""
+        for lease in self._taken.copy().values():
+            worker = lease()
+            if worker is not None and worker.is_open():
+                yield worker
+
+    def _fail_alone(self) -> None:
+        """Raises `NoWorker` where this thread has each worker itself, so that nobody else can give
+        one back."""
+        mine = [worker for worker in self._out() if worker._thread == threading.get_ident()]
+        if len(mine) == self.workers:
+            raise self._no_worker("this thread itself has")
+
+    def _no_worker(self, who: str) -> NoWorker:
+        return NoWorker(f"{who} each of the {self.workers} workers of the set (64 at most)")
+
+    # ---- room for an add ----
+
+    def _relieve(self, own: Optional[c.Handle] = None) -> int:
+        """Frees what can be freed, with a worker and with all that nobody uses: how many nodes."""
+        freed = 0 if own is None else _collect(own)
+        self._fetch()
+        return freed + sum(map(_collect, self._handles[: self._calls.reach]))
+
+    def _make_room(self, turn: int, own: Optional[c.Handle] = None) -> None:
+        """What an add does that found no free nodes, so many times already: it collects, and sleeps
+        where nothing was freed. `Full`, where the keys take all nodes, or that has lasted too
+        long."""
+        freed = self._relieve(own)
+        if turn >= self._tending.patience + _AT_ONCE or (not freed and self._is_brimful()):
+            raise self._full()
+        if turn >= _AT_ONCE or not freed:
+            time.sleep(_NAP if self._tending.patience else 0)
+
+    def _is_brimful(self) -> bool:
+        """Whether no nodes are left for one more key, and none is to be freed."""
+        keys, waiting = self._tally()
+        return not waiting and 2 * keys + 7 > self._nodes
+
+    def _full(self) -> Full:
+        keys, waiting = self._tally()
+        told = (
+            f"the set is full: its {keys:,} keys take {2 * keys + 5:,} of its {self._nodes:,}"
+            f" nodes, and {waiting:,} wait to be freed"
+        )
+        behind = self._behind()
+        if behind:
+            told += f"; {those(behind)} in their way, by a pin or in a call"
+        return Full(told)
+
+    def _behind(self) -> list[int]:
+        """The workers that hold the epoch back at this moment."""
+        epoch, mask = c_uint64(), c_uint64()
+        for handle in [*self._handles, *(worker._handle for worker in self._out())]:
+            if c.quick.nm_worker_behind(handle, epoch, mask) == c.DONE:
                 break
-            time.sleep(0)
-        raise NoWorker("each worker is with another thread")
+        return [number for number in range(self.workers) if mask.value >> number & 1]
 
-    def _with_any(self, call: Callable[[_Hand], _T]) -> _T:
-        """Makes a call by a worker that nobody uses at this moment: the one that this thread used
-        last, where it is free."""
-        number = self._free_seat(getattr(self._last, "number", None))
-        seat = self._seats[number]
-        try:
-            self._last.number = number
-            hand = seat.hand
-            assert hand is not None
-            return call(hand)
-        finally:
-            seat.lock.release()
+    def _fetch(self) -> None:
+        """Takes each worker that is home and may have made a call, for the handles of the set."""
+        for number in sorted(self._used):
+            if self._is_away(number):
+                continue
+            for at, handle in enumerate(self._handles):
+                if c.exports.nm_set_worker(self._handle, handle, number) == c.DONE:
+                    _rest(handle, self._habit)
+                    self._calls.reach = max(self._calls.reach, at + 1)
+                    break
 
-    def _relieve(self, own: _Hand) -> int:
-        """Frees what can be freed, in the queues of a worker and of all that nobody uses; then lets
-        other threads go on."""
-        own.advance_all()
-        freed = own.collect()
-        for seat in self._seats:
-            if seat.lock.acquire(blocking=False):
-                try:
-                    if seat.hand is not None:
-                        freed += seat.hand.collect()
-                finally:
-                    seat.lock.release()
-        time.sleep(0)
-        return freed
+    def _is_away(self, number: int) -> bool:
+        """Whether some handle has the worker of a number."""
+        return self._soon(c.exports.nm_set_away, number) == c.YES
 
-    def __contains__(self, key: SupportsIndex) -> bool:
-        number = _key(key)
-        return self._with_any(lambda hand: hand.has(self._habit, number))
+    def _soon(self, call: Callable[..., int], *arguments: object) -> int:
+        """Makes a call by the handle of the set, again while others have it longer than the
+        library waits for."""
+        turn, outcome = 0, c.IN_USE
+        while outcome == c.IN_USE:
+            outcome = call(self._handle, *arguments)
+            if outcome == c.IN_USE:
+                _nap(turn)
+                turn += 1
+        return outcome
 
-    def contains_many(self, keys: Iterable[SupportsIndex]) -> list[bool]:
-        """Whether the set has each of these keys, in their order, by one call of the library. Each
-        answer was right at a moment of the call, two of them perhaps at different ones."""
-        numbers = [_key(key) for key in keys]
-        return self._with_any(lambda hand: hand.has_many(self._habit, numbers))
-
-    def at_least(self, key: SupportsIndex) -> Optional[int]:
-        """The least key of the set that is not below this one, or None where there is none. At a
-        moment of the call the set had the key, and of each key that was passed over there was one
-        at which it had it not: two of these moments may differ."""
-        number = _key(key)
-        return self._with_any(lambda hand: hand.at_least(self._habit, number))
-
-    def __iter__(self) -> Iterator[int]:
-        """The keys, ascending, while the set is in use, by a call of `at_least` for each. Keys that
-        are added or discarded meanwhile may be told or not."""
-        key = self.at_least(0)
-        while key is not None:
-            yield key
-            key = self.at_least(key + 1) if key < MOST_KEY else None
+    def _tally(self) -> tuple[int, int]:
+        """How many keys the set has, and how many nodes wait: as each worker tells it at a moment
+        of the call."""
+        self._need_open()
+        self._fetch()
+        keys = waiting = 0
+        for calls in [self._calls, *(worker._calls for worker in self._out())]:
+            for turn in range(_LOOKS):
+                count, nodes, missed = calls.tally()
+                if not missed:
+                    break
+                _nap(turn)
+            keys, waiting = keys + count, waiting + nodes
+        self._need_open()  # since what went home for a close was not counted
+        return max(keys, 0), waiting
 
     def __len__(self) -> int:
-        """How many keys it went over, one after the other."""
-        return sum(1 for _ in self)
+        """How many keys the set has, by what each worker has added and removed: exact where no
+        thread makes a call meanwhile, else so far off as is changed meanwhile. It takes a step for
+        each worker that was used, and none for a key."""
+        return self._tally()[0]
 
-    def __bool__(self) -> bool:
-        return self.at_least(0) is not None
+    def waiting(self) -> int:
+        """How many removed nodes wait to be freed, as exact as `len`."""
+        return self._tally()[1]
 
-    def add(self, key: SupportsIndex) -> bool:
-        """Adds a key: True where it was not in the set."""
-        number = _key(key)
-        return self._with_any(lambda hand: hand.add(self._habit, number, self._relieve))
-
-    def discard(self, key: SupportsIndex) -> bool:
-        """Removes a key: True where it was in the set."""
-        number = _key(key)
-        return self._with_any(lambda hand: hand.discard(self._habit, number))
-
-    def remove(self, key: SupportsIndex) -> None:
-        """Removes a key, or raises KeyError where it was not in the set."""
-        if not self.discard(key):
-            raise KeyError(key)
+    def free(self) -> int:
+        """How many nodes are free, as exact as `len`: an add takes two."""
+        keys, waiting = self._tally()
+        return max(self._nodes - 5 - 2 * keys - waiting, 0)
 
     def collect(self) -> int:
         """Moves the epoch on as far as can be, and frees what has waited long enough, of all
         workers that nobody uses: how many nodes."""
-        return self._with_any(self._relieve)
+        self._need_open()
+        return self._relieve()
 
-    def attach(self) -> Worker:
-        """Takes a worker that nobody uses, for this thread; the least number comes first. It
-        goes back by its `close`."""
-        taken = self._taken(self._free_seat(None))
-        assert taken is not None
-        return taken
+    # ---- workers for threads ----
+
+    def attach(self, blocking: bool = True, timeout: float = -1) -> Worker:
+        """Takes a worker for this thread; the least number comes first. It goes back by its
+        `close`. As `threading.Lock.acquire` does, it waits while each worker is with a thread, for
+        as long as that is, or for a timeout in seconds; it raises `NoWorker` behind that, and at
+        once where it is not to block, or where this thread itself has each worker."""
+        if not blocking and timeout != -1:
+            raise ValueError("can't specify a timeout for a non-blocking call")
+        if timeout < 0 and timeout != -1:
+            raise ValueError("timeout value must be a non-negative number")
+        until = None if timeout == -1 else time.monotonic() + timeout
+        worker, turn = Worker(self), 0
+        while not self._lend(worker):
+            self._fail_alone()
+            if not blocking or (until is not None and time.monotonic() >= until):
+                raise self._no_worker("threads have")
+            _nap(turn)
+            turn += 1
+        return worker
+
+    def _lend(self, worker: Worker, number: Optional[int] = None) -> bool:
+        """Takes a worker that is home, or the one of a number, else one that the set itself has:
+        whether there was one."""
+        self._need_open()
+        outcome = self._asked(worker, number)
+        while outcome == c.AWAY and self._spare(number):
+            outcome = self._asked(worker, number)
+        if outcome in (c.AWAY, c.IN_USE):
+            return False
+        self._succeed(outcome)
+        try:
+            _rest(worker._handle, self._habit)
+            taken = self._note(worker._handle)
+            if taken is not None:
+                worker._number = taken
+                self._taken[taken] = weakref.ref(worker)
+            self._need_open()
+        except BaseException:
+            c.exports.nm_drop(worker._handle)
+            raise
+        return True
+
+    def _asked(self, worker: Worker, number: Optional[int]) -> int:
+        outcome: int
+        if number is None:
+            outcome = c.exports.nm_set_attach(self._handle, worker._handle)
+        else:
+            outcome = c.exports.nm_set_worker(self._handle, worker._handle, number)
+        return outcome
 
     def worker(self, number: SupportsIndex) -> Worker:
-        """Takes the worker of a number. It waits for a call that another thread makes by it at this
-        moment."""
+        """Takes the worker of a number, for this thread. It waits for a call that another thread
+        makes by it at this moment; `Away`, where it is with a thread."""
         index = operator.index(number)
-        if not 0 <= index < len(self._seats):
-            raise fault(c.NUMBER)
-        self._find()
-        self._seats[index].lock.acquire()
-        taken = self._taken(index)
-        if taken is None:
-            raise fault(c.AWAY)
-        return taken
+        if not 0 <= index < self.workers:
+            raise OutOfRange(f"the set has workers 0 to {self.workers - 1}, and none {index}")
+        worker = Worker(self)
+        for turn in range(_LOOKS):
+            if self._lend(worker, index):
+                return worker
+            if any(other._number == index for other in self._out()):
+                break
+            _nap(turn)
+        raise Away(f"{those([index])} with a thread")
 
-    def _taken(self, number: int) -> Optional[Worker]:
-        """Takes the worker from a seat whose lock this thread has, and gives the lock back."""
-        seat = self._seats[number]
-        try:
-            hand = self._seated(number)
-            if hand is None:
-                return None
-            seat.hand, seat.is_away = None, True
-            return Worker(self, hand, number)
-        finally:
-            seat.lock.release()
-
-    def _receive(self, hand: _Hand, number: int) -> None:
-        hand.rest(self._habit)
-        seat = self._seats[number]
-        with seat.lock:
-            seat.hand, seat.is_away = hand if hand.word.at else None, False
-
-    def _find(self) -> None:
-        """Takes back the workers whose objects have ended. Those ends may come at any moment, also
-        while a seat's lock is held, so they leave the workers in a list. Where the object was part
-        of a ring, its handle has ended with it, and the worker is in the set again."""
-        while True:
-            try:
-                hand, number = self._lost.popleft()
-            except IndexError:
-                return
-            self._receive(hand, number)
+    # ---- the end ----
 
     def close(self) -> Report:
-        """Ends the set, and tells what stood in it, where no `Worker` is out; of a set that is
-        closed it tells the same again. It waits for calls that other threads make at this moment; a
-        later call raises `Closed`."""
-        self._find()
-        for seat in self._seats:
-            seat.lock.acquire()
-        try:
-            if self._report is None:
-                self._report = self._ended()
-            return self._report
-        finally:
-            for seat in self._seats:
-                seat.lock.release()
+        """Ends the set, and tells what stood in it, where no `Worker` is out, else it raises `Away`
+        and the set goes on; of a set that is closed it tells the same again. It waits for calls
+        that other threads make at this moment; each later call, and each that waits, raises
+        `Closed`. A close that was interrupted is gone on with by the next one, or by the end of the
+        object, and calls raise `Closed` meanwhile."""
+        if self._report is None:
+            if os.getpid() != self._process:
+                raise forked(self._process)
+            with self._closer:
+                if self._report is None:
+                    self._end()
+        assert self._report is not None
+        return self._report
 
-    def _ended(self) -> Report:
-        if any(seat.is_away for seat in self._seats):
-            raise fault(c.AWAY)
-        for seat in self._seats:
-            if seat.hand is not None:
-                seat.hand.rest(self._habit)
-                seat.hand.handle.drop()
-                seat.hand = None
-        told(c.exports.nm_set_close(self._handle.word))
-        report = _report(self._handle.word, len(self._seats))
-        self._handle.drop()
-        return report
+    def _end(self) -> None:
+        if not self._is_closing:
+            self._fail_away(sorted(worker._number for worker in self._out()))
+        self._is_closing = True
+        outcome = c.AWAY
+        while outcome == c.AWAY:
+            self._give_back()
+            outcome = self._soon(c.exports.nm_set_close)
+            if outcome == c.AWAY:
+                self._look_for_missed()
+        if outcome not in (c.DONE, c.KIND, c.CLOSED):
+            raise fault(outcome)
+        try:
+            self._report = self._reader.read()
+        except Closed:  # a signal handler has closed the set meanwhile
+            if self._report is None:
+                raise
+        c.exports.nm_drop(self._handle)
+
+    def _look_for_missed(self) -> None:
+        """Raises `Away`, and the set goes on, where a close has missed workers that were attached
+        as it began. One that a call of the set has taken meanwhile goes home before the next
+        look."""
+        missed = [number for number in range(self.workers) if self._is_away(number)]
+        if not any(map(_is_open, self._handles)) and missed:
+            self._is_closing = False
+            self._fail_away(missed)
+
+    def _fail_away(self, numbers: list[int]) -> None:
+        if numbers:
+            raise Away(f"{those(numbers)} with a thread: close what attach gave before the set")
+
+    def _give_back(self) -> None:
+        """Lets each worker of the set's own handles go home, behind the calls that others make."""
+        for handle in self._handles:
+            turn, outcome = 0, c.IN_USE
+            while outcome == c.IN_USE:
+                _rest(handle, self._habit)
+                outcome = c.exports.nm_drop(handle)
+                if outcome == c.IN_USE:
+                    _nap(turn)
+                    turn += 1
 
     @property
     def report(self) -> Report:
         """What the set was closed with. It raises `Away` while the set is open."""
         if self._report is None:
-            raise fault(c.AWAY)
+            raise Away("the set is open: its close tells what stands in it")
         return self._report
+
+    def __repr__(self) -> str:
+        return "Set(closed)" if self._is_closing else super().__repr__()
 
     def __enter__(self) -> Set:
         return self
@@ -471,167 +541,147 @@ class Set:
         error: Optional[BaseException],
         trace: Optional[TracebackType],
     ) -> None:
-        self.close()
+        """Closes the set. Where an exception leaves the `with`, that one goes on: the workers that
+        this thread took are given back, and where others are out the set is left to them. In a
+        forked child nothing is done."""
+        if os.getpid() != self._process:
+            return
+        if error is None:
+            self.close()
+            return
+        with suppress(Away, InUse):
+            for worker in self._out():
+                if worker._thread == threading.get_ident():
+                    worker.close()
+            self.close()
 
 
-def _report(word: c.Handle, workers: int) -> Report:
-    """Reads the report that a handle owns."""
-    free, reached = c_uint32(), c_uint32()
-    count, key, node = c_uint64(), c_uint64(), c.WaitingWords()
-    told(c.exports.nm_report_slots(word, free, reached))
-    told(c.exports.nm_report_keys(word, count))
-    keys = []
-    for index in range(count.value):
-        told(c.exports.nm_report_key(word, index, key))
-        keys.append(key.value)
-    waiting = []
-    for worker in range(workers):
-        nodes = []
-        while told(c.exports.nm_report_waiting(word, worker, node)):
-            nodes.append(Waiting(node.slot, node.birth, node.label))
-        waiting.append(tuple(nodes))
-    return Report(tuple(keys), free.value, reached.value, tuple(waiting))
-
-
-class Worker:
-    """One worker of a set, for one thread at a time: a call while another thread is in one raises
-    `InUse`.
+class Worker(Keys):
+    """One worker of a set, for one thread at a time, with the set's calls.
 
     `close`, or the end of its `with`, sends it back to its set; so does the end of the object
-    itself.
+    itself. Of two threads that call by it at once one waits for the other, and raises `InUse` where
+    that lasts for a second. A signal handler may close it in the middle of a call, which then was
+    made, or raises `Closed`.
     """
 
-    def __init__(self, owner: Set, hand: _Hand, number: int) -> None:
-        self._set, self._number = owner, number
-        self._hand: Optional[_Hand] = hand
-        self._lock = threading.Lock()
+    def __init__(self, owner: Set) -> None:
+        """`Set.attach` and `Set.worker` make workers."""
+        self._set = owner
+        self._places = (c.Place * 1)()
+        self._handle = self._places[0].handle
+        self._number = -1
+        self._thread = threading.get_ident()
+        self._owner = Owner()
+        send_home_with(self._owner, self._handle, owner._habit.tries)
+        self._calls = Calls(self._places, owner._habit)
+        self._calls.reach = 1
 
-    def _with(self, call: Callable[[_Hand], _T]) -> _T:
-        if not self._lock.acquire(blocking=False):
-            raise fault(c.IN_USE)
-        try:
-            if self._hand is None:
-                raise fault(c.CLOSED)
-            return call(self._hand)
-        finally:
-            self._lock.release()
+    def _again(self, call: Callable[..., _T], *arguments: object) -> _T:
+        waits = fulls = 0
+        while True:
+            try:
+                return call(*arguments)
+            except InUse:
+                if waits >= _LOOKS:
+                    raise
+                is_full = False
+            except Full:
+                is_full = True
+            if is_full:
+                self._set._make_room(fulls, self._handle)
+                fulls += 1
+            else:
+                _nap(waits)
+                waits += 1
+
+    def _told(self, call: Callable[..., int], *arguments: object) -> bool:
+        """Makes a call of the library by the worker, again while another call has it."""
+        if os.getpid() != self._set._process:
+            raise forked(self._set._process)
+        return self._again(lambda: told(call(self._handle, *arguments)))
 
     @property
     def number(self) -> int:
         """Its number, below the number of workers."""
         return self._number
 
-    def __contains__(self, key: SupportsIndex) -> bool:
-        number = _key(key)
-        return self._with(lambda hand: hand.has(self._set._habit, number))
+    def is_open(self) -> bool:
+        """Whether it was not closed."""
+        return _is_open(self._handle)
 
-    def contains_many(self, keys: Iterable[SupportsIndex]) -> list[bool]:
-        """Whether the set has each of these keys, in their order: see `Set.contains_many`."""
-        numbers = [_key(key) for key in keys]
-        return self._with(lambda hand: hand.has_many(self._set._habit, numbers))
+    def __len__(self) -> int:
+        """How many keys the set has: see `Set.__len__`."""
+        return len(self._set)
 
-    def at_least(self, key: SupportsIndex) -> Optional[int]:
-        """The least key that is not below this one, or None: see `Set.at_least`."""
-        number = _key(key)
-        return self._with(lambda hand: hand.at_least(self._set._habit, number))
+    def __repr__(self) -> str:
+        return super().__repr__() if self.is_open() else "Worker(closed)"
 
-    def add(self, key: SupportsIndex) -> bool:
-        """Adds a key: True where it was not in the set."""
-        number = _key(key)
-        return self._with(lambda hand: hand.add(self._set._habit, number, self._set._relieve))
-
-    def discard(self, key: SupportsIndex) -> bool:
-        """Removes a key: True where it was in the set."""
-        number = _key(key)
-        return self._with(lambda hand: hand.discard(self._set._habit, number))
-
-    def remove(self, key: SupportsIndex) -> None:
-        """Removes a key, or raises KeyError where it was not in the set."""
-        if not self.discard(key):
-            raise KeyError(key)
-
-    def pin(self, tries: int = 64) -> int:
+    def pin(self, tries: SupportsIndex = 64) -> int:
         """Pins the epoch until `unpin`, and tells it: nothing that is in the set now is freed
-        meanwhile."""
-
-        def call(hand: _Hand) -> int:
-            epoch = c_uint64()
-            told(c.exports.nm_worker_pin(hand.word, tries, epoch))
-            return epoch.value
-
-        return self._with(call)
+        meanwhile, so that adds of all threads may find the set full."""
+        epoch = c_uint64()
+        self._told(c.quick.nm_worker_pin, _narrow(tries, "tries"), epoch)
+        return epoch.value
 
     def unpin(self) -> None:
         """Ends the pin."""
-        self._with(lambda hand: told(c.exports.nm_worker_unpin(hand.word)))
+        self._told(c.quick.nm_worker_unpin)
 
     def collect(self) -> int:
         """Moves the epoch on as far as can be, and frees what has waited long enough in its own
         queue: how many nodes."""
-
-        def call(hand: _Hand) -> int:
-            hand.advance_all()
-            return hand.collect()
-
-        return self._with(call)
+        self._told(c.quick.nm_worker_number, c_uint32())
+        return _collect(self._handle)
 
     def pending(self) -> Optional[int]:
         """The key of a discard that has begun and not answered yet."""
-
-        def call(hand: _Hand) -> Optional[int]:
-            key = c_uint64()
-            return key.value if told(c.exports.nm_worker_pending(hand.word, key)) else None
-
-        return self._with(call)
+        key = c_uint64()
+        return key.value if self._told(c.quick.nm_worker_pending, key) else None
 
     def queue_len(self) -> int:
         """How many nodes wait in its queue."""
-        return self._with(lambda hand: hand.queue_len())
+        return self.ledger().queued
 
     def ledger(self) -> Ledger:
         """What it has won, and what became of what it cut off."""
-
-        def call(hand: _Hand) -> Ledger:
-            words = c.LedgerWords()
-            told(c.exports.nm_worker_ledger(hand.word, words))
-            return Ledger(*(getattr(words, name) for name, _ in words._fields_))
-
-        return self._with(call)
+        words = c.LedgerWords()
+        self._told(c.quick.nm_worker_ledger, words)
+        return Ledger(*(getattr(words, name) for name, _ in words._fields_))
 
     def post(self) -> Posted:
         """Leaves a note of all that the worker has seen, in place of its earlier one, and tells
         what it has won so far. No answer of the set depends on notes: they are for who proves
         something of the order of two workers' calls. It raises `Contention` where a reader has the
         earlier note at this moment."""
-
-        def call(hand: _Hand) -> Posted:
-            links, flags = c_uint64(), c_uint64()
-            told(c.exports.nm_worker_post(hand.word, links, flags))
-            return Posted(links.value, flags.value)
-
-        return self._with(call)
+        links, flags = c_uint64(), c_uint64()
+        self._told(c.quick.nm_worker_post, links, flags)
+        return Posted(links.value, flags.value)
 
     def read(self, number: SupportsIndex) -> Optional[Posted]:
         """Hears the note that the worker of a number has left, and tells what that one had won
         then, or None where it has left none: all that this worker is asked from now on comes behind
         all that that one had seen. It raises `Contention` where another worker is at that note at
         this moment."""
-        writer = _narrow(number, c.NUMBER)
-
-        def call(hand: _Hand) -> Optional[Posted]:
-            links, flags = c_uint64(), c_uint64()
-            is_left = told(c.exports.nm_worker_read(hand.word, writer, links, flags))
-            return Posted(links.value, flags.value) if is_left else None
-
-        return self._with(call)
+        writer = operator.index(number)
+        if not 0 <= writer < self._set.workers:
+            raise OutOfRange(f"the set has workers 0 to {self._set.workers - 1}, and none {writer}")
+        links, flags = c_uint64(), c_uint64()
+        is_left = self._told(c.quick.nm_worker_read, writer, links, flags)
+        return Posted(links.value, flags.value) if is_left else None
 
     def close(self) -> None:
         """The worker goes back to its set; its discard is finished where the bound allows, and its
-        pin is ended."""
-        with self._lock:
-            hand, self._hand = self._hand, None
-        if hand is not None:
-            self._set._receive(hand, self._number)
+        pin is ended. It waits for a call that another thread makes by it, for a second, and raises
+        `InUse` then."""
+        if os.getpid() != self._set._process:
+            return
+        for turn in range(_LOOKS):
+            _rest(self._handle, self._set._habit)
+            if c.exports.nm_drop(self._handle) != c.IN_USE:
+                return
+            _nap(turn)
+        raise fault(c.IN_USE)
 
     def __enter__(self) -> Worker:
         return self
@@ -643,8 +693,3 @@ class Worker:
         trace: Optional[TracebackType],
     ) -> None:
         self.close()
-
-    def __del__(self) -> None:
-        hand = getattr(self, "_hand", None)
-        if hand is not None:
-            self._set._lost.append((hand, self._number))

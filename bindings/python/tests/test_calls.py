@@ -1,8 +1,14 @@
 """Each call by one thread, and each fault that one thread can meet."""
 
+import copy
 import gc
+import pickle
+import time
 import typing
 import unittest
+from decimal import Decimal
+from fractions import Fraction
+from unittest import mock
 
 import nm_set
 from nm_set import MOST_KEY, Set, Tending
@@ -22,8 +28,8 @@ class Sizes(unittest.TestCase):
 
 class Keys(unittest.TestCase):
     def test_keys_come_and_go(self) -> None:
-        for lowest in (False, True):
-            with Set(64, lowest=lowest) as numbers:
+        for shape in ("radix", "near", "lowest"):
+            with Set(64, shape=shape) as numbers:
                 self.assertNotIn(5, numbers)
                 self.assertEqual((numbers.add(5), numbers.add(5)), (True, False))
                 self.assertIn(5, numbers)
@@ -42,13 +48,33 @@ class Keys(unittest.TestCase):
     def test_what_is_no_key_is_told(self) -> None:
         with Set(64) as numbers:
             for key in (MOST_KEY + 1, 2**64, 2**64 + 5, -1):
-                for call in (numbers.add, numbers.discard, numbers.__contains__, numbers.remove):
+                with self.assertRaisesRegex(nm_set.OutOfRange, f"the key {key} is not 0 to 18,4"):
+                    numbers.add(key)
+                for call in (numbers.at_least, lambda key: numbers.add_many([3, key])):
                     with self.assertRaises(nm_set.OutOfRange):
                         call(key)
             for other in ("5", 5.0, None):
                 with self.assertRaises(TypeError):
                     numbers.add(other)  # type: ignore[arg-type]
         self.assertEqual(len(numbers.report), 0)
+
+    def test_what_is_no_key_is_in_no_set(self) -> None:
+        with Set([0, 5, MOST_KEY], nodes=64) as numbers:
+            for key in (MOST_KEY + 1, 2**64, 2**64 + 5, -1, "5", 5.5, None, float("inf"), 1j, {5}):
+                self.assertNotIn(key, numbers)
+                self.assertFalse(numbers.contains(key) or numbers.discard(key))
+                with self.assertRaises(KeyError) as raised:
+                    numbers.remove(key)
+                self.assertEqual(raised.exception.args, (key,))
+            for other in ([5], {}):
+                for call in (numbers.__contains__, numbers.discard, numbers.remove):
+                    with self.assertRaises(TypeError):
+                        call(other)
+            for same in (5, 5.0, Fraction(5), Decimal(5)):
+                self.assertIn(same, numbers)
+                self.assertTrue(numbers.discard(same) and numbers.add(5))
+            self.assertIn(False, numbers)
+            self.assertEqual(numbers, {0, 5, MOST_KEY})
 
     def test_faults_are_exceptions_of_python_too(self) -> None:
         self.assertTrue(issubclass(nm_set.NoMemory, MemoryError))
@@ -58,7 +84,36 @@ class Keys(unittest.TestCase):
         with self.assertRaises(nm_set.Full) as raised:
             numbers.add(6)
         self.assertEqual(raised.exception.outcome, -10)
-        self.assertEqual(str(raised.exception), "no slots are free for the new nodes")
+        self.assertEqual(
+            str(raised.exception),
+            "the set is full: its 1 keys take 7 of its 7 nodes, and 0 wait to be freed",
+        )
+
+
+class Numbers(unittest.TestCase):
+    def test_no_number_wraps(self) -> None:
+        with Set(64, workers=2) as numbers, numbers.attach() as worker:
+            for number in (-1, 2**32, 2**64 + 5):
+                for name in ("tries", "rounds", "collect_after", "patience"):
+                    with self.assertRaisesRegex(nm_set.OutOfRange, f"{name} is not .*: {number}"):
+                        Tending(**{name: number})
+                for call in (worker.pin, worker.read, numbers.worker):
+                    with self.assertRaises(nm_set.OutOfRange):
+                        call(number)
+            for other in (1.5, "5", None):
+                for call in (Tending, worker.pin, worker.read, numbers.worker):
+                    with self.assertRaises(TypeError):
+                        call(other)
+        self.assertEqual(Tending(2**32 - 1, True).rounds, 1)
+
+    def test_nothing_is_copied(self) -> None:
+        with Set(64) as numbers, numbers.attach() as worker:
+            for own in (numbers, worker):
+                for call in (copy.copy, copy.deepcopy, pickle.dumps):
+                    with self.assertRaisesRegex(TypeError, "cannot be copied or pickled"):
+                        call(own)
+                with self.assertRaises(TypeError):
+                    hash(own)
 
 
 class SeveralKeys(unittest.TestCase):
@@ -102,7 +157,7 @@ class Notes(unittest.TestCase):
         with Set(64, workers=2) as numbers:
             with numbers.worker(0) as writer, numbers.worker(1) as reader:
                 self.assertIsNone(reader.read(0))
-                for number in (2, 2**32):
+                for number in (2, 2**32, -1):
                     with self.assertRaises(nm_set.OutOfRange):
                         reader.read(number)
                 writer.add(5)
@@ -165,21 +220,15 @@ class Workers(unittest.TestCase):
         self.assertTrue(5 in numbers and numbers.add(6))
         self.assertEqual(len(numbers.close()), 2)
 
+    @mock.patch("nm_set._set._LOOKS", 20)
     def test_one_thread_at_a_time_uses_a_worker(self) -> None:
         with Set(64).attach() as worker:
-            with worker._lock:
-                with self.assertRaises(nm_set.InUse):
-                    worker.add(5)
-            self.assertTrue(worker.add(5))
-
-    def test_the_library_tells_that_a_handle_is_in_use(self) -> None:
-        with Set(64).attach() as worker:
-            assert worker._hand is not None
-            worker._hand.word.in_use = 1
-            with self.assertRaises(nm_set.InUse) as raised:
-                worker.add(5)
-            self.assertEqual(raised.exception.outcome, -22)
-            worker._hand.word.in_use = 0
+            worker._handle.in_use = 1
+            for call in (lambda: worker.add(5), lambda: worker.add_many([5]), worker.close):
+                with self.assertRaises(nm_set.InUse) as raised:
+                    call()
+                self.assertEqual(raised.exception.outcome, -22)
+            worker._handle.in_use = 0
             self.assertTrue(worker.add(5))
 
     def test_the_least_number_comes_first(self) -> None:
@@ -254,14 +303,22 @@ class Tended(unittest.TestCase):
                 self.assertTrue(worker.add(6))
 
     def test_a_worker_that_holds_the_epoch_back_lets_full_be_told(self) -> None:
-        with Set(7, workers=2) as numbers:
-            with numbers.attach() as reader:
-                reader.pin()
-                self.assertTrue(numbers.add(5) and numbers.discard(5))
-                with self.assertRaises(nm_set.Full):
-                    numbers.add(6)
-                self.assertEqual(numbers.collect(), 0)
-            self.assertTrue(numbers.add(6))
+        for patience, least in ((0, 0), (32, 0.03)):
+            with Set(7, workers=2, tending=Tending(patience=patience)) as numbers:
+                with numbers.worker(1) as reader:
+                    reader.pin()
+                    self.assertTrue(numbers.add(5) and numbers.discard(5))
+                    begun = time.monotonic()
+                    with self.assertRaises(nm_set.Full) as raised:
+                        numbers.add(6)
+                    self.assertGreaterEqual(time.monotonic() - begun, least)
+                    self.assertEqual(
+                        str(raised.exception),
+                        "the set is full: its 0 keys take 5 of its 7 nodes, and 2 wait to be freed;"
+                        " worker 1 is in their way, by a pin or in a call",
+                    )
+                    self.assertEqual((numbers.collect(), numbers.waiting()), (0, 2))
+                self.assertTrue(numbers.add(6))
 
     def test_retired_nodes_are_collected_as_they_come_due(self) -> None:
         with Set(4_096, tending=Tending(collect_after=8)) as numbers:

@@ -1,15 +1,19 @@
 """Threads on one set: what they were answered adds up to the report."""
 
+import os
 import random
 import sys
 import threading
+import time
 import unittest
 from typing import Callable, Union
+from unittest import mock
 
 import nm_set
 from nm_set import Set, Tending, Worker
 
 THREADS, KEYS, CALLS = 4, 64, 2_000
+ROUNDS = int(os.environ.get("NM_SET_ROUNDS", "25"))  # of a close beside others
 Calls = Union[Set, Worker]
 
 
@@ -19,7 +23,7 @@ def answered(call: Callable[[int], bool], key: int) -> bool:
     while True:
         try:
             return call(key)
-        except (nm_set.Full, nm_set.Contention, nm_set.NoWorker):
+        except (nm_set.Full, nm_set.Contention):
             pass
         except nm_set.Unfinished:
             return True
@@ -111,19 +115,93 @@ class Threads(unittest.TestCase):
             at_once(thread)
         self.assertEqual(sorted(taken), [0, 1, 2, 3])
 
-    def test_more_threads_than_workers_are_told(self) -> None:
-        with Set(1_024, workers=2) as numbers:
+    def test_more_threads_than_workers_wait_for_one(self) -> None:
+        with Set(4_096, workers=2) as numbers:
 
-            def thread(_: int) -> None:
-                for key in range(200):
-                    try:
-                        self.assertNotIn(key, numbers)
-                    except nm_set.NoWorker:
-                        pass
+            def thread(number: int) -> None:
+                for key in range(number * 5, number * 5 + 5):
+                    self.assertTrue(numbers.add(key))
+                with numbers.attach() as worker:
+                    for key in range(number * 5, number * 5 + 4):
+                        self.assertTrue(key in worker and worker.discard(key))
 
-            at_once(thread, 8)
+            at_once(thread, 200)
+            self.assertEqual(len(numbers), 200)
+        self.assertEqual(numbers.report.keys, tuple(range(4, 1_000, 5)))
 
-    def test_a_set_is_closed_while_others_make_calls(self) -> None:
+    def test_a_call_waits_for_a_worker_that_is_with_a_thread(self) -> None:
+        with Set(64, workers=1) as numbers:
+            taken, may_end, told = threading.Event(), threading.Event(), []
+
+            def hold() -> None:
+                with numbers.attach() as worker:
+                    taken.set()
+                    may_end.wait()
+                    worker.add(5)
+
+            holder = threading.Thread(target=hold)
+            asker = threading.Thread(target=lambda: told.append(5 in numbers))
+            holder.start()
+            taken.wait()
+            asker.start()
+            words = "threads have each of the 1 workers of the set \\(64 at most\\)"
+            for waits in ({"blocking": False}, {"timeout": 0}, {"timeout": 0.05}):
+                with self.assertRaisesRegex(nm_set.NoWorker, words):
+                    numbers.attach(**waits)  # type: ignore[arg-type]
+            for wrong in ({"blocking": False, "timeout": 1}, {"timeout": -2}):
+                with self.assertRaises(ValueError):
+                    numbers.attach(**wrong)  # type: ignore[arg-type]
+            self.assertEqual(told, [])
+            may_end.set()
+            holder.join()
+            asker.join()
+            self.assertEqual(told, [True])
+
+    def test_a_thread_that_has_each_worker_itself_is_told(self) -> None:
+        numbers = Set(64, workers=2)
+        with numbers.attach(), numbers.attach():
+            for call in (numbers.attach, lambda: numbers.add(5), lambda: list(numbers)):
+                with self.assertRaisesRegex(nm_set.NoWorker, "this thread itself has each of"):
+                    call()
+        self.assertTrue(numbers.add(5))
+
+    def test_each_caller_beside_a_close_is_told_closed(self) -> None:
+        for each in range(ROUNDS):
+            numbers, told = Set(256, workers=5), []
+
+            def thread(number: int) -> None:
+                try:
+                    while number != 0:
+                        if number % 4 == 1:
+                            with numbers.attach() as worker:
+                                worker.add(number)
+                        elif number % 4 == 2:
+                            numbers.add_many([number, number + 20])
+                        else:
+                            numbers.add(number)
+                            numbers.discard(number)
+                    close(numbers)
+                except nm_set.Fault as error:
+                    told.append(error)
+
+            at_once(thread, 17)
+            kinds = {type(error) for error in told}
+            self.assertEqual((len(told), kinds), (16, {nm_set.Closed}), f"round {each}: {told}")
+            self.assertTrue(set(numbers.report) <= set(range(1, 40)))
+
+    def test_a_report_is_read_behind_who_still_asks_for_a_worker(self) -> None:
+        numbers = Set([3, 5])
+        read, handle = numbers._reader.read, numbers._handle
+
+        def read_beside() -> nm_set.Report:
+            handle.in_use = 1  # as another thread's call has it, for the moment of the call
+            threading.Timer(0.01, setattr, (handle, "in_use", 0)).start()
+            return read()
+
+        with mock.patch.object(numbers._reader, "read", read_beside):
+            self.assertEqual(numbers.close().keys, (3, 5))
+
+    def test_a_close_counts_what_callers_were_told(self) -> None:
         for _ in range(20):
             numbers, added = Set(1_024), [0, 0, 0]
 
@@ -134,11 +212,52 @@ class Threads(unittest.TestCase):
                 try:
                     for each in range(200):
                         added[number] += numbers.add(each * 2 + number)
-                except (nm_set.Closed, nm_set.NoWorker):
+                except nm_set.Closed:
                     pass
 
             at_once(thread, 3)
             self.assertEqual(len(numbers.report), sum(added))
+
+    def test_an_add_waits_for_a_pin_that_ends(self) -> None:
+        for patience, is_full in ((10_000, False), (0, True)):
+            with Set(7, workers=2, tending=Tending(patience=patience)) as numbers:
+                reader = numbers.attach()
+                reader.pin()
+                self.assertTrue(numbers.add(5) and numbers.discard(5))
+                timer = threading.Timer(0.03, reader.close)
+                timer.start()
+                if is_full:
+                    with self.assertRaises(nm_set.Full):
+                        numbers.add_many([6])
+                else:
+                    self.assertEqual(numbers.add_many([6]), 1)
+                timer.join()
+
+    def test_scarce_nodes_are_waited_for(self) -> None:
+        with Set(600, workers=16) as numbers:
+            faults = []
+
+            def thread(number: int) -> None:
+                drawn = random.Random(number)
+                for _ in range(150):
+                    try:
+                        numbers.add_many(drawn.choices(range(200), k=50))
+                    except nm_set.Full as error:
+                        faults.append(error)
+                    numbers.discard_many(drawn.choices(range(200), k=50))
+
+            at_once(thread, 16)
+            self.assertEqual(faults, [])
+
+
+def close(numbers: Set) -> None:
+    """Closes a set as soon as no worker is out."""
+    while True:
+        try:
+            numbers.close()
+            return
+        except nm_set.Away:
+            time.sleep(0)
 
 
 if __name__ == "__main__":

@@ -1,76 +1,93 @@
 //! What a call tells that has not answered.
 
 use crate::ffi::Outcome;
+use crate::numbers::Numbers;
+use crate::MOST_KEY;
 use std::fmt;
 
-/// Why a call has not answered. The numbers are those of `nm_outcome`, but for
-/// [`Fault::Contention`] and [`Fault::NoWorker`], which the crate tells itself.
+/// Why a call has not answered. Nothing has changed, where the line does not say more.
 #[derive(Clone, Copy, Debug, PartialEq, Eq, Hash)]
 #[non_exhaustive]
 pub enum Fault {
-    /// The key is above 2^64 - 4 ([`MOST_KEY`](crate::MOST_KEY)).
-    Key,
-    /// The number of nodes is not 7 to 268,435,456.
-    Nodes,
-    /// The number of workers is not 1 to 64.
-    Workers,
-    /// Memory was refused. Nothing has changed.
-    NoMemory,
-    /// No slots were free for the two new nodes of an insert, also after a collection. Nothing has
-    /// changed.
-    Full,
-    /// Each try was lost to other threads, or there might be none. Nothing of the call stands; it
-    /// can be made again.
-    Busy,
-    /// A remove has begun and its bound was reached before it was finished: the key will go, by
-    /// this remove and no other, and is pending until [`Worker::finish`](crate::Worker::finish),
-    /// which the worker's next tended call makes first.
-    Unfinished,
-    /// A key is pending, so that only [`Worker::finish`](crate::Worker::finish) goes on.
-    Pending,
-    /// The worker is held, from a pin until its unpin.
-    Held,
-    /// The worker is not held.
-    NotHeld,
-    /// The bound of a tended call was reached before it had answered, since other threads were in
-    /// the way. Nothing of the call stands, but help given to others.
-    Contention,
-    /// Each worker is with another thread, or was in a call of one as often as it was looked for,
-    /// 64 times. Where no more threads make calls than there are workers, that is not to be
-    /// expected.
-    NoWorker,
+    /// The key, which this is, is above 2^64 - 4 ([`MOST_KEY`](crate::MOST_KEY)).
+    Key(u64),
+    /// The number of nodes, which this is, is not 7 to 268,435,456.
+    Nodes(u32),
+    /// The number of workers, which this is, is not 1 to 64.
+    Workers(u32),
     /// There is no worker of that number.
-    Number,
-    /// A worker is with a thread still, so that the set cannot be closed.
-    Away,
+    Number {
+        /// The number that was asked for.
+        number: u32,
+        /// How many workers the set has.
+        workers: u32,
+    },
+    /// Memory was refused.
+    NoMemory,
+    /// An insert found no nodes for its key, although it waited for those that are to be freed as
+    /// long as the [`patience`](crate::Options::patience) of the set says, or since none are.
+    Full(Full),
+    /// No nodes were free for the key of a [`try_insert`](crate::Worker::try_insert), which waits
+    /// for none.
+    NoNodes,
+    /// Each try was lost to other threads, or there might be none. Nothing of the call stands but
+    /// help given to others; it can be made again.
+    Busy,
+    /// The bound of a tended call was reached before it had answered, since other threads were in
+    /// the way. Nothing of the call stands but help given to others.
+    Contention,
+    /// A remove has begun and its bound was reached before it was finished: the key will go, by
+    /// this remove and no other, and is pending until the worker's next tended call, or
+    /// [`try_finish`](crate::Worker::try_finish), has finished it.
+    Unfinished,
+    /// A remove of before has begun and is not finished, so that only
+    /// [`try_finish`](crate::Worker::try_finish) and the tended calls go on.
+    Pending,
+    /// The worker is pinned, since the guard of its pin was forgotten
+    /// ([`forget`](std::mem::forget)). Dropped, the worker goes back without its pin.
+    Held,
+    /// Threads have each of the workers, and the call was not to wait for one, or not longer; or
+    /// this thread itself has them all, so that a call which waits for one would never end.
+    NoWorker {
+        /// How many workers the set has.
+        workers: u32,
+        /// How many of them this thread has itself.
+        own: u32,
+    },
+    /// These workers are attached to threads: the one that was asked for, or those without which
+    /// the set cannot be closed.
+    Away(Numbers),
     /// The set is closed.
     Closed,
-    /// Another call had the library's handle for longer than the library looks again, some tenths
-    /// of a second. Nothing has changed. Workers are taken so by many threads at once; that one is
-    /// kept waiting for so long is not to be expected.
-    InUse,
-    /// An outcome that this crate does not know.
+    /// An outcome of the library that this crate does not know, by its number in `nm_set.h`.
     Other(i32),
+}
+
+/// How a set stood when an insert found no nodes for its key: as [`len`](crate::Set::len) and
+/// [`waiting`](crate::Set::waiting) tell it.
+#[derive(Clone, Copy, Debug, Default, PartialEq, Eq, Hash)]
+pub struct Full {
+    /// For how many nodes the set has room.
+    pub nodes: u32,
+    /// How many keys it had; n keys take 2 n + 5 nodes.
+    pub keys: u64,
+    /// How many removed nodes waited to be freed.
+    pub waiting: u64,
+    /// Which workers held the epoch back, by a pin or in a call, so that these were not freed.
+    pub behind: Numbers,
 }
 
 impl Fault {
     /// The fault of an outcome below 0.
     pub(crate) fn of(outcome: Outcome) -> Fault {
         match outcome {
-            -1 | -19 => Fault::Closed,
-            -4 => Fault::Key,
-            -5 => Fault::Number,
-            -6 => Fault::Nodes,
-            -7 => Fault::Workers,
+            -1 | -3 | -19 => Fault::Closed,
             -8 => Fault::NoMemory,
             -9 => Fault::Busy,
-            -10 => Fault::Full,
+            -10 => Fault::NoNodes,
             -11 => Fault::Unfinished,
             -12 => Fault::Pending,
             -13 => Fault::Held,
-            -14 => Fault::NotHeld,
-            -18 => Fault::Away,
-            -22 => Fault::InUse,
             other => Fault::Other(other),
         }
     }
@@ -84,26 +101,80 @@ pub(crate) fn answer(outcome: Outcome) -> Result<bool, Fault> {
     }
 }
 
+/// A number in groups of three digits.
+fn grouped(number: u64) -> String {
+    let digits = number.to_string();
+    let mut told = String::new();
+    for (at, digit) in digits.chars().enumerate() {
+        if at > 0 && (digits.len() - at) % 3 == 0 {
+            told.push(',');
+        }
+        told.push(digit);
+    }
+    told
+}
+
+impl fmt::Display for Full {
+    fn fmt(&self, f: &mut fmt::Formatter<'_>) -> fmt::Result {
+        write!(
+            f,
+            "the set is full: its {} keys take {} of its {} nodes, and {} wait to be freed",
+            grouped(self.keys),
+            grouped(self.keys.saturating_mul(2).saturating_add(5)),
+            grouped(self.nodes.into()),
+            grouped(self.waiting)
+        )?;
+        if self.behind.is_empty() {
+            return Ok(());
+        }
+        write!(
+            f,
+            "; {} in their way, by a pin or in a call",
+            self.behind.are()
+        )
+    }
+}
+
 impl fmt::Display for Fault {
     fn fmt(&self, f: &mut fmt::Formatter<'_>) -> fmt::Result {
-        f.write_str(match self {
-            Fault::Key => "the key is above 2^64 - 4",
-            Fault::Nodes => "the number of nodes is not 7 to 268,435,456",
-            Fault::Workers => "the number of workers is not 1 to 64",
+        f.write_str(match *self {
+            Fault::Key(key) => {
+                return write!(f, "the key {key} is above {} (2^64 - 4)", grouped(MOST_KEY))
+            }
+            Fault::Nodes(nodes) => {
+                return write!(f, "the number of nodes is not 7 to 268,435,456: {nodes}")
+            }
+            Fault::Workers(workers) => {
+                return write!(f, "the number of workers is not 1 to 64: {workers}")
+            }
+            Fault::Number { number, workers } => {
+                return write!(
+                    f,
+                    "there is no worker {number}: the set has {workers}, from 0 on"
+                )
+            }
+            Fault::Full(full) => return full.fmt(f),
+            Fault::NoWorker { workers, own } => {
+                let who = if own == workers {
+                    "this thread has each itself"
+                } else {
+                    "threads have each"
+                };
+                return write!(
+                    f,
+                    "no worker is free: the set has {workers} (64 at most), and {who}"
+                );
+            }
+            Fault::Away(numbers) => return write!(f, "{} attached to a thread", numbers.are()),
+            Fault::Other(number) => return write!(f, "the library told outcome {number}"),
             Fault::NoMemory => "memory was refused",
-            Fault::Full => "no slots are free for the new nodes",
-            Fault::Busy => "each try was lost",
-            Fault::Unfinished => "the remove has begun and is not finished",
-            Fault::Pending => "a key is pending",
-            Fault::Held => "the worker is held",
-            Fault::NotHeld => "the worker is not held",
+            Fault::NoNodes => "no nodes are free for the new key",
+            Fault::Busy => "each try was lost to other threads",
             Fault::Contention => "other threads were in the way for longer than the call's bound",
-            Fault::NoWorker => "each worker is with another thread",
-            Fault::Number => "there is no worker of that number",
-            Fault::Away => "a worker is with a thread still",
+            Fault::Unfinished => "the remove has begun and is not finished: the key will go",
+            Fault::Pending => "an earlier remove has begun and is not finished: finish it first",
+            Fault::Held => "the worker is pinned, and the guard of its pin was forgotten",
             Fault::Closed => "the set is closed",
-            Fault::InUse => "another call has the handle",
-            Fault::Other(number) => return write!(f, "outcome {number} of the library"),
         })
     }
 }
@@ -112,11 +183,34 @@ impl std::error::Error for Fault {}
 
 #[cfg(test)]
 mod tests {
-    use super::Fault;
+    use super::{grouped, Fault, Full, Numbers};
 
     #[test]
-    fn a_handle_in_use_is_told_as_that() {
-        assert_eq!(Fault::of(-22), Fault::InUse);
+    fn an_outcome_that_is_not_known_keeps_its_number() {
         assert_eq!(Fault::of(-23), Fault::Other(-23));
+        assert_eq!(Fault::of(-23).to_string(), "the library told outcome -23");
+    }
+
+    #[test]
+    fn digits_stand_in_groups_of_three() {
+        let told: Vec<_> = [0, 999, 1_000, 65_536, 268_435_456].map(grouped).into();
+        assert_eq!(told, ["0", "999", "1,000", "65,536", "268,435,456"]);
+    }
+
+    #[test]
+    fn a_full_set_tells_its_numbers() {
+        let mut full = Full {
+            nodes: 65_536,
+            keys: 1_200,
+            waiting: 63_131,
+            behind: Numbers::default(),
+        };
+        let told =
+            "the set is full: its 1,200 keys take 2,405 of its 65,536 nodes, and 63,131 wait \
+                    to be freed";
+        assert_eq!(full.to_string(), told);
+        full.behind = Numbers::of(0b1010);
+        let told = format!("{told}; workers 1 and 3 are in their way, by a pin or in a call");
+        assert_eq!(Fault::Full(full).to_string(), told);
     }
 }

@@ -1,6 +1,6 @@
 //! What a set was closed with.
 
-use crate::ffi::{SetHandle, Waiting};
+use crate::ffi::{Handle, Waiting};
 
 /// What a set was closed with.
 #[derive(Clone, Debug, Default, PartialEq, Eq)]
@@ -13,7 +13,7 @@ pub struct Report {
 
 impl Report {
     /// Reads what a handle of a report tells, for so many workers.
-    pub(crate) fn of(handle: &SetHandle, workers: u32) -> Report {
+    pub(crate) fn of(handle: &Handle, workers: u32) -> Report {
         let mut report = Report::default();
         let mut count = 0;
         handle.slots(&mut report.free, &mut report.reached);
@@ -47,12 +47,12 @@ impl Report {
         self.keys.binary_search(&key).is_ok()
     }
 
-    /// How many slots are free.
+    /// How many nodes are free.
     pub fn free(&self) -> u32 {
         self.free
     }
 
-    /// How many slots are reached from the root, the five fixed ones left out.
+    /// How many nodes are reached from the root, the five fixed ones left out.
     pub fn reached(&self) -> u32 {
         self.reached
     }
@@ -64,8 +64,18 @@ impl Report {
     }
 }
 
+impl IntoIterator for Report {
+    type Item = u64;
+    type IntoIter = std::vec::IntoIter<u64>;
+
+    /// The keys that the set had, ascending.
+    fn into_iter(self) -> std::vec::IntoIter<u64> {
+        self.keys.into_iter()
+    }
+}
+
 /// Takes all nodes out of a worker's queue.
-fn taken(handle: &SetHandle, worker: u32) -> Vec<Waiting> {
+fn taken(handle: &Handle, worker: u32) -> Vec<Waiting> {
     let mut nodes = Vec::new();
     let mut node = Waiting::default();
     while handle.waiting(worker, &mut node) > 0 {

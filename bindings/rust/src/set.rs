@@ -1,92 +1,30 @@
 //! The set that threads share.
 
 use crate::fault::Fault;
-use crate::ffi::{Habit, SetHandle};
-use crate::hand::Hand;
+use crate::ffi::Handle;
+use crate::key::checked;
+use crate::options::Options;
+use crate::order::{self, Calls, Range};
+use crate::pool::Pool;
 use crate::report::Report;
-use crate::shared::Shared;
+use crate::tending::tended;
 use crate::worker::Worker;
 use crate::MOST_KEY;
+use std::collections::BTreeSet;
+use std::ops::RangeBounds;
 use std::sync::Arc;
+use std::time::{Duration, Instant};
 
-/// Which free slot a new node takes.
-#[derive(Clone, Copy, Debug, Default, PartialEq, Eq)]
-pub enum Placement {
-    /// One near the one that the worker found or gave back last.
-    #[default]
-    Near,
-    /// The lowest, which takes long where there are many.
-    Lowest,
-}
+/// How many keys are best looked up in one call.
+const TOGETHER: usize = 64;
 
-/// How a set is made.
+/// A set of the whole numbers up to [`MOST_KEY`] that threads share, as a
+/// [`BTreeSet<u64>`](BTreeSet) by its calls. A clone is the same set.
 ///
-/// ```
-/// use nm_set::{Options, Placement};
-/// # fn main() -> Result<(), nm_set::Fault> {
-/// let set = Options { workers: 5, placement: Placement::Lowest, ..Options::new(1_024) }.open()?;
-/// # set.close().map(drop)
-/// # }
-/// ```
-#[derive(Clone, Debug, PartialEq, Eq)]
-pub struct Options {
-    /// The room in nodes, 7 to 268,435,456. n keys take 2 n + 5, and the removed nodes that wait
-    /// take theirs: give it several times that.
-    pub nodes: u32,
-    /// The workers, 1 to 64: so many threads can make calls at one time.
-    pub workers: u32,
-    /// Which free slot a new node takes.
-    pub placement: Placement,
-    /// The tries of each call of the library that a tended call makes. With fewer than 2 no remove
-    /// answers at once.
-    pub tries: u32,
-    /// How often a tended call is made again that has lost each of its tries, before it tells
-    /// [`Fault::Contention`], and how often a remove that has begun is gone on with, before it
-    /// tells [`Fault::Unfinished`].
-    pub rounds: u32,
-    /// From how many waiting nodes on an insert or a remove first moves the epoch on and collects.
-    pub collect_after: u32,
-}
-
-impl Options {
-    /// So many nodes, for 64 workers, with slots near by; 64 tries, 64 rounds, and a collection
-    /// from 64 waiting nodes on.
-    pub fn new(nodes: u32) -> Options {
-        Options {
-            nodes,
-            workers: 64,
-            placement: Placement::Near,
-            tries: 64,
-            rounds: 64,
-            collect_after: 64,
-        }
-    }
-
-    /// Makes the empty set. `Nodes`, `Workers`, `NoMemory`.
-    pub fn open(&self) -> Result<Set, Fault> {
-        let handle = SetHandle::closed();
-        let told = match self.placement {
-            Placement::Near => handle.open_near(self.nodes, self.workers),
-            Placement::Lowest => handle.open_lowest(self.nodes, self.workers),
-        };
-        if told < 0 {
-            return Err(Fault::of(told));
-        }
-        let habit = Habit {
-            tries: self.tries,
-            rounds: self.rounds,
-            collect_after: self.collect_after,
-        };
-        Ok(Set(Arc::new(Shared::of(handle, self.workers, habit))))
-    }
-}
-
-/// A set of the whole numbers up to [`MOST_KEY`](crate::MOST_KEY) that threads share. A clone is
-/// the same set.
-///
-/// Its calls may be made by any thread: the set gives it one of its workers for the call, mostly
-/// the one that it had before. A thread that makes many calls takes a [`Worker`] of its own by
-/// [`attach`](Set::attach), and saves the lock that this takes.
+/// Its calls may be made by any thread: each is made by one of the set's workers that nobody uses
+/// at that moment, mostly the one that the thread had before. Where each is in a call of another
+/// thread, or attached to one, the call **waits** for one. A thread that makes many calls may take
+/// a [`Worker`] of its own by [`attach`](Set::attach).
 ///
 /// [`contains`](Set::contains), [`insert`](Set::insert) and [`remove`](Set::remove) **tend** the
 /// set: a call that lost its tries to other threads is made again, at most so many
@@ -96,9 +34,18 @@ impl Options {
 /// [`Fault::Contention`], or [`Fault::Unfinished`] of a remove that has begun. All of this is the
 /// library's, **proved** and within a bound of steps.
 ///
-/// That a worker is found for each call, and that before `Full` is told the removed nodes of all
-/// workers that nobody uses are collected too, four times at most, is this crate's, which is
-/// **tested and not proved**.
+/// That a worker is found for each call, and that an insert waits for removed nodes to be freed
+/// before it tells [`Fault::Full`], as long as its [`patience`](Options::patience) says, is this
+/// crate's, which is **tested and not proved**.
+///
+/// A call that goes over several keys takes **no snapshot**: of each key its answer was right at a
+/// moment of the call, of two keys perhaps at different moments. That is so of iteration, `retain`,
+/// `clear`, `extend` and the comparisons with a `BTreeSet`.
+///
+/// Besides the faults that its line names each call tells `Closed` beside or behind a
+/// [`close`](Set::close); one that takes a worker `NoMemory`, as it does so for the first time, and
+/// `NoWorker`, where this thread has attached each worker itself; and one that is tended
+/// `Contention`.
 ///
 /// ```
 /// # fn main() -> Result<(), nm_set::Fault> {
@@ -119,105 +66,227 @@ impl Options {
 /// # }
 /// ```
 #[derive(Clone)]
-pub struct Set(Arc<Shared>);
+pub struct Set(Arc<Pool>);
 
 impl Set {
-    /// The empty set with room for so many nodes, made as [`Options::new`] has it. `Nodes`,
-    /// `NoMemory`.
+    /// The empty set with room for so many nodes, 7 to 268,435,456, made as [`Options::default`]
+    /// has it. n keys take 2 n + 5 nodes, and the removed nodes that wait to be freed take theirs:
+    /// give it four for each key. `Nodes`, `NoMemory`.
     pub fn new(nodes: u32) -> Result<Set, Fault> {
-        Options::new(nodes).open()
+        Set::with_options(nodes, Options::default())
     }
 
-    /// Takes a worker that nobody uses, for this thread; the least number comes first.
-    /// `NoWorker`, `NoMemory`, `Closed`.
-    pub fn attach(&self) -> Result<Worker, Fault> {
-        let (hand, number) = self.0.take_any()?;
-        Ok(Worker::of(Arc::clone(&self.0), hand, number))
+    /// The same, made as the options have it. `Nodes`, `Workers`, `NoMemory`.
+    pub fn with_options(nodes: u32, options: Options) -> Result<Set, Fault> {
+        let pool = Pool::new(nodes, &options)?;
+        Ok(Set(Arc::new(pool)))
     }
 
-    /// Takes the worker of a number. It waits for a call that another thread makes by it at this
-    /// moment. `Number`, `Away`, `NoMemory`, `Closed`.
-    pub fn worker(&self, number: u32) -> Result<Worker, Fault> {
-        let hand = self.0.take(number)?;
-        Ok(Worker::of(Arc::clone(&self.0), hand, number))
+    pub(crate) fn of(pool: Arc<Pool>) -> Set {
+        Set(pool)
     }
 
-    /// Whether the set has the key. `Key`, `Contention`, `NoWorker`, `NoMemory` (to take a worker),
-    /// `Closed`.
+    fn with_any<T>(&self, call: impl FnOnce(&Handle) -> Result<T, Fault>) -> Result<T, Fault> {
+        self.0.with_any(call)
+    }
+
+    // ---- a key ----
+
+    /// Whether the set has the key. `Key`.
     pub fn contains(&self, key: u64) -> Result<bool, Fault> {
-        self.0.with_any(|hand| hand.contains(&self.0.habit, key))
+        let key = checked(key)?;
+        self.with_any(|handle| tended(handle.contains(key, &self.0.habit)))
     }
 
     /// Whether the set has each of these keys, in their order, by one call of the library: the
     /// searches go on in turns, so that the loads of one go on while the others wait for theirs,
-    /// which pays where the set is larger than the caches; eight to sixty-four keys are best. Each
-    /// answer was right at a moment of the call, two of them perhaps at different ones. `Key`,
-    /// `NoMemory`, `Contention`, `NoWorker`, `Closed`.
+    /// which pays where the set is larger than the caches; eight to sixty-four keys are best.
+    /// `Key`, `NoMemory`.
     ///
     /// ```
     /// # fn main() -> Result<(), nm_set::Fault> {
-    /// let set = nm_set::Set::new(1_024)?;
-    /// set.insert(5)?;
-    /// set.insert(7)?;
+    /// let set = nm_set::Set::from([5, 7]);
     /// assert_eq!(set.contains_many(&[5, 6, 7])?, [true, false, true]);
     /// # Ok(())
     /// # }
     /// ```
     pub fn contains_many(&self, keys: &[u64]) -> Result<Vec<bool>, Fault> {
-        self.0
-            .with_any(|hand| hand.contains_many(&self.0.habit, keys))
-    }
-
-    /// The least key of the set that is not below this one, or None where there is none. At a
-    /// moment of the call the set had the key, and of each key that was passed over there was one
-    /// at which it had it not: two of these moments may differ. `Key`, `Contention`, `NoWorker`,
-    /// `NoMemory` (to take a worker), `Closed`.
-    pub fn at_least(&self, key: u64) -> Result<Option<u64>, Fault> {
-        self.0.with_any(|hand| hand.at_least(&self.0.habit, key))
-    }
-
-    /// The keys of the set, ascending, while it is in use: a call of [`at_least`](Set::at_least)
-    /// for each. Keys that are inserted or removed meanwhile may be told or not.
-    ///
-    /// ```
-    /// # fn main() -> Result<(), nm_set::Fault> {
-    /// let set = nm_set::Set::new(1_024)?;
-    /// for key in [7, 5, 9] {
-    ///     set.insert(key)?;
-    /// }
-    /// set.remove(7)?;
-    /// let keys: Result<Vec<u64>, _> = set.keys().collect();
-    /// assert_eq!(keys?, [5, 9]);
-    /// # Ok(())
-    /// # }
-    /// ```
-    pub fn keys(&self) -> Keys<'_> {
-        Keys {
-            set: self,
-            from: Some(0),
-        }
+        keys.iter().try_for_each(|&key| checked(key).map(drop))?;
+        self.with_any(|handle| handle.look_many(&self.0.habit, keys))
     }
 
     /// Inserts a key, and tells whether it was not in the set; it is now. `Key`, `Full`,
-    /// `NoMemory`, `Contention`, `NoWorker`, `Closed`: nothing has changed.
+    /// `NoMemory`.
     pub fn insert(&self, key: u64) -> Result<bool, Fault> {
-        let relieve = |own: &mut Hand| {
-            self.0.relieve(own);
-        };
-        self.0
-            .with_any(|hand| hand.insert(&self.0.habit, relieve, key))
+        let key = checked(key)?;
+        let insert = |handle: &Handle| tended(handle.insert(key, &self.0.habit));
+        self.0.insert(|| self.with_any(insert))
     }
 
-    /// Removes a key, and tells whether it was in the set; it is not now. `Key`, `NoMemory`,
-    /// `Contention`, `NoWorker`, `Closed`: nothing has changed. `Unfinished`: the key will go.
+    /// Removes a key, and tells whether it was in the set; it is not now. `Key`, `NoMemory`;
+    /// `Unfinished`: the key will go.
     pub fn remove(&self, key: u64) -> Result<bool, Fault> {
-        self.0.with_any(|hand| hand.remove(&self.0.habit, key))
+        let key = checked(key)?;
+        self.with_any(|handle| tended(handle.remove(key, &self.0.habit)))
     }
 
-    /// Moves the epoch on as far as can be, and frees what has waited long enough, of all workers
-    /// that nobody uses: how many nodes. `NoWorker`, `NoMemory`, `Closed`.
-    pub fn collect(&self) -> Result<u64, Fault> {
-        self.0.with_any(|hand| Ok(self.0.relieve(hand)))
+    // ---- keys in order ----
+
+    /// The least key of the set that is not below this one, or None where there is none. At a
+    /// moment of the call the set had the key, and of each key that was passed over there was one
+    /// at which it had it not: two of these moments may differ. `Key`.
+    pub fn at_least(&self, key: u64) -> Result<Option<u64>, Fault> {
+        let key = checked(key)?;
+        self.with_any(|handle| handle.look_next(&self.0.habit, key))
+    }
+
+    /// The greatest key of the set that is not above this one, or None where there is none, as
+    /// [`at_least`](Set::at_least) tells the least. `Key`.
+    pub fn at_most(&self, key: u64) -> Result<Option<u64>, Fault> {
+        let key = checked(key)?;
+        self.with_any(|handle| handle.look_prev(&self.0.habit, key))
+    }
+
+    /// The least key, or None of an empty set.
+    pub fn first(&self) -> Result<Option<u64>, Fault> {
+        self.at_least(0)
+    }
+
+    /// The greatest key, or None of an empty set.
+    pub fn last(&self) -> Result<Option<u64>, Fault> {
+        self.at_most(MOST_KEY)
+    }
+
+    /// Removes the least key, and tells it, or None of an empty set. No two calls tell one key,
+    /// unless it was inserted again between, and none is passed over that was in the set all along.
+    ///
+    /// ```
+    /// # fn main() -> Result<(), nm_set::Fault> {
+    /// let due = nm_set::Set::from([30, 10, 20]);
+    /// assert_eq!(due.pop_first()?, Some(10));
+    /// assert_eq!(due.pop_last()?, Some(30));
+    /// # Ok(())
+    /// # }
+    /// ```
+    pub fn pop_first(&self) -> Result<Option<u64>, Fault> {
+        self.with_any(|handle| handle.take_by(|own, taken| own.pop_first(&self.0.habit, taken)))
+    }
+
+    /// The same of the greatest key.
+    pub fn pop_last(&self) -> Result<Option<u64>, Fault> {
+        self.with_any(|handle| handle.take_by(|own, taken| own.pop_last(&self.0.habit, taken)))
+    }
+
+    /// The keys of a range, ascending, while the set is in use, by a call of
+    /// [`at_least`](Set::at_least) for each; or from the end back, by one of
+    /// [`at_most`](Set::at_most). Keys that are inserted or removed meanwhile may be told or not.
+    /// A range whose start is above its end has no keys, where that of a `BTreeSet` panics.
+    ///
+    /// ```
+    /// # fn main() -> Result<(), nm_set::Fault> {
+    /// let set = nm_set::Set::from([5, 7, 9]);
+    /// let keys: Result<Vec<u64>, _> = set.range(6..).collect();
+    /// assert_eq!(keys?, [7, 9]);
+    /// let keys: Result<Vec<u64>, _> = set.range(..=7).rev().collect();
+    /// assert_eq!(keys?, [7, 5]);
+    /// # Ok(())
+    /// # }
+    /// ```
+    pub fn range(&self, bounds: impl RangeBounds<u64>) -> Range<&Set> {
+        Range::of(self, bounds)
+    }
+
+    /// All keys, as [`range`](Set::range) tells them.
+    pub fn iter(&self) -> Range<&Set> {
+        self.range(..)
+    }
+
+    // ---- several keys ----
+
+    /// Inserts these keys, and tells how many were not in the set. Behind a fault those before are
+    /// in the set. `Key`, `Full`, `NoMemory`.
+    pub fn extend(&self, keys: impl IntoIterator<Item = u64>) -> Result<usize, Fault> {
+        let mut added = 0;
+        for key in keys {
+            added += usize::from(self.insert(key)?);
+        }
+        Ok(added)
+    }
+
+    /// Removes each key of which the function does not tell true. One that is inserted meanwhile
+    /// may stay. Behind a fault a part of them is removed.
+    pub fn retain(&self, stays: impl FnMut(u64) -> bool) -> Result<(), Fault> {
+        order::retain(self, stays)
+    }
+
+    /// Removes each key; one that is inserted meanwhile may stay.
+    pub fn clear(&self) -> Result<(), Fault> {
+        self.retain(|_| false)
+    }
+
+    /// Whether the other set has each key of this one.
+    pub fn is_subset(&self, other: &BTreeSet<u64>) -> Result<bool, Fault> {
+        for key in self {
+            if !other.contains(&key?) {
+                return Ok(false);
+            }
+        }
+        Ok(true)
+    }
+
+    /// Whether this set has each key of the other one.
+    pub fn is_superset(&self, other: &BTreeSet<u64>) -> Result<bool, Fault> {
+        let is_out = other.last().is_some_and(|&key| key > MOST_KEY);
+        Ok(!is_out && self.all_of(other, true)?)
+    }
+
+    /// Whether this set has no key of the other one.
+    pub fn is_disjoint(&self, other: &BTreeSet<u64>) -> Result<bool, Fault> {
+        self.all_of(other, false)
+    }
+
+    /// Whether each number of the other set that can be a key is in this one, or none.
+    fn all_of(&self, other: &BTreeSet<u64>, is_in: bool) -> Result<bool, Fault> {
+        let keys: Vec<u64> = other.range(..=MOST_KEY).copied().collect();
+        for some in keys.chunks(TOGETHER) {
+            if self.contains_many(some)?.contains(&!is_in) {
+                return Ok(false);
+            }
+        }
+        Ok(true)
+    }
+
+    // ---- how full it is ----
+
+    /// How many keys the set has, by what each worker has inserted and removed: exact where no
+    /// thread makes a call meanwhile, else off by as many keys as come and go meanwhile. It takes a
+    /// step for each worker and none for a key, takes no worker, and waits for the call that
+    /// another thread makes by one at this moment, as that one does for this look.
+    pub fn len(&self) -> Result<usize, Fault> {
+        let keys = self.0.tally()?.keys;
+        Ok(usize::try_from(keys).unwrap_or(usize::MAX))
+    }
+
+    /// Whether the set has no key, by one look for the least.
+    pub fn is_empty(&self) -> Result<bool, Fault> {
+        Ok(self.first()?.is_none())
+    }
+
+    /// How many removed nodes wait to be freed, as exact as [`len`](Set::len).
+    pub fn waiting(&self) -> Result<u64, Fault> {
+        Ok(self.0.tally()?.waiting)
+    }
+
+    /// How many nodes are free, as exact as [`len`](Set::len): a new key takes two.
+    pub fn free(&self) -> Result<u64, Fault> {
+        let tally = self.0.tally()?;
+        let taken = tally.keys.saturating_mul(2).saturating_add(5);
+        Ok(u64::from(self.nodes()).saturating_sub(taken.saturating_add(tally.waiting)))
+    }
+
+    /// For how many nodes the set has room.
+    pub fn nodes(&self) -> u32 {
+        self.0.nodes
     }
 
     /// How many workers the set has.
@@ -225,42 +294,66 @@ impl Set {
         self.0.workers()
     }
 
+    /// Moves the epoch on as far as can be, and frees what has waited long enough, of all workers
+    /// by which no call is made at this moment: how many nodes.
+    pub fn collect(&self) -> Result<u64, Fault> {
+        self.0.need_open()?;
+        Ok(self.0.relieve())
+    }
+
+    // ---- workers for threads ----
+
+    /// Takes a worker for this thread; the least number comes first. It **waits** while each is
+    /// attached or in a call, for as long as that is. `NoWorker`, where this thread has each worker
+    /// itself: those that it has attached, or used last, for a quarter of a second.
+    pub fn attach(&self) -> Result<Worker, Fault> {
+        self.attach_until(None)
+    }
+
+    /// The same, and does not wait: `NoWorker`, where none is free at this moment.
+    pub fn try_attach(&self) -> Result<Worker, Fault> {
+        self.attach_timeout(Duration::ZERO)
+    }
+
+    /// The same, and waits for a time at most: `NoWorker` behind that.
+    pub fn attach_timeout(&self, timeout: Duration) -> Result<Worker, Fault> {
+        self.attach_until(Instant::now().checked_add(timeout))
+    }
+
+    fn attach_until(&self, until: Option<Instant>) -> Result<Worker, Fault> {
+        let number = self.0.lend(until)?;
+        Ok(Worker::of(Arc::clone(&self.0), number))
+    }
+
+    /// Takes the worker of a number. It waits for a call that another thread makes by it at this
+    /// moment. `Number`; `Away`, where it is attached.
+    pub fn worker(&self, number: u32) -> Result<Worker, Fault> {
+        let number = self.0.lend_number(number)?;
+        Ok(Worker::of(Arc::clone(&self.0), number))
+    }
+
+    // ---- the end ----
+
     /// Ends the set, and tells what stood in it. It waits for calls that other threads make of the
-    /// set at this moment; a later call tells `Closed`.
+    /// set at this moment; each call that waits, and each later one, tells `Closed`.
     ///
-    /// `Away`: a [`Worker`] is not dropped yet, and all is as it was. `NoMemory`: only `close` goes
+    /// `Away`: a [`Worker`] is not dropped yet, and the set goes on. `NoMemory`: only `close` goes
     /// on. `Closed`: it was closed before.
     pub fn close(&self) -> Result<Report, Fault> {
         self.0.end()
     }
 }
 
-/// The keys of a set that is in use: see [`Set::keys`]. It ends behind the first fault.
-#[derive(Debug)]
-pub struct Keys<'a> {
-    set: &'a Set,
-    /// The key from which it goes on; none once it has ended.
-    from: Option<u64>,
-}
-
-impl Iterator for Keys<'_> {
-    type Item = Result<u64, Fault>;
-
-    fn next(&mut self) -> Option<Result<u64, Fault>> {
-        let told = self.set.at_least(self.from.take()?).transpose()?;
-        if let Ok(key) = told {
-            self.from = (key < MOST_KEY).then(|| key + 1);
-        }
-        Some(told)
+impl Calls for &Set {
+    fn least_from(&mut self, key: u64) -> Result<Option<u64>, Fault> {
+        self.at_least(key)
     }
-}
 
-impl std::iter::FusedIterator for Keys<'_> {}
+    fn greatest_to(&mut self, key: u64) -> Result<Option<u64>, Fault> {
+        self.at_most(key)
+    }
 
-impl std::fmt::Debug for Set {
-    fn fmt(&self, f: &mut std::fmt::Formatter<'_>) -> std::fmt::Result {
-        f.debug_struct("Set")
-            .field("workers", &self.workers())
-            .finish_non_exhaustive()
+    fn take(&mut self, key: u64) -> Result<bool, Fault> {
+        self.remove(key)
     }
 }

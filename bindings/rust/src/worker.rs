@@ -1,20 +1,29 @@
 //! A worker: the right of one thread at a time to make calls.
 
 use crate::fault::{answer, Fault};
-use crate::ffi::Ledger;
-use crate::hand::{Advance, Hand};
-use crate::shared::Shared;
+use crate::ffi::{Handle, Ledger};
+use crate::key::checked;
+use crate::numbers::Numbers;
+use crate::order::{self, Calls, Range};
+use crate::pool::{this_thread, Pool};
+use crate::set::Set;
+use crate::tending::{found, lookups_of, tended, Advance};
+use crate::MOST_KEY;
+use std::fmt;
+use std::ops::RangeBounds;
 use std::sync::Arc;
 
-/// One worker of a [`Set`](crate::Set), for one thread at a time: each call takes it by `&mut`, and
-/// it may be sent to another thread between two calls.
+/// One worker of a [`Set`], for one thread at a time: each call takes it by `&mut`, and it may be
+/// sent to another thread between two calls.
 ///
-/// Dropped, it goes back to its set, and can be taken again. A worker that is forgotten
-/// (`std::mem::forget`) never comes back, and its set cannot be closed.
+/// Dropped, also by a panic, it goes back to its set without its pin and its pending remove, and
+/// can be taken again. A worker that is forgotten (`std::mem::forget`) never comes back, and its
+/// set cannot be closed.
 ///
-/// [`contains`](Worker::contains), [`insert`](Worker::insert) and [`remove`](Worker::remove) tend
-/// the set, as those of [`Set`](crate::Set) do. The other calls are those of the library below,
-/// each of which makes what its contract there says and no more.
+/// Its calls up to [`clear`](Worker::clear) are those of [`Set`], with the same answers, and tell
+/// the same faults but for `NoWorker` and `Closed`, which they do not meet. The others are those of
+/// the library below, each of which makes what its contract there says and no more: those that
+/// begin with `try_` make so many tries and leave the rest to their caller.
 ///
 /// ```
 /// # fn main() -> Result<(), nm_set::Fault> {
@@ -42,10 +51,10 @@ use std::sync::Arc;
 /// # }
 /// ```
 pub struct Worker {
-    shared: Arc<Shared>,
-    /// None only while it is dropped.
-    hand: Option<Hand>,
+    pool: Arc<Pool>,
     number: u32,
+    /// The thread that has made its latest call.
+    thread: u64,
 }
 
 /// The epoch, and which workers hold it back.
@@ -53,8 +62,8 @@ pub struct Worker {
 pub struct Behind {
     /// The epoch.
     pub epoch: u64,
-    /// Bit w is set where worker w was found announcing another epoch.
-    pub mask: u64,
+    /// Those that were found announcing another epoch.
+    pub workers: Numbers,
 }
 
 /// What a worker had won when it left a note.
@@ -66,23 +75,49 @@ pub struct Posted {
     pub flags: u64,
 }
 
-/// The hand of a worker that is not dropped.
-fn open(hand: &mut Option<Hand>) -> &mut Hand {
-    hand.as_mut()
-        .expect("a worker has its hand until it is dropped")
+/// A pin of the epoch by a worker, which ends as this is dropped: see [`Worker::pin`].
+#[derive(Debug)]
+#[must_use = "the pin ends as its guard is dropped"]
+pub struct PinGuard<'a> {
+    worker: &'a mut Worker,
+    epoch: u64,
+}
+
+impl PinGuard<'_> {
+    /// The epoch that is pinned.
+    pub fn epoch(&self) -> u64 {
+        self.epoch
+    }
+}
+
+impl Drop for PinGuard<'_> {
+    fn drop(&mut self) {
+        self.worker.handle().unpin();
+    }
 }
 
 impl Worker {
-    pub(crate) fn of(shared: Arc<Shared>, hand: Hand, number: u32) -> Worker {
+    pub(crate) fn of(pool: Arc<Pool>, number: u32) -> Worker {
+        let thread = this_thread();
         Worker {
-            shared,
-            hand: Some(hand),
+            pool,
             number,
+            thread,
         }
     }
 
-    fn hand(&mut self) -> &mut Hand {
-        open(&mut self.hand)
+    /// Its pool and its handle, for a call of this thread.
+    fn parts(&mut self) -> (&Pool, &Handle) {
+        let thread = this_thread();
+        if self.thread != thread {
+            self.thread = thread;
+            self.pool.note_holder(self.number, thread);
+        }
+        (&self.pool, self.pool.handle(self.number))
+    }
+
+    fn handle(&mut self) -> &Handle {
+        self.parts().1
     }
 
     /// Its number, below the number of workers.
@@ -90,130 +125,227 @@ impl Worker {
         self.number
     }
 
-    /// Whether the set has the key, tended: see [`Set::contains`](crate::Set::contains). `Key`,
-    /// `Held`, `Contention`.
+    /// Its set, for the calls that a worker has not.
+    pub fn set(&self) -> Set {
+        Set::of(Arc::clone(&self.pool))
+    }
+
+    // ---- as of a set ----
+
+    /// Whether the set has the key: see [`Set::contains`].
     pub fn contains(&mut self, key: u64) -> Result<bool, Fault> {
-        let Worker { shared, hand, .. } = self;
-        open(hand).contains(&shared.habit, key)
+        let key = checked(key)?;
+        let (pool, handle) = self.parts();
+        tended(handle.contains(key, &pool.habit))
     }
 
-    /// Whether the set has each of these keys, tended: see
-    /// [`Set::contains_many`](crate::Set::contains_many). `Key`, `Held`, `NoMemory`, `Contention`.
+    /// Whether the set has each of these keys: see [`Set::contains_many`].
     pub fn contains_many(&mut self, keys: &[u64]) -> Result<Vec<bool>, Fault> {
-        let Worker { shared, hand, .. } = self;
-        open(hand).contains_many(&shared.habit, keys)
+        keys.iter().try_for_each(|&key| checked(key).map(drop))?;
+        let (pool, handle) = self.parts();
+        handle.look_many(&pool.habit, keys)
     }
 
-    /// The least key that is not below this one, tended: see
-    /// [`Set::at_least`](crate::Set::at_least). `Key`, `Held`, `Contention`.
-    pub fn at_least(&mut self, key: u64) -> Result<Option<u64>, Fault> {
-        let Worker { shared, hand, .. } = self;
-        open(hand).at_least(&shared.habit, key)
-    }
-
-    /// Inserts a key, and tells whether it was not in the set, tended: see
-    /// [`Set::insert`](crate::Set::insert). `Key`, `Held`, `Full`, `NoMemory`, `Contention`.
+    /// Inserts a key, and tells whether it was not in the set: see [`Set::insert`].
     pub fn insert(&mut self, key: u64) -> Result<bool, Fault> {
-        let Worker { shared, hand, .. } = self;
-        let relieve = |own: &mut Hand| {
-            shared.relieve(own);
-        };
-        open(hand).insert(&shared.habit, relieve, key)
+        let key = checked(key)?;
+        let (pool, handle) = self.parts();
+        pool.insert(|| tended(handle.insert(key, &pool.habit)))
     }
 
-    /// Removes a key, and tells whether it was in the set, tended: see
-    /// [`Set::remove`](crate::Set::remove). `Key`, `Held`, `NoMemory`, `Contention`,
-    /// `Unfinished`.
+    /// Removes a key, and tells whether it was in the set: see [`Set::remove`].
     pub fn remove(&mut self, key: u64) -> Result<bool, Fault> {
-        let Worker { shared, hand, .. } = self;
-        open(hand).remove(&shared.habit, key)
+        let key = checked(key)?;
+        let (pool, handle) = self.parts();
+        tended(handle.remove(key, &pool.habit))
     }
 
-    /// Whether the set has the key, by so many tries. `Key`, `Busy`, `Pending`, `Held`.
+    /// The least key that is not below this one: see [`Set::at_least`].
+    pub fn at_least(&mut self, key: u64) -> Result<Option<u64>, Fault> {
+        let key = checked(key)?;
+        let (pool, handle) = self.parts();
+        handle.look_next(&pool.habit, key)
+    }
+
+    /// The greatest key that is not above this one: see [`Set::at_most`].
+    pub fn at_most(&mut self, key: u64) -> Result<Option<u64>, Fault> {
+        let key = checked(key)?;
+        let (pool, handle) = self.parts();
+        handle.look_prev(&pool.habit, key)
+    }
+
+    /// The least key: see [`Set::first`].
+    pub fn first(&mut self) -> Result<Option<u64>, Fault> {
+        self.at_least(0)
+    }
+
+    /// The greatest key: see [`Set::last`].
+    pub fn last(&mut self) -> Result<Option<u64>, Fault> {
+        self.at_most(MOST_KEY)
+    }
+
+    /// Removes the least key, and tells it: see [`Set::pop_first`].
+    pub fn pop_first(&mut self) -> Result<Option<u64>, Fault> {
+        let (pool, handle) = self.parts();
+        handle.take_by(|own, taken| own.pop_first(&pool.habit, taken))
+    }
+
+    /// Removes the greatest key, and tells it: see [`Set::pop_last`].
+    pub fn pop_last(&mut self) -> Result<Option<u64>, Fault> {
+        let (pool, handle) = self.parts();
+        handle.take_by(|own, taken| own.pop_last(&pool.habit, taken))
+    }
+
+    /// The keys of a range, in both directions: see [`Set::range`].
+    pub fn range(&mut self, bounds: impl RangeBounds<u64>) -> Range<&mut Worker> {
+        Range::of(self, bounds)
+    }
+
+    /// All keys: see [`Set::range`].
+    pub fn iter(&mut self) -> Range<&mut Worker> {
+        self.range(..)
+    }
+
+    /// Inserts these keys, and tells how many were not in the set: see [`Set::extend`].
+    pub fn extend(&mut self, keys: impl IntoIterator<Item = u64>) -> Result<usize, Fault> {
+        let mut added = 0;
+        for key in keys {
+            added += usize::from(self.insert(key)?);
+        }
+        Ok(added)
+    }
+
+    /// Removes each key of which the function does not tell true: see [`Set::retain`].
+    pub fn retain(&mut self, stays: impl FnMut(u64) -> bool) -> Result<(), Fault> {
+        order::retain(self, stays)
+    }
+
+    /// Removes each key: see [`Set::clear`].
+    pub fn clear(&mut self) -> Result<(), Fault> {
+        self.retain(|_| false)
+    }
+
+    // ---- by so many tries ----
+
+    /// Whether the set has the key, by so many tries. `Key`, `Busy`, `Pending`.
     pub fn try_contains(&mut self, key: u64, tries: u32) -> Result<bool, Fault> {
-        answer(self.hand().handle.has(key, tries))
+        answer(self.handle().try_contains(checked(key)?, tries))
+    }
+
+    /// Whether the set has each of these keys, by so many tries. `Key`, `Busy`, `Pending`,
+    /// `NoMemory`.
+    pub fn try_contains_many(&mut self, keys: &[u64], tries: u32) -> Result<Vec<bool>, Fault> {
+        keys.iter().try_for_each(|&key| checked(key).map(drop))?;
+        let mut lookups = lookups_of(keys);
+        answer(self.handle().contains_many(&mut lookups, tries))?;
+        Ok(found(&lookups))
+    }
+
+    /// The least key that is not below this one, by so many tries; a look takes up to three where
+    /// nobody else is there. `Key`, `Busy`, `Pending`.
+    pub fn try_at_least(&mut self, key: u64, tries: u32) -> Result<Option<u64>, Fault> {
+        let (key, mut found) = (checked(key)?, 0);
+        let is_found = answer(self.handle().next(key, tries, &mut found))?;
+        Ok(is_found.then_some(found))
+    }
+
+    /// The greatest key that is not above this one, by so many tries. `Key`, `Busy`, `Pending`.
+    pub fn try_at_most(&mut self, key: u64, tries: u32) -> Result<Option<u64>, Fault> {
+        let (key, mut found) = (checked(key)?, 0);
+        let is_found = answer(self.handle().prev(key, tries, &mut found))?;
+        Ok(is_found.then_some(found))
     }
 
     /// Inserts a key by so many tries, and tells whether it was not in the set. `Key`, `Busy`,
-    /// `Full`, `Pending`, `Held`, `NoMemory`.
+    /// `NoNodes`, `Pending`, `NoMemory`.
     pub fn try_insert(&mut self, key: u64, tries: u32) -> Result<bool, Fault> {
-        answer(self.hand().handle.insert(key, tries))
+        answer(self.handle().try_insert(checked(key)?, tries))
     }
 
     /// Removes a key by so many tries, and tells whether it was in the set; true takes two tries at
-    /// least. `Key`, `Busy`, `Unfinished`, `Pending`, `Held`, `NoMemory`.
+    /// least. `Key`, `Busy`, `Unfinished`, `Pending`, `NoMemory`.
     pub fn try_remove(&mut self, key: u64, tries: u32) -> Result<bool, Fault> {
-        answer(self.hand().handle.delete(key, tries))
+        answer(self.handle().try_remove(checked(key)?, tries))
     }
 
-    /// Goes on with the remove that is pending: true where it has answered now, false where none
-    /// is. `Unfinished`.
-    pub fn finish(&mut self, tries: u32) -> Result<bool, Fault> {
-        answer(self.hand().handle.finish(tries))
+    /// Goes on with the remove that is pending, by so many tries: true where it has answered now,
+    /// false where none is. `Unfinished`.
+    pub fn try_finish(&mut self, tries: u32) -> Result<bool, Fault> {
+        answer(self.handle().finish(tries))
     }
 
-    /// Pins the epoch until [`unpin`](Worker::unpin), and tells it: nothing that is in the set now
-    /// is freed meanwhile. `Busy`, `Pending`, `Held`.
-    pub fn pin(&mut self, tries: u32) -> Result<u64, Fault> {
-        let mut epoch = 0;
-        answer(self.hand().handle.pin(tries, &mut epoch)).map(|_| epoch)
-    }
+    // ---- on the epoch ----
 
-    /// Ends the pin. `NotHeld`.
-    pub fn unpin(&mut self) -> Result<(), Fault> {
-        answer(self.hand().handle.unpin()).map(drop)
+    /// Pins the epoch until the guard is dropped: nothing that is in the set now is freed
+    /// meanwhile, so that inserts of all threads may find the set full. `Contention`.
+    ///
+    /// ```
+    /// # fn main() -> Result<(), nm_set::Fault> {
+    /// let set = nm_set::Set::new(1_024)?;
+    /// let (mut reader, mut other) = (set.attach()?, set.attach()?);
+    /// let guard = reader.pin()?;
+    /// other.advance();
+    /// assert_eq!(other.behind().workers.to_string(), "0");
+    /// drop(guard);
+    /// assert!(other.behind().workers.is_empty());
+    /// # Ok(())
+    /// # }
+    /// ```
+    pub fn pin(&mut self) -> Result<PinGuard<'_>, Fault> {
+        let (pool, handle) = self.parts();
+        let epoch = handle.hold(&pool.habit)?;
+        Ok(PinGuard {
+            worker: self,
+            epoch,
+        })
     }
 
     /// Moves the epoch on by one, if no worker holds it back.
     pub fn advance(&mut self) -> Advance {
-        self.hand().advance()
+        self.handle().move_on()
     }
 
     /// Which workers hold the epoch back.
     pub fn behind(&mut self) -> Behind {
         let (mut epoch, mut mask) = (0, 0);
-        self.hand().handle.behind(&mut epoch, &mut mask);
-        Behind { epoch, mask }
+        self.handle().behind(&mut epoch, &mut mask);
+        let workers = Numbers::of(mask);
+        Behind { epoch, workers }
     }
 
     /// Frees what has waited long enough in its own queue, and tells how many nodes.
     pub fn collect(&mut self) -> u64 {
-        self.hand().collect()
+        self.handle().free_old()
     }
 
+    // ---- of itself ----
+
     /// How many nodes wait in its queue.
-    pub fn queue_len(&mut self) -> u64 {
-        self.hand().queue_len()
+    pub fn waiting(&mut self) -> u64 {
+        self.ledger().queued
     }
 
     /// The key of a remove that has begun and not answered yet.
     pub fn pending(&mut self) -> Option<u64> {
         let mut key = 0;
-        (self.hand().handle.pending(&mut key) > 0).then_some(key)
-    }
-
-    /// The epoch at which it is held.
-    pub fn held(&mut self) -> Option<u64> {
-        let mut epoch = 0;
-        (self.hand().handle.held(&mut epoch) > 0).then_some(epoch)
+        (self.handle().pending(&mut key) > 0).then_some(key)
     }
 
     /// What it has won, and what became of what it cut off.
     pub fn ledger(&mut self) -> Ledger {
         let mut ledger = Ledger::default();
-        self.hand().handle.ledger(&mut ledger);
+        self.handle().ledger(&mut ledger);
         ledger
     }
+
+    // ---- notes between workers ----
 
     /// Leaves a note of all that the worker has seen, in place of its earlier one, and tells what
     /// it has won so far. No answer of the set depends on notes: they are for who proves something
     /// of the order of two workers' calls. `Busy`: a reader has the earlier note at this moment.
     pub fn post(&mut self) -> Result<Posted, Fault> {
-        let Posted {
-            mut links,
-            mut flags,
-        } = Posted::default();
-        answer(self.hand().handle.post(&mut links, &mut flags))?;
+        let (mut links, mut flags) = (0, 0);
+        answer(self.handle().post(&mut links, &mut flags))?;
         Ok(Posted { links, flags })
     }
 
@@ -221,26 +353,38 @@ impl Worker {
     /// all that this worker is asked from now on comes behind all that that one had seen. None
     /// where it has left no note. `Number`; `Busy`: another worker is at that note at this moment.
     pub fn read(&mut self, number: u32) -> Result<Option<Posted>, Fault> {
-        let Posted {
-            mut links,
-            mut flags,
-        } = Posted::default();
-        let is_left = answer(self.hand().handle.read(number, &mut links, &mut flags))?;
+        let workers = self.pool.workers();
+        if number >= workers {
+            return Err(Fault::Number { number, workers });
+        }
+        let (mut links, mut flags) = (0, 0);
+        let is_left = answer(self.handle().read(number, &mut links, &mut flags))?;
         Ok(is_left.then_some(Posted { links, flags }))
+    }
+}
+
+impl Calls for &mut Worker {
+    fn least_from(&mut self, key: u64) -> Result<Option<u64>, Fault> {
+        self.at_least(key)
+    }
+
+    fn greatest_to(&mut self, key: u64) -> Result<Option<u64>, Fault> {
+        self.at_most(key)
+    }
+
+    fn take(&mut self, key: u64) -> Result<bool, Fault> {
+        self.remove(key)
     }
 }
 
 impl Drop for Worker {
     fn drop(&mut self) {
-        if let Some(mut hand) = self.hand.take() {
-            hand.rest(&self.shared.habit);
-            self.shared.receive(hand, self.number);
-        }
+        self.pool.receive(self.number);
     }
 }
 
-impl std::fmt::Debug for Worker {
-    fn fmt(&self, f: &mut std::fmt::Formatter<'_>) -> std::fmt::Result {
+impl fmt::Debug for Worker {
+    fn fmt(&self, f: &mut fmt::Formatter<'_>) -> fmt::Result {
         f.debug_struct("Worker")
             .field("number", &self.number)
             .finish_non_exhaustive()

@@ -1,46 +1,66 @@
 //! Each call by one thread, and each fault that one thread can meet.
 
-use nm_set::{Advance, Fault, Options, Placement, Posted, Set, Worker, MOST_KEY};
+use nm_set::{Advance, Fault, Options, Posted, Set, Shape, Worker, MOST_KEY};
 use std::error::Error;
 
-fn small(workers: u32) -> Options {
-    Options {
+/// A set with room for one key, in which the lowest free node is taken.
+fn small(workers: u32) -> Set {
+    of_shape(7, workers, Shape::Lowest)
+}
+
+fn of_shape(nodes: u32, workers: u32, shape: Shape) -> Set {
+    let options = Options {
         workers,
-        placement: Placement::Lowest,
-        ..Options::new(7)
-    }
+        shape,
+        ..Options::default()
+    };
+    Set::with_options(nodes, options).unwrap()
 }
 
 #[test]
 fn types_cross_threads_as_they_should() {
-    fn is_shared<T: Send + Sync + Clone + 'static>() {}
+    fn is_shared<T: Send + Sync + Clone + std::panic::RefUnwindSafe + 'static>() {}
     fn is_sent<T: Send + 'static>() {}
     fn is_error<T: Error + Send + Sync + Copy + 'static>() {}
     is_shared::<Set>();
     is_sent::<Worker>();
     is_error::<Fault>();
-    let fault: Box<dyn Error + Send + Sync> = Fault::Full.into();
-    assert_eq!(fault.to_string(), "no slots are free for the new nodes");
+    let fault: Box<dyn Error + Send + Sync> = Fault::NoMemory.into();
+    assert_eq!(fault.to_string(), "memory was refused");
+}
+
+/// What a set of so many nodes and workers is refused with.
+fn refused(nodes: u32, workers: u32) -> Option<String> {
+    let options = Options {
+        workers,
+        ..Options::default()
+    };
+    let told = Set::with_options(nodes, options).err();
+    told.map(|fault| fault.to_string())
 }
 
 #[test]
 fn sizes_are_told() {
-    assert_eq!(Set::new(6).err(), Some(Fault::Nodes));
-    assert_eq!(Set::new(268_435_457).err(), Some(Fault::Nodes));
-    assert_eq!(small(0).open().err(), Some(Fault::Workers));
-    assert_eq!(small(65).open().err(), Some(Fault::Workers));
-    assert_eq!(small(64).open().unwrap().workers(), 64);
+    assert_eq!(Set::new(6).err(), Some(Fault::Nodes(6)));
+    let told = refused(268_435_457, 64).unwrap();
+    assert_eq!(
+        told,
+        "the number of nodes is not 7 to 268,435,456: 268435457"
+    );
+    let told = refused(64, 0).unwrap();
+    assert_eq!(told, "the number of workers is not 1 to 64: 0");
+    assert_eq!(
+        refused(64, 65).unwrap(),
+        "the number of workers is not 1 to 64: 65"
+    );
+    let set = small(64);
+    assert_eq!((set.workers(), set.nodes()), (64, 7));
 }
 
 #[test]
 fn keys_come_and_go() {
-    for placement in [Placement::Near, Placement::Lowest] {
-        let set = Options {
-            placement,
-            ..Options::new(64)
-        }
-        .open()
-        .unwrap();
+    for shape in [Shape::Radix, Shape::Near, Shape::Lowest] {
+        let set = of_shape(64, 64, shape);
         assert_eq!(set.contains(5), Ok(false));
         assert_eq!(
             (set.insert(5), set.insert(5), set.contains(5)),
@@ -51,25 +71,56 @@ fn keys_come_and_go() {
             (Ok(true), Ok(false), Ok(false))
         );
         assert_eq!((set.insert(MOST_KEY), set.insert(0)), (Ok(true), Ok(true)));
-        let key = Err(Fault::Key);
-        assert_eq!(
-            (
-                set.insert(MOST_KEY + 1),
-                set.contains(u64::MAX),
-                set.remove(u64::MAX)
-            ),
-            (key, key, key)
-        );
         let report = set.close().unwrap();
         assert_eq!(report.keys(), [0, MOST_KEY]);
         assert!(report.contains(0) && !report.contains(5) && !report.is_empty());
         assert_eq!((report.len(), report.reached(), report.free()), (2, 4, 53));
+        assert_eq!(report.into_iter().collect::<Vec<_>>(), [0, MOST_KEY]);
     }
 }
 
 #[test]
+fn what_is_no_key_is_told_by_each_call_for_a_key() {
+    let set = small(2);
+    let mut worker = set.attach().unwrap();
+    let told = Fault::Key(u64::MAX);
+    let key = u64::MAX;
+    assert_eq!(
+        (set.insert(key), worker.insert(key)),
+        (Err(told), Err(told))
+    );
+    assert_eq!(
+        (set.remove(key), worker.remove(key)),
+        (Err(told), Err(told))
+    );
+    assert_eq!(
+        (set.contains(key), worker.contains(key)),
+        (Err(told), Err(told))
+    );
+    assert_eq!(
+        (set.at_least(key), worker.at_least(key)),
+        (Err(told), Err(told))
+    );
+    assert_eq!(
+        (set.at_most(key), worker.at_most(key)),
+        (Err(told), Err(told))
+    );
+    let keys = [5, key];
+    assert_eq!(set.contains_many(&keys), Err(told));
+    assert_eq!(worker.contains_many(&keys), Err(told));
+    assert_eq!(worker.try_contains_many(&keys, 64), Err(told));
+    assert_eq!(worker.try_insert(key, 64), Err(told));
+    assert_eq!(worker.try_remove(key, 64), Err(told));
+    assert_eq!(worker.try_contains(key, 64), Err(told));
+    assert_eq!(worker.try_at_least(key, 64), Err(told));
+    assert_eq!(set.insert(MOST_KEY + 1), Err(Fault::Key(MOST_KEY + 1)));
+    let text = "the key 18446744073709551615 is above 18,446,744,073,709,551,612 (2^64 - 4)";
+    assert_eq!(told.to_string(), text);
+}
+
+#[test]
 fn a_worker_has_the_calls_of_the_library() {
-    let set = small(2).open().unwrap();
+    let set = small(2);
     let mut worker = set.worker(1).unwrap();
     assert_eq!(worker.number(), 1);
     assert_eq!(
@@ -78,26 +129,26 @@ fn a_worker_has_the_calls_of_the_library() {
     );
     assert_eq!(
         (worker.try_insert(5, 64), worker.try_insert(6, 64)),
-        (Ok(true), Err(Fault::Full))
+        (Ok(true), Err(Fault::NoNodes))
     );
     assert_eq!(
         (worker.try_remove(5, 1), worker.pending()),
         (Err(Fault::Unfinished), Some(5))
     );
     assert_eq!(
-        (worker.try_contains(5, 64), worker.finish(0)),
+        (worker.try_contains(5, 64), worker.try_finish(0)),
         (Err(Fault::Pending), Err(Fault::Unfinished))
     );
     assert_eq!(
-        (worker.finish(64), worker.finish(64), worker.pending()),
+        (
+            worker.try_finish(64),
+            worker.try_finish(64),
+            worker.pending()
+        ),
         (Ok(true), Ok(false), None)
     );
-    assert_eq!((worker.unpin(), worker.held()), (Err(Fault::NotHeld), None));
-    assert_eq!((worker.pin(64), worker.held()), (Ok(0), Some(0)));
-    assert_eq!(
-        (worker.try_insert(5, 64), worker.pin(64)),
-        (Err(Fault::Held), Err(Fault::Held))
-    );
+    let guard = worker.pin().unwrap();
+    assert_eq!(guard.epoch(), 0);
     let mut other = set.worker(0).unwrap();
     assert_eq!(
         (other.advance(), other.advance()),
@@ -109,13 +160,15 @@ fn a_worker_has_the_calls_of_the_library() {
             }
         )
     );
-    assert_eq!((other.behind().epoch, other.behind().mask), (1, 2));
+    let behind = other.behind();
+    assert_eq!((behind.epoch, behind.workers.to_string()), (1, "1".into()));
+    drop(guard);
     assert_eq!(
-        (worker.collect(), worker.unpin(), other.advance()),
-        (0, Ok(()), Advance::Moved { epoch: 2 })
+        (worker.collect(), other.advance()),
+        (0, Advance::Moved { epoch: 2 })
     );
     assert_eq!(
-        (worker.queue_len(), worker.collect(), worker.queue_len()),
+        (worker.waiting(), worker.collect(), worker.waiting()),
         (2, 2, 0)
     );
     let ledger = worker.ledger();
@@ -125,7 +178,7 @@ fn a_worker_has_the_calls_of_the_library() {
 
 #[test]
 fn several_keys_are_looked_up_in_a_call() {
-    let set = small(2).open().unwrap();
+    let set = small(2);
     let mut worker = set.worker(0).unwrap();
     assert_eq!(worker.insert(5), Ok(true));
     assert_eq!(
@@ -135,50 +188,44 @@ fn several_keys_are_looked_up_in_a_call() {
         ),
         (Ok(vec![false, true, false, true]), Ok(vec![]))
     );
-    assert_eq!(set.contains_many(&[5, MOST_KEY + 1]), Err(Fault::Key));
     assert_eq!(worker.try_remove(5, 1), Err(Fault::Unfinished));
     assert_eq!(
         (worker.contains_many(&[5, 6]), worker.pending()),
         (Ok(vec![false, false]), None)
     );
-    assert_eq!(worker.pin(64), Ok(0));
-    assert_eq!(worker.contains_many(&[5]), Err(Fault::Held));
+    assert_eq!(worker.insert(5), Ok(true));
+    assert_eq!(worker.try_contains_many(&[5, 6], 64), Ok(vec![true, false]));
 }
 
 #[test]
-fn the_keys_of_a_set_in_use_ascend() {
-    let set = Set::new(64).unwrap();
+fn a_worker_whose_guard_was_forgotten_is_told_so_and_goes_back_without_its_pin() {
+    let set = small(1);
     let mut worker = set.attach().unwrap();
-    assert_eq!((worker.at_least(0), set.keys().next()), (Ok(None), None));
-    for key in [30, 10, MOST_KEY, 20] {
-        assert_eq!(worker.insert(key), Ok(true));
-    }
-    let found: Vec<_> = [0, 10, 11, 21, 31, MOST_KEY]
-        .iter()
-        .map(|&key| set.at_least(key).unwrap().unwrap())
-        .collect();
-    assert_eq!(found, [10, 10, 20, 30, MOST_KEY, MOST_KEY]);
-    assert_eq!(set.at_least(MOST_KEY + 1), Err(Fault::Key));
-    assert_eq!(worker.try_remove(20, 1), Err(Fault::Unfinished));
+    std::mem::forget(worker.pin().unwrap());
+    let held = Err(Fault::Held);
     assert_eq!(
-        (worker.at_least(11), worker.pending()),
-        (Ok(Some(30)), None)
+        (worker.insert(5), worker.contains(5), worker.remove(5)),
+        (held, held, held)
     );
-    let keys: Result<Vec<_>, _> = set.keys().collect();
-    assert_eq!((keys, set.keys().count()), (Ok(vec![10, 30, MOST_KEY]), 3));
+    assert_eq!(worker.try_insert(5, 64), held);
+    assert_eq!(worker.pin().err(), Some(Fault::Held));
     drop(worker);
-    set.close().unwrap();
-    let told: Vec<_> = set.keys().collect();
-    assert_eq!(told, [Err(Fault::Closed)]);
+    assert_eq!(set.insert(5), Ok(true));
 }
 
 #[test]
 fn a_worker_reads_the_note_of_another_one() {
-    let set = small(2).open().unwrap();
+    let set = small(2);
     let (mut writer, mut reader) = (set.worker(0).unwrap(), set.worker(1).unwrap());
     assert_eq!(
         (reader.read(0), reader.read(2)),
-        (Ok(None), Err(Fault::Number))
+        (
+            Ok(None),
+            Err(Fault::Number {
+                number: 2,
+                workers: 2
+            })
+        )
     );
     assert_eq!(writer.insert(5), Ok(true));
     let won = |links, flags| Posted { links, flags };
@@ -199,17 +246,21 @@ fn a_worker_reads_the_note_of_another_one() {
 
 #[test]
 fn workers_are_given_out_once() {
-    let set = small(2).open().unwrap();
+    let set = small(2);
     let first = set.attach().unwrap();
+    let number = Fault::Number {
+        number: 2,
+        workers: 2,
+    };
+    assert_eq!((first.number(), set.worker(2).err()), (0, Some(number)));
     assert_eq!(
-        (first.number(), set.worker(0).err(), set.worker(2).err()),
-        (0, Some(Fault::Away), Some(Fault::Number))
+        number.to_string(),
+        "there is no worker 2: the set has 2, from 0 on"
     );
+    let away = set.worker(0).unwrap_err();
+    assert_eq!(away.to_string(), "worker 0 is attached to a thread");
     let second = set.attach().unwrap();
-    assert_eq!(
-        (second.number(), set.attach().err(), set.contains(5)),
-        (1, Some(Fault::NoWorker), Err(Fault::NoWorker))
-    );
+    assert_eq!((second.number(), second.set().workers()), (1, 2));
     drop(first);
     assert_eq!(
         (set.contains(5), set.attach().unwrap().number()),
@@ -218,21 +269,45 @@ fn workers_are_given_out_once() {
 }
 
 #[test]
+fn a_thread_that_has_each_worker_itself_is_told_so() {
+    let set = small(2);
+    let _both = (set.attach().unwrap(), set.attach().unwrap());
+    let own = Fault::NoWorker { workers: 2, own: 2 };
+    assert_eq!(set.try_attach().err(), Some(own));
+    assert_eq!((set.attach().err(), set.contains(5)), (Some(own), Err(own)));
+    let text = "no worker is free: the set has 2 (64 at most), and this thread has each itself";
+    assert_eq!(own.to_string(), text);
+}
+
+#[test]
 fn a_set_is_closed_once_no_worker_is_out() {
     let set = Set::new(64).unwrap();
     let clone = set.clone();
     let mut worker = clone.attach().unwrap();
-    assert_eq!(
-        (worker.insert(5), clone.insert(6), set.close().err()),
-        (Ok(true), Ok(true), Some(Fault::Away))
-    );
+    assert_eq!((worker.insert(5), clone.insert(6)), (Ok(true), Ok(true)));
+    let away = set.close().unwrap_err();
+    assert_eq!(away.to_string(), "worker 0 is attached to a thread");
     assert_eq!((worker.contains(6), set.contains(5)), (Ok(true), Ok(true)));
     drop(worker);
     assert_eq!(clone.close().unwrap().keys(), [5, 6]);
+    let closed = Fault::Closed;
     assert_eq!(
-        (set.close().err(), set.insert(7), set.attach().err()),
-        (Some(Fault::Closed), Err(Fault::Closed), Some(Fault::Closed))
+        (set.close().err(), set.insert(7)),
+        (Some(closed), Err(closed))
     );
+    assert_eq!(
+        (set.attach().err(), set.worker(0).err()),
+        (Some(closed), Some(closed))
+    );
+    assert_eq!(
+        (set.len(), set.waiting(), set.free()),
+        (Err(closed), Err(closed), Err(closed))
+    );
+    assert_eq!(
+        (set.collect(), set.iter().next()),
+        (Err(closed), Some(Err(closed)))
+    );
+    assert_eq!(format!("{set:?}"), "Set(the set is closed)");
 }
 
 #[test]
@@ -242,13 +317,8 @@ fn a_worker_outlives_its_set() {
 }
 
 #[test]
-fn a_worker_rests_without_its_pin_and_its_pending_key() {
-    let set = Options {
-        workers: 1,
-        ..Options::new(64)
-    }
-    .open()
-    .unwrap();
+fn a_worker_goes_back_without_its_pending_key() {
+    let set = of_shape(64, 1, Shape::Radix);
     let mut worker = set.attach().unwrap();
     assert_eq!(
         (worker.insert(5), worker.try_remove(5, 1)),
@@ -257,21 +327,14 @@ fn a_worker_rests_without_its_pin_and_its_pending_key() {
     drop(worker);
     let mut worker = set.attach().unwrap();
     assert_eq!(
-        (worker.pending(), worker.contains(5), worker.pin(64)),
-        (None, Ok(false), Ok(0))
+        (worker.pending(), worker.try_contains(5, 64)),
+        (None, Ok(false))
     );
-    drop(worker);
-    assert_eq!(set.attach().unwrap().held(), None);
 }
 
 #[test]
 fn a_report_tells_what_waits() {
-    let set = Options {
-        workers: 3,
-        ..Options::new(64)
-    }
-    .open()
-    .unwrap();
+    let set = of_shape(64, 3, Shape::Radix);
     let mut worker = set.worker(1).unwrap();
     assert_eq!(
         (worker.insert(5), worker.insert(6), worker.remove(5)),

@@ -2,8 +2,10 @@
 
 use nm_set::{Fault, Options, Set, Worker};
 use std::collections::BTreeSet;
+use std::panic::{catch_unwind, AssertUnwindSafe};
 use std::sync::{Barrier, Mutex};
-use std::thread::scope;
+use std::thread::{self, scope};
+use std::time::{Duration, Instant};
 
 const THREADS: u64 = 4;
 const KEYS: u64 = 64;
@@ -16,28 +18,36 @@ trait Calls {
     fn take(&mut self, key: u64) -> Result<bool, Fault>;
 }
 
-impl Calls for Worker {
-    fn has(&mut self, key: u64) -> Result<bool, Fault> {
-        self.contains(key)
-    }
-    fn add(&mut self, key: u64) -> Result<bool, Fault> {
-        self.insert(key)
-    }
-    fn take(&mut self, key: u64) -> Result<bool, Fault> {
-        self.remove(key)
-    }
+macro_rules! calls_of {
+    ($($type:ty),*) => {
+        $(impl Calls for $type {
+            fn has(&mut self, key: u64) -> Result<bool, Fault> {
+                self.contains(key)
+            }
+            fn add(&mut self, key: u64) -> Result<bool, Fault> {
+                self.insert(key)
+            }
+            fn take(&mut self, key: u64) -> Result<bool, Fault> {
+                self.remove(key)
+            }
+        })*
+    };
 }
 
-impl Calls for Set {
-    fn has(&mut self, key: u64) -> Result<bool, Fault> {
-        self.contains(key)
-    }
-    fn add(&mut self, key: u64) -> Result<bool, Fault> {
-        self.insert(key)
-    }
-    fn take(&mut self, key: u64) -> Result<bool, Fault> {
-        self.remove(key)
-    }
+calls_of!(Worker, Set);
+
+/// A number that the environment tells, for a longer run; else the usual one.
+fn told_by(name: &str, usual: u64) -> u64 {
+    let told = std::env::var(name).ok();
+    told.map_or(usual, |number| number.parse().expect("a whole number"))
+}
+
+fn with_workers(nodes: u32, workers: u32) -> Set {
+    let options = Options {
+        workers,
+        ..Options::default()
+    };
+    Set::with_options(nodes, options).unwrap()
 }
 
 fn draw(seed: &mut u64) -> u64 {
@@ -47,14 +57,14 @@ fn draw(seed: &mut u64) -> u64 {
     *seed
 }
 
-/// Makes a call until it has answered. Full, contention and the want of a worker may be told as
-/// long as other threads are in the way; a remove that has begun counts, since its key will go.
+/// Makes a call until it has answered. Contention may be told where tries are few; a remove that
+/// has begun counts, since its key will go.
 fn answered(mut call: impl FnMut() -> Result<bool, Fault>) -> bool {
     loop {
         match call() {
             Ok(answer) => return answer,
             Err(Fault::Unfinished) => return true,
-            Err(Fault::Full | Fault::Contention | Fault::NoWorker) => std::thread::yield_now(),
+            Err(Fault::Contention) => thread::yield_now(),
             Err(fault) => panic!("{fault}"),
         }
     }
@@ -75,8 +85,14 @@ fn work(calls: &mut impl Calls, mut seed: u64) -> Vec<i64> {
     balance
 }
 
-/// Whether the report has the keys that the balances leave, and each slot once.
-fn adds_up(set: &Set, nodes: u32, balances: &[Vec<i64>]) {
+/// The report has the keys that the balances leave, and each node once; and before it the set tells
+/// the same of itself.
+fn adds_up(set: &Set, balances: &[Vec<i64>]) {
+    let told = (
+        set.len().unwrap(),
+        set.waiting().unwrap(),
+        set.free().unwrap(),
+    );
     let report = set.close().unwrap();
     for key in 0..KEYS {
         let balance: i64 = balances.iter().map(|of| of[key as usize]).sum();
@@ -86,17 +102,17 @@ fn adds_up(set: &Set, nodes: u32, balances: &[Vec<i64>]) {
     assert_eq!(report.reached() as usize, 2 * report.len());
     assert_eq!(
         report.free() as usize + report.reached() as usize + waiting,
-        nodes as usize - 5
+        set.nodes() as usize - 5
     );
+    assert_eq!(told, (report.len(), waiting as u64, report.free().into()));
 }
 
 /// Four threads on one set, each of which makes its calls by what a function gives it.
-fn play<C: Calls>(options: Options, calls: impl Fn(&Set) -> C + Sync) {
-    let set = options.open().unwrap();
+fn play<C: Calls>(set: &Set, calls: impl Fn(&Set) -> C + Sync) {
     let (balances, begin) = (Mutex::new(Vec::new()), Barrier::new(THREADS as usize));
     scope(|scope| {
         for thread in 0..THREADS {
-            let (set, balances, begin, calls) = (&set, &balances, &begin, &calls);
+            let (balances, begin, calls) = (&balances, &begin, &calls);
             scope.spawn(move || {
                 begin.wait();
                 let balance = work(&mut calls(set), 88_172_645_463_325_252 + thread);
@@ -104,39 +120,39 @@ fn play<C: Calls>(options: Options, calls: impl Fn(&Set) -> C + Sync) {
             });
         }
     });
-    adds_up(&set, options.nodes, &balances.into_inner().unwrap());
+    adds_up(set, &balances.into_inner().unwrap());
+}
+
+/// A set in which room is scarce and tries are few, and that has patience instead.
+fn scarce(tries: u32, workers: u32) -> Set {
+    let options = Options {
+        workers,
+        tries,
+        rounds: 4,
+        patience: 10_000,
+        ..Options::default()
+    };
+    Set::with_options(256, options).unwrap()
 }
 
 #[test]
 fn threads_with_workers_add_up() {
-    play(Options::new(1_024), |set| set.attach().unwrap());
+    play(&Set::new(1_024).unwrap(), |set| set.attach().unwrap());
 }
 
 #[test]
 fn threads_with_workers_add_up_where_room_is_scarce_and_tries_are_few() {
-    play(
-        Options {
-            tries: 1,
-            rounds: 4,
-            workers: 5,
-            ..Options::new(256)
-        },
-        |set| set.attach().unwrap(),
-    );
+    play(&scarce(1, 5), |set| set.attach().unwrap());
 }
 
 #[test]
 fn threads_without_workers_add_up() {
-    play(Options::new(1_024), Set::clone);
-    play(
-        Options {
-            workers: 4,
-            tries: 2,
-            rounds: 3,
-            ..Options::new(256)
-        },
-        Set::clone,
-    );
+    play(&Set::new(1_024).unwrap(), Set::clone);
+}
+
+#[test]
+fn threads_without_workers_add_up_where_these_are_fewer_and_room_is_scarce() {
+    play(&scarce(2, 3), Set::clone);
 }
 
 #[test]
@@ -158,81 +174,292 @@ fn threads_attach_themselves_at_once() {
 }
 
 #[test]
-fn more_threads_than_workers_are_told() {
-    let set = Options {
-        workers: 2,
-        ..Options::new(1_024)
-    }
-    .open()
-    .unwrap();
+fn more_threads_than_workers_wait_for_one() {
+    let set = with_workers(4_096, 2);
     scope(|scope| {
         for thread in 0..8 {
             let set = &set;
             scope.spawn(move || {
-                for key in (0..2_000).map(|number| number * 8 + thread) {
-                    match set.contains(key) {
-                        Ok(found) => assert!(!found),
-                        Err(fault) => assert_eq!(fault, Fault::NoWorker),
-                    }
+                for key in (0..200).map(|number| number * 8 + thread) {
+                    assert_eq!(set.insert(key), Ok(true));
+                    assert_eq!(set.contains(key), Ok(true));
                 }
             });
         }
     });
-    assert!(set.close().unwrap().is_empty());
+    assert_eq!(set.close().unwrap().len(), 1_600);
 }
 
 #[test]
-fn a_worker_goes_home_with_a_thread_that_panics() {
-    let set = Options {
-        workers: 1,
-        ..Options::new(64)
-    }
-    .open()
-    .unwrap();
+fn two_hundred_threads_attach_work_and_end() {
+    let set = Set::new(65_536).unwrap();
+    let begin = Barrier::new(200);
+    scope(|scope| {
+        for thread in 0..200 {
+            let (set, begin) = (&set, &begin);
+            scope.spawn(move || {
+                begin.wait();
+                for round in 0..5 {
+                    let mut worker = set.attach().unwrap();
+                    assert_eq!(worker.insert(thread * 5 + round), Ok(true));
+                    assert_eq!(set.len().map(|keys| keys <= 1_000), Ok(true));
+                }
+            });
+        }
+    });
+    let keys: Vec<u64> = (0..1_000).collect();
+    assert_eq!(set.close().unwrap().keys(), keys);
+}
+
+#[test]
+fn an_attach_waits_for_another_thread_and_no_longer_than_it_is_told() {
+    let set = with_workers(64, 1);
+    let (mut worker, begin) = (set.attach().unwrap(), Instant::now());
+    scope(|scope| {
+        let told = scope.spawn(|| {
+            let at_once = set.try_attach().unwrap_err();
+            let later = set.attach_timeout(Duration::from_millis(30)).unwrap_err();
+            (at_once, later, begin.elapsed())
+        });
+        let (at_once, later, took) = told.join().unwrap();
+        let none = Fault::NoWorker { workers: 1, own: 0 };
+        assert_eq!((at_once, later), (none, none));
+        let text = "no worker is free: the set has 1 (64 at most), and threads have each";
+        assert_eq!(none.to_string(), text);
+        assert!(took >= Duration::from_millis(30), "{took:?}");
+        let attached = scope.spawn(|| set.attach().unwrap().contains(5));
+        let called = scope.spawn(|| set.contains(5));
+        thread::sleep(Duration::from_millis(400));
+        assert!(!attached.is_finished() && !called.is_finished());
+        assert_eq!(worker.insert(5), Ok(true));
+        drop(worker);
+        assert_eq!(attached.join().unwrap(), Ok(true));
+        assert_eq!(called.join().unwrap(), Ok(true));
+    });
+}
+
+/// The other thread makes its first call a little later, and keeps the worker for longer than a
+/// thread waits that has each worker itself.
+#[test]
+fn a_thread_that_has_sent_its_workers_away_waits_for_one() {
+    let set = with_workers(64, 1);
     let mut worker = set.attach().unwrap();
-    let told = std::thread::spawn(move || {
-        worker.insert(5).unwrap();
-        assert!(!worker.contains(5).unwrap(), "as it should");
+    scope(|scope| {
+        scope.spawn(|| {
+            thread::sleep(Duration::from_millis(10));
+            assert_eq!(worker.insert(5), Ok(true));
+            thread::sleep(Duration::from_millis(400));
+            drop(worker);
+        });
+        assert_eq!(set.contains(5), Ok(true));
+    });
+}
+
+#[test]
+fn a_worker_goes_back_with_a_thread_that_panics() {
+    let set = with_workers(64, 1);
+    let mut worker = set.attach().unwrap();
+    let told = thread::spawn(move || {
+        assert_eq!((worker.insert(5), worker.insert(6)), (Ok(true), Ok(true)));
+        assert_eq!(worker.try_remove(6, 1), Err(Fault::Unfinished));
+        assert_eq!(worker.pending(), None, "as it should");
     });
     assert!(told.join().is_err());
-    assert_eq!((set.contains(5), set.close().unwrap().len()), (Ok(true), 1));
+    assert_eq!(set.attach().unwrap().pending(), None);
+    assert_eq!((set.contains(5), set.contains(6)), (Ok(true), Ok(false)));
+    assert_eq!(set.close().unwrap().keys(), [5]);
 }
 
 #[test]
-fn a_set_is_closed_while_others_make_calls() {
-    for _ in 0..50 {
-        let set = Set::new(1_024).unwrap();
-        let begin = Barrier::new(3);
-        let kept = scope(|scope| {
-            let callers: Vec<_> = (0..2)
-                .map(|thread| {
+fn how_full_a_set_is_can_be_asked_beside_callers() {
+    let set: Set = (0..100).collect();
+    let begin = Barrier::new(4);
+    scope(|scope| {
+        for key in 1_000..1_003 {
+            let (set, begin) = (&set, &begin);
+            scope.spawn(move || {
+                let mut worker = set.attach().unwrap();
+                begin.wait();
+                for _ in 0..50_000 {
+                    assert_eq!(worker.insert(key), Ok(true));
+                    assert_eq!(worker.remove(key), Ok(true));
+                }
+            });
+        }
+        begin.wait();
+        for _ in 0..100 {
+            let keys = set.len().unwrap();
+            assert!((100..=103).contains(&keys), "{keys} keys");
+            assert!(set.free().unwrap() <= 65_536 - 205);
+            assert!(set.collect().unwrap() < 65_536 && set.waiting().unwrap() < 65_536);
+        }
+    });
+    assert_eq!((set.len(), set.close().unwrap().len()), (Ok(100), 100));
+}
+
+#[test]
+fn a_panic_through_a_pin_leaves_the_worker_and_the_set_usable() {
+    let set = with_workers(7, 2);
+    let mut worker = set.attach().unwrap();
+    let told = catch_unwind(AssertUnwindSafe(|| {
+        let guard = worker.pin().unwrap();
+        assert_eq!(guard.epoch(), u64::MAX, "as it should");
+    }));
+    assert!(told.is_err());
+    for key in 0..100 {
+        assert_eq!(
+            (worker.insert(key), worker.remove(key)),
+            (Ok(true), Ok(true))
+        );
+        assert_eq!((set.insert(key), set.remove(key)), (Ok(true), Ok(true)));
+    }
+    let told = catch_unwind(|| set.retain(|key| panic!("as it should, at {key}")));
+    assert_eq!((told.is_ok(), set.insert(5)), (true, Ok(true)));
+    let told = catch_unwind(|| set.retain(|key| panic!("as it should, at {key}")));
+    assert_eq!((told.is_err(), set.len()), (true, Ok(1)));
+}
+
+/// Calls until the set is closed: how many keys it has inserted, and the fault that ended it.
+fn call_until_closed(set: &Set, first: u64) -> (usize, Fault) {
+    let mut inserted = 0;
+    for key in (first..16_000).step_by(16).cycle() {
+        let told = set.insert(key).and_then(|is_new| {
+            inserted += usize::from(is_new);
+            set.contains(key)
+        });
+        match told {
+            Ok(is_in) => assert!(is_in),
+            Err(fault) => return (inserted, fault),
+        }
+    }
+    unreachable!("the keys come again and again");
+}
+
+#[test]
+fn a_set_closed_beside_sixteen_callers_tells_each_so() {
+    for round in 0..told_by("NM_SET_CLOSES", 40) {
+        let workers = 1 + round as u32 % 24;
+        let (set, begin) = (with_workers(65_536, workers), Barrier::new(17));
+        let (report, told) = scope(|scope| {
+            let callers: Vec<_> = (0..16)
+                .map(|first| {
                     let (set, begin) = (&set, &begin);
                     scope.spawn(move || {
                         begin.wait();
-                        (0..1_000)
-                            .map(|number| number * 2 + thread)
-                            .take_while(|&key| set.insert(key) == Ok(true))
-                            .last()
+                        call_until_closed(set, first)
                     })
                 })
                 .collect();
             begin.wait();
+            thread::sleep(Duration::from_micros(round % 40 * 100));
             let report = set.close().unwrap();
-            let last: Vec<_> = callers
+            let told: Vec<_> = callers
                 .into_iter()
                 .map(|caller| caller.join().unwrap())
                 .collect();
-            (report, last)
+            (report, told)
         });
-        let wanted: usize = kept
-            .1
-            .iter()
-            .map(|last| last.map_or(0, |key| key as usize / 2 + 1))
-            .sum();
-        assert_eq!(
-            kept.0.len(),
-            wanted,
-            "each insert that answered stands in the report, and no other"
+        assert!(
+            told.iter().all(|(_, fault)| *fault == Fault::Closed),
+            "{told:?}"
         );
+        let inserted: usize = told.iter().map(|(inserted, _)| inserted).sum();
+        assert_eq!(
+            report.len(),
+            inserted,
+            "each insert that answered stands in the report"
+        );
+    }
+}
+
+#[test]
+fn of_several_closes_one_has_the_report() {
+    for _ in 0..20 {
+        let (set, begin) = (Set::from([5, 7]), Barrier::new(4));
+        let reports: Vec<_> = scope(|scope| {
+            let close = || {
+                begin.wait();
+                set.close()
+            };
+            let closers: Vec<_> = (0..4).map(|_| scope.spawn(close)).collect();
+            let told = closers.into_iter().map(|closer| closer.join().unwrap());
+            told.filter_map(|told| match told {
+                Ok(report) => Some(report),
+                Err(fault) => {
+                    assert_eq!(fault, Fault::Closed);
+                    None
+                }
+            })
+            .collect()
+        });
+        assert_eq!(reports.len(), 1);
+        assert_eq!(reports[0].keys(), [5, 7]);
+    }
+}
+
+#[test]
+fn a_set_closed_beside_threads_that_attach_tells_each_so_or_names_its_worker() {
+    for _ in 0..40 {
+        let (set, begin) = (with_workers(1_024, 3), Barrier::new(5));
+        scope(|scope| {
+            for _ in 0..4 {
+                scope.spawn(|| {
+                    begin.wait();
+                    let told =
+                        std::iter::repeat_with(|| set.attach().map(drop)).find_map(Result::err);
+                    assert_eq!(told, Some(Fault::Closed));
+                });
+            }
+            begin.wait();
+            while let Err(fault) = set.close() {
+                assert!(matches!(fault, Fault::Away(_)), "{fault}");
+            }
+        });
+    }
+}
+
+/// Threads that insert and remove below 1,000 for a while, so that some 500 keys stand: how many
+/// calls they made.
+fn churn<C: Calls>(
+    set: &Set,
+    threads: u64,
+    time: Duration,
+    calls: impl Fn(&Set) -> C + Sync,
+) -> u64 {
+    let end = Instant::now() + time;
+    let made = Mutex::new(0);
+    scope(|scope| {
+        for thread in 0..threads {
+            let (made, calls) = (&made, &calls);
+            scope.spawn(move || {
+                let (mut seed, mut own, mut count) = (thread + 1, calls(set), 0_u64);
+                while Instant::now() < end {
+                    let drawn = draw(&mut seed);
+                    let told = match drawn >> 32 & 1 {
+                        0 => own.add(drawn % 1_000),
+                        _ => own.take(drawn % 1_000),
+                    };
+                    told.unwrap_or_else(|fault| panic!("{fault}"));
+                    count += 1;
+                }
+                *made.lock().unwrap() += count;
+            });
+        }
+    });
+    made.into_inner().unwrap()
+}
+
+#[test]
+fn sixteen_and_sixty_four_threads_find_no_set_full_that_has_room() {
+    let time = Duration::from_millis(told_by("NM_SET_CHURN_MILLISECONDS", 500));
+    for threads in [16, 64] {
+        let set = Set::new(65_536).unwrap();
+        let made = churn(&set, threads, time, |set| set.attach().unwrap());
+        println!("{threads} threads with workers: {made} calls");
+        assert!(set.close().unwrap().len() <= 1_000);
+        let set = Set::new(65_536).unwrap();
+        let made = churn(&set, threads, time, Set::clone);
+        println!("{threads} threads without: {made} calls");
+        assert!(set.close().unwrap().len() <= 1_000);
     }
 }

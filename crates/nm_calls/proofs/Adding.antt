@@ -1,10 +1,11 @@
 -- What the parts of a call add to a log: how many won links, flags and splices, and at most how
 -- many entries.
-use Rattle.std.proofs.Common.{◌≡◌, ◌≤◌, ◌<◌, inl, inr, ℕ, zero, suc, ◌+◌, ◌*◌, ◌-◌, Bool, List, [], ◌∷◌, ◌++◌, length, refl, ap, ◌∙◌, arith}
+use Rattle.std.proofs.Common.{◌≡◌, ◌≤◌, ◌<◌, inl, inr, ℕ, zero, suc, ◌+◌, ◌*◌, ◌-◌, Bool, false, cond, List, [], ◌∷◌, ◌++◌, length, refl, ap, ◌∙◌, arith}
 use Rattle.std.specs.Prelude.{filter, Option, Some, None}
 use Rattle.std.proofs.Math.Nat.{suc-mul, mul-add, mul-le-mul_left, mul-le-mul_right}
 use Rattle.std.proofs.lemmas.List.{length-append}
 use Rattle.std.proofs.lemmas.List.Elements.{filter-append}
+use Rattle.nm_edge.specs.Layouts.{Layout}
 use Rattle.nm_edge.specs.declared.edge.Side.{Side}
 use Rattle.nm_edge.specs.declared.node.NodeId.{NodeId}
 use Rattle.nm_model.specs.declared.event.Op.{Op}
@@ -23,7 +24,8 @@ use Rattle.nm_calls.specs.declared.looking.Onward.{Onward}
 use Rattle.nm_calls.specs.declared.spot.ChainEdge.{ChainEdge}
 use Rattle.nm_calls.specs.declared.spot.End.{End}
 use Rattle.nm_calls.specs.declared.spot.Spot.{Spot}
-use Rattle.nm_calls.specs.Bounds.{chain_bound}
+use Rattle.nm_calls.specs.Bounds.{chain_bound, reach}
+use Rattle.nm_calls.specs.Places.{Stops, StopsAt}
 use Rattle.nm_calls.specs.Walks.{Reads, Walks, EndsAtLeaf, IsTooLong, IsBroken, Seeks, Finds}
 use Rattle.nm_calls.specs.Calls.{LostWalks}
 use Rattle.nm_calls.specs.Cleanups.{Chooses, FreezesOne, Freezes, Prepares, CutsOff, CleanupLost, CleanupWon}
@@ -105,11 +107,17 @@ mul_below s t n lt = let one = suc-mul s n in let all = mul-le-mul_right n lt in
 abbrev pub most : ℕ → ℕ
 most nodes = 3 * nodes + 204
 
--- a call stays within its bound
-pub within_call : (nodes tries a b m : ℕ) → b ≤ a + m → m ≤ tries * most nodes + 2 * tries + 6 * nodes + 10 → b ≤ a + tries * (4 * nodes + 8 * chain_bound) + 6 * nodes + 10
-within_call nodes tries a b m le few =
-    let two = mul-add tries (most nodes) 2 in
-    let all = mul-le-mul_left tries (let le : most nodes + 2 ≤ 4 * nodes + 8 * chain_bound = omega arith in le) in
+-- a call stays within its bound, and one that claims too
+pub within_call : (L : Layout) (tries a b m : ℕ) → b ≤ a + m → m ≤ tries * most (reach L) + 2 * tries + 10 → b ≤ a + tries * (4 * reach L + 8 * chain_bound) + 10
+within_call L tries a b m le few =
+    let two = mul-add tries (most (reach L)) 2 in
+    let all = mul-le-mul_left tries (let le : most (reach L) + 2 ≤ 4 * reach L + 8 * chain_bound = omega arith in le) in
+    omega (arith, two, all, le, few)
+
+pub within_claims : (L : Layout) (tries a b m : ℕ) → b ≤ a + m → m ≤ tries * most (reach L) + 2 * tries + 6 * L.nodes + 10 → b ≤ a + tries * (4 * reach L + 8 * chain_bound) + 6 * L.nodes + 10
+within_claims L tries a b m le few =
+    let two = mul-add tries (most (reach L)) 2 in
+    let all = mul-le-mul_left tries (let le : most (reach L) + 2 ≤ 4 * reach L + 8 * chain_bound = omega arith in le) in
     omega (arith, two, all, le, few)
 
 -- ---- walks
@@ -122,33 +130,47 @@ walk_adds k zero old new s c w = adds_these _ old new w.3
 walk_adds k (suc n) old new s c w =
     adds_in (1 + 3 * suc n) old new (omega arith) (adds_then old w.0 new (walk_adds k n old w.0 w.1 w.2 w.4) (reads_add k w.1.edge.slot w.0 new w.3 w.6))
 
-pub end_adds : (nodes k : ℕ) (old new : List Entry) (s : Spot) (c : List ChainEdge) (key : ℕ) → EndsAtLeaf nodes k old new s c key → Adds 0 0 0 (3 * nodes) old new
-end_adds nodes k old new s c key e =
+pub end_adds : (L : Layout) (k : ℕ) (old new : List Entry) (s : Spot) (c : List ChainEdge) (key : ℕ) → EndsAtLeaf L k old new s c key → Adds 0 0 0 (3 * reach L) old new
+end_adds L k old new s c key e =
     let few = e.3 in
-    adds_in (3 * nodes) old new (omega (arith, few)) (adds_then old e.1 new (walk_adds k e.0 old e.1 s c e.4) (reads_add k s.edge.slot e.1 new e.2 e.6))
+    adds_in (3 * reach L) old new (omega (arith, few)) (adds_then old e.1 new (walk_adds k e.0 old e.1 s c e.4) (reads_add k s.edge.slot e.1 new e.2 e.6))
 
-pub long_adds : (nodes k : ℕ) (old new : List Entry) → IsTooLong nodes k old new → Adds 0 0 0 (3 * nodes) old new
-long_adds nodes k old new e = let all = e.4 in adds_in (3 * nodes) old new (omega (arith, all)) (walk_adds k e.0 old new e.1 e.2 e.3)
+-- the reach of a walk that is broken off
+far_as : (L : Layout) → L.radix ≡ false → reach L ≡ L.nodes
+far_as L plain = ap (λ (b : Bool). cond b 66 L.nodes) plain
 
-pub broken_adds : (nodes k : ℕ) (old new : List Entry) → IsBroken nodes k old new → Adds 0 0 0 (3 * nodes) old new
-broken_adds nodes k old new (inl long) = long_adds nodes k old new long
-broken_adds nodes k old new (inr e) =
-    let few = e.5 in
-    adds_in (3 * nodes) old new (omega (arith, few)) (adds_then old e.1 new (walk_adds k e.0 old e.1 e.2 e.3 e.6) (reads_add k e.2.edge.slot e.1 new e.4 e.7))
+pub long_adds : (L : Layout) (k : ℕ) (old new : List Entry) → IsTooLong L k old new → Adds 0 0 0 (3 * reach L) old new
+long_adds L k old new e = let all = e.5 in let far = far_as L e.0 in adds_in (3 * reach L) old new (omega (arith, all, far)) (walk_adds k e.1 old new e.2 e.3 e.4)
 
-pub finds_adds : (nodes k : ℕ) (old new : List Entry) (r : Option ℕ) → Finds nodes k old new r → Adds 0 0 0 (3 * nodes) old new
-finds_adds nodes k old new None h = long_adds nodes k old new h
-finds_adds nodes k old new (Some key) h = end_adds nodes k old new h.0 h.1 key h.2
+pub broken_adds : (L : Layout) (k : ℕ) (old new : List Entry) → IsBroken L k old new → Adds 0 0 0 (3 * reach L) old new
+broken_adds L k old new (inl long) = long_adds L k old new long
+broken_adds L k old new (inr e) =
+    let few = e.6 in
+    let far = far_as L e.0 in
+    adds_in (3 * reach L) old new (omega (arith, few, far)) (adds_then old e.2 new (walk_adds k e.1 old e.2 e.3 e.4 e.7) (reads_add k e.3.edge.slot e.2 new e.5 e.8))
 
-pub seeks_adds : (nodes k : ℕ) (old new : List Entry) (c : List ChainEdge) (r : Option End) → Seeks nodes k old new c r → Adds 0 0 0 (3 * nodes) old new
-seeks_adds nodes k old new c None h = broken_adds nodes k old new h
-seeks_adds nodes k old new c (Some r) h = end_adds nodes k old new r.spot c r.key h.0
+pub finds_adds : (L : Layout) (k : ℕ) (old new : List Entry) (r : Option ℕ) → Finds L k old new r → Adds 0 0 0 (3 * reach L) old new
+finds_adds L k old new None h = long_adds L k old new h
+finds_adds L k old new (Some key) h = end_adds L k old new h.0 h.1 key h.2
 
-pub lost_walks_add : (nodes k t : ℕ) (old new : List Entry) → LostWalks nodes k t old new → Adds 0 0 0 (t * most nodes) old new
-lost_walks_add nodes k zero old new h = adds_in _ old new (omega arith) (adds_none old new h)
-lost_walks_add nodes k (suc t) old new h =
-    let more = suc-mul t (most nodes) in
-    adds_in _ old new (omega (arith, more)) (adds_then old h.0 new (lost_walks_add nodes k t old h.0 h.1) (long_adds nodes k h.0 new h.2))
+pub seeks_adds : (L : Layout) (k : ℕ) (old new : List Entry) (c : List ChainEdge) (r : Option End) → Seeks L k old new c r → Adds 0 0 0 (3 * reach L) old new
+seeks_adds L k old new c None h = broken_adds L k old new h
+seeks_adds L k old new c (Some r) h = end_adds L k old new r.spot c r.key h.0
+
+stop_adds : (L : Layout) (k : ℕ) (old new : List Entry) (s : Spot) (c : List ChainEdge) (key : ℕ) → StopsAt L k old new s c key → Adds 0 0 0 (3 * reach L) old new
+stop_adds L k old new s c key e =
+    let few = e.3 in
+    adds_in (3 * reach L) old new (omega (arith, few)) (adds_then old e.1 new (walk_adds k e.0 old e.1 s c e.4) (reads_add k s.edge.slot e.1 new e.2 e.6))
+
+pub stops_adds : (L : Layout) (k : ℕ) (old new : List Entry) (c : List ChainEdge) (r : Option End) → Stops L k old new c r → Adds 0 0 0 (3 * reach L) old new
+stops_adds L k old new c None h = broken_adds L k old new h
+stops_adds L k old new c (Some r) h = stop_adds L k old new r.spot c r.key h.0
+
+pub lost_walks_add : (L : Layout) (k t : ℕ) (old new : List Entry) → LostWalks L k t old new → Adds 0 0 0 (t * most (reach L)) old new
+lost_walks_add L k zero old new h = adds_in _ old new (omega arith) (adds_none old new h)
+lost_walks_add L k (suc t) old new h =
+    let more = suc-mul t (most (reach L)) in
+    adds_in _ old new (omega (arith, more)) (adds_then old h.0 new (lost_walks_add L k t old h.0 h.1) (long_adds L k h.0 new h.2))
 
 -- ---- pins
 

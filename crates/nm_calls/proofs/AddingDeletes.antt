@@ -2,6 +2,7 @@
 use Rattle.std.proofs.Common.{◌≡◌, ◌≤◌, ◌<◌, inl, inr, ℕ, zero, suc, ◌+◌, ◌*◌, List, length, refl, ap, sym, ◌∙◌, true, false, Bool, arith}
 use Rattle.std.specs.Prelude.{Some, Result, Ok, Err}
 use Rattle.std.proofs.Math.Nat.{suc-mul, add-mul}
+use Rattle.nm_edge.specs.Layouts.{Layout}
 use Rattle.nm_edge.specs.Edges.{Edge}
 use Rattle.nm_edge.specs.declared.node.NodeId.{NodeId}
 use Rattle.nm_model.specs.declared.event.Event.TheVariants.{SightFor}
@@ -20,7 +21,7 @@ use Rattle.nm_calls.specs.declared.deleting.Removal.TheVariants as removal
 use Rattle.nm_calls.specs.declared.spot.ChainEdge.{ChainEdge}
 use Rattle.nm_calls.specs.declared.spot.End.{End}
 use Rattle.nm_calls.specs.Cleanups.{CleanupLost}
-use Rattle.nm_calls.specs.Bounds.{chain_bound}
+use Rattle.nm_calls.specs.Bounds.{chain_bound, reach}
 use Rattle.nm_calls.specs.Deletes.{IsFlagTry, leaf_of, looks_and_flags, Removes, RemovesNothing, LostRemovals, IsRemoval, LostFlags, IsInjection, RemovalAfter, FlagsThen, DeleteFinishes, FinishDid}
 use Rattle.nm_calls.specs.Won.{HasWon, flags_of_delete}
 use Rattle.nm_calls.proofs.Adding.{Adds, most, mul_below, adds_none, adds_these, adds_then, adds_in, seeks_adds, broken_adds, cleaned_adds, not_cleaned_adds, pin_adds, adds_after, has_won, within_call}
@@ -43,66 +44,66 @@ abbrev flags_of : Injected → ℕ
 flags_of (injected.Flagged r b) = 1
 flags_of _ = 0
 
-try_adds : (nodes k : ℕ) (c : List ChainEdge) (old new : List Entry) (i : Injected) → IsFlagTry nodes k c old new i → AddsFlags (flags_of i) (most nodes) old new
-try_adds nodes k c old new injected.Absent h = (0, adds_in (most nodes) old new (omega arith) (seeks_adds nodes k old new c (Some h.0) h.1))
-try_adds nodes k c old new (injected.Flagged r b) h = (0, adds_in (most nodes) old new (omega arith) (adds_then old h.ended new (seeks_adds nodes k old h.ended c (Some r) h.walk) (flag_won_adds r b h.ended new h.entries)))
-try_adds nodes k c old new injected.Lost (inl broken) = (0, adds_in (most nodes) old new (omega arith) (broken_adds nodes k old new broken))
-try_adds nodes k c old new injected.Lost (inr h) =
+try_adds : (L : Layout) (k : ℕ) (c : List ChainEdge) (old new : List Entry) (i : Injected) → IsFlagTry L k c old new i → AddsFlags (flags_of i) (most (reach L)) old new
+try_adds L k c old new injected.Absent h = (0, adds_in (most (reach L)) old new (omega arith) (seeks_adds L k old new c (Some h.0) h.1))
+try_adds L k c old new (injected.Flagged r b) h = (0, adds_in (most (reach L)) old new (omega arith) (adds_then old h.ended new (seeks_adds L k old h.ended c (Some r) h.walk) (flag_won_adds r b h.ended new h.entries)))
+try_adds L k c old new injected.Lost (inl broken) = (0, adds_in (most (reach L)) old new (omega arith) (broken_adds L k old new broken))
+try_adds L k c old new injected.Lost (inr h) =
     let r = h.0 in
     let mid = h.3 in
     let try = h.4 in
     let help = helps_add r c h.2 mid new try.walk.1 h.5 in
-    (0 + help.0, adds_in (most nodes) old new (omega arith) (adds_then old mid new (adds_then old try.ended mid (seeks_adds nodes k old try.ended c (Some r) try.walk) (flag_lost_adds r h.1 h.2 try.ended mid try.entries)) help.1))
+    (0 + help.0, adds_in (most (reach L)) old new (omega arith) (adds_then old mid new (adds_then old try.ended mid (seeks_adds L k old try.ended c (Some r) try.walk) (flag_lost_adds r h.1 h.2 try.ended mid try.entries)) help.1))
 
-lost_flags_add : (nodes k t : ℕ) (old new : List Entry) → LostFlags nodes k t old new → AddsFlags 0 (t * most nodes) old new
-lost_flags_add nodes k zero old new h = (0, adds_in _ old new (omega arith) (adds_none old new h))
-lost_flags_add nodes k (suc t) old new h =
-    let above = lost_flags_add nodes k t old h.1 h.2 in
-    let here = try_adds nodes k h.0 h.1 new injected.Lost h.3 in
-    let more = suc-mul t (most nodes) in
+lost_flags_add : (L : Layout) (k t : ℕ) (old new : List Entry) → LostFlags L k t old new → AddsFlags 0 (t * most (reach L)) old new
+lost_flags_add L k zero old new h = (0, adds_in _ old new (omega arith) (adds_none old new h))
+lost_flags_add L k (suc t) old new h =
+    let above = lost_flags_add L k t old h.1 h.2 in
+    let here = try_adds L k h.0 h.1 new injected.Lost h.3 in
+    let more = suc-mul t (most (reach L)) in
     (above.0 + here.0, adds_in _ old new (omega (arith, more)) (adds_then old h.1 new above.1 here.1))
 
 -- ---- tries to remove
 
-removes_nothing_adds : (nodes k : ℕ) (n : NodeId) (old new : List Entry) → RemovesNothing nodes k n old new → Adds 0 0 0 (most nodes) old new
-removes_nothing_adds nodes k n old new (inl broken) = adds_in (most nodes) old new (omega arith) (broken_adds nodes k old new broken)
-removes_nothing_adds nodes k n old new (inr h) =
+removes_nothing_adds : (L : Layout) (k : ℕ) (n : NodeId) (old new : List Entry) → RemovesNothing L k n old new → Adds 0 0 0 (most (reach L)) old new
+removes_nothing_adds L k n old new (inl broken) = adds_in (most (reach L)) old new (omega arith) (broken_adds L k old new broken)
+removes_nothing_adds L k n old new (inr h) =
     let few = h.3.1 in
-    adds_in (most nodes) old new (omega (arith, few)) (adds_then old h.2 new (seeks_adds nodes k old h.2 h.1 (Some h.0) h.3) (not_cleaned_adds h.0.spot h.1 h.2 new h.5))
+    adds_in (most (reach L)) old new (omega (arith, few)) (adds_then old h.2 new (seeks_adds L k old h.2 h.1 (Some h.0) h.3) (not_cleaned_adds h.0.spot h.1 h.2 new h.5))
 
-removes_adds : (nodes k : ℕ) (n : NodeId) (old new : List Entry) → Removes nodes k n old new → AddsFlags 0 (most nodes) old new
-removes_adds nodes k n old new h = elim h.2 [
-  | inl other ↦ (0, adds_in (most nodes) old new (omega arith) (seeks_adds nodes k old new h.1 (Some h.0) other.0))
-  | inr cut ↦ (1, let few = cut.3.1 in adds_in (most nodes) old new (omega (arith, few)) (adds_then old cut.0 new (seeks_adds nodes k old cut.0 h.1 (Some h.0) cut.3) (cleaned_adds h.0.spot h.1 cut.1 cut.2 cut.0 new cut.5)))
+removes_adds : (L : Layout) (k : ℕ) (n : NodeId) (old new : List Entry) → Removes L k n old new → AddsFlags 0 (most (reach L)) old new
+removes_adds L k n old new h = elim h.2 [
+  | inl other ↦ (0, adds_in (most (reach L)) old new (omega arith) (seeks_adds L k old new h.1 (Some h.0) other.0))
+  | inr cut ↦ (1, let few = cut.3.1 in adds_in (most (reach L)) old new (omega (arith, few)) (adds_then old cut.0 new (seeks_adds L k old cut.0 h.1 (Some h.0) cut.3) (cleaned_adds h.0.spot h.1 cut.1 cut.2 cut.0 new cut.5)))
 ]
 
-lost_removals_add : (nodes k : ℕ) (n : NodeId) (t : ℕ) (old new : List Entry) → LostRemovals nodes k n t old new → Adds 0 0 0 (t * most nodes) old new
-lost_removals_add nodes k n zero old new h = adds_in _ old new (omega arith) (adds_none old new h)
-lost_removals_add nodes k n (suc t) old new h =
-    let more = suc-mul t (most nodes) in
-    adds_in _ old new (omega (arith, more)) (adds_then old h.0 new (lost_removals_add nodes k n t old h.0 h.1) (removes_nothing_adds nodes k n h.0 new h.2))
+lost_removals_add : (L : Layout) (k : ℕ) (n : NodeId) (t : ℕ) (old new : List Entry) → LostRemovals L k n t old new → Adds 0 0 0 (t * most (reach L)) old new
+lost_removals_add L k n zero old new h = adds_in _ old new (omega arith) (adds_none old new h)
+lost_removals_add L k n (suc t) old new h =
+    let more = suc-mul t (most (reach L)) in
+    adds_in _ old new (omega (arith, more)) (adds_then old h.0 new (lost_removals_add L k n t old h.0 h.1) (removes_nothing_adds L k n h.0 new h.2))
 
-removal_adds : (nodes k : ℕ) (n : NodeId) (tries : ℕ) (old new : List Entry) (m : Removal) → IsRemoval nodes k n tries old new m → AddsFlags 0 (tries * most nodes) old new
-removal_adds nodes k n tries old new removal.Removed h =
-    let last = removes_adds nodes k n h.1 new h.4 in
-    let all = mul_below h.0 tries (most nodes) h.2 in
-    (0 + last.0, adds_in _ old new (omega (arith, all)) (adds_then old h.1 new (lost_removals_add nodes k n h.0 old h.1 h.3) last.1))
-removal_adds nodes k n tries old new removal.Refused h =
-    let all = mul_below h.0 tries (most nodes) h.1 in
-    (0, adds_in _ old new (omega (arith, all)) (lost_removals_add nodes k n h.0 old new h.2))
-removal_adds nodes k n tries old new removal.Spent h = (0, lost_removals_add nodes k n tries old new h)
+removal_adds : (L : Layout) (k : ℕ) (n : NodeId) (tries : ℕ) (old new : List Entry) (m : Removal) → IsRemoval L k n tries old new m → AddsFlags 0 (tries * most (reach L)) old new
+removal_adds L k n tries old new removal.Removed h =
+    let last = removes_adds L k n h.1 new h.4 in
+    let all = mul_below h.0 tries (most (reach L)) h.2 in
+    (0 + last.0, adds_in _ old new (omega (arith, all)) (adds_then old h.1 new (lost_removals_add L k n h.0 old h.1 h.3) last.1))
+removal_adds L k n tries old new removal.Refused h =
+    let all = mul_below h.0 tries (most (reach L)) h.1 in
+    (0, adds_in _ old new (omega (arith, all)) (lost_removals_add L k n h.0 old new h.2))
+removal_adds L k n tries old new removal.Spent h = (0, lost_removals_add L k n tries old new h)
 
-module _ (nodes k : ℕ) (f : FlaggedLeaf) (c : List ChainEdge) (few : length c < chain_bound) (old new : List Entry) where
-  then_removal : (m : Removal) (t : ℕ) (mid : List Entry) → f.left ≡ t + 1 → CleanupLost f.end.spot c old mid → IsRemoval nodes k (leaf_of f.end f.birth) t mid new m → AddsFlags 0 (f.left * most nodes) old new
+module _ (L : Layout) (k : ℕ) (f : FlaggedLeaf) (c : List ChainEdge) (few : length c < chain_bound) (old new : List Entry) where
+  then_removal : (m : Removal) (t : ℕ) (mid : List Entry) → f.left ≡ t + 1 → CleanupLost f.end.spot c old mid → IsRemoval L k (leaf_of f.end f.birth) t mid new m → AddsFlags 0 (f.left * most (reach L)) old new
   then_removal m t mid is lost h =
-      let rest = removal_adds nodes k (leaf_of f.end f.birth) t mid new m h in
-      let all : t * most nodes + most nodes ≡ f.left * most nodes = sym (suc-mul t (most nodes)) ∙ ap (λ (n : ℕ). n * most nodes) (let same : suc t ≡ f.left = omega (arith, is) in same) in
+      let rest = removal_adds L k (leaf_of f.end f.birth) t mid new m h in
+      let all : t * most (reach L) + most (reach L) ≡ f.left * most (reach L) = sym (suc-mul t (most (reach L))) ∙ ap (λ (n : ℕ). n * most (reach L)) (let same : suc t ≡ f.left = omega (arith, is) in same) in
       (0 + rest.0, adds_in _ old new (omega (arith, all, few)) (adds_then old mid new (not_cleaned_adds f.end.spot c old mid lost) rest.1))
 
-  after_adds : (m : Removal) → RemovalAfter nodes k f c old new m → AddsFlags 0 (f.left * most nodes) old new
+  after_adds : (m : Removal) → RemovalAfter L k f c old new m → AddsFlags 0 (f.left * most (reach L)) old new
   after_adds removal.Removed (inl h) =
       let some = h.0 in
-      let all = mul_below 0 f.left (most nodes) (omega (arith, some)) in
+      let all = mul_below 0 f.left (most (reach L)) (omega (arith, some)) in
       (1, adds_in _ old new (omega (arith, all, few)) (cleaned_adds f.end.spot c h.1 h.2 old new h.3))
   after_adds removal.Removed (inr h) = then_removal removal.Removed h.0 h.1 h.2 h.3 h.4
   after_adds removal.Refused (inl h) = (0, adds_in _ old new (omega arith) (adds_none old new h.1))
@@ -112,17 +113,17 @@ module _ (nodes k : ℕ) (f : FlaggedLeaf) (c : List ChainEdge) (few : length c 
 
 -- ---- the whole call
 
-flags_then_add : (nodes tries k : ℕ) (n : NodeId) (old new : List Entry) (m : Removal) → FlagsThen nodes tries k n old new m → AddsFlags 1 (tries * most nodes) old new
-flags_then_add nodes tries k n old new m h =
+flags_then_add : (L : Layout) (tries k : ℕ) (n : NodeId) (old new : List Entry) (m : Removal) → FlagsThen L tries k n old new m → AddsFlags 1 (tries * most (reach L)) old new
+flags_then_add L tries k n old new m h =
     let f = h.0 in
     let c = h.1 in
     let mid = h.2 in
     let part = h.4 in
     let few = part.4.walk.1 in
-    let lost = lost_flags_add nodes k part.0 old part.1 part.3 in
-    let flag = try_adds nodes k c part.1 mid (injected.Flagged f.end f.birth) part.4 in
-    let rest = after_adds nodes k f c few mid new m h.5 in
-    let all : part.0 * most nodes + f.left * most nodes + most nodes ≡ tries * most nodes = products part.0 f.left tries (most nodes) part.2 in
+    let lost = lost_flags_add L k part.0 old part.1 part.3 in
+    let flag = try_adds L k c part.1 mid (injected.Flagged f.end f.birth) part.4 in
+    let rest = after_adds L k f c few mid new m h.5 in
+    let all : part.0 * most (reach L) + f.left * most (reach L) + most (reach L) ≡ tries * most (reach L) = products part.0 f.left tries (most (reach L)) part.2 in
     (lost.0 + (flag.0 + rest.0), adds_in _ old new (omega (arith, all)) (adds_then old part.1 new lost.1 (adds_then part.1 mid new flag.1 rest.1)))
   where
     products : (t left tries n : ℕ) → t + (left + 1) ≡ tries → t * n + left * n + n ≡ tries * n
@@ -133,55 +134,55 @@ flags_then_add nodes tries k n old new m h =
         let whole = ap (λ (m : ℕ). m * n) same in
         omega (arith, more, sum, whole)
 
-absent_adds : (nodes k tries : ℕ) (c : List ChainEdge) (old new : List Entry) → IsInjection nodes k tries c old new injection.Absent → AddsFlags 0 (tries * most nodes) old new
-absent_adds nodes k tries c old new h =
-    let lost = lost_flags_add nodes k h.0 old h.1 h.3 in
-    let last = try_adds nodes k c h.1 new injected.Absent h.4 in
-    let all = mul_below h.0 tries (most nodes) h.2 in
+absent_adds : (L : Layout) (k tries : ℕ) (c : List ChainEdge) (old new : List Entry) → IsInjection L k tries c old new injection.Absent → AddsFlags 0 (tries * most (reach L)) old new
+absent_adds L k tries c old new h =
+    let lost = lost_flags_add L k h.0 old h.1 h.3 in
+    let last = try_adds L k c h.1 new injected.Absent h.4 in
+    let all = mul_below h.0 tries (most (reach L)) h.2 in
     (lost.0 + last.0, adds_in _ old new (omega (arith, all)) (adds_then old h.1 new lost.1 last.1))
 
-refused_adds : (nodes k tries : ℕ) (c : List ChainEdge) (old new : List Entry) → IsInjection nodes k tries c old new injection.Refused → AddsFlags 0 (tries * most nodes) old new
-refused_adds nodes k tries c old new h =
-    let lost = lost_flags_add nodes k h.0 old new h.3 in
-    let all = mul_below h.0 tries (most nodes) h.2 in
+refused_adds : (L : Layout) (k tries : ℕ) (c : List ChainEdge) (old new : List Entry) → IsInjection L k tries c old new injection.Refused → AddsFlags 0 (tries * most (reach L)) old new
+refused_adds L k tries c old new h =
+    let lost = lost_flags_add L k h.0 old new h.3 in
+    let all = mul_below h.0 tries (most (reach L)) h.2 in
     (lost.0, adds_in _ old new (omega (arith, all)) lost.1)
 
-pub delete_adds : (nodes tries k : ℕ) (old new : List Entry) (r : Result Bool Missed) → DeleteFinishes nodes tries k old new r → AddsFlags (flags_of_delete r) (tries * most nodes + 1) old new
-delete_adds nodes tries k old new (Ok true) h =
-    let part = flags_then_add nodes tries k h.0 old h.1 removal.Removed h.2 in
+pub delete_adds : (L : Layout) (tries k : ℕ) (old new : List Entry) (r : Result Bool Missed) → DeleteFinishes L tries k old new r → AddsFlags (flags_of_delete r) (tries * most (reach L) + 1) old new
+delete_adds L tries k old new (Ok true) h =
+    let part = flags_then_add L tries k h.0 old h.1 removal.Removed h.2 in
     (part.0 + 0, adds_then old h.1 new part.1 (adds_these _ h.1 new h.3))
-delete_adds nodes tries k old new (Ok false) h =
-    let part = absent_adds nodes k tries h.0 old h.1 h.2 in
+delete_adds L tries k old new (Ok false) h =
+    let part = absent_adds L k tries h.0 old h.1 h.2 in
     (part.0 + 0, adds_then old h.1 new part.1 (adds_these _ h.1 new h.3))
-delete_adds nodes tries k old new (Err missed.Busy) h =
-    let part = lost_flags_add nodes k tries old h.1 h.2 in
+delete_adds L tries k old new (Err missed.Busy) h =
+    let part = lost_flags_add L k tries old h.1 h.2 in
     (part.0 + 0, adds_then old h.1 new part.1 (adds_these _ h.1 new h.3))
-delete_adds nodes tries k old new (Err missed.NoMemory) h =
-    let part = refused_adds nodes k tries h.0 old h.1 h.2 in
+delete_adds L tries k old new (Err missed.NoMemory) h =
+    let part = refused_adds L k tries h.0 old h.1 h.2 in
     (part.0 + 0, adds_then old h.1 new part.1 (adds_these _ h.1 new h.3))
-delete_adds nodes tries k old new (Err (missed.Unfinished n)) (inl h) = let part = flags_then_add nodes tries k n old new removal.Refused h in (part.0, adds_in _ old new (omega arith) part.1)
-delete_adds nodes tries k old new (Err (missed.Unfinished n)) (inr h) = let part = flags_then_add nodes tries k n old new removal.Spent h in (part.0, adds_in _ old new (omega arith) part.1)
+delete_adds L tries k old new (Err (missed.Unfinished n)) (inl h) = let part = flags_then_add L tries k n old new removal.Refused h in (part.0, adds_in _ old new (omega arith) part.1)
+delete_adds L tries k old new (Err (missed.Unfinished n)) (inr h) = let part = flags_then_add L tries k n old new removal.Spent h in (part.0, adds_in _ old new (omega arith) part.1)
 
-pub finish_adds : (nodes k : ℕ) (n : NodeId) (tries : ℕ) (old new : List Entry) (b : Bool) → FinishDid nodes k n tries old new b → AddsFlags 0 (tries * most nodes + 1) old new
-finish_adds nodes k n tries old new true h =
-    let part = removal_adds nodes k n tries old h.0 removal.Removed h.1 in
+pub finish_adds : (L : Layout) (k : ℕ) (n : NodeId) (tries : ℕ) (old new : List Entry) (b : Bool) → FinishDid L k n tries old new b → AddsFlags 0 (tries * most (reach L) + 1) old new
+finish_adds L k n tries old new true h =
+    let part = removal_adds L k n tries old h.0 removal.Removed h.1 in
     (part.0 + 0, adds_then old h.0 new part.1 (adds_these _ h.0 new h.2))
-finish_adds nodes k n tries old new false (inl h) = let part = removal_adds nodes k n tries old new removal.Refused h in (part.0, adds_in _ old new (omega arith) part.1)
-finish_adds nodes k n tries old new false (inr h) = let part = removal_adds nodes k n tries old new removal.Spent h in (part.0, adds_in _ old new (omega arith) part.1)
+finish_adds L k n tries old new false (inl h) = let part = removal_adds L k n tries old new removal.Refused h in (part.0, adds_in _ old new (omega arith) part.1)
+finish_adds L k n tries old new false (inr h) = let part = removal_adds L k n tries old new removal.Spent h in (part.0, adds_in _ old new (omega arith) part.1)
 
-module _ (nodes tries k : ℕ) (old pinned new : List Entry) (e : ℕ) (pin : IsPinnedBy (SightFor Delete k) tries old pinned e) (r : Result Bool Missed) (h : DeleteFinishes nodes tries k pinned new r) where
-  all : AddsFlags (flags_of_delete r) (2 * tries + 1 + (tries * most nodes + 1)) old new
-  all = let part = delete_adds nodes tries k pinned new r h in (0 + part.0, adds_after old pinned new (pin_adds Delete k tries old pinned e pin) part.1)
+module _ (L : Layout) (tries k : ℕ) (old pinned new : List Entry) (e : ℕ) (pin : IsPinnedBy (SightFor Delete k) tries old pinned e) (r : Result Bool Missed) (h : DeleteFinishes L tries k pinned new r) where
+  all : AddsFlags (flags_of_delete r) (2 * tries + 1 + (tries * most (reach L) + 1)) old new
+  all = let part = delete_adds L tries k pinned new r h in (0 + part.0, adds_after old pinned new (pin_adds Delete k tries old pinned e pin) part.1)
 
   pub delete_wins : HasWon old new 0 (flags_of_delete r)
   delete_wins = has_won old new all.1
 
-  pub delete_steps : length new ≤ length old + tries * (4 * nodes + 8 * chain_bound) + 6 * nodes + 10
-  delete_steps = within_call nodes tries (length old) (length new) (2 * tries + 1 + (tries * most nodes + 1)) all.1.steps (omega arith)
+  pub delete_steps : length new ≤ length old + tries * (4 * reach L + 8 * chain_bound) + 10
+  delete_steps = within_call L tries (length old) (length new) (2 * tries + 1 + (tries * most (reach L) + 1)) all.1.steps (omega arith)
 
-module _ (nodes k : ℕ) (n : NodeId) (tries : ℕ) (old new : List Entry) (b : Bool) (h : FinishDid nodes k n tries old new b) where
+module _ (L : Layout) (k : ℕ) (n : NodeId) (tries : ℕ) (old new : List Entry) (b : Bool) (h : FinishDid L k n tries old new b) where
   pub finish_wins : HasWon old new 0 0
-  finish_wins = has_won old new (finish_adds nodes k n tries old new b h).1
+  finish_wins = has_won old new (finish_adds L k n tries old new b h).1
 
-  pub finish_steps : length new ≤ length old + tries * (4 * nodes + 8 * chain_bound) + 6 * nodes + 10
-  finish_steps = within_call nodes tries (length old) (length new) (tries * most nodes + 1) (finish_adds nodes k n tries old new b h).1.steps (omega arith)
+  pub finish_steps : length new ≤ length old + tries * (4 * reach L + 8 * chain_bound) + 10
+  finish_steps = within_call L tries (length old) (length new) (tries * most (reach L) + 1) (finish_adds L k n tries old new b h).1.steps (omega arith)

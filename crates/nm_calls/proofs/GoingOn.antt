@@ -69,12 +69,14 @@ pub told_onward : (p r s q : Stand) (k x key : ℕ) (left right : Edge) → KeyT
     → (side : Side) → side ≡ side_of k key → OnwardTold p q k x key side (edge_on side left right)
 told_onward p r s q k x key left right read at_left at_right on then Left is = record {
   high = read.high;
+  reads = λ since parent up came. then.keeps (ReadKey since k x parent up key) (on.keeps (ReadKey since k x parent up key) (read.reads since k parent up came));
   learned = learned_still s q x Left left then at_left.learned;
   goes = λ since parent up came some. then.keeps (Came since k left.slot x Left) (at_left.goes since k parent key up (read.reads since k parent up came) is some);
   ends = λ since parent up came null. then.keeps (EndedAt since k x parent up key) (at_left.ends since k parent key up (read.reads since k parent up came) is null);
 }
 told_onward p r s q k x key left right read at_left at_right on then Right is = record {
   high = read.high;
+  reads = λ since parent up came. then.keeps (ReadKey since k x parent up key) (on.keeps (ReadKey since k x parent up key) (read.reads since k parent up came));
   learned = at_right.learned;
   goes = λ since parent up came some. at_right.goes since k parent key up (on.keeps (ReadKey since k x parent up key) (read.reads since k parent up came)) is some;
   ends = λ since parent up came null. at_right.ends since k parent key up (on.keeps (ReadKey since k x parent up key) (read.reads since k parent up came)) is null;

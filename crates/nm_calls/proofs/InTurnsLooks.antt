@@ -1,37 +1,63 @@
 -- Walks that go on in turns.
-use Rattle.std.proofs.Common.{◌≡◌, ◌≢◌, ℕ, List, length, refl, sym, ap, subst, ◌∙◌}
-use Rattle.std.specs.Prelude.{map, slice_index_or, None, All}
+use Rattle.std.proofs.Common.{◌≡◌, ◌≢◌, ◌<◌, ◌+◌, ℕ, zero, suc, Bool, true, false, List, [], ◌∷◌, length, refl, sym, ap, subst, ◌∙◌, arith}
+use Rattle.std.specs.Prelude.{map, slice_index_or, None, All, Contains}
+use Rattle.std.specs.List.{AllWithin, HoldsAt}
+use Rattle.std.proofs.Math.ListN.{get_or, set}
 use Rattle.std.proofs.lemmas.List.{length-map}
+use Rattle.std.proofs.lemmas.List.Elements.{All-set, AllWithin-more_set}
 use Rattle.nm_edge.specs.Edges.{Edge}
-use Rattle.nm_edge.specs.Layouts.{IsLayout}
+use Rattle.nm_edge.specs.Layouts.{Layout, IsLayout}
 use Rattle.nm_edge.specs.declared.edge.Side.TheVariants.{Left}
 use Rattle.nm_model.specs.declared.event.Event.TheVariants.{Look}
 use Rattle.nm_model.specs.declared.event.Field.TheVariants.{Edge as EdgeOn}
 use Rattle.nm_model.specs.declared.reply.Reply.TheVariants.{EdgeIs}
+use Rattle.nm_model.specs.Walks.{Entry}
 use Rattle.nm_order.specs.Facts.Fact.{KnowsSlot}
-use Rattle.nm_steps.specs.Steps.{Stand, Stepped, HasSeen, IsSamePass, HasSeenAllOf}
+use Rattle.nm_order.proofs.RadixLaws.{walks_are_short}
+use Rattle.nm_steps.specs.Steps.{Board, Stand, Stepped, HasSeen, IsSamePass, HasSeenAllOf}
 use Rattle.nm_epoch.specs.Resting.{epochs}
 use Rattle.nm_calls.specs.declared.looking.Onward.{Onward}
 use Rattle.nm_calls.specs.declared.many.Query.{Query}
-use Rattle.nm_calls.specs.InTurns.{HasBegun, IsUnderWay, key_of, query_read}
-use Rattle.nm_calls.specs.PlainWalks.{AddsLooks, HasComeTo, WasSo}
-use Rattle.nm_calls.specs.Telling.{Tells, GoesOn, EdgeTold, OnwardTold}
+use Rattle.nm_calls.specs.Bounds.{reach}
+use Rattle.nm_calls.specs.InTurns.{GiveUp, HasBegun, IsUnderWay, key_of, query_read}
+use Rattle.nm_calls.specs.PlainWalks.{AddsLooks, HasPassed, WasSo, most_looks}
+use Rattle.nm_calls.specs.Telling.{Tells, GoesOn, EdgeTold, OnwardTold, IsPinnedIn}
 use Rattle.nm_calls.specs.Walks.{Reads}
+use Rattle.nm_calls.proofs.Looks.{enough}
+use Rattle.nm_calls.proofs.ShortWalks.{far_of}
 use Rattle.nm_calls.proofs.PlainLooks.{come_still, ended_still, comes_first, comes_on, ends_so, was_so}
 
 -- ---- they stay under way
 
 module _ {n : ℕ} (p q : Stand) (a : AddsLooks n p.view.log q.view.log) where
-  pub under_way_still : GoesOn p q → (query : Query) → IsUnderWay p query → IsUnderWay q query
-  under_way_still on query u = record {
+  pub under_way_still : (m : ℕ) → GoesOn p q → (query : Query) → IsUnderWay m p query → IsUnderWay m q query
+  under_way_still m on query u = record {
     is_key = u.is_key;
-    comes = λ some. come_still p q a query.key query.node (u.comes some);
+    comes = λ some. come_still p q a m query.key query.node (u.comes some);
     known = λ some. on.keeps (KnowsSlot query.node) (u.known some);
     ends = λ none'. ended_still p q a query.key query.found (u.ends none');
   }
 
-  pub all_still : GoesOn p q → (queries : List Query) → All (IsUnderWay p) queries → All (IsUnderWay q) queries
-  all_still on queries all i d below = under_way_still on _ (all i d below)
+  pub all_still : (m : ℕ) → GoesOn p q → (queries : List Query) → All (IsUnderWay m p) queries → All (IsUnderWay m q) queries
+  all_still m on queries all i d below = under_way_still m on _ (all i d below)
+
+  pub within_still : (m to : ℕ) → GoesOn p q → (queries : List Query) → AllWithin (IsUnderWay m p) queries 0 to → AllWithin (IsUnderWay m q) queries 0 to
+  within_still m to on queries all i d low high = under_way_still m on _ (all i d low high)
+
+-- the walk at an index is taken a node further
+module _ {m : ℕ} (p q : Stand) (a : AddsLooks m p.view.log q.view.log) (on : GoesOn p q) (queries : List Query) (i : ℕ) (below : i < length queries) (d y : Query) (turn : (n : ℕ) → IsUnderWay n p (get_or queries i d) → IsUnderWay (n + 1) q y) where
+  taken : (n : ℕ) → All (IsUnderWay n p) queries → IsUnderWay (n + 1) q y
+  taken n all = turn n (all i d below)
+
+  -- so each has passed as many nodes as before, and those up to the index one more
+  pub turned : (n : ℕ) → All (IsUnderWay n p) queries → All (IsUnderWay n q) (set queries i y)
+  turned n all = All-set (IsUnderWay n q) queries i y (sooner (taken n all)) (all_still p q a n on queries all)
+    where
+      sooner : IsUnderWay (n + 1) q y → IsUnderWay n q y
+      sooner u = record { is_key = u.is_key; comes = λ some. let h = u.comes some in (h.0, h.1, h.2, (let many = h.3 in omega (arith, many))); known = u.known; ends = u.ends }
+
+  pub turned_so_far : (n : ℕ) → All (IsUnderWay n p) queries → AllWithin (IsUnderWay (n + 1) p) queries 0 i → AllWithin (IsUnderWay (n + 1) q) (set queries i y) 0 (i + 1)
+  turned_so_far n all so_far = AllWithin-more_set queries i y below (IsUnderWay (n + 1) q) (within_still p q a (n + 1) i on queries so_far) (taken n all)
 
 -- queries of the same keys are as many
 pub same_count : (xs ys : List Query) → map key_of xs ≡ map key_of ys → length xs ≡ length ys
@@ -39,30 +65,70 @@ same_count xs ys same = sym (length-map xs key_of) ∙ (ap (λ (l : List ℕ). l
 
 -- ---- a walk begins
 
-pub begun_so : (p q : Stand) (e : Edge) → Stepped p q (Look 2 (EdgeOn Left)) (EdgeIs e) → EdgeTold p q 2 Left e → (queries : List Query) → All (HasBegun e.slot) queries → All (IsUnderWay q) queries
+pub begun_so : (p q : Stand) (e : Edge) → Stepped p q (Look 2 (EdgeOn Left)) (EdgeIs e) → EdgeTold p q 2 Left e → (queries : List Query) → All (HasBegun e.slot) queries → All (IsUnderWay 0 q) queries
 begun_so p q e step told queries all i d below = by (slice_index_or queries i d) (all i d below)
   where
-    by : (query : Query) → HasBegun e.slot query → IsUnderWay q query
+    by : (query : Query) → HasBegun e.slot query → IsUnderWay 0 q query
     by query b = record {
       is_key = b.0;
-      comes = λ some. subst (HasComeTo q query.key) (sym b.1) (comes_first p q e step (λ null. some (b.1 ∙ null)) query.key);
+      comes = λ some. subst (HasPassed 0 q.view.log query.key) (sym b.1) (comes_first p q e step (λ null. some (b.1 ∙ null)) query.key);
       known = λ some. subst (λ (x : ℕ). Tells q (KnowsSlot x)) (sym b.1) (told.learned.leads (λ null. some (b.1 ∙ null)));
       ends = λ null. absurd (told.root refl refl (sym b.1 ∙ null));
     }
 
 -- ---- and goes on
 
-pub gone_on : (p q : Stand) (query : Query) (on : Onward) → Reads query.key query.node p.view.log q.view.log on → OnwardTold p q query.key query.node on.found on.side on.next → IsUnderWay p query → query.node ≢ 0 → IsUnderWay q (query_read query on)
-gone_on p q query on r told u some = record {
+pub gone_on : (p q : Stand) (n : ℕ) (query : Query) (on : Onward) → Reads query.key query.node p.view.log q.view.log on → OnwardTold p q query.key query.node on.found on.side on.next → IsUnderWay n p query → query.node ≢ 0 → IsUnderWay (n + 1) q (query_read query on)
+gone_on p q n query on r told u some = record {
   is_key = u.is_key;
-  comes = λ more. comes_on p q query.key query.node on r (u.comes some) more;
+  comes = λ more. comes_on p q n query.key query.node on r (u.comes some) more;
   known = λ more. told.learned.leads more;
-  ends = λ null. ends_so p q query.key query.node on r (u.comes some) null;
+  ends = λ null. ends_so p q n query.key query.node on r (u.comes some) null;
 }
+
+-- one that has ended stays so
+pub ended_further : (p : Stand) (n : ℕ) (query : Query) → query.node ≡ 0 → IsUnderWay n p query → IsUnderWay (n + 1) p query
+ended_further p n query null u = record { is_key = u.is_key; comes = λ some. absurd (some null); known = u.known; ends = u.ends }
+
+-- a walk that has passed more nodes has passed any fewer
+pub passed_any : (p : Stand) (n : ℕ) (queries : List Query) → All (IsUnderWay n p) queries → All (IsUnderWay 0 p) queries
+passed_any p n queries all i d below = let u = all i d below in record {
+  is_key = u.is_key;
+  comes = λ some. let h = u.comes some in (h.0, h.1, h.2, (let many = h.3 in omega (arith, many)));
+  known = u.known;
+  ends = u.ends;
+}
+
+-- ---- a walk that is broken off
+
+key_among : (queries : List Query) (i : ℕ) (d : Query) → i < length queries → Contains (map key_of queries) (slice_index_or queries i d).key
+key_among [] i d below = absurd (omega (arith, below))
+key_among (q ∷ qs) zero d below = (0, omega arith, refl)
+key_among (q ∷ qs) (suc i) d below = let rest = key_among qs i d (omega (arith, below)) in (suc rest.0, (let less = rest.1 in omega (arith, less)), rest.2)
+
+-- one of these has not ended, where it has looked at as many nodes as a walk may
+pub given_up : (b : Board) (old : List Entry) (q : Stand) → IsPinnedIn b q → (n : ℕ) (queries : List Query) (keys : List ℕ) → map key_of queries ≡ keys → All (IsUnderWay n q) queries → (i : ℕ) × (i < length queries) × HoldsAt (λ x. x.node ≢ 0) queries i
+    → suc n ≡ reach b.layout → AddsLooks (most_looks (reach b.layout) (length keys)) old q.view.log → GiveUp b.layout keys old q.view.log
+given_up b old q pinned n queries keys same all (i, below, left) far looks = of (slice_index_or queries i none) (all i none below) (left none) (key_among queries i none below)
+  where
+    none : Query
+    none = record { key = 0; found = false; node = 0 }
+
+    of : (x : Query) → IsUnderWay n q x → x.node ≢ 0 → Contains (map key_of queries) x.key → GiveUp b.layout keys old q.view.log
+    of x u some among = by b.layout.radix refl (u.comes some)
+      where
+        by : (radix : Bool) → b.layout.radix ≡ radix → HasPassed n q.view.log x.key x.node → GiveUp b.layout keys old q.view.log
+        by false plain passed = (looks, plain, x.key, x.node, n, subst (λ (ks : List ℕ). Contains ks x.key) same among, passed, far ∙ far_of b.layout false plain)
+        by true radix passed =
+            let key = u.is_key in
+            let short = walks_are_short q.view.layout (enough q.view.layout pinned.run.fits) (ap (λ (L : Layout). L.radix) pinned.own.layout ∙ radix) q.view.number q.view.log pinned.run.run.is_part x.key x.node passed.0 passed.1 (omega (arith, key)) passed.2 in
+            let all = far ∙ far_of b.layout true radix in
+            let many = passed.3 in
+            absurd (omega (arith, short, all, many))
 
 -- ---- the answers
 
 pub all_were_so : (o p q : Stand) → HasSeen o.view → IsLayout o.view.layout → (epochs o).pin ≡ None → IsSamePass o p → HasSeenAllOf p o → HasSeen p.view → IsSamePass p q → HasSeenAllOf q p
-    → (queries : List Query) → All (IsUnderWay p) queries → All (λ x. x.node ≡ 0) queries → All (λ x. WasSo o q x.key x.found) queries
+    → (queries : List Query) → All (IsUnderWay 0 p) queries → All (λ x. x.node ≡ 0) queries → All (λ x. WasSo o q x.key x.found) queries
 all_were_so o p q first fits unpinned same past mid on more queries all ended i d below =
     let u = all i d below in was_so o p q first fits unpinned same past mid on more (slice_index_or queries i d).key (slice_index_or queries i d).found u.is_key (u.ends (ended i d below))

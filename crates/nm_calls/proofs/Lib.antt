@@ -2,6 +2,8 @@ pub mod Looks
 pub mod Standing
 pub mod GoingOn
 pub mod Walked
+pub mod ShortWalks
+pub mod Stopping
 pub mod LookUps
 pub mod Freezing
 pub mod Marks
@@ -24,3 +26,4 @@ pub mod Rooms
 pub mod PlainLooks
 pub mod InTurnsLooks
 pub mod NextLooks
+pub mod PrevLooks

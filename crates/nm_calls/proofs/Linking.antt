@@ -1,11 +1,12 @@
 -- What the step that links a new node asks, and what it leaves.
 use Rattle.std.proofs.Common.{◌≡◌, ℕ, ◌<◌, inl, inr, ◌==◌, Bool, true, false, not, cond, ◌&&◌, ◌||◌, refl, sym, ap, subst, ◌∙◌, arith}
-use Rattle.std.specs.Prelude.{Option, Some, None, is_some, is_none, unwrap_or, nat_lt, Result, Ok, Err, IfOk, IfErr}
+use Rattle.std.specs.Prelude.{Option, Some, None, is_some, is_none, unwrap_or, nat_lt, nat_le, Result, Ok, Err, IfOk, IfErr}
 use Rattle.std.specs.List.{list_any}
-use Rattle.std.proofs.lemmas.Bool.{cond-true, cond-false, cond_both, eq-eqb, ne_eqb, and_from, lt-ltb, le-ltb}
+use Rattle.std.proofs.lemmas.Bool.{cond-true, cond-false, cond_both, eq-eqb, ne_eqb, and_from, lt-ltb, le-ltb, le-leb}
 use Rattle.std.proofs.lemmas.List.Folds.{list_any_at}
 use Rattle.nm_edge.specs.Edges.{Edge}
 use Rattle.nm_edge.specs.Layouts.{Layout, IsLayout}
+use Rattle.nm_edge.specs.Ranges.{covers}
 use Rattle.nm_edge.specs.declared.edge.Side.{Side}
 use Rattle.nm_edge.specs.declared.edge.Side.TheVariants.{Left, Right}
 use Rattle.nm_edge.specs.declared.node.NodeId.{NodeId}
@@ -13,13 +14,14 @@ use Rattle.nm_model.specs.declared.event.Event.TheVariants.{Link}
 use Rattle.nm_model.specs.declared.knowledge.Draft.{Draft}
 use Rattle.nm_model.specs.declared.reply.Refused.TheVariants.{NoSlot, NotPinned, NotHeld, NotPrivate, NotReady, NotOrdered}
 use Rattle.nm_model.specs.declared.reply.Reply.TheVariants.{Linked, Lost}
+use Rattle.nm_model.specs.declared.arrivals.Arrival.{Arrival}
 use Rattle.nm_model.specs.declared.arrivals.Call.{Call}
 use Rattle.nm_model.specs.Knowledge.{Knowledge, knows, is_private, draft_of, knows_leaf, beside}
 use Rattle.nm_model.specs.Learning.{linked_in, read_edge}
 use Rattle.nm_model.specs.Maps.{get, without, is_number}
-use Rattle.nm_model.specs.Ordered.{disorder, links_in_order, may_link_at, forks_over, new_leaf}
-use Rattle.nm_model.specs.Searches.{Search, idle, searched, is_by, is_side}
-use Rattle.nm_model.specs.Step.{refusal, outside, is_leaf_draft, is_fork_over, is_linkable, node_linked}
+use Rattle.nm_model.specs.Ordered.{disorder, links_in_order, may_link_at, may_link_between, shows_place, narrows, is_covered, parts, parts_from, forks_over, new_leaf}
+use Rattle.nm_model.specs.Searches.{Search, idle, searched, is_by, is_first, is_side, goes_on as goes_by, turns}
+use Rattle.nm_model.specs.Step.{refusal, outside, is_leaf_draft, is_fork_over, is_linkable, may_be_over, node_linked}
 use Rattle.nm_model.specs.Walks.{Entry, begins_anew, search_after}
 use Rattle.nm_laws.proofs.Learned.{learn_linked, learn_link_lost}
 use Rattle.nm_model.proofs.Numbers.{number_is}
@@ -34,7 +36,8 @@ use Rattle.nm_steps.specs.Rules.{knowledge}
 use Rattle.nm_steps.specs.Steps.{Stand, MayStep, Stepped, HasSeenAllOf, link_reply}
 use Rattle.nm_steps.proofs.AfterSteps.{TellsRun}
 use Rattle.nm_calls.specs.Telling.{Tells, IsInRun, GoesOn, IsPinnedSomewhere}
-use Rattle.nm_calls.specs.Making.{draft, IsFork, IsInserting, HasLinked, HasLost}
+use Rattle.nm_calls.specs.Making.{draft, IsFork, IsInserting, IsPlace, IsRouter, IsWithin, HasLinked, HasLost}
+use Rattle.nm_calls.specs.Places.{IsOver}
 use Rattle.nm_calls.proofs.Looks.{enough, known_inside, grown, told_after, goes_on}
 use Rattle.nm_calls.proofs.Makes.{private_from_birth, drafts_ascend, without_it, without_another, search_then}
 use Rattle.nm_pool.proofs.Allowing.{not_outside, passes_then}
@@ -45,40 +48,75 @@ use Rattle.nm_pool.proofs.PrivateSlots.{known_after_step}
 number_there : (o : Option ℕ) (n : ℕ) → o ≡ Some n → is_number o n ≡ true
 number_there o n is = ap (λ (x : Option ℕ). is_number x n) is ∙ eq-eqb n n refl
 
--- the draft of an internal node puts a key over the leaf and a new one
-record ForksOver (d : Draft) (leaf fresh key other : ℕ) : Type 0 where
+-- the draft of an internal node puts a key over the slot and a new leaf
+record ForksOver (d : Draft) (leaf fresh : ℕ) : Type 0 where
   beside_leaf : beside d leaf ≡ Some fresh
   over : is_fork_over d leaf ≡ true
-  forks : forks_over d leaf key (Some other) ≡ true
 
 or_right : (a b : Bool) → b ≡ true → (a || b) ≡ true
 or_right true b is = refl
 or_right false b is = is
 
-module _ (d : Draft) (leaf fresh key other : ℕ) where
+or_left : (a b : Bool) → a ≡ true → (a || b) ≡ true
+or_left a b is = ap (λ (x : Bool). x || b) is
+
+-- the key of the node, by the shape of the tree, is as a link asks
+abbrev ForksSo : Bool → Draft → ℕ → ℕ → ℕ → Type 0
+ForksSo false d leaf key other = forks_over d leaf key (Some other) ≡ true
+ForksSo true d leaf key other = parts d leaf key other d.key ≡ true
+
+module _ (d : Draft) (leaf fresh key other router : ℕ) (has_key : d.key ≡ Some router) where
   -- the key is the lesser one
-  lesser : key < other → d.key ≡ Some other → d.left ≡ Some fresh → d.right ≡ Some leaf → ForksOver d leaf fresh key other
-  lesser less has_key left right = record {
+  lesser : d.left ≡ Some fresh → d.right ≡ Some leaf → ForksOver d leaf fresh
+  lesser left right = record {
     beside_leaf = cond_both (is_number d.left leaf) d.right d.left (λ (o : Option ℕ). o ≡ Some fresh) (λ same. right ∙ (sym (number_is d.left leaf same) ∙ left)) (λ _. left);
     over = and_from (is_some d.key) (is_number d.left leaf || is_number d.right leaf) (ap is_some has_key) (or_right (is_number d.left leaf) (is_number d.right leaf) (number_there d.right leaf right));
-    forks = and_from (not (other == key)) (cond (nat_lt key other) (is_number d.key other && is_number d.right leaf) (is_number d.key key && is_number d.left leaf)) (ap not (ne_eqb other key (λ same. omega (arith, less, same))))
-        (cond-true (nat_lt key other) (is_number d.key other && is_number d.right leaf) (is_number d.key key && is_number d.left leaf) (lt-ltb key other less)
-        ∙ and_from (is_number d.key other) (is_number d.right leaf) (number_there d.key other has_key) (number_there d.right leaf right));
   }
 
-  greater : other < key → d.key ≡ Some key → d.left ≡ Some leaf → d.right ≡ Some fresh → ForksOver d leaf fresh key other
-  greater more has_key left right = record {
+  greater : d.left ≡ Some leaf → d.right ≡ Some fresh → ForksOver d leaf fresh
+  greater left right = record {
     beside_leaf = cond-true (is_number d.left leaf) d.right d.left (number_there d.left leaf left) ∙ right;
     over = and_from (is_some d.key) (is_number d.left leaf || is_number d.right leaf) (ap is_some has_key) (ap (λ (b : Bool). b || is_number d.right leaf) (number_there d.left leaf left));
-    forks = and_from (not (other == key)) (cond (nat_lt key other) (is_number d.key other && is_number d.right leaf) (is_number d.key key && is_number d.left leaf)) (ap not (ne_eqb other key (λ same. omega (arith, more, same))))
-        (cond-false (nat_lt key other) (is_number d.key other && is_number d.right leaf) (is_number d.key key && is_number d.left leaf) (le-ltb key other (omega (arith, more)))
-        ∙ and_from (is_number d.key key) (is_number d.left leaf) (number_there d.key key has_key) (number_there d.left leaf left));
   }
 
-fork_shown : (p : Stand) (key other leaf new fresh : ℕ) → IsFork p key other leaf new fresh → ForksOver (draft p new) leaf fresh key other
+  lesser_so : (b : Bool) → key < other → d.right ≡ Some leaf → IsRouter b key other router → ForksSo b d leaf key other
+  lesser_so false less right is =
+      let key_is : d.key ≡ Some other = has_key ∙ ap Some (is ∙ cond-true (nat_lt key other) other key (lt-ltb key other less)) in
+      and_from (not (other == key)) (cond (nat_lt key other) (is_number d.key other && is_number d.right leaf) (is_number d.key key && is_number d.left leaf)) (ap not (ne_eqb other key (λ same. omega (arith, less, same))))
+      (cond-true (nat_lt key other) (is_number d.key other && is_number d.right leaf) (is_number d.key key && is_number d.left leaf) (lt-ltb key other less)
+      ∙ and_from (is_number d.key other) (is_number d.right leaf) (number_there d.key other key_is) (number_there d.right leaf right))
+  lesser_so true less right is =
+      let between = is.low less in
+      ap (parts d leaf key other) has_key
+      ∙ and_from (covers router key && covers router other) (cond (nat_lt key router) (nat_le router other && is_number d.right leaf) (nat_lt other router && is_number d.left leaf))
+      (and_from (covers router key) (covers router other) is.covers_one is.covers_other)
+      (cond-true (nat_lt key router) (nat_le router other && is_number d.right leaf) (nat_lt other router && is_number d.left leaf) (lt-ltb key router between.0)
+      ∙ and_from (nat_le router other) (is_number d.right leaf) (le-leb router other between.1) (number_there d.right leaf right))
+
+  greater_so : (b : Bool) → other < key → d.left ≡ Some leaf → IsRouter b key other router → ForksSo b d leaf key other
+  greater_so false more left is =
+      let key_is : d.key ≡ Some key = has_key ∙ ap Some (is ∙ cond-false (nat_lt key other) other key (le-ltb key other (omega (arith, more)))) in
+      and_from (not (other == key)) (cond (nat_lt key other) (is_number d.key other && is_number d.right leaf) (is_number d.key key && is_number d.left leaf)) (ap not (ne_eqb other key (λ same. omega (arith, more, same))))
+      (cond-false (nat_lt key other) (is_number d.key other && is_number d.right leaf) (is_number d.key key && is_number d.left leaf) (le-ltb key other (omega (arith, more)))
+      ∙ and_from (is_number d.key key) (is_number d.left leaf) (number_there d.key key key_is) (number_there d.left leaf left))
+  greater_so true more left is =
+      let between = is.high more in
+      ap (parts d leaf key other) has_key
+      ∙ and_from (covers router key && covers router other) (cond (nat_lt key router) (nat_le router other && is_number d.right leaf) (nat_lt other router && is_number d.left leaf))
+      (and_from (covers router key) (covers router other) is.covers_one is.covers_other)
+      (cond-false (nat_lt key router) (nat_le router other && is_number d.right leaf) (nat_lt other router && is_number d.left leaf) (le-ltb key router between.1)
+      ∙ and_from (nat_lt other router) (is_number d.left leaf) (lt-ltb other router between.0) (number_there d.left leaf left))
+
+fork_shown : (p : Stand) (key other leaf new fresh : ℕ) → IsFork p key other leaf new fresh → ForksOver (draft p new) leaf fresh
 fork_shown p key other leaf new fresh f = elim f.as_fork [
-  | inl less ↦ lesser (draft p new) leaf fresh key other less.0 less.1.has_key less.1.has_left less.1.has_right
-  | inr more ↦ greater (draft p new) leaf fresh key other more.0 more.1.has_key more.1.has_left more.1.has_right
+  | inl less ↦ lesser (draft p new) leaf fresh key other f.router less.1.has_key less.1.has_left less.1.has_right
+  | inr more ↦ greater (draft p new) leaf fresh key other f.router more.1.has_key more.1.has_left more.1.has_right
+]
+
+forks_shown : (p : Stand) (key other leaf new fresh : ℕ) (f : IsFork p key other leaf new fresh) (b : Bool) → IsRouter b key other f.router → ForksSo b (draft p new) leaf key other
+forks_shown p key other leaf new fresh f b is = elim f.as_fork [
+  | inl less ↦ lesser_so (draft p new) leaf fresh key other f.router less.1.has_key b less.0 less.1.has_right is
+  | inr more ↦ greater_so (draft p new) leaf fresh key other f.router more.1.has_key b more.0 more.1.has_left is
 ]
 
 -- its birth is stored
@@ -98,7 +136,7 @@ module _ (p : Stand) (parent : ℕ) (side : Side) (leaf new fresh : ℕ) (i : Is
   abbrev search : Search
   search = search_after idle p.view.log
 
-  shown : ForksOver (draft_of (knowledge p.view) new) leaf fresh i.key i.other
+  shown : ForksOver (draft_of (knowledge p.view) new) leaf fresh
   shown = fork_shown p i.key i.other leaf new fresh i.fork
 
   is_fresh : unwrap_or (beside (draft_of (knowledge p.view) new) leaf) 0 ≡ fresh
@@ -119,29 +157,65 @@ module _ (p : Stand) (parent : ℕ) (side : Side) (leaf new fresh : ℕ) (i : Is
   linkable : is_linkable (knowledge p.view) new leaf ≡ true
   linkable = and_from (is_fork_over (draft_of k new) leaf) _ shown.over (ap (is_leaf_draft k) is_fresh ∙ fresh_leaf)
 
-  -- the walk's arrival at the leaf is one by which the call may link
-  walked : list_any (may_link_at (draft_of (knowledge p.view) new) i.key parent side leaf) (search_after idle p.view.log).walks ≡ true
-  walked = list_any_at (may_link_at (draft_of k new) i.key parent side leaf) search.walks a.among.0 a.arrival a.among.1 (ap (may_link_at (draft_of k new) i.key parent side leaf) a.among.2 ∙ arrives)
-    where
-      a : Arrived (search_after idle p.view.log) ThePin i.key leaf parent side
-      a = i.ended.0
+  -- an arrival of which something is so
+  any_of : (f : Arrival → Bool) (x above : ℕ) (d : Side) (a : Arrived (search_after idle p.view.log) ThePin i.key x above d) → f a.arrival ≡ true → list_any f (search_after idle p.view.log).walks ≡ true
+  any_of f x above d a is = list_any_at f search.walks a.among.0 a.arrival a.among.1 (ap f a.among.2 ∙ is)
 
-      arrives : may_link_at (draft_of (knowledge p.view) new) i.key parent side leaf a.arrival ≡ true
-      arrives =
-          and_from (is_by leaf parent side a.arrival) _
-          (and_from (a.arrival.slot == leaf) _ (eq-eqb a.arrival.slot leaf a.is_slot)
-          (and_from (a.arrival.parent == parent) (is_side a.arrival.side side) (eq-eqb a.arrival.parent parent a.is_parent) (ap (λ (d : Side). is_side d side) a.is_side ∙ same_side side)))
-          (and_from a.arrival.ended _ i.ended.2 (ap (forks_over (draft_of k new) leaf i.key) i.ended.1 ∙ shown.forks))
+  arrives_by : (x above : ℕ) (d : Side) (a : Arrived (search_after idle p.view.log) ThePin i.key x above d) → is_by x above d a.arrival ≡ true
+  arrives_by x above d a =
+      and_from (a.arrival.slot == x) _ (eq-eqb a.arrival.slot x a.is_slot)
+      (and_from (a.arrival.parent == above) (is_side a.arrival.side d) (eq-eqb a.arrival.parent above a.is_parent) (ap (λ (e : Side). is_side e d) a.is_side ∙ same_side d))
 
-  in_order : disorder (knowledge p.view) (search_after idle p.view.log) (Link parent side leaf new) ≡ None
-  in_order = cond-false (not (links_in_order k search search.call parent side leaf new)) (Some NotOrdered) None (ap not
-      (ap (λ (c : Option Call). links_in_order k search c parent side leaf new) i.call
+  -- the edge by which the walk came is in the range of its node
+  comes_within : IsWithin p i.key parent side → (is_first parent side || list_any (narrows i.key parent side) (search_after idle p.view.log).walks) ≡ true
+  comes_within (inl first) = or_left (is_first parent side) _ (and_from (parent == 2) (is_side side Left) (eq-eqb parent 2 first.0) (ap (λ (d : Side). is_side d Left) first.1))
+  comes_within (inr w) =
+      or_right (is_first parent side) _ (any_of (narrows i.key parent side) parent w.1 w.2 w.5.0
+      (and_from (goes_by i.key parent side w.5.0.arrival) (is_covered i.key w.5.0.arrival.key)
+      (and_from (w.5.0.arrival.slot == parent) (turns i.key w.5.0.arrival.key side) (eq-eqb w.5.0.arrival.slot parent w.5.0.is_slot)
+      (ap (λ (o : Option ℕ). turns i.key o side) w.5.1 ∙ (ap (λ (d : Side). is_side d side) w.4 ∙ same_side side)))
+      (ap (is_covered i.key) w.5.1 ∙ w.3)))
+
+  leafy_or_out : IsOver p i.key leaf i.other → (knows_leaf (knowledge p.view) leaf || not (covers i.other i.key)) ≡ true
+  leafy_or_out (inl known) = or_left (knows_leaf k leaf) _ known
+  leafy_or_out (inr out) = or_right (knows_leaf k leaf) _ (ap not out.1)
+
+  -- the walk's arrival is one by which the call may link
+  walked_so : (b : Bool) → IsPlace b p i.key leaf parent side i.other → ForksSo b (draft_of (knowledge p.view) new) leaf i.key i.other
+      → cond b ((is_first parent side || list_any (narrows i.key parent side) (search_after idle p.view.log).walks)
+      && list_any (may_link_between (draft_of (knowledge p.view) new) (knows_leaf (knowledge p.view) leaf) i.key parent side leaf) (search_after idle p.view.log).walks)
+      (list_any (may_link_at (draft_of (knowledge p.view) new) i.key parent side leaf) (search_after idle p.view.log).walks) ≡ true
+  walked_so false h forks =
+      any_of (may_link_at (draft_of k new) i.key parent side leaf) leaf parent side h.1.0
+      (and_from (is_by leaf parent side h.1.0.arrival) _ (arrives_by leaf parent side h.1.0) (and_from h.1.0.arrival.ended _ h.1.2 (ap (forks_over (draft_of k new) leaf i.key) h.1.1 ∙ forks)))
+  walked_so true h forks =
+      and_from (is_first parent side || list_any (narrows i.key parent side) search.walks) _ (comes_within h.2)
+      (any_of (may_link_between (draft_of k new) (knows_leaf k leaf) i.key parent side leaf) leaf parent side h.1.0
+      (and_from (is_by leaf parent side h.1.0.arrival) _ (arrives_by leaf parent side h.1.0)
+      (ap (parts_from (draft_of k new) leaf i.key (knows_leaf k leaf)) h.1.1
+      ∙ and_from (not (i.other == i.key) && (knows_leaf k leaf || not (covers i.other i.key))) _
+      (and_from (not (i.other == i.key)) _ (ap not (ne_eqb i.other i.key i.apart)) (leafy_or_out h.0)) forks)))
+
+  walked : shows_place p.view.layout (knowledge p.view) i.key parent side leaf new (search_after idle p.view.log).walks ≡ true
+  walked = walked_so p.view.layout.radix i.place (forks_shown p i.key i.other leaf new fresh i.fork p.view.layout.radix i.fork.between)
+
+  -- over such a slot a link may be
+  may_over : (b : Bool) → IsPlace b p i.key leaf parent side i.other → (knows_leaf (knowledge p.view) leaf || (b && nat_le 6 leaf)) ≡ true
+  may_over false h = or_left (knows_leaf k leaf) _ h.0
+  may_over true h = elim h.0 [
+    | inl known ↦ or_left (knows_leaf k leaf) _ known
+    | inr out ↦ or_right (knows_leaf k leaf) _ (le-leb 6 leaf out.0)
+  ]
+
+  in_order : disorder p.view.layout (knowledge p.view) (search_after idle p.view.log) (Link parent side leaf new) ≡ None
+  in_order = cond-false (not (links_in_order p.view.layout k search search.call parent side leaf new)) (Some NotOrdered) None (ap not
+      (ap (λ (c : Option Call). links_in_order p.view.layout k search c parent side leaf new) i.call
       ∙ and_from (not search.linked) _ (ap not i.not_linked)
       (and_from (is_number (new_leaf k leaf new).key i.key) _ (ap (λ (x : ℕ). is_number (draft_of k x).key i.key) is_fresh ∙ number_there (draft_of k fresh).key i.key i.fork.as_leaf.has_key) walked)))
 
-  pub may_link : IsInRun p → IsPinnedSomewhere p → Tells p (KnowsSlot parent) → Tells p (KnowsSlot leaf) → Tells p (KnowsLeaf leaf) → ((x : ℕ) → is_private (knowledge p.view) x ≡ true → IsPooled p.view.layout x) → MayStep p (Link parent side leaf new)
+  pub may_link : IsInRun p → IsPinnedSomewhere p → Tells p (KnowsSlot parent) → Tells p (KnowsSlot leaf) → ((x : ℕ) → is_private (knowledge p.view) x ≡ true → IsPooled p.view.layout x) → MayStep p (Link parent side leaf new)
   unfolding refusal
-  may_link run pin known held leafy pooled =
+  may_link run pin known held pooled =
       let range = known_inside p.view.layout p.view.number p.view.log run.fits run.run.is_part in
       let above = range parent known in
       let below = range leaf held in
@@ -153,7 +227,7 @@ module _ (p : Stand) (parent : ℕ) (side : Side) (leaf new fresh : ℕ) (i : Is
             (ap (λ (b : Bool). b || (outside 1 L.nodes leaf || outside 6 L.nodes new)) (not_outside 1 L.nodes parent above.0 above.1)
             ∙ (ap (λ (b : Bool). b || outside 6 L.nodes new) (not_outside 1 L.nodes leaf below.0 below.1) ∙ not_outside 6 L.nodes new own.0 own.1))
             (passes_then (is_none k.brief.pin) NotPinned _ (ap is_none pin.1)
-            (passes_then (not (knows k parent && (knows k leaf && knows_leaf k leaf))) NotHeld _ (ap not (and_from (knows k parent) _ known (and_from (knows k leaf) _ held leafy)))
+            (passes_then (not (knows k parent && (knows k leaf && may_be_over L k leaf))) NotHeld _ (ap not (and_from (knows k parent) _ known (and_from (knows k leaf) _ held (may_over L.radix i.place))))
             (passes_then (not (is_private k new)) NotPrivate _ (ap not new_private)
             (passes_then (not (is_linkable k new leaf)) NotReady _ (ap not linkable) refl))));
         ordered = in_order;

@@ -2,6 +2,7 @@
 use Rattle.std.proofs.Common.{◌≡◌, ◌≢◌, inr, ℕ, zero, suc, ◌==◌, Bool, true, false, not, List, [], ◌∷◌, ◌++◌, refl, sym, ap, ◌∙◌}
 use Rattle.std.specs.Prelude.{Option, Some}
 use Rattle.std.proofs.lemmas.Bool.{and_from}
+use Rattle.nm_edge.specs.Layouts.{Layout}
 use Rattle.nm_edge.specs.Layouts.{IsLayout}
 use Rattle.nm_edge.specs.declared.edge.Side.{Side}
 use Rattle.nm_model.specs.declared.event.Event.TheVariants.{Leave, LeaveWith, SightFor}
@@ -84,6 +85,6 @@ looks_keep p q only = record {
 
 -- ---- all walks broken off
 
-pub missed : (nodes tries k : ℕ) (old a z new : List Entry) (epoch : ℕ) → tries ≢ 0 → IsPinnedBy (SightFor Has k) tries old a epoch → LostWalks nodes k tries a z → new ≡ z ++ (Leave, Departed) ∷ [] → HasMissed nodes tries k old new
-missed nodes zero k old a z new epoch some pin lost leaves = absurd (some refl)
-missed nodes (suc t) k old a z new epoch some pin lost leaves = inr (a, z, epoch, pin, lost, leaves)
+pub missed : (L : Layout) (tries k : ℕ) (old a z new : List Entry) (epoch : ℕ) → tries ≢ 0 → IsPinnedBy (SightFor Has k) tries old a epoch → LostWalks L k tries a z → new ≡ z ++ (Leave, Departed) ∷ [] → HasMissed L tries k old new
+missed L zero k old a z new epoch some pin lost leaves = absurd (some refl)
+missed L (suc t) k old a z new epoch some pin lost leaves = inr (a, z, epoch, pin, lost, leaves)

@@ -35,7 +35,7 @@ use Rattle.nm_order.proofs.LastEntries.{ToldBy, told_by_part, search_more}
 use Rattle.nm_order.proofs.OrderedLaws.{law_of_state}
 use Rattle.nm_order.proofs.TaughtFacts.{edges_are_learned, births_are_learned}
 use Rattle.nm_order.proofs.TaughtWalks.{walks_begin, walks_learn_keys, walks_go_on, walks_end}
-use Rattle.nm_order.proofs.ToldLaws.{twins_are_told, flags_are_told, flagged_lead_high, flagged_stand_high, edges_stay_inside, root_leads, low_keys_stand_high}
+use Rattle.nm_order.proofs.ToldLaws.{twins_are_told, flags_are_told, flagged_lead_high, flagged_stand_high, edges_stay_inside, root_leads, leaves_lead_nowhere, low_keys_stand_high}
 use Rattle.nm_steps.specs.Rules.{knowledge}
 use Rattle.nm_steps.specs.Steps.{Stand, MayStep, Stepped, HasSeenAllOf}
 use Rattle.nm_steps.proofs.AfterSteps.{TellsRun, run_after, is_join}
@@ -143,6 +143,7 @@ module _ (p q : Stand) (x : ℕ) (fits : IsLayout q.view.layout) (tells : TellsR
         };
         twin = λ to tag. twins_are_told L low w log entry grows x side e to told tag;
         again = λ to flag. flags_are_told L low w log entry grows x side e to told flag;
+        null = λ leaf. leaves_lead_nowhere L low w log entry grows x side e told leaf;
         within = edges_stay_inside L low w log entry grows x side e told;
         high = flagged_lead_high L low w log entry grows x side e told known;
         owner = flagged_stand_high L low w log entry grows x side e told known;

@@ -1,24 +1,33 @@
 -- The moment of an answer, by what the log tells of its call and what its pass has seen.
-use Rattle.std.proofs.Common.{◌≡◌, ◌<◌, ◌≤◌, ℕ, Bool, List, [], ◌∷◌, ◌++◌, refl, sym, ap, subst, ◌∙◌}
-use Rattle.std.specs.Prelude.{Some, None, All}
+use Rattle.std.proofs.Common.{◌≡◌, ◌<◌, ◌≤◌, ◌==◌, ◌||◌, ℕ, Bool, true, List, [], ◌∷◌, ◌++◌, refl, sym, ap, subst, ◌∙◌, eq-eqb}
+use Rattle.std.specs.Prelude.{Option, Some, None, All}
+use Rattle.std.proofs.lemmas.List.{same_from_push}
 use Rattle.nm_edge.specs.Layouts.{Layout, IsLayout}
 use Rattle.nm_edge.specs.declared.node.NodeId.{NodeId}
+use Rattle.nm_model.specs.declared.arrivals.Call.{Call}
 use Rattle.nm_model.specs.declared.event.Event.{Event}
 use Rattle.nm_model.specs.declared.event.Event.TheVariants.{LeaveWith}
 use Rattle.nm_model.specs.declared.event.Op.{Op}
 use Rattle.nm_model.specs.declared.reply.Reply.TheVariants.{Departed}
+use Rattle.nm_model.specs.declared.trace.Turn.{Turn}
 use Rattle.nm_model.specs.Ordered.{ordered, after_in, trace_in, HasKey}
 use Rattle.nm_model.specs.Searches.{idle}
 use Rattle.nm_model.specs.Walks.{Entry, search_after}
-use Rattle.nm_order.specs.AnsweredSince.{IsAnsweredSince}
 use Rattle.nm_order.specs.Facts.Fact.{CallIs}
-use Rattle.nm_order.specs.Logs.{part_of}
-use Rattle.nm_order.proofs.AnswersSince.{part-append, answered_since}
+use Rattle.nm_order.specs.History.{pin_of}
+use Rattle.nm_order.specs.Logs.{part_of, is_leaver}
 use Rattle.nm_order.proofs.LoggedAnswers.{pending_deletes_have_flagged}
-use Rattle.nm_order.proofs.WalksOfRuns.{trace_in-append}
+use Rattle.nm_order.proofs.RunExchanges.{first_keys}
+use Rattle.nm_theorem.specs.Histories.{Called, call_begun, answer_turn, AnswerStands}
+use Rattle.nm_theorem.proofs.HistoriesOfRuns.{with_pin}
+use Rattle.nm_theorem.proofs.Runs.{Parts, parts_of}
+use Rattle.nm_theorem.proofs.StandingAnswers.{answers_stand, call_by_log}
+use Rattle.nm_steps.specs.declared.view.View.{View}
 use Rattle.nm_steps.specs.Rules.{Extends}
-use Rattle.nm_steps.specs.Steps.{Stand, Stepped, HasSeen, IsSamePass, HasSeenAllOf}
+use Rattle.nm_steps.specs.Steps.{Stand, Stepped, HasTurn, HasSeen, IsSamePass, HasSeenAllOf}
+use Rattle.nm_epoch.specs.Resting.{search}
 use Rattle.nm_steps.proofs.Growing.{goes_on_through}
+use Rattle.nm_steps.proofs.Keeping.{part_grows}
 use Rattle.nm_steps.proofs.Seeing.{seen_through, same_then}
 use Rattle.nm_calls.specs.Telling.{Tells}
 use Rattle.nm_calls.specs.Deletes.{IsRemoving}
@@ -27,34 +36,52 @@ use Rattle.nm_calls.proofs.Looks.{enough}
 
 -- further on
 pub no_call_on : (o p q : Stand) → HadNoCall o p → IsSamePass p q → HasSeenAllOf q p → HadNoCall o q
-no_call_on o p q had same past = record { seen = had.seen; same = same_then o p q had.same same; past = seen_through o p q had.past past; call = had.call }
+no_call_on o p q had same past = record { same = same_then o p q had.same same; past = seen_through o p q had.past past; call = had.call }
 
--- a worker that had no call, then one, and then the answer
-answered : (L : Layout) → 5 ≤ L.nodes → (w : ℕ) → w < L.workers → (first then' last : List (ℕ × Event)) → Extends then' first → Extends last then' → All (λ t. HasKey t.1) last
-    → (start log : List Entry) (op : Op) (k : ℕ) (answer : Bool) → part_of w (trace_in (ordered L) first) ≡ start → part_of w (trace_in (ordered L) then') ≡ log
-    → part_of w (trace_in (ordered L) last) ≡ log ++ (LeaveWith answer, Departed) ∷ [] → (search_after idle start).call ≡ None → (search_after idle log).call ≡ Some (record { op = op; key = k })
-    → IsAnsweredSince L first last w log op k answer
-answered L enough w below first then' last grew grows keys start log op k answer is_start is_log is_last none called =
-    let whole : Extends last first = goes_on_through last then' first grows grew in
-    subst (λ (turns : List (ℕ × Event)). IsAnsweredSince L first turns w log op k answer) (sym whole.is)
-    (answered_since L enough w below first whole.more (subst (λ (turns : List (ℕ × Event)). All (λ t. HasKey t.1) turns) whole.is keys) log op k answer
-    (ap (λ (turns : List (ℕ × Event)). part_of w (trace_in (ordered L) turns)) (sym whole.is) ∙ is_last)
-    (part_of w (trace_in (after_in (ordered L) first) grew.more))
-    (sym is_log
-    ∙ (ap (λ (turns : List (ℕ × Event)). part_of w (trace_in (ordered L) turns)) grew.is
-    ∙ (ap (part_of w) (trace_in-append (ordered L) first grew.more) ∙ part-append w (trace_in (ordered L) first) (trace_in (after_in (ordered L) first) grew.more))))
-    (ap (λ (l : List Entry). (search_after idle l).call) is_start ∙ none) called)
+-- the call that a log tells is the one that the turns have begun
+call_seen : (v : View) → IsLayout v.layout → (seen : HasSeen v) → (call : Option Call) → (search_after idle v.log).call ≡ call → call_begun v.number v.past ≡ with_pin (pin_of v.layout seen.events v.number) call
+call_seen v fits seen call is =
+    ap (call_begun v.number) seen.are
+    ∙ call_by_log v.layout fits v.number seen.worker seen.events seen.keys call
+    (ap (λ (l : List Entry). (search_after idle l).call) (ap (part_of v.number) (sym seen.are) ∙ seen.is_part) ∙ is)
+
+-- and where it tells of none they have begun none
+pub none_begun : (o : Stand) → HasSeen o.view → IsLayout o.view.layout → (search o).call ≡ None → call_begun o.view.number o.view.past ≡ None
+none_begun o seen fits none' = call_seen o.view fits seen None none'
+
+-- turns that end with the answer of a call, of a worker that had none behind an earlier part of them
+answered : (L : Layout) → IsLayout L → (w : ℕ) → w < L.workers → (answer : Bool) (was before now : List Turn) (events : List (ℕ × Event)) → Extends before was → now ≡ before ++ answer_turn w answer ∷ [] → All (λ t. HasKey t.1) events → now ≡ trace_in (ordered L) events
+    → (log : List Entry) (op : Op) (k : ℕ) → part_of w now ≡ log ++ (LeaveWith answer, Departed) ∷ [] → call_begun w was ≡ None → (search_after idle log).call ≡ Some (record { op = op; key = k })
+    → AnswerStands L was now w op k answer
+answered L fits w below answer was before now events grows last keys are log op k is_log none' called =
+    subst (λ (ts : List Turn). AnswerStands L was ts w op k answer) (sym are)
+    (answers_stand L fits events keys was grows.more w (pin_of L p.early w) op k answer
+    (sym are ∙ (last ∙ ap (λ (ts : List Turn). ts ++ answer_turn w answer ∷ []) grows.is))
+    none'
+    (ap (call_begun w) (sym grows.is)
+    ∙ (ap (call_begun w) p.first_is
+    ∙ call_by_log L fits w below p.early (first_keys p.early p.late (subst (λ (ts : List (ℕ × Event)). All (λ t. HasKey t.1) ts) p.all keys)) (Some (record { op = op; key = k }))
+    (ap (λ (l : List Entry). (search_after idle l).call) (ap (part_of w) (sym p.first_is) ∙ own) ∙ called))))
+  where
+    p : Parts (ordered L) events before (answer_turn w answer ∷ [])
+    p = parts_of (ordered L) events before (answer_turn w answer ∷ []) (sym are ∙ last)
+
+    own : part_of w before ≡ log
+    own = (same_from_push (part_of w before) log (LeaveWith answer, Departed) (LeaveWith answer, Departed)
+        (sym (part_grows w before w (LeaveWith answer) Departed (ap (λ (b : Bool). b || is_leaver w (LeaveWith answer)) (eq-eqb w w refl))) ∙ (ap (part_of w) (sym last) ∙ is_log))).0
 
 -- a leave with the answer of the call
-pub moment_of : (o p q : Stand) (op : Op) (k : ℕ) (answer : Bool) → HadNoCall o p → HasSeen p.view → IsLayout p.view.layout → Tells p (CallIs op k) → Stepped p q (LeaveWith answer) Departed → HasSeenAllOf q p → HasSeen q.view → AnswerHasMoment o q op k answer
-moment_of o p q op k answer had mid fits call step past after =
-    subst (λ (z : Stand). AnswerHasMoment o z op k answer) (sym step) (record {
-      log = p.view.log;
-      ends = refl;
-      since = answered p.view.layout (enough p.view.layout fits) p.view.number mid.worker o.view.past p.view.past q.view.past had.past.goes_on past.goes_on after.keys o.view.log p.view.log op k answer
-          (subst (λ (z : Stand). part_of z.view.number (trace_in (ordered z.view.layout) o.view.past) ≡ o.view.log) (sym had.same) had.seen.is_part) mid.is_part
-          (subst (λ (z : Stand). part_of z.view.number (trace_in (ordered z.view.layout) q.view.past) ≡ z.view.log) step after.is_part) had.call call;
-    })
+pub moment_of : (o p q : Stand) (op : Op) (k : ℕ) (answer : Bool) → HadNoCall o p → IsLayout p.view.layout → Tells p (CallIs op k) → Stepped p q (LeaveWith answer) Departed → HasTurn p q (LeaveWith answer) Departed → HasSeen q.view → AnswerHasMoment o q op k answer
+moment_of o p q op k answer had fits call step turn after =
+    subst (λ (z : Stand). AnswerHasMoment o z op k answer) (sym step)
+    (answered p.view.layout fits p.view.number now.worker answer o.view.past turn.before q.view.past now.events
+    (goes_on_through turn.before p.view.past o.view.past turn.extends had.past.goes_on) turn.is now.keys now.are p.view.log op k now.is_part no_call call)
+  where
+    now : HasSeen (record p.view { log = p.view.log ++ (LeaveWith answer, Departed) ∷ []; past = q.view.past })
+    now = subst (λ (z : Stand). HasSeen z.view) step after
+
+    no_call : call_begun p.view.number o.view.past ≡ None
+    no_call = ap (λ (z : Stand). call_begun z.view.number o.view.past) had.same ∙ had.call
 
 -- a delete that may go on to remove its leaf
 pub has_flagged_it : (p : Stand) (k : ℕ) (leaf : NodeId) → IsRemoving p k leaf → HasFlaggedIt p k leaf

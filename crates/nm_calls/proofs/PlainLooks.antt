@@ -1,10 +1,10 @@
 -- Looks that are added to a log under a pin for no call: a walk begins, goes on, and tells of its
 -- key.
-use Rattle.std.proofs.Common.{◌≡◌, ◌≢◌, ◌≤◌, ℕ, ◌+◌, ◌*◌, ◌==◌, Bool, true, false, cond, List, [], ◌∷◌, ◌++◌, append-nil, append_assoc, length, refl, sym, ap, subst, ◌∙◌, arith, true≢false}
+use Rattle.std.proofs.Common.{◌≡◌, ◌≢◌, ◌≤◌, inl, inr, ℕ, zero, suc, ◌+◌, ◌*◌, ◌==◌, Bool, true, false, cond, List, [], ◌∷◌, ◌++◌, append-nil, append_assoc, length, refl, sym, ap, subst, ◌∙◌, arith, true≢false}
 use Rattle.std.specs.Prelude.{filter, None, All}
 use Rattle.std.specs.List.{list_all}
 use Rattle.std.proofs.lemmas.Bool.{and_parts, and_from}
-use Rattle.std.proofs.lemmas.List.{length-append}
+use Rattle.std.proofs.lemmas.List.{length-append, length-map, map-append}
 use Rattle.std.proofs.lemmas.List.Folds.{list_all-append}
 use Rattle.nm_edge.specs.Edges.{Edge}
 use Rattle.nm_edge.specs.Keys.{IsKey}
@@ -12,12 +12,13 @@ use Rattle.nm_edge.specs.Layouts.{Layout, IsLayout}
 use Rattle.nm_edge.specs.declared.edge.Side.{Side}
 use Rattle.nm_edge.specs.declared.edge.Side.TheVariants.{Left, Right}
 use Rattle.nm_model.specs.declared.event.Event.{Event}
-use Rattle.nm_model.specs.declared.event.Event.TheVariants.{Look}
+use Rattle.nm_model.specs.declared.event.Event.TheVariants.{Look, Sight, Leave}
 use Rattle.nm_model.specs.declared.event.Field.{Field}
 use Rattle.nm_model.specs.declared.event.Field.TheVariants.{Key as KeyOf, Edge as EdgeOn}
 use Rattle.nm_model.specs.declared.reply.Reply.{Reply}
-use Rattle.nm_model.specs.declared.reply.Reply.TheVariants.{KeyIs, EdgeIs}
-use Rattle.nm_model.specs.Ordered.{ordered, trace_in, HasKey}
+use Rattle.nm_model.specs.declared.reply.Reply.TheVariants.{KeyIs, EdgeIs, Departed}
+use Rattle.nm_model.specs.declared.trace.Turn.{Turn}
+use Rattle.nm_model.specs.Ordered.{Configuration, ordered, next_in, trace_in, turn_of, HasKey}
 use Rattle.nm_model.specs.Searches.{side_of}
 use Rattle.nm_model.specs.Walks.{Entry, begins_anew, since_pin, IsPart}
 use Rattle.nm_model.specs.Walks.IsPart.{nothing, takes, skips}
@@ -27,13 +28,17 @@ use Rattle.nm_order.specs.Logs.{part_of, known_by}
 use Rattle.nm_order.specs.WalkAnswers.{WasSoSince}
 use Rattle.nm_order.specs.WalksToArrivals.{is_won_flag}
 use Rattle.nm_order.proofs.LogParts.{part_grows}
+use Rattle.nm_theorem.specs.Histories.{WasSoBehind}
+use Rattle.nm_theorem.proofs.LooksBehind.{was_behind}
 use Rattle.nm_order.proofs.WalkAnswers.{walks_tell_of_their_pin}
 use Rattle.nm_order.proofs.WalksOfRuns.{since_pin-append}
+use Rattle.nm_steps.specs.declared.view.View.{View}
 use Rattle.nm_steps.specs.Rules.{Extends}
 use Rattle.nm_steps.specs.Steps.{Stand, Stepped, HasSeen, IsSamePass, HasSeenAllOf}
 use Rattle.nm_epoch.specs.Resting.{epochs}
+use Rattle.nm_epoch.specs.Tries.{IsPinnedBy, IsMoved}
 use Rattle.nm_calls.specs.declared.looking.Onward.{Onward}
-use Rattle.nm_calls.specs.PlainWalks.{is_look, AddsLooks, HasComeTo, HasEndedSo, LooksUnderPin, WasSo}
+use Rattle.nm_calls.specs.PlainWalks.{is_look, AddsLooks, HasPassed, HasEndedSo, LooksUnderPin, PlainMissed, WasSo, events_of}
 use Rattle.nm_calls.specs.Walks.{Reads, edge_on}
 use Rattle.nm_calls.specs.Won.{is_won_splice}
 use Rattle.nm_calls.proofs.Adding.{Adds, adds_then, adds_these, plain_pin_adds}
@@ -114,8 +119,8 @@ module _ {n : ℕ} (p q : Stand) (a : AddsLooks n p.view.log q.view.log) where
   part_still : (looks : List Entry) → IsPart looks (since_pin [] p.view.log) → IsPart looks (since_pin [] q.view.log)
   part_still looks part = subst (IsPart looks) (sym (since_grows p.view.log q.view.log a)) (part_grows a.looks part)
 
-  pub come_still : (k slot : ℕ) → HasComeTo p k slot → HasComeTo q k slot
-  come_still k slot c = (c.0, c.1, record { looks = c.2.looks; leads = c.2.leads; is_part = part_still c.2.looks c.2.is_part })
+  pub come_still : (m k slot : ℕ) → HasPassed m p.view.log k slot → HasPassed m q.view.log k slot
+  come_still m k slot c = (c.0, c.1, record { looks = c.2.looks; leads = c.2.leads; is_part = part_still c.2.looks c.2.is_part }, c.3)
 
   pub ended_still : (k : ℕ) (answer : Bool) → HasEndedSo p k answer → HasEndedSo q k answer
   ended_still k answer e = (e.0, e.1, e.2, e.3, record { looks = e.4.looks; leads = e.4.leads; null = e.4.null; is_null = e.4.is_null; is_part = part_still _ e.4.is_part }, e.5)
@@ -123,20 +128,24 @@ module _ {n : ℕ} (p q : Stand) (a : AddsLooks n p.view.log q.view.log) where
 -- ---- a walk begins
 
 -- at the left edge of slot 2, whatever its key is
-pub comes_first : (p q : Stand) (e : Edge) → Stepped p q (Look 2 (EdgeOn Left)) (EdgeIs e) → e.slot ≢ 0 → (k : ℕ) → HasComeTo q k e.slot
+pub first_look : (old : List Entry) (e : Edge) → IsPart ((Look 2 (EdgeOn Left), EdgeIs e) ∷ []) (since_pin [] (old ++ (Look 2 (EdgeOn Left), EdgeIs e) ∷ []))
+first_look old e = subst (IsPart ((Look 2 (EdgeOn Left), EdgeIs e) ∷ [])) (sym (since_pin-append [] old ((Look 2 (EdgeOn Left), EdgeIs e) ∷ []))) (behind (since_pin [] old))
+  where
+    behind : (xs : List Entry) → IsPart ((Look 2 (EdgeOn Left), EdgeIs e) ∷ []) (xs ++ (Look 2 (EdgeOn Left), EdgeIs e) ∷ [])
+    behind [] = takes nothing
+    behind (x ∷ xs) = skips (behind xs)
+
+pub comes_first : (p q : Stand) (e : Edge) → Stepped p q (Look 2 (EdgeOn Left)) (EdgeIs e) → e.slot ≢ 0 → (k : ℕ) → HasPassed 0 q.view.log k e.slot
 comes_first p q e step some k = (
   2,
   Left,
   record {
     looks = (Look 2 (EdgeOn Left), EdgeIs e) ∷ [];
     leads = begins e some;
-    is_part = subst (IsPart ((Look 2 (EdgeOn Left), EdgeIs e) ∷ [])) (sym (since_grows p.view.log q.view.log (look_added p q 2 Left e step))) (behind (since_pin [] p.view.log));
+    is_part = subst (λ (log : List Entry). IsPart ((Look 2 (EdgeOn Left), EdgeIs e) ∷ []) (since_pin [] log)) (sym (ap (λ (s : Stand). s.view.log) step)) (first_look p.view.log e);
   },
+  omega arith,
 )
-  where
-    behind : (xs : List Entry) → IsPart ((Look 2 (EdgeOn Left), EdgeIs e) ∷ []) (xs ++ (Look 2 (EdgeOn Left), EdgeIs e) ∷ [])
-    behind [] = takes nothing
-    behind (x ∷ xs) = skips (behind xs)
 
 -- ---- and goes on
 
@@ -146,12 +155,13 @@ part_joined nothing q = q
 part_joined (takes p) q = takes (part_joined p q)
 part_joined (skips p) q = skips (part_joined p q)
 
-module _ (p q : Stand) (k x : ℕ) (on : Onward) (r : Reads k x p.view.log q.view.log on) where
-  abbrev walk_looks : List Entry
-  walk_looks = (Look x KeyOf, KeyIs on.found) ∷ (Look x (EdgeOn (side_of k on.found)), EdgeIs on.next) ∷ []
+-- the two looks that a walk takes at a node
+abbrev pub walk_looks : ℕ → ℕ → Onward → List Entry
+walk_looks k x on = (Look x KeyOf, KeyIs on.found) ∷ (Look x (EdgeOn (side_of k on.found)), EdgeIs on.next) ∷ []
 
+module _ (old new : List Entry) (k x : ℕ) (on : Onward) (r : Reads k x old new on) where
   -- of the three looks a walk takes two
-  two_of_three : IsPart walk_looks (node_looks x on.found r.0 r.1)
+  two_of_three : IsPart (walk_looks k x on) (node_looks x on.found r.0 r.1)
   two_of_three = subst (λ (n : Edge). IsPart ((Look x KeyOf, KeyIs on.found) ∷ (Look x (EdgeOn (side_of k on.found)), EdgeIs n) ∷ []) (node_looks x on.found r.0 r.1)) (sym r.4)
       (subst (λ (d : Side). IsPart ((Look x KeyOf, KeyIs on.found) ∷ (Look x (EdgeOn d), EdgeIs (edge_on on.side r.0 r.1)) ∷ []) (node_looks x on.found r.0 r.1)) r.3 (by on.side))
     where
@@ -159,23 +169,52 @@ module _ (p q : Stand) (k x : ℕ) (on : Onward) (r : Reads k x p.view.log q.vie
       by Left = takes (takes (skips nothing))
       by Right = takes (skips (takes nothing))
 
-  longer : (looks : List Entry) → IsPart looks (since_pin [] p.view.log) → IsPart (looks ++ walk_looks) (since_pin [] q.view.log)
-  longer looks part = subst (IsPart (looks ++ walk_looks)) (sym (since_grows p.view.log q.view.log (read_added k x p.view.log q.view.log on r)))
-      (part_joined part two_of_three)
+  pub looks_longer : (looks : List Entry) → IsPart looks (since_pin [] old) → IsPart (looks ++ walk_looks k x on) (since_pin [] new)
+  looks_longer looks part = subst (IsPart (looks ++ walk_looks k x on)) (sym (since_grows old new (read_added k x old new on r))) (part_joined part two_of_three)
 
-  pub comes_on : HasComeTo p k x → on.next.slot ≢ 0 → HasComeTo q k on.next.slot
-  comes_on c some = (x, side_of k on.found, record { looks = c.2.looks ++ walk_looks; leads = leads_on c.2.leads on.found on.next some; is_part = longer c.2.looks c.2.is_part })
+module _ (p q : Stand) (n k x : ℕ) (on : Onward) (r : Reads k x p.view.log q.view.log on) where
+  pub comes_on : HasPassed n p.view.log k x → on.next.slot ≢ 0 → HasPassed (n + 1) q.view.log k on.next.slot
+  comes_on c some = (
+    x,
+    side_of k on.found,
+    record { looks = c.2.looks ++ walk_looks k x on; leads = leads_on c.2.leads on.found on.next some; is_part = looks_longer p.view.log q.view.log k x on r c.2.looks c.2.is_part },
+    (let many = c.3 in let more = length-append c.2.looks (walk_looks k x on) in omega (arith, many, more)),
+  )
 
-  pub ends_so : HasComeTo p k x → on.next.slot ≡ 0 → HasEndedSo q k (on.found == k)
-  ends_so c null = (x, c.0, on.found, c.1, record { looks = c.2.looks; leads = c.2.leads; null = on.next; is_null = null; is_part = longer c.2.looks c.2.is_part }, refl)
+  pub ends_so : HasPassed n p.view.log k x → on.next.slot ≡ 0 → HasEndedSo q k (on.found == k)
+  ends_so c null = (x, c.0, on.found, c.1, record { looks = c.2.looks; leads = c.2.leads; null = on.next; is_null = null; is_part = looks_longer p.view.log q.view.log k x on r c.2.looks c.2.is_part }, refl)
 
 -- ---- the answer
 
-was_so_longer : (L : Layout) (past turns later : List (ℕ × Event)) (w k : ℕ) (answer : Bool) → Extends later turns → WasSoSince L past turns w k answer → WasSoSince L past later w k answer
+-- what a view has seen, as events
+pub record AreEvents (v : View) : Type 0 where
+  pub keys : All (λ t. HasKey t.1) (events_of v.past)
+  pub are : v.past ≡ trace_in (ordered v.layout) (events_of v.past)
+  pub is_part : part_of v.number (trace_in (ordered v.layout) (events_of v.past)) ≡ v.log
+
+pub events_of_trace : (c : Configuration) (ts : List (ℕ × Event)) → events_of (trace_in c ts) ≡ ts
+unfolding trace_in
+events_of_trace c [] = refl
+events_of_trace c (t ∷ ts) = ap (λ (us : List (ℕ × Event)). t ∷ us) (events_of_trace (next_in c t) ts)
+
+pub as_events : (v : View) → HasSeen v → AreEvents v
+as_events v seen =
+    let same : events_of v.past ≡ seen.events = ap events_of seen.are ∙ events_of_trace (ordered v.layout) seen.events in
+    record {
+      keys = subst (λ (ts : List (ℕ × Event)). All (λ t. HasKey t.1) ts) (sym same) seen.keys;
+      are = seen.are ∙ ap (trace_in (ordered v.layout)) (sym same);
+      is_part = ap (λ (ts : List (ℕ × Event)). part_of v.number (trace_in (ordered v.layout) ts)) same ∙ (ap (part_of v.number) (sym seen.are) ∙ seen.is_part);
+    }
+
+-- the events of turns that go on
+pub events_go_on : (run earlier : List Turn) → (e : Extends run earlier) → events_of run ≡ events_of earlier ++ events_of e.more
+events_go_on run earlier e = ap events_of e.is ∙ map-append turn_of earlier e.more
+
+was_so_longer : (L : Layout) (past turns later : List Turn) (w k : ℕ) (answer : Bool) → Extends later turns → WasSoBehind L past turns w k answer → WasSoBehind L past later w k answer
 was_so_longer L past turns later w k answer more was = record {
-  before = was.before;
-  since = was.since ++ more.more;
-  is_run = more.is ∙ (ap (λ (l : List (ℕ × Event)). l ++ more.more) was.is_run ∙ append_assoc was.before was.since more.more);
+  so_far = was.so_far;
+  rest = was.rest ++ more.more;
+  are = more.is ∙ (ap (λ (l : List Turn). l ++ more.more) was.are ∙ append_assoc was.so_far was.rest more.more);
   later = was.later;
   pinned = was.pinned;
   gives = was.gives;
@@ -185,20 +224,33 @@ was_so_longer L past turns later w k answer more was = record {
 pub was_so : (o p q : Stand) → HasSeen o.view → IsLayout o.view.layout → (epochs o).pin ≡ None → IsSamePass o p → HasSeenAllOf p o → HasSeen p.view → IsSamePass p q → HasSeenAllOf q p
     → (k : ℕ) (answer : Bool) → IsKey k → HasEndedSo p k answer → WasSo o q k answer
 was_so o p q first fits unpinned same past mid on more k answer key e =
-    subst (λ (s : Stand). WasSoSince s.view.layout o.view.past q.view.past s.view.number k answer) (sym on)
+    let seen : AreEvents p.view = as_events p.view mid in
+    let grown : events_of p.view.past ≡ events_of o.view.past ++ events_of past.goes_on.more = events_go_on p.view.past o.view.past past.goes_on in
+    subst (λ (s : Stand). WasSoBehind s.view.layout o.view.past q.view.past s.view.number k answer) (sym on)
     (was_so_longer p.view.layout o.view.past p.view.past q.view.past p.view.number k answer more.goes_on
-    (subst (λ (s : Stand). WasSoSince s.view.layout o.view.past p.view.past s.view.number k answer) (sym same)
-    (subst (λ (b : Bool). WasSoSince o.view.layout o.view.past p.view.past o.view.number k b) (sym e.5)
-    (subst (λ (turns : List (ℕ × Event)). WasSoSince o.view.layout o.view.past turns o.view.number k (e.2 == k)) (sym past.goes_on.is)
-    (walks_tell_of_their_pin o.view.layout (enough o.view.layout fits) o.view.number first.worker o.view.past past.goes_on.more
-    (subst (λ (turns : List (ℕ × Event)). All (λ t. HasKey t.1) turns) past.goes_on.is mid.keys)
-    (subst (λ (l : List Entry). (known_by o.view.layout o.view.number l).brief.pin ≡ None) (sym first.is_part) unpinned)
+    (was_behind p.view.layout (subst IsLayout (sym (ap (λ (s : Stand). s.view.layout) same)) fits) (events_of o.view.past) (events_of p.view.past) o.view.past p.view.past (sym (length-map o.view.past turn_of)) seen.are p.view.number k answer
+    (subst (λ (s : Stand). WasSoSince s.view.layout (events_of o.view.past) (events_of p.view.past) s.view.number k answer) (sym same)
+    (subst (λ (b : Bool). WasSoSince o.view.layout (events_of o.view.past) (events_of p.view.past) o.view.number k b) (sym e.5)
+    (subst (λ (turns : List (ℕ × Event)). WasSoSince o.view.layout (events_of o.view.past) turns o.view.number k (e.2 == k)) (sym grown)
+    (walks_tell_of_their_pin o.view.layout (enough o.view.layout fits) o.view.number first.worker (events_of o.view.past) (events_of past.goes_on.more)
+    (subst (λ (turns : List (ℕ × Event)). All (λ t. HasKey t.1) turns) grown seen.keys)
+    (subst (λ (l : List Entry). (known_by o.view.layout o.view.number l).brief.pin ≡ None) (sym (as_events o.view first).is_part) unpinned)
     p.view.log
-    (ap (λ (turns : List (ℕ × Event)). part_of o.view.number (trace_in (ordered o.view.layout) turns)) (sym past.goes_on.is) ∙ subst (λ (s : Stand). part_of s.view.number (trace_in (ordered s.view.layout) p.view.past) ≡ p.view.log) same mid.is_part)
-    k e.0 e.1 e.3 e.2 (let le = key in omega (arith, le)) e.4)))))
+    (ap (λ (turns : List (ℕ × Event)). part_of o.view.number (trace_in (ordered o.view.layout) turns)) (sym grown) ∙ subst (λ (s : Stand). part_of s.view.number (trace_in (ordered s.view.layout) (events_of p.view.past)) ≡ p.view.log) same seen.is_part)
+    k e.0 e.1 e.3 e.2 (let le = key in omega (arith, le)) e.4))))))
 
 -- ---- the whole call
 
 -- a pin, looks and a leave: what they add
 pub call_adds : (tries most : ℕ) (old new : List Entry) → LooksUnderPin tries most old new → Adds 0 0 0 (2 * tries + 1 + (most + 1)) old new
 call_adds tries most old new h = adds_then old h.pinned new (plain_pin_adds tries old h.pinned h.epoch h.pin) (adds_then h.pinned h.looked new (looks_add h.pinned h.looked h.looks) (adds_these _ h.looked new h.leaves))
+
+-- where there was no answer: each try of the pin was lost
+pub pin_missed : (gives_up : List Entry → List Entry → Type 0) (tries : ℕ) (old new : List Entry) → tries ≢ 0 → IsMoved Sight tries old new → PlainMissed gives_up tries old new
+pin_missed gives_up zero old new some moved = absurd (some refl)
+pin_missed gives_up (suc t) old new some moved = inl moved
+
+-- or the walks gave up
+pub walks_missed : (gives_up : List Entry → List Entry → Type 0) (tries : ℕ) (old a z new : List Entry) (epoch : ℕ) → IsPinnedBy Sight tries old a epoch → gives_up a z → new ≡ z ++ (Leave, Departed) ∷ [] → PlainMissed gives_up tries old new
+walks_missed gives_up zero old a z new epoch pin gives leaves = let few = pin.3 in absurd (omega (arith, few))
+walks_missed gives_up (suc t) old a z new epoch pin gives leaves = inr (a, z, epoch, pin, gives, leaves)

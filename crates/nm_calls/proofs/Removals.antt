@@ -2,6 +2,7 @@
 -- elsewhere.
 use Rattle.std.proofs.Common.{◌≡◌, ◌≢◌, ◌<◌, ◌≤◌, inl, inr, ℕ, ◌+◌, Bool, true, false, List, [], ◌∷◌, ◌++◌, sym, ap, subst, ◌∙◌}
 use Rattle.std.specs.Prelude.{Option, Some, None, is_some, Result, Ok, Err, IfErr}
+use Rattle.nm_edge.specs.Layouts.{Layout}
 use Rattle.nm_edge.specs.declared.edge.Side.{Side}
 use Rattle.nm_edge.specs.declared.node.NodeId.{NodeId}
 use Rattle.nm_model.specs.declared.event.Event.TheVariants.{Look, Flag, SightFor}
@@ -102,9 +103,9 @@ has_flagged o p q r b looked born on won = record {
   born = on.keeps (IsBorn r.spot.edge.slot b) born;
 }
 
-pub may_flag_there : (p q : Stand) (k nodes : ℕ) (r : End) (c : List ChainEdge) → Tells p (CallIs Delete k) → (search p).flagged ≡ None → k < infinity_0 → GoesOn p q → OnlyLooks p q → HasEnded (Tells q) nodes r.spot c
+pub may_flag_there : (p q : Stand) (k : ℕ) (L : Layout) (r : End) (c : List ChainEdge) → Tells p (CallIs Delete k) → (search p).flagged ≡ None → k < infinity_0 → GoesOn p q → OnlyLooks p q → HasEnded (Tells q) L r.spot c
     → (r.key < infinity_0 → 6 ≤ r.spot.edge.slot) → HasFound p q k r.spot.edge.slot r.spot.parent r.spot.side r.key → r.key ≡ k → MayFlag q k r
-may_flag_there p q k nodes r c call unflagged low on only ended high found is = record {
+may_flag_there p q k L r c call unflagged low on only ended high found is = record {
   parent = ended.at.parent;
   known = ended.at.node;
   leaf = ended.leaf;
@@ -129,26 +130,26 @@ removing_from p q k n pin call labelled on only flagged born = record {
   labelled = only.labelled labelled;
 }
 
-pub removal_after : (nodes k : ℕ) (f : FlaggedLeaf) (c : List ChainEdge) (t : ℕ) (old mid new : List Entry) (m : Removal) → f.left ≡ t + 1 → CleanupLost f.end.spot c old mid → IsRemoval nodes k (leaf_of f.end f.birth) t mid new m → RemovalAfter nodes k f c old new m
-removal_after nodes k f c t old mid new removal.Removed is lost h = inr (t, mid, is, lost, h)
-removal_after nodes k f c t old mid new removal.Refused is lost h = inr (t, mid, is, lost, h)
-removal_after nodes k f c t old mid new removal.Spent is lost h = inr (t, mid, is, lost, h)
+pub removal_after : (L : Layout) (k : ℕ) (f : FlaggedLeaf) (c : List ChainEdge) (t : ℕ) (old mid new : List Entry) (m : Removal) → f.left ≡ t + 1 → CleanupLost f.end.spot c old mid → IsRemoval L k (leaf_of f.end f.birth) t mid new m → RemovalAfter L k f c old new m
+removal_after L k f c t old mid new removal.Removed is lost h = inr (t, mid, is, lost, h)
+removal_after L k f c t old mid new removal.Refused is lost h = inr (t, mid, is, lost, h)
+removal_after L k f c t old mid new removal.Spent is lost h = inr (t, mid, is, lost, h)
 
-pub delete_did : (nodes tries k : ℕ) (old new : List Entry) (r : Result Bool Missed) → PinsForDelete nodes tries k old new r → DeleteDid nodes tries k old new r
-delete_did nodes tries k old new (Ok b) h = h
-delete_did nodes tries k old new (Err missed.Busy) h = inr (inr h)
-delete_did nodes tries k old new (Err missed.NoMemory) h = inr h
-delete_did nodes tries k old new (Err (missed.Unfinished n)) h = h
+pub delete_did : (L : Layout) (tries k : ℕ) (old new : List Entry) (r : Result Bool Missed) → PinsForDelete L tries k old new r → DeleteDid L tries k old new r
+delete_did L tries k old new (Ok b) h = h
+delete_did L tries k old new (Err missed.Busy) h = inr (inr h)
+delete_did L tries k old new (Err missed.NoMemory) h = inr h
+delete_did L tries k old new (Err (missed.Unfinished n)) h = h
 
 -- why it gave up, told from before its pin
-pub lacks_room : (nodes tries k : ℕ) (old pinned new : List Entry) (epoch spare : ℕ) (m : Missed) → IsPinnedBy (SightFor Delete k) tries old pinned epoch
-    → LacksRoomOr (λ n. FlagsThen nodes tries k n pinned new removal.Spent) spare m → LacksRoomOr (LosesAfterFlag nodes tries k old new) spare m
-lacks_room nodes tries k old pinned new epoch spare missed.Busy pin why = why
-lacks_room nodes tries k old pinned new epoch spare missed.NoMemory pin why = why
-lacks_room nodes tries k old pinned new epoch spare (missed.Unfinished n) pin (inl less) = inl less
-lacks_room nodes tries k old pinned new epoch spare (missed.Unfinished n) pin (inr lost) = inr (pinned, epoch, pin, lost)
+pub lacks_room : (L : Layout) (tries k : ℕ) (old pinned new : List Entry) (epoch spare : ℕ) (m : Missed) → IsPinnedBy (SightFor Delete k) tries old pinned epoch
+    → LacksRoomOr (λ n. FlagsThen L tries k n pinned new removal.Spent) spare m → LacksRoomOr (LosesAfterFlag L tries k old new) spare m
+lacks_room L tries k old pinned new epoch spare missed.Busy pin why = why
+lacks_room L tries k old pinned new epoch spare missed.NoMemory pin why = why
+lacks_room L tries k old pinned new epoch spare (missed.Unfinished n) pin (inl less) = inl less
+lacks_room L tries k old pinned new epoch spare (missed.Unfinished n) pin (inr lost) = inr (pinned, epoch, pin, lost)
 
-pub each_lacks_room : (nodes tries k : ℕ) (old pinned new : List Entry) (epoch spare : ℕ) (r : Result Bool Missed) → IsPinnedBy (SightFor Delete k) tries old pinned epoch
-    → IfErr r (LacksRoomOr (λ n. FlagsThen nodes tries k n pinned new removal.Spent) spare) → IfErr r (LacksRoomOr (LosesAfterFlag nodes tries k old new) spare)
-each_lacks_room nodes tries k old pinned new epoch spare (Ok b) pin why = why
-each_lacks_room nodes tries k old pinned new epoch spare (Err m) pin why = lacks_room nodes tries k old pinned new epoch spare m pin why
+pub each_lacks_room : (L : Layout) (tries k : ℕ) (old pinned new : List Entry) (epoch spare : ℕ) (r : Result Bool Missed) → IsPinnedBy (SightFor Delete k) tries old pinned epoch
+    → IfErr r (LacksRoomOr (λ n. FlagsThen L tries k n pinned new removal.Spent) spare) → IfErr r (LacksRoomOr (LosesAfterFlag L tries k old new) spare)
+each_lacks_room L tries k old pinned new epoch spare (Ok b) pin why = why
+each_lacks_room L tries k old pinned new epoch spare (Err m) pin why = lacks_room L tries k old pinned new epoch spare m pin why

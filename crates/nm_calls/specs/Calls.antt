@@ -1,5 +1,6 @@
 -- What a look-up leaves in the log, and of its pass.
 use Rattle.std.specs.Prelude.{◌≡◌, ◌⊎◌, ◌<◌, ◌==◌, ℕ, zero, suc, Bool, List, [], ◌∷◌, ◌++◌, Result, IfOk, IfErr}
+use Rattle.nm_edge.specs.Layouts.{Layout}
 use Rattle.nm_model.specs.declared.event.Event.TheVariants.{SightFor, Leave, LeaveWith}
 use Rattle.nm_model.specs.declared.event.Op.TheVariants.{Has}
 use Rattle.nm_model.specs.declared.reply.Reply.TheVariants.{Departed}
@@ -16,49 +17,49 @@ use Rattle.nm_calls.specs.Walks.{EndsAtLeaf, IsTooLong}
 use Rattle.nm_calls.specs.Won.{HasWon, won_splices}
 
 -- so many walks in a row were broken off
-abbrev pub LostWalks : ℕ → ℕ → ℕ → List Entry → List Entry → Type 0
-LostWalks nodes k zero old new = new ≡ old
-LostWalks nodes k (suc t) old new =
-    (mid : List Entry) × LostWalks nodes k t old mid × IsTooLong nodes k mid new
+abbrev pub LostWalks : Layout → ℕ → ℕ → List Entry → List Entry → Type 0
+LostWalks L k zero old new = new ≡ old
+LostWalks L k (suc t) old new =
+    (mid : List Entry) × LostWalks L k t old mid × IsTooLong L k mid new
 
 -- a pin for the look-up, fewer broken walks than there may be tries, a walk whose leaf has key k
 -- exactly where the answer is true, and a leave with the answer
-pub record HasDid (nodes tries k : ℕ) (old new : List Entry) (answer : Bool) : Type 0 where
+pub record HasDid (L : Layout) (tries k : ℕ) (old new : List Entry) (answer : Bool) : Type 0 where
   pub pinned : List Entry
   pub epoch : ℕ
   pub pin : IsPinnedBy (SightFor Has k) tries old pinned epoch
   pub broken : ℕ
   pub few : broken < tries
   pub begun : List Entry
-  pub lost : LostWalks nodes k broken pinned begun
+  pub lost : LostWalks L k broken pinned begun
   pub ended : List Entry
   pub spot : Spot
   pub chain : List ChainEdge
   pub key : ℕ
-  pub walk : EndsAtLeaf nodes k begun ended spot chain key
+  pub walk : EndsAtLeaf L k begun ended spot chain key
   pub answers : answer ≡ (key == k)
   pub leaves : new ≡ ended ++ (LeaveWith answer, Departed) ∷ []
 
 -- no step, where there may be no try; or each try of the pin was lost; or a pin, as many broken
 -- walks, and a leave
-abbrev pub HasMissed : ℕ → ℕ → ℕ → List Entry → List Entry → Type 0
-HasMissed nodes zero k old new = new ≡ old
-HasMissed nodes (suc t) k old new =
+abbrev pub HasMissed : Layout → ℕ → ℕ → List Entry → List Entry → Type 0
+HasMissed L zero k old new = new ≡ old
+HasMissed L (suc t) k old new =
     IsMoved (SightFor Has k) (suc t) old new
     ⊎ ((a z : List Entry) × (epoch : ℕ) × IsPinnedBy (SightFor Has k) (suc t) old a epoch
-    × LostWalks nodes k (suc t) a z × (new ≡ z ++ (Leave, Departed) ∷ []))
+    × LostWalks L k (suc t) a z × (new ≡ z ++ (Leave, Departed) ∷ []))
 
 -- what a look-up leaves of its pass, by its answer: the same pass, which has seen all that it had
 -- seen; what was done, or why not; an answer that was right at a moment of the call; no exchange
 -- that was won; the longest log; and it rests, with the hands that it had
-pub record AfterHas (nodes tries k : ℕ) (p q : Stand) (r : Result Bool Busy) : Type 0 where
+pub record AfterHas (L : Layout) (tries k : ℕ) (p q : Stand) (r : Result Bool Busy) : Type 0 where
   pub same : IsSamePass p q
   pub past : HasSeenAllOf q p
-  pub did : IfOk r (HasDid nodes tries k p.view.log q.view.log)
+  pub did : IfOk r (HasDid L tries k p.view.log q.view.log)
   pub moment : IfOk r (AnswerHasMoment p q Has k)
-  pub missed : IfErr r (λ e. HasMissed nodes tries k p.view.log q.view.log)
+  pub missed : IfErr r (λ e. HasMissed L tries k p.view.log q.view.log)
   pub won : HasWon p.view.log q.view.log 0 0
   pub uncut : won_splices q.view.log ≡ won_splices p.view.log
-  pub steps : IsWithinBound nodes tries p.view.log q.view.log
+  pub steps : IsWithinBound L tries p.view.log q.view.log
   pub rests : IsResting q
   pub hands : KeepsHands p q

@@ -1,5 +1,6 @@
 -- Deletes: what each part of them leaves.
 use Rattle.std.specs.Prelude.{◌≡◌, ◌≢◌, ◌⊎◌, ℕ, zero, suc, ◌+◌, ◌<◌, List, [], ◌∷◌, ◌++◌, ◌≤◌, length, false, true, Bool, Some, None, Result, Ok, Err, IfOk}
+use Rattle.nm_edge.specs.Layouts.{Layout}
 use Rattle.nm_edge.specs.Edges.{Edge}
 use Rattle.nm_edge.specs.declared.node.NodeId.{NodeId}
 use Rattle.nm_model.specs.declared.event.Event.TheVariants.{SightFor, Leave, LeaveWith, Look, Flag}
@@ -38,10 +39,10 @@ use Rattle.nm_calls.specs.Won.{HasWon, flags_of_delete}
 
 -- a walk that ended at a leaf with key k, a look at the leaf's birth, and a flag of the edge that
 -- led there, which was answered so
-pub record TriesFlag (nodes k : ℕ) (r : End) (c : List ChainEdge) (birth : ℕ) (reply : Reply)
+pub record TriesFlag (L : Layout) (k : ℕ) (r : End) (c : List ChainEdge) (birth : ℕ) (reply : Reply)
     (old new : List Entry) : Type 0 where
   pub ended : List Entry
-  pub walk : Seeks nodes k old ended c (Some r)
+  pub walk : Seeks L k old ended c (Some r)
   pub same : r.key ≡ k
   pub entries : new ≡ (ended ++ (Look r.spot.edge.slot Birth, BirthIs birth) ∷ [])
       ++ (Flag r.spot.parent r.spot.side r.spot.edge.slot, reply) ∷ []
@@ -51,14 +52,14 @@ leaf_of r b = record { slot = r.spot.edge.slot; birth = b }
 
 -- one try to flag, by what it came to, with the chain of the walk (Natarajan and Mittal, section
 -- 3.2, delete)
-abbrev pub IsFlagTry : ℕ → ℕ → List ChainEdge → List Entry → List Entry → Injected → Type 0
-IsFlagTry nodes k c old new injected.Absent =
-    (r : End) × Seeks nodes k old new c (Some r) × (r.key ≢ k)
-IsFlagTry nodes k c old new (injected.Flagged r b) =
-    TriesFlag nodes k r c b (Flagged (leaf_of r b)) old new
-IsFlagTry nodes k c old new injected.Lost = IsBroken nodes k old new
+abbrev pub IsFlagTry : Layout → ℕ → List ChainEdge → List Entry → List Entry → Injected → Type 0
+IsFlagTry L k c old new injected.Absent =
+    (r : End) × Seeks L k old new c (Some r) × (r.key ≢ k)
+IsFlagTry L k c old new (injected.Flagged r b) =
+    TriesFlag L k r c b (Flagged (leaf_of r b)) old new
+IsFlagTry L k c old new injected.Lost = IsBroken L k old new
     ⊎ ((r : End) × (b : ℕ) × (e : Edge) × (mid : List Entry)
-    × TriesFlag nodes k r c b (Lost e) old mid × Helps r c e mid new)
+    × TriesFlag L k r c b (Lost e) old mid × Helps r c e mid new)
 
 -- ---- cleanup mode
 
@@ -76,32 +77,32 @@ pub record IsRemoving (p : Stand) (k : ℕ) (n : NodeId) : Type 0 where
 
 -- a walk to another leaf, or a won cleanup by a walk that ended at the flagged leaf, whose splice
 -- cut that leaf (Natarajan and Mittal, section 3.2, delete)
-abbrev pub Removes : ℕ → ℕ → NodeId → List Entry → List Entry → Type 0
-Removes nodes k n old new = (r : End) × (c : List ChainEdge)
-    × ((Seeks nodes k old new c (Some r) × (r.spot.edge.slot ≢ n.slot))
-    ⊎ ((mid : List Entry) × (ns : List NodeId) × (epoch : ℕ) × Seeks nodes k old mid c (Some r)
+abbrev pub Removes : Layout → ℕ → NodeId → List Entry → List Entry → Type 0
+Removes L k n old new = (r : End) × (c : List ChainEdge)
+    × ((Seeks L k old new c (Some r) × (r.spot.edge.slot ≢ n.slot))
+    ⊎ ((mid : List Entry) × (ns : List NodeId) × (epoch : ℕ) × Seeks L k old mid c (Some r)
     × (r.spot.edge.slot ≡ n.slot) × CleanupWon r.spot c ns epoch mid new × IsOneOfNodes n ns))
 
 -- a walk that was broken off, or a lost cleanup by a walk that ended at the flagged leaf
-abbrev pub RemovesNothing : ℕ → ℕ → NodeId → List Entry → List Entry → Type 0
-RemovesNothing nodes k n old new = IsBroken nodes k old new
-    ⊎ ((r : End) × (c : List ChainEdge) × (mid : List Entry) × Seeks nodes k old mid c (Some r)
+abbrev pub RemovesNothing : Layout → ℕ → NodeId → List Entry → List Entry → Type 0
+RemovesNothing L k n old new = IsBroken L k old new
+    ⊎ ((r : End) × (c : List ChainEdge) × (mid : List Entry) × Seeks L k old mid c (Some r)
     × (r.spot.edge.slot ≡ n.slot) × CleanupLost r.spot c mid new)
 
 -- so many such tries were lost, one behind the other
-abbrev pub LostRemovals : ℕ → ℕ → NodeId → ℕ → List Entry → List Entry → Type 0
-LostRemovals nodes k n zero old new = new ≡ old
-LostRemovals nodes k n (suc t) old new =
-    (mid : List Entry) × LostRemovals nodes k n t old mid × RemovesNothing nodes k n mid new
+abbrev pub LostRemovals : Layout → ℕ → NodeId → ℕ → List Entry → List Entry → Type 0
+LostRemovals L k n zero old new = new ≡ old
+LostRemovals L k n (suc t) old new =
+    (mid : List Entry) × LostRemovals L k n t old mid × RemovesNothing L k n mid new
 
 -- up to so many tries, by what they came to
-abbrev pub IsRemoval : ℕ → ℕ → NodeId → ℕ → List Entry → List Entry → Removal → Type 0
-IsRemoval nodes k n tries old new removal.Removed =
-    (t : ℕ) × (mid : List Entry) × (t < tries) × LostRemovals nodes k n t old mid
-    × Removes nodes k n mid new
-IsRemoval nodes k n tries old new removal.Refused =
-    (t : ℕ) × (t < tries) × LostRemovals nodes k n t old new
-IsRemoval nodes k n tries old new removal.Spent = LostRemovals nodes k n tries old new
+abbrev pub IsRemoval : Layout → ℕ → NodeId → ℕ → List Entry → List Entry → Removal → Type 0
+IsRemoval L k n tries old new removal.Removed =
+    (t : ℕ) × (mid : List Entry) × (t < tries) × LostRemovals L k n t old mid
+    × Removes L k n mid new
+IsRemoval L k n tries old new removal.Refused =
+    (t : ℕ) × (t < tries) × LostRemovals L k n t old new
+IsRemoval L k n tries old new removal.Spent = LostRemovals L k n tries old new
 
 -- the leaf is known to be cut off once it is removed
 abbrev pub IfRemoved : Removal → Type 0 → Type 0
@@ -162,24 +163,24 @@ ShowsFlag k c p q injected.Lost = (search q).flagged ≡ (search p).flagged
 -- ---- the tries to flag
 
 -- so many tries to flag were lost
-abbrev pub LostFlags : ℕ → ℕ → ℕ → List Entry → List Entry → Type 0
-LostFlags nodes k zero old new = new ≡ old
-LostFlags nodes k (suc t) old new =
-    (c : List ChainEdge) × (mid : List Entry) × LostFlags nodes k t old mid
-    × IsFlagTry nodes k c mid new injected.Lost
+abbrev pub LostFlags : Layout → ℕ → ℕ → List Entry → List Entry → Type 0
+LostFlags L k zero old new = new ≡ old
+LostFlags L k (suc t) old new =
+    (c : List ChainEdge) × (mid : List Entry) × LostFlags L k t old mid
+    × IsFlagTry L k c mid new injected.Lost
 
 -- up to so many tries, by what they came to: with a flag that was won, how many are left; refused,
 -- the room of a later try than the first
-abbrev pub IsInjection : ℕ → ℕ → ℕ → List ChainEdge → List Entry → List Entry → Injection → Type 0
-IsInjection nodes k tries c old new injection.Absent =
-    (t : ℕ) × (mid : List Entry) × (t < tries) × LostFlags nodes k t old mid
-    × IsFlagTry nodes k c mid new injected.Absent
-IsInjection nodes k tries c old new (injection.Flagged f) =
-    (t : ℕ) × (mid : List Entry) × (t + (f.left + 1) ≡ tries) × LostFlags nodes k t old mid
-    × IsFlagTry nodes k c mid new (injected.Flagged f.end f.birth)
-IsInjection nodes k tries c old new injection.Refused =
-    (t : ℕ) × (0 < t) × (t < tries) × LostFlags nodes k t old new
-IsInjection nodes k tries c old new injection.Spent = LostFlags nodes k tries old new
+abbrev pub IsInjection : Layout → ℕ → ℕ → List ChainEdge → List Entry → List Entry → Injection → Type 0
+IsInjection L k tries c old new injection.Absent =
+    (t : ℕ) × (mid : List Entry) × (t < tries) × LostFlags L k t old mid
+    × IsFlagTry L k c mid new injected.Absent
+IsInjection L k tries c old new (injection.Flagged f) =
+    (t : ℕ) × (mid : List Entry) × (t + (f.left + 1) ≡ tries) × LostFlags L k t old mid
+    × IsFlagTry L k c mid new (injected.Flagged f.end f.birth)
+IsInjection L k tries c old new injection.Refused =
+    (t : ℕ) × (0 < t) × (t < tries) × LostFlags L k t old new
+IsInjection L k tries c old new injection.Spent = LostFlags L k tries old new
 
 -- what the log shows behind the tries to flag, by what they came to
 abbrev pub ShowsInjection : ℕ → List ChainEdge → Stand → Injection → Type 0
@@ -195,62 +196,62 @@ ShowsInjection k c q _ = (search q).flagged ≡ None
 
 -- the tries to remove the leaf, from a cleanup by that walk on, by what they came to (Natarajan and
 -- Mittal, section 3.2, delete)
-abbrev pub RemovalAfter : ℕ → ℕ → FlaggedLeaf → List ChainEdge → List Entry → List Entry → Removal
+abbrev pub RemovalAfter : Layout → ℕ → FlaggedLeaf → List ChainEdge → List Entry → List Entry → Removal
     → Type 0
-RemovalAfter nodes k f c old new removal.Removed =
+RemovalAfter L k f c old new removal.Removed =
     ((f.left ≢ 0) × (ns : List NodeId) × (epoch : ℕ) × CleanupWon f.end.spot c ns epoch old new
     × IsOneOfNodes (leaf_of f.end f.birth) ns)
     ⊎ ((t : ℕ) × (mid : List Entry) × (f.left ≡ t + 1) × CleanupLost f.end.spot c old mid
-    × IsRemoval nodes k (leaf_of f.end f.birth) t mid new removal.Removed)
-RemovalAfter nodes k f c old new removal.Refused =
+    × IsRemoval L k (leaf_of f.end f.birth) t mid new removal.Removed)
+RemovalAfter L k f c old new removal.Refused =
     ((f.left ≢ 0) × (new ≡ old))
     ⊎ ((t : ℕ) × (mid : List Entry) × (f.left ≡ t + 1) × CleanupLost f.end.spot c old mid
-    × IsRemoval nodes k (leaf_of f.end f.birth) t mid new removal.Refused)
-RemovalAfter nodes k f c old new removal.Spent =
+    × IsRemoval L k (leaf_of f.end f.birth) t mid new removal.Refused)
+RemovalAfter L k f c old new removal.Spent =
     ((f.left ≡ 0) × (new ≡ old))
     ⊎ ((t : ℕ) × (mid : List Entry) × (f.left ≡ t + 1) × CleanupLost f.end.spot c old mid
-    × IsRemoval nodes k (leaf_of f.end f.birth) t mid new removal.Spent)
+    × IsRemoval L k (leaf_of f.end f.birth) t mid new removal.Spent)
 
 -- ---- the whole call
 
 -- what a flag that was won leads to
-abbrev pub FlagsThen : ℕ → ℕ → ℕ → NodeId → List Entry → List Entry → Removal → Type 0
-FlagsThen nodes tries k n old new m =
+abbrev pub FlagsThen : Layout → ℕ → ℕ → NodeId → List Entry → List Entry → Removal → Type 0
+FlagsThen L tries k n old new m =
     (f : FlaggedLeaf) × (c : List ChainEdge) × (mid : List Entry) × (n ≡ leaf_of f.end f.birth)
-    × IsInjection nodes k tries c old mid (injection.Flagged f) × RemovalAfter nodes k f c mid new m
+    × IsInjection L k tries c old mid (injection.Flagged f) × RemovalAfter L k f c mid new m
 
 -- from the pin on, by the answer
-abbrev pub DeleteFinishes : ℕ → ℕ → ℕ → List Entry → List Entry → Result Bool Missed → Type 0
-DeleteFinishes nodes tries k old new (Ok true) =
-    (n : NodeId) × (mid : List Entry) × FlagsThen nodes tries k n old mid removal.Removed
+abbrev pub DeleteFinishes : Layout → ℕ → ℕ → List Entry → List Entry → Result Bool Missed → Type 0
+DeleteFinishes L tries k old new (Ok true) =
+    (n : NodeId) × (mid : List Entry) × FlagsThen L tries k n old mid removal.Removed
     × (new ≡ mid ++ (LeaveWith true, Departed) ∷ [])
-DeleteFinishes nodes tries k old new (Ok false) =
-    (c : List ChainEdge) × (mid : List Entry) × IsInjection nodes k tries c old mid injection.Absent
+DeleteFinishes L tries k old new (Ok false) =
+    (c : List ChainEdge) × (mid : List Entry) × IsInjection L k tries c old mid injection.Absent
     × (new ≡ mid ++ (LeaveWith false, Departed) ∷ [])
-DeleteFinishes nodes tries k old new (Err missed.Busy) =
-    (c : List ChainEdge) × (mid : List Entry) × IsInjection nodes k tries c old mid injection.Spent
+DeleteFinishes L tries k old new (Err missed.Busy) =
+    (c : List ChainEdge) × (mid : List Entry) × IsInjection L k tries c old mid injection.Spent
     × (new ≡ mid ++ (Leave, Departed) ∷ [])
-DeleteFinishes nodes tries k old new (Err missed.NoMemory) =
+DeleteFinishes L tries k old new (Err missed.NoMemory) =
     (c : List ChainEdge) × (mid : List Entry)
-    × IsInjection nodes k tries c old mid injection.Refused × (new ≡ mid ++ (Leave, Departed) ∷ [])
-DeleteFinishes nodes tries k old new (Err (missed.Unfinished n)) =
-    FlagsThen nodes tries k n old new removal.Refused
-    ⊎ FlagsThen nodes tries k n old new removal.Spent
+    × IsInjection L k tries c old mid injection.Refused × (new ≡ mid ++ (Leave, Departed) ∷ [])
+DeleteFinishes L tries k old new (Err (missed.Unfinished n)) =
+    FlagsThen L tries k n old new removal.Refused
+    ⊎ FlagsThen L tries k n old new removal.Spent
 
 -- a pin for the delete, and then what finishes it
-abbrev pub PinsForDelete : ℕ → ℕ → ℕ → List Entry → List Entry → Result Bool Missed → Type 0
-PinsForDelete nodes tries k old new r =
+abbrev pub PinsForDelete : Layout → ℕ → ℕ → List Entry → List Entry → Result Bool Missed → Type 0
+PinsForDelete L tries k old new r =
     (pinned : List Entry) × (epoch : ℕ) × IsPinnedBy (SightFor Delete k) tries old pinned epoch
-    × DeleteFinishes nodes tries k pinned new r
+    × DeleteFinishes L tries k pinned new r
 
 -- a whole delete, by its answer (Natarajan and Mittal, section 3.2, delete)
-abbrev pub DeleteDid : ℕ → ℕ → ℕ → List Entry → List Entry → Result Bool Missed → Type 0
-DeleteDid nodes tries k old new (Err missed.Busy) =
+abbrev pub DeleteDid : Layout → ℕ → ℕ → List Entry → List Entry → Result Bool Missed → Type 0
+DeleteDid L tries k old new (Err missed.Busy) =
     ((tries ≡ 0) × (new ≡ old)) ⊎ ((tries ≢ 0) × IsMoved (SightFor Delete k) tries old new)
-    ⊎ PinsForDelete nodes tries k old new (Err missed.Busy)
-DeleteDid nodes tries k old new (Err missed.NoMemory) =
-    ((tries ≢ 0) × (new ≡ old)) ⊎ PinsForDelete nodes tries k old new (Err missed.NoMemory)
-DeleteDid nodes tries k old new r = PinsForDelete nodes tries k old new r
+    ⊎ PinsForDelete L tries k old new (Err missed.Busy)
+DeleteDid L tries k old new (Err missed.NoMemory) =
+    ((tries ≢ 0) × (new ≡ old)) ⊎ PinsForDelete L tries k old new (Err missed.NoMemory)
+DeleteDid L tries k old new r = PinsForDelete L tries k old new r
 
 -- the worker rests, or stays pinned for the leaf that it flagged
 abbrev pub RestsOrRemoves : ℕ → Stand → Result Bool Missed → Type 0
@@ -260,14 +261,14 @@ RestsOrRemoves k q (Err missed.NoMemory) = IsResting q
 RestsOrRemoves k q (Err (missed.Unfinished n)) = IsRemoving q k n
 
 -- each try to remove the leaf was lost
-abbrev pub LosesEachTry : ℕ → ℕ → NodeId → ℕ → List Entry → List Entry → Type 0
-LosesEachTry nodes k n tries old new = IsRemoval nodes k n tries old new removal.Spent
+abbrev pub LosesEachTry : Layout → ℕ → NodeId → ℕ → List Entry → List Entry → Type 0
+LosesEachTry L k n tries old new = IsRemoval L k n tries old new removal.Spent
 
 -- a pin and a flag that was won, and behind it each try was lost
-abbrev pub LosesAfterFlag : ℕ → ℕ → ℕ → List Entry → List Entry → NodeId → Type 0
-LosesAfterFlag nodes tries k old new n =
+abbrev pub LosesAfterFlag : Layout → ℕ → ℕ → List Entry → List Entry → NodeId → Type 0
+LosesAfterFlag L tries k old new n =
     (pinned : List Entry) × (epoch : ℕ) × IsPinnedBy (SightFor Delete k) tries old pinned epoch
-    × FlagsThen nodes tries k n pinned new removal.Spent
+    × FlagsThen L tries k n pinned new removal.Spent
 
 -- why a delete gave up: what is left has less room than a try asks; or, once the leaf is flagged,
 -- each try behind the flag was lost
@@ -278,23 +279,23 @@ LacksRoomOr lost spare (missed.Unfinished n) = (spare < cut_bound) ⊎ lost n
 
 -- tries to remove, and a leave with the answer true; or each was lost, or the room of one was
 -- refused (Natarajan and Mittal, section 3.2, delete)
-abbrev pub FinishDid : ℕ → ℕ → NodeId → ℕ → List Entry → List Entry → Bool → Type 0
-FinishDid nodes k n tries old new true =
-    (mid : List Entry) × IsRemoval nodes k n tries old mid removal.Removed
+abbrev pub FinishDid : Layout → ℕ → NodeId → ℕ → List Entry → List Entry → Bool → Type 0
+FinishDid L k n tries old new true =
+    (mid : List Entry) × IsRemoval L k n tries old mid removal.Removed
     × (new ≡ mid ++ (LeaveWith true, Departed) ∷ [])
-FinishDid nodes k n tries old new false =
-    IsRemoval nodes k n tries old new removal.Refused
-    ⊎ IsRemoval nodes k n tries old new removal.Spent
+FinishDid L k n tries old new false =
+    IsRemoval L k n tries old new removal.Refused
+    ⊎ IsRemoval L k n tries old new removal.Spent
 
 -- what a delete leaves of its pass, by its answer: as of an insert, but that the flag that was won
 -- is told, and that it rests or stays pinned for the leaf
-pub record AfterDelete (nodes tries k : ℕ) (p q : Stand) (r : Result Bool Missed) : Type 0 where
+pub record AfterDelete (L : Layout) (tries k : ℕ) (p q : Stand) (r : Result Bool Missed) : Type 0 where
   pub same : IsSamePass p q
   pub past : HasSeenAllOf q p
-  pub did : DeleteDid nodes tries k p.view.log q.view.log r
+  pub did : DeleteDid L tries k p.view.log q.view.log r
   pub moment : IfOk r (AnswerHasMoment p q Delete k)
   pub won : HasWon p.view.log q.view.log 0 (flags_of_delete r)
-  pub steps : IsWithinBound nodes tries p.view.log q.view.log
+  pub steps : IsWithinBound L tries p.view.log q.view.log
   pub run : (q ≡ p) ⊎ IsInRun q
   pub stands : RestsOrRemoves k q r
   pub private : (knowledge q.view).drafts ≡ (knowledge p.view).drafts
@@ -302,14 +303,14 @@ pub record AfterDelete (nodes tries k : ℕ) (p q : Stand) (r : Result Bool Miss
 
 -- and what is left to do of one leaves: the answer true was right at a moment of its call, and then
 -- it rests; else it stays pinned for the leaf
-pub record AfterFinish (nodes k : ℕ) (n : NodeId) (tries : ℕ) (p q : Stand)
+pub record AfterFinish (L : Layout) (k : ℕ) (n : NodeId) (tries : ℕ) (p q : Stand)
     (r : Bool) : Type 0 where
   pub same : IsSamePass p q
   pub past : HasSeenAllOf q p
-  pub did : FinishDid nodes k n tries p.view.log q.view.log r
+  pub did : FinishDid L k n tries p.view.log q.view.log r
   pub moment : r ≡ true → (o : Stand) → HadNoCall o p → AnswerHasMoment o q Delete k true
   pub won : HasWon p.view.log q.view.log 0 0
-  pub steps : IsWithinBound nodes tries p.view.log q.view.log
+  pub steps : IsWithinBound L tries p.view.log q.view.log
   pub run : IsInRun q
   pub rests : r ≡ true → IsResting q
   pub removing : r ≡ false → IsRemoving q k n

@@ -1,21 +1,24 @@
 -- Look-ups of several keys under one pin, whose walks go on in turns.
-use Rattle.std.specs.Prelude.{◌≡◌, ◌≢◌, ◌==◌, ◌+◌, ◌*◌, ◌≤◌, ℕ, List, length, map, All, Result, IfOk, IfErr}
+use Rattle.std.specs.Prelude.{◌≡◌, ◌≢◌, ◌==◌, ◌+◌, ◌*◌, ◌≤◌, ℕ, suc, false, List, length, map, All, Contains, Result, IfOk, IfErr}
 use Rattle.nm_edge.specs.Keys.{IsKey}
+use Rattle.nm_edge.specs.Layouts.{Layout}
+use Rattle.nm_model.specs.Walks.{Entry}
 use Rattle.nm_order.specs.Facts.Fact.{KnowsSlot}
 use Rattle.nm_steps.specs.Steps.{Stand, IsSamePass, HasSeenAllOf}
 use Rattle.nm_epoch.specs.Resting.{IsResting, KeepsHands}
 use Rattle.nm_calls.specs.declared.lookup.Busy.{Busy}
 use Rattle.nm_calls.specs.declared.looking.Onward.{Onward}
 use Rattle.nm_calls.specs.declared.many.Query.{Query}
+use Rattle.nm_calls.specs.Bounds.{reach}
 use Rattle.nm_calls.specs.Telling.{Tells}
-pub use Rattle.nm_calls.specs.PlainWalks.{AddsLooks, LooksUnderPin, LooksOrMoves, HasComeTo, HasEndedSo, WasSo, most_looks}
+pub use Rattle.nm_calls.specs.PlainWalks.{AddsLooks, LooksUnderPin, PlainMissed, HasPassed, HasEndedSo, WasSo, most_looks}
 use Rattle.nm_calls.specs.Won.{HasWon, won_splices}
 
--- its walk has come to a known node, which it reads next, or has ended with its answer, where it
--- has none to read (Natarajan and Mittal, section 3.2)
-pub record IsUnderWay (p : Stand) (q : Query) : Type 0 where
+-- behind so many nodes at least its walk has come to a known node, which it reads next, or has ended
+-- with its answer, where it has none to read (Natarajan and Mittal, section 3.2)
+pub record IsUnderWay (n : ℕ) (p : Stand) (q : Query) : Type 0 where
   pub is_key : IsKey q.key
-  pub comes : q.node ≢ 0 → HasComeTo p q.key q.node
+  pub comes : q.node ≢ 0 → HasPassed n p.view.log q.key q.node
   pub known : q.node ≢ 0 → Tells p (KnowsSlot q.node)
   pub ends : q.node ≡ 0 → HasEndedSo p q.key q.found
 
@@ -31,21 +34,26 @@ query_read q on = record { key = q.key; found = on.found == q.key; node = on.nex
 abbrev pub key_of : Query → ℕ
 key_of q = q.key
 
+-- looks, by which a walk for one of these keys was broken off where it had looked at as many nodes as
+-- there are, as none of a radix tree is
+abbrev pub GiveUp : Layout → List ℕ → List Entry → List Entry → Type 0
+GiveUp L keys old new = AddsLooks (most_looks (reach L) (length keys)) old new × (L.radix ≡ false)
+    × (k slot n : ℕ) × Contains keys k × HasPassed n new k slot × (suc n ≡ L.nodes)
+
 -- what a look-up of these queries, which are those then, leaves of its pass, by its answer: as of a
 -- look-up of one key, but that each answer was right at a moment of the call and the keys stay
-pub record AfterHasMany (nodes tries : ℕ) (old new : List Query) (p q : Stand)
+pub record AfterHasMany (L : Layout) (tries : ℕ) (old new : List Query) (p q : Stand)
     (r : Result (Unit {0}) Busy) : Type 0 where
   pub same : IsSamePass p q
   pub past : HasSeenAllOf q p
   pub did : IfOk r
-      (λ u. LooksUnderPin tries (most_looks nodes (length old)) p.view.log q.view.log)
+      (λ u. LooksUnderPin tries (most_looks (reach L) (length old)) p.view.log q.view.log)
   pub keys : map key_of new ≡ map key_of old
   pub moment : IfOk r (λ u. All (λ query. WasSo p q query.key query.found) new)
-  pub missed : IfErr r
-      (λ e. LooksOrMoves tries (most_looks nodes (length old)) p.view.log q.view.log)
+  pub missed : IfErr r (λ e. PlainMissed (GiveUp L (map key_of old)) tries p.view.log q.view.log)
   pub won : HasWon p.view.log q.view.log 0 0
   pub uncut : won_splices q.view.log ≡ won_splices p.view.log
   pub steps : length q.view.log
-      ≤ length p.view.log + 3 * tries + most_looks nodes (length old) + 2
+      ≤ length p.view.log + 3 * tries + most_looks (reach L) (length old) + 2
   pub rests : IsResting q
   pub hands : KeepsHands p q

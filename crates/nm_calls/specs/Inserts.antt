@@ -1,6 +1,7 @@
 -- Inserts: the two new nodes that a call keeps over its tries, and what each part of it leaves.
 use Rattle.std.specs.Prelude.{◌≡◌, ◌≢◌, ◌≤◌, ◌⊎◌, ℕ, zero, suc, ◌<◌, ◌==◌, nat_lt, Bool, true, false, ◌&&◌, ◌||◌, if◌then◌else◌, List, [], ◌∷◌, ◌++◌, Option, Some, None, Result, Ok, Err, IfOk}
 use Rattle.nm_edge.specs.Edges.{Edge}
+use Rattle.nm_edge.specs.Layouts.{Layout}
 use Rattle.nm_edge.specs.declared.node.NodeId.{NodeId}
 use Rattle.nm_model.specs.declared.event.Event.TheVariants.{SightFor, Leave, LeaveWith, Give, Link}
 use Rattle.nm_model.specs.declared.event.Op.TheVariants.{Insert}
@@ -26,11 +27,11 @@ use Rattle.nm_calls.specs.declared.inserting.Attempt.TheVariants as attempt
 use Rattle.nm_calls.specs.declared.spot.ChainEdge.{ChainEdge}
 use Rattle.nm_calls.specs.declared.spot.End.{End}
 use Rattle.nm_calls.specs.Telling.{Tells}
-use Rattle.nm_calls.specs.Making.{draft, fills}
-use Rattle.nm_calls.specs.Walks.{Seeks, IsBroken}
+use Rattle.nm_calls.specs.Making.{draft, fills, IsPlace, IsRouter}
+use Rattle.nm_calls.specs.Places.{Stops}
 use Rattle.nm_calls.specs.Leaving.{EndedWith}
 use Rattle.nm_calls.specs.Cleanups.{CleanupWon, CleanupLost, KeepsLedgers}
-use Rattle.nm_calls.specs.Bounds.{IsWithinBound}
+use Rattle.nm_calls.specs.Bounds.{IsWithinClaims}
 use Rattle.nm_calls.specs.Moments.{AnswerHasMoment}
 use Rattle.nm_calls.specs.Won.{HasWon, links_of_insert}
 
@@ -87,11 +88,11 @@ ClaimsFork fit nodes old new None = IsClaimBy fit nodes old new None
 
 -- ---- a link of both
 
--- the new internal node has the greater key, and the leaf with the lesser one is on its left
-abbrev pub inner_of : ℕ → ℕ → ℕ → ℕ → Contents
-inner_of key other leaf fresh =
-    if nat_lt key other then record { key = other; left = fresh; right = leaf }
-    else record { key = key; left = leaf; right = fresh }
+-- the new internal node has that key, and the slot with the lesser key is on its left
+abbrev pub inner_of : ℕ → ℕ → ℕ → ℕ → ℕ → Contents
+inner_of key other router leaf fresh =
+    if nat_lt key other then record { key = router; left = fresh; right = leaf }
+    else record { key = router; left = leaf; right = fresh }
 
 -- the call may put its key beside the leaf at which its walk ended
 pub record MayGrow (p : Stand) (key : ℕ) (r : End) (f : Fork) : Type 0 where
@@ -99,15 +100,15 @@ pub record MayGrow (p : Stand) (key : ℕ) (r : End) (f : Fork) : Type 0 where
   pub unlinked : (search p).linked ≡ false
   pub parent : Tells p (KnowsSlot r.spot.parent)
   pub known : Tells p (KnowsSlot r.spot.edge.slot)
-  pub leaf : Tells p (KnowsLeaf r.spot.edge.slot)
   pub within : r.spot.edge.slot ≤ p.view.layout.nodes
-  pub ended : Tells p (EndedAt ThePin key r.spot.edge.slot r.spot.parent r.spot.side r.key)
+  pub place : IsPlace p.view.layout.radix p key r.spot.edge.slot r.spot.parent r.spot.side r.key
   pub other : r.key ≢ key
   pub ready : HasBothNodes p f
 
 -- both nodes were filled, and a link of them was tried at the edge by which the walk ended
-abbrev pub Grows : ℕ → End → Fork → Reply → List Entry → List Entry → Type 0
-Grows key r f reply old new = (i : Contents) × (i ≡ inner_of key r.key r.spot.edge.slot f.fresh.slot)
+abbrev pub Grows : Bool → ℕ → End → Fork → Reply → List Entry → List Entry → Type 0
+Grows radix key r f reply old new = (i : Contents) × IsRouter radix key r.key i.key
+    × (i ≡ inner_of key r.key i.key r.spot.edge.slot f.fresh.slot)
     × (new ≡ ((old ++ fills f.new.slot i.key i.left i.right) ++ fills f.fresh.slot key 0 0)
     ++ (Link r.spot.parent r.spot.side r.spot.edge.slot f.new.slot, reply) ∷ [])
 
@@ -119,16 +120,17 @@ pub record KeepsCall (p q : Stand) : Type 0 where
   pub flagged : (search q).flagged ≡ (search p).flagged
 
 -- the link was won: the call has linked, and the new nodes are private no longer
-pub record HasGrown (p q : Stand) (key : ℕ) (r : End) (f : Fork) : Type 0 where
-  pub part : Grows key r f (Linked f.new) p.view.log q.view.log
+pub record HasGrown (radix : Bool) (p q : Stand) (key : ℕ) (r : End) (f : Fork) : Type 0 where
+  pub part : Grows radix key r f (Linked f.new) p.view.log q.view.log
   pub linked : (search q).linked ≡ true
   pub others : KeepsBut f p q
   pub new_given : get (knowledge q.view).drafts f.new.slot ≡ None
   pub fresh_given : get (knowledge q.view).drafts f.fresh.slot ≡ None
 
 -- it was lost: the new nodes are ready still, and the edge that was found is told
-pub record HasNotGrown (p q : Stand) (key : ℕ) (r : End) (f : Fork) (e : Edge) : Type 0 where
-  pub part : Grows key r f (Lost e) p.view.log q.view.log
+pub record HasNotGrown (radix : Bool) (p q : Stand) (key : ℕ) (r : End) (f : Fork)
+    (e : Edge) : Type 0 where
+  pub part : Grows radix key r f (Lost e) p.view.log q.view.log
   pub linked : (search q).linked ≡ (search p).linked
   pub others : KeepsBut f p q
   pub ready : HasBothNodes q f
@@ -160,30 +162,30 @@ IsReadied fit nodes f g None old new = (f ≡ None) × (g ≡ None) × ClaimsFor
 
 -- a walk that ended at a leaf with another key, and a link of two new nodes there that was answered
 -- so
-pub record TriesLink (fit : Fit) (nodes k : ℕ) (f : Option Fork) (made : Fork) (r : End)
+pub record TriesLink (fit : Fit) (L : Layout) (k : ℕ) (f : Option Fork) (made : Fork) (r : End)
     (c : List ChainEdge) (reply : Reply) (old new : List Entry) : Type 0 where
   pub ended : List Entry
-  pub walk : Seeks nodes k old ended c (Some r)
+  pub walk : Stops L k old ended c (Some r)
   pub other : r.key ≢ k
   pub claimed : List Entry
-  pub readies : Readies fit nodes f made ended claimed
-  pub grows : Grows k r made reply claimed new
+  pub readies : Readies fit L.nodes f made ended claimed
+  pub grows : Grows L.radix k r made reply claimed new
 
 -- a try of an insert of k, by what it came to; f are the new nodes before it, and g those after it
 -- (Natarajan and Mittal, section 3.2, insert)
-abbrev pub IsTry : Fit → ℕ → ℕ → Option Fork → Option Fork → List Entry → List Entry → Attempt
+abbrev pub IsTry : Fit → Layout → ℕ → Option Fork → Option Fork → List Entry → List Entry → Attempt
     → Type 0
-IsTry fit nodes k f g old new attempt.Found =
-    (r : End) × (c : List ChainEdge) × Seeks nodes k old new c (Some r) × (r.key ≡ k) × (g ≡ f)
-IsTry fit nodes k f g old new attempt.Linked =
+IsTry fit L k f g old new attempt.Found =
+    (r : End) × (c : List ChainEdge) × Stops L k old new c (Some r) × (r.key ≡ k) × (g ≡ f)
+IsTry fit L k f g old new attempt.Linked =
     (made : Fork) × (r : End) × (c : List ChainEdge)
-    × TriesLink fit nodes k f made r c (Linked made.new) old new × (g ≡ None)
-IsTry fit nodes k f g old new attempt.Full =
-    (r : End) × (c : List ChainEdge) × (mid : List Entry) × Seeks nodes k old mid c (Some r)
-    × (r.key ≢ k) × (f ≡ None) × (g ≡ None) × ClaimsFork fit nodes mid new None
-IsTry fit nodes k f g old new attempt.Lost = (IsBroken nodes k old new × (g ≡ f))
+    × TriesLink fit L k f made r c (Linked made.new) old new × (g ≡ None)
+IsTry fit L k f g old new attempt.Full =
+    (r : End) × (c : List ChainEdge) × (mid : List Entry) × Stops L k old mid c (Some r)
+    × (r.key ≢ k) × (f ≡ None) × (g ≡ None) × ClaimsFork fit L.nodes mid new None
+IsTry fit L k f g old new attempt.Lost = ((c : List ChainEdge) × Stops L k old new c None × (g ≡ f))
     ⊎ ((made : Fork) × (r : End) × (c : List ChainEdge) × (e : Edge) × (mid : List Entry)
-    × TriesLink fit nodes k f made r c (Lost e) old mid × (g ≡ Some made) × Helps r c e mid new)
+    × TriesLink fit L k f made r c (Lost e) old mid × (g ≡ Some made) × Helps r c e mid new)
 
 -- what a try leaves: the pin, the call and what it flagged, and ledgers but for the nodes that it
 -- cut
@@ -206,67 +208,67 @@ ShowsTry k p q _ = (search q).linked ≡ (search p).linked
 
 -- so many tries were lost, one behind the other; f are the new nodes behind them (Natarajan and
 -- Mittal, section 3.2, insert)
-abbrev pub LostInserts : Fit → ℕ → ℕ → ℕ → Option Fork → List Entry → List Entry → Type 0
-LostInserts fit nodes k zero f old new = (f ≡ None) × (new ≡ old)
-LostInserts fit nodes k (suc n) g old new =
-    (f : Option Fork) × (mid : List Entry) × LostInserts fit nodes k n f old mid
-    × IsTry fit nodes k f g mid new attempt.Lost
+abbrev pub LostInserts : Fit → Layout → ℕ → ℕ → Option Fork → List Entry → List Entry → Type 0
+LostInserts fit L k zero f old new = (f ≡ None) × (new ≡ old)
+LostInserts fit L k (suc n) g old new =
+    (f : Option Fork) × (mid : List Entry) × LostInserts fit L k n f old mid
+    × IsTry fit L k f g mid new attempt.Lost
 
 -- fewer lost tries than there may be, and then one that came to this
-abbrev pub EndsBy : Fit → ℕ → ℕ → ℕ → Option Fork → Attempt → List Entry → List Entry → Type 0
-EndsBy fit nodes tries k g a old new =
+abbrev pub EndsBy : Fit → Layout → ℕ → ℕ → Option Fork → Attempt → List Entry → List Entry → Type 0
+EndsBy fit L tries k g a old new =
     (n : ℕ) × (f : Option Fork) × (mid : List Entry) × (n < tries)
-    × LostInserts fit nodes k n f old mid × IsTry fit nodes k f g mid new a
+    × LostInserts fit L k n f old mid × IsTry fit L k f g mid new a
 
 -- from the pin on, by the answer. NoMemory: the room of a later try than the first was refused,
 -- since that of the first one was made before the pin
-abbrev pub Finishes : Fit → ℕ → ℕ → ℕ → List Entry → List Entry → Result Bool Fault → Type 0
-Finishes fit nodes tries k old new (Ok true) =
-    (mid : List Entry) × EndsBy fit nodes tries k None attempt.Linked old mid
+abbrev pub Finishes : Fit → Layout → ℕ → ℕ → List Entry → List Entry → Result Bool Fault → Type 0
+Finishes fit L tries k old new (Ok true) =
+    (mid : List Entry) × EndsBy fit L tries k None attempt.Linked old mid
     × (new ≡ mid ++ (LeaveWith true, Departed) ∷ [])
-Finishes fit nodes tries k old new (Ok false) =
-    (f : Option Fork) × (mid back : List Entry) × EndsBy fit nodes tries k f attempt.Found old mid
+Finishes fit L tries k old new (Ok false) =
+    (f : Option Fork) × (mid back : List Entry) × EndsBy fit L tries k f attempt.Found old mid
     × Returns f mid back × (new ≡ back ++ (LeaveWith false, Departed) ∷ [])
-Finishes fit nodes tries k old new (Err fault.Full) =
-    (mid : List Entry) × EndsBy fit nodes tries k None attempt.Full old mid
+Finishes fit L tries k old new (Err fault.Full) =
+    (mid : List Entry) × EndsBy fit L tries k None attempt.Full old mid
     × (new ≡ mid ++ (Leave, Departed) ∷ [])
-Finishes fit nodes tries k old new (Err fault.Busy) =
-    (f : Option Fork) × (mid back : List Entry) × LostInserts fit nodes k tries f old mid
+Finishes fit L tries k old new (Err fault.Busy) =
+    (f : Option Fork) × (mid back : List Entry) × LostInserts fit L k tries f old mid
     × Returns f mid back × (new ≡ back ++ (Leave, Departed) ∷ [])
-Finishes fit nodes tries k old new (Err fault.NoMemory) =
+Finishes fit L tries k old new (Err fault.NoMemory) =
     (n : ℕ) × (f : Option Fork) × (mid back : List Entry) × (0 < n) × (n < tries)
-    × LostInserts fit nodes k n f old mid × Returns f mid back
+    × LostInserts fit L k n f old mid × Returns f mid back
     × (new ≡ back ++ (Leave, Departed) ∷ [])
 
 -- a pin for the insert, and then what finishes it
-abbrev pub PinsThen : Fit → ℕ → ℕ → ℕ → List Entry → List Entry → Result Bool Fault → Type 0
-PinsThen fit nodes tries k old new r =
+abbrev pub PinsThen : Fit → Layout → ℕ → ℕ → List Entry → List Entry → Result Bool Fault → Type 0
+PinsThen fit L tries k old new r =
     (pinned : List Entry) × (epoch : ℕ) × IsPinnedBy (SightFor Insert k) tries old pinned epoch
-    × Finishes fit nodes tries k pinned new r
+    × Finishes fit L tries k pinned new r
 
 -- Busy: there may be no try, and there was no step; or each try of the pin was lost; or each try
 -- was. NoMemory: the room of the first try was refused, and there was no step, or that of a later
 -- one (Natarajan and Mittal, section 3.2, insert)
-abbrev pub InsertDid : Fit → ℕ → ℕ → ℕ → List Entry → List Entry → Result Bool Fault → Type 0
-InsertDid fit nodes tries k old new (Err fault.Busy) =
+abbrev pub InsertDid : Fit → Layout → ℕ → ℕ → List Entry → List Entry → Result Bool Fault → Type 0
+InsertDid fit L tries k old new (Err fault.Busy) =
     ((tries ≡ 0) × (new ≡ old)) ⊎ ((tries ≢ 0) × IsMoved (SightFor Insert k) tries old new)
-    ⊎ PinsThen fit nodes tries k old new (Err fault.Busy)
-InsertDid fit nodes tries k old new (Err fault.NoMemory) =
-    ((tries ≢ 0) × (new ≡ old)) ⊎ PinsThen fit nodes tries k old new (Err fault.NoMemory)
-InsertDid fit nodes tries k old new r = PinsThen fit nodes tries k old new r
+    ⊎ PinsThen fit L tries k old new (Err fault.Busy)
+InsertDid fit L tries k old new (Err fault.NoMemory) =
+    ((tries ≢ 0) × (new ≡ old)) ⊎ PinsThen fit L tries k old new (Err fault.NoMemory)
+InsertDid fit L tries k old new r = PinsThen fit L tries k old new r
 
 -- what an insert leaves of its pass, by its answer: the same pass, which has seen all that it had
 -- seen; what was done; an answer that was right at a moment of the call; the link that was won; the
 -- longest log; it is in a run where it made a step; and it rests, with the private slots that it
 -- had, and ledgers but for the nodes that it cut
-pub record AfterInsert (fit : Fit) (nodes tries k : ℕ) (p q : Stand)
+pub record AfterInsert (fit : Fit) (L : Layout) (tries k : ℕ) (p q : Stand)
     (r : Result Bool Fault) : Type 0 where
   pub same : IsSamePass p q
   pub past : HasSeenAllOf q p
-  pub did : InsertDid fit nodes tries k p.view.log q.view.log r
+  pub did : InsertDid fit L tries k p.view.log q.view.log r
   pub moment : IfOk r (AnswerHasMoment p q Insert k)
   pub won : HasWon p.view.log q.view.log (links_of_insert r) 0
-  pub steps : IsWithinBound nodes tries p.view.log q.view.log
+  pub steps : IsWithinClaims L tries p.view.log q.view.log
   pub run : (q ≡ p) ⊎ IsInRun q
   pub rests : IsResting q
   pub private : HasFork p q None

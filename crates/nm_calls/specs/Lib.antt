@@ -1,4 +1,5 @@
 pub mod Bounds
+pub mod Places
 pub mod Rooms
 pub mod Marking
 pub mod Making
@@ -8,6 +9,7 @@ pub mod Calls
 pub mod PlainWalks
 pub mod InTurns
 pub mod NextKeys
+pub mod PrevKeys
 pub mod Won
 pub mod Fresh
 pub mod Cleanups

@@ -1,6 +1,7 @@
 -- What a pass's private slots have, and what the steps that make nodes leave.
-use Rattle.std.specs.Prelude.{◌≡◌, ◌≢◌, ◌⊎◌, ℕ, ◌<◌, true, false, List, [], ◌∷◌, ◌++◌, Option, Some, IfSome}
+use Rattle.std.specs.Prelude.{◌≡◌, ◌≢◌, ◌⊎◌, ℕ, ◌<◌, nat_lt, Bool, true, false, if◌then◌else◌, List, [], ◌∷◌, ◌++◌, Option, Some, IfSome}
 use Rattle.nm_edge.specs.Edges.{Edge}
+use Rattle.nm_edge.specs.Ranges.{IsParting, covers}
 use Rattle.nm_edge.specs.declared.edge.Side.{Side}
 use Rattle.nm_edge.specs.declared.edge.Side.TheVariants.{Left, Right}
 use Rattle.nm_edge.specs.declared.node.NodeId.{NodeId}
@@ -11,13 +12,14 @@ use Rattle.nm_model.specs.declared.knowledge.Draft.{Draft}
 use Rattle.nm_model.specs.declared.reply.Reply.TheVariants.{Filled, Linked, Lost}
 use Rattle.nm_model.specs.Knowledge.{draft_of, is_private}
 use Rattle.nm_model.specs.Maps.{get}
-use Rattle.nm_model.specs.Searches.{idle}
+use Rattle.nm_model.specs.Searches.{idle, side_of}
 use Rattle.nm_model.specs.Walks.{Entry, search_after}
 use Rattle.nm_order.specs.Facts.Since.{ThePin}
-use Rattle.nm_order.specs.Facts.Fact.{CallIs, EndedAt}
+use Rattle.nm_order.specs.Facts.Fact.{CallIs, KnowsLeaf, ReadKey, EndedAt}
 use Rattle.nm_order.specs.Taught.{EdgeLearned}
 use Rattle.nm_steps.specs.Rules.{knowledge}
 use Rattle.nm_steps.specs.Steps.{Stand, Stepped}
+use Rattle.nm_calls.specs.Places.{IsOver}
 use Rattle.nm_calls.specs.Telling.{Tells, OnlyLooks}
 
 -- ---- what private slots have
@@ -73,16 +75,40 @@ HasFilled p q slot key left right =
 
 -- ---- linking a new node
 
--- two private slots are filled to put a key beside a leaf that has another: one as a leaf with the
--- key, and one as the internal node over both, with the greater of both keys; the leaf with the
--- lesser one is on the left (Natarajan and Mittal, section 3.2, insert)
+-- the key of the internal node over two keys: the greater one (Natarajan and Mittal, section 3.2,
+-- insert); and in a radix tree one that has both keys in its range, in two halves
+abbrev pub IsRouter : Bool → ℕ → ℕ → ℕ → Type 0
+IsRouter false key other router = router ≡ (if nat_lt key other then other else key)
+IsRouter true key other router = IsParting key other router
+
+-- two private slots are filled to put a key beside a slot that has another: one as a leaf with the
+-- key, and one as the internal node over both; the slot with the lesser key is on the left
+-- (Natarajan and Mittal, section 3.2, insert)
 pub record IsFork (p : Stand) (key other leaf new fresh : ℕ) : Type 0 where
+  pub router : ℕ
+  pub between : IsRouter p.view.layout.radix key other router
   pub new_birth : ℕ
   pub fresh_birth : ℕ
   pub apart : new ≢ fresh
   pub as_leaf : IsFilled p fresh fresh_birth key 0 0
-  pub as_fork : ((key < other) × IsFilled p new new_birth other fresh leaf)
-      ⊎ ((other < key) × IsFilled p new new_birth key leaf fresh)
+  pub as_fork : ((key < other) × IsFilled p new new_birth router fresh leaf)
+      ⊎ ((other < key) × IsFilled p new new_birth router leaf fresh)
+
+-- the edge is the first one that a walk reads, or its node has the call's key in its range, on that
+-- side, as a walk of the call has read
+abbrev pub IsWithin : Stand → ℕ → ℕ → Side → Type 0
+IsWithin p k parent side = ((parent ≡ 2) × (side ≡ Left))
+    ⊎ ((v above : ℕ) × (up : Side) × (covers v k ≡ true) × (side_of k v ≡ side)
+    × Tells p (ReadKey ThePin k parent above up v))
+
+-- a walk of the call came by that edge to a slot with another key, where the call may put its own:
+-- it ended there, at a leaf; or, in a radix tree, each node above has the key in its range, and the
+-- slot is a leaf, or has not
+abbrev pub IsPlace : Bool → Stand → ℕ → ℕ → ℕ → Side → ℕ → Type 0
+IsPlace false p k x parent side key = Tells p (KnowsLeaf x)
+    × Tells p (EndedAt ThePin k x parent side key)
+IsPlace true p k x parent side key = IsOver p k x key
+    × Tells p (ReadKey ThePin k x parent side key) × IsWithin p k parent side
 
 -- the call is to insert a key and has not linked yet, a walk of it ended at the leaf, by that edge,
 -- and the new nodes put the key beside the leaf (Natarajan and Mittal, section 3.2, insert)
@@ -91,7 +117,8 @@ pub record IsInserting (p : Stand) (parent : ℕ) (side : Side) (leaf new fresh 
   pub other : ℕ
   pub call : Tells p (CallIs Insert key)
   pub not_linked : (search_after idle p.view.log).linked ≡ false
-  pub ended : Tells p (EndedAt ThePin key leaf parent side other)
+  pub place : IsPlace p.view.layout.radix p key leaf parent side other
+  pub apart : other ≢ key
   pub fork : IsFork p key other leaf new fresh
 
 -- the link is won: the call has linked, and both slots are private no longer (Natarajan and Mittal,

@@ -1,15 +1,21 @@
 -- The least key that is not below a given one, in a set that is in use.
-use Rattle.std.specs.Prelude.{◌≡◌, ◌≢◌, ◌<◌, ◌≤◌, ◌==◌, ◌+◌, ◌*◌, ℕ, Bool, true, false, Option, Some, None, length, Result, IfOk, IfErr}
+use Rattle.std.specs.Prelude.{◌≡◌, ◌≢◌, ◌⊎◌, ◌<◌, ◌≤◌, ◌+◌, ◌*◌, ℕ, zero, suc, Bool, true, false, List, Option, Some, None, length, Result, IfOk, IfErr}
 use Rattle.nm_edge.specs.Keys.{IsKey}
+use Rattle.nm_edge.specs.Layouts.{Layout}
 use Rattle.nm_model.specs.Memory.{infinity_0}
+use Rattle.nm_model.specs.Walks.{Entry}
 use Rattle.nm_order.specs.Facts.Fact.{KnowsSlot}
 use Rattle.nm_steps.specs.Steps.{Stand, IsSamePass, HasSeenAllOf}
 use Rattle.nm_epoch.specs.Resting.{IsResting, KeepsHands}
 use Rattle.nm_calls.specs.declared.lookup.Busy.{Busy}
 use Rattle.nm_calls.specs.declared.looking.Onward.{Onward}
 use Rattle.nm_calls.specs.declared.next_key.Descent.{Descent}
-use Rattle.nm_calls.specs.PlainWalks.{HasComeTo, HasEndedSo, WasSo, LooksUnderPin, LooksOrMoves, most_looks}
+use Rattle.nm_calls.specs.declared.spot.ChainEdge.{ChainEdge}
+use Rattle.nm_calls.specs.declared.spot.Spot.{Spot}
+use Rattle.nm_calls.specs.Bounds.{reach}
+use Rattle.nm_calls.specs.PlainWalks.{WasSo, LooksUnderPin, PlainMissed, most_looks}
 use Rattle.nm_calls.specs.Telling.{Tells}
+use Rattle.nm_calls.specs.Walks.{Walks, EndsAtLeaf, IsTooLong}
 use Rattle.nm_calls.specs.Won.{HasWon, won_splices}
 
 -- where `Was j answer` says of a key j, at a moment of its own, whether the set had it: it had this
@@ -23,16 +29,43 @@ IsNextBy Was key None = (j : ℕ) → key ≤ j → IsKey j → Was j false
 abbrev pub WasNext : Stand → Stand → ℕ → Option ℕ → Type 0
 WasNext p q = IsNextBy (WasSo p q)
 
+-- ---- what such walks leave in the log
+
+-- a walk that serves each key from one on below another: for each of them it is this one, and the
+-- leaf at its end has another key (Natarajan and Mittal, section 3.2)
+abbrev pub HasNone : Layout → ℕ → ℕ → List Entry → List Entry → Type 0
+HasNone L from to old new = (from < to) × ((j : ℕ) → from ≤ j → j < to
+    → (s : Spot) × (c : List ChainEdge) × (found : ℕ) × EndsAtLeaf L j old new s c found
+    × (found ≢ j))
+
+-- so many of them, one behind the other, which serve the keys from `key` on below `to`: each begins
+-- where the keys of the one before end
+abbrev pub HaveNone : Layout → ℕ → ℕ → ℕ → List Entry → List Entry → Type 0
+HaveNone L zero key to old new = (to ≡ key) × (new ≡ old)
+HaveNone L (suc n) key to old new =
+    (mid : List Entry) × (from : ℕ) × HaveNone L n key from old mid × HasNone L from to mid new
+
+-- as many as there may be, and there are keys left; or fewer, and then one that was broken off where
+-- it had looked at as many nodes as a walk may
+abbrev pub GiveUp : Layout → ℕ → ℕ → List Entry → List Entry → Type 0
+GiveUp L tries key old new = (to : ℕ) × IsKey to
+    × (HaveNone L tries key to old new
+    ⊎ ((n : ℕ) × (mid : List Entry) × (n < tries) × HaveNone L n key to old mid
+    × IsTooLong L to mid new))
+
 -- ---- how a walk goes that serves many keys
 
--- a walk for each key from `from` on below the bound has come to a known node, which it reads next,
--- or has ended at a leaf with the key that was found, where there is none to read
-pub record IsDescent (p : Stand) (d : Descent) : Type 0 where
+-- behind so many nodes, a walk for each key from `from` on below the bound has come to a known node,
+-- which it reads next, or has ended at a leaf with the key that was found, where there is none to
+-- read
+pub record IsDescent (L : Layout) (n : ℕ) (o p : Stand) (d : Descent) : Type 0 where
   pub wide : d.from < d.bound
   pub low : d.bound ≤ infinity_0
-  pub comes : d.node ≢ 0 → (j : ℕ) → d.from ≤ j → j < d.bound → HasComeTo p j d.node
+  pub walks : d.node ≢ 0 → (s : Spot) × (c : List ChainEdge) × (s.edge.slot ≡ d.node)
+      × ((j : ℕ) → d.from ≤ j → j < d.bound → Walks j n o.view.log p.view.log s c)
   pub known : d.node ≢ 0 → Tells p (KnowsSlot d.node)
-  pub ends : d.node ≡ 0 → (j : ℕ) → d.from ≤ j → j < d.bound → HasEndedSo p j (d.found == j)
+  pub ends : d.node ≡ 0 → (j : ℕ) → d.from ≤ j → j < d.bound
+      → (s : Spot) × (c : List ChainEdge) × EndsAtLeaf L j o.view.log p.view.log s c d.found
 
 -- where it has read its node so, with that bound
 abbrev pub read_below : Descent → ℕ → Onward → Descent
@@ -47,14 +80,14 @@ read_below d bound on = record {
 
 -- what a call for the next key leaves of its pass, by its answer: as of a look-up, but that what it
 -- tells of keys was so at moments of the call
-pub record AfterNext (nodes tries k : ℕ) (p q : Stand) (r : Result (Option ℕ) Busy) : Type 0 where
+pub record AfterNext (L : Layout) (tries k : ℕ) (p q : Stand) (r : Result (Option ℕ) Busy) : Type 0 where
   pub same : IsSamePass p q
   pub past : HasSeenAllOf q p
-  pub did : IfOk r (λ f. LooksUnderPin tries (tries * most_looks nodes 1) p.view.log q.view.log)
+  pub did : IfOk r (λ f. LooksUnderPin tries (tries * most_looks (reach L) 1) p.view.log q.view.log)
   pub moment : IfOk r (WasNext p q k)
-  pub missed : IfErr r (λ e. LooksOrMoves tries (tries * most_looks nodes 1) p.view.log q.view.log)
+  pub missed : IfErr r (λ e. PlainMissed (GiveUp L tries k) tries p.view.log q.view.log)
   pub won : HasWon p.view.log q.view.log 0 0
   pub uncut : won_splices q.view.log ≡ won_splices p.view.log
-  pub steps : length q.view.log ≤ length p.view.log + 3 * tries + tries * most_looks nodes 1 + 2
+  pub steps : length q.view.log ≤ length p.view.log + 3 * tries + tries * most_looks (reach L) 1 + 2
   pub rests : IsResting q
   pub hands : KeepsHands p q

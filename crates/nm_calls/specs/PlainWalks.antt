@@ -1,11 +1,14 @@
 -- Walks under a pin for no call: what they add to a log, and what they tell of keys.
-use Rattle.std.specs.Prelude.{◌≡◌, ◌⊎◌, ◌≤◌, ◌==◌, ◌+◌, ◌*◌, ℕ, zero, suc, Bool, true, false, List, [], ◌∷◌, ◌++◌, length}
+use Rattle.std.specs.Prelude.{◌≡◌, ◌⊎◌, ◌≤◌, ◌==◌, ◌+◌, ◌*◌, ℕ, zero, suc, Bool, true, false, List, [], ◌∷◌, ◌++◌, length, map}
 use Rattle.std.specs.List.{list_all}
 use Rattle.nm_edge.specs.declared.edge.Side.{Side}
+use Rattle.nm_model.specs.declared.event.Event.{Event}
 use Rattle.nm_model.specs.declared.event.Event.TheVariants.{Sight, Leave, Look}
 use Rattle.nm_model.specs.declared.reply.Reply.TheVariants.{Departed}
+use Rattle.nm_model.specs.declared.trace.Turn.{Turn}
+use Rattle.nm_model.specs.Ordered.{turn_of}
 use Rattle.nm_model.specs.Walks.{Entry, since_pin, WalkComes, WalkEnds}
-use Rattle.nm_order.specs.WalkAnswers.{WasSoSince}
+use Rattle.nm_theorem.specs.Histories.{WasSoBehind}
 use Rattle.nm_steps.specs.Steps.{Stand}
 use Rattle.nm_epoch.specs.Tries.{IsPinnedBy, IsMoved}
 
@@ -31,12 +34,17 @@ pub record LooksUnderPin (tries most : ℕ) (old new : List Entry) : Type 0 wher
   pub looks : AddsLooks most pinned looked
   pub leaves : new ≡ looked ++ (Leave, Departed) ∷ []
 
--- no step, where there may be no try; or each try of that pin was lost; or such a pin, looks and a
--- leave
-abbrev pub LooksOrMoves : ℕ → ℕ → List Entry → List Entry → Type 0
-LooksOrMoves zero most old new = new ≡ old
-LooksOrMoves (suc t) most old new =
-    IsMoved Sight (suc t) old new ⊎ LooksUnderPin (suc t) most old new
+-- such a pin, walks that end without an answer, as `GivesUp` says, and a leave
+abbrev pub GivesUpUnderPin : (List Entry → List Entry → Type 0) → ℕ → List Entry → List Entry → Type 0
+GivesUpUnderPin GivesUp tries old new = (a z : List Entry) × (epoch : ℕ)
+    × IsPinnedBy Sight tries old a epoch × GivesUp a z × (new ≡ z ++ (Leave, Departed) ∷ [])
+
+-- why there was no answer: no step, where there may be no try; or each try of the pin was lost; or
+-- such walks gave up
+abbrev pub PlainMissed : (List Entry → List Entry → Type 0) → ℕ → List Entry → List Entry → Type 0
+PlainMissed GivesUp zero old new = new ≡ old
+PlainMissed GivesUp (suc t) old new =
+    IsMoved Sight (suc t) old new ⊎ GivesUpUnderPin GivesUp (suc t) old new
 
 -- how many looks the walks for n keys take at most: one, and a key, a left and a right edge for
 -- each key in as many turns as there are nodes
@@ -45,10 +53,11 @@ most_looks nodes n = 1 + nodes * (3 * n)
 
 -- ---- what a walk tells
 
--- in the log since the pin a walk for k came to the slot (Natarajan and Mittal, section 3.2)
-abbrev pub HasComeTo : Stand → ℕ → ℕ → Type 0
-HasComeTo p k slot = (parent : ℕ) × (side : Side)
-    × WalkComes k (since_pin [] p.view.log) slot parent side
+-- in the log since the pin a walk for k came to the slot, behind so many nodes at least below slot 2
+-- (Natarajan and Mittal, section 3.2)
+abbrev pub HasPassed : ℕ → List Entry → ℕ → ℕ → Type 0
+HasPassed n log k slot = (parent : ℕ) × (side : Side)
+    × (w : WalkComes k (since_pin [] log) slot parent side) × (1 + 2 * n ≤ length w.looks)
 
 -- in the log since the pin a walk for k ended, at a leaf whose key is k just where the answer is
 -- true (Natarajan and Mittal, section 3.2)
@@ -56,7 +65,12 @@ abbrev pub HasEndedSo : Stand → ℕ → Bool → Type 0
 HasEndedSo p k answer = (leaf parent v : ℕ) × (side : Side)
     × WalkEnds k (since_pin [] p.view.log) leaf parent side v × (answer ≡ (v == k))
 
--- by the run that q has seen, the set had the key just where the answer is true, at a moment later
--- than all that p had seen, and at which the worker was pinned (Herlihy and Wing)
+-- the events of these turns
+abbrev pub events_of : List Turn → List (ℕ × Event)
+events_of turns = map turn_of turns
+
+-- by what q has seen, the set had the key just where the answer is true, at a moment later than all
+-- that p had seen, and at which the worker was pinned (Herlihy and Wing)
 abbrev pub WasSo : Stand → Stand → ℕ → Bool → Type 0
-WasSo p q k answer = WasSoSince q.view.layout p.view.past q.view.past q.view.number k answer
+WasSo p q k answer =
+    WasSoBehind q.view.layout p.view.past q.view.past q.view.number k answer

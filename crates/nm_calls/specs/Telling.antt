@@ -7,7 +7,7 @@ use Rattle.nm_model.specs.Memory.{infinity_0}
 use Rattle.nm_model.specs.Searches.{idle, side_of}
 use Rattle.nm_model.specs.Walks.{search_after}
 use Rattle.nm_order.specs.Facts.{Since, Fact, Holds}
-use Rattle.nm_order.specs.Facts.Fact.{IsPinned, IsTagged, IsFlagged, Came, ReadKey, EndedAt}
+use Rattle.nm_order.specs.Facts.Fact.{IsPinned, KnowsLeaf, IsTagged, IsFlagged, Came, ReadKey, EndedAt}
 use Rattle.nm_order.specs.Taught.{WalksAreFor, EdgeLearned}
 use Rattle.nm_steps.specs.Rules.{knowledge}
 use Rattle.nm_steps.specs.Steps.{Board, Stand, IsOf, IsSamePass, HasSeenAllOf}
@@ -54,14 +54,16 @@ pub record KeyTold (p q : Stand) (x key : ℕ) : Type 0 where
       → Tells q (ReadKey since k x parent side key)
 
 -- what an edge tells that was looked at: it is read; it is flagged where its twin is known tagged,
--- and as it was known where it is known flagged; it leads inside the layout, and is one of a slot
--- above 5 to a slot above 5 where it is flagged, and not null where it is the left edge of slot 2;
+-- and as it was known where it is known flagged; it is null where its node is known as a leaf; it
+-- leads inside the layout, and is one of a slot above 5 to a slot above 5 where it is flagged, and
+-- not null where it is the left edge of slot 2;
 -- and each walk that goes on by it has come to its slot, or has ended where it is null (Natarajan
 -- and Mittal, section 3.2)
 pub record EdgeTold (p q : Stand) (x : ℕ) (side : Side) (e : Edge) : Type 0 where
   pub learned : EdgeLearned (Tells q) x side e
   pub twin : (to : ℕ) → Tells p (IsTagged x (other side) to) → e.flag ≡ true
   pub again : (to : ℕ) → Tells p (IsFlagged x side to) → (e.flag ≡ true) × (e.slot ≡ to)
+  pub null : Tells p (KnowsLeaf x) → e.slot ≡ 0
   pub within : e.slot ≤ p.view.layout.nodes
   pub high : e.flag ≡ true → 6 ≤ e.slot
   pub owner : e.flag ≡ true → 6 ≤ x
@@ -80,6 +82,8 @@ pub record EdgeTold (p q : Stand) (x : ℕ) (side : Side) (e : Edge) : Type 0 wh
 pub record OnwardTold (p q : Stand) (k x key : ℕ) (side : Side) (e : Edge) : Type 0 where
   pub high : key < infinity_0 → 6 ≤ x
   pub learned : EdgeLearned (Tells q) x side e
+  pub reads : (since : Since) (parent : ℕ) (up : Side) → Tells p (Came since k x parent up)
+      → Tells q (ReadKey since k x parent up key)
   pub goes : (since : Since) (parent : ℕ) (up : Side) → Tells p (Came since k x parent up)
       → e.slot ≢ 0 → Tells q (Came since k e.slot x side)
   pub ends : (since : Since) (parent : ℕ) (up : Side) → Tells p (Came since k x parent up)

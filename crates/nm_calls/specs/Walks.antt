@@ -1,6 +1,7 @@
 -- The walk for a key, as a relation between a log and a later one.
-use Rattle.std.specs.Prelude.{◌≡◌, ◌≢◌, ◌<◌, ◌≤◌, ◌+◌, ◌⊎◌, ℕ, zero, suc, true, if◌then◌else◌, List, [], ◌∷◌, ◌++◌, length, Option, Some, None}
+use Rattle.std.specs.Prelude.{◌≡◌, ◌≢◌, ◌<◌, ◌≤◌, ◌+◌, ◌⊎◌, ℕ, zero, suc, true, false, if◌then◌else◌, List, [], ◌∷◌, ◌++◌, length, Option, Some, None}
 use Rattle.nm_edge.specs.Edges.{Edge}
+use Rattle.nm_edge.specs.Layouts.{Layout}
 use Rattle.nm_edge.specs.declared.edge.Side.{Side}
 use Rattle.nm_edge.specs.declared.edge.Side.TheVariants.{Left, Right}
 use Rattle.nm_model.specs.declared.event.Event.TheVariants.{Look}
@@ -19,7 +20,7 @@ use Rattle.nm_calls.specs.declared.spot.Descent.{Descent}
 use Rattle.nm_calls.specs.declared.spot.Descent.TheVariants.{Ended, Stopped}
 use Rattle.nm_calls.specs.declared.spot.End.{End}
 use Rattle.nm_calls.specs.declared.spot.Spot.{Spot}
-use Rattle.nm_calls.specs.Bounds.{chain_bound}
+use Rattle.nm_calls.specs.Bounds.{chain_bound, reach}
 use Rattle.nm_calls.specs.Telling.{Tells, GoesOn, OnlyLooks}
 
 -- ---- where a walk stands
@@ -73,6 +74,11 @@ abbrev pub Reads : ℕ → ℕ → List Entry → List Entry → Onward → Type
 Reads k s old new on = (left right : Edge) × (new ≡ after_looks old s on.found left right)
     × (on.side ≡ side_of k on.found) × (on.next ≡ edge_on on.side left right)
 
+-- a node was read so, whose left edge is null and is the one on the walk's side: so is its right edge
+abbrev pub IsLeafRead : ℕ → List Entry → List Entry → Onward → Type 0
+IsLeafRead s old new on = on.side ≡ Left → on.next.slot ≡ 0 → (left right : Edge)
+    × (new ≡ after_looks old s on.found left right) × (left.slot ≡ 0) × (right.slot ≡ 0)
+
 -- slot 2 was looked at, and n nodes below it; none of the edges read was null (Natarajan and
 -- Mittal, section 3.2, seek)
 abbrev pub Walks : ℕ → ℕ → List Entry → List Entry → Spot → List ChainEdge → Type 0
@@ -84,42 +90,41 @@ Walks k (suc n) old new s c =
     × Reads k t.edge.slot mid new on × (s ≡ onto t on.side on.next) × (c ≡ chain_onto t d)
 
 -- a walk to the leaf that the edge of s leads to, whose key this is; with slot 2 and the leaf it
--- looked at no more than `nodes` nodes (Natarajan and Mittal, section 3.2, seek)
-abbrev pub EndsAtLeaf : ℕ → ℕ → List Entry → List Entry → Spot → List ChainEdge → ℕ → Type 0
-EndsAtLeaf nodes k old new s c key =
-    (n : ℕ) × (mid : List Entry) × (on : Onward) × (n + 2 ≤ nodes) × Walks k n old mid s c
+-- looked at no more nodes than its reach has (Natarajan and Mittal, section 3.2, seek)
+abbrev pub EndsAtLeaf : Layout → ℕ → List Entry → List Entry → Spot → List ChainEdge → ℕ → Type 0
+EndsAtLeaf L k old new s c key =
+    (n : ℕ) × (mid : List Entry) × (on : Onward) × (n + 2 ≤ reach L) × Walks k n old mid s c
     × (on.next.slot ≡ 0)
     × Reads k s.edge.slot mid new on × (on.found ≡ key)
 
--- a walk broken off where it had looked at as many nodes as there are
-abbrev pub IsTooLong : ℕ → ℕ → List Entry → List Entry → Type 0
-IsTooLong nodes k old new = (n : ℕ) × (s : Spot) × (c : List ChainEdge) × Walks k n old new s c
-    × (suc n ≡ nodes)
+-- a walk broken off where it had looked at as many nodes as there are, as none of a radix tree is
+abbrev pub IsTooLong : Layout → ℕ → List Entry → List Entry → Type 0
+IsTooLong L k old new = (L.radix ≡ false) × (n : ℕ) × (s : Spot) × (c : List ChainEdge)
+    × Walks k n old new s c × (suc n ≡ L.nodes)
 
--- a walk broken off where its chain would hold 65 nodes
-abbrev pub IsTooDeep : ℕ → ℕ → List Entry → List Entry → Type 0
-IsTooDeep nodes k old new =
-    (n : ℕ) × (mid : List Entry) × (s : Spot) × (c : List ChainEdge) × (on : Onward)
-    × (n + 2 ≤ nodes) × Walks k n old mid s c
+-- a walk broken off where its chain would hold 65 nodes, as none of a radix tree is
+abbrev pub IsTooDeep : Layout → ℕ → List Entry → List Entry → Type 0
+IsTooDeep L k old new = (L.radix ≡ false) × (n : ℕ) × (mid : List Entry) × (s : Spot)
+    × (c : List ChainEdge) × (on : Onward) × (n + 2 ≤ L.nodes) × Walks k n old mid s c
     × Reads k s.edge.slot mid new on × (on.next.slot ≢ 0) × (s.edge.tag ≡ true)
     × (chain_bound ≤ length c + 1)
 
 -- a walk that was broken off at a bound (Natarajan and Mittal, section 3.2, seek)
-abbrev pub IsBroken : ℕ → ℕ → List Entry → List Entry → Type 0
-IsBroken nodes k old new = IsTooLong nodes k old new ⊎ IsTooDeep nodes k old new
+abbrev pub IsBroken : Layout → ℕ → List Entry → List Entry → Type 0
+IsBroken L k old new = IsTooLong L k old new ⊎ IsTooDeep L k old new
 
 -- what a walk finds that remembers nothing: the leaf's key
-abbrev pub Finds : ℕ → ℕ → List Entry → List Entry → Option ℕ → Type 0
-Finds nodes k old new (Some key) = (s : Spot) × (c : List ChainEdge)
-    × EndsAtLeaf nodes k old new s c key
-Finds nodes k old new None = IsTooLong nodes k old new
+abbrev pub Finds : Layout → ℕ → List Entry → List Entry → Option ℕ → Type 0
+Finds L k old new (Some key) = (s : Spot) × (c : List ChainEdge)
+    × EndsAtLeaf L k old new s c key
+Finds L k old new None = IsTooLong L k old new
 
 -- what a walk finds that remembers its chain, which has 64 nodes at most with the parent (Natarajan
 -- and Mittal, section 3.2, seek)
-abbrev pub Seeks : ℕ → ℕ → List Entry → List Entry → List ChainEdge → Option End → Type 0
-Seeks nodes k old new c (Some r) = EndsAtLeaf nodes k old new r.spot c r.key
+abbrev pub Seeks : Layout → ℕ → List Entry → List Entry → List ChainEdge → Option End → Type 0
+Seeks L k old new c (Some r) = EndsAtLeaf L k old new r.spot c r.key
     × (length c < chain_bound)
-Seeks nodes k old new c None = IsBroken nodes k old new
+Seeks L k old new c None = IsBroken L k old new
 
 -- ---- what is known where it stands
 
@@ -139,10 +144,10 @@ pub record IsAt (H : Fact → Type 0) (s : Spot) (c : List ChainEdge) : Type 0 w
   pub way : ChainLeads H s.successor c s.parent
 
 -- and where it has ended: that its leaf is one
-pub record HasEnded (H : Fact → Type 0) (nodes : ℕ) (s : Spot) (c : List ChainEdge) : Type 0 where
+pub record HasEnded (H : Fact → Type 0) (L : Layout) (s : Spot) (c : List ChainEdge) : Type 0 where
   pub at : IsAt H s c
   pub leaf : H (KnowsLeaf s.edge.slot)
-  pub within : s.edge.slot ≤ nodes
+  pub within : s.edge.slot ≤ L.nodes
 
 -- each kind of walk that the call has came so to the slot
 abbrev pub EachWalkHasCome : Stand → Stand → ℕ → Spot → Type 0
@@ -165,33 +170,33 @@ pub record IsFinding (k n : ℕ) (o p : Stand) (s : Spot) : Type 0 where
 
 -- the part of a walk that goes by unmarked edges alone: it has ended, or stands after so many
 -- nodes, which are not yet all
-abbrev pub HasDescended : ℕ → ℕ → Stand → Stand → Descent → Type 0
-HasDescended nodes k o p (Ended r) = Finds nodes k o.view.log p.view.log (Some r.key)
+abbrev pub HasDescended : Layout → ℕ → Stand → Stand → Descent → Type 0
+HasDescended L k o p (Ended r) = Finds L k o.view.log p.view.log (Some r.key)
     × HasFound o p k r.spot.edge.slot r.spot.parent r.spot.side r.key
-HasDescended nodes k o p (Stopped s n) = IsFinding k n o p s × (n + 1 ≤ nodes)
+HasDescended L k o p (Stopped s n) = IsFinding k n o p s × (n + 1 ≤ reach L)
 
 -- ---- a walk that remembers its chain, with what is known where it stands
 
 -- in a table of so many nodes it stands at s, n nodes below slot 2
-pub record IsWalking (nodes k n : ℕ) (o p : Stand) (s : Spot) (c : List ChainEdge) : Type 0 where
+pub record IsWalking (L : Layout) (k n : ℕ) (o p : Stand) (s : Spot) (c : List ChainEdge) : Type 0 where
   pub walk : Walks k n o.view.log p.view.log s c
   pub at : IsAt (Tells p) s c
-  pub within : s.edge.slot ≤ nodes
+  pub within : s.edge.slot ≤ L.nodes
   pub short : length c < chain_bound
   pub on : GoesOn o p
   pub only : OnlyLooks o p
   pub come : EachWalkHasCome o p k s
 
 -- or it has ended, at a leaf above slot 5 where its key is below the sentinels
-pub record HasWalked (nodes k : ℕ) (o p : Stand) (c : List ChainEdge) (r : End) : Type 0 where
-  pub walk : EndsAtLeaf nodes k o.view.log p.view.log r.spot c r.key
-  pub ended : HasEnded (Tells p) nodes r.spot c
+pub record HasWalked (L : Layout) (k : ℕ) (o p : Stand) (c : List ChainEdge) (r : End) : Type 0 where
+  pub walk : EndsAtLeaf L k o.view.log p.view.log r.spot c r.key
+  pub ended : HasEnded (Tells p) L r.spot c
   pub few : length c < chain_bound
   pub high : r.key < infinity_0 → 6 ≤ r.spot.edge.slot
   pub found : HasFound o p k r.spot.edge.slot r.spot.parent r.spot.side r.key
 
 -- the part of it that goes by unmarked edges alone, so that its chain is empty: it has ended, or
 -- stands after so many nodes, which are not yet all
-abbrev pub HasRemembered : ℕ → ℕ → Stand → Stand → Descent → Type 0
-HasRemembered nodes k o p (Ended r) = HasWalked nodes k o p [] r
-HasRemembered nodes k o p (Stopped s n) = IsWalking nodes k n o p s [] × (n + 1 ≤ nodes)
+abbrev pub HasRemembered : Layout → ℕ → Stand → Stand → Descent → Type 0
+HasRemembered L k o p (Ended r) = HasWalked L k o p [] r
+HasRemembered L k o p (Stopped s n) = IsWalking L k n o p s [] × (n + 1 ≤ reach L)

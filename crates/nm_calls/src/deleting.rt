@@ -114,11 +114,11 @@ fn try_remove(
     requires room { cut_bound ≤ queue.old.spare }
     requires kept { HoldsCuts pass.old queue.old workspace.old.splices }
     ensures removed { result ≡ true
-        → Removes shared.now.layout.nodes pending.now.key pending.now.leaf pass.old.view.log
+        → Removes shared.now.layout pending.now.key pending.now.leaf pass.old.view.log
         pass.new.view.log }
     ensures shows { result ≡ true → ShowsAnswer pass.new Delete pending.now.key true }
     ensures lost { result ≡ false
-        → RemovesNothing shared.now.layout.nodes pending.now.key pending.now.leaf
+        → RemovesNothing shared.now.layout pending.now.key pending.now.leaf
         pass.old.view.log pass.new.view.log }
     ensures on { GoesOn pass.old pass.new }
     ensures only { OnlyCleans pass.old pass.new }
@@ -148,7 +148,7 @@ fn remove(
     requires own { IsOf shared.now pass.old }
     requires removing { IsRemoving pass.old pending.now.key pending.now.leaf }
     requires kept { HoldsCuts pass.old queue.old workspace.old.splices }
-    ensures part { IsRemoval shared.now.layout.nodes pending.now.key pending.now.leaf tries
+    ensures part { IsRemoval shared.now.layout pending.now.key pending.now.leaf tries
         pass.old.view.log pass.new.view.log result }
     ensures refused { result ≡ Removal.Refused → queue.new.spare < cut_bound }
     ensures shows { IfRemoved result (ShowsAnswer pass.new Delete pending.now.key true) }
@@ -202,7 +202,7 @@ fn try_flag(
     requires unflagged { (search pass.old).flagged ≡ None }
     requires room { cut_bound ≤ queue.old.spare }
     requires kept { HoldsCuts pass.old queue.old workspace.old.splices }
-    ensures part { IsFlagTry shared.now.layout.nodes key workspace.new.chain.items pass.old.view.log
+    ensures part { IsFlagTry shared.now.layout key workspace.new.chain.items pass.old.view.log
         pass.new.view.log result }
     ensures shows { ShowsFlag key workspace.new.chain.items pass.old pass.new result }
     ensures on { GoesOn pass.old pass.new }
@@ -241,7 +241,7 @@ fn inject(
     requires unflagged { (search pass.old).flagged ≡ None }
     requires room { cut_bound ≤ queue.old.spare }
     requires kept { HoldsCuts pass.old queue.old workspace.old.splices }
-    ensures part { IsInjection shared.now.layout.nodes key tries workspace.new.chain.items
+    ensures part { IsInjection shared.now.layout key tries workspace.new.chain.items
         pass.old.view.log pass.new.view.log result }
     ensures refused { result ≡ Injection.Refused → queue.new.spare < cut_bound }
     ensures shows { ShowsInjection key workspace.new.chain.items pass.new result }
@@ -284,7 +284,7 @@ fn remove_after(
     requires at { IsAt (Tells pass.old) flagged.now.end.spot workspace.old.chain.items }
     requires few { length workspace.old.chain.items < chain_bound }
     requires kept { HoldsCuts pass.old queue.old workspace.old.splices }
-    ensures part { RemovalAfter shared.now.layout.nodes key flagged.now
+    ensures part { RemovalAfter shared.now.layout key flagged.now
         workspace.old.chain.items pass.old.view.log pass.new.view.log result }
     ensures refused { result ≡ Removal.Refused → queue.new.spare < cut_bound }
     ensures shows { IfRemoved result (ShowsAnswer pass.new Delete key true) }
@@ -334,10 +334,10 @@ fn delete_pinned(
     requires room { cut_bound ≤ queue.old.spare }
     requires kept { HoldsCuts pass.old queue.old workspace.old.splices }
     ensures on { Continues pass.old pass.new }
-    ensures part { DeleteFinishes shared.now.layout.nodes tries key pass.old.view.log
+    ensures part { DeleteFinishes shared.now.layout tries key pass.old.view.log
         pass.new.view.log result }
     ensures refused { IfErr result
-        (LacksRoomOr (λ n. FlagsThen shared.now.layout.nodes tries key n pass.old.view.log
+        (LacksRoomOr (λ n. FlagsThen shared.now.layout tries key n pass.old.view.log
         pass.new.view.log Removal.Spent) queue.new.spare) }
     ensures moment { (o : Stand) → HadNoCall o pass.old
         → IfOk result (AnswerHasMoment o pass.new Delete key) }
@@ -381,7 +381,8 @@ fn delete_pinned(
 /// each try, that of the first one before the pin, in the fewest blocks, and no other memory is
 /// taken.
 ///
-/// At most `tries` * (4 `nodes` + 512) + 6 `nodes` + 10 steps. `Ok(true)` and `Unfinished`: just
+/// At most `tries` * (4 `reach` + 512) + 10 steps, where a walk's reach is 66 nodes in a radix tree,
+/// and else as many as there are. `Ok(true)` and `Unfinished`: just
 /// one flag was won, and no link; else neither. (The delete of Natarajan and Mittal, section 3.2.)
 pub fn delete(
     shared: &Shared,
@@ -395,9 +396,9 @@ pub fn delete(
     requires rests { IsResting pass.old }
     requires kept { HoldsCuts pass.old queue.old workspace.old.splices }
     requires few { length queue.old.items ≤ shared.now.layout.nodes }
-    ensures after { AfterDelete shared.now.layout.nodes tries key pass.old pass.new result }
+    ensures after { AfterDelete shared.now.layout tries key pass.old pass.new result }
     ensures refused { IfErr result
-        (LacksRoomOr (LosesAfterFlag shared.now.layout.nodes tries key pass.old.view.log
+        (LacksRoomOr (LosesAfterFlag shared.now.layout tries key pass.old.view.log
         pass.new.view.log) queue.new.spare) }
     ensures kept { HoldsCuts pass.new queue.new workspace.new.splices }
     ensures blocks { TakesRoom queue.old queue.new }
@@ -419,7 +420,7 @@ pub fn delete(
 
 /// Goes on to remove the leaf that the worker has flagged: whether it is cut off, and the worker
 /// rests. Else it stays pinned. Room for a cleanup is made before each try, in the fewest blocks,
-/// and no other memory is taken. At most `tries` * (4 `nodes` + 512) + 6 `nodes` + 10 steps; no
+/// and no other memory is taken. At most `tries` * (4 `reach` + 512) + 10 steps, as of `delete`; no
 /// link and no flag is won.
 pub fn finish(
     shared: &Shared,
@@ -432,11 +433,11 @@ pub fn finish(
     requires own { IsOf shared.now pass.old }
     requires removing { IsRemoving pass.old pending.now.key pending.now.leaf }
     requires kept { HoldsCuts pass.old queue.old workspace.old.splices }
-    ensures after { AfterFinish shared.now.layout.nodes pending.now.key pending.now.leaf tries
+    ensures after { AfterFinish shared.now.layout pending.now.key pending.now.leaf tries
         pass.old pass.new result }
     ensures refused { result ≡ false
         → (queue.new.spare < cut_bound)
-        ⊎ LosesEachTry shared.now.layout.nodes pending.now.key pending.now.leaf tries
+        ⊎ LosesEachTry shared.now.layout pending.now.key pending.now.leaf tries
         pass.old.view.log pass.new.view.log }
     ensures kept { HoldsCuts pass.new queue.new workspace.new.splices }
     ensures blocks { TakesRoom queue.old queue.new }

@@ -1,13 +1,13 @@
 //! The two new nodes of an insert: claimed, filled and linked, or given back.
-ghost use Rattle.std.specs.Prelude.{◌≡◌, None, IfOk, IfErr};
+ghost use Rattle.std.specs.Prelude.{◌≡◌, ◌≢◌, None, IfOk, IfErr};
 ghost use Rattle.nm_steps.specs.Steps.{IsOf, Stand};
 ghost use Rattle.nm_calls.specs.Telling.{GoesOn, IsInRun, IsPinnedIn};
-ghost use Rattle.nm_calls.specs.Making.{OnlyMakes};
+ghost use Rattle.nm_calls.specs.Making.{IsRouter, OnlyMakes};
 ghost use Rattle.nm_calls.specs.Inserts.{ClaimsFork, HasFork, IfReady, Returns, inner_of, MayGrow, KeepsCall, HasGrown, HasNotGrown};
 
 use crate::making::{Contents, Fork, claim, fill, give, link};
 use crate::spot::End;
-use nm_edge::Edge;
+use nm_edge::{Edge, parting};
 use nm_pool::Placement;
 use nm_steps::{Pass, Shared};
 
@@ -39,18 +39,22 @@ pub(crate) fn claim_fork(
 }
 
 /// The new internal node over a leaf with key `other` and a new leaf with another key.
-fn node_over(key: u64, other: u64, leaf: u32, fresh: u32) -> Contents
-    ensures { result ≡ inner_of key other leaf fresh }
+fn node_over(radix: bool, key: u64, other: u64, leaf: u32, fresh: u32) -> Contents
+    requires apart { other ≢ key }
+    ensures key { IsRouter radix key other result.key }
+    ensures node { result ≡ inner_of key other result.key leaf fresh }
 {
+    let greater = if key < other { other } else { key };
+    let router = if radix { parting(key, other) } else { greater };
     if key < other {
         Contents {
-            key: other,
+            key: router,
             left: fresh,
             right: leaf,
         }
     } else {
         Contents {
-            key,
+            key: router,
             left: leaf,
             right: fresh,
         }
@@ -70,11 +74,14 @@ pub(crate) fn grow(
     requires may { MayGrow pass.old key end.now fork.now }
     ensures on { GoesOn pass.old pass.new }
     ensures call { KeepsCall pass.old pass.new }
-    ensures won { IfOk result (λ _. HasGrown pass.old pass.new key end.now fork.now) }
-    ensures lost { IfErr result (λ e. HasNotGrown pass.old pass.new key end.now fork.now e) }
+    ensures won { IfOk result (λ _. HasGrown shared.now.layout.radix pass.old pass.new key end.now
+        fork.now) }
+    ensures lost { IfErr result (λ e. HasNotGrown shared.now.layout.radix pass.old pass.new key
+        end.now fork.now e) }
 {
     let leaf = end.spot.edge.slot();
-    let node = node_over(key, end.key, leaf, fork.fresh.slot);
+    let radix = shared.layout().is_radix();
+    let node = node_over(radix, key, end.key, leaf, fork.fresh.slot);
     fill(shared, pass, fork.new.slot, &node);
     let alone = Contents {
         key,

@@ -1,11 +1,14 @@
 //! Inserts.
-ghost use Rattle.std.specs.Prelude.{◌≡◌, ◌<◌, ◌≤◌, ◌*◌, true, false, length, None, IfOk, IsErrOf};
+ghost use Rattle.std.specs.Prelude.{◌≡◌, ◌<◌, ◌≤◌, ◌*◌, true, false, length, None, IfOk, IfSome, IsErrOf};
+ghost use Rattle.nm_edge.specs.Keys.{IsKey};
 ghost use Rattle.nm_model.specs.declared.event.Op.TheVariants.{Insert};
 ghost use Rattle.nm_steps.specs.Steps.{Stand, IsOf, Continues};
 ghost use Rattle.nm_epoch.specs.Resting.{IsResting, search};
 ghost use Rattle.nm_calls.specs.Bounds.{chain_bound, cut_bound};
 ghost use Rattle.nm_calls.specs.Rooms.{FillsUp, TakesRoom};
-ghost use Rattle.nm_calls.specs.Telling.{Tells, GoesOn, IsInRun, IsPinnedIn};
+ghost use Rattle.nm_calls.specs.Telling.{Tells, GoesOn, OnlyLooks, IsInRun, IsPinnedIn};
+ghost use Rattle.nm_order.specs.Facts.Fact.{KnowsSlot};
+ghost use Rattle.nm_calls.specs.Places.{HasPlace, HasStopped, Stops};
 ghost use Rattle.nm_calls.specs.Walks.{IsAt};
 ghost use Rattle.nm_calls.specs.Making.{OnlyMakes};
 ghost use Rattle.nm_calls.specs.Moments.{AnswerHasMoment, HadNoCall};
@@ -17,8 +20,8 @@ use crate::cleaning::cleanup;
 use crate::growing::{claim_fork, give_back, grow};
 use crate::leaving::{answer, leave};
 use crate::making::Fork;
-use crate::spot::{End, is_marked};
-use crate::walking::seek;
+use crate::spot::{Chain, End, is_marked};
+use crate::walking::{place, seek};
 use crate::workspace::{CUT_BOUND, Workspace};
 use nm_edge::{Edge, Key};
 use nm_epoch::{Entry, pin_for};
@@ -112,6 +115,29 @@ pub(crate) fn help(
     }
 }
 
+/// The walk of an insert, by the shape of the tree.
+#[inline(always)]
+fn stop(shared: &Shared, pass: &mut Pass, key: u64, chain: &mut Chain) -> Option<End>
+    requires pinned { IsPinnedIn shared.now pass.old }
+    requires root { Tells pass.old (KnowsSlot 1) }
+    requires known { Tells pass.old (KnowsSlot 2) }
+    requires key { IsKey key }
+    ensures walk { Stops shared.now.layout key pass.old.view.log pass.new.view.log
+        chain.new.items result }
+    ensures came { IfSome result
+        (HasStopped shared.now.layout key pass.old pass.new chain.new.items) }
+    ensures place { IfSome result
+        (HasPlace shared.now.layout.radix pass.old pass.new key) }
+    ensures on { GoesOn pass.old pass.new }
+    ensures only { OnlyLooks pass.old pass.new }
+{
+    if shared.layout().is_radix() {
+        place(shared, pass, key, chain)
+    } else {
+        seek(shared, pass, key, chain)
+    }
+}
+
 /// One try of an insert: a walk, and a link where the leaf has another key, with at most one
 /// cleanup of help where the link is lost.
 fn try_insert(
@@ -128,7 +154,7 @@ fn try_insert(
     requires room { cut_bound ≤ queue.old.spare }
     requires kept { HoldsCuts pass.old queue.old workspace.old.splices }
     requires fork { (o : Stand) × HasFork o pass.old fork.old }
-    ensures part { IsTry workspace.old.placement shared.now.layout.nodes key fork.old fork.new
+    ensures part { IsTry workspace.old.placement shared.now.layout key fork.old fork.new
         pass.old.view.log pass.new.view.log result }
     ensures on { GoesOn pass.old pass.new }
     ensures only { OnlyTries pass.old pass.new }
@@ -138,7 +164,7 @@ fn try_insert(
     ensures fills { FillsUp queue.old queue.new }
     ensures fit { workspace.new.placement ≡ workspace.old.placement }
 {
-    let Some(end) = seek(shared, pass, key, &mut workspace.chain) else {
+    let Some(end) = stop(shared, pass, key, &mut workspace.chain) else {
         return Attempt::Lost;
     };
     if end.key == key {
@@ -201,7 +227,7 @@ fn insert_pinned(
     requires room { cut_bound ≤ queue.old.spare }
     requires kept { HoldsCuts pass.old queue.old workspace.old.splices }
     ensures on { Continues pass.old pass.new }
-    ensures part { Finishes workspace.old.placement shared.now.layout.nodes tries key
+    ensures part { Finishes workspace.old.placement shared.now.layout tries key
         pass.old.view.log pass.new.view.log result }
     ensures refused { IsErrOf result Fault.NoMemory → queue.new.spare < cut_bound }
     ensures moment { (o : Stand) → HadNoCall o pass.old
@@ -248,7 +274,8 @@ fn insert_pinned(
 ///
 /// A try is a walk with its answer, or a link with at most one cleanup of help. Room for a cleanup
 /// is made before each try, that of the first one before the pin, in the fewest blocks, and no
-/// other memory is taken. At most `tries` * (4 `nodes` + 512) + 6 `nodes` + 10 steps. `Ok(true)`:
+/// other memory is taken. At most `tries` * (4 `reach` + 512) + 6 `nodes` + 10 steps, where a
+/// walk's reach is 66 nodes in a radix tree, and else as many as there are. `Ok(true)`:
 /// just one link was won, and no flag; else neither. New nodes are claimed in the order of the
 /// workspace's placement, which stays of its fit. (The insert of Natarajan and Mittal, section
 /// 3.2.)
@@ -264,7 +291,7 @@ pub fn insert(
     requires rests { IsResting pass.old }
     requires kept { HoldsCuts pass.old queue.old workspace.old.splices }
     requires few { length queue.old.items ≤ shared.now.layout.nodes }
-    ensures after { AfterInsert workspace.old.placement shared.now.layout.nodes tries key pass.old
+    ensures after { AfterInsert workspace.old.placement shared.now.layout tries key pass.old
         pass.new result }
     ensures refused { IsErrOf result Fault.NoMemory → queue.new.spare < cut_bound }
     ensures kept { HoldsCuts pass.new queue.new workspace.new.splices }

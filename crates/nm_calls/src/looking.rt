@@ -6,7 +6,7 @@ ghost use Rattle.nm_model.specs.declared.reply.Reply.TheVariants.{KeyIs, EdgeIs,
 ghost use Rattle.nm_order.specs.Facts.Fact.{KnowsSlot, IsBorn};
 ghost use Rattle.nm_steps.specs.Steps.{Stepped};
 ghost use Rattle.nm_calls.specs.Telling.{Tells, GoesOn, OnlyLooks, EdgeTold, KeyTold, OnwardTold, IsPinnedIn};
-ghost use Rattle.nm_calls.specs.Walks.{Reads, edge_on};
+ghost use Rattle.nm_calls.specs.Walks.{IsLeafRead, Reads, edge_on};
 
 use crate::spot::side_at;
 use nm_edge::{Edge, Layout, Side};
@@ -65,6 +65,7 @@ pub(crate) fn read_node(
     requires pinned { IsPinnedIn shared.now pass.old }
     requires known { Tells pass.old (KnowsSlot slot) }
     ensures looks { Reads key slot pass.old.view.log pass.new.view.log result }
+    ensures leaf { IsLeafRead slot pass.old.view.log pass.new.view.log result }
     ensures within { result.next.slot ≤ shared.now.layout.nodes }
     ensures on { GoesOn pass.old pass.new }
     ensures only { OnlyLooks pass.old pass.new }

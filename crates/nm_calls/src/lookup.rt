@@ -20,13 +20,15 @@ pub struct Busy;
 /// Whether the set has the key, by the key of the leaf at which the walk for it ends, flagged or
 /// not. The worker rests before and after. `Err`: `tries` is 0, and there was no step; or the pin
 /// was lost in each of `tries` tries; or each of `tries` walks had looked at as many nodes as there
-/// are, and none had ended. At most `tries` * (4 `nodes` + 512) + 6 `nodes` + 10 steps. (The search
-/// of Natarajan and Mittal, section 3.2.)
+/// are, and none had ended, as it never is in a radix tree: so there a look-up whose pin stands is
+/// answered, whatever others do. At most `tries` * (4 `reach` + 512) + 10 steps, where a walk's reach
+/// is 66 nodes in a radix tree, and else as many as there are. (The search of Natarajan and Mittal,
+/// section 3.2.)
 #[inline(always)]
 pub fn has(shared: &Shared, pass: &mut Pass, key: Key, tries: u32) -> Result<bool, Busy>
     requires own { IsOf shared.now pass.old }
     requires rests { IsResting pass.old }
-    ensures { AfterHas shared.now.layout.nodes tries key pass.old pass.new result }
+    ensures { AfterHas shared.now.layout tries key pass.old pass.new result }
 {
     if tries == 0 {
         return Err(Busy);

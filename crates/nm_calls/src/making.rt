@@ -4,7 +4,7 @@ ghost use Rattle.nm_model.specs.declared.event.Event.TheVariants.{Give};
 ghost use Rattle.nm_model.specs.declared.reply.Reply.TheVariants.{Returned};
 ghost use Rattle.nm_model.specs.Knowledge.{is_private};
 ghost use Rattle.nm_model.specs.Maps.{get};
-ghost use Rattle.nm_order.specs.Facts.Fact.{KnowsSlot, KnowsLeaf};
+ghost use Rattle.nm_order.specs.Facts.Fact.{KnowsSlot};
 ghost use Rattle.nm_order.specs.Hands.{IsPooled};
 ghost use Rattle.nm_order.specs.Told.{IsNew};
 ghost use Rattle.nm_pool.specs.Claims.{IsClaimBy, IsNewNode};
@@ -108,7 +108,6 @@ pub fn link(shared: &Shared, pass: &mut Pass, spot: &Spot, fork: &Fork) -> Resul
     requires pinned { IsPinnedIn shared.now pass.old }
     requires parent { Tells pass.old (KnowsSlot spot.now.parent) }
     requires known { Tells pass.old (KnowsSlot spot.now.edge.slot) }
-    requires leaf { Tells pass.old (KnowsLeaf spot.now.edge.slot) }
     requires inserts { IsInserting pass.old spot.now.parent spot.now.side spot.now.edge.slot
         fork.now.new.slot fork.now.fresh.slot }
     ensures on { GoesOn pass.old pass.new }

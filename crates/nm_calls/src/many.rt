@@ -1,14 +1,17 @@
 //! Look-ups of several keys under one pin, whose walks go on in turns.
-ghost use Rattle.std.specs.Prelude.{◌≡◌, ◌*◌, length, map, true, All};
+ghost use Rattle.std.specs.Prelude.{◌≡◌, ◌≢◌, ◌<◌, ◌+◌, ◌*◌, ℕ, length, map, true, false, All};
+ghost use Rattle.std.specs.List.{HoldsAt};
 ghost use Rattle.nm_edge.specs.Keys.{IsKey};
 ghost use Rattle.nm_order.specs.Facts.Fact.{KnowsSlot};
 ghost use Rattle.nm_steps.specs.Steps.{IsOf};
 ghost use Rattle.nm_epoch.specs.Resting.{IsResting};
-ghost use Rattle.nm_calls.specs.InTurns.{AddsLooks, HasBegun, IsUnderWay, key_of, most_looks, query_read, AfterHasMany};
+ghost use Rattle.nm_calls.specs.InTurns.{AddsLooks, GiveUp, HasBegun, IsUnderWay, key_of, most_looks, query_read, AfterHasMany};
+ghost use Rattle.nm_calls.specs.Bounds.{reach};
 ghost use Rattle.nm_calls.specs.Telling.{Tells, GoesOn, OnlyLooks, IsPinnedIn};
 
 use crate::looking::{Onward, look_edge, read_node};
 use crate::lookup::Busy;
+use crate::walking::reach;
 use nm_edge::{Key, Layout, Side};
 use nm_epoch::{pin, unpin};
 use nm_steps::{Pass, Shared};
@@ -43,8 +46,9 @@ impl Query {
 ///
 /// The worker rests before and after. `Err`: `tries` is 0, and there was no step; or the pin was
 /// lost in each of `tries` tries; or one of the walks had looked at as many nodes as there are, and
-/// had not ended. Then no `found` means anything. The keys stay. At most 3 `tries` + 3 steps, and 3
-/// `nodes` for each key. (The search of Natarajan and Mittal, section 3.2.)
+/// had not ended, as it never is in a radix tree. Then no `found` means anything. The keys stay. At
+/// most 3 `tries` + 3 steps, and 3 `reach` for each key, where a walk's reach is 66 nodes in a radix
+/// tree, and else as many as there are. (The search of Natarajan and Mittal, section 3.2.)
 pub fn has_many(
     shared: &Shared,
     pass: &mut Pass,
@@ -53,7 +57,7 @@ pub fn has_many(
 ) -> Result<(), Busy>
     requires own { IsOf shared.now pass.old }
     requires rests { IsResting pass.old }
-    ensures { AfterHasMany shared.now.layout.nodes tries queries.old queries.new pass.old
+    ensures { AfterHasMany shared.now.layout tries queries.old queries.new pass.old
         pass.new result }
 {
     if tries == 0 {
@@ -69,15 +73,17 @@ pub fn has_many(
     if ended { Ok(()) } else { Err(Busy) }
 }
 
-/// Walks for each of these keys, in turns, until all walks have ended. False where they have taken
-/// as many turns as there are nodes.
+/// Walks for each of these keys, in turns, until all walks have ended. False where one of them has
+/// looked at as many nodes as there are, as none of a radix tree does.
 fn walk_all(shared: &Shared, pass: &mut Pass, queries: &mut [Query]) -> bool
     requires pinned { IsPinnedIn shared.now pass.old }
     requires known { Tells pass.old (KnowsSlot 2) }
-    ensures looks { AddsLooks (most_looks shared.now.layout.nodes (length queries.old))
+    ensures looks { AddsLooks (most_looks (reach shared.now.layout) (length queries.old))
         pass.old.view.log pass.new.view.log }
-    ensures under_way { All (IsUnderWay pass.new) queries.new }
+    ensures under_way { All (IsUnderWay 0 pass.new) queries.new }
     ensures ended { result ≡ true → All (λ q. q.node ≡ 0) queries.new }
+    ensures given_up { result ≡ false → GiveUp shared.now.layout (map key_of queries.old)
+        pass.old.view.log pass.new.view.log }
     ensures keys { map key_of queries.new ≡ map key_of queries.old }
     ensures on { GoesOn pass.old pass.new }
     ensures only { OnlyLooks pass.old pass.new }
@@ -86,13 +92,13 @@ fn walk_all(shared: &Shared, pass: &mut Pass, queries: &mut [Query]) -> bool
     let layout = shared.layout();
     let first = look_edge(shared, layout, pass, 2, Side::Left).slot();
     begin_each(queries, first);
-    for _turn in 0..layout.nodes() {
-        take_turns(shared, layout, pass, queries);
+    for _turn in 0..reach(layout) - 1 {
         if have_ended(queries) {
             return true;
         }
+        take_turns(shared, layout, pass, queries);
     }
-    false
+    have_ended(queries)
 }
 
 /// Begins a walk for each of these keys, which reads this node first.
@@ -110,9 +116,10 @@ fn begin_each(queries: &mut [Query], first: u32)
 fn take_turns(shared: &Shared, layout: Layout, pass: &mut Pass, queries: &mut [Query])
     requires layout { layout ≡ shared.now.layout }
     requires pinned { IsPinnedIn shared.now pass.old }
-    requires under_way { All (IsUnderWay pass.old) queries.old }
+    requires under_way { All (IsUnderWay 0 pass.old) queries.old }
     ensures looks { AddsLooks (3 * length queries.old) pass.old.view.log pass.new.view.log }
-    ensures under_way { All (IsUnderWay pass.new) queries.new }
+    ensures under_way { (n : ℕ) → All (IsUnderWay n pass.old) queries.old
+        → All (IsUnderWay (n + 1) pass.new) queries.new }
     ensures keys { map key_of queries.new ≡ map key_of queries.old }
     ensures on { GoesOn pass.old pass.new }
     ensures only { OnlyLooks pass.old pass.new }
@@ -126,9 +133,10 @@ fn take_turns(shared: &Shared, layout: Layout, pass: &mut Pass, queries: &mut [Q
 fn take_turn(shared: &Shared, layout: Layout, pass: &mut Pass, query: &mut Query)
     requires layout { layout ≡ shared.now.layout }
     requires pinned { IsPinnedIn shared.now pass.old }
-    requires under_way { IsUnderWay pass.old query.old }
+    requires under_way { IsUnderWay 0 pass.old query.old }
     ensures looks { AddsLooks 3 pass.old.view.log pass.new.view.log }
-    ensures under_way { IsUnderWay pass.new query.new }
+    ensures under_way { (n : ℕ) → IsUnderWay n pass.old query.old
+        → IsUnderWay (n + 1) pass.new query.new }
     ensures key { query.new.key ≡ query.old.key }
     ensures on { GoesOn pass.old pass.new }
     ensures only { OnlyLooks pass.old pass.new }
@@ -165,7 +173,9 @@ fn begun_at(query: &Query, first: u32) -> Query
 
 /// Whether no walk has a node to read.
 fn have_ended(queries: &[Query]) -> bool
-    ensures { result ≡ true → All (λ q. q.node ≡ 0) queries.now }
+    ensures ended { result ≡ true → All (λ q. q.node ≡ 0) queries.now }
+    ensures goes_on { result ≡ false
+        → (i : ℕ) × (i < length queries.now) × HoldsAt (λ q. q.node ≢ 0) queries.now i }
 {
     queries.iter().all(|query| query.node == 0)
 }

@@ -1,22 +1,26 @@
 //! The next key of a set that is in use.
-ghost use Rattle.std.specs.Prelude.{◌≡◌, ◌<◌, ◌≤◌, ◌*◌, ℕ, IfOk};
+ghost use Rattle.std.specs.Prelude.{◌≡◌, ◌<◌, ◌≤◌, ◌*◌, ◌≢◌, ℕ, IfOk, IfErr};
 ghost use Rattle.nm_edge.specs.Keys.{IsKey};
 ghost use Rattle.nm_model.specs.Searches.{side_of};
 ghost use Rattle.nm_order.specs.Facts.Fact.{KnowsSlot};
 ghost use Rattle.nm_steps.specs.Steps.{IsOf};
 ghost use Rattle.nm_epoch.specs.Resting.{IsResting};
-ghost use Rattle.nm_calls.specs.NextKeys.{IsDescent, IsNextBy, read_below, AfterNext};
+ghost use Rattle.nm_calls.specs.NextKeys.{GiveUp, IsDescent, IsNextBy, read_below, AfterNext};
 ghost use Rattle.nm_calls.specs.PlainWalks.{AddsLooks, HasEndedSo, most_looks};
+ghost use Rattle.nm_calls.specs.Bounds.{reach};
 ghost use Rattle.nm_calls.specs.Telling.{Tells, GoesOn, OnlyLooks, IsPinnedIn};
+ghost use Rattle.nm_calls.specs.Walks.{IsTooLong};
 
 use crate::looking::{Onward, look_edge, read_node};
 use crate::lookup::Busy;
+use crate::spot::is_null;
+use crate::walking::reach;
 use nm_edge::{INFINITY_0, Key, Side};
 use nm_epoch::{pin, unpin};
 use nm_steps::{Pass, Shared};
 
-/// A walk for each key from `from` on that is below `bound`, the least key of those nodes at which
-/// it went left: such keys turn to the same side at each of its nodes.
+/// A walk for each key from `from` on that is below `bound`, the least key of those internal nodes at
+/// which it went left: such keys turn to the same side at each of these nodes.
 #[derive(Clone, Copy, Debug)]
 struct Descent {
     from: u64,
@@ -34,17 +38,18 @@ struct Descent {
 /// consistent, as the iterators of Java's `ConcurrentSkipListSet`.
 ///
 /// A walk for `key` tells whether the set has a key from there on below the least key of those
-/// nodes at which it went left; where it has none, the next walk is for that bound. In a tree at
-/// rest two walks are enough, which no clause tells.
+/// internal nodes at which it went left; where it has none, the next walk is for that bound.
 ///
 /// The worker rests before and after. `Err`: `tries` is 0, and there was no step; or the pin was
-/// lost in each of `tries` tries; or a walk had looked at as many nodes as there are, and had not
-/// ended; or `tries` walks were not enough. At most `tries` * (3 `nodes` + 4) + 2 steps. (The
-/// search of Natarajan and Mittal, section 3.2.)
+/// lost in each of `tries` tries; or each of `tries` walks has ended with no key, the next one
+/// beginning where its keys end; or a walk had looked at as many nodes as there are, and had not
+/// ended, as it never is in a radix tree. At most `tries` * (3 `reach` + 4) + 2 steps, where a walk's
+/// reach is 66 nodes in a radix tree, and else as many as there are. (The search of Natarajan and
+/// Mittal, section 3.2.)
 pub fn next(shared: &Shared, pass: &mut Pass, key: Key, tries: u32) -> Result<Option<Key>, Busy>
     requires own { IsOf shared.now pass.old }
     requires rests { IsResting pass.old }
-    ensures { AfterNext shared.now.layout.nodes tries key pass.old pass.new result }
+    ensures { AfterNext shared.now.layout tries key pass.old pass.new result }
 {
     if tries == 0 {
         return Err(Busy);
@@ -65,9 +70,11 @@ fn walk_up(shared: &Shared, pass: &mut Pass, key: u64, tries: u32) -> Result<Opt
     requires pinned { IsPinnedIn shared.now pass.old }
     requires known { Tells pass.old (KnowsSlot 2) }
     requires key { IsKey key }
-    ensures looks { AddsLooks (tries * most_looks shared.now.layout.nodes 1) pass.old.view.log
+    ensures looks { AddsLooks (tries * most_looks (reach shared.now.layout) 1) pass.old.view.log
         pass.new.view.log }
     ensures next { IfOk result (IsNextBy (HasEndedSo pass.new) key) }
+    ensures given_up { IfErr result
+        (λ e. GiveUp shared.now.layout tries key pass.old.view.log pass.new.view.log) }
     ensures on { GoesOn pass.old pass.new }
     ensures only { OnlyLooks pass.old pass.new }
 {
@@ -88,15 +95,17 @@ fn walk_up(shared: &Shared, pass: &mut Pass, key: u64, tries: u32) -> Result<Opt
     Err(Busy)
 }
 
-/// The walk for a key and those above it that go the same way, to its end, or until it has read as
-/// many nodes as there are.
+/// The walk for a key and those above it that go the same way, to its end, or until it has looked at
+/// as many nodes as there are, as none of a radix tree does.
 fn walk_down(shared: &Shared, pass: &mut Pass, from: u64) -> Descent
     requires pinned { IsPinnedIn shared.now pass.old }
     requires known { Tells pass.old (KnowsSlot 2) }
     requires key { IsKey from }
-    ensures looks { AddsLooks (most_looks shared.now.layout.nodes 1) pass.old.view.log
+    ensures looks { AddsLooks (most_looks (reach shared.now.layout) 1) pass.old.view.log
         pass.new.view.log }
-    ensures under_way { IsDescent pass.new result }
+    ensures under_way { (n : ℕ) × IsDescent shared.now.layout n pass.old pass.new result }
+    ensures long { result.node ≢ 0
+        → IsTooLong shared.now.layout from pass.old.view.log pass.new.view.log }
     ensures from { result.from ≡ from }
     ensures on { GoesOn pass.old pass.new }
     ensures only { OnlyLooks pass.old pass.new }
@@ -109,7 +118,7 @@ fn walk_down(shared: &Shared, pass: &mut Pass, from: u64) -> Descent
         node: first,
         found: 0,
     };
-    for _node in 0..layout.nodes() {
+    for _node in 0..reach(layout) - 1 {
         if walk.node == 0 {
             return walk;
         }
@@ -124,18 +133,32 @@ fn read_so(walk: &Descent, on: &Onward) -> Descent
     ensures walk { result ≡ read_below walk.now result.bound on.now }
     ensures low { result.bound ≤ walk.now.bound }
     ensures wide { walk.now.from < walk.now.bound → walk.now.from < result.bound }
-    ensures turns { (j : ℕ) → walk.now.from ≤ j → j < result.bound
+    ensures turns { on.now.next.slot ≢ 0 → (j : ℕ) → walk.now.from ≤ j → j < result.bound
         → side_of j on.now.found ≡ side_of walk.now.from on.now.found }
 {
-    let bound = if walk.from < on.found && on.found < walk.bound {
-        on.found
-    } else {
+    let bound = if is_null(on.next) {
         walk.bound
+    } else {
+        bound_at(walk, on.found)
     };
     Descent {
         from: walk.from,
         bound,
         node: on.next.slot(),
         found: on.found,
+    }
+}
+
+/// The bound of a walk behind an internal node with this key.
+fn bound_at(walk: &Descent, router: u64) -> u64
+    ensures low { result ≤ walk.now.bound }
+    ensures wide { walk.now.from < walk.now.bound → walk.now.from < result }
+    ensures turns { (j : ℕ) → walk.now.from ≤ j → j < result
+        → side_of j router ≡ side_of walk.now.from router }
+{
+    if walk.from < router && router < walk.bound {
+        router
+    } else {
+        walk.bound
     }
 }

@@ -43,7 +43,8 @@ pub struct Spot {
     pub edge: Edge,
 }
 
-/// Where a walk has ended: the edge of its spot leads to a leaf, with this key.
+/// Where a walk has ended: the edge of its spot leads to a leaf, with this key; or, where a key is to
+/// be put in a radix tree, to an internal node with this key, which has not the other in its range.
 #[derive(Clone, Copy, Debug, PartialEq, Eq)]
 pub struct End {
     pub spot: Spot,
@@ -53,10 +54,11 @@ pub struct End {
 /// What the part of a walk came to that goes by unmarked edges alone.
 #[derive(Clone, Copy)]
 pub(crate) enum Descent {
-    /// It has ended at a leaf.
+    /// It has ended at a leaf; or, where a key is to be put in a radix tree, over an internal node
+    /// without the key in its range.
     Ended(End),
     /// It stands at this spot, so many nodes below slot 2: the spot's edge is marked, or the walk
-    /// has looked at as many nodes as there are.
+    /// has looked at as many nodes as a walk may.
     Stopped(Spot, u32),
 }
 

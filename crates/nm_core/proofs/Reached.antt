@@ -10,6 +10,8 @@ use Rattle.nm_model.specs.Ordered.{Configuration, HasKey, ordered, opening_of, a
 use Rattle.nm_laws.proofs.Configurations.{keys_more, after_in-append, plain_runs, reached_state}
 use Rattle.nm_laws.proofs.Lawful.{reachable_is_lawful}
 use Rattle.nm_order.specs.Intervals.{OfEachOrdered, KeysTellTheSet, KeysLieInIntervals, LeavesHaveTheirOwnKeys, WalksStayInOrder, WalksReadKeys}
+use Rattle.nm_order.specs.Ranges.{RangesNest, PathsAreShort}
+use Rattle.nm_order.proofs.RadixLaws.{each_range_nests, each_path_is_short}
 use Rattle.nm_order.proofs.RunExchanges.{first_keys}
 use Rattle.nm_order.proofs.OrderedLaws.{each_key_lies, each_leaf_has_its_key, each_walk_stays, each_walk_reads, keys_of_state}
 use Rattle.nm_order.proofs.HistoryLaws.{each_run_has_a_history}
@@ -61,6 +63,8 @@ module _ (c : Configuration) (r : IsReached c) where
         leaves = behind LeavesHaveTheirOwnKeys each_leaf_has_its_key past.0 turns past.1 keys i;
         stale = behind WalksStayInOrder each_walk_stays past.0 turns past.1 keys i;
         reads = behind WalksReadKeys each_walk_reads past.0 turns past.1 keys i;
+        ranges = behind RangesNest each_range_nests past.0 turns past.1 keys i;
+        paths = behind PathsAreShort each_path_is_short past.0 turns past.1 keys i;
       }
 
   -- and now

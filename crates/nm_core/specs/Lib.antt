@@ -1,3 +1,4 @@
 pub mod Pasts
 pub mod Stops
 pub mod Histories
+pub mod RadixSchedules

@@ -6,6 +6,7 @@ use Rattle.nm_model.specs.Ordered.{Configuration, HasKey, IsReached, ordered, op
 use Rattle.nm_order.specs.History.{RunHasHistory}
 use Rattle.nm_model.specs.Headline.{Headline}
 use Rattle.nm_order.specs.Intervals.{KeysLieInIntervals, LeavesHaveTheirOwnKeys, WalksStayInOrder, WalksReadKeys}
+use Rattle.nm_order.specs.Ranges.{RangesNest, PathsAreShort}
 
 -- the core came from the opening of an ordered core by these events, with calls for keys of the set
 pub record IsPast (c : Configuration) (past : List (ℕ × Event)) : Type 0 where
@@ -23,12 +24,14 @@ HasHistoriesBehind c turns = (past : List (ℕ × Event)) → IsPast c past → 
     → RunHasHistory c.state.layout (past ++ take i turns)
 
 -- the tree of an ordered core is in order, and stale paths do no harm (Natarajan and Mittal,
--- section 3.1)
+-- section 3.1); and in a radix tree each range lies in those above it, so that no path is long
 pub record IsInOrder (c : Configuration) : Type 0 where
   pub keys : KeysLieInIntervals c
   pub leaves : LeavesHaveTheirOwnKeys c
   pub stale : WalksStayInOrder c
   pub reads : WalksReadKeys c
+  pub ranges : RangesNest c
+  pub paths : PathsAreShort c
 
 -- it is so before a run of an ordered core, and after each of its turns (Natarajan and Mittal,
 -- section 3.1)

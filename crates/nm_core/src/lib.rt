@@ -4,6 +4,7 @@
 mod pure_core;
 
 ghost use Rattle.std.specs.Prelude.{◌≡◌, [], ◌∷◌, Some};
+ghost use Rattle.nm_core.specs.RadixSchedules.{parent_cut};
 ghost use Rattle.nm_model.specs.Schedules.{IsAsWorked, IsAsWorkedInOrder};
 ghost use Rattle.nm_model.specs.Schedules as worked;
 ghost use Rattle.nm_core.specs.Histories.{IsAsTold};
@@ -28,6 +29,7 @@ pub fn worked_schedules()
     ensures joining { IsAsWorked worked.resigning_schedule }
     ensures insert_in_order { IsAsWorkedInOrder worked.insert_in_order (5 ∷ []) }
     ensures delete_in_order { IsAsWorkedInOrder worked.delete_in_order [] }
+    ensures parent_cut { IsAsWorkedInOrder parent_cut (5 ∷ 6 ∷ 12 ∷ []) }
 {}
 
 /// Two worked schedules have the histories that were worked out by hand: one with a delete that

@@ -1,2 +1,4 @@
 pub mod Packing
+pub mod RangeBits
+pub mod RangeWords
 pub mod Words

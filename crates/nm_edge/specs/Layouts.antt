@@ -1,12 +1,14 @@
 -- The sizes of a tree.
-use Rattle.std.specs.Prelude.{◌≡◌, ◌⊎◌, ℕ, ◌≤◌}
+use Rattle.std.specs.Prelude.{◌≡◌, ◌⊎◌, ℕ, ◌≤◌, Bool, true, false}
 
--- how many nodes there is room for, how many workers there are, and how many words that say nothing
--- stand behind the note of each
+-- how many nodes there is room for, how many workers there are, how many words that say nothing
+-- stand behind the note of each, and whether the tree has the shape of a radix tree, in which each
+-- internal node is between the halves of a range (`Ranges`), or that of Natarajan and Mittal
 pub record Layout : Type 0 where
   pub nodes : ℕ
   pub workers : ℕ
   pub gap : ℕ
+  pub radix : Bool
 
 -- the sizes that there may be: 7 to 268,435,456 nodes, the five fixed ones counted, 1 to 64
 -- workers, and no words or 511 behind each note
@@ -17,10 +19,14 @@ pub record IsLayout (L : Layout) : Type 0 where
   pub few : L.workers ≤ 64
   pub gaps : (L.gap ≡ 0) ⊎ (L.gap ≡ 511)
 
--- words side by side
+-- words side by side, and the shape of Natarajan and Mittal
 abbrev pub dense : ℕ → ℕ → Layout
-dense nodes workers = record { nodes = nodes; workers = workers; gap = 0 }
+dense nodes workers = record { nodes = nodes; workers = workers; gap = 0; radix = false }
 
 -- each note in a page of its own
 abbrev pub spaced : ℕ → ℕ → Layout
-spaced nodes workers = record { nodes = nodes; workers = workers; gap = 511 }
+spaced nodes workers = record { nodes = nodes; workers = workers; gap = 511; radix = false }
+
+-- the same sizes, and the shape of a radix tree
+abbrev pub in_radix : Layout → Layout
+in_radix L = record { nodes = L.nodes; workers = L.workers; gap = L.gap; radix = true }

@@ -1,5 +1,6 @@
 //! Laws of words: each holds for every edge, word and layout.
 ghost use Rattle.nm_edge.specs.Edges.{PackingGivesTheWord, UnpackingGivesTheEdge};
+ghost use Rattle.nm_edge.specs.Ranges.{CoversIsTheRange};
 ghost use Rattle.nm_edge.specs.Words.{FieldsAreApart, FieldsAreWithin, PoolMasksAreApart, PoolPlacesAreApart, PoolPlacesAreRows};
 
 /// An edge with a slot below 2^32 is found again in its word.
@@ -24,4 +25,10 @@ pub fn pool_places_are_apart()
     ensures masks { PoolMasksAreApart }
     ensures places { PoolPlacesAreApart }
     ensures rows { PoolPlacesAreRows }
+{}
+
+/// A key is in the range of a router exactly where it lies within the router's lowest bit below or
+/// above it.
+pub fn covers_is_the_range()
+    ensures { CoversIsTheRange }
 {}

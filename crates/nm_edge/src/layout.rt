@@ -1,6 +1,6 @@
 //! The sizes of a tree.
-ghost use Rattle.std.specs.Prelude.{◌≡◌, ◌<◌, ◌≤◌, ◌+◌, ◌-◌, ◌*◌, ◌⊎◌, ◌↔◌, IfOk, IfErr, IsErrOf};
-ghost use Rattle.nm_edge.specs.Layouts.{IsLayout, dense, spaced};
+ghost use Rattle.std.specs.Prelude.{◌≡◌, ◌<◌, ◌≤◌, ◌+◌, ◌-◌, ◌*◌, ◌⊎◌, ◌↔◌, false, IfOk, IfErr, IsErrOf};
+ghost use Rattle.nm_edge.specs.Layouts.{IsLayout, dense, in_radix, spaced};
 ghost use Rattle.nm_edge.specs.Words.{IsSlot, at_birth, at_edge, at_epoch, at_key, at_note, pool_place, pool_word, word, words};
 
 use crate::edge::Side;
@@ -33,12 +33,14 @@ const PAGE_GAP: u32 = 511;
 const BEFORE_EPOCH: u32 = 2;
 
 /// How many nodes a tree has room for, the five fixed ones counted, how many workers share it, and
-/// whether their announcements have pages of their own.
+/// whether their announcements have pages of their own; and the shape of the tree: whether it is a
+/// radix tree, or that of Natarajan and Mittal.
 #[derive(Clone, Copy, Debug, PartialEq, Eq)]
 pub struct Layout {
     nodes: u32,
     workers: u32,
     gap: u32,
+    radix: bool,
     // The number of the first word of slot 1.
     first: u32,
 }
@@ -51,18 +53,24 @@ impl Model for Layout {
 
     ghost Value = { spec.Layout };
 
-    ghost view = { λ l. record { nodes = l.nodes; workers = l.workers; gap = l.gap } };
+    ghost view = { λ l. record { nodes = l.nodes; workers = l.workers; gap = l.gap; radix = l.radix } };
 
     ghost inverse = { λ l. record {
       nodes = l.nodes;
       workers = l.workers;
       gap = l.gap;
+      radix = l.radix;
       first = behind_notes l l.workers;
     } };
 
-    ghost invariant = { λ l. IsLayout (record { nodes = l.nodes; workers = l.workers; gap = l.gap })
-        × (l.first ≡ behind_notes (record { nodes = l.nodes; workers = l.workers; gap = l.gap })
-        l.workers) };
+    ghost invariant = { λ l.
+        IsLayout (record { nodes = l.nodes; workers = l.workers; gap = l.gap; radix = l.radix })
+        × (l.first ≡ behind_notes (record {
+          nodes = l.nodes;
+          workers = l.workers;
+          gap = l.gap;
+          radix = l.radix;
+        }) l.workers) };
 }
 
 /// The number of the epoch's word.
@@ -127,7 +135,8 @@ impl Layout {
         requires most { most ≤ MOST_SPACED_NODES }
         requires gap { (gap ≡ 0) ⊎ (gap ≡ PAGE_GAP) }
         ensures layout { IfOk result
-            (λ layout. layout ≡ record { nodes = nodes; workers = workers; gap = gap }) }
+            (λ layout. layout
+            ≡ record { nodes = nodes; workers = workers; gap = gap; radix = false }) }
         ensures nodes { IsErrOf result LayoutError.Nodes
             ↔ ((nodes < LEAST_NODES) ⊎ (most < nodes)) }
         ensures workers { IfErr result
@@ -144,8 +153,28 @@ impl Layout {
             nodes,
             workers,
             gap,
+            radix: false,
             first: notes_end(gap, workers),
         })
+    }
+
+    /// The layout of the same sizes for a radix tree: no walk there takes more than 66 nodes,
+    /// whatever keys come in whatever order.
+    pub fn in_radix(self) -> Layout
+        ensures { result ≡ in_radix self }
+    {
+        Layout {
+            radix: true,
+            ..self
+        }
+    }
+
+    /// Whether it is that of a radix tree.
+    pub fn is_radix(self) -> bool
+        ensures { result ≡ self.radix }
+    {
+        let Layout { radix, .. } = self;
+        radix
     }
 
     /// How many nodes there is room for, 7 to 268,435,456. Slots are numbered from 1 to this.

@@ -7,17 +7,20 @@ mod key;
 mod laws;
 mod layout;
 mod node;
+mod ranges;
 
 pub use edge::{Edge, Side};
 pub use key::{INFINITY_0, INFINITY_1, INFINITY_2, Key, MOST_KEY};
 pub use laws::{
-    fields_are_apart, packing_gives_the_word, pool_places_are_apart, unpacking_gives_the_edge,
+    covers_is_the_range, fields_are_apart, packing_gives_the_word, pool_places_are_apart,
+    unpacking_gives_the_edge,
 };
 pub use layout::{
     FIRST_SLOT, LEAST_NODES, Layout, LayoutError, MOST_NODES, MOST_SPACED_NODES, MOST_WORKERS,
     PoolPlace,
 };
 pub use node::{LAST_NUMBER, NodeId};
+pub use ranges::{covers, parting};
 
 #[cfg(test)]
 mod tests;

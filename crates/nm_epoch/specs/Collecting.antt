@@ -1,5 +1,5 @@
 -- The nodes that wait, and what collecting frees of them.
-use Rattle.std.specs.Prelude.{◌≡◌, ◌≢◌, ℕ, ◌+◌, nat_le, Bool, List, [], ◌∷◌, ◌++◌, map, drop, Option, Some, None, option_map, if◌then◌else◌}
+use Rattle.std.specs.Prelude.{◌≡◌, ◌≢◌, ◌⊎◌, ℕ, ◌+◌, ◌*◌, ◌<◌, ◌≤◌, nat_le, Bool, List, [], ◌∷◌, ◌++◌, map, drop, length, Option, Some, None, option_map, if◌then◌else◌}
 use Rattle.std.specs.List.{take_while, prefix_len}
 use Rattle.nm_edge.specs.declared.node.NodeId.{NodeId}
 use Rattle.nm_model.specs.declared.event.Event.TheVariants.{Give}
@@ -9,6 +9,7 @@ use Rattle.nm_model.specs.declared.reply.Reply.TheVariants.{Freed}
 use Rattle.nm_model.specs.Knowledge.{Knowledge}
 use Rattle.nm_model.specs.Ledgers.{held, label, unlabelled}
 use Rattle.nm_model.specs.Walks.{Entry as LogEntry}
+use Rattle.nm_limbo.specs.Queue.{BlockQueue}
 use Rattle.nm_epoch.specs.Scans.{IsSightOf}
 use Rattle.nm_epoch.specs.declared.collecting.Entry.{Entry}
 use Rattle.nm_epoch.specs.declared.collecting.HeldQueue.{HeldQueue}
@@ -84,9 +85,29 @@ HaveLost epoch (h ∷ hs) (g ∷ gs) =
     (g.origin ≡ h.origin) × (g.queue.items ≡ rest_of epoch h.queue.items) × HaveLost epoch hs gs
 HaveLost epoch _ _ = ⊥
 
--- how many blocks each queue has
-abbrev pub blocks_of : List HeldQueue → List ℕ
-blocks_of hs = map (λ (h : HeldQueue). h.queue.blocks) hs
+-- how many places for more nodes a queue keeps, where it has them: room for a try, and for what is
+-- cut off until the next collection
+abbrev pub spare_kept : ℕ
+spare_kept = 256
+
+-- no block more than what waits and so many places ask for: less is to spare than those and a
+-- block, of 32 places, and fewer places than a block has are used up
+pub record HasFewBlocks (q : BlockQueue Entry) : Type 0 where
+  pub spare : q.spare < spare_kept + 32
+  pub blocks : 32 * q.blocks < length q.items + q.spare + 32
+
+-- r, which a collection left of q, has so few blocks. It has none that q had not, and all of them
+-- unless there is room for so many nodes still
+pub record IsTrimmed (q r : BlockQueue Entry) : Type 0 where
+  pub few : HasFewBlocks r
+  pub fewer : r.blocks ≤ q.blocks
+  pub kept : (r.blocks ≡ q.blocks) ⊎ (spare_kept ≤ r.spare)
+
+-- so of each queue
+abbrev pub AreTrimmed : List HeldQueue → List HeldQueue → Type 0
+AreTrimmed [] [] = Unit {0}
+AreTrimmed (h ∷ hs) (g ∷ gs) = IsTrimmed h.queue g.queue × AreTrimmed hs gs
+AreTrimmed _ _ = ⊥
 
 -- the ledgers that a sight of this epoch leaves: where a cut waited for its label, it has this one
 abbrev pub ledgers_seen : ℕ → Knowledge → List (Option Ledger)

@@ -7,7 +7,7 @@ ghost use Rattle.nm_order.specs.Reads.{HasRead};
 ghost use Rattle.nm_steps.specs.Rules.{knowledge};
 ghost use Rattle.nm_steps.specs.Steps.{IsInRun, IsOf, MayStep, give_reply, Continues, TakesStep};
 ghost use Rattle.nm_epoch.specs.Resting.{Settles, epochs, search};
-ghost use Rattle.nm_epoch.specs.Collecting.{IsQueueOf, AreHeld, KeepsRetired, NoneHas, HaveLost, KeepsOtherLedgers, ripe_front, ripe_part, ripe_of, rest_of, blocks_of, freeing, IsCollection};
+ghost use Rattle.nm_epoch.specs.Collecting.{IsQueueOf, AreHeld, KeepsRetired, NoneHas, HaveLost, KeepsOtherLedgers, IsTrimmed, AreTrimmed, ripe_front, ripe_part, ripe_of, rest_of, freeing, IsCollection};
 
 use crate::looking::read;
 use nm_edge::{MOST_WORKERS, NodeId};
@@ -29,6 +29,11 @@ pub struct HeldQueue {
     pub origin: u32,
     pub queue: BlockQueue<Entry>,
 }
+
+/// How many places for more nodes a queue keeps behind a collection, where it has them: 128 that a
+/// try asks for, and as many again for what is cut off until the next collection, so that a worker
+/// that collects now and then takes the same blocks again and asks for no memory.
+const SPARE_KEPT: u32 = 256;
 
 /// Whether the label is at least two below the epoch.
 fn is_ripe(label: u64, epoch: u64) -> bool
@@ -72,7 +77,8 @@ fn free(shared: &Shared, pass: &mut Pass, slot: u32)
 }
 
 /// Frees what is ripe at the front of one held queue, given the epoch that the worker read last, by
-/// one step each: how many. The placement remembers the slots.
+/// one step each: how many. The placement remembers the slots. Empty blocks that the queue does not
+/// need are given back.
 fn collect_front(
     shared: &Shared,
     pass: &mut Pass,
@@ -90,7 +96,7 @@ fn collect_front(
         ≡ pass.old.view.log ++ map freeing (ripe_part epoch queue.old.queue.items) }
     ensures freed { result ≡ length (ripe_part epoch queue.old.queue.items) }
     ensures left { queue.new.queue.items ≡ rest_of epoch queue.old.queue.items }
-    ensures blocks { queue.new.queue.blocks ≡ queue.old.queue.blocks }
+    ensures blocks { IsTrimmed queue.old.queue queue.new.queue }
     ensures origin { queue.new.origin ≡ queue.old.origin }
     ensures queue { IsQueueOf (knowledge pass.new.view) queue.new.origin queue.new.queue.items }
     ensures apart { AreApart pass.new.view.layout (knowledge pass.new.view) }
@@ -109,6 +115,7 @@ fn collect_front(
         drop_front(&mut queue.queue);
         placement.keep(node.slot);
     }
+    let _receipt = queue.queue.shrink_to(SPARE_KEPT);
     waiting - queue.queue.len()
 }
 
@@ -132,7 +139,7 @@ fn collect_fronts(
     ensures freed { result ≡ length (ripe_of epoch queues.old) }
     ensures most { result ≤ 4294967295 * length queues.old }
     ensures lost { HaveLost epoch queues.old queues.new }
-    ensures blocks { blocks_of queues.new ≡ blocks_of queues.old }
+    ensures blocks { AreTrimmed queues.old queues.new }
     ensures queues { AreHeld (knowledge pass.new.view) queues.new }
     ensures apart { AreApart pass.new.view.layout (knowledge pass.new.view) }
     ensures others { (o : ℕ) → NoneHas o queues.old
@@ -170,7 +177,8 @@ pub struct Collected {
 /// epoch is not below any that the worker had read. Where a cut waits for its label, the first step
 /// labels it. The ledgers that the worker holds of other origins stay as they are, but for that
 /// label. The placement, which stays of its fit, remembers the last slots that were freed. It takes
-/// no memory: each queue has as many blocks as before.
+/// no memory, and gives back the blocks of each queue that neither what waits in it nor 256 more
+/// nodes need.
 ///
 /// Two epochs after the label no worker is pinned that could still come to the node (Fraser,
 /// Practical lock-freedom, 2004, chapter 5).
@@ -186,7 +194,7 @@ pub fn collect(
     ensures part { IsCollection result.epoch queues.old pass.old.view.log pass.new.view.log }
     ensures freed { result.freed ≡ length (ripe_of result.epoch queues.old) }
     ensures lost { HaveLost result.epoch queues.old queues.new }
-    ensures blocks { blocks_of queues.new ≡ blocks_of queues.old }
+    ensures blocks { AreTrimmed queues.old queues.new }
     ensures queues { AreHeld (knowledge pass.new.view) queues.new }
     ensures others { KeepsOtherLedgers result.epoch queues.old (knowledge pass.old.view)
         (knowledge pass.new.view) }

@@ -332,12 +332,15 @@ limits_gives : (command version : List ℕ) → Gives reason.Header (limits_of c
 limits_gives command version =
     elim (cases_Bool (bytes_eq command (codes "schedule"))) [
       | inl y ↦ elim (cases_Bool (bytes_eq version (codes "1"))) [
-        | inl first ↦ inr (record { nodes = 65536; workers = 32; is_ordered = false }, rw (y, first) refl)
+        | inl first ↦ inr (record { nodes = 65536; workers = 32; is_ordered = false; is_radix = false }, rw (y, first) refl)
         | inr not_first ↦ elim (cases_Bool (bytes_eq version (codes "2"))) [
-          | inl second ↦ inr (record { nodes = 1048576; workers = 64; is_ordered = false }, rw (y, not_first, second) refl)
+          | inl second ↦ inr (record { nodes = 1048576; workers = 64; is_ordered = false; is_radix = false }, rw (y, not_first, second) refl)
           | inr not_second ↦ elim (cases_Bool (bytes_eq version (codes "3"))) [
-            | inl third ↦ inr (record { nodes = 1048576; workers = 64; is_ordered = true }, rw (y, not_first, not_second, third) refl)
-            | inr none ↦ inl (rw (y, not_first, not_second, none) refl)
+            | inl third ↦ inr (record { nodes = 1048576; workers = 64; is_ordered = true; is_radix = false }, rw (y, not_first, not_second, third) refl)
+            | inr not_third ↦ elim (cases_Bool (bytes_eq version (codes "4"))) [
+              | inl fourth ↦ inr (record { nodes = 1048576; workers = 64; is_ordered = true; is_radix = true }, rw (y, not_first, not_second, not_third, fourth) refl)
+              | inr none ↦ inl (rw (y, not_first, not_second, not_third, none) refl)
+            ]
           ]
         ]
       ]

@@ -6,40 +6,44 @@ use crate::fault::Reason;
 use crate::field::number;
 use nm_edge::{LEAST_NODES, Layout, LayoutError, MOST_NODES, MOST_WORKERS};
 
-/// The sizes that a version of the format allows, and whether an ordered core plays it.
+/// The sizes that a version of the format allows, whether an ordered core plays it, and whether its
+/// tree is a radix tree.
 #[derive(Clone, Copy, Debug, PartialEq, Eq)]
 pub struct Limits {
     pub nodes: u32,
     pub workers: u32,
     pub is_ordered: bool,
+    pub is_radix: bool,
 }
 
 /// What the first line of a schedule says.
 #[derive(Clone, Copy, Debug, PartialEq, Eq)]
 pub struct Header {
-    /// How many nodes and workers the tree is for.
+    /// How many nodes and workers the tree is for, and its shape.
     pub layout: Layout,
     /// An ordered core plays the schedule, and its sights and leaves may be of operations.
     pub is_ordered: bool,
 }
 
 /// As many nodes and workers as a layout can have.
-fn greatest(is_ordered: bool) -> Limits
+fn greatest(is_ordered: bool, is_radix: bool) -> Limits
     ensures { result ≡ record {
       nodes = MOST_NODES;
       workers = MOST_WORKERS;
       is_ordered = is_ordered;
+      is_radix = is_radix;
     } }
 {
     Limits {
         nodes: MOST_NODES,
         workers: MOST_WORKERS,
         is_ordered,
+        is_radix,
     }
 }
 
-/// The limits of a version of the format: of 1, 65,536 nodes and 32 workers; of 2 and 3, as many as
-/// a layout can have. An ordered core plays 3.
+/// The limits of a version of the format: of 1, 65,536 nodes and 32 workers; of 2 to 4, as many as a
+/// layout can have. An ordered core plays 3 and 4, and the tree of 4 is a radix tree.
 fn limits_by(version: &[u8]) -> Result<Limits, Reason>
     ensures limits { result ≡ spec.limits_by version.now }
     ensures few { IfOk result (λ limits. (limits.nodes ≤ MOST_NODES)
@@ -50,11 +54,14 @@ fn limits_by(version: &[u8]) -> Result<Limits, Reason>
             nodes: 65_536,
             workers: 32,
             is_ordered: false,
+            is_radix: false,
         })
     } else if version == b"2".as_slice() {
-        Ok(greatest(false))
+        Ok(greatest(false, false))
     } else if version == b"3".as_slice() {
-        Ok(greatest(true))
+        Ok(greatest(true, false))
+    } else if version == b"4".as_slice() {
+        Ok(greatest(true, true))
     } else {
         Err(Reason::Header)
     }
@@ -80,6 +87,13 @@ pub fn count(field: &[u8]) -> Result<u64, Reason>
     number(field).map_err(|_| Reason::Header)
 }
 
+/// The layout of these sizes, for a radix tree or not.
+pub fn shaped(layout: Layout, is_radix: bool) -> Layout
+    ensures { result ≡ spec.shaped is_radix layout }
+{
+    if is_radix { layout.in_radix() } else { layout }
+}
+
 /// The header of so many nodes and workers.
 fn header_within(limits: Limits, nodes: u64, workers: u64) -> Result<Header, Reason>
     requires { (limits.nodes ≤ MOST_NODES) × (limits.workers ≤ MOST_WORKERS) }
@@ -93,7 +107,7 @@ fn header_within(limits: Limits, nodes: u64, workers: u64) -> Result<Header, Rea
     }
     match Layout::new(nodes as u32, workers as u32) {
         Ok(layout) => Ok(Header {
-            layout,
+            layout: shaped(layout, limits.is_radix),
             is_ordered: limits.is_ordered,
         }),
         Err(LayoutError::Nodes) => Err(Reason::Nodes),

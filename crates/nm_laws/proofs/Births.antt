@@ -20,9 +20,9 @@ use Rattle.nm_model.specs.declared.knowledge.Draft.{Draft}
 use Rattle.nm_model.specs.Maps.{get, put, without, is_number}
 use Rattle.nm_model.specs.Memory.{Memory, blank, node, edge, in_pool, with_edge, put_node, put_edge}
 use Rattle.nm_model.specs.Ledgers.{front_of}
-use Rattle.nm_model.specs.Knowledge.{Knowledge, unfilled, knows, is_private, draft_of, read, knows_leaf, beside}
+use Rattle.nm_model.specs.Knowledge.{Knowledge, unfilled, knows, is_private, draft_of, read, beside}
 use Rattle.nm_model.specs.Learning.{learn, look_private, look_known, filled_in}
-use Rattle.nm_model.specs.Step.{outside, is_edge, is_early, is_fork_over, is_linkable, is_leaf_draft, reply_look, node_of, node_linked, exchanged, filled, kept, refusal, reply, write}
+use Rattle.nm_model.specs.Step.{outside, is_edge, is_early, is_fork_over, is_linkable, is_leaf_draft, reply_look, node_of, node_linked, exchanged, filled, kept, refusal, reply, write, may_be_over}
 use Rattle.nm_model.specs.Runs.{State, of, refusal_of, reply_of}
 use Rattle.nm_laws.proofs.Steps.{Allowed, passed, second, third, fifth}
 use Rattle.nm_model.proofs.Tables.{get-put, get-without, Ascends, ascends-without}
@@ -340,7 +340,7 @@ module _ (s : State) (h : ℕ → ℕ) (law : Lawful s h) (w : ℕ) (born : Born
 
           own : is_private (of s w) x ≡ true
           own = not-false (is_private (of s w) x) (second (outside 6 s.layout.nodes x || (is_edge f && nat_lt s.layout.nodes v)) (not (is_private (of s w) x)) NoSlot NotPrivate _ ok)
-      go (Link p d leaf new) ok alone = link_aged p d leaf new (not-false (is_linkable (of s w) new leaf) (fifth (outside 1 s.layout.nodes p || (outside 1 s.layout.nodes leaf || outside 6 s.layout.nodes new)) (is_none (of s w).brief.pin) (not (knows (of s w) p && (knows (of s w) leaf && knows_leaf (of s w) leaf))) (not (is_private (of s w) new)) (not (is_linkable (of s w) new leaf)) NoSlot NotPinned NotHeld NotPrivate NotReady _ ok))
+      go (Link p d leaf new) ok alone = link_aged p d leaf new (not-false (is_linkable (of s w) new leaf) (fifth (outside 1 s.layout.nodes p || (outside 1 s.layout.nodes leaf || outside 6 s.layout.nodes new)) (is_none (of s w).brief.pin) (not (knows (of s w) p && (knows (of s w) leaf && may_be_over s.layout (of s w) leaf))) (not (is_private (of s w) new)) (not (is_linkable (of s w) new leaf)) NoSlot NotPinned NotHeld NotPrivate NotReady _ ok))
       go (Flag p d leaf) ok alone = same_aged s w _ _ (exchange_word s.memory p d leaf _) (exchange_pool s.memory p d leaf _) (drafts_flag w (of s w) p d leaf _)
       go (Tag p d) ok alone = same_aged s w _ _ (edge_word s.memory p d (tagged (edge s.memory p d))) (λ y. refl) (drafts_tag w (of s w) p d _)
       go (Splice a d x p keep) ok alone = same_aged s w _ _ (exchange_word s.memory a d x (kept (read (of s w) p keep))) (exchange_pool s.memory a d x (kept (read (of s w) p keep))) (drafts_splice w (of s w) a d x p keep _)

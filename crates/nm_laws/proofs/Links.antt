@@ -12,7 +12,7 @@ use Rattle.nm_laws.proofs.Trees.{same_side}
 use Rattle.nm_model.specs.Paths.{follow}
 use Rattle.nm_laws.proofs.Pictures.{Spot}
 use Rattle.nm_laws.proofs.Pictures.Spot.{InPool, PrivateTo, OnPath, InQueue}
-use Rattle.nm_laws.proofs.Trees.{follow-append, follow_leaf, same_side-false, rest_after, Exchanged, not_taken, taken, is_taken, same_side-true}
+use Rattle.nm_laws.proofs.Trees.{follow-append, follow_leaf, same_side-false, rest_after, Exchanged, not_taken, taken, is_taken, unvisited, same_side-true}
 use Rattle.nm_laws.proofs.Pictures.{Picture, below, Stands, Once, IsLive, InReach, TreeLaw, new_place, nowhere_else, alone, null_below, IsOnPath, on_path, in_reach}
 use Rattle.std.proofs.Common.{append-nil}
 use Rattle.nm_laws.proofs.Trees.{append_cancel}
@@ -33,15 +33,16 @@ picture_linked P w p d new far = record {
   late = P.late;
 }
 
--- what the worker has shown: p's edge leads to a leaf; new is private, over that leaf on the side
--- dl and a private leaf far
-pub record IsLink (N : ℕ) (P : Picture) (w p : ℕ) (d : Side) (leaf new far : ℕ) (dl : Side) : Type 0 where
+-- what the worker has shown: p's edge leads to a slot, which is a leaf, or in a radix tree one above
+-- 5; new is private, over that slot on the side dl and a private leaf far
+pub record IsLink (r : Bool) (N : ℕ) (P : Picture) (w p : ℕ) (d : Side) (leaf new far : ℕ) (dl : Side) : Type 0 where
   pub live : IsLive P p
   pub is_slot : p ≢ 0
   pub inside : p ≤ N
   pub unmarked : P.edges p d ≡ to leaf
   pub leaf_slot : leaf ≢ 0
-  pub is_leaf : (f : Side) → below P leaf f ≡ 0
+  pub is_leaf : r ≡ false → (f : Side) → below P leaf f ≡ 0
+  pub over : ((f : Side) → below P leaf f ≡ 0) ⊎ (6 ≤ leaf)
   pub own : P.private w new ≡ true
   pub far_own : P.private w far ≡ true
   pub apart : new ≢ far
@@ -49,9 +50,16 @@ pub record IsLink (N : ℕ) (P : Picture) (w p : ℕ) (d : Side) (leaf new far :
   pub over_far : P.edges new (other dl) ≡ to far
   pub far_leaf : (f : Side) → P.edges far f ≡ to 0
 
-module _ (N : ℕ) (P : Picture) (w p : ℕ) (d : Side) (leaf new far : ℕ) (dl : Side) (law : TreeLaw N P) (link : IsLink N P w p d leaf new far dl) where
+module _ (r : Bool) (N : ℕ) (P : Picture) (w p : ℕ) (d : Side) (leaf new far : ℕ) (dl : Side) (law : TreeLaw N P) (link : IsLink r N P w p d leaf new far dl) where
   abbrev Q : Picture
   Q = picture_linked P w p d new far
+
+  not_second : leaf ≢ 2
+  not_second e = by link.over
+    where
+      by : ((f : Side) → below P leaf f ≡ 0) ⊎ (6 ≤ leaf) → ⊥
+      by (inl null) = law.second (ap (λ (y : ℕ). below P y Left) (sym e) ∙ null Left)
+      by (inr high) = omega (arith, high, e)
 
   leads_to_leaf : below P p d ≡ leaf
   leads_to_leaf = ap (λ (e : Edge). e.slot) link.unmarked
@@ -78,8 +86,18 @@ module _ (N : ℕ) (P : Picture) (w p : ℕ) (d : Side) (leaf new far : ℕ) (dl
   not_p : (x : ℕ) → P.private w x ≡ true → x ≢ p
   not_p x own e = not_live x own (rw e link.live)
 
-  leaf_not_p : (y : ℕ) → ((f : Side) → below P y f ≡ 0) → y ≢ p
-  leaf_not_p y null e = link.leaf_slot (sym leads_to_leaf ∙ (ap (λ (z : ℕ). below P z d) (sym e) ∙ null d))
+  -- the paths through p's edge, of which none comes back to p
+  leaf_path : (u : List Side) → follow (below P) 1 (p_on_path.path ++ d ∷ u) ≡ follow (below P) leaf u
+  leaf_path u = follow-append (below P) 1 p_on_path.path (d ∷ u) ∙ (ap (λ (s : ℕ). follow (below P) (below P s d) u) p_on_path.ends ∙ ap (λ (s : ℕ). follow (below P) s u) leads_to_leaf)
+
+  longer : (q u : List Side) → q ≡ q ++ d ∷ u → ⊥
+  longer q u h = nil (append_cancel q [] (d ∷ u) (append-nil q ∙ h))
+    where
+      nil : [] ≡ d ∷ u → ⊥
+      nil h = cc
+
+  never_back : (u : List Side) → follow (below P) leaf u ≡ p → ⊥
+  never_back u h = longer p_on_path.path u (alone N P law p_on_path.path (p_on_path.path ++ d ∷ u) (rw p_on_path.ends link.is_slot) (p_on_path.ends ∙ sym (leaf_path u ∙ h)))
 
   unless_p : (x : ℕ) (g : Side) → x ≢ p → with_edge_at P.edges p d (to new) x g ≡ P.edges x g
   unless_p x g ne = with_edge-other P.edges p d (to new) x g ne
@@ -109,8 +127,8 @@ module _ (N : ℕ) (P : Picture) (w p : ℕ) (d : Side) (leaf new far : ℕ) (dl
   far_null : (f : Side) → below Q far f ≡ 0
   far_null f = null_stays far f (ap (λ (z : Edge). z.slot) (link.far_leaf f))
 
-  leaf_null : (f : Side) → below Q leaf f ≡ 0
-  leaf_null f = null_stays leaf f (link.is_leaf f)
+  under_leaf : (u : List Side) → follow (below Q) leaf u ≡ follow (below P) leaf u
+  under_leaf u = unvisited (below P) (below Q) p d new exchange leaf never_back u
 
   new_leaf : below Q new dl ≡ leaf
   new_leaf = ap (λ (z : Edge). z.slot) (unless_p new dl (not_p new link.own) ∙ link.over_leaf)
@@ -120,7 +138,7 @@ module _ (N : ℕ) (P : Picture) (w p : ℕ) (d : Side) (leaf new far : ℕ) (dl
 
   -- where a path from new leads
   abbrev Tail : List Side → ℕ → Type 0
-  Tail t x = ((t ≡ []) × (x ≡ new)) ⊎ (((t ≡ dl ∷ []) × (x ≡ leaf)) ⊎ ((t ≡ other dl ∷ []) × (x ≡ far)))
+  Tail t x = ((t ≡ []) × (x ≡ new)) ⊎ (((u : List Side) × (t ≡ dl ∷ u) × (follow (below P) leaf u ≡ x)) ⊎ ((t ≡ other dl ∷ []) × (x ≡ far)))
 
   tail : (t : List Side) (x : ℕ) → follow (below Q) new t ≡ x → x ≢ 0 → Tail t x
   tail [] x h some = inl (refl, sym h)
@@ -136,8 +154,7 @@ module _ (N : ℕ) (P : Picture) (w p : ℕ) (d : Side) (leaf new far : ℕ) (dl
       go : (b : Bool) → same_side dl g ≡ b → Tail (g ∷ t) x
       go true e =
           let side = same_side-true dl g e in
-          let k = over leaf (ap (below Q new) (sym side) ∙ new_leaf) leaf_null in
-          inr (inl (ap (λ (ys : List Side). g ∷ ys) k.0 ∙ ap (λ (y : Side). y ∷ []) (sym side), k.1))
+          inr (inl (t, ap (λ (y : Side). y ∷ t) (sym side), sym (under_leaf t) ∙ (ap (λ (s : ℕ). follow (below Q) s t) (sym (ap (below Q new) (sym side) ∙ new_leaf)) ∙ h)))
       go false e =
           let side = same_side-false dl g e in
           let k = over far (ap (below Q new) side ∙ new_far) far_null in
@@ -160,12 +177,6 @@ module _ (N : ℕ) (P : Picture) (w p : ℕ) (d : Side) (leaf new far : ℕ) (dl
   straight : rest_after (below P) p d 1 p_on_path.path ≡ None
   straight = go (rest_after (below P) p d 1 p_on_path.path) refl
     where
-      longer : (q r : List Side) → q ≡ q ++ d ∷ r → ⊥
-      longer q r h = nil (append_cancel q [] (d ∷ r) (append-nil q ∙ h))
-        where
-          nil : [] ≡ d ∷ r → ⊥
-          nil h = cc
-
       go : (o : Option (List Side)) → rest_after (below P) p d 1 p_on_path.path ≡ o → o ≡ None
       go None k = refl
       go (Some t) k =
@@ -178,24 +189,33 @@ module _ (N : ℕ) (P : Picture) (w p : ℕ) (d : Side) (leaf new far : ℕ) (dl
       ∙ (ap (λ (s : ℕ). follow (below Q) (below Q s d) t) (not_taken (below P) (below Q) p d new exchange 1 p_on_path.path straight ∙ p_on_path.ends)
       ∙ ap (λ (s : ℕ). follow (below Q) s t) exchange.here)
 
-  one_tail : (t r : List Side) (x : ℕ) → Tail t x → Tail r x → t ≡ r
-  one_tail t r x (inl a) (inl b) = a.0 ∙ sym b.0
-  one_tail t r x (inl a) (inr (inl b)) = absurd (leaf_not new link.own (sym b.1 ∙ a.1))
-  one_tail t r x (inl a) (inr (inr b)) = absurd (link.apart (sym a.1 ∙ b.1))
-  one_tail t r x (inr (inl a)) (inl b) = absurd (leaf_not new link.own (sym a.1 ∙ b.1))
-  one_tail t r x (inr (inl a)) (inr (inl b)) = a.0 ∙ sym b.0
-  one_tail t r x (inr (inl a)) (inr (inr b)) = absurd (leaf_not far link.far_own (sym a.1 ∙ b.1))
-  one_tail t r x (inr (inr a)) (inl b) = absurd (link.apart (sym b.1 ∙ a.1))
-  one_tail t r x (inr (inr a)) (inr (inl b)) = absurd (leaf_not far link.far_own (sym b.1 ∙ a.1))
-  one_tail t r x (inr (inr a)) (inr (inr b)) = a.0 ∙ sym b.0
+  -- what was below stands on a path
+  was_below : (u : List Side) (x : ℕ) → x ≢ 0 → follow (below P) leaf u ≡ x → IsOnPath P x
+  was_below u x some h = record { path = p_on_path.path ++ d ∷ u; ends = leaf_path u ∙ h; is_slot = some }
+
+  one_tail : (t v : List Side) (x : ℕ) → x ≢ 0 → Tail t x → Tail v x → t ≡ v
+  one_tail t v x some (inl a) (inl b) = a.0 ∙ sym b.0
+  one_tail t v x some (inl a) (inr (inl b)) = absurd (off_path new link.own (was_below b.0 new (private_slot new link.own).0 (b.2 ∙ a.1)))
+  one_tail t v x some (inl a) (inr (inr b)) = absurd (link.apart (sym a.1 ∙ b.1))
+  one_tail t v x some (inr (inl a)) (inl b) = absurd (off_path new link.own (was_below a.0 new (private_slot new link.own).0 (a.2 ∙ b.1)))
+  one_tail t v x some (inr (inl a)) (inr (inl b)) = a.1 ∙ (ap (λ (u : List Side). dl ∷ u) same ∙ sym b.1)
+    where
+      both : p_on_path.path ++ d ∷ a.0 ≡ p_on_path.path ++ d ∷ b.0
+      both = alone N P law (p_on_path.path ++ d ∷ a.0) (p_on_path.path ++ d ∷ b.0) (λ z. some (sym (leaf_path a.0 ∙ a.2) ∙ z)) (leaf_path a.0 ∙ (a.2 ∙ sym (leaf_path b.0 ∙ b.2)))
+
+      same : a.0 ≡ b.0
+      same = let e : d ∷ a.0 ≡ d ∷ b.0 = append_cancel p_on_path.path (d ∷ a.0) (d ∷ b.0) both in cc
+  one_tail t v x some (inr (inl a)) (inr (inr b)) = absurd (off_path far link.far_own (was_below a.0 far (private_slot far link.far_own).0 (a.2 ∙ b.1)))
+  one_tail t v x some (inr (inr a)) (inl b) = absurd (link.apart (sym b.1 ∙ a.1))
+  one_tail t v x some (inr (inr a)) (inr (inl b)) = absurd (off_path far link.far_own (was_below b.0 far (private_slot far link.far_own).0 (b.2 ∙ a.1)))
+  one_tail t v x some (inr (inr a)) (inr (inr b)) = a.0 ∙ sym b.0
 
   -- an old path that doesn't take the edge, and a new one through it, end apart
   mixed : (q t : List Side) (x : ℕ) → x ≢ 0 → rest_after (below P) p d 1 q ≡ None → follow (below P) 1 q ≡ x → Tail t x → ⊥
   mixed q t x some k h (inl a) = off_path new link.own (record { path = q; ends = h ∙ a.1; is_slot = (private_slot new link.own).0 })
   mixed q t x some k h (inr (inl a)) =
-      let there : follow (below P) 1 (p_on_path.path ++ d ∷ []) ≡ leaf = follow-append (below P) 1 p_on_path.path (d ∷ []) ∙ (ap (λ (y : ℕ). below P y d) p_on_path.ends ∙ leads_to_leaf) in
-      let same = alone N P law q (p_on_path.path ++ d ∷ []) (rw h some) (h ∙ (a.1 ∙ sym there)) in
-      is_taken (below P) p d 1 p_on_path.path [] p_on_path.ends (rw same at k)
+      let same = alone N P law q (p_on_path.path ++ d ∷ a.0) (rw h some) (h ∙ sym (leaf_path a.0 ∙ a.2)) in
+      is_taken (below P) p d 1 p_on_path.path a.0 p_on_path.ends (rw same at k)
   mixed q t x some k h (inr (inr a)) = off_path far link.far_own (record { path = q; ends = h ∙ a.1; is_slot = (private_slot far link.far_own).0 })
 
   now_alone : (x : ℕ) → x ≢ 0 → (q r : List Side) → follow (below Q) 1 q ≡ x → follow (below Q) 1 r ≡ x → q ≡ r
@@ -205,7 +225,7 @@ module _ (N : ℕ) (P : Picture) (w p : ℕ) (d : Side) (leaf new far : ℕ) (dl
       go (inl a) (inl b) = alone N P law q r (rw a.1 some) (a.1 ∙ sym b.1)
       go (inl a) (inr b) = absurd (mixed q b.0 x some a.0 a.1 b.2)
       go (inr a) (inl b) = absurd (mixed r a.0 x some b.0 b.1 a.2)
-      go (inr a) (inr b) = a.1 ∙ (ap (λ (t : List Side). p_on_path.path ++ d ∷ t) (one_tail a.0 b.0 x a.2 b.2) ∙ sym b.1)
+      go (inr a) (inr b) = a.1 ∙ (ap (λ (t : List Side). p_on_path.path ++ d ∷ t) (one_tail a.0 b.0 x some a.2 b.2) ∙ sym b.1)
 
   -- ---- places
 
@@ -256,11 +276,7 @@ module _ (N : ℕ) (P : Picture) (w p : ℕ) (d : Side) (leaf new far : ℕ) (dl
           go (Some t) k =
               let i = taken (below P) (below Q) p d new exchange 1 q t k in
               let old : follow (below P) leaf t ≡ x = sym (ap (follow (below P) 1) i.is ∙ (follow-append (below P) 1 i.front (d ∷ t) ∙ (ap (λ (s : ℕ). follow (below P) (below P s d) t) i.comes ∙ ap (λ (s : ℕ). follow (below P) s t) leads_to_leaf))) ∙ h in
-              (p_on_path.path ++ d ∷ dl ∷ [], through (dl ∷ []) ∙ (new_leaf ∙ at_leaf t old))
-            where
-              at_leaf : (t : List Side) → follow (below P) leaf t ≡ x → leaf ≡ x
-              at_leaf [] h = h
-              at_leaf (g ∷ t) h = absurd (some (sym h ∙ follow_leaf (below P) (null_below N P law) leaf link.is_leaf g t))
+              (p_on_path.path ++ d ∷ dl ∷ t, through (dl ∷ t) ∙ (ap (λ (s : ℕ). follow (below Q) s t) new_leaf ∙ (under_leaf t ∙ old)))
 
       came : (q : List Side) → follow (below Q) 1 q ≡ x → (r : List Side) × (follow (below P) 1 r ≡ x)
       came q h = go (way q x h some)
@@ -268,7 +284,7 @@ module _ (N : ℕ) (P : Picture) (w p : ℕ) (d : Side) (leaf new far : ℕ) (dl
           go : Way q x → (r : List Side) × (follow (below P) 1 r ≡ x)
           go (inl a) = (q, a.1)
           go (inr (t, e, inl a)) = absurd (n a.1)
-          go (inr (t, e, inr (inl a))) = (leaf_on_path.path, leaf_on_path.ends ∙ sym a.1)
+          go (inr (t, e, inr (inl a))) = (p_on_path.path ++ d ∷ a.0, leaf_path a.0 ∙ a.2)
           go (inr (t, e, inr (inr a))) = absurd (f a.1)
 
   -- ---- what a worker may come to
@@ -385,7 +401,7 @@ module _ (N : ℕ) (P : Picture) (w p : ℕ) (d : Side) (leaf new far : ℕ) (dl
     privates = λ u x h. law.privates u x (private_back u x h);
     queues = law.queues;
     known = law.known;
-    root_left = ap (λ (e : Edge). e.slot) (differs 1 Left (λ i. law.second (ap (λ (y : ℕ). below P y Left) (sym law.root_left ∙ ap (λ (e : Edge). e.slot) i) ∙ link.is_leaf Left))) ∙ law.root_left;
+    root_left = ap (λ (e : Edge). e.slot) (differs 1 Left (λ i. not_second (sym (ap (λ (e : Edge). e.slot) i) ∙ law.root_left))) ∙ law.root_left;
     second = cond_both (eqb 2 p && same_side d Left) (to new) (P.edges 2 Left) (λ e. e.slot ≢ 0) (λ _. (private_slot new link.own).0) (λ _. law.second);
     sentinels = λ x g a b. null_stays x g (law.sentinels x g a b);
     places = λ x some inside. elim (ℕ_discrete x new) [
@@ -447,7 +463,7 @@ module _ (N : ℕ) (P : Picture) (w p : ℕ) (d : Side) (leaf new far : ℕ) (dl
               by : Way q x → below Q (below Q x g) f ≡ 0
               by (inl a) = flagged_leaf x g (λ k. rw (← a.1) (law.leaf_reached q g (rw a.1 k))) h f
               by (inr (t, e, inl a)) = absurd (true≢false (sym h ∙ (ap (λ (y : ℕ). (Q.edges y g).flag) a.1 ∙ unflagged_new g)))
-              by (inr (t, e, inr (inl a))) = flagged_leaf x g (λ k. rw (a.1, ← leaf_on_path.ends) (law.leaf_reached leaf_on_path.path g (rw (leaf_on_path.ends, ← a.1) k))) h f
+              by (inr (t, e, inr (inl a))) = flagged_leaf x g (λ k. let ends = leaf_path a.0 ∙ a.2 in rw (← ends) (law.leaf_reached (p_on_path.path ++ d ∷ a.0) g (rw ends k))) h f
               by (inr (t, e, inr (inr a))) = absurd (true≢false (sym h ∙ (ap (λ (y : ℕ). (Q.edges y g).flag) a.1 ∙ ap (λ (e : Edge). e.flag) (plain_far g))))
 
       known_leaf : (u x : ℕ) (g : Side) → Near u x → (Q.edges x g).flag ≡ true → (f : Side) → below Q (below Q x g) f ≡ 0

@@ -16,6 +16,8 @@ use Rattle.nm_model.specs.Maps.{get}
 use Rattle.nm_model.specs.Ledgers.{held, queue_of, labelled}
 use Rattle.nm_model.specs.Runs.{State, of, start, after, next, outcome}
 use Rattle.nm_model.specs.Places.{slot_of}
+use Rattle.nm_model.specs.Memory.{node}
+use Rattle.nm_model.specs.Paths.{Reached}
 use Rattle.nm_model.specs.Laws.{OfEachState, node_in, NoNodeTwice}
 use Rattle.nm_model.proofs.Lists.{get_left, get_right}
 use Rattle.nm_laws.proofs.Changes.{IsWon}
@@ -87,7 +89,7 @@ entry s t o k n before after b (Shortened l q rest was queue is ripe none r give
 
 module _ (s : State) (h : ℕ → ℕ) (law : Lawful s h) (once : OnceLaw s h) where
   -- a retired node with its slot's birth is not reached
-  not_reached : (o k : ℕ) (n : NodeId) → slice_get (retired_in (ledger_at s h o)) k ≡ Some n → n.birth ≡ word s.memory n.slot → IsOnPath (picture s h) n.slot → ⊥
+  pub not_reached : (o k : ℕ) (n : NodeId) → slice_get (retired_in (ledger_at s h o)) k ≡ Some n → n.birth ≡ word s.memory n.slot → IsOnPath (picture s h) n.slot → ⊥
   not_reached o k n at birth on = go (once.spent o k n at)
     where
       live : IsLive (picture s h) n.slot
@@ -226,6 +228,19 @@ sound_once s k w v o p i j l m n is is' at at' = k.once.once o p i j n (ap (λ x
   where
     held_by : (w o : ℕ) (l : Ledger) → held (of s w).ledgers o ≡ Some l → ledger_at s k.holder o ≡ Some l
     held_by w o l is = ap (λ (y : ℕ). held (of s y).ledgers o) (sym (k.law.holders.only w o (ap is_some is))) ∙ is
+
+-- a slot that is reached has a greater birth than each node of it that was retired
+pub sound_younger : (s : State) → IsSound s → (w o i : ℕ) (l : Ledger) (n : NodeId) → held (of s w).ledgers o ≡ Some l → slice_get l.retired i ≡ Some n → Reached s.memory n.slot → n.birth < (node s.memory n.slot).birth
+sound_younger s k w o i l n is at r = elim (cases_lt n.birth (word s.memory n.slot)) [
+  | inl less ↦ less
+  | inr more ↦ absurd (not_reached s k.holder k.law k.once o i n there (same (k.once.bound o i n there) more) (record { path = r.path; ends = r.ends; is_slot = r.is_slot }))
+]
+  where
+    there : slice_get (retired_in (ledger_at s k.holder o)) i ≡ Some n
+    there = ap (λ x. slice_get (retired_in x) i) (ap (λ (y : ℕ). held (of s y).ledgers o) (sym (k.law.holders.only w o (ap is_some is))) ∙ is) ∙ at
+
+    same : n.birth ≤ word s.memory n.slot → word s.memory n.slot ≤ n.birth → n.birth ≡ word s.memory n.slot
+    same a b = omega (arith, a, b)
 
 pub no_node_is_cut_twice : OfEachState NoNodeTwice
 no_node_is_cut_twice L enough turns = sound_once (after (start L) turns) (sound L enough turns)

@@ -1,9 +1,10 @@
 -- The laws of the tree are kept by a link.
 use Rattle.std.proofs.Common.{◌≡◌, ℕ, ◌+◌, ◌≢◌, ◌<◌, ◌⊎◌, inl, inr, eqb, Bool, true, false, cond, ◌||◌, ◌&&◌, [], ◌∷◌, length, refl, sym, ap, subst, ◌∙◌, arith, true≢false}
-use Rattle.std.specs.Prelude.{Option, Some, None, unwrap_or, is_some}
+use Rattle.std.specs.Prelude.{Option, Some, None, unwrap_or, is_some, nat_le, ◌≤◌}
 use mathlib.Core.Path.{fun_ext}
-use Rattle.std.proofs.lemmas.Bool.{and_left, cond-true, cond-false, eq-eqb, ne_eqb, and_parts, or_cases}
+use Rattle.std.proofs.lemmas.Bool.{leb-true, and_left, cond-true, cond-false, eq-eqb, ne_eqb, and_parts, or_cases}
 use Rattle.nm_edge.specs.Edges.{Edge, to, other, is_to}
+use Rattle.nm_edge.specs.Layouts.{Layout}
 use Rattle.nm_edge.specs.declared.edge.Side.{Side}
 use Rattle.nm_edge.specs.declared.edge.Side.TheVariants.{Left, Right}
 use Rattle.nm_edge.specs.declared.node.NodeId.{NodeId}
@@ -14,7 +15,7 @@ use Rattle.nm_model.specs.Maps.{get, without, has, is_number}
 use Rattle.nm_model.specs.Memory.{Memory, edge, put_edge}
 use Rattle.nm_model.specs.Knowledge.{Knowledge, unfilled, knows, is_private, draft_of, read, read_on, knows_leaf, beside}
 use Rattle.nm_model.specs.Learning.{learn, linked_in}
-use Rattle.nm_model.specs.Step.{exchanged, is_fork_over, is_linkable, is_leaf_draft}
+use Rattle.nm_model.specs.Step.{exchanged, is_fork_over, is_linkable, is_leaf_draft, may_be_over}
 use Rattle.nm_model.proofs.Numbers.{number_is}
 use Rattle.nm_model.proofs.Tables.{get-without, Ascends, ascends-without}
 use Rattle.nm_laws.proofs.Learned.{learn_linked, learn_link_lost}
@@ -81,15 +82,23 @@ linkable k new leaf h = go (is_number (draft_of k new).left leaf) refl (or_cases
       far_null = null;
     }
 
-pub link_shown : (N : ℕ) (m : Memory) (kn : ℕ → Knowledge) (hold : ℕ → ℕ) (w p : ℕ) (d : Side) (leaf new : ℕ) → knows (kn w) p ≡ true → knows (kn w) leaf ≡ true → knows_leaf (kn w) leaf ≡ true → is_private (kn w) new ≡ true
-    → (l : Linkable (kn w) new leaf) → edge m p d ≡ to leaf → TreeLaw N (view m kn hold) → IsLink N (view m kn hold) w p d leaf new l.far l.side
-link_shown N m kn hold w p d leaf new known held leafy own l is law = record {
+-- the slot is known as a leaf, or it is a slot above 5 of a radix tree
+over_it : (L : Layout) (k : Knowledge) (x : ℕ) → may_be_over L k x ≡ true → (knows_leaf k x ≡ true) ⊎ ((L.radix ≡ true) × (6 ≤ x))
+over_it L k x h = elim (or_cases (knows_leaf k x) (L.radix && nat_le 6 x) h) [
+  | inl leafy ↦ inl leafy
+  | inr high ↦ let two = and_parts L.radix (nat_le 6 x) high in inr (two.0, leb-true 6 x two.1)
+]
+
+pub link_shown : (L : Layout) (N : ℕ) (m : Memory) (kn : ℕ → Knowledge) (hold : ℕ → ℕ) (w p : ℕ) (d : Side) (leaf new : ℕ) → knows (kn w) p ≡ true → knows (kn w) leaf ≡ true → may_be_over L (kn w) leaf ≡ true → is_private (kn w) new ≡ true
+    → (l : Linkable (kn w) new leaf) → edge m p d ≡ to leaf → TreeLaw N (view m kn hold) → IsLink L.radix N (view m kn hold) w p d leaf new l.far l.side
+link_shown L N m kn hold w p d leaf new known held leafy own l is law = record {
   live = known_live N m kn hold w p law known;
   is_slot = λ z. let r = law.known w p known in omega arith;
   inside = (law.known w p known).1;
   unmarked = is;
   leaf_slot = leaf_slot;
-  is_leaf = leaf_known N m kn hold w leaf law (known_live N m kn hold w leaf law held) leafy;
+  is_leaf = λ search. shown_leaf search (over_it L (kn w) leaf leafy);
+  over = either (over_it L (kn w) leaf leafy);
   own = own;
   far_own = l.far_own;
   apart = λ e. leaf_slot (ap (λ (y : Edge). y.slot) (sym over ∙ (ap (λ (y : ℕ). edge m y l.side) e ∙ (law.drafts w l.far l.side 0 (l.far_null l.side)).1)));
@@ -101,6 +110,17 @@ link_shown N m kn hold w p d leaf new known held leafy own l is law = record {
     leaf_slot : leaf ≢ 0
     leaf_slot z = let r = law.known w leaf held in omega arith
 
+    null : knows_leaf (kn w) leaf ≡ true → (f : Side) → (edge m leaf f).slot ≡ 0
+    null is = leaf_known N m kn hold w leaf law (known_live N m kn hold w leaf law held) is
+
+    shown_leaf : L.radix ≡ false → (knows_leaf (kn w) leaf ≡ true) ⊎ ((L.radix ≡ true) × (6 ≤ leaf)) → (f : Side) → (edge m leaf f).slot ≡ 0
+    shown_leaf search (inl is) = null is
+    shown_leaf search (inr high) = absurd (true≢false (sym high.0 ∙ search))
+
+    either : (knows_leaf (kn w) leaf ≡ true) ⊎ ((L.radix ≡ true) × (6 ≤ leaf)) → ((f : Side) → (edge m leaf f).slot ≡ 0) ⊎ (6 ≤ leaf)
+    either (inl is) = inl (null is)
+    either (inr high) = inr high.1
+
     over : edge m new l.side ≡ to leaf
     over = (law.drafts w new l.side leaf l.over_leaf).1
 
@@ -108,9 +128,9 @@ link_shown N m kn hold w p d leaf new known held leafy own l is law = record {
     beside_it (inl z) = let r = law.privates w l.far l.far_own in absurd (omega arith)
     beside_it (inr h) = (law.drafts w new (other l.side) l.far h).1
 
-link_won : (N : ℕ) (m : Memory) (kn : ℕ → Knowledge) (hold : ℕ → ℕ) (w p : ℕ) (d : Side) (leaf new : ℕ) (n : NodeId) → p < length m.nodes → knows (kn w) p ≡ true → (l : Linkable (kn w) new leaf) → IsLink N (view m kn hold) w p d leaf new l.far l.side → Ascends (kn w).drafts → TreeLaw N (view m kn hold)
+link_won : (r : Bool) (N : ℕ) (m : Memory) (kn : ℕ → Knowledge) (hold : ℕ → ℕ) (w p : ℕ) (d : Side) (leaf new : ℕ) (n : NodeId) → p < length m.nodes → knows (kn w) p ≡ true → (l : Linkable (kn w) new leaf) → IsLink r N (view m kn hold) w p d leaf new l.far l.side → Ascends (kn w).drafts → TreeLaw N (view m kn hold)
     → TreeLaw N (view (put_edge m p d (to new)) (with_worker kn w (linked_in (kn w) leaf new)) hold)
-link_won N m kn hold w p d leaf new n inside known l shown keys law = subst (λ (f : ℕ → Knowledge). TreeLaw N (view (put_edge m p d (to new)) f hold)) twice (learn_view N (put_edge m p d (to new)) kn1 hold w (linked_in (kn w) leaf new) (record {
+link_won r N m kn hold w p d leaf new n inside known l shown keys law = subst (λ (f : ℕ → Knowledge). TreeLaw N (view (put_edge m p d (to new)) f hold)) twice (learn_view N (put_edge m p d (to new)) kn1 hold w (linked_in (kn w) leaf new) (record {
   pin = sym (ap (λ (y : Knowledge). y.brief.pin) mine);
   queue = λ o. sym (ap (λ (y : Knowledge). held_queue y o) mine);
   private = λ x. sym (ap (λ (y : Knowledge). is_private y x) mine);
@@ -164,7 +184,7 @@ link_won N m kn hold w p d leaf new n inside known l shown keys law = subst (λ 
             by false false g = ap (λ (v : ℕ). drafted_on (draft_of (kn v) x) g) (sym e)
 
     first : TreeLaw N (view (put_edge m p d (to new)) kn1 hold)
-    first = law_of N (picture_linked (view m kn hold) w p d new l.far) (view (put_edge m p d (to new)) kn1 hold) (link_keeps N (view m kn hold) w p d leaf new l.far l.side law shown) (record {
+    first = law_of N (picture_linked (view m kn hold) w p d new l.far) (view (put_edge m p d (to new)) kn1 hold) (link_keeps r N (view m kn hold) w p d leaf new l.far l.side law shown) (record {
       edges = λ x g. sym (edge_put m p d (to new) inside x g);
       pool = λ x. refl;
       private = λ u x. sym (row (λ y. is_private y x) kn w k1 u (hand (hand (λ v. is_private (kn v)) w new false) w l.far false u x) (λ e. gone u x e)
@@ -190,9 +210,9 @@ link_won N m kn hold w p d leaf new n inside known l shown keys law = subst (λ 
     too : (x : ℕ) → knows (kn w) x ≡ true → knows (linked_in (kn w) leaf new) x ≡ true
     too x h = has_met_there (kn w).known new x h
 
-pub link_view : (N : ℕ) (m : Memory) (kn : ℕ → Knowledge) (hold : ℕ → ℕ) (w p : ℕ) (d : Side) (leaf new : ℕ) (n : NodeId) → length m.nodes ≡ N + 1 → knows (kn w) p ≡ true → knows (kn w) leaf ≡ true → knows_leaf (kn w) leaf ≡ true → is_private (kn w) new ≡ true → is_linkable (kn w) new leaf ≡ true → Ascends (kn w).drafts → TreeLaw N (view m kn hold)
+pub link_view : (L : Layout) (N : ℕ) (m : Memory) (kn : ℕ → Knowledge) (hold : ℕ → ℕ) (w p : ℕ) (d : Side) (leaf new : ℕ) (n : NodeId) → length m.nodes ≡ N + 1 → knows (kn w) p ≡ true → knows (kn w) leaf ≡ true → may_be_over L (kn w) leaf ≡ true → is_private (kn w) new ≡ true → is_linkable (kn w) new leaf ≡ true → Ascends (kn w).drafts → TreeLaw N (view m kn hold)
     → TreeLaw N (view (exchanged m p d leaf (to new)) (with_worker kn w (learn w (kn w) (Link p d leaf new) (cond (is_to (edge m p d) leaf) (Linked n) (Lost (edge m p d))))) hold)
-link_view N m kn hold w p d leaf new n size known held leafy own ready keys law = go (is_to (edge m p d) leaf) refl
+link_view L N m kn hold w p d leaf new n size known held leafy own ready keys law = go (is_to (edge m p d) leaf) refl
   where
     inside : p < length m.nodes
     inside = let r = law.known w p known in omega arith
@@ -202,4 +222,4 @@ link_view N m kn hold w p d leaf new n size known held leafy own ready keys law 
 
     go : (b : Bool) → is_to (edge m p d) leaf ≡ b → TreeLaw N (view (cond b (put_edge m p d (to new)) m) (with_worker kn w (learn w (kn w) (Link p d leaf new) (cond b (Linked n) (Lost (edge m p d))))) hold)
     go false h = rw (learn_link_lost w (kn w) p d leaf new (edge m p d)) (lost_view N m kn hold w p d known law)
-    go true h = rw (learn_linked w (kn w) p d leaf new n) (link_won N m kn hold w p d leaf new n inside known l (link_shown N m kn hold w p d leaf new known held leafy own l (is_to-true (edge m p d) leaf h) law) keys law)
+    go true h = rw (learn_linked w (kn w) p d leaf new n) (link_won L.radix N m kn hold w p d leaf new n inside known l (link_shown L N m kn hold w p d leaf new known held leafy own l (is_to-true (edge m p d) leaf h) law) keys law)

@@ -4,6 +4,7 @@ use Rattle.std.specs.Prelude.{Option, Some, None, is_some, is_none, unwrap_or, n
 use native.Mathlib.Decide.{ℕ_discrete}
 use Rattle.std.proofs.lemmas.Bool.{cond_both, cond-true, cond-false, eq-eqb, ne_eqb, or_parts, not-false, ltb-false, lt-ltb, and_parts}
 use Rattle.nm_edge.specs.Edges.{other}
+use Rattle.nm_edge.specs.Layouts.{Layout}
 use Rattle.nm_edge.specs.declared.edge.Side.{Side}
 use Rattle.nm_model.specs.declared.event.Field.{Field}
 use Rattle.nm_model.specs.declared.event.Field.TheVariants.{Edge as EdgeOn}
@@ -18,7 +19,7 @@ use Rattle.nm_model.specs.Memory.{note}
 use Rattle.nm_model.specs.Ledgers.{held, queue_of, front_of, taken_over}
 use Rattle.nm_model.specs.Knowledge.{Knowledge, knows, is_private, draft_of, read, is_flagged, knows_leaf}
 use Rattle.nm_model.specs.Learning.{learn}
-use Rattle.nm_model.specs.Step.{outside, is_edge, is_frozen, is_linkable, node_of, reply_sight, refusal, reply, write}
+use Rattle.nm_model.specs.Step.{outside, is_edge, is_frozen, is_linkable, node_of, reply_sight, refusal, reply, write, may_be_over}
 use Rattle.nm_model.specs.Runs.{State, of, refusal_of, reply_of}
 use Rattle.nm_laws.proofs.Steps.{Allowed, passed, second, third, fourth, fifth}
 use Rattle.nm_laws.proofs.Sizes.{Staffed, Roomy}
@@ -50,31 +51,31 @@ pub record Lawful (s : State) (h : ℕ → ℕ) : Type 0 where
   pub tree : TreeLaw s.layout.nodes (picture s h)
 
 -- what a link that is allowed has shown by its worker's knowledge
-pub record LinkChecked (k : Knowledge) (p leaf new : ℕ) : Type 0 where
+pub record LinkChecked (L : Layout) (k : Knowledge) (p leaf new : ℕ) : Type 0 where
   pub known : knows k p ≡ true
   pub held : knows k leaf ≡ true
-  pub leafy : knows_leaf k leaf ≡ true
+  pub leafy : may_be_over L k leaf ≡ true
   pub own : is_private k new ≡ true
   pub ready : is_linkable k new leaf ≡ true
 
-pub link_checked : (s : State) (w p : ℕ) (d : Side) (leaf new : ℕ) → refusal_of s w (Link p d leaf new) ≡ None → LinkChecked (of s w) p leaf new
+pub link_checked : (s : State) (w p : ℕ) (d : Side) (leaf new : ℕ) → refusal_of s w (Link p d leaf new) ≡ None → LinkChecked s.layout (of s w) p leaf new
 unfolding refusal
 link_checked s w p d leaf new ok = record {
   known = three.0;
   held = leaf_known.0;
   leafy = leaf_known.1;
-  own = not-false (is_private (of s w) new) (fourth first (is_none (of s w).brief.pin) (not (knows (of s w) p && (knows (of s w) leaf && knows_leaf (of s w) leaf))) (not (is_private (of s w) new)) NoSlot NotPinned NotHeld NotPrivate _ ok);
-  ready = not-false (is_linkable (of s w) new leaf) (fifth first (is_none (of s w).brief.pin) (not (knows (of s w) p && (knows (of s w) leaf && knows_leaf (of s w) leaf))) (not (is_private (of s w) new)) (not (is_linkable (of s w) new leaf)) NoSlot NotPinned NotHeld NotPrivate NotReady _ ok);
+  own = not-false (is_private (of s w) new) (fourth first (is_none (of s w).brief.pin) (not (knows (of s w) p && (knows (of s w) leaf && may_be_over s.layout (of s w) leaf))) (not (is_private (of s w) new)) NoSlot NotPinned NotHeld NotPrivate _ ok);
+  ready = not-false (is_linkable (of s w) new leaf) (fifth first (is_none (of s w).brief.pin) (not (knows (of s w) p && (knows (of s w) leaf && may_be_over s.layout (of s w) leaf))) (not (is_private (of s w) new)) (not (is_linkable (of s w) new leaf)) NoSlot NotPinned NotHeld NotPrivate NotReady _ ok);
 }
   where
     first : Bool
     first = outside 1 s.layout.nodes p || (outside 1 s.layout.nodes leaf || outside 6 s.layout.nodes new)
 
-    three : (knows (of s w) p ≡ true) × ((knows (of s w) leaf && knows_leaf (of s w) leaf) ≡ true)
-    three = and_parts (knows (of s w) p) (knows (of s w) leaf && knows_leaf (of s w) leaf) (not-false _ (third first (is_none (of s w).brief.pin) (not (knows (of s w) p && (knows (of s w) leaf && knows_leaf (of s w) leaf))) NoSlot NotPinned NotHeld _ ok))
+    three : (knows (of s w) p ≡ true) × ((knows (of s w) leaf && may_be_over s.layout (of s w) leaf) ≡ true)
+    three = and_parts (knows (of s w) p) (knows (of s w) leaf && may_be_over s.layout (of s w) leaf) (not-false _ (third first (is_none (of s w).brief.pin) (not (knows (of s w) p && (knows (of s w) leaf && may_be_over s.layout (of s w) leaf))) NoSlot NotPinned NotHeld _ ok))
 
-    leaf_known : (knows (of s w) leaf ≡ true) × (knows_leaf (of s w) leaf ≡ true)
-    leaf_known = and_parts (knows (of s w) leaf) (knows_leaf (of s w) leaf) three.1
+    leaf_known : (knows (of s w) leaf ≡ true) × (may_be_over s.layout (of s w) leaf ≡ true)
+    leaf_known = and_parts (knows (of s w) leaf) (may_be_over s.layout (of s w) leaf) three.1
 
 some_of : {X : Type 0} (o : Option X) → is_some o ≡ true → (x : X) × (o ≡ Some x)
 some_of None i = absurd (true≢false (sym i))
@@ -153,7 +154,7 @@ module _ (s : State) (h : ℕ → ℕ) (law : Lawful s h) (w : ℕ) where
           small d is = ltb-false s.layout.nodes v (ap (λ (g : Field). is_edge g && nat_lt s.layout.nodes v) (sym is) ∙ parts.1)
       go (Link p d leaf new) ok alone =
           let c = link_checked s w p d leaf new ok in
-          link_view s.layout.nodes s.memory (of s) h w p d leaf new _ law.roomy.nodes c.known c.held c.leafy c.own c.ready (law.drafts w) law.tree
+          link_view s.layout s.layout.nodes s.memory (of s) h w p d leaf new _ law.roomy.nodes c.known c.held c.leafy c.own c.ready (law.drafts w) law.tree
       go (Flag p d leaf) ok alone = flag_view s.layout.nodes s.memory (of s) h w p d leaf law.roomy.nodes high known leaf_known.0 leaf_known.1 law.tree
         where
           first : Bool

@@ -13,7 +13,7 @@ use Rattle.core.specs.declared.alloc.Allocator.{Ghosts}
 use Rattle.std_alloc.proofs.SendSync.{FreesAnywhere, quiet, lies}
 use Rattle.circular_buffer.specs.Ownership.{slots, slots_lent, cells_own, cells_lent}
 use Rattle.nm_limbo.specs.Ownership.{next_of, places_of, links_own, places_own, deeds_own, room_owns, chain_lent}
-use Rattle.nm_limbo.specs.contracts.chain.Chain as Chain
+use Rattle.nm_limbo.specs.contracts.block.chain.Chain as Chain
 
 room : (τ : Ty) (p : Ptr) → Keyless (room_for τ p)
 room τ (block_ptr b o) = tt

@@ -30,7 +30,7 @@ use Rattle.circular_buffer.specs.Ownership.{cells_own, cells_lent}
 use Rattle.circular_buffer.proofs.Memory.{Place}
 use Rattle.nm_limbo.specs.Blocks.{first_block_of}
 use Rattle.nm_limbo.specs.Ownership.{link_owns, links_own, places_of, deed_owns, deeds_own, places_own, chain_lent}
-use Rattle.nm_limbo.specs.contracts.chain.Chain as Chain
+use Rattle.nm_limbo.specs.contracts.block.chain.Chain as Chain
 
 module _ (E : El) (Z : Al) where
   abbrev pub Ch : RattleType

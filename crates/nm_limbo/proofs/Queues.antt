@@ -86,12 +86,12 @@ popped_gives q r x ys spare blocks more was is gives = (
 
 module _ {X A : Type 0} where
   -- what lies in the blocks says which queue they are
-  pub queue_made : (used empty : BlockList X A) (p n : ℕ) (xs : List X) (s : ℕ) (a : A) → IsLaid used empty p xs s a → n ≡ length xs
+  pub queue_made : (used empty : BlockList X A) (p n : ℕ) (xs : List X) (s : ℕ) (a : A) → IsLaid used empty p xs s a → n ≡ length xs → s ≤ 31
       → IsQueue used empty p n a × (block_queue_of used empty p n ≡ block_queue xs (s + length empty.slots) (used.blocks + empty.blocks))
-  queue_made used empty p n xs s a is count =
+  queue_made used empty p n xs s a is count few =
       let items : xs ≡ somes used.slots = sym (ap somes is.laid_out ∙ somes_laid p xs s) in
       let left : s ≡ length used.slots - (p + n) = omega (arith, is.whole) in (
-        (count ∙ ap length items, subst (λ ys. IsLaid used empty p ys (length used.slots - (p + n)) a) items (subst (λ k. IsLaid used empty p xs k a) left is)),
+        ((count ∙ ap length items, subst (λ k. k ≤ 31) left few), subst (λ ys. IsLaid used empty p ys (length used.slots - (p + n)) a) items (subst (λ k. IsLaid used empty p xs k a) left is)),
         (λ i. block_queue (sym items i) (sym left i + length empty.slots) (used.blocks + empty.blocks)),
       )
 
@@ -220,7 +220,7 @@ module _ {X A : Type 0} where
   pub front_at : (used empty : BlockList X A) (p n : ℕ) (a : A) (q : BlockQueue X) → IsQueue used empty p n a → 0 < n → block_queue_of used empty p n ≡ q
       → (p < 32) × ((x : X) × (get_or used.slots p None ≡ Some x)) × ((x : X) → get_or used.slots p None ≡ Some x → Some x ≡ slice_get q.items 0)
   front_at used empty p n a q is some view =
-      let e = first_item (items_in used) (omega (arith, is.0)) in let s = left_in used p n in
+      let e = first_item (items_in used) (omega (arith, is.0.0)) in let s = left_in used p n in
       let at = item_at used empty p s a e.0 e.1 (subst (λ xs. IsLaid used empty p xs s a) e.2 is.1) in
       let first : slice_get q.items 0 ≡ Some e.0 = ap (λ xs. slice_get xs 0) (sym (ap (λ w. w.items) view) ∙ e.2) in
       (omega (arith, is.1.front), (e.0, at), λ x found. sym found ∙ at ∙ sym first)
@@ -233,13 +233,13 @@ module _ {X A : Type 0} where
     fronted : IsQueue used empty p n a → 0 < n → block_queue_of used empty p n ≡ q → get_or used.slots p None ≡ Some x
         → (ys : List X) × IsLaid used empty p (x ∷ ys) left a × (n ≡ length ys + 1) × (q ≡ block_queue (x ∷ ys) (left + length empty.slots) (used.blocks + empty.blocks)) × (popped q ≡ p)
     fronted is some view at =
-        let e = first_item (items_in used) (omega (arith, is.0)) in
+        let e = first_item (items_in used) (omega (arith, is.0.0)) in
         let first = subst (λ xs. IsLaid used empty p xs left a) e.2 is.1 in
         let found : Some e.0 ≡ Some x = sym (item_at used empty p left a e.0 e.1 first) ∙ at in
         let same : e.0 ≡ x = cc in let cut : items_in used ≡ x ∷ e.1 = e.2 ∙ ap (λ y. y ∷ e.1) same in let count = ap length cut in
         let now = subst (λ xs. IsLaid used empty p xs left a) cut is.1 in
         let was : q ≡ block_queue (x ∷ e.1) (left + length empty.slots) (used.blocks + empty.blocks) = sym view ∙ ap (λ xs. block_queue xs (left + length empty.slots) (used.blocks + empty.blocks)) cut in
-        (e.1, now, omega (arith, is.0), was, ap popped was ∙ used_up used empty p (x ∷ e.1) left a now)
+        (e.1, now, omega (arith, is.0.0), was, ap popped was ∙ used_up used empty p (x ∷ e.1) left a now)
 
     -- what moving the front block requires, once its last item is out
     pub pop_last_requires : IsQueue used empty p n a → 0 < n → block_queue_of used empty p n ≡ q → get_or used.slots p None ≡ Some x → p ≡ 31
@@ -253,7 +253,7 @@ module _ {X A : Type 0} where
         → read ≡ block_list (set used.slots p None) used.blocks used.alloc
         → IsQueue read empty (p + 1) (n - 1) a × (r ≡ block_queue_of read empty (p + 1) (n - 1) → IsPopped q r x)
     pop_within is some view at lt er =
-        let f = fronted is some view at in let made = queue_made read empty (p + 1) (n - 1) f.0 left a (popped_within used empty p left a x f.0 read f.1 lt er) (omega (arith, f.2)) in
+        let f = fronted is some view at in let made = queue_made read empty (p + 1) (n - 1) f.0 left a (popped_within used empty p left a x f.0 read f.1 lt er) (omega (arith, f.2)) is.0.1 in
         let sum : left + length empty.slots ≡ left + length empty.slots + 0 = omega arith in
         let blocks : read.blocks + empty.blocks ≡ used.blocks + empty.blocks = ap (λ l. l.blocks + empty.blocks) er in (
           made.0,
@@ -267,7 +267,7 @@ module _ {X A : Type 0} where
         → IsQueue new free 0 (n - 1) a × (r ≡ block_queue_of new free 0 (n - 1) → IsPopped q r x)
     pop_last new free is some view at last er en ef =
         let f = fronted is some view at in let laid = popped_last used empty p left a x f.0 read new free f.1 last er en ef in
-        let made = queue_made new free 0 (n - 1) f.0 left a laid (omega (arith, f.2)) in
+        let made = queue_made new free 0 (n - 1) f.0 left a laid (omega (arith, f.2)) is.0.1 in
         let more = ap (λ l. l.blocks) ef in let was = ap (λ l. l.blocks) er in let now = ap (λ l. l.blocks) en in let some = f.1.whole in let places = f.1.places.0 in
         let longer = ap (λ l. length l.slots) ef ∙ length-append empty.slots (replicate 32 None) in
         let sum : left + length free.slots ≡ left + length empty.slots + 32 = omega arith in
@@ -286,7 +286,7 @@ module _ {X A : Type 0} where
     rest = left_in used p n
 
     seen : IsQueue used empty p n a → block_queue_of used empty p n ≡ q → IsLaid used empty p q.items rest a × (n ≡ length q.items)
-    seen is view = let items = ap (λ w. w.items) view in (subst (λ xs. IsLaid used empty p xs rest a) items is.1, is.0 ∙ ap length items)
+    seen is view = let items = ap (λ w. w.items) view in (subst (λ xs. IsLaid used empty p xs rest a) items is.1, is.0.0 ∙ ap length items)
 
     pub ready : IsQueue used empty p n a → block_queue_of used empty p n ≡ q → p + n < length used.slots → IsReady used empty p n a q
     ready is view lt =
@@ -320,7 +320,7 @@ module _ {X A : Type 0} where
         → IsQueue new empty p (n + 1) a × (block_queue_of new empty p (n + 1) ≡ block_queue (q.items ++ x ∷ []) (q.spare - 1) q.blocks)
     push_made k x new is at e =
         let count = length-append q.items (x ∷ []) in let blocks = ap (λ l. l.blocks) e in
-        let made = queue_made new empty p (n + 1) (q.items ++ x ∷ []) is.0 a (pushed used empty p (suc is.0) a q.items is.0 k x new is.1 refl (omega (arith, is.2)) e) (omega (arith, is.2)) in
+        let made = queue_made new empty p (n + 1) (q.items ++ x ∷ []) is.0 a (pushed used empty p (suc is.0) a q.items is.0 k x new is.1 refl (omega (arith, is.2)) e) (omega (arith, is.2)) (omega (arith, is.1.back)) in
         let spare : is.0 + length empty.slots ≡ q.spare - 1 = omega (arith, is.3) in let same : new.blocks + empty.blocks ≡ q.blocks = omega (arith, is.4) in
         (made.0, made.1 ∙ (λ i. block_queue (q.items ++ x ∷ []) (spare i) (same i)))
 
@@ -330,4 +330,4 @@ module _ {X A : Type 0} where
     block_added free is view spare items ef =
         let s = seen is view in let left = ap (λ w. w.spare) view in
         let few : used.blocks + empty.blocks + 1 < 2 ^ 26 = omega (arith, s.0.front, s.0.whole, s.0.places.0, s.0.places.1) in
-        (queue_made used free p n q.items rest a (grown used empty p rest a q.items free s.0 few ef).0 s.1).0
+        (queue_made used free p n q.items rest a (grown used empty p rest a q.items free s.0 few ef).0 s.1 is.0.1).0

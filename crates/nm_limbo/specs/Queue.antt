@@ -1,5 +1,5 @@
 -- What a contract sees of a `BlockQueue`, and what holds of its fields.
-use Rattle.std.specs.Prelude.{◌≡◌, ℕ, ◌+◌, ◌-◌, ◌*◌, ◌^◌, ◌<◌, ◌≤◌, ◌==◌, cond, List, ◌∷◌, ◌++◌, map, length, replicate, Option, Some, None, refl}
+use Rattle.std.specs.Prelude.{◌≡◌, ℕ, ◌+◌, ◌-◌, ◌*◌, ◌/◌, ◌^◌, ◌<◌, ◌≤◌, ◌==◌, cond, List, ◌∷◌, ◌++◌, map, length, replicate, Option, Some, None, refl}
 use Rattle.std.specs.Coded.{Coded, code_by, coded×, coded_list, coded_ℕ}
 use Rattle.circular_buffer.specs.Places.{somes}
 use Rattle.nm_limbo.specs.List.{BlockList}
@@ -42,6 +42,14 @@ module _ {X : Type 0} where
   IsPopped q r x = (q.items ≡ x ∷ r.items) × (r.blocks ≡ q.blocks)
       × (r.spare ≡ q.spare + cond (popped q == 31) 32 0)
 
+  -- how many blocks lie in the spare places but for n of them
+  abbrev pub blocks_beyond : ℕ → BlockQueue X → ℕ
+  blocks_beyond n q = (q.spare - n) / 32
+
+  -- q without so many blocks
+  abbrev pub shrunk : ℕ → BlockQueue X → BlockQueue X
+  shrunk n q = block_queue q.items (q.spare - 32 * blocks_beyond n q) (q.blocks - blocks_beyond n q)
+
   -- the places of used-up items, of the items, and then empty ones
   abbrev pub laid : ℕ → List X → ℕ → List (Option X)
   laid p xs r = replicate p None ++ (map Some xs ++ replicate r None)
@@ -74,6 +82,8 @@ module _ {X A : Type 0} where
     pub laid_out : used.slots ≡ laid p xs s
     pub free : empty.slots ≡ replicate (length empty.slots) None
 
+  -- what holds of the fields of a queue: so it lies in its blocks, and the last of those in use has
+  -- a place that is an item's or used up
   abbrev pub IsQueue : BlockList X A → BlockList X A → ℕ → ℕ → A → Type 0
-  IsQueue used empty p n a = (n ≡ length (items_in used))
+  IsQueue used empty p n a = ((n ≡ length (items_in used)) × (left_in used p n ≤ 31))
       × IsLaid used empty p (items_in used) (left_in used p n) a

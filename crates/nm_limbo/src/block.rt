@@ -1,9 +1,12 @@
-//! A block of raw memory, and the values that stand for who owns which part of it.
-ghost use Rattle.std.specs.Prelude.{◌≡◌, ℕ, ◌*◌, ◌^◌, ◌<◌, IfOk, ⊤};
+//! A block of raw memory, and the values that stand for who owns which part of it. They are taken
+//! apart here and in the chain alone: elsewhere who has them can only hand them on.
+ghost use Rattle.std.specs.Prelude.{◌≡◌, ℕ, ◌+◌, ◌*◌, ◌^◌, ◌<◌, IfOk, ⊤};
 ghost use Rattle.std.specs.Mem.{type_size};
 ghost use base.Fml.{ftrue};
 ghost use denote.RawPtr.{Ptr, null_ptr};
 ghost use Rattle.nm_limbo.specs.Ownership.{room_owns, deed_owns};
+
+pub(crate) mod chain;
 
 use std::alloc::{AllocError, Allocator};
 use std::marker::{Model, PhantomData, Send, Sync};
@@ -16,13 +19,13 @@ pub(crate) const BLOCK_LEN: u32 = 32;
 /// A block as it lies in memory: the link to the next block, and a place for each item. No value of
 /// it is made.
 pub struct Block<T> {
-    pub(crate) next: *mut Block<T>,
-    pub(crate) places: [T; BLOCK_LEN as usize],
+    next: *mut Block<T>,
+    places: [T; BLOCK_LEN as usize],
 }
 
 /// Where a block lies. It owns nothing.
 pub struct BlockPtr<T> {
-    pub(crate) ptr: *mut Block<T>,
+    ptr: *mut Block<T>,
 }
 
 impl<T> Clone for BlockPtr<T> {
@@ -54,7 +57,7 @@ unsafe impl<T> Sync for BlockPtr<T> {}
 
 /// The memory of a block that is in no list and holds no item.
 pub(crate) struct Room<T> {
-    pub(crate) ptr: *mut Block<T>,
+    ptr: *mut Block<T>,
 }
 
 impl<T> Model for Room<T> {
@@ -63,7 +66,7 @@ impl<T> Model for Room<T> {
 
 /// The right to give the block at `at` back to `alloc`. It takes no space.
 pub(crate) struct Deed<T, A: Allocator> {
-    pub(crate) mark: PhantomData<*const (T, A)>,
+    mark: PhantomData<*const (T, A)>,
     ghost at: { Ptr },
     ghost alloc: { A },
 }
@@ -72,6 +75,7 @@ impl<T, A: Allocator> Model for Deed<T, A> {
     ghost also_owns = { λ d. deed_owns T.row (A.dealloc_token d.alloc) d.at };
 }
 
+/// Takes a block.
 pub(crate) fn allocate<T, A: Allocator>(alloc: &A) -> Result<(Room<T>, Deed<T, A>), AllocError>
     requires { 32 * type_size T.row < 2 ^ 63 }
     ensures { IfOk result (λ r. (r.1.at ≡ r.0.ptr) × (r.1.alloc ≡ alloc.now)) }
@@ -85,7 +89,8 @@ pub(crate) fn allocate<T, A: Allocator>(alloc: &A) -> Result<(Room<T>, Deed<T, A
     }
 }
 
-pub(crate) fn deallocate<T, A: Allocator>(alloc: &A, room: Room<T>, deed: Deed<T, A>)
+/// Gives the block back.
+fn deallocate<T, A: Allocator>(alloc: &A, room: Room<T>, deed: Deed<T, A>)
     requires { (deed.at ≡ room.ptr) × (deed.alloc ≡ alloc.now) }
 {
     let Room { ptr } = room;
@@ -96,5 +101,50 @@ pub(crate) fn deallocate<T, A: Allocator>(alloc: &A, room: Room<T>, deed: Deed<T
             size_of::<Block<T>>(),
             align_of::<Block<T>>(),
         );
+    }
+}
+
+/// A receipt for blocks that were given back: how many. It is written here alone, where a block is
+/// given back.
+#[derive(Drop)]
+pub struct Receipt {
+    blocks: u32,
+}
+
+impl Receipt {
+    /// A receipt for no block.
+    pub(crate) fn new() -> Receipt
+        ensures { result.blocks ≡ 0 }
+    {
+        Receipt { blocks: 0 }
+    }
+
+    /// Gives a block back to `alloc`: a receipt for one more.
+    pub(crate) fn and<T, A: Allocator>(self, alloc: &A, room: Room<T>, deed: Deed<T, A>) -> Receipt
+        requires { (deed.at ≡ room.ptr) × (deed.alloc ≡ alloc.now)
+            × (self.blocks + 1 < 2 ^ 32) }
+        ensures { result.blocks ≡ self.blocks + 1 }
+    {
+        deallocate(alloc, room, deed);
+        Receipt {
+            blocks: self.blocks + 1,
+        }
+    }
+
+    /// One receipt in place of two.
+    pub(crate) fn with(self, other: Receipt) -> Receipt
+        requires { self.blocks + other.blocks < 2 ^ 32 }
+        ensures { result.blocks ≡ self.blocks + other.blocks }
+    {
+        Receipt {
+            blocks: self.blocks + other.blocks,
+        }
+    }
+
+    /// How many blocks were given back.
+    pub fn blocks(&self) -> u32
+        ensures { result ≡ self.now.blocks }
+    {
+        self.blocks
     }
 }

@@ -1,19 +1,20 @@
 //! A queue over raw memory: a singly linked list of blocks, each with room for 32 items.
 //!
-//! The queue takes memory in `reserve` alone, and uses a block again once its items are popped. An
-//! item never moves: it stays at the place that it was pushed to until it is popped.
+//! The queue takes memory in `reserve` alone, and uses a block again once its items are popped;
+//! `shrink_to` gives empty blocks back. An item never moves: it stays at the place that it was pushed
+//! to until it is popped.
 #![tactic(auto)]
 
 mod block;
-mod chain;
 mod list;
 mod queue;
 
 // A crate can name a queue in a contract only if the types of its fields are exported.
 #[doc(hidden)]
 pub use block::BlockPtr;
+pub use block::Receipt;
 #[doc(hidden)]
-pub use chain::Chain;
+pub use block::chain::Chain;
 #[doc(hidden)]
 pub use list::BlockList;
 pub use queue::{BlockQueue, NoMemory};

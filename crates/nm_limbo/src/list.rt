@@ -5,8 +5,8 @@ ghost use Rattle.circular_buffer.specs.Places.{IsFilled};
 ghost use Rattle.nm_limbo.specs.Blocks.{IsEmptyAt};
 ghost use Rattle.nm_limbo.specs.List.{block_list, IsDeedTo};
 
-use crate::block::{BlockPtr, Deed, Room, deallocate};
-use crate::chain::Chain;
+use crate::block::chain::Chain;
+use crate::block::{BlockPtr, Deed, Receipt, Room};
 use std::alloc::Allocator;
 use std::marker::Model;
 
@@ -121,14 +121,29 @@ impl<T, A: Allocator> BlockList<T, A> {
         self.chain.get(self.first, index as usize)
     }
 
-    /// Gives each block of an empty list back.
-    pub(crate) fn free(mut self, alloc: &A)
-        requires { (self.alloc ≡ alloc.now) × (self.slots ≡ replicate (length self.slots) None) }
+    /// Gives the first `n` blocks of an empty list back.
+    pub(crate) fn free_first(&mut self, n: u32, alloc: &A) -> Receipt
+        requires { (n ≤ self.old.blocks) × (self.old.alloc ≡ alloc.now)
+            × (self.old.slots ≡ replicate (length self.old.slots) None) }
+        ensures list { self.new ≡ block_list (replicate (32 * (self.old.blocks - n)) None)
+            (self.old.blocks - n) self.old.alloc }
+        ensures receipt { result.blocks ≡ n }
     {
-        while self.blocks() > 0 {
+        let mut receipt = Receipt::new();
+        let left = self.blocks() - n;
+        while self.blocks() > left {
             let (room, deed) = self.pop_block();
-            deallocate(alloc, room, deed);
+            receipt = receipt.and(alloc, room, deed);
         }
+        receipt
+    }
+
+    /// Gives each block of an empty list back.
+    pub(crate) fn free(mut self, alloc: &A) -> Receipt
+        requires { (self.alloc ≡ alloc.now) × (self.slots ≡ replicate (length self.slots) None) }
+        ensures { result.blocks ≡ self.blocks }
+    {
+        let receipt = self.free_first(self.blocks(), alloc);
         let BlockList {
             chain,
             first: _,
@@ -136,5 +151,6 @@ impl<T, A: Allocator> BlockList<T, A> {
             count: _,
         } = self;
         chain.destroy_empty();
+        receipt
     }
 }

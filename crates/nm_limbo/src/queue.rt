@@ -1,8 +1,8 @@
 //! `BlockQueue`. A clause sees a queue as its `items`, and the numbers `spare` and `blocks`.
 ghost use Rattle.std.specs.Prelude.{◌≡◌, ◌+◌, ◌-◌, ◌<◌, ◌≤◌, ◌==◌, [], ◌∷◌, ◌++◌, length, option_copied, slice_get, IfErr, MatchOption, OnOk};
-ghost use Rattle.nm_limbo.specs.Queue.{block_queue, IsBalanced, IsGrown, HasLeast, IsPopped};
+ghost use Rattle.nm_limbo.specs.Queue.{block_queue, IsBalanced, IsGrown, HasLeast, IsPopped, blocks_beyond, shrunk};
 
-use crate::block::{BLOCK_LEN, allocate};
+use crate::block::{BLOCK_LEN, Receipt, allocate};
 use crate::list::BlockList;
 use std::alloc::{Allocator, Global};
 use std::marker::Model;
@@ -176,8 +176,23 @@ impl<T, A: Allocator> BlockQueue<T, A> {
         Some(item)
     }
 
-    fn destroy_empty(self)
+    /// Gives the blocks back in which nothing waits, but for those that are needed so that `n`
+    /// items can be pushed: as few blocks are left as hold the items and `n` spare places. Where
+    /// fewer than `n` items can be pushed, none is given back. The items are the same. A receipt
+    /// for the blocks that were given back.
+    pub fn shrink_to(&mut self, n: u32) -> Receipt
+        ensures queue { self.new ≡ shrunk n self.old }
+        ensures balanced { IsBalanced self.new }
+        ensures receipt { result.blocks ≡ blocks_beyond n self.old }
+    {
+        let beyond = self.spare().saturating_sub(n) / BLOCK_LEN;
+        self.empty.free_first(beyond, &self.alloc)
+    }
+
+    /// Ends an empty queue. Each of its blocks is given back.
+    fn destroy_empty(self) -> Receipt
         requires { self.items ≡ [] }
+        ensures { result.blocks ≡ self.blocks }
     {
         let BlockQueue {
             used,
@@ -186,8 +201,7 @@ impl<T, A: Allocator> BlockQueue<T, A> {
             len: _,
             alloc,
         } = self;
-        used.free(&alloc);
-        empty.free(&alloc);
+        used.free(&alloc).with(empty.free(&alloc))
     }
 }
 

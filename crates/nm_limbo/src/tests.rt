@@ -153,6 +153,42 @@ fn a_refused_reserve_can_be_made_again(rt: HostRuntime) -> Result<(), Fail> {
     Ok(())
 }
 
+#[test]
+fn empty_blocks_go_back_but_for_those_that_are_needed(rt: HostRuntime) -> Result<(), Fail> {
+    // Room for nine blocks of 32 numbers with their links.
+    let heap = LocalHeap::new(rt.alloc(), 272 * 9 + 100)?;
+    let mut queue = BlockQueue::new(&heap);
+    assert_eq!(rt; queue.shrink_to(0).blocks(), 0);
+    reserve(&rt, &mut queue, 256)?;
+    for item in 0..40u64 {
+        push(&rt, &mut queue, item);
+    }
+    let taken = heap.used();
+    assert_eq!(rt; counts(&queue), (8, 216, 40));
+    assert_eq!(rt; queue.shrink_to(217).blocks(), 0);
+    assert_eq!(rt; queue.shrink_to(185).blocks(), 0);
+    assert_eq!(rt; queue.shrink_to(184).blocks(), 1);
+    assert_eq!(rt; counts(&queue), (7, 184, 40));
+    assert_eq!(rt; queue.shrink_to(50).blocks(), 4);
+    assert_eq!(rt; counts(&queue), (3, 56, 40));
+    assert_eq!(rt; queue.shrink_to(0).blocks(), 1);
+    assert_eq!(rt; counts(&queue), (2, 24, 40));
+    assert!(rt; taken.saturating_sub(heap.used()) >= 272 * 6);
+    for item in 0..40 {
+        assert_eq!(rt; queue.pop(), Some(item));
+    }
+    // The front block has used-up places, so it stays.
+    assert_eq!(rt; counts(&queue), (2, 56, 0));
+    assert_eq!(rt; queue.shrink_to(0).blocks(), 1);
+    assert_eq!(rt; counts(&queue), (1, 24, 0));
+    reserve(&rt, &mut queue, 25)?;
+    push(&rt, &mut queue, 7);
+    assert_eq!(rt; queue.front(), Some(&7));
+    drop(queue);
+    assert_eq!(rt; heap.used(), 0);
+    Ok(())
+}
+
 fn sends<T: Send>(value: T) -> T {
     value
 }

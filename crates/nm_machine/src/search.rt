@@ -8,10 +8,10 @@ ghost use Rattle.nm_model.specs.declared.event.Field.TheVariants as field;
 ghost use Rattle.nm_model.specs.declared.reply.Reply.TheVariants as reply;
 ghost use Rattle.nm_model.specs.Searches.{is_node, idle, begun, left, look_for, linked, flagged, spliced, is_flagged_in, searched};
 ghost use Rattle.nm_model.specs.Rooms.{HasRoom, HasRoomFor};
-ghost use Rattle.nm_model.specs.Ordered.{has_removed, shows_call, links_in_order, flags_in_order};
+ghost use Rattle.nm_model.specs.Ordered.{has_removed, shows_call, shows_place, links_in_order, flags_in_order};
 
 use crate::worker::Worker;
-use nm_edge::{Edge, NodeId, Side};
+use nm_edge::{Edge, Key, Layout, NodeId, Side};
 use nm_model::arrivals::{self, Arrival, Call};
 use nm_model::event::{Event, Field, Op};
 use nm_model::reply::Reply;
@@ -261,10 +261,43 @@ impl Search {
         self.linked || self.flagged.is_some()
     }
 
-    /// Whether the operation is an insert that may link here: once, where a walk of it ended.
-    pub fn may_link(&self, worker: &Worker, parent: u32, side: Side, leaf: u32, new: u32) -> bool
-        ensures { result ≡ links_in_order worker.now self.now.tells self.now.tells.call parent side
-            leaf new }
+    // Whether a walk for the key came to where the new nodes put it beside a slot: it ended there, at
+    // a leaf, or in a radix tree each node above has the key in its range.
+    fn shows_place(
+        &self,
+        layout: Layout,
+        worker: &Worker,
+        key: Key,
+        parent: u32,
+        side: Side,
+        slot: u32,
+        new: u32,
+    ) -> bool
+        ensures { result ≡ shows_place layout worker.now key parent side slot new
+            self.now.tells.walks }
+    {
+        let draft = worker.draft(new);
+        if layout.is_radix() {
+            let is_leaf = worker.knows_leaf(slot);
+            arrivals::are_within(&self.walks, key, parent, side)
+                && arrivals::may_link_between(&self.walks, draft, is_leaf, key, parent, side, slot)
+        } else {
+            arrivals::may_link(&self.walks, draft, key, parent, side, slot)
+        }
+    }
+
+    /// Whether the operation is an insert that may link here: once, where a walk of it came.
+    pub fn may_link(
+        &self,
+        layout: Layout,
+        worker: &Worker,
+        parent: u32,
+        side: Side,
+        slot: u32,
+        new: u32,
+    ) -> bool
+        ensures { result ≡ links_in_order layout worker.now self.now.tells self.now.tells.call
+            parent side slot new }
     {
         let Some(
             Call {
@@ -276,8 +309,8 @@ impl Search {
             return false;
         };
         !self.linked
-            && worker.has_new_leaf(new, leaf, key)
-            && arrivals::may_link(&self.walks, worker.draft(new), key, parent, side, leaf)
+            && worker.has_new_leaf(new, slot, key)
+            && self.shows_place(layout, worker, key, parent, side, slot, new)
     }
 
     /// Whether the operation is a delete that may flag here: one leaf, where a walk of it ended.

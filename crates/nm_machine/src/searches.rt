@@ -110,7 +110,7 @@ impl Searches {
         ensures refused { IfErr result
             (IsRefusedAs (refusal_in machine.now (searches_of self.old) worker event.now)) }
         ensures in_order { OnOk result
-            (disorder (of machine.now worker) (search_of (searches_of self.old) worker) event.now
+            (disorder machine.now.layout (of machine.now worker) (search_of (searches_of self.old) worker) event.now
             ≡ None) }
         ensures room { OnOk result (HasRoomFor event.now (roomy_of self.new worker)) }
         ensures same { searches_of self.new ≡ searches_of self.old }
@@ -159,7 +159,7 @@ impl Searches {
         Ok(())
     }
 
-    // A link is in order where a walk of an insert ended.
+    // A link is in order where a walk of an insert came.
     fn may_link(
         &self,
         machine: &Machine,
@@ -176,12 +176,15 @@ impl Searches {
             (IsRefusedAs (refusal_in machine.now (searches_of self.now) worker
             (event.Link parent side leaf new))) }
         ensures in_order { OnOk result
-            (disorder (of machine.now worker) (search_of (searches_of self.now) worker)
+            (disorder machine.now.layout (of machine.now worker) (search_of (searches_of self.now) worker)
             (event.Link parent side leaf new) ≡ None) }
     {
         machine.may_link(worker, parent, side, leaf, new)?;
         let knowledge = &machine.workers[worker];
-        if !self.of(worker).may_link(knowledge, parent, side, leaf, new) {
+        if !self
+            .of(worker)
+            .may_link(machine.layout, knowledge, parent, side, leaf, new)
+        {
             return Err(Refused::NotOrdered);
         }
         Ok(())
@@ -203,7 +206,7 @@ impl Searches {
             (IsRefusedAs (refusal_in machine.now (searches_of self.now) worker
             (event.Flag parent side leaf))) }
         ensures in_order { OnOk result
-            (disorder (of machine.now worker) (search_of (searches_of self.now) worker)
+            (disorder machine.now.layout (of machine.now worker) (search_of (searches_of self.now) worker)
             (event.Flag parent side leaf) ≡ None) }
     {
         machine.may_flag(worker, parent, side, leaf)?;
@@ -220,7 +223,7 @@ impl Searches {
         ensures refused { IfErr result
             (IsRefusedAs (refusal_in machine.now (searches_of self.now) worker event.Leave)) }
         ensures in_order { OnOk result
-            (disorder (of machine.now worker) (search_of (searches_of self.now) worker) event.Leave
+            (disorder machine.now.layout (of machine.now worker) (search_of (searches_of self.now) worker) event.Leave
             ≡ None) }
     {
         machine.may_leave(worker)?;
@@ -238,7 +241,7 @@ impl Searches {
             (IsRefusedAs (refusal_in machine.now (searches_of self.now) worker
             (event.LeaveWith answer))) }
         ensures in_order { OnOk result
-            (disorder (of machine.now worker) (search_of (searches_of self.now) worker)
+            (disorder machine.now.layout (of machine.now worker) (search_of (searches_of self.now) worker)
             (event.LeaveWith answer) ≡ None) }
     {
         machine.may_leave(worker)?;

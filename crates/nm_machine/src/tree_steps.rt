@@ -42,7 +42,7 @@ impl Machine {
         if knowledge.brief().pin.is_none() {
             return Err(Refused::NotPinned);
         }
-        if !knowledge.holds_leaf(parent, leaf) {
+        if !knowledge.holds_place(self.layout, parent, leaf) {
             return Err(Refused::NotHeld);
         }
         if !knowledge.is_private(new) {

@@ -9,7 +9,7 @@ ghost use Rattle.nm_model.specs.Knowledge.{newcomer, unfilled, knows, is_private
 ghost use Rattle.nm_model.specs.Learning.{saw, labelling, pinned, rooted, moved, learn_sight, learn_scan, looked, met, read_edge, linked_in, cutting, inheriting, resigned};
 ghost use Rattle.nm_model.specs.Reports.{in_queues};
 ghost use Rattle.nm_model.specs.Ordered.{new_leaf};
-ghost use Rattle.nm_model.specs.Step.{reply_sight, reply_scan, reply_look, others_scanned, node_of, node_linked, is_leaf_draft, is_linkable, first, free_checks};
+ghost use Rattle.nm_model.specs.Step.{reply_sight, reply_scan, reply_look, others_scanned, node_of, node_linked, is_leaf_draft, is_linkable, may_be_over, first, free_checks};
 
 use crate::known::Known;
 use nm_edge::{Edge, Key, Layout, NodeId, Side};
@@ -379,6 +379,22 @@ impl Worker {
         self.knows(parent) && self.knows(leaf) && self.knows_leaf(leaf)
     }
 
+    /// Whether a link may be over a slot: over a known leaf, and in a radix tree over any slot but
+    /// the fixed ones.
+    pub fn may_be_over(&self, layout: Layout, slot: u32) -> bool
+        ensures { result ≡ may_be_over layout self.now slot }
+    {
+        self.knows_leaf(slot) || (layout.is_radix() && 6 <= slot)
+    }
+
+    /// Whether a parent is known, and a slot over which a link may be.
+    pub fn holds_place(&self, layout: Layout, parent: u32, slot: u32) -> bool
+        ensures { result ≡ (knows self.now parent
+            && (knows self.now slot && may_be_over layout self.now slot)) }
+    {
+        self.knows(parent) && self.knows(slot) && self.may_be_over(layout, slot)
+    }
+
     /// Whether the edge on a side was last read as flagged.
     pub fn knows_flagged(&self, slot: u32, side: Side) -> bool
         ensures { result ≡ is_flagged (read self.now slot side) }
@@ -404,7 +420,7 @@ impl Worker {
             && draft.right == Some(0)
     }
 
-    /// Whether a private slot is filled as an internal node over this leaf and a private leaf.
+    /// Whether a private slot is filled as an internal node over this slot and a private leaf.
     pub fn is_linkable(&self, new: u32, leaf: u32) -> bool
         ensures { result ≡ is_linkable self.now new leaf }
     {
@@ -420,7 +436,7 @@ impl Worker {
         self.drafts.remove(leaf);
     }
 
-    /// A private slot was put into the tree, over this leaf and the private leaf beside it. Answers
+    /// A private slot was put into the tree, over this slot and the private leaf beside it. Answers
     /// the new node.
     pub fn link(&mut self, leaf: u32, new: u32) -> Result<NodeId, AllocError>
         ensures node { IfOk result (λ node. node ≡ node_linked self.old new) }

@@ -1,22 +1,23 @@
 -- The theorem, on one page. It speaks of the words of the tree at each moment and of the turns that
 -- were made, and of nothing else: a turn is an event of a worker with its outcome, and the words at
 -- a moment are those of the empty tree, changed by the turns so far as their replies tell.
-use Rattle.std.specs.Prelude.{◌≡◌, ◌↔◌, ◌⊎◌, ℕ, ◌≤◌, ◌==◌, Bool, true, false, not, ◌&&◌, ◌||◌, List, [], ◌∷◌, ◌++◌, map, filter, slice_get, slice_set, Contains, Some, None, option_map, Result, Ok, if◌then◌else◌}
+use Rattle.std.specs.Prelude.{◌≡◌, ◌↔◌, ◌⊎◌, ℕ, ◌+◌, ◌<◌, ◌≤◌, ◌==◌, Bool, true, false, not, ◌&&◌, ◌||◌, List, [], ◌∷◌, ◌++◌, map, filter, slice_get, slice_set, Contains, Option, Some, None, option_map, Result, Ok, if◌then◌else◌}
 use Rattle.std.specs.List.{list_any}
 use Rattle.nm_edge.specs.Edges.{to, tagged, untagged, other}
 use Rattle.nm_edge.specs.Layouts.{Layout}
 use Rattle.nm_edge.specs.declared.edge.Side.{Side}
 use Rattle.nm_edge.specs.declared.edge.Side.TheVariants.{Left, Right}
 use Rattle.nm_edge.specs.declared.node.NodeId.{NodeId}
+use Rattle.nm_model.specs.declared.event.Field.{Field}
 use Rattle.nm_model.specs.declared.event.Event.{Event}
 use Rattle.nm_model.specs.declared.event.Event.TheVariants.{Sight, SightFor, Announce, Leave, LeaveWith, Scan, Advance, Claim, Give, Look, Fill, Link, Flag, Tag, Splice}
 use Rattle.nm_model.specs.declared.event.Field.TheVariants.{Key, Edge as EdgeOn, Birth}
 use Rattle.nm_model.specs.declared.reply.Reply.{Reply}
-use Rattle.nm_model.specs.declared.reply.Reply.TheVariants.{Announced, Departed, Idle, In, Moved, Claimed, Returned, Freed, KeyIs, BirthIs, EdgeIs, Filled, Linked, Flagged, Was, Cut, Pinned}
+use Rattle.nm_model.specs.declared.reply.Reply.TheVariants.{Announced, Departed, Idle, In, Moved, Claimed, Returned, Freed, KeyIs, BirthIs, EdgeIs, Filled, Linked, Flagged, Was, Cut, Lost, Pinned}
 use Rattle.nm_model.specs.declared.reply.Refused.{Refused}
 use Rattle.nm_model.specs.declared.trace.Turn.{Turn}
 use Rattle.nm_model.specs.Memory.{Memory, node, edge, note, child, named, in_pool, put_node, put_edge, opening}
-use Rattle.nm_model.specs.Paths.{at, IsCut}
+use Rattle.nm_model.specs.Paths.{at, Reached, IsCut}
 
 -- ---- the words
 
@@ -52,12 +53,21 @@ words_after L turns = words_from (opening L) turns
 
 -- ---- reads
 
--- a reply to a look tells the word that stands, and one to a scan the announcement
+-- a reply to a look tells the word that stands, and one to a scan the announcement; an exchange that
+-- is lost, and a tag, tell the edge that stands, and a link or a flag that is won has found the
+-- unmarked edge that it names; a birth that is stored is one more than the one that stood
 abbrev pub TellsWhatStands : Memory → Event → Reply → Type 0
 TellsWhatStands m (Look s Key) r = r ≡ KeyIs (node m s).key
 TellsWhatStands m (Look s (EdgeOn side)) r = r ≡ EdgeIs (edge m s side)
 TellsWhatStands m (Look s Birth) r = r ≡ BirthIs (node m s).birth
 TellsWhatStands m (Scan u) r = (r ≡ Idle) × (note m u ≡ None) ⊎ (e : ℕ) × (r ≡ In e) × (note m u ≡ Some e)
+TellsWhatStands m (Fill s Birth v) r = v ≡ (node m s).birth + 1
+TellsWhatStands m (Link p side leaf new) (Linked n) = edge m p side ≡ to leaf
+TellsWhatStands m (Link p side leaf new) (Lost e) = e ≡ edge m p side
+TellsWhatStands m (Flag p side leaf) (Flagged n) = edge m p side ≡ to leaf
+TellsWhatStands m (Flag p side leaf) (Lost e) = e ≡ edge m p side
+TellsWhatStands m (Tag p side) (Was e) = e ≡ edge m p side
+TellsWhatStands m (Splice a side s p keep) (Lost e) = e ≡ edge m a side
 TellsWhatStands m _ r = Unit {0}
 
 -- ---- cuts
@@ -225,18 +235,58 @@ pub record OnePlace (L : Layout) (turns : List Turn) (x : ℕ) : Type 0 where
   pub here : StandsAt L turns x place
   pub only : (there : Place) → StandsAt L turns x there → there ≡ place
 
+-- only its holder stores in a node
+abbrev pub OnlyHoldersStore : Layout → List Turn → Type 0
+OnlyHoldersStore L turns = (before rest : List Turn) (t : Turn) (s v : ℕ) (f : Field) → turns ≡ before ++ t ∷ rest → t.event ≡ Fill s f v → t.outcome ≡ Ok Filled
+    → has_after (opening L) t.worker s false before ≡ true
+
+-- a slot that paths from the root reach has a greater birth than each node of it that was cut
+abbrev pub WhatIsReachedIsYounger : Layout → List Turn → Type 0
+WhatIsReachedIsYounger L turns = (w : ℕ) (n : NodeId) → Contains (cuts_of w turns) n → Reached (words_after L turns) n.slot → n.birth < (node (words_after L turns) n.slot).birth
+
 -- ---- what workers stand on
 
--- the slots of which an event reads, stores or exchanges a word, and the nodes that a link, a flag
--- or a splice names
+-- the slots of which an event reads or exchanges a word, and the nodes that a link, a flag or a
+-- splice names
 abbrev pub touched : Event → List ℕ
 touched (Look s f) = s ∷ []
-touched (Fill s f v) = s ∷ []
 touched (Link p side leaf new) = p ∷ leaf ∷ new ∷ []
 touched (Flag p side leaf) = p ∷ leaf ∷ []
 touched (Tag p side) = p ∷ []
 touched (Splice a side s p keep) = a ∷ s ∷ p ∷ []
 touched _ = []
+
+-- the node of which a reply tells an edge, and the slot to which that leads: the edge that was
+-- looked at or tagged, the one that was found in place of the wanted one, and behind a won link the
+-- one to the new node
+abbrev pub edge_told : Event → Result Reply Refused → Option (ℕ × ℕ)
+edge_told (Look s (EdgeOn side)) (Ok (EdgeIs e)) = Some (s, e.slot)
+edge_told (Link p side leaf new) (Ok (Linked n)) = Some (p, new)
+edge_told (Link p side leaf new) (Ok (Lost e)) = Some (p, e.slot)
+edge_told (Flag p side leaf) (Ok (Lost e)) = Some (p, e.slot)
+edge_told (Tag p side) (Ok (Was e)) = Some (p, e.slot)
+edge_told (Splice a side s p keep) (Ok (Lost e)) = Some (a, e.slot)
+edge_told _ _ = None
+
+-- a worker was told of a slot, and has not left since: it was pinned, and a reply told it an edge
+-- to that slot, of a node that it had not in its hands
+pub record WasTold (L : Layout) (w x : ℕ) (turns : List Turn) : Type 0 where
+  pub before : List Turn
+  pub told : Turn
+  pub since : List Turn
+  pub are : turns ≡ before ++ told ∷ since
+  pub own : told.worker ≡ w
+  pub pinned : IsPinned w before
+  pub from : ℕ
+  pub edge : edge_told told.event told.outcome ≡ Some (from, x)
+  pub free : has_after (opening L) w from false before ≡ false
+  pub stays : HasLeft w since → ⊥
+
+-- a worker that touches a slot other than 1 and 2, with which each walk begins, and has it not in
+-- its hands, was told of it under the pin that stands
+abbrev pub OnlyWhatWasToldIsTouched : Layout → List Turn → Type 0
+OnlyWhatWasToldIsTouched L turns = (before rest : List Turn) (t : Turn) (r : Reply) (x : ℕ) → turns ≡ before ++ t ∷ rest → t.outcome ≡ Ok r → Contains (touched t.event) x → 3 ≤ x
+    → has_after (opening L) t.worker x false before ≡ false → WasTold L t.worker x before
 
 -- a slot is neither in the pool nor in anybody's hands, and is the node that it was
 pub record IsStill (L : Layout) (was now : List Turn) (x : ℕ) : Type 0 where
@@ -244,11 +294,10 @@ pub record IsStill (L : Layout) (was now : List Turn) (x : ℕ) : Type 0 where
   pub in_hands : (w : ℕ) → has_after (opening L) w x false now ≡ false
   pub birth : (node (words_after L now) x).birth ≡ (node (words_after L was) x).birth
 
--- what a worker touches without having it in its hands is still that node, in the tree or waiting,
--- for as long as the worker has not left
-abbrev pub NothingIsPulledAway : Layout → List Turn → Type 0
-NothingIsPulledAway L turns = (before between rest : List Turn) (t : Turn) (r : Reply) (x : ℕ) → turns ≡ before ++ t ∷ (between ++ rest) → t.outcome ≡ Ok r → Contains (touched t.event) x
-    → has_after (opening L) t.worker x false before ≡ false → (HasLeft t.worker between → ⊥) → IsStill L before (before ++ t ∷ between) x
+-- what a worker was told of is still the node that it was then, in the tree or waiting, for as long
+-- as the worker has not left
+abbrev pub WhatWasToldStays : Layout → List Turn → Type 0
+WhatWasToldStays L turns = (w x : ℕ) (o : WasTold L w x turns) → IsStill L o.before turns x
 
 -- ---- the theorem, of the turns of a run from the empty tree on
 
@@ -263,7 +312,15 @@ pub record Headline (L : Layout) (turns : List Turn) : Type 0 where
   pub queues : (so_far rest : List Turn) → turns ≡ so_far ++ rest → AreFreedInTurn so_far
   -- nothing is freed while a worker that was pinned at its cut has not left
   pub grace : Grace turns
-  -- what a worker has touched stays for as long as it has not left
-  pub stays : NothingIsPulledAway L turns
+  -- a worker touches what it was told of under its pin
+  pub told : OnlyWhatWasToldIsTouched L turns
+  -- and at each moment that is the node that it was when it was told, until the worker leaves
+  pub stays : (so_far rest : List Turn) → turns ≡ so_far ++ rest → WhatWasToldStays L so_far
+  -- at each moment the five fixed slots are in no pool, in nobody's hands, and as they were at first
+  pub fixed : (so_far rest : List Turn) → turns ≡ so_far ++ rest → (x : ℕ) → x ≤ 5 → IsStill L [] so_far x
+  -- only its holder stores in a node
+  pub stores : OnlyHoldersStore L turns
+  -- at each moment a slot in the tree is younger than each node of it that was cut
+  pub younger : (so_far rest : List Turn) → turns ≡ so_far ++ rest → WhatIsReachedIsYounger L so_far
   -- at each moment each slot above the five fixed ones is in one place
   pub places : (so_far rest : List Turn) → turns ≡ so_far ++ rest → (x : ℕ) → 6 ≤ x → x ≤ L.nodes → OnePlace L so_far x

@@ -1,9 +1,10 @@
 -- Ordered cores: links and flags only where a walk of the own call ended, and answers that the own
 -- log shows.
-use Rattle.std.specs.Prelude.{◌≡◌, ℕ, ◌<◌, ◌==◌, nat_lt, Bool, true, false, not, ◌&&◌, ◌||◌, List, [], ◌∷◌, if◌then◌else◌, replicate, filter, map, slice_index_or, slice_set, Option, Some, None, is_some, is_none, option_map, unwrap_or, is_ok, IfSome, Result, All}
+use Rattle.std.specs.Prelude.{◌≡◌, ℕ, ◌<◌, ◌==◌, nat_lt, nat_le, Bool, true, false, not, ◌&&◌, ◌||◌, List, [], ◌∷◌, if◌then◌else◌, replicate, filter, map, slice_index_or, slice_set, Option, Some, None, is_some, is_none, option_map, unwrap_or, is_ok, IfSome, Result, All}
 use Rattle.std.specs.List.{list_any}
 use Rattle.nm_edge.specs.Keys.{IsKey}
 use Rattle.nm_edge.specs.Layouts.{Layout, IsLayout}
+use Rattle.nm_edge.specs.Ranges.{covers}
 use Rattle.nm_edge.specs.declared.edge.Side.{Side}
 use Rattle.nm_edge.specs.declared.node.NodeId.{NodeId}
 use Rattle.nm_model.specs.declared.event.Op.{Op}
@@ -18,11 +19,11 @@ use Rattle.nm_model.specs.declared.knowledge.Draft.{Draft}
 use Rattle.nm_model.specs.declared.arrivals.Call.{Call}
 use Rattle.nm_model.specs.declared.arrivals.Arrival.{Arrival}
 use Rattle.nm_model.specs.Maps.{is_number, or_else}
-use Rattle.nm_model.specs.Knowledge.{Knowledge, draft_of, beside}
+use Rattle.nm_model.specs.Knowledge.{Knowledge, draft_of, beside, knows_leaf}
 use Rattle.nm_model.specs.Step.{first, ◌refuses◌}
 use Rattle.nm_model.specs.Runs.{State, of, start, refusal_of, refused, reply_of, applied, answered, after, trace}
 use Rattle.nm_model.specs.Walks.{log_of, search_after}
-use Rattle.nm_model.specs.Searches.{Search, idle, searched, is_by}
+use Rattle.nm_model.specs.Searches.{Search, idle, searched, is_by, is_first, goes_on}
 
 -- ---- what the log shows
 
@@ -73,16 +74,51 @@ forks_over d leaf k (Some v) = not (v == k) && is_fork_for d leaf k v
 abbrev pub may_link_at : Draft → ℕ → ℕ → Side → ℕ → Arrival → Bool
 may_link_at d key p side leaf a = is_by leaf p side a && (a.ended && forks_over d leaf key a.key)
 
+-- `is_covered`, `narrows`: in a radix tree, a key is in the range of a node whose key was read; and a
+-- walk for the key goes on from the slot by its edge on the side, within the slot's range
+abbrev pub is_covered : ℕ → Option ℕ → Bool
+is_covered k None = false
+is_covered k (Some v) = covers v k
+
+abbrev pub narrows : ℕ → ℕ → Side → Arrival → Bool
+narrows k slot side a = goes_on k slot side a && is_covered k a.key
+
+-- a router that has k in one half of its range and r in the other, over a slot on the side of r
+abbrev pub parts : Draft → ℕ → ℕ → ℕ → Option ℕ → Bool
+parts d slot k r None = false
+parts d slot k r (Some R) = (covers R k && covers R r)
+    && (if nat_lt k R then nat_le R r && is_number d.right slot else nat_lt r R && is_number d.left slot)
+
+-- between k and a slot with key r: a leaf with another key, or a slot without k in its range
+abbrev pub parts_from : Draft → ℕ → ℕ → Bool → Option ℕ → Bool
+parts_from d slot k leafy None = false
+parts_from d slot k leafy (Some r) =
+    (not (r == k) && (leafy || not (covers r k))) && parts d slot k r d.key
+
+-- a walk came to the slot, which is known as a leaf or not, by that edge, and the new nodes put k
+-- beside it
+abbrev pub may_link_between : Draft → Bool → ℕ → ℕ → Side → ℕ → Arrival → Bool
+may_link_between d leafy key p side slot a =
+    is_by slot p side a && parts_from d slot key leafy a.key
+
+-- a walk of the call came to where it links: in a radix tree to any slot, by the root's edge or by
+-- one within whose node's range the key is
+abbrev pub shows_place : Layout → Knowledge → ℕ → ℕ → Side → ℕ → ℕ → List Arrival → Bool
+shows_place L k key p side x new ws =
+    if L.radix then (is_first p side || list_any (narrows key p side) ws)
+    && list_any (may_link_between (draft_of k new) (knows_leaf k x) key p side x) ws
+    else list_any (may_link_at (draft_of k new) key p side x) ws
+
 -- the new leaf, of the two nodes under the new internal node the one beside the leaf
 abbrev pub new_leaf : Knowledge → ℕ → ℕ → Draft
 new_leaf k leaf new = draft_of k (unwrap_or (beside (draft_of k new) leaf) 0)
 
 -- a call to insert links once, where a walk of it ended
-abbrev pub inserts : Knowledge → Search → Op → ℕ → ℕ → Side → ℕ → ℕ → Bool
-inserts k s Insert key p side leaf new =
+abbrev pub inserts : Layout → Knowledge → Search → Op → ℕ → ℕ → Side → ℕ → ℕ → Bool
+inserts L k s Insert key p side leaf new =
     not s.linked && (is_number (new_leaf k leaf new).key key
-    && list_any (may_link_at (draft_of k new) key p side leaf) s.walks)
-inserts k s _ key p side leaf new = false
+    && shows_place L k key p side leaf new s.walks)
+inserts L k s _ key p side leaf new = false
 
 -- a walk ended by that edge at the leaf, which has key k
 abbrev pub may_flag_at : ℕ → ℕ → Side → ℕ → Arrival → Bool
@@ -95,9 +131,9 @@ deletes s Delete key p side leaf =
 deletes s _ key p side leaf = false
 
 -- `links_in_order`, `flags_in_order`: the log shows that the link, or the flag, is one of the call
-abbrev pub links_in_order : Knowledge → Search → Option Call → ℕ → Side → ℕ → ℕ → Bool
-links_in_order k s None p side leaf new = false
-links_in_order k s (Some c) p side leaf new = inserts k s c.op c.key p side leaf new
+abbrev pub links_in_order : Layout → Knowledge → Search → Option Call → ℕ → Side → ℕ → ℕ → Bool
+links_in_order L k s None p side leaf new = false
+links_in_order L k s (Some c) p side leaf new = inserts L k s c.op c.key p side leaf new
 
 abbrev pub flags_in_order : Search → Option Call → ℕ → Side → ℕ → Bool
 flags_in_order s None p side leaf = false
@@ -106,14 +142,14 @@ flags_in_order s (Some c) p side leaf = deletes s c.op c.key p side leaf
 -- why an event that a plain core allows is refused, if it is, by the own knowledge and the own log:
 -- a link or a flag that is not where a walk of the own operation ended, or a leave without the
 -- answer that the log shows (from Natarajan and Mittal, section 3.2)
-abbrev pub disorder : Knowledge → Search → Event → Option Refused
-disorder k s (Link p side leaf new) =
-    first (not (links_in_order k s s.call p side leaf new) refuses NotOrdered ∷ [])
-disorder k s (Flag p side leaf) =
+abbrev pub disorder : Layout → Knowledge → Search → Event → Option Refused
+disorder L k s (Link p side leaf new) =
+    first (not (links_in_order L k s s.call p side leaf new) refuses NotOrdered ∷ [])
+disorder L k s (Flag p side leaf) =
     first (not (flags_in_order s s.call p side leaf) refuses NotOrdered ∷ [])
-disorder k s (LeaveWith answer) = first (not (shows_call s s.call answer) refuses NoAnswer ∷ [])
-disorder k s Leave = first ((s.linked || is_some s.flagged) refuses NoAnswer ∷ [])
-disorder k s _ = None
+disorder L k s (LeaveWith answer) = first (not (shows_call s s.call answer) refuses NoAnswer ∷ [])
+disorder L k s Leave = first ((s.linked || is_some s.flagged) refuses NoAnswer ∷ [])
+disorder L k s _ = None
 
 -- ---- configurations of a core
 
@@ -136,16 +172,16 @@ search_of ss w = slice_index_or ss w idle
 
 -- `disorder_among`, `disorder_in`: why an ordered core refuses an event that a plain one allows; a
 -- plain core has no such reason
-abbrev pub disorder_among : Option (List Search) → Knowledge → ℕ → Event → Option Refused
-disorder_among None k w e = None
-disorder_among (Some ss) k w e = disorder k (search_of ss w) e
+abbrev pub disorder_among : Layout → Option (List Search) → Knowledge → ℕ → Event → Option Refused
+disorder_among L None k w e = None
+disorder_among L (Some ss) k w e = disorder L k (search_of ss w) e
 
 -- the least refusal of an event of a worker that is there
 abbrev pub refusal_in : State → List Search → ℕ → Event → Option Refused
-refusal_in s ss w e = or_else (refusal_of s w e) (disorder (of s w) (search_of ss w) e)
+refusal_in s ss w e = or_else (refusal_of s w e) (disorder s.layout (of s w) (search_of ss w) e)
 
 abbrev pub disorder_in : Configuration → ℕ → Event → Option Refused
-disorder_in c w e = disorder_among c.searches (of c.state w) w e
+disorder_in c w e = disorder_among c.state.layout c.searches (of c.state w) w e
 
 -- the least refusal that holds, if one does: a plain core's first
 unfoldable pub refused_in : Configuration → ℕ → Event → Option Refused

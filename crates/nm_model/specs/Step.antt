@@ -92,6 +92,10 @@ abbrev pub is_linkable : Knowledge → ℕ → ℕ → Bool
 is_linkable k new leaf = is_fork_over (draft_of k new) leaf
     && is_leaf_draft k (unwrap_or (beside (draft_of k new) leaf) 0)
 
+-- a link may be over a slot that is known as a leaf, and in a radix tree over any but the fixed ones
+abbrev pub may_be_over : Layout → Knowledge → ℕ → Bool
+may_be_over L k x = knows_leaf k x || (L.radix && nat_le 6 x)
+
 -- a chain of known tagged edges with flagged twins, from s to p and on by the edge on keep
 abbrev pub is_frozen : Layout → Knowledge → ℕ → ℕ → Side → Bool
 is_frozen L k s p keep = is_some (way L.nodes k s p)
@@ -136,7 +140,7 @@ refusal L m k w (Fill s f v) = first (
 refusal L m k w (Link p side leaf new) = first (
     (outside 1 L.nodes p || (outside 1 L.nodes leaf || outside 6 L.nodes new)) refuses NoSlot
     ∷ is_none k.brief.pin refuses NotPinned
-    ∷ not (knows k p && (knows k leaf && knows_leaf k leaf)) refuses NotHeld
+    ∷ not (knows k p && (knows k leaf && may_be_over L k leaf)) refuses NotHeld
     ∷ not (is_private k new) refuses NotPrivate
     ∷ not (is_linkable k new leaf) refuses NotReady ∷ [])
 refusal L m k w (Flag p side leaf) = first (

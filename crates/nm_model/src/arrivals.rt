@@ -1,13 +1,13 @@
 //! Walks for a key, by where they came.
 
-ghost use Rattle.std.specs.Prelude.{◌≡◌, ◌<◌, ◌==◌, ◌&&◌, ℕ, false, is_none, length, map, vec_capacity};
+ghost use Rattle.std.specs.Prelude.{◌≡◌, ◌<◌, ◌==◌, ◌&&◌, ◌||◌, ℕ, false, is_none, length, map, vec_capacity};
 ghost use Rattle.std.specs.List.{list_any};
-ghost use Rattle.nm_model.specs.Searches.{side_of, is_side, is_by, turns, goes_on, new_arrival, with_arrival, keyed, ended, walk_edge};
-ghost use Rattle.nm_model.specs.Ordered.{ended_beside, ended_at, ended_elsewhere, may_link_at, may_flag_at};
+ghost use Rattle.nm_model.specs.Searches.{side_of, is_side, is_by, is_first, turns, goes_on, new_arrival, with_arrival, keyed, ended, walk_edge};
+ghost use Rattle.nm_model.specs.Ordered.{ended_beside, ended_at, ended_elsewhere, is_covered, narrows, may_link_at, may_link_between, may_flag_at};
 
 use crate::event::Op;
 use crate::knowledge::Draft;
-use nm_edge::{Key, Side};
+use nm_edge::{Key, Side, covers};
 
 /// An operation of the set on a key, which a worker took up with its pin.
 #[derive(Clone, Copy, Debug, PartialEq, Eq)]
@@ -151,6 +151,39 @@ impl Arrival {
         self.is_by(leaf, parent, side) && self.ended && forks
     }
 
+    // Whether the slot's key was looked at, and has this key in its range.
+    fn is_covered(self, key: Key) -> bool
+        ensures { result ≡ is_covered key self.key }
+    {
+        match self.key {
+            Some(router) => covers(router, key.get()),
+            None => false,
+        }
+    }
+
+    // Whether a walk for this key goes on from the slot by its edge on that side, within the slot's
+    // range.
+    fn narrows(self, key: Key, slot: u32, side: Side) -> bool
+        ensures { result ≡ narrows key slot side self }
+    {
+        self.goes_on(key, slot, side) && self.is_covered(key)
+    }
+
+    // Whether a walk came to the slot by that edge, and the draft parts the key from it.
+    fn may_link_between(
+        self,
+        draft: Draft,
+        is_leaf: bool,
+        key: Key,
+        parent: u32,
+        side: Side,
+        slot: u32,
+    ) -> bool
+        ensures { result ≡ may_link_between draft is_leaf key parent side slot self }
+    {
+        self.is_by(slot, parent, side) && draft.parts_from(slot, key, is_leaf, self.key)
+    }
+
     // Whether a walk ended by that edge at the leaf, which has this key.
     fn may_flag(self, key: Key, parent: u32, side: Side, leaf: u32) -> bool
         ensures { result ≡ may_flag_at key parent side leaf self }
@@ -262,6 +295,42 @@ pub fn may_link(
     arrivals
         .iter()
         .any(|arrival| arrival.may_link(draft, key, parent, side, leaf))
+}
+
+// Whether a walk goes on from the slot by its edge on that side, within the slot's range.
+fn narrow(arrivals: &Vec<Arrival>, key: Key, slot: u32, side: Side) -> bool
+    ensures { result ≡ list_any (narrows key slot side) arrivals.now.items }
+{
+    arrivals
+        .iter()
+        .any(|arrival| arrival.narrows(key, slot, side))
+}
+
+/// Whether the edge is the first one that a walk reads, or one by which a walk for the key goes on
+/// within the range of the parent.
+pub fn are_within(arrivals: &Vec<Arrival>, key: Key, parent: u32, side: Side) -> bool
+    ensures { result ≡ (is_first parent side
+        || list_any (narrows key parent side) arrivals.now.items) }
+{
+    let is_first = parent == 2 && is_side(side, Side::Left);
+    is_first || narrow(arrivals, key, parent, side)
+}
+
+/// Whether, in a radix tree, a walk for the key came to the slot by that edge, and the draft parts
+/// the key from the slot, which is known as a leaf or not.
+pub fn may_link_between(
+    arrivals: &Vec<Arrival>,
+    draft: Draft,
+    is_leaf: bool,
+    key: Key,
+    parent: u32,
+    side: Side,
+    slot: u32,
+) -> bool
+    ensures { result
+        ≡ list_any (may_link_between draft is_leaf key parent side slot) arrivals.now.items }
+{
+    arrivals.iter().any(|arrival| arrival.may_link_between(draft, is_leaf, key, parent, side, slot))
 }
 
 /// Whether a walk for the key ended at the leaf by that edge, with this key.

@@ -5,10 +5,10 @@ ghost use Rattle.nm_model.specs.Knowledge.{unread, unfilled, read_on, beside};
 ghost use Rattle.nm_model.specs.Learning.{with_read, filled_in};
 ghost use Rattle.nm_model.specs.Step.{is_edge, is_early, is_fork_over};
 ghost use Rattle.nm_model.specs.Maps.{is_number};
-ghost use Rattle.nm_model.specs.Ordered.{is_fork_for};
+ghost use Rattle.nm_model.specs.Ordered.{is_fork_for, parts, parts_from};
 
 use crate::event::Field;
-use nm_edge::{Edge, Key, Side};
+use nm_edge::{Edge, Key, Side, covers};
 
 /// The epochs of a worker.
 #[derive(Clone, Copy, Debug, PartialEq, Eq)]
@@ -118,6 +118,34 @@ impl Draft {
         } else {
             self.key == Some(key.get()) && self.left == Some(leaf)
         }
+    }
+
+    // Whether it is filled as an internal node of a radix tree over a slot with another key and a new
+    // leaf with this one: both keys are in its range, in its two halves, and the slot is on the side
+    // of the other key.
+    fn parts(self, slot: u32, key: Key, other: u64) -> bool
+        ensures { result ≡ parts self slot key other self.key }
+    {
+        let Some(router) = self.key else {
+            return false;
+        };
+        let is_between = if key.get() < router {
+            router <= other && self.right == Some(slot)
+        } else {
+            other < router && self.left == Some(slot)
+        };
+        covers(router, key.get()) && covers(router, other) && is_between
+    }
+
+    /// Whether it is filled so between the key and a slot, known as a leaf or not, whose key, once it
+    /// was looked at, is another one: a leaf, or a slot without the key in its range.
+    pub fn parts_from(self, slot: u32, key: Key, is_leaf: bool, other: Option<u64>) -> bool
+        ensures { result ≡ parts_from self slot key is_leaf other }
+    {
+        let Some(other) = other else {
+            return false;
+        };
+        other != key.get() && (is_leaf || !covers(other, key.get())) && self.parts(slot, key, other)
     }
 
     /// Of the two filled edges the one that does not lead to the leaf.

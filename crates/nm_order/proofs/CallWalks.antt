@@ -83,7 +83,7 @@ abbrev pub EndsAtLeaves : Knowledge → List Arrival → Type 0
 EndsAtLeaves k ws = (i : ℕ) (a : Arrival) → slice_get ws i ≡ Some a → a.ended ≡ true → knows_leaf k a.slot ≡ true
 
 pub record WalksKept (s : State) (ss : List Search) (u : ℕ) : Type 0 where
-  pub law : (since : Since) → ForCall s.memory (knows (of s u)) (search_of ss u).call (arrivals (search_of ss u) since)
+  pub law : (since : Since) → ForCall s.layout.radix s.memory (knows (of s u)) (search_of ss u).call (arrivals (search_of ss u) since)
   pub ends : (since : Since) → EndsAtLeaves (of s u) (arrivals (search_of ss u) since)
 
 -- ---- one event
@@ -179,24 +179,31 @@ pub memory_after : (s : State) (w : ℕ) (e : Event) → (applied s w e).memory 
 unfolding applied
 memory_after s w e = refl
 
+pub shape_after : (s : State) (w : ℕ) (e : Event) → (applied s w e).layout.radix ≡ s.layout.radix
+unfolding applied
+shape_after s w e = refl
+
+in_shape : (a b : Bool) (m : Memory) (known : ℕ → Bool) (call : Option Call) (ws : List Arrival) → a ≡ b → ForCall b m known call ws → ForCall a m known call ws
+in_shape a b m known call ws e f = subst (λ (x : Bool). ForCall x m known call ws) (sym e) f
+
 pub look_writes_nothing : (s : State) (w x : ℕ) (f : Field) → (applied s w (Look x f)).memory ≡ s.memory
 unfolding applied write
 look_writes_nothing s w x f = refl
 
-none_walked : (m : Memory) (known : ℕ → Bool) (call : Option Call) (ws : List Arrival) → ForCall m known call ws → ForCall m known call []
-none_walked m known None ws f = tt
-none_walked m known (Some call) ws f = (f.0, no_walks (child m) (key m) known call.key)
+none_walked : (shape : Bool) (m : Memory) (known : ℕ → Bool) (call : Option Call) (ws : List Arrival) → ForCall shape m known call ws → ForCall shape m known call []
+none_walked shape m known None ws f = tt
+none_walked shape m known (Some call) ws f = (f.0, no_walks shape (child m) (key m) known call.key)
 
 pub no_ends : (k : Knowledge) → EndsAtLeaves k []
 no_ends k i a at done = absurd (none-some a at)
 
 module _ (s : State) (h : ℕ → ℕ) (law : Lawful s h) (w : ℕ) where
-  slots_known : (known : ℕ → Bool) (call : Call) (ws : List Arrival) → ForCall s.memory known (Some call) ws → (i : ℕ) (a : Arrival) → slice_get ws i ≡ Some a → known a.slot ≡ true
+  slots_known : (known : ℕ → Bool) (call : Call) (ws : List Arrival) → ForCall s.layout.radix s.memory known (Some call) ws → (i : ℕ) (a : Arrival) → slice_get ws i ≡ Some a → known a.slot ≡ true
   slots_known known call ws f = f.1.is_known
 
   look_kept : (S : Search) (x : ℕ) (f : Field) → FixedKeys s.memory → Allowed s w (Look x f) → Stays s.memory (of s w) (learn w (of s w) (Look x f) (reply_of s w (Look x f)))
-      → ((since : Since) → ForCall s.memory (knows (of s w)) S.call (arrivals S since)) → ((since : Since) → EndsAtLeaves (of s w) (arrivals S since)) → (since : Since)
-      → ForCall s.memory (knows (of (applied s w (Look x f)) w)) (look_for S S.call x f (reply_of s w (Look x f))).call (arrivals (look_for S S.call x f (reply_of s w (Look x f))) since)
+      → ((since : Since) → ForCall s.layout.radix s.memory (knows (of s w)) S.call (arrivals S since)) → ((since : Since) → EndsAtLeaves (of s w) (arrivals S since)) → (since : Since)
+      → ForCall s.layout.radix s.memory (knows (of (applied s w (Look x f)) w)) (look_for S S.call x f (reply_of s w (Look x f))).call (arrivals (look_for S S.call x f (reply_of s w (Look x f))) since)
       × EndsAtLeaves (of (applied s w (Look x f)) w) (arrivals (look_for S S.call x f (reply_of s w (Look x f))) since)
   look_kept S x f fixed ok stays walks ends since = by S.call refl (λ c. walks c)
     where
@@ -216,37 +223,37 @@ module _ (s : State) (h : ℕ → ℕ) (law : Lawful s h) (w : ℕ) where
       end since = subst (λ (b : Knowledge). EndsAtLeaves b (arrivals S since)) (sym is) (ends_stay s h law w w (learn w (of s w) (Look x f) (reply_of s w (Look x f))) stays (arrivals S since) (ends since))
 
       -- a list of walks to which the look is added, and one to which it is not
-      added : (call : Call) (ws : List Arrival) → ForCall s.memory (knows (of s w)) (Some call) ws → EndsAtLeaves (of (applied s w (Look x f)) w) ws
-          → ForCall s.memory (knows (of (applied s w (Look x f)) w)) (Some call) (walked call.key ws x f (reply_of s w (Look x f))) × EndsAtLeaves (of (applied s w (Look x f)) w) (walked call.key ws x f (reply_of s w (Look x f)))
+      added : (call : Call) (ws : List Arrival) → ForCall s.layout.radix s.memory (knows (of s w)) (Some call) ws → EndsAtLeaves (of (applied s w (Look x f)) w) ws
+          → ForCall s.layout.radix s.memory (knows (of (applied s w (Look x f)) w)) (Some call) (walked call.key ws x f (reply_of s w (Look x f))) × EndsAtLeaves (of (applied s w (Look x f)) w) (walked call.key ws x f (reply_of s w (Look x f)))
       added call ws c e = (
-        (c.0, subst (λ (b : Knowledge). WalkLaw (child s.memory) (key s.memory) (knows b) call.key (walked call.key ws x f (reply_of s w (Look x f)))) (sym is) (look_law s h law w call.key ws x f c.0 fixed stays.known c.1)),
+        (c.0, subst (λ (b : Knowledge). WalkLaw s.layout.radix (child s.memory) (key s.memory) (knows b) call.key (walked call.key ws x f (reply_of s w (Look x f)))) (sym is) (look_law s h law w call.key ws x f c.0 fixed stays.known c.1)),
         ends_walked s h law w call.key ws x f (of (applied s w (Look x f)) w) is (slots_known (knows (of s w)) call ws c) e,
       )
 
-      over : (call : Option Call) (ws : List Arrival) → ForCall s.memory (knows (of s w)) call ws → ForCall s.memory (knows (of (applied s w (Look x f)) w)) call ws
+      over : (call : Option Call) (ws : List Arrival) → ForCall s.layout.radix s.memory (knows (of s w)) call ws → ForCall s.layout.radix s.memory (knows (of (applied s w (Look x f)) w)) call ws
       over None ws c = tt
-      over (Some call) ws c = (c.0, walks_last (child s.memory) (child s.memory) (key s.memory) (key s.memory) (knows (of s w)) (knows (of (applied s w (Look x f)) w)) call.key ws still (λ _ _. refl) (λ _ _ o. o) c.1)
+      over (Some call) ws c = (c.0, walks_last s.layout.radix (child s.memory) (child s.memory) (key s.memory) (key s.memory) (knows (of s w)) (knows (of (applied s w (Look x f)) w)) call.key ws still (λ _ _. refl) (λ _ _ _ o. o) c.1)
 
-      by : (o : Option Call) → S.call ≡ o → ((since : Since) → ForCall s.memory (knows (of s w)) S.call (arrivals S since))
-          → ForCall s.memory (knows (of (applied s w (Look x f)) w)) (look_for S o x f (reply_of s w (Look x f))).call (arrivals (look_for S o x f (reply_of s w (Look x f))) since)
+      by : (o : Option Call) → S.call ≡ o → ((since : Since) → ForCall s.layout.radix s.memory (knows (of s w)) S.call (arrivals S since))
+          → ForCall s.layout.radix s.memory (knows (of (applied s w (Look x f)) w)) (look_for S o x f (reply_of s w (Look x f))).call (arrivals (look_for S o x f (reply_of s w (Look x f))) since)
           × EndsAtLeaves (of (applied s w (Look x f)) w) (arrivals (look_for S o x f (reply_of s w (Look x f))) since)
       by None at c = (over S.call (arrivals S since) (c since), end since)
       by (Some call) at c = on since
         where
-          law_of : (since : Since) → ForCall s.memory (knows (of s w)) (Some call) (arrivals S since)
-          law_of since = subst (λ o. ForCall s.memory (knows (of s w)) o (arrivals S since)) at (c since)
+          law_of : (since : Since) → ForCall s.layout.radix s.memory (knows (of s w)) (Some call) (arrivals S since)
+          law_of since = subst (λ o. ForCall s.layout.radix s.memory (knows (of s w)) o (arrivals S since)) at (c since)
 
-          on : (since : Since) → ForCall s.memory (knows (of (applied s w (Look x f)) w)) S.call (arrivals (look_for S (Some call) x f (reply_of s w (Look x f))) since)
+          on : (since : Since) → ForCall s.layout.radix s.memory (knows (of (applied s w (Look x f)) w)) S.call (arrivals (look_for S (Some call) x f (reply_of s w (Look x f))) since)
               × EndsAtLeaves (of (applied s w (Look x f)) w) (arrivals (look_for S (Some call) x f (reply_of s w (Look x f))) since)
           on ThePin = rw at (added call S.walks (law_of ThePin) (end ThePin))
           on TheFlag = rw at (later S.flagged)
             where
-              later : (n : Option NodeId) → ForCall s.memory (knows (of (applied s w (Look x f)) w)) (Some call) (later_walked n call.key S.later x f (reply_of s w (Look x f)))
+              later : (n : Option NodeId) → ForCall s.layout.radix s.memory (knows (of (applied s w (Look x f)) w)) (Some call) (later_walked n call.key S.later x f (reply_of s w (Look x f)))
                   × EndsAtLeaves (of (applied s w (Look x f)) w) (later_walked n call.key S.later x f (reply_of s w (Look x f)))
               later None = (over (Some call) S.later (law_of TheFlag), end TheFlag)
               later (Some n) = added call S.later (law_of TheFlag) (end TheFlag)
 
-  pub kept_step : EachBirthStands s → (ss : List Search) → OrderLaw s ss → ((u : ℕ) → WalksKept s ss u) → (e : Event) → Allowed s w e → disorder (of s w) (search_of ss w) e ≡ None → HasKey e
+  pub kept_step : EachBirthStands s → (ss : List Search) → OrderLaw s ss → ((u : ℕ) → WalksKept s ss u) → (e : Event) → Allowed s w e → disorder s.layout (of s w) (search_of ss w) e ≡ None → HasKey e
       → (u : ℕ) → WalksKept (applied s w e) (learned_from ss w e (reply_of s w e)) u
   kept_step births ss l kept e ok ordered has u = elim (ℕ_discrete u w) [
     | yes is ↦ rw is (of_own (get_or-set_same ss w (searched (search_of ss w) e (reply_of s w e)) idle (let size = l.sized in let lt = ok.worker in omega arith)))
@@ -257,14 +264,21 @@ module _ (s : State) (h : ℕ → ℕ) (law : Lawful s h) (w : ℕ) where
       after = order_step s h law w births ss l e ok ordered has
 
       o : Outlasts s h law (write s.memory (of s w) w e)
-      o = outlasts s h law w e (write s.memory (of s w) w e) l.order (asks_order s h law w births e (search_of ss w) ordered l.fixed (l.walks w)) (tree_change s h law w e ok)
+      o = outlasts s h law w e (write s.memory (of s w) w e) l.order (asks_order s h law w births l.order l.nested e (search_of ss w) ordered l.fixed (l.walks w)) (tree_change s h law w e ok)
+
+      shape : (applied s w e).layout.radix ≡ s.layout.radix
+      shape = shape_after s w e
+
+      reshaped : (u : ℕ) (since : Since) → ForCall s.layout.radix (applied s w e).memory (knows (of (applied s w e) u)) (search_of (learned_from ss w e (reply_of s w e)) u).call (arrivals (search_of (learned_from ss w e (reply_of s w e)) u) since)
+          → ForCall (applied s w e).layout.radix (applied s w e).memory (knows (of (applied s w e) u)) (search_of (learned_from ss w e (reply_of s w e)) u).call (arrivals (search_of (learned_from ss w e (reply_of s w e)) u) since)
+      reshaped u since = in_shape (applied s w e).layout.radix s.layout.radix (applied s w e).memory (knows (of (applied s w e) u)) (search_of (learned_from ss w e (reply_of s w e)) u).call (arrivals (search_of (learned_from ss w e (reply_of s w e)) u) since) shape
 
       memory : (applied s w e).memory ≡ write s.memory (of s w) w e
       memory = memory_after s w e
 
       of_other : u ≢ w → search_of (learned_from ss w e (reply_of s w e)) u ≡ search_of ss u → WalksKept (applied s w e) (learned_from ss w e (reply_of s w e)) u
       of_other ne same = record {
-        law = λ since. rw (same, memory) (last s h law w (write s.memory (of s w) w e) o u (knows (of (applied s w e) u)) (others_stay s h law w e ok u ne).known (search_of ss u).call (arrivals (search_of ss u) since) ((kept u).law since));
+        law = λ since. reshaped u since (rw (same, memory) (last s h law w (write s.memory (of s w) w e) o u (knows (of (applied s w e) u)) (others_stay s h law w e ok u ne).known (search_of ss u).call (arrivals (search_of ss u) since) ((kept u).law since)));
         ends = λ since. rw same (ends_stay s h law w u (of (applied s w e) u) (others_stay s h law w e ok u ne) (arrivals (search_of ss u) since) ((kept u).ends since));
       }
 
@@ -273,7 +287,7 @@ module _ (s : State) (h : ℕ → ℕ) (law : Lawful s h) (w : ℕ) where
         where
           go : (b : Bool) → begins_anew (e, reply_of s w e) ≡ b → WalksKept (applied s w e) (learned_from ss w e (reply_of s w e)) w
           go true anew = record {
-            law = λ since. rw (same, begun_anew (search_of ss w) e (reply_of s w e) anew since) (none_walked (applied s w e).memory (knows (of (applied s w e) w)) (searched (search_of ss w) e (reply_of s w e)).call (searched (search_of ss w) e (reply_of s w e)).walks (rw (← same) (after.walks w)));
+            law = λ since. reshaped w since (rw (same, begun_anew (search_of ss w) e (reply_of s w e) anew since) (none_walked s.layout.radix (applied s w e).memory (knows (of (applied s w e) w)) (searched (search_of ss w) e (reply_of s w e)).call (searched (search_of ss w) e (reply_of s w e)).walks (in_shape s.layout.radix (applied s w e).layout.radix (applied s w e).memory (knows (of (applied s w e) w)) (searched (search_of ss w) e (reply_of s w e)).call (searched (search_of ss w) e (reply_of s w e)).walks (sym shape) (rw (← same) (after.walks w)))));
             ends = λ since. rw (same, begun_anew (search_of ss w) e (reply_of s w e) anew since) (no_ends (of (applied s w e) w));
           }
           go false stands = by (goes_on_so (search_of ss w) e (reply_of s w e) stands)
@@ -286,7 +300,7 @@ module _ (s : State) (h : ℕ → ℕ) (law : Lawful s h) (w : ℕ) where
 
               by : GoesOn (search_of ss w) e (reply_of s w e) (searched (search_of ss w) e (reply_of s w e)) → WalksKept (applied s w e) (learned_from ss w e (reply_of s w e)) w
               by (Same call walks later) = record {
-                law = λ since. rw (same, call, arrivals_same since, memory) (last s h law w (write s.memory (of s w) w e) o w (knows (of (applied s w e) w)) stays'.known (search_of ss w).call (arrivals (search_of ss w) since) ((kept w).law since));
+                law = λ since. reshaped w since (rw (same, call, arrivals_same since, memory) (last s h law w (write s.memory (of s w) w e) o w (knows (of (applied s w e) w)) stays'.known (search_of ss w).call (arrivals (search_of ss w) since) ((kept w).law since)));
                 ends = λ since. rw (same, arrivals_same since) (ends_stay s h law w w (of (applied s w e) w) stays' (arrivals (search_of ss w) since) ((kept w).ends since));
               }
                 where
@@ -294,12 +308,12 @@ module _ (s : State) (h : ℕ → ℕ) (law : Lawful s h) (w : ℕ) where
                   arrivals_same ThePin = walks
                   arrivals_same TheFlag = later
               by (Looked x f is becomes) = record {
-                law = λ since. rw (same, becomes) (both since).0;
+                law = λ since. reshaped w since (rw (same, becomes) (both since).0);
                 ends = λ since. rw (same, becomes) (both since).1;
               }
                 where
                   Both : Event → Since → Type 0
-                  Both e since = ForCall (applied s w e).memory (knows (of (applied s w e) w)) (look_for (search_of ss w) (search_of ss w).call x f (reply_of s w e)).call (arrivals (look_for (search_of ss w) (search_of ss w).call x f (reply_of s w e)) since)
+                  Both e since = ForCall s.layout.radix (applied s w e).memory (knows (of (applied s w e) w)) (look_for (search_of ss w) (search_of ss w).call x f (reply_of s w e)).call (arrivals (look_for (search_of ss w) (search_of ss w).call x f (reply_of s w e)) since)
                       × EndsAtLeaves (of (applied s w e) w) (arrivals (look_for (search_of ss w) (search_of ss w).call x f (reply_of s w e)) since)
 
                   both : (since : Since) → Both e since

@@ -222,7 +222,7 @@ module _ (L : Layout) (enough : 5 ≤ L.nodes) (ts : List (ℕ × Event)) (keys 
   -- ---- what they do to a set
 
   small_key : (u : ℕ) (n : NodeId) → (own_search c u).flagged ≡ Some n → IsKey (key c.state.memory n.slot)
-  small_key u n has = subst IsKey (sym (ap (λ (t : Lasting). t.key) f.lasts)) (call_walks c.state.memory (knows (of c.state u)) (search_of o.searches u).call (search_of o.searches u).walks f.call (ap (λ (S : Search). S.call) (sym own_is) ∙ f.is_call) (o.law.walks u)).0
+  small_key u n has = subst IsKey (sym (ap (λ (t : Lasting). t.key) f.lasts)) (call_walks c.state.layout.radix c.state.memory (knows (of c.state u)) (search_of o.searches u).call (search_of o.searches u).walks f.call (ap (λ (S : Search). S.call) (sym own_is) ∙ f.is_call) (o.law.walks u)).0
     where
       f : FlaggedLeaf c.state (own_search c u) u n
       f = own_flagged L enough ts keys u n has

@@ -198,9 +198,9 @@ module _ (s : State) (h : ℕ → ℕ) (law : Lawful s h) (w : ℕ) where
           go true is = inl (ap (edge s.memory new) (sym (same_side-true k.drafts.side f is)) ∙ k.link.over_leaf)
           go false is = inr (ap (edge s.memory new) (same_side-false k.drafts.side f is) ∙ k.link.over_far)
 
-      -- on a path of the old tree, or one of the two new nodes
+      -- on a path of the old tree, or one of the two new nodes, or none
       Within : ℕ → Type 0
-      Within z = On (child s.memory) 1 z ⊎ ((z ≡ new) ⊎ (z ≡ k.drafts.far))
+      Within z = On (child s.memory) 1 z ⊎ ((z ≡ new) ⊎ ((z ≡ k.drafts.far) ⊎ (z ≡ 0)))
 
       step : (z : ℕ) (f : Side) → Within z → Within (child (put_edge s.memory p d (to new)) z f)
       step z f (inl on) = go (put_case s.memory p d (to new) inside z f)
@@ -212,11 +212,9 @@ module _ (s : State) (h : ℕ → ℕ) (law : Lawful s h) (w : ℕ) where
         where
           go : Below f → Within (child s.memory new f)
           go (inl is) = inl (subst (λ (t : ℕ). On (child s.memory) 1 t) (sym (ap (λ (e : Edge). e.slot) is)) to_leaf)
-          go (inr is) = inr (inr (ap (λ (e : Edge). e.slot) is))
-      step z f (inr (inr at)) = inl (subst (λ (t : ℕ). On (child s.memory) 1 t) (sym null) (subst (λ (t : ℕ). On (child s.memory) 1 t) (k.link.is_leaf f) (on_next (child s.memory) 1 leaf f to_leaf)))
-        where
-          null : child (put_edge s.memory p d (to new)) z f ≡ 0
-          null = ap (λ (t : ℕ). child (put_edge s.memory p d (to new)) t f) at ∙ (ap (λ (e : Edge). e.slot) (as_was k.drafts.far f (not_p k.drafts.far k.link.far_own)) ∙ ap (λ (e : Edge). e.slot) (k.link.far_leaf f))
+          go (inr is) = inr (inr (inl (ap (λ (e : Edge). e.slot) is)))
+      step z f (inr (inr (inl at))) = inr (inr (inr (ap (λ (t : ℕ). child (put_edge s.memory p d (to new)) t f) at ∙ (ap (λ (e : Edge). e.slot) (as_was k.drafts.far f (not_p k.drafts.far k.link.far_own)) ∙ ap (λ (e : Edge). e.slot) (k.link.far_leaf f)))))
+      step z f (inr (inr (inr at))) = inr (inr (inr (ap (λ (t : ℕ). child (put_edge s.memory p d (to new)) t f) at ∙ (ap (λ (e : Edge). e.slot) (as_was 0 f (λ z. k.link.is_slot (sym z))) ∙ ap (λ (e : Edge). e.slot) (law.tree.nothing f)))))
 
       within : Within y
       within = subst Within r.ends (closed (child (put_edge s.memory p d (to new))) Within step 1 (inl ([], refl)) r.path)
@@ -235,7 +233,8 @@ module _ (s : State) (h : ℕ → ℕ) (law : Lawful s h) (w : ℕ) where
           go : Below g → EdgeOrigin s w (Link p d leaf new) (put_edge s.memory p d (to new)) y g
           go (inl is) = WasThere p d p_reached (ap (λ (e : Edge). e.slot) k.unmarked ∙ sym (ap (λ (e : Edge). e.slot) (now ∙ is))) (ap (λ (e : Edge). e.flag) k.unmarked ∙ sym (ap (λ (e : Edge). e.flag) (now ∙ is)))
           go (inr is) = LeadsToNew p d leaf new refl k.unmarked (ap (is_private (of s w)) (ap (λ (e : Edge). e.slot) (now ∙ is)) ∙ k.link.far_own) (ap (λ (e : Edge). e.flag) (now ∙ is))
-      from (inr (inr at)) = LeadsNowhere (ap (λ (t : ℕ). child (put_edge s.memory p d (to new)) t g) at ∙ (ap (λ (e : Edge). e.slot) (as_was k.drafts.far g (not_p k.drafts.far k.link.far_own)) ∙ ap (λ (e : Edge). e.slot) (k.link.far_leaf g)))
+      from (inr (inr (inr at))) = absurd (r.is_slot at)
+      from (inr (inr (inl at))) = LeadsNowhere (ap (λ (t : ℕ). child (put_edge s.memory p d (to new)) t g) at ∙ (ap (λ (e : Edge). e.slot) (as_was k.drafts.far g (not_p k.drafts.far k.link.far_own)) ∙ ap (λ (e : Edge). e.slot) (k.link.far_leaf g)))
 
   fill_own : (x : ℕ) (f : Field) (v : ℕ) → Allowed s w (Fill x f v) → is_private (of s w) x ≡ true
   unfolding refusal

@@ -2,7 +2,7 @@
 use Rattle.std.proofs.Common.{◌≡◌, ℕ, ◌≤◌, true, List, [], replicate, refl, sym, ap, subst, ◌∙◌, arith}
 use Rattle.std.specs.Prelude.{Some, slice_get, All}
 use Rattle.std.proofs.lemmas.Option.{slice_get-get_or}
-use Rattle.nm_edge.specs.Edges.{Edge}
+use Rattle.nm_edge.specs.Edges.{Edge, other}
 use Rattle.nm_edge.specs.Layouts.{Layout}
 use Rattle.nm_edge.specs.declared.edge.Side.{Side}
 use Rattle.nm_model.specs.declared.event.Event.{Event}
@@ -18,9 +18,9 @@ use Rattle.nm_laws.proofs.TreeSteps.{Lawful}
 use Rattle.nm_laws.proofs.Pictures.{IsLive}
 use Rattle.nm_laws.proofs.Views.{picture}
 use Rattle.nm_order.specs.Intervals.{HasKey}
-use Rattle.nm_order.specs.Logs.{known_by, part_of}
+use Rattle.nm_order.specs.Logs.{IsLogOf, known_by, part_of}
 use Rattle.nm_laws.proofs.EachState.{known_leaves}
-use Rattle.nm_order.specs.Facts.{Since, Fact, Arrived, arrivals, HoldsIn, Holds, IsShared, IsTrueIn, FactsAreTrue, FlaggedSlotsStandHigh}
+use Rattle.nm_order.specs.Facts.{Since, Fact, Arrived, arrivals, HoldsIn, Holds, IsShared, IsTrueIn, FactsAreTrue, FlaggedSlotsStandHigh, TaggedSlotsStandHigh}
 use Rattle.nm_order.specs.Facts.Since.{ThePin, TheFlag}
 use Rattle.nm_order.specs.Facts.Fact.{IsPinned, KnowsSlot, KnowsLeaf, IsTagged, IsFlagged, IsFrozen, IsBorn, CallIs, Came, ReadKey, EndedAt}
 use Rattle.nm_order.proofs.OrderedSteps.{ForCall}
@@ -91,8 +91,8 @@ module _ (L : Layout) (enough : 5 ≤ L.nodes) (c : Configuration) (o : IsOrdere
       at : slice_get (arrivals (search_of o.searches w) since) a.among.0 ≡ Some a.arrival
       at = slice_get-get_or (arrivals (search_of o.searches w) since) a.among.0 a.arrival a.among.1 ∙ ap Some a.among.2
 
-      walks : ForCall c.state.memory (knows (of c.state w)) (Some a.call) (arrivals (search_of o.searches w) since)
-      walks = subst (λ call. ForCall c.state.memory (knows (of c.state w)) call (arrivals (search_of o.searches w) since)) a.is_call (kept.law since)
+      walks : ForCall c.state.layout.radix c.state.memory (knows (of c.state w)) (Some a.call) (arrivals (search_of o.searches w) since)
+      walks = subst (λ call. ForCall c.state.layout.radix c.state.memory (knows (of c.state w)) call (arrivals (search_of o.searches w) since)) a.is_call (kept.law since)
 
   pub true_in : WalksKept c.state o.searches w → (fact : Fact) → HoldsIn (of c.state w) (search_of o.searches w) fact → IsTrueIn c.state w fact
   true_in kept (IsPinned epoch) holds = law.epochs.announced w ∙ law.epochs.noted w epoch holds
@@ -102,7 +102,7 @@ module _ (L : Layout) (enough : 5 ≤ L.nodes) (c : Configuration) (o : IsOrdere
   true_in kept (IsFlagged x d to) holds = let is = law.tree.flag_read w x d holds.0 holds.1 holds.2 in (is.0, is.1 ∙ holds.3)
   true_in kept (IsFrozen x d e) holds = (law.tree.tag_read w x d e holds.0 holds.1, holds.1)
   true_in kept (IsBorn x b) holds = (births_of L enough c o w).seen x b holds
-  true_in kept (CallIs op k) holds = (subst (λ call. ForCall c.state.memory (knows (of c.state w)) call (search_of o.searches w).walks) holds (kept.law ThePin)).0
+  true_in kept (CallIs op k) holds = (subst (λ call. ForCall c.state.layout.radix c.state.memory (knows (of c.state w)) call (search_of o.searches w).walks) holds (kept.law ThePin)).0
   true_in kept (Came since k x p d) holds = shared x (arrived kept since k x p d holds).known
   true_in kept (ReadKey since k x p d n) holds = (arrived kept since k x p d holds.0).key n holds.1
   true_in kept (EndedAt since k x p d n) holds = let a = arrived kept since k x p d holds.0 in (leaf_is x (a.ends holds.2), a.key n holds.1)
@@ -116,15 +116,29 @@ facts_are_true L enough w log l fact holds =
     let t : ToldBy L w log (after_in (ordered L) l.turns) = subst (λ (log : List Entry). ToldBy L w log (after_in (ordered L) l.turns)) l.is_part (told_by_part L enough w l.worker l.turns l.keys) in
     true_in L enough (after_in (ordered L) l.turns) t.is_ordered w (all_kept L enough l.turns l.keys t.is_ordered.searches t.is_ordered.are w) fact (told_holds L w log (after_in (ordered L) l.turns) t fact holds)
 
--- ---- flagged edges
+-- ---- marked edges
+
+-- what a slot has by what a log tells of it, where it has that in each state that knows so much
+by_log : (L : Layout) → 5 ≤ L.nodes → (w : ℕ) (log : List Entry) → IsLogOf L w log → (fact : Fact) → Holds L w log fact → (P : Type 0)
+    → ((c : Configuration) (o : IsOrdered L c) → HoldsIn (of c.state w) (search_of o.searches w) fact → P) → P
+by_log L enough w log l fact holds P gives = go (told_by_part L enough w l.worker l.turns l.keys)
+  where
+    go : ToldBy L w (part_of w (trace_in (ordered L) l.turns)) (after_in (ordered L) l.turns) → P
+    go told =
+        let t : ToldBy L w log (after_in (ordered L) l.turns) = subst (λ (log : List Entry). ToldBy L w log (after_in (ordered L) l.turns)) l.is_part told in
+        gives (after_in (ordered L) l.turns) t.is_ordered (told_holds L w log (after_in (ordered L) l.turns) t fact holds)
 
 pub flagged_slots_stand_high : FlaggedSlotsStandHigh
-flagged_slots_stand_high L enough w log l x to side holds = go (told_by_part L enough w l.worker l.turns l.keys)
-  where
-    go : ToldBy L w (part_of w (trace_in (ordered L) l.turns)) (after_in (ordered L) l.turns) → 6 ≤ x
-    go told =
-        let c : Configuration = after_in (ordered L) l.turns in
-        let t : ToldBy L w log c = subst (λ (log : List Entry). ToldBy L w log (after_in (ordered L) l.turns)) l.is_part told in
-        let law = law_of_state L enough c t.is_ordered in
-        let fact = told_holds L w log c t (IsFlagged x side to) holds in
-        flags_stand_high L enough c t.is_ordered w x side (law.1.tree.reads w x side fact.0 fact.1) (law.1.tree.flag_read w x side fact.0 fact.1 fact.2).0
+flagged_slots_stand_high L enough w log l x to side holds = by_log L enough w log l (IsFlagged x side to) holds (6 ≤ x) (λ c o fact. (
+    let law = law_of_state L enough c o in
+    flags_stand_high L enough c o w x side (law.1.tree.reads w x side fact.0 fact.1) (law.1.tree.flag_read w x side fact.0 fact.1 fact.2).0
+    ))
+
+pub tagged_slots_stand_high : TaggedSlotsStandHigh
+unfolding holder
+tagged_slots_stand_high L enough w log l x to side holds = by_log L enough w log l (IsTagged x side to) holds (6 ≤ x) (λ c o fact. (
+    let law = law_of_state L enough c o in
+    let known = law.1.tree.reads w x side fact.0 fact.1 in
+    let is = law.1.tree.tag_read w x side fact.0 fact.1 fact.2 in
+    flags_stand_high L enough c o w x (other side) known (law.1.tree.frozen x side (live L enough c o w x known) (ap (λ (e : Edge). e.tag) is ∙ fact.2))
+    ))

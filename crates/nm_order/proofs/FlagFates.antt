@@ -1,13 +1,15 @@
 -- In every ordered run: a leaf that a call flagged is reached still, and then the walks that began
 -- after the flag can end nowhere else; or it was cut since the flag.
-use Rattle.std.proofs.Common.{◌≡◌, ◌≢◌, ℕ, suc, ◌≤◌, inl, inr, ◌⊎◌, ◌==◌, Bool, true, false, cond, ◌||◌, not, List, [], ◌∷◌, ◌++◌, append_assoc, refl, sym, ap, subst, ◌∙◌, arith, true≢false, get_or-set_same, get_or-set_other}
+use Rattle.std.proofs.Common.{◌≡◌, ◌≢◌, ℕ, suc, ◌≤◌, inl, inr, ◌⊎◌, ◌==◌, Bool, true, false, cond, ◌&&◌, ◌||◌, not, List, [], ◌∷◌, ◌++◌, append_assoc, refl, sym, ap, subst, ◌∙◌, arith, true≢false, get_or-set_same, get_or-set_other}
 use native.Mathlib.Decide.{ℕ_discrete}
 use Rattle.std.specs.Prelude.{Option, Some, None, option_map, unwrap_or, Result, Ok, slice_get, Contains, All}
 use Rattle.std.specs.List.{list_any}
 use Rattle.std.proofs.lemmas.Bool.{eqb-true, eq-eqb, and_parts, or_parts, or_cases}
 use Rattle.std.proofs.lemmas.Option.{none-some, same_Some, slice_get_within, get_or_from_slice_get}
 use Rattle.nm_edge.specs.Layouts.{Layout}
+use Rattle.nm_edge.specs.Ranges.{covers}
 use Rattle.nm_edge.specs.declared.edge.Side.{Side}
+use Rattle.nm_edge.specs.declared.edge.Side.TheVariants.{Left, Right}
 use Rattle.nm_edge.specs.declared.node.NodeId.{NodeId}
 use Rattle.nm_model.specs.declared.event.Op.TheVariants.{Delete}
 use Rattle.nm_model.specs.declared.event.Event.{Event}
@@ -17,11 +19,12 @@ use Rattle.nm_model.specs.declared.reply.Reply.TheVariants.{Pinned, Departed, Li
 use Rattle.nm_model.specs.declared.reply.Refused.{Refused}
 use Rattle.nm_model.specs.declared.arrivals.Call.{Call}
 use Rattle.nm_model.specs.declared.arrivals.Arrival.{Arrival}
-use Rattle.nm_model.specs.Memory.{node, named, child}
+use Rattle.nm_model.specs.Memory.{Memory, node, named, child, is_leaf}
 use Rattle.nm_model.specs.Knowledge.{knows}
-use Rattle.nm_model.specs.Paths.{Reached}
+use Rattle.nm_model.specs.Paths.{follow, Reached}
+use Rattle.nm_model.specs.Step.{write}
 use Rattle.nm_model.specs.Laws.{slots_of}
-use Rattle.nm_model.specs.Runs.{State, of, refused, reply_of}
+use Rattle.nm_model.specs.Runs.{State, of, refused, reply_of, applied}
 use Rattle.nm_model.specs.Searches.{Search, idle, searched, is_node, is_flagged_in, look_for}
 use Rattle.nm_model.specs.Walks.{begins_anew}
 use Rattle.nm_model.specs.Ordered.{Configuration, ordered, search_of, learned_from, has_removed, ended_elsewhere, refused_in, applied_in, next_in, outcome_in, after_in, trace_in, disorder, disorder_in}
@@ -35,7 +38,7 @@ use Rattle.nm_order.specs.Moments.{OfEachOrderedRun, PinStands}
 use Rattle.nm_order.specs.Exchanges.{MayAnswer, HasFlagged}
 use Rattle.nm_order.specs.Removals.{HasWonDelete, TrueDeletesHaveDeleted}
 use Rattle.nm_order.specs.Facts.Since.{TheFlag}
-use Rattle.nm_order.proofs.OrderedLaws.{IsOrdered, neither, ordered_next, each_ordered, law_of_state, keys_lie, one_leaf_for}
+use Rattle.nm_order.proofs.OrderedLaws.{IsOrdered, neither, ordered_next, each_ordered, law_of_state, has_child, keys_lie, one_leaf_for}
 use Rattle.nm_order.proofs.OrderedInduction.{IsKept, each_run_keeps}
 use Rattle.nm_order.proofs.OrderedMoments.{Lasting, lasting, call_walks}
 use Rattle.nm_order.proofs.OnwardSlots.{EachOnward, EachNow}
@@ -45,7 +48,7 @@ use Rattle.nm_order.proofs.OwnTurns.OwnTurn.{Quiet, Own}
 use Rattle.nm_order.proofs.OwnFlags.{each_flag_marks}
 use Rattle.nm_order.proofs.RunExchanges.{first_keys, is_own_call, shown}
 use Rattle.nm_order.proofs.FactLaws.{all_kept, leaf_is}
-use Rattle.nm_order.proofs.CallWalks.{WalksKept}
+use Rattle.nm_order.proofs.CallWalks.{WalksKept, shape_after}
 use Rattle.nm_order.proofs.FlaggedLeaves.{FlagStep, flag_step, anew_unflagged}
 use Rattle.nm_order.proofs.FlaggedLeaves.FlagStep.{SameFlag, NewFlag}
 use Rattle.nm_order.proofs.LaterFlags.{first_flag}
@@ -55,7 +58,12 @@ use Rattle.nm_order.proofs.CutTurns.{CutOrNot, cut_or_not, cut_shows, uncut_stay
 use Rattle.nm_order.proofs.CutTurns.CutOrNot.{StaysReached, IsCutNow}
 use Rattle.nm_order.proofs.TurnEdges.{nothing_below, stays_gone}
 use Rattle.nm_order.proofs.FlaggedNodes.{FlaggedLeaf, each_flagged_leaf}
+use Rattle.nm_order.proofs.FlaggedNodes.{memory_is}
 use Rattle.nm_order.proofs.LaterOnward.{later_onward}
+use Rattle.nm_order.proofs.RadixTrees.{Nests}
+use Rattle.nm_order.proofs.RadixWays.{EachIn, Rooted, none_has}
+use Rattle.nm_order.proofs.RadixMoments.{rooted}
+use Rattle.nm_order.proofs.RadixLater.{later_in}
 
 -- ---- the mark of an own splice
 
@@ -160,10 +168,18 @@ module _ (L : Layout) (enough : 5 ≤ L.nodes) where
   abbrev pub EndsAt : ℕ → ℕ → Lasting → Type 0
   EndsAt x y t = t.leaf ≡ true → y ≡ x
 
+  -- where it is an internal node, its range has the key
+  abbrev pub EndsIn : ℕ → ℕ → ℕ → Lasting → Type 0
+  EndsIn k x y t = (t.leaf ≡ true → y ≡ x) × (t.leaf ≡ false → 6 ≤ y → covers t.key k ≡ true)
+
+  -- a search that goes on from a slot can end at that leaf alone
+  abbrev pub EndsOn : Configuration → ℕ → NodeId → ℕ → Type 0
+  EndsOn c k n x = (c.state.layout.radix ≡ false → EachOnward (child c.state.memory) (key c.state.memory) (lasting c.state.memory) k (EndsAt n.slot) x)
+      × (c.state.layout.radix ≡ true → EachIn (child c.state.memory) (key c.state.memory) (lasting c.state.memory) k (EndsIn k n.slot) x)
+
   -- the walks after the flag can end at that slot alone
   abbrev pub LaterEnds : Configuration → ℕ → NodeId → Type 0
-  LaterEnds c w n = (call : Call) → (own_search c w).call ≡ Some call → (i : ℕ) (a : Arrival) → slice_get (own_search c w).later i ≡ Some a
-      → EachOnward (child c.state.memory) (key c.state.memory) (lasting c.state.memory) call.key (EndsAt n.slot) a.slot
+  LaterEnds c w n = (call : Call) → (own_search c w).call ≡ Some call → (i : ℕ) (a : Arrival) → slice_get (own_search c w).later i ≡ Some a → EndsOn c call.key n a.slot
 
   pub record StandsStill (c : Configuration) (w : ℕ) (n : NodeId) : Type 0 where
     pub reached : Reached c.state.memory n.slot
@@ -201,6 +217,30 @@ module _ (L : Layout) (enough : 5 ≤ L.nodes) where
       has_key : key c.state.memory n.slot ≡ call.key
       has_key = ap (λ (t : Lasting). t.key) f.lasts ∙ ap (λ (x : Call). x.key) (same_Some f.call call (sym f.is_call ∙ is))
 
+  -- and in a radix tree each node that it passes has the key in its range
+  ends_in_now : (c : Configuration) → IsOrdered L c → c.state.layout.radix ≡ true → (w : ℕ) (n : NodeId) (S : Search) → FlaggedLeaf c.state S w n → Reached c.state.memory n.slot → (call : Call) → S.call ≡ Some call
+      → EachNow (child c.state.memory) (key c.state.memory) (lasting c.state.memory) call.key (EndsIn call.key n.slot)
+  ends_in_now c o radix w n S f r call is q goes some = (ends_now c o w n S f r call is q goes some, λ inner up. go (covers (key c.state.memory (follow (child c.state.memory) 1 q)) call.key) refl inner up)
+    where
+      root : Rooted (child c.state.memory) (key c.state.memory)
+      root = rooted c.state (law_of_state L enough c o).0 (law_of_state L enough c o).1 o.law.fixed o.law.order (o.law.nested radix)
+
+      has_key : key c.state.memory n.slot ≡ call.key
+      has_key = ap (λ (t : Lasting). t.key) f.lasts ∙ ap (λ (x : Call). x.key) (same_Some f.call call (sym f.is_call ∙ is))
+
+      null : (g : Side) → child c.state.memory n.slot g ≡ 0
+      null g = by g (and_parts ((node c.state.memory n.slot).left.slot == 0) ((node c.state.memory n.slot).right.slot == 0) (ap (λ (t : Lasting). t.leaf) f.lasts))
+        where
+          by : (g : Side) → (((node c.state.memory n.slot).left.slot == 0) ≡ true) × (((node c.state.memory n.slot).right.slot == 0) ≡ true) → child c.state.memory n.slot g ≡ 0
+          by Left both = eqb-true (node c.state.memory n.slot).left.slot 0 both.0
+          by Right both = eqb-true (node c.state.memory n.slot).right.slot 0 both.1
+
+      go : (b : Bool) → covers (key c.state.memory (follow (child c.state.memory) 1 q)) call.key ≡ b → is_leaf (node c.state.memory (follow (child c.state.memory) 1 q)) ≡ false → 6 ≤ follow (child c.state.memory) 1 q → b ≡ true
+      go true has inner up = refl
+      go false out inner up =
+          let under = has_child L enough c o (follow (child c.state.memory) 1 q) inner in
+          absurd (none_has (child c.state.memory) (key c.state.memory) root call.key q goes some up under.0 under.1 out r.path (rw r.ends r.is_slot) (rw r.ends null) (ap (key c.state.memory) r.ends ∙ has_key))
+
   module _ (ts : List (ℕ × Event)) (t : ℕ × Event) (keys : All (λ t. HasKey t.1) (ts ++ t ∷ [])) (w : ℕ) (n : NodeId) where
     abbrev c : Configuration
     c = after_in (ordered L) ts
@@ -232,26 +272,43 @@ module _ (L : Layout) (enough : 5 ≤ L.nodes) where
       unfolding refused_in applied_in
       later_next r ends call is i a at = go (refused_in c t.0 t.1) refl
         where
-          go : (x : Option Refused) → refused_in c t.0 t.1 ≡ x → EachOnward (child c'.state.memory) (key c'.state.memory) (lasting c'.state.memory) call.key (EndsAt n.slot) a.slot
-          go (Some x) why = subst (λ (d : Configuration). EachOnward (child d.state.memory) (key d.state.memory) (lasting d.state.memory) call.key (EndsAt n.slot) a.slot) (sym (refused_next c t x why))
+          go : (x : Option Refused) → refused_in c t.0 t.1 ≡ x → EndsOn c' call.key n a.slot
+          go (Some x) why = subst (λ (d : Configuration). EndsOn d call.key n a.slot) (sym (refused_next c t x why))
               (ends call (sym same_call ∙ is) i a (ap (λ (d : Configuration). slice_get (own_search d w).later i) (sym (refused_next c t x why)) ∙ at))
-          go None why = subst EndsOn (sym (allowed_next c t why)) (later_onward c.state (law_of_state L enough c o).0 (law_of_state L enough c o).1 t.0 o.searches o.law (all_kept L enough ts first o.searches o.are) t.1 ok w call
-              (ap (λ (S : Search). S.call) (sym own_is) ∙ (sym same_call ∙ is)) n (ap (λ (S : Search). S.flagged) (sym own_is) ∙ was) (EndsAt n.slot)
-              (subst (λ (d : Configuration). EachNow (child d.state.memory) (key d.state.memory) (lasting d.state.memory) call.key (EndsAt n.slot)) (allowed_next c t why) (ends_now c' o' w n (own_search c' w) flagged_now r call is))
-              (λ j b there. ends call (sym same_call ∙ is) j b (ap (λ (S : Search). slice_get S.later j) own_is ∙ there))
-              stands i a (ap (λ (S : Search). slice_get S.later i) (sym own_then) ∙ (ap (λ (d : Configuration). slice_get (own_search d w).later i) (sym (allowed_next c t why)) ∙ at)))
+          go None why = subst (λ (d : Configuration). EndsOn d call.key n a.slot) (sym (allowed_next c t why)) (
+            (λ search. later_onward c.state (shape search) (law_of_state L enough c o).0 (law_of_state L enough c o).1 t.0 o.searches o.law (all_kept L enough ts first o.searches o.are) t.1 ok w call
+                (ap (λ (S : Search). S.call) (sym own_is) ∙ (sym same_call ∙ is)) n (ap (λ (S : Search). S.flagged) (sym own_is) ∙ was) (EndsAt n.slot)
+                (subst (λ (d : Configuration). EachNow (child d.state.memory) (key d.state.memory) (lasting d.state.memory) call.key (EndsAt n.slot)) (allowed_next c t why) (ends_now c' o' w n (own_search c' w) flagged_now r call is))
+                (λ j b there. (ends call (sym same_call ∙ is) j b (ap (λ (S : Search). slice_get S.later j) own_is ∙ there)).0 (shape search))
+                stands i a there),
+            (λ radix. later_in c.state (shape radix) (law_of_state L enough c o).0 (law_of_state L enough c o).1 t.0 o.searches o.law (all_kept L enough ts first o.searches o.are) t.1 ok (nests_then radix) w call
+                (ap (λ (S : Search). S.call) (sym own_is) ∙ (sym same_call ∙ is)) n (ap (λ (S : Search). S.flagged) (sym own_is) ∙ was) (EndsIn call.key n.slot) (λ y t holds. holds.1)
+                (subst (λ (d : Configuration). EachNow (child d.state.memory) (key d.state.memory) (lasting d.state.memory) call.key (EndsIn call.key n.slot)) (allowed_next c t why)
+                (ends_in_now c' o' (ap (λ (d : Configuration). d.state.layout.radix) (allowed_next c t why) ∙ radix) w n (own_search c' w) flagged_now r call is))
+                (λ j b there. (ends call (sym same_call ∙ is) j b (ap (λ (S : Search). slice_get S.later j) own_is ∙ there)).1 (shape radix))
+                stands i a there),
+          )
             where
-              EndsOn : Configuration → Type 0
-              EndsOn d = EachOnward (child d.state.memory) (key d.state.memory) (lasting d.state.memory) call.key (EndsAt n.slot) a.slot
+              shape : {b : Bool} → (applied c.state t.0 t.1).layout.radix ≡ b → c.state.layout.radix ≡ b
+              shape is = sym (shape_after c.state t.0 t.1) ∙ is
+
+              then : IsOrdered L (applied_in (after_in (ordered L) ts) t.0 t.1)
+              then = subst (IsOrdered L) (allowed_next c t why) o'
 
               ok : Allowed c.state t.0 t.1
               ok = allowed c.state t.0 t.1 (neither (refused c.state t.0 t.1) (disorder_in c t.0 t.1) why).0
+
+              nests_then : (applied c.state t.0 t.1).layout.radix ≡ true → Nests (child (write c.state.memory (of c.state t.0) t.0 t.1)) (key (write c.state.memory (of c.state t.0) t.0 t.1))
+              nests_then radix = subst (λ (m : Memory). Nests (child m) (key m)) (memory_is c.state (law_of_state L enough c o).0 (law_of_state L enough c o).1 t.0 t.1 ok) (then.law.nested radix).nests
 
               own_is : own_search c w ≡ search_of o.searches w
               own_is = ap (λ (l : Option (List Search)). search_of (unwrap_or l []) w) o.are
 
               own_then : own_search (applied_in c t.0 t.1) w ≡ search_of (learned_from o.searches t.0 t.1 (reply_of c.state t.0 t.1)) w
               own_then = ap (λ (l : Option (List Search)). search_of (unwrap_or (option_map (λ ss. learned_from ss t.0 t.1 (reply_of c.state t.0 t.1)) l) []) w) o.are
+
+              there : slice_get (search_of (learned_from o.searches t.0 t.1 (reply_of c.state t.0 t.1)) w).later i ≡ Some a
+              there = ap (λ (S : Search). slice_get S.later i) (sym own_then) ∙ (ap (λ (d : Configuration). slice_get (own_search d w).later i) (sym (allowed_next c t why)) ∙ at)
 
               stands : w ≡ t.0 → begins_anew (t.1, reply_of c.state t.0 t.1) ≡ false
               stands same = (or_parts (begins_anew (t.1, reply_of c.state t.0 t.1)) false (sym (ap (list_any begins_anew)
@@ -394,7 +451,7 @@ module _ (L : Layout) (enough : 5 ≤ L.nodes) where
                         same_ok x y e = cc
 
                     unflagged : (own_search c w).flagged ≡ None
-                    unflagged = first_flag (of c.state w) (own_search c w) p leaf d (subst (λ (e : Event). disorder (of c.state w) (own_search c w) e ≡ None) is_flag order)
+                    unflagged = first_flag c.state.layout (of c.state w) (own_search c w) p leaf d (subst (λ (e : Event). disorder c.state.layout (of c.state w) (own_search c w) e ≡ None) is_flag order)
 
                     own_is : own_search c w ≡ search_of o.searches w
                     own_is = ap (λ (l : Option (List Search)). search_of (unwrap_or l []) w) o.are
@@ -444,11 +501,18 @@ module _ (L : Layout) (enough : 5 ≤ L.nodes) where
 
         some : b.1.slot ≢ 0
         some z =
-            let f = call_walks (after_in (ordered L) turns).state.memory (knows (of (after_in (ordered L) turns).state w)) (search_of end.searches w).call (search_of end.searches w).later (record { op = Delete; key = k }) (ap (λ (T : Search). T.call) (sym own_end) ∙ is_call) (kept.law TheFlag) in
+            let f = call_walks (after_in (ordered L) turns).state.layout.radix (after_in (ordered L) turns).state.memory (knows (of (after_in (ordered L) turns).state w)) (search_of end.searches w).call (search_of end.searches w).later (record { op = Delete; key = k }) (ap (λ (T : Search). T.call) (sym own_end) ∙ is_call) (kept.law TheFlag) in
             let range = (law_of_state L enough (after_in (ordered L) turns) end).1.tree.known w b.1.slot (f.1.is_known b.0 b.1 there) in absurd (omega arith)
 
+        leaf : is_leaf (node (after_in (ordered L) turns).state.memory b.1.slot) ≡ true
+        leaf = (leaf_is L enough (after_in (ordered L) turns) end w b.1.slot (kept.ends TheFlag b.0 b.1 there (and_parts b.1.ended (not (b.1.slot == n.slot)) b.3).0))
+
         same : b.1.slot ≡ n.slot
-        same = ends (record { op = Delete; key = k }) is_call b.0 b.1 b.2 [] tt some (leaf_is L enough (after_in (ordered L) turns) end w b.1.slot (kept.ends TheFlag b.0 b.1 there (and_parts b.1.ended (not (b.1.slot == n.slot)) b.3).0))
+        same = by (after_in (ordered L) turns).state.layout.radix refl (ends (record { op = Delete; key = k }) is_call b.0 b.1 b.2) leaf
+          where
+            by : (shape : Bool) → (after_in (ordered L) turns).state.layout.radix ≡ shape → EndsOn (after_in (ordered L) turns) k n b.1.slot → is_leaf (node (after_in (ordered L) turns).state.memory b.1.slot) ≡ true → b.1.slot ≡ n.slot
+            by false search on leaf = on.0 search [] tt some leaf
+            by true radix on leaf = (on.1 radix [] tt tt some).0 leaf
 
     has_deleted : HasWonDelete L turns w k
     has_deleted = by (own_search (after_in (ordered L) turns) w).flagged refl (shown L enough turns keys w Delete k true may)

@@ -41,7 +41,7 @@ OneFlagger s ss = (u v : ℕ) (n m : NodeId) → (search_of ss u).flagged ≡ So
 abbrev Both : State → List Search → Type 0
 Both s ss = EachFlagKept s ss × OneFlagger s ss
 
-module _ (s : State) (h : ℕ → ℕ) (law : Lawful s h) (w : ℕ) (ss : List Search) (l : OrderLaw s ss) (kept : EachFlagKept s ss) (e : Event) (ok : Allowed s w e) (ordered : disorder (of s w) (search_of ss w) e ≡ None) where
+module _ (s : State) (h : ℕ → ℕ) (law : Lawful s h) (w : ℕ) (ss : List Search) (l : OrderLaw s ss) (kept : EachFlagKept s ss) (e : Event) (ok : Allowed s w e) (ordered : disorder s.layout (of s w) (search_of ss w) e ≡ None) where
   -- what is flagged by another call is not flagged again
   not_again : (v : ℕ) (m : NodeId) → (search_of ss v).flagged ≡ Some m → (n : NodeId) → (searched (search_of ss w) e (reply_of s w e)).flagged ≡ Some n → (begins_anew (e, reply_of s w e) ≡ false) → n.slot ≡ m.slot → (search_of ss w).flagged ≡ Some n
   not_again v m has n now stands same = by (flag_step (search_of ss w) e (reply_of s w e) stands)
@@ -53,8 +53,8 @@ module _ (s : State) (h : ℕ → ℕ) (law : Lawful s h) (w : ℕ) (ss : List S
           is_n : q ≡ n
           is_n = same_Some q n (sym flagged ∙ now)
 
-          clash : (e : Event) → e ≡ Flag p d leaf → Allowed s w e → disorder (of s w) (search_of ss w) e ≡ None → reply_of s w e ≡ Flagged q → ⊥
-          clash e is = subst (λ (e : Event). Allowed s w e → disorder (of s w) (search_of ss w) e ≡ None → reply_of s w e ≡ Flagged q → ⊥) (sym is) (λ ok ordered told.
+          clash : (e : Event) → e ≡ Flag p d leaf → Allowed s w e → disorder s.layout (of s w) (search_of ss w) e ≡ None → reply_of s w e ≡ Flagged q → ⊥
+          clash e is = subst (λ (e : Event). Allowed s w e → disorder s.layout (of s w) (search_of ss w) e ≡ None → reply_of s w e ≡ Flagged q → ⊥) (sym is) (λ ok ordered told.
               let won = won_flag_shown s w p leaf d q told in
               let k = flag_marks s h law w ss l p leaf d ok won.0 ordered in
               let at_leaf : leaf ≡ m.slot = ap (λ (y : NodeId). y.slot) (won.1 ∙ is_n) ∙ same in
@@ -124,4 +124,4 @@ module _ (L : Layout) (enough : 5 ≤ L.nodes) where
         where
           on : FlagStep (own_search c w) t.1 r (searched (own_search c w) t.1 r) → (searched (own_search c w) t.1 r).flagged ≡ Some n
           on (SameFlag flagged) = flagged ∙ has
-          on (NewFlag p leaf d m is_flag is_flagged flagged later) = absurd (none-some n (sym (first_flag (of c.state w) (own_search c w) p leaf d (subst (λ (e : Event). disorder (of c.state w) (own_search c w) e ≡ None) is_flag order)) ∙ has))
+          on (NewFlag p leaf d m is_flag is_flagged flagged later) = absurd (none-some n (sym (first_flag c.state.layout (of c.state w) (own_search c w) p leaf d (subst (λ (e : Event). disorder c.state.layout (of c.state w) (own_search c w) e ≡ None) is_flag order)) ∙ has))

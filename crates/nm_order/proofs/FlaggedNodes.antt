@@ -84,12 +84,12 @@ won_flag_shown s w p leaf d n is = go (is_to (edge s.memory p d) leaf) refl is
 
 module _ (s : State) (h : ℕ → ℕ) (law : Lawful s h) (w : ℕ) (ss : List Search) (l : OrderLaw s ss) where
   -- it marks the leaf of its call's key
-  pub flag_marks : (p leaf : ℕ) (d : Side) → Allowed s w (Flag p d leaf) → is_to (edge s.memory p d) leaf ≡ true → disorder (of s w) (search_of ss w) (Flag p d leaf) ≡ None
+  pub flag_marks : (p leaf : ℕ) (d : Side) → Allowed s w (Flag p d leaf) → is_to (edge s.memory p d) leaf ≡ true → disorder s.layout (of s w) (search_of ss w) (Flag p d leaf) ≡ None
       → (call : Call) × ((search_of ss w).call ≡ Some call) × (call.op ≡ Delete) × Marks s.memory p d leaf (named s.memory leaf) call.key
   flag_marks p leaf d ok won order = (m.call, m.is_call, m.is_op, marks_leaf s h law w p d leaf ok won m.call.key has)
     where
       m : MayFlag (search_of ss w) p d leaf
-      m = may_flag (of s w) (search_of ss w) p d leaf order
+      m = may_flag s.layout (of s w) (search_of ss w) p d leaf order
 
       found : (i : ℕ) × (a : Arrival) × (slice_get (search_of ss w).walks i ≡ Some a) × (may_flag_at m.call.key p d leaf a ≡ true)
       found = any_at (may_flag_at m.call.key p d leaf) (search_of ss w).walks m.walked
@@ -99,7 +99,7 @@ module _ (s : State) (h : ℕ → ℕ) (law : Lawful s h) (w : ℕ) (ss : List S
           let parts = and_parts (is_by leaf p d found.1) (ended_at m.call.key found.1) found.3 in
           let slot = eqb-true found.1.slot leaf (and_parts (found.1.slot == leaf) ((found.1.parent == p) && is_side found.1.side d) parts.0).0 in
           let read = number_is found.1.key m.call.key (and_parts found.1.ended (is_number found.1.key m.call.key) parts.1).1 in
-          let walks = (call_walks s.memory (knows (of s w)) (search_of ss w).call (search_of ss w).walks m.call m.is_call (l.walks w)).1 in
+          let walks = (call_walks s.layout.radix s.memory (knows (of s w)) (search_of ss w).call (search_of ss w).walks m.call m.is_call (l.walks w)).1 in
           ap (key s.memory) (sym slot) ∙ walks.is_keyed found.0 found.1 m.call.key found.2 read
 
 flagged_step : IsKept EachFlaggedLeaf
@@ -126,8 +126,8 @@ flagged_step s h law w births ss l kept e ok ordered has u n = elim (ℕ_discret
             by (NewFlag p leaf d m is_flag is_flagged flagged later) = flagged_still s h law w e ok w stays (search_of ss w) (searched (search_of ss w) e (reply_of s w e)) same_call n
                 (subst (FlaggedLeaf s (search_of ss w) w) (same_Some m n (sym flagged ∙ has)) (new e is_flag ok ordered is_flagged))
               where
-                new : (e : Event) → e ≡ Flag p d leaf → Allowed s w e → disorder (of s w) (search_of ss w) e ≡ None → reply_of s w e ≡ Flagged m → FlaggedLeaf s (search_of ss w) w m
-                new e is = subst (λ (e : Event). Allowed s w e → disorder (of s w) (search_of ss w) e ≡ None → reply_of s w e ≡ Flagged m → FlaggedLeaf s (search_of ss w) w m) (sym is) (λ ok ordered told.
+                new : (e : Event) → e ≡ Flag p d leaf → Allowed s w e → disorder s.layout (of s w) (search_of ss w) e ≡ None → reply_of s w e ≡ Flagged m → FlaggedLeaf s (search_of ss w) w m
+                new e is = subst (λ (e : Event). Allowed s w e → disorder s.layout (of s w) (search_of ss w) e ≡ None → reply_of s w e ≡ Flagged m → FlaggedLeaf s (search_of ss w) w m) (sym is) (λ ok ordered told.
                     let won = won_flag_shown s w p leaf d m told in
                     let k = flag_marks s h law w ss l p leaf d ok won.0 ordered in
                     subst (FlaggedLeaf s (search_of ss w) w) won.1 (record {

@@ -52,7 +52,7 @@ spliced m n z a d p keep e sides inside ends kept_edge good path g is = flag_of 
 -- ---- a link that is won
 
 module _ (m : Memory) (n z p : ℕ) (d : Side) (leaf new far : ℕ) (dl : Side) (inside : p < length m.nodes) (unmarked : edge m p d ≡ to leaf) (over_leaf : edge m new dl ≡ to leaf) (over_far : edge m new (other dl) ≡ to far)
-    (is_leaf : (f : Side) → child m leaf f ≡ 0) (far_leaf : (f : Side) → child m far f ≡ 0) (nothing : (f : Side) → child m 0 f ≡ 0) (p_some : p ≢ 0) (leaf_some : leaf ≢ 0) (p_new : p ≢ new) (p_far : p ≢ far)
+    (far_leaf : (f : Side) → child m far f ≡ 0) (nothing : (f : Side) → child m 0 f ≡ 0) (p_some : p ≢ 0) (leaf_some : leaf ≢ 0) (p_new : p ≢ new) (p_far : p ≢ far)
     (n_some : n ≢ 0) (n_new : n ≢ new) (n_far : n ≢ far) (good : LeadsFlagged m n z) where
   abbrev m' : Memory
   m' = put_edge m p d (to new)
@@ -71,9 +71,6 @@ module _ (m : Memory) (n z p : ℕ) (d : Side) (leaf new far : ℕ) (dl : Side) 
   childless : (y : ℕ) → y ≢ p → ((f : Side) → child m y f ≡ 0) → (g : Side) → child m' y g ≡ 0
   childless y apart none g = ap (λ (e : Edge). e.slot) (as_was y g apart) ∙ none g
 
-  leaf_apart : leaf ≢ p
-  leaf_apart at = leaf_some (ap (λ (e : Edge). e.slot) (sym unmarked) ∙ (ap (λ (y : ℕ). child m y d) (sym at) ∙ is_leaf d))
-
   below_new : (g : Side) → (child m new g ≡ leaf) ⊎ (child m new g ≡ far)
   below_new g = go (same_side dl g) refl
     where
@@ -90,7 +87,7 @@ module _ (m : Memory) (n z p : ℕ) (d : Side) (leaf new far : ℕ) (dl : Side) 
   down y g (inr (inl new_one)) = subst (λ (t : ℕ). Within t) (sym (ap (λ (t : ℕ). child m' t g) new_one.0 ∙ ap (λ (e : Edge). e.slot) (as_was new g (λ at. p_new (sym at))))) (go (below_new g))
     where
       go : (child m new g ≡ leaf) ⊎ (child m new g ≡ far) → Within (child m new g)
-      go (inl is) = inr (inr (λ f. ap (λ (t : ℕ). child m' t f) is ∙ childless leaf leaf_apart is_leaf f))
+      go (inl is) = inl (subst (λ (t : ℕ). On (child m) z t) (ap (λ (e : Edge). e.slot) unmarked ∙ sym is) (on_next (child m) z p d new_one.1))
       go (inr is) = inr (inr (λ f. ap (λ (t : ℕ). child m' t f) is ∙ childless far (λ at. p_far (sym at)) far_leaf f))
   down y g (inr (inr none)) = inr (inr (λ f. ap (λ (t : ℕ). child m' t f) (none g) ∙ childless 0 (λ at. p_some (sym at)) nothing f))
 
@@ -130,7 +127,7 @@ module _ (s : State) (h : ℕ → ℕ) (law : Lawful s h) (w : ℕ) (n z : ℕ) 
   linking : (p : ℕ) (d : Side) (leaf new : ℕ) → Allowed s w (Link p d leaf new) → is_to (edge s.memory p d) leaf ≡ true → LeadsFlagged s.memory n z → LeadsFlagged (put_edge s.memory p d (to new)) n z
   linking p d leaf new ok won good =
       let k = won_link s h law w p d leaf new ok won in
-      linked s.memory n z p d leaf new k.drafts.far k.drafts.side (let r = k.link.inside in let size = law.roomy.nodes in omega arith) k.unmarked k.link.over_leaf k.link.over_far k.link.is_leaf
+      linked s.memory n z p d leaf new k.drafts.far k.drafts.side (let r = k.link.inside in let size = law.roomy.nodes in omega arith) k.unmarked k.link.over_leaf k.link.over_far
       (λ f. ap (λ (e : Edge). e.slot) (k.link.far_leaf f)) (λ f. ap (λ (e : Edge). e.slot) (law.tree.nothing f)) k.link.is_slot k.link.leaf_slot
       (λ at. true≢false (sym (ap (is_private (of s w)) at ∙ k.link.own) ∙ k.link.live.shared w)) (λ at. true≢false (sym (ap (is_private (of s w)) at ∙ k.link.far_own) ∙ k.link.live.shared w))
       n_some (n_shared new k.link.own) (n_shared k.drafts.far k.link.far_own) good

@@ -54,7 +54,7 @@ flag_allowed : (c : Configuration) (searches : List Search) → c.searches ≡ S
 unfolding refused_in
 flag_allowed c searches are w p side leaf allowed =
     let s : Search = search_of searches w in
-    let in_order : disorder (of c.state w) s (Flag p side leaf) ≡ None = ap (λ ss. disorder_among ss (of c.state w) w (Flag p side leaf)) (sym are) ∙ neither (refused c.state w (Flag p side leaf)) (disorder_in c w (Flag p side leaf)) allowed in
+    let in_order : disorder c.state.layout (of c.state w) s (Flag p side leaf) ≡ None = ap (λ ss. disorder_among c.state.layout ss (of c.state w) w (Flag p side leaf)) (sym are) ∙ neither (refused c.state w (Flag p side leaf)) (disorder_in c w (Flag p side leaf)) allowed in
     flag_in_order s s.call p side leaf (not-false (flags_in_order s s.call p side leaf) (passed _ NotOrdered None in_order).0)
 
 -- ---- one event

@@ -142,7 +142,7 @@ module _ (L : Layout) (enough : 5 ≤ L.nodes) (ts : List (ℕ × Event)) (t : �
 
           flag : (n : NodeId) → (own_search c w).flagged ≡ Some n → FlagStep (own_search c w) t.1 r (searched (own_search c w) t.1 r) → (searched (own_search c w) t.1 r).flagged ≡ Some n
           flag n x (SameFlag flagged) = flagged ∙ x
-          flag n x (NewFlag p leaf d m is_flag is_flagged flagged later) = absurd (none-some n (sym (first_flag (of c.state w) (own_search c w) p leaf d (subst (λ (e : Event). disorder (of c.state w) (own_search c w) e ≡ None) is_flag order)) ∙ x))
+          flag n x (NewFlag p leaf d m is_flag is_flagged flagged later) = absurd (none-some n (sym (first_flag c.state.layout (of c.state w) (own_search c w) p leaf d (subst (λ (e : Event). disorder c.state.layout (of c.state w) (own_search c w) e ≡ None) is_flag order)) ∙ x))
 
   -- a flagged leaf that is cut stays so
   gone_still : (w : ℕ) (n : NodeId) → (own_search c w).flagged ≡ Some n → (Reached c.state.memory n.slot → ⊥) → Reached c'.state.memory n.slot → ⊥
@@ -185,9 +185,9 @@ module _ (L : Layout) (enough : 5 ≤ L.nodes) (ts : List (ℕ × Event)) (t : �
           on : Anew t.1 r → (t ≡ (w, LeaveWith true)) × (outcome_in c t ≡ Ok Departed)
           on (PinsNow p (inl sight) pin) = absurd (no_pin (of c.state w) pinned.0 c.state.memory.epoch p pinned.1 (sym (sight_told c.state w) ∙ (ap (reply_of c.state w) (sym sight) ∙ (told ∙ pin))))
           on (PinsNow p (inr call) pin) = absurd (no_pin (of c.state w) pinned.0 c.state.memory.epoch p pinned.1 (sym (call_told c.state w call.0 call.1) ∙ (ap (reply_of c.state w) (sym call.2) ∙ (told ∙ pin))))
-          on (LeavesNow leave) = absurd (not_silent op did (silent (of c.state w) (own_search c w) (subst (λ (e : Event). disorder (of c.state w) (own_search c w) e ≡ None) leave order)))
+          on (LeavesNow leave) = absurd (not_silent op did (silent c.state.layout (of c.state w) (own_search c w) (subst (λ (e : Event). disorder c.state.layout (of c.state w) (own_search c w) e ≡ None) leave order)))
           on (AnswersNow true leave departs) = ((λ i. (is i, leave i)), won ∙ ap (λ (q : Reply). Ok q) departs)
-          on (AnswersNow false leave departs) = absurd (not_false op did (answer_shown (of c.state w) (own_search c w) false (record { op = op; key = k }) called (subst (λ (e : Event). disorder (of c.state w) (own_search c w) e ≡ None) leave order)))
+          on (AnswersNow false leave departs) = absurd (not_false op did (answer_shown c.state.layout (of c.state w) (own_search c w) false (record { op = op; key = k }) called (subst (λ (e : Event). disorder c.state.layout (of c.state w) (own_search c w) e ≡ None) leave order)))
 
   -- ---- the acts so far, after the turn
 
@@ -342,7 +342,7 @@ module _ (L : Layout) (enough : 5 ≤ L.nodes) (ts : List (ℕ × Event)) (t : �
   -- ---- what the turn makes
 
   call_key : (w : ℕ) (op : Op) (k : ℕ) → Calls c w op k → IsKey k
-  call_key w op k called = (call_walks c.state.memory (knows (of c.state w)) (search_of o.searches w).call (search_of o.searches w).walks (record { op = op; key = k }) (sym (ap (λ (l : Option (List Search)). (search_of (unwrap_or l []) w).call) o.are) ∙ called) (o.law.walks w)).0
+  call_key w op k called = (call_walks c.state.layout.radix c.state.memory (knows (of c.state w)) (search_of o.searches w).call (search_of o.searches w).walks (record { op = op; key = k }) (sym (ap (λ (l : Option (List Search)). (search_of (unwrap_or l []) w).call) o.are) ∙ called) (o.law.walks w)).0
 
   -- a leaf that a call keeps as flagged after the turn, and that is not reached then, it kept so
   -- before
@@ -452,7 +452,7 @@ module _ (L : Layout) (enough : 5 ≤ L.nodes) (ts : List (ℕ × Event)) (t : �
 
       fresh : OwnTurn t.0 c t → (own_search c t.0).linked ≡ false
       fresh (Quiet same none) = absurd (filled (t.0 == t.0) (eq-eqb t.0 t.0 refl) (sym (allowed_entries t.0 c t r won) ∙ none))
-      fresh (Own q is won' here learned order) = links_once.once (of c.state t.0) (own_search c t.0) t.1 r order such
+      fresh (Own q is won' here learned order) = links_once.once c.state.layout (of c.state t.0) (own_search c t.0) t.1 r order such
 
       linked : OwnTurn t.0 c t → (own_search c' t.0).linked ≡ true
       linked (Quiet same none) = absurd (filled (t.0 == t.0) (eq-eqb t.0 t.0 refl) (sym (allowed_entries t.0 c t r won) ∙ none))

@@ -36,7 +36,7 @@ use Rattle.nm_order.proofs.LaterFlags.{LeafFlagged, FlagKept, unflagged, kept_st
 
 module _ (s : State) (h : ℕ → ℕ) (law : Lawful s h) (w : ℕ) (S : Search) (kept : FlagKept s.memory (of s w) S) where
   -- it flags a leaf
-  own_flag : (e : Event) (r : Reply) (T : Search) → Stays s.memory (of s w) (of (applied s w e) w) → Allowed s w e → reply_of s w e ≡ r → disorder (of s w) S e ≡ None → (p leaf : ℕ) (d : Side) (n : NodeId)
+  own_flag : (e : Event) (r : Reply) (T : Search) → Stays s.memory (of s w) (of (applied s w e) w) → Allowed s w e → reply_of s w e ≡ r → disorder s.layout (of s w) S e ≡ None → (p leaf : ℕ) (d : Side) (n : NodeId)
       → e ≡ Flag p d leaf → r ≡ Flagged n → T.flagged ≡ Some n → T.later ≡ S.later → FlagKept (applied s w e).memory (of (applied s w e) w) T
   own_flag e r T stays ok told ordered p leaf d n is_flag is_flagged flagged later = record {
     none = λ none. absurd (none-some n (sym none ∙ flagged));
@@ -44,7 +44,7 @@ module _ (s : State) (h : ℕ → ℕ) (law : Lawful s h) (w : ℕ) (S : Search)
   }
     where
       first : S.flagged ≡ None
-      first = first_flag (of s w) S p leaf d (subst (λ (x : Event). disorder (of s w) S x ≡ None) is_flag ordered)
+      first = first_flag s.layout (of s w) S p leaf d (subst (λ (x : Event). disorder s.layout (of s w) S x ≡ None) is_flag ordered)
 
       led : (e : Event) → e ≡ Flag p d leaf → Allowed s w e → reply_of s w e ≡ Flagged n → Stays s.memory (of s w) (of (applied s w e) w) → LeafFlagged (applied s w e).memory (of (applied s w e) w) [] n.slot
       led e is = subst (λ (x : Event). Allowed s w x → reply_of s w x ≡ Flagged n → Stays s.memory (of s w) (of (applied s w x) w) → LeafFlagged (applied s w x).memory (of (applied s w x) w) [] n.slot) (sym is)
@@ -58,7 +58,7 @@ module _ (s : State) (h : ℕ → ℕ) (law : Lawful s h) (w : ℕ) (S : Search)
       go e is = subst (λ (y : Event). Stays s.memory (of s w) (of (applied s w y) w) → Allowed s w y → FlagKept (applied s w y).memory (of (applied s w y) w) (look_for S S.call x f (reply_of s w y))) (sym is)
           (λ stays ok. look_flags s h law w x f ok stays S kept)
 
-  own_step : (e : Event) → Allowed s w e → disorder (of s w) S e ≡ None → FlagKept (applied s w e).memory (of (applied s w e) w) (searched S e (reply_of s w e))
+  own_step : (e : Event) → Allowed s w e → disorder s.layout (of s w) S e ≡ None → FlagKept (applied s w e).memory (of (applied s w e) w) (searched S e (reply_of s w e))
   own_step e ok ordered = go (begins_anew (e, reply_of s w e)) refl
     where
       go : (b : Bool) → begins_anew (e, reply_of s w e) ≡ b → FlagKept (applied s w e).memory (of (applied s w e) w) (searched S e (reply_of s w e))

@@ -6,6 +6,7 @@ use Rattle.std.specs.List.{list_any}
 use Rattle.std.proofs.lemmas.Bool.{cond_both, cond-true, eqb-true, eq-eqb, and_parts, or_parts, not-false}
 use Rattle.std.proofs.lemmas.Option.{none-some, same_Some}
 use Rattle.nm_edge.specs.Edges.{Edge, is_to}
+use Rattle.nm_edge.specs.Layouts.{Layout}
 use Rattle.nm_edge.specs.declared.edge.Side.{Side}
 use Rattle.nm_edge.specs.declared.edge.Side.TheVariants.{Left}
 use Rattle.nm_edge.specs.declared.node.NodeId.{NodeId}
@@ -135,8 +136,8 @@ new_flag s h law w p leaf d n ok is l stays =
     })
 
 -- a flag in order is the first of its call
-pub first_flag : (k : Knowledge) (S : Search) (p leaf : ℕ) (d : Side) → disorder k S (Flag p d leaf) ≡ None → S.flagged ≡ None
-first_flag k S p leaf d ordered = by S.call (not-false (flags_in_order S S.call p d leaf) (passed _ NotOrdered None ordered).0)
+pub first_flag : (K : Layout) (k : Knowledge) (S : Search) (p leaf : ℕ) (d : Side) → disorder K k S (Flag p d leaf) ≡ None → S.flagged ≡ None
+first_flag K k S p leaf d ordered = by S.call (not-false (flags_in_order S S.call p d leaf) (passed _ NotOrdered None ordered).0)
   where
     none : (o : Option NodeId) → is_none o ≡ true → o ≡ None
     none None is = refl

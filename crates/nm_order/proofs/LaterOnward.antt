@@ -29,19 +29,19 @@ use Rattle.nm_order.proofs.CallWalks.{WalksKept, GoesOn, goes_on_so, look_writes
 use Rattle.nm_order.proofs.CallWalks.GoesOn.{Same, Looked}
 use Rattle.nm_order.proofs.FlaggedNodes.{memory_is}
 
-module _ (s : State) (h : ℕ → ℕ) (law : Lawful s h) (w : ℕ) (ss : List Search) (l : OrderLaw s ss) (kept : (u : ℕ) → WalksKept s ss u) (e : Event) (ok : Allowed s w e)
+module _ (s : State) (search : s.layout.radix ≡ false) (h : ℕ → ℕ) (law : Lawful s h) (w : ℕ) (ss : List Search) (l : OrderLaw s ss) (kept : (u : ℕ) → WalksKept s ss u) (e : Event) (ok : Allowed s w e)
     (u : ℕ) (call : Call) (is_call : (search_of ss u).call ≡ Some call) (n : NodeId) (is_flagged : (search_of ss u).flagged ≡ Some n) (W : ℕ → Lasting → Type 0) where
   -- of each slot to which these walks can go on
   abbrev pub AllOnward : State → List Arrival → Type 0
   AllOnward s later = (i : ℕ) (a : Arrival) → slice_get later i ≡ Some a → EachOnward (child s.memory) (key s.memory) (lasting s.memory) call.key W a.slot
 
-  walks : IsKey call.key × WalkLaw (child s.memory) (key s.memory) (knows (of s u)) call.key (search_of ss u).later
-  walks = call_walks s.memory (knows (of s u)) (search_of ss u).call (search_of ss u).later call is_call ((kept u).law TheFlag)
+  walks : IsKey call.key × WalkLaw s.layout.radix (child s.memory) (key s.memory) (knows (of s u)) call.key (search_of ss u).later
+  walks = call_walks s.layout.radix s.memory (knows (of s u)) (search_of ss u).call (search_of ss u).later call is_call ((kept u).law TheFlag)
 
   module _ (now : EachNow (child (applied s w e).memory) (key (applied s w e).memory) (lasting (applied s w e).memory) call.key W) (was : AllOnward s (search_of ss u).later) where
     still : AllOnward (applied s w e) (search_of ss u).later
     still i a at = subst (λ (m : Memory). EachOnward (child m) (key m) (lasting m) call.key W a.slot) (sym (memory_is s h law w e ok))
-        (each_outlasts s h law w e (write s.memory (of s w) w e) (λ x free. lasting_stays s h law w e ok x free) u a.slot (walks.1.is_known i a at) call.key (walks.1.onward i a at) W W (λ y t holds. holds)
+        (each_outlasts s h law w e (write s.memory (of s w) w e) (λ x free. lasting_stays s h law w e ok x free) u a.slot (walks.1.is_known i a at) call.key (walks.1.onward search i a at) W W (λ y t holds. holds)
         (subst (λ (m : Memory). EachNow (child m) (key m) (lasting m) call.key W) (memory_is s h law w e ok) now) (tree_change s h law w e ok) (was i a at))
 
     own : u ≡ w → begins_anew (e, reply_of s w e) ≡ false → AllOnward (applied s w e) (searched (search_of ss u) e (reply_of s w e)).later
@@ -52,7 +52,7 @@ module _ (s : State) (h : ℕ → ℕ) (law : Lawful s h) (w : ℕ) (ss : List S
         by (Looked x f is becomes) = subst (λ (S : Search). AllOnward (applied s w e) S.later) (sym becomes) (on e is now)
           where
             added : EachNow (child s.memory) (key s.memory) (lasting s.memory) call.key W → AllOnward s (walked call.key (search_of ss u).later x f (reply_of s w (Look x f)))
-            added now = subst (λ (v : ℕ). WalkLaw (child s.memory) (key s.memory) (knows (of s v)) call.key (search_of ss u).later → AllOnward s (walked call.key (search_of ss u).later x f (reply_of s w (Look x f)))) (sym same)
+            added now = subst (λ (v : ℕ). WalkLaw s.layout.radix (child s.memory) (key s.memory) (knows (of s v)) call.key (search_of ss u).later → AllOnward s (walked call.key (search_of ss u).later x f (reply_of s w (Look x f)))) (sym same)
                 (λ law'. look_each s h law w call.key (search_of ss u).later x f walks.0 l.fixed law' W now was) walks.1
 
             look : EachNow (child s.memory) (key s.memory) (lasting s.memory) call.key W → AllOnward s (look_for (search_of ss u) (search_of ss u).call x f (reply_of s w (Look x f))).later

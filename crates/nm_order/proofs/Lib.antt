@@ -1,5 +1,11 @@
 pub mod Searching
 pub mod OrderedTrees
+pub mod RangesOfKeys
+pub mod RadixTrees
+pub mod RadixChanges
+pub mod RadixWays
+pub mod RadixMoments
+pub mod RadixDepths
 pub mod TreeChanges
 pub mod SearchSteps
 pub mod OrderedWalks
@@ -54,6 +60,7 @@ pub mod LegalAnswers
 pub mod CutTurns
 pub mod FlaggedNodes
 pub mod LaterOnward
+pub mod RadixLater
 pub mod EdgeOrigins
 pub mod TurnEdges
 pub mod FlagFates
@@ -77,8 +84,11 @@ pub mod LinkedNodes
 pub mod LinkedBirths
 pub mod StaleWalks
 pub mod StaleRuns
+pub mod RadixLaws
 pub mod KeyTests
 pub mod WorkedPaths
+pub mod WorkedRadix
 pub mod AnswersSince
 pub mod PartWalks
+pub mod WalkTells
 pub mod WalkAnswers

@@ -253,7 +253,7 @@ module _ (L : Layout) (enough : 5 ≤ L.nodes) (w : ℕ) (c : Configuration) (t 
     ok' : Allowed c.state w (Link p d leaf new)
     ok' = subst (λ (v : ℕ). Allowed c.state v (Link p d leaf new)) own (subst (λ (e : Event). Allowed c.state t.0 e) is ok)
 
-    checked : LinkChecked (of c.state w) p leaf new
+    checked : LinkChecked c.state.layout (of c.state w) p leaf new
     checked = link_checked c.state w p d leaf new ok'.event
 
     k : WonLink c.state h law w p d leaf new

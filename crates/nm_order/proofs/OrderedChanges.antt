@@ -1,6 +1,6 @@
 -- What each change of the tree leaves of its order: of each node's key in its interval, and of
 -- searches that go on from known slots.
-use Rattle.std.proofs.Common.{◌≡◌, ◌≢◌, ℕ, ◌<◌, ◌≤◌, true, List, [], ◌∷◌, sym, ap, subst, ◌∙◌, arith, true≢false}
+use Rattle.std.proofs.Common.{◌≡◌, ◌≢◌, ℕ, ◌<◌, ◌≤◌, true, false, List, [], ◌∷◌, sym, ap, subst, ◌∙◌, arith, true≢false}
 use Rattle.std.specs.Prelude.{nat_lt}
 use mathlib.Core.Path.{fun_ext}
 use Rattle.std.proofs.lemmas.Bool.{cond-true, lt-ltb}
@@ -67,7 +67,7 @@ module _ (s : State) (h : ℕ → ℕ) (law : Lawful s h) where
   -- what an event changes, so that the order outlasts it
   pub record Outlasts (m : Memory) : Type 0 where
     pub order : InOrder c v → InOrder (child m) (key m)
-    pub onward : (u z k : ℕ) → knows (of s u) z ≡ true → Onward c v k z → Onward (child m) (key m) k z
+    pub onward : s.layout.radix ≡ false → (u z k : ℕ) → knows (of s u) z ≡ true → Onward c v k z → Onward (child m) (key m) k z
     pub keys : (u z : ℕ) → knows (of s u) z ≡ true → key m z ≡ v z
     pub fixed : FixedKeys s.memory → FixedKeys m
 
@@ -76,13 +76,13 @@ module _ (s : State) (h : ℕ → ℕ) (law : Lawful s h) where
 
   -- a link asks for the order of its three keys
   abbrev pub AsksOrder : ℕ → Event → Type 0
-  AsksOrder w e = (p : ℕ) (d : Side) (leaf new : ℕ) → e ≡ Link p d leaf new → (l : Linkable (of s w) new leaf) → IsLink s.layout.nodes (picture s h) w p d leaf new l.far l.side
+  AsksOrder w e = (p : ℕ) (d : Side) (leaf new : ℕ) → e ≡ Link p d leaf new → (l : Linkable (of s w) new leaf) → IsLink s.layout.radix s.layout.nodes (picture s h) w p d leaf new l.far l.side
       → (c' : Children) → Exchanged c c' p d new → Linking c c' v p d leaf new l.far l.side
 
   pub outlasts : (w : ℕ) (e : Event) (m : Memory) → InOrder c v → AsksOrder w e → TreeChange s h w e m → Outlasts m
   outlasts w e m order asks (Kept children keys) = record {
     order = λ o. subst (λ (d : Children). InOrder d (key m)) (sym same) (subst (λ (n : Keys). InOrder c n) (sym same_keys) o);
-    onward = λ u z k known o. subst (λ (d : Children). Onward d (key m) k z) (sym same) (subst (λ (n : Keys). Onward c n k z) (sym same_keys) o);
+    onward = λ search u z k known o. subst (λ (d : Children). Onward d (key m) k z) (sym same) (subst (λ (n : Keys). Onward c n k z) (sym same_keys) o);
     keys = λ u z known. keys z;
     fixed = fixed_still m keys;
   }
@@ -94,7 +94,7 @@ module _ (s : State) (h : ℕ → ℕ) (law : Lawful s h) where
       same_keys = fun_ext keys
   outlasts w e m order asks (Filled x own apart) = record {
     order = order_apart c (child m) v (key m) x apart (off_root w x own);
-    onward = λ u z k known. onward_apart c (child m) v (key m) x apart (off_root w x own) k z (off_known u z w x known own);
+    onward = λ search u z k known. onward_apart c (child m) v (key m) x apart (off_root w x own) k z (off_known u z w x known own);
     keys = λ u z known. apart.keys z (λ i. off_known u z w x known own [] i);
     fixed = λ f. record { root = apart.keys 1 (low 1 (omega arith)) ∙ f.root; second = apart.keys 2 (low 2 (omega arith)) ∙ f.second };
   }
@@ -103,7 +103,7 @@ module _ (s : State) (h : ℕ → ℕ) (law : Lawful s h) where
       low y few i = let r = law.tree.privates w x own in absurd (omega arith)
   outlasts w e m order asks (Linked p d leaf new is unmarked l link exchanged keys) = record {
     order = λ o. subst (λ (n : Keys). InOrder (child m) n) (sym same_keys) (order_linked c (child m) v p d leaf new l.far l.side k o);
-    onward = λ u z n known o. subst (λ (y : Keys). Onward (child m) y n z) (sym same_keys) (onward_linked c (child m) v p d leaf new l.far l.side k n z some (off_known u z w new known link.own) o);
+    onward = λ search u z n known o. subst (λ (y : Keys). Onward (child m) y n z) (sym same_keys) (onward_linked c (child m) v p d leaf new l.far l.side k (link.is_leaf search) n z some (off_known u z w new known link.own) o);
     keys = λ u z known. keys z;
     fixed = fixed_still m keys;
   }
@@ -116,9 +116,9 @@ module _ (s : State) (h : ℕ → ℕ) (law : Lawful s h) where
 
       same_keys : key m ≡ v
       same_keys = fun_ext keys
-  outlasts w e m order asks (Spliced a d way g some target keys) = record {
+  outlasts w e m order asks (Spliced a d way g some target keys high) = record {
     order = λ o. subst (λ (n : Keys). InOrder (child m) n) (sym same_keys) (order_spliced c (child m) v a d way g some o);
-    onward = λ u z n known o. subst (λ (y : Keys). Onward (child m) y n z) (sym same_keys) (onward_spliced c (child m) v a d way g some n z o);
+    onward = λ search u z n known o. subst (λ (y : Keys). Onward (child m) y n z) (sym same_keys) (onward_spliced c (child m) v a d way g some n z o);
     keys = λ u z known. keys z;
     fixed = fixed_still m keys;
   }

@@ -34,7 +34,7 @@ births_of L enough c o = subst (λ (s : State). EachBirthStands s) (sym o.leads)
 
 -- an event that is allowed and in order keeps it
 abbrev pub IsKept : (State → List Search → Type 0) → Type 0
-IsKept P = (s : State) (h : ℕ → ℕ) (law : Lawful s h) (w : ℕ) → EachBirthStands s → (ss : List Search) → OrderLaw s ss → P s ss → (e : Event) → Allowed s w e → disorder (of s w) (search_of ss w) e ≡ None → HasKey e
+IsKept P = (s : State) (h : ℕ → ℕ) (law : Lawful s h) (w : ℕ) → EachBirthStands s → (ss : List Search) → OrderLaw s ss → P s ss → (e : Event) → Allowed s w e → disorder s.layout (of s w) (search_of ss w) e ≡ None → HasKey e
     → P (applied s w e) (learned_from ss w e (reply_of s w e))
 
 -- of a configuration with its searches
@@ -48,7 +48,7 @@ module _ (P : State → List Search → Type 0) (step : IsKept P) (L : Layout) (
       let l = law_of_state L enough c o in
       subst (λ (ss : List Search). P (applied c.state t.0 t.1) ss) (same_Some (learned_from o.searches t.0 t.1 (reply_of c.state t.0 t.1)) ss (sym (ap (option_map (λ ss. learned_from ss t.0 t.1 (reply_of c.state t.0 t.1))) o.are) ∙ are))
       (step c.state l.0 l.1 t.0 (births_of L enough c o) o.searches o.law (kept o.searches o.are) t.1 (allowed c.state t.0 t.1 (allowed_by_state c t.0 t.1 is))
-      (ap (λ ss. disorder_among ss (of c.state t.0) t.0 t.1) (sym o.are) ∙ in_order c t.0 t.1 is) has)
+      (ap (λ ss. disorder_among c.state.layout ss (of c.state t.0) t.0 t.1) (sym o.are) ∙ in_order c t.0 t.1 is) has)
 
   on_next : (c : Configuration) (t : ℕ × Event) → HasKey t.1 → IsOrdered L c → OfSearches P c → OfSearches P (next_in c t)
   on_next c t has o kept = go (refused_in c t.0 t.1) refl

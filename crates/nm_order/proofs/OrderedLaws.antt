@@ -39,6 +39,7 @@ use Rattle.nm_laws.proofs.Lawful.{lawful}
 use Rattle.nm_laws.proofs.KnownBirths.{each_birth_stands, written_keys}
 use Rattle.nm_order.proofs.TreeChanges.{WonLink, won_link}
 use Rattle.nm_order.proofs.OrderedWalks.{WalkLaw}
+use Rattle.nm_order.proofs.RadixTrees.{RadixLaw}
 use Rattle.nm_order.proofs.OrderedKeys.{Under, under, found, keys_ascend}
 use Rattle.nm_laws.proofs.TreeCount.{reached_once}
 use Rattle.nm_laws.proofs.Outcomes.{same_reply, no_reply}
@@ -63,11 +64,31 @@ order_start L (Left ∷ Right ∷ Right ∷ q) there = absurd (there (follow_non
 order_start L (Right ∷ Left ∷ q) there = absurd (there (follow_none (child (opening L)) (null_start L) q))
 order_start L (Right ∷ Right ∷ q) there = absurd (there (follow_none (child (opening L)) (null_start L) q))
 
+radix_start : (L : Layout) → RadixLaw (child (opening L)) (key (opening L))
+radix_start L = record { nests = λ q up. absurd (few q up); low = λ q up. absurd (few q up); third = omega arith; right = refl; second_right = refl }
+  where
+    fall : (q : List Side) → follow (child (opening L)) 0 q ≡ 0
+    fall q = follow_none (child (opening L)) (null_start L) q
+
+    few : (q : List Side) → 6 ≤ follow (child (opening L)) 1 q → ⊥
+    few [] up = omega (arith, up)
+    few (Left ∷ []) up = omega (arith, up)
+    few (Right ∷ []) up = omega (arith, up)
+    few (Left ∷ Left ∷ []) up = omega (arith, up)
+    few (Left ∷ Right ∷ []) up = omega (arith, up)
+    few (Left ∷ Left ∷ Left ∷ q) up = let z = fall q in omega (arith, up, z)
+    few (Left ∷ Left ∷ Right ∷ q) up = let z = fall q in omega (arith, up, z)
+    few (Left ∷ Right ∷ Left ∷ q) up = let z = fall q in omega (arith, up, z)
+    few (Left ∷ Right ∷ Right ∷ q) up = let z = fall q in omega (arith, up, z)
+    few (Right ∷ Left ∷ q) up = let z = fall q in omega (arith, up, z)
+    few (Right ∷ Right ∷ q) up = let z = fall q in omega (arith, up, z)
+
 law_start : (L : Layout) → OrderLaw (start L) (replicate L.workers idle)
 law_start L = record {
   sized = length-replicate L.workers idle;
   order = order_start L;
   fixed = record { root = refl; second = refl };
+  nested = λ radix. radix_start L;
   walks = λ u. rw (repeated L.workers u idle) tt;
 }
 
@@ -95,7 +116,7 @@ ordered_next L enough c t has o = go (or_else (refused c.state t.0 t.1) (disorde
     go None is =
         let none = neither (refused c.state t.0 t.1) (disorder_in c t.0 t.1) is in
         let l = lawful L enough o.events in
-        let in_order : disorder (of c.state t.0) (search_of o.searches t.0) t.1 ≡ None = ap (λ ss. disorder_among ss (of c.state t.0) t.0 t.1) (sym o.are) ∙ none.1 in
+        let in_order : disorder c.state.layout (of c.state t.0) (search_of o.searches t.0) t.1 ≡ None = ap (λ ss. disorder_among c.state.layout ss (of c.state t.0) t.0 t.1) (sym o.are) ∙ none.1 in
         record {
           searches = learned_from o.searches t.0 t.1 (reply_of c.state t.0 t.1);
           are = ap (option_map (λ ss. learned_from ss t.0 t.1 (reply_of c.state t.0 t.1))) o.are;
@@ -149,20 +170,20 @@ module _ (L : Layout) (enough : 5 ≤ L.nodes) (c : Configuration) (o : IsOrdere
   own_keys x y r q leaf leaf' same = one_leaf_for (key m x) x y (keys_lie x r) (rw same (keys_lie y q)) r.is_slot q.is_slot leaf leaf'
 
   -- the law of the walks that came to a slot
-  pub walk_law : (u k : ℕ) (a : Arrival) (h : HasCome c u k a) → WalkLaw (child m) (key m) (knows (of c.state u)) k (search_of h.searches u).walks
-  walk_law u k a h = subst (λ (n : ℕ). WalkLaw (child m) (key m) (knows (of c.state u)) n (search_of h.searches u).walks) h.is_key (by (search_of h.searches u).call h.is_call all)
+  pub walk_law : (u k : ℕ) (a : Arrival) (h : HasCome c u k a) → WalkLaw c.state.layout.radix (child m) (key m) (knows (of c.state u)) k (search_of h.searches u).walks
+  walk_law u k a h = subst (λ (n : ℕ). WalkLaw c.state.layout.radix (child m) (key m) (knows (of c.state u)) n (search_of h.searches u).walks) h.is_key (by (search_of h.searches u).call h.is_call all)
     where
       same : o.searches ≡ h.searches
       same = same_Some o.searches h.searches (sym o.are ∙ h.are)
 
-      all : ForCall m (knows (of c.state u)) (search_of h.searches u).call (search_of h.searches u).walks
-      all = subst (λ (ss : List Search). ForCall m (knows (of c.state u)) (search_of ss u).call (search_of ss u).walks) same (o.law.walks u)
+      all : ForCall c.state.layout.radix m (knows (of c.state u)) (search_of h.searches u).call (search_of h.searches u).walks
+      all = subst (λ (ss : List Search). ForCall c.state.layout.radix m (knows (of c.state u)) (search_of ss u).call (search_of ss u).walks) same (o.law.walks u)
 
-      by : (call : Option Call) → call ≡ Some h.call → ForCall m (knows (of c.state u)) call (search_of h.searches u).walks → WalkLaw (child m) (key m) (knows (of c.state u)) h.call.key (search_of h.searches u).walks
+      by : (call : Option Call) → call ≡ Some h.call → ForCall c.state.layout.radix m (knows (of c.state u)) call (search_of h.searches u).walks → WalkLaw c.state.layout.radix (child m) (key m) (knows (of c.state u)) h.call.key (search_of h.searches u).walks
       by None is f = absurd (none-some h.call is)
-      by (Some call) is f = subst (λ (x : Call). WalkLaw (child m) (key m) (knows (of c.state u)) x.key (search_of h.searches u).walks) (same_Some call h.call is) f.1
+      by (Some call) is f = subst (λ (x : Call). WalkLaw c.state.layout.radix (child m) (key m) (knows (of c.state u)) x.key (search_of h.searches u).walks) (same_Some call h.call is) f.1
 
-  has_child : (x : ℕ) → is_leaf (node c.state.memory x) ≡ false → (d : Side) × (child c.state.memory x d ≢ 0)
+  pub has_child : (x : ℕ) → is_leaf (node c.state.memory x) ≡ false → (d : Side) × (child c.state.memory x d ≢ 0)
   has_child x not_leaf = by ((node m x).left.slot == 0) refl not_leaf
     where
       by : (b : Bool) → ((node m x).left.slot == 0) ≡ b → (b && ((node m x).right.slot == 0)) ≡ false → (d : Side) × (child m x d ≢ 0)
@@ -175,7 +196,7 @@ module _ (L : Layout) (enough : 5 ≤ L.nodes) (c : Configuration) (o : IsOrdere
   lies_onward k x onward r inner = let d = has_child x inner in in_interval k x r (onward [] r.path d.0 tt d.1 r.ends)
 
   stay_in_order : WalksStayInOrder c
-  stay_in_order u k a h r inner = lies_onward k a.slot ((walk_law u k a h).onward h.index a h.is) r inner
+  stay_in_order search u k a h r inner = lies_onward k a.slot ((walk_law u k a h).onward search h.index a h.is) r inner
 
   pub read_keys : WalksReadKeys c
   read_keys u k n a h is = (walk_law u k a h).is_keyed h.index a n h.is is
@@ -206,7 +227,7 @@ module _ (L : Layout) (enough : 5 ≤ L.nodes) (c : Configuration) (o : IsOrdere
     has_key = has;
   }
 
-  gained : (w p : ℕ) (d : Side) (leaf new : ℕ) → Allowed c.state w (Link p d leaf new) → is_to (edge c.state.memory p d) leaf ≡ true → disorder (of c.state w) (search_of o.searches w) (Link p d leaf new) ≡ None
+  gained : (w p : ℕ) (d : Side) (leaf new : ℕ) → Allowed c.state w (Link p d leaf new) → is_to (edge c.state.memory p d) leaf ≡ true → disorder c.state.layout (of c.state w) (search_of o.searches w) (Link p d leaf new) ≡ None
       → (k : ℕ) × IsCalled c w Insert k × Gains c.state.memory (put_edge c.state.memory p d (to new)) k
   gained w p d leaf new ok won in_order =
       (of_call.call.key, record { searches = o.searches; are = o.are; is_call = of_call.is_call ∙ ap (λ (op : Op). Some (record { op = op; key = of_call.call.key })) of_call.is_op }, record { was_not = was_not; now = λ j. (there j, back j) })
@@ -221,7 +242,7 @@ module _ (L : Layout) (enough : 5 ≤ L.nodes) (c : Configuration) (o : IsOrdere
       k = won_link c.state h law_here w p d leaf new ok won
 
       of_call : LinkOfCall c.state h law_here w (search_of o.searches w) p d leaf new k.drafts (child (put_edge c.state.memory p d (to new)))
-      of_call = link_of_call c.state h law_here w (rw o.leads (each_birth_stands L enough o.events)) (search_of o.searches w) p d leaf new in_order o.law.fixed (o.law.walks w) k.drafts k.link (child (put_edge c.state.memory p d (to new))) k.exchanged
+      of_call = link_of_call c.state h law_here w (rw o.leads (each_birth_stands L enough o.events)) o.law.order o.law.nested (search_of o.searches w) p d leaf new in_order o.law.fixed (o.law.walks w) k.drafts k.link (child (put_edge c.state.memory p d (to new))) k.exchanged
 
       some : new ≢ 0
       some z = let r = law_here.tree.privates w new k.link.own in absurd (omega arith)
@@ -266,7 +287,7 @@ module _ (L : Layout) (enough : 5 ≤ L.nodes) (c : Configuration) (o : IsOrdere
 
           won : (b : Bool) → is_to (edge c.state.memory p d) leaf ≡ b → cond b (Linked (node_linked (of c.state w) new)) (Lost (edge c.state.memory p d)) ≡ Linked n
               → (k : ℕ) × IsCalled c w Insert k × Gains c.state.memory (cond (is_to (edge c.state.memory p d) leaf) (put_edge c.state.memory p d (to new)) c.state.memory) k
-          won true t r = rw t (gained w p d leaf new (allowed c.state w (Link p d leaf new) parts.0) t (ap (λ ss. disorder_among ss (of c.state w) w (Link p d leaf new)) (sym o.are) ∙ parts.1))
+          won true t r = rw t (gained w p d leaf new (allowed c.state w (Link p d leaf new) parts.0) t (ap (λ ss. disorder_among c.state.layout ss (of c.state w) w (Link p d leaf new)) (sym o.are) ∙ parts.1))
           won false t r = absurd (no_link r)
             where
               no_link : Lost (edge c.state.memory p d) ≡ Linked n → ⊥

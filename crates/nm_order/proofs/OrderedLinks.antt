@@ -19,9 +19,10 @@ use Rattle.nm_model.specs.Lawful.{BirthsStand}
 use Rattle.nm_model.specs.Searches.{side_of, is_side, is_by}
 use Rattle.nm_model.specs.Ordered.{forks_over, is_fork_for, may_link_at, new_leaf}
 use Rattle.nm_order.specs.Intervals.{GoesBy, key}
-use Rattle.nm_laws.proofs.Trees.{Exchanged, follow-append}
+use Rattle.nm_laws.proofs.Trees.{Children, Exchanged, follow-append, follow_none}
 use Rattle.nm_model.proofs.Lists.{any_at}
-use Rattle.nm_order.proofs.OrderedTrees.{Linking}
+use Rattle.nm_order.proofs.Searching.{Keys, goes-append}
+use Rattle.nm_order.proofs.OrderedTrees.{InOrder, Linking}
 use Rattle.nm_order.proofs.OrderedWalks.{WalkLaw, CameFrom, is_side-true}
 use Rattle.nm_order.proofs.OrderedWalks.CameFrom.{FromRoot, FromSlot}
 use Rattle.nm_laws.proofs.Pictures.{IsOnPath, alone, null_below}
@@ -34,11 +35,17 @@ use Rattle.nm_laws.proofs.TreeSteps.{Lawful}
 use Rattle.nm_laws.proofs.WalksOfLogs.{turned}
 use Rattle.nm_order.proofs.OrderedChanges.{FixedKeys, left_of, off_root}
 
-right_of : (k n : ℕ) → (k < n → ⊥) → side_of k n ≡ Right
+pub right_of : (k n : ℕ) → (k < n → ⊥) → side_of k n ≡ Right
 right_of k n past = cond-false (nat_lt k n) Left Right (false_from_ne_true (nat_lt k n) (λ h. past (ltb-true k n h)))
 
-module _ (s : State) (h : ℕ → ℕ) (law : Lawful s h) (w : ℕ) (births : BirthsStand s w) (k : ℕ) (small : IsKey k) (fixed : FixedKeys s.memory) (ws : List Arrival) (walks : WalkLaw (child s.memory) (key s.memory) (knows (of s w)) k ws)
-    (p : ℕ) (d : Side) (leaf new : ℕ) (l : Linkable (of s w) new leaf) (link : IsLink s.layout.nodes (picture s h) w p d leaf new l.far l.side) (is_far_key : is_number (new_leaf (of s w) leaf new).key k ≡ true) where
+module _ (s : State) (h : ℕ → ℕ) (law : Lawful s h) (w : ℕ) (births : BirthsStand s w) (k : ℕ) (small : IsKey k) (fixed : FixedKeys s.memory) (ws : List Arrival) (walks : WalkLaw s.layout.radix (child s.memory) (key s.memory) (knows (of s w)) k ws)
+    (p : ℕ) (d : Side) (leaf new : ℕ) (l : Linkable (of s w) new leaf) (link : IsLink s.layout.radix s.layout.nodes (picture s h) w p d leaf new l.far l.side) (is_far_key : is_number (new_leaf (of s w) leaf new).key k ≡ true) where
+  abbrev c : Children
+  c = child s.memory
+
+  abbrev v : Keys
+  v = key s.memory
+
   on : IsOnPath (picture s h) p
   on = live_on_path s.layout.nodes (picture s h) p law.tree link.live link.is_slot link.inside (unmarked_not_queued s.layout.nodes (picture s h) p d leaf law.tree link.unmarked link.leaf_slot)
 
@@ -55,7 +62,7 @@ module _ (s : State) (h : ℕ → ℕ) (law : Lawful s h) (w : ℕ) (births : Bi
   leaf_not_far e = off_root s h law w l.far link.far_own (on.path ++ d ∷ []) (to_leaf ∙ e)
 
   -- the side on which the new node leads to the old leaf
-  leaf_on : (g : Side) → edge s.memory new g ≡ to leaf → l.side ≡ g
+  pub leaf_on : (g : Side) → edge s.memory new g ≡ to leaf → l.side ≡ g
   leaf_on g over = go l.side link.over_leaf link.over_far
     where
       same : (e f : Edge) → e ≡ to leaf → f ≡ to l.far → e ≡ f → leaf ≡ l.far
@@ -114,24 +121,24 @@ module _ (s : State) (h : ℕ → ℕ) (law : Lawful s h) (w : ℕ) (births : Bi
     goes : GoesBy (child s.memory) (key s.memory) k 1 on.path
     turns : side_of k (key s.memory p) ≡ d
 
-  comes : (a : Arrival) → a.parent ≡ p → a.side ≡ d → CameFrom k ws a → Comes
-  comes a parent side (FromRoot root left) =
+  comes : s.layout.radix ≡ false → (a : Arrival) → a.parent ≡ p → a.side ≡ d → CameFrom k ws a → Comes
+  comes search a parent side (FromRoot root left) =
       let two : p ≡ 2 = sym parent ∙ root in
       let path : on.path ≡ Left ∷ [] = alone s.layout.nodes (picture s h) law.tree on.path (Left ∷ []) (λ z. on.is_slot (sym on.ends ∙ z)) (on.ends ∙ (two ∙ sym law.tree.root_left)) in
       record {
         goes = subst (λ (q : List Side). GoesBy (child s.memory) (key s.memory) k 1 q) (sym path) (ap (side_of k) fixed.root ∙ left_of k _ (omega arith), tt);
         turns = ap (λ (x : ℕ). side_of k (key s.memory x)) two ∙ (ap (side_of k) fixed.second ∙ (left_of k infinity_1 (omega arith) ∙ (sym left ∙ side)));
       }
-  comes a parent side (FromSlot i b at slot turn) =
+  comes search a parent side (FromSlot i b at slot turn) =
       let here : b.slot ≡ p = slot ∙ parent in
       let n = turned k b.key a.side turn in
       record {
-        goes = walks.onward i b at [] on.path d tt (λ z. link.leaf_slot (sym leads ∙ (ap (λ (x : ℕ). child s.memory x d) (sym here) ∙ z))) (on.ends ∙ sym here);
+        goes = walks.onward search i b at [] on.path d tt (λ z. link.leaf_slot (sym leads ∙ (ap (λ (x : ℕ). child s.memory x d) (sym here) ∙ z))) (on.ends ∙ sym here);
         turns = ap (λ (x : ℕ). side_of k (key s.memory x)) (sym here) ∙ (ap (side_of k) (walks.is_keyed i b n.0 at n.1) ∙ (n.2 ∙ side));
       }
 
-  pub linking_shown : list_any (may_link_at (draft_of (of s w) new) k p d leaf) ws ≡ true → ((c' : ℕ → Side → ℕ) → Exchanged (child s.memory) c' p d new → Linking (child s.memory) c' (key s.memory) p d leaf new l.far l.side)
-  linking_shown any c' exchanged = by found.1.key refl parts.1
+  pub linking_shown : s.layout.radix ≡ false → InOrder (child s.memory) (key s.memory) → list_any (may_link_at (draft_of (of s w) new) k p d leaf) ws ≡ true → ((c' : ℕ → Side → ℕ) → Exchanged (child s.memory) c' p d new → Linking (child s.memory) c' (key s.memory) p d leaf new l.far l.side)
+  linking_shown search order any c' exchanged = by found.1.key refl parts.1
     where
       found : (i : ℕ) × (a : Arrival) × (slice_get ws i ≡ Some a) × (may_link_at (draft_of (of s w) new) k p d leaf a ≡ true)
       found = any_at (may_link_at (draft_of (of s w) new) k p d leaf) ws any
@@ -150,7 +157,9 @@ module _ (s : State) (h : ℕ → ℕ) (law : Lawful s h) (w : ℕ) (births : Bi
       by (Some n) is t =
           let leaf_key : key s.memory leaf ≡ n = ap (key s.memory) (sym where_from.0) ∙ walks.is_keyed found.0 found.1 n found.2 is in
           let f = forks n leaf_key (and_parts found.1.ended (not (n == k) && is_fork_for (draft_of (of s w) new) leaf k n) t).1 in
-          let g = comes found.1 where_from.1 where_from.2 (walks.came found.0 found.1 found.2) in
+          let g = comes search found.1 where_from.1 where_from.2 (walks.came found.0 found.1 found.2) in
+          let far_goes : GoesBy c v (v l.far) 1 (on.path ++ d ∷ []) = goes-append c v (v l.far) 1 on.path (d ∷ []) (rw far_key g.goes) (ap (λ (y : ℕ). side_of (v l.far) (v y)) on.ends ∙ rw far_key g.turns, tt) in
+          let leaf_goes : GoesBy c v (v leaf) 1 (on.path ++ d ∷ []) = subst (λ (y : ℕ). GoesBy c v (v y) 1 (on.path ++ d ∷ [])) to_leaf (order (on.path ++ d ∷ []) (λ z. link.leaf_slot (sym to_leaf ∙ z))) in
           record {
             nothing = null_below s.layout.nodes (picture s h) law.tree;
             alone = alone s.layout.nodes (picture s h) law.tree;
@@ -160,16 +169,22 @@ module _ (s : State) (h : ℕ → ℕ) (law : Lawful s h) (w : ℕ) (births : Bi
             is_slot = link.is_slot;
             leads = leads;
             leaf_slot = link.leaf_slot;
-            leaf_null = link.is_leaf;
             over_leaf = ap (λ (e : Edge). e.slot) link.over_leaf;
             over_far = ap (λ (e : Edge). e.slot) link.over_far;
             far_null = λ x. ap (λ (e : Edge). e.slot) (link.far_leaf x);
             off_new = off_root s h law w new link.own;
             off_far = off_root s h law w l.far link.far_own;
             apart = link.apart;
-            new_key = f.new_key;
-            leaf_side = f.leaf_side;
+            old_side = old_side f.leaf_side;
             far_side = f.far_side;
-            comes = rw far_key g.goes;
-            turns = rw far_key g.turns;
+            new_goes = new_goes far_goes leaf_goes f.new_key;
+            far_goes = far_goes;
           }
+        where
+          old_side : side_of (v leaf) (v new) ≡ l.side → (u : List Side) → follow c leaf u ≢ 0 → side_of (v (follow c leaf u)) (v new) ≡ l.side
+          old_side is [] some = is
+          old_side is (e ∷ u) some = absurd (some (ap (λ (y : ℕ). follow c y u) (link.is_leaf search e) ∙ follow_none c (null_below s.layout.nodes (picture s h) law.tree) u))
+
+          new_goes : GoesBy c v (v l.far) 1 (on.path ++ d ∷ []) → GoesBy c v (v leaf) 1 (on.path ++ d ∷ []) → (v new ≡ v l.far) ⊎ (v new ≡ v leaf) → GoesBy c v (v new) 1 (on.path ++ d ∷ [])
+          new_goes far_goes leaf_goes (inl i) = rw i far_goes
+          new_goes far_goes leaf_goes (inr i) = rw i leaf_goes

@@ -58,7 +58,7 @@ lasting m x = record { birth = (node m x).birth; key = (node m x).key; leaf = is
 
 -- of each slot in the walks after a look: it was there, or an edge led to it by which a walk went
 -- on
-walked_each : (P : ℕ → Type 0) (k : ℕ) (ws : List Arrival) (x : ℕ) (f : Field) (r : Reply) → ((i : ℕ) (a : Arrival) → slice_get ws i ≡ Some a → P a.slot)
+pub walked_each : (P : ℕ → Type 0) (k : ℕ) (ws : List Arrival) (x : ℕ) (f : Field) (r : Reply) → ((i : ℕ) (a : Arrival) → slice_get ws i ≡ Some a → P a.slot)
     → ((d : Side) (e : Edge) → f ≡ EdgeOn d → r ≡ EdgeIs e → (is_first x d ≡ true) ⊎ (list_any (goes_on k x d) ws ≡ true) → P e.slot)
     → (i : ℕ) (a : Arrival) → slice_get (walked k ws x f r) i ≡ Some a → P a.slot
 walked_each P k ws x Key (KeyIs v) old new i a at =
@@ -81,9 +81,9 @@ walked_each P k ws x (EdgeOn d) (EdgeIs e) old new i a at =
 walked_each P k ws x f r old new i a at = old i a at
 
 -- the law of the walks of a call
-pub call_walks : (m : Memory) (known : ℕ → Bool) (o : Option Call) (ws : List Arrival) (call : Call) → o ≡ Some call → ForCall m known o ws → IsKey call.key × WalkLaw (child m) (key m) known call.key ws
-call_walks m known None ws call is f = absurd (none-some call is)
-call_walks m known (Some other) ws call is f = subst (λ (y : Call). IsKey y.key × WalkLaw (child m) (key m) known y.key ws) (same_Some other call is) f
+pub call_walks : (shape : Bool) (m : Memory) (known : ℕ → Bool) (o : Option Call) (ws : List Arrival) (call : Call) → o ≡ Some call → ForCall shape m known o ws → IsKey call.key × WalkLaw shape (child m) (key m) known call.key ws
+call_walks shape m known None ws call is f = absurd (none-some call is)
+call_walks shape m known (Some other) ws call is f = subst (λ (y : Call). IsKey y.key × WalkLaw shape (child m) (key m) known y.key ws) (same_Some other call is) f
 
 module _ (s : State) (h : ℕ → ℕ) (law : Lawful s h) (w : ℕ) where
   -- a fill is of a slot of the worker's own
@@ -129,7 +129,7 @@ module _ (s : State) (h : ℕ → ℕ) (law : Lawful s h) (w : ℕ) where
       leaf (Kept children keys) = unmoved (children x Left) (children x Right)
       leaf (Filled y own apart) = unmoved (apart.edges x Left (λ i. free (rw i own))) (apart.edges x Right (λ i. free (rw i own)))
       leaf (Linked p d old new is unmarked l link exchanged keys) = moved p d new exchanged (λ z. link.leaf_slot (sym (ap (λ (y : Edge). y.slot) unmarked) ∙ z)) (λ z. let r = law.tree.privates w new link.own in absurd (omega arith))
-      leaf (Spliced a d way g some target keys) = moved a d (follow (child s.memory) (child s.memory a d) way) g.exchanged some target
+      leaf (Spliced a d way g some target keys high) = moved a d (follow (child s.memory) (child s.memory a d) way) g.exchanged some target
 
   module _ (e : Event) (m : Memory) (stays : (x : ℕ) → (is_private (of s w) x ≡ true → ⊥) → lasting m x ≡ lasting s.memory x) (u z : ℕ) (known : knows (of s u) z ≡ true) (k : ℕ) (onward : Onward (child s.memory) (key s.memory) k z)
       (W W' : ℕ → Lasting → Type 0) (grows : (y : ℕ) (n : Lasting) → W y n → W' y n) (now : EachNow (child m) (key m) (lasting m) k W') where
@@ -147,7 +147,7 @@ module _ (s : State) (h : ℕ → ℕ) (law : Lawful s h) (w : ℕ) where
         each_exchanged (child s.memory) (child m) (key s.memory) (key m) (lasting s.memory) (lasting m) k W W' grows z lasts_on p d new exchanged (fun_ext keys) on.path on.ends
         (straight_to (child s.memory) (child m) (alone s.layout.nodes (picture s h) law.tree) p d new exchanged on.path on.ends link.is_slot)
         (λ e. link.leaf_slot (sym (ap (λ (y : Edge). y.slot) unmarked) ∙ e)) onward now each
-    each_outlasts (Spliced a d way g some target keys) each =
+    each_outlasts (Spliced a d way g some target keys high) each =
         each_exchanged (child s.memory) (child m) (key s.memory) (key m) (lasting s.memory) (lasting m) k W W' grows z lasts_on a d (follow (child s.memory) (child s.memory a d) way) g.exchanged (fun_ext keys) g.front g.at_front
         (straight (child s.memory) (child m) a d way g) some onward now each
 
@@ -163,7 +163,7 @@ module _ (s : State) (h : ℕ → ℕ) (law : Lawful s h) (w : ℕ) where
       let from_root : GoesBy (child s.memory) (key s.memory) k 1 (Left ∷ Left ∷ q) = (at_root, (ap (λ (y : ℕ). side_of k (key s.memory y)) left ∙ at_second, subst (λ (y : ℕ). GoesBy (child s.memory) (key s.memory) k (child s.memory y Left) q) (sym left) goes)) in
       subst (λ (y : ℕ). W y (lasting s.memory y)) path (now (Left ∷ Left ∷ q) from_root (λ z. some (sym path ∙ z)))
 
-  pub look_each : (k : ℕ) (ws : List Arrival) (x : ℕ) (f : Field) → IsKey k → FixedKeys s.memory → WalkLaw (child s.memory) (key s.memory) (knows (of s w)) k ws → (W : ℕ → Lasting → Type 0) → EachNow (child s.memory) (key s.memory) (lasting s.memory) k W
+  pub look_each : (k : ℕ) (ws : List Arrival) (x : ℕ) (f : Field) → IsKey k → FixedKeys s.memory → WalkLaw s.layout.radix (child s.memory) (key s.memory) (knows (of s w)) k ws → (W : ℕ → Lasting → Type 0) → EachNow (child s.memory) (key s.memory) (lasting s.memory) k W
       → ((i : ℕ) (a : Arrival) → slice_get ws i ≡ Some a → EachOnward (child s.memory) (key s.memory) (lasting s.memory) k W a.slot)
       → (i : ℕ) (a : Arrival) → slice_get (walked k ws x f (reply_of s w (Look x f))) i ≡ Some a → EachOnward (child s.memory) (key s.memory) (lasting s.memory) k W a.slot
   unfolding reply

@@ -1,6 +1,6 @@
 -- Trees in order: each node's key lies in its interval, and searches from a slot that a search has
 -- come to. Both outlast a splice and a link.
-use Rattle.std.proofs.Common.{◌≡◌, ◌≢◌, ℕ, inl, inr, ◌⊎◌, eqb, Bool, true, false, ◌&&◌, List, [], ◌∷◌, ◌++◌, append-nil, refl, sym, ap, subst, ◌∙◌}
+use Rattle.std.proofs.Common.{◌≡◌, ◌≢◌, ℕ, inl, inr, ◌⊎◌, eqb, Bool, true, false, ◌&&◌, List, [], ◌∷◌, ◌++◌, append-nil, append_assoc, refl, sym, ap, subst, ◌∙◌}
 use Rattle.std.specs.Prelude.{Option, Some, None}
 use Rattle.std.proofs.lemmas.Bool.{eqb-true, and_parts, ne_eqb, and_left}
 use Rattle.nm_edge.specs.Edges.{other}
@@ -11,7 +11,7 @@ use Rattle.nm_model.specs.Searches.{side_of}
 use Rattle.nm_order.specs.Intervals.{GoesBy}
 use Rattle.nm_laws.proofs.Trees.{Children, Exchanged, rest_after, same_side, follow_none, follow-append, follow_leaf, not_taken, taken, Taken, append_cancel}
 use Rattle.nm_laws.proofs.CutPaths.{Splicing, not_back, straight, new_down, old_path, led, still_alone}
-use Rattle.nm_order.proofs.Searching.{Keys, goes-append, goes_first, goes_on, goes_still, went_still, GoesOver, goes_over, one_leaf, Apart, apart_follow, apart_goes, apart_went}
+use Rattle.nm_order.proofs.Searching.{Keys, goes-append, goes_first, goes_on, goes_still, went_still, GoesOver, goes_over, on_way, Apart, apart_follow, apart_goes, apart_went}
 
 -- the search for a reached node's key comes to it
 abbrev pub InOrder : Children → Keys → Type 0
@@ -23,11 +23,11 @@ abbrev pub Onward : Children → Keys → ℕ → ℕ → Type 0
 Onward c v k z = (q r : List Side) (f : Side) → GoesBy c v k z q → c (follow c z q) f ≢ 0 → follow c 1 r ≡ follow c z q → GoesBy c v k 1 r
 
 -- an edge that is exchanged is not one of slot 0, nor of another slot
-unless_at : (c c' : Children) (p : ℕ) (d : Side) (t x : ℕ) (e : Side) → Exchanged c c' p d t → x ≢ p → c' x e ≡ c x e
+pub unless_at : (c c' : Children) (p : ℕ) (d : Side) (t x : ℕ) (e : Side) → Exchanged c c' p d t → x ≢ p → c' x e ≡ c x e
 unless_at c c' p d t x e h ne = h.others x e (and_left (eqb x p) (same_side d e) (ne_eqb x p ne))
 
 -- a slot that has a child after the exchange had one before
-had_child : (c c' : Children) (p : ℕ) (d : Side) (t : ℕ) → Exchanged c c' p d t → c p d ≢ 0 → (y : ℕ) (f : Side) → c' y f ≢ 0 → (g : Side) × (c y g ≢ 0)
+pub had_child : (c c' : Children) (p : ℕ) (d : Side) (t : ℕ) → Exchanged c c' p d t → c p d ≢ 0 → (y : ℕ) (f : Side) → c' y f ≢ 0 → (g : Side) × (c y g ≢ 0)
 had_child c c' p d t h some y f there = go (eqb y p && same_side d f) refl
   where
     go : (b : Bool) → (eqb y p && same_side d f) ≡ b → (g : Side) × (c y g ≢ 0)
@@ -95,9 +95,9 @@ module _ (c c' : Children) (v : Keys) (a : ℕ) (d : Side) (way : List Side) (g 
 
 -- ---- a link
 
--- p, on the path front, leads by d to a leaf; new, which no path comes to, is over that leaf and
--- the new leaf far, in the order of their keys. The search for the key of far comes to p, and goes
--- on by d
+-- p, on the path front, leads by d to a slot; new, which no path comes to, is over that slot and the
+-- new leaf far, each on its own side, as is all that stands below the slot. The searches for the
+-- keys of new and far come to p, and go on by d
 pub record Linking (c c' : Children) (v : Keys) (p : ℕ) (d : Side) (leaf new far : ℕ) (dl : Side) : Type 0 where
   pub nothing : (e : Side) → c 0 e ≡ 0
   pub alone : (q r : List Side) → follow c 1 q ≢ 0 → follow c 1 q ≡ follow c 1 r → q ≡ r
@@ -107,20 +107,18 @@ pub record Linking (c c' : Children) (v : Keys) (p : ℕ) (d : Side) (leaf new f
   pub is_slot : p ≢ 0
   pub leads : c p d ≡ leaf
   pub leaf_slot : leaf ≢ 0
-  pub leaf_null : (f : Side) → c leaf f ≡ 0
   pub over_leaf : c new dl ≡ leaf
   pub over_far : c new (other dl) ≡ far
   pub far_null : (f : Side) → c far f ≡ 0
   pub off_new : (q : List Side) → follow c 1 q ≡ new → ⊥
   pub off_far : (q : List Side) → follow c 1 q ≡ far → ⊥
   pub apart : new ≢ far
-  pub new_key : (v new ≡ v far) ⊎ (v new ≡ v leaf)
-  pub leaf_side : side_of (v leaf) (v new) ≡ dl
+  pub old_side : (u : List Side) → follow c leaf u ≢ 0 → side_of (v (follow c leaf u)) (v new) ≡ dl
   pub far_side : side_of (v far) (v new) ≡ other dl
-  pub comes : GoesBy c v (v far) 1 front
-  pub turns : side_of (v far) (v p) ≡ d
+  pub new_goes : GoesBy c v (v new) 1 (front ++ d ∷ [])
+  pub far_goes : GoesBy c v (v far) 1 (front ++ d ∷ [])
 
-one_or_other : (e d : Side) → (e ≡ d) ⊎ (e ≡ other d)
+pub one_or_other : (e d : Side) → (e ≡ d) ⊎ (e ≡ other d)
 one_or_other Left Left = inl refl
 one_or_other Left Right = inr refl
 one_or_other Right Left = inr refl
@@ -134,100 +132,113 @@ module _ (c c' : Children) (v : Keys) (p : ℕ) (d : Side) (leaf new far : ℕ) 
   not_p : (x : ℕ) → ((f : Side) → c x f ≡ 0) → x ≢ p
   not_p x none e = l.leaf_slot (sym l.leads ∙ (ap (λ (y : ℕ). c y d) (sym e) ∙ none d))
 
-  new_still : (e : Side) → c' new e ≡ c new e
+  -- paths by p's edge, of which none comes back to p
+  pub down : (u : List Side) → follow c 1 (l.front ++ d ∷ u) ≡ follow c leaf u
+  down u = follow-append c 1 l.front (d ∷ u) ∙ ap (λ (y : ℕ). follow c y u) (ap (λ (y : ℕ). c y d) l.at_front ∙ l.leads)
+
+  longer : (q u : List Side) → q ≡ q ++ d ∷ u → ⊥
+  longer q u h = nil (append_cancel q [] (d ∷ u) (append-nil q ∙ h))
+    where
+      nil : [] ≡ d ∷ u → ⊥
+      nil h = cc
+
+  pub never_back : (u : List Side) → follow c leaf u ≡ p → ⊥
+  never_back u h = longer l.front u (l.alone l.front (l.front ++ d ∷ u) (λ z. l.is_slot (sym l.at_front ∙ z)) (l.at_front ∙ sym (down u ∙ h)))
+
+  below_straight : (u : List Side) → rest_after c p d leaf u ≡ None
+  below_straight u = go (rest_after c p d leaf u) refl
+    where
+      go : (o : Option (List Side)) → rest_after c p d leaf u ≡ o → o ≡ None
+      go None h = refl
+      go (Some r) h = let t = taken c c' p d new l.exchanged leaf u r h in absurd (never_back t.front t.comes)
+
+  under_leaf : (u : List Side) → follow c' leaf u ≡ follow c leaf u
+  under_leaf u = not_taken c c' p d new l.exchanged leaf u (below_straight u)
+
+  pub new_still : (e : Side) → c' new e ≡ c new e
   new_still e = unless_at c c' p d new new e l.exchanged (λ i. l.off_new l.front (l.at_front ∙ sym i))
 
-  leaf_still : (f : Side) → c' leaf f ≡ 0
-  leaf_still f = unless_at c c' p d new leaf f l.exchanged (not_p leaf l.leaf_null) ∙ l.leaf_null f
-
-  far_still : (f : Side) → c' far f ≡ 0
+  pub far_still : (f : Side) → c' far f ≡ 0
   far_still f = unless_at c c' p d new far f l.exchanged (not_p far l.far_null) ∙ l.far_null f
 
-  front_is_it : (front : List Side) → follow c 1 front ≡ p → l.front ≡ front
+  pub front_is_it : (front : List Side) → follow c 1 front ≡ p → l.front ≡ front
   front_is_it front at = l.alone l.front front (λ z. l.is_slot (sym l.at_front ∙ z)) (l.at_front ∙ sym at)
 
   -- nor does the path to p take the edge
   straight_to : rest_after c p d 1 l.front ≡ None
   straight_to = go (rest_after c p d 1 l.front) refl
     where
-      nil_cons : (q : List Side) → [] ≡ d ∷ q → ⊥
-      nil_cons q h = cc
-
       go : (o : Option (List Side)) → rest_after c p d 1 l.front ≡ o → o ≡ None
       go None h = refl
       go (Some r) h =
           let t = taken c c' p d new l.exchanged 1 l.front r h in
           let same : l.front ≡ t.front = front_is_it t.front t.comes in
-          absurd (nil_cons r (append_cancel l.front [] (d ∷ r) (append-nil l.front ∙ (t.is ∙ ap (λ (y : List Side). y ++ d ∷ r) (sym same)))))
+          absurd (longer l.front r (t.is ∙ ap (λ (y : List Side). y ++ d ∷ r) (sym same)))
 
   at_p : follow c' 1 l.front ≡ p
   at_p = not_taken c c' p d new l.exchanged 1 l.front straight_to ∙ l.at_front
 
-  leads_on : (r : List Side) → follow c' 1 (l.front ++ d ∷ r) ≡ follow c' new r
+  pub leads_on : (r : List Side) → follow c' 1 (l.front ++ d ∷ r) ≡ follow c' new r
   leads_on r = follow-append c' 1 l.front (d ∷ r) ∙ ap (λ (y : ℕ). follow c' y r) (ap (λ (y : ℕ). c' y d) at_p ∙ l.exchanged.here)
 
   -- a search that came to p and went on by d goes on from the new node
-  into : (k : ℕ) (r : List Side) → GoesBy c v k 1 l.front → side_of k (v p) ≡ d → GoesBy c' v k new r → GoesBy c' v k 1 (l.front ++ d ∷ r)
-  into k r first turn rest =
+  into : (k : ℕ) (r : List Side) → GoesBy c v k 1 (l.front ++ d ∷ []) → GoesBy c' v k new r → GoesBy c' v k 1 (l.front ++ d ∷ r)
+  into k r to_edge rest =
+      let first : GoesBy c v k 1 l.front = goes_first c v k 1 l.front (d ∷ []) to_edge in
+      let turn : side_of k (v p) ≡ d = ap (λ (y : ℕ). side_of k (v y)) (sym l.at_front) ∙ (goes_on c v k 1 l.front (d ∷ []) to_edge).0 in
       goes-append c' v k 1 l.front (d ∷ r) (goes_still c c' v p d new l.exchanged k 1 l.front straight_to first)
       (ap (λ (y : ℕ). side_of k (v y)) at_p ∙ turn, subst (λ (y : ℕ). GoesBy c' v k y r) (sym (ap (λ (y : ℕ). c' y d) at_p ∙ l.exchanged.here)) rest)
 
   -- what stands below the new node
-  data Below (r : List Side) : Type 0 where
+  pub data Below (r : List Side) : Type 0 where
     Itself : r ≡ [] → Below r
-    Old : r ≡ dl ∷ [] → Below r
+    Old : (u : List Side) → r ≡ dl ∷ u → Below r
     New : r ≡ other dl ∷ [] → Below r
 
-  below_new : (r : List Side) → follow c' new r ≢ 0 → Below r
+  pub below_new : (r : List Side) → follow c' new r ≢ 0 → Below r
   below_new [] there = Itself refl
-  below_new (e ∷ []) there = go (one_or_other e dl)
+  below_new (e ∷ r) there = go (one_or_other e dl)
     where
-      go : (e ≡ dl) ⊎ (e ≡ other dl) → Below (e ∷ [])
-      go (inl i) = Old (ap (λ (y : Side). y ∷ []) i)
-      go (inr i) = New (ap (λ (y : Side). y ∷ []) i)
-  below_new (e ∷ f ∷ r) there = absurd (go (one_or_other e dl))
-    where
-      none : (y : ℕ) → ((g : Side) → c' y g ≡ 0) → c' new e ≡ y → ⊥
-      none y leafy is = there (ap (λ (z : ℕ). follow c' (c' z f) r) is ∙ (ap (λ (z : ℕ). follow c' z r) (leafy f) ∙ follow_none c' null_still r))
+      ends : (r : List Side) → e ≡ other dl → follow c' (c' new e) r ≢ 0 → r ≡ []
+      ends [] i there = refl
+      ends (f ∷ r) i there = absurd (there (ap (λ (z : ℕ). follow c' (c' z f) r) (new_still e ∙ (ap (c new) i ∙ l.over_far)) ∙ (ap (λ (z : ℕ). follow c' z r) (far_still f) ∙ follow_none c' null_still r)))
 
-      go : (e ≡ dl) ⊎ (e ≡ other dl) → ⊥
-      go (inl i) = none leaf leaf_still (new_still e ∙ (ap (c new) i ∙ l.over_leaf))
-      go (inr i) = none far far_still (new_still e ∙ (ap (c new) i ∙ l.over_far))
+      go : (e ≡ dl) ⊎ (e ≡ other dl) → Below (e ∷ r)
+      go (inl i) = Old r (ap (λ (y : Side). y ∷ r) i)
+      go (inr i) = New (ap (λ (y : List Side). e ∷ y) (ends r i there) ∙ ap (λ (y : Side). y ∷ []) i)
 
-  at_leaf : follow c' new (dl ∷ []) ≡ leaf
-  at_leaf = new_still dl ∙ l.over_leaf
+  pub at_leaf : (u : List Side) → follow c' new (dl ∷ u) ≡ follow c leaf u
+  at_leaf u = ap (λ (y : ℕ). follow c' y u) (new_still dl ∙ l.over_leaf) ∙ under_leaf u
 
-  at_far : follow c' new (other dl ∷ []) ≡ far
+  pub at_far : follow c' new (other dl ∷ []) ≡ far
   at_far = new_still (other dl) ∙ l.over_far
 
-  was_leaf : follow c 1 (l.front ++ d ∷ []) ≡ leaf
-  was_leaf = follow-append c 1 l.front (d ∷ []) ∙ (ap (λ (y : ℕ). c y d) l.at_front ∙ l.leads)
-
   module _ (order : InOrder c v) where
-    -- the search for the old leaf's key comes to p, and goes on by d
-    leaf_goes : GoesBy c v (v leaf) 1 (l.front ++ d ∷ [])
-    leaf_goes = subst (λ (y : ℕ). GoesBy c v (v y) 1 (l.front ++ d ∷ [])) was_leaf (order (l.front ++ d ∷ []) (λ z. l.leaf_slot (sym was_leaf ∙ z)))
-
-    leaf_turns : side_of (v leaf) (v p) ≡ d
-    leaf_turns = ap (λ (y : ℕ). side_of (v leaf) (v y)) (sym l.at_front) ∙ (goes_on c v (v leaf) 1 l.front (d ∷ []) leaf_goes).0
-
-    leaf_into : (r : List Side) → GoesBy c' v (v leaf) new r → GoesBy c' v (v leaf) 1 (l.front ++ d ∷ r)
-    leaf_into r = into (v leaf) r (goes_first c v (v leaf) 1 l.front (d ∷ []) leaf_goes) leaf_turns
-
-    far_into : (r : List Side) → GoesBy c' v (v far) new r → GoesBy c' v (v far) 1 (l.front ++ d ∷ r)
-    far_into r = into (v far) r l.comes l.turns
-
-    new_goes : GoesBy c' v (v new) 1 (l.front ++ d ∷ [])
-    new_goes = go l.new_key
+    -- what stood below p's edge stands below the new node
+    old_goes : (u : List Side) → follow c leaf u ≢ 0 → GoesBy c' v (v (follow c leaf u)) 1 (l.front ++ d ∷ dl ∷ u)
+    old_goes u some = into (v (follow c leaf u)) (dl ∷ u) (goes_first c v (v (follow c leaf u)) 1 (l.front ++ d ∷ []) u whole) (
+      l.old_side u some,
+      subst (λ (y : ℕ). GoesBy c' v (v (follow c leaf u)) y u) (sym (new_still dl ∙ l.over_leaf)) (goes_still c c' v p d new l.exchanged (v (follow c leaf u)) leaf u (below_straight u) rest),
+    )
       where
-        go : (v new ≡ v far) ⊎ (v new ≡ v leaf) → GoesBy c' v (v new) 1 (l.front ++ d ∷ [])
-        go (inl i) = rw i (far_into [] tt)
-        go (inr i) = rw i (leaf_into [] tt)
+        k : ℕ
+        k = v (follow c leaf u)
 
-    below_in_order : (r : List Side) → Below r → GoesBy c' v (v (follow c' new r)) 1 (l.front ++ d ∷ r)
-    below_in_order r (Itself is) = rw is new_goes
-    below_in_order r (Old is) = rw (is, at_leaf) (leaf_into (dl ∷ []) (l.leaf_side, tt))
-    below_in_order r (New is) = rw (is, at_far) (far_into (other dl ∷ []) (l.far_side, tt))
+        goes : GoesBy c v (v (follow c leaf u)) 1 (l.front ++ d ∷ u)
+        goes = subst (λ (y : ℕ). GoesBy c v (v y) 1 (l.front ++ d ∷ u)) (down u) (order (l.front ++ d ∷ u) (λ z. some (sym (down u) ∙ z)))
+
+        whole : GoesBy c v (v (follow c leaf u)) 1 ((l.front ++ d ∷ []) ++ u)
+        whole = subst (λ (q : List Side). GoesBy c v (v (follow c leaf u)) 1 q) (sym (append_assoc l.front (d ∷ []) u)) goes
+
+        rest : GoesBy c v (v (follow c leaf u)) leaf u
+        rest = subst (λ (y : ℕ). GoesBy c v (v (follow c leaf u)) y u) (down []) (goes_on c v (v (follow c leaf u)) 1 (l.front ++ d ∷ []) u whole)
+
+    below_in_order : (r : List Side) → follow c' new r ≢ 0 → Below r → GoesBy c' v (v (follow c' new r)) 1 (l.front ++ d ∷ r)
+    below_in_order r there (Itself is) = rw is (into (v new) [] l.new_goes tt)
+    below_in_order r there (Old u is) =
+        let ends : follow c' new r ≡ follow c leaf u = ap (follow c' new) is ∙ at_leaf u in
+        rw (ends, is) (old_goes u (λ z. there (ends ∙ z)))
+    below_in_order r there (New is) = rw (is, at_far) (into (v far) (other dl ∷ []) l.far_goes (l.far_side, tt))
 
     pub order_linked : InOrder c' v
     order_linked q there = go (rest_after c p d 1 q) refl
@@ -240,7 +251,7 @@ module _ (c c' : Children) (v : Keys) (p : ℕ) (d : Side) (leaf new far : ℕ) 
             let t = taken c c' p d new l.exchanged 1 q r h in
             let path : q ≡ l.front ++ d ∷ r = t.is ∙ ap (λ (y : List Side). y ++ d ∷ r) (sym (front_is_it t.front t.comes)) in
             let ends : follow c' 1 q ≡ follow c' new r = ap (follow c' 1) path ∙ leads_on r in
-            rw (ends, path) (below_in_order r (below_new r (rw (← ends) there)))
+            rw (ends, path) (below_in_order r (rw (← ends) there) (below_new r (rw (← ends) there)))
 
   -- the path to the new node is the only one to it
   path_to_new : (r : List Side) → follow c' 1 r ≡ new → new ≢ 0 → r ≡ l.front ++ d ∷ []
@@ -261,14 +272,20 @@ module _ (c c' : Children) (v : Keys) (p : ℕ) (d : Side) (leaf new far : ℕ) 
 
           by : Below q → r ≡ l.front ++ d ∷ []
           by (Itself is) = path ∙ ap (λ (y : List Side). l.front ++ d ∷ y) is
-          by (Old is) = absurd (l.off_new (l.front ++ d ∷ []) (was_leaf ∙ (sym at_leaf ∙ (ap (follow c' new) (sym is) ∙ ends))))
+          by (Old u is) = absurd (l.off_new (l.front ++ d ∷ u) (down u ∙ (sym (at_leaf u) ∙ (ap (follow c' new) (sym is) ∙ ends))))
           by (New is) = absurd (l.apart (sym ends ∙ (ap (follow c' new) is ∙ at_far)))
 
-  pub onward_linked : (k z : ℕ) → new ≢ 0 → ((q : List Side) → follow c z q ≡ new → ⊥) → Onward c v k z → Onward c' v k z
-  onward_linked k z some off onward q r f goes there same = go (rest_after c p d z q) refl
+  -- over a leaf alone
+  pub onward_linked : ((f : Side) → c leaf f ≡ 0) → (k z : ℕ) → new ≢ 0 → ((q : List Side) → follow c z q ≡ new → ⊥) → Onward c v k z → Onward c' v k z
+  onward_linked leaf_null k z some off onward q r f goes there same = go (rest_after c p d z q) refl
     where
       some_slot : follow c' 1 r ≢ 0
       some_slot e = there (ap (λ (y : ℕ). c' y f) (sym same ∙ e) ∙ null_still f)
+
+      -- below the leaf there is nothing
+      childless : (u : List Side) (y : ℕ) → follow c leaf u ≡ y → c' y f ≡ 0
+      childless [] y is = ap (λ (x : ℕ). c' x f) (sym is) ∙ (unless_at c c' p d new leaf f l.exchanged (not_p leaf leaf_null) ∙ leaf_null f)
+      childless (e ∷ u) y is = ap (λ (x : ℕ). c' x f) (sym is ∙ (ap (λ (x : ℕ). follow c x u) (leaf_null e) ∙ follow_none c l.nothing u)) ∙ null_still f
 
       -- it is the new node, or another that was reached
       reached_by : (y : ℕ) → follow c' 1 r ≡ y → c' y f ≢ 0 → y ≢ new → (rest_after c p d 1 r ≡ None)
@@ -283,7 +300,7 @@ module _ (c c' : Children) (v : Keys) (p : ℕ) (d : Side) (leaf new far : ℕ) 
 
               on : Below t → ⊥
               on (Itself is) = ne (sym at ∙ (ends ∙ ap (follow c' new) is))
-              on (Old is) = child (ap (λ (x : ℕ). c' x f) (sym at ∙ (ends ∙ (ap (follow c' new) is ∙ at_leaf))) ∙ leaf_still f)
+              on (Old u is) = child (childless u y (sym (sym at ∙ (ends ∙ (ap (follow c' new) is ∙ at_leaf u)))))
               on (New is) = child (ap (λ (x : ℕ). c' x f) (sym at ∙ (ends ∙ (ap (follow c' new) is ∙ at_far))) ∙ far_still f)
 
       go : (o : Option (List Side)) → rest_after c p d z q ≡ o → GoesBy c' v k 1 r
@@ -303,8 +320,8 @@ module _ (c c' : Children) (v : Keys) (p : ℕ) (d : Side) (leaf new far : ℕ) 
           by : Below rest → GoesBy c' v k 1 r
           by (Itself is) =
               let at : follow c' 1 r ≡ new = same ∙ (over.ends ∙ ap (follow c' new) is) in
-              rw (path_to_new r at some) (into k [] to_p over.turns tt)
-          by (Old is) = absurd (there (ap (λ (x : ℕ). c' x f) (over.ends ∙ (ap (follow c' new) is ∙ at_leaf)) ∙ leaf_still f))
+              rw (path_to_new r at some) (into k [] (goes-append c v k 1 l.front (d ∷ []) to_p (ap (λ (y : ℕ). side_of k (v y)) l.at_front ∙ over.turns, tt)) tt)
+          by (Old u is) = absurd (there (childless u (follow c' z q) (sym (over.ends ∙ (ap (follow c' new) is ∙ at_leaf u)))))
           by (New is) = absurd (there (ap (λ (x : ℕ). c' x f) (over.ends ∙ (ap (follow c' new) is ∙ at_far)) ∙ far_still f))
 
 -- ---- a slot that no path comes to is changed
@@ -333,16 +350,7 @@ pub record LeafOf (c : Children) (x : ℕ) : Type 0 where
   pub null : (f : Side) → c x f ≡ 0
 
 module _ (c c' : Children) (v : Keys) (p : ℕ) (d : Side) (leaf new far : ℕ) (dl : Side) (l : Linking c c' v p d leaf new far dl) (some : new ≢ 0) (far_slot : far ≢ 0) where
-  -- the old leaf is under the new node
-  old_leaf : LeafOf c' leaf
-  old_leaf = record {
-    path = l.front ++ d ∷ dl ∷ [];
-    ends = leads_on c c' v p d leaf new far dl l (dl ∷ []) ∙ at_leaf c c' v p d leaf new far dl l;
-    is_slot = l.leaf_slot;
-    null = leaf_still c c' v p d leaf new far dl l;
-  }
-
-  -- and so is the new one
+  -- the new leaf is under the new node
   pub new_leaf : LeafOf c' far
   new_leaf = record {
     path = l.front ++ d ∷ other dl ∷ [];
@@ -362,17 +370,18 @@ module _ (c c' : Children) (v : Keys) (p : ℕ) (d : Side) (leaf new far : ℕ) 
         is_slot = was.is_slot;
         null = λ f. unless_at c c' p d new x f l.exchanged (not_p c c' v p d leaf new far dl l x was.null) ∙ was.null f;
       }
-      go (Some r) h = by r refl
+      go (Some r) h = record {
+        path = l.front ++ d ∷ dl ∷ r;
+        ends = leads_on c c' v p d leaf new far dl l (dl ∷ r) ∙ (at_leaf c c' v p d leaf new far dl l r ∙ ends);
+        is_slot = was.is_slot;
+        null = λ f. unless_at c c' p d new x f l.exchanged (not_p c c' v p d leaf new far dl l x was.null) ∙ was.null f;
+      }
         where
           t : Taken c c' p d new 1 was.path r
           t = taken c c' p d new l.exchanged 1 was.path r h
 
           ends : follow c leaf r ≡ x
           ends = ap (λ (y : ℕ). follow c y r) (sym (ap (λ (y : ℕ). c y d) t.comes ∙ l.leads)) ∙ (sym (follow-append c 1 t.front (d ∷ r)) ∙ (sym (ap (follow c 1) t.is) ∙ was.ends))
-
-          by : (q : List Side) → q ≡ r → LeafOf c' x
-          by [] i = subst (LeafOf c') (ap (follow c leaf) i ∙ ends) old_leaf
-          by (e ∷ q) i = absurd (was.is_slot (sym ends ∙ (ap (follow c leaf) (sym i) ∙ follow_leaf c l.nothing leaf l.leaf_null e q)))
 
   -- a leaf was one, but for the new one
   pub leaf_was : (x : ℕ) → LeafOf c' x → LeafOf c x ⊎ (x ≡ far)
@@ -400,27 +409,23 @@ module _ (c c' : Children) (v : Keys) (p : ℕ) (d : Side) (leaf new far : ℕ) 
           by (Itself is) =
               let here : x ≡ new = sym now.ends ∙ (ends ∙ ap (follow c' new) is) in
               absurd (l.leaf_slot (sym l.over_leaf ∙ (sym (new_still c c' v p d leaf new far dl l dl) ∙ (ap (λ (y : ℕ). c' y dl) (sym here) ∙ now.null dl))))
-          by (Old is) =
-              let here : x ≡ leaf = sym now.ends ∙ (ends ∙ (ap (follow c' new) is ∙ at_leaf c c' v p d leaf new far dl l)) in
-              inl (record { path = l.front ++ d ∷ []; ends = was_leaf c c' v p d leaf new far dl l ∙ sym here; is_slot = now.is_slot; null = λ f. ap (λ (y : ℕ). c y f) here ∙ l.leaf_null f })
+          by (Old u is) =
+              let here : follow c leaf u ≡ x = sym (sym now.ends ∙ (ends ∙ (ap (follow c' new) is ∙ at_leaf c c' v p d leaf new far dl l u))) in
+              inl (record { path = l.front ++ d ∷ u; ends = down c c' v p d leaf new far dl l u ∙ here; is_slot = now.is_slot; null = λ f. back x apart f (now.null f) })
           by (New is) = inr (sym now.ends ∙ (ends ∙ (ap (follow c' new) is ∙ at_far c c' v p d leaf new far dl l)))
 
   -- the new leaf's key was no leaf's
   pub key_is_new : InOrder c v → (x : ℕ) → LeafOf c x → v x ≡ v far → ⊥
-  key_is_new order x was same = sides dl (sym l.leaf_side ∙ (ap (λ (n : ℕ). side_of n (v new)) (sym (ap v here) ∙ same) ∙ l.far_side))
+  key_is_new order x was same = sides dl (sym (l.old_side on.0 (λ z. was.is_slot (sym here ∙ z))) ∙ (ap (λ (n : ℕ). side_of n (v new)) (ap v here ∙ same) ∙ l.far_side))
     where
       to_x : GoesBy c v (v far) 1 was.path
       to_x = subst (λ (n : ℕ). GoesBy c v n 1 was.path) (ap v was.ends ∙ same) (order was.path (λ z. was.is_slot (sym was.ends ∙ z)))
 
-      to_leaf : GoesBy c v (v far) 1 (l.front ++ d ∷ [])
-      to_leaf = goes-append c v (v far) 1 l.front (d ∷ []) l.comes (ap (λ (y : ℕ). side_of (v far) (v y)) l.at_front ∙ l.turns, tt)
+      on : (u : List Side) × (was.path ≡ (l.front ++ d ∷ []) ++ u)
+      on = on_way c l.nothing v (v far) 1 was.path (l.front ++ d ∷ []) to_x l.far_goes (rw was.ends was.null) (λ z. l.leaf_slot (sym (down c c' v p d leaf new far dl l []) ∙ z))
 
-      path : was.path ≡ l.front ++ d ∷ []
-      path = one_leaf c l.nothing v (v far) 1 was.path (l.front ++ d ∷ []) to_x to_leaf (λ z. was.is_slot (sym was.ends ∙ z)) (λ z. l.leaf_slot (sym (was_leaf c c' v p d leaf new far dl l) ∙ z))
-          (rw was.ends was.null) (rw (was_leaf c c' v p d leaf new far dl l) l.leaf_null)
-
-      here : x ≡ leaf
-      here = sym was.ends ∙ (ap (follow c 1) path ∙ was_leaf c c' v p d leaf new far dl l)
+      here : follow c leaf on.0 ≡ x
+      here = sym (down c c' v p d leaf new far dl l on.0) ∙ (ap (follow c 1) (sym (append_assoc l.front (d ∷ []) on.0) ∙ sym on.1) ∙ was.ends)
 
       sides : (e : Side) → e ≡ other e → ⊥
       sides Left h = cc

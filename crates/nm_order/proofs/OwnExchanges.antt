@@ -29,8 +29,8 @@ pub record IsOnce (is_such : Entry → Bool) (did : Search → Bool) (op : Op) :
   pub anew : (S : Search) (e : Event) (r : Reply) → begins_anew (e, r) ≡ true → did (searched S e r) ≡ false
   pub kept : (S : Search) (e : Event) (r : Reply) → begins_anew (e, r) ≡ false → is_such (e, r) ≡ false → did (searched S e r) ≡ did S
   pub done : (S : Search) (e : Event) (r : Reply) → is_such (e, r) ≡ true → did (searched S e r) ≡ true
-  pub once : (k : Knowledge) (S : Search) (e : Event) (r : Reply) → disorder k S e ≡ None → is_such (e, r) ≡ true → did S ≡ false
-  pub of_op : (k : Knowledge) (S : Search) (e : Event) (r : Reply) → disorder k S e ≡ None → is_such (e, r) ≡ true → (call : Call) → S.call ≡ Some call → call.op ≡ op
+  pub once : (K : Layout) (k : Knowledge) (S : Search) (e : Event) (r : Reply) → disorder K k S e ≡ None → is_such (e, r) ≡ true → did S ≡ false
+  pub of_op : (K : Layout) (k : Knowledge) (S : Search) (e : Event) (r : Reply) → disorder K k S e ≡ None → is_such (e, r) ≡ true → (call : Call) → S.call ≡ Some call → call.op ≡ op
 
 module _ (is_such : Entry → Bool) (did : Search → Bool) (op : Op) (o : IsOnce is_such did op) where
   -- the log since the pin has one, where the search has the mark; and the call is of that operation
@@ -45,13 +45,13 @@ module _ (is_such : Entry → Bool) (did : Search → Bool) (op : Op) (o : IsOnc
       by true = refl
       by false = refl
 
-  counted_step : (k : Knowledge) (S : Search) (e : Event) (r : Reply) (so_far : List Entry) → disorder k S e ≡ None → Counted S so_far → Counted (searched S e r) (cond (begins_anew (e, r)) [] (so_far ++ (e, r) ∷ []))
-  counted_step k S e r so_far order c = go (begins_anew (e, r)) refl
+  counted_step : (K : Layout) (k : Knowledge) (S : Search) (e : Event) (r : Reply) (so_far : List Entry) → disorder K k S e ≡ None → Counted S so_far → Counted (searched S e r) (cond (begins_anew (e, r)) [] (so_far ++ (e, r) ∷ []))
+  counted_step K k S e r so_far order c = go (begins_anew (e, r)) refl
     where
       grown : (b : Bool) → is_such (e, r) ≡ b → begins_anew (e, r) ≡ false → Counted (searched S e r) (so_far ++ (e, r) ∷ [])
       grown true such stands = record {
-        number = one_more so_far (e, r) ∙ (ap (λ (n : ℕ). n + cond (is_such (e, r)) 1 0) (c.number ∙ ap (λ (b : Bool). cond b 1 0) (o.once k S e r order such)) ∙ (ap (λ (b : Bool). 0 + cond b 1 0) such ∙ sym (ap (λ (b : Bool). cond b 1 0) (o.done S e r such))));
-        is_op = λ has call is. o.of_op k S e r order such call (sym (only_grow S e r stands).call ∙ is);
+        number = one_more so_far (e, r) ∙ (ap (λ (n : ℕ). n + cond (is_such (e, r)) 1 0) (c.number ∙ ap (λ (b : Bool). cond b 1 0) (o.once K k S e r order such)) ∙ (ap (λ (b : Bool). 0 + cond b 1 0) such ∙ sym (ap (λ (b : Bool). cond b 1 0) (o.done S e r such))));
+        is_op = λ has call is. o.of_op K k S e r order such call (sym (only_grow S e r stands).call ∙ is);
       }
       grown false plain stands = record {
         number = one_more so_far (e, r) ∙ (ap (λ (b : Bool). length (filter is_such so_far) + cond b 1 0) plain ∙ (plus_none (length (filter is_such so_far)) ∙ (c.number ∙ sym (ap (λ (b : Bool). cond b 1 0) (o.kept S e r stands plain)))));
@@ -85,7 +85,7 @@ module _ (is_such : Entry → Bool) (did : Search → Bool) (op : Op) (o : IsOnc
             (rest so_far (subst (λ (S : Search). Counted S so_far) (sym same) counted))
         by (Own r is won here learned order) rest =
             subst (λ (es : List Entry). Counted (own_search (after_in (next_in c t) ts) w) (since_pin so_far (es ++ log_of w (trace_in (next_in c t) ts)))) (sym here)
-            (rest (cond (begins_anew (t.1, r)) [] (so_far ++ (t.1, r) ∷ [])) (subst (λ (S : Search). Counted S (cond (begins_anew (t.1, r)) [] (so_far ++ (t.1, r) ∷ []))) (sym learned) (counted_step (of c.state w) (own_search c w) t.1 r so_far order counted)))
+            (rest (cond (begins_anew (t.1, r)) [] (so_far ++ (t.1, r) ∷ [])) (subst (λ (S : Search). Counted S (cond (begins_anew (t.1, r)) [] (so_far ++ (t.1, r) ∷ []))) (sym learned) (counted_step c.state.layout (of c.state w) (own_search c w) t.1 r so_far order counted)))
 
     -- ---- the moment
 
@@ -99,7 +99,7 @@ module _ (is_such : Entry → Bool) (did : Search → Bool) (op : Op) (o : IsOnc
       pub reply : Reply
       pub such : is_such (turn.1, reply) ≡ true
       pub won : outcome_in (after_in c before) turn ≡ Ok reply
-      pub order : disorder (of (after_in c before).state w) (own_search (after_in c before) w) turn.1 ≡ None
+      pub order : disorder (after_in c before).state.layout (of (after_in c before).state w) (own_search (after_in c before) w) turn.1 ≡ None
       pub stands : PinStands w (trace_in (next_in (after_in c before) turn) since)
       pub same_call : (own_search (after_in c turns) w).call ≡ (own_search (after_in c before) w).call
 

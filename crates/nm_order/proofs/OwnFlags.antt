@@ -108,11 +108,11 @@ module _ (L : Layout) (enough : 5 ≤ L.nodes) (c : Configuration) (o : IsOrdere
   law_here = (law_of_state L enough c o).1
 
   -- a walk of the call ended at the leaf, and read the call's key there
-  of_call : (w p : ℕ) (d : Side) (leaf : ℕ) → disorder (of c.state w) (search_of o.searches w) (Flag p d leaf) ≡ None → (k : ℕ) × IsCalled c w Delete k × (key c.state.memory leaf ≡ k)
+  of_call : (w p : ℕ) (d : Side) (leaf : ℕ) → disorder c.state.layout (of c.state w) (search_of o.searches w) (Flag p d leaf) ≡ None → (k : ℕ) × IsCalled c w Delete k × (key c.state.memory leaf ≡ k)
   of_call w p d leaf order = (m.call.key, record { searches = o.searches; are = o.are; is_call = m.is_call ∙ ap (λ (op : Op). Some (record { op = op; key = m.call.key })) m.is_op }, has)
     where
       m : MayFlag (search_of o.searches w) p d leaf
-      m = may_flag (of c.state w) (search_of o.searches w) p d leaf order
+      m = may_flag c.state.layout (of c.state w) (search_of o.searches w) p d leaf order
 
       found : (i : ℕ) × (a : Arrival) × (slice_get (search_of o.searches w).walks i ≡ Some a) × (may_flag_at m.call.key p d leaf a ≡ true)
       found = any_at (may_flag_at m.call.key p d leaf) (search_of o.searches w).walks m.walked
@@ -122,7 +122,7 @@ module _ (L : Layout) (enough : 5 ≤ L.nodes) (c : Configuration) (o : IsOrdere
           let parts = and_parts (is_by leaf p d found.1) (ended_at m.call.key found.1) found.3 in
           let slot = eqb-true found.1.slot leaf (and_parts (found.1.slot == leaf) ((found.1.parent == p) && is_side found.1.side d) parts.0).0 in
           let read = number_is found.1.key m.call.key (and_parts found.1.ended (is_number found.1.key m.call.key) parts.1).1 in
-          let walks = (call_walks c.state.memory (knows (of c.state w)) (search_of o.searches w).call (search_of o.searches w).walks m.call m.is_call (o.law.walks w)).1 in
+          let walks = (call_walks c.state.layout.radix c.state.memory (knows (of c.state w)) (search_of o.searches w).call (search_of o.searches w).walks m.call m.is_call (o.law.walks w)).1 in
           ap (key c.state.memory) (sym slot) ∙ walks.is_keyed found.0 found.1 m.call.key found.2 read
 
   flags_mark : FlagsMarkLeaves c
@@ -138,7 +138,7 @@ module _ (L : Layout) (enough : 5 ≤ L.nodes) (c : Configuration) (o : IsOrdere
           parts = neither (refused c.state w (Flag p d leaf)) (disorder_in c w (Flag p d leaf)) none
 
           call : (k : ℕ) × IsCalled c w Delete k × (key c.state.memory leaf ≡ k)
-          call = of_call w p d leaf (ap (λ ss. disorder_among ss (of c.state w) w (Flag p d leaf)) (sym o.are) ∙ parts.1)
+          call = of_call w p d leaf (ap (λ ss. disorder_among c.state.layout ss (of c.state w) w (Flag p d leaf)) (sym o.are) ∙ parts.1)
 
           won : (b : Bool) → is_to (edge c.state.memory p d) leaf ≡ b → cond b (Flagged (named c.state.memory leaf)) (Lost (edge c.state.memory p d)) ≡ Flagged n → (k : ℕ) × IsCalled c w Delete k × Marks c.state.memory p d leaf n k
           won true t r = (

@@ -4,6 +4,7 @@ use Rattle.std.specs.Prelude.{Option, Some, None, is_some, is_none}
 use Rattle.std.specs.List.{list_any}
 use Rattle.std.proofs.lemmas.Bool.{and_parts, or_parts, not-false}
 use Rattle.std.proofs.lemmas.Option.{same_Some}
+use Rattle.nm_edge.specs.Layouts.{Layout}
 use Rattle.nm_edge.specs.declared.edge.Side.{Side}
 use Rattle.nm_edge.specs.declared.node.NodeId.{NodeId}
 use Rattle.nm_model.specs.declared.event.Field.{Field}
@@ -19,7 +20,7 @@ use Rattle.nm_model.specs.Maps.{is_number}
 use Rattle.nm_model.specs.Knowledge.{Knowledge, draft_of}
 use Rattle.nm_model.specs.Searches.{Search, searched, look_for}
 use Rattle.nm_model.specs.Walks.{begins_anew}
-use Rattle.nm_model.specs.Ordered.{disorder, shows, shows_call, inserts, deletes, links_in_order, flags_in_order, may_link_at, may_flag_at, new_leaf, has_removed}
+use Rattle.nm_model.specs.Ordered.{disorder, shows, shows_call, inserts, deletes, links_in_order, flags_in_order, shows_place, may_flag_at, new_leaf, has_removed}
 use Rattle.nm_order.specs.Exchanges.{is_won_link, links_told, flags_told}
 use Rattle.nm_order.specs.WalksToArrivals.{is_won_flag}
 use Rattle.nm_laws.proofs.Steps.{passed}
@@ -79,37 +80,37 @@ pub record MayLink (S : Search) : Type 0 where
   pub is_op : call.op ≡ Insert
   pub fresh : S.linked ≡ false
 
-pub may_link : (k : Knowledge) (S : Search) (p : ℕ) (d : Side) (leaf new : ℕ) → disorder k S (Link p d leaf new) ≡ None → MayLink S
-may_link k S p d leaf new order = by S.call refl (not-false (links_in_order k S S.call p d leaf new) (passed _ NotOrdered None order).0)
+pub may_link : (K : Layout) (k : Knowledge) (S : Search) (p : ℕ) (d : Side) (leaf new : ℕ) → disorder K k S (Link p d leaf new) ≡ None → MayLink S
+may_link K k S p d leaf new order = by S.call refl (not-false (links_in_order K k S S.call p d leaf new) (passed _ NotOrdered None order).0)
   where
     no : (b : Bool) → not b ≡ true → b ≡ false
     no true h = absurd (true≢false (sym h))
     no false h = refl
 
-    by : (o : Option Call) → S.call ≡ o → links_in_order k S o p d leaf new ≡ true → MayLink S
+    by : (o : Option Call) → S.call ≡ o → links_in_order K k S o p d leaf new ≡ true → MayLink S
     by None is t = absurd (true≢false (sym t))
     by (Some call) is t = on call.op refl t
       where
-        on : (op : Op) → call.op ≡ op → inserts k S op call.key p d leaf new ≡ true → MayLink S
+        on : (op : Op) → call.op ≡ op → inserts K k S op call.key p d leaf new ≡ true → MayLink S
         on Has i t = absurd (true≢false (sym t))
         on Delete i t = absurd (true≢false (sym t))
         on Insert i t = record {
           call = call;
           is_call = is;
           is_op = i;
-          fresh = no S.linked (and_parts (not S.linked) (is_number (new_leaf k leaf new).key call.key && list_any (may_link_at (draft_of k new) call.key p d leaf) S.walks) t).0;
+          fresh = no S.linked (and_parts (not S.linked) (is_number (new_leaf k leaf new).key call.key && shows_place K k call.key p d leaf new S.walks) t).0;
         }
 
-link_order : (k : Knowledge) (S : Search) (e : Event) (r : Reply) → disorder k S e ≡ None → is_won_link (e, r) ≡ true → MayLink S
-link_order k S e r order such = let l = link_entry e r such in may_link k S l.parent l.side l.leaf l.new (subst (λ (x : Event). disorder k S x ≡ None) l.is_event order)
+link_order : (K : Layout) (k : Knowledge) (S : Search) (e : Event) (r : Reply) → disorder K k S e ≡ None → is_won_link (e, r) ≡ true → MayLink S
+link_order K k S e r order such = let l = link_entry e r such in may_link K k S l.parent l.side l.leaf l.new (subst (λ (x : Event). disorder K k S x ≡ None) l.is_event order)
 
 pub links_once : IsOnce is_won_link has_linked Insert
 links_once = record {
   anew = link_anew;
   kept = link_kept;
   done = link_done;
-  once = λ k S e r order such. (link_order k S e r order such).fresh;
-  of_op = λ k S e r order such call is. let m = link_order k S e r order such in ap (λ (c : Call). c.op) (same_Some call m.call (sym is ∙ m.is_call)) ∙ m.is_op;
+  once = λ K k S e r order such. (link_order K k S e r order such).fresh;
+  of_op = λ K k S e r order such call is. let m = link_order K k S e r order such in ap (λ (c : Call). c.op) (same_Some call m.call (sym is ∙ m.is_call)) ∙ m.is_op;
 }
 
 -- ---- flags
@@ -167,8 +168,8 @@ pub record MayFlag (S : Search) (p : ℕ) (d : Side) (leaf : ℕ) : Type 0 where
   pub fresh : is_some S.flagged ≡ false
   pub walked : list_any (may_flag_at call.key p d leaf) S.walks ≡ true
 
-pub may_flag : (k : Knowledge) (S : Search) (p : ℕ) (d : Side) (leaf : ℕ) → disorder k S (Flag p d leaf) ≡ None → MayFlag S p d leaf
-may_flag k S p d leaf order = by S.call refl (not-false (flags_in_order S S.call p d leaf) (passed _ NotOrdered None order).0)
+pub may_flag : (K : Layout) (k : Knowledge) (S : Search) (p : ℕ) (d : Side) (leaf : ℕ) → disorder K k S (Flag p d leaf) ≡ None → MayFlag S p d leaf
+may_flag K k S p d leaf order = by S.call refl (not-false (flags_in_order S S.call p d leaf) (passed _ NotOrdered None order).0)
   where
     no : (o : Option NodeId) → is_none o ≡ true → is_some o ≡ false
     no None h = refl
@@ -185,23 +186,23 @@ may_flag k S p d leaf order = by S.call refl (not-false (flags_in_order S S.call
             let parts = and_parts (is_none S.flagged) (list_any (may_flag_at call.key p d leaf) S.walks) t in
             record { call = call; is_call = is; is_op = i; fresh = no S.flagged parts.0; walked = parts.1 }
 
-flag_order : (k : Knowledge) (S : Search) (e : Event) (r : Reply) → disorder k S e ≡ None → (such : is_won_flag (e, r) ≡ true) → MayFlag S (flag_entry e r such).parent (flag_entry e r such).side (flag_entry e r such).leaf
-flag_order k S e r order such = let l = flag_entry e r such in may_flag k S l.parent l.side l.leaf (subst (λ (x : Event). disorder k S x ≡ None) l.is_event order)
+flag_order : (K : Layout) (k : Knowledge) (S : Search) (e : Event) (r : Reply) → disorder K k S e ≡ None → (such : is_won_flag (e, r) ≡ true) → MayFlag S (flag_entry e r such).parent (flag_entry e r such).side (flag_entry e r such).leaf
+flag_order K k S e r order such = let l = flag_entry e r such in may_flag K k S l.parent l.side l.leaf (subst (λ (x : Event). disorder K k S x ≡ None) l.is_event order)
 
 pub flags_once : IsOnce is_won_flag has_flagged Delete
 flags_once = record {
   anew = flag_anew;
   kept = flag_kept;
   done = flag_done;
-  once = λ k S e r order such. (flag_order k S e r order such).fresh;
-  of_op = λ k S e r order such call is. let m = flag_order k S e r order such in ap (λ (c : Call). c.op) (same_Some call m.call (sym is ∙ m.is_call)) ∙ m.is_op;
+  once = λ K k S e r order such. (flag_order K k S e r order such).fresh;
+  of_op = λ K k S e r order such call is. let m = flag_order K k S e r order such in ap (λ (c : Call). c.op) (same_Some call m.call (sym is ∙ m.is_call)) ∙ m.is_op;
 }
 
 -- ---- what an answer shows
 
 -- what the search of a call shows, where it may leave with an answer
-pub answer_shown : (k : Knowledge) (S : Search) (answer : Bool) (call : Call) → S.call ≡ Some call → disorder k S (LeaveWith answer) ≡ None → shows S call.op call.key answer ≡ true
-answer_shown k S answer call is order = ap (λ (o : Option Call). shows_call S o answer) (sym is) ∙ not-false (shows_call S S.call answer) (passed _ NoAnswer None order).0
+pub answer_shown : (K : Layout) (k : Knowledge) (S : Search) (answer : Bool) (call : Call) → S.call ≡ Some call → disorder K k S (LeaveWith answer) ≡ None → shows S call.op call.key answer ≡ true
+answer_shown K k S answer call is order = ap (λ (o : Option Call). shows_call S o answer) (sym is) ∙ not-false (shows_call S S.call answer) (passed _ NoAnswer None order).0
 
 pub links_shown : (S : Search) (op : Op) (key : ℕ) (answer : Bool) → shows S op key answer ≡ true → (has_linked S ≡ true → op ≡ Insert) → cond (has_linked S) 1 0 ≡ links_told op answer
 links_shown S op key answer shown is_op = by S.linked refl op answer shown (λ i. is_op i)
@@ -242,5 +243,5 @@ flags_shown S op key answer shown is_op = by S.flagged refl op answer shown (λ 
     by None is Insert answer shown is_op = refl
 
 -- a search that may leave without an answer has neither linked nor flagged
-pub silent : (k : Knowledge) (S : Search) → disorder k S Leave ≡ None → (S.linked ≡ false) × (is_some S.flagged ≡ false)
-silent k S order = or_parts S.linked (is_some S.flagged) (passed _ NoAnswer None order).0
+pub silent : (K : Layout) (k : Knowledge) (S : Search) → disorder K k S Leave ≡ None → (S.linked ≡ false) × (is_some S.flagged ≡ false)
+silent K k S order = or_parts S.linked (is_some S.flagged) (passed _ NoAnswer None order).0

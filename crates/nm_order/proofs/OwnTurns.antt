@@ -27,7 +27,7 @@ own_search c w = search_of (unwrap_or c.searches []) w
 
 pub data OwnTurn (w : ℕ) (c : Configuration) (t : ℕ × Event) : Type 0 where
   Quiet : own_search (next_in c t) w ≡ own_search c w → entries w c t ≡ [] → OwnTurn w c t
-  Own : (r : Reply) → t.0 ≡ w → outcome_in c t ≡ Ok r → entries w c t ≡ (t.1, r) ∷ [] → own_search (next_in c t) w ≡ searched (own_search c w) t.1 r → disorder (of c.state w) (own_search c w) t.1 ≡ None → OwnTurn w c t
+  Own : (r : Reply) → t.0 ≡ w → outcome_in c t ≡ Ok r → entries w c t ≡ (t.1, r) ∷ [] → own_search (next_in c t) w ≡ searched (own_search c w) t.1 r → disorder c.state.layout (of c.state w) (own_search c w) t.1 ≡ None → OwnTurn w c t
 
 module _ (L : Layout) where
   pub own_turn : (w : ℕ) (c : Configuration) (t : ℕ × Event) → IsOrdered L c → OwnTurn w c t
@@ -55,7 +55,7 @@ module _ (L : Layout) where
           (now why ∙ (ap (search_of (learned_from o.searches t.0 t.1 (reply_of c.state t.0 t.1))) (sym is)
           ∙ (get_or-set_same o.searches t.0 (searched (search_of o.searches t.0) t.1 (reply_of c.state t.0 t.1)) idle (let size = o.law.sized in let lt = ok.worker in omega arith)
           ∙ ap (λ (S : Search). searched S t.1 (reply_of c.state t.0 t.1)) (ap (search_of o.searches) is ∙ sym was))))
-          (ap (λ (x : ℕ). disorder (of c.state x) (own_search c x) t.1) (sym is) ∙ (ap (λ (l : Option (List Search)). disorder (of c.state t.0) (search_of (unwrap_or l []) t.0) t.1) o.are ∙ (sym (ap (λ (l : Option (List Search)). disorder_among l (of c.state t.0) t.0 t.1) o.are) ∙ (parts why).1)))
+          (ap (λ (x : ℕ). disorder c.state.layout (of c.state x) (own_search c x) t.1) (sym is) ∙ (ap (λ (l : Option (List Search)). disorder c.state.layout (of c.state t.0) (search_of (unwrap_or l []) t.0) t.1) o.are ∙ (sym (ap (λ (l : Option (List Search)). disorder_among c.state.layout l (of c.state t.0) t.0 t.1) o.are) ∙ (parts why).1)))
 
       go : (x : Option Refused) → refused_in c t.0 t.1 ≡ x → OwnTurn w c t
       go (Some x) why = Quiet (ap (λ (d : Configuration). own_search d w) (refused_next c t x why)) (refused_entries w c t x (refused_outcome c t x why))

@@ -12,10 +12,11 @@ use Rattle.nm_model.specs.declared.reply.Reply.TheVariants.{KeyIs, EdgeIs}
 use Rattle.nm_model.specs.declared.reply.Refused.{Refused}
 use Rattle.nm_model.specs.declared.trace.Turn.{Turn}
 use Rattle.nm_model.specs.Searches.{side_of}
-use Rattle.nm_model.specs.Walks.{Entry, logged_by, log_of, begins_anew, since_pin, IsPart, Leads, WalkEnds}
+use Rattle.nm_model.specs.Walks.{Entry, logged_by, log_of, begins_anew, since_pin, IsPart, Leads, WalkComes, WalkEnds}
 use Rattle.nm_model.specs.Walks.IsPart.{nothing, takes, skips}
 use Rattle.nm_model.specs.Walks.Leads.{begins, leads_on}
 use Rattle.nm_order.specs.Logs.{is_leaver, takes_part, part_of}
+use Rattle.nm_order.specs.Ranges.{WalkPasses}
 use Rattle.nm_order.proofs.LogParts.{part_within}
 use Rattle.nm_order.proofs.WalksOfRuns.{since_pin-append}
 
@@ -101,17 +102,41 @@ same_others w (t ∷ ts) a b same =
     let done : List Entry = cond (t.worker == w) (logged_by t) [] in
     ap others (since_pin-append a own (part_of w ts)) ∙ (same_others w ts (since_pin a own) (since_pin b done) (one_turn w t a b same) ∙ ap others (sym (since_pin-append b done (log_of w ts))))
 
--- a walk that has ended in the part has ended in the log
+-- looks that are no joins, in their order in the part, are so in the log
+in_log : (w : ℕ) (ts : List Turn) (looks : List Entry) → others looks ≡ looks → IsPart looks (since_pin [] (part_of w ts)) → IsPart looks (since_pin [] (log_of w ts))
+in_log w ts looks none part = part_within (others_within (since_pin [] (log_of w ts))) looks
+    (subst (λ (l : List Entry). IsPart looks l) (same_others w ts [] [] refl)
+    (subst (λ (l : List Entry). IsPart l (others (since_pin [] (part_of w ts)))) none (others_kept part)))
+
+-- a walk that came to a slot in the part came to it in the log, by the same looks
+pub comes_in_log : (w : ℕ) (ts : List Turn) (k slot parent : ℕ) (side : Side) (walk : WalkComes k (since_pin [] (part_of w ts)) slot parent side) → (r : WalkComes k (since_pin [] (log_of w ts)) slot parent side) × (r.looks ≡ walk.looks)
+comes_in_log w ts k slot parent side walk = (
+  record {
+    looks = walk.looks;
+    leads = walk.leads;
+    is_part = in_log w ts walk.looks (looks_are_others k walk.looks slot parent side walk.leads) walk.is_part;
+  },
+  refl,
+)
+
+-- one that went on from there went on in the log
+pub passes_in_log : (w : ℕ) (ts : List Turn) (k slot parent : ℕ) (side : Side) (v : ℕ) → WalkPasses k (since_pin [] (part_of w ts)) slot parent side v → WalkPasses k (since_pin [] (log_of w ts)) slot parent side v
+passes_in_log w ts k slot parent side v walk = record {
+  looks = walk.looks;
+  leads = walk.leads;
+  next = walk.next;
+  there = walk.there;
+  is_part = in_log w ts (walk.looks ++ (Look slot Key, KeyIs v) ∷ (Look slot (EdgeOn (side_of k v)), EdgeIs walk.next) ∷ [])
+      (ended_looks_are_others k walk.looks slot parent side walk.leads (Look slot Key, KeyIs v) (Look slot (EdgeOn (side_of k v)), EdgeIs walk.next) refl refl) walk.is_part;
+}
+
+-- and one that has ended in the part has ended in the log
 pub ends_in_log : (w : ℕ) (ts : List Turn) (k slot parent : ℕ) (side : Side) (v : ℕ) → WalkEnds k (since_pin [] (part_of w ts)) slot parent side v → WalkEnds k (since_pin [] (log_of w ts)) slot parent side v
 ends_in_log w ts k slot parent side v walk = record {
   looks = walk.looks;
   leads = walk.leads;
   null = walk.null;
   is_null = walk.is_null;
-  is_part = part_within (others_within (since_pin [] (log_of w ts))) all
-      (subst (λ (l : List Entry). IsPart all l) (same_others w ts [] [] refl)
-      (subst (λ (l : List Entry). IsPart l (others (since_pin [] (part_of w ts)))) (ended_looks_are_others k walk.looks slot parent side walk.leads (Look slot Key, KeyIs v) (Look slot (EdgeOn (side_of k v)), EdgeIs walk.null) refl refl) (others_kept walk.is_part)));
+  is_part = in_log w ts (walk.looks ++ (Look slot Key, KeyIs v) ∷ (Look slot (EdgeOn (side_of k v)), EdgeIs walk.null) ∷ [])
+      (ended_looks_are_others k walk.looks slot parent side walk.leads (Look slot Key, KeyIs v) (Look slot (EdgeOn (side_of k v)), EdgeIs walk.null) refl refl) walk.is_part;
 }
-  where
-    all : List Entry
-    all = walk.looks ++ (Look slot Key, KeyIs v) ∷ (Look slot (EdgeOn (side_of k v)), EdgeIs walk.null) ∷ []

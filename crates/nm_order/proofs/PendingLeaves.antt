@@ -143,16 +143,16 @@ module _ (L : Layout) (enough : 5 ≤ L.nodes) where
       pinned = subst (λ (s : State). OnlyThePinnedKnow s) (sym o.leads) (each_knower_pinned L enough o.events) u n.slot leaf.known
 
       -- while its leaf is reached, a call that has flagged it does not end
-      no_end : (e : Event) (r : Reply) → outcome_in c (u, e) ≡ Ok r → reply_of c.state u e ≡ r → disorder (of c.state u) (own_search c u) e ≡ None → Anew e r → ⊥
+      no_end : (e : Event) (r : Reply) → outcome_in c (u, e) ≡ Ok r → reply_of c.state u e ≡ r → disorder c.state.layout (of c.state u) (own_search c u) e ≡ None → Anew e r → ⊥
       no_end e r is told order (PinsNow p (inl sight) pin) = no_pin (of c.state u) pinned.0 c.state.memory.epoch p pinned.1 (sym (sight_told c.state u) ∙ (ap (reply_of c.state u) (sym sight) ∙ (told ∙ pin)))
       no_end e r is told order (PinsNow p (inr call) pin) = no_pin (of c.state u) pinned.0 c.state.memory.epoch p pinned.1 (sym (call_told c.state u call.0 call.1) ∙ (ap (reply_of c.state u) (sym call.2) ∙ (told ∙ pin)))
       no_end e r is told order (LeavesNow leave) =
-          true≢false (ap is_some (sym was) ∙ (silent (of c.state u) (own_search c u) (subst (λ (e : Event). disorder (of c.state u) (own_search c u) e ≡ None) leave order)).1)
+          true≢false (ap is_some (sym was) ∙ (silent c.state.layout (of c.state u) (own_search c u) (subst (λ (e : Event). disorder c.state.layout (of c.state u) (own_search c u) e ≡ None) leave order)).1)
       no_end e r is told order (AnswersNow answer leave departs) = by answer (subst (λ (op : Op). shows (own_search c u) op leaf.call.key answer ≡ true) leaf.is_op shown)
           (subst (λ (e : Event). outcome_in c (u, e) ≡ Ok r) leave is ∙ ap (λ (q : Reply). Ok q) departs)
         where
           shown : shows (own_search c u) leaf.call.op leaf.call.key answer ≡ true
-          shown = answer_shown (of c.state u) (own_search c u) answer leaf.call leaf.is_call (subst (λ (e : Event). disorder (of c.state u) (own_search c u) e ≡ None) leave order)
+          shown = answer_shown c.state.layout (of c.state u) (own_search c u) answer leaf.call leaf.is_call (subst (λ (e : Event). disorder c.state.layout (of c.state u) (own_search c u) e ≡ None) leave order)
 
           own_is : own_search c u ≡ search_of o.searches u
           own_is = ap (λ (l : Option (List Search)). search_of (unwrap_or l []) u) o.are
@@ -191,7 +191,7 @@ module _ (L : Layout) (enough : 5 ≤ L.nodes) where
                 where
                   on : FlagStep (own_search c u) t.1 r (searched (own_search c u) t.1 r) → (searched (own_search c u) t.1 r).flagged ≡ Some n
                   on (SameFlag flagged) = flagged ∙ was
-                  on (NewFlag p leaf d m is_flag is_flagged flagged later) = absurd (none-some n (sym (first_flag (of c.state u) (own_search c u) p leaf d (subst (λ (e : Event). disorder (of c.state u) (own_search c u) e ≡ None) is_flag order)) ∙ was))
+                  on (NewFlag p leaf d m is_flag is_flagged flagged later) = absurd (none-some n (sym (first_flag c.state.layout (of c.state u) (own_search c u) p leaf d (subst (λ (e : Event). disorder c.state.layout (of c.state u) (own_search c u) e ≡ None) is_flag order)) ∙ was))
 
     -- the flagged edges after a turn
     owned_next : ((y : ℕ) (g : Side) → Reached c.state.memory y → (edge c.state.memory y g).flag ≡ true → (u : ℕ) × ((own_search c u).flagged ≡ Some (named c.state.memory (child c.state.memory y g))))

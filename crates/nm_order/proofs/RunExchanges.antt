@@ -53,14 +53,14 @@ is_own_call c w op k called = ap (λ (l : Option (List Search)). (search_of (unw
 
 module _ (L : Layout) (enough : 5 ≤ L.nodes) where
   -- an event that is allowed is in order
-  order_of : (c : Configuration) → IsOrdered L c → (w : ℕ) (e : Event) (r : Reply) → outcome_in c (w, e) ≡ Ok r → disorder (of c.state w) (own_search c w) e ≡ None
+  order_of : (c : Configuration) → IsOrdered L c → (w : ℕ) (e : Event) (r : Reply) → outcome_in c (w, e) ≡ Ok r → disorder c.state.layout (of c.state w) (own_search c w) e ≡ None
   order_of c o w e r is = by (own_turn L w c (w, e) o)
     where
       filled : (b : Bool) → b ≡ true → ◌≡◌ {A = List Entry} (cond b ((e, r) ∷ []) []) [] → ⊥
       filled true t none = cc
       filled false t none = true≢false (sym t)
 
-      by : OwnTurn w c (w, e) → disorder (of c.state w) (own_search c w) e ≡ None
+      by : OwnTurn w c (w, e) → disorder c.state.layout (of c.state w) (own_search c w) e ≡ None
       by (Quiet same none) = absurd (filled (w == w) (eq-eqb w w refl) (sym (allowed_entries w c (w, e) r is) ∙ none))
       by (Own q is won here learned order) = order
 
@@ -85,7 +85,7 @@ module _ (L : Layout) (enough : 5 ≤ L.nodes) where
       is_call = is_own_call (after_in (ordered L) turns) w op k may.called
 
       pub shown : shows (own_search (after_in (ordered L) turns) w) op k answer ≡ true
-      shown = answer_shown (of (after_in (ordered L) turns).state w) (own_search (after_in (ordered L) turns) w) answer (record { op = op; key = k }) is_call (order_of (after_in (ordered L) turns) end w (LeaveWith answer) Departed may.leaves)
+      shown = answer_shown (after_in (ordered L) turns).state.layout (of (after_in (ordered L) turns).state w) (own_search (after_in (ordered L) turns) w) answer (record { op = op; key = k }) is_call (order_of (after_in (ordered L) turns) end w (LeaveWith answer) Departed may.leaves)
 
       links_are : how_many is_won_link w (trace_in (ordered L) turns) ≡ links_told op answer
       links_are = links.number ∙ links_shown (own_search (after_in (ordered L) turns) w) op k answer shown (λ has. links.is_op has (record { op = op; key = k }) is_call)
@@ -95,7 +95,7 @@ module _ (L : Layout) (enough : 5 ≤ L.nodes) where
 
     none_won : outcome_in (after_in (ordered L) turns) (w, Leave) ≡ Ok Departed → (how_many is_won_link w (trace_in (ordered L) turns) ≡ 0) × (how_many is_won_flag w (trace_in (ordered L) turns) ≡ 0)
     none_won leaves =
-        let none = silent (of (after_in (ordered L) turns).state w) (own_search (after_in (ordered L) turns) w) (order_of (after_in (ordered L) turns) end w Leave Departed leaves) in
+        let none = silent (after_in (ordered L) turns).state.layout (of (after_in (ordered L) turns).state w) (own_search (after_in (ordered L) turns) w) (order_of (after_in (ordered L) turns) end w Leave Departed leaves) in
         (links.number ∙ ap (λ (b : Bool). cond b 1 0) none.0, flags.number ∙ ap (λ (b : Bool). cond b 1 0) none.1)
 
     -- ---- the moment of an insert

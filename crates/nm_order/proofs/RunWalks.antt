@@ -1,6 +1,5 @@
--- Over a whole ordered run: each slot to which a walk of a standing call came was reached since the
--- pin, with the call's key in its interval. A walk of a call is one for any key, and the call is
--- the same at each moment since its pin.
+-- Over a whole ordered run: an arrival of a standing call is that of a walk since the pin, and the
+-- call is the same at each moment since then.
 use Rattle.std.proofs.Common.{◌≡◌, ℕ, ◌<◌, ◌≤◌, inl, inr, length, List, [], ◌++◌, refl, sym, ap, subst, ◌∙◌, arith}
 use Rattle.std.specs.Prelude.{Option, Some, None, Result, Ok, Err, slice_get, unwrap_or, All}
 use Rattle.std.proofs.lemmas.Bool.{cases_lt}
@@ -19,8 +18,7 @@ use Rattle.nm_model.specs.Searches.{Search, idle}
 use Rattle.nm_model.specs.Walks.{log_of, since_pin, search_after, IsOfWalk}
 use Rattle.nm_model.specs.Ordered.{Configuration, ordered, search_of, refused_in, outcome_in, after_in, trace_in}
 use Rattle.nm_order.specs.Intervals.{HasCome, HasKey, IsCalled}
-use Rattle.nm_order.specs.Moments.{WasReached}
-use Rattle.nm_order.specs.StalePaths.{WasReachedSince}
+use Rattle.nm_order.specs.Moments.{PinStands}
 use Rattle.nm_laws.proofs.Configurations.{refused_outcome, allowed_outcome, after_in-append}
 use Rattle.nm_laws.proofs.WalksOfLogs.{arrivals_are_walks}
 use Rattle.nm_laws.proofs.Retired.{layout_after}
@@ -29,7 +27,6 @@ use Rattle.nm_order.proofs.OrderedLaws.{IsOrdered, each_ordered}
 use Rattle.nm_order.proofs.OwnTurns.{own_search, call_stays}
 use Rattle.nm_order.proofs.RunExchanges.{is_own_call}
 use Rattle.nm_order.proofs.WalksOfRuns.{is_known, all_before, all_behind}
-use Rattle.nm_order.proofs.StaleRuns.{any_walk_was_reached}
 
 -- an event that is allowed is answered by its reply
 pub reply_is : (c : Configuration) (t : ℕ × Event) (r : Reply) → outcome_in c t ≡ Ok r → reply_of c.state t.0 t.1 ≡ r
@@ -72,37 +69,21 @@ module _ (L : Layout) (enough : 5 ≤ L.nodes) (turns : List (ℕ × Event)) (ke
       there = ap (λ (S : Search). slice_get S.walks i) (sym told) ∙ at
 
   -- it is for a key of the set
-  of_key : IsKey k
-  of_key = (call_walks (after_in (ordered L) turns).state.memory (knows (of (after_in (ordered L) turns).state w)) (search_of o.searches w).call (search_of o.searches w).walks (record { op = op; key = k })
+  pub of_key : IsKey k
+  of_key = (call_walks (after_in (ordered L) turns).state.layout.radix (after_in (ordered L) turns).state.memory (knows (of (after_in (ordered L) turns).state w)) (search_of o.searches w).call (search_of o.searches w).walks (record { op = op; key = k })
       (ap (λ (ss : List Search). (search_of ss w).call) (same_Some o.searches called.searches (sym o.are ∙ called.are)) ∙ called.is_call) (o.law.walks w)).0
 
   -- and it was under the pin at each moment since then
-  was_called : (x : ℕ) → WasReachedSince (ordered L) turns w k x → WasReached (ordered L) turns w op k x
-  was_called x was = record {
-    before = was.before;
-    since = was.since;
-    is_run = was.is_run;
-    called = record { searches = then.searches; are = then.are; is_call = ap (λ (l : Option (List Search)). (search_of (unwrap_or l []) w).call) (sym then.are) ∙ (sym stayed ∙ is_own_call (after_in (ordered L) turns) w op k called) };
-    stands = was.stands;
-    reached = was.reached;
-    lies = was.lies;
-    same_birth = was.same_birth;
-    same_key = was.same_key;
-    same_kind = was.same_kind;
-  }
+  pub called_then : (before since : List (ℕ × Event)) → turns ≡ before ++ since → PinStands w (trace_in (after_in (ordered L) before) since) → IsCalled (after_in (ordered L) before) w op k
+  called_then before since is_run stands =
+      record { searches = then.searches; are = then.are; is_call = ap (λ (l : Option (List Search)). (search_of (unwrap_or l []) w).call) (sym then.are) ∙ (sym stayed ∙ is_own_call (after_in (ordered L) turns) w op k called) }
     where
-      all : All (λ t. HasKey t.1) (was.before ++ was.since)
-      all = subst (All (λ t. HasKey t.1)) was.is_run keys
+      all : All (λ t. HasKey t.1) (before ++ since)
+      all = subst (All (λ t. HasKey t.1)) is_run keys
 
-      then : IsOrdered L (after_in (ordered L) was.before)
-      then = each_ordered L enough was.before (all_before (λ t. HasKey t.1) was.before was.since all)
+      then : IsOrdered L (after_in (ordered L) before)
+      then = each_ordered L enough before (all_before (λ t. HasKey t.1) before since all)
 
-      stayed : (own_search (after_in (ordered L) turns) w).call ≡ (own_search (after_in (ordered L) was.before) w).call
-      stayed = ap (λ (ts : List (ℕ × Event)). (own_search (after_in (ordered L) ts) w).call) was.is_run ∙ (ap (λ (c : Configuration). (own_search c w).call) (after_in-append (ordered L) was.before was.since)
-          ∙ call_stays L enough w was.since (all_behind (λ t. HasKey t.1) was.before was.since all) (after_in (ordered L) was.before) then was.stands)
-
-  pub was_reached : (a : Arrival) → HasCome (after_in (ordered L) turns) w k a → WasReached (ordered L) turns w op k a.slot
-  was_reached a come =
-      let key = of_key in
-      let walk = walk_of come.index a (ap (λ (l : Option (List Search)). slice_get (search_of (unwrap_or l []) w).walks come.index) come.are ∙ come.is) in
-      was_called a.slot (any_walk_was_reached L enough turns keys w k a.slot a.parent a.side (omega (arith, key)) walk.comes)
+      stayed : (own_search (after_in (ordered L) turns) w).call ≡ (own_search (after_in (ordered L) before) w).call
+      stayed = ap (λ (ts : List (ℕ × Event)). (own_search (after_in (ordered L) ts) w).call) is_run ∙ (ap (λ (c : Configuration). (own_search c w).call) (after_in-append (ordered L) before since)
+          ∙ call_stays L enough w since (all_behind (λ t. HasKey t.1) before since all) (after_in (ordered L) before) then stands)

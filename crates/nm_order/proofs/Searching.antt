@@ -45,6 +45,19 @@ one_leaf c null v k s (e ∷ p) (f ∷ q) g h a b leaf leaf' = by (sym g.0 ∙ h
         let ends : follow c (c s e) q ≡ follow c (c s f) q = ap (λ (y : Side). follow c (c s y) q) is in
         ap (λ (y : Side). y ∷ p) is ∙ ap (λ (ys : List Side). f ∷ ys) (rest (rw is h.1) (rw ends b) (rw ends leaf'))
 
+-- where one of them ends at a leaf, it goes on from where the other one comes
+pub on_way : (c : Children) → ((d : Side) → c 0 d ≡ 0) → (v : Keys) (k s : ℕ) (p q : List Side) → GoesBy c v k s p → GoesBy c v k s q
+    → ((d : Side) → c (follow c s p) d ≡ 0) → follow c s q ≢ 0 → (u : List Side) × (p ≡ q ++ u)
+on_way c null v k s p [] g h leaf some = (p, refl)
+on_way c null v k s [] (f ∷ q) g h leaf some = absurd (some (ap (λ (y : ℕ). follow c y q) (leaf f) ∙ follow_none c null q))
+on_way c null v k s (e ∷ p) (f ∷ q) g h leaf some = by (sym g.0 ∙ h.0) (λ h' some'. on_way c null v k (c s e) p q g.1 h' leaf some')
+  where
+    by : e ≡ f → (GoesBy c v k (c s e) q → follow c (c s e) q ≢ 0 → (u : List Side) × (p ≡ q ++ u)) → (u : List Side) × (e ∷ p ≡ f ∷ (q ++ u))
+    by is rest =
+        let ends : follow c (c s e) q ≡ follow c (c s f) q = ap (λ (y : Side). follow c (c s y) q) is in
+        let more = rest (rw is h.1) (rw ends some) in
+        (more.0, ap (λ (y : Side). y ∷ p) is ∙ ap (λ (ys : List Side). f ∷ ys) more.1)
+
 -- ---- slots that paths from s do not come to may change
 
 pub record Apart (c c' : Children) (v v' : Keys) (x : ℕ) : Type 0 where

@@ -60,7 +60,7 @@ module _ (s : State) (h : ℕ → ℕ) (law : Lawful s h) (w : ℕ) (e : Event) 
       by (Kept children keys) = record { path = r.path; ends = sym (same_follow (child s.memory) (child (write s.memory (of s w) w e)) children 1 r.path) ∙ end; is_slot = r.is_slot }
       by (Filled y own apart) = record { path = r.path; ends = sym (apart_follow (child s.memory) (child (write s.memory (of s w) w e)) (key s.memory) (key (write s.memory (of s w) w e)) y apart 1 (off_root s h law w y own) r.path) ∙ end; is_slot = r.is_slot }
       by (NewLink p d leaf new is unmarked l link exchanged keys) = absurd (true≢false (sym (ap (λ (f : Event). is_won_link (f, reply_of s w f)) is ∙ ap (λ (q : Reply). is_won_link (Link p d leaf new, q)) (link_won s w p d leaf new unmarked)) ∙ plain))
-      by (Spliced a d way g some target keys) = record {
+      by (Spliced a d way g some target keys high) = record {
         path = old_path (child s.memory) (child (write s.memory (of s w) w e)) a d way g (rest_after (child s.memory) a d 1 r.path) r.path;
         ends = sym (led (child s.memory) (child (write s.memory (of s w) w e)) a d way g r.path) ∙ end;
         is_slot = r.is_slot;

@@ -1,32 +1,39 @@
 -- Over a whole ordered run, for any key and under any pin: each slot to which a walk came in a
 -- worker's log since its pin was reached since the pin, with the walk's key in its interval, and
 -- keeps it there while it is an internal node that is reached.
-use Rattle.std.proofs.Common.{◌≡◌, ◌≢◌, ℕ, ◌≤◌, ◌==◌, Bool, true, false, cond, ◌||◌, List, [], ◌∷◌, ◌++◌, append_assoc, refl, sym, ap, subst, ◌∙◌, arith}
+use Rattle.std.proofs.Common.{◌≡◌, ◌≢◌, ℕ, ◌<◌, ◌≤◌, ◌==◌, ◌&&◌, inl, inr, ◌⊎◌, Bool, true, false, cond, ◌||◌, List, [], ◌∷◌, ◌++◌, append_assoc, refl, sym, ap, subst, ◌∙◌, arith}
 use Rattle.std.specs.Prelude.{Option, Some, None, All}
 use Rattle.std.specs.List.{list_any}
 use Rattle.std.proofs.lemmas.List.{append-nil}
-use Rattle.std.proofs.lemmas.Bool.{eqb-true, eqb-false}
+use Rattle.std.proofs.lemmas.Bool.{eqb-true, eqb-false, and_parts}
 use Rattle.nm_edge.specs.Layouts.{Layout}
 use Rattle.nm_edge.specs.declared.edge.Side.{Side}
 use Rattle.nm_model.specs.declared.event.Event.{Event}
 use Rattle.nm_model.specs.declared.reply.Reply.{Reply}
 use Rattle.nm_model.specs.declared.reply.Refused.{Refused}
-use Rattle.nm_model.specs.Memory.{child}
+use Rattle.nm_model.specs.Memory.{node, child, is_leaf, infinity_1}
+use Rattle.nm_edge.specs.Ranges.{covers}
+use Rattle.nm_edge.specs.declared.edge.Side.TheVariants.{Left, Right}
 use Rattle.nm_model.specs.Knowledge.{knows, knows_leaf}
 use Rattle.nm_model.specs.Paths.{follow, Reached}
-use Rattle.nm_model.specs.Runs.{of, reply_of, refused, applied}
+use Rattle.nm_model.specs.Runs.{State, of, reply_of, refused, applied}
 use Rattle.nm_model.specs.Lawful.{EachBirthStands}
-use Rattle.nm_model.specs.Walks.{Entry, log_of, begins_anew, since_pin, WalkEnds}
+use Rattle.nm_model.specs.Walks.{Entry, log_of, begins_anew, since_pin, WalkComes, WalkEnds}
 use Rattle.nm_model.specs.Ordered.{Configuration, ordered, search_of, disorder, disorder_among, disorder_in, refused_in, applied_in, next_in, after_in, trace_in}
 use Rattle.nm_order.specs.Intervals.{HasKey, InInterval, key}
 use Rattle.nm_order.specs.Moments.{OfEachOrderedRun, PinStands}
-use Rattle.nm_order.specs.StalePaths.{HasPin, WasReachedSince, AnyWalkWasReached, AnyWalkStaysInOrder, AnyWalkReadsKeys}
+use Rattle.nm_order.specs.Ranges.{StandsFor, AnyWalkIsShort, AnyWalkPassesRouters}
+use Rattle.nm_order.specs.WalkAnswers.{WasSoUnderPin}
+use Rattle.nm_order.specs.StalePaths.{HasPin, log_under_pin, WasReachedSince, AnyWalkWasReached, AnyWalkStaysInOrder, AnyWalkReadsKeys}
 use Rattle.nm_laws.proofs.Steps.{Allowed, allowed}
 use Rattle.nm_laws.proofs.TreeSteps.{Lawful}
+use Rattle.nm_laws.proofs.Retired.{layout_after}
 use Rattle.nm_laws.proofs.Configurations.{refused_next, refused_outcome, allowed_next, allowed_outcome, after_in-append}
 use Rattle.nm_order.proofs.OnwardSlots.{EachNow}
 use Rattle.nm_order.proofs.OrderedMoments.{Lasting, lasting}
-use Rattle.nm_order.proofs.OrderedLaws.{IsOrdered, neither, ordered_next, each_ordered, law_of_state, lies_onward}
+use Rattle.nm_order.proofs.OrderedLaws.{IsOrdered, neither, ordered_next, each_ordered, law_of_state, has_child, lies_onward}
+use Rattle.nm_order.proofs.RadixWays.{Rooted, none_has}
+use Rattle.nm_order.proofs.RadixMoments.{rooted}
 use Rattle.nm_order.proofs.OrderedInduction.{births_of}
 use Rattle.nm_order.proofs.RunMoments.{entries, stands_longer, refused_entries, allowed_entries}
 use Rattle.nm_order.proofs.WalksOfRuns.{since_pin-append, one_turn, all_before, all_behind, over_turns}
@@ -46,13 +53,18 @@ module _ (L : Layout) (u k : ℕ) where
     reached : Reached (after_in (ordered L) before).state.memory x
     lies : InInterval (after_in (ordered L) before).state.memory k x
     lasts : lasting (after_in (ordered L) before).state.memory x ≡ n
+    is_ordered : IsOrdered L (after_in (ordered L) before)
+
+  -- at such a moment no leaf had k
+  abbrev NotThen : List (ℕ × Event) → Type 0
+  NotThen ts = WasSoUnderPin L ts u k false
 
   abbrev log_after : List (ℕ × Event) → List Entry
   log_after ts = log_of u (trace_in (ordered L) ts)
 
   -- what holds of the walks for k after a run
   abbrev Held : List (ℕ × Event) → Type 0
-  Held ts = HoldsOfWalks (after_in (ordered L) ts).state u k (WasAt ts) (since_pin [] (log_after ts))
+  Held ts = HoldsOfWalks (after_in (ordered L) ts).state u k (WasAt ts) (NotThen ts) (since_pin [] (log_after ts))
 
   was_longer : (ts : List (ℕ × Event)) (t : ℕ × Event) → list_any begins_anew (entries u (after_in (ordered L) ts) t) ≡ false → (x : ℕ) (n : Lasting) → WasAt ts x n → WasAt (ts ++ t ∷ []) x n
   was_longer ts t none x n was = record {
@@ -64,6 +76,17 @@ module _ (L : Layout) (u k : ℕ) where
     reached = was.reached;
     lies = was.lies;
     lasts = was.lasts;
+    is_ordered = was.is_ordered;
+  }
+
+  not_longer : (ts : List (ℕ × Event)) (t : ℕ × Event) → list_any begins_anew (entries u (after_in (ordered L) ts) t) ≡ false → NotThen ts → NotThen (ts ++ t ∷ [])
+  not_longer ts t none was = record {
+    before = was.before;
+    since = was.since ++ t ∷ [];
+    is_run = ap (λ (l : List (ℕ × Event)). l ++ t ∷ []) was.is_run ∙ append_assoc was.before was.since (t ∷ []);
+    pinned = was.pinned;
+    stands = stands_longer u (after_in (ordered L) was.before) (after_in (ordered L) ts) was.since t (sym (after_in-append (ordered L) was.before was.since) ∙ ap (after_in (ordered L)) (sym was.is_run)) was.stands none;
+    gives = was.gives;
   }
 
   module _ (enough : 5 ≤ L.nodes) where
@@ -79,7 +102,43 @@ module _ (L : Layout) (u k : ℕ) where
       reached = subst (λ (c : Configuration). Reached c.state.memory (follow (child d.state.memory) 1 q)) (sym is) (record { path = q; ends = refl; is_slot = some });
       lies = subst (λ (c : Configuration). InInterval c.state.memory k (follow (child d.state.memory) 1 q)) (sym is) (record { path = q; ends = refl; goes = goes });
       lasts = ap (λ (c : Configuration). lasting c.state.memory (follow (child d.state.memory) 1 q)) is;
+      is_ordered = subst (IsOrdered L) (sym is) o;
     }
+
+    -- in a radix tree: where k is not in the range of an internal node to which its search came, no
+    -- leaf had it
+    out_of_range : L.radix ≡ true → k < infinity_1 → (ts : List (ℕ × Event)) (x : ℕ) (n : Lasting) → WasAt ts x n → n.leaf ≡ false → 6 ≤ x → covers n.key k ≡ false → NotThen ts
+    out_of_range radix small ts x n was inner up out = record {
+      before = was.before;
+      since = was.since;
+      is_run = was.is_run;
+      pinned = was.pinned;
+      stands = was.stands;
+      gives = λ s. none_has (child d.state.memory) (key d.state.memory) root k was.lies.path was.lies.goes (rw was.lies.ends was.reached.is_slot) (rw was.lies.ends up) under.0 (rw was.lies.ends under.1)
+          (rw was.lies.ends (ap (λ (t : Lasting). covers t.key k) was.lasts ∙ out)) s.reached.path (rw s.reached.ends s.reached.is_slot) (rw s.reached.ends (null_of s.slot s.leaf)) (ap (key d.state.memory) s.reached.ends ∙ s.has_key);
+    }
+      where
+        d : Configuration
+        d = after_in (ordered L) was.before
+
+        law : (h : ℕ → ℕ) × Lawful (after_in (ordered L) was.before).state h
+        law = law_of_state L enough (after_in (ordered L) was.before) was.is_ordered
+
+        shape : (after_in (ordered L) was.before).state.layout.radix ≡ true
+        shape = ap (λ (s : State). s.layout.radix) was.is_ordered.leads ∙ (ap (λ (K : Layout). K.radix) (layout_after L was.is_ordered.events) ∙ radix)
+
+        root : Rooted (child (after_in (ordered L) was.before).state.memory) (key (after_in (ordered L) was.before).state.memory)
+        root = rooted (after_in (ordered L) was.before).state law.0 law.1 was.is_ordered.law.fixed was.is_ordered.law.order (was.is_ordered.law.nested shape)
+
+        under : (f : Side) × (child (after_in (ordered L) was.before).state.memory x f ≢ 0)
+        under = has_child L enough (after_in (ordered L) was.before) was.is_ordered x (ap (λ (t : Lasting). t.leaf) was.lasts ∙ inner)
+
+        null_of : (y : ℕ) → is_leaf (node (after_in (ordered L) was.before).state.memory y) ≡ true → (f : Side) → child (after_in (ordered L) was.before).state.memory y f ≡ 0
+        null_of y leaf f = by f (and_parts ((node (after_in (ordered L) was.before).state.memory y).left.slot == 0) ((node (after_in (ordered L) was.before).state.memory y).right.slot == 0) leaf)
+          where
+            by : (f : Side) → (((node (after_in (ordered L) was.before).state.memory y).left.slot == 0) ≡ true) × (((node (after_in (ordered L) was.before).state.memory y).right.slot == 0) ≡ true) → child (after_in (ordered L) was.before).state.memory y f ≡ 0
+            by Left both = eqb-true (node (after_in (ordered L) was.before).state.memory y).left.slot 0 both.0
+            by Right both = eqb-true (node (after_in (ordered L) was.before).state.memory y).right.slot 0 both.1
 
     module _ (ts : List (ℕ × Event)) (t : ℕ × Event) (o : IsOrdered L (after_in (ordered L) ts)) (has : HasKey t.1) (held : Held ts) where
       abbrev c : Configuration
@@ -99,19 +158,22 @@ module _ (L : Layout) (u k : ℕ) where
       quiet : (x : ℕ) (n : Lasting) → entries u (after_in (ordered L) ts) t ≡ [] → WasAt ts x n → WasAt (ts ++ t ∷ []) x n
       quiet x n none was = was_longer ts t (ap (list_any begins_anew) none) x n was
 
+      quiet_not : entries u (after_in (ordered L) ts) t ≡ [] → NotThen ts → NotThen (ts ++ t ∷ [])
+      quiet_not none was = not_longer ts t (ap (list_any begins_anew) none) was
+
       -- the turn is refused
       at_refused : (r : Refused) → refused_in (after_in (ordered L) ts) t.0 t.1 ≡ Some r → Held (ts ++ t ∷ [])
       at_refused r why =
           let none : entries u (after_in (ordered L) ts) t ≡ [] = refused_entries u c t r (refused_outcome c t r why) in
           let same : after_in (ordered L) (ts ++ t ∷ []) ≡ after_in (ordered L) ts = next_is ∙ refused_next c t r why in
-          subst (λ (d : Configuration). HoldsOfWalks d.state u k (WasAt (ts ++ t ∷ [])) (since_pin [] (log_after (ts ++ t ∷ [])))) (sym same)
-          (subst (HoldsOfWalks (after_in (ordered L) ts).state u k (WasAt (ts ++ t ∷ []))) (sym (quiet_log none))
-          (weaker (after_in (ordered L) ts).state u k (WasAt ts) (WasAt (ts ++ t ∷ [])) (λ x n. quiet x n none) (since_pin [] (log_after ts)) held))
+          subst (λ (d : Configuration). HoldsOfWalks d.state u k (WasAt (ts ++ t ∷ [])) (NotThen (ts ++ t ∷ [])) (since_pin [] (log_after (ts ++ t ∷ [])))) (sym same)
+          (subst (HoldsOfWalks (after_in (ordered L) ts).state u k (WasAt (ts ++ t ∷ [])) (NotThen (ts ++ t ∷ []))) (sym (quiet_log none))
+          (weaker (after_in (ordered L) ts).state u k (WasAt ts) (WasAt (ts ++ t ∷ [])) (NotThen ts) (NotThen (ts ++ t ∷ [])) (λ x n. quiet x n none) (quiet_not none) (since_pin [] (log_after ts)) held))
 
       -- the turn is allowed
       at_allowed : refused_in (after_in (ordered L) ts) t.0 t.1 ≡ None → Held (ts ++ t ∷ [])
       unfolding applied_in refused_in
-      at_allowed why = subst (λ (d : Configuration). HoldsOfWalks d.state u k (WasAt (ts ++ t ∷ [])) (since_pin [] (log_after (ts ++ t ∷ [])))) (sym same) (by (t.0 == u) refl)
+      at_allowed why = subst (λ (d : Configuration). HoldsOfWalks d.state u k (WasAt (ts ++ t ∷ [])) (NotThen (ts ++ t ∷ [])) (since_pin [] (log_after (ts ++ t ∷ [])))) (sym same) (by (t.0 == u) refl)
         where
           same : after_in (ordered L) (ts ++ t ∷ []) ≡ applied_in (after_in (ordered L) ts) t.0 t.1
           same = next_is ∙ allowed_next c t why
@@ -125,8 +187,8 @@ module _ (L : Layout) (u k : ℕ) where
           ok : Allowed (after_in (ordered L) ts).state t.0 t.1
           ok = allowed c.state t.0 t.1 parts.0
 
-          in_order : disorder (of (after_in (ordered L) ts).state t.0) (search_of o.searches t.0) t.1 ≡ None
-          in_order = ap (λ ss. disorder_among ss (of c.state t.0) t.0 t.1) (sym o.are) ∙ parts.1
+          in_order : disorder (after_in (ordered L) ts).state.layout (of (after_in (ordered L) ts).state t.0) (search_of o.searches t.0) t.1 ≡ None
+          in_order = ap (λ ss. disorder_among c.state.layout ss (of c.state t.0) t.0 t.1) (sym o.are) ∙ parts.1
 
           h : ℕ → ℕ
           h = (law_of_state L enough (after_in (ordered L) ts) o).0
@@ -147,6 +209,9 @@ module _ (L : Layout) (u k : ℕ) where
               → EachNow (child (applied (after_in (ordered L) ts).state t.0 t.1).memory) (key (applied (after_in (ordered L) ts).state t.0 t.1).memory) (lasting (applied (after_in (ordered L) ts).state t.0 t.1).memory) k (WasAt (ts ++ t ∷ []))
           now = so_now (ts ++ t ∷ []) (applied_in c t.0 t.1) same then
 
+          shaped : (applied (after_in (ordered L) ts).state t.0 t.1).layout.radix ≡ true → L.radix ≡ true
+          shaped radix = sym (ap (λ (s : State). s.layout.radix) then.leads ∙ ap (λ (K : Layout). K.radix) (layout_after L then.events)) ∙ radix
+
           r : Reply
           r = reply_of (after_in (ordered L) ts).state t.0 t.1
 
@@ -154,26 +219,27 @@ module _ (L : Layout) (u k : ℕ) where
           told b is = allowed_entries u c t (reply_of c.state t.0 t.1) (allowed_outcome c t why) ∙ ap (λ (b : Bool). cond b ((t.1, reply_of c.state t.0 t.1) ∷ []) []) is
 
           -- by another worker
-          by_other : u ≢ t.0 → entries u (after_in (ordered L) ts) t ≡ [] → HoldsOfWalks (applied (after_in (ordered L) ts).state t.0 t.1) u k (WasAt (ts ++ t ∷ [])) (since_pin [] (log_after (ts ++ t ∷ [])))
-          by_other ne none = subst (HoldsOfWalks (applied c.state t.0 t.1) u k (WasAt (ts ++ t ∷ []))) (sym (quiet_log none))
-              (walks_outlast c.state h law t.0 births o.searches o.law t.1 ok in_order u k (others_stay c.state h law t.0 t.1 ok u ne) (WasAt ts) (WasAt (ts ++ t ∷ [])) (λ x n. quiet x n none) now (since_pin [] (log_after ts)) held)
+          by_other : u ≢ t.0 → entries u (after_in (ordered L) ts) t ≡ [] → HoldsOfWalks (applied (after_in (ordered L) ts).state t.0 t.1) u k (WasAt (ts ++ t ∷ [])) (NotThen (ts ++ t ∷ [])) (since_pin [] (log_after (ts ++ t ∷ [])))
+          by_other ne none = subst (HoldsOfWalks (applied c.state t.0 t.1) u k (WasAt (ts ++ t ∷ [])) (NotThen (ts ++ t ∷ []))) (sym (quiet_log none))
+              (walks_outlast c.state h law t.0 births o.searches o.law t.1 ok in_order u k (others_stay c.state h law t.0 t.1 ok u ne) (WasAt ts) (WasAt (ts ++ t ∷ [])) (NotThen ts) (NotThen (ts ++ t ∷ [])) (λ x n. quiet x n none) (quiet_not none) now (since_pin [] (log_after ts)) held)
 
           -- by the worker itself
-          by_itself : u ≡ t.0 → entries u (after_in (ordered L) ts) t ≡ e ∷ [] → (b : Bool) → begins_anew e ≡ b → HoldsOfWalks (applied (after_in (ordered L) ts).state t.0 t.1) u k (WasAt (ts ++ t ∷ [])) (cond b [] (since_pin [] (log_after ts) ++ e ∷ []))
-          by_itself own one true anew = of_no_walks (applied c.state t.0 t.1) u k (WasAt (ts ++ t ∷ []))
+          by_itself : u ≡ t.0 → entries u (after_in (ordered L) ts) t ≡ e ∷ [] → (b : Bool) → begins_anew e ≡ b → HoldsOfWalks (applied (after_in (ordered L) ts).state t.0 t.1) u k (WasAt (ts ++ t ∷ [])) (NotThen (ts ++ t ∷ [])) (cond b [] (since_pin [] (log_after ts) ++ e ∷ []))
+          by_itself own one true anew = of_no_walks (applied c.state t.0 t.1) u k (WasAt (ts ++ t ∷ [])) (NotThen (ts ++ t ∷ []))
           by_itself own one false stands =
-              subst (λ (v : ℕ). HoldsOfWalks (applied c.state t.0 t.1) v k (WasAt (ts ++ t ∷ [])) (since_pin [] (log_after ts) ++ e ∷ [])) (sym own)
-              (own_walks c.state h law t.0 births o.searches o.law t.1 ok in_order g after then.law.fixed k
+              subst (λ (v : ℕ). HoldsOfWalks (applied c.state t.0 t.1) v k (WasAt (ts ++ t ∷ [])) (NotThen (ts ++ t ∷ [])) (since_pin [] (log_after ts) ++ e ∷ [])) (sym own)
+              (own_walks c.state h law t.0 births o.searches o.law t.1 ok in_order g after then.law.fixed then.law.order then.law.nested k
               (subst (Stays c.state.memory (of c.state t.0)) (sym (own_knows c.state h law t.0 t.1 ok)) (learned_stays c.state.memory (of c.state t.0) t.0 t.1 r (answers c.state h law t.0 t.1 ok) stands))
-              (WasAt ts) (WasAt (ts ++ t ∷ [])) (λ x n. was_longer ts t (ap (list_any begins_anew) one ∙ ap (λ (b : Bool). b || false) stands) x n)
+              (WasAt ts) (WasAt (ts ++ t ∷ [])) (NotThen ts) (NotThen (ts ++ t ∷ [])) (λ x n. was_longer ts t (ap (list_any begins_anew) one ∙ ap (λ (b : Bool). b || false) stands) x n)
+              (not_longer ts t (ap (list_any begins_anew) one ∙ ap (λ (b : Bool). b || false) stands)) (λ radix small. out_of_range (shaped radix) small (ts ++ t ∷ []))
               (subst (λ (v : ℕ). (x : ℕ) → knows (of (applied c.state t.0 t.1) v) x ≡ true → EachNow (child (applied c.state t.0 t.1).memory) (key (applied c.state t.0 t.1).memory) (lasting (applied c.state t.0 t.1).memory) k (WasAt (ts ++ t ∷ []))) own now)
-              (since_pin [] (log_after ts)) (subst (λ (v : ℕ). HoldsOfWalks c.state v k (WasAt ts) (since_pin [] (log_after ts))) own held))
+              (since_pin [] (log_after ts)) (subst (λ (v : ℕ). HoldsOfWalks c.state v k (WasAt ts) (NotThen ts) (since_pin [] (log_after ts))) own held))
 
           own_log : entries u (after_in (ordered L) ts) t ≡ e ∷ [] → since_pin [] (log_after (ts ++ t ∷ [])) ≡ cond (begins_anew e) [] (since_pin [] (log_after ts) ++ e ∷ [])
           own_log one = ap (since_pin []) (one_turn u (ordered L) ts t ∙ ap (λ (es : List Entry). log_after ts ++ (es ++ [])) one) ∙ since_pin-append [] (log_after ts) (e ∷ [])
 
-          by : (b : Bool) → (t.0 == u) ≡ b → HoldsOfWalks (applied (after_in (ordered L) ts).state t.0 t.1) u k (WasAt (ts ++ t ∷ [])) (since_pin [] (log_after (ts ++ t ∷ [])))
-          by true here = subst (HoldsOfWalks (applied c.state t.0 t.1) u k (WasAt (ts ++ t ∷ []))) (sym (own_log (told true here))) (by_itself (sym (eqb-true t.0 u here)) (told true here) (begins_anew e) refl)
+          by : (b : Bool) → (t.0 == u) ≡ b → HoldsOfWalks (applied (after_in (ordered L) ts).state t.0 t.1) u k (WasAt (ts ++ t ∷ [])) (NotThen (ts ++ t ∷ [])) (since_pin [] (log_after (ts ++ t ∷ [])))
+          by true here = subst (HoldsOfWalks (applied c.state t.0 t.1) u k (WasAt (ts ++ t ∷ [])) (NotThen (ts ++ t ∷ []))) (sym (own_log (told true here))) (by_itself (sym (eqb-true t.0 u here)) (told true here) (begins_anew e) refl)
           by false other = by_other (λ z. eqb-false t.0 u other (sym z)) (told false other)
 
       held_longer : Held (ts ++ t ∷ [])
@@ -185,16 +251,50 @@ module _ (L : Layout) (u k : ℕ) where
 
     held_after : (turns : List (ℕ × Event)) → All (λ t. HasKey t.1) turns → Held turns
     unfolding after_in trace_in
-    held_after = over_turns Held (of_no_walks (ordered L).state u k (WasAt []))
+    held_after = over_turns Held (of_no_walks (ordered L).state u k (WasAt []) (NotThen []))
         (λ ts t keys held. held_longer ts t (each_ordered L enough ts (all_before (λ t. HasKey t.1) ts (t ∷ []) keys)) (all_behind (λ t. HasKey t.1) ts (t ∷ []) keys 0 t (omega arith)) held)
 
 -- ---- the laws
 
+-- the layout stays
+pub layout_is : (L : Layout) → 5 ≤ L.nodes → (turns : List (ℕ × Event)) → All (λ t. HasKey t.1) turns → (after_in (ordered L) turns).state.layout ≡ L
+layout_is L enough turns keys = let o = each_ordered L enough turns keys in ap (λ (s : State). s.layout) o.leads ∙ layout_after L o.events
+
 pub any_walk_was_reached : OfEachOrderedRun AnyWalkWasReached
-any_walk_was_reached L enough turns keys u k slot parent side small walk = by ((held_after L u k enough turns keys).comes slot parent side walk)
+any_walk_was_reached L enough turns keys search u k slot parent side small walk = by ((held_after L u k enough turns keys).comes slot parent side walk)
   where
-    by : IsOnWay (after_in (ordered L) turns).state u k (WasAt L u k turns) slot → WasReachedSince (ordered L) turns u k slot
-    by way = found (way.each small [] tt some)
+    by : IsOnWay (after_in (ordered L) turns).state u k (WasAt L u k turns) (NotThen L u k turns) slot → WasReachedSince (ordered L) turns u k slot
+    by way = found (way.each shape small [] tt some)
+      where
+        shape : (after_in (ordered L) turns).state.layout.radix ≡ false
+        shape = ap (λ (K : Layout). K.radix) (layout_is L enough turns keys) ∙ search
+
+        some : slot ≢ 0
+        some z = let r = (law_of_state L enough (after_in (ordered L) turns) (each_ordered L enough turns keys)).1.tree.known u slot way.known in absurd (omega arith)
+
+        found : WasAt L u k turns slot (lasting (after_in (ordered L) turns).state.memory slot) → WasReachedSince (ordered L) turns u k slot
+        found was = record {
+          before = was.before;
+          since = was.since;
+          is_run = was.is_run;
+          pinned = was.pinned;
+          stands = was.stands;
+          reached = was.reached;
+          lies = was.lies;
+          same_birth = ap (λ (n : Lasting). n.birth) was.lasts;
+          same_key = ap (λ (n : Lasting). n.key) was.lasts;
+          same_kind = ap (λ (n : Lasting). n.leaf) was.lasts;
+        }
+
+-- in a radix tree: it was reached, or at such a moment no leaf had k, and it does not stand for k
+pub radix_walk : (L : Layout) → 5 ≤ L.nodes → (turns : List (ℕ × Event)) → All (λ t. HasKey t.1) turns → L.radix ≡ true → (u k slot parent : ℕ) (side : Side) → k < infinity_1
+    → WalkComes k (log_under_pin L turns u) slot parent side
+    → WasReachedSince (ordered L) turns u k slot ⊎ (WasSoUnderPin L turns u k false × (StandsFor (child (after_in (ordered L) turns).state.memory) (key (after_in (ordered L) turns).state.memory) slot k → ⊥))
+radix_walk L enough turns keys radix u k slot parent side small walk = by ((held_after L u k enough turns keys).comes slot parent side walk)
+  where
+    by : IsOnWay (after_in (ordered L) turns).state u k (WasAt L u k turns) (NotThen L u k turns) slot
+        → WasReachedSince (ordered L) turns u k slot ⊎ (WasSoUnderPin L turns u k false × (StandsFor (child (after_in (ordered L) turns).state.memory) (key (after_in (ordered L) turns).state.memory) slot k → ⊥))
+    by way = elim (way.radix (ap (λ (K : Layout). K.radix) (layout_is L enough turns keys) ∙ radix) small).inside [ inl each ↦ inl (found (each [] tt tt some)) | inr out ↦ inr out ]
       where
         some : slot ≢ 0
         some z = let r = (law_of_state L enough (after_in (ordered L) turns) (each_ordered L enough turns keys)).1.tree.known u slot way.known in absurd (omega arith)
@@ -213,9 +313,17 @@ any_walk_was_reached L enough turns keys u k slot parent side small walk = by ((
           same_kind = ap (λ (n : Lasting). n.leaf) was.lasts;
         }
 
+-- no walk of a radix tree is long
+pub any_walk_is_short : OfEachOrderedRun AnyWalkIsShort
+any_walk_is_short L enough turns keys radix u k slot parent side small walk = ((held_after L u k enough turns keys).short (ap (λ (K : Layout). K.radix) (layout_is L enough turns keys) ∙ radix) small slot parent side walk).most
+
+-- and each goes on from routers alone
+pub any_walk_passes_routers : OfEachOrderedRun AnyWalkPassesRouters
+any_walk_passes_routers L enough turns keys radix u k slot parent side v small walk = (held_after L u k enough turns keys).passes (ap (λ (K : Layout). K.radix) (layout_is L enough turns keys) ∙ radix) small slot parent side v walk
+
 pub any_walk_stays : OfEachOrderedRun AnyWalkStaysInOrder
-any_walk_stays L enough turns keys u k slot parent side small walk reached inner =
-    lies_onward L enough (after_in (ordered L) turns) (each_ordered L enough turns keys) k slot (((held_after L u k enough turns keys).comes slot parent side walk).onward small) reached inner
+any_walk_stays L enough turns keys search u k slot parent side small walk reached inner =
+    lies_onward L enough (after_in (ordered L) turns) (each_ordered L enough turns keys) k slot (((held_after L u k enough turns keys).comes slot parent side walk).onward (ap (λ (K : Layout). K.radix) (layout_is L enough turns keys) ∙ search) small) reached inner
 
 pub any_walk_reads : OfEachOrderedRun AnyWalkReadsKeys
 any_walk_reads L enough turns keys u k slot parent side v read = (held_after L u k enough turns keys).reads slot parent side v read

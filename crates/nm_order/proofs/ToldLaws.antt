@@ -1,6 +1,6 @@
 -- What the last entry of a log tells.
-use Rattle.std.proofs.Common.{◌≡◌, ◌≢◌, ℕ, ◌≤◌, inl, inr, true, List, [], refl, sym, ap, subst, ◌∙◌, arith}
-use Rattle.std.proofs.lemmas.Bool.{cases_lt}
+use Rattle.std.proofs.Common.{◌≡◌, ◌≢◌, ◌==◌, ℕ, ◌≤◌, inl, inr, true, List, [], refl, sym, ap, subst, ◌∙◌, arith}
+use Rattle.std.proofs.lemmas.Bool.{cases_lt, eqb-true, and_parts}
 use Rattle.nm_edge.specs.Edges.{Edge, other}
 use Rattle.nm_edge.specs.Layouts.{Layout}
 use Rattle.nm_edge.specs.declared.edge.Side.{Side}
@@ -25,8 +25,8 @@ use Rattle.nm_laws.proofs.Configurations.{allowed_by_state}
 use Rattle.nm_laws.proofs.Retired.{layout_after}
 use Rattle.nm_order.specs.Logs.{known_by}
 use Rattle.nm_order.specs.Facts.{Fact, HoldsIn, Holds, IsTrueIn}
-use Rattle.nm_order.specs.Facts.Fact.{KnowsSlot, IsTagged, IsFlagged}
-use Rattle.nm_order.specs.Told.{TellsEdge, OfEachEntry, TwinsAreToldFlagged, FlagsAreTold, FlaggedEdgesLeadHigh, EdgesStayInside, RootLeads, TagsLead, LowKeysStandHigh, FlaggedEdgesStandHigh}
+use Rattle.nm_order.specs.Facts.Fact.{KnowsSlot, KnowsLeaf, IsTagged, IsFlagged}
+use Rattle.nm_order.specs.Told.{TellsEdge, OfEachEntry, TwinsAreToldFlagged, FlagsAreTold, FlaggedEdgesLeadHigh, EdgesStayInside, RootLeads, LeavesLeadNowhere, TagsLead, LowKeysStandHigh, FlaggedEdgesStandHigh}
 use Rattle.nm_order.specs.Told.TellsEdge.{ByLook, ByLink, ByFlag, ByTag, BySplice}
 use Rattle.nm_order.proofs.OrderedLaws.{law_of_state}
 use Rattle.nm_order.proofs.Sentinels.{sentinels_of, sentinel_is_high, flags_stand_high}
@@ -129,6 +129,19 @@ root_leads L enough w log entry l e tells null = go (last_entry L enough w log e
   where
     go : LastEntry L w log entry → ⊥
     go last = (lawful_before L enough w log entry last).1.tree.second (ap (λ (y : Edge). y.slot) (sym (told_edge last.before.state.memory entry 2 Left e (is_answered L enough w log entry last) tells)) ∙ null)
+
+pub leaves_lead_nowhere : OfEachEntry LeavesLeadNowhere
+leaves_lead_nowhere L enough w log entry l x side e tells holds = go (last_entry L enough w log entry l)
+  where
+    go : LastEntry L w log entry → e.slot ≡ 0
+    go last =
+        let n = node last.before.state.memory x in
+        let null = and_parts (n.left.slot == 0) (n.right.slot == 0) (true_then L enough w log entry last (KnowsLeaf x) holds) in
+        ap (λ (y : Edge). y.slot) (told_edge last.before.state.memory entry x side e (is_answered L enough w log entry last) tells) ∙ by side null
+      where
+        by : (side : Side) → ((((node last.before.state.memory x).left.slot == 0) ≡ true) × (((node last.before.state.memory x).right.slot == 0) ≡ true)) → (edge last.before.state.memory x side).slot ≡ 0
+        by Left null = eqb-true (node last.before.state.memory x).left.slot 0 null.0
+        by Right null = eqb-true (node last.before.state.memory x).right.slot 0 null.1
 
 pub tags_lead : OfEachEntry TagsLead
 tags_lead L enough w log entry l x side e is = go (last_entry L enough w log entry l)

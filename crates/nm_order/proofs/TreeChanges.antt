@@ -1,6 +1,6 @@
 -- What an event that is allowed does to the tree: nothing that matters, one field of a private
 -- slot, a link, or a splice.
-use Rattle.std.proofs.Common.{◌≡◌, ◌≢◌, ℕ, ◌+◌, ◌<◌, List, eqb, Bool, true, false, cond, not, ◌&&◌, ◌||◌, length, refl, sym, ap, ◌∙◌, arith, get_or-set_other}
+use Rattle.std.proofs.Common.{◌≡◌, ◌≢◌, ℕ, ◌+◌, ◌<◌, ◌≤◌, List, eqb, Bool, true, false, cond, not, ◌&&◌, ◌||◌, length, refl, sym, ap, ◌∙◌, arith, get_or-set_other}
 use Rattle.std.specs.Prelude.{nat_lt}
 use Rattle.std.proofs.lemmas.Bool.{cond_both, cond-false, eqb-true, and_parts, or_parts, not-false}
 use Rattle.nm_edge.specs.Edges.{Edge, to, is_to, tagged}
@@ -37,10 +37,10 @@ use Rattle.nm_laws.proofs.KnownBirths.{written_same}
 pub data TreeChange (s : State) (h : ℕ → ℕ) (w : ℕ) (e : Event) (m : Memory) : Type 0 where
   Kept : ((x : ℕ) (d : Side) → child m x d ≡ child s.memory x d) → ((x : ℕ) → key m x ≡ key s.memory x) → TreeChange s h w e m
   Filled : (x : ℕ) → is_private (of s w) x ≡ true → Apart (child s.memory) (child m) (key s.memory) (key m) x → TreeChange s h w e m
-  Linked : (p : ℕ) (d : Side) (leaf new : ℕ) → e ≡ Link p d leaf new → edge s.memory p d ≡ to leaf → (l : Linkable (of s w) new leaf) → IsLink s.layout.nodes (picture s h) w p d leaf new l.far l.side
+  Linked : (p : ℕ) (d : Side) (leaf new : ℕ) → e ≡ Link p d leaf new → edge s.memory p d ≡ to leaf → (l : Linkable (of s w) new leaf) → IsLink s.layout.radix s.layout.nodes (picture s h) w p d leaf new l.far l.side
       → Exchanged (child s.memory) (child m) p d new → ((x : ℕ) → key m x ≡ key s.memory x) → TreeChange s h w e m
   Spliced : (a : ℕ) (d : Side) (way : List Side) → Splicing (child s.memory) (child m) a d way → child s.memory a d ≢ 0
-      → follow (child s.memory) (child s.memory a d) way ≢ 0 → ((x : ℕ) → key m x ≡ key s.memory x) → TreeChange s h w e m
+      → follow (child s.memory) (child s.memory a d) way ≢ 0 → ((x : ℕ) → key m x ≡ key s.memory x) → 6 ≤ child s.memory a d → TreeChange s h w e m
 
 -- an edge is exchanged
 exchanged_put : (m : Memory) (p : ℕ) (d : Side) (e : Edge) → p < length m.nodes → Exchanged (child m) (child (put_edge m p d e)) p d e.slot
@@ -79,18 +79,18 @@ module _ (s : State) (h : ℕ → ℕ) (law : Lawful s h) (w : ℕ) where
   pub record WonLink (p : ℕ) (d : Side) (leaf new : ℕ) : Type 0 where
     pub unmarked : edge s.memory p d ≡ to leaf
     pub drafts : Linkable (of s w) new leaf
-    pub link : IsLink s.layout.nodes (picture s h) w p d leaf new drafts.far drafts.side
+    pub link : IsLink s.layout.radix s.layout.nodes (picture s h) w p d leaf new drafts.far drafts.side
     pub exchanged : Exchanged (child s.memory) (child (put_edge s.memory p d (to new))) p d new
 
   pub won_link : (p : ℕ) (d : Side) (leaf new : ℕ) → Allowed s w (Link p d leaf new) → is_to (edge s.memory p d) leaf ≡ true → WonLink p d leaf new
   won_link p d leaf new ok won = record {
     unmarked = is_to-true (edge s.memory p d) leaf won;
     drafts = l;
-    link = link_shown s.layout.nodes s.memory (of s) h w p d leaf new c.known c.held c.leafy c.own l (is_to-true (edge s.memory p d) leaf won) law.tree;
+    link = link_shown s.layout s.layout.nodes s.memory (of s) h w p d leaf new c.known c.held c.leafy c.own l (is_to-true (edge s.memory p d) leaf won) law.tree;
     exchanged = exchanged_put s.memory p d (to new) (let r = law.tree.known w p c.known in let size = law.roomy.nodes in omega arith);
   }
     where
-      c : LinkChecked (of s w) p leaf new
+      c : LinkChecked s.layout (of s w) p leaf new
       c = link_checked s w p d leaf new ok.event
 
       l : Linkable (of s w) new leaf
@@ -140,7 +140,7 @@ module _ (s : State) (h : ℕ → ℕ) (law : Lawful s h) (w : ℕ) where
             is_slot = all.is_slot;
             frozen = all.frozen;
             exchanged = rw (← k.splice.leads) (exchanged_put s.memory a d (kept (read (of s w) p keep)) k.inside);
-          }) (first_slot s.layout.nodes (picture s h) w _ a d _ (kept (read (of s w) p keep)) law.tree k.splice) (λ z. k.splice.some (k.splice.leads ∙ z)) keys
+          }) (first_slot s.layout.nodes (picture s h) w _ a d _ (kept (read (of s w) p keep)) law.tree k.splice) (λ z. k.splice.some (k.splice.leads ∙ z)) keys k.splice.high
       by false lost keys = Kept (λ y g. refl) keys
 
   pub tree_change : (e : Event) → Allowed s w e → TreeChange s h w e (write s.memory (of s w) w e)

@@ -43,56 +43,8 @@ use Rattle.nm_order.proofs.PartWalks.{ends_in_log}
 use Rattle.nm_order.proofs.RealTime.{begins_with}
 use Rattle.nm_order.proofs.RunExchanges.{first_keys}
 use Rattle.nm_order.proofs.RunMoments.{entries, allowed_entries}
-use Rattle.nm_order.proofs.StaleRuns.{any_walk_was_reached, any_walk_reads, any_walk_knows_leaf}
+use Rattle.nm_order.proofs.WalkTells.{any_walk_tells}
 use Rattle.nm_order.proofs.WalksOfRuns.{trace_in-append, log-append}
-
--- a walk that has ended came to its leaf
-came : (k : ℕ) (log : List Entry) (slot parent : ℕ) (side : Side) (v : ℕ) → WalkEnds k log slot parent side v → WalkComes k log slot parent side
-came k log slot parent side v walk = record {
-  looks = walk.looks;
-  leads = walk.leads;
-  is_part = part_within walk.is_part walk.looks (part_grows ((Look slot Key, KeyIs v) ∷ (Look slot (EdgeOn (side_of k v)), EdgeIs walk.null) ∷ []) (part_itself walk.looks));
-}
-
--- and read its key
-read : (k : ℕ) (log : List Entry) (slot parent : ℕ) (side : Side) (v : ℕ) → WalkEnds k log slot parent side v → WalkReads k log slot parent side v
-read k log slot parent side v walk = record {
-  looks = walk.looks;
-  leads = walk.leads;
-  is_part = part_within walk.is_part (walk.looks ++ (Look slot Key, KeyIs v) ∷ [])
-      (subst (λ (l : List Entry). IsPart (walk.looks ++ (Look slot Key, KeyIs v) ∷ []) l) (append_assoc walk.looks ((Look slot Key, KeyIs v) ∷ []) ((Look slot (EdgeOn (side_of k v)), EdgeIs walk.null) ∷ []))
-      (part_grows ((Look slot (EdgeOn (side_of k v)), EdgeIs walk.null) ∷ []) (part_itself (walk.looks ++ (Look slot Key, KeyIs v) ∷ []))));
-}
-
--- ---- the answer of a walk
-
-module _ (L : Layout) (enough : 5 ≤ L.nodes) (turns : List (ℕ × Event)) (keys : All (λ t. HasKey t.1) turns) (u k slot parent : ℕ) (side : Side) (v : ℕ) (small : k < infinity_1) (walk : WalkEnds k (log_under_pin L turns u) slot parent side v) where
-  was : WasReachedSince (ordered L) turns u k slot
-  was = any_walk_was_reached L enough turns keys u k slot parent side small (came k (log_under_pin L turns u) slot parent side v walk)
-
-  ordered_then : IsOrdered L (after_in (ordered L) was.before)
-  ordered_then = each_ordered L enough was.before (first_keys was.before was.since (subst (λ (ts : List (ℕ × Event)). All (λ t. HasKey t.1) ts) was.is_run keys))
-
-  has_key : key (after_in (ordered L) was.before).state.memory slot ≡ v
-  has_key = was.same_key ∙ any_walk_reads L enough turns keys u k slot parent side v (read k (log_under_pin L turns u) slot parent side v walk)
-
-  leaf : is_leaf (node (after_in (ordered L) was.before).state.memory slot) ≡ true
-  leaf = was.same_kind ∙ leaf_is L enough (after_in (ordered L) turns) (each_ordered L enough turns keys) u slot (any_walk_knows_leaf L enough turns keys u k slot parent side v walk)
-
-  -- the one leaf in whose interval the key lay is this one
-  one_leaf : (s : InSet (after_in (ordered L) was.before).state.memory k) → slot ≡ s.slot
-  one_leaf s = one_leaf_for L enough (after_in (ordered L) was.before) ordered_then k slot s.slot was.lies
-      (subst (λ (j : ℕ). InInterval (after_in (ordered L) was.before).state.memory j s.slot) s.has_key (keys_lie L enough (after_in (ordered L) was.before) ordered_then s.slot s.reached)) was.reached.is_slot s.reached.is_slot leaf s.leaf
-
-  gives : (b : Bool) → (v == k) ≡ b → Gives (InSet (after_in (ordered L) was.before).state.memory) Has k b
-  gives true is = record { slot = slot; reached = was.reached; leaf = leaf; has_key = has_key ∙ eqb-true v k is }
-  gives false other = λ s. eqb-false v k other (sym has_key ∙ (ap (key (after_in (ordered L) was.before).state.memory) (one_leaf s) ∙ s.has_key))
-
-  tells : WasSoUnderPin L turns u k (v == k)
-  tells = record { before = was.before; since = was.since; is_run = was.is_run; pinned = was.pinned; stands = was.stands; gives = gives (v == k) refl }
-
-pub any_walk_tells : OfEachOrderedRun AnyWalkTells
-any_walk_tells L enough turns keys u k slot parent side v small walk = tells L enough turns keys u k slot parent side v small walk
 
 -- ---- while a pin stands, its worker is pinned
 

@@ -71,4 +71,4 @@ comes = record {
 
 -- so 7 was reached since that pin, with 4 in its interval
 was_reached : WasReachedSince (ordered L) turns 1 4 7
-was_reached = any_walk_was_reached L (lit≤ tt) turns (all_keys turns refl) 1 4 7 6 Left (omega arith) comes
+was_reached = any_walk_was_reached L (lit≤ tt) turns (all_keys turns refl) refl 1 4 7 6 Left (omega arith) comes

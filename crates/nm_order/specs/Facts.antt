@@ -126,13 +126,18 @@ FactsStay = (L : Layout) → 5 ≤ L.nodes → (w : ℕ) (log : List Entry) (ent
     → IsLogOf L w (log ++ entry ∷ []) → begins_anew entry ≡ false → (fact : Fact)
     → Holds L w log fact → Holds L w (log ++ entry ∷ []) fact
 
--- ---- flagged edges
+-- ---- marked edges
 
 -- a slot of which a worker knows a flagged edge is one of the pool's range: none of the fixed nodes
 -- has one
 abbrev pub FlaggedSlotsStandHigh : Type 0
 FlaggedSlotsStandHigh = (L : Layout) → 5 ≤ L.nodes → (w : ℕ) (log : List Entry) → IsLogOf L w log
     → (x to : ℕ) (side : Side) → Holds L w log (IsFlagged x side to) → 6 ≤ x
+
+-- so is one of which it knows a tagged edge, whose twin is flagged
+abbrev pub TaggedSlotsStandHigh : Type 0
+TaggedSlotsStandHigh = (L : Layout) → 5 ≤ L.nodes → (w : ℕ) (log : List Entry) → IsLogOf L w log
+    → (x to : ℕ) (side : Side) → Holds L w log (IsTagged x side to) → 6 ≤ x
 
 -- ---- the leaf that a call flagged
 

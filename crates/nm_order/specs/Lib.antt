@@ -3,6 +3,7 @@ pub mod WalksToArrivals
 pub mod FlagsOfCalls
 pub mod Moments
 pub mod StalePaths
+pub mod Ranges
 pub mod Legal
 pub mod Exchanges
 pub mod Removals

@@ -43,13 +43,13 @@ pub record WasReachedSince (c : Configuration) (turns : List (ℕ × Event)) (u 
 -- with k in its interval. The key may be any that is below the key of slot 2: each walk begins at
 -- the left edge of slot 2, and the searches for all other keys turn right at slot 1 or 2
 abbrev pub AnyWalkWasReached : Layout → List (ℕ × Event) → Type 0
-AnyWalkWasReached L turns = (u k slot parent : ℕ) (side : Side) → k < infinity_1
+AnyWalkWasReached L turns = L.radix ≡ false → (u k slot parent : ℕ) (side : Side) → k < infinity_1
     → WalkComes k (log_under_pin L turns u) slot parent side
     → WasReachedSince (ordered L) turns u k slot
 
 -- and where it is an internal node that is reached now, k is in its interval now
 abbrev pub AnyWalkStaysInOrder : Layout → List (ℕ × Event) → Type 0
-AnyWalkStaysInOrder L turns = (u k slot parent : ℕ) (side : Side) → k < infinity_1
+AnyWalkStaysInOrder L turns = L.radix ≡ false → (u k slot parent : ℕ) (side : Side) → k < infinity_1
     → WalkComes k (log_under_pin L turns u) slot parent side
     → Reached (after_in (ordered L) turns).state.memory slot
     → is_leaf (node (after_in (ordered L) turns).state.memory slot) ≡ false

@@ -17,7 +17,7 @@ use Rattle.nm_model.specs.Step.{is_frozen}
 use Rattle.nm_model.specs.Walks.{Entry}
 use Rattle.nm_order.specs.Logs.{known_by, IsLogOf}
 use Rattle.nm_order.specs.Facts.{Fact, Holds}
-use Rattle.nm_order.specs.Facts.Fact.{KnowsSlot, IsTagged, IsFlagged, IsBorn}
+use Rattle.nm_order.specs.Facts.Fact.{KnowsSlot, KnowsLeaf, IsTagged, IsFlagged, IsBorn}
 
 -- of each part of an ordered run that ends with an entry
 abbrev pub OfEachEntry : (Layout → ℕ → List Entry → Entry → Type 0) → Type 0
@@ -66,6 +66,12 @@ EdgesStayInside L w log entry =
 -- the left edge of slot 2 is never null
 abbrev pub RootLeads : Layout → ℕ → List Entry → Entry → Type 0
 RootLeads L w log entry = (e : Edge) → TellsEdge entry 2 Left e → e.slot ≢ 0
+
+-- an edge of a node that is known as a leaf is null
+abbrev pub LeavesLeadNowhere : Layout → ℕ → List Entry → Entry → Type 0
+LeavesLeadNowhere L w log entry =
+    (x : ℕ) (side : Side) (e : Edge) → TellsEdge entry x side e → Holds L w log (KnowsLeaf x)
+    → e.slot ≡ 0
 
 -- an edge that is tagged is not null
 abbrev pub TagsLead : Layout → ℕ → List Entry → Entry → Type 0

@@ -1,7 +1,7 @@
 //! Facts that stay: what a worker's log tells it under one pin, as laws over that log alone.
 ghost use Rattle.nm_order.specs.Moments.{OfEachOrderedRun};
 ghost use Rattle.nm_order.specs.OwnBirths.{OwnBirthsStand};
-ghost use Rattle.nm_order.specs.Facts.{FactsAreTrue, FactsStay, FlaggedSlotsStandHigh, LaterWalksFindTheFlag};
+ghost use Rattle.nm_order.specs.Facts.{FactsAreTrue, FactsStay, FlaggedSlotsStandHigh, LaterWalksFindTheFlag, TaggedSlotsStandHigh};
 
 /// Each fact that a worker's log holds is true of the memory, whatever the others did since it was
 /// learned: marks stand, births stand, leaves are leaves, keys are those that were read, and what
@@ -18,9 +18,10 @@ pub fn facts_stay()
 {}
 
 /// A slot of which a worker knows a flagged edge is above 5: none of the fixed nodes has a flagged
-/// edge.
-pub fn flagged_slots_stand_high()
-    ensures { FlaggedSlotsStandHigh }
+/// edge; nor has one a tagged edge.
+pub fn marked_slots_stand_high()
+    ensures flagged { FlaggedSlotsStandHigh }
+    ensures tagged { TaggedSlotsStandHigh }
 {}
 
 /// Where a walk that began after a call's won flag came to the flagged leaf, the edge by which it

@@ -1,11 +1,12 @@
 //! What the last entry of a log tells: laws over the log of one worker, of each log that ends with
 //! the entry.
-ghost use Rattle.nm_order.specs.Told.{ClaimsAreNew, CutsAreAsKnown, CutsEnterTheQueue, EdgesStayInside, FlaggedEdgesLeadHigh, FlaggedEdgesStandHigh, FlagsAreAsKnown, FlagsAreTold, FrozenChainsMayBeCut, LowKeysStandHigh, OfEachEntry, RootLeads, TagsLead, TwinsAreToldFlagged};
+ghost use Rattle.nm_order.specs.Told.{ClaimsAreNew, CutsAreAsKnown, CutsEnterTheQueue, EdgesStayInside, FlaggedEdgesLeadHigh, FlaggedEdgesStandHigh, FlagsAreAsKnown, FlagsAreTold, FrozenChainsMayBeCut, LeavesLeadNowhere, LowKeysStandHigh, OfEachEntry, RootLeads, TagsLead, TwinsAreToldFlagged};
 
 /// What an edge that is told must be: flagged where its twin is known tagged; as it was known where
 /// it is known flagged; where it is flagged, one of a slot above 5 to a slot above 5; in any case
-/// one to a slot of the layout; and not null where it is the left edge of slot 2, or was tagged. (A
-/// tag follows the flag of its twin: Natarajan and Mittal, section 3.2.)
+/// one to a slot of the layout; not null where it is the left edge of slot 2, or was tagged; and null
+/// where its node is known as a leaf. (A tag follows the flag of its twin: Natarajan and Mittal,
+/// section 3.2.)
 pub fn edges_are_told()
     ensures twins { OfEachEntry TwinsAreToldFlagged }
     ensures flags { OfEachEntry FlagsAreTold }
@@ -14,6 +15,7 @@ pub fn edges_are_told()
     ensures inside { OfEachEntry EdgesStayInside }
     ensures root { OfEachEntry RootLeads }
     ensures tags { OfEachEntry TagsLead }
+    ensures leaves { OfEachEntry LeavesLeadNowhere }
 {}
 
 /// A key below the sentinels is read at a slot above 5.

@@ -17,4 +17,6 @@ mod passes;
 #[cfg(test)]
 mod pools;
 #[cfg(test)]
+mod radix_cores;
+#[cfg(test)]
 mod reports;

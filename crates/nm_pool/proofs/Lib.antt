@@ -1,4 +1,5 @@
 pub mod Allowing
 pub mod AnyOrder
 pub mod PrivateSlots
+pub mod Looks
 pub mod Steps

@@ -1,5 +1,5 @@
 -- What claiming new nodes leaves in the log, oldest entry first.
-use Rattle.std.specs.Prelude.{◌≡◌, ℕ, ◌+◌, ◌≤◌, ◌<◌, ◌⊎◌, length, List, [], ◌∷◌, ◌++◌, Option, Some, None}
+use Rattle.std.specs.Prelude.{◌≡◌, ℕ, ◌+◌, ◌≤◌, ◌<◌, ◌⊎◌, length, List, [], ◌∷◌, ◌++◌, Option, Some, None, Result, Ok, Err}
 use Rattle.nm_edge.specs.declared.node.NodeId.{NodeId}
 use Rattle.nm_model.specs.declared.event.Event.TheVariants.{Claim, Give, Look, Fill}
 use Rattle.nm_model.specs.declared.event.Field.TheVariants.{Birth}
@@ -63,6 +63,12 @@ pub record ClaimsBetween (from to : ℕ) (old new : List Entry) (n : NodeId) : T
 abbrev pub IsClaimBetween : ℕ → ℕ → List Entry → List Entry → Option NodeId → Type 0
 IsClaimBetween from to old new (Some n) = ClaimsBetween from to old new n
 IsClaimBetween from to old new None = DoneBelow PassedOver from to old new
+
+-- what a look at a row and a try leave: a node, or each slot below another one was passed over
+abbrev pub IsTriedRow : ℕ → ℕ → List Entry → List Entry → Result NodeId ℕ → Type 0
+IsTriedRow from to old new (Ok n) = ClaimsBetween from to old new n
+IsTriedRow from to old new (Err next) =
+    (from < next) × (next ≤ to) × DoneBelow PassedOver from next old new
 
 -- ---- claims in any order
 

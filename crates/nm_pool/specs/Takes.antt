@@ -1,10 +1,11 @@
 -- What taking slots out of the pool leaves in the log, oldest entry first.
-use Rattle.std.specs.Prelude.{◌≡◌, ℕ, zero, suc, ◌+◌, ◌-◌, ◌≤◌, true, List, [], ◌∷◌, ◌++◌, Option, Some, None}
+use Rattle.std.specs.Prelude.{◌≡◌, ℕ, ◌+◌, ◌≤◌, true, List, [], ◌∷◌, ◌++◌, Option, Some, None}
 use Rattle.nm_model.specs.declared.event.Event.TheVariants.{Claim}
-use Rattle.nm_model.specs.declared.reply.Reply.TheVariants.{Claimed, Taken}
+use Rattle.nm_model.specs.declared.reply.Reply.TheVariants.{Claimed}
 use Rattle.nm_model.specs.Maps.{get}
 use Rattle.nm_model.specs.Knowledge.{Knowledge, is_private, unfilled}
 use Rattle.nm_model.specs.Walks.{Entry}
+pub use Rattle.nm_steps.specs.Rows.{Doing, DoneInTurn, DoneBelow, FoundTaken}
 
 -- nothing but private slots was learned: epochs, scans, known nodes and ledgers are as they were,
 -- and each slot that was private is so still, with what was stored there
@@ -19,24 +20,6 @@ pub record LearnsSlots (before after : Knowledge) : Type 0 where
 -- the slot is private, and nothing is stored there: it has no birth yet
 abbrev pub IsUnborn : Knowledge → ℕ → Type 0
 IsUnborn k s = get k.drafts s ≡ Some unfilled
-
--- what was done at one slot, by the log before and after it
-abbrev pub Doing : Type 1
-Doing = ℕ → List Entry → List Entry → Type 0
-
--- it was done at so many slots one after the other, from a first one upwards
-abbrev pub DoneInTurn : Doing → ℕ → ℕ → List Entry → List Entry → Type 0
-DoneInTurn Done from zero old new = new ≡ old
-DoneInTurn Done from (suc n) old new =
-    (mid : List Entry) × DoneInTurn Done from n old mid × Done (from + n) mid new
-
--- it was done at each slot from one on and below another, in this order
-abbrev pub DoneBelow : Doing → ℕ → ℕ → List Entry → List Entry → Type 0
-DoneBelow Done from to old new = DoneInTurn Done from (to - from) old new
-
--- the slot was claimed and found taken
-abbrev pub FoundTaken : Doing
-FoundTaken s old new = new ≡ old ++ (Claim s, Taken) ∷ []
 
 -- that slot was claimed in the end, and each lesser one, from the first on, was found taken
 pub record Takes (from nodes : ℕ) (old new : List Entry) (s : ℕ) : Type 0 where

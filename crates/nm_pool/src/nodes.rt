@@ -1,5 +1,5 @@
 //! Slots taken out of the pool to be new nodes, and given back.
-ghost use Rattle.std.specs.Prelude.{◌≡◌, ◌+◌, ◌*◌, ◌≤◌, ◌<◌, true, Some, length, IfSome};
+ghost use Rattle.std.specs.Prelude.{◌≡◌, ◌+◌, ◌*◌, ◌≤◌, ◌<◌, true, Some, length, IfSome, IfOk, ◌%◌, ◌-◌};
 ghost use Rattle.nm_model.specs.declared.event.Event.TheVariants.{Give};
 ghost use Rattle.nm_model.specs.declared.reply.Reply.TheVariants.{Returned};
 ghost use Rattle.nm_model.specs.Knowledge.{is_private, draft_of};
@@ -7,11 +7,14 @@ ghost use Rattle.nm_order.specs.Told.{IsNew};
 ghost use Rattle.nm_steps.specs.Rules.{knowledge};
 ghost use Rattle.nm_steps.specs.Steps.{Continues, IsInRun, IsOf, TakesStep};
 ghost use Rattle.nm_pool.specs.Takes.{LearnsSlots};
-ghost use Rattle.nm_pool.specs.Claims.{IsClaim, IsClaimBetween, IsTried, IfGot, IsNewNode};
+ghost use Rattle.nm_pool.specs.Claims.{IsClaim, IsClaimBetween, IsTried, IsTriedRow, IfGot, IsNewNode};
 
 use crate::slots::put;
 use nm_edge::{FIRST_SLOT, LAST_NUMBER, NodeId};
 use nm_steps::{Pass, Shared};
+
+/// How many slots one row of the pool tells of.
+pub(crate) const SLOTS_OF_A_ROW: u32 = 64;
 
 /// What a try of one slot answers.
 #[derive(Clone, Copy)]
@@ -51,6 +54,7 @@ pub fn claim(shared: &Shared, pass: &mut Pass) -> Option<NodeId>
 }
 
 /// The first slot from one on and below another that is found in the pool and is not worn.
+#[inline(always)]
 pub(crate) fn claim_between(shared: &Shared, pass: &mut Pass, from: u32, to: u32) -> Option<NodeId>
     requires own { IsOf shared.now pass.old }
     requires low { 5 < from }
@@ -64,12 +68,75 @@ pub(crate) fn claim_between(shared: &Shared, pass: &mut Pass, from: u32, to: u32
         (λ node. IsNew pass.old.view.layout pass.old.view.number pass.old.view.log node.slot) }
     ensures learned { LearnsSlots (knowledge pass.old.view) (knowledge pass.new.view) }
 {
-    for slot in from..to {
-        if let Tried::Got(birth) = try_slot(shared, pass, slot) {
-            return Some(NodeId { slot, birth });
+    if to <= from {
+        return None;
+    }
+    match try_row(shared, pass, from, to) {
+        Ok(node) => Some(node),
+        Err(next) => claim_by_rows(shared, pass, next, to),
+    }
+}
+
+/// The same, row by row.
+#[cold]
+#[inline(never)]
+pub(crate) fn claim_by_rows(shared: &Shared, pass: &mut Pass, from: u32, to: u32) -> Option<NodeId>
+    requires own { IsOf shared.now pass.old }
+    requires low { 5 < from }
+    requires order { from ≤ to }
+    requires high { to ≤ shared.now.layout.nodes + 1 }
+    requires run { IsInRun pass.old }
+    ensures on { Continues pass.old pass.new }
+    ensures part { IsClaimBetween from to pass.old.view.log pass.new.view.log result }
+    ensures made { IfSome result (IsNewNode (knowledge pass.new.view)) }
+    ensures new { IfSome result
+        (λ node. IsNew pass.old.view.layout pass.old.view.number pass.old.view.log node.slot) }
+    ensures learned { LearnsSlots (knowledge pass.old.view) (knowledge pass.new.view) }
+{
+    let mut slot = from;
+    while slot < to {
+        match try_row(shared, pass, slot, to) {
+            Ok(node) => return Some(node),
+            Err(next) => slot = next,
         }
     }
     None
+}
+
+/// Looks at a slot's row of the pool: passes over the slots that it shows to be taken, all at one
+/// moment, and tries the first that it shows to be there. `Err`: the slot to look on from.
+#[inline(always)]
+fn try_row(shared: &Shared, pass: &mut Pass, from: u32, to: u32) -> Result<NodeId, u32>
+    requires own { IsOf shared.now pass.old }
+    requires low { 5 < from }
+    requires order { from < to }
+    requires high { to ≤ shared.now.layout.nodes + 1 }
+    ensures on { Continues pass.old pass.new }
+    ensures part { IsTriedRow from to pass.old.view.log pass.new.view.log result }
+    ensures made { IfOk result (IsNewNode (knowledge pass.new.view)) }
+    ensures new { IfOk result
+        (λ node. IsNew pass.old.view.layout pass.old.view.number pass.old.view.log node.slot) }
+    ensures learned { LearnsSlots (knowledge pass.old.view) (knowledge pass.new.view) }
+{
+    let most = (to - from).min(left_in_row(from));
+    let shown = shared.pass_row(pass, from, most);
+    if shown == from + most {
+        return Err(shown);
+    }
+    if let Tried::Got(birth) = try_slot(shared, pass, shown) {
+        return Ok(NodeId { slot: shown, birth });
+    }
+    Err(shown + 1)
+}
+
+/// How many slots there are from this one to the end of its row.
+fn left_in_row(slot: u32) -> u32
+    requires { 1 ≤ slot }
+    ensures some { 1 ≤ result }
+    ensures few { result ≤ SLOTS_OF_A_ROW }
+    ensures row { (slot - 1) % 64 + result ≡ 64 }
+{
+    SLOTS_OF_A_ROW - (slot - 1) % SLOTS_OF_A_ROW
 }
 
 /// Gives a private node back to the pool, in one step. Its birth stays, so that the slot's next

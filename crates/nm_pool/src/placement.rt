@@ -1,78 +1,24 @@
 //! Where a worker looks for a free slot.
-ghost use Rattle.std.specs.Prelude.{◌≡◌, ◌+◌, ◌*◌, ◌≤◌, ◌<◌, length, List, None, IfSome};
-ghost use Rattle.nm_model.specs.Walks.{Entry};
+ghost use Rattle.std.specs.Prelude.{◌≡◌, ◌+◌, ◌*◌, ◌≤◌, ◌<◌, length, IfSome};
 ghost use Rattle.nm_order.specs.Told.{IsNew};
 ghost use Rattle.nm_steps.specs.Rules.{knowledge};
-ghost use Rattle.nm_steps.specs.Steps.{Continues, IsInRun, IsOf};
-ghost use Rattle.nm_pool.specs.Claims.{IsClaimBy, IsClaimOfFew, IsNearClaim, IsNewNode};
+ghost use Rattle.nm_steps.specs.Steps.{Continues, IsOf};
+ghost use Rattle.nm_pool.specs.Claims.{IsClaimBy, IsNearClaim, IsNewNode};
 ghost use Rattle.nm_pool.specs.Takes.{LearnsSlots};
 
-use crate::nodes::{Tried, claim, claim_between, try_slot};
+use crate::nodes::{SLOTS_OF_A_ROW, claim, claim_between, claim_by_rows};
 use nm_edge::{FIRST_SLOT, NodeId};
 use nm_steps::{Pass, Shared};
 use std::marker::Model;
-
-/// How many slots one row of the pool tells of.
-const SLOTS_OF_A_ROW: u32 = 64;
 
 /// In which order a worker tries the slots of the pool.
 #[derive(Clone, Copy, Debug, PartialEq, Eq)]
 pub enum Fit {
     /// From slot 6 upwards at each claim: first fit.
     Lowest,
-    /// First the lowest slot that a peek at the pool shows in one row of 64 slots, that of the slot
-    /// which the worker gave back last or, since then, found further on; then from there upwards,
-    /// and round, beginning where a peek shows a slot: next fit.
+    /// From the first slot of a row of 64 upwards, and round: the row of the slot which the worker
+    /// gave back last or, since then, found: next fit.
     Near,
-}
-
-/// The lowest slot that a peek at the row of this one shows to be there; 0 where it shows none, or
-/// the pool has no such row.
-#[inline(always)]
-fn shown_beside(shared: &Shared, slot: u32) -> u32 {
-    if slot == 0 || shared.layout().nodes() < slot {
-        return 0;
-    }
-    let row = shared.peek_row(slot);
-    if row == 0 {
-        return 0;
-    }
-    slot - (slot - 1) % SLOTS_OF_A_ROW + row.trailing_zeros()
-}
-
-/// The first slot from this one upwards, and round, that a peek at the pool's rows shows to be
-/// there; this one where none shows any. So a claim in a pool that is nearly dry passes the rows
-/// that are empty at a look each. What a peek shows may be otherwise at the claim, which tells.
-fn shown_from(shared: &Shared, first: u32) -> u32
-    requires low { 5 < first }
-    requires high { first ≤ shared.now.layout.nodes }
-    ensures low { 5 < result }
-    ensures high { result ≤ shared.now.layout.nodes }
-{
-    let nodes = shared.layout().nodes();
-    let mut slot = first;
-    for _row in 0..nodes / SLOTS_OF_A_ROW + 2 {
-        let left = left_in_row(slot);
-        let ahead = (shared.peek_row(slot) >> (SLOTS_OF_A_ROW - left)).trailing_zeros();
-        if ahead < left && ahead <= nodes - slot {
-            return slot + ahead;
-        }
-        slot = if left <= nodes - slot {
-            slot + left
-        } else {
-            FIRST_SLOT
-        };
-    }
-    first
-}
-
-/// How many slots there are from this one to the end of its row.
-fn left_in_row(slot: u32) -> u32
-    requires { 1 ≤ slot }
-    ensures some { 1 ≤ result }
-    ensures few { result ≤ SLOTS_OF_A_ROW }
-{
-    SLOTS_OF_A_ROW - (slot - 1) % SLOTS_OF_A_ROW
 }
 
 /// Where one worker looks for a free slot; contracts see which fit it is. It may look beside any
@@ -118,14 +64,14 @@ impl Placement {
         self.cursor = slot;
     }
 
-    /// The slot from which to look on, of those from 6 to `nodes`.
+    /// The slot from which to look on, of those from 6 to `nodes`: the first of the cursor's row.
     fn first(&self, nodes: u32) -> u32
         requires { FIRST_SLOT ≤ nodes }
         ensures low { 5 < result }
         ensures high { result ≤ nodes }
     {
         if FIRST_SLOT <= self.cursor && self.cursor <= nodes {
-            self.cursor
+            (self.cursor - (self.cursor - 1) % SLOTS_OF_A_ROW).max(FIRST_SLOT)
         } else {
             FIRST_SLOT
         }
@@ -158,8 +104,8 @@ pub fn claim_by(shared: &Shared, pass: &mut Pass, placement: &mut Placement) -> 
     }
 }
 
-/// The slot that a peek shows in the cursor's row, or else the first that is found from the cursor
-/// upwards, and round.
+/// The first slot that is found from the cursor's row upwards, and round; the cursor stands there
+/// from then on.
 #[inline(always)]
 fn claim_near(shared: &Shared, pass: &mut Pass, placement: &mut Placement) -> Option<NodeId>
     requires { IsOf shared.now pass.old }
@@ -172,62 +118,15 @@ fn claim_near(shared: &Shared, pass: &mut Pass, placement: &mut Placement) -> Op
     ensures fit { placement.new ≡ placement.old }
 {
     pass.is_of_a_run();
-    let shown = shown_beside(shared, placement.cursor);
-    if let Some(node) = try_hint(shared, pass, shown) {
-        return Some(node);
-    }
-    claim_onward(shared, pass, placement)
-}
-
-/// The first slot that is found from the cursor upwards, and round, where none is shown in its row;
-/// the cursor stands there from then on. Behind a hint that came to nothing it makes up a near
-/// claim.
-#[cold]
-#[inline(never)]
-fn claim_onward(shared: &Shared, pass: &mut Pass, placement: &mut Placement) -> Option<NodeId>
-    requires own { IsOf shared.now pass.old }
-    requires run { IsInRun pass.old }
-    ensures on { Continues pass.old pass.new }
-    ensures part { (old : List Entry)
-        → IsClaimOfFew 1 shared.now.layout.nodes old pass.old.view.log None
-        → IsNearClaim shared.now.layout.nodes old pass.new.view.log result }
-    ensures made { IfSome result (IsNewNode (knowledge pass.new.view)) }
-    ensures new { IfSome result
-        (λ node. IsNew pass.old.view.layout pass.old.view.number pass.old.view.log node.slot) }
-    ensures learned { LearnsSlots (knowledge pass.old.view) (knowledge pass.new.view) }
-    ensures fit { placement.new ≡ placement.old }
-{
     let nodes = shared.layout().nodes();
-    let first = shown_from(shared, placement.first(nodes));
+    let first = placement.first(nodes);
     if let Some(node) = claim_between(shared, pass, first, nodes + 1) {
         placement.cursor = node.slot;
         return Some(node);
     }
-    let Some(node) = claim_between(shared, pass, FIRST_SLOT, first) else {
+    let Some(node) = claim_by_rows(shared, pass, FIRST_SLOT, first) else {
         return None;
     };
     placement.cursor = node.slot;
     Some(node)
-}
-
-/// Tries one slot, if the pool has such a one.
-#[inline(always)]
-fn try_hint(shared: &Shared, pass: &mut Pass, slot: u32) -> Option<NodeId>
-    requires own { IsOf shared.now pass.old }
-    requires run { IsInRun pass.old }
-    ensures on { Continues pass.old pass.new }
-    ensures part { IsClaimOfFew 1 shared.now.layout.nodes pass.old.view.log pass.new.view.log
-        result }
-    ensures made { IfSome result (IsNewNode (knowledge pass.new.view)) }
-    ensures new { IfSome result
-        (λ node. IsNew pass.old.view.layout pass.old.view.number pass.old.view.log node.slot) }
-    ensures learned { LearnsSlots (knowledge pass.old.view) (knowledge pass.new.view) }
-{
-    if slot < FIRST_SLOT || shared.layout().nodes() < slot {
-        return None;
-    }
-    if let Tried::Got(birth) = try_slot(shared, pass, slot) {
-        return Some(NodeId { slot, birth });
-    }
-    None
 }

@@ -190,10 +190,13 @@ limits_give : (command : Command) (given version : List ℕ) → Gives reason.He
 limits_give command given version =
     elim (cases_Bool (bytes_eq given (command_word command))) [
       | inl y ↦ elim (cases_Bool (bytes_eq version (codes "1"))) [
-        | inl first ↦ inr (record { nodes = 65536; workers = 32; may_resign = false }, rw (y, first) refl)
+        | inl first ↦ inr (record { nodes = 65536; workers = 32; may_resign = false; is_radix = false }, rw (y, first) refl)
         | inr not_first ↦ elim (cases_Bool (bytes_eq version (codes "2"))) [
-          | inl second ↦ inr (record { nodes = 1048576; workers = 64; may_resign = is_serial command }, rw (y, not_first, second) refl)
-          | inr none ↦ inl (rw (y, not_first, none) refl)
+          | inl second ↦ inr (record { nodes = 1048576; workers = 64; may_resign = is_serial command; is_radix = false }, rw (y, not_first, second) refl)
+          | inr not_second ↦ elim (cases_Bool (bytes_eq version (codes "3"))) [
+            | inl third ↦ inr (record { nodes = 1048576; workers = 64; may_resign = is_serial command; is_radix = true }, rw (y, not_first, not_second, third) refl)
+            | inr none ↦ inl (rw (y, not_first, not_second, none) refl)
+          ]
         ]
       ]
       | inr n ↦ inl (rw n refl)

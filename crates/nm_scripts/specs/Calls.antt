@@ -32,7 +32,7 @@ call_kinds = Has ∷ Insert ∷ Delete ∷ Finish ∷ Pin ∷ Unpin ∷ Advance 
 abbrev pub call_named : List ℕ → Result Kind Reason
 call_named given = ok_or (find (λ kind. bytes_eq given (call_word kind)) call_kinds) reason.Kind
 
--- a file may have lines of this kind: of resigning, in version 2 of `serial` alone
+-- a file may have lines of this kind: of resigning, in versions 2 and 3 of `serial` alone
 abbrev pub allowed : Bool → Kind → Result Kind Reason
 allowed false Resign = Err reason.Kind
 allowed may_resign kind = Ok kind

@@ -6,7 +6,7 @@ use Rattle.nm_edge.specs.Layouts.{dense}
 use Rattle.nm_files.specs.declared.fault.Reason.{Reason}
 use Rattle.nm_files.specs.declared.fault.Reason.TheVariants as reason
 use Rattle.nm_files.specs.Chain.{◌>>=◌}
-use Rattle.nm_files.specs.Headers.{count}
+use Rattle.nm_files.specs.Headers.{count, shaped}
 use Rattle.nm_model.specs.Step.{outside}
 use Rattle.nm_scripts.specs.declared.header.Command.{Command}
 use Rattle.nm_scripts.specs.declared.header.Command.TheVariants.{Serial, Stress}
@@ -23,16 +23,29 @@ abbrev pub is_serial : Command → Bool
 is_serial Serial = true
 is_serial Stress = false
 
--- the sizes that a version of the format allows, and whether its workers may resign
+-- the sizes that a version of the format allows, whether its workers may resign, and whether its
+-- tree is a radix tree
 abbrev pub script_limits_by : Command → List ℕ → Result Limits Reason
 script_limits_by command version =
     if bytes_eq version (codes "1")
-    then Ok (record { nodes = 65536; workers = 32; may_resign = false })
+    then Ok (record { nodes = 65536; workers = 32; may_resign = false; is_radix = false })
     else if bytes_eq version (codes "2")
-    then Ok (record { nodes = 1048576; workers = 64; may_resign = is_serial command })
+    then Ok (record {
+      nodes = 1048576;
+      workers = 64;
+      may_resign = is_serial command;
+      is_radix = false;
+    })
+    else if bytes_eq version (codes "3")
+    then Ok (record {
+      nodes = 1048576;
+      workers = 64;
+      may_resign = is_serial command;
+      is_radix = true;
+    })
     else Err reason.Header
 
--- what a version of the command's format allows: the sizes, and whether its workers may resign
+-- what a version of the command's format allows
 abbrev pub script_limits_of : Command → List ℕ → List ℕ → Result Limits Reason
 script_limits_of command given version =
     if bytes_eq given (command_word command) then script_limits_by command version
@@ -44,7 +57,11 @@ script_header_within limits nodes workers tries =
     if outside 7 limits.nodes nodes then Err reason.Nodes
     else if outside 1 limits.workers workers then Err reason.Workers
     else if outside 1 1000000 tries then Err reason.Tries
-    else Ok (record { layout = dense nodes workers; tries = tries; may_resign = limits.may_resign })
+    else Ok (record {
+      layout = shaped limits.is_radix (dense nodes workers);
+      tries = tries;
+      may_resign = limits.may_resign;
+    })
 
 unfoldable pub script_header_by : Limits → List ℕ → List ℕ → List ℕ → Result Header Reason
 script_header_by limits nodes workers tries = do

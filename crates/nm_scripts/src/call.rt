@@ -38,8 +38,8 @@ pub enum Kind {
     Resign,
 }
 
-/// The kinds that a line of a script may have. The last one, `resign`, stands in files of version 2
-/// of `serial` alone.
+/// The kinds that a line of a script may have. The last one, `resign`, stands in files of versions
+/// 2 and 3 of `serial` alone.
 const KINDS: [Kind; 9] = [
     Kind::Has,
     Kind::Insert,

@@ -5,7 +5,7 @@ ghost use Rattle.nm_scripts.specs.Headers as spec;
 
 use nm_edge::{LEAST_NODES, Layout, LayoutError, MOST_NODES, MOST_WORKERS};
 use nm_files::fault::Reason;
-use nm_files::header::count;
+use nm_files::header::{count, shaped};
 
 /// As many tries as a call may have.
 const MOST_TRIES: u32 = 1_000_000;
@@ -31,18 +31,20 @@ impl Command {
     }
 }
 
-/// The sizes that a version of the format allows, and whether its workers may resign.
+/// The sizes that a version of the format allows, whether its workers may resign, and whether its
+/// tree is a radix tree.
 #[derive(Clone, Copy, Debug, PartialEq, Eq)]
 pub struct Limits {
     pub nodes: u32,
     pub workers: u32,
     pub may_resign: bool,
+    pub is_radix: bool,
 }
 
 /// What the first line of a script says.
 #[derive(Clone, Copy, Debug, PartialEq, Eq)]
 pub struct Header {
-    /// How many nodes and workers the tree is for.
+    /// How many nodes and workers the tree is for, and its shape.
     pub layout: Layout,
     /// How many tries each call has that takes tries, 1 to 1,000,000.
     pub tries: u32,
@@ -60,8 +62,26 @@ fn is_serial(command: Command) -> bool
     }
 }
 
-/// The limits of a version of the format: of 1, 65,536 nodes and 32 workers; of 2, as many as a
-/// layout can have. In version 2 of `serial` workers may resign.
+/// As many nodes and workers as a layout can have. Workers of `serial` may resign.
+fn greatest(command: Command, is_radix: bool) -> Limits
+    ensures { result ≡ record {
+      nodes = MOST_NODES;
+      workers = MOST_WORKERS;
+      may_resign = spec.is_serial command;
+      is_radix = is_radix;
+    } }
+{
+    Limits {
+        nodes: MOST_NODES,
+        workers: MOST_WORKERS,
+        may_resign: is_serial(command),
+        is_radix,
+    }
+}
+
+/// The limits of a version of the format: of 1, 65,536 nodes and 32 workers; of 2 and 3, as many as a
+/// layout can have. In versions 2 and 3 of `serial` workers may resign, and the tree of 3 is a radix
+/// tree.
 fn limits_by(command: Command, version: &[u8]) -> Result<Limits, Reason>
     ensures limits { result ≡ spec.script_limits_by command version.now }
     ensures stress { IfOk result (λ limits. SerialAlone command limits.may_resign) }
@@ -73,13 +93,12 @@ fn limits_by(command: Command, version: &[u8]) -> Result<Limits, Reason>
             nodes: 65_536,
             workers: 32,
             may_resign: false,
+            is_radix: false,
         })
     } else if version == b"2".as_slice() {
-        Ok(Limits {
-            nodes: MOST_NODES,
-            workers: MOST_WORKERS,
-            may_resign: is_serial(command),
-        })
+        Ok(greatest(command, false))
+    } else if version == b"3".as_slice() {
+        Ok(greatest(command, true))
     } else {
         Err(Reason::Header)
     }
@@ -116,7 +135,7 @@ fn header_within(limits: Limits, nodes: u64, workers: u64, tries: u64) -> Result
     }
     match Layout::new(nodes as u32, workers as u32) {
         Ok(layout) => Ok(Header {
-            layout,
+            layout: shaped(layout, limits.is_radix),
             tries: tries as u32,
             may_resign: limits.may_resign,
         }),

@@ -46,9 +46,9 @@ pub closed_is_told : (b : Board) (ws : List Hand) (queues : List HeldQueue) (key
 closed_is_told b ws queues keys free reached cs closed all counted =
     all_are_told ws 0 cs (λ k d lt.
     let below : k < b.layout.workers = omega (arith, lt, all) in
-    let same = closed.all in
-    let has : HasOrigin (0 + k) queues = from_has 0 queues closed.each (0 + k) (omega arith) (omega (arith, below, same)) in
-    let merged : HasOrigin (0 + k) (all_merged ws) = subst (λ (hs : List HeldQueue). HasOrigin (0 + k) hs) closed.merged has in
+    let same = closed.says.all in
+    let has : HasOrigin (0 + k) queues = from_has 0 queues closed.says.each (0 + k) (omega arith) (omega (arith, below, same)) in
+    let merged : HasOrigin (0 + k) (all_merged ws) = subst (λ (hs : List HeldQueue). HasOrigin (0 + k) hs) closed.says.merged has in
     let zero-more : 0 + k ≡ k = omega arith in
     let counted' : IsCountedByHolder (0 + k) ws (slice_index_or cs k d) = subst (λ n. IsCountedByHolder n ws (slice_index_or cs k d)) (sym zero-more) (counted k d below) in
     counted_is_told (0 + k) ws (slice_index_or cs k d) counted' (one_has (0 + k) ws merged))

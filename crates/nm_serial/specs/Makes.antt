@@ -65,10 +65,10 @@ HasCollected w z a = KeepsPlace w z
 -- a call that is its worker's alone, with so many tries: as the call of the set does, by what it
 -- answers
 abbrev pub HasMade : Board → ℕ → Call → Hand → Hand → Answer → Type 0
-HasMade b tries (Has k) w z a = HasSearched (HasAnswered b.layout.nodes tries k w z) w z a
-HasMade b tries (Insert k) w z a = HasSearched (HasInserted b.layout.nodes tries k w z) w z a
-HasMade b tries (Delete k) w z a = HasSearched (HasDeleted b.layout.nodes tries k w z) w z a
-HasMade b tries Finish w z a = HasAnsweredCall (HasFinished b.layout.nodes tries w z) a
+HasMade b tries (Has k) w z a = HasSearched (HasAnswered b.layout tries k w z) w z a
+HasMade b tries (Insert k) w z a = HasSearched (HasInserted b.layout tries k w z) w z a
+HasMade b tries (Delete k) w z a = HasSearched (HasDeleted b.layout tries k w z) w z a
+HasMade b tries Finish w z a = HasAnsweredCall (HasFinished b.layout tries w z) a
 HasMade b tries Pin w z a = HasHeld tries w z a
 HasMade b tries Unpin w z a = HasUnpinned w z a
 HasMade b tries Move w z a = HasMoved b.layout.workers w z a

@@ -16,7 +16,7 @@ fn has(tree: &Tree, worker: &mut Worker, key: Key, tries: u32) -> Option<Answer>
     ensures number { worker.new.pass.view.number ≡ worker.old.pass.view.number }
     ensures queues { length worker.new.queues ≡ length worker.old.queues }
     ensures did { IfSome result
-        (HasSearched (HasAnswered tree.now.layout.nodes tries key worker.old worker.new) worker.old
+        (HasSearched (HasAnswered tree.now.layout tries key worker.old worker.new) worker.old
         worker.new) }
 {
     if worker.held().is_some() {
@@ -33,7 +33,7 @@ fn insert(tree: &Tree, worker: &mut Worker, key: Key, tries: u32) -> Option<Answ
     ensures number { worker.new.pass.view.number ≡ worker.old.pass.view.number }
     ensures queues { length worker.new.queues ≡ length worker.old.queues }
     ensures did { IfSome result
-        (HasSearched (HasInserted tree.now.layout.nodes tries key worker.old worker.new) worker.old
+        (HasSearched (HasInserted tree.now.layout tries key worker.old worker.new) worker.old
         worker.new) }
 {
     if worker.held().is_some() {
@@ -50,7 +50,7 @@ fn delete(tree: &Tree, worker: &mut Worker, key: Key, tries: u32) -> Option<Answ
     ensures number { worker.new.pass.view.number ≡ worker.old.pass.view.number }
     ensures queues { length worker.new.queues ≡ length worker.old.queues }
     ensures did { IfSome result
-        (HasSearched (HasDeleted tree.now.layout.nodes tries key worker.old worker.new) worker.old
+        (HasSearched (HasDeleted tree.now.layout tries key worker.old worker.new) worker.old
         worker.new) }
 {
     if worker.held().is_some() {

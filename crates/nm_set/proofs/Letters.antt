@@ -1,16 +1,13 @@
 -- Letters: what a worker tells of itself, and what a reader's note tells on.
 use Rattle.std.proofs.Common.{◌≡◌, ◌∙◌, ℕ, List, sym, ap, subst}
-use Rattle.nm_edge.specs.Layouts.{Layout}
-use Rattle.nm_model.specs.declared.event.Event.{Event}
+use Rattle.nm_model.specs.declared.trace.Turn.{Turn}
 use Rattle.nm_model.specs.Walks.{Entry}
-use Rattle.nm_model.specs.Ordered.{ordered, trace_in}
-use Rattle.nm_order.specs.Logs.{part_of}
 use Rattle.nm_steps.specs.Rules.{Extends}
 use Rattle.nm_steps.specs.Steps.{Board, Notice, Stand, IsOf, HasSeen, HasHeard, HasSeenAllOf}
 use Rattle.nm_steps.proofs.Growing.{goes_on_itself, goes_on_through}
 use Rattle.nm_calls.specs.Won.{capped, won_links, won_flags}
 use Rattle.nm_tree.specs.declared.worker.Counts.{Counts}
-use Rattle.nm_tree.specs.Workers.{Hand, IsBetweenCalls, IsLedger}
+use Rattle.nm_tree.specs.Workers.{Hand, IsLedger}
 use Rattle.nm_tree.proofs.Changing.{log_of_own}
 use Rattle.nm_set.specs.declared.posting.Posted.{Posted}
 use Rattle.nm_set.specs.Posts.{HasTally, ComesBehind, HasHeardOf, IsLetter}
@@ -23,25 +20,22 @@ tally p c l = record {
 }
 
 -- so what it has seen comes behind that
-pub behind_itself : (b : Board) (p : Stand) (t : Posted) → IsOf b p → HasSeen p.view → HasTally t p.view.log → ComesBehind b p.view.number t p.view.past
-behind_itself b p t of seen has =
-    let layout : (L : Layout) → p.view.layout ≡ L → p.view.log ≡ part_of p.view.number (trace_in (ordered L) p.view.past) =
-    λ L is. subst (λ (M : Layout). p.view.log ≡ part_of p.view.number (trace_in (ordered M) p.view.past)) is (sym seen.is_part) in
-    record {
-      before = p.view.past;
-      goes_on = goes_on_itself p.view.past;
-      tally = subst (λ (log : List Entry). HasTally t log) (layout b.layout of.layout) has;
-    }
+pub behind_itself : (p : Stand) (t : Posted) → HasSeen p.view → HasTally t p.view.log → ComesBehind p.view.number t p.view.past
+behind_itself p t seen has = record {
+  before = p.view.past;
+  goes_on = goes_on_itself p.view.past;
+  tally = subst (λ (log : List Entry). HasTally t log) (sym seen.is_part) has;
+}
 
 -- and what goes on from what comes behind it does too
-pub behind_still : (b : Board) (i : ℕ) (t : Posted) (later seen : List (ℕ × Event)) → Extends later seen → ComesBehind b i t seen → ComesBehind b i t later
-behind_still b i t later seen on c = record { before = c.before; goes_on = goes_on_through later seen c.before on c.goes_on; tally = c.tally }
+pub behind_still : (i : ℕ) (t : Posted) (later seen : List Turn) → Extends later seen → ComesBehind i t seen → ComesBehind i t later
+behind_still i t later seen on c = record { before = c.before; goes_on = goes_on_through later seen c.before on c.goes_on; tally = c.tally }
 
 -- the note of a worker on its own post, which is one of its tree
 pub own_letter : (b d : Board) (p : Stand) (i : ℕ) (t : Posted) (n : Notice) → d ≡ b → IsOf b p → HasSeen p.view → HasTally t p.view.log → i ≡ p.view.number
     → n ≡ record { table = p.table; past = p.view.past } → IsLetter d i t n
 own_letter b d p i t n at of seen has number is =
-    let told : ComesBehind b i t p.view.past = subst (λ (k : ℕ). ComesBehind b k t p.view.past) (sym number) (behind_itself b p t of seen has) in
+    let told : ComesBehind i t p.view.past = subst (λ (k : ℕ). ComesBehind k t p.view.past) (sym number) (behind_itself p t seen has) in
     let letter : IsLetter b i t n = subst (λ (m : Notice). IsLetter b i t m) (sym is) (record { table = of.table; told = told }) in
     subst (λ (x : Board). IsLetter x i t n) (sym at) letter
 
@@ -50,15 +44,14 @@ pub same_letter : (b d : Board) (p : Stand) (i : ℕ) (t : Posted) (heard n : No
     → n ≡ record { table = p.table; past = p.view.past } → IsLetter d i t n
 same_letter b d p i t heard n at of letter on is =
     let table : p.table ≡ d.table = of.table ∙ ap (λ (x : Board). x.table) (sym at) in
-    subst (λ (m : Notice). IsLetter d i t m) (sym is) (record { table = table; told = behind_still d i t p.view.past heard.past on letter.told })
+    subst (λ (m : Notice). IsLetter d i t m) (sym is) (record { table = table; told = behind_still i t p.view.past heard.past on letter.told })
 
 -- what a worker has that has heard it
 pub heard_of : (b d : Board) (i : ℕ) (t : Posted) (w z : Hand) (heard : Notice) → d ≡ b → IsLetter d i t heard → HasHeard w.pass z.pass → HasSeenAllOf z.pass w.pass
-    → Extends z.pass.view.past heard.past → z ≡ record w { pass = z.pass } → IsBetweenCalls z → HasHeardOf b i t w z
-heard_of b d i t w z heard at letter same past on rest between = record {
+    → Extends z.pass.view.past heard.past → z ≡ record w { pass = z.pass } → HasHeardOf b i t w z
+heard_of b d i t w z heard at letter same past on rest = record {
   same = same;
   past = past;
-  told = subst (λ (x : Board). ComesBehind x i t z.pass.view.past) at (behind_still d i t z.pass.view.past heard.past on letter.told);
+  told = behind_still i t z.pass.view.past heard.past on letter.told;
   rest = rest;
-  between = between;
 }

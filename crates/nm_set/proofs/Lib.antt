@@ -1,6 +1,10 @@
--- Lemmas on the seats of a tree, the end of a set and what may cross threads.
+-- Lemmas on the seats of a tree, workers that go home, the end of a set and what may cross threads.
 pub mod SeatLists
+pub mod NewMembers
 pub mod SetEnds
 pub mod Letters
+pub mod LettingGo
 pub mod Sending
 pub mod Tending
+pub mod Disturbances
+pub mod PopRounds

@@ -1,11 +1,11 @@
 -- What tended calls leave, by what each part of them leaves.
-use Rattle.std.proofs.Common.{◌≡◌, ◌≤◌, ◌⊎◌, inl, inr, true≢false, ℕ, zero, suc, ◌+◌, ◌-◌, ◌*◌, Bool, true, false, List, [], ◌∷◌, length, refl, sym, ap, subst, ◌∙◌, arith}
+use Rattle.std.proofs.Common.{◌≡◌, ◌≤◌, ◌⊎◌, inl, inr, true≢false, ℕ, zero, suc, ◌+◌, ◌-◌, ◌*◌, Bool, true, false, List, [], ◌∷◌, ◌++◌, append_assoc, length, refl, sym, ap, subst, ◌∙◌, arith}
 use Rattle.std.specs.Prelude.{drop, unwrap_or, Option, Some, None, IsSome, Result, Ok, Err, IfOk, is_ok}
 use Rattle.std.proofs.Math.Nat.{suc-mul, add-mul, mul-le-mul_right}
 use Rattle.std.proofs.lemmas.List.{drop-drop, length-append}
 use Rattle.nm_edge.specs.declared.node.NodeId.{NodeId}
 use Rattle.nm_edge.specs.Layouts.{Layout}
-use Rattle.nm_model.specs.declared.event.Event.{Event}
+use Rattle.nm_model.specs.declared.trace.Turn.{Turn}
 use Rattle.nm_model.specs.declared.event.Op.{Op}
 use Rattle.nm_model.specs.declared.event.Op.TheVariants.{Has, Insert, Delete}
 use Rattle.nm_model.specs.Searches.{Search}
@@ -18,24 +18,27 @@ use Rattle.nm_epoch.specs.declared.collecting.Entry.{Entry}
 use Rattle.nm_epoch.specs.declared.collecting.HeldQueue.{HeldQueue}
 use Rattle.nm_epoch.specs.Collecting.{is_ripe, ripe_of, HaveLost}
 use Rattle.nm_epoch.specs.Resting.{epochs, search}
+use Rattle.nm_theorem.specs.Histories.{call_begun, answer_turn}
+use Rattle.nm_calls.specs.Bounds.{reach}
 use Rattle.nm_calls.specs.Moments.{AnswerHasMoment, HadNoCall}
 use Rattle.nm_calls.specs.Won.{HasWon}
 use Rattle.nm_tree.specs.declared.fault.Fault.{Fault as Lost}
 use Rattle.nm_tree.specs.declared.fault.Fault.TheVariants as call
 use Rattle.nm_calls.specs.declared.deleting.Unfinished.{Unfinished}
-use Rattle.nm_tree.specs.Workers.{Hand, IsAs, IsBetweenCalls, KeepsOtherQueues}
+use Rattle.nm_tree.specs.Workers.{Hand, IsIdle, KeepsOtherQueues}
 use Rattle.nm_tree.specs.Answers.{links_won, flags_won}
 use Rattle.nm_tree.proofs.Quiet.{Quiet, advanced, collected}
+use Rattle.nm_tree.proofs.Taking.{moment_since}
 use Rattle.nm_set.specs.declared.fault.Fault.{Fault}
 use Rattle.nm_set.specs.declared.fault.Fault.TheVariants as fault
 use Rattle.nm_set.specs.declared.tended.Habit.{Habit}
 use Rattle.nm_tree.specs.Calls.{LeavesHas, LeavesInsert, LeavesDelete, LeavesFinish, LeavesAdvance, LeavesCollect}
 use Rattle.nm_set.specs.Asked.{Asked}
-use Rattle.nm_set.specs.Tended.{OnlyLoses, OthersOnlyLose, GoesOnTended, InARow, IsAsked, busy, Looks, Inserts, Deletes, FinishesPending, IsRelieved, IsTidied, InsertsOn, of_finish, DeletesOn, IsLeft, links_told_by, flags_told_by, round_bound, Tends}
+use Rattle.nm_set.specs.Tended.{OnlyLoses, OthersOnlyLose, GoesOnTended, InARow, IsAsked, busy, Looks, Inserts, Deletes, FinishesPending, IsRelieved, IsTidied, InsertsOn, of_finish, DeletesOn, IsLeft, links_told_by, flags_told_by, round_bound, Tends, HasTended, UnlessHeld, SaysTended}
 use Rattle.std.specs.List.{prefix_len}
 
 -- nothing is not there
-none_there : {A B : Type 0} (x : Option A) → x ≡ None → IsSome x → B
+pub none_there : {A B : Type 0} (x : Option A) → x ≡ None → IsSome x → B
 none_there x e is = absurd (true≢false (sym (subst IsSome e is)))
 
 -- an answer is no fault
@@ -77,20 +80,20 @@ lose_by_collect o epoch [] (g ∷ gs) a = absurd a
 lose_by_collect o epoch (h ∷ hs) [] a = absurd a
 lose_by_collect o epoch (h ∷ hs) (g ∷ gs) a = (a.0, inr (prefix_len (is_ripe epoch) h.queue.items, a.1), lose_by_collect o epoch hs gs a.2)
 
-lose_same : (o : ℕ) (hs gs : List HeldQueue) → gs ≡ hs → OthersOnlyLose o hs gs
+pub lose_same : (o : ℕ) (hs gs : List HeldQueue) → gs ≡ hs → OthersOnlyLose o hs gs
 lose_same o hs gs e = subst (OthersOnlyLose o hs) (sym e) (lose_nothing o hs)
 
 -- ---- going on
 
 -- one pass behind another
-record Follows (p q : Stand) : Type 0 where
-  same : IsSamePass p q
-  past : HasSeenAllOf q p
+pub record Follows (p q : Stand) : Type 0 where
+  pub same : IsSamePass p q
+  pub past : HasSeenAllOf q p
 
 follows_itself : (p : Stand) → Follows p p
 follows_itself p = record { same = refl; past = seen_itself p }
 
-follows_then : (o p q : Stand) → Follows o p → Follows p q → Follows o q
+pub follows_then : (o p q : Stand) → Follows o p → Follows p q → Follows o q
 follows_then o p q first second = record {
   same = second.same ∙ ap (λ (z : Stand). record z { view = record z.view { log = q.view.log; past = q.view.past } }) first.same;
   past = seen_through o p q first.past second.past;
@@ -109,61 +112,59 @@ goes_then {m} {n} w x z a b =
       steps = omega (arith, first, second);
       held = b.held;
       fit = b.fit ∙ a.fit;
-      between = b.between;
     }
 
 pub goes_more : (m n : ℕ) (w z : Hand) → m ≤ n → GoesOnTended m w z → GoesOnTended n w z
-goes_more m n w z le a = let few = a.steps in record { same = a.same; past = a.past; queues = a.queues; steps = omega (arith, few, le); held = a.held; fit = a.fit; between = a.between }
+goes_more m n w z le a = let few = a.steps in record { same = a.same; past = a.past; queues = a.queues; steps = omega (arith, few, le); held = a.held; fit = a.fit }
 
-pub goes_nowhere : (w : Hand) → w.held ≡ None → IsBetweenCalls w → GoesOnTended 0 w w
-goes_nowhere w free between = record { same = refl; past = seen_itself w.pass; queues = lose_nothing w.pass.view.number w.queues; steps = omega arith; held = free; fit = refl; between = between }
+pub goes_nowhere : (w : Hand) → w.held ≡ None → GoesOnTended 0 w w
+goes_nowhere w free = record { same = refl; past = seen_itself w.pass; queues = lose_nothing w.pass.view.number w.queues; steps = omega arith; held = free; fit = refl }
 
 -- a call of the tree is in one round
-in_round : (t : ℕ) (L : Layout) (a b x : ℕ) → x ≡ t * (4 * L.nodes + 512) → b ≤ a + x + 6 * L.nodes + 10 → b ≤ a + (x + 7 * L.nodes + 2 * L.workers + 12)
+in_round : (t : ℕ) (L : Layout) (a b x : ℕ) → x ≡ t * (4 * reach L + 512) → b ≤ a + x + 6 * L.nodes + 10 → b ≤ a + (x + 7 * L.nodes + 2 * L.workers + 12)
 in_round t L a b x is few = omega (arith, few)
 
-goes_has : (L : Layout) (t k : ℕ) (w z : Hand) (r : Result Bool Lost) → LeavesHas L.nodes t k w z r → GoesOnTended (round_bound t L) w z
+in_tries : (t : ℕ) (L : Layout) (a b x : ℕ) → x ≡ t * (4 * reach L + 512) → b ≤ a + x + 10 → b ≤ a + (x + 7 * L.nodes + 2 * L.workers + 12)
+in_tries t L a b x is few = omega (arith, few)
+
+goes_has : (L : Layout) (t k : ℕ) (w z : Hand) (r : Result Bool Lost) → LeavesHas L t k w z r → GoesOnTended (round_bound t L) w z
 goes_has L t k w z r l = record {
-  same = l.same;
-  past = l.past;
-  queues = lose_same w.pass.view.number w.queues z.queues l.queues;
-  steps = in_round t L (length w.pass.view.log) (length z.pass.view.log) (t * (4 * L.nodes + 512)) refl l.steps;
-  held = l.held;
-  fit = l.fit;
-  between = l.between;
+  same = l.says.same;
+  past = l.says.past;
+  queues = lose_same w.pass.view.number w.queues z.queues l.says.queues;
+  steps = in_tries t L (length w.pass.view.log) (length z.pass.view.log) (t * (4 * reach L + 512)) refl l.says.steps;
+  held = l.says.held;
+  fit = l.says.fit;
 }
 
-goes_insert : (L : Layout) (t k : ℕ) (w z : Hand) (r : Result Bool Lost) → LeavesInsert L.nodes t k w z r → GoesOnTended (round_bound t L) w z
+goes_insert : (L : Layout) (t k : ℕ) (w z : Hand) (r : Result Bool Lost) → LeavesInsert L t k w z r → GoesOnTended (round_bound t L) w z
 goes_insert L t k w z r l = record {
-  same = l.same;
-  past = l.past;
-  queues = lose_by_call w.pass.view.number w.queues z.queues l.queues;
-  steps = in_round t L (length w.pass.view.log) (length z.pass.view.log) (t * (4 * L.nodes + 512)) refl l.steps;
-  held = l.held;
-  fit = l.fit;
-  between = l.between;
+  same = l.says.same;
+  past = l.says.past;
+  queues = lose_by_call w.pass.view.number w.queues z.queues l.says.queues;
+  steps = in_round t L (length w.pass.view.log) (length z.pass.view.log) (t * (4 * reach L + 512)) refl l.says.steps;
+  held = l.says.held;
+  fit = l.says.fit;
 }
 
-goes_delete : (L : Layout) (t k : ℕ) (w z : Hand) (r : Result Bool Lost) → LeavesDelete L.nodes t k w z r → GoesOnTended (round_bound t L) w z
+goes_delete : (L : Layout) (t k : ℕ) (w z : Hand) (r : Result Bool Lost) → LeavesDelete L t k w z r → GoesOnTended (round_bound t L) w z
 goes_delete L t k w z r l = record {
-  same = l.same;
-  past = l.past;
-  queues = lose_by_call w.pass.view.number w.queues z.queues l.queues;
-  steps = in_round t L (length w.pass.view.log) (length z.pass.view.log) (t * (4 * L.nodes + 512)) refl l.steps;
-  held = l.held;
-  fit = l.fit;
-  between = l.between;
+  same = l.says.same;
+  past = l.says.past;
+  queues = lose_by_call w.pass.view.number w.queues z.queues l.says.queues;
+  steps = in_tries t L (length w.pass.view.log) (length z.pass.view.log) (t * (4 * reach L + 512)) refl l.says.steps;
+  held = l.says.held;
+  fit = l.says.fit;
 }
 
-goes_finish : (L : Layout) (t : ℕ) (w z : Hand) (r : Result Bool Lost) → w.held ≡ None → LeavesFinish L.nodes t w z r → GoesOnTended (round_bound t L) w z
+goes_finish : (L : Layout) (t : ℕ) (w z : Hand) (r : Result Bool Lost) → w.held ≡ None → LeavesFinish L t w z r → GoesOnTended (round_bound t L) w z
 goes_finish L t w z r free l = record {
-  same = l.same;
-  past = l.past;
-  queues = lose_by_call w.pass.view.number w.queues z.queues l.queues;
-  steps = in_round t L (length w.pass.view.log) (length z.pass.view.log) (t * (4 * L.nodes + 512)) refl l.steps;
-  held = l.held ∙ free;
-  fit = l.fit;
-  between = l.between;
+  same = l.says.same;
+  past = l.says.past;
+  queues = lose_by_call w.pass.view.number w.queues z.queues l.says.queues;
+  steps = in_tries t L (length w.pass.view.log) (length z.pass.view.log) (t * (4 * reach L + 512)) refl l.says.steps;
+  held = l.says.held ∙ free;
+  fit = l.says.fit;
 }
 
 goes_advance : (m : ℕ) (w z : Hand) → {a : _} → w.held ≡ None → LeavesAdvance m w z a → GoesOnTended (m + 1) w z
@@ -174,7 +175,6 @@ goes_advance m w z free l = let few = l.steps in record {
   steps = omega (arith, few);
   held = l.place.1 ∙ free;
   fit = l.fit;
-  between = l.between;
 }
 
 goes_collect : (n : ℕ) (w z : Hand) → {c : _} → w.held ≡ None → LeavesCollect n w z c → GoesOnTended n w z
@@ -185,7 +185,6 @@ goes_collect n w z {c} free l = record {
   steps = l.steps;
   held = l.place.1 ∙ free;
   fit = l.fit;
-  between = l.between;
 }
 
 goes_relieved : (b : Board) (t : ℕ) (w z : Hand) → w.held ≡ None → IsRelieved b w z → GoesOnTended (round_bound t b.layout) w z
@@ -196,9 +195,9 @@ goes_relieved b t w z free r =
     let third = goes_collect b.layout.nodes r.twice z second.held r.collects in
     goes_more ((m + 1) + (m + 1) + b.layout.nodes) (round_bound t b.layout) w z (omega arith) (goes_then w r.twice z (goes_then w r.once r.twice first second) third)
 
-goes_tidied : (b : Board) (t many : ℕ) (w z : Hand) → w.held ≡ None → IsBetweenCalls w → IsTidied b many w z → GoesOnTended (round_bound t b.layout) w z
-goes_tidied b t many w z free between (inl did) = goes_relieved b t w z free did.1
-goes_tidied b t many w z free between (inr did) = subst (GoesOnTended (round_bound t b.layout) w) (sym did.1) (goes_more 0 (round_bound t b.layout) w w (omega arith) (goes_nowhere w free between))
+goes_tidied : (b : Board) (t many : ℕ) (w z : Hand) → w.held ≡ None → IsTidied b many w z → GoesOnTended (round_bound t b.layout) w z
+goes_tidied b t many w z free (inl did) = goes_relieved b t w z free did.1
+goes_tidied b t many w z free (inr did) = subst (GoesOnTended (round_bound t b.layout) w) (sym did.1) (goes_more 0 (round_bound t b.layout) w w (omega arith) (goes_nowhere w free))
 
 -- ---- calls that are made again
 
@@ -233,7 +232,7 @@ goes_in_a_row step most each (suc n) w x z free (m, row, made) last =
     let one = suc-mul (suc n) most in
     goes_more (suc n * most + most) (suc (suc n) * most) w z (omega (arith, one)) (goes_then w x z first (last first.held))
 
-goes_asked : {R : Type 0} (leaves : Hand → Hand → R → Type 0) (lost : R) (most : ℕ) → ((x y : Hand) (r : R) → x.held ≡ None → leaves x y r → GoesOnTended most x y)
+pub goes_asked : {R : Type 0} (leaves : Hand → Hand → R → Type 0) (lost : R) (most : ℕ) → ((x y : Hand) (r : R) → x.held ≡ None → leaves x y r → GoesOnTended most x y)
     → (rounds : ℕ) (w z : Hand) (r : R) → w.held ≡ None → IsAsked leaves lost rounds w z r → GoesOnTended (suc rounds * most) w z
 goes_asked leaves lost most each rounds w z r free a =
     let few = a.few in
@@ -245,7 +244,7 @@ follow_in_a_row step each zero w z e = subst (λ (y : Hand). Follows w.pass y.pa
 follow_in_a_row step each (suc n) w z (m, row, made) = follows_then w.pass m.pass z.pass (follow_in_a_row step each n w m row) (each m z made)
 
 -- what each step keeps
-keeps_in_a_row : (P : Hand → Type 0) (step : Hand → Hand → Type 0) → ((x y : Hand) → P x → step x y → P y) → (n : ℕ) (w z : Hand) → P w → InARow step n w z → P z
+pub keeps_in_a_row : (P : Hand → Type 0) (step : Hand → Hand → Type 0) → ((x y : Hand) → P x → step x y → P y) → (n : ℕ) (w z : Hand) → P w → InARow step n w z → P z
 keeps_in_a_row P step each zero w z at e = subst P (sym e) at
 keeps_in_a_row P step each (suc n) w z at (m, row, made) = each m z (keeps_in_a_row P step each n w m at row) made
 
@@ -258,23 +257,6 @@ asked_free leaves w z (Err fault.Held) free did = none_there w.held free did.0
 
 -- ---- moments
 
-pub no_shorter : (run earlier : List (ℕ × Event)) → Extends run earlier → length earlier ≤ length run
-no_shorter run earlier e =
-    let whole : length run ≡ length earlier + length e.more = ap (λ (ts : List (ℕ × Event)). length ts) e.is ∙ length-append earlier e.more in
-    omega (arith, whole)
-
--- a moment behind all that was seen is one behind what was seen earlier
-pub moment_since : (o p q : Stand) (op : Op) (k : ℕ) (answer : Bool) → HasSeenAllOf p o → AnswerHasMoment p q op k answer → AnswerHasMoment o q op k answer
-moment_since o p q op k answer past m =
-    let s = m.since in
-    let seen = no_shorter p.view.past o.view.past past.goes_on in
-    let pinned = s.pinned in
-    record {
-      log = m.log;
-      ends = m.ends;
-      since = record { before = s.before; since = s.since; is_run = s.is_run; is_log = s.is_log; may = s.may; pinned = omega (arith, seen, pinned); moment = s.moment; later = s.later; sooner = s.sooner };
-    }
-
 moment_if : (o p q : Stand) (op : Op) (k : ℕ) (l : Result Bool Lost) → HasSeenAllOf p o → IfOk l (AnswerHasMoment p q op k) → IfOk (of_finish l) (AnswerHasMoment o q op k)
 moment_if o p q op k (Ok answer) past m = moment_since o p q op k answer past m
 moment_if o p q op k (Err lost) past m = tt
@@ -282,87 +264,87 @@ moment_if o p q op k (Err lost) past m = tt
 -- ---- what is pending
 
 -- a call that had no key pending leaves none, but a delete whose leaf is flagged
-has_left : (L : Layout) (t k : ℕ) (o w z : Hand) (l : Result Bool Lost) → w.pending ≡ None → LeavesHas L.nodes t k w z l → IsLeft k o z (of_finish l)
-has_left L t k o w z (Ok answer) none l = l.did.0.1
-has_left L t k o w z (Err call.Busy) none l = l.did.0.1
-has_left L t k o w z (Err call.Pending) none l = none_there w.pending none l.did.0
-has_left L t k o w z (Err call.Full) none l = absurd l.did
-has_left L t k o w z (Err call.NoMemory) none l = absurd l.did
-has_left L t k o w z (Err call.Unfinished) none l = absurd l.did
+has_left : (L : Layout) (t k : ℕ) (o w z : Hand) (l : Result Bool Lost) → w.pending ≡ None → LeavesHas L t k w z l → IsLeft k o z (of_finish l)
+has_left L t k o w z (Ok answer) none l = l.says.told.1
+has_left L t k o w z (Err call.Busy) none l = l.says.told.1
+has_left L t k o w z (Err call.Pending) none l = none_there w.pending none l.says.told.0
+has_left L t k o w z (Err call.Full) none l = absurd l.says.told
+has_left L t k o w z (Err call.NoMemory) none l = absurd l.says.told
+has_left L t k o w z (Err call.Unfinished) none l = absurd l.says.told
 
-insert_left : (L : Layout) (t k : ℕ) (o w z : Hand) (l : Result Bool Lost) → w.pending ≡ None → LeavesInsert L.nodes t k w z l → IsLeft k o z (of_finish l)
-insert_left L t k o w z (Ok answer) none l = l.did.0.1
-insert_left L t k o w z (Err call.Busy) none l = l.did.0.1
-insert_left L t k o w z (Err call.Pending) none l = none_there w.pending none l.did.0
-insert_left L t k o w z (Err call.Full) none l = l.did.0.1
-insert_left L t k o w z (Err call.NoMemory) none l = l.did.0.1
-insert_left L t k o w z (Err call.Unfinished) none l = absurd l.did
+insert_left : (L : Layout) (t k : ℕ) (o w z : Hand) (l : Result Bool Lost) → w.pending ≡ None → LeavesInsert L t k w z l → IsLeft k o z (of_finish l)
+insert_left L t k o w z (Ok answer) none l = l.says.told.1
+insert_left L t k o w z (Err call.Busy) none l = l.says.told.1
+insert_left L t k o w z (Err call.Pending) none l = none_there w.pending none l.says.told.0
+insert_left L t k o w z (Err call.Full) none l = l.says.told.1
+insert_left L t k o w z (Err call.NoMemory) none l = l.says.told.0.1
+insert_left L t k o w z (Err call.Unfinished) none l = absurd l.says.told
 
-delete_left : (L : Layout) (t k : ℕ) (o w z : Hand) (l : Result Bool Lost) → w.pending ≡ None → LeavesDelete L.nodes t k w z l → IsLeft k o z (of_finish l)
-delete_left L t k o w z (Ok answer) none l = l.did.0.1
-delete_left L t k o w z (Err call.Busy) none l = l.did.0.1
-delete_left L t k o w z (Err call.Pending) none l = none_there w.pending none l.did.0
-delete_left L t k o w z (Err call.Full) none l = absurd l.did
-delete_left L t k o w z (Err call.NoMemory) none l = l.did.0.1
-delete_left L t k o w z (Err call.Unfinished) none l = (l.did.1, l.did.2)
+delete_left : (L : Layout) (t k : ℕ) (o w z : Hand) (l : Result Bool Lost) → w.pending ≡ None → LeavesDelete L t k w z l → IsLeft k o z (of_finish l)
+delete_left L t k o w z (Ok answer) none l = l.says.told.1
+delete_left L t k o w z (Err call.Busy) none l = l.says.told.1
+delete_left L t k o w z (Err call.Pending) none l = none_there w.pending none l.says.told.0
+delete_left L t k o w z (Err call.Full) none l = absurd l.says.told
+delete_left L t k o w z (Err call.NoMemory) none l = l.says.told.0.1
+delete_left L t k o w z (Err call.Unfinished) none l = (l.says.told.1, l.says.told.2)
 
 -- a finish that has not answered leaves what was pending
-still : (n t : ℕ) (w z : Hand) → LeavesFinish n t w z (Err call.Unfinished) → z.pending ≡ w.pending
-still n t w z l = l.did.2 ∙ sym l.did.1
+still : (L : Layout) (t : ℕ) (w z : Hand) → LeavesFinish L t w z (Err call.Unfinished) → z.pending ≡ w.pending
+still L t w z l = l.says.told.1
 
 -- a finish that is asked for: nothing is pending behind an answer, and behind none what was pending
 -- is so still
-finish_err : (n t : ℕ) (w z : Hand) (lost : Lost) → LeavesFinish n t w z (Err lost) → lost ≡ call.Unfinished
-finish_err n t w z call.Unfinished l = refl
-finish_err n t w z call.Busy l = absurd l.did
-finish_err n t w z call.Full l = absurd l.did
-finish_err n t w z call.NoMemory l = absurd l.did
-finish_err n t w z call.Pending l = absurd l.did
+finish_err : (L : Layout) (t : ℕ) (w z : Hand) (lost : Lost) → LeavesFinish L t w z (Err lost) → lost ≡ call.Unfinished
+finish_err L t w z call.Unfinished l = refl
+finish_err L t w z call.Busy l = absurd l.says.told
+finish_err L t w z call.Full l = absurd l.says.told
+finish_err L t w z call.NoMemory l = absurd l.says.told
+finish_err L t w z call.Pending l = absurd l.says.told
 
 pub finishes_err : (b : Board) (h : Habit) (w z : Hand) (lost : Lost) → FinishesPending b h w z (Err lost) → lost ≡ call.Unfinished
-finishes_err b h w z lost f = finish_err b.layout.nodes h.tries f.begun z lost f.last
+finishes_err b h w z lost f = finish_err b.layout h.tries f.begun z lost f.last
 
 -- what was pending is so where the last finish begins
 pends : (b : Board) (h : Habit) (w z : Hand) (r : Result Bool Lost) (f : FinishesPending b h w z r) → f.begun.pending ≡ w.pending
-pends b h w z r f = keeps_in_a_row (λ (x : Hand). x.pending ≡ w.pending) (λ x y. LeavesFinish b.layout.nodes h.tries x y (Err call.Unfinished)) (λ x y at made. still b.layout.nodes h.tries x y made ∙ at) f.before w f.begun refl f.each
+pends b h w z r f = keeps_in_a_row (λ (x : Hand). x.pending ≡ w.pending) (λ x y. LeavesFinish b.layout h.tries x y (Err call.Unfinished)) (λ x y at made. still b.layout h.tries x y made ∙ at) f.before w f.begun refl f.each
 
-finished : (n t : ℕ) (w z : Hand) (answer : Bool) → LeavesFinish n t w z (Ok answer) → z.pending ≡ None
-finished n t w z true l = l.did.2
-finished n t w z false l = ap (λ (y : Hand). y.pending) l.did.1 ∙ l.did.0
+finished : (L : Layout) (t : ℕ) (w z : Hand) (answer : Bool) → LeavesFinish L t w z (Ok answer) → z.pending ≡ None
+finished L t w z true l = l.says.told.1
+finished L t w z false l = ap (λ (y : Hand). y.pending) l.says.told.1 ∙ l.says.told.0
 
-goes_finishes : (b : Board) (h : Habit) (w z : Hand) (r : Result Bool Lost) → w.held ≡ None → FinishesPending b h w z r → GoesOnTended (suc h.rounds * round_bound h.tries b.layout) w z
-goes_finishes b h w z r free f = goes_asked (LeavesFinish b.layout.nodes h.tries) (Err call.Unfinished) (round_bound h.tries b.layout) (λ x y q held made. goes_finish b.layout h.tries x y q held made) h.rounds w z r free f
+pub goes_finishes : (b : Board) (h : Habit) (w z : Hand) (r : Result Bool Lost) → w.held ≡ None → FinishesPending b h w z r → GoesOnTended (suc h.rounds * round_bound h.tries b.layout) w z
+goes_finishes b h w z r free f = goes_asked (LeavesFinish b.layout h.tries) (Err call.Unfinished) (round_bound h.tries b.layout) (λ x y q held made. goes_finish b.layout h.tries x y q held made) h.rounds w z r free f
 
 -- ---- calls that are made again
 
 goes_looks : (b : Board) (h : Habit) (k : ℕ) (w z : Hand) (r : Result Bool Fault) → w.held ≡ None → Looks b h k w z r → GoesOnTended (suc h.rounds * round_bound h.tries b.layout) w z
 goes_looks b h k w z r free a =
-    let each : (x y : Hand) (q : Result Bool Fault) → x.held ≡ None → Asked (LeavesHas b.layout.nodes h.tries k) x y q → GoesOnTended (round_bound h.tries b.layout) x y
-    = λ x y q held made. (let told = asked_free (LeavesHas b.layout.nodes h.tries k) x y q held made in goes_has b.layout h.tries k x y told.0 told.1) in
-    goes_asked (Asked (LeavesHas b.layout.nodes h.tries k)) busy (round_bound h.tries b.layout) each h.rounds w z r free a
+    let each : (x y : Hand) (q : Result Bool Fault) → x.held ≡ None → Asked (LeavesHas b.layout h.tries k) x y q → GoesOnTended (round_bound h.tries b.layout) x y
+    = λ x y q held made. (let told = asked_free (LeavesHas b.layout h.tries k) x y q held made in goes_has b.layout h.tries k x y told.0 told.1) in
+    goes_asked (Asked (LeavesHas b.layout h.tries k)) busy (round_bound h.tries b.layout) each h.rounds w z r free a
 
 goes_inserts : (b : Board) (h : Habit) (k : ℕ) (w z : Hand) (r : Result Bool Fault) → w.held ≡ None → Inserts b h k w z r → GoesOnTended (suc h.rounds * round_bound h.tries b.layout) w z
 goes_inserts b h k w z r free a =
-    let each : (x y : Hand) (q : Result Bool Fault) → x.held ≡ None → Asked (LeavesInsert b.layout.nodes h.tries k) x y q → GoesOnTended (round_bound h.tries b.layout) x y
-    = λ x y q held made. (let told = asked_free (LeavesInsert b.layout.nodes h.tries k) x y q held made in goes_insert b.layout h.tries k x y told.0 told.1) in
-    goes_asked (Asked (LeavesInsert b.layout.nodes h.tries k)) busy (round_bound h.tries b.layout) each h.rounds w z r free a
+    let each : (x y : Hand) (q : Result Bool Fault) → x.held ≡ None → Asked (LeavesInsert b.layout h.tries k) x y q → GoesOnTended (round_bound h.tries b.layout) x y
+    = λ x y q held made. (let told = asked_free (LeavesInsert b.layout h.tries k) x y q held made in goes_insert b.layout h.tries k x y told.0 told.1) in
+    goes_asked (Asked (LeavesInsert b.layout h.tries k)) busy (round_bound h.tries b.layout) each h.rounds w z r free a
 
 goes_deletes : (b : Board) (h : Habit) (k : ℕ) (w z : Hand) (r : Result Bool Fault) → w.held ≡ None → Deletes b h k w z r → GoesOnTended (suc h.rounds * round_bound h.tries b.layout) w z
 goes_deletes b h k w z r free a =
-    let each : (x y : Hand) (q : Result Bool Fault) → x.held ≡ None → Asked (LeavesDelete b.layout.nodes h.tries k) x y q → GoesOnTended (round_bound h.tries b.layout) x y
-    = λ x y q held made. (let told = asked_free (LeavesDelete b.layout.nodes h.tries k) x y q held made in goes_delete b.layout h.tries k x y told.0 told.1) in
-    goes_asked (Asked (LeavesDelete b.layout.nodes h.tries k)) busy (round_bound h.tries b.layout) each h.rounds w z r free a
+    let each : (x y : Hand) (q : Result Bool Fault) → x.held ≡ None → Asked (LeavesDelete b.layout h.tries k) x y q → GoesOnTended (round_bound h.tries b.layout) x y
+    = λ x y q held made. (let told = asked_free (LeavesDelete b.layout h.tries k) x y q held made in goes_delete b.layout h.tries k x y told.0 told.1) in
+    goes_asked (Asked (LeavesDelete b.layout h.tries k)) busy (round_bound h.tries b.layout) each h.rounds w z r free a
 
 -- ---- what is won
 
 -- between two workers so many links and flags were won
-abbrev Wins : Hand → Hand → ℕ → ℕ → Type 0
+abbrev pub Wins : Hand → Hand → ℕ → ℕ → Type 0
 Wins w z l f = HasWon w.pass.view.log z.pass.view.log l f
 
 wins_nothing : (w : Hand) → Wins w w 0 0
 wins_nothing w = record { links = omega arith; flags = omega arith }
 
-wins_after : (l f : ℕ) (w x z : Hand) → Wins w x 0 0 → Wins x z l f → Wins w z l f
+pub wins_after : (l f : ℕ) (w x z : Hand) → Wins w x 0 0 → Wins x z l f → Wins w z l f
 wins_after l f w x z first second =
     let a = first.links in
     let b = second.links in
@@ -399,8 +381,8 @@ tidied_wins b many w z (inr did) = subst (λ (y : Hand). Wins w y 0 0) (sym did.
 
 finishes_wins : (b : Board) (h : Habit) (w z : Hand) (r : Result Bool Lost) → FinishesPending b h w z r → Wins w z 0 0
 finishes_wins b h w z r f =
-    let before = keeps_in_a_row (λ (x : Hand). Wins w x 0 0) (λ x y. LeavesFinish b.layout.nodes h.tries x y (Err call.Unfinished)) (λ x y at made. wins_after 0 0 w x y at made.won) f.before w f.begun (wins_nothing w) f.each in
-    wins_after 0 0 w f.begun z before f.last.won
+    let before = keeps_in_a_row (λ (x : Hand). Wins w x 0 0) (λ x y. LeavesFinish b.layout h.tries x y (Err call.Unfinished)) (λ x y at made. wins_after 0 0 w x y at made.says.won) f.before w f.begun (wins_nothing w) f.each in
+    wins_after 0 0 w f.begun z before f.last.says.won
 
 insert_links : (l : Result Bool Lost) → links_won l ≡ links_told_by Insert (of_finish l)
 insert_links (Ok true) = refl
@@ -418,32 +400,32 @@ delete_flags (Err call.Pending) = refl
 
 -- behind calls that lost each of their tries nothing is pending, held or won, and the pass has gone
 -- on
-record IsOnward (w z : Hand) : Type 0 where
-  none : z.pending ≡ None
-  free : z.held ≡ None
-  follows : Follows w.pass z.pass
-  won : Wins w z 0 0
+pub record IsOnward (w z : Hand) : Type 0 where
+  pub none : z.pending ≡ None
+  pub free : z.held ≡ None
+  pub follows : Follows w.pass z.pass
+  pub won : Wins w z 0 0
 
-onward_itself : (w : Hand) → w.pending ≡ None → w.held ≡ None → IsOnward w w
+pub onward_itself : (w : Hand) → w.pending ≡ None → w.held ≡ None → IsOnward w w
 onward_itself w none free = record { none = none; free = free; follows = follows_itself w.pass; won = wins_nothing w }
 
-onward_has : (L : Layout) (t k : ℕ) (w x y : Hand) → IsOnward w x → Asked (LeavesHas L.nodes t k) x y busy → IsOnward w y
-onward_has L t k w x y on did = record { none = did.1.did.0.1; free = did.1.held; follows = follows_then w.pass x.pass y.pass on.follows (record { same = did.1.same; past = did.1.past }); won = wins_after 0 0 w x y on.won did.1.won }
+onward_has : (L : Layout) (t k : ℕ) (w x y : Hand) → IsOnward w x → Asked (LeavesHas L t k) x y busy → IsOnward w y
+onward_has L t k w x y on did = record { none = did.1.says.told.1; free = did.1.says.held; follows = follows_then w.pass x.pass y.pass on.follows (record { same = did.1.says.same; past = did.1.says.past }); won = wins_after 0 0 w x y on.won did.1.says.won }
 
-onward_insert : (L : Layout) (t k : ℕ) (w x y : Hand) → IsOnward w x → Asked (LeavesInsert L.nodes t k) x y busy → IsOnward w y
-onward_insert L t k w x y on did = record { none = did.1.did.0.1; free = did.1.held; follows = follows_then w.pass x.pass y.pass on.follows (record { same = did.1.same; past = did.1.past }); won = wins_after 0 0 w x y on.won did.1.won }
+onward_insert : (L : Layout) (t k : ℕ) (w x y : Hand) → IsOnward w x → Asked (LeavesInsert L t k) x y busy → IsOnward w y
+onward_insert L t k w x y on did = record { none = did.1.says.told.1; free = did.1.says.held; follows = follows_then w.pass x.pass y.pass on.follows (record { same = did.1.says.same; past = did.1.says.past }); won = wins_after 0 0 w x y on.won did.1.says.won }
 
-onward_delete : (L : Layout) (t k : ℕ) (w x y : Hand) → IsOnward w x → Asked (LeavesDelete L.nodes t k) x y busy → IsOnward w y
-onward_delete L t k w x y on did = record { none = did.1.did.0.1; free = did.1.held; follows = follows_then w.pass x.pass y.pass on.follows (record { same = did.1.same; past = did.1.past }); won = wins_after 0 0 w x y on.won did.1.won }
+onward_delete : (L : Layout) (t k : ℕ) (w x y : Hand) → IsOnward w x → Asked (LeavesDelete L t k) x y busy → IsOnward w y
+onward_delete L t k w x y on did = record { none = did.1.says.told.1; free = did.1.says.held; follows = follows_then w.pass x.pass y.pass on.follows (record { same = did.1.says.same; past = did.1.says.past }); won = wins_after 0 0 w x y on.won did.1.says.won }
 
 begun_look : (b : Board) (h : Habit) (k : ℕ) (w z : Hand) (r : Result Bool Fault) → w.pending ≡ None → w.held ≡ None → (a : Looks b h k w z r) → IsOnward w a.begun
-begun_look b h k w z r none free a = keeps_in_a_row (IsOnward w) (λ x y. Asked (LeavesHas b.layout.nodes h.tries k) x y busy) (λ x y on did. onward_has b.layout h.tries k w x y on did) a.before w a.begun (onward_itself w none free) a.each
+begun_look b h k w z r none free a = keeps_in_a_row (IsOnward w) (λ x y. Asked (LeavesHas b.layout h.tries k) x y busy) (λ x y on did. onward_has b.layout h.tries k w x y on did) a.before w a.begun (onward_itself w none free) a.each
 
 begun_insert : (b : Board) (h : Habit) (k : ℕ) (w z : Hand) (r : Result Bool Fault) → w.pending ≡ None → w.held ≡ None → (a : Inserts b h k w z r) → IsOnward w a.begun
-begun_insert b h k w z r none free a = keeps_in_a_row (IsOnward w) (λ x y. Asked (LeavesInsert b.layout.nodes h.tries k) x y busy) (λ x y on did. onward_insert b.layout h.tries k w x y on did) a.before w a.begun (onward_itself w none free) a.each
+begun_insert b h k w z r none free a = keeps_in_a_row (IsOnward w) (λ x y. Asked (LeavesInsert b.layout h.tries k) x y busy) (λ x y on did. onward_insert b.layout h.tries k w x y on did) a.before w a.begun (onward_itself w none free) a.each
 
 begun_delete : (b : Board) (h : Habit) (k : ℕ) (w z : Hand) (r : Result Bool Fault) → w.pending ≡ None → w.held ≡ None → (a : Deletes b h k w z r) → IsOnward w a.begun
-begun_delete b h k w z r none free a = keeps_in_a_row (IsOnward w) (λ x y. Asked (LeavesDelete b.layout.nodes h.tries k) x y busy) (λ x y on did. onward_delete b.layout h.tries k w x y on did) a.before w a.begun (onward_itself w none free) a.each
+begun_delete b h k w z r none free a = keeps_in_a_row (IsOnward w) (λ x y. Asked (LeavesDelete b.layout h.tries k) x y busy) (λ x y on did. onward_delete b.layout h.tries k w x y on did) a.before w a.begun (onward_itself w none free) a.each
 
 -- ---- what is told last
 
@@ -457,68 +439,60 @@ look_told : (b : Board) (h : Habit) (k : ℕ) (o w z : Hand) (r : Result Bool Fa
 look_told b h k o w z r past won none free a =
     let x = a.begun in
     let on = begun_look b h k w z r none free a in
-    let told = asked_free (LeavesHas b.layout.nodes h.tries k) x z r on.free a.last in
+    let told = asked_free (LeavesHas b.layout h.tries k) x z r on.free a.last in
     subst (λ (q : Result Bool Fault). IsTold Has k o z q) (sym told.2) (record {
-      moment = moment_if o.pass x.pass z.pass Has k told.0 (seen_through o.pass w.pass x.pass past on.follows.past) told.1.moment;
+      moment = moment_if o.pass x.pass z.pass Has k told.0 (seen_through o.pass w.pass x.pass past on.follows.past) told.1.says.moment;
       left = has_left b.layout h.tries k o x z told.0 on.none told.1;
-      won = wins_after 0 0 o x z (wins_after 0 0 o w x won on.won) told.1.won;
+      won = wins_after 0 0 o x z (wins_after 0 0 o w x won on.won) told.1.says.won;
     })
 
 insert_told : (b : Board) (h : Habit) (k : ℕ) (o w z : Hand) (r : Result Bool Fault) → HasSeenAllOf w.pass o.pass → Wins o w 0 0 → w.pending ≡ None → w.held ≡ None → Inserts b h k w z r → IsTold Insert k o z r
 insert_told b h k o w z r past won none free a =
     let x = a.begun in
     let on = begun_insert b h k w z r none free a in
-    let told = asked_free (LeavesInsert b.layout.nodes h.tries k) x z r on.free a.last in
+    let told = asked_free (LeavesInsert b.layout h.tries k) x z r on.free a.last in
     subst (λ (q : Result Bool Fault). IsTold Insert k o z q) (sym told.2) (record {
-      moment = moment_if o.pass x.pass z.pass Insert k told.0 (seen_through o.pass w.pass x.pass past on.follows.past) told.1.moment;
+      moment = moment_if o.pass x.pass z.pass Insert k told.0 (seen_through o.pass w.pass x.pass past on.follows.past) told.1.says.moment;
       left = insert_left b.layout h.tries k o x z told.0 on.none told.1;
-      won = subst (λ (n : ℕ). Wins o z n 0) (insert_links told.0) (wins_after (links_won told.0) 0 o x z (wins_after 0 0 o w x won on.won) told.1.won);
+      won = subst (λ (n : ℕ). Wins o z n 0) (insert_links told.0) (wins_after (links_won told.0) 0 o x z (wins_after 0 0 o w x won on.won) told.1.says.won);
     })
 
 delete_told : (b : Board) (h : Habit) (k : ℕ) (o w z : Hand) (r : Result Bool Fault) → HasSeenAllOf w.pass o.pass → Wins o w 0 0 → w.pending ≡ None → w.held ≡ None → Deletes b h k w z r → IsTold Delete k o z r
 delete_told b h k o w z r past won none free a =
     let x = a.begun in
     let on = begun_delete b h k w z r none free a in
-    let told = asked_free (LeavesDelete b.layout.nodes h.tries k) x z r on.free a.last in
+    let told = asked_free (LeavesDelete b.layout h.tries k) x z r on.free a.last in
     subst (λ (q : Result Bool Fault). IsTold Delete k o z q) (sym told.2) (record {
-      moment = moment_if o.pass x.pass z.pass Delete k told.0 (seen_through o.pass w.pass x.pass past on.follows.past) told.1.moment;
+      moment = moment_if o.pass x.pass z.pass Delete k told.0 (seen_through o.pass w.pass x.pass past on.follows.past) told.1.says.moment;
       left = delete_left b.layout h.tries k o x z told.0 on.none told.1;
-      won = subst (λ (n : ℕ). Wins o z 0 n) (delete_flags told.0) (wins_after 0 (flags_won told.0) o x z (wins_after 0 0 o w x won on.won) told.1.won);
+      won = subst (λ (n : ℕ). Wins o z 0 n) (delete_flags told.0) (wins_after 0 (flags_won told.0) o x z (wins_after 0 0 o w x won on.won) told.1.says.won);
     })
-
--- a worker that rests has no call
-rests : (w : Hand) → w.pending ≡ None → w.held ≡ None → IsBetweenCalls w → (search w.pass).call ≡ None
-rests w none free between =
-    let P : Option Unfinished → Type 0 = λ u. IsAs w.pass u w.held in
-    let Q : Option ℕ → Type 0 = λ e. IsAs w.pass None e in
-    let resting = subst Q free (subst P none between.stands) in
-    ap (λ (s : Search). s.call) resting.idle
 
 -- a delete that is finished: y is where it began, with no call, and x where its leaf was flagged
 finish_told : (b : Board) (h : Habit) (k : ℕ) (leaf : NodeId) (o y x z : Hand) (f : Result Bool Lost) → HasSeenAllOf y.pass o.pass → Wins o x 0 1 → HadNoCall y.pass x.pass → x.pending ≡ Some (record { key = k; leaf = leaf }) → FinishesPending b h x z f → IsTold Delete k o z (of_finish f)
 finish_told b h k leaf o y x z (Ok true) past won had is a =
     let mine : Unfinished = record { key = k; leaf = leaf } in
-    let begun = follow_in_a_row (λ p q. LeavesFinish b.layout.nodes h.tries p q (Err call.Unfinished)) (λ p q made. record { same = made.same; past = made.past }) a.before x a.begun a.each in
+    let begun = follow_in_a_row (λ p q. LeavesFinish b.layout h.tries p q (Err call.Unfinished)) (λ p q made. record { same = made.says.same; past = made.says.past }) a.before x a.begun a.each in
     let on = follows_then y.pass x.pass a.begun.pass (record { same = had.same; past = had.past }) begun in
-    let same = ap (λ (u : Option Unfinished). unwrap_or u mine) (sym a.last.moment.1 ∙ (pends b h x z (Ok true) a ∙ is)) in
-    let at = a.last.moment.2 y.pass (record { seen = had.seen; same = on.same; past = on.past; call = had.call }) in
+    let same = ap (λ (u : Option Unfinished). unwrap_or u mine) (sym a.last.says.moment.1 ∙ (pends b h x z (Ok true) a ∙ is)) in
+    let at = a.last.says.moment.2 y.pass (record { same = on.same; past = on.past; call = had.call }) in
     record {
       moment = moment_since o.pass y.pass z.pass Delete k true past (subst (λ (n : Unfinished). AnswerHasMoment y.pass z.pass Delete n.key true) same at);
-      left = finished b.layout.nodes h.tries a.begun z true a.last;
+      left = finished b.layout h.tries a.begun z true a.last;
       won = wins_before 0 1 o x z won (finishes_wins b h x z (Ok true) a);
     }
 finish_told b h k leaf o y x z (Ok false) past won had is a =
     let there : IsSome a.begun.pending = subst IsSome (sym (pends b h x z (Ok false) a ∙ is)) refl in
-    none_there a.begun.pending a.last.did.0 there
+    none_there a.begun.pending a.last.says.told.0 there
 finish_told b h k leaf o y x z (Err call.Unfinished) past won had is a = record {
   moment = tt;
-  left = (leaf, still b.layout.nodes h.tries a.begun z a.last ∙ (pends b h x z (Err call.Unfinished) a ∙ is));
+  left = (leaf, still b.layout h.tries a.begun z a.last ∙ (pends b h x z (Err call.Unfinished) a ∙ is));
   won = wins_before 0 1 o x z won (finishes_wins b h x z (Err call.Unfinished) a);
 }
-finish_told b h k leaf o y x z (Err call.Busy) past won had is a = absurd a.last.did
-finish_told b h k leaf o y x z (Err call.Full) past won had is a = absurd a.last.did
-finish_told b h k leaf o y x z (Err call.NoMemory) past won had is a = absurd a.last.did
-finish_told b h k leaf o y x z (Err call.Pending) past won had is a = absurd a.last.did
+finish_told b h k leaf o y x z (Err call.Busy) past won had is a = absurd a.last.says.told
+finish_told b h k leaf o y x z (Err call.Full) past won had is a = absurd a.last.says.told
+finish_told b h k leaf o y x z (Err call.NoMemory) past won had is a = absurd a.last.says.told
+finish_told b h k leaf o y x z (Err call.Pending) past won had is a = absurd a.last.says.told
 
 -- ---- the rounds of a call
 
@@ -546,18 +520,18 @@ pub pending_tends : (b : Board) (h : Habit) (op : Op) (k : ℕ) (w z : Hand) (lo
 pending_tends b h op k w z lost free f =
     let unfinished = finishes_err b h w z lost f in
     let told = subst (λ (e : Lost). FinishesPending b h w z (Err e)) unfinished f in
-    let kept = still b.layout.nodes h.tries told.begun z told.last ∙ pends b h w z (Err call.Unfinished) told in
-    let there : IsSome w.pending = subst IsSome (pends b h w z (Err call.Unfinished) told) (subst IsSome (sym told.last.did.1) refl) in
+    let kept = still b.layout h.tries told.begun z told.last ∙ pends b h w z (Err call.Unfinished) told in
+    let there : IsSome w.pending = subst IsSome (pends b h w z (Err call.Unfinished) told) told.last.says.told.0 in
     (told, record { moment = tt; left = (there, kept); won = wins_pending op w z (finishes_wins b h w z (Err call.Unfinished) told); on = in_all h.rounds (suc h.rounds) (round_bound h.tries b.layout) w z (omega arith) (goes_finishes b h w z (Err call.Unfinished) free told) })
 
 -- what stands behind the finish of an earlier call's delete
-record IsSettled (b : Board) (h : Habit) (w x : Hand) : Type 0 where
-  none : x.pending ≡ None
-  won : Wins w x 0 0
-  on : GoesOnTended (suc h.rounds * round_bound h.tries b.layout) w x
+pub record IsSettled (b : Board) (h : Habit) (w x : Hand) : Type 0 where
+  pub none : x.pending ≡ None
+  pub won : Wins w x 0 0
+  pub on : GoesOnTended (suc h.rounds * round_bound h.tries b.layout) w x
 
-settled : (b : Board) (h : Habit) (w x : Hand) (answer : Bool) → w.held ≡ None → FinishesPending b h w x (Ok answer) → IsSettled b h w x
-settled b h w x answer free f = record { none = finished b.layout.nodes h.tries f.begun x answer f.last; won = finishes_wins b h w x (Ok answer) f; on = goes_finishes b h w x (Ok answer) free f }
+pub settled : (b : Board) (h : Habit) (w x : Hand) (answer : Bool) → w.held ≡ None → FinishesPending b h w x (Ok answer) → IsSettled b h w x
+settled b h w x answer free f = record { none = finished b.layout h.tries f.begun x answer f.last; won = finishes_wins b h w x (Ok answer) f; on = goes_finishes b h w x (Ok answer) free f }
 
 pub contains_tends : (b : Board) (h : Habit) (k : ℕ) (w x z : Hand) (answer : Bool) (r : Result Bool Fault) → w.held ≡ None → FinishesPending b h w x (Ok answer) → Looks b h k x z r → Tends b h Has k w z r
 contains_tends b h k w x z answer r free f looks =
@@ -591,7 +565,7 @@ ready b h w x y answer free f tidied =
     record {
       none = tidied_place b h.collect_after x y tidied ∙ at.none;
       won = wins_after 0 0 w x y at.won (tidied_wins b h.collect_after x y tidied);
-      on = rounds_then (suc h.rounds) 1 most w x y at.on (one_round most x y (goes_tidied b h.tries h.collect_after x y at.on.held at.on.between tidied));
+      on = rounds_then (suc h.rounds) 1 most w x y at.on (one_round most x y (goes_tidied b h.tries h.collect_after x y at.on.held tidied));
     }
 
 -- an insert, and one more behind a collection
@@ -621,26 +595,39 @@ adds_tend b h k w x y z answer r free f tidied did =
     }
 
 -- a delete, and what is left to do of it
-deletes_on : (b : Board) (h : Habit) (k : ℕ) (o w z : Hand) (r : Result Bool Fault) → HasSeenAllOf w.pass o.pass → Wins o w 0 0 → HasSeen w.pass.view → w.pending ≡ None → w.held ≡ None → IsBetweenCalls w → DeletesOn b h k w z r → IsTold Delete k o z r × GoesOnTended ((suc h.rounds + suc h.rounds) * round_bound h.tries b.layout) w z
-deletes_on b h k o w z r past won seen none free between (inl (did, known)) =
+deletes_on : (b : Board) (h : Habit) (k : ℕ) (o w z : Hand) (r : Result Bool Fault) → HasSeenAllOf w.pass o.pass → Wins o w 0 0 → IsIdle w → w.pending ≡ None → w.held ≡ None → DeletesOn b h k w z r → IsTold Delete k o z r × GoesOnTended ((suc h.rounds + suc h.rounds) * round_bound h.tries b.layout) w z
+deletes_on b h k o w z r past won idle none free (inl (did, known)) =
     let most = round_bound h.tries b.layout in
     (delete_told b h k o w z r past won none free did, goes_more (suc h.rounds * most) ((suc h.rounds + suc h.rounds) * most) w z (mul-le-mul_right most (omega arith)) (goes_deletes b h k w z r free did))
-deletes_on b h k o w z r past won seen none free between (inr (x, f, first, rest, is)) =
+deletes_on b h k o w z r past won idle none free (inr (x, f, first, rest, is)) =
     let most = round_bound h.tries b.layout in
     let flagged = delete_told b h k o w x (Err (fault.Call call.Unfinished)) past won none free first in
     let before = goes_deletes b h k w x (Err (fault.Call call.Unfinished)) free first in
-    let had : HadNoCall w.pass x.pass = record { seen = seen; same = before.same; past = before.past; call = rests w none free between } in
+    let had : HadNoCall w.pass x.pass = record { same = before.same; past = before.past; call = idle none } in
     let told = finish_told b h k flagged.left.0 o w x z f past flagged.won had flagged.left.1 rest in
     (subst (λ (q : Result Bool Fault). IsTold Delete k o z q) (sym is) told, rounds_then (suc h.rounds) (suc h.rounds) most w x z before (goes_finishes b h x z f before.held rest))
 
-pub removes_tend : (b : Board) (h : Habit) (k : ℕ) (w x y z : Hand) (answer : Bool) (r : Result Bool Fault) → w.held ≡ None → FinishesPending b h w x (Ok answer) → IsTidied b h.collect_after x y → HasSeen y.pass.view → DeletesOn b h k y z r → Tends b h Delete k w z r
-removes_tend b h k w x y z answer r free f tidied seen did =
+pub removes_tend : (b : Board) (h : Habit) (k : ℕ) (w x y z : Hand) (answer : Bool) (r : Result Bool Fault) → w.held ≡ None → FinishesPending b h w x (Ok answer) → IsTidied b h.collect_after x y → IsIdle y → DeletesOn b h k y z r → Tends b h Delete k w z r
+removes_tend b h k w x y z answer r free f tidied idle did =
     let at = ready b h w x y answer free f tidied in
     let most = round_bound h.tries b.layout in
-    let told = deletes_on b h k w y z r at.on.past at.won seen at.none at.on.held at.on.between did in
+    let told = deletes_on b h k w y z r at.on.past at.won idle at.none at.on.held did in
     record {
       moment = told.0.moment;
       left = told.0.left;
       won = told.0.won;
       on = in_all h.rounds ((suc h.rounds + 1) + (suc h.rounds + suc h.rounds)) most w z (omega arith) (rounds_then (suc h.rounds + 1) (suc h.rounds + suc h.rounds) most w y z at.on told.1);
     }
+
+-- ---- what a caller has
+
+-- of what was done and said, what was said
+pub said : {does : Hand → Hand → Result Bool Fault → Type 0} (b : Board) (h : Habit) (op : Op) (k : ℕ) (w z : Hand) (r : Result Bool Fault) → UnlessHeld (HasTended does b h op k w z r) w z r → SaysTended op b h k w z r
+said b h op k w z r (inl held) = inl held
+said b h op k w z r (inr (free, did)) = inr (free, did.tends)
+
+-- of a call of the tree in the same way
+pub asked_says : (leaves says : Hand → Hand → Result Bool Lost → Type 0) (w z : Hand) (r : Result Bool Fault) → ((q : Result Bool Lost) → leaves w z q → says w z q) → Asked leaves w z r → Asked says w z r
+asked_says leaves says w z (Ok answer) of did = (did.0, of (Ok answer) did.1)
+asked_says leaves says w z (Err (fault.Call lost)) of did = (did.0, of (Err lost) did.1)
+asked_says leaves says w z (Err fault.Held) of did = did

@@ -1,5 +1,6 @@
 -- What a look-up of several keys leaves of its member's worker and of the queries.
 use Rattle.std.specs.Prelude.{◌≡◌, ℕ, List, None, IsSome, Result, Ok, Err}
+use Rattle.nm_edge.specs.Layouts.{Layout}
 use Rattle.nm_calls.specs.declared.many.Query.{Query}
 use Rattle.nm_tree.specs.Workers.{Hand}
 use Rattle.nm_tree.specs.Calls.{LeavesHasMany}
@@ -7,10 +8,10 @@ use Rattle.nm_set.specs.declared.fault.Fault.{Fault}
 use Rattle.nm_set.specs.declared.fault.Fault.TheVariants as fault
 
 -- a worker that its caller holds is not asked, and nothing has changed; else that is left
-abbrev pub AskedMany : ℕ → ℕ → List Query → List Query → Hand → Hand → Result (Unit {0}) Fault
+abbrev pub AskedMany : Layout → ℕ → List Query → List Query → Hand → Hand → Result (Unit {0}) Fault
     → Type 0
-AskedMany nodes tries old new w z (Ok u) =
-    (w.held ≡ None) × LeavesHasMany nodes tries old new w z (Ok u)
-AskedMany nodes tries old new w z (Err (fault.Call f)) =
-    (w.held ≡ None) × LeavesHasMany nodes tries old new w z (Err f)
-AskedMany nodes tries old new w z (Err fault.Held) = IsSome w.held × (z ≡ w) × (new ≡ old)
+AskedMany L tries old new w z (Ok u) =
+    (w.held ≡ None) × LeavesHasMany L tries old new w z (Ok u)
+AskedMany L tries old new w z (Err (fault.Call f)) =
+    (w.held ≡ None) × LeavesHasMany L tries old new w z (Err f)
+AskedMany L tries old new w z (Err fault.Held) = IsSome w.held × (z ≡ w) × (new ≡ old)

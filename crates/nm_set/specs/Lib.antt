@@ -6,3 +6,4 @@ pub mod NextKeys
 pub mod States
 pub mod Ends
 pub mod Tended
+pub mod Popping

@@ -1,11 +1,9 @@
 -- Members of a set, and the seats where its workers are while nobody has them.
-use Rattle.std.specs.Prelude.{◌≡◌, ◌<◌, ◌≤◌, ℕ, suc, Bool, true, false, List, [], ◌∷◌, ◌++◌, Result, Ok, Err}
+use Rattle.std.specs.Prelude.{◌≡◌, ◌⊎◌, ◌<◌, ◌≤◌, ℕ, suc, Bool, true, false, List, [], ◌∷◌, ◌++◌, None, IsSome, Result, Ok, Err}
 use Rattle.nm_steps.specs.Steps.{Board, IsOf}
 use Rattle.nm_pool.specs.declared.placement.Fit.{Fit}
-use Rattle.nm_tree.specs.Resigning.{IsReason}
-use Rattle.nm_tree.specs.Workers.{Hand}
-use Rattle.nm_tree.specs.declared.resigning.ResignReason.{ResignReason as Reason}
-use Rattle.nm_tree.specs.declared.resigning.ResignReason.TheVariants as tree
+use Rattle.nm_tree.specs.Calls.{LeavesUnpin}
+use Rattle.nm_tree.specs.Workers.{AreNew, Hand}
 use Rattle.nm_set.specs.declared.fault.MemberFault.{MemberFault}
 use Rattle.nm_set.specs.declared.fault.MemberFault.TheVariants as taking
 use Rattle.nm_set.specs.declared.fault.ResignReason.{ResignReason}
@@ -38,18 +36,36 @@ abbrev pub AreOwn : Board → List Hand → Type 0
 AreOwn b [] = Unit {0}
 AreOwn b (w ∷ ws) = IsOwn b w × AreOwn b ws
 
--- the worker of that number, of that tree, which has not resigned and claims by that fit
+-- the worker of that number, of that tree, which has not resigned, claims by that fit, and is not
+-- held by its caller
 pub record IsResident (b : Board) (f : Fit) (i : ℕ) (w : Hand) : Type 0 where
   pub own : IsOf b w.pass
   pub alive : w.pass.view.spent ≡ false
   pub number : w.pass.view.number ≡ i
   pub fit : w.fit ≡ f
+  pub free : w.held ≡ None
 
--- a worker of that tree, of whatever number, which has not resigned and claims by that fit
+-- such a worker of that tree, of whatever number
 pub record IsAnyResident (b : Board) (f : Fit) (w : Hand) : Type 0 where
   pub own : IsOf b w.pass
   pub alive : w.pass.view.spent ≡ false
   pub fit : w.fit ≡ f
+  pub free : w.held ≡ None
+
+-- a worker that its caller does not hold any more: as it was, or behind an unpin
+abbrev pub IsLetGo : Hand → Hand → Type 0
+IsLetGo w z = ((w.held ≡ None) × (z ≡ w)) ⊎ (IsSome w.held × LeavesUnpin w z)
+
+-- the member of worker k of that tree, which claims by that fit and has done nothing yet
+pub record IsNewMember (b : Board) (f : Fit) (k : ℕ) (m : Seated) : Type 0 where
+  pub board : m.board ≡ b
+  pub fit : m.hand.fit ≡ f
+  pub new : AreNew b k (m.hand ∷ [])
+
+-- the members of workers k and on, in the order of their numbers, which are new
+abbrev pub AreNewMembers : Board → Fit → ℕ → List Seated → Type 0
+AreNewMembers b f k [] = Unit {0}
+AreNewMembers b f k (m ∷ ms) = IsNewMember b f k m × AreNewMembers b f (suc k) ms
 
 -- seats for worker i of that site, for the next one, and so on
 abbrev pub AreSeats : Site → ℕ → List (Site × ℕ) → Type 0
@@ -65,23 +81,13 @@ abbrev pub told_absence : Absence → ResignReason
 told_absence absence.Number = because.Number
 told_absence absence.Away = because.Away
 
--- and one that is
-abbrev pub told_staying : Reason → ResignReason
-told_staying tree.Held = because.Held
-told_staying tree.Pending = because.Pending
-
--- the tree has a worker of that number, which was at home, and may not resign for that reason
-abbrev pub IsResidentThatStays : Seated → ℕ → Reason → Type 0
-IsResidentThatStays m i why = (i < m.board.layout.workers) × (w : Hand)
-    × IsResident m.board m.hand.fit i w × IsReason w why
-
 -- why the worker of that number has not resigned to a member: the tree has none of that number, or
--- it is not at home; or it is one of the tree's, and held, or has a pending key
+-- it is not at home; or it is one of the tree's, and has a pending key
 abbrev pub IsStaying : Seated → ℕ → ResignReason → Type 0
 IsStaying m i because.Number = m.board.layout.workers ≤ i
 IsStaying m i because.Away = i < m.board.layout.workers
-IsStaying m i because.Held = IsResidentThatStays m i tree.Held
-IsStaying m i because.Pending = IsResidentThatStays m i tree.Pending
+IsStaying m i because.Pending = (i < m.board.layout.workers) × (w : Hand)
+    × IsResident m.board m.hand.fit i w × IsSome w.pending
 
 -- whether a worker is with a member is told of an open set, and of the numbers of its tree; that
 -- the answer is right is in no clause

@@ -1,20 +1,23 @@
 -- Calls that tend the set: one that loses its tries is made again, a delete is finished, and the
 -- nodes that wait are collected.
-use Rattle.std.specs.Prelude.{◌≡◌, ◌≢◌, ◌⊎◌, ◌+◌, ◌*◌, ◌≤◌, ◌<◌, ℕ, zero, suc, Bool, true, length, drop, List, [], ◌∷◌, Some, None, IsSome, Result, Ok, Err, IfOk}
+use Rattle.std.specs.Prelude.{◌≡◌, ◌≢◌, ◌⊎◌, ◌+◌, ◌*◌, ◌≤◌, ◌<◌, ℕ, zero, suc, Bool, true, length, drop, List, [], ◌∷◌, ◌++◌, Some, None, IsSome, Result, Ok, Err, IfOk}
 use Rattle.nm_edge.specs.Layouts.{Layout}
 use Rattle.nm_edge.specs.declared.node.NodeId.{NodeId}
 use Rattle.nm_model.specs.declared.event.Op.{Op}
 use Rattle.nm_model.specs.declared.event.Op.TheVariants.{Has, Insert, Delete}
-use Rattle.nm_steps.specs.Steps.{Board, IsSamePass, HasSeenAllOf}
+use Rattle.nm_model.specs.declared.trace.Turn.{Turn}
+use Rattle.nm_progress.specs.Moves.{number_of, moves_of_others}
+use Rattle.nm_progress.specs.Tries.{reshapes_of_others}
+use Rattle.nm_steps.specs.Steps.{Board, Stand, IsSamePass, HasSeenAllOf}
 use Rattle.nm_epoch.specs.declared.answers.Advance.{Advance}
 use Rattle.nm_epoch.specs.declared.collecting.Collected.{Collected}
 use Rattle.nm_epoch.specs.declared.collecting.HeldQueue.{HeldQueue}
-use Rattle.nm_calls.specs.Bounds.{chain_bound}
+use Rattle.nm_calls.specs.Bounds.{chain_bound, reach}
 use Rattle.nm_calls.specs.Moments.{AnswerHasMoment}
 use Rattle.nm_calls.specs.Won.{HasWon}
 use Rattle.nm_tree.specs.declared.fault.Fault.{Fault as Lost}
 use Rattle.nm_tree.specs.declared.fault.Fault.TheVariants as call
-use Rattle.nm_tree.specs.Workers.{Hand, IsBetweenCalls, waiting_in}
+use Rattle.nm_tree.specs.Workers.{Hand, waiting_in}
 use Rattle.nm_set.specs.declared.fault.Fault.{Fault}
 use Rattle.nm_set.specs.declared.fault.Fault.TheVariants as fault
 use Rattle.nm_set.specs.declared.tended.Habit.{Habit}
@@ -34,8 +37,7 @@ OthersOnlyLose o (h ∷ hs) (g ∷ gs) =
     (g.origin ≡ h.origin) × OnlyLoses o h g × OthersOnlyLose o hs gs
 OthersOnlyLose o _ _ = ⊥
 
--- the worker has gone on, in so many steps at most: the same pass, which has seen more, not held,
--- between two calls
+-- the worker has gone on, in so many steps at most: the same pass, which has seen more, not held
 pub record GoesOnTended (most : ℕ) (w z : Hand) : Type 0 where
   pub same : IsSamePass w.pass z.pass
   pub past : HasSeenAllOf z.pass w.pass
@@ -43,7 +45,6 @@ pub record GoesOnTended (most : ℕ) (w z : Hand) : Type 0 where
   pub steps : length z.pass.view.log ≤ length w.pass.view.log + most
   pub held : z.held ≡ None
   pub fit : z.fit ≡ w.fit
-  pub between : IsBetweenCalls z
 
 -- ---- calls that are made again
 
@@ -70,18 +71,18 @@ busy = Err (fault.Call call.Busy)
 -- `Looks`, `Inserts`, `Deletes`: look-ups, inserts and deletes that are made again while they lose
 -- each of their tries
 abbrev pub Looks : Board → Habit → ℕ → Hand → Hand → Result Bool Fault → Type 0
-Looks b h k w z r = IsAsked (Asked (LeavesHas b.layout.nodes h.tries k)) busy h.rounds w z r
+Looks b h k w z r = IsAsked (Asked (LeavesHas b.layout h.tries k)) busy h.rounds w z r
 
 abbrev pub Inserts : Board → Habit → ℕ → Hand → Hand → Result Bool Fault → Type 0
-Inserts b h k w z r = IsAsked (Asked (LeavesInsert b.layout.nodes h.tries k)) busy h.rounds w z r
+Inserts b h k w z r = IsAsked (Asked (LeavesInsert b.layout h.tries k)) busy h.rounds w z r
 
 abbrev pub Deletes : Board → Habit → ℕ → Hand → Hand → Result Bool Fault → Type 0
-Deletes b h k w z r = IsAsked (Asked (LeavesDelete b.layout.nodes h.tries k)) busy h.rounds w z r
+Deletes b h k w z r = IsAsked (Asked (LeavesDelete b.layout h.tries k)) busy h.rounds w z r
 
 -- the delete that is pending, if one is, while it is not finished
 abbrev pub FinishesPending : Board → Habit → Hand → Hand → Result Bool Lost → Type 0
 FinishesPending b h w z r =
-    IsAsked (LeavesFinish b.layout.nodes h.tries) (Err call.Unfinished) h.rounds w z r
+    IsAsked (LeavesFinish b.layout h.tries) (Err call.Unfinished) h.rounds w z r
 
 -- ---- collecting
 
@@ -100,6 +101,16 @@ pub record IsRelieved (b : Board) (w z : Hand) : Type 0 where
 abbrev pub IsTidied : Board → ℕ → Hand → Hand → Type 0
 IsTidied b many w z = ((many ≤ waiting_in w.queues) × IsRelieved b w z)
     ⊎ ((waiting_in w.queues < many) × (z ≡ w))
+
+-- ---- who disturbed
+
+-- between what p had seen and what q has seen, other workers have moved the epoch on, or linked or
+-- cut off nodes, at least so often together
+pub record WasDisturbed (p q : Stand) (times : ℕ) : Type 0 where
+  pub turns : List Turn
+  pub is : q.view.past ≡ p.view.past ++ turns
+  pub disturbed : times ≤ number_of (moves_of_others p.view.number) turns
+      + number_of (reshapes_of_others p.view.number) turns
 
 -- ---- the three calls
 
@@ -122,18 +133,19 @@ DeletesOn b h k w z r = (Deletes b h k w z r × (r ≢ Err (fault.Call call.Unfi
 
 -- first the delete of an earlier call is finished, where one is pending; what is told of where it
 -- is not, is that
-abbrev pub FinishesThen : Board → Habit → (Hand → Type 0) → Hand → Hand → Result Bool Fault → Type 0
+abbrev pub FinishesThen : {A : Type 0} → Board → Habit → (Hand → Type 0) → Hand → Hand
+    → Result A Fault → Type 0
 FinishesThen b h rest w z r = (FinishesPending b h w z (Err call.Unfinished)
     × (r ≡ Err (fault.Call call.Pending)))
     ⊎ ((answer : Bool) × (x : Hand) × FinishesPending b h w x (Ok answer) × rest x)
 
--- `Contains`, `Adds`, `RemovesTended`: first the delete of an earlier call is finished, and then
--- each of the three calls is made
+-- `Contains`, `InsertsTended`, `RemovesTended`: first the delete of an earlier call is finished, and
+-- then each of the three calls is made
 abbrev pub Contains : Board → Habit → ℕ → Hand → Hand → Result Bool Fault → Type 0
 Contains b h k w z r = FinishesThen b h (λ x. Looks b h k x z r) w z r
 
-abbrev pub Adds : Board → Habit → ℕ → Hand → Hand → Result Bool Fault → Type 0
-Adds b h k w z r = FinishesThen b h
+abbrev pub InsertsTended : Board → Habit → ℕ → Hand → Hand → Result Bool Fault → Type 0
+InsertsTended b h k w z r = FinishesThen b h
     (λ x. (y : Hand) × IsTidied b h.collect_after x y × InsertsOn b h k y z r) w z r
 
 abbrev pub RemovesTended : Board → Habit → ℕ → Hand → Hand → Result Bool Fault → Type 0
@@ -162,7 +174,7 @@ flags_told_by _ _ = 0
 -- the steps of a round at most: those of a call of the tree, two moves of the epoch and a
 -- collection
 abbrev pub round_bound : ℕ → Layout → ℕ
-round_bound tries L = tries * (4 * L.nodes + 8 * chain_bound) + 7 * L.nodes + 2 * L.workers + 12
+round_bound tries L = tries * (4 * reach L + 8 * chain_bound) + 7 * L.nodes + 2 * L.workers + 12
 
 -- the answer has its moment behind all that the worker had seen before this call; it has won what
 -- it tells and no more, and has gone on in so many rounds at most
@@ -173,23 +185,26 @@ pub record Tends (b : Board) (h : Habit) (op : Op) (k : ℕ) (w z : Hand)
   pub won : HasWon w.pass.view.log z.pass.view.log (links_told_by op r) (flags_told_by op r)
   pub on : GoesOnTended ((3 * h.rounds + 5) * round_bound h.tries b.layout) w z
 
--- the call did this, and a caller has that
+-- what the call did, and what a caller has of it
 pub record HasTended (does : Hand → Hand → Result Bool Fault → Type 0) (b : Board) (h : Habit)
     (op : Op) (k : ℕ) (w z : Hand) (r : Result Bool Fault) : Type 0 where
   pub did : does w z r
   pub tends : Tends b h op k w z r
 
 -- a worker that its caller holds is not asked, and nothing has changed; else that
-abbrev pub UnlessHeld : Type 0 → Hand → Hand → Result Bool Fault → Type 0
+abbrev pub UnlessHeld : {A : Type 0} → Type 0 → Hand → Hand → Result A Fault → Type 0
 UnlessHeld did w z r = (IsSome w.held × (r ≡ Err fault.Held) × (z ≡ w)) ⊎ ((w.held ≡ None) × did)
 
--- `TendsHas`, `TendsInsert`, `TendsDelete`: so each of the three calls; a worker that its caller
--- holds is not asked
+-- what a caller has of each of the three calls
+abbrev pub SaysTended : Op → Board → Habit → ℕ → Hand → Hand → Result Bool Fault → Type 0
+SaysTended op b h k w z r = UnlessHeld (Tends b h op k w z r) w z r
+
+-- `TendsHas`, `TendsInsert`, `TendsDelete`: that, and what each of them did
 abbrev pub TendsHas : Board → Habit → ℕ → Hand → Hand → Result Bool Fault → Type 0
 TendsHas b h k w z r = UnlessHeld (HasTended (Contains b h k) b h Has k w z r) w z r
 
 abbrev pub TendsInsert : Board → Habit → ℕ → Hand → Hand → Result Bool Fault → Type 0
-TendsInsert b h k w z r = UnlessHeld (HasTended (Adds b h k) b h Insert k w z r) w z r
+TendsInsert b h k w z r = UnlessHeld (HasTended (InsertsTended b h k) b h Insert k w z r) w z r
 
 abbrev pub TendsDelete : Board → Habit → ℕ → Hand → Hand → Result Bool Fault → Type 0
 TendsDelete b h k w z r = UnlessHeld (HasTended (RemovesTended b h k) b h Delete k w z r) w z r

@@ -3,9 +3,8 @@ ghost use Rattle.std.specs.Prelude.{IfOk, IfErr};
 ghost use Rattle.nm_set.specs.Ends.{EndsMember, IsNotEnded};
 
 use crate::member::Member;
-use crate::set::{CloseError, end};
+use crate::set::CloseError;
 use nm_tree::Report;
-use std::sync::Arc;
 
 /// A member has not ended its set. No worker is lost.
 #[derive(Drop)]
@@ -36,16 +35,14 @@ impl Member {
         ensures refused { IfErr result (IsNotEnded self) }
     {
         let (home, guest) = self.apart();
-        let Ok(mut workers) = home.room_with_one() else {
-            return Err(EndError::NoMemory(Member::of(home, guest)));
+        let Ok(workers) = home.room_with_one() else {
+            return Err(EndError::NoMemory(Member::back(home, guest)));
         };
-        let home = match Arc::try_unwrap(home) {
-            Ok(home) => home,
-            Err(home) => return Err(EndError::Away(Member::of(home, guest))),
+        let gathered = match home.gather(guest, workers) {
+            Ok(gathered) => gathered,
+            Err((home, guest)) => return Err(EndError::Away(Member::back(home, guest))),
         };
-        guest.stay_with(&mut workers);
-        let (site, workers) = home.gather(workers);
-        match end(site, workers) {
+        match gathered.close() {
             Ok(report) => Ok(report),
             Err(error) => Err(EndError::Gathered(error)),
         }

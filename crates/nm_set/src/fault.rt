@@ -1,7 +1,7 @@
 //! Why a call on a set or on one of its members was refused.
 use thiserror::Error;
 
-/// Why `has`, `insert` or `delete` has not answered.
+/// Why a call for a key has not answered.
 #[derive(Clone, Copy, Debug, Error, PartialEq, Eq)]
 pub enum Fault {
     /// The caller holds the worker: it is pinned until `unpin`. Nothing has changed, and there was
@@ -66,9 +66,6 @@ pub enum ResignReason {
     /// A member has that worker, the heir itself or another, or it has resigned.
     #[error("the worker is taken")]
     Away,
-    /// The worker went home while it was held.
-    #[error("the leaver is held")]
-    Held,
     /// The worker went home with a pending key.
     #[error("the leaver has a pending key")]
     Pending,

@@ -1,10 +1,11 @@
 //! The home of a tree's workers: a seat for each of them, where it is while nobody has it.
-ghost use Rattle.std.specs.Prelude.{◌≡◌, ◌<◌, ◌≤◌, ◌+◌, ◌↔◌, [], length, IfNone, IfOk, IfSome, IsErrOf, vec_capacity};
+ghost use Rattle.std.specs.Prelude.{◌≡◌, ◌<◌, ◌≤◌, ◌+◌, ◌↔◌, [], length, None, IfNone, IfOk, IfSome, IsErrOf, vec_capacity};
 ghost use Rattle.nm_tree.specs.Workers.{AreNew, HaveFit};
+ghost use Rattle.nm_set.specs.Posts.{HasTally};
 ghost use Rattle.nm_set.specs.Seats.{AreOwn, BeginsWith, IsOwn, IsResident};
 
 use crate::posting::Post;
-use crate::seat::{Guest, Seat, leave, retire, stand_up};
+use crate::seat::{AtHome, Guest, Seat, leave, retire, stand_up};
 use nm_pool::Fit;
 use nm_tree::{Tree, Worker};
 use std::alloc::{AllocError, Global};
@@ -47,18 +48,16 @@ pub(crate) enum Absence {
 }
 
 impl Home {
-    /// The home of a new tree, with all its workers in it.
-    pub(crate) fn of(alloc: Global, site: Site, workers: Vec<Worker>) -> Result<Home, AllocError>
-        requires new { AreNew site.tree 0 workers.items }
-        requires all { length workers.items ≡ site.tree.layout.workers }
-        requires fit { HaveFit site.fit workers.items }
+    /// The home of a tree with so many workers, all of which are away.
+    pub(crate) fn vacant(alloc: Global, site: Site, workers: u32) -> Result<Home, AllocError>
+        requires all { site.tree.layout.workers ≡ workers }
         ensures { IfOk result (λ home. home ≡ site) }
     {
-        let mut seats = Vec::with_capacity(alloc, workers.len())?;
+        let mut seats = Vec::with_capacity(alloc, workers as usize)?;
         let mut place = (site, 0);
-        for worker in workers {
-            place.1 = worker.number();
-            seats.push(Guest::of(worker).seated(&place))?;
+        for number in 0..workers {
+            place.1 = number;
+            seats.push(Seat::vacant(&place))?;
         }
         let (site, _) = place;
         Ok(Home { site, seats })
@@ -80,15 +79,27 @@ impl Home {
         }
     }
 
-    /// A worker of this tree sits down on its seat.
-    pub(crate) fn receive(&self, guest: Guest)
+    /// The workers of a new tree sit down on their seats.
+    pub(crate) fn receive_all(&self, workers: Vec<Worker>)
+        requires new { AreNew self.now.tree 0 workers.items }
+        requires fit { HaveFit self.now.fit workers.items }
+    {
+        for worker in workers {
+            self.receive(Guest::of(worker));
+        }
+    }
+
+    /// A worker of this tree, which its caller does not hold, sits down on its seat.
+    pub(crate) fn receive(&self, guest: Guest) -> AtHome
         requires own { IsOwn self.now.tree guest.worker }
         requires fit { guest.worker.fit ≡ self.now.fit }
+        requires free { guest.worker.held ≡ None }
+        ensures { HasTally result guest.worker.pass.view.log }
     {
         let Some(seat) = self.seats.get(guest.worker.number() as usize) else {
             unreachable!()
         };
-        guest.sit_down(seat);
+        guest.sit_down(seat)
     }
 
     /// A worker that was taken from its seat does not come back to it.

@@ -10,8 +10,12 @@
 mod attach;
 mod ending;
 mod fault;
+mod gathering;
 mod home;
+mod lease;
 mod member;
+mod opening;
+mod popping;
 mod posting;
 mod seat;
 mod set;
@@ -25,5 +29,6 @@ pub use nm_tree::{
     PinFault as CallPinFault, Query, Report,
 };
 pub use posting::Posted;
+pub use seat::AtHome;
 pub use set::{CloseError, KeepError, Set};
 pub use tended::Habit;

@@ -7,19 +7,20 @@ ghost use Rattle.nm_steps.specs.Steps.{HasHeard, HasSeen, HasSeenAllOf, IsNoteOf
 ghost use Rattle.nm_epoch.specs.Collecting.{NoneHas};
 ghost use Rattle.nm_tree.specs.Resigning.{HasResigned};
 ghost use Rattle.nm_tree.specs.Running.{HasSeenTurns};
-ghost use Rattle.nm_tree.specs.Workers.{Hand, IsBetweenCalls, IsLedger, waiting_in};
+ghost use Rattle.nm_tree.specs.Workers.{Hand, IsBetweenCalls, IsLedger, waiting_in, blocks_in, AreFewIn, IsIdle};
 ghost use Rattle.nm_calls.specs.declared.deleting.Unfinished.{Unfinished as Delete};
-ghost use Rattle.nm_tree.specs.Calls.{LeavesHas, LeavesInsert, LeavesDelete, LeavesFinish, LeavesAdvance, LeavesBehind, LeavesCollect};
+ghost use Rattle.nm_tree.specs.Calls.{LeavesHas, SaysHas, LeavesInsert, SaysInsert, LeavesDelete, SaysDelete, LeavesFinish, SaysFinish, LeavesAdvance, LeavesBehind, LeavesCollect};
 ghost use Rattle.nm_set.specs.Asked.{Asked, AskedToPin, AskedToUnpin};
 ghost use Rattle.nm_set.specs.InTurns.{AskedMany};
-ghost use Rattle.nm_set.specs.NextKeys.{AskedNext};
+ghost use Rattle.nm_set.specs.NextKeys.{AskedNext, AskedPrev};
 ghost use Rattle.nm_set.specs.Posts.{HasTally, ReadsNote};
-ghost use Rattle.nm_set.specs.Seats.{IsOwn, IsResident, IsStaying, told_absence, told_staying};
+ghost use Rattle.nm_set.specs.Seats.{IsLetGo, IsOwn, IsResident, IsStaying, told_absence};
 
 use crate::fault::{Fault, NotHeld, PinFault, PostFault, ResignReason};
 use crate::home::{Absence, Home};
+use crate::lease::Lease;
 use crate::posting::{Posted, leave_letter, read_letter};
-use crate::seat::{Guest, Stay, unite};
+use crate::seat::{AtHome, Guest, Stay, unite};
 use nm_edge::Key;
 use nm_steps::Note;
 use nm_tree::{Advance, Behind, Collected, Counts, Query, Worker};
@@ -28,23 +29,23 @@ use std::marker::Model;
 use std::sync::Arc;
 
 /// One worker of a set. It may go to another thread between two calls, and the tree lives as long
-/// as it does. Dropped, it goes home as by `close`.
+/// as it does. Dropped, it goes home as by `close`. What it has of its home gives its calls the
+/// tree, and no seat: they act by its own worker alone.
 pub struct Member {
-    home: Arc<Home, Global>,
+    home: Lease,
     guest: Guest,
 }
 
 impl Model for Member {
     ghost use Rattle.std.specs.Prelude.{◌≡◌};
-    ghost use Rattle.std.specs.Arc.{arc_value};
     ghost use Rattle.nm_set.specs.Seats.{IsOwn, Seated};
 
     ghost Value = { Seated };
 
-    ghost view = { λ m. record { board = (arc_value m.home).tree; hand = m.guest.worker } };
+    ghost view = { λ m. record { board = m.home.tree; hand = m.guest.worker } };
 
-    ghost invariant = { λ m. IsOwn (arc_value m.home).tree m.guest.worker
-        × (m.guest.worker.fit ≡ (arc_value m.home).fit) };
+    ghost invariant = { λ m. IsOwn m.home.tree m.guest.worker
+        × (m.guest.worker.fit ≡ m.home.fit) };
 }
 
 /// A member has not taken over a worker. It is as it was.
@@ -59,6 +60,16 @@ impl Member {
         requires own { IsOwn (arc_value home).tree guest.worker }
         requires fit { guest.worker.fit ≡ (arc_value home).fit }
         ensures board { result.board ≡ (arc_value home).tree }
+        ensures hand { result.hand ≡ guest.worker }
+    {
+        Member::back(Lease::of(home), guest)
+    }
+
+    /// The member that was taken apart.
+    pub(crate) fn back(home: Lease, guest: Guest) -> Member
+        requires own { IsOwn home.tree guest.worker }
+        requires fit { guest.worker.fit ≡ home.fit }
+        ensures board { result.board ≡ home.tree }
         ensures hand { result.hand ≡ guest.worker }
     {
         Member { home, guest }
@@ -78,6 +89,7 @@ impl Member {
         ensures own { IsOwn self.now.board self.now.hand }
         ensures seen { HasSeen self.now.hand.pass.view }
         ensures turns { HasSeenTurns self.now.hand.pass.view }
+        ensures idle { IsIdle self.now.hand }
         ensures run { IsOfRun self.now.hand.pass.view.layout self.now.hand.pass.view.number
             self.now.hand.pass.view.log }
         ensures fits { IsLayout self.now.hand.pass.view.layout }
@@ -89,9 +101,11 @@ impl Member {
     ///
     /// `Held`: the caller holds the worker. Other faults are the tree's.
     #[inline(always)]
-    pub fn has(&mut self, key: Key, tries: u32) -> Result<bool, Fault>
+    pub fn try_contains(&mut self, key: Key, tries: u32) -> Result<bool, Fault>
         ensures board { self.new.board ≡ self.old.board }
-        ensures did { Asked (LeavesHas self.old.board.layout.nodes tries key) self.old.hand
+        ensures says { Asked (SaysHas self.old.board.layout tries key) self.old.hand
+            self.new.hand result }
+        ensures did { Asked (LeavesHas self.old.board.layout tries key) self.old.hand
             self.new.hand result }
     {
         if self.guest.worker.held().is_some() {
@@ -107,9 +121,9 @@ impl Member {
     /// `nm_tree`.
     ///
     /// `Held`: the caller holds the worker. Other faults are the tree's.
-    pub fn has_many(&mut self, queries: &mut [Query], tries: u32) -> Result<(), Fault>
+    pub fn contains_many(&mut self, queries: &mut [Query], tries: u32) -> Result<(), Fault>
         ensures board { self.new.board ≡ self.old.board }
-        ensures did { AskedMany self.old.board.layout.nodes tries queries.old queries.new
+        ensures did { AskedMany self.old.board.layout tries queries.old queries.new
             self.old.hand self.new.hand result }
     {
         if self.guest.worker.held().is_some() {
@@ -131,7 +145,7 @@ impl Member {
     /// `Held`: the caller holds the worker. Other faults are the tree's.
     pub fn next(&mut self, key: Key, tries: u32) -> Result<Option<Key>, Fault>
         ensures board { self.new.board ≡ self.old.board }
-        ensures did { AskedNext self.old.board.layout.nodes tries key self.old.hand self.new.hand
+        ensures did { AskedNext self.old.board.layout tries key self.old.hand self.new.hand
             result }
     {
         if self.guest.worker.held().is_some() {
@@ -143,13 +157,33 @@ impl Member {
         }
     }
 
+    /// The greatest key of the set that is not above `key`, or `None` where there is none:
+    /// `Tree::prev` of `nm_tree`.
+    ///
+    /// `Held`: the caller holds the worker. Other faults are the tree's.
+    pub fn prev(&mut self, key: Key, tries: u32) -> Result<Option<Key>, Fault>
+        ensures board { self.new.board ≡ self.old.board }
+        ensures did { AskedPrev self.old.board.layout tries key self.old.hand self.new.hand
+            result }
+    {
+        if self.guest.worker.held().is_some() {
+            return Err(Fault::Held);
+        }
+        match self.home.tree().prev(&mut self.guest.worker, key, tries) {
+            Ok(found) => Ok(found),
+            Err(fault) => Err(Fault::Call(fault)),
+        }
+    }
+
     /// Inserts a key, and answers whether it was not in the set: `Tree::insert` of `nm_tree`.
     ///
     /// `Held`: the caller holds the worker. Other faults are the tree's.
     #[inline(always)]
-    pub fn insert(&mut self, key: Key, tries: u32) -> Result<bool, Fault>
+    pub fn try_insert(&mut self, key: Key, tries: u32) -> Result<bool, Fault>
         ensures board { self.new.board ≡ self.old.board }
-        ensures did { Asked (LeavesInsert self.old.board.layout.nodes tries key) self.old.hand
+        ensures says { Asked (SaysInsert self.old.board.layout tries key) self.old.hand
+            self.new.hand result }
+        ensures did { Asked (LeavesInsert self.old.board.layout tries key) self.old.hand
             self.new.hand result }
     {
         if self.guest.worker.held().is_some() {
@@ -166,9 +200,11 @@ impl Member {
     /// `Held`: the caller holds the worker. Other faults are the tree's; behind `Unfinished` the
     /// key is pending, and `finish` goes on.
     #[inline(always)]
-    pub fn delete(&mut self, key: Key, tries: u32) -> Result<bool, Fault>
+    pub fn try_remove(&mut self, key: Key, tries: u32) -> Result<bool, Fault>
         ensures board { self.new.board ≡ self.old.board }
-        ensures did { Asked (LeavesDelete self.old.board.layout.nodes tries key) self.old.hand
+        ensures says { Asked (SaysDelete self.old.board.layout tries key) self.old.hand
+            self.new.hand result }
+        ensures did { Asked (LeavesDelete self.old.board.layout tries key) self.old.hand
             self.new.hand result }
     {
         if self.guest.worker.held().is_some() {
@@ -185,7 +221,8 @@ impl Member {
     #[inline(always)]
     pub fn finish(&mut self, tries: u32) -> Result<bool, nm_tree::Fault>
         ensures board { self.new.board ≡ self.old.board }
-        ensures did { LeavesFinish self.old.board.layout.nodes tries self.old.hand self.new.hand
+        ensures says { SaysFinish self.old.board.layout tries self.old.hand self.new.hand result }
+        ensures did { LeavesFinish self.old.board.layout tries self.old.hand self.new.hand
             result }
     {
         self.home.tree().finish(&mut self.guest.worker, tries)
@@ -281,6 +318,9 @@ impl Member {
     /// memory.
     ///
     /// `None`: a reader has the earlier note at this moment, and that stays.
+    ///
+    /// What is told is proved; that the note lies there then is shown by tests, since what lies on
+    /// a post is in no clause.
     pub fn post(&mut self) -> Option<Posted>
         ensures same { self.new ≡ self.old }
         ensures tally { IfSome result (λ p. HasTally p self.old.hand.pass.view.log) }
@@ -296,6 +336,9 @@ impl Member {
     ///
     /// `Number`: the tree has no worker of that number. `Busy`: another member is at that post at
     /// this moment. Nothing has changed.
+    ///
+    /// What is told is proved of what was heard; that this is the latest note, and that none was
+    /// left where none is told, is shown by tests, since what lies on a post is in no clause.
     pub fn read(&mut self, number: u32) -> Result<Option<Posted>, PostFault>
         ensures board { self.new.board ≡ self.old.board }
         ensures heard { ReadsNote self.old.board number self.old.hand self.new.hand result }
@@ -335,19 +378,43 @@ impl Member {
         self.guest.worker.queue_len()
     }
 
-    /// The worker goes home, with all that it holds, is held at or has pending, and can be taken
-    /// again by `Set::member`. Of its tree nothing changes.
-    pub fn close(self) {
-        let (home, guest) = self.apart();
-        home.receive(guest);
+    /// How many blocks of 32 places, of 776 bytes each, the queues that the worker holds have,
+    /// behind any call: at most what waits and 318 places a queue ask for.
+    pub fn queue_blocks(&self) -> u64
+        ensures blocks { result ≡ blocks_in self.now.hand.queues }
+        ensures few { AreFewIn result self.now.hand.queues }
+    {
+        self.guest.worker.queue_blocks()
     }
 
-    /// The home that the member keeps, and its worker as it is.
-    pub(crate) fn apart(self) -> (Arc<Home, Global>, Guest)
+    /// The worker goes home, with all that it holds or has pending, and can be taken again by
+    /// `Set::member`. It goes unpinned: a pin of the caller ends as by `unpin`. Else nothing of its
+    /// tree changes: what it has won as it sits down is what it had won before.
+    pub fn close(self) -> AtHome
+        ensures { HasTally result self.hand.pass.view.log }
+    {
+        let mut member = self;
+        member.let_go();
+        let (home, guest) = member.apart();
+        home.receive(guest)
+    }
+
+    /// Ends the caller's pin, where it holds the worker.
+    fn let_go(&mut self)
+        ensures board { self.new.board ≡ self.old.board }
+        ensures did { IsLetGo self.old.hand self.new.hand }
+    {
+        if self.held().is_some() {
+            self.home.tree().unpin(&mut self.guest.worker);
+        }
+    }
+
+    /// What the member has of its home, and its worker as it is.
+    pub(crate) fn apart(self) -> (Lease, Guest)
         ensures worker { result.1.worker ≡ self.hand }
-        ensures tree { (arc_value result.0).tree ≡ self.board }
+        ensures tree { result.0.tree ≡ self.board }
         ensures own { IsOwn self.board self.hand }
-        ensures fit { self.hand.fit ≡ (arc_value result.0).fit }
+        ensures fit { self.hand.fit ≡ result.0.fit }
     {
         let Self { home, guest } = self;
         (home, guest)
@@ -361,7 +428,7 @@ impl Member {
         ensures own { IsOwn self.board self.hand }
     {
         let (home, guest) = self.apart();
-        home.retire(guest.worker.number());
+        let _home = home.retire(guest.worker.number());
         guest.stay_with(workers);
     }
 
@@ -370,7 +437,7 @@ impl Member {
     ///
     /// Refused, nothing has changed: the leaver is at home, as it was, and the member is handed
     /// back as it was. `Number`: the tree has no worker of that number. `Away`: it is not at home.
-    /// `Held`, `Pending`: it went home so.
+    /// `Pending`: it went home with a pending key.
     pub fn resign(self, leaver: u32) -> Result<Member, ResignError>
         ensures done { IfOk result
             (λ m. (m.board ≡ self.board) × (w : Hand) × IsResident self.board self.hand.fit leaver w
@@ -379,7 +446,8 @@ impl Member {
         ensures reason { IfErr result (λ e. IsStaying self leaver e.reason) }
     {
         let Member { home, guest } = self;
-        let other = match home.take(leaver) {
+        let (home, found) = home.take(leaver);
+        let other = match found {
             Ok(other) => other,
             Err(absence) => {
                 return Err(ResignError {
@@ -389,20 +457,13 @@ impl Member {
             }
         };
         match unite(home.tree(), guest, other) {
-            Ok(heir) => {
-                home.retire(leaver);
-                Ok(Member::of(home, heir))
-            }
+            Ok(heir) => Ok(Member::back(home.retire(leaver), heir)),
             Err(stay) => {
-                let Stay {
-                    reason,
-                    heir,
-                    leaver,
-                } = stay;
+                let Stay { heir, leaver } = stay;
                 home.receive(leaver);
                 Err(ResignError {
-                    reason: refusal_of(reason),
-                    member: Member::of(home, heir),
+                    reason: ResignReason::Pending,
+                    member: Member::back(home, heir),
                 })
             }
         }
@@ -411,7 +472,7 @@ impl Member {
 
 impl Drop for Member {
     fn drop(self) {
-        self.close();
+        let _at_home = self.close();
     }
 }
 
@@ -422,15 +483,5 @@ fn reason_of(absence: Absence) -> ResignReason
     match absence {
         Absence::Number => ResignReason::Number,
         Absence::Away => ResignReason::Away,
-    }
-}
-
-/// The tree's reason.
-fn refusal_of(reason: nm_tree::ResignReason) -> ResignReason
-    ensures { result ≡ told_staying reason }
-{
-    match reason {
-        nm_tree::ResignReason::Held => ResignReason::Held,
-        nm_tree::ResignReason::Pending => ResignReason::Pending,
     }
 }

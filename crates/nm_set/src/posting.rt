@@ -11,7 +11,7 @@ use counted_slot::{Counted, FREE, Fits, MARKED, PRESENT, TAKEN};
 use nm_steps::Note;
 use nm_tree::{Tree, Worker};
 
-/// What a worker had won when it left a note.
+/// What a worker had won when it left a note, or went home.
 #[derive(Clone, Copy, Debug, PartialEq, Eq)]
 pub struct Posted {
     /// Its links: one for each key that it had inserted.
@@ -65,7 +65,7 @@ pub(crate) fn leave_letter(tree: &Tree, post: &Post, worker: &mut Worker) -> Opt
 }
 
 /// What a worker has won so far.
-fn tally_of(worker: &Worker) -> Posted
+pub(crate) fn tally_of(worker: &Worker) -> Posted
     ensures { HasTally result worker.now.pass.view.log }
 {
     let counts = worker.ledger();

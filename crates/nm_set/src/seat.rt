@@ -1,13 +1,14 @@
 //! The seats of a tree's workers, each with the post of its worker, and workers that sit on none.
-ghost use Rattle.std.specs.Prelude.{◌≡◌, ◌<◌, ◌∷◌, [], ◌++◌, length, vec_capacity, option_map, IfOk, IfErr, IfSome};
+ghost use Rattle.std.specs.Prelude.{◌≡◌, ◌<◌, ◌∷◌, [], ◌++◌, length, vec_capacity, option_map, None, IfOk, IfErr, IfSome, IsSome};
 ghost use Rattle.nm_steps.specs.Steps.{IsOf};
-ghost use Rattle.nm_tree.specs.Resigning.{HasResigned, IsReason};
+ghost use Rattle.nm_tree.specs.Resigning.{HasResigned};
+ghost use Rattle.nm_set.specs.Posts.{HasTally};
 ghost use Rattle.nm_set.specs.Seats.{IsResident};
 
 use crate::home::Site;
-use crate::posting::{Post, empty_post};
+use crate::posting::{Post, Posted, empty_post, tally_of};
 use counted_slot::{Counted, FREE, Fits, MARKED, PRESENT, TAKEN};
-use nm_tree::{ResignReason, Tree, Worker};
+use nm_tree::{Tree, Worker};
 use std::marker::Model;
 
 /// A worker that is at home.
@@ -43,6 +44,21 @@ impl Model for Seat {
 }
 
 impl Seat {
+    /// A seat whose worker is away, and has never sat on it.
+    pub(crate) fn vacant(place: &(Site, u32)) -> Seat
+        ensures { result ≡ place.now }
+    {
+        let seat = Seat {
+            chair: Counted::new(None, place),
+            post: empty_post(place),
+        };
+        // Nobody sits there, so that its word alone changes.
+        if let Some(guest) = stand_up(&seat) {
+            guest.sit_down(&seat);
+        }
+        seat
+    }
+
     /// Where the worker of this seat leaves its letters.
     pub(crate) fn post(&self) -> &Post
         ensures { result.now ≡ self.now }
@@ -58,15 +74,44 @@ impl Seat {
 }
 
 /// A worker that sits on no seat: a member has it, or it is on its way to one or from one. It is
-/// not `Drop`: whoever has it hands it on, on each way out of each function, or takes it apart
-/// here. So no worker is lost by a way out that was not thought of.
+/// not `Drop`, and nor is its seal, which this file alone can name: whoever has it hands it on, on
+/// each way out of each function, or takes it apart here. So no worker is lost by a way out that
+/// was not thought of, and none is taken out of its guest elsewhere.
 pub(crate) struct Guest {
     pub(crate) worker: Worker,
+    seal: Seal,
 }
 
-/// Two workers of which one does not resign to the other. Both are as they were.
+/// What keeps a guest whole. It says nothing else.
+struct Seal {}
+
+/// That a worker has gone home, and what it had won as it sat down. It is made there, and nowhere
+/// else.
+#[derive(Drop)]
+pub struct AtHome {
+    won: Posted,
+}
+
+impl Model for AtHome {
+    ghost use Rattle.nm_set.specs.declared.posting.Posted.{Posted};
+
+    ghost Value = { Posted };
+
+    ghost view = { λ a. a.won };
+}
+
+impl AtHome {
+    /// What the worker had won as it sat down.
+    pub fn won(&self) -> Posted
+        ensures { result ≡ self.now }
+    {
+        self.won
+    }
+}
+
+/// Two workers of which one does not resign to the other, since it has a pending key. Both are as
+/// they were.
 pub(crate) struct Stay {
-    pub(crate) reason: ResignReason,
     pub(crate) heir: Guest,
     pub(crate) leaver: Guest,
 }
@@ -76,41 +121,48 @@ impl Guest {
     pub(crate) fn of(worker: Worker) -> Guest
         ensures { result.worker ≡ worker }
     {
-        Guest { worker }
-    }
-
-    /// A seat with the worker on it.
-    pub(crate) fn seated(self, place: &(Site, u32)) -> Seat
-        requires { IsResident place.now.0.tree place.now.0.fit place.now.1 self.worker }
-        ensures { result ≡ place.now }
-    {
-        Seat {
-            chair: Counted::new(Some(self.at_home()), place),
-            post: empty_post(place),
+        Guest {
+            worker,
+            seal: Seal {},
         }
     }
 
-    /// The worker sits down on its seat. Only the worker that sits there leaves it empty, so that
-    /// it is empty when that one comes home: where it were not, which no clause can tell of a seat,
-    /// the worker would end here.
-    pub(crate) fn sit_down(self, seat: &Seat)
-        requires { IsResident seat.now.0.tree seat.now.0.fit seat.now.1 self.worker }
+    /// The worker alone.
+    fn apart(self) -> Worker
+        ensures { result ≡ self.worker }
     {
+        let Guest { worker, seal } = self;
+        let Seal {} = seal;
+        worker
+    }
+
+    /// The worker sits down on its seat, with what it has won so far. Only the worker that sits
+    /// there leaves it empty, so that it is empty when that one comes home: where it were not,
+    /// which no clause can tell of a seat, the worker would end here.
+    pub(crate) fn sit_down(self, seat: &Seat) -> AtHome
+        requires { IsResident seat.now.0.tree seat.now.0.fit seat.now.1 self.worker }
+        ensures { HasTally result self.worker.pass.view.log }
+    {
+        let at_home = AtHome {
+            won: tally_of(&self.worker),
+        };
         let resident = self.at_home();
         let (found, claim) = seat.chair.turn(PRESENT, TAKEN);
         if found != PRESENT {
             claim.done();
-            return;
+            return at_home;
         }
         claim.put(Some(resident), FREE);
+        at_home
     }
 
     /// The worker as it sits at home, which is as it came.
     fn at_home(self) -> Resident
         ensures { result.worker ≡ self.worker }
     {
-        let Guest { worker } = self;
-        Resident { worker }
+        Resident {
+            worker: self.apart(),
+        }
     }
 
     /// The worker stays with these. There is room for it.
@@ -119,8 +171,7 @@ impl Guest {
         ensures items { workers.new.items ≡ workers.old.items ++ self.worker ∷ [] }
         ensures capacity { vec_capacity workers.new ≡ vec_capacity workers.old }
     {
-        let Guest { worker } = self;
-        workers.push_reserved(worker);
+        workers.push_reserved(self.apart());
     }
 }
 
@@ -156,31 +207,28 @@ pub(crate) fn leave(seat: Seat) -> Option<Guest>
 
 /// What was on a seat.
 fn guest_of(found: Option<Resident>) -> Option<Guest>
-    ensures { result ≡ option_map (λ (r : Resident). record { worker = r.worker }) found }
+    ensures { option_map (λ (g : Guest). g.worker) result
+        ≡ option_map (λ (r : Resident). r.worker) found }
 {
     let Resident { worker } = found?;
-    Some(Guest { worker })
+    Some(Guest::of(worker))
 }
 
 /// One worker resigns to another: `Tree::resign` of `nm_tree`. Refused, both are handed back.
 pub(crate) fn unite(tree: &Tree, heir: Guest, leaver: Guest) -> Result<Guest, Stay>
     requires heir { IsOf tree.now heir.worker.pass }
     requires leaver { IsOf tree.now leaver.worker.pass }
+    requires free { leaver.worker.held ≡ None }
     ensures done { IfOk result (λ g. HasResigned heir.worker leaver.worker g.worker) }
     ensures refused { IfErr result
-        (λ s. IsReason leaver.worker s.reason × (s.heir.worker ≡ heir.worker)
+        (λ s. IsSome leaver.worker.pending × (s.heir.worker ≡ heir.worker)
         × (s.leaver.worker ≡ leaver.worker)) }
 {
-    let Guest { worker: heir } = heir;
-    let Guest { worker: leaver } = leaver;
-    match tree.resign(heir, leaver) {
-        Ok(worker) => Ok(Guest { worker }),
+    match tree.resign(heir.apart(), leaver.apart()) {
+        Ok(worker) => Ok(Guest::of(worker)),
         Err(fault) => Err(Stay {
-            reason: fault.reason,
-            heir: Guest { worker: fault.heir },
-            leaver: Guest {
-                worker: fault.leaver,
-            },
+            heir: Guest::of(fault.heir),
+            leaver: Guest::of(fault.leaver),
         }),
     }
 }

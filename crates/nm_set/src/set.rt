@@ -2,7 +2,7 @@
 //! or with the set.
 ghost use Rattle.std.specs.Prelude.{◌≡◌, ◌<◌, ◌≤◌, ◌↔◌, ◌⊎◌, ◌++◌, ◌∷◌, [], true, false, length, IfOk, IfErr, IsErrOf, OnOk, OnErr};
 ghost use Rattle.std.specs.Arc.{arc_value};
-ghost use Rattle.nm_edge.specs.Layouts.{spaced};
+ghost use Rattle.nm_edge.specs.Layouts.{in_radix, spaced};
 ghost use Rattle.nm_tree.specs.Closing.{IsClosed};
 ghost use Rattle.nm_tree.specs.Workers.{AreNew, HaveFit};
 ghost use Rattle.nm_set.specs.Seats.{AreOwn, BeginsWith, IsResident, IsAnyResident, TellsAway};
@@ -63,31 +63,33 @@ pub struct KeepError {
 }
 
 impl Set {
-    /// The empty set, in a tree with room for `nodes` nodes, 7 to 268,435,456, for 1 to 64 workers,
-    /// whose announcements have pages of their own; a new node takes the lowest free slot:
-    /// `Tree::spaced` of `nm_tree` with the lowest fit.
+    /// The empty set, in a radix tree with room for `nodes` nodes, 7 to 268,435,456, for 1 to 64
+    /// workers, whose announcements have pages of their own. No walk takes more than 66 nodes,
+    /// whatever keys come in whatever order; and each worker looks for a free slot near the one that
+    /// it found or gave back last: `Tree::radix` of `nm_tree` with the near fit.
     ///
     /// `NoMemory`: nothing is kept.
-    pub fn lowest(alloc: Global, nodes: u32, workers: u32) -> Result<Set, NewError>
+    pub fn new(alloc: Global, nodes: u32, workers: u32) -> Result<Set, NewError>
         ensures open { IfOk result
-            (λ s. (s.closing ≡ false) × (s.kept ≡ []) × (s.board.layout ≡ spaced nodes workers)) }
-        ensures fit { IfOk result (λ s. s.fit ≡ Fit.Lowest) }
+            (λ s. (s.closing ≡ false) × (s.kept ≡ [])
+            × (s.board.layout ≡ in_radix (spaced nodes workers))) }
+        ensures fit { IfOk result (λ s. s.fit ≡ Fit.Near) }
         ensures nodes { IsErrOf result NewError.Nodes
             ↔ ((nodes < LEAST_NODES) ⊎ (MOST_SPACED_NODES < nodes)) }
         ensures workers { IsErrOf result NewError.Workers
             ↔ ((LEAST_NODES ≤ nodes) × (nodes ≤ MOST_SPACED_NODES)
             × ((workers < 1) ⊎ (MOST_WORKERS < workers))) }
     {
-        let (tree, workers) = Tree::spaced(alloc, nodes, workers, Fit::Lowest)?;
+        let (tree, all) = Tree::radix(alloc, nodes, workers, Fit::Near)?;
         let site = Site {
             tree,
-            fit: Fit::Lowest,
+            fit: Fit::Near,
         };
-        settle(alloc, site, workers)
+        settle(alloc, site, all, workers)
     }
 
-    /// The same, but each worker looks for a free slot near the one that it found or gave back
-    /// last: `Tree::spaced` with the near one.
+    /// The same, in the tree of Natarajan and Mittal, which keys that come in order make one long
+    /// path: `Tree::spaced` with the near fit.
     pub fn near(alloc: Global, nodes: u32, workers: u32) -> Result<Set, NewError>
         ensures open { IfOk result
             (λ s. (s.closing ≡ false) × (s.kept ≡ []) × (s.board.layout ≡ spaced nodes workers)) }
@@ -98,15 +100,45 @@ impl Set {
             ↔ ((LEAST_NODES ≤ nodes) × (nodes ≤ MOST_SPACED_NODES)
             × ((workers < 1) ⊎ (MOST_WORKERS < workers))) }
     {
-        let (tree, workers) = Tree::spaced(alloc, nodes, workers, Fit::Near)?;
+        let (tree, all) = Tree::spaced(alloc, nodes, workers, Fit::Near)?;
         let site = Site {
             tree,
             fit: Fit::Near,
         };
-        settle(alloc, site, workers)
+        settle(alloc, site, all, workers)
     }
 
-    /// Gives out the worker of a number, with all that it held when it went home.
+    /// The same as `near`, but a new node takes the lowest free slot, for who compares slots:
+    /// `Tree::spaced` with the lowest fit.
+    pub fn lowest(alloc: Global, nodes: u32, workers: u32) -> Result<Set, NewError>
+        ensures open { IfOk result
+            (λ s. (s.closing ≡ false) × (s.kept ≡ []) × (s.board.layout ≡ spaced nodes workers)) }
+        ensures fit { IfOk result (λ s. s.fit ≡ Fit.Lowest) }
+        ensures nodes { IsErrOf result NewError.Nodes
+            ↔ ((nodes < LEAST_NODES) ⊎ (MOST_SPACED_NODES < nodes)) }
+        ensures workers { IsErrOf result NewError.Workers
+            ↔ ((LEAST_NODES ≤ nodes) × (nodes ≤ MOST_SPACED_NODES)
+            × ((workers < 1) ⊎ (MOST_WORKERS < workers))) }
+    {
+        let (tree, all) = Tree::spaced(alloc, nodes, workers, Fit::Lowest)?;
+        let site = Site {
+            tree,
+            fit: Fit::Lowest,
+        };
+        settle(alloc, site, all, workers)
+    }
+
+    /// An open set that keeps no workers.
+    pub(crate) fn of(alloc: Global, home: Arc<Home, Global>) -> Set
+        ensures { result ≡ open_set (arc_value home) [] }
+    {
+        Set {
+            state: State::Open(home),
+            kept: Vec::new(alloc),
+        }
+    }
+
+    /// Gives out the worker of a number, with all that it held when it went home. It is not held.
     ///
     /// `Number`: the tree has no worker of that number. `Away`: the worker is not at home.
     pub fn member(&self, number: u32) -> Result<Member, MemberFault>
@@ -135,7 +167,8 @@ impl Set {
     }
 
     /// Gives out a worker that is at home, with all that it held when it went home, where the
-    /// caller names no number: the one with the least.
+    /// caller names no number. It is not held. It looks at each seat once, in the order of their
+    /// numbers, and takes the first worker that it finds (which one that is, is shown by tests).
     ///
     /// `Away`: each seat was empty when it was looked at, once each, one after the other. That no
     /// worker was at home at one moment is not said: one may have gone home to a seat behind the
@@ -220,22 +253,20 @@ impl Set {
     }
 }
 
-/// A set of a new tree and all its workers.
-fn settle(alloc: Global, site: Site, workers: Vec<Worker>) -> Result<Set, NewError>
+/// A set of a new tree and all its workers, which go to their seats.
+fn settle(alloc: Global, site: Site, workers: Vec<Worker>, seats: u32) -> Result<Set, NewError>
     requires new { AreNew site.tree 0 workers.items }
-    requires all { length workers.items ≡ site.tree.layout.workers }
+    requires each { site.tree.layout.workers ≡ seats }
     requires fit { HaveFit site.fit workers.items }
     ensures set { IfOk result (λ s. s ≡ open_set site []) }
     ensures memory { IfErr result (λ e. e ≡ NewError.NoMemory) }
 {
-    let Ok(home) = Home::of(alloc, site, workers) else {
+    let Ok(home) = Home::vacant(alloc, site, seats) else {
         return Err(NewError::NoMemory);
     };
+    home.receive_all(workers);
     match Arc::new(alloc, home) {
-        Ok(home) => Ok(Set {
-            state: State::Open(home),
-            kept: Vec::new(alloc),
-        }),
+        Ok(home) => Ok(Set::of(alloc, home)),
         Err(_) => Err(NewError::NoMemory),
     }
 }

@@ -1,12 +1,12 @@
 //! Calls that tend the set: a call that has lost its tries is made again, a delete that has begun
 //! is finished, and retired nodes are collected.
-ghost use Rattle.std.specs.Prelude.{◌≡◌, ◌≢◌, ◌≤◌, ◌-◌, true, false, None, Err};
-ghost use Rattle.nm_steps.specs.Steps.{HasSeen};
+ghost use Rattle.std.specs.Prelude.{◌≡◌, ◌≢◌, ◌≤◌, ◌+◌, ◌-◌, ◌*◌, true, false, None, Err};
+ghost use Rattle.nm_model.specs.declared.event.Op.TheVariants.{Has, Insert, Delete};
 ghost use Rattle.nm_tree.specs.declared.fault.Fault.TheVariants as lost;
 ghost use Rattle.nm_tree.specs.Calls.{LeavesInsert, LeavesDelete};
-ghost use Rattle.nm_tree.specs.Workers.{Hand};
+ghost use Rattle.nm_tree.specs.Workers.{Hand, IsIdle};
 ghost use Rattle.nm_set.specs.Asked.{Asked};
-ghost use Rattle.nm_set.specs.Tended.{busy, Looks, Inserts, Deletes, FinishesPending, IsRelieved, InsertsOn, DeletesOn, TendsHas, TendsInsert, TendsDelete};
+ghost use Rattle.nm_set.specs.Tended.{busy, Looks, Inserts, Deletes, FinishesPending, IsRelieved, InsertsOn, DeletesOn, SaysTended, WasDisturbed, TendsHas, TendsInsert, TendsDelete};
 
 use crate::fault::Fault;
 use crate::member::Member;
@@ -14,8 +14,8 @@ use nm_edge::Key;
 use nm_tree::Fault as CallFault;
 
 /// What a call that tends the set may spend, and when it collects. Such a call takes at most 3
-/// `rounds` + 5 rounds, each of at most `tries` * (4 `nodes` + 512) + 7 `nodes` + 2 `workers` + 12
-/// steps.
+/// `rounds` + 5 rounds, each of at most `tries` * (4 `reach` + 512) + 7 `nodes` + 2 `workers` + 12
+/// steps, where a walk's reach is 66 nodes in a radix tree, and else as many as there are.
 #[repr(C)]
 #[derive(Clone, Copy, Debug, PartialEq, Eq)]
 pub struct Habit {
@@ -92,10 +92,15 @@ impl Member {
     ///
     /// `Held`: the caller holds the worker; nothing has changed. `Pending`: the delete of the
     /// earlier call is not finished, and this call has done nothing else. `Busy`: each of the
-    /// look-ups has lost each of its tries, or there might be none.
+    /// look-ups has lost each of its tries, or there might be none: other workers have moved the
+    /// epoch on, or linked or cut off nodes, at least so often meanwhile.
     pub fn contains(&mut self, key: Key, habit: &Habit) -> Result<bool, Fault>
         ensures board { self.new.board ≡ self.old.board }
+        ensures says { SaysTended Has self.old.board habit.now key self.old.hand self.new.hand
+            result }
         ensures did { TendsHas self.old.board habit.now key self.old.hand self.new.hand result }
+        ensures disturbed { result ≡ busy → WasDisturbed self.old.hand.pass self.new.hand.pass
+            ((habit.now.rounds + 1) * habit.now.tries) }
     {
         if self.held().is_some() {
             return Err(Fault::Held);
@@ -117,14 +122,16 @@ impl Member {
     /// `Held`, `Pending`, `Busy`: as `contains` tells them. `Full`: no slot was free for a new
     /// node, and none behind the collection either. `NoMemory`: the room of a try was refused, and
     /// nothing of the insert stands but help given to others.
-    pub fn add(&mut self, key: Key, habit: &Habit) -> Result<bool, Fault>
+    pub fn insert(&mut self, key: Key, habit: &Habit) -> Result<bool, Fault>
         ensures board { self.new.board ≡ self.old.board }
+        ensures says { SaysTended Insert self.old.board habit.now key self.old.hand self.new.hand
+            result }
         ensures did { TendsInsert self.old.board habit.now key self.old.hand self.new.hand result }
     {
         if self.rests() {
-            return self.add_tending(key, habit);
+            return self.insert_tending(key, habit);
         }
-        self.add_unrested(key, habit)
+        self.insert_unrested(key, habit)
     }
 
     /// Deletes a key, and answers whether it was in the set: true once the leaf with the key is cut
@@ -132,7 +139,7 @@ impl Member {
     ///
     /// As `contains` does, it finishes the delete of an earlier call, and makes a delete that has
     /// lost each of its tries again; one that has flagged its leaf goes on by `rounds` and one
-    /// calls of `finish` at most. It collects first where `add` does. Nothing is pending behind an
+    /// calls of `finish` at most. It collects first where `insert` does. Nothing is pending behind an
     /// answer, `Busy` and `NoMemory`.
     ///
     /// `Held`, `Pending`, `Busy`: as `contains` tells them. `NoMemory`: the room of a try was
@@ -141,6 +148,8 @@ impl Member {
     /// pending, and the next call that tends the set finishes it first.
     pub fn remove(&mut self, key: Key, habit: &Habit) -> Result<bool, Fault>
         ensures board { self.new.board ≡ self.old.board }
+        ensures says { SaysTended Delete self.old.board habit.now key self.old.hand self.new.hand
+            result }
         ensures did { TendsDelete self.old.board habit.now key self.old.hand self.new.hand result }
     {
         if self.rests() {
@@ -150,19 +159,19 @@ impl Member {
     }
 
     /// Whether the caller does not hold the worker and nothing is pending, as nearly always. It
-    /// chooses a copy of `add` or `remove` alone: one in which the compiler leaves these tests out.
+    /// chooses a copy of `insert` or `remove` alone: one in which the compiler leaves these tests out.
     fn rests(&self) -> bool {
         self.held().is_none() && self.pending().is_none()
     }
 
-    /// `add`, out of the way of the many calls of a worker that rests.
+    /// `insert`, out of the way of the many calls of a worker that rests.
     #[cold]
     #[inline(never)]
-    fn add_unrested(&mut self, key: Key, habit: &Habit) -> Result<bool, Fault>
+    fn insert_unrested(&mut self, key: Key, habit: &Habit) -> Result<bool, Fault>
         ensures board { self.new.board ≡ self.old.board }
         ensures did { TendsInsert self.old.board habit.now key self.old.hand self.new.hand result }
     {
-        self.add_tending(key, habit)
+        self.insert_tending(key, habit)
     }
 
     /// `remove`, out of the way of the many calls of a worker that rests.
@@ -175,9 +184,9 @@ impl Member {
         self.remove_tending(key, habit)
     }
 
-    /// `add`, of any worker.
+    /// `insert`, of any worker.
     #[inline(always)]
-    fn add_tending(&mut self, key: Key, habit: &Habit) -> Result<bool, Fault>
+    fn insert_tending(&mut self, key: Key, habit: &Habit) -> Result<bool, Fault>
         ensures board { self.new.board ≡ self.old.board }
         ensures did { TendsInsert self.old.board habit.now key self.old.hand self.new.hand result }
     {
@@ -188,7 +197,7 @@ impl Member {
             return Err(Fault::Call(CallFault::Pending));
         };
         if self.queue_len() >= u64::from(habit.collect_after) {
-            return self.add_relieved(key, habit);
+            return self.insert_relieved(key, habit);
         }
         self.insert_on(key, habit)
     }
@@ -215,7 +224,7 @@ impl Member {
     /// A collection, and the insert behind it.
     #[cold]
     #[inline(never)]
-    fn add_relieved(&mut self, key: Key, habit: &Habit) -> Result<bool, Fault>
+    fn insert_relieved(&mut self, key: Key, habit: &Habit) -> Result<bool, Fault>
         ensures board { self.new.board ≡ self.old.board }
         ensures did { (y : Hand) × IsRelieved self.old.board self.old.hand y
             × InsertsOn self.old.board habit.now key y self.new.hand result }
@@ -229,7 +238,7 @@ impl Member {
     #[inline(never)]
     fn remove_relieved(&mut self, key: Key, habit: &Habit) -> Result<bool, Fault>
         ensures board { self.new.board ≡ self.old.board }
-        ensures did { (y : Hand) × IsRelieved self.old.board self.old.hand y × HasSeen y.pass.view
+        ensures did { (y : Hand) × IsRelieved self.old.board self.old.hand y × IsIdle y
             × DeletesOn self.old.board habit.now key y self.new.hand result }
     {
         self.relieve();
@@ -244,7 +253,7 @@ impl Member {
         ensures board { self.new.board ≡ self.old.board }
         ensures did { InsertsOn self.old.board habit.now key self.old.hand self.new.hand result }
     {
-        match self.insert(key, habit.tries) {
+        match self.try_insert(key, habit.tries) {
             Ok(answer) => Ok(answer),
             Err(fault) => self.insert_behind(key, habit, fault),
         }
@@ -256,7 +265,7 @@ impl Member {
     fn insert_behind(&mut self, key: Key, habit: &Habit, fault: Fault) -> Result<bool, Fault>
         ensures board { self.new.board ≡ self.old.board }
         ensures did { (w : Hand)
-            → Asked (LeavesInsert self.old.board.layout.nodes habit.now.tries key) w self.old.hand
+            → Asked (LeavesInsert self.old.board.layout habit.now.tries key) w self.old.hand
             (Err fault) → InsertsOn self.old.board habit.now key w self.new.hand result }
     {
         let told = self.insert_again(key, habit, fault);
@@ -274,7 +283,7 @@ impl Member {
         ensures board { self.new.board ≡ self.old.board }
         ensures did { DeletesOn self.old.board habit.now key self.old.hand self.new.hand result }
     {
-        match self.delete(key, habit.tries) {
+        match self.try_remove(key, habit.tries) {
             Ok(answer) => Ok(answer),
             Err(fault) => self.delete_behind(key, habit, fault),
         }
@@ -286,7 +295,7 @@ impl Member {
     fn delete_behind(&mut self, key: Key, habit: &Habit, fault: Fault) -> Result<bool, Fault>
         ensures board { self.new.board ≡ self.old.board }
         ensures did { (w : Hand)
-            → Asked (LeavesDelete self.old.board.layout.nodes habit.now.tries key) w self.old.hand
+            → Asked (LeavesDelete self.old.board.layout habit.now.tries key) w self.old.hand
             (Err fault) → DeletesOn self.old.board habit.now key w self.new.hand result }
     {
         let told = self.delete_again(key, habit, fault);
@@ -317,7 +326,7 @@ impl Member {
         ensures board { self.new.board ≡ self.old.board }
         ensures did { Looks self.old.board habit.now key self.old.hand self.new.hand result }
     {
-        let told = self.has(key, habit.tries);
+        let told = self.try_contains(key, habit.tries);
         if !is_busy(&told) || habit.rounds == 0 {
             return told;
         }
@@ -332,12 +341,12 @@ impl Member {
         ensures did { Looks self.old.board habit.now key self.old.hand self.new.hand result }
     {
         for _round in 0..habit.rounds {
-            let told = self.has(key, habit.tries);
+            let told = self.try_contains(key, habit.tries);
             if !is_busy(&told) {
                 return told;
             }
         }
-        self.has(key, habit.tries)
+        self.try_contains(key, habit.tries)
     }
 
     /// Inserts, behind a first one that has told this fault, until one has not lost each of its
@@ -345,7 +354,7 @@ impl Member {
     fn insert_again(&mut self, key: Key, habit: &Habit, fault: Fault) -> Result<bool, Fault>
         ensures board { self.new.board ≡ self.old.board }
         ensures did { (w : Hand)
-            → Asked (LeavesInsert self.old.board.layout.nodes habit.now.tries key) w self.old.hand
+            → Asked (LeavesInsert self.old.board.layout habit.now.tries key) w self.old.hand
             (Err fault) → Inserts self.old.board habit.now key w self.new.hand result }
     {
         let told = Err(fault);
@@ -363,12 +372,12 @@ impl Member {
         ensures did { Inserts self.old.board habit.now key self.old.hand self.new.hand result }
     {
         for _round in 0..habit.rounds {
-            let told = self.insert(key, habit.tries);
+            let told = self.try_insert(key, habit.tries);
             if !is_busy(&told) {
                 return told;
             }
         }
-        self.insert(key, habit.tries)
+        self.try_insert(key, habit.tries)
     }
 
     /// Deletes, behind a first one that has told this fault, until one has not lost each of its
@@ -376,7 +385,7 @@ impl Member {
     fn delete_again(&mut self, key: Key, habit: &Habit, fault: Fault) -> Result<bool, Fault>
         ensures board { self.new.board ≡ self.old.board }
         ensures did { (w : Hand)
-            → Asked (LeavesDelete self.old.board.layout.nodes habit.now.tries key) w self.old.hand
+            → Asked (LeavesDelete self.old.board.layout habit.now.tries key) w self.old.hand
             (Err fault) → Deletes self.old.board habit.now key w self.new.hand result }
     {
         let told = Err(fault);
@@ -394,17 +403,17 @@ impl Member {
         ensures did { Deletes self.old.board habit.now key self.old.hand self.new.hand result }
     {
         for _round in 0..habit.rounds {
-            let told = self.delete(key, habit.tries);
+            let told = self.try_remove(key, habit.tries);
             if !is_busy(&told) {
                 return told;
             }
         }
-        self.delete(key, habit.tries)
+        self.try_remove(key, habit.tries)
     }
 
     /// What is left to do of a delete, until it is done: nearly always there is nothing.
     #[inline(always)]
-    fn finish_again(&mut self, habit: &Habit) -> Result<bool, CallFault>
+    pub(crate) fn finish_again(&mut self, habit: &Habit) -> Result<bool, CallFault>
         ensures board { self.new.board ≡ self.old.board }
         ensures did { FinishesPending self.old.board habit.now self.old.hand self.new.hand result }
     {

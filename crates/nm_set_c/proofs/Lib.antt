@@ -4,4 +4,5 @@ pub mod Swaps
 pub mod Holds
 pub mod Items
 pub mod Owners
+pub mod Telling
 pub mod Sending

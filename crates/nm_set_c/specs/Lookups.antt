@@ -46,11 +46,11 @@ pub record LooksUp (tries : ℕ) (old new : List Lookup) (m n : Seated) (o : Out
   pub answer : Result (Unit {0}) Fault
   pub told : o ≡ of_many answer
   pub board : n.board ≡ m.board
-  pub did : AskedMany m.board.layout.nodes tries asked answered m.hand n.hand answer
+  pub did : AskedMany m.board.layout tries asked answered m.hand n.hand answer
   pub written : IfOk answer (λ u. new ≡ map lookup_of answered)
   pub kept : IfErr answer (λ f. new ≡ old)
 
 -- the one or the other
-abbrev pub DoesHasMany : ℕ → List Lookup → List Lookup → Seated → Seated → Outcome → Type 0
-DoesHasMany tries old new m n o =
+abbrev pub DoesContainsMany : ℕ → List Lookup → List Lookup → Seated → Seated → Outcome → Type 0
+DoesContainsMany tries old new m n o =
     (IsUnasked old o × (n ≡ m) × (new ≡ old)) ⊎ LooksUp tries old new m n o

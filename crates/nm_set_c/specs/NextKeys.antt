@@ -1,36 +1,63 @@
--- What a call for the next key tells and leaves: m is the worker before the call, n the worker
--- after it, and o the outcome that is told.
-use Rattle.std.specs.Prelude.{◌≡◌, ◌⊎◌, ℕ, Option, Some, None, Result, Ok, Err}
+-- What a call that finds a key in the order of keys, or takes one, tells and leaves: m is the worker
+-- before the call, n the worker after it, and o the outcome that is told.
+use Rattle.std.specs.Prelude.{◌≡◌, ◌<◌, ◌⊎◌, ℕ, Option, Some, None, Result, Ok, Err}
 use Rattle.nm_edge.specs.Keys.{IsKey}
+use Rattle.nm_steps.specs.Steps.{Board}
+use Rattle.nm_tree.specs.Workers.{Hand}
+use Rattle.nm_tree.specs.declared.popping.End.TheVariants.{First, Last}
 use Rattle.nm_set.specs.declared.fault.Fault.{Fault}
-use Rattle.nm_set.specs.NextKeys.{AskedNext}
+use Rattle.nm_set.specs.declared.tended.Habit.{Habit}
+use Rattle.nm_set.specs.NextKeys.{AskedNext, AskedPrev}
+use Rattle.nm_set.specs.Popping.{SaysPopTended, TendsPopOf}
 use Rattle.nm_set.specs.Seats.{Seated}
 use Rattle.nm_set_c.specs.Outcomes.{of_fault}
 use Rattle.nm_set_c.specs.declared.outcome.Outcome.{Outcome}
 use Rattle.nm_set_c.specs.declared.outcome.Outcome.TheVariants as outcome
 
--- what a call for the next key tells, by its answer
-abbrev pub of_next : Result (Option ℕ) Fault → Outcome
-of_next (Ok (Some found)) = outcome.Yes
-of_next (Ok None) = outcome.No
-of_next (Err f) = of_fault f
+-- what such a call tells, by its answer
+abbrev pub of_found : Result (Option ℕ) Fault → Outcome
+of_found (Ok (Some found)) = outcome.Yes
+of_found (Ok None) = outcome.No
+of_found (Err f) = of_fault f
 
 -- the key that is written, or what stood there
-abbrev pub next_written : Result (Option ℕ) Fault → ℕ → ℕ
-next_written (Ok (Some found)) old = found
-next_written (Ok None) old = old
-next_written (Err f) old = old
+abbrev pub found_written : Result (Option ℕ) Fault → ℕ → ℕ
+found_written (Ok (Some found)) old = found
+found_written (Ok None) old = old
+found_written (Err f) old = old
 
 -- the worker's call answers, and what it answers is told, and written where it is a key
-pub record TellsNext (tries key old found : ℕ) (m n : Seated) (o : Outcome) : Type 0 where
+pub record TellsFound (asked : Board → Hand → Hand → Result (Option ℕ) Fault → Type 0)
+    (old found : ℕ) (m n : Seated) (o : Outcome) : Type 0 where
   pub answer : Result (Option ℕ) Fault
-  pub told : o ≡ of_next answer
-  pub written : found ≡ next_written answer old
+  pub told : o ≡ of_found answer
+  pub written : found ≡ found_written answer old
   pub board : n.board ≡ m.board
-  pub did : AskedNext m.board.layout.nodes tries key m.hand n.hand answer
+  pub did : asked m.board m.hand n.hand answer
 
--- a number that is no key is told as such, and all is as it was
-abbrev pub DoesNext : ℕ → ℕ → ℕ → ℕ → Seated → Seated → Outcome → Type 0
-DoesNext tries key old found m n o =
-    (IsKey key × TellsNext tries key old found m n o)
+-- so where the number is a key; else that is told, and all is as it was
+abbrev pub TellsNear : ℕ → (Board → Hand → Hand → Result (Option ℕ) Fault → Type 0) → ℕ → ℕ
+    → Seated → Seated → Outcome → Type 0
+TellsNear key asked old found m n o = (IsKey key × TellsFound asked old found m n o)
     ⊎ ((IsKey key → ⊥) × (o ≡ outcome.Key) × (n ≡ m) × (found ≡ old))
+
+-- `DoesNext`, `DoesPrev`: of a call for the next key, and for the one before
+abbrev pub DoesNext : ℕ → ℕ → ℕ → ℕ → Seated → Seated → Outcome → Type 0
+DoesNext tries key = TellsNear key (λ b. AskedNext b.layout tries key)
+
+abbrev pub DoesPrev : ℕ → ℕ → ℕ → ℕ → Seated → Seated → Outcome → Type 0
+DoesPrev tries key = TellsNear key (λ b. AskedPrev b.layout tries key)
+
+-- `DoesPopFirst`, `DoesPopLast`: of a call that takes the least key, and the greatest
+abbrev pub DoesPopFirst : Habit → ℕ → ℕ → Seated → Seated → Outcome → Type 0
+DoesPopFirst h = TellsFound (λ b. TendsPopOf First b h)
+
+abbrev pub DoesPopLast : Habit → ℕ → ℕ → Seated → Seated → Outcome → Type 0
+DoesPopLast h = TellsFound (λ b. TendsPopOf Last b h)
+
+-- `TellsPopFirst`, `TellsPopLast`: what a caller has of it
+abbrev pub TellsPopFirst : Habit → ℕ → ℕ → Seated → Seated → Outcome → Type 0
+TellsPopFirst h = TellsFound (λ b. SaysPopTended ◌<◌ b h)
+
+abbrev pub TellsPopLast : Habit → ℕ → ℕ → Seated → Seated → Outcome → Type 0
+TellsPopLast h = TellsFound (λ b. SaysPopTended (λ j key. key < j) b h)

@@ -88,7 +88,6 @@ of_taking taking.Uncounted = outcome.Uncounted
 abbrev pub of_staying : ResignReason → Outcome
 of_staying staying.Number = outcome.Number
 of_staying staying.Away = outcome.Away
-of_staying staying.Held = outcome.Held
 of_staying staying.Pending = outcome.Pending
 
 abbrev pub of_reason : CloseReason → Outcome

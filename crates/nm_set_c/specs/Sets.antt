@@ -1,6 +1,6 @@
 -- What calls on a set tell and leave.
 use Rattle.std.specs.Prelude.{◌≡◌, ◌≤◌, ◌⊎◌, ◌↔◌, ℕ, Bool, true, false, [], Result, Ok, Err}
-use Rattle.nm_edge.specs.Layouts.{spaced}
+use Rattle.nm_edge.specs.Layouts.{Layout}
 use Rattle.nm_pool.specs.declared.placement.Fit.{Fit}
 use Rattle.nm_set.specs.declared.fault.CloseReason.{CloseReason}
 use Rattle.nm_set.specs.declared.fault.MemberFault.{MemberFault}
@@ -26,27 +26,27 @@ HasNodes nodes = (7 ≤ nodes) × (nodes ≤ 268435456)
 abbrev pub HasWorkers : ℕ → Type 0
 HasWorkers workers = (1 ≤ workers) × (workers ≤ 64)
 
--- an open set with so many nodes and workers, which claim by that fit
-pub record IsNewSet (f : Fit) (nodes workers : ℕ) (s : Standing) : Type 0 where
+-- an open set in a tree of that layout, whose workers claim by that fit
+pub record IsNewSet (f : Fit) (L : Layout) (s : Standing) : Type 0 where
   pub begins : s.closing ≡ false
   pub keeps : s.kept ≡ []
   pub fit : s.fit ≡ f
-  pub layout : s.board.layout ≡ spaced nodes workers
+  pub layout : s.board.layout ≡ L
 
 -- with sizes that fit, the handle has a new set, or memory was refused; else which size does not
 -- fit is told, the nodes first
-abbrev pub IsMade : Fit → ℕ → ℕ → Hold → Outcome → Type 0
-IsMade f nodes workers new o =
+abbrev pub IsMade : Fit → Layout → ℕ → ℕ → Hold → Outcome → Type 0
+IsMade f L nodes workers new o =
     ((o ≡ outcome.Done) × HasNodes nodes × HasWorkers workers × (s : Standing)
-    × (new ≡ Open (Set s)) × IsNewSet f nodes workers s)
+    × (new ≡ Open (Set s)) × IsNewSet f L s)
     ⊎ (((o ≡ outcome.NoMemory) × HasNodes nodes × HasWorkers workers × (new ≡ Closed))
     ⊎ (((o ≡ outcome.Nodes) × (HasNodes nodes → ⊥) × (new ≡ Closed))
     ⊎ ((o ≡ outcome.Workers) × HasNodes nodes × (HasWorkers workers → ⊥) × (new ≡ Closed))))
 
 -- a closed handle owns a new set; one that is open already, or in use, is as it was
-abbrev pub MakesSet : Fit → ℕ → ℕ → Hold → Hold → Outcome → Type 0
-MakesSet f nodes workers old new o =
-    CannotOpen old new o ⊎ ((old ≡ Closed) × IsMade f nodes workers new o)
+abbrev pub MakesSet : Fit → Layout → ℕ → ℕ → Hold → Hold → Outcome → Type 0
+MakesSet f L nodes workers old new o =
+    CannotOpen old new o ⊎ ((old ≡ Closed) × IsMade f L nodes workers new o)
 
 -- ---- a worker of a set
 

@@ -2,6 +2,7 @@
 -- and o the outcome that is told.
 use Rattle.std.specs.Prelude.{◌≡◌, ◌⊎◌, ℕ, Bool, option_map, Option, Some, None, Result, Ok, Err}
 use Rattle.nm_edge.specs.Keys.{IsKey}
+use Rattle.nm_model.specs.declared.event.Op.TheVariants.{Has, Insert, Delete}
 use Rattle.nm_epoch.specs.declared.answers.Advance.{Advance}
 use Rattle.nm_epoch.specs.declared.answers.Advance.TheVariants as advance
 use Rattle.nm_tree.specs.declared.fault.Fault.{Fault as Lost}
@@ -10,7 +11,7 @@ use Rattle.nm_tree.specs.declared.worker.Counts.{Counts}
 use Rattle.nm_calls.specs.declared.deleting.Unfinished.{Unfinished}
 use Rattle.nm_tree.specs.Resigning.{HasResigned}
 use Rattle.nm_tree.specs.Workers.{Hand, IsLedger}
-use Rattle.nm_tree.specs.Calls.{LeavesHas, LeavesInsert, LeavesDelete, LeavesFinish, LeavesAdvance, LeavesBehind, LeavesCollect}
+use Rattle.nm_tree.specs.Calls.{SaysHas, SaysInsert, SaysDelete, SaysFinish, LeavesHas, LeavesInsert, LeavesDelete, LeavesFinish, LeavesAdvance, LeavesBehind, LeavesCollect}
 use Rattle.nm_set.specs.Asked.{Asked, AskedToPin, AskedToUnpin}
 use Rattle.nm_set.specs.declared.fault.Fault.{Fault}
 use Rattle.nm_set.specs.declared.fault.NotHeld.{NotHeld}
@@ -19,7 +20,7 @@ use Rattle.nm_set.specs.declared.fault.PinFault.TheVariants as pinning
 use Rattle.nm_set.specs.declared.fault.ResignReason.{ResignReason}
 use Rattle.nm_set.specs.declared.tended.Habit.{Habit}
 use Rattle.nm_set.specs.Seats.{Seated, IsResident, IsStaying}
-use Rattle.nm_set.specs.Tended.{TendsHas, TendsInsert, TendsDelete}
+use Rattle.nm_set.specs.Tended.{SaysTended, TendsHas, TendsInsert, TendsDelete}
 use Rattle.nm_set_c.specs.Outcomes.{of_answer, of_finished, of_staying}
 use Rattle.nm_set_c.specs.declared.outcome.Outcome.{Outcome}
 use Rattle.nm_set_c.specs.declared.outcome.Outcome.TheVariants as outcome
@@ -35,27 +36,46 @@ pub record Answers (leaves : Hand → Hand → Result Bool Lost → Type 0) (m n
   pub board : n.board ≡ m.board
   pub did : Asked leaves m.hand n.hand answer
 
+-- the same of a call that goes on with a delete
+pub record Finishes (leaves : Hand → Hand → Result Bool Lost → Type 0) (m n : Seated)
+    (o : Outcome) : Type 0 where
+  pub answer : Result Bool Lost
+  pub told : o ≡ of_finished answer
+  pub board : n.board ≡ m.board
+  pub did : leaves m.hand n.hand answer
+
 -- a number that is no key is told as such, and the worker is as it was
 abbrev pub OfKey : ℕ → Type 0 → Seated → Seated → Outcome → Type 0
 OfKey k did m n o = (IsKey k × did) ⊎ ((IsKey k → ⊥) × (o ≡ outcome.Key) × (n ≡ m))
 
--- `DoesHas`, `DoesInsert`, `DoesDelete`, `DoesFinish`, `DoesPin`, `DoesUnpin`, `DoesAdvance`,
--- `DoesBehind`, `DoesCollect`: a call of a worker: its outcome, what it writes, and all clauses of
--- the member's call
-abbrev pub DoesHas : ℕ → ℕ → Seated → Seated → Outcome → Type 0
-DoesHas tries k m n o = OfKey k (Answers (LeavesHas m.board.layout.nodes tries k) m n o) m n o
+-- `DoesTryContains`, `DoesTryInsert`, `DoesTryRemove`, `DoesFinish`, `DoesPin`, `DoesUnpin`,
+-- `DoesAdvance`, `DoesBehind`, `DoesCollect`: a call of a worker: its outcome, what it writes, and
+-- all clauses of the member's call
+abbrev pub DoesTryContains : ℕ → ℕ → Seated → Seated → Outcome → Type 0
+DoesTryContains tries k m n o = OfKey k (Answers (LeavesHas m.board.layout tries k) m n o) m n o
 
-abbrev pub DoesInsert : ℕ → ℕ → Seated → Seated → Outcome → Type 0
-DoesInsert tries k m n o = OfKey k (Answers (LeavesInsert m.board.layout.nodes tries k) m n o) m n o
+abbrev pub DoesTryInsert : ℕ → ℕ → Seated → Seated → Outcome → Type 0
+DoesTryInsert tries k m n o = OfKey k (Answers (LeavesInsert m.board.layout tries k) m n o) m n o
 
-abbrev pub DoesDelete : ℕ → ℕ → Seated → Seated → Outcome → Type 0
-DoesDelete tries k m n o = OfKey k (Answers (LeavesDelete m.board.layout.nodes tries k) m n o) m n o
+abbrev pub DoesTryRemove : ℕ → ℕ → Seated → Seated → Outcome → Type 0
+DoesTryRemove tries k m n o = OfKey k (Answers (LeavesDelete m.board.layout tries k) m n o) m n o
 
-pub record DoesFinish (tries : ℕ) (m n : Seated) (o : Outcome) : Type 0 where
-  pub answer : Result Bool Lost
-  pub told : o ≡ of_finished answer
-  pub board : n.board ≡ m.board
-  pub did : LeavesFinish m.board.layout.nodes tries m.hand n.hand answer
+abbrev pub DoesFinish : ℕ → Seated → Seated → Outcome → Type 0
+DoesFinish tries m n o = Finishes (LeavesFinish m.board.layout tries) m n o
+
+-- `TellsTryContains`, `TellsTryInsert`, `TellsTryRemove`, `TellsFinish`: what a caller has of such a
+-- call
+abbrev pub TellsTryContains : ℕ → ℕ → Seated → Seated → Outcome → Type 0
+TellsTryContains tries k m n o = OfKey k (Answers (SaysHas m.board.layout tries k) m n o) m n o
+
+abbrev pub TellsTryInsert : ℕ → ℕ → Seated → Seated → Outcome → Type 0
+TellsTryInsert tries k m n o = OfKey k (Answers (SaysInsert m.board.layout tries k) m n o) m n o
+
+abbrev pub TellsTryRemove : ℕ → ℕ → Seated → Seated → Outcome → Type 0
+TellsTryRemove tries k m n o = OfKey k (Answers (SaysDelete m.board.layout tries k) m n o) m n o
+
+abbrev pub TellsFinish : ℕ → Seated → Seated → Outcome → Type 0
+TellsFinish tries m n o = Finishes (SaysFinish m.board.layout tries) m n o
 
 -- ---- keys, by calls that tend the set
 
@@ -67,15 +87,25 @@ pub record AnswersTending (does : Hand → Hand → Result Bool Fault → Type 0
   pub board : n.board ≡ m.board
   pub did : does m.hand n.hand answer
 
--- `DoesContains`, `DoesAdd`, `DoesRemove`: the same of the member's calls that tend the set
+-- `DoesContains`, `DoesInsert`, `DoesRemove`: the same of the member's calls that tend the set
 abbrev pub DoesContains : Habit → ℕ → Seated → Seated → Outcome → Type 0
 DoesContains h k m n o = OfKey k (AnswersTending (TendsHas m.board h k) m n o) m n o
 
-abbrev pub DoesAdd : Habit → ℕ → Seated → Seated → Outcome → Type 0
-DoesAdd h k m n o = OfKey k (AnswersTending (TendsInsert m.board h k) m n o) m n o
+abbrev pub DoesInsert : Habit → ℕ → Seated → Seated → Outcome → Type 0
+DoesInsert h k m n o = OfKey k (AnswersTending (TendsInsert m.board h k) m n o) m n o
 
 abbrev pub DoesRemove : Habit → ℕ → Seated → Seated → Outcome → Type 0
 DoesRemove h k m n o = OfKey k (AnswersTending (TendsDelete m.board h k) m n o) m n o
+
+-- `TellsContains`, `TellsInsert`, `TellsRemove`: what a caller has of it
+abbrev pub TellsContains : Habit → ℕ → Seated → Seated → Outcome → Type 0
+TellsContains h k m n o = OfKey k (AnswersTending (SaysTended Has m.board h k) m n o) m n o
+
+abbrev pub TellsInsert : Habit → ℕ → Seated → Seated → Outcome → Type 0
+TellsInsert h k m n o = OfKey k (AnswersTending (SaysTended Insert m.board h k) m n o) m n o
+
+abbrev pub TellsRemove : Habit → ℕ → Seated → Seated → Outcome → Type 0
+TellsRemove h k m n o = OfKey k (AnswersTending (SaysTended Delete m.board h k) m n o) m n o
 
 -- ---- epochs
 

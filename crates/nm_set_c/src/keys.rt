@@ -5,7 +5,7 @@ ghost use Rattle.std.specs.Prelude.{◌≡◌, ⊤};
 ghost use Rattle.nm_set_c.specs.Handles.{held_by};
 ghost use Rattle.nm_set_c.specs.Outcomes.{IsCodeOf};
 ghost use Rattle.nm_set_c.specs.Owners.{OfWorker};
-ghost use Rattle.nm_set_c.specs.Workers.{DoesHas, DoesInsert, DoesDelete, DoesFinish};
+ghost use Rattle.nm_set_c.specs.Workers.{DoesTryContains, DoesTryInsert, DoesTryRemove, DoesFinish, TellsTryContains, TellsTryInsert, TellsTryRemove, TellsFinish};
 
 use crate::handle::Handle;
 use crate::outcome::Outcome;
@@ -14,11 +14,18 @@ use nm_edge::Key;
 use nm_set::Member;
 use std::alloc::Global;
 
-/// Whether the set has the key: `Member::has` of `nm_set`. `Yes`, `No`, `Key`, `Busy`, `Pending`,
-/// `Held`, `NoMemory`; `Closed`, `InUse`, `Kind`.
+/// Whether the set has the key: `Member::try_contains` of `nm_set`. `Yes`, `No`, `Key`, `Busy`,
+/// `Pending`, `Held`, `NoMemory`; `Closed`, `InUse`, `Kind`.
 #[unsafe(no_mangle)]
-pub extern "C" fn nm_worker_has(alloc: Global, worker: &mut Handle, key: u64, tries: u32) -> i32
-    ensures { IsCodeOf (OfWorker (DoesHas tries key) ⊤ (held_by worker.old) (held_by worker.new))
+pub extern "C" fn nm_worker_try_contains(
+    alloc: Global,
+    worker: &mut Handle,
+    key: u64,
+    tries: u32,
+) -> i32
+    ensures tells { IsCodeOf (OfWorker (TellsTryContains tries key) ⊤ (held_by worker.old)
+        (held_by worker.new)) result }
+    ensures did { IsCodeOf (OfWorker (DoesTryContains tries key) ⊤ (held_by worker.old) (held_by worker.new))
         result }
 {
     let mut owner = match worker.claim(alloc) {
@@ -26,30 +33,37 @@ pub extern "C" fn nm_worker_has(alloc: Global, worker: &mut Handle, key: u64, tr
         Err(told) => return told.code(),
     };
     let outcome = match &mut *owner {
-        Owner::Worker(member) => has(member, key, tries),
+        Owner::Worker(member) => try_contains(member, key, tries),
         _ => Outcome::Kind,
     };
     worker.put(owner);
     outcome.code()
 }
 
-fn has(member: &mut Member, key: u64, tries: u32) -> Outcome
-    ensures { DoesHas tries key member.old member.new result }
+fn try_contains(member: &mut Member, key: u64, tries: u32) -> Outcome
+    ensures { DoesTryContains tries key member.old member.new result }
 {
     let Some(key) = Key::new(key) else {
         return Outcome::Key;
     };
-    match member.has(key, tries) {
+    match member.try_contains(key, tries) {
         Ok(answer) => Outcome::of(answer),
         Err(fault) => Outcome::of_fault(fault),
     }
 }
 
-/// Inserts a key: `Yes` where it was not in the set, `No` where it was: `Member::insert` of
+/// Inserts a key: `Yes` where it was not in the set, `No` where it was: `Member::try_insert` of
 /// `nm_set`. `Key`, `Busy`, `Full`, `Pending`, `Held`, `NoMemory`; `Closed`, `InUse`, `Kind`.
 #[unsafe(no_mangle)]
-pub extern "C" fn nm_worker_insert(alloc: Global, worker: &mut Handle, key: u64, tries: u32) -> i32
-    ensures { IsCodeOf (OfWorker (DoesInsert tries key) ⊤ (held_by worker.old) (held_by worker.new))
+pub extern "C" fn nm_worker_try_insert(
+    alloc: Global,
+    worker: &mut Handle,
+    key: u64,
+    tries: u32,
+) -> i32
+    ensures tells { IsCodeOf (OfWorker (TellsTryInsert tries key) ⊤ (held_by worker.old)
+        (held_by worker.new)) result }
+    ensures did { IsCodeOf (OfWorker (DoesTryInsert tries key) ⊤ (held_by worker.old) (held_by worker.new))
         result }
 {
     let mut owner = match worker.claim(alloc) {
@@ -57,30 +71,37 @@ pub extern "C" fn nm_worker_insert(alloc: Global, worker: &mut Handle, key: u64,
         Err(told) => return told.code(),
     };
     let outcome = match &mut *owner {
-        Owner::Worker(member) => insert(member, key, tries),
+        Owner::Worker(member) => try_insert(member, key, tries),
         _ => Outcome::Kind,
     };
     worker.put(owner);
     outcome.code()
 }
 
-fn insert(member: &mut Member, key: u64, tries: u32) -> Outcome
-    ensures { DoesInsert tries key member.old member.new result }
+fn try_insert(member: &mut Member, key: u64, tries: u32) -> Outcome
+    ensures { DoesTryInsert tries key member.old member.new result }
 {
     let Some(key) = Key::new(key) else {
         return Outcome::Key;
     };
-    match member.insert(key, tries) {
+    match member.try_insert(key, tries) {
         Ok(answer) => Outcome::of(answer),
         Err(fault) => Outcome::of_fault(fault),
     }
 }
 
-/// Deletes a key: `Yes` where it was in the set, `No` where it was not: `Member::delete` of
+/// Deletes a key: `Yes` where it was in the set, `No` where it was not: `Member::try_remove` of
 /// `nm_set`. `Key`, `Busy`, `Unfinished`, `Pending`, `Held`, `NoMemory`; `Closed`, `InUse`, `Kind`.
 #[unsafe(no_mangle)]
-pub extern "C" fn nm_worker_delete(alloc: Global, worker: &mut Handle, key: u64, tries: u32) -> i32
-    ensures { IsCodeOf (OfWorker (DoesDelete tries key) ⊤ (held_by worker.old) (held_by worker.new))
+pub extern "C" fn nm_worker_try_remove(
+    alloc: Global,
+    worker: &mut Handle,
+    key: u64,
+    tries: u32,
+) -> i32
+    ensures tells { IsCodeOf (OfWorker (TellsTryRemove tries key) ⊤ (held_by worker.old)
+        (held_by worker.new)) result }
+    ensures did { IsCodeOf (OfWorker (DoesTryRemove tries key) ⊤ (held_by worker.old) (held_by worker.new))
         result }
 {
     let mut owner = match worker.claim(alloc) {
@@ -88,20 +109,20 @@ pub extern "C" fn nm_worker_delete(alloc: Global, worker: &mut Handle, key: u64,
         Err(told) => return told.code(),
     };
     let outcome = match &mut *owner {
-        Owner::Worker(member) => delete(member, key, tries),
+        Owner::Worker(member) => try_remove(member, key, tries),
         _ => Outcome::Kind,
     };
     worker.put(owner);
     outcome.code()
 }
 
-fn delete(member: &mut Member, key: u64, tries: u32) -> Outcome
-    ensures { DoesDelete tries key member.old member.new result }
+fn try_remove(member: &mut Member, key: u64, tries: u32) -> Outcome
+    ensures { DoesTryRemove tries key member.old member.new result }
 {
     let Some(key) = Key::new(key) else {
         return Outcome::Key;
     };
-    match member.delete(key, tries) {
+    match member.try_remove(key, tries) {
         Ok(answer) => Outcome::of(answer),
         Err(fault) => Outcome::of_fault(fault),
     }
@@ -112,7 +133,9 @@ fn delete(member: &mut Member, key: u64, tries: u32) -> Outcome
 /// `InUse`, `Kind`.
 #[unsafe(no_mangle)]
 pub extern "C" fn nm_worker_finish(alloc: Global, worker: &mut Handle, tries: u32) -> i32
-    ensures { IsCodeOf (OfWorker (DoesFinish tries) ⊤ (held_by worker.old) (held_by worker.new))
+    ensures tells { IsCodeOf (OfWorker (TellsFinish tries) ⊤ (held_by worker.old)
+        (held_by worker.new)) result }
+    ensures did { IsCodeOf (OfWorker (DoesFinish tries) ⊤ (held_by worker.old) (held_by worker.new))
         result }
 {
     let mut owner = match worker.claim(alloc) {

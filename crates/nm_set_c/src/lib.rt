@@ -22,6 +22,7 @@ mod notes;
 mod outcome;
 mod owner;
 mod place;
+mod popping;
 mod reports;
 mod sets;
 mod tended;

@@ -5,7 +5,7 @@ ghost use Rattle.std.specs.Prelude.{◌≡◌, length, map, IfOk, IfErr};
 ghost use Rattle.nm_calls.specs.InTurns.{key_of};
 ghost use Rattle.nm_set.specs.InTurns.{AskedMany};
 ghost use Rattle.nm_set_c.specs.Handles.{held_by};
-ghost use Rattle.nm_set_c.specs.Lookups.{AreKeys, DoesHasMany, IsUnasked, lookup_of, key_looked_up};
+ghost use Rattle.nm_set_c.specs.Lookups.{AreKeys, DoesContainsMany, IsUnasked, lookup_of, key_looked_up};
 ghost use Rattle.nm_set_c.specs.Outcomes.{IsCodeOf};
 ghost use Rattle.nm_set_c.specs.Owners.{OfWorker};
 
@@ -26,17 +26,17 @@ pub struct Lookup {
     pub found: u64,
 }
 
-/// Whether the set has each of these keys: `Member::has_many` of `nm_set`. `Done`, and each `found`
-/// is written; `Key`, where one of the numbers is no key; `Busy`, `Pending`, `Held`, `NoMemory`;
+/// Whether the set has each of these keys: `Member::contains_many` of `nm_set`. `Done`, and each
+/// `found` is written; `Key`, where one of the numbers is no key; `Busy`, `Pending`, `Held`, `NoMemory`;
 /// `Closed`, `InUse`, `Kind`.
 #[unsafe(no_mangle)]
-pub extern "C" fn nm_worker_has_many(
+pub extern "C" fn nm_worker_contains_many(
     alloc: Global,
     worker: &mut Handle,
     lookups: &mut [Lookup],
     tries: u32,
 ) -> i32
-    ensures { IsCodeOf (OfWorker (DoesHasMany tries lookups.old lookups.new)
+    ensures { IsCodeOf (OfWorker (DoesContainsMany tries lookups.old lookups.new)
         (lookups.new ≡ lookups.old) (held_by worker.old) (held_by worker.new)) result }
 {
     let mut owner = match worker.claim(alloc) {
@@ -44,15 +44,15 @@ pub extern "C" fn nm_worker_has_many(
         Err(told) => return told.code(),
     };
     let outcome = match &mut *owner {
-        Owner::Worker(member) => has_many(alloc, member, lookups, tries),
+        Owner::Worker(member) => contains_many(alloc, member, lookups, tries),
         _ => Outcome::Kind,
     };
     worker.put(owner);
     outcome.code()
 }
 
-fn has_many(alloc: Global, member: &mut Member, lookups: &mut [Lookup], tries: u32) -> Outcome
-    ensures { DoesHasMany tries lookups.old lookups.new member.old member.new result }
+fn contains_many(alloc: Global, member: &mut Member, lookups: &mut [Lookup], tries: u32) -> Outcome
+    ensures { DoesContainsMany tries lookups.old lookups.new member.old member.new result }
 {
     let mut queries = match queries_of(alloc, lookups) {
         Ok(queries) => queries,
@@ -70,10 +70,10 @@ fn has_many(alloc: Global, member: &mut Member, lookups: &mut [Lookup], tries: u
 /// Asks the worker for all of these.
 fn ask(member: &mut Member, queries: &mut Vec<Query>, tries: u32) -> Result<(), Fault>
     ensures board { member.new.board ≡ member.old.board }
-    ensures did { AskedMany member.old.board.layout.nodes tries queries.old.items queries.new.items
+    ensures did { AskedMany member.old.board.layout tries queries.old.items queries.new.items
         member.old.hand member.new.hand result }
 {
-    member.has_many(queries.as_mut_slice(), tries)
+    member.contains_many(queries.as_mut_slice(), tries)
 }
 
 /// A query of each of these keys.

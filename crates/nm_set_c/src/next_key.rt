@@ -1,9 +1,9 @@
-//! The next key of a set that is in use, by the handle of a worker.
+//! The next key of a set that is in use, and the one before, by the handle of a worker.
 #![tactic(auto, using(crate::proofs::Owners::refused_worker, crate::proofs::Owners::told_worker, crate::proofs::Owners::other_worker))]
 
 ghost use Rattle.std.specs.Prelude.{◌≡◌};
 ghost use Rattle.nm_set_c.specs.Handles.{held_by};
-ghost use Rattle.nm_set_c.specs.NextKeys.{DoesNext};
+ghost use Rattle.nm_set_c.specs.NextKeys.{DoesNext, DoesPrev, found_written, of_found};
 ghost use Rattle.nm_set_c.specs.Outcomes.{IsCodeOf};
 ghost use Rattle.nm_set_c.specs.Owners.{OfWorker};
 
@@ -11,7 +11,7 @@ use crate::handle::Handle;
 use crate::outcome::Outcome;
 use crate::owner::Owner;
 use nm_edge::Key;
-use nm_set::Member;
+use nm_set::{Fault, Member};
 use std::alloc::Global;
 
 /// The least key of the set that is not below `key`: `Member::next` of `nm_set`. `Yes`, and it is
@@ -46,9 +46,54 @@ fn next(member: &mut Member, key: u64, tries: u32, found: &mut u64) -> Outcome
     let Some(key) = Key::new(key) else {
         return Outcome::Key;
     };
-    match member.next(key, tries) {
-        Ok(Some(next)) => {
-            *found = next.get();
+    let answer = member.next(key, tries);
+    tell_found(answer, found)
+}
+
+/// The greatest key of the set that is not above `key`: `Member::prev` of `nm_set`. `Yes`, and it is
+/// written; `No`, where there is none; `Key`, `Busy`, `Pending`, `Held`, `NoMemory`; `Closed`,
+/// `InUse`, `Kind`.
+#[unsafe(no_mangle)]
+pub extern "C" fn nm_worker_prev(
+    alloc: Global,
+    worker: &mut Handle,
+    key: u64,
+    tries: u32,
+    found: &mut u64,
+) -> i32
+    ensures { IsCodeOf (OfWorker (DoesPrev tries key found.old found.new) (found.new ≡ found.old)
+        (held_by worker.old) (held_by worker.new)) result }
+{
+    let mut owner = match worker.claim(alloc) {
+        Ok(owner) => owner,
+        Err(told) => return told.code(),
+    };
+    let outcome = match &mut *owner {
+        Owner::Worker(member) => prev(member, key, tries, found),
+        _ => Outcome::Kind,
+    };
+    worker.put(owner);
+    outcome.code()
+}
+
+fn prev(member: &mut Member, key: u64, tries: u32, found: &mut u64) -> Outcome
+    ensures { DoesPrev tries key found.old found.new member.old member.new result }
+{
+    let Some(key) = Key::new(key) else {
+        return Outcome::Key;
+    };
+    let answer = member.prev(key, tries);
+    tell_found(answer, found)
+}
+
+/// Writes the key that was found, where there is one, and tells what came of the call.
+pub(crate) fn tell_found(answer: Result<Option<Key>, Fault>, found: &mut u64) -> Outcome
+    ensures told { result ≡ of_found answer }
+    ensures written { found.new ≡ found_written answer found.old }
+{
+    match answer {
+        Ok(Some(key)) => {
+            *found = key.get();
             Outcome::Yes
         }
         Ok(None) => Outcome::No,

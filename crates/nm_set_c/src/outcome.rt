@@ -156,7 +156,6 @@ impl Outcome {
         match reason {
             ResignReason::Number => Outcome::Number,
             ResignReason::Away => Outcome::Away,
-            ResignReason::Held => Outcome::Held,
             ResignReason::Pending => Outcome::Pending,
         }
     }

@@ -1,5 +1,6 @@
 //! Calls on a set, by its handle.
 ghost use Rattle.std.specs.Prelude.{◌≡◌, ◌⊎◌, None};
+ghost use Rattle.nm_edge.specs.Layouts.{in_radix, spaced};
 ghost use Rattle.nm_pool.specs.declared.placement.Fit.TheVariants.{Lowest, Near};
 ghost use Rattle.nm_set_c.specs.Handles.{held_by};
 ghost use Rattle.nm_set_c.specs.Handles.Hold.{Closed, Open};
@@ -12,18 +13,19 @@ use crate::owner::Owner;
 use nm_set::{Member, Set};
 use std::alloc::Global;
 
-/// Makes the empty set, in a tree with room for `nodes` nodes, 7 to 268,435,456, for 1 to 64
-/// workers; a new node takes the lowest free slot: `Set::lowest` of `nm_set`. `Done`, and the
-/// handle is open; `Open`, `InUse`, `Nodes`, `Workers`, `NoMemory`.
+/// Makes the empty set, in a radix tree with room for `nodes` nodes, 7 to 268,435,456, for 1 to 64
+/// workers; no walk takes more than 66 nodes, whatever keys come in whatever order: `Set::new` of
+/// `nm_set`. `Done`, and the handle is open; `Open`, `InUse`, `Nodes`, `Workers`, `NoMemory`.
 #[unsafe(no_mangle)]
-pub extern "C" fn nm_set_lowest(alloc: Global, set: &mut Handle, nodes: u32, workers: u32) -> i32
-    ensures { IsCodeOf (MakesSet Lowest nodes workers (held_by set.old) (held_by set.new)) result }
+pub extern "C" fn nm_set_new(alloc: Global, set: &mut Handle, nodes: u32, workers: u32) -> i32
+    ensures { IsCodeOf (MakesSet Near (in_radix (spaced nodes workers)) nodes workers
+        (held_by set.old) (held_by set.new)) result }
 {
     match set.reserve(alloc) {
         Ok(()) => {}
         Err(told) => return told.code(),
     }
-    match Set::lowest(alloc, nodes, workers) {
+    match Set::new(alloc, nodes, workers) {
         Ok(made) => open(alloc, set, Owner::Set(made)).code(),
         Err(error) => {
             set.shut();
@@ -32,17 +34,37 @@ pub extern "C" fn nm_set_lowest(alloc: Global, set: &mut Handle, nodes: u32, wor
     }
 }
 
-/// The same, but each worker looks for a free slot near the one that it found or gave back last:
+/// The same, in the tree of Natarajan and Mittal, which keys that come in order make one long path:
 /// `Set::near` of `nm_set`.
 #[unsafe(no_mangle)]
 pub extern "C" fn nm_set_near(alloc: Global, set: &mut Handle, nodes: u32, workers: u32) -> i32
-    ensures { IsCodeOf (MakesSet Near nodes workers (held_by set.old) (held_by set.new)) result }
+    ensures { IsCodeOf (MakesSet Near (spaced nodes workers) nodes workers
+        (held_by set.old) (held_by set.new)) result }
 {
     match set.reserve(alloc) {
         Ok(()) => {}
         Err(told) => return told.code(),
     }
     match Set::near(alloc, nodes, workers) {
+        Ok(made) => open(alloc, set, Owner::Set(made)).code(),
+        Err(error) => {
+            set.shut();
+            Outcome::of_new(error).code()
+        }
+    }
+}
+
+/// The same as `nm_set_near`, but a new node takes the lowest free slot: `Set::lowest` of `nm_set`.
+#[unsafe(no_mangle)]
+pub extern "C" fn nm_set_lowest(alloc: Global, set: &mut Handle, nodes: u32, workers: u32) -> i32
+    ensures { IsCodeOf (MakesSet Lowest (spaced nodes workers) nodes workers
+        (held_by set.old) (held_by set.new)) result }
+{
+    match set.reserve(alloc) {
+        Ok(()) => {}
+        Err(told) => return told.code(),
+    }
+    match Set::lowest(alloc, nodes, workers) {
         Ok(made) => open(alloc, set, Owner::Set(made)).code(),
         Err(error) => {
             set.shut();
@@ -69,10 +91,10 @@ fn open(alloc: Global, handle: &mut Handle, owner: Owner) -> Outcome
     }
 }
 
-/// Takes the worker of a number, with all that it held when it went home: `Set::member` of
-/// `nm_set`. `Done`, and the worker's handle is open; `Open`, `InUse` (of the worker's handle),
-/// `Number`, `Away`, `Closing`, `Uncounted`, `NoMemory`; `Closed`, `InUse`, `Kind` (of the set's
-/// handle).
+/// Takes the worker of a number, with all that it held when it went home, and not held:
+/// `Set::member` of `nm_set`. `Done`, and the worker's handle is open; `Open`, `InUse` (of the
+/// worker's handle), `Number`, `Away`, `Closing`, `Uncounted`, `NoMemory`; `Closed`, `InUse`,
+/// `Kind` (of the set's handle).
 ///
 /// Several threads may take workers by one handle of a set: each has it for the moment of the take
 /// alone, and looks again for a while where it finds another one there.
@@ -129,8 +151,9 @@ fn keep(alloc: Global, worker: &mut Handle, given: Result<Member, Outcome>) -> O
     }
 }
 
-/// Takes a worker that is at home, where the caller names no number, the one with the least number:
-/// `Set::attach` of `nm_set`. Else as `nm_set_worker`, but no `Number`.
+/// Takes a worker that is at home, where the caller names no number: `Set::attach` of `nm_set`,
+/// which looks at the seats in the order of their numbers (as tests show). Else as `nm_set_worker`,
+/// but no `Number`.
 #[unsafe(no_mangle)]
 pub extern "C" fn nm_set_attach(alloc: Global, set: &mut Handle, worker: &mut Handle) -> i32
     ensures worker { IsCodeOf (Attaches (held_by set.old) (held_by worker.old) (held_by worker.new))

@@ -5,7 +5,7 @@ ghost use Rattle.std.specs.Prelude.{◌≡◌, ⊤};
 ghost use Rattle.nm_set_c.specs.Handles.{held_by};
 ghost use Rattle.nm_set_c.specs.Outcomes.{IsCodeOf};
 ghost use Rattle.nm_set_c.specs.Owners.{OfWorker};
-ghost use Rattle.nm_set_c.specs.Workers.{DoesContains, DoesAdd, DoesRemove};
+ghost use Rattle.nm_set_c.specs.Workers.{DoesContains, DoesInsert, DoesRemove, TellsContains, TellsInsert, TellsRemove};
 
 use crate::handle::Handle;
 use crate::outcome::Outcome;
@@ -23,7 +23,9 @@ pub extern "C" fn nm_worker_contains(
     key: u64,
     habit: &Habit,
 ) -> i32
-    ensures { IsCodeOf (OfWorker (DoesContains habit.now key) ⊤ (held_by worker.old)
+    ensures tells { IsCodeOf (OfWorker (TellsContains habit.now key) ⊤ (held_by worker.old)
+        (held_by worker.new)) result }
+    ensures did { IsCodeOf (OfWorker (DoesContains habit.now key) ⊤ (held_by worker.old)
         (held_by worker.new)) result }
 {
     let mut owner = match worker.claim(alloc) {
@@ -50,11 +52,18 @@ fn contains(member: &mut Member, key: u64, habit: &Habit) -> Outcome
     }
 }
 
-/// Inserts a key: `Yes` where it was not in the set, `No` where it was: `Member::add` of `nm_set`.
-/// `Key`, `Busy`, `Full`, `Pending`, `Held`, `NoMemory`; `Closed`, `InUse`, `Kind`.
+/// Inserts a key: `Yes` where it was not in the set, `No` where it was: `Member::insert` of
+/// `nm_set`. `Key`, `Busy`, `Full`, `Pending`, `Held`, `NoMemory`; `Closed`, `InUse`, `Kind`.
 #[unsafe(no_mangle)]
-pub extern "C" fn nm_worker_add(alloc: Global, worker: &mut Handle, key: u64, habit: &Habit) -> i32
-    ensures { IsCodeOf (OfWorker (DoesAdd habit.now key) ⊤ (held_by worker.old)
+pub extern "C" fn nm_worker_insert(
+    alloc: Global,
+    worker: &mut Handle,
+    key: u64,
+    habit: &Habit,
+) -> i32
+    ensures tells { IsCodeOf (OfWorker (TellsInsert habit.now key) ⊤ (held_by worker.old)
+        (held_by worker.new)) result }
+    ensures did { IsCodeOf (OfWorker (DoesInsert habit.now key) ⊤ (held_by worker.old)
         (held_by worker.new)) result }
 {
     let mut owner = match worker.claim(alloc) {
@@ -62,20 +71,20 @@ pub extern "C" fn nm_worker_add(alloc: Global, worker: &mut Handle, key: u64, ha
         Err(told) => return told.code(),
     };
     let outcome = match &mut *owner {
-        Owner::Worker(member) => add(member, key, habit),
+        Owner::Worker(member) => insert(member, key, habit),
         _ => Outcome::Kind,
     };
     worker.put(owner);
     outcome.code()
 }
 
-fn add(member: &mut Member, key: u64, habit: &Habit) -> Outcome
-    ensures { DoesAdd habit.now key member.old member.new result }
+fn insert(member: &mut Member, key: u64, habit: &Habit) -> Outcome
+    ensures { DoesInsert habit.now key member.old member.new result }
 {
     let Some(key) = Key::new(key) else {
         return Outcome::Key;
     };
-    match member.add(key, habit) {
+    match member.insert(key, habit) {
         Ok(answer) => Outcome::of(answer),
         Err(fault) => Outcome::of_fault(fault),
     }
@@ -90,7 +99,9 @@ pub extern "C" fn nm_worker_remove(
     key: u64,
     habit: &Habit,
 ) -> i32
-    ensures { IsCodeOf (OfWorker (DoesRemove habit.now key) ⊤ (held_by worker.old)
+    ensures tells { IsCodeOf (OfWorker (TellsRemove habit.now key) ⊤ (held_by worker.old)
+        (held_by worker.new)) result }
+    ensures did { IsCodeOf (OfWorker (DoesRemove habit.now key) ⊤ (held_by worker.old)
         (held_by worker.new)) result }
 {
     let mut owner = match worker.claim(alloc) {

@@ -182,8 +182,8 @@ fn ledger_of(member: &mut Member, ledger: &mut Ledger) -> Outcome
 }
 
 /// A worker that is at home resigns to this one, which then holds all that it held, and it never
-/// comes back: `Done`: `Member::resign` of `nm_set`. `Number`, `Away`, `Held` and `Pending` tell
-/// what stands against it. `Closed`, `InUse`, `Kind`.
+/// comes back: `Done`: `Member::resign` of `nm_set`. `Number`, `Away` and `Pending` tell what
+/// stands against it. `Closed`, `InUse`, `Kind`.
 #[tactic(auto, using(crate::proofs::Owners::refused_worker, crate::proofs::Owners::owned_worker))]
 #[unsafe(no_mangle)]
 pub extern "C" fn nm_worker_resign(alloc: Global, worker: &mut Handle, leaver: u32) -> i32

@@ -1,10 +1,11 @@
 -- What a pass's log is after a step: a part of a run, since it does not end with a join.
-use Rattle.std.proofs.Common.{◌≡◌, Bool, true, false, [], ◌∷◌, ◌++◌, arith}
+use Rattle.std.proofs.Common.{◌≡◌, Bool, true, false, [], ◌∷◌, ◌++◌, sym, ap, ◌∙◌, arith}
 use Rattle.nm_edge.specs.Layouts.{IsLayout}
 use Rattle.nm_model.specs.declared.event.Event.{Event}
 use Rattle.nm_model.specs.declared.event.Event.TheVariants.{Join}
 use Rattle.nm_model.specs.declared.reply.Reply.{Reply}
 use Rattle.nm_order.specs.Hands.{AreApart}
+use Rattle.nm_order.specs.Logs.{part_of}
 use Rattle.nm_order.proofs.HeldSlots.{hands_are_apart}
 use Rattle.nm_steps.specs.declared.view.View.{View}
 use Rattle.nm_steps.specs.Rules.{knowledge}
@@ -12,7 +13,7 @@ use Rattle.nm_steps.specs.Steps.{Stand, IsInRun, IsOfRun, HasSeen}
 
 -- a log whose run has been seen is of a run
 pub run_of_seen : (v : View) → HasSeen v → IsOfRun v.layout v.number v.log
-run_of_seen v seen = record { is_part = record { worker = seen.worker; turns = v.past; keys = seen.keys; is_part = seen.is_part }; here = seen.here }
+run_of_seen v seen = record { is_part = record { worker = seen.worker; turns = seen.events; keys = seen.keys; is_part = ap (part_of v.number) (sym seen.are) ∙ seen.is_part }; here = seen.here }
 
 abbrev pub is_join : Event → Bool
 is_join (Join v) = true

@@ -20,13 +20,13 @@ use Rattle.nm_order.specs.Logs.{part_of, known_by}
 use Rattle.nm_words.specs.Packing.{words_of}
 use Rattle.nm_steps.specs.declared.view.Held.{Held}
 use Rattle.nm_steps.specs.declared.view.View.{View}
-use Rattle.nm_steps.specs.Rules.{held_log, holdings, knowledge, stands, once_below, LogsAre, IsShown, LagsBehind, Runs, Kept, numbers_from, viewing, everybody, own_alone, the_others, nobody, passing, informed, joining_view, noted_down}
+use Rattle.nm_steps.specs.Rules.{held_log, holdings, knowledge, stands, once_below, LogsAre, IsShown, LagsBehind, Runs, Kept, numbers_from, viewing, everybody, own_alone, the_others, nobody, passing, informed, joining_view, noted_down, answered_turn}
 use Rattle.nm_steps.specs.Steps.{HasEmptyHands, Board, Stand, fresh_view, AreFresh, Ends}
 use Rattle.nm_steps.proofs.Counts.{sum_after, at_most_sum, both_at_most_sum}
 use Rattle.nm_steps.proofs.Growing.{goes_on_itself, goes_on_from_nothing, goes_on_by, behind_by}
 use Rattle.nm_steps.proofs.Presence.{gone_kept, known_push}
 use Rattle.nm_steps.proofs.Extending.{IsPartOf, words_after_join, trace_after_join}
-use Rattle.nm_steps.proofs.Keeping.{live, stands_live, once_is, one_turn, part_grows, part_stays}
+use Rattle.nm_steps.proofs.Keeping.{live, stands_live, once_is, part_grows, part_stays}
 use Rattle.nm_laws.proofs.Configurations.{keys_more}
 
 -- ---- the opening
@@ -98,7 +98,7 @@ abbrev IsHere : View → Type 0
 IsHere v = v.spent ≡ false → (knowledge v).gone ≡ false
 
 cuts : (L : Layout) (id : ℕ) (v left right : View) → ((t : List Turn) → IsShown L t v → IsShown L t left × IsShown L t right) → (IsHere v → IsHere left × IsHere right) → ((w : ℕ) → stands w left + stands w right ≡ stands w v)
-    → ((ts : List (ℕ × Event)) → LagsBehind ts v → LagsBehind ts left × LagsBehind ts right) → Splits (Kept L) id v left right
+    → ((ts : List Turn) → LagsBehind ts v → LagsBehind ts left × LagsBehind ts right) → Splits (Kept L) id v left right
 cuts L id v left right keep stay count lag s k at = record {
   fits = k.fits;
   turns = k.turns;
@@ -121,15 +121,15 @@ cuts L id v left right keep stay count lag s k at = record {
         (λ (x : right ≡ u). subst (IsShown L (trace_in (ordered L) k.turns)) x both.1)
         (at_snoc (set s.views id left) right u j is)
 
-    both_behind : LagsBehind k.turns left × LagsBehind k.turns right
-    both_behind = lag k.turns (k.lags id v at)
+    both_behind : LagsBehind (trace_in (ordered L) k.turns) left × LagsBehind (trace_in (ordered L) k.turns) right
+    both_behind = lag (trace_in (ordered L) k.turns) (k.lags id v at)
 
-    each_behind : (j : ℕ) (u : View) → get_elem? (set s.views id left ++ right ∷ []) j ≡ some u → LagsBehind k.turns u
+    each_behind : (j : ℕ) (u : View) → get_elem? (set s.views id left ++ right ∷ []) j ≡ some u → LagsBehind (trace_in (ordered L) k.turns) u
     each_behind j u is =
         ⊎_elim
         (λ (x : get_elem? (set s.views id left) j ≡ some u).
-        ⊎_elim (λ (y : (j ≡ id) × (left ≡ u)). subst (LagsBehind k.turns) y.1 both_behind.0) (λ (y : (j ≢ id) × (get_elem? s.views j ≡ some u)). k.lags j u y.1) (at_set s.views id j left u x))
-        (λ (x : right ≡ u). subst (LagsBehind k.turns) x both_behind.1)
+        ⊎_elim (λ (y : (j ≡ id) × (left ≡ u)). subst (LagsBehind (trace_in (ordered L) k.turns)) y.1 both_behind.0) (λ (y : (j ≢ id) × (get_elem? s.views j ≡ some u)). k.lags j u y.1) (at_set s.views id j left u x))
+        (λ (x : right ≡ u). subst (LagsBehind (trace_in (ordered L) k.turns)) x both_behind.1)
         (at_snoc (set s.views id left) right u j is)
 
     both_here : IsHere left × IsHere right
@@ -184,7 +184,7 @@ deals L id k v is below =
     (λ w. omega (arith, ap (times w) (held_by v.layout v.others), ap (times w) (live (own_alone v) alive), ap (times w) (live v alive), times-cons w (held_log v.number v.log) v.others, times-cons w (held_log v.number v.log) []))
     (λ ts b. (nothing_seen v.layout v.others ts, record { past = b.past; heard = b.heard }))
   where
-    nothing_seen : (l : Layout) (hs : List Held) (ts : List (ℕ × Event)) → LagsBehind ts (viewing l hs)
+    nothing_seen : (l : Layout) (hs : List Held) (ts : List Turn) → LagsBehind ts (viewing l hs)
     nothing_seen l [] ts = record { past = goes_on_from_nothing ts; heard = goes_on_from_nothing ts }
     nothing_seen l (h ∷ hs) ts = record { past = goes_on_from_nothing ts; heard = goes_on_from_nothing ts }
 
@@ -204,7 +204,7 @@ hears L id v other w spent s k at apart at' = record {
   shown = each (IsShown L (trace_in (ordered L) k.turns)) (k.shown id v at) tt k.shown;
   here = each IsHere (k.here id v at) (λ e. absurd (true≢false e)) k.here;
   once = λ n. omega (arith, sum_after (stands n) (set s.views id (informed v w)) other w nobody at', sum_after (stands n) s.views id v (informed v w) at, no_log n, k.once n);
-  lags = each (LagsBehind k.turns) (record { past = (k.lags id v at).past; heard = (k.lags other w was).past }) (record { past = goes_on_from_nothing k.turns; heard = goes_on_from_nothing k.turns }) k.lags;
+  lags = each (LagsBehind (trace_in (ordered L) k.turns)) (record { past = (k.lags id v at).past; heard = (k.lags other w was).past }) (record { past = goes_on_from_nothing (trace_in (ordered L) k.turns); heard = goes_on_from_nothing (trace_in (ordered L) k.turns) }) k.lags;
 }
   where
     was : get_elem? s.views other ≡ some w
@@ -275,10 +275,10 @@ module _ (L : Layout) (id : ℕ) (v : View) (other : ℕ) (w : View) (alive : v.
   abbrev reply : Reply
   reply = Joined (knowledge w).ledgers
 
-  trace_is : trace_in (ordered L) more ≡ before ++ one_turn v.number (Join w.number) reply ∷ []
+  trace_is : trace_in (ordered L) more ≡ before ++ answered_turn v.number (Join w.number) reply ∷ []
   trace_is =
       trace_after_join L v.number w.number v.log w.log k.turns heir leaver differ empty
-      ∙ ap (λ (l : Layout). before ++ one_turn v.number (Join w.number) (Joined (known_by l w.number w.log).ledgers) ∷ []) (sym second_log.0)
+      ∙ ap (λ (l : Layout). before ++ answered_turn v.number (Join w.number) (Joined (known_by l w.number w.log).ledgers) ∷ []) (sym second_log.0)
 
   heirs_part : part_of v.number (trace_in (ordered L) more) ≡ part_of v.number before ++ passing w ∷ []
   heirs_part = ap (part_of v.number) trace_is ∙ part_grows v.number before v.number (Join w.number) reply (ap (λ (b : Bool). b || eqb w.number v.number) (eq-eqb v.number v.number refl))
@@ -351,8 +351,14 @@ module _ (L : Layout) (id : ℕ) (v : View) (other : ℕ) (w : View) (alive : v.
       ap (λ x. x.gone) (known_push v.number v.layout v.log (passing w))
       ∙ (gone_kept v.number (knowledge v) (Join w.number) reply (ne_eqb w.number v.number (λ same. differ (sym same))) ∙ k.here id v at alive)
 
-  behind_joined : LagsBehind more (joining_view v w)
-  behind_joined = record { past = goes_on_by k.turns v.past (v.number, Join w.number) (k.lags id v at).past; heard = goes_on_by k.turns w.past (v.number, Join w.number) (k.lags other w at').past }
+  abbrev turn : Turn
+  turn = answered_turn v.number (Join w.number) reply
+
+  longer : (u : View) → LagsBehind (before ++ turn ∷ []) u → LagsBehind (trace_in (ordered L) more) u
+  longer u = subst (λ (ts : List Turn). LagsBehind ts u) (sym trace_is)
+
+  behind_joined : LagsBehind (trace_in (ordered L) more) (joining_view v w)
+  behind_joined = longer (joining_view v w) (record { past = goes_on_by before v.past turn (k.lags id v at).past; heard = goes_on_by before w.past turn (k.lags other w at').past })
 
   joint : Runs L s.words (set (set s.views id (joining_view v w)) other nobody)
   joint = record {
@@ -375,9 +381,9 @@ module _ (L : Layout) (id : ℕ) (v : View) (other : ℕ) (w : View) (alive : v.
     once = λ n. omega (arith, sum_after (stands n) (set s.views id (joining_view v w)) other w nobody at'', sum_after (stands n) s.views id v (joining_view v w) at, counted n, k.once n);
     lags = λ j u is.
         ⊎_elim
-        (λ (x : (j ≡ other) × (nobody ≡ u)). subst (LagsBehind more) x.1 (record { past = goes_on_from_nothing more; heard = goes_on_from_nothing more }))
+        (λ (x : (j ≡ other) × (nobody ≡ u)). subst (LagsBehind (trace_in (ordered L) more)) x.1 (record { past = goes_on_from_nothing (trace_in (ordered L) more); heard = goes_on_from_nothing (trace_in (ordered L) more) }))
         (λ (x : (j ≢ other) × (get_elem? (set s.views id (joining_view v w)) j ≡ some u)).
-        ⊎_elim (λ (y : (j ≡ id) × (joining_view v w ≡ u)). subst (LagsBehind more) y.1 behind_joined) (λ (y : (j ≢ id) × (get_elem? s.views j ≡ some u)). behind_by k.turns (v.number, Join w.number) u (k.lags j u y.1)) (at_set s.views id j (joining_view v w) u x.1))
+        ⊎_elim (λ (y : (j ≡ id) × (joining_view v w ≡ u)). subst (LagsBehind (trace_in (ordered L) more)) y.1 behind_joined) (λ (y : (j ≢ id) × (get_elem? s.views j ≡ some u)). longer u (behind_by before turn u (k.lags j u y.1))) (at_set s.views id j (joining_view v w) u x.1))
         (at_set (set s.views id (joining_view v w)) other j nobody u is);
   }
 

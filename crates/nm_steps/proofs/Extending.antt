@@ -131,7 +131,7 @@ module _ (L : Layout) (w : ℕ) (log : List Entry) (turns : List (ℕ × Event))
         stand = subst EachBirthStands (sym o.leads) (each_birth_stands L enough o.events)
 
     in_order : disorder_in c w e ≡ None
-    in_order = ap (λ ss. disorder_among ss (of c.state w) w e) o.are ∙ (ap (λ (x : Knowledge). disorder x (search_of o.searches w) e) knows ∙ (ap (λ (x : Search). disorder k x e) search_is ∙ may.ordered))
+    in_order = ap (λ ss. disorder_among c.state.layout ss (of c.state w) w e) o.are ∙ (ap (λ (x : Knowledge). disorder c.state.layout x (search_of o.searches w) e) knows ∙ (ap (λ (x : Search). disorder c.state.layout k x e) search_is ∙ (ap (λ (l : Layout). disorder l k (search_after idle log) e) layout_is ∙ may.ordered)))
 
     no_refusal : refused c.state w e ≡ None
     no_refusal = there c.state w e (subst (λ (l : Layout). w < l.workers) (sym layout_is) p.worker) (ap (λ (x : Knowledge). x.gone) knows ∙ p.here) refusal_none
@@ -189,7 +189,7 @@ module _ (L : Layout) (u w : ℕ) (heirs leavers : List Entry) (turns : List (�
   unfolding refused
   join_not_refused = ap (λ (b : Bool). cond b (Some NoWorker) (join_refusal d.state u w)) (worker_is_there u heirs p) ∙ join_allowed
 
-  in_any_order : (o : Option (List Search)) → disorder_among o (of d.state u) u (Join w) ≡ None
+  in_any_order : (o : Option (List Search)) → disorder_among d.state.layout o (of d.state u) u (Join w) ≡ None
   in_any_order None = refl
   in_any_order (Some ss) = refl
 

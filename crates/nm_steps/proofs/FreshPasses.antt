@@ -27,7 +27,7 @@ abbrev pub no_epochs : Brief
 no_epochs = record { seen = None; note = None; pin = None; unlabelled = false }
 
 pub fresh_tied : (L : Layout) (it : Seat Unit View) (w note : ℕ) → IsLayout L → w < L.workers → note ≡ word L (at_note w) → it.me.0 ≡ fresh_view L w → it.me.1 ≡ [] → Tied it w note no_epochs
-unfolding empty_log
+unfolding empty_log trace_in
 fresh_tied L it w note fits below at view empty = record {
   empty = empty;
   alive = ap (λ (v : View). v.spent) view;
@@ -38,6 +38,6 @@ fresh_tied L it w note fits below at view empty = record {
   worker = subst (λ (v : View). w < v.layout.workers) (sym view) below;
   small = tt;
   private = subst (λ (v : View). (x : ℕ) → is_private (knowledge v) x ≡ true → IsPooled v.layout x) (sym view) (λ x h. absurd (true≢false (sym h)));
-  seen = subst HasSeen (sym view) (let log = empty_log L w below in record { worker = below; keys = log.keys; is_part = log.is_part; here = refl });
+  seen = subst HasSeen (sym view) (let log = empty_log L w below in record { worker = below; events = []; keys = log.keys; are = refl; is_part = refl; here = refl });
   heard = ap (λ (v : View). v.heard) view;
 }

@@ -3,7 +3,7 @@ use Rattle.std.proofs.Common.{◌≡◌, ℕ, ◌<◌, true, List, [], sym, ap, 
 use Rattle.atomic_table.specs.declared.shared.Seat.{Seat}
 use Rattle.nm_edge.specs.Layouts.{IsLayout}
 use Rattle.nm_edge.specs.Words.{at_note, word}
-use Rattle.nm_model.specs.declared.event.Event.{Event}
+use Rattle.nm_model.specs.declared.trace.Turn.{Turn}
 use Rattle.nm_model.specs.declared.knowledge.Brief.{Brief}
 use Rattle.nm_model.specs.Knowledge.{is_private}
 use Rattle.nm_order.specs.Hands.{IsPooled}
@@ -14,7 +14,7 @@ use Rattle.nm_steps.specs.Ties.{HasSeenBoth}
 
 -- the seat after it was told, and after the read behind it
 module _ (it mid after : Seat Unit View) (number note : ℕ) (brief : Brief) (w : View) (tied : Tied it number note brief) (me : mid.me ≡ (informed it.me.0 w, it.me.1)) (slots : after.me.1 ≡ mid.me.1) (both : HasSeenBoth mid.me.0 after.me.0) where
-  abbrev now : List (ℕ × Event)
+  abbrev now : List Turn
   now = after.me.0.past
 
   view : after.me.0 ≡ record it.me.0 { past = now; heard = [] }
@@ -36,7 +36,7 @@ module _ (it mid after : Seat Unit View) (number note : ℕ) (brief : Brief) (w 
   }
 
   pub heard_view : after.me.0 ≡ record it.me.0 { past = now }
-  heard_view = view ∙ ap (λ (h : List (ℕ × Event)). record it.me.0 { past = now; heard = h }) (sym tied.heard)
+  heard_view = view ∙ ap (λ (h : List Turn). record it.me.0 { past = now; heard = h }) (sym tied.heard)
 
   pub heard_past : Extends now it.me.0.past
   heard_past = subst (λ (m : View × List (ℕ × Unit)). Extends now m.0.past) me both.past

@@ -5,8 +5,8 @@ use Rattle.std.proofs.lemmas.Bool.{cond_both}
 use Rattle.atomic_table.specs.declared.shared.Seat.{Seat}
 use Rattle.nm_edge.specs.Layouts.{IsLayout}
 use Rattle.nm_edge.specs.Words.{at_note, word}
-use Rattle.nm_model.specs.declared.event.Event.{Event}
 use Rattle.nm_model.specs.declared.event.Event.TheVariants.{Join}
+use Rattle.nm_model.specs.declared.trace.Turn.{Turn}
 use Rattle.nm_model.specs.declared.knowledge.Brief.{Brief}
 use Rattle.nm_model.specs.declared.reply.Reply.TheVariants.{Joined}
 use Rattle.nm_model.specs.declared.knowledge.Draft.{Draft}
@@ -29,7 +29,7 @@ drafts_stay w v k ls = cond_both (w == v) (resigned k) (inheriting k ls) (λ (x 
 
 -- the seat after the join, and after the read behind it
 module _ (it mid after : Seat Unit View) (number note : ℕ) (brief : Brief) (w : View) (tied : Tied it number note brief) (me : mid.me ≡ (joining_view it.me.0 w, it.me.1)) (slots : after.me.1 ≡ mid.me.1) (both : HasSeenBoth mid.me.0 after.me.0) where
-  abbrev now : List (ℕ × Event)
+  abbrev now : List Turn
   now = after.me.0.past
 
   view : after.me.0 ≡ record (joined it.me.0 w) { past = now; heard = [] }
@@ -59,7 +59,7 @@ module _ (it mid after : Seat Unit View) (number note : ℕ) (brief : Brief) (w 
       }
 
   pub joined_view : after.me.0 ≡ record (joined it.me.0 w) { past = now }
-  joined_view = view ∙ ap (λ (h : List (ℕ × Event)). record (joined it.me.0 w) { past = now; heard = h }) (sym tied.heard)
+  joined_view = view ∙ ap (λ (h : List Turn). record (joined it.me.0 w) { past = now; heard = h }) (sym tied.heard)
 
   -- it has seen what both had seen
   pub joined_past : Extends now it.me.0.past

@@ -1,5 +1,5 @@
 -- Each step keeps the rule.
-use Rattle.std.proofs.Common.{◌≡◌, ◌≢◌, ℕ, ◌+◌, ◌<◌, ◌≤◌, Bool, true, false, cond, eqb, ltb, ◌||◌, List, [], ◌∷◌, ◌++◌, set, refl, sym, ap, ◌∙◌, subst, ⊎_elim, eq-eqb, true≢false, arith, Ok}
+use Rattle.std.proofs.Common.{◌≡◌, ◌≢◌, ℕ, ◌+◌, ◌<◌, ◌≤◌, Bool, true, false, cond, eqb, ltb, ◌||◌, List, [], ◌∷◌, ◌++◌, set, refl, sym, ap, ◌∙◌, subst, ⊎_elim, eq-eqb, true≢false, arith}
 use Rattle.std.specs.Prelude.{slice_index, slice_set}
 use Rattle.std.specs.List.{sum_by, count_by}
 use Rattle.std.proofs.lemmas.List.{append-nil}
@@ -28,7 +28,7 @@ use Rattle.nm_words.specs.Packing.{words_of, word_at, touched_field, left_word}
 use Rattle.nm_words.specs.Told.{told}
 use Rattle.nm_steps.specs.declared.view.Held.{Held}
 use Rattle.nm_steps.specs.declared.view.View.{View}
-use Rattle.nm_steps.specs.Rules.{held_log, holdings, knowledge, known_births, stands, once_below, LogsAre, IsShown, LagsBehind, Runs, Kept, logged, is_store, IsFound, Did}
+use Rattle.nm_steps.specs.Rules.{held_log, holdings, knowledge, known_births, stands, once_below, LogsAre, IsShown, LagsBehind, Runs, Kept, answered_turn, logged, is_store, IsFound, Did, Extends}
 use Rattle.nm_steps.specs.Steps.{May, IsReadyFor, IsDone, Changes, IsBlind}
 use Rattle.nm_steps.proofs.Counts.{at_most_sum, both_at_most_sum, sum_after}
 use Rattle.nm_steps.proofs.Growing.{goes_on_itself, goes_on_by, behind_by}
@@ -59,14 +59,11 @@ pub no_leaver : (L : Layout) (w : ℕ) (log : List Entry) (e : Event) → May L 
 no_leaver L w log (Join v) may u = absurd may.births
 no_leaver L w log e may u = refl
 
-abbrev pub one_turn : ℕ → Event → Reply → Turn
-one_turn w e r = record { worker = w; event = e; outcome = Ok r }
+pub part_grows : (u : ℕ) (ts : List Turn) (w : ℕ) (e : Event) (r : Reply) → takes_part u w e ≡ true → part_of u (ts ++ answered_turn w e r ∷ []) ≡ part_of u ts ++ (e, r) ∷ []
+part_grows u ts w e r takes = part-append u ts (answered_turn w e r ∷ []) ∙ ap (λ (b : Bool). part_of u ts ++ (cond b ((e, r) ∷ []) [] ++ [])) takes
 
-pub part_grows : (u : ℕ) (ts : List Turn) (w : ℕ) (e : Event) (r : Reply) → takes_part u w e ≡ true → part_of u (ts ++ one_turn w e r ∷ []) ≡ part_of u ts ++ (e, r) ∷ []
-part_grows u ts w e r takes = part-append u ts (one_turn w e r ∷ []) ∙ ap (λ (b : Bool). part_of u ts ++ (cond b ((e, r) ∷ []) [] ++ [])) takes
-
-pub part_stays : (u : ℕ) (ts : List Turn) (w : ℕ) (e : Event) (r : Reply) → takes_part u w e ≡ false → part_of u (ts ++ one_turn w e r ∷ []) ≡ part_of u ts
-part_stays u ts w e r apart = part-append u ts (one_turn w e r ∷ []) ∙ (ap (λ (b : Bool). part_of u ts ++ (cond b ((e, r) ∷ []) [] ++ [])) apart ∙ append-nil (part_of u ts))
+pub part_stays : (u : ℕ) (ts : List Turn) (w : ℕ) (e : Event) (r : Reply) → takes_part u w e ≡ false → part_of u (ts ++ answered_turn w e r ∷ []) ≡ part_of u ts
+part_stays u ts w e r apart = part-append u ts (answered_turn w e r ∷ []) ∙ (ap (λ (b : Bool). part_of u ts ++ (cond b ((e, r) ∷ []) [] ++ [])) apart ∙ append-nil (part_of u ts))
 
 -- the logs of other numbers are as they were
 pub others_kept : (l L : Layout) (t t' : List Turn) (w : ℕ) → ((u : ℕ) → eqb w u ≡ false → part_of u t' ≡ part_of u t) → (hs : List Held) → count_by (λ h. eqb w h.number) hs ≡ 0 → LogsAre l L t hs → LogsAre l L t' hs
@@ -121,13 +118,13 @@ module _ (L : Layout) (words : List ℕ) (views : List View) (id : ℕ) (v : Vie
   reply = told v.layout (knowledge v) (known_births v) e found
 
   abbrev now : View
-  now = logged v e found k.turns
+  now = logged v e found trace
 
   reply_is : told L (known_by L v.number v.log) (births_by L v.number v.log) e (word_at L (after_in (ordered L) k.turns).state.memory (touched_field v.number e)) ≡ reply
   reply_is = ap (λ (l : Layout). told l (known_by l v.number v.log) (births_by l v.number v.log) e (word_at L (after_in (ordered L) k.turns).state.memory (touched_field v.number e))) (sym layout) ∙ ap (told v.layout (knowledge v) (known_births v) e) (sym found_is)
 
-  trace_is : trace_in (ordered L) more ≡ trace ++ one_turn v.number e reply ∷ []
-  trace_is = trace_after L v.number v.log k.turns part e may ∙ ap (λ (r : Reply). trace ++ one_turn v.number e r ∷ []) reply_is
+  trace_is : trace_in (ordered L) more ≡ trace ++ answered_turn v.number e reply ∷ []
+  trace_is = trace_after L v.number v.log k.turns part e may ∙ ap (λ (r : Reply). trace ++ answered_turn v.number e r ∷ []) reply_is
 
   own_part : part_of v.number (trace_in (ordered L) more) ≡ part_of v.number trace ++ (e, reply) ∷ []
   own_part = ap (part_of v.number) trace_is ∙ part_grows v.number trace v.number e reply (ap (λ (b : Bool). b || is_leaver v.number e) (eq-eqb v.number v.number refl))
@@ -170,11 +167,14 @@ module _ (L : Layout) (words : List ℕ) (views : List View) (id : ℕ) (v : Vie
       (λ (x : (j ≢ id) × (get_elem? views j ≡ some u)). k.here j u x.1 live_u)
       (at_set views id j now u is)
 
-  behind_after : (j : ℕ) (u : View) → get_elem? (set views id now) j ≡ some u → LagsBehind more u
+  longer : (P : List Turn → Type 0) → P (trace ++ answered_turn v.number e reply ∷ []) → P (trace_in (ordered L) more)
+  longer P = subst P (sym trace_is)
+
+  behind_after : (j : ℕ) (u : View) → get_elem? (set views id now) j ≡ some u → LagsBehind (trace_in (ordered L) more) u
   behind_after j u is =
       ⊎_elim
-      (λ (x : (j ≡ id) × (now ≡ u)). subst (LagsBehind more) x.1 (record { past = goes_on_itself more; heard = goes_on_by k.turns v.heard (v.number, e) (k.lags id v at).heard }))
-      (λ (x : (j ≢ id) × (get_elem? views j ≡ some u)). behind_by k.turns (v.number, e) u (k.lags j u x.1))
+      (λ (x : (j ≡ id) × (now ≡ u)). subst (LagsBehind (trace_in (ordered L) more)) x.1 (longer (λ ts. LagsBehind ts now) (record { past = goes_on_itself now.past; heard = goes_on_by trace v.heard (answered_turn v.number e reply) (k.lags id v at).heard })))
+      (λ (x : (j ≢ id) × (get_elem? views j ≡ some u)). longer (λ ts. LagsBehind ts u) (behind_by trace (answered_turn v.number e reply) u (k.lags j u x.1)))
       (at_set views id j now u is)
 
   same_stands : (w : ℕ) → stands w now ≡ stands w v
@@ -204,30 +204,28 @@ module _ (L : Layout) (words : List ℕ) (views : List View) (id : ℕ) (v : Vie
 abbrev no_step : Step Unit
 no_step = step 0 0 0 0 none
 
--- THE STEP: an event that the own log allows may be made at its word, by any operation that leaves
--- the word that the event leaves
-pub allows : (L : Layout) (slots id : ℕ) (v : View) (e : Event) (i : ℕ) (f said : ℕ → ℕ)
-    → v.spent ≡ false → v.layout ≡ L → i ≡ word L (touched_field v.number e) → May L v.number v.log e
-    → ((n : ℕ) → f n ≡ left_word v.layout (knowledge v) e n)
-    → ((n : ℕ) → (told v.layout (knowledge v) (known_births v) e (said n) ≡ told v.layout (knowledge v) (known_births v) e n) × (is_store e ≡ false → said n ≡ n))
-    → Allows (Kept L) slots id (v, []) i f (λ n. Did e no_step (v, []) (said n))
+-- one event more, by a word that was found: the view behind it, with the rule, and what the step
+-- tells; m is the word that it is told of
+pub goes_on : (L : Layout) (words : List ℕ) (views : List View) (id : ℕ) (v : View) (e : Event) (i m : ℕ) (k : Runs L words views)
+    → get_elem? views id ≡ some v → v.spent ≡ false → v.layout ≡ L → i ≡ word L (touched_field v.number e) → May L v.number v.log e
+    → told v.layout (knowledge v) (known_births v) e m ≡ told v.layout (knowledge v) (known_births v) e (slice_index words i)
+    → (is_store e ≡ false → m ≡ slice_index words i)
+    → (w : View) × Runs L (slice_set words i (left_word v.layout (knowledge v) e (slice_index words i))) (set views id w) × Did e no_step (v, []) m (w, [])
 unfolding is_found
-allows L slots id v e i f said alive layout index may change tell s k homes at small =
-    let n : ℕ = slice_index s.words i in
-    let was = is_found L s.words s.views id v e i k at alive layout index may in (
-      logged v e n k.turns,
-      keeps,
-      tt,
-      subst (λ (m : ℕ). Runs L (slice_set s.words i m) (set s.views id (logged v e n k.turns))) (sym (change n)) (next L s.words s.views id v e i k at alive layout index may),
+goes_on L words views id v e i m k at alive layout index may same is =
+    let n : ℕ = slice_index words i in
+    let was = is_found L words views id v e i k at alive layout index may in (
+      logged v e n (trace_in (ordered L) k.turns),
+      next L words views id v e i k at alive layout index may,
       (
-        found_by v.layout (sym layout) (record { fits = was.fits; worker = was.worker; turns = was.turns; keys = was.keys; is_part = was.is_part; here = was.here; word = λ h. (tell n).1 h ∙ was.word h }),
-        (λ j. (record v { log = v.log ++ (e, sym (tell n).0 j) ∷ []; past = k.turns ++ (v.number, e) ∷ [] }, [])),
-        (k.lags id v at).past,
+        found_by v.layout (sym layout) (record { fits = was.fits; worker = was.worker; turns = was.turns; keys = was.keys; is_part = was.is_part; here = was.here; word = λ h. is h ∙ was.word h }),
+        (λ j. (record v { log = v.log ++ (e, sym same j) ∷ []; past = trace_in (ordered (sym layout j)) k.turns ++ answered_turn v.number e (sym same j) ∷ [] }, [])),
+        subst (λ (l : Layout). Extends (trace_in (ordered l) k.turns) v.past) (sym layout) (k.lags id v at).past,
       ),
     )
   where
     -- of the view's own layout, with the same turns
-    found_by : (l : Layout) → L ≡ l → (f : IsFound L v.number v.log e (said (slice_index s.words i))) → IsFound l v.number v.log e (said (slice_index s.words i))
+    found_by : (l : Layout) → L ≡ l → (f : IsFound L v.number v.log e m) → IsFound l v.number v.log e m
     found_by l same f = record {
       fits = subst IsLayout same f.fits;
       worker = subst (λ (x : Layout). v.number < x.workers) same f.worker;
@@ -235,8 +233,20 @@ allows L slots id v e i f said alive layout index may change tell s k homes at s
       keys = f.keys;
       is_part = subst (λ (x : Layout). v.log ≡ part_of v.number (trace_in (ordered x) f.turns)) same f.is_part;
       here = subst (λ (x : Layout). (known_by x v.number v.log).gone ≡ false) same f.here;
-      word = subst (λ (x : Layout). is_store e ≡ false → said (slice_index s.words i) ≡ word_at x (after_in (ordered x) f.turns).state.memory (touched_field v.number e)) same f.word;
+      word = subst (λ (x : Layout). is_store e ≡ false → m ≡ word_at x (after_in (ordered x) f.turns).state.memory (touched_field v.number e)) same f.word;
     }
+
+-- THE STEP: an event that the own log allows may be made at its word, by any operation that leaves
+-- the word that the event leaves
+pub allows : (L : Layout) (slots id : ℕ) (v : View) (e : Event) (i : ℕ) (f said : ℕ → ℕ)
+    → v.spent ≡ false → v.layout ≡ L → i ≡ word L (touched_field v.number e) → May L v.number v.log e
+    → ((n : ℕ) → f n ≡ left_word v.layout (knowledge v) e n)
+    → ((n : ℕ) → (told v.layout (knowledge v) (known_births v) e (said n) ≡ told v.layout (knowledge v) (known_births v) e n) × (is_store e ≡ false → said n ≡ n))
+    → Allows (Kept L) slots id (v, []) i f (λ n. Did e no_step (v, []) (said n))
+allows L slots id v e i f said alive layout index may change tell s k homes at small =
+    let n : ℕ = slice_index s.words i in
+    let g = goes_on L s.words s.views id v e i (said n) k at alive layout index may (tell n).0 (tell n).1 in
+    (g.0, keeps, tt, subst (λ (m : ℕ). Runs L (slice_set s.words i m) (set s.views id g.0)) (sym (change n)) g.1, g.2)
 
 -- what every operation asks of its caller, where the pass is ready; d is the event that the `Play`
 -- names

@@ -17,3 +17,4 @@ pub mod FoundBirths
 pub mod ClaimedSlots
 pub mod AfterSteps
 pub mod Tying
+pub mod Rows

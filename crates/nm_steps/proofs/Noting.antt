@@ -25,8 +25,9 @@ use Rattle.nm_order.proofs.OutsidePins.{brief_scan, brief_look_private, brief_lo
 use Rattle.nm_words.specs.Packing.{word_at, touched_field}
 use Rattle.nm_words.specs.Told.{told}
 use Rattle.nm_steps.specs.declared.view.View.{View}
-use Rattle.nm_steps.specs.Rules.{knowledge, known_births, logged, is_store, IsFound}
-use Rattle.nm_steps.specs.Steps.{Stand, May, IsReadyFor, IsDone, HasTurn, IsOfRun, IsInRun, HasSeen, Tied, Laid, noted, noted_sight}
+use Rattle.std.proofs.lemmas.List.{same_from_push}
+use Rattle.nm_steps.specs.Rules.{knowledge, known_births, answered_turn, logged, is_store, IsFound}
+use Rattle.nm_steps.specs.Steps.{Stand, May, IsReadyFor, IsDone, Stepped, HasTurn, IsOfRun, IsInRun, HasSeen, Tied, Laid, noted, noted_sight}
 use Rattle.nm_steps.proofs.Presence.{gone_kept, known_push}
 use Rattle.nm_steps.proofs.Asking.{within, seen_small, private_pooled}
 use Rattle.nm_steps.proofs.Extending.{IsPartOf, trace_after}
@@ -88,6 +89,10 @@ module _ (L : Layout) (w : ℕ) (log : List Entry) (e : Event) (n : ℕ) (f : Is
       go true is = store_is_blind L (known_by L w log) (births_by L w log) e _ n is
       go false is = ap (told L (known_by L w log) (births_by L w log) e) (sym (f.word is))
 
+  -- the turns of the longer run
+  pub seen_is : trace_in (ordered L) f.turns ++ answered_turn w e (told L (known_by L w log) (births_by L w log) e n) ∷ [] ≡ trace_in (ordered L) (f.turns ++ (w, e) ∷ [])
+  seen_is = sym (trace_after L w log f.turns part e may ∙ ap (λ (r : Reply). trace_in (ordered L) f.turns ++ answered_turn w e r ∷ []) reply_is)
+
   -- the longer log is a part of a run too
   pub log_grows : IsLogOf L w (log ++ (e, told L (known_by L w log) (births_by L w log) e n) ∷ [])
   log_grows = record {
@@ -108,11 +113,12 @@ module _ (L : Layout) (w : ℕ) (log : List Entry) (e : Event) (n : ℕ) (f : Is
   }
 
 -- what has been seen after a step has the log as its part
-seen_after : (v : View) (e : Event) (n : ℕ) (f : IsFound v.layout v.number v.log e n) → May v.layout v.number v.log e → HasSeen (logged v e n f.turns)
+seen_after : (v : View) (e : Event) (n : ℕ) (f : IsFound v.layout v.number v.log e n) → May v.layout v.number v.log e → HasSeen (logged v e n (trace_in (ordered v.layout) f.turns))
 unfolding log_grows
 seen_after v e n f may =
     let longer = log_grows v.layout v.number v.log e n f may in
-    record { worker = longer.worker; keys = longer.keys; is_part = longer.is_part; here = (run_grows v.layout v.number v.log e n f may).here }
+    let are = seen_is v.layout v.number v.log e n f may in
+    record { worker = longer.worker; events = longer.turns; keys = longer.keys; are = are; is_part = ap (part_of v.number) are ∙ longer.is_part; here = (run_grows v.layout v.number v.log e n f may).here }
 
 -- ---- a pass before and after a step
 
@@ -120,9 +126,23 @@ seen_after v e n f may =
 abbrev pub standing : Seat Unit View → Stand
 standing it = record { table = it.table_id; seat = it.id; view = it.me.0 }
 
+-- the event with some reply is in the log, and is the last turn that has been seen
+pub record HasTurned (p q : Stand) (e : Event) : Type 0 where
+  pub reply : Reply
+  pub log : q.view.log ≡ p.view.log ++ (e, reply) ∷ []
+  pub turn : HasTurn p q e reply
+
 -- the turn of the step is the last that has been seen
-pub has_turn : (it after : Seat Unit View) (e : Event) (n : ℕ) → IsDone it after e n → HasTurn (standing it) (standing after) e
-has_turn it after e n done = record { before = done.found.turns; extends = done.past; is = ap (λ (m : View × List (ℕ × Unit)). m.0.past) done.me }
+pub has_turned : (it after : Seat Unit View) (e : Event) (n : ℕ) → IsDone it after e n → HasTurned (standing it) (standing after) e
+has_turned it after e n done = record {
+  reply = told it.me.0.layout (knowledge it.me.0) (known_births it.me.0) e n;
+  log = ap (λ (m : View × List (ℕ × Unit)). m.0.log) done.me;
+  turn = record { before = trace_in (ordered it.me.0.layout) done.found.turns; extends = done.past; is = ap (λ (m : View × List (ℕ × Unit)). m.0.past) done.me };
+}
+
+-- with the reply that the log tells
+pub has_turn : (p q : Stand) (e : Event) (r : Reply) → Stepped p q e r → HasTurned p q e → HasTurn p q e r
+has_turn p q e r step t = subst (HasTurn p q e) (ap (λ (x : Entry). x.1) (same_from_push p.view.log p.view.log (e, t.reply) (e, r) (sym t.log ∙ ap (λ (z : Stand). z.view.log) step)).1) t.turn
 
 -- the epoch last read, if there is one, is no greater than the greatest
 small_seen : (o : Option ℕ) → ((s : ℕ) → o ≡ Some s → s ≤ last_number) → IfSome o (λ e. e ≤ last_number)
@@ -156,7 +176,7 @@ ready_by_key z key L it e i laid r = subst (λ (l : Layout). IsReadyFor (record 
 -- after a step its log is of a run
 pub in_run_after : (it after : Seat Unit View) (number note : ℕ) (brief : Brief) (e : Event) (n : ℕ) → Tied it number note brief → May it.me.0.layout it.me.0.number it.me.0.log e → IsDone it after e n → IsInRun (standing after)
 in_run_after it after number note brief e n tied may done =
-    let me : after.me.0 ≡ logged it.me.0 e n done.found.turns = ap (λ m. m.0) done.me in
+    let me : after.me.0 ≡ logged it.me.0 e n (trace_in (ordered it.me.0.layout) done.found.turns) = ap (λ m. m.0) done.me in
     record {
       fits = subst (λ (v : View). IsLayout v.layout) (sym me) tied.fits;
       run = subst (λ (v : View). IsOfRun v.layout v.number v.log) (sym me) (run_grows it.me.0.layout it.me.0.number it.me.0.log e n done.found may);
@@ -165,7 +185,7 @@ in_run_after it after number note brief e n tied may done =
 pub tied_after : (it after : Seat Unit View) (number note : ℕ) (brief new : Brief) (e : Event) (n : ℕ) → Tied it number note brief → May it.me.0.layout it.me.0.number it.me.0.log e → IsDone it after e n
     → new ≡ noted brief e (told it.me.0.layout (knowledge it.me.0) (known_births it.me.0) e n) → Tied after number note new
 tied_after it after number note brief new e n tied may done is =
-    let me : after.me.0 ≡ logged it.me.0 e n done.found.turns = ap (λ m. m.0) done.me in
+    let me : after.me.0 ≡ logged it.me.0 e n (trace_in (ordered it.me.0.layout) done.found.turns) = ap (λ m. m.0) done.me in
     let r : Reply = told it.me.0.layout (knowledge it.me.0) (known_births it.me.0) e n in
     let longer : IsLogOf it.me.0.layout it.me.0.number (it.me.0.log ++ (e, r) ∷ []) = log_grows it.me.0.layout it.me.0.number it.me.0.log e n done.found may in
     let epochs : new ≡ (known_by it.me.0.layout it.me.0.number (it.me.0.log ++ (e, r) ∷ [])).brief =

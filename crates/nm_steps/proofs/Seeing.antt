@@ -4,8 +4,9 @@ use Rattle.nm_model.specs.declared.reply.Reply.{Reply}
 use Rattle.nm_model.specs.Walks.{Entry}
 use Rattle.nm_steps.specs.Steps.{Stand, Stepped, HasTurn, HasSeenAllOf, IsSamePass, TakesStep, Continues}
 use Rattle.nm_steps.proofs.Growing.{goes_on_itself, goes_on_through, goes_on_by}
-use Rattle.std.proofs.Common.{ℕ, sym, subst, ap, ◌∙◌, List}
-use Rattle.nm_steps.specs.Rules.{Extends}
+use Rattle.std.proofs.Common.{sym, subst, ap, ◌∙◌, List}
+use Rattle.nm_model.specs.declared.trace.Turn.{Turn}
+use Rattle.nm_steps.specs.Rules.{Extends, answered_turn}
 
 pub seen_itself : (p : Stand) → HasSeenAllOf p p
 seen_itself p = record { goes_on = goes_on_itself p.view.past }
@@ -13,9 +14,9 @@ seen_itself p = record { goes_on = goes_on_itself p.view.past }
 pub seen_through : (p q r : Stand) → HasSeenAllOf q p → HasSeenAllOf r q → HasSeenAllOf r p
 seen_through p q r first second = record { goes_on = goes_on_through r.view.past q.view.past p.view.past second.goes_on first.goes_on }
 
-pub seen_by_turn : (p q : Stand) (e : Event) → HasTurn p q e → HasSeenAllOf q p
-seen_by_turn p q e turn = record {
-  goes_on = subst (λ (run : List (ℕ × Event)). Extends run p.view.past) (sym turn.is) (goes_on_by turn.before p.view.past (p.view.number, e) turn.extends);
+pub seen_by_turn : (p q : Stand) (e : Event) (r : Reply) → HasTurn p q e r → HasSeenAllOf q p
+seen_by_turn p q e r turn = record {
+  goes_on = subst (λ (run : List Turn). Extends run p.view.past) (sym turn.is) (goes_on_by turn.before p.view.past (answered_turn p.view.number e r) turn.extends);
 }
 
 pub same_then : (p q r : Stand) → IsSamePass p q → IsSamePass q r → IsSamePass p r
@@ -32,6 +33,6 @@ continues_then p q r first second = record {
 }
 
 pub continues_by : (p q : Stand) (e : Event) (r : Reply) → TakesStep p q e r → Continues p q
-continues_by p q e r step = record { same = same_by_step p q e r step.step; past = seen_by_turn p q e step.past; run = step.run }
+continues_by p q e r step = record { same = same_by_step p q e r step.step; past = seen_by_turn p q e r step.past; run = step.run }
 
 pub ruleset seen_all = (seen_itself, seen_through, seen_by_turn)

@@ -11,7 +11,7 @@ use Rattle.atomic_table.proofs.Lists.{at_set}
 use Rattle.nm_edge.specs.Layouts.{Layout, IsLayout}
 use Rattle.nm_edge.specs.Words.{word, at_epoch}
 use Rattle.nm_edge.proofs.Words.{fields_within}
-use Rattle.nm_model.specs.declared.event.Event.{Event}
+use Rattle.nm_model.specs.declared.trace.Turn.{Turn}
 use Rattle.nm_model.specs.Ordered.{ordered, trace_in}
 use Rattle.nm_order.specs.Logs.{part_of}
 use Rattle.nm_steps.specs.declared.view.View.{View}
@@ -23,10 +23,10 @@ use Rattle.nm_steps.proofs.Growing.{goes_on_itself, goes_on_from_nothing}
 use Rattle.nm_steps.proofs.Keeping.{live, stands_live, once_is}
 
 -- the log of a seat's own worker is its part of the run
-own_part : (L : Layout) (words : List ℕ) (views : List View) (id : ℕ) (v : View) → (k : Runs L words views) → get_elem? views id ≡ some v → v.spent ≡ false → v.layout ≡ L → part_of v.number (trace_in (ordered v.layout) k.turns) ≡ v.log
-own_part L words views id v k at alive layout =
+own_part : (L : Layout) (words : List ℕ) (views : List View) (id : ℕ) (v : View) → (k : Runs L words views) → get_elem? views id ≡ some v → v.spent ≡ false → part_of v.number (trace_in (ordered L) k.turns) ≡ v.log
+own_part L words views id v k at alive =
     let mine : LogsAre v.layout L (trace_in (ordered L) k.turns) (held_log v.number v.log ∷ v.others) = subst (LogsAre v.layout L (trace_in (ordered L) k.turns)) (live v alive) (k.shown id v at) in
-    ap (λ (l : Layout). part_of v.number (trace_in (ordered l) k.turns)) layout ∙ sym mine.1
+    sym mine.1
 
 -- the view of a seat stands in the run of its table
 pub stands_in_run : (L : Layout) (words : List ℕ) (views : List View) (id : ℕ) (v : View) → Runs L words views → get_elem? views id ≡ some v → v.spent ≡ false → v.layout ≡ L → StandsInRun v
@@ -45,19 +45,19 @@ stands_in_run L words views id v k at alive layout =
     }
 
 -- the view that has seen the run so far
-abbrev pub up_to : List (ℕ × Event) → View → View
+abbrev pub up_to : List Turn → View → View
 up_to turns v = record v { past = turns; heard = [] }
 
 module _ (L : Layout) (words : List ℕ) (views : List View) (id : ℕ) (v : View) (k : Runs L words views) (at : get_elem? views id ≡ some v) where
-  each_at : (P : View → Type 0) → P (up_to k.turns v) → ((j : ℕ) (u : View) → get_elem? views j ≡ some u → P u) → (j : ℕ) (u : View) → get_elem? (set views id (up_to k.turns v)) j ≡ some u → P u
+  each_at : (P : View → Type 0) → P (up_to (trace_in (ordered L) k.turns) v) → ((j : ℕ) (u : View) → get_elem? views j ≡ some u → P u) → (j : ℕ) (u : View) → get_elem? (set views id (up_to (trace_in (ordered L) k.turns) v)) j ≡ some u → P u
   each_at P own others j u is =
       ⊎_elim
-      (λ (x : (j ≡ id) × (up_to k.turns v ≡ u)). subst P x.1 own)
+      (λ (x : (j ≡ id) × (up_to (trace_in (ordered L) k.turns) v ≡ u)). subst P x.1 own)
       (λ (x : (j ≢ id) × (get_elem? views j ≡ some u)). others j u x.1)
-      (at_set views id j (up_to k.turns v) u is)
+      (at_set views id j (up_to (trace_in (ordered L) k.turns) v) u is)
 
   -- a seat may see the run so far at any time
-  pub seen_so_far : Runs L words (set views id (up_to k.turns v))
+  pub seen_so_far : Runs L words (set views id (up_to (trace_in (ordered L) k.turns) v))
   seen_so_far = record {
     fits = k.fits;
     turns = k.turns;
@@ -65,25 +65,27 @@ module _ (L : Layout) (words : List ℕ) (views : List View) (id : ℕ) (v : Vie
     words_are = k.words_are;
     shown = each_at (IsShown L (trace_in (ordered L) k.turns)) (k.shown id v at) k.shown;
     here = each_at (λ (u : View). u.spent ≡ false → (knowledge u).gone ≡ false) (k.here id v at) k.here;
-    once = λ w. omega (arith, sum_after (stands w) views id v (up_to k.turns v) at, k.once w);
-    lags = each_at (LagsBehind k.turns) (record { past = goes_on_itself k.turns; heard = goes_on_from_nothing k.turns }) k.lags;
+    once = λ w. omega (arith, sum_after (stands w) views id v (up_to (trace_in (ordered L) k.turns) v) at, k.once w);
+    lags = each_at (LagsBehind (trace_in (ordered L) k.turns)) (record { past = goes_on_itself (trace_in (ordered L) k.turns); heard = goes_on_from_nothing (trace_in (ordered L) k.turns) }) k.lags;
   }
 
 ties : (L : Layout) (slots id : ℕ) (v : View) (i : ℕ) → v.spent ≡ false → v.layout ≡ L → Allows (Kept L) slots id (v, []) i (λ n. n) (TellsItsStanding (step slots i 0 0 none) (v, []))
 ties L slots id v i alive layout s k homes at small =
     let same_words : slice_set s.words i (slice_index s.words i) ≡ s.words = set-get_or s.words i 0 in
     let stands = stands_in_run L s.words s.views id v k at alive layout in (
-      up_to k.turns v,
+      up_to (trace_in (ordered L) k.turns) v,
       keeps,
       tt,
-      subst (λ (ws : List ℕ). Runs L ws (set s.views id (up_to k.turns v))) (sym same_words) (seen_so_far L s.words s.views id v k at),
+      subst (λ (ws : List ℕ). Runs L ws (set s.views id (up_to (trace_in (ordered L) k.turns) v))) (sym same_words) (seen_so_far L s.words s.views id v k at),
       (
         refl,
         record { is = refl; past = (k.lags id v at).past; heard = (k.lags id v at).heard },
         record {
           worker = stands.run.is_part.worker;
+          events = k.turns;
           keys = k.keys;
-          is_part = own_part L s.words s.views id v k at alive layout;
+          are = ap (λ (l : Layout). trace_in (ordered l) k.turns) (sym layout);
+          is_part = own_part L s.words s.views id v k at alive;
           here = stands.run.here;
         },
         record { alive = stands.alive; fits = stands.fits; run = stands.run; once = stands.once },

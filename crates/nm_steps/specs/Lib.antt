@@ -2,3 +2,4 @@ pub mod Rules
 pub mod Steps
 pub mod Openings
 pub mod Ties
+pub mod Rows

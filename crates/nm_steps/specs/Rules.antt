@@ -1,6 +1,6 @@
 -- The rule: the logs of all workers are a run of the ordered core, and the words are those of its
 -- memory.
-use Rattle.std.specs.Prelude.{◌≡◌, ◌<◌, ℕ, Option, zero, suc, Bool, true, false, cond, eqb, ltb, List, [], ◌∷◌, ◌++◌, All}
+use Rattle.std.specs.Prelude.{◌≡◌, ◌<◌, ℕ, Option, zero, suc, Bool, true, false, cond, eqb, ltb, List, [], ◌∷◌, ◌++◌, All, Ok}
 use Rattle.std.specs.List.{sum_by, count_by}
 use mathlib.Core.Option.{some}
 use lib.ListN.{get_elem?}
@@ -8,6 +8,7 @@ use Rattle.nm_edge.specs.Layouts.{Layout, IsLayout, dense}
 use Rattle.atomic_table.specs.Table.{State, Me, Step}
 use Rattle.nm_model.specs.declared.event.Event.{Event}
 use Rattle.nm_model.specs.declared.event.Event.TheVariants.{Announce, Leave, LeaveWith, Fill, Join}
+use Rattle.nm_model.specs.declared.reply.Reply.{Reply}
 use Rattle.nm_model.specs.declared.reply.Reply.TheVariants.{Joined}
 use Rattle.nm_model.specs.declared.trace.Turn.{Turn}
 use Rattle.nm_model.specs.Knowledge.{Knowledge}
@@ -52,13 +53,13 @@ LogsAre l L t (h ∷ hs) = (l ≡ L) × (h.log ≡ part_of h.number t) × LogsAr
 abbrev pub IsShown : Layout → List Turn → View → Type 0
 IsShown L t v = LogsAre v.layout L t (holdings v)
 
--- a run goes on from an earlier one
-pub record Extends (run earlier : List (ℕ × Event)) : Type 0 where
-  pub more : List (ℕ × Event)
+-- the turns of a run go on from those of an earlier one
+pub record Extends (run earlier : List Turn) : Type 0 where
+  pub more : List Turn
   pub is : run ≡ earlier ++ more
 
 -- what a view has seen, and what it has heard of, are beginnings of the run
-pub record LagsBehind (turns : List (ℕ × Event)) (v : View) : Type 0 where
+pub record LagsBehind (turns : List Turn) (v : View) : Type 0 where
   pub past : Extends turns v.past
   pub heard : Extends turns v.heard
 
@@ -75,7 +76,8 @@ pub record Runs (L : Layout) (words : List ℕ) (views : List View) : Type 0 whe
   pub here : (i : ℕ) (v : View) → get_elem? views i ≡ some v → v.spent ≡ false
       → (knowledge v).gone ≡ false
   pub once : (w : ℕ) → sum_by (stands w) views ≡ once_below w L.workers
-  pub lags : (i : ℕ) (v : View) → get_elem? views i ≡ some v → LagsBehind turns v
+  pub lags : (i : ℕ) (v : View) → get_elem? views i ≡ some v
+      → LagsBehind (trace_in (ordered L) turns) v
 
 -- ---- how the views begin, are cut and are joined
 
@@ -145,13 +147,18 @@ noted_down v = record nobody { past = v.past }
 
 -- ---- a step
 
+-- the turn of a worker whose event was answered so
+abbrev pub answered_turn : ℕ → Event → Reply → Turn
+answered_turn w e r = record { worker = w; event = e; outcome = Ok r }
+
 -- an event with the reply that the word n gives enters the log, and has been seen behind these
 -- turns
-abbrev pub logged : View → Event → ℕ → List (ℕ × Event) → View
+abbrev pub logged : View → Event → ℕ → List Turn → View
 logged v e n turns = record v {
   log = v.log ++ (e, told v.layout (knowledge v) (known_births v) e n)
       ∷ [];
-  past = turns ++ (v.number, e) ∷ [];
+  past = turns
+      ++ answered_turn v.number e (told v.layout (knowledge v) (known_births v) e n) ∷ [];
 }
 
 -- it is a store, which finds nothing
@@ -179,7 +186,8 @@ pub record IsFound (L : Layout) (w : ℕ) (log : List Entry) (e : Event) (n : �
 -- changed
 abbrev pub Did : Event → Step Unit → Me Unit View → ℕ → Me Unit View → Type 0
 Did e s me n after = (f : IsFound me.0.layout me.0.number me.0.log e n)
-    × (after ≡ (logged me.0 e n f.turns, me.1)) × Extends f.turns me.0.past
+    × (after ≡ (logged me.0 e n (trace_in (ordered me.0.layout) f.turns), me.1))
+    × Extends (trace_in (ordered me.0.layout) f.turns) me.0.past
 
 -- the rule that the table keeps between any two steps
 abbrev pub Kept : Layout → State Unit View → Type 0

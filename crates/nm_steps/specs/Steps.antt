@@ -30,7 +30,8 @@ use Rattle.nm_steps.specs.declared.answers.Sighted.{Sighted}
 use Rattle.nm_steps.specs.declared.answers.Sighted.TheVariants as seeing
 use Rattle.nm_steps.specs.declared.tree_steps.FrozenChain.{FrozenChain}
 use Rattle.nm_steps.specs.declared.view.View.{View}
-use Rattle.nm_steps.specs.Rules.{held_log, knowledge, known_births, viewing, joined, logged, is_store, stands, once_below, Extends, IsShown, IsFound}
+use Rattle.nm_model.specs.declared.trace.Turn.{Turn}
+use Rattle.nm_steps.specs.Rules.{held_log, knowledge, known_births, viewing, joined, answered_turn, logged, is_store, stands, once_below, Extends, IsShown, IsFound}
 
 -- ---- what a worker's own log allows
 
@@ -51,7 +52,7 @@ pub record May (L : Layout) (w : ℕ) (log : List Entry) (e : Event) : Type 0 wh
   pub looked : HasLookedAtBirth (known_by L w log) e
   pub allowed : (m : Memory) → IsAsLooked (known_by L w log) m e
       → refusal L m (known_by L w log) w e ≡ None
-  pub ordered : disorder (known_by L w log) (search_after idle log) e ≡ None
+  pub ordered : disorder L (known_by L w log) (search_after idle log) e ≡ None
   pub births : BirthsAreKnown L (known_by L w log) (births_by L w log) e
   pub key : HasKey e
 
@@ -91,8 +92,9 @@ pub record IsDone (it after : Seat Unit View) (e : Event) (n : ℕ) : Type 0 whe
   pub table : after.table_id ≡ it.table_id
   pub seat : after.id ≡ it.id
   pub found : IsFound it.me.0.layout it.me.0.number it.me.0.log e n
-  pub me : after.me ≡ (logged it.me.0 e n found.turns, it.me.1)
-  pub past : Extends found.turns it.me.0.past
+  pub me : after.me
+      ≡ (logged it.me.0 e n (trace_in (ordered it.me.0.layout) found.turns), it.me.1)
+  pub past : Extends (trace_in (ordered it.me.0.layout) found.turns) it.me.0.past
 
 -- the operation leaves the word that the event leaves
 abbrev pub Changes : Event → View → (ℕ → ℕ) → Type 0
@@ -124,11 +126,12 @@ abbrev pub Stepped : Stand → Stand → Event → Reply → Type 0
 Stepped p q e r = q ≡ record p
     { view = record p.view { log = p.view.log ++ (e, r) ∷ []; past = q.view.past } }
 
--- and what has been seen: a run that goes on from what had been, with this event as its last turn
-pub record HasTurn (p q : Stand) (e : Event) : Type 0 where
-  pub before : List (ℕ × Event)
+-- and what has been seen: turns that go on from what had been, the last of them this event with
+-- this reply
+pub record HasTurn (p q : Stand) (e : Event) (r : Reply) : Type 0 where
+  pub before : List Turn
   pub extends : Extends before p.view.past
-  pub is : q.view.past ≡ before ++ (p.view.number, e) ∷ []
+  pub is : q.view.past ≡ before ++ answered_turn p.view.number e r ∷ []
 
 -- ---- what a table and a pass keep
 
@@ -147,15 +150,17 @@ pub record IsInRun (p : Stand) : Type 0 where
 -- is in a run
 pub record TakesStep (p q : Stand) (e : Event) (r : Reply) : Type 0 where
   pub step : Stepped p q e r
-  pub past : HasTurn p q e
+  pub past : HasTurn p q e r
   pub run : IsInRun q
 
--- what a view has seen is an ordered run, its log is its worker's part of that, and the worker has
--- not resigned
+-- what a view has seen are the turns of an ordered run, its log is its worker's part of them, and
+-- the worker has not resigned
 pub record HasSeen (v : View) : Type 0 where
   pub worker : v.number < v.layout.workers
-  pub keys : All (λ t. HasKey t.1) v.past
-  pub is_part : part_of v.number (trace_in (ordered v.layout) v.past) ≡ v.log
+  pub events : List (ℕ × Event)
+  pub keys : All (λ t. HasKey t.1) events
+  pub are : v.past ≡ trace_in (ordered v.layout) events
+  pub is_part : part_of v.number v.past ≡ v.log
   pub here : (knowledge v).gone ≡ false
 
 -- what a pass keeps of its log: its number and epochs, that its private slots are ones of the
@@ -202,7 +207,7 @@ pub record HasSeenAllOf (later earlier : Stand) : Type 0 where
 -- what clauses see of a note
 pub record Notice : Type 0 where
   pub table : TableId
-  pub past : List (ℕ × Event)
+  pub past : List Turn
 
 -- a note tells what a pass had seen
 abbrev pub IsNoteOf : Stand → Notice → Type 0
@@ -221,7 +226,7 @@ pub record Ends (L : Layout) (words : List ℕ) (view : View) : Type 0 where
   pub words_are : words ≡ words_of L (after_in (ordered L) turns).state.memory
   pub shown : IsShown L (trace_in (ordered L) turns) view
   pub once : (w : ℕ) → stands w view ≤ once_below w L.workers
-  pub past : Extends turns view.past
+  pub past : Extends (trace_in (ordered L) turns) view.past
 
 -- nothing but the log and what has been seen changed
 abbrev pub IsSamePass : Stand → Stand → Type 0

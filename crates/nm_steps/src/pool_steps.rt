@@ -1,9 +1,10 @@
 //! The steps on the pool, one bit of one word each.
-ghost use Rattle.std.specs.Prelude.{◌≡◌, true};
-ghost use Rattle.nm_edge.specs.Words.{IsSlot};
+ghost use Rattle.std.specs.Prelude.{◌≡◌, ◌+◌, ◌-◌, ◌%◌, ◌≤◌, true};
 ghost use Rattle.nm_model.specs.declared.event.Event.TheVariants.{Claim, Give};
 ghost use Rattle.nm_order.specs.Told.{IsNew};
-ghost use Rattle.nm_steps.specs.Steps.{IsOf, MayStep, TakesStep, claim_reply, give_reply};
+ghost use Rattle.nm_steps.specs.Rules.{knowledge};
+ghost use Rattle.nm_steps.specs.Rows.{DoneBelow, FoundTaken, shown_taken};
+ghost use Rattle.nm_steps.specs.Steps.{Continues, IsOf, MayStep, TakesStep, claim_reply, give_reply};
 
 use crate::pass::{Pass, Shared};
 use nm_model::Event;
@@ -25,6 +26,26 @@ impl Shared {
         found & place.mask != 0
     }
 
+    /// Looks once at the row of a slot, by one load: the first of `most` slots, from this one on,
+    /// that is shown to be there, or the one behind all of them. Each lesser one was found taken,
+    /// all at one moment.
+    pub fn pass_row(&self, pass: &mut Pass, from: u32, most: u32) -> u32
+        requires own { IsOf self.now pass.old }
+        requires low { 6 ≤ from }
+        requires some { 1 ≤ most }
+        requires high { from + most ≤ self.now.layout.nodes + 1 }
+        requires row { (from - 1) % 64 + most ≤ 64 }
+        ensures on { Continues pass.old pass.new }
+        ensures least { from ≤ result }
+        ensures most { result ≤ from + most }
+        ensures passed { DoneBelow FoundTaken from result pass.old.view.log pass.new.view.log }
+        ensures learned { knowledge pass.new.view ≡ knowledge pass.old.view }
+    {
+        let word = self.layout.pool(from).word as usize;
+        let found = self.look_at_row(&mut pass.seat, word, from, most);
+        from + taken_in_row(found, from, most)
+    }
+
     /// Puts a slot back into the pool: a private one, or the front of a queue that the worker
     /// holds.
     pub fn give(&self, pass: &mut Pass, slot: u32)
@@ -36,13 +57,17 @@ impl Shared {
         let word = place.word as usize;
         self.mark(&mut pass.seat, word, place.mask, Event::Give(slot));
     }
+}
 
-    /// Which slots of a slot's row of the pool seem to be there: a bit each, the lowest slot's
-    /// first. It is no step, stands in no log, and tells nothing: who looks for a free slot may
-    /// begin where it shows one.
-    pub fn peek_row(&self, slot: u32) -> u64
-        requires { IsSlot self.now.layout slot }
-    {
-        self.peek(self.layout.pool(slot).word as usize)
+/// How many slots of a row, of so many from this one on, its word shows to be taken, up to the
+/// first one that it shows to be there.
+fn taken_in_row(found: u64, from: u32, most: u32) -> u32
+    requires low { 1 ≤ from }
+    requires row { (from - 1) % 64 + most ≤ 64 }
+    ensures { result ≡ shown_taken found from most }
+{
+    if found == 0 {
+        return most;
     }
+    (found >> ((from - 1) % 64)).trailing_zeros().min(most)
 }

@@ -1,7 +1,7 @@
 //! What a seat knows, and the rule.
 use atomic_table::{Play, Seat, TableRule};
 use nm_edge::Layout;
-use nm_model::{Event, Reply};
+use nm_model::{Event, Reply, Turn};
 use std::collections::LinkedList;
 use std::marker::{Brand, PhantomData};
 
@@ -11,16 +11,16 @@ pub struct Held {
     pub log: LinkedList<(Event, Reply)>,
 }
 
-/// What a seat knows: the logs of the workers that it stands for, its own apart, the run so far as
-/// it was at its last step, and one of which a note told. No value of it is made.
+/// What a seat knows: the logs of the workers that it stands for, its own apart, the turns of the run
+/// so far as they were at its last step, and those of which a note told. No value of it is made.
 pub struct View {
     pub layout: Layout,
     pub spent: bool,
     pub number: u32,
     pub log: LinkedList<(Event, Reply)>,
     pub others: LinkedList<Held>,
-    pub past: LinkedList<(u32, Event)>,
-    pub heard: LinkedList<(u32, Event)>,
+    pub past: LinkedList<Turn>,
+    pub heard: LinkedList<Turn>,
 }
 
 pub struct Law;
@@ -55,6 +55,32 @@ impl<D: Doing> Play<(), View> for Does<D> {
     ghost use Rattle.nm_steps.specs.Rules.{Did};
 
     ghost then = { Did D.event };
+}
+
+/// The slots of one row of the pool that a look at it may pass over: the first one, and how many.
+pub trait Passing {
+    ghost use Rattle.std.specs.Prelude.{ℕ};
+
+    ghost from: { ℕ };
+
+    ghost most: { ℕ };
+}
+
+impl Passing for Brand {
+    ghost from = { 0 };
+
+    ghost most = { 0 };
+}
+
+/// What a look at a row of the pool tells its seat.
+pub struct Passes<D> {
+    of: PhantomData<D>,
+}
+
+impl<D: Passing> Play<(), View> for Passes<D> {
+    ghost use Rattle.nm_steps.specs.Rows.{PassedOver};
+
+    ghost then = { PassedOver D.from D.most };
 }
 
 /// A read that changes nothing, and tells a seat that its logs are parts of one run.

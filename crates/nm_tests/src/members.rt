@@ -49,21 +49,31 @@ fn a_member_answers_and_keeps_what_it_holds(rt: HostRuntime) -> Result<(), Fail>
     let set = Set::lowest(rt.alloc(), 64, 2)?;
     let mut first = set.member(0)?;
     let five = key(&rt, 5);
-    assert_eq!(rt; (first.number(), first.insert(five, TRIES)), (0, Ok(true)));
     assert_eq!(rt;
-        (first.insert(five, TRIES), first.has(five, TRIES)),
+        (first.number(), first.try_insert(five, TRIES)),
+        (0, Ok(true))
+    );
+    assert_eq!(rt;
+        (
+            first.try_insert(five, TRIES),
+            first.try_contains(five, TRIES)
+        ),
         (Ok(false), Ok(true))
     );
     assert_eq!(rt;
-        (first.delete(five, TRIES), first.delete(five, TRIES)),
+        (first.try_remove(five, TRIES), first.try_remove(five, TRIES)),
         (Ok(true), Ok(false))
     );
     assert_eq!(rt;
-        (first.has(five, TRIES), first.finish(TRIES)),
+        (first.try_contains(five, TRIES), first.finish(TRIES)),
         (Ok(false), Ok(false))
     );
     assert_eq!(rt;
-        (first.queue_len(), first.pending(), first.has(five, 0)),
+        (
+            first.queue_len(),
+            first.pending(),
+            first.try_contains(five, 0)
+        ),
         (2, None, Err(Fault::Call(nm_tree::Fault::Busy)))
     );
     let ledger = first.ledger();
@@ -93,11 +103,17 @@ fn a_held_member_is_not_asked(rt: HostRuntime) -> Result<(), Fail> {
         (Some(epoch), Err(PinFault::Held))
     );
     assert_eq!(rt;
-        (first.has(five, TRIES), first.insert(five, TRIES)),
+        (
+            first.try_contains(five, TRIES),
+            first.try_insert(five, TRIES)
+        ),
         (Err(Fault::Held), Err(Fault::Held))
     );
     assert_eq!(rt;
-        (first.delete(five, TRIES), second.insert(five, TRIES)),
+        (
+            first.try_remove(five, TRIES),
+            second.try_insert(five, TRIES)
+        ),
         (Err(Fault::Held), Ok(true))
     );
     let _ = second.advance();
@@ -107,7 +123,7 @@ fn a_held_member_is_not_asked(rt: HostRuntime) -> Result<(), Fail> {
         (first.unpin(), first.held(), second.behind().mask),
         (Ok(()), None, 0)
     );
-    assert_eq!(rt; first.has(five, TRIES), Ok(true));
+    assert_eq!(rt; first.try_contains(five, TRIES), Ok(true));
     Ok(())
 }
 
@@ -121,12 +137,12 @@ fn a_set_closes_when_all_are_at_home(rt: HostRuntime) -> Result<(), Fail> {
         (Some(MemberFault::Away), Some(MemberFault::Number))
     );
     for number in [7, 3, 9] {
-        assert_eq!(rt; first.insert(key(&rt, number), TRIES), Ok(true));
+        assert_eq!(rt; first.try_insert(key(&rt, number), TRIES), Ok(true));
     }
-    assert_eq!(rt; first.delete(key(&rt, 7), TRIES), Ok(true));
+    assert_eq!(rt; first.try_remove(key(&rt, 7), TRIES), Ok(true));
     let (reason, set) = refused(&rt, set);
     assert_eq!(rt; reason, CloseReason::Away);
-    assert_eq!(rt; first.has(key(&rt, 3), TRIES), Ok(true));
+    assert_eq!(rt; first.try_contains(key(&rt, 3), TRIES), Ok(true));
     drop(first);
     let (keys, slots) = closed(&rt, set);
     assert_eq!(rt;
@@ -146,11 +162,11 @@ fn a_kept_member_is_closed_with_its_set(rt: HostRuntime) -> Result<(), Fail> {
     assert_eq!(rt; (first.number(), second.number()), (0, 1));
     let (five, nine, habit) = (key(&rt, 5), key(&rt, 9), Habit::default());
     assert_eq!(rt;
-        (first.add(five, &habit), first.add(five, &habit)),
+        (first.insert(five, &habit), first.insert(five, &habit)),
         (Ok(true), Ok(false))
     );
     assert_eq!(rt;
-        (first.add(nine, &habit), first.contains(nine, &habit)),
+        (first.insert(nine, &habit), first.contains(nine, &habit)),
         (Ok(true), Ok(true))
     );
     assert_eq!(rt;
@@ -180,13 +196,13 @@ fn the_last_member_ends_its_set(rt: HostRuntime) -> Result<(), Fail> {
     let other = set.member(0)?;
     let (five, nine) = (key(&rt, 5), key(&rt, 9));
     assert_eq!(rt;
-        (last.insert(five, TRIES), last.insert(nine, TRIES)),
+        (last.try_insert(five, TRIES), last.try_insert(nine, TRIES)),
         (Ok(true), Ok(true))
     );
     let last = not_last(&rt, last);
     drop(set);
     let mut last = not_last(&rt, last);
-    assert_eq!(rt; last.delete(five, TRIES), Ok(true));
+    assert_eq!(rt; last.try_remove(five, TRIES), Ok(true));
     other.close();
     let Ok(report) = last.end() else {
         panic!(rt; "the set was not ended")
@@ -207,7 +223,7 @@ fn members_leave_notes(rt: HostRuntime) -> Result<(), Fail> {
         (reader.read(1), reader.read(3)),
         (Ok(None), Err(PostFault::Number))
     );
-    assert_eq!(rt; writer.insert(key(&rt, 5), TRIES), Ok(true));
+    assert_eq!(rt; writer.try_insert(key(&rt, 5), TRIES), Ok(true));
     let won = Posted { links: 1, flags: 0 };
     assert_eq!(rt; writer.post(), Some(won));
     assert_eq!(rt;
@@ -230,7 +246,10 @@ fn a_worker_at_home_resigns_to_a_member(rt: HostRuntime) -> Result<(), Fail> {
     let mut leaver = set.member(1)?;
     let five = key(&rt, 5);
     assert_eq!(rt;
-        (leaver.insert(five, TRIES), leaver.delete(five, TRIES)),
+        (
+            leaver.try_insert(five, TRIES),
+            leaver.try_remove(five, TRIES)
+        ),
         (Ok(true), Ok(true))
     );
     let heir = set.member(0)?;
@@ -240,10 +259,8 @@ fn a_worker_at_home_resigns_to_a_member(rt: HostRuntime) -> Result<(), Fail> {
     assert_eq!(rt; reason, ResignReason::Number);
     let _ = leaver.pin(TRIES)?;
     leaver.close();
-    let (reason, heir) = stays(&rt, heir, 1);
-    assert_eq!(rt; reason, ResignReason::Held);
-    let mut leaver = set.member(1)?;
-    assert_eq!(rt; leaver.unpin(), Ok(()));
+    let leaver = set.member(1)?;
+    assert_eq!(rt; leaver.held(), None);
     leaver.close();
     let Ok(heir) = heir.resign(1) else {
         panic!(rt; "the worker has not resigned")
@@ -273,9 +290,9 @@ fn works(mut member: Member, from: u64, keys: u64) -> u64 {
         let Some(key) = Key::new(from.saturating_add(turn.saturating_mul(2))) else {
             return done;
         };
-        done = done.saturating_add(u64::from(member.insert(key, TRIES) == Ok(true)));
+        done = done.saturating_add(u64::from(member.try_insert(key, TRIES) == Ok(true)));
         if turn % 4 == 0 {
-            done = done.saturating_add(u64::from(member.delete(key, TRIES) == Ok(true)));
+            done = done.saturating_add(u64::from(member.try_remove(key, TRIES) == Ok(true)));
         }
         let _ = member.advance();
         let _ = member.collect();

@@ -23,12 +23,12 @@ fn each_key_is_found_that_is_there(rt: HostRuntime) -> Result<(), Fail> {
     let mut queries = Vec::new(rt.alloc());
     for number in 0..60u64 {
         if number % 3 == 0 {
-            assert_eq!(rt; member.insert(key(&rt, number), TRIES), Ok(true));
+            assert_eq!(rt; member.try_insert(key(&rt, number), TRIES), Ok(true));
         }
         queries.push(Query::new(key(&rt, number)))?;
     }
-    assert_eq!(rt; member.delete(key(&rt, 9), TRIES), Ok(true));
-    assert_eq!(rt; member.has_many(queries.as_mut_slice(), TRIES), Ok(()));
+    assert_eq!(rt; member.try_remove(key(&rt, 9), TRIES), Ok(true));
+    assert_eq!(rt; member.contains_many(queries.as_mut_slice(), TRIES), Ok(()));
     for query in &queries {
         let number = query.key.get();
         assert_eq!(rt; query.found, number % 3 == 0 && number != 9);
@@ -42,14 +42,14 @@ fn keys_are_not_looked_up_where_nobody_may_be_asked(rt: HostRuntime) -> Result<(
     let mut member = set.member(0)?;
     let mut queries = [Query::new(key(&rt, 5)), Query::new(key(&rt, 6))];
     assert_eq!(rt;
-        member.has_many(&mut queries, 0),
+        member.contains_many(&mut queries, 0),
         Err(Fault::Call(CallFault::Busy))
     );
-    assert_eq!(rt; member.has_many(&mut [], TRIES), Ok(()));
+    assert_eq!(rt; member.contains_many(&mut [], TRIES), Ok(()));
     let _ = member.pin(TRIES)?;
-    assert_eq!(rt; member.has_many(&mut queries, TRIES), Err(Fault::Held));
+    assert_eq!(rt; member.contains_many(&mut queries, TRIES), Err(Fault::Held));
     assert_eq!(rt; member.unpin(), Ok(()));
-    assert_eq!(rt; member.has_many(&mut queries, TRIES), Ok(()));
+    assert_eq!(rt; member.contains_many(&mut queries, TRIES), Ok(()));
     assert_eq!(rt; (queries[0].found, queries[1].found), (false, false));
     Ok(())
 }

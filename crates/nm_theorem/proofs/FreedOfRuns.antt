@@ -216,7 +216,7 @@ module _ (L : Layout) (fits : IsLayout L) (b : Bool) where
     twice : NoNodeTwice end
     twice = subst NoNodeTwice (sym plain_end) (no_node_is_cut_twice L (enough_of L fits) plain)
 
-    past_none : (w : ℕ) → L.workers ≤ w → cuts_of w turns ≡ []
+    pub past_none : (w : ℕ) → L.workers ≤ w → cuts_of w turns ≡ []
     past_none w past = none_cut w ts (opening_of L b) (subst (λ (s : State). s.layout.workers ≤ w) (sym (opening_state L b)) past)
 
     pub once : (w v i j : ℕ) (n : NodeId) → slice_get (cuts_of w turns) i ≡ Some n → slice_get (cuts_of v turns) j ≡ Some n → (w ≡ v) × (i ≡ j)

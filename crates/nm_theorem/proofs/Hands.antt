@@ -173,7 +173,7 @@ module _ (s : State) (h : ℕ → ℕ) (law : Lawful s h) (u : ℕ) (e : Event) 
       lost : (f : Edge) → Lost f ≡ Linked n → ⊥
       lost f e = cc
 
-      c : LinkChecked (of s u) p leaf new
+      c : LinkChecked s.layout (of s u) p leaf new
       c = link_checked s u p d leaf new ok'.event
 
       of_won : WonLink s h law u p d leaf new → NewLeaf s.memory (of s u) leaf new

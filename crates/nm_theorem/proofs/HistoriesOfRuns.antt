@@ -49,7 +49,7 @@ use Rattle.nm_theorem.proofs.WrittenWords.{run_words}
 -- ---- one turn
 
 -- the call of a search, with the number of the turn that confirmed its pin
-abbrev with_pin : ℕ → Option Call → Option Called
+abbrev pub with_pin : ℕ → Option Call → Option Called
 with_pin l None = None
 with_pin l (Some c) = Some (record { pin = l; op = c.op; key = c.key })
 
@@ -221,12 +221,12 @@ kept_calls w n so (t ∷ ts) c is less = go (t.worker == w) (kept_calls w (n + 1
     go true x = kept_call n so t.event t.outcome c x less
     go false x = x
 
-call_join : (w n : ℕ) (so : Option Called) (xs ys : List Turn) → call_after w n so (xs ++ ys) ≡ call_after w (n + length xs) (call_after w n so xs) ys
+pub call_join : (w n : ℕ) (so : Option Called) (xs ys : List Turn) → call_after w n so (xs ++ ys) ≡ call_after w (n + length xs) (call_after w n so xs) ys
 call_join w n so [] ys = ap (λ (m : ℕ). call_after w m so ys) (omega arith)
 call_join w n so (x ∷ xs) ys = call_join w (n + 1) (cond (x.worker == w) (call_by n so x.event x.outcome) so) xs ys
     ∙ ap (λ (m : ℕ). call_after w m (call_after w n so (x ∷ xs)) ys) (omega arith)
 
-still_called : (w : ℕ) (first mid : List Turn) (c : Called) → call_begun w (first ++ mid) ≡ Some c → c.pin < length first → call_begun w first ≡ Some c
+pub still_called : (w : ℕ) (first mid : List Turn) (c : Called) → call_begun w (first ++ mid) ≡ Some c → c.pin < length first → call_begun w first ≡ Some c
 still_called w first mid c is less = kept_calls w (0 + length first) (call_begun w first) mid c (sym (call_join w 0 None first mid) ∙ is) (omega (arith, less))
 
 -- a turn that neither confirms a pin nor leaves one

@@ -9,5 +9,14 @@ pub mod PlacesOfRuns
 pub mod HeadlineOfRuns
 pub mod LeftSince
 pub mod HistoriesOfRuns
+pub mod StandingAnswers
+pub mod LooksBehind
+pub mod TwoAnswers
 pub mod WorkedTurns
 pub mod StaysOfRuns
+pub mod Learns
+pub mod ToldOfRuns
+pub mod StandingOfRuns
+pub mod Readers
+pub mod YoungerOfRuns
+pub mod FixedOfRuns

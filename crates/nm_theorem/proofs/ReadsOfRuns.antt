@@ -1,19 +1,26 @@
 -- What is read is what the turns have written: a look or a scan is answered by the memory, which is
 -- that of the words.
-use Rattle.std.proofs.Common.{◌≡◌, ℕ, inl, inr, Bool, List, ◌∷◌, ◌++◌, refl, sym, ap, subst, ◌∙◌}
-use Rattle.std.specs.Prelude.{Option, Some, None, Result, Ok, Err}
+use Rattle.std.proofs.Common.{◌≡◌, ℕ, ◌+◌, inl, inr, ◌==◌, Bool, true, not, ◌||◌, ◌&&◌, List, ◌∷◌, ◌++◌, refl, sym, ap, subst, ◌∙◌}
+use Rattle.std.specs.Prelude.{Option, Some, None, is_some, nat_lt, Result, Ok, Err}
+use Rattle.std.proofs.lemmas.Bool.{cond_both, or_parts, not-false, eqb-true}
+use Rattle.nm_edge.specs.Edges.{Edge, is_to}
 use Rattle.nm_edge.specs.Layouts.{Layout, IsLayout}
 use Rattle.nm_model.specs.declared.event.Event.{Event}
-use Rattle.nm_model.specs.declared.event.Event.TheVariants.{Scan, Look}
+use Rattle.nm_model.specs.declared.event.Event.TheVariants.{Scan, Look, Fill, Link, Flag, Tag, Splice}
 use Rattle.nm_model.specs.declared.event.Field.TheVariants.{Key, Edge as EdgeOn, Birth}
 use Rattle.nm_model.specs.declared.reply.Reply.{Reply}
+use Rattle.nm_model.specs.declared.reply.Reply.TheVariants.{Lost}
 use Rattle.nm_model.specs.declared.reply.Refused.{Refused}
+use Rattle.nm_model.specs.declared.reply.Refused.TheVariants.{NoSlot, NotPrivate, NotReady}
 use Rattle.nm_model.specs.declared.trace.Turn.{Turn}
-use Rattle.nm_model.specs.Memory.{Memory, note}
-use Rattle.nm_model.specs.Step.{reply, reply_scan}
-use Rattle.nm_model.specs.Runs.{reply_of}
+use Rattle.nm_model.specs.Memory.{Memory, node, edge, note}
+use Rattle.nm_model.specs.Knowledge.{is_private, draft_of}
+use Rattle.nm_model.specs.Step.{refusal, reply, reply_scan, reply_exchange, outside, is_edge, is_early}
+use Rattle.nm_model.specs.Runs.{of, reply_of}
 use Rattle.nm_model.specs.Ordered.{Configuration, opening_of, refused_in, outcome_in, after_in, trace_in}
-use Rattle.nm_laws.proofs.Configurations.{refused_outcome, allowed_outcome}
+use Rattle.nm_laws.proofs.Steps.{Allowed, allowed, third}
+use Rattle.nm_laws.proofs.TreeSlots.{is_to-true}
+use Rattle.nm_laws.proofs.Configurations.{refused_outcome, allowed_outcome, allowed_by_state}
 use Rattle.nm_model.specs.Headline.{TellsWhatStands, words_after}
 use Rattle.nm_theorem.proofs.Runs.{Parts, parts_of, Head, head_of}
 use Rattle.nm_theorem.proofs.WrittenWords.{run_words}
@@ -29,13 +36,27 @@ module _ (c : Configuration) (w : ℕ) where
   abbrev m : Memory
   m = c.state.memory
 
-  reply_tells : (e : Event) → TellsWhatStands c.state.memory e (reply_of c.state w e)
+  exchange : (e : Edge) (x : ℕ) (won : Reply) (P : Reply → Type 0) → (is_to e x ≡ true → P won) → P (Lost e) → P (reply_exchange e x won)
+  exchange e x won P first lost = cond_both (is_to e x) won (Lost e) P first (λ _. lost)
+
+  one_more : (y v : ℕ) → Allowed c.state w (Fill y Birth v) → v ≡ (node c.state.memory y).birth + 1
+  unfolding refusal
+  one_more y v ok =
+      let early = third (outside 6 c.state.layout.nodes y || (is_edge Birth && nat_lt c.state.layout.nodes v)) (not (is_private (of c.state w) y)) (is_early (draft_of (of c.state w) y) Birth v (node c.state.memory y).birth) NoSlot NotPrivate NotReady _ ok.event in
+      eqb-true v ((node c.state.memory y).birth + 1) (not-false (v == (node c.state.memory y).birth + 1) (or_parts (is_some (draft_of (of c.state w) y).birth) (not (v == (node c.state.memory y).birth + 1)) early).1)
+
+  reply_tells : (e : Event) → Allowed c.state w e → TellsWhatStands c.state.memory e (reply_of c.state w e)
   unfolding reply
-  reply_tells (Look s Key) = refl
-  reply_tells (Look s (EdgeOn side)) = refl
-  reply_tells (Look s Birth) = refl
-  reply_tells (Scan u) = scan_tells c.state.memory u
-  reply_tells _ = tt
+  reply_tells (Look s Key) ok = refl
+  reply_tells (Look s (EdgeOn side)) ok = refl
+  reply_tells (Look s Birth) ok = refl
+  reply_tells (Scan u) ok = scan_tells c.state.memory u
+  reply_tells (Fill y Birth v) ok = one_more y v ok
+  reply_tells (Link p d leaf new) ok = exchange (edge c.state.memory p d) leaf _ (TellsWhatStands c.state.memory (Link p d leaf new)) (λ won. is_to-true (edge c.state.memory p d) leaf won) refl
+  reply_tells (Flag p d leaf) ok = exchange (edge c.state.memory p d) leaf _ (TellsWhatStands c.state.memory (Flag p d leaf)) (λ won. is_to-true (edge c.state.memory p d) leaf won) refl
+  reply_tells (Tag p d) ok = refl
+  reply_tells (Splice a d y p keep) ok = exchange (edge c.state.memory a d) y _ (TellsWhatStands c.state.memory (Splice a d y p keep)) (λ _. tt) refl
+  reply_tells _ ok = tt
 
 no_reply : {r : Reply} (x : Refused) → ◌≡◌ {A = Result Reply Refused} (Err x) (Ok r) → ⊥
 no_reply x e = cc
@@ -48,7 +69,7 @@ turn_tells c t r is = go (refused_in c t.0 t.1) refl
   where
     go : (o : Option Refused) → refused_in c t.0 t.1 ≡ o → TellsWhatStands c.state.memory t.1 r
     go (Some x) refused = absurd (no_reply x (sym (refused_outcome c t x refused) ∙ is))
-    go None allowed = subst (TellsWhatStands c.state.memory t.1) (same_reply (sym (allowed_outcome c t allowed) ∙ is)) (reply_tells c t.0 t.1)
+    go None is_allowed = subst (TellsWhatStands c.state.memory t.1) (same_reply (sym (allowed_outcome c t is_allowed) ∙ is)) (reply_tells c t.0 t.1 (allowed c.state t.0 t.1 (allowed_by_state c t.0 t.1 is_allowed)))
 
 pub reads_tell : (L : Layout) → IsLayout L → (b : Bool) (events : List (ℕ × Event)) (before rest : List Turn) (t : Turn) (r : Reply) → trace_in (opening_of L b) events ≡ before ++ t ∷ rest → t.outcome ≡ Ok r → TellsWhatStands (words_after L before) t.event r
 reads_tell L fits b events before rest t r all is =

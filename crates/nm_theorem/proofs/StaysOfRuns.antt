@@ -1,11 +1,10 @@
--- What a worker has touched stays for as long as it has not left: it knows the slot, and what is
+-- What a worker touches it knows, and what it knows stays for as long as it has not left: what is
 -- known is in no pool and in nobody's hands.
-use Rattle.std.proofs.Common.{◌≡◌, ◌≢◌, ℕ, zero, suc, ◌==◌, inl, inr, ◌⊎◌, Bool, true, false, cond, not, ◌||◌, ◌&&◌, List, [], ◌∷◌, ◌++◌, refl, sym, ap, subst, ◌∙◌, arith, true≢false}
-use Rattle.std.specs.Prelude.{Option, Some, None, is_some, is_none, nat_lt, Result, Ok, Contains, All}
+use Rattle.std.proofs.Common.{◌≡◌, ◌≢◌, ℕ, zero, suc, ◌==◌, inl, inr, ◌⊎◌, Bool, true, false, cond, not, ◌||◌, ◌&&◌, List, [], ◌∷◌, refl, sym, ap, subst, ◌∙◌, arith, true≢false}
+use Rattle.std.specs.Prelude.{Option, Some, None, is_some, is_none, nat_lt, Ok, Contains}
 use Rattle.std.specs.List.{list_any}
 use native.Mathlib.Decide.{ℕ_discrete}
 use Rattle.std.proofs.lemmas.Bool.{cond_both, and_parts, or_parts, not-false, eq-eqb, false_from_ne_true, and_from}
-use Rattle.nm_edge.specs.Layouts.{Layout, IsLayout}
 use Rattle.nm_edge.specs.declared.edge.Side.{Side}
 use Rattle.nm_model.specs.declared.event.Field.{Field}
 use Rattle.nm_model.specs.declared.event.Op.{Op}
@@ -15,18 +14,16 @@ use Rattle.nm_model.specs.declared.reply.Reply.{Reply}
 use Rattle.nm_model.specs.declared.reply.Reply.TheVariants.{Saw, Labelled, Pinned}
 use Rattle.nm_model.specs.declared.reply.Refused.{Refused}
 use Rattle.nm_model.specs.declared.reply.Refused.TheVariants.{NoSlot, NotPinned, NotHeld, NotPrivate, NotFrozen}
-use Rattle.nm_model.specs.declared.trace.Turn.{Turn}
-use Rattle.nm_model.specs.Memory.{Memory, node, edge, in_pool, opening}
+use Rattle.nm_model.specs.Memory.{Memory, node, edge}
 use Rattle.nm_model.specs.Knowledge.{Knowledge, knows, knows_leaf, is_private, read, is_tagged, way}
 use Rattle.nm_model.specs.Lawful.{ReadsStand}
 use Rattle.nm_model.specs.Step.{refusal, reply, outside, is_edge, is_frozen, reply_sight, confirmed}
 use Rattle.nm_model.specs.Runs.{State, of, reply_of, applied}
 use Rattle.nm_model.specs.Walks.{begins_anew}
-use Rattle.nm_model.specs.Ordered.{Configuration, HasKey, opening_of, refused_in, next_in, applied_in, outcome_in, after_in, trace_in}
+use Rattle.nm_model.specs.Ordered.{Configuration, refused_in, next_in, applied_in, outcome_in, after_in, trace_in}
 use Rattle.nm_laws.proofs.Steps.{Allowed, allowed, second, third, fourth}
-use Rattle.nm_laws.proofs.Configurations.{refused_next, refused_outcome, allowed_next, allowed_outcome, after_in-append, reached_state, allowed_by_state}
+use Rattle.nm_laws.proofs.Configurations.{refused_next, refused_outcome, allowed_next, allowed_outcome, allowed_by_state}
 use Rattle.nm_laws.proofs.Lawful.{IsLawful}
-use Rattle.nm_laws.proofs.LawfulRuns.{lawful_state}
 use Rattle.nm_laws.proofs.KnownBirths.{written_same}
 use Rattle.nm_laws.proofs.Pictures.{IsLive}
 use Rattle.nm_laws.proofs.TreeSlots.{known_live, tag_known}
@@ -35,12 +32,8 @@ use Rattle.nm_laws.proofs.Views.{view}
 use Rattle.nm_laws.proofs.Outcomes.{no_reply}
 use Rattle.nm_order.proofs.CallWalks.{others_stay, own_knows, memory_after}
 use Rattle.nm_order.proofs.KnowledgeStays.{learned_stays, answers}
-use Rattle.nm_order.proofs.WalksOfRuns.{trace_in-append, all_before}
-use Rattle.nm_model.specs.Headline.{departs, leaves, has_after, words_after, touched, NothingIsPulledAway}
-use Rattle.nm_theorem.proofs.Runs.{Parts, parts_of, Head, head_of, told_in, reached_opening, lawful_opening, lawful_next, lawful_after}
-use Rattle.nm_theorem.proofs.WrittenWords.{run_words}
-use Rattle.nm_theorem.proofs.CutsOfRuns.{reached_after}
-use Rattle.nm_theorem.proofs.Hands.{run_hands}
+use Rattle.nm_model.specs.Headline.{departs, leaves, touched}
+use Rattle.nm_theorem.proofs.Runs.{told_in, lawful_next}
 
 -- ---- what an event touches, its worker knows
 
@@ -68,7 +61,7 @@ module _ (s : State) (h : ℕ → ℕ) (law : Lawful s h) (w : ℕ) (x : ℕ) (f
   tag_of_known : (p : ℕ) (side : Side) → ReadsStand s w → is_tagged (read (of s w) p side) ≡ true → knows (of s w) p ≡ true
   tag_of_known p side stand tag = stand.known p side (edge s.memory p side) (tag_known s.layout.nodes s.memory (of s) h w p side law.tree tag)
 
-  touch_known : ReadsStand s w → (e : Event) → Allowed s w e → Contains (touched e) x → knows (of s w) x ≡ true
+  pub touch_known : ReadsStand s w → (e : Event) → Allowed s w e → Contains (touched e) x → knows (of s w) x ≡ true
   unfolding refusal
   touch_known stand (Look y f) ok c = by (one_of y [] x c)
     where
@@ -81,14 +74,9 @@ module _ (s : State) (h : ℕ → ℕ) (law : Lawful s h) (w : ℕ) (x : ℕ) (f
       by (inl same) = knows_it y (loose (is_private (of s w) y) (knows (of s w) y) (third (outside 1 s.layout.nodes y) (not (is_private (of s w) y) && is_none (of s w).brief.pin) (not (is_private (of s w) y) && not (knows (of s w) y)) NoSlot NotPinned NotHeld _ ok.event)
           (ap (is_private (of s w)) same ∙ free)) same
       by (inr more) = absurd (no_more x more)
-  touch_known stand (Fill y f v) ok c = by (one_of y [] x c)
-    where
-      by : (y ≡ x) ⊎ Contains [] x → knows (of s w) x ≡ true
-      by (inl same) = absurd (own_not y (not-false (is_private (of s w) y) (second (outside 6 s.layout.nodes y || (is_edge f && nat_lt s.layout.nodes v)) (not (is_private (of s w) y)) NoSlot NotPrivate _ ok.event)) same)
-      by (inr more) = absurd (no_more x more)
   touch_known stand (Link p d leaf new) ok c = by (one_of p (leaf ∷ new ∷ []) x c)
     where
-      l : LinkChecked (of s w) p leaf new
+      l : LinkChecked s.layout (of s w) p leaf new
       l = link_checked s w p d leaf new ok.event
 
       last : (new ≡ x) ⊎ Contains [] x → knows (of s w) x ≡ true
@@ -170,12 +158,12 @@ not_anew s w p e pin stays = go e stays
     go e none = refl
 
 -- what a worker knows of a slot in one state, and in a later one
-record Still (w x : ℕ) (s t : State) : Type 0 where
-  known : knows (of t w) x ≡ true
-  birth : (node t.memory x).birth ≡ (node s.memory x).birth
+pub record Still (w x : ℕ) (s t : State) : Type 0 where
+  pub known : knows (of t w) x ≡ true
+  pub birth : (node t.memory x).birth ≡ (node s.memory x).birth
 
 module _ (w x : ℕ) where
-  live : (s : State) (l : IsLawful s) → knows (of s w) x ≡ true → IsLive (view s.memory (of s) l.holder) x
+  pub live : (s : State) (l : IsLawful s) → knows (of s w) x ≡ true → IsLive (view s.memory (of s) l.holder) x
   live s l known = known_live s.layout.nodes s.memory (of s) l.holder w x l.law.tree known
 
   event_stays : (s : State) → IsLawful s → (u : ℕ) (e : Event) → Allowed s u e → (u ≡ w → departs e (Ok (reply_of s u e)) ≡ false) → knows (of s w) x ≡ true → Still w x s (applied s u e)
@@ -211,7 +199,7 @@ module _ (w x : ℕ) where
       go None is = subst (λ (d : Configuration). Still w x c.state d.state) (sym (allowed_next c t is))
           (event_stays c.state l t.0 t.1 (allowed c.state t.0 t.1 (allowed_by_state c t.0 t.1 is)) (none (reply_of c.state t.0 t.1) (allowed_outcome c t is)) known)
 
-  turns_stay : (ts : List (ℕ × Event)) (c : Configuration) → IsLawful c.state → list_any (leaves w) (trace_in c ts) ≡ false → knows (of c.state w) x ≡ true → Still w x c.state (after_in c ts).state
+  pub turns_stay : (ts : List (ℕ × Event)) (c : Configuration) → IsLawful c.state → list_any (leaves w) (trace_in c ts) ≡ false → knows (of c.state w) x ≡ true → Still w x c.state (after_in c ts).state
   unfolding after_in trace_in
   turns_stay [] c l stays known = record { known = known; birth = refl }
   turns_stay (t ∷ ts) c l stays known =
@@ -222,11 +210,11 @@ module _ (w x : ℕ) where
 
 -- ---- one turn in front
 
-one_first : (c : Configuration) (t : ℕ × Event) (ts : List (ℕ × Event)) → after_in c (t ∷ ts) ≡ after_in (next_in c t) ts
+pub one_first : (c : Configuration) (t : ℕ × Event) (ts : List (ℕ × Event)) → after_in c (t ∷ ts) ≡ after_in (next_in c t) ts
 unfolding after_in
 one_first c t ts = refl
 
-trace_first : (c : Configuration) (t : ℕ × Event) (ts : List (ℕ × Event)) → trace_in c (t ∷ ts) ≡ told_in c t ∷ trace_in (next_in c t) ts
+pub trace_first : (c : Configuration) (t : ℕ × Event) (ts : List (ℕ × Event)) → trace_in c (t ∷ ts) ≡ told_in c t ∷ trace_in (next_in c t) ts
 unfolding trace_in
 trace_first c t ts = refl
 
@@ -236,100 +224,3 @@ was_allowed c t r is = go (refused_in c t.0 t.1) refl
     go : (o : Option Refused) → refused_in c t.0 t.1 ≡ o → refused_in c t.0 t.1 ≡ None
     go None why = why
     go (Some q) why = absurd (no_reply q r (sym (refused_outcome c t q why) ∙ is))
-
--- a leave touches nothing
-touch_is_no_leave : (e : Event) (o : Result Reply Refused) (x : ℕ) → Contains (touched e) x → departs e o ≡ true → ⊥
-touch_is_no_leave Leave o x c is = no_more x c
-touch_is_no_leave (LeaveWith answer) o x c is = no_more x c
-touch_is_no_leave e o x c is = true≢false (sym is)
-
--- ---- runs
-
-module _ (L : Layout) (fits : IsLayout L) (b : Bool) (ts : List (ℕ × Event)) (keys : All (λ t. HasKey t.1) ts) where
-  pub nothing_is_pulled_away : NothingIsPulledAway L (trace_in (opening_of L b) ts)
-  nothing_is_pulled_away before between rest t r x all answer touches free stayed = record {
-    pooled = ap (λ (m : Memory). in_pool m x) now_words ∙ there.pooled;
-    in_hands = λ u. now_hands u ∙ there.shared u;
-    birth = ap (λ (m : Memory). (node m x).birth) now_words ∙ (still.birth ∙ (first.birth ∙ ap (λ (m : Memory). (node m x).birth) (sym was_words)));
-  }
-    where
-      c : Configuration
-      c = opening_of L b
-
-      p : Parts (opening_of L b) ts before (t ∷ (between ++ rest))
-      p = parts_of (opening_of L b) ts before (t ∷ (between ++ rest)) all
-
-      d : Configuration
-      d = after_in (opening_of L b) p.early
-
-      h : Head d p.late t (between ++ rest)
-      h = head_of d p.late t (between ++ rest) (sym p.rest_is)
-
-      q : Parts (next_in d h.event) h.others between rest
-      q = parts_of (next_in d h.event) h.others between rest (sym h.rest_is)
-
-      end : Configuration
-      end = after_in (next_in d h.event) q.early
-
-      w : ℕ
-      w = h.event.0
-
-      w_is : t.worker ≡ w
-      w_is = ap (λ (u : Turn). u.worker) h.turn_is
-
-      whole : List (ℕ × Event)
-      whole = p.early ++ h.event ∷ q.early
-
-      whole_leads : after_in (opening_of L b) whole ≡ end
-      whole_leads = led
-        where
-          led : after_in (opening_of L b) (p.early ++ h.event ∷ q.early) ≡ after_in (next_in d h.event) q.early
-          led = after_in-append (opening_of L b) p.early (h.event ∷ q.early) ∙ one_first d h.event q.early
-
-      whole_told : trace_in (opening_of L b) whole ≡ before ++ t ∷ between
-      whole_told = trace_in-append (opening_of L b) p.early (h.event ∷ q.early)
-          ∙ ((λ i. sym p.first_is i ++ trace_first d h.event q.early i)
-          ∙ (λ i. before ++ sym h.turn_is i ∷ sym q.first_is i))
-
-      l : IsLawful d.state
-      l = lawful_after p.early (opening_of L b) (lawful_opening L fits b)
-
-      early_keys : All (λ t. HasKey t.1) p.early
-      early_keys = all_before (λ (u : ℕ × Event). HasKey u.1) p.early p.late (subst (λ (us : List (ℕ × Event)). All (λ t. HasKey t.1) us) p.all keys)
-
-      stand : ReadsStand d.state w
-      stand = (lawful_state d.state (reached_state d (reached_after p.early (opening_of L b) (reached_opening L fits b) early_keys))).marks w
-
-      told : outcome_in d h.event ≡ Ok r
-      told = ap (λ (u : Turn). u.outcome) (sym h.turn_is) ∙ answer
-
-      not_own : is_private (of d.state w) x ≡ false
-      not_own = sym (run_hands w x L fits b p.early) ∙ ((λ i. has_after (opening L) (sym w_is i) x false (sym p.first_is i)) ∙ free)
-
-      ok : Allowed d.state w h.event.1
-      ok = allowed d.state w h.event.1 (allowed_by_state d w h.event.1 (was_allowed d h.event r told))
-
-      known : knows (of d.state w) x ≡ true
-      known = touch_known d.state l.holder l.law w x not_own stand h.event.1 ok (subst (λ (e : Event). Contains (touched e) x) (ap (λ (u : Turn). u.event) h.turn_is) touches)
-
-      no_leave : leaves w (told_in d h.event) ≡ false
-      no_leave = false_from_ne_true (leaves w (told_in d h.event)) (λ is. touch_is_no_leave h.event.1 (outcome_in d h.event) x (subst (λ (e : Event). Contains (touched e) x) (ap (λ (u : Turn). u.event) h.turn_is) touches) (and_parts (w == w) (departs h.event.1 (outcome_in d h.event)) is).1)
-
-      first : Still w x d.state (next_in d h.event).state
-      first = turn_stays w x d l h.event no_leave known
-
-      still : Still w x (next_in d h.event).state end.state
-      still = turns_stay w x q.early (next_in d h.event) (lawful_next d h.event l)
-          (false_from_ne_true (list_any (leaves w) (trace_in (next_in d h.event) q.early)) (λ is. stayed ((λ i. list_any (leaves (w_is i)) (q.first_is i)) ∙ is))) first.known
-
-      there : IsLive (view end.state.memory (of end.state) (lawful_after q.early (next_in d h.event) (lawful_next d h.event l)).holder) x
-      there = live w x end.state (lawful_after q.early (next_in d h.event) (lawful_next d h.event l)) still.known
-
-      now_words : words_after L (before ++ t ∷ between) ≡ end.state.memory
-      now_words = ap (words_after L) (sym whole_told) ∙ (run_words L fits b whole ∙ ap (λ (f : Configuration). f.state.memory) whole_leads)
-
-      was_words : words_after L before ≡ d.state.memory
-      was_words = ap (words_after L) p.first_is ∙ run_words L fits b p.early
-
-      now_hands : (u : ℕ) → has_after (opening L) u x false (before ++ t ∷ between) ≡ is_private (of end.state u) x
-      now_hands u = ap (has_after (opening L) u x false) (sym whole_told) ∙ (run_hands u x L fits b whole ∙ ap (λ (f : Configuration). is_private (of f.state u) x) whole_leads)

@@ -1,15 +1,20 @@
 -- That every run has it: of plain cores and of ordered ones, whatever the workers do and in
 -- whatever order.
-use Rattle.std.specs.Prelude.{◌≡◌, ℕ, Bool, List, ◌∷◌, ◌++◌, All, Contains}
+use Rattle.std.specs.Prelude.{◌≡◌, ◌≤◌, ℕ, Bool, true, length, List, [], ◌∷◌, ◌++◌, Some, None, All, Contains, false, Ok}
 use Rattle.nm_edge.specs.Layouts.{Layout, IsLayout}
 use Rattle.nm_edge.specs.declared.node.NodeId.{NodeId}
 use Rattle.nm_model.specs.declared.event.Event.{Event}
+use Rattle.nm_model.specs.declared.event.Op.{Op}
+use Rattle.nm_model.specs.declared.event.Op.TheVariants.{Has, Insert, Delete}
+use Rattle.nm_model.specs.declared.reply.Reply.{Reply}
 use Rattle.nm_model.specs.declared.trace.Turn.{Turn}
+use Rattle.nm_model.specs.Memory.{opening}
 use Rattle.nm_model.specs.Ordered.{HasKey, ordered, opening_of, after_in, trace_in}
 use Rattle.nm_model.specs.Walks.{Entry}
+use Rattle.nm_order.specs.History.{Act, IsAmong}
 use Rattle.nm_order.specs.Logs.{IsLogOf, part_of}
-use Rattle.nm_model.specs.Headline.{Headline, words_after, nodes_cut_of, freed_by, IsPinned, HasLeft}
-use Rattle.nm_theorem.specs.Histories.{HasHistory}
+use Rattle.nm_model.specs.Headline.{Headline, words_after, nodes_cut_of, freed_by, IsPinned, HasLeft, has_after, touched, WasTold, IsStill}
+use Rattle.nm_theorem.specs.Histories.{IsHistory, HasHistory, call_begun, answer_turn, AnswerStands}
 
 -- of the turns of every run from an opening on, where calls are for keys of the set
 abbrev pub OfEachRun : (Layout → List Turn → Type 0) → Type 0
@@ -50,3 +55,44 @@ pub record IsPartOfTurns (L : Layout) (w : ℕ) (log : List Entry) : Type 0 wher
 abbrev pub LogsArePartsOfTurns : Type 0
 LogsArePartsOfTurns = (L : Layout) → IsLayout L → (w : ℕ) (log : List Entry) → IsLogOf L w log
     → IsPartOfTurns L w log
+
+-- in each ordered run, where a worker was in no call behind an earlier part of its turns and the
+-- last turn answers a call of it, that answer stands
+abbrev pub AnswersStand : Type 0
+AnswersStand = (L : Layout) → IsLayout L → (events : List (ℕ × Event))
+    → All (λ t. HasKey t.1) events → (was since : List Turn) (w pin : ℕ) (op : Op) (k : ℕ)
+    (answer : Bool) → trace_in (ordered L) events ≡ (was ++ since) ++ answer_turn w answer ∷ []
+    → call_begun w was ≡ None
+    → call_begun w (was ++ since) ≡ Some (record { pin = pin; op = op; key = k })
+    → AnswerStands L was (trace_in (ordered L) events) w op k answer
+
+-- an act that takes a key away
+abbrev pub IsTrueDelete : ℕ → Act → Type 0
+IsTrueDelete k a = (a.op ≡ Delete) × (a.key ≡ k) × (a.answer ≡ true)
+
+-- of any turns: where an insert of a key was answered true, and a look began behind all that its
+-- worker had seen then, and the turns with both have a history in which no delete of the key has its
+-- moment, the look was answered true
+abbrev pub InsertsAreFound : Type 0
+InsertsAreFound = (L : Layout) (start first second last : List Turn) (w u k : ℕ) (answer : Bool)
+    → AnswerStands L start first w Insert k true → AnswerStands L second last u Has k answer
+    → length first ≤ length second → (later : List Turn) → last ≡ first ++ later
+    → (acts : List Act) → IsHistory L last acts
+    → ((a : Act) → IsAmong acts a → IsTrueDelete k a → ⊥) → answer ≡ true
+
+-- a worker was told of a slot, is pinned still, and at each moment since it was told the slot was in
+-- no pool, in nobody's hands, and the node that it was
+pub record ReadsTheNodeThatItWasTold (L : Layout) (w x : ℕ) (before : List Turn) : Type 0 where
+  pub told : WasTold L w x before
+  pub pinned : IsPinned w before
+  pub still : (some rest : List Turn) → told.since ≡ some ++ rest
+      → IsStill L told.before (told.before ++ told.told ∷ some) x
+
+-- so it is of each touch of a slot other than 1 and 2 by a worker that has it not in its
+-- hands, wherever the headline holds
+abbrev pub NobodyReadsAnotherNode : Type 0
+NobodyReadsAnotherNode = (L : Layout) (turns : List Turn) → Headline L turns
+    → (before rest : List Turn) (t : Turn) (r : Reply) (x : ℕ) → turns ≡ before ++ t ∷ rest
+    → t.outcome ≡ Ok r → Contains (touched t.event) x → 3 ≤ x
+    → has_after (opening L) t.worker x false before ≡ false
+    → ReadsTheNodeThatItWasTold L t.worker x before

@@ -5,15 +5,16 @@ use Rattle.nm_edge.specs.Layouts.{Layout}
 use Rattle.nm_edge.specs.declared.edge.Side.{Side}
 use Rattle.nm_edge.specs.declared.node.NodeId.{NodeId}
 use Rattle.nm_model.specs.declared.event.Op.{Op}
-use Rattle.nm_model.specs.declared.event.Op.TheVariants.{Insert, Delete}
+use Rattle.nm_model.specs.declared.event.Op.TheVariants.{Has, Insert, Delete}
 use Rattle.nm_model.specs.declared.event.Event.{Event}
 use Rattle.nm_model.specs.declared.event.Event.TheVariants.{Sight, SightFor, Leave, LeaveWith, Link, Flag}
 use Rattle.nm_model.specs.declared.reply.Reply.{Reply}
 use Rattle.nm_model.specs.declared.reply.Reply.TheVariants.{Pinned, Departed, Linked, Flagged, Cut}
 use Rattle.nm_model.specs.declared.reply.Refused.{Refused}
 use Rattle.nm_model.specs.declared.trace.Turn.{Turn}
-use Rattle.nm_model.specs.Headline.{words_after, slots_of}
+use Rattle.nm_model.specs.Headline.{words_after, slots_of, IsPinned}
 use Rattle.nm_order.specs.Intervals.{InSet}
+use Rattle.nm_order.specs.Legal.{Gives}
 use Rattle.nm_order.specs.History.{Act, IsAmong, Replays, nothing, leaf_keys, HasInARow}
 
 -- a call that has begun and is not answered: the number of the turn that confirmed its pin, its
@@ -86,3 +87,36 @@ pub record IsHistory (L : Layout) (turns : List Turn) (acts : List Act) : Type 0
 -- the turns have a history
 abbrev pub HasHistory : Layout → List Turn → Type 0
 HasHistory L turns = (acts : List Act) × IsHistory L turns acts
+
+-- ---- one call's answer
+
+-- the turn by which a worker leaves with an answer
+abbrev pub answer_turn : ℕ → Bool → Turn
+answer_turn w answer = record { worker = w; event = LeaveWith answer; outcome = Ok Departed }
+
+-- the turns `now` go on from `was`, and the last of them answers a call of the worker that began
+-- behind `was`: its pin is none of those. In each history of these turns, and of any that go on
+-- from them, the call with this answer has its act, the moment of which lies behind the pin and not
+-- behind the answer (Herlihy and Wing)
+pub record AnswerStands (L : Layout) (was now : List Turn) (w : ℕ) (op : Op) (k : ℕ) (answer : Bool) : Type 0 where
+  pub since : List Turn
+  pub pin : ℕ
+  pub are : now ≡ (was ++ since) ++ answer_turn w answer ∷ []
+  pub call : call_begun w (was ++ since) ≡ Some (record { pin = pin; op = op; key = k })
+  pub begins : length was ≤ pin
+  pub history : HasHistory L now
+  pub each : (later : List Turn) (acts : List Act) → IsHistory L (now ++ later) acts
+      → (a : Act) × IsAmong acts a × (a.worker ≡ w) × (called_in a ≡ record { pin = pin; op = op; key = k }) × (a.answer ≡ answer)
+      × (pin < a.moment) × (a.moment < length now)
+
+-- ---- one key's look
+
+-- at a moment behind the turns `was`, at which the worker was pinned, a plain set of the keys of the
+-- reached leaves answers so whether the key is in it (O'Hearn and others)
+pub record WasSoBehind (L : Layout) (was now : List Turn) (w k : ℕ) (answer : Bool) : Type 0 where
+  pub so_far : List Turn
+  pub rest : List Turn
+  pub are : now ≡ so_far ++ rest
+  pub later : length was < length so_far
+  pub pinned : IsPinned w so_far
+  pub gives : Gives (InSet (words_after L so_far)) Has k answer

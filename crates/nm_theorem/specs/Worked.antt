@@ -1,13 +1,12 @@
 -- A worked schedule, on which each sentence of the two pages has something to say; and sentences
 -- that are wrong of it.
-use Rattle.std.specs.Prelude.{◌≡◌, ℕ, true, false, List, [], ◌∷◌, ◌++◌, map, take, Contains, Ok, Err}
+use Rattle.std.specs.Prelude.{◌≡◌, ℕ, true, false, List, [], ◌∷◌, ◌++◌, map, take, Contains, Some, Ok, Err}
 use Rattle.nm_edge.specs.Layouts.{Layout, dense}
 use Rattle.nm_edge.specs.declared.edge.Side.TheVariants.{Left, Right}
 use Rattle.nm_edge.specs.declared.node.NodeId.{NodeId}
 use Rattle.nm_model.specs.declared.event.Field.TheVariants.{Key, Edge as EdgeOn, Birth}
 use Rattle.nm_model.specs.declared.event.Op.TheVariants.{Insert, Delete}
 use Rattle.nm_model.specs.declared.event.Event.TheVariants.{Sight, SightFor, Announce, Leave, LeaveWith, Scan, Advance, Claim, Give, Look, Fill, Link, Flag, Tag, Splice}
-use Rattle.nm_model.specs.declared.reply.Reply.{Reply}
 use Rattle.nm_model.specs.declared.reply.Reply.TheVariants.{Saw, Labelled, Pinned, Announced, Departed, Idle, In, Moved, Claimed, Freed, KeyIs, EdgeIs, Filled, Linked, Flagged, Was, Cut}
 use Rattle.nm_model.specs.declared.reply.Refused.TheVariants.{NotReady, TooYoung}
 use Rattle.nm_model.specs.declared.trace.Turn.{Turn}
@@ -16,9 +15,9 @@ use Rattle.nm_model.specs.Ordered.{ordered, trace_in, turn_of}
 use Rattle.nm_model.specs.Paths.{IsCut}
 use Rattle.nm_model.specs.Schedules.{t, e, n}
 use Rattle.nm_order.specs.History.{Act, IsAmong, HasInARow}
-use Rattle.nm_model.specs.Headline.{words_after, after_turn, nodes_cut_of, nodes_freed_of, cuts_of, freed_of, waits_of, IsPinned, HasLeft, StandsAt, has_after, touched, IsStill}
+use Rattle.nm_model.specs.Headline.{words_after, after_turn, nodes_cut_of, nodes_freed_of, cuts_of, freed_of, waits_of, IsPinned, HasLeft, StandsAt, has_after, edge_told, WasTold, IsStill}
 use Rattle.nm_model.specs.Headline.Place.{InPool, InHands, OnPath, Waits}
-use Rattle.nm_theorem.specs.Histories.{IsHistory, HasAct, IsInCall, HasFlaggedOneOf}
+use Rattle.nm_theorem.specs.Histories.{IsHistory, HasAct, IsInCall, HasFlaggedOneOf, AnswerStands}
 
 abbrev pub layout : Layout
 layout = dense 8 2
@@ -110,6 +109,27 @@ before_look = inserting ++ take 11 deleting
 abbrev pub look_turn : Turn
 look_turn = t 1 (Look 6 (EdgeOn Left)) (Ok (EdgeIs (e 7 true false)))
 
+-- the turns before the pin of the insert, those up to its answer, and those up to that of the delete
+abbrev pub before_pin : List Turn
+before_pin = take 5 inserting
+
+abbrev pub inserted : List Turn
+inserted = inserting ++ take 1 deleting
+
+abbrev pub deleted_too : List Turn
+deleted_too = before ++ cut ∷ take 2 waiting
+
+-- the turns before worker 1 reads the edge to node 6, and that look; and the turns from there up to
+-- its leave
+abbrev pub before_told : List Turn
+before_told = inserting ++ take 10 deleting
+
+abbrev pub told_turn : Turn
+told_turn = t 1 (Look 2 (EdgeOn Left)) (Ok (EdgeIs (e 6 false false)))
+
+abbrev pub since_told : List Turn
+since_told = look_turn ∷ cut ∷ waiting
+
 -- what the two pages say of it
 pub record IsWorked : Type 0 where
   -- it is a run of an ordered core
@@ -128,8 +148,10 @@ pub record IsWorked : Type 0 where
   pub reader : IsPinned 1 before
   pub left : HasLeft 1 (waiting ++ leaving)
   pub stayed : HasLeft 1 waiting → ⊥
-  -- node 6, which worker 1 has looked at, is still that node until it leaves, though it is cut
-  pub still : IsStill layout before_look (before_look ++ look_turn ∷ cut ∷ waiting) 6
+  -- worker 1 was told of node 6 before it looked at it, and that is still that node until it leaves,
+  -- though it is cut
+  pub told : WasTold layout 1 6 before_look
+  pub still : IsStill layout before_told (before_told ++ told_turn ∷ since_told) 6
   -- there is a slot in each kind of place
   pub on_path : StandsAt layout inserting 6 (OnPath (Left ∷ Left ∷ []))
   pub in_pool : StandsAt layout worked_turns 6 InPool
@@ -149,6 +171,10 @@ pub record IsWorked : Type 0 where
   pub deleted : (acts : List Act) → IsHistory layout worked_turns acts
       → HasInARow acts (10 ∷ []) 33
       (λ a. IsInCall before Delete a × HasFlaggedOneOf before a.worker (n 6 1 ∷ n 7 1 ∷ []))
+  -- the answer of the insert stands behind what came before its pin, and that of the delete behind
+  -- the insert's
+  pub insert_stands : AnswerStands layout before_pin inserted 0 Insert 10 true
+  pub delete_stands : AnswerStands layout inserted deleted_too 0 Delete 10 true
 
 -- ---- wrong sentences
 
@@ -185,12 +211,12 @@ ClaimsStay turns = (before rest : List Turn) (w s : ℕ)
     → turns ≡ before ++ record { worker = w; event = Claim s; outcome = Ok (Claimed s) } ∷ rest
     → StandsAt layout turns s (InHands w)
 
--- that what a worker has touched stays for ever
+-- that what a worker was told of stays for ever
 abbrev pub StaysForEver : List Turn → Type 0
-StaysForEver turns = (before between rest : List Turn) (t : Turn) (r : Reply) (x : ℕ)
-    → turns ≡ before ++ t ∷ (between ++ rest) → t.outcome ≡ Ok r → Contains (touched t.event) x
-    → has_after (opening layout) t.worker x false before ≡ false
-    → IsStill layout before (before ++ t ∷ between) x
+StaysForEver turns = (before since : List Turn) (t : Turn) (from x : ℕ)
+    → turns ≡ before ++ t ∷ since → edge_told t.event t.outcome ≡ Some (from, x)
+    → has_after (opening layout) t.worker from false before ≡ false → IsPinned t.worker before
+    → IsStill layout before turns x
 
 -- all of these are wrong
 pub record AreWrong : Type 0 where
@@ -201,3 +227,10 @@ pub record AreWrong : Type 0 where
   pub nothing_cut : NothingIsCut worked_turns → ⊥
   pub stay : ClaimsStay worked_turns → ⊥
   pub for_ever : StaysForEver worked_turns → ⊥
+  -- no answer stands behind its own pin, nor does another answer, or another worker's, in its place
+  pub behind_pin : AnswerStands layout (take 6 inserting) inserted 0 Insert 10 true → ⊥
+  pub turned : AnswerStands layout before_pin inserted 0 Insert 10 false → ⊥
+  pub other_worker : AnswerStands layout before_pin inserted 1 Insert 10 true → ⊥
+  pub other_key : AnswerStands layout before_pin inserted 0 Insert 11 true → ⊥
+  -- and the insert's answer does not stand in the place of the delete's
+  pub earlier : AnswerStands layout inserted deleted_too 0 Insert 10 true → ⊥

@@ -6,7 +6,7 @@ mod headline;
 mod worked;
 
 pub use headline::{
-    each_run_has_the_headline, logs_are_parts_of_turns, ordered_runs_have_histories,
-    readers_of_freed_nodes_have_left,
+    answers_stand, each_run_has_the_headline, inserts_are_found, logs_are_parts_of_turns,
+    nobody_reads_another_node, ordered_runs_have_histories, readers_of_freed_nodes_have_left,
 };
 pub use worked::worked_turns;

@@ -1,8 +1,19 @@
 pub mod Replayed
-pub mod LaterLooks
-pub mod LaterMisses
-pub mod ToldPasses
-pub mod Flags
+pub mod TwoAnswers
+pub mod StayingKeys
+pub mod Tallied
+pub mod Unmade
+pub mod Answered
+pub mod ToldWorkers
+pub mod ToldMembers
+pub mod FirstLooks
 pub mod Pairs
-pub mod Counting
+pub mod OnlyWorkers
+pub mod AtRest
+pub mod FourCalls
 pub mod OneMember
+pub mod RadixLookups
+pub mod ReadNodes
+pub mod Schedulers
+mod AnswersInRuns
+mod Counting

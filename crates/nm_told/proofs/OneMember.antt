@@ -1,35 +1,37 @@
--- What the only worker of a closed set has inserted is in the report.
-use Rattle.std.proofs.Common.{◌≡◌, ℕ, zero, suc, ◌+◌, ◌<◌, ◌≤◌, inl, inr, Bool, true, false, cond, List, [], ◌∷◌, ◌++◌, append_assoc, length, refl, sym, ap, subst, ◌∙◌, arith, eq-eqb, eqb}
-use Rattle.std.proofs.lemmas.List.Sums.{sum_by-cons}
-use Rattle.std.specs.Prelude.{Contains, min}
+-- What the only worker of a closed set has inserted is in the report, over the page alone.
+use Rattle.std.proofs.Common.{◌≡◌, ℕ, ◌<◌, ◌≤◌, inl, inr, ◌⊎◌, Bool, true, List, [], ◌∷◌, ◌++◌, append_assoc, length, length-append, refl, sym, ap, subst, ◌∙◌, arith, eq-eqb}
+use Rattle.std.specs.Prelude.{Contains, None, Ok}
+use Rattle.std.proofs.lemmas.Bool.{cases_lt}
+use Rattle.std.proofs.lemmas.List.{append_cancel_left}
+use Rattle.std.proofs.lemmas.List.Elements.{All-head}
 use Rattle.nm_edge.specs.Layouts.{Layout}
-use Rattle.nm_edge.specs.Keys.{IsKey}
+use Rattle.nm_laws.proofs.ListOrders.{In, in_contained, in_either, in_right}
 use Rattle.nm_model.specs.declared.event.Event.{Event}
-use Rattle.nm_model.specs.declared.event.Event.TheVariants.{LeaveWith}
-use Rattle.nm_model.specs.Searches.{idle}
-use Rattle.nm_model.specs.Ordered.{ordered, trace_in}
-use Rattle.nm_order.specs.Exchanges.{HasWonInsert, HasFlagged}
+use Rattle.nm_model.specs.declared.event.Event.TheVariants.{Join, LeaveWith}
+use Rattle.nm_model.specs.declared.event.Op.TheVariants.{Has, Insert, Delete}
+use Rattle.nm_model.specs.declared.reply.Reply.{Reply}
+use Rattle.nm_model.specs.declared.trace.Turn.{Turn}
+use Rattle.nm_model.specs.Walks.{Entry}
 use Rattle.nm_order.specs.WalksToArrivals.{is_won_flag}
-use Rattle.nm_order.specs.Logs.{part_of}
-use Rattle.nm_order.specs.LoggedTotals.{log_often}
-use Rattle.nm_order.specs.Totals.{Agree, NothingIsPending, links_of, flags_of}
-use Rattle.nm_calls.specs.Won.{capped, won_flags}
-use Rattle.nm_epoch.specs.declared.collecting.HeldQueue.{HeldQueue}
-use Rattle.nm_steps.specs.declared.view.Held.{Held}
+use Rattle.nm_order.proofs.RealTime.{begins_with}
+use Rattle.nm_theorem.specs.Histories.{AnswerStands, answer_turn, call_begun}
 use Rattle.nm_steps.specs.declared.view.View.{View}
-use Rattle.nm_steps.specs.Rules.{held_log, holdings, passing, joined, stands, once_below, LogsAre}
+use Rattle.nm_steps.specs.Rules.{Extends}
 use Rattle.nm_steps.specs.Steps.{Board}
-use Rattle.nm_steps.proofs.Keeping.{once_is}
-use Rattle.nm_steps.proofs.Cutting.{times}
+use Rattle.nm_calls.specs.Won.{capped}
+use Rattle.nm_epoch.specs.declared.collecting.HeldQueue.{HeldQueue}
 use Rattle.nm_tree.specs.declared.closing.Report.{Report}
-use Rattle.nm_tree.specs.Workers.{Hand, HasNumber, log_held_of}
-use Rattle.nm_tree.specs.Closing.{IsClosed, all_joined}
-use Rattle.nm_tree.proofs.Heirs.{has_times}
-use Rattle.nm_tree.proofs.OfClosed.{each_closed_log, keys_are_the_totals}
-use Rattle.nm_set.specs.Seats.{AreOwn, IsOwn, Standing}
+use Rattle.nm_tree.specs.Closing.{HasJoinedAlone, SaysClosed}
+use Rattle.nm_tree.specs.Running.{AreOfWorkers, HasSeenTurns, TrueAnswersHaveWon, WinsIn, wins}
+use Rattle.nm_tree.specs.Workers.{Hand, log_held_of}
+use Rattle.nm_tree.proofs.JoinsAlone.{told_in_part}
+use Rattle.nm_tree.proofs.TurnTotals.{wins_flags}
+use Rattle.nm_set.specs.Seats.{IsOwn, Standing}
 use Rattle.nm_set.specs.Ends.{EndsSet}
 use Rattle.nm_told.specs.Adding.{HasAdded}
-use Rattle.nm_told.proofs.Counting.{linked_once, flagged_once, none_in, no_sum}
+use Rattle.nm_told.specs.Meanwhile.{NoneDeleted}
+use Rattle.nm_told.proofs.StayingKeys.{stays_where_none_deleted}
+use Rattle.nm_told.proofs.Unmade.{Won, answered_none, answers_below, no_call_then, some_in, unmade, who_won}
 
 -- ---- what a counter tells
 
@@ -41,100 +43,102 @@ capped_none n is = omega (arith, is)
 
 -- ---- a tree of one worker is closed with one
 
-alive_joined : (b : Board) (u : Hand) (us : List Hand) → AreOwn b (u ∷ us) → (all_joined (u ∷ us)).spent ≡ false
-alive_joined b u [] own = own.0.alive
-alive_joined b u (x ∷ us) own = alive_joined b x us own.1
+no_look : Delete ≡ Has → ⊥
+no_look is = absurd (cc)
 
-live : (o : ℕ) (v : View) → v.spent ≡ false → stands o v ≡ times o (held_log v.number v.log ∷ v.others)
-live o v alive = ap (λ (s : Bool). times o (cond s [] (held_log v.number v.log ∷ v.others))) alive
+not_a_join : (answer : Bool) (v : ℕ) → ◌≡◌ {A = Event} (LeaveWith answer) (Join v) → ⊥
+not_a_join answer v is = absurd (cc)
 
-behind : (o : ℕ) (xs : List Held) (h : Held) (ys : List Held) → h.number ≡ o → HasNumber o (xs ++ h ∷ ys)
-behind o [] h ys is = inl is
-behind o (x ∷ xs) h ys is = inr (behind o xs h ys is)
+module _ (b : Board) (z : Hand) (home : List Hand) (k : ℕ) (queues : List HeldQueue) (kept : List ℕ) (free reached : ℕ) (one : b.layout.workers ≡ 1) (own : IsOwn b z) (seen : HasSeenTurns z.pass.view) (added : HasAdded k z)
+    (is : SaysClosed b (z ∷ home) queues kept free reached) where
+  abbrev v : View
+  v = z.pass.view
 
-below_one : (n o : ℕ) → 1 ≤ n → n ≤ once_below o 1 → o ≡ 0
-below_one n o some' few = let less : o < 1 = (once_is o 1).1 (omega (arith, some', few)) in omega (arith, less)
+  on : Extends is.turns v.past
+  on = All-head (λ (w : Hand). Extends is.turns w.pass.view.past) z home is.goes_on
 
-module _ (b : Board) (z u : Hand) (us : List Hand) (one : b.layout.workers ≡ 1) (own : AreOwn b (u ∷ us)) (once : (w : ℕ) → stands w (joined (all_joined (u ∷ us)) z.pass.view) ≤ once_below w b.layout.workers) where
-  abbrev first : View
-  first = all_joined (u ∷ us)
+  joins : HasJoinedAlone is.turns v.past v.number
+  joins = All-head (λ (w : Hand). HasJoinedAlone is.turns w.pass.view.past w.pass.view.number) z home is.own
 
-  all_stand : (o : ℕ) → times o (holdings (joined first z.pass.view)) ≡ times o (holdings (record (joined first z.pass.view) { spent = false }))
-  all_stand o = ap (λ (s : Bool). times o (holdings (record (joined first z.pass.view) { spent = s }))) (alive_joined b u us own)
+  answer : AnswerStands b.layout added.start.view.past v.past v.number Insert k true
+  answer = subst (λ (L : Layout). AnswerStands L added.start.view.past v.past v.number Insert k true) own.own.layout added.moment
 
-  abbrev both : List Held
-  both = holdings (record (joined first z.pass.view) { spent = false })
+  number : v.number < b.layout.workers
+  number = answers_below b.layout added.start.view.past v.past v.number Insert k true answer (subst (λ (L : Layout). AreOfWorkers L v.past) own.own.layout seen.workers)
 
-  few : (o : ℕ) → times o both ≤ once_below o 1
-  few o = let so = subst (λ (n : ℕ). stands o (joined first z.pass.view) ≤ once_below o n) one (once o) in let e = all_stand o in omega (arith, so, e)
+  same : (w : ℕ) → w < b.layout.workers → w ≡ v.number
+  same w less = let low = number in omega (arith, less, low, one)
 
-  pub not_two : ⊥
-  not_two =
-      let a : first.number ≡ 0 = below_one (times first.number both) first.number (has_times first.number both (inl refl)) (few first.number) in
-      let n = z.pass.view.number in
-      let there : HasNumber n both = inr (behind n first.others (held_log n (z.pass.view.log ++ passing z.pass.view ∷ [])) z.pass.view.others refl) in
-      let c : n ≡ 0 = below_one (times n both) n (has_times n both there) (few n) in
-      let rest : List Held = first.others ++ held_log n (z.pass.view.log ++ passing z.pass.view ∷ []) ∷ z.pass.view.others in
-      let inside : HasNumber n rest = behind n first.others (held_log n (z.pass.view.log ++ passing z.pass.view ∷ [])) z.pass.view.others refl in
-      let more : 1 ≤ times 0 rest = subst (λ (o : ℕ). 1 ≤ times o rest) c (has_times n rest inside) in
-      let head : ◌≡◌ {A = ℕ} (cond (eqb 0 first.number) 1 0) 1 = ap (λ (s : Bool). cond {A = ℕ} s 1 0) (eq-eqb 0 first.number (sym a)) in
-      let sum : times 0 both ≡ cond (eqb 0 first.number) 1 0 + times 0 rest = sum_by-cons (λ (x : Held). cond (eqb 0 x.number) 1 0) (held_log first.number (first.log ++ passing z.pass.view ∷ [])) rest in
-      let few0 : times 0 both ≤ 1 = few 0 in
-      absurd (omega (arith, more, head, sum, few0))
+  -- behind what it has seen its turns are joins
+  joined : (t : Turn) (r : Reply) → In on.more t → t.worker ≡ v.number → t.outcome ≡ Ok r → (u : ℕ) × (t.event ≡ Join u)
+  joined t r there mine told = joins on.more t r on.is (in_contained on.more t there) mine told
 
-pub alone : (b : Board) (z : Hand) (home : List Hand) (queues : List HeldQueue) (kept : List ℕ) (free reached : ℕ) → b.layout.workers ≡ 1 → AreOwn b (z ∷ home) → IsClosed b (z ∷ home) queues kept free reached → home ≡ []
-alone b z [] queues kept free reached one own is = refl
-alone b z (u ∷ us) queues kept free reached one own is = absurd (not_two b z u us one own.1 is.ends.once)
+  rests : call_begun v.number is.turns ≡ None
+  rests = ap (call_begun v.number) on.is ∙ no_call_then v.number v.past on.more (answered_none b.layout added.start.view.past v.past v.number Insert k true answer) joined
 
-module _ (b : Board) (z : Hand) (k : ℕ) (queues : List HeldQueue) (kept : List ℕ) (free reached : ℕ) (one : b.layout.workers ≡ 1) (own : IsOwn b z) (added : HasAdded k z) (is : IsClosed b (z ∷ []) queues kept free reached) where
-  parts : z.pass.view.log ≡ part_of z.pass.view.number (trace_in (ordered b.layout) is.ends.turns)
-  parts =
-      let v = z.pass.view in
-      let P : Bool → Type 0 = λ s. LogsAre v.layout b.layout (trace_in (ordered b.layout) is.ends.turns) (cond s [] (held_log v.number v.log ∷ v.others)) in
-      let shown : P false = subst P own.alive is.ends.shown in
-      shown.1
+  -- it has flagged nothing
+  no_flag : WinsIn Delete v.number is.turns → ⊥
+  no_flag won = by (in_either v.past on.more x.made.turn (subst (λ (ts : List Turn). In ts x.made.turn) on.is x.made.among))
+    where
+      x : Won Delete v.number is.turns
+      x = who_won Delete v.number is.turns won
 
-  number : z.pass.view.number ≡ 0
-  number =
-      let v = z.pass.view in
-      let once = subst (λ (n : ℕ). stands v.number v ≤ once_below v.number n) one (is.ends.once v.number) in
-      let all = live v.number v own.alive in
-      let some' = has_times v.number (held_log v.number v.log ∷ v.others) (inl refl) in
-      below_one (stands v.number v) v.number (omega (arith, all, some')) once
+      by : In v.past x.made.turn ⊎ In on.more x.made.turn → ⊥
+      by (inl there) =
+          let e : Entry = (x.made.turn.event, x.made.reply) in
+          let some = some_in is_won_flag v.log e (subst (λ (l : List Entry). In l e) seen.own (told_in_part v.number v.past x.made.turn x.made.reply there x.made.own x.made.accepted)) (sym (wins_flags x.made.turn.event (Ok x.made.reply)) ∙ x.won) in
+          let none = added.unflagged in
+          omega (arith, some, none)
+      by (inr there) =
+          let j = joined x.made.turn x.made.reply there x.made.own x.made.accepted in
+          not_won j.0 x.made.reply (ap (λ (e : Event). wins Delete e (Ok x.made.reply)) (sym j.1) ∙ x.won)
+        where
+          not_won : (u : ℕ) (r : Reply) → wins Delete (Join u) (Ok r) ≡ true → ⊥
+          not_won u r is = absurd (cc)
 
-  unflagged : (w : ℕ) → w < 1 → won_flags (part_of w (trace_in (ordered b.layout) is.ends.turns)) ≡ 0
-  unflagged zero less = ap (λ (n : ℕ). won_flags (part_of n (trace_in (ordered b.layout) is.ends.turns))) (sym number) ∙ (ap won_flags (sym parts) ∙ added.unflagged)
-  unflagged (suc w) less = absurd (omega (arith, less))
+  -- what its calls were answered is in what it has seen
+  won : TrueAnswersHaveWon is.turns
+  won before since w c are called = by (cases_lt (length before) (length v.past))
+    where
+      turn : Turn
+      turn = answer_turn w true
 
-  no_flags : (j : ℕ) → flags_of j b.layout is.ends.turns ≡ 0
-  no_flags j = (each_closed_log b (z ∷ []) queues kept free reached is j).1 ∙ no_sum (λ w. log_often is_won_flag j idle (part_of w (trace_in (ordered b.layout) is.ends.turns))) b.layout.workers
-      (λ w less. none_in is_won_flag j idle (part_of w (trace_in (ordered b.layout) is.ends.turns)) (unflagged w (omega (arith, less, one))))
+      mine : w ≡ v.number
+      mine = same w (is.headline.workers turn _ (in_contained is.turns turn (subst (λ (ts : List Turn). In ts turn) (sym are) (in_right before (turn ∷ since) turn (inl refl)))) refl)
 
-  settled : NothingIsPending b.layout is.ends.turns
-  settled w j f = let low = flagged_once b.layout is.ends.turns w j f in let none = no_flags j in omega (arith, low, none)
+      by : (length before < length v.past) ⊎ (length v.past ≤ length before) → (c.op ≡ Has) ⊎ WinsIn c.op w before
+      by (inl less) = within (begins_with before (turn ∷ since) v.past on.more (sym are ∙ on.is) (omega (arith, less)))
+        where
+          within : (mid : List Turn) × (v.past ≡ before ++ mid) → (c.op ≡ Has) ⊎ WinsIn c.op w before
+          within ([], at) = absurd (let size = ap (λ (ts : List Turn). length ts) at in let l = length-append before [] in omega (arith, less, size, l))
+          within (t ∷ mid, at) =
+              let rest : turn ∷ since ≡ t ∷ (mid ++ on.more) = append_cancel_left before (turn ∷ since) (t ∷ (mid ++ on.more)) (sym are ∙ (on.is ∙ (ap (λ (ts : List Turn). ts ++ on.more) at ∙ append_assoc before (t ∷ mid) on.more))) in
+              seen.won before mid w c (at ∙ ap (λ (u : Turn). before ++ u ∷ mid) (sym (first rest))) called
+            where
+              first : {x y : Turn} {xs ys : List Turn} → x ∷ xs ≡ y ∷ ys → x ≡ y
+              first e = cc
+      by (inr late) = absurd (beyond (begins_with v.past on.more before (turn ∷ since) (sym on.is ∙ are) late))
+        where
+          beyond : (mid : List Turn) × (before ≡ v.past ++ mid) → ⊥
+          beyond (mid, at) =
+              let rest : on.more ≡ mid ++ turn ∷ since = append_cancel_left v.past on.more (mid ++ turn ∷ since) (sym on.is ∙ (are ∙ (ap (λ (ts : List Turn). ts ++ turn ∷ since) at ∙ append_assoc v.past mid (turn ∷ since)))) in
+              let j = joined turn _ (subst (λ (ts : List Turn). In ts turn) (sym rest) (in_right mid (turn ∷ since) turn (inl refl))) mine refl in
+              not_a_join true j.0 j.1
 
-  linked : 1 ≤ links_of k b.layout is.ends.turns
-  linked =
-      let a = added.moment.since in
-      let v = z.pass.view in
-      let rest : List (ℕ × Event) = ((v.number, LeaveWith true) ∷ a.since) ++ is.ends.past.more in
-      let run : is.ends.turns ≡ a.before ++ rest = is.ends.past.is ∙ (ap (λ (us : List (ℕ × Event)). us ++ is.ends.past.more) a.is_run ∙ append_assoc a.before ((v.number, LeaveWith true) ∷ a.since) is.ends.past.more) in
-      let moment : HasWonInsert b.layout a.before v.number k = subst (λ (L : Layout). HasWonInsert L a.before v.number k) own.own.layout a.moment in
-      let P : List (ℕ × Event) → Type 0 = λ us. 1 ≤ links_of k b.layout us in
-      subst P (sym run) (linked_once b.layout a.before rest v.number k moment)
+  none_deleted : NoneDeleted b.layout added.start.view.past is.turns k
+  none_deleted acts h a among gone = absurd (unmade b.layout is.turns is.headline.workers won Delete no_look
+      (λ w less made. no_flag (subst (λ (u : ℕ). WinsIn Delete u is.turns) (same w less) made))
+      (λ w less. ap (λ (u : ℕ). call_begun u is.turns) (same w less) ∙ rests) acts h a among gone.0 gone.2)
 
   pub has_key : Contains kept k
-  has_key = go (keys_are_the_totals b (z ∷ []) queues kept free reached is settled k added.key)
-    where
-      go : Agree (links_of k b.layout is.ends.turns) (flags_of k b.layout is.ends.turns) (Contains kept k) → Contains kept k
-      go (inl so) = so.1
-      go (inr so) = let none = no_flags k in let same = so.0 in let low = linked in absurd (omega (arith, low, none, same))
+  has_key =
+      let key = added.key in
+      (is.headline.set k).1
+      (stays_where_none_deleted b.layout added.start.view.past v.past is.turns v.number k added.key answer on is.headline.plain_set none_deleted, omega (arith, key))
 
 -- of a set that kept that worker alone
-pub reported : (s : Standing) (z : Hand) (k : ℕ) (r : Report) → s.kept ≡ z ∷ [] → s.board.layout.workers ≡ 1 → IsOwn s.board z → HasAdded k z → EndsSet s r → Contains r.keys.items k
-reported s z k r kept one own added e =
-    let C : List Hand → Type 0 = λ ws. IsClosed s.board ws r.queues.items r.keys.items r.free r.reached in
+pub reported : (s : Standing) (z : Hand) (k : ℕ) (r : Report) → s.kept ≡ z ∷ [] → s.board.layout.workers ≡ 1 → IsOwn s.board z → HasSeenTurns z.pass.view → HasAdded k z → EndsSet s r → Contains r.keys.items k
+reported s z k r kept one own seen added e =
+    let C : List Hand → Type 0 = λ ws. SaysClosed s.board ws r.queues.items r.keys.items r.free r.reached in
     let ws = ap (λ (us : List Hand). us ++ e.home) kept in
-    let closed : C (z ∷ e.home) = subst C ws e.closed in
-    let none : e.home ≡ [] = alone s.board z e.home r.queues.items r.keys.items r.free r.reached one (subst (AreOwn s.board) ws e.own) closed in
-    has_key s.board z k r.queues.items r.keys.items r.free r.reached one own added (subst (λ (us : List Hand). C (z ∷ us)) none closed)
+    has_key s.board z e.home k r.queues.items r.keys.items r.free r.reached one own seen added (subst C ws e.closed.says)

@@ -5,12 +5,9 @@ use Rattle.nm_model.specs.declared.event.Op.{Op}
 use Rattle.nm_model.specs.declared.event.Op.TheVariants.{Has, Insert, Delete}
 use Rattle.nm_order.specs.Legal.{Gives}
 use Rattle.nm_order.specs.History.{Act, IsAmong, Replays, changed}
+use Rattle.nm_theorem.specs.EachRun.{IsTrueDelete}
 
--- it takes the key away
-abbrev pub IsTrueDelete : ℕ → Act → Type 0
-IsTrueDelete k a = (a.op ≡ Delete) × (a.key ≡ k) × (a.answer ≡ true)
-
-still : (S : ℕ → Type 0) (k : ℕ) (op : Op) (j : ℕ) (answer : Bool) → (op ≡ Delete → j ≡ k → answer ≡ true → ⊥) → S k → changed S op j answer k
+pub still : (S : ℕ → Type 0) (k : ℕ) (op : Op) (j : ℕ) (answer : Bool) → (op ≡ Delete → j ≡ k → answer ≡ true → ⊥) → S k → changed S op j answer k
 still S k Has j answer none there = there
 still S k Insert j true none there = inl there
 still S k Insert j false none there = there
@@ -23,7 +20,7 @@ behind : (xs ys : List Act) (x : Act) → IsAmong ys x → IsAmong (xs ++ ys) x
 behind [] ys x there = there
 behind (y ∷ xs) ys x there = inr (behind xs ys x there)
 
-pub ahead : (xs ys : List Act) (x : Act) → IsAmong xs x → IsAmong (xs ++ ys) x
+ahead : (xs ys : List Act) (x : Act) → IsAmong xs x → IsAmong (xs ++ ys) x
 ahead [] ys x there = absurd there
 ahead (y ∷ xs) ys x (inl is) = inl is
 ahead (y ∷ xs) ys x (inr there) = inr (ahead xs ys x there)
@@ -55,11 +52,7 @@ found S k op j answer o e gives there = go answer (subst (λ (i : ℕ). Gives S 
 
 -- ---- a key that is not there
 
--- it puts the key there
-abbrev pub IsTrueInsert : ℕ → Act → Type 0
-IsTrueInsert k a = (a.op ≡ Insert) × (a.key ≡ k) × (a.answer ≡ true)
-
-still_out : (S : ℕ → Type 0) (k : ℕ) (op : Op) (j : ℕ) (answer : Bool) → (op ≡ Insert → j ≡ k → answer ≡ true → ⊥) → (S k → ⊥) → changed S op j answer k → ⊥
+pub still_out : (S : ℕ → Type 0) (k : ℕ) (op : Op) (j : ℕ) (answer : Bool) → (op ≡ Insert → j ≡ k → answer ≡ true → ⊥) → (S k → ⊥) → changed S op j answer k → ⊥
 still_out S k Has j answer none out there = out there
 still_out S k Insert j true none out (inl there) = out there
 still_out S k Insert j true none out (inr is) = none refl (sym is) refl
@@ -67,20 +60,16 @@ still_out S k Insert j false none out there = out there
 still_out S k Delete j true none out there = out there.0
 still_out S k Delete j false none out there = out there
 
-pub lacks : (k : ℕ) (S T : ℕ → Type 0) (xs ys : List Act) → ((a : Act) → IsAmong xs a → IsTrueInsert k a → ⊥) → Replays S (xs ++ ys) T → (S k → ⊥) → (Q : Type 0) → ((U : ℕ → Type 0) → Replays U ys T → (U k → ⊥) → Q) → Q
-lacks k S T [] ys none r out Q then' = then' S r out
-lacks k S T (x ∷ xs) ys none r out Q then' =
-    lacks k (changed S x.op x.key x.answer) T xs ys (λ a among. none a (inr among)) r.2 (still_out S k x.op x.key x.answer (λ i e t. none x (inl refl) (i, e, t)) out) Q then'
-
 pub taken : (S : ℕ → Type 0) (k : ℕ) (op : Op) (j : ℕ) (answer : Bool) → op ≡ Delete → j ≡ k → answer ≡ true → changed S op j answer k → ⊥
 taken S k op j answer o e t there = out (subst (λ (b : Bool). changed S Delete j b k) t (subst (λ (x : Op). changed S x j answer k) o there))
   where
     out : changed S Delete j true k → ⊥
     out there' = there'.1 (sym e)
 
-pub missed : (S : ℕ → Type 0) (k : ℕ) (op : Op) (j : ℕ) (answer : Bool) → op ≡ Has → j ≡ k → Gives S op j answer → (S k → ⊥) → answer ≡ false
-missed S k op j answer o e gives out = go answer (subst (λ (i : ℕ). Gives S Has i answer) e (subst (λ (x : Op). Gives S x j answer) o gives))
+-- a later call for it that is answered true only where it is there, as a look-up and a delete are
+pub missed : (S : ℕ → Type 0) (k : ℕ) (later : Op) → (Gives S later k true → S k) → (op : Op) (j : ℕ) (answer : Bool) → op ≡ later → j ≡ k → Gives S op j answer → (S k → ⊥) → answer ≡ false
+missed S k later only op j answer o e gives out = go answer (subst (λ (i : ℕ). Gives S later i answer) e (subst (λ (x : Op). Gives S x j answer) o gives))
   where
-    go : (b : Bool) → Gives S Has k b → b ≡ false
-    go true g = absurd (out g)
+    go : (b : Bool) → Gives S later k b → b ≡ false
+    go true g = absurd (out (only g))
     go false g = refl

@@ -1,3 +1,6 @@
-pub mod Unflagged
-pub mod Uninserted
+pub mod Meanwhile
+pub mod Reading
+pub mod PuttingBack
 pub mod Adding
+pub mod Taking
+pub mod Tallies

@@ -1,5 +1,5 @@
 //! What the report of a set tells a caller that lets it keep its member, or ends it by its last
-//! one, by the clauses of `nm_set` alone.
+//! one, by the clauses of `nm_set` and the page alone.
 ghost use Rattle.std.specs.Prelude.{◌≡◌, [], true, IfSome, Contains};
 ghost use Rattle.nm_told.specs.Adding.{HasAdded};
 
@@ -33,7 +33,7 @@ fn add(member: &mut Member, key: Key, tries: u32) -> bool
     if member.ledger().flags != 0 {
         return false;
     }
-    match member.insert(key, tries) {
+    match member.try_insert(key, tries) {
         Ok(true) => true,
         _ => false,
     }

@@ -1,9 +1,10 @@
-//! Two threads that insert, and a third worker that was told of both.
+//! Two threads that insert, and a third worker that was told of both, by the clauses of `nm_tree` and
+//! the page alone.
 ghost use Rattle.std.specs.Prelude.{◌≡◌, true, None, IfSome};
 ghost use Rattle.nm_model.specs.declared.event.Op.TheVariants.{Insert};
 ghost use Rattle.nm_steps.specs.Steps.{Stand, IsOf};
 ghost use Rattle.nm_calls.specs.Moments.{AnswerHasMoment};
-ghost use Rattle.nm_told.specs.Unflagged.{NoneFlagged};
+ghost use Rattle.nm_told.specs.Meanwhile.{NoneDeleted};
 
 use crate::trees::look_told;
 use nm_edge::Key;
@@ -78,8 +79,8 @@ pub fn insert_both<R: Threads + Sync>(
 }
 
 /// A third worker is told what both have seen, and looks up what each of them has inserted. `None`:
-/// a look-up was not answered. Else each key is found, unless a delete of it has won a flag in the
-/// run that the worker has then seen.
+/// a look-up was not answered. Else each key is found, unless a delete, behind all that its inserter
+/// had seen before, has taken it away.
 pub fn find_both(
     tree: &Tree,
     one: &mut Worker,
@@ -94,20 +95,21 @@ pub fn find_both(
     requires reader { IsOf tree.now reader.old.pass }
     requires free { reader.old.held ≡ None }
     ensures first { (start : Stand) → AnswerHasMoment start one.old.pass Insert left true
-        → NoneFlagged tree.now.layout reader.new.pass.view.past left
+        → NoneDeleted tree.now.layout start.view.past reader.new.pass.view.past left
         → IfSome result (λ b. b.0 ≡ true) }
     ensures second { (start : Stand) → AnswerHasMoment start two.old.pass Insert right true
-        → NoneFlagged tree.now.layout reader.new.pass.view.past right
+        → NoneDeleted tree.now.layout start.view.past reader.new.pass.view.past right
         → IfSome result (λ b. b.1 ≡ true) }
 {
     let first = look_told(tree, one, reader, left, tries).ok()?;
     let second = look_told(tree, two, reader, right, tries).ok()?;
+    reader.is_of_a_run();
     Some((first, second))
 }
 
 /// Two threads insert a key each, and then a third worker, which is told of both, looks both keys
 /// up. `None`: a call was not answered, or a key had been in the set. Else both are found, unless a
-/// delete of one of them has begun to take it away.
+/// delete, behind all that the inserter had seen before, has taken one of them away.
 pub fn insert_both_then_find<R: Threads + Sync>(
     rt: &R,
     tree: &Tree,
@@ -124,9 +126,9 @@ pub fn insert_both_then_find<R: Threads + Sync>(
     requires first_free { one.held ≡ None }
     requires second_free { two.held ≡ None }
     requires free { reader.old.held ≡ None }
-    ensures first { NoneFlagged tree.now.layout reader.new.pass.view.past left
+    ensures first { NoneDeleted tree.now.layout one.pass.view.past reader.new.pass.view.past left
         → IfSome result (λ b. b.0 ≡ true) }
-    ensures second { NoneFlagged tree.now.layout reader.new.pass.view.past right
+    ensures second { NoneDeleted tree.now.layout two.pass.view.past reader.new.pass.view.past right
         → IfSome result (λ b. b.1 ≡ true) }
 {
     let (first, second) = insert_both(rt, tree, one, two, left, right, tries);

@@ -1,10 +1,11 @@
-//! The same of workers of a tree, by the clauses of `nm_tree` alone.
-ghost use Rattle.std.specs.Prelude.{◌≡◌, true, false, None, IfOk, IfSome};
-ghost use Rattle.nm_model.specs.declared.event.Op.TheVariants.{Insert, Delete};
+//! What a worker of a tree that was told of another one's call finds, by the clauses of `nm_tree` and
+//! the page alone.
+ghost use Rattle.std.specs.Prelude.{◌≡◌, ◌≢◌, true, false, None, IfOk, IfSome};
+ghost use Rattle.nm_model.specs.declared.event.Op.TheVariants.{Has, Insert, Delete};
 ghost use Rattle.nm_steps.specs.Steps.{Stand, IsOf, IsSamePass, HasHeard, HasSeenAllOf};
 ghost use Rattle.nm_calls.specs.Moments.{AnswerHasMoment};
-ghost use Rattle.nm_told.specs.Unflagged.{NoneFlagged};
-ghost use Rattle.nm_told.specs.Uninserted.{NoneInserted};
+ghost use Rattle.nm_calls.specs.Won.{won_flags};
+ghost use Rattle.nm_told.specs.Meanwhile.{NoneDeleted, NoneInserted};
 
 use nm_edge::Key;
 use nm_tree::{Fault, Tree, Worker};
@@ -25,9 +26,9 @@ pub fn tell_worker(tree: &Tree, from: &mut Worker, to: &mut Worker)
 }
 
 /// A look-up by a worker that was told what another one has seen. A key whose insert by that one
-/// was answered true is found, unless a delete of it has won a flag in the run that the worker has
-/// then seen. One whose delete was answered true is not found, unless an insert of it, behind all
-/// that the deleter had seen before its call, is answered true or has won a link in that run.
+/// was answered true is found, unless in a history of the turns that the worker has then seen a true
+/// delete of it has its moment behind all that the inserter had seen before its call; and one whose
+/// delete was answered true is not found, unless a true insert of it has so.
 pub fn look_told(
     tree: &Tree,
     one: &mut Worker,
@@ -41,23 +42,23 @@ pub fn look_told(
     ensures one { one.new ≡ one.old }
     ensures two { IsSamePass two.old.pass two.new.pass }
     ensures past { HasSeenAllOf two.new.pass two.old.pass }
+    ensures told { HasSeenAllOf two.new.pass one.old.pass }
     ensures held { two.new.held ≡ None }
+    ensures moment { IfOk result (AnswerHasMoment one.old.pass two.new.pass Has key) }
     ensures found { (start : Stand) → AnswerHasMoment start one.old.pass Insert key true
-        → NoneFlagged two.new.pass.view.layout two.new.pass.view.past key
+        → NoneDeleted two.new.pass.view.layout start.view.past two.new.pass.view.past key
         → IfOk result (λ b. b ≡ true) }
     ensures missed { (start : Stand) → AnswerHasMoment start one.old.pass Delete key true
         → NoneInserted two.new.pass.view.layout start.view.past two.new.pass.view.past key
         → IfOk result (λ b. b ≡ false) }
 {
     tell_worker(tree, one, two);
-    let found = tree.has(two, key, tries);
-    two.is_of_a_run();
-    found
+    tree.has(two, key, tries)
 }
 
 /// One worker inserts a key, and then another one that was told of it looks it up. `None`: a call
-/// was not answered, or the key had been in the set. Else it is found, unless a delete of it has
-/// begun to take it away.
+/// was not answered, or the key had been in the set. Else it is found, unless a delete, behind all
+/// that the inserter had seen before, has taken it away.
 pub fn insert_then_find(
     tree: &Tree,
     one: &mut Worker,
@@ -69,8 +70,8 @@ pub fn insert_then_find(
     requires two { IsOf tree.now two.old.pass }
     requires first_free { one.old.held ≡ None }
     requires free { two.old.held ≡ None }
-    ensures found { NoneFlagged two.new.pass.view.layout two.new.pass.view.past key
-        → IfSome result (λ b. b ≡ true) }
+    ensures found { NoneDeleted two.new.pass.view.layout one.old.pass.view.past
+        two.new.pass.view.past key → IfSome result (λ b. b ≡ true) }
 {
     match tree.insert(one, key, tries) {
         Ok(true) => look_told(tree, one, two, key, tries).ok(),
@@ -99,4 +100,36 @@ pub fn delete_then_miss(
         Ok(true) => look_told(tree, deleter, reader, key, tries).ok(),
         _ => None,
     }
+}
+
+/// The same by both workers of a tree that has two, neither of which has flagged a leaf: one inserts
+/// a key, tells the other one, and that one looks it up. `None`: a call was not answered, or the key
+/// had been in the set. Else it is found: nobody could have taken it away.
+pub fn insert_then_find_alone(
+    tree: &Tree,
+    inserter: &mut Worker,
+    reader: &mut Worker,
+    key: Key,
+    tries: u32,
+) -> Option<bool>
+    requires pair { tree.now.layout.workers ≡ 2 }
+    requires apart { inserter.old.pass.view.number ≢ reader.old.pass.view.number }
+    requires inserter { IsOf tree.now inserter.old.pass }
+    requires reader { IsOf tree.now reader.old.pass }
+    requires first_free { inserter.old.held ≡ None }
+    requires free { reader.old.held ≡ None }
+    requires first_unflagged { won_flags inserter.old.pass.view.log ≡ 0 }
+    requires unflagged { won_flags reader.old.pass.view.log ≡ 0 }
+    ensures found { IfSome result (λ b. b ≡ true) }
+{
+    let Ok(true) = tree.insert(inserter, key, tries) else {
+        return None;
+    };
+    inserter.is_of_a_run();
+    tell_worker(tree, inserter, reader);
+    let found = tree.has(reader, key, tries);
+    tell_worker(tree, reader, inserter);
+    inserter.is_of_a_run();
+    reader.is_of_a_run();
+    found.ok()
 }

@@ -19,7 +19,8 @@ use Rattle.nm_pool.specs.declared.placement.Fit.{Fit}
 use Rattle.nm_tree.specs.declared.worker.Account.{Account}
 use Rattle.nm_calls.specs.declared.deleting.Unfinished.{Unfinished}
 use Rattle.nm_tree.specs.Workers.{Hand, IsAs, IsWorker, IsAccount, AreAccounts, IsKept, AreOf, HasOrigin, QueueStandsAt, OnlyOwnLedger, log_held_of, log_among, ledger_in}
-use Rattle.nm_tree.proofs.QueueLists.{stands_there, stands_after, held_there, held_after, has_after, had_before, ascend_after, not_none, origin_at}
+use Rattle.nm_calls.specs.Rooms.{TakesRoom}
+use Rattle.nm_tree.proofs.QueueLists.{few_after, stands_there, stands_after, held_there, held_after, has_after, had_before, ascend_after, not_none, origin_at}
 use Rattle.nm_tree.proofs.Numbers.{numbers_stay, resigned_stay, room_stays}
 
 -- ---- logs and ledgers of others
@@ -126,8 +127,9 @@ numbers_after v i o hs g s e is = record {
 -- so it is a worker still, where its own queue and account are these now
 pub changed : {r s : ℕ} {f : Fit} (w : Hand) (xs : List Account) (home : ℕ) (q : Stand) (n : Option Unfinished) (e : Option ℕ) (g : HeldQueue) (b : Account) → IsWorker w xs home r s → IsSamePass w.pass q
     → IsKept q g b → OnlyOwnLedger w.pass q → ((slot : ℕ) → get (knowledge q.view).drafts slot ≡ get (knowledge w.pass.view).drafts slot) → IsAs q n e
+    → (h : HeldQueue) × (h ≡ slice_index_or w.queues home h) × TakesRoom h.queue g.queue
     → IsWorker (record { pass = q; queues = slice_set w.queues home g; pending = n; held = e; fit = f }) (slice_set xs home b) home r s
-changed {r} {s} w xs home q n e g b is same kept others private stands =
+changed {r} {s} w xs home q n e g b is same kept others private stands room =
     let number : q.view.number ≡ w.pass.view.number = ap (λ (x : Stand). x.view.number) same in
     let own : g.origin ≡ w.pass.view.number = kept.own ∙ number in
     let queue = let P : ℕ → Type 0 = λ o. IsQueueOf (knowledge q.view) o g.queue.items in subst P number kept.queue in
@@ -136,6 +138,7 @@ changed {r} {s} w xs home q n e g b is same kept others private stands =
         queues = held_after (knowledge w.pass.view) (knowledge q.view) home w.pass.view.number w.queues g others is.own own queue is.between.queues;
         all = λ o some'. origin_stays w q home g is.between.all others is.own own o some';
         ascend = ascend_after home w.pass.view.number w.queues g is.own own is.between.ascend;
+        blocks = few_after home w.pass.view.number w.queues room.0 g is.own room.1 room.2 is.between.blocks;
         private = λ slot. private slot ∙ is.between.private slot;
         stands = stands;
       };

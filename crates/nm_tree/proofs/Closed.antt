@@ -2,9 +2,9 @@
 use Rattle.std.proofs.Common.{◌≡◌, ℕ, suc, ◌+◌, ◌-◌, ◌<◌, ◌≤◌, inl, inr, true, List, [], ◌∷◌, ◌++◌, length, refl, sym, ap, ◌∙◌, subst, arith}
 use Rattle.std.proofs.lemmas.List.Elements.{All-cons, All-head, All-nil, All-tail}
 use Rattle.std.proofs.lemmas.List.Sums.{sum_by-cons}
-use Rattle.std.specs.Prelude.{filter, slice_index_or}
+use Rattle.std.specs.Prelude.{All, filter, slice_index_or}
 use Rattle.nm_edge.specs.Layouts.{Layout}
-use Rattle.nm_model.specs.declared.event.Event.{Event}
+use Rattle.nm_model.specs.declared.trace.Turn.{Turn}
 use Rattle.nm_model.specs.Ordered.{ordered, trace_in}
 use Rattle.nm_model.specs.Headline.{words_after}
 use Rattle.nm_model.specs.Memory.{Memory}
@@ -13,8 +13,8 @@ use Rattle.nm_theorem.proofs.WrittenWords.{run_words}
 use Rattle.nm_report.specs.Ended.{IsEndOf, end_of}
 use Rattle.nm_report.proofs.Ends.{layout_is}
 use Rattle.nm_steps.specs.declared.view.View.{View}
-use Rattle.nm_steps.specs.Rules.{Extends, IsShown, joined, knowledge, stands, once_below}
-use Rattle.nm_steps.specs.Steps.{Board, Stand, IsOf, Ends, HasJoined, HasSeenAllOf}
+use Rattle.nm_steps.specs.Rules.{Extends, IsShown, LogsAre, joined, knowledge, stands, once_below}
+use Rattle.nm_steps.specs.Steps.{Board, Stand, IsOf, Ends, HasJoined, HasSeen, HasSeenAllOf}
 use Rattle.nm_steps.proofs.Growing.{goes_on_itself, goes_on_from_nothing, goes_on_through}
 use Rattle.nm_steps.proofs.Keeping.{live, once_is}
 use Rattle.nm_steps.proofs.Cutting.{times}
@@ -23,8 +23,11 @@ use Rattle.nm_epoch.specs.Collecting.{AreHeld}
 use Rattle.nm_tree.specs.declared.worker.Account.{Account}
 use Rattle.nm_tree.specs.Workers.{Hand, IsWorker, HasOrigin, AreAbove, Ascend}
 use Rattle.nm_tree.specs.Closing.{AreAllOf, AreFrom, GoesOnFromAll, IsClosed, IsOfTurns, StandsForAll, all_joined, all_merged, given_in}
-use Rattle.nm_tree.proofs.EndLaws.{ascend_of}
+use Rattle.nm_tree.proofs.EndCounts.{sum_is}
+use Rattle.nm_tree.proofs.EndLaws.{ascend_of, set_of, totals_of}
 use Rattle.nm_tree.proofs.EndTheorem.{of_turns_at_end}
+use Rattle.nm_tree.proofs.EndWorkers.{are as logs_shown}
+use Rattle.nm_tree.proofs.JoinsAlone.{all_joined_alone}
 use Rattle.nm_tree.proofs.Settling.{settles}
 use Rattle.nm_tree.proofs.Heirs.{logs, has_times}
 use Rattle.nm_tree.proofs.Merging.{length-merged}
@@ -49,18 +52,25 @@ still_of b p o q is own = record { table = ap (λ (x : Stand). x.table) is ∙ o
 pub alone : (w : Hand) → GoesOnFromAll w.pass.view.past (w ∷ [])
 alone w = All-cons (λ (u : Hand). Extends w.pass.view.past u.pass.view.past) w [] (goes_on_itself w.pass.view.past) (All-nil (λ (u : Hand). Extends w.pass.view.past u.pass.view.past))
 
+-- and each has seen a run
+pub one_seen : (w : Hand) → HasSeen w.pass.view → All (λ (u : Hand). HasSeen u.pass.view) (w ∷ [])
+one_seen w seen = All-cons (λ (u : Hand). HasSeen u.pass.view) w [] seen (All-nil (λ (u : Hand). HasSeen u.pass.view))
+
+pub one_more_seen : (w : Hand) (us : List Hand) → HasSeen w.pass.view → All (λ (u : Hand). HasSeen u.pass.view) us → All (λ (u : Hand). HasSeen u.pass.view) (w ∷ us)
+one_more_seen w us seen all = All-cons (λ (u : Hand). HasSeen u.pass.view) w us seen all
+
 pub stands_for_one_more : (w u : Hand) (us : List Hand) (p q : Stand) → HasJoined p w.pass q → StandsForAll (u ∷ us) p.view → StandsForAll (w ∷ u ∷ us) q.view
 stands_for_one_more w u us p q joins stands = ap (λ (x : Stand). x.view) joins ∙ ap (λ (v : View). record (joined v w.pass.view) { past = q.view.past }) stands
 
 -- a run goes on from what one saw from which it goes on
-pub goes_on_from_earlier : (run earlier : List (ℕ × Event)) (ws : List Hand) → Extends run earlier → GoesOnFromAll earlier ws → GoesOnFromAll run ws
+pub goes_on_from_earlier : (run earlier : List Turn) (ws : List Hand) → Extends run earlier → GoesOnFromAll earlier ws → GoesOnFromAll run ws
 goes_on_from_earlier run earlier ws more all i w less = goes_on_through run earlier (slice_index_or ws i w).pass.view.past more (all i w less)
 
 pub goes_on_from_one_more : (w : Hand) (us : List Hand) (p q : Stand) → HasSeenAllOf q p → HasSeenAllOf q w.pass → GoesOnFromAll p.view.past us → GoesOnFromAll q.view.past (w ∷ us)
 goes_on_from_one_more w us p q seen told all = All-cons (λ (u : Hand). Extends q.view.past u.pass.view.past) w us told.goes_on (goes_on_from_earlier q.view.past p.view.past us seen.goes_on all)
 
 -- so from what the last one saw, whose own log the joined view has
-goes_on_from_last : (run : List (ℕ × Event)) (ws : List Hand) → GoesOnFromAll run ws → Extends run (all_joined ws).past
+goes_on_from_last : (run : List Turn) (ws : List Hand) → GoesOnFromAll run ws → Extends run (all_joined ws).past
 goes_on_from_last run [] all = goes_on_from_nothing run
 goes_on_from_last run (w ∷ []) all = All-head (λ (u : Hand). Extends run u.pass.view.past) w [] all
 goes_on_from_last run (w ∷ u ∷ ws) all = goes_on_from_last run (u ∷ ws) (All-tail (λ (v : Hand). Extends run v.pass.view.past) w (u ∷ ws) all)
@@ -108,7 +118,7 @@ all_in_order n (h ∷ hs) up below many =
 -- ---- the whole
 
 module _ (b : Board) (w : Hand) (xs : List Account) (home r s : ℕ) (ws : List Hand) (kept : List ℕ) (free reached : ℕ) (words : List ℕ) (is : IsWorker w xs home r s)
-    (view : StandsForAll ws w.pass.view) (seen : GoesOnFromAll w.pass.view.past ws) (queues : w.queues ≡ all_merged ws) (enough : b.layout.workers ≤ given_in ws) (end : Ends b.layout words w.pass.view)
+    (view : StandsForAll ws w.pass.view) (seen : GoesOnFromAll w.pass.view.past ws) (queues : w.queues ≡ all_merged ws) (enough : b.layout.workers ≤ given_in ws) (of_runs : All (λ (u : Hand). HasSeen u.pass.view) ws) (end : Ends b.layout words w.pass.view)
     (keys_are : (e' : IsEndOf b.layout words) → kept ≡ keys (end_of b.layout words e')) (free_are : (e' : IsEndOf b.layout words) → free ≡ (counts (end_of b.layout words e')).pool)
     (reached_are : (e' : IsEndOf b.layout words) → reached ≡ (counts (end_of b.layout words e')).reached) where
   below : (o : ℕ) → HasOrigin o w.queues → o < b.layout.workers
@@ -129,8 +139,8 @@ module _ (b : Board) (w : Hand) (xs : List Account) (home r s : ℕ) (ws : List 
   some_given : 1 ≤ length ws
   some_given = at_least_one ws (let some' = end.fits.some in omega (arith, enough, some'))
 
-  goes_on : GoesOnFromAll end.turns ws
-  goes_on = goes_on_from_earlier end.turns w.pass.view.past ws end.past seen
+  goes_on : GoesOnFromAll (trace_in (ordered b.layout) end.turns) ws
+  goes_on = goes_on_from_earlier (trace_in (ordered b.layout) end.turns) w.pass.view.past ws end.past seen
 
   ends : Ends b.layout words (all_joined ws)
   ends = record {
@@ -140,12 +150,12 @@ module _ (b : Board) (w : Hand) (xs : List Account) (home r s : ℕ) (ws : List 
     words_are = end.words_are;
     shown = subst (λ (v : View). IsShown b.layout (trace_in (ordered b.layout) end.turns) v) view end.shown;
     once = subst (λ (v : View). (o : ℕ) → stands o v ≤ once_below o b.layout.workers) view end.once;
-    past = goes_on_from_last end.turns ws goes_on;
+    past = goes_on_from_last (trace_in (ordered b.layout) end.turns) ws goes_on;
   }
 
-  of_turns : IsOfTurns b.layout (trace_in (ordered b.layout) end.turns) words (all_joined ws) w.queues kept
+  of_turns : IsOfTurns b.layout (trace_in (ordered b.layout) end.turns) words w.queues kept
   unfolding the_end
-  of_turns = of_turns_at_end b.layout words the_end w xs home r s is end.shown in_order.0 in_order.1 ws view kept (keys_are the_end)
+  of_turns = of_turns_at_end b.layout words the_end w xs home r s is end.shown in_order.0 in_order.1 kept (keys_are the_end)
 
   words_are : words_after b.layout (trace_in (ordered b.layout) end.turns) ≡ (end_of b.layout words the_end).memory
   unfolding the_end
@@ -154,21 +164,30 @@ module _ (b : Board) (w : Hand) (xs : List Account) (home r s : ℕ) (ws : List 
   nodes : (end_of b.layout words the_end).layout.nodes ≡ b.layout.nodes
   nodes = ap (λ (l : Layout). l.nodes) (layout_is b.layout words the_end)
 
+  logs_are : LogsAre (all_joined ws).layout b.layout (trace_in (ordered b.layout) end.turns) (logs (all_joined ws))
+  unfolding the_end
+  logs_are = subst (λ (v : View). LogsAre v.layout b.layout (trace_in (ordered b.layout) end.turns) (logs v)) view (logs_shown b.layout words the_end w xs home r s is end.shown in_order.0 in_order.1)
+
   pub closed : IsClosed b ws w.queues kept free reached
   unfolding ends the_end
   closed = record {
-    words = words;
-    turns = trace_in (ordered b.layout) end.turns;
-    headline = of_turns;
+    says = record {
+      words = words;
+      turns = trace_in (ordered b.layout) end.turns;
+      headline = of_turns;
+      goes_on = goes_on;
+      own = all_joined_alone (all_joined ws).layout b.layout (trace_in (ordered b.layout) end.turns) ws logs_are of_runs;
+      merged = queues;
+      each = in_order.0;
+      all = in_order.1;
+      ascend = ascend_of b.layout end.fits end.turns end.keys kept (keys_are the_end);
+      free_are = free_are the_end ∙ ap (λ (m : Memory). length (filter (λ mark. mark) m.pool)) (sym words_are);
+      reached_are = reached_are the_end ∙ (ap (λ (n : ℕ). length (tree_slots n (end_of b.layout words the_end).memory 1) - 5) nodes ∙ ap (λ (m : Memory). length (tree_slots b.layout.nodes m 1) - 5) (sym words_are));
+      sum = sum_is b.layout words the_end w.queues in_order.1 of_turns.no_hands of_turns.waiting free reached (free_are the_end) (reached_are the_end);
+      rested = settles b.layout words the_end w xs home r s is end.shown in_order.0 in_order.1 ws view some_given;
+      totals = totals_of b.layout end.fits end.turns end.keys kept (set_of b.layout end.fits end.turns end.keys kept (keys_are the_end));
+    };
     same_turns = refl;
     ends = ends;
-    goes_on = goes_on;
-    merged = queues;
-    each = in_order.0;
-    all = in_order.1;
     held = subst (λ (v : View). AreHeld (knowledge v) w.queues) view is.between.queues;
-    ascend = ascend_of b.layout end.fits end.turns end.keys kept (keys_are the_end);
-    free_are = free_are the_end ∙ ap (λ (m : Memory). length (filter (λ mark. mark) m.pool)) (sym words_are);
-    reached_are = reached_are the_end ∙ (ap (λ (n : ℕ). length (tree_slots n (end_of b.layout words the_end).memory 1) - 5) nodes ∙ ap (λ (m : Memory). length (tree_slots b.layout.nodes m 1) - 5) (sym words_are));
-    rested = settles b.layout words the_end w xs home r s is end.shown in_order.0 in_order.1 ws view some_given;
   }

@@ -1,16 +1,19 @@
 -- What the laws of ordered runs say of the keys that are told at a tree's end.
 use Rattle.std.proofs.Common.{◌≡◌, ℕ, zero, suc, ◌<◌, ◌≤◌, inl, inr, List, [], ◌∷◌, refl, sym, ap₂, subst, arith}
 use Rattle.std.specs.Prelude.{◌↔◌, All, AllPairs, Contains}
-use Rattle.nm_edge.specs.Keys.{IsKey}
 use Rattle.nm_edge.specs.Layouts.{Layout, IsLayout}
 use Rattle.nm_model.specs.declared.event.Event.{Event}
+use Rattle.nm_model.specs.declared.event.Op.TheVariants.{Insert, Delete}
 use Rattle.nm_model.specs.Memory.{Memory, infinity_0}
-use Rattle.nm_model.specs.Ordered.{HasKey, ordered, after_in}
+use Rattle.nm_model.specs.Ordered.{HasKey, ordered, after_in, trace_in}
 use Rattle.nm_model.specs.Reports.{keys}
 use Rattle.nm_order.specs.Intervals.{InSet}
-use Rattle.nm_order.specs.Totals.{Agree, NothingIsPending, links_of, flags_of}
+use Rattle.nm_order.specs.Totals.{Agree, links_of}
 use Rattle.nm_order.proofs.OrderedLaws.{each_core_tells_the_set, each_key_ascends}
 use Rattle.nm_order.proofs.TotalsOfRuns.{each_total_is_the_set}
+use Rattle.nm_busy.proofs.PendingTurns.{nothing_is_pending}
+use Rattle.nm_tree.specs.Closing.{KeysAreTheTotals, how_often}
+use Rattle.nm_tree.proofs.TurnTotals.{flags_are, links_are}
 
 pub enough_nodes : (L : Layout) → IsLayout L → 5 ≤ L.nodes
 enough_nodes L fits = let least = fits.least in omega arith
@@ -76,10 +79,14 @@ module _ (L : Layout) (fits : IsLayout L) (turns : List (ℕ × Event)) (for_key
         (λ k has. (set k).1 ((each_core_tells_the_set L (enough_nodes L fits) turns for_keys k).0 has))
 
     -- with no delete pending each key is told as often as it was linked less as often as it was
-    -- flagged
-    pub totals_of : NothingIsPending L turns → (k : ℕ) → IsKey k → Agree (links_of k L turns) (flags_of k L turns) (Contains kept k)
-    totals_of none k is = agree (each_total_is_the_set L (enough_nodes L fits) turns for_keys none k is)
+    -- flagged, both counted on the turns
+    pub totals_of : KeysAreTheTotals L (trace_in (ordered L) turns) kept
+    totals_of none k is = agree
+        (subst (λ (n : ℕ). Agree n (how_often Delete k [] (trace_in (ordered L) turns)) (InSet now k)) (sym (links_are L fits turns for_keys k))
+        (subst (λ (n : ℕ). Agree (links_of k L turns) n (InSet now k)) (sym (flags_are L fits turns for_keys k))
+        (each_total_is_the_set L (enough_nodes L fits) turns for_keys (nothing_is_pending L (enough_nodes L fits) turns for_keys none) k is)))
       where
-        agree : Agree (links_of k L turns) (flags_of k L turns) (InSet now k) → Agree (links_of k L turns) (flags_of k L turns) (Contains kept k)
+        agree : Agree (how_often Insert k [] (trace_in (ordered L) turns)) (how_often Delete k [] (trace_in (ordered L) turns)) (InSet now k)
+            → Agree (how_often Insert k [] (trace_in (ordered L) turns)) (how_often Delete k [] (trace_in (ordered L) turns)) (Contains kept k)
         agree (inl a) = inl (a.0, (set k).1 (a.1, omega (arith, is)))
         agree (inr a) = inr (a.0, λ has. a.1 ((set k).0 has).0)

@@ -24,15 +24,15 @@ use Rattle.nm_theorem.proofs.Hands.{run_hands}
 use Rattle.nm_theorem.proofs.HeadlineOfRuns.{headline}
 use Rattle.nm_theorem.proofs.HistoriesOfRuns.{history_of_run}
 use Rattle.nm_report.specs.Ended.{IsEndOf, end_of}
-use Rattle.nm_steps.specs.declared.view.View.{View}
 use Rattle.nm_steps.specs.Rules.{IsShown, knowledge}
 use Rattle.nm_epoch.specs.declared.collecting.Entry.{Entry}
 use Rattle.nm_epoch.specs.declared.collecting.HeldQueue.{HeldQueue}
 use Rattle.nm_epoch.specs.Collecting.{AreHeld, IsQueueOf, queued}
 use Rattle.nm_tree.specs.declared.worker.Account.{Account}
-use Rattle.nm_tree.specs.Closing.{AreFrom, IsOfTurns, StandsForAll, all_joined}
+use Rattle.nm_tree.specs.Closing.{AreFrom, IsOfTurns}
 use Rattle.nm_tree.specs.Workers.{Hand, IsWorker}
 use Rattle.nm_tree.proofs.EndLaws.{set_of}
+use Rattle.nm_tree.proofs.WonAnswers.{turns_are_of_workers}
 use Rattle.nm_tree.proofs.EndPlaces.{known, none_private}
 
 -- ---- the queues of a report
@@ -72,11 +72,11 @@ module _ (L : Layout) (words : List ℕ) (e : IsEndOf L words) (w : Hand) (xs : 
   no_hands : (u x : ℕ) → has_after (opening L) u x false turns ≡ false
   no_hands u x = run_hands u x L e.fits true e.turns ∙ false_from_ne_true (is_private (of (end_of L words e) u) x) (none_private L words e w xs home r c is is_shown each all u x)
 
-  module _ (ws : List Hand) (view : StandsForAll ws w.pass.view) (kept : List ℕ) (keys_are : kept ≡ keys (end_of L words e)) where
-    pub of_turns_at_end : IsOfTurns L turns words (all_joined ws) w.queues kept
+  module _ (kept : List ℕ) (keys_are : kept ≡ keys (end_of L words e)) where
+    pub of_turns_at_end : IsOfTurns L turns words w.queues kept
     of_turns_at_end = record {
       written = e.words_are ∙ ap (words_of L) (sym (run_words L e.fits true e.turns));
-      shown = subst (λ (v : View). IsShown L turns v) view is_shown;
+      workers = turns_are_of_workers L e.turns;
       headline = headline L e.fits true e.turns e.keys;
       plain_set = history_of_run L e.fits e.turns e.keys;
       waiting = waiting;

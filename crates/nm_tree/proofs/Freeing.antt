@@ -12,7 +12,7 @@ use Rattle.nm_steps.specs.Rules.{knowledge}
 use Rattle.nm_steps.specs.Steps.{Stand, IsSamePass, IsInRun}
 use Rattle.nm_epoch.specs.declared.collecting.Entry.{Entry}
 use Rattle.nm_epoch.specs.declared.collecting.HeldQueue.{HeldQueue}
-use Rattle.nm_epoch.specs.Collecting.{IsQueueOf, AreHeld, NoneHas, HaveLost, KeepsOtherLedgers, KeepsRetired, rest_of, is_ripe}
+use Rattle.nm_epoch.specs.Collecting.{IsQueueOf, AreHeld, NoneHas, HaveLost, AreTrimmed, KeepsOtherLedgers, KeepsRetired, rest_of, is_ripe}
 use Rattle.nm_epoch.specs.Resting.{epochs}
 use Rattle.nm_calls.specs.Won.{capped, won_links, won_flags, won_splices}
 use Rattle.nm_pool.specs.declared.placement.Fit.{Fit}
@@ -22,6 +22,7 @@ use Rattle.nm_tree.specs.Workers.{Hand, IsAs, IsWorker, IsAccount, AreAccounts, 
 use Rattle.nm_tree.proofs.HeldLedgers.{split_in_run, retired_alike}
 use Rattle.nm_tree.proofs.Numbers.{numbers_stay, resigned_stay, room_stays}
 use Rattle.nm_tree.proofs.Quiet.{Quiet, each_as_before}
+use Rattle.nm_tree.proofs.QueueLists.{few_trimmed}
 
 -- a queue that has lost its front is no longer
 lost_front : (epoch : ℕ) (h g : HeldQueue) → g.queue.items ≡ rest_of epoch h.queue.items → length g.queue.items ≤ length h.queue.items
@@ -158,16 +159,17 @@ freed_accounts epoch p q (h ∷ hs) (g ∷ gs) (a ∷ xs) (b ∷ ys) same run qu
 -- ---- a whole worker
 
 pub collected : {r s r' s' : ℕ} {f : Fit} (epoch : ℕ) (w : Hand) (xs ys : List Account) (home : ℕ) (q : Stand) (gs : List HeldQueue) (n : Option Unfinished) (e : Option ℕ) → r' ≡ r → s' ≡ s → IsWorker w xs home r s → IsSamePass w.pass q → IsInRun q
-    → Quiet w.pass.view.log q.view.log → (epochs w.pass).unlabelled ≡ false → HaveLost epoch w.queues gs → AreHeld (knowledge q.view) gs → KeepsOtherLedgers epoch w.queues (knowledge w.pass.view) (knowledge q.view)
+    → Quiet w.pass.view.log q.view.log → (epochs w.pass).unlabelled ≡ false → HaveLost epoch w.queues gs → AreTrimmed w.queues gs → AreHeld (knowledge q.view) gs → KeepsOtherLedgers epoch w.queues (knowledge w.pass.view) (knowledge q.view)
     → KeepsRetired (knowledge w.pass.view) (knowledge q.view) → (knowledge q.view).drafts ≡ (knowledge w.pass.view).drafts → HaveNoted gs xs ys → IsAs q n e
     → IsWorker (record { pass = q; queues = gs; pending = n; held = e; fit = f }) ys home r' s'
-collected {r} {s} {r'} {s'} epoch w xs ys home q gs n e same_room same_account_room is same run quiet' labelled lost held' others retired drafts noted stands =
+collected {r} {s} {r'} {s'} epoch w xs ys home q gs n e same_room same_account_room is same run quiet' labelled lost trimmed held' others retired drafts noted stands =
     let P : ℕ → Type 0 = λ o. QueueStandsAt home o gs in
     record {
       between = record {
         queues = held';
         all = all_still epoch w.pass q w.queues gs labelled lost others is.between.all;
         ascend = ascend_still epoch w.queues gs lost is.between.ascend;
+        blocks = few_trimmed w.queues gs trimmed;
         private = λ slot. ap (λ ds. get ds slot) drafts ∙ is.between.private slot;
         stands = stands;
       };

@@ -1,9 +1,15 @@
+pub mod WonAnswers
+pub mod TurnTotals
+pub mod JoinsAlone
 pub mod QueueLists
 pub mod Quiet
 pub mod HeldLedgers
 pub mod Numbers
 pub mod Staying
 pub mod Changing
+pub mod FlaggedSeen
+pub mod Disturbed
+pub mod Missing
 pub mod OwnQueue
 pub mod Freeing
 pub mod Opening
@@ -21,3 +27,5 @@ pub mod RunningTurns
 pub mod Closed
 pub mod EndCounts
 pub mod OfClosed
+pub mod Taking
+pub mod WorkedPending

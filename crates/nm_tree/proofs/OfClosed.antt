@@ -1,13 +1,15 @@
 -- What follows of each closed tree: its queues are the rest of the cuts, each slot stands once, its
 -- report is as a core tells, and its run is as every run.
-use Rattle.std.proofs.Common.{◌≡◌, ℕ, zero, suc, ◌<◌, ◌≤◌, inl, inr, true, List, [], ◌∷◌, ◌++◌, map, length, append-nil, refl, sym, ap, ◌∙◌, subst, arith, true≢false}
-use Rattle.std.specs.Prelude.{◌↔◌, ◌-◌, Contains, Some, false, filter, option_map, slice_get}
-use Rattle.std.proofs.lemmas.Bool.{cases_lt}
+use Rattle.std.proofs.Common.{◌≡◌, ℕ, zero, suc, ◌<◌, ◌≤◌, inl, inr, ◌==◌, Bool, true, not, List, [], ◌∷◌, ◌++◌, map, length, append-nil, refl, sym, ap, ◌∙◌, subst, arith, true≢false}
+use Rattle.std.specs.Prelude.{◌↔◌, ◌-◌, Contains, Result, Ok, Err, Some, false, filter, if◌then◌else◌, option_map, slice_get}
+use Rattle.std.proofs.lemmas.Bool.{cases_lt, eqb-true}
 use Rattle.std.proofs.lemmas.Option.{none-some, same_Some}
 use Rattle.nm_edge.specs.declared.node.NodeId.{NodeId}
 use Rattle.nm_edge.specs.Layouts.{Layout}
+use Rattle.nm_model.specs.declared.reply.Reply.{Reply}
+use Rattle.nm_model.specs.declared.reply.Refused.{Refused}
 use Rattle.nm_model.specs.declared.trace.Turn.{Turn}
-use Rattle.nm_model.specs.Headline.{StandsAt, Place, has_after, waits_of, freed_of, words_after}
+use Rattle.nm_model.specs.Headline.{StandsAt, Place, cuts_of, freed_by, has_after, is_among, nodes_cut_of, waits_of, freed_of, words_after}
 use Rattle.nm_model.specs.Headline.Place.{InPool, InHands, OnPath as ByPath, Waits}
 use Rattle.nm_order.specs.History.{RunHasHistory}
 use Rattle.nm_order.specs.Intervals.{InSet}
@@ -17,21 +19,21 @@ use Rattle.nm_order.proofs.HistoryLaws.{each_run_has_a_history}
 use Rattle.nm_order.proofs.TotalsOfRuns.{each_total_agrees}
 use Rattle.nm_order.proofs.TotalsOfLogs.{totals_are_in_the_logs}
 use Rattle.nm_model.specs.Memory.{Memory, infinity_0, opening}
-use Rattle.nm_model.specs.Ordered.{ordered, trace_in}
-use Rattle.nm_model.specs.Reports.{counts, tree_slots}
-use Rattle.nm_theorem.proofs.FreedOfRuns.{past_waits}
+use Rattle.nm_model.specs.Ordered.{ordered, after_in, trace_in}
+use Rattle.nm_model.specs.Reports.{counts, keys, tree_slots}
 use Rattle.nm_theorem.proofs.WrittenWords.{run_words}
 use Rattle.nm_report.specs.Ended.{IsEndOf, end_of}
 use Rattle.nm_report.proofs.Ends.{layout_is}
 use Rattle.nm_epoch.specs.declared.collecting.Entry.{Entry}
 use Rattle.nm_epoch.specs.declared.collecting.HeldQueue.{HeldQueue}
 use Rattle.nm_steps.specs.Steps.{Board}
-use Rattle.nm_tree.specs.Workers.{Hand}
-use Rattle.nm_tree.specs.Closing.{AllSlotsAreTold, AllWereGiven, EachSlotEndsOnce, EndPlace, EndsAt, EndsOnce, IsAsACoreTells, IsClosed, KeysAreTheTotals, OfEachClosed, OfEachClosedRun, OfEachReport, QueuesAreTheRest}
+use Rattle.nm_tree.specs.Running.{AreOfWorkers}
+use Rattle.nm_tree.specs.Workers.{Hand, waiting_in}
+use Rattle.nm_tree.specs.Closing.{AllWereGiven, EachReportIsACores, EachSlotEndsOnce, EndPlace, EndsAt, EndsOnce, IsClosed, OfEachClosed, OfEachClosedRun, QueuesAreTheRest, SaysClosed}
 use Rattle.nm_tree.specs.Closing.EndPlace.{Free, OnPath, Waiting}
 use Rattle.nm_tree.proofs.Closed.{all_given}
-use Rattle.nm_tree.proofs.EndCounts.{counts_are, sum_is}
-use Rattle.nm_tree.proofs.EndLaws.{enough_nodes, keys_of, totals_of}
+use Rattle.nm_tree.proofs.EndCounts.{counts_are}
+use Rattle.nm_tree.proofs.EndLaws.{enough_nodes, keys_of}
 
 -- ---- entries of a queue, and its nodes
 
@@ -76,9 +78,19 @@ there_and_back Free = refl
 there_and_back (OnPath path) = refl
 there_and_back (Waiting w i) = refl
 
-module _ (b : Board) (ws : List Hand) (queues : List HeldQueue) (kept : List ℕ) (free reached : ℕ) (is : IsClosed b ws queues kept free reached) where
+-- by turns of the tree's workers nothing is cut by any other
+cuts_nothing : (L : Layout) (w : ℕ) → L.workers ≤ w → (ts : List Turn) → AreOfWorkers L ts → cuts_of w ts ≡ []
+cuts_nothing L w past [] staffed = refl
+cuts_nothing L w past (t ∷ ts) staffed = ap (λ (ns : List NodeId). (if t.worker == w then nodes_cut_of t.outcome else []) ++ ns) (cuts_nothing L w past ts (λ u r there is. staffed u r (suc there.0, (let less = there.1 in omega (arith, less)), there.2) is)) ∙ (append-nil _ ∙ own (t.worker == w) refl t.outcome refl)
+  where
+    own : (c : Bool) → (t.worker == w) ≡ c → (o : Result Reply Refused) → t.outcome ≡ o → (if c then nodes_cut_of o else []) ≡ []
+    own false other o is = refl
+    own true same (Err x) is = refl
+    own true same (Ok r) is = absurd (let less = staffed t r (zero, omega arith, refl) is in let at = eqb-true t.worker w same in omega (arith, past, less, at))
+
+module _ (b : Board) (ws : List Hand) (queues : List HeldQueue) (kept : List ℕ) (free reached : ℕ) (is : SaysClosed b ws queues kept free reached) where
   no_waits : (w : ℕ) → length queues ≤ w → waits_of w is.turns ≡ []
-  no_waits w past = ap (waits_of w) is.same_turns ∙ past_waits b.layout is.ends.fits true is.ends.turns w (let all = is.all in omega (arith, all, past))
+  no_waits w past = ap (λ (ns : List NodeId). filter (λ n. not (is_among (freed_by is.turns) n)) ns) (cuts_nothing b.layout w (let all = is.all in omega (arith, all, past)) is.turns is.headline.workers)
 
   ends : (x : ℕ) (p : Place) → StandsAt b.layout is.turns x p → EndsAt (words_after b.layout is.turns) queues x (forth p)
   unfolding forth
@@ -119,6 +131,11 @@ pub queues_are_the_rest : OfEachClosed QueuesAreTheRest
 queues_are_the_rest b ws queues kept free reached is w h at =
     ap (λ (ns : List NodeId). freed_of w is.turns ++ ns) (is.headline.waiting w h at) ∙ (is.headline.headline.queues is.turns [] (sym (append-nil is.turns))).queues w
 
+pub all_were_given : AllWereGiven
+all_were_given b ws queues kept free reached is = sym (all_given ws) ∙ (ap (λ (hs : List HeldQueue). length hs) (sym is.merged) ∙ is.all)
+
+-- ---- of its run
+
 pub each_closed_run_has_a_history : OfEachClosedRun RunHasHistory
 each_closed_run_has_a_history b ws queues kept free reached is = each_run_has_a_history b.layout (enough_nodes b.layout is.ends.fits) is.ends.turns is.ends.keys
 
@@ -128,52 +145,38 @@ each_closed_total_agrees b ws queues kept free reached is = each_total_agrees b.
 pub each_closed_log : OfEachClosedRun TotalsAreInTheLogs
 each_closed_log b ws queues kept free reached is = totals_are_in_the_logs b.layout (enough_nodes b.layout is.ends.fits) is.ends.turns is.ends.keys
 
-pub all_were_given : AllWereGiven
-all_were_given b ws queues kept free reached is = sym (all_given ws) ∙ (ap (λ (hs : List HeldQueue). length hs) (sym is.merged) ∙ is.all)
-
 -- ---- what the report tells
 
 module _ (b : Board) (ws : List Hand) (queues : List HeldQueue) (kept : List ℕ) (free reached : ℕ) (is : IsClosed b ws queues kept free reached) where
-  abbrev the_end : IsEndOf b.layout is.words
+  abbrev the_end : IsEndOf b.layout is.says.words
   the_end = record { fits = is.ends.fits; turns = is.ends.turns; keys = is.ends.keys; words_are = is.ends.words_are }
 
   abbrev run_turns : List Turn
   run_turns = trace_in (ordered b.layout) is.ends.turns
 
   -- the words that the turns have written are those at the run's end
-  now : words_after b.layout is.turns ≡ (end_of b.layout is.words the_end).memory
+  now : words_after b.layout is.says.turns ≡ (end_of b.layout is.says.words the_end).memory
   now = ap (words_after b.layout) is.same_turns ∙ run_words b.layout is.ends.fits true is.ends.turns
 
-  set : (k : ℕ) → Contains kept k ↔ InSet (end_of b.layout is.words the_end).memory k × (k < infinity_0)
-  set k = subst (λ (m : Memory). Contains kept k ↔ InSet m k × (k < infinity_0)) now (is.headline.set k)
+  set : (k : ℕ) → Contains kept k ↔ InSet (end_of b.layout is.says.words the_end).memory k × (k < infinity_0)
+  set k = subst (λ (m : Memory). Contains kept k ↔ InSet m k × (k < infinity_0)) now (is.says.headline.set k)
 
   no_hands : (w x : ℕ) → has_after (opening b.layout) w x false run_turns ≡ false
-  no_hands w x = ap (has_after (opening b.layout) w x false) (sym is.same_turns) ∙ is.headline.no_hands w x
+  no_hands w x = ap (has_after (opening b.layout) w x false) (sym is.same_turns) ∙ is.says.headline.no_hands w x
 
   waiting : (w : ℕ) (h : HeldQueue) → slice_get queues w ≡ Some h → map (λ (e : Entry). e.node) h.queue.items ≡ waits_of w run_turns
-  waiting w h at = is.headline.waiting w h at ∙ ap (waits_of w) is.same_turns
+  waiting w h at = is.says.headline.waiting w h at ∙ ap (waits_of w) is.same_turns
 
-  pool : free ≡ (counts (end_of b.layout is.words the_end)).pool
-  pool = is.free_are ∙ ap (λ (m : Memory). length (filter (λ mark. mark) m.pool)) now
+  pool : free ≡ (counts (end_of b.layout is.says.words the_end)).pool
+  pool = is.says.free_are ∙ ap (λ (m : Memory). length (filter (λ mark. mark) m.pool)) now
 
-  tree : reached ≡ (counts (end_of b.layout is.words the_end)).reached
-  tree = is.reached_are ∙ (ap (λ (m : Memory). length (tree_slots b.layout.nodes m 1) - 5) now
-      ∙ ap (λ (n : ℕ). length (tree_slots n (end_of b.layout is.words the_end).memory 1) - 5) (sym (ap (λ (l : Layout). l.nodes) (layout_is b.layout is.words the_end))))
+  tree : reached ≡ (counts (end_of b.layout is.says.words the_end)).reached
+  tree = is.says.reached_are ∙ (ap (λ (m : Memory). length (tree_slots b.layout.nodes m 1) - 5) now
+      ∙ ap (λ (n : ℕ). length (tree_slots n (end_of b.layout is.says.words the_end).memory 1) - 5) (sym (ap (λ (l : Layout). l.nodes) (layout_is b.layout is.says.words the_end))))
 
-  all_told : AllSlotsAreTold b.layout is.ends.turns queues kept free reached
-  all_told = sum_is b.layout is.words the_end queues is.all no_hands waiting free reached pool tree
+  as_a_core : (kept ≡ keys (after_in (ordered b.layout) is.ends.turns).state)
+      × (counts (after_in (ordered b.layout) is.ends.turns).state ≡ record { pool = free; private = 0; reached = reached; queued = waiting_in queues })
+  as_a_core = (keys_of b.layout is.ends.fits is.ends.turns is.ends.keys kept set is.says.ascend, counts_are b.layout is.says.words the_end queues is.says.all no_hands waiting free reached pool tree)
 
-  as_a_core : IsAsACoreTells b.layout is.ends.turns queues kept free reached
-  as_a_core = (keys_of b.layout is.ends.fits is.ends.turns is.ends.keys kept set is.ascend, counts_are b.layout is.words the_end queues is.all no_hands waiting free reached pool tree)
-
-  totals : KeysAreTheTotals b.layout is.ends.turns queues kept free reached
-  totals = totals_of b.layout is.ends.fits is.ends.turns is.ends.keys kept set
-
-pub all_slots_are_told : OfEachReport AllSlotsAreTold
-all_slots_are_told b ws queues kept free reached is = all_told b ws queues kept free reached is
-
-pub each_report_is_a_cores : OfEachReport IsAsACoreTells
+pub each_report_is_a_cores : EachReportIsACores
 each_report_is_a_cores b ws queues kept free reached is = as_a_core b ws queues kept free reached is
-
-pub keys_are_the_totals : OfEachReport KeysAreTheTotals
-keys_are_the_totals b ws queues kept free reached is = totals b ws queues kept free reached is

@@ -13,7 +13,8 @@ use Rattle.nm_steps.specs.Rules.{knowledge}
 use Rattle.nm_steps.specs.Steps.{Board, Stand, AreFresh, fresh_view}
 use Rattle.nm_epoch.specs.declared.collecting.Entry.{Entry}
 use Rattle.nm_epoch.specs.declared.collecting.HeldQueue.{HeldQueue}
-use Rattle.nm_epoch.specs.Collecting.{IsQueueOf}
+use Rattle.nm_epoch.specs.Collecting.{IsQueueOf, HasFewBlocks}
+use Rattle.nm_limbo.specs.Queue.{BlockQueue, block_queue}
 use Rattle.nm_calls.specs.Fresh.{HasDoneNothing}
 use Rattle.nm_calls.specs.Won.{capped, won_links, won_flags, won_splices}
 use Rattle.nm_pool.specs.declared.placement.Fit.{Fit}
@@ -46,9 +47,10 @@ fresh_account p h d own empty =
       split = omega (arith, none', r, f);
     }
 
-pub new_worker : (f : Fit) (p : Stand) (h : HeldQueue) (r s : ℕ) → HasDoneNothing p → h.origin ≡ p.view.number → h.queue.items ≡ [] → p.view.others ≡ [] → p.view.spent ≡ false → p.view.layout.workers ≤ r → p.view.layout.workers ≤ s
+pub new_worker : (f : Fit) (p : Stand) (h : HeldQueue) (r s : ℕ) → HasDoneNothing p → h.origin ≡ p.view.number → h.queue ≡ block_queue [] 0 0 → p.view.others ≡ [] → p.view.spent ≡ false → p.view.layout.workers ≤ r → p.view.layout.workers ≤ s
     → IsWorker (record { pass = p; queues = h ∷ []; pending = None; held = None; fit = f }) (blank h.origin ∷ []) 0 r s
-new_worker f p h r s d own empty alone alive room account_room =
+new_worker f p h r s d own blank' alone alive room account_room =
+    let empty : h.queue.items ≡ [] = ap (λ (q : BlockQueue Entry). q.items) blank' in
     let queue : IsQueueOf (knowledge p.view) h.origin h.queue.items =
     let P : ℕ → Type 0 = λ o. IsQueueOf (knowledge p.view) o h.queue.items in
     let Q : List Entry → Type 0 = λ es. IsQueueOf (knowledge p.view) p.view.number es in
@@ -59,7 +61,7 @@ new_worker f p h r s d own empty alone alive room account_room =
       | inr is ↦ absurd (not_some (held (knowledge p.view).ledgers o) (d.others o is.1) some')
     ] in
     record {
-      between = record { queues = (queue, tt, tt); all = one; ascend = tt; private = d.private; stands = d.rests };
+      between = record { queues = (queue, tt, tt); all = one; ascend = tt; blocks = (let P : BlockQueue Entry → Type 0 = λ q. HasFewBlocks q in subst P (sym blank') (record { spare = omega arith; blocks = omega arith }), tt); private = d.private; stands = d.rests };
       accounts = (fresh_account p h d own empty, tt);
       few = omega arith;
       own = own;

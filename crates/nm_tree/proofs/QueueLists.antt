@@ -1,15 +1,19 @@
 -- The queues that a worker holds, one of which is its own.
-use Rattle.std.proofs.Common.{◌≡◌, ◌≢◌, ℕ, zero, suc, ◌<◌, inl, inr, List, [], ◌∷◌, length, refl, sym, ap, ◌∙◌, subst, arith}
-use Rattle.std.specs.Prelude.{slice_index_or, slice_set}
+use Rattle.std.proofs.Common.{◌≡◌, ◌≢◌, ℕ, zero, suc, ◌+◌, ◌*◌, ◌<◌, ◌≤◌, Bool, true, false, inl, inr, List, [], ◌∷◌, length, refl, sym, ap, ◌∙◌, subst, arith}
+use Rattle.std.specs.Prelude.{slice_index_or, slice_set, nat_lt, if◌then◌else◌}
+use Rattle.std.proofs.lemmas.List.Sums.{sum_by-cons}
 use Rattle.nm_model.specs.Knowledge.{Knowledge}
 use Rattle.nm_model.specs.Ledgers.{held}
 use Rattle.nm_epoch.specs.declared.collecting.HeldQueue.{HeldQueue}
-use Rattle.nm_epoch.specs.Collecting.{IsQueueOf, AreHeld, NoneHas}
+use Rattle.nm_limbo.specs.Queue.{BlockQueue}
+use Rattle.nm_epoch.specs.declared.collecting.Entry.{Entry}
+use Rattle.nm_epoch.specs.Collecting.{IsQueueOf, AreHeld, NoneHas, HasFewBlocks, AreTrimmed}
 use Rattle.nm_epoch.proofs.SeveralQueues.{queue_stays}
 use Rattle.nm_calls.specs.Bounds.{cut_bound}
 use Rattle.nm_calls.specs.Rooms.{TakesRoom}
+use Rattle.nm_tree.specs.Resigning.{inserted, merged}
 use Rattle.nm_calls.proofs.Rooms.{takes_none}
-use Rattle.nm_tree.specs.Workers.{TakeRoom, HasLittleRoom, HasOrigin, AreAbove, Ascend, QueueStandsAt, KeepsOtherQueues}
+use Rattle.nm_tree.specs.Workers.{TakeRoom, HaveFewBlocks, AreFewIn, blocks_in, waiting_in, HasLittleRoom, HasOrigin, AreAbove, Ascend, QueueStandsAt, KeepsOtherQueues}
 
 -- an index at which a queue stands is one of the list, and the queue there is that one
 pub stands_within : (i o : ℕ) (hs : List HeldQueue) → QueueStandsAt i o hs → i < length hs
@@ -118,3 +122,53 @@ pub room_after : (i o : ℕ) (hs : List HeldQueue) (h g : HeldQueue) → QueueSt
 room_after i o [] h g s e takes = absurd s
 room_after zero o (x ∷ hs) h g s e takes = let P : HeldQueue → Type 0 = λ y. TakesRoom y.queue g.queue in (subst P e takes, room_stays hs)
 room_after (suc i) o (x ∷ hs) h g s e takes = (takes_none x.queue, room_after i o hs h g s e takes)
+
+-- ---- few blocks
+
+-- what a call takes leaves few
+takes_few : (q r : BlockQueue Entry) → TakesRoom q r → HasFewBlocks q → HasFewBlocks r
+takes_few q r (inl fills) few =
+    let blocks = fills.blocks in
+    let places = fills.places in
+    let less = fills.spare in
+    let spare = few.spare in
+    let all = few.blocks in
+    record { spare = omega (arith, less, spare); blocks = omega (arith, blocks, places, all) }
+takes_few q r (inr just) few =
+    let spare = just.spare in
+    record { spare = omega (arith, spare); blocks = just.blocks }
+
+pub few_after : (i o : ℕ) (hs : List HeldQueue) (h g : HeldQueue) → QueueStandsAt i o hs → h ≡ slice_index_or hs i h → TakesRoom h.queue g.queue → HaveFewBlocks hs → HaveFewBlocks (slice_set hs i g)
+few_after i o [] h g s e takes few = absurd s
+few_after zero o (x ∷ hs) h g s e takes few = let P : HeldQueue → Type 0 = λ y. HasFewBlocks y.queue in (takes_few h.queue g.queue takes (subst P (sym e) few.0), few.1)
+few_after (suc i) o (x ∷ hs) h g s e takes few = (few.0, few_after i o hs h g s e takes few.1)
+
+pub few_trimmed : (hs gs : List HeldQueue) → AreTrimmed hs gs → HaveFewBlocks gs
+few_trimmed [] [] are = tt
+few_trimmed [] (g ∷ gs) are = absurd are
+few_trimmed (h ∷ hs) [] are = absurd are
+few_trimmed (h ∷ hs) (g ∷ gs) are = (are.0.few, few_trimmed hs gs are.1)
+
+few_inserted : (g : HeldQueue) (hs : List HeldQueue) → HasFewBlocks g.queue → HaveFewBlocks hs → HaveFewBlocks (inserted g hs)
+few_inserted g [] one few = (one, tt)
+few_inserted g (h ∷ hs) one few = by (nat_lt h.origin g.origin) (few_inserted g hs one few.1)
+  where
+    by : (b : Bool) → HaveFewBlocks (inserted g hs) → HaveFewBlocks (if b then h ∷ inserted g hs else g ∷ h ∷ hs)
+    by true behind = (few.0, behind)
+    by false behind = (one, few)
+
+pub few_merged : (hs gs : List HeldQueue) → HaveFewBlocks hs → HaveFewBlocks gs → HaveFewBlocks (merged hs gs)
+few_merged hs [] few more = few
+few_merged hs (g ∷ gs) few more = few_inserted g (merged hs gs) more.0 (few_merged hs gs few more.1)
+
+-- and they are few together
+pub few_in_all : (hs : List HeldQueue) → HaveFewBlocks hs → AreFewIn (blocks_in hs) hs
+few_in_all [] few = omega arith
+few_in_all (h ∷ hs) few =
+    let rest = few_in_all hs few.1 in
+    let spare = few.0.spare in
+    let blocks = few.0.blocks in
+    let all = sum_by-cons (λ (x : HeldQueue). x.queue.blocks) h hs in
+    let waits = sum_by-cons (λ (x : HeldQueue). length x.queue.items) h hs in
+    let one : length (h ∷ hs) ≡ suc (length hs) = refl in
+    omega (arith, rest, spare, blocks, all, waits, one)

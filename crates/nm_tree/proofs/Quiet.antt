@@ -1,6 +1,7 @@
 -- Parts of a log in which nothing was won.
 use Rattle.std.proofs.Common.{◌≡◌, inl, inr, ℕ, zero, suc, Bool, true, false, List, [], ◌∷◌, ◌++◌, refl, sym, ap, ◌∙◌, arith, subst}
 use Rattle.std.specs.Prelude.{Option, Some, map, if◌then◌else◌, ◌==◌, Result, Ok, Err, IfOk, IfErr}
+use Rattle.nm_edge.specs.Layouts.{Layout}
 use Rattle.nm_model.specs.declared.event.Event.TheVariants as event
 use Rattle.nm_model.specs.declared.event.Op.TheVariants.{Has}
 use Rattle.nm_model.specs.declared.reply.Reply.{Reply}
@@ -48,22 +49,22 @@ quiet_then old mid new a b = record { links = b.links ∙ a.links; flags = b.fla
 
 -- ---- a look-up
 
-pub looked_up : (nodes tries k : ℕ) (old new : List Entry) (b : Bool) → HasDid nodes tries k old new b → Quiet old new
-looked_up nodes tries k old new b d =
+pub looked_up : (L : Layout) (tries k : ℕ) (old new : List Entry) (b : Bool) → HasDid L tries k old new b → Quiet old new
+looked_up L tries k old new b d =
     quiet_then old d.pinned new (quiet old d.pinned (pin_adds Has k tries old d.pinned d.epoch d.pin))
-    (quiet_then d.pinned d.begun new (quiet d.pinned d.begun (lost_walks_add nodes k d.broken d.pinned d.begun d.lost))
-    (quiet_then d.begun d.ended new (quiet d.begun d.ended (end_adds nodes k d.begun d.ended d.spot d.chain d.key d.walk)) (quiet d.ended new (adds_these _ d.ended new d.leaves))))
+    (quiet_then d.pinned d.begun new (quiet d.pinned d.begun (lost_walks_add L k d.broken d.pinned d.begun d.lost))
+    (quiet_then d.begun d.ended new (quiet d.begun d.ended (end_adds L k d.begun d.ended d.spot d.chain d.key d.walk)) (quiet d.ended new (adds_these _ d.ended new d.leaves))))
 
-pub missed : (nodes tries k : ℕ) (old new : List Entry) → HasMissed nodes tries k old new → Quiet old new
-missed nodes zero k old new m = quiet_none old new m
-missed nodes (suc t) k old new (inl moved) = quiet old new (moved_adds Has k (suc t) old new moved)
-missed nodes (suc t) k old new (inr m) =
+pub missed : (L : Layout) (tries k : ℕ) (old new : List Entry) → HasMissed L tries k old new → Quiet old new
+missed L zero k old new m = quiet_none old new m
+missed L (suc t) k old new (inl moved) = quiet old new (moved_adds Has k (suc t) old new moved)
+missed L (suc t) k old new (inr m) =
     quiet_then old m.0 new (quiet old m.0 (pin_adds Has k (suc t) old m.0 m.2 m.3))
-    (quiet_then m.0 m.1 new (quiet m.0 m.1 (lost_walks_add nodes k (suc t) m.0 m.1 m.4)) (quiet m.1 new (adds_these _ m.1 new m.5)))
+    (quiet_then m.0 m.1 new (quiet m.0 m.1 (lost_walks_add L k (suc t) m.0 m.1 m.4)) (quiet m.1 new (adds_these _ m.1 new m.5)))
 
-pub has_quiet : (nodes tries k : ℕ) (old new : List Entry) (r : Result Bool Busy) → IfOk r (λ b. HasDid nodes tries k old new b) → IfErr r (λ e. HasMissed nodes tries k old new) → Quiet old new
-has_quiet nodes tries k old new (Ok b) did none' = looked_up nodes tries k old new b did
-has_quiet nodes tries k old new (Err e) did none' = missed nodes tries k old new none'
+pub has_quiet : (L : Layout) (tries k : ℕ) (old new : List Entry) (r : Result Bool Busy) → IfOk r (λ b. HasDid L tries k old new b) → IfErr r (λ e. HasMissed L tries k old new) → Quiet old new
+has_quiet L tries k old new (Ok b) did none' = looked_up L tries k old new b did
+has_quiet L tries k old new (Err e) did none' = missed L tries k old new none'
 
 -- ---- pins of the caller
 

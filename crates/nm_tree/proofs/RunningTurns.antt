@@ -18,14 +18,16 @@ use Rattle.nm_steps.specs.Steps.{HasSeen}
 use Rattle.nm_epoch.specs.declared.collecting.Entry.{Entry as Waiting}
 use Rattle.nm_epoch.specs.declared.collecting.HeldQueue.{HeldQueue}
 use Rattle.nm_epoch.specs.Collecting.{IsCollection, freeing, ripe_of}
-use Rattle.nm_model.specs.Headline.{nodes_freed_of, freed_by}
+use Rattle.nm_model.specs.Headline.{Headline, nodes_freed_of, freed_by}
+use Rattle.nm_theorem.specs.Histories.{HasHistory}
 use Rattle.nm_theorem.proofs.LeftSince.{readers_have_left}
 use Rattle.nm_model.specs.Ordered.{ordered, trace_in}
 use Rattle.nm_words.specs.Packing.{words_of}
 use Rattle.nm_theorem.proofs.WrittenWords.{run_words}
 use Rattle.nm_theorem.proofs.HeadlineOfRuns.{headline}
 use Rattle.nm_theorem.proofs.HistoriesOfRuns.{history_of_run}
-use Rattle.nm_tree.specs.Running.{EachMomentIsOfTurns, HasSeenTurns, IsFreedInGrace, turns_seen}
+use Rattle.nm_tree.specs.Running.{AreOfWorkers, EachMomentIsOfTurns, HasSeenTurns, IsFreedInGrace, TrueAnswersHaveWon}
+use Rattle.nm_tree.proofs.WonAnswers.{true_answers_have_won, turns_are_of_workers}
 
 pub each_moment_is_of_turns : EachMomentIsOfTurns
 each_moment_is_of_turns L s r = record {
@@ -41,8 +43,10 @@ each_moment_is_of_turns L s r = record {
 pub has_seen_turns : (v : View) → IsLayout v.layout → HasSeen v → HasSeenTurns v
 has_seen_turns v fits seen = record {
   own = seen.is_part;
-  headline = headline v.layout fits true v.past seen.keys;
-  plain_set = history_of_run v.layout fits v.past seen.keys;
+  workers = subst (AreOfWorkers v.layout) (sym seen.are) (turns_are_of_workers v.layout seen.events);
+  won = subst TrueAnswersHaveWon (sym seen.are) (true_answers_have_won v.layout fits seen.events seen.keys);
+  headline = subst (Headline v.layout) (sym seen.are) (headline v.layout fits true seen.events seen.keys);
+  plain_set = subst (HasHistory v.layout) (sym seen.are) (history_of_run v.layout fits seen.events seen.keys);
 }
 
 -- what a log tells as freed, its turns have freed
@@ -79,8 +83,8 @@ collected_in_grace v old epoch hs fits seen c = λ i d below. of_one (slice_inde
     logged : (e : Waiting) → Contains (ripe_of epoch hs) e → Contains v.log (freeing e)
     logged e there = subst (λ (log : List Entry). Contains log (freeing e)) (sym c.2) (Contains-append_right c.0 (map freeing (ripe_of epoch hs)) (freeing e) (in_map (ripe_of epoch hs) e there))
 
-    freed : (e : Waiting) → Contains (ripe_of epoch hs) e → Contains (freed_by (turns_seen v)) e.node
-    freed e there = freed_by_turns v.number (turns_seen v) e.node.slot e.node (subst (λ (log : List Entry). Contains log (freeing e)) (sym seen.is_part) (logged e there))
+    freed : (e : Waiting) → Contains (ripe_of epoch hs) e → Contains (freed_by v.past) e.node
+    freed e there = freed_by_turns v.number v.past e.node.slot e.node (subst (λ (log : List Entry). Contains log (freeing e)) (sym seen.is_part) (logged e there))
 
     of_one : (e : Waiting) → Contains (ripe_of epoch hs) e → IsFreedInGrace v e.node
-    of_one e there = record { freed = freed e there; left = readers_have_left v.layout (turns_seen v) (headline v.layout fits true v.past seen.keys) e.node (freed e there) }
+    of_one e there = record { freed = freed e there; left = readers_have_left v.layout v.past (has_seen_turns v fits seen).headline e.node (freed e there) }

@@ -2,7 +2,7 @@
 use Rattle.std.proofs.Common.{◌≡◌, ℕ, ◌+◌, ◌≤◌, inl, inr, false, List, [], ◌∷◌, Option, Some, None, length, refl, sym, ap, ◌∙◌, subst}
 use Rattle.std.specs.Prelude.{IsSome, is_some, unwrap_or}
 use Rattle.nm_edge.specs.Layouts.{Layout}
-use Rattle.nm_model.specs.declared.event.Event.{Event}
+use Rattle.nm_model.specs.declared.trace.Turn.{Turn}
 use Rattle.nm_model.specs.declared.ledger.Ledger.{Ledger}
 use Rattle.nm_model.specs.declared.knowledge.Seen.{Seen}
 use Rattle.nm_model.specs.Knowledge.{Knowledge, unread}
@@ -13,7 +13,8 @@ use Rattle.nm_steps.specs.Rules.{knowledge}
 use Rattle.nm_steps.specs.Steps.{Stand, IsSamePass}
 use Rattle.nm_epoch.specs.declared.collecting.HeldQueue.{HeldQueue}
 use Rattle.nm_epoch.specs.Collecting.{AreHeld}
-use Rattle.nm_epoch.specs.Resting.{IsResting, IsSettled, Settles, IsPinnedAt, epochs}
+use Rattle.std.proofs.lemmas.Option.{none-some}
+use Rattle.nm_epoch.specs.Resting.{IsResting, IsSettled, Settles, IsPinnedAt, epochs, search}
 use Rattle.nm_epoch.proofs.SeveralQueues.{queue_stays}
 use Rattle.nm_calls.specs.Deletes.{IsRemoving}
 use Rattle.nm_calls.specs.Telling.{IsInRun}
@@ -69,6 +70,7 @@ stays {r} {s} w xs home q n e is same none' drafts ledgers stands =
         queues = all_held (knowledge w.pass.view) (knowledge q.view) w.queues ledgers is.between.queues;
         all = λ o some'. let Q : List (Option Ledger) → Type 0 = λ ls. IsSome (held ls o) in is.between.all o (subst Q ledgers some');
         ascend = is.between.ascend;
+        blocks = is.between.blocks;
         private = λ slot. ap (λ ds. get ds slot) drafts ∙ is.between.private slot;
         stands = stands;
       };
@@ -151,10 +153,10 @@ removing_in p s n is removing = let P : Standing → Type 0 = λ x. IsAs p (pend
 -- ---- a worker that has seen more
 
 -- the same pass, with this as what it has seen
-abbrev pub seeing : List (ℕ × Event) → Stand → Stand
+abbrev pub seeing : List Turn → Stand → Stand
 seeing past p = record p { view = record p.view { past = past } }
 
-as_was : (past : List (ℕ × Event)) (p : Stand) (n : Option Unfinished) (e : Option ℕ) → IsAs p n e → IsAs (seeing past p) n e
+as_was : (past : List Turn) (p : Stand) (n : Option Unfinished) (e : Option ℕ) → IsAs p n e → IsAs (seeing past p) n e
 as_was past p None None is = record { unpinned = is.unpinned; silent = is.silent; labelled = is.labelled; idle = is.idle }
 as_was past p None (Some e) is = record { note = is.note; pin = is.pin; labelled = is.labelled; search = is.search }
 as_was past p (Some n) None is = record {
@@ -170,6 +172,12 @@ as_was past p (Some n) None is = record {
 as_was past p (Some n) (Some e) is = absurd is
 
 -- it has done nothing, and is a worker as it was
-pub sees_more : {r s : ℕ} (past : List (ℕ × Event)) (w : Hand) (xs : List Account) (home : ℕ) → IsWorker w xs home r s → IsWorker (record w { pass = seeing past w.pass }) xs home r s
+pub sees_more : {r s : ℕ} (past : List Turn) (w : Hand) (xs : List Account) (home : ℕ) → IsWorker w xs home r s → IsWorker (record w { pass = seeing past w.pass }) xs home r s
 sees_more past w xs home is =
     stays w xs home (seeing past w.pass) w.pending w.held is refl (record { links = refl; flags = refl; splices = refl }) refl refl (as_was past w.pass w.pending w.held is.between.stands)
+
+-- a worker with no delete pending has no call
+pub no_call_open : (p : Stand) (u : Option Unfinished) (e : Option ℕ) → IsAs p u e → u ≡ None → (search p).call ≡ None
+no_call_open p None None is none' = ap (λ (s : Search). s.call) is.idle
+no_call_open p None (Some e) is none' = ap (λ (s : Search). s.call) is.search
+no_call_open p (Some n) e is none' = absurd (none-some n (sym none'))

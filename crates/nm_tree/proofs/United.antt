@@ -32,6 +32,7 @@ use Rattle.nm_tree.specs.Workers.{Hand, IsBetweenCalls, IsWorker, AreAccounts, H
 use Rattle.nm_tree.specs.Resigning.{place_in, merged, merged_accounts}
 use Rattle.nm_tree.proofs.Heirs.{logs, knows, first_held, second_held, none_apart, first_accounts, second_accounts, held_by_one}
 use Rattle.nm_tree.proofs.Merging.{length-merged, has_merged, merged_has, ascend_merged, held_merged, accounts_merged, stands_at_place}
+use Rattle.nm_tree.proofs.QueueLists.{few_merged}
 use Rattle.nm_tree.proofs.Staying.{labelled, stands_still}
 
 -- ---- what a worker that resigns must have
@@ -181,6 +182,7 @@ module _ {r s r' s' : ℕ} (p u : Hand) (xs ys : List Account) (home home' : ℕ
       queues = are_held;
       all = all_there;
       ascend = ascends;
+      blocks = few_merged p.queues u.queues is.between.blocks more.between.blocks;
       private = λ slot. ap (λ (x : Knowledge). get x.drafts slot) known_is ∙ is.between.private slot;
       stands = stands_still p.pass q p.pending p.held is.between.stands settles in_run;
     };

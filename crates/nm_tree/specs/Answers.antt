@@ -1,5 +1,6 @@
 -- What each call of the set leaves of its worker, by its answer.
 use Rattle.std.specs.Prelude.{◌≡◌, ◌⊎◌, ℕ, Bool, true, false, Some, None, IsSome, Result, Ok, Err}
+use Rattle.nm_edge.specs.Layouts.{Layout}
 use Rattle.nm_edge.specs.declared.node.NodeId.{NodeId}
 use Rattle.nm_calls.specs.declared.deleting.Missed.TheVariants as missed
 use Rattle.nm_calls.specs.declared.inserting.Fault.TheVariants as lost
@@ -28,52 +29,92 @@ IsPendingStill w z = IsSome w.pending × (z ≡ w)
 abbrev pub IsFree : Hand → Hand → Type 0
 IsFree w z = (w.pending ≡ None) × (z.pending ≡ None)
 
+-- the own queue has less room than a try asks
+abbrev pub LacksRoom : Hand → Type 0
+LacksRoom z = HasLittleRoom z.pass.view.number z.queues
+
+-- what a look-up tells of its worker, by its answer: that a key was pending, and nothing changed, or
+-- that none was, and none is
+abbrev pub HasTold : Hand → Hand → Result Bool Fault → Type 0
+HasTold w z (Ok b) = IsFree w z
+HasTold w z (Err fault.Busy) = IsFree w z
+HasTold w z (Err fault.Pending) = IsPendingStill w z
+HasTold w z (Err _) = ⊥
+
+-- an insert too; and that its queue has little room
+abbrev pub InsertTold : Hand → Hand → Result Bool Fault → Type 0
+InsertTold w z (Ok b) = IsFree w z
+InsertTold w z (Err fault.Busy) = IsFree w z
+InsertTold w z (Err fault.Full) = IsFree w z
+InsertTold w z (Err fault.NoMemory) = IsFree w z × LacksRoom z
+InsertTold w z (Err fault.Pending) = IsPendingStill w z
+InsertTold w z (Err fault.Unfinished) = ⊥
+
+-- a delete of a key too; where it is not finished, that its key is pending, of the leaf that it has
+-- flagged
+abbrev pub DeleteTold : ℕ → Hand → Hand → Result Bool Fault → Type 0
+DeleteTold k w z (Ok b) = IsFree w z
+DeleteTold k w z (Err fault.Busy) = IsFree w z
+DeleteTold k w z (Err fault.NoMemory) = IsFree w z × LacksRoom z
+DeleteTold k w z (Err fault.Unfinished) =
+    (w.pending ≡ None) × (leaf : NodeId) × (z.pending ≡ Some (record { key = k; leaf = leaf }))
+DeleteTold k w z (Err fault.Pending) = IsPendingStill w z
+DeleteTold k w z (Err fault.Full) = ⊥
+
+-- a call that goes on with a delete: nothing was pending, and nothing has changed; or a key was, and
+-- none is, or that one still
+abbrev pub FinishTold : Hand → Hand → Result Bool Fault → Type 0
+FinishTold w z (Ok false) = (w.pending ≡ None) × (z ≡ w)
+FinishTold w z (Ok true) = IsSome w.pending × (z.pending ≡ None)
+FinishTold w z (Err fault.Unfinished) = IsSome w.pending × (z.pending ≡ w.pending)
+FinishTold w z (Err _) = ⊥
+
 -- what a look-up leaves of its worker, by its answer (Natarajan and Mittal, section 3.2)
-abbrev pub HasAnswered : ℕ → ℕ → ℕ → Hand → Hand → Result Bool Fault → Type 0
-HasAnswered nodes tries k w z (Ok b) =
-    IsFree w z × HasDid nodes tries k w.pass.view.log z.pass.view.log b
-HasAnswered nodes tries k w z (Err fault.Busy) =
-    IsFree w z × HasMissed nodes tries k w.pass.view.log z.pass.view.log
-HasAnswered nodes tries k w z (Err fault.Pending) = IsPendingStill w z
-HasAnswered nodes tries k w z (Err _) = ⊥
+abbrev pub HasAnswered : Layout → ℕ → ℕ → Hand → Hand → Result Bool Fault → Type 0
+HasAnswered L tries k w z (Ok b) =
+    IsFree w z × HasDid L tries k w.pass.view.log z.pass.view.log b
+HasAnswered L tries k w z (Err fault.Busy) =
+    IsFree w z × HasMissed L tries k w.pass.view.log z.pass.view.log
+HasAnswered L tries k w z (Err fault.Pending) = IsPendingStill w z
+HasAnswered L tries k w z (Err _) = ⊥
 
 -- an insert, in the same way (Natarajan and Mittal, section 3.2)
-abbrev pub HasInserted : ℕ → ℕ → ℕ → Hand → Hand → Result Bool Fault → Type 0
-HasInserted nodes tries k w z (Ok b) =
-    IsFree w z × InsertDid w.fit nodes tries k w.pass.view.log z.pass.view.log (Ok b)
-HasInserted nodes tries k w z (Err fault.Busy) =
-    IsFree w z × InsertDid w.fit nodes tries k w.pass.view.log z.pass.view.log (Err lost.Busy)
-HasInserted nodes tries k w z (Err fault.Full) =
-    IsFree w z × InsertDid w.fit nodes tries k w.pass.view.log z.pass.view.log (Err lost.Full)
-HasInserted nodes tries k w z (Err fault.NoMemory) =
-    IsFree w z × InsertDid w.fit nodes tries k w.pass.view.log z.pass.view.log (Err lost.NoMemory)
-HasInserted nodes tries k w z (Err fault.Pending) = IsPendingStill w z
-HasInserted nodes tries k w z (Err fault.Unfinished) = ⊥
+abbrev pub HasInserted : Layout → ℕ → ℕ → Hand → Hand → Result Bool Fault → Type 0
+HasInserted L tries k w z (Ok b) =
+    IsFree w z × InsertDid w.fit L tries k w.pass.view.log z.pass.view.log (Ok b)
+HasInserted L tries k w z (Err fault.Busy) =
+    IsFree w z × InsertDid w.fit L tries k w.pass.view.log z.pass.view.log (Err lost.Busy)
+HasInserted L tries k w z (Err fault.Full) =
+    IsFree w z × InsertDid w.fit L tries k w.pass.view.log z.pass.view.log (Err lost.Full)
+HasInserted L tries k w z (Err fault.NoMemory) =
+    IsFree w z × InsertDid w.fit L tries k w.pass.view.log z.pass.view.log (Err lost.NoMemory)
+HasInserted L tries k w z (Err fault.Pending) = IsPendingStill w z
+HasInserted L tries k w z (Err fault.Unfinished) = ⊥
 
 -- a delete (Natarajan and Mittal, section 3.2)
-abbrev pub HasDeleted : ℕ → ℕ → ℕ → Hand → Hand → Result Bool Fault → Type 0
-HasDeleted nodes tries k w z (Ok b) =
-    IsFree w z × DeleteDid nodes tries k w.pass.view.log z.pass.view.log (Ok b)
-HasDeleted nodes tries k w z (Err fault.Busy) =
-    IsFree w z × DeleteDid nodes tries k w.pass.view.log z.pass.view.log (Err missed.Busy)
-HasDeleted nodes tries k w z (Err fault.NoMemory) =
-    IsFree w z × DeleteDid nodes tries k w.pass.view.log z.pass.view.log (Err missed.NoMemory)
-HasDeleted nodes tries k w z (Err fault.Unfinished) =
+abbrev pub HasDeleted : Layout → ℕ → ℕ → Hand → Hand → Result Bool Fault → Type 0
+HasDeleted L tries k w z (Ok b) =
+    IsFree w z × DeleteDid L tries k w.pass.view.log z.pass.view.log (Ok b)
+HasDeleted L tries k w z (Err fault.Busy) =
+    IsFree w z × DeleteDid L tries k w.pass.view.log z.pass.view.log (Err missed.Busy)
+HasDeleted L tries k w z (Err fault.NoMemory) =
+    IsFree w z × DeleteDid L tries k w.pass.view.log z.pass.view.log (Err missed.NoMemory)
+HasDeleted L tries k w z (Err fault.Unfinished) =
     (w.pending ≡ None) × (leaf : NodeId) × (z.pending ≡ Some (record { key = k; leaf = leaf }))
-    × DeleteDid nodes tries k w.pass.view.log z.pass.view.log (Err (missed.Unfinished leaf))
-HasDeleted nodes tries k w z (Err fault.Pending) = IsPendingStill w z
-HasDeleted nodes tries k w z (Err fault.Full) = ⊥
+    × DeleteDid L tries k w.pass.view.log z.pass.view.log (Err (missed.Unfinished leaf))
+HasDeleted L tries k w z (Err fault.Pending) = IsPendingStill w z
+HasDeleted L tries k w z (Err fault.Full) = ⊥
 
 -- what is left to do of a delete (Natarajan and Mittal, section 3.2)
-abbrev pub HasFinished : ℕ → ℕ → Hand → Hand → Result Bool Fault → Type 0
-HasFinished nodes tries w z (Ok false) = (w.pending ≡ None) × (z ≡ w)
-HasFinished nodes tries w z (Ok true) =
+abbrev pub HasFinished : Layout → ℕ → Hand → Hand → Result Bool Fault → Type 0
+HasFinished L tries w z (Ok false) = (w.pending ≡ None) × (z ≡ w)
+HasFinished L tries w z (Ok true) =
     (n : Unfinished) × (w.pending ≡ Some n) × (z.pending ≡ None)
-    × FinishDid nodes n.key n.leaf tries w.pass.view.log z.pass.view.log true
-HasFinished nodes tries w z (Err fault.Unfinished) =
+    × FinishDid L n.key n.leaf tries w.pass.view.log z.pass.view.log true
+HasFinished L tries w z (Err fault.Unfinished) =
     (n : Unfinished) × (w.pending ≡ Some n) × (z.pending ≡ Some n)
-    × FinishDid nodes n.key n.leaf tries w.pass.view.log z.pass.view.log false
-HasFinished nodes tries w z (Err _) = ⊥
+    × FinishDid L n.key n.leaf tries w.pass.view.log z.pass.view.log false
+HasFinished L tries w z (Err _) = ⊥
 
 -- ---- what a call has won, by its answer: for an insert a link where it is true
 
@@ -90,28 +131,19 @@ flags_won (Err _) = 0
 
 -- ---- why a call gave up
 
--- the own queue has less room than a try asks
-abbrev pub LacksRoom : Hand → Type 0
-LacksRoom z = HasLittleRoom z.pass.view.number z.queues
-
--- an insert for want of memory
-abbrev pub InsertLacks : Hand → Fault → Type 0
-InsertLacks z fault.NoMemory = LacksRoom z
-InsertLacks z _ = Unit {0}
-
--- a delete too; and one whose leaf is flagged lacks room, or has lost each try behind the flag
-abbrev pub DeleteLacks : ℕ → ℕ → ℕ → Hand → Hand → Fault → Type 0
-DeleteLacks nodes tries k w z fault.NoMemory = LacksRoom z
-DeleteLacks nodes tries k w z fault.Unfinished =
+-- a delete for want of memory; and one whose leaf is flagged lacks room, or has lost each try behind the flag
+abbrev pub DeleteLacks : Layout → ℕ → ℕ → Hand → Hand → Fault → Type 0
+DeleteLacks L tries k w z fault.NoMemory = LacksRoom z
+DeleteLacks L tries k w z fault.Unfinished =
     LacksRoom z ⊎ ((leaf : NodeId)
-    × LosesAfterFlag nodes tries k w.pass.view.log z.pass.view.log leaf)
-DeleteLacks nodes tries k w z _ = Unit {0}
+    × LosesAfterFlag L tries k w.pass.view.log z.pass.view.log leaf)
+DeleteLacks L tries k w z _ = Unit {0}
 
 -- what is left of a delete: it lacks room, or has lost each try
-abbrev pub FinishLacks : ℕ → ℕ → Hand → Hand → Fault → Type 0
-FinishLacks nodes tries w z _ =
+abbrev pub FinishLacks : Layout → ℕ → Hand → Hand → Fault → Type 0
+FinishLacks L tries w z _ =
     LacksRoom z ⊎ ((n : Unfinished) × (w.pending ≡ Some n)
-    × LosesEachTry nodes n.key n.leaf tries w.pass.view.log z.pass.view.log)
+    × LosesEachTry L n.key n.leaf tries w.pass.view.log z.pass.view.log)
 
 -- the delete that was pending is answered, and it is one behind all that the worker had seen
 -- whenever it had no call, as before the call that began the delete: its leaf was cut at a moment

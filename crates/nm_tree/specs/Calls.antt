@@ -1,129 +1,156 @@
 -- What a call asks of its worker, and what each call leaves of it: all that it ensures, as one
 -- record.
-use Rattle.std.specs.Prelude.{◌≡◌, ◌+◌, ◌*◌, ◌≤◌, ℕ, Bool, List, length, map, Option, None, Result, IfOk, IfErr, All}
+use Rattle.std.specs.Prelude.{◌≡◌, ◌+◌, ◌*◌, ◌≤◌, ℕ, Bool, List, length, map, Option, None, Result, IfOk, IfErr, IsErrOf, All}
+use Rattle.nm_edge.specs.Layouts.{Layout}
 use Rattle.nm_model.specs.declared.event.Event.TheVariants.{Leave}
 use Rattle.nm_model.specs.declared.event.Op.TheVariants.{Has, Insert, Delete}
 use Rattle.nm_model.specs.declared.reply.Reply.TheVariants.{Departed}
+use Rattle.nm_model.specs.Walks.{Entry as LogEntry}
 use Rattle.nm_order.specs.Reads.{HasRead}
-use Rattle.nm_steps.specs.Steps.{Board, IsOf, IsSamePass, HasSeenAllOf, Stepped}
+use Rattle.nm_steps.specs.Steps.{Board, Stand, IsOf, IsSamePass, HasSeenAllOf, Stepped}
 use Rattle.nm_epoch.specs.declared.answers.Advance.{Advance}
 use Rattle.nm_epoch.specs.declared.answers.Behind.{Behind}
 use Rattle.nm_epoch.specs.declared.collecting.Collected.{Collected}
 use Rattle.nm_epoch.specs.declared.collecting.Entry.{Entry}
-use Rattle.nm_epoch.specs.Collecting.{IsCollection, HaveLost, blocks_of, ripe_of}
+use Rattle.nm_epoch.specs.Collecting.{IsCollection, HaveLost, AreTrimmed, ripe_of}
 use Rattle.nm_epoch.specs.Resting.{epochs}
 use Rattle.nm_epoch.specs.Scans.{IsAdvance}
 use Rattle.nm_epoch.specs.Watches.{IsBehind}
 use Rattle.nm_calls.specs.declared.many.Query.{Query}
-use Rattle.nm_calls.specs.Bounds.{IsWithinBound}
-use Rattle.nm_calls.specs.InTurns.{WasSo, key_of}
+use Rattle.nm_calls.specs.Bounds.{reach, IsWithinBound, IsWithinClaims}
+use Rattle.nm_calls.specs.InTurns.{WasSo, key_of, GiveUp as GiveUpInTurns}
 use Rattle.nm_calls.specs.Moments.{AnswerHasMoment}
-use Rattle.nm_calls.specs.NextKeys.{WasNext}
+use Rattle.nm_calls.specs.NextKeys.{WasNext, GiveUp as GiveUpNext}
+use Rattle.nm_calls.specs.PrevKeys.{WasPrev, GiveUp as GiveUpPrev}
 use Rattle.nm_calls.specs.PlainWalks.{most_looks}
 use Rattle.nm_calls.specs.Won.{HasWon}
+use Rattle.nm_busy.specs.Lookups.{WasBusy}
 use Rattle.nm_tree.specs.declared.fault.Fault.{Fault}
+use Rattle.nm_tree.specs.declared.fault.Fault.TheVariants as fault
 use Rattle.nm_tree.specs.declared.fault.PinFault.{PinFault}
-use Rattle.nm_tree.specs.Answers.{HasAnswered, HasInserted, HasDeleted, HasFinished, FinishHasMoment, InsertLacks, DeleteLacks, FinishLacks, HasPinned, KeepsPlace, links_won, flags_won}
+use Rattle.nm_tree.specs.Answers.{HasAnswered, HasInserted, HasDeleted, HasFinished, FinishHasMoment, HasTold, InsertTold, DeleteTold, FinishTold, DeleteLacks, FinishLacks, HasPinned, KeepsPlace, links_won, flags_won}
 use Rattle.nm_tree.specs.InTurns.{HasAnsweredMany}
-use Rattle.nm_tree.specs.Looked.{HasLooked}
+use Rattle.nm_tree.specs.Looked.{HasLooked, WasMissed}
 use Rattle.nm_tree.specs.Running.{IsFreedInGrace}
-use Rattle.nm_tree.specs.Workers.{Hand, IsBetweenCalls, KeepsOtherQueues, TakeRoom}
+use Rattle.nm_tree.specs.Workers.{Hand, KeepsOtherQueues, TakeRoom}
 
 -- the worker is one of this tree's, and its caller does not hold it
 pub record MayCall (b : Board) (w : Hand) : Type 0 where
   pub own : IsOf b w.pass
   pub free : w.held ≡ None
 
--- `LeavesHas`, `LeavesInsert`, `LeavesDelete`, `LeavesFinish`: by its answer, of a worker that was
--- so and is so now. It is the same pass, which has seen all that it had seen (`same`, `past`); what
--- was done (`did`) and why not (`lacks`); that an answer was right at a moment of the call
--- (`moment`); the links and flags that were won, and the longest log (`won`, `steps`); the queues
--- and how much memory they have (`queues`, `blocks`); and that the worker is held as it was or not
--- at all, claims as it did and is between two calls (`held`, `fit`, `between`)
-pub record LeavesHas (nodes tries k : ℕ) (w z : Hand) (r : Result Bool Fault) : Type 0 where
+-- `SaysHas`, `SaysInsert`, `SaysDelete`, `SaysFinish`: what a caller has of such a call, by its
+-- answer, of a worker that was so and is so now. It is the same pass, which has seen all that it had
+-- seen (`same`, `past`); what is told of the worker (`told`), and of the others, where a look-up was
+-- busy (`disturbed`); that an answer was right at a moment of the call (`moment`); the links and flags that were won, and the longest log (`won`, `steps`); the
+-- queues and how much memory they have (`queues`, `blocks`); and that the worker is held as it was
+-- or not at all and claims as it did (`held`, `fit`). `LeavesHas` and its likes: that, how it was
+-- done (`did`), and why not (`lacks`)
+pub record SaysHas (L : Layout) (tries k : ℕ) (w z : Hand) (r : Result Bool Fault) : Type 0 where
   pub same : IsSamePass w.pass z.pass
   pub past : HasSeenAllOf z.pass w.pass
-  pub did : HasAnswered nodes tries k w z r
+  pub told : HasTold w z r
+  pub disturbed : IsErrOf r fault.Busy → WasBusy w.pass z.pass tries
   pub moment : IfOk r (AnswerHasMoment w.pass z.pass Has k)
   pub won : HasWon w.pass.view.log z.pass.view.log 0 0
-  pub steps : IsWithinBound nodes tries w.pass.view.log z.pass.view.log
+  pub steps : IsWithinBound L tries w.pass.view.log z.pass.view.log
   pub queues : z.queues ≡ w.queues
   pub held : z.held ≡ None
   pub fit : z.fit ≡ w.fit
-  pub between : IsBetweenCalls z
 
-pub record LeavesInsert (nodes tries k : ℕ) (w z : Hand) (r : Result Bool Fault) : Type 0 where
+pub record LeavesHas (L : Layout) (tries k : ℕ) (w z : Hand) (r : Result Bool Fault) : Type 0 where
+  pub says : SaysHas L tries k w z r
+  pub did : HasAnswered L tries k w z r
+
+pub record SaysInsert (L : Layout) (tries k : ℕ) (w z : Hand) (r : Result Bool Fault) : Type 0 where
   pub same : IsSamePass w.pass z.pass
   pub past : HasSeenAllOf z.pass w.pass
-  pub did : HasInserted nodes tries k w z r
-  pub lacks : IfErr r (InsertLacks z)
+  pub told : InsertTold w z r
   pub moment : IfOk r (AnswerHasMoment w.pass z.pass Insert k)
   pub won : HasWon w.pass.view.log z.pass.view.log (links_won r) 0
-  pub steps : IsWithinBound nodes tries w.pass.view.log z.pass.view.log
+  pub steps : IsWithinClaims L tries w.pass.view.log z.pass.view.log
   pub queues : KeepsOtherQueues w.pass.view.number w.queues z.queues
   pub blocks : TakeRoom w.queues z.queues
   pub held : z.held ≡ None
   pub fit : z.fit ≡ w.fit
-  pub between : IsBetweenCalls z
 
-pub record LeavesDelete (nodes tries k : ℕ) (w z : Hand) (r : Result Bool Fault) : Type 0 where
+pub record LeavesInsert (L : Layout) (tries k : ℕ) (w z : Hand) (r : Result Bool Fault) : Type 0 where
+  pub says : SaysInsert L tries k w z r
+  pub did : HasInserted L tries k w z r
+
+pub record SaysDelete (L : Layout) (tries k : ℕ) (w z : Hand) (r : Result Bool Fault) : Type 0 where
   pub same : IsSamePass w.pass z.pass
   pub past : HasSeenAllOf z.pass w.pass
-  pub did : HasDeleted nodes tries k w z r
-  pub lacks : IfErr r (DeleteLacks nodes tries k w z)
+  pub told : DeleteTold k w z r
   pub moment : IfOk r (AnswerHasMoment w.pass z.pass Delete k)
   pub won : HasWon w.pass.view.log z.pass.view.log 0 (flags_won r)
-  pub steps : IsWithinBound nodes tries w.pass.view.log z.pass.view.log
+  pub steps : IsWithinBound L tries w.pass.view.log z.pass.view.log
   pub queues : KeepsOtherQueues w.pass.view.number w.queues z.queues
   pub blocks : TakeRoom w.queues z.queues
   pub held : z.held ≡ None
   pub fit : z.fit ≡ w.fit
-  pub between : IsBetweenCalls z
 
-pub record LeavesFinish (nodes tries : ℕ) (w z : Hand) (r : Result Bool Fault) : Type 0 where
+pub record LeavesDelete (L : Layout) (tries k : ℕ) (w z : Hand) (r : Result Bool Fault) : Type 0 where
+  pub says : SaysDelete L tries k w z r
+  pub did : HasDeleted L tries k w z r
+  pub lacks : IfErr r (DeleteLacks L tries k w z)
+
+pub record SaysFinish (L : Layout) (tries : ℕ) (w z : Hand) (r : Result Bool Fault) : Type 0 where
   pub same : IsSamePass w.pass z.pass
   pub past : HasSeenAllOf z.pass w.pass
-  pub did : HasFinished nodes tries w z r
-  pub lacks : IfErr r (FinishLacks nodes tries w z)
+  pub told : FinishTold w z r
   pub moment : FinishHasMoment w z r
   pub won : HasWon w.pass.view.log z.pass.view.log 0 0
-  pub steps : IsWithinBound nodes tries w.pass.view.log z.pass.view.log
+  pub steps : IsWithinBound L tries w.pass.view.log z.pass.view.log
   pub queues : KeepsOtherQueues w.pass.view.number w.queues z.queues
   pub blocks : TakeRoom w.queues z.queues
   pub held : z.held ≡ w.held
   pub fit : z.fit ≡ w.fit
-  pub between : IsBetweenCalls z
 
--- `LeavesHasMany`: the same of a look-up of these queries, which are those after it then; and
--- `LeavesNext`: of a call for the next key
-pub record LeavesHasMany (nodes tries : ℕ) (old new : List Query) (w z : Hand)
+pub record LeavesFinish (L : Layout) (tries : ℕ) (w z : Hand) (r : Result Bool Fault) : Type 0 where
+  pub says : SaysFinish L tries w z r
+  pub did : HasFinished L tries w z r
+  pub lacks : IfErr r (FinishLacks L tries w z)
+
+-- `LeavesHasMany`: the same of a look-up of these queries, which are those after it then
+pub record LeavesHasMany (L : Layout) (tries : ℕ) (old new : List Query) (w z : Hand)
     (r : Result (Unit {0}) Fault) : Type 0 where
   pub same : IsSamePass w.pass z.pass
   pub past : HasSeenAllOf z.pass w.pass
-  pub did : HasAnsweredMany nodes tries (length old) w z r
+  pub did : HasAnsweredMany L tries old w z r
+  pub disturbed : IsErrOf r fault.Busy → WasMissed (GiveUpInTurns L (map key_of old)) tries w.pass z.pass
   pub keys : map key_of new ≡ map key_of old
   pub moment : IfOk r (λ u. All (λ q. WasSo w.pass z.pass q.key q.found) new)
   pub won : HasWon w.pass.view.log z.pass.view.log 0 0
   pub steps : length z.pass.view.log
-      ≤ length w.pass.view.log + 3 * tries + most_looks nodes (length old) + 2
+      ≤ length w.pass.view.log + 3 * tries + most_looks (reach L) (length old) + 2
   pub queues : z.queues ≡ w.queues
   pub held : z.held ≡ None
   pub fit : z.fit ≡ w.fit
-  pub between : IsBetweenCalls z
 
-pub record LeavesNext (nodes tries k : ℕ) (w z : Hand)
+-- `LeavesNear`: of a call for the key nearest to one, where `Was` is what is told of it, and `GivesUp`
+-- how its walks end without an answer; `LeavesNext`, `LeavesPrev`: the least key that is not below
+-- k, and the greatest one that is not above k
+pub record LeavesNear (Was : Stand → Stand → Option ℕ → Type 0)
+    (GivesUp : List LogEntry → List LogEntry → Type 0) (L : Layout) (tries : ℕ) (w z : Hand)
     (r : Result (Option ℕ) Fault) : Type 0 where
   pub same : IsSamePass w.pass z.pass
   pub past : HasSeenAllOf z.pass w.pass
-  pub did : HasLooked tries (tries * most_looks nodes 1) w z r
-  pub moment : IfOk r (WasNext w.pass z.pass k)
+  pub did : HasLooked GivesUp tries (tries * most_looks (reach L) 1) w z r
+  pub disturbed : IsErrOf r fault.Busy → WasMissed GivesUp tries w.pass z.pass
+  pub moment : IfOk r (Was w.pass z.pass)
   pub won : HasWon w.pass.view.log z.pass.view.log 0 0
   pub steps : length z.pass.view.log
-      ≤ length w.pass.view.log + 3 * tries + tries * most_looks nodes 1 + 2
+      ≤ length w.pass.view.log + 3 * tries + tries * most_looks (reach L) 1 + 2
   pub queues : z.queues ≡ w.queues
   pub held : z.held ≡ None
   pub fit : z.fit ≡ w.fit
-  pub between : IsBetweenCalls z
+
+abbrev pub LeavesNext : Layout → ℕ → ℕ → Hand → Hand → Result (Option ℕ) Fault → Type 0
+LeavesNext L tries k = LeavesNear (λ p q. WasNext p q k) (GiveUpNext L tries k) L tries
+
+abbrev pub LeavesPrev : Layout → ℕ → ℕ → Hand → Hand → Result (Option ℕ) Fault → Type 0
+LeavesPrev L tries k = LeavesNear (λ p q. WasPrev p q k) (GiveUpPrev L tries k) L tries
 
 -- `LeavesPin`, `LeavesUnpin`, `LeavesAdvance`, `LeavesBehind`, `LeavesCollect`: of a call that
 -- pins, or moves the epoch on
@@ -134,7 +161,6 @@ pub record LeavesPin (tries : ℕ) (w z : Hand) (r : Result ℕ PinFault) : Type
   pub queues : z.queues ≡ w.queues
   pub steps : length z.pass.view.log ≤ length w.pass.view.log + (3 * tries + 1)
   pub fit : z.fit ≡ w.fit
-  pub between : IsBetweenCalls z
 
 pub record LeavesUnpin (w z : Hand) : Type 0 where
   pub step : Stepped w.pass z.pass Leave Departed
@@ -143,7 +169,6 @@ pub record LeavesUnpin (w z : Hand) : Type 0 where
   pub pending : z.pending ≡ None
   pub held : z.held ≡ None
   pub fit : z.fit ≡ w.fit
-  pub between : IsBetweenCalls z
 
 pub record LeavesAdvance (workers : ℕ) (w z : Hand) (a : Advance) : Type 0 where
   pub same : IsSamePass w.pass z.pass
@@ -154,7 +179,6 @@ pub record LeavesAdvance (workers : ℕ) (w z : Hand) (a : Advance) : Type 0 whe
   pub queues : z.queues ≡ w.queues
   pub steps : length z.pass.view.log ≤ length w.pass.view.log + workers + 1
   pub fit : z.fit ≡ w.fit
-  pub between : IsBetweenCalls z
 
 pub record LeavesBehind (workers : ℕ) (w z : Hand) (b : Behind) : Type 0 where
   pub same : IsSamePass w.pass z.pass
@@ -165,7 +189,6 @@ pub record LeavesBehind (workers : ℕ) (w z : Hand) (b : Behind) : Type 0 where
   pub queues : z.queues ≡ w.queues
   pub steps : length z.pass.view.log ≤ length w.pass.view.log + workers
   pub fit : z.fit ≡ w.fit
-  pub between : IsBetweenCalls z
 
 pub record LeavesCollect (nodes : ℕ) (w z : Hand) (c : Collected) : Type 0 where
   pub same : IsSamePass w.pass z.pass
@@ -174,9 +197,8 @@ pub record LeavesCollect (nodes : ℕ) (w z : Hand) (c : Collected) : Type 0 whe
   pub freed : c.freed ≡ length (ripe_of c.epoch w.queues)
   pub lost : HaveLost c.epoch w.queues z.queues
   pub grace : All (λ (e : Entry). IsFreedInGrace z.pass.view e.node) (ripe_of c.epoch w.queues)
-  pub blocks : blocks_of z.queues ≡ blocks_of w.queues
+  pub blocks : AreTrimmed w.queues z.queues
   pub newest : (epoch : ℕ) → HasRead w.pass.view.log epoch → epoch ≤ c.epoch
   pub place : KeepsPlace w z
   pub steps : length z.pass.view.log ≤ length w.pass.view.log + nodes
   pub fit : z.fit ≡ w.fit
-  pub between : IsBetweenCalls z

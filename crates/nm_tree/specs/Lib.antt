@@ -3,7 +3,9 @@ pub mod Answers
 pub mod Looked
 pub mod InTurns
 pub mod Calls
+pub mod Popping
 pub mod Resigning
 pub mod Settled
 pub mod Closing
 pub mod Running
+pub mod Worked

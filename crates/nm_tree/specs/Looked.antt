@@ -1,17 +1,28 @@
 -- What a call that walks under a pin for no call leaves of its worker, by its answer.
-use Rattle.std.specs.Prelude.{ℕ, Result, Ok, Err}
-use Rattle.nm_calls.specs.PlainWalks.{LooksUnderPin, LooksOrMoves}
+use Rattle.std.specs.Prelude.{◌≡◌, ◌⊎◌, ℕ, List, Result, Ok, Err}
+use Rattle.nm_model.specs.Walks.{Entry}
+use Rattle.nm_steps.specs.Steps.{Stand}
+use Rattle.nm_calls.specs.PlainWalks.{LooksUnderPin, GivesUpUnderPin, PlainMissed}
+use Rattle.nm_busy.specs.Pins.{WasMovedPast}
 use Rattle.nm_tree.specs.declared.fault.Fault.{Fault}
 use Rattle.nm_tree.specs.declared.fault.Fault.TheVariants as fault
 use Rattle.nm_tree.specs.Answers.{IsPendingStill, IsFree}
 use Rattle.nm_tree.specs.Workers.{Hand}
 
 -- what a call leaves of its worker that walks under a pin for no call, by its answer, with so many
--- looks at most (Natarajan and Mittal, section 3.2)
-abbrev pub HasLooked : {X : Type 0} → ℕ → ℕ → Hand → Hand → Result X Fault → Type 0
-HasLooked tries most w z (Ok _) =
+-- looks at most, where `GivesUp` says how its walks end without an answer (Natarajan and Mittal,
+-- section 3.2)
+abbrev pub HasLooked : {X : Type 0} → (List Entry → List Entry → Type 0) → ℕ → ℕ → Hand → Hand
+    → Result X Fault → Type 0
+HasLooked GivesUp tries most w z (Ok _) =
     IsFree w z × LooksUnderPin tries most w.pass.view.log z.pass.view.log
-HasLooked tries most w z (Err fault.Busy) =
-    IsFree w z × LooksOrMoves tries most w.pass.view.log z.pass.view.log
-HasLooked tries most w z (Err fault.Pending) = IsPendingStill w z
-HasLooked tries most w z (Err _) = ⊥
+HasLooked GivesUp tries most w z (Err fault.Busy) =
+    IsFree w z × PlainMissed GivesUp tries w.pass.view.log z.pass.view.log
+HasLooked GivesUp tries most w z (Err fault.Pending) = IsPendingStill w z
+HasLooked GivesUp tries most w z (Err _) = ⊥
+
+-- why it was busy: it might make no try; or others moved the epoch on, as often as it might try; or
+-- its walks gave up
+abbrev pub WasMissed : (List Entry → List Entry → Type 0) → ℕ → Stand → Stand → Type 0
+WasMissed GivesUp tries p q = (tries ≡ 0) ⊎ WasMovedPast p q tries
+    ⊎ GivesUpUnderPin GivesUp tries p.view.log q.view.log

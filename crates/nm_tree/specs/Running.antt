@@ -1,19 +1,49 @@
 -- The theorem, at each moment of the running threads, and of what each worker has seen.
-use Rattle.std.specs.Prelude.{◌≡◌, ℕ, List, Contains}
+use Rattle.std.specs.Prelude.{◌≡◌, ◌⊎◌, ◌==◌, ◌<◌, ℕ, Bool, true, false, ◌&&◌, List, ◌∷◌, ◌++◌, Contains, Some, Result, Ok}
+use Rattle.std.specs.List.{list_any}
 use mathlib.Core.Option.{some}
 use lib.ListN.{get_elem?}
 use Rattle.atomic_table.specs.Table.{State}
 use Rattle.nm_edge.specs.Layouts.{Layout}
 use Rattle.nm_edge.specs.declared.node.NodeId.{NodeId}
+use Rattle.nm_model.specs.declared.event.Op.{Op}
+use Rattle.nm_model.specs.declared.event.Op.TheVariants.{Has, Insert, Delete}
+use Rattle.nm_model.specs.declared.event.Event.{Event}
+use Rattle.nm_model.specs.declared.event.Event.TheVariants.{Link, Flag}
+use Rattle.nm_model.specs.declared.reply.Reply.{Reply}
+use Rattle.nm_model.specs.declared.reply.Reply.TheVariants.{Linked, Flagged}
+use Rattle.nm_model.specs.declared.reply.Refused.{Refused}
 use Rattle.nm_model.specs.declared.trace.Turn.{Turn}
-use Rattle.nm_model.specs.Ordered.{ordered, trace_in}
 use Rattle.nm_order.specs.Logs.{part_of}
 use Rattle.nm_words.specs.Packing.{words_of}
 use Rattle.nm_theorem.specs.EachRun.{ReadersHaveLeft}
 use Rattle.nm_model.specs.Headline.{Headline, words_after, freed_by}
-use Rattle.nm_theorem.specs.Histories.{HasHistory}
+use Rattle.nm_theorem.specs.Histories.{Called, HasHistory, answer_turn, call_begun}
 use Rattle.nm_steps.specs.declared.view.View.{View}
 use Rattle.nm_steps.specs.Rules.{IsShown, Kept}
+
+-- ---- turns of a tree
+
+-- each turn that was not refused is one of a worker of the tree
+abbrev pub AreOfWorkers : Layout → List Turn → Type 0
+AreOfWorkers L ts = (t : Turn) (r : Reply) → Contains ts t → t.outcome ≡ Ok r → t.worker < L.workers
+
+-- the exchange was won by which an insert, or a delete, is to be answered true (Natarajan and
+-- Mittal, section 3.2)
+abbrev pub wins : Op → Event → Result Reply Refused → Bool
+wins Insert (Link p side leaf new) (Ok (Linked n)) = true
+wins Delete (Flag p side s) (Ok (Flagged n)) = true
+wins op e o = false
+
+-- the worker has won one in these turns
+abbrev pub WinsIn : Op → ℕ → List Turn → Type 0
+WinsIn op w turns = list_any (λ t. (t.worker == w) && wins op t.event t.outcome) turns ≡ true
+
+-- before an insert is answered true its worker has won a link, and before a delete is, a flag
+abbrev pub TrueAnswersHaveWon : List Turn → Type 0
+TrueAnswersHaveWon turns = (before since : List Turn) (w : ℕ) (c : Called)
+    → turns ≡ before ++ answer_turn w true ∷ since → call_begun w before ≡ Some c
+    → (c.op ≡ Has) ⊎ WinsIn c.op w before
 
 -- the logs in the views of all seats are the parts of these turns, by which the words came from
 -- those of the empty tree; and the turns have the headline, and are a history of one plain set
@@ -30,19 +60,17 @@ EachMomentIsOfTurns = (L : Layout) (s : State Unit View) → Kept L s → IsOfTu
 
 -- ---- what a worker has seen
 
--- what a worker has seen, as turns
-abbrev pub turns_seen : View → List Turn
-turns_seen v = trace_in (ordered v.layout) v.past
-
--- these turns have the headline and are a history of one plain set, and the worker's log is its
--- part of them
+-- the turns that a worker has seen are of the tree's workers, have the headline and are a history of
+-- one plain set; and its log is its part of them
 pub record HasSeenTurns (v : View) : Type 0 where
-  pub own : part_of v.number (turns_seen v) ≡ v.log
-  pub headline : Headline v.layout (turns_seen v)
-  pub plain_set : HasHistory v.layout (turns_seen v)
+  pub own : part_of v.number v.past ≡ v.log
+  pub workers : AreOfWorkers v.layout v.past
+  pub won : TrueAnswersHaveWon v.past
+  pub headline : Headline v.layout v.past
+  pub plain_set : HasHistory v.layout v.past
 
 -- a node was freed by one of them, and each worker that was pinned where it was cut has left since
 -- (Fraser, section 5.2.3)
 pub record IsFreedInGrace (v : View) (n : NodeId) : Type 0 where
-  pub freed : Contains (freed_by (turns_seen v)) n
-  pub left : ReadersHaveLeft (turns_seen v) n
+  pub freed : Contains (freed_by v.past) n
+  pub left : ReadersHaveLeft v.past n

@@ -1,28 +1,38 @@
 -- Workers that are in the midst of no delete.
-use Rattle.std.specs.Prelude.{◌≡◌, List, [], ◌∷◌, None}
-use Rattle.nm_model.specs.Searches.{idle}
-use Rattle.nm_model.specs.Walks.{search_after}
+use Rattle.std.specs.Prelude.{◌≡◌, ◌∷◌, List, None, All, map}
+use Rattle.nm_model.specs.declared.trace.Turn.{Turn}
 use Rattle.nm_steps.specs.declared.view.Held.{Held}
+use Rattle.nm_steps.specs.Rules.{answered_turn}
+use Rattle.nm_busy.specs.Pending.{leaf_after}
 use Rattle.nm_tree.specs.Resigning.{HasResigned}
-use Rattle.nm_tree.specs.Workers.{Hand, IsBetweenCalls}
+use Rattle.nm_tree.specs.Running.{HasSeenTurns}
+use Rattle.nm_tree.specs.Workers.{Hand}
 
--- none of these logs tells of a leaf that its call has flagged
+-- a log as the turns of its worker
+abbrev pub turns_of : Held → List Turn
+turns_of h = map (λ e. answered_turn h.number e.0 e.1) h.log
+
+-- by none of these logs has a call flagged a leaf and not ended
 abbrev pub TellNoFlag : List Held → Type 0
-TellNoFlag [] = Unit {0}
-TellNoFlag (h ∷ hs) = ((search_after idle h.log).flagged ≡ None) × TellNoFlag hs
+TellNoFlag hs = All (λ (h : Held). leaf_after h.number None (turns_of h) ≡ None) hs
 
 -- no delete of this worker is pending, and none of those that resigned to it
-pub record HasNothingPending (w : Hand) : Type 0 where
-  pub between : IsBetweenCalls w
-  pub pending : w.pending ≡ None
-  pub others : TellNoFlag w.pass.view.others
+abbrev pub HasNothingPending : Hand → Type 0
+HasNothingPending w =
+    TellNoFlag (record { number = w.pass.view.number; log = w.pass.view.log } ∷ w.pass.view.others)
 
 -- no delete is pending of any of these workers, nor of those that resigned to them
 abbrev pub HaveNothingPending : List Hand → Type 0
-HaveNothingPending [] = Unit {0}
-HaveNothingPending (w ∷ ws) = HasNothingPending w × HaveNothingPending ws
+HaveNothingPending ws = All HasNothingPending ws
 
 -- a worker with nothing pending that takes over from another such one has nothing pending
 abbrev pub HeirsHaveNothingPending : Type 0
 HeirsHaveNothingPending = (heir leaver z : Hand) → HasResigned heir leaver z
     → HasNothingPending heir → HasNothingPending leaver → HasNothingPending z
+
+-- so has one whose call has flagged no leaf by what it has seen, where none that resigned to it has
+-- any
+abbrev pub RestingWorkersHaveNothingPending : Type 0
+RestingWorkersHaveNothingPending = (w : Hand) → HasSeenTurns w.pass.view
+    → leaf_after w.pass.view.number None w.pass.view.past ≡ None → TellNoFlag w.pass.view.others
+    → HasNothingPending w

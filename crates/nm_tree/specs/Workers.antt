@@ -1,5 +1,5 @@
 -- A worker between two calls.
-use Rattle.std.specs.Prelude.{◌≡◌, ◌≢◌, ◌⊎◌, ◌<◌, ◌≤◌, ◌+◌, ◌-◌, ◌==◌, ℕ, zero, suc, false, if◌then◌else◌, map, sum_by, length, List, [], ◌∷◌, Option, Some, None, IsSome, unwrap_or}
+use Rattle.std.specs.Prelude.{◌≡◌, ◌≢◌, ◌⊎◌, ◌<◌, ◌≤◌, ◌+◌, ◌-◌, ◌*◌, ◌==◌, ℕ, zero, suc, false, if◌then◌else◌, map, sum_by, length, List, [], ◌∷◌, Option, Some, None, IsSome, unwrap_or}
 use Rattle.nm_edge.specs.Layouts.{Layout}
 use Rattle.nm_model.specs.declared.ledger.Ledger.{Ledger}
 use Rattle.nm_model.specs.Ledgers.{held, fresh_ledger}
@@ -11,8 +11,9 @@ use Rattle.nm_steps.specs.declared.view.View.{View}
 use Rattle.nm_steps.specs.Rules.{knowledge, held_log}
 use Rattle.nm_steps.specs.Steps.{Board, Stand, fresh_view}
 use Rattle.nm_epoch.specs.declared.collecting.HeldQueue.{HeldQueue}
-use Rattle.nm_epoch.specs.Collecting.{AreHeld, IsQueueOf}
+use Rattle.nm_epoch.specs.Collecting.{AreHeld, IsQueueOf, HasFewBlocks, spare_kept}
 use Rattle.nm_epoch.specs.Resting.{IsResting, begun_for, epochs, search}
+use Rattle.nm_theorem.specs.Histories.{call_begun}
 use Rattle.nm_calls.specs.Bounds.{cut_bound}
 use Rattle.nm_calls.specs.Deletes.{IsRemoving}
 use Rattle.nm_calls.specs.Rooms.{TakesRoom}
@@ -95,6 +96,12 @@ TakeRoom [] [] = Unit {0}
 TakeRoom (h ∷ hs) (g ∷ gs) = TakesRoom h.queue g.queue × TakeRoom hs gs
 TakeRoom _ _ = ⊥
 
+-- none has a block more than what waits in it, and the places that a collection leaves to spare,
+-- ask for
+abbrev pub HaveFewBlocks : List HeldQueue → Type 0
+HaveFewBlocks [] = Unit {0}
+HaveFewBlocks (h ∷ hs) = HasFewBlocks h.queue × HaveFewBlocks hs
+
 -- the queue of that origin is among these, and has less room than a try asks
 abbrev pub HasLittleRoom : ℕ → List HeldQueue → Type 0
 HasLittleRoom o [] = ⊥
@@ -106,6 +113,12 @@ waiting_in hs = sum_by (λ (h : HeldQueue). length h.queue.items) hs
 
 abbrev pub blocks_in : List HeldQueue → ℕ
 blocks_in hs = sum_by (λ (h : HeldQueue). h.queue.blocks) hs
+
+-- the places that the blocks of queues have, 32 each, are not more than what waits and so many a
+-- queue: those that a collection leaves to spare, and at most 31 each that no block less would
+-- leave, and that are used up
+abbrev pub AreFewIn : ℕ → List HeldQueue → Type 0
+AreFewIn blocks hs = 32 * blocks ≤ waiting_in hs + (spare_kept + 62) * length hs
 
 -- ---- what is counted of an origin
 
@@ -202,14 +215,19 @@ OnlyOwnLedger p q = (o : ℕ) → o ≢ p.view.number
 -- ---- between two calls
 
 -- the queues are those of all ledgers that the worker holds, by ascending origin, each with all
--- that waits in it, labelled; no slot is private; and it is pinned only where it is held or a key
--- is pending
+-- that waits in it, labelled, and with few blocks; no slot is private; and it is pinned only where
+-- it is held or a key is pending
 pub record IsBetweenCalls (w : Hand) : Type 0 where
   pub queues : AreHeld (knowledge w.pass.view) w.queues
   pub all : (o : ℕ) → IsSome (held (knowledge w.pass.view).ledgers o) → HasOrigin o w.queues
   pub ascend : Ascend w.queues
+  pub blocks : HaveFewBlocks w.queues
   pub private : (slot : ℕ) → get (knowledge w.pass.view).drafts slot ≡ None
   pub stands : IsAs w.pass w.pending w.held
+
+-- where no delete is pending, no call of the worker has begun that is not answered
+abbrev pub IsIdle : Hand → Type 0
+IsIdle w = w.pending ≡ None → call_begun w.pass.view.number w.pass.view.past ≡ None
 
 -- a worker of that number is among these
 abbrev pub HasNumber : ℕ → List Held → Type 0

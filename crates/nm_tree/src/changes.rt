@@ -7,8 +7,12 @@ ghost use Rattle.nm_epoch.specs.Resting.{IsResting};
 ghost use Rattle.nm_calls.specs.Deletes.{IsRemoving, AfterDelete, LosesEachTry, LosesAfterFlag, LacksRoomOr, AfterFinish};
 ghost use Rattle.nm_calls.specs.Inserts.{AfterInsert};
 ghost use Rattle.nm_calls.specs.Won.{links_of_insert, flags_of_delete};
+ghost use Rattle.nm_busy.specs.Alone.{IsAlone};
+ghost use Rattle.nm_busy.specs.Inserts.{WasBusy as InsertWasBusy};
+ghost use Rattle.nm_busy.specs.Deletes.{WasBusy as DeleteWasBusy};
+ghost use Rattle.nm_busy.specs.Pending.{NonePends};
 ghost use Rattle.nm_tree.specs.Workers.{IsKept};
-ghost use Rattle.nm_tree.specs.Calls.{MayCall, LeavesInsert, LeavesDelete, LeavesFinish};
+ghost use Rattle.nm_tree.specs.Calls.{MayCall, LeavesInsert, SaysInsert, LeavesDelete, SaysDelete, LeavesFinish, SaysFinish};
 
 use crate::fault::Fault;
 use crate::tree::Tree;
@@ -31,7 +35,7 @@ fn insert_with(
     requires own { IsOf shared.now pass.old }
     requires rests { IsResting pass.old }
     requires kept { IsKept pass.old own.old account.old }
-    ensures after { AfterInsert workspace.old.placement shared.now.layout.nodes tries key pass.old
+    ensures after { AfterInsert workspace.old.placement shared.now.layout tries key pass.old
         pass.new result }
     ensures refused { IsErrOf result Lost.NoMemory → own.new.queue.spare < cut_bound }
     ensures kept { IsKept pass.new own.new account.new }
@@ -59,9 +63,9 @@ fn delete_with(
     requires own { IsOf shared.now pass.old }
     requires rests { IsResting pass.old }
     requires kept { IsKept pass.old own.old account.old }
-    ensures after { AfterDelete shared.now.layout.nodes tries key pass.old pass.new result }
+    ensures after { AfterDelete shared.now.layout tries key pass.old pass.new result }
     ensures refused { IfErr result
-        (LacksRoomOr (LosesAfterFlag shared.now.layout.nodes tries key pass.old.view.log
+        (LacksRoomOr (LosesAfterFlag shared.now.layout tries key pass.old.view.log
         pass.new.view.log) own.new.queue.spare) }
     ensures kept { IsKept pass.new own.new account.new }
     ensures room { TakesRoom own.old.queue own.new.queue }
@@ -118,11 +122,11 @@ fn finish_with(
     requires own { IsOf shared.now pass.old }
     requires removing { IsRemoving pass.old pending.now.key pending.now.leaf }
     requires kept { IsKept pass.old own.old account.old }
-    ensures after { AfterFinish shared.now.layout.nodes pending.now.key pending.now.leaf tries
+    ensures after { AfterFinish shared.now.layout pending.now.key pending.now.leaf tries
         pass.old pass.new result }
     ensures refused { result ≡ false
         → (own.new.queue.spare < cut_bound)
-        ⊎ LosesEachTry shared.now.layout.nodes pending.now.key pending.now.leaf tries
+        ⊎ LosesEachTry shared.now.layout pending.now.key pending.now.leaf tries
         pass.old.view.log pass.new.view.log }
     ensures kept { IsKept pass.new own.new account.new }
     ensures room { TakesRoom own.old.queue own.new.queue }
@@ -145,13 +149,20 @@ impl Tree {
     /// Mittal, section 3.2.)
     pub fn insert(&self, worker: &mut Worker, key: Key, tries: u32) -> Result<bool, Fault>
         requires { MayCall self.now worker.old }
-        ensures { LeavesInsert self.now.layout.nodes tries key worker.old worker.new result }
+        ensures says { SaysInsert self.now.layout tries key worker.old worker.new result }
+        ensures leaves { LeavesInsert self.now.layout tries key worker.old worker.new result }
+        ensures disturbed { IsErrOf result Fault.Busy
+            → InsertWasBusy worker.old.fit self.now.layout key worker.old.pass worker.new.pass tries }
+        ensures alone { IsAlone worker.old.pass worker.new.pass
+            → NonePends self.now.layout worker.old.pass.view.past
+            → IsErrOf result Fault.Busy → tries ≡ 0 }
     {
         if let Standing::Pending(_) = worker.standing {
             return Err(Fault::Pending);
         }
         let own = &mut worker.queues[worker.home];
         let account = &mut worker.accounts[worker.home];
+        worker.pass.is_of_a_run();
         match insert_with(
             &self.shared,
             &mut worker.pass,
@@ -162,7 +173,10 @@ impl Tree {
             tries,
         ) {
             Ok(answer) => Ok(answer),
-            Err(Lost::Busy) => Err(Fault::Busy),
+            Err(Lost::Busy) => {
+                worker.pass.is_of_a_run();
+                Err(Fault::Busy)
+            }
             Err(Lost::Full) => Err(Fault::Full),
             Err(Lost::NoMemory) => Err(Fault::NoMemory),
         }
@@ -180,13 +194,20 @@ impl Tree {
     /// is not held. (The delete of Natarajan and Mittal, section 3.2.)
     pub fn delete(&self, worker: &mut Worker, key: Key, tries: u32) -> Result<bool, Fault>
         requires { MayCall self.now worker.old }
-        ensures { LeavesDelete self.now.layout.nodes tries key worker.old worker.new result }
+        ensures says { SaysDelete self.now.layout tries key worker.old worker.new result }
+        ensures leaves { LeavesDelete self.now.layout tries key worker.old worker.new result }
+        ensures disturbed { IsErrOf result Fault.Busy
+            → DeleteWasBusy self.now.layout key worker.old.pass worker.new.pass tries }
+        ensures alone { IsAlone worker.old.pass worker.new.pass
+            → NonePends self.now.layout worker.old.pass.view.past
+            → IsErrOf result Fault.Busy → tries ≡ 0 }
     {
         if let Standing::Pending(_) = worker.standing {
             return Err(Fault::Pending);
         }
         let own = &mut worker.queues[worker.home];
         let account = &mut worker.accounts[worker.home];
+        worker.pass.is_of_a_run();
         match delete_with(
             &self.shared,
             &mut worker.pass,
@@ -197,7 +218,10 @@ impl Tree {
             tries,
         ) {
             Ok(answer) => Ok(answer),
-            Err(Missed::Busy) => Err(Fault::Busy),
+            Err(Missed::Busy) => {
+                worker.pass.is_of_a_run();
+                Err(Fault::Busy)
+            }
             Err(Missed::NoMemory) => Err(Fault::NoMemory),
             Err(Missed::Unfinished(leaf)) => {
                 worker.standing = Standing::Pending(Unfinished { key, leaf });
@@ -216,7 +240,8 @@ impl Tree {
     #[inline(always)]
     pub fn finish(&self, worker: &mut Worker, tries: u32) -> Result<bool, Fault>
         requires own { IsOf self.now worker.old.pass }
-        ensures { LeavesFinish self.now.layout.nodes tries worker.old worker.new result }
+        ensures says { SaysFinish self.now.layout tries worker.old worker.new result }
+        ensures leaves { LeavesFinish self.now.layout tries worker.old worker.new result }
     {
         if let Standing::Pending(_) = worker.standing {
             return self.finish_pending(worker, tries);
@@ -229,7 +254,8 @@ impl Tree {
     #[inline(never)]
     fn finish_pending(&self, worker: &mut Worker, tries: u32) -> Result<bool, Fault>
         requires own { IsOf self.now worker.old.pass }
-        ensures { LeavesFinish self.now.layout.nodes tries worker.old worker.new result }
+        ensures says { SaysFinish self.now.layout tries worker.old worker.new result }
+        ensures leaves { LeavesFinish self.now.layout tries worker.old worker.new result }
     {
         let Standing::Pending(pending) = worker.standing else {
             return Ok(false);

@@ -1,11 +1,12 @@
 //! The end of a tree.
-ghost use Rattle.std.specs.Prelude.{◌≡◌, ◌<◌, ◌≤◌, length, min, IfOk, IfErr};
-ghost use Rattle.nm_steps.specs.Steps.{IsOf};
+ghost use Rattle.std.specs.Prelude.{◌≡◌, ◌<◌, ◌≤◌, All, length, min, IfOk, IfErr};
+ghost use Rattle.nm_steps.specs.Steps.{HasSeen, IsOf};
 ghost use Rattle.nm_order.specs.History.{RunHasHistory};
 ghost use Rattle.nm_order.specs.LoggedTotals.{TotalsAreInTheLogs};
 ghost use Rattle.nm_order.specs.Totals.{TotalsAgree};
-ghost use Rattle.nm_tree.specs.Closing.{AllSlotsAreTold, AllWereGiven, AreAllOf, EachSlotEndsOnce, IsAsACoreTells, IsClosed, IsCloseReason, GoesOnFromAll};
-ghost use Rattle.nm_tree.specs.Closing.{KeysAreTheTotals, OfEachClosed, OfEachClosedRun, OfEachReport, QueuesAreTheRest, StandsForAll, all_merged, given_in};
+ghost use Rattle.nm_tree.specs.Closing.{AllWereGiven, AreAllOf, EachReportIsACores, EachSlotEndsOnce, GoesOnFromAll, IsClosed, IsCloseReason, SaysClosed};
+ghost use Rattle.nm_tree.specs.Closing.{OfEachClosed, OfEachClosedRun, QueuesAreTheRest, StandsForAll, all_merged, given_in};
+ghost use Rattle.nm_tree.specs.Workers.{Hand};
 
 use crate::resigning::unite;
 use crate::tree::Tree;
@@ -59,6 +60,8 @@ impl Tree {
     /// refused. The tree and its workers are handed back as they were.
     pub fn close(self, workers: Vec<Worker>) -> Result<Report, CloseError>
         requires own { AreAllOf self workers.items }
+        ensures says { IfOk result
+            (λ r. SaysClosed self workers.items r.queues.items r.keys.items r.free r.reached) }
         ensures closed { IfOk result
             (λ r. IsClosed self workers.items r.queues.items r.keys.items r.free r.reached) }
         ensures refused { IfErr result
@@ -91,7 +94,9 @@ fn close_all(tree: Tree, workers: Vec<Worker>, room: Room) -> Report
     requires own { AreAllOf tree workers.items }
     requires all { tree.layout.workers ≤ given_in workers.items }
     requires room { room ≡ tree.layout }
-    ensures { IsClosed tree workers.items result.queues.items result.keys.items result.free
+    ensures says { SaysClosed tree workers.items result.queues.items result.keys.items result.free
+        result.reached }
+    ensures closed { IsClosed tree workers.items result.queues.items result.keys.items result.free
         result.reached }
 {
     let Tree { shared } = tree;
@@ -117,24 +122,24 @@ fn close_all(tree: Tree, workers: Vec<Worker>, room: Room) -> Report
     }
 }
 
-/// What follows of every tree that was closed: just as many workers were given as it has; what the
-/// splices of each worker cut off is what was freed of it and then its queue of the report; each
-/// slot above 5 stands once, in the pool, on one path, or at one index of one queue, and so the
-/// free slots, the reached ones and those that wait are all of these; a core tells the same keys
-/// and counts behind the run that ends with the tree's words, and none private. That run has a
-/// history; each key of its set stands on an unflagged edge as often as calls for it won a link,
-/// less as often as they won a flag, both by the logs of all workers; and with no delete pending so
-/// often, once or never, each key is told.
+/// What follows of every tree that was closed, by the page alone: just as many workers were given as
+/// it has; what the splices of each worker cut off is what was freed of it and then its queue of the
+/// report; and each slot above 5 stands once, in the pool, on one path, or at one index of one queue.
 pub fn closed_trees_are_accounted_for()
     ensures given { AllWereGiven }
     ensures accounted { OfEachClosed QueuesAreTheRest }
     ensures once { OfEachClosed EachSlotEndsOnce }
-    ensures sum { OfEachReport AllSlotsAreTold }
-    ensures told { OfEachReport IsAsACoreTells }
+{}
+
+/// For who changes something: the run that ends with the words of a closed tree is one like any
+/// other. A core tells the same keys and counts behind it, and none private; it has a history; each
+/// key of its set stands on an unflagged edge as often as calls for it won a link, less as often as
+/// they won a flag, both by the logs of all workers.
+pub fn runs_of_closed_trees_are_runs()
+    ensures told { EachReportIsACores }
     ensures history { OfEachClosedRun RunHasHistory }
     ensures totals { OfEachClosedRun TotalsAgree }
     ensures logs { OfEachClosedRun TotalsAreInTheLogs }
-    ensures settled { OfEachReport KeysAreTheTotals }
 {}
 
 /// One worker that stands for all of these.
@@ -144,12 +149,15 @@ fn unite_all(shared: &Shared, mut workers: Vec<Worker>) -> Worker
     ensures own { IsOf shared.now result.pass }
     ensures joined { StandsForAll workers.items result.pass.view }
     ensures seen { GoesOnFromAll result.pass.view.past workers.items }
+    ensures runs { All (λ (w : Hand). HasSeen w.pass.view) workers.items }
     ensures queues { result.queues ≡ all_merged workers.items }
 {
     let Some(mut heir) = workers.pop() else {
         unreachable!()
     };
+    heir.is_of_a_run();
     while let Some(leaver) = workers.pop() {
+        leaver.is_of_a_run();
         heir = unite(shared, heir, leaver);
     }
     heir

@@ -4,7 +4,7 @@ ghost use Rattle.nm_order.specs.Reads.{HasRead};
 ghost use Rattle.nm_steps.specs.Steps.{IsOf, Continues};
 ghost use Rattle.nm_epoch.specs.Resting.{Settles};
 ghost use Rattle.nm_steps.specs.Rules.{knowledge};
-ghost use Rattle.nm_epoch.specs.Collecting.{AreHeld, IsCollection, HaveLost, KeepsOtherLedgers, KeepsRetired, blocks_of, ripe_of};
+ghost use Rattle.nm_epoch.specs.Collecting.{AreHeld, IsCollection, HaveLost, KeepsOtherLedgers, KeepsRetired, AreTrimmed, ripe_of};
 ghost use Rattle.nm_tree.specs.Workers.{ArePaired, HaveNoted};
 ghost use Rattle.nm_tree.specs.Calls.{MayCall, LeavesPin, LeavesUnpin, LeavesAdvance, LeavesBehind, LeavesCollect};
 
@@ -70,8 +70,9 @@ impl Tree {
     /// origin by origin: exactly the longest front of nodes whose labels are at least two below
     /// that epoch, which is not below any that this worker had read. Their slots may be claimed
     /// again. Where one of them was cut, whoever was pinned then has left since, as far as the
-    /// worker has now seen (`grace`: Fraser, section 5.2.3). It may be called at any time, and
-    /// takes no memory.
+    /// worker has now seen (`grace`: Fraser, section 5.2.3). It may be called at any time, takes no
+    /// memory, and gives the blocks of a queue back that neither what waits in it nor 256 more
+    /// nodes need.
     pub fn collect(&self, worker: &mut Worker) -> Collected
         requires own { IsOf self.now worker.old.pass }
         ensures { LeavesCollect self.now.layout.nodes worker.old worker.new result }
@@ -101,7 +102,7 @@ fn collect_all(
     ensures part { IsCollection result.epoch queues.old.items pass.old.view.log pass.new.view.log }
     ensures freed { result.freed ≡ length (ripe_of result.epoch queues.old.items) }
     ensures lost { HaveLost result.epoch queues.old.items queues.new.items }
-    ensures blocks { blocks_of queues.new.items ≡ blocks_of queues.old.items }
+    ensures blocks { AreTrimmed queues.old.items queues.new.items }
     ensures newest { (epoch : ℕ) → HasRead pass.old.view.log epoch → epoch ≤ result.epoch }
     ensures queues { AreHeld (knowledge pass.new.view) queues.new.items }
     ensures others { KeepsOtherLedgers result.epoch queues.old.items (knowledge pass.old.view)

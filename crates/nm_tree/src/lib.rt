@@ -13,19 +13,24 @@ mod lookup;
 mod many;
 mod next_key;
 mod notes;
+mod popping;
+mod prev_key;
 mod resigning;
 mod running;
 mod tree;
 mod worker;
 
-pub use closing::{CloseError, CloseReason, Report, closed_trees_are_accounted_for};
+pub use closing::{
+    CloseError, CloseReason, Report, closed_trees_are_accounted_for, runs_of_closed_trees_are_runs,
+};
 pub use fault::{Fault, PinFault};
 pub use nm_calls::Query;
 pub use nm_epoch::{Advance, Behind, Collected, Entry, HeldQueue};
 pub use nm_model::NewError;
 pub use nm_pool::Fit;
 pub use nm_steps::Note;
+pub use popping::End;
 pub use resigning::{ResignFault, ResignReason};
-pub use running::{each_moment_is_of_turns, heirs_have_nothing_pending};
+pub use running::{each_moment_is_of_turns, heirs_have_nothing_pending, worked_turns_are_counted};
 pub use tree::Tree;
 pub use worker::{Counts, Worker};

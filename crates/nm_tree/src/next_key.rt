@@ -15,21 +15,27 @@ impl Tree {
     /// is weakly consistent, as the iterators of Java's `ConcurrentSkipListSet`. Each is later than
     /// all that the worker had seen before. It takes no memory.
     ///
-    /// `Busy`: `tries` is 0, and there was no step; or the pin was lost in each of `tries` tries;
-    /// or a walk had looked at as many nodes as there are, and had not ended; or `tries` walks were
-    /// not enough: in a tree at rest two are, which no clause tells. `Pending`: a key is pending.
-    /// The worker is not held. At most `tries` * (3 `nodes` + 4) + 2 steps. (The search of
-    /// Natarajan and Mittal, section 3.2.)
+    /// `Busy`: `tries` is 0, and there was no step; or the pin was lost in each of `tries` tries,
+    /// each time to another worker, which moved the epoch on; or each of `tries` walks has ended
+    /// with no key, the next one beginning where its keys end; or a walk had looked at as many nodes as
+    /// there are, and had not ended, as it never is in a radix tree. `Pending`: a key is pending.
+    /// The worker is not held. At most `tries` * (3 `reach` + 4) + 2 steps, where a walk's reach is
+    /// 66 nodes in a radix tree, and else as many as there are. (The search of Natarajan and
+    /// Mittal, section 3.2.)
     pub fn next(&self, worker: &mut Worker, key: Key, tries: u32) -> Result<Option<Key>, Fault>
         requires { MayCall self.now worker.old }
-        ensures { LeavesNext self.now.layout.nodes tries key worker.old worker.new result }
+        ensures { LeavesNext self.now.layout tries key worker.old worker.new result }
     {
         if let Standing::Pending(_) = worker.standing {
             return Err(Fault::Pending);
         }
+        worker.pass.is_of_a_run();
         match next(&self.shared, &mut worker.pass, key, tries) {
             Ok(found) => Ok(found),
-            Err(Busy) => Err(Fault::Busy),
+            Err(Busy) => {
+                worker.pass.is_of_a_run();
+                Err(Fault::Busy)
+            }
         }
     }
 }

@@ -1,6 +1,6 @@
 //! The tree that workers share.
 ghost use Rattle.std.specs.Prelude.{All, ◌≡◌, ◌≢◌, ◌<◌, ◌≤◌, ◌⊎◌, ◌↔◌, length, IfOk, IfErr, IsErrOf};
-ghost use Rattle.nm_edge.specs.Layouts.{dense, spaced};
+ghost use Rattle.nm_edge.specs.Layouts.{dense, in_radix, spaced};
 ghost use Rattle.nm_steps.specs.Steps.{AreFresh};
 ghost use Rattle.nm_tree.specs.Calls.{MayCall};
 ghost use Rattle.nm_tree.specs.Workers.{AreNew, AreAllFresh, AreMade, HaveFit, HaveWorkers, IsFresh, IsNewWorker};
@@ -96,6 +96,28 @@ impl Tree {
             × ((workers < 1) ⊎ (MOST_WORKERS < workers))) }
     {
         Tree::of(alloc, spaced_layout_of(nodes, workers)?, fit)
+    }
+
+    /// The same as `spaced`, in a radix tree: no walk takes more than 66 nodes, whatever keys come in
+    /// whatever order.
+    pub fn radix(
+        alloc: Global,
+        nodes: u32,
+        workers: u32,
+        fit: Fit,
+    ) -> Result<(Tree, Vec<Worker>), NewError>
+        ensures layout { IfOk result (λ r. r.0.layout ≡ in_radix (spaced nodes workers)) }
+        ensures count { IfOk result (λ r. length r.1.items ≡ workers) }
+        ensures new { IfOk result (λ r. AreNew r.0 0 r.1.items) }
+        ensures fit { IfOk result (λ r. HaveFit fit r.1.items) }
+        ensures ready { IfOk result (λ r. All (MayCall r.0) r.1.items) }
+        ensures nodes { IsErrOf result NewError.Nodes
+            ↔ ((nodes < LEAST_NODES) ⊎ (MOST_SPACED_NODES < nodes)) }
+        ensures workers { IsErrOf result NewError.Workers
+            ↔ ((LEAST_NODES ≤ nodes) × (nodes ≤ MOST_SPACED_NODES)
+            × ((workers < 1) ⊎ (MOST_WORKERS < workers))) }
+    {
+        Tree::of(alloc, spaced_layout_of(nodes, workers)?.in_radix(), fit)
     }
 
     /// The empty set of a layout and its workers, which claim by that fit. The only error is

@@ -1,12 +1,12 @@
 //! Workers: a pass with the queues that it holds, and what it is in the midst of.
-ghost use Rattle.std.specs.Prelude.{◌≡◌, ◌<◌, length, option_map, IfSome, IfNone};
+ghost use Rattle.std.specs.Prelude.{◌≡◌, ◌<◌, length, option_map, IfSome, IfNone, None};
 ghost use Rattle.nm_edge.specs.Layouts.{IsLayout};
 ghost use Rattle.nm_steps.specs.Steps.{HasSeen, IsOfRun};
 ghost use Rattle.nm_calls.specs.declared.deleting.Unfinished.{Unfinished as Delete};
-ghost use Rattle.nm_calls.specs.Moments.{HasFlaggedIt};
+ghost use Rattle.nm_busy.specs.Pending.{HasDeletePending, leaf_after};
 ghost use Rattle.nm_epoch.specs.Collecting.{NoneHas};
 ghost use Rattle.nm_tree.specs.Running.{HasSeenTurns};
-ghost use Rattle.nm_tree.specs.Workers.{waiting_in, blocks_in, account_in, counts_in, IsLedger, HasOrigin};
+ghost use Rattle.nm_tree.specs.Workers.{waiting_in, blocks_in, AreFewIn, account_in, counts_in, IsLedger, HasOrigin, IsBetweenCalls, IsIdle};
 
 use nm_calls::{Unfinished, Workspace};
 use nm_edge::Key;
@@ -122,9 +122,11 @@ impl Worker {
         waiting
     }
 
-    /// How many blocks of 32 places its queues have. A block that is empty is used again.
+    /// How many blocks of 32 places its queues have: at most what waits and 318 places a queue ask
+    /// for. A block that is empty is used again, or given back by a collection.
     pub fn queue_blocks(&self) -> u64
-        ensures { result ≡ blocks_in self.now.queues }
+        ensures blocks { result ≡ blocks_in self.now.queues }
+        ensures few { AreFewIn result self.now.queues }
     {
         let mut blocks = 0;
         for held in &self.queues {
@@ -161,12 +163,16 @@ impl Worker {
     }
 
     /// The key of a delete that has flagged its leaf and not answered yet; `finish` goes on with
-    /// it.
+    /// it. `None`: no call of the worker, by the turns that it has seen, has flagged a leaf and not
+    /// answered.
     pub fn pending(&self) -> Option<Key>
         ensures key { result ≡ option_map (λ (n : Delete). n.key) self.now.pending }
-        ensures flagged { IfSome self.now.pending
-            (λ (n : Delete). HasFlaggedIt self.now.pass n.key n.leaf) }
+        ensures flagged { IfSome self.now.pending (λ (n : Delete). HasDeletePending
+            self.now.pass.view.past self.now.pass.view.number n.key n.leaf) }
+        ensures rests { IfNone self.now.pending
+            (leaf_after self.now.pass.view.number None self.now.pass.view.past ≡ None) }
     {
+        self.pass.is_of_a_run();
         match self.standing {
             Standing::Pending(unfinished) => Some(unfinished.key),
             Standing::Resting | Standing::Held(_) => None,
@@ -175,16 +181,26 @@ impl Worker {
 
     /// What the worker has seen is a run of an ordered core of the tree's sizes, its log is its
     /// part of that, and it has not resigned in it. So each law of runs holds of what it has seen,
-    /// and each law of such parts of its log; and the turns that it has seen have the headline and
-    /// a history. It does nothing.
+    /// and each law of such parts of its log; and the turns that it has seen are of the tree's
+    /// workers, have the headline and a history. It does nothing.
     pub fn is_of_a_run(&self)
         ensures seen { HasSeen self.now.pass.view }
         ensures turns { HasSeenTurns self.now.pass.view }
+        ensures idle { IsIdle self.now }
         ensures run { IsOfRun self.now.pass.view.layout self.now.pass.view.number
             self.now.pass.view.log }
         ensures fits { IsLayout self.now.pass.view.layout }
     {
         self.pass.is_of_a_run();
+    }
+
+    /// Nothing is left open between two calls: the queues are those of all ledgers that the worker
+    /// holds, and have few blocks, no slot is private, and it is pinned only where it is held or a
+    /// key is pending. It does nothing.
+    pub fn is_between_calls(&self)
+        ensures { IsBetweenCalls self.now }
+    {
+        let _home = self.home;
     }
 
     /// The epoch at which the worker is held, from a `pin` until its `unpin`.

@@ -15,6 +15,7 @@ mod crowd;
 mod endings;
 mod example;
 mod near;
+mod order;
 mod readers;
 mod stalled;
 mod threads;

@@ -1,12 +1,12 @@
-//! The operations on one word, each for any event that leaves that word so, and the peek, which is
-//! no step. No other file reaches the table's words.
-ghost use Rattle.std.specs.Prelude.{◌≡◌, ◌<◌, ◌==◌, bit_and, bit_or};
+//! The operations on one word, each for any event that leaves that word so, and a look at a row of
+//! the pool. No other file reaches the table's words.
+ghost use Rattle.std.specs.Prelude.{◌≡◌, ◌==◌, bit_and, bit_or};
 ghost use prog.Atomic.{either};
-ghost use Rattle.nm_edge.specs.Words.{words};
 ghost use Rattle.nm_steps.specs.Steps.{IsReadyFor, IsDone, Changes, IsBlind};
+ghost use Rattle.nm_steps.specs.Rows.{CanPass, HasPassed};
 
 use crate::pass::Shared;
-use crate::view::{Does, Doing, Place, Words};
+use crate::view::{Does, Doing, Passes, Passing, Place, Words};
 use nm_model::Event;
 use std::marker::Brand;
 
@@ -63,15 +63,14 @@ impl Shared {
     {
         exchange_as::<Brand>(&self.table.shared, seat, word, old, new, &event)
     }
-}
 
-impl Shared {
-    /// Reads the word outside of all logs: what was found tells nothing that a proof could use, so
-    /// it may only decide what is tried first.
-    pub(crate) fn peek(&self, word: usize) -> u64
-        requires { word < words self.now.layout }
+    /// Reads the word of a row of the pool, as a lost claim of each slot of so many, from a first
+    /// one on, before the first that it shows to be there.
+    pub(crate) fn look_at_row(&self, seat: &mut Place, word: usize, from: u32, most: u32) -> u64
+        requires { CanPass self.now seat.old from most word }
+        ensures { HasPassed seat.old seat.new from most result }
     {
-        self.table.shared.peek(word)
+        look_as::<Brand>(&self.table.shared, seat, word, from, most)
     }
 }
 
@@ -84,6 +83,17 @@ fn load_as<D: Doing>(words: &Words, seat: &mut Place, word: usize, event: &Event
 {
     let _ = event;
     words.load::<Does<D>>(seat, word)
+}
+
+fn look_as<D: Passing>(words: &Words, seat: &mut Place, word: usize, from: u32, most: u32) -> u64
+    requires first { D.from ≡ from }
+    requires many { D.most ≡ most }
+    requires can { CanPass (record { table = words.now.table_id; layout = words.now.key })
+        seat.old from most word }
+    ensures { HasPassed seat.old seat.new from most result }
+{
+    let _ = (from, most);
+    words.load::<Passes<D>>(seat, word)
 }
 
 fn store_as<D: Doing>(words: &Words, seat: &mut Place, word: usize, new: u64, event: &Event)

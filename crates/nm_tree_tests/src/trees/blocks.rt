@@ -31,3 +31,22 @@ fn blocks_are_used_again(rt: HostRuntime) -> Result<(), Fail> {
     }
     Ok(())
 }
+
+/// What waits for a worker that stays pinned takes a block for each 32 nodes. Behind its leave a
+/// collection gives back all but those that 256 nodes need.
+#[test]
+fn blocks_go_back_behind_a_stall(rt: HostRuntime) -> Result<(), Fail> {
+    let (tree, mut first, mut second) = two_of(&rt, 4096)?;
+    let Some(key) = Key::new(5) else {
+        unreachable!()
+    };
+    assert_eq!(rt; pin(&tree, &mut second, 4), Answer::Pinned(0));
+    for turn in 0..1000u32 {
+        assert_eq!(rt; round(&tree, &mut first, key), false, "at {turn}");
+    }
+    assert_eq!(rt; (first.queue_len(), first.queue_blocks()), (2000, 67));
+    assert_eq!(rt; unpin(&tree, &mut second), Answer::Left);
+    assert_eq!(rt; round(&tree, &mut first, key), false);
+    assert_eq!(rt; (first.queue_len(), first.queue_blocks()), (0, 9));
+    Ok(())
+}

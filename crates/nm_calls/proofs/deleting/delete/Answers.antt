@@ -2,6 +2,7 @@ use Rattle.std.proofs.Common.{rules, ap}
 use Rattle.nm_steps.proofs.Seeing.{seen_all}
 use Rattle.nm_model.specs.Searches.{Search}
 use Rattle.nm_calls.specs.Moments.{HadNoCall}
+use Rattle.nm_calls.proofs.Moments.{none_begun}
 use Rattle.nm_calls.proofs.Removals.{delete_did, each_lacks_room}
 use Rattle.nm_model.specs.declared.event.Op.TheVariants.{Delete}
 use Rattle.nm_calls.proofs.Adding.{has_won, counts_on, pin_adds, moved_adds}
@@ -12,7 +13,7 @@ use Rattle.nm_calls.proofs.deleting.delete.Goals as goal
 
 pub returns-clause-after : goal.returns-clause-after
 returns-clause-after c =
-    let nodes = c.args.shared.now.layout.nodes in
+    let L = c.args.shared.now.layout in
     let old = c.args.pass.now.view.log in
     let a = c.pin_for.new.pass.view.log in
     let new = c.delete_pinned.new.pass.view.log in
@@ -20,13 +21,13 @@ returns-clause-after c =
     record {
       same = search rules;
       past = search (rules, seen_all);
-      did = delete_did nodes c.args.tries c.args.key old new c.delete_pinned.result (a, c.in-Ok._epoch, c.in-Ok.ensures.pinned, part);
+      did = delete_did L c.args.tries c.args.key old new c.delete_pinned.result (a, c.in-Ok._epoch, c.in-Ok.ensures.pinned, part);
       moment = (
-          let pinned : HadNoCall c.args.pass.now c.pin_for.new.pass = record { seen = c.is_of_a_run.ensures.seen; same = c.pin_for.ensures.on.same; past = c.pin_for.ensures.on.past; call = ap (λ (s : Search). s.call) c.requires.rests.idle } in
+          let pinned : HadNoCall c.args.pass.now c.pin_for.new.pass = record { same = c.pin_for.ensures.on.same; past = c.pin_for.ensures.on.past; call = none_begun c.args.pass.now c.is_of_a_run.ensures.seen c.is_of_a_run.ensures.fits (ap (λ (s : Search). s.call) c.requires.rests.idle) } in
           c.delete_pinned.ensures.moment c.args.pass.now pinned
           );
-      won = delete_wins nodes c.args.tries c.args.key old a new c.in-Ok._epoch c.in-Ok.ensures.pinned c.delete_pinned.result part;
-      steps = delete_steps nodes c.args.tries c.args.key old a new c.in-Ok._epoch c.in-Ok.ensures.pinned c.delete_pinned.result part;
+      won = delete_wins L c.args.tries c.args.key old a new c.in-Ok._epoch c.in-Ok.ensures.pinned c.delete_pinned.result part;
+      steps = delete_steps L c.args.tries c.args.key old a new c.in-Ok._epoch c.in-Ok.ensures.pinned c.delete_pinned.result part;
       run = search rules;
       stands = search rules;
       private = search rules;
@@ -63,7 +64,7 @@ pub returns-clause-refused : goal.returns-clause-refused
 returns-clause-refused c =
     let a = c.pin_for.new.pass.view.log in
     let new = c.delete_pinned.new.pass.view.log in
-    each_lacks_room c.args.shared.now.layout.nodes c.args.tries c.args.key c.args.pass.now.view.log a new c.in-Ok._epoch c.delete_pinned.new.queue.spare c.delete_pinned.result c.in-Ok.ensures.pinned
+    each_lacks_room c.args.shared.now.layout c.args.tries c.args.key c.args.pass.now.view.log a new c.in-Ok._epoch c.delete_pinned.new.queue.spare c.delete_pinned.result c.in-Ok.ensures.pinned
     c.delete_pinned.ensures.refused
 
 pub returns-clause-blocks : goal.returns-clause-blocks

@@ -12,11 +12,11 @@ use Rattle.nm_calls.proofs.deleting.finish.Goals as goal
 
 pub returns-in-Removed-clause-after : goal.returns-in-Removed-clause-after
 returns-in-Removed-clause-after c =
-    let nodes = c.args.shared.now.layout.nodes in
+    let L = c.args.shared.now.layout in
     let old = c.args.pass.now.view.log in
     let mid = c.remove.new.pass.view.log in
     let new = c.answer.new.pass.view.log in
-    let did : FinishDid nodes c.args.pending.now.key c.args.pending.now.leaf c.args.tries old new true = (
+    let did : FinishDid L c.args.pending.now.key c.args.pending.now.leaf c.args.tries old new true = (
       mid,
       c.in-Removed.ensures.part,
       ap (λ (x : Stand). x.view.log) c.answer.ensures.took.step,
@@ -26,8 +26,8 @@ returns-in-Removed-clause-after c =
       past = search (rules, seen_all);
       did = did;
       moment = λ yes o had. c.answer.ensures.moment o Delete c.args.pending.now.key (no_call_on o c.args.pass.now c.remove.new.pass had c.remove.ensures.on.same c.remove.ensures.on.past) (c.remove.ensures.on.keeps (CallIs Delete c.args.pending.now.key) c.requires.removing.call);
-      won = finish_wins nodes c.args.pending.now.key c.args.pending.now.leaf c.args.tries old new true did;
-      steps = finish_steps nodes c.args.pending.now.key c.args.pending.now.leaf c.args.tries old new true did;
+      won = finish_wins L c.args.pending.now.key c.args.pending.now.leaf c.args.tries old new true did;
+      steps = finish_steps L c.args.pending.now.key c.args.pending.now.leaf c.args.tries old new true did;
       run = search rules;
       rests = search rules;
       removing = search rules;
@@ -37,17 +37,17 @@ returns-in-Removed-clause-after c =
 
 pub returns-in-Refused-clause-after : goal.returns-in-Refused-clause-after
 returns-in-Refused-clause-after c =
-    let nodes = c.args.shared.now.layout.nodes in
+    let L = c.args.shared.now.layout in
     let old = c.args.pass.now.view.log in
     let new = c.remove.new.pass.view.log in
-    let did : FinishDid nodes c.args.pending.now.key c.args.pending.now.leaf c.args.tries old new false = inl c.in-Refused.ensures.part in
+    let did : FinishDid L c.args.pending.now.key c.args.pending.now.leaf c.args.tries old new false = inl c.in-Refused.ensures.part in
     record {
       same = search rules;
       past = search (rules, seen_all);
       did = did;
       moment = search rules;
-      won = finish_wins nodes c.args.pending.now.key c.args.pending.now.leaf c.args.tries old new false did;
-      steps = finish_steps nodes c.args.pending.now.key c.args.pending.now.leaf c.args.tries old new false did;
+      won = finish_wins L c.args.pending.now.key c.args.pending.now.leaf c.args.tries old new false did;
+      steps = finish_steps L c.args.pending.now.key c.args.pending.now.leaf c.args.tries old new false did;
       run = search rules;
       rests = search rules;
       removing = λ no. removing_on c.args.pass.now c.remove.new.pass c.args.pending.now.key c.args.pending.now.leaf c.requires.removing c.remove.ensures.on c.remove.ensures.only;
@@ -57,17 +57,17 @@ returns-in-Refused-clause-after c =
 
 pub returns-in-Spent-clause-after : goal.returns-in-Spent-clause-after
 returns-in-Spent-clause-after c =
-    let nodes = c.args.shared.now.layout.nodes in
+    let L = c.args.shared.now.layout in
     let old = c.args.pass.now.view.log in
     let new = c.remove.new.pass.view.log in
-    let did : FinishDid nodes c.args.pending.now.key c.args.pending.now.leaf c.args.tries old new false = inr c.in-Spent.ensures.part in
+    let did : FinishDid L c.args.pending.now.key c.args.pending.now.leaf c.args.tries old new false = inr c.in-Spent.ensures.part in
     record {
       same = search rules;
       past = search (rules, seen_all);
       did = did;
       moment = search rules;
-      won = finish_wins nodes c.args.pending.now.key c.args.pending.now.leaf c.args.tries old new false did;
-      steps = finish_steps nodes c.args.pending.now.key c.args.pending.now.leaf c.args.tries old new false did;
+      won = finish_wins L c.args.pending.now.key c.args.pending.now.leaf c.args.tries old new false did;
+      steps = finish_steps L c.args.pending.now.key c.args.pending.now.leaf c.args.tries old new false did;
       run = search rules;
       rests = search rules;
       removing = λ no. removing_on c.args.pass.now c.remove.new.pass c.args.pending.now.key c.args.pending.now.leaf c.requires.removing c.remove.ensures.on c.remove.ensures.only;

@@ -10,7 +10,7 @@ use Rattle.nm_calls.proofs.deleting.inject.Given as goal
 
 abbrev pub invariant-loop-round : goal.invariant-loop-round
 invariant-loop-round l = record {
-  lost : LostFlags l.shared.layout.nodes l.key l.round l.fn.pass.view.log l.pass.view.log;
+  lost : LostFlags l.shared.layout l.key l.round l.fn.pass.view.log l.pass.view.log;
   on : GoesOn l.fn.pass l.pass;
   only : OnlyInjects l.fn.pass l.pass;
   unflagged : (search l.pass).flagged ≡ None;

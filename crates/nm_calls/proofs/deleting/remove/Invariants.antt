@@ -7,7 +7,7 @@ use Rattle.nm_calls.proofs.deleting.remove.Given as goal
 
 abbrev pub invariant-loop-round : goal.invariant-loop-round
 invariant-loop-round l = record {
-  lost : LostRemovals l.shared.layout.nodes l.pending.key l.pending.leaf l._round l.fn.pass.view.log l.pass.view.log;
+  lost : LostRemovals l.shared.layout l.pending.key l.pending.leaf l._round l.fn.pass.view.log l.pass.view.log;
   removing : IsRemoving l.pass l.pending.key l.pending.leaf;
   on : GoesOn l.fn.pass l.pass;
   only : OnlyCleans l.fn.pass l.pass;

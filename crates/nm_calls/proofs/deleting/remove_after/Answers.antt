@@ -21,9 +21,9 @@ returns-clause-part c =
     let mid = c.cleanup.new.pass.view.log in
     let lost = (c.cleanup.ensures.lost c.if-cleanup.false).part in
     let some = c.if-flagged-eq0.false in
-    removal_after c.args.shared.now.layout.nodes c.args.key f c.args.workspace.now.chain.items (f.left - 1) c.args.pass.now.view.log mid c.remove.new.pass.view.log c.remove.result (omega (arith, some))
+    removal_after c.args.shared.now.layout c.args.key f c.args.workspace.now.chain.items (f.left - 1) c.args.pass.now.view.log mid c.remove.new.pass.view.log c.remove.result (omega (arith, some))
     lost
-    (subst (λ (n : NodeId). IsRemoval c.args.shared.now.layout.nodes c.args.key n (f.left - 1) mid c.remove.new.pass.view.log c.remove.result) c.leaf_at-leaf.ensures c.remove.ensures.part)
+    (subst (λ (n : NodeId). IsRemoval c.args.shared.now.layout c.args.key n (f.left - 1) mid c.remove.new.pass.view.log c.remove.result) c.leaf_at-leaf.ensures c.remove.ensures.part)
 
 pub make_room-requires : goal.make_room-requires
 make_room-requires c = record { few = may_grow_more c.args.pass.now c.args.queue.now.items c.requires.removing.run c.requires.kept.queue }

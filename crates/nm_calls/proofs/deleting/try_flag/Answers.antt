@@ -17,7 +17,7 @@ returns-then-end-sought-clause-shows c =
 pub flag_at-requires-clause-may : goal.flag_at-requires-clause-may
 flag_at-requires-clause-may c =
     let low = c.get-sought.ensures.fits in
-    may_flag_there c.args.pass.now c.seek.new.pass c.get-sought.result c.args.shared.now.layout.nodes c.in-Some.end c.seek.new.chain.items (rw (← c.get-sought.ensures.number) at c.requires.call.call) c.requires.unflagged (omega (arith, low)) c.seek.ensures.on c.seek.ensures.only
+    may_flag_there c.args.pass.now c.seek.new.pass c.get-sought.result c.args.shared.now.layout c.in-Some.end c.seek.new.chain.items (rw (← c.get-sought.ensures.number) at c.requires.call.call) c.requires.unflagged (omega (arith, low)) c.seek.ensures.on c.seek.ensures.only
     c.in-Some.ensures.came.ended c.in-Some.ensures.came.high c.in-Some.ensures.came.found c.if-end-sought.false
 
 pub help-requires-clause-at : goal.help-requires-clause-at
@@ -48,10 +48,10 @@ returns-in-Err-clause-part c =
     ))
 
 pub returns-in_default-clause-kept : goal.returns-in_default-clause-kept
-returns-in_default-clause-kept c = record { queue = search rules; counted = counts_on _ _ _ (seeks_adds c.args.shared.now.layout.nodes c.get-sought.result c.args.pass.now.view.log c.seek.new.pass.view.log c.seek.new.chain.items c.seek.result c.seek.ensures.walk) c.requires.kept.counted }
+returns-in_default-clause-kept c = record { queue = search rules; counted = counts_on _ _ _ (seeks_adds c.args.shared.now.layout c.get-sought.result c.args.pass.now.view.log c.seek.new.pass.view.log c.seek.new.chain.items c.seek.result c.seek.ensures.walk) c.requires.kept.counted }
 
 pub returns-then-end-sought-clause-kept : goal.returns-then-end-sought-clause-kept
-returns-then-end-sought-clause-kept c = record { queue = search rules; counted = counts_on _ _ _ (seeks_adds c.args.shared.now.layout.nodes c.get-sought.result c.args.pass.now.view.log c.seek.new.pass.view.log c.seek.new.chain.items c.seek.result c.seek.ensures.walk) c.requires.kept.counted }
+returns-then-end-sought-clause-kept c = record { queue = search rules; counted = counts_on _ _ _ (seeks_adds c.args.shared.now.layout c.get-sought.result c.args.pass.now.view.log c.seek.new.pass.view.log c.seek.new.chain.items c.seek.result c.seek.ensures.walk) c.requires.kept.counted }
 
 pub help-requires-clause-kept : goal.help-requires-clause-kept
 help-requires-clause-kept c = record {
@@ -61,7 +61,7 @@ help-requires-clause-kept c = record {
       let mid = c.seek.new.pass.view.log in
       let new = c.flag_at.new.pass.view.log in
       let lost = c.in-Err.ensures.lost in
-      counts_on _ old new (adds_then old mid new (seeks_adds c.args.shared.now.layout.nodes c.get-sought.result c.args.pass.now.view.log c.seek.new.pass.view.log c.seek.new.chain.items c.seek.result c.seek.ensures.walk) (flag_lost_adds c.in-Some.end lost.birth c.in-Err.found mid new lost.part)) c.requires.kept.counted
+      counts_on _ old new (adds_then old mid new (seeks_adds c.args.shared.now.layout c.get-sought.result c.args.pass.now.view.log c.seek.new.pass.view.log c.seek.new.chain.items c.seek.result c.seek.ensures.walk) (flag_lost_adds c.in-Some.end lost.birth c.in-Err.found mid new lost.part)) c.requires.kept.counted
       );
 }
 
@@ -72,7 +72,7 @@ returns-in-Ok-clause-kept c = record {
       let old = c.args.pass.now.view.log in
       let mid = c.seek.new.pass.view.log in
       let new = c.flag_at.new.pass.view.log in
-      counts_on _ old new (adds_then old mid new (seeks_adds c.args.shared.now.layout.nodes c.get-sought.result c.args.pass.now.view.log c.seek.new.pass.view.log c.seek.new.chain.items c.seek.result c.seek.ensures.walk) (flag_won_adds c.in-Some.end c.in-Ok.birth mid new c.in-Ok.ensures.won.part)) c.requires.kept.counted
+      counts_on _ old new (adds_then old mid new (seeks_adds c.args.shared.now.layout c.get-sought.result c.args.pass.now.view.log c.seek.new.pass.view.log c.seek.new.chain.items c.seek.result c.seek.ensures.walk) (flag_won_adds c.in-Some.end c.in-Ok.birth mid new c.in-Ok.ensures.won.part)) c.requires.kept.counted
       );
 }
 

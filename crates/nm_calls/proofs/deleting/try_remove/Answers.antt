@@ -41,13 +41,13 @@ returns-clause-shows c = λ yes.
     (c.seek.ensures.on.keeps (IsBorn n.slot n.birth) c.requires.removing.born)
 
 pub returns-in_default-clause-kept : goal.returns-in_default-clause-kept
-returns-in_default-clause-kept c = record { queue = search rules; counted = counts_on _ _ _ (seeks_adds c.args.shared.now.layout.nodes c.get-key.result c.args.pass.now.view.log c.seek.new.pass.view.log c.seek.new.chain.items c.seek.result c.seek.ensures.walk) c.requires.kept.counted }
+returns-in_default-clause-kept c = record { queue = search rules; counted = counts_on _ _ _ (seeks_adds c.args.shared.now.layout c.get-key.result c.args.pass.now.view.log c.seek.new.pass.view.log c.seek.new.chain.items c.seek.result c.seek.ensures.walk) c.requires.kept.counted }
 
 pub returns-then-not-leads_to-clause-kept : goal.returns-then-not-leads_to-clause-kept
-returns-then-not-leads_to-clause-kept c = record { queue = search rules; counted = counts_on _ _ _ (seeks_adds c.args.shared.now.layout.nodes c.get-key.result c.args.pass.now.view.log c.seek.new.pass.view.log c.seek.new.chain.items c.seek.result c.seek.ensures.walk) c.requires.kept.counted }
+returns-then-not-leads_to-clause-kept c = record { queue = search rules; counted = counts_on _ _ _ (seeks_adds c.args.shared.now.layout c.get-key.result c.args.pass.now.view.log c.seek.new.pass.view.log c.seek.new.chain.items c.seek.result c.seek.ensures.walk) c.requires.kept.counted }
 
 pub cleanup-requires-clause-kept : goal.cleanup-requires-clause-kept
-cleanup-requires-clause-kept c = record { queue = search rules; counted = counts_on _ _ _ (seeks_adds c.args.shared.now.layout.nodes c.get-key.result c.args.pass.now.view.log c.seek.new.pass.view.log c.seek.new.chain.items c.seek.result c.seek.ensures.walk) c.requires.kept.counted }
+cleanup-requires-clause-kept c = record { queue = search rules; counted = counts_on _ _ _ (seeks_adds c.args.shared.now.layout c.get-key.result c.args.pass.now.view.log c.seek.new.pass.view.log c.seek.new.chain.items c.seek.result c.seek.ensures.walk) c.requires.kept.counted }
 
 pub returns-clause-lost : goal.returns-clause-lost
 returns-clause-lost c = λ no. inr (c.in-Some.end, c.seek.new.chain.items, c.seek.new.pass.view.log, (rw c.get-key.ensures.number at c.in-Some.ensures.walk), c.leads_to.ensures.yes c.if-not-leads_to.false, (c.cleanup.ensures.lost no).part)

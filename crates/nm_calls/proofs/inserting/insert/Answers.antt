@@ -5,6 +5,7 @@ use Rattle.nm_steps.proofs.Seeing.{seen_all}
 use Rattle.nm_calls.specs.Inserts.{Finishes}
 use Rattle.nm_model.specs.Searches.{Search}
 use Rattle.nm_calls.specs.Moments.{AnswerHasMoment, HadNoCall}
+use Rattle.nm_calls.proofs.Moments.{none_begun}
 use Rattle.nm_calls.proofs.Adding.{has_won, counts_on, pin_adds, moved_adds}
 use Rattle.nm_calls.proofs.AddingInserts.{insert_did, insert_wins, insert_steps}
 use Rattle.nm_calls.proofs.Rooms.{takes_then}
@@ -13,21 +14,21 @@ use Rattle.nm_calls.proofs.inserting.insert.Goals as goal
 
 pub returns-clause-after : goal.returns-clause-after
 returns-clause-after c =
-    let nodes = c.args.shared.now.layout.nodes in
+    let L = c.args.shared.now.layout in
     let old = c.args.pass.now.view.log in
     let a = c.pin_for.new.pass.view.log in
     let new = c.insert_pinned.new.pass.view.log in
-    let part = subst (λ k. Finishes c.args.workspace.now.placement nodes c.args.tries k a new c.insert_pinned.result) c.get.ensures.number c.insert_pinned.ensures.part in
+    let part = subst (λ k. Finishes c.args.workspace.now.placement L c.args.tries k a new c.insert_pinned.result) c.get.ensures.number c.insert_pinned.ensures.part in
     record {
       same = search rules;
       past = search (rules, seen_all);
-      did = insert_did c.args.workspace.now.placement nodes c.args.tries c.args.key old new c.insert_pinned.result (a, c.in-Ok._epoch, c.in-Ok.ensures.pinned, part);
+      did = insert_did c.args.workspace.now.placement L c.args.tries c.args.key old new c.insert_pinned.result (a, c.in-Ok._epoch, c.in-Ok.ensures.pinned, part);
       moment = (
-          let pinned : HadNoCall c.args.pass.now c.pin_for.new.pass = record { seen = c.is_of_a_run.ensures.seen; same = c.pin_for.ensures.on.same; past = c.pin_for.ensures.on.past; call = ap (λ (s : Search). s.call) c.requires.rests.idle } in
+          let pinned : HadNoCall c.args.pass.now c.pin_for.new.pass = record { same = c.pin_for.ensures.on.same; past = c.pin_for.ensures.on.past; call = none_begun c.args.pass.now c.is_of_a_run.ensures.seen c.is_of_a_run.ensures.fits (ap (λ (s : Search). s.call) c.requires.rests.idle) } in
           subst (λ k. IfOk c.insert_pinned.result (AnswerHasMoment c.args.pass.now c.insert_pinned.new.pass Insert k)) c.get.ensures.number (c.insert_pinned.ensures.moment c.args.pass.now pinned)
           );
-      won = insert_wins c.args.workspace.now.placement nodes c.args.tries c.args.key old a new c.in-Ok._epoch c.in-Ok.ensures.pinned c.insert_pinned.result part;
-      steps = insert_steps c.args.workspace.now.placement nodes c.args.tries c.args.key old a new c.in-Ok._epoch c.in-Ok.ensures.pinned c.insert_pinned.result part;
+      won = insert_wins c.args.workspace.now.placement L c.args.tries c.args.key old a new c.in-Ok._epoch c.in-Ok.ensures.pinned c.insert_pinned.result part;
+      steps = insert_steps c.args.workspace.now.placement L c.args.tries c.args.key old a new c.in-Ok._epoch c.in-Ok.ensures.pinned c.insert_pinned.result part;
       run = search rules;
       rests = search rules;
       private = search rules;

@@ -1,5 +1,7 @@
-use Rattle.std.proofs.Common.{rules, add-one, arith, refl, ap, subst, ◌∙◌}
+use Rattle.std.proofs.Common.{rules, true, false, add-one, arith, refl, ap, subst, ◌∙◌}
 use Rattle.std.specs.Prelude.{Option, None}
+use Rattle.nm_model.specs.declared.event.Event.TheVariants.{Leave, LeaveWith}
+use Rattle.nm_model.specs.declared.reply.Reply.TheVariants.{Departed}
 use Rattle.nm_model.specs.declared.event.Op.TheVariants.{Insert}
 use Rattle.nm_model.specs.Searches.{Search}
 use Rattle.nm_order.specs.Facts.Fact.{CallIs}
@@ -12,7 +14,7 @@ use Rattle.nm_calls.proofs.Adding.{adds_then, adds_these, counts_on}
 use Rattle.nm_calls.proofs.AddingInserts.{back_adds}
 use Rattle.nm_calls.proofs.GoingOn.{goes_then, call_still}
 use Rattle.nm_calls.proofs.Moments.{no_call_on}
-use Rattle.nm_calls.proofs.Forks.{if_ready, none_left, tries_then, found_answer}
+use Rattle.nm_calls.proofs.Forks.{if_ready, none_left, tries_then, found_answer, continued}
 use Rattle.nm_calls.proofs.Rooms.{takes_then, takes_fills, later_refused}
 use Rattle.nm_calls.proofs.Waiting.{may_grow_more}
 use Rattle.nm_calls.proofs.inserting.insert_pinned.Goals as goal
@@ -49,7 +51,7 @@ returns-in-Full-clause-private c =
 
 pub loop-round-preserved : goal.loop-round-preserved
 loop-round-preserved c = record {
-  lost = rw add-one (c.loop-round.fork, c.loop-round.pass.view.log, c.loop-round.invariant.lost, subst (λ (f : Fit). IsTry f c.args.shared.now.layout.nodes c.args.key c.loop-round.fork c.try_insert.new.fork c.loop-round.pass.view.log c.try_insert.new.pass.view.log attempt.Lost) c.loop-round.invariant.fit c.in-Lost.ensures.part);
+  lost = rw add-one (c.loop-round.fork, c.loop-round.pass.view.log, c.loop-round.invariant.lost, subst (λ (f : Fit). IsTry f c.args.shared.now.layout c.args.key c.loop-round.fork c.try_insert.new.fork c.loop-round.pass.view.log c.try_insert.new.pass.view.log attempt.Lost) c.loop-round.invariant.fit c.in-Lost.ensures.part);
   on = goes_then c.args.pass.now c.loop-round.pass c.try_insert.new.pass c.loop-round.invariant.on c.try_insert.ensures.on;
   only = tries_then c.args.pass.now c.loop-round.pass c.try_insert.new.pass c.loop-round.invariant.on.same c.loop-round.invariant.only c.try_insert.ensures.only;
   unlinked = c.in-Lost.ensures.shows ∙ c.loop-round.invariant.unlinked;
@@ -123,7 +125,37 @@ returns-in-Full-clause-blocks c = takes_fills c.args.queue.now c.make_room_for.n
 
 pub returns-in-Full-clause-part : goal.returns-in-Full-clause-part
 returns-in-Full-clause-part c =
-    let h : IsTry c.args.workspace.now.placement c.args.shared.now.layout.nodes c.args.key c.loop-round.fork c.try_insert.new.fork c.loop-round.pass.view.log c.try_insert.new.pass.view.log attempt.Full =
-    subst (λ (f : Fit). IsTry f c.args.shared.now.layout.nodes c.args.key c.loop-round.fork c.try_insert.new.fork c.loop-round.pass.view.log c.try_insert.new.pass.view.log attempt.Full) c.loop-round.invariant.fit c.in-Full.ensures.part in
-    let full : IsTry c.args.workspace.now.placement c.args.shared.now.layout.nodes c.args.key c.loop-round.fork None c.loop-round.pass.view.log c.try_insert.new.pass.view.log attempt.Full = (h.0, h.1, h.2, h.3, h.4, h.5, refl, h.7) in
+    let h : IsTry c.args.workspace.now.placement c.args.shared.now.layout c.args.key c.loop-round.fork c.try_insert.new.fork c.loop-round.pass.view.log c.try_insert.new.pass.view.log attempt.Full =
+    subst (λ (f : Fit). IsTry f c.args.shared.now.layout c.args.key c.loop-round.fork c.try_insert.new.fork c.loop-round.pass.view.log c.try_insert.new.pass.view.log attempt.Full) c.loop-round.invariant.fit c.in-Full.ensures.part in
+    let full : IsTry c.args.workspace.now.placement c.args.shared.now.layout c.args.key c.loop-round.fork None c.loop-round.pass.view.log c.try_insert.new.pass.view.log attempt.Full = (h.0, h.1, h.2, h.3, h.4, h.5, refl, h.7) in
     (c.try_insert.new.pass.view.log, (c.loop-round.round, c.loop-round.fork, c.loop-round.pass.view.log, c.loop-round-test.true, c.loop-round.invariant.lost, full), ap (λ (s : Stand). s.view.log) c.leave-in-Full.ensures.took.step)
+
+pub returns-in-Found-clause-on : goal.returns-in-Found-clause-on
+returns-in-Found-clause-on c =
+    let o = c.args.pass.now in
+    let back = c.give_back-in-Found.new.pass in
+    let tried = goes_then o c.loop-round.pass c.try_insert.new.pass c.loop-round.invariant.on c.try_insert.ensures.on in
+    continued o back c.answer.new.pass (LeaveWith false) Departed (goes_then o c.try_insert.new.pass back tried c.give_back-in-Found.ensures.on) c.answer.ensures.took
+
+pub returns-in-Linked-clause-on : goal.returns-in-Linked-clause-on
+returns-in-Linked-clause-on c =
+    let o = c.args.pass.now in
+    continued o c.try_insert.new.pass c.answer-in-Linked.new.pass (LeaveWith true) Departed (goes_then o c.loop-round.pass c.try_insert.new.pass c.loop-round.invariant.on c.try_insert.ensures.on) c.answer-in-Linked.ensures.took
+
+pub returns-in-Full-clause-on : goal.returns-in-Full-clause-on
+returns-in-Full-clause-on c =
+    let o = c.args.pass.now in
+    continued o c.try_insert.new.pass c.leave-in-Full.new.pass Leave Departed (goes_then o c.loop-round.pass c.try_insert.new.pass c.loop-round.invariant.on c.try_insert.ensures.on) c.leave-in-Full.ensures.took
+
+pub returns-in-Found-clause-part : goal.returns-in-Found-clause-part
+returns-in-Found-clause-part c =
+    let h : IsTry c.args.workspace.now.placement c.args.shared.now.layout c.args.key c.loop-round.fork c.try_insert.new.fork c.loop-round.pass.view.log c.try_insert.new.pass.view.log attempt.Found =
+    subst (λ (f : Fit). IsTry f c.args.shared.now.layout c.args.key c.loop-round.fork c.try_insert.new.fork c.loop-round.pass.view.log c.try_insert.new.pass.view.log attempt.Found) c.loop-round.invariant.fit c.in-Found.ensures.part in
+    (c.try_insert.new.fork, c.try_insert.new.pass.view.log, c.give_back-in-Found.new.pass.view.log, (c.loop-round.round, c.loop-round.fork, c.loop-round.pass.view.log, c.loop-round-test.true, c.loop-round.invariant.lost, h), c.give_back-in-Found.ensures.part, ap (λ (s : Stand). s.view.log) c.answer.ensures.took.step)
+
+pub returns-in-Linked-clause-part : goal.returns-in-Linked-clause-part
+returns-in-Linked-clause-part c =
+    let h : IsTry c.args.workspace.now.placement c.args.shared.now.layout c.args.key c.loop-round.fork c.try_insert.new.fork c.loop-round.pass.view.log c.try_insert.new.pass.view.log attempt.Linked =
+    subst (λ (f : Fit). IsTry f c.args.shared.now.layout c.args.key c.loop-round.fork c.try_insert.new.fork c.loop-round.pass.view.log c.try_insert.new.pass.view.log attempt.Linked) c.loop-round.invariant.fit c.in-Linked.ensures.part in
+    let linked : IsTry c.args.workspace.now.placement c.args.shared.now.layout c.args.key c.loop-round.fork None c.loop-round.pass.view.log c.try_insert.new.pass.view.log attempt.Linked = (h.0, h.1, h.2, h.3, refl) in
+    (c.try_insert.new.pass.view.log, (c.loop-round.round, c.loop-round.fork, c.loop-round.pass.view.log, c.loop-round-test.true, c.loop-round.invariant.lost, linked), ap (λ (s : Stand). s.view.log) c.answer-in-Linked.ensures.took.step)

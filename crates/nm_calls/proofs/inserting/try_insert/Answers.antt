@@ -6,72 +6,73 @@ use Rattle.nm_calls.specs.Telling.{Tells}
 use Rattle.nm_calls.specs.Inserts.{HasFork, HoldsFork}
 use Rattle.nm_calls.proofs.GoingOn.{goes_then}
 use Rattle.nm_calls.proofs.Standing.{at_kept}
+use Rattle.nm_calls.proofs.ShortWalks.{key_of_call}
 use Rattle.nm_calls.proofs.Forks.{kept_fork, lost_fork, linked_fork, held_fork, may_grow}
-use Rattle.nm_calls.proofs.Adding.{counts_on, adds_then, seeks_adds}
+use Rattle.nm_calls.proofs.Adding.{counts_on, adds_then, stops_adds}
 use Rattle.nm_calls.proofs.AddingInserts.{readied_adds, grows_won, grows_lost}
 use Rattle.nm_calls.proofs.inserting.try_insert.Goals as goal
 
 pub returns-then-end-key-clause-shows : goal.returns-then-end-key-clause-shows
 returns-then-end-key-clause-shows c =
     let e = c.in-Some.end in
-    let ended = c.in-Some.ensures.came.found ThePin (Insert, c.requires.call.call) in
-    ((e.spot.edge.slot, (e.spot.parent, e.spot.side, subst (λ n. Tells c.seek.new.pass (EndedAt ThePin c.args.key e.spot.edge.slot e.spot.parent e.spot.side n)) c.if-end-key.true ended)), c.seek.ensures.only.linked)
+    let ended = c.in-Some.ensures.came.found c.if-end-key.true ThePin (Insert, c.requires.call.call) in
+    ((e.spot.edge.slot, (e.spot.parent, e.spot.side, subst (λ n. Tells c.stop.new.pass (EndedAt ThePin c.args.key e.spot.edge.slot e.spot.parent e.spot.side n)) c.if-end-key.true ended)), c.stop.ensures.only.linked)
 
 pub returns-in_default-ready-clause-has : goal.returns-in_default-ready-clause-has
-returns-in_default-ready-clause-has c = λ o has. c.ready.ensures.has o (kept_fork o c.args.pass.now c.seek.new.pass c.args.fork.now c.seek.ensures.on.same c.seek.ensures.only.private has)
+returns-in_default-ready-clause-has c = λ o has. c.ready.ensures.has o (kept_fork o c.args.pass.now c.stop.new.pass c.args.fork.now c.stop.ensures.on.same c.stop.ensures.only.private has)
 
 pub grow-requires-clause-may : goal.grow-requires-clause-may
 grow-requires-clause-may c =
     let o = c.requires.fork.0 in
-    let has = c.ready.ensures.has o (kept_fork o c.args.pass.now c.seek.new.pass c.args.fork.now c.seek.ensures.on.same c.seek.ensures.only.private c.requires.fork.1) in
+    let has = c.ready.ensures.has o (kept_fork o c.args.pass.now c.stop.new.pass c.args.fork.now c.stop.ensures.on.same c.stop.ensures.only.private c.requires.fork.1) in
     let made = held_fork o c.ready.new.pass c.ready.new.fork c.in-Some-ready.made c.in-Some-ready.ensures.part.0 has in
-    may_grow c.args.shared.now c.args.pass.now c.seek.new.pass c.ready.new.pass c.args.key c.in-Some.end c.seek.new.chain.items c.in-Some-ready.made (search rules) c.requires.call.call c.requires.unlinked
-    c.seek.ensures.on c.seek.ensures.only c.in-Some.ensures.came.ended c.in-Some.ensures.came.found c.if-end-key.false c.ready.ensures.on c.ready.ensures.only made.ready
+    may_grow c.args.shared.now c.args.pass.now c.stop.new.pass c.ready.new.pass c.args.key c.in-Some.end c.stop.new.chain.items c.in-Some-ready.made (search rules) c.requires.call.call c.requires.unlinked
+    c.stop.ensures.on c.stop.ensures.only c.in-Some.ensures.came c.in-Some.ensures.place c.if-end-key.false c.ready.ensures.on c.ready.ensures.only made.ready
 
 pub help-requires-clause-at : goal.help-requires-clause-at
 help-requires-clause-at c =
-    let on = goes_then c.seek.new.pass c.ready.new.pass c.grow.new.pass c.ready.ensures.on c.grow.ensures.on in
-    at_kept (Tells c.seek.new.pass) (Tells c.grow.new.pass) (λ fact holds. on.keeps fact holds) c.in-Some.end.spot c.seek.new.chain.items c.in-Some.ensures.came.ended.at
+    let on = goes_then c.stop.new.pass c.ready.new.pass c.grow.new.pass c.ready.ensures.on c.grow.ensures.on in
+    at_kept (Tells c.stop.new.pass) (Tells c.grow.new.pass) (λ fact holds. on.keeps fact holds) c.in-Some.end.spot c.stop.new.chain.items c.in-Some.ensures.came.at
 
 pub returns-in-Ok-clause-on : goal.returns-in-Ok-clause-on
 returns-in-Ok-clause-on c =
     let q = c.grow.new.pass in
-    goes_then c.args.pass.now c.seek.new.pass q c.seek.ensures.on (goes_then c.seek.new.pass c.ready.new.pass q c.ready.ensures.on c.grow.ensures.on)
+    goes_then c.args.pass.now c.stop.new.pass q c.stop.ensures.on (goes_then c.stop.new.pass c.ready.new.pass q c.ready.ensures.on c.grow.ensures.on)
 
 pub returns-in-Err-clause-on : goal.returns-in-Err-clause-on
 returns-in-Err-clause-on c =
     let q = c.help.new.pass in
     let grown = goes_then c.ready.new.pass c.grow.new.pass q c.grow.ensures.on c.help.ensures.on in
-    goes_then c.args.pass.now c.seek.new.pass q c.seek.ensures.on (goes_then c.seek.new.pass c.ready.new.pass q c.ready.ensures.on grown)
+    goes_then c.args.pass.now c.stop.new.pass q c.stop.ensures.on (goes_then c.stop.new.pass c.ready.new.pass q c.ready.ensures.on grown)
 
 pub returns-in-Ok-clause-has : goal.returns-in-Ok-clause-has
 returns-in-Ok-clause-has c = λ o has.
-    let there = c.ready.ensures.has o (kept_fork o c.args.pass.now c.seek.new.pass c.args.fork.now c.seek.ensures.on.same c.seek.ensures.only.private has) in
-    linked_fork o c.ready.new.pass c.grow.new.pass c.args.key c.in-Some.end c.in-Some-ready.made (held_fork o c.ready.new.pass c.ready.new.fork c.in-Some-ready.made c.in-Some-ready.ensures.part.0 there) c.in-Ok.ensures.won
+    let there = c.ready.ensures.has o (kept_fork o c.args.pass.now c.stop.new.pass c.args.fork.now c.stop.ensures.on.same c.stop.ensures.only.private has) in
+    linked_fork c.args.shared.now.layout.radix o c.ready.new.pass c.grow.new.pass c.args.key c.in-Some.end c.in-Some-ready.made (held_fork o c.ready.new.pass c.ready.new.fork c.in-Some-ready.made c.in-Some-ready.ensures.part.0 there) c.in-Ok.ensures.won
 
 pub returns-in-Err-clause-has : goal.returns-in-Err-clause-has
 returns-in-Err-clause-has c = λ o has.
-    let there = c.ready.ensures.has o (kept_fork o c.args.pass.now c.seek.new.pass c.args.fork.now c.seek.ensures.on.same c.seek.ensures.only.private has) in
+    let there = c.ready.ensures.has o (kept_fork o c.args.pass.now c.stop.new.pass c.args.fork.now c.stop.ensures.on.same c.stop.ensures.only.private has) in
     let is = c.in-Some-ready.ensures.part.0 in
     let now : HoldsFork o c.grow.new.pass c.in-Some-ready.made =
-    lost_fork o c.ready.new.pass c.grow.new.pass c.args.key c.in-Some.end c.in-Some-ready.made c.in-Err.found (held_fork o c.ready.new.pass c.ready.new.fork c.in-Some-ready.made is there) c.in-Err.ensures.lost in
+    lost_fork c.args.shared.now.layout.radix o c.ready.new.pass c.grow.new.pass c.args.key c.in-Some.end c.in-Some-ready.made c.in-Err.found (held_fork o c.ready.new.pass c.ready.new.fork c.in-Some-ready.made is there) c.in-Err.ensures.lost in
     kept_fork o c.grow.new.pass c.help.new.pass c.ready.new.fork c.help.ensures.on.same c.help.ensures.only.private (subst (λ f. HasFork o c.grow.new.pass f) (sym is) now)
 
 pub returns-in_default-clause-kept : goal.returns-in_default-clause-kept
-returns-in_default-clause-kept c = record { queue = search rules; counted = counts_on _ _ _ (seeks_adds c.args.shared.now.layout.nodes c.args.key c.args.pass.now.view.log c.seek.new.pass.view.log c.seek.new.chain.items c.seek.result c.seek.ensures.walk) c.requires.kept.counted }
+returns-in_default-clause-kept c = record { queue = search rules; counted = counts_on _ _ _ (stops_adds c.args.shared.now.layout c.args.key c.args.pass.now.view.log c.stop.new.pass.view.log c.stop.new.chain.items c.stop.result c.stop.ensures.walk) c.requires.kept.counted }
 
 pub returns-then-end-key-clause-kept : goal.returns-then-end-key-clause-kept
-returns-then-end-key-clause-kept c = record { queue = search rules; counted = counts_on _ _ _ (seeks_adds c.args.shared.now.layout.nodes c.args.key c.args.pass.now.view.log c.seek.new.pass.view.log c.seek.new.chain.items c.seek.result c.seek.ensures.walk) c.requires.kept.counted }
+returns-then-end-key-clause-kept c = record { queue = search rules; counted = counts_on _ _ _ (stops_adds c.args.shared.now.layout c.args.key c.args.pass.now.view.log c.stop.new.pass.view.log c.stop.new.chain.items c.stop.result c.stop.ensures.walk) c.requires.kept.counted }
 
 pub returns-in_default-ready-clause-kept : goal.returns-in_default-ready-clause-kept
 returns-in_default-ready-clause-kept c = record {
   queue = search rules;
   counted = (
-      let nodes = c.args.shared.now.layout.nodes in
+      let L = c.args.shared.now.layout in
       let old = c.args.pass.now.view.log in
-      let mid = c.seek.new.pass.view.log in
+      let mid = c.stop.new.pass.view.log in
       let claimed = c.ready.new.pass.view.log in
-      counts_on _ old claimed (adds_then old mid claimed (seeks_adds c.args.shared.now.layout.nodes c.args.key c.args.pass.now.view.log c.seek.new.pass.view.log c.seek.new.chain.items c.seek.result c.seek.ensures.walk) (readied_adds c.args.workspace.now.placement nodes c.args.fork.now c.ready.new.fork c.ready.result mid claimed c.ready.ensures.part)) c.requires.kept.counted
+      counts_on _ old claimed (adds_then old mid claimed (stops_adds c.args.shared.now.layout c.args.key c.args.pass.now.view.log c.stop.new.pass.view.log c.stop.new.chain.items c.stop.result c.stop.ensures.walk) (readied_adds c.args.workspace.now.placement L.nodes c.args.fork.now c.ready.new.fork c.ready.result mid claimed c.ready.ensures.part)) c.requires.kept.counted
       );
 }
 
@@ -79,12 +80,12 @@ pub help-requires-clause-kept : goal.help-requires-clause-kept
 help-requires-clause-kept c = record {
   queue = search rules;
   counted = (
-      let nodes = c.args.shared.now.layout.nodes in
+      let L = c.args.shared.now.layout in
       let old = c.args.pass.now.view.log in
-      let mid = c.seek.new.pass.view.log in
+      let mid = c.stop.new.pass.view.log in
       let claimed = c.ready.new.pass.view.log in
       let new = c.grow.new.pass.view.log in
-      counts_on _ old new (adds_then old mid new (seeks_adds c.args.shared.now.layout.nodes c.args.key c.args.pass.now.view.log c.seek.new.pass.view.log c.seek.new.chain.items c.seek.result c.seek.ensures.walk) (adds_then mid claimed new (readied_adds c.args.workspace.now.placement nodes c.args.fork.now c.ready.new.fork c.ready.result mid claimed c.ready.ensures.part) (grows_lost c.args.key c.in-Some.end c.in-Some-ready.made c.in-Err.found claimed new c.in-Err.ensures.lost.part))) c.requires.kept.counted
+      counts_on _ old new (adds_then old mid new (stops_adds c.args.shared.now.layout c.args.key c.args.pass.now.view.log c.stop.new.pass.view.log c.stop.new.chain.items c.stop.result c.stop.ensures.walk) (adds_then mid claimed new (readied_adds c.args.workspace.now.placement L.nodes c.args.fork.now c.ready.new.fork c.ready.result mid claimed c.ready.ensures.part) (grows_lost L.radix c.args.key c.in-Some.end c.in-Some-ready.made c.in-Err.found claimed new c.in-Err.ensures.lost.part))) c.requires.kept.counted
       );
 }
 
@@ -92,12 +93,12 @@ pub returns-in-Ok-clause-kept : goal.returns-in-Ok-clause-kept
 returns-in-Ok-clause-kept c = record {
   queue = search rules;
   counted = (
-      let nodes = c.args.shared.now.layout.nodes in
+      let L = c.args.shared.now.layout in
       let old = c.args.pass.now.view.log in
-      let mid = c.seek.new.pass.view.log in
+      let mid = c.stop.new.pass.view.log in
       let claimed = c.ready.new.pass.view.log in
       let new = c.grow.new.pass.view.log in
-      counts_on _ old new (adds_then old mid new (seeks_adds c.args.shared.now.layout.nodes c.args.key c.args.pass.now.view.log c.seek.new.pass.view.log c.seek.new.chain.items c.seek.result c.seek.ensures.walk) (adds_then mid claimed new (readied_adds c.args.workspace.now.placement nodes c.args.fork.now c.ready.new.fork c.ready.result mid claimed c.ready.ensures.part) (grows_won c.args.key c.in-Some.end c.in-Some-ready.made claimed new c.in-Ok.ensures.won.part))) c.requires.kept.counted
+      counts_on _ old new (adds_then old mid new (stops_adds c.args.shared.now.layout c.args.key c.args.pass.now.view.log c.stop.new.pass.view.log c.stop.new.chain.items c.stop.result c.stop.ensures.walk) (adds_then mid claimed new (readied_adds c.args.workspace.now.placement L.nodes c.args.fork.now c.ready.new.fork c.ready.result mid claimed c.ready.ensures.part) (grows_won L.radix c.args.key c.in-Some.end c.in-Some-ready.made claimed new c.in-Ok.ensures.won.part))) c.requires.kept.counted
       );
 }
 
@@ -108,10 +109,13 @@ returns-in-Err-clause-part c =
     inr (
       c.in-Some-ready.made,
       r,
-      c.seek.new.chain.items,
+      c.stop.new.chain.items,
       c.in-Err.found,
       c.grow.new.pass.view.log,
-      record { ended = c.seek.new.pass.view.log; walk = c.in-Some.ensures.walk; other = c.if-end-key.false; claimed = c.ready.new.pass.view.log; readies = ready.1; grows = c.in-Err.ensures.lost.part },
+      record { ended = c.stop.new.pass.view.log; walk = c.in-Some.ensures.walk; other = c.if-end-key.false; claimed = c.ready.new.pass.view.log; readies = ready.1; grows = c.in-Err.ensures.lost.part },
       ready.0,
       c.help.ensures.part,
     )
+
+pub stop-requires-clause-key : goal.stop-requires-clause-key
+stop-requires-clause-key c = key_of_call c.args.pass.now c.requires.pinned.run Insert c.args.key c.requires.call.call

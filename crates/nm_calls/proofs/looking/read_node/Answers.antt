@@ -1,4 +1,14 @@
+use Rattle.std.proofs.Common.{◌≡◌, List, [], ◌∷◌, ◌++◌, ap, ◌∙◌, sym}
+use Rattle.nm_edge.specs.Edges.{Edge}
+use Rattle.nm_edge.specs.declared.edge.Side.{Side}
+use Rattle.nm_edge.specs.declared.edge.Side.TheVariants.{Left, Right}
+use Rattle.nm_model.specs.declared.event.Event.TheVariants.{Look}
+use Rattle.nm_model.specs.declared.event.Field.TheVariants.{Key as KeyOf, Edge as EdgeOn}
+use Rattle.nm_model.specs.declared.reply.Reply.TheVariants.{KeyIs, EdgeIs}
+use Rattle.nm_model.specs.Walks.{Entry}
 use Rattle.nm_order.specs.Facts.Fact.{KnowsSlot}
+use Rattle.nm_steps.specs.Steps.{Stand}
+use Rattle.nm_calls.specs.Walks.{edge_on}
 use Rattle.nm_calls.proofs.GoingOn.{goes_then, only_then, pinned_in_still, told_onward}
 use Rattle.nm_calls.proofs.looking.read_node.Goals as goal
 
@@ -38,3 +48,15 @@ returns-clause-told c =
     let q = c.look_edge-right.new.pass in
     rw c.edge_at-next.ensures (told_onward o r s q c.args.key c.args.slot c.look_key-found.result c.look_edge-left.result c.look_edge-right.result
     c.look_key-found.ensures.told c.look_edge-left.ensures.told c.look_edge-right.ensures.told c.look_edge-left.ensures.on c.look_edge-right.ensures.on c.side_at-side.result c.side_at-side.ensures)
+
+pub returns-clause-leaf : goal.returns-clause-leaf
+returns-clause-leaf c is_left null =
+    let x = c.args.slot in
+    let key = c.look_key-found.result in
+    let left = c.look_edge-left.result in
+    let right = c.look_edge-right.result in
+    let first = ap (λ (s : Stand). s.view.log) c.look_key-found.ensures.step in
+    let second = ap (λ (s : Stand). s.view.log) c.look_edge-left.ensures.step ∙ ap (λ (l : List Entry). l ++ (Look x (EdgeOn Left), EdgeIs left) ∷ []) first in
+    let third = ap (λ (s : Stand). s.view.log) c.look_edge-right.ensures.step ∙ ap (λ (l : List Entry). l ++ (Look x (EdgeOn Right), EdgeIs right) ∷ []) second in
+    let same : left.slot ≡ c.edge_at-next.result.slot = sym (ap (λ (e : Edge). e.slot) (c.edge_at-next.ensures ∙ ap (λ (d : Side). edge_on d left right) is_left)) in
+    (left, right, third, same ∙ null, c.look_edge-right.ensures.told.null (c.look_edge-left.ensures.told.learned.leaf (same ∙ null)))

@@ -12,9 +12,10 @@ use Rattle.nm_steps.proofs.Seeing.{seen_all}
 use Rattle.nm_calls.proofs.GoingOn.{only_then, pinned_in_still}
 use Rattle.nm_calls.proofs.LookUps.{is_pinned, knows_second, call_is, may_answer, missed}
 use Rattle.nm_calls.proofs.Adding.{most, adds_then, adds_these, has_won, cuts_none, within_call, mul_below, pin_adds, moved_adds, lost_walks_add, finds_adds}
+use Rattle.nm_calls.specs.Bounds.{reach}
 use Rattle.nm_calls.specs.Moments.{HadNoCall}
 use Rattle.nm_calls.specs.Walks.{Finds}
-use Rattle.nm_calls.proofs.Moments.{no_call_on}
+use Rattle.nm_calls.proofs.Moments.{no_call_on, none_begun}
 use Rattle.nm_calls.proofs.lookup.has.Goals as goal
 
 pub find-requires-clause-pinned : goal.find-requires-clause-pinned
@@ -43,7 +44,7 @@ unpin-requires-clause-may c =
 
 pub returns : goal.returns
 returns c =
-    let nodes = c.args.shared.now.layout.nodes in
+    let L = c.args.shared.now.layout in
     let tries = c.args.tries in
     let old = c.args.pass.now.view.log in
     let a = c.pin_for.new.pass.view.log in
@@ -51,7 +52,7 @@ returns c =
     let new = c.unpin.new.pass.view.log in
     let left = ap (λ (s : Stand). s.view.log) c.unpin.ensures.took.step in
     let pin = pin_adds Has c.args.key tries old a c.in-Ok._epoch c.in-Ok.ensures.pinned in
-    let lost = lost_walks_add nodes c.args.key c.loop-walk._walk a p c.loop-walk.invariant.lost in
+    let lost = lost_walks_add L c.args.key c.loop-walk._walk a p c.loop-walk.invariant.lost in
     let last = adds_these _ p new left in
     let added = adds_then old a new pin (adds_then a p new lost last) in
     record {
@@ -63,7 +64,7 @@ returns c =
           let past = c.loop-walk-test.false in
           let within = c.loop-walk.auto._walk-end in
           let all : c.loop-walk._walk ≡ tries = omega (arith, past, within) in
-          missed nodes tries c.args.key old a p new c.in-Ok._epoch c.if-tries-eq0.false c.in-Ok.ensures.pinned (rw (← all) c.loop-walk.invariant.lost) left
+          missed L tries c.args.key old a p new c.in-Ok._epoch c.if-tries-eq0.false c.in-Ok.ensures.pinned (rw (← all) c.loop-walk.invariant.lost) left
           );
       won = has_won old new added;
       uncut = cuts_none old new added;
@@ -71,8 +72,8 @@ returns c =
           let pin_steps = pin.steps in
           let lost_steps = lost.steps in
           let last_steps = last.steps in
-          let few = mul-le-mul_right (most nodes) c.loop-walk.auto._walk-end in
-          within_call nodes tries (length old) (length new) (2 * tries + tries * most nodes + 10) (omega (arith, pin_steps, lost_steps, last_steps, few)) (omega arith)
+          let few = mul-le-mul_right (most (reach L)) c.loop-walk.auto._walk-end in
+          within_call L tries (length old) (length new) (2 * tries + tries * most (reach L) + 10) (omega (arith, pin_steps, lost_steps, last_steps, few)) (omega arith)
           );
       rests = search rules;
       hands = search rules;
@@ -96,7 +97,7 @@ returns-in_default c =
 
 pub returns-in-Some : goal.returns-in-Some
 returns-in-Some c =
-    let nodes = c.args.shared.now.layout.nodes in
+    let L = c.args.shared.now.layout in
     let tries = c.args.tries in
     let old = c.args.pass.now.view.log in
     let a = c.pin_for.new.pass.view.log in
@@ -106,15 +107,15 @@ returns-in-Some c =
     let found = c.in-Some.found in
     let left = ap (λ (s : Stand). s.view.log) c.leave_with.ensures.took.step in
     let pin = pin_adds Has c.args.key tries old a c.in-Ok._epoch c.in-Ok.ensures.pinned in
-    let lost = lost_walks_add nodes c.args.key c.loop-walk._walk a p c.loop-walk.invariant.lost in
+    let lost = lost_walks_add L c.args.key c.loop-walk._walk a p c.loop-walk.invariant.lost in
     let last = adds_these _ q new left in
-    let walks = finds_adds nodes c.get.result p q (Some found) c.in-Some.ensures.walk in
+    let walks = finds_adds L c.get.result p q (Some found) c.in-Some.ensures.walk in
     let added = adds_then old a new pin (adds_then a p new lost (adds_then p q new walks last)) in
     record {
       same = search rules;
       past = search (rules, seen_all);
       did = (
-          let walk = subst (λ k. Finds nodes k p q (Some found)) c.get.ensures.number c.in-Some.ensures.walk in
+          let walk = subst (λ k. Finds L k p q (Some found)) c.get.ensures.number c.in-Some.ensures.walk in
           record {
             pinned = a;
             epoch = c.in-Ok._epoch;
@@ -136,7 +137,7 @@ returns-in-Some c =
           let o = c.args.pass.now in
           let begun = c.pin_for.new.pass in
           let call = call_is begun c.in-Ok._epoch Has c.args.key c.in-Ok.ensures.at in
-          let pinned : HadNoCall o begun = record { seen = c.is_of_a_run.ensures.seen; same = c.pin_for.ensures.on.same; past = c.pin_for.ensures.on.past; call = ap (λ (s : Search). s.call) c.requires.rests.idle } in
+          let pinned : HadNoCall o begun = record { same = c.pin_for.ensures.on.same; past = c.pin_for.ensures.on.past; call = none_begun o c.is_of_a_run.ensures.seen c.is_of_a_run.ensures.fits (ap (λ (s : Search). s.call) c.requires.rests.idle) } in
           let walked = no_call_on o c.loop-walk.pass c.find.new.pass (no_call_on o begun c.loop-walk.pass pinned c.loop-walk.invariant.on.same c.loop-walk.invariant.on.past) c.find.ensures.on.same c.find.ensures.on.past in
           c.leave_with.ensures.moment o Has c.args.key walked (c.in-Some.ensures.on.keeps (CallIs Has c.args.key) (c.loop-walk.invariant.on.keeps (CallIs Has c.args.key) call))
           );
@@ -148,8 +149,8 @@ returns-in-Some c =
           let lost_steps = lost.steps in
           let walk_steps = c.find.ensures.steps in
           let last_steps = last.steps in
-          let few = mul_below c.loop-walk._walk tries (most nodes) c.loop-walk-test.true in
-          within_call nodes tries (length old) (length new) (2 * tries + tries * most nodes + 10) (omega (arith, pin_steps, lost_steps, walk_steps, last_steps, few)) (omega arith)
+          let few = mul_below c.loop-walk._walk tries (most (reach L)) c.loop-walk-test.true in
+          within_call L tries (length old) (length new) (2 * tries + tries * most (reach L) + 10) (omega (arith, pin_steps, lost_steps, walk_steps, last_steps, few)) (omega arith)
           );
       rests = search rules;
       hands = search rules;

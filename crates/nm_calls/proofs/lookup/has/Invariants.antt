@@ -4,7 +4,7 @@ use Rattle.nm_calls.proofs.lookup.has.Given as goal
 
 abbrev pub invariant-loop-walk : goal.invariant-loop-walk
 invariant-loop-walk l = record {
-  lost : LostWalks l.shared.layout.nodes l.key l._walk l.initial.pass.view.log l.pass.view.log;
+  lost : LostWalks l.shared.layout l.key l._walk l.initial.pass.view.log l.pass.view.log;
   on : GoesOn l.initial.pass l.pass;
   only : OnlyLooks l.initial.pass l.pass;
 }

@@ -5,7 +5,7 @@ use Rattle.nm_steps.proofs.Seeing.{seen_by_turn}
 use Rattle.nm_calls.proofs.making.give.Goals as goal
 
 pub returns-clause-on : goal.returns-clause-on
-returns-clause-on c = goes_on c.args.pass.now c.give.new.pass _ _ c.give.ensures.step (seen_by_turn _ _ _ c.give.ensures.past) refl refl c.is_of_a_run.ensures.fits c.is_of_a_run.ensures.run
+returns-clause-on c = goes_on c.args.pass.now c.give.new.pass _ _ c.give.ensures.step (seen_by_turn _ _ _ _ c.give.ensures.past) refl refl c.is_of_a_run.ensures.fits c.is_of_a_run.ensures.run
 
 pub returns-clause-given : goal.returns-clause-given
 returns-clause-given c = is_given c.args.pass.now c.give.new.pass c.args.node.slot c.give.ensures.step c.requires.run

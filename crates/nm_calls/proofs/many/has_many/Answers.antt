@@ -1,15 +1,16 @@
-use Rattle.std.proofs.Common.{rules, ◌∙◌, List, length, sym, ap, arith}
+use Rattle.std.proofs.Common.{rules, ◌∙◌, List, map, length, sym, ap, arith}
 use Rattle.nm_model.specs.declared.knowledge.Brief.{Brief}
 use Rattle.nm_model.specs.Searches.{Search}
 use Rattle.nm_model.specs.Walks.{Entry}
 use Rattle.nm_steps.specs.Steps.{Stand, IsSamePass}
 use Rattle.nm_steps.proofs.Seeing.{seen_through, seen_by_turn, seen_all}
 use Rattle.nm_epoch.proofs.Allowed.{may_leave}
-use Rattle.nm_calls.specs.InTurns.{most_looks}
+use Rattle.nm_calls.specs.Bounds.{reach}
+use Rattle.nm_calls.specs.InTurns.{GiveUp, key_of, most_looks}
 use Rattle.nm_calls.specs.PlainWalks.{LooksUnderPin}
 use Rattle.nm_calls.proofs.Adding.{has_won, cuts_none, plain_moved_adds}
 use Rattle.nm_calls.proofs.InTurnsLooks.{all_were_so}
-use Rattle.nm_calls.proofs.PlainLooks.{call_adds}
+use Rattle.nm_calls.proofs.PlainLooks.{call_adds, pin_missed, walks_missed}
 use Rattle.nm_calls.proofs.many.has_many.Goals as goal
 
 pub returns-in_default : goal.returns-in_default
@@ -19,7 +20,7 @@ returns-in_default c = record {
   did = search rules;
   keys = search rules;
   moment = search rules;
-  missed = search rules;
+  missed = pin_missed (GiveUp c.args.shared.now.layout (map key_of c.args.queries.now)) c.args.tries c.args.pass.now.view.log c.pin.new.pass.view.log c.if-tries-eq0.false c.in_default.ensures.moved;
   won = has_won _ _ (plain_moved_adds c.args.tries c.args.pass.now.view.log c.pin.new.pass.view.log c.in_default.ensures.moved);
   uncut = cuts_none _ _ (plain_moved_adds c.args.tries c.args.pass.now.view.log c.pin.new.pass.view.log c.in_default.ensures.moved);
   steps = search rules;
@@ -35,7 +36,7 @@ unpin-requires-clause-may c =
 
 pub returns-then-ended : goal.returns-then-ended
 returns-then-ended c =
-    let most = most_looks c.args.shared.now.layout.nodes (length c.args.queries.now) in
+    let most = most_looks (reach c.args.shared.now.layout) (length c.args.queries.now) in
     let old = c.args.pass.now.view.log in
     let new = c.unpin.new.pass.view.log in
     let did : LooksUnderPin c.args.tries most old new = record { pinned = c.pin.new.pass.view.log; epoch = c.in-Ok._epoch; pin = c.in-Ok.ensures.pinned; looked = c.walk_all-ended.new.pass.view.log; looks = c.walk_all-ended.ensures.looks; leaves = ap (λ (s : Stand). s.view.log) c.unpin.ensures.took.step } in
@@ -53,7 +54,7 @@ returns-then-ended c =
           let walked = c.walk_all-ended.ensures in
           let first : IsSamePass o p = search rules in
           let last : IsSamePass p q = c.unpin.ensures.took.step ∙ ap (λ (l : List Entry). record p { view = record p.view { log = l; past = q.view.past } }) (sym (ap (λ (s : Stand). s.view.log) c.unpin.ensures.took.step)) in
-          all_were_so o p q c.is_of_a_run.ensures.seen c.is_of_a_run.ensures.fits c.requires.rests.unpinned first (seen_through o a p c.pin.ensures.on.past walked.on.past) c.is_of_a_run-2.ensures.seen last (seen_by_turn _ _ _ c.unpin.ensures.took.past)
+          all_were_so o p q c.is_of_a_run.ensures.seen c.is_of_a_run.ensures.fits c.requires.rests.unpinned first (seen_through o a p c.pin.ensures.on.past walked.on.past) c.is_of_a_run-2.ensures.seen last (seen_by_turn _ _ _ _ c.unpin.ensures.took.past)
           c.walk_all-ended.new.queries walked.under_way (walked.ended c.if-ended.true)
           );
       missed = search rules;
@@ -66,7 +67,7 @@ returns-then-ended c =
 
 pub returns-else-ended : goal.returns-else-ended
 returns-else-ended c =
-    let most = most_looks c.args.shared.now.layout.nodes (length c.args.queries.now) in
+    let most = most_looks (reach c.args.shared.now.layout) (length c.args.queries.now) in
     let old = c.args.pass.now.view.log in
     let new = c.unpin.new.pass.view.log in
     let did : LooksUnderPin c.args.tries most old new = record { pinned = c.pin.new.pass.view.log; epoch = c.in-Ok._epoch; pin = c.in-Ok.ensures.pinned; looked = c.walk_all-ended.new.pass.view.log; looks = c.walk_all-ended.ensures.looks; leaves = ap (λ (s : Stand). s.view.log) c.unpin.ensures.took.step } in
@@ -77,7 +78,7 @@ returns-else-ended c =
       did = search rules;
       keys = search rules;
       moment = search rules;
-      missed = search rules;
+      missed = walks_missed (GiveUp c.args.shared.now.layout (map key_of c.args.queries.now)) c.args.tries old c.pin.new.pass.view.log c.walk_all-ended.new.pass.view.log new c.in-Ok._epoch c.in-Ok.ensures.pinned (c.walk_all-ended.ensures.given_up c.if-ended.false) did.leaves;
       won = has_won _ _ added;
       uncut = cuts_none _ _ added;
       steps = (let few = added.steps in omega (arith, few));

@@ -1,9 +1,8 @@
 use Rattle.std.proofs.Common.{rules, ◌∙◌, ◌+◌, ◌*◌, arith}
 use Rattle.std.proofs.Math.Seq.{map-set_same}
-use Rattle.std.proofs.lemmas.List.Elements.{All-set}
-use Rattle.nm_calls.specs.InTurns.{IsUnderWay, key_of}
+use Rattle.nm_calls.specs.InTurns.{key_of}
 use Rattle.nm_calls.proofs.GoingOn.{goes_then, only_then}
-use Rattle.nm_calls.proofs.InTurnsLooks.{all_still}
+use Rattle.nm_calls.proofs.InTurnsLooks.{turned, turned_so_far}
 use Rattle.nm_calls.proofs.PlainLooks.{looks_in, looks_then}
 use Rattle.nm_calls.proofs.many.take_turns.Goals as goal
 
@@ -16,7 +15,11 @@ loop-index-preserved c =
     let did = c.take_turn.ensures in
     record {
       looks = looks_in (3 * (c.loop-index.index + 1)) o.view.log q.view.log (omega arith) (looks_then o.view.log p.view.log q.view.log held.looks did.looks);
-      under_way = All-set (IsUnderWay q) c.loop-index.queries c.loop-index.index c.take_turn.new.query did.under_way (all_still p q did.looks did.on c.loop-index.queries held.under_way);
+      under_way = turned p q did.looks did.on c.loop-index.queries c.loop-index.index (search rules) c.index-queries-index.result c.take_turn.new.query did.under_way 0 held.under_way;
+      further = λ n all. (
+        turned p q did.looks did.on c.loop-index.queries c.loop-index.index (search rules) c.index-queries-index.result c.take_turn.new.query did.under_way n (held.further n all).0,
+        turned_so_far p q did.looks did.on c.loop-index.queries c.loop-index.index (search rules) c.index-queries-index.result c.take_turn.new.query did.under_way n (held.further n all).0 (held.further n all).1,
+      );
       keys = map-set_same key_of c.loop-index.queries c.loop-index.index c.take_turn.new.query c.index-queries-index.result (search rules) ∙ held.keys;
       on = goes_then o p q held.on did.on;
       only = only_then o p q held.only did.only;

@@ -3,6 +3,7 @@ use Rattle.std.proofs.lemmas.Bool.{or_parts}
 use Rattle.nm_edge.specs.Layouts.{Layout}
 use Rattle.nm_order.specs.Facts.Fact.{KnowsSlot}
 use Rattle.nm_steps.specs.Steps.{Stand}
+use Rattle.nm_calls.specs.Bounds.{reach}
 use Rattle.nm_calls.specs.Telling.{Tells, OnwardTold}
 use Rattle.nm_calls.specs.Walks.{Reads, IsWalking, chain_onto}
 use Rattle.nm_calls.proofs.GoingOn.{goes_then, only_then, pinned_in_still, come_first}
@@ -53,7 +54,7 @@ loop-below-preserved c =
     let q = c.read_node-on.new.pass in
     let t = c.loop-below.spot in
     let on = c.read_node-on.result in
-    let nodes = c.args.shared.now.layout.nodes in
+    let L = c.args.shared.now.layout in
     let some : on.next.slot ≢ 0 = c.is_null.ensures.no c.if-is_null.false in
     let told : OnwardTold p q c.args.key t.edge.slot on.found on.side on.next = subst (λ n. OnwardTold p q c.args.key n on.found on.side on.next) c.slot_of-node.ensures c.read_node-on.ensures.told in
     let read : Reads c.args.key t.edge.slot p.view.log q.view.log on = subst (λ n. Reads c.args.key n p.view.log q.view.log on) c.slot_of-node.ensures c.read_node-on.ensures.looks in
@@ -61,11 +62,11 @@ loop-below-preserved c =
     let none' : chain_onto t [] ≡ [] = no_chain t [] plain in
     record {
       within = rw c.further-spot.ensures.edge c.read_node-on.ensures.within;
-      finding = finds_on nodes c.args.key c.loop-below.below o p q t on c.loop-below.invariant.finding read told some c.further-spot.result c.further-spot.ensures.spot c.further-spot.ensures.edge;
+      finding = finds_on L c.args.key c.loop-below.below o p q t on c.loop-below.invariant.finding read told some c.further-spot.result c.further-spot.ensures.spot c.further-spot.ensures.edge;
       on = goes_then o p q c.loop-below.invariant.on c.read_node-on.ensures.on;
       only = only_then o p q c.loop-below.invariant.only c.read_node-on.ensures.only;
-      walking = λ root. subst (λ chain. IsWalking nodes c.args.key (c.loop-below.below + 1) o q c.further-spot.result chain) none'
-          (walks_on nodes c.args.key c.loop-below.below o p q t [] on (c.loop-below.invariant.walking root) read c.read_node-on.ensures.on c.read_node-on.ensures.only told
+      walking = λ root. subst (λ chain. IsWalking L c.args.key (c.loop-below.below + 1) o q c.further-spot.result chain) none'
+          (walks_on L c.args.key c.loop-below.below o p q t [] on (c.loop-below.invariant.walking root) read c.read_node-on.ensures.on c.read_node-on.ensures.only told
           some c.read_node-on.ensures.within (rw none' (omega arith)) c.further-spot.result c.further-spot.ensures.spot c.further-spot.ensures.edge);
     }
 
@@ -76,17 +77,17 @@ returns-then-is_null c =
     let q = c.read_node-on.new.pass in
     let t = c.loop-below.spot in
     let on = c.read_node-on.result in
-    let nodes = c.args.shared.now.layout.nodes in
+    let L = c.args.shared.now.layout in
     let told : OnwardTold p q c.args.key t.edge.slot on.found on.side on.next = subst (λ n. OnwardTold p q c.args.key n on.found on.side on.next) c.slot_of-node.ensures c.read_node-on.ensures.told in
     let read : Reads c.args.key t.edge.slot p.view.log q.view.log on = subst (λ n. Reads c.args.key n p.view.log q.view.log on) c.slot_of-node.ensures c.read_node-on.ensures.looks in
     let below = c.loop-below-test.true in
-    let size = c.nodes-most.ensures.nodes in
-    let layout = ap (λ (L : Layout). L.nodes) c.layout-layout.ensures in
+    let size = c.reach-most.ensures.reach in
+    let layout = ap reach c.layout-layout.ensures in
     let null = c.is_null.ensures.yes c.if-is_null.true in
-    let out = finds_out nodes c.args.key c.loop-below.below o p q t on c.loop-below.invariant.finding read told null (omega (arith, below, size, layout)) in
+    let out = finds_out L c.args.key c.loop-below.below o p q t on c.loop-below.invariant.finding read told null (omega (arith, below, size, layout)) in
     record {
       came = rw (c.end_at.ensures.spot, c.end_at.ensures.key) out;
-      remembers = λ root. walks_out nodes c.args.key c.loop-below.below o p q t [] on (c.loop-below.invariant.walking root) read c.read_node-on.ensures.on c.read_node-on.ensures.only told
+      remembers = λ root. walks_out L c.args.key c.loop-below.below o p q t [] on (c.loop-below.invariant.walking root) read c.read_node-on.ensures.on c.read_node-on.ensures.only told
           null (omega (arith, below, size, layout)) c.end_at.result c.end_at.ensures.spot c.end_at.ensures.key;
       on = goes_then o p q c.loop-below.invariant.on c.read_node-on.ensures.on;
       only = only_then o p q c.loop-below.invariant.only c.read_node-on.ensures.only;

@@ -10,5 +10,5 @@ invariant-loop-below l = record {
   finding : IsFinding l.key l.below l.fn.pass l.pass l.spot;
   on : GoesOn l.fn.pass l.pass;
   only : OnlyLooks l.fn.pass l.pass;
-  walking : Tells l.fn.pass (KnowsSlot 1) → IsWalking l.shared.layout.nodes l.key l.below l.fn.pass l.pass l.spot [];
+  walking : Tells l.fn.pass (KnowsSlot 1) → IsWalking l.shared.layout l.key l.below l.fn.pass l.pass l.spot [];
 }

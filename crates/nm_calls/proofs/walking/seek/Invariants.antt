@@ -1,9 +1,10 @@
 use Rattle.std.proofs.Common.{◌+◌, ◌≤◌}
+use Rattle.nm_calls.specs.Bounds.{reach}
 use Rattle.nm_calls.specs.Walks.{IsWalking}
 use Rattle.nm_calls.proofs.walking.seek.Given as goal
 
 abbrev pub invariant-loop-below : goal.invariant-loop-below
 invariant-loop-below l = record {
-  inside : l._below + 1 ≤ l.shared.layout.nodes;
-  walking : IsWalking l.shared.layout.nodes l.key l._below l.fn.pass l.pass l.spot l.chain.items;
+  inside : l._below + 1 ≤ reach l.shared.layout;
+  walking : IsWalking l.shared.layout l.key l._below l.fn.pass l.pass l.spot l.chain.items;
 }

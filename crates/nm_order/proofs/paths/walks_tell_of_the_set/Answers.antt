@@ -1,4 +1,5 @@
-use Rattle.nm_order.proofs.WalkAnswers.{any_walk_tells, walks_tell_of_their_pin}
+use Rattle.nm_order.proofs.WalkAnswers.{walks_tell_of_their_pin}
+use Rattle.nm_order.proofs.WalkTells.{any_walk_tells}
 use Rattle.nm_order.proofs.paths.walks_tell_of_the_set.Goals as goal
 
 pub returns-clause-pin : goal.returns-clause-pin

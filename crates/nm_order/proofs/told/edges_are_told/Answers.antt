@@ -1,4 +1,4 @@
-use Rattle.nm_order.proofs.ToldLaws.{twins_are_told, flags_are_told, flagged_lead_high, flagged_stand_high, edges_stay_inside, root_leads, tags_lead}
+use Rattle.nm_order.proofs.ToldLaws.{twins_are_told, flags_are_told, flagged_lead_high, flagged_stand_high, edges_stay_inside, root_leads, leaves_lead_nowhere, tags_lead}
 use Rattle.nm_order.proofs.told.edges_are_told.Goals as goal
 
 pub returns-clause-twins : goal.returns-clause-twins
@@ -21,3 +21,6 @@ returns-clause-tags c = tags_lead
 
 pub returns-clause-flags : goal.returns-clause-flags
 returns-clause-flags c = flags_are_told
+
+pub returns-clause-leaves : goal.returns-clause-leaves
+returns-clause-leaves c = leaves_lead_nowhere

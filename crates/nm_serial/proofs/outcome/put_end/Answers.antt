@@ -1,6 +1,5 @@
 use Rattle.std.proofs.Common.{◌≡◌, ◌<◌, ◌∙◌, ℕ, length, slice_index_or, refl, arith}
 use Rattle.nm_tree.specs.declared.worker.Counts.{Counts}
-use Rattle.nm_tree.proofs.OfClosed.{all_slots_are_told}
 use Rattle.nm_serial.specs.Endings.{IsCountedByHolder, ending_lines}
 use Rattle.nm_serial.proofs.ReportLemmas.{closed_is_told}
 use Rattle.nm_serial.proofs.WorkerLemmas.{all_are_of}
@@ -12,9 +11,8 @@ close-requires c = record { own = all_are_of c.args.tree c.args.workers.items c.
 -- no more nodes wait than there are slots
 pub put_report-requires : goal.put_report-requires
 put_report-requires c =
-    let report = c.in-Ok-close.report in
     let closed = c.in-Ok-close.ensures.closed in
-    let sum = all_slots_are_told c.args.tree c.args.workers.items report.queues.items report.keys.items report.free report.reached closed in
+    let sum = closed.says.sum in
     let most = closed.ends.fits.most in
     record { few = omega (arith, sum, most) }
 

@@ -9,8 +9,8 @@ use Rattle.nm_tree.specs.Workers.{Hand}
 use Rattle.nm_tree.proofs.Closed.{closed}
 use Rattle.nm_tree.proofs.closing.close_all.Goals as goal
 
-pub returns : goal.returns
-returns c =
+pub returns-clause-closed : goal.returns-clause-closed
+returns-clause-closed c =
     let room : c.args.room ≡ c.args.tree.layout = c.requires.room in
     let P : Layout → Type 0 = λ L. (e : IsEndOf L c.close-words.result) → c.read-keys.result.keys.items ≡ keys (end_of L c.close-words.result e) in
     let Q : Layout → Type 0 = λ L. (e : IsEndOf L c.close-words.result) → c.read-keys.result.free ≡ (counts (end_of L c.close-words.result e)).pool in
@@ -21,7 +21,11 @@ returns c =
     (subst (λ (v : View). GoesOnFromAll v.past c.args.workers.items) (sym (ap (λ (h : Hand). h.pass.view) c.pass.view_is)) c.unite_all.ensures.seen)
     (ap (λ (h : Hand). h.queues) c.pass.view_is ∙ c.unite_all.ensures.queues)
     c.requires.all
+    c.unite_all.ensures.runs
     (subst S c.tree.view_is c.close-words.ensures.ends)
     (subst P room c.read-keys.ensures.keys)
     (subst Q room c.read-keys.ensures.free)
     (subst R room c.read-keys.ensures.reached)
+
+pub returns-clause-says : goal.returns-clause-says
+returns-clause-says c = (returns-clause-closed c).says

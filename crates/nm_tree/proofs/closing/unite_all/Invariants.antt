@@ -1,5 +1,6 @@
 use Rattle.std.proofs.Common.{◌≡◌, ◌++◌, ◌∷◌, List, length}
-use Rattle.nm_steps.specs.Steps.{IsOf}
+use Rattle.std.specs.Prelude.{All}
+use Rattle.nm_steps.specs.Steps.{HasSeen, IsOf}
 use Rattle.nm_tree.specs.Workers.{Hand}
 use Rattle.nm_tree.specs.Closing.{AreAllOf, GoesOnFromAll, StandsForAll, all_merged}
 use Rattle.nm_tree.proofs.closing.unite_all.Given as goal
@@ -12,6 +13,7 @@ invariant-loop-leaver l = record {
       × (l.fn.workers.items ≡ l.workers.items ++ u ∷ us)
       × StandsForAll (u ∷ us) l.heir.pass.view
       × GoesOnFromAll l.heir.pass.view.past (u ∷ us)
+      × All (λ (w : Hand). HasSeen w.pass.view) (u ∷ us)
       × (l.heir.queues ≡ all_merged (u ∷ us));
 }
 

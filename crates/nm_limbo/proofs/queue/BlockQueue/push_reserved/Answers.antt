@@ -20,7 +20,7 @@ written g c =
       | then-filled-blocks w ↦ subst (λ k. IsReady k.used k.empty k.popped k.len k.alloc now × (k.popped ≡ q.popped) × (k.len ≡ q.len)) (sym w.self-inside-is)
           (ready_full q.used q.empty q.popped q.len q.alloc now w.take_block.new.self w.take_block.new.from c.self.invariant c.self.view_is (omega (arith, w.if-filled-blocks.true, blocks.blocks, blocks.places)) c.requires w.take_block.ensures.from w.take_block.ensures.list, refl, refl)
       | else-filled-blocks w ↦ subst (λ k. IsReady k.used k.empty k.popped k.len k.alloc now × (k.popped ≡ q.popped) × (k.len ≡ q.len)) (sym w.self-inside-is)
-          (ready q.used q.empty q.popped q.len q.alloc now c.self.invariant c.self.view_is (omega (arith, w.if-filled-blocks.false, blocks.blocks, blocks.places, c.self.invariant.0, c.self.invariant.1.whole)), refl, refl)
+          (ready q.used q.empty q.popped q.len q.alloc now c.self.invariant c.self.view_is (omega (arith, w.if-filled-blocks.false, blocks.blocks, blocks.places, c.self.invariant.0.0, c.self.invariant.1.whole)), refl, refl)
     ] in
     let at = place_in j.used j.empty j.popped j.len j.alloc now (q.popped + q.len + 32 - 32 * c.blocks-3.result) is.0 (omega (arith, is.1, is.2, c.blocks-3.ensures.blocks)) in
     push_made j.used j.empty j.popped j.len j.alloc now _ c.args.item c.write.new.self is.0 at.2 c.write.ensures

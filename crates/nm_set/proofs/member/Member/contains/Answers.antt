@@ -1,9 +1,10 @@
-use Rattle.std.proofs.Common.{rules, ◌≡◌, inl, inr, refl, subst}
-use Rattle.std.specs.Prelude.{None}
+use Rattle.std.proofs.Common.{rules, ◌≡◌, ◌+◌, ◌*◌, inl, inr, refl, ap, subst}
+use Rattle.std.specs.Prelude.{None, Ok}
 use Rattle.nm_model.specs.declared.event.Op.TheVariants.{Has}
-use Rattle.nm_steps.specs.Steps.{Board}
-use Rattle.nm_set.specs.Tended.{Looks}
-use Rattle.nm_set.proofs.Tending.{pending_tends, contains_tends}
+use Rattle.nm_steps.specs.Steps.{Board, Stand}
+use Rattle.nm_set.specs.Tended.{Looks, busy}
+use Rattle.nm_set.proofs.Disturbances.{looks_disturbed, since_disturbed}
+use Rattle.nm_set.proofs.Tending.{pending_tends, contains_tends, goes_finishes, said}
 use Rattle.nm_set.proofs.member.Member.contains.Goals as goal
 
 pub returns-in_default-clause-did : goal.returns-in_default-clause-did
@@ -24,3 +25,26 @@ returns-clause-did c =
     let z = c.has_again.new.self.hand in
     let looks = subst (λ (d : Board). Looks d h k x z c.has_again.result) c.finish_again.ensures.board c.has_again.ensures.did in
     inr (free, record { did = inr (c.in-Ok._done, x, settled, looks); tends = contains_tends b h k w x z c.in-Ok._done c.has_again.result free settled looks })
+
+pub returns-in_default-clause-says : goal.returns-in_default-clause-says
+returns-in_default-clause-says c = said c.args.self.now.board c.args.habit.now Has c.args.key c.args.self.now.hand _ _ (returns-in_default-clause-did c)
+
+pub returns-clause-says : goal.returns-clause-says
+returns-clause-says c = said c.args.self.now.board c.args.habit.now Has c.args.key c.args.self.now.hand _ _ (returns-clause-did c)
+
+pub returns-in_default-clause-disturbed : goal.returns-in_default-clause-disturbed
+returns-in_default-clause-disturbed c is = absurd (let no = is in cc)
+
+pub returns-clause-disturbed : goal.returns-clause-disturbed
+returns-clause-disturbed c is =
+    let b = c.args.self.now.board in
+    let h = c.args.habit.now in
+    let k = c.args.key in
+    let w = c.args.self.now.hand in
+    let x = c.finish_again.new.self.hand in
+    let z = c.has_again.new.self.hand in
+    let free : w.held ≡ None = search rules in
+    let on = goes_finishes b h w x (Ok c.in-Ok._done) free c.in-Ok.ensures.did in
+    let looks = subst (λ (d : Board). Looks d h k x z c.has_again.result) c.finish_again.ensures.board c.has_again.ensures.did in
+    since_disturbed ((h.rounds + 1) * h.tries) w.pass x.pass z.pass (ap (λ (p : Stand). p.view.number) on.same) on.past
+    (looks_disturbed b h k x z (subst (Looks b h k x z) is looks))

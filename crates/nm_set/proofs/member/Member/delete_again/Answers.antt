@@ -19,5 +19,5 @@ returns-clause-did c =
     let some = c.if-habit-eq0.false in
     let rest : Deletes b (record h { rounds = h.rounds - 1 }) k m z r = subst (λ (g : Habit). Deletes b g k m z r) c.without_one.ensures c.delete_rounds.ensures.did in
     λ w first.
-    let lost = subst (λ (t : Result Bool Fault). Asked (LeavesDelete b.layout.nodes h.tries k) w m t) (c.if-not-is_busy.ensures.yes refl) first in
-    asked_more (Asked (LeavesDelete b.layout.nodes h.tries k)) busy h.rounds w m z r (omega (arith, some)) lost rest
+    let lost = subst (λ (t : Result Bool Fault). Asked (LeavesDelete b.layout h.tries k) w m t) (c.if-not-is_busy.ensures.yes refl) first in
+    asked_more (Asked (LeavesDelete b.layout h.tries k)) busy h.rounds w m z r (omega (arith, some)) lost rest

@@ -9,5 +9,5 @@ use Rattle.nm_set.proofs.member.Member.delete_on.Goals as goal
 pub returns-in-Ok-clause-did : goal.returns-in-Ok-clause-did
 returns-in-Ok-clause-did c =
     let h = c.args.habit.now in
-    let leaves = Asked (LeavesDelete c.args.self.now.board.layout.nodes h.tries c.args.key) in
-    inl (asked_once leaves busy h.rounds c.args.self.now.hand c.delete.new.self.hand (Ok c.in-Ok.answer) c.in-Ok.ensures.did (λ e. is_no_fault _ _ e), λ e. is_no_fault _ _ e)
+    let leaves = Asked (LeavesDelete c.args.self.now.board.layout h.tries c.args.key) in
+    inl (asked_once leaves busy h.rounds c.args.self.now.hand c.try_remove.new.self.hand (Ok c.in-Ok.answer) c.in-Ok.ensures.did (λ e. is_no_fault _ _ e), λ e. is_no_fault _ _ e)

@@ -6,19 +6,19 @@ use Rattle.nm_set.proofs.member.Member.delete_rounds.Goals as goal
 
 pub returns-then-not-is_busy-clause-did : goal.returns-then-not-is_busy-clause-did
 returns-then-not-is_busy-clause-did c =
-    let P : Board → Type 0 = λ b. Asked (LeavesDelete b.layout.nodes c.args.habit.now.tries c.args.key) c.loop-round.self.hand c.delete-told.new.self.hand c.delete-told.result in
+    let P : Board → Type 0 = λ b. Asked (LeavesDelete b.layout c.args.habit.now.tries c.args.key) c.loop-round.self.hand c.try_remove-told.new.self.hand c.try_remove-told.result in
     record {
       before = c.loop-round._round;
       begun = c.loop-round.self.hand;
       each = c.loop-round.invariant.each;
-      last = subst P c.loop-round.invariant.board c.delete-told.ensures.did;
+      last = subst P c.loop-round.invariant.board c.try_remove-told.ensures.did;
       few = omega (arith, c.loop-round-test.true);
       all = λ told. absurd (c.if-not-is_busy.ensures.no refl told);
     }
 
 pub returns-clause-did : goal.returns-clause-did
 returns-clause-did c =
-    let P : Board → Type 0 = λ b. Asked (LeavesDelete b.layout.nodes c.args.habit.now.tries c.args.key) c.loop-round.self.hand c.delete.new.self.hand c.delete.result in
+    let P : Board → Type 0 = λ b. Asked (LeavesDelete b.layout c.args.habit.now.tries c.args.key) c.loop-round.self.hand c.try_remove.new.self.hand c.try_remove.result in
     let past = c.loop-round-test.false in
     let within = c.loop-round.auto._round-end in
     let all : c.loop-round._round ≡ c.args.habit.now.rounds = omega (arith, past, within) in
@@ -26,7 +26,7 @@ returns-clause-did c =
       before = c.loop-round._round;
       begun = c.loop-round.self.hand;
       each = c.loop-round.invariant.each;
-      last = subst P c.loop-round.invariant.board c.delete.ensures.did;
+      last = subst P c.loop-round.invariant.board c.try_remove.ensures.did;
       few = within;
       all = λ told. all;
     }

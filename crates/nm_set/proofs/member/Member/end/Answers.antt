@@ -1,24 +1,34 @@
-use Rattle.std.proofs.Common.{◌≡◌, ◌∙◌, List, [], ◌∷◌, ◌++◌, sym, ap, subst}
-use Rattle.std.specs.Arc.{arc_value}
+use Rattle.std.proofs.Common.{◌∙◌, List, [], ◌∷◌, subst}
+use Rattle.nm_tree.specs.declared.closing.Report.{Report}
+use Rattle.nm_tree.specs.Closing.{IsClosed}
 use Rattle.nm_tree.specs.Workers.{Hand}
 use Rattle.nm_set.specs.declared.home.Site.{Site}
-use Rattle.nm_set.specs.Seats.{AreOwn, BeginsWith, Seated}
-use Rattle.nm_set.specs.Ends.{set_of}
-use Rattle.nm_set.proofs.SetEnds.{Gathers, gathered_with, kept_all}
+use Rattle.nm_set.specs.Seats.{AreOwn, BeginsWith, Seated, Standing}
+use Rattle.nm_set.specs.Ends.{IsTreesReason, set_of}
+use Rattle.nm_set.proofs.SetEnds.{Gathers, ended, gathered_with, kept_all}
 use Rattle.nm_set.proofs.member.Member.end.Goals as goal
 
-pub returns-in-Err-end-clause-refused : goal.returns-in-Err-end-clause-refused
-returns-in-Err-end-clause-refused c =
+pub returns-in-Ok-close-clause-ended : goal.returns-in-Ok-close-clause-ended
+returns-in-Ok-close-clause-ended c =
     let m : Seated = c.args.self in
-    let site : Site = c.gather-site.result.0 in
-    let all : List Hand = c.gather-site.result.1.items in
-    let worker = c.apart-home.result.1.worker in
-    let alone = c.stay_with.ensures.items ∙ (ap (λ (ws : List Hand). ws ++ worker ∷ []) c.in-Ok.ensures.empty ∙ ap (λ (w : Hand). w ∷ []) c.apart-home.ensures.worker) in
-    let same : site ≡ arc_value c.apart-home.result.0 = c.gather-site.ensures.site ∙ c.in-Ok-try_unwrap.ensures.ok in
-    let tree = ap (λ (s : Site). s.tree) same ∙ c.apart-home.ensures.tree in
-    let fit = c.apart-home.ensures.fit ∙ ap (λ (s : Site). s.fit) (sym same) in
-    let begins = subst (λ (ws : List Hand). BeginsWith ws all) alone c.gather-site.ensures.kept in
-    let own = subst (λ (s : Site). AreOwn s.tree all) (sym c.gather-site.ensures.site) c.gather-site.ensures.own in
-    let g : Gathers (set_of m) site all = gathered_with m site all tree fit begins own in
-    let told = c.in-Err-end.ensures.reason in
-    (told.0, told.1, kept_all (set_of m) site all g c.in-Err-end.error.set c.in-Err-end.ensures.refused told.0 told.2)
+    let site : Site = c.apart-home.result.0 in
+    let told = c.in-Ok-gather.ensures.gathered in
+    let all : List Hand = told.0 in
+    let begins = subst (λ (w : Hand). BeginsWith (w ∷ []) all) c.apart-home.ensures.worker told.2 in
+    let own = subst (λ (s : Standing). AreOwn s.board s.kept) told.1 c.close.ensures.own in
+    let g : Gathers (set_of m) site all = gathered_with m site all c.apart-home.ensures.tree c.apart-home.ensures.fit begins own in
+    let r : Report = c.in-Ok-close.report in
+    ended (set_of m) site all g r (subst (λ (s : Standing). IsClosed s.board s.kept r.queues.items r.keys.items r.free r.reached) told.1 c.in-Ok-close.ensures.closed)
+
+pub returns-in-Err-close-clause-refused : goal.returns-in-Err-close-clause-refused
+returns-in-Err-close-clause-refused c =
+    let m : Seated = c.args.self in
+    let site : Site = c.apart-home.result.0 in
+    let told = c.in-Ok-gather.ensures.gathered in
+    let all : List Hand = told.0 in
+    let begins = subst (λ (w : Hand). BeginsWith (w ∷ []) all) c.apart-home.ensures.worker told.2 in
+    let own = subst (λ (s : Standing). AreOwn s.board s.kept) told.1 c.close.ensures.own in
+    let g : Gathers (set_of m) site all = gathered_with m site all c.apart-home.ensures.tree c.apart-home.ensures.fit begins own in
+    let t : Standing = c.in-Err-close.error.set in
+    let why = subst (λ (s : Standing). IsTreesReason s.board s.kept c.in-Err-close.error.reason) told.1 c.in-Err-close.ensures.reason in
+    (why.0, why.1, kept_all (set_of m) site all g t (c.in-Err-close.ensures.refused ∙ told.1) why.0 why.2)

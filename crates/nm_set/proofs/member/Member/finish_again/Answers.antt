@@ -18,7 +18,7 @@ returns-clause-did c =
     let z = c.finish_rounds.new.self.hand in
     let r = c.finish_rounds.result in
     let some = c.if-habit-eq0.false in
-    let first = subst (λ (t : Result Bool Lost). LeavesFinish b.layout.nodes h.tries w m t) (c.if-not-is_lost.ensures.yes refl) c.finish-told.ensures.did in
+    let first = subst (λ (t : Result Bool Lost). LeavesFinish b.layout h.tries w m t) (c.if-not-is_lost.ensures.yes refl) c.finish-told.ensures.did in
     let rest : FinishesPending b (record h { rounds = h.rounds - 1 }) m z r =
     subst (λ (g : Habit). FinishesPending b g m z r) c.without_one.ensures (subst (λ (d : Board). FinishesPending d c.without_one.result m z r) c.finish-told.ensures.board c.finish_rounds.ensures.did) in
-    asked_more (LeavesFinish b.layout.nodes h.tries) (Err Unfinished) h.rounds w m z r (omega (arith, some)) first rest
+    asked_more (LeavesFinish b.layout h.tries) (Err Unfinished) h.rounds w m z r (omega (arith, some)) first rest

@@ -15,11 +15,11 @@ returns-clause-did c =
     let h = c.args.habit.now in
     let k = c.args.key in
     let w = c.args.self.now.hand in
-    let m = c.has-told.new.self.hand in
+    let m = c.try_contains-told.new.self.hand in
     let z = c.has_rounds.new.self.hand in
     let r = c.has_rounds.result in
     let some = c.if-habit-eq0.false in
-    let first = subst (λ (t : Result Bool Fault). Asked (LeavesHas b.layout.nodes h.tries k) w m t) (c.if-not-is_busy.ensures.yes refl) c.has-told.ensures.did in
+    let first = subst (λ (t : Result Bool Fault). Asked (LeavesHas b.layout h.tries k) w m t) (c.if-not-is_busy.ensures.yes refl) c.try_contains-told.ensures.did in
     let rest : Looks b (record h { rounds = h.rounds - 1 }) k m z r =
-    subst (λ (g : Habit). Looks b g k m z r) c.without_one.ensures (subst (λ (d : Board). Looks d c.without_one.result k m z r) c.has-told.ensures.board c.has_rounds.ensures.did) in
-    asked_more (Asked (LeavesHas b.layout.nodes h.tries k)) busy h.rounds w m z r (omega (arith, some)) first rest
+    subst (λ (g : Habit). Looks b g k m z r) c.without_one.ensures (subst (λ (d : Board). Looks d c.without_one.result k m z r) c.try_contains-told.ensures.board c.has_rounds.ensures.did) in
+    asked_more (Asked (LeavesHas b.layout h.tries k)) busy h.rounds w m z r (omega (arith, some)) first rest

@@ -6,19 +6,19 @@ use Rattle.nm_set.proofs.member.Member.has_rounds.Goals as goal
 
 pub returns-then-not-is_busy-clause-did : goal.returns-then-not-is_busy-clause-did
 returns-then-not-is_busy-clause-did c =
-    let P : Board → Type 0 = λ b. Asked (LeavesHas b.layout.nodes c.args.habit.now.tries c.args.key) c.loop-round.self.hand c.has-told.new.self.hand c.has-told.result in
+    let P : Board → Type 0 = λ b. Asked (LeavesHas b.layout c.args.habit.now.tries c.args.key) c.loop-round.self.hand c.try_contains-told.new.self.hand c.try_contains-told.result in
     record {
       before = c.loop-round._round;
       begun = c.loop-round.self.hand;
       each = c.loop-round.invariant.each;
-      last = subst P c.loop-round.invariant.board c.has-told.ensures.did;
+      last = subst P c.loop-round.invariant.board c.try_contains-told.ensures.did;
       few = omega (arith, c.loop-round-test.true);
       all = λ told. absurd (c.if-not-is_busy.ensures.no refl told);
     }
 
 pub returns-clause-did : goal.returns-clause-did
 returns-clause-did c =
-    let P : Board → Type 0 = λ b. Asked (LeavesHas b.layout.nodes c.args.habit.now.tries c.args.key) c.loop-round.self.hand c.has.new.self.hand c.has.result in
+    let P : Board → Type 0 = λ b. Asked (LeavesHas b.layout c.args.habit.now.tries c.args.key) c.loop-round.self.hand c.try_contains.new.self.hand c.try_contains.result in
     let past = c.loop-round-test.false in
     let within = c.loop-round.auto._round-end in
     let all : c.loop-round._round ≡ c.args.habit.now.rounds = omega (arith, past, within) in
@@ -26,7 +26,7 @@ returns-clause-did c =
       before = c.loop-round._round;
       begun = c.loop-round.self.hand;
       each = c.loop-round.invariant.each;
-      last = subst P c.loop-round.invariant.board c.has.ensures.did;
+      last = subst P c.loop-round.invariant.board c.try_contains.ensures.did;
       few = within;
       all = λ told. all;
     }

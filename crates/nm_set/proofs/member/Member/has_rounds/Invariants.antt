@@ -7,5 +7,5 @@ use Rattle.nm_set.proofs.member.Member.has_rounds.Given as goal
 abbrev pub invariant-loop-round : goal.invariant-loop-round
 invariant-loop-round l = record {
   board : l.self.board ≡ l.fn.self.board;
-  each : InARow (λ x y. Asked (LeavesHas l.fn.self.board.layout.nodes l.habit.tries l.key) x y busy) l._round l.fn.self.hand l.self.hand;
+  each : InARow (λ x y. Asked (LeavesHas l.fn.self.board.layout l.habit.tries l.key) x y busy) l._round l.fn.self.hand l.self.hand;
 }

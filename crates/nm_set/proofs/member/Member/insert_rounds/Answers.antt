@@ -6,19 +6,19 @@ use Rattle.nm_set.proofs.member.Member.insert_rounds.Goals as goal
 
 pub returns-then-not-is_busy-clause-did : goal.returns-then-not-is_busy-clause-did
 returns-then-not-is_busy-clause-did c =
-    let P : Board → Type 0 = λ b. Asked (LeavesInsert b.layout.nodes c.args.habit.now.tries c.args.key) c.loop-round.self.hand c.insert-told.new.self.hand c.insert-told.result in
+    let P : Board → Type 0 = λ b. Asked (LeavesInsert b.layout c.args.habit.now.tries c.args.key) c.loop-round.self.hand c.try_insert-told.new.self.hand c.try_insert-told.result in
     record {
       before = c.loop-round._round;
       begun = c.loop-round.self.hand;
       each = c.loop-round.invariant.each;
-      last = subst P c.loop-round.invariant.board c.insert-told.ensures.did;
+      last = subst P c.loop-round.invariant.board c.try_insert-told.ensures.did;
       few = omega (arith, c.loop-round-test.true);
       all = λ told. absurd (c.if-not-is_busy.ensures.no refl told);
     }
 
 pub returns-clause-did : goal.returns-clause-did
 returns-clause-did c =
-    let P : Board → Type 0 = λ b. Asked (LeavesInsert b.layout.nodes c.args.habit.now.tries c.args.key) c.loop-round.self.hand c.insert.new.self.hand c.insert.result in
+    let P : Board → Type 0 = λ b. Asked (LeavesInsert b.layout c.args.habit.now.tries c.args.key) c.loop-round.self.hand c.try_insert.new.self.hand c.try_insert.result in
     let past = c.loop-round-test.false in
     let within = c.loop-round.auto._round-end in
     let all : c.loop-round._round ≡ c.args.habit.now.rounds = omega (arith, past, within) in
@@ -26,7 +26,7 @@ returns-clause-did c =
       before = c.loop-round._round;
       begun = c.loop-round.self.hand;
       each = c.loop-round.invariant.each;
-      last = subst P c.loop-round.invariant.board c.insert.ensures.did;
+      last = subst P c.loop-round.invariant.board c.try_insert.ensures.did;
       few = within;
       all = λ told. all;
     }

@@ -1,9 +1,8 @@
-use Rattle.std.proofs.Common.{rules, ◌≡◌, ◌∙◌, ℕ, sym, ap, subst}
+use Rattle.std.proofs.Common.{rules, ◌≡◌, ℕ, sym, subst}
 use Rattle.std.specs.Prelude.{Option, Result, None}
 use Rattle.nm_steps.specs.Steps.{Board}
 use Rattle.nm_tree.specs.declared.fault.Fault.{Fault as Lost}
 use Rattle.nm_set.specs.declared.fault.Fault.{Fault}
-use Rattle.nm_set.specs.declared.home.Site.{Site}
 use Rattle.nm_set.specs.Seats.{Seated}
 use Rattle.nm_tree.specs.Calls.{LeavesNext}
 use Rattle.nm_set.specs.NextKeys.{AskedNext}
@@ -12,11 +11,11 @@ use Rattle.nm_set.proofs.member.Member.next.Goals.{in-Ok, in-Err}
 
 pub returns-clause-did : goal.returns-clause-did
 returns-clause-did c =
-    let P : Seated → Type 0 = λ s. LeavesNext s.board.layout.nodes c.args.tries c.args.key s.hand c.next.new.worker c.next.result in
-    let Q : Board → Type 0 = λ b. LeavesNext b.layout.nodes c.args.tries c.args.key c.self.inside.guest.worker c.next.new.worker c.next.result in
-    let R : Result (Option ℕ) Lost → Type 0 = λ r. LeavesNext c.args.self.now.board.layout.nodes c.args.tries c.args.key c.args.self.now.hand c.next.new.worker r in
-    let S : Result (Option ℕ) Fault → Type 0 = λ r. AskedNext c.args.self.now.board.layout.nodes c.args.tries c.args.key c.args.self.now.hand c.next.new.worker r in
-    let did : R c.next.result = subst P c.self.view_is (subst Q (c.tree.ensures ∙ ap (λ (s : Site). s.tree) c.deref.ensures) c.next.ensures) in
+    let P : Seated → Type 0 = λ s. LeavesNext s.board.layout c.args.tries c.args.key s.hand c.next.new.worker c.next.result in
+    let Q : Board → Type 0 = λ b. LeavesNext b.layout c.args.tries c.args.key c.self.inside.guest.worker c.next.new.worker c.next.result in
+    let R : Result (Option ℕ) Lost → Type 0 = λ r. LeavesNext c.args.self.now.board.layout c.args.tries c.args.key c.args.self.now.hand c.next.new.worker r in
+    let S : Result (Option ℕ) Fault → Type 0 = λ r. AskedNext c.args.self.now.board.layout c.args.tries c.args.key c.args.self.now.hand c.next.new.worker r in
+    let did : R c.next.result = subst P c.self.view_is (subst Q c.tree.ensures c.next.ensures) in
     let free : c.args.self.now.hand.held ≡ None = search rules in
     elim c.match-next.branch [
       | in-Ok w ↦ subst S (sym w.result-is) (free, subst R w.in-Ok.is did)

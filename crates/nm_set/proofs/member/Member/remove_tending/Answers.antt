@@ -50,4 +50,4 @@ returns-clause-did c =
     let few : waiting_in x.queues < h.collect_after = omega (arith, test, waiting, from) in
     let tidied : IsTidied b h.collect_after x x = inr (few, refl) in
     let did = subst (λ (d : Board). DeletesOn d h k x z c.delete_on.result) c.finish_again.ensures.board c.delete_on.ensures.did in
-    inr (free, record { did = inr (c.in-Ok._done, x, settled, (x, tidied, did)); tends = removes_tend b h k w x x z c.in-Ok._done c.delete_on.result free settled tidied c.is_of_a_run.ensures.seen did })
+    inr (free, record { did = inr (c.in-Ok._done, x, settled, (x, tidied, did)); tends = removes_tend b h k w x x z c.in-Ok._done c.delete_on.result free settled tidied c.is_of_a_run.ensures.idle did })

@@ -1,6 +1,6 @@
 use Rattle.std.proofs.Common.{rules}
 use Rattle.nm_steps.proofs.Asking.{fill_slot}
-use Rattle.nm_steps.proofs.Noting.{ready, has_turn, in_run_after, tied_after}
+use Rattle.nm_steps.proofs.Noting.{ready, has_turned, has_turn, in_run_after, tied_after}
 use Rattle.nm_steps.proofs.pass.Shared.fill_key.Goals as goal
 
 pub key-word-requires : goal.key-word-requires
@@ -15,6 +15,6 @@ invariant_of-pass c = tied_after _ _ _ _ _ _ _ _ c.pass.invariant (rw (← c.pas
 pub returns : goal.returns
 returns c = record {
   step = search rules;
-  past = rw (← c.pass.view_is) (has_turn _ _ _ _ c.store.ensures);
+  past = has_turn _ _ _ _ (search rules) (rw (← c.pass.view_is) (has_turned _ _ _ _ c.store.ensures));
   run = in_run_after _ _ _ _ _ _ _ c.pass.invariant (rw (← c.pass.view_is) at c.requires.may) c.store.ensures;
 }

@@ -1,5 +1,5 @@
 use Rattle.std.proofs.Common.{rules}
-use Rattle.nm_steps.proofs.Noting.{ready, note_in, has_turn, in_run_after, tied_after}
+use Rattle.nm_steps.proofs.Noting.{ready, note_in, has_turned, has_turn, in_run_after, tied_after}
 use Rattle.nm_steps.proofs.pass.Shared.leave_with.Goals as goal
 
 pub store-requires-clause-ready : goal.store-requires-clause-ready
@@ -11,6 +11,6 @@ invariant_of-pass c = tied_after _ _ _ _ _ _ _ _ c.pass.invariant (rw (← c.pas
 pub returns : goal.returns
 returns c = record {
   step = search rules;
-  past = rw (← c.pass.view_is) (has_turn _ _ _ _ c.store.ensures);
+  past = has_turn _ _ _ _ (search rules) (rw (← c.pass.view_is) (has_turned _ _ _ _ c.store.ensures));
   run = in_run_after _ _ _ _ _ _ _ c.pass.invariant (rw (← c.pass.view_is) at c.requires.may) c.store.ensures;
 }

@@ -1,7 +1,7 @@
 use Rattle.std.proofs.Common.{rules, refl}
 use Rattle.nm_steps.proofs.Asking.{look_slot}
 use Rattle.nm_steps.proofs.FoundBirths.{finds_birth}
-use Rattle.nm_steps.proofs.Noting.{ready, has_turn, in_run_after, tied_after}
+use Rattle.nm_steps.proofs.Noting.{ready, has_turned, has_turn, in_run_after, tied_after}
 use Rattle.nm_steps.proofs.pass.Shared.look_birth.Goals as goal
 
 pub birth-word-requires : goal.birth-word-requires
@@ -19,6 +19,6 @@ returns-clause-small c = finds_birth _ _ _ _ _ c.args.slot c.load.ensures.found 
 pub returns-clause-took : goal.returns-clause-took
 returns-clause-took c = record {
   step = search rules;
-  past = rw (← c.pass.view_is) (has_turn _ _ _ _ c.load.ensures);
+  past = has_turn _ _ _ _ (search rules) (rw (← c.pass.view_is) (has_turned _ _ _ _ c.load.ensures));
   run = in_run_after _ _ _ _ _ _ _ c.pass.invariant (rw (← c.pass.view_is) at c.requires.may) c.load.ensures;
 }

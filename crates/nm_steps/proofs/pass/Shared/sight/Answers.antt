@@ -1,5 +1,5 @@
 use Rattle.std.proofs.Common.{rules}
-use Rattle.nm_steps.proofs.Noting.{ready, has_turn, in_run_after, tied_after, may_sight}
+use Rattle.nm_steps.proofs.Noting.{ready, has_turned, has_turn, in_run_after, tied_after, may_sight}
 use Rattle.nm_steps.specs.Rules.{knowledge}
 use Rattle.nm_steps.specs.Steps.{sight_reply}
 use Rattle.nm_steps.proofs.Sighting.{sight_answers}
@@ -17,6 +17,6 @@ returns-clause-reply c = sight_answers _ _ _ c.pass.inside.brief c.note_sight.ne
 pub returns-clause-took : goal.returns-clause-took
 returns-clause-took c = record {
   step = search rules;
-  past = rw (← c.pass.view_is) (has_turn _ _ _ _ c.load-found.ensures);
+  past = has_turn _ _ _ _ (search rules) (rw (← c.pass.view_is) (has_turned _ _ _ _ c.load-found.ensures));
   run = in_run_after _ _ _ _ _ _ _ c.pass.invariant (may_sight _ _ _) c.load-found.ensures;
 }

@@ -1,5 +1,5 @@
 use Rattle.std.proofs.Common.{rules}
-use Rattle.nm_steps.proofs.Noting.{ready, has_turn, in_run_after, tied_after}
+use Rattle.nm_steps.proofs.Noting.{ready, has_turned, has_turn, in_run_after, tied_after}
 use Rattle.nm_steps.specs.Rules.{knowledge, known_births}
 use Rattle.nm_steps.proofs.Sighting.{noted_pin, noted_miss}
 use Rattle.nm_steps.proofs.pass.Shared.sight_for.Goals as goal
@@ -16,13 +16,13 @@ invariant_of-pass-else-found-announced c = tied_after _ _ _ _ _ _ _ _ c.pass.inv
 pub returns-then-found-announced-clause-took : goal.returns-then-found-announced-clause-took
 returns-then-found-announced-clause-took c = record {
   step = search rules;
-  past = rw (← c.pass.view_is) (has_turn _ _ _ _ c.load-found.ensures);
+  past = has_turn _ _ _ _ (search rules) (rw (← c.pass.view_is) (has_turned _ _ _ _ c.load-found.ensures));
   run = in_run_after _ _ _ _ _ _ _ c.pass.invariant (rw (← c.pass.view_is) at c.requires.may) c.load-found.ensures;
 }
 
 pub returns-else-found-announced-clause-took : goal.returns-else-found-announced-clause-took
 returns-else-found-announced-clause-took c = record {
   step = search rules;
-  past = rw (← c.pass.view_is) (has_turn _ _ _ _ c.load-found.ensures);
+  past = has_turn _ _ _ _ (search rules) (rw (← c.pass.view_is) (has_turned _ _ _ _ c.load-found.ensures));
   run = in_run_after _ _ _ _ _ _ _ c.pass.invariant (rw (← c.pass.view_is) at c.requires.may) c.load-found.ensures;
 }

@@ -1,5 +1,5 @@
 use Rattle.std.proofs.Common.{rules}
-use Rattle.nm_steps.proofs.Noting.{ready, has_turn, in_run_after, tied_after, may_sight}
+use Rattle.nm_steps.proofs.Noting.{ready, has_turned, has_turn, in_run_after, tied_after, may_sight}
 use Rattle.nm_steps.specs.Rules.{knowledge, known_births}
 use Rattle.nm_steps.proofs.Sighting.{noted_idle}
 use Rattle.nm_steps.proofs.pass.Shared.sight_idle.Goals as goal
@@ -13,6 +13,6 @@ invariant_of-pass c = tied_after _ _ _ _ _ _ _ _ c.pass.invariant (may_sight _ _
 pub returns : goal.returns
 returns c = record {
   step = search rules;
-  past = rw (← c.pass.view_is) (has_turn _ _ _ _ c.load-epoch.ensures);
+  past = has_turn _ _ _ _ (search rules) (rw (← c.pass.view_is) (has_turned _ _ _ _ c.load-epoch.ensures));
   run = in_run_after _ _ _ _ _ _ _ c.pass.invariant (may_sight _ _ _) c.load-epoch.ensures;
 }

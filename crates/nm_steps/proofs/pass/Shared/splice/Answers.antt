@@ -1,6 +1,6 @@
 use Rattle.std.proofs.Common.{rules, refl}
 use Rattle.nm_steps.proofs.Asking.{splice_slot, finds_edge}
-use Rattle.nm_steps.proofs.Noting.{ready, has_turn, in_run_after, tied_after}
+use Rattle.nm_steps.proofs.Noting.{ready, has_turned, has_turn, in_run_after, tied_after}
 use Rattle.nm_steps.proofs.pass.Shared.splice.Goals as goal
 
 pub edge-word-requires : goal.edge-word-requires
@@ -21,13 +21,13 @@ invariant_of-pass-2 c = tied_after _ _ _ _ _ _ _ _ c.pass.invariant (rw (← c.p
 pub returns : goal.returns
 returns c = record {
   step = search rules;
-  past = rw (← c.pass.view_is) (has_turn _ _ _ _ c.exchange-found.ensures);
+  past = has_turn _ _ _ _ (search rules) (rw (← c.pass.view_is) (has_turned _ _ _ _ c.exchange-found.ensures));
   run = in_run_after _ _ _ _ _ _ _ c.pass.invariant (rw (← c.pass.view_is) at c.requires.may) c.exchange-found.ensures;
 }
 
 pub returns-then-found-old : goal.returns-then-found-old
 returns-then-found-old c = record {
   step = search rules;
-  past = rw (← c.pass.view_is) (has_turn _ _ _ _ c.exchange-found.ensures);
+  past = has_turn _ _ _ _ (search rules) (rw (← c.pass.view_is) (has_turned _ _ _ _ c.exchange-found.ensures));
   run = in_run_after _ _ _ _ _ _ _ c.pass.invariant (rw (← c.pass.view_is) at c.requires.may) c.exchange-found.ensures;
 }

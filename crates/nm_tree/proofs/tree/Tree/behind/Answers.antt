@@ -19,5 +19,4 @@ returns c = record {
   queues = search rules;
   steps = search rules;
   fit = search rules;
-  between = (invariant_of-worker c).between;
 }

@@ -20,7 +20,7 @@ invariant_of-worker c =
     let part = c.collect_all-collected.ensures.part in
     let was = c.worker.invariant.between.stands in
     collected c.collect_all-collected.result.epoch _ _ _ c.worker.inside.home c.collect_all-collected.new.pass _ _ _ c.collect_all-collected.ensures.room c.note_all.ensures.room c.worker.invariant c.collect_all-collected.ensures.on.same c.collect_all-collected.ensures.on.run
-    (collected_quietly _ part.0 _ part.1.0 _ part.1.2 part.2) (labelled c.worker.inside.pass _ _ was) c.collect_all-collected.ensures.lost c.collect_all-collected.ensures.queues c.collect_all-collected.ensures.others c.collect_all-collected.ensures.retired
+    (collected_quietly _ part.0 _ part.1.0 _ part.1.2 part.2) (labelled c.worker.inside.pass _ _ was) c.collect_all-collected.ensures.lost c.collect_all-collected.ensures.blocks c.collect_all-collected.ensures.queues c.collect_all-collected.ensures.others c.collect_all-collected.ensures.retired
     c.collect_all-collected.ensures.private (rw c.as_slice.ensures.value at c.note_all.ensures.noted) (stands_still c.worker.inside.pass c.collect_all-collected.new.pass _ _ was c.collect_all-collected.ensures.settles c.collect_all-collected.ensures.on.run)
 
 pub returns : goal.returns
@@ -39,5 +39,4 @@ returns c = record {
   place = search rules;
   steps = search rules;
   fit = search rules;
-  between = (invariant_of-worker c).between;
 }

@@ -6,6 +6,7 @@ use Rattle.nm_steps.proofs.Seeing.{seen_all}
 use Rattle.nm_tree.specs.Workers.{Hand, held_in, pending_in}
 use Rattle.nm_tree.proofs.QueueLists.{lacks_after, others_stay, others_after, stands_within, room_stays, room_after}
 use Rattle.nm_tree.proofs.Staying.{resting_in, rests_in, rests_as, free_in}
+use Rattle.nm_tree.proofs.Disturbed.{delete_disturbed, delete_alone}
 use Rattle.nm_tree.proofs.Changing.{accounts_within, kept_there, changed}
 use Rattle.nm_calls.specs.declared.deleting.Missed.{Missed}
 use Rattle.nm_calls.specs.Deletes.{DeleteDid, LacksRoomOr, LosesAfterFlag}
@@ -13,12 +14,11 @@ use Rattle.nm_tree.specs.declared.fault.Fault.TheVariants as fault
 use Rattle.nm_tree.proofs.Telling.{deleted_so}
 use Rattle.nm_tree.proofs.tree.Tree.delete.Goals as goal
 
-pub returns-in-Pending : goal.returns-in-Pending
-returns-in-Pending c = record {
+pub returns-in-Pending-clause-says : goal.returns-in-Pending-clause-says
+returns-in-Pending-clause-says c = record {
   same = search rules;
   past = search (rules, seen_all);
-  did = search rules;
-  lacks = search rules;
+  told = search rules;
   moment = search rules;
   won = search rules;
   steps = search rules;
@@ -26,7 +26,13 @@ returns-in-Pending c = record {
   blocks = room_stays c.args.worker.now.queues;
   held = search rules;
   fit = search rules;
-  between = search rules;
+}
+
+pub returns-in-Pending-clause-leaves : goal.returns-in-Pending-clause-leaves
+returns-in-Pending-clause-leaves c = record {
+  says = returns-in-Pending-clause-says c;
+  did = search rules;
+  lacks = search rules;
 }
 
 pub index_mut-own-requires : goal.index_mut-own-requires
@@ -46,16 +52,13 @@ pub invariant_of-worker : goal.invariant_of-worker
 invariant_of-worker c =
     changed _ _ c.worker.inside.home c.delete_with.new.pass _ _ c.delete_with.new.own c.delete_with.new.account c.worker.invariant c.delete_with.ensures.after.same c.delete_with.ensures.kept
     c.delete_with.ensures.after.ledgers.others (λ slot. ap (λ ds. get ds slot) c.delete_with.ensures.after.private) (rests_as c.delete_with.new.pass c.worker.inside.standing (resting_in c.worker.inside.standing (ap (λ (w : Hand). w.held) c.worker.view_is ∙ c.requires.free) c.in_default.not-Pending) c.in-Ok.ensures.after.stands)
+    (_, c.index_mut-own.ensures.value, c.delete_with.ensures.room)
 
-pub returns-in-Ok : goal.returns-in-Ok
-returns-in-Ok c = record {
+pub returns-in-Ok-clause-says : goal.returns-in-Ok-clause-says
+returns-in-Ok-clause-says c = record {
   same = search rules;
   past = search (rules, seen_all);
-  did = (
-      deleted_so _ _ c.args.tries c.args.key _ _ (record { pass = c.delete_with.new.pass; queues = slice_set c.worker.inside.queues.items c.worker.inside.home c.delete_with.new.own; pending = pending_in c.worker.inside.standing; held = held_in c.worker.inside.standing; fit = c.delete_with.new.workspace.placement })
-      (Ok c.in-Ok.answer) c.self.view_is c.worker.view_is (free_in c.worker.inside.standing (resting_in c.worker.inside.standing (ap (λ (w : Hand). w.held) c.worker.view_is ∙ c.requires.free) c.in_default.not-Pending), c.in-Ok.ensures.after.did)
-      );
-  lacks = search rules;
+  told = rw (← c.worker.view_is) (free_in c.worker.inside.standing (resting_in c.worker.inside.standing (ap (λ (w : Hand). w.held) c.worker.view_is ∙ c.requires.free) c.in_default.not-Pending));
   moment = search rules;
   won = search rules;
   steps = search rules;
@@ -66,23 +69,29 @@ returns-in-Ok c = record {
   blocks = rw (← c.worker.view_is) (room_after c.worker.inside.home _ c.worker.inside.queues.items _ c.delete_with.new.own c.worker.invariant.own c.index_mut-own.ensures.value c.delete_with.ensures.room);
   held = search rules;
   fit = search rules;
-  between = (invariant_of-worker c).between;
+}
+
+pub returns-in-Ok-clause-leaves : goal.returns-in-Ok-clause-leaves
+returns-in-Ok-clause-leaves c = record {
+  says = returns-in-Ok-clause-says c;
+  did = (
+      deleted_so _ _ c.args.tries c.args.key _ _ (record { pass = c.delete_with.new.pass; queues = slice_set c.worker.inside.queues.items c.worker.inside.home c.delete_with.new.own; pending = pending_in c.worker.inside.standing; held = held_in c.worker.inside.standing; fit = c.delete_with.new.workspace.placement })
+      (Ok c.in-Ok.answer) c.self.view_is c.worker.view_is (free_in c.worker.inside.standing (resting_in c.worker.inside.standing (ap (λ (w : Hand). w.held) c.worker.view_is ∙ c.requires.free) c.in_default.not-Pending), c.in-Ok.ensures.after.did)
+      );
+  lacks = search rules;
 }
 
 pub invariant_of-worker-in-Err-Busy : goal.invariant_of-worker-in-Err-Busy
 invariant_of-worker-in-Err-Busy c =
     changed _ _ c.worker.inside.home c.delete_with.new.pass _ _ c.delete_with.new.own c.delete_with.new.account c.worker.invariant c.delete_with.ensures.after.same c.delete_with.ensures.kept
     c.delete_with.ensures.after.ledgers.others (λ slot. ap (λ ds. get ds slot) c.delete_with.ensures.after.private) (rests_as c.delete_with.new.pass c.worker.inside.standing (resting_in c.worker.inside.standing (ap (λ (w : Hand). w.held) c.worker.view_is ∙ c.requires.free) c.in_default.not-Pending) (rw c.in-Err-Busy.field-0-is at c.in-Err-Busy.ensures.after.stands))
+    (_, c.index_mut-own.ensures.value, c.delete_with.ensures.room)
 
-pub returns-in-Err-Busy : goal.returns-in-Err-Busy
-returns-in-Err-Busy c = record {
+pub returns-in-Err-Busy-clause-says : goal.returns-in-Err-Busy-clause-says
+returns-in-Err-Busy-clause-says c = record {
   same = search rules;
   past = search (rules, seen_all);
-  did = (
-      deleted_so _ _ c.args.tries c.args.key _ _ (record { pass = c.delete_with.new.pass; queues = slice_set c.worker.inside.queues.items c.worker.inside.home c.delete_with.new.own; pending = pending_in c.worker.inside.standing; held = held_in c.worker.inside.standing; fit = c.delete_with.new.workspace.placement })
-      (Err fault.Busy) c.self.view_is c.worker.view_is (free_in c.worker.inside.standing (resting_in c.worker.inside.standing (ap (λ (w : Hand). w.held) c.worker.view_is ∙ c.requires.free) c.in_default.not-Pending), (let P : Missed → Type 0 = λ m. DeleteDid c.self.inside.shared.layout.nodes c.args.tries c.args.key c.worker.inside.pass.view.log c.delete_with.new.pass.view.log (Err m) in subst P c.in-Err-Busy.field-0-is c.in-Err-Busy.ensures.after.did))
-      );
-  lacks = search rules;
+  told = rw (← c.worker.view_is) (free_in c.worker.inside.standing (resting_in c.worker.inside.standing (ap (λ (w : Hand). w.held) c.worker.view_is ∙ c.requires.free) c.in_default.not-Pending));
   moment = search rules;
   won = search rules;
   steps = search rules;
@@ -93,25 +102,44 @@ returns-in-Err-Busy c = record {
   blocks = rw (← c.worker.view_is) (room_after c.worker.inside.home _ c.worker.inside.queues.items _ c.delete_with.new.own c.worker.invariant.own c.index_mut-own.ensures.value c.delete_with.ensures.room);
   held = search rules;
   fit = search rules;
-  between = (invariant_of-worker-in-Err-Busy c).between;
 }
+
+pub returns-in-Err-Busy-clause-leaves : goal.returns-in-Err-Busy-clause-leaves
+returns-in-Err-Busy-clause-leaves c = record {
+  says = returns-in-Err-Busy-clause-says c;
+  did = (
+      deleted_so _ _ c.args.tries c.args.key _ _ (record { pass = c.delete_with.new.pass; queues = slice_set c.worker.inside.queues.items c.worker.inside.home c.delete_with.new.own; pending = pending_in c.worker.inside.standing; held = held_in c.worker.inside.standing; fit = c.delete_with.new.workspace.placement })
+      (Err fault.Busy) c.self.view_is c.worker.view_is (free_in c.worker.inside.standing (resting_in c.worker.inside.standing (ap (λ (w : Hand). w.held) c.worker.view_is ∙ c.requires.free) c.in_default.not-Pending), (let P : Missed → Type 0 = λ m. DeleteDid c.self.inside.shared.layout c.args.tries c.args.key c.worker.inside.pass.view.log c.delete_with.new.pass.view.log (Err m) in subst P c.in-Err-Busy.field-0-is c.in-Err-Busy.ensures.after.did))
+      );
+  lacks = search rules;
+}
+
+pub returns-in-Err-Busy-clause-disturbed : goal.returns-in-Err-Busy-clause-disturbed
+returns-in-Err-Busy-clause-disturbed c is =
+    let P : Missed → Type 0 = λ m. DeleteDid c.self.inside.shared.layout c.args.tries c.args.key c.worker.inside.pass.view.log c.delete_with.new.pass.view.log (Err m) in
+    delete_disturbed c.self.inside.shared c.args.self.now c.worker.inside.pass c.args.worker.now.pass c.delete_with.new.pass c.args.key c.args.tries c.self.view_is (ap (λ (x : Hand). x.pass) c.worker.view_is)
+    c.is_of_a_run.ensures.seen c.is_of_a_run-in-Err-Busy.ensures.seen c.is_of_a_run.ensures.fits c.delete_with.ensures.after.same c.delete_with.ensures.after.past (subst P c.in-Err-Busy.field-0-is c.in-Err-Busy.ensures.after.did)
+
+pub returns-in-Err-Busy-clause-alone : goal.returns-in-Err-Busy-clause-alone
+returns-in-Err-Busy-clause-alone c alone none is =
+    let P : Missed → Type 0 = λ m. DeleteDid c.self.inside.shared.layout c.args.tries c.args.key c.worker.inside.pass.view.log c.delete_with.new.pass.view.log (Err m) in
+    delete_alone c.self.inside.shared c.args.self.now c.worker.inside.pass c.args.worker.now.pass c.delete_with.new.pass c.args.key c.args.tries c.self.view_is (ap (λ (x : Hand). x.pass) c.worker.view_is)
+    c.is_of_a_run.ensures.seen c.is_of_a_run-in-Err-Busy.ensures.seen c.is_of_a_run.ensures.fits c.delete_with.ensures.after.same c.delete_with.ensures.after.past c.requires.own alone none
+    (subst P c.in-Err-Busy.field-0-is c.in-Err-Busy.ensures.after.did)
 
 pub invariant_of-worker-in-Err-NoMemory : goal.invariant_of-worker-in-Err-NoMemory
 invariant_of-worker-in-Err-NoMemory c =
     changed _ _ c.worker.inside.home c.delete_with.new.pass _ _ c.delete_with.new.own c.delete_with.new.account c.worker.invariant c.delete_with.ensures.after.same c.delete_with.ensures.kept
     c.delete_with.ensures.after.ledgers.others (λ slot. ap (λ ds. get ds slot) c.delete_with.ensures.after.private) (rests_as c.delete_with.new.pass c.worker.inside.standing (resting_in c.worker.inside.standing (ap (λ (w : Hand). w.held) c.worker.view_is ∙ c.requires.free) c.in_default.not-Pending) (rw c.in-Err-NoMemory.field-0-is at c.in-Err-NoMemory.ensures.after.stands))
+    (_, c.index_mut-own.ensures.value, c.delete_with.ensures.room)
 
-pub returns-in-Err-NoMemory : goal.returns-in-Err-NoMemory
-returns-in-Err-NoMemory c = record {
+pub returns-in-Err-NoMemory-clause-says : goal.returns-in-Err-NoMemory-clause-says
+returns-in-Err-NoMemory-clause-says c = record {
   same = search rules;
   past = search (rules, seen_all);
-  did = (
-      deleted_so _ _ c.args.tries c.args.key _ _ (record { pass = c.delete_with.new.pass; queues = slice_set c.worker.inside.queues.items c.worker.inside.home c.delete_with.new.own; pending = pending_in c.worker.inside.standing; held = held_in c.worker.inside.standing; fit = c.delete_with.new.workspace.placement })
-      (Err fault.NoMemory) c.self.view_is c.worker.view_is (free_in c.worker.inside.standing (resting_in c.worker.inside.standing (ap (λ (w : Hand). w.held) c.worker.view_is ∙ c.requires.free) c.in_default.not-Pending), (let P : Missed → Type 0 = λ m. DeleteDid c.self.inside.shared.layout.nodes c.args.tries c.args.key c.worker.inside.pass.view.log c.delete_with.new.pass.view.log (Err m) in subst P c.in-Err-NoMemory.field-0-is c.in-Err-NoMemory.ensures.after.did))
-      );
-  lacks = (
-      let P : Missed → Type 0 = λ m. LacksRoomOr (LosesAfterFlag c.self.inside.shared.layout.nodes c.args.tries c.args.key c.worker.inside.pass.view.log c.delete_with.new.pass.view.log) c.delete_with.new.own.queue.spare m in
-      lacks_after c.worker.inside.home _ _ c.worker.inside.queues.items c.delete_with.new.own c.worker.invariant.own c.delete_with.ensures.kept.own (subst P c.in-Err-NoMemory.field-0-is c.in-Err-NoMemory.ensures.refused)
+  told = (
+      let P : Missed → Type 0 = λ m. LacksRoomOr (LosesAfterFlag c.self.inside.shared.layout c.args.tries c.args.key c.worker.inside.pass.view.log c.delete_with.new.pass.view.log) c.delete_with.new.own.queue.spare m in
+      (rw (← c.worker.view_is) (free_in c.worker.inside.standing (resting_in c.worker.inside.standing (ap (λ (w : Hand). w.held) c.worker.view_is ∙ c.requires.free) c.in_default.not-Pending)), lacks_after c.worker.inside.home _ _ c.worker.inside.queues.items c.delete_with.new.own c.worker.invariant.own c.delete_with.ensures.kept.own (subst P c.in-Err-NoMemory.field-0-is c.in-Err-NoMemory.ensures.refused))
       );
   moment = search rules;
   won = search rules;
@@ -123,30 +151,32 @@ returns-in-Err-NoMemory c = record {
   blocks = rw (← c.worker.view_is) (room_after c.worker.inside.home _ c.worker.inside.queues.items _ c.delete_with.new.own c.worker.invariant.own c.index_mut-own.ensures.value c.delete_with.ensures.room);
   held = search rules;
   fit = search rules;
-  between = (invariant_of-worker-in-Err-NoMemory c).between;
+}
+
+pub returns-in-Err-NoMemory-clause-leaves : goal.returns-in-Err-NoMemory-clause-leaves
+returns-in-Err-NoMemory-clause-leaves c = record {
+  says = returns-in-Err-NoMemory-clause-says c;
+  did = (
+      deleted_so _ _ c.args.tries c.args.key _ _ (record { pass = c.delete_with.new.pass; queues = slice_set c.worker.inside.queues.items c.worker.inside.home c.delete_with.new.own; pending = pending_in c.worker.inside.standing; held = held_in c.worker.inside.standing; fit = c.delete_with.new.workspace.placement })
+      (Err fault.NoMemory) c.self.view_is c.worker.view_is (free_in c.worker.inside.standing (resting_in c.worker.inside.standing (ap (λ (w : Hand). w.held) c.worker.view_is ∙ c.requires.free) c.in_default.not-Pending), (let P : Missed → Type 0 = λ m. DeleteDid c.self.inside.shared.layout c.args.tries c.args.key c.worker.inside.pass.view.log c.delete_with.new.pass.view.log (Err m) in subst P c.in-Err-NoMemory.field-0-is c.in-Err-NoMemory.ensures.after.did))
+      );
+  lacks = (
+      let P : Missed → Type 0 = λ m. LacksRoomOr (LosesAfterFlag c.self.inside.shared.layout c.args.tries c.args.key c.worker.inside.pass.view.log c.delete_with.new.pass.view.log) c.delete_with.new.own.queue.spare m in
+      lacks_after c.worker.inside.home _ _ c.worker.inside.queues.items c.delete_with.new.own c.worker.invariant.own c.delete_with.ensures.kept.own (subst P c.in-Err-NoMemory.field-0-is c.in-Err-NoMemory.ensures.refused)
+      );
 }
 
 pub invariant_of-worker-in-Err-Unfinished : goal.invariant_of-worker-in-Err-Unfinished
 invariant_of-worker-in-Err-Unfinished c =
     changed _ _ c.worker.inside.home c.delete_with.new.pass _ _ c.delete_with.new.own c.delete_with.new.account c.worker.invariant c.delete_with.ensures.after.same c.delete_with.ensures.kept
     c.delete_with.ensures.after.ledgers.others (λ slot. ap (λ ds. get ds slot) c.delete_with.ensures.after.private) (rw c.in-Err-Unfinished.field-0-is at c.in-Err-Unfinished.ensures.after.stands)
+    (_, c.index_mut-own.ensures.value, c.delete_with.ensures.room)
 
-pub returns-in-Err-Unfinished : goal.returns-in-Err-Unfinished
-returns-in-Err-Unfinished c = record {
+pub returns-in-Err-Unfinished-clause-says : goal.returns-in-Err-Unfinished-clause-says
+returns-in-Err-Unfinished-clause-says c = record {
   same = search rules;
   past = search (rules, seen_all);
-  did = (
-      deleted_so _ _ c.args.tries c.args.key _ _ (record { pass = c.delete_with.new.pass; queues = slice_set c.worker.inside.queues.items c.worker.inside.home c.delete_with.new.own; pending = Some (record { key = c.args.key; leaf = c.in-Err-Unfinished.leaf }); held = None; fit = c.delete_with.new.workspace.placement })
-      (Err fault.Unfinished) c.self.view_is c.worker.view_is ((free_in c.worker.inside.standing (resting_in c.worker.inside.standing (ap (λ (w : Hand). w.held) c.worker.view_is ∙ c.requires.free) c.in_default.not-Pending)).0, c.in-Err-Unfinished.leaf, refl, (let P : Missed → Type 0 = λ m. DeleteDid c.self.inside.shared.layout.nodes c.args.tries c.args.key c.worker.inside.pass.view.log c.delete_with.new.pass.view.log (Err m) in subst P c.in-Err-Unfinished.field-0-is c.in-Err-Unfinished.ensures.after.did))
-      );
-  lacks = (
-      let P : Missed → Type 0 = λ m. LacksRoomOr (LosesAfterFlag c.self.inside.shared.layout.nodes c.args.tries c.args.key c.worker.inside.pass.view.log c.delete_with.new.pass.view.log) c.delete_with.new.own.queue.spare m in
-      rw (← c.self.view_is, ← c.worker.view_is)
-      (elim (subst P c.in-Err-Unfinished.field-0-is c.in-Err-Unfinished.ensures.refused) [
-        | inl less ↦ inl (lacks_after c.worker.inside.home _ _ c.worker.inside.queues.items c.delete_with.new.own c.worker.invariant.own c.delete_with.ensures.kept.own less)
-        | inr lost ↦ inr (c.in-Err-Unfinished.leaf, lost)
-      ])
-      );
+  told = rw (← c.worker.view_is) ((free_in c.worker.inside.standing (resting_in c.worker.inside.standing (ap (λ (w : Hand). w.held) c.worker.view_is ∙ c.requires.free) c.in_default.not-Pending)).0, c.in-Err-Unfinished.leaf, refl);
   moment = search rules;
   won = search rules;
   steps = search rules;
@@ -157,5 +187,21 @@ returns-in-Err-Unfinished c = record {
   blocks = rw (← c.worker.view_is) (room_after c.worker.inside.home _ c.worker.inside.queues.items _ c.delete_with.new.own c.worker.invariant.own c.index_mut-own.ensures.value c.delete_with.ensures.room);
   held = search rules;
   fit = search rules;
-  between = (invariant_of-worker-in-Err-Unfinished c).between;
+}
+
+pub returns-in-Err-Unfinished-clause-leaves : goal.returns-in-Err-Unfinished-clause-leaves
+returns-in-Err-Unfinished-clause-leaves c = record {
+  says = returns-in-Err-Unfinished-clause-says c;
+  did = (
+      deleted_so _ _ c.args.tries c.args.key _ _ (record { pass = c.delete_with.new.pass; queues = slice_set c.worker.inside.queues.items c.worker.inside.home c.delete_with.new.own; pending = Some (record { key = c.args.key; leaf = c.in-Err-Unfinished.leaf }); held = None; fit = c.delete_with.new.workspace.placement })
+      (Err fault.Unfinished) c.self.view_is c.worker.view_is ((free_in c.worker.inside.standing (resting_in c.worker.inside.standing (ap (λ (w : Hand). w.held) c.worker.view_is ∙ c.requires.free) c.in_default.not-Pending)).0, c.in-Err-Unfinished.leaf, refl, (let P : Missed → Type 0 = λ m. DeleteDid c.self.inside.shared.layout c.args.tries c.args.key c.worker.inside.pass.view.log c.delete_with.new.pass.view.log (Err m) in subst P c.in-Err-Unfinished.field-0-is c.in-Err-Unfinished.ensures.after.did))
+      );
+  lacks = (
+      let P : Missed → Type 0 = λ m. LacksRoomOr (LosesAfterFlag c.self.inside.shared.layout c.args.tries c.args.key c.worker.inside.pass.view.log c.delete_with.new.pass.view.log) c.delete_with.new.own.queue.spare m in
+      rw (← c.self.view_is, ← c.worker.view_is)
+      (elim (subst P c.in-Err-Unfinished.field-0-is c.in-Err-Unfinished.ensures.refused) [
+        | inl less ↦ inl (lacks_after c.worker.inside.home _ _ c.worker.inside.queues.items c.delete_with.new.own c.worker.invariant.own c.delete_with.ensures.kept.own less)
+        | inr lost ↦ inr (c.in-Err-Unfinished.leaf, lost)
+      ])
+      );
 }

@@ -1,5 +1,5 @@
 use Rattle.std.proofs.Common.{rules, inl, inr, sym, None, ap, refl, subst, ◌∙◌, arith}
-use Rattle.std.specs.Prelude.{Ok, slice_set}
+use Rattle.std.specs.Prelude.{Ok, IsSome, slice_set}
 use Rattle.nm_model.specs.Maps.{get}
 use Rattle.nm_model.specs.declared.event.Op.TheVariants.{Delete}
 use Rattle.nm_steps.specs.Steps.{Stand}
@@ -13,12 +13,11 @@ use Rattle.std.specs.Prelude.{true}
 use Rattle.nm_tree.proofs.Telling.{finished_so}
 use Rattle.nm_tree.proofs.tree.Tree.finish_pending.Goals as goal
 
-pub returns-in_default : goal.returns-in_default
-returns-in_default c = record {
+pub returns-in_default-clause-says : goal.returns-in_default-clause-says
+returns-in_default-clause-says c = record {
   same = search rules;
   past = search (rules, seen_all);
-  did = search rules;
-  lacks = search rules;
+  told = search rules;
   moment = search rules;
   won = search rules;
   steps = search rules;
@@ -26,7 +25,13 @@ returns-in_default c = record {
   blocks = room_stays c.args.worker.now.queues;
   held = search rules;
   fit = search rules;
-  between = search rules;
+}
+
+pub returns-in_default-clause-leaves : goal.returns-in_default-clause-leaves
+returns-in_default-clause-leaves c = record {
+  says = returns-in_default-clause-says c;
+  did = search rules;
+  lacks = search rules;
 }
 
 pub index_mut-own-requires : goal.index_mut-own-requires
@@ -43,19 +48,13 @@ pub invariant_of-worker : goal.invariant_of-worker
 invariant_of-worker c =
     changed _ _ c.worker.inside.home c.finish_with.new.pass _ _ c.finish_with.new.own c.finish_with.new.account c.worker.invariant c.finish_with.ensures.after.same c.finish_with.ensures.kept
     c.finish_with.ensures.after.ledgers.others (λ slot. ap (λ ds. get ds slot) c.finish_with.ensures.after.private) (removing_in c.finish_with.new.pass c.worker.inside.standing _ c.in-Pending.is (c.finish_with.ensures.after.removing c.if-not-finish_with.true))
+    (_, c.index_mut-own.ensures.value, c.finish_with.ensures.room)
 
-pub returns-then-not-finish_with : goal.returns-then-not-finish_with
-returns-then-not-finish_with c = record {
+pub returns-then-not-finish_with-clause-says : goal.returns-then-not-finish_with-clause-says
+returns-then-not-finish_with-clause-says c = record {
   same = search rules;
   past = search (rules, seen_all);
-  did = search rules;
-  lacks = (
-      rw (← c.self.view_is, ← c.worker.view_is)
-      (elim (c.finish_with.ensures.refused c.if-not-finish_with.true) [
-        | inl less ↦ inl (lacks_after c.worker.inside.home _ _ c.worker.inside.queues.items c.finish_with.new.own c.worker.invariant.own c.finish_with.ensures.kept.own less)
-        | inr lost ↦ inr (c.in-Pending.pending, ap pending_in c.in-Pending.is, lost)
-      ])
-      );
+  told = rw (← c.worker.view_is) (subst IsSome (sym (ap pending_in c.in-Pending.is)) refl, refl);
   moment = search rules;
   won = search rules;
   steps = search rules;
@@ -66,23 +65,32 @@ returns-then-not-finish_with c = record {
   blocks = rw (← c.worker.view_is) (room_after c.worker.inside.home _ c.worker.inside.queues.items _ c.finish_with.new.own c.worker.invariant.own c.index_mut-own.ensures.value c.finish_with.ensures.room);
   held = search rules;
   fit = search rules;
-  between = (invariant_of-worker c).between;
+}
+
+pub returns-then-not-finish_with-clause-leaves : goal.returns-then-not-finish_with-clause-leaves
+returns-then-not-finish_with-clause-leaves c = record {
+  says = returns-then-not-finish_with-clause-says c;
+  did = search rules;
+  lacks = (
+      rw (← c.self.view_is, ← c.worker.view_is)
+      (elim (c.finish_with.ensures.refused c.if-not-finish_with.true) [
+        | inl less ↦ inl (lacks_after c.worker.inside.home _ _ c.worker.inside.queues.items c.finish_with.new.own c.worker.invariant.own c.finish_with.ensures.kept.own less)
+        | inr lost ↦ inr (c.in-Pending.pending, ap pending_in c.in-Pending.is, lost)
+      ])
+      );
 }
 
 pub invariant_of-worker-2 : goal.invariant_of-worker-2
 invariant_of-worker-2 c =
     changed _ _ c.worker.inside.home c.finish_with.new.pass _ _ c.finish_with.new.own c.finish_with.new.account c.worker.invariant c.finish_with.ensures.after.same c.finish_with.ensures.kept
     c.finish_with.ensures.after.ledgers.others (λ slot. ap (λ ds. get ds slot) c.finish_with.ensures.after.private) (c.finish_with.ensures.after.rests c.if-not-finish_with.false)
+    (_, c.index_mut-own.ensures.value, c.finish_with.ensures.room)
 
-pub returns : goal.returns
-returns c = record {
+pub returns-clause-says : goal.returns-clause-says
+returns-clause-says c = record {
   same = search rules;
   past = search (rules, seen_all);
-  did = (
-      finished_so _ _ c.args.tries _ _ (record { pass = c.finish_with.new.pass; queues = slice_set c.worker.inside.queues.items c.worker.inside.home c.finish_with.new.own; pending = None; held = None; fit = c.finish_with.new.workspace.placement })
-      (Ok true) c.self.view_is c.worker.view_is (c.in-Pending.pending, ap pending_in c.in-Pending.is, refl, rw c.if-not-finish_with.false at c.finish_with.ensures.after.did)
-      );
-  lacks = search rules;
+  told = rw (← c.worker.view_is) (subst IsSome (sym (ap pending_in c.in-Pending.is)) refl, refl);
   moment = (
       let n = c.in-Pending.pending in
       let P : Hand → Type 0 = λ w. (o : Stand) → HadNoCall o w.pass → AnswerHasMoment o c.finish_with.new.pass Delete n.key true in
@@ -97,5 +105,14 @@ returns c = record {
   blocks = rw (← c.worker.view_is) (room_after c.worker.inside.home _ c.worker.inside.queues.items _ c.finish_with.new.own c.worker.invariant.own c.index_mut-own.ensures.value c.finish_with.ensures.room);
   held = search rules;
   fit = search rules;
-  between = (invariant_of-worker-2 c).between;
+}
+
+pub returns-clause-leaves : goal.returns-clause-leaves
+returns-clause-leaves c = record {
+  says = returns-clause-says c;
+  did = (
+      finished_so _ _ c.args.tries _ _ (record { pass = c.finish_with.new.pass; queues = slice_set c.worker.inside.queues.items c.worker.inside.home c.finish_with.new.own; pending = None; held = None; fit = c.finish_with.new.workspace.placement })
+      (Ok true) c.self.view_is c.worker.view_is (c.in-Pending.pending, ap pending_in c.in-Pending.is, refl, rw c.if-not-finish_with.false at c.finish_with.ensures.after.did)
+      );
+  lacks = search rules;
 }

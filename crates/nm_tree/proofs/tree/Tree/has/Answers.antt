@@ -1,7 +1,8 @@
-use Rattle.std.proofs.Common.{rules, ◌≡◌, ap, ◌∙◌}
+use Rattle.std.proofs.Common.{rules, ◌≡◌, ap, sym, ◌∙◌}
 use Rattle.nm_steps.proofs.Seeing.{seen_all}
 use Rattle.nm_tree.specs.declared.worker.Standing.TheVariants as standing
 use Rattle.nm_tree.specs.Workers.{Hand}
+use Rattle.nm_tree.proofs.Disturbed.{lookup_disturbed, lookup_alone}
 use Rattle.nm_tree.proofs.Quiet.{has_quiet}
 use Rattle.nm_tree.proofs.Staying.{stays, resting_in, rests_in, rests_as, free_in}
 use Rattle.nm_tree.proofs.tree.Tree.has.Goals as goal
@@ -18,14 +19,38 @@ invariant_of-worker c =
     c.has.ensures.hands.private (c.has.ensures.hands.ledgers was.labelled)
     (rests_as c.has.new.pass c.worker.inside.standing (resting c) c.has.ensures.rests)
 
-pub returns : goal.returns
-returns c = record {
+pub returns-in-Pending-clause-says : goal.returns-in-Pending-clause-says
+returns-in-Pending-clause-says c = record {
   same = search rules;
   past = search (rules, seen_all);
-  did = (
+  told = search rules;
+  disturbed = λ is. absurd (let no = is in cc);
+  moment = search rules;
+  won = search rules;
+  steps = search rules;
+  queues = search rules;
+  held = search rules;
+  fit = search rules;
+}
+
+pub returns-in-Pending-clause-leaves : goal.returns-in-Pending-clause-leaves
+returns-in-Pending-clause-leaves c = record { says = returns-in-Pending-clause-says c; did = search rules }
+
+pub returns-clause-says : goal.returns-clause-says
+returns-clause-says c = record {
+  same = search rules;
+  past = search (rules, seen_all);
+  told = (
       elim c.match-has.branch [
-        | in-Ok w ↦ rw (w.result-is, ← c.worker.view_is, ← c.self.view_is) (free_in c.worker.inside.standing (resting c), w.in-Ok.ensures.did)
-        | in-Err w ↦ rw (w.result-is, ← c.worker.view_is, ← c.self.view_is) (free_in c.worker.inside.standing (resting c), w.in-Err.ensures.missed)
+        | in-Ok w ↦ rw (w.result-is, ← c.worker.view_is) (free_in c.worker.inside.standing (resting c))
+        | in-Err w ↦ rw (w.result-is, ← c.worker.view_is) (free_in c.worker.inside.standing (resting c))
+      ]
+      );
+  disturbed = λ is. (
+      elim c.match-has.branch [
+        | in-Ok w ↦ absurd (let both = sym w.result-is ∙ is in cc)
+        | in-Err w ↦ lookup_disturbed c.self.inside.shared c.args.self.now c.worker.inside.pass c.args.worker.now.pass c.has.new.pass c.args.key c.args.tries c.self.view_is (ap (λ (x : Hand). x.pass) c.worker.view_is)
+            c.is_of_a_run.ensures.seen w.is_of_a_run-in-Err.ensures.seen c.is_of_a_run.ensures.fits c.has.ensures.same c.has.ensures.past c.requires.own w.in-Err.ensures.missed
       ]
       );
   moment = search rules;
@@ -34,5 +59,23 @@ returns c = record {
   queues = search rules;
   held = search rules;
   fit = search rules;
-  between = (invariant_of-worker c).between;
 }
+
+pub returns-clause-leaves : goal.returns-clause-leaves
+returns-clause-leaves c = record {
+  says = returns-clause-says c;
+  did = (
+      elim c.match-has.branch [
+        | in-Ok w ↦ rw (w.result-is, ← c.worker.view_is, ← c.self.view_is) (free_in c.worker.inside.standing (resting c), w.in-Ok.ensures.did)
+        | in-Err w ↦ rw (w.result-is, ← c.worker.view_is, ← c.self.view_is) (free_in c.worker.inside.standing (resting c), w.in-Err.ensures.missed)
+      ]
+      );
+}
+
+pub returns-clause-alone : goal.returns-clause-alone
+returns-clause-alone c alone is =
+    elim c.match-has.branch [
+      | in-Ok w ↦ absurd (let both = sym w.result-is ∙ is in cc)
+      | in-Err w ↦ lookup_alone c.self.inside.shared c.args.self.now c.worker.inside.pass c.args.worker.now.pass c.has.new.pass c.args.key c.args.tries c.self.view_is (ap (λ (x : Hand). x.pass) c.worker.view_is)
+          c.is_of_a_run.ensures.seen w.is_of_a_run-in-Err.ensures.seen c.is_of_a_run.ensures.fits c.has.ensures.same c.has.ensures.past c.requires.own alone w.in-Err.ensures.missed
+    ]

@@ -1,4 +1,4 @@
-use Rattle.std.proofs.Common.{rules, ◌≡◌, ap, subst, ◌∙◌, arith}
+use Rattle.std.proofs.Common.{rules, ◌≡◌, ap, sym, subst, ◌∙◌, arith}
 use Rattle.std.specs.Prelude.{Ok, Err}
 use Rattle.nm_steps.specs.Steps.{Stand}
 use Rattle.nm_steps.proofs.Seeing.{seen_all}
@@ -6,6 +6,7 @@ use Rattle.nm_tree.specs.declared.worker.Standing.TheVariants as standing
 use Rattle.nm_tree.specs.Workers.{Hand}
 use Rattle.nm_tree.proofs.QueueLists.{lacks_after, others_stay, others_after, stands_within, room_stays, room_after}
 use Rattle.nm_tree.proofs.Staying.{resting_in, rests_in, rests_as, free_in}
+use Rattle.nm_tree.proofs.Disturbed.{insert_disturbed, insert_alone}
 use Rattle.nm_tree.proofs.Changing.{accounts_within, kept_there, changed}
 use Rattle.nm_calls.specs.declared.inserting.Fault.{Fault as Lost}
 use Rattle.nm_calls.specs.Inserts.{InsertDid}
@@ -14,12 +15,11 @@ use Rattle.nm_tree.proofs.Telling.{inserted_so}
 use Rattle.nm_tree.proofs.tree.Tree.insert.Goals as goal
 use Rattle.nm_tree.proofs.tree.Tree.insert.Goals.{in-Ok, in-Err-Busy, in-Err-Full, in-Err-NoMemory}
 
-pub returns-in-Pending : goal.returns-in-Pending
-returns-in-Pending c = record {
+pub returns-in-Pending-clause-says : goal.returns-in-Pending-clause-says
+returns-in-Pending-clause-says c = record {
   same = search rules;
   past = search (rules, seen_all);
-  did = search rules;
-  lacks = search rules;
+  told = search rules;
   moment = search rules;
   won = search rules;
   steps = search rules;
@@ -27,8 +27,10 @@ returns-in-Pending c = record {
   blocks = room_stays c.args.worker.now.queues;
   held = search rules;
   fit = search rules;
-  between = search rules;
 }
+
+pub returns-in-Pending-clause-leaves : goal.returns-in-Pending-clause-leaves
+returns-in-Pending-clause-leaves c = record { says = returns-in-Pending-clause-says c; did = search rules }
 
 pub index_mut-own-requires : goal.index_mut-own-requires
 index_mut-own-requires c = omega (arith, stands_within c.worker.inside.home _ c.worker.inside.queues.items c.worker.invariant.own, c.worker.inside.queues.ok.0)
@@ -51,32 +53,21 @@ pub invariant_of-worker : goal.invariant_of-worker
 invariant_of-worker c =
     changed _ _ c.worker.inside.home c.insert_with.new.pass _ _ c.insert_with.new.own c.insert_with.new.account c.worker.invariant c.insert_with.ensures.after.same c.insert_with.ensures.kept
     c.insert_with.ensures.after.ledgers.others c.insert_with.ensures.after.private (rests_as c.insert_with.new.pass c.worker.inside.standing (resting c) c.insert_with.ensures.after.rests)
+    (_, c.index_mut-own.ensures.value, c.insert_with.ensures.room)
 
-pub returns : goal.returns
-returns c = record {
+pub returns-clause-says : goal.returns-clause-says
+returns-clause-says c = record {
   same = search rules;
   past = search (rules, seen_all);
-  did = (
+  told = (
       elim c.match-insert_with.branch [
-        | in-Ok w ↦ inserted_so _ _ c.args.tries c.args.key _ _ _ (Ok _) _ c.self.view_is c.worker.view_is w.result-is (free_in c.worker.inside.standing (resting c), w.in-Ok.ensures.after.did)
-        | in-Err-Busy w ↦
-            let P : Lost → Type 0 = λ m. InsertDid c.worker.inside.workspace.placement c.self.inside.shared.layout.nodes c.args.tries c.args.key c.worker.inside.pass.view.log c.insert_with.new.pass.view.log (Err m) in
-            inserted_so _ _ c.args.tries c.args.key _ _ _ (Err fault.Busy) _ c.self.view_is c.worker.view_is w.result-is (free_in c.worker.inside.standing (resting c), subst P w.in-Err-Busy.field-0-is w.in-Err-Busy.ensures.after.did)
-        | in-Err-Full w ↦
-            let P : Lost → Type 0 = λ m. InsertDid c.worker.inside.workspace.placement c.self.inside.shared.layout.nodes c.args.tries c.args.key c.worker.inside.pass.view.log c.insert_with.new.pass.view.log (Err m) in
-            inserted_so _ _ c.args.tries c.args.key _ _ _ (Err fault.Full) _ c.self.view_is c.worker.view_is w.result-is (free_in c.worker.inside.standing (resting c), subst P w.in-Err-Full.field-0-is w.in-Err-Full.ensures.after.did)
-        | in-Err-NoMemory w ↦
-            let P : Lost → Type 0 = λ m. InsertDid c.worker.inside.workspace.placement c.self.inside.shared.layout.nodes c.args.tries c.args.key c.worker.inside.pass.view.log c.insert_with.new.pass.view.log (Err m) in
-            inserted_so _ _ c.args.tries c.args.key _ _ _ (Err fault.NoMemory) _ c.self.view_is c.worker.view_is w.result-is (free_in c.worker.inside.standing (resting c), subst P w.in-Err-NoMemory.field-0-is w.in-Err-NoMemory.ensures.after.did)
-      ]
-      );
-  lacks = (
-      elim c.match-insert_with.branch [
-        | in-Ok w ↦ rw w.result-is tt
-        | in-Err-Busy w ↦ rw w.result-is tt
-        | in-Err-Full w ↦ rw w.result-is tt
-        | in-Err-NoMemory w ↦ rw w.result-is
-            (lacks_after c.worker.inside.home _ _ c.worker.inside.queues.items c.insert_with.new.own c.worker.invariant.own c.insert_with.ensures.kept.own (w.in-Err-NoMemory.ensures.refused (ap (λ (m : Lost). Err m) w.in-Err-NoMemory.field-0-is)))
+        | in-Ok w ↦ rw (w.result-is, ← c.worker.view_is) (free_in c.worker.inside.standing (resting c))
+        | in-Err-Busy w ↦ rw (w.result-is, ← c.worker.view_is) (free_in c.worker.inside.standing (resting c))
+        | in-Err-Full w ↦ rw (w.result-is, ← c.worker.view_is) (free_in c.worker.inside.standing (resting c))
+        | in-Err-NoMemory w ↦ rw w.result-is (
+          rw (← c.worker.view_is) (free_in c.worker.inside.standing (resting c)),
+          lacks_after c.worker.inside.home _ _ c.worker.inside.queues.items c.insert_with.new.own c.worker.invariant.own c.insert_with.ensures.kept.own (w.in-Err-NoMemory.ensures.refused (ap (λ (m : Lost). Err m) w.in-Err-NoMemory.field-0-is)),
+        )
       ]
       );
   moment = search rules;
@@ -89,5 +80,49 @@ returns c = record {
   blocks = rw (← c.worker.view_is) (room_after c.worker.inside.home _ c.worker.inside.queues.items _ c.insert_with.new.own c.worker.invariant.own c.index_mut-own.ensures.value c.insert_with.ensures.room);
   held = search rules;
   fit = search rules;
-  between = (invariant_of-worker c).between;
 }
+
+pub returns-clause-leaves : goal.returns-clause-leaves
+returns-clause-leaves c = record {
+  says = returns-clause-says c;
+  did = (
+      elim c.match-insert_with.branch [
+        | in-Ok w ↦ inserted_so _ _ c.args.tries c.args.key _ _ _ (Ok _) _ c.self.view_is c.worker.view_is w.result-is (free_in c.worker.inside.standing (resting c), w.in-Ok.ensures.after.did)
+        | in-Err-Busy w ↦
+            let P : Lost → Type 0 = λ m. InsertDid c.worker.inside.workspace.placement c.self.inside.shared.layout c.args.tries c.args.key c.worker.inside.pass.view.log c.insert_with.new.pass.view.log (Err m) in
+            inserted_so _ _ c.args.tries c.args.key _ _ _ (Err fault.Busy) _ c.self.view_is c.worker.view_is w.result-is (free_in c.worker.inside.standing (resting c), subst P w.in-Err-Busy.field-0-is w.in-Err-Busy.ensures.after.did)
+        | in-Err-Full w ↦
+            let P : Lost → Type 0 = λ m. InsertDid c.worker.inside.workspace.placement c.self.inside.shared.layout c.args.tries c.args.key c.worker.inside.pass.view.log c.insert_with.new.pass.view.log (Err m) in
+            inserted_so _ _ c.args.tries c.args.key _ _ _ (Err fault.Full) _ c.self.view_is c.worker.view_is w.result-is (free_in c.worker.inside.standing (resting c), subst P w.in-Err-Full.field-0-is w.in-Err-Full.ensures.after.did)
+        | in-Err-NoMemory w ↦
+            let P : Lost → Type 0 = λ m. InsertDid c.worker.inside.workspace.placement c.self.inside.shared.layout c.args.tries c.args.key c.worker.inside.pass.view.log c.insert_with.new.pass.view.log (Err m) in
+            inserted_so _ _ c.args.tries c.args.key _ _ _ (Err fault.NoMemory) _ c.self.view_is c.worker.view_is w.result-is (free_in c.worker.inside.standing (resting c), subst P w.in-Err-NoMemory.field-0-is w.in-Err-NoMemory.ensures.after.did)
+      ]
+      );
+}
+
+pub returns-clause-disturbed : goal.returns-clause-disturbed
+returns-clause-disturbed c is =
+    elim c.match-insert_with.branch [
+      | in-Ok w ↦ absurd (let both = sym w.result-is ∙ is in cc)
+      | in-Err-Busy w ↦
+          let P : Lost → Type 0 = λ m. InsertDid c.worker.inside.workspace.placement c.self.inside.shared.layout c.args.tries c.args.key c.worker.inside.pass.view.log c.insert_with.new.pass.view.log (Err m) in
+          insert_disturbed c.self.inside.shared c.args.self.now c.worker.inside.pass c.args.worker.now.pass c.insert_with.new.pass c.args.key c.args.tries c.self.view_is (ap (λ (x : Hand). x.pass) c.worker.view_is)
+          c.is_of_a_run.ensures.seen w.is_of_a_run-in-Err-Busy.ensures.seen c.is_of_a_run.ensures.fits c.insert_with.ensures.after.same c.insert_with.ensures.after.past _ _ (ap (λ (x : Hand). x.fit) c.worker.view_is)
+          (subst P w.in-Err-Busy.field-0-is w.in-Err-Busy.ensures.after.did)
+      | in-Err-Full w ↦ absurd (let both = sym w.result-is ∙ is in cc)
+      | in-Err-NoMemory w ↦ absurd (let both = sym w.result-is ∙ is in cc)
+    ]
+
+pub returns-clause-alone : goal.returns-clause-alone
+returns-clause-alone c alone none is =
+    elim c.match-insert_with.branch [
+      | in-Ok w ↦ absurd (let both = sym w.result-is ∙ is in cc)
+      | in-Err-Busy w ↦
+          let P : Lost → Type 0 = λ m. InsertDid c.worker.inside.workspace.placement c.self.inside.shared.layout c.args.tries c.args.key c.worker.inside.pass.view.log c.insert_with.new.pass.view.log (Err m) in
+          insert_alone c.self.inside.shared c.args.self.now c.worker.inside.pass c.args.worker.now.pass c.insert_with.new.pass c.args.key c.args.tries c.self.view_is (ap (λ (x : Hand). x.pass) c.worker.view_is)
+          c.is_of_a_run.ensures.seen w.is_of_a_run-in-Err-Busy.ensures.seen c.is_of_a_run.ensures.fits c.insert_with.ensures.after.same c.insert_with.ensures.after.past c.requires.own _ alone none
+          (subst P w.in-Err-Busy.field-0-is w.in-Err-Busy.ensures.after.did)
+      | in-Err-Full w ↦ absurd (let both = sym w.result-is ∙ is in cc)
+      | in-Err-NoMemory w ↦ absurd (let both = sym w.result-is ∙ is in cc)
+    ]

@@ -25,7 +25,6 @@ returns-in-Ok c = record {
   queues = search rules;
   steps = search rules;
   fit = search rules;
-  between = (invariant_of-worker c).between;
 }
 
 pub returns-in-Err : goal.returns-in-Err
@@ -36,5 +35,4 @@ returns-in-Err c = record {
   queues = search rules;
   steps = search rules;
   fit = search rules;
-  between = (invariant_of-worker-in-Err c).between;
 }

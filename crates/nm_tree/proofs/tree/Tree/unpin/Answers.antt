@@ -13,10 +13,9 @@ invariant_of-worker c =
 pub returns : goal.returns
 returns c = record {
   step = search rules;
-  past = (let seen = seen_by_turn _ _ _ c.leave.ensures.took.past in search (rules, seen));
+  past = (let seen = seen_by_turn _ _ _ _ c.leave.ensures.took.past in search (rules, seen));
   queues = search rules;
   pending = search rules;
   held = search rules;
   fit = search rules;
-  between = (invariant_of-worker c).between;
 }

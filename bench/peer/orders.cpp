@@ -1,0 +1,299 @@
+// For bench/orders: nanoseconds a call on sets whose keys come in some order. The first argument
+// names the set; then each line of standard input is a row: what is done, how many keys stand, and
+// how many threads do it. What each row does is told in bench/orders.
+#include "nm_set.h"
+
+#include <algorithm>
+#include <atomic>
+#include <chrono>
+#include <cmath>
+#include <cstdint>
+#include <cstdio>
+#include <cstdlib>
+#include <iostream>
+#include <mutex>
+#include <numeric>
+#include <optional>
+#include <random>
+#include <set>
+#include <string>
+#include <thread>
+#include <vector>
+
+#if __has_include(<cds/init.h>)
+#define HAS_CDS 1
+#include <cds/container/skip_list_set_rcu.h>
+#include <cds/init.h>
+#include <cds/urcu/general_buffered.h>
+#endif
+
+namespace {
+
+using Key = std::uint64_t;
+
+// ---- sets, each with a handle for one thread
+
+class Proved {
+public:
+    Proved(std::size_t keys, std::size_t threads) : workers_(threads) {
+        auto nodes = static_cast<std::uint32_t>(4 * keys + 16384 * threads);
+        if (nm_set_new(&set_, nodes, static_cast<std::uint32_t>(threads)) != NM_DONE) std::abort();
+        for (std::size_t number = 0; number < threads; number++)
+            if (nm_set_worker(&set_, &workers_[number].handle, static_cast<std::uint32_t>(number)) !=
+                NM_DONE)
+                std::abort();
+    }
+    ~Proved() {
+        for (auto &worker : workers_) nm_drop(&worker.handle);
+        nm_drop(&set_);
+    }
+    class Access {
+    public:
+        Access(Proved &set, std::size_t number) : worker_(&set.workers_[number].handle) {}
+        bool contains(Key key) { return is_yes(nm_worker_contains(worker_, key, &nm_usual_habit)); }
+        bool add(Key key) {
+            for (;;) {
+                auto told = nm_worker_insert(worker_, key, &nm_usual_habit);
+                if (told == NM_YES || told == NM_NO) return told == NM_YES;
+                std::this_thread::sleep_for(std::chrono::milliseconds(1));
+            }
+        }
+        bool remove(Key key) { return is_yes(nm_worker_remove(worker_, key, &nm_usual_habit)); }
+        std::optional<Key> least() {
+            Key found;
+            for (;;) {
+                auto told = nm_worker_next(worker_, 0, 64, &found);
+                if (told == NM_YES) return found;
+                if (told == NM_NO) return std::nullopt;
+            }
+        }
+
+    private:
+        static bool is_yes(nm_outcome told) {
+            if (told != NM_YES && told != NM_NO) std::abort();
+            return told == NM_YES;
+        }
+        nm_handle *worker_;
+    };
+
+private:
+    struct alignas(64) Worker {
+        nm_handle handle = NM_CLOSED_HANDLE;
+    };
+    nm_handle set_ = NM_CLOSED_HANDLE;
+    std::vector<Worker> workers_;
+};
+
+class Locked {
+public:
+    Locked(std::size_t, std::size_t) {}
+    class Access {
+    public:
+        Access(Locked &set, std::size_t) : set_(set) {}
+        bool contains(Key key) {
+            std::lock_guard<std::mutex> lock(set_.mutex_);
+            return set_.keys_.count(key) != 0;
+        }
+        bool add(Key key) {
+            std::lock_guard<std::mutex> lock(set_.mutex_);
+            return set_.keys_.insert(key).second;
+        }
+        bool remove(Key key) {
+            std::lock_guard<std::mutex> lock(set_.mutex_);
+            return set_.keys_.erase(key) != 0;
+        }
+        std::optional<Key> least() {
+            std::lock_guard<std::mutex> lock(set_.mutex_);
+            if (set_.keys_.empty()) return std::nullopt;
+            return *set_.keys_.begin();
+        }
+
+    private:
+        Locked &set_;
+    };
+
+private:
+    std::mutex mutex_;
+    std::set<Key> keys_;
+};
+
+#ifdef HAS_CDS
+using Rcu = cds::urcu::gc<cds::urcu::general_buffered<>>;
+
+class Skip {
+public:
+    Skip(std::size_t, std::size_t) {}
+    class Access {
+    public:
+        Access(Skip &set, std::size_t) : set_(set.keys_) {}
+        bool contains(Key key) { return set_.contains(key); }
+        bool add(Key key) { return set_.insert(key); }
+        bool remove(Key key) { return set_.erase(key); }
+        std::optional<Key> least() {
+            typename Keys::rcu_lock lock;
+            auto first = set_.begin();
+            if (first == set_.end()) return std::nullopt;
+            return *first;
+        }
+
+    private:
+        typename cds::container::SkipListSet<Rcu, Key> &set_;
+    };
+
+private:
+    using Keys = cds::container::SkipListSet<Rcu, Key>;
+    Keys keys_;
+};
+#endif
+
+// ---- orders
+
+std::vector<Key> clusters(std::size_t count) {
+    std::mt19937_64 random(7);
+    std::vector<Key> keys;
+    for (int cluster = 0; cluster < 32; cluster++) {
+        Key first = random() >> 2;
+        for (std::size_t at = 0; at < count / 32 + 1 && keys.size() < count; at++)
+            keys.push_back(first + at);
+    }
+    return keys;
+}
+
+std::vector<Key> keys_in(const std::string &order, std::size_t count) {
+    if (order == "clustered") return clusters(count);
+    std::vector<Key> keys(count);
+    std::iota(keys.begin(), keys.end(), Key{1});
+    if (order == "descending") std::reverse(keys.begin(), keys.end());
+    if (order == "shuffled" || order == "zipf")
+        std::shuffle(keys.begin(), keys.end(), std::mt19937_64(5));
+    return keys;
+}
+
+// Picks by Zipf's law with exponent 0.99, of keys that stand.
+std::vector<Key> zipf_picks(const std::vector<Key> &keys, std::size_t count) {
+    std::vector<double> sums(keys.size());
+    double sum = 0;
+    for (std::size_t rank = 0; rank < keys.size(); rank++)
+        sums[rank] = sum += 1 / std::pow(static_cast<double>(rank + 1), 0.99);
+    std::mt19937_64 random(11);
+    std::uniform_real_distribution<double> drawn(0, sum);
+    std::vector<Key> picks;
+    for (std::size_t pick = 0; pick < count; pick++) {
+        auto at = std::lower_bound(sums.begin(), sums.end(), drawn(random)) - sums.begin();
+        picks.push_back(keys[std::min<std::size_t>(static_cast<std::size_t>(at), keys.size() - 1)]);
+    }
+    return picks;
+}
+
+// ---- rows
+
+template <class Work> double nanoseconds(std::size_t calls, Work work) {
+    auto begun = std::chrono::steady_clock::now();
+    work();
+    std::chrono::duration<double, std::nano> taken = std::chrono::steady_clock::now() - begun;
+    return taken.count() / static_cast<double>(calls);
+}
+
+void must(bool is_so) {
+    if (!is_so) {
+        std::fputs("orders: a set has answered otherwise\n", stderr);
+        std::exit(1);
+    }
+}
+
+// Each thread makes its share of so many turns; nanoseconds of the clock a turn.
+template <class Set, class Turn>
+double in_threads(Set &set, std::size_t threads, std::size_t turns, Turn turn) {
+    return nanoseconds(turns, [&] {
+        std::vector<std::thread> started;
+        for (std::size_t number = 0; number < threads; number++)
+            started.emplace_back([&, number] {
+#ifdef HAS_CDS
+                cds::threading::Manager::attachThread();
+#endif
+                typename Set::Access access(set, number);
+                for (std::size_t made = 0; made < turns / threads; made++) turn(access);
+#ifdef HAS_CDS
+                cds::threading::Manager::detachThread();
+#endif
+            });
+        for (auto &thread : started) thread.join();
+    });
+}
+
+template <class Set>
+double filled(const std::string &order, std::size_t count) {
+    Set set(count, 1);
+    typename Set::Access access(set, 0);
+    auto keys = keys_in(order, count);
+    double fill = nanoseconds(count, [&] {
+        for (Key key : keys) must(access.add(key));
+    });
+    if (order != "zipf") return fill;
+    auto picks = zipf_picks(keys, 4 * count);
+    return nanoseconds(picks.size(), [&] {
+        for (Key key : picks) must(access.contains(key));
+    });
+}
+
+// A window of timestamps: a turn adds the next one and removes the one that falls out.
+template <class Set> double windowed(std::size_t window, std::size_t threads) {
+    Set set(window, threads);
+    std::atomic<Key> clock{window + 1};
+    typename Set::Access access(set, 0);
+    for (Key time = 1; time <= window; time++) must(access.add(time));
+    return in_threads(set, threads, std::max<std::size_t>(window, 200000), [&](auto &access) {
+        Key time = clock.fetch_add(1);
+        must(access.add(time));
+        // It may stand behind its adding by another thread that has lost its processor.
+        while (!access.remove(time - window)) std::this_thread::yield();
+    });
+}
+
+// A scheduler: a turn adds the next timestamp and takes the least one that stands.
+template <class Set> double scheduled(std::size_t standing, std::size_t threads) {
+    Set set(standing, threads);
+    std::atomic<Key> clock{standing + 1};
+    typename Set::Access access(set, 0);
+    for (Key time = 1; time <= standing; time++) must(access.add(time));
+    return in_threads(set, threads, 200000, [&](auto &access) {
+        must(access.add(clock.fetch_add(1)));
+        for (;;) {
+            auto least = access.least();
+            if (least && access.remove(*least)) break;
+        }
+    });
+}
+
+template <class Set> void serve() {
+    std::string what;
+    std::size_t keys, threads;
+    while (std::cin >> what >> keys >> threads) {
+        double taken = what == "window"      ? windowed<Set>(keys, threads)
+                       : what == "scheduler" ? scheduled<Set>(keys, threads)
+                                             : filled<Set>(what, keys);
+        std::printf("%.1f\n", taken);
+        std::fflush(stdout);
+    }
+}
+
+} // namespace
+
+int main(int count, char **words) {
+    std::string name = count > 1 ? words[1] : "";
+    if (name == "set") serve<Proved>();
+    else if (name == "locked") serve<Locked>();
+#ifdef HAS_CDS
+    else if (name == "skip") {
+        cds::Initialize();
+        {
+            Rcu rcu;
+            cds::threading::Manager::attachThread();
+            serve<Skip>();
+            cds::threading::Manager::detachThread();
+        }
+        cds::Terminate();
+    }
+#endif
+    else return 2;
+}

@@ -1,0 +1,132 @@
+//! Rust's `BTreeSet` behind a `Mutex` for bench/orders: as orders.cpp, rows and answers too.
+use std::collections::BTreeSet;
+use std::io::BufRead;
+use std::sync::atomic::{AtomicU64, Ordering};
+use std::sync::Mutex;
+use std::time::Instant;
+
+type Set = Mutex<BTreeSet<u64>>;
+
+fn next(seed: &mut u64) -> u64 {
+    *seed ^= *seed << 13;
+    *seed ^= *seed >> 7;
+    *seed ^= *seed << 17;
+    *seed
+}
+
+fn shuffle(keys: &mut [u64]) {
+    let mut seed = 88_172_645_463_325_252;
+    for at in (1..keys.len()).rev() {
+        keys.swap(at, (next(&mut seed) % (at as u64 + 1)) as usize);
+    }
+}
+
+fn keys_in(order: &str, count: usize) -> Vec<u64> {
+    let mut keys: Vec<u64> = (1..=count as u64).collect();
+    match order {
+        "clustered" => {
+            let mut seed = 7_777_777;
+            let each = count / 32 + 1;
+            keys = (0..32)
+                .map(|_| next(&mut seed) >> 2)
+                .flat_map(|first| (0..each as u64).map(move |at| first + at))
+                .take(count)
+                .collect();
+        }
+        "descending" => keys.reverse(),
+        "shuffled" | "zipf" => shuffle(&mut keys),
+        _ => {}
+    }
+    keys
+}
+
+fn zipf_picks(keys: &[u64], count: usize) -> Vec<u64> {
+    let mut sum = 0.0;
+    let sums: Vec<f64> = (0..keys.len())
+        .map(|rank| {
+            sum += 1.0 / ((rank + 1) as f64).powf(0.99);
+            sum
+        })
+        .collect();
+    let mut seed = 11_111_111;
+    (0..count)
+        .map(|_| {
+            let drawn = (next(&mut seed) >> 11) as f64 / (1u64 << 53) as f64 * sum;
+            keys[sums.partition_point(|it| *it < drawn).min(keys.len() - 1)]
+        })
+        .collect()
+}
+
+fn nanoseconds(calls: usize, work: impl FnOnce()) -> f64 {
+    let begun = Instant::now();
+    work();
+    begun.elapsed().as_nanos() as f64 / calls as f64
+}
+
+fn in_threads(threads: usize, turns: usize, turn: impl Fn() + Sync) -> f64 {
+    nanoseconds(turns, || {
+        std::thread::scope(|scope| {
+            for _ in 0..threads {
+                scope.spawn(|| (0..turns / threads).for_each(|_| turn()));
+            }
+        })
+    })
+}
+
+fn filled(order: &str, count: usize) -> f64 {
+    let set = Set::default();
+    let keys = keys_in(order, count);
+    let fill = nanoseconds(count, || {
+        for key in &keys {
+            assert!(set.lock().unwrap().insert(*key));
+        }
+    });
+    if order != "zipf" {
+        return fill;
+    }
+    let picks = zipf_picks(&keys, 4 * count);
+    nanoseconds(picks.len(), || {
+        for key in &picks {
+            assert!(set.lock().unwrap().contains(key));
+        }
+    })
+}
+
+fn standing(count: usize) -> (Set, AtomicU64) {
+    let keys = (1..=count as u64).collect();
+    (Mutex::new(keys), AtomicU64::new(count as u64 + 1))
+}
+
+fn windowed(window: usize, threads: usize) -> f64 {
+    let (set, clock) = standing(window);
+    in_threads(threads, window.max(200_000), || {
+        let time = clock.fetch_add(1, Ordering::Relaxed);
+        assert!(set.lock().unwrap().insert(time));
+        while !set.lock().unwrap().remove(&(time - window as u64)) {
+            std::thread::yield_now();
+        }
+    })
+}
+
+fn scheduled(count: usize, threads: usize) -> f64 {
+    let (set, clock) = standing(count);
+    in_threads(threads, 200_000, || {
+        let time = clock.fetch_add(1, Ordering::Relaxed);
+        assert!(set.lock().unwrap().insert(time));
+        assert!(set.lock().unwrap().pop_first().is_some());
+    })
+}
+
+fn main() {
+    for line in std::io::stdin().lock().lines() {
+        let line = line.unwrap();
+        let words: Vec<&str> = line.split(' ').collect();
+        let (keys, threads) = (words[1].parse().unwrap(), words[2].parse().unwrap());
+        let taken = match words[0] {
+            "window" => windowed(keys, threads),
+            "scheduler" => scheduled(keys, threads),
+            order => filled(order, keys),
+        };
+        println!("{taken:.1}");
+    }
+}

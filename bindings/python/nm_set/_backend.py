@@ -1,0 +1,32 @@
+"""The calls for keys: those in C, where they are built, else those by ctypes. With NM_SET_PURE in
+the environment those by ctypes."""
+
+from __future__ import annotations
+
+import os
+from typing import TYPE_CHECKING
+
+from . import _library as c
+from ._faults import fault, forked, key_fault
+
+# The functions that those in C call, in the order in which `bind` takes them.
+_IN_C = ("contains", "insert", "remove", "pop_first", "pop_last", "next", "prev")
+_IN_C += ("contains_many", "finish", "pending", "ledger")
+
+if TYPE_CHECKING or os.environ.get("NM_SET_PURE"):
+    from ._calls import Calls, first_wrong
+
+    is_native = False
+else:
+    try:
+        from ._native import Calls, bind, first_wrong
+    except ImportError:
+        from ._calls import Calls, first_wrong
+
+        is_native = False
+    else:
+        addresses = tuple(c.address(f"nm_worker_{name}") for name in _IN_C)
+        bind(*addresses, fault, key_fault, forked)
+        is_native = True
+
+__all__ = ["Calls", "first_wrong", "is_native"]

@@ -1,0 +1,430 @@
+"""What a set and each of its workers have: the calls for keys, and over them what a set of Python
+has."""
+
+from __future__ import annotations
+
+import operator
+from array import array
+from collections.abc import Callable, Iterable, Iterator, MutableSet
+from collections.abc import Set as AbstractSet
+from contextlib import suppress
+from itertools import islice
+from numbers import Number
+from typing import Any, NoReturn, Optional, SupportsIndex, TypeVar
+
+from . import _library as c
+from ._backend import Calls, first_wrong
+from ._faults import MOST_KEY, Closed, Full, InUse, fault, key_fault
+
+_T = TypeVar("_T")
+_UNSIGNED, _SIGNED = frozenset("QLN"), frozenset("qln")  # the formats of words of 64 bits
+_TOLD = 10  # how many keys `repr` tells
+
+
+def _number(key: object) -> Optional[int]:
+    """The key that equals an object, or None. TypeError of what has no hash and is no set, as a set
+    of Python has it."""
+    with suppress(TypeError):
+        return _key_or_none(operator.index(key))  # type: ignore[arg-type]
+    if not isinstance(key, AbstractSet):
+        hash(key)
+    if isinstance(key, Number):
+        with suppress(TypeError, ValueError, OverflowError):
+            number = int(key)  # type: ignore[call-overload]
+            return _key_or_none(number) if number == key else None
+    return None
+
+
+def _key_or_none(number: int) -> Optional[int]:
+    return number if 0 <= number <= MOST_KEY else None
+
+
+def words_of(keys: Iterable[SupportsIndex]) -> memoryview:
+    """Keys as words that lie beside each other: as they are, where they lie so in a buffer, as
+    those of array.array("Q") or of numpy. Each is tested."""
+    try:
+        view = memoryview(keys)  # type: ignore[arg-type]
+    except TypeError:
+        return _copied(keys)
+    kind = view.format.lstrip("@")
+    if view.ndim != 1 or not view.c_contiguous or kind not in _UNSIGNED | _SIGNED:
+        return _copied(keys)
+    words = _cast(view, "Q")
+    wrong = first_wrong(words, kind in _SIGNED)
+    if wrong >= 0:
+        raise key_fault(view[wrong])
+    return words
+
+
+def _cast(view: memoryview, kind: str) -> memoryview:
+    """A view by another format, which an empty one cannot be given."""
+    return view.cast("B").cast(kind) if view.nbytes else view
+
+
+def _copied(keys: Iterable[SupportsIndex]) -> memoryview:
+    def each() -> Iterator[int]:
+        for key in keys:
+            number = operator.index(key)
+            if not 0 <= number <= MOST_KEY:
+                raise key_fault(number)
+            yield number
+
+    return memoryview(array("Q", each()))
+
+
+def _as_set(other: Iterable[Any]) -> AbstractSet[Any]:
+    return other if isinstance(other, (set, frozenset)) else set(other)
+
+
+class Keys(MutableSet):  # type: ignore[type-arg]
+    """The whole numbers of a set that threads share, as a set of Python.
+
+    While other threads add and remove, a call that goes over several keys takes no snapshot: each
+    key has an answer that was right at a moment of the call, two of them perhaps at different
+    moments. This is so of iteration and all that stands on it: comparisons, operators, `copy`,
+    `clear` and the updates.
+    """
+
+    _calls: Calls
+
+    def _again(self, call: Callable[..., _T], *arguments: object) -> _T:
+        """Makes a call again that found no worker free, or no nodes."""
+        raise NotImplementedError
+
+    # ---- one key ----
+
+    def __contains__(self, key: object) -> bool:
+        """Whether the set has a key. What is no key is in no set."""
+        try:
+            return self._calls.contains(key)  # type: ignore[arg-type]
+        except (TypeError, ValueError, InUse):
+            number = _number(key)
+        return number is not None and self._again(self._calls.contains, number)
+
+    def contains(self, key: object) -> bool:
+        """The same as `key in numbers`."""
+        return key in self
+
+    def add(self, key: SupportsIndex) -> bool:  # type: ignore[override]
+        """Adds a key, 0 to 2^64 - 4: True where it was not in the set. `OutOfRange` or `TypeError`
+        of what is no key; `Full`."""
+        try:
+            return self._calls.add(key)
+        except (Closed, InUse, Full):
+            pass
+        return self._again(self._calls.add, key)
+
+    def discard(self, key: object) -> bool:  # type: ignore[override]
+        """Removes a key: True where it was in the set."""
+        try:
+            return self._calls.remove(key)  # type: ignore[arg-type]
+        except (TypeError, ValueError, InUse):
+            number = _number(key)
+        return number is not None and self._again(self._calls.remove, number)
+
+    def remove(self, key: object) -> None:
+        """Removes a key, or raises KeyError where it was not in the set."""
+        if not self.discard(key):
+            raise KeyError(key)
+
+    def at_least(self, key: SupportsIndex) -> Optional[int]:
+        """The least key of the set that is not below this one, or None where there is none. At a
+        moment of the call the set had the key, and of each key that was passed over there was one
+        at which it had it not: two of these moments may differ."""
+        try:
+            return self._calls.at_least(key)
+        except (Closed, InUse):
+            pass
+        return self._again(self._calls.at_least, key)
+
+    def at_most(self, key: SupportsIndex) -> Optional[int]:
+        """The greatest key of the set that is not above this one, or None where there is none, as
+        `at_least` tells the least."""
+        try:
+            return self._calls.at_most(key)
+        except (Closed, InUse):
+            pass
+        return self._again(self._calls.at_most, key)
+
+    # ---- several keys ----
+
+    def contains_many(self, keys: Iterable[SupportsIndex], out: Any = None) -> Any:
+        """Whether the set has each of these keys, in their order: a list, or what `out` is, a
+        buffer of one byte for each key, as of `bytearray` or numpy, in which 1 or 0 is written.
+        Each answer was right at a moment of the call. Keys that lie in a buffer, as those of
+        array.array("Q") or of numpy, are read where they are, and other threads run meanwhile."""
+        words = words_of(keys)
+        found = _cast(memoryview(bytearray(len(words)) if out is None else out), "B")
+        if found.readonly:
+            raise TypeError("the answers cannot be written where they are to be")
+        if len(found) != len(words):
+            raise ValueError(f"there are {len(words)} keys, and room for {len(found)} answers")
+        at = 0
+        while at < len(words):
+            try:
+                at += self._calls.contains_some(words, at, found)
+            except (Closed, InUse):
+                at += self._again(self._calls.contains_some, words, at, found)
+        return [byte != 0 for byte in found] if out is None else out
+
+    def _change_many(self, keys: Iterable[SupportsIndex], name: str) -> int:
+        words, at, changed = words_of(keys), 0, 0
+        some, one = getattr(self._calls, f"{name}_some"), getattr(self._calls, name)
+        while at < len(words):
+            done, count, outcome = some(words, at)
+            at, changed = at + done, changed + count
+            if outcome in (c.CLOSED, c.IN_USE, c.FULL):
+                changed += self._again(one, words[at])
+                at += 1
+            elif outcome < 0:
+                raise fault(outcome)
+        return changed
+
+    def add_many(self, keys: Iterable[SupportsIndex]) -> int:
+        """Adds these keys: how many were not in the set. They are tested before one of them is
+        added; where `Full` is raised those before are in the set. Keys in a buffer are read where
+        they are, as by `contains_many`, and other threads run meanwhile."""
+        return self._change_many(keys, "add")
+
+    def discard_many(self, keys: Iterable[SupportsIndex]) -> int:
+        """Removes these keys: how many were in the set. See `add_many`."""
+        return self._change_many(keys, "remove")
+
+    # ---- in order ----
+
+    def __iter__(self) -> Iterator[int]:
+        """The keys, ascending, while the set is in use, by a call of `at_least` for each. Keys that
+        are added or removed meanwhile may be told or not; one that was removed before it is told is
+        not told."""
+        return self.irange()
+
+    def irange(
+        self,
+        minimum: Optional[SupportsIndex] = None,
+        maximum: Optional[SupportsIndex] = None,
+        inclusive: tuple[bool, bool] = (True, True),
+        reverse: bool = False,
+    ) -> Iterator[int]:
+        """The keys from a least to a greatest one, ascending, as `__iter__` tells them; or
+        descending, by a call of `at_most` for each."""
+        first = 0 if minimum is None else operator.index(minimum) + (not inclusive[0])
+        last = MOST_KEY if maximum is None else operator.index(maximum) - (not inclusive[1])
+        go = self._descending if reverse else self._ascending
+        return go(max(first, 0), min(last, MOST_KEY))
+
+    def _ascending(self, first: int, last: int) -> Iterator[int]:
+        while first <= last:
+            key = self.at_least(first)
+            if key is None or key > last:
+                return
+            yield key
+            first = key + 1
+
+    def _descending(self, first: int, last: int) -> Iterator[int]:
+        while first <= last:
+            key = self.at_most(last)
+            if key is None or key < first:
+                return
+            yield key
+            last = key - 1
+
+    def first(self) -> Optional[int]:
+        """The least key, or None of an empty set."""
+        return self.at_least(0)
+
+    def last(self) -> Optional[int]:
+        """The greatest key, or None of an empty set."""
+        return self.at_most(MOST_KEY)
+
+    def _pop(self, call: Callable[[], Optional[int]]) -> int:
+        try:
+            key = call()
+        except (Closed, InUse):
+            key = self._again(call)
+        if key is None:
+            raise KeyError("pop from an empty set")
+        return key
+
+    def pop_first(self) -> int:
+        """Removes the least key and tells it. KeyError of an empty set. No two calls tell one key,
+        unless it was added again between, and none is passed over that was in the set all along."""
+        return self._pop(self._calls.pop_first)
+
+    def pop_last(self) -> int:
+        """The same of the greatest key."""
+        return self._pop(self._calls.pop_last)
+
+    def pop(self) -> int:
+        """The same as `pop_first`, by the name that a set has for it."""
+        return self.pop_first()
+
+    def __reversed__(self) -> Iterator[int]:
+        """The keys, descending, as `__iter__` tells them ascending."""
+        return self.irange(reverse=True)
+
+    def __bool__(self) -> bool:
+        return self.at_least(0) is not None
+
+    def __repr__(self) -> str:
+        told = [str(key) for key in islice(self, _TOLD + 1)]
+        if len(told) <= _TOLD:
+            keys = f"[{', '.join(told)}]"
+        else:
+            keys = f"[{', '.join(told[:_TOLD])}, ...], {len(self)} keys"
+        return f"{type(self).__name__}({keys})"
+
+    # ---- as a set ----
+
+    @classmethod
+    def _from_iterable(cls, it: Iterable[Any]) -> set[Any]:
+        """What the operators make: a set of Python, since one of these has a size, and an end."""
+        return set(it)
+
+    def copy(self) -> set[int]:
+        """The keys, in a set of Python."""
+        return set(self)
+
+    def clear(self) -> None:
+        """Removes each key of the set; one that is added meanwhile may stay."""
+        for key in self:
+            self.discard(key)
+
+    def update(self, *others: Iterable[SupportsIndex]) -> None:
+        """Adds the keys of all others, which are tested before the first one is added."""
+        for words in [words_of(other) for other in others]:
+            self._change_many(words, "add")
+
+    def union(self, *others: Iterable[Any]) -> set[Any]:
+        """A set of Python with the keys of this and all others."""
+        return set(self).union(*others)
+
+    def intersection(self, *others: Iterable[Any]) -> set[int]:
+        """A set of Python with the keys that this and all others have."""
+        return set(self).intersection(*others)
+
+    def difference(self, *others: Iterable[Any]) -> set[int]:
+        """A set of Python with the keys that none of the others has."""
+        return set(self).difference(*others)
+
+    def symmetric_difference(self, other: Iterable[Any]) -> set[Any]:
+        """A set of Python with the keys that one of the two has."""
+        return set(self).symmetric_difference(other)
+
+    def intersection_update(self, *others: Iterable[Any]) -> None:
+        """Removes the keys that some other one has not."""
+        kept = set(self).intersection(*others)
+        for key in self:
+            if key not in kept:
+                self.discard(key)
+
+    def difference_update(self, *others: Iterable[Any]) -> None:
+        """Removes the keys of all others."""
+        for other in others:
+            for key in set(self) if other is self else other:
+                self.discard(key)
+
+    def symmetric_difference_update(self, other: Iterable[Any]) -> None:
+        """Removes the keys of the other one that the set has, and adds those that it has not."""
+        for key in _copied(set(other)):
+            if not self.discard(key):
+                self.add(key)
+
+    def isdisjoint(self, other: Iterable[Any]) -> bool:
+        """Whether the set has no key of the other one."""
+        return not any(key in self for key in other)
+
+    def issubset(self, other: Iterable[Any]) -> bool:
+        """Whether the other one has each key of the set."""
+        return set(self).issubset(other)
+
+    def issuperset(self, other: Iterable[Any]) -> bool:
+        """Whether the set has each key of the other one."""
+        return all(key in self for key in other)
+
+    def __le__(self, other: object) -> bool:
+        if not isinstance(other, AbstractSet):
+            return NotImplemented
+        return self.issubset(other)
+
+    def __lt__(self, other: object) -> bool:
+        if not isinstance(other, AbstractSet):
+            return NotImplemented
+        return set(self) < _as_set(other)
+
+    def __ge__(self, other: object) -> bool:
+        if not isinstance(other, AbstractSet):
+            return NotImplemented
+        return self.issuperset(other)
+
+    def __gt__(self, other: object) -> bool:
+        if not isinstance(other, AbstractSet):
+            return NotImplemented
+        return set(self) > _as_set(other)
+
+    def __eq__(self, other: object) -> bool:
+        if not isinstance(other, AbstractSet):
+            return NotImplemented
+        return self is other or set(self) == _as_set(other)
+
+    __hash__ = None  # type: ignore[assignment]
+
+    def __and__(self, other: object) -> set[int]:
+        if not isinstance(other, AbstractSet):
+            return NotImplemented
+        return self.intersection(other)
+
+    def __or__(self, other: object) -> set[Any]:
+        if not isinstance(other, AbstractSet):
+            return NotImplemented
+        return self.union(other)
+
+    def __xor__(self, other: object) -> set[Any]:
+        if not isinstance(other, AbstractSet):
+            return NotImplemented
+        return self.symmetric_difference(other)
+
+    def __sub__(self, other: object) -> set[int]:
+        if not isinstance(other, AbstractSet):
+            return NotImplemented
+        return self.difference(other)
+
+    def __rsub__(self, other: object) -> set[Any]:
+        if not isinstance(other, AbstractSet):
+            return NotImplemented
+        return set(other) - set(self)
+
+    __rand__, __ror__, __rxor__ = __and__, __or__, __xor__
+
+    def __ior__(self: _T, other: object) -> _T:
+        if not isinstance(other, AbstractSet):
+            return NotImplemented
+        self.update(other)  # type: ignore[attr-defined]
+        return self
+
+    def __iand__(self: _T, other: object) -> _T:
+        if not isinstance(other, AbstractSet):
+            return NotImplemented
+        self.intersection_update(other)  # type: ignore[attr-defined]
+        return self
+
+    def __isub__(self: _T, other: object) -> _T:
+        if not isinstance(other, AbstractSet):
+            return NotImplemented
+        self.difference_update(other)  # type: ignore[attr-defined]
+        return self
+
+    def __ixor__(self: _T, other: object) -> _T:
+        if not isinstance(other, AbstractSet):
+            return NotImplemented
+        self.symmetric_difference_update(other)  # type: ignore[attr-defined]
+        return self
+
+    # ---- what would make a second one of the same memory ----
+
+    def _refuse(self, *_: object) -> NoReturn:
+        raise TypeError(
+            f"a {type(self).__name__} is shared memory of this process, which cannot be copied or"
+            " pickled: copy() makes a set of Python with its keys"
+        )
+
+    __copy__ = __deepcopy__ = __reduce__ = __reduce_ex__ = _refuse

@@ -1,0 +1,569 @@
+/* The calls for keys in C: what _calls.py has by ctypes, and its names and meanings.
+ *
+ * The library is found by _library.py, which gives the addresses of its functions to `bind`. A call
+ * for one key ends within some hundred steps, and is made while other threads of Python wait; one
+ * for several keys lets them go on. No step of Python, and so no signal handler, comes between what
+ * is done here.
+ */
+#define PY_SSIZE_T_CLEAN
+#include <Python.h>
+#include <pthread.h>
+#include <stdint.h>
+#include <string.h>
+#include <unistd.h>
+
+#include "nm_set.h"
+
+#define MOST_KEY (UINT64_MAX - 3)
+#define STRIDE 64    /* a place: a handle, and the rest of its line */
+#define SEVERAL 64   /* how many keys one call of the library looks up */
+#define SOME 4096    /* how many keys one call of a method named `.._some` goes over at most */
+#define MOST_PLACES 64
+
+typedef nm_outcome (*tended_call)(nm_handle *, uint64_t, const nm_habit *);
+typedef nm_outcome (*pop_call)(nm_handle *, const nm_habit *, uint64_t *);
+typedef nm_outcome (*near_call)(nm_handle *, uint64_t, uint32_t, uint64_t *);
+typedef nm_outcome (*many_call)(nm_handle *, nm_lookup *, size_t, uint32_t);
+typedef nm_outcome (*finish_call)(nm_handle *, uint32_t);
+typedef nm_outcome (*pending_call)(nm_handle *, uint64_t *);
+typedef nm_outcome (*ledger_call)(nm_handle *, nm_ledger *);
+
+static tended_call contains_of, insert_of, remove_of;
+static pop_call pop_first_of, pop_last_of;
+static near_call next_of, prev_of;
+static many_call contains_many_of;
+static finish_call finish_of;
+static pending_call pending_of;
+static ledger_call ledger_of;
+
+/* What makes the exceptions, of _faults.py. */
+static PyObject *fault_of, *key_fault_of, *forked_of;
+
+/* How often the process was forked on the way to this one. */
+static unsigned long forks;
+
+static void count_fork(void) { forks++; }
+
+typedef struct {
+    PyObject_HEAD
+    Py_buffer places;
+    nm_habit habit;
+    uint64_t lent; /* bit i: a thread that let others go on is at work by place i */
+    int reach;     /* how many of the places are looked at */
+    unsigned long forks;
+    long process;
+} Calls;
+
+static nm_handle *place_of(Calls *self, int at) {
+    return (nm_handle *)((char *)self->places.buf + (size_t)at * STRIDE);
+}
+
+/* Raises what a function of _faults.py makes of an argument, which is given up. */
+static PyObject *raise_of(PyObject *make, PyObject *argument) {
+    PyObject *made = argument ? PyObject_CallFunctionObjArgs(make, argument, NULL) : NULL;
+    Py_XDECREF(argument);
+    if (made) {
+        PyErr_SetObject((PyObject *)Py_TYPE(made), made);
+        Py_DECREF(made);
+    }
+    return NULL;
+}
+
+static PyObject *raise_fault(nm_outcome outcome) {
+    return raise_of(fault_of, PyLong_FromLong(outcome));
+}
+
+/* Whether this is the process in which the calls were made; else an exception is set. */
+static int is_at_home(Calls *self) {
+    if (self->forks == forks) {
+        return 1;
+    }
+    raise_of(forked_of, PyLong_FromLong(self->process));
+    return 0;
+}
+
+/* The key that an object is, or -1 behind an exception. */
+static int key_of(PyObject *object, uint64_t *key) {
+    PyObject *number = PyNumber_Index(object);
+    if (!number) {
+        return -1;
+    }
+    *key = PyLong_AsUnsignedLongLong(number);
+    if (PyErr_Occurred()) {
+        if (!PyErr_ExceptionMatches(PyExc_OverflowError)) {
+            Py_DECREF(number);
+            return -1;
+        }
+        PyErr_Clear();
+        *key = UINT64_MAX;
+    }
+    if (*key > MOST_KEY) {
+        raise_of(key_fault_of, number);
+        return -1;
+    }
+    Py_DECREF(number);
+    return 0;
+}
+
+static int is_free_place(Calls *self, int at) { return !(self->lent >> at & 1); }
+
+/* Whether a call has to be made by another place. */
+static int is_elsewhere(nm_outcome outcome) {
+    return outcome == NM_IN_USE || outcome == NM_CLOSED;
+}
+
+static PyObject *answer(nm_outcome outcome) {
+    return outcome < 0 ? raise_fault(outcome) : PyBool_FromLong(outcome != NM_NO);
+}
+
+static PyObject *tended(Calls *self, PyObject *object, tended_call call) {
+    uint64_t key;
+    nm_outcome outcome = NM_CLOSED;
+    if (key_of(object, &key) < 0 || !is_at_home(self)) {
+        return NULL;
+    }
+    for (int at = 0; at < self->reach; at++) {
+        outcome = is_free_place(self, at) ? call(place_of(self, at), key, &self->habit) : NM_IN_USE;
+        if (!is_elsewhere(outcome)) {
+            break;
+        }
+    }
+    return answer(outcome);
+}
+
+static PyObject *calls_contains(PyObject *self, PyObject *key) {
+    return tended((Calls *)self, key, contains_of);
+}
+
+static PyObject *calls_add(PyObject *self, PyObject *key) {
+    return tended((Calls *)self, key, insert_of);
+}
+
+static PyObject *calls_remove(PyObject *self, PyObject *key) {
+    return tended((Calls *)self, key, remove_of);
+}
+
+/* The key that a call has told, or None. */
+static PyObject *told_key(nm_outcome outcome, uint64_t key) {
+    if (outcome < 0) {
+        return raise_fault(outcome);
+    }
+    if (outcome == NM_NO) {
+        Py_RETURN_NONE;
+    }
+    return PyLong_FromUnsignedLongLong(key);
+}
+
+/* The key nearest to one, by a place, behind the discard that is pending there. */
+static nm_outcome near_by(Calls *self, nm_handle *place, near_call call, uint64_t key,
+                          uint64_t *found) {
+    nm_outcome outcome = call(place, key, self->habit.tries, found);
+    for (uint32_t round = 0; round < self->habit.rounds; round++) {
+        if (outcome == NM_PENDING) {
+            finish_of(place, self->habit.tries);
+        } else if (outcome != NM_BUSY) {
+            break;
+        }
+        outcome = call(place, key, self->habit.tries, found);
+    }
+    return outcome;
+}
+
+static PyObject *nearest(Calls *self, PyObject *asked, near_call call) {
+    uint64_t key, found = 0;
+    nm_outcome outcome = NM_CLOSED;
+    if (key_of(asked, &key) < 0 || !is_at_home(self)) {
+        return NULL;
+    }
+    for (int at = 0; at < self->reach; at++) {
+        outcome = is_free_place(self, at) ? near_by(self, place_of(self, at), call, key, &found)
+                                          : NM_IN_USE;
+        if (!is_elsewhere(outcome)) {
+            break;
+        }
+    }
+    return told_key(outcome, found);
+}
+
+static PyObject *calls_at_least(PyObject *self, PyObject *key) {
+    return nearest((Calls *)self, key, next_of);
+}
+
+static PyObject *calls_at_most(PyObject *self, PyObject *key) {
+    return nearest((Calls *)self, key, prev_of);
+}
+
+/* Takes a key by a place. One that is told to be unfinished goes by this call and no other, and is
+ * pending. */
+static nm_outcome taken_by(Calls *self, nm_handle *place, pop_call call, uint64_t *taken) {
+    nm_outcome outcome = call(place, &self->habit, taken);
+    return outcome == NM_UNFINISHED ? pending_of(place, taken) : outcome;
+}
+
+static PyObject *take(Calls *self, pop_call call) {
+    uint64_t taken = 0;
+    nm_outcome outcome = NM_CLOSED;
+    if (!is_at_home(self)) {
+        return NULL;
+    }
+    for (int at = 0; at < self->reach; at++) {
+        outcome = is_free_place(self, at) ? taken_by(self, place_of(self, at), call, &taken)
+                                          : NM_IN_USE;
+        if (!is_elsewhere(outcome)) {
+            break;
+        }
+    }
+    return told_key(outcome, taken);
+}
+
+static PyObject *calls_pop_first(PyObject *self, PyObject *unused) {
+    (void)unused;
+    return take((Calls *)self, pop_first_of);
+}
+
+static PyObject *calls_pop_last(PyObject *self, PyObject *unused) {
+    (void)unused;
+    return take((Calls *)self, pop_last_of);
+}
+
+/* ---- several keys ---- */
+
+/* Keys that lie in a buffer, from an index on, and how many of them there are. */
+typedef struct {
+    Py_buffer buffer;
+    const uint64_t *from;
+    Py_ssize_t first, count;
+} Keys;
+
+static int keys_of(PyObject *object, Py_ssize_t first, Keys *keys) {
+    if (PyObject_GetBuffer(object, &keys->buffer, PyBUF_SIMPLE) < 0) {
+        return -1;
+    }
+    Py_ssize_t count = keys->buffer.len / (Py_ssize_t)sizeof(uint64_t) - first;
+    if (first < 0 || count < 0) {
+        PyBuffer_Release(&keys->buffer);
+        PyErr_SetString(PyExc_IndexError, "there are no keys from that index on");
+        return -1;
+    }
+    keys->from = (const uint64_t *)keys->buffer.buf + first;
+    keys->first = first;
+    keys->count = count < SOME ? count : SOME;
+    return 0;
+}
+
+/* What a thread does by one place while the others go on. */
+typedef struct {
+    tended_call call;
+    unsigned char *found;
+    Py_ssize_t done, changed;
+    nm_outcome outcome;
+} Work;
+
+static void change_each(Calls *self, nm_handle *place, const Keys *keys, Work *work) {
+    for (work->done = 0; work->done < keys->count; work->done++) {
+        nm_outcome outcome = work->call(place, keys->from[work->done], &self->habit);
+        if (outcome < 0) {
+            work->outcome = outcome;
+            return;
+        }
+        work->changed += outcome;
+    }
+    work->outcome = NM_DONE;
+}
+
+/* Looks up the keys of one call of the library, behind the discard that is pending. */
+static nm_outcome look_up(Calls *self, nm_handle *place, nm_lookup *lookups, size_t count) {
+    nm_outcome outcome = contains_many_of(place, lookups, count, self->habit.tries);
+    for (uint32_t round = 0; round < self->habit.rounds; round++) {
+        if (outcome == NM_PENDING) {
+            finish_of(place, self->habit.tries);
+        } else if (outcome != NM_BUSY) {
+            break;
+        }
+        outcome = contains_many_of(place, lookups, count, self->habit.tries);
+    }
+    return outcome;
+}
+
+static void look_up_each(Calls *self, nm_handle *place, const Keys *keys, Work *work) {
+    nm_lookup lookups[SEVERAL];
+    work->done = 0;
+    do {
+        Py_ssize_t left = keys->count - work->done, count = left < SEVERAL ? left : SEVERAL;
+        for (Py_ssize_t at = 0; at < count; at++) {
+            lookups[at].key = keys->from[work->done + at];
+            lookups[at].found = 0;
+        }
+        work->outcome = look_up(self, place, lookups, (size_t)count);
+        if (work->outcome < 0) {
+            return;
+        }
+        for (Py_ssize_t at = 0; at < count; at++) {
+            work->found[work->done + at] = lookups[at].found != 0;
+        }
+        work->done += count;
+    } while (work->done < keys->count);
+}
+
+/* Works by the first place that is open and free, which no other call takes meanwhile. */
+static void work_by_one(Calls *self, const Keys *keys, Work *work) {
+    work->outcome = NM_CLOSED;
+    work->done = work->changed = 0;
+    for (int at = 0; at < self->reach; at++) {
+        if (!is_free_place(self, at)) {
+            work->outcome = NM_IN_USE;
+            continue;
+        }
+        self->lent |= (uint64_t)1 << at;
+        Py_BEGIN_ALLOW_THREADS
+        if (work->found) {
+            look_up_each(self, place_of(self, at), keys, work);
+        } else {
+            change_each(self, place_of(self, at), keys, work);
+        }
+        Py_END_ALLOW_THREADS
+        self->lent &= ~((uint64_t)1 << at);
+        if (work->done || !is_elsewhere(work->outcome)) {
+            return;
+        }
+    }
+}
+
+static PyObject *change_some(Calls *self, PyObject *args, tended_call call) {
+    PyObject *object;
+    Py_ssize_t first;
+    Keys keys;
+    Work work = {call, NULL, 0, 0, NM_CLOSED};
+    if (!PyArg_ParseTuple(args, "On", &object, &first) || !is_at_home(self) ||
+        keys_of(object, first, &keys) < 0) {
+        return NULL;
+    }
+    work_by_one(self, &keys, &work);
+    PyBuffer_Release(&keys.buffer);
+    return Py_BuildValue("nni", work.done, work.changed, (int)work.outcome);
+}
+
+static PyObject *calls_add_some(PyObject *self, PyObject *args) {
+    return change_some((Calls *)self, args, insert_of);
+}
+
+static PyObject *calls_remove_some(PyObject *self, PyObject *args) {
+    return change_some((Calls *)self, args, remove_of);
+}
+
+static PyObject *calls_contains_some(PyObject *object, PyObject *args) {
+    Calls *self = (Calls *)object;
+    PyObject *asked, *told;
+    Py_ssize_t first;
+    Keys keys;
+    Py_buffer found;
+    Work work = {NULL, NULL, 0, 0, NM_CLOSED};
+    if (!PyArg_ParseTuple(args, "OnO", &asked, &first, &told) || !is_at_home(self) ||
+        keys_of(asked, first, &keys) < 0) {
+        return NULL;
+    }
+    if (PyObject_GetBuffer(told, &found, PyBUF_WRITABLE) < 0) {
+        PyBuffer_Release(&keys.buffer);
+        return NULL;
+    }
+    if (found.len < first + keys.count) {
+        PyErr_SetString(PyExc_IndexError, "there is no room for so many answers");
+    } else {
+        work.found = (unsigned char *)found.buf + first;
+        work_by_one(self, &keys, &work);
+    }
+    PyBuffer_Release(&keys.buffer);
+    PyBuffer_Release(&found);
+    if (PyErr_Occurred()) {
+        return NULL;
+    }
+    if (work.outcome < 0 && !work.done) {
+        return raise_fault(work.outcome);
+    }
+    return PyLong_FromSsize_t(work.done);
+}
+
+static PyObject *calls_tally(PyObject *object, PyObject *unused) {
+    Calls *self = (Calls *)object;
+    long long count = 0, waiting = 0, missed = 0;
+    nm_ledger ledger;
+    (void)unused;
+    for (int at = 0; at < self->reach; at++) {
+        nm_outcome outcome = ledger_of(place_of(self, at), &ledger);
+        if (outcome == NM_DONE) {
+            count += (long long)(ledger.links - ledger.flags);
+            waiting += (long long)ledger.queued;
+        }
+        missed += outcome == NM_IN_USE;
+    }
+    return Py_BuildValue("LLL", count, waiting, missed);
+}
+
+/* ---- the type, and the module ---- */
+
+static int habit_of(PyObject *object, nm_habit *habit) {
+    Py_buffer words;
+    if (PyObject_GetBuffer(object, &words, PyBUF_SIMPLE) < 0) {
+        return -1;
+    }
+    int fits = words.len == (Py_ssize_t)sizeof *habit;
+    if (fits) {
+        memcpy(habit, words.buf, sizeof *habit);
+    } else {
+        PyErr_SetString(PyExc_TypeError, "the habit is not of the library");
+    }
+    PyBuffer_Release(&words);
+    return fits ? 0 : -1;
+}
+
+static PyObject *calls_new(PyTypeObject *type, PyObject *args, PyObject *named) {
+    PyObject *places, *habit;
+    nm_habit of;
+    (void)named;
+    if (!PyArg_ParseTuple(args, "OO", &places, &habit) || habit_of(habit, &of) < 0) {
+        return NULL;
+    }
+    allocfunc alloc = (allocfunc)PyType_GetSlot(type, Py_tp_alloc);
+    Calls *self = (Calls *)alloc(type, 0);
+    if (!self) {
+        return NULL;
+    }
+    self->habit = of;
+    self->forks = forks;
+    self->process = (long)getpid();
+    if (PyObject_GetBuffer(places, &self->places, PyBUF_WRITABLE) < 0) {
+        self->places.buf = NULL;
+        Py_DECREF(self);
+        return NULL;
+    }
+    return (PyObject *)self;
+}
+
+static void calls_dealloc(PyObject *object) {
+    Calls *self = (Calls *)object;
+    PyTypeObject *type = Py_TYPE(object);
+    freefunc give_back = (freefunc)PyType_GetSlot(type, Py_tp_free);
+    if (self->places.buf) {
+        PyBuffer_Release(&self->places);
+    }
+    give_back(object);
+    Py_DECREF(type);
+}
+
+static PyObject *calls_reach(PyObject *self, void *unused) {
+    (void)unused;
+    return PyLong_FromLong(((Calls *)self)->reach);
+}
+
+static int calls_set_reach(PyObject *object, PyObject *to, void *unused) {
+    Calls *self = (Calls *)object;
+    long reach = to ? PyLong_AsLong(to) : -1;
+    (void)unused;
+    if (PyErr_Occurred()) {
+        return -1;
+    }
+    if (reach < 0 || reach > MOST_PLACES || reach * STRIDE > self->places.len) {
+        PyErr_SetString(PyExc_ValueError, "there are not so many places");
+        return -1;
+    }
+    self->reach = (int)reach;
+    return 0;
+}
+
+static PyMethodDef calls_methods[] = {
+    {"contains", calls_contains, METH_O, NULL},
+    {"add", calls_add, METH_O, NULL},
+    {"remove", calls_remove, METH_O, NULL},
+    {"at_least", calls_at_least, METH_O, NULL},
+    {"at_most", calls_at_most, METH_O, NULL},
+    {"pop_first", calls_pop_first, METH_NOARGS, NULL},
+    {"pop_last", calls_pop_last, METH_NOARGS, NULL},
+    {"contains_some", calls_contains_some, METH_VARARGS, NULL},
+    {"add_some", calls_add_some, METH_VARARGS, NULL},
+    {"remove_some", calls_remove_some, METH_VARARGS, NULL},
+    {"tally", calls_tally, METH_NOARGS, NULL},
+    {NULL, NULL, 0, NULL},
+};
+
+static PyGetSetDef calls_members[] = {
+    {"reach", calls_reach, calls_set_reach, NULL, NULL},
+    {NULL, NULL, NULL, NULL, NULL},
+};
+
+static PyType_Slot calls_slots[] = {
+    {Py_tp_new, calls_new},
+    {Py_tp_dealloc, calls_dealloc},
+    {Py_tp_methods, calls_methods},
+    {Py_tp_getset, calls_members},
+    {0, NULL},
+};
+
+static PyType_Spec calls_spec = {
+    "nm_set._native.Calls", sizeof(Calls), 0, Py_TPFLAGS_DEFAULT, calls_slots,
+};
+
+static PyObject *first_wrong(PyObject *module, PyObject *args) {
+    PyObject *object;
+    int is_signed;
+    Keys keys;
+    (void)module;
+    if (!PyArg_ParseTuple(args, "Op", &object, &is_signed) || keys_of(object, 0, &keys) < 0) {
+        return NULL;
+    }
+    uint64_t most = is_signed ? INT64_MAX : MOST_KEY;
+    Py_ssize_t count = keys.buffer.len / (Py_ssize_t)sizeof(uint64_t), at = 0;
+    while (at < count && keys.from[at] <= most) {
+        at++;
+    }
+    PyBuffer_Release(&keys.buffer);
+    return PyLong_FromSsize_t(at < count ? at : -1);
+}
+
+/* Where the functions of the library are, and what makes the exceptions. */
+static PyObject *bind(PyObject *module, PyObject *args) {
+    unsigned long long contains, insert, remove, pop_first, pop_last, next, prev;
+    unsigned long long contains_many, finish, pending, ledger;
+    (void)module;
+    if (!PyArg_ParseTuple(args, "KKKKKKKKKKKOOO", &contains, &insert, &remove, &pop_first,
+                          &pop_last, &next, &prev, &contains_many, &finish, &pending, &ledger,
+                          &fault_of, &key_fault_of, &forked_of)) {
+        return NULL;
+    }
+    contains_of = (tended_call)(uintptr_t)contains;
+    insert_of = (tended_call)(uintptr_t)insert;
+    remove_of = (tended_call)(uintptr_t)remove;
+    pop_first_of = (pop_call)(uintptr_t)pop_first;
+    pop_last_of = (pop_call)(uintptr_t)pop_last;
+    next_of = (near_call)(uintptr_t)next;
+    prev_of = (near_call)(uintptr_t)prev;
+    contains_many_of = (many_call)(uintptr_t)contains_many;
+    finish_of = (finish_call)(uintptr_t)finish;
+    pending_of = (pending_call)(uintptr_t)pending;
+    ledger_of = (ledger_call)(uintptr_t)ledger;
+    Py_INCREF(fault_of);
+    Py_INCREF(key_fault_of);
+    Py_INCREF(forked_of);
+    Py_RETURN_NONE;
+}
+
+static PyMethodDef functions[] = {
+    {"bind", bind, METH_VARARGS, NULL},
+    {"first_wrong", first_wrong, METH_VARARGS, NULL},
+    {NULL, NULL, 0, NULL},
+};
+
+static struct PyModuleDef definition = {
+    PyModuleDef_HEAD_INIT, "nm_set._native", NULL, -1, functions, NULL, NULL, NULL, NULL,
+};
+
+PyMODINIT_FUNC PyInit__native(void) {
+    PyObject *module = PyModule_Create(&definition);
+    PyObject *type = PyType_FromSpec(&calls_spec);
+    if (!module || !type || PyModule_AddObject(module, "Calls", type) < 0) {
+        Py_XDECREF(type);
+        Py_XDECREF(module);
+        return NULL;
+    }
+    pthread_atfork(NULL, NULL, count_fork);
+    return module;
+}

@@ -1,0 +1,99 @@
+"""What a set was closed with."""
+
+from __future__ import annotations
+
+import operator
+import time
+from bisect import bisect_left
+from collections.abc import Callable, Iterator
+from ctypes import c_uint32, c_uint64
+from dataclasses import dataclass
+from typing import SupportsIndex
+
+from . import _library as c
+from ._faults import told
+
+
+@dataclass(frozen=True)
+class Waiting:
+    """A node that waited to be freed when the set was closed."""
+
+    slot: int
+    birth: int
+    label: int
+
+
+@dataclass(frozen=True)
+class Report:
+    """What a set was closed with."""
+
+    keys: tuple[int, ...]
+    """The keys of the set, ascending."""
+    free: int
+    """How many nodes are free."""
+    reached: int
+    """How many nodes are reached from the root, the five fixed ones left out."""
+    waiting: tuple[tuple[Waiting, ...], ...]
+    """The nodes that wait of those that each worker cut off, oldest first, in the order of the
+    workers' numbers."""
+
+    def __len__(self) -> int:
+        return len(self.keys)
+
+    def __iter__(self) -> Iterator[int]:
+        return iter(self.keys)
+
+    def __contains__(self, key: SupportsIndex) -> bool:
+        number = operator.index(key)
+        place = bisect_left(self.keys, number)
+        return place < len(self.keys) and self.keys[place] == number
+
+
+def _told(call: Callable[..., int], *arguments: object) -> None:
+    """Makes a call by the handle of a report, again while another thread has it, which asks a set
+    for a worker that was closed meanwhile."""
+    outcome = c.IN_USE
+    while outcome == c.IN_USE:
+        outcome = call(*arguments)
+        if outcome == c.IN_USE:
+            time.sleep(0)
+    told(outcome)
+
+
+class Reader:
+    """Reads the report that a handle owns. A node that waits is told once by the library, so it is
+    written where it stays: a read that was interrupted is made again by another call, and goes on
+    from there."""
+
+    def __init__(self, handle: c.Handle, workers: int) -> None:
+        self._handle, self._workers = handle, workers
+        self._waiting: dict[int, tuple[int, object]] = {}
+
+    def _nodes(self, worker: int) -> tuple[Waiting, ...]:
+        left = c_uint64()
+        _told(c.exports.nm_report_queue, self._handle, worker, left)
+        if worker not in self._waiting:
+            room = (c.WaitingWords * max(left.value, 1))()
+            self._waiting.setdefault(worker, (left.value, room))
+        count, nodes = self._waiting[worker]
+        while left.value:
+            at = count - left.value
+            _told(c.exports.nm_report_waiting, self._handle, worker, nodes[at])  # type: ignore
+            _told(c.exports.nm_report_queue, self._handle, worker, left)
+        words = nodes[:count]  # type: ignore[index]
+        return tuple(Waiting(node.slot, node.birth, node.label) for node in words)
+
+    def _keys(self) -> tuple[int, ...]:
+        count, key = c_uint64(), c_uint64()
+        _told(c.exports.nm_report_keys, self._handle, count)
+        keys = []
+        for index in range(count.value):
+            _told(c.quick.nm_report_key, self._handle, index, key)
+            keys.append(key.value)
+        return tuple(keys)
+
+    def read(self) -> Report:
+        free, reached = c_uint32(), c_uint32()
+        _told(c.exports.nm_report_slots, self._handle, free, reached)
+        waiting = tuple(self._nodes(worker) for worker in range(self._workers))
+        return Report(self._keys(), free.value, reached.value, waiting)

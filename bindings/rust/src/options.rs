@@ -1,0 +1,75 @@
+//! How a set is made.
+
+use crate::ffi::Habit;
+
+/// The shape of the tree, and which free node a new key takes.
+#[derive(Clone, Copy, Debug, Default, PartialEq, Eq)]
+pub enum Shape {
+    /// A radix tree, in which no call goes over more than 66 nodes, whatever keys come in whatever
+    /// order; a new node is one near that which the worker found or gave back last.
+    #[default]
+    Radix,
+    /// The tree of Natarajan and Mittal, in which keys that come in order make one long path, so
+    /// that each call costs a step for each key that stands; a node near by.
+    Near,
+    /// The same tree, and the free node with the lowest number, which takes long where there are
+    /// many: for who compares the two.
+    Lowest,
+}
+
+/// How a set is made, and what its tended calls may spend.
+///
+/// ```
+/// use nm_set::{Options, Set};
+/// # fn main() -> Result<(), nm_set::Fault> {
+/// let set = Set::with_options(1_024, Options { workers: 5, ..Options::default() })?;
+/// # assert_eq!(set.workers(), 5);
+/// # Ok(())
+/// # }
+/// ```
+#[derive(Clone, Copy, Debug, PartialEq, Eq)]
+pub struct Options {
+    /// The workers, 1 to 64: so many calls are made at one time. 64 by default; each takes 4,096
+    /// bytes.
+    pub workers: u32,
+    /// The shape of the tree. A radix tree by default.
+    pub shape: Shape,
+    /// The tries of each call of the library that a tended call makes. With fewer than 2 no remove
+    /// answers at once, and with fewer than 3 not each look for the least key from one on. 64 by
+    /// default.
+    pub tries: u32,
+    /// How often a tended call is made again that has lost each of its tries, before it tells
+    /// [`Fault::Contention`](crate::Fault::Contention), and how often a remove that has begun is
+    /// gone on with, before it tells [`Fault::Unfinished`](crate::Fault::Unfinished). 64 by
+    /// default.
+    pub rounds: u32,
+    /// From how many waiting nodes of its worker on an insert or a remove first moves the epoch on
+    /// and collects. 64 by default.
+    pub collect_after: u32,
+    /// How often an insert that found no free nodes, while some wait to be freed, sleeps a
+    /// millisecond and goes on, before it tells [`Fault::Full`](crate::Fault::Full). 64 by default.
+    pub patience: u32,
+}
+
+impl Options {
+    pub(crate) fn habit(&self) -> Habit {
+        Habit {
+            tries: self.tries,
+            rounds: self.rounds,
+            collect_after: self.collect_after,
+        }
+    }
+}
+
+impl Default for Options {
+    fn default() -> Options {
+        Options {
+            workers: 64,
+            shape: Shape::Radix,
+            tries: 64,
+            rounds: 64,
+            collect_after: 64,
+            patience: 64,
+        }
+    }
+}

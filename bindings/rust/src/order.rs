@@ -1,0 +1,153 @@
+//! The keys in order, and what is made of single calls for keys.
+
+use crate::fault::Fault;
+use crate::MOST_KEY;
+use std::fmt;
+use std::iter::FusedIterator;
+use std::ops::{Bound, RangeBounds};
+
+/// Who makes the calls: a set, or a worker of one.
+pub trait Calls {
+    /// The least key from one on.
+    fn least_from(&mut self, key: u64) -> Result<Option<u64>, Fault>;
+    /// The greatest key up to one.
+    fn greatest_to(&mut self, key: u64) -> Result<Option<u64>, Fault>;
+    /// Whether a key was in the set; it is not now.
+    fn take(&mut self, key: u64) -> Result<bool, Fault>;
+}
+
+/// Takes a key away. One that is told to be unfinished goes by this call and no other.
+fn take(calls: &mut impl Calls, key: u64) -> Result<(), Fault> {
+    match calls.take(key) {
+        Ok(_) | Err(Fault::Unfinished) => Ok(()),
+        Err(fault) => Err(fault),
+    }
+}
+
+/// Removes each key of which a function does not tell that it stays.
+pub(crate) fn retain(
+    mut calls: impl Calls,
+    mut stays: impl FnMut(u64) -> bool,
+) -> Result<(), Fault> {
+    let mut rest = Some(0);
+    while let Some(from) = rest {
+        let Some(key) = calls.least_from(from)? else {
+            break;
+        };
+        if !stays(key) {
+            take(&mut calls, key)?;
+        }
+        rest = (key < MOST_KEY).then(|| key + 1);
+    }
+    Ok(())
+}
+
+/// The keys of a range, ascending by [`next`](Iterator::next) and descending by
+/// [`next_back`](DoubleEndedIterator::next_back), while the set is in use: see
+/// [`Set::range`](crate::Set::range). It ends behind the first fault.
+pub struct Range<C> {
+    calls: C,
+    /// The least and the greatest key that are to come; none once it has ended.
+    rest: Option<(u64, u64)>,
+}
+
+impl<C> Range<C> {
+    pub(crate) fn of(calls: C, bounds: impl RangeBounds<u64>) -> Range<C> {
+        let low = match bounds.start_bound() {
+            Bound::Included(&key) => Some(key),
+            Bound::Excluded(&key) => key.checked_add(1),
+            Bound::Unbounded => Some(0),
+        };
+        let high = match bounds.end_bound() {
+            Bound::Included(&key) => Some(key.min(MOST_KEY)),
+            Bound::Excluded(&key) => key.checked_sub(1).map(|key| key.min(MOST_KEY)),
+            Bound::Unbounded => Some(MOST_KEY),
+        };
+        let rest = low.zip(high).filter(|(low, high)| low <= high);
+        Range { calls, rest }
+    }
+}
+
+impl<C: Calls> Iterator for Range<C> {
+    type Item = Result<u64, Fault>;
+
+    fn next(&mut self) -> Option<Result<u64, Fault>> {
+        let (low, high) = self.rest.take()?;
+        let told = self.calls.least_from(low).transpose()?;
+        if told.as_ref().is_ok_and(|&key| key > high) {
+            return None;
+        }
+        if let Ok(key) = told {
+            self.rest = (key < high).then(|| (key + 1, high));
+        }
+        Some(told)
+    }
+
+    fn last(mut self) -> Option<Result<u64, Fault>> {
+        self.next_back()
+    }
+}
+
+impl<C: Calls> DoubleEndedIterator for Range<C> {
+    fn next_back(&mut self) -> Option<Result<u64, Fault>> {
+        let (low, high) = self.rest.take()?;
+        let told = self.calls.greatest_to(high).transpose()?;
+        if told.as_ref().is_ok_and(|&key| key < low) {
+            return None;
+        }
+        if let Ok(key) = told {
+            self.rest = (key > low).then(|| (low, key - 1));
+        }
+        Some(told)
+    }
+}
+
+impl<C: Calls> FusedIterator for Range<C> {}
+
+impl<C> fmt::Debug for Range<C> {
+    fn fmt(&self, f: &mut fmt::Formatter<'_>) -> fmt::Result {
+        f.debug_struct("Range")
+            .field("rest", &self.rest)
+            .finish_non_exhaustive()
+    }
+}
+
+#[cfg(test)]
+mod tests {
+    use super::{retain, Calls, Fault, Range};
+    use std::collections::BTreeSet;
+
+    /// A set in which each remove stays unfinished.
+    struct Unfinished(BTreeSet<u64>);
+
+    impl Calls for &mut Unfinished {
+        fn least_from(&mut self, key: u64) -> Result<Option<u64>, Fault> {
+            Ok(self.0.range(key..).next().copied())
+        }
+
+        fn greatest_to(&mut self, key: u64) -> Result<Option<u64>, Fault> {
+            Ok(self.0.range(..=key).next_back().copied())
+        }
+
+        fn take(&mut self, key: u64) -> Result<bool, Fault> {
+            self.0.remove(&key);
+            Err(Fault::Unfinished)
+        }
+    }
+
+    #[test]
+    fn a_key_whose_remove_is_unfinished_goes() {
+        let mut set = Unfinished([5, 6, 7].into());
+        assert_eq!(retain(&mut set, |key| key == 6), Ok(()));
+        assert_eq!(set.0, [6].into());
+    }
+
+    #[test]
+    fn a_range_ends_where_its_two_ends_meet() {
+        let mut set = Unfinished([1, 5, 6, 9].into());
+        let mut keys = Range::of(&mut set, 2..9);
+        assert_eq!(keys.next_back(), Some(Ok(6)));
+        assert_eq!(keys.next(), Some(Ok(5)));
+        assert_eq!((keys.next(), keys.next_back()), (None, None));
+    }
+}

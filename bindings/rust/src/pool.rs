@@ -1,0 +1,354 @@
+//! What the clones of a set share: the set's handle, and a handle for each of its workers.
+//!
+//! A worker stays in its entry from its first use until the set is closed. A call of a thread that
+//! has no worker takes the lock of an entry that is idle, makes its call by the worker there, and
+//! leaves it; a [`Worker`](crate::Worker) has its entry lent, and takes no lock. A thread that
+//! finds each entry taken looks again, behind a nap. What a worker has won and what waits in its
+//! queue any thread may read by its handle, with no lock, since the library tells of two calls the
+//! second one so.
+
+use crate::fault::Fault;
+use crate::ffi::{Habit, Handle};
+use crate::numbers::Numbers;
+use crate::options::{Options, Shape};
+use crate::report::Report;
+use crate::wait::Wait;
+use std::cell::Cell;
+use std::sync::atomic::{AtomicU64, AtomicU8, Ordering};
+use std::sync::{Mutex, MutexGuard, PoisonError, TryLockError};
+use std::time::{Duration, Instant};
+
+/// Where a worker is.
+#[derive(Clone, Copy, PartialEq, Eq)]
+enum Place {
+    /// In the set of the library: nobody has used it yet.
+    Unused,
+    /// In its entry, for the calls of the set.
+    Idle,
+    /// With a thread.
+    Lent,
+}
+
+/// A worker, in cache lines of its own.
+#[repr(align(128))]
+pub(crate) struct Entry {
+    place: Mutex<Place>,
+    pub handle: Handle,
+    /// The thread that took it, or that has made its latest call.
+    holder: AtomicU64,
+}
+
+/// A worker that its thread alone uses until this is dropped.
+pub(crate) struct Idle<'a> {
+    place: MutexGuard<'a, Place>,
+    pub number: u32,
+    pub handle: &'a Handle,
+}
+
+/// How far a set is on the way to its end.
+const OPEN: u8 = 0;
+/// A close waits for calls; none begins meanwhile, and none is refused.
+const CLOSING: u8 = 1;
+/// No call is made any more.
+const CLOSED: u8 = 2;
+
+/// For how long a thread that has each worker itself waits before it is told so: another thread, to
+/// which it has sent one, may not have made a call by it yet.
+const ALONE: Duration = Duration::from_millis(250);
+
+pub(crate) struct Pool {
+    /// Tells the sets of a process apart.
+    identity: u64,
+    pub habit: Habit,
+    pub patience: u32,
+    pub nodes: u32,
+    phase: AtomicU8,
+    /// One close at a time.
+    closer: Mutex<()>,
+    set: Handle,
+    pub entries: Box<[Entry]>,
+}
+
+static IDENTITIES: AtomicU64 = AtomicU64::new(1);
+static THREADS: AtomicU64 = AtomicU64::new(1);
+
+thread_local! {
+    /// The set that this thread used last without a worker of its own, and by which one.
+    static LAST: Cell<(u64, u32)> = const { Cell::new((0, 0)) };
+    /// The number of this thread, or 0 where it has none yet.
+    static THREAD: Cell<u64> = const { Cell::new(0) };
+}
+
+/// A number that no other thread has, from 1 on.
+pub(crate) fn this_thread() -> u64 {
+    if THREAD.get() == 0 {
+        THREAD.set(THREADS.fetch_add(1, Ordering::Relaxed));
+    }
+    THREAD.get()
+}
+
+/// No code panics while it holds one of these locks, so a poisoned one is as good.
+fn locked<T>(mutex: &Mutex<T>) -> MutexGuard<'_, T> {
+    mutex.lock().unwrap_or_else(PoisonError::into_inner)
+}
+
+fn free<T>(mutex: &Mutex<T>) -> Option<MutexGuard<'_, T>> {
+    match mutex.try_lock() {
+        Ok(guard) => Some(guard),
+        Err(TryLockError::Poisoned(error)) => Some(error.into_inner()),
+        Err(TryLockError::WouldBlock) => None,
+    }
+}
+
+impl Entry {
+    fn new() -> Entry {
+        Entry {
+            place: Mutex::new(Place::Unused),
+            handle: Handle::closed(),
+            holder: AtomicU64::new(0),
+        }
+    }
+}
+
+impl Pool {
+    /// What the clones of a new set share.
+    pub fn new(nodes: u32, options: &Options) -> Result<Pool, Fault> {
+        let (set, workers) = (Handle::closed(), options.workers);
+        let told = match options.shape {
+            Shape::Radix => set.open(nodes, workers),
+            Shape::Near => set.open_near(nodes, workers),
+            Shape::Lowest => set.open_lowest(nodes, workers),
+        };
+        match told {
+            -6 => return Err(Fault::Nodes(nodes)),
+            -7 => return Err(Fault::Workers(workers)),
+            ..=-1 => return Err(Fault::of(told)),
+            _ => {}
+        }
+        Ok(Pool {
+            identity: IDENTITIES.fetch_add(1, Ordering::Relaxed),
+            habit: options.habit(),
+            patience: options.patience,
+            nodes,
+            phase: AtomicU8::new(OPEN),
+            closer: Mutex::new(()),
+            set,
+            entries: (0..workers).map(|_| Entry::new()).collect(),
+        })
+    }
+
+    /// How many workers the set has.
+    pub fn workers(&self) -> u32 {
+        self.entries.len() as u32
+    }
+
+    pub fn is_closed(&self) -> bool {
+        self.phase.load(Ordering::SeqCst) == CLOSED
+    }
+
+    pub fn need_open(&self) -> Result<(), Fault> {
+        if self.is_closed() {
+            return Err(Fault::Closed);
+        }
+        Ok(())
+    }
+
+    fn entry(&self, number: u32) -> &Entry {
+        &self.entries[number as usize]
+    }
+
+    pub fn handle(&self, number: u32) -> &Handle {
+        &self.entry(number).handle
+    }
+
+    /// A thread makes a call by the worker of a number, which was lent.
+    pub fn note_holder(&self, number: u32, thread: u64) {
+        self.entry(number).holder.store(thread, Ordering::Relaxed);
+    }
+
+    // ---- a worker for a call ----
+
+    /// The worker of an entry whose lock this thread has, unless another one has the worker.
+    fn opened<'a>(
+        &'a self,
+        mut place: MutexGuard<'a, Place>,
+        number: u32,
+    ) -> Result<Option<Idle<'a>>, Fault> {
+        self.need_open()?;
+        let handle = self.handle(number);
+        if *place == Place::Unused {
+            let told = self.set.take(handle, number);
+            if told < 0 {
+                return Err(Fault::of(told));
+            }
+            *place = Place::Idle;
+        }
+        Ok((*place == Place::Idle).then_some(Idle {
+            place,
+            number,
+            handle,
+        }))
+    }
+
+    /// The worker of a number, where nobody uses it at this moment.
+    fn idle(&self, number: u32) -> Result<Option<Idle<'_>>, Fault> {
+        match free(&self.entry(number).place) {
+            Some(place) => self.opened(place, number),
+            None => Ok(None),
+        }
+    }
+
+    /// A worker that nobody uses at this moment: the first in the order of their numbers.
+    fn any_idle(&self) -> Result<Option<Idle<'_>>, Fault> {
+        for number in 0..self.workers() {
+            if let Some(idle) = self.idle(number)? {
+                return Ok(Some(idle));
+            }
+        }
+        Ok(None)
+    }
+
+    /// Waits for a worker that nobody uses, for as long as that takes, or until a moment.
+    fn wait_for_idle(&self, until: Option<Instant>) -> Result<Idle<'_>, Fault> {
+        let mut begin = None;
+        let mut wait = Wait::for_worker();
+        loop {
+            self.need_open()?;
+            if self.phase.load(Ordering::SeqCst) == OPEN {
+                if let Some(idle) = self.any_idle()? {
+                    return Ok(idle);
+                }
+                self.fail_late(*begin.get_or_insert_with(Instant::now), until)?;
+            }
+            wait.go_on();
+        }
+    }
+
+    /// Refuses to wait beyond a moment, and to wait for a worker where this thread has them all.
+    fn fail_late(&self, begin: Instant, until: Option<Instant>) -> Result<(), Fault> {
+        let is_late = until.is_some_and(|until| Instant::now() >= until);
+        if !is_late && begin.elapsed() < ALONE {
+            return Ok(());
+        }
+        let (workers, own) = (self.workers(), self.held_by(this_thread()));
+        if is_late || own == workers {
+            return Err(Fault::NoWorker { workers, own });
+        }
+        Ok(())
+    }
+
+    /// How many workers a thread has.
+    fn held_by(&self, thread: u64) -> u32 {
+        let is_held = |entry: &&Entry| {
+            entry.holder.load(Ordering::Relaxed) == thread
+                && free(&entry.place).is_some_and(|place| *place == Place::Lent)
+        };
+        self.entries.iter().filter(is_held).count() as u32
+    }
+
+    /// The worker that this thread used last for a call of the set, where it is idle.
+    fn last_used(&self) -> Option<Idle<'_>> {
+        let (identity, number) = LAST.get();
+        if identity != self.identity || self.phase.load(Ordering::SeqCst) != OPEN {
+            return None;
+        }
+        let place = free(&self.entry(number).place)?;
+        if *place != Place::Idle || self.is_closed() {
+            return None;
+        }
+        let handle = self.handle(number);
+        Some(Idle {
+            place,
+            number,
+            handle,
+        })
+    }
+
+    /// Makes a call by a worker that nobody uses at this moment.
+    pub fn with_any<T>(&self, call: impl FnOnce(&Handle) -> Result<T, Fault>) -> Result<T, Fault> {
+        if let Some(idle) = self.last_used() {
+            return call(idle.handle);
+        }
+        let idle = self.wait_for_idle(None)?;
+        LAST.set((self.identity, idle.number));
+        call(idle.handle)
+    }
+
+    // ---- a worker for a thread ----
+
+    fn lent(mut idle: Idle<'_>, holder: &AtomicU64) -> u32 {
+        holder.store(this_thread(), Ordering::Relaxed);
+        *idle.place = Place::Lent;
+        idle.number
+    }
+
+    /// Lends a worker that nobody uses: its number.
+    pub fn lend(&self, until: Option<Instant>) -> Result<u32, Fault> {
+        let idle = self.wait_for_idle(until)?;
+        let holder = &self.entry(idle.number).holder;
+        Ok(Pool::lent(idle, holder))
+    }
+
+    /// Lends the worker of a number, behind the call that is made by it at this moment.
+    pub fn lend_number(&self, number: u32) -> Result<u32, Fault> {
+        let workers = self.workers();
+        let entry = self
+            .entries
+            .get(number as usize)
+            .ok_or(Fault::Number { number, workers })?;
+        match self.opened(locked(&entry.place), number)? {
+            Some(idle) => Ok(Pool::lent(idle, &entry.holder)),
+            None => Err(Fault::Away([number].into_iter().collect())),
+        }
+    }
+
+    /// A worker that was lent comes back, and holds nothing back.
+    pub fn receive(&self, number: u32) {
+        let entry = self.entry(number);
+        entry.handle.rest(&self.habit);
+        *locked(&entry.place) = Place::Idle;
+    }
+
+    // ---- the end ----
+
+    /// Ends the set, where no worker is lent: no call begins from now on, removes that have begun
+    /// are finished, the workers go back to the library, and the report is read. Where one is lent,
+    /// or memory was refused for the report, the close can be made again.
+    pub fn end(&self) -> Result<Report, Fault> {
+        let _one_at_a_time = locked(&self.closer);
+        if !self.is_closed() {
+            self.gather()?;
+        }
+        match self.set.end() {
+            told @ ..=-1 => Err(Fault::of(told)),
+            _ => {
+                let report = Report::of(&self.set, self.workers());
+                self.set.close();
+                Ok(report)
+            }
+        }
+    }
+
+    /// Gives all workers back to the library, and closes the set for all calls, which wait until
+    /// that is decided.
+    fn gather(&self) -> Result<(), Fault> {
+        self.phase.store(CLOSING, Ordering::SeqCst);
+        let places: Vec<_> = self
+            .entries
+            .iter()
+            .map(|entry| locked(&entry.place))
+            .collect();
+        let is_lent = |number: &u32| *places[*number as usize] == Place::Lent;
+        let lent: Numbers = (0..self.workers()).filter(is_lent).collect();
+        if !lent.is_empty() {
+            self.phase.store(OPEN, Ordering::SeqCst);
+            return Err(Fault::Away(lent));
+        }
+        self.phase.store(CLOSED, Ordering::SeqCst);
+        for entry in self.entries.iter() {
+            entry.handle.rest(&self.habit);
+            entry.handle.close();
+        }
+        Ok(())
+    }
+}

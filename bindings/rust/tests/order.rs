@@ -1,0 +1,304 @@
+//! What a set has as a `BTreeSet` has it: the same calls on both, and what is weaker while others
+//! go on.
+
+use nm_set::{Fault, Options, Set, Shape, MOST_KEY};
+use std::collections::BTreeSet;
+use std::sync::atomic::{AtomicBool, Ordering};
+use std::sync::Barrier;
+use std::thread;
+
+/// Keys that stand close together, far apart, and at both ends.
+fn spread() -> BTreeSet<u64> {
+    let near = 500..520;
+    let far = (0..64).map(|bit| 1_u64 << bit);
+    near.chain(far).chain([0, MOST_KEY - 1, MOST_KEY]).collect()
+}
+
+fn all(keys: impl Iterator<Item = Result<u64, Fault>>) -> Vec<u64> {
+    keys.map(Result::unwrap).collect()
+}
+
+fn draw(seed: &mut u64) -> u64 {
+    *seed = seed.wrapping_mul(6_364_136_223_846_793_005).wrapping_add(1);
+    *seed >> 33
+}
+
+#[test]
+fn both_ends_are_told_and_taken() {
+    let mut model = spread();
+    let set: Set = model.iter().copied().collect();
+    let mut worker = set.attach().unwrap();
+    while !model.is_empty() {
+        let ends = (model.first().copied(), model.last().copied());
+        assert_eq!((set.first().unwrap(), set.last().unwrap()), ends);
+        assert_eq!((worker.first().unwrap(), worker.last().unwrap()), ends);
+        assert_eq!(set.pop_first().unwrap(), model.pop_first());
+        assert_eq!(worker.pop_last().unwrap(), model.pop_last());
+        assert_eq!(worker.pop_first().unwrap(), model.pop_first());
+        assert_eq!(set.pop_last().unwrap(), model.pop_last());
+        assert_eq!(set.len().unwrap(), model.len());
+    }
+    assert_eq!(
+        (set.first(), set.last(), set.is_empty()),
+        (Ok(None), Ok(None), Ok(true))
+    );
+    assert_eq!((set.pop_first(), set.pop_last()), (Ok(None), Ok(None)));
+}
+
+#[test]
+fn the_neighbours_of_each_key_are_told() {
+    let model = spread();
+    let set: Set = model.iter().copied().collect();
+    let mut worker = set.attach().unwrap();
+    let beside = |key: u64| [key.saturating_sub(1), key, (key + 1).min(MOST_KEY)];
+    for key in model.iter().copied().flat_map(beside) {
+        let above = model.range(key..).next().copied();
+        let below = model.range(..=key).next_back().copied();
+        assert_eq!(
+            (set.at_least(key), set.at_most(key)),
+            (Ok(above), Ok(below)),
+            "{key}"
+        );
+        assert_eq!(
+            (worker.at_least(key), worker.at_most(key)),
+            (Ok(above), Ok(below)),
+            "{key}"
+        );
+    }
+}
+
+#[test]
+fn ranges_of_all_kinds_are_those_of_a_btree_set() {
+    let model = spread();
+    let set: Set = model.iter().copied().collect();
+    macro_rules! same {
+        ($($bounds:expr),*) => {
+            $(
+                let wanted: Vec<u64> = model.range($bounds).copied().collect();
+                assert_eq!(all(set.range($bounds)), wanted);
+                let wanted: Vec<u64> = model.range($bounds).rev().copied().collect();
+                assert_eq!(all(set.range($bounds).rev()), wanted);
+            )*
+        };
+    }
+    use std::ops::Bound::{Excluded, Included, Unbounded};
+    same!(
+        ..,
+        500..510,
+        500..=510,
+        ..510,
+        ..=510,
+        510..,
+        3..=3,
+        3..3,
+        1_000_000..
+    );
+    same!(
+        (Excluded(500), Included(510)),
+        (Excluded(500), Excluded(510))
+    );
+    same!(
+        (Excluded(MOST_KEY), Unbounded),
+        (Unbounded, Excluded(0)),
+        MOST_KEY..,
+        ..u64::MAX
+    );
+    same!(
+        (Included(u64::MAX), Included(u64::MAX)),
+        (Excluded(u64::MAX), Unbounded)
+    );
+    let (five, three) = (5, 3);
+    assert_eq!(all(set.range(five..three)), []);
+}
+
+#[test]
+fn a_walk_goes_on_from_both_ends_and_ends_where_they_meet() {
+    let model = spread();
+    let set: Set = model.iter().copied().collect();
+    let mut worker = set.attach().unwrap();
+    let (mut wanted, mut told, mut own) = (model.iter().copied(), set.iter(), worker.iter());
+    for turn in 0..model.len() + 4 {
+        let (key, one, other) = match turn % 3 {
+            0 => (wanted.next_back(), told.next_back(), own.next_back()),
+            _ => (wanted.next(), told.next(), own.next()),
+        };
+        assert_eq!((one, other), (key.map(Ok), key.map(Ok)));
+    }
+    assert_eq!(set.iter().last(), Some(Ok(MOST_KEY)));
+    let mut keys = 0;
+    for key in &set {
+        assert!(model.contains(&key.unwrap()));
+        keys += 1;
+    }
+    assert_eq!(keys, model.len());
+}
+
+#[test]
+fn sets_are_made_of_keys_and_take_more() {
+    let mut set = Set::from([5, 7, 5]);
+    assert_eq!((all(set.iter()), set.nodes()), (vec![5, 7], 65_536));
+    assert_eq!(set.extend([7, 8, 9]), Ok(2));
+    assert_eq!(set.attach().unwrap().extend([9, 10]), Ok(1));
+    Extend::extend(&mut set, [11_u64]);
+    Extend::extend(&mut set, &[12_u64]);
+    assert_eq!(all(set.iter()), [5, 7, 8, 9, 10, 11, 12]);
+    let big: Set = (0..20_000).collect();
+    assert_eq!((big.nodes(), big.len()), (80_000, Ok(20_000)));
+    assert_eq!(set.extend([1, u64::MAX, 2]), Err(Fault::Key(u64::MAX)));
+    assert_eq!((set.contains(1), set.contains(2)), (Ok(true), Ok(false)));
+}
+
+#[test]
+#[should_panic(expected = "the key 18446744073709551615 is above")]
+fn what_is_no_key_makes_no_set() {
+    let _set = Set::from([5, u64::MAX]);
+}
+
+#[test]
+fn keys_are_kept_or_removed() {
+    let set: Set = (0..100).collect();
+    set.retain(|key| key % 3 == 0).unwrap();
+    set.attach().unwrap().retain(|key| key % 2 == 0).unwrap();
+    let wanted: Vec<u64> = (0..100).filter(|key| key % 6 == 0).collect();
+    assert_eq!(all(set.iter()), wanted);
+    set.clear().unwrap();
+    assert_eq!((set.len(), set.is_empty()), (Ok(0), Ok(true)));
+    assert_eq!(set.insert(MOST_KEY), Ok(true));
+    set.attach().unwrap().clear().unwrap();
+    assert_eq!(set.is_empty(), Ok(true));
+}
+
+#[test]
+fn a_set_is_compared_with_one_of_the_standard_library() {
+    let set: Set = (0..200).collect();
+    let same: BTreeSet<u64> = (0..200).collect();
+    let told = |other: &BTreeSet<u64>| {
+        [
+            set.is_subset(other),
+            set.is_superset(other),
+            set.is_disjoint(other),
+        ]
+        .map(Result::unwrap)
+    };
+    assert_eq!(told(&same), [true, true, false]);
+    assert_eq!(told(&(0..199).collect()), [false, true, false]);
+    assert_eq!(told(&(0..201).collect()), [true, false, false]);
+    assert_eq!(told(&BTreeSet::new()), [false, true, true]);
+    assert_eq!(told(&[199, u64::MAX].into()), [false, false, false]);
+    assert_eq!(told(&[200, u64::MAX].into()), [false, false, true]);
+    let read: Result<BTreeSet<u64>, Fault> = set.iter().collect();
+    assert_eq!(read.unwrap(), same);
+}
+
+#[test]
+fn a_set_shows_its_first_keys_and_never_waits_to_do_so() {
+    let options = Options {
+        workers: 1,
+        shape: Shape::Near,
+        ..Options::default()
+    };
+    let set = Set::with_options(1_024, options).unwrap();
+    assert_eq!(format!("{set:?}"), "{}");
+    set.extend(0..10).unwrap();
+    assert_eq!(format!("{set:?}"), "{0, 1, 2, 3, 4, 5, 6, 7, 8, 9}");
+    set.insert(10).unwrap();
+    assert_eq!(format!("{set:?}"), "{0, 1, 2, 3, 4, 5, 6, 7, 8, 9, ..}");
+    let worker = set.attach().unwrap();
+    let text =
+        "Set(no worker is free: the set has 1 (64 at most), and this thread has each itself)";
+    assert_eq!(
+        (format!("{set:?}"), format!("{worker:?}")),
+        (text.into(), "Worker { number: 0, .. }".into())
+    );
+}
+
+#[test]
+fn how_full_a_set_is_counts_what_waits() {
+    let set = Set::new(64).unwrap();
+    assert_eq!(
+        (set.len(), set.waiting(), set.free()),
+        (Ok(0), Ok(0), Ok(59))
+    );
+    set.extend(0..5).unwrap();
+    assert_eq!(
+        (set.remove(3), set.len(), set.waiting()),
+        (Ok(true), Ok(4), Ok(2))
+    );
+    assert_eq!(set.free(), Ok(49));
+    let mut worker = set.attach().unwrap();
+    assert_eq!((worker.remove(4), worker.insert(9)), (Ok(true), Ok(true)));
+    assert_eq!(
+        (set.len(), set.waiting(), set.free()),
+        (Ok(4), Ok(4), Ok(47))
+    );
+    drop(worker);
+    assert_eq!(
+        (set.collect(), set.waiting(), set.free()),
+        (Ok(4), Ok(0), Ok(51))
+    );
+}
+
+/// Threads that take from both ends: each key is told once.
+#[test]
+fn no_key_is_taken_twice() {
+    let set: Set = (0..20_000).collect();
+    let begin = Barrier::new(4);
+    let taken = thread::scope(|scope| {
+        let takers: Vec<_> = (0..4)
+            .map(|taker| {
+                let (set, begin) = (&set, &begin);
+                scope.spawn(move || {
+                    begin.wait();
+                    let pop = || match taker {
+                        0 => set.pop_last(),
+                        _ => set.pop_first(),
+                    };
+                    std::iter::from_fn(|| pop().unwrap()).collect::<Vec<_>>()
+                })
+            })
+            .collect();
+        takers
+            .into_iter()
+            .flat_map(|taker| taker.join().unwrap())
+            .collect::<Vec<_>>()
+    });
+    assert_eq!(taken.len(), 20_000);
+    let taken: BTreeSet<_> = taken.into_iter().collect();
+    assert_eq!(taken, (0..20_000).collect());
+}
+
+/// Keys that stand all the time are told by each walk in both directions, in order, whatever comes
+/// and goes between them; and a key that never comes is not told.
+#[test]
+fn a_walk_beside_changes_tells_what_stands() {
+    let set: Set = (0..50).map(|key| key * 8).collect();
+    let is_done = AtomicBool::new(false);
+    thread::scope(|scope| {
+        for seed in 1..3 {
+            let (set, is_done) = (&set, &is_done);
+            scope.spawn(move || {
+                let mut seed = seed;
+                while !is_done.load(Ordering::Relaxed) {
+                    let key = draw(&mut seed) % 50 * 8 + 1 + draw(&mut seed) % 3;
+                    set.insert(key).unwrap();
+                    set.remove(key).unwrap();
+                }
+            });
+        }
+        for _ in 0..200 {
+            let up = all(set.iter());
+            let mut down = all(set.iter().rev());
+            down.reverse();
+            for keys in [up, down] {
+                assert!(keys.windows(2).all(|pair| pair[0] < pair[1]), "{keys:?}");
+                assert!(keys.iter().all(|key| key % 8 < 4 && *key < 400), "{keys:?}");
+                assert_eq!(
+                    keys.iter().filter(|key| *key % 8 == 0).count(),
+                    50,
+                    "{keys:?}"
+                );
+            }
+        }
+        is_done.store(true, Ordering::Relaxed);
+    });
+}

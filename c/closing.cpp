@@ -1,0 +1,76 @@
+// closing [ROUNDS [CALLERS]]: a set is closed beside threads that call it and attach themselves:
+// each of them is told that it is closed, and their answers add up to its report.
+#include "thrown.hpp"
+
+#include <atomic>
+#include <cstdio>
+#include <cstdlib>
+#include <thread>
+#include <vector>
+
+namespace {
+
+constexpr std::uint64_t keys = 64;
+
+struct Told {
+    std::atomic<std::uint64_t> inserted{0}, removed{0}, calls{0}, closed{0};
+};
+
+// Calls the set until it throws. Every fourth caller attaches itself for each few of its calls.
+void call_until_closed(nm::Set &set, std::uint64_t number, Told &told) {
+    Thrown end = fault_of([&] {
+        for (std::uint64_t each = number;; each++) {
+            std::uint64_t key = each * 7919 % keys;
+            told.calls++;
+            if (number % 4 == 3 && each % 16 == 0) {
+                nm::Worker worker = set.attach();
+                told.inserted += worker.insert(key);
+            } else if (each % 2 == 0) {
+                told.removed += set.remove(key);
+            } else {
+                told.inserted += set.insert(key);
+            }
+        }
+    });
+    CHECK(end.outcome == NM_CLOSED && end.text == "the set is closed");
+    told.closed++;
+}
+
+// A close is refused while a thread has a worker, and made again until none has.
+nm::Report closed(nm::Set &set) {
+    for (;;) {
+        try {
+            return set.close();
+        } catch (const nm::Fault &fault) {
+            CHECK(fault.outcome() == NM_AWAY && set.is_open());
+            std::this_thread::yield();
+        }
+    }
+}
+
+// As many workers as callers, or fewer by turns.
+void round(std::uint64_t number, std::uint64_t callers) {
+    nm::Options options;
+    options.workers = static_cast<std::uint32_t>(number % 2 == 0 ? callers : 3);
+    nm::Set set(8192, options);
+    Told told;
+    std::vector<std::thread> threads;
+    for (std::uint64_t each = 0; each < callers; each++)
+        threads.emplace_back([&, each] { call_until_closed(set, each, told); });
+    while (told.calls < callers * (number % 8)) std::this_thread::yield();
+    nm::Report report = closed(set);
+    CHECK(!set.is_open() && thrown([&] { set.close(); }) == NM_CLOSED);
+    for (std::thread &thread : threads) thread.join();
+    CHECK(told.closed == callers && report.size() == told.inserted - told.removed);
+}
+
+}  // namespace
+
+int main(int count, char **words) {
+    std::uint64_t rounds = count > 1 ? std::strtoull(words[1], nullptr, 10) : 100;
+    std::uint64_t callers = count > 2 ? std::strtoull(words[2], nullptr, 10) : 16;
+    CHECK(rounds > 0 && callers > 0 && callers <= 64);
+    for (std::uint64_t number = 0; number < rounds; number++) round(number, callers);
+    std::printf("%llu sets were closed beside %llu callers each\n",
+                static_cast<unsigned long long>(rounds), static_cast<unsigned long long>(callers));
+}

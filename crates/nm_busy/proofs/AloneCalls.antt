@@ -1,0 +1,584 @@
+-- A call alone is answered.
+use Rattle.std.proofs.Common.{◌≡◌, ◌≢◌, ℕ, zero, suc, ◌+◌, ◌≤◌, inl, inr, ◌⊎◌, ◌==◌, Bool, true, false, cond, not, ◌&&◌, ◌||◌, List, [], ◌∷◌, ◌++◌, append_assoc, refl, sym, ap, subst, ◌∙◌, arith, true≢false}
+use Rattle.std.specs.Prelude.{Option, None, Result, Ok, Err, All}
+use Rattle.std.specs.List.{list_any}
+use native.Mathlib.Decide.{ℕ_discrete}
+use Rattle.std.proofs.lemmas.Bool.{or_parts, eq-eqb, false_from_ne_true, and_from}
+use Rattle.std.proofs.lemmas.List.{append-nil, append_cancel_left}
+use Rattle.std.proofs.lemmas.List.Folds.{list_any-append}
+use Rattle.nm_edge.specs.Edges.{Edge, other}
+use Rattle.nm_edge.specs.Layouts.{Layout}
+use Rattle.nm_edge.specs.declared.edge.Side.{Side}
+use Rattle.nm_edge.specs.declared.edge.Side.TheVariants.{Left}
+use Rattle.nm_model.specs.declared.event.Event.{Event}
+use Rattle.nm_model.specs.declared.event.Event.TheVariants.{SightFor, Look, Link, Flag, Tag, Splice}
+use Rattle.nm_model.specs.declared.event.Field.TheVariants.{Edge as EdgeOn}
+use Rattle.nm_model.specs.declared.event.Op.TheVariants.{Insert, Delete}
+use Rattle.nm_model.specs.declared.reply.Reply.{Reply}
+use Rattle.nm_model.specs.declared.reply.Reply.TheVariants.{EdgeIs}
+use Rattle.nm_model.specs.declared.reply.Refused.{Refused}
+use Rattle.nm_model.specs.declared.trace.Turn.{Turn}
+use Rattle.nm_model.specs.Memory.{edge}
+use Rattle.nm_model.specs.Paths.{Reached}
+use Rattle.nm_model.specs.Runs.{State, reply_of}
+use Rattle.nm_model.specs.Step.{reply}
+use Rattle.nm_model.specs.Walks.{Entry, logged_by, begins_anew}
+use Rattle.nm_model.specs.Ordered.{Configuration, ordered, next_in, outcome_in, after_in, trace_in}
+use Rattle.nm_laws.proofs.Pictures.{IsLive, reached_live}
+use Rattle.nm_laws.proofs.TreeSteps.{Lawful}
+use Rattle.nm_laws.proofs.Views.{picture}
+use Rattle.nm_order.specs.Intervals.{HasKey}
+use Rattle.nm_order.specs.Logs.{is_leaver, part_of, IsLogOf}
+use Rattle.nm_order.proofs.OrderedLaws.{IsOrdered, ordered_next, each_ordered, law_of_state}
+use Rattle.nm_order.proofs.RunExchanges.{first_keys}
+use Rattle.nm_order.proofs.WalksOfRuns.{trace_in-append, all_before, all_behind}
+use Rattle.nm_order.proofs.PendingLeaves.{each_flagged_leaf_is_pending}
+use Rattle.nm_pool.specs.declared.placement.Fit.{Fit}
+use Rattle.nm_steps.specs.Steps.{Stand}
+use Rattle.nm_calls.specs.PlainWalks.{events_of}
+use Rattle.nm_calls.proofs.PlainLooks.{as_events, events_go_on}
+use Rattle.nm_epoch.specs.Tries.{LostTries, IsPinnedBy}
+use Rattle.nm_calls.specs.declared.making.Fork.{Fork}
+use Rattle.nm_calls.specs.declared.spot.ChainEdge.{ChainEdge}
+use Rattle.nm_calls.specs.declared.spot.Spot.{Spot}
+use Rattle.nm_calls.specs.Walks.{Walks}
+use Rattle.nm_progress.specs.Changes.{is_bare}
+use Rattle.nm_progress.specs.Moves.{number_of, moves, moves_of_others}
+use Rattle.nm_progress.specs.Paid.{links_on, flags_on, cuts_on, tags_on}
+use Rattle.nm_progress.specs.Tries.{changes_edge, changes_of_others, reshapes_of_others}
+use Rattle.nm_progress.proofs.LostTries.{later_keys}
+use Rattle.nm_progress.proofs.MoreTries.{is_loud, Plain, log_prefix}
+use Rattle.nm_progress.proofs.Reshapes.{is_reshape, calm_turns}
+use Rattle.nm_progress.proofs.SplicesPaid.{FlagOrigin, flag_origin}
+use Rattle.nm_progress.proofs.SplicesPaid.FlagOrigin.{Before, Now}
+use Rattle.nm_progress.proofs.SplitTurns.{SplitTurn, split_turn, ordered_after, number_split}
+use Rattle.nm_order.specs.Totals.{NothingIsPending}
+use Rattle.nm_busy.specs.Pending.{NonePends}
+use Rattle.nm_busy.proofs.PendingTurns.{nothing_is_pending}
+use Rattle.nm_busy.specs.Alone.{LookupsAloneAreAnswered, InsertsAloneAreAnswered, DeletesAloneAreNotBusy}
+use Rattle.nm_busy.specs.Inserts.{IsBluntTry, LosesInserts, WasLost}
+use Rattle.nm_busy.specs.Inserts.LosesInserts.{NoInsert, Bare, Blunt}
+use Rattle.nm_busy.specs.Deletes.{IsBluntFlag, LosesFlags, WasLost as DeleteWasLost}
+use Rattle.nm_busy.specs.Deletes.LosesFlags.{NoFlag, Bare as BareFlag, Blunt as BluntFlag}
+use Rattle.nm_busy.specs.Lookups.{WasReshaped}
+use Rattle.nm_busy.specs.Pins.{WasMovedPast}
+use Rattle.nm_busy.proofs.LostPins.{part-append}
+use Rattle.nm_busy.proofs.LostLookups.{busy_lookups_were_disturbed}
+use Rattle.nm_busy.proofs.BareLinks.{blunt_longer, claims_longer, busy_inserts_were_lost}
+use Rattle.nm_busy.proofs.BareFlags.{blunt_flag_longer, busy_deletes_were_lost}
+use Rattle.nm_busy.proofs.Parts.{Longer, longer_these, longer_then, reads_longer, help_longer}
+use Rattle.nm_busy.proofs.WalkReads.{WalkRead, walk_read, onto_parent}
+use Rattle.nm_busy.proofs.Astray.{SplitPart, split_part, walk_plain, OnPath, walk_path, not_too_long}
+
+-- ---- turns of one worker alone
+
+none_own : (b : Bool) (x : Bool) → b ≡ true → (not b && x) ≡ false
+none_own true x is = refl
+none_own false x is = absurd (true≢false (sym is))
+
+abbrev one_if : Bool → ℕ
+one_if b = cond b 1 0
+
+-- of such turns none is of another
+own_none : (w : ℕ) (is_such : Turn → Bool) (ts : List Turn) → All (λ t. t.worker ≡ w) ts → number_of (λ t. not (t.worker == w) && is_such t) ts ≡ 0
+own_none w is_such [] own = refl
+own_none w is_such (t ∷ ts) own =
+    let rest = own_none w is_such ts (λ i d below. own (suc i) d (omega (arith, below))) in
+    let one = ap one_if (none_own (t.worker == w) (is_such t) (eq-eqb t.worker w (own 0 t (omega arith)))) in
+    omega (arith, rest, one)
+
+same_turns : (past a b run : List Turn) → run ≡ past ++ a → run ≡ past ++ b → a ≡ b
+same_turns past a b run is is' = append_cancel_left past a b (sym is ∙ is')
+
+own_events : (w : ℕ) (ts : List Turn) → All (λ t. t.worker ≡ w) ts → All (λ t. t.0 ≡ w) (events_of ts)
+own_events w [] own i d below = absurd (omega (arith, below))
+own_events w (t ∷ ts) own zero d below = own 0 t (omega arith)
+own_events w (t ∷ ts) own (suc i) d below = own_events w ts (λ j e l. own (suc j) e (omega (arith, l))) i d (omega (arith, below))
+
+pub lookups_alone_are_answered : LookupsAloneAreAnswered
+lookups_alone_are_answered k tries p q seen_p seen_q enough same on alone missed = by (busy_lookups_were_disturbed k tries p q seen_p seen_q enough same on missed)
+  where
+    c : Configuration
+    c = after_in (ordered p.view.layout) (events_of p.view.past)
+
+    by : (tries ≡ 0) ⊎ WasMovedPast p q tries ⊎ WasReshaped p q tries → tries ≡ 0
+    by (inl none) = none
+    by (inr (inl m)) =
+        let same_is = same_turns p.view.past m.turns alone.turns q.view.past m.is alone.is in
+        let none = ap (λ (l : List Turn). number_of (moves_of_others p.view.number) l) same_is ∙ own_none p.view.number moves alone.turns alone.own in
+        let few = m.moved in
+        omega (arith, none, few)
+    by (inr (inr m)) =
+        let same_is = same_turns p.view.past m.turns alone.turns q.view.past m.is alone.is in
+        let none = ap (λ (l : List Turn). number_of (reshapes_of_others p.view.number) l) same_is ∙ own_none p.view.number is_reshape alone.turns alone.own in
+        let few = m.reshaped in
+        omega (arith, none, few)
+
+-- ---- entries that change no edge
+
+abbrev is_edge_change : Entry → Bool
+is_edge_change e = changes_edge e.0 (Ok e.1)
+
+quiet_mute : (es : List Entry) → list_any is_loud es ≡ false → list_any is_edge_change es ≡ false
+quiet_mute [] quiet = refl
+quiet_mute (e ∷ es) quiet = by (or_parts (is_loud e) (list_any is_loud es) quiet) (quiet_mute es)
+  where
+    by : (is_loud e ≡ false) × (list_any is_loud es ≡ false) → (list_any is_loud es ≡ false → list_any is_edge_change es ≡ false) → list_any is_edge_change (e ∷ es) ≡ false
+    by parts rest = ap (λ (b : Bool). b || list_any is_edge_change es) (or_parts (begins_anew e) (changes_edge e.0 (Ok e.1)) parts.0).1 ∙ rest parts.1
+
+record Mute (old new : List Entry) : Type 0 where
+  entries : List Entry
+  are : new ≡ old ++ entries
+  mute : list_any is_edge_change entries ≡ false
+
+mute_these : (more old new : List Entry) → list_any is_edge_change more ≡ false → new ≡ old ++ more → Mute old new
+mute_these more old new mute is = record { entries = more; are = is; mute = mute }
+
+mute_then : (old mid new : List Entry) → Mute old mid → Mute mid new → Mute old new
+mute_then old mid new a b = record {
+  entries = a.entries ++ b.entries;
+  are = b.are ∙ (ap (λ (l : List Entry). l ++ b.entries) a.are ∙ append_assoc old a.entries b.entries);
+  mute = list_any-append is_edge_change a.entries b.entries ∙ (ap (λ (x : Bool). x || list_any is_edge_change b.entries) a.mute ∙ b.mute);
+}
+
+pins_mute : (k n : ℕ) (old new : List Entry) → LostTries (SightFor Insert k) n old new → Mute old new
+pins_mute k zero old new is = mute_these [] old new refl (is ∙ sym (append-nil old))
+pins_mute k (suc n) old new h = mute_then old h.0 new (pins_mute k n old h.0 h.1) (mute_then h.0 _ new (mute_these _ h.0 _ refl refl) (mute_these _ _ new refl h.2.2))
+
+pin_mute : (k tries : ℕ) (old new : List Entry) (epoch : ℕ) → IsPinnedBy (SightFor Insert k) tries old new epoch → Mute old new
+pin_mute k tries old new epoch h = mute_then old _ new (mute_these _ old _ refl refl) (mute_then _ h.2 new (pins_mute k h.1 _ h.2 h.4) (mute_then h.2 _ new (mute_these _ h.2 _ refl refl) (mute_these _ _ new refl h.5.1)))
+
+-- ---- turns that change no edge
+
+abbrev changes_turn : Turn → Bool
+changes_turn t = changes_edge t.event t.outcome
+
+none_refused : (e : Event) (x : Refused) → changes_edge e (Err x) ≡ false
+none_refused (Link a b f g) x = refl
+none_refused (Flag a b f) x = refl
+none_refused (Tag a b) x = refl
+none_refused (Splice a b f g h) x = refl
+none_refused e x = refl
+
+-- turns of one worker alone whose part changes no edge change none
+mute_turns : (w : ℕ) (c : Configuration) (ts : List (ℕ × Event)) → All (λ t. t.0 ≡ w) ts → list_any is_edge_change (part_of w (trace_in c ts)) ≡ false → number_of changes_turn (trace_in c ts) ≡ 0
+unfolding trace_in
+mute_turns w c [] own mute = refl
+mute_turns w c (t ∷ ts) own mute = go (outcome_in c t) mute (mute_turns w (next_in c t) ts (λ i d below. own (suc i) d (omega (arith, below))))
+  where
+    takes : (b : Bool) → (t.0 == w) ≡ true → ((t.0 == w) || b) ≡ true
+    takes b is = ap (λ (x : Bool). x || b) is
+
+    go : (o : Result Reply Refused) → list_any is_edge_change (cond ((t.0 == w) || is_leaver w t.1) (logged_by (record { worker = t.0; event = t.1; outcome = o })) [] ++ part_of w (trace_in (next_in c t) ts)) ≡ false
+        → (list_any is_edge_change (part_of w (trace_in (next_in c t) ts)) ≡ false → number_of changes_turn (trace_in (next_in c t) ts) ≡ 0)
+        → cond (changes_edge t.1 o) 1 0 + number_of changes_turn (trace_in (next_in c t) ts) ≡ 0
+    go (Ok r) mute rest =
+        let parts = or_parts (changes_edge t.1 (Ok r)) (list_any is_edge_change (part_of w (trace_in (next_in c t) ts)))
+        (ap (λ (b : Bool). list_any is_edge_change (cond b ((t.1, r) ∷ []) [] ++ part_of w (trace_in (next_in c t) ts))) (sym (takes (is_leaver w t.1) (eq-eqb t.0 w (own 0 t (omega arith))))) ∙ mute) in
+        let same = rest parts.1 in
+        let zero_is = ap one_if parts.0 in
+        omega (arith, same, zero_is)
+    go (Err x) mute rest =
+        let same = rest (skip ((t.0 == w) || is_leaver w t.1) mute) in
+        let zero_is = ap one_if (none_refused t.1 x) in
+        omega (arith, same, zero_is)
+      where
+        skip : (b : Bool) → list_any is_edge_change (cond b [] [] ++ part_of w (trace_in (next_in c t) ts)) ≡ false → list_any is_edge_change (part_of w (trace_in (next_in c t) ts)) ≡ false
+        skip true is = is
+        skip false is = is
+
+-- fewer turns reshape the tree than change an edge
+calm_too : (turns : List Turn) → number_of is_reshape turns ≤ number_of changes_turn turns
+calm_too [] = omega arith
+calm_too (t ∷ ts) = by (links_on t.event t.outcome) (flags_on t.event t.outcome) (cuts_on t.event t.outcome) (tags_on t.event t.outcome) (calm_too ts)
+  where
+    by : (a b c d : Bool) → number_of is_reshape ts ≤ number_of changes_turn ts → cond (a || c) 1 0 + number_of is_reshape ts ≤ cond (a || (b || (c || d))) 1 0 + number_of changes_turn ts
+    by true b c d rest = omega (arith, rest)
+    by false true true d rest = omega (arith, rest)
+    by false true false d rest = omega (arith, rest)
+    by false false true d rest = omega (arith, rest)
+    by false false false true rest = omega (arith, rest)
+    by false false false false rest = omega (arith, rest)
+
+-- ---- a tree without flags
+
+abbrev Clean : Configuration → Type 0
+Clean c = (y : ℕ) (g : Side) → Reached c.state.memory y → (edge c.state.memory y g).flag ≡ false
+
+module _ (L : Layout) (enough : 5 ≤ L.nodes) where
+  clean_turns : (ts : List (ℕ × Event)) → All (λ t. HasKey t.1) ts → (c : Configuration) → IsOrdered L c → number_of changes_turn (trace_in c ts) ≡ 0 → Clean c → Clean (after_in c ts)
+  unfolding after_in trace_in
+  clean_turns [] keys c o calm clean = clean
+  clean_turns (t ∷ ts) keys c o calm clean = clean_turns ts (λ i d below. keys (suc i) d (omega (arith, below))) (next_in c t) (ordered_next L enough c t (keys 0 t (omega arith)) o) (parts (changes_edge t.1 (outcome_in c t)) calm).1 next
+    where
+      parts : (b : Bool) → cond b 1 0 + number_of changes_turn (trace_in (next_in c t) ts) ≡ 0 → (b ≡ false) × (number_of changes_turn (trace_in (next_in c t) ts) ≡ 0)
+      parts true is = absurd (omega (arith, is))
+      parts false is = (refl, omega (arith, is))
+
+      unflagged : flags_on t.1 (outcome_in c t) ≡ true → ⊥
+      unflagged is = true≢false (sym (by (links_on t.1 (outcome_in c t)) (flags_on t.1 (outcome_in c t)) (cuts_on t.1 (outcome_in c t) || tags_on t.1 (outcome_in c t)) is) ∙ (parts (changes_edge t.1 (outcome_in c t)) calm).0)
+        where
+          by : (a b x : Bool) → b ≡ true → (a || (b || x)) ≡ true
+          by true b x is = refl
+          by false true x is = refl
+          by false false x is = absurd (true≢false (sym is))
+
+      next : (y : ℕ) (g : Side) → Reached (next_in c t).state.memory y → (edge (next_in c t).state.memory y g).flag ≡ false
+      next y g r = false_from_ne_true _ (λ flag. on (flag_origin L enough c t (keys 0 t (omega arith)) o y g r flag))
+        where
+          on : FlagOrigin L enough c t (keys 0 t (omega arith)) o y g → ⊥
+          on (Before p d reached flag leads) = true≢false (sym flag ∙ clean p d reached)
+          on (Now leaf is at won) = unflagged won
+
+  -- no edge of a reached node has a mark then
+  bare_edge : (c : Configuration) (o : IsOrdered L c) → Clean c → (x : ℕ) (d : Side) → Reached c.state.memory x → is_bare (edge c.state.memory x d) ≡ true
+  bare_edge c o clean x d r = and_from (not (edge c.state.memory x d).flag) (not (edge c.state.memory x d).tag) (ap not (clean x d r)) (ap not (false_from_ne_true _ tagged))
+    where
+      law : (h : ℕ → ℕ) × Lawful c.state h
+      law = law_of_state L enough c o
+
+      live : IsLive (picture c.state law.0) x
+      live = subst (IsLive (picture c.state law.0)) r.ends (reached_live c.state.layout.nodes (picture c.state law.0) law.1.tree r.path (λ z. r.is_slot (sym r.ends ∙ z)))
+
+      tagged : (edge c.state.memory x d).tag ≡ true → ⊥
+      tagged tag = true≢false (sym (law.1.tree.frozen x d live tag) ∙ clean x (other d) r)
+
+  look_edge : (s : State) (u x : ℕ) (d : Side) (e : Edge) → reply_of s u (Look x (EdgeOn d)) ≡ EdgeIs e → edge s.memory x d ≡ e
+  unfolding reply
+  look_edge s u x d e is = cc
+
+  -- what a walk reads there, by the turns of one worker alone
+  module _ (w : ℕ) (c : Configuration) (o : IsOrdered L c) (clean : Clean c) (ts : List (ℕ × Event)) (keys : All (λ t. HasKey t.1) ts) (calm : number_of changes_turn (trace_in c ts) ≡ 0) where
+    reshapes_none : number_of is_reshape (trace_in c ts) ≡ 0
+    reshapes_none = let few = calm_too (trace_in c ts) in omega (arith, few, calm)
+
+    parent_reached : (k n : ℕ) (old new : List Entry) (s : Spot) (chain : List ChainEdge) → Walks k n old new s chain → old ++ part_of w (trace_in c ts) ≡ new → Reached c.state.memory s.parent
+    parent_reached k zero old new s chain h whole = record { path = Left ∷ []; ends = (law_of_state L enough c o).1.tree.root_left ∙ sym (ap (λ (s : Spot). s.parent) h.0); is_slot = λ z. absurd (let two = ap (λ (s : Spot). s.parent) h.0 in omega (arith, z, two)) }
+    parent_reached k (suc n) old new s chain (mid, t, d, on, walk, some, reads, is, more) whole = by (walk_path L enough w c o ts keys reshapes_none k n old mid t d walk _ (whole ∙ (reads.2 ∙ three mid _ _ _)))
+      where
+        three : (l : List Entry) (a b e : Entry) → ((l ++ a ∷ []) ++ b ∷ []) ++ e ∷ [] ≡ l ++ a ∷ b ∷ e ∷ []
+        three [] a b e = refl
+        three (x ∷ l) a b e = ap (λ (l : List Entry). x ∷ l) (three l a b e)
+
+        by : OnPath L enough w c o ts keys reshapes_none n t → Reached c.state.memory s.parent
+        by p = record { path = p.sides; ends = p.ends ∙ sym at; is_slot = λ z. p.is_slot (sym at ∙ z) }
+          where
+            at : s.parent ≡ t.edge.slot
+            at = ap (λ (s : Spot). s.parent) is ∙ onto_parent t on.side on.next
+
+    read_bare : (k n : ℕ) (old new : List Entry) (s : Spot) (chain : List ChainEdge) → Walks k n old new s chain → IsLogOf L w new → old ++ part_of w (trace_in c ts) ≡ new → is_bare s.edge ≡ true
+    read_bare k n old new s chain walk l whole = by (walk_read L enough w k n old new s chain walk l)
+      where
+        by : WalkRead L enough w old new s → is_bare s.edge ≡ true
+        by r = on (split_turn w ts c r.first (Look s.parent (EdgeOn s.side), EdgeIs s.edge) r.tail (append_cancel_left old _ _ (whole ∙ r.are)))
+          where
+            on : SplitTurn w c ts r.first (Look s.parent (EdgeOn s.side), EdgeIs s.edge) r.tail → is_bare s.edge ≡ true
+            on a = ap is_bare (sym told) ∙ bare_edge (after_in c a.before) (ordered_after w L enough a.before keys' c o) (clean_turns a.before keys' c o calm' clean) s.parent s.side there
+              where
+                keys' : All (λ t. HasKey t.1) a.before
+                keys' = first_keys a.before (a.turn ∷ a.since) (subst (λ (l : List (ℕ × Event)). All (λ t. HasKey t.1) l) a.is_run keys)
+
+                calm' : number_of changes_turn (trace_in c a.before) ≡ 0
+                calm' = let all = ap (λ (l : List (ℕ × Event)). number_of changes_turn (trace_in c l)) a.is_run in let parts = number_split changes_turn c a.before a.turn a.since in omega (arith, calm, all, parts)
+
+                there : Reached (after_in c a.before).state.memory s.parent
+                there = (calm_turns L enough a.before keys' c o (let few = calm_too (trace_in c a.before) in omega (arith, few, calm')) s.parent (parent_reached k n old new s chain walk whole)).reached
+
+                told : edge (after_in c a.before).state.memory s.parent s.side ≡ s.edge
+                told = look_edge (after_in c a.before).state a.turn.0 s.parent s.side s.edge (ap (reply_of (after_in c a.before).state a.turn.0) (sym (ap (λ (k : Entry). k.0) a.is_entry)) ∙ ap (λ (k : Entry). k.1) a.is_entry)
+
+-- ---- the first try of an insert
+
+record FirstBlunt (fit : Fit) (M : Layout) (k : ℕ) (old new : List Entry) : Type 0 where
+  fork : Option Fork
+  mid : List Entry
+  try : IsBluntTry fit M k None fork old mid
+  behind : Longer mid new
+
+at_first : (fit : Fit) (M : Layout) (k bare blunt : ℕ) (f g : Option Fork) (old mid new : List Entry) → bare ≡ 0 → blunt ≡ 0 → LosesInserts fit M k bare blunt f old mid → IsBluntTry fit M k f g mid new → FirstBlunt fit M k old new
+at_first fit M k _ _ _ g old mid new none less (NoInsert is) try = record { fork = g; mid = new; try = subst (λ (l : List Entry). IsBluntTry fit M k None g l new) is try; behind = longer_these [] new new (sym (append-nil new)) }
+at_first fit M k _ _ _ g old mid new none less (Bare bare blunt f h log before one) try = absurd (omega (arith, none))
+at_first fit M k _ _ _ g old mid new none less (Blunt bare blunt f h log before one) try = absurd (omega (arith, less))
+
+first_blunt : (fit : Fit) (M : Layout) (k bare blunt : ℕ) (g : Option Fork) (old new : List Entry) → LosesInserts fit M k bare blunt g old new → bare ≡ 0 → blunt ≢ 0 → FirstBlunt fit M k old new
+first_blunt fit M k _ _ _ old new (NoInsert is) none some = absurd (some refl)
+first_blunt fit M k _ _ _ old new (Bare bare blunt f g mid before try) none some = absurd (omega (arith, none))
+first_blunt fit M k _ _ _ old new (Blunt bare zero f g mid before try) none some = at_first fit M k bare 0 f g old mid new none refl before try
+first_blunt fit M k _ _ _ old new (Blunt bare (suc blunt) f g mid before try) none some =
+    let first = first_blunt fit M k bare (suc blunt) f old mid before none (λ z. absurd (omega (arith, z))) in
+    record { fork = first.fork; mid = first.mid; try = first.try; behind = longer_then first.mid mid new first.behind (blunt_longer fit M k f g mid new try) }
+
+-- the turns of a walk behind the pin, by worker w alone
+record AloneWalk (L : Layout) (w : ℕ) (begun walked : List Entry) : Type 0 where
+  from : Configuration
+  is_ordered : IsOrdered L from
+  is_clean : Clean from
+  turns : List (ℕ × Event)
+  has_keys : All (λ t. HasKey t.1) turns
+  calm : number_of changes_turn (trace_in from turns) ≡ 0
+  is_walk : begun ++ part_of w (trace_in from turns) ≡ walked
+
+pub inserts_alone_are_answered : InsertsAloneAreAnswered
+inserts_alone_are_answered fit k tries p q seen_p seen_q enough same on alone rests did = by (busy_inserts_were_lost fit p.view.layout k tries p q seen_p seen_q enough same on did)
+  where
+    c : Configuration
+    c = after_in (ordered p.view.layout) (events_of p.view.past)
+
+    number : p.view.number ≡ q.view.number
+    number = sym (ap (λ (s : Stand). s.view.number) same)
+
+    layout : p.view.layout ≡ q.view.layout
+    layout = sym (ap (λ (s : Stand). s.view.layout) same)
+
+    keys : All (λ t. HasKey t.1) ((events_of p.view.past) ++ (events_of alone.turns))
+    keys = subst (λ (l : List (ℕ × Event)). All (λ t. HasKey t.1) l) (events_go_on q.view.past p.view.past (record { more = alone.turns; is = alone.is })) (as_events q.view seen_q).keys
+
+    past_keys : All (λ t. HasKey t.1) (events_of p.view.past)
+    past_keys = first_keys (events_of p.view.past) (events_of alone.turns) keys
+
+    is_new : part_of p.view.number (trace_in (ordered p.view.layout) ((events_of p.view.past) ++ (events_of alone.turns))) ≡ q.view.log
+    is_new = ap (λ (l : List (ℕ × Event)). part_of p.view.number (trace_in (ordered p.view.layout) l)) (sym (events_go_on q.view.past p.view.past (record { more = alone.turns; is = alone.is }))) ∙ ((λ i. part_of (number i) (trace_in (ordered (layout i)) (events_of q.view.past))) ∙ (as_events q.view seen_q).is_part)
+
+    log_q : IsLogOf p.view.layout p.view.number q.view.log
+    log_q = record { worker = seen_p.worker; turns = (events_of p.view.past) ++ (events_of alone.turns); keys = keys; is_part = is_new }
+
+    pends_not : NothingIsPending p.view.layout (events_of p.view.past)
+    pends_not = nothing_is_pending p.view.layout enough (events_of p.view.past) past_keys (subst (NonePends p.view.layout) (as_events p.view seen_p).are rests)
+
+    o : IsOrdered p.view.layout (after_in (ordered p.view.layout) (events_of p.view.past))
+    o = each_ordered p.view.layout enough (events_of p.view.past) past_keys
+
+    clean : Clean (after_in (ordered p.view.layout) (events_of p.view.past))
+    clean y g r = false_from_ne_true _ (λ flag. let n = each_flagged_leaf_is_pending p.view.layout enough (events_of p.view.past) past_keys y g r flag in pends_not n.worker n.key n.flag)
+
+    whole : p.view.log ++ part_of p.view.number (trace_in (after_in (ordered p.view.layout) (events_of p.view.past)) (events_of alone.turns)) ≡ q.view.log
+    whole = ap (λ (l : List Entry). l ++ part_of p.view.number (trace_in (after_in (ordered p.view.layout) (events_of p.view.past)) (events_of alone.turns))) (sym (as_events p.view seen_p).is_part)
+        ∙ (sym (part-append p.view.number (trace_in (ordered p.view.layout) (events_of p.view.past)) (trace_in (after_in (ordered p.view.layout) (events_of p.view.past)) (events_of alone.turns))) ∙ (ap (part_of p.view.number) (sym (trace_in-append (ordered p.view.layout) (events_of p.view.past) (events_of alone.turns))) ∙ is_new))
+
+    own_parts : (xs ys : List (ℕ × Event)) → All (λ t. t.0 ≡ p.view.number) (xs ++ ys) → All (λ t. t.0 ≡ p.view.number) xs × All (λ t. t.0 ≡ p.view.number) ys
+    own_parts xs ys all = (all_before (λ t. t.0 ≡ p.view.number) xs ys all, all_behind (λ t. t.0 ≡ p.view.number) xs ys all)
+
+    alone_walk : (begun walked : List Entry) → Mute p.view.log begun → Plain begun walked → Longer walked q.view.log → AloneWalk p.view.layout p.view.number begun walked
+    alone_walk begun walked pin walk rest = made (split_part p.view.number pin.entries (after_in (ordered p.view.layout) (events_of p.view.past)) (events_of alone.turns) (walk.entries ++ rest.entries) parts)
+      where
+        parts : part_of p.view.number (trace_in (after_in (ordered p.view.layout) (events_of p.view.past)) (events_of alone.turns)) ≡ pin.entries ++ (walk.entries ++ rest.entries)
+        parts = append_cancel_left p.view.log _ _ (whole ∙ (rest.are ∙ (ap (λ (l : List Entry). l ++ rest.entries) (walk.are ∙ ap (λ (l : List Entry). l ++ walk.entries) pin.are)
+            ∙ (append_assoc (p.view.log ++ pin.entries) walk.entries rest.entries ∙ append_assoc p.view.log pin.entries (walk.entries ++ rest.entries)))))
+
+        made : SplitPart p.view.number (after_in (ordered p.view.layout) (events_of p.view.past)) (events_of alone.turns) pin.entries (walk.entries ++ rest.entries) → AloneWalk p.view.layout p.view.number begun walked
+        made s = inner (split_part p.view.number walk.entries (after_in (after_in (ordered p.view.layout) (events_of p.view.past)) s.before) s.since rest.entries s.is_since)
+          where
+            own : All (λ t. t.0 ≡ p.view.number) s.before × All (λ t. t.0 ≡ p.view.number) s.since
+            own = own_parts s.before s.since (subst (λ (l : List (ℕ × Event)). All (λ t. t.0 ≡ p.view.number) l) s.is_run (own_events p.view.number alone.turns alone.own))
+
+            more_keys : All (λ t. HasKey t.1) (s.before ++ s.since)
+            more_keys = subst (λ (l : List (ℕ × Event)). All (λ t. HasKey t.1) l) s.is_run (later_keys (events_of p.view.past) (events_of alone.turns) keys)
+
+            first : All (λ t. HasKey t.1) s.before
+            first = first_keys s.before s.since more_keys
+
+            inner : SplitPart p.view.number (after_in (after_in (ordered p.view.layout) (events_of p.view.past)) s.before) s.since walk.entries rest.entries → AloneWalk p.view.layout p.view.number begun walked
+            inner r = record {
+              from = after_in (after_in (ordered p.view.layout) (events_of p.view.past)) s.before;
+              is_ordered = ordered_after p.view.number p.view.layout enough s.before first (after_in (ordered p.view.layout) (events_of p.view.past)) o;
+              is_clean = clean_turns p.view.layout enough s.before first (after_in (ordered p.view.layout) (events_of p.view.past)) o (mute_turns p.view.number (after_in (ordered p.view.layout) (events_of p.view.past)) s.before own.0 (ap (list_any is_edge_change) s.is_before ∙ pin.mute)) clean;
+              turns = r.before;
+              has_keys = first_keys r.before r.since (subst (λ (l : List (ℕ × Event)). All (λ t. HasKey t.1) l) r.is_run (later_keys s.before s.since more_keys));
+              calm = mute_turns p.view.number (after_in (after_in (ordered p.view.layout) (events_of p.view.past)) s.before) r.before (own_parts r.before r.since (subst (λ (l : List (ℕ × Event)). All (λ t. t.0 ≡ p.view.number) l) r.is_run own.1)).0 (ap (list_any is_edge_change) r.is_before ∙ quiet_mute walk.entries walk.quiet);
+              is_walk = ap (λ (l : List Entry). begun ++ l) r.is_before ∙ sym walk.are;
+            }
+
+    -- so no walk of the first try reads an edge with a mark, nor is one too long
+    bare_walk : (n : ℕ) (begun walked : List Entry) (s : Spot) (chain : List ChainEdge) → Mute p.view.log begun → Walks k n begun walked s chain → Longer walked q.view.log → is_bare s.edge ≡ true
+    bare_walk n begun walked s chain pin walk rest =
+        let a = alone_walk begun walked pin (walk_plain k n begun walked s chain walk) rest in
+        read_bare p.view.layout enough p.view.number a.from a.is_ordered a.is_clean a.turns a.has_keys a.calm k n begun walked s chain walk (log_prefix p.view.layout p.view.number walked rest.entries (subst (IsLogOf p.view.layout p.view.number) rest.are log_q)) a.is_walk
+
+    not_tagged : (e : Edge) → is_bare e ≡ true → e.tag ≡ true → ⊥
+    not_tagged e bare tag = by e.flag e.tag bare tag
+      where
+        by : (f t : Bool) → (not f && not t) ≡ true → t ≡ true → ⊥
+        by true t bare tag = true≢false (sym bare)
+        by false true bare tag = true≢false (sym bare)
+        by false false bare tag = true≢false (sym tag)
+
+    none_blunt : (begun : List Entry) → Mute p.view.log begun → (f g : Option Fork) (new : List Entry) → IsBluntTry fit p.view.layout k f g begun new → Longer new q.view.log → ⊥
+    none_blunt begun pin f g new (inl (c, inl long, _)) rest =
+        let a = alone_walk begun new pin (walk_plain k long.1 begun new long.2 long.3 long.4) rest in
+        not_too_long p.view.layout enough p.view.number a.from a.is_ordered a.turns a.has_keys (let few = calm_too (trace_in a.from a.turns) in let calm = a.calm in omega (arith, few, calm)) k begun new long a.is_walk
+    none_blunt begun pin f g new (inl (c, inr deep, _)) rest = not_tagged deep.3.edge (bare_walk deep.1 begun deep.2 deep.3 deep.4 pin deep.7 (longer_then deep.2 new q.view.log (reads_longer k deep.3.edge.slot deep.2 new deep.5 deep.8) rest)) deep.10
+    none_blunt begun pin f g new (inr (made, r, chain, e, mid, link, forked, helps, marked)) rest =
+        true≢false (sym (bare_walk link.walk.0.0 begun link.walk.0.1 r.spot chain pin link.walk.0.4
+        (longer_then link.walk.0.1 link.ended q.view.log (reads_longer k r.spot.edge.slot link.walk.0.1 link.ended link.walk.0.2 link.walk.0.6)
+        (longer_then link.ended mid q.view.log (claims_longer fit p.view.layout k f made r chain e begun mid link) (longer_then mid new q.view.log (help_longer r chain e mid new helps) rest)))) ∙ marked)
+
+    lost : WasLost fit p.view.layout k p q tries → tries ≡ 0
+    lost l = elim (ℕ_discrete l.blunt 0) [
+      | yes none ↦ (let all = l.all in omega (arith, all, none, no_bare))
+      | no some ↦ absurd (refuse (first_blunt fit p.view.layout k l.bare l.blunt l.fork l.begun l.ended l.loses no_bare some))
+    ]
+      where
+        no_bare : l.bare ≡ 0
+        no_bare =
+            let same_is = same_turns p.view.past l.turns alone.turns q.view.past l.is alone.is in
+            let none = ap (λ (t : List Turn). number_of (changes_of_others p.view.number) t) same_is ∙ own_none p.view.number changes_turn alone.turns alone.own in
+            let few = l.changed in
+            omega (arith, none, few)
+
+        refuse : FirstBlunt fit p.view.layout k l.begun l.ended → ⊥
+        refuse b = none_blunt l.begun (pin_mute k tries p.view.log l.begun l.epoch l.pin) None b.fork b.mid b.try (longer_then b.mid l.ended q.view.log b.behind (longer_these l.rest l.ended q.view.log l.goes_on))
+
+    by : (tries ≡ 0) ⊎ WasMovedPast p q tries ⊎ WasLost fit p.view.layout k p q tries → tries ≡ 0
+    by (inl none) = none
+    by (inr (inl m)) =
+        let same_is = same_turns p.view.past m.turns alone.turns q.view.past m.is alone.is in
+        let none = ap (λ (l : List Turn). number_of (moves_of_others p.view.number) l) same_is ∙ own_none p.view.number moves alone.turns alone.own in
+        let few = m.moved in
+        omega (arith, none, few)
+    by (inr (inr l)) = lost l
+
+-- ---- the first try of a delete
+
+record FirstBluntFlag (M : Layout) (k : ℕ) (old new : List Entry) : Type 0 where
+  mid : List Entry
+  try : IsBluntFlag M k old mid
+  behind : Longer mid new
+
+at_first_flag : (M : Layout) (k bare blunt : ℕ) (old mid new : List Entry) → bare ≡ 0 → blunt ≡ 0 → LosesFlags M k bare blunt old mid → IsBluntFlag M k mid new → FirstBluntFlag M k old new
+at_first_flag M k _ _ old mid new none less (NoFlag is) try = record { mid = new; try = subst (λ (l : List Entry). IsBluntFlag M k l new) is try; behind = longer_these [] new new (sym (append-nil new)) }
+at_first_flag M k _ _ old mid new none less (BareFlag bare blunt log before one) try = absurd (omega (arith, none))
+at_first_flag M k _ _ old mid new none less (BluntFlag bare blunt log before one) try = absurd (omega (arith, less))
+
+first_blunt_flag : (M : Layout) (k bare blunt : ℕ) (old new : List Entry) → LosesFlags M k bare blunt old new → bare ≡ 0 → blunt ≢ 0 → FirstBluntFlag M k old new
+first_blunt_flag M k _ _ old new (NoFlag is) none some = absurd (some refl)
+first_blunt_flag M k _ _ old new (BareFlag bare blunt mid before try) none some = absurd (omega (arith, none))
+first_blunt_flag M k _ _ old new (BluntFlag bare zero mid before try) none some = at_first_flag M k bare 0 old mid new none refl before try
+first_blunt_flag M k _ _ old new (BluntFlag bare (suc blunt) mid before try) none some =
+    let first = first_blunt_flag M k bare (suc blunt) old mid before none (λ z. absurd (omega (arith, z))) in
+    record { mid = first.mid; try = first.try; behind = longer_then first.mid mid new first.behind (blunt_flag_longer M k mid new try) }
+
+delete_pins_mute : (k n : ℕ) (old new : List Entry) → LostTries (SightFor Delete k) n old new → Mute old new
+delete_pins_mute k zero old new is = mute_these [] old new refl (is ∙ sym (append-nil old))
+delete_pins_mute k (suc n) old new h = mute_then old h.0 new (delete_pins_mute k n old h.0 h.1) (mute_then h.0 _ new (mute_these _ h.0 _ refl refl) (mute_these _ _ new refl h.2.2))
+
+delete_pin_mute : (k tries : ℕ) (old new : List Entry) (epoch : ℕ) → IsPinnedBy (SightFor Delete k) tries old new epoch → Mute old new
+delete_pin_mute k tries old new epoch h = mute_then old _ new (mute_these _ old _ refl refl) (mute_then _ h.2 new (delete_pins_mute k h.1 _ h.2 h.4) (mute_then h.2 _ new (mute_these _ h.2 _ refl refl) (mute_these _ _ new refl h.5.1)))
+
+pub deletes_alone_are_not_busy : DeletesAloneAreNotBusy
+deletes_alone_are_not_busy k tries p q seen_p seen_q enough same on alone rests did = by (busy_deletes_were_lost p.view.layout k tries p q seen_p seen_q enough same on did)
+  where
+    c : Configuration
+    c = after_in (ordered p.view.layout) (events_of p.view.past)
+
+    number : p.view.number ≡ q.view.number
+    number = sym (ap (λ (s : Stand). s.view.number) same)
+
+    layout : p.view.layout ≡ q.view.layout
+    layout = sym (ap (λ (s : Stand). s.view.layout) same)
+
+    keys : All (λ t. HasKey t.1) ((events_of p.view.past) ++ (events_of alone.turns))
+    keys = subst (λ (l : List (ℕ × Event)). All (λ t. HasKey t.1) l) (events_go_on q.view.past p.view.past (record { more = alone.turns; is = alone.is })) (as_events q.view seen_q).keys
+
+    past_keys : All (λ t. HasKey t.1) (events_of p.view.past)
+    past_keys = first_keys (events_of p.view.past) (events_of alone.turns) keys
+
+    is_new : part_of p.view.number (trace_in (ordered p.view.layout) ((events_of p.view.past) ++ (events_of alone.turns))) ≡ q.view.log
+    is_new = ap (λ (l : List (ℕ × Event)). part_of p.view.number (trace_in (ordered p.view.layout) l)) (sym (events_go_on q.view.past p.view.past (record { more = alone.turns; is = alone.is }))) ∙ ((λ i. part_of (number i) (trace_in (ordered (layout i)) (events_of q.view.past))) ∙ (as_events q.view seen_q).is_part)
+
+    log_q : IsLogOf p.view.layout p.view.number q.view.log
+    log_q = record { worker = seen_p.worker; turns = (events_of p.view.past) ++ (events_of alone.turns); keys = keys; is_part = is_new }
+
+    pends_not : NothingIsPending p.view.layout (events_of p.view.past)
+    pends_not = nothing_is_pending p.view.layout enough (events_of p.view.past) past_keys (subst (NonePends p.view.layout) (as_events p.view seen_p).are rests)
+
+    o : IsOrdered p.view.layout (after_in (ordered p.view.layout) (events_of p.view.past))
+    o = each_ordered p.view.layout enough (events_of p.view.past) past_keys
+
+    clean : Clean (after_in (ordered p.view.layout) (events_of p.view.past))
+    clean y g r = false_from_ne_true _ (λ flag. let n = each_flagged_leaf_is_pending p.view.layout enough (events_of p.view.past) past_keys y g r flag in pends_not n.worker n.key n.flag)
+
+    whole : p.view.log ++ part_of p.view.number (trace_in (after_in (ordered p.view.layout) (events_of p.view.past)) (events_of alone.turns)) ≡ q.view.log
+    whole = ap (λ (l : List Entry). l ++ part_of p.view.number (trace_in (after_in (ordered p.view.layout) (events_of p.view.past)) (events_of alone.turns))) (sym (as_events p.view seen_p).is_part)
+        ∙ (sym (part-append p.view.number (trace_in (ordered p.view.layout) (events_of p.view.past)) (trace_in (after_in (ordered p.view.layout) (events_of p.view.past)) (events_of alone.turns))) ∙ (ap (part_of p.view.number) (sym (trace_in-append (ordered p.view.layout) (events_of p.view.past) (events_of alone.turns))) ∙ is_new))
+
+    own_parts : (xs ys : List (ℕ × Event)) → All (λ t. t.0 ≡ p.view.number) (xs ++ ys) → All (λ t. t.0 ≡ p.view.number) xs × All (λ t. t.0 ≡ p.view.number) ys
+    own_parts xs ys all = (all_before (λ t. t.0 ≡ p.view.number) xs ys all, all_behind (λ t. t.0 ≡ p.view.number) xs ys all)
+
+    alone_walk : (begun walked : List Entry) → Mute p.view.log begun → Plain begun walked → Longer walked q.view.log → AloneWalk p.view.layout p.view.number begun walked
+    alone_walk begun walked pin walk rest = made (split_part p.view.number pin.entries (after_in (ordered p.view.layout) (events_of p.view.past)) (events_of alone.turns) (walk.entries ++ rest.entries) parts)
+      where
+        parts : part_of p.view.number (trace_in (after_in (ordered p.view.layout) (events_of p.view.past)) (events_of alone.turns)) ≡ pin.entries ++ (walk.entries ++ rest.entries)
+        parts = append_cancel_left p.view.log _ _ (whole ∙ (rest.are ∙ (ap (λ (l : List Entry). l ++ rest.entries) (walk.are ∙ ap (λ (l : List Entry). l ++ walk.entries) pin.are)
+            ∙ (append_assoc (p.view.log ++ pin.entries) walk.entries rest.entries ∙ append_assoc p.view.log pin.entries (walk.entries ++ rest.entries)))))
+
+        made : SplitPart p.view.number (after_in (ordered p.view.layout) (events_of p.view.past)) (events_of alone.turns) pin.entries (walk.entries ++ rest.entries) → AloneWalk p.view.layout p.view.number begun walked
+        made s = inner (split_part p.view.number walk.entries (after_in (after_in (ordered p.view.layout) (events_of p.view.past)) s.before) s.since rest.entries s.is_since)
+          where
+            own : All (λ t. t.0 ≡ p.view.number) s.before × All (λ t. t.0 ≡ p.view.number) s.since
+            own = own_parts s.before s.since (subst (λ (l : List (ℕ × Event)). All (λ t. t.0 ≡ p.view.number) l) s.is_run (own_events p.view.number alone.turns alone.own))
+
+            more_keys : All (λ t. HasKey t.1) (s.before ++ s.since)
+            more_keys = subst (λ (l : List (ℕ × Event)). All (λ t. HasKey t.1) l) s.is_run (later_keys (events_of p.view.past) (events_of alone.turns) keys)
+
+            first : All (λ t. HasKey t.1) s.before
+            first = first_keys s.before s.since more_keys
+
+            inner : SplitPart p.view.number (after_in (after_in (ordered p.view.layout) (events_of p.view.past)) s.before) s.since walk.entries rest.entries → AloneWalk p.view.layout p.view.number begun walked
+            inner r = record {
+              from = after_in (after_in (ordered p.view.layout) (events_of p.view.past)) s.before;
+              is_ordered = ordered_after p.view.number p.view.layout enough s.before first (after_in (ordered p.view.layout) (events_of p.view.past)) o;
+              is_clean = clean_turns p.view.layout enough s.before first (after_in (ordered p.view.layout) (events_of p.view.past)) o (mute_turns p.view.number (after_in (ordered p.view.layout) (events_of p.view.past)) s.before own.0 (ap (list_any is_edge_change) s.is_before ∙ pin.mute)) clean;
+              turns = r.before;
+              has_keys = first_keys r.before r.since (subst (λ (l : List (ℕ × Event)). All (λ t. HasKey t.1) l) r.is_run (later_keys s.before s.since more_keys));
+              calm = mute_turns p.view.number (after_in (after_in (ordered p.view.layout) (events_of p.view.past)) s.before) r.before (own_parts r.before r.since (subst (λ (l : List (ℕ × Event)). All (λ t. t.0 ≡ p.view.number) l) r.is_run own.1)).0 (ap (list_any is_edge_change) r.is_before ∙ quiet_mute walk.entries walk.quiet);
+              is_walk = ap (λ (l : List Entry). begun ++ l) r.is_before ∙ sym walk.are;
+            }
+
+    -- so no walk of the first try reads an edge with a mark, nor is one too long
+    bare_walk : (n : ℕ) (begun walked : List Entry) (s : Spot) (chain : List ChainEdge) → Mute p.view.log begun → Walks k n begun walked s chain → Longer walked q.view.log → is_bare s.edge ≡ true
+    bare_walk n begun walked s chain pin walk rest =
+        let a = alone_walk begun walked pin (walk_plain k n begun walked s chain walk) rest in
+        read_bare p.view.layout enough p.view.number a.from a.is_ordered a.is_clean a.turns a.has_keys a.calm k n begun walked s chain walk (log_prefix p.view.layout p.view.number walked rest.entries (subst (IsLogOf p.view.layout p.view.number) rest.are log_q)) a.is_walk
+
+    not_tagged : (e : Edge) → is_bare e ≡ true → e.tag ≡ true → ⊥
+    not_tagged e bare tag = by e.flag e.tag bare tag
+      where
+        by : (f t : Bool) → (not f && not t) ≡ true → t ≡ true → ⊥
+        by true t bare tag = true≢false (sym bare)
+        by false true bare tag = true≢false (sym bare)
+        by false false bare tag = true≢false (sym tag)
+
+    none_blunt : (begun : List Entry) → Mute p.view.log begun → (new : List Entry) → IsBluntFlag p.view.layout k begun new → Longer new q.view.log → ⊥
+    none_blunt begun pin new (inl (inl long)) rest =
+        let a = alone_walk begun new pin (walk_plain k long.1 begun new long.2 long.3 long.4) rest in
+        not_too_long p.view.layout enough p.view.number a.from a.is_ordered a.turns a.has_keys (let few = calm_too (trace_in a.from a.turns) in let calm = a.calm in omega (arith, few, calm)) k begun new long a.is_walk
+    none_blunt begun pin new (inl (inr deep)) rest = not_tagged deep.3.edge (bare_walk deep.1 begun deep.2 deep.3 deep.4 pin deep.7 (longer_then deep.2 new q.view.log (reads_longer k deep.3.edge.slot deep.2 new deep.5 deep.8) rest)) deep.10
+    none_blunt begun pin new (inr (chain, r, b, e, mid, flag, helps, marked)) rest =
+        true≢false (sym (bare_walk flag.walk.0.0 begun flag.walk.0.1 r.spot chain pin flag.walk.0.4
+        (longer_then flag.walk.0.1 flag.ended q.view.log (reads_longer k r.spot.edge.slot flag.walk.0.1 flag.ended flag.walk.0.2 flag.walk.0.6)
+        (longer_then flag.ended mid q.view.log (longer_then flag.ended _ mid (longer_these _ flag.ended _ refl) (longer_these _ _ mid flag.entries)) (longer_then mid new q.view.log (help_longer r chain e mid new helps) rest)))) ∙ marked)
+
+    lost : DeleteWasLost p.view.layout k p q tries → tries ≡ 0
+    lost l = elim (ℕ_discrete l.blunt 0) [
+      | yes none ↦ (let all = l.all in omega (arith, all, none, no_bare))
+      | no some ↦ absurd (refuse (first_blunt_flag p.view.layout k l.bare l.blunt l.begun l.ended l.loses no_bare some))
+    ]
+      where
+        no_bare : l.bare ≡ 0
+        no_bare =
+            let same_is = same_turns p.view.past l.turns alone.turns q.view.past l.is alone.is in
+            let none = ap (λ (t : List Turn). number_of (changes_of_others p.view.number) t) same_is ∙ own_none p.view.number changes_turn alone.turns alone.own in
+            let few = l.changed in
+            omega (arith, none, few)
+
+        refuse : FirstBluntFlag p.view.layout k l.begun l.ended → ⊥
+        refuse b = none_blunt l.begun (delete_pin_mute k tries p.view.log l.begun l.epoch l.pin) b.mid b.try (longer_then b.mid l.ended q.view.log b.behind (longer_these l.rest l.ended q.view.log l.goes_on))
+
+    by : (tries ≡ 0) ⊎ WasMovedPast p q tries ⊎ DeleteWasLost p.view.layout k p q tries → tries ≡ 0
+    by (inl none) = none
+    by (inr (inl m)) =
+        let same_is = same_turns p.view.past m.turns alone.turns q.view.past m.is alone.is in
+        let none = ap (λ (l : List Turn). number_of (moves_of_others p.view.number) l) same_is ∙ own_none p.view.number moves alone.turns alone.own in
+        let few = m.moved in
+        omega (arith, none, few)
+    by (inr (inr l)) = lost l

@@ -1,0 +1,9 @@
+pub mod LostPins
+pub mod Parts
+pub mod WalkReads
+pub mod BareLinks
+pub mod BareFlags
+pub mod Astray
+pub mod LostLookups
+pub mod PendingTurns
+pub mod AloneCalls

@@ -1,0 +1,6 @@
+pub mod Pending
+pub mod Pins
+pub mod Lookups
+pub mod Inserts
+pub mod Deletes
+pub mod Alone

@@ -1,0 +1,17 @@
+//! What a call that answers `Busy` tells of the others, as laws over the contracts of the
+//! calls. Nothing here runs.
+#![tactic(auto)]
+
+mod alone;
+mod deletes;
+mod inserts;
+mod lookups;
+mod pins;
+
+pub use alone::{
+    deletes_alone_are_not_busy, inserts_alone_are_answered, lookups_alone_are_answered,
+};
+pub use deletes::busy_deletes_were_lost;
+pub use inserts::busy_inserts_were_lost;
+pub use lookups::busy_lookups_were_disturbed;
+pub use pins::lost_pins_were_moved_past;

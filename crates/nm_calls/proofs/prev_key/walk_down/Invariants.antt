@@ -1,0 +1,16 @@
+use Rattle.std.proofs.Common.{◌≡◌, ◌≤◌, ◌+◌, ◌*◌}
+use Rattle.nm_calls.specs.Bounds.{reach}
+use Rattle.nm_calls.specs.PrevKeys.{IsDescent}
+use Rattle.nm_calls.specs.PlainWalks.{AddsLooks}
+use Rattle.nm_calls.specs.Telling.{GoesOn, OnlyLooks}
+use Rattle.nm_calls.proofs.prev_key.walk_down.Given as goal
+
+abbrev pub invariant-loop-node : goal.invariant-loop-node
+invariant-loop-node l = record {
+  inside : l._node + 1 ≤ reach l.shared.layout;
+  looks : AddsLooks (1 + l._node * (3 * 1)) l.fn.pass.view.log l.pass.view.log;
+  under_way : IsDescent l.shared.layout l._node l.fn.pass l.pass l.walk;
+  from : l.walk.from ≡ l.from;
+  on : GoesOn l.fn.pass l.pass;
+  only : OnlyLooks l.fn.pass l.pass;
+}

@@ -1,0 +1,99 @@
+-- A walk that has ended tells whether its key was in the set at a moment since the pin, in either
+-- shape of the tree.
+use Rattle.std.proofs.Common.{◌≡◌, ◌≢◌, ℕ, ◌<◌, ◌≤◌, ◌==◌, ◌&&◌, inl, inr, ◌⊎◌, Bool, true, false, List, [], ◌∷◌, ◌++◌, append_assoc, refl, sym, ap, subst, ◌∙◌}
+use Rattle.std.specs.Prelude.{All}
+use Rattle.std.proofs.lemmas.Bool.{eqb-true, eqb-false, and_parts}
+use Rattle.nm_edge.specs.Layouts.{Layout}
+use Rattle.nm_edge.specs.declared.edge.Side.{Side}
+use Rattle.nm_edge.specs.declared.edge.Side.TheVariants.{Left, Right}
+use Rattle.nm_model.specs.declared.event.Event.{Event}
+use Rattle.nm_model.specs.declared.event.Event.TheVariants.{Look}
+use Rattle.nm_model.specs.declared.event.Field.TheVariants.{Key, Edge as EdgeOn}
+use Rattle.nm_model.specs.declared.event.Op.TheVariants.{Has}
+use Rattle.nm_model.specs.declared.reply.Reply.TheVariants.{KeyIs, EdgeIs}
+use Rattle.nm_model.specs.Memory.{Memory, node, child, is_leaf, infinity_1}
+use Rattle.nm_model.specs.Searches.{side_of}
+use Rattle.nm_model.specs.Walks.{Entry, IsPart, WalkComes, WalkReads, WalkEnds}
+use Rattle.nm_model.specs.Ordered.{ordered, after_in}
+use Rattle.nm_order.specs.Intervals.{HasKey, InInterval, InSet, key}
+use Rattle.nm_order.specs.Legal.{Gives}
+use Rattle.nm_order.specs.Moments.{OfEachOrderedRun}
+use Rattle.nm_order.specs.Ranges.{StandsFor}
+use Rattle.nm_order.specs.StalePaths.{log_under_pin, WasReachedSince}
+use Rattle.nm_order.specs.WalkAnswers.{WasSoUnderPin, AnyWalkTells}
+use Rattle.nm_order.proofs.FactLaws.{leaf_is}
+use Rattle.nm_order.proofs.LogParts.{part_grows, part_itself, part_within}
+use Rattle.nm_order.proofs.OrderedLaws.{IsOrdered, each_ordered, keys_lie, one_leaf_for}
+use Rattle.nm_order.proofs.RunExchanges.{first_keys}
+use Rattle.nm_order.proofs.StaleRuns.{any_walk_was_reached, any_walk_reads, any_walk_knows_leaf, radix_walk}
+
+-- a walk that has ended came to its leaf
+came : (k : ℕ) (log : List Entry) (slot parent : ℕ) (side : Side) (v : ℕ) → WalkEnds k log slot parent side v → WalkComes k log slot parent side
+came k log slot parent side v walk = record {
+  looks = walk.looks;
+  leads = walk.leads;
+  is_part = part_within walk.is_part walk.looks (part_grows ((Look slot Key, KeyIs v) ∷ (Look slot (EdgeOn (side_of k v)), EdgeIs walk.null) ∷ []) (part_itself walk.looks));
+}
+
+-- and read its key
+read : (k : ℕ) (log : List Entry) (slot parent : ℕ) (side : Side) (v : ℕ) → WalkEnds k log slot parent side v → WalkReads k log slot parent side v
+read k log slot parent side v walk = record {
+  looks = walk.looks;
+  leads = walk.leads;
+  is_part = part_within walk.is_part (walk.looks ++ (Look slot Key, KeyIs v) ∷ [])
+      (subst (λ (l : List Entry). IsPart (walk.looks ++ (Look slot Key, KeyIs v) ∷ []) l) (append_assoc walk.looks ((Look slot Key, KeyIs v) ∷ []) ((Look slot (EdgeOn (side_of k v)), EdgeIs walk.null) ∷ []))
+      (part_grows ((Look slot (EdgeOn (side_of k v)), EdgeIs walk.null) ∷ []) (part_itself (walk.looks ++ (Look slot Key, KeyIs v) ∷ []))));
+}
+
+-- ---- the answer of a walk
+
+module _ (L : Layout) (enough : 5 ≤ L.nodes) (turns : List (ℕ × Event)) (keys : All (λ t. HasKey t.1) turns) (u k slot parent : ℕ) (side : Side) (v : ℕ) (small : k < infinity_1) (walk : WalkEnds k (log_under_pin L turns u) slot parent side v) (was : WasReachedSince (ordered L) turns u k slot) where
+  ordered_then : IsOrdered L (after_in (ordered L) was.before)
+  ordered_then = each_ordered L enough was.before (first_keys was.before was.since (subst (λ (ts : List (ℕ × Event)). All (λ t. HasKey t.1) ts) was.is_run keys))
+
+  has_key : key (after_in (ordered L) was.before).state.memory slot ≡ v
+  has_key = was.same_key ∙ any_walk_reads L enough turns keys u k slot parent side v (read k (log_under_pin L turns u) slot parent side v walk)
+
+  leaf : is_leaf (node (after_in (ordered L) was.before).state.memory slot) ≡ true
+  leaf = was.same_kind ∙ leaf_is L enough (after_in (ordered L) turns) (each_ordered L enough turns keys) u slot (any_walk_knows_leaf L enough turns keys u k slot parent side v walk)
+
+  -- the one leaf in whose interval the key lay is this one
+  one_leaf : (s : InSet (after_in (ordered L) was.before).state.memory k) → slot ≡ s.slot
+  one_leaf s = one_leaf_for L enough (after_in (ordered L) was.before) ordered_then k slot s.slot was.lies
+      (subst (λ (j : ℕ). InInterval (after_in (ordered L) was.before).state.memory j s.slot) s.has_key (keys_lie L enough (after_in (ordered L) was.before) ordered_then s.slot s.reached)) was.reached.is_slot s.reached.is_slot leaf s.leaf
+
+  gives : (b : Bool) → (v == k) ≡ b → Gives (InSet (after_in (ordered L) was.before).state.memory) Has k b
+  gives true is = record { slot = slot; reached = was.reached; leaf = leaf; has_key = has_key ∙ eqb-true v k is }
+  gives false other = λ s. eqb-false v k other (sym has_key ∙ (ap (key (after_in (ordered L) was.before).state.memory) (one_leaf s) ∙ s.has_key))
+
+  tells : WasSoUnderPin L turns u k (v == k)
+  tells = record { before = was.before; since = was.since; is_run = was.is_run; pinned = was.pinned; stands = was.stands; gives = gives (v == k) refl }
+
+pub any_walk_tells : OfEachOrderedRun AnyWalkTells
+any_walk_tells L enough turns keys u k slot parent side v small walk = by L.radix refl
+  where
+    comes : WalkComes k (log_under_pin L turns u) slot parent side
+    comes = came k (log_under_pin L turns u) slot parent side v walk
+
+    m : Memory
+    m = (after_in (ordered L) turns).state.memory
+
+    null : (f : Side) → child (after_in (ordered L) turns).state.memory slot f ≡ 0
+    null f = go f (and_parts ((node (after_in (ordered L) turns).state.memory slot).left.slot == 0) ((node (after_in (ordered L) turns).state.memory slot).right.slot == 0)
+        (leaf_is L enough (after_in (ordered L) turns) (each_ordered L enough turns keys) u slot (any_walk_knows_leaf L enough turns keys u k slot parent side v walk)))
+      where
+        go : (f : Side) → (((node (after_in (ordered L) turns).state.memory slot).left.slot == 0) ≡ true) × (((node (after_in (ordered L) turns).state.memory slot).right.slot == 0) ≡ true) → child (after_in (ordered L) turns).state.memory slot f ≡ 0
+        go Left both = eqb-true (node (after_in (ordered L) turns).state.memory slot).left.slot 0 both.0
+        go Right both = eqb-true (node (after_in (ordered L) turns).state.memory slot).right.slot 0 both.1
+
+    -- behind a node without k in its range the leaf has another key
+    other : (StandsFor (child (after_in (ordered L) turns).state.memory) (key (after_in (ordered L) turns).state.memory) slot k → ⊥) → WasSoUnderPin L turns u k false → (b : Bool) → (v == k) ≡ b → WasSoUnderPin L turns u k b
+    other none n false is = n
+    other none n true is = absurd (none (inl (null, any_walk_reads L enough turns keys u k slot parent side v (read k (log_under_pin L turns u) slot parent side v walk) ∙ eqb-true v k is)))
+
+    by : (shape : Bool) → L.radix ≡ shape → WasSoUnderPin L turns u k (v == k)
+    by false search = tells L enough turns keys u k slot parent side v small walk (any_walk_was_reached L enough turns keys search u k slot parent side small comes)
+    by true radix = elim (radix_walk L enough turns keys radix u k slot parent side small comes) [
+      | inl was ↦ tells L enough turns keys u k slot parent side v small walk was
+      | inr out ↦ other out.1 out.0 (v == k) refl
+    ]

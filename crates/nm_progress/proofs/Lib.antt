@@ -1,0 +1,12 @@
+pub mod EdgeFates
+pub mod LostTries
+pub mod Moves
+pub mod Covers
+pub mod SplicesPaid
+pub mod OneParents
+pub mod TagsPaid
+pub mod SplitTurns
+pub mod CountedTries
+pub mod WorkedTries
+pub mod MoreTries
+pub mod Reshapes

@@ -1,0 +1,234 @@
+-- While nothing is linked or cut off, each reached node stays, with the slots to which its edges
+-- lead; and no path is longer than there are slots.
+use Rattle.std.proofs.Common.{◌≡◌, ◌≢◌, ℕ, suc, ◌+◌, ◌<◌, ◌≤◌, inl, inr, eqb, ◌==◌, Bool, true, false, cond, not, ◌&&◌, List, length, [], ◌∷◌, ◌++◌, append_assoc, refl, sym, ap, subst, ◌∙◌, arith, true≢false}
+use Rattle.std.specs.Prelude.{Result, Ok, Err, All}
+use Rattle.std.specs.List.{list_any, IsDistinct, AllByRecursion}
+use Rattle.std.proofs.lemmas.Bool.{or_parts, or_cases, eqb-true, ne_eqb}
+use Rattle.std.proofs.lemmas.List.{append-nil}
+use Rattle.std.proofs.lemmas.Map.Steps.{length-le_from_distinct_below}
+use Rattle.nm_edge.specs.Edges.{Edge}
+use Rattle.nm_edge.specs.Layouts.{Layout}
+use Rattle.nm_edge.specs.declared.edge.Side.{Side}
+use Rattle.nm_edge.specs.declared.node.NodeId.{NodeId}
+use Rattle.nm_model.specs.declared.event.Field.TheVariants.{Edge as EdgeOn}
+use Rattle.nm_model.specs.declared.event.Event.{Event}
+use Rattle.nm_model.specs.declared.event.Event.TheVariants.{Look, Link, Splice}
+use Rattle.nm_model.specs.declared.reply.Reply.{Reply}
+use Rattle.nm_model.specs.declared.reply.Reply.TheVariants.{EdgeIs, Cut}
+use Rattle.nm_model.specs.declared.reply.Refused.{Refused}
+use Rattle.nm_model.specs.declared.trace.Turn.{Turn}
+use Rattle.nm_model.specs.Memory.{edge, child}
+use Rattle.nm_model.specs.Paths.{follow, Reached}
+use Rattle.nm_model.specs.Step.{reply}
+use Rattle.nm_model.specs.Runs.{State, reply_of}
+use Rattle.nm_model.specs.Walks.{Entry, logged_by, log_of}
+use Rattle.nm_model.specs.Ordered.{Configuration, next_in, outcome_in, after_in, trace_in}
+use Rattle.nm_laws.proofs.Trees.{follow-append, follow_none, append_cancel}
+use Rattle.nm_laws.proofs.Pictures.{alone, reached_within}
+use Rattle.nm_laws.proofs.Views.{picture}
+use Rattle.nm_order.specs.Intervals.{HasKey}
+use Rattle.nm_order.specs.Logs.{part_of}
+use Rattle.nm_order.proofs.OrderedLaws.{IsOrdered, ordered_next, law_of_state}
+use Rattle.nm_order.proofs.RunExchanges.{first_keys}
+use Rattle.nm_order.proofs.CutTurns.{uncut_stays, cut_is_splice}
+use Rattle.nm_progress.specs.Moves.{number_of}
+use Rattle.nm_progress.specs.Paid.{links_on, cuts_on}
+use Rattle.nm_progress.specs.Tries.{reshapes, reshapes_of_others}
+use Rattle.nm_progress.proofs.EdgeFates.{EdgeFate, TurnFate, turn_fates}
+use Rattle.nm_progress.proofs.EdgeFates.EdgeFate.{Kept, IsLinked, IsFlagged, IsTagged, IsSpliced}
+use Rattle.nm_progress.proofs.EdgeFates.TurnFate.{Refuses, Makes}
+use Rattle.nm_progress.proofs.SplitTurns.{SplitTurn, split_turn, number_split}
+use Rattle.nm_progress.proofs.TagsPaid.{unheld}
+
+abbrev pub is_reshape : Turn → Bool
+is_reshape t = reshapes t.event t.outcome
+
+-- ---- one turn, and many, that link nothing and cut nothing
+
+module _ (L : Layout) (enough : 5 ≤ L.nodes) where
+  -- what stays of a reached node
+  pub record StaysThere (c d : Configuration) (y : ℕ) : Type 0 where
+    pub reached : Reached d.state.memory y
+    pub leads : (g : Side) → child d.state.memory y g ≡ child c.state.memory y g
+
+  calm_turn : (c : Configuration) (t : ℕ × Event) → HasKey t.1 → IsOrdered L c → reshapes t.1 (outcome_in c t) ≡ false → (y : ℕ) → Reached c.state.memory y → StaysThere c (next_in c t) y
+  calm_turn c t has o calm y r = record { reached = uncut_stays L enough c t o uncut y r; leads = λ g. fate g (turn_fates L enough c t o y g (unheld L enough c t has o y r)) }
+    where
+      none : (links_on t.1 (outcome_in c t) ≡ false) × (cuts_on t.1 (outcome_in c t) ≡ false)
+      none = or_parts (links_on t.1 (outcome_in c t)) (cuts_on t.1 (outcome_in c t)) calm
+
+      uncut : (ns : List NodeId) → outcome_in c t ≡ Ok (Cut ns) → ⊥
+      uncut ns is = by (cut_is_splice L enough c t o ns is)
+        where
+          by : (a : ℕ) × (side : Side) × (x : ℕ) × (p : ℕ) × (keep : Side) × (t.1 ≡ Splice a side x p keep) → ⊥
+          by s = true≢false ((λ i. cuts_on (sym s.5 i) (sym is i)) ∙ none.1)
+
+      on : (g : Side) (q : Reply) → outcome_in c t ≡ Ok q → EdgeFate c.state t.0 t.1 (next_in c t).state.memory q y g → child (next_in c t).state.memory y g ≡ child c.state.memory y g
+      on g q told (Kept same) = ap (λ (e : Edge). e.slot) same
+      on g q told (IsLinked l m n e answer was now) = absurd (true≢false ((λ i. links_on (sym e i) ((ap (λ (q : Reply). Ok q) (sym answer) ∙ sym told) i)) ∙ none.0))
+      on g q told (IsFlagged l n e answer was now) = ap (λ (e : Edge). e.slot) now ∙ sym (ap (λ (e : Edge). e.slot) was)
+      on g q told (IsTagged e answer now) = ap (λ (e : Edge). e.slot) now
+      on g q told (IsSpliced a b n ns e answer was now) = absurd (true≢false ((λ i. cuts_on (sym e i) ((ap (λ (q : Reply). Ok q) (sym answer) ∙ sym told) i)) ∙ none.1))
+
+      fate : (g : Side) → TurnFate c t y g → child (next_in c t).state.memory y g ≡ child c.state.memory y g
+      fate g (Refuses q e same) = ap (λ (d : Configuration). child d.state.memory y g) same
+      fate g (Makes q e f) = on g q e f
+
+  calm_parts : (b : Bool) (n : ℕ) → cond b 1 0 + n ≡ 0 → (b ≡ false) × (n ≡ 0)
+  calm_parts true n is = absurd (omega (arith, is))
+  calm_parts false n is = (refl, omega (arith, is))
+
+  pub calm_turns : (ts : List (ℕ × Event)) → All (λ t. HasKey t.1) ts → (c : Configuration) → IsOrdered L c → number_of is_reshape (trace_in c ts) ≡ 0 → (y : ℕ) → Reached c.state.memory y → StaysThere c (after_in c ts) y
+  unfolding after_in trace_in
+  calm_turns [] keys c o calm y r = record { reached = r; leads = λ g. refl }
+  calm_turns (t ∷ ts) keys c o calm y r =
+      let parts = calm_parts (reshapes t.1 (outcome_in c t)) (number_of is_reshape (trace_in (next_in c t) ts)) calm in
+      let one = calm_turn c t (keys 0 t (omega arith)) o parts.0 y r in
+      let rest = calm_turns ts (λ i d below. keys (suc i) d (omega (arith, below))) (next_in c t) (ordered_next L enough c t (keys 0 t (omega arith)) o) parts.1 y one.reached in
+      record { reached = rest.reached; leads = λ g. rest.leads g ∙ one.leads g }
+
+  look_edge : (s : State) (u x : ℕ) (d : Side) (e : Edge) → reply_of s u (Look x (EdgeOn d)) ≡ EdgeIs e → edge s.memory x d ≡ e
+  unfolding reply
+  look_edge s u x d e is = cc
+
+  -- what a look of a worker told, by the part of these turns
+  pub look_there : (w : ℕ) (ts : List (ℕ × Event)) → All (λ t. HasKey t.1) ts → (c : Configuration) → IsOrdered L c → number_of is_reshape (trace_in c ts) ≡ 0 → (xs : List Entry) (x : ℕ) (d : Side) (e : Edge) (ys : List Entry)
+      → part_of w (trace_in c ts) ≡ xs ++ (Look x (EdgeOn d), EdgeIs e) ∷ ys → Reached c.state.memory x → e.slot ≡ child c.state.memory x d
+  look_there w ts keys c o calm xs x d e ys is r = by (split_turn w ts c xs (Look x (EdgeOn d), EdgeIs e) ys is)
+    where
+      by : SplitTurn w c ts xs (Look x (EdgeOn d), EdgeIs e) ys → e.slot ≡ child c.state.memory x d
+      by a = sym (ap (λ (e : Edge). e.slot) told) ∙ (calm_turns a.before keys' c o calm' x r).leads d
+        where
+          keys' : All (λ t. HasKey t.1) a.before
+          keys' = first_keys a.before (a.turn ∷ a.since) (subst (λ (l : List (ℕ × Event)). All (λ t. HasKey t.1) l) a.is_run keys)
+
+          calm' : number_of is_reshape (trace_in c a.before) ≡ 0
+          calm' = let all = ap (λ (l : List (ℕ × Event)). number_of is_reshape (trace_in c l)) a.is_run in let parts = number_split is_reshape c a.before a.turn a.since in omega (arith, calm, all, parts)
+
+          told : edge (after_in c a.before).state.memory x d ≡ e
+          told = look_edge (after_in c a.before).state a.turn.0 x d e (ap (reply_of (after_in c a.before).state a.turn.0) (sym (ap (λ (k : Entry). k.0) a.is_entry)) ∙ ap (λ (k : Entry). k.1) a.is_entry)
+
+-- ---- others and all
+
+none_reshapes : (e : Event) (x : Refused) → reshapes e (Err x) ≡ false
+none_reshapes (Link a b f g) x = refl
+none_reshapes (Splice a b f g h) x = refl
+none_reshapes e x = refl
+
+abbrev one_if : Bool → ℕ
+one_if b = cond b 1 0
+
+-- where a worker's own log links and cuts nothing, and no other does, nobody does
+pub nobody : (w : ℕ) (turns : List Turn) → list_any (λ (e : Entry). reshapes e.0 (Ok e.1)) (log_of w turns) ≡ false → number_of is_reshape turns ≡ number_of (reshapes_of_others w) turns
+nobody w [] none = refl
+nobody w (t ∷ ts) none = go (t.worker == w) t.outcome none (nobody w ts)
+  where
+    go : (b : Bool) (o : Result Reply Refused) → list_any (λ (e : Entry). reshapes e.0 (Ok e.1)) (cond b (logged_by (record { worker = t.worker; event = t.event; outcome = o })) [] ++ log_of w ts) ≡ false
+        → (list_any (λ (e : Entry). reshapes e.0 (Ok e.1)) (log_of w ts) ≡ false → number_of is_reshape ts ≡ number_of (reshapes_of_others w) ts)
+        → cond (reshapes t.event o) 1 0 + number_of is_reshape ts ≡ cond (not b && reshapes t.event o) 1 0 + number_of (reshapes_of_others w) ts
+    go false (Ok r) none rest = let same = rest none in omega (arith, same)
+    go false (Err x) none rest = let same = rest none in omega (arith, same)
+    go true (Ok r) none rest =
+        let parts = or_parts (reshapes t.event (Ok r)) (list_any (λ (e : Entry). reshapes e.0 (Ok e.1)) (log_of w ts)) none in
+        let same = rest parts.1 in
+        let zero_is = ap one_if parts.0 in
+        omega (arith, same, zero_is)
+    go true (Err x) none rest = let same = rest none in let zero_is = ap one_if (none_reshapes t.event x) in omega (arith, same, zero_is)
+
+-- ---- paths
+
+abbrev Within : ℕ → List ℕ → Type 0
+Within N [] = Unit {0}
+Within N (x ∷ xs) = ((1 ≤ x) × (x ≤ N)) × Within N xs
+
+abbrev Apart : ℕ → List ℕ → Type 0
+Apart x [] = Unit {0}
+Apart x (y ∷ ys) = (eqb x y ≡ false) × Apart x ys
+
+abbrev Distinct : List ℕ → Type 0
+Distinct [] = Unit {0}
+Distinct (x ∷ xs) = Apart x xs × Distinct xs
+
+all_apart : (x : ℕ) (xs : List ℕ) → Apart x xs → AllByRecursion (λ y. eqb x y ≡ false) xs
+all_apart x [] apart = tt
+all_apart x (y ∷ ys) apart = (apart.0, all_apart x ys apart.1)
+
+are_distinct : (xs : List ℕ) → Distinct xs → IsDistinct eqb xs
+unfolding IsDistinct
+are_distinct [] distinct = tt
+are_distinct (x ∷ xs) distinct = (all_apart x xs distinct.0, are_distinct xs distinct.1)
+
+within_is : (N : ℕ) (xs : List ℕ) → Within N xs → (q : ℕ) → list_any (eqb q) xs ≡ true → (1 ≤ q) × (q ≤ N)
+within_is N [] within q is = absurd (true≢false (sym is))
+within_is N (x ∷ xs) within q is = elim (or_cases (eqb q x) (list_any (eqb q) xs) is) [
+  | inl here ↦ rw (eqb-true q x here) within.0
+  | inr later ↦ within_is N xs within.1 q later
+]
+
+zero_apart : (N : ℕ) (xs : List ℕ) → Within N xs → Apart 0 xs
+zero_apart N [] within = tt
+zero_apart N (x ∷ xs) within = (ne_eqb 0 x (λ z. let low = within.0.0 in absurd (omega (arith, low, z))), zero_apart N xs within.1)
+
+few : (N : ℕ) (xs : List ℕ) → Distinct xs → Within N xs → length xs ≤ N
+few N xs distinct within = let all = length-le_from_distinct_below (0 ∷ xs) (suc N) (are_distinct (0 ∷ xs) (zero_apart N xs within, distinct)) below in omega (arith, all)
+  where
+    below : (q : ℕ) → list_any (eqb q) (0 ∷ xs) ≡ true → q < suc N
+    below q is = elim (or_cases (eqb q 0) (list_any (eqb q) xs) is) [
+      | inl here ↦ (let z = eqb-true q 0 here in omega (arith, z))
+      | inr later ↦ (let r = within_is N xs within q later in omega (arith, r))
+    ]
+
+abbrev slots_on : (ℕ → Side → ℕ) → ℕ → List Side → List ℕ
+slots_on ch s [] = s ∷ []
+slots_on ch s (d ∷ q) = s ∷ slots_on ch (ch s d) q
+
+how_long : (ch : ℕ → Side → ℕ) (s : ℕ) (q : List Side) → length (slots_on ch s q) ≡ length q + 1
+how_long ch s [] = refl
+how_long ch s (d ∷ q) = let rest = how_long ch (ch s d) q in omega (arith, rest)
+
+module _ (L : Layout) (enough : 5 ≤ L.nodes) (c : Configuration) (o : IsOrdered L c) where
+  abbrev ch : ℕ → Side → ℕ
+  ch = child c.state.memory
+
+  abbrev end : List Side → ℕ
+  end q = follow (child c.state.memory) 1 q
+
+  null : (d : Side) → child c.state.memory 0 d ≡ 0
+  null d = ap (λ (e : Edge). e.slot) ((law_of_state L enough c o).1.tree.nothing d)
+
+  further : (p : List Side) (d : Side) → child c.state.memory (follow (child c.state.memory) 1 p) d ≡ follow (child c.state.memory) 1 (p ++ d ∷ [])
+  further p d = sym (follow-append (child c.state.memory) 1 p (d ∷ []))
+
+  some_before : (p q : List Side) → follow (child c.state.memory) 1 (p ++ q) ≢ 0 → follow (child c.state.memory) 1 p ≢ 0
+  some_before p q some z = some (follow-append (child c.state.memory) 1 p q ∙ (ap (λ (x : ℕ). follow (child c.state.memory) x q) z ∙ follow_none (child c.state.memory) null q))
+
+  differs : (p : List Side) (d : Side) (r : List Side) → follow (child c.state.memory) 1 p ≢ 0 → eqb (follow (child c.state.memory) 1 p) (follow (child c.state.memory) 1 (p ++ d ∷ r)) ≡ false
+  differs p d r some = ne_eqb _ _ (λ same. no_more (append_cancel p [] (d ∷ r) (append-nil p ∙ alone c.state.layout.nodes (picture c.state (law_of_state L enough c o).0) (law_of_state L enough c o).1.tree p (p ++ d ∷ r) some same)))
+    where
+      no_more : {e : Side} {xs : List Side} → ◌≡◌ {A = List Side} [] (e ∷ xs) → ⊥
+      no_more e = cc
+
+  apart_on : (p : List Side) (d : Side) (r q : List Side) → follow (child c.state.memory) 1 p ≢ 0 → Apart (follow (child c.state.memory) 1 p) (slots_on (child c.state.memory) (follow (child c.state.memory) 1 (p ++ d ∷ r)) q)
+  apart_on p d r [] some = (differs p d r some, tt)
+  apart_on p d r (e ∷ q) some = (differs p d r some, subst (λ (x : ℕ). Apart (follow (child c.state.memory) 1 p) (slots_on (child c.state.memory) x q)) (ap (follow (child c.state.memory) 1) (sym (append_assoc p (d ∷ r) (e ∷ []))) ∙ sym (further (p ++ d ∷ r) e)) (apart_on p d (r ++ e ∷ []) q some))
+
+  all_on : (p q : List Side) → follow (child c.state.memory) 1 (p ++ q) ≢ 0 → Distinct (slots_on (child c.state.memory) (follow (child c.state.memory) 1 p) q) × Within c.state.layout.nodes (slots_on (child c.state.memory) (follow (child c.state.memory) 1 p) q)
+  all_on p [] some = ((tt, tt), (inside p (some_before p [] some), tt))
+    where
+      inside : (p : List Side) → follow (child c.state.memory) 1 p ≢ 0 → (1 ≤ follow (child c.state.memory) 1 p) × (follow (child c.state.memory) 1 p ≤ c.state.layout.nodes)
+      inside p some = (omega (arith, some), reached_within c.state.layout.nodes (picture c.state (law_of_state L enough c o).0) (law_of_state L enough c o).1.tree p)
+  all_on p (d ∷ q) some = by (all_on (p ++ d ∷ []) q (λ z. some (ap (follow (child c.state.memory) 1) (sym (append_assoc p (d ∷ []) q)) ∙ z)))
+    where
+      some_p : follow (child c.state.memory) 1 p ≢ 0
+      some_p = some_before p (d ∷ q) some
+
+      by : Distinct (slots_on (child c.state.memory) (follow (child c.state.memory) 1 (p ++ d ∷ [])) q) × Within c.state.layout.nodes (slots_on (child c.state.memory) (follow (child c.state.memory) 1 (p ++ d ∷ [])) q)
+          → Distinct (slots_on (child c.state.memory) (follow (child c.state.memory) 1 p) (d ∷ q)) × Within c.state.layout.nodes (slots_on (child c.state.memory) (follow (child c.state.memory) 1 p) (d ∷ q))
+      by rest = (
+        (subst (λ (x : ℕ). Apart (follow (child c.state.memory) 1 p) (slots_on (child c.state.memory) x q)) (sym (further p d)) (apart_on p d [] q some_p), subst (λ (x : ℕ). Distinct (slots_on (child c.state.memory) x q)) (sym (further p d)) rest.0),
+        ((omega (arith, some_p), reached_within c.state.layout.nodes (picture c.state (law_of_state L enough c o).0) (law_of_state L enough c o).1.tree p), subst (λ (x : ℕ). Within c.state.layout.nodes (slots_on (child c.state.memory) x q)) (sym (further p d)) rest.1),
+      )
+
+  -- the slots of a path are no more than there are
+  pub long_path : (q : List Side) → follow (child c.state.memory) 1 q ≢ 0 → length q + 1 ≤ c.state.layout.nodes
+  long_path q some = let parts = all_on [] q some in let all = few c.state.layout.nodes (slots_on (child c.state.memory) 1 q) parts.0 parts.1 in let size = how_long (child c.state.memory) 1 q in omega (arith, all, size)

@@ -1,0 +1,5 @@
+pub mod Changes
+pub mod Moves
+pub mod Paid
+pub mod Tries
+pub mod Worked

@@ -1,0 +1,91 @@
+-- How many tries a worker can lose, by its own log: no more than the others change edges.
+use Rattle.std.specs.Prelude.{◌≡◌, ℕ, suc, ◌+◌, ◌*◌, ◌<◌, ◌≤◌, ◌==◌, Bool, true, false, not, ◌&&◌, ◌||◌, List, [], ◌∷◌, ◌++◌, Result, All}
+use Rattle.std.specs.List.{list_any}
+use Rattle.nm_edge.specs.Edges.{Edge, to}
+use Rattle.nm_edge.specs.Layouts.{Layout}
+use Rattle.nm_edge.specs.declared.edge.Side.{Side}
+use Rattle.nm_model.specs.declared.event.Field.TheVariants.{Edge as EdgeOn}
+use Rattle.nm_model.specs.declared.event.Event.{Event}
+use Rattle.nm_model.specs.declared.event.Event.TheVariants.{Look}
+use Rattle.nm_model.specs.declared.reply.Reply.{Reply}
+use Rattle.nm_model.specs.declared.reply.Reply.TheVariants.{EdgeIs, Lost}
+use Rattle.nm_model.specs.declared.reply.Refused.{Refused}
+use Rattle.nm_model.specs.declared.trace.Turn.{Turn}
+use Rattle.nm_model.specs.Knowledge.{knows}
+use Rattle.nm_model.specs.Walks.{Entry, begins_anew}
+use Rattle.nm_model.specs.Ordered.{ordered, after_in, trace_in}
+use Rattle.nm_order.specs.Intervals.{HasKey}
+use Rattle.nm_order.specs.Logs.{part_of, known_by}
+use Rattle.nm_progress.specs.Changes.{is_change, Expects}
+use Rattle.nm_progress.specs.Moves.{number_of}
+use Rattle.nm_progress.specs.Paid.{links_on, flags_on, cuts_on, tags_on, links_in, flags_in}
+
+-- ---- changes of others
+
+-- an event with its outcome changes an edge that had no mark
+abbrev pub changes_edge : Event → Result Reply Refused → Bool
+changes_edge e o = links_on e o || (flags_on e o || (cuts_on e o || tags_on e o))
+
+-- a turn of another worker that does
+abbrev pub changes_of_others : ℕ → Turn → Bool
+changes_of_others w t = not (t.worker == w) && changes_edge t.event t.outcome
+
+-- an event with its outcome puts a node in or cuts nodes off: it changes where an edge leads
+abbrev pub reshapes : Event → Result Reply Refused → Bool
+reshapes e o = links_on e o || cuts_on e o
+
+-- a turn of another worker that does
+abbrev pub reshapes_of_others : ℕ → Turn → Bool
+reshapes_of_others w t = not (t.worker == w) && reshapes t.event t.outcome
+
+-- ---- lost tries in a log
+
+-- the entries that read an edge as one to s without a mark, and that lose an exchange which expects
+-- this
+abbrev pub reading : ℕ → Side → ℕ → Entry
+reading x d s = (Look x (EdgeOn d), EdgeIs (to s))
+
+abbrev pub losing : Event → Edge → Entry
+losing exchange found = (exchange, Lost found)
+
+-- of the entries of worker w's log behind a first part: so many tries are lost in them, one behind
+-- the other. Each is a look at an edge of a known node, which leads to s without a mark, and then
+-- an exchange that expects this and is lost; between the two the worker's pin stands, and it does
+-- not change that edge itself
+pub data LosesTries (L : Layout) (w : ℕ) : List Entry → List Entry → ℕ → Type 0 where
+  NoTry : {so_far entries : List Entry} → LosesTries L w so_far entries 0
+  OneTry : {so_far : List Entry} (n x : ℕ) (d : Side) (s : ℕ) (first between rest : List Entry)
+      (exchange : Event) (found : Edge)
+      → knows (known_by L w (so_far ++ first)) x ≡ true → Expects x d s exchange
+      → list_any begins_anew between ≡ false → list_any (is_change x d) between ≡ false
+      → LosesTries L w
+      (so_far ++ (first ++ reading x d s ∷ (between ++ losing exchange found ∷ []))) rest n
+      → LosesTries L w so_far
+      (first ++ reading x d s ∷ (between ++ losing exchange found ∷ rest)) (suc n)
+
+-- ---- laws
+
+-- from one moment of an ordered run to a later one, of a worker whose part of it grows by these
+-- entries: it loses no more tries in them than others change edges in the run from the one moment
+-- to the other
+abbrev pub OfEachPart : (Layout → ℕ → ℕ → List Turn → Type 0) → Type 0
+OfEachPart P = (L : Layout) → 5 ≤ L.nodes → (w : ℕ) → w < L.workers
+    → (past turns : List (ℕ × Event)) → All (λ t. HasKey t.1) (past ++ turns) → (n : ℕ)
+    → LosesTries L w (part_of w (trace_in (ordered L) past))
+    (part_of w (trace_in (after_in (ordered L) past) turns)) n
+    → P L w n (trace_in (after_in (ordered L) past) turns)
+
+abbrev pub TriesAreLostToChanges : Layout → ℕ → ℕ → List Turn → Type 0
+TriesAreLostToChanges L w n turns = n ≤ number_of (changes_of_others w) turns
+
+-- so no more than the links that are won, three times the flags, and twice the workers (for flags
+-- that were won before)
+abbrev pub TriesArePaid : Layout → ℕ → ℕ → List Turn → Type 0
+TriesArePaid L w n turns = n ≤ links_in turns + 3 * flags_in turns + 2 * L.workers
+
+-- over a whole run a worker loses no more tries than links are won, and three times as many flags
+abbrev pub TriesArePaidEver : Type 0
+TriesArePaidEver = (L : Layout) → 5 ≤ L.nodes → (w : ℕ) → w < L.workers → (turns : List (ℕ × Event))
+    → All (λ t. HasKey t.1) turns → (n : ℕ)
+    → LosesTries L w [] (part_of w (trace_in (ordered L) turns)) n
+    → n ≤ links_in (trace_in (ordered L) turns) + 3 * flags_in (trace_in (ordered L) turns)

@@ -1,0 +1,10 @@
+use Rattle.std.proofs.Common.{◌≡◌}
+use Rattle.nm_set.specs.Popping.{PopsOnce, pop_busy}
+use Rattle.nm_set.specs.Tended.{InARow}
+use Rattle.nm_set.proofs.member.Member.pop_in_rounds.Given as goal
+
+abbrev pub invariant-loop-round : goal.invariant-loop-round
+invariant-loop-round l = record {
+  board : l.self.board ≡ l.fn.self.board;
+  each : InARow (λ x y. PopsOnce l.fn.end l.fn.self.board l.habit x y pop_busy) l._round l.fn.self.hand l.self.hand;
+}

@@ -1,0 +1,50 @@
+//! The tree of a set with the workers that were gathered for its end.
+ghost use Rattle.std.specs.Prelude.{◌≡◌, IfErr, IfOk};
+ghost use Rattle.nm_tree.specs.Closing.{IsClosed};
+ghost use Rattle.nm_set.specs.Ends.{IsTreesReason};
+ghost use Rattle.nm_set.specs.Seats.{AreOwn};
+ghost use Rattle.nm_set.specs.States.{closing_set};
+
+use crate::home::Site;
+use crate::set::{CloseError, end};
+use nm_tree::{Report, Worker};
+use std::marker::Model;
+
+/// A tree and the workers that were gathered, of which elsewhere nothing can be had but its end.
+#[derive(Drop)]
+pub(crate) struct Gathered {
+    site: Site,
+    workers: Vec<Worker>,
+}
+
+impl Model for Gathered {
+    ghost use Rattle.nm_set.specs.Seats.{AreOwn, Standing};
+    ghost use Rattle.nm_set.specs.States.{closing_set};
+
+    ghost Value = { Standing };
+
+    ghost view = { λ g. closing_set g.site g.workers.items };
+
+    ghost invariant = { λ g. AreOwn g.site.tree g.workers.items };
+}
+
+impl Gathered {
+    pub(crate) fn of(site: Site, workers: Vec<Worker>) -> Gathered
+        requires own { AreOwn site.tree workers.items }
+        ensures { result ≡ closing_set site workers.items }
+    {
+        Gathered { site, workers }
+    }
+
+    /// Closes the tree. Refused, a set that is closing keeps them.
+    pub(crate) fn close(self) -> Result<Report, CloseError>
+        ensures own { AreOwn self.board self.kept }
+        ensures closed { IfOk result
+            (λ r. IsClosed self.board self.kept r.queues.items r.keys.items r.free r.reached) }
+        ensures refused { IfErr result (λ e. e.set ≡ self) }
+        ensures reason { IfErr result (λ e. IsTreesReason self.board self.kept e.reason) }
+    {
+        let Self { site, workers } = self;
+        end(site, workers)
+    }
+}

@@ -1,0 +1,124 @@
+//! What a member has of its home: the tree for its calls, and the way back to its seat.
+ghost use Rattle.std.specs.Prelude.{◌≡◌, ◌<◌, ◌≤◌, ◌+◌, ◌↔◌, List, ◌∷◌, [], None, IfErr, IfNone, IfOk, IfSome, IsErrOf, vec_capacity};
+ghost use Rattle.std.specs.Arc.{arc_value};
+ghost use Rattle.nm_set.specs.Posts.{HasTally};
+ghost use Rattle.nm_set.specs.Seats.{BeginsWith, IsOwn, IsResident};
+ghost use Rattle.nm_set.specs.States.{closing_set};
+ghost use Rattle.nm_tree.specs.Workers.{Hand};
+
+use crate::gathering::Gathered;
+use crate::home::{Absence, Home};
+use crate::posting::Post;
+use crate::seat::{AtHome, Guest};
+use nm_tree::{Tree, Worker};
+use std::alloc::{AllocError, Global};
+use std::marker::Model;
+use std::sync::Arc;
+
+/// A member's part in a home. To a call, which has it by reference, it gives the tree and the posts
+/// alone. A worker is taken from a seat, or all of them, only by whoever gives the lease out of its
+/// hands for that, or has the home itself; so no call of a member can reach another worker than the
+/// member's own.
+#[derive(Drop)]
+pub(crate) struct Lease {
+    home: Arc<Home, Global>,
+}
+
+impl Model for Lease {
+    ghost use Rattle.std.specs.Arc.{arc_value};
+    ghost use Rattle.nm_set.specs.declared.home.Site.{Site};
+
+    ghost Value = { Site };
+
+    ghost view = { λ l. arc_value l.home };
+}
+
+impl Lease {
+    pub(crate) fn of(home: Arc<Home, Global>) -> Lease
+        ensures { result ≡ arc_value home }
+    {
+        Lease { home }
+    }
+
+    /// The tree.
+    #[inline(always)]
+    pub(crate) fn tree(&self) -> &Tree
+        ensures { result.now ≡ self.now.tree }
+    {
+        self.home.tree()
+    }
+
+    /// The post of a worker. `None`: there is none of that number.
+    pub(crate) fn post_of(&self, number: u32) -> Option<&Post>
+        ensures some { IfSome result
+            (λ p. (p.now ≡ (self.now, number)) × (number < self.now.tree.layout.workers)) }
+        ensures none { IfNone result (self.now.tree.layout.workers ≤ number) }
+    {
+        self.home.post_of(number)
+    }
+
+    /// A worker of this tree, which its caller does not hold, sits down on its seat.
+    pub(crate) fn receive(&self, guest: Guest) -> AtHome
+        requires own { IsOwn self.now.tree guest.worker }
+        requires fit { guest.worker.fit ≡ self.now.fit }
+        requires free { guest.worker.held ≡ None }
+        ensures { HasTally result guest.worker.pass.view.log }
+    {
+        self.home.receive(guest)
+    }
+
+    /// Takes a worker from its seat.
+    pub(crate) fn take(self, number: u32) -> (Lease, Result<Guest, Absence>)
+        ensures same { result.0 ≡ self }
+        ensures taken { IfOk result.1
+            (λ g. IsResident self.tree self.fit number g.worker
+            × (number < self.tree.layout.workers)) }
+        ensures number { IsErrOf result.1 Absence.Number ↔ (self.tree.layout.workers ≤ number) }
+    {
+        let found = self.home.take(number);
+        (self, found)
+    }
+
+    /// A worker that was taken from its seat does not come back to it.
+    pub(crate) fn retire(self, number: u32) -> Lease
+        ensures { result ≡ self }
+    {
+        self.home.retire(number);
+        self
+    }
+
+    /// Room for a worker that is away, and for all that may be at home.
+    pub(crate) fn room_with_one(&self) -> Result<Vec<Worker>, AllocError>
+        ensures empty { IfOk result (λ ws. ws.items ≡ []) }
+        ensures room { IfOk result (λ ws. 1 + self.now.tree.layout.workers ≤ vec_capacity ws) }
+    {
+        self.home.room_with_one()
+    }
+
+    /// The tree, with this worker, as it is, and then all that are at home, where nobody else has
+    /// the home. There is room for all.
+    pub(crate) fn gather(
+        self,
+        guest: Guest,
+        workers: Vec<Worker>,
+    ) -> Result<Gathered, (Lease, Guest)>
+        requires own { IsOwn self.tree guest.worker }
+        requires empty { workers.items ≡ [] }
+        requires room { 1 + self.tree.layout.workers ≤ vec_capacity workers }
+        ensures gathered { IfOk result
+            (λ g. (ws : List Hand) × (g ≡ closing_set self ws)
+            × BeginsWith (guest.worker ∷ []) ws) }
+        ensures refused { IfErr result (λ back. (back.0 ≡ self) × (back.1.worker ≡ guest.worker)) }
+    {
+        let Self { home } = self;
+        match Arc::try_unwrap(home) {
+            Ok(home) => {
+                let mut workers = workers;
+                guest.stay_with(&mut workers);
+                let (site, workers) = home.gather(workers);
+                Ok(Gathered::of(site, workers))
+            }
+            Err(home) => Err((Lease { home }, guest)),
+        }
+    }
+}

@@ -1,0 +1,99 @@
+//! Sets whose members are all given out as they begin.
+ghost use Rattle.std.specs.Prelude.{◌≡◌, ◌<◌, ◌≤◌, ◌⊎◌, ◌↔◌, [], false, length, IfErr, IfOk, IfSome, IsErrOf};
+ghost use Rattle.std.specs.Arc.{arc_value};
+ghost use Rattle.nm_edge.specs.Layouts.{in_radix, spaced};
+ghost use Rattle.nm_tree.specs.Workers.{AreNew, HaveFit};
+ghost use Rattle.nm_set.specs.Seats.{AreNewMembers};
+ghost use Rattle.nm_set.specs.States.{open_set};
+
+use crate::home::{Home, Site};
+use crate::member::Member;
+use crate::seat::Guest;
+use crate::set::Set;
+use nm_edge::{LEAST_NODES, MOST_SPACED_NODES, MOST_WORKERS};
+use nm_pool::Fit;
+use nm_tree::{NewError, Tree, Worker};
+use std::alloc::Global;
+use std::sync::Arc;
+
+impl Set {
+    /// The empty set that `new` makes, and all its members, in the order of their numbers, which
+    /// have done nothing yet. So nobody has a worker of the set but who is given a member by the
+    /// caller, until one is closed and goes home. (That each seat is empty until then is in no
+    /// clause; that these are as many members as there are workers, and all new, is.)
+    ///
+    /// `Nodes`, `Workers`: as `new` tells them. `NoMemory`: nothing is kept.
+    pub fn with_members(
+        alloc: Global,
+        nodes: u32,
+        workers: u32,
+    ) -> Result<(Set, Vec<Member>), NewError>
+        ensures open { IfOk result
+            (λ r. (r.0.closing ≡ false) × (r.0.kept ≡ [])
+            × (r.0.board.layout ≡ in_radix (spaced nodes workers))) }
+        ensures fit { IfOk result (λ r. r.0.fit ≡ Fit.Near) }
+        ensures count { IfOk result (λ r. length r.1.items ≡ workers) }
+        ensures new { IfOk result (λ r. AreNewMembers r.0.board r.0.fit 0 r.1.items) }
+        ensures nodes { IsErrOf result NewError.Nodes
+            ↔ ((nodes < LEAST_NODES) ⊎ (MOST_SPACED_NODES < nodes)) }
+        ensures workers { IsErrOf result NewError.Workers
+            ↔ ((LEAST_NODES ≤ nodes) × (nodes ≤ MOST_SPACED_NODES)
+            × ((workers < 1) ⊎ (MOST_WORKERS < workers))) }
+    {
+        let (tree, all) = Tree::radix(alloc, nodes, workers, Fit::Near)?;
+        let site = Site {
+            tree,
+            fit: Fit::Near,
+        };
+        give_out(alloc, site, all, workers)
+    }
+}
+
+/// A set of a new tree, whose seats are so many, and a member for each of its workers.
+fn give_out(
+    alloc: Global,
+    site: Site,
+    workers: Vec<Worker>,
+    seats: u32,
+) -> Result<(Set, Vec<Member>), NewError>
+    requires new { AreNew site.tree 0 workers.items }
+    requires all { length workers.items ≡ seats }
+    requires each { site.tree.layout.workers ≡ seats }
+    requires fit { HaveFit site.fit workers.items }
+    ensures set { IfOk result (λ r. r.0 ≡ open_set site []) }
+    ensures count { IfOk result (λ r. length r.1.items ≡ seats) }
+    ensures new { IfOk result (λ r. AreNewMembers site.tree site.fit 0 r.1.items) }
+    ensures memory { IfErr result (λ e. e ≡ NewError.NoMemory) }
+{
+    let Ok(home) = Home::vacant(alloc, site, seats) else {
+        return Err(NewError::NoMemory);
+    };
+    let Ok(home) = Arc::new(alloc, home) else {
+        return Err(NewError::NoMemory);
+    };
+    match members_of(alloc, &home, workers) {
+        Some(members) => Ok((Set::of(alloc, home), members)),
+        None => Err(NewError::NoMemory),
+    }
+}
+
+/// A member for each of these workers, in their order; the room for all is asked for first. `None`:
+/// it was refused, or the home has as many members as can be counted, which 64 are not.
+fn members_of(alloc: Global, home: &Arc<Home, Global>, workers: Vec<Worker>) -> Option<Vec<Member>>
+    requires new { AreNew (arc_value home.now).tree 0 workers.items }
+    requires fit { HaveFit (arc_value home.now).fit workers.items }
+    ensures count { IfSome result (λ ms. length ms.items ≡ length workers.items) }
+    ensures new { IfSome result
+        (λ ms. AreNewMembers (arc_value home.now).tree (arc_value home.now).fit 0 ms.items) }
+{
+    let Ok(mut members) = Vec::with_capacity(alloc, workers.len()) else {
+        return None;
+    };
+    for worker in workers {
+        let Ok(home) = Arc::try_clone(home) else {
+            return None;
+        };
+        members.push_reserved(Member::of(home, Guest::of(worker)));
+    }
+    Some(members)
+}

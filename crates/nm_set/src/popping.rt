@@ -1,0 +1,114 @@
+//! The least and the greatest key are taken, by calls that tend the set.
+ghost use Rattle.std.specs.Prelude.{◌≡◌, ◌≢◌, ◌<◌, true, false};
+ghost use Rattle.nm_tree.specs.declared.popping.End.TheVariants as ends;
+ghost use Rattle.nm_set.specs.Popping.{AskedForEnd, PopsOnce, SaysPopTended, TendsPopOf, pop_busy};
+ghost use Rattle.nm_set.specs.Tended.{IsAsked};
+
+use crate::fault::Fault;
+use crate::member::Member;
+use crate::tended::Habit;
+use nm_edge::{Key, MOST_KEY};
+use nm_tree::{End, Fault as CallFault};
+
+/// Whether a round has come to nothing.
+fn is_busy(told: &Result<Option<Key>, Fault>) -> bool
+    ensures yes { result ≡ true → told.now ≡ pop_busy }
+    ensures no { result ≡ false → told.now ≢ pop_busy }
+{
+    matches!(told, Err(Fault::Call(CallFault::Busy)))
+}
+
+impl Member {
+    /// Takes the least key out of the set: finds it and removes it, and looks for the least one
+    /// again where another worker has removed it in between. `Some(key)`: this call removed it, at
+    /// a moment of it, and of each lesser key there was a moment of this call at which the set did
+    /// not have it. `None`: so of each key. The moments of two keys may differ: so no key is passed
+    /// over that stood all along, and one that was inserted meanwhile may be. Each moment is later
+    /// than all that the worker had seen before.
+    ///
+    /// As `remove` does, it finishes the delete of an earlier call, and collects where so many nodes
+    /// wait. A round that came to nothing is made again, `rounds` times at most. Nothing is pending
+    /// behind an answer, `Busy` and `NoMemory`.
+    ///
+    /// `Held`, `Pending`, `NoMemory`: as `remove` tells them. `Busy`: each round has come to
+    /// nothing, since others have removed the key that was found, or a call has lost each of its
+    /// tries. `Unfinished`: the least key, as above, goes by this call, and is pending; the next
+    /// call that tends the set finishes it first. (The name of Rust's `BTreeSet`.)
+    pub fn pop_first(&mut self, habit: &Habit) -> Result<Option<Key>, Fault>
+        ensures board { self.new.board ≡ self.old.board }
+        ensures says { SaysPopTended ◌<◌ self.old.board habit.now self.old.hand self.new.hand
+            result }
+        ensures did { TendsPopOf ends.First self.old.board habit.now self.old.hand self.new.hand
+            result }
+    {
+        self.pop(End::First, habit)
+    }
+
+    /// Takes the greatest key out of the set: the same as `pop_first`, and each greater key was not
+    /// in the set at a moment of this call.
+    pub fn pop_last(&mut self, habit: &Habit) -> Result<Option<Key>, Fault>
+        ensures board { self.new.board ≡ self.old.board }
+        ensures says { SaysPopTended (λ j key. key < j) self.old.board habit.now self.old.hand
+            self.new.hand result }
+        ensures did { TendsPopOf ends.Last self.old.board habit.now self.old.hand self.new.hand
+            result }
+    {
+        self.pop(End::Last, habit)
+    }
+
+    /// Takes the key at that end.
+    fn pop(&mut self, end: End, habit: &Habit) -> Result<Option<Key>, Fault>
+        ensures board { self.new.board ≡ self.old.board }
+        ensures did { TendsPopOf end self.old.board habit.now self.old.hand self.new.hand result }
+    {
+        if self.held().is_some() {
+            return Err(Fault::Held);
+        }
+        let Ok(_done) = self.finish_again(habit) else {
+            return Err(Fault::Call(CallFault::Pending));
+        };
+        self.pop_in_rounds(end, habit)
+    }
+
+    /// Rounds, until one has not come to nothing.
+    fn pop_in_rounds(&mut self, end: End, habit: &Habit) -> Result<Option<Key>, Fault>
+        ensures board { self.new.board ≡ self.old.board }
+        ensures did { IsAsked (PopsOnce end self.old.board habit.now) pop_busy habit.now.rounds
+            self.old.hand self.new.hand result }
+    {
+        for _round in 0..habit.rounds {
+            let told = self.pop_once(end, habit);
+            if !is_busy(&told) {
+                return told;
+            }
+        }
+        self.pop_once(end, habit)
+    }
+
+    /// Finds the key at that end, and removes it.
+    fn pop_once(&mut self, end: End, habit: &Habit) -> Result<Option<Key>, Fault>
+        ensures board { self.new.board ≡ self.old.board }
+        ensures did { PopsOnce end self.old.board habit.now self.old.hand self.new.hand result }
+    {
+        let Some(key) = self.key_at(end, habit.tries)? else {
+            return Ok(None);
+        };
+        if self.remove(key, habit)? {
+            Ok(Some(key))
+        } else {
+            Err(Fault::Call(CallFault::Busy))
+        }
+    }
+
+    /// The key at that end.
+    fn key_at(&mut self, end: End, tries: u32) -> Result<Option<Key>, Fault>
+        ensures board { self.new.board ≡ self.old.board }
+        ensures did { AskedForEnd end self.old.board.layout tries self.old.hand self.new.hand
+            result }
+    {
+        match end {
+            End::First => self.next(Key::new(0).unwrap(), tries),
+            End::Last => self.prev(Key::new(MOST_KEY).unwrap(), tries),
+        }
+    }
+}

@@ -1,0 +1,17 @@
+use Rattle.std.proofs.Common.{rules, ◌≡◌, ◌∙◌, inr, map, refl, ap}
+use Rattle.std.specs.Prelude.{Ok}
+use Rattle.nm_set_c.specs.Lookups.{lookup_of}
+use Rattle.nm_set_c.proofs.many.contains_many.Goals as goal
+
+pub returns-in-Ok-ask : goal.returns-in-Ok-ask
+returns-in-Ok-ask c = inr (record {
+  asked = c.in-Ok.queries.items;
+  answered = c.ask.new.queries.items;
+  keys = c.in-Ok.ensures.keys;
+  answer = Ok c.in-Ok-ask.field-0;
+  told = refl;
+  board = c.ask.ensures.board;
+  did = c.in-Ok-ask.ensures.did;
+  written = c.write_found.ensures ∙ ap (map lookup_of) (search rules);
+  kept = tt;
+})

@@ -1,0 +1,83 @@
+//! The least and the greatest key are taken, by the handle of a worker.
+#![tactic(auto, using(crate::proofs::Owners::refused_worker, crate::proofs::Owners::told_worker, crate::proofs::Owners::other_worker))]
+
+ghost use Rattle.std.specs.Prelude.{◌≡◌};
+ghost use Rattle.nm_set_c.specs.Handles.{held_by};
+ghost use Rattle.nm_set_c.specs.NextKeys.{DoesPopFirst, DoesPopLast, TellsPopFirst, TellsPopLast};
+ghost use Rattle.nm_set_c.specs.Outcomes.{IsCodeOf};
+ghost use Rattle.nm_set_c.specs.Owners.{OfWorker};
+
+use crate::handle::Handle;
+use crate::next_key::tell_found;
+use crate::outcome::Outcome;
+use crate::owner::Owner;
+use nm_set::{Habit, Member};
+use std::alloc::Global;
+
+/// Takes the least key out of the set: `Member::pop_first` of `nm_set`. `Yes`, and it is written;
+/// `No`, where there is none; `Busy`, `Unfinished`, `Pending`, `Held`, `NoMemory`; `Closed`,
+/// `InUse`, `Kind`.
+#[unsafe(no_mangle)]
+pub extern "C" fn nm_worker_pop_first(
+    alloc: Global,
+    worker: &mut Handle,
+    habit: &Habit,
+    taken: &mut u64,
+) -> i32
+    ensures tells { IsCodeOf (OfWorker (TellsPopFirst habit.now taken.old taken.new)
+        (taken.new ≡ taken.old) (held_by worker.old) (held_by worker.new)) result }
+    ensures did { IsCodeOf (OfWorker (DoesPopFirst habit.now taken.old taken.new)
+        (taken.new ≡ taken.old) (held_by worker.old) (held_by worker.new)) result }
+{
+    let mut owner = match worker.claim(alloc) {
+        Ok(owner) => owner,
+        Err(told) => return told.code(),
+    };
+    let outcome = match &mut *owner {
+        Owner::Worker(member) => pop_first(member, habit, taken),
+        _ => Outcome::Kind,
+    };
+    worker.put(owner);
+    outcome.code()
+}
+
+fn pop_first(member: &mut Member, habit: &Habit, taken: &mut u64) -> Outcome
+    ensures { DoesPopFirst habit.now taken.old taken.new member.old member.new result }
+{
+    let answer = member.pop_first(habit);
+    tell_found(answer, taken)
+}
+
+/// Takes the greatest key out of the set: `Member::pop_last` of `nm_set`. `Yes`, and it is written;
+/// `No`, where there is none; `Busy`, `Unfinished`, `Pending`, `Held`, `NoMemory`; `Closed`,
+/// `InUse`, `Kind`.
+#[unsafe(no_mangle)]
+pub extern "C" fn nm_worker_pop_last(
+    alloc: Global,
+    worker: &mut Handle,
+    habit: &Habit,
+    taken: &mut u64,
+) -> i32
+    ensures tells { IsCodeOf (OfWorker (TellsPopLast habit.now taken.old taken.new)
+        (taken.new ≡ taken.old) (held_by worker.old) (held_by worker.new)) result }
+    ensures did { IsCodeOf (OfWorker (DoesPopLast habit.now taken.old taken.new)
+        (taken.new ≡ taken.old) (held_by worker.old) (held_by worker.new)) result }
+{
+    let mut owner = match worker.claim(alloc) {
+        Ok(owner) => owner,
+        Err(told) => return told.code(),
+    };
+    let outcome = match &mut *owner {
+        Owner::Worker(member) => pop_last(member, habit, taken),
+        _ => Outcome::Kind,
+    };
+    worker.put(owner);
+    outcome.code()
+}
+
+fn pop_last(member: &mut Member, habit: &Habit, taken: &mut u64) -> Outcome
+    ensures { DoesPopLast habit.now taken.old taken.new member.old member.new result }
+{
+    let answer = member.pop_last(habit);
+    tell_found(answer, taken)
+}

@@ -1,0 +1,72 @@
+-- Why a call was busy: who has disturbed it, by the laws of progress.
+use Rattle.std.proofs.Common.{◌≡◌, ◌≤◌, ℕ, sym, ap, subst, ◌∙◌, arith}
+use Rattle.std.specs.Prelude.{Err}
+use Rattle.nm_edge.specs.Layouts.{Layout, IsLayout}
+use Rattle.nm_pool.specs.declared.placement.Fit.{Fit}
+use Rattle.nm_steps.specs.Steps.{Board, Stand, IsOf, IsSamePass, HasSeen, HasSeenAllOf}
+use Rattle.nm_calls.specs.declared.inserting.Fault.TheVariants as lost
+use Rattle.nm_calls.specs.declared.deleting.Missed.TheVariants as missed
+use Rattle.nm_calls.specs.Calls.{HasMissed}
+use Rattle.nm_calls.specs.Inserts.{InsertDid}
+use Rattle.nm_calls.specs.Deletes.{DeleteDid}
+use Rattle.nm_busy.specs.Lookups.{WasBusy}
+use Rattle.nm_busy.specs.Inserts.{WasBusy as InsertWasBusy}
+use Rattle.nm_busy.specs.Deletes.{WasBusy as DeleteWasBusy}
+use Rattle.nm_busy.specs.Alone.{IsAlone}
+use Rattle.nm_busy.specs.Pending.{NonePends}
+use Rattle.nm_busy.proofs.AloneCalls.{lookups_alone_are_answered, inserts_alone_are_answered, deletes_alone_are_not_busy}
+use Rattle.nm_busy.proofs.LostLookups.{busy_lookups_were_disturbed}
+use Rattle.nm_busy.proofs.BareLinks.{busy_inserts_were_lost}
+use Rattle.nm_busy.proofs.BareFlags.{busy_deletes_were_lost}
+
+-- of a tree and a worker whose insides are b and o, a call that ends at q
+module _ (b d : Board) (o p q : Stand) (k tries : ℕ) (board : b ≡ d) (at : o ≡ p) (seen : HasSeen o.view) (after : HasSeen q.view) (fits : IsLayout o.view.layout) (same : IsSamePass o q) (past : HasSeenAllOf q o) where
+  enough : 5 ≤ o.view.layout.nodes
+  enough = let least = fits.least in omega (arith, least)
+
+  layouts : IsOf d p → o.view.layout ≡ b.layout
+  layouts own = ap (λ (x : Stand). x.view.layout) at ∙ (own.layout ∙ ap (λ (x : Board). x.layout) (sym board))
+
+  -- nothing was pending by what o had seen
+  rested : IsOf d p → NonePends d.layout p.view.past → NonePends o.view.layout o.view.past
+  rested own none =
+      subst (λ (L : Layout). NonePends L o.view.past) (sym (layouts own ∙ ap (λ (x : Board). x.layout) board))
+      (subst (λ (x : Stand). NonePends d.layout x.view.past) (sym at) none)
+
+  pub lookup_disturbed : IsOf d p → HasMissed b.layout tries k o.view.log q.view.log → WasBusy p q tries
+  lookup_disturbed own did =
+      let layout = layouts own in
+      subst (λ (x : Stand). WasBusy x q tries) at
+      (busy_lookups_were_disturbed k tries o q seen after enough same past (subst (λ (L : Layout). HasMissed L tries k o.view.log q.view.log) (sym layout) did))
+
+  pub insert_disturbed : (f g : Fit) → f ≡ g → InsertDid f b.layout tries k o.view.log q.view.log (Err lost.Busy) → InsertWasBusy g d.layout k p q tries
+  insert_disturbed f g fit did =
+      subst (λ (x : Stand). InsertWasBusy g d.layout k x q tries) at (subst (λ (x : Board). InsertWasBusy g x.layout k o q tries) board (subst (λ (h : Fit). InsertWasBusy h b.layout k o q tries) fit
+      (busy_inserts_were_lost f b.layout k tries o q seen after enough same past did)))
+
+  pub delete_disturbed : DeleteDid b.layout tries k o.view.log q.view.log (Err missed.Busy) → DeleteWasBusy d.layout k p q tries
+  delete_disturbed did =
+      subst (λ (x : Stand). DeleteWasBusy d.layout k x q tries) at (subst (λ (x : Board). DeleteWasBusy x.layout k o q tries) board
+      (busy_deletes_were_lost b.layout k tries o q seen after enough same past did))
+
+  -- ---- alone
+
+  abbrev Alone : Type 0
+  Alone = IsAlone p q
+
+  mine : Alone → IsAlone o q
+  mine alone = subst (λ (x : Stand). IsAlone x q) (sym at) alone
+
+  pub lookup_alone : IsOf d p → Alone → HasMissed b.layout tries k o.view.log q.view.log → tries ≡ 0
+  lookup_alone own alone did =
+      lookups_alone_are_answered k tries o q seen after enough same past (mine alone) (subst (λ (L : Layout). HasMissed L tries k o.view.log q.view.log) (sym (layouts own)) did)
+
+  pub insert_alone : IsOf d p → (f : Fit) → Alone → NonePends d.layout p.view.past → InsertDid f b.layout tries k o.view.log q.view.log (Err lost.Busy) → tries ≡ 0
+  insert_alone own f alone none did =
+      inserts_alone_are_answered f k tries o q seen after enough same past (mine alone) (rested own none)
+      (subst (λ (L : Layout). InsertDid f L tries k o.view.log q.view.log (Err lost.Busy)) (sym (layouts own)) did)
+
+  pub delete_alone : IsOf d p → Alone → NonePends d.layout p.view.past → DeleteDid b.layout tries k o.view.log q.view.log (Err missed.Busy) → tries ≡ 0
+  delete_alone own alone none did =
+      deletes_alone_are_not_busy k tries o q seen after enough same past (mine alone) (rested own none)
+      (subst (λ (L : Layout). DeleteDid L tries k o.view.log q.view.log (Err missed.Busy)) (sym (layouts own)) did)

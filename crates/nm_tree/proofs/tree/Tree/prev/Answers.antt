@@ -1,0 +1,48 @@
+use Rattle.std.proofs.Common.{rules, ◌≡◌, ap, sym, subst, ◌∙◌}
+use Rattle.nm_steps.specs.Steps.{Board}
+use Rattle.nm_steps.proofs.Seeing.{seen_all}
+use Rattle.nm_calls.specs.PrevKeys.{GiveUp}
+use Rattle.nm_tree.specs.declared.worker.Standing.TheVariants as standing
+use Rattle.nm_tree.specs.Looked.{WasMissed}
+use Rattle.nm_tree.specs.Workers.{Hand}
+use Rattle.nm_tree.proofs.Missing.{was_missed}
+use Rattle.nm_tree.proofs.Quiet.{quiet_so}
+use Rattle.nm_tree.proofs.Staying.{stays, resting_in, rests_in, rests_as, free_in}
+use Rattle.nm_tree.proofs.tree.Tree.prev.Goals as goal
+use Rattle.nm_tree.proofs.tree.Tree.prev.Goals.{in-Ok, in-Err}
+
+resting : (c : goal.Joined-prev) → c.worker.inside.standing ≡ standing.Resting
+resting c = resting_in c.worker.inside.standing (ap (λ (w : Hand). w.held) c.worker.view_is ∙ c.requires.free) c.in_default.not-Pending
+
+pub invariant_of-worker : goal.invariant_of-worker
+invariant_of-worker c =
+    let was = rests_in c.worker.inside.pass c.worker.inside.standing (resting c) c.worker.invariant.between.stands in
+    stays _ _ c.worker.inside.home c.prev.new.pass _ _ c.worker.invariant c.prev.ensures.same (quiet_so _ _ c.prev.ensures.won c.prev.ensures.uncut)
+    c.prev.ensures.hands.private (c.prev.ensures.hands.ledgers was.labelled)
+    (rests_as c.prev.new.pass c.worker.inside.standing (resting c) c.prev.ensures.rests)
+
+pub returns : goal.returns
+returns c = record {
+  same = search rules;
+  past = search (rules, seen_all);
+  did = (
+      elim c.match-prev.branch [
+        | in-Ok w ↦ rw (w.result-is, ← c.worker.view_is, ← c.self.view_is) (free_in c.worker.inside.standing (resting c), w.in-Ok.ensures.did)
+        | in-Err w ↦ rw (w.result-is, ← c.worker.view_is, ← c.self.view_is) (free_in c.worker.inside.standing (resting c), w.in-Err.ensures.missed)
+      ]
+      );
+  disturbed = λ is. (
+      elim c.match-prev.branch [
+        | in-Ok w ↦ absurd (let both = sym w.result-is ∙ is in cc)
+        | in-Err w ↦ subst (λ (b : Board). WasMissed (GiveUp b.layout c.args.tries c.args.key) c.args.tries c.args.worker.now.pass c.prev.new.pass) c.self.view_is
+            (was_missed (GiveUp c.self.inside.shared.layout c.args.tries c.args.key) c.args.tries c.worker.inside.pass c.args.worker.now.pass c.prev.new.pass (ap (λ (x : Hand). x.pass) c.worker.view_is)
+            c.is_of_a_run.ensures.seen w.is_of_a_run-in-Err.ensures.seen c.is_of_a_run.ensures.fits c.prev.ensures.same c.prev.ensures.past w.in-Err.ensures.missed)
+      ]
+      );
+  moment = search rules;
+  won = search rules;
+  steps = search rules;
+  queues = search rules;
+  held = search rules;
+  fit = search rules;
+}

@@ -1,0 +1,125 @@
+-- The least or the greatest key is taken out of a set that others change.
+use Rattle.std.specs.Prelude.{◌≡◌, ◌⊎◌, ◌+◌, ◌-◌, ◌*◌, ◌^◌, ◌≤◌, ◌<◌, ℕ, zero, suc, true, false, length, Option, Some, None, Result, Ok, Err, IfOk}
+use Rattle.nm_edge.specs.Keys.{IsKey}
+use Rattle.nm_edge.specs.Layouts.{Layout}
+use Rattle.nm_model.specs.declared.event.Op.TheVariants.{Delete}
+use Rattle.nm_steps.specs.Steps.{Stand, IsSamePass, HasSeenAllOf}
+use Rattle.nm_calls.specs.Bounds.{chain_bound, reach}
+use Rattle.nm_calls.specs.Moments.{AnswerHasMoment}
+use Rattle.nm_calls.specs.PlainWalks.{WasSo}
+use Rattle.nm_calls.specs.Won.{HasWon}
+use Rattle.nm_calls.specs.declared.deleting.Unfinished.{Unfinished}
+use Rattle.nm_tree.specs.declared.fault.Fault.{Fault}
+use Rattle.nm_tree.specs.declared.fault.Fault.TheVariants as fault
+use Rattle.nm_tree.specs.declared.popping.End.{End}
+use Rattle.nm_tree.specs.declared.popping.End.TheVariants.{First, Last}
+use Rattle.nm_tree.specs.Answers.{IsPendingStill, IsFree, LacksRoom}
+use Rattle.nm_tree.specs.Calls.{LeavesNext, LeavesPrev, LeavesDelete}
+use Rattle.nm_tree.specs.Workers.{Hand, KeepsOtherQueues, TakeRoom}
+
+-- ---- what is told of keys
+
+-- keys are taken in this order: the least first, or the greatest
+abbrev pub comes_before : End → ℕ → ℕ → Type 0
+comes_before First j key = j < key
+comes_before Last j key = key < j
+
+-- each key before this one was not in the set at a moment of its own
+abbrev pub WereMissing : (ℕ → ℕ → Type 0) → Stand → Stand → ℕ → Type 0
+WereMissing Before p q key = (j : ℕ) → IsKey j → Before j key → WasSo p q j false
+
+-- a key was deleted at a moment of the call, and each key before it was not in the set at a moment
+-- of its own; or so of each key
+abbrev pub Takes : (ℕ → ℕ → Type 0) → Stand → Stand → Option ℕ → Type 0
+Takes Before p q (Some key) =
+    IsKey key × AnswerHasMoment p q Delete key true × WereMissing Before p q key
+Takes Before p q None = (j : ℕ) → IsKey j → WasSo p q j false
+
+-- ---- what such a call tells of its worker
+
+-- what a delete tells; where that is not finished, of the key that is pending: it was in the set at
+-- a moment of the call, and each key before it was not
+abbrev pub PopTold : (ℕ → ℕ → Type 0) → Hand → Hand → Result (Option ℕ) Fault → Type 0
+PopTold Before w z (Ok taken) = IsFree w z
+PopTold Before w z (Err fault.Busy) = IsFree w z
+PopTold Before w z (Err fault.NoMemory) = IsFree w z × LacksRoom z
+PopTold Before w z (Err fault.Unfinished) =
+    (w.pending ≡ None) × (n : Unfinished) × (z.pending ≡ Some n) × IsKey n.key
+    × WasSo w.pass z.pass n.key true × WereMissing Before w.pass z.pass n.key
+PopTold Before w z (Err fault.Pending) = IsPendingStill w z
+PopTold Before w z (Err fault.Full) = ⊥
+
+-- the flags that it has won, by its answer: one where a key was taken, or is pending
+abbrev pub flags_popped : Result (Option ℕ) Fault → ℕ
+flags_popped (Ok (Some key)) = 1
+flags_popped (Ok None) = 0
+flags_popped (Err fault.Unfinished) = 1
+flags_popped (Err _) = 0
+
+-- how many steps it makes at most: in each round those of a call that finds a key, and of a delete
+abbrev pub pop_bound : Layout → ℕ → ℕ
+pop_bound L tries = tries * (tries * (7 * reach L + 8 * chain_bound + 4) + 12)
+
+-- what a caller has of a call that takes a key, by its answer, as `SaysDelete` of a delete
+pub record SaysPop (Before : ℕ → ℕ → Type 0) (L : Layout) (tries : ℕ) (w z : Hand)
+    (r : Result (Option ℕ) Fault) : Type 0 where
+  pub same : IsSamePass w.pass z.pass
+  pub past : HasSeenAllOf z.pass w.pass
+  pub told : PopTold Before w z r
+  pub took : IfOk r (Takes Before w.pass z.pass)
+  pub won : HasWon w.pass.view.log z.pass.view.log 0 (flags_popped r)
+  pub steps : length z.pass.view.log ≤ length w.pass.view.log + pop_bound L tries
+  pub queues : KeepsOtherQueues w.pass.view.number w.queues z.queues
+  pub blocks : TakeRoom w.queues z.queues
+  pub held : z.held ≡ None
+  pub fit : z.fit ≡ w.fit
+
+-- ---- how it is done
+
+-- the call that finds the key which is to be taken
+abbrev pub Finds : End → Layout → ℕ → Hand → Hand → Result (Option ℕ) Fault → Type 0
+Finds First L tries = LeavesNext L tries 0
+Finds Last L tries = LeavesPrev L tries (2 ^ 64 - 4)
+
+-- so many rounds in a row came too late: the key that was found was not there to be deleted
+abbrev pub LosesRounds : End → Layout → ℕ → ℕ → Hand → Hand → Type 0
+LosesRounds end L tries zero w z = z ≡ w
+LosesRounds end L tries (suc n) w z =
+    (x y : Hand) × (key : ℕ) × LosesRounds end L tries n w x
+    × Finds end L tries x y (Ok (Some key)) × LeavesDelete L tries key y z (Ok false)
+
+-- the last round: no key was found, or the one that was is deleted; or one of both calls was not
+-- answered
+abbrev pub EndsRound : End → Layout → ℕ → Hand → Hand → Result (Option ℕ) Fault → Type 0
+EndsRound end L tries w z (Ok None) = Finds end L tries w z (Ok None)
+EndsRound end L tries w z (Ok (Some key)) =
+    (y : Hand) × Finds end L tries w y (Ok (Some key)) × LeavesDelete L tries key y z (Ok true)
+EndsRound end L tries w z (Err f) = Finds end L tries w z (Err f)
+    ⊎ ((y : Hand) × (key : ℕ) × Finds end L tries w y (Ok (Some key))
+    × LeavesDelete L tries key y z (Err f))
+
+-- fewer rounds than there may be came too late, and then there was the last one; or all came too
+-- late
+abbrev pub GoesInRounds : End → Layout → ℕ → Hand → Hand → Result (Option ℕ) Fault → Type 0
+GoesInRounds end L tries w z r =
+    ((n : ℕ) × (x : Hand) × (n < tries) × LosesRounds end L tries n w x
+    × EndsRound end L tries x z r)
+    ⊎ (LosesRounds end L tries tries w z × (r ≡ Err fault.Busy))
+
+-- a key was pending, and nothing has changed; or none was, and there were such rounds
+abbrev pub HasPopped : End → Layout → ℕ → Hand → Hand → Result (Option ℕ) Fault → Type 0
+HasPopped end L tries w z r = (IsPendingStill w z × (r ≡ Err fault.Pending))
+    ⊎ ((w.pending ≡ None) × GoesInRounds end L tries w z r)
+
+-- `LeavesPop`: what a caller has, and how it was done; `LeavesPopFirst`, `LeavesPopLast`: of the
+-- least key, and of the greatest
+pub record LeavesPop (end : End) (L : Layout) (tries : ℕ) (w z : Hand)
+    (r : Result (Option ℕ) Fault) : Type 0 where
+  pub says : SaysPop (comes_before end) L tries w z r
+  pub did : HasPopped end L tries w z r
+
+abbrev pub LeavesPopFirst : Layout → ℕ → Hand → Hand → Result (Option ℕ) Fault → Type 0
+LeavesPopFirst = LeavesPop First
+
+abbrev pub LeavesPopLast : Layout → ℕ → Hand → Hand → Result (Option ℕ) Fault → Type 0
+LeavesPopLast = LeavesPop Last
