@@ -13,6 +13,7 @@ use Rattle.nm_edge.specs.declared.edge.Side.TheVariants.{Left}
 use Rattle.nm_model.specs.declared.event.Event.{Event}
 use Rattle.nm_model.specs.declared.event.Event.TheVariants.{SightFor, Look, Link, Flag, Tag, Splice}
 use Rattle.nm_model.specs.declared.event.Field.TheVariants.{Edge as EdgeOn}
+use Rattle.nm_model.specs.declared.event.Op.{Op}
 use Rattle.nm_model.specs.declared.event.Op.TheVariants.{Insert, Delete}
 use Rattle.nm_model.specs.declared.reply.Reply.{Reply}
 use Rattle.nm_model.specs.declared.reply.Reply.TheVariants.{EdgeIs}
@@ -20,7 +21,8 @@ use Rattle.nm_model.specs.declared.reply.Refused.{Refused}
 use Rattle.nm_model.specs.declared.trace.Turn.{Turn}
 use Rattle.nm_model.specs.Memory.{edge}
 use Rattle.nm_model.specs.Paths.{Reached}
-use Rattle.nm_model.specs.Runs.{State, reply_of}
+use Rattle.nm_model.specs.Knowledge.{Knowledge}
+use Rattle.nm_model.specs.Runs.{State, of, reply_of}
 use Rattle.nm_model.specs.Step.{reply}
 use Rattle.nm_model.specs.Walks.{Entry, logged_by, begins_anew}
 use Rattle.nm_model.specs.Ordered.{Configuration, ordered, next_in, outcome_in, after_in, trace_in}
@@ -28,45 +30,50 @@ use Rattle.nm_laws.proofs.Pictures.{IsLive, reached_live}
 use Rattle.nm_laws.proofs.TreeSteps.{Lawful}
 use Rattle.nm_laws.proofs.Views.{picture}
 use Rattle.nm_order.specs.Intervals.{HasKey}
-use Rattle.nm_order.specs.Logs.{is_leaver, part_of, IsLogOf}
+use Rattle.nm_order.specs.Logs.{is_leaver, part_of, known_after, known_by, IsLogOf}
+use Rattle.nm_order.proofs.PartsOfRuns.{logs_tell}
 use Rattle.nm_order.proofs.OrderedLaws.{IsOrdered, ordered_next, each_ordered, law_of_state}
 use Rattle.nm_order.proofs.RunExchanges.{first_keys}
 use Rattle.nm_order.proofs.WalksOfRuns.{trace_in-append, all_before, all_behind}
 use Rattle.nm_order.proofs.PendingLeaves.{each_flagged_leaf_is_pending}
 use Rattle.nm_pool.specs.declared.placement.Fit.{Fit}
-use Rattle.nm_steps.specs.Steps.{Stand}
+use Rattle.nm_steps.specs.Steps.{Stand, IsSamePass, HasSeen}
 use Rattle.nm_calls.specs.PlainWalks.{events_of}
 use Rattle.nm_calls.proofs.PlainLooks.{as_events, events_go_on}
 use Rattle.nm_epoch.specs.Tries.{LostTries, IsPinnedBy}
 use Rattle.nm_calls.specs.declared.making.Fork.{Fork}
 use Rattle.nm_calls.specs.declared.spot.ChainEdge.{ChainEdge}
 use Rattle.nm_calls.specs.declared.spot.Spot.{Spot}
-use Rattle.nm_calls.specs.Walks.{Walks}
-use Rattle.nm_progress.specs.Changes.{is_bare}
+use Rattle.nm_calls.specs.declared.spot.End.{End}
+use Rattle.nm_calls.specs.declared.inserting.Fault.TheVariants as fault
+use Rattle.nm_calls.specs.declared.deleting.Missed.TheVariants as missed
+use Rattle.nm_calls.specs.Walks.{Walks, IsBroken}
+use Rattle.nm_calls.specs.Inserts.{LostInserts, InsertDid}
+use Rattle.nm_calls.specs.Deletes.{LostFlags, DeleteDid}
+use Rattle.nm_progress.specs.Changes.{is_bare, Expects}
+use Rattle.nm_progress.specs.Changes.Expects.{ToLink, ToFlag}
 use Rattle.nm_progress.specs.Moves.{number_of, moves, moves_of_others}
 use Rattle.nm_progress.specs.Paid.{links_on, flags_on, cuts_on, tags_on}
-use Rattle.nm_progress.specs.Tries.{changes_edge, changes_of_others, reshapes_of_others}
+use Rattle.nm_progress.specs.Tries.{changes_edge, hinders, losing, reshapes_of_others}
 use Rattle.nm_progress.proofs.LostTries.{later_keys}
-use Rattle.nm_progress.proofs.MoreTries.{is_loud, Plain, log_prefix}
+use Rattle.nm_progress.proofs.MoreTries.{is_loud, Plain, plain_these, plain_then, log_prefix}
 use Rattle.nm_progress.proofs.Reshapes.{is_reshape, calm_turns}
 use Rattle.nm_progress.proofs.SplicesPaid.{FlagOrigin, flag_origin}
 use Rattle.nm_progress.proofs.SplicesPaid.FlagOrigin.{Before, Now}
-use Rattle.nm_progress.proofs.SplitTurns.{SplitTurn, split_turn, ordered_after, number_split}
+use Rattle.nm_progress.proofs.SplitTurns.{SplitTurn, split_turn, ordered_after, part_teaches, number_split}
+use Rattle.nm_progress.proofs.CountedTries.{known_longer}
 use Rattle.nm_order.specs.Totals.{NothingIsPending}
 use Rattle.nm_busy.specs.Pending.{NonePends}
 use Rattle.nm_busy.proofs.PendingTurns.{nothing_is_pending}
-use Rattle.nm_busy.specs.Alone.{LookupsAloneAreAnswered, InsertsAloneAreAnswered, DeletesAloneAreNotBusy}
-use Rattle.nm_busy.specs.Inserts.{IsBluntTry, LosesInserts, WasLost}
-use Rattle.nm_busy.specs.Inserts.LosesInserts.{NoInsert, Bare, Blunt}
-use Rattle.nm_busy.specs.Deletes.{IsBluntFlag, LosesFlags, WasLost as DeleteWasLost}
-use Rattle.nm_busy.specs.Deletes.LosesFlags.{NoFlag, Bare as BareFlag, Blunt as BluntFlag}
+use Rattle.nm_busy.specs.Alone.{IsAlone, LookupsAloneAreAnswered, InsertsAloneAreAnswered, DeletesAloneAreNotBusy}
 use Rattle.nm_busy.specs.Lookups.{WasReshaped}
 use Rattle.nm_busy.specs.Pins.{WasMovedPast}
 use Rattle.nm_busy.proofs.LostPins.{part-append}
 use Rattle.nm_busy.proofs.LostLookups.{busy_lookups_were_disturbed}
-use Rattle.nm_busy.proofs.BareLinks.{blunt_longer, claims_longer, busy_inserts_were_lost}
-use Rattle.nm_busy.proofs.BareFlags.{blunt_flag_longer, busy_deletes_were_lost}
-use Rattle.nm_busy.proofs.Parts.{Longer, longer_these, longer_then, reads_longer, help_longer}
+use Rattle.nm_busy.proofs.Hindered.{Hinders}
+use Rattle.nm_busy.proofs.HinderedTries.{IsLostInsert, IsLostFlag, insert_longer, flag_longer, link_plain, flag_plain, bare_at}
+use Rattle.nm_busy.proofs.HinderedCalls.{moved}
+use Rattle.nm_busy.proofs.Parts.{Longer, longer_these, longer_then, longer_none, plain_longer, reads_longer, help_longer, returns_longer}
 use Rattle.nm_busy.proofs.WalkReads.{WalkRead, walk_read, onto_parent}
 use Rattle.nm_busy.proofs.Astray.{SplitPart, split_part, walk_plain, OnPath, walk_path, not_too_long}
 
@@ -141,12 +148,12 @@ mute_then old mid new a b = record {
   mute = list_any-append is_edge_change a.entries b.entries ∙ (ap (λ (x : Bool). x || list_any is_edge_change b.entries) a.mute ∙ b.mute);
 }
 
-pins_mute : (k n : ℕ) (old new : List Entry) → LostTries (SightFor Insert k) n old new → Mute old new
-pins_mute k zero old new is = mute_these [] old new refl (is ∙ sym (append-nil old))
-pins_mute k (suc n) old new h = mute_then old h.0 new (pins_mute k n old h.0 h.1) (mute_then h.0 _ new (mute_these _ h.0 _ refl refl) (mute_these _ _ new refl h.2.2))
+pins_mute : (op : Op) (k n : ℕ) (old new : List Entry) → LostTries (SightFor op k) n old new → Mute old new
+pins_mute op k zero old new is = mute_these [] old new refl (is ∙ sym (append-nil old))
+pins_mute op k (suc n) old new h = mute_then old h.0 new (pins_mute op k n old h.0 h.1) (mute_then h.0 _ new (mute_these _ h.0 _ refl refl) (mute_these _ _ new refl h.2.2))
 
-pin_mute : (k tries : ℕ) (old new : List Entry) (epoch : ℕ) → IsPinnedBy (SightFor Insert k) tries old new epoch → Mute old new
-pin_mute k tries old new epoch h = mute_then old _ new (mute_these _ old _ refl refl) (mute_then _ h.2 new (pins_mute k h.1 _ h.2 h.4) (mute_then h.2 _ new (mute_these _ h.2 _ refl refl) (mute_these _ _ new refl h.5.1)))
+pin_mute : (op : Op) (k tries : ℕ) (old new : List Entry) (epoch : ℕ) → IsPinnedBy (SightFor op k) tries old new epoch → Mute old new
+pin_mute op k tries old new epoch h = mute_then old _ new (mute_these _ old _ refl refl) (mute_then _ h.2 new (pins_mute op k h.1 _ h.2 h.4) (mute_then h.2 _ new (mute_these _ h.2 _ refl refl) (mute_these _ _ new refl h.5.1)))
 
 -- ---- turns that change no edge
 
@@ -186,6 +193,25 @@ mute_turns w c (t ∷ ts) own mute = go (outcome_in c t) mute (mute_turns w (nex
         skip : (b : Bool) → list_any is_edge_change (cond b [] [] ++ part_of w (trace_in (next_in c t) ts)) ≡ false → list_any is_edge_change (part_of w (trace_in (next_in c t) ts)) ≡ false
         skip true is = is
         skip false is = is
+
+-- fewer turns hinder a worker than change an edge
+hinders_too : (w : ℕ) (turns : List Turn) → number_of (hinders w) turns ≤ number_of changes_turn turns
+hinders_too w [] = omega arith
+hinders_too w (t ∷ ts) = by (t.worker == w) (links_on t.event t.outcome) (flags_on t.event t.outcome) (cuts_on t.event t.outcome) (tags_on t.event t.outcome) (hinders_too w ts)
+  where
+    by : (o a b c d : Bool) → number_of (hinders w) ts ≤ number_of changes_turn ts → cond (cond o (c || d) (a || (b || (c || d)))) 1 0 + number_of (hinders w) ts ≤ cond (a || (b || (c || d))) 1 0 + number_of changes_turn ts
+    by false a b c d rest = omega (arith, rest)
+    by true true b c d rest = few (c || d)
+      where
+        few : (x : Bool) → cond x 1 0 + number_of (hinders w) ts ≤ 1 + number_of changes_turn ts
+        few true = omega (arith, rest)
+        few false = omega (arith, rest)
+    by true false true c d rest = few (c || d)
+      where
+        few : (x : Bool) → cond x 1 0 + number_of (hinders w) ts ≤ 1 + number_of changes_turn ts
+        few true = omega (arith, rest)
+        few false = omega (arith, rest)
+    by true false false c d rest = omega (arith, rest)
 
 -- fewer turns reshape the tree than change an edge
 calm_too : (turns : List Turn) → number_of is_reshape turns ≤ number_of changes_turn turns
@@ -287,298 +313,177 @@ module _ (L : Layout) (enough : 5 ≤ L.nodes) where
                 told : edge (after_in c a.before).state.memory s.parent s.side ≡ s.edge
                 told = look_edge (after_in c a.before).state a.turn.0 s.parent s.side s.edge (ap (reply_of (after_in c a.before).state a.turn.0) (sym (ap (λ (k : Entry). k.0) a.is_entry)) ∙ ap (λ (k : Entry). k.1) a.is_entry)
 
--- ---- the first try of an insert
+-- ---- a call alone, by what p and q have seen
 
-record FirstBlunt (fit : Fit) (M : Layout) (k : ℕ) (old new : List Entry) : Type 0 where
-  fork : Option Fork
-  mid : List Entry
-  try : IsBluntTry fit M k None fork old mid
-  behind : Longer mid new
-
-at_first : (fit : Fit) (M : Layout) (k bare blunt : ℕ) (f g : Option Fork) (old mid new : List Entry) → bare ≡ 0 → blunt ≡ 0 → LosesInserts fit M k bare blunt f old mid → IsBluntTry fit M k f g mid new → FirstBlunt fit M k old new
-at_first fit M k _ _ _ g old mid new none less (NoInsert is) try = record { fork = g; mid = new; try = subst (λ (l : List Entry). IsBluntTry fit M k None g l new) is try; behind = longer_these [] new new (sym (append-nil new)) }
-at_first fit M k _ _ _ g old mid new none less (Bare bare blunt f h log before one) try = absurd (omega (arith, none))
-at_first fit M k _ _ _ g old mid new none less (Blunt bare blunt f h log before one) try = absurd (omega (arith, less))
-
-first_blunt : (fit : Fit) (M : Layout) (k bare blunt : ℕ) (g : Option Fork) (old new : List Entry) → LosesInserts fit M k bare blunt g old new → bare ≡ 0 → blunt ≢ 0 → FirstBlunt fit M k old new
-first_blunt fit M k _ _ _ old new (NoInsert is) none some = absurd (some refl)
-first_blunt fit M k _ _ _ old new (Bare bare blunt f g mid before try) none some = absurd (omega (arith, none))
-first_blunt fit M k _ _ _ old new (Blunt bare zero f g mid before try) none some = at_first fit M k bare 0 f g old mid new none refl before try
-first_blunt fit M k _ _ _ old new (Blunt bare (suc blunt) f g mid before try) none some =
-    let first = first_blunt fit M k bare (suc blunt) f old mid before none (λ z. absurd (omega (arith, z))) in
-    record { fork = first.fork; mid = first.mid; try = first.try; behind = longer_then first.mid mid new first.behind (blunt_longer fit M k f g mid new try) }
-
--- the turns of a walk behind the pin, by worker w alone
+-- the turns of a part of it, by worker w alone
 record AloneWalk (L : Layout) (w : ℕ) (begun walked : List Entry) : Type 0 where
   from : Configuration
   is_ordered : IsOrdered L from
   is_clean : Clean from
+  knows : of from.state w ≡ known_by L w begun
   turns : List (ℕ × Event)
   has_keys : All (λ t. HasKey t.1) turns
   calm : number_of changes_turn (trace_in from turns) ≡ 0
   is_walk : begun ++ part_of w (trace_in from turns) ≡ walked
 
+module _ (p q : Stand) (seen_p : HasSeen p.view) (seen_q : HasSeen q.view) (enough : 5 ≤ p.view.layout.nodes) (same : IsSamePass p q) (alone : IsAlone p q) (rests : NonePends p.view.layout p.view.past) where
+  number : p.view.number ≡ q.view.number
+  number = sym (ap (λ (s : Stand). s.view.number) same)
+
+  layout : p.view.layout ≡ q.view.layout
+  layout = sym (ap (λ (s : Stand). s.view.layout) same)
+
+  keys : All (λ t. HasKey t.1) ((events_of p.view.past) ++ (events_of alone.turns))
+  keys = subst (λ (l : List (ℕ × Event)). All (λ t. HasKey t.1) l) (events_go_on q.view.past p.view.past (record { more = alone.turns; is = alone.is })) (as_events q.view seen_q).keys
+
+  past_keys : All (λ t. HasKey t.1) (events_of p.view.past)
+  past_keys = first_keys (events_of p.view.past) (events_of alone.turns) keys
+
+  is_new : part_of p.view.number (trace_in (ordered p.view.layout) ((events_of p.view.past) ++ (events_of alone.turns))) ≡ q.view.log
+  is_new = ap (λ (l : List (ℕ × Event)). part_of p.view.number (trace_in (ordered p.view.layout) l)) (sym (events_go_on q.view.past p.view.past (record { more = alone.turns; is = alone.is }))) ∙ ((λ i. part_of (number i) (trace_in (ordered (layout i)) (events_of q.view.past))) ∙ (as_events q.view seen_q).is_part)
+
+  log_q : IsLogOf p.view.layout p.view.number q.view.log
+  log_q = record { worker = seen_p.worker; turns = (events_of p.view.past) ++ (events_of alone.turns); keys = keys; is_part = is_new }
+
+  pends_not : NothingIsPending p.view.layout (events_of p.view.past)
+  pends_not = nothing_is_pending p.view.layout enough (events_of p.view.past) past_keys (subst (NonePends p.view.layout) (as_events p.view seen_p).are rests)
+
+  o : IsOrdered p.view.layout (after_in (ordered p.view.layout) (events_of p.view.past))
+  o = each_ordered p.view.layout enough (events_of p.view.past) past_keys
+
+  clean : Clean (after_in (ordered p.view.layout) (events_of p.view.past))
+  clean y g r = false_from_ne_true _ (λ flag. let n = each_flagged_leaf_is_pending p.view.layout enough (events_of p.view.past) past_keys y g r flag in pends_not n.worker n.key n.flag)
+
+  whole : p.view.log ++ part_of p.view.number (trace_in (after_in (ordered p.view.layout) (events_of p.view.past)) (events_of alone.turns)) ≡ q.view.log
+  whole = ap (λ (l : List Entry). l ++ part_of p.view.number (trace_in (after_in (ordered p.view.layout) (events_of p.view.past)) (events_of alone.turns))) (sym (as_events p.view seen_p).is_part)
+      ∙ (sym (part-append p.view.number (trace_in (ordered p.view.layout) (events_of p.view.past)) (trace_in (after_in (ordered p.view.layout) (events_of p.view.past)) (events_of alone.turns))) ∙ (ap (part_of p.view.number) (sym (trace_in-append (ordered p.view.layout) (events_of p.view.past) (events_of alone.turns))) ∙ is_new))
+
+  own_parts : (xs ys : List (ℕ × Event)) → All (λ t. t.0 ≡ p.view.number) (xs ++ ys) → All (λ t. t.0 ≡ p.view.number) xs × All (λ t. t.0 ≡ p.view.number) ys
+  own_parts xs ys all = (all_before (λ t. t.0 ≡ p.view.number) xs ys all, all_behind (λ t. t.0 ≡ p.view.number) xs ys all)
+
+  alone_walk : (begun walked : List Entry) → Mute p.view.log begun → Plain begun walked → Longer walked q.view.log → AloneWalk p.view.layout p.view.number begun walked
+  alone_walk begun walked pin walk rest = made (split_part p.view.number pin.entries (after_in (ordered p.view.layout) (events_of p.view.past)) (events_of alone.turns) (walk.entries ++ rest.entries) parts)
+    where
+      parts : part_of p.view.number (trace_in (after_in (ordered p.view.layout) (events_of p.view.past)) (events_of alone.turns)) ≡ pin.entries ++ (walk.entries ++ rest.entries)
+      parts = append_cancel_left p.view.log _ _ (whole ∙ (rest.are ∙ (ap (λ (l : List Entry). l ++ rest.entries) (walk.are ∙ ap (λ (l : List Entry). l ++ walk.entries) pin.are)
+          ∙ (append_assoc (p.view.log ++ pin.entries) walk.entries rest.entries ∙ append_assoc p.view.log pin.entries (walk.entries ++ rest.entries)))))
+
+      made : SplitPart p.view.number (after_in (ordered p.view.layout) (events_of p.view.past)) (events_of alone.turns) pin.entries (walk.entries ++ rest.entries) → AloneWalk p.view.layout p.view.number begun walked
+      made s = inner (split_part p.view.number walk.entries (after_in (after_in (ordered p.view.layout) (events_of p.view.past)) s.before) s.since rest.entries s.is_since)
+        where
+          own : All (λ t. t.0 ≡ p.view.number) s.before × All (λ t. t.0 ≡ p.view.number) s.since
+          own = own_parts s.before s.since (subst (λ (l : List (ℕ × Event)). All (λ t. t.0 ≡ p.view.number) l) s.is_run (own_events p.view.number alone.turns alone.own))
+
+          more_keys : All (λ t. HasKey t.1) (s.before ++ s.since)
+          more_keys = subst (λ (l : List (ℕ × Event)). All (λ t. HasKey t.1) l) s.is_run (later_keys (events_of p.view.past) (events_of alone.turns) keys)
+
+          first : All (λ t. HasKey t.1) s.before
+          first = first_keys s.before s.since more_keys
+
+          known : of (after_in (after_in (ordered p.view.layout) (events_of p.view.past)) s.before).state p.view.number ≡ known_by p.view.layout p.view.number begun
+          known = part_teaches p.view.number p.view.layout enough s.before first (after_in (ordered p.view.layout) (events_of p.view.past)) o ∙ (ap (known_after p.view.number (of (after_in (ordered p.view.layout) (events_of p.view.past)).state p.view.number)) s.is_before
+              ∙ (ap (λ (k : Knowledge). known_after p.view.number k pin.entries) (logs_tell p.view.layout (events_of p.view.past) p.view.number seen_p.worker ∙ ap (known_by p.view.layout p.view.number) (as_events p.view seen_p).is_part)
+              ∙ (sym (known_longer p.view.number _ p.view.log pin.entries) ∙ ap (known_by p.view.layout p.view.number) (sym pin.are))))
+
+          inner : SplitPart p.view.number (after_in (after_in (ordered p.view.layout) (events_of p.view.past)) s.before) s.since walk.entries rest.entries → AloneWalk p.view.layout p.view.number begun walked
+          inner r = record {
+            from = after_in (after_in (ordered p.view.layout) (events_of p.view.past)) s.before;
+            is_ordered = ordered_after p.view.number p.view.layout enough s.before first (after_in (ordered p.view.layout) (events_of p.view.past)) o;
+            is_clean = clean_turns p.view.layout enough s.before first (after_in (ordered p.view.layout) (events_of p.view.past)) o (mute_turns p.view.number (after_in (ordered p.view.layout) (events_of p.view.past)) s.before own.0 (ap (list_any is_edge_change) s.is_before ∙ pin.mute)) clean;
+            knows = known;
+            turns = r.before;
+            has_keys = first_keys r.before r.since (subst (λ (l : List (ℕ × Event)). All (λ t. HasKey t.1) l) r.is_run (later_keys s.before s.since more_keys));
+            calm = mute_turns p.view.number (after_in (after_in (ordered p.view.layout) (events_of p.view.past)) s.before) r.before (own_parts r.before r.since (subst (λ (l : List (ℕ × Event)). All (λ t. t.0 ≡ p.view.number) l) r.is_run own.1)).0 (ap (list_any is_edge_change) r.is_before ∙ quiet_mute walk.entries walk.quiet);
+            is_walk = ap (λ (l : List Entry). begun ++ l) r.is_before ∙ sym walk.are;
+          }
+
+  log_to : (log : List Entry) → Longer log q.view.log → IsLogOf p.view.layout p.view.number log
+  log_to log rest = log_prefix p.view.layout p.view.number log rest.entries (subst (IsLogOf p.view.layout p.view.number) rest.are log_q)
+
+  -- no walk of the first try reads an edge with a mark, nor is one too long
+  bare_walk : (k n : ℕ) (begun walked : List Entry) (s : Spot) (chain : List ChainEdge) → Mute p.view.log begun → Walks k n begun walked s chain → Longer walked q.view.log → is_bare s.edge ≡ true
+  bare_walk k n begun walked s chain pin walk rest =
+      let a = alone_walk begun walked pin (walk_plain k n begun walked s chain walk) rest in
+      read_bare p.view.layout enough p.view.number a.from a.is_ordered a.is_clean a.turns a.has_keys a.calm k n begun walked s chain walk (log_to walked rest) a.is_walk
+
+  not_tagged : (e : Edge) → is_bare e ≡ true → e.tag ≡ true → ⊥
+  not_tagged e bare tag = by e.flag e.tag bare tag
+    where
+      by : (f t : Bool) → (not f && not t) ≡ true → t ≡ true → ⊥
+      by true t bare tag = true≢false (sym bare)
+      by false true bare tag = true≢false (sym bare)
+      by false false bare tag = true≢false (sym tag)
+
+  none_broken : (k : ℕ) (begun new : List Entry) → Mute p.view.log begun → IsBroken p.view.layout k begun new → Longer new q.view.log → ⊥
+  none_broken k begun new pin (inl long) rest =
+      let a = alone_walk begun new pin (walk_plain k long.1 begun new long.2 long.3 long.4) rest in
+      not_too_long p.view.layout enough p.view.number a.from a.is_ordered a.turns a.has_keys (let few = calm_too (trace_in a.from a.turns) in let calm = a.calm in omega (arith, few, calm)) k begun new long a.is_walk
+  none_broken k begun new pin (inr deep) rest = not_tagged deep.3.edge (bare_walk k deep.1 begun deep.2 deep.3 deep.4 pin deep.7 (longer_then deep.2 new q.view.log (reads_longer k deep.3.edge.slot deep.2 new deep.5 deep.8) rest)) deep.10
+
+  -- nor is its exchange lost
+  none_lost : (k : ℕ) (r : End) (c : List ChainEdge) (e : Edge) (n : ℕ) (begun walked before : List Entry) (exchange : Event) → Mute p.view.log begun → Walks k n begun walked r.spot c → Plain walked before → is_loud (losing exchange e) ≡ false
+      → Expects r.spot.parent r.spot.side r.spot.edge.slot exchange → Longer (before ++ losing exchange e ∷ []) q.view.log → ⊥
+  none_lost k r c e n begun walked before exchange pin walk plain quiet expects rest = refuse (alone_walk begun _ pin whole_try rest)
+    where
+      to_before : Plain begun before
+      to_before = plain_then begun walked before (walk_plain k n begun walked r.spot c walk) plain
+
+      whole_try : Plain begun (before ++ losing exchange e ∷ [])
+      whole_try = plain_then begun before _ to_before (plain_these (losing exchange e ∷ []) before _ (ap (λ (b : Bool). b || false) quiet) refl)
+
+      walked_rest : Longer walked q.view.log
+      walked_rest = longer_then walked before q.view.log (plain_longer walked before plain) (longer_then before _ q.view.log (longer_these (losing exchange e ∷ []) before _ refl) rest)
+
+      hindered : Hinders p.view.layout enough p.view.number begun (before ++ losing exchange e ∷ []) 1
+      hindered = bare_at p.view.layout enough p.view.number k r c e n begun walked before _ exchange walk plain expects (bare_walk k n begun walked r.spot c pin walk walked_rest) (longer_none _ _ refl) (log_to before (longer_then before _ q.view.log (longer_these (losing exchange e ∷ []) before _ refl) rest))
+
+      refuse : AloneWalk p.view.layout p.view.number begun (before ++ losing exchange e ∷ []) → ⊥
+      refuse a =
+          let some = hindered.counted a.from a.is_ordered a.knows a.turns a.has_keys (append_cancel_left begun _ _ (a.is_walk ∙ hindered.are)) in
+          let few = hinders_too p.view.number (trace_in a.from a.turns) in
+          let calm = a.calm in
+          absurd (omega (arith, some, few, calm))
+
+  not_moved : (n : ℕ) → WasMovedPast p q n → n ≡ 0
+  not_moved n m =
+      let same_is = same_turns p.view.past m.turns alone.turns q.view.past m.is alone.is in
+      let none = ap (λ (l : List Turn). number_of (moves_of_others p.view.number) l) same_is ∙ own_none p.view.number moves alone.turns alone.own in
+      let few = m.moved in
+      omega (arith, none, few)
+
+  -- so an insert loses no try, nor does a delete
+  none_inserted : (fit : Fit) (k n : ℕ) (f : Option Fork) (begun new : List Entry) → Mute p.view.log begun → LostInserts fit p.view.layout k n f begun new → Longer new q.view.log → n ≡ 0
+  none_inserted fit k zero f begun new pin tried rest = refl
+  none_inserted fit k (suc zero) g begun new pin (f, mid, before, try) rest = absurd (one (subst (λ (l : List Entry). IsLostInsert fit p.view.layout k f g l new) before.1 try))
+    where
+      one : IsLostInsert fit p.view.layout k f g begun new → ⊥
+      one (inl (c, broken, same)) = none_broken k begun new pin broken rest
+      one (inr (made, r, c, e, mid, link, forked, helps)) = none_lost k r c e link.walk.0.0 begun link.walk.0.1 _ (Link r.spot.parent r.spot.side r.spot.edge.slot made.new.slot) pin link.walk.0.4 (link_plain p.view.layout k fit f made r c e begun mid link) refl (ToLink made.new.slot)
+          (longer_then _ mid q.view.log (longer_none _ mid link.grows.3) (longer_then mid new q.view.log (help_longer r c e mid new helps) rest))
+  none_inserted fit k (suc (suc n)) g begun new pin (f, mid, before, try) rest = absurd (let none = none_inserted fit k (suc n) f begun mid pin before (longer_then mid new q.view.log (insert_longer fit p.view.layout k f g mid new try) rest) in omega (arith, none))
+
+  none_flagged : (k n : ℕ) (begun new : List Entry) → Mute p.view.log begun → LostFlags p.view.layout k n begun new → Longer new q.view.log → n ≡ 0
+  none_flagged k zero begun new pin tried rest = refl
+  none_flagged k (suc zero) begun new pin (c, mid, before, try) rest = absurd (one (subst (λ (l : List Entry). IsLostFlag p.view.layout k c l new) before try))
+    where
+      one : IsLostFlag p.view.layout k c begun new → ⊥
+      one (inl broken) = none_broken k begun new pin broken rest
+      one (inr (r, b, e, mid, flag, helps)) = none_lost k r c e flag.walk.0.0 begun flag.walk.0.1 _ (Flag r.spot.parent r.spot.side r.spot.edge.slot) pin flag.walk.0.4 (flag_plain p.view.layout k r c b e begun mid flag) refl ToFlag
+          (longer_then _ mid q.view.log (longer_none _ mid flag.entries) (longer_then mid new q.view.log (help_longer r c e mid new helps) rest))
+  none_flagged k (suc (suc n)) begun new pin (c, mid, before, try) rest = absurd (let none = none_flagged k (suc n) begun mid pin before (longer_then mid new q.view.log (flag_longer p.view.layout k c mid new try) rest) in omega (arith, none))
+
 pub inserts_alone_are_answered : InsertsAloneAreAnswered
-inserts_alone_are_answered fit k tries p q seen_p seen_q enough same on alone rests did = by (busy_inserts_were_lost fit p.view.layout k tries p q seen_p seen_q enough same on did)
+inserts_alone_are_answered fit k tries p q seen_p seen_q enough same on alone rests did = by did
   where
-    c : Configuration
-    c = after_in (ordered p.view.layout) (events_of p.view.past)
-
-    number : p.view.number ≡ q.view.number
-    number = sym (ap (λ (s : Stand). s.view.number) same)
-
-    layout : p.view.layout ≡ q.view.layout
-    layout = sym (ap (λ (s : Stand). s.view.layout) same)
-
-    keys : All (λ t. HasKey t.1) ((events_of p.view.past) ++ (events_of alone.turns))
-    keys = subst (λ (l : List (ℕ × Event)). All (λ t. HasKey t.1) l) (events_go_on q.view.past p.view.past (record { more = alone.turns; is = alone.is })) (as_events q.view seen_q).keys
-
-    past_keys : All (λ t. HasKey t.1) (events_of p.view.past)
-    past_keys = first_keys (events_of p.view.past) (events_of alone.turns) keys
-
-    is_new : part_of p.view.number (trace_in (ordered p.view.layout) ((events_of p.view.past) ++ (events_of alone.turns))) ≡ q.view.log
-    is_new = ap (λ (l : List (ℕ × Event)). part_of p.view.number (trace_in (ordered p.view.layout) l)) (sym (events_go_on q.view.past p.view.past (record { more = alone.turns; is = alone.is }))) ∙ ((λ i. part_of (number i) (trace_in (ordered (layout i)) (events_of q.view.past))) ∙ (as_events q.view seen_q).is_part)
-
-    log_q : IsLogOf p.view.layout p.view.number q.view.log
-    log_q = record { worker = seen_p.worker; turns = (events_of p.view.past) ++ (events_of alone.turns); keys = keys; is_part = is_new }
-
-    pends_not : NothingIsPending p.view.layout (events_of p.view.past)
-    pends_not = nothing_is_pending p.view.layout enough (events_of p.view.past) past_keys (subst (NonePends p.view.layout) (as_events p.view seen_p).are rests)
-
-    o : IsOrdered p.view.layout (after_in (ordered p.view.layout) (events_of p.view.past))
-    o = each_ordered p.view.layout enough (events_of p.view.past) past_keys
-
-    clean : Clean (after_in (ordered p.view.layout) (events_of p.view.past))
-    clean y g r = false_from_ne_true _ (λ flag. let n = each_flagged_leaf_is_pending p.view.layout enough (events_of p.view.past) past_keys y g r flag in pends_not n.worker n.key n.flag)
-
-    whole : p.view.log ++ part_of p.view.number (trace_in (after_in (ordered p.view.layout) (events_of p.view.past)) (events_of alone.turns)) ≡ q.view.log
-    whole = ap (λ (l : List Entry). l ++ part_of p.view.number (trace_in (after_in (ordered p.view.layout) (events_of p.view.past)) (events_of alone.turns))) (sym (as_events p.view seen_p).is_part)
-        ∙ (sym (part-append p.view.number (trace_in (ordered p.view.layout) (events_of p.view.past)) (trace_in (after_in (ordered p.view.layout) (events_of p.view.past)) (events_of alone.turns))) ∙ (ap (part_of p.view.number) (sym (trace_in-append (ordered p.view.layout) (events_of p.view.past) (events_of alone.turns))) ∙ is_new))
-
-    own_parts : (xs ys : List (ℕ × Event)) → All (λ t. t.0 ≡ p.view.number) (xs ++ ys) → All (λ t. t.0 ≡ p.view.number) xs × All (λ t. t.0 ≡ p.view.number) ys
-    own_parts xs ys all = (all_before (λ t. t.0 ≡ p.view.number) xs ys all, all_behind (λ t. t.0 ≡ p.view.number) xs ys all)
-
-    alone_walk : (begun walked : List Entry) → Mute p.view.log begun → Plain begun walked → Longer walked q.view.log → AloneWalk p.view.layout p.view.number begun walked
-    alone_walk begun walked pin walk rest = made (split_part p.view.number pin.entries (after_in (ordered p.view.layout) (events_of p.view.past)) (events_of alone.turns) (walk.entries ++ rest.entries) parts)
-      where
-        parts : part_of p.view.number (trace_in (after_in (ordered p.view.layout) (events_of p.view.past)) (events_of alone.turns)) ≡ pin.entries ++ (walk.entries ++ rest.entries)
-        parts = append_cancel_left p.view.log _ _ (whole ∙ (rest.are ∙ (ap (λ (l : List Entry). l ++ rest.entries) (walk.are ∙ ap (λ (l : List Entry). l ++ walk.entries) pin.are)
-            ∙ (append_assoc (p.view.log ++ pin.entries) walk.entries rest.entries ∙ append_assoc p.view.log pin.entries (walk.entries ++ rest.entries)))))
-
-        made : SplitPart p.view.number (after_in (ordered p.view.layout) (events_of p.view.past)) (events_of alone.turns) pin.entries (walk.entries ++ rest.entries) → AloneWalk p.view.layout p.view.number begun walked
-        made s = inner (split_part p.view.number walk.entries (after_in (after_in (ordered p.view.layout) (events_of p.view.past)) s.before) s.since rest.entries s.is_since)
-          where
-            own : All (λ t. t.0 ≡ p.view.number) s.before × All (λ t. t.0 ≡ p.view.number) s.since
-            own = own_parts s.before s.since (subst (λ (l : List (ℕ × Event)). All (λ t. t.0 ≡ p.view.number) l) s.is_run (own_events p.view.number alone.turns alone.own))
-
-            more_keys : All (λ t. HasKey t.1) (s.before ++ s.since)
-            more_keys = subst (λ (l : List (ℕ × Event)). All (λ t. HasKey t.1) l) s.is_run (later_keys (events_of p.view.past) (events_of alone.turns) keys)
-
-            first : All (λ t. HasKey t.1) s.before
-            first = first_keys s.before s.since more_keys
-
-            inner : SplitPart p.view.number (after_in (after_in (ordered p.view.layout) (events_of p.view.past)) s.before) s.since walk.entries rest.entries → AloneWalk p.view.layout p.view.number begun walked
-            inner r = record {
-              from = after_in (after_in (ordered p.view.layout) (events_of p.view.past)) s.before;
-              is_ordered = ordered_after p.view.number p.view.layout enough s.before first (after_in (ordered p.view.layout) (events_of p.view.past)) o;
-              is_clean = clean_turns p.view.layout enough s.before first (after_in (ordered p.view.layout) (events_of p.view.past)) o (mute_turns p.view.number (after_in (ordered p.view.layout) (events_of p.view.past)) s.before own.0 (ap (list_any is_edge_change) s.is_before ∙ pin.mute)) clean;
-              turns = r.before;
-              has_keys = first_keys r.before r.since (subst (λ (l : List (ℕ × Event)). All (λ t. HasKey t.1) l) r.is_run (later_keys s.before s.since more_keys));
-              calm = mute_turns p.view.number (after_in (after_in (ordered p.view.layout) (events_of p.view.past)) s.before) r.before (own_parts r.before r.since (subst (λ (l : List (ℕ × Event)). All (λ t. t.0 ≡ p.view.number) l) r.is_run own.1)).0 (ap (list_any is_edge_change) r.is_before ∙ quiet_mute walk.entries walk.quiet);
-              is_walk = ap (λ (l : List Entry). begun ++ l) r.is_before ∙ sym walk.are;
-            }
-
-    -- so no walk of the first try reads an edge with a mark, nor is one too long
-    bare_walk : (n : ℕ) (begun walked : List Entry) (s : Spot) (chain : List ChainEdge) → Mute p.view.log begun → Walks k n begun walked s chain → Longer walked q.view.log → is_bare s.edge ≡ true
-    bare_walk n begun walked s chain pin walk rest =
-        let a = alone_walk begun walked pin (walk_plain k n begun walked s chain walk) rest in
-        read_bare p.view.layout enough p.view.number a.from a.is_ordered a.is_clean a.turns a.has_keys a.calm k n begun walked s chain walk (log_prefix p.view.layout p.view.number walked rest.entries (subst (IsLogOf p.view.layout p.view.number) rest.are log_q)) a.is_walk
-
-    not_tagged : (e : Edge) → is_bare e ≡ true → e.tag ≡ true → ⊥
-    not_tagged e bare tag = by e.flag e.tag bare tag
-      where
-        by : (f t : Bool) → (not f && not t) ≡ true → t ≡ true → ⊥
-        by true t bare tag = true≢false (sym bare)
-        by false true bare tag = true≢false (sym bare)
-        by false false bare tag = true≢false (sym tag)
-
-    none_blunt : (begun : List Entry) → Mute p.view.log begun → (f g : Option Fork) (new : List Entry) → IsBluntTry fit p.view.layout k f g begun new → Longer new q.view.log → ⊥
-    none_blunt begun pin f g new (inl (c, inl long, _)) rest =
-        let a = alone_walk begun new pin (walk_plain k long.1 begun new long.2 long.3 long.4) rest in
-        not_too_long p.view.layout enough p.view.number a.from a.is_ordered a.turns a.has_keys (let few = calm_too (trace_in a.from a.turns) in let calm = a.calm in omega (arith, few, calm)) k begun new long a.is_walk
-    none_blunt begun pin f g new (inl (c, inr deep, _)) rest = not_tagged deep.3.edge (bare_walk deep.1 begun deep.2 deep.3 deep.4 pin deep.7 (longer_then deep.2 new q.view.log (reads_longer k deep.3.edge.slot deep.2 new deep.5 deep.8) rest)) deep.10
-    none_blunt begun pin f g new (inr (made, r, chain, e, mid, link, forked, helps, marked)) rest =
-        true≢false (sym (bare_walk link.walk.0.0 begun link.walk.0.1 r.spot chain pin link.walk.0.4
-        (longer_then link.walk.0.1 link.ended q.view.log (reads_longer k r.spot.edge.slot link.walk.0.1 link.ended link.walk.0.2 link.walk.0.6)
-        (longer_then link.ended mid q.view.log (claims_longer fit p.view.layout k f made r chain e begun mid link) (longer_then mid new q.view.log (help_longer r chain e mid new helps) rest)))) ∙ marked)
-
-    lost : WasLost fit p.view.layout k p q tries → tries ≡ 0
-    lost l = elim (ℕ_discrete l.blunt 0) [
-      | yes none ↦ (let all = l.all in omega (arith, all, none, no_bare))
-      | no some ↦ absurd (refuse (first_blunt fit p.view.layout k l.bare l.blunt l.fork l.begun l.ended l.loses no_bare some))
-    ]
-      where
-        no_bare : l.bare ≡ 0
-        no_bare =
-            let same_is = same_turns p.view.past l.turns alone.turns q.view.past l.is alone.is in
-            let none = ap (λ (t : List Turn). number_of (changes_of_others p.view.number) t) same_is ∙ own_none p.view.number changes_turn alone.turns alone.own in
-            let few = l.changed in
-            omega (arith, none, few)
-
-        refuse : FirstBlunt fit p.view.layout k l.begun l.ended → ⊥
-        refuse b = none_blunt l.begun (pin_mute k tries p.view.log l.begun l.epoch l.pin) None b.fork b.mid b.try (longer_then b.mid l.ended q.view.log b.behind (longer_these l.rest l.ended q.view.log l.goes_on))
-
-    by : (tries ≡ 0) ⊎ WasMovedPast p q tries ⊎ WasLost fit p.view.layout k p q tries → tries ≡ 0
-    by (inl none) = none
-    by (inr (inl m)) =
-        let same_is = same_turns p.view.past m.turns alone.turns q.view.past m.is alone.is in
-        let none = ap (λ (l : List Turn). number_of (moves_of_others p.view.number) l) same_is ∙ own_none p.view.number moves alone.turns alone.own in
-        let few = m.moved in
-        omega (arith, none, few)
-    by (inr (inr l)) = lost l
-
--- ---- the first try of a delete
-
-record FirstBluntFlag (M : Layout) (k : ℕ) (old new : List Entry) : Type 0 where
-  mid : List Entry
-  try : IsBluntFlag M k old mid
-  behind : Longer mid new
-
-at_first_flag : (M : Layout) (k bare blunt : ℕ) (old mid new : List Entry) → bare ≡ 0 → blunt ≡ 0 → LosesFlags M k bare blunt old mid → IsBluntFlag M k mid new → FirstBluntFlag M k old new
-at_first_flag M k _ _ old mid new none less (NoFlag is) try = record { mid = new; try = subst (λ (l : List Entry). IsBluntFlag M k l new) is try; behind = longer_these [] new new (sym (append-nil new)) }
-at_first_flag M k _ _ old mid new none less (BareFlag bare blunt log before one) try = absurd (omega (arith, none))
-at_first_flag M k _ _ old mid new none less (BluntFlag bare blunt log before one) try = absurd (omega (arith, less))
-
-first_blunt_flag : (M : Layout) (k bare blunt : ℕ) (old new : List Entry) → LosesFlags M k bare blunt old new → bare ≡ 0 → blunt ≢ 0 → FirstBluntFlag M k old new
-first_blunt_flag M k _ _ old new (NoFlag is) none some = absurd (some refl)
-first_blunt_flag M k _ _ old new (BareFlag bare blunt mid before try) none some = absurd (omega (arith, none))
-first_blunt_flag M k _ _ old new (BluntFlag bare zero mid before try) none some = at_first_flag M k bare 0 old mid new none refl before try
-first_blunt_flag M k _ _ old new (BluntFlag bare (suc blunt) mid before try) none some =
-    let first = first_blunt_flag M k bare (suc blunt) old mid before none (λ z. absurd (omega (arith, z))) in
-    record { mid = first.mid; try = first.try; behind = longer_then first.mid mid new first.behind (blunt_flag_longer M k mid new try) }
-
-delete_pins_mute : (k n : ℕ) (old new : List Entry) → LostTries (SightFor Delete k) n old new → Mute old new
-delete_pins_mute k zero old new is = mute_these [] old new refl (is ∙ sym (append-nil old))
-delete_pins_mute k (suc n) old new h = mute_then old h.0 new (delete_pins_mute k n old h.0 h.1) (mute_then h.0 _ new (mute_these _ h.0 _ refl refl) (mute_these _ _ new refl h.2.2))
-
-delete_pin_mute : (k tries : ℕ) (old new : List Entry) (epoch : ℕ) → IsPinnedBy (SightFor Delete k) tries old new epoch → Mute old new
-delete_pin_mute k tries old new epoch h = mute_then old _ new (mute_these _ old _ refl refl) (mute_then _ h.2 new (delete_pins_mute k h.1 _ h.2 h.4) (mute_then h.2 _ new (mute_these _ h.2 _ refl refl) (mute_these _ _ new refl h.5.1)))
+    by : InsertDid fit p.view.layout tries k p.view.log q.view.log (Err fault.Busy) → tries ≡ 0
+    by (inl none) = none.0
+    by (inr (inl m)) = not_moved p q seen_p seen_q enough same alone rests tries (moved p q seen_p seen_q enough same on (SightFor Insert k) refl tries m.0 m.1)
+    by (inr (inr (pinned, epoch, pin, (f, mid, back, tried, returns, leaves)))) = none_inserted p q seen_p seen_q enough same alone rests fit k tries f pinned mid (pin_mute Insert k tries p.view.log pinned epoch pin) tried (longer_then mid back q.view.log (returns_longer f mid back returns) (longer_these _ back q.view.log leaves))
 
 pub deletes_alone_are_not_busy : DeletesAloneAreNotBusy
-deletes_alone_are_not_busy k tries p q seen_p seen_q enough same on alone rests did = by (busy_deletes_were_lost p.view.layout k tries p q seen_p seen_q enough same on did)
+deletes_alone_are_not_busy k tries p q seen_p seen_q enough same on alone rests did = by did
   where
-    c : Configuration
-    c = after_in (ordered p.view.layout) (events_of p.view.past)
-
-    number : p.view.number ≡ q.view.number
-    number = sym (ap (λ (s : Stand). s.view.number) same)
-
-    layout : p.view.layout ≡ q.view.layout
-    layout = sym (ap (λ (s : Stand). s.view.layout) same)
-
-    keys : All (λ t. HasKey t.1) ((events_of p.view.past) ++ (events_of alone.turns))
-    keys = subst (λ (l : List (ℕ × Event)). All (λ t. HasKey t.1) l) (events_go_on q.view.past p.view.past (record { more = alone.turns; is = alone.is })) (as_events q.view seen_q).keys
-
-    past_keys : All (λ t. HasKey t.1) (events_of p.view.past)
-    past_keys = first_keys (events_of p.view.past) (events_of alone.turns) keys
-
-    is_new : part_of p.view.number (trace_in (ordered p.view.layout) ((events_of p.view.past) ++ (events_of alone.turns))) ≡ q.view.log
-    is_new = ap (λ (l : List (ℕ × Event)). part_of p.view.number (trace_in (ordered p.view.layout) l)) (sym (events_go_on q.view.past p.view.past (record { more = alone.turns; is = alone.is }))) ∙ ((λ i. part_of (number i) (trace_in (ordered (layout i)) (events_of q.view.past))) ∙ (as_events q.view seen_q).is_part)
-
-    log_q : IsLogOf p.view.layout p.view.number q.view.log
-    log_q = record { worker = seen_p.worker; turns = (events_of p.view.past) ++ (events_of alone.turns); keys = keys; is_part = is_new }
-
-    pends_not : NothingIsPending p.view.layout (events_of p.view.past)
-    pends_not = nothing_is_pending p.view.layout enough (events_of p.view.past) past_keys (subst (NonePends p.view.layout) (as_events p.view seen_p).are rests)
-
-    o : IsOrdered p.view.layout (after_in (ordered p.view.layout) (events_of p.view.past))
-    o = each_ordered p.view.layout enough (events_of p.view.past) past_keys
-
-    clean : Clean (after_in (ordered p.view.layout) (events_of p.view.past))
-    clean y g r = false_from_ne_true _ (λ flag. let n = each_flagged_leaf_is_pending p.view.layout enough (events_of p.view.past) past_keys y g r flag in pends_not n.worker n.key n.flag)
-
-    whole : p.view.log ++ part_of p.view.number (trace_in (after_in (ordered p.view.layout) (events_of p.view.past)) (events_of alone.turns)) ≡ q.view.log
-    whole = ap (λ (l : List Entry). l ++ part_of p.view.number (trace_in (after_in (ordered p.view.layout) (events_of p.view.past)) (events_of alone.turns))) (sym (as_events p.view seen_p).is_part)
-        ∙ (sym (part-append p.view.number (trace_in (ordered p.view.layout) (events_of p.view.past)) (trace_in (after_in (ordered p.view.layout) (events_of p.view.past)) (events_of alone.turns))) ∙ (ap (part_of p.view.number) (sym (trace_in-append (ordered p.view.layout) (events_of p.view.past) (events_of alone.turns))) ∙ is_new))
-
-    own_parts : (xs ys : List (ℕ × Event)) → All (λ t. t.0 ≡ p.view.number) (xs ++ ys) → All (λ t. t.0 ≡ p.view.number) xs × All (λ t. t.0 ≡ p.view.number) ys
-    own_parts xs ys all = (all_before (λ t. t.0 ≡ p.view.number) xs ys all, all_behind (λ t. t.0 ≡ p.view.number) xs ys all)
-
-    alone_walk : (begun walked : List Entry) → Mute p.view.log begun → Plain begun walked → Longer walked q.view.log → AloneWalk p.view.layout p.view.number begun walked
-    alone_walk begun walked pin walk rest = made (split_part p.view.number pin.entries (after_in (ordered p.view.layout) (events_of p.view.past)) (events_of alone.turns) (walk.entries ++ rest.entries) parts)
-      where
-        parts : part_of p.view.number (trace_in (after_in (ordered p.view.layout) (events_of p.view.past)) (events_of alone.turns)) ≡ pin.entries ++ (walk.entries ++ rest.entries)
-        parts = append_cancel_left p.view.log _ _ (whole ∙ (rest.are ∙ (ap (λ (l : List Entry). l ++ rest.entries) (walk.are ∙ ap (λ (l : List Entry). l ++ walk.entries) pin.are)
-            ∙ (append_assoc (p.view.log ++ pin.entries) walk.entries rest.entries ∙ append_assoc p.view.log pin.entries (walk.entries ++ rest.entries)))))
-
-        made : SplitPart p.view.number (after_in (ordered p.view.layout) (events_of p.view.past)) (events_of alone.turns) pin.entries (walk.entries ++ rest.entries) → AloneWalk p.view.layout p.view.number begun walked
-        made s = inner (split_part p.view.number walk.entries (after_in (after_in (ordered p.view.layout) (events_of p.view.past)) s.before) s.since rest.entries s.is_since)
-          where
-            own : All (λ t. t.0 ≡ p.view.number) s.before × All (λ t. t.0 ≡ p.view.number) s.since
-            own = own_parts s.before s.since (subst (λ (l : List (ℕ × Event)). All (λ t. t.0 ≡ p.view.number) l) s.is_run (own_events p.view.number alone.turns alone.own))
-
-            more_keys : All (λ t. HasKey t.1) (s.before ++ s.since)
-            more_keys = subst (λ (l : List (ℕ × Event)). All (λ t. HasKey t.1) l) s.is_run (later_keys (events_of p.view.past) (events_of alone.turns) keys)
-
-            first : All (λ t. HasKey t.1) s.before
-            first = first_keys s.before s.since more_keys
-
-            inner : SplitPart p.view.number (after_in (after_in (ordered p.view.layout) (events_of p.view.past)) s.before) s.since walk.entries rest.entries → AloneWalk p.view.layout p.view.number begun walked
-            inner r = record {
-              from = after_in (after_in (ordered p.view.layout) (events_of p.view.past)) s.before;
-              is_ordered = ordered_after p.view.number p.view.layout enough s.before first (after_in (ordered p.view.layout) (events_of p.view.past)) o;
-              is_clean = clean_turns p.view.layout enough s.before first (after_in (ordered p.view.layout) (events_of p.view.past)) o (mute_turns p.view.number (after_in (ordered p.view.layout) (events_of p.view.past)) s.before own.0 (ap (list_any is_edge_change) s.is_before ∙ pin.mute)) clean;
-              turns = r.before;
-              has_keys = first_keys r.before r.since (subst (λ (l : List (ℕ × Event)). All (λ t. HasKey t.1) l) r.is_run (later_keys s.before s.since more_keys));
-              calm = mute_turns p.view.number (after_in (after_in (ordered p.view.layout) (events_of p.view.past)) s.before) r.before (own_parts r.before r.since (subst (λ (l : List (ℕ × Event)). All (λ t. t.0 ≡ p.view.number) l) r.is_run own.1)).0 (ap (list_any is_edge_change) r.is_before ∙ quiet_mute walk.entries walk.quiet);
-              is_walk = ap (λ (l : List Entry). begun ++ l) r.is_before ∙ sym walk.are;
-            }
-
-    -- so no walk of the first try reads an edge with a mark, nor is one too long
-    bare_walk : (n : ℕ) (begun walked : List Entry) (s : Spot) (chain : List ChainEdge) → Mute p.view.log begun → Walks k n begun walked s chain → Longer walked q.view.log → is_bare s.edge ≡ true
-    bare_walk n begun walked s chain pin walk rest =
-        let a = alone_walk begun walked pin (walk_plain k n begun walked s chain walk) rest in
-        read_bare p.view.layout enough p.view.number a.from a.is_ordered a.is_clean a.turns a.has_keys a.calm k n begun walked s chain walk (log_prefix p.view.layout p.view.number walked rest.entries (subst (IsLogOf p.view.layout p.view.number) rest.are log_q)) a.is_walk
-
-    not_tagged : (e : Edge) → is_bare e ≡ true → e.tag ≡ true → ⊥
-    not_tagged e bare tag = by e.flag e.tag bare tag
-      where
-        by : (f t : Bool) → (not f && not t) ≡ true → t ≡ true → ⊥
-        by true t bare tag = true≢false (sym bare)
-        by false true bare tag = true≢false (sym bare)
-        by false false bare tag = true≢false (sym tag)
-
-    none_blunt : (begun : List Entry) → Mute p.view.log begun → (new : List Entry) → IsBluntFlag p.view.layout k begun new → Longer new q.view.log → ⊥
-    none_blunt begun pin new (inl (inl long)) rest =
-        let a = alone_walk begun new pin (walk_plain k long.1 begun new long.2 long.3 long.4) rest in
-        not_too_long p.view.layout enough p.view.number a.from a.is_ordered a.turns a.has_keys (let few = calm_too (trace_in a.from a.turns) in let calm = a.calm in omega (arith, few, calm)) k begun new long a.is_walk
-    none_blunt begun pin new (inl (inr deep)) rest = not_tagged deep.3.edge (bare_walk deep.1 begun deep.2 deep.3 deep.4 pin deep.7 (longer_then deep.2 new q.view.log (reads_longer k deep.3.edge.slot deep.2 new deep.5 deep.8) rest)) deep.10
-    none_blunt begun pin new (inr (chain, r, b, e, mid, flag, helps, marked)) rest =
-        true≢false (sym (bare_walk flag.walk.0.0 begun flag.walk.0.1 r.spot chain pin flag.walk.0.4
-        (longer_then flag.walk.0.1 flag.ended q.view.log (reads_longer k r.spot.edge.slot flag.walk.0.1 flag.ended flag.walk.0.2 flag.walk.0.6)
-        (longer_then flag.ended mid q.view.log (longer_then flag.ended _ mid (longer_these _ flag.ended _ refl) (longer_these _ _ mid flag.entries)) (longer_then mid new q.view.log (help_longer r chain e mid new helps) rest)))) ∙ marked)
-
-    lost : DeleteWasLost p.view.layout k p q tries → tries ≡ 0
-    lost l = elim (ℕ_discrete l.blunt 0) [
-      | yes none ↦ (let all = l.all in omega (arith, all, none, no_bare))
-      | no some ↦ absurd (refuse (first_blunt_flag p.view.layout k l.bare l.blunt l.begun l.ended l.loses no_bare some))
-    ]
-      where
-        no_bare : l.bare ≡ 0
-        no_bare =
-            let same_is = same_turns p.view.past l.turns alone.turns q.view.past l.is alone.is in
-            let none = ap (λ (t : List Turn). number_of (changes_of_others p.view.number) t) same_is ∙ own_none p.view.number changes_turn alone.turns alone.own in
-            let few = l.changed in
-            omega (arith, none, few)
-
-        refuse : FirstBluntFlag p.view.layout k l.begun l.ended → ⊥
-        refuse b = none_blunt l.begun (delete_pin_mute k tries p.view.log l.begun l.epoch l.pin) b.mid b.try (longer_then b.mid l.ended q.view.log b.behind (longer_these l.rest l.ended q.view.log l.goes_on))
-
-    by : (tries ≡ 0) ⊎ WasMovedPast p q tries ⊎ DeleteWasLost p.view.layout k p q tries → tries ≡ 0
-    by (inl none) = none
-    by (inr (inl m)) =
-        let same_is = same_turns p.view.past m.turns alone.turns q.view.past m.is alone.is in
-        let none = ap (λ (l : List Turn). number_of (moves_of_others p.view.number) l) same_is ∙ own_none p.view.number moves alone.turns alone.own in
-        let few = m.moved in
-        omega (arith, none, few)
-    by (inr (inr l)) = lost l
+    by : DeleteDid p.view.layout tries k p.view.log q.view.log (Err missed.Busy) → tries ≡ 0
+    by (inl none) = none.0
+    by (inr (inl m)) = not_moved p q seen_p seen_q enough same alone rests tries (moved p q seen_p seen_q enough same on (SightFor Delete k) refl tries m.0 m.1)
+    by (inr (inr (pinned, epoch, pin, (c, mid, tried, leaves)))) = none_flagged p q seen_p seen_q enough same alone rests k tries pinned mid (pin_mute Delete k tries p.view.log pinned epoch pin) tried (longer_these _ mid q.view.log leaves)

@@ -38,7 +38,7 @@ use Rattle.nm_progress.proofs.MoreTries.{is_loud, Plain, plain_these, plain_then
 use Rattle.nm_progress.proofs.Reshapes.{is_reshape, look_there, nobody, long_path}
 use Rattle.nm_progress.proofs.SplitTurns.{SplitTurn, split_turn, ordered_after, none_of_log, number-append}
 use Rattle.nm_busy.proofs.LostPins.{part-append}
-use Rattle.nm_busy.proofs.Parts.{Longer, longer_then, walk_longer}
+use Rattle.nm_busy.proofs.Parts.{Longer, longer_then, walk_longer, reads_plain}
 use Rattle.nm_busy.proofs.WalkReads.{onto_edge}
 
 -- ---- a part in two
@@ -69,9 +69,6 @@ split_part w (x ∷ xs) c ts ys is =
     }
 
 -- ---- walks
-
-reads_plain : (k x : ℕ) (old new : List Entry) (on : Onward) → Reads k x old new on → Plain old new
-reads_plain k x old new on r = plain_then old _ new (plain_these _ old _ refl refl) (plain_then _ _ new (plain_these _ _ _ refl refl) (plain_these _ _ new refl r.2))
 
 pub walk_plain : (k n : ℕ) (old new : List Entry) (s : Spot) (c : List ChainEdge) → Walks k n old new s c → Plain old new
 walk_plain k zero old new s c w = plain_these _ old new refl w.3
@@ -175,7 +172,7 @@ lost_longer M k zero old new is = record { entries = []; are = is ∙ sym (appen
 lost_longer M k (suc t) old new h = longer_then old h.0 new (lost_longer M k t old h.0 h.1) (walk_longer k h.2.1 h.0 new h.2.2 h.2.3 h.2.4)
 
 module _ (L : Layout) (enough : 5 ≤ L.nodes) (w : ℕ) where
-  one_astray : (k : ℕ) (c : Configuration) (o : IsOrdered L c) (ts : List (ℕ × Event)) (keys : All (λ t. HasKey t.1) ts) (old new : List Entry) → IsTooLong L k old new → old ++ part_of w (trace_in c ts) ≡ new → 1 ≤ number_of (reshapes_of_others w) (trace_in c ts)
+  pub one_astray : (k : ℕ) (c : Configuration) (o : IsOrdered L c) (ts : List (ℕ × Event)) (keys : All (λ t. HasKey t.1) ts) (old new : List Entry) → IsTooLong L k old new → old ++ part_of w (trace_in c ts) ≡ new → 1 ≤ number_of (reshapes_of_others w) (trace_in c ts)
   one_astray k c o ts keys old new long whole = by (number_of (reshapes_of_others w) (trace_in c ts)) refl
     where
       plain : Plain old new

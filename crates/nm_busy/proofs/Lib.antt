@@ -1,9 +1,11 @@
 pub mod LostPins
 pub mod Parts
 pub mod WalkReads
-pub mod BareLinks
-pub mod BareFlags
 pub mod Astray
 pub mod LostLookups
+pub mod Hindered
+pub mod MarkedReads
+pub mod HinderedTries
+pub mod HinderedCalls
 pub mod PendingTurns
 pub mod AloneCalls

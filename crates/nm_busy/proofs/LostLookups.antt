@@ -1,7 +1,7 @@
 -- A look-up that is busy.
 use Rattle.std.proofs.Common.{◌≡◌, ℕ, zero, suc, ◌≤◌, inl, inr, List, [], ◌∷◌, ◌++◌, append_assoc, refl, sym, ap, subst, ◌∙◌, arith}
 use Rattle.std.specs.Prelude.{All}
-use Rattle.std.proofs.lemmas.List.{append-nil, append_cancel_left}
+use Rattle.std.proofs.lemmas.List.{append_cancel_left}
 use Rattle.nm_model.specs.declared.event.Event.{Event}
 use Rattle.nm_model.specs.declared.event.Event.TheVariants.{SightFor, Leave}
 use Rattle.nm_model.specs.declared.event.Op.TheVariants.{Has}
@@ -17,22 +17,14 @@ use Rattle.nm_order.proofs.WalksOfRuns.{trace_in-append}
 use Rattle.nm_steps.specs.Steps.{Stand}
 use Rattle.nm_calls.specs.PlainWalks.{events_of}
 use Rattle.nm_calls.proofs.PlainLooks.{as_events, events_go_on}
-use Rattle.nm_epoch.specs.Tries.{LostTries, IsPinnedBy}
 use Rattle.nm_progress.specs.Moves.{number_of}
 use Rattle.nm_progress.specs.Tries.{reshapes_of_others}
 use Rattle.nm_progress.proofs.LostTries.{later_keys}
 use Rattle.nm_progress.proofs.SplitTurns.{ordered_after, number-append}
 use Rattle.nm_busy.specs.Lookups.{BusyLookupsWereDisturbed}
 use Rattle.nm_busy.proofs.LostPins.{part-append, turns_between, lost_pins_were_moved_past}
-use Rattle.nm_busy.proofs.Parts.{Longer, longer_these, longer_then}
+use Rattle.nm_busy.proofs.Parts.{Longer, pin_longer}
 use Rattle.nm_busy.proofs.Astray.{SplitPart, split_part, all_astray, lost_longer}
-
-pins_longer : (k n : ℕ) (old new : List Entry) → LostTries (SightFor Has k) n old new → Longer old new
-pins_longer k zero old new is = longer_these [] old new (is ∙ sym (append-nil old))
-pins_longer k (suc n) old new h = longer_then old h.0 new (pins_longer k n old h.0 h.1) (longer_then h.0 _ new (longer_these _ h.0 _ refl) (longer_these _ _ new h.2.2))
-
-pin_longer : (k tries : ℕ) (old new : List Entry) (epoch : ℕ) → IsPinnedBy (SightFor Has k) tries old new epoch → Longer old new
-pin_longer k tries old new epoch h = longer_then old _ new (longer_these _ old _ refl) (longer_then _ h.2 new (pins_longer k h.1 _ h.2 h.4) (longer_then h.2 _ new (longer_these _ h.2 _ refl) (longer_these _ _ new h.5.1)))
 
 pub busy_lookups_were_disturbed : BusyLookupsWereDisturbed
 busy_lookups_were_disturbed k zero p q seen_p seen_q enough same on missed = inl refl
@@ -59,7 +51,7 @@ busy_lookups_were_disturbed k (suc t) p q seen_p seen_q enough same on (inr (pin
     is_new = ap (λ (l : List (ℕ × Event)). part_of p.view.number (trace_in (ordered p.view.layout) l)) (sym (events_go_on q.view.past p.view.past on.goes_on)) ∙ ((λ i. part_of (number i) (trace_in (ordered (layout i)) (events_of q.view.past))) ∙ (as_events q.view seen_q).is_part)
 
     begun : Longer p.view.log pinned
-    begun = pin_longer k (suc t) p.view.log pinned epoch pin
+    begun = pin_longer (SightFor Has k) (suc t) p.view.log pinned epoch pin
 
     walking : Longer pinned walked
     walking = lost_longer p.view.layout k (suc t) pinned walked walks

@@ -7,11 +7,13 @@ use Rattle.nm_edge.specs.Layouts.{Layout}
 use Rattle.nm_edge.specs.declared.edge.Side.{Side}
 use Rattle.nm_edge.specs.declared.node.NodeId.{NodeId}
 use Rattle.nm_edge.specs.Edges.{Edge}
+use Rattle.nm_model.specs.declared.event.Event.{Event}
 use Rattle.nm_model.specs.Walks.{Entry}
 use Rattle.nm_pool.specs.Takes.{DoneInTurn}
 use Rattle.nm_pool.specs.Claims.{DoneAt, PassedOver, PassedWithin, IsClaimBy}
 use Rattle.nm_pool.specs.declared.placement.Fit.{Fit}
 use Rattle.nm_pool.specs.declared.placement.Fit.TheVariants as fit
+use Rattle.nm_epoch.specs.Tries.{LostTries, IsPinnedBy}
 use Rattle.nm_calls.specs.declared.making.Fork.{Fork}
 use Rattle.nm_calls.specs.declared.cutting.Kept.{Kept}
 use Rattle.nm_calls.specs.declared.looking.Onward.{Onward}
@@ -46,6 +48,9 @@ pub readies_plain : (fit : Fit) (nodes : ℕ) (f : Option Fork) (made : Fork) (o
 readies_plain fit nodes None made old new h = plain_then old h.0 new (claim_plain fit nodes old h.0 made.new h.1) (claim_plain fit nodes h.0 new made.fresh h.2)
 readies_plain fit nodes (Some f) made old new h = plain_none old new h.1
 
+pub reads_plain : (k x : ℕ) (old new : List Entry) (on : Onward) → Reads k x old new on → Plain old new
+reads_plain k x old new on r = plain_then old _ new (plain_these _ old _ refl refl) (plain_then _ _ new (plain_these _ _ _ refl refl) (plain_these _ _ new refl r.2))
+
 -- ---- a log that has grown
 
 pub record Longer (old new : List Entry) : Type 0 where
@@ -58,8 +63,19 @@ longer_these more old new is = record { entries = more; are = is }
 pub longer_then : (old mid new : List Entry) → Longer old mid → Longer mid new → Longer old new
 longer_then old mid new a b = record { entries = a.entries ++ b.entries; are = b.are ∙ (ap (λ (l : List Entry). l ++ b.entries) a.are ∙ append_assoc old a.entries b.entries) }
 
-longer_none : (old new : List Entry) → new ≡ old → Longer old new
+pub longer_none : (old new : List Entry) → new ≡ old → Longer old new
 longer_none old new is = record { entries = []; are = is ∙ sym (append-nil old) }
+
+pub plain_longer : (old new : List Entry) → Plain old new → Longer old new
+plain_longer old new p = record { entries = p.entries; are = p.are }
+
+-- the tries of a pin
+pins_longer : (sight : Event) (n : ℕ) (old new : List Entry) → LostTries sight n old new → Longer old new
+pins_longer sight zero old new is = longer_none old new is
+pins_longer sight (suc n) old new h = longer_then old h.0 new (pins_longer sight n old h.0 h.1) (longer_then h.0 _ new (longer_these _ h.0 _ refl) (longer_these _ _ new h.2.2))
+
+pub pin_longer : (sight : Event) (tries : ℕ) (old new : List Entry) (epoch : ℕ) → IsPinnedBy sight tries old new epoch → Longer old new
+pin_longer sight tries old new epoch h = longer_then old _ new (longer_these _ old _ refl) (longer_then _ h.2 new (pins_longer sight h.1 _ h.2 h.4) (longer_then h.2 _ new (longer_these _ h.2 _ refl) (longer_these _ _ new h.5.1)))
 
 pub reads_longer : (k x : ℕ) (old new : List Entry) (on : Onward) → Reads k x old new on → Longer old new
 reads_longer k x old new on r = longer_then old _ new (longer_these _ old _ refl) (longer_then _ _ new (longer_these _ _ _ refl) (longer_these _ _ new r.2))
@@ -78,33 +94,30 @@ seeks_longer L k old new c r h = longer_then old h.0.1 new (walk_longer k h.0.0 
 pub stops_longer : (L : Layout) (k : ℕ) (old new : List Entry) (c : List ChainEdge) (r : End) → Stops L k old new c (Some r) → Longer old new
 stops_longer L k old new c r h = longer_then old h.0.1 new (walk_longer k h.0.0 old h.0.1 r.spot c h.0.4) (reads_longer k r.spot.edge.slot h.0.1 new h.0.2 h.0.6)
 
-choice_longer : (s : Spot) (r : Option Kept) (old new : List Entry) → Chooses s old new r → Longer old new
+pub choice_longer : (s : Spot) (r : Option Kept) (old new : List Entry) → Chooses s old new r → Longer old new
 choice_longer s r old new h = longer_then old _ new (longer_these _ old _ refl) (longer_these _ _ new h.2)
 
 one_longer : (slot : ℕ) (side : Side) (old new : List Entry) → FreezesOne slot side old new → Longer old new
 one_longer slot side old new h = longer_then old _ new (longer_these _ old _ refl) (longer_then _ _ new (longer_these _ _ _ refl) (longer_these _ _ new h.3))
 
-chain_longer : (parent : ℕ) (keep : Side) (c : List ChainEdge) (old new : List Entry) → Freezes parent keep c old new → Longer old new
+pub chain_longer : (parent : ℕ) (keep : Side) (c : List ChainEdge) (old new : List Entry) → Freezes parent keep c old new → Longer old new
 chain_longer parent keep [] old new h = one_longer parent keep old new h
 chain_longer parent keep (l ∷ c) old new h = longer_then old h.0 new (one_longer l.slot l.side old h.0 h.1) (chain_longer parent keep c h.0 new h.2)
 
-prepared_longer : (s : Spot) (c : List ChainEdge) (k : Kept) (old new : List Entry) → Prepares s c k old new → Longer old new
+pub prepared_longer : (s : Spot) (c : List ChainEdge) (k : Kept) (old new : List Entry) → Prepares s c k old new → Longer old new
 prepared_longer s c k old new h = longer_then old h.0 new (choice_longer s (Some k) old h.0 h.2) (longer_then h.0 _ new (longer_these _ h.0 _ refl) (chain_longer s.parent k.side c _ new h.3))
 
 cut_longer : (s : Spot) (c : List ChainEdge) (ns : List NodeId) (old new : List Entry) → CutsOff s c ns old new → Longer old new
 cut_longer s c ns old new h = longer_then old h.1 new (prepared_longer s c h.0 old h.1 h.2) (longer_these _ h.1 new h.3)
 
+pub cleanup_longer : (s : Spot) (c : List ChainEdge) (old new : List Entry) → ((ns : List NodeId) × (epoch : ℕ) × CleanupWon s c ns epoch old new) ⊎ CleanupLost s c old new → Longer old new
+cleanup_longer s c old new (inl won) = longer_then old won.2.0 new (cut_longer s c won.0 old won.2.0 won.2.1) (longer_these _ won.2.0 new won.2.2)
+cleanup_longer s c old new (inr (inl none')) = choice_longer s None old new none'
+cleanup_longer s c old new (inr (inr l)) = longer_then old l.1 new (prepared_longer s c l.0 old l.1 l.3) (longer_these _ l.1 new l.4)
+
 pub help_longer : (r : End) (c : List ChainEdge) (e : Edge) (old new : List Entry) → Helps r c e old new → Longer old new
 help_longer r c e old new (inr h) = longer_none old new h.1
-help_longer r c e old new (inl h) = by h.1
-  where
-    lost : CleanupLost r.spot c old new → Longer old new
-    lost (inl none') = choice_longer r.spot None old new none'
-    lost (inr l) = longer_then old l.1 new (prepared_longer r.spot c l.0 old l.1 l.3) (longer_these _ l.1 new l.4)
-
-    by : ((ns : List NodeId) × (epoch : ℕ) × CleanupWon r.spot c ns epoch old new) ⊎ CleanupLost r.spot c old new → Longer old new
-    by (inl won) = longer_then old won.2.0 new (cut_longer r.spot c won.0 old won.2.0 won.2.1) (longer_these _ won.2.0 new won.2.2)
-    by (inr l) = lost l
+help_longer r c e old new (inl h) = cleanup_longer r.spot c old new h.1
 
 pub returns_longer : (f : Option Fork) (old new : List Entry) → Returns f old new → Longer old new
 returns_longer None old new h = longer_none old new h

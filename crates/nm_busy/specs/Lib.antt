@@ -1,5 +1,6 @@
 pub mod Pending
 pub mod Pins
+pub mod Lost
 pub mod Lookups
 pub mod Inserts
 pub mod Deletes

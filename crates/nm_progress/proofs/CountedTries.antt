@@ -31,7 +31,7 @@ use Rattle.nm_progress.specs.Changes.{is_bare, is_at, changes, is_change, IsChan
 use Rattle.nm_progress.specs.Changes.Expects.{ToLink, ToFlag, ToCut}
 use Rattle.nm_progress.specs.Moves.{number_of}
 use Rattle.nm_progress.specs.Paid.{links_on, flags_on, cuts_on, tags_on, links_in, flags_in, cuts_in, tags_in}
-use Rattle.nm_progress.specs.Tries.{changes_edge, changes_of_others, reading, losing, LosesTries, OfEachPart, TriesAreLostToChanges, TriesArePaid, TriesArePaidEver}
+use Rattle.nm_progress.specs.Tries.{changes_edge, changes_of_others, helps_on, hinders, HindrancesArePaid, reading, losing, LosesTries, OfEachPart, TriesAreLostToChanges, TriesArePaid, TriesArePaidEver}
 use Rattle.nm_progress.specs.Tries.LosesTries.{NoTry, OneTry}
 use Rattle.nm_progress.proofs.LostTries.{later_keys, never_lost, look_leaves, stays_or_changed}
 use Rattle.nm_progress.proofs.SplicesPaid.{splices_are_paid, splices_are_paid_since}
@@ -68,12 +68,12 @@ some_change w x v d c ts k =
 
 -- ---- lists
 
-known_longer : (w : ℕ) (k : Knowledge) (xs ys : List Entry) → known_after w k (xs ++ ys) ≡ known_after w (known_after w k xs) ys
+pub known_longer : (w : ℕ) (k : Knowledge) (xs ys : List Entry) → known_after w k (xs ++ ys) ≡ known_after w (known_after w k xs) ys
 known_longer w k [] ys = refl
 known_longer w k (x ∷ xs) ys = known_longer w (learn w k x.0 x.1) xs ys
 
 -- a turn that takes part by a look or an exchange is the worker's own
-own_turn : (w : ℕ) (c : Configuration) (t : ℕ × Event) (e : Event) (r : Reply) → takes_part w t.0 t.1 ≡ true → ◌≡◌ {A = Entry} (t.1, reply_of c.state t.0 t.1) (e, r) → ((v : ℕ) → e ≡ Join v → ⊥) → refused_in c t.0 t.1 ≡ None → ◌≡◌ {A = ℕ × Event} t (w, e) × (outcome_in c (w, e) ≡ Ok r)
+pub own_turn : (w : ℕ) (c : Configuration) (t : ℕ × Event) (e : Event) (r : Reply) → takes_part w t.0 t.1 ≡ true → ◌≡◌ {A = Entry} (t.1, reply_of c.state t.0 t.1) (e, r) → ((v : ℕ) → e ≡ Join v → ⊥) → refused_in c t.0 t.1 ≡ None → ◌≡◌ {A = ℕ × Event} t (w, e) × (outcome_in c (w, e) ≡ Ok r)
 own_turn w c t e r takes is alone allowed = by (part_or w t.0 t.1 takes)
   where
     event : t.1 ≡ e
@@ -220,3 +220,27 @@ tries_are_paid_ever L enough w worker turns keys n loses =
     let splices = splices_are_paid L enough turns keys in
     let tags = tags_are_paid L enough turns keys in
     omega (arith, lost, kinds, splices, tags)
+
+-- ---- what hinders a worker
+
+few_hinder : (w : ℕ) (turns : List Turn) → number_of (hinders w) turns ≤ links_in turns + (flags_in turns + (cuts_in turns + tags_in turns))
+few_hinder w [] = omega arith
+few_hinder w (t ∷ ts) = by (t.worker == w) (links_on t.event t.outcome) (flags_on t.event t.outcome) (cuts_on t.event t.outcome) (tags_on t.event t.outcome) (few_hinder w ts)
+  where
+    by : (o a b c d : Bool) → number_of (hinders w) ts ≤ links_in ts + (flags_in ts + (cuts_in ts + tags_in ts))
+        → cond (cond o (c || d) (a || (b || (c || d)))) 1 0 + number_of (hinders w) ts ≤ (cond a 1 0 + links_in ts) + ((cond b 1 0 + flags_in ts) + ((cond c 1 0 + cuts_in ts) + (cond d 1 0 + tags_in ts)))
+    by true a b true d rest = omega (arith, rest)
+    by true a b false true rest = omega (arith, rest)
+    by true a b false false rest = omega (arith, rest)
+    by false true b c d rest = omega (arith, rest)
+    by false false true c d rest = omega (arith, rest)
+    by false false false true d rest = omega (arith, rest)
+    by false false false false true rest = omega (arith, rest)
+    by false false false false false rest = omega (arith, rest)
+
+pub hindrances_are_paid : HindrancesArePaid
+hindrances_are_paid L enough w past turns keys =
+    let kinds = few_hinder w (trace_in (after_in (ordered L) past) turns) in
+    let splices = splices_are_paid_since L enough past turns keys in
+    let tags = tags_are_paid_since L enough past turns keys in
+    omega (arith, kinds, splices, tags)

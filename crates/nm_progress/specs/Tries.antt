@@ -1,5 +1,5 @@
 -- How many tries a worker can lose, by its own log: no more than the others change edges.
-use Rattle.std.specs.Prelude.{◌≡◌, ℕ, suc, ◌+◌, ◌*◌, ◌<◌, ◌≤◌, ◌==◌, Bool, true, false, not, ◌&&◌, ◌||◌, List, [], ◌∷◌, ◌++◌, Result, All}
+use Rattle.std.specs.Prelude.{◌≡◌, ℕ, suc, ◌+◌, ◌*◌, ◌<◌, ◌≤◌, ◌==◌, Bool, true, false, not, ◌&&◌, ◌||◌, if◌then◌else◌, List, [], ◌∷◌, ◌++◌, Result, All}
 use Rattle.std.specs.List.{list_any}
 use Rattle.nm_edge.specs.Edges.{Edge, to}
 use Rattle.nm_edge.specs.Layouts.{Layout}
@@ -37,6 +37,15 @@ reshapes e o = links_on e o || cuts_on e o
 -- a turn of another worker that does
 abbrev pub reshapes_of_others : ℕ → Turn → Bool
 reshapes_of_others w t = not (t.worker == w) && reshapes t.event t.outcome
+
+-- an event with its outcome helps a delete on: a splice that is won, or a tag of an edge that had
+-- no mark (Natarajan and Mittal, section 3.2, cleanup)
+abbrev pub helps_on : Event → Result Reply Refused → Bool
+helps_on e o = cuts_on e o || tags_on e o
+
+-- a turn that hinders a call of worker w: another changes an edge, or w itself helps a delete on
+abbrev pub hinders : ℕ → Turn → Bool
+hinders w t = if t.worker == w then helps_on t.event t.outcome else changes_edge t.event t.outcome
 
 -- ---- lost tries in a log
 
@@ -89,3 +98,12 @@ TriesArePaidEver = (L : Layout) → 5 ≤ L.nodes → (w : ℕ) → w < L.worker
     → All (λ t. HasKey t.1) turns → (n : ℕ)
     → LosesTries L w [] (part_of w (trace_in (ordered L) turns)) n
     → n ≤ links_in (trace_in (ordered L) turns) + 3 * flags_in (trace_in (ordered L) turns)
+
+-- from one moment of an ordered run to a later one there are no more turns that hinder a worker than
+-- links that are won, three times the flags, and twice the workers
+abbrev pub HindrancesArePaid : Type 0
+HindrancesArePaid = (L : Layout) → 5 ≤ L.nodes → (w : ℕ) (past turns : List (ℕ × Event))
+    → All (λ t. HasKey t.1) (past ++ turns)
+    → number_of (hinders w) (trace_in (after_in (ordered L) past) turns)
+    ≤ links_in (trace_in (after_in (ordered L) past) turns)
+    + 3 * flags_in (trace_in (after_in (ordered L) past) turns) + 2 * L.workers

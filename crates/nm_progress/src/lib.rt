@@ -11,5 +11,5 @@ mod worked;
 pub use lost::lost_tries_are_to_others;
 pub use moved::{epochs_are_the_moves, missed_pins_are_moves};
 pub use paid::{splices_are_paid, tags_are_paid};
-pub use tries::{tries_are_lost_to_changes, tries_are_paid};
+pub use tries::{hindrances_are_paid, tries_are_lost_to_changes, tries_are_paid};
 pub use worked::worked_tries;

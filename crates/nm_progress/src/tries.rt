@@ -1,5 +1,5 @@
 //! How many tries a worker can lose.
-ghost use Rattle.nm_progress.specs.Tries.{OfEachPart, TriesAreLostToChanges, TriesArePaid, TriesArePaidEver};
+ghost use Rattle.nm_progress.specs.Tries.{OfEachPart, TriesAreLostToChanges, TriesArePaid, TriesArePaidEver, HindrancesArePaid};
 
 /// From one moment of a run to another a worker loses no more tries, by its own log, than other
 /// workers change edges.
@@ -13,4 +13,10 @@ pub fn tries_are_lost_to_changes()
 pub fn tries_are_paid()
     ensures part { OfEachPart TriesArePaid }
     ensures ever { TriesArePaidEver }
+{}
+
+/// From one moment of a run to another as many turns hinder a worker, by a change of another or by a
+/// help of its own, as links are won, three times the flags, and twice the workers.
+pub fn hindrances_are_paid()
+    ensures { HindrancesArePaid }
 {}

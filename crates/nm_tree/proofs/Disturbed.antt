@@ -10,14 +10,12 @@ use Rattle.nm_calls.specs.Calls.{HasMissed}
 use Rattle.nm_calls.specs.Inserts.{InsertDid}
 use Rattle.nm_calls.specs.Deletes.{DeleteDid}
 use Rattle.nm_busy.specs.Lookups.{WasBusy}
-use Rattle.nm_busy.specs.Inserts.{WasBusy as InsertWasBusy}
-use Rattle.nm_busy.specs.Deletes.{WasBusy as DeleteWasBusy}
+use Rattle.nm_busy.specs.Lost.{ChangeWasBusy}
 use Rattle.nm_busy.specs.Alone.{IsAlone}
 use Rattle.nm_busy.specs.Pending.{NonePends}
 use Rattle.nm_busy.proofs.AloneCalls.{lookups_alone_are_answered, inserts_alone_are_answered, deletes_alone_are_not_busy}
 use Rattle.nm_busy.proofs.LostLookups.{busy_lookups_were_disturbed}
-use Rattle.nm_busy.proofs.BareLinks.{busy_inserts_were_lost}
-use Rattle.nm_busy.proofs.BareFlags.{busy_deletes_were_lost}
+use Rattle.nm_busy.proofs.HinderedCalls.{busy_inserts_were_lost, busy_deletes_were_lost}
 
 -- of a tree and a worker whose insides are b and o, a call that ends at q
 module _ (b d : Board) (o p q : Stand) (k tries : ℕ) (board : b ≡ d) (at : o ≡ p) (seen : HasSeen o.view) (after : HasSeen q.view) (fits : IsLayout o.view.layout) (same : IsSamePass o q) (past : HasSeenAllOf q o) where
@@ -39,15 +37,15 @@ module _ (b d : Board) (o p q : Stand) (k tries : ℕ) (board : b ≡ d) (at : o
       subst (λ (x : Stand). WasBusy x q tries) at
       (busy_lookups_were_disturbed k tries o q seen after enough same past (subst (λ (L : Layout). HasMissed L tries k o.view.log q.view.log) (sym layout) did))
 
-  pub insert_disturbed : (f g : Fit) → f ≡ g → InsertDid f b.layout tries k o.view.log q.view.log (Err lost.Busy) → InsertWasBusy g d.layout k p q tries
-  insert_disturbed f g fit did =
-      subst (λ (x : Stand). InsertWasBusy g d.layout k x q tries) at (subst (λ (x : Board). InsertWasBusy g x.layout k o q tries) board (subst (λ (h : Fit). InsertWasBusy h b.layout k o q tries) fit
-      (busy_inserts_were_lost f b.layout k tries o q seen after enough same past did)))
+  pub insert_disturbed : IsOf d p → (f : Fit) → InsertDid f b.layout tries k o.view.log q.view.log (Err lost.Busy) → ChangeWasBusy k p q tries
+  insert_disturbed own f did =
+      subst (λ (x : Stand). ChangeWasBusy k x q tries) at
+      (busy_inserts_were_lost f k tries o q seen after enough same past (subst (λ (L : Layout). InsertDid f L tries k o.view.log q.view.log (Err lost.Busy)) (sym (layouts own)) did))
 
-  pub delete_disturbed : DeleteDid b.layout tries k o.view.log q.view.log (Err missed.Busy) → DeleteWasBusy d.layout k p q tries
-  delete_disturbed did =
-      subst (λ (x : Stand). DeleteWasBusy d.layout k x q tries) at (subst (λ (x : Board). DeleteWasBusy x.layout k o q tries) board
-      (busy_deletes_were_lost b.layout k tries o q seen after enough same past did))
+  pub delete_disturbed : IsOf d p → DeleteDid b.layout tries k o.view.log q.view.log (Err missed.Busy) → ChangeWasBusy k p q tries
+  delete_disturbed own did =
+      subst (λ (x : Stand). ChangeWasBusy k x q tries) at
+      (busy_deletes_were_lost k tries o q seen after enough same past (subst (λ (L : Layout). DeleteDid L tries k o.view.log q.view.log (Err missed.Busy)) (sym (layouts own)) did))
 
   -- ---- alone
 

@@ -8,8 +8,7 @@ ghost use Rattle.nm_calls.specs.Deletes.{IsRemoving, AfterDelete, LosesEachTry, 
 ghost use Rattle.nm_calls.specs.Inserts.{AfterInsert};
 ghost use Rattle.nm_calls.specs.Won.{links_of_insert, flags_of_delete};
 ghost use Rattle.nm_busy.specs.Alone.{IsAlone};
-ghost use Rattle.nm_busy.specs.Inserts.{WasBusy as InsertWasBusy};
-ghost use Rattle.nm_busy.specs.Deletes.{WasBusy as DeleteWasBusy};
+ghost use Rattle.nm_busy.specs.Lost.{ChangeWasBusy};
 ghost use Rattle.nm_busy.specs.Pending.{NonePends};
 ghost use Rattle.nm_tree.specs.Workers.{IsKept};
 ghost use Rattle.nm_tree.specs.Calls.{MayCall, LeavesInsert, SaysInsert, LeavesDelete, SaysDelete, LeavesFinish, SaysFinish};
@@ -152,7 +151,7 @@ impl Tree {
         ensures says { SaysInsert self.now.layout tries key worker.old worker.new result }
         ensures leaves { LeavesInsert self.now.layout tries key worker.old worker.new result }
         ensures disturbed { IsErrOf result Fault.Busy
-            → InsertWasBusy worker.old.fit self.now.layout key worker.old.pass worker.new.pass tries }
+            → ChangeWasBusy key worker.old.pass worker.new.pass tries }
         ensures alone { IsAlone worker.old.pass worker.new.pass
             → NonePends self.now.layout worker.old.pass.view.past
             → IsErrOf result Fault.Busy → tries ≡ 0 }
@@ -197,7 +196,7 @@ impl Tree {
         ensures says { SaysDelete self.now.layout tries key worker.old worker.new result }
         ensures leaves { LeavesDelete self.now.layout tries key worker.old worker.new result }
         ensures disturbed { IsErrOf result Fault.Busy
-            → DeleteWasBusy self.now.layout key worker.old.pass worker.new.pass tries }
+            → ChangeWasBusy key worker.old.pass worker.new.pass tries }
         ensures alone { IsAlone worker.old.pass worker.new.pass
             → NonePends self.now.layout worker.old.pass.view.past
             → IsErrOf result Fault.Busy → tries ≡ 0 }

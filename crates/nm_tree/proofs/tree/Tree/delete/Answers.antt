@@ -118,7 +118,7 @@ pub returns-in-Err-Busy-clause-disturbed : goal.returns-in-Err-Busy-clause-distu
 returns-in-Err-Busy-clause-disturbed c is =
     let P : Missed → Type 0 = λ m. DeleteDid c.self.inside.shared.layout c.args.tries c.args.key c.worker.inside.pass.view.log c.delete_with.new.pass.view.log (Err m) in
     delete_disturbed c.self.inside.shared c.args.self.now c.worker.inside.pass c.args.worker.now.pass c.delete_with.new.pass c.args.key c.args.tries c.self.view_is (ap (λ (x : Hand). x.pass) c.worker.view_is)
-    c.is_of_a_run.ensures.seen c.is_of_a_run-in-Err-Busy.ensures.seen c.is_of_a_run.ensures.fits c.delete_with.ensures.after.same c.delete_with.ensures.after.past (subst P c.in-Err-Busy.field-0-is c.in-Err-Busy.ensures.after.did)
+    c.is_of_a_run.ensures.seen c.is_of_a_run-in-Err-Busy.ensures.seen c.is_of_a_run.ensures.fits c.delete_with.ensures.after.same c.delete_with.ensures.after.past c.requires.own (subst P c.in-Err-Busy.field-0-is c.in-Err-Busy.ensures.after.did)
 
 pub returns-in-Err-Busy-clause-alone : goal.returns-in-Err-Busy-clause-alone
 returns-in-Err-Busy-clause-alone c alone none is =

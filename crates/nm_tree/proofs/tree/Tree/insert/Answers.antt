@@ -108,7 +108,7 @@ returns-clause-disturbed c is =
       | in-Err-Busy w ↦
           let P : Lost → Type 0 = λ m. InsertDid c.worker.inside.workspace.placement c.self.inside.shared.layout c.args.tries c.args.key c.worker.inside.pass.view.log c.insert_with.new.pass.view.log (Err m) in
           insert_disturbed c.self.inside.shared c.args.self.now c.worker.inside.pass c.args.worker.now.pass c.insert_with.new.pass c.args.key c.args.tries c.self.view_is (ap (λ (x : Hand). x.pass) c.worker.view_is)
-          c.is_of_a_run.ensures.seen w.is_of_a_run-in-Err-Busy.ensures.seen c.is_of_a_run.ensures.fits c.insert_with.ensures.after.same c.insert_with.ensures.after.past _ _ (ap (λ (x : Hand). x.fit) c.worker.view_is)
+          c.is_of_a_run.ensures.seen w.is_of_a_run-in-Err-Busy.ensures.seen c.is_of_a_run.ensures.fits c.insert_with.ensures.after.same c.insert_with.ensures.after.past c.requires.own _
           (subst P w.in-Err-Busy.field-0-is w.in-Err-Busy.ensures.after.did)
       | in-Err-Full w ↦ absurd (let both = sym w.result-is ∙ is in cc)
       | in-Err-NoMemory w ↦ absurd (let both = sym w.result-is ∙ is in cc)

@@ -1,0 +1,181 @@
+-- What hinders a worker while its log grows: each part of it that is hindered so often adds as many
+-- such turns to a run.
+use Rattle.std.proofs.Common.{◌≡◌, ℕ, zero, suc, ◌+◌, ◌*◌, ◌≤◌, ◌==◌, Bool, true, false, cond, not, ◌&&◌, ◌||◌, List, [], ◌∷◌, ◌++◌, append_assoc, refl, sym, ap, subst, ◌∙◌, arith, true≢false}
+use Rattle.std.specs.Prelude.{Ok, All}
+use Rattle.std.proofs.lemmas.Bool.{eq-eqb}
+use Rattle.std.proofs.lemmas.List.{append_cancel_left}
+use Rattle.nm_edge.specs.Layouts.{Layout}
+use Rattle.nm_model.specs.declared.event.Event.{Event}
+use Rattle.nm_model.specs.declared.event.Event.TheVariants.{Join}
+use Rattle.nm_model.specs.declared.reply.Reply.{Reply}
+use Rattle.nm_model.specs.declared.trace.Turn.{Turn}
+use Rattle.nm_model.specs.Knowledge.{Knowledge}
+use Rattle.nm_model.specs.Runs.{of}
+use Rattle.nm_model.specs.Walks.{Entry}
+use Rattle.nm_model.specs.Ordered.{Configuration, ordered, next_in, outcome_in, after_in, trace_in}
+use Rattle.nm_order.specs.Intervals.{HasKey}
+use Rattle.nm_order.specs.Logs.{part_of, known_after, known_by}
+use Rattle.nm_order.proofs.OrderedLaws.{IsOrdered, each_ordered}
+use Rattle.nm_order.proofs.PartsOfRuns.{logs_tell}
+use Rattle.nm_order.proofs.RunExchanges.{first_keys}
+use Rattle.nm_order.proofs.WalksOfRuns.{trace_in-append}
+use Rattle.nm_steps.specs.Steps.{Stand, IsSamePass, HasSeenAllOf, HasSeen}
+use Rattle.nm_calls.specs.PlainWalks.{events_of}
+use Rattle.nm_calls.proofs.PlainLooks.{as_events, events_go_on}
+use Rattle.nm_calls.specs.Walks.{IsTooLong}
+use Rattle.nm_progress.specs.Moves.{number_of}
+use Rattle.nm_progress.specs.Paid.{links_on, flags_on, cuts_on, tags_on, links_in, flags_in}
+use Rattle.nm_progress.specs.Tries.{changes_of_others, reshapes_of_others, helps_on, hinders, LosesTries}
+use Rattle.nm_progress.proofs.LostTries.{later_keys}
+use Rattle.nm_progress.proofs.CountedTries.{known_longer, own_turn, lost_count, hindrances_are_paid}
+use Rattle.nm_progress.proofs.SplitTurns.{SplitTurn, split_turn, ordered_after, part_teaches, turn_in, number_split, number-append}
+use Rattle.nm_busy.specs.Lost.{WasHindered}
+use Rattle.nm_busy.proofs.Astray.{SplitPart, split_part, one_astray}
+use Rattle.nm_busy.proofs.LostPins.{part-append, turns_between}
+use Rattle.nm_busy.proofs.Parts.{Longer}
+
+-- ---- turns
+
+-- a change of another hinders, and so does a reshaping of another
+others_hinder : (w : ℕ) (ts : List Turn) → number_of (changes_of_others w) ts ≤ number_of (hinders w) ts
+others_hinder w [] = omega arith
+others_hinder w (t ∷ ts) = by (t.worker == w) (links_on t.event t.outcome) (flags_on t.event t.outcome) (cuts_on t.event t.outcome) (tags_on t.event t.outcome) (others_hinder w ts)
+  where
+    by : (o a b c d : Bool) → number_of (changes_of_others w) ts ≤ number_of (hinders w) ts
+        → cond (not o && (a || (b || (c || d)))) 1 0 + number_of (changes_of_others w) ts ≤ cond (cond o (c || d) (a || (b || (c || d)))) 1 0 + number_of (hinders w) ts
+    by true a b true d rest = omega (arith, rest)
+    by true a b false true rest = omega (arith, rest)
+    by true a b false false rest = omega (arith, rest)
+    by false true b c d rest = omega (arith, rest)
+    by false false true c d rest = omega (arith, rest)
+    by false false false true d rest = omega (arith, rest)
+    by false false false false true rest = omega (arith, rest)
+    by false false false false false rest = omega (arith, rest)
+
+shapes_hinder : (w : ℕ) (ts : List Turn) → number_of (reshapes_of_others w) ts ≤ number_of (hinders w) ts
+shapes_hinder w [] = omega arith
+shapes_hinder w (t ∷ ts) = by (t.worker == w) (links_on t.event t.outcome) (flags_on t.event t.outcome) (cuts_on t.event t.outcome) (tags_on t.event t.outcome) (shapes_hinder w ts)
+  where
+    by : (o a b c d : Bool) → number_of (reshapes_of_others w) ts ≤ number_of (hinders w) ts
+        → cond (not o && (a || c)) 1 0 + number_of (reshapes_of_others w) ts ≤ cond (cond o (c || d) (a || (b || (c || d)))) 1 0 + number_of (hinders w) ts
+    by true a b true d rest = omega (arith, rest)
+    by true a b false true rest = omega (arith, rest)
+    by true a b false false rest = omega (arith, rest)
+    by false true b c d rest = omega (arith, rest)
+    by false false true true d rest = omega (arith, rest)
+    by false false true false d rest = omega (arith, rest)
+    by false false false true d rest = omega (arith, rest)
+    by false false false false true rest = omega (arith, rest)
+    by false false false false false rest = omega (arith, rest)
+
+-- ---- parts of a log
+
+module _ (L : Layout) (enough : 5 ≤ L.nodes) (w : ℕ) where
+  -- in each run in which the log grows so, the worker is hindered at least so often meanwhile
+  pub record Hinders (old new : List Entry) (n : ℕ) : Type 0 where
+    pub entries : List Entry
+    pub are : new ≡ old ++ entries
+    pub counted : (c : Configuration) → IsOrdered L c → of c.state w ≡ known_by L w old → (ts : List (ℕ × Event)) → All (λ t. HasKey t.1) ts → part_of w (trace_in c ts) ≡ entries → n ≤ number_of (hinders w) (trace_in c ts)
+
+  pub of_longer : (old new : List Entry) → Longer old new → Hinders old new 0
+  of_longer old new l = record { entries = l.entries; are = l.are; counted = λ c o knowing ts keys is. omega arith }
+
+  pub hinders_then : (old mid new : List Entry) (m n : ℕ) → Hinders old mid m → Hinders mid new n → Hinders old new (m + n)
+  hinders_then old mid new m n a b = record {
+    entries = a.entries ++ b.entries;
+    are = b.are ∙ (ap (λ (l : List Entry). l ++ b.entries) a.are ∙ append_assoc old a.entries b.entries);
+    counted = λ c o knowing ts keys is. both c o knowing ts keys (split_part w a.entries c ts b.entries is);
+  }
+    where
+      both : (c : Configuration) → IsOrdered L c → of c.state w ≡ known_by L w old → (ts : List (ℕ × Event)) → All (λ t. HasKey t.1) ts → SplitPart w c ts a.entries b.entries → m + n ≤ number_of (hinders w) (trace_in c ts)
+      both c o knowing ts keys s =
+          let all = subst (λ (l : List (ℕ × Event)). All (λ t. HasKey t.1) l) s.is_run keys in
+          let first = first_keys s.before s.since all in
+          let later = later_keys s.before s.since all in
+          let o1 = ordered_after w L enough s.before first c o in
+          let known = part_teaches w L enough s.before first c o ∙ (ap (known_after w (of c.state w)) s.is_before ∙ (ap (λ (k : Knowledge). known_after w k a.entries) knowing ∙ (sym (known_longer w _ old a.entries) ∙ ap (known_by L w) (sym a.are)))) in
+          let one = a.counted c o knowing s.before first s.is_before in
+          let two = b.counted (after_in c s.before) o1 known s.since later s.is_since in
+          let run = ap (λ (l : List (ℕ × Event)). number_of (hinders w) (trace_in c l)) s.is_run in
+          let parts = ap (number_of (hinders w)) (trace_in-append c s.before s.since) ∙ number-append (hinders w) (trace_in c s.before) (trace_in (after_in c s.before) s.since) in
+          omega (arith, one, two, run, parts)
+
+  -- by tries that were lost to others
+  pub of_tries : (old new entries : List Entry) (n : ℕ) → new ≡ old ++ entries → LosesTries L w old entries n → Hinders old new n
+  of_tries old new entries n are tries = record {
+    entries = entries;
+    are = are;
+    counted = λ c o knowing ts keys is. (
+        let lost = lost_count L enough w old entries n tries c o knowing ts keys is in
+        let few = others_hinder w (trace_in c ts) in
+        omega (arith, lost, few)
+        );
+  }
+
+  -- by an own entry that helps
+  pub of_help : (old new xs ys : List Entry) (e : Event) (r : Reply) → new ≡ old ++ (xs ++ (e, r) ∷ ys) → ((v : ℕ) → e ≡ Join v → ⊥) → helps_on e (Ok r) ≡ true → Hinders old new 1
+  of_help old new xs ys e r are alone helps = record {
+    entries = xs ++ (e, r) ∷ ys;
+    are = are;
+    counted = λ c o knowing ts keys is. one c ts (split_turn w ts c xs (e, r) ys is);
+  }
+    where
+      one_if : Bool → ℕ
+      one_if b = cond b 1 0
+
+      one : (c : Configuration) (ts : List (ℕ × Event)) → SplitTurn w c ts xs (e, r) ys → 1 ≤ number_of (hinders w) (trace_in c ts)
+      one c ts a =
+          let own = own_turn w (after_in c a.before) a.turn e r a.takes a.is_entry alone a.is_allowed in
+          let turn = ap (λ (t : ℕ × Event). one_if (hinders w (turn_in (after_in c a.before) t))) own.0 in
+          let helped : one_if (hinders w (turn_in (after_in c a.before) (w, e))) ≡ 1 = ap one_if (itself (w == w) (eq-eqb w w refl) _ _ ∙ (ap (helps_on e) own.1 ∙ helps)) in
+          let run = ap (λ (l : List (ℕ × Event)). number_of (hinders w) (trace_in c l)) a.is_run in
+          let parts = number_split (hinders w) c a.before a.turn a.since in
+          omega (arith, turn, helped, run, parts)
+        where
+          itself : (b : Bool) → b ≡ true → (x y : Bool) → cond b x y ≡ x
+          itself true is x y = refl
+          itself false is x y = absurd (true≢false (sym is))
+
+  -- by a walk as long as there are slots
+  pub of_astray : (k : ℕ) (old new : List Entry) → Longer old new → IsTooLong L k old new → Hinders old new 1
+  of_astray k old new l long = record {
+    entries = l.entries;
+    are = l.are;
+    counted = λ c o knowing ts keys is. (
+        let led = one_astray L enough w k c o ts keys old new long (ap (λ (xs : List Entry). old ++ xs) is ∙ sym l.are) in
+        let few = shapes_hinder w (trace_in c ts) in
+        omega (arith, led, few)
+        );
+  }
+
+-- ---- between two moments of a pass
+
+pub was_hindered : (p q : Stand) (n : ℕ) → HasSeen p.view → HasSeen q.view → (enough : 5 ≤ p.view.layout.nodes) → IsSamePass p q → HasSeenAllOf q p → Hinders p.view.layout enough p.view.number p.view.log q.view.log n → WasHindered p q n
+was_hindered p q n seen_p seen_q enough same on h = record {
+  turns = on.goes_on.more;
+  is = on.goes_on.is;
+  hindered = subst (λ (ts : List Turn). n ≤ number_of (hinders p.view.number) ts) (turns_between p q seen_p seen_q same on.goes_on) count;
+  paid = subst (λ (ts : List Turn). n ≤ links_in ts + 3 * flags_in ts + 2 * p.view.layout.workers) (turns_between p q seen_p seen_q same on.goes_on) (let most = hindrances_are_paid p.view.layout enough p.view.number (events_of p.view.past) (events_of on.goes_on.more) keys in omega (arith, count, most));
+}
+  where
+    number : p.view.number ≡ q.view.number
+    number = sym (ap (λ (s : Stand). s.view.number) same)
+
+    layout : p.view.layout ≡ q.view.layout
+    layout = sym (ap (λ (s : Stand). s.view.layout) same)
+
+    keys : All (λ t. HasKey t.1) ((events_of p.view.past) ++ (events_of on.goes_on.more))
+    keys = subst (λ (l : List (ℕ × Event)). All (λ t. HasKey t.1) l) (events_go_on q.view.past p.view.past on.goes_on) (as_events q.view seen_q).keys
+
+    past_keys : All (λ t. HasKey t.1) (events_of p.view.past)
+    past_keys = first_keys (events_of p.view.past) (events_of on.goes_on.more) keys
+
+    is_new : part_of p.view.number (trace_in (ordered p.view.layout) ((events_of p.view.past) ++ (events_of on.goes_on.more))) ≡ q.view.log
+    is_new = ap (λ (l : List (ℕ × Event)). part_of p.view.number (trace_in (ordered p.view.layout) l)) (sym (events_go_on q.view.past p.view.past on.goes_on)) ∙ ((λ i. part_of (number i) (trace_in (ordered (layout i)) (events_of q.view.past))) ∙ (as_events q.view seen_q).is_part)
+
+    part : part_of p.view.number (trace_in (after_in (ordered p.view.layout) (events_of p.view.past)) (events_of on.goes_on.more)) ≡ h.entries
+    part = append_cancel_left p.view.log _ _ (ap (λ (l : List Entry). l ++ part_of p.view.number (trace_in (after_in (ordered p.view.layout) (events_of p.view.past)) (events_of on.goes_on.more))) (sym (as_events p.view seen_p).is_part)
+        ∙ (sym (part-append p.view.number (trace_in (ordered p.view.layout) (events_of p.view.past)) (trace_in (after_in (ordered p.view.layout) (events_of p.view.past)) (events_of on.goes_on.more))) ∙ (ap (part_of p.view.number) (sym (trace_in-append (ordered p.view.layout) (events_of p.view.past) (events_of on.goes_on.more))) ∙ (is_new ∙ h.are))))
+
+    count : n ≤ number_of (hinders p.view.number) (trace_in (after_in (ordered p.view.layout) (events_of p.view.past)) (events_of on.goes_on.more))
+    count = h.counted (after_in (ordered p.view.layout) (events_of p.view.past)) (each_ordered p.view.layout enough (events_of p.view.past) past_keys) (logs_tell p.view.layout (events_of p.view.past) p.view.number seen_p.worker ∙ ap (known_by p.view.layout p.view.number) (as_events p.view seen_p).is_part) (events_of on.goes_on.more) (later_keys (events_of p.view.past) (events_of on.goes_on.more) keys) part

@@ -1,0 +1,82 @@
+-- Why an insert or a delete was busy: others moved the epoch past its pin, or its tries were lost.
+use Rattle.std.proofs.Common.{◌≡◌, ◌≢◌, ℕ, zero, suc, ◌≤◌, inl, inr, ◌⊎◌, true, List, [], ◌∷◌, ◌++◌, refl, sym, ap, subst, ◌∙◌}
+use Rattle.std.specs.Prelude.{Option, Err, All}
+use Rattle.nm_model.specs.declared.event.Event.{Event}
+use Rattle.nm_model.specs.declared.event.Event.TheVariants.{SightFor, Leave}
+use Rattle.nm_model.specs.declared.event.Op.TheVariants.{Insert, Delete}
+use Rattle.nm_model.specs.declared.reply.Reply.TheVariants.{Departed}
+use Rattle.nm_model.specs.Walks.{Entry}
+use Rattle.nm_model.specs.Ordered.{ordered, trace_in}
+use Rattle.nm_order.specs.Intervals.{HasKey}
+use Rattle.nm_order.specs.Logs.{part_of, IsLogOf}
+use Rattle.nm_steps.specs.Steps.{Stand, IsSamePass, HasSeenAllOf, HasSeen}
+use Rattle.nm_calls.specs.PlainWalks.{events_of}
+use Rattle.nm_calls.proofs.PlainLooks.{as_events}
+use Rattle.nm_epoch.specs.Tries.{IsMoved, IsPinnedBy}
+use Rattle.nm_calls.specs.declared.making.Fork.{Fork}
+use Rattle.nm_calls.specs.declared.inserting.Fault.TheVariants as fault
+use Rattle.nm_calls.specs.declared.deleting.Missed.TheVariants as missed
+use Rattle.nm_calls.specs.Inserts.{LostInserts, Returns, InsertDid}
+use Rattle.nm_calls.specs.Deletes.{LostFlags, DeleteDid}
+use Rattle.nm_progress.proofs.MoreTries.{log_prefix}
+use Rattle.nm_progress.specs.Moves.{is_sight}
+use Rattle.nm_busy.specs.Pins.{WasMovedPast}
+use Rattle.nm_busy.specs.Lost.{WasLost, ChangeWasBusy}
+use Rattle.nm_busy.specs.Inserts.{BusyInsertsWereLost}
+use Rattle.nm_busy.specs.Deletes.{BusyDeletesWereLost}
+use Rattle.nm_busy.proofs.Hindered.{was_hindered}
+use Rattle.nm_busy.proofs.HinderedTries.{Hindrances, none_deep, within, inserts_hinder, flags_hinder}
+use Rattle.nm_busy.proofs.LostPins.{lost_pins_were_moved_past}
+use Rattle.nm_busy.proofs.Parts.{Longer, longer_these, longer_then, pin_longer, returns_longer}
+
+module _ (p q : Stand) (seen_p : HasSeen p.view) (seen_q : HasSeen q.view) (enough : 5 ≤ p.view.layout.nodes) (same : IsSamePass p q) (on : HasSeenAllOf q p) where
+  -- what q has seen is a run of the worker of p
+  log_q : IsLogOf p.view.layout p.view.number q.view.log
+  log_q = record {
+    worker = seen_p.worker;
+    turns = events_of q.view.past;
+    keys = (as_events q.view seen_q).keys;
+    is_part = (λ i. part_of (number i) (trace_in (ordered (layout i)) (events_of q.view.past))) ∙ (as_events q.view seen_q).is_part;
+  }
+    where
+      number : p.view.number ≡ q.view.number
+      number = sym (ap (λ (s : Stand). s.view.number) same)
+
+      layout : p.view.layout ≡ q.view.layout
+      layout = sym (ap (λ (s : Stand). s.view.layout) same)
+
+  pub moved : (sight : Event) → is_sight sight ≡ true → (n : ℕ) → n ≢ 0 → IsMoved sight n p.view.log q.view.log → WasMovedPast p q n
+  moved event is zero some m = absurd (some refl)
+  moved event is (suc n) some m = lost_pins_were_moved_past p q seen_p seen_q enough same on event is n m
+
+  -- tries that were lost behind a pin
+  lost : (k n : ℕ) (begun ended : List Entry) → Longer p.view.log begun → (IsLogOf p.view.layout p.view.number ended → Hindrances p.view.layout enough p.view.number k begun ended n) → Longer ended q.view.log → WasLost k p q n
+  lost k n begun ended a tries b = by (within p.view.layout enough p.view.number k n p.view.log begun ended q.view.log a (tries (log_prefix p.view.layout p.view.number ended b.entries (subst (IsLogOf p.view.layout p.view.number) b.are log_q))) b)
+    where
+      by : Hindrances p.view.layout enough p.view.number k p.view.log q.view.log n → WasLost k p q n
+      by s = record {
+        hindered = s.hindered;
+        deep = s.deep;
+        all = s.all;
+        was = was_hindered p q s.hindered seen_p seen_q enough same on s.hinders;
+        walks = s.walks;
+        radix = none_deep p.view.layout k s.deep p.view.log q.view.log s.walks;
+      }
+
+pub busy_inserts_were_lost : BusyInsertsWereLost
+busy_inserts_were_lost fit k tries p q seen_p seen_q enough same on did = by did
+  where
+    by : InsertDid fit p.view.layout tries k p.view.log q.view.log (Err fault.Busy) → ChangeWasBusy k p q tries
+    by (inl none) = inl none.0
+    by (inr (inl m)) = inr (inl (moved p q seen_p seen_q enough same on (SightFor Insert k) refl tries m.0 m.1))
+    by (inr (inr (pinned, epoch, pin, (f, mid, back, tried, returns, leaves)))) = inr (inr (lost p q seen_p seen_q enough same on k tries pinned mid (pin_longer (SightFor Insert k) tries p.view.log pinned epoch pin)
+        (inserts_hinder p.view.layout enough p.view.number k fit tries f pinned mid tried) (longer_then mid back q.view.log (returns_longer f mid back returns) (longer_these _ back q.view.log leaves))))
+
+pub busy_deletes_were_lost : BusyDeletesWereLost
+busy_deletes_were_lost k tries p q seen_p seen_q enough same on did = by did
+  where
+    by : DeleteDid p.view.layout tries k p.view.log q.view.log (Err missed.Busy) → ChangeWasBusy k p q tries
+    by (inl none) = inl none.0
+    by (inr (inl m)) = inr (inl (moved p q seen_p seen_q enough same on (SightFor Delete k) refl tries m.0 m.1))
+    by (inr (inr (pinned, epoch, pin, (c, mid, tried, leaves)))) = inr (inr (lost p q seen_p seen_q enough same on k tries pinned mid (pin_longer (SightFor Delete k) tries p.view.log pinned epoch pin)
+        (flags_hinder p.view.layout enough p.view.number k tries pinned mid tried) (longer_these _ mid q.view.log leaves)))
