@@ -42,6 +42,11 @@ module _ (L : Layout) (k : ℕ) where
   deep_behind zero old mid new d b = (d.0 ++ b.entries, b.are ∙ (ap (λ (l : List Entry). l ++ b.entries) d.1 ∙ append_assoc old d.0 b.entries))
   deep_behind (suc n) old mid new d b = (d.0, d.1, d.2 ++ b.entries, d.3, d.4, b.are ∙ (ap (λ (l : List Entry). l ++ b.entries) d.5 ∙ append_assoc d.1 d.2 b.entries))
 
+  -- those of two parts of a log
+  pub deep_then : (m n : ℕ) (old mid new : List Entry) → DeepWalks L k m old mid → DeepWalks L k n mid new → DeepWalks L k (m + n) old new
+  deep_then m zero old mid new a b = subst (λ (l : ℕ). DeepWalks L k l old new) (let is : m ≡ m + 0 = omega arith in is) (deep_behind m old mid new a (record { entries = b.0; are = b.1 }))
+  deep_then m (suc n) old mid new a b = subst (λ (l : ℕ). DeepWalks L k l old new) (let is : suc (m + n) ≡ m + suc n = omega arith in is) (b.0, b.1, b.2, deep_then m n old mid b.0 a b.3, b.4, b.5)
+
   -- none is in a radix tree
   pub none_deep : (n : ℕ) (old new : List Entry) → DeepWalks L k n old new → L.radix ≡ true → n ≡ 0
   none_deep zero old new d radix = refl
@@ -86,7 +91,7 @@ asks r e still = and_from (e.slot == r.spot.edge.slot) (e.flag || e.tag) (eq-eqb
 
 module _ (L : Layout) (enough : 5 ≤ L.nodes) (w k : ℕ) where
   -- a walk that was broken off
-  broken_hinders : (old new : List Entry) → IsBroken L k old new → Hinders L enough w old new 1 ⊎ IsTooDeep L k old new
+  pub broken_hinders : (old new : List Entry) → IsBroken L k old new → Hinders L enough w old new 1 ⊎ IsTooDeep L k old new
   broken_hinders old new (inl long) = inl (of_astray L enough w k old new (broken_longer L k old new (inl long)) long)
   broken_hinders old new (inr deep) = inr deep
 
@@ -155,12 +160,12 @@ module _ (L : Layout) (enough : 5 ≤ L.nodes) (w k : ℕ) where
   pub record Hindrances (old new : List Entry) (n : ℕ) : Type 0 where
     pub hindered : ℕ
     pub deep : ℕ
-    pub all : hindered + deep ≡ n
+    pub all : n ≤ hindered + deep
     pub hinders : Hinders L enough w old new hindered
     pub walks : DeepWalks L k deep old new
 
   pub none_yet : (old new : List Entry) → Longer old new → Hindrances old new 0
-  none_yet old new l = record { hindered = 0; deep = 0; all = refl; hinders = of_longer L enough w old new l; walks = (l.entries, l.are) }
+  none_yet old new l = record { hindered = 0; deep = 0; all = omega arith; hinders = of_longer L enough w old new l; walks = (l.entries, l.are) }
 
   longer_by : (old new : List Entry) (n : ℕ) → Hinders L enough w old new n → Longer old new
   longer_by old new n h = record { entries = h.entries; are = h.are }
@@ -197,6 +202,15 @@ module _ (L : Layout) (enough : 5 ≤ L.nodes) (w k : ℕ) where
   pub flags_hinder : (n : ℕ) (old new : List Entry) → LostFlags L k n old new → IsLogOf L w new → Hindrances old new n
   flags_hinder zero old new h l = none_yet old new (longer_these [] old new (h ∙ sym (append-nil old)))
   flags_hinder (suc n) old new (c, mid, before, try) l = one_more n old mid new (flags_hinder n old mid before) (flag_hinders c mid new try l) l
+
+  pub both : (m n : ℕ) (old mid new : List Entry) → Hindrances old mid m → Hindrances mid new n → Hindrances old new (m + n)
+  both m n old mid new a b = record {
+    hindered = a.hindered + b.hindered;
+    deep = a.deep + b.deep;
+    all = let first = a.all in let second = b.all in omega (arith, first, second);
+    hinders = hinders_then L enough w old mid new a.hindered b.hindered a.hinders b.hinders;
+    walks = deep_then L k a.deep b.deep old mid new a.walks b.walks;
+  }
 
   -- and so between a call's begin and its end
   pub within : (n : ℕ) (old begun ended new : List Entry) → Longer old begun → Hindrances begun ended n → Longer ended new → Hindrances old new n

@@ -6,6 +6,7 @@ pub mod LostLookups
 pub mod Hindered
 pub mod MarkedReads
 pub mod HinderedTries
+pub mod HinderedRemovals
 pub mod HinderedCalls
 pub mod PendingTurns
 pub mod AloneCalls

@@ -310,13 +310,13 @@ module _ (L : Layout) (enough : 5 ≤ L.nodes) (w : ℕ) where
           (subst (λ (d : Side). Holds L w (start ++ (Look s.parent (EdgeOn s.side), EdgeIs e) ∷ []) (IsTagged s.parent d s.edge.slot)) (sym (twice_other s.side)) (facts_stay L enough w start (Look s.parent (EdgeOn s.side), EdgeIs e) log1 refl (IsTagged s.parent s.side s.edge.slot) tagged))) _ _ none
 
   -- what it looks at changes nothing
-  chooses_plain : (s : Spot) (r : Option Kept) (old new : List Entry) → Chooses s old new r → Plain old new
+  pub chooses_plain : (s : Spot) (r : Option Kept) (old new : List Entry) → Chooses s old new r → Plain old new
   chooses_plain s r old new h = plain_then old _ new (plain_these _ old _ refl refl) (plain_these _ _ new refl h.2)
 
   freezes_one : (slot : ℕ) (side : Side) (old new : List Entry) → FreezesOne slot side old new → Plain old new
   freezes_one slot side old new h = plain_then old _ new (plain_these _ old _ refl refl) (plain_then _ _ new (plain_these _ _ _ refl refl) (plain_these _ _ new refl h.3))
 
-  freezes_plain : (parent : ℕ) (keep : Side) (c : List ChainEdge) (old new : List Entry) → Freezes parent keep c old new → Plain old new
+  pub freezes_plain : (parent : ℕ) (keep : Side) (c : List ChainEdge) (old new : List Entry) → Freezes parent keep c old new → Plain old new
   freezes_plain parent keep [] old new h = freezes_one parent keep old new h
   freezes_plain parent keep (l ∷ c) old new h = plain_then old h.0 new (freezes_one l.slot l.side old h.0 h.1) (freezes_plain parent keep c h.0 new h.2)
 

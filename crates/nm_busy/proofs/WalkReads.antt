@@ -60,7 +60,7 @@ onto_parent t d e = by t.edge.tag
     by true = refl
     by false = refl
 
-onto_side : (t : Spot) (d : Side) (e : Edge) → (onto t d e).side ≡ d
+pub onto_side : (t : Spot) (d : Side) (e : Edge) → (onto t d e).side ≡ d
 onto_side t d e = by t.edge.tag
   where
     by : (b : Bool) → (cond {A = Spot} b (record { ancestor = t.ancestor; above = t.above; successor = t.successor; parent = t.edge.slot; side = d; edge = e }) (record { ancestor = t.parent; above = t.side; successor = t.edge.slot; parent = t.edge.slot; side = d; edge = e })).side ≡ d

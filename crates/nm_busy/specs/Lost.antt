@@ -31,7 +31,7 @@ DeepWalks L k (suc n) old new = (from to rest : List Entry) × DeepWalks L k n o
 pub record WasLost (k : ℕ) (p q : Stand) (tries : ℕ) : Type 0 where
   pub hindered : ℕ
   pub deep : ℕ
-  pub all : hindered + deep ≡ tries
+  pub all : tries ≤ hindered + deep
   pub was : WasHindered p q hindered
   pub walks : DeepWalks p.view.layout k deep p.view.log q.view.log
   pub radix : p.view.layout.radix ≡ true → deep ≡ 0

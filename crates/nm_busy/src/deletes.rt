@@ -1,10 +1,18 @@
 //! Deletes.
-ghost use Rattle.nm_busy.specs.Deletes.{BusyDeletesWereLost};
+ghost use Rattle.nm_busy.specs.Deletes.{BusyDeletesWereLost, UnfinishedDeletesWereLost, UnfinishedFinishesWereLost};
 
 /// A delete is busy only where it might make no try; or where others have moved the epoch on at
-/// least as often as it might try; or where each try to flag was lost: those whose walk came by an
-/// edge without a mark to others, who changed edges at least so often between its begin and its
-/// end, which links and flags pay.
+/// least as often as it might try; or where each try to flag was lost: its worker was hindered, by
+/// a change of another or by a help of its own, which links and flags pay. (In the shape of
+/// Natarajan and Mittal it may have walked along 64 tagged edges instead.)
 pub fn busy_deletes_were_lost()
     ensures { BusyDeletesWereLost }
+{}
+
+/// So was each try behind the flag, where the delete was not finished and memory was not refused:
+/// of the call itself, but for the try that won the flag and the cleanup that follows it; and of
+/// each call that goes on with it.
+pub fn unfinished_deletes_were_lost()
+    ensures flagged { UnfinishedDeletesWereLost }
+    ensures finish { UnfinishedFinishesWereLost }
 {}

@@ -2,9 +2,9 @@
 ghost use Rattle.nm_busy.specs.Inserts.{BusyInsertsWereLost};
 
 /// An insert is busy only where it might make no try; or where others have moved the epoch on at
-/// least as often as it might try; or where each try was lost: those whose walk came by an edge
-/// without a mark to others, who changed edges at least so often between its begin and its end,
-/// which links and flags pay.
+/// least as often as it might try; or where each try was lost: its worker was hindered, by a change
+/// of another or by a help of its own, which links and flags pay. (In the shape of Natarajan and
+/// Mittal it may have walked along 64 tagged edges instead.)
 pub fn busy_inserts_were_lost()
     ensures { BusyInsertsWereLost }
 {}

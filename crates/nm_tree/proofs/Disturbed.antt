@@ -1,21 +1,22 @@
 -- Why a call was busy: who has disturbed it, by the laws of progress.
-use Rattle.std.proofs.Common.{◌≡◌, ◌≤◌, ℕ, sym, ap, subst, ◌∙◌, arith}
+use Rattle.std.proofs.Common.{◌≡◌, ◌-◌, ◌≤◌, ℕ, sym, ap, subst, ◌∙◌, arith}
 use Rattle.std.specs.Prelude.{Err}
 use Rattle.nm_edge.specs.Layouts.{Layout, IsLayout}
+use Rattle.nm_edge.specs.declared.node.NodeId.{NodeId}
 use Rattle.nm_pool.specs.declared.placement.Fit.{Fit}
 use Rattle.nm_steps.specs.Steps.{Board, Stand, IsOf, IsSamePass, HasSeen, HasSeenAllOf}
 use Rattle.nm_calls.specs.declared.inserting.Fault.TheVariants as lost
 use Rattle.nm_calls.specs.declared.deleting.Missed.TheVariants as missed
 use Rattle.nm_calls.specs.Calls.{HasMissed}
 use Rattle.nm_calls.specs.Inserts.{InsertDid}
-use Rattle.nm_calls.specs.Deletes.{DeleteDid}
+use Rattle.nm_calls.specs.Deletes.{DeleteDid, IsRemoving, LosesAfterFlag, LosesEachTry}
 use Rattle.nm_busy.specs.Lookups.{WasBusy}
-use Rattle.nm_busy.specs.Lost.{ChangeWasBusy}
+use Rattle.nm_busy.specs.Lost.{WasLost, ChangeWasBusy}
 use Rattle.nm_busy.specs.Alone.{IsAlone}
 use Rattle.nm_busy.specs.Pending.{NonePends}
 use Rattle.nm_busy.proofs.AloneCalls.{lookups_alone_are_answered, inserts_alone_are_answered, deletes_alone_are_not_busy}
 use Rattle.nm_busy.proofs.LostLookups.{busy_lookups_were_disturbed}
-use Rattle.nm_busy.proofs.HinderedCalls.{busy_inserts_were_lost, busy_deletes_were_lost}
+use Rattle.nm_busy.proofs.HinderedCalls.{busy_inserts_were_lost, busy_deletes_were_lost, unfinished_deletes_were_lost, unfinished_finishes_were_lost}
 
 -- of a tree and a worker whose insides are b and o, a call that ends at q
 module _ (b d : Board) (o p q : Stand) (k tries : ℕ) (board : b ≡ d) (at : o ≡ p) (seen : HasSeen o.view) (after : HasSeen q.view) (fits : IsLayout o.view.layout) (same : IsSamePass o q) (past : HasSeenAllOf q o) where
@@ -46,6 +47,16 @@ module _ (b d : Board) (o p q : Stand) (k tries : ℕ) (board : b ≡ d) (at : o
   delete_disturbed own did =
       subst (λ (x : Stand). ChangeWasBusy k x q tries) at
       (busy_deletes_were_lost k tries o q seen after enough same past (subst (λ (L : Layout). DeleteDid L tries k o.view.log q.view.log (Err missed.Busy)) (sym (layouts own)) did))
+
+  pub delete_lost : IsOf d p → (n : NodeId) → IsRemoving q k n → LosesAfterFlag b.layout tries k o.view.log q.view.log n → WasLost k p q (tries - 2)
+  delete_lost own n removing did =
+      subst (λ (x : Stand). WasLost k x q (tries - 2)) at
+      (unfinished_deletes_were_lost k tries n o q seen after enough same past removing (subst (λ (L : Layout). LosesAfterFlag L tries k o.view.log q.view.log n) (sym (layouts own)) did))
+
+  pub finish_lost : IsOf d p → (n : NodeId) → IsRemoving q k n → LosesEachTry b.layout k n tries o.view.log q.view.log → WasLost k p q tries
+  finish_lost own n removing did =
+      subst (λ (x : Stand). WasLost k x q tries) at
+      (unfinished_finishes_were_lost k tries n o q seen after enough same past removing (subst (λ (L : Layout). LosesEachTry L k n tries o.view.log q.view.log) (sym (layouts own)) did))
 
   -- ---- alone
 

@@ -11,6 +11,7 @@ ghost use Rattle.nm_busy.specs.Alone.{IsAlone};
 ghost use Rattle.nm_busy.specs.Lost.{ChangeWasBusy};
 ghost use Rattle.nm_busy.specs.Pending.{NonePends};
 ghost use Rattle.nm_tree.specs.Workers.{IsKept};
+ghost use Rattle.nm_tree.specs.Answers.{DeleteWasLost, FinishWasLost};
 ghost use Rattle.nm_tree.specs.Calls.{MayCall, LeavesInsert, SaysInsert, LeavesDelete, SaysDelete, LeavesFinish, SaysFinish};
 
 use crate::fault::Fault;
@@ -197,6 +198,8 @@ impl Tree {
         ensures leaves { LeavesDelete self.now.layout tries key worker.old worker.new result }
         ensures disturbed { IsErrOf result Fault.Busy
             → ChangeWasBusy key worker.old.pass worker.new.pass tries }
+        ensures lost { IsErrOf result Fault.Unfinished
+            → DeleteWasLost tries key worker.old worker.new }
         ensures alone { IsAlone worker.old.pass worker.new.pass
             → NonePends self.now.layout worker.old.pass.view.past
             → IsErrOf result Fault.Busy → tries ≡ 0 }
@@ -223,6 +226,7 @@ impl Tree {
             }
             Err(Missed::NoMemory) => Err(Fault::NoMemory),
             Err(Missed::Unfinished(leaf)) => {
+                worker.pass.is_of_a_run();
                 worker.standing = Standing::Pending(Unfinished { key, leaf });
                 Err(Fault::Unfinished)
             }
@@ -241,6 +245,7 @@ impl Tree {
         requires own { IsOf self.now worker.old.pass }
         ensures says { SaysFinish self.now.layout tries worker.old worker.new result }
         ensures leaves { LeavesFinish self.now.layout tries worker.old worker.new result }
+        ensures lost { IsErrOf result Fault.Unfinished → FinishWasLost tries worker.old worker.new }
     {
         if let Standing::Pending(_) = worker.standing {
             return self.finish_pending(worker, tries);
@@ -255,12 +260,14 @@ impl Tree {
         requires own { IsOf self.now worker.old.pass }
         ensures says { SaysFinish self.now.layout tries worker.old worker.new result }
         ensures leaves { LeavesFinish self.now.layout tries worker.old worker.new result }
+        ensures lost { IsErrOf result Fault.Unfinished → FinishWasLost tries worker.old worker.new }
     {
         let Standing::Pending(pending) = worker.standing else {
             return Ok(false);
         };
         let own = &mut worker.queues[worker.home];
         let account = &mut worker.accounts[worker.home];
+        worker.pass.is_of_a_run();
         if !finish_with(
             &self.shared,
             &mut worker.pass,
@@ -270,6 +277,7 @@ impl Tree {
             &pending,
             tries,
         ) {
+            worker.pass.is_of_a_run();
             return Err(Fault::Unfinished);
         }
         worker.standing = Standing::Resting;

@@ -6,7 +6,7 @@ use Rattle.nm_steps.proofs.Seeing.{seen_all}
 use Rattle.nm_tree.specs.Workers.{Hand, held_in, pending_in}
 use Rattle.nm_tree.proofs.QueueLists.{lacks_after, others_stay, others_after, stands_within, room_stays, room_after}
 use Rattle.nm_tree.proofs.Staying.{resting_in, rests_in, rests_as, free_in}
-use Rattle.nm_tree.proofs.Disturbed.{delete_disturbed, delete_alone}
+use Rattle.nm_tree.proofs.Disturbed.{delete_disturbed, delete_lost, delete_alone}
 use Rattle.nm_tree.proofs.Changing.{accounts_within, kept_there, changed}
 use Rattle.nm_calls.specs.declared.deleting.Missed.{Missed}
 use Rattle.nm_calls.specs.Deletes.{DeleteDid, LacksRoomOr, LosesAfterFlag}
@@ -205,3 +205,14 @@ returns-in-Err-Unfinished-clause-leaves c = record {
       ])
       );
 }
+
+pub returns-in-Err-Unfinished-clause-lost : goal.returns-in-Err-Unfinished-clause-lost
+returns-in-Err-Unfinished-clause-lost c is =
+    let P : Missed → Type 0 = λ m. LacksRoomOr (LosesAfterFlag c.self.inside.shared.layout c.args.tries c.args.key c.worker.inside.pass.view.log c.delete_with.new.pass.view.log) c.delete_with.new.own.queue.spare m in
+    (elim (subst P c.in-Err-Unfinished.field-0-is c.in-Err-Unfinished.ensures.refused) [
+      | inl less ↦ inl (lacks_after c.worker.inside.home _ _ c.worker.inside.queues.items c.delete_with.new.own c.worker.invariant.own c.delete_with.ensures.kept.own less)
+      | inr lost ↦ inr
+          (delete_lost c.self.inside.shared c.args.self.now c.worker.inside.pass c.args.worker.now.pass c.delete_with.new.pass c.args.key c.args.tries c.self.view_is (ap (λ (x : Hand). x.pass) c.worker.view_is)
+          c.is_of_a_run.ensures.seen c.is_of_a_run-in-Err-Unfinished.ensures.seen c.is_of_a_run.ensures.fits c.delete_with.ensures.after.same c.delete_with.ensures.after.past c.requires.own c.in-Err-Unfinished.leaf
+          (rw c.in-Err-Unfinished.field-0-is at c.in-Err-Unfinished.ensures.after.stands) lost)
+    ])

@@ -10,6 +10,7 @@ use Rattle.nm_tree.proofs.QueueLists.{lacks_after, others_stay, others_after, st
 use Rattle.nm_tree.proofs.Changing.{accounts_within, kept_there, changed}
 use Rattle.nm_tree.proofs.Staying.{removing_in}
 use Rattle.std.specs.Prelude.{true}
+use Rattle.nm_tree.proofs.Disturbed.{finish_lost}
 use Rattle.nm_tree.proofs.Telling.{finished_so}
 use Rattle.nm_tree.proofs.tree.Tree.finish_pending.Goals as goal
 
@@ -116,3 +117,12 @@ returns-clause-leaves c = record {
       );
   lacks = search rules;
 }
+
+pub returns-then-not-finish_with-clause-lost : goal.returns-then-not-finish_with-clause-lost
+returns-then-not-finish_with-clause-lost c is =
+    (elim (c.finish_with.ensures.refused c.if-not-finish_with.true) [
+      | inl less ↦ inl (lacks_after c.worker.inside.home _ _ c.worker.inside.queues.items c.finish_with.new.own c.worker.invariant.own c.finish_with.ensures.kept.own less)
+      | inr lost ↦ inr (c.in-Pending.pending, ap (λ (w : Hand). w.pending) (sym c.worker.view_is) ∙ ap pending_in c.in-Pending.is,
+          finish_lost c.self.inside.shared c.args.self.now c.worker.inside.pass c.args.worker.now.pass c.finish_with.new.pass c.in-Pending.pending.key c.args.tries c.self.view_is (ap (λ (x : Hand). x.pass) c.worker.view_is)
+          c.is_of_a_run.ensures.seen c.is_of_a_run-then-not-finish_with.ensures.seen c.is_of_a_run.ensures.fits c.finish_with.ensures.after.same c.finish_with.ensures.after.past c.requires.own c.in-Pending.pending.leaf (c.finish_with.ensures.after.removing c.if-not-finish_with.true) lost)
+    ])
