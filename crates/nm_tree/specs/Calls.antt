@@ -25,10 +25,11 @@ use Rattle.nm_calls.specs.PrevKeys.{WasPrev, GiveUp as GiveUpPrev}
 use Rattle.nm_calls.specs.PlainWalks.{most_looks}
 use Rattle.nm_calls.specs.Won.{HasWon}
 use Rattle.nm_busy.specs.Lookups.{WasBusy}
+use Rattle.nm_busy.specs.Lost.{ChangeWasBusy}
 use Rattle.nm_tree.specs.declared.fault.Fault.{Fault}
 use Rattle.nm_tree.specs.declared.fault.Fault.TheVariants as fault
 use Rattle.nm_tree.specs.declared.fault.PinFault.{PinFault}
-use Rattle.nm_tree.specs.Answers.{HasAnswered, HasInserted, HasDeleted, HasFinished, FinishHasMoment, HasTold, InsertTold, DeleteTold, FinishTold, DeleteLacks, FinishLacks, HasPinned, KeepsPlace, links_won, flags_won}
+use Rattle.nm_tree.specs.Answers.{HasAnswered, HasInserted, HasDeleted, HasFinished, FinishHasMoment, HasTold, InsertTold, DeleteTold, FinishTold, DeleteLacks, FinishLacks, HasPinned, KeepsPlace, links_won, flags_won, DeleteWasLost, FinishWasLost}
 use Rattle.nm_tree.specs.InTurns.{HasAnsweredMany}
 use Rattle.nm_tree.specs.Looked.{HasLooked, WasMissed}
 use Rattle.nm_tree.specs.Running.{IsFreedInGrace}
@@ -45,7 +46,7 @@ pub record MayCall (b : Board) (w : Hand) : Type 0 where
 -- busy (`disturbed`); that an answer was right at a moment of the call (`moment`); the links and flags that were won, and the longest log (`won`, `steps`); the
 -- queues and how much memory they have (`queues`, `blocks`); and that the worker is held as it was
 -- or not at all and claims as it did (`held`, `fit`). `LeavesHas` and its likes: that, how it was
--- done (`did`), and why not (`lacks`)
+-- done (`did`), and why not (`lacks`, and for all that hindered it `disturbed`, `lost`)
 pub record SaysHas (L : Layout) (tries k : ℕ) (w z : Hand) (r : Result Bool Fault) : Type 0 where
   pub same : IsSamePass w.pass z.pass
   pub past : HasSeenAllOf z.pass w.pass
@@ -77,6 +78,7 @@ pub record SaysInsert (L : Layout) (tries k : ℕ) (w z : Hand) (r : Result Bool
 pub record LeavesInsert (L : Layout) (tries k : ℕ) (w z : Hand) (r : Result Bool Fault) : Type 0 where
   pub says : SaysInsert L tries k w z r
   pub did : HasInserted L tries k w z r
+  pub disturbed : IsErrOf r fault.Busy → ChangeWasBusy k w.pass z.pass tries
 
 pub record SaysDelete (L : Layout) (tries k : ℕ) (w z : Hand) (r : Result Bool Fault) : Type 0 where
   pub same : IsSamePass w.pass z.pass
@@ -94,6 +96,8 @@ pub record LeavesDelete (L : Layout) (tries k : ℕ) (w z : Hand) (r : Result Bo
   pub says : SaysDelete L tries k w z r
   pub did : HasDeleted L tries k w z r
   pub lacks : IfErr r (DeleteLacks L tries k w z)
+  pub disturbed : IsErrOf r fault.Busy → ChangeWasBusy k w.pass z.pass tries
+  pub lost : IsErrOf r fault.Unfinished → DeleteWasLost tries k w z
 
 pub record SaysFinish (L : Layout) (tries : ℕ) (w z : Hand) (r : Result Bool Fault) : Type 0 where
   pub same : IsSamePass w.pass z.pass
@@ -111,6 +115,7 @@ pub record LeavesFinish (L : Layout) (tries : ℕ) (w z : Hand) (r : Result Bool
   pub says : SaysFinish L tries w z r
   pub did : HasFinished L tries w z r
   pub lacks : IfErr r (FinishLacks L tries w z)
+  pub lost : IsErrOf r fault.Unfinished → FinishWasLost tries w z
 
 -- `LeavesHasMany`: the same of a look-up of these queries, which are those after it then
 pub record LeavesHasMany (L : Layout) (tries : ℕ) (old new : List Query) (w z : Hand)

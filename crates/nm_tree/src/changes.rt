@@ -8,10 +8,8 @@ ghost use Rattle.nm_calls.specs.Deletes.{IsRemoving, AfterDelete, LosesEachTry, 
 ghost use Rattle.nm_calls.specs.Inserts.{AfterInsert};
 ghost use Rattle.nm_calls.specs.Won.{links_of_insert, flags_of_delete};
 ghost use Rattle.nm_busy.specs.Alone.{IsAlone};
-ghost use Rattle.nm_busy.specs.Lost.{ChangeWasBusy};
 ghost use Rattle.nm_busy.specs.Pending.{NonePends};
 ghost use Rattle.nm_tree.specs.Workers.{IsKept};
-ghost use Rattle.nm_tree.specs.Answers.{DeleteWasLost, FinishWasLost};
 ghost use Rattle.nm_tree.specs.Calls.{MayCall, LeavesInsert, SaysInsert, LeavesDelete, SaysDelete, LeavesFinish, SaysFinish};
 
 use crate::fault::Fault;
@@ -151,8 +149,6 @@ impl Tree {
         requires { MayCall self.now worker.old }
         ensures says { SaysInsert self.now.layout tries key worker.old worker.new result }
         ensures leaves { LeavesInsert self.now.layout tries key worker.old worker.new result }
-        ensures disturbed { IsErrOf result Fault.Busy
-            → ChangeWasBusy key worker.old.pass worker.new.pass tries }
         ensures alone { IsAlone worker.old.pass worker.new.pass
             → NonePends self.now.layout worker.old.pass.view.past
             → IsErrOf result Fault.Busy → tries ≡ 0 }
@@ -196,10 +192,6 @@ impl Tree {
         requires { MayCall self.now worker.old }
         ensures says { SaysDelete self.now.layout tries key worker.old worker.new result }
         ensures leaves { LeavesDelete self.now.layout tries key worker.old worker.new result }
-        ensures disturbed { IsErrOf result Fault.Busy
-            → ChangeWasBusy key worker.old.pass worker.new.pass tries }
-        ensures lost { IsErrOf result Fault.Unfinished
-            → DeleteWasLost tries key worker.old worker.new }
         ensures alone { IsAlone worker.old.pass worker.new.pass
             → NonePends self.now.layout worker.old.pass.view.past
             → IsErrOf result Fault.Busy → tries ≡ 0 }
@@ -245,7 +237,6 @@ impl Tree {
         requires own { IsOf self.now worker.old.pass }
         ensures says { SaysFinish self.now.layout tries worker.old worker.new result }
         ensures leaves { LeavesFinish self.now.layout tries worker.old worker.new result }
-        ensures lost { IsErrOf result Fault.Unfinished → FinishWasLost tries worker.old worker.new }
     {
         if let Standing::Pending(_) = worker.standing {
             return self.finish_pending(worker, tries);
@@ -260,7 +251,6 @@ impl Tree {
         requires own { IsOf self.now worker.old.pass }
         ensures says { SaysFinish self.now.layout tries worker.old worker.new result }
         ensures leaves { LeavesFinish self.now.layout tries worker.old worker.new result }
-        ensures lost { IsErrOf result Fault.Unfinished → FinishWasLost tries worker.old worker.new }
     {
         let Standing::Pending(pending) = worker.standing else {
             return Ok(false);

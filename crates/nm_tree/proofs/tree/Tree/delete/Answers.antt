@@ -33,6 +33,8 @@ returns-in-Pending-clause-leaves c = record {
   says = returns-in-Pending-clause-says c;
   did = search rules;
   lacks = search rules;
+  disturbed = λ is. absurd (let no = is in cc);
+  lost = λ is. absurd (let no = is in cc);
 }
 
 pub index_mut-own-requires : goal.index_mut-own-requires
@@ -79,6 +81,8 @@ returns-in-Ok-clause-leaves c = record {
       (Ok c.in-Ok.answer) c.self.view_is c.worker.view_is (free_in c.worker.inside.standing (resting_in c.worker.inside.standing (ap (λ (w : Hand). w.held) c.worker.view_is ∙ c.requires.free) c.in_default.not-Pending), c.in-Ok.ensures.after.did)
       );
   lacks = search rules;
+  disturbed = λ is. absurd (let no = is in cc);
+  lost = λ is. absurd (let no = is in cc);
 }
 
 pub invariant_of-worker-in-Err-Busy : goal.invariant_of-worker-in-Err-Busy
@@ -112,13 +116,13 @@ returns-in-Err-Busy-clause-leaves c = record {
       (Err fault.Busy) c.self.view_is c.worker.view_is (free_in c.worker.inside.standing (resting_in c.worker.inside.standing (ap (λ (w : Hand). w.held) c.worker.view_is ∙ c.requires.free) c.in_default.not-Pending), (let P : Missed → Type 0 = λ m. DeleteDid c.self.inside.shared.layout c.args.tries c.args.key c.worker.inside.pass.view.log c.delete_with.new.pass.view.log (Err m) in subst P c.in-Err-Busy.field-0-is c.in-Err-Busy.ensures.after.did))
       );
   lacks = search rules;
+  disturbed = λ is. (
+      let P : Missed → Type 0 = λ m. DeleteDid c.self.inside.shared.layout c.args.tries c.args.key c.worker.inside.pass.view.log c.delete_with.new.pass.view.log (Err m) in
+      delete_disturbed c.self.inside.shared c.args.self.now c.worker.inside.pass c.args.worker.now.pass c.delete_with.new.pass c.args.key c.args.tries c.self.view_is (ap (λ (x : Hand). x.pass) c.worker.view_is)
+      c.is_of_a_run.ensures.seen c.is_of_a_run-in-Err-Busy.ensures.seen c.is_of_a_run.ensures.fits c.delete_with.ensures.after.same c.delete_with.ensures.after.past c.requires.own (subst P c.in-Err-Busy.field-0-is c.in-Err-Busy.ensures.after.did)
+      );
+  lost = λ is. absurd (let no = is in cc);
 }
-
-pub returns-in-Err-Busy-clause-disturbed : goal.returns-in-Err-Busy-clause-disturbed
-returns-in-Err-Busy-clause-disturbed c is =
-    let P : Missed → Type 0 = λ m. DeleteDid c.self.inside.shared.layout c.args.tries c.args.key c.worker.inside.pass.view.log c.delete_with.new.pass.view.log (Err m) in
-    delete_disturbed c.self.inside.shared c.args.self.now c.worker.inside.pass c.args.worker.now.pass c.delete_with.new.pass c.args.key c.args.tries c.self.view_is (ap (λ (x : Hand). x.pass) c.worker.view_is)
-    c.is_of_a_run.ensures.seen c.is_of_a_run-in-Err-Busy.ensures.seen c.is_of_a_run.ensures.fits c.delete_with.ensures.after.same c.delete_with.ensures.after.past c.requires.own (subst P c.in-Err-Busy.field-0-is c.in-Err-Busy.ensures.after.did)
 
 pub returns-in-Err-Busy-clause-alone : goal.returns-in-Err-Busy-clause-alone
 returns-in-Err-Busy-clause-alone c alone none is =
@@ -164,6 +168,8 @@ returns-in-Err-NoMemory-clause-leaves c = record {
       let P : Missed → Type 0 = λ m. LacksRoomOr (LosesAfterFlag c.self.inside.shared.layout c.args.tries c.args.key c.worker.inside.pass.view.log c.delete_with.new.pass.view.log) c.delete_with.new.own.queue.spare m in
       lacks_after c.worker.inside.home _ _ c.worker.inside.queues.items c.delete_with.new.own c.worker.invariant.own c.delete_with.ensures.kept.own (subst P c.in-Err-NoMemory.field-0-is c.in-Err-NoMemory.ensures.refused)
       );
+  disturbed = λ is. absurd (let no = is in cc);
+  lost = λ is. absurd (let no = is in cc);
 }
 
 pub invariant_of-worker-in-Err-Unfinished : goal.invariant_of-worker-in-Err-Unfinished
@@ -204,15 +210,15 @@ returns-in-Err-Unfinished-clause-leaves c = record {
         | inr lost ↦ inr (c.in-Err-Unfinished.leaf, lost)
       ])
       );
+  disturbed = λ is. absurd (let no = is in cc);
+  lost = λ is. (
+      let P : Missed → Type 0 = λ m. LacksRoomOr (LosesAfterFlag c.self.inside.shared.layout c.args.tries c.args.key c.worker.inside.pass.view.log c.delete_with.new.pass.view.log) c.delete_with.new.own.queue.spare m in
+      (elim (subst P c.in-Err-Unfinished.field-0-is c.in-Err-Unfinished.ensures.refused) [
+        | inl less ↦ inl (lacks_after c.worker.inside.home _ _ c.worker.inside.queues.items c.delete_with.new.own c.worker.invariant.own c.delete_with.ensures.kept.own less)
+        | inr lost ↦ inr
+            (delete_lost c.self.inside.shared c.args.self.now c.worker.inside.pass c.args.worker.now.pass c.delete_with.new.pass c.args.key c.args.tries c.self.view_is (ap (λ (x : Hand). x.pass) c.worker.view_is)
+            c.is_of_a_run.ensures.seen c.is_of_a_run-in-Err-Unfinished.ensures.seen c.is_of_a_run.ensures.fits c.delete_with.ensures.after.same c.delete_with.ensures.after.past c.requires.own c.in-Err-Unfinished.leaf
+            (rw c.in-Err-Unfinished.field-0-is at c.in-Err-Unfinished.ensures.after.stands) lost)
+      ])
+      );
 }
-
-pub returns-in-Err-Unfinished-clause-lost : goal.returns-in-Err-Unfinished-clause-lost
-returns-in-Err-Unfinished-clause-lost c is =
-    let P : Missed → Type 0 = λ m. LacksRoomOr (LosesAfterFlag c.self.inside.shared.layout c.args.tries c.args.key c.worker.inside.pass.view.log c.delete_with.new.pass.view.log) c.delete_with.new.own.queue.spare m in
-    (elim (subst P c.in-Err-Unfinished.field-0-is c.in-Err-Unfinished.ensures.refused) [
-      | inl less ↦ inl (lacks_after c.worker.inside.home _ _ c.worker.inside.queues.items c.delete_with.new.own c.worker.invariant.own c.delete_with.ensures.kept.own less)
-      | inr lost ↦ inr
-          (delete_lost c.self.inside.shared c.args.self.now c.worker.inside.pass c.args.worker.now.pass c.delete_with.new.pass c.args.key c.args.tries c.self.view_is (ap (λ (x : Hand). x.pass) c.worker.view_is)
-          c.is_of_a_run.ensures.seen c.is_of_a_run-in-Err-Unfinished.ensures.seen c.is_of_a_run.ensures.fits c.delete_with.ensures.after.same c.delete_with.ensures.after.past c.requires.own c.in-Err-Unfinished.leaf
-          (rw c.in-Err-Unfinished.field-0-is at c.in-Err-Unfinished.ensures.after.stands) lost)
-    ])

@@ -22,4 +22,5 @@ returns-clause-leaves c = record {
   says = returns-clause-says c;
   did = search rules;
   lacks = search rules;
+  lost = λ is. absurd (let no = is in cc);
 }

@@ -30,7 +30,11 @@ returns-in-Pending-clause-says c = record {
 }
 
 pub returns-in-Pending-clause-leaves : goal.returns-in-Pending-clause-leaves
-returns-in-Pending-clause-leaves c = record { says = returns-in-Pending-clause-says c; did = search rules }
+returns-in-Pending-clause-leaves c = record {
+  says = returns-in-Pending-clause-says c;
+  did = search rules;
+  disturbed = λ is. absurd (let no = is in cc);
+}
 
 pub index_mut-own-requires : goal.index_mut-own-requires
 index_mut-own-requires c = omega (arith, stands_within c.worker.inside.home _ c.worker.inside.queues.items c.worker.invariant.own, c.worker.inside.queues.ok.0)
@@ -99,20 +103,19 @@ returns-clause-leaves c = record {
             inserted_so _ _ c.args.tries c.args.key _ _ _ (Err fault.NoMemory) _ c.self.view_is c.worker.view_is w.result-is (free_in c.worker.inside.standing (resting c), subst P w.in-Err-NoMemory.field-0-is w.in-Err-NoMemory.ensures.after.did)
       ]
       );
+  disturbed = λ is. (
+      elim c.match-insert_with.branch [
+        | in-Ok w ↦ absurd (let both = sym w.result-is ∙ is in cc)
+        | in-Err-Busy w ↦
+            let P : Lost → Type 0 = λ m. InsertDid c.worker.inside.workspace.placement c.self.inside.shared.layout c.args.tries c.args.key c.worker.inside.pass.view.log c.insert_with.new.pass.view.log (Err m) in
+            insert_disturbed c.self.inside.shared c.args.self.now c.worker.inside.pass c.args.worker.now.pass c.insert_with.new.pass c.args.key c.args.tries c.self.view_is (ap (λ (x : Hand). x.pass) c.worker.view_is)
+            c.is_of_a_run.ensures.seen w.is_of_a_run-in-Err-Busy.ensures.seen c.is_of_a_run.ensures.fits c.insert_with.ensures.after.same c.insert_with.ensures.after.past c.requires.own _
+            (subst P w.in-Err-Busy.field-0-is w.in-Err-Busy.ensures.after.did)
+        | in-Err-Full w ↦ absurd (let both = sym w.result-is ∙ is in cc)
+        | in-Err-NoMemory w ↦ absurd (let both = sym w.result-is ∙ is in cc)
+      ]
+      );
 }
-
-pub returns-clause-disturbed : goal.returns-clause-disturbed
-returns-clause-disturbed c is =
-    elim c.match-insert_with.branch [
-      | in-Ok w ↦ absurd (let both = sym w.result-is ∙ is in cc)
-      | in-Err-Busy w ↦
-          let P : Lost → Type 0 = λ m. InsertDid c.worker.inside.workspace.placement c.self.inside.shared.layout c.args.tries c.args.key c.worker.inside.pass.view.log c.insert_with.new.pass.view.log (Err m) in
-          insert_disturbed c.self.inside.shared c.args.self.now c.worker.inside.pass c.args.worker.now.pass c.insert_with.new.pass c.args.key c.args.tries c.self.view_is (ap (λ (x : Hand). x.pass) c.worker.view_is)
-          c.is_of_a_run.ensures.seen w.is_of_a_run-in-Err-Busy.ensures.seen c.is_of_a_run.ensures.fits c.insert_with.ensures.after.same c.insert_with.ensures.after.past c.requires.own _
-          (subst P w.in-Err-Busy.field-0-is w.in-Err-Busy.ensures.after.did)
-      | in-Err-Full w ↦ absurd (let both = sym w.result-is ∙ is in cc)
-      | in-Err-NoMemory w ↦ absurd (let both = sym w.result-is ∙ is in cc)
-    ]
 
 pub returns-clause-alone : goal.returns-clause-alone
 returns-clause-alone c alone none is =
