@@ -1,81 +1,210 @@
--- What a look-up that was busy to the last tells of the others.
-use Rattle.std.proofs.Common.{◌≡◌, ◌≤◌, ◌+◌, ◌*◌, ℕ, zero, suc, Bool, List, [], ◌++◌, append-nil, append_assoc, refl, sym, ap, subst, ◌∙◌, inl, inr, arith}
-use Rattle.std.specs.Prelude.{Result, Ok, Err}
+-- What a call that was busy to the last tells of the others.
+use Rattle.std.proofs.Common.{◌≡◌, ◌≢◌, ◌≤◌, ◌+◌, ◌*◌, ℕ, zero, suc, Bool, true, List, [], ◌++◌, append-nil, append_assoc, refl, sym, ap, subst, ◌∙◌, inl, inr, ◌⊎◌, arith}
+use Rattle.std.specs.Prelude.{None, Result, Ok, Err}
 use Rattle.std.proofs.Math.Nat.{suc-mul, zero-mul}
+use Rattle.nm_edge.specs.Layouts.{Layout}
+use Rattle.nm_model.specs.declared.event.Op.TheVariants.{Insert, Delete}
 use Rattle.nm_model.specs.declared.trace.Turn.{Turn}
 use Rattle.nm_steps.specs.Steps.{Board, Stand, HasSeenAllOf, IsSamePass}
 use Rattle.nm_progress.specs.Moves.{number_of, moves_of_others}
-use Rattle.nm_progress.specs.Tries.{reshapes_of_others}
+use Rattle.nm_progress.specs.Tries.{hinders, reshapes_of_others}
 use Rattle.nm_progress.proofs.SplitTurns.{number-append}
 use Rattle.nm_busy.specs.Lookups.{WasBusy}
+use Rattle.nm_busy.specs.Lost.{ChangeWasBusy}
+use Rattle.nm_tree.specs.declared.fault.Fault.{Fault as Lost}
 use Rattle.nm_tree.specs.declared.fault.Fault.TheVariants as call
 use Rattle.nm_tree.specs.Workers.{Hand}
-use Rattle.nm_tree.specs.Calls.{LeavesHas}
+use Rattle.nm_tree.specs.Calls.{LeavesHas, LeavesInsert, LeavesDelete}
 use Rattle.nm_set.specs.declared.fault.Fault.{Fault}
+use Rattle.nm_set.specs.declared.fault.Fault.TheVariants as fault
 use Rattle.nm_set.specs.declared.tended.Habit.{Habit}
 use Rattle.nm_set.specs.Asked.{Asked}
-use Rattle.nm_set.specs.Tended.{InARow, Looks, WasDisturbed, busy}
+use Rattle.nm_set.specs.Tended.{InARow, IsAsked, Looks, Inserts, Deletes, InsertsOn, DeletesOn, InsertsTended, RemovesTended, HasTended, UnlessHeld, WasDisturbed, WasHeldUp, GoesOnTended, FinishesPending, round_bound, busy, of_finish}
+use Rattle.nm_set.proofs.Tending.{Follows, follows_then, goes_finishes, goes_tidied, goes_relieved, goes_inserts, finishes_err}
 
--- others' turns of both kinds
+-- ---- turns that are counted, between two moments of a pass
+
+module _ (count : ℕ → List Turn → ℕ) (adds : (w : ℕ) (xs ys : List Turn) → count w (xs ++ ys) ≡ count w xs + count w ys) where
+  -- at least so many
+  pub record Meanwhile (p q : Stand) (times : ℕ) : Type 0 where
+    pub turns : List Turn
+    pub is : q.view.past ≡ p.view.past ++ turns
+    pub least : times ≤ count p.view.number turns
+
+  pub meanwhile_then : (m n : ℕ) (p q r : Stand) → q.view.number ≡ p.view.number → Meanwhile p q m → Meanwhile q r n → Meanwhile p r (m + n)
+  meanwhile_then m n p q r number first second =
+      let some = first.least in
+      let more = subst (λ (v : ℕ). n ≤ count v second.turns) number second.least in
+      let whole = adds p.view.number first.turns second.turns in
+      record {
+        turns = first.turns ++ second.turns;
+        is = second.is ∙ (ap (λ (ts : List Turn). ts ++ second.turns) first.is ∙ append_assoc p.view.past first.turns second.turns);
+        least = omega (arith, some, more, whole);
+      }
+
+  -- what was done before it takes nothing away
+  pub meanwhile_since : (m : ℕ) (p q r : Stand) → Follows p q → Meanwhile q r m → Meanwhile p r m
+  meanwhile_since m p q r on second =
+      subst (Meanwhile p r) (omega arith)
+      (meanwhile_then 0 m p q r (ap (λ (x : Stand). x.view.number) on.same) (record { turns = on.past.goes_on.more; is = on.past.goes_on.is; least = omega arith }) second)
+
+  -- a call that was lost so in each of its rounds, one more than may be made again; each in a tree of
+  -- this layout
+  module _ {R : Type 0} (leaves : Hand → Hand → R → Type 0) (lost : R) (tries : ℕ) (L : Layout)
+      (follows : (x y : Hand) → leaves x y lost → Follows x.pass y.pass)
+      (once : (x y : Hand) → x.pass.view.layout ≡ L → leaves x y lost → Meanwhile x.pass y.pass tries) where
+    number : (x y : Hand) → leaves x y lost → y.pass.view.number ≡ x.pass.view.number
+    number x y did = ap (λ (p : Stand). p.view.number) (follows x y did).same
+
+    layout : (x y : Hand) → x.pass.view.layout ≡ L → leaves x y lost → y.pass.view.layout ≡ L
+    layout x y is did = ap (λ (p : Stand). p.view.layout) (follows x y did).same ∙ is
+
+    -- such calls in a row
+    record Row (n : ℕ) (w z : Hand) : Type 0 where
+      number : z.pass.view.number ≡ w.pass.view.number
+      layout : z.pass.view.layout ≡ L
+      meanwhile : Meanwhile w.pass z.pass (n * tries)
+
+    row : (n : ℕ) (w z : Hand) → w.pass.view.layout ≡ L → InARow (λ x y. leaves x y lost) n w z → Row n w z
+    row zero w z at is = subst (Row 0 w) (sym is) (record {
+      number = refl;
+      layout = at;
+      meanwhile = subst (Meanwhile w.pass w.pass) (sym (zero-mul tries)) (record { turns = []; is = sym (append-nil w.pass.view.past); least = omega arith });
+    })
+    row (suc n) w z at (m, before, made) = further (row n w m at before)
+      where
+        further : Row n w m → Row (suc n) w z
+        further r = record {
+          number = number m z made ∙ r.number;
+          layout = layout m z r.layout made;
+          meanwhile = let whole = suc-mul n tries in subst (Meanwhile w.pass z.pass) (omega (arith, whole)) (meanwhile_then (n * tries) tries w.pass m.pass z.pass r.number r.meanwhile (once m z r.layout made));
+        }
+
+    pub each_round : (rounds : ℕ) (w z : Hand) → w.pass.view.layout ≡ L → IsAsked leaves lost rounds w z lost → Meanwhile w.pass z.pass ((rounds + 1) * tries)
+    each_round rounds w z at a = by (row a.before w a.begun at a.each)
+      where
+        by : Row a.before w a.begun → Meanwhile w.pass z.pass ((rounds + 1) * tries)
+        by r =
+            let all : a.before ≡ rounds = a.all refl in
+            let whole = suc-mul a.before tries in
+            subst (λ (n : ℕ). Meanwhile w.pass z.pass ((n + 1) * tries)) all
+            (subst (Meanwhile w.pass z.pass) (omega (arith, whole)) (meanwhile_then (a.before * tries) tries w.pass a.begun.pass z.pass r.number r.meanwhile (once a.begun z r.layout a.last)))
+
+-- ---- two counts
+
 abbrev disturbing : ℕ → List Turn → ℕ
 disturbing w turns = number_of (moves_of_others w) turns + number_of (reshapes_of_others w) turns
 
-both_parts : (w : ℕ) (xs ys : List Turn) → disturbing w (xs ++ ys) ≡ disturbing w xs + disturbing w ys
-both_parts w xs ys =
+disturbing_parts : (w : ℕ) (xs ys : List Turn) → disturbing w (xs ++ ys) ≡ disturbing w xs + disturbing w ys
+disturbing_parts w xs ys =
     let a = number-append (moves_of_others w) xs ys in
     let b = number-append (reshapes_of_others w) xs ys in
     omega (arith, a, b)
 
--- ---- one call, and several
+abbrev holding_up : ℕ → List Turn → ℕ
+holding_up w turns = number_of (moves_of_others w) turns + number_of (hinders w) turns
 
-once : (p q : Stand) (times : ℕ) → HasSeenAllOf q p → WasBusy p q times → WasDisturbed p q times
-once p q times past (inl none) = record { turns = past.goes_on.more; is = past.goes_on.is; disturbed = omega (arith, none) }
-once p q times past (inr (inl moved)) = record { turns = moved.turns; is = moved.is; disturbed = (let some = moved.moved in omega (arith, some)) }
-once p q times past (inr (inr reshaped)) = record { turns = reshaped.turns; is = reshaped.is; disturbed = (let some = reshaped.reshaped in omega (arith, some)) }
+holding_parts : (w : ℕ) (xs ys : List Turn) → holding_up w (xs ++ ys) ≡ holding_up w xs + holding_up w ys
+holding_parts w xs ys =
+    let a = number-append (moves_of_others w) xs ys in
+    let b = number-append (hinders w) xs ys in
+    omega (arith, a, b)
 
-pub then_disturbed : (m n : ℕ) (p q r : Stand) → q.view.number ≡ p.view.number → WasDisturbed p q m → WasDisturbed q r n → WasDisturbed p r (m + n)
-then_disturbed m n p q r number first second =
-    let w = p.view.number in
-    let some = first.disturbed in
-    let more = subst (λ (v : ℕ). n ≤ disturbing v second.turns) number second.disturbed in
-    let whole = both_parts w first.turns second.turns in
-    record {
-      turns = first.turns ++ second.turns;
-      is = second.is ∙ (ap (λ (ts : List Turn). ts ++ second.turns) first.is ∙ append_assoc p.view.past first.turns second.turns);
-      disturbed = omega (arith, some, more, whole);
-    }
+-- ---- look-ups
 
--- what was done before it takes nothing away
-pub since_disturbed : (m : ℕ) (p q r : Stand) → q.view.number ≡ p.view.number → HasSeenAllOf q p → WasDisturbed q r m → WasDisturbed p r m
-since_disturbed m p q r number past second =
-    subst (WasDisturbed p r) (omega arith) (then_disturbed 0 m p q r number (record { turns = past.goes_on.more; is = past.goes_on.is; disturbed = omega arith }) second)
+look_once : (p q : Stand) (times : ℕ) → HasSeenAllOf q p → WasBusy p q times → Meanwhile disturbing disturbing_parts p q times
+look_once p q times past (inl none) = record { turns = past.goes_on.more; is = past.goes_on.is; least = omega (arith, none) }
+look_once p q times past (inr (inl moved)) = record { turns = moved.turns; is = moved.is; least = (let some = moved.moved in omega (arith, some)) }
+look_once p q times past (inr (inr reshaped)) = record { turns = reshaped.turns; is = reshaped.is; least = (let some = reshaped.reshaped in omega (arith, some)) }
+
+-- all of the look-ups, of which there is one more than rounds, behind what was done before
+pub looks_disturbed : (b : Board) (h : Habit) (k : ℕ) (w x z : Hand) → Follows w.pass x.pass → Looks b h k x z busy → WasDisturbed w.pass z.pass ((h.rounds + 1) * h.tries)
+looks_disturbed b h k w x z on looks =
+    let m = meanwhile_since disturbing disturbing_parts ((h.rounds + 1) * h.tries) w.pass x.pass z.pass on
+    (each_round disturbing disturbing_parts (Asked (LeavesHas b.layout h.tries k)) busy h.tries x.pass.view.layout
+    (λ y v did. record { same = did.1.says.same; past = did.1.says.past })
+    (λ y v at did. look_once y.pass v.pass h.tries did.1.says.past (did.1.says.disturbed refl)) h.rounds x z refl looks) in
+    record { turns = m.turns; is = m.is; disturbed = m.least }
+
+-- ---- inserts and deletes, of a radix tree
+
+change_once : (k : ℕ) (p q : Stand) (times : ℕ) → p.view.layout.radix ≡ true → HasSeenAllOf q p → ChangeWasBusy k p q times → Meanwhile holding_up holding_parts p q times
+change_once k p q times radix past (inl none) = record { turns = past.goes_on.more; is = past.goes_on.is; least = omega (arith, none) }
+change_once k p q times radix past (inr (inl moved)) = record { turns = moved.turns; is = moved.is; least = (let some = moved.moved in omega (arith, some)) }
+change_once k p q times radix past (inr (inr lost)) = record { turns = lost.was.turns; is = lost.was.is; least = (let all = lost.all in let none = lost.radix radix in let some = lost.was.hindered in omega (arith, all, none, some)) }
+
+held_up : (p q r : Stand) (times : ℕ) → Follows p q → Meanwhile holding_up holding_parts q r times → WasHeldUp p r times
+held_up p q r times on second = let m = meanwhile_since holding_up holding_parts times p q r on second in record { turns = m.turns; is = m.is; held_up = m.least }
 
 module _ (b : Board) (h : Habit) (k : ℕ) where
-  abbrev step : Hand → Hand → Type 0
-  step x y = Asked (LeavesHas b.layout h.tries k) x y busy
+  abbrev Times : ℕ
+  Times = (h.rounds + 1) * h.tries
 
-  number : (x y : Hand) → step x y → y.pass.view.number ≡ x.pass.view.number
-  number x y did = ap (λ (p : Stand). p.view.number) did.1.says.same
+  inserts_lost : (w z : Hand) → w.pass.view.layout.radix ≡ true → Inserts b h k w z busy → Meanwhile holding_up holding_parts w.pass z.pass Times
+  inserts_lost w z radix a = each_round holding_up holding_parts (Asked (LeavesInsert b.layout h.tries k)) busy h.tries w.pass.view.layout
+      (λ x y did. record { same = did.1.says.same; past = did.1.says.past })
+      (λ x y at did. change_once k x.pass y.pass h.tries (ap (λ (L : Layout). L.radix) at ∙ radix) did.1.says.past (did.1.disturbed refl)) h.rounds w z refl a
 
-  one : (x y : Hand) → step x y → WasDisturbed x.pass y.pass h.tries
-  one x y did = once x.pass y.pass h.tries did.1.says.past (did.1.says.disturbed refl)
+  deletes_lost : (w z : Hand) → w.pass.view.layout.radix ≡ true → Deletes b h k w z busy → Meanwhile holding_up holding_parts w.pass z.pass Times
+  deletes_lost w z radix a = each_round holding_up holding_parts (Asked (LeavesDelete b.layout h.tries k)) busy h.tries w.pass.view.layout
+      (λ x y did. record { same = did.1.says.same; past = did.1.says.past })
+      (λ x y at did. change_once k x.pass y.pass h.tries (ap (λ (L : Layout). L.radix) at ∙ radix) did.1.says.past (did.1.disturbed refl)) h.rounds w z refl a
 
-  numbers : (n : ℕ) (w z : Hand) → InARow step n w z → z.pass.view.number ≡ w.pass.view.number
-  numbers zero w z is = ap (λ (x : Hand). x.pass.view.number) is
-  numbers (suc n) w z (m, row, made) = number m z made ∙ numbers n w m row
+  -- behind the same pass the tree has the same shape
+  radix_on : (p q : Stand) → Follows p q → p.view.layout.radix ≡ true → q.view.layout.radix ≡ true
+  radix_on p q on radix = ap (λ (x : Stand). x.view.layout.radix) on.same ∙ radix
 
-  row : (n : ℕ) (w z : Hand) → InARow step n w z → WasDisturbed w.pass z.pass (n * h.tries)
-  row zero w z is =
-      subst (λ (x : Hand). WasDisturbed w.pass x.pass (0 * h.tries)) (sym is)
-      (subst (WasDisturbed w.pass w.pass) (sym (zero-mul h.tries)) (record { turns = []; is = sym (append-nil w.pass.view.past); disturbed = omega arith }))
-  row (suc n) w z (m, before, made) =
-      let whole = suc-mul n h.tries in
-      subst (WasDisturbed w.pass z.pass) (omega (arith, whole)) (then_disturbed (n * h.tries) h.tries w.pass m.pass z.pass (numbers n w m before) (row n w m before) (one m z made))
+  pub inserts_held_up : (w z : Hand) → w.pass.view.layout.radix ≡ true → UnlessHeld (HasTended (InsertsTended b h k) b h Insert k w z busy) w z busy → WasHeldUp w.pass z.pass Times
+  inserts_held_up w z radix (inl held) = absurd (let no = held.1 in cc)
+  inserts_held_up w z radix (inr (free, t)) = by t.did
+    where
+      by : InsertsTended b h k w z busy → WasHeldUp w.pass z.pass Times
+      by (inl pending) = absurd (let no = pending.1 in cc)
+      by (inr (answer, x, finished, (y, tidied, on))) = made on
+        where
+          first : GoesOnTended (suc h.rounds * round_bound h.tries b.layout) w x
+          first = goes_finishes b h w x (Ok answer) free finished
 
-  -- all of the look-ups, of which there is one more than rounds
-  pub looks_disturbed : (w z : Hand) → Looks b h k w z busy → WasDisturbed w.pass z.pass ((h.rounds + 1) * h.tries)
-  looks_disturbed w z a =
-      let all : a.before ≡ h.rounds = a.all refl in
-      let whole = suc-mul a.before h.tries in
-      subst (λ (n : ℕ). WasDisturbed w.pass z.pass ((n + 1) * h.tries)) all
-      (subst (WasDisturbed w.pass z.pass) (omega (arith, whole)) (then_disturbed (a.before * h.tries) h.tries w.pass a.begun.pass z.pass (numbers a.before w a.begun a.each) (row a.before w a.begun a.each) (one a.begun z a.last)))
+          second : GoesOnTended (round_bound h.tries b.layout) x y
+          second = goes_tidied b h.tries h.collect_after x y first.held tidied
+
+          to_y : Follows w.pass y.pass
+          to_y = follows_then w.pass x.pass y.pass (record { same = first.same; past = first.past }) (record { same = second.same; past = second.past })
+
+          made : InsertsOn b h k y z busy → WasHeldUp w.pass z.pass Times
+          made (inl one) = held_up w.pass y.pass z.pass Times to_y (inserts_lost y z (radix_on w.pass y.pass to_y radix) one.0)
+          made (inr (u, v, full, relieved, again)) = held_up w.pass v.pass z.pass Times to_v (inserts_lost v z (radix_on w.pass v.pass to_v radix) again)
+            where
+              third : GoesOnTended (suc h.rounds * round_bound h.tries b.layout) y u
+              third = goes_inserts b h k y u (Err (fault.Call call.Full)) second.held full
+
+              fourth : GoesOnTended (round_bound h.tries b.layout) u v
+              fourth = goes_relieved b h.tries u v third.held relieved
+
+              to_v : Follows w.pass v.pass
+              to_v = follows_then w.pass y.pass v.pass to_y (follows_then y.pass u.pass v.pass (record { same = third.same; past = third.past }) (record { same = fourth.same; past = fourth.past }))
+
+  pub deletes_held_up : (w z : Hand) → w.pass.view.layout.radix ≡ true → UnlessHeld (HasTended (RemovesTended b h k) b h Delete k w z busy) w z busy → WasHeldUp w.pass z.pass Times
+  deletes_held_up w z radix (inl held) = absurd (let no = held.1 in cc)
+  deletes_held_up w z radix (inr (free, t)) = by t.did
+    where
+      by : RemovesTended b h k w z busy → WasHeldUp w.pass z.pass Times
+      by (inl pending) = absurd (let no = pending.1 in cc)
+      by (inr (answer, x, finished, (y, tidied, on))) = made on
+        where
+          first : GoesOnTended (suc h.rounds * round_bound h.tries b.layout) w x
+          first = goes_finishes b h w x (Ok answer) free finished
+
+          second : GoesOnTended (round_bound h.tries b.layout) x y
+          second = goes_tidied b h.tries h.collect_after x y first.held tidied
+
+          to_y : Follows w.pass y.pass
+          to_y = follows_then w.pass x.pass y.pass (record { same = first.same; past = first.past }) (record { same = second.same; past = second.past })
+
+          made : DeletesOn b h k y z busy → WasHeldUp w.pass z.pass Times
+          made (inl one) = held_up w.pass y.pass z.pass Times to_y (deletes_lost y z (radix_on w.pass y.pass to_y radix) one.0)
+          made (inr (u, f, unfinished, finishes, told)) = absurd (no_busy f finishes told)
+            where
+              no_busy : (f : Result Bool Lost) → FinishesPending b h u z f → busy ≡ of_finish f → ⊥
+              no_busy (Ok answer) done is = cc
+              no_busy (Err lost) done is = absurd (let same = finishes_err b h u z lost done in let which = is in cc)

@@ -187,7 +187,7 @@ goes_collect n w z {c} free l = record {
   fit = l.fit;
 }
 
-goes_relieved : (b : Board) (t : ℕ) (w z : Hand) → w.held ≡ None → IsRelieved b w z → GoesOnTended (round_bound t b.layout) w z
+pub goes_relieved : (b : Board) (t : ℕ) (w z : Hand) → w.held ≡ None → IsRelieved b w z → GoesOnTended (round_bound t b.layout) w z
 goes_relieved b t w z free r =
     let m = b.layout.workers in
     let first = goes_advance m w r.once free r.moves in
@@ -195,7 +195,7 @@ goes_relieved b t w z free r =
     let third = goes_collect b.layout.nodes r.twice z second.held r.collects in
     goes_more ((m + 1) + (m + 1) + b.layout.nodes) (round_bound t b.layout) w z (omega arith) (goes_then w r.twice z (goes_then w r.once r.twice first second) third)
 
-goes_tidied : (b : Board) (t many : ℕ) (w z : Hand) → w.held ≡ None → IsTidied b many w z → GoesOnTended (round_bound t b.layout) w z
+pub goes_tidied : (b : Board) (t many : ℕ) (w z : Hand) → w.held ≡ None → IsTidied b many w z → GoesOnTended (round_bound t b.layout) w z
 goes_tidied b t many w z free (inl did) = goes_relieved b t w z free did.1
 goes_tidied b t many w z free (inr did) = subst (GoesOnTended (round_bound t b.layout) w) (sym did.1) (goes_more 0 (round_bound t b.layout) w w (omega arith) (goes_nowhere w free))
 
@@ -323,7 +323,7 @@ goes_looks b h k w z r free a =
     = λ x y q held made. (let told = asked_free (LeavesHas b.layout h.tries k) x y q held made in goes_has b.layout h.tries k x y told.0 told.1) in
     goes_asked (Asked (LeavesHas b.layout h.tries k)) busy (round_bound h.tries b.layout) each h.rounds w z r free a
 
-goes_inserts : (b : Board) (h : Habit) (k : ℕ) (w z : Hand) (r : Result Bool Fault) → w.held ≡ None → Inserts b h k w z r → GoesOnTended (suc h.rounds * round_bound h.tries b.layout) w z
+pub goes_inserts : (b : Board) (h : Habit) (k : ℕ) (w z : Hand) (r : Result Bool Fault) → w.held ≡ None → Inserts b h k w z r → GoesOnTended (suc h.rounds * round_bound h.tries b.layout) w z
 goes_inserts b h k w z r free a =
     let each : (x y : Hand) (q : Result Bool Fault) → x.held ≡ None → Asked (LeavesInsert b.layout h.tries k) x y q → GoesOnTended (round_bound h.tries b.layout) x y
     = λ x y q held made. (let told = asked_free (LeavesInsert b.layout h.tries k) x y q held made in goes_insert b.layout h.tries k x y told.0 told.1) in

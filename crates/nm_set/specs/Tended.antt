@@ -7,7 +7,7 @@ use Rattle.nm_model.specs.declared.event.Op.{Op}
 use Rattle.nm_model.specs.declared.event.Op.TheVariants.{Has, Insert, Delete}
 use Rattle.nm_model.specs.declared.trace.Turn.{Turn}
 use Rattle.nm_progress.specs.Moves.{number_of, moves_of_others}
-use Rattle.nm_progress.specs.Tries.{reshapes_of_others}
+use Rattle.nm_progress.specs.Tries.{hinders, reshapes_of_others}
 use Rattle.nm_steps.specs.Steps.{Board, Stand, IsSamePass, HasSeenAllOf}
 use Rattle.nm_epoch.specs.declared.answers.Advance.{Advance}
 use Rattle.nm_epoch.specs.declared.collecting.Collected.{Collected}
@@ -111,6 +111,13 @@ pub record WasDisturbed (p q : Stand) (times : ℕ) : Type 0 where
   pub is : q.view.past ≡ p.view.past ++ turns
   pub disturbed : times ≤ number_of (moves_of_others p.view.number) turns
       + number_of (reshapes_of_others p.view.number) turns
+
+-- and the same of others that moved the epoch on, and of turns that hindered the worker itself
+pub record WasHeldUp (p q : Stand) (times : ℕ) : Type 0 where
+  pub turns : List Turn
+  pub is : q.view.past ≡ p.view.past ++ turns
+  pub held_up : times ≤ number_of (moves_of_others p.view.number) turns
+      + number_of (hinders p.view.number) turns
 
 -- ---- the three calls
 

@@ -6,7 +6,7 @@ ghost use Rattle.nm_tree.specs.declared.fault.Fault.TheVariants as lost;
 ghost use Rattle.nm_tree.specs.Calls.{LeavesInsert, LeavesDelete};
 ghost use Rattle.nm_tree.specs.Workers.{Hand, IsIdle};
 ghost use Rattle.nm_set.specs.Asked.{Asked};
-ghost use Rattle.nm_set.specs.Tended.{busy, Looks, Inserts, Deletes, FinishesPending, IsRelieved, InsertsOn, DeletesOn, SaysTended, WasDisturbed, TendsHas, TendsInsert, TendsDelete};
+ghost use Rattle.nm_set.specs.Tended.{busy, Looks, Inserts, Deletes, FinishesPending, IsRelieved, InsertsOn, DeletesOn, SaysTended, WasDisturbed, WasHeldUp, TendsHas, TendsInsert, TendsDelete};
 
 use crate::fault::Fault;
 use crate::member::Member;
@@ -127,6 +127,9 @@ impl Member {
         ensures says { SaysTended Insert self.old.board habit.now key self.old.hand self.new.hand
             result }
         ensures did { TendsInsert self.old.board habit.now key self.old.hand self.new.hand result }
+        ensures disturbed { self.old.hand.pass.view.layout.radix ≡ true → result ≡ busy
+            → WasHeldUp self.old.hand.pass self.new.hand.pass
+            ((habit.now.rounds + 1) * habit.now.tries) }
     {
         if self.rests() {
             return self.insert_tending(key, habit);
@@ -151,6 +154,9 @@ impl Member {
         ensures says { SaysTended Delete self.old.board habit.now key self.old.hand self.new.hand
             result }
         ensures did { TendsDelete self.old.board habit.now key self.old.hand self.new.hand result }
+        ensures disturbed { self.old.hand.pass.view.layout.radix ≡ true → result ≡ busy
+            → WasHeldUp self.old.hand.pass self.new.hand.pass
+            ((habit.now.rounds + 1) * habit.now.tries) }
     {
         if self.rests() {
             return self.remove_tending(key, habit);

@@ -1,3 +1,4 @@
+pub mod GettingOn
 pub mod Replayed
 pub mod TwoAnswers
 pub mod StayingKeys

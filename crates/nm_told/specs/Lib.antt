@@ -1,3 +1,4 @@
+pub mod Beside
 pub mod Meanwhile
 pub mod Reading
 pub mod PuttingBack

@@ -3,6 +3,7 @@
 #![tactic(auto)]
 
 mod alone;
+mod beside;
 mod fresh;
 mod least;
 mod members;
@@ -17,6 +18,7 @@ mod threads;
 mod trees;
 
 pub use alone::{insert_alone, look_alone};
+pub use beside::{delete_beside, insert_beside};
 pub use fresh::{Looked, look_first, look_in_new, look_in_new_of_one, look_only};
 pub use least::{Taken, take_at_once, take_both, take_in_threads};
 pub use members::{add_then_find, put_again, put_and_take, put_back, remove_then_miss, take_once};

@@ -1,9 +1,9 @@
-use Rattle.std.proofs.Common.{rules, ◌≡◌, ◌+◌, ◌*◌, inl, inr, refl, ap, subst}
+use Rattle.std.proofs.Common.{rules, ◌≡◌, inl, inr, refl, subst}
 use Rattle.std.specs.Prelude.{None, Ok}
 use Rattle.nm_model.specs.declared.event.Op.TheVariants.{Has}
-use Rattle.nm_steps.specs.Steps.{Board, Stand}
+use Rattle.nm_steps.specs.Steps.{Board}
 use Rattle.nm_set.specs.Tended.{Looks, busy}
-use Rattle.nm_set.proofs.Disturbances.{looks_disturbed, since_disturbed}
+use Rattle.nm_set.proofs.Disturbances.{looks_disturbed}
 use Rattle.nm_set.proofs.Tending.{pending_tends, contains_tends, goes_finishes, said}
 use Rattle.nm_set.proofs.member.Member.contains.Goals as goal
 
@@ -46,5 +46,4 @@ returns-clause-disturbed c is =
     let free : w.held ≡ None = search rules in
     let on = goes_finishes b h w x (Ok c.in-Ok._done) free c.in-Ok.ensures.did in
     let looks = subst (λ (d : Board). Looks d h k x z c.has_again.result) c.finish_again.ensures.board c.has_again.ensures.did in
-    since_disturbed ((h.rounds + 1) * h.tries) w.pass x.pass z.pass (ap (λ (p : Stand). p.view.number) on.same) on.past
-    (looks_disturbed b h k x z (subst (Looks b h k x z) is looks))
+    looks_disturbed b h k w x z (record { same = on.same; past = on.past }) (subst (Looks b h k x z) is looks)
