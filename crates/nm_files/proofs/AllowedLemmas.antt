@@ -14,46 +14,29 @@ use Rattle.nm_files.specs.declared.header.Command.{Command}
 use Rattle.nm_files.specs.declared.header.Header.{Header}
 use Rattle.nm_files.specs.declared.kind.Kind.{Kind}
 use Rattle.nm_files.specs.Lines.{parts, fields, is_field}
-use Rattle.nm_files.specs.Values.{read, values_of, worker_of}
-use Rattle.nm_files.specs.Kinds.{row, word, may_stand, is_named, kind_of, calls, IsAllowed}
+use Rattle.nm_files.specs.Values.{worker_and_values, values_of, worker_of}
+use Rattle.nm_files.specs.Kinds.{kind_row, kind_word, may_stand, is_named, kind_of, calls, IsAllowed}
 use Rattle.nm_files.specs.Files.{Fault, File, GivesWhatIsSaid, is_long, checked, entries_from, file_from}
 use Rattle.nm_files.specs.Entries.{Script, entry_of, first_line_of, line_of, script_of, IsEntryOf}
 use Rattle.nm_files.proofs.LimitLemmas.{short}
-use Rattle.nm_files.proofs.ValueLemmas.{Row, puts, both_are, found_is, ok_is, then_is, values_are, worker_below}
+use Rattle.nm_files.proofs.ValueLemmas.{◌&◌, Row, puts, both_are, found_is, ok_is, then_is, values_are, worker_below}
 
 -- a kind makes calls of its values that a file may have where the kind may stand
 abbrev Allows : Kind → Type 0
-Allows kind = (workers : ℕ) (is_extended is_bare : Bool) → may_stand is_extended is_bare kind ≡ true → (x : Row workers (row kind)) → IfOk (calls.made kind (puts workers (row kind) x)) (IsAllowed workers is_extended)
+Allows kind = (workers : ℕ) (is_extended is_bare : Bool) → may_stand is_extended is_bare kind ≡ true → (x : Row workers (kind_row kind)) → IfOk (calls.made kind (puts workers (kind_row kind) x)) (IsAllowed workers is_extended)
 
 calls_allow : AllByRecursion Allows calls.kinds
-calls_allow = (
-  λ w o b h x. tt,
-  (
-    λ w o b h x. tt,
-    (
-      λ w o b h x. tt,
-      (
-        λ w o b h x. tt,
-        (
-          λ w o b h x. tt,
-          (
-            λ w o b h x. tt,
-            (
-              λ w o b h x. tt,
-              (
-                λ w o b h x. tt,
-                (
-                  λ w o b h x. (h, x.0.1),
-                  tt,
-                ),
-              ),
-            ),
-          ),
-        ),
-      ),
-    ),
-  ),
-)
+calls_allow =
+    (λ w o b h x. tt)
+    & (λ w o b h x. tt)
+    & (λ w o b h x. tt)
+    & (λ w o b h x. tt)
+    & (λ w o b h x. tt)
+    & (λ w o b h x. tt)
+    & (λ w o b h x. tt)
+    & (λ w o b h x. tt)
+    & (λ w o b h x. (h, x.0.1))
+    & tt
 
 some_is : (o : Option Kind) (kind : Kind) → ok_or o reason.Kind ≡ Ok kind → o ≡ Some kind
 some_is None kind e = absurd cc
@@ -68,11 +51,11 @@ entry_allowed header (a ∷ b ∷ fs) e is =
     let bare = length fs == 0 in
     let k = then_is (kind_of calls.kinds header.is_extended b bare) _ e is in
     let found = found_is Allows (is_named header.is_extended b bare) calls.kinds k.0 (some_is _ k.0 k.1) calls_allow in
-    let told = then_is (read workers a (row k.0) fs) _ e k.2 in
-    let both = both_are (worker_of workers a) (values_of workers (row k.0) fs) told.0 told.1 in
+    let told = then_is (worker_and_values workers a (kind_row k.0) fs) _ e k.2 in
+    let both = both_are (worker_of workers a) (values_of workers (kind_row k.0) fs) told.0 told.1 in
     let made = then_is (calls.made k.0 told.0.1) _ e told.2 in
-    let values = values_are workers (row k.0) fs told.0.1 both.1 in
-    let allowed = found.0 workers header.is_extended bare (and_parts (bytes_eq b (word k.0)) (may_stand header.is_extended bare k.0) found.1).1 values.0 in
+    let values = values_are workers (kind_row k.0) fs told.0.1 both.1 in
+    let allowed = found.0 workers header.is_extended bare (and_parts (bytes_eq b (kind_word k.0)) (may_stand header.is_extended bare k.0) found.1).1 values.0 in
     let so : IfOk {T = Call} {E = Reason} (Ok made.0) (IsAllowed workers header.is_extended) = subst (λ r. IfOk r (IsAllowed workers header.is_extended)) (sym (ap (calls.made k.0) values.1) ∙ made.1) allowed in
     subst (IsEntryOf header) (ok_is (told.0.0, made.0) e made.2) (worker_below workers a told.0.0 both.0, so)
 

@@ -6,16 +6,14 @@ use Rattle.std.proofs.lemmas.List.{map_push}
 use Rattle.nm_files.specs.declared.fault.Reason.{Reason}
 use Rattle.nm_files.specs.declared.fault.Reason.TheVariants as reason
 use Rattle.nm_files.specs.declared.header.Command.{Command}
-use Rattle.nm_files.specs.declared.header.Command.TheVariants.{Replay, Serial, Stress}
 use Rattle.nm_files.specs.declared.header.Header.{Header}
 use Rattle.nm_files.specs.declared.kind.Kind.{Kind}
-use Rattle.nm_files.specs.declared.kind.Kind.TheVariants.{SightFor, Sight, Announce, LeaveWith, Leave, Scan, Advance, Claim, Give, Look, Fill, Link, Flag, Tag, Splice, Has, Insert, Delete, Finish, Pin, Unpin, Collect, Resign}
 use Rattle.nm_files.specs.declared.value.Argument.{Argument}
 use Rattle.nm_files.specs.declared.value.Value.{Value}
 use Rattle.nm_files.specs.Chain.{◌>>=◌}
-use Rattle.nm_files.specs.Values.{both, read, values_of, with_view}
+use Rattle.nm_files.specs.Values.{both, worker_and_values, values_of, with_view}
 use Rattle.nm_files.specs.Formats.{Format}
-use Rattle.nm_files.specs.Kinds.{row, kind_of}
+use Rattle.nm_files.specs.Kinds.{kind_row, kind_of}
 use Rattle.nm_files.specs.Entries.{entry_of}
 use Rattle.nm_files.specs.Headers.{header_of, tries_of}
 
@@ -36,11 +34,7 @@ header_short command (a ∷ b ∷ c ∷ d ∷ more) h = absurd (omega arith)
 -- ---- what stands behind the first eight fields doesn't matter
 
 tries_take : (command : Command) (fs : List (List ℕ)) → tries_of command (take 4 fs) ≡ tries_of command fs
-tries_take command [] = refl
-tries_take command (a ∷ []) = refl
-tries_take Replay (a ∷ b ∷ more) = refl
-tries_take Serial (a ∷ b ∷ more) = refl
-tries_take Stress (a ∷ b ∷ more) = refl
+tries_take command fs = grind arith
 
 pub header_take : (command : Command) (fs : List (List ℕ)) → header_of command (take 8 fs) ≡ header_of command fs
 unfolding header_of
@@ -51,30 +45,8 @@ header_take command (a ∷ b ∷ c ∷ []) = refl
 header_take command (a ∷ b ∷ c ∷ d ∷ more) = rw (tries_take command more) refl
 
 -- no kind has six fields behind its word
-few : (kind : Kind) → length (row kind) < 6
-few SightFor = omega arith
-few Sight = omega arith
-few Announce = omega arith
-few LeaveWith = omega arith
-few Leave = omega arith
-few Scan = omega arith
-few Advance = omega arith
-few Claim = omega arith
-few Give = omega arith
-few Look = omega arith
-few Fill = omega arith
-few Link = omega arith
-few Flag = omega arith
-few Tag = omega arith
-few Splice = omega arith
-few Has = omega arith
-few Insert = omega arith
-few Delete = omega arith
-few Finish = omega arith
-few Pin = omega arith
-few Unpin = omega arith
-few Collect = omega arith
-few Resign = omega arith
+few : (kind : Kind) → length (kind_row kind) < 6
+few kind = grind arith
 
 values_take : (workers n : ℕ) (row : List Argument) (fs : List (List ℕ)) → length row < n → values_of workers row (take n fs) ≡ values_of workers row fs
 values_take workers zero row fs h = absurd (omega (arith, h))
@@ -87,8 +59,8 @@ is_bare_take : (fs : List (List ℕ)) → (length (take 6 fs) == 0) ≡ (length 
 is_bare_take [] = refl
 is_bare_take (f ∷ fs) = rw (ne_eqb (length (f ∷ take 5 fs)) 0 (λ e. omega (arith, e)), ne_eqb (length (f ∷ fs)) 0 (λ e. omega (arith, e))) refl
 
-after_kind : {X : Type 0} (workers : ℕ) (a : List ℕ) (kind : Result Kind Reason) (f : Kind → ℕ × List Value → Result X Reason) (fs : List (List ℕ)) → (kind >>= λ kind. read workers a (row kind) (take 6 fs) >>= f kind) ≡ (kind >>= λ kind. read workers a (row kind) fs >>= f kind)
-after_kind workers a (Ok kind) f fs = rw (values_take workers 6 (row kind) fs (few kind)) refl
+after_kind : {X : Type 0} (workers : ℕ) (a : List ℕ) (kind : Result Kind Reason) (f : Kind → ℕ × List Value → Result X Reason) (fs : List (List ℕ)) → (kind >>= λ kind. worker_and_values workers a (kind_row kind) (take 6 fs) >>= f kind) ≡ (kind >>= λ kind. worker_and_values workers a (kind_row kind) fs >>= f kind)
+after_kind workers a (Ok kind) f fs = rw (values_take workers 6 (kind_row kind) fs (few kind)) refl
 after_kind workers a (Err r) f fs = refl
 
 pub entry_take : {X : Type 0} (format : Format X) (header : Header) (fs : List (List ℕ)) → entry_of format header (take 8 fs) ≡ entry_of format header fs
@@ -102,10 +74,7 @@ entry_take format header (a ∷ b ∷ more) =
 
 -- a value beside what was read, seen by view
 pub both_seen : {A B C : Type 0} (view : B → C) (a : Result A Reason) (b : Result B Reason) → with_view (λ p. (p.0, view p.1)) (both a b) ≡ both a (with_view view b)
-both_seen view (Ok x) (Ok y) = refl
-both_seen view (Ok x) (Err r) = refl
-both_seen view (Err r) (Ok y) = refl
-both_seen view (Err r) (Err s) = refl
+both_seen view a b = grind arith
 
 -- one more field that is kept
 pub push_field : (items : List (Bor (List ℕ))) (f : Bor (List ℕ)) (i : ℕ) (all after total : List (List ℕ)) → i < 8 → all ≡ f.now ∷ after → map (λ f. f.now) items ++ take (8 - i) all ≡ total → map (λ f. f.now) (items ++ f ∷ []) ++ take (8 - (i + 1)) after ≡ total

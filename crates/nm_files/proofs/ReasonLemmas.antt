@@ -17,15 +17,15 @@ use Rattle.nm_files.specs.declared.value.Argument.TheVariants as a
 use Rattle.nm_files.specs.declared.value.Value.{Value}
 use Rattle.nm_files.specs.Chain.{◌>>=◌}
 use Rattle.nm_files.specs.Lines.{fields, is_field}
-use Rattle.nm_files.specs.Values.{both, read, value_of, values_of, with_view, worker_of, is_key, named, field_words, side_words, op_words, answer_words}
+use Rattle.nm_files.specs.Values.{both, worker_and_values, value_of, values_of, with_view, worker_of, is_key, field_words, side_words, op_words, answer_words}
 use Rattle.nm_files.specs.Formats.{Format}
-use Rattle.nm_files.specs.Kinds.{row, is_named, events, calls}
+use Rattle.nm_files.specs.Kinds.{kind_row, is_named, events, calls}
 use Rattle.nm_files.specs.Headers.{command_word, later_limits, limits_of, count, tries_of, header_of, header_within}
 use Rattle.nm_files.specs.Entries.{entry_of, line_of, first_line_of}
 use Rattle.nm_model.specs.Step.{outside}
 use Rattle.nm_files.specs.Files.{least, at_line, checked, is_long}
 use Rattle.nm_files.specs.Reasons.{field_holds, row_holds, field_reasons, holds_of, holds, line_reasons, header_holds_of, header_holds, header_reasons, reason_of}
-use Rattle.nm_files.proofs.ValueLemmas.{Gives, Makes, both_are, events_make, calls_make, found_is, named_gives, number_gives, place_gives, values_are}
+use Rattle.nm_files.proofs.ValueLemmas.{Gives, Makes, both_are, events_make, calls_make, found_is, by_word_gives, number_gives, place_gives, values_are}
 
 -- the reason of what was read
 abbrev reason_in : {X : Type 0} → Result X Reason → Option Reason
@@ -51,17 +51,7 @@ first false false false true = Some Key
 first false false false false = None
 
 first_found : (test : Reason → Bool) → find test field_reasons ≡ first (test Fields) (test Number) (test Worker) (test Key)
-first_found test =
-    elim (cases_Bool (test Fields)) [
-      | inl f ↦ rw f refl
-      | inr f ↦ elim (cases_Bool (test Number)) [
-        | inl n ↦ rw (f, n) refl
-        | inr n ↦ elim (cases_Bool (test Worker)) [
-          | inl w ↦ rw (f, n, w) refl
-          | inr w ↦ elim (cases_Bool (test Key)) [ inl k ↦ rw (f, n, w, k) refl | inr k ↦ rw (f, n, w, k) refl ]
-        ]
-      ]
-    ]
+first_found test = grind arith
 
 abbrev lesser : Option Reason → Option Reason → Option Reason
 lesser None o = o
@@ -69,33 +59,10 @@ lesser (Some r) None = Some r
 lesser (Some r) (Some s) = Some (least r s)
 
 lesser_is : (f n w k f' n' w' k' : Bool) → lesser (first f n w k) (first f' n' w' k') ≡ first (f || f') (n || n') (w || w') (k || k')
-lesser_is true n w k true n' w' k' = refl
-lesser_is true n w k false true w' k' = refl
-lesser_is true n w k false false true k' = refl
-lesser_is true n w k false false false true = refl
-lesser_is true n w k false false false false = refl
-lesser_is false true w k true n' w' k' = refl
-lesser_is false true w k false true w' k' = refl
-lesser_is false true w k false false true k' = refl
-lesser_is false true w k false false false true = refl
-lesser_is false true w k false false false false = refl
-lesser_is false false true k true n' w' k' = refl
-lesser_is false false true k false true w' k' = refl
-lesser_is false false true k false false true k' = refl
-lesser_is false false true k false false false true = refl
-lesser_is false false true k false false false false = refl
-lesser_is false false false true true n' w' k' = refl
-lesser_is false false false true false true w' k' = refl
-lesser_is false false false true false false true k' = refl
-lesser_is false false false true false false false true = refl
-lesser_is false false false true false false false false = refl
-lesser_is false false false false f' n' w' k' = refl
+lesser_is f n w k f' n' w' k' = grind arith
 
 both_lesser : {A B : Type 0} (r : Result A Reason) (s : Result B Reason) → reason_in (both r s) ≡ lesser (reason_in r) (reason_in s)
-both_lesser (Ok x) (Ok y) = refl
-both_lesser (Ok x) (Err s) = refl
-both_lesser (Err r) (Ok y) = refl
-both_lesser (Err r) (Err s) = refl
+both_lesser r s = grind arith
 
 both_least : {A B : Type 0} (r : Result A Reason) (s : Result B Reason) (p q : Reason → Bool) → reason_in r ≡ find p field_reasons → reason_in s ≡ find q field_reasons → reason_in (both r s) ≡ find (λ r. p r || q r) field_reasons
 both_least r s p q by_p by_q =
@@ -107,7 +74,7 @@ worker_least : (workers : ℕ) (f : List ℕ) → reason_in (worker_of workers f
 worker_least workers f =
     elim (place_gives f) [
       | inl e ↦ rw e refl
-      | inr x ↦ elim (cases_Bool (nat_lt x.0 workers)) [ inl y ↦ rw (x.1, y) refl | inr n ↦ rw (x.1, n) refl ]
+      | inr x ↦ rw (x.1) (grind arith)
     ]
 
 value_least : (workers : ℕ) (argument : Argument) (f : List ℕ) → reason_in (value_of workers argument f) ≡ find (field_holds workers argument f) field_reasons
@@ -119,10 +86,10 @@ value_least workers a.Key f =
       | inr x ↦ elim (cases_Bool (is_key x.0)) [ inl y ↦ rw (x.1, y) refl | inr n ↦ rw (x.1, n) refl ]
     ]
 value_least workers a.Worker f = seen_reason _ (worker_of workers f) ∙ worker_least workers f
-value_least workers a.Field f = elim (named_gives field_words f) [ inl e ↦ rw e refl | inr x ↦ rw (x.1) refl ]
-value_least workers a.Side f = elim (named_gives side_words f) [ inl e ↦ rw e refl | inr x ↦ rw (x.1) refl ]
-value_least workers a.Op f = elim (named_gives op_words f) [ inl e ↦ rw e refl | inr x ↦ rw (x.1) refl ]
-value_least workers a.Answer f = elim (named_gives answer_words f) [ inl e ↦ rw e refl | inr x ↦ rw (x.1) refl ]
+value_least workers a.Field f = elim (by_word_gives field_words f) [ inl e ↦ rw e refl | inr x ↦ rw (x.1) refl ]
+value_least workers a.Side f = elim (by_word_gives side_words f) [ inl e ↦ rw e refl | inr x ↦ rw (x.1) refl ]
+value_least workers a.Op f = elim (by_word_gives op_words f) [ inl e ↦ rw e refl | inr x ↦ rw (x.1) refl ]
+value_least workers a.Answer f = elim (by_word_gives answer_words f) [ inl e ↦ rw e refl | inr x ↦ rw (x.1) refl ]
 
 row_least : (workers : ℕ) (row : List Argument) (fs : List (List ℕ)) → reason_in (values_of workers row fs) ≡ find (row_holds workers row fs) field_reasons
 row_least workers [] [] = refl
@@ -135,12 +102,12 @@ row_least workers (argument ∷ row) (f ∷ fs) =
 -- ---- a line
 
 -- a kind makes an entry of what was read
-made_of : {X : Type 0} (format : Format X) (kind : Kind) → Makes format kind → (workers : ℕ) (w : List ℕ) (fs : List (List ℕ)) (said : Result (ℕ × List Value) Reason) → read workers w (row kind) fs ≡ said
+made_of : {X : Type 0} (format : Format X) (kind : Kind) → Makes format kind → (workers : ℕ) (w : List ℕ) (fs : List (List ℕ)) (said : Result (ℕ × List Value) Reason) → worker_and_values workers w (kind_row kind) fs ≡ said
     → reason_in {X = ℕ × X} (said >>= λ told. format.made kind told.1 >>= λ entry. Ok (told.0, entry)) ≡ reason_in said
 made_of format kind makes workers w fs (Err r) is = refl
 made_of format kind makes workers w fs (Ok told) is =
-    let both = both_are (worker_of workers w) (values_of workers (row kind) fs) told is in
-    let values = values_are workers (row kind) fs told.1 both.1 in
+    let both = both_are (worker_of workers w) (values_of workers (kind_row kind) fs) told is in
+    let values = values_are workers (kind_row kind) fs told.1 both.1 in
     let made = makes workers values.0 in
     rw (values.1, made.1) refl
 
@@ -155,8 +122,8 @@ kind_least format makes header w k fs formed (Some kind) is =
     let workers = header.layout.workers in
     let two : nat_lt (length (w ∷ k ∷ fs)) 2 ≡ false = le-ltb (length (w ∷ k ∷ fs)) 2 (omega arith) in
     let found = found_is (Makes format) (is_named header.is_extended k (length fs == 0)) format.kinds kind is makes in
-    rw (is, formed, two) (made_of format kind found.0 workers w fs (read workers w (row kind) fs) refl
-    ∙ both_least (worker_of workers w) (values_of workers (row kind) fs) (field_holds workers a.Worker w) (row_holds workers (row kind) fs) (worker_least workers w) (row_least workers (row kind) fs))
+    rw (is, formed, two) (made_of format kind found.0 workers w fs (worker_and_values workers w (kind_row kind) fs) refl
+    ∙ both_least (worker_of workers w) (values_of workers (kind_row kind) fs) (field_holds workers a.Worker w) (row_holds workers (kind_row kind) fs) (worker_least workers w) (row_least workers (kind_row kind) fs))
 
 entry_least : {X : Type 0} (format : Format X) → AllByRecursion (Makes format) format.kinds → (header : Header) (fs : List (List ℕ)) → list_all is_field fs ≡ true → reason_in (entry_of format header fs) ≡ find (holds_of format.kinds header false fs) line_reasons
 unfolding entry_of

@@ -19,9 +19,9 @@ use Rattle.nm_files.specs.declared.value.Value.{Value}
 use Rattle.nm_files.specs.declared.value.Value.TheVariants as value
 use Rattle.nm_files.specs.Chain.{◌>>=◌}
 use Rattle.nm_files.specs.Lines.{number, is_numeral, place}
-use Rattle.nm_files.specs.Values.{named, field_words, side_words, op_words, answer_words, key_field, worker_of, value_of, values_of, both, with_view}
+use Rattle.nm_files.specs.Values.{by_word, field_words, side_words, op_words, answer_words, key_field, worker_of, value_of, values_of, both, with_view}
 use Rattle.nm_files.specs.Formats.{Format}
-use Rattle.nm_files.specs.Kinds.{row, events, calls}
+use Rattle.nm_files.specs.Kinds.{kind_row, events, calls}
 
 -- what a function gives: this fault alone, or a value
 abbrev pub Gives : {X : Type 0} → Reason → Result X Reason → Type 0
@@ -41,12 +41,12 @@ place_gives f =
       | inr v ↦ elim (cases_Bool (nat_lt v.0 (2 ^ 32))) [ inl y ↦ inr (v.0, rw (v.1, y) refl) | inr n ↦ inl (rw (v.1, n) refl) ]
     ]
 
-pub named_gives : {X : Type 0} (words : List (List ℕ × X)) (given : List ℕ) → Gives reason.Fields (named words given)
-named_gives [] given = inl refl
-named_gives (w ∷ words) given =
+pub by_word_gives : {X : Type 0} (words : List (List ℕ × X)) (given : List ℕ) → Gives reason.Fields (by_word words given)
+by_word_gives [] given = inl refl
+by_word_gives (w ∷ words) given =
     elim (cases_Bool (bytes_eq given w.0)) [
       | inl y ↦ inr (w.1, rw y refl)
-      | inr n ↦ rw n (named_gives words given)
+      | inr n ↦ rw n (by_word_gives words given)
     ]
 
 -- ---- what was given, from what is made of it
@@ -104,10 +104,10 @@ value_is workers a.Place f v e = let s = seen_is value.Place (place f) v e in (s
 value_is workers a.Number f v e = let s = seen_is value.Number (number f) v e in (s.0, s.2)
 value_is workers a.Key f v e = let s = seen_is value.Key (key_field f) v e in (s.0, s.2)
 value_is workers a.Worker f v e = let s = seen_is value.Worker (worker_of workers f) v e in ((s.0, worker_below workers f s.0 s.1), s.2)
-value_is workers a.Field f v e = let s = seen_is value.Field (named field_words f) v e in (s.0, s.2)
-value_is workers a.Side f v e = let s = seen_is value.Side (named side_words f) v e in (s.0, s.2)
-value_is workers a.Op f v e = let s = seen_is value.Op (named op_words f) v e in (s.0, s.2)
-value_is workers a.Answer f v e = let s = seen_is value.Answer (named answer_words f) v e in (s.0, s.2)
+value_is workers a.Field f v e = let s = seen_is value.Field (by_word field_words f) v e in (s.0, s.2)
+value_is workers a.Side f v e = let s = seen_is value.Side (by_word side_words f) v e in (s.0, s.2)
+value_is workers a.Op f v e = let s = seen_is value.Op (by_word op_words f) v e in (s.0, s.2)
+value_is workers a.Answer f v e = let s = seen_is value.Answer (by_word answer_words f) v e in (s.0, s.2)
 
 abbrev pub Row : ℕ → List Argument → Type 0
 Row workers [] = Unit {0}
@@ -130,87 +130,46 @@ values_are workers (argument ∷ row) (f ∷ fs) vs e =
 
 -- ---- what a kind makes of them
 
+-- a fact of the first, and of the others
+infixr 5 ◌&◌
+abbrev pub ◌&◌ : {A B : Type 0} → A → B → A × B
+a & b = (a, b)
+
 -- a kind makes an entry of all values of its row
 abbrev pub Makes : {X : Type 0} → Format X → Kind → Type 0
-Makes {X} format kind = (workers : ℕ) (x : Row workers (row kind)) → (made : X) × (format.made kind (puts workers (row kind) x) ≡ Ok made)
+Makes {X} format kind = (workers : ℕ) (x : Row workers (kind_row kind)) → (made : X) × (format.made kind (puts workers (kind_row kind) x) ≡ Ok made)
 
 pub events_make : AllByRecursion (Makes events) events.kinds
-events_make = (
-  λ w x. (event.SightFor x.0 x.1.0, refl),
-  (
-    λ w x. (event.Sight, refl),
-    (
-      λ w x. (event.Announce, refl),
-      (
-        λ w x. (event.LeaveWith x.0, refl),
-        (
-          λ w x. (event.Leave, refl),
-          (
-            λ w x. (event.Scan x.0, refl),
-            (
-              λ w x. (event.Advance, refl),
-              (
-                λ w x. (event.Claim x.0, refl),
-                (
-                  λ w x. (event.Give x.0, refl),
-                  (
-                    λ w x. (event.Look x.0 x.1.0, refl),
-                    (
-                      λ w x. (event.Fill x.0 x.1.0 x.1.1.0, refl),
-                      (
-                        λ w x. (event.Link x.0 x.1.0 x.1.1.0 x.1.1.1.0, refl),
-                        (
-                          λ w x. (event.Flag x.0 x.1.0 x.1.1.0, refl),
-                          (
-                            λ w x. (event.Tag x.0 x.1.0, refl),
-                            (
-                              λ w x. (event.Splice x.0 x.1.0 x.1.1.0 x.1.1.1.0 x.1.1.1.1.0, refl),
-                              tt,
-                            ),
-                          ),
-                        ),
-                      ),
-                    ),
-                  ),
-                ),
-              ),
-            ),
-          ),
-        ),
-      ),
-    ),
-  ),
-)
+events_make =
+    (λ w x. (event.SightFor x.0 x.1.0, refl))
+    & (λ w x. (event.Sight, refl))
+    & (λ w x. (event.Announce, refl))
+    & (λ w x. (event.LeaveWith x.0, refl))
+    & (λ w x. (event.Leave, refl))
+    & (λ w x. (event.Scan x.0, refl))
+    & (λ w x. (event.Advance, refl))
+    & (λ w x. (event.Claim x.0, refl))
+    & (λ w x. (event.Give x.0, refl))
+    & (λ w x. (event.Look x.0 x.1.0, refl))
+    & (λ w x. (event.Fill x.0 x.1.0 x.1.1.0, refl))
+    & (λ w x. (event.Link x.0 x.1.0 x.1.1.0 x.1.1.1.0, refl))
+    & (λ w x. (event.Flag x.0 x.1.0 x.1.1.0, refl))
+    & (λ w x. (event.Tag x.0 x.1.0, refl))
+    & (λ w x. (event.Splice x.0 x.1.0 x.1.1.0 x.1.1.1.0 x.1.1.1.1.0, refl))
+    & tt
 
 pub calls_make : AllByRecursion (Makes calls) calls.kinds
-calls_make = (
-  λ w x. (call.Has x.0, refl),
-  (
-    λ w x. (call.Insert x.0, refl),
-    (
-      λ w x. (call.Delete x.0, refl),
-      (
-        λ w x. (call.Finish, refl),
-        (
-          λ w x. (call.Pin, refl),
-          (
-            λ w x. (call.Unpin, refl),
-            (
-              λ w x. (call.Advance, refl),
-              (
-                λ w x. (call.Collect, refl),
-                (
-                  λ w x. (call.Resign x.0.0, refl),
-                  tt,
-                ),
-              ),
-            ),
-          ),
-        ),
-      ),
-    ),
-  ),
-)
+calls_make =
+    (λ w x. (call.Has x.0, refl))
+    & (λ w x. (call.Insert x.0, refl))
+    & (λ w x. (call.Delete x.0, refl))
+    & (λ w x. (call.Finish, refl))
+    & (λ w x. (call.Pin, refl))
+    & (λ w x. (call.Unpin, refl))
+    & (λ w x. (call.Advance, refl))
+    & (λ w x. (call.Collect, refl))
+    & (λ w x. (call.Resign x.0.0, refl))
+    & tt
 
 -- what is found passes, and is one of those that were asked
 pub found_is : (P : Kind → Type 0) (test : Kind → Bool) (kinds : List Kind) (kind : Kind) → find test kinds ≡ Some kind → AllByRecursion P kinds → P kind × (test kind ≡ true)

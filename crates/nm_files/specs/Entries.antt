@@ -11,9 +11,9 @@ use Rattle.nm_files.specs.declared.header.Command.TheVariants.{Replay}
 use Rattle.nm_files.specs.declared.header.Header.{Header}
 use Rattle.nm_files.specs.Chain.{◌>>=◌}
 use Rattle.nm_files.specs.Lines.{parts, fields, is_field}
-use Rattle.nm_files.specs.Values.{read}
+use Rattle.nm_files.specs.Values.{worker_and_values}
 use Rattle.nm_files.specs.Formats.{Format}
-use Rattle.nm_files.specs.Kinds.{row, kind_of, events, calls, IsAllowed}
+use Rattle.nm_files.specs.Kinds.{kind_row, kind_of, events, calls, IsAllowed}
 use Rattle.nm_files.specs.Headers.{header_of, SerialAlone}
 use Rattle.nm_files.specs.Files.{Fault, File, file_from}
 
@@ -21,7 +21,7 @@ use Rattle.nm_files.specs.Files.{Fault, File, file_from}
 unfoldable pub entry_of : {X : Type 0} → Format X → Header → List (List ℕ) → Result (ℕ × X) Reason
 entry_of format header (worker ∷ word ∷ arguments) = do
   kind ← kind_of format.kinds header.is_extended word (length arguments == 0)
-  told ← read header.layout.workers worker (row kind) arguments
+  told ← worker_and_values header.layout.workers worker (kind_row kind) arguments
   entry ← format.made kind told.1
   Ok (told.0, entry)
 entry_of format header _ = Err reason.Form

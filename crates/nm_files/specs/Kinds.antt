@@ -18,49 +18,49 @@ use Rattle.nm_files.specs.declared.value.Value.TheVariants.{Place, Number, Key, 
 use Rattle.nm_files.specs.Formats.{Format}
 
 -- the word of each kind
-abbrev pub word : Kind → List ℕ
-word SightFor = codes "sight"
-word Sight = codes "sight"
-word Announce = codes "announce"
-word LeaveWith = codes "leave"
-word Leave = codes "leave"
-word Scan = codes "scan"
-word Advance = codes "advance"
-word Claim = codes "claim"
-word Give = codes "give"
-word Look = codes "look"
-word Fill = codes "fill"
-word Link = codes "link"
-word Flag = codes "flag"
-word Tag = codes "tag"
-word Splice = codes "splice"
-word Has = codes "has"
-word Insert = codes "insert"
-word Delete = codes "delete"
-word Finish = codes "finish"
-word Pin = codes "pin"
-word Unpin = codes "unpin"
-word Collect = codes "collect"
-word Resign = codes "resign"
+abbrev pub kind_word : Kind → List ℕ
+kind_word SightFor = codes "sight"
+kind_word Sight = codes "sight"
+kind_word Announce = codes "announce"
+kind_word LeaveWith = codes "leave"
+kind_word Leave = codes "leave"
+kind_word Scan = codes "scan"
+kind_word Advance = codes "advance"
+kind_word Claim = codes "claim"
+kind_word Give = codes "give"
+kind_word Look = codes "look"
+kind_word Fill = codes "fill"
+kind_word Link = codes "link"
+kind_word Flag = codes "flag"
+kind_word Tag = codes "tag"
+kind_word Splice = codes "splice"
+kind_word Has = codes "has"
+kind_word Insert = codes "insert"
+kind_word Delete = codes "delete"
+kind_word Finish = codes "finish"
+kind_word Pin = codes "pin"
+kind_word Unpin = codes "unpin"
+kind_word Collect = codes "collect"
+kind_word Resign = codes "resign"
 
 -- what the fields behind its word must be
-abbrev pub row : Kind → List Argument
-row SightFor = a.Op ∷ a.Key ∷ []
-row LeaveWith = a.Answer ∷ []
-row Scan = a.Place ∷ []
-row Claim = a.Place ∷ []
-row Give = a.Place ∷ []
-row Look = a.Place ∷ a.Field ∷ []
-row Fill = a.Place ∷ a.Field ∷ a.Number ∷ []
-row Link = a.Place ∷ a.Side ∷ a.Place ∷ a.Place ∷ []
-row Flag = a.Place ∷ a.Side ∷ a.Place ∷ []
-row Tag = a.Place ∷ a.Side ∷ []
-row Splice = a.Place ∷ a.Side ∷ a.Place ∷ a.Place ∷ a.Side ∷ []
-row Has = a.Key ∷ []
-row Insert = a.Key ∷ []
-row Delete = a.Key ∷ []
-row Resign = a.Worker ∷ []
-row kind = []
+abbrev pub kind_row : Kind → List Argument
+kind_row SightFor = a.Op ∷ a.Key ∷ []
+kind_row LeaveWith = a.Answer ∷ []
+kind_row Scan = a.Place ∷ []
+kind_row Claim = a.Place ∷ []
+kind_row Give = a.Place ∷ []
+kind_row Look = a.Place ∷ a.Field ∷ []
+kind_row Fill = a.Place ∷ a.Field ∷ a.Number ∷ []
+kind_row Link = a.Place ∷ a.Side ∷ a.Place ∷ a.Place ∷ []
+kind_row Flag = a.Place ∷ a.Side ∷ a.Place ∷ []
+kind_row Tag = a.Place ∷ a.Side ∷ []
+kind_row Splice = a.Place ∷ a.Side ∷ a.Place ∷ a.Place ∷ a.Side ∷ []
+kind_row Has = a.Key ∷ []
+kind_row Insert = a.Key ∷ []
+kind_row Delete = a.Key ∷ []
+kind_row Resign = a.Worker ∷ []
+kind_row kind = []
 
 -- a file may have lines of this kind: sights and leaves of operations and lines of resigning in
 -- later versions alone. With no field behind its word a sight or a leave is of no operation
@@ -73,15 +73,16 @@ may_stand is_extended is_bare kind = true
 -- it has this word, and may stand
 abbrev pub is_named : Bool → List ℕ → Bool → Kind → Bool
 is_named is_extended given is_bare kind =
-    bytes_eq given (word kind) && may_stand is_extended is_bare kind
+    bytes_eq given (kind_word kind) && may_stand is_extended is_bare kind
 
 -- the first such of these kinds
 abbrev pub kind_of : List Kind → Bool → List ℕ → Bool → Result Kind Reason
 kind_of kinds is_extended given is_bare =
     ok_or (find (is_named is_extended given is_bare) kinds) reason.Kind
 
--- `tree_event`, `slot_event`, `event_of`: the event of each kind by the values of its fields: of
--- changes of the tree, of those and what is done on one slot, and of all
+-- `removal`, `tree_event`, `slot_event`, `event_made`: the event of each kind by the values of its
+-- fields: of a tag and a splice, of all changes of the tree, of what is done on one slot too, and of
+-- all kinds
 abbrev pub removal : Kind → List Value → Result Event Reason
 removal Tag (Place parent ∷ Side side ∷ []) = Ok (event.Tag parent side)
 removal Splice (Place ancestor ∷ Side side ∷ Place successor ∷ Place parent ∷ Side keep ∷ []) =
@@ -101,42 +102,42 @@ slot_event Look (Place slot ∷ Field field ∷ []) = Ok (event.Look slot field)
 slot_event Fill (Place slot ∷ Field field ∷ Number value ∷ []) = Ok (event.Fill slot field value)
 slot_event kind values = tree_event kind values
 
-abbrev pub event_of : Kind → List Value → Result Event Reason
-event_of SightFor (Op op ∷ Key key ∷ []) = Ok (event.SightFor op key)
-event_of Sight [] = Ok event.Sight
-event_of Announce [] = Ok event.Announce
-event_of LeaveWith (Answer answer ∷ []) = Ok (event.LeaveWith answer)
-event_of Leave [] = Ok event.Leave
-event_of Scan (Place worker ∷ []) = Ok (event.Scan worker)
-event_of Advance [] = Ok event.Advance
-event_of kind values = slot_event kind values
+abbrev pub event_made : Kind → List Value → Result Event Reason
+event_made SightFor (Op op ∷ Key key ∷ []) = Ok (event.SightFor op key)
+event_made Sight [] = Ok event.Sight
+event_made Announce [] = Ok event.Announce
+event_made LeaveWith (Answer answer ∷ []) = Ok (event.LeaveWith answer)
+event_made Leave [] = Ok event.Leave
+event_made Scan (Place worker ∷ []) = Ok (event.Scan worker)
+event_made Advance [] = Ok event.Advance
+event_made kind values = slot_event kind values
 
 -- the call of each kind by the values of its fields
-abbrev pub call_of : Kind → List Value → Result Call Reason
-call_of Has (Key key ∷ []) = Ok (call.Has key)
-call_of Insert (Key key ∷ []) = Ok (call.Insert key)
-call_of Delete (Key key ∷ []) = Ok (call.Delete key)
-call_of Finish [] = Ok call.Finish
-call_of Pin [] = Ok call.Pin
-call_of Unpin [] = Ok call.Unpin
-call_of Advance [] = Ok call.Advance
-call_of Collect [] = Ok call.Collect
-call_of Resign (Worker heir ∷ []) = Ok (call.Resign heir)
-call_of kind values = Err reason.Fields
+abbrev pub call_made : Kind → List Value → Result Call Reason
+call_made Has (Key key ∷ []) = Ok (call.Has key)
+call_made Insert (Key key ∷ []) = Ok (call.Insert key)
+call_made Delete (Key key ∷ []) = Ok (call.Delete key)
+call_made Finish [] = Ok call.Finish
+call_made Pin [] = Ok call.Pin
+call_made Unpin [] = Ok call.Unpin
+call_made Advance [] = Ok call.Advance
+call_made Collect [] = Ok call.Collect
+call_made Resign (Worker heir ∷ []) = Ok (call.Resign heir)
+call_made kind values = Err reason.Fields
 
 -- the lines of a schedule
 abbrev pub events : Format Event
 events = record {
   kinds = SightFor ∷ Sight ∷ Announce ∷ LeaveWith ∷ Leave ∷ Scan ∷ Advance ∷ Claim ∷ Give ∷ Look
       ∷ Fill ∷ Link ∷ Flag ∷ Tag ∷ Splice ∷ [];
-  made = event_of;
+  made = event_made;
 }
 
 -- the lines of a script
 abbrev pub calls : Format Call
 calls = record {
   kinds = Has ∷ Insert ∷ Delete ∷ Finish ∷ Pin ∷ Unpin ∷ Advance ∷ Collect ∷ Resign ∷ [];
-  made = call_of;
+  made = call_made;
 }
 
 -- a worker of so many, and a call that a file may have

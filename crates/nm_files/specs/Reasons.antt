@@ -10,8 +10,8 @@ use Rattle.nm_files.specs.declared.kind.Kind.{Kind as KindOf}
 use Rattle.nm_files.specs.declared.value.Argument.{Argument}
 use Rattle.nm_files.specs.declared.value.Argument.TheVariants as a
 use Rattle.nm_files.specs.Lines.{fields, is_field, number, place}
-use Rattle.nm_files.specs.Values.{named, field_words, side_words, op_words, answer_words, is_key}
-use Rattle.nm_files.specs.Kinds.{row, kind_of}
+use Rattle.nm_files.specs.Values.{by_word, field_words, side_words, op_words, answer_words, is_key}
+use Rattle.nm_files.specs.Kinds.{kind_row, kind_of}
 use Rattle.nm_files.specs.Headers.{limits_of, tries_of}
 use Rattle.nm_model.specs.Step.{outside}
 use Rattle.nm_files.specs.Files.{Fault, is_long}
@@ -25,10 +25,10 @@ so_at is_so (Err r) = false
 
 -- it is no word of those that it must be one of
 abbrev pub is_no_word : Argument → List ℕ → Bool
-is_no_word a.Field f = not (is_ok (named field_words f))
-is_no_word a.Side f = not (is_ok (named side_words f))
-is_no_word a.Op f = not (is_ok (named op_words f))
-is_no_word a.Answer f = not (is_ok (named answer_words f))
+is_no_word a.Field f = not (is_ok (by_word field_words f))
+is_no_word a.Side f = not (is_ok (by_word side_words f))
+is_no_word a.Op f = not (is_ok (by_word op_words f))
+is_no_word a.Answer f = not (is_ok (by_word answer_words f))
 is_no_word argument f = false
 
 -- it is not in its spelling and range, where it must be a number
@@ -40,9 +40,9 @@ is_no_number a.Worker f = not (is_ok (place f))
 is_no_number argument f = false
 
 -- it is a number, and none of so many workers, where it must be one
-abbrev pub is_no_worker : ℕ → Argument → List ℕ → Bool
-is_no_worker workers a.Worker f = so_at (λ w. not (nat_lt w workers)) (place f)
-is_no_worker workers argument f = false
+abbrev pub is_none_of_workers : ℕ → Argument → List ℕ → Bool
+is_none_of_workers workers a.Worker f = so_at (λ w. not (nat_lt w workers)) (place f)
+is_none_of_workers workers argument f = false
 
 -- it is a number, and no key of the set, where it must be one
 abbrev pub is_no_key : Argument → List ℕ → Bool
@@ -53,7 +53,7 @@ is_no_key argument f = false
 abbrev pub field_holds : ℕ → Argument → List ℕ → Reason → Bool
 field_holds workers argument f Fields = is_no_word argument f
 field_holds workers argument f Number = is_no_number argument f
-field_holds workers argument f Worker = is_no_worker workers argument f
+field_holds workers argument f Worker = is_none_of_workers workers argument f
 field_holds workers argument f Key = is_no_key argument f
 field_holds workers argument f _ = false
 
@@ -82,7 +82,7 @@ holds_of kinds header long fs Form = not (list_all is_field fs) || nat_lt (lengt
 holds_of kinds header long fs Kind = not (is_ok (kind_in kinds header fs))
 holds_of kinds header long fs r =
     field_holds header.layout.workers a.Worker (worker_field fs) r
-    || so_at (λ kind. row_holds header.layout.workers (row kind) (drop 2 fs) r)
+    || so_at (λ kind. row_holds header.layout.workers (kind_row kind) (drop 2 fs) r)
     (kind_in kinds header fs)
 
 -- the reason holds of the line of this number, in a file with that header whose lines are of these

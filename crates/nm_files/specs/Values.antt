@@ -18,9 +18,9 @@ use Rattle.nm_files.specs.Files.{least}
 use Rattle.nm_files.specs.Lines.{number, place}
 
 -- the value that stands beside this word
-abbrev pub named : {X : Type 0} → List (List ℕ × X) → List ℕ → Result X Reason
-named [] given = Err reason.Fields
-named (w ∷ words) given = if bytes_eq given w.0 then Ok w.1 else named words given
+abbrev pub by_word : {X : Type 0} → List (List ℕ × X) → List ℕ → Result X Reason
+by_word [] given = Err reason.Fields
+by_word (w ∷ words) given = if bytes_eq given w.0 then Ok w.1 else by_word words given
 
 -- `field_words`, `side_words`, `op_words`, `answer_words`: the words of the fields of a node, of its
 -- sides, of the operations of the set and of their answers
@@ -64,10 +64,10 @@ value_of workers a.Place field = with_view value.Place (place field)
 value_of workers a.Number field = with_view value.Number (number field)
 value_of workers a.Key field = with_view value.Key (key_field field)
 value_of workers a.Worker field = with_view value.Worker (worker_of workers field)
-value_of workers a.Field field = with_view value.Field (named field_words field)
-value_of workers a.Side field = with_view value.Side (named side_words field)
-value_of workers a.Op field = with_view value.Op (named op_words field)
-value_of workers a.Answer field = with_view value.Answer (named answer_words field)
+value_of workers a.Field field = with_view value.Field (by_word field_words field)
+value_of workers a.Side field = with_view value.Side (by_word side_words field)
+value_of workers a.Op field = with_view value.Op (by_word op_words field)
+value_of workers a.Answer field = with_view value.Answer (by_word answer_words field)
 
 -- what both say, or the lesser of their reasons
 abbrev pub both : {A B : Type 0} → Result A Reason → Result B Reason → Result (A × B) Reason
@@ -84,5 +84,5 @@ values_of workers (argument ∷ row) (field ∷ fields) =
 values_of workers _ _ = Err reason.Fields
 
 -- the worker that a line names, and the values of the fields behind its word
-abbrev pub read : ℕ → List ℕ → List Argument → List (List ℕ) → Result (ℕ × List Value) Reason
-read workers worker row fields = both (worker_of workers worker) (values_of workers row fields)
+abbrev pub worker_and_values : ℕ → List ℕ → List Argument → List (List ℕ) → Result (ℕ × List Value) Reason
+worker_and_values workers worker row fields = both (worker_of workers worker) (values_of workers row fields)

@@ -29,7 +29,7 @@ pub trait Entry: Copy {
 
     ghost format: { Format Self };
 
-    /// The kinds that a line may have, each in front of those that come after it in doubt.
+    /// The kinds that a line may have. Of two that have one word and may stand, the first is meant.
     fn kinds() -> &'static [Kind]
         ensures { result.now ≡ format.kinds };
 

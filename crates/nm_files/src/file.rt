@@ -1,7 +1,7 @@
 //! A file: its header, and the entries of its lines in their order.
-ghost use Rattle.std.specs.Prelude.{◌≡◌, ◌≤◌, drop, length, All, IfOk, OnOk};
+ghost use Rattle.std.specs.Prelude.{◌≡◌, ◌≤◌, drop, length, All, Ok, IfOk, OnOk};
 ghost use Rattle.nm_files.specs.Lines.{parts};
-ghost use Rattle.nm_files.specs.Files.{GivesWhatIsSaid, checked, entries_from};
+ghost use Rattle.nm_files.specs.Files.{GivesWhatIsSaid, entries_from};
 ghost use Rattle.nm_files.specs.Files as files;
 ghost use Rattle.nm_files.specs.Entries.{IsEntryOf, ResignsInSerial};
 ghost use Rattle.nm_files.specs.Entries as spec;
@@ -58,32 +58,16 @@ fn cut_off(number: u32, line: &[u8]) -> RunFault
     }
 }
 
-fn header_at(command: Command, line: &[u8]) -> Result<Header, RunFault>
-    ensures says { GivesWhatIsSaid (λ h. h) result
-        (checked 1 line.now (spec.first_line_of command line.now)) }
-    ensures stress { IfOk result (ResignsInSerial command) }
-{
-    if is_long(1, line) {
-        return Err(fault(1, Reason::Long));
-    }
-    match first_line_of(command, line) {
-        Ok(header) => Ok(header),
-        Err(reason) => Err(fault(1, reason)),
-    }
-}
-
-fn entry_at<T: Entry>(number: u32, header: &Header, line: &[u8]) -> Result<(u32, T), RunFault>
-    ensures says { GivesWhatIsSaid (λ e. e) result
-        (checked number line.now (spec.line_of T.format header.now line.now)) }
+/// What the line of this number says, unless it is too long.
+fn checked<T: Drop>(number: u32, line: &[u8], said: Result<T, Reason>) -> Result<T, RunFault>
+    ensures says { GivesWhatIsSaid (λ x. x) result (files.checked number line.now said) }
+    ensures same { IfOk result (λ x. said ≡ Ok x) }
     ensures number { OnOk result (number ≤ 100001) }
 {
     if is_long(number, line) {
         return Err(fault(number, Reason::Long));
     }
-    match line_of(header, line) {
-        Ok(entry) => Ok(entry),
-        Err(reason) => Err(fault(number, reason)),
-    }
+    said.map_err(|reason| fault(number, reason))
 }
 
 /// The entries of the lines from the second on.
@@ -106,7 +90,7 @@ fn entries_of<T: Entry>(
             }
             return Err(cut_off(number, line));
         };
-        let entry = entry_at(number, header, line)?;
+        let entry = checked(number, line, line_of(header, line))?;
         entries.push(entry).map_err(|_| RunFault::NoMemory)?;
         rest = after;
         number += 1;
@@ -125,7 +109,7 @@ fn file_of<T: Entry>(alloc: Global, command: Command, bytes: &[u8]) -> Result<Fi
     let Some(body) = body else {
         return Err(cut_off(1, line));
     };
-    let header = header_at(command, line)?;
+    let header = checked(1, line, first_line_of(command, line))?;
     let entries = entries_of(alloc, &header, body)?;
     Ok(File {
         header,

@@ -77,12 +77,15 @@ fn greatest(is_extended: bool, is_radix: bool) -> Limits
 /// as many as a layout can have. Versions 3 and 4 of a schedule are for an ordered core, and workers
 /// of `serial` may resign from 2 on; the tree is a radix tree in version 4 of a schedule, and in 3
 /// of a script.
-fn limits_by(command: Command, version: &[u8]) -> Result<Limits, Reason>
-    ensures limits { result ≡ spec.limits_by command version.now }
+fn limits_of(command: Command, word: &[u8], version: &[u8]) -> Result<Limits, Reason>
+    ensures limits { result ≡ spec.limits_of command word.now version.now }
     ensures stress { IfOk result (λ limits. SerialAlone command limits.is_extended) }
     ensures few { IfOk result (λ limits. (limits.nodes ≤ MOST_NODES)
         × (limits.workers ≤ MOST_WORKERS)) }
 {
+    if word != command.word() {
+        return Err(Reason::Header);
+    }
     match (command, version) {
         (_, b"1") => Ok(Limits {
             nodes: 65_536,
@@ -98,20 +101,6 @@ fn limits_by(command: Command, version: &[u8]) -> Result<Limits, Reason>
         (Command::Stress, b"2") => Ok(greatest(false, false)),
         (Command::Stress, b"3") => Ok(greatest(false, true)),
         _ => Err(Reason::Header),
-    }
-}
-
-/// The limits of a version of the command's format, where the first word names that command.
-fn limits_of(command: Command, word: &[u8], version: &[u8]) -> Result<Limits, Reason>
-    ensures limits { result ≡ spec.limits_of command word.now version.now }
-    ensures stress { IfOk result (λ limits. SerialAlone command limits.is_extended) }
-    ensures few { IfOk result (λ limits. (limits.nodes ≤ MOST_NODES)
-        × (limits.workers ≤ MOST_WORKERS)) }
-{
-    if word == command.word() {
-        limits_by(command, version)
-    } else {
-        Err(Reason::Header)
     }
 }
 

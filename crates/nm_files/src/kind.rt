@@ -5,7 +5,7 @@ ghost use Rattle.nm_files.specs.Kinds as spec;
 use crate::fault::Reason;
 use crate::value::Argument;
 
-/// A kind of line: of event in a schedule, of call in a script.
+/// A kind of line: of event in a schedule, of call in a script; `Advance` is one of each.
 #[derive(Clone, Copy, Debug, PartialEq, Eq)]
 pub enum Kind {
     SightFor,
@@ -36,7 +36,7 @@ pub enum Kind {
 impl Kind {
     /// The word by which a line names it.
     fn word(self) -> &'static [u8]
-        ensures { result.now ≡ spec.word self }
+        ensures { result.now ≡ spec.kind_word self }
     {
         match self {
             Kind::SightFor | Kind::Sight => b"sight",
@@ -65,7 +65,7 @@ impl Kind {
 
     /// What the fields behind its word must be.
     pub fn row(self) -> &'static [Argument]
-        ensures row { result.now ≡ spec.row self }
+        ensures row { result.now ≡ spec.kind_row self }
         ensures few { length result.now ≤ 5 }
     {
         use Argument::{Answer, Field, Number, Op, Place, Side, Worker};

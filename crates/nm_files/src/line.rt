@@ -16,7 +16,7 @@ use crate::field::is_field;
 use crate::header::{Command, Header, header_of};
 use crate::kind::kind_of;
 use crate::pieces::cut;
-use crate::value::read;
+use crate::value::worker_and_values;
 use arrayvec::ArrayVec;
 
 /// Tests that a line is fields with single spaces between.
@@ -60,7 +60,12 @@ fn entry_of<T: Entry>(header: &Header, fields: &[&[u8]]) -> Result<(u32, T), Rea
         return Err(Reason::Form);
     };
     let kind = kind_of(T::kinds(), header.is_extended, word, arguments.is_empty())?;
-    let (worker, values) = read(header.layout.workers(), worker, kind.row(), arguments)?;
+    let (worker, values) = worker_and_values(
+        header.layout.workers(),
+        worker,
+        kind.row(),
+        arguments,
+    )?;
     let entry = T::made(kind, values.as_slice())?;
     Ok((worker, entry))
 }

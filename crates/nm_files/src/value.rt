@@ -54,8 +54,8 @@ impl Default for Value {
 pub type Values = ArrayVec<Value, 5>;
 
 /// The value that stands beside this word; else `Fields`.
-fn named<T: Copy>(words: &[(&[u8], T)], given: &[u8]) -> Result<T, Reason>
-    ensures { result ≡ spec.named (map (λ w. (w.0.now, w.1)) words.now) given.now }
+fn by_word<T: Copy>(words: &[(&[u8], T)], given: &[u8]) -> Result<T, Reason>
+    ensures { result ≡ spec.by_word (map (λ w. (w.0.now, w.1)) words.now) given.now }
 {
     for (word, value) in words {
         if given == *word {
@@ -67,7 +67,7 @@ fn named<T: Copy>(words: &[(&[u8], T)], given: &[u8]) -> Result<T, Reason>
 
 /// The field of a node that a word names.
 fn node_field(given: &[u8]) -> Result<Field, Reason>
-    ensures { result ≡ spec.named spec.field_words given.now }
+    ensures { result ≡ spec.by_word spec.field_words given.now }
 {
     let words = [
         (b"key".as_slice(), Field::Key),
@@ -75,35 +75,35 @@ fn node_field(given: &[u8]) -> Result<Field, Reason>
         (b"right", Field::Edge(Side::Right)),
         (b"birth", Field::Birth),
     ];
-    named(&words, given)
+    by_word(&words, given)
 }
 
 /// The side of a node that a word names.
 fn side_of(given: &[u8]) -> Result<Side, Reason>
-    ensures { result ≡ spec.named spec.side_words given.now }
+    ensures { result ≡ spec.by_word spec.side_words given.now }
 {
     let words = [(b"left".as_slice(), Side::Left), (b"right", Side::Right)];
-    named(&words, given)
+    by_word(&words, given)
 }
 
 /// The operation of the set that a word names.
 fn op_of(given: &[u8]) -> Result<Op, Reason>
-    ensures { result ≡ spec.named spec.op_words given.now }
+    ensures { result ≡ spec.by_word spec.op_words given.now }
 {
     let words = [
         (b"has".as_slice(), Op::Has),
         (b"insert", Op::Insert),
         (b"delete", Op::Delete),
     ];
-    named(&words, given)
+    by_word(&words, given)
 }
 
 /// The answer that a word names.
 fn answer_of(given: &[u8]) -> Result<bool, Reason>
-    ensures { result ≡ spec.named spec.answer_words given.now }
+    ensures { result ≡ spec.by_word spec.answer_words given.now }
 {
     let words = [(b"true".as_slice(), true), (b"false", false)];
-    named(&words, given)
+    by_word(&words, given)
 }
 
 /// The key of the set that a field spells; above those of the set, `Key`.
@@ -184,7 +184,7 @@ fn values_of(workers: u32, row: &[Argument], fields: &[&[u8]]) -> Result<Values,
 
 /// The worker that a line names, one of so many, and the values of the fields behind its word; else
 /// the least reason why it has none.
-pub fn read(
+pub fn worker_and_values(
     workers: u32,
     worker: &[u8],
     row: &[Argument],
@@ -192,7 +192,7 @@ pub fn read(
 ) -> Result<(u32, Values), Reason>
     requires { length row.now ≤ 5 }
     ensures { with_view (λ p. (p.0, p.1.items)) result
-        ≡ spec.read workers worker.now row.now (map (λ f. f.now) fields.now) }
+        ≡ spec.worker_and_values workers worker.now row.now (map (λ f. f.now) fields.now) }
 {
     both(worker_of(workers, worker), values_of(workers, row, fields))
 }
