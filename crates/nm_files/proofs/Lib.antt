@@ -3,7 +3,9 @@ pub mod SpellingLemmas
 pub mod PieceLemmas
 pub mod EntryLemmas
 pub mod FileLemmas
+pub mod ValueLemmas
 pub mod ReasonLemmas
+pub mod AllowedLemmas
 pub mod StreamLemmas
 pub mod LimitLemmas
 pub mod ResultLemmas

@@ -1,6 +1,6 @@
 -- What stands past the limit of bytes doesn't matter: there is a fault before it.
 use Rattle.std.proofs.Common.{◌≡◌, ℕ, suc, ◌+◌, ◌-◌, ◌*◌, ◌≤◌, ◌<◌, true, false, List, [], ◌∷◌, ◌++◌, length, take, drop, Result, Ok, Err, refl, sym, ap, ◌∙◌, inl, inr, ◌⊎◌, arith}
-use Rattle.std.specs.Prelude.{Option, Some, None, IfSome, ◌==◌, nat_lt}
+use Rattle.std.specs.Prelude.{◌==◌, nat_lt}
 use Rattle.std.specs.List.{onto_first}
 use Rattle.std.proofs.lemmas.Bool.{cases_Bool, cases_lt, lt-ltb, both_ways, ne_eqb}
 use Rattle.std.proofs.lemmas.List.{length-append, length-take, take-append-drop, take_all}
@@ -8,9 +8,7 @@ use Rattle.nm_files.specs.declared.fault.Reason.TheVariants as reason
 use Rattle.nm_files.specs.Chain.{◌>>=◌}
 use Rattle.nm_files.specs.declared.fault.Reason.{Reason}
 use Rattle.nm_files.specs.Lines.{pieces, parts}
-use Rattle.nm_files.specs.declared.fault.RunFault.{RunFault}
-use Rattle.nm_files.specs.declared.fault.RunFault.TheVariants as run
-use Rattle.nm_files.specs.Files.{Fault, Fails, IfLine, is_long, checked, entries_from, file_from}
+use Rattle.nm_files.specs.Files.{Fault, is_long, checked, entries_from, file_from}
 use Rattle.nm_files.proofs.FileLemmas.{IsFull, pieces_full, step, opens}
 
 -- the pieces of two texts joined: the last of the first goes on as the first of the second
@@ -73,7 +71,7 @@ long : (number : ℕ) (line : List ℕ) → (100001 < number) ⊎ (120 < length 
 long number line (inl h) = rw (lt-ltb 100001 number h) refl
 long number line (inr h) = let far = lt-ltb 120 (length line) h in elim (cases_Bool (nat_lt 100001 number)) [ inl y ↦ rw y refl | inr n ↦ rw (n, far) refl ]
 
-short : (number : ℕ) (line : List ℕ) → is_long number line ≡ false → (number ≤ 100001) × (length line ≤ 120)
+pub short : (number : ℕ) (line : List ℕ) → is_long number line ≡ false → (number ≤ 100001) × (length line ≤ 120)
 short number line h =
     elim (cases_lt 100001 number) [
       | inl far ↦ absurd (both_ways (is_long number line) h (long number line (inl far)))

@@ -1,368 +1,227 @@
 -- A faulty line is answered with the least of its reasons.
-use Rattle.std.proofs.Common.{◌≡◌, ℕ, Bool, true, false, List, [], ◌∷◌, length, Option, Some, None, Result, Ok, Err, refl, ◌∙◌, inl, inr, ◌⊎◌, arith}
-use Rattle.std.specs.Prelude.{is_ok, ◌&&◌, ◌||◌, nat_lt, codes, ◌^◌, if◌then◌else◌}
-use Rattle.std.specs.Option.{ok_or}
+use Rattle.std.proofs.Common.{◌≡◌, ℕ, Bool, true, false, List, [], ◌∷◌, length, Option, Some, None, Result, Ok, Err, refl, sym, ◌∙◌, inl, inr, arith}
+use Rattle.std.specs.Prelude.{◌||◌, ◌==◌, nat_lt, codes, if◌then◌else◌}
 use Rattle.std.specs.Str.{bytes_eq}
-use Rattle.std.specs.Str.Parse.{digits_value}
-use Rattle.std.specs.List.{find, list_all}
+use Rattle.std.specs.List.{AllByRecursion, find, list_all}
 use Rattle.std.proofs.lemmas.Bool.{cases_Bool, le-ltb}
-use Rattle.nm_model.specs.declared.event.Event.{Event}
-use Rattle.nm_model.specs.declared.event.Event.TheVariants as event
-use Rattle.nm_model.specs.declared.event.Field.TheVariants as field
-use Rattle.nm_model.specs.declared.event.Op.TheVariants as op
-use Rattle.nm_edge.specs.declared.edge.Side.TheVariants as side
 use Rattle.nm_files.specs.declared.fault.Reason.{Reason}
 use Rattle.nm_files.specs.declared.fault.Reason.TheVariants as reason
-use Rattle.nm_files.specs.declared.kind.Kind.{Kind}
-use Rattle.nm_files.specs.declared.kind.Kind.TheVariants.{Sight, Announce, Leave, Scan, Advance, Claim, Give, Look, Fill, Link, Flag, Tag, Splice}
-use Rattle.nm_files.specs.Chain.{◌>>=◌}
-use Rattle.nm_files.specs.Lines.{number, is_numeral, place, fields, is_field}
-use Rattle.nm_files.specs.Kinds.{kind_word, kinds, kind_of, event_of, node_field, side_named, op_of, answer_of, is_key, sight_for, leave_with, scan, claim, give, look, fill, link, flag, tag, splice}
-use Rattle.nm_files.specs.Schedules.{entry_of, with_worker, worker_of, line_of, first_line_of}
-use Rattle.nm_files.specs.Headers.{limits_of, header_of, header_by, header_within, count}
-use Rattle.nm_model.specs.Step.{outside}
-use Rattle.nm_files.specs.declared.header.Limits.{Limits}
+use Rattle.nm_files.specs.declared.fault.Reason.TheVariants.{Fields, Number, Worker, Key}
+use Rattle.nm_files.specs.declared.header.Command.{Command}
+use Rattle.nm_files.specs.declared.header.Command.TheVariants.{Replay, Serial, Stress}
 use Rattle.nm_files.specs.declared.header.Header.{Header}
-use Rattle.nm_files.specs.Files.{at_line, checked, is_long}
-use Rattle.nm_files.specs.Reasons.{has_words, has_numbers, has_key, holds_of, holds, line_reasons, header_holds_of, header_holds, header_reasons, reason_of}
+use Rattle.nm_files.specs.declared.header.Limits.{Limits}
+use Rattle.nm_files.specs.declared.kind.Kind.{Kind}
+use Rattle.nm_files.specs.declared.value.Argument.{Argument}
+use Rattle.nm_files.specs.declared.value.Argument.TheVariants as a
+use Rattle.nm_files.specs.declared.value.Value.{Value}
+use Rattle.nm_files.specs.Chain.{◌>>=◌}
+use Rattle.nm_files.specs.Lines.{fields, is_field}
+use Rattle.nm_files.specs.Values.{both, worker_and_values, value_of, values_of, with_view, worker_of, is_key, field_words, side_words, op_words, answer_words}
+use Rattle.nm_files.specs.Formats.{Format}
+use Rattle.nm_files.specs.Kinds.{kind_row, is_named, events, calls}
+use Rattle.nm_files.specs.Headers.{command_word, later_limits, limits_of, count, tries_of, header_of, header_within}
+use Rattle.nm_files.specs.Entries.{entry_of, line_of, first_line_of}
+use Rattle.nm_model.specs.Step.{outside}
+use Rattle.nm_files.specs.Files.{least, at_line, checked, is_long}
+use Rattle.nm_files.specs.Reasons.{field_holds, row_holds, field_reasons, holds_of, holds, line_reasons, header_holds_of, header_holds, header_reasons, reason_of}
+use Rattle.nm_files.proofs.ValueLemmas.{Gives, Makes, both_are, events_make, calls_make, found_is, by_word_gives, number_gives, place_gives, values_are}
 
--- what a function gives: this fault alone, or a value
-abbrev pub Gives : {X : Type 0} → Reason → Result X Reason → Type 0
-Gives {X} r said = (said ≡ Err r) ⊎ ((x : X) × (said ≡ Ok x))
-
-pub number_gives : (f : List ℕ) → Gives reason.Number (number f)
-number_gives f =
-    elim (cases_Bool (is_numeral f && nat_lt (digits_value 10 f) (2 ^ 64))) [
-      | inl y ↦ inr (digits_value 10 f, rw y refl)
-      | inr n ↦ inl (rw n refl)
-    ]
-
-pub place_gives : (f : List ℕ) → Gives reason.Number (place f)
-place_gives f =
-    elim (number_gives f) [
-      | inl e ↦ inl (rw e refl)
-      | inr v ↦ elim (cases_Bool (nat_lt v.0 (2 ^ 32))) [ inl y ↦ inr (v.0, rw (v.1, y) refl) | inr n ↦ inl (rw (v.1, n) refl) ]
-    ]
-
-side_gives : (f : List ℕ) → Gives reason.Fields (side_named f)
-side_gives f =
-    elim (cases_Bool (bytes_eq f (codes "left"))) [
-      | inl y ↦ inr (side.Left, rw y refl)
-      | inr n ↦ elim (cases_Bool (bytes_eq f (codes "right"))) [ inl y ↦ inr (side.Right, rw (n, y) refl) | inr m ↦ inl (rw (n, m) refl) ]
-    ]
-
-field_gives : (f : List ℕ) → Gives reason.Fields (node_field f)
-field_gives f =
-    elim (cases_Bool (bytes_eq f (codes "key"))) [
-      | inl y ↦ inr (field.Key, rw y refl)
-      | inr k ↦ elim (cases_Bool (bytes_eq f (codes "left"))) [
-        | inl y ↦ inr (field.Edge side.Left, rw (k, y) refl)
-        | inr l ↦ elim (cases_Bool (bytes_eq f (codes "right"))) [
-          | inl y ↦ inr (field.Edge side.Right, rw (k, l, y) refl)
-          | inr r ↦ elim (cases_Bool (bytes_eq f (codes "birth"))) [ inl y ↦ inr (field.Birth, rw (k, l, r, y) refl) | inr b ↦ inl (rw (k, l, r, b) refl) ]
-        ]
-      ]
-    ]
-
-found_gives : (o : Option Kind) → Gives reason.Kind (ok_or o reason.Kind)
-found_gives None = inl refl
-found_gives (Some kind) = inr (kind, refl)
-
--- ---- an event by its arguments
-
-abbrev Says : Bool → Bool → Bool → Result Event Reason → Type 0
-Says false n k said = said ≡ Err reason.Fields
-Says true false k said = said ≡ Err reason.Number
-Says true true false said = said ≡ Err reason.Key
-Says true true true said = (e : Event) × (said ≡ Ok e)
-
-and_false : (b : Bool) → (b && false) ≡ false
-and_false true = refl
-and_false false = refl
-
-op_gives : (f : List ℕ) → Gives reason.Fields (op_of f)
-op_gives f =
-    elim (cases_Bool (bytes_eq f (codes "has"))) [
-      | inl y ↦ inr (op.Has, rw y refl)
-      | inr h ↦ elim (cases_Bool (bytes_eq f (codes "insert"))) [
-        | inl y ↦ inr (op.Insert, rw (h, y) refl)
-        | inr i ↦ elim (cases_Bool (bytes_eq f (codes "delete"))) [ inl y ↦ inr (op.Delete, rw (h, i, y) refl) | inr d ↦ inl (rw (h, i, d) refl) ]
-      ]
-    ]
-
-answer_gives : (f : List ℕ) → Gives reason.Fields (answer_of f)
-answer_gives f =
-    elim (cases_Bool (bytes_eq f (codes "true"))) [
-      | inl y ↦ inr (true, rw y refl)
-      | inr n ↦ elim (cases_Bool (bytes_eq f (codes "false"))) [ inl y ↦ inr (false, rw (n, y) refl) | inr m ↦ inl (rw (n, m) refl) ]
-    ]
-
-event_says : (is_ordered : Bool) (kind : Kind) (fs : List (List ℕ)) → Says (has_words is_ordered kind fs) (has_numbers is_ordered kind fs) (has_key is_ordered kind fs) (event_of is_ordered kind fs)
-unfolding sight_for leave_with scan claim give look fill link flag tag splice
-event_says true Sight [] = (event.Sight, refl)
-event_says true Sight (a ∷ []) = rw (and_false (is_ok (op_of a))) refl
-event_says true Sight (a ∷ b ∷ []) =
-    elim (op_gives a) [
-      | inl e ↦ rw e refl
-      | inr xa ↦ elim (number_gives b) [
-        | inl e ↦ rw (xa.1, e) refl
-        | inr xb ↦ elim (cases_Bool (is_key xb.0)) [ inl y ↦ rw (xa.1, xb.1, y) (event.SightFor xa.0 xb.0, refl) | inr n ↦ rw (xa.1, xb.1, n) refl ]
-      ]
-    ]
-event_says true Sight (a ∷ b ∷ z ∷ more) = rw (and_false (is_ok (op_of a))) refl
-event_says false Sight [] = (event.Sight, refl)
-event_says false Sight (a ∷ more) = refl
-event_says is_ordered Announce [] = (event.Announce, refl)
-event_says is_ordered Announce (a ∷ more) = refl
-event_says true Leave [] = (event.Leave, refl)
-event_says true Leave (a ∷ []) =
-    elim (answer_gives a) [
-      | inl e ↦ rw e refl
-      | inr xa ↦ rw (xa.1) (event.LeaveWith xa.0, refl)
-    ]
-event_says true Leave (a ∷ z ∷ more) = rw (and_false (is_ok (answer_of a))) refl
-event_says false Leave [] = (event.Leave, refl)
-event_says false Leave (a ∷ more) = refl
-event_says is_ordered Scan [] = refl
-event_says is_ordered Scan (a ∷ []) =
-    elim (place_gives a) [
-      | inl e ↦ rw (e) refl
-      | inr xa ↦ rw (xa.1) (event.Scan xa.0, refl)
-    ]
-event_says is_ordered Scan (a ∷ z ∷ more) = refl
-event_says is_ordered Advance [] = (event.Advance, refl)
-event_says is_ordered Advance (a ∷ more) = refl
-event_says is_ordered Claim [] = refl
-event_says is_ordered Claim (a ∷ []) =
-    elim (place_gives a) [
-      | inl e ↦ rw (e) refl
-      | inr xa ↦ rw (xa.1) (event.Claim xa.0, refl)
-    ]
-event_says is_ordered Claim (a ∷ z ∷ more) = refl
-event_says is_ordered Give [] = refl
-event_says is_ordered Give (a ∷ []) =
-    elim (place_gives a) [
-      | inl e ↦ rw (e) refl
-      | inr xa ↦ rw (xa.1) (event.Give xa.0, refl)
-    ]
-event_says is_ordered Give (a ∷ z ∷ more) = refl
-event_says is_ordered Look [] = refl
-event_says is_ordered Look (a ∷ []) = refl
-event_says is_ordered Look (a ∷ b ∷ []) =
-    elim (field_gives b) [
-      | inl e ↦ rw (e) refl
-      | inr xb ↦ elim (place_gives a) [
-        | inl e ↦ rw (xb.1, e) refl
-        | inr xa ↦ rw (xb.1, xa.1) (event.Look xa.0 xb.0, refl)
-      ]
-    ]
-event_says is_ordered Look (a ∷ b ∷ z ∷ more) = rw (and_false (is_ok (node_field b))) refl
-event_says is_ordered Fill [] = refl
-event_says is_ordered Fill (a ∷ []) = refl
-event_says is_ordered Fill (a ∷ b ∷ []) = rw (and_false (is_ok (node_field b))) refl
-event_says is_ordered Fill (a ∷ b ∷ c ∷ []) =
-    elim (field_gives b) [
-      | inl e ↦ rw (e) refl
-      | inr xb ↦ elim (place_gives a) [
-        | inl e ↦ rw (xb.1, e) refl
-        | inr xa ↦ elim (number_gives c) [
-          | inl e ↦ rw (xb.1, xa.1, e) refl
-          | inr xc ↦ rw (xb.1, xa.1, xc.1) (event.Fill xa.0 xb.0 xc.0, refl)
-        ]
-      ]
-    ]
-event_says is_ordered Fill (a ∷ b ∷ c ∷ z ∷ more) = rw (and_false (is_ok (node_field b))) refl
-event_says is_ordered Link [] = refl
-event_says is_ordered Link (a ∷ []) = refl
-event_says is_ordered Link (a ∷ b ∷ []) = rw (and_false (is_ok (side_named b))) refl
-event_says is_ordered Link (a ∷ b ∷ c ∷ []) = rw (and_false (is_ok (side_named b))) refl
-event_says is_ordered Link (a ∷ b ∷ c ∷ d ∷ []) =
-    elim (side_gives b) [
-      | inl e ↦ rw (e) refl
-      | inr xb ↦ elim (place_gives a) [
-        | inl e ↦ rw (xb.1, e) refl
-        | inr xa ↦ elim (place_gives c) [
-          | inl e ↦ rw (xb.1, xa.1, e) refl
-          | inr xc ↦ elim (place_gives d) [
-            | inl e ↦ rw (xb.1, xa.1, xc.1, e) refl
-            | inr xd ↦ rw (xb.1, xa.1, xc.1, xd.1) (event.Link xa.0 xb.0 xc.0 xd.0, refl)
-          ]
-        ]
-      ]
-    ]
-event_says is_ordered Link (a ∷ b ∷ c ∷ d ∷ z ∷ more) = rw (and_false (is_ok (side_named b))) refl
-event_says is_ordered Flag [] = refl
-event_says is_ordered Flag (a ∷ []) = refl
-event_says is_ordered Flag (a ∷ b ∷ []) = rw (and_false (is_ok (side_named b))) refl
-event_says is_ordered Flag (a ∷ b ∷ c ∷ []) =
-    elim (side_gives b) [
-      | inl e ↦ rw (e) refl
-      | inr xb ↦ elim (place_gives a) [
-        | inl e ↦ rw (xb.1, e) refl
-        | inr xa ↦ elim (place_gives c) [
-          | inl e ↦ rw (xb.1, xa.1, e) refl
-          | inr xc ↦ rw (xb.1, xa.1, xc.1) (event.Flag xa.0 xb.0 xc.0, refl)
-        ]
-      ]
-    ]
-event_says is_ordered Flag (a ∷ b ∷ c ∷ z ∷ more) = rw (and_false (is_ok (side_named b))) refl
-event_says is_ordered Tag [] = refl
-event_says is_ordered Tag (a ∷ []) = refl
-event_says is_ordered Tag (a ∷ b ∷ []) =
-    elim (side_gives b) [
-      | inl e ↦ rw (e) refl
-      | inr xb ↦ elim (place_gives a) [
-        | inl e ↦ rw (xb.1, e) refl
-        | inr xa ↦ rw (xb.1, xa.1) (event.Tag xa.0 xb.0, refl)
-      ]
-    ]
-event_says is_ordered Tag (a ∷ b ∷ z ∷ more) = rw (and_false (is_ok (side_named b))) refl
-event_says is_ordered Splice [] = refl
-event_says is_ordered Splice (a ∷ []) = refl
-event_says is_ordered Splice (a ∷ b ∷ []) = rw (and_false (is_ok (side_named b))) refl
-event_says is_ordered Splice (a ∷ b ∷ c ∷ []) = rw (and_false (is_ok (side_named b))) refl
-event_says is_ordered Splice (a ∷ b ∷ c ∷ d ∷ []) = rw (and_false (is_ok (side_named b))) refl
-event_says is_ordered Splice (a ∷ b ∷ c ∷ d ∷ e ∷ []) =
-    elim (side_gives b) [
-      | inl e ↦ rw (e) refl
-      | inr xb ↦ elim (side_gives e) [
-        | inl e ↦ rw (xb.1, e) refl
-        | inr xe ↦ elim (place_gives a) [
-          | inl e ↦ rw (xb.1, xe.1, e) refl
-          | inr xa ↦ elim (place_gives c) [
-            | inl e ↦ rw (xb.1, xe.1, xa.1, e) refl
-            | inr xc ↦ elim (place_gives d) [
-              | inl e ↦ rw (xb.1, xe.1, xa.1, xc.1, e) refl
-              | inr xd ↦ rw (xb.1, xe.1, xa.1, xc.1, xd.1) (event.Splice xa.0 xb.0 xc.0 xd.0 xe.0, refl)
-            ]
-          ]
-        ]
-      ]
-    ]
-event_says is_ordered Splice (a ∷ b ∷ c ∷ d ∷ e ∷ z ∷ more) = rw (and_false (is_ok (side_named e)), and_false (is_ok (side_named b))) refl
-
--- ---- a line
-
--- the reason of a line that is not too long
-abbrev pub reason_in : {X : Type 0} → Result X Reason → Option Reason
+-- the reason of what was read
+abbrev reason_in : {X : Type 0} → Result X Reason → Option Reason
 reason_in (Ok x) = None
 reason_in (Err r) = Some r
 
-pub reason_at : {X : Type 0} (number : ℕ) (said : Result X Reason) → reason_of (at_line number said) ≡ reason_in said
+reason_at : {X : Type 0} (number : ℕ) (said : Result X Reason) → reason_of (at_line number said) ≡ reason_in said
 reason_at number (Ok x) = refl
 reason_at number (Err r) = refl
 
-pub or_true : (b : Bool) → (b || true) ≡ true
-or_true true = refl
-or_true false = refl
+seen_reason : {X Y : Type 0} (view : X → Y) (said : Result X Reason) → reason_in (with_view view said) ≡ reason_in said
+seen_reason view (Ok x) = refl
+seen_reason view (Err r) = refl
 
--- what is wrong with a worker, before a key that is too great
-worker_least : (header : Header) (a k : List ℕ) (fs : List (List ℕ)) (kind : Kind) (event : Result Event Reason) → list_all is_field (a ∷ k ∷ fs) ≡ true → kind_of k ≡ Ok kind → has_words header.is_ordered kind fs ≡ true → has_numbers header.is_ordered kind fs ≡ true
-    → (fine : Bool) → has_key header.is_ordered kind fs ≡ fine → Says true true fine event
-    → reason_in (with_worker (worker_of header.layout.workers a) event) ≡ find (holds_of header false (a ∷ k ∷ fs)) line_reasons
-worker_least header a k fs kind event formed is words numbers true key said =
-    let two : nat_lt (length (a ∷ k ∷ fs)) 2 ≡ false = le-ltb (length (a ∷ k ∷ fs)) 2 (omega arith) in
-    elim (place_gives a) [
-      | inl p ↦ rw (said.1, formed, two, is, words, numbers, p) refl
-      | inr x ↦ elim (cases_Bool (nat_lt x.0 header.layout.workers)) [ inl y ↦ rw (said.1, formed, two, is, words, numbers, key, x.1, y) refl | inr n ↦ rw (said.1, formed, two, is, words, numbers, key, x.1, n) refl ]
+-- ---- the lesser reason of two
+
+-- the first reason that holds, by whether each does
+abbrev first : Bool → Bool → Bool → Bool → Option Reason
+first true number worker key = Some Fields
+first false true worker key = Some Number
+first false false true key = Some Worker
+first false false false true = Some Key
+first false false false false = None
+
+first_found : (test : Reason → Bool) → find test field_reasons ≡ first (test Fields) (test Number) (test Worker) (test Key)
+first_found test = grind arith
+
+abbrev lesser : Option Reason → Option Reason → Option Reason
+lesser None o = o
+lesser (Some r) None = Some r
+lesser (Some r) (Some s) = Some (least r s)
+
+lesser_is : (f n w k f' n' w' k' : Bool) → lesser (first f n w k) (first f' n' w' k') ≡ first (f || f') (n || n') (w || w') (k || k')
+lesser_is f n w k f' n' w' k' = grind arith
+
+both_lesser : {A B : Type 0} (r : Result A Reason) (s : Result B Reason) → reason_in (both r s) ≡ lesser (reason_in r) (reason_in s)
+both_lesser r s = grind arith
+
+both_least : {A B : Type 0} (r : Result A Reason) (s : Result B Reason) (p q : Reason → Bool) → reason_in r ≡ find p field_reasons → reason_in s ≡ find q field_reasons → reason_in (both r s) ≡ find (λ r. p r || q r) field_reasons
+both_least r s p q by_p by_q =
+    both_lesser r s ∙ rw (by_p, by_q, first_found p, first_found q) (lesser_is (p Fields) (p Number) (p Worker) (p Key) (q Fields) (q Number) (q Worker) (q Key)) ∙ sym (first_found (λ r. p r || q r))
+
+-- ---- the fields of a line
+
+worker_least : (workers : ℕ) (f : List ℕ) → reason_in (worker_of workers f) ≡ find (field_holds workers a.Worker f) field_reasons
+worker_least workers f =
+    elim (place_gives f) [
+      | inl e ↦ rw e refl
+      | inr x ↦ rw (x.1) (grind arith)
     ]
-worker_least header a k fs kind event formed is words numbers false key said =
-    let two : nat_lt (length (a ∷ k ∷ fs)) 2 ≡ false = le-ltb (length (a ∷ k ∷ fs)) 2 (omega arith) in
-    elim (place_gives a) [
-      | inl p ↦ rw (said, formed, two, is, words, numbers, p) refl
-      | inr x ↦ elim (cases_Bool (nat_lt x.0 header.layout.workers)) [ inl y ↦ rw (said, formed, two, is, words, numbers, key, x.1, y) refl | inr n ↦ rw (said, formed, two, is, words, numbers, key, x.1, n) refl ]
+
+value_least : (workers : ℕ) (argument : Argument) (f : List ℕ) → reason_in (value_of workers argument f) ≡ find (field_holds workers argument f) field_reasons
+value_least workers a.Place f = elim (place_gives f) [ inl e ↦ rw e refl | inr x ↦ rw (x.1) refl ]
+value_least workers a.Number f = elim (number_gives f) [ inl e ↦ rw e refl | inr x ↦ rw (x.1) refl ]
+value_least workers a.Key f =
+    elim (number_gives f) [
+      | inl e ↦ rw e refl
+      | inr x ↦ elim (cases_Bool (is_key x.0)) [ inl y ↦ rw (x.1, y) refl | inr n ↦ rw (x.1, n) refl ]
     ]
+value_least workers a.Worker f = seen_reason _ (worker_of workers f) ∙ worker_least workers f
+value_least workers a.Field f = elim (by_word_gives field_words f) [ inl e ↦ rw e refl | inr x ↦ rw (x.1) refl ]
+value_least workers a.Side f = elim (by_word_gives side_words f) [ inl e ↦ rw e refl | inr x ↦ rw (x.1) refl ]
+value_least workers a.Op f = elim (by_word_gives op_words f) [ inl e ↦ rw e refl | inr x ↦ rw (x.1) refl ]
+value_least workers a.Answer f = elim (by_word_gives answer_words f) [ inl e ↦ rw e refl | inr x ↦ rw (x.1) refl ]
 
-event_least : (header : Header) (a k : List ℕ) (fs : List (List ℕ)) (kind : Kind) (event : Result Event Reason) (words numbers : Bool) → list_all is_field (a ∷ k ∷ fs) ≡ true → kind_of k ≡ Ok kind → has_words header.is_ordered kind fs ≡ words → has_numbers header.is_ordered kind fs ≡ numbers
-    → Says words numbers (has_key header.is_ordered kind fs) event
-    → reason_in (with_worker (worker_of header.layout.workers a) event) ≡ find (holds_of header false (a ∷ k ∷ fs)) line_reasons
-event_least header a k fs kind event false numbers formed is words numeric said =
-    let two : nat_lt (length (a ∷ k ∷ fs)) 2 ≡ false = le-ltb (length (a ∷ k ∷ fs)) 2 (omega arith) in
-    rw (said, formed, two, is, words) refl
-event_least header a k fs kind event true false formed is words numeric said =
-    let two : nat_lt (length (a ∷ k ∷ fs)) 2 ≡ false = le-ltb (length (a ∷ k ∷ fs)) 2 (omega arith) in
-    rw (said, formed, two, is, words, numeric, or_true) refl
-event_least header a k fs kind event true true formed is words numeric said =
-    worker_least header a k fs kind event formed is words numeric (has_key header.is_ordered kind fs) refl said
+row_least : (workers : ℕ) (row : List Argument) (fs : List (List ℕ)) → reason_in (values_of workers row fs) ≡ find (row_holds workers row fs) field_reasons
+row_least workers [] [] = refl
+row_least workers [] (f ∷ fs) = refl
+row_least workers (argument ∷ row) [] = refl
+row_least workers (argument ∷ row) (f ∷ fs) =
+    seen_reason _ (both (value_of workers argument f) (values_of workers row fs))
+    ∙ both_least (value_of workers argument f) (values_of workers row fs) (field_holds workers argument f) (row_holds workers row fs) (value_least workers argument f) (row_least workers row fs)
 
-entry_least : (header : Header) (fs : List (List ℕ)) → list_all is_field fs ≡ true → reason_in (entry_of header fs) ≡ find (holds_of header false fs) line_reasons
+-- ---- a line
+
+-- a kind makes an entry of what was read
+made_of : {X : Type 0} (format : Format X) (kind : Kind) → Makes format kind → (workers : ℕ) (w : List ℕ) (fs : List (List ℕ)) (said : Result (ℕ × List Value) Reason) → worker_and_values workers w (kind_row kind) fs ≡ said
+    → reason_in {X = ℕ × X} (said >>= λ told. format.made kind told.1 >>= λ entry. Ok (told.0, entry)) ≡ reason_in said
+made_of format kind makes workers w fs (Err r) is = refl
+made_of format kind makes workers w fs (Ok told) is =
+    let both = both_are (worker_of workers w) (values_of workers (kind_row kind) fs) told is in
+    let values = values_are workers (kind_row kind) fs told.1 both.1 in
+    let made = makes workers values.0 in
+    rw (values.1, made.1) refl
+
+kind_least : {X : Type 0} (format : Format X) → AllByRecursion (Makes format) format.kinds → (header : Header) (w k : List ℕ) (fs : List (List ℕ)) → list_all is_field (w ∷ k ∷ fs) ≡ true
+    → (o : Option Kind) → find (is_named header.is_extended k (length fs == 0)) format.kinds ≡ o
+    → reason_in (entry_of format header (w ∷ k ∷ fs)) ≡ find (holds_of format.kinds header false (w ∷ k ∷ fs)) line_reasons
 unfolding entry_of
-entry_least header [] formed = refl
-entry_least header (a ∷ []) formed = rw formed refl
-entry_least header (a ∷ k ∷ fs) formed =
-    let two : nat_lt (length (a ∷ k ∷ fs)) 2 ≡ false = le-ltb (length (a ∷ k ∷ fs)) 2 (omega arith) in
-    let o = header.is_ordered in
-    elim (found_gives (find (λ kind. bytes_eq k (kind_word kind)) kinds)) [
-      | inl e ↦ rw (e, formed, two) refl
-      | inr x ↦ let e = event_least header a k fs x.0 (event_of o x.0 fs) (has_words o x.0 fs) (has_numbers o x.0 fs) formed x.1 refl refl (event_says o x.0 fs) in rw (x.1) (rw (x.1) at e)
-    ]
+kind_least format makes header w k fs formed None is =
+    let two : nat_lt (length (w ∷ k ∷ fs)) 2 ≡ false = le-ltb (length (w ∷ k ∷ fs)) 2 (omega arith) in
+    rw (is, formed, two) refl
+kind_least format makes header w k fs formed (Some kind) is =
+    let workers = header.layout.workers in
+    let two : nat_lt (length (w ∷ k ∷ fs)) 2 ≡ false = le-ltb (length (w ∷ k ∷ fs)) 2 (omega arith) in
+    let found = found_is (Makes format) (is_named header.is_extended k (length fs == 0)) format.kinds kind is makes in
+    rw (is, formed, two) (made_of format kind found.0 workers w fs (worker_and_values workers w (kind_row kind) fs) refl
+    ∙ both_least (worker_of workers w) (values_of workers (kind_row kind) fs) (field_holds workers a.Worker w) (row_holds workers (kind_row kind) fs) (worker_least workers w) (row_least workers (kind_row kind) fs))
 
-fields_least : (header : Header) (long : Bool) (fs : List (List ℕ)) → reason_in (if long then Err reason.Long else if list_all is_field fs then entry_of header fs else Err reason.Form) ≡ find (holds_of header long fs) line_reasons
-fields_least header true fs = refl
-fields_least header false fs =
+entry_least : {X : Type 0} (format : Format X) → AllByRecursion (Makes format) format.kinds → (header : Header) (fs : List (List ℕ)) → list_all is_field fs ≡ true → reason_in (entry_of format header fs) ≡ find (holds_of format.kinds header false fs) line_reasons
+unfolding entry_of
+entry_least format makes header [] formed = refl
+entry_least format makes header (w ∷ []) formed = rw formed refl
+entry_least format makes header (w ∷ k ∷ fs) formed = kind_least format makes header w k fs formed _ refl
+
+fields_least : {X : Type 0} (format : Format X) → AllByRecursion (Makes format) format.kinds → (header : Header) (long : Bool) (fs : List (List ℕ)) → reason_in (if long then Err reason.Long else if list_all is_field fs then entry_of format header fs else Err reason.Form) ≡ find (holds_of format.kinds header long fs) line_reasons
+fields_least format makes header true fs = refl
+fields_least format makes header false fs =
     elim (cases_Bool (list_all is_field fs)) [
-      | inl y ↦ let e = entry_least header fs y in rw y (rw y at e)
+      | inl y ↦ let e = entry_least format makes header fs y in rw y (rw y at e)
       | inr n ↦ rw n refl
     ]
 
-pub line_least : (header : Header) (number : ℕ) (line : List ℕ) → reason_of (checked number line (line_of header line)) ≡ find (holds header number line) line_reasons
-line_least header number line = reason_at number _ ∙ fields_least header (is_long number line) (fields line)
+line_least : {X : Type 0} (format : Format X) → AllByRecursion (Makes format) format.kinds → (header : Header) (number : ℕ) (line : List ℕ) → reason_of (checked number line (line_of format header line)) ≡ find (holds format.kinds header number line) line_reasons
+line_least format makes header number line = reason_at number _ ∙ fields_least format makes header (is_long number line) (fields line)
+
+pub event_least : (header : Header) (number : ℕ) (line : List ℕ) → reason_of (checked number line (line_of events header line)) ≡ find (holds events.kinds header number line) line_reasons
+event_least = line_least events events_make
+
+pub call_least : (header : Header) (number : ℕ) (line : List ℕ) → reason_of (checked number line (line_of calls header line)) ≡ find (holds calls.kinds header number line) line_reasons
+call_least = line_least calls calls_make
 
 -- ---- the first line
 
-header_said : (limits : Limits) (nodes workers : List ℕ) → header_by limits nodes workers ≡ (count nodes >>= λ n. count workers >>= λ w. header_within limits n w)
-unfolding header_by
-header_said limits nodes workers = refl
+count_gives : (f : List ℕ) → Gives reason.Header (count f)
+count_gives f = elim (number_gives f) [ inl e ↦ inl (rw e refl) | inr n ↦ inr (n.0, rw (n.1) refl) ]
 
-two_least : (command version nodes workers : List ℕ) (limits : Limits) → limits_of command version ≡ Ok limits
-    → reason_in (header_by limits nodes workers) ≡ find (header_holds_of false (command ∷ version ∷ nodes ∷ workers ∷ [])) header_reasons
-two_least command version nodes workers limits named =
+tries_give : (command : Command) (fs : List (List ℕ)) → Gives reason.Header (tries_of command fs)
+tries_give Replay [] = inr (1, refl)
+tries_give Replay (f ∷ fs) = inl refl
+tries_give Serial [] = inl refl
+tries_give Serial (f ∷ []) = count_gives f
+tries_give Serial (f ∷ g ∷ fs) = inl refl
+tries_give Stress [] = inl refl
+tries_give Stress (f ∷ []) = count_gives f
+tries_give Stress (f ∷ g ∷ fs) = inl refl
+
+-- limits where a version is this one, and as told where it is not
+or_else : (given version : List ℕ) (limits : Limits) (others : Result Limits Reason) → Gives reason.Header others → Gives reason.Header (if bytes_eq given version then Ok limits else others)
+or_else given version limits others gives =
+    elim (cases_Bool (bytes_eq given version)) [
+      | inl y ↦ inr (limits, rw y refl)
+      | inr n ↦ rw n gives
+    ]
+
+later_give : (command : Command) (version : List ℕ) → Gives reason.Header (later_limits command version)
+later_give Replay version = or_else version (codes "2") _ _ (or_else version (codes "3") _ _ (or_else version (codes "4") _ _ (inl refl)))
+later_give Serial version = or_else version (codes "2") _ _ (or_else version (codes "3") _ _ (inl refl))
+later_give Stress version = or_else version (codes "2") _ _ (or_else version (codes "3") _ _ (inl refl))
+
+limits_give : (command : Command) (given version : List ℕ) → Gives reason.Header (limits_of command given version)
+limits_give command given version =
+    elim (cases_Bool (bytes_eq given (command_word command))) [
+      | inl y ↦ rw y (or_else version (codes "1") _ _ (later_give command version))
+      | inr n ↦ inl (rw n refl)
+    ]
+
+header_said : (command : Command) (given version nodes workers : List ℕ) (more : List (List ℕ)) → header_of command (given ∷ version ∷ nodes ∷ workers ∷ more) ≡ (limits_of command given version >>= λ limits. count nodes >>= λ n. count workers >>= λ w. tries_of command more >>= λ t. header_within limits n w t)
+unfolding header_of
+header_said command given version nodes workers more = refl
+
+sizes_least : (command : Command) (given version nodes workers : List ℕ) (more : List (List ℕ)) (limits : Limits) → limits_of command given version ≡ Ok limits
+    → reason_in (header_of command (given ∷ version ∷ nodes ∷ workers ∷ more)) ≡ find (header_holds_of command false (given ∷ version ∷ nodes ∷ workers ∷ more)) header_reasons
+sizes_least command given version nodes workers more limits named =
     elim (number_gives nodes) [
       | inl e ↦ rw (header_said, named, e) refl
       | inr n ↦ elim (number_gives workers) [
         | inl e ↦ rw (header_said, named, n.1, e) refl
-        | inr w ↦ elim (cases_Bool (outside 7 limits.nodes n.0)) [
-          | inl y ↦ rw (header_said, named, n.1, w.1, y) refl
-          | inr y ↦ elim (cases_Bool (outside 1 limits.workers w.0)) [ inl z ↦ rw (header_said, named, n.1, w.1, y, z) refl | inr z ↦ rw (header_said, named, n.1, w.1, y, z) refl ]
-        ]
-      ]
-    ]
-
-limits_gives : (command version : List ℕ) → Gives reason.Header (limits_of command version)
-limits_gives command version =
-    elim (cases_Bool (bytes_eq command (codes "schedule"))) [
-      | inl y ↦ elim (cases_Bool (bytes_eq version (codes "1"))) [
-        | inl first ↦ inr (record { nodes = 65536; workers = 32; is_ordered = false; is_radix = false }, rw (y, first) refl)
-        | inr not_first ↦ elim (cases_Bool (bytes_eq version (codes "2"))) [
-          | inl second ↦ inr (record { nodes = 1048576; workers = 64; is_ordered = false; is_radix = false }, rw (y, not_first, second) refl)
-          | inr not_second ↦ elim (cases_Bool (bytes_eq version (codes "3"))) [
-            | inl third ↦ inr (record { nodes = 1048576; workers = 64; is_ordered = true; is_radix = false }, rw (y, not_first, not_second, third) refl)
-            | inr not_third ↦ elim (cases_Bool (bytes_eq version (codes "4"))) [
-              | inl fourth ↦ inr (record { nodes = 1048576; workers = 64; is_ordered = true; is_radix = true }, rw (y, not_first, not_second, not_third, fourth) refl)
-              | inr none ↦ inl (rw (y, not_first, not_second, not_third, none) refl)
+        | inr w ↦ elim (tries_give command more) [
+          | inl e ↦ rw (header_said, named, n.1, w.1, e) refl
+          | inr t ↦ elim (cases_Bool (outside 7 limits.nodes n.0)) [
+            | inl y ↦ rw (header_said, named, n.1, w.1, t.1, y) refl
+            | inr y ↦ elim (cases_Bool (outside 1 limits.workers w.0)) [
+              | inl z ↦ rw (header_said, named, n.1, w.1, t.1, y, z) refl
+              | inr z ↦ elim (cases_Bool (outside 1 1000000 t.0)) [ inl u ↦ rw (header_said, named, n.1, w.1, t.1, y, z, u) refl | inr u ↦ rw (header_said, named, n.1, w.1, t.1, y, z, u) refl ]
             ]
           ]
         ]
       ]
-      | inr n ↦ inl (rw n refl)
     ]
 
-header_least : (fs : List (List ℕ)) → reason_in (header_of fs) ≡ find (header_holds_of false fs) header_reasons
+header_least : (command : Command) (fs : List (List ℕ)) → reason_in (header_of command fs) ≡ find (header_holds_of command false fs) header_reasons
 unfolding header_of
-header_least [] = refl
-header_least (a ∷ []) = refl
-header_least (a ∷ b ∷ []) = refl
-header_least (a ∷ b ∷ c ∷ []) = refl
-header_least (a ∷ b ∷ c ∷ d ∷ []) =
-    elim (limits_gives a b) [
+header_least command [] = refl
+header_least command (a ∷ []) = refl
+header_least command (a ∷ b ∷ []) = refl
+header_least command (a ∷ b ∷ c ∷ []) = refl
+header_least command (a ∷ b ∷ c ∷ d ∷ more) =
+    elim (limits_give command a b) [
       | inl e ↦ rw e refl
-      | inr l ↦ let e = two_least a b c d l.0 l.1 in rw (l.1) (rw (l.1) at e)
+      | inr l ↦ let e = sizes_least command a b c d more l.0 l.1 in rw (l.1) (rw (l.1) at e)
     ]
-header_least (a ∷ b ∷ c ∷ d ∷ e ∷ more) = refl
 
-first_least : (long : Bool) (fs : List (List ℕ)) → reason_in (if long then Err reason.Long else header_of fs) ≡ find (header_holds_of long fs) header_reasons
-first_least true fs = refl
-first_least false fs = header_least fs
+first_least : (command : Command) (long : Bool) (fs : List (List ℕ)) → reason_in (if long then Err reason.Long else header_of command fs) ≡ find (header_holds_of command long fs) header_reasons
+first_least command true fs = refl
+first_least command false fs = header_least command fs
 
-pub first_line_least : (line : List ℕ) → reason_of (checked 1 line (first_line_of line)) ≡ find (header_holds line) header_reasons
-first_line_least line = reason_at 1 _ ∙ first_least (is_long 1 line) (fields line)
+pub first_line_least : (command : Command) (line : List ℕ) → reason_of (checked 1 line (first_line_of command line)) ≡ find (header_holds command line) header_reasons
+first_line_least command line = reason_at 1 _ ∙ first_least command (is_long 1 line) (fields line)

@@ -1,6 +1,6 @@
 -- A file of lines: a header, and an entry by each further line; or its first faulty line with the
 -- least reason.
-use Rattle.std.specs.Prelude.{◌≡◌, ℕ, ◌+◌, List, [], ◌∷◌, length, Result, Ok, Err, Bool, ◌||◌, ◌==◌, nat_lt, if◌then◌else◌}
+use Rattle.std.specs.Prelude.{◌≡◌, ℕ, ◌+◌, List, [], ◌∷◌, length, Result, Ok, Err, Bool, ◌||◌, ◌==◌, nat_le, nat_lt, if◌then◌else◌}
 use Rattle.nm_files.specs.declared.fault.Reason.{Reason}
 use Rattle.nm_files.specs.declared.fault.Reason.TheVariants as reason
 use Rattle.nm_files.specs.declared.fault.RunFault.{RunFault}
@@ -26,6 +26,10 @@ reason_number reason.Fields = 9
 reason_number reason.Number = 10
 reason_number reason.Worker = 11
 reason_number reason.Key = 12
+
+-- the lesser of two reasons
+abbrev pub least : Reason → Reason → Reason
+least r s = if nat_le (reason_number r) (reason_number s) then r else s
 
 -- more than 120 bytes, or a line numbered above 100,001
 abbrev pub is_long : ℕ → List ℕ → Bool

@@ -1,33 +1,60 @@
--- The first line of a schedule: its version, how many nodes and workers it is for, and by which core
--- it is played.
-use Rattle.std.specs.Prelude.{ℕ, List, [], ◌∷◌, codes, Bool, true, false, Result, Ok, Err, if◌then◌else◌}
+-- The first line of a file: its command and version, how many nodes and workers it is for, and how
+-- many tries each call has.
+use Rattle.std.specs.Prelude.{◌≡◌, ℕ, List, [], ◌∷◌, codes, Bool, true, false, Result, Ok, Err, if◌then◌else◌}
 use Rattle.std.specs.Str.{bytes_eq}
 use Rattle.nm_edge.specs.Layouts.{Layout, dense, in_radix}
 use Rattle.nm_files.specs.declared.fault.Reason.{Reason}
 use Rattle.nm_files.specs.declared.fault.Reason.TheVariants as reason
+use Rattle.nm_files.specs.declared.header.Command.{Command}
+use Rattle.nm_files.specs.declared.header.Command.TheVariants.{Replay, Serial, Stress}
 use Rattle.nm_files.specs.declared.header.Limits.{Limits}
 use Rattle.nm_files.specs.declared.header.Header.{Header}
 use Rattle.nm_files.specs.Chain.{◌>>=◌}
 use Rattle.nm_files.specs.Lines.{number}
 use Rattle.nm_model.specs.Step.{outside}
 
--- the sizes that a version of the format allows, whether an ordered core plays it, and whether its
--- tree is a radix tree
-abbrev pub limits_by : List ℕ → Result Limits Reason
-limits_by version =
-    if bytes_eq version (codes "1")
-    then Ok (record { nodes = 65536; workers = 32; is_ordered = false; is_radix = false })
-    else if bytes_eq version (codes "2")
-    then Ok (record { nodes = 1048576; workers = 64; is_ordered = false; is_radix = false })
-    else if bytes_eq version (codes "3")
-    then Ok (record { nodes = 1048576; workers = 64; is_ordered = true; is_radix = false })
-    else if bytes_eq version (codes "4")
-    then Ok (record { nodes = 1048576; workers = 64; is_ordered = true; is_radix = true })
+-- the word of each command
+abbrev pub command_word : Command → List ℕ
+command_word Replay = codes "schedule"
+command_word Serial = codes "serial"
+command_word Stress = codes "stress"
+
+-- as many nodes and workers as a layout can have
+abbrev pub greatest : Bool → Bool → Limits
+greatest is_extended is_radix = record {
+  nodes = 1048576;
+  workers = 64;
+  is_extended = is_extended;
+  is_radix = is_radix;
+}
+
+-- `later_limits`, `limits_by`: the sizes that a version of the format allows, whether it has the
+-- lines of later versions, and whether its tree is a radix tree; in versions 2 and on, and in all
+abbrev pub later_limits : Command → List ℕ → Result Limits Reason
+later_limits Replay version =
+    if bytes_eq version (codes "2") then Ok (greatest false false)
+    else if bytes_eq version (codes "3") then Ok (greatest true false)
+    else if bytes_eq version (codes "4") then Ok (greatest true true)
+    else Err reason.Header
+later_limits Serial version =
+    if bytes_eq version (codes "2") then Ok (greatest true false)
+    else if bytes_eq version (codes "3") then Ok (greatest true true)
+    else Err reason.Header
+later_limits Stress version =
+    if bytes_eq version (codes "2") then Ok (greatest false false)
+    else if bytes_eq version (codes "3") then Ok (greatest false true)
     else Err reason.Header
 
+abbrev pub limits_by : Command → List ℕ → Result Limits Reason
+limits_by command version =
+    if bytes_eq version (codes "1")
+    then Ok (record { nodes = 65536; workers = 32; is_extended = false; is_radix = false })
+    else later_limits command version
+
 -- what a version of the command's format allows
-abbrev pub limits_of : List ℕ → List ℕ → Result Limits Reason
-limits_of command version = if bytes_eq command (codes "schedule") then limits_by version
+abbrev pub limits_of : Command → List ℕ → List ℕ → Result Limits Reason
+limits_of command given version =
+    if bytes_eq given (command_word command) then limits_by command version
     else Err reason.Header
 
 -- whatever is wrong with a number here is a fault of the header
@@ -39,28 +66,41 @@ in_header (Err r) = Err reason.Header
 abbrev pub count : List ℕ → Result ℕ Reason
 count field = in_header (number field)
 
+-- the tries by the fields behind the sizes: one field in a script, and none in a schedule, whose
+-- events have one try each
+abbrev pub tries_of : Command → List (List ℕ) → Result ℕ Reason
+tries_of Replay [] = Ok 1
+tries_of Serial (tries ∷ []) = count tries
+tries_of Stress (tries ∷ []) = count tries
+tries_of command fields = Err reason.Header
+
 -- the layout of these sizes, for a radix tree or not
 abbrev pub shaped : Bool → Layout → Layout
 shaped is_radix layout = if is_radix then in_radix layout else layout
 
--- 7 nodes or more, 1 worker or more, and no more than the version allows
-abbrev pub header_within : Limits → ℕ → ℕ → Result Header Reason
-header_within limits nodes workers =
+-- 7 nodes or more, 1 worker or more, no more than the version allows, and 1 to 1,000,000 tries
+abbrev pub header_within : Limits → ℕ → ℕ → ℕ → Result Header Reason
+header_within limits nodes workers tries =
     if outside 7 limits.nodes nodes then Err reason.Nodes
     else if outside 1 limits.workers workers then Err reason.Workers
+    else if outside 1 1000000 tries then Err reason.Tries
     else Ok (record {
       layout = shaped limits.is_radix (dense nodes workers);
-      is_ordered = limits.is_ordered;
+      tries = tries;
+      is_extended = limits.is_extended;
     })
 
-unfoldable pub header_by : Limits → List ℕ → List ℕ → Result Header Reason
-header_by limits nodes workers = do
+-- the header by its fields, in a file for that command
+unfoldable pub header_of : Command → List (List ℕ) → Result Header Reason
+header_of command (given ∷ version ∷ nodes ∷ workers ∷ tries) = do
+  limits ← limits_of command given version
   nodes ← count nodes
   workers ← count workers
-  header_within limits nodes workers
+  tries ← tries_of command tries
+  header_within limits nodes workers tries
+header_of command _ = Err reason.Header
 
--- the header by its fields
-unfoldable pub header_of : List (List ℕ) → Result Header Reason
-header_of (command ∷ version ∷ nodes ∷ workers ∷ []) =
-    limits_of command version >>= λ limits. header_by limits nodes workers
-header_of _ = Err reason.Header
+-- workers may resign in files of `serial` alone, and not in those of `stress`
+abbrev pub SerialAlone : Command → Bool → Type 0
+SerialAlone Stress is_extended = is_extended ≡ false
+SerialAlone command is_extended = Unit {0}

@@ -1,28 +1,28 @@
--- The kinds of event: the word and the arguments of each. In an ordered file a sight and a leave
--- may have arguments.
-use Rattle.std.specs.Prelude.{◌≡◌, ℕ, ◌^◌, ◌-◌, List, [], ◌∷◌, codes, Bool, true, false, nat_le, Result, Ok, Err, if◌then◌else◌}
+-- The kinds of line: the word of each, what the fields behind it must be, and what they say.
+use Rattle.std.specs.Prelude.{◌≡◌, ◌<◌, ℕ, List, [], ◌∷◌, codes, Bool, true, not, ◌&&◌, Result, Ok, Err}
 use Rattle.std.specs.List.{find}
 use Rattle.std.specs.Option.{ok_or}
 use Rattle.std.specs.Str.{bytes_eq}
 use Rattle.nm_model.specs.declared.event.Event.{Event}
 use Rattle.nm_model.specs.declared.event.Event.TheVariants as event
-use Rattle.nm_model.specs.declared.event.Field.{Field}
-use Rattle.nm_model.specs.declared.event.Field.TheVariants as field
-use Rattle.nm_model.specs.declared.event.Op.{Op}
-use Rattle.nm_model.specs.declared.event.Op.TheVariants as op
-use Rattle.nm_edge.specs.declared.edge.Side.{Side}
-use Rattle.nm_edge.specs.declared.edge.Side.TheVariants as side
+use Rattle.nm_files.specs.declared.entry.Call.{Call}
+use Rattle.nm_files.specs.declared.entry.Call.TheVariants as call
 use Rattle.nm_files.specs.declared.fault.Reason.{Reason}
 use Rattle.nm_files.specs.declared.fault.Reason.TheVariants as reason
 use Rattle.nm_files.specs.declared.kind.Kind.{Kind}
-use Rattle.nm_files.specs.declared.kind.Kind.TheVariants.{Sight, Announce, Leave, Scan, Advance, Claim, Give, Look, Fill, Link, Flag, Tag, Splice}
-use Rattle.nm_files.specs.Chain.{◌>>=◌}
-use Rattle.nm_files.specs.Lines.{number, place}
+use Rattle.nm_files.specs.declared.kind.Kind.TheVariants.{SightFor, Sight, Announce, LeaveWith, Leave, Scan, Advance, Claim, Give, Look, Fill, Link, Flag, Tag, Splice, Has, Insert, Delete, Finish, Pin, Unpin, Collect, Resign}
+use Rattle.nm_files.specs.declared.value.Argument.{Argument}
+use Rattle.nm_files.specs.declared.value.Argument.TheVariants as a
+use Rattle.nm_files.specs.declared.value.Value.{Value}
+use Rattle.nm_files.specs.declared.value.Value.TheVariants.{Place, Number, Key, Worker, Field, Side, Op, Answer}
+use Rattle.nm_files.specs.Formats.{Format}
 
 -- the word of each kind
 abbrev pub kind_word : Kind → List ℕ
+kind_word SightFor = codes "sight"
 kind_word Sight = codes "sight"
 kind_word Announce = codes "announce"
+kind_word LeaveWith = codes "leave"
 kind_word Leave = codes "leave"
 kind_word Scan = codes "scan"
 kind_word Advance = codes "advance"
@@ -34,196 +34,113 @@ kind_word Link = codes "link"
 kind_word Flag = codes "flag"
 kind_word Tag = codes "tag"
 kind_word Splice = codes "splice"
+kind_word Has = codes "has"
+kind_word Insert = codes "insert"
+kind_word Delete = codes "delete"
+kind_word Finish = codes "finish"
+kind_word Pin = codes "pin"
+kind_word Unpin = codes "unpin"
+kind_word Collect = codes "collect"
+kind_word Resign = codes "resign"
 
--- the kinds that a schedule may have
-abbrev pub kinds : List Kind
-kinds = Sight ∷ Announce ∷ Leave ∷ Scan ∷ Advance ∷ Claim ∷ Give ∷ Look ∷ Fill ∷ Link ∷ Flag ∷ Tag
-    ∷ Splice ∷ []
+-- what the fields behind its word must be
+abbrev pub kind_row : Kind → List Argument
+kind_row SightFor = a.Op ∷ a.Key ∷ []
+kind_row LeaveWith = a.Answer ∷ []
+kind_row Scan = a.Place ∷ []
+kind_row Claim = a.Place ∷ []
+kind_row Give = a.Place ∷ []
+kind_row Look = a.Place ∷ a.Field ∷ []
+kind_row Fill = a.Place ∷ a.Field ∷ a.Number ∷ []
+kind_row Link = a.Place ∷ a.Side ∷ a.Place ∷ a.Place ∷ []
+kind_row Flag = a.Place ∷ a.Side ∷ a.Place ∷ []
+kind_row Tag = a.Place ∷ a.Side ∷ []
+kind_row Splice = a.Place ∷ a.Side ∷ a.Place ∷ a.Place ∷ a.Side ∷ []
+kind_row Has = a.Key ∷ []
+kind_row Insert = a.Key ∷ []
+kind_row Delete = a.Key ∷ []
+kind_row Resign = a.Worker ∷ []
+kind_row kind = []
 
--- the kind whose word this is
-abbrev pub kind_of : List ℕ → Result Kind Reason
-kind_of given = ok_or (find (λ kind. bytes_eq given (kind_word kind)) kinds) reason.Kind
+-- a file may have lines of this kind: sights and leaves of operations and lines of resigning in
+-- later versions alone. With no field behind its word a sight or a leave is of no operation
+abbrev pub may_stand : Bool → Bool → Kind → Bool
+may_stand is_extended is_bare SightFor = is_extended && not is_bare
+may_stand is_extended is_bare LeaveWith = is_extended && not is_bare
+may_stand is_extended is_bare Resign = is_extended
+may_stand is_extended is_bare kind = true
 
--- a field of a node
-abbrev pub node_field : List ℕ → Result Field Reason
-node_field given =
-    if bytes_eq given (codes "key") then Ok field.Key
-    else if bytes_eq given (codes "left") then Ok (field.Edge side.Left)
-    else if bytes_eq given (codes "right") then Ok (field.Edge side.Right)
-    else if bytes_eq given (codes "birth") then Ok field.Birth
-    else Err reason.Fields
+-- it has this word, and may stand
+abbrev pub is_named : Bool → List ℕ → Bool → Kind → Bool
+is_named is_extended given is_bare kind =
+    bytes_eq given (kind_word kind) && may_stand is_extended is_bare kind
 
--- a side of a node
-abbrev pub side_named : List ℕ → Result Side Reason
-side_named given =
-    if bytes_eq given (codes "left") then Ok side.Left
-    else if bytes_eq given (codes "right") then Ok side.Right
-    else Err reason.Fields
+-- the first such of these kinds
+abbrev pub kind_of : List Kind → Bool → List ℕ → Bool → Result Kind Reason
+kind_of kinds is_extended given is_bare =
+    ok_or (find (is_named is_extended given is_bare) kinds) reason.Kind
 
--- an operation of the set
-abbrev pub op_of : List ℕ → Result Op Reason
-op_of given =
-    if bytes_eq given (codes "has") then Ok op.Has
-    else if bytes_eq given (codes "insert") then Ok op.Insert
-    else if bytes_eq given (codes "delete") then Ok op.Delete
-    else Err reason.Fields
+-- `removal`, `tree_event`, `slot_event`, `event_made`: the event of each kind by the values of its
+-- fields: of a tag and a splice, of all changes of the tree, of what is done on one slot too, and of
+-- all kinds
+abbrev pub removal : Kind → List Value → Result Event Reason
+removal Tag (Place parent ∷ Side side ∷ []) = Ok (event.Tag parent side)
+removal Splice (Place ancestor ∷ Side side ∷ Place successor ∷ Place parent ∷ Side keep ∷ []) =
+    Ok (event.Splice ancestor side successor parent keep)
+removal kind values = Err reason.Fields
 
--- the answer of an operation
-abbrev pub answer_of : List ℕ → Result Bool Reason
-answer_of given =
-    if bytes_eq given (codes "true") then Ok true
-    else if bytes_eq given (codes "false") then Ok false
-    else Err reason.Fields
+abbrev pub tree_event : Kind → List Value → Result Event Reason
+tree_event Link (Place parent ∷ Side side ∷ Place leaf ∷ Place new ∷ []) =
+    Ok (event.Link parent side leaf new)
+tree_event Flag (Place parent ∷ Side side ∷ Place leaf ∷ []) = Ok (event.Flag parent side leaf)
+tree_event kind values = removal kind values
 
--- the set has keys up to 2^64 - 4
-abbrev pub is_key : ℕ → Bool
-is_key n = nat_le n (2 ^ 64 - 4)
+abbrev pub slot_event : Kind → List Value → Result Event Reason
+slot_event Claim (Place slot ∷ []) = Ok (event.Claim slot)
+slot_event Give (Place slot ∷ []) = Ok (event.Give slot)
+slot_event Look (Place slot ∷ Field field ∷ []) = Ok (event.Look slot field)
+slot_event Fill (Place slot ∷ Field field ∷ Number value ∷ []) = Ok (event.Fill slot field value)
+slot_event kind values = tree_event kind values
 
--- a key of the set
-abbrev pub key_field : List ℕ → Result ℕ Reason
-key_field field = do
-  n ← number field
-  if is_key n then Ok n else Err reason.Key
+abbrev pub event_made : Kind → List Value → Result Event Reason
+event_made SightFor (Op op ∷ Key key ∷ []) = Ok (event.SightFor op key)
+event_made Sight [] = Ok event.Sight
+event_made Announce [] = Ok event.Announce
+event_made LeaveWith (Answer answer ∷ []) = Ok (event.LeaveWith answer)
+event_made Leave [] = Ok event.Leave
+event_made Scan (Place worker ∷ []) = Ok (event.Scan worker)
+event_made Advance [] = Ok event.Advance
+event_made kind values = slot_event kind values
 
--- so many arguments, and no others
-abbrev pub alone : {X : Type 0} → List (List ℕ) → X → Result X Reason
-alone [] x = Ok x
-alone _ x = Err reason.Fields
+-- the call of each kind by the values of its fields
+abbrev pub call_made : Kind → List Value → Result Call Reason
+call_made Has (Key key ∷ []) = Ok (call.Has key)
+call_made Insert (Key key ∷ []) = Ok (call.Insert key)
+call_made Delete (Key key ∷ []) = Ok (call.Delete key)
+call_made Finish [] = Ok call.Finish
+call_made Pin [] = Ok call.Pin
+call_made Unpin [] = Ok call.Unpin
+call_made Advance [] = Ok call.Advance
+call_made Collect [] = Ok call.Collect
+call_made Resign (Worker heir ∷ []) = Ok (call.Resign heir)
+call_made kind values = Err reason.Fields
 
--- `one`, `two`, `three`, `four`, `five`: so many fields
-abbrev pub one : List (List ℕ) → Result (List ℕ) Reason
-one (a ∷ []) = Ok a
-one _ = Err reason.Fields
+-- the lines of a schedule
+abbrev pub events : Format Event
+events = record {
+  kinds = SightFor ∷ Sight ∷ Announce ∷ LeaveWith ∷ Leave ∷ Scan ∷ Advance ∷ Claim ∷ Give ∷ Look
+      ∷ Fill ∷ Link ∷ Flag ∷ Tag ∷ Splice ∷ [];
+  made = event_made;
+}
 
-abbrev pub two : List (List ℕ) → Result (List ℕ × List ℕ) Reason
-two (a ∷ b ∷ []) = Ok (a, b)
-two _ = Err reason.Fields
+-- the lines of a script
+abbrev pub calls : Format Call
+calls = record {
+  kinds = Has ∷ Insert ∷ Delete ∷ Finish ∷ Pin ∷ Unpin ∷ Advance ∷ Collect ∷ Resign ∷ [];
+  made = call_made;
+}
 
-abbrev pub three : List (List ℕ) → Result (List ℕ × List ℕ × List ℕ) Reason
-three (a ∷ b ∷ c ∷ []) = Ok (a, b, c)
-three _ = Err reason.Fields
-
-abbrev pub four : List (List ℕ) → Result (List ℕ × List ℕ × List ℕ × List ℕ) Reason
-four (a ∷ b ∷ c ∷ d ∷ []) = Ok (a, b, c, d)
-four _ = Err reason.Fields
-
-abbrev pub five : List (List ℕ) → Result (List ℕ × List ℕ × List ℕ × List ℕ × List ℕ) Reason
-five (a ∷ b ∷ c ∷ d ∷ e ∷ []) = Ok (a, b, c, d, e)
-five _ = Err reason.Fields
-
--- what a function returned, seen by view
-abbrev pub Says : {X Y : Type 0} → (X → Y) → Result X Reason → Result Y Reason → Type 0
-Says view (Ok x) read = read ≡ Ok (view x)
-Says view (Err e) read = read ≡ Err e
-
--- the event of each kind by its arguments: a wrong word is fault Fields, before any wrong number
-unfoldable pub sight_for : List (List ℕ) → Result Event Reason
-sight_for arguments = do
-  a ← two arguments
-  op ← op_of a.0
-  key ← key_field a.1
-  Ok (event.SightFor op key)
-
--- `sight`, `leave`, `leave_with`, `scan`, `claim`, `give`, `look`, `fill`, `link`, `flag`, `tag`,
--- `splice`: the event of that kind, by the fields behind its worker and its word
-unfoldable pub leave_with : List (List ℕ) → Result Event Reason
-leave_with arguments = do
-  a ← one arguments
-  answer ← answer_of a
-  Ok (event.LeaveWith answer)
-
--- in an ordered file, a sight or a leave with arguments is one of an operation
-abbrev pub is_of_operation : Bool → List (List ℕ) → Bool
-is_of_operation is_ordered [] = false
-is_of_operation is_ordered (a ∷ more) = is_ordered
-
-abbrev pub sight : Bool → List (List ℕ) → Result Event Reason
-sight is_ordered arguments = if is_of_operation is_ordered arguments then sight_for arguments
-    else alone arguments event.Sight
-
-abbrev pub leave : Bool → List (List ℕ) → Result Event Reason
-leave is_ordered arguments = if is_of_operation is_ordered arguments then leave_with arguments
-    else alone arguments event.Leave
-
-unfoldable pub scan : List (List ℕ) → Result Event Reason
-scan arguments = do
-  a ← one arguments
-  worker ← place a
-  Ok (event.Scan worker)
-
-unfoldable pub claim : List (List ℕ) → Result Event Reason
-claim arguments = do
-  a ← one arguments
-  slot ← place a
-  Ok (event.Claim slot)
-
-unfoldable pub give : List (List ℕ) → Result Event Reason
-give arguments = do
-  a ← one arguments
-  slot ← place a
-  Ok (event.Give slot)
-
-unfoldable pub look : List (List ℕ) → Result Event Reason
-look arguments = do
-  a ← two arguments
-  word ← node_field a.1
-  slot ← place a.0
-  Ok (event.Look slot word)
-
-unfoldable pub fill : List (List ℕ) → Result Event Reason
-fill arguments = do
-  a ← three arguments
-  word ← node_field a.1
-  slot ← place a.0
-  value ← number a.2
-  Ok (event.Fill slot word value)
-
-unfoldable pub link : List (List ℕ) → Result Event Reason
-link arguments = do
-  a ← four arguments
-  end ← side_named a.1
-  parent ← place a.0
-  leaf ← place a.2
-  new ← place a.3
-  Ok (event.Link parent end leaf new)
-
-unfoldable pub flag : List (List ℕ) → Result Event Reason
-flag arguments = do
-  a ← three arguments
-  end ← side_named a.1
-  parent ← place a.0
-  leaf ← place a.2
-  Ok (event.Flag parent end leaf)
-
-unfoldable pub tag : List (List ℕ) → Result Event Reason
-tag arguments = do
-  a ← two arguments
-  end ← side_named a.1
-  parent ← place a.0
-  Ok (event.Tag parent end)
-
-unfoldable pub splice : List (List ℕ) → Result Event Reason
-splice arguments = do
-  a ← five arguments
-  end ← side_named a.1
-  keep ← side_named a.4
-  ancestor ← place a.0
-  successor ← place a.2
-  parent ← place a.3
-  Ok (event.Splice ancestor end successor parent keep)
-
--- the event of a kind with these arguments, in a file that is ordered or not
-abbrev pub event_of : Bool → Kind → List (List ℕ) → Result Event Reason
-event_of is_ordered Sight arguments = sight is_ordered arguments
-event_of is_ordered Announce arguments = alone arguments event.Announce
-event_of is_ordered Leave arguments = leave is_ordered arguments
-event_of is_ordered Scan arguments = scan arguments
-event_of is_ordered Advance arguments = alone arguments event.Advance
-event_of is_ordered Claim arguments = claim arguments
-event_of is_ordered Give arguments = give arguments
-event_of is_ordered Look arguments = look arguments
-event_of is_ordered Fill arguments = fill arguments
-event_of is_ordered Link arguments = link arguments
-event_of is_ordered Flag arguments = flag arguments
-event_of is_ordered Tag arguments = tag arguments
-event_of is_ordered Splice arguments = splice arguments
+-- a worker of so many, and a call that a file may have
+abbrev pub IsAllowed : ℕ → Bool → Call → Type 0
+IsAllowed workers is_extended (call.Resign heir) = (is_extended ≡ true) × (heir < workers)
+IsAllowed workers is_extended c = Unit {0}

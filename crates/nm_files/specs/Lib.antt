@@ -1,7 +1,9 @@
 pub mod Chain
 pub mod Lines
+pub mod Files
+pub mod Values
+pub mod Formats
 pub mod Kinds
 pub mod Headers
-pub mod Files
-pub mod Schedules
+pub mod Entries
 pub mod Reasons

@@ -34,7 +34,7 @@ pub enum Reason {
 }
 
 impl Reason {
-    ghost use Rattle.nm_files.specs.Files.{reason_number};
+    ghost use Rattle.nm_files.specs.Files.{least, reason_number};
 
     /// The number by which a faulty line is reported. Of several faults of a line, the one with the
     /// least number is answered.
@@ -54,6 +54,17 @@ impl Reason {
             Reason::Number => 10,
             Reason::Worker => 11,
             Reason::Key => 12,
+        }
+    }
+
+    /// The lesser of two reasons by their numbers.
+    pub fn least(self, other: Reason) -> Reason
+        ensures { result ≡ least self other }
+    {
+        if self.number() <= other.number() {
+            self
+        } else {
+            other
         }
     }
 }

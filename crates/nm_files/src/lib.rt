@@ -1,11 +1,13 @@
-//! What a file of events says, or its first faulty line.
+//! What a file of events or of calls says, or its first faulty line.
 #![tactic(auto)]
 
+pub mod entry;
 pub mod fault;
 pub mod field;
+pub mod file;
 pub mod header;
 pub mod kind;
 pub mod line;
 pub mod pieces;
-pub mod schedule;
 pub mod stream;
+pub mod value;

@@ -1,23 +1,26 @@
-//! The lines of a schedule.
+//! The lines of a file.
 ghost use Rattle.std.specs.Prelude.{◌≡◌, ◌<◌, ℕ, List, map, take, IfOk};
 ghost use Rattle.std.specs.List.{find, list_all};
 ghost use Rattle.nm_files.specs.Lines.{fields};
 ghost use Rattle.nm_files.specs.Lines as lines;
 ghost use Rattle.nm_files.specs.Files.{checked};
+ghost use Rattle.nm_files.specs.declared.header.Command.{Command as CommandOf};
 ghost use Rattle.nm_files.specs.declared.header.Header.{Header as HeaderOf};
+ghost use Rattle.nm_files.specs.Kinds.{events, calls};
 ghost use Rattle.nm_files.specs.Reasons.{reason_of, holds, line_reasons, header_holds, header_reasons};
-ghost use Rattle.nm_files.specs.Schedules as spec;
+ghost use Rattle.nm_files.specs.Entries as spec;
 
+use crate::entry::Entry;
 use crate::fault::Reason;
-use crate::field::{is_field, place};
-use crate::header::{Header, header_of};
+use crate::field::is_field;
+use crate::header::{Command, Header, header_of};
 use crate::kind::kind_of;
 use crate::pieces::cut;
+use crate::value::worker_and_values;
 use arrayvec::ArrayVec;
-use nm_model::Event;
 
 /// Tests that a line is fields with single spaces between.
-pub fn is_formed(line: &[u8]) -> bool
+fn is_formed(line: &[u8]) -> bool
     ensures { result ≡ list_all lines.is_field (fields line.now) }
 {
     let mut rest = Some(line);
@@ -32,7 +35,7 @@ pub fn is_formed(line: &[u8]) -> bool
 }
 
 /// The first eight fields: no line that is right has more.
-pub fn fields_of(line: &[u8]) -> ArrayVec<&[u8], 8>
+fn fields_of(line: &[u8]) -> ArrayVec<&[u8], 8>
     ensures { map (λ f. f.now) result.items ≡ take 8 (fields line.now) }
 {
     let mut fields = ArrayVec::new();
@@ -48,54 +51,28 @@ pub fn fields_of(line: &[u8]) -> ArrayVec<&[u8], 8>
     fields
 }
 
-/// The worker that a field spells, one of so many.
-pub fn worker_of(workers: u32, field: &[u8]) -> Result<u32, Reason>
-    ensures says { result ≡ spec.worker_of workers field.now }
-    ensures below { IfOk result (λ w. w < workers) }
+/// The worker and the entry of a line, by its fields.
+#[tactic(auto, unfolding(crate::specs::Entries::entry_of))]
+fn entry_of<T: Entry>(header: &Header, fields: &[&[u8]]) -> Result<(u32, T), Reason>
+    ensures { result ≡ spec.entry_of T.format header.now (map (λ f. f.now) fields.now) }
 {
-    let worker = place(field)?;
-    if worker < workers {
-        Ok(worker)
-    } else {
-        Err(Reason::Worker)
-    }
+    let [worker, word, arguments @ ..] = fields else {
+        return Err(Reason::Form);
+    };
+    let kind = kind_of(T::kinds(), header.is_extended, word, arguments.is_empty())?;
+    let (worker, values) = worker_and_values(
+        header.layout.workers(),
+        worker,
+        kind.row(),
+        arguments,
+    )?;
+    let entry = T::made(kind, values.as_slice())?;
+    Ok((worker, entry))
 }
 
-/// An event with its worker. What is wrong with the worker comes before a key that is too great,
-/// and after all else.
-fn with_worker(
-    worker: Result<u32, Reason>,
-    event: Result<Event, Reason>,
-) -> Result<(u32, Event), Reason>
-    ensures { result ≡ spec.with_worker worker event }
-{
-    match event {
-        Ok(event) => Ok((worker?, event)),
-        Err(Reason::Key) => {
-            worker?;
-            Err(Reason::Key)
-        }
-        Err(reason) => Err(reason),
-    }
-}
-
-/// The worker and the event of a line, by its fields.
-#[tactic(auto, unfolding(crate::specs::Schedules::entry_of))]
-fn entry_of(header: &Header, fields: &[&[u8]]) -> Result<(u32, Event), Reason>
-    ensures { result ≡ spec.entry_of header.now (map (λ f. f.now) fields.now) }
-{
-    match fields {
-        [worker, kind, arguments @ ..] => {
-            let event = kind_of(kind)?.event(header.is_ordered, arguments);
-            with_worker(worker_of(header.layout.workers(), worker), event)
-        }
-        _ => Err(Reason::Form),
-    }
-}
-
-/// The worker and the event that a line says, in a schedule with that header.
-pub fn line_of(header: &Header, line: &[u8]) -> Result<(u32, Event), Reason>
-    ensures { result ≡ spec.line_of header.now line.now }
+/// The worker and the entry that a line says, in a file with that header.
+pub fn line_of<T: Entry>(header: &Header, line: &[u8]) -> Result<(u32, T), Reason>
+    ensures { result ≡ spec.line_of T.format header.now line.now }
 {
     if !is_formed(line) {
         return Err(Reason::Form);
@@ -103,20 +80,24 @@ pub fn line_of(header: &Header, line: &[u8]) -> Result<(u32, Event), Reason>
     entry_of(header, fields_of(line).as_slice())
 }
 
-/// What the first line says.
-pub fn first_line_of(line: &[u8]) -> Result<Header, Reason>
-    ensures { result ≡ spec.first_line_of line.now }
+/// What the first line says, in a file for that command.
+pub fn first_line_of(command: Command, line: &[u8]) -> Result<Header, Reason>
+    ensures says { result ≡ spec.first_line_of command line.now }
+    ensures stress { IfOk result (spec.ResignsInSerial command) }
 {
-    header_of(fields_of(line).as_slice())
+    header_of(command, fields_of(line).as_slice())
 }
 
 /// The reason that is answered for a line is the first that holds of it in the order of their
 /// numbers, so the least; and a line is right exactly where none holds.
 pub fn least_reason()
-    ensures first_line { (line : List ℕ)
-        → reason_of (checked 1 line (spec.first_line_of line))
-        ≡ find (header_holds line) header_reasons }
-    ensures other_line { (header : HeaderOf) (number : ℕ) (line : List ℕ)
-        → reason_of (checked number line (spec.line_of header line))
-        ≡ find (holds header number line) line_reasons }
+    ensures first_line { (command : CommandOf) (line : List ℕ)
+        → reason_of (checked 1 line (spec.first_line_of command line))
+        ≡ find (header_holds command line) header_reasons }
+    ensures event { (header : HeaderOf) (number : ℕ) (line : List ℕ)
+        → reason_of (checked number line (spec.line_of events header line))
+        ≡ find (holds events.kinds header number line) line_reasons }
+    ensures call { (header : HeaderOf) (number : ℕ) (line : List ℕ)
+        → reason_of (checked number line (spec.line_of calls header line))
+        ≡ find (holds calls.kinds header number line) line_reasons }
 {}

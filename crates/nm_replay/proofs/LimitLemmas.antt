@@ -5,13 +5,15 @@ use Rattle.std.specs.Io.KnownBytes.{Appends}
 use Rattle.nm_files.specs.declared.fault.RunFault.{RunFault}
 use Rattle.nm_files.specs.declared.fault.RunFault.TheVariants as run
 use Rattle.nm_files.specs.Files.{Fault, Fails, IfLine}
-use Rattle.nm_files.specs.Schedules.{line_of, first_line_of}
+use Rattle.nm_files.specs.declared.header.Command.TheVariants.{Replay}
+use Rattle.nm_files.specs.Entries.{line_of, first_line_of}
+use Rattle.nm_files.specs.Kinds.{events}
 use Rattle.nm_replay.specs.Output.{output_of, Writes}
 use Rattle.nm_files.proofs.LimitLemmas.{both_then, within_limit}
 
 -- what is written for the bytes up to the limit is what is written for all
 same_output : (input : List ℕ) → output_of (take 12100122 input) ≡ output_of input
-same_output input = within_limit first_line_of line_of output_of (λ p q both. both_then _ _ _ _ both) input
+same_output input = within_limit (first_line_of Replay) (line_of events) output_of (λ p q both. both_then _ _ _ _ both) input
 
 -- so it may be judged by them
 pub enough : (known : Option (List ℕ)) (bytes : List ℕ) → IfSome known (λ input. bytes ≡ take 12100122 input) → IfSome known (λ input. output_of bytes ≡ output_of input)

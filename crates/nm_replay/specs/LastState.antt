@@ -19,4 +19,4 @@ keys_line_in false s = []
 -- what the last state of a file with that header is told by
 unfoldable pub last_lines : Header → State → List ℕ
 last_lines header s = workers_lines s header.layout.workers
-    ++ (epoch_line s.memory.epoch ++ (places_line (counts s) ++ keys_line_in header.is_ordered s))
+    ++ (epoch_line s.memory.epoch ++ (places_line (counts s) ++ keys_line_in header.is_extended s))

@@ -11,7 +11,7 @@ use Rattle.nm_files.specs.declared.header.Header.{Header}
 use Rattle.nm_files.specs.Chain.{◌>>=◌}
 use Rattle.nm_files.specs.Lines.{parts}
 use Rattle.nm_files.specs.Files.{Fault}
-use Rattle.nm_files.specs.Schedules.{Schedule, schedule_of}
+use Rattle.nm_files.specs.Entries.{Schedule, schedule_of}
 use Rattle.nm_print.specs.Replies.{outcome_text}
 use Rattle.nm_print.specs.LastLines.{epoch_line, places_line}
 use Rattle.nm_replay.specs.LastState.{workers_lines, last_lines}
@@ -25,7 +25,7 @@ lines_with (line ∷ lines) (turn ∷ turns) =
 
 -- the core that plays a file with that header, at its opening
 abbrev pub opening_core : Header → Configuration
-opening_core header = opening_of header.layout header.is_ordered
+opening_core header = opening_of header.layout header.is_extended
 
 -- what is written for a schedule whose lines from the second on are these
 abbrev pub text_of : Schedule → List (List ℕ) → List ℕ
@@ -40,7 +40,7 @@ plain_lines workers s = workers_lines s workers
 -- a file that is not ordered is told by a run of states, without a line of keys
 abbrev pub PlainFilesAreRuns : Type 0
 PlainFilesAreRuns = (L : Layout) (ts : List (ℕ × Event)) (lines : List (List ℕ))
-    → text_of (record { header = record { layout = L; is_ordered = false }; entries = ts }) lines
+    → text_of (record { header = record { layout = L; tries = 1; is_extended = false }; entries = ts }) lines
     ≡ lines_with lines (trace (start L) ts) ++ plain_lines L.workers (after (start L) ts)
 
 -- what is written for a file, or its first faulty line with the least reason

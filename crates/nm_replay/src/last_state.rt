@@ -45,7 +45,7 @@ pub fn put_last_lines(out: &mut Vec<u8>, header: &Header, core: &Core) -> Result
     put_ledgers(out, header.layout.workers(), core)?;
     put_epoch(out, core.epoch())?;
     put_places(out, core.places())?;
-    put_keys_in(out, header.is_ordered, core)
+    put_keys_in(out, header.is_extended, core)
 }
 
 /// Each worker of a tree has a ledger, whatever was done and by whom, in an ordered core or not, so

@@ -6,8 +6,8 @@ ghost use Rattle.nm_replay.specs.Output.{opening_core, output_of, Writes};
 use crate::output::text_of;
 use nm_core::Core;
 use nm_files::fault::RunFault;
+use nm_files::file::schedule_of;
 use nm_files::header::Header;
-use nm_files::schedule::schedule_of;
 use nm_files::stream::{LIMIT, input_of, write_text};
 use std::alloc::Global;
 use std::io::{Read, Write};
@@ -17,7 +17,7 @@ fn core_of(alloc: Global, header: &Header) -> Result<Core, RunFault>
     ensures opening { IfOk result (λ core. core ≡ opening_core header.now) }
     ensures err { IfErr result (λ e. e ≡ RunFault.NoMemory) }
 {
-    match Core::of(alloc, header.layout, header.is_ordered) {
+    match Core::of(alloc, header.layout, header.is_extended) {
         Ok(core) => Ok(core),
         Err(_) => Err(RunFault::NoMemory),
     }
@@ -29,7 +29,7 @@ fn output(alloc: Global, bytes: &[u8]) -> Result<Vec<u8>, RunFault>
 {
     let schedule = schedule_of(alloc, bytes)?;
     let mut core = core_of(alloc, &schedule.header)?;
-    let trace = match core.run(schedule.events) {
+    let trace = match core.run(schedule.entries) {
         Ok(trace) => trace,
         Err(_) => return Err(RunFault::NoMemory),
     };

@@ -10,15 +10,16 @@ use Rattle.nm_files.specs.declared.fault.RunFault.{RunFault}
 use Rattle.nm_files.specs.declared.fault.RunFault.TheVariants as run
 use Rattle.nm_files.specs.Files.{Fails, IfLine}
 use Rattle.nm_files.proofs.LimitLemmas.{same_file, within_limit}
-use Rattle.nm_scripts.specs.declared.header.Command.{Command}
-use Rattle.nm_scripts.specs.Scripts.{Script, script_first_line_of, script_line_of, script_of}
+use Rattle.nm_files.specs.declared.header.Command.{Command}
+use Rattle.nm_files.specs.Entries.{Script, first_line_of, line_of, script_of}
+use Rattle.nm_files.specs.Kinds.{calls}
 use Rattle.nm_serial.specs.Playing.{FailsSo, EndsSo, IsOfOneThread}
 use Rattle.nm_serial.specs.Stops.{IfStopped}
 use Rattle.nm_serial.specs.Texts.{IfGate, IsWritten, WritesText}
 
 -- what the bytes up to the limit say is what all say
 same_script : (command : Command) (input : List ℕ) → script_of command (take 12100122 input) ≡ script_of command input
-same_script command input = within_limit (script_first_line_of command) script_line_of (script_of command) (λ p q both. both) input
+same_script command input = within_limit (first_line_of command) (line_of calls) (script_of command) (λ p q both. both) input
 
 -- so it may be judged by them
 pub enough : (command : Command) (known : Option (List ℕ)) (bytes : List ℕ) → IfSome known (λ input. bytes ≡ take 12100122 input) → IfSome known (λ input. script_of command bytes ≡ script_of command input)
@@ -77,7 +78,7 @@ whole_read command input s is =
       | inl few ↦ take_all 12100122 input (omega arith)
       | inr many ↦
           let p = take 12100122 input in
-          let same = same_file (script_first_line_of command) script_line_of p (drop 12100122 input) (omega (arith, length-take 12100122 input)) in
+          let same = same_file (first_line_of command) (line_of calls) p (drop 12100122 input) (omega (arith, length-take 12100122 input)) in
           let two : Ok s ≡ Err same.0 = sym is ∙ same.1 in
           let no : ⊥ = cc in
           absurd no

@@ -2,7 +2,7 @@
 use Rattle.std.proofs.Common.{◌≡◌, ◌≢◌, ◌+◌, ℕ, List, [], ◌∷◌, refl, ap}
 use Rattle.std.proofs.lemmas.Bool.{ne_eqb, eq-eqb}
 use Rattle.nm_serial.specs.declared.answer.Answer.{Answer}
-use Rattle.nm_scripts.specs.declared.call.Call.{Call}
+use Rattle.nm_files.specs.declared.entry.Call.{Call}
 use Rattle.nm_steps.specs.Steps.{Board}
 use Rattle.nm_tree.specs.Workers.{Hand}
 use Rattle.nm_serial.specs.declared.own_lines.Stop.{Stop}

@@ -5,8 +5,8 @@ use Rattle.std.proofs.lemmas.List.Elements.{All-map}
 use Rattle.std.proofs.lemmas.List.Sums.{sum_by-cons}
 use Rattle.nm_files.specs.declared.fault.RunFault.{RunFault}
 use Rattle.nm_files.specs.declared.fault.RunFault.TheVariants as run
-use Rattle.nm_scripts.specs.declared.call.Call.{Call}
-use Rattle.nm_scripts.specs.Scripts.{Script}
+use Rattle.nm_files.specs.declared.entry.Call.{Call}
+use Rattle.nm_files.specs.Entries.{Script}
 use Rattle.nm_steps.specs.Steps.{Board, IsOf}
 use Rattle.nm_tree.specs.Closing.{given_in}
 use Rattle.nm_tree.specs.Workers.{Hand, AreNew}

@@ -11,8 +11,8 @@ use Rattle.nm_epoch.specs.Resting.{epochs}
 use Rattle.nm_epoch.specs.Scans.{IsAdvance}
 use Rattle.nm_model.specs.declared.event.Event.TheVariants.{Leave}
 use Rattle.nm_model.specs.declared.reply.Reply.TheVariants.{Departed}
-use Rattle.nm_scripts.specs.declared.call.Call.{Call}
-use Rattle.nm_scripts.specs.declared.call.Call.TheVariants.{Has, Insert, Delete, Finish, Pin, Unpin, Advance as Move, Collect, Resign}
+use Rattle.nm_files.specs.declared.entry.Call.{Call}
+use Rattle.nm_files.specs.declared.entry.Call.TheVariants.{Has, Insert, Delete, Finish, Pin, Unpin, Advance as Move, Collect, Resign}
 use Rattle.nm_steps.specs.Steps.{Board, Stepped}
 use Rattle.nm_tree.specs.declared.fault.Fault.{Fault}
 use Rattle.nm_tree.specs.declared.fault.PinFault.{PinFault}

@@ -2,8 +2,8 @@
 use Rattle.std.specs.Prelude.{◌≡◌, ℕ, List, Result, Ok, Err, IsOk}
 use Rattle.nm_files.specs.declared.fault.RunFault.{RunFault}
 use Rattle.nm_files.specs.declared.fault.RunFault.TheVariants as run
-use Rattle.nm_scripts.specs.declared.header.Command.{Command}
-use Rattle.nm_scripts.specs.Scripts.{script_of}
+use Rattle.nm_files.specs.declared.header.Command.{Command}
+use Rattle.nm_files.specs.Entries.{script_of}
 
 -- the fault of a run: a faulty line is told by the file alone, and a gate or a thread stops only a
 -- script that is right

@@ -6,8 +6,8 @@ use Rattle.nm_serial.specs.AnswerLines.{lines}
 use Rattle.nm_files.specs.declared.fault.RunFault.{RunFault}
 use Rattle.nm_files.specs.declared.fault.RunFault.TheVariants as run
 use Rattle.nm_files.specs.Lines.{parts}
-use Rattle.nm_scripts.specs.declared.header.Command.{Command}
-use Rattle.nm_scripts.specs.Scripts.{Script, script_of}
+use Rattle.nm_files.specs.declared.header.Command.{Command}
+use Rattle.nm_files.specs.Entries.{Script, script_of}
 use Rattle.nm_steps.specs.Steps.{Board}
 use Rattle.nm_pool.specs.declared.placement.Fit.{Fit}
 use Rattle.nm_pool.specs.declared.placement.Fit.TheVariants.{Lowest}

@@ -5,7 +5,7 @@ use Rattle.nm_serial.specs.declared.answer.Answer.{Answer}
 use Rattle.nm_serial.specs.AnswerLines.{lines}
 use Rattle.nm_files.specs.declared.fault.RunFault.{RunFault}
 use Rattle.nm_files.specs.declared.fault.RunFault.TheVariants as run
-use Rattle.nm_scripts.specs.declared.call.Call.{Call}
+use Rattle.nm_files.specs.declared.entry.Call.{Call}
 use Rattle.nm_steps.specs.Steps.{Board, IsOf}
 use Rattle.nm_tree.specs.Workers.{Hand}
 use Rattle.nm_serial.specs.declared.own_lines.Stop.{Stop}

@@ -6,7 +6,7 @@ ghost use Rattle.nm_steps.specs.Steps.{IsOf};
 
 use crate::answer::{Answer, Refusal};
 use crate::making::make;
-use nm_scripts::call::Call;
+use nm_files::entry::Call;
 use nm_tree::{ResignReason, Tree, Worker};
 
 /// A call that is its worker's alone, by the worker at its place, if it has not resigned.

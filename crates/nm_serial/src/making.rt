@@ -6,7 +6,7 @@ ghost use Rattle.nm_tree.specs.Answers.{HasAnswered, HasInserted, HasDeleted};
 
 use crate::answer::{Answer, Refusal, of_advance, of_change, of_collection, of_pin};
 use nm_edge::Key;
-use nm_scripts::call::Call;
+use nm_files::entry::Call;
 use nm_tree::{Tree, Worker};
 
 /// A look-up, unless the worker is held.

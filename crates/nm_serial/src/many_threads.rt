@@ -3,8 +3,8 @@ ghost use Rattle.std.specs.Prelude.{◌≡◌, ◌≢◌, ◌≤◌, ◌++◌, d
 ghost use Rattle.nm_serial.specs.AnswerLines.{lines};
 ghost use Rattle.nm_files.specs.Files.{HasJudged, IfLine};
 ghost use Rattle.nm_files.specs.Lines.{parts};
-ghost use Rattle.nm_scripts.specs.Scripts.{script_of};
-ghost use Rattle.nm_scripts.specs.declared.header.Command.TheVariants.{Stress};
+ghost use Rattle.nm_files.specs.Entries.{script_of};
+ghost use Rattle.nm_files.specs.declared.header.Command.TheVariants.{Stress};
 ghost use Rattle.nm_serial.specs.Makes.{IsOwnCall};
 ghost use Rattle.nm_serial.specs.Playing.{EndsSo};
 ghost use Rattle.nm_serial.specs.Stops.{IfStopped, IsStop};
@@ -18,12 +18,12 @@ use crate::gate::Gate;
 use crate::outcome::{open, put_end};
 use crate::own_lines::{Lines, Stop};
 use crate::threads::{Played, play_apart};
+use nm_files::entry::Call;
 use nm_files::fault::RunFault;
+use nm_files::file::{Script, script_of};
+use nm_files::header::Command;
 use nm_files::pieces::cut;
 use nm_files::stream::{LIMIT, input_of, write_text};
-use nm_scripts::call::Call;
-use nm_scripts::header::Command;
-use nm_scripts::script::{Script, script_of};
 use nm_tree::Worker;
 use std::alloc::{AllocError, Global};
 use std::io::{Read, Write};
@@ -136,19 +136,19 @@ fn text_of<R: Threads + Wait + Sync, G: Gate>(
     script: &Script<'_>,
     gate: &G,
 ) -> Result<Vec<u8>, RunFault>
-    requires plain { All (λ e. IsOwnCall e.1) script.now.calls.items }
-    requires few { length script.now.calls.items ≤ 100000 }
+    requires plain { All (λ e. IsOwnCall e.1) script.now.entries.items }
+    requires few { length script.now.entries.items ≤ 100000 }
     ensures text { IfOk result
         (λ v. IsStressText (G.lets gate.now) (G.stops gate.now)
-        (record { header = script.now.header; entries = script.now.calls.items })
+        (record { header = script.now.header; entries = script.now.entries.items })
         (parts script.now.body.now) v.items) }
     ensures gate { IfErr result
         (IfStopped (IsGateStop (G.lets gate.now) (G.stops gate.now)
-        (record { header = script.now.header; entries = script.now.calls.items }))) }
+        (record { header = script.now.header; entries = script.now.entries.items }))) }
     ensures stop { IfErr result IsStop }
 {
     let (tree, workers) = open(alloc, &script.header)?;
-    let calls = script.calls.as_slice();
+    let calls = script.entries.as_slice();
     let lines = Lines {
         gate,
         tree: &tree,

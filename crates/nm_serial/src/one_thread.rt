@@ -2,8 +2,8 @@
 ghost use Rattle.std.specs.Prelude.{◌≡◌, ◌≢◌, ◌<◌, ◌⊎◌, ◌∷◌, [], ◌++◌, All, drop, length, map, sum_by, Some, IfOk, OnOk, IfErr, IfSome, IsOk};
 ghost use Rattle.nm_files.specs.Files.{IfLine, HasJudged};
 ghost use Rattle.nm_files.specs.Lines.{parts};
-ghost use Rattle.nm_scripts.specs.Scripts.{IsEntryOf};
-ghost use Rattle.nm_scripts.specs.Scripts as scripts;
+ghost use Rattle.nm_files.specs.Entries.{IsEntryOf};
+ghost use Rattle.nm_files.specs.Entries as scripts;
 ghost use Rattle.nm_steps.specs.Steps.{IsOf};
 ghost use Rattle.nm_serial.specs.Crews.{AreCrewOf, HasAsked, IsGone, PlaysAll, PlaysLine, present, stands_for};
 ghost use Rattle.nm_serial.specs.Playing.{EndsSo, IsOfOneThread};
@@ -13,11 +13,11 @@ use crate::answer::{Answer, Refusal};
 use crate::answer_lines::put_lines;
 use crate::crew::{leave, make_at};
 use crate::outcome::{open, put_end};
+use nm_files::entry::Call;
 use nm_files::fault::RunFault;
+use nm_files::file::{Script, script_of};
+use nm_files::header::{Command, Header};
 use nm_files::stream::{LIMIT, input_of, write_text};
-use nm_scripts::call::Call;
-use nm_scripts::header::{Command, Header};
-use nm_scripts::script::{Script, script_of};
 use nm_tree::{Tree, Worker};
 use std::alloc::{AllocError, Global};
 use std::io::{Read, Write};
@@ -140,9 +140,9 @@ fn play(
 
 /// What is written for a script.
 fn text_of(alloc: Global, script: &Script<'_>) -> Result<Vec<u8>, RunFault>
-    requires { All (IsEntryOf script.now.header) script.now.calls.items }
+    requires { All (IsEntryOf script.now.header) script.now.entries.items }
     ensures text { IfOk result
-        (λ v. IsSerialText (record { header = script.now.header; entries = script.now.calls.items })
+        (λ v. IsSerialText (record { header = script.now.header; entries = script.now.entries.items })
         (parts script.now.body.now) v.items) }
     ensures err { IfErr result (λ e. e ≡ RunFault.NoMemory) }
 {
@@ -155,7 +155,7 @@ fn text_of(alloc: Global, script: &Script<'_>) -> Result<Vec<u8>, RunFault>
         &tree,
         &mut crew,
         &script.header,
-        script.calls.as_slice(),
+        script.entries.as_slice(),
     )?;
     let Ok(workers) = left_of(alloc, crew) else {
         return Err(RunFault::NoMemory);

@@ -6,7 +6,7 @@ ghost use Rattle.nm_serial.specs.Makes.{HasMade, HasStopped, IsOwnCall, PlaysOwn
 use crate::answer::Answer;
 use crate::gate::Gate;
 use crate::making::make;
-use nm_scripts::call::Call;
+use nm_files::entry::Call;
 use nm_tree::{Tree, Worker};
 use std::alloc::Global;
 

@@ -1,8 +1,7 @@
 use Rattle.std.proofs.Common.{◌≡◌, drop}
 use Rattle.std.specs.List.{find}
-use Rattle.std.specs.Str.{bytes_eq}
-use Rattle.nm_files.specs.Kinds.{kind_word, kinds}
+use Rattle.nm_files.specs.Kinds.{is_named}
 use Rattle.nm_files.proofs.kind.kind_of.Given as goal
 
 abbrev pub invariant-loop-kind : goal.invariant-loop-kind
-invariant-loop-kind l = find (λ kind. bytes_eq l.given (kind_word kind)) (drop l.kind-index l.kind-items) ≡ find (λ kind. bytes_eq l.given (kind_word kind)) kinds
+invariant-loop-kind l = find (is_named l.is_extended l.given l.is_bare) (drop l.kind-index l.kinds) ≡ find (is_named l.is_extended l.given l.is_bare) l.kinds

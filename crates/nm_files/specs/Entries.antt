@@ -1,0 +1,62 @@
+-- A file by its lines: a schedule, a header and events of workers in their order; a script, a
+-- header and calls.
+use Rattle.std.specs.Prelude.{◌<◌, ℕ, List, ◌∷◌, length, ◌==◌, Result, Ok, Err, if◌then◌else◌}
+use Rattle.std.specs.List.{list_all}
+use Rattle.nm_model.specs.declared.event.Event.{Event}
+use Rattle.nm_files.specs.declared.entry.Call.{Call}
+use Rattle.nm_files.specs.declared.fault.Reason.{Reason}
+use Rattle.nm_files.specs.declared.fault.Reason.TheVariants as reason
+use Rattle.nm_files.specs.declared.header.Command.{Command}
+use Rattle.nm_files.specs.declared.header.Command.TheVariants.{Replay}
+use Rattle.nm_files.specs.declared.header.Header.{Header}
+use Rattle.nm_files.specs.Chain.{◌>>=◌}
+use Rattle.nm_files.specs.Lines.{parts, fields, is_field}
+use Rattle.nm_files.specs.Values.{worker_and_values}
+use Rattle.nm_files.specs.Formats.{Format}
+use Rattle.nm_files.specs.Kinds.{kind_row, kind_of, events, calls, IsAllowed}
+use Rattle.nm_files.specs.Headers.{header_of, SerialAlone}
+use Rattle.nm_files.specs.Files.{Fault, File, file_from}
+
+-- the worker and the entry of a line, by its fields
+unfoldable pub entry_of : {X : Type 0} → Format X → Header → List (List ℕ) → Result (ℕ × X) Reason
+entry_of format header (worker ∷ word ∷ arguments) = do
+  kind ← kind_of format.kinds header.is_extended word (length arguments == 0)
+  told ← worker_and_values header.layout.workers worker (kind_row kind) arguments
+  entry ← format.made kind told.1
+  Ok (told.0, entry)
+entry_of format header _ = Err reason.Form
+
+-- what a line says in a file with that header
+abbrev pub line_of : {X : Type 0} → Format X → Header → List ℕ → Result (ℕ × X) Reason
+line_of format header line =
+    if list_all is_field (fields line) then entry_of format header (fields line)
+    else Err reason.Form
+
+abbrev pub first_line_of : Command → List ℕ → Result Header Reason
+first_line_of command line = header_of command (fields line)
+
+-- what the bytes of a file for that command say, in lines of that format
+abbrev pub file_of : {X : Type 0} → Format X → Command → List ℕ → Result (File Header (ℕ × X)) Fault
+file_of format command bytes = file_from (first_line_of command) (line_of format) (parts bytes)
+
+-- a header, and the events of workers
+abbrev pub Schedule : Type 0
+Schedule = File Header (ℕ × Event)
+
+abbrev pub schedule_of : List ℕ → Result Schedule Fault
+schedule_of bytes = file_of events Replay bytes
+
+-- a header, and the calls of workers
+abbrev pub Script : Type 0
+Script = File Header (ℕ × Call)
+
+abbrev pub script_of : Command → List ℕ → Result Script Fault
+script_of command bytes = file_of calls command bytes
+
+-- the worker is one of the header's, and its call one that the file may have
+abbrev pub IsEntryOf : Header → ℕ × Call → Type 0
+IsEntryOf header e = (e.0 < header.layout.workers)
+    × IsAllowed header.layout.workers header.is_extended e.1
+
+abbrev pub ResignsInSerial : Command → Header → Type 0
+ResignsInSerial command header = SerialAlone command header.is_extended

@@ -1,0 +1,10 @@
+-- A format of lines: the kinds that a line may have, and what each makes of the values of its
+-- fields.
+use Rattle.std.specs.Prelude.{List, Result}
+use Rattle.nm_files.specs.declared.fault.Reason.{Reason}
+use Rattle.nm_files.specs.declared.kind.Kind.{Kind}
+use Rattle.nm_files.specs.declared.value.Value.{Value}
+
+pub record Format (X : Type 0) : Type 0 where
+  pub kinds : List Kind
+  pub made : Kind → List Value → Result X Reason

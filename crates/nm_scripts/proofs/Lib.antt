@@ -1,3 +1,0 @@
-pub mod EntryLemmas
-pub mod ReasonLemmas
-pub mod AllowedLemmas

@@ -1,4 +1,0 @@
-pub mod Calls
-pub mod Headers
-pub mod Scripts
-pub mod Reasons
